@@ -1,0 +1,112 @@
+//! What an operation reads: objects, their fields, and walks from field to field.
+ghost use Rattle.std.specs.Prelude.{◌≡◌, ◌<◌, ◌≤◌};
+ghost use Rattle.std.specs.Option.{option_copied};
+ghost use Rattle.plain_heap.specs.PlainHeap.{variable};
+ghost use Rattle.plain_heap.specs.PlainStep.{field_of, followed, lent, lent_variable, object_of, value_line, value_of, walk, walk_line};
+
+use super::PlainHeap;
+use crate::object::{Object, Ref};
+use crate::operation::Line;
+
+/// A reference of the catalogue, as a warehouse sees it.
+fn lent(reference: Ref) -> Ref
+    ensures { result ≡ lent reference }
+{
+    match reference {
+        Ref::Own(n) => Ref::Cat(n),
+        Ref::Nil => Ref::Nil,
+        Ref::Cat(n) => Ref::Cat(n),
+    }
+}
+
+/// What variable `c` of the catalogue holds, as a warehouse sees it.
+pub(super) fn lent_variable(cat: Option<&PlainHeap>, c: u8) -> Ref
+    requires { c < 32 }
+    ensures { result ≡ lent_variable (option_copied cat.entry) c }
+{
+    match cat {
+        None => Ref::Nil,
+        Some(catalogue) => lent(catalogue.variable(c)),
+    }
+}
+
+/// What field `i` of an object holds, as the object's own section sees it.
+fn field_of(object: Option<&Object>, i: u8) -> Ref
+    requires { i < 16 }
+    ensures { result ≡ field_of (option_copied object.entry) i }
+{
+    match object {
+        None => Ref::Nil,
+        Some(object) => object.refs[i as usize],
+    }
+}
+
+impl PlainHeap {
+    /// The object that a reference of this heap names.
+    fn object<'a>(&'a self, cat: Option<&'a PlainHeap>, reference: Ref) -> Option<&'a Object>
+        ensures { option_copied result ≡ object_of self.now (option_copied cat.entry) reference }
+    {
+        match reference {
+            Ref::Nil => None,
+            Ref::Own(n) => self.objects.get(n as usize),
+            Ref::Cat(n) => match cat {
+                None => None,
+                Some(catalogue) => catalogue.objects.get(n as usize),
+            },
+        }
+    }
+
+    /// What field `i` of the object holds that a reference names, as this heap sees it.
+    pub(super) fn follow(&self, cat: Option<&PlainHeap>, reference: Ref, i: u8) -> Ref
+        requires { i < 16 }
+        ensures { result ≡ followed self.now (option_copied cat.entry) reference i }
+    {
+        match reference {
+            Ref::Nil => Ref::Nil,
+            Ref::Own(n) => field_of(self.objects.get(n as usize), i),
+            Ref::Cat(_) => lent(field_of(self.object(cat, reference), i)),
+        }
+    }
+
+    /// The value of the object that variable `v` refers to, as a line.
+    pub(super) fn value_line(&self, cat: Option<&PlainHeap>, v: u8) -> Line
+        requires { v < 32 }
+        ensures { result ≡ value_line (object_of self.now (option_copied cat.entry) (variable self.now v)) }
+    {
+        match self.object(cat, self.variables[v as usize]) {
+            None => Line::Nil,
+            Some(object) => Line::Value(object.value),
+        }
+    }
+
+    /// The value of the object that a reference names, or 0 where it names none.
+    fn value(&self, cat: Option<&PlainHeap>, reference: Ref) -> u32
+        ensures { result ≡ value_of (object_of self.now (option_copied cat.entry) reference) }
+    {
+        match self.object(cat, reference) {
+            None => 0,
+            Some(object) => object.value,
+        }
+    }
+
+    /// A walk from variable `v` along field `i` over at most `limit` objects, each visit counted.
+    pub(super) fn walk(&self, cat: Option<&PlainHeap>, v: u8, i: u8, limit: u32) -> Line
+        requires v { v < 32 }
+        requires i { i < 16 }
+        requires limit { limit ≤ 65536 }
+        ensures { result ≡ walk_line (walk self.now (option_copied cat.entry) i limit (variable self.now v)) }
+    {
+        let mut reference = self.variables[v as usize];
+        let mut count = 0u32;
+        let mut total = 0u64;
+        for step in 0..limit {
+            if let Ref::Nil = reference {
+                return Line::Walk { count, total };
+            }
+            count += 1;
+            total += u64::from(self.value(cat, reference));
+            reference = self.follow(cat, reference, i);
+        }
+        Line::Walk { count, total }
+    }
+}
