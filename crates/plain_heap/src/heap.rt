@@ -130,3 +130,6 @@ impl PlainHeap {
         self.variables[v as usize]
     }
 }
+
+#[cfg(test)]
+mod tests;

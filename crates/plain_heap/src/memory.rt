@@ -1,5 +1,5 @@
 //! Want of memory.
 
-/// Memory ran out.
+/// Memory ran out. What was asked for was not done, and nothing has changed.
 #[derive(Clone, Copy, Debug, PartialEq, Eq)]
 pub struct OutOfMemory;

@@ -2,13 +2,15 @@
 ghost use Rattle.std.specs.Prelude.{List};
 ghost use Rattle.plain_heap.specs.declared.operation.Op.{Op};
 
-/// What the catalogue is to do, part by part.
+/// Knows all that the catalogue will do, before it does it.
+///
+/// A plan has no calls: contracts alone see it. It fixes what a warehouse finds in the catalogue, though the two run side by side.
 pub trait Plan {
-    /// Its operations.
+    /// The operations of the catalogue, part by part; a missing part is empty.
     ghost plan: { Self → List (List Op) };
 }
 
-/// Nothing is to be done.
+/// The plan of a catalogue that does nothing.
 #[derive(Clone, Copy, Debug)]
 pub struct NoPlan;
 
