@@ -12,7 +12,7 @@ use Rattle.plain_heap.specs.declared.object.Object.{Object}
 use Rattle.plain_heap.specs.PlainHeap.{Heap}
 use Rattle.plain_heap.specs.Paths.{Name, Names, IsObject, IsHeld, RefersTo, IsPath, IsReachable, ComesBefore, IsOrdered, Survivor, name_of, HasValue, AreSurvivors}
 use Rattle.plain_heap.specs.Marking.{refs_in}
-use Rattle.plain_heap.proofs.Marking.{of_reachable}
+use Rattle.plain_heap.proofs.Reaching.{of_reachable}
 
 abbrev pub same : Name → Name → Bool
 same a b = (a.section == b.section) && (a.number == b.number)

@@ -15,10 +15,11 @@ mod mark;
 mod reachable;
 mod store;
 
-/// The heap of one section: every object that it ever made, 32 variables, and how many stores were dropped.
+/// The heap of one section: every object that it ever made, 32 variables, and a count of dropped
+/// stores.
 ///
-/// An object's number is its place among the section's objects, in the order in which they were made,
-/// so a number names one object for good.
+/// An object's number is its place in the order in which the section made its objects, counted
+/// from 0. So a number names one object for good.
 #[derive(Drop)]
 pub struct PlainHeap {
     section: u32,
@@ -34,17 +35,25 @@ impl Model for PlainHeap {
 
     ghost Value = { Heap };
 
-    ghost view = { λ h. record { section = h.section; fields = h.fields; objects = h.objects.items; variables = h.variables; dropped = h.dropped } };
+    ghost view = { λ h. record {
+      section = h.section;
+      fields = h.fields;
+      objects = h.objects.items;
+      variables = h.variables;
+      dropped = h.dropped;
+    } };
 
-    ghost invariant = { λ h. (1 ≤ h.fields) × (h.fields ≤ 16) × (length h.objects.items ≤ 2000000) × (length h.variables ≡ 32) × (h.dropped ≤ 2000000) };
+    ghost invariant = { λ h. (1 ≤ h.fields) × (h.fields ≤ 16)
+        × (length h.objects.items ≤ 2000000) × (length h.variables ≡ 32)
+        × (h.dropped ≤ 2000000) };
 }
 
 impl PlainHeap {
     /// An empty heap: no objects, 32 nil variables, nothing dropped.
     ///
-    /// `section` is 0 for the catalogue and otherwise the warehouse's number; `fields`, from 1 to 16, is how many
-    /// fields of an object the operations may name. Nothing is allocated before the first object, so this is never refused;
-    /// the heap takes its memory from `alloc` from then on.
+    /// `section` is 0 for the catalogue and otherwise the warehouse's number. `fields`, from 1 to 16,
+    /// is how many fields of an object the operations may name. The heap keeps `alloc` for its
+    /// objects; before the first one it takes no memory, so this is never refused.
     pub fn new(alloc: Global, section: u32, fields: u32) -> Result<PlainHeap, OutOfMemory>
         requires least { 1 ≤ fields }
         requires most { fields ≤ 16 }
@@ -59,20 +68,24 @@ impl PlainHeap {
         })
     }
 
-    /// Does one operation, and answers what it prints: a line for `Say` and `Sum`, and otherwise `None`.
+    /// Does one operation, and answers what it prints: a line for `Say` and `Sum`, otherwise `None`.
     ///
-    /// `cat` is the catalogue's heap as a warehouse sees it, and `None` for the catalogue itself. Names of variables are
-    /// below 32, fields below the heap's number of fields, and the limit of a `Sum` is at most 65,536.
-    /// Only `New` can be refused, where there is no memory for one object more; the heap is then unchanged.
+    /// `cat` is the catalogue's heap as a warehouse sees it, and `None` for the catalogue itself.
+    /// Variables are below 32, fields below the heap's number of fields, and the limit of a `Sum` is
+    /// at most 65,536; the heap has room for another object and another dropped store.
+    /// `OutOfMemory` says that there was no memory for another object, and the heap is unchanged.
+    /// Only `New` is ever refused.
     pub fn step(&mut self, cat: Option<&PlainHeap>, op: Op) -> Result<Option<Line>, OutOfMemory>
         requires range { IsInRange self.old.fields op }
         requires room { length self.old.objects < 2000000 }
         requires drops { self.old.dropped < 2000000 }
         ensures heap { OnOk result (self.new ≡ heap_after self.old (option_copied cat.entry) op) }
-        ensures line { IfOk result (λ line. line ≡ line_of self.old (option_copied cat.entry) op) }
+        ensures line { IfOk result (λ line.
+            line ≡ line_of self.old (option_copied cat.entry) op) }
         ensures err { OnErr result (self.new ≡ self.old) }
         ensures only_new { IsErr result → MakesObject op }
     {
+        // A read of the heap's fields shows the check that they are at most 16.
         let _fields = self.fields;
         match op {
             Op::New { v, n } => return self.make(v, n),

@@ -2,7 +2,8 @@
 ghost use Rattle.std.specs.Prelude.{◌≡◌, ◌<◌, ◌≤◌};
 ghost use Rattle.std.specs.Option.{option_copied};
 ghost use Rattle.plain_heap.specs.PlainHeap.{variable};
-ghost use Rattle.plain_heap.specs.PlainStep.{field_of, followed, lent, lent_variable, object_of, value_line, value_of, walk, walk_line};
+ghost use Rattle.plain_heap.specs.PlainStep.{field_of, followed, lent, lent_variable};
+ghost use Rattle.plain_heap.specs.PlainStep.{object_of, value_line, value_of, walk, walk_line};
 
 use super::PlainHeap;
 use crate::object::{Object, Ref};
@@ -71,7 +72,8 @@ impl PlainHeap {
     /// The value of the object that variable `v` refers to, as a line.
     pub(super) fn value_line(&self, cat: Option<&PlainHeap>, v: u8) -> Line
         requires { v < 32 }
-        ensures { result ≡ value_line (object_of self.now (option_copied cat.entry) (variable self.now v)) }
+        ensures { result ≡ value_line
+            (object_of self.now (option_copied cat.entry) (variable self.now v)) }
     {
         match self.object(cat, self.variables[v as usize]) {
             None => Line::Nil,
@@ -94,7 +96,8 @@ impl PlainHeap {
         requires v { v < 32 }
         requires i { i < 16 }
         requires limit { limit ≤ 65536 }
-        ensures { result ≡ walk_line (walk self.now (option_copied cat.entry) i limit (variable self.now v)) }
+        ensures { result ≡ walk_line
+            (walk self.now (option_copied cat.entry) i limit (variable self.now v)) }
     {
         let mut reference = self.variables[v as usize];
         let mut count = 0u32;

@@ -1,4 +1,4 @@
-//! Marks on objects by their numbers, and the numbers that wait until their objects' fields are read.
+//! Marks on objects by their numbers. An object that was just marked waits until its fields are read.
 ghost use Rattle.std.specs.Prelude.{◌≡◌, ◌≤◌, length, replicate, false, Contains, IfOk, OnOk};
 ghost use Rattle.plain_heap.specs.declared.object.Ref.TheVariants as refs;
 ghost use Rattle.plain_heap.specs.Marking.{AreMarked, Marks};
@@ -23,7 +23,8 @@ pub(super) fn no_marks(alloc: Global, count: usize) -> Result<Vec<bool>, OutOfMe
 
 /// Marks the own object that a reference names, which then waits if it had no mark.
 fn mark(reference: Ref, marks: &mut Vec<bool>, waiting: &mut Vec<u32>) -> Result<(), OutOfMemory>
-    ensures { OnOk result (Marks (λ n. reference ≡ refs.Own n) marks.old.items marks.new.items waiting.old.items waiting.new.items) }
+    ensures { OnOk result (Marks (λ n. reference ≡ refs.Own n) marks.old.items
+        marks.new.items waiting.old.items waiting.new.items) }
 {
     if let Ref::Own(n) = reference {
         if (n as usize) < marks.len() && !marks[n as usize] {
@@ -42,7 +43,8 @@ pub(super) fn mark_all(
     marks: &mut Vec<bool>,
     waiting: &mut Vec<u32>,
 ) -> Result<(), OutOfMemory>
-    ensures { OnOk result (Marks (λ n. Contains references.now (refs.Own n)) marks.old.items marks.new.items waiting.old.items waiting.new.items) }
+    ensures { OnOk result (Marks (λ n. Contains references.now (refs.Own n)) marks.old.items
+        marks.new.items waiting.old.items waiting.new.items) }
 {
     for reference in references {
         match mark(*reference, marks, waiting) {
@@ -56,7 +58,8 @@ pub(super) fn mark_all(
 /// The numbers of the marked objects, in order.
 pub(super) fn marked_numbers(alloc: Global, marks: &Vec<bool>) -> Result<Vec<u32>, OutOfMemory>
     requires { length marks.now.items ≤ 2000000 }
-    ensures { IfOk result (λ numbers. AreMarked marks.now.items (length marks.now.items) numbers.items) }
+    ensures { IfOk result (λ numbers.
+        AreMarked marks.now.items (length marks.now.items) numbers.items) }
 {
     let mut numbers = Vec::new(alloc);
     for n in 0..marks.len() {

@@ -10,9 +10,9 @@ use crate::memory::OutOfMemory;
 use std::alloc::Global;
 
 impl PlainHeap {
-    /// The numbers of the own objects that own references reach from a variable, each once and in order.
+    /// The numbers of the own objects that own references reach from a variable, in order.
     ///
-    /// It takes memory for a mark on each object, for the numbers that wait, and for the answer;
+    /// It takes memory for a mark on each object, for the numbers that wait and for the answer;
     /// `OutOfMemory` says that there was none.
     pub fn reachable(&self, alloc: Global) -> Result<Vec<u32>, OutOfMemory>
         ensures { IfOk result (λ numbers. AreOwnReachable self.now numbers.items) }
@@ -52,7 +52,8 @@ impl PlainHeap {
 
     /// Marks what variables hold.
     fn mark_held(&self, marks: &mut Vec<bool>, waiting: &mut Vec<u32>) -> Result<(), OutOfMemory>
-        ensures { OnOk result (Marks (λ m. Contains self.now.variables (refs.Own m)) marks.old.items marks.new.items waiting.old.items waiting.new.items) }
+        ensures { OnOk result (Marks (λ m. Contains self.now.variables (refs.Own m)) marks.old.items
+            marks.new.items waiting.old.items waiting.new.items) }
     {
         mark_all(&self.variables, marks, waiting)
     }
@@ -64,7 +65,8 @@ impl PlainHeap {
         marks: &mut Vec<bool>,
         waiting: &mut Vec<u32>,
     ) -> Result<(), OutOfMemory>
-        ensures { OnOk result (Marks (λ m. Contains (refs_at self.now n) (refs.Own m)) marks.old.items marks.new.items waiting.old.items waiting.new.items) }
+        ensures { OnOk result (Marks (λ m. Contains (refs_at self.now n) (refs.Own m)) marks.old.items
+            marks.new.items waiting.old.items waiting.new.items) }
     {
         match self.objects.get(n as usize) {
             None => Ok(()),

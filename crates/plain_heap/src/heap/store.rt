@@ -43,7 +43,8 @@ impl PlainHeap {
         requires i { i < 16 }
         requires w { w < 32 }
         requires drops { self.old.dropped < 2000000 }
-        ensures { self.new ≡ stored_at self.old (variable self.old v) (λ object. with_field object i (variable self.old w)) }
+        ensures { self.new ≡ stored_at self.old (variable self.old v)
+            (λ object. with_field object i (variable self.old w)) }
     {
         let reference = self.variables[w as usize];
         match self.variables[v as usize] {
@@ -61,7 +62,8 @@ impl PlainHeap {
     pub(super) fn store_value(&mut self, v: u8, n: u32)
         requires v { v < 32 }
         requires drops { self.old.dropped < 2000000 }
-        ensures { self.new ≡ stored_at self.old (variable self.old v) (λ object. with_value object n) }
+        ensures { self.new ≡ stored_at self.old (variable self.old v)
+            (λ object. with_value object n) }
     {
         match self.variables[v as usize] {
             Ref::Nil => {}
