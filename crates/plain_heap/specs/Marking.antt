@@ -6,6 +6,7 @@ use Rattle.plain_heap.specs.declared.object.Object.{Object}
 use Rattle.plain_heap.specs.PlainHeap.{Heap}
 use Rattle.plain_heap.specs.Paths.{IsReachable, own}
 
+-- object n has a mark
 abbrev pub IsMarked : List Bool → ℕ → Type 0
 IsMarked marks n = slice_index_or marks n false ≡ true
 
@@ -24,6 +25,7 @@ pub record Marks (P : ℕ → Type 0) (old new : List Bool) (waited waiting : Li
   pub marked : (n : ℕ) → Contains waiting n → Contains waited n ⊎ IsMarked new n
   pub left : left new waiting ≡ left old waited
 
+-- the references in an object, where there is one
 abbrev pub refs_in : Option Object → List Ref
 refs_in None = []
 refs_in (Some object) = object.refs

@@ -21,6 +21,7 @@ Names (suc section) (refs.Cat n) name = (name.section ≡ 0) × (name.number ≡
 abbrev pub HasObject : List Heap → Name → Object → Type 0
 HasObject heaps name object = (heap : Heap) × Contains heaps heap × (heap.section ≡ name.section) × (slice_get heap.objects name.number ≡ Some object)
 
+-- the name of some object
 abbrev pub IsObject : List Heap → Name → Type 0
 IsObject heaps name = (object : Object) × HasObject heaps name object
 
@@ -68,9 +69,11 @@ pub record Survivor : Type 0 where
   pub number : ℕ
   pub value : ℕ
 
+-- the name of a survivor
 abbrev pub name_of : Survivor → Name
 name_of s = record { section = s.section; number = s.number }
 
+-- the object of that name has this value
 abbrev pub HasValue : List Heap → Survivor → Type 0
 HasValue heaps s = (object : Object) × HasObject heaps (name_of s) object × (object.value ≡ s.value)
 

@@ -1,12 +1,12 @@
 -- Where objects may lie, and when a heap of so many cells is full.
-use Rattle.std.specs.Prelude.{ℕ, ◌≡◌, ◌<◌, ◌≤◌, ◌-◌, zero, suc, List, [], length, All, slice_get, slice_index_or, Some}
+use Rattle.std.specs.Prelude.{ℕ, ◌≡◌, ◌<◌, ◌≤◌, ◌-◌, zero, suc, List, [], length, All, map, slice_get, slice_index_or, Some}
 use Rattle.plain_heap.specs.declared.operation.Op.{Op}
 use Rattle.plain_heap.specs.declared.operation.Op.TheVariants as ops
 use Rattle.plain_heap.specs.Sections.{Execution, Sections, end_of, section_numbers, IsNext}
 use Rattle.plain_heap.specs.PlainRun.{plain, last_heap, last_heaps, heaps_at}
 use Rattle.plain_heap.specs.Paths.{Name, IsReachable, AreReachable}
-use Rattle.std.specs.Prelude.{map}
 
+-- the operation makes an object
 abbrev pub IsNew : Op → Type 0
 IsNew (ops.New v n) = Unit {0}
 IsNew op = ⊥

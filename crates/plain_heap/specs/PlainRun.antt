@@ -11,6 +11,7 @@ abbrev pub heap_from : Option Heap → Heap → List Op → Heap
 heap_from catalogue heap [] = heap
 heap_from catalogue heap (op ∷ rest) = heap_from catalogue (heap_after heap catalogue op) rest
 
+-- the operations of a part
 abbrev pub ops_of : List Execution → List Op
 ops_of part = map (λ e. e.op) part
 
@@ -22,6 +23,7 @@ plan_of s = map ops_of (parts_of s 0)
 abbrev pub plan_end : ℕ → List (List Op) → ℕ → Heap
 plan_end fields plan z = heap_from None (empty_heap fields 0) (joined (take z plan))
 
+-- the catalogue of a script at the end of its first z parts
 abbrev pub catalogue_end : Sections → ℕ → Heap
 catalogue_end s z = plan_end s.fields (plan_of s) z
 
@@ -47,6 +49,7 @@ part_end s w z = heap_after_parts s w 1 (empty_heap s.fields w) (take z (parts_o
 abbrev pub last_heap : Sections → ℕ → Heap
 last_heap s w = heap_after_parts s w 1 (empty_heap s.fields w) (parts_of s w)
 
+-- the last heap of each section
 abbrev pub last_heaps : Sections → List Heap
 last_heaps s = map (last_heap s) (section_numbers s)
 
@@ -55,6 +58,7 @@ pub record Printed : Type 0 where
   pub label : List ℕ
   pub line : Line
 
+-- a line, where there is one, in front of those that follow
 abbrev pub with_label : List ℕ → Option Line → List Printed → List Printed
 with_label label None printed = printed
 with_label label (Some line) printed = record { label = label; line = line } ∷ printed

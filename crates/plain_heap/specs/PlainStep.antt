@@ -27,6 +27,7 @@ abbrev pub field_of : Option Object → ℕ → Ref
 field_of None i = refs.Nil
 field_of (Some object) i = slice_index_or object.refs i refs.Nil
 
+-- what field i of the object of a reference refers to, as this heap sees it
 abbrev pub followed : Heap → Option Heap → Ref → ℕ → Ref
 followed heap catalogue refs.Nil i = refs.Nil
 followed heap catalogue (refs.Own n) i = field_of (slice_get heap.objects n) i
@@ -40,9 +41,11 @@ assigned heap v ref = record heap { variables = slice_set heap.variables v ref }
 abbrev pub replaced : Heap → ℕ → Object → Heap
 replaced heap n object = record heap { objects = slice_set heap.objects n object }
 
+-- an object with another reference in field i
 abbrev pub with_field : Object → ℕ → Ref → Object
 with_field object i ref = record object { refs = slice_set object.refs i ref }
 
+-- an object with another value
 abbrev pub with_value : Object → ℕ → Object
 with_value object n = record object { value = n }
 

@@ -41,6 +41,7 @@ abbrev pub counted : ℕ → ℕ → List ℕ
 counted n zero = []
 counted n (suc more) = n ∷ counted (n + 1) more
 
+-- the warehouses by their numbers
 abbrev pub warehouse_numbers : Sections → List ℕ
 warehouse_numbers s = counted 1 (length s.warehouses)
 
@@ -54,16 +55,20 @@ pub record Parts : Type 0 where
   pub fields : ℕ
   pub parts : List (List Execution)
 
+-- section w by itself
 abbrev pub section_of : Sections → ℕ → Parts
 section_of s w = record { number = w; fields = s.fields; parts = parts_of s w }
 
+-- each warehouse by itself
 abbrev pub warehouse_sections : Sections → List Parts
 warehouse_sections s = map (section_of s) (warehouse_numbers s)
 
+-- whether an operation makes an object
 abbrev pub makes_object : Op → Bool
 makes_object (ops.New v n) = true
 makes_object op = false
 
+-- whether it prints a line
 abbrev pub prints_line : Op → Bool
 prints_line (ops.Say v) = true
 prints_line (ops.Sum v i limit) = true
