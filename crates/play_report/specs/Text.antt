@@ -1,5 +1,5 @@
 -- The texts that are written.
-use Rattle.std.specs.Prelude.{ℕ, ◌≡◌, ◌+◌, List, [], ◌∷◌, ◌++◌, length, codes, decimal, map, sum, sum_by, Bool, if◌then◌else◌, Option, Some, None, MatchBool}
+use Rattle.std.specs.Prelude.{ℕ, ◌≡◌, ◌+◌, List, [], ◌∷◌, ◌++◌, length, codes, decimal, map, sum_by, Bool, if◌then◌else◌, Option, Some, None, MatchBool}
 use Rattle.std.specs.List.{flat_map}
 use Rattle.plain_heap.specs.declared.operation.Line.{Line}
 use Rattle.plain_heap.specs.declared.operation.Line.TheVariants as lines
@@ -9,6 +9,9 @@ use Rattle.plain_heap.specs.Paths.{Survivor, AreSurvivors}
 use Rattle.plain_heap.specs.Placement.{cells_of, IsPlaced, IsFilled}
 use Rattle.gc_script.specs.Faults as faults
 use Rattle.gc_script.specs.Faults.{Fault}
+use Rattle.gc_script.specs.Shown.{fault_of}
+use Rattle.gc_script.specs.declared.script.ScriptError.{ScriptError}
+use Rattle.gc_script.specs.declared.script.ScriptError.TheVariants as answers
 use Rattle.play_report.specs.Report.{Outcome}
 
 abbrev pub line_text : Line → List ℕ
@@ -31,14 +34,18 @@ pair_text word a b = word ++ decimal a ++ codes " " ++ decimal b ++ codes "\n"
 unfoldable pub triple_text : ℕ → ℕ → ℕ → List ℕ
 triple_text a b c = decimal a ++ codes " " ++ decimal b ++ codes " " ++ decimal c ++ codes "\n"
 
+-- the texts of these elements, each with its number, from n on
+abbrev pub numbered : {X : Type 0} → (ℕ → X → List ℕ) → ℕ → List X → List ℕ
+numbered text n [] = []
+numbered text n (x ∷ xs) = text n x ++ numbered text (n + 1) xs
+
 -- what section w printed
 abbrev pub outcome_text : ℕ → Outcome → List ℕ
 outcome_text w o = named_text (codes "warehouse ") w ++ flat_map printed_text o.said ++ named_text (codes "dropped ") o.dropped
 
 -- the warehouses from number w on
 abbrev pub outcomes_text : ℕ → List Outcome → List ℕ
-outcomes_text w [] = []
-outcomes_text w (o ∷ os) = outcome_text w o ++ outcomes_text (w + 1) os
+outcomes_text w os = numbered outcome_text w os
 
 -- section 0 prints nothing
 abbrev pub warehouses_text : List Outcome → List ℕ
@@ -51,17 +58,20 @@ survivor_text s = triple_text s.section s.number s.value
 abbrev pub survivors_text : List Survivor → List ℕ
 survivors_text survivors = named_text (codes "survivors ") (length survivors) ++ flat_map survivor_text survivors
 
--- the cells of section w's objects from object k on
-abbrev pub cells_text : ℕ → ℕ → List ℕ → List ℕ
-cells_text w k [] = []
-cells_text w k (cell ∷ cells) = triple_text w k cell ++ cells_text w (k + 1) cells
+-- the cells of section w's objects, by their numbers
+abbrev pub cells_text : ℕ → List ℕ → List ℕ
+cells_text w cells = numbered (triple_text w) 0 cells
 
-abbrev pub places_text_from : ℕ → List Outcome → List ℕ
-places_text_from w [] = []
-places_text_from w (o ∷ os) = cells_text w 0 o.places ++ places_text_from (w + 1) os
+-- the cells of all objects, by section and number
+abbrev pub places_text : List Outcome → List ℕ
+places_text os = numbered (λ w o. cells_text w o.places) 0 os
+
+-- how many objects were ever made
+abbrev pub placed_count : List Outcome → ℕ
+placed_count os = sum_by (λ o. length o.places) os
 
 abbrev pub placed_text : List Outcome → List ℕ
-placed_text os = named_text (codes "placed ") (sum (map (λ o. length o.places) os)) ++ places_text_from 0 os
+placed_text os = named_text (codes "placed ") (placed_count os) ++ places_text os
 
 -- the text of status 0 of `run`
 abbrev pub report_text : List Outcome → List Survivor → Bool → List ℕ
@@ -83,14 +93,13 @@ pub record IsReportText (s : Sections) (cells : ℕ) (place : Bool) (text : List
   pub placed : MatchBool place (IsPlaced s cells places) (Unit {0})
   pub written : text ≡ report_text (outcomes s places) survivors place
 
--- the positions from section w on
-abbrev pub positions_text : ℕ → List ℕ → List ℕ
-positions_text w [] = []
-positions_text w (position ∷ positions) = pair_text (codes "position ") w position ++ positions_text (w + 1) positions
+-- how many commands each section did
+abbrev pub positions_text : List ℕ → List ℕ
+positions_text positions = numbered (pair_text (codes "position ")) 0 positions
 
 -- the text of status 3: the section that found no cell, and how many commands each section did
 abbrev pub full_text : ℕ → List ℕ → List ℕ
-full_text section positions = named_text (codes "full section ") section ++ positions_text 0 positions
+full_text section positions = named_text (codes "full section ") section ++ positions_text positions
 
 -- what may be written of a play that so many cells were too few for
 pub record IsFullText (s : Sections) (cells : ℕ) (text : List ℕ) : Type 0 where
@@ -119,6 +128,11 @@ fault_text (faults.TooManySeasons line) = named_text (codes "15 TooManySeasons l
 abbrev pub text_of_fault : Option Fault → List ℕ
 text_of_fault None = []
 text_of_fault (Some fault) = fault_text fault
+
+-- the text of what the reader of scripts answers in place of a script
+abbrev pub error_text : ScriptError → List ℕ
+error_text answers.NotBuilt = codes "13 NotBuilt\n"
+error_text error = text_of_fault (fault_of error)
 
 -- the text of status 1
 abbrev pub usage_text : List ℕ

@@ -1,0 +1,28 @@
+-- Sources and sinks as their callers see them.
+use Rattle.std.specs.Prelude.{ℕ, ◌+◌, ◌-◌, ◌^◌, List, min, Option}
+
+-- the count after one more, which stops at the end of its type
+abbrev pub counted : ℕ → ℕ
+counted n = min (n + 1) (2 ^ 64 - 1)
+
+-- a stream of the outside: the bytes that it tells of, if it does, and how often it has failed
+pub record Stream : Type 0 where
+  pub bytes : Option (List ℕ)
+  pub faults : ℕ
+
+-- a source in memory: the bytes that are left, how many of them a call gives at most, which calls fail, and how many were made and have failed
+pub record Supply : Type 0 where
+  pub left : List ℕ
+  pub per_call : ℕ
+  pub failing : List ℕ
+  pub calls : ℕ
+  pub faults : ℕ
+
+-- a sink in memory: the bytes that were written, for how many more there is room, and the rest as in a `Supply`
+pub record Store : Type 0 where
+  pub written : List ℕ
+  pub room : ℕ
+  pub per_call : ℕ
+  pub failing : List ℕ
+  pub calls : ℕ
+  pub faults : ℕ

@@ -1,0 +1,34 @@
+//! How far a play came that its cells were too few for.
+ghost use Rattle.play_report.specs.Causes.{Writes};
+ghost use Rattle.play_report.specs.Text.{positions_text, full_text};
+
+use crate::line::{write_named, write_pair};
+use crate::outside::{Failed, Sink};
+use crate::report::Positions;
+
+fn write_positions<K: Sink>(done: &[u32], sink: &mut K) -> Result<(), Failed>
+    ensures { Writes result (K.written sink.old) (K.written sink.new) (K.faults sink.old) (K.faults sink.new)
+        (positions_text done.now) }
+{
+    for (section, count) in done.iter().enumerate() {
+        match write_pair("position ", section as u64, *count as u64, sink) {
+            Ok(()) => {}
+            Err(e) => return Err(e),
+        }
+    }
+    Ok(())
+}
+
+/// Writes the text of status 3, a full run: the section that found no cell, then for each section
+/// how many of its commands were done. Failed only where the sink's count of faults rose in this
+/// call, and a prefix of the text was then written. Each line is one piece, and the rest of a
+/// piece that was taken in part is handed again. It takes no memory.
+pub fn write_full<K: Sink>(positions: &Positions, sink: &mut K) -> Result<(), Failed>
+    ensures { Writes result (K.written sink.old) (K.written sink.new) (K.faults sink.old) (K.faults sink.new)
+        (full_text positions.now.section positions.now.done.items) }
+{
+    match write_named("full section ", positions.section as u64, sink) {
+        Ok(()) => write_positions(positions.done.as_slice(), sink),
+        Err(e) => Err(e),
+    }
+}

@@ -1,0 +1,37 @@
+//! The text of a play that is done.
+ghost use Rattle.std.specs.Prelude.{◌≡◌, ◌<◌, ◌^◌, ◌++◌, map};
+ghost use Rattle.play_report.specs.Causes.{Writes};
+ghost use Rattle.play_report.specs.Report.{outcome_of, survivor_of};
+ghost use Rattle.play_report.specs.Text.{warehouses_text, survivors_text, placed_count, report_text};
+
+use crate::outside::{Failed, Sink};
+use crate::placed::write_asked_places;
+use crate::report::Report;
+use crate::survivors::write_survivors;
+use crate::transcript::write_parts;
+
+fn write_ends<K: Sink>(report: &Report<'_>, sink: &mut K) -> Result<(), Failed>
+    ensures { Writes result (K.written sink.old) (K.written sink.new) (K.faults sink.old) (K.faults sink.new)
+        (warehouses_text (map outcome_of report.now.parts.items) ++ survivors_text (map survivor_of report.now.survivors.items)) }
+{
+    match write_parts(report.parts.as_slice(), sink) {
+        Ok(()) => write_survivors(report.survivors.as_slice(), sink),
+        Err(e) => Err(e),
+    }
+}
+
+/// Writes the text of status 0, a play that is done: for each warehouse in order its number, its
+/// printed lines and its count of dropped stores, then the survivors, and where `place` asks for
+/// it the cell of each object that was made. Failed only where the sink's count of faults rose in
+/// this call, and a prefix of the text was then written. Each line is one piece, and the rest of a
+/// piece that was taken in part is handed again. It takes no memory.
+pub fn write_report<K: Sink>(report: &Report<'_>, place: bool, sink: &mut K) -> Result<(), Failed>
+    requires { placed_count (map outcome_of report.now.parts.items) < 2 ^ 32 }
+    ensures { Writes result (K.written sink.old) (K.written sink.new) (K.faults sink.old) (K.faults sink.new)
+        (report_text (map outcome_of report.now.parts.items) (map survivor_of report.now.survivors.items) place) }
+{
+    match write_ends(report, sink) {
+        Ok(()) => write_asked_places(place, report.parts.as_slice(), sink),
+        Err(e) => Err(e),
+    }
+}
