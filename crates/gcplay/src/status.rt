@@ -1,0 +1,36 @@
+//! How the program ends.
+ghost use Rattle.std.specs.Prelude.{◌≡◌};
+ghost use Rattle.gcplay.specs.Ending.{code_of};
+
+/// How the program ends.
+#[derive(Clone, Copy, Debug, PartialEq, Eq)]
+pub enum Status {
+    /// All of the command's text is written.
+    Done,
+    /// The words ask for nothing.
+    Usage,
+    /// The script has a fault.
+    ScriptFault,
+    /// The source failed.
+    ReadFault,
+    /// The sink failed.
+    WriteFault,
+    /// Memory ran out.
+    Memory,
+}
+
+impl Status {
+    /// Its number: 0 done, 1 usage, 2 fault of the script, 4 read fault, 5 write fault, 6 memory.
+    pub fn code(self) -> u8
+        ensures { result ≡ code_of self }
+    {
+        match self {
+            Status::Done => 0,
+            Status::Usage => 1,
+            Status::ScriptFault => 2,
+            Status::ReadFault => 4,
+            Status::WriteFault => 5,
+            Status::Memory => 6,
+        }
+    }
+}
