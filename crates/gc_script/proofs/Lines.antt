@@ -1,13 +1,12 @@
 -- The loop over the lines.
 use Rattle.std.proofs.Common.{◌≡◌, ℕ, ◌+◌, ◌≤◌, ◌<◌, List, [], ◌∷◌, ◌++◌, length, take, drop, get_or, map, refl, ap, sym, ◌∙◌, subst, cond, Bor, Bool, true, false, arith, length-take-le}
-use Rattle.std.proofs.lemmas.List.{take_more, take_all, drop_all, drop_more, length-map, get_or-map}
+use Rattle.std.proofs.lemmas.List.{take_more, take_all, drop_all, drop_more}
 use Rattle.std.specs.Prelude.{Option, Some, None, ◌&&◌}
 use Rattle.std.proofs.lemmas.List.Elements.{All-nil}
 use Rattle.std.specs.List.{All}
 use Rattle.plain_heap.specs.PlainStep.{IsInRange}
 use Rattle.plain_heap.specs.Sections.{printed_by}
-use Rattle.gc_script.specs.Statement.{Statement, Blank, statement}
-use Rattle.gc_script.specs.ScriptText.{words}
+use Rattle.gc_script.specs.Statement.{Statement, Blank}
 use Rattle.gc_script.specs.Shown.{execution_of}
 use Rattle.gc_script.specs.Earlier.{catalogue_names, next_line}
 use Rattle.gc_script.specs.Faults.{Fault, first_fault, line_fault, or_later, left_open}
@@ -106,21 +105,6 @@ shows_nothing catalogue p started names commands = record {
   range = subst (All (λ (c : Command). IsInRange 4 c.op)) (sym commands) (All-nil (λ (c : Command). IsInRange 4 c.op));
   unstarted = λ never. (names, commands);
 }
-
--- the statement of line i
-pub line_at : (lines : List (Bor (List ℕ))) (i : ℕ) (d : Bor (List ℕ)) → i < length lines
-    → get_or (map statement (map words (map (λ (s : Bor (List ℕ)). s.now) lines))) i Blank ≡ statement (words (get_or lines i d).now)
-line_at lines i d h =
-    let texts : List (List ℕ) = map (λ (s : Bor (List ℕ)). s.now) lines in
-    let a : length texts ≡ length lines = length-map lines (λ (s : Bor (List ℕ)). s.now) in
-    let b : length (map words texts) ≡ length texts = length-map texts words in
-    get_or-map statement (map words texts) i [] Blank (omega arith)
-    ∙ ap statement (get_or-map words texts i [] [] (omega arith))
-    ∙ ap (λ (t : List ℕ). statement (words t)) (get_or-map (λ (s : Bor (List ℕ)). s.now) lines i d [] h)
-
-pub line_count : (lines : List (Bor (List ℕ))) → length (map statement (map words (map (λ (s : Bor (List ℕ)). s.now) lines))) ≡ length lines
-line_count lines =
-    length-map (map words (map (λ (s : Bor (List ℕ)). s.now) lines)) statement ∙ length-map (map (λ (s : Bor (List ℕ)). s.now) lines) words ∙ length-map lines (λ (s : Bor (List ℕ)). s.now)
 
 -- a refusal of a line is one of the lines
 pub refused_at : (e : Refused) (P Q : Type 0) → (P → Q) → Refuses e P → Refuses e Q
