@@ -11,15 +11,8 @@ use Rattle.gc_script.specs.Statement.{Statement, Blank, statement, header}
 use Rattle.gc_script.specs.Script.{Script, body, of_version, of_lines}
 use Rattle.gc_script.specs.Built.{IsBuiltReading, body_lines}
 use Rattle.gc_script.proofs.Bytes.{no_foreign}
+use Rattle.gc_script.proofs.Conjunction.{both, and_true}
 use Rattle.gc_script.proofs.ScriptForm.{version_is}
-
-both : (a b : Bool) → (a && b) ≡ true → (a ≡ true) × (b ≡ true)
-both true b e = (refl, e)
-both false b e = cc
-
-and_true : (a b : Bool) → a ≡ true → b ≡ true → (a && b) ≡ true
-and_true true b p q = q
-and_true false b p q = p
 
 all_allowed : (bs : List ℕ) → length bs ≤ position_or_len (λ (b : ℕ). not (is_allowed b)) bs → list_all is_allowed bs ≡ true
 all_allowed [] h = refl
