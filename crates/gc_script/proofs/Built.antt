@@ -1,7 +1,7 @@
 -- What a script has that is read so far.
-use Rattle.std.proofs.Common.{◌≡◌, ℕ, ◌+◌, ◌≤◌, List, [], ◌∷◌, ◌++◌, length, map, refl, ap, sym, ◌∙◌, subst, cond, Bool, true, false, arith, inl, inr, ◌⊎◌}
+use Rattle.std.proofs.Common.{◌≡◌, ℕ, ◌+◌, ◌≤◌, List, [], ◌∷◌, ◌++◌, length, map, refl, ap, sym, ◌∙◌, subst, cond, true, arith, inl, inr, ◌⊎◌}
 use Rattle.std.proofs.lemmas.List.Elements.{All-nil, All-cons, All-append}
-use Rattle.std.specs.Prelude.{Option, Some, None, is_none, is_some, ◌&&◌}
+use Rattle.std.specs.Prelude.{Option, Some, None, is_none, is_some}
 use Rattle.std.specs.List.{All}
 use Rattle.std.specs.Option.{option_or}
 use Rattle.plain_heap.specs.Sections.{Execution, Sections}
@@ -10,6 +10,7 @@ use Rattle.gc_script.specs.Statement.{Statement, Blank, Fields, Catalogue, Wareh
 use Rattle.gc_script.specs.Earlier.{catalogue_names, open_repeat, open_section, warehouse_count}
 use Rattle.gc_script.specs.Script.{Script, execution, executed, ended_parts, open_parts, if_warehouse, if_catalogue, closed_warehouses, closed_catalogue, sections, turned}
 use Rattle.gc_script.specs.Built.{is_built_after, are_built_after, body_lines, is_built_operation, IsBuiltScript}
+use Rattle.gc_script.proofs.Conjunction.{both}
 use Rattle.gc_script.proofs.ScriptForm.{IsBody, lines_are, script_is}
 
 -- the operations are `new` and `say`
@@ -86,10 +87,6 @@ has_next catalogue earlier Season e h = cc
 has_next catalogue earlier (Repeat n) e h = cc
 has_next catalogue earlier End e h = cc
 has_next catalogue earlier Wrong e h = cc
-
-both : (a b : Bool) → (a && b) ≡ true → (a ≡ true) × (b ≡ true)
-both true b e = (refl, e)
-both false b e = cc
 
 has_all : (catalogue : List (List ℕ)) (earlier rest : List Statement) → are_built_after earlier rest ≡ true → HasOnePart catalogue earlier → HasOnePart catalogue (turned earlier rest)
 has_all catalogue earlier [] e h = h

@@ -1,23 +1,17 @@
 -- The loop over the lines.
-use Rattle.std.proofs.Common.{◌≡◌, ℕ, ◌+◌, ◌≤◌, ◌<◌, List, [], ◌∷◌, ◌++◌, length, take, drop, get_or, map, refl, ap, sym, ◌∙◌, subst, cond, Bor, Bool, true, false, arith, length-take-le}
-use Rattle.std.proofs.lemmas.List.{take_more, take_all, drop_all, drop_more, length-map, get_or-map}
-use Rattle.std.specs.Prelude.{Option, Some, None, ◌&&◌}
-use Rattle.std.proofs.lemmas.List.Elements.{All-nil}
-use Rattle.std.specs.List.{All}
-use Rattle.plain_heap.specs.PlainStep.{IsInRange}
-use Rattle.plain_heap.specs.Sections.{printed_by}
-use Rattle.gc_script.specs.Statement.{Statement, Blank, statement}
-use Rattle.gc_script.specs.ScriptText.{words}
-use Rattle.gc_script.specs.Shown.{execution_of}
+use Rattle.std.proofs.Common.{◌≡◌, ℕ, ◌+◌, ◌≤◌, ◌<◌, List, [], ◌∷◌, ◌++◌, length, take, drop, get_or, refl, ap, sym, ◌∙◌, subst, true, arith, length-take-le}
+use Rattle.std.proofs.lemmas.List.{take_more, take_all, drop_all, drop_more}
+use Rattle.std.specs.Prelude.{Option, Some, None}
+use Rattle.gc_script.specs.Statement.{Statement, Blank}
 use Rattle.gc_script.specs.Earlier.{catalogue_names, next_line}
 use Rattle.gc_script.specs.Faults.{Fault, first_fault, line_fault, or_later, left_open}
 use Rattle.gc_script.specs.Script.{turned}
 use Rattle.gc_script.specs.Built.{are_built_after, is_built_after}
 use Rattle.gc_script.specs.Reading.{Shows, Takes, Refuses, IsRefused, SoFar, AreTaken}
-use Rattle.gc_script.specs.declared.command.Command.{Command}
 use Rattle.gc_script.specs.declared.refused.Refused.{Refused}
 use Rattle.gc_script.specs.declared.refused.Refused.TheVariants as refused
 use Rattle.gc_script.specs.declared.progress.Progress.{Progress}
+use Rattle.gc_script.proofs.Conjunction.{both, second_decides}
 
 turned_more : (e xs : List Statement) (s : Statement) → turned e (xs ++ s ∷ []) ≡ s ∷ turned e xs
 turned_more e [] s = refl
@@ -45,16 +39,6 @@ first_clear : (f : Option Fault) (later : Option Fault) → or_later f later ≡
 first_clear None later e = refl
 first_clear (Some fault) later e = cc
 
-both : (a b : Bool) → a ≡ true → (a && b) ≡ b
-both a b e = ap (λ (c : Bool). c && b) e
-
-left : (a b : Bool) → (a && b) ≡ true → a ≡ true
-left true b e = refl
-left false b e = e
-
-pub so_far_start : (all : List Statement) (p : Progress) → Shows (catalogue_names all) [] p → SoFar all 0 p
-so_far_start all p h = record { fault = refl; built = refl; shows = h }
-
 pub so_far_next : (all : List Statement) (i : ℕ) (p q : Progress) → i < length all → SoFar all i p → Takes (catalogue_names all) (turned [] (take i all)) (get_or all i Blank) q → SoFar all (i + 1) q
 so_far_next all i p q l h t =
     let e : List Statement = turned [] (take i all) in
@@ -64,7 +48,7 @@ so_far_next all i p q l h t =
     let fault : first_fault 1 (catalogue_names all) (s ∷ e) (drop (i + 1) all) ≡ first_fault 1 (catalogue_names all) [] all =
     sym (later_fault (line_fault 1 (catalogue_names all) e s) _ t.no_fault) ∙ ap (first_fault 1 (catalogue_names all) e) (sym rest) ∙ h.fault in
     let built : are_built_after (s ∷ e) (drop (i + 1) all) ≡ are_built_after [] all =
-    sym (both (is_built_after e s) _ t.built) ∙ ap (are_built_after e) (sym rest) ∙ h.built in
+    sym (second_decides (is_built_after e s) _ t.built) ∙ ap (are_built_after e) (sym rest) ∙ h.built in
     record {
       fault = ap (λ (x : List Statement). first_fault 1 (catalogue_names all) x (drop (i + 1) all)) next ∙ fault;
       built = ap (λ (x : List Statement). are_built_after x (drop (i + 1) all)) next ∙ built;
@@ -78,7 +62,7 @@ so_far_refused all i p l h r clear built =
     let s : Statement = get_or all i Blank in
     let rest : drop i all ≡ s ∷ drop (i + 1) all = rest_is all i l in
     r (first_clear (line_fault 1 (catalogue_names all) e s) _ (ap (first_fault 1 (catalogue_names all) e) (sym rest) ∙ h.fault ∙ clear))
-    (left (is_built_after e s) _ (ap (are_built_after e) (sym rest) ∙ h.built ∙ built))
+    (both (is_built_after e s) _ (ap (are_built_after e) (sym rest) ∙ h.built ∙ built)).0
 
 pub so_far_end : (all : List Statement) (i : ℕ) (p : Progress) → length all ≡ i → SoFar all i p → AreTaken (catalogue_names all) all p
 so_far_end all i p l h =
@@ -90,37 +74,6 @@ so_far_end all i p l h =
       built = sym h.built ∙ ap (are_built_after (turned [] (take i all))) none;
       shows = shows;
     }
-
--- what is kept before the first line
-pub shows_nothing : (catalogue : List (List ℕ)) (p : Progress) → p.started ≡ false → p.names.items ≡ [] → p.commands.items ≡ [] → Shows catalogue [] p
-shows_nothing catalogue p started names commands = record {
-  section = sym (ap (λ (b : Bool). cond b (Some 1) None) started);
-  warehouses = sym (ap (λ (b : Bool). cond b 1 0) started);
-  names = sym (ap (map (λ (n : Bor (List ℕ)). n.now)) names);
-  few_names = omega arith;
-  no_repeat = refl;
-  commands = sym (ap (map execution_of) commands);
-  count = sym (ap length commands);
-  printed = sym (ap (λ (cs : List Command). printed_by (map execution_of cs)) commands);
-  seasons = refl;
-  range = subst (All (λ (c : Command). IsInRange 4 c.op)) (sym commands) (All-nil (λ (c : Command). IsInRange 4 c.op));
-  unstarted = λ never. (names, commands);
-}
-
--- the statement of line i
-pub line_at : (lines : List (Bor (List ℕ))) (i : ℕ) (d : Bor (List ℕ)) → i < length lines
-    → get_or (map statement (map words (map (λ (s : Bor (List ℕ)). s.now) lines))) i Blank ≡ statement (words (get_or lines i d).now)
-line_at lines i d h =
-    let texts : List (List ℕ) = map (λ (s : Bor (List ℕ)). s.now) lines in
-    let a : length texts ≡ length lines = length-map lines (λ (s : Bor (List ℕ)). s.now) in
-    let b : length (map words texts) ≡ length texts = length-map texts words in
-    get_or-map statement (map words texts) i [] Blank (omega arith)
-    ∙ ap statement (get_or-map words texts i [] [] (omega arith))
-    ∙ ap (λ (t : List ℕ). statement (words t)) (get_or-map (λ (s : Bor (List ℕ)). s.now) lines i d [] h)
-
-pub line_count : (lines : List (Bor (List ℕ))) → length (map statement (map words (map (λ (s : Bor (List ℕ)). s.now) lines))) ≡ length lines
-line_count lines =
-    length-map (map words (map (λ (s : Bor (List ℕ)). s.now) lines)) statement ∙ length-map (map (λ (s : Bor (List ℕ)). s.now) lines) words ∙ length-map lines (λ (s : Bor (List ℕ)). s.now)
 
 -- a refusal of a line is one of the lines
 pub refused_at : (e : Refused) (P Q : Type 0) → (P → Q) → Refuses e P → Refuses e Q

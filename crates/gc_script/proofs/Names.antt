@@ -7,7 +7,7 @@ use Rattle.std.specs.List.{position_or_len, position}
 use Rattle.std.specs.Str.{bytes_eq}
 use Rattle.gc_script.specs.Earlier.{place, with_name}
 
-pub place-map : (name : List ℕ) (names : List (Bor (List ℕ))) → place (map (λ n. n.now) names) name ≡ position_or_len (λ (other : Bor (List ℕ)). bytes_eq other.now name) names
+place-map : (name : List ℕ) (names : List (Bor (List ℕ))) → place (map (λ n. n.now) names) name ≡ position_or_len (λ (other : Bor (List ℕ)). bytes_eq other.now name) names
 place-map name [] = refl
 place-map name (n ∷ names) = ap (λ (k : ℕ). cond (not (bytes_eq n.now name)) (1 + k) 0) (place-map name names)
 
@@ -28,7 +28,7 @@ place_by_position name names r k e f =
     f ∙ ap (λ (o : Option ℕ). unwrap_or o (length names)) e ∙ or_end _ (length names) (within (λ (other : Bor (List ℕ)). bytes_eq other.now name) names) ∙ sym (place-map name names)
 
 -- a new name past the most
-pub too_many : (names : List (List ℕ)) (v : List ℕ) → length names ≤ place names v → 32 ≤ place names v → length (with_name (Some v) names) ≤ 32 → ⊥
+too_many : (names : List (List ℕ)) (v : List ℕ) → length names ≤ place names v → 32 ≤ place names v → length (with_name (Some v) names) ≤ 32 → ⊥
 too_many names v past many few =
     let end : place names v ≤ length names = within (λ (other : List ℕ). bytes_eq other v) names in
     let new : nat_lt (place names v) (length names) ≡ false = not_below _ _ past in

@@ -6,8 +6,8 @@ use Rattle.plain_heap.specs.Sections.{Execution, Parts, made_by, printed_by}
 use Rattle.gc_script.specs.Statement.{Statement}
 use Rattle.gc_script.specs.Earlier.{place, with_name, catalogue_names, known_names, open_repeat, open_section, warehouse_count, season_count, is_printing}
 use Rattle.gc_script.specs.Faults.{line_fault, first_fault}
-use Rattle.gc_script.specs.Script.{Script, executed, executed_count, turned, body}
-use Rattle.gc_script.specs.Built.{is_built_after, are_built_after, IsBuiltReading}
+use Rattle.gc_script.specs.Script.{Script, executed, executed_count, turned, body, of_lines}
+use Rattle.gc_script.specs.Built.{is_built_after, are_built_after, body_lines, IsBuiltReading}
 use Rattle.gc_script.specs.Shown.{execution_of}
 use Rattle.gc_script.specs.declared.progress.Progress.{Progress}
 use Rattle.gc_script.specs.declared.refused.Refused.{Refused}
@@ -89,6 +89,11 @@ script_of sections = record { version = 1; sections = record { fields = 4; catal
 -- the warehouses of the lines
 abbrev pub sections_of : Progress → List Parts
 sections_of p = if p.started then warehouse_of (map execution_of p.commands.items) ∷ [] else []
+
+-- what became of the first of these lines
+abbrev pub HeaderAnswers : Result (Unit {0}) Refused → List (List (List ℕ)) → Type 0
+HeaderAnswers (Ok u) all = of_lines all ≡ body 1 (body_lines all)
+HeaderAnswers (Err e) all = Refuses e ((s : Script) → IsBuiltReading (of_lines all) (body_lines all) s → ⊥)
 
 -- an answer of the reader, where what it reads is P
 abbrev pub Reads : Result Script Refused → (Script → Type 0) → Type 0

@@ -3,10 +3,9 @@ ghost use Rattle.std.specs.Prelude.{◌≡◌, ◌<◌, ◌≤◌, ◌^◌, ◌�
 ghost use Rattle.std.specs.List.{All};
 ghost use Rattle.plain_heap.specs.PlainStep.{IsInRange};
 ghost use Rattle.gc_script.specs.ScriptText.{is_allowed, first_foreign, lines, words};
-ghost use Rattle.gc_script.specs.Statement.{statement};
 ghost use Rattle.gc_script.specs.Script.{Script as Whole, of_lines};
 ghost use Rattle.gc_script.specs.Built.{IsBuiltReading, IsBuiltScript, body_lines, is_refusal};
-ghost use Rattle.gc_script.specs.Reading.{BodyAnswers, SectionAnswers, ProgressAnswers, Reads, IsBuiltBody};
+ghost use Rattle.gc_script.specs.Reading.{HeaderAnswers, BodyAnswers, SectionAnswers, ProgressAnswers, Reads};
 ghost use Rattle.gc_script.specs.Shown.{execution_of};
 ghost use Rattle.gc_script.specs.declared.command.Command.{Command as Executed};
 
@@ -16,7 +15,7 @@ use crate::refused::Refused;
 use crate::script::{Script, ScriptError};
 use crate::section::Section;
 use crate::statement::is_header;
-use crate::text::{lines_of, words_of};
+use crate::text::words_of;
 use std::alloc::Global;
 
 const LONGEST: usize = 1_048_576;
@@ -53,17 +52,40 @@ fn text_of<'a>(source: &'a [u8]) -> &'a str
     }
 }
 
+/// Whether the first line is a header of version 1.
+fn take_header(alloc: Global, text: &str) -> Result<(), Refused>
+    requires { first_foreign text.now ≡ None }
+    ensures { HeaderAnswers result (map words (lines text.now)) }
+{
+    match text.lines().next() {
+        None => Err(Refused::NotBuilt),
+        Some(first) => match words_of(alloc, first) {
+            Err(_) => Err(Refused::Memory),
+            Ok(words) => {
+                if is_header(words.as_slice()) {
+                    Ok(())
+                } else {
+                    Err(Refused::NotBuilt)
+                }
+            }
+        },
+    }
+}
+
 /// What the lines after the header make.
-fn body_of<'a>(alloc: Global, lines: &[&'a str]) -> Result<Progress<'a>, Refused>
-    requires { length lines.now < 2 ^ 31 }
-    ensures { BodyAnswers result (map statement (map words (map (λ l. l.now) lines.now))) }
+fn body_of<'a>(alloc: Global, text: &'a str) -> Result<Progress<'a>, Refused>
+    requires ascii { first_foreign text.now ≡ None }
+    requires short { length text.now ≤ LONGEST }
+    ensures { BodyAnswers result (body_lines (map words (lines text.now))) }
 {
     let mut progress = new_progress(alloc);
-    for (i, line) in lines.iter().enumerate() {
-        match progress.take_line(alloc, i as u32 + 2, line) {
+    let mut number = 2u32;
+    for line in text.lines().skip(1) {
+        match progress.take_line(alloc, number, line) {
             Ok(()) => {}
             Err(e) => return Err(e),
         }
+        number += 1;
     }
     Ok(progress)
 }
@@ -101,42 +123,18 @@ fn script_of<'a>(alloc: Global, progress: Progress<'a>) -> Result<Script<'a>, Re
     }
 }
 
-fn script_of_body<'a>(alloc: Global, lines: &[&'a str]) -> Result<Script<'a>, Refused>
-    requires { length lines.now < 2 ^ 31 }
-    ensures { Reads result (IsBuiltBody (map statement (map words (map (λ l. l.now) lines.now)))) }
-{
-    match body_of(alloc, lines) {
-        Err(e) => Err(e),
-        Ok(progress) => script_of(alloc, progress),
-    }
-}
-
-fn script_of_lines<'a>(alloc: Global, lines: &[&'a str]) -> Result<Script<'a>, Refused>
-    requires { length lines.now < 2 ^ 31 }
-    ensures { let all = map words (map (λ l. l.now) lines.now) in Reads result (IsBuiltReading (of_lines all) (body_lines all)) }
-{
-    match lines {
-        [] => Err(Refused::NotBuilt),
-        [first, others @ ..] => match words_of(alloc, first) {
-            Err(_) => Err(Refused::Memory),
-            Ok(words) => {
-                if is_header(words.as_slice()) {
-                    script_of_body(alloc, others)
-                } else {
-                    Err(Refused::NotBuilt)
-                }
-            }
-        },
-    }
-}
-
 fn script_of_text<'a>(alloc: Global, text: &'a str) -> Result<Script<'a>, Refused>
-    requires { length text.now ≤ LONGEST }
+    requires ascii { first_foreign text.now ≡ None }
+    requires short { length text.now ≤ LONGEST }
     ensures { let all = map words (lines text.now) in Reads result (IsBuiltReading (of_lines all) (body_lines all)) }
 {
-    match lines_of(alloc, text) {
-        Err(_) => Err(Refused::Memory),
-        Ok(lines) => script_of_lines(alloc, lines.as_slice()),
+    match take_header(alloc, text) {
+        Err(e) => return Err(e),
+        Ok(()) => {}
+    }
+    match body_of(alloc, text) {
+        Err(e) => Err(e),
+        Ok(progress) => script_of(alloc, progress),
     }
 }
 
