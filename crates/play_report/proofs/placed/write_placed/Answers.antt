@@ -1,4 +1,4 @@
-use Rattle.std.proofs.Common.{◌≡◌, ◌++◌, List, ℕ, [], ◌∷◌, ◌+◌, length, ap, sym, refl, map, codes, ◌∙◌, sum_by}
+use Rattle.std.proofs.Common.{◌≡◌, ◌++◌, List, ℕ, ◌+◌, length, ap, sym, map, codes, ◌∙◌, sum_by}
 use Rattle.std.proofs.lemmas.List.Folds.{fold-map}
 use Rattle.play_report.specs.declared.report.Part.{Part}
 use Rattle.play_report.specs.Report.{Outcome, outcome_of}
