@@ -72,10 +72,14 @@ refusal_text bytes (errors.TooManySeasons line) r e memory refused long not_buil
 -- the text of a report is one of the bytes' play
 pub play_text : (bytes : List ℕ) (s : Script) (r : Report) → IsBuiltScript bytes s → IsReport s.sections 4096 r
     → IsPlayText bytes (report_text (map outcome_of r.parts.items) (map survivor_of r.survivors.items) false)
-play_text bytes s r built report = (s, built, record {
-  survivors = map survivor_of r.survivors.items;
-  reached = report.survivors;
-  places = places_of r;
-  placed = tt;
-  written = ap (λ (os : List Outcome). report_text os (map survivor_of r.survivors.items) false) report.outcomes;
-})
+play_text bytes s r built report = (
+  s,
+  built,
+  record {
+    survivors = map survivor_of r.survivors.items;
+    reached = report.survivors;
+    places = places_of r;
+    placed = tt;
+    written = ap (λ (os : List Outcome). report_text os (map survivor_of r.survivors.items) false) report.outcomes;
+  },
+)

@@ -21,7 +21,7 @@ pub begins : (catalogue : Heap) (section : Parts) (p : Played) (rest : List Exec
 begins catalogue section p rest said heap is range few = record {
   heap = ap (λ (h : Heap). heap_from (Some catalogue) h (ops_of rest)) heap ∙ ap (λ (es : List Execution). heap_from (Some catalogue) (empty_heap section.fields section.number) (ops_of es)) is;
   said = ap (λ (l : List Said). map printed_of l ++ printed_from (Some catalogue) p.heap rest) said ∙ ap (λ (h : Heap). printed_from (Some catalogue) h rest) heap
-    ∙ ap (λ (es : List Execution). printed_from (Some catalogue) (empty_heap section.fields section.number) es) is;
+      ∙ ap (λ (es : List Execution). printed_from (Some catalogue) (empty_heap section.fields section.number) es) is;
   room = let long : length rest ≤ 2000000 = omega (arith, ap length is) in record {
     objects = omega (arith, ap (λ (h : Heap). length h.objects) heap);
     drops = omega (arith, ap (λ (h : Heap). h.dropped) heap);
@@ -33,9 +33,10 @@ begins catalogue section p rest said heap is range few = record {
 pub may_do : (catalogue : Heap) (section : Parts) (p : Played) (rest more : List Execution) (command : Command) → Goes catalogue section p rest → rest ≡ execution_of command ∷ more
     → IsInRange p.heap.fields command.op × HasRoom p 1
 may_do catalogue section p rest more command goes is =
-    let long : length rest ≡ length (execution_of command ∷ more) = ap length is in
-    (All-head (λ e. IsInRange p.heap.fields e.op) (execution_of command) more (subst (λ (es : List Execution). All (λ e. IsInRange p.heap.fields e.op) es) is goes.range),
-      record { objects = omega (arith, goes.room.objects); drops = omega (arith, goes.room.drops) })
+    let long : length rest ≡ length (execution_of command ∷ more) = ap length is in (
+      All-head (λ e. IsInRange p.heap.fields e.op) (execution_of command) more (subst (λ (es : List Execution). All (λ e. IsInRange p.heap.fields e.op) es) is goes.range),
+      record { objects = omega (arith, goes.room.objects); drops = omega (arith, goes.room.drops) },
+    )
 
 -- one line more, or none
 line_more : (label : List ℕ) (line : Option Line) (printed : List Printed) → with_label label line printed ≡ with_label label line [] ++ printed
@@ -54,17 +55,17 @@ goes_on catalogue section p q rest more command goes is does =
     record {
       heap = ap (λ (h : Heap). heap_from (Some catalogue) h (ops_of more)) same ∙ ap (λ (es : List Execution). heap_from (Some catalogue) p.heap (ops_of es)) (sym is) ∙ goes.heap;
       said = ap (λ (l : List Printed). l ++ printed_from (Some catalogue) q.heap more) does.said
-        ∙ append_assoc said (with_label command.label.now line []) (printed_from (Some catalogue) q.heap more)
-        ∙ ap (λ (l : List Printed). said ++ l) (sym (line_more command.label.now line (printed_from (Some catalogue) q.heap more)))
-        ∙ ap (λ (h : Heap). said ++ with_label command.label.now line (printed_from (Some catalogue) h more)) same
-        ∙ ap (λ (es : List Execution). said ++ printed_from (Some catalogue) p.heap es) (sym is)
-        ∙ goes.said;
+          ∙ append_assoc said (with_label command.label.now line []) (printed_from (Some catalogue) q.heap more)
+          ∙ ap (λ (l : List Printed). said ++ l) (sym (line_more command.label.now line (printed_from (Some catalogue) q.heap more)))
+          ∙ ap (λ (h : Heap). said ++ with_label command.label.now line (printed_from (Some catalogue) h more)) same
+          ∙ ap (λ (es : List Execution). said ++ printed_from (Some catalogue) p.heap es) (sym is)
+          ∙ goes.said;
       room = record {
         objects = omega (arith, goes.room.objects, long, objects_grow p.heap (Some catalogue) command.op, ap (λ (h : Heap). length h.objects) same);
         drops = omega (arith, goes.room.drops, long, dropped_after p.heap (Some catalogue) command.op, ap (λ (h : Heap). h.dropped) same);
       };
       range = subst (λ (fields : ℕ). All (λ e. IsInRange fields e.op) more) (sym (ap (λ (h : Heap). h.fields) same ∙ fields_after p.heap (Some catalogue) command.op))
-        (All-tail (λ e. IsInRange p.heap.fields e.op) (execution_of command) more (subst (λ (es : List Execution). All (λ e. IsInRange p.heap.fields e.op) es) is goes.range));
+          (All-tail (λ e. IsInRange p.heap.fields e.op) (execution_of command) more (subst (λ (es : List Execution). All (λ e. IsInRange p.heap.fields e.op) es) is goes.range));
     }
 
 pub ends : (catalogue : Heap) (section : Parts) (p : Played) (rest : List Execution) → Goes catalogue section p rest → rest ≡ [] → IsPlayed catalogue section p

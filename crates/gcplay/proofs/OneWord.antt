@@ -13,9 +13,10 @@ word_is [] word bytes text test some few is read tested = absurd (none some)
     none : 1 ≤ 0 → ⊥
     none l = omega arith
 word_is (first ∷ []) word bytes text test some few is read tested =
-    let same : string_bytes first ≡ bytes = ap string_bytes (sym is) ∙ sym read in
-    (λ holds. ap (λ (l : List ℕ). l ∷ []) (same ∙ (bytes_eq-Decides bytes text).0 (sym tested ∙ holds)),
-      λ whole. tested ∙ (bytes_eq-Decides bytes text).1 (sym same ∙ ap (λ (l : List (List ℕ)). get_or l 0 []) whole))
+    let same : string_bytes first ≡ bytes = ap string_bytes (sym is) ∙ sym read in (
+      λ holds. ap (λ (l : List ℕ). l ∷ []) (same ∙ (bytes_eq-Decides bytes text).0 (sym tested ∙ holds)),
+      λ whole. tested ∙ (bytes_eq-Decides bytes text).1 (sym same ∙ ap (λ (l : List (List ℕ)). get_or l 0 []) whole),
+    )
 word_is (first ∷ other ∷ more) word bytes text test some few is read tested = absurd (none few)
   where
     none : length (first ∷ other ∷ more) < 2 → ⊥

@@ -100,6 +100,7 @@ takes_free fields parts n (suc zero) inside k z e next new name cell reached sam
   where
     apart : (n : ℕ) → n ≡ 0 → n ≡ 1 → ⊥
     apart n p q = omega arith
+
     clash : (c a b : ℕ) → a < b → c ≡ a → c ≡ b → ⊥
     clash c a b l p q = omega arith
 takes_free fields parts n (suc (suc w)) inside k z e next new name cell reached same lies taken = absurd (no inside)
@@ -118,11 +119,11 @@ own_cells_placed fields parts cells h last one fits = record {
   below = below;
   free = λ w inside. takes_free fields parts (length h.objects) w inside;
   apart = λ a b cell reach_a reach_b lies_a lies_b.
-    let in_one : (name : Name) → IsObject (last_heaps (one_section fields parts)) name → name.section ≡ 1 =
-    λ name object. sym (of_second fields (last_heap (one_section fields parts) 1) name object) ∙ ap (λ (g : Heap). g.section) last ∙ one in
-    let a_one : a.section ≡ 1 = in_one a reach_a.0 in
-    let b_one : b.section ≡ 1 = in_one b reach_b.0 in
-    same_name a b (a_one ∙ sym b_one) (sym (lies_is (length h.objects) a cell a_one lies_a) ∙ lies_is (length h.objects) b cell b_one lies_b);
+      let in_one : (name : Name) → IsObject (last_heaps (one_section fields parts)) name → name.section ≡ 1 =
+      λ name object. sym (of_second fields (last_heap (one_section fields parts) 1) name object) ∙ ap (λ (g : Heap). g.section) last ∙ one in
+      let a_one : a.section ≡ 1 = in_one a reach_a.0 in
+      let b_one : b.section ≡ 1 = in_one b reach_b.0 in
+      same_name a b (a_one ∙ sym b_one) (sym (lies_is (length h.objects) a cell a_one lies_a) ∙ lies_is (length h.objects) b cell b_one lies_b);
 }
   where
     each : (w : ℕ) → w < 2 → length (cells_of (own_places (length h.objects)) w) ≡ length (last_heap (one_section fields parts) w).objects
@@ -132,6 +133,7 @@ own_cells_placed fields parts cells h last one fits = record {
       where
         no : suc (suc w) < 2 → ⊥
         no l = omega arith
+
     below : All (All (λ cell. cell < cells)) (own_places (length h.objects))
     below zero d inside i e some = absurd (no some)
       where
@@ -157,12 +159,14 @@ nothing_placed fields cells = record {
     none zero (suc n) cell e = cc
     none (suc w) zero cell e = cc
     none (suc w) (suc n) cell e = cc
+
     each : (w : ℕ) → w < 1 → length (cells_of ([] ∷ []) w) ≡ length (last_heap (no_section fields) w).objects
     each zero inside = refl
     each (suc w) inside = absurd (no inside)
       where
         no : suc w < 1 → ⊥
         no l = omega arith
+
     below : All (All (λ cell. cell < cells)) ([] ∷ [])
     below zero d inside i e some = absurd (no some)
       where
@@ -172,5 +176,6 @@ nothing_placed fields cells = record {
       where
         no : suc k < 1 → ⊥
         no l = omega arith
+
     free : (w : ℕ) → w < 1 → TakesFreeCells (no_section fields) ([] ∷ []) w
     free w inside k z e next new name cell reached same lies taken = none name.section name.number cell lies

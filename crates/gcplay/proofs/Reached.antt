@@ -68,13 +68,13 @@ own_survivors h numbers are = record {
     each = λ name. (
       λ among. let found = of_own h numbers name among in subst (λ (a : Name). IsReachable (h ∷ []) a) found.2 ((are.each found.0).0 found.1),
       λ reached. subst (λ (a : Name). Contains (map (own h) numbers) a) (own_name h name reached.0)
-        (contains_own h numbers name.number ((are.each name.number).1 (subst (λ (a : Name). IsReachable (h ∷ []) a) (sym (own_name h name reached.0)) reached))),
+          (contains_own h numbers name.number ((are.each name.number).1 (subst (λ (a : Name). IsReachable (h ∷ []) a) (sym (own_name h name reached.0)) reached))),
     );
   });
   values = λ k d inside.
-    let below : k < length numbers = omega (arith, length-map numbers (survivor_at h)) in
-    subst (λ (s : Survivor). HasValue (h ∷ []) s) (sym (get_or-map (survivor_at h) numbers k 0 d below))
-    (has_value h (get_or numbers k 0) ((are.each (get_or numbers k 0)).0 (Contains-get_or numbers k 0 below)).0);
+      let below : k < length numbers = omega (arith, length-map numbers (survivor_at h)) in
+      subst (λ (s : Survivor). HasValue (h ∷ []) s) (sym (get_or-map (survivor_at h) numbers k 0 d below))
+      (has_value h (get_or numbers k 0) ((are.each (get_or numbers k 0)).0 (Contains-get_or numbers k 0 below)).0);
 }
 
 -- what holds in a heap holds beside another
@@ -161,6 +161,7 @@ no_survivors e bare = record {
   where
     no : (k : ℕ) → k < 0 → ⊥
     no k l = omega arith
+
     none : (name : Name) → IsObject (e ∷ []) name → ⊥
     none name (object, (heap, among, section, there)) =
         none_there name.number object (ap (λ (l : List Object). slice_get l name.number) (sym (ap (λ (g : Heap). g.objects) (sym (only e heap among)) ∙ bare.objects)) ∙ there)

@@ -47,7 +47,7 @@ one_report section cells p r first second number few made small played parts hol
     let start : empty_heap fields section.number ≡ empty_heap fields 1 = ap (λ (w : ℕ). empty_heap fields w) number in
     let last : last_heap s 1 ≡ p.heap =
     one_part_heap fields section.parts section.parts (empty_heap fields 1) few
-      ∙ ap (λ (h : Heap). heap_from (Some (empty_heap fields 0)) h (ops_of (joined section.parts))) (sym start) ∙ sym played.heap in
+    ∙ ap (λ (h : Heap). heap_from (Some (empty_heap fields 0)) h (ops_of (joined section.parts))) (sym start) ∙ sym played.heap in
     let said : map printed_of p.said.items ≡ transcript s 1 =
     played.said ∙ ap (λ (h : Heap). printed_from (Some (empty_heap fields 0)) h (joined section.parts)) start ∙ sym (one_part_printed fields section.parts section.parts (empty_heap fields 1) few) in
     let one : p.heap.section ≡ 1 =
@@ -56,19 +56,19 @@ one_report section cells p r first second number few made small played parts hol
     ap (λ (h : Heap). length h.objects) played.heap ∙ objects_from (Some (empty_heap fields 0)) (empty_heap fields section.number) (joined section.parts) in
     let places : places_of r ≡ own_places (length p.heap.objects) =
     ap (map (λ (k : Part). k.places.items)) parts
-      ∙ ap (λ (l : List ℕ). l ∷ second.places.items ∷ []) holds_first.lies ∙ ap (λ (l : List ℕ). [] ∷ l ∷ []) holds_second.lies in
+    ∙ ap (λ (l : List ℕ). l ∷ second.places.items ∷ []) holds_first.lies ∙ ap (λ (l : List ℕ). [] ∷ l ∷ []) holds_second.lies in
     let whole : map outcome_of r.parts.items ≡ outcomes s (places_of r) =
     ap (map outcome_of) parts
-      ∙ ap (λ (o : Outcome). o ∷ outcome_of second ∷ []) (outcome_is first [] 0 [] holds_first)
-      ∙ ap (λ (o : Outcome). outcome s (own_places (length p.heap.objects)) 0 ∷ o ∷ [])
-        (outcome_is second (map printed_of p.said.items) p.heap.dropped (counted 0 (length p.heap.objects)) holds_second
-          ∙ ap (λ (l : List Printed). record { said = l; dropped = p.heap.dropped; places = counted 0 (length p.heap.objects) }) said
-          ∙ ap (λ (h : Heap). record { said = transcript s 1; dropped = h.dropped; places = counted 0 (length p.heap.objects) }) (sym last))
-      ∙ ap (λ (l : List (List ℕ)). outcomes s l) (sym places) in
+    ∙ ap (λ (o : Outcome). o ∷ outcome_of second ∷ []) (outcome_is first [] 0 [] holds_first)
+    ∙ ap (λ (o : Outcome). outcome s (own_places (length p.heap.objects)) 0 ∷ o ∷ [])
+    (outcome_is second (map printed_of p.said.items) p.heap.dropped (counted 0 (length p.heap.objects)) holds_second
+    ∙ ap (λ (l : List Printed). record { said = l; dropped = p.heap.dropped; places = counted 0 (length p.heap.objects) }) said
+    ∙ ap (λ (h : Heap). record { said = transcript s 1; dropped = h.dropped; places = counted 0 (length p.heap.objects) }) (sym last))
+    ∙ ap (λ (l : List (List ℕ)). outcomes s l) (sym places) in
     record {
       outcomes = whole;
       survivors = subst (λ (h : Heap). AreSurvivors (empty_heap fields 0 ∷ h ∷ []) (map survivor_of r.survivors.items)) (sym last)
-        (survivors_beside (empty_heap fields 0) p.heap (map survivor_of r.survivors.items) (empty_is_bare fields 0) survivors);
+          (survivors_beside (empty_heap fields 0) p.heap (map survivor_of r.survivors.items) (empty_is_bare fields 0) survivors);
       placed = subst (λ (l : List (List ℕ)). IsPlaced s cells l) (sym places) (own_cells_placed fields section.parts cells p.heap last one (omega (arith, count, made)));
       few = omega (arith, count, made, ap placed_count (whole ∙ ap (λ (l : List (List ℕ)). outcomes s l) places), two_counts (outcome s (own_places (length p.heap.objects)) 0) (outcome s (own_places (length p.heap.objects)) 1), length-counted 0 (length p.heap.objects));
     }
@@ -102,10 +102,10 @@ one_warehouse_at fields cells catalogue [] section r d playable some is h = absu
 one_warehouse_at fields cells catalogue (parts ∷ []) section r d playable some is h =
     subst (λ (o : Option (List (List Execution))). IsReport (record { fields = fields; catalogue = o; warehouses = parts ∷ [] }) cells r) (sym playable.no_catalogue)
     (subst (λ (q : Parts). IsReport (one_section q.fields q.parts) cells r) is
-      (h (ap (λ (q : Parts). q.fields) is) (ap (λ (q : Parts). q.number) is)
-        (subst (λ (q : Parts). length q.parts ≤ 1) (sym is) playable.one_part)
-        (subst (λ (q : Parts). made_by (joined q.parts) ≤ cells) (sym is) playable.made)
-        playable.few_cells))
+    (h (ap (λ (q : Parts). q.fields) is) (ap (λ (q : Parts). q.number) is)
+    (subst (λ (q : Parts). length q.parts ≤ 1) (sym is) playable.one_part)
+    (subst (λ (q : Parts). made_by (joined q.parts) ≤ cells) (sym is) playable.made)
+    playable.few_cells))
 one_warehouse_at fields cells catalogue (parts ∷ other ∷ more) section r d playable some is h = absurd (no playable.few_warehouses)
   where
     no : length (parts ∷ other ∷ more) ≤ 1 → ⊥

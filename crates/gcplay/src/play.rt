@@ -62,7 +62,11 @@ fn part_of<'a>(alloc: Global, played: Played<'a>) -> Result<(Part<'a>, PlainHeap
 }
 
 /// A list of two parts.
-fn two_parts<'a>(alloc: Global, first: Part<'a>, second: Part<'a>) -> Result<Vec<Part<'a>>, OutOfMemory>
+fn two_parts<'a>(
+    alloc: Global,
+    first: Part<'a>,
+    second: Part<'a>,
+) -> Result<Vec<Part<'a>>, OutOfMemory>
     ensures { IfOk result (λ v. v.items ≡ first.entry ∷ second.entry ∷ []) }
 {
     let mut parts = Vec::new(alloc);

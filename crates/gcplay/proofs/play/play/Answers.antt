@@ -11,7 +11,7 @@ pub returns-in-Ok-play_section : goal.returns-in-Ok-play_section
 returns-in-Ok-play_section g c =
     if_ok _ _ _
     (λ r h. one_warehouse _ _ _ c.section-item.result r _ c.requires c.warehouses.ensures c.in-len1-up.len_at_least c.section-item.is
-      (λ fields number few made small. h c.section-item.result _ number few made small
-        (subst (λ (catalogue : Heap). IsPlayed catalogue c.section-item.result c.in-Ok-play_section.played)
-          (c.in-Ok.ensures ∙ ap (λ (n : ℕ). empty_heap n 0) (c.fields.ensures ∙ sym fields)) c.in-Ok-play_section.ensures)))
+    (λ fields number few made small. h c.section-item.result _ number few made small
+    (subst (λ (catalogue : Heap). IsPlayed catalogue c.section-item.result c.in-Ok-play_section.played)
+    (c.in-Ok.ensures ∙ ap (λ (n : ℕ). empty_heap n 0) (c.fields.ensures ∙ sym fields)) c.in-Ok-play_section.ensures)))
     c.report_of_one.ensures

@@ -12,7 +12,7 @@ loop-number-preserved c =
     let pushed : c.push.new.self.items ≡ c.loop-number.survivors.items ++ survivor ∷ [] = grind (arith, common_steps) in
     listed_more c.args.heap.now c.deref-number-items.result.now c.loop-number.number-index _ _ survivor c.loop-number-test.true
     (ap (λ (w : ℕ). let s : Survivor = record { section = w; number = number; value = c.value_at.result } in s) c.section.ensures
-      ∙ ap (λ (v : ℕ). let s : Survivor = record { section = c.args.heap.now.section; number = number; value = v } in s) c.value_at.ensures)
+    ∙ ap (λ (v : ℕ). let s : Survivor = record { section = c.args.heap.now.section; number = number; value = v } in s) c.value_at.ensures)
     c.loop-number.invariant pushed
 
 pub returns : goal.returns
