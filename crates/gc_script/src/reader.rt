@@ -52,7 +52,7 @@ fn text_of<'a>(source: &'a [u8]) -> &'a str
     }
 }
 
-/// Whether the first line is a header of version 1.
+/// Takes the first line, a header of version 1.
 fn take_header(alloc: Global, text: &str) -> Result<(), Refused>
     requires { first_foreign text.now ≡ None }
     ensures { HeaderAnswers result (map words (lines text.now)) }
@@ -105,6 +105,7 @@ fn section_of<'a>(commands: Vec<Command<'a>>) -> Option<Section<'a>>
     Some(section)
 }
 
+/// The script of the lines that were taken, unless it is too large.
 fn script_of<'a>(alloc: Global, progress: Progress<'a>) -> Result<Script<'a>, Refused>
     requires range { All (λ (c : Executed). IsInRange 4 c.op) progress.commands.items }
     requires unstarted { progress.started ≡ false → progress.commands.items ≡ [] }
