@@ -1,20 +1,19 @@
 -- How a script's bytes are answered.
-use Rattle.std.proofs.Common.{◌≡◌, ◌≤◌, ◌<◌, ◌⊎◌, ℕ, ◌+◌, List, [], ◌∷◌, ◌++◌, length, map, refl, sym, ◌∙◌, ap, subst, inl, inr, Bool, true, false, cond, arith, nat_lt}
+use Rattle.std.proofs.Common.{◌≡◌, ◌≤◌, ◌<◌, ℕ, List, [], length, map, refl, ap, inl, inr, Bool, true, false, cond, arith, nat_lt}
 use Rattle.std.proofs.lemmas.Bool.Decides.{nat_tests}
-use Rattle.std.specs.Prelude.{Option, Some, None, Result, Ok, Err, IsTrue, IfErr, ◌↔◌, slice_index_or}
-use Rattle.plain_heap.specs.Sections.{Execution, Sections, parts_of}
+use Rattle.std.specs.Prelude.{Result, Ok, Err, IsTrue, ◌↔◌, slice_index_or}
+use Rattle.plain_heap.specs.Sections.{Execution}
 use Rattle.gc_script.specs.Faults.{Fault, TooLong}
 use Rattle.gc_script.specs.ScriptText.{first_foreign}
-use Rattle.gc_script.specs.Script.{Script, script, of_text}
+use Rattle.gc_script.specs.Script.{Script, of_text}
 use Rattle.gc_script.specs.Built.{IsBuiltScript, is_refusal}
 use Rattle.gc_script.specs.declared.script.ScriptError.{ScriptError}
 use Rattle.gc_script.specs.declared.script.ScriptError.TheVariants as errors
 use Rattle.gc_script.proofs.Built.{built_catalogue, built_fields, built_warehouses, built_sections, AreOneAtMost}
-use Rattle.play_report.specs.Causes.{Rose, Grows}
-use Rattle.play_report.specs.Text.{error_text, report_text, IsReportText}
+use Rattle.play_report.specs.Text.{error_text, report_text}
 use Rattle.play_report.specs.Report.{Outcome, outcome_of, survivor_of}
 use Rattle.play_report.specs.declared.report.Report.{Report}
-use Rattle.gcplay.specs.Form.{IsTaken, IsPlayText, IsFaultText, MayBeText}
+use Rattle.gcplay.specs.Form.{IsPlayText, IsFaultText}
 use Rattle.gcplay.specs.Playing.{IsPlayable, IsReport, places_of}
 
 one_part_at_most : (warehouses : List (List (List Execution))) → AreOneAtMost warehouses → length (slice_index_or warehouses 0 []) ≤ 1

@@ -1,11 +1,10 @@
 -- What a script means that has no catalogue, and no or one warehouse with one part at most.
-use Rattle.std.proofs.Common.{◌≡◌, ℕ, zero, suc, ◌+◌, ◌<◌, ◌≤◌, List, [], ◌∷◌, ◌++◌, length, map, take, refl, ap, sym, ◌∙◌, subst, arith}
-use Rattle.std.specs.Prelude.{Option, Some, None}
-use Rattle.plain_heap.specs.declared.operation.Op.{Op}
+use Rattle.std.proofs.Common.{◌≡◌, ℕ, ◌≤◌, List, [], ◌∷◌, ◌++◌, length, refl, ap, sym, ◌∙◌, arith}
+use Rattle.std.specs.Prelude.{Some}
 use Rattle.plain_heap.specs.PlainHeap.{Heap, empty_heap}
-use Rattle.plain_heap.specs.Sections.{Execution, Sections, joined, first_of}
+use Rattle.plain_heap.specs.Sections.{Execution, joined}
 use Rattle.gcplay.specs.Playing.{one_section}
-use Rattle.plain_heap.specs.PlainRun.{heap_from, ops_of, heap_after_parts, printed_from, printed_in_parts, Printed, plain, last_heap, transcript, seen_catalogue, catalogue_end}
+use Rattle.plain_heap.specs.PlainRun.{heap_from, ops_of, heap_after_parts, printed_from, printed_in_parts}
 
 append_nil : {X : Type 0} (l : List X) → l ++ [] ≡ l
 append_nil [] = refl

@@ -1,11 +1,11 @@
 -- Places that are not legal: a new object would take the cell of one that is still reachable.
-use Rattle.std.proofs.Common.{◌≡◌, ℕ, List, [], ◌∷◌, refl, codes, arith, length}
+use Rattle.std.proofs.Common.{ℕ, [], ◌∷◌, refl, codes, arith}
 use Rattle.std.specs.Prelude.{slice_index_or}
 use Rattle.plain_heap.specs.declared.operation.Op.TheVariants as ops
 use Rattle.plain_heap.specs.Sections.{Sections, Execution, part_of}
 use Rattle.plain_heap.specs.PlainRun.{heaps_at}
 use Rattle.plain_heap.specs.Placement.{IsPlaced}
-use Rattle.plain_heap.proofs.Found.{Witness, are_found, found}
+use Rattle.plain_heap.proofs.Found.{found}
 use Rattle.plain_heap.proofs.Search.{searched}
 use Rattle.gc_script.specs.Script.{script}
 use Rattle.gcplay.proofs.Computed.{sections_in}

@@ -1,12 +1,11 @@
 -- Objects that each have the cell of their own number are placed legally.
-use Rattle.std.proofs.Common.{◌≡◌, ℕ, zero, suc, ◌+◌, ◌-◌, ◌<◌, ◌≤◌, ◌⊎◌, inl, inr, List, [], ◌∷◌, ◌++◌, length, map, take, get_or, refl, ap, sym, ◌∙◌, subst, arith, add-one}
-use Rattle.std.specs.Prelude.{Option, Some, None, slice_get, slice_index_or, All, Contains}
-use Rattle.plain_heap.specs.declared.object.Object.{Object}
+use Rattle.std.proofs.Common.{◌≡◌, ℕ, zero, suc, ◌+◌, ◌-◌, ◌<◌, ◌≤◌, List, [], ◌∷◌, ◌++◌, length, take, refl, ap, sym, ◌∙◌, arith, add-one}
+use Rattle.std.specs.Prelude.{Some, None, slice_get, slice_index_or, All}
 use Rattle.plain_heap.specs.PlainHeap.{Heap, empty_heap}
-use Rattle.plain_heap.specs.Sections.{Execution, Sections, counted, joined, IsNext}
-use Rattle.plain_heap.specs.PlainRun.{heap_from, plan_of, last_heap, last_heaps, plain, catalogue_end, heaps_at}
-use Rattle.plain_heap.specs.Paths.{Name, IsObject, IsReachable}
-use Rattle.plain_heap.specs.Placement.{IsPlaced, LiesIn, cells_of, TakesFreeCells, IsNew}
+use Rattle.plain_heap.specs.Sections.{Execution, Sections, counted, joined}
+use Rattle.plain_heap.specs.PlainRun.{plan_of, last_heap, last_heaps, plain, catalogue_end}
+use Rattle.plain_heap.specs.Paths.{Name, IsObject}
+use Rattle.plain_heap.specs.Placement.{IsPlaced, LiesIn, cells_of, TakesFreeCells}
 use Rattle.gcplay.proofs.Steps.{section_from}
 use Rattle.gcplay.specs.Playing.{no_section, one_section}
 

@@ -4,7 +4,7 @@ use Rattle.std.proofs.lemmas.List.{length-map, get_or-map, get_or-replicate, tak
 use Rattle.play_report.specs.Report.{survivor_of}
 use Rattle.play_report.specs.declared.report.Survivor.{Survivor as Kept}
 use Rattle.std.proofs.lemmas.List.Elements.{Contains-get_or}
-use Rattle.std.specs.Prelude.{Option, Some, None, slice_get, slice_index_or, Contains, All, AllPairs, ◌↔◌}
+use Rattle.std.specs.Prelude.{Option, Some, slice_get, Contains, AllPairs, ◌↔◌}
 use Rattle.plain_heap.specs.declared.object.Ref.{Ref}
 use Rattle.plain_heap.specs.declared.object.Ref.TheVariants as refs
 use Rattle.plain_heap.specs.declared.object.Object.{Object}

@@ -1,5 +1,5 @@
 -- The program's status.
-use Rattle.std.proofs.Common.{◌≡◌, ◌⊎◌, ℕ, List, [], ◌∷◌, refl, inl, inr, arith}
+use Rattle.std.proofs.Common.{◌≡◌, ◌⊎◌, ℕ, List, [], ◌∷◌, refl, inl, arith}
 use Rattle.std.specs.Prelude.{Option, Some, None, IfSome, Contains}
 use Rattle.play_report.specs.Text.{usage_text}
 use Rattle.gcplay.specs.Form.{MayBeText}

@@ -1,7 +1,7 @@
 -- Words, and what they ask for; computed by the definition.
 use Rattle.std.proofs.Common.{◌≡◌, [], ◌∷◌, refl, codes, true, false}
 use Rattle.std.specs.Prelude.{Some, None}
-use Rattle.gcplay.specs.Words.{Run, Gen, Load, Convert, Schedule, Dump, Undump, Census, Batch, command}
+use Rattle.gcplay.specs.Words.{Run, Gen, Load, Convert, Dump, command}
 
 words_1 : command ([]) ≡ None
 words_1 = refl

@@ -1,5 +1,5 @@
 -- How the program ends, and why.
-use Rattle.std.specs.Prelude.{ℕ, ◌≡◌, ◌⊎◌, List, [], Option, Some, IfSome}
+use Rattle.std.specs.Prelude.{ℕ, ◌≡◌, List, Option, IfSome}
 use Rattle.std.specs.Io.KnownBytes.{Appends, Keeps}
 use Rattle.play_report.specs.Causes.{Rose, Grows}
 use Rattle.play_report.specs.Text.{usage_text}

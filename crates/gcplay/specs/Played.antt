@@ -1,5 +1,5 @@
 -- A section that is being played over a plain heap.
-use Rattle.std.specs.Prelude.{ℕ, ◌≡◌, ◌<◌, ◌≤◌, ◌+◌, List, ◌++◌, [], length, map, Option, Some, All}
+use Rattle.std.specs.Prelude.{ℕ, ◌≡◌, ◌≤◌, ◌+◌, List, ◌++◌, [], length, map, Some, All}
 use Rattle.plain_heap.specs.PlainHeap.{Heap, empty_heap}
 use Rattle.plain_heap.specs.PlainStep.{heap_after, line_of, IsInRange}
 use Rattle.plain_heap.specs.Sections.{Execution, Parts, joined}

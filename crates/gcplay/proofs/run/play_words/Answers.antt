@@ -1,4 +1,4 @@
-use Rattle.std.proofs.Common.{◌≡◌, ◌∙◌, sym, subst, ℕ, [], ◌∷◌}
+use Rattle.std.proofs.Common.{◌∙◌, sym, subst, ℕ, [], ◌∷◌}
 use Rattle.std.specs.Prelude.{Contains}
 use Rattle.gcplay.proofs.Statuses.{is_status, usage_front}
 use Rattle.gcplay.proofs.run.play_words.Goals as goal
