@@ -1,9 +1,9 @@
 -- What the reader keeps of the lines before, and what it tests of a line by that alone.
-use Rattle.std.specs.Prelude.{ℕ, ◌≡◌, ◌+◌, zero, suc, List, [], ◌∷◌, length, Bool, true, false, not, ◌&&◌, ◌==◌, nat_le, Option, Some, None, is_some, is_none, unwrap_or}
+use Rattle.std.specs.Prelude.{ℕ, ◌≡◌, ◌≤◌, ◌+◌, zero, suc, List, [], ◌∷◌, length, Bool, true, false, not, ◌&&◌, ◌==◌, nat_le, Option, Some, None, is_some, is_none, unwrap_or}
 use Rattle.std.specs.List.{list_all}
 use Rattle.gc_script.specs.Statement.{Statement, Blank, Fields, Catalogue, Warehouse, Season, Repeat, End, Command, Wrong}
 use Rattle.gc_script.specs.Earlier.{next_line, has_name, reads, reads_of_catalogue, assigns, with_name, known_fields, known_names, open_repeat, warehouse_count, season_count, open_section}
-use Rattle.gc_script.specs.Faults.{Fault, BadLine, UnknownName, TooManyNames, NumberTooLarge, TooManySections, TooManySeasons, may_stand, has_large_number, unless_, cuts_repeat}
+use Rattle.gc_script.specs.Faults.{Fault, BadLine, UnknownName, TooManyNames, NumberTooLarge, TooManySections, TooManySeasons, starts_section, may_stand, has_large_number, unless_, cuts_repeat}
 
 -- the number of the next line, and of the lines before it what a line may rely on
 pub record Context : Type 0 where
@@ -101,14 +101,27 @@ seasons_after c Warehouse = 0
 seasons_after c Season = c.seasons + 1
 seasons_after c statement = c.seasons
 
--- the first fault of a line
-abbrev pub fault_in : Context → Statement → Option Fault
-fault_in c statement =
-    cuts_repeat statement c.opened
-    (unless_ (placed_in c statement) (BadLine c.line)
+-- the first fault of a line that doesn't cut a `repeat`
+abbrev pub uncut_fault_in : Context → Statement → Option Fault
+uncut_fault_in c statement =
+    unless_ (placed_in c statement) (BadLine c.line)
     (unless_ (not (large_in c statement)) (NumberTooLarge c.line)
     (unless_ (knows_in c statement) (UnknownName c.line)
     (unless_ (nat_le (length (names_after c statement)) 32) (TooManyNames c.line)
     (unless_ (nat_le (warehouses_after c statement) 32) (TooManySections c.line)
     (unless_ (nat_le (seasons_after c statement) 63) (TooManySeasons c.line)
-    None))))))
+    None)))))
+
+-- the first fault of a line
+abbrev pub fault_in : Context → Statement → Option Fault
+fault_in c statement = cuts_repeat statement c.opened (uncut_fault_in c statement)
+
+-- the line is clear of faults
+pub record IsClear (c : Context) (statement : Statement) : Type 0 where
+  pub uncut : starts_section statement ≡ true → is_none c.opened ≡ true
+  pub placed : placed_in c statement ≡ true
+  pub small : large_in c statement ≡ false
+  pub known : knows_in c statement ≡ true
+  pub names : length (names_after c statement) ≤ 32
+  pub warehouses : warehouses_after c statement ≤ 32
+  pub seasons : seasons_after c statement ≤ 63
