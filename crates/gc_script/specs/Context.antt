@@ -1,9 +1,12 @@
 -- What the reader keeps of the lines before, and what it tests of a line by that alone.
 use Rattle.std.specs.Prelude.{ℕ, ◌≡◌, ◌≤◌, ◌+◌, zero, suc, List, [], ◌∷◌, length, Bool, true, false, not, ◌&&◌, ◌==◌, nat_le, Option, Some, None, is_some, is_none, unwrap_or}
 use Rattle.std.specs.List.{list_all}
-use Rattle.gc_script.specs.Statement.{Statement, Blank, Fields, Catalogue, Warehouse, Season, Repeat, End, Command, Wrong}
-use Rattle.gc_script.specs.Earlier.{next_line, has_name, reads, reads_of_catalogue, assigns, with_name, known_fields, known_names, open_repeat, warehouse_count, season_count, open_section}
+use Rattle.plain_heap.specs.declared.operation.Op.{Op}
+use Rattle.plain_heap.specs.Sections.{Execution}
+use Rattle.gc_script.specs.Statement.{Spoken, Statement, Blank, Fields, Catalogue, Warehouse, Season, Repeat, End, Command, Wrong}
+use Rattle.gc_script.specs.Earlier.{next_line, place, has_name, reads, reads_of_catalogue, assigns, with_name, known_fields, known_names, open_repeat, warehouse_count, season_count, open_section}
 use Rattle.gc_script.specs.Faults.{Fault, BadLine, UnknownName, TooManyNames, NumberTooLarge, TooManySections, TooManySeasons, starts_section, may_stand, has_large_number, unless_, cuts_repeat}
+use Rattle.gc_script.specs.Script.{operation, label_of}
 
 -- the number of the next line, and of the lines before it what a line may rely on
 pub record Context : Type 0 where
@@ -125,3 +128,19 @@ pub record IsClear (c : Context) (statement : Statement) : Type 0 where
   pub names : length (names_after c statement) ≤ 32
   pub warehouses : warehouses_after c statement ≤ 32
   pub seasons : seasons_after c statement ≤ 63
+
+-- what holds of the context after lines without a fault
+pub record IsSane (c : Context) : Type 0 where
+  pub names : length c.names ≤ 32
+  pub catalogue : length c.catalogue ≤ 32
+  pub warehouses : c.warehouses ≤ 32
+  pub seasons : c.seasons ≤ 63
+  pub fields : unwrap_or c.fields 0 ≤ 16
+
+-- the operation of a command, in a context
+abbrev pub operation_in : Context → Spoken → Op
+operation_in c spoken = operation (place c.names) (place c.catalogue) spoken
+
+-- a command on the line
+abbrev pub execution_in : Context → Spoken → Execution
+execution_in c spoken = record { line = c.line; label = label_of spoken; op = operation_in c spoken }

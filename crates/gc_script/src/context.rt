@@ -101,7 +101,7 @@ fn has_large_number(fields: u64, statement: &Statement) -> bool
 }
 
 /// The name that a command assigns.
-fn assigned<'a>(spoken: &Spoken<'a>) -> Option<&'a str>
+pub fn assigned<'a>(spoken: &Spoken<'a>) -> Option<&'a str>
     ensures { option_map (λ v. v.now) result ≡ assigns (said_command spoken.now) }
 {
     match spoken {
