@@ -2,7 +2,7 @@
 ghost use Rattle.std.specs.Prelude.{◌≡◌, ◌<◌, ◌≤◌, ◌^◌, ◌+◌, length, Some, OnOk, unwrap_or};
 ghost use Rattle.plain_heap.specs.PlainStep.{IsInRange};
 ghost use Rattle.gc_script.specs.Statement.{Warehouse, Command as Ordered};
-ghost use Rattle.gc_script.specs.Script.{label_of};
+ghost use Rattle.gc_script.specs.Script.{label_of, repetitions};
 ghost use Rattle.gc_script.specs.Earlier.{place, with_name};
 ghost use Rattle.gc_script.specs.Said.{said, said_command};
 ghost use Rattle.gc_script.specs.Context.{IsClear, IsSane, closing, in_section, context_after, operation_in, execution_in};
@@ -138,6 +138,16 @@ impl<'a> Context<'a> {
             Spoken::Say { label: _, v } => Op::Say { v: self.place(v) },
             Spoken::Sum { label: _, v, i, limit } => Op::Sum { v: self.place(v), i: *i as u8, limit: *limit as u32 },
             Spoken::Collect => Op::Collect,
+        }
+    }
+
+    /// How often the commands since the open `repeat` are executed.
+    pub fn repetitions(&self) -> u32
+        ensures { result ≡ repetitions (context_shown self.now).opened }
+    {
+        match self.opened {
+            None => 1,
+            Some(opened) => opened.times,
         }
     }
 
