@@ -59,6 +59,31 @@ is_clear c s e =
       seasons = at_most _ _ (test_of (nat_le (seasons_after c s) 63) _ _ h);
     }
 
+uncut : (s : Statement) (o : Option (ℕ × ℕ)) (others : Option Fault) → (starts_section s ≡ true → is_none o ≡ true) → cuts_repeat s o others ≡ others
+uncut s None others h = refl
+uncut s (Some opened) others h = by_test (starts_section s) h
+  where
+    by_test : (b : Bool) → (b ≡ true → false ≡ true) → cond b (Some (Rattle.gc_script.specs.Faults.RepeatOpen opened.0)) others ≡ others
+    by_test true h = let never = h refl in cc
+    by_test false h = refl
+
+passed : (t : Bool) (f : Fault) (others : Option Fault) → t ≡ true → others ≡ None → unless_ t f others ≡ None
+passed t f others p q = subst (λ (b : Bool). unless_ b f others ≡ None) (sym p) q
+
+within_most : (a b : ℕ) → a ≤ b → nat_le a b ≡ true
+within_most a b h = grind (arith, nat_tests)
+
+-- a clear line has no fault
+pub no_fault : (c : Context) (s : Statement) → IsClear c s → fault_in c s ≡ None
+no_fault c s h =
+    uncut s c.opened (uncut_fault_in c s) h.uncut
+    ∙ passed (placed_in c s) _ _ h.placed
+    (passed (not (large_in c s)) _ _ (ap not h.small)
+    (passed (knows_in c s) _ _ h.known
+    (passed (nat_le (length (names_after c s)) 32) _ _ (within_most _ _ h.names)
+    (passed (nat_le (warehouses_after c s) 32) _ _ (within_most _ _ h.warehouses)
+    (passed (nat_le (seasons_after c s) 63) _ _ (within_most _ _ h.seasons) refl)))))
+
 -- the catalogue's names, as a warehouse begins, are few
 few_closing : (o : Option ℕ) (names closed : List (List ℕ)) → length names ≤ 32 → length closed ≤ 32 → length (closing o names closed) ≤ 32
 few_closing None names closed h k = k

@@ -3,8 +3,8 @@ use Rattle.std.proofs.Common.{◌≡◌, ℕ, ◌+◌, ◌≤◌, ◌<◌, zero,
 use Rattle.std.specs.Prelude.{not, nat_le, nat_lt, Option, Some, None, is_none, ◌&&◌, ◌==◌, unwrap_or}
 use Rattle.gc_script.specs.Statement.{Spoken, NewOf, LetOf, NilOf, SetOf, GetOf, CatOf, PutOf, SayOf, SumOf, CollectOf, Statement, Blank, Fields, Catalogue, Warehouse, Season, Repeat, End, Command, Wrong}
 use Rattle.gc_script.specs.Earlier.{next_line, has_name, known_fields, stated_fields, known_names, open_repeat, open_section, warehouse_count, season_count}
-use Rattle.gc_script.specs.Faults.{Fault, line_fault, is_placed}
-use Rattle.gc_script.specs.Context.{Context, context_of, context_after, closed_names, fault_in, next}
+use Rattle.gc_script.specs.Faults.{Fault, line_fault}
+use Rattle.gc_script.specs.Context.{Context, context_of, context_after, closed_names, placed_in, fault_in, next}
 
 -- the fault of a line, by the context
 pub fault_is : (version : ℕ) (e : List Statement) (s : Statement) → line_fault version (closed_names e) e s ≡ fault_in (context_of version e) s
@@ -18,7 +18,7 @@ fault_is version e End = refl
 fault_is version e (Command spoken) = refl
 fault_is version e Wrong = refl
 
-line_more : (e : List Statement) (s : Statement) → next_line (s ∷ e) ≡ next_line e + 1
+pub line_more : (e : List Statement) (s : Statement) → next_line (s ∷ e) ≡ next_line e + 1
 line_more e s = omega arith
 
 on_line : (c : Context) (n m : ℕ) → n ≡ m → record c { line = n } ≡ record c { line = m }
@@ -36,7 +36,7 @@ left true b e = refl
 left false b e = e
 
 -- the context after one line more that is well placed
-pub context_step : (version : ℕ) (e : List Statement) (s : Statement) → is_placed version e s ≡ true → context_of version (s ∷ e) ≡ context_after (context_of version e) s
+pub context_step : (version : ℕ) (e : List Statement) (s : Statement) → placed_in (context_of version e) s ≡ true → context_of version (s ∷ e) ≡ context_after (context_of version e) s
 context_step version e Blank h = on_line (context_of version e) _ _ (line_more e Blank)
 context_step version e (Fields n) h =
     on_line (context_of version (Fields n ∷ e)) _ _ (line_more e (Fields n))

@@ -8,13 +8,8 @@ use Rattle.plain_heap.specs.declared.operation.Op.{Op}
 use Rattle.gc_script.specs.Statement.{Spoken, NewOf, LetOf, NilOf, SetOf, GetOf, CatOf, PutOf, SayOf, SumOf, CollectOf, Statement, Blank, Fields, Catalogue, Warehouse, Season, Repeat, End, Command, Wrong}
 use Rattle.gc_script.specs.Earlier.{next_line, place, known_fields, known_names, open_repeat, open_section}
 use Rattle.gc_script.specs.Script.{repeated, repetitions, pending, executed, execution, operation, label_of, ended_parts, open_parts, if_warehouse, if_catalogue, closed_warehouses, closed_catalogue}
-use Rattle.gc_script.specs.Context.{Context, context_of, closed_names, IsClear, execution_in}
+use Rattle.gc_script.specs.Context.{Context, context_of, closed_names, IsClear, AreClear, execution_in}
 use Rattle.gc_script.specs.Content.{Content, settled, content_of, content_after, settle, end_part, close}
-
--- each of these lines is clear, after those before it
-abbrev pub AreClear : ℕ → List Statement → Type 0
-AreClear version [] = Unit {0}
-AreClear version (s ∷ e) = IsClear (context_of version e) s × AreClear version e
 
 left : (a b : Bool) → (a && b) ≡ true → a ≡ true
 left true b e = refl

@@ -5,7 +5,7 @@ use Rattle.plain_heap.specs.declared.operation.Op.{Op}
 use Rattle.plain_heap.specs.Sections.{Execution}
 use Rattle.gc_script.specs.Statement.{Spoken, Statement, Blank, Fields, Catalogue, Warehouse, Season, Repeat, End, Command, Wrong}
 use Rattle.gc_script.specs.Earlier.{next_line, place, has_name, reads, reads_of_catalogue, assigns, with_name, known_fields, known_names, open_repeat, warehouse_count, season_count, open_section}
-use Rattle.gc_script.specs.Faults.{Fault, BadLine, UnknownName, TooManyNames, NumberTooLarge, TooManySections, TooManySeasons, starts_section, may_stand, has_large_number, unless_, cuts_repeat}
+use Rattle.gc_script.specs.Faults.{Fault, BadHeader, BadLine, UnknownName, TooManyNames, NumberTooLarge, TooManySections, TooManySeasons, starts_section, may_stand, has_large_number, unless_, cuts_repeat, left_open}
 use Rattle.gc_script.specs.Script.{operation, label_of}
 
 -- the number of the next line, and of the lines before it what a line may rely on
@@ -144,3 +144,12 @@ operation_in c spoken = operation (place c.names) (place c.catalogue) spoken
 -- a command on the line
 abbrev pub execution_in : Context → Spoken → Execution
 execution_in c spoken = record { line = c.line; label = label_of spoken; op = operation_in c spoken }
+
+-- each of these lines, latest first, is clear after those before it
+abbrev pub AreClear : ℕ → List Statement → Type 0
+AreClear version [] = Unit {0}
+AreClear version (statement ∷ earlier) = IsClear (context_of version earlier) statement × AreClear version earlier
+
+-- the fault of the end of input
+abbrev pub end_fault_in : Context → Option Fault
+end_fault_in c = unless_ (is_some c.fields) BadHeader (left_open c.opened)
