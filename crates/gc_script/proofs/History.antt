@@ -87,7 +87,7 @@ not_none : (o : Option ℕ) → is_some o ≡ true → o ≡ None → ⊥
 not_none None h e = cc
 not_none (Some n) h e = cc
 
-stands : (o : Option ℕ) (s : Spoken) → Rattle.gc_script.specs.Faults.may_stand o s ≡ true → o ≡ None → ⊥
+pub stands : (o : Option ℕ) (s : Spoken) → Rattle.gc_script.specs.Faults.may_stand o s ≡ true → o ≡ None → ⊥
 stands None s h e = cc
 stands (Some n) s h e = cc
 
@@ -134,7 +134,7 @@ same_operation at a b o (SayOf label v) h f = refl
 same_operation at a b o (SumOf label v i limit) h f = refl
 same_operation at a b o CollectOf h f = refl
 
-same_execution : (version : ℕ) (catalogue : List (List ℕ)) (e : List Statement) (s : Spoken) → Agrees catalogue e → IsClear (context_of version e) (Command s)
+pub same_execution : (version : ℕ) (catalogue : List (List ℕ)) (e : List Statement) (s : Spoken) → Agrees catalogue e → IsClear (context_of version e) (Command s)
     → execution catalogue e s ≡ execution_in (context_of version e) s
 same_execution version catalogue e s a h =
     ap (λ (op : Op). record { line = next_line e; label = label_of s; op = op }) (sym (same_operation (place (known_names e)) (closed_names e) catalogue (open_section e) s h.placed a))

@@ -76,26 +76,36 @@ abbrev total : (Execution → Bool) → List (List ℕ) → List Statement → �
 total test catalogue e =
     in_sections test (closed_catalogue catalogue e) (closed_warehouses catalogue e) + (in_parts test (ended_parts catalogue e) + count_by test (executed catalogue e))
 
+not_both : (o : Option (ℕ × ℕ)) → is_some o ≡ true → is_none o ≡ true → ⊥
+not_both None e f = cc
+not_both (Some opened) e f = cc
+
 -- a test of executed commands is one of the commands as they are written
 abbrev pub Agree : (Spoken → Bool) → (Execution → Bool) → List (List ℕ) → Type 0
 Agree said test catalogue = (e : List Statement) (s : Spoken) → test (execution catalogue e s) ≡ said s
 
-pub pending_total : (said : Spoken → Bool) (test : Execution → Bool) (catalogue : List (List ℕ)) (e : List Statement) → Agree said test catalogue
+-- inside a `repeat`
+pending_total : (version : ℕ) (said : Spoken → Bool) (test : Execution → Bool) (catalogue : List (List ℕ)) (e : List Statement) → Agree said test catalogue → AreClear version e → is_some (open_repeat e) ≡ true
     → count_by test (pending catalogue e) ≡ pending_count said e
-pending_total said test catalogue [] a = refl
-pending_total said test catalogue (Blank ∷ e) a = pending_total said test catalogue e a
-pending_total said test catalogue (Fields n ∷ e) a = pending_total said test catalogue e a
-pending_total said test catalogue (Catalogue ∷ e) a = refl
-pending_total said test catalogue (Warehouse ∷ e) a = refl
-pending_total said test catalogue (Season ∷ e) a = refl
-pending_total said test catalogue (Repeat n ∷ e) a = refl
-pending_total said test catalogue (End ∷ e) a = refl
-pending_total said test catalogue (Command spoken ∷ e) a =
+pending_total version said test catalogue [] a h o = refl
+pending_total version said test catalogue (Blank ∷ e) a h o = pending_total version said test catalogue e a h.1 o
+pending_total version said test catalogue (Fields n ∷ e) a h o = pending_total version said test catalogue e a h.1 o
+pending_total version said test catalogue (Catalogue ∷ e) a h o = refl
+pending_total version said test catalogue (Warehouse ∷ e) a h o = refl
+pending_total version said test catalogue (Season ∷ e) a h o = absurd (not_both _ o (right (is_some (open_section e)) _ (right _ _ h.0.placed)))
+pending_total version said test catalogue (Repeat n ∷ e) a h o = refl
+pending_total version said test catalogue (End ∷ e) a h o = refl
+pending_total version said test catalogue (Command spoken ∷ e) a h o =
     let more = count_by-append test (pending catalogue e) (execution catalogue e spoken ∷ []) in
-    let same = pending_total said test catalogue e a in
+    let same = pending_total version said test catalogue e a h.1 o in
     let one = ap one_if (a e spoken) in
     omega arith
-pending_total said test catalogue (Wrong ∷ e) a = pending_total said test catalogue e a
+pending_total version said test catalogue (Wrong ∷ e) a h o = pending_total version said test catalogue e a h.1 o
+
+command_total : (test : Execution → Bool) (inside : Bool) (es : List Execution) (d : Execution) (t : Bool) → test d ≡ t
+    → count_by test (cond inside es (es ++ d ∷ [])) ≡ count_by test es + cond inside 0 (one_if t)
+command_total test true es d t e = omega arith
+command_total test false es d t e = let more = count_by-append test es (d ∷ []) in let one = ap one_if e in omega arith
 
 -- the parts of the open section
 open_total : (test : Execution → Bool) (catalogue : List (List ℕ)) (e : List Statement) → in_parts test (open_parts catalogue e) ≡ in_parts test (ended_parts catalogue e) + count_by test (executed catalogue e)
@@ -121,8 +131,15 @@ pub total_is : (version : ℕ) (said : Spoken → Bool) (test : Execution → Bo
 total_is version said test catalogue [] a h = refl
 total_is version said test catalogue (Blank ∷ e) a h = total_is version said test catalogue e a h.1
 total_is version said test catalogue (Fields n ∷ e) a h = total_is version said test catalogue e a h.1
-total_is version said test catalogue (Catalogue ∷ e) a h = ?
-total_is version said test catalogue (Warehouse ∷ e) a h = ?
+total_is version said test catalogue (Catalogue ∷ e) a h =
+    let same = total_is version said test catalogue e a h.1 in
+    let none = bare_total version test catalogue e h.1 (none_is _ (right (is_some (known_fields version e)) _ h.0.placed)) in
+    let parts = open_total test catalogue e in
+    omega arith
+total_is version said test catalogue (Warehouse ∷ e) a h =
+    let same = total_is version said test catalogue e a h.1 in
+    let all = sections_total version test catalogue e h.1 in
+    omega arith
 total_is version said test catalogue (Season ∷ e) a h =
     let same = total_is version said test catalogue e a h.1 in
     let parts = open_total test catalogue e in
@@ -130,9 +147,12 @@ total_is version said test catalogue (Season ∷ e) a h =
 total_is version said test catalogue (Repeat n ∷ e) a h = total_is version said test catalogue e a h.1
 total_is version said test catalogue (End ∷ e) a h =
     let same = total_is version said test catalogue e a h.1 in
-    let body = pending_total said test catalogue e a in
+    let body = ap (λ (n : ℕ). repetitions (open_repeat e) * n) (pending_total version said test catalogue e a h.1 h.0.placed) in
     let more = count_by-append test (executed catalogue e) (repeated (repetitions (open_repeat e)) (pending catalogue e)) in
     let times = count_repeated test (repetitions (open_repeat e)) (pending catalogue e) in
-    ?
-total_is version said test catalogue (Command spoken ∷ e) a h = ?
+    omega arith
+total_is version said test catalogue (Command spoken ∷ e) a h =
+    let same = total_is version said test catalogue e a h.1 in
+    let more = command_total test (is_some (open_repeat e)) (executed catalogue e) (execution catalogue e spoken) (said spoken) (a e spoken) in
+    omega arith
 total_is version said test catalogue (Wrong ∷ e) a h = total_is version said test catalogue e a h.1

@@ -3,7 +3,7 @@ ghost use Rattle.std.specs.Prelude.{◌≡◌, ◌<◌, ◌∷◌, [], map, leng
 ghost use Rattle.std.specs.Iterator.{YieldsFirstBy, item_count};
 ghost use Rattle.plain_heap.specs.Sections.{joined};
 ghost use Rattle.gc_script.specs.Shown.{execution_of};
-ghost use Rattle.gc_script.specs.Blocks.{part_shown};
+ghost use Rattle.gc_script.specs.Blocks.{blocks_shown, part_shown};
 
 use crate::block::{Block, Part};
 use crate::command::Command;
@@ -82,7 +82,7 @@ impl<'s, 'a> Model for Commands<'s, 'a> {
 }
 
 impl<'s, 'a> Commands<'s, 'a> {
-    pub(crate) fn of(parts: &'s [Part<'a>]) -> Commands<'s, 'a>
+    pub(crate) fn of_parts(parts: &'s [Part<'a>]) -> Commands<'s, 'a>
         ensures { result ≡ joined (map part_shown parts.now) }
     {
         Commands {
@@ -92,6 +92,34 @@ impl<'s, 'a> Commands<'s, 'a> {
                 body: &[],
                 blocks: &[],
                 parts,
+            },
+        }
+    }
+
+    pub(crate) fn none() -> Commands<'s, 'a>
+        ensures { result ≡ [] }
+    {
+        Commands {
+            cursor: Cursor {
+                rest: &[],
+                again: 0,
+                body: &[],
+                blocks: &[],
+                parts: &[],
+            },
+        }
+    }
+
+    pub(crate) fn of_blocks(blocks: &'s [Block<'a>]) -> Commands<'s, 'a>
+        ensures { result ≡ blocks_shown blocks.now }
+    {
+        Commands {
+            cursor: Cursor {
+                rest: &[],
+                again: 0,
+                body: &[],
+                blocks,
+                parts: &[],
             },
         }
     }
