@@ -11,6 +11,7 @@ use Rattle.gc_script.specs.Statement.{Spoken, Statement, Blank, Fields, Catalogu
 use Rattle.gc_script.specs.Earlier.{known_fields, open_repeat, open_section}
 use Rattle.gc_script.specs.Script.{repeated, repetitions, pending, executed, execution, ended_parts, open_parts, if_warehouse, if_catalogue, closed_warehouses, closed_catalogue, one_if, pending_count, executed_count}
 use Rattle.gc_script.specs.Context.{context_of, IsClear, AreClear}
+use Rattle.gc_script.specs.Sectioned.{in_parts, in_sections}
 use Rattle.gc_script.proofs.Repeats.{count_by-append, count_repeated}
 use Rattle.gc_script.proofs.History.{bare, none_is}
 
@@ -41,14 +42,6 @@ not_closed version catalogue (End ∷ e) h i = not_closed version catalogue e h.
 not_closed version catalogue (Command spoken ∷ e) h i = not_closed version catalogue e h.1 i
 not_closed version catalogue (Wrong ∷ e) h i = not_closed version catalogue e h.1 i
 
--- how many commands of these parts pass a test
-abbrev pub in_parts : (Execution → Bool) → List (List Execution) → ℕ
-in_parts test parts = count_by test (joined parts)
-
--- how many commands of these sections pass a test
-abbrev pub in_sections : (Execution → Bool) → Option (List (List Execution)) → List (List (List Execution)) → ℕ
-in_sections test catalogue warehouses = in_parts test (unwrap_or catalogue []) + sum_by (in_parts test) warehouses
-
 parts_more : (test : Execution → Bool) (parts : List (List Execution)) (part : List Execution) → in_parts test (parts ++ part ∷ []) ≡ in_parts test parts + count_by test part
 parts_more test parts part =
     ap (count_by test) (flat_map-append (λ (p : List Execution). p) parts (part ∷ []))
@@ -72,7 +65,7 @@ closing_total test (Some (suc w)) parts catalogue warehouses bare early =
     omega arith
 
 -- how many commands pass a test, in the closed sections, the ended parts and the open one
-abbrev total : (Execution → Bool) → List (List ℕ) → List Statement → ℕ
+abbrev pub total : (Execution → Bool) → List (List ℕ) → List Statement → ℕ
 total test catalogue e =
     in_sections test (closed_catalogue catalogue e) (closed_warehouses catalogue e) + (in_parts test (ended_parts catalogue e) + count_by test (executed catalogue e))
 
