@@ -44,7 +44,7 @@ ended_script None c content = limited_script c.version (unwrap_or c.fields 0) co
 abbrev pub finished_script : Context → Content → Result Script Fault
 finished_script c content = ended_script (end_fault_in c) c (close c.section (end_part content))
 
--- the sections at the end of input are numbered and in range
+-- where the input may end, its sections are in range
 abbrev pub IsWhole : Context → Content → Type 0
 IsWhole c content =
-    AreLegal (unwrap_or c.fields 0) (close c.section (end_part content)).catalogue (close c.section (end_part content)).warehouses
+    end_fault_in c ≡ None → AreLegal (unwrap_or c.fields 0) (close c.section (end_part content)).catalogue (close c.section (end_part content)).warehouses

@@ -82,7 +82,7 @@ fn numbered_sections<'a>(alloc: Global, fields: u32, warehouses: Vec<Vec<Part<'a
 /// The catalogue, numbered 0.
 fn catalogue_section<'a>(fields: u32, catalogue: Option<Vec<Part<'a>>>) -> Option<Section<'a>>
     requires { IsSmall fields (unwrap_or (option_map parts_of catalogue) []) }
-    ensures { result ≡ option_map (λ p. record { number = 0; fields = fields; parts = parts_of p }) catalogue.entry }
+    ensures { result ≡ option_map (λ p. record { number = 0; fields = fields; parts = p }) (option_map parts_of catalogue.entry) }
 {
     match catalogue {
         None => None,
