@@ -1,109 +1,55 @@
--- What the reader keeps of the lines before.
-use Rattle.std.specs.Prelude.{ℕ, ◌≡◌, ◌≤◌, ◌<◌, List, [], ◌∷◌, length, take, drop, map, if◌then◌else◌, true, false, Option, Some, None, Result, Ok, Err}
-use Rattle.std.specs.List.{All}
-use Rattle.plain_heap.specs.PlainStep.{IsInRange}
-use Rattle.plain_heap.specs.Sections.{Execution, Parts, made_by, printed_by}
+-- What the reader answers, line by line.
+use Rattle.std.specs.Prelude.{ℕ, ◌≡◌, List, [], Option, Some, None, Result, Ok, Err}
 use Rattle.gc_script.specs.Statement.{Statement}
-use Rattle.gc_script.specs.Earlier.{place, with_name, catalogue_names, known_names, open_repeat, open_section, warehouse_count, season_count, is_printing}
-use Rattle.gc_script.specs.Faults.{line_fault, first_fault}
-use Rattle.gc_script.specs.Script.{Script, executed, executed_count, turned, body, of_lines}
-use Rattle.gc_script.specs.Built.{is_built_after, are_built_after, body_lines, IsBuiltReading}
-use Rattle.gc_script.specs.Shown.{execution_of}
+use Rattle.gc_script.specs.Earlier.{catalogue_names}
+use Rattle.gc_script.specs.Faults.{Fault, first_fault, end_fault}
+use Rattle.gc_script.specs.Said.{said}
+use Rattle.gc_script.specs.Context.{Context, context_of, context_after, fault_in, IsClear, AreClear, Agrees, IsSane}
+use Rattle.gc_script.specs.Content.{Content, content_of, content_after, kept_shown}
+use Rattle.gc_script.specs.Kept.{context_shown}
+use Rattle.gc_script.specs.Script.{turned}
+use Rattle.gc_script.specs.Shown.{fault_of}
+use Rattle.gc_script.specs.declared.script.ScriptError.{ScriptError}
+use Rattle.gc_script.specs.declared.statement.Statement as code
 use Rattle.gc_script.specs.declared.progress.Progress.{Progress}
-use Rattle.gc_script.specs.declared.refused.Refused.{Refused}
-use Rattle.gc_script.specs.declared.refused.Refused.TheVariants as refused
 
--- the progress is that of these lines, latest first
-pub record Shows (catalogue : List (List ℕ)) (earlier : List Statement) (p : Progress) : Type 0 where
-  pub section : open_section earlier ≡ (if p.started then Some 1 else None)
-  pub warehouses : warehouse_count earlier ≡ (if p.started then 1 else 0)
-  pub names : known_names earlier ≡ map (λ n. n.now) p.names.items
-  pub few_names : length (known_names earlier) ≤ 32
-  pub no_repeat : open_repeat earlier ≡ None
-  pub commands : executed catalogue earlier ≡ map execution_of p.commands.items
-  pub count : executed_count (λ spoken. true) earlier ≡ length p.commands.items
-  pub printed : executed_count is_printing earlier ≡ printed_by (map execution_of p.commands.items)
-  pub seasons : season_count earlier ≡ 0
-  pub range : All (λ c. IsInRange 4 c.op) p.commands.items
-  pub unstarted : p.started ≡ false → (p.names.items ≡ []) × (p.commands.items ≡ [])
+-- an error tells this fault, or want of memory
+abbrev pub is_told : Option Fault → Option Fault → Type 0
+is_told None fault = Unit {0}
+is_told (Some told) fault = fault ≡ Some told
+
+abbrev pub Tells : ScriptError → Option Fault → Type 0
+Tells e fault = is_told (fault_of e) fault
+
+-- what became of a line's words
+abbrev pub StatementAnswers : Result code.Statement ScriptError → Context → Statement → Type 0
+StatementAnswers (Ok statement) c s = (said statement ≡ s) × IsClear c s
+StatementAnswers (Err e) c s = Tells e (fault_in c s)
 
 -- a line was taken
-pub record Takes (catalogue : List (List ℕ)) (earlier : List Statement) (s : Statement) (p : Progress) : Type 0 where
-  pub no_fault : line_fault 1 catalogue earlier s ≡ None
-  pub built : is_built_after earlier s ≡ true
-  pub shows : Shows catalogue (s ∷ earlier) p
-
--- a line has a fault or isn't built
-abbrev pub IsRefused : List (List ℕ) → List Statement → Statement → Type 0
-IsRefused catalogue earlier s = line_fault 1 catalogue earlier s ≡ None → is_built_after earlier s ≡ true → ⊥
-
--- the cause of a refusal; want of memory needs none
-abbrev pub Refuses : Refused → Type 0 → Type 0
-Refuses refused.Memory P = Unit {0}
-Refuses refused.NotBuilt P = P
+pub record IsTaken (c : Context) (content : Content) (s : Statement) (p : Progress) : Type 0 where
+  pub clear : IsClear c s
+  pub context : context_shown p.context ≡ context_after c s
+  pub kept : kept_shown p.kept ≡ content_after c content s
 
 -- what became of a line
-abbrev pub Answers : Result (Unit {0}) Refused → List (List ℕ) → List Statement → Statement → Progress → Type 0
-Answers (Ok u) catalogue earlier s p = Takes catalogue earlier s p
-Answers (Err e) catalogue earlier s p = Refuses e (IsRefused catalogue earlier s)
+abbrev pub LineAnswers : Result (Unit {0}) ScriptError → Context → Content → Statement → Progress → Type 0
+LineAnswers (Ok u) c content s p = IsTaken c content s p
+LineAnswers (Err e) c content s p = Tells e (fault_in c s)
 
--- what became of a name that is assigned
-abbrev pub Assigns : Result ℕ Refused → List (List ℕ) → List ℕ → List (List ℕ) → Type 0
-Assigns (Ok p) old name new = (p ≡ place old name) × (p < 32) × (new ≡ with_name (Some name) old) × (length new ≤ 32)
-Assigns (Err e) old name new = Refuses e (length (with_name (Some name) old) ≤ 32 → ⊥)
+-- the progress is that of these lines, latest first
+pub record Shows (version : ℕ) (catalogue : List (List ℕ)) (earlier : List Statement) (p : Progress) : Type 0 where
+  pub clear : AreClear version earlier
+  pub sane : IsSane (context_of version earlier)
+  pub context : context_shown p.context ≡ context_of version earlier
+  pub kept : kept_shown p.kept ≡ content_of catalogue earlier
 
--- the lines have no fault and are built, and the progress is theirs
-pub record AreTaken (catalogue : List (List ℕ)) (all : List Statement) (p : Progress) : Type 0 where
-  pub no_fault : first_fault 1 catalogue [] all ≡ None
-  pub built : are_built_after [] all ≡ true
-  pub shows : Shows catalogue (turned [] all) p
+-- the lines were read to their end
+pub record AreRead (version : ℕ) (all : List Statement) (p : Progress) : Type 0 where
+  pub fault : first_fault version (catalogue_names all) [] all ≡ end_fault version (turned [] all)
+  pub shows : Shows version (catalogue_names all) (turned [] all) p
+  pub names : Agrees (catalogue_names all) (turned [] all)
 
-abbrev pub BodyAnswers : Result Progress Refused → List Statement → Type 0
-BodyAnswers (Ok p) all = AreTaken (catalogue_names all) all p
-BodyAnswers (Err e) all = Refuses e (first_fault 1 (catalogue_names all) [] all ≡ None → are_built_after [] all ≡ true → ⊥)
-
--- the progress after the first i lines
-pub record SoFar (all : List Statement) (i : ℕ) (p : Progress) : Type 0 where
-  pub fault : first_fault 1 (catalogue_names all) (turned [] (take i all)) (drop i all) ≡ first_fault 1 (catalogue_names all) [] all
-  pub built : are_built_after (turned [] (take i all)) (drop i all) ≡ are_built_after [] all
-  pub shows : Shows (catalogue_names all) (turned [] (take i all)) p
-
--- few enough commands, lines and objects
-pub record IsSmall (executed : List Execution) : Type 0 where
-  pub commands : length executed ≤ 2000000
-  pub lines : printed_by executed ≤ 65536
-  pub objects : made_by executed ≤ 4096
-
--- warehouse 1, of these commands
-abbrev pub warehouse_of : List Execution → Parts
-warehouse_of commands = record { number = 1; fields = 4; parts = commands ∷ [] }
-
-abbrev pub SectionAnswers : Option Parts → List Execution → Type 0
-SectionAnswers (Some parts) commands = (parts ≡ warehouse_of commands) × IsSmall commands
-SectionAnswers None commands = IsSmall commands → ⊥
-
--- the script of these warehouses
-abbrev pub script_of : List Parts → Script
-script_of sections = record { version = 1; sections = record { fields = 4; catalogue = None; warehouses = map (λ p. p.parts) sections } }
-
--- the warehouses of the lines
-abbrev pub sections_of : Progress → List Parts
-sections_of p = if p.started then warehouse_of (map execution_of p.commands.items) ∷ [] else []
-
--- what became of the first of these lines
-abbrev pub HeaderAnswers : Result (Unit {0}) Refused → List (List (List ℕ)) → Type 0
-HeaderAnswers (Ok u) all = of_lines all ≡ body 1 (body_lines all)
-HeaderAnswers (Err e) all = Refuses e ((s : Script) → IsBuiltReading (of_lines all) (body_lines all) s → ⊥)
-
--- an answer of the reader, where what it reads is P
-abbrev pub Reads : Result Script Refused → (Script → Type 0) → Type 0
-Reads (Ok s) P = P s
-Reads (Err refused.Memory) P = Unit {0}
-Reads (Err refused.NotBuilt) P = (s : Script) → P s → ⊥
-
-abbrev pub ProgressAnswers : Result Script Refused → Progress → Type 0
-ProgressAnswers result p = Reads result (λ s. (s ≡ script_of (sections_of p)) × IsSmall (map execution_of p.commands.items))
-
--- these lines after a header of version 1 are a script that is built
-abbrev pub IsBuiltBody : List Statement → Script → Type 0
-IsBuiltBody all s = IsBuiltReading (body 1 all) all s
+abbrev pub BodyAnswers : Result Progress ScriptError → ℕ → List Statement → Type 0
+BodyAnswers (Ok p) version all = AreRead version all p
+BodyAnswers (Err e) version all = Tells e (first_fault version (catalogue_names all) [] all)

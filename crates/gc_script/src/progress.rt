@@ -1,156 +1,135 @@
-//! What the lines so far have made.
-ghost use Rattle.std.specs.Prelude.{◌≡◌, ◌≤◌, ◌↔◌, ◌++◌, ◌∷◌, [], false, min, List, ℕ, map, length, OnOk};
-ghost use Rattle.std.specs.List.{position};
-ghost use Rattle.std.specs.Str.{bytes_eq};
+//! Reads the lines of a script in order.
+ghost use Rattle.std.specs.Prelude.{◌≡◌, ◌<◌, ◌^◌, ◌+◌, [], None, Err, List, ℕ, map, length, OnOk, OnErr};
 ghost use Rattle.gc_script.specs.ScriptText.{words};
-ghost use Rattle.gc_script.specs.Statement.{Statement as Line, Command as Ordered, NewOf, SayOf, statement};
-ghost use Rattle.gc_script.specs.Earlier.{next_line, place};
-ghost use Rattle.gc_script.specs.Said.{Says, IsShort};
-ghost use Rattle.gc_script.specs.Reading.{Assigns};
+ghost use Rattle.gc_script.specs.Statement.{Statement as Said, statement};
+ghost use Rattle.gc_script.specs.Said.{said, capped};
+ghost use Rattle.gc_script.specs.Context.{context_of, context_after, IsClear, IsSane, end_fault_in};
+ghost use Rattle.gc_script.specs.Kept.{context_shown, told};
+ghost use Rattle.gc_script.specs.Content.{content_of, content_after, kept_shown};
+ghost use Rattle.gc_script.specs.Reading.{BodyAnswers};
 
-use crate::command::Command;
-use crate::refused::Refused;
+use crate::context::Context;
+use crate::kept::Kept;
+use crate::script::ScriptError;
 use crate::statement::{Statement, statement_of};
-use crate::text::{LARGE, words_of};
-use plain_heap::Op;
+use crate::text::words_of;
 use std::alloc::Global;
 
-const MOST_NAMES: usize = 32;
-
-/// The warehouse that the lines so far have made: whether it was started, its names in the order of their first
-/// assignment, and its executed commands.
+/// What is kept of the lines so far.
 #[derive(Drop)]
 pub struct Progress<'a> {
-    pub started: bool,
-    pub names: Vec<&'a str>,
-    pub commands: Vec<Command<'a>>,
+    pub context: Context<'a>,
+    pub kept: Kept<'a>,
 }
 
-fn position_of(names: &[&str], name: &str) -> Option<usize>
-    ensures { result ≡ position (λ other. bytes_eq other.now name.now) names.now }
+fn first_context<'a>(alloc: Global, version: u32) -> Context<'a>
+    ensures { context_shown result ≡ context_of version [] }
 {
-    names.iter().position(|other| *other == name)
-}
-
-/// A name's place, or the next one where it is not there.
-fn place_of(names: &[&str], name: &str) -> usize
-    ensures { result ≡ place (map (λ n. n.now) names.now) name.now }
-{
-    position_of(names, name).unwrap_or(names.len())
-}
-
-/// The place of a name that is assigned, which is added where it is not there.
-fn assigned<'a>(names: &mut Vec<&'a str>, v: &'a str) -> Result<u8, Refused>
-    ensures answers { Assigns result (map (λ n. n.now) names.old.items) v.now (map (λ n. n.now) names.new.items) }
-{
-    let place = place_of(names.as_slice(), v);
-    if place >= names.len() {
-        if place >= MOST_NAMES {
-            return Err(Refused::NotBuilt);
-        }
-        if names.push(v).is_err() {
-            return Err(Refused::Memory);
-        }
-    } else if names.len() > MOST_NAMES {
-        return Err(Refused::NotBuilt);
-    }
-    Ok(place as u8)
-}
-
-/// Before the first line.
-pub fn new_progress<'a>(alloc: Global) -> Progress<'a>
-    ensures started { result.started ≡ false }
-    ensures names { result.names.items ≡ [] }
-    ensures commands { result.commands.items ≡ [] }
-{
-    Progress {
-        started: false,
+    let fields = if version == 1 { Some(4) } else { None };
+    Context {
+        version,
+        line: 2,
+        fields,
+        section: None,
+        warehouses: 0,
+        seasons: 0,
+        opened: None,
         names: Vec::new(alloc),
-        commands: Vec::new(alloc),
+        catalogue: Vec::new(alloc),
+    }
+}
+
+fn nothing_kept<'a>(alloc: Global) -> Kept<'a>
+    ensures { (catalogue : List (List ℕ)) → kept_shown result ≡ content_of catalogue [] }
+{
+    Kept {
+        catalogue: None,
+        warehouses: Vec::new(alloc),
+        ended: Vec::new(alloc),
+        blocks: Vec::new(alloc),
+        body: Vec::new(alloc),
+    }
+}
+
+impl<'a> Context<'a> {
+    ghost use Rattle.gc_script.specs.Reading.{StatementAnswers};
+
+    /// What a line says, where it has no fault.
+    fn judged(&self, said_line: Statement<'a>) -> Result<Statement<'a>, ScriptError>
+        requires { IsSane (context_shown self.now) }
+        ensures { (s : Said) → said said_line.entry ≡ capped s → StatementAnswers result (context_shown self.now) s }
+    {
+        match self.fault(&said_line) {
+            Some(e) => Err(e),
+            None => Ok(said_line),
+        }
+    }
+
+    fn statement(&self, alloc: Global, line: &'a str) -> Result<Statement<'a>, ScriptError>
+        requires { IsSane (context_shown self.now) }
+        ensures { StatementAnswers result (context_shown self.now) (statement (words line.now)) }
+    {
+        match words_of(alloc, line) {
+            Err(_) => Err(ScriptError::OutOfMemory),
+            Ok(words) => self.judged(statement_of(words.as_slice())),
+        }
     }
 }
 
 impl<'a> Progress<'a> {
-    ghost use Rattle.gc_script.specs.Reading.{Shows, Answers};
+    ghost use Rattle.gc_script.specs.Reading.{LineAnswers};
 
-    fn push(&mut self, command: Command<'a>) -> Result<(), Refused>
-        ensures ok { OnOk result (self.new.commands.items ≡ self.old.commands.items ++ command.entry ∷ []) }
-        ensures names { self.new.names ≡ self.old.names }
-        ensures started { self.new.started ≡ self.old.started }
-        ensures err { result ≡ Err Refused.NotBuilt → ⊥ }
+    fn take(&mut self, alloc: Global, statement: &Statement<'a>) -> Result<(), ScriptError>
+        requires line { self.old.context.line < 2 ^ 31 }
+        requires clear { IsClear (context_shown self.old.context) (said statement.now) }
+        requires sane { IsSane (context_shown self.old.context) }
+        ensures context { OnOk result (context_shown self.new.context ≡ context_after (context_shown self.old.context) (said statement.now)) }
+        ensures kept { OnOk result (kept_shown self.new.kept ≡ content_after (context_shown self.old.context) (kept_shown self.old.kept) (said statement.now)) }
+        ensures err { OnErr result (result ≡ Err ScriptError.OutOfMemory) }
     {
-        match self.commands.push(command) {
+        match self.kept.take(alloc, &self.context, statement) {
+            Ok(()) => {}
+            Err(_) => return Err(ScriptError::OutOfMemory),
+        }
+        match self.context.advance(alloc, statement) {
             Ok(()) => Ok(()),
-            Err(_) => Err(Refused::Memory),
+            Err(_) => Err(ScriptError::OutOfMemory),
         }
     }
 
-    fn take_new(&mut self, line: u32, v: &'a str, n: u64) -> Result<(), Refused>
-        ensures { (catalogue : List (List ℕ)) (earlier : List Line) (m : ℕ) → Shows catalogue earlier self.old → line ≡ next_line earlier → n ≡ min m 4294967296
-            → Answers result catalogue earlier (Ordered (NewOf v.now m)) self.new }
+    fn read_line(&mut self, alloc: Global, line: &'a str) -> Result<(), ScriptError>
+        requires line { self.old.context.line < 2 ^ 31 }
+        requires sane { IsSane (context_shown self.old.context) }
+        ensures { LineAnswers result (context_shown self.old.context) (kept_shown self.old.kept) (statement (words line.now)) self.new }
     {
-        if !self.started || n >= LARGE {
-            return Err(Refused::NotBuilt);
+        match self.context.statement(alloc, line) {
+            Ok(statement) => self.take(alloc, &statement),
+            Err(e) => Err(e),
         }
-        let v = match assigned(&mut self.names, v) {
+    }
+}
+
+fn first_progress<'a>(alloc: Global, version: u32) -> Progress<'a>
+    ensures context { context_shown result.context ≡ context_of version [] }
+    ensures kept { (catalogue : List (List ℕ)) → kept_shown result.kept ≡ content_of catalogue [] }
+{
+    Progress {
+        context: first_context(alloc, version),
+        kept: nothing_kept(alloc),
+    }
+}
+
+/// Reads the lines after the header.
+pub fn read_lines<'a>(alloc: Global, version: u32, lines: &[&'a str]) -> Result<Progress<'a>, ScriptError>
+    requires { length lines.now < 2 ^ 21 }
+    ensures { BodyAnswers result version (map statement (map words (map (λ l. l.now) lines.now))) }
+{
+    let mut progress = first_progress(alloc, version);
+    for line in lines {
+        match progress.read_line(alloc, line) {
+            Ok(()) => {}
             Err(e) => return Err(e),
-            Ok(v) => v,
-        };
-        self.push(Command {
-            line,
-            label: "",
-            op: Op::New { v, n: n as u32 },
-        })
-    }
-
-    fn take_say(&mut self, line: u32, label: &'a str, v: &str) -> Result<(), Refused>
-        requires { length label.now ≤ 32 }
-        ensures { (catalogue : List (List ℕ)) (earlier : List Line) → Shows catalogue earlier self.old → line ≡ next_line earlier
-            → Answers result catalogue earlier (Ordered (SayOf label.now v.now)) self.new }
-    {
-        if !self.started {
-            return Err(Refused::NotBuilt);
-        }
-        let place = place_of(self.names.as_slice(), v);
-        if place >= self.names.len() || place >= MOST_NAMES {
-            return Err(Refused::NotBuilt);
-        }
-        self.push(Command {
-            line,
-            label,
-            op: Op::Say { v: place as u8 },
-        })
-    }
-
-    fn take(&mut self, line: u32, statement: Statement<'a>) -> Result<(), Refused>
-        requires { IsShort statement }
-        ensures { (catalogue : List (List ℕ)) (earlier : List Line) (s : Line) → Shows catalogue earlier self.old → line ≡ next_line earlier → Says statement.entry s
-            → Answers result catalogue earlier s self.new }
-    {
-        match statement {
-            Statement::Blank => Ok(()),
-            Statement::Warehouse => {
-                if self.started {
-                    Err(Refused::NotBuilt)
-                } else {
-                    self.started = true;
-                    Ok(())
-                }
-            }
-            Statement::New { v, n } => self.take_new(line, v, n),
-            Statement::Say { label, v } => self.take_say(line, label, v),
-            Statement::NotBuilt => Err(Refused::NotBuilt),
         }
     }
-
-    /// Takes the next line, which has this number. Refused where it has a fault after the lines so far or isn't built.
-    pub fn take_line(&mut self, alloc: Global, number: u32, line: &'a str) -> Result<(), Refused>
-        ensures { (catalogue : List (List ℕ)) (earlier : List Line) → Shows catalogue earlier self.old → number ≡ next_line earlier
-            → Answers result catalogue earlier (statement (words line.now)) self.new }
-    {
-        match words_of(alloc, line) {
-            Err(_) => Err(Refused::Memory),
-            Ok(words) => self.take(number, statement_of(words.as_slice())),
-        }
-    }
+    Ok(progress)
 }

@@ -1,33 +1,54 @@
-//! Reads the lines of a script in order.
-ghost use Rattle.std.specs.Prelude.{◌≡◌, ◌<◌, ◌≤◌, ◌^◌, ◌↔◌, [], false, None, Some, Ok, Err, IsTrue, List, map, length, IfOk, IfErr};
-ghost use Rattle.std.specs.List.{All};
-ghost use Rattle.plain_heap.specs.PlainStep.{IsInRange};
+//! Reads a script.
+ghost use Rattle.std.specs.Prelude.{◌≡◌, ◌<◌, ◌≤◌, ◌^◌, None, Err, map, length, IfSome, IsOk};
 ghost use Rattle.gc_script.specs.ScriptText.{is_allowed, first_foreign, lines, words};
-ghost use Rattle.gc_script.specs.Script.{Script as Whole, of_lines};
-ghost use Rattle.gc_script.specs.Built.{IsBuiltReading, IsBuiltScript, body_lines, is_refusal};
-ghost use Rattle.gc_script.specs.Reading.{HeaderAnswers, BodyAnswers, SectionAnswers, ProgressAnswers, Reads};
-ghost use Rattle.gc_script.specs.Shown.{execution_of};
-ghost use Rattle.gc_script.specs.declared.command.Command.{Command as Executed};
+ghost use Rattle.gc_script.specs.Statement.{statement};
+ghost use Rattle.gc_script.specs.Script.{script, body, of_lines};
+ghost use Rattle.gc_script.specs.Finished.{ReadAnswers};
 
-use crate::command::Command;
-use crate::progress::{Progress, new_progress};
-use crate::refused::Refused;
+use crate::finish::script_of;
+use crate::progress::read_lines;
 use crate::script::{Script, ScriptError};
-use crate::section::Section;
-use crate::statement::is_header;
-use crate::text::words_of;
+use crate::statement::header;
+use crate::text::{lines_of, words_of};
 use std::alloc::Global;
 
 const LONGEST: usize = 1_048_576;
 
-const MOST_COMMANDS: usize = 2_000_000;
+fn script_of_body<'a>(alloc: Global, version: u32, lines: &[&'a str]) -> Result<Script<'a>, ScriptError>
+    requires { length lines.now < 2 ^ 21 }
+    ensures { ReadAnswers result (body version (map statement (map words (map (λ l. l.now) lines.now)))) }
+{
+    match read_lines(alloc, version, lines) {
+        Err(e) => Err(e),
+        Ok(progress) => script_of(alloc, progress),
+    }
+}
 
-const MOST_LINES: u32 = 65_536;
+fn script_of_lines<'a>(alloc: Global, lines: &[&'a str]) -> Result<Script<'a>, ScriptError>
+    requires { length lines.now < 2 ^ 21 }
+    ensures { ReadAnswers result (of_lines (map words (map (λ l. l.now) lines.now))) }
+{
+    match lines {
+        [] => Err(ScriptError::BadHeader),
+        [first, others @ ..] => match words_of(alloc, first) {
+            Err(_) => Err(ScriptError::OutOfMemory),
+            Ok(words) => match header(words.as_slice()) {
+                None => Err(ScriptError::BadHeader),
+                Some(version) => script_of_body(alloc, version, others),
+            },
+        },
+    }
+}
 
-const MOST_NEW: u32 = 4_096;
-
-/// How many fields an object has in version 1.
-const FIELDS: u32 = 4;
+fn script_of_text<'a>(alloc: Global, text: &'a str) -> Result<Script<'a>, ScriptError>
+    requires { length text.now ≤ LONGEST }
+    ensures { ReadAnswers result (of_lines (map words (lines text.now))) }
+{
+    match lines_of(alloc, text) {
+        Err(_) => Err(ScriptError::OutOfMemory),
+        Ok(lines) => script_of_lines(alloc, lines.as_slice()),
+    }
+}
 
 fn is_allowed(byte: u8) -> bool
     ensures { result ≡ is_allowed byte }
@@ -36,7 +57,8 @@ fn is_allowed(byte: u8) -> bool
 }
 
 fn first_foreign(source: &[u8]) -> Option<usize>
-    ensures { result ≡ first_foreign source.now }
+    ensures first { result ≡ first_foreign source.now }
+    ensures within { IfSome result (λ offset. offset < length source.now) }
 {
     source.iter().position(|b| !is_allowed(*b))
 }
@@ -52,115 +74,19 @@ fn text_of<'a>(source: &'a [u8]) -> &'a str
     }
 }
 
-/// Takes the first line, a header of version 1.
-fn take_header(alloc: Global, text: &str) -> Result<(), Refused>
-    requires { first_foreign text.now ≡ None }
-    ensures { HeaderAnswers result (map words (lines text.now)) }
-{
-    match text.lines().next() {
-        None => Err(Refused::NotBuilt),
-        Some(first) => match words_of(alloc, first) {
-            Err(_) => Err(Refused::Memory),
-            Ok(words) => {
-                if is_header(words.as_slice()) {
-                    Ok(())
-                } else {
-                    Err(Refused::NotBuilt)
-                }
-            }
-        },
-    }
-}
-
-/// What the lines after the header make.
-fn body_of<'a>(alloc: Global, text: &'a str) -> Result<Progress<'a>, Refused>
-    requires ascii { first_foreign text.now ≡ None }
-    requires short { length text.now ≤ LONGEST }
-    ensures { BodyAnswers result (body_lines (map words (lines text.now))) }
-{
-    let mut progress = new_progress(alloc);
-    let mut number = 2u32;
-    for line in text.lines().skip(1) {
-        match progress.take_line(alloc, number, line) {
-            Ok(()) => {}
-            Err(e) => return Err(e),
-        }
-        number += 1;
-    }
-    Ok(progress)
-}
-
-/// Warehouse 1 of these commands, unless they are too many, or print or make too much.
-fn section_of<'a>(commands: Vec<Command<'a>>) -> Option<Section<'a>>
-    requires { All (λ (c : Executed). IsInRange 4 c.op) commands.items }
-    ensures { SectionAnswers result (map execution_of commands.entry.items) }
-{
-    if commands.len() > MOST_COMMANDS {
-        return None;
-    }
-    let section = Section::make(1, FIELDS, commands);
-    if section.made() > MOST_NEW || section.printed() > MOST_LINES {
-        return None;
-    }
-    Some(section)
-}
-
-/// The script of the lines that were taken, unless it is too large.
-fn script_of<'a>(alloc: Global, progress: Progress<'a>) -> Result<Script<'a>, Refused>
-    requires range { All (λ (c : Executed). IsInRange 4 c.op) progress.commands.items }
-    requires unstarted { progress.started ≡ false → progress.commands.items ≡ [] }
-    ensures { ProgressAnswers result progress.entry }
-{
-    let mut warehouses = Vec::new(alloc);
-    if !progress.started {
-        return Ok(Script::make(warehouses));
-    }
-    match section_of(progress.commands) {
-        None => Err(Refused::NotBuilt),
-        Some(section) => match warehouses.push(section) {
-            Ok(()) => Ok(Script::make(warehouses)),
-            Err(_) => Err(Refused::Memory),
-        },
-    }
-}
-
-fn script_of_text<'a>(alloc: Global, text: &'a str) -> Result<Script<'a>, Refused>
-    requires ascii { first_foreign text.now ≡ None }
-    requires short { length text.now ≤ LONGEST }
-    ensures { let all = map words (lines text.now) in Reads result (IsBuiltReading (of_lines all) (body_lines all)) }
-{
-    match take_header(alloc, text) {
-        Err(e) => return Err(e),
-        Ok(()) => {}
-    }
-    match body_of(alloc, text) {
-        Err(e) => Err(e),
-        Ok(progress) => script_of(alloc, progress),
-    }
-}
-
-/// Reads a script, which lends parts of the source.
-///
-/// So far it takes version 1 with at most one `warehouse`, no `catalogue`, only `new` and `say`, and at most 4,096
-/// lines `new`. `TooLong` comes exactly where the source has more than 1,048,576 bytes, before all else. `NotBuilt`
-/// comes for every other source that has a fault or another form. `OutOfMemory` may come in place of all but `TooLong`.
+/// Reads a script, which lends parts of the source. Want of memory may be answered for any source that is not too long.
 pub fn read<'a>(alloc: Global, source: &'a [u8]) -> Result<Script<'a>, ScriptError>
-    // What is read is the script, and is built.
-    ensures ok { IfOk result (λ s. IsBuiltScript source.now s) }
-    ensures too_long { (result ≡ Err ScriptError.TooLong) ↔ (1048576 < length source.now) }
-    // What is a script and built is read, unless memory runs out.
-    ensures not_built { result ≡ Err ScriptError.NotBuilt → (s : Whole) → IsBuiltScript source.now s → ⊥ }
-    ensures errors { IfErr result (λ e. IsTrue (is_refusal e)) }
+    ensures answers { ReadAnswers result (script source.now) }
+    ensures memory { result ≡ Err ScriptError.OutOfMemory → length source.now ≤ 1048576 }
+    ensures short { IsOk result → length source.now ≤ 1048576 }
 {
     if source.len() > LONGEST {
         return Err(ScriptError::TooLong);
     }
-    if first_foreign(source).is_some() {
-        return Err(ScriptError::NotBuilt);
-    }
-    match script_of_text(alloc, text_of(source)) {
-        Ok(script) => Ok(script),
-        Err(Refused::Memory) => Err(ScriptError::OutOfMemory),
-        Err(Refused::NotBuilt) => Err(ScriptError::NotBuilt),
+    match first_foreign(source) {
+        Some(offset) => Err(ScriptError::NotAscii {
+            offset: offset as u32,
+        }),
+        None => script_of_text(alloc, text_of(source)),
     }
 }
