@@ -1,23 +1,70 @@
 //! All that the program does.
-ghost use Rattle.std.specs.Prelude.{◌≡◌, ◌<◌, ◌≤◌, ◌-◌, ◌^◌, ◌⊎◌, ◌∷◌, [], List, ℕ, map, length, Contains, IfSome, Some};
+ghost use Rattle.std.specs.Prelude.{◌≡◌, ◌<◌, ◌≤◌, ◌-◌, ◌^◌, ◌⊎◌, ◌∷◌, [], List, ℕ, map, length, Contains, IfSome, Some, Ok, ◌≢◌, true, false};
 ghost use Rattle.std.specs.String.{string_bytes};
 ghost use Rattle.std.specs.Io.KnownBytes.{Appends, Keeps};
 ghost use Rattle.play_report.specs.Text.{usage_text};
-ghost use Rattle.gcplay.specs.Form.{IsRun, IsTaken, IsPlayText, IsFaultText, MayBeText};
+ghost use Rattle.gc_script.specs.Script.{Script as Whole, script};
+ghost use Rattle.gc_script.specs.Shown.{fault_of};
+ghost use Rattle.gc_script.specs.Finished.{is_refused};
+ghost use Rattle.gcplay.specs.Form.{IsRun, IsTaken, IsPlayText, IsFaultText, MayBeText, is_played, usual};
 ghost use Rattle.gcplay.specs.Reading.{IsSpent};
 ghost use Rattle.gcplay.specs.Ending.{BytesEnd, RunEnds, RefuseEnds, WritesSome, WritesFront};
 
 use crate::gate::Gate;
 use crate::options::USUAL;
 use crate::play::play;
+use crate::played::is_played;
 use crate::source::{Unread, read_source};
 use crate::status::Status;
 use crate::words::is_run;
-use gc_script::{ScriptError, read};
-use play_report::{Sink, Source, write_fault, write_report, write_usage};
+use gc_script::{Script, ScriptError, read};
+use play_report::{Sink, Source, write_all, write_fault, write_report, write_usage};
 use std::alloc::Global;
 use std::sync::Wait;
 use std::thread::Threads;
+
+/// Plays a script that was read, and writes what it says.
+fn play_script<R: Threads + Wait + Sync, K: Sink, G: Gate + Sync>(
+    rt: &R,
+    alloc: Global,
+    script: &Script<'_>,
+    sink: &mut K,
+    gate: &G,
+) -> Status
+    requires { is_played usual.cells script.now.sections ≡ true }
+    ensures { (bytes : List ℕ) → script bytes ≡ Ok script.now → BytesEnd result bytes (K.written sink.old) (K.written sink.new) (K.faults sink.old) (K.faults sink.new) }
+{
+    match play(rt, alloc, script, &USUAL, gate) {
+        Err(_) => Status::Memory,
+        Ok(report) => match write_report(&report, USUAL.place, sink) {
+            Ok(()) => Status::Done,
+            Err(_) => Status::WriteFault,
+        },
+    }
+}
+
+/// Answers that a script is not played yet.
+fn refuse_script<K: Sink>(sink: &mut K) -> Status
+    ensures { (bytes : List ℕ) (s : Whole) → script bytes ≡ Ok s → is_played usual.cells s.sections ≡ false
+        → BytesEnd result bytes (K.written sink.old) (K.written sink.new) (K.faults sink.old) (K.faults sink.new) }
+{
+    match write_all(sink, b"13 NotBuilt\n") {
+        Ok(()) => Status::ScriptFault,
+        Err(_) => Status::WriteFault,
+    }
+}
+
+/// Writes the fault of a source.
+fn tell_fault<K: Sink>(fault: &ScriptError, sink: &mut K) -> Status
+    requires { fault.now ≢ ScriptError.OutOfMemory }
+    ensures { (bytes : List ℕ) → is_refused (fault_of fault.now) (script bytes)
+        → BytesEnd result bytes (K.written sink.old) (K.written sink.new) (K.faults sink.old) (K.faults sink.new) }
+{
+    match write_fault(fault, sink) {
+        Ok(()) => Status::ScriptFault,
+        Err(_) => Status::WriteFault,
+    }
+}
 
 /// Reads and plays a script, and writes what it says or its fault.
 fn run_bytes<R: Threads + Wait + Sync, K: Sink, G: Gate + Sync>(
@@ -31,17 +78,14 @@ fn run_bytes<R: Threads + Wait + Sync, K: Sink, G: Gate + Sync>(
 {
     match read(alloc, bytes) {
         Err(ScriptError::OutOfMemory) => Status::Memory,
-        Err(fault) => match write_fault(&fault, sink) {
-            Ok(()) => Status::ScriptFault,
-            Err(_) => Status::WriteFault,
-        },
-        Ok(script) => match play(rt, alloc, &script, &USUAL, gate) {
-            Err(_) => Status::Memory,
-            Ok(report) => match write_report(&report, USUAL.place, sink) {
-                Ok(()) => Status::Done,
-                Err(_) => Status::WriteFault,
-            },
-        },
+        Err(fault) => tell_fault(&fault, sink),
+        Ok(script) => {
+            if is_played(&script, USUAL.cells) {
+                play_script(rt, alloc, &script, sink, gate)
+            } else {
+                refuse_script(sink)
+            }
+        }
     }
 }
 
@@ -81,7 +125,7 @@ fn refuse<K: Sink>(sink: &mut K) -> Status
 /// |---|---|---|
 /// | 0 | done | each warehouse's transcript, then the objects that are reachable at the end |
 /// | 1 | the words are not `run` | `usage: gcplay command [options]` |
-/// | 2 | the script is too long, or not one that is taken | `11 TooLong` or `13 NotBuilt` |
+/// | 2 | the script has a fault, or is not played yet | the fault's number, name and place, or `13 NotBuilt` |
 /// | 4 | the source failed | nothing |
 /// | 5 | the sink failed | a front of what was to be written |
 /// | 6 | memory ran out | nothing |

@@ -131,7 +131,6 @@ text_of_fault (Some fault) = fault_text fault
 
 -- the text of what the reader of scripts answers in place of a script
 abbrev pub error_text : ScriptError → List ℕ
-error_text answers.NotBuilt = codes "13 NotBuilt\n"
 error_text error = text_of_fault (fault_of error)
 
 -- the text of status 1

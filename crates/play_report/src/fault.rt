@@ -55,6 +55,5 @@ pub fn write_fault<K: Sink>(fault: &ScriptError, sink: &mut K) -> Result<(), Fai
             *line as u64,
             sink,
         ),
-        ScriptError::NotBuilt => write_all(sink, b"13 NotBuilt\n"),
     }
 }

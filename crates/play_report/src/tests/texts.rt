@@ -147,7 +147,6 @@ fn faults_are_written(rt: HostRuntime) -> Result<(), Fail> {
         (ScriptError::TooManyCommands, "9 TooManyCommands\n"),
         (ScriptError::TooManyLines, "10 TooManyLines\n"),
         (ScriptError::TooLong, "11 TooLong\n"),
-        (ScriptError::NotBuilt, "13 NotBuilt\n"),
         (ScriptError::ConvertedTooLong, "14 ConvertedTooLong\n"),
         (
             ScriptError::TooManySeasons { line: 9 },
