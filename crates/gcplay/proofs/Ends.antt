@@ -107,10 +107,15 @@ fault_text_of e bytes memory h = told (fault_of e) bytes (is_fault e memory) h
 -- the text of a report is one of the bytes' play
 pub play_text : (bytes : List ℕ) (s : Script) (r : Report) → script bytes ≡ Ok s → is_played 4096 s.sections ≡ true → IsReport s.sections 4096 r
     → IsPlayText bytes (report_text (map outcome_of r.parts.items) (map survivor_of r.survivors.items) false)
-play_text bytes s r ok played report = (s, ok, played, record {
-  survivors = map survivor_of r.survivors.items;
-  reached = report.survivors;
-  places = places_of r;
-  placed = tt;
-  written = ap (λ (os : List Outcome). report_text os (map survivor_of r.survivors.items) false) report.outcomes;
-})
+play_text bytes s r ok played report = (
+  s,
+  ok,
+  played,
+  record {
+    survivors = map survivor_of r.survivors.items;
+    reached = report.survivors;
+    places = places_of r;
+    placed = tt;
+    written = ap (λ (os : List Outcome). report_text os (map survivor_of r.survivors.items) false) report.outcomes;
+  },
+)

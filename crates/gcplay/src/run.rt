@@ -3,7 +3,7 @@ ghost use Rattle.std.specs.Prelude.{◌≡◌, ◌<◌, ◌≤◌, ◌-◌, ◌^
 ghost use Rattle.std.specs.String.{string_bytes};
 ghost use Rattle.std.specs.Io.KnownBytes.{Appends, Keeps};
 ghost use Rattle.play_report.specs.Text.{usage_text};
-ghost use Rattle.gc_script.specs.Script.{Script as Whole, script};
+ghost use Rattle.gc_script.specs.Script.{Script as Whole, script as meaning};
 ghost use Rattle.gc_script.specs.Shown.{fault_of};
 ghost use Rattle.gc_script.specs.Finished.{is_refused};
 ghost use Rattle.gcplay.specs.Form.{IsRun, IsTaken, IsPlayText, IsFaultText, MayBeText, is_played, usual};
@@ -32,7 +32,7 @@ fn play_script<R: Threads + Wait + Sync, K: Sink, G: Gate + Sync>(
     gate: &G,
 ) -> Status
     requires { is_played usual.cells script.now.sections ≡ true }
-    ensures { (bytes : List ℕ) → script bytes ≡ Ok script.now → BytesEnd result bytes (K.written sink.old) (K.written sink.new) (K.faults sink.old) (K.faults sink.new) }
+    ensures { (bytes : List ℕ) → meaning bytes ≡ Ok script.now → BytesEnd result bytes (K.written sink.old) (K.written sink.new) (K.faults sink.old) (K.faults sink.new) }
 {
     match play(rt, alloc, script, &USUAL, gate) {
         Err(_) => Status::Memory,
@@ -45,7 +45,7 @@ fn play_script<R: Threads + Wait + Sync, K: Sink, G: Gate + Sync>(
 
 /// Answers that a script is not played yet.
 fn refuse_script<K: Sink>(sink: &mut K) -> Status
-    ensures { (bytes : List ℕ) (s : Whole) → script bytes ≡ Ok s → is_played usual.cells s.sections ≡ false
+    ensures { (bytes : List ℕ) (s : Whole) → meaning bytes ≡ Ok s → is_played usual.cells s.sections ≡ false
         → BytesEnd result bytes (K.written sink.old) (K.written sink.new) (K.faults sink.old) (K.faults sink.new) }
 {
     match write_all(sink, b"13 NotBuilt\n") {
@@ -57,7 +57,7 @@ fn refuse_script<K: Sink>(sink: &mut K) -> Status
 /// Writes the fault of a source.
 fn tell_fault<K: Sink>(fault: &ScriptError, sink: &mut K) -> Status
     requires { fault.now ≢ ScriptError.OutOfMemory }
-    ensures { (bytes : List ℕ) → is_refused (fault_of fault.now) (script bytes)
+    ensures { (bytes : List ℕ) → is_refused (fault_of fault.now) (meaning bytes)
         → BytesEnd result bytes (K.written sink.old) (K.written sink.new) (K.faults sink.old) (K.faults sink.new) }
 {
     match write_fault(fault, sink) {
