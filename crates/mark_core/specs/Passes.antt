@@ -1,64 +1,65 @@
 -- The passes into which the kinds of step fall.
-use Rattle.std.specs.Prelude.{ℕ}
+use Rattle.mark_core.specs.declared.passes.Pass.{Pass}
+use Rattle.mark_core.specs.declared.passes.Pass.TheVariants.{Packets, Colour, Mutator, Making, World, Sweep, Counters, Help}
 use Rattle.mark_core.specs.declared.kinds.Step.{Step}
 use Rattle.mark_core.specs.declared.kinds.Step.TheVariants.{Reserve, Take, Give, Credit, Push, Pop, Look, ReadCount, ReadAlloc, ReadField, ReadRoot, SetMark, DirtyCard, ClearCard, ReadMarks, ReadCard, ReadPhase, ReadOwn, ReadValue, ReadIdent, ReadCat, StoreField, StoreValue, StoreRoot, ClaimBlock, ReleaseBlock, ReadFree, StoreNew, PublishCells, EnterStep, LeaveStep, RaiseStep, Observe, DropStep, StorePhase, Split, Join, NextBlock, NextOfCards, ReadBlockMarks, StoreAlloc, ClearMarks, WipeCard, StorePosition, StoreNamed, Reset, AddStat, ReadStat, StoreLength, ReadLength, OpenStep, JoinHelpStep, LeaveHelpStep, CloseStep, SeeHelp, ReadSeason, NextSeason}
 
--- 0 packets, 1 colour, 2 mutators, 3 new cells, 4 the world, 5 the sweep, 6 counters, 7 help and the season
-abbrev pub pass_of : Step → ℕ
-pass_of Reserve = 0
-pass_of (Take q p) = 0
-pass_of (Give p deferred) = 0
-pass_of Credit = 0
-pass_of (Push p c) = 0
-pass_of (Pop p) = 0
-pass_of (Look q g) = 0
-pass_of ReadCount = 0
-pass_of (StoreLength p) = 0
-pass_of (ReadLength p) = 0
-pass_of (ReadAlloc b) = 1
-pass_of (ReadField c i) = 1
-pass_of (ReadRoot section v) = 1
-pass_of (SetMark c) = 1
-pass_of (DirtyCard card) = 1
-pass_of (ClearCard card) = 1
-pass_of (ReadMarks b) = 1
-pass_of (ReadCard card) = 1
-pass_of ReadPhase = 1
-pass_of (ReadOwn c i) = 2
-pass_of (ReadValue c) = 2
-pass_of (ReadIdent c) = 2
-pass_of (ReadCat v) = 2
-pass_of (StoreField v i x) = 2
-pass_of (StoreValue v n) = 2
-pass_of (StoreRoot v r) = 2
-pass_of (ClaimBlock b) = 3
-pass_of ReleaseBlock = 3
-pass_of ReadFree = 3
-pass_of (StoreNew c part word) = 3
-pass_of PublishCells = 3
-pass_of EnterStep = 4
-pass_of LeaveStep = 4
-pass_of RaiseStep = 4
-pass_of Observe = 4
-pass_of DropStep = 4
-pass_of (StorePhase to) = 4
-pass_of Split = 4
-pass_of (Join other) = 4
-pass_of NextBlock = 5
-pass_of NextOfCards = 5
-pass_of ReadBlockMarks = 5
-pass_of StoreAlloc = 5
-pass_of ClearMarks = 5
-pass_of (WipeCard card) = 5
-pass_of (StorePosition done) = 6
-pass_of StoreNamed = 6
-pass_of (Reset which) = 6
-pass_of (AddStat which by down) = 6
-pass_of (ReadStat which) = 6
-pass_of OpenStep = 7
-pass_of JoinHelpStep = 7
-pass_of LeaveHelpStep = 7
-pass_of CloseStep = 7
-pass_of SeeHelp = 7
-pass_of ReadSeason = 7
-pass_of NextSeason = 7
+-- the pass of each step
+abbrev pub pass_of : Step → Pass
+pass_of Reserve = Packets
+pass_of (Take q p) = Packets
+pass_of (Give p deferred) = Packets
+pass_of Credit = Packets
+pass_of (Push p c) = Packets
+pass_of (Pop p) = Packets
+pass_of (Look q g) = Packets
+pass_of ReadCount = Packets
+pass_of (StoreLength p) = Packets
+pass_of (ReadLength p) = Packets
+pass_of (ReadAlloc b) = Colour
+pass_of (ReadField c i) = Colour
+pass_of (ReadRoot section v) = Colour
+pass_of (SetMark c) = Colour
+pass_of (DirtyCard card) = Colour
+pass_of (ClearCard card) = Colour
+pass_of (ReadMarks b) = Colour
+pass_of (ReadCard card) = Colour
+pass_of ReadPhase = Colour
+pass_of (ReadOwn c i) = Mutator
+pass_of (ReadValue c) = Mutator
+pass_of (ReadIdent c) = Mutator
+pass_of (ReadCat v) = Mutator
+pass_of (StoreField v i x) = Mutator
+pass_of (StoreValue v n) = Mutator
+pass_of (StoreRoot v r) = Mutator
+pass_of (ClaimBlock b) = Making
+pass_of ReleaseBlock = Making
+pass_of ReadFree = Making
+pass_of (StoreNew c part word) = Making
+pass_of PublishCells = Making
+pass_of EnterStep = World
+pass_of LeaveStep = World
+pass_of RaiseStep = World
+pass_of Observe = World
+pass_of DropStep = World
+pass_of (StorePhase to) = World
+pass_of Split = World
+pass_of (Join other) = World
+pass_of NextBlock = Sweep
+pass_of NextOfCards = Sweep
+pass_of ReadBlockMarks = Sweep
+pass_of StoreAlloc = Sweep
+pass_of ClearMarks = Sweep
+pass_of (WipeCard card) = Sweep
+pass_of (StorePosition done) = Counters
+pass_of StoreNamed = Counters
+pass_of (Reset which) = Counters
+pass_of (AddStat which by down) = Counters
+pass_of (ReadStat which) = Counters
+pass_of OpenStep = Help
+pass_of JoinHelpStep = Help
+pass_of LeaveHelpStep = Help
+pass_of CloseStep = Help
+pass_of SeeHelp = Help
+pass_of ReadSeason = Help
+pass_of NextSeason = Help

@@ -1,8 +1,9 @@
 // The steps of tracing. They turn white cells grey and grey cells black, and clean cards.
-ghost use Rattle.std.specs.Prelude.{◌≡◌, ◌<◌, ℕ};
-ghost use Rattle.mark_core.specs.ColourSteps.{popped_after as popped_after_of, scan_after as scan_after_of, with_alloc_word as with_alloc_word_of, fresh_off as fresh_off_of, popped_off as popped_off_of, read_alloc_parts, read_alloc_effect, read_field_parts, read_field_effect, read_root_parts, read_root_effect, set_mark_parts, set_mark_effect, dirty_card_parts, dirty_card_effect, clear_card_parts, clear_card_effect, read_marks_parts, read_marks_effect, read_card_parts, read_phase_effect};
+ghost use Rattle.std.specs.Prelude.{◌≡◌, ◌<◌, ◌+◌, if◌then◌else◌};
+ghost use Rattle.mark_core.specs.Bits.{cell_named};
+ghost use Rattle.mark_core.specs.ColourSteps.{without_cell, redirty_off, popped_after as popped_after_of, scan_after as scan_after_of, with_alloc_word as with_alloc_word_of, fresh_off as fresh_off_of, popped_off as popped_off_of, read_alloc_parts, read_alloc_effect, read_field_parts, read_root_parts, set_mark_parts, set_mark_effect, dirty_card_parts, clear_card_parts, clear_card_effect, read_marks_parts, read_marks_effect, read_card_parts, read_phase_effect};
+ghost use Rattle.mark_core.specs.Seats.{is_the as is_the_number};
 ghost use Rattle.mark_core.specs.Steps.{first_false as first_false_of};
-ghost use Rattle.mark_core.specs.declared.kinds.Shape.{Shape};
 
 use crate::bits;
 use crate::cleaning;
@@ -99,8 +100,8 @@ pub fn check_read_field(shape: &Shape, s: &SeatState, c: Cell, i: u8) -> Option<
 
 pub fn read_field(s: &mut SeatState, c: Cell, i: u8, old: u64) -> u64
     requires { i < 255 }
-    ensures word { (sh : Shape) → result ≡ (read_field_effect sh s.old c i).written old }
-    ensures seat { (sh : Shape) → s.new ≡ (read_field_effect sh s.old c i).seat old }
+    ensures word { result ≡ old }
+    ensures seat { s.new ≡ record s.old { scan = Some (c, i + 1); cleaning = without_cell s.old.cleaning c; value = cell_named old } }
 {
     s.scan = Some((c, i + 1));
     s.cleaning = cleaning::without_cell(s.cleaning, c);
@@ -123,8 +124,8 @@ pub fn check_read_root(shape: &Shape, phase: u64, s: &SeatState, section: u32, v
 }
 
 pub fn read_root(s: &mut SeatState, old: u64) -> u64
-    ensures word { (section v : ℕ) → result ≡ (read_root_effect s.old section v).written old }
-    ensures seat { (section v : ℕ) → s.new ≡ (read_root_effect s.old section v).seat old }
+    ensures word { result ≡ old }
+    ensures seat { s.new ≡ record s.old { value = cell_named old } }
 {
     s.value = bits::cell_named(old);
     old
@@ -178,8 +179,8 @@ pub fn check_dirty_card(shape: &Shape, s: &SeatState, card: u32) -> Option<u8>
 
 // The dirty card answers for all that the seat owes it.
 pub fn dirty_card(s: &mut SeatState, card: u32) -> u64
-    ensures word { (old : ℕ) → result ≡ (dirty_card_effect s.old card).written old }
-    ensures seat { (old : ℕ) → s.new ≡ (dirty_card_effect s.old card).seat old }
+    ensures word { result ≡ 1 }
+    ensures seat { s.new ≡ record s.old { fresh = fresh_off_of s.old.fresh card; popped = popped_off_of s.old.popped card; owes = if is_the_number s.old.owes card then None else s.old.owes; cleaning = redirty_off s.old.cleaning card } }
 {
     s.fresh = fresh_off(s.fresh, card);
     s.popped = popped_off(s.popped, card);

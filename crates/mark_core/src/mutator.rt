@@ -1,10 +1,11 @@
 // The steps of a mutator. They read and change objects and roots, and make cells in a cached block.
-ghost use Rattle.std.specs.Prelude.{◌≡◌, ◌<◌, ◌-◌, ◌==◌, ℕ, List, slice_index};
+ghost use Rattle.std.specs.Prelude.{◌≡◌, ◌<◌, ◌-◌, ◌/◌, ◌==◌, ℕ, List, if◌then◌else◌, slice_index, slice_set};
 ghost use Rattle.std.specs.List.{list_any};
-ghost use Rattle.mark_core.specs.MutatorSteps.{read_object_parts, read_own_parts, read_own_effect, read_cat_parts, read_cat_effect, store_field_parts, store_field_effect, store_value_parts, store_root_parts, store_root_effect};
+ghost use Rattle.mark_core.specs.Bits.{cell_of, reference_in};
+ghost use Rattle.mark_core.specs.MutatorSteps.{read_object_parts, read_own_parts, read_cat_parts, store_field_parts, store_value_parts, store_root_parts};
 ghost use Rattle.mark_core.specs.MutatorSteps.{knows_cell as knows_cell_of, variable as variable_of, has_own as has_own_of, in_variables as in_variables_of, variable_or_nil as variable_or_nil_of, names_last as names_last_of, has_reference as has_reference_of};
+ghost use Rattle.mark_core.specs.Seats.{used_in};
 ghost use Rattle.mark_core.specs.Steps.{first_false as first_false_of};
-ghost use Rattle.mark_core.specs.declared.kinds.Shape.{Shape};
 
 use crate::bits;
 use crate::hand;
@@ -45,9 +46,10 @@ pub fn check_read_own(shape: &Shape, s: &SeatState, c: Cell, i: u8) -> Option<u8
     )
 }
 
-pub fn read_own(s: &mut SeatState, old: u64) -> u64
-    ensures word { (sh : Shape) (c i : ℕ) → result ≡ (read_own_effect sh s.old c i).written old }
-    ensures seat { (sh : Shape) (c i : ℕ) → s.new ≡ (read_own_effect sh s.old c i).seat old }
+// What a mutator reads of an object or of the catalogue goes into its register.
+pub fn read_reference(s: &mut SeatState, old: u64) -> u64
+    ensures word { result ≡ old }
+    ensures seat { s.new ≡ record s.old { got = reference_in old } }
 {
     s.got = bits::reference_in(old);
     old
@@ -57,14 +59,6 @@ pub fn check_read_cat(s: &SeatState, v: u8) -> Option<u8>
     ensures { result ≡ first_false_of 1 (read_cat_parts s.now v) }
 {
     first_false(&[v < 32 && may_mutate(s), !is_the(s.section, 0)])
-}
-
-pub fn read_cat(s: &mut SeatState, old: u64) -> u64
-    ensures word { (v : ℕ) → result ≡ (read_cat_effect s.old v).written old }
-    ensures seat { (v : ℕ) → s.new ≡ (read_cat_effect s.old v).seat old }
-{
-    s.got = bits::reference_in(old);
-    old
 }
 
 pub fn variable(s: &SeatState, v: u8) -> u32
@@ -126,8 +120,8 @@ pub fn check_store_field(
 
 // Nobody else can know a cell that isn't published, so its card isn't owed.
 pub fn store_field(s: &mut SeatState, v: u8, w: Option<u8>) -> u64
-    ensures word { (sh : Shape) (i old : ℕ) → result ≡ (store_field_effect sh s.old v i w).written old }
-    ensures seat { (sh : Shape) (i old : ℕ) → s.new ≡ (store_field_effect sh s.old v i w).seat old }
+    ensures word { result ≡ variable_or_nil_of s.old w }
+    ensures seat { let c = cell_of (variable_of s.old v) in s.new ≡ record s.old { owes = if used_in s.old.cache c then s.old.owes else Some (c / 16) } }
 {
     let c = bits::cell_of(u64::from(variable(s, v)));
     if !hand::used_in(s.cache, c) {
@@ -185,8 +179,8 @@ pub fn check_store_root(s: &SeatState, v: u8, r: u64) -> Option<u8>
 
 pub fn store_root(s: &mut SeatState, v: u8, r: u64) -> u64
     requires { v < 32 }
-    ensures word { (old : ℕ) → result ≡ (store_root_effect s.old v r).written old }
-    ensures seat { (old : ℕ) → s.new ≡ (store_root_effect s.old v r).seat old }
+    ensures word { result ≡ r }
+    ensures seat { s.new ≡ record s.old { env = slice_set s.old.env v (reference_in r); got = 0 } }
 {
     let mut env = s.env;
     env[v as usize] = bits::reference_in(r);

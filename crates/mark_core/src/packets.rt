@@ -1,9 +1,10 @@
 // The steps on packets. The pools are 0 empty, 1 low, 2 high, 3 deferred.
-ghost use Rattle.std.specs.Prelude.{◌≡◌, ◌<◌, ℕ, false};
-ghost use Rattle.mark_core.specs.Held.{length_in_hand as length_held};
-ghost use Rattle.mark_core.specs.PacketSteps.{reserve_parts, reserve_effect, take_parts, take_effect, pool_for as pool_for_of, give_parts, give_effect, credit_parts, credit_effect, push_parts, push_effect, pop_parts, pop_effect, look_parts, store_length_parts, store_length_effect, read_length_parts, read_length_effect};
+ghost use Rattle.std.specs.Prelude.{◌≡◌, ◌<◌, ◌+◌, ◌-◌, ◌%◌, ◌==◌, ◌&&◌, not, if◌then◌else◌, true, false};
+ghost use Rattle.mark_core.specs.Bits.{has_bit, with_bit, without_bit, cell_of};
+ghost use Rattle.mark_core.specs.Held.{length_in_hand, has_entry, put_packet, drop_packet, set_length};
+ghost use Rattle.mark_core.specs.PacketSteps.{reserve_parts, reserve_effect, take_parts, pool_for as pool_for_of, give_parts, credit_parts, credit_effect, push_parts, pop_parts, look_parts, store_length_parts, read_length_parts, read_length_effect};
+ghost use Rattle.mark_core.specs.Seats.{is_the};
 ghost use Rattle.mark_core.specs.Steps.{first_false as first_false_of};
-ghost use Rattle.mark_core.specs.declared.kinds.Shape.{Shape};
 
 use crate::bits;
 use crate::hand;
@@ -42,8 +43,8 @@ pub fn check_take(shape: &Shape, phase: u64, s: &SeatState, q: u8, p: u32) -> Op
 }
 
 pub fn take(s: &mut SeatState, q: u8, p: u32, old: u64) -> u64
-    ensures word { (sh : Shape) → result ≡ (take_effect sh s.old q p).written old }
-    ensures seat { (sh : Shape) → s.new ≡ (take_effect sh s.old q p).seat old }
+    ensures word { result ≡ without_bit old (p % 64) }
+    ensures seat { let found = has_bit old (p % 64) in s.new ≡ record s.old { held = if found then put_packet s.old.held p else s.old.held; reserved = s.old.reserved && not ((q == 0) && found) } }
 {
     let found = bits::has_bit(old, p % 64);
     if found {
@@ -55,7 +56,8 @@ pub fn take(s: &mut SeatState, q: u8, p: u32, old: u64) -> u64
 
 // The pool to which a packet of this length goes back.
 pub fn pool_for(shape: &Shape, length: u32, deferred: bool) -> usize
-    ensures { result ≡ pool_for_of shape.now length deferred }
+    ensures value { result ≡ pool_for_of shape.now length deferred }
+    ensures few { result < 4 }
 {
     if deferred {
         3
@@ -83,8 +85,8 @@ pub fn check_give(shape: &Shape, s: &SeatState, p: u32, deferred: bool) -> Optio
 }
 
 pub fn give(s: &mut SeatState, p: u32, old: u64) -> u64
-    ensures word { (sh : Shape) → result ≡ (give_effect sh s.old p false).written old }
-    ensures seat { (sh : Shape) → s.new ≡ (give_effect sh s.old p false).seat old }
+    ensures word { result ≡ with_bit old (p % 64) }
+    ensures seat { s.new ≡ record s.old { held = drop_packet s.old.held p; credit = not (has_entry s.old.held p) } }
 {
     let has_entry = slots::has_entry(s.held, p);
     s.held = slots::drop_packet(s.held, p);
@@ -120,9 +122,9 @@ pub fn check_push(shape: &Shape, s: &SeatState, p: u32, c: Cell) -> Option<u8>
 }
 
 pub fn push(s: &mut SeatState, p: u32, c: Cell) -> u64
-    requires { length_held s.old.held p < 4294967295 }
-    ensures word { (sh : Shape) (old : ℕ) → result ≡ (push_effect sh s.old p c).written old }
-    ensures seat { (sh : Shape) (old : ℕ) → s.new ≡ (push_effect sh s.old p c).seat old }
+    requires { length_in_hand s.old.held p < 4294967295 }
+    ensures word { result ≡ c + 1 }
+    ensures seat { s.new ≡ record s.old { held = set_length s.old.held p (length_in_hand s.old.held p + 1) false; fresh = if is_the s.old.fresh c then None else s.old.fresh; popped = if is_the s.old.fresh c then s.old.popped else None } }
 {
     let length = slots::length_in_hand(s.held, p);
     s.held = slots::set_length(s.held, p, length + 1, false);
@@ -148,8 +150,8 @@ pub fn check_pop(shape: &Shape, phase: u64, s: &SeatState, p: u32) -> Option<u8>
 }
 
 pub fn pop(s: &mut SeatState, p: u32, old: u64) -> u64
-    ensures word { (sh : Shape) → result ≡ (pop_effect sh s.old p).written old }
-    ensures seat { (sh : Shape) → s.new ≡ (pop_effect sh s.old p).seat old }
+    ensures word { result ≡ old }
+    ensures seat { s.new ≡ record s.old { held = set_length s.old.held p (length_in_hand s.old.held p - 1) false; popped = Some (cell_of old, false) } }
 {
     let length = slots::length_in_hand(s.held, p).saturating_sub(1);
     s.held = slots::set_length(s.held, p, length, false);
@@ -176,8 +178,8 @@ pub fn check_store_length(shape: &Shape, s: &SeatState, p: u32) -> Option<u8>
 }
 
 pub fn store_length(s: &mut SeatState, p: u32) -> u64
-    ensures word { (old : ℕ) → result ≡ (store_length_effect s.old p).written old }
-    ensures seat { (old : ℕ) → s.new ≡ (store_length_effect s.old p).seat old }
+    ensures word { result ≡ length_in_hand s.old.held p }
+    ensures seat { s.new ≡ record s.old { held = set_length s.old.held p (length_in_hand s.old.held p) true } }
 {
     let length = slots::length_in_hand(s.held, p);
     s.held = slots::set_length(s.held, p, length, true);

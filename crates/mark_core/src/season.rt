@@ -1,8 +1,8 @@
 // The steps of the season, which says whose turn it is: the catalogue's or that of the warehouses.
 ghost use Rattle.std.specs.Prelude.{◌≡◌};
-ghost use Rattle.mark_core.specs.HelpSteps.{read_season_parts, read_season_effect, next_season_parts, next_season_effect};
+ghost use Rattle.mark_core.specs.Bits.{wrapped_sum};
+ghost use Rattle.mark_core.specs.HelpSteps.{read_season_parts, read_season_effect, next_season_parts};
 ghost use Rattle.mark_core.specs.Steps.{first_false as first_false_of};
-ghost use Rattle.mark_core.specs.declared.seat.SeatState.{SeatState};
 
 use crate::kinds::Phase;
 use crate::parts::first_false;
@@ -30,7 +30,7 @@ pub fn check_next_season(phase: u64, season: u64, s: &SeatState) -> Option<u8>
 }
 
 pub fn next_season(old: u64) -> u64
-    ensures { (s : SeatState) → result ≡ (next_season_effect s).written old }
+    ensures { result ≡ wrapped_sum old 1 }
 {
     old.wrapping_add(1)
 }

@@ -1,9 +1,9 @@
 // The steps of the sweep and of the counters.
-ghost use Rattle.std.specs.Prelude.{◌≡◌, ◌<◌, ℕ};
-ghost use Rattle.mark_core.specs.SweepSteps.{next_block_parts, next_block_effect, next_of_cards_parts, next_of_cards_effect, own_block as own_block_of, with_mark_word as with_mark_word_of, read_block_marks_parts, read_block_marks_effect, survivors as survivors_of, with_stored as with_stored_of, store_alloc_parts, store_alloc_effect, clear_marks_parts, clear_marks_effect, wipe_card_parts, store_position_parts, store_named_parts, reset_parts, add_stat_parts, add_stat_effect, read_stat_parts, read_stat_effect};
+ghost use Rattle.std.specs.Prelude.{◌≡◌, ◌<◌, if◌then◌else◌, true};
+ghost use Rattle.mark_core.specs.Bits.{wrapped_sum, wrapped_difference};
+ghost use Rattle.mark_core.specs.SweepSteps.{next_block_parts, next_block_effect, next_of_cards_parts, next_of_cards_effect, own_block as own_block_of, with_mark_word as with_mark_word_of, read_block_marks_parts, read_block_marks_effect, survivors as survivors_of, with_stored as with_stored_of, store_alloc_parts, clear_marks_parts, wipe_card_parts, store_position_parts, store_named_parts, reset_parts, add_stat_parts, read_stat_parts, read_stat_effect};
 ghost use Rattle.mark_core.specs.Steps.{first_false as first_false_of};
 
-ghost use Rattle.mark_core.specs.declared.seat.SeatState.{SeatState};
 
 use crate::hand;
 use crate::kinds::{Phase, Shape};
@@ -115,8 +115,8 @@ pub fn check_store_alloc(phase: u64, s: &SeatState) -> Option<u8>
 }
 
 pub fn store_alloc(s: &mut SeatState) -> u64
-    ensures word { (old : ℕ) → result ≡ (store_alloc_effect s.old).written old }
-    ensures seat { (old : ℕ) → s.new ≡ (store_alloc_effect s.old).seat old }
+    ensures word { result ≡ survivors_of s.old.block }
+    ensures seat { s.new ≡ record s.old { block = with_stored_of s.old.block } }
 {
     let word = survivors(s.block);
     s.block = with_stored(s.block);
@@ -131,8 +131,8 @@ pub fn check_clear_marks(phase: u64, s: &SeatState) -> Option<u8>
 }
 
 pub fn clear_marks(s: &mut SeatState) -> u64
-    ensures word { (old : ℕ) → result ≡ (clear_marks_effect s.old).written old }
-    ensures seat { (old : ℕ) → s.new ≡ (clear_marks_effect s.old).seat old }
+    ensures word { result ≡ 0 }
+    ensures seat { s.new ≡ record s.old { block = None } }
 {
     s.block = None;
     0
@@ -175,7 +175,7 @@ pub fn check_add_stat(s: &SeatState, which: u8, by: u32, down: bool) -> Option<u
 }
 
 pub fn add_stat(by: u32, down: bool, old: u64) -> u64
-    ensures { (s : SeatState) (which : ℕ) → result ≡ (add_stat_effect s which by down).written old }
+    ensures { result ≡ (if down then wrapped_difference old by else wrapped_sum old by) }
 {
     if down {
         old.wrapping_sub(u64::from(by))

@@ -1,5 +1,5 @@
 // What is read of the words by their meaning.
-ghost use Rattle.std.specs.Prelude.{◌≡◌, ◌-◌, length, slice_index};
+ghost use Rattle.std.specs.Prelude.{◌≡◌, length, slice_index, slice_set};
 ghost use Rattle.mark_core.specs.Layout.{region_sizes, total_words as total_words_of, words_of};
 ghost use Rattle.mark_core.specs.Shapes.{IsShape};
 
@@ -32,4 +32,13 @@ pub fn season_of(shape: &Shape, words: &[u64]) -> u64
     ensures { result ≡ (words_of shape.now words.now).season }
 {
     read(words, layout::help(shape) + 1)
+}
+
+// Stores the word at this address, where there is one.
+pub fn write(words: &mut Vec<u64>, at: usize, word: u64)
+    ensures { words.new.items ≡ slice_set words.old.items at word }
+{
+    if at < words.len() {
+        words[at] = word;
+    }
 }
