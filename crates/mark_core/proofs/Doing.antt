@@ -1,5 +1,5 @@
 -- What an event that is allowed may rely on, and the state that its writes leave.
-use Rattle.std.proofs.Common.{ℕ, ◌≡◌, ◌+◌, ◌<◌, ◌≤◌, List, set, get_or, length, arith, refl, sym, ap, ◌∙◌, subst, Bool, true, false, Option, Some, None, cond, eqb}
+use Rattle.std.proofs.Common.{ℕ, ◌≡◌, ◌+◌, ◌<◌, ◌≤◌, List, set, get_or, length, arith, refl, sym, ap, ◌∙◌, subst, Bool, true, false, Option, Some, None, cond, eqb, ◌&&◌}
 use Rattle.std.specs.Prelude.{slice_get, nat_lt, nat_le, is_some}
 use Rattle.std.specs.List.{All}
 use Rattle.std.proofs.lemmas.Bool.{and_parts, ltb-true, leb-true, leb-false, le-ltb, ne_eqb}
@@ -28,10 +28,10 @@ use Rattle.mark_core.specs.declared.seat.SeatState.{SeatState}
 
 -- a step that is allowed has room for what it counts
 has_room : (sh : Shape) (w : Words) (seats : List SeatState) (s : SeatState) (step : Step) → IsShape sh → s.made ≤ 2000000 → AllTrue (parts sh w seats s step) → HasRoom s step
-has_room sh w seats s (Push p c) k m ok = let a : length_in_hand s.held p < sh.entries = ltb-true (length_in_hand s.held p) sh.entries (and_parts _ _ ok.1.0).1 in omega (arith, a, k.entries)
-has_room sh w seats s (ReadField c i) k m ok = let a : i < sh.fields = ltb-true i sh.fields (and_parts _ _ (and_parts _ _ ok.0).0).1 in omega (arith, a, k.fields)
+has_room sh w seats s (Push p c) k m ok = let a : length_in_hand s.held p < sh.entries = ltb-true (length_in_hand s.held p) sh.entries (and_parts (has_length s.held p) (nat_lt (length_in_hand s.held p) sh.entries) ok.1.0).1 in omega (arith, a, k.entries)
+has_room sh w seats s (ReadField c i) k m ok = let a : i < sh.fields = ltb-true i sh.fields (and_parts (nat_lt c sh.cells) (nat_lt i sh.fields) (and_parts (nat_lt c sh.cells && nat_lt i sh.fields) (may_read_field sh s c i) ok.0).0).1 in omega (arith, a, k.fields)
 has_room sh w seats s (StoreRoot v r) k m ok = ltb-true v 32 (and_parts _ _ ok.0).0
-has_room sh w seats s (StoreNew c part word) k m ok = let a : part ≤ sh.fields + 1 = leb-true part (sh.fields + 1) (and_parts _ _ (and_parts _ _ ok.0).0).1 in (omega (arith, a, k.fields), omega (arith, m))
+has_room sh w seats s (StoreNew c part word) k m ok = let a : part ≤ sh.fields + 1 = leb-true part (sh.fields + 1) (and_parts (nat_lt c sh.cells) (nat_le part (sh.fields + 1)) (and_parts (nat_lt c sh.cells && nat_le part (sh.fields + 1)) (may_mutate s) ok.0).0).1 in (omega (arith, a, k.fields), omega (arith, m))
 has_room sh w seats s step k m ok = tt
 
 -- a split that is allowed finds fewer than all seats

@@ -9,16 +9,14 @@ ghost use Rattle.mark_core.specs.Shapes.{IsShape};
 ghost use Rattle.mark_core.specs.declared.kinds.Shape.{Shape};
 ghost use Rattle.mark_core.specs.declared.seat.SeatState.{SeatState};
 
-use crate::bits;
 use crate::kinds::{Cell, Shape, Step};
-use crate::layout;
 use crate::making::cached_block;
 use crate::mutator::variable;
-use crate::packets;
 use crate::passes::{Pass, pass_of};
 use crate::seat::SeatState;
 use crate::slots::length_in_hand;
 use crate::sweep::own_block;
+use crate::{bits, layout, packets};
 
 // The address of the one word that the step of this seat reads or writes.
 pub fn address(shape: &Shape, s: &SeatState, step: &Step) -> usize
@@ -67,10 +65,8 @@ fn of_colour(shape: &Shape, s: &SeatState, step: &Step) -> usize
         Step::ReadField { c, i } => layout::field_at(shape, c.number(), i),
         Step::ReadRoot { section, v } => layout::root_at(shape, section, v),
         Step::SetMark { c } => layout::mark_at(shape, c.number() / 64),
-        Step::DirtyCard { card } | Step::ClearCard { card } | Step::ReadCard { card } => layout::card_at(
-            shape,
-            card,
-        ),
+        Step::DirtyCard { card } | Step::ClearCard { card } | Step::ReadCard { card } =>
+            layout::card_at(shape, card),
         Step::ReadMarks { b } => layout::mark_at(shape, b),
         Step::ReadPhase => layout::PHASE,
         _ => unreachable!(),
@@ -163,7 +159,11 @@ fn of_counters(shape: &Shape, s: &SeatState, step: &Step) -> usize
         Step::StorePosition { done: _ } => layout::position_at(shape, s.section.unwrap_or(0)),
         Step::StoreNamed => layout::NAMED,
         Step::Reset { which }
-        | Step::AddStat { which, by: _, down: _ }
+        | Step::AddStat {
+            which,
+            by: _,
+            down: _,
+        }
         | Step::ReadStat { which } => layout::counter_at(shape, which),
         _ => unreachable!(),
     }

@@ -59,11 +59,7 @@ pub fn cell_of(word: u64) -> Cell
 pub fn cell_named(word: u64) -> Option<Cell>
     ensures { result ≡ cell_named_of word }
 {
-    if word == 0 {
-        None
-    } else {
-        Some(cell_of(word))
-    }
+    if word == 0 { None } else { Some(cell_of(word)) }
 }
 
 pub fn reference_in(word: u64) -> u32

@@ -23,7 +23,11 @@ pub fn cleaning_after(cleaning: Option<Cleaning>, b: u32, word: u64) -> Option<C
 {
     match cleaning {
         None => None,
-        Some(x) => if x.known && x.card / 4 == b { Some(seen_in(x, word)) } else { Some(x) },
+        Some(x) => if x.known && x.card / 4 == b {
+            Some(seen_in(x, word))
+        } else {
+            Some(x)
+        },
     }
 }
 
@@ -34,13 +38,11 @@ pub fn without_cell(cleaning: Option<Cleaning>, c: Cell) -> Option<Cleaning>
     match cleaning {
         None => None,
         Some(x) => if x.card / 4 == c.number() / 64 {
-            Some(
-                Cleaning {
-                    left: bits::without_bit(x.left, c.number() % 64),
-                    published: bits::without_bit(x.published, c.number() % 64),
-                    ..x
-                },
-            )
+            Some(Cleaning {
+                left: bits::without_bit(x.left, c.number() % 64),
+                published: bits::without_bit(x.published, c.number() % 64),
+                ..x
+            })
         } else {
             Some(x)
         },
@@ -53,7 +55,10 @@ pub fn redirty_off(cleaning: Option<Cleaning>, card: u32) -> Option<Cleaning>
     match cleaning {
         None => None,
         Some(x) => if x.card == card {
-            Some(Cleaning { redirty: false, ..x })
+            Some(Cleaning {
+                redirty: false,
+                ..x
+            })
         } else {
             Some(x)
         },
@@ -67,14 +72,12 @@ pub fn known_in(cleaning: Option<Cleaning>, b: u32, word: u64) -> Option<Cleanin
     match cleaning {
         None => None,
         Some(x) => if !x.known && x.card / 4 == b {
-            Some(
-                Cleaning {
-                    known: true,
-                    left: word & bits::card_bits(x.card),
-                    published: 0,
-                    ..x
-                },
-            )
+            Some(Cleaning {
+                known: true,
+                left: word & bits::card_bits(x.card),
+                published: 0,
+                ..x
+            })
         } else {
             Some(x)
         },

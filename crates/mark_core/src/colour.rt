@@ -5,15 +5,12 @@ ghost use Rattle.mark_core.specs.ColourSteps.{without_cell, redirty_off, popped_
 ghost use Rattle.mark_core.specs.Seats.{is_the as is_the_number};
 ghost use Rattle.mark_core.specs.Steps.{first_false as first_false_of};
 
-use crate::bits;
-use crate::cleaning;
-use crate::hand;
 use crate::kinds::{Cell, Shape};
 use crate::layout::{block_count, card_count};
 use crate::parts::first_false;
 use crate::seat::{BlockState, Cleaning, SeatState};
-use crate::slots;
 use crate::standing::{is_the, may_trace, phase_of, takes_part};
+use crate::{bits, cleaning, hand, slots};
 
 // A popped cell of block b, once the block's allocation bits were read: it stays only where its bit is clear.
 fn popped_after(popped: Option<(Cell, bool)>, b: u32, word: u64) -> Option<(Cell, bool)>
@@ -58,7 +55,10 @@ fn with_alloc_word(block: Option<BlockState>, b: u32, word: u64) -> Option<Block
     match block {
         None => None,
         Some(x) => if x.block == b {
-            Some(BlockState { alloc_word: Some(word), ..x })
+            Some(BlockState {
+                alloc_word: Some(word),
+                ..x
+            })
         } else {
             Some(x)
         },
@@ -85,17 +85,13 @@ pub fn read_alloc(s: &mut SeatState, b: u32, old: u64) -> u64
 pub fn check_read_field(shape: &Shape, s: &SeatState, c: Cell, i: u8) -> Option<u8>
     ensures { result ≡ first_false_of 1 (read_field_parts shape.now s.now c i) }
 {
-    let begins = i == 0
-        && hand::may_scan(s.cleaning, c)
-        && !hand::scan_left(shape.fields, s.scan);
-    first_false(
-        &[
-            c.number() < shape.cells
-                && u32::from(i) < shape.fields
-                && (hand::scans(s.scan, c, i) || begins),
-            !(s.popped.is_some() || s.value.is_some() || s.fresh.is_some()),
-        ],
-    )
+    let begins = i == 0 && hand::may_scan(s.cleaning, c) && !hand::scan_left(shape.fields, s.scan);
+    first_false(&[
+        c.number() < shape.cells
+            && u32::from(i) < shape.fields
+            && (hand::scans(s.scan, c, i) || begins),
+        !(s.popped.is_some() || s.value.is_some() || s.fresh.is_some()),
+    ])
 }
 
 pub fn read_field(s: &mut SeatState, c: Cell, i: u8, old: u64) -> u64
@@ -112,15 +108,10 @@ pub fn read_field(s: &mut SeatState, c: Cell, i: u8, old: u64) -> u64
 pub fn check_read_root(shape: &Shape, phase: u64, s: &SeatState, section: u32, v: u8) -> Option<u8>
     ensures { result ≡ first_false_of 1 (read_root_parts shape.now phase s.now section v) }
 {
-    first_false(
-        &[
-            section < shape.sections
-                && v < 32
-                && may_trace(phase, s)
-                && slots::holds_any(s.held),
-            !hand::work_in_hand(shape.fields, s),
-        ],
-    )
+    first_false(&[
+        section < shape.sections && v < 32 && may_trace(phase, s) && slots::holds_any(s.held),
+        !hand::work_in_hand(shape.fields, s),
+    ])
 }
 
 pub fn read_root(s: &mut SeatState, old: u64) -> u64
@@ -134,12 +125,10 @@ pub fn read_root(s: &mut SeatState, old: u64) -> u64
 pub fn check_set_mark(shape: &Shape, phase: u64, s: &SeatState, c: Cell) -> Option<u8>
     ensures { result ≡ first_false_of 1 (set_mark_parts shape.now phase s.now c) }
 {
-    first_false(
-        &[
-            c.number() < shape.cells && hand::is_the_cell(s.value, c),
-            may_trace(phase, s),
-        ],
-    )
+    first_false(&[
+        c.number() < shape.cells && hand::is_the_cell(s.value, c),
+        may_trace(phase, s),
+    ])
 }
 
 pub fn set_mark(s: &mut SeatState, c: Cell, old: u64) -> u64
@@ -158,7 +147,11 @@ fn fresh_off(fresh: Option<Cell>, card: u32) -> Option<Cell>
 {
     match fresh {
         None => None,
-        Some(c) => if c.number() / 16 == card { None } else { Some(c) },
+        Some(c) => if c.number() / 16 == card {
+            None
+        } else {
+            Some(c)
+        },
     }
 }
 
@@ -167,7 +160,11 @@ fn popped_off(popped: Option<(Cell, bool)>, card: u32) -> Option<(Cell, bool)>
 {
     match popped {
         None => None,
-        Some(x) => if x.1 && x.0.number() / 16 == card { None } else { Some(x) },
+        Some(x) => if x.1 && x.0.number() / 16 == card {
+            None
+        } else {
+            Some(x)
+        },
     }
 }
 
@@ -194,12 +191,10 @@ pub fn dirty_card(s: &mut SeatState, card: u32) -> u64
 pub fn check_clear_card(shape: &Shape, phase: u64, s: &SeatState, card: u32) -> Option<u8>
     ensures { result ≡ first_false_of 1 (clear_card_parts shape.now phase s.now card) }
 {
-    first_false(
-        &[
-            card < card_count(shape) && may_trace(phase, s) && slots::holds_any(s.held),
-            !hand::work_in_hand(shape.fields, s),
-        ],
-    )
+    first_false(&[
+        card < card_count(shape) && may_trace(phase, s) && slots::holds_any(s.held),
+        !hand::work_in_hand(shape.fields, s),
+    ])
 }
 
 pub fn clear_card(s: &mut SeatState, card: u32, old: u64) -> u64
@@ -207,15 +202,13 @@ pub fn clear_card(s: &mut SeatState, card: u32, old: u64) -> u64
     ensures seat { s.new ≡ (clear_card_effect s.old card).seat old }
 {
     if old == 1 {
-        s.cleaning = Some(
-            Cleaning {
-                card,
-                known: false,
-                left: 0,
-                published: 0,
-                redirty: false,
-            },
-        );
+        s.cleaning = Some(Cleaning {
+            card,
+            known: false,
+            left: 0,
+            published: 0,
+            redirty: false,
+        });
     }
     0
 }

@@ -7,20 +7,11 @@ ghost use Rattle.mark_core.specs.Shapes.{IsShape};
 ghost use Rattle.mark_core.specs.Steps.{first_false as first_false_of};
 ghost use Rattle.mark_core.specs.declared.seat.SeatState.{SeatState};
 
-use crate::colour;
-use crate::help;
 use crate::kinds::{Shape, Step};
-use crate::layout;
-use crate::making;
-use crate::mutator;
-use crate::packets;
 use crate::passes::{Pass, pass_of};
-use crate::phase;
-use crate::season;
 use crate::seat::SeatState;
-use crate::sweep;
 use crate::words::{identity_of, read, season_of};
-use crate::world;
+use crate::{colour, help, layout, making, mutator, packets, phase, season, sweep, world};
 
 // The least part of the step's condition that fails; `s` is the record of the seat that takes it.
 pub fn failing_part(
@@ -125,7 +116,13 @@ fn of_making(shape: &Shape, phase: u64, s: &SeatState, step: &Step) -> Option<u8
     }
 }
 
-fn of_world(shape: &Shape, words: &[u64], seats: &[SeatState], s: &SeatState, step: &Step) -> Option<u8>
+fn of_world(
+    shape: &Shape,
+    words: &[u64],
+    seats: &[SeatState],
+    s: &SeatState,
+    step: &Step,
+) -> Option<u8>
     requires pass { pass_of_step step.now ≡ Pass.World }
     requires shaped { IsShape shape.now }
     requires whole { length words.now ≡ total_words_of (region_sizes shape.now) }

@@ -5,18 +5,10 @@ ghost use Rattle.mark_core.specs.Passes.{pass_of as pass_of_step};
 ghost use Rattle.mark_core.specs.Room.{HasRoom};
 ghost use Rattle.mark_core.specs.declared.kinds.Shape.{Shape};
 
-use crate::colour;
-use crate::help;
 use crate::kinds::{Shape, Step};
-use crate::making;
-use crate::mutator;
-use crate::packets;
 use crate::passes::{Pass, pass_of};
-use crate::phase;
-use crate::season;
 use crate::seat::SeatState;
-use crate::sweep;
-use crate::world;
+use crate::{colour, help, making, mutator, packets, phase, season, sweep, world};
 
 // Changes the seat's record, and answers what its word becomes, where the word was `old`.
 pub fn act(shape: &Shape, s: &mut SeatState, step: &Step, old: u64) -> u64

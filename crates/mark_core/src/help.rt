@@ -3,22 +3,19 @@ ghost use Rattle.std.specs.Prelude.{◌≡◌};
 ghost use Rattle.mark_core.specs.HelpSteps.{open_parts, open_effect, join_help_parts, join_help_effect, leave_help_parts, leave_help_effect, close_parts, close_effect, see_help_effect};
 ghost use Rattle.mark_core.specs.Steps.{first_false as first_false_of};
 
-use crate::bits;
-use crate::hand;
 use crate::kinds::{Phase, Shape};
 use crate::parts::first_false;
 use crate::seat::SeatState;
 use crate::standing::{is_bare, is_phase};
+use crate::{bits, hand};
 
 pub fn check_open(phase: u64, s: &SeatState) -> Option<u8>
     ensures { result ≡ first_false_of 1 (open_parts phase s.now) }
 {
-    first_false(
-        &[
-            s.knows && !s.opened,
-            is_phase(phase, Phase::Drain) || is_phase(phase, Phase::Sweep),
-        ],
-    )
+    first_false(&[
+        s.knows && !s.opened,
+        is_phase(phase, Phase::Drain) || is_phase(phase, Phase::Sweep),
+    ])
 }
 
 pub fn open_help(s: &mut SeatState, old: u64) -> u64
@@ -48,13 +45,11 @@ pub fn join_help(s: &mut SeatState, old: u64) -> u64
 pub fn check_leave_help(shape: &Shape, s: &SeatState) -> Option<u8>
     ensures { result ≡ first_false_of 1 (leave_help_parts shape.now s.now) }
 {
-    first_false(
-        &[
-            s.helping,
-            hand::empty_handed(s),
-            !hand::work_in_hand(shape.fields, s) && s.block.is_none(),
-        ],
-    )
+    first_false(&[
+        s.helping,
+        hand::empty_handed(s),
+        !hand::work_in_hand(shape.fields, s) && s.block.is_none(),
+    ])
 }
 
 pub fn leave_help(s: &mut SeatState, old: u64) -> u64

@@ -3,24 +3,21 @@ ghost use Rattle.std.specs.Prelude.{◌≡◌, ◌<◌, ◌+◌, ◌*◌, nat_le
 ghost use Rattle.mark_core.specs.MutatorSteps.{claim_block_parts, claim_block_effect, cached_block as cached_block_of, release_block_parts, with_free as with_free_of, read_free_parts, read_free_effect, is_next_part as is_next_part_of, fits_part as fits_part_of, with_making as with_making_of, with_made as with_made_of, store_new_parts, used_bits as used_bits_of, without_used as without_used_of, publish_cells_parts, publish_cells_effect};
 ghost use Rattle.mark_core.specs.Steps.{first_false as first_false_of};
 
-use crate::bits;
-use crate::hand;
 use crate::kinds::{Cell, Phase, Shape};
 use crate::layout::block_count;
 use crate::parts::first_false;
 use crate::seat::{CacheState, SeatState};
 use crate::standing::{is_phase, may_mutate};
+use crate::{bits, hand};
 
 pub fn check_claim_block(shape: &Shape, phase: u64, s: &SeatState, b: u32) -> Option<u8>
     ensures { result ≡ first_false_of 1 (claim_block_parts shape.now phase s.now b) }
 {
-    first_false(
-        &[
-            b < block_count(shape) && s.cache.is_none(),
-            (s.active || s.knows) && s.section.is_some(),
-            !s.knows || is_phase(phase, Phase::Idle),
-        ],
-    )
+    first_false(&[
+        b < block_count(shape) && s.cache.is_none(),
+        (s.active || s.knows) && s.section.is_some(),
+        !s.knows || is_phase(phase, Phase::Idle),
+    ])
 }
 
 pub fn claim_block(s: &mut SeatState, b: u32, old: u64) -> u64
@@ -28,16 +25,14 @@ pub fn claim_block(s: &mut SeatState, b: u32, old: u64) -> u64
     ensures seat { s.new ≡ (claim_block_effect s.old b).seat old }
 {
     if old == 0 {
-        s.cache = Some(
-            CacheState {
-                block: b,
-                unread: true,
-                free: 0,
-                used: 0,
-                making: None,
-                last: None,
-            },
-        );
+        s.cache = Some(CacheState {
+            block: b,
+            unread: true,
+            free: 0,
+            used: 0,
+            making: None,
+            last: None,
+        });
         u64::from(s.number) + 1
     } else {
         old
@@ -57,12 +52,10 @@ pub fn cached_block(s: &SeatState) -> u32
 pub fn check_release_block(s: &SeatState) -> Option<u8>
     ensures { result ≡ first_false_of 1 (release_block_parts s.now) }
 {
-    first_false(
-        &[
-            s.cache.is_some(),
-            !hand::has_used(s.cache) && !hand::has_making(s.cache),
-        ],
-    )
+    first_false(&[
+        s.cache.is_some(),
+        !hand::has_used(s.cache) && !hand::has_making(s.cache),
+    ])
 }
 
 pub fn release_block(s: &mut SeatState) -> u64
@@ -79,7 +72,11 @@ fn with_free(cache: Option<CacheState>, word: u64) -> Option<CacheState>
 {
     match cache {
         None => None,
-        Some(x) => Some(CacheState { unread: false, free: !word, ..x }),
+        Some(x) => Some(CacheState {
+            unread: false,
+            free: !word,
+            ..x
+        }),
     }
 }
 
@@ -135,7 +132,10 @@ fn with_making(cache: Option<CacheState>, c: Cell, part: u8) -> Option<CacheStat
 {
     match cache {
         None => None,
-        Some(x) => Some(CacheState { making: Some((c, part)), ..x }),
+        Some(x) => Some(CacheState {
+            making: Some((c, part)),
+            ..x
+        }),
     }
 }
 
@@ -145,35 +145,25 @@ fn with_made(cache: Option<CacheState>, c: Cell) -> Option<CacheState>
 {
     match cache {
         None => None,
-        Some(x) => Some(
-            CacheState {
-                free: bits::without_bit(x.free, c.number() % 64),
-                used: bits::with_bit(x.used, c.number() % 64),
-                making: None,
-                last: Some(c),
-                ..x
-            },
-        ),
+        Some(x) => Some(CacheState {
+            free: bits::without_bit(x.free, c.number() % 64),
+            used: bits::with_bit(x.used, c.number() % 64),
+            making: None,
+            last: Some(c),
+            ..x
+        }),
     }
 }
 
-pub fn check_store_new(
-    shape: &Shape,
-    s: &SeatState,
-    c: Cell,
-    part: u8,
-    word: u64,
-) -> Option<u8>
+pub fn check_store_new(shape: &Shape, s: &SeatState, c: Cell, part: u8, word: u64) -> Option<u8>
     requires { shape.now.fields < 256 }
     ensures { result ≡ first_false_of 1 (store_new_parts shape.now s.now c part word) }
 {
-    first_false(
-        &[
-            c.number() < shape.cells && u32::from(part) <= shape.fields + 1 && may_mutate(s),
-            is_next_part(s, c, part),
-            fits_part(shape, s, part, word),
-        ],
-    )
+    first_false(&[
+        c.number() < shape.cells && u32::from(part) <= shape.fields + 1 && may_mutate(s),
+        is_next_part(s, c, part),
+        fits_part(shape, s, part, word),
+    ])
 }
 
 pub fn store_new(shape: &Shape, s: &mut SeatState, c: Cell, part: u8, word: u64) -> u64
@@ -205,19 +195,21 @@ fn without_used(cache: Option<CacheState>) -> Option<CacheState>
 {
     match cache {
         None => None,
-        Some(x) => Some(CacheState { used: 0, last: None, ..x }),
+        Some(x) => Some(CacheState {
+            used: 0,
+            last: None,
+            ..x
+        }),
     }
 }
 
 pub fn check_publish_cells(s: &SeatState) -> Option<u8>
     ensures { result ≡ first_false_of 1 (publish_cells_parts s.now) }
 {
-    first_false(
-        &[
-            s.cache.is_some(),
-            s.owes.is_none() && !hand::has_making(s.cache),
-        ],
-    )
+    first_false(&[
+        s.cache.is_some(),
+        s.owes.is_none() && !hand::has_making(s.cache),
+    ])
 }
 
 pub fn publish_cells(s: &mut SeatState, old: u64) -> u64

@@ -7,12 +7,11 @@ ghost use Rattle.mark_core.specs.MutatorSteps.{knows_cell as knows_cell_of, vari
 ghost use Rattle.mark_core.specs.Seats.{used_in};
 ghost use Rattle.mark_core.specs.Steps.{first_false as first_false_of};
 
-use crate::bits;
-use crate::hand;
 use crate::kinds::{Cell, Shape};
 use crate::parts::first_false;
 use crate::seat::{CacheState, SeatState};
 use crate::standing::{is_the, may_mutate};
+use crate::{bits, hand};
 
 // A variable of the seat holds this reference.
 fn has_variable(s: &SeatState, reference: u64) -> bool
@@ -38,12 +37,10 @@ pub fn check_read_object(shape: &Shape, s: &SeatState, c: Cell) -> Option<u8>
 pub fn check_read_own(shape: &Shape, s: &SeatState, c: Cell, i: u8) -> Option<u8>
     ensures { result ≡ first_false_of 1 (read_own_parts shape.now s.now c i) }
 {
-    first_false(
-        &[
-            c.number() < shape.cells && u32::from(i) < shape.fields && may_mutate(s),
-            knows_cell(s, c),
-        ],
-    )
+    first_false(&[
+        c.number() < shape.cells && u32::from(i) < shape.fields && may_mutate(s),
+        knows_cell(s, c),
+    ])
 }
 
 // What a mutator reads of an object or of the catalogue goes into its register.
@@ -109,13 +106,11 @@ pub fn check_store_field(
 ) -> Option<u8>
     ensures { (ids : List ℕ) → slice_index ids (variable_of s.now v - 1) ≡ identity → result ≡ first_false_of 1 (store_field_parts shape.now ids s.now v i w) }
 {
-    first_false(
-        &[
-            v < 32 && u32::from(i) < shape.fields && in_variables(w) && may_mutate(s),
-            has_own(s, v, identity),
-            s.owes.is_none(),
-        ],
-    )
+    first_false(&[
+        v < 32 && u32::from(i) < shape.fields && in_variables(w) && may_mutate(s),
+        has_own(s, v, identity),
+        s.owes.is_none(),
+    ])
 }
 
 // Nobody else can know a cell that isn't published, so its card isn't owed.
@@ -133,13 +128,11 @@ pub fn store_field(s: &mut SeatState, v: u8, w: Option<u8>) -> u64
 pub fn check_store_value(identity: u64, s: &SeatState, v: u8) -> Option<u8>
     ensures { (ids : List ℕ) → slice_index ids (variable_of s.now v - 1) ≡ identity → result ≡ first_false_of 1 (store_value_parts ids s.now v) }
 {
-    first_false(
-        &[
-            v < 32 && may_mutate(s),
-            has_own(s, v, identity),
-            s.owes.is_none(),
-        ],
-    )
+    first_false(&[
+        v < 32 && may_mutate(s),
+        has_own(s, v, identity),
+        s.owes.is_none(),
+    ])
 }
 
 // The reference names the used cell made last.
@@ -159,22 +152,17 @@ fn names_last(cache: Option<CacheState>, r: u64) -> bool
 fn has_reference(s: &SeatState, r: u64) -> bool
     ensures { result ≡ has_reference_of s.now r }
 {
-    r == 0
-        || r == u64::from(s.got)
-        || has_variable(s, r)
-        || names_last(s.cache, r)
+    r == 0 || r == u64::from(s.got) || has_variable(s, r) || names_last(s.cache, r)
 }
 
 pub fn check_store_root(s: &SeatState, v: u8, r: u64) -> Option<u8>
     ensures { result ≡ first_false_of 1 (store_root_parts s.now v r) }
 {
-    first_false(
-        &[
-            v < 32 && may_mutate(s),
-            has_reference(s, r),
-            s.owes.is_none() && !hand::has_making(s.cache),
-        ],
-    )
+    first_false(&[
+        v < 32 && may_mutate(s),
+        has_reference(s, r),
+        s.owes.is_none() && !hand::has_making(s.cache),
+    ])
 }
 
 pub fn store_root(s: &mut SeatState, v: u8, r: u64) -> u64

@@ -6,14 +6,12 @@ ghost use Rattle.mark_core.specs.PacketSteps.{reserve_parts, reserve_effect, tak
 ghost use Rattle.mark_core.specs.Seats.{is_the};
 ghost use Rattle.mark_core.specs.Steps.{first_false as first_false_of};
 
-use crate::bits;
-use crate::hand;
 use crate::kinds::{Cell, Shape};
 use crate::layout::pool_words;
 use crate::parts::first_false;
 use crate::seat::SeatState;
-use crate::slots;
 use crate::standing::may_trace;
+use crate::{bits, hand, slots};
 
 pub fn check_reserve(phase: u64, s: &SeatState) -> Option<u8>
     ensures { result ≡ first_false_of 1 (reserve_parts phase s.now) }
@@ -32,14 +30,12 @@ pub fn reserve(s: &mut SeatState, old: u64) -> u64
 pub fn check_take(shape: &Shape, phase: u64, s: &SeatState, q: u8, p: u32) -> Option<u8>
     ensures { result ≡ first_false_of 1 (take_parts shape.now phase s.now q p) }
 {
-    first_false(
-        &[
-            q < 4 && p < shape.packets && may_trace(phase, s),
-            !slots::holds(s.held, p),
-            !(q == 0) || s.reserved,
-            slots::has_free_slot(s.held),
-        ],
-    )
+    first_false(&[
+        q < 4 && p < shape.packets && may_trace(phase, s),
+        !slots::holds(s.held, p),
+        !(q == 0) || s.reserved,
+        slots::has_free_slot(s.held),
+    ])
 }
 
 pub fn take(s: &mut SeatState, q: u8, p: u32, old: u64) -> u64
@@ -73,15 +69,13 @@ pub fn pool_for(shape: &Shape, length: u32, deferred: bool) -> usize
 pub fn check_give(shape: &Shape, s: &SeatState, p: u32, deferred: bool) -> Option<u8>
     ensures { result ≡ first_false_of 1 (give_parts shape.now s.now p deferred) }
 {
-    first_false(
-        &[
-            p < shape.packets && slots::holds(s.held, p),
-            slots::has_length(s.held, p) && (!deferred || slots::has_entry(s.held, p)),
-            !hand::work_in_hand(shape.fields, s) || slots::holds_another(s.held, p),
-            !s.credit && !s.reserved,
-            slots::is_stored(s.held, p),
-        ],
-    )
+    first_false(&[
+        p < shape.packets && slots::holds(s.held, p),
+        slots::has_length(s.held, p) && (!deferred || slots::has_entry(s.held, p)),
+        !hand::work_in_hand(shape.fields, s) || slots::holds_another(s.held, p),
+        !s.credit && !s.reserved,
+        slots::is_stored(s.held, p),
+    ])
 }
 
 pub fn give(s: &mut SeatState, p: u32, old: u64) -> u64
@@ -112,13 +106,11 @@ pub fn credit(s: &mut SeatState, old: u64) -> u64
 pub fn check_push(shape: &Shape, s: &SeatState, p: u32, c: Cell) -> Option<u8>
     ensures { result ≡ first_false_of 1 (push_parts shape.now s.now p c) }
 {
-    first_false(
-        &[
-            p < shape.packets && c.number() < shape.cells && slots::holds(s.held, p),
-            slots::has_length(s.held, p) && slots::length_in_hand(s.held, p) < shape.entries,
-            hand::is_the_cell(s.fresh, c) || hand::is_unpublished(s.popped, c),
-        ],
-    )
+    first_false(&[
+        p < shape.packets && c.number() < shape.cells && slots::holds(s.held, p),
+        slots::has_length(s.held, p) && slots::length_in_hand(s.held, p) < shape.entries,
+        hand::is_the_cell(s.fresh, c) || hand::is_unpublished(s.popped, c),
+    ])
 }
 
 pub fn push(s: &mut SeatState, p: u32, c: Cell) -> u64
@@ -139,14 +131,12 @@ pub fn push(s: &mut SeatState, p: u32, c: Cell) -> u64
 pub fn check_pop(shape: &Shape, phase: u64, s: &SeatState, p: u32) -> Option<u8>
     ensures { result ≡ first_false_of 1 (pop_parts shape.now phase s.now p) }
 {
-    first_false(
-        &[
-            p < shape.packets && slots::holds(s.held, p),
-            slots::has_entry(s.held, p),
-            !hand::work_in_hand(shape.fields, s),
-            may_trace(phase, s),
-        ],
-    )
+    first_false(&[
+        p < shape.packets && slots::holds(s.held, p),
+        slots::has_entry(s.held, p),
+        !hand::work_in_hand(shape.fields, s),
+        may_trace(phase, s),
+    ])
 }
 
 pub fn pop(s: &mut SeatState, p: u32, old: u64) -> u64
@@ -169,12 +159,10 @@ pub fn check_look(shape: &Shape, q: u8, g: u32) -> Option<u8>
 pub fn check_store_length(shape: &Shape, s: &SeatState, p: u32) -> Option<u8>
     ensures { result ≡ first_false_of 1 (store_length_parts shape.now s.now p) }
 {
-    first_false(
-        &[
-            p < shape.packets && slots::holds(s.held, p),
-            slots::has_length(s.held, p),
-        ],
-    )
+    first_false(&[
+        p < shape.packets && slots::holds(s.held, p),
+        slots::has_length(s.held, p),
+    ])
 }
 
 pub fn store_length(s: &mut SeatState, p: u32) -> u64
@@ -189,12 +177,10 @@ pub fn store_length(s: &mut SeatState, p: u32) -> u64
 pub fn check_read_length(shape: &Shape, s: &SeatState, p: u32) -> Option<u8>
     ensures { result ≡ first_false_of 1 (read_length_parts shape.now s.now p) }
 {
-    first_false(
-        &[
-            p < shape.packets && slots::holds(s.held, p),
-            !slots::has_length(s.held, p),
-        ],
-    )
+    first_false(&[
+        p < shape.packets && slots::holds(s.held, p),
+        !slots::has_length(s.held, p),
+    ])
 }
 
 pub fn read_length(s: &mut SeatState, p: u32, old: u64) -> u64

@@ -8,7 +8,11 @@ fn first_false_from(parts: &[bool], from: u8) -> Option<u8>
 {
     match parts {
         [] => None,
-        [first, rest @ ..] => if *first { first_false_from(rest, from + 1) } else { Some(from) },
+        [first, rest @ ..] => if *first {
+            first_false_from(rest, from + 1)
+        } else {
+            Some(from)
+        },
     }
 }
 

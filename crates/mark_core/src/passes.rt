@@ -51,7 +51,11 @@ pub fn pass_of(step: &Step) -> Pass
         Step::ClaimBlock { b: _ }
         | Step::ReleaseBlock
         | Step::ReadFree
-        | Step::StoreNew { c: _, part: _, word: _ }
+        | Step::StoreNew {
+            c: _,
+            part: _,
+            word: _,
+        }
         | Step::PublishCells => Pass::Making,
         Step::EnterStep
         | Step::LeaveStep
@@ -70,7 +74,11 @@ pub fn pass_of(step: &Step) -> Pass
         Step::StorePosition { done: _ }
         | Step::StoreNamed
         | Step::Reset { which: _ }
-        | Step::AddStat { which: _, by: _, down: _ }
+        | Step::AddStat {
+            which: _,
+            by: _,
+            down: _,
+        }
         | Step::ReadStat { which: _ } => Pass::Counters,
         Step::OpenStep
         | Step::JoinHelpStep
@@ -123,8 +131,7 @@ fn of_colour(step: &Step) -> u8
 {
     match *step {
         Step::ReadAlloc { b: _ } => 9,
-        Step::ReadField { c: _, i: _ }
-        | Step::ReadRoot { section: _, v: _ } => 10,
+        Step::ReadField { c: _, i: _ } | Step::ReadRoot { section: _, v: _ } => 10,
         Step::SetMark { c: _ } => 11,
         Step::DirtyCard { card: _ } => 12,
         Step::ClearCard { card: _ } => 13,
@@ -144,8 +151,7 @@ fn of_mutator(step: &Step) -> u8
         | Step::ReadValue { c: _ }
         | Step::ReadIdent { c: _ }
         | Step::ReadCat { v: _ } => 17,
-        Step::StoreField { v: _, i: _, w: _ }
-        | Step::StoreValue { v: _, n: _ } => 18,
+        Step::StoreField { v: _, i: _, w: _ } | Step::StoreValue { v: _, n: _ } => 18,
         Step::StoreRoot { v: _, r: _ } => 19,
         _ => unreachable!(),
     }
@@ -159,7 +165,11 @@ fn of_making(step: &Step) -> u8
         Step::ClaimBlock { b: _ } => 20,
         Step::ReleaseBlock => 21,
         Step::ReadFree => 22,
-        Step::StoreNew { c: _, part: _, word: _ } => 23,
+        Step::StoreNew {
+            c: _,
+            part: _,
+            word: _,
+        } => 23,
         Step::PublishCells => 24,
         _ => unreachable!(),
     }
@@ -187,8 +197,7 @@ fn of_sweep(step: &Step) -> u8
     ensures { result ≡ kind_of_step step.now }
 {
     match *step {
-        Step::NextBlock
-        | Step::NextOfCards => 33,
+        Step::NextBlock | Step::NextOfCards => 33,
         Step::ReadBlockMarks => 34,
         Step::StoreAlloc => 35,
         Step::ClearMarks => 36,
@@ -202,10 +211,12 @@ fn of_counters(step: &Step) -> u8
     ensures { result ≡ kind_of_step step.now }
 {
     match *step {
-        Step::StorePosition { done: _ }
-        | Step::StoreNamed
-        | Step::Reset { which: _ } => 38,
-        Step::AddStat { which: _, by: _, down: _ } => 39,
+        Step::StorePosition { done: _ } | Step::StoreNamed | Step::Reset { which: _ } => 38,
+        Step::AddStat {
+            which: _,
+            by: _,
+            down: _,
+        } => 39,
         Step::ReadStat { which: _ } => 40,
         _ => unreachable!(),
     }

@@ -7,14 +7,12 @@ ghost use Rattle.mark_core.specs.Shapes.{IsShape};
 ghost use Rattle.mark_core.specs.WorldSteps.{is_quiet as is_quiet_of, cards_clean as cards_clean_of, roots_marked as roots_marked_of, none_marked as none_marked_of, all_allocated as all_allocated_of, blocks_done as blocks_done_of, is_move as is_move_of, may_move as may_move_of, store_phase_parts, phase_after as phase_after_of, begins_exact as begins_exact_of, store_phase_effect};
 ghost use Rattle.mark_core.specs.Steps.{first_false as first_false_of};
 
-use crate::bits;
-use crate::hand;
 use crate::kinds::{Phase, Shape};
-use crate::layout;
 use crate::parts::first_false;
 use crate::seat::SeatState;
 use crate::standing::is_phase;
 use crate::words::read;
+use crate::{bits, hand, layout};
 
 fn all_are(words: &[u64], word: u64) -> bool
     ensures { result ≡ list_all (λ x. x == word) words.now }
@@ -82,7 +80,10 @@ fn may_sweep_now(shape: &Shape, words: &[u64], s: &SeatState) -> bool
     s.knows
         && is_quiet(shape, words, s)
         && all_are(layout::cards_of(shape, words), 0)
-        && roots_marked(layout::roots_of(shape, words), layout::marks_of(shape, words))
+        && roots_marked(
+            layout::roots_of(shape, words),
+            layout::marks_of(shape, words),
+        )
         && read(words, layout::NEXT_BLOCK) == 0
 }
 
@@ -102,9 +103,7 @@ fn may_move(shape: &Shape, words: &[u64], s: &SeatState, to: Phase) -> bool
         Phase::Clear => s.knows
             && is_quiet(shape, words, s)
             && read(words, layout::NEXT_BLOCK) == 0,
-        Phase::Full => s.knows
-            && all_are(layout::allocs_of(shape, words), u64::MAX)
-            && s.exact,
+        Phase::Full => s.knows && all_are(layout::allocs_of(shape, words), u64::MAX) && s.exact,
     }
 }
 
@@ -113,13 +112,11 @@ pub fn check_store_phase(shape: &Shape, words: &[u64], s: &SeatState, to: Phase)
     requires whole { length words.now ≡ total_words_of (region_sizes shape.now) }
     ensures { result ≡ first_false_of 1 (store_phase_parts shape.now (words_of shape.now words.now) s.now to) }
 {
-    first_false(
-        &[
-            is_move(read(words, layout::PHASE), to),
-            may_move(shape, words, s, to),
-            !s.knows || s.alone,
-        ],
-    )
+    first_false(&[
+        is_move(read(words, layout::PHASE), to),
+        may_move(shape, words, s, to),
+        !s.knows || s.alone,
+    ])
 }
 
 // The phase after a move; a try finds another phase and leaves it.

@@ -45,7 +45,11 @@ pub fn known_length(held: Slots, p: u32) -> Option<u32>
     ensures { result ≡ known_length_of held p }
 {
     let [a, b, c, d] = held;
-    length_or(a, p, length_or(b, p, length_or(c, p, length_or(d, p, None))))
+    length_or(
+        a,
+        p,
+        length_or(b, p, length_or(c, p, length_or(d, p, None))),
+    )
 }
 
 pub fn length_in_hand(held: Slots, p: u32) -> u32
@@ -121,7 +125,11 @@ fn with_length(p: u32, length: Option<u32>, stored: bool, slot: Slot) -> Slot
 {
     match slot {
         None => None,
-        Some(x) => if x.0 == p { Some((p, length, stored)) } else { Some(x) },
+        Some(x) => if x.0 == p {
+            Some((p, length, stored))
+        } else {
+            Some(x)
+        },
     }
 }
 

@@ -14,7 +14,11 @@ pub fn start_seat(shape: &Shape, number: u32) -> SeatState
 {
     SeatState {
         number,
-        section: if number < shape.sections { Some(number) } else { None },
+        section: if number < shape.sections {
+            Some(number)
+        } else {
+            None
+        },
         counted: false,
         active: false,
         raised: false,
@@ -50,7 +54,10 @@ pub fn start_seat(shape: &Shape, number: u32) -> SeatState
 pub fn spent_seat(shape: &Shape, number: u32) -> SeatState
     ensures { result ≡ spent_seat_of shape.now number }
 {
-    SeatState { spent: true, ..start_seat(shape, number) }
+    SeatState {
+        spent: true,
+        ..start_seat(shape, number)
+    }
 }
 
 fn new_seats(alloc: Global, shape: &Shape, count: u32) -> Result<Vec<SeatState>, AllocError>

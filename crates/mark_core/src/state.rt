@@ -6,14 +6,12 @@ ghost use Rattle.mark_core.specs.Shapes.{IsShape};
 ghost use Rattle.mark_core.specs.Steps.{Core, failing_part, after_event, start_core, run_of, first_refused};
 
 use crate::addresses::address;
-use crate::conditions;
-use crate::effects;
 use crate::kinds::{Event, NotAllowed, Rule, Shape};
 use crate::others::{change_others, put_seat};
-use crate::passes;
 use crate::seat::SeatState;
 use crate::start::{start_seats, start_words};
 use crate::words::{read, write};
+use crate::{conditions, effects, passes};
 use plain_heap::OutOfMemory;
 use std::alloc::Global;
 use std::marker::Model;
@@ -51,7 +49,11 @@ impl CoreState {
             Err(_) => return Err(OutOfMemory),
         };
         match start_seats(alloc, &shape, seats) {
-            Ok(seats) => Ok(CoreState { shape, words, seats }),
+            Ok(seats) => Ok(CoreState {
+                shape,
+                words,
+                seats,
+            }),
             Err(_) => Err(OutOfMemory),
         }
     }

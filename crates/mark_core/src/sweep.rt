@@ -4,7 +4,6 @@ ghost use Rattle.mark_core.specs.Bits.{wrapped_sum, wrapped_difference};
 ghost use Rattle.mark_core.specs.SweepSteps.{next_block_parts, next_block_effect, next_of_cards_parts, next_of_cards_effect, own_block as own_block_of, with_mark_word as with_mark_word_of, read_block_marks_parts, read_block_marks_effect, survivors as survivors_of, with_stored as with_stored_of, store_alloc_parts, clear_marks_parts, wipe_card_parts, store_position_parts, store_named_parts, reset_parts, add_stat_parts, read_stat_parts, read_stat_effect};
 ghost use Rattle.mark_core.specs.Steps.{first_false as first_false_of};
 
-
 use crate::hand;
 use crate::kinds::{Phase, Shape};
 use crate::layout::{block_count, card_count};
@@ -15,13 +14,11 @@ use crate::standing::{is_phase, may_clear, may_sweep, may_trace, takes_part};
 pub fn check_next_block(phase: u64, s: &SeatState) -> Option<u8>
     ensures { result ≡ first_false_of 1 (next_block_parts phase s.now) }
 {
-    first_false(
-        &[
-            may_sweep(phase, s) || may_clear(phase, s),
-            s.block.is_none(),
-            s.below_block,
-        ],
-    )
+    first_false(&[
+        may_sweep(phase, s) || may_clear(phase, s),
+        s.block.is_none(),
+        s.below_block,
+    ])
 }
 
 pub fn next_block(shape: &Shape, s: &mut SeatState, old: u64) -> u64
@@ -30,14 +27,12 @@ pub fn next_block(shape: &Shape, s: &mut SeatState, old: u64) -> u64
 {
     s.below_block = false;
     if old < u64::from(block_count(shape)) {
-        s.block = Some(
-            BlockState {
-                block: old as u32,
-                alloc_word: None,
-                mark_word: None,
-                stored: false,
-            },
-        );
+        s.block = Some(BlockState {
+            block: old as u32,
+            alloc_word: None,
+            mark_word: None,
+            stored: false,
+        });
     }
     old.wrapping_add(1)
 }
@@ -71,7 +66,10 @@ fn with_mark_word(block: Option<BlockState>, word: u64) -> Option<BlockState>
 {
     match block {
         None => None,
-        Some(x) => Some(BlockState { mark_word: Some(word), ..x }),
+        Some(x) => Some(BlockState {
+            mark_word: Some(word),
+            ..x
+        }),
     }
 }
 
@@ -166,12 +164,10 @@ pub fn check_reset(phase: u64, s: &SeatState, which: u8) -> Option<u8>
 pub fn check_add_stat(s: &SeatState, which: u8, by: u32, down: bool) -> Option<u8>
     ensures { result ≡ first_false_of 1 (add_stat_parts s.now which by down) }
 {
-    first_false(
-        &[
-            2 <= which && which <= 6 && takes_part(s),
-            !(which == 6) || !down && by == 1 && s.section.is_some(),
-        ],
-    )
+    first_false(&[
+        2 <= which && which <= 6 && takes_part(s),
+        !(which == 6) || !down && by == 1 && s.section.is_some(),
+    ])
 }
 
 pub fn add_stat(by: u32, down: bool, old: u64) -> u64

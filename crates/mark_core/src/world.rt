@@ -5,12 +5,11 @@ ghost use Rattle.mark_core.specs.WorldSteps.{enter_parts, enter_effect, leave_pa
 ghost use Rattle.mark_core.specs.WorldSteps.{is_stopped as is_stopped_word, is_plain_standing as is_plain_standing_of, has_nothing as has_nothing_of, is_new as is_new_of, may_be_joined as may_be_joined_of, other_has_nothing as other_has_nothing_of};
 ghost use Rattle.mark_core.specs.Steps.{first_false as first_false_of};
 
-use crate::bits;
-use crate::hand;
 use crate::kinds::{Phase, Shape};
 use crate::parts::first_false;
 use crate::seat::SeatState;
 use crate::standing::{is_bare, is_phase};
+use crate::{bits, hand};
 
 pub fn check_enter(s: &SeatState) -> Option<u8>
     ensures { result ≡ first_false_of 1 (enter_parts s.now) }
@@ -31,14 +30,12 @@ pub fn enter(s: &mut SeatState, old: u64) -> u64
 pub fn check_leave(shape: &Shape, s: &SeatState) -> Option<u8>
     ensures { result ≡ first_false_of 1 (leave_parts shape.now s.now) }
 {
-    first_false(
-        &[
-            s.counted,
-            hand::empty_handed(s),
-            !hand::work_in_hand(shape.fields, s),
-            s.owes.is_none() && s.cache.is_none() && s.got == 0,
-        ],
-    )
+    first_false(&[
+        s.counted,
+        hand::empty_handed(s),
+        !hand::work_in_hand(shape.fields, s),
+        s.owes.is_none() && s.cache.is_none() && s.got == 0,
+    ])
 }
 
 pub fn leave(s: &mut SeatState, old: u64) -> u64
@@ -86,14 +83,12 @@ pub fn observe(s: &mut SeatState, old: u64) -> u64
 pub fn check_drop(shape: &Shape, phase: u64, s: &SeatState) -> Option<u8>
     ensures { result ≡ first_false_of 1 (drop_parts shape.now phase s.now) }
 {
-    first_false(
-        &[
-            s.knows,
-            hand::empty_handed(s) && !hand::work_in_hand(shape.fields, s) && s.block.is_none(),
-            is_phase(phase, Phase::Idle) || is_phase(phase, Phase::Full),
-            s.alone,
-        ],
-    )
+    first_false(&[
+        s.knows,
+        hand::empty_handed(s) && !hand::work_in_hand(shape.fields, s) && s.block.is_none(),
+        is_phase(phase, Phase::Idle) || is_phase(phase, Phase::Full),
+        s.alone,
+    ])
 }
 
 pub fn drop_flag(s: &mut SeatState, old: u64) -> u64
@@ -186,10 +181,8 @@ fn other_has_nothing(shape: &Shape, seats: &[SeatState], other: u32) -> bool
 pub fn check_join(shape: &Shape, seats: &[SeatState], s: &SeatState, other: u32) -> Option<u8>
     ensures { result ≡ first_false_of 1 (join_parts shape.now seats.now s.now other) }
 {
-    first_false(
-        &[
-            !(other == s.number) && may_be_joined(seats, other) && is_bare(s),
-            has_nothing(shape, s) && other_has_nothing(shape, seats, other),
-        ],
-    )
+    first_false(&[
+        !(other == s.number) && may_be_joined(seats, other) && is_bare(s),
+        has_nothing(shape, s) && other_has_nothing(shape, seats, other),
+    ])
 }
