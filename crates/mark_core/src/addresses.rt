@@ -1,4 +1,4 @@
-// The address of the word that each step touches, pass by pass.
+//! The address of the word that each step touches, pass by pass.
 ghost use Rattle.std.specs.Prelude.{◌≡◌};
 ghost use Rattle.mark_core.specs.Bits.{cell_of};
 ghost use Rattle.mark_core.specs.Effects.{place};
@@ -18,7 +18,7 @@ use crate::slots::length_in_hand;
 use crate::sweep::own_block;
 use crate::{bits, layout, packets};
 
-// The address of the one word that the step of this seat reads or writes.
+/// The address of the one word that the step of this seat reads or writes.
 pub fn address(shape: &Shape, s: &SeatState, step: &Step) -> usize
     requires { IsShape shape.now }
     ensures { result ≡ address_of shape.now (place shape.now s.now step.now) }
@@ -73,7 +73,7 @@ fn of_colour(shape: &Shape, s: &SeatState, step: &Step) -> usize
     }
 }
 
-// The cell that variable v names.
+/// The cell that variable v names.
 fn own_cell(s: &SeatState, v: u8) -> u32
     ensures { result ≡ cell_of (variable_of s.now v) }
 {
@@ -97,7 +97,7 @@ fn of_mutator(shape: &Shape, s: &SeatState, step: &Step) -> usize
     }
 }
 
-// Where a word of a new cell goes.
+/// Where a word of a new cell goes.
 fn part_at(shape: &Shape, c: Cell, part: u8) -> usize
     requires { IsShape shape.now }
     ensures { result ≡ address_of shape.now (part_place shape.now c part) }

@@ -1,10 +1,10 @@
-// Words as sets of bits, as counts beside a flag, and as references to cells.
+//! Words as sets of bits, as counts beside a flag, and as references to cells.
 ghost use Rattle.std.specs.Prelude.{◌≡◌, ◌<◌};
 ghost use Rattle.mark_core.specs.Bits.{has_flag as has_flag_of, has_bit as has_bit_of, with_bit as with_bit_of, without_bit as without_bit_of, card_bits as card_bits_of, cell_of as cell_of_word, cell_named as cell_named_of, reference_in as reference_in_word};
 
 use crate::kinds::Cell;
 
-// The flag above a count of seats.
+/// The flag above a count of seats.
 pub const FLAG: u64 = 4_294_967_296;
 
 pub fn has_flag(word: u64) -> bool
@@ -34,7 +34,7 @@ pub fn without_bit(word: u64, i: u32) -> u64
     word & !(1 << i)
 }
 
-// The bits of the card's sixteen cells in the word of their block.
+/// The bits of the card's sixteen cells in the word of their block.
 pub fn card_bits(card: u32) -> u64
     ensures { result ≡ card_bits_of card }
 {
@@ -55,7 +55,7 @@ pub fn cell_of(word: u64) -> Cell
     Cell::make((word.saturating_sub(1) % FLAG) as u32)
 }
 
-// The cell that the word names, or nothing where it is nil.
+/// The cell that the word names, or nothing where it is nil.
 pub fn cell_named(word: u64) -> Option<Cell>
     ensures { result ≡ cell_named_of word }
 {

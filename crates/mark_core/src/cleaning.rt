@@ -1,4 +1,4 @@
-// A card that a seat cleared, and what becomes of its cells as the seat reads their bits.
+//! A card that a seat cleared, and what becomes of its cells as the seat reads their bits.
 ghost use Rattle.std.specs.Prelude.{◌≡◌};
 ghost use Rattle.mark_core.specs.ColourSteps.{seen_in as seen_in_of, cleaning_after as cleaning_after_of, without_cell as without_cell_of, redirty_off as redirty_off_of, known_in as known_in_of};
 
@@ -6,7 +6,7 @@ use crate::bits;
 use crate::kinds::Cell;
 use crate::seat::Cleaning;
 
-// The cells left whose bit is set may be scanned, and the others leave the list, so that their card must be dirty again.
+/// The cells left whose bit is set may be scanned, and the others leave the list, so that their card must be dirty again.
 fn seen_in(x: Cleaning, word: u64) -> Cleaning
     ensures { result ≡ seen_in_of x word }
 {
@@ -31,7 +31,7 @@ pub fn cleaning_after(cleaning: Option<Cleaning>, b: u32, word: u64) -> Option<C
     }
 }
 
-// The cell is no longer left.
+/// The cell is no longer left.
 pub fn without_cell(cleaning: Option<Cleaning>, c: Cell) -> Option<Cleaning>
     ensures { result ≡ without_cell_of cleaning c }
 {
@@ -65,7 +65,7 @@ pub fn redirty_off(cleaning: Option<Cleaning>, card: u32) -> Option<Cleaning>
     }
 }
 
-// The marked cells of the cleaned card are left to scan.
+/// The marked cells of the cleaned card are left to scan.
 pub fn known_in(cleaning: Option<Cleaning>, b: u32, word: u64) -> Option<Cleaning>
     ensures { result ≡ known_in_of cleaning b word }
 {

@@ -1,4 +1,4 @@
-// The steps of tracing. They turn white cells grey and grey cells black, and clean cards.
+//! The steps of tracing. They turn white cells grey and grey cells black, and clean cards.
 ghost use Rattle.std.specs.Prelude.{◌≡◌, ◌<◌, ◌+◌, if◌then◌else◌};
 ghost use Rattle.mark_core.specs.Bits.{cell_named};
 ghost use Rattle.mark_core.specs.ColourSteps.{without_cell, redirty_off, popped_after as popped_after_of, scan_after as scan_after_of, with_alloc_word as with_alloc_word_of, fresh_off as fresh_off_of, popped_off as popped_off_of, read_alloc_parts, read_alloc_effect, read_field_parts, read_root_parts, set_mark_parts, set_mark_effect, dirty_card_parts, clear_card_parts, clear_card_effect, read_marks_parts, read_marks_effect, read_card_parts, read_phase_effect};
@@ -12,7 +12,7 @@ use crate::seat::{BlockState, Cleaning, SeatState};
 use crate::standing::{is_the, may_trace, phase_of, takes_part};
 use crate::{bits, cleaning, hand, slots};
 
-// A popped cell of block b, once the block's allocation bits were read: it stays only where its bit is clear.
+/// A popped cell of block b, once the block's allocation bits were read: it stays only where its bit is clear.
 fn popped_after(popped: Option<(Cell, bool)>, b: u32, word: u64) -> Option<(Cell, bool)>
     ensures { result ≡ popped_after_of popped b word }
 {
@@ -30,7 +30,7 @@ fn popped_after(popped: Option<(Cell, bool)>, b: u32, word: u64) -> Option<(Cell
     }
 }
 
-// It is scanned from its first field on, where its bit is set.
+/// It is scanned from its first field on, where its bit is set.
 fn scan_after(
     popped: Option<(Cell, bool)>,
     scan: Option<(Cell, u8)>,
@@ -174,7 +174,7 @@ pub fn check_dirty_card(shape: &Shape, s: &SeatState, card: u32) -> Option<u8>
     first_false(&[card < card_count(shape) && takes_part(s)])
 }
 
-// The dirty card answers for all that the seat owes it.
+/// The dirty card answers for all that the seat owes it.
 pub fn dirty_card(s: &mut SeatState, card: u32) -> u64
     ensures word { result ≡ 1 }
     ensures seat { s.new ≡ record s.old { fresh = fresh_off_of s.old.fresh card; popped = popped_off_of s.old.popped card; owes = if is_the_number s.old.owes card then None else s.old.owes; cleaning = redirty_off s.old.cleaning card } }

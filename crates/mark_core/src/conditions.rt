@@ -1,4 +1,4 @@
-// The condition of each step, pass by pass.
+//! The condition of each step, pass by pass.
 ghost use Rattle.std.specs.Prelude.{◌≡◌, List, length};
 ghost use Rattle.mark_core.specs.Layout.{region_sizes, total_words as total_words_of, Words, words_of};
 ghost use Rattle.mark_core.specs.Parts.{parts};
@@ -13,7 +13,7 @@ use crate::seat::SeatState;
 use crate::words::{identity_of, read, season_of};
 use crate::{colour, help, layout, making, mutator, packets, phase, season, sweep, world};
 
-// The least part of the step's condition that fails; `s` is the record of the seat that takes it.
+/// The least part of the step's condition that fails; `s` is the record of the seat that takes it.
 pub fn failing_part(
     shape: &Shape,
     words: &[u64],

@@ -1,4 +1,4 @@
-// What a seat has in hand: cells on their way between white, grey and black, a card, a cache, a block.
+//! What a seat has in hand: cells on their way between white, grey and black, a card, a cache, a block.
 ghost use Rattle.std.specs.Prelude.{◌≡◌};
 ghost use Rattle.mark_core.specs.Seats.{is_the as is_the_cell_number, scan_left as scan_left_of, cleaning_left as cleaning_left_of, work_in_hand as work_in_hand_of, empty_handed as empty_handed_of, in_set as in_set_of, may_scan as may_scan_of, is_unpublished as is_unpublished_of, scans as scans_of, free_in as free_in_of, used_in as used_in_of, has_used as has_used_of, is_unread as is_unread_of, has_making as has_making_of, makes as makes_of, may_store as may_store_of, is_swept as is_swept_of};
 
@@ -33,7 +33,7 @@ fn cleaning_left(cleaning: Option<Cleaning>) -> bool
     }
 }
 
-// A grey cell, or something that may lead to one, stands in the seat's record alone.
+/// A grey cell, or something that may lead to one, stands in the seat's record alone.
 pub fn work_in_hand(fields: u32, s: &SeatState) -> bool
     ensures { result ≡ work_in_hand_of fields s.now }
 {
@@ -44,21 +44,21 @@ pub fn work_in_hand(fields: u32, s: &SeatState) -> bool
         || cleaning_left(s.cleaning)
 }
 
-// Neither a packet, nor a reservation, nor a credit.
+/// Neither a packet, nor a reservation, nor a credit.
 pub fn empty_handed(s: &SeatState) -> bool
     ensures { result ≡ empty_handed_of s.now }
 {
     !slots::holds_any(s.held) && !s.reserved && !s.credit
 }
 
-// Cell c of block b, in a set of the block's cells.
+/// Cell c of block b, in a set of the block's cells.
 fn in_set(b: u32, set: u64, c: Cell) -> bool
     ensures { result ≡ in_set_of b set c }
 {
     b == c.number() / 64 && bits::has_bit(set, c.number() % 64)
 }
 
-// A cell left in cleaning whose allocation bit was seen.
+/// A cell left in cleaning whose allocation bit was seen.
 pub fn may_scan(cleaning: Option<Cleaning>, c: Cell) -> bool
     ensures { result ≡ may_scan_of cleaning c }
 {
@@ -68,7 +68,7 @@ pub fn may_scan(cleaning: Option<Cleaning>, c: Cell) -> bool
     }
 }
 
-// The cell is popped, and was seen unpublished.
+/// The cell is popped, and was seen unpublished.
 pub fn is_unpublished(popped: Option<(Cell, bool)>, c: Cell) -> bool
     ensures { result ≡ is_unpublished_of popped c }
 {
@@ -78,7 +78,7 @@ pub fn is_unpublished(popped: Option<(Cell, bool)>, c: Cell) -> bool
     }
 }
 
-// The scan stands before field i of the cell.
+/// The scan stands before field i of the cell.
 pub fn scans(scan: Option<(Cell, u8)>, c: Cell, i: u8) -> bool
     ensures { result ≡ scans_of scan c i }
 {
@@ -97,7 +97,7 @@ pub fn free_in(cache: Option<CacheState>, c: Cell) -> bool
     }
 }
 
-// The cell is made and not yet published.
+/// The cell is made and not yet published.
 pub fn used_in(cache: Option<CacheState>, c: Cell) -> bool
     ensures { result ≡ used_in_of cache c }
 {
@@ -134,7 +134,7 @@ pub fn has_making(cache: Option<CacheState>) -> bool
     }
 }
 
-// The cell being made is c, and this part is its next.
+/// The cell being made is c, and this part is its next.
 pub fn makes(cache: Option<CacheState>, c: Cell, part: u8) -> bool
     ensures { result ≡ makes_of cache c part }
 {
@@ -144,7 +144,7 @@ pub fn makes(cache: Option<CacheState>, c: Cell, part: u8) -> bool
     }
 }
 
-// Both words of the block in hand were read, and none was stored.
+/// Both words of the block in hand were read, and none was stored.
 pub fn may_store(block: Option<BlockState>) -> bool
     ensures { result ≡ may_store_of block }
 {

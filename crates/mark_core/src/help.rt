@@ -1,4 +1,4 @@
-// The steps by which the seat that stopped the world admits helpers.
+//! The steps by which the seat that stopped the world admits helpers.
 ghost use Rattle.std.specs.Prelude.{◌≡◌};
 ghost use Rattle.mark_core.specs.HelpSteps.{open_parts, open_effect, join_help_parts, join_help_effect, leave_help_parts, leave_help_effect, close_parts, close_effect, see_help_effect};
 ghost use Rattle.mark_core.specs.Steps.{first_false as first_false_of};
@@ -76,7 +76,7 @@ pub fn close_help(s: &mut SeatState, old: u64) -> u64
     old.wrapping_sub(bits::FLAG)
 }
 
-// The seat that stopped the world learns that no helper is left.
+/// The seat that stopped the world learns that no helper is left.
 pub fn see_help(s: &mut SeatState, old: u64) -> u64
     ensures word { result ≡ (see_help_effect s.old).written old }
     ensures seat { s.new ≡ (see_help_effect s.old).seat old }

@@ -1,4 +1,4 @@
-// The address of each word in the list of all words.
+//! The address of each word in the list of all words.
 ghost use Rattle.std.specs.Prelude.{◌≡◌, ◌<◌, ◌+◌, ◌-◌, ◌≤◌, ◌^◌, length, take, drop};
 ghost use Rattle.mark_core.specs.Layout.{pool_words as pool_words_of, block_count as block_count_of, card_count as card_count_of, region_sizes, region_base, total_words as total_words_of, address, words_of};
 ghost use Rattle.mark_core.specs.Places.{position_at as position_place, root_at as root_place, owner_at as owner_place, alloc_at as alloc_place, mark_at as mark_place, card_at as card_place, head_at as head_place, entry_at as entry_place, identity_at as identity_place, value_at as value_place, field_at as field_place, pool_at as pool_place, counter_at as counter_place};
@@ -18,8 +18,6 @@ pub const NEXT_BLOCK: usize = 4;
 
 pub const NAMED: usize = 5;
 
-pub const FREE: usize = 9;
-
 pub fn block_count(shape: &Shape) -> u32
     ensures { result ≡ block_count_of shape.now }
 {
@@ -32,7 +30,7 @@ pub fn card_count(shape: &Shape) -> u32
     shape.cells / 16
 }
 
-// How many words hold one bit for each packet.
+/// How many words hold one bit for each packet.
 pub fn pool_words(shape: &Shape) -> usize
     ensures { result ≡ pool_words_of shape.now }
 {
@@ -207,7 +205,7 @@ pub fn pool_at(shape: &Shape, q: usize, g: u32) -> usize
     pools(shape) + (q * pool_words(shape) + g as usize)
 }
 
-// The counters and the statistics from 0 on, then the named section, and from 8 on the positions.
+/// The counters and the statistics from 0 on, then the named section, and from 8 on the positions.
 pub fn counter_at(shape: &Shape, which: u8) -> usize
     ensures { result ≡ address shape.now (counter_place which) }
 {
@@ -222,7 +220,7 @@ pub fn counter_at(shape: &Shape, which: u8) -> usize
     }
 }
 
-// The words of the roots.
+/// The words of the roots.
 pub fn roots_of<'a>(shape: &Shape, words: &'a [u64]) -> &'a [u64]
     requires shaped { IsShape shape.now }
     requires whole { length words.now ≡ total_words_of (region_sizes shape.now) }
@@ -231,7 +229,7 @@ pub fn roots_of<'a>(shape: &Shape, words: &'a [u64]) -> &'a [u64]
     &words[roots(shape)..owners(shape)]
 }
 
-// The words of the allocation bits.
+/// The words of the allocation bits.
 pub fn allocs_of<'a>(shape: &Shape, words: &'a [u64]) -> &'a [u64]
     requires shaped { IsShape shape.now }
     requires whole { length words.now ≡ total_words_of (region_sizes shape.now) }
@@ -240,7 +238,7 @@ pub fn allocs_of<'a>(shape: &Shape, words: &'a [u64]) -> &'a [u64]
     &words[allocs(shape)..marks(shape)]
 }
 
-// The words of the mark bits.
+/// The words of the mark bits.
 pub fn marks_of<'a>(shape: &Shape, words: &'a [u64]) -> &'a [u64]
     requires shaped { IsShape shape.now }
     requires whole { length words.now ≡ total_words_of (region_sizes shape.now) }
@@ -249,7 +247,7 @@ pub fn marks_of<'a>(shape: &Shape, words: &'a [u64]) -> &'a [u64]
     &words[marks(shape)..cards(shape)]
 }
 
-// The words of the cards.
+/// The words of the cards.
 pub fn cards_of<'a>(shape: &Shape, words: &'a [u64]) -> &'a [u64]
     requires shaped { IsShape shape.now }
     requires whole { length words.now ≡ total_words_of (region_sizes shape.now) }

@@ -1,4 +1,4 @@
-// The steps by which a seat makes cells: it takes a block, fills free cells of it, and publishes them.
+//! The steps by which a seat makes cells: it takes a block, fills free cells of it, and publishes them.
 ghost use Rattle.std.specs.Prelude.{◌≡◌, ◌<◌, ◌+◌, ◌*◌, nat_le, if◌then◌else◌};
 ghost use Rattle.mark_core.specs.MutatorSteps.{claim_block_parts, claim_block_effect, cached_block as cached_block_of, release_block_parts, with_free as with_free_of, read_free_parts, read_free_effect, is_next_part as is_next_part_of, fits_part as fits_part_of, with_making as with_making_of, with_made as with_made_of, store_new_parts, used_bits as used_bits_of, without_used as without_used_of, publish_cells_parts, publish_cells_effect};
 ghost use Rattle.mark_core.specs.Steps.{first_false as first_false_of};
@@ -39,7 +39,7 @@ pub fn claim_block(s: &mut SeatState, b: u32, old: u64) -> u64
     }
 }
 
-// The block of the cache, where there is one.
+/// The block of the cache, where there is one.
 pub fn cached_block(s: &SeatState) -> u32
     ensures { result ≡ cached_block_of s.now }
 {
@@ -66,7 +66,7 @@ pub fn release_block(s: &mut SeatState) -> u64
     0
 }
 
-// The free cells of the cache are those whose bit is clear.
+/// The free cells of the cache are those whose bit is clear.
 fn with_free(cache: Option<CacheState>, word: u64) -> Option<CacheState>
     ensures { result ≡ with_free_of cache word }
 {
@@ -94,7 +94,7 @@ pub fn read_free(s: &mut SeatState, old: u64) -> u64
     old
 }
 
-// The first word goes to a free cell, and each further one to the cell being made.
+/// The first word goes to a free cell, and each further one to the cell being made.
 fn is_next_part(s: &SeatState, c: Cell, part: u8) -> bool
     ensures { result ≡ is_next_part_of s.now c part }
 {
@@ -105,14 +105,14 @@ fn is_next_part(s: &SeatState, c: Cell, part: u8) -> bool
     }
 }
 
-// The section and the number of the seat's next cell, where the seat has a section.
+/// The section and the number of the seat's next cell, where the seat has a section.
 fn identity_of(section: u32, number: u32) -> u64
     ensures { result ≡ section * 4294967296 + number }
 {
     u64::from(section) * bits::FLAG + u64::from(number)
 }
 
-// Nil fields, then the value, then the identity.
+/// Nil fields, then the value, then the identity.
 fn fits_part(shape: &Shape, s: &SeatState, part: u8, word: u64) -> bool
     ensures { result ≡ fits_part_of shape.now s.now part word }
 {
@@ -139,7 +139,7 @@ fn with_making(cache: Option<CacheState>, c: Cell, part: u8) -> Option<CacheStat
     }
 }
 
-// The cell is made, and is used.
+/// The cell is made, and is used.
 fn with_made(cache: Option<CacheState>, c: Cell) -> Option<CacheState>
     ensures { result ≡ with_made_of cache c }
 {

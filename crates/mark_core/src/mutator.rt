@@ -1,4 +1,4 @@
-// The steps of a mutator. They read and change objects and roots, and make cells in a cached block.
+//! The steps of a mutator. They read and change objects and roots, and make cells in a cached block.
 ghost use Rattle.std.specs.Prelude.{◌≡◌, ◌<◌, ◌-◌, ◌/◌, ◌==◌, ℕ, List, if◌then◌else◌, slice_index, slice_set};
 ghost use Rattle.std.specs.List.{list_any};
 ghost use Rattle.mark_core.specs.Bits.{cell_of, reference_in};
@@ -13,14 +13,14 @@ use crate::seat::{CacheState, SeatState};
 use crate::standing::{is_the, may_mutate};
 use crate::{bits, hand};
 
-// A variable of the seat holds this reference.
+/// A variable of the seat holds this reference.
 fn has_variable(s: &SeatState, reference: u64) -> bool
     ensures { result ≡ list_any (λ x. x == reference) s.now.env }
 {
     s.env.iter().any(|x| u64::from(*x) == reference)
 }
 
-// The seat's variables or its register name the cell.
+/// The seat's variables or its register name the cell.
 fn knows_cell(s: &SeatState, c: Cell) -> bool
     ensures { result ≡ knows_cell_of s.now c }
 {
@@ -43,7 +43,7 @@ pub fn check_read_own(shape: &Shape, s: &SeatState, c: Cell, i: u8) -> Option<u8
     ])
 }
 
-// What a mutator reads of an object or of the catalogue goes into its register.
+/// What a mutator reads of an object or of the catalogue goes into its register.
 pub fn read_reference(s: &mut SeatState, old: u64) -> u64
     ensures word { result ≡ old }
     ensures seat { s.new ≡ record s.old { got = reference_in old } }
@@ -64,14 +64,14 @@ pub fn variable(s: &SeatState, v: u8) -> u32
     s.env.get(v as usize).copied().unwrap_or(0)
 }
 
-// The cell that variable v names, if it isn't nil.
+/// The cell that variable v names, if it isn't nil.
 pub fn variable_cell(s: &SeatState, v: u8) -> u32
     ensures { result ≡ variable_of s.now v - 1 }
 {
     variable(s, v).saturating_sub(1)
 }
 
-// Variable v names an object of the seat's section; its cell has this identity.
+/// Variable v names an object of the seat's section; its cell has this identity.
 fn has_own(s: &SeatState, v: u8, identity: u64) -> bool
     ensures { (ids : List ℕ) → slice_index ids (variable_of s.now v - 1) ≡ identity → result ≡ has_own_of ids s.now v }
 {
@@ -113,7 +113,7 @@ pub fn check_store_field(
     ])
 }
 
-// Nobody else can know a cell that isn't published, so its card isn't owed.
+/// Nobody else can know a cell that isn't published, so its card isn't owed.
 pub fn store_field(s: &mut SeatState, v: u8, w: Option<u8>) -> u64
     ensures word { result ≡ variable_or_nil_of s.old w }
     ensures seat { let c = cell_of (variable_of s.old v) in s.new ≡ record s.old { owes = if used_in s.old.cache c then s.old.owes else Some (c / 16) } }
@@ -135,7 +135,7 @@ pub fn check_store_value(identity: u64, s: &SeatState, v: u8) -> Option<u8>
     ])
 }
 
-// The reference names the used cell made last.
+/// The reference names the used cell made last.
 fn names_last(cache: Option<CacheState>, r: u64) -> bool
     ensures { result ≡ names_last_of cache r }
 {
@@ -148,7 +148,7 @@ fn names_last(cache: Option<CacheState>, r: u64) -> bool
     }
 }
 
-// Nil, or a reference that the seat has.
+/// Nil, or a reference that the seat has.
 fn has_reference(s: &SeatState, r: u64) -> bool
     ensures { result ≡ has_reference_of s.now r }
 {

@@ -1,5 +1,6 @@
-// What a step does to the records of other seats.
-ghost use Rattle.std.specs.Prelude.{◌≡◌, ◌≤◌, ◌<◌, ◌++◌, ◌∷◌, [], length, slice_set, vec_len, vec_capacity};
+//! The records of seats, by their number, and what a step does to those of other seats.
+ghost use Rattle.std.specs.Prelude.{◌≡◌, ◌≤◌, ◌<◌, ◌++◌, ◌∷◌, [], length, slice_get, slice_set, vec_len, vec_capacity};
+ghost use Rattle.std.specs.Option.{option_copied};
 ghost use Rattle.mark_core.specs.Start.{start_seat as start_seat_of, spent_seat as spent_seat_of};
 ghost use Rattle.mark_core.specs.Steps.{others_after};
 
@@ -8,7 +9,14 @@ use crate::seat::SeatState;
 use crate::start::{spent_seat, start_seat};
 use std::slice;
 
-// There is room, so this takes no memory and can't fail.
+/// The record of the seat with this number, or nothing where there is no such seat.
+pub fn seat_at(seats: &[SeatState], i: u32) -> Option<&SeatState>
+    ensures { option_copied result ≡ slice_get seats.now i }
+{
+    seats.get(i as usize)
+}
+
+/// There is room, so this takes no memory and can't fail.
 fn push_seat(seats: &mut Vec<SeatState>, s: &SeatState)
     requires { vec_len seats.old < vec_capacity seats.old }
     ensures seats { seats.new.items ≡ seats.old.items ++ s.now ∷ [] }
@@ -17,7 +25,7 @@ fn push_seat(seats: &mut Vec<SeatState>, s: &SeatState)
     let _ = seats.extend_from_slice(slice::from_ref(s));
 }
 
-pub fn put_seat(seats: &mut Vec<SeatState>, i: usize, s: SeatState)
+fn put_seat(seats: &mut Vec<SeatState>, i: usize, s: SeatState)
     ensures seats { seats.new.items ≡ slice_set seats.old.items i s }
     ensures room { vec_capacity seats.new ≡ vec_capacity seats.old }
 {
@@ -45,7 +53,7 @@ fn end_seat(shape: &Shape, seats: &mut Vec<SeatState>, other: u32)
     put_seat(seats, other as usize, s);
 }
 
-// A split adds a seat, and a join ends the record of another.
+/// A split adds a seat, and a join ends the record of another.
 pub fn change_others(shape: &Shape, seats: &mut Vec<SeatState>, step: &Step)
     requires room { 41 ≤ vec_capacity seats.old }
     requires few { step.now ≡ Step.Split → vec_len seats.old < 41 }

@@ -1,4 +1,4 @@
-// The steps on packets. The pools are 0 empty, 1 low, 2 high, 3 deferred.
+//! The steps on packets. The pools are 0 empty, 1 low, 2 high, 3 deferred.
 ghost use Rattle.std.specs.Prelude.{◌≡◌, ◌<◌, ◌+◌, ◌-◌, ◌%◌, ◌==◌, ◌&&◌, not, if◌then◌else◌, true, false};
 ghost use Rattle.mark_core.specs.Bits.{has_bit, with_bit, without_bit, cell_of};
 ghost use Rattle.mark_core.specs.Held.{length_in_hand, has_entry, put_packet, drop_packet, set_length};
@@ -50,7 +50,7 @@ pub fn take(s: &mut SeatState, q: u8, p: u32, old: u64) -> u64
     bits::without_bit(old, p % 64)
 }
 
-// The pool to which a packet of this length goes back.
+/// The pool to which a packet of this length goes back.
 pub fn pool_for(shape: &Shape, length: u32, deferred: bool) -> usize
     ensures value { result ≡ pool_for_of shape.now length deferred }
     ensures few { result < 4 }

@@ -1,11 +1,11 @@
-// The passes into which the kinds of step fall.
+//! The passes into which the kinds of step fall.
 ghost use Rattle.std.specs.Prelude.{◌≡◌};
 ghost use Rattle.mark_core.specs.Passes.{pass_of as pass_of_step};
 ghost use Rattle.mark_core.specs.Kinds.{kind_of as kind_of_step};
 
 use crate::kinds::Step;
 
-// A pass over the kinds of step.
+/// A pass over the kinds of step.
 #[derive(Clone, Copy)]
 pub enum Pass {
     Packets,
@@ -90,7 +90,7 @@ pub fn pass_of(step: &Step) -> Pass
     }
 }
 
-// The number of the step's kind.
+/// The number of the step's kind.
 pub fn kind_of(step: &Step) -> u8
     ensures { result ≡ kind_of_step step.now }
 {

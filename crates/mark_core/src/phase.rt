@@ -1,4 +1,4 @@
-// The moves between the phases, and what each asks.
+//! The moves between the phases, and what each asks.
 ghost use Rattle.std.specs.Prelude.{◌≡◌, ◌==◌, length};
 ghost use Rattle.std.specs.List.{list_all};
 ghost use Rattle.mark_core.specs.Bits.{cell_bit as cell_bit_of, nil_or};
@@ -20,7 +20,7 @@ fn all_are(words: &[u64], word: u64) -> bool
     words.iter().all(|x| *x == word)
 }
 
-// The bit of the cell that isn't nil, in these mark bits.
+/// The bit of the cell that isn't nil, in these mark bits.
 fn is_marked(marks: &[u64], reference: u64) -> bool
     ensures { result ≡ nil_or (cell_bit_of marks.now) reference }
 {
@@ -37,7 +37,7 @@ fn roots_marked(roots: &[u64], marks: &[u64]) -> bool
     roots.iter().all(|x| is_marked(marks, *x))
 }
 
-// All packets are in the empty pool, and the seat has no work in hand.
+/// All packets are in the empty pool, and the seat has no work in hand.
 fn is_quiet(shape: &Shape, words: &[u64], s: &SeatState) -> bool
     ensures { result ≡ is_quiet_of shape.now (words_of shape.now words.now) s.now }
 {
@@ -45,7 +45,7 @@ fn is_quiet(shape: &Shape, words: &[u64], s: &SeatState) -> bool
         && !hand::work_in_hand(shape.fields, s)
 }
 
-// Every block was handed out, none is in hand, and no mark is left.
+/// Every block was handed out, none is in hand, and no mark is left.
 fn blocks_done(shape: &Shape, words: &[u64], s: &SeatState) -> bool
     requires shaped { IsShape shape.now }
     requires whole { length words.now ≡ total_words_of (region_sizes shape.now) }
@@ -56,7 +56,7 @@ fn blocks_done(shape: &Shape, words: &[u64], s: &SeatState) -> bool
         && all_are(layout::marks_of(shape, words), 0)
 }
 
-// The moves between the phases; the one to Marking is a try.
+/// The moves between the phases; the one to Marking is a try.
 fn is_move(from: u64, to: Phase) -> bool
     ensures { result ≡ is_move_of from to }
 {
@@ -87,7 +87,7 @@ fn may_sweep_now(shape: &Shape, words: &[u64], s: &SeatState) -> bool
         && read(words, layout::NEXT_BLOCK) == 0
 }
 
-// What each move asks.
+/// What each move asks.
 fn may_move(shape: &Shape, words: &[u64], s: &SeatState, to: Phase) -> bool
     requires shaped { IsShape shape.now }
     requires whole { length words.now ≡ total_words_of (region_sizes shape.now) }
@@ -119,7 +119,7 @@ pub fn check_store_phase(shape: &Shape, words: &[u64], s: &SeatState, to: Phase)
     ])
 }
 
-// The phase after a move; a try finds another phase and leaves it.
+/// The phase after a move; a try finds another phase and leaves it.
 fn phase_after(old: u64, to: Phase) -> u64
     ensures { result ≡ phase_after_of old to }
 {
@@ -133,7 +133,7 @@ fn phase_after(old: u64, to: Phase) -> u64
     }
 }
 
-// The drain begins with no cell marked.
+/// The drain begins with no cell marked.
 fn begins_exact(old: u64, to: Phase) -> bool
     ensures { result ≡ begins_exact_of old to }
 {

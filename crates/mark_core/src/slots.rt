@@ -1,8 +1,8 @@
-// The packets that a seat holds, in four slots.
+//! The packets that a seat holds, in four slots.
 ghost use Rattle.std.specs.Prelude.{◌≡◌};
 ghost use Rattle.mark_core.specs.Held.{slot_of, length_in_slot, stored_in_slot, holds as holds_packet, known_length as known_length_of, length_in_hand as length_in_hand_of, has_length as has_length_of, has_entry as has_entry_of, is_stored as is_stored_packet, holds_any as holds_any_packet, has_free_slot as has_a_free_slot, put_packet as put_of, slot_without, slot_with, drop_packet as dropped_from, set_length as set_length_of, holds_another as holds_another_packet};
 
-// Nothing, or a packet, its length if that is known, and whether its head holds this length.
+/// Nothing, or a packet, its length if that is known, and whether its head holds this length.
 pub type Slot = Option<(u32, Option<u32>, bool)>;
 
 pub type Slots = [Slot; 4];
@@ -89,7 +89,7 @@ pub fn has_free_slot(held: Slots) -> bool
     held[0].is_none() || held[1].is_none() || held[2].is_none() || held[3].is_none()
 }
 
-// The packet goes into the first free slot, with no length known.
+/// The packet goes into the first free slot, with no length known.
 pub fn put_packet(held: Slots, p: u32) -> Slots
     ensures { result ≡ put_of held p }
 {
@@ -133,7 +133,7 @@ fn with_length(p: u32, length: Option<u32>, stored: bool, slot: Slot) -> Slot
     }
 }
 
-// What is known of the packet becomes this length, which its head holds or not.
+/// What is known of the packet becomes this length, which its head holds or not.
 pub fn set_length(held: Slots, p: u32, length: u32, stored: bool) -> Slots
     ensures { result ≡ set_length_of held p length stored }
 {

@@ -1,4 +1,4 @@
-// What a seat may do, by how it stands to the world, to its help and to the phase.
+//! What a seat may do, by how it stands to the world, to its help and to the phase.
 ghost use Rattle.std.specs.Prelude.{◌≡◌};
 ghost use Rattle.mark_core.specs.Seats.{phase_number as phase_number_of, phase_of as phase_of_word, is_phase as is_phase_of, saw as saw_phase, is_the as is_the_number, may_trace as may_trace_in, may_sweep as may_sweep_in, may_clear as may_clear_in, takes_part as takes_part_of, is_bare as is_bare_seat, has_turn as has_turn_of, may_mutate as may_mutate_of};
 
@@ -55,7 +55,7 @@ pub fn is_the(held: Option<u32>, number: u32) -> bool
     }
 }
 
-// A tracer: it marks as a mutator, or alone in the stop, or as a helper.
+/// A tracer: it marks as a mutator, or alone in the stop, or as a helper.
 pub fn may_trace(phase: u64, s: &SeatState) -> bool
     ensures { result ≡ may_trace_in phase s.now }
 {
@@ -64,28 +64,28 @@ pub fn may_trace(phase: u64, s: &SeatState) -> bool
         || s.admitted && saw(s.phase_seen, Phase::Drain)
 }
 
-// A sweeper: the one that stopped the world, or a helper.
+/// A sweeper: the one that stopped the world, or a helper.
 pub fn may_sweep(phase: u64, s: &SeatState) -> bool
     ensures { result ≡ may_sweep_in phase s.now }
 {
     s.knows && is_phase(phase, Phase::Sweep) || s.admitted && saw(s.phase_seen, Phase::Sweep)
 }
 
-// The seat stopped the world to clear all marks.
+/// The seat stopped the world to clear all marks.
 pub fn may_clear(phase: u64, s: &SeatState) -> bool
     ensures { result ≡ may_clear_in phase s.now }
 {
     s.knows && is_phase(phase, Phase::Clear)
 }
 
-// The seat runs, or it stopped the world, or it helps.
+/// The seat runs, or it stopped the world, or it helps.
 pub fn takes_part(s: &SeatState) -> bool
     ensures { result ≡ takes_part_of s.now }
 {
     s.active || s.knows || s.admitted
 }
 
-// The seat is neither in the world's number, nor has it stopped the world, nor does it help.
+/// The seat is neither in the world's number, nor has it stopped the world, nor does it help.
 pub fn is_bare(s: &SeatState) -> bool
     ensures { result ≡ is_bare_seat s.now }
 {
@@ -101,7 +101,7 @@ fn has_turn(section: Option<u32>, season: Option<u64>) -> bool
     }
 }
 
-// An active seat in its section's turn.
+/// An active seat in its section's turn.
 pub fn may_mutate(s: &SeatState) -> bool
     ensures { result ≡ may_mutate_of s.now }
 {

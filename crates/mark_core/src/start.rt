@@ -1,4 +1,4 @@
-// The state in which nothing has happened yet.
+//! The state in which nothing has happened yet.
 ghost use Rattle.std.specs.Prelude.{◌≡◌, ◌<◌, ◌≤◌, IfOk, vec_capacity};
 ghost use Rattle.mark_core.specs.Shapes.{IsShape};
 ghost use Rattle.mark_core.specs.Start.{start_seat as start_seat_of, spent_seat as spent_seat_of, packet_bits as packet_bits_of, full_pool as full_pool_of, start_words as start_words_of, start_seats as start_seats_of};
@@ -8,7 +8,7 @@ use crate::layout;
 use crate::seat::SeatState;
 use std::alloc::{AllocError, Global};
 
-// A seat that has nothing but its number, and its section by its place.
+/// A seat that has nothing but its number, and its section by its place.
 pub fn start_seat(shape: &Shape, number: u32) -> SeatState
     ensures { result ≡ start_seat_of shape.now number }
 {
@@ -50,7 +50,7 @@ pub fn start_seat(shape: &Shape, number: u32) -> SeatState
     }
 }
 
-// The record of a seat that was joined into another.
+/// The record of a seat that was joined into another.
 pub fn spent_seat(shape: &Shape, number: u32) -> SeatState
     ensures { result ≡ spent_seat_of shape.now number }
 {
@@ -66,7 +66,7 @@ fn new_seats(alloc: Global, shape: &Shape, count: u32) -> Result<Vec<SeatState>,
     (0..count).map(|k| start_seat(shape, k)).collect(alloc)
 }
 
-// So many seats that have done nothing, with room for 41.
+/// So many seats that have done nothing, with room for 41.
 pub fn start_seats(alloc: Global, shape: &Shape, count: u32) -> Result<Vec<SeatState>, AllocError>
     ensures seats { IfOk result (λ v. v.items ≡ start_seats_of shape.now count) }
     ensures room { IfOk result (λ v. 41 ≤ vec_capacity v) }
@@ -76,7 +76,7 @@ pub fn start_seats(alloc: Global, shape: &Shape, count: u32) -> Result<Vec<SeatS
     Ok(seats)
 }
 
-// The bits of the first `count` packets in word `g` of a pool.
+/// The bits of the first `count` packets in word `g` of a pool.
 fn packet_bits(count: u32, g: u32) -> u64
     requires { g < 65536 }
     ensures { result ≡ packet_bits_of count g }
@@ -85,7 +85,7 @@ fn packet_bits(count: u32, g: u32) -> u64
     if left < 64 { (1 << left) - 1 } else { u64::MAX }
 }
 
-// The words of the empty pool, which holds all packets.
+/// The words of the empty pool, which holds all packets.
 fn full_pool(alloc: Global, shape: &Shape) -> Result<Vec<u64>, AllocError>
     requires { IsShape shape.now }
     ensures { IfOk result (λ v. v.items ≡ full_pool_of shape.now) }

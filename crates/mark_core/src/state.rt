@@ -7,16 +7,17 @@ ghost use Rattle.mark_core.specs.Steps.{Core, failing_part, after_event, start_c
 
 use crate::addresses::address;
 use crate::kinds::{Event, NotAllowed, Rule, Shape};
-use crate::others::{change_others, put_seat};
+use crate::others::{change_others, seat_at};
 use crate::seat::SeatState;
 use crate::start::{start_seats, start_words};
-use crate::words::{read, write};
+use crate::words::word_at;
 use crate::{conditions, effects, passes};
 use plain_heap::OutOfMemory;
 use std::alloc::Global;
 use std::marker::Model;
 
-/// A state: the sizes of the heap, its words, and a record for each seat.
+/// A state: the sizes of the heap, its words, and a record for each seat. Every state that can be reached came from
+/// [`CoreState::start`] by events that were allowed. It has room for 41 seats, so no call but `start` takes memory.
 #[derive(Drop)]
 pub struct CoreState {
     shape: Shape,
@@ -27,17 +28,19 @@ pub struct CoreState {
 impl Model for CoreState {
     ghost use Rattle.std.specs.Prelude.{◌≤◌, vec_capacity};
     ghost use Rattle.mark_core.specs.Steps.{Core};
-    ghost use Rattle.mark_core.specs.Whole.{IsWhole};
+    ghost use Rattle.mark_core.specs.Bounds.{IsBounded};
 
     ghost Value = { Core };
 
     ghost view = { λ a. record { shape = a.shape; words = a.words.items; seats = a.seats.items } };
 
-    ghost invariant = { λ a. IsWhole (record { shape = a.shape; words = a.words.items; seats = a.seats.items }) × (41 ≤ vec_capacity a.seats) };
+    ghost invariant = { λ a. IsBounded (record { shape = a.shape; words = a.words.items; seats = a.seats.items }) × (41 ≤ vec_capacity a.seats) };
 }
 
 impl CoreState {
-    /// The state in which `seats` seats have done nothing yet, with room for 41 seats.
+    /// The state in which `seats` seats, 1 to 41, have done nothing yet: every cell is free and white, every packet
+    /// is in the empty pool, and the phase is Idle. Seat w has section w, and seats past the sections have none. The
+    /// shape must be within its limits. It is refused only where memory ran out.
     pub fn start(alloc: Global, shape: Shape, seats: u32) -> Result<CoreState, OutOfMemory>
         requires shaped { IsShape shape }
         requires some { 1 ≤ seats }
@@ -78,7 +81,7 @@ impl CoreState {
         )
     }
 
-    // The one write of the event, and the changes of the seats' records.
+    /// The one write of the event, and the changes of the seats' records.
     fn act(&mut self, event: &Event)
         requires { failing_part self.old event.now ≡ None }
         ensures { self.new ≡ after_event self.old event.now }
@@ -86,10 +89,10 @@ impl CoreState {
         let i = event.seat as usize;
         let mut s = self.seats[i];
         let at = address(&self.shape, &s, &event.step);
-        let old = read(self.words.as_slice(), at);
+        let old = self.words[at];
         let word = effects::act(&self.shape, &mut s, &event.step, old);
-        write(&mut self.words, at, word);
-        put_seat(&mut self.seats, i, s);
+        self.words[at] = word;
+        self.seats[i] = s;
         change_others(&self.shape, &mut self.seats, &event.step);
     }
 
@@ -113,7 +116,9 @@ impl CoreState {
         }
     }
 
-    /// Takes one step, or refuses it and leaves the state.
+    /// Takes one step of one seat. An event is refused exactly where a part of its step's condition fails, with the
+    /// step's kind and the least such part, and the state then stays as it was; a seat that doesn't exist or was
+    /// joined into another fails part 0.
     pub fn apply(&mut self, event: Event) -> Result<(), NotAllowed>
         ensures allowed { OnOk result (failing_part self.old event ≡ None) }
         ensures after { self.new ≡ (if is_ok result then after_event self.old event else self.old) }
@@ -122,7 +127,8 @@ impl CoreState {
         self.apply_one(&event)
     }
 
-    /// Takes the steps in order, up to the first that is refused.
+    /// Takes the events in order, up to the first that is refused, and answers its index and what it broke. The state
+    /// is then that after the events before it.
     pub fn run(&mut self, events: &[Event]) -> Result<(), (usize, Rule)>
         ensures state { self.new ≡ run_of events.now self.old }
         ensures all { OnOk result (first_refused 0 events.now self.old ≡ None) }
@@ -139,17 +145,17 @@ impl CoreState {
         Ok(())
     }
 
-    /// What the seat with this number knows and has in hand, or nothing past the last seat.
+    /// What the seat with this number knows and has in hand; nothing where there is no such seat.
     pub fn seat(&self, seat: u32) -> Option<&SeatState>
         ensures { option_copied result ≡ slice_get self.now.seats seat }
     {
-        self.seats.get(seat as usize)
+        seat_at(self.seats.as_slice(), seat)
     }
 
-    /// The word at this index, or nothing past the last word.
+    /// The word at this index, in the order of the crate's overview; nothing past the last word.
     pub fn word(&self, index: u32) -> Option<u64>
         ensures { result ≡ slice_get self.now.words index }
     {
-        self.words.get(index as usize).copied()
+        word_at(self.words.as_slice(), index as usize)
     }
 }

@@ -1,4 +1,4 @@
-// The steps of the sweep and of the counters.
+//! The steps of the sweep and of the counters.
 ghost use Rattle.std.specs.Prelude.{◌≡◌, ◌<◌, if◌then◌else◌, true};
 ghost use Rattle.mark_core.specs.Bits.{wrapped_sum, wrapped_difference};
 ghost use Rattle.mark_core.specs.SweepSteps.{next_block_parts, next_block_effect, next_of_cards_parts, next_of_cards_effect, own_block as own_block_of, with_mark_word as with_mark_word_of, read_block_marks_parts, read_block_marks_effect, survivors as survivors_of, with_stored as with_stored_of, store_alloc_parts, clear_marks_parts, wipe_card_parts, store_position_parts, store_named_parts, reset_parts, add_stat_parts, read_stat_parts, read_stat_effect};
@@ -51,7 +51,7 @@ pub fn next_of_cards(s: &mut SeatState, old: u64) -> u64
     old.wrapping_add(1)
 }
 
-// The block in hand, where there is one.
+/// The block in hand, where there is one.
 pub fn own_block(s: &SeatState) -> u32
     ensures { result ≡ own_block_of s.now }
 {
@@ -87,7 +87,7 @@ pub fn read_block_marks(s: &mut SeatState, old: u64) -> u64
     old
 }
 
-// The allocated cells of the block that are marked.
+/// The allocated cells of the block that are marked.
 fn survivors(block: Option<BlockState>) -> u64
     ensures { result ≡ survivors_of block }
 {
@@ -187,7 +187,7 @@ pub fn check_read_stat(shape: &Shape, which: u8) -> Option<u8>
     first_false(&[u32::from(which) < 8 + shape.sections])
 }
 
-// The seat learns whether the counter is below its end.
+/// The seat learns whether the counter is below its end.
 pub fn read_stat(shape: &Shape, s: &mut SeatState, which: u8, old: u64) -> u64
     ensures word { result ≡ (read_stat_effect shape.now s.old which).written old }
     ensures seat { s.new ≡ (read_stat_effect shape.now s.old which).seat old }

@@ -14,7 +14,7 @@ const SMALL: Shape = Shape {
     fields: 4,
 };
 
-// One packet more than fit into a word of a pool.
+/// One packet more than fit into a word of a pool.
 const WIDE: Shape = Shape {
     cells: 64,
     packets: 65,
@@ -40,7 +40,7 @@ fn new_word(part: u8, word: u64) -> Event {
     )
 }
 
-// Both seats are active and have seen that marking began.
+/// Both seats are active and have seen that marking began.
 fn marking() -> [Event; 5] {
     let to = Phase::Marking;
     [
@@ -52,7 +52,7 @@ fn marking() -> [Event; 5] {
     ]
 }
 
-// Seat 1 turns the season, makes a cell, marks it from its root, and pops it before it is published.
+/// Seat 1 turns the season, makes a cell, marks it from its root, and pops it before it is published.
 fn popped() -> [Event; 24] {
     let to = Phase::Marking;
     let c = Cell::make(0);
@@ -84,7 +84,7 @@ fn popped() -> [Event; 24] {
     ]
 }
 
-// Seat 1 stops the world and begins to drain.
+/// Seat 1 stops the world and begins to drain.
 fn stopped() -> [Event; 3] {
     let to = Phase::Drain;
     [
@@ -94,7 +94,7 @@ fn stopped() -> [Event; 3] {
     ]
 }
 
-// A whole cycle of an empty heap follows.
+/// A whole cycle of an empty heap follows.
 fn swept() -> [Event; 9] {
     [
         by(1, Step::StorePhase { to: Phase::Sweep }),
@@ -109,7 +109,7 @@ fn swept() -> [Event; 9] {
     ]
 }
 
-// From the start the first events are allowed, the next are answered so, and then the word at `index` is this.
+/// From the start the first events are allowed, the next are answered so, and then the word at `index` is this.
 fn leaves(
     alloc: Global,
     shape: Shape,

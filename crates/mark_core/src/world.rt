@@ -1,4 +1,4 @@
-// The steps that stop and resume the world, move the phase, and split and join seats.
+//! The steps that stop and resume the world, move the phase, and split and join seats.
 ghost use Rattle.std.specs.Prelude.{◌≡◌, ◌==◌, slice_get};
 ghost use Rattle.std.specs.List.{list_all};
 ghost use Rattle.mark_core.specs.WorldSteps.{enter_parts, enter_effect, leave_parts, leave_effect, raise_parts, raise_effect, observe_effect, drop_parts, drop_effect, split_parts, join_parts};
@@ -63,7 +63,7 @@ pub fn raise(s: &mut SeatState, old: u64) -> u64
     old | bits::FLAG
 }
 
-// The flag is set and no seat is counted.
+/// The flag is set and no seat is counted.
 fn is_stopped(word: u64) -> bool
     ensures { result ≡ is_stopped_word word }
 {
@@ -119,7 +119,7 @@ fn is_plain_standing(s: &SeatState) -> bool
         && !s.spent
 }
 
-// No packet, reservation, credit, work, card, cache or block, and no reference in the register.
+/// No packet, reservation, credit, work, card, cache or block, and no reference in the register.
 fn has_nothing(shape: &Shape, s: &SeatState) -> bool
     ensures { result ≡ has_nothing_of shape.now s.now }
 {
@@ -137,7 +137,7 @@ fn is_nil_throughout(env: &[u32]) -> bool
     env.iter().all(|x| *x == 0)
 }
 
-// The seat has its start record.
+/// The seat has its start record.
 fn is_new(shape: &Shape, s: &SeatState) -> bool
     ensures { result ≡ is_new_of shape.now s.now }
 {
@@ -159,7 +159,7 @@ pub fn check_split(shape: &Shape, seats: &[SeatState], s: &SeatState) -> Option<
     first_false(&[s.number == 0 && is_new(shape, s) && seats.len() < 41])
 }
 
-// The other seat exists and is outside.
+/// The other seat exists and is outside.
 fn may_be_joined(seats: &[SeatState], other: u32) -> bool
     ensures { result ≡ may_be_joined_of (slice_get seats.now other) }
 {
