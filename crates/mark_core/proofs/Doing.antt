@@ -1,13 +1,12 @@
 -- What an event that is allowed may rely on, and the state that its writes leave.
 use Rattle.std.proofs.Common.{ℕ, ◌≡◌, ◌+◌, ◌<◌, ◌≤◌, List, set, get_or, length, arith, refl, sym, ap, ◌∙◌, subst, Bool, true, false, Option, Some, None, cond, ◌&&◌}
 use Rattle.std.specs.Prelude.{slice_get, nat_lt, nat_le, unwrap_or, IfSome}
-use Rattle.std.specs.List.{All}
 use Rattle.std.proofs.lemmas.Bool.{and_parts, ltb-true, leb-true}
 use Rattle.std.proofs.lemmas.List.{length-set, length-append, get_or_read}
 use Rattle.std.proofs.lemmas.List.Elements.{All-get_or}
 use Rattle.std.proofs.lemmas.Option.{slice_get_within, slice_get_read, slice_get_past}
 use Rattle.mark_core.specs.Shapes.{IsShape}
-use Rattle.mark_core.specs.Layout.{Words, words_of, address, block_count, region_sizes, total_words}
+use Rattle.mark_core.specs.Layout.{Words, words_of, address, block_count, region_sizes}
 use Rattle.mark_core.specs.Held.{has_length, length_in_hand}
 use Rattle.mark_core.specs.Seats.{may_mutate, cache_block, block_in_hand}
 use Rattle.mark_core.specs.ColourSteps.{may_read_field}

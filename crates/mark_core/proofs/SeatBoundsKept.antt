@@ -1,5 +1,5 @@
 -- What a seat has in hand stays in range over a step that is allowed.
-use Rattle.std.proofs.Common.{ℕ, ◌≡◌, ◌+◌, ◌-◌, ◌/◌, ◌%◌, ◌<◌, ◌≤◌, zero, suc, List, [], ◌∷◌, replicate, get_or, length, arith, refl, sym, ap, ◌∙◌, subst, Bool, true, false, ◌&&◌, ◌||◌, Option, Some, None, cond, eqb, ⊎_elim}
+use Rattle.std.proofs.Common.{ℕ, ◌≡◌, ◌+◌, ◌-◌, ◌%◌, ◌<◌, ◌≤◌, zero, suc, List, [], ◌∷◌, replicate, length, arith, refl, Bool, true, false, ◌||◌, Option, Some, None, cond, eqb, ⊎_elim}
 use Rattle.std.specs.Prelude.{unwrap_or, nat_lt, nat_le, IfSome}
 use Rattle.std.specs.List.{All, list_any}
 use Rattle.std.proofs.lemmas.Bool.{and_parts, ltb-true, leb-false, le-ltb, ne_eqb, eqb-true, or_cases, cases_lt}
@@ -8,8 +8,8 @@ use Rattle.std.proofs.lemmas.List.Elements.{All-nil, All-cons, All-head, All-tai
 use Rattle.mark_core.specs.Shapes.{IsShape}
 use Rattle.mark_core.specs.Layout.{Words, block_count}
 use Rattle.mark_core.specs.Bits.{has_bit, reference_in}
-use Rattle.mark_core.specs.Held.{has_length, length_in_hand, put_packet, holds}
-use Rattle.mark_core.specs.Seats.{may_mutate, is_the, last_made}
+use Rattle.mark_core.specs.Held.{has_length, length_in_hand, put_packet}
+use Rattle.mark_core.specs.Seats.{is_the, last_made}
 use Rattle.mark_core.specs.Bounds.{IsReference, SlotFits, CacheFits, SeatBounds}
 use Rattle.mark_core.specs.MutatorSteps.{fits_part, has_reference, names_last, variable, variable_or_nil, with_free, with_making, with_made, without_used}
 use Rattle.mark_core.specs.ColourSteps.{with_alloc_word}

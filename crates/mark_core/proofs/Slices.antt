@@ -1,5 +1,5 @@
 -- The words of a region, as the part of all words from its first one up to that of the next region.
-use Rattle.std.proofs.Common.{ℕ, ◌≡◌, ◌+◌, ◌-◌, zero, suc, List, [], ◌∷◌, take, drop, arith, refl, sym, ap, ◌∙◌}
+use Rattle.std.proofs.Common.{ℕ, ◌≡◌, ◌+◌, ◌-◌, zero, suc, List, [], ◌∷◌, take, drop, arith, refl}
 use Rattle.std.proofs.lemmas.List.{drop-drop}
 use Rattle.mark_core.specs.Layout.{region_base, region_words}
 

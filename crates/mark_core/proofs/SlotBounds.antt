@@ -1,5 +1,5 @@
 -- The lengths of the packets in hand stay within the room of a packet.
-use Rattle.std.proofs.Common.{ℕ, ◌≤◌, List, [], ◌∷◌, arith, Bool, true, false, Option, Some, None, cond, eqb}
+use Rattle.std.proofs.Common.{ℕ, ◌≤◌, [], ◌∷◌, arith, Bool, true, false, Option, Some, None, cond, eqb}
 use Rattle.std.specs.Prelude.{unwrap_or}
 use Rattle.std.specs.List.{All}
 use Rattle.std.proofs.lemmas.List.Elements.{All-nil, All-cons, All-head, All-tail}

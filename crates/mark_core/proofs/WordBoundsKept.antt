@@ -1,11 +1,10 @@
 -- The words from which seats learn lengths and references stay in range over a step that is allowed.
-use Rattle.std.proofs.Common.{ℕ, ◌≡◌, ◌+◌, ◌*◌, ◌<◌, ◌≤◌, List, set, get_or, length, arith, refl, sym, ap, ◌∙◌, subst, Bool, true, false, ◌&&◌, Option, cond, eqb, ⊎_elim}
+use Rattle.std.proofs.Common.{ℕ, ◌≡◌, ◌+◌, ◌*◌, ◌<◌, ◌≤◌, List, set, get_or, length, arith, sym, ap, ◌∙◌, subst, true, false, eqb, ⊎_elim}
 use Rattle.std.specs.Prelude.{nat_lt}
 use Rattle.std.specs.List.{All}
-use Rattle.std.proofs.lemmas.Bool.{and_parts, ltb-true, eqb-true, true≢false, cases_Bool}
+use Rattle.std.proofs.lemmas.Bool.{eqb-true, true≢false, cases_Bool}
 use Rattle.std.proofs.lemmas.List.{set-get_or}
 use Rattle.std.proofs.lemmas.List.Elements.{All-get_or, All-set}
-use Rattle.mark_core.specs.Shapes.{IsShape}
 use Rattle.mark_core.specs.Layout.{Words, words_of, put_word, address, region_sizes, total_words, region_words}
 use Rattle.mark_core.specs.Places.{counter_at}
 use Rattle.mark_core.specs.Held.{length_in_hand}
@@ -22,7 +21,7 @@ use Rattle.mark_core.proofs.SlotBounds.{length-fits}
 use Rattle.mark_core.proofs.SeatBoundsKept.{Finds, root-fits, or-nil-fits}
 use Rattle.mark_core.specs.declared.kinds.Shape.{Shape}
 use Rattle.mark_core.specs.declared.kinds.Step.{Step}
-use Rattle.mark_core.specs.declared.kinds.Step.TheVariants.{Push, Pop, ReadField, ReadRoot, ReadOwn, ReadCat, StoreField, StoreRoot, StoreNew, Reset, AddStat, ReadStat, StoreLength, ReadLength, Reserve}
+use Rattle.mark_core.specs.declared.kinds.Step.TheVariants.{ReadField, ReadRoot, ReadOwn, ReadCat, StoreField, StoreRoot, StoreNew, Reset, AddStat, ReadStat, StoreLength, ReadLength}
 use Rattle.mark_core.specs.declared.seat.SeatState.{SeatState}
 
 -- a word of a region where all are in range

@@ -1,5 +1,5 @@
 -- Room for what a step counts.
-use Rattle.std.specs.Prelude.{ℕ, ◌<◌}
+use Rattle.std.specs.Prelude.{◌<◌}
 use Rattle.mark_core.specs.Held.{length_in_hand}
 use Rattle.mark_core.specs.declared.kinds.Step.{Step}
 use Rattle.mark_core.specs.declared.kinds.Step.TheVariants.{Push, ReadField, StoreRoot, StoreNew}

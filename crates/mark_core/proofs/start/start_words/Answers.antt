@@ -1,4 +1,4 @@
-use Rattle.std.proofs.Common.{ℕ, ◌≡◌, ◌-◌, List, ◌++◌, replicate, take, length, vec_len, arith, refl, ap, ◌∙◌}
+use Rattle.std.proofs.Common.{ℕ, ◌≡◌, ◌-◌, List, ◌++◌, replicate, take, vec_len, arith, refl, ap, ◌∙◌}
 use Rattle.mark_core.proofs.Opening.{put-together}
 use Rattle.mark_core.proofs.start.start_words.Goals as goal
 

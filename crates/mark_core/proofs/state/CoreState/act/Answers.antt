@@ -1,5 +1,4 @@
-use Rattle.std.proofs.Common.{◌≡◌, ◌<◌, length, arith, sym, subst, None, ◌∙◌, ap}
-use Rattle.std.proofs.lemmas.List.{length-set}
+use Rattle.std.proofs.Common.{◌≡◌, sym, subst, None, ◌∙◌, ap}
 use Rattle.mark_core.specs.Steps.{Core, failing_part, after_event}
 use Rattle.mark_core.specs.Bounds.{IsBounded}
 use Rattle.mark_core.proofs.Doing.{Ready, ready, core_of, done}

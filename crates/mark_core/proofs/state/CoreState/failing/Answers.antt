@@ -1,4 +1,4 @@
-use Rattle.std.proofs.Common.{◌≡◌, ◌<◌, ◌≤◌, length, arith, ap, ◌∙◌}
+use Rattle.std.proofs.Common.{◌<◌, ◌≤◌, length, arith, ap, ◌∙◌}
 use Rattle.mark_core.specs.Steps.{Core, failing_part}
 use Rattle.mark_core.proofs.Doing.{core_of, failing_past, failing_spent, failing_at}
 use Rattle.mark_core.proofs.state.CoreState.failing.Goals as goal
