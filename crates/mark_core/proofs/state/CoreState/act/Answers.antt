@@ -1,0 +1,57 @@
+use Rattle.std.proofs.Common.{◌≡◌, sym, subst, None, ◌∙◌, ap}
+use Rattle.mark_core.specs.Steps.{Core, failing_part, after_event}
+use Rattle.mark_core.specs.Bounds.{IsBounded}
+use Rattle.mark_core.proofs.Doing.{Ready, ready, core_of, done}
+use Rattle.mark_core.proofs.state.CoreState.act.Goals as goal
+
+pub index-old-requires : goal.index-old-requires
+index-old-requires c =
+    let core : Core = core_of c.self.inside.shape c.self.inside.words.items c.self.inside.seats.items in
+    let P : Core → Type 0 = λ d. failing_part d c.args.event.now ≡ None in
+    let r : Ready core c.args.event.now c.index.result.now = ready core c.args.event.now c.index.result.now c.self.invariant.0 (subst P (sym c.self.view_is) c.requires) c.index.ensures in
+    rw (c.address-at.ensures, c.self.inside.words.ok.0) r.within
+
+pub act-word-requires : goal.act-word-requires
+act-word-requires c =
+    let core : Core = core_of c.self.inside.shape c.self.inside.words.items c.self.inside.seats.items in
+    let P : Core → Type 0 = λ d. failing_part d c.args.event.now ≡ None in
+    let r : Ready core c.args.event.now c.index.result.now = ready core c.args.event.now c.index.result.now c.self.invariant.0 (subst P (sym c.self.view_is) c.requires) c.index.ensures in
+    r.room
+
+pub index_mut-requires : goal.index_mut-requires
+index_mut-requires c =
+    let core : Core = core_of c.self.inside.shape c.self.inside.words.items c.self.inside.seats.items in
+    let P : Core → Type 0 = λ d. failing_part d c.args.event.now ≡ None in
+    let r : Ready core c.args.event.now c.index.result.now = ready core c.args.event.now c.index.result.now c.self.invariant.0 (subst P (sym c.self.view_is) c.requires) c.index.ensures in
+    rw (c.address-at.ensures, c.self.inside.words.ok.0) r.within
+
+pub index_mut-requires-2 : goal.index_mut-requires-2
+index_mut-requires-2 c =
+    let core : Core = core_of c.self.inside.shape c.self.inside.words.items c.self.inside.seats.items in
+    let P : Core → Type 0 = λ d. failing_part d c.args.event.now ≡ None in
+    let r : Ready core c.args.event.now c.index.result.now = ready core c.args.event.now c.index.result.now c.self.invariant.0 (subst P (sym c.self.view_is) c.requires) c.index.ensures in
+    rw c.self.inside.seats.ok.0 r.seat
+
+pub change_others-requires-clause-few : goal.change_others-requires-clause-few
+change_others-requires-clause-few c =
+    λ e.
+    let core : Core = core_of c.self.inside.shape c.self.inside.words.items c.self.inside.seats.items in
+    let P : Core → Type 0 = λ d. failing_part d c.args.event.now ≡ None in
+    let r : Ready core c.args.event.now c.index.result.now = ready core c.args.event.now c.index.result.now c.self.invariant.0 (subst P (sym c.self.view_is) c.requires) c.index.ensures in
+    rw c.self.inside.seats.ok.0 (r.split e)
+
+pub invariant_of-self : goal.invariant_of-self
+invariant_of-self c =
+    let core : Core = core_of c.self.inside.shape c.self.inside.words.items c.self.inside.seats.items in
+    let P : Core → Type 0 = λ d. failing_part d c.args.event.now ≡ None in
+    let r : Ready core c.args.event.now c.index.result.now = ready core c.args.event.now c.index.result.now c.self.invariant.0 (subst P (sym c.self.view_is) c.requires) c.index.ensures in
+    let d = done core c.args.event.now c.index.result.now c.act-word.new.s c.address-at.result c.index-old.result.now c.act-word.result c.change_others.new.seats.items r c.index.ensures c.address-at.ensures c.index-old.ensures c.act-word.ensures.word c.act-word.ensures.seat c.change_others.ensures.seats in
+    (subst IsBounded (sym d) r.bounded, c.change_others.ensures.room)
+
+pub returns : goal.returns
+returns c =
+    let core : Core = core_of c.self.inside.shape c.self.inside.words.items c.self.inside.seats.items in
+    let P : Core → Type 0 = λ d. failing_part d c.args.event.now ≡ None in
+    let r : Ready core c.args.event.now c.index.result.now = ready core c.args.event.now c.index.result.now c.self.invariant.0 (subst P (sym c.self.view_is) c.requires) c.index.ensures in
+    let d = done core c.args.event.now c.index.result.now c.act-word.new.s c.address-at.result c.index-old.result.now c.act-word.result c.change_others.new.seats.items r c.index.ensures c.address-at.ensures c.index-old.ensures c.act-word.ensures.word c.act-word.ensures.seat c.change_others.ensures.seats in
+    d ∙ sym r.after ∙ ap (λ (x : Core). after_event x c.args.event.now) c.self.view_is

@@ -1,0 +1,244 @@
+//! The steps of tracing. They turn white cells grey and grey cells black, and clean cards.
+ghost use Rattle.std.specs.Prelude.{◌≡◌, ◌<◌, ◌+◌, if◌then◌else◌};
+ghost use Rattle.mark_core.specs.Bits.{cell_named};
+ghost use Rattle.mark_core.specs.ColourSteps.{without_cell, redirty_off, popped_after as popped_after_of, scan_after as scan_after_of, with_alloc_word as with_alloc_word_of, fresh_off as fresh_off_of, popped_off as popped_off_of, read_alloc_parts, read_alloc_effect, read_field_parts, read_root_parts, set_mark_parts, set_mark_effect, dirty_card_parts, clear_card_parts, clear_card_effect, read_marks_parts, read_marks_effect, read_card_parts, read_phase_effect};
+ghost use Rattle.mark_core.specs.Seats.{is_the as is_the_number};
+ghost use Rattle.mark_core.specs.Steps.{first_false as first_false_of};
+
+use crate::kinds::{Cell, Shape};
+use crate::layout::{block_count, card_count};
+use crate::parts::first_false;
+use crate::seat::{BlockState, Cleaning, SeatState};
+use crate::standing::{is_the, may_trace, phase_of, takes_part};
+use crate::{bits, cleaning, hand, slots};
+
+/// A popped cell of block b, once the block's allocation bits were read: it stays only where its bit is clear.
+fn popped_after(popped: Option<(Cell, bool)>, b: u32, word: u64) -> Option<(Cell, bool)>
+    ensures { result ≡ popped_after_of popped b word }
+{
+    match popped {
+        None => None,
+        Some(x) => if x.0.number() / 64 == b {
+            if bits::has_bit(word, x.0.number() % 64) {
+                None
+            } else {
+                Some((x.0, true))
+            }
+        } else {
+            Some(x)
+        },
+    }
+}
+
+/// It is scanned from its first field on, where its bit is set.
+fn scan_after(
+    popped: Option<(Cell, bool)>,
+    scan: Option<(Cell, u8)>,
+    b: u32,
+    word: u64,
+) -> Option<(Cell, u8)>
+    ensures { result ≡ scan_after_of popped scan b word }
+{
+    match popped {
+        None => scan,
+        Some(x) => if x.0.number() / 64 == b && bits::has_bit(word, x.0.number() % 64) {
+            Some((x.0, 0))
+        } else {
+            scan
+        },
+    }
+}
+
+fn with_alloc_word(block: Option<BlockState>, b: u32, word: u64) -> Option<BlockState>
+    ensures { result ≡ with_alloc_word_of block b word }
+{
+    match block {
+        None => None,
+        Some(x) => if x.block == b {
+            Some(BlockState {
+                alloc_word: Some(word),
+                ..x
+            })
+        } else {
+            Some(x)
+        },
+    }
+}
+
+pub fn check_read_alloc(shape: &Shape, s: &SeatState, b: u32) -> Option<u8>
+    ensures { result ≡ first_false_of 1 (read_alloc_parts shape.now s.now b) }
+{
+    first_false(&[b < block_count(shape) && takes_part(s)])
+}
+
+pub fn read_alloc(s: &mut SeatState, b: u32, old: u64) -> u64
+    ensures word { result ≡ (read_alloc_effect s.old b).written old }
+    ensures seat { s.new ≡ (read_alloc_effect s.old b).seat old }
+{
+    s.scan = scan_after(s.popped, s.scan, b, old);
+    s.popped = popped_after(s.popped, b, old);
+    s.cleaning = cleaning::cleaning_after(s.cleaning, b, old);
+    s.block = with_alloc_word(s.block, b, old);
+    old
+}
+
+pub fn check_read_field(shape: &Shape, s: &SeatState, c: Cell, i: u8) -> Option<u8>
+    ensures { result ≡ first_false_of 1 (read_field_parts shape.now s.now c i) }
+{
+    let begins = i == 0 && hand::may_scan(s.cleaning, c) && !hand::scan_left(shape.fields, s.scan);
+    first_false(&[
+        c.number() < shape.cells
+            && u32::from(i) < shape.fields
+            && (hand::scans(s.scan, c, i) || begins),
+        !(s.popped.is_some() || s.value.is_some() || s.fresh.is_some()),
+    ])
+}
+
+pub fn read_field(s: &mut SeatState, c: Cell, i: u8, old: u64) -> u64
+    requires { i < 255 }
+    ensures word { result ≡ old }
+    ensures seat { s.new ≡ record s.old { scan = Some (c, i + 1); cleaning = without_cell s.old.cleaning c; value = cell_named old } }
+{
+    s.scan = Some((c, i + 1));
+    s.cleaning = cleaning::without_cell(s.cleaning, c);
+    s.value = bits::cell_named(old);
+    old
+}
+
+pub fn check_read_root(shape: &Shape, phase: u64, s: &SeatState, section: u32, v: u8) -> Option<u8>
+    ensures { result ≡ first_false_of 1 (read_root_parts shape.now phase s.now section v) }
+{
+    first_false(&[
+        section < shape.sections && v < 32 && may_trace(phase, s) && slots::holds_any(s.held),
+        !hand::work_in_hand(shape.fields, s),
+    ])
+}
+
+pub fn read_root(s: &mut SeatState, old: u64) -> u64
+    ensures word { result ≡ old }
+    ensures seat { s.new ≡ record s.old { value = cell_named old } }
+{
+    s.value = bits::cell_named(old);
+    old
+}
+
+pub fn check_set_mark(shape: &Shape, phase: u64, s: &SeatState, c: Cell) -> Option<u8>
+    ensures { result ≡ first_false_of 1 (set_mark_parts shape.now phase s.now c) }
+{
+    first_false(&[
+        c.number() < shape.cells && hand::is_the_cell(s.value, c),
+        may_trace(phase, s),
+    ])
+}
+
+pub fn set_mark(s: &mut SeatState, c: Cell, old: u64) -> u64
+    ensures word { result ≡ (set_mark_effect s.old c).written old }
+    ensures seat { s.new ≡ (set_mark_effect s.old c).seat old }
+{
+    s.value = None;
+    if !bits::has_bit(old, c.number() % 64) {
+        s.fresh = Some(c);
+    }
+    bits::with_bit(old, c.number() % 64)
+}
+
+fn fresh_off(fresh: Option<Cell>, card: u32) -> Option<Cell>
+    ensures { result ≡ fresh_off_of fresh card }
+{
+    match fresh {
+        None => None,
+        Some(c) => if c.number() / 16 == card {
+            None
+        } else {
+            Some(c)
+        },
+    }
+}
+
+fn popped_off(popped: Option<(Cell, bool)>, card: u32) -> Option<(Cell, bool)>
+    ensures { result ≡ popped_off_of popped card }
+{
+    match popped {
+        None => None,
+        Some(x) => if x.1 && x.0.number() / 16 == card {
+            None
+        } else {
+            Some(x)
+        },
+    }
+}
+
+pub fn check_dirty_card(shape: &Shape, s: &SeatState, card: u32) -> Option<u8>
+    ensures { result ≡ first_false_of 1 (dirty_card_parts shape.now s.now card) }
+{
+    first_false(&[card < card_count(shape) && takes_part(s)])
+}
+
+/// The dirty card answers for all that the seat owes it.
+pub fn dirty_card(s: &mut SeatState, card: u32) -> u64
+    ensures word { result ≡ 1 }
+    ensures seat { s.new ≡ record s.old { fresh = fresh_off_of s.old.fresh card; popped = popped_off_of s.old.popped card; owes = if is_the_number s.old.owes card then None else s.old.owes; cleaning = redirty_off s.old.cleaning card } }
+{
+    s.fresh = fresh_off(s.fresh, card);
+    s.popped = popped_off(s.popped, card);
+    if is_the(s.owes, card) {
+        s.owes = None;
+    }
+    s.cleaning = cleaning::redirty_off(s.cleaning, card);
+    1
+}
+
+pub fn check_clear_card(shape: &Shape, phase: u64, s: &SeatState, card: u32) -> Option<u8>
+    ensures { result ≡ first_false_of 1 (clear_card_parts shape.now phase s.now card) }
+{
+    first_false(&[
+        card < card_count(shape) && may_trace(phase, s) && slots::holds_any(s.held),
+        !hand::work_in_hand(shape.fields, s),
+    ])
+}
+
+pub fn clear_card(s: &mut SeatState, card: u32, old: u64) -> u64
+    ensures word { result ≡ (clear_card_effect s.old card).written old }
+    ensures seat { s.new ≡ (clear_card_effect s.old card).seat old }
+{
+    if old == 1 {
+        s.cleaning = Some(Cleaning {
+            card,
+            known: false,
+            left: 0,
+            published: 0,
+            redirty: false,
+        });
+    }
+    0
+}
+
+pub fn check_read_marks(shape: &Shape, s: &SeatState, b: u32) -> Option<u8>
+    ensures { result ≡ first_false_of 1 (read_marks_parts shape.now s.now b) }
+{
+    first_false(&[b < block_count(shape) && takes_part(s)])
+}
+
+pub fn read_marks(s: &mut SeatState, b: u32, old: u64) -> u64
+    ensures word { result ≡ (read_marks_effect s.old b).written old }
+    ensures seat { s.new ≡ (read_marks_effect s.old b).seat old }
+{
+    s.cleaning = cleaning::known_in(s.cleaning, b, old);
+    old
+}
+
+pub fn check_read_card(shape: &Shape, card: u32) -> Option<u8>
+    ensures { result ≡ first_false_of 1 (read_card_parts shape.now card) }
+{
+    first_false(&[card < card_count(shape)])
+}
+
+pub fn read_phase(s: &mut SeatState, old: u64) -> u64
+    ensures word { result ≡ (read_phase_effect s.old).written old }
+    ensures seat { s.new ≡ (read_phase_effect s.old).seat old }
+{
+    if takes_part(s) {
+        s.phase_seen = Some(phase_of(old));
+    }
+    old
+}

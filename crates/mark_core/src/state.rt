@@ -1,0 +1,161 @@
+//! The state of the core.
+ghost use Rattle.std.specs.Prelude.{◌≡◌, ◌≤◌, if◌then◌else◌, is_ok, slice_get, IfOk, OnOk, IfErr, None, Some};
+ghost use Rattle.std.specs.Option.{option_copied};
+ghost use Rattle.mark_core.specs.Kinds.{kind_of};
+ghost use Rattle.mark_core.specs.Shapes.{IsShape};
+ghost use Rattle.mark_core.specs.Steps.{Core, failing_part, after_event, start_core, run_of, first_refused};
+
+use crate::addresses::address;
+use crate::kinds::{Event, NotAllowed, Rule, Shape};
+use crate::others::{change_others, seat_at};
+use crate::seat::SeatState;
+use crate::start::{start_seats, start_words};
+use crate::words::word_at;
+use crate::{conditions, effects, passes};
+use plain_heap::OutOfMemory;
+use std::alloc::Global;
+use std::marker::Model;
+
+/// A state: the sizes of the heap, its words, and a record for each seat. Every state that can be reached came from
+/// [`CoreState::start`] by events that were allowed. It has room for 41 seats, so no call but `start` takes memory.
+#[derive(Drop)]
+pub struct CoreState {
+    shape: Shape,
+    words: Vec<u64>,
+    seats: Vec<SeatState>,
+}
+
+impl Model for CoreState {
+    ghost use Rattle.std.specs.Prelude.{◌≤◌, vec_capacity};
+    ghost use Rattle.mark_core.specs.Steps.{Core};
+    ghost use Rattle.mark_core.specs.Bounds.{IsBounded};
+
+    ghost Value = { Core };
+
+    ghost view = { λ a. record { shape = a.shape; words = a.words.items; seats = a.seats.items } };
+
+    ghost invariant = { λ a. IsBounded (record { shape = a.shape; words = a.words.items; seats = a.seats.items }) × (41 ≤ vec_capacity a.seats) };
+}
+
+impl CoreState {
+    /// The state in which `seats` seats, 1 to 41, have done nothing yet: every cell is free and white, every packet
+    /// is in the empty pool, and the phase is Idle. Seat w has section w, and seats past the sections have none. The
+    /// shape must be within its limits. It is refused only where memory ran out.
+    pub fn start(alloc: Global, shape: Shape, seats: u32) -> Result<CoreState, OutOfMemory>
+        requires shaped { IsShape shape }
+        requires some { 1 ≤ seats }
+        requires few { seats ≤ 41 }
+        ensures { IfOk result (λ c. c ≡ start_core shape seats) }
+    {
+        let words = match start_words(alloc, &shape) {
+            Ok(words) => words,
+            Err(_) => return Err(OutOfMemory),
+        };
+        match start_seats(alloc, &shape, seats) {
+            Ok(seats) => Ok(CoreState {
+                shape,
+                words,
+                seats,
+            }),
+            Err(_) => Err(OutOfMemory),
+        }
+    }
+
+    fn failing(&self, event: &Event) -> Option<u8>
+        ensures { result ≡ failing_part self.now event.now }
+    {
+        let i = event.seat as usize;
+        if i >= self.seats.len() {
+            return Some(0);
+        }
+        let s = &self.seats[i];
+        if s.spent {
+            return Some(0);
+        }
+        conditions::failing_part(
+            &self.shape,
+            self.words.as_slice(),
+            self.seats.as_slice(),
+            s,
+            &event.step,
+        )
+    }
+
+    /// The one write of the event, and the changes of the seats' records.
+    fn act(&mut self, event: &Event)
+        requires { failing_part self.old event.now ≡ None }
+        ensures { self.new ≡ after_event self.old event.now }
+    {
+        let i = event.seat as usize;
+        let mut s = self.seats[i];
+        let at = address(&self.shape, &s, &event.step);
+        let old = self.words[at];
+        let word = effects::act(&self.shape, &mut s, &event.step, old);
+        self.words[at] = word;
+        self.seats[i] = s;
+        change_others(&self.shape, &mut self.seats, &event.step);
+    }
+
+    fn apply_one(&mut self, event: &Event) -> Result<(), NotAllowed>
+        ensures allowed { OnOk result (failing_part self.old event.now ≡ None) }
+        ensures after { self.new ≡ (if is_ok result then after_event self.old event.now else self.old) }
+        ensures refused { IfErr result (λ e. (e.rule.kind ≡ kind_of event.now.step) × (failing_part self.old event.now ≡ Some e.rule.part)) }
+    {
+        match self.failing(event) {
+            Some(part) => {
+                let rule = Rule {
+                    kind: passes::kind_of(&event.step),
+                    part,
+                };
+                Err(NotAllowed { rule })
+            }
+            None => {
+                self.act(event);
+                Ok(())
+            }
+        }
+    }
+
+    /// Takes one step of one seat. An event is refused exactly where a part of its step's condition fails, with the
+    /// step's kind and the least such part, and the state then stays as it was; a seat that doesn't exist or was
+    /// joined into another fails part 0.
+    pub fn apply(&mut self, event: Event) -> Result<(), NotAllowed>
+        ensures allowed { OnOk result (failing_part self.old event ≡ None) }
+        ensures after { self.new ≡ (if is_ok result then after_event self.old event else self.old) }
+        ensures refused { IfErr result (λ e. (e.rule.kind ≡ kind_of event.step) × (failing_part self.old event ≡ Some e.rule.part)) }
+    {
+        self.apply_one(&event)
+    }
+
+    /// Takes the events in order, up to the first that is refused, and answers its index and what it broke. The state
+    /// is then that after the events before it.
+    pub fn run(&mut self, events: &[Event]) -> Result<(), (usize, Rule)>
+        ensures state { self.new ≡ run_of events.now self.old }
+        ensures all { OnOk result (first_refused 0 events.now self.old ≡ None) }
+        ensures refused { IfErr result (λ e. first_refused 0 events.now self.old ≡ Some (e.0, e.1.kind, e.1.part)) }
+    {
+        let mut i = 0;
+        while i < events.len() {
+            let event = &events[i];
+            if let Err(refusal) = self.apply_one(event) {
+                return Err((i, refusal.rule));
+            }
+            i += 1;
+        }
+        Ok(())
+    }
+
+    /// What the seat with this number knows and has in hand; nothing where there is no such seat.
+    pub fn seat(&self, seat: u32) -> Option<&SeatState>
+        ensures { option_copied result ≡ slice_get self.now.seats seat }
+    {
+        seat_at(self.seats.as_slice(), seat)
+    }
+
+    /// The word at this index, in the order of the crate's overview; nothing past the last word.
+    pub fn word(&self, index: u32) -> Option<u64>
+        ensures { result ≡ slice_get self.now.words index }
+    {
+        word_at(self.words.as_slice(), index as usize)
+    }
+}
