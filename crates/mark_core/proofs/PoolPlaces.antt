@@ -82,3 +82,7 @@ pools-but-one sh heads heads' pools pools' hss i p hs gs k l is inside head hand
     let s = same-hands hss i x hs gs l is (hand x n) in
     placed-same sh heads heads' pools pools' hss (set hss i gs) x (record { inside = λ q. inside q x h n; head = head x n; holders = s.0; known = s.1 }) (placed-in sh heads pools hss k x h))
     (cases_eq x p))
+
+-- the rule is kept where each packet is where it was
+pub pools-still : (sh : Shape) (heads heads' pools pools' : List ℕ) (hss gss : List Slots) → Pools sh heads pools hss → EachPacket sh (SamePlace sh heads heads' pools pools' hss gss) → Pools sh heads' pools' gss
+pools-still sh heads heads' pools pools' hss gss k s = pools-from sh heads' pools' gss (λ x h. placed-same sh heads heads' pools pools' hss gss x (s x h) (placed-in sh heads pools hss k x h))
