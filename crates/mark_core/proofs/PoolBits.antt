@@ -45,13 +45,16 @@ no_bit : (b : Bool) → bit b ≡ 0 → b ≡ false
 no_bit true e = absurd (omega arith)
 no_bit false e = refl
 
+pub in-row : (q n w a : ℕ) → q < n → a < w → q * w + a < n * w
+in-row q n w a h l = grind (arith, mul-add-lt)
+
 -- what is in the pools differs at packet p of pool q at most, which is there as b says
 pub record OneBit (sh : Shape) (pools pools' : List ℕ) (q p : ℕ) (b : Bool) : Type 0 where
   pub here : in_pool sh pools' q p ≡ b
   pub there : (r x : ℕ) → x < sh.packets → (r ≡ q → x ≡ p → ⊥) → in_pool sh pools' r x ≡ in_pool sh pools r x
 
-word_below : (sh : Shape) (p : ℕ) → p < sh.packets → p / 64 < pool_words sh
-word_below sh p h = omega (arith, h)
+pub word-below : (sh : Shape) (p : ℕ) → p < sh.packets → p / 64 < pool_words sh
+word-below sh p h = omega (arith, h)
 
 same_packet : (x p : ℕ) → x / 64 ≡ p / 64 → x % 64 ≡ p % 64 → x ≡ p
 same_packet x p e f = omega arith
@@ -68,7 +71,7 @@ one_bit sh pools q p v l h others =
           let j : ℕ = r * pool_words sh + x / 64 in
           ⊎_elim
           (λ (e : j ≡ i).
-          let s = same_place (pool_words sh) r q (x / 64) (p / 64) (word_below sh x hx) (word_below sh p h) e in
+          let s = same_place (pool_words sh) r q (x / 64) (p / 64) (word-below sh x hx) (word-below sh p h) e in
           let far : x % 64 ≢ p % 64 = λ f. n s.0 (same_packet x p s.1 f) in
           rw e (rw get_or-set_same (others (x % 64) (omega arith) far)))
           (λ (d : j ≡ i → ⊥). ap (λ w. has_bit w (x % 64)) (get_or-set_other pools i j v 0 d))

@@ -80,8 +80,9 @@ pools-take sh heads pools pools' hss i q p hs k hq o e n f =
     let before : packet_length heads hss p ≡ slice_index heads p = rw (among-unheld hss p was.1) refl in
     placed_in_hand sh heads pools' gss p was.0 now (rw known (omega (arith, before, k.rule.rooms p hp))))
 
-same_inside : (sh : Shape) (pools pools' : List ℕ) (q p : ℕ) → OneBit sh pools pools' q p false → in_pool sh pools q p ≡ false → (r x : ℕ) → x < sh.packets → in_pool sh pools' r x ≡ in_pool sh pools r x
-same_inside sh pools pools' q p o e r x h =
+-- a bit that was clear is cleared
+pub same-inside : (sh : Shape) (pools pools' : List ℕ) (q p : ℕ) → OneBit sh pools pools' q p false → in_pool sh pools q p ≡ false → (r x : ℕ) → x < sh.packets → in_pool sh pools' r x ≡ in_pool sh pools r x
+same-inside sh pools pools' q p o e r x h =
     ⊎_elim
     (λ (d : x ≡ p).
     ⊎_elim
@@ -97,7 +98,7 @@ pools-untaken sh heads pools pools' hss i q p hs k o e =
     pools-still sh heads heads pools pools' hss (set hss i hs) k.rule
     (λ x h.
     let s = same-hands hss i x hs hs k.seat k.is (same-in-hand hs x) in
-    record { inside = λ r. same_inside sh pools pools' q p o e r x h; head = refl; holders = s.0; known = s.1 })
+    record { inside = λ r. same-inside sh pools pools' q p o e r x h; head = refl; holders = s.0; known = s.1 })
 
 -- packet p was put into pool q alone, so where it is in pool r, r is q
 in_that_pool : (sh : Shape) (pools pools' : List ℕ) (q p r : ℕ) → p < sh.packets → r < 4 → pool_count sh pools p ≡ 0 → OneBit sh pools pools' q p true → IsTrue (in_pool sh pools' r p) → q ≡ r
