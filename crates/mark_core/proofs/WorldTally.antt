@@ -86,8 +86,8 @@ pub record IsTally (world help : ℕ) (t : Census) : Type 0 where
 abbrev pub nowhere : Standing
 nowhere = record { counted = false; active = false; raised = false; knows = false; helping = false; admitted = false; opened = false; alone = false }
 
-nowhere_fits : Fits nowhere
-nowhere_fits = record { opened_or_alone = omega arith; knows_raised = omega arith; active_counted = omega arith; admitted_helps = omega arith; one_role = omega arith }
+pub nowhere-fits : Fits nowhere
+nowhere-fits = record { opened_or_alone = omega arith; knows_raised = omega arith; active_counted = omega arith; admitted_helps = omega arith; one_role = omega arith }
 
 -- the seats other than i
 abbrev pub others : List Standing → ℕ → Census
@@ -119,7 +119,7 @@ pub census-now : (ss : List Standing) (i : ℕ) (x : Standing) → i < length ss
 census-now ss i x h is = subst (λ (ts : List Standing). census ts ≡ plus (others ss i) x) (subst (λ (y : Standing). set ss i y ≡ ss) is (set-get_or ss i x)) (census-set ss i x h)
 
 pub others-fit : (ss : List Standing) (i : ℕ) → All Fits ss → CensusFits (others ss i)
-others-fit ss i a = census-fits (set ss i nowhere) (All-set Fits ss i nowhere nowhere_fits a)
+others-fit ss i a = census-fits (set ss i nowhere) (All-set Fits ss i nowhere nowhere-fits a)
 
 -- there are at most forty-one of them
 pub record IsFew (r : Census) : Type 0 where
