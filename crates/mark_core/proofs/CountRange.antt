@@ -1,6 +1,7 @@
 -- How many numbers of a range, and how many records of a list, pass a test.
 use Rattle.std.proofs.Common.{ℕ, ◌≡◌, ◌≢◌, ◌+◌, ◌<◌, ◌≤◌, suc, zero, List, [], ◌∷◌, get_or, length, arith, refl, ap, Bool, true, false, cond, ⊎_elim}
-use Rattle.std.specs.List.{count_by, range_with_len}
+use Rattle.std.specs.List.{All, count_by, range_with_len}
+use Rattle.std.proofs.lemmas.List.Elements.{All-head, All-tail}
 use Rattle.std.proofs.lemmas.List.Sums.{sum_by-cons, count_by-le-length}
 use Rattle.std.proofs.lemmas.Bool.{cases_eq}
 
@@ -48,3 +49,9 @@ pub all-pass : {X : Type 0} (p : X → Bool) (xs : List X) → length xs ≤ cou
 all-pass p [] h k d l = absurd (omega arith)
 all-pass p (x ∷ xs) h zero d l = bit_one (p x) (omega (arith, count-cons p x xs, count_by-le-length p xs))
 all-pass p (x ∷ xs) h (suc k) d l = all-pass p xs (omega (arith, count-cons p x xs, bit_below (p x))) k d (omega arith)
+
+pub count-none : {X : Type 0} (p : X → Bool) (xs : List X) → All (λ x. p x ≡ false) xs → count_by p xs ≡ 0
+count-none p [] a = refl
+count-none {X} p (x ∷ xs) a =
+    let P : X → Type 0 = λ (y : X). p y ≡ false in
+    omega (arith, count-cons p x xs, ap bit (All-head P x xs a), count-none p xs (All-tail P x xs a))

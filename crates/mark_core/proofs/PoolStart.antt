@@ -5,7 +5,7 @@ use Rattle.std.specs.List.{All, count_by, range_with_len}
 use Rattle.std.proofs.lemmas.Bool.{true≢false, false≢true, eq-eqb}
 use Rattle.std.proofs.lemmas.Nat.Bits.{bit_at_ones, bit_at-zero}
 use Rattle.std.proofs.lemmas.List.{get_or-append_right, get_or_append_left, get_or-replicate, length-replicate}
-use Rattle.std.proofs.lemmas.List.Elements.{All-map, All-head, All-tail}
+use Rattle.std.proofs.lemmas.List.Elements.{All-map}
 use Rattle.std.proofs.lemmas.List.FromFn.{length-map-range_with_len, get_or-map-range_with_len}
 use Rattle.mark_core.specs.Layout.{Words, words_of, address, region_base, region_sizes, pool_words}
 use Rattle.mark_core.specs.Places.{pool_at}
@@ -18,17 +18,11 @@ use Rattle.mark_core.specs.Start.{start_seat, start_seats, start_words, full_poo
 use Rattle.mark_core.specs.PacketRules.{HeadsAgree, has_reservation, has_credit}
 use Rattle.mark_core.specs.Laws.{StartKeepsPackets}
 use Rattle.mark_core.proofs.Regions.{words-get}
-use Rattle.mark_core.proofs.CountRange.{bit, count-cons, count-same}
+use Rattle.mark_core.proofs.CountRange.{bit, count-cons, count-none, count-same}
 use Rattle.mark_core.proofs.PoolBits.{word-below, in-row}
 use Rattle.mark_core.proofs.PoolHolders.{among-unheld}
 use Rattle.mark_core.specs.declared.kinds.Shape.{Shape}
 use Rattle.mark_core.specs.declared.seat.SeatState.{SeatState}
-
-count_none : {X : Type 0} (p : X → Bool) (xs : List X) → All (λ x. p x ≡ false) xs → count_by p xs ≡ 0
-count_none p [] a = refl
-count_none {X} p (x ∷ xs) a =
-    let P : X → Type 0 = λ (y : X). p y ≡ false in
-    omega (arith, count-cons p x xs, ap bit (All-head P x xs a), count_none p xs (All-tail P x xs a))
 
 count_all : (a n : ℕ) → count_by (λ (x : ℕ). true) (range_with_len a n) ≡ n
 count_all a zero = refl
@@ -109,7 +103,7 @@ each_seat P sh n h = All-map P (start_seat sh) (range_with_len 0 n) (λ k d l. h
 
 nobody : (sh : Shape) (n p : ℕ) → holder_count (hands (start_seats sh n)) p ≡ 0
 nobody sh n p =
-    count_none (λ (h : Slots). holds h p) (hands (start_seats sh n)) (All-map (λ (h : Slots). holds h p ≡ false) (λ (s : SeatState). s.held) (start_seats sh n) (each_seat (λ (s : SeatState). holds s.held p ≡ false) sh n (λ k. refl)))
+    count-none (λ (h : Slots). holds h p) (hands (start_seats sh n)) (All-map (λ (h : Slots). holds h p ≡ false) (λ (s : SeatState). s.held) (start_seats sh n) (each_seat (λ (s : SeatState). holds s.held p ≡ false) sh n (λ k. refl)))
 
 never_in : (P : Type 0) (b : Bool) → b ≡ false → IsTrue b → P
 never_in P b e f = absurd (true≢false (sym f ∙ e))
@@ -119,7 +113,7 @@ start sh n z =
     let w : Words = words_of sh (start_words sh) in
     let seats : List SeatState = start_seats sh n in
     let all : empty_packets sh w.pools ≡ sh.packets = count-same (λ (x : ℕ). true) (in_pool sh w.pools 0) 0 sh.packets (λ x l h. starts-in sh x (omega (arith, h))) ∙ count_all 0 sh.packets in
-    let none = λ (P : SeatState → Bool) (h : (k : ℕ) → P (start_seat sh k) ≡ false). count_none P seats (each_seat (λ (s : SeatState). P s ≡ false) sh n h) in
+    let none = λ (P : SeatState → Bool) (h : (k : ℕ) → P (start_seat sh k) ≡ false). count-none P seats (each_seat (λ (s : SeatState). P s ≡ false) sh n h) in
     record {
       pools =
           record {
