@@ -39,22 +39,22 @@ some_passes f (x ∷ xs) h =
     (λ (e : f x ≡ false). let r = some_passes f xs (omega (arith, c, h, ap bit e)) in (suc r.0, omega (arith, r.1), r.2))
     (cases_Bool (f x))
 
-any_passes : {X : Type 0} (f : X → Bool) (xs : List X) → list_any f xs ≡ true → 0 < count_by f xs
-any_passes f [] e = absurd (false≢true e)
-any_passes f (x ∷ xs) e =
+pub any-passes : {X : Type 0} (f : X → Bool) (xs : List X) → list_any f xs ≡ true → 0 < count_by f xs
+any-passes f [] e = absurd (false≢true e)
+any-passes f (x ∷ xs) e =
     let c = count-cons f x xs in
     ⊎_elim
     (λ (a : f x ≡ true). omega (arith, c, ap bit a))
-    (λ (a : list_any f xs ≡ true). omega (arith, c, any_passes f xs a))
+    (λ (a : list_any f xs ≡ true). omega (arith, c, any-passes f xs a))
     (or_cases (f x) (list_any f xs) e)
 
-passes_any : {X : Type 0} (f : X → Bool) (xs : List X) → 0 < count_by f xs → list_any f xs ≡ true
-passes_any f [] h = absurd (omega (arith, h))
-passes_any f (x ∷ xs) h =
+pub passes-any : {X : Type 0} (f : X → Bool) (xs : List X) → 0 < count_by f xs → list_any f xs ≡ true
+passes-any f [] h = absurd (omega (arith, h))
+passes-any f (x ∷ xs) h =
     let c = count-cons f x xs in
     ⊎_elim
     (λ (e : f x ≡ true). ap (λ (b : Bool). b || list_any f xs) e)
-    (λ (e : f x ≡ false). ap (λ (b : Bool). b || list_any f xs) e ∙ passes_any f xs (omega (arith, c, h, ap bit e)))
+    (λ (e : f x ≡ false). ap (λ (b : Bool). b || list_any f xs) e ∙ passes-any f xs (omega (arith, c, h, ap bit e)))
     (cases_Bool (f x))
 
 -- one that passes is counted
@@ -135,7 +135,7 @@ numbers-of sh world help seats w k =
             help_word = omega (arith, w.help_word, flag_bit (list_any is_opened ss), opened);
             admitted_stopped = λ h.
                 let one = some_passes (λ (x : Standing). x.admitted) ss h in
-                any_passes (λ (x : Standing). x.knows) ss (w.admitted_stopped one.0 nowhere one.1 (one.2 nowhere));
+                any-passes (λ (x : Standing). x.knows) ss (w.admitted_stopped one.0 nowhere one.1 (one.2 nowhere));
             knows_stopped = λ h.
                 let one = some_passes (λ (x : Standing). x.knows) ss h in
                 count-none (λ (x : Standing). x.active) ss (w.knows_stopped one.0 nowhere one.1 (one.2 nowhere));
@@ -196,7 +196,7 @@ right-from world help ss k =
           let x : Standing = get_or ss i d in
           let role = bits_role x.counted x.raised x.admitted f.one_role e in
           (implies x.admitted x.helping f.admitted_helps e, role.0, role.1);
-      admitted_stopped = λ i d h e. passes_any (λ (x : Standing). x.knows) ss (t.admitted_stopped (passes_counted (λ (x : Standing). x.admitted) ss i d h e));
+      admitted_stopped = λ i d h e. passes-any (λ (x : Standing). x.knows) ss (t.admitted_stopped (passes_counted (λ (x : Standing). x.admitted) ss i d h e));
       knows_stopped = λ i d h e. none_passes (λ (x : Standing). x.active) ss (t.knows_stopped (passes_counted (λ (x : Standing). x.knows) ss i d h e));
       alone_unhelped = λ i d h e. none_passes (λ (x : Standing). x.admitted) ss (t.alone_unhelped (passes_counted (λ (x : Standing). x.alone) ss i d h e));
       knows_is_raised = λ i d h. let f = k.fits i d h in implies (get_or ss i d).knows (get_or ss i d).raised f.knows_raised;
