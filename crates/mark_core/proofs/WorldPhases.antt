@@ -1,8 +1,8 @@
 -- The rule of the phase, by facts of each seat: kept by each step that leaves the phase.
-use Rattle.std.proofs.Common.{ℕ, ◌≡◌, ◌/◌, ◌%◌, ◌≤◌, ◌<◌, List, set, get_or, length, arith, refl, sym, ap, ◌∙◌, subst, true, false, eqb, ⊎_elim}
+use Rattle.std.proofs.Common.{ℕ, Bool, ◌≡◌, ◌/◌, ◌%◌, ◌≤◌, ◌<◌, List, set, get_or, length, refl, sym, ap, ◌∙◌, subst, true, false, eqb, ⊎_elim}
 use Rattle.std.specs.Prelude.{IsTrue, IsFalse, slice_index}
 use Rattle.std.specs.List.{All}
-use Rattle.std.proofs.lemmas.Bool.{and_parts, or_cases, cases_eq, cases_lt, eqb-true, ltb-true}
+use Rattle.std.proofs.lemmas.Bool.{true≢false, and_parts, or_cases, cases_eq, cases_lt, eqb-true, ltb-true}
 use Rattle.std.proofs.lemmas.Nat.Bits.{bit_at-zero}
 use Rattle.std.proofs.lemmas.List.{length-map, get_or-map, set-get_or, set_past, get_or-set_same, get_or-set_other}
 use Rattle.std.proofs.lemmas.List.Elements.{All-map}
@@ -10,6 +10,7 @@ use Rattle.mark_core.specs.Shapes.{EachCell, EachPacket}
 use Rattle.mark_core.specs.Layout.{Words, words_of, put_word, region_sizes, block_count}
 use Rattle.mark_core.specs.Bits.{cell_bit, has_bit}
 use Rattle.mark_core.specs.Held.{holds_any}
+use Rattle.mark_core.specs.Seats.{is_phase}
 use Rattle.mark_core.specs.Views.{standings, hands, some_knows}
 use Rattle.mark_core.specs.WorldRules.{Phases, is_tracing, is_stopped_phase, is_resting}
 use Rattle.mark_core.specs.Parts.{parts}
@@ -21,6 +22,7 @@ use Rattle.mark_core.proofs.RegionWrites.{marks-kept}
 use Rattle.mark_core.proofs.WorldSights.{Sees, traces-in}
 use Rattle.mark_core.proofs.WorldQuiet.{lengths-of-heads}
 use Rattle.mark_core.specs.declared.kinds.Shape.{Shape}
+use Rattle.mark_core.specs.declared.kinds.Phase.TheVariants.{Sweep}
 use Rattle.mark_core.specs.declared.kinds.Step.{Step}
 use Rattle.mark_core.specs.declared.kinds.Step.TheVariants.{SetMark, ReadMarks, ReadBlockMarks, ClearMarks}
 use Rattle.mark_core.specs.declared.seat.SeatState.{SeatState}
@@ -65,24 +67,13 @@ phases-from sh phase marks heads seats k =
       hands_empty = none;
     }
 
--- outside a cycle nothing traces
-not_both : (phase : ℕ) (P : Type 0) → is_resting phase ≡ true → is_tracing phase ≡ true → P
-not_both phase P e f =
-    absurd
-    (⊎_elim
-    (λ (a : eqb phase 0 ≡ true).
-    ⊎_elim (λ (b : eqb phase 1 ≡ true). omega (arith, eqb-true phase 0 a, eqb-true phase 1 b)) (λ (b : eqb phase 2 ≡ true). omega (arith, eqb-true phase 0 a, eqb-true phase 2 b)) (or_cases (eqb phase 1) (eqb phase 2) f))
-    (λ (a : eqb phase 5 ≡ true).
-    ⊎_elim (λ (b : eqb phase 1 ≡ true). omega (arith, eqb-true phase 5 a, eqb-true phase 1 b)) (λ (b : eqb phase 2 ≡ true). omega (arith, eqb-true phase 5 a, eqb-true phase 2 b)) (or_cases (eqb phase 1) (eqb phase 2) f))
-    (or_cases (eqb phase 0) (eqb phase 5) e))
-
-not_sweep : (phase : ℕ) (P : Type 0) → is_resting phase ≡ true → eqb phase 3 ≡ true → P
-not_sweep phase P e f =
-    absurd
-    (⊎_elim
-    (λ (a : eqb phase 0 ≡ true). omega (arith, eqb-true phase 0 a, eqb-true phase 3 f))
-    (λ (a : eqb phase 5 ≡ true). omega (arith, eqb-true phase 5 a, eqb-true phase 3 f))
-    (or_cases (eqb phase 0) (eqb phase 5) e))
+-- outside a cycle the phase isn't one of these
+pub resting-not : (phase : ℕ) (test : ℕ → Bool) (P : Type 0) → test 0 ≡ false → test 5 ≡ false → is_resting phase ≡ true → test phase ≡ true → P
+resting-not phase test P zero five e f =
+    ⊎_elim
+    (λ (a : eqb phase 0 ≡ true). absurd (true≢false (sym f ∙ (ap test (eqb-true phase 0 a) ∙ zero))))
+    (λ (a : eqb phase 5 ≡ true). absurd (true≢false (sym f ∙ (ap test (eqb-true phase 5 a) ∙ five))))
+    (or_cases (eqb phase 0) (eqb phase 5) e)
 
 no_bits : (i : ℕ) → has_bit 0 i ≡ false
 no_bits i = rw bit_at-zero refl
@@ -102,12 +93,12 @@ cleared ws b x e =
 -- outside a cycle no step marks a cell
 pub white-after : (c : Core) (i : ℕ) (s : SeatState) (step : Step) → Sees (words_of c.shape c.words).phase s → IsTrue (is_resting (words_of c.shape c.words).phase) → IsWhite c.shape (words_of c.shape c.words).marks
     → AllTrue (parts c.shape (words_of c.shape c.words) c.seats s step) → IsWhite c.shape (put_word (place c.shape s step) (written c.shape s step (found c s step)) (words_of c.shape c.words)).marks
-white-after c i s (SetMark x) k e h ok = not_both (words_of c.shape c.words).phase _ e (traces-in (words_of c.shape c.words).phase s k ok.1.0)
+white-after c i s (SetMark x) k e h ok = resting-not (words_of c.shape c.words).phase is_tracing _ refl refl e (traces-in (words_of c.shape c.words).phase s k ok.1.0)
 white-after c i s (ReadMarks b) k e h ok =
     let w : Words = words_of c.shape c.words in
     let here : found c s (ReadMarks b) ≡ get_or w.marks b 0 = words-get (region_sizes c.shape) 5 c.words b 0 (ltb-true b (block_count c.shape) (and_parts _ _ ok.0).0) in
     let P : ℕ → Type 0 = λ v. IsWhite c.shape (set w.marks b v) in
     subst P (sym here) (subst (IsWhite c.shape) (sym (set-get_or w.marks b 0)) h)
-white-after c i s ReadBlockMarks k e h ok = not_sweep (words_of c.shape c.words).phase _ e (and_parts _ _ ok.0).1
+white-after c i s ReadBlockMarks k e h ok = resting-not (words_of c.shape c.words).phase (λ p. is_phase p Sweep) _ refl refl e (and_parts _ _ ok.0).1
 white-after c i s ClearMarks k e h ok = λ x hx. cleared (words_of c.shape c.words).marks _ x (h x hx)
 white-after c i s step k e h ok = rw (marks-kept c.shape s step (written c.shape s step (found c s step)) (words_of c.shape c.words) refl) h

@@ -30,13 +30,13 @@ any_bit f (x ∷ xs) h =
     (cases_Bool (f x))
 
 -- where some pass, one does
-some_passes : {X : Type 0} (f : X → Bool) (xs : List X) → 0 < count_by f xs → (k : ℕ) × (k < length xs) × ((d : X) → f (get_or xs k d) ≡ true)
-some_passes f [] h = absurd (omega (arith, h))
-some_passes f (x ∷ xs) h =
+pub some-passes : {X : Type 0} (f : X → Bool) (xs : List X) → 0 < count_by f xs → (k : ℕ) × (k < length xs) × ((d : X) → f (get_or xs k d) ≡ true)
+some-passes f [] h = absurd (omega (arith, h))
+some-passes f (x ∷ xs) h =
     let c = count-cons f x xs in
     ⊎_elim
     (λ (e : f x ≡ true). (0, omega arith, λ d. e))
-    (λ (e : f x ≡ false). let r = some_passes f xs (omega (arith, c, h, ap bit e)) in (suc r.0, omega (arith, r.1), r.2))
+    (λ (e : f x ≡ false). let r = some-passes f xs (omega (arith, c, h, ap bit e)) in (suc r.0, omega (arith, r.1), r.2))
     (cases_Bool (f x))
 
 pub any-passes : {X : Type 0} (f : X → Bool) (xs : List X) → list_any f xs ≡ true → 0 < count_by f xs
@@ -58,8 +58,8 @@ passes-any f (x ∷ xs) h =
     (cases_Bool (f x))
 
 -- one that passes is counted
-passes_counted : {X : Type 0} (f : X → Bool) (xs : List X) (k : ℕ) (d : X) → k < length xs → f (get_or xs k d) ≡ true → 0 < count_by f xs
-passes_counted f xs k d h e = omega (arith, get_or-le-sum_by (λ x. bit (f x)) xs k d h, ap bit e)
+pub passes-counted : {X : Type 0} (f : X → Bool) (xs : List X) (k : ℕ) (d : X) → k < length xs → f (get_or xs k d) ≡ true → 0 < count_by f xs
+passes-counted f xs k d h e = omega (arith, get_or-le-sum_by (λ x. bit (f x)) xs k d h, ap bit e)
 
 bit_zero : (b : Bool) → bit b ≤ 0 → b ≡ false
 bit_zero true h = absurd (omega arith)
@@ -77,7 +77,7 @@ bit_below : (b : Bool) → bit b ≤ 1
 bit_below true = omega arith
 bit_below false = omega arith
 
-implied : (a b : Bool) → (a ≡ true → b ≡ true) → bit a ≤ bit b
+pub implied : (a b : Bool) → (a ≡ true → b ≡ true) → bit a ≤ bit b
 implied true b h = rw (h refl) (omega arith)
 implied false b h = omega arith
 
@@ -134,13 +134,13 @@ numbers-of sh world help seats w k =
             one_raised = w.one_raised;
             help_word = omega (arith, w.help_word, flag_bit (list_any is_opened ss), opened);
             admitted_stopped = λ h.
-                let one = some_passes (λ (x : Standing). x.admitted) ss h in
+                let one = some-passes (λ (x : Standing). x.admitted) ss h in
                 any-passes (λ (x : Standing). x.knows) ss (w.admitted_stopped one.0 nowhere one.1 (one.2 nowhere));
             knows_stopped = λ h.
-                let one = some_passes (λ (x : Standing). x.knows) ss h in
+                let one = some-passes (λ (x : Standing). x.knows) ss h in
                 count-none (λ (x : Standing). x.active) ss (w.knows_stopped one.0 nowhere one.1 (one.2 nowhere));
             alone_unhelped = λ h.
-                let one = some_passes (λ (x : Standing). x.alone) ss h in
+                let one = some-passes (λ (x : Standing). x.alone) ss h in
                 count-none (λ (x : Standing). x.admitted) ss (w.alone_unhelped one.0 nowhere one.1 (one.2 nowhere));
           };
     }
@@ -196,9 +196,9 @@ right-from world help ss k =
           let x : Standing = get_or ss i d in
           let role = bits_role x.counted x.raised x.admitted f.one_role e in
           (implies x.admitted x.helping f.admitted_helps e, role.0, role.1);
-      admitted_stopped = λ i d h e. passes-any (λ (x : Standing). x.knows) ss (t.admitted_stopped (passes_counted (λ (x : Standing). x.admitted) ss i d h e));
-      knows_stopped = λ i d h e. none_passes (λ (x : Standing). x.active) ss (t.knows_stopped (passes_counted (λ (x : Standing). x.knows) ss i d h e));
-      alone_unhelped = λ i d h e. none_passes (λ (x : Standing). x.admitted) ss (t.alone_unhelped (passes_counted (λ (x : Standing). x.alone) ss i d h e));
+      admitted_stopped = λ i d h e. passes-any (λ (x : Standing). x.knows) ss (t.admitted_stopped (passes-counted (λ (x : Standing). x.admitted) ss i d h e));
+      knows_stopped = λ i d h e. none_passes (λ (x : Standing). x.active) ss (t.knows_stopped (passes-counted (λ (x : Standing). x.knows) ss i d h e));
+      alone_unhelped = λ i d h e. none_passes (λ (x : Standing). x.admitted) ss (t.alone_unhelped (passes-counted (λ (x : Standing). x.alone) ss i d h e));
       knows_is_raised = λ i d h. let f = k.fits i d h in implies (get_or ss i d).knows (get_or ss i d).raised f.knows_raised;
       raised_not_counted = λ i d h. let f = k.fits i d h in bits_raised (get_or ss i d).counted (get_or ss i d).raised (get_or ss i d).admitted f.one_role;
       alone_knows = λ i d h. let f = k.fits i d h in let x : Standing = get_or ss i d in implies x.alone x.knows (omega (arith, f.opened_or_alone));
