@@ -98,8 +98,8 @@ role_bits true false false f g = omega arith
 role_bits false false false f g = omega arith
 
 -- a fact of each standing, at that of seat i
-at_standing : (P : Standing → Type 0) (seats : List SeatState) (i : ℕ) (d : SeatState) → i < length seats → All P (standings seats) → P (standing_of (get_or seats i d))
-at_standing P seats i d h a = subst P (get_or-map standing_of seats i d (standing_of d) h) (a i (standing_of d) (rw length-map h))
+pub at-standing : (P : Standing → Type 0) (seats : List SeatState) (i : ℕ) (d : SeatState) → i < length seats → All P (standings seats) → P (standing_of (get_or seats i d))
+at-standing P seats i d h a = subst P (get_or-map standing_of seats i d (standing_of d) h) (a i (standing_of d) (rw length-map h))
 
 all_fit : (sh : Shape) (world help : ℕ) (seats : List SeatState) → World sh world help (standings seats) seats → All (IsStrongSeat sh) seats → All Fits (standings seats)
 all_fit sh world help seats w k =
@@ -107,9 +107,9 @@ all_fit sh world help seats w k =
     (λ i d h.
     let s : SeatState = get_or seats i d in
     let strong : IsStrongSeat sh s = k i d h in
-    let opened = at_standing (λ (x : Standing). IsTrue x.opened → IsTrue x.knows × IsFalse x.alone) seats i d h w.opened_knows in
-    let active = at_standing (λ (x : Standing). IsTrue x.active → IsTrue x.counted) seats i d h w.active_counted in
-    let helps = at_standing HelpsOnly seats i d h w.admitted_helps in
+    let opened = at-standing (λ (x : Standing). IsTrue x.opened → IsTrue x.knows × IsFalse x.alone) seats i d h w.opened_knows in
+    let active = at-standing (λ (x : Standing). IsTrue x.active → IsTrue x.counted) seats i d h w.active_counted in
+    let helps = at-standing HelpsOnly seats i d h w.admitted_helps in
     record {
       opened_or_alone = opened_bits s.opened s.alone s.knows opened strong.alone_knows;
       knows_raised = implied s.knows s.raised strong.knows_is_raised;
