@@ -48,7 +48,7 @@ pub record WorldSound (sh : Shape) (w : Words) (seats : List SeatState) : Type 0
   pub admitted_has_no_cache : All (λ (s : SeatState). IsTrue s.admitted → s.cache ≡ None) seats
 
 -- the parts, put together
-together : (sh : Shape) (w : Words) (seats : List SeatState) → StandsRight w.world w.help (standings seats) → All (Local sh) seats → InPhase sh w.phase w.marks w.heads seats → WorldSound sh w seats
+pub together : (sh : Shape) (w : Words) (seats : List SeatState) → StandsRight w.world w.help (standings seats) → All (Local sh) seats → InPhase sh w.phase w.marks w.heads seats → WorldSound sh w seats
 together sh w seats r l p =
     record {
       world =
@@ -85,8 +85,8 @@ locals c k i d h =
       uncached = strong.admitted_has_no_cache;
     }
 
-new_local : (sh : Shape) (k : ℕ) → Local sh (start_seat sh k)
-new_local sh k = record { outside = λ e. (refl, refl, refl, refl, refl, refl); calm = λ e. (refl, refl, refl, refl); unseen = λ e. refl; uncached = λ e. refl }
+pub new-local : (sh : Shape) (k : ℕ) → Local sh (start_seat sh k)
+new-local sh k = record { outside = λ e. (refl, refl, refl, refl, refl, refl); calm = λ e. (refl, refl, refl, refl); unseen = λ e. refl; uncached = λ e. refl }
 
 ended_local : (sh : Shape) (k : ℕ) → Local sh (spent_seat sh k)
 ended_local sh k = record { outside = λ e. (refl, refl, refl, refl, refl, refl); calm = λ e. (refl, refl, refl, refl); unseen = λ e. refl; uncached = λ e. refl }
@@ -144,7 +144,7 @@ world_at c i s step k g ok =
     let after : Words = put_word (place sh s step) (written sh s step (found c s step)) w in
     together sh after (others_after sh step (set c.seats i (seat_after sh s step (found c s step))))
     (right-from after.world after.help (standings (others_after sh step (set c.seats i (seat_after sh s step (found c s step))))) (numbers-at c i s step (record { few = k.formed.seat_count.1; seat = h; is = is; numbers = numbers }) ok))
-    (local-kept (Local sh) sh step c.seats i (seat_after sh s step (found c s step)) (new_local sh) (ended_local sh) all (local-at sh w c.seats s step (found c s step) mine fits (block_free c i s k h is) ok))
+    (local-kept (Local sh) sh step c.seats i (seat_after sh s step (found c s step)) (new-local sh) (ended_local sh) all (local-at sh w c.seats s step (found c s step) mine fits (block_free c i s k h is) ok))
     (phase_at c i s step (record { seat = h; is = is; phase = phase; fits = numbers.fits; mine = mine; in_range = k.formed.phase })
     (record {
       seat = h;

@@ -75,8 +75,8 @@ knowers_at c i s (Join other) h is f ok st e =
     rw back (knowers_end c.shape c.seats other (slice_get c.seats other) e f refl (and_parts _ _ first.0).1)
 knowers_at c i s step h is f ok st e = knowers-set c.seats i s (seat_after c.shape s step (found c s step)) h is (λ k. k) e
 
-new_sees : (phase : ℕ) (sh : Shape) (k : ℕ) → Sees phase (start_seat sh k)
-new_sees phase sh k = record { marking = λ a m. absurd (false≢true a); helper = λ a. tt }
+pub new-sees : (phase : ℕ) (sh : Shape) (k : ℕ) → Sees phase (start_seat sh k)
+new-sees phase sh k = record { marking = λ a m. absurd (false≢true a); helper = λ a. tt }
 
 ended_sees : (phase : ℕ) (sh : Shape) (k : ℕ) → Sees phase (spent_seat sh k)
 ended_sees phase sh k = record { marking = λ a m. absurd (false≢true a); helper = λ a. tt }
@@ -103,7 +103,7 @@ phase-stays c i s step k same read ok =
     let sees : Sees w.phase s = subst (Sees w.phase) k.is (k.phase.sees i s k.seat) in
     rw same
     (record {
-      sees = local-kept (Sees w.phase) sh step c.seats i t (new_sees w.phase sh) (ended_sees w.phase sh) k.phase.sees (sees-after sh w c.seats s step (found c s step) sees k.mine fits k.in_range read ok);
+      sees = local-kept (Sees w.phase) sh step c.seats i t (new-sees w.phase sh) (ended_sees w.phase sh) k.phase.sees (sees-after sh w c.seats s step (found c s step) sees k.mine fits k.in_range read ok);
       stopped = λ e. knowers_at c i s step k.seat k.is k.fits ok e (k.phase.stopped e);
       white = λ e. white-after c i s step sees e (k.phase.white e) ok;
       still =
