@@ -11,14 +11,15 @@ use Rattle.mark_core.specs.Held.{has_length, is_stored, length_in_hand, holds_an
 use Rattle.mark_core.specs.Seats.{work_in_hand}
 use Rattle.mark_core.specs.Cells.{in_pool, empty_packets}
 use Rattle.mark_core.specs.PacketRules.{Counts, HeadsAgree, has_reservation, has_credit}
-use Rattle.mark_core.proofs.CountRange.{bit, count-cons}
+use Rattle.mark_core.proofs.CountTests.{bit}
+use Rattle.mark_core.proofs.CountRange.{count-cons}
 use Rattle.mark_core.proofs.PoolSlots.{SameInHand}
 use Rattle.mark_core.specs.declared.kinds.Shape.{Shape}
 use Rattle.mark_core.specs.declared.seat.SeatState.{SeatState}
 
 -- what holds of the new element and of each other one
-pub all-set_but : {X : Type 0} (P : X → Type 0) (xs : List X) (i : ℕ) (y : X) → P y → ((k : ℕ) (d : X) → k ≢ i → k < length xs → P (get_or xs k d)) → All P (set xs i y)
-all-set_but P xs i y here others k d h =
+all_set_but : {X : Type 0} (P : X → Type 0) (xs : List X) (i : ℕ) (y : X) → P y → ((k : ℕ) (d : X) → k ≢ i → k < length xs → P (get_or xs k d)) → All P (set xs i y)
+all_set_but P xs i y here others k d h =
     let h' : k < length xs = omega (arith, length-set xs i y) in
     ⊎_elim
     (λ (e : k ≡ i). rw e (let hi : i < length xs = omega arith in rw get_or-set_same here))
@@ -48,7 +49,7 @@ counts-moved sh empty empty' heads heads' pools pools' seats i s t c hi is m oth
     record {
       counted = count_moves sh empty empty' pools pools' seats i s t hi is m.counted c.counted;
       one_debt = All-set (λ (x : SeatState). IsFalse (x.reserved && x.credit)) seats i t m.one_debt c.one_debt;
-      heads_agree = all-set_but (HeadsAgree sh heads') seats i t m.heads_agree others;
+      heads_agree = all_set_but (HeadsAgree sh heads') seats i t m.heads_agree others;
       work_holds = All-set (λ (x : SeatState). IsTrue (work_in_hand sh.fields x) → IsTrue (holds_any x.held)) seats i t m.work_holds c.work_holds;
     }
 

@@ -4,10 +4,7 @@ use Rattle.std.specs.List.{All, count_by, range_with_len}
 use Rattle.std.proofs.lemmas.List.Elements.{All-head, All-tail}
 use Rattle.std.proofs.lemmas.List.Sums.{sum_by-cons, count_by-le-length}
 use Rattle.std.proofs.lemmas.Bool.{cases_eq}
-
--- 1 where it holds
-abbrev pub bit : Bool → ℕ
-bit b = cond b 1 0
+use Rattle.mark_core.proofs.CountTests.{bit, bit-below, bit-one}
 
 pub count-cons : {X : Type 0} (f : X → Bool) (x : X) (xs : List X) → count_by f (x ∷ xs) ≡ bit (f x) + count_by f xs
 count-cons f x xs = sum_by-cons (λ y. cond (f y) 1 0) x xs
@@ -36,19 +33,11 @@ count-but-one f g p a (suc n) l h s =
     omega arith)
     (cases_eq a p)
 
-bit_one : (b : Bool) → 1 ≤ bit b → b ≡ true
-bit_one true h = refl
-bit_one false h = absurd (omega arith)
-
-bit_below : (b : Bool) → bit b ≤ 1
-bit_below true = omega arith
-bit_below false = omega arith
-
 -- where as many pass as there are, each passes
 pub all-pass : {X : Type 0} (p : X → Bool) (xs : List X) → length xs ≤ count_by p xs → (k : ℕ) (d : X) → k < length xs → p (get_or xs k d) ≡ true
 all-pass p [] h k d l = absurd (omega arith)
-all-pass p (x ∷ xs) h zero d l = bit_one (p x) (omega (arith, count-cons p x xs, count_by-le-length p xs))
-all-pass p (x ∷ xs) h (suc k) d l = all-pass p xs (omega (arith, count-cons p x xs, bit_below (p x))) k d (omega arith)
+all-pass p (x ∷ xs) h zero d l = bit-one (p x) (omega (arith, count-cons p x xs, count_by-le-length p xs))
+all-pass p (x ∷ xs) h (suc k) d l = all-pass p xs (omega (arith, count-cons p x xs, bit-below (p x))) k d (omega arith)
 
 pub count-none : {X : Type 0} (p : X → Bool) (xs : List X) → All (λ x. p x ≡ false) xs → count_by p xs ≡ 0
 count-none p [] a = refl

@@ -1,5 +1,5 @@
 -- Steps that leave the packets where they are keep the rules of packets.
-use Rattle.std.proofs.Common.{ℕ, ◌≡◌, ◌+◌, ◌%◌, ◌<◌, ◌≤◌, List, set, arith, refl, sym, ap, ◌∙◌, Bool, true, false, not, ◌&&◌, ◌||◌}
+use Rattle.std.proofs.Common.{ℕ, ◌≡◌, ◌+◌, ◌%◌, ◌<◌, ◌≤◌, List, set, arith, refl, sym, ap, ◌∙◌, Bool, true, false, ◌&&◌, ◌||◌}
 use Rattle.std.specs.Prelude.{IsTrue, nat_lt, is_some}
 use Rattle.std.proofs.lemmas.Bool.{true≢false, false≢true, and_parts, ltb-true}
 use Rattle.mark_core.specs.Layout.{Words, put_word}
@@ -11,7 +11,7 @@ use Rattle.mark_core.specs.Parts.{parts}
 use Rattle.mark_core.specs.Effects.{place, written, seat_after}
 use Rattle.mark_core.specs.Steps.{AllTrue}
 use Rattle.mark_core.specs.Laws.{PacketsSound}
-use Rattle.mark_core.proofs.CountRange.{bit}
+use Rattle.mark_core.proofs.CountTests.{bit, neither}
 use Rattle.mark_core.proofs.CountMoves.{count-above, count-below}
 use Rattle.mark_core.proofs.CountWork.{work-before, work-reads, work-marks, idle-read_alloc, idle-dirty_card, idle-read_marks}
 use Rattle.mark_core.proofs.Frames.{held_of, debts_of, changes_held, changes_debts, changes_grasp, held-kept, debts-kept, grasp-kept}
@@ -23,11 +23,6 @@ use Rattle.mark_core.specs.declared.kinds.Step.{Step}
 use Rattle.mark_core.specs.declared.kinds.Step.TheVariants.{Reserve, Credit, ReadAlloc, ReadField, ReadRoot, SetMark, DirtyCard, ClearCard, ReadMarks}
 use Rattle.mark_core.specs.declared.seat.SeatState.{SeatState}
 
-nothing_owed : (a b : Bool) → (not a && not b) ≡ true → (a ≡ false) × (b ≡ false)
-nothing_owed true b e = absurd (false≢true e)
-nothing_owed false true e = absurd (false≢true e)
-nothing_owed false false e = (refl, refl)
-
 taken_one : (e c : ℕ) → 1 ≤ e → e < 18446744073709551616 → (e + 18446744073709551615) % 18446744073709551616 + 1 + c ≡ e + 0 + c
 taken_one e c h g = omega arith
 
@@ -35,7 +30,7 @@ taken_one e c h g = omega arith
 pub sound-reserve : (sh : Shape) (w : Words) (seats : List SeatState) (i : ℕ) (s : SeatState) → At sh w seats i s → AllTrue (parts sh w seats s Reserve)
     → PacketsSound sh (put_word (place sh s Reserve) (written sh s Reserve w.empty) w) (set seats i (seat_after sh s Reserve w.empty))
 sound-reserve sh w seats i s a ok =
-    let free = nothing_owed s.reserved s.credit ok.1.0 in
+    let free = neither s.reserved s.credit ok.1.0 in
     let above = count-above sh w.empty w.heads w.pools seats a.packets.counts a.few in
     let below = count-below sh w.empty w.heads w.pools seats a.packets.counts in
     sound-still sh w (put_word (place sh s Reserve) (written sh s Reserve w.empty) w) seats i s (seat_after sh s Reserve w.empty) a

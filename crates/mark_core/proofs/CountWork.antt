@@ -28,20 +28,20 @@ none_of false false true d e h = absurd (true≢false h)
 none_of false false false true e h = absurd (true≢false h)
 none_of false false false false e h = (refl, refl, refl, refl, h)
 
-pub idle-from : (fields : ℕ) (s : SeatState) → work_in_hand fields s ≡ false → IsIdle fields s
-idle-from fields s h =
+idle_from : (fields : ℕ) (s : SeatState) → work_in_hand fields s ≡ false → IsIdle fields s
+idle_from fields s h =
     let a = none_of (is_some s.popped) (scan_left fields s.scan) (is_some s.value) (is_some s.fresh) (cleaning_left s.cleaning) h in
     record { popped = a.0; scan = a.1; value = a.2; fresh = a.3; cleaning = a.4 }
 
-pub idle-work : (fields : ℕ) (s : SeatState) → IsIdle fields s → work_in_hand fields s ≡ false
-idle-work fields s h = rw (h.popped, h.scan, h.value, h.fresh, h.cleaning) refl
+idle_work : (fields : ℕ) (s : SeatState) → IsIdle fields s → work_in_hand fields s ≡ false
+idle_work fields s h = rw (h.popped, h.scan, h.value, h.fresh, h.cleaning) refl
 
 -- work that is there after a step was there before it, where an idle seat stays idle
 pub work-before : (fields : ℕ) (s t : SeatState) → (IsIdle fields s → IsIdle fields t) → work_in_hand fields t ≡ true → work_in_hand fields s ≡ true
 work-before fields s t f h =
     ⊎_elim
     (λ (e : work_in_hand fields s ≡ true). e)
-    (λ (e : work_in_hand fields s ≡ false). absurd (true≢false (sym h ∙ idle-work fields t (f (idle-from fields s e)))))
+    (λ (e : work_in_hand fields s ≡ false). absurd (true≢false (sym h ∙ idle_work fields t (f (idle_from fields s e)))))
     (cases_Bool (work_in_hand fields s))
 
 popped_read : (o : Option (ℕ × Bool)) (b word : ℕ) → is_some o ≡ false → is_some (popped_after o b word) ≡ false

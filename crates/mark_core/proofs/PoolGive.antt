@@ -12,7 +12,7 @@ use Rattle.mark_core.specs.Parts.{parts}
 use Rattle.mark_core.specs.Effects.{place, written, seat_after}
 use Rattle.mark_core.specs.Steps.{AllTrue}
 use Rattle.mark_core.specs.Laws.{PacketsSound}
-use Rattle.mark_core.proofs.CountRange.{bit}
+use Rattle.mark_core.proofs.CountTests.{bit, neither, follows}
 use Rattle.mark_core.proofs.CountMoves.{agrees-but-one}
 use Rattle.mark_core.proofs.PoolSlots.{drop-other, holds-drop_same, stored-held}
 use Rattle.mark_core.proofs.PoolBits.{OneBit, pool-with, empty_packets-moves, in-row, word-below, in-no-pool}
@@ -38,15 +38,6 @@ some_entries : (d z : Bool) (n : ℕ) → eqb n 0 ≡ z → (not d || not z) ≡
 some_entries true true n e h f = absurd (false≢true h)
 some_entries true false n e h f = grind (arith, eqb-false)
 some_entries false z n e h f = absurd (false≢true f)
-
-not_both : (a b : Bool) → (not a && not b) ≡ true → (a ≡ false) × (b ≡ false)
-not_both true b e = absurd (false≢true e)
-not_both false true e = absurd (false≢true e)
-not_both false false e = (refl, refl)
-
-implied : (a b : Bool) → (not a || b) ≡ true → a ≡ true → b ≡ true
-implied true b h e = h
-implied false b h e = absurd (false≢true e)
 
 zero_not : (n : ℕ) → 0 < n → eqb n 0 ≡ false
 zero_not n h = ne_eqb n 0 (λ e. omega (arith, h, e))
@@ -80,7 +71,7 @@ give_by sh w w' seats i p d s a hp h e entries rest debts stored heads empty o =
     let t : SeatState = record s { held = drop_packet s.held p; credit = not (not (eqb n 0)) } in
     let k = holding sh w seats i s a in
     let head : slice_index w.heads p ≡ n = mine sh w seats i s a p hp stored e in
-    let free = not_both s.credit s.reserved debts in
+    let free = neither s.credit s.reserved debts in
     let some = some_entries d (eqb n 0) n refl entries in
     let out : in_pool sh w.pools 0 p ≡ false = in-no-pool sh w.pools 0 p (omega arith) (held-alone sh w.heads w.pools (hands seats) i p s.held k hp h).0 in
     let one = gives_one sh w.pools w'.pools p n d (eqb n 0) hp o out refl some in
@@ -92,7 +83,7 @@ give_by sh w w' seats i p d s a hp h e entries rest debts stored heads empty o =
       heads_agree =
           agrees-but-one sh w.heads w'.heads s t p (mine sh w seats i s a) (λ x f. rw heads refl) (λ x f. drop-other s.held p x f)
           (λ _ f g. absurd (true≢false (sym (stored-held (drop_packet s.held p) p f) ∙ holds-drop_same s.held p)));
-      work_holds = implied (work_in_hand sh.fields s) (holds_any (drop_packet s.held p)) rest;
+      work_holds = follows (work_in_hand sh.fields s) (holds_any (drop_packet s.held p)) rest;
     })
     (λ j f g l. rw heads (a.packets.counts.heads_agree j f l))
 

@@ -5,7 +5,8 @@ use Rattle.std.proofs.lemmas.List.Sums.{sum_by-set, sum_by_push, get_or-le-sum_b
 use Rattle.mark_core.specs.Held.{Slots, holds, known_length}
 use Rattle.mark_core.specs.Cells.{length_among, holder_count, or_else}
 use Rattle.mark_core.proofs.Known.{unheld-unknown}
-use Rattle.mark_core.proofs.CountRange.{bit, count-cons}
+use Rattle.mark_core.proofs.CountTests.{bit}
+use Rattle.mark_core.proofs.CountRange.{count-cons}
 
 -- the count of holders, once seat i holds gs in place of hs
 pub holders-set : (hss : List Slots) (i q : ℕ) (hs gs : Slots) → i < length hss → get_or hss i hs ≡ hs → holder_count (set hss i gs) q + bit (holds hs q) ≡ holder_count hss q + bit (holds gs q)

@@ -7,7 +7,7 @@ use Rattle.mark_core.specs.Held.{Slots, holds, known_length, has_free_slot, put_
 use Rattle.mark_core.specs.Cells.{in_pool, pool_count, holder_count, packet_length, length_among}
 use Rattle.mark_core.specs.PacketRules.{Pools}
 use Rattle.mark_core.specs.PacketSteps.{pool_for}
-use Rattle.mark_core.proofs.CountRange.{bit}
+use Rattle.mark_core.proofs.CountTests.{bit}
 use Rattle.mark_core.proofs.PoolSlots.{same-in-hand, put-other, drop-other, set-other, holds-put_same, known-put_same, holds-drop_same, holds-set_same, known-set_same}
 use Rattle.mark_core.proofs.PoolChoice.{pool_for-below, empty-fits, low-fits, high-fits, deferred-fits}
 use Rattle.mark_core.proofs.PoolBits.{OneBit, pool_count-moves, in-no-pool}
@@ -20,10 +20,6 @@ pub record Holding (sh : Shape) (heads pools : List ℕ) (hss : List Slots) (i :
   pub rule : Pools sh heads pools hss
   pub seat : i < length hss
   pub is : get_or hss i hs ≡ hs
-
-bit_false : (b : Bool) → bit b ≡ 0 → b ≡ false
-bit_false true e = absurd (omega arith)
-bit_false false e = refl
 
 -- a packet in hand is in no pool, and in no other hand
 pub held-alone : (sh : Shape) (heads pools : List ℕ) (hss : List Slots) (i p : ℕ) (hs : Slots) → Holding sh heads pools hss i hs → p < sh.packets → holds hs p ≡ true → (pool_count sh pools p ≡ 0) × (holder_count hss p ≡ 1)

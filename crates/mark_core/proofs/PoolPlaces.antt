@@ -6,7 +6,7 @@ use Rattle.mark_core.specs.Shapes.{EachPacket}
 use Rattle.mark_core.specs.Held.{Slots, known_length}
 use Rattle.mark_core.specs.Cells.{in_pool, pool_count, holder_count, packet_length, length_among}
 use Rattle.mark_core.specs.PacketRules.{Pools}
-use Rattle.mark_core.proofs.CountRange.{bit}
+use Rattle.mark_core.proofs.CountTests.{bit}
 use Rattle.mark_core.proofs.PoolSlots.{SameInHand}
 use Rattle.mark_core.proofs.PoolHolders.{holders-set, among-set}
 use Rattle.mark_core.specs.declared.kinds.Shape.{Shape}
@@ -20,8 +20,8 @@ pub record IsPlaced (sh : Shape) (heads pools : List ℕ) (hss : List Slots) (p 
   pub deferred_pool : IsTrue (in_pool sh pools 3 p) → (0 < slice_index heads p) × (slice_index heads p ≤ sh.entries)
   pub room : packet_length heads hss p ≤ sh.entries
 
-pub placed-in : (sh : Shape) (heads pools : List ℕ) (hss : List Slots) → Pools sh heads pools hss → EachPacket sh (IsPlaced sh heads pools hss)
-placed-in sh heads pools hss k p h =
+placed_in : (sh : Shape) (heads pools : List ℕ) (hss : List Slots) → Pools sh heads pools hss → EachPacket sh (IsPlaced sh heads pools hss)
+placed_in sh heads pools hss k p h =
     record {
       one_place = k.one_place p h;
       empty_pool = k.empty_pool p h;
@@ -31,8 +31,8 @@ placed-in sh heads pools hss k p h =
       room = k.rooms p h;
     }
 
-pub pools-from : (sh : Shape) (heads pools : List ℕ) (hss : List Slots) → EachPacket sh (IsPlaced sh heads pools hss) → Pools sh heads pools hss
-pools-from sh heads pools hss k =
+pools_from : (sh : Shape) (heads pools : List ℕ) (hss : List Slots) → EachPacket sh (IsPlaced sh heads pools hss) → Pools sh heads pools hss
+pools_from sh heads pools hss k =
     record {
       one_place = λ p h. (k p h).one_place;
       empty_pool = λ p h. (k p h).empty_pool;
@@ -49,8 +49,8 @@ pub record SamePlace (sh : Shape) (heads heads' pools pools' : List ℕ) (hss gs
   pub holders : holder_count gss p ≡ holder_count hss p
   pub known : length_among gss p ≡ length_among hss p
 
-pub placed-same : (sh : Shape) (heads heads' pools pools' : List ℕ) (hss gss : List Slots) (p : ℕ) → SamePlace sh heads heads' pools pools' hss gss p → IsPlaced sh heads pools hss p → IsPlaced sh heads' pools' gss p
-placed-same sh heads heads' pools pools' hss gss p s k =
+placed_same : (sh : Shape) (heads heads' pools pools' : List ℕ) (hss gss : List Slots) (p : ℕ) → SamePlace sh heads heads' pools pools' hss gss p → IsPlaced sh heads pools hss p → IsPlaced sh heads' pools' gss p
+placed_same sh heads heads' pools pools' hss gss p s k =
     let at = λ (q : ℕ). ap bit (s.inside q) in
     let one : pool_count sh pools' p ≡ pool_count sh pools p = omega (arith, at 0, at 1, at 2, at 3) in
     record {
@@ -74,15 +74,15 @@ pub pools-but-one : (sh : Shape) (heads heads' pools pools' : List ℕ) (hss : L
     → ((q x : ℕ) → x < sh.packets → x ≢ p → in_pool sh pools' q x ≡ in_pool sh pools q x) → ((x : ℕ) → x ≢ p → slice_index heads' x ≡ slice_index heads x) → ((x : ℕ) → x ≢ p → SameInHand hs gs x)
     → (p < sh.packets → IsPlaced sh heads' pools' (set hss i gs) p) → Pools sh heads' pools' (set hss i gs)
 pools-but-one sh heads heads' pools pools' hss i p hs gs k l is inside head hand here =
-    pools-from sh heads' pools' (set hss i gs)
+    pools_from sh heads' pools' (set hss i gs)
     (λ x h.
     ⊎_elim
     (λ (e : x ≡ p). rw e (here (rw e at h)))
     (λ (n : x ≡ p → ⊥).
     let s = same-hands hss i x hs gs l is (hand x n) in
-    placed-same sh heads heads' pools pools' hss (set hss i gs) x (record { inside = λ q. inside q x h n; head = head x n; holders = s.0; known = s.1 }) (placed-in sh heads pools hss k x h))
+    placed_same sh heads heads' pools pools' hss (set hss i gs) x (record { inside = λ q. inside q x h n; head = head x n; holders = s.0; known = s.1 }) (placed_in sh heads pools hss k x h))
     (cases_eq x p))
 
 -- the rule is kept where each packet is where it was
 pub pools-still : (sh : Shape) (heads heads' pools pools' : List ℕ) (hss gss : List Slots) → Pools sh heads pools hss → EachPacket sh (SamePlace sh heads heads' pools pools' hss gss) → Pools sh heads' pools' gss
-pools-still sh heads heads' pools pools' hss gss k s = pools-from sh heads' pools' gss (λ x h. placed-same sh heads heads' pools pools' hss gss x (s x h) (placed-in sh heads pools hss k x h))
+pools-still sh heads heads' pools pools' hss gss k s = pools_from sh heads' pools' gss (λ x h. placed_same sh heads heads' pools pools' hss gss x (s x h) (placed_in sh heads pools hss k x h))

@@ -15,7 +15,7 @@ use Rattle.mark_core.specs.Start.{start_seat, spent_seat}
 use Rattle.mark_core.specs.PacketRules.{Pools, HeadsAgree, has_reservation, has_credit}
 use Rattle.mark_core.specs.WorldSteps.{other_has_nothing}
 use Rattle.mark_core.specs.Laws.{PacketsSound}
-use Rattle.mark_core.proofs.CountRange.{bit}
+use Rattle.mark_core.proofs.CountTests.{bit}
 use Rattle.mark_core.proofs.Known.{unheld-unknown}
 use Rattle.mark_core.proofs.PoolSlots.{SameInHand, none-held, stored-held}
 use Rattle.mark_core.proofs.PoolHolders.{holders-push, among-push}

@@ -3,7 +3,7 @@ use Rattle.std.proofs.Common.{ℕ, ◌≡◌, ◌+◌, ◌-◌, ◌*◌, ◌/◌
 use Rattle.std.specs.Prelude.{IsTrue, IsFalse, slice_index}
 use Rattle.std.specs.List.{All, count_by, range_with_len}
 use Rattle.std.proofs.lemmas.Bool.{true≢false, false≢true, eq-eqb}
-use Rattle.std.proofs.lemmas.Nat.Bits.{bit_at_ones, bit_at-zero}
+use Rattle.std.proofs.lemmas.Nat.Bits.{bit_at_ones}
 use Rattle.std.proofs.lemmas.List.{get_or-append_right, get_or_append_left, get_or-replicate, length-replicate}
 use Rattle.std.proofs.lemmas.List.Elements.{All-map}
 use Rattle.std.proofs.lemmas.List.FromFn.{length-map-range_with_len, get_or-map-range_with_len}
@@ -18,8 +18,9 @@ use Rattle.mark_core.specs.Start.{start_seat, start_seats, start_words, full_poo
 use Rattle.mark_core.specs.PacketRules.{HeadsAgree, has_reservation, has_credit}
 use Rattle.mark_core.specs.Laws.{StartKeepsPackets}
 use Rattle.mark_core.proofs.Regions.{words-get}
-use Rattle.mark_core.proofs.CountRange.{bit, count-cons, count-none, count-same}
-use Rattle.mark_core.proofs.PoolBits.{word-below, in-row}
+use Rattle.mark_core.proofs.CountTests.{bit}
+use Rattle.mark_core.proofs.CountRange.{count-cons, count-none, count-same}
+use Rattle.mark_core.proofs.PoolBits.{no-bit, word-below, in-row}
 use Rattle.mark_core.proofs.PoolHolders.{among-unheld}
 use Rattle.mark_core.specs.declared.kinds.Shape.{Shape}
 use Rattle.mark_core.specs.declared.seat.SeatState.{SeatState}
@@ -71,8 +72,8 @@ own_bit : (n p : ℕ) → p < n → has_bit (packet_bits n (p / 64)) (p % 64) �
 own_bit n p h = eq-eqb _ _ (bit_at_ones (min 64 (n - 64 * (p / 64))) (p % 64) (omega (arith, h)))
 
 -- each packet is in the empty pool
-pub starts-in : (sh : Shape) (p : ℕ) → p < sh.packets → in_pool sh (words_of sh (start_words sh)).pools 0 p ≡ true
-starts-in sh p h =
+starts_in : (sh : Shape) (p : ℕ) → p < sh.packets → in_pool sh (words_of sh (start_words sh)).pools 0 p ≡ true
+starts_in sh p h =
     let g : ℕ = 0 * pool_words sh + p / 64 in
     let below : g < pool_words sh = omega (arith, word-below sh p h) in
     let long : length (full_pool sh) ≡ pool_words sh = length-map-range_with_len (packet_bits sh.packets) 0 (pool_words sh) in
@@ -91,11 +92,11 @@ starts_out sh q p hq h4 h =
     let long : length (full_pool sh) ≡ w = length-map-range_with_len (packet_bits sh.packets) 0 w in
     let word : slice_index (words_of sh (start_words sh)).pools g ≡ 0 =
     pool_word sh g last ∙ (get_or-append_right (full_pool sh) (tail_words sh) w g 0 long first ∙ get_or-replicate (3 * w + 2) (g - w) 0 0 (omega (arith, first, last))) in
-    ap (λ (v : ℕ). has_bit v (p % 64)) word ∙ rw bit_at-zero refl
+    ap (λ (v : ℕ). has_bit v (p % 64)) word ∙ no-bit (p % 64)
 
 starts_once : (sh : Shape) (p : ℕ) → p < sh.packets → pool_count sh (words_of sh (start_words sh)).pools p ≡ 1
 starts_once sh p h =
-    omega (arith, ap bit (starts-in sh p h), ap bit (starts_out sh 1 p (omega arith) (omega arith) h), ap bit (starts_out sh 2 p (omega arith) (omega arith) h), ap bit (starts_out sh 3 p (omega arith) (omega arith) h))
+    omega (arith, ap bit (starts_in sh p h), ap bit (starts_out sh 1 p (omega arith) (omega arith) h), ap bit (starts_out sh 2 p (omega arith) (omega arith) h), ap bit (starts_out sh 3 p (omega arith) (omega arith) h))
 
 -- what holds of each new seat
 pub each-seat : (P : SeatState → Type 0) (sh : Shape) (n : ℕ) → ((k : ℕ) → P (start_seat sh k)) → All P (start_seats sh n)
@@ -112,7 +113,7 @@ pub start : StartKeepsPackets
 start sh n z =
     let w : Words = words_of sh (start_words sh) in
     let seats : List SeatState = start_seats sh n in
-    let all : empty_packets sh w.pools ≡ sh.packets = count-same (λ (x : ℕ). true) (in_pool sh w.pools 0) 0 sh.packets (λ x l h. starts-in sh x (omega (arith, h))) ∙ count_all 0 sh.packets in
+    let all : empty_packets sh w.pools ≡ sh.packets = count-same (λ (x : ℕ). true) (in_pool sh w.pools 0) 0 sh.packets (λ x l h. starts_in sh x (omega (arith, h))) ∙ count_all 0 sh.packets in
     let none = λ (P : SeatState → Bool) (h : (k : ℕ) → P (start_seat sh k) ≡ false). count-none P seats (each-seat (λ (s : SeatState). P s ≡ false) sh n h) in
     record {
       pools =

@@ -9,7 +9,7 @@ use Rattle.mark_core.specs.Seats.{work_in_hand}
 use Rattle.mark_core.specs.Views.{hands}
 use Rattle.mark_core.specs.PacketRules.{Pools, HeadsAgree}
 use Rattle.mark_core.specs.Laws.{PacketsSound}
-use Rattle.mark_core.proofs.CountRange.{bit}
+use Rattle.mark_core.proofs.CountTests.{bit}
 use Rattle.mark_core.proofs.CountMoves.{CountMove, counts-moved}
 use Rattle.mark_core.proofs.PoolSlots.{same-in-hand}
 use Rattle.mark_core.proofs.PoolPlaces.{pools-still, same-hands}

@@ -11,7 +11,7 @@ use Rattle.mark_core.specs.Effects.{place, written, seat_after}
 use Rattle.mark_core.specs.Layout.{put_word}
 use Rattle.mark_core.specs.Steps.{AllTrue}
 use Rattle.mark_core.specs.Laws.{PacketsSound}
-use Rattle.mark_core.proofs.CountRange.{bit}
+use Rattle.mark_core.proofs.CountTests.{bit}
 use Rattle.mark_core.proofs.CountMoves.{agrees-but-one}
 use Rattle.mark_core.proofs.PoolSlots.{put-other, known-put_same, any-put}
 use Rattle.mark_core.proofs.PoolBits.{OneBit, pool-without, empty_packets-moves, in-row, word-below}

@@ -11,7 +11,7 @@ use Rattle.mark_core.specs.Parts.{parts}
 use Rattle.mark_core.specs.Effects.{seat_after}
 use Rattle.mark_core.specs.Steps.{AllTrue}
 use Rattle.mark_core.specs.Views.{standing_of}
-use Rattle.mark_core.proofs.CountRange.{bit}
+use Rattle.mark_core.proofs.CountTests.{bit}
 use Rattle.mark_core.proofs.CountWork.{work-reads}
 use Rattle.mark_core.proofs.PoolSlots.{any-held}
 use Rattle.mark_core.proofs.WorldTally.{Fits}

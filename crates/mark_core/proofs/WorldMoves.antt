@@ -4,7 +4,7 @@ use Rattle.std.specs.Prelude.{bit_or}
 use Rattle.std.proofs.lemmas.Bool.{cases_lt}
 use Rattle.mark_core.specs.Bits.{flag, has_flag, wrapped_sum, wrapped_difference}
 use Rattle.mark_core.specs.Views.{Standing}
-use Rattle.mark_core.proofs.CountRange.{bit}
+use Rattle.mark_core.proofs.CountTests.{bit, bit-below}
 use Rattle.mark_core.proofs.WorldTally.{Census, plus, Fits, CensusFits, IsTally, IsFew}
 use Rattle.mark_core.proofs.WorldWords.{flag-is, or-flag}
 
@@ -32,16 +32,12 @@ not_bit : (b : Bool) → bit (not b) + bit b ≡ 1
 not_bit true = refl
 not_bit false = refl
 
-bit_below : (b : Bool) → bit b ≤ 1
-bit_below true = omega arith
-bit_below false = omega arith
-
 world_flag : (world help : ℕ) (r : Census) (x : Standing) → Stands world help r x → bit (has_flag world) ≡ r.raised + bit x.raised
-world_flag world help r x k = flag-is world (r.counted + bit x.counted) (r.raised + bit x.raised) k.tally.world_word (omega (arith, k.few.counted, bit_below x.counted)) k.tally.one_raised
+world_flag world help r x k = flag-is world (r.counted + bit x.counted) (r.raised + bit x.raised) k.tally.world_word (omega (arith, k.few.counted, bit-below x.counted)) k.tally.one_raised
 
 help_flag : (world help : ℕ) (r : Census) (x : Standing) → Stands world help r x → bit (has_flag help) ≡ r.opened + bit x.opened
 help_flag world help r x k =
-    flag-is help (r.helping + bit x.helping) (r.opened + bit x.opened) k.tally.help_word (omega (arith, k.few.helping, bit_below x.helping)) (omega (arith, k.fits, k.others, k.tally.one_raised))
+    flag-is help (r.helping + bit x.helping) (r.opened + bit x.opened) k.tally.help_word (omega (arith, k.few.helping, bit-below x.helping)) (omega (arith, k.fits, k.others, k.tally.one_raised))
 
 -- 25
 pub enters : (world help : ℕ) (r : Census) (x : Standing) → Stands world help r x → Bare x → Stands (wrapped_sum world 1) help r (record x { counted = true; active = not (has_flag world) })
@@ -57,7 +53,7 @@ enters world help r x k b =
           record {
             opened_or_alone = f.opened_or_alone;
             knows_raised = f.knows_raised;
-            active_counted = bit_below (not (has_flag world));
+            active_counted = bit-below (not (has_flag world));
             admitted_helps = f.admitted_helps;
             one_role = omega arith;
           };
@@ -101,7 +97,7 @@ pub raises : (world help : ℕ) (r : Census) (x : Standing) → Stands world hel
 raises world help r x k b =
     let flagged = world_flag world help r x k in
     let other = not_bit (has_flag world) in
-    let set = or-flag world (r.counted + bit x.counted) (r.raised + bit x.raised) k.tally.world_word (omega (arith, k.few.counted, bit_below x.counted)) k.tally.one_raised in
+    let set = or-flag world (r.counted + bit x.counted) (r.raised + bit x.raised) k.tally.world_word (omega (arith, k.few.counted, bit-below x.counted)) k.tally.one_raised in
     let t = k.tally in
     let f = k.fits in
     let o = k.others in
@@ -146,7 +142,7 @@ drops world help r x k b d =
 -- 43: the seat knows, and has not opened
 pub opens : (world help : ℕ) (r : Census) (x : Standing) → Stands world help r x → bit x.knows ≡ 1 → bit x.opened ≡ 0 → Stands world (bit_or help flag) r (record x { opened = true; alone = false })
 opens world help r x k b d =
-    let set = or-flag help (r.helping + bit x.helping) (r.opened + bit x.opened) k.tally.help_word (omega (arith, k.few.helping, bit_below x.helping)) (omega (arith, k.fits, k.others, k.tally.one_raised)) in
+    let set = or-flag help (r.helping + bit x.helping) (r.opened + bit x.opened) k.tally.help_word (omega (arith, k.few.helping, bit-below x.helping)) (omega (arith, k.fits, k.others, k.tally.one_raised)) in
     let t = k.tally in
     let f = k.fits in
     let o = k.others in
@@ -170,7 +166,7 @@ opens world help r x k b d =
 pub joins : (world help : ℕ) (r : Census) (x : Standing) → Stands world help r x → Bare x → Stands world (wrapped_sum help 1) r (record x { helping = true; admitted = has_flag help })
 joins world help r x k b =
     let flagged = help_flag world help r x k in
-    let below = bit_below (has_flag help) in
+    let below = bit-below (has_flag help) in
     let t = k.tally in
     let f = k.fits in
     let o = k.others in
@@ -221,7 +217,7 @@ leaves-help world help r x k b =
 -- 46: the seat has opened
 pub closes : (world help : ℕ) (r : Census) (x : Standing) → Stands world help r x → bit x.opened ≡ 1 → Stands world (wrapped_difference help flag) r (record x { opened = false })
 closes world help r x k b =
-    let below = bit_below x.helping in
+    let below = bit-below x.helping in
     let t = k.tally in
     let f = k.fits in
     let o = k.others in

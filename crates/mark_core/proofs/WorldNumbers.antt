@@ -7,7 +7,7 @@ use Rattle.std.proofs.lemmas.List.Sums.{sum_by_push}
 use Rattle.mark_core.specs.Seats.{is_bare}
 use Rattle.mark_core.specs.Views.{Standing, standing_of}
 use Rattle.mark_core.specs.WorldSteps.{is_stopped}
-use Rattle.mark_core.proofs.CountRange.{bit}
+use Rattle.mark_core.proofs.CountTests.{bit}
 use Rattle.mark_core.proofs.WorldTally.{Census, census, others, nowhere, nowhere-fits, Fits, IsTally, census-set, census-now, others-fit, others-few}
 use Rattle.mark_core.proofs.WorldMoves.{Stands, Bare, observes, sees}
 use Rattle.mark_core.specs.declared.seat.SeatState.{SeatState}

@@ -19,7 +19,7 @@ use Rattle.mark_core.specs.Steps.{Core, AllTrue, others_after}
 use Rattle.mark_core.proofs.Acting.{found}
 use Rattle.mark_core.proofs.Locals.{local-kept}
 use Rattle.mark_core.proofs.Writes.{touches_phase}
-use Rattle.mark_core.proofs.CountRange.{bit}
+use Rattle.mark_core.proofs.CountTests.{bit}
 use Rattle.mark_core.proofs.WorldTally.{census-set, census-now, nowhere, Fits}
 use Rattle.mark_core.proofs.WorldMoves.{Bare}
 use Rattle.mark_core.proofs.WorldNumbers.{bare-from}

@@ -1,9 +1,8 @@
 -- The moves between the phases keep the rule of the phase.
-use Rattle.std.proofs.Common.{ℕ, zero, suc, ◌/◌, ◌%◌, ◌≡◌, ◌+◌, ◌<◌, List, [], ◌∷◌, set, get_or, length, refl, sym, ap, ◌∙◌, subst, Bool, true, false, not, ◌||◌, eqb, cond}
+use Rattle.std.proofs.Common.{ℕ, zero, suc, ◌/◌, ◌%◌, ◌≡◌, ◌+◌, ◌<◌, List, [], ◌∷◌, set, get_or, length, refl, sym, ap, ◌∙◌, subst, Bool, true, false, eqb, cond}
 use Rattle.std.specs.Prelude.{IsTrue, IsFalse}
 use Rattle.std.specs.List.{All, list_all}
 use Rattle.std.proofs.lemmas.Bool.{and_parts, true≢false, false≢true, eqb-true}
-use Rattle.std.proofs.lemmas.Nat.Bits.{bit_at-zero}
 use Rattle.std.proofs.lemmas.List.{length-map, get_or-map}
 use Rattle.std.proofs.lemmas.List.Elements.{All-set}
 use Rattle.mark_core.specs.Layout.{Words, words_of}
@@ -16,6 +15,8 @@ use Rattle.mark_core.specs.Parts.{parts}
 use Rattle.mark_core.specs.Steps.{Core, AllTrue}
 use Rattle.mark_core.specs.WellFormed.{IsWellFormed}
 use Rattle.mark_core.specs.Laws.{ArePacketsSound}
+use Rattle.mark_core.proofs.CountTests.{follows}
+use Rattle.mark_core.proofs.PoolBits.{no-bit}
 use Rattle.mark_core.proofs.QuietReading.{quiet-hands, quiet-heads}
 use Rattle.mark_core.proofs.WorldReading.{StandsRight, passes-any, any-passes, some-passes, passes-counted}
 use Rattle.mark_core.proofs.WorldSights.{Sees}
@@ -58,10 +59,6 @@ knower c i s k e =
     let at : get_or ss i (standing_of s) ≡ standing_of s = get_or-map standing_of c.seats i s (standing_of s) k.seat ∙ ap standing_of k.is in
     passes-any (λ (x : Standing). x.knows) ss (passes-counted (λ (x : Standing). x.knows) ss i (standing_of s) (rw length-map k.seat) (ap (λ (x : Standing). x.knows) at ∙ e))
 
-implied_by : (a b : Bool) → (not a || b) ≡ true → a ≡ true → b ≡ true
-implied_by true b h e = h
-implied_by false b h e = absurd (false≢true e)
-
 -- in the quiet no seat holds a packet and no head names an entry
 at_rest : (c : Core) (i : ℕ) (s : SeatState) → Moving c i s → eqb (words_of c.shape c.words).empty (64 + c.shape.packets) ≡ true → IsStill c.shape (words_of c.shape c.words).heads c.seats
 at_rest c i s k e = let n = eqb-true (words_of c.shape c.words).empty (64 + c.shape.packets) e in (quiet-hands c k.formed k.packets n, quiet-heads c k.packets n)
@@ -71,12 +68,9 @@ all_zero [] e g = refl
 all_zero (w ∷ ws) e zero = eqb-true w 0 (and_parts (eqb w 0) (list_all (λ x. eqb x 0) ws) e).0
 all_zero (w ∷ ws) e (suc g) = all_zero ws (and_parts (eqb w 0) (list_all (λ x. eqb x 0) ws) e).1 g
 
-no_bits : (i : ℕ) → has_bit 0 i ≡ false
-no_bits i = rw bit_at-zero refl
-
 -- where every word of marks is zero, no cell is marked
 white_words : (c : Core) → none_marked (words_of c.shape c.words).marks ≡ true → IsWhite c.shape (words_of c.shape c.words).marks
-white_words c e x h = let ws : List ℕ = (words_of c.shape c.words).marks in ap (λ w. has_bit w (x % 64)) (all_zero ws e (x / 64)) ∙ no_bits (x % 64)
+white_words c e x h = let ws : List ℕ = (words_of c.shape c.words).marks in ap (λ w. has_bit w (x % 64)) (all_zero ws e (x / 64)) ∙ no-bit (x % 64)
 
 -- where a mutator runs no helper is admitted
 none_helps : (c : Core) (i : ℕ) (s : SeatState) → Moving c i s → s.active ≡ true → (j : ℕ) (d : SeatState) (P : Type 0) → j < length c.seats → IsTrue (get_or c.seats j d).admitted → P
@@ -107,7 +101,7 @@ moved_to c i s Idle k ok =
     let asks = and_parts s.knows _ ok.1.0 in
     let from : w.phase ≡ 3 = eqb-true w.phase 3 ok.0 in
     record {
-      sees = all_calm c i s 0 k asks.0 (implied_by s.knows s.alone ok.1.1.0 asks.0);
+      sees = all_calm c i s 0 k asks.0 (follows s.knows s.alone ok.1.1.0 asks.0);
       stopped = λ e. absurd (false≢true e);
       white = λ e. white_words c (and_parts _ _ asks.1).1;
       still = λ e. k.phase.still (ap is_tracing from);
@@ -116,7 +110,7 @@ moved_to c i s Marking k ok = begun c i s (eqb (words_of c.shape c.words).phase 
 moved_to c i s Drain k ok =
     let knows = (and_parts s.knows _ ok.1.0).0 in
     record {
-      sees = all_calm c i s 2 k knows (implied_by s.knows s.alone ok.1.1.0 knows);
+      sees = all_calm c i s 2 k knows (follows s.knows s.alone ok.1.1.0 knows);
       stopped = λ e. knower c i s k knows;
       white = λ e. absurd (false≢true e);
       still = λ e. absurd (true≢false e);
@@ -125,7 +119,7 @@ moved_to c i s Sweep k ok =
     let w : Words = words_of c.shape c.words in
     let asks = and_parts s.knows _ (and_parts _ _ (and_parts _ _ (and_parts _ _ ok.1.0).0).0).0 in
     record {
-      sees = all_calm c i s 3 k asks.0 (implied_by s.knows s.alone ok.1.1.0 asks.0);
+      sees = all_calm c i s 3 k asks.0 (follows s.knows s.alone ok.1.1.0 asks.0);
       stopped = λ e. knower c i s k asks.0;
       white = λ e. absurd (false≢true e);
       still = λ e. at_rest c i s k (and_parts _ _ asks.1).0;
@@ -133,7 +127,7 @@ moved_to c i s Sweep k ok =
 moved_to c i s Clear k ok =
     let asks = and_parts s.knows _ (and_parts _ _ ok.1.0).0 in
     record {
-      sees = all_calm c i s 4 k asks.0 (implied_by s.knows s.alone ok.1.1.0 asks.0);
+      sees = all_calm c i s 4 k asks.0 (follows s.knows s.alone ok.1.1.0 asks.0);
       stopped = λ e. knower c i s k asks.0;
       white = λ e. absurd (false≢true e);
       still = λ e. at_rest c i s k (and_parts _ _ asks.1).0;
@@ -143,7 +137,7 @@ moved_to c i s Full k ok =
     let knows = (and_parts s.knows _ (and_parts _ _ ok.1.0).0).0 in
     let from : w.phase ≡ 0 = eqb-true w.phase 0 ok.0 in
     record {
-      sees = all_calm c i s 5 k knows (implied_by s.knows s.alone ok.1.1.0 knows);
+      sees = all_calm c i s 5 k knows (follows s.knows s.alone ok.1.1.0 knows);
       stopped = λ e. absurd (false≢true e);
       white = λ e. k.phase.white (ap is_resting from);
       still = λ e. k.phase.still (ap is_tracing from);

@@ -3,7 +3,6 @@ use Rattle.std.proofs.Common.{ℕ, Bool, ◌≡◌, ◌/◌, ◌%◌, ◌≤◌,
 use Rattle.std.specs.Prelude.{IsTrue, IsFalse, slice_index}
 use Rattle.std.specs.List.{All}
 use Rattle.std.proofs.lemmas.Bool.{true≢false, and_parts, or_cases, cases_eq, cases_lt, eqb-true, ltb-true}
-use Rattle.std.proofs.lemmas.Nat.Bits.{bit_at-zero}
 use Rattle.std.proofs.lemmas.List.{length-map, get_or-map, set-get_or, set_past, get_or-set_same, get_or-set_other}
 use Rattle.std.proofs.lemmas.List.Elements.{All-map}
 use Rattle.mark_core.specs.Shapes.{EachCell, EachPacket}
@@ -19,6 +18,7 @@ use Rattle.mark_core.specs.Steps.{Core, AllTrue}
 use Rattle.mark_core.proofs.Regions.{words-get}
 use Rattle.mark_core.proofs.Acting.{found}
 use Rattle.mark_core.proofs.RegionWrites.{marks-kept}
+use Rattle.mark_core.proofs.PoolBits.{no-bit}
 use Rattle.mark_core.proofs.WorldSights.{Sees, traces-in}
 use Rattle.mark_core.proofs.WorldQuiet.{lengths-of-heads}
 use Rattle.mark_core.specs.declared.kinds.Shape.{Shape}
@@ -75,16 +75,13 @@ resting-not phase test P zero five e f =
     (λ (a : eqb phase 5 ≡ true). absurd (true≢false (sym f ∙ (ap test (eqb-true phase 5 a) ∙ five))))
     (or_cases (eqb phase 0) (eqb phase 5) e)
 
-no_bits : (i : ℕ) → has_bit 0 i ≡ false
-no_bits i = rw bit_at-zero refl
-
 -- a word of marks is cleared
 cleared : (ws : List ℕ) (b x : ℕ) → cell_bit ws x ≡ false → cell_bit (set ws b 0) x ≡ false
 cleared ws b x e =
     ⊎_elim
     (λ (h : b < length ws).
     ⊎_elim
-    (λ (s : x / 64 ≡ b). rw s (rw get_or-set_same (no_bits (x % 64))))
+    (λ (s : x / 64 ≡ b). rw s (rw get_or-set_same (no-bit (x % 64))))
     (λ (n : x / 64 ≡ b → ⊥). ap (λ w. has_bit w (x % 64)) (get_or-set_other ws b (x / 64) 0 0 n) ∙ e)
     (cases_eq (x / 64) b))
     (λ (h : length ws ≤ b). ap (λ vs. cell_bit vs x) (set_past ws b 0 h) ∙ e)

@@ -21,15 +21,15 @@ use Rattle.mark_core.specs.declared.kinds.Step.TheVariants.{Take, Give, Push, Po
 use Rattle.mark_core.specs.declared.seat.SeatState.{SeatState}
 
 -- where no seat holds a packet, nobody knows a length
-pub none-known : (hss : List Slots) (p : ℕ) → All (λ h. IsFalse (holds_any h)) hss → length_among hss p ≡ None
-none-known [] p a = refl
-none-known (hs ∷ hss) p a =
+none_known : (hss : List Slots) (p : ℕ) → All (λ h. IsFalse (holds_any h)) hss → length_among hss p ≡ None
+none_known [] p a = refl
+none_known (hs ∷ hss) p a =
     let P : Slots → Type 0 = λ (h : Slots). IsFalse (holds_any h) in
-    rw (unheld-unknown hs p (none-held hs p (All-head P hs hss a))) (none-known hss p (All-tail P hs hss a))
+    rw (unheld-unknown hs p (none-held hs p (All-head P hs hss a))) (none_known hss p (All-tail P hs hss a))
 
 -- the lengths are then those of the heads
 pub lengths-of-heads : (heads : List ℕ) (hss : List Slots) (p : ℕ) → All (λ h. IsFalse (holds_any h)) hss → packet_length heads hss p ≡ slice_index heads p
-lengths-of-heads heads hss p a = rw (none-known hss p a) refl
+lengths-of-heads heads hss p a = rw (none_known hss p a) refl
 
 -- a seat that holds nothing gives, fills and reads no packet
 absent : (s : SeatState) (p : ℕ) (P : Type 0) → IsFalse (holds_any s.held) → holds s.held p ≡ true → P

@@ -10,7 +10,8 @@ use Rattle.mark_core.specs.Bits.{flag_where}
 use Rattle.mark_core.specs.Views.{Standing, standings, standing_of, some_knows}
 use Rattle.mark_core.specs.WorldRules.{World, NoneActive, NoneAdmitted, HelpsOnly, is_counted, is_raised, is_helping, is_opened}
 use Rattle.mark_core.specs.Strong.{IsStrongSeat}
-use Rattle.mark_core.proofs.CountRange.{bit, count-cons, count-none}
+use Rattle.mark_core.proofs.CountTests.{bit, bit-below, bit-zero}
+use Rattle.mark_core.proofs.CountRange.{count-cons, count-none}
 use Rattle.mark_core.proofs.WorldTally.{nowhere, Fits, census-fits}
 use Rattle.mark_core.proofs.WorldNumbers.{Numbers}
 use Rattle.mark_core.specs.declared.kinds.Shape.{Shape}
@@ -61,21 +62,13 @@ passes-any f (x ∷ xs) h =
 pub passes-counted : {X : Type 0} (f : X → Bool) (xs : List X) (k : ℕ) (d : X) → k < length xs → f (get_or xs k d) ≡ true → 0 < count_by f xs
 passes-counted f xs k d h e = omega (arith, get_or-le-sum_by (λ x. bit (f x)) xs k d h, ap bit e)
 
-bit_zero : (b : Bool) → bit b ≤ 0 → b ≡ false
-bit_zero true h = absurd (omega arith)
-bit_zero false h = refl
-
 -- where none is counted, none passes
 none_passes : {X : Type 0} (f : X → Bool) (xs : List X) → count_by f xs ≡ 0 → All (λ x. f x ≡ false) xs
-none_passes f xs e k d h = bit_zero (f (get_or xs k d)) (omega (arith, get_or-le-sum_by (λ x. bit (f x)) xs k d h, e))
+none_passes f xs e k d h = bit-zero (f (get_or xs k d)) (omega (arith, get_or-le-sum_by (λ x. bit (f x)) xs k d h, e))
 
 flag_bit : (b : Bool) → flag_where b ≡ 4294967296 * bit b
 flag_bit true = refl
 flag_bit false = refl
-
-bit_below : (b : Bool) → bit b ≤ 1
-bit_below true = omega arith
-bit_below false = omega arith
 
 pub implied : (a b : Bool) → (a ≡ true → b ≡ true) → bit a ≤ bit b
 implied true b h = rw (h refl) (omega arith)
@@ -161,7 +154,7 @@ pub record StandsRight (world help : ℕ) (ss : List Standing) : Type 0 where
   pub alone_knows : All (λ (s : Standing). IsTrue s.alone → IsTrue s.knows) ss
 
 bits_opened : (o l k : Bool) → bit o + bit l ≤ bit k → o ≡ true → (k ≡ true) × (l ≡ false)
-bits_opened true true k h e = absurd (omega (arith, h, bit_below k))
+bits_opened true true k h e = absurd (omega (arith, h, bit-below k))
 bits_opened true false true h e = (refl, refl)
 bits_opened true false false h e = absurd (omega arith)
 bits_opened false l k h e = absurd (false≢true e)

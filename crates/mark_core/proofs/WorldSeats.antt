@@ -5,7 +5,7 @@ use Rattle.std.proofs.lemmas.Bool.{cases_Bool, true≢false, false≢true}
 use Rattle.mark_core.specs.Held.{holds_any}
 use Rattle.mark_core.specs.Seats.{takes_part, may_trace, may_sweep, work_in_hand, has_used, has_making, is_bare}
 use Rattle.mark_core.specs.Views.{standing_of}
-use Rattle.mark_core.proofs.CountRange.{bit}
+use Rattle.mark_core.proofs.CountTests.{bit}
 use Rattle.mark_core.proofs.WorldTally.{Fits}
 use Rattle.mark_core.proofs.WorldNumbers.{bare-from}
 use Rattle.mark_core.specs.declared.kinds.Shape.{Shape}
@@ -26,8 +26,8 @@ pub record Local (sh : Shape) (s : SeatState) : Type 0 where
 pub inside : (s : SeatState) (P : Type 0) → takes_part s ≡ true → IsFalse (takes_part s) → P
 inside s P e f = absurd (true≢false (sym e ∙ f))
 
-pub active-runs : (s : SeatState) (P : Type 0) → s.active ≡ true → IsFalse s.active → P
-active-runs s P e f = absurd (true≢false (sym e ∙ f))
+active_runs : (s : SeatState) (P : Type 0) → s.active ≡ true → IsFalse s.active → P
+active_runs s P e f = absurd (true≢false (sym e ∙ f))
 
 -- a step that is allowed inside alone, and leaves what else is told of the seat
 pub stays : (sh : Shape) (s t : SeatState) → Local sh s → takes_part s ≡ true → takes_part t ≡ takes_part s → t.active ≡ s.active → t.admitted ≡ s.admitted → (IsFalse s.active → t.owes ≡ None) → t.cache ≡ s.cache → t.got ≡ s.got → Local sh t
@@ -44,7 +44,7 @@ pub mutates : (sh : Shape) (s t : SeatState) → Local sh s → s.active ≡ tru
 mutates sh s t k run e part active cache admitted =
     record {
       outside = inside t _ (part ∙ e);
-      calm = active-runs t _ (active ∙ run);
+      calm = active_runs t _ (active ∙ run);
       unseen = inside t _ (part ∙ e);
       uncached = λ f. cache (sym admitted ∙ f);
     }

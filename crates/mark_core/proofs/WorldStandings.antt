@@ -17,7 +17,7 @@ use Rattle.mark_core.proofs.Regions.{words-get}
 use Rattle.mark_core.proofs.Acting.{found}
 use Rattle.mark_core.proofs.Frames.{changes_standing, standing-kept, projection-kept}
 use Rattle.mark_core.proofs.Writes.{touches_world, touches_help, world-kept, help-kept}
-use Rattle.mark_core.proofs.CountRange.{bit}
+use Rattle.mark_core.proofs.CountTests.{bit}
 use Rattle.mark_core.proofs.WorldTally.{others}
 use Rattle.mark_core.proofs.WorldMoves.{Stands, enters, leaves, raises, drops, opens, joins, leaves-help, closes}
 use Rattle.mark_core.proofs.WorldNumbers.{Numbers, stands, numbers-moved, bare-from, observed, seen, numbers-push, numbers-end}
@@ -37,8 +37,8 @@ standing_is : (seats : List SeatState) (i : ℕ) (s : SeatState) → i < length 
 standing_is seats i s h is = get_or-map standing_of seats i s (standing_of s) h ∙ ap standing_of is
 
 -- how the seat stands among the others
-pub stands-now : (w : Words) (seats : List SeatState) (i : ℕ) (s : SeatState) → Among w seats i s → Stands w.world w.help (others (standings seats) i) (standing_of s)
-stands-now w seats i s a =
+stands_now : (w : Words) (seats : List SeatState) (i : ℕ) (s : SeatState) → Among w seats i s → Stands w.world w.help (others (standings seats) i) (standing_of s)
+stands_now w seats i s a =
     stands w.world w.help (standings seats) i (standing_of s) a.numbers (rw length-map a.few) (rw length-map a.seat) (standing_is seats i s a.seat a.is)
 
 -- the seat stands otherwise
@@ -78,22 +78,22 @@ other_step c i s step v old a e f g =
     rw (world-kept c.shape s step v w f, help-kept c.shape s step v w g, projection-kept standing_of c.seats i s (seat_after c.shape s step old) a.seat a.is (standing-kept c.shape s step old e)) a.numbers
 
 pub numbers-at : (c : Core) (i : ℕ) (s : SeatState) (step : Step) → Among (words_of c.shape c.words) c.seats i s → AllTrue (parts c.shape (words_of c.shape c.words) c.seats s step) → After c i s step (found c s step)
-numbers-at c i s EnterStep a ok = let w : Words = words_of c.shape c.words in by_world c i s EnterStep w.world a (enters w.world w.help (others (standings c.seats) i) (standing_of s) (stands-now w c.seats i s a) (bare-from s ok.0))
-numbers-at c i s LeaveStep a ok = let w : Words = words_of c.shape c.words in by_world c i s LeaveStep w.world a (leaves w.world w.help (others (standings c.seats) i) (standing_of s) (stands-now w c.seats i s a) (ap bit ok.0))
-numbers-at c i s RaiseStep a ok = let w : Words = words_of c.shape c.words in by_world c i s RaiseStep w.world a (raises w.world w.help (others (standings c.seats) i) (standing_of s) (stands-now w c.seats i s a) (bare-from s ok.0))
-numbers-at c i s Observe a ok = let w : Words = words_of c.shape c.words in by_world c i s Observe w.world a (observed w.world w.help (others (standings c.seats) i) (standing_of s) (stands-now w c.seats i s a))
-numbers-at c i s DropStep a ok = let w : Words = words_of c.shape c.words in by_world c i s DropStep w.world a (drops w.world w.help (others (standings c.seats) i) (standing_of s) (stands-now w c.seats i s a) (ap bit ok.0) (ap bit ok.1.1.1.0))
+numbers-at c i s EnterStep a ok = let w : Words = words_of c.shape c.words in by_world c i s EnterStep w.world a (enters w.world w.help (others (standings c.seats) i) (standing_of s) (stands_now w c.seats i s a) (bare-from s ok.0))
+numbers-at c i s LeaveStep a ok = let w : Words = words_of c.shape c.words in by_world c i s LeaveStep w.world a (leaves w.world w.help (others (standings c.seats) i) (standing_of s) (stands_now w c.seats i s a) (ap bit ok.0))
+numbers-at c i s RaiseStep a ok = let w : Words = words_of c.shape c.words in by_world c i s RaiseStep w.world a (raises w.world w.help (others (standings c.seats) i) (standing_of s) (stands_now w c.seats i s a) (bare-from s ok.0))
+numbers-at c i s Observe a ok = let w : Words = words_of c.shape c.words in by_world c i s Observe w.world a (observed w.world w.help (others (standings c.seats) i) (standing_of s) (stands_now w c.seats i s a))
+numbers-at c i s DropStep a ok = let w : Words = words_of c.shape c.words in by_world c i s DropStep w.world a (drops w.world w.help (others (standings c.seats) i) (standing_of s) (stands_now w c.seats i s a) (ap bit ok.0) (ap bit ok.1.1.1.0))
 numbers-at c i s OpenStep a ok =
     let w : Words = words_of c.shape c.words in
     let first = and_parts s.knows (not s.opened) ok.0 in
-    helping c i s OpenStep (by_world c i s OpenStep w.help a (opens w.world w.help (others (standings c.seats) i) (standing_of s) (stands-now w c.seats i s a) (ap bit first.0) (ap bit (not-true _ first.1))))
-numbers-at c i s JoinHelpStep a ok = let w : Words = words_of c.shape c.words in helping c i s JoinHelpStep (by_world c i s JoinHelpStep w.help a (joins w.world w.help (others (standings c.seats) i) (standing_of s) (stands-now w c.seats i s a) (bare-from s ok.0)))
-numbers-at c i s LeaveHelpStep a ok = let w : Words = words_of c.shape c.words in helping c i s LeaveHelpStep (by_world c i s LeaveHelpStep w.help a (leaves-help w.world w.help (others (standings c.seats) i) (standing_of s) (stands-now w c.seats i s a) (ap bit ok.0)))
-numbers-at c i s CloseStep a ok = let w : Words = words_of c.shape c.words in helping c i s CloseStep (by_world c i s CloseStep w.help a (closes w.world w.help (others (standings c.seats) i) (standing_of s) (stands-now w c.seats i s a) (ap bit ok.0)))
-numbers-at c i s SeeHelp a ok = let w : Words = words_of c.shape c.words in helping c i s SeeHelp (by_world c i s SeeHelp w.help a (seen w.world w.help (others (standings c.seats) i) (standing_of s) (stands-now w c.seats i s a)))
+    helping c i s OpenStep (by_world c i s OpenStep w.help a (opens w.world w.help (others (standings c.seats) i) (standing_of s) (stands_now w c.seats i s a) (ap bit first.0) (ap bit (not-true _ first.1))))
+numbers-at c i s JoinHelpStep a ok = let w : Words = words_of c.shape c.words in helping c i s JoinHelpStep (by_world c i s JoinHelpStep w.help a (joins w.world w.help (others (standings c.seats) i) (standing_of s) (stands_now w c.seats i s a) (bare-from s ok.0)))
+numbers-at c i s LeaveHelpStep a ok = let w : Words = words_of c.shape c.words in helping c i s LeaveHelpStep (by_world c i s LeaveHelpStep w.help a (leaves-help w.world w.help (others (standings c.seats) i) (standing_of s) (stands_now w c.seats i s a) (ap bit ok.0)))
+numbers-at c i s CloseStep a ok = let w : Words = words_of c.shape c.words in helping c i s CloseStep (by_world c i s CloseStep w.help a (closes w.world w.help (others (standings c.seats) i) (standing_of s) (stands_now w c.seats i s a) (ap bit ok.0)))
+numbers-at c i s SeeHelp a ok = let w : Words = words_of c.shape c.words in helping c i s SeeHelp (by_world c i s SeeHelp w.help a (seen w.world w.help (others (standings c.seats) i) (standing_of s) (stands_now w c.seats i s a)))
 numbers-at c i s Split a ok =
     let w : Words = words_of c.shape c.words in
-    let same : Numbers w.world w.help (standings (set c.seats i s)) = by_world c i s Split w.world a (stands-now w c.seats i s a) in
+    let same : Numbers w.world w.help (standings (set c.seats i s)) = by_world c i s Split w.world a (stands_now w c.seats i s a) in
     subst (Numbers w.world w.help) (sym (map_push standing_of (set c.seats i s) (start_seat c.shape (length (set c.seats i s))))) (numbers-push w.world w.help (standings (set c.seats i s)) same)
 numbers-at c i s (Join other) a ok =
     let w : Words = words_of c.shape c.words in

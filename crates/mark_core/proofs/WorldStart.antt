@@ -3,7 +3,6 @@ use Rattle.std.proofs.Common.{ℕ, ◌≡◌, ◌+◌, ◌-◌, ◌*◌, ◌/◌
 use Rattle.std.specs.Prelude.{IsFalse, slice_index}
 use Rattle.std.specs.List.{All}
 use Rattle.std.proofs.lemmas.Bool.{false≢true}
-use Rattle.std.proofs.lemmas.Nat.Bits.{bit_at-zero}
 use Rattle.std.proofs.lemmas.List.{get_or-append_right, get_or-replicate}
 use Rattle.std.proofs.lemmas.List.Elements.{All-map}
 use Rattle.std.proofs.lemmas.List.FromFn.{length-map-range_with_len}
@@ -15,6 +14,7 @@ use Rattle.mark_core.specs.Views.{Standing, standings, standing_of}
 use Rattle.mark_core.specs.Start.{start_words, start_seats, full_pool, packet_bits}
 use Rattle.mark_core.proofs.Regions.{words-get}
 use Rattle.mark_core.proofs.CountRange.{count-none}
+use Rattle.mark_core.proofs.PoolBits.{no-bit}
 use Rattle.mark_core.proofs.PoolStart.{in-gap, past-gap, no-head, each-seat, gap, singles, tail_words}
 use Rattle.mark_core.proofs.WorldTally.{nowhere, nowhere-fits, Fits}
 use Rattle.mark_core.proofs.WorldNumbers.{Numbers}
@@ -46,7 +46,7 @@ starts_white sh z x h =
     let hb : b < block_count sh = block_of sh x z h in
     let word : slice_index (words_of sh (start_words sh)).marks b ≡ 0 =
     sym (words-get (region_sizes sh) 5 (start_words sh) b 0 hb) ∙ in-gap (singles sh) (full_pool sh) (tail_words sh) 11 (gap sh) (region_base (region_sizes sh) 5 + b) refl (omega arith) (omega (arith, hb)) in
-    ap (λ w. has_bit w (x % 64)) word ∙ rw bit_at-zero refl
+    ap (λ w. has_bit w (x % 64)) word ∙ no-bit (x % 64)
 
 all_nowhere : (P : Standing → Type 0) (sh : Shape) (n : ℕ) → P nowhere → All P (standings (start_seats sh n))
 all_nowhere P sh n h = All-map P standing_of (start_seats sh n) (each-seat (λ (s : SeatState). P (standing_of s)) sh n (λ k. h))

@@ -5,7 +5,8 @@ use Rattle.std.proofs.lemmas.List.{set-set, set-get_or, length-set, get_or-set_s
 use Rattle.std.proofs.lemmas.List.Elements.{All-head, All-tail, All-set}
 use Rattle.std.proofs.lemmas.List.Sums.{sum_by-set, count_by-le-length}
 use Rattle.mark_core.specs.Views.{Standing}
-use Rattle.mark_core.proofs.CountRange.{bit, count-cons}
+use Rattle.mark_core.proofs.CountTests.{bit}
+use Rattle.mark_core.proofs.CountRange.{count-cons}
 
 -- how many seats stand how
 pub record Census : Type 0 where

@@ -5,7 +5,7 @@ use Rattle.std.specs.Int.{bit_at}
 use Rattle.std.proofs.lemmas.Bool.{cases_lt, cases_eq, lt-ltb, le-ltb}
 use Rattle.std.proofs.lemmas.Nat.Bits.{bit_at_or, bit_at-pow_same, bit_at-pow_other, bit_at_cat_low, bit_at_cat_high, bit_at_above, same_from_bits, bit_at-lt}
 use Rattle.mark_core.specs.Bits.{flag, has_flag}
-use Rattle.mark_core.proofs.CountRange.{bit}
+use Rattle.mark_core.proofs.CountTests.{bit}
 
 pub flag-is : (word c r : ℕ) → word ≡ c + 4294967296 * r → c ≤ 42 → r ≤ 1 → bit (has_flag word) ≡ r
 flag-is word c r e h l =
