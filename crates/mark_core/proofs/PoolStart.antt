@@ -16,7 +16,7 @@ use Rattle.mark_core.specs.Views.{hands}
 use Rattle.mark_core.specs.Cells.{in_pool, pool_count, holder_count, empty_packets}
 use Rattle.mark_core.specs.Start.{start_seat, start_seats, start_words, full_pool, packet_bits}
 use Rattle.mark_core.specs.PacketRules.{HeadsAgree, has_reservation, has_credit}
-use Rattle.mark_core.specs.Laws.{StartKeepsPackets}
+use Rattle.mark_core.specs.Laws.{StartMeetsPackets}
 use Rattle.mark_core.proofs.Regions.{words-get}
 use Rattle.mark_core.proofs.CountTests.{bit}
 use Rattle.mark_core.proofs.CountRange.{count-cons, count-none, count-same}
@@ -109,7 +109,7 @@ nobody sh n p =
 never_in : (P : Type 0) (b : Bool) → b ≡ false → IsTrue b → P
 never_in P b e f = absurd (true≢false (sym f ∙ e))
 
-pub start : StartKeepsPackets
+pub start : StartMeetsPackets
 start sh n z =
     let w : Words = words_of sh (start_words sh) in
     let seats : List SeatState = start_seats sh n in

@@ -15,7 +15,7 @@ use Rattle.mark_core.specs.WellFormed.{IsWellFormed}
 use Rattle.mark_core.specs.Laws.{PacketsSound, ArePacketsSound, EventsKeepPackets}
 use Rattle.mark_core.proofs.Regions.{words-get}
 use Rattle.mark_core.proofs.Places.{region-length}
-use Rattle.mark_core.proofs.Acting.{Acted, acted, found}
+use Rattle.mark_core.proofs.Acting.{Acted, acted, found, words_left}
 use Rattle.mark_core.proofs.Core.{in_range_from}
 use Rattle.mark_core.proofs.PoolBits.{in-row, word-below}
 use Rattle.mark_core.proofs.PoolChoice.{pool_for-below}
@@ -56,15 +56,15 @@ same_seats c i s a = subst (λ (t : SeatState). set c.seats i t ≡ c.seats) a.i
 
 -- a step of tracing
 tracing : (c : Core) (i : ℕ) (s : SeatState) (step : Step) → At c.shape (words_of c.shape c.words) c.seats i s
-    → ((put_word (place c.shape s step) (written c.shape s step (found c s step)) (words_of c.shape c.words)).empty ≡ (words_of c.shape c.words).empty)
-    × ((put_word (place c.shape s step) (written c.shape s step (found c s step)) (words_of c.shape c.words)).heads ≡ (words_of c.shape c.words).heads)
-    × ((put_word (place c.shape s step) (written c.shape s step (found c s step)) (words_of c.shape c.words)).pools ≡ (words_of c.shape c.words).pools)
+    → ((words_left c s step).empty ≡ (words_of c.shape c.words).empty)
+    × ((words_left c s step).heads ≡ (words_of c.shape c.words).heads)
+    × ((words_left c s step).pools ≡ (words_of c.shape c.words).pools)
     → held_of (seat_after c.shape s step (found c s step)) ≡ held_of s → debts_of (seat_after c.shape s step (found c s step)) ≡ debts_of s
     → AllTrue (parts c.shape (words_of c.shape c.words) c.seats s step) → is_tracing step ≡ true
-    → PacketsSound c.shape (put_word (place c.shape s step) (written c.shape s step (found c s step)) (words_of c.shape c.words)) (set c.seats i (seat_after c.shape s step (found c s step)))
+    → PacketsSound c.shape (words_left c s step) (set c.seats i (seat_after c.shape s step (found c s step)))
 tracing c i s step a same held debts ok t =
     let w : Words = words_of c.shape c.words in
-    sound-work c.shape w (put_word (place c.shape s step) (written c.shape s step (found c s step)) w) c.seats i s (seat_after c.shape s step (found c s step)) a same held debts (work-after c.shape w c.seats i s step (found c s step) a ok t)
+    sound-work c.shape w (words_left c s step) c.seats i s (seat_after c.shape s step (found c s step)) a same held debts (work-after c.shape w c.seats i s step (found c s step) a ok t)
 
 packets_at : (c : Core) (i : ℕ) (s : SeatState) (step : Step) → At c.shape (words_of c.shape c.words) c.seats i s → AllTrue (parts c.shape (words_of c.shape c.words) c.seats s step) → Left c i s step (found c s step)
 packets_at c i s Reserve a ok = sound-reserve c.shape (words_of c.shape c.words) c.seats i s a ok
@@ -102,14 +102,13 @@ packets_at c i s (ReadMarks b) a ok = tracing c i s (ReadMarks b) a (refl, refl,
 packets_at c i s (StoreField v f x) a ok =
     let w : Words = words_of c.shape c.words in
     let step : Step = StoreField v f x in
-    sound-work c.shape w (put_word (place c.shape s step) (written c.shape s step (found c s step)) w) c.seats i s (seat_after c.shape s step (found c s step)) a (refl, refl, refl) refl refl (work-holds c.shape w c.seats i s a)
+    sound-work c.shape w (words_left c s step) c.seats i s (seat_after c.shape s step (found c s step)) a (refl, refl, refl) refl refl (work-holds c.shape w c.seats i s a)
 packets_at c i s Split a ok =
     let w : Words = words_of c.shape c.words in
-    let w' : Words = put_word (place c.shape s Split) (found c s Split) w in
+    let w' : Words = words_left c s Split in
     sound-split c.shape w' (set c.seats i s) (length (set c.seats i s)) (sound-work c.shape w w' c.seats i s s a (refl, refl, refl) refl refl (work-holds c.shape w c.seats i s a))
 packets_at c i s (Join other) a ok =
     let w : Words = words_of c.shape c.words in
-    let w' : Words = put_word (place c.shape s (Join other)) (found c s (Join other)) w in
     let ended : PacketsSound c.shape w (set c.seats other (spent_seat c.shape other)) = sound-join c.shape w c.seats i other s a (and_parts _ _ ok.1.0).1 in
     rw (same_seats c i s a) (record { pools = ended.pools; counts = ended.counts })
 packets_at c i s (StoreLength p) a ok = sound-store_length c.shape (words_of c.shape c.words) c.seats i p (found c s (StoreLength p)) s a ok
@@ -132,7 +131,7 @@ packets-kept c e k names p f =
     let r : (s : SeatState) × Acted c e s = acted c e k.words (λ s g. in_range_from c e.seat s k names p.pools g) f in
     let a : Acted c e r.0 = r.1 in
     let s : SeatState = r.0 in
-    let w : Words = put_word (place c.shape s e.step) (written c.shape s e.step (found c s e.step)) (words_of c.shape c.words) in
+    let w : Words = words_left c s e.step in
     let P : List SeatState → Type 0 = λ seats. PacketsSound c.shape w seats in
     let Q : Words → Type 0 = λ x. PacketsSound c.shape x (after_event c e).seats in
     let R : Shape → Type 0 = λ sh. PacketsSound sh (words_of sh (after_event c e).words) (after_event c e).seats in

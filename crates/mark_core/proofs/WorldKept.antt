@@ -1,11 +1,11 @@
 -- Each event that is allowed keeps the rules of the world and of the phase.
-use Rattle.std.proofs.Common.{ℕ, ◌≡◌, ◌<◌, List, set, get_or, length, refl, sym, ap, ◌∙◌, subst, eqb, ◌||◌, true, Option, Some, None, ⊎_elim}
+use Rattle.std.proofs.Common.{ℕ, ◌≡◌, ◌<◌, List, get_or, length, refl, sym, ap, ◌∙◌, subst, eqb, ◌||◌, true, Option, Some, None, ⊎_elim}
 use Rattle.std.specs.Prelude.{IsTrue, IsFalse, IfSome, slice_get}
 use Rattle.std.specs.List.{All}
 use Rattle.std.proofs.lemmas.Bool.{true≢false, false≢true, or_cases, eqb-true}
 use Rattle.std.proofs.lemmas.List.{length-map, get_or-map}
 use Rattle.std.proofs.lemmas.Option.{slice_get_within, get_or_from_slice_get}
-use Rattle.mark_core.specs.Layout.{Words, words_of, put_word}
+use Rattle.mark_core.specs.Layout.{Words, words_of}
 use Rattle.mark_core.specs.Seats.{takes_part}
 use Rattle.mark_core.specs.Views.{Standing, standings, standing_of, hands, blocks}
 use Rattle.mark_core.specs.Start.{start_seat, spent_seat}
@@ -13,10 +13,10 @@ use Rattle.mark_core.specs.WorldRules.{World, Phases, NoneActive, is_stopped_pha
 use Rattle.mark_core.specs.WorldSteps.{begins_exact}
 use Rattle.mark_core.specs.Strong.{IsStrongBlock}
 use Rattle.mark_core.specs.Parts.{parts}
-use Rattle.mark_core.specs.Effects.{place, written, seat_after}
-use Rattle.mark_core.specs.Steps.{Core, AllTrue, failing_part, after_event, others_after}
+use Rattle.mark_core.specs.Effects.{written, seat_after}
+use Rattle.mark_core.specs.Steps.{Core, AllTrue, failing_part, after_event}
 use Rattle.mark_core.specs.Laws.{IsCore}
-use Rattle.mark_core.proofs.Acting.{Acted, found}
+use Rattle.mark_core.proofs.Acting.{Acted, found, words_left, seats_left}
 use Rattle.mark_core.proofs.Core.{acts}
 use Rattle.mark_core.proofs.Locals.{local-kept}
 use Rattle.mark_core.proofs.Writes.{phase-kept}
@@ -122,15 +122,15 @@ block_free c i s k h is =
 
 -- the rule of the phase after a step
 phase_at : (c : Core) (i : ℕ) (s : SeatState) (step : Step) → Stepping c i s → Moving c i s → AllTrue (parts c.shape (words_of c.shape c.words) c.seats s step)
-    → InPhase c.shape (put_word (place c.shape s step) (written c.shape s step (found c s step)) (words_of c.shape c.words)).phase (put_word (place c.shape s step) (written c.shape s step (found c s step)) (words_of c.shape c.words)).marks
-    (put_word (place c.shape s step) (written c.shape s step (found c s step)) (words_of c.shape c.words)).heads (others_after c.shape step (set c.seats i (seat_after c.shape s step (found c s step))))
+    → InPhase c.shape (words_left c s step).phase (words_left c s step).marks
+    (words_left c s step).heads (seats_left c i s step)
 phase_at c i s ReadPhase k m ok = phase-stays c i s ReadPhase k refl (λ e. refl) ok
 phase_at c i s (StorePhase to) k m ok = phase-moves c i s to (s.exact || begins_exact (words_of c.shape c.words).phase to) m ok
 phase_at c i s step k m ok =
     phase-stays c i s step k (phase-kept c.shape s step (written c.shape s step (found c s step)) (words_of c.shape c.words) refl) (λ e. absurd (false≢true e)) ok
 
 world_at : (c : Core) (i : ℕ) (s : SeatState) (step : Step) → IsCore c → slice_get c.seats i ≡ Some s → AllTrue (parts c.shape (words_of c.shape c.words) c.seats s step)
-    → WorldSound c.shape (put_word (place c.shape s step) (written c.shape s step (found c s step)) (words_of c.shape c.words)) (others_after c.shape step (set c.seats i (seat_after c.shape s step (found c s step))))
+    → WorldSound c.shape (words_left c s step) (seats_left c i s step)
 world_at c i s step k g ok =
     let sh : Shape = c.shape in
     let w : Words = words_of sh c.words in
@@ -141,9 +141,9 @@ world_at c i s step k g ok =
     let mine : Local sh s = subst (Local sh) is (all i s h) in
     let fits : Fits (standing_of s) = subst (λ (t : SeatState). Fits (standing_of t)) is (at-standing Fits c.seats i s h numbers.fits) in
     let phase = in-phase sh w.phase w.marks w.heads c.seats k.sound.phases in
-    let after : Words = put_word (place sh s step) (written sh s step (found c s step)) w in
-    together sh after (others_after sh step (set c.seats i (seat_after sh s step (found c s step))))
-    (right-from after.world after.help (standings (others_after sh step (set c.seats i (seat_after sh s step (found c s step))))) (numbers-at c i s step (record { few = k.formed.seat_count.1; seat = h; is = is; numbers = numbers }) ok))
+    let after : Words = words_left c s step in
+    together sh after (seats_left c i s step)
+    (right-from after.world after.help (standings (seats_left c i s step)) (numbers-at c i s step (record { few = k.formed.seat_count.1; seat = h; is = is; numbers = numbers }) ok))
     (local-kept (Local sh) sh step c.seats i (seat_after sh s step (found c s step)) (new-local sh) (ended_local sh) all (local-at sh w c.seats s step (found c s step) mine fits (block_free c i s k h is) ok))
     (phase_at c i s step (record { seat = h; is = is; phase = phase; fits = numbers.fits; mine = mine; in_range = k.formed.phase })
     (record {
@@ -162,7 +162,7 @@ world-kept_by c e k f =
     let r : (s : SeatState) × Acted c e s = acts c e k f in
     let a : Acted c e r.0 = r.1 in
     let s : SeatState = r.0 in
-    let w : Words = put_word (place c.shape s e.step) (written c.shape s e.step (found c s e.step)) (words_of c.shape c.words) in
+    let w : Words = words_left c s e.step in
     let P : List SeatState → Type 0 = λ seats. WorldSound c.shape w seats in
     let Q : Words → Type 0 = λ x. WorldSound c.shape x (after_event c e).seats in
     let R : Shape → Type 0 = λ sh. WorldSound sh (words_of sh (after_event c e).words) (after_event c e).seats in

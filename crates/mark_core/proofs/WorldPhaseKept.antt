@@ -6,7 +6,7 @@ use Rattle.std.proofs.lemmas.Bool.{and_parts, false≢true}
 use Rattle.std.proofs.lemmas.List.{map-set, map_push, length-map, get_or-map, set-get_or}
 use Rattle.std.proofs.lemmas.List.Sums.{sum_by_push}
 use Rattle.std.proofs.lemmas.Option.{slice_get_within, get_or_from_slice_get}
-use Rattle.mark_core.specs.Layout.{Words, words_of, put_word}
+use Rattle.mark_core.specs.Layout.{Words, words_of}
 use Rattle.mark_core.specs.Held.{holds_any}
 use Rattle.mark_core.specs.Seats.{is_bare}
 use Rattle.mark_core.specs.Views.{Standing, standings, standing_of, some_knows}
@@ -14,9 +14,9 @@ use Rattle.mark_core.specs.WorldSteps.{may_be_joined}
 use Rattle.mark_core.specs.WorldRules.{is_stopped_phase}
 use Rattle.mark_core.specs.Start.{start_seat, spent_seat}
 use Rattle.mark_core.specs.Parts.{parts}
-use Rattle.mark_core.specs.Effects.{place, written, seat_after}
-use Rattle.mark_core.specs.Steps.{Core, AllTrue, others_after}
-use Rattle.mark_core.proofs.Acting.{found}
+use Rattle.mark_core.specs.Effects.{written, seat_after}
+use Rattle.mark_core.specs.Steps.{Core, AllTrue}
+use Rattle.mark_core.proofs.Acting.{found, words_left, seats_left}
 use Rattle.mark_core.proofs.Locals.{local-kept}
 use Rattle.mark_core.proofs.Writes.{touches_phase}
 use Rattle.mark_core.proofs.CountTests.{bit}
@@ -65,7 +65,7 @@ knowers_end sh seats j (Some o) e f g m =
 
 -- while the world stays stopped some seat knows it
 knowers_at : (c : Core) (i : ℕ) (s : SeatState) (step : Step) → i < length c.seats → get_or c.seats i s ≡ s → All Fits (standings c.seats) → AllTrue (parts c.shape (words_of c.shape c.words) c.seats s step)
-    → IsTrue (is_stopped_phase (words_of c.shape c.words).phase) → IsTrue (some_knows (standings c.seats)) → IsTrue (some_knows (standings (others_after c.shape step (set c.seats i (seat_after c.shape s step (found c s step))))))
+    → IsTrue (is_stopped_phase (words_of c.shape c.words).phase) → IsTrue (some_knows (standings c.seats)) → IsTrue (some_knows (standings (seats_left c i s step)))
 knowers_at c i s Observe h is f ok st e = knowers-set c.seats i s (seat_after c.shape s Observe (found c s Observe)) h is (λ k. rw k refl) e
 knowers_at c i s DropStep h is f ok st e = resting-not (words_of c.shape c.words).phase is_stopped_phase _ refl refl ok.1.1.0 st
 knowers_at c i s Split h is f ok st e = knowers_push c.shape (set c.seats i s) (length (set c.seats i s)) (knowers-set c.seats i s s h is (λ k. k) e)
@@ -91,10 +91,10 @@ pub record Stepping (c : Core) (i : ℕ) (s : SeatState) : Type 0 where
   pub in_range : (words_of c.shape c.words).phase ≤ 5
 
 -- the rule of the phase is kept by a step that leaves the phase
-pub phase-stays : (c : Core) (i : ℕ) (s : SeatState) (step : Step) → Stepping c i s → (put_word (place c.shape s step) (written c.shape s step (found c s step)) (words_of c.shape c.words)).phase ≡ (words_of c.shape c.words).phase
+pub phase-stays : (c : Core) (i : ℕ) (s : SeatState) (step : Step) → Stepping c i s → (words_left c s step).phase ≡ (words_of c.shape c.words).phase
     → (touches_phase step ≡ true → found c s step ≡ (words_of c.shape c.words).phase) → AllTrue (parts c.shape (words_of c.shape c.words) c.seats s step)
-    → InPhase c.shape (put_word (place c.shape s step) (written c.shape s step (found c s step)) (words_of c.shape c.words)).phase (put_word (place c.shape s step) (written c.shape s step (found c s step)) (words_of c.shape c.words)).marks
-    (put_word (place c.shape s step) (written c.shape s step (found c s step)) (words_of c.shape c.words)).heads (others_after c.shape step (set c.seats i (seat_after c.shape s step (found c s step))))
+    → InPhase c.shape (words_left c s step).phase (words_left c s step).marks
+    (words_left c s step).heads (seats_left c i s step)
 phase-stays c i s step k same read ok =
     let sh : Shape = c.shape in
     let w : Words = words_of sh c.words in

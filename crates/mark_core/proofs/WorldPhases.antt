@@ -6,17 +6,17 @@ use Rattle.std.proofs.lemmas.Bool.{true≢false, and_parts, or_cases, cases_eq, 
 use Rattle.std.proofs.lemmas.List.{length-map, get_or-map, set-get_or, set_past, get_or-set_same, get_or-set_other}
 use Rattle.std.proofs.lemmas.List.Elements.{All-map}
 use Rattle.mark_core.specs.Shapes.{EachCell, EachPacket}
-use Rattle.mark_core.specs.Layout.{Words, words_of, put_word, region_sizes, block_count}
+use Rattle.mark_core.specs.Layout.{Words, words_of, region_sizes, block_count}
 use Rattle.mark_core.specs.Bits.{cell_bit, has_bit}
 use Rattle.mark_core.specs.Held.{holds_any}
 use Rattle.mark_core.specs.Seats.{is_phase}
 use Rattle.mark_core.specs.Views.{standings, hands, some_knows}
 use Rattle.mark_core.specs.WorldRules.{Phases, is_tracing, is_stopped_phase, is_resting}
 use Rattle.mark_core.specs.Parts.{parts}
-use Rattle.mark_core.specs.Effects.{place, written}
+use Rattle.mark_core.specs.Effects.{written}
 use Rattle.mark_core.specs.Steps.{Core, AllTrue}
 use Rattle.mark_core.proofs.Regions.{words-get}
-use Rattle.mark_core.proofs.Acting.{found}
+use Rattle.mark_core.proofs.Acting.{found, words_left}
 use Rattle.mark_core.proofs.RegionWrites.{marks-kept}
 use Rattle.mark_core.proofs.PoolBits.{no-bit}
 use Rattle.mark_core.proofs.WorldSights.{Sees, traces-in}
@@ -89,7 +89,7 @@ cleared ws b x e =
 
 -- outside a cycle no step marks a cell
 pub white-after : (c : Core) (i : ℕ) (s : SeatState) (step : Step) → Sees (words_of c.shape c.words).phase s → IsTrue (is_resting (words_of c.shape c.words).phase) → IsWhite c.shape (words_of c.shape c.words).marks
-    → AllTrue (parts c.shape (words_of c.shape c.words) c.seats s step) → IsWhite c.shape (put_word (place c.shape s step) (written c.shape s step (found c s step)) (words_of c.shape c.words)).marks
+    → AllTrue (parts c.shape (words_of c.shape c.words) c.seats s step) → IsWhite c.shape (words_left c s step).marks
 white-after c i s (SetMark x) k e h ok = resting-not (words_of c.shape c.words).phase is_tracing _ refl refl e (traces-in (words_of c.shape c.words).phase s k ok.1.0)
 white-after c i s (ReadMarks b) k e h ok =
     let w : Words = words_of c.shape c.words in

@@ -46,17 +46,21 @@ changed : (w w' : Words) (seats : List SeatState) (i : ℕ) (s t : SeatState) �
 changed w w' seats i s t a m =
     subst (Numbers w'.world w'.help) (sym (map-set standing_of seats i t)) (numbers-moved w.world w.help w'.world w'.help (standings seats) i (standing_of t) a.numbers (rw length-map a.seat) m)
 
--- the numbers after a step, where its word was `old`
+-- the words after a step, where its word was `old`
+abbrev words_where : Core → SeatState → Step → ℕ → Words
+words_where c s step old = put_word (place c.shape s step) (written c.shape s step old) (words_of c.shape c.words)
+
+-- the numbers after it
 abbrev After : Core → ℕ → SeatState → Step → ℕ → Type 0
 After c i s step old =
-    let w : Words = put_word (place c.shape s step) (written c.shape s step old) (words_of c.shape c.words) in
+    let w : Words = words_where c s step old in
     Numbers w.world w.help (standings (others_after c.shape step (set c.seats i (seat_after c.shape s step old))))
 
 -- a seat that steps from its place
 by_world : (c : Core) (i : ℕ) (s : SeatState) (step : Step) (old : ℕ) → Among (words_of c.shape c.words) c.seats i s
-    → Stands (put_word (place c.shape s step) (written c.shape s step old) (words_of c.shape c.words)).world (put_word (place c.shape s step) (written c.shape s step old) (words_of c.shape c.words)).help (others (standings c.seats) i) (standing_of (seat_after c.shape s step old))
-    → Numbers (put_word (place c.shape s step) (written c.shape s step old) (words_of c.shape c.words)).world (put_word (place c.shape s step) (written c.shape s step old) (words_of c.shape c.words)).help (standings (set c.seats i (seat_after c.shape s step old)))
-by_world c i s step old a m = changed (words_of c.shape c.words) (put_word (place c.shape s step) (written c.shape s step old) (words_of c.shape c.words)) c.seats i s (seat_after c.shape s step old) a m
+    → Stands (words_where c s step old).world (words_where c s step old).help (others (standings c.seats) i) (standing_of (seat_after c.shape s step old))
+    → Numbers (words_where c s step old).world (words_where c s step old).help (standings (set c.seats i (seat_after c.shape s step old)))
+by_world c i s step old a m = changed (words_of c.shape c.words) (words_where c s step old) c.seats i s (seat_after c.shape s step old) a m
 
 -- a step on the word of help finds that word
 helping : (c : Core) (i : ℕ) (s : SeatState) (step : Step) → After c i s step (words_of c.shape c.words).help → After c i s step (get_or c.words (address c.shape the_help) 0)

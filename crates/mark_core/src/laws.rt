@@ -1,9 +1,9 @@
 // What holds of every state of the core and of every event: each law is the contract of a function that does nothing.
-ghost use Rattle.mark_core.specs.Laws.{StartKeepsPackets, EventsKeepPackets, CountShowsQuiet};
+ghost use Rattle.mark_core.specs.Laws.{StartMeetsPackets, EventsKeepPackets, CountShowsQuiet};
 
 /// In the state in which nothing has happened every packet is in the empty pool, and the count says so: over all shapes and any number of seats.
 pub fn packets_start()
-    ensures { StartKeepsPackets }
+    ensures { StartMeetsPackets }
 {}
 
 /// Each event that is allowed keeps the rules of packets: a packet is in one pool or in one hand, a pool holds packets of its lengths,
