@@ -1,0 +1,5 @@
+use Rattle.mark_core.proofs.QuietReading.{quiet}
+use Rattle.mark_core.proofs.laws.count_shows_quiet.Goals as goal
+
+pub returns : goal.returns
+returns c = quiet

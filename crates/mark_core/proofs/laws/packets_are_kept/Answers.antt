@@ -1,0 +1,5 @@
+use Rattle.mark_core.proofs.PoolsKept.{packets-kept}
+use Rattle.mark_core.proofs.laws.packets_are_kept.Goals as goal
+
+pub returns : goal.returns
+returns c = packets-kept

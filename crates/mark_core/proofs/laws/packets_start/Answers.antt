@@ -1,0 +1,5 @@
+use Rattle.mark_core.proofs.PoolStart.{start}
+use Rattle.mark_core.proofs.laws.packets_start.Goals as goal
+
+pub returns : goal.returns
+returns c = start
