@@ -1,11 +1,11 @@
 -- The names that the catalogue assigns anywhere are those that were known as it ended.
-use Rattle.std.proofs.Common.{◌≡◌, ℕ, zero, suc, List, [], ◌∷◌, refl, ap, sym, ◌∙◌, Bool, true, false, cond, add-one}
-use Rattle.std.specs.Prelude.{Option, Some, None, is_some, is_none, ◌&&◌}
+use Rattle.std.proofs.Common.{◌≡◌, ℕ, zero, suc, List, [], ◌∷◌, refl, ap, sym, ◌∙◌, Bool, true, false, add-one}
+use Rattle.std.specs.Prelude.{Option, Some, None, is_some, ◌&&◌}
 use Rattle.gc_script.specs.Statement.{Spoken, NewOf, LetOf, NilOf, SetOf, GetOf, CatOf, PutOf, SayOf, SumOf, CollectOf, Statement, Blank, Fields, Catalogue, Warehouse, Season, Repeat, End, Command, Wrong}
 use Rattle.gc_script.specs.Earlier.{assigns, with_name, warehouse_count, known_fields, known_names, open_section, open_repeat, assigned_names, catalogue_names}
 use Rattle.gc_script.specs.Faults.{Fault, unless_, cuts_repeat, may_stand, line_fault}
-use Rattle.gc_script.specs.Context.{context_of, closing, closed_names, IsClear, AreClear}
-use Rattle.gc_script.proofs.History.{Agrees, bare, none_is}
+use Rattle.gc_script.specs.Context.{Agrees, context_of, closing, closed_names, IsClear, AreClear}
+use Rattle.gc_script.proofs.History.{bare, none_is}
 
 -- the catalogue's names, by the section that was started last, the names known in it, those of the closed catalogue, and the rest of the lines
 abbrev names_by : Option ℕ → List (List ℕ) → List (List ℕ) → List Statement → List (List ℕ)

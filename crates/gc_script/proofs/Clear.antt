@@ -1,11 +1,11 @@
 -- A line without a fault: what holds of it, and of the context after it.
-use Rattle.std.proofs.Common.{◌≡◌, ℕ, ◌+◌, ◌≤◌, ◌<◌, zero, suc, List, [], ◌∷◌, ◌++◌, length, refl, ap, sym, ◌∙◌, subst, cond, Bool, true, false, arith}
+use Rattle.std.proofs.Common.{◌≡◌, ℕ, ◌≤◌, ◌<◌, zero, suc, List, [], ◌∷◌, ◌++◌, length, refl, ap, sym, ◌∙◌, subst, cond, Bool, true, false, arith}
 use Rattle.std.proofs.lemmas.Bool.Decides.{nat_tests}
 use Rattle.std.proofs.lemmas.List.{length-append}
-use Rattle.std.specs.Prelude.{not, nat_le, nat_lt, Option, Some, None, is_none, is_some, unwrap_or, ◌&&◌, ◌||◌, ◌^◌}
+use Rattle.std.specs.Prelude.{not, nat_le, nat_lt, Option, Some, None, is_none, unwrap_or, ◌&&◌, ◌||◌, ◌^◌}
 use Rattle.plain_heap.specs.PlainStep.{IsInRange}
 use Rattle.gc_script.specs.Statement.{Spoken, NewOf, LetOf, NilOf, SetOf, GetOf, CatOf, PutOf, SayOf, SumOf, CollectOf, Statement, Blank, Fields, Catalogue, Warehouse, Season, Repeat, End, Command, Wrong}
-use Rattle.gc_script.specs.Earlier.{place, has_name, with_name, assigns}
+use Rattle.gc_script.specs.Earlier.{place, has_name, with_name}
 use Rattle.gc_script.specs.Faults.{Fault, BadLine, UnknownName, TooManyNames, NumberTooLarge, TooManySections, TooManySeasons, starts_section, unless_, cuts_repeat}
 use Rattle.gc_script.specs.Context.{Context, context_after, closing, placed_in, large_in, knows_in, names_after, warehouses_after, seasons_after, uncut_fault_in, fault_in, IsClear, IsSane, operation_in}
 use Rattle.gc_script.proofs.Places.{within}

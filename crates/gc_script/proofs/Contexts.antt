@@ -1,9 +1,9 @@
 -- The context is that of the lines before.
-use Rattle.std.proofs.Common.{◌≡◌, ℕ, ◌+◌, ◌≤◌, ◌<◌, zero, suc, List, [], ◌∷◌, length, refl, ap, sym, ◌∙◌, subst, cond, Bool, true, false, arith, eqb}
-use Rattle.std.specs.Prelude.{not, nat_le, nat_lt, Option, Some, None, is_none, ◌&&◌, ◌==◌, unwrap_or}
-use Rattle.gc_script.specs.Statement.{Spoken, NewOf, LetOf, NilOf, SetOf, GetOf, CatOf, PutOf, SayOf, SumOf, CollectOf, Statement, Blank, Fields, Catalogue, Warehouse, Season, Repeat, End, Command, Wrong}
-use Rattle.gc_script.specs.Earlier.{next_line, has_name, known_fields, stated_fields, known_names, open_repeat, open_section, warehouse_count, season_count}
-use Rattle.gc_script.specs.Faults.{Fault, line_fault}
+use Rattle.std.proofs.Common.{◌≡◌, ℕ, ◌+◌, List, ◌∷◌, refl, ap, ◌∙◌, cond, Bool, true, false, arith}
+use Rattle.std.specs.Prelude.{Option, Some, is_none, ◌&&◌, ◌==◌}
+use Rattle.gc_script.specs.Statement.{Statement, Blank, Fields, Catalogue, Warehouse, Season, Repeat, End, Command, Wrong}
+use Rattle.gc_script.specs.Earlier.{next_line, known_fields, stated_fields}
+use Rattle.gc_script.specs.Faults.{line_fault}
 use Rattle.gc_script.specs.Context.{Context, context_of, context_after, closed_names, placed_in, fault_in, next}
 
 -- the fault of a line, by the context

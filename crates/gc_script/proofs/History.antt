@@ -1,15 +1,14 @@
 -- What holds of lines without a fault, latest first.
-use Rattle.std.proofs.Common.{◌≡◌, ℕ, ◌+◌, ◌*◌, ◌≤◌, ◌<◌, zero, suc, List, [], ◌∷◌, ◌++◌, length, refl, ap, sym, ◌∙◌, subst, cond, Bool, true, false, arith}
+use Rattle.std.proofs.Common.{◌≡◌, ℕ, zero, suc, List, [], ◌∷◌, ◌++◌, refl, ap, sym, ◌∙◌, cond, Bool, true, false}
 use Rattle.std.proofs.lemmas.List.{append-nil, append_assoc}
-use Rattle.std.specs.Prelude.{not, Option, Some, None, is_none, is_some, ◌&&◌}
-use Rattle.std.specs.Option.{option_or}
+use Rattle.std.specs.Prelude.{Option, Some, None, is_none, is_some, ◌&&◌}
 use Rattle.plain_heap.specs.Sections.{Execution}
 use Rattle.plain_heap.specs.declared.operation.Op.{Op}
 use Rattle.gc_script.specs.Statement.{Spoken, NewOf, LetOf, NilOf, SetOf, GetOf, CatOf, PutOf, SayOf, SumOf, CollectOf, Statement, Blank, Fields, Catalogue, Warehouse, Season, Repeat, End, Command, Wrong}
-use Rattle.gc_script.specs.Earlier.{next_line, place, known_fields, known_names, open_repeat, open_section}
-use Rattle.gc_script.specs.Script.{repeated, repetitions, pending, executed, execution, operation, label_of, ended_parts, open_parts, if_warehouse, if_catalogue, closed_warehouses, closed_catalogue}
-use Rattle.gc_script.specs.Context.{Context, context_of, closed_names, IsClear, AreClear, execution_in}
-use Rattle.gc_script.specs.Content.{Content, settled, content_of, content_after, settle, end_part, close}
+use Rattle.gc_script.specs.Earlier.{next_line, place, known_names, open_repeat, open_section}
+use Rattle.gc_script.specs.Script.{repeated, repetitions, pending, executed, execution, operation, label_of, ended_parts}
+use Rattle.gc_script.specs.Context.{context_of, closed_names, IsClear, AreClear, Agrees, execution_in}
+use Rattle.gc_script.specs.Content.{settled, content_of, content_after, close}
 
 left : (a b : Bool) → (a && b) ≡ true → a ≡ true
 left true b e = refl
@@ -114,10 +113,6 @@ bare version catalogue (Repeat n ∷ e) h o = absurd (not_none _ (left (is_some 
 bare version catalogue (End ∷ e) h o = absurd (not_none _ (some_open version e h.1 h.0.placed) o)
 bare version catalogue (Command spoken ∷ e) h o = absurd (stands _ spoken h.0.placed o)
 bare version catalogue (Wrong ∷ e) h o = let b = bare version catalogue e h.1 o in record { settled = b.settled; pending = b.pending; executed = b.executed; ended = b.ended; names = b.names }
-
--- what a command of a warehouse reads of the catalogue is known by now
-abbrev pub Agrees : List (List ℕ) → List Statement → Type 0
-Agrees catalogue e = (w : ℕ) → open_section e ≡ Some (suc w) → closed_names e ≡ catalogue
 
 same_operation : (at : List ℕ → ℕ) (a b : List (List ℕ)) (o : Option ℕ) (s : Spoken) → Rattle.gc_script.specs.Faults.may_stand o s ≡ true → ((w : ℕ) → o ≡ Some (suc w) → a ≡ b)
     → operation at (place a) s ≡ operation at (place b) s

@@ -1,5 +1,5 @@
 -- The fault of a line, by what the reader says of it.
-use Rattle.std.proofs.Common.{◌≡◌, ℕ, ◌+◌, ◌≤◌, ◌<◌, refl, ap, sym, ◌∙◌, subst, arith}
+use Rattle.std.proofs.Common.{◌≡◌, ◌<◌, ap, sym, ◌∙◌, arith}
 use Rattle.std.specs.Prelude.{Option, Some, None, unwrap_or}
 use Rattle.gc_script.specs.Statement.{Statement}
 use Rattle.gc_script.specs.Faults.{Fault}

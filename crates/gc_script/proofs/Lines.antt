@@ -1,13 +1,13 @@
 -- The loop over the lines.
-use Rattle.std.proofs.Common.{◌≡◌, ℕ, ◌+◌, ◌≤◌, ◌<◌, ◌^◌, suc, List, [], ◌∷◌, ◌++◌, length, take, drop, get_or, map, refl, ap, sym, ◌∙◌, subst, cond, Bor, Bool, true, false, arith, length-take-le}
+use Rattle.std.proofs.Common.{◌≡◌, ℕ, ◌+◌, ◌≤◌, ◌<◌, List, [], ◌∷◌, ◌++◌, length, take, drop, get_or, map, refl, ap, sym, ◌∙◌, subst, cond, Bor, Bool, true, false, arith}
 use Rattle.std.proofs.lemmas.List.{take_more, take_all, drop_all, drop_more, length-map, get_or-map}
 use Rattle.std.specs.Prelude.{Option, Some, None, unwrap_or, ◌==◌}
 use Rattle.gc_script.specs.Statement.{Statement, Blank, statement}
 use Rattle.gc_script.specs.ScriptText.{words}
-use Rattle.gc_script.specs.Earlier.{catalogue_names, next_line}
+use Rattle.gc_script.specs.Earlier.{catalogue_names}
 use Rattle.gc_script.specs.Faults.{Fault, first_fault, line_fault, end_fault, or_later}
 use Rattle.gc_script.specs.Script.{turned}
-use Rattle.gc_script.specs.Context.{Context, context_of, context_after, fault_in, IsClear, AreClear, IsSane}
+use Rattle.gc_script.specs.Context.{Agrees, Context, context_of, context_after, fault_in, IsClear, IsSane}
 use Rattle.gc_script.specs.Kept.{context_shown}
 use Rattle.gc_script.specs.Content.{Content, content_of, content_after, kept_shown}
 use Rattle.gc_script.specs.Reading.{is_told, Tells, IsTaken, Shows, AreRead}
@@ -16,7 +16,7 @@ use Rattle.gc_script.specs.declared.progress.Progress.{Progress}
 use Rattle.gc_script.specs.declared.script.ScriptError.{ScriptError}
 use Rattle.gc_script.proofs.Contexts.{fault_is, context_step, line_more}
 use Rattle.gc_script.proofs.Clear.{sane_step, no_fault}
-use Rattle.gc_script.proofs.History.{content_step, Agrees}
+use Rattle.gc_script.proofs.History.{content_step}
 use Rattle.gc_script.proofs.CatalogueNames.{names_from, names_step, agrees, same_fault}
 
 -- the progress after the first i lines
@@ -111,6 +111,7 @@ so_far_end version all i p l h =
     record {
       fault = sym h.fault ∙ ap (first_fault version (catalogue_names all) (turned [] (take i all))) none ∙ ap (λ (x : List Statement). end_fault version (turned [] x)) whole;
       shows = subst (λ (x : List Statement). Shows version (catalogue_names all) (turned [] x) p) whole h.shows;
+      names = subst (λ (x : List Statement). Agrees (catalogue_names all) (turned [] x)) whole (agrees (catalogue_names all) (turned [] (take i all)) (drop i all) h.names);
     }
 
 -- the statement of line i

@@ -1,9 +1,9 @@
 -- The sections of a script by their numbers.
-use Rattle.std.proofs.Common.{◌≡◌, ℕ, ◌+◌, ◌≤◌, zero, suc, List, [], ◌∷◌, ◌++◌, length, map, get_or, drop, refl, ap, sym, ◌∙◌, subst, Bool, true, max, add-one, arith}
+use Rattle.std.proofs.Common.{◌≡◌, ℕ, ◌+◌, zero, suc, List, [], ◌∷◌, length, map, get_or, drop, refl, ap, sym, ◌∙◌, max, add-one, arith}
 use Rattle.std.proofs.lemmas.List.Folds.{fold-map}
 use Rattle.std.proofs.lemmas.List.Sums.{sum_by-cons}
-use Rattle.std.specs.Prelude.{Option, Some, None, unwrap_or}
-use Rattle.std.specs.List.{fold, sum_by, count_by}
+use Rattle.std.specs.Prelude.{unwrap_or}
+use Rattle.std.specs.List.{fold, sum_by}
 use Rattle.plain_heap.specs.Sections.{Execution, Sections, Parts, joined, parts_of, counted, warehouse_numbers, section_numbers, section_of, warehouse_sections, executed_total, printed_total, printed_by, seasons}
 use Rattle.gc_script.specs.Blocks.{counts}
 use Rattle.gc_script.specs.Sectioned.{in_parts, in_sections, numbered}

@@ -1,5 +1,5 @@
 -- The commands of a script without a fault are in range.
-use Rattle.std.proofs.Common.{◌≡◌, ℕ, ◌+◌, ◌≤◌, zero, suc, List, [], ◌∷◌, ◌++◌, length, refl, ap, sym, ◌∙◌, subst, cond, Bool, true, false, add-one, arith}
+use Rattle.std.proofs.Common.{◌≡◌, ℕ, ◌≤◌, zero, suc, List, [], ◌∷◌, ◌++◌, refl, ap, sym, ◌∙◌, subst, cond, Bool, true, false, add-one, arith}
 use Rattle.std.proofs.lemmas.List.{append-nil}
 use Rattle.std.proofs.lemmas.List.Concat.{flat_map-append}
 use Rattle.std.proofs.lemmas.List.Elements.{All-append, All-nil, All-push, All-same}
@@ -11,10 +11,10 @@ use Rattle.plain_heap.specs.Sections.{Execution, joined}
 use Rattle.gc_script.specs.Statement.{Spoken, Statement, Blank, Fields, Catalogue, Warehouse, Season, Repeat, End, Command, Wrong}
 use Rattle.gc_script.specs.Earlier.{known_fields, known_names, warehouse_count, open_repeat, open_section}
 use Rattle.gc_script.specs.Script.{repeated, repetitions, pending, executed, execution, ended_parts, open_parts, if_warehouse, if_catalogue, closed_warehouses, closed_catalogue}
-use Rattle.gc_script.specs.Context.{Context, context_of, closed_names, IsClear, AreClear, IsSane, execution_in}
+use Rattle.gc_script.specs.Context.{Agrees, Context, context_of, closed_names, IsClear, AreClear, IsSane, execution_in}
 use Rattle.gc_script.proofs.Contexts.{context_step}
 use Rattle.gc_script.proofs.Clear.{sane_step, in_range}
-use Rattle.gc_script.proofs.History.{Agrees, bare, none_is, same_execution}
+use Rattle.gc_script.proofs.History.{same_execution}
 
 left : (a b : Bool) → (a && b) ≡ true → a ≡ true
 left true b e = refl
@@ -59,7 +59,7 @@ Fits fields e = IsInRange fields e.op
 abbrev pub AllFit : ℕ → List (List Execution) → Type 0
 AllFit fields parts = All (Fits fields) (joined parts)
 
-fit_push : (fields : ℕ) (parts : List (List Execution)) (part : List Execution) → AllFit fields parts → All (Fits fields) part → AllFit fields (parts ++ part ∷ [])
+pub fit_push : (fields : ℕ) (parts : List (List Execution)) (part : List Execution) → AllFit fields parts → All (Fits fields) part → AllFit fields (parts ++ part ∷ [])
 fit_push fields parts part h k =
     All-same (Fits fields) _ (joined parts ++ part) (flat_map-append (λ (p : List Execution). p) parts (part ∷ []) ∙ ap (λ (p : List Execution). joined parts ++ p) (append-nil part))
     (All-append (Fits fields) (joined parts) part h k)

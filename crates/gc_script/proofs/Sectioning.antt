@@ -1,10 +1,10 @@
 -- The parts of a section, and what is counted of them.
-use Rattle.std.proofs.Common.{◌≡◌, ℕ, ◌+◌, ◌≤◌, ◌<◌, zero, suc, List, [], ◌∷◌, ◌++◌, length, map, get_or, take, drop, refl, ap, sym, ◌∙◌, subst, cond, min, Bool, true, arith}
+use Rattle.std.proofs.Common.{◌≡◌, ℕ, ◌≤◌, zero, suc, List, [], ◌∷◌, ◌++◌, length, map, get_or, take, drop, refl, ap, sym, ◌∙◌, min, arith}
 use Rattle.std.proofs.lemmas.List.{length-append}
 use Rattle.std.proofs.lemmas.List.Elements.{All-nil, All-same, All-take, All-drop}
 use Rattle.std.proofs.lemmas.List.Sums.{count_by-le-length}
 use Rattle.std.specs.List.{All, count_by}
-use Rattle.plain_heap.specs.Sections.{Execution, joined, made_by, printed_by}
+use Rattle.plain_heap.specs.Sections.{Execution, joined}
 use Rattle.gc_script.specs.Blocks.{counts, part_shown}
 use Rattle.gc_script.specs.Sectioned.{IsSmall, IsCounted}
 use Rattle.gc_script.specs.declared.block.Part as part

@@ -3,14 +3,14 @@ use Rattle.std.proofs.Common.{◌≡◌, ℕ, ◌+◌, ◌*◌, ◌≤◌, ◌<�
 use Rattle.std.proofs.lemmas.List.{append-nil}
 use Rattle.std.proofs.lemmas.List.Sums.{sum_by-append}
 use Rattle.std.proofs.lemmas.List.Concat.{flat_map-append}
-use Rattle.std.specs.Prelude.{Option, Some, None, is_none, is_some, unwrap_or, ◌&&◌}
+use Rattle.std.specs.Prelude.{Option, Some, None, is_none, is_some, ◌&&◌}
 use Rattle.std.specs.Option.{option_or}
-use Rattle.std.specs.List.{count_by, sum_by, flat_map}
+use Rattle.std.specs.List.{count_by}
 use Rattle.plain_heap.specs.Sections.{Execution, joined}
 use Rattle.gc_script.specs.Statement.{Spoken, Statement, Blank, Fields, Catalogue, Warehouse, Season, Repeat, End, Command, Wrong}
 use Rattle.gc_script.specs.Earlier.{known_fields, open_repeat, open_section}
 use Rattle.gc_script.specs.Script.{repeated, repetitions, pending, executed, execution, ended_parts, open_parts, if_warehouse, if_catalogue, closed_warehouses, closed_catalogue, one_if, pending_count, executed_count}
-use Rattle.gc_script.specs.Context.{context_of, IsClear, AreClear}
+use Rattle.gc_script.specs.Context.{AreClear}
 use Rattle.gc_script.specs.Sectioned.{in_parts, in_sections}
 use Rattle.gc_script.proofs.Repeats.{count_by-append, count_repeated}
 use Rattle.gc_script.proofs.History.{bare, none_is}

@@ -1,5 +1,5 @@
 -- Blocks of commands, seen as what is executed.
-use Rattle.std.specs.Prelude.{ℕ, List, map, flat_map, Bool, true}
+use Rattle.std.specs.Prelude.{List, map, flat_map, Bool, true}
 use Rattle.plain_heap.specs.declared.operation.Op.{Op}
 use Rattle.plain_heap.specs.Sections.{Execution, makes_object, prints_line}
 use Rattle.gc_script.specs.Script.{repeated}

@@ -1,8 +1,8 @@
 -- What the reader keeps of the commands before a line.
-use Rattle.std.specs.Prelude.{ℕ, List, [], ◌∷◌, ◌++◌, map, Option, Some, None, option_map}
+use Rattle.std.specs.Prelude.{ℕ, List, [], ◌∷◌, ◌++◌, map, Option, option_map}
 use Rattle.std.specs.Option.{option_or}
 use Rattle.plain_heap.specs.Sections.{Execution}
-use Rattle.gc_script.specs.Statement.{Statement, Blank, Fields, Catalogue, Warehouse, Season, Repeat, End, Command, Wrong}
+use Rattle.gc_script.specs.Statement.{Statement, Catalogue, Warehouse, Season, Repeat, End, Command}
 use Rattle.gc_script.specs.Earlier.{open_repeat}
 use Rattle.gc_script.specs.Script.{repeated, repetitions, pending, ended_parts, if_warehouse, if_catalogue, closed_warehouses, closed_catalogue}
 use Rattle.gc_script.specs.Context.{Context, execution_in}

@@ -153,3 +153,7 @@ AreClear version (statement ∷ earlier) = IsClear (context_of version earlier) 
 -- the fault of the end of input
 abbrev pub end_fault_in : Context → Option Fault
 end_fault_in c = unless_ (is_some c.fields) BadHeader (left_open c.opened)
+
+-- what a command of a warehouse reads of the catalogue is known by now
+abbrev pub Agrees : List (List ℕ) → List Statement → Type 0
+Agrees catalogue e = (w : ℕ) → open_section e ≡ Some (suc w) → closed_names e ≡ catalogue

@@ -1,10 +1,10 @@
 -- What the reader answers, line by line.
-use Rattle.std.specs.Prelude.{ℕ, ◌≡◌, List, [], ◌∷◌, ◌++◌, take, drop, Option, Some, None, Result, Ok, Err}
+use Rattle.std.specs.Prelude.{ℕ, ◌≡◌, List, [], Option, Some, None, Result, Ok, Err}
 use Rattle.gc_script.specs.Statement.{Statement}
 use Rattle.gc_script.specs.Earlier.{catalogue_names}
 use Rattle.gc_script.specs.Faults.{Fault, first_fault, end_fault}
 use Rattle.gc_script.specs.Said.{said}
-use Rattle.gc_script.specs.Context.{Context, context_of, context_after, fault_in, IsClear, AreClear, IsSane}
+use Rattle.gc_script.specs.Context.{Context, context_of, context_after, fault_in, IsClear, AreClear, Agrees, IsSane}
 use Rattle.gc_script.specs.Content.{Content, content_of, content_after, kept_shown}
 use Rattle.gc_script.specs.Kept.{context_shown}
 use Rattle.gc_script.specs.Script.{turned}
@@ -48,6 +48,7 @@ pub record Shows (version : ℕ) (catalogue : List (List ℕ)) (earlier : List S
 pub record AreRead (version : ℕ) (all : List Statement) (p : Progress) : Type 0 where
   pub fault : first_fault version (catalogue_names all) [] all ≡ end_fault version (turned [] all)
   pub shows : Shows version (catalogue_names all) (turned [] all) p
+  pub names : Agrees (catalogue_names all) (turned [] all)
 
 abbrev pub BodyAnswers : Result Progress ScriptError → ℕ → List Statement → Type 0
 BodyAnswers (Ok p) version all = AreRead version all p

@@ -1,4 +1,4 @@
-use Rattle.std.proofs.Common.{◌≡◌, ◌<◌, ◌+◌, ℕ, List, Bor, map, length, get_or, subst, sym, arith}
+use Rattle.std.proofs.Common.{◌<◌, ℕ, List, Bor, map, length, subst, sym, arith}
 use Rattle.gc_script.specs.ScriptText.{words}
 use Rattle.gc_script.specs.Statement.{Statement, statement}
 use Rattle.gc_script.specs.Earlier.{catalogue_names}

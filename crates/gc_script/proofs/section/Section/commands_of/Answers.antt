@@ -1,6 +1,6 @@
 use Rattle.std.proofs.Common.{◌≤◌, ◌-◌, length, get_or, subst, map, arith, []}
 use Rattle.std.specs.List.{All}
-use Rattle.plain_heap.specs.Sections.{Parts, Execution}
+use Rattle.plain_heap.specs.Sections.{Parts}
 use Rattle.plain_heap.specs.PlainStep.{IsInRange}
 use Rattle.gc_script.specs.Blocks.{part_shown}
 use Rattle.gc_script.proofs.Sectioning.{piece_all, piece_few}

@@ -1,0 +1,91 @@
+//! Reads a script.
+ghost use Rattle.std.specs.Prelude.{◌≡◌, ◌<◌, ◌≤◌, ◌^◌, None, Err, map, length, IfSome};
+ghost use Rattle.gc_script.specs.ScriptText.{is_allowed, first_foreign, lines, words};
+ghost use Rattle.gc_script.specs.Statement.{statement};
+ghost use Rattle.gc_script.specs.Script.{script, body, of_lines};
+ghost use Rattle.gc_script.specs.Finished.{ReadAnswers};
+
+use crate::finish::script_of;
+use crate::progress::read_lines;
+use crate::script::{Script, ScriptError};
+use crate::statement::header;
+use crate::text::{lines_of, words_of};
+use std::alloc::Global;
+
+const LONGEST: usize = 1_048_576;
+
+fn script_of_body<'a>(alloc: Global, version: u32, lines: &[&'a str]) -> Result<Script<'a>, ScriptError>
+    requires { length lines.now < 2 ^ 21 }
+    ensures { ReadAnswers result (body version (map statement (map words (map (λ l. l.now) lines.now)))) }
+{
+    match read_lines(alloc, version, lines) {
+        Err(e) => Err(e),
+        Ok(progress) => script_of(alloc, progress),
+    }
+}
+
+fn script_of_lines<'a>(alloc: Global, lines: &[&'a str]) -> Result<Script<'a>, ScriptError>
+    requires { length lines.now < 2 ^ 21 }
+    ensures { ReadAnswers result (of_lines (map words (map (λ l. l.now) lines.now))) }
+{
+    match lines {
+        [] => Err(ScriptError::BadHeader),
+        [first, others @ ..] => match words_of(alloc, first) {
+            Err(_) => Err(ScriptError::OutOfMemory),
+            Ok(words) => match header(words.as_slice()) {
+                None => Err(ScriptError::BadHeader),
+                Some(version) => script_of_body(alloc, version, others),
+            },
+        },
+    }
+}
+
+fn script_of_text<'a>(alloc: Global, text: &'a str) -> Result<Script<'a>, ScriptError>
+    requires { length text.now ≤ LONGEST }
+    ensures { ReadAnswers result (of_lines (map words (lines text.now))) }
+{
+    match lines_of(alloc, text) {
+        Err(_) => Err(ScriptError::OutOfMemory),
+        Ok(lines) => script_of_lines(alloc, lines.as_slice()),
+    }
+}
+
+fn is_allowed(byte: u8) -> bool
+    ensures { result ≡ is_allowed byte }
+{
+    byte == b'\n' || (32 <= byte && byte <= 126)
+}
+
+fn first_foreign(source: &[u8]) -> Option<usize>
+    ensures first { result ≡ first_foreign source.now }
+    ensures within { IfSome result (λ offset. offset < length source.now) }
+{
+    source.iter().position(|b| !is_allowed(*b))
+}
+
+/// The bytes of a source as a text.
+fn text_of<'a>(source: &'a [u8]) -> &'a str
+    requires { first_foreign source.now ≡ None }
+    ensures { result.now ≡ source.now }
+{
+    match str::from_utf8(source) {
+        Ok(text) => text,
+        Err(_) => unreachable!(),
+    }
+}
+
+/// Reads a script, which lends parts of the source. Want of memory may be answered for any source that is not too long.
+pub fn read<'a>(alloc: Global, source: &'a [u8]) -> Result<Script<'a>, ScriptError>
+    ensures answers { ReadAnswers result (script source.now) }
+    ensures memory { result ≡ Err ScriptError.OutOfMemory → length source.now ≤ 1048576 }
+{
+    if source.len() > LONGEST {
+        return Err(ScriptError::TooLong);
+    }
+    match first_foreign(source) {
+        Some(offset) => Err(ScriptError::NotAscii {
+            offset: offset as u32,
+        }),
+        None => script_of_text(alloc, text_of(source)),
+    }
+}
