@@ -17,7 +17,7 @@ abbrev pub parts_of : Vec part.Part → List (List Execution)
 parts_of v = map part_shown v.items
 
 -- an error tells this fault, or want of memory
-abbrev pub is_refused : Option Fault → Result Script Fault → Type 0
+abbrev pub is_refused : {A : Type 0} → Option Fault → Result A Fault → Type 0
 is_refused None r = Unit {0}
 is_refused (Some fault) r = r ≡ Err fault
 

@@ -1,5 +1,5 @@
 //! Reads a script.
-ghost use Rattle.std.specs.Prelude.{◌≡◌, ◌<◌, ◌≤◌, ◌^◌, None, Err, map, length, IfSome};
+ghost use Rattle.std.specs.Prelude.{◌≡◌, ◌<◌, ◌≤◌, ◌^◌, None, Err, map, length, IfSome, IsOk};
 ghost use Rattle.gc_script.specs.ScriptText.{is_allowed, first_foreign, lines, words};
 ghost use Rattle.gc_script.specs.Statement.{statement};
 ghost use Rattle.gc_script.specs.Script.{script, body, of_lines};
@@ -78,6 +78,7 @@ fn text_of<'a>(source: &'a [u8]) -> &'a str
 pub fn read<'a>(alloc: Global, source: &'a [u8]) -> Result<Script<'a>, ScriptError>
     ensures answers { ReadAnswers result (script source.now) }
     ensures memory { result ≡ Err ScriptError.OutOfMemory → length source.now ≤ 1048576 }
+    ensures short { IsOk result → length source.now ≤ 1048576 }
 {
     if source.len() > LONGEST {
         return Err(ScriptError::TooLong);

@@ -1,0 +1,79 @@
+//! A script of version 1 as one of version 2.
+ghost use Rattle.std.specs.Prelude.{◌≡◌, ◌≤◌, ◌==◌, Err, length};
+ghost use Rattle.std.specs.List.{after_first, position, position_or_len};
+ghost use Rattle.gc_script.specs.Convert.{convert, if_short};
+ghost use Rattle.gc_script.specs.Converting.{ConvertAnswers, conversion_of, conversion};
+
+use crate::reader::read;
+use crate::script::ScriptError;
+use std::alloc::Global;
+
+const LONGEST: usize = 1_048_576;
+
+const ADDED: usize = 20;
+
+/// The text of a conversion: the lines `gcscript 2` and `fields 4`, where they are added, and then the rest, which is lent from the source.
+#[derive(Clone, Copy, Debug)]
+pub struct Converted<'a> {
+    pub added: bool,
+    pub rest: &'a [u8],
+}
+
+fn first_line_feed(source: &[u8]) -> Option<usize>
+    ensures { result ≡ position (λ b. b == 10) source.now }
+{
+    source.iter().position(|b| *b == b'\n')
+}
+
+/// Where the first line ends, or the source does.
+fn line_end(source: &[u8]) -> usize
+    ensures end { result ≡ position_or_len (λ b. b == 10) source.now }
+    ensures within { result ≤ length source.now }
+{
+    first_line_feed(source).unwrap_or(source.len())
+}
+
+/// What follows the first line.
+fn after_line(source: &[u8]) -> &[u8]
+    ensures { result.now ≡ after_first (λ b. b == 10) source.now }
+{
+    let end = line_end(source);
+    if end < source.len() {
+        return &source[end + 1..];
+    }
+    &source[end..]
+}
+
+/// The conversion, where its text is not too long.
+fn if_short<'a>(converted: Converted<'a>) -> Result<Converted<'a>, ScriptError>
+    requires { length converted.rest.now ≤ LONGEST }
+    ensures { ConvertAnswers result (if_short (conversion_of converted.entry)) }
+{
+    if converted.added && converted.rest.len() + ADDED > LONGEST {
+        return Err(ScriptError::ConvertedTooLong);
+    }
+    Ok(converted)
+}
+
+/// Makes of a script of version 1 one of version 2 that means the same; a later version is left as it is.
+/// Its faults are those of `read`, and after them `ConvertedTooLong`.
+pub fn convert<'a>(alloc: Global, source: &'a [u8]) -> Result<Converted<'a>, ScriptError>
+    ensures answers { ConvertAnswers result (convert source.now) }
+    ensures memory { result ≡ Err ScriptError.OutOfMemory → length source.now ≤ 1048576 }
+{
+    match read(alloc, source) {
+        Err(e) => Err(e),
+        Ok(script) => if_short(conversion(script.version(), source)),
+    }
+}
+
+/// A header of version 1 makes place for the two lines.
+fn conversion<'a>(version: u32, source: &'a [u8]) -> Converted<'a>
+    ensures text { conversion_of result ≡ conversion version source.now }
+    ensures shorter { length result.rest.now ≤ length source.now }
+{
+    if version == 1 {
+        return Converted { added: true, rest: after_line(source) };
+    }
+    Converted { added: false, rest: source }
+}
