@@ -110,6 +110,7 @@ assigned_place names v few = by_test (nat_lt (place names v) (length names)) ref
   where
     end : place names v ≤ length names
     end = within (λ (other : List ℕ). Rattle.std.specs.Str.bytes_eq other v) names
+
     by_test : (b : Bool) → nat_lt (place names v) (length names) ≡ b → length (cond b names (names ++ v ∷ [])) ≤ 32 → place names v < 32
     by_test true e h = grind (arith, nat_tests)
     by_test false e h = let longer = length-append names (v ∷ []) in omega (arith, end)

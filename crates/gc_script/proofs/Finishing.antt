@@ -3,8 +3,8 @@ use Rattle.std.proofs.Common.{◌≡◌, ℕ, ◌≤◌, List, [], ◌∷◌, le
 use Rattle.std.proofs.lemmas.List.Elements.{All-nil, All-cons, All-head, All-tail}
 use Rattle.std.proofs.lemmas.List.Sums.{sum_by-cons}
 use Rattle.std.specs.Prelude.{Option, Some, None, unwrap_or, option_map}
-use Rattle.std.specs.List.{sum_by, fold} 
-use Rattle.std.specs.List.{All} 
+use Rattle.std.specs.List.{sum_by, fold}
+use Rattle.std.specs.List.{All}
 use Rattle.plain_heap.specs.Sections.{Execution, Sections, Parts, joined}
 use Rattle.gc_script.specs.Blocks.{counts}
 use Rattle.gc_script.specs.Sectioned.{IsLegal, IsSmall, AreLegal, AreSmall, in_parts, in_sections, numbered, sections_shown, is_catalogue, AreCounted}

@@ -96,7 +96,10 @@ impl<'a> Context<'a> {
                 self.seasons += 1;
             }
             Statement::Repeat(n) => {
-                self.opened = Some(Opened { line: self.line, times: *n as u32 });
+                self.opened = Some(Opened {
+                    line: self.line,
+                    times: *n as u32,
+                });
                 self.line += 1;
             }
             Statement::End => {
@@ -128,15 +131,44 @@ impl<'a> Context<'a> {
         ensures { result ≡ operation_in (context_shown self.now) (said_command spoken.now) }
     {
         match spoken {
-            Spoken::New { v, n } => Op::New { v: self.place(v), n: *n as u32 },
-            Spoken::Let { v, w } => Op::Let { v: self.place(v), w: self.place(w) },
+            Spoken::New { v, n } => Op::New {
+                v: self.place(v),
+                n: *n as u32,
+            },
+            Spoken::Let { v, w } => Op::Let {
+                v: self.place(v),
+                w: self.place(w),
+            },
             Spoken::Nil { v } => Op::Nil { v: self.place(v) },
-            Spoken::Set { v, i, w } => Op::Set { v: self.place(v), i: *i as u8, w: self.place(w) },
-            Spoken::Get { v, w, i } => Op::Get { v: self.place(v), w: self.place(w), i: *i as u8 },
-            Spoken::Cat { v, name } => Op::Cat { v: self.place(v), c: self.place_in_catalogue(name) },
-            Spoken::Put { v, n } => Op::Put { v: self.place(v), n: *n as u32 },
+            Spoken::Set { v, i, w } => Op::Set {
+                v: self.place(v),
+                i: *i as u8,
+                w: self.place(w),
+            },
+            Spoken::Get { v, w, i } => Op::Get {
+                v: self.place(v),
+                w: self.place(w),
+                i: *i as u8,
+            },
+            Spoken::Cat { v, name } => Op::Cat {
+                v: self.place(v),
+                c: self.place_in_catalogue(name),
+            },
+            Spoken::Put { v, n } => Op::Put {
+                v: self.place(v),
+                n: *n as u32,
+            },
             Spoken::Say { label: _, v } => Op::Say { v: self.place(v) },
-            Spoken::Sum { label: _, v, i, limit } => Op::Sum { v: self.place(v), i: *i as u8, limit: *limit as u32 },
+            Spoken::Sum {
+                label: _,
+                v,
+                i,
+                limit,
+            } => Op::Sum {
+                v: self.place(v),
+                i: *i as u8,
+                limit: *limit as u32,
+            },
             Spoken::Collect => Op::Collect,
         }
     }
@@ -158,7 +190,11 @@ impl<'a> Context<'a> {
         ensures { execution_of result ≡ execution_in (context_shown self.now) (said_command spoken.now) }
     {
         let label = label_of(spoken);
-        Command { line: self.line, label: label.text, op: self.operation(spoken) }
+        Command {
+            line: self.line,
+            label: label.text,
+            op: self.operation(spoken),
+        }
     }
 }
 
@@ -167,7 +203,12 @@ fn label_of<'a>(spoken: &Spoken<'a>) -> Label<'a>
 {
     match spoken {
         Spoken::Say { label, v: _ } => *label,
-        Spoken::Sum { label, v: _, i: _, limit: _ } => *label,
+        Spoken::Sum {
+            label,
+            v: _,
+            i: _,
+            limit: _,
+        } => *label,
         _ => Label { text: "" },
     }
 }

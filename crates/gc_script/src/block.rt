@@ -52,7 +52,11 @@ fn prints_line(op: Op) -> bool
 {
     match op {
         Op::Say { v: _ } => true,
-        Op::Sum { v: _, i: _, limit: _ } => true,
+        Op::Sum {
+            v: _,
+            i: _,
+            limit: _,
+        } => true,
         _ => false,
     }
 }

@@ -50,7 +50,12 @@ fn is_for_catalogue(spoken: &Spoken) -> bool
     match spoken {
         Spoken::Cat { v: _, name: _ } => false,
         Spoken::Say { label: _, v: _ } => false,
-        Spoken::Sum { label: _, v: _, i: _, limit: _ } => false,
+        Spoken::Sum {
+            label: _,
+            v: _,
+            i: _,
+            limit: _,
+        } => false,
         Spoken::Collect => false,
         _ => true,
     }
@@ -84,7 +89,12 @@ fn is_too_large(fields: u64, spoken: &Spoken) -> bool
         Spoken::Put { v: _, n } => *n > LARGEST,
         Spoken::Set { v: _, i, w: _ } => *i >= fields,
         Spoken::Get { v: _, w: _, i } => *i >= fields,
-        Spoken::Sum { label: _, v: _, i, limit } => *i >= fields || *limit > LONGEST_WALK,
+        Spoken::Sum {
+            label: _,
+            v: _,
+            i,
+            limit,
+        } => *i >= fields || *limit > LONGEST_WALK,
         _ => false,
     }
 }
@@ -160,7 +170,12 @@ impl<'a> Context<'a> {
             Spoken::Get { v: _, w, i: _ } => self.has(w),
             Spoken::Put { v, n: _ } => self.has(v),
             Spoken::Say { label: _, v } => self.has(v),
-            Spoken::Sum { label: _, v, i: _, limit: _ } => self.has(v),
+            Spoken::Sum {
+                label: _,
+                v,
+                i: _,
+                limit: _,
+            } => self.has(v),
             _ => true,
         }
     }
@@ -179,7 +194,8 @@ impl<'a> Context<'a> {
         ensures { result ≡ knows_in (context_shown self.now) (said statement.now) }
     {
         match statement {
-            Statement::Command(spoken) => self.knows_read(spoken) && self.knows_of_catalogue(spoken),
+            Statement::Command(spoken) => self.knows_read(spoken)
+                && self.knows_of_catalogue(spoken),
             _ => true,
         }
     }

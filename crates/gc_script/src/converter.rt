@@ -73,7 +73,13 @@ fn conversion<'a>(version: u32, source: &'a [u8]) -> Converted<'a>
     ensures shorter { length result.rest.now ≤ length source.now }
 {
     if version == 1 {
-        return Converted { added: true, rest: after_line(source) };
+        return Converted {
+            added: true,
+            rest: after_line(source),
+        };
     }
-    Converted { added: false, rest: source }
+    Converted {
+        added: false,
+        rest: source,
+    }
 }

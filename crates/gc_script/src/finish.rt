@@ -32,7 +32,11 @@ fn count_in_catalogue(kind: Kind, catalogue: &Option<Vec<Part<'_>>>) -> u64
 }
 
 /// How many commands of a kind are executed, over all sections.
-fn count_in_sections(kind: Kind, catalogue: &Option<Vec<Part<'_>>>, warehouses: &[Vec<Part<'_>>]) -> u64
+fn count_in_sections(
+    kind: Kind,
+    catalogue: &Option<Vec<Part<'_>>>,
+    warehouses: &[Vec<Part<'_>>],
+) -> u64
     ensures { result ≡ min (in_sections (counts kind) (option_map parts_of catalogue.now) (map parts_of warehouses.now)) u64.MAX }
 {
     let mut count = count_in_catalogue(kind, catalogue);
@@ -63,7 +67,11 @@ fn most_seasons(catalogue: &Option<Section<'_>>, warehouses: &[Section<'_>]) -> 
 }
 
 /// The warehouses, numbered from 1.
-fn numbered_sections<'a>(alloc: Global, fields: u32, warehouses: Vec<Vec<Part<'a>>>) -> Result<Vec<Section<'a>>, OutOfMemory>
+fn numbered_sections<'a>(
+    alloc: Global,
+    fields: u32,
+    warehouses: Vec<Vec<Part<'a>>>,
+) -> Result<Vec<Section<'a>>, OutOfMemory>
     requires few { length warehouses.items ≤ 32 }
     requires small { All (IsSmall fields) (map parts_of warehouses.items) }
     ensures { IfOk result (λ v. v.items ≡ numbered fields 1 (map parts_of warehouses.entry.items)) }
@@ -91,7 +99,14 @@ fn catalogue_section<'a>(fields: u32, catalogue: Option<Vec<Part<'a>>>) -> Optio
 }
 
 /// The sections of a script, which are few.
-fn script_of_sections<'a>(alloc: Global, version: u32, fields: u32, kept: Kept<'a>, executed: u64, printed: u64) -> Result<Script<'a>, ScriptError>
+fn script_of_sections<'a>(
+    alloc: Global,
+    version: u32,
+    fields: u32,
+    kept: Kept<'a>,
+    executed: u64,
+    printed: u64,
+) -> Result<Script<'a>, ScriptError>
     requires small { AreSmall fields (kept_shown kept).catalogue (kept_shown kept).warehouses }
     requires executed { executed ≡ in_sections (counts Kind.All) (kept_shown kept).catalogue (kept_shown kept).warehouses }
     requires printed { printed ≡ in_sections (counts Kind.Printing) (kept_shown kept).catalogue (kept_shown kept).warehouses }
@@ -103,13 +118,20 @@ fn script_of_sections<'a>(alloc: Global, version: u32, fields: u32, kept: Kept<'
         Err(_) => Err(ScriptError::OutOfMemory),
         Ok(warehouses) => {
             let seasons = most_seasons(&catalogue, warehouses.as_slice());
-            Ok(Script::make(version, fields, catalogue, warehouses, executed, printed, seasons))
+            Ok(Script::make(
+                version, fields, catalogue, warehouses, executed, printed, seasons,
+            ))
         }
     }
 }
 
 /// The script, where not too many commands are executed and not too many print.
-fn limited<'a>(alloc: Global, version: u32, fields: u32, kept: Kept<'a>) -> Result<Script<'a>, ScriptError>
+fn limited<'a>(
+    alloc: Global,
+    version: u32,
+    fields: u32,
+    kept: Kept<'a>,
+) -> Result<Script<'a>, ScriptError>
     requires { AreLegal fields (kept_shown kept).catalogue (kept_shown kept).warehouses }
     ensures { ReadAnswers result (limited_script version fields (kept_shown kept.entry).catalogue (kept_shown kept.entry).warehouses) }
 {
@@ -153,5 +175,10 @@ pub fn script_of<'a>(alloc: Global, progress: Progress<'a>) -> Result<Script<'a>
         Ok(()) => {}
         Err(_) => return Err(ScriptError::OutOfMemory),
     }
-    limited(alloc, context.version, u32::from(context.fields.unwrap_or(0)), kept)
+    limited(
+        alloc,
+        context.version,
+        u32::from(context.fields.unwrap_or(0)),
+        kept,
+    )
 }

@@ -102,7 +102,12 @@ impl<'a> Kept<'a> {
     ghost use Rattle.gc_script.specs.Content.{kept_shown, settle, end_part, close, content_after};
 
     /// What is kept after a line without a fault.
-    pub fn take(&mut self, alloc: Global, context: &Context<'a>, statement: &Statement<'a>) -> Result<(), OutOfMemory>
+    pub fn take(
+        &mut self,
+        alloc: Global,
+        context: &Context<'a>,
+        statement: &Statement<'a>,
+    ) -> Result<(), OutOfMemory>
         requires clear { IsClear (context_shown context.now) (said statement.now) }
         requires sane { IsSane (context_shown context.now) }
         ensures { OnOk result (kept_shown self.new ≡ content_after (context_shown context.now) (kept_shown self.old) (said statement.now)) }

@@ -120,7 +120,11 @@ fn first_progress<'a>(alloc: Global, version: u32) -> Progress<'a>
 }
 
 /// Reads the lines after the header.
-pub fn read_lines<'a>(alloc: Global, version: u32, lines: &[&'a str]) -> Result<Progress<'a>, ScriptError>
+pub fn read_lines<'a>(
+    alloc: Global,
+    version: u32,
+    lines: &[&'a str],
+) -> Result<Progress<'a>, ScriptError>
     requires { length lines.now < 2 ^ 21 }
     ensures { BodyAnswers result version (map statement (map words (map (λ l. l.now) lines.now))) }
 {

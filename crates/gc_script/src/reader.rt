@@ -6,15 +6,19 @@ ghost use Rattle.gc_script.specs.Script.{script, body, of_lines};
 ghost use Rattle.gc_script.specs.Finished.{ReadAnswers};
 
 use crate::finish::script_of;
+use crate::header::version;
 use crate::progress::read_lines;
 use crate::script::{Script, ScriptError};
-use crate::statement::header;
 use crate::text::{lines_of, words_of};
 use std::alloc::Global;
 
 const LONGEST: usize = 1_048_576;
 
-fn script_of_body<'a>(alloc: Global, version: u32, lines: &[&'a str]) -> Result<Script<'a>, ScriptError>
+fn script_of_body<'a>(
+    alloc: Global,
+    version: u32,
+    lines: &[&'a str],
+) -> Result<Script<'a>, ScriptError>
     requires { length lines.now < 2 ^ 21 }
     ensures { ReadAnswers result (body version (map statement (map words (map (λ l. l.now) lines.now)))) }
 {
@@ -32,7 +36,7 @@ fn script_of_lines<'a>(alloc: Global, lines: &[&'a str]) -> Result<Script<'a>, S
         [] => Err(ScriptError::BadHeader),
         [first, others @ ..] => match words_of(alloc, first) {
             Err(_) => Err(ScriptError::OutOfMemory),
-            Ok(words) => match header(words.as_slice()) {
+            Ok(words) => match version(words.as_slice()) {
                 None => Err(ScriptError::BadHeader),
                 Some(version) => script_of_body(alloc, version, others),
             },

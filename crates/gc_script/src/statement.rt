@@ -1,7 +1,7 @@
 //! What a line says by its words alone.
 ghost use Rattle.std.specs.Prelude.{◌≡◌, map};
 ghost use Rattle.gc_script.specs.ScriptText.{number_of};
-ghost use Rattle.gc_script.specs.Statement.{SumOf, Command, Statement as Said, statement, numbered, alone, new_line, let_line, nil_line, set_line, get_line, cat_line, put_line, say_line, sum_line, repeat_line, fields_line, by_keyword, is_note, header, version_of};
+ghost use Rattle.gc_script.specs.Statement.{SumOf, Command, Statement as Said, statement, numbered, alone, new_line, let_line, nil_line, set_line, get_line, cat_line, put_line, say_line, sum_line, repeat_line, fields_line, by_keyword, is_note};
 ghost use Rattle.gc_script.specs.Said.{said, capped, by_assigning, by_block};
 
 use crate::label::Label;
@@ -10,15 +10,45 @@ use crate::text::{is_label, is_name, number_of};
 /// A command with its names as they are written; numbers are at most `LARGE`.
 #[derive(Clone, Copy)]
 pub enum Spoken<'a> {
-    New { v: &'a str, n: u64 },
-    Let { v: &'a str, w: &'a str },
-    Nil { v: &'a str },
-    Set { v: &'a str, i: u64, w: &'a str },
-    Get { v: &'a str, w: &'a str, i: u64 },
-    Cat { v: &'a str, name: &'a str },
-    Put { v: &'a str, n: u64 },
-    Say { label: Label<'a>, v: &'a str },
-    Sum { label: Label<'a>, v: &'a str, i: u64, limit: u64 },
+    New {
+        v: &'a str,
+        n: u64,
+    },
+    Let {
+        v: &'a str,
+        w: &'a str,
+    },
+    Nil {
+        v: &'a str,
+    },
+    Set {
+        v: &'a str,
+        i: u64,
+        w: &'a str,
+    },
+    Get {
+        v: &'a str,
+        w: &'a str,
+        i: u64,
+    },
+    Cat {
+        v: &'a str,
+        name: &'a str,
+    },
+    Put {
+        v: &'a str,
+        n: u64,
+    },
+    Say {
+        label: Label<'a>,
+        v: &'a str,
+    },
+    Sum {
+        label: Label<'a>,
+        v: &'a str,
+        i: u64,
+        limit: u64,
+    },
     Collect,
 }
 
@@ -94,7 +124,10 @@ fn cat_of<'a>(words: &[&'a str]) -> Statement<'a>
     ensures { said result ≡ capped (cat_line (map (λ w. w.now) words.now)) }
 {
     match words {
-        [v, name] if is_name(v) && is_name(name) => Statement::Command(Spoken::Cat { v: *v, name: *name }),
+        [v, name] if is_name(v) && is_name(name) => Statement::Command(Spoken::Cat {
+            v: *v,
+            name: *name,
+        }),
         _ => Statement::Wrong,
     }
 }
@@ -115,7 +148,10 @@ fn say_of<'a>(words: &[&'a str]) -> Statement<'a>
     ensures { said result ≡ capped (say_line (map (λ w. w.now) words.now)) }
 {
     match words {
-        [label, v] if is_label(label) && is_name(v) => Statement::Command(Spoken::Say { label: Label { text: *label }, v: *v }),
+        [label, v] if is_label(label) && is_name(v) => Statement::Command(Spoken::Say {
+            label: Label { text: *label },
+            v: *v,
+        }),
         _ => Statement::Wrong,
     }
 }
@@ -252,29 +288,5 @@ pub fn statement_of<'a>(words: &[&'a str]) -> Statement<'a>
     match words {
         [] => Statement::Blank,
         [keyword, rest @ ..] => by_keyword(keyword, rest),
-    }
-}
-
-fn version_of(word: &str) -> Option<u32>
-    ensures { result ≡ version_of word.now }
-{
-    if word == "1" {
-        Some(1)
-    } else if word == "2" {
-        Some(2)
-    } else if word == "3" {
-        Some(3)
-    } else {
-        None
-    }
-}
-
-/// The version that the words of the first line name, where they are a header.
-pub fn header(words: &[&str]) -> Option<u32>
-    ensures { result ≡ header (map (λ w. w.now) words.now) }
-{
-    match words {
-        [first, version] if *first == "gcscript" => version_of(version),
-        _ => None,
     }
 }

@@ -28,9 +28,12 @@ pub loop-parts-preserved : goal.loop-parts-preserved
 loop-parts-preserved c =
     let number : c.len.result ≡ length c.loop-parts.sections.items = omega (arith, c.loop-parts.sections.ok.0, c.len.ensures) in
     let made : c.make.result ≡ record { number = length c.loop-parts.sections.items + 1; fields = c.args.fields; parts = parts_of c.in-Some.parts } =
-    c.make.ensures ∙ ap (λ (n : ℕ). record { number = n + 1; fields = c.args.fields; parts = parts_of c.in-Some.parts }) number in
-    (tt, tt, numbered_next c.args.fields _ c.loop-parts.sections.items c.push.new.self.items _ _ _ c.loop-parts.invariant.2 (ap (map parts_of) c.in-Some.ensures.steps.0)
-    (c.in-Ok.ensures.items ∙ ap (λ (x : Parts). c.loop-parts.sections.items ++ x ∷ []) made))
+    c.make.ensures ∙ ap (λ (n : ℕ). record { number = n + 1; fields = c.args.fields; parts = parts_of c.in-Some.parts }) number in (
+      tt,
+      tt,
+      numbered_next c.args.fields _ c.loop-parts.sections.items c.push.new.self.items _ _ _ c.loop-parts.invariant.2 (ap (map parts_of) c.in-Some.ensures.steps.0)
+          (c.in-Ok.ensures.items ∙ ap (λ (x : Parts). c.loop-parts.sections.items ++ x ∷ []) made),
+    )
 
 pub returns : goal.returns
 returns c =
