@@ -146,7 +146,7 @@ line_shifted catalogue e s f h =
     fault_with 2 catalogue (after_fields e) s ∙ no_fault _ s (subst (λ (c : Context). IsClear c s) (context_moved catalogue e f) (moved_clear _ s refl clear))
 
 -- it doesn't state the number of fields
-fields_shifted : (catalogue : List (List ℕ)) (e : List Statement) (s : Statement) → stated_fields (after_fields e) ≡ Some 4 → line_fault 1 catalogue e s ≡ None → stated_fields (after_fields (s ∷ e)) ≡ Some 4
+pub fields_shifted : (catalogue : List (List ℕ)) (e : List Statement) (s : Statement) → stated_fields (after_fields e) ≡ Some 4 → line_fault 1 catalogue e s ≡ None → stated_fields (after_fields (s ∷ e)) ≡ Some 4
 fields_shifted catalogue e Blank f h = f
 fields_shifted catalogue e (Fields n) f h = let clear : IsClear (with_catalogue 1 catalogue e) (Fields n) = is_clear _ (Fields n) h in let never = clear.placed in cc
 fields_shifted catalogue e Catalogue f h = f
@@ -157,11 +157,11 @@ fields_shifted catalogue e End f h = f
 fields_shifted catalogue e (Command spoken) f h = f
 fields_shifted catalogue e Wrong f h = f
 
-first_clear : (f later : Option Fault) → or_later f later ≡ None → f ≡ None
+pub first_clear : (f later : Option Fault) → or_later f later ≡ None → f ≡ None
 first_clear None later e = refl
 first_clear (Some fault) later e = cc
 
-later_clear : (f later : Option Fault) → or_later f later ≡ None → later ≡ None
+pub later_clear : (f later : Option Fault) → or_later f later ≡ None → later ≡ None
 later_clear None later e = e
 later_clear (Some fault) later e = cc
 
