@@ -1,15 +1,15 @@
 -- Lines of version 1, with the line `fields 4` of version 2 before them, mean the same.
-use Rattle.std.proofs.Common.{◌≡◌, ℕ, ◌+◌, ◌*◌, ◌≤◌, zero, suc, List, [], ◌∷◌, ◌++◌, length, map, refl, ap, sym, ◌∙◌, subst, cond, Bool, true, false}
-use Rattle.std.proofs.lemmas.List.{append-nil, append_assoc, map-append}
-use Rattle.std.specs.Prelude.{nat_lt, Option, Some, None, is_some, unwrap_or, option_map, Result, Ok, Err}
+use Rattle.std.proofs.Common.{◌≡◌, ℕ, zero, suc, List, [], ◌∷◌, ◌++◌, map, refl, ap, sym, ◌∙◌, cond, Bool, true, false}
+use Rattle.std.proofs.lemmas.List.{append-nil, map-append}
+use Rattle.std.specs.Prelude.{nat_lt, Option, Some, None, is_some, unwrap_or, option_map, Ok}
 use Rattle.std.specs.Option.{option_or}
-use Rattle.plain_heap.specs.Sections.{Execution, Sections}
+use Rattle.plain_heap.specs.Sections.{Execution}
 use Rattle.gc_script.specs.Statement.{Spoken, Statement, Blank, Fields, Catalogue, Warehouse, Season, Repeat, End, Command, Wrong}
-use Rattle.gc_script.specs.Earlier.{place, stated_fields, known_fields, known_names, open_repeat, open_section, catalogue_names, is_printing}
+use Rattle.gc_script.specs.Earlier.{place, stated_fields, open_repeat, open_section, catalogue_names, is_printing}
 use Rattle.gc_script.specs.Faults.{Fault, first_fault, line_fault}
 use Rattle.gc_script.specs.Script.{Script, repeated, repetitions, pending, executed, execution, operation, label_of, ended_parts, open_parts, if_warehouse, if_catalogue, closed_warehouses, closed_catalogue, sections, executed_count, turned, limited, judged, body}
 use Rattle.gc_script.specs.Convert.{without_line, without_lines}
-use Rattle.gc_script.proofs.Shifted.{after_fields, shifted, same_section, same_names, same_repeat, some_shifted, times_shifted, fields_shifted, first_clear, later_clear, first_shifted, turned_after, same_count}
+use Rattle.gc_script.proofs.Shifted.{after_fields, same_section, same_names, same_repeat, some_shifted, times_shifted, fields_shifted, first_clear, later_clear, first_shifted, turned_after, same_count}
 
 abbrev bare : List Execution → List Execution
 bare es = map without_line es
@@ -170,10 +170,11 @@ body_same all s h =
     let moved : turned (Fields 4 ∷ []) all ≡ after_fields e = turned_after [] (Fields 4 ∷ []) all in
     let none : first_fault 2 catalogue (Fields 4 ∷ []) all ≡ None = first_shifted catalogue [] all refl k.fault in
     let commands : nat_lt 2000000 (executed_count (λ spoken. true) (after_fields e)) ≡ false = ap (λ (n : ℕ). nat_lt 2000000 n) (same_count (λ spoken. true) e) ∙ k.commands in
-    let lines : nat_lt 65536 (executed_count is_printing (after_fields e)) ≡ false = ap (λ (n : ℕ). nat_lt 65536 n) (same_count is_printing e) ∙ k.lines in
-    (record { version = 2; sections = sections 2 catalogue (after_fields e) },
-    ap (λ (f : Option Fault). judged f 2 catalogue (turned (Fields 4 ∷ []) all)) none
-    ∙ ap (judged None 2 catalogue) moved
-    ∙ ap (λ (b : Bool). limited b (nat_lt 65536 (executed_count is_printing (after_fields e))) 2 catalogue (after_fields e)) commands
-    ∙ ap (λ (b : Bool). limited false b 2 catalogue (after_fields e)) lines,
-    same_sections catalogue e (stated_at_end catalogue [] all refl k.fault) ∙ sym (ap (λ (z : Script). without_lines z.sections) k.same))
+    let lines : nat_lt 65536 (executed_count is_printing (after_fields e)) ≡ false = ap (λ (n : ℕ). nat_lt 65536 n) (same_count is_printing e) ∙ k.lines in (
+      record { version = 2; sections = sections 2 catalogue (after_fields e) },
+      ap (λ (f : Option Fault). judged f 2 catalogue (turned (Fields 4 ∷ []) all)) none
+          ∙ ap (judged None 2 catalogue) moved
+          ∙ ap (λ (b : Bool). limited b (nat_lt 65536 (executed_count is_printing (after_fields e))) 2 catalogue (after_fields e)) commands
+          ∙ ap (λ (b : Bool). limited false b 2 catalogue (after_fields e)) lines,
+      same_sections catalogue e (stated_at_end catalogue [] all refl k.fault) ∙ sym (ap (λ (z : Script). without_lines z.sections) k.same),
+    )

@@ -1,10 +1,10 @@
 -- Lines of version 1, with the line `fields 4` of version 2 before them: what stands after it, one line further on.
-use Rattle.std.proofs.Common.{◌≡◌, ℕ, ◌+◌, ◌*◌, ◌≤◌, zero, suc, List, [], ◌∷◌, ◌++◌, length, map, refl, ap, sym, ◌∙◌, subst, cond, Bool, true, false, arith}
+use Rattle.std.proofs.Common.{◌≡◌, ℕ, ◌+◌, ◌*◌, List, [], ◌∷◌, ◌++◌, refl, ap, sym, ◌∙◌, subst, cond, Bool, true, false, arith}
 use Rattle.std.proofs.lemmas.List.{length-append}
-use Rattle.std.specs.Prelude.{Option, Some, None, is_some, is_none, unwrap_or, ◌&&◌, ◌==◌}
+use Rattle.std.specs.Prelude.{Option, Some, None, is_some, is_none, ◌&&◌, ◌==◌}
 use Rattle.gc_script.specs.Statement.{Spoken, Statement, Blank, Fields, Catalogue, Warehouse, Season, Repeat, End, Command, Wrong}
-use Rattle.gc_script.specs.Earlier.{next_line, assigns, with_name, stated_fields, known_fields, known_names, open_repeat, open_section, warehouse_count, season_count}
-use Rattle.gc_script.specs.Faults.{Fault, BadHeader, starts_section, unless_, left_open, line_fault, end_fault, or_later, first_fault}
+use Rattle.gc_script.specs.Earlier.{next_line, assigns, with_name, stated_fields, known_names, open_repeat, open_section, warehouse_count, season_count}
+use Rattle.gc_script.specs.Faults.{Fault, BadHeader, unless_, left_open, line_fault, or_later, first_fault}
 use Rattle.gc_script.specs.Script.{repetitions, one_if, pending_count, executed_count, turned}
 use Rattle.gc_script.specs.Context.{Context, context_of, fault_in, IsClear}
 use Rattle.gc_script.proofs.Clear.{is_clear, no_fault}

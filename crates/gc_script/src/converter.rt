@@ -1,7 +1,7 @@
 //! A script of version 1 as one of version 2.
 ghost use Rattle.std.specs.Prelude.{◌≡◌, ◌≤◌, ◌==◌, Err, length};
 ghost use Rattle.std.specs.List.{after_first, position, position_or_len};
-ghost use Rattle.gc_script.specs.Convert.{convert, if_short};
+ghost use Rattle.gc_script.specs.Convert.{KeepsMeaning, convert, if_short};
 ghost use Rattle.gc_script.specs.Converting.{ConvertAnswers, conversion_of, conversion};
 
 use crate::reader::read;
@@ -83,3 +83,8 @@ fn conversion<'a>(version: u32, source: &'a [u8]) -> Converted<'a>
         rest: source,
     }
 }
+
+/// A law: the text of a conversion is a script of the same fields and sections as the source, apart from line numbers.
+pub fn keeps_meaning()
+    ensures { KeepsMeaning }
+{}

@@ -1,4 +1,4 @@
-use Rattle.std.proofs.Common.{ap, ◌∙◌, ◌==◌}
+use Rattle.std.proofs.Common.{◌==◌}
 use Rattle.gc_script.proofs.Places.{end_by_position}
 use Rattle.gc_script.proofs.converter.line_end.Goals as goal
 
