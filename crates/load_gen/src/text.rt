@@ -1,6 +1,8 @@
 //! The whole text.
 ghost use Rattle.std.specs.Prelude.{◌≡◌, ◌≤◌, ◌++◌, IfOk, OnOk, codes};
 ghost use Rattle.std.specs.String.{string_bytes};
+ghost use Rattle.gc_script.specs.Script.{script};
+ghost use Rattle.load_gen.specs.FourWarehouses.{HasFourWarehouses};
 ghost use Rattle.load_gen.specs.Generated.{generated, lines_text, last_state, warehouses_text};
 
 use crate::draws::Draws;
@@ -60,7 +62,9 @@ fn text_of(alloc: Global, number: u32, size: u32) -> Result<String, AllocError>
 pub fn generate(alloc: Global, number: u32, size: u32) -> Result<String, OutOfMemory>
     requires least { 1 ≤ size }
     requires most { size ≤ 20000 }
-    ensures { IfOk result (λ text. string_bytes text ≡ generated number size) }
+    ensures text { IfOk result (λ text. string_bytes text ≡ generated number size) }
+    // It is a script without a fault.
+    ensures script { HasFourWarehouses size (script (generated number size)) }
 {
     text_of(alloc, number, size).map_err(|_| OutOfMemory)
 }
