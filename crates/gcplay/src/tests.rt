@@ -66,7 +66,7 @@ const NOT_BUILT: &[u8] = b"13 NotBuilt\n";
 
 #[test]
 fn runs_scripts(rt: HostRuntime) -> Result<(), Fail> {
-    let cases: [(&[u8], u8, &[u8]); 8] = [
+    let cases: [(&[u8], u8, &[u8]); 10] = [
         (
             FIRST,
             0,
@@ -84,9 +84,19 @@ fn runs_scripts(rt: HostRuntime) -> Result<(), Fail> {
             b"warehouse 1\na 3\nb 2\ndropped 0\nsurvivors 2\n1 1 2\n1 2 3\n",
         ),
         (b"gcscript 1\nwarehouse\nnew x 5\nput x 6\n", 2, NOT_BUILT),
-        (b"gcscript 1\nwarehouse\nsay a x\n", 2, NOT_BUILT),
-        (b"", 2, NOT_BUILT),
-        (b"gcscript 1\n\xc3", 2, NOT_BUILT),
+        (b"gcscript 1\ncatalogue\nnew x 5\n", 2, NOT_BUILT),
+        (
+            b"gcscript 1\nwarehouse\nnil x\nsay a y\nbogus\n",
+            2,
+            b"4 UnknownName line 4\n",
+        ),
+        (
+            b"gcscript 1\nwarehouse\nrepeat 3\nnew x 1\n",
+            2,
+            b"7 RepeatOpen line 3\n",
+        ),
+        (b"", 2, b"2 BadHeader\n"),
+        (b"gcscript 1\n\xc3", 2, b"1 NotAscii offset 11\n"),
     ];
     for (bytes, status, text) in cases {
         let outside = Outside {
