@@ -6,7 +6,7 @@ use Rattle.std.specs.Prelude.{not, ◌==◌, filter}
 use Rattle.std.specs.List.{All, list_all, slice_split}
 use Rattle.gc_script.specs.ScriptText.{without_empty_last, lines, is_word, words}
 use Rattle.gc_script.specs.Statement.{Statement, statement}
-use Rattle.gc_script.proofs.Conjunction.{both}
+use Rattle.load_gen.proofs.Conjunction.{both}
 
 is_no : (test : Bool) → not test ≡ true → test ≡ false
 is_no true h = cc

@@ -7,7 +7,7 @@ use Rattle.std.specs.List.{list_all}
 use Rattle.gc_script.specs.ScriptText.{words, number_of}
 use Rattle.gc_script.specs.Statement.{Spoken, NewOf, LetOf, NilOf, SetOf, GetOf, SayOf, Statement, Command, numbered, statement}
 use Rattle.gc_script.specs.Earlier.{has_name, with_name, reads, reads_of_catalogue, assigns, is_too_large, is_printing}
-use Rattle.gc_script.proofs.Conjunction.{and_true}
+use Rattle.load_gen.proofs.Conjunction.{and_true}
 use Rattle.load_gen.specs.Generated.{letter, drawn, drawn_text, line_text}
 use Rattle.load_gen.proofs.Cases.{by_test, chosen, below, not_below}
 use Rattle.load_gen.proofs.Cut.{IsWord, two_words, three_words, four_words}

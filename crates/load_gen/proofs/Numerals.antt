@@ -8,7 +8,7 @@ use Rattle.std.specs.Char.{is_ascii_digit}
 use Rattle.std.specs.List.{list_all}
 use Rattle.gc_script.specs.ScriptText.{is_name, decimal_value, number_of}
 use Rattle.gc_script.specs.Statement.{Statement, Wrong, named, numbered}
-use Rattle.gc_script.proofs.Conjunction.{both, and_true}
+use Rattle.load_gen.proofs.Conjunction.{both, and_true}
 use Rattle.load_gen.specs.Generated.{letter}
 use Rattle.load_gen.proofs.Cut.{IsWord}
 

@@ -6,7 +6,7 @@ use Rattle.std.proofs.lemmas.List.Folds.{list_all-append}
 use Rattle.std.specs.Prelude.{not, ◌&&◌, ◌==◌, nat_lt, Some, None}
 use Rattle.std.specs.List.{list_all, position_or_len}
 use Rattle.gc_script.specs.ScriptText.{is_allowed, first_foreign}
-use Rattle.gc_script.proofs.Conjunction.{both, and_true}
+use Rattle.load_gen.proofs.Conjunction.{both, and_true}
 use Rattle.load_gen.specs.Generated.{letter, drawn, drawn_text, state_after, line_text, lines_text, last_state, warehouses_text, generated}
 use Rattle.load_gen.proofs.Numerals.{is_printed, all_pass, decimal_printed, letter_printed}
 use Rattle.load_gen.proofs.Cases.{by_test, chosen, below}

@@ -10,7 +10,7 @@ use Rattle.gc_script.specs.Statement.{Spoken, Statement, Warehouse, Command}
 use Rattle.gc_script.specs.Earlier.{has_name, reads, reads_of_catalogue, assigns, is_printing, known_names, open_repeat, open_section, warehouse_count, season_count, with_name}
 use Rattle.gc_script.specs.Faults.{Fault, unless_, cuts_repeat, may_stand, line_fault}
 use Rattle.gc_script.specs.Script.{execution, executed, ended_parts, open_parts, if_warehouse, if_catalogue, closed_warehouses, closed_catalogue, sections, executed_count, one_if}
-use Rattle.gc_script.proofs.Conjunction.{and_true}
+use Rattle.load_gen.proofs.Conjunction.{and_true}
 use Rattle.load_gen.proofs.Known.{Knows, knows_none}
 use Rattle.load_gen.proofs.LineText.{MayStand}
 

@@ -7,7 +7,7 @@ use Rattle.gc_script.specs.Statement.{Statement, Warehouse, Command}
 use Rattle.gc_script.specs.Earlier.{known_names}
 use Rattle.gc_script.specs.Faults.{Fault, TooLong, line_fault, first_fault, left_open, or_later}
 use Rattle.gc_script.specs.Script.{turned, body, of_lines, of_text, script}
-use Rattle.gc_script.proofs.ScriptForm.{script_from, body_is}
+use Rattle.load_gen.proofs.ScriptForm.{script_from, body_is}
 use Rattle.load_gen.specs.Generated.{state_after, line_text, lines_text, last_state, warehouses_text, generated}
 use Rattle.load_gen.specs.FourWarehouses.{HasFourWarehouses}
 use Rattle.load_gen.proofs.Cut.{lines_first, statements, statements_first}
