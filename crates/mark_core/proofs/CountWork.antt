@@ -3,11 +3,12 @@ use Rattle.std.proofs.Common.{ℕ, ◌≡◌, ◌/◌, ◌%◌, ◌<◌, ◌&&�
 use Rattle.std.specs.Prelude.{is_some}
 use Rattle.std.proofs.lemmas.Bool.{cases_Bool, true≢false, false≢true, and_parts, or_cases, eqb-true, lt-ltb}
 use Rattle.std.specs.Int.Bits.{and_zero_l}
-use Rattle.std.proofs.lemmas.Nat.Bits.{bit_at-zero}
-use Rattle.mark_core.specs.Bits.{has_bit, complement}
+use Rattle.mark_core.specs.Bits.{complement}
 use Rattle.mark_core.specs.Seats.{work_in_hand, scan_left, cleaning_left, scans, may_scan, is_the}
 use Rattle.mark_core.specs.ColourSteps.{popped_after, scan_after, cleaning_after, seen_in, may_read_field, fresh_off, popped_off, redirty_off, known_in}
 use Rattle.mark_core.specs.Effects.{seat_after}
+use Rattle.mark_core.proofs.CellBits.{some-bit}
+use Rattle.mark_core.proofs.Basics.{some-number}
 use Rattle.mark_core.specs.declared.kinds.Shape.{Shape}
 use Rattle.mark_core.specs.declared.kinds.Step.TheVariants.{ReadAlloc, DirtyCard, ReadMarks}
 use Rattle.mark_core.specs.declared.seat.SeatState.{SeatState}
@@ -28,8 +29,8 @@ none_of false false true d e h = absurd (true≢false h)
 none_of false false false true e h = absurd (true≢false h)
 none_of false false false false e h = (refl, refl, refl, refl, h)
 
-idle_from : (fields : ℕ) (s : SeatState) → work_in_hand fields s ≡ false → IsIdle fields s
-idle_from fields s h =
+pub idle-from : (fields : ℕ) (s : SeatState) → work_in_hand fields s ≡ false → IsIdle fields s
+idle-from fields s h =
     let a = none_of (is_some s.popped) (scan_left fields s.scan) (is_some s.value) (is_some s.fresh) (cleaning_left s.cleaning) h in
     record { popped = a.0; scan = a.1; value = a.2; fresh = a.3; cleaning = a.4 }
 
@@ -41,7 +42,7 @@ pub work-before : (fields : ℕ) (s t : SeatState) → (IsIdle fields s → IsId
 work-before fields s t f h =
     ⊎_elim
     (λ (e : work_in_hand fields s ≡ true). e)
-    (λ (e : work_in_hand fields s ≡ false). absurd (true≢false (sym h ∙ idle_work fields t (f (idle_from fields s e)))))
+    (λ (e : work_in_hand fields s ≡ false). absurd (true≢false (sym h ∙ idle_work fields t (f (idle-from fields s e)))))
     (cases_Bool (work_in_hand fields s))
 
 popped_read : (o : Option (ℕ × Bool)) (b word : ℕ) → is_some o ≡ false → is_some (popped_after o b word) ≡ false
@@ -114,16 +115,9 @@ idle-read_marks sh s b old h =
     record { popped = h.popped; scan = h.scan; value = h.value; fresh = h.fresh; cleaning = cleaning_known s.cleaning b old h.cleaning }
 
 -- a seat that may read a field has work in hand
-scanning : (fields : ℕ) (o : Option (ℕ × ℕ)) (c i : ℕ) → i < fields → scans o c i ≡ true → scan_left fields o ≡ true
-scanning fields None c i h e = absurd (false≢true e)
-scanning fields (Some x) c i h e = lt-ltb x.1 fields (omega (arith, h, eqb-true x.1 i (and_parts _ _ e).1))
-
-some_bit : (word i : ℕ) → has_bit word i ≡ true → eqb word 0 ≡ false
-some_bit word i e =
-    ⊎_elim
-    (λ (z : eqb word 0 ≡ true). absurd (true≢false (sym e ∙ rw (eqb-true word 0 z) (rw bit_at-zero refl))))
-    (λ (z : eqb word 0 ≡ false). z)
-    (cases_Bool (eqb word 0))
+pub scans-left : (fields : ℕ) (o : Option (ℕ × ℕ)) (c i : ℕ) → i < fields → scans o c i ≡ true → scan_left fields o ≡ true
+scans-left fields None c i h e = absurd (false≢true e)
+scans-left fields (Some x) c i h e = lt-ltb x.1 fields (omega (arith, h, eqb-true x.1 i (and_parts _ _ e).1))
 
 not_done : (k z r : Bool) → z ≡ false → (not k || not z || r) ≡ true
 not_done true true r e = absurd (true≢false e)
@@ -132,7 +126,7 @@ not_done false z r e = refl
 
 cleaning_on : (o : Option Cleaning) (c : ℕ) → may_scan o c ≡ true → cleaning_left o ≡ true
 cleaning_on None c e = absurd (false≢true e)
-cleaning_on (Some x) c e = not_done x.known (eqb x.left 0) x.redirty (some_bit x.left (c % 64) (and_parts _ _ (and_parts _ _ e).0).1)
+cleaning_on (Some x) c e = not_done x.known (eqb x.left 0) x.redirty (some-bit x.left (c % 64) (and_parts _ _ (and_parts _ _ e).0).1)
 
 any_scan : (a b c d e : Bool) → b ≡ true → (a || b || c || d || e) ≡ true
 any_scan true b c d e h = refl
@@ -155,16 +149,12 @@ any_cleaning false false false false e h = h
 pub work-reads : (sh : Shape) (s : SeatState) (c i : ℕ) → i < sh.fields → may_read_field sh s c i ≡ true → work_in_hand sh.fields s ≡ true
 work-reads sh s c i h e =
     ⊎_elim
-    (λ (a : scans s.scan c i ≡ true). any_scan (is_some s.popped) (scan_left sh.fields s.scan) (is_some s.value) (is_some s.fresh) (cleaning_left s.cleaning) (scanning sh.fields s.scan c i h a))
+    (λ (a : scans s.scan c i ≡ true). any_scan (is_some s.popped) (scan_left sh.fields s.scan) (is_some s.value) (is_some s.fresh) (cleaning_left s.cleaning) (scans-left sh.fields s.scan c i h a))
     (λ a.
     any_cleaning (is_some s.popped) (scan_left sh.fields s.scan) (is_some s.value) (is_some s.fresh) (cleaning_left s.cleaning)
     (cleaning_on s.cleaning c (and_parts (eqb i 0) (may_scan s.cleaning c) (and_parts _ _ a).0).1))
     (or_cases (scans s.scan c i) _ e)
 
-valued : (o : Option ℕ) (c : ℕ) → is_the o c ≡ true → is_some o ≡ true
-valued None c e = absurd (false≢true e)
-valued (Some x) c e = refl
-
 -- so has a seat that may mark
 pub work-marks : (fields : ℕ) (s : SeatState) (c : ℕ) → is_the s.value c ≡ true → work_in_hand fields s ≡ true
-work-marks fields s c e = any_value (is_some s.popped) (scan_left fields s.scan) (is_some s.value) (is_some s.fresh) (cleaning_left s.cleaning) (valued s.value c e)
+work-marks fields s c e = any_value (is_some s.popped) (scan_left fields s.scan) (is_some s.value) (is_some s.fresh) (cleaning_left s.cleaning) (some-number s.value c e)

@@ -8,16 +8,17 @@ use Rattle.std.proofs.lemmas.Option.{slice_get_within, slice_get_read, slice_get
 use Rattle.mark_core.specs.Shapes.{IsShape}
 use Rattle.mark_core.specs.Layout.{Words, words_of, address, block_count, region_sizes}
 use Rattle.mark_core.specs.Held.{has_length, length_in_hand}
-use Rattle.mark_core.specs.Seats.{may_mutate, cache_block, block_in_hand}
+use Rattle.mark_core.specs.Seats.{may_mutate, cache_block}
 use Rattle.mark_core.specs.ColourSteps.{may_read_field}
 use Rattle.mark_core.specs.Parts.{parts}
 use Rattle.mark_core.specs.Effects.{place, written, seat_after}
 use Rattle.mark_core.specs.Room.{HasRoom}
 use Rattle.mark_core.specs.Bounds.{CacheFits, SeatBounds, IsBounded}
 use Rattle.mark_core.specs.Steps.{Core, first_false, AllTrue, failing_of, failing_part, others_after, after_of, after_event}
+use Rattle.mark_core.specs.Laws.{NumbersFit}
 use Rattle.mark_core.proofs.Acting.{some_none, parts_hold}
 use Rattle.mark_core.proofs.Locals.{local-kept}
-use Rattle.mark_core.proofs.Ranges.{InRange, IsPlace, placed}
+use Rattle.mark_core.proofs.Ranges.{InRange, IsPlace, placed, block-below}
 use Rattle.mark_core.proofs.Regions.{address-lt-total}
 use Rattle.mark_core.proofs.SlotBounds.{length-fits}
 use Rattle.mark_core.proofs.SeatBoundsKept.{variable-fits, seat-bounds, start-bounds, spent-bounds}
@@ -25,25 +26,24 @@ use Rattle.mark_core.proofs.WordBoundsKept.{finds, word-bounds}
 use Rattle.mark_core.specs.declared.kinds.Shape.{Shape}
 use Rattle.mark_core.specs.declared.kinds.Event.{Event}
 use Rattle.mark_core.specs.declared.kinds.Step.{Step}
-use Rattle.mark_core.specs.declared.kinds.Step.TheVariants.{Push, ReadField, StoreRoot, StoreNew, Split, Join}
+use Rattle.mark_core.specs.declared.kinds.Step.TheVariants.{Push, ReadField, StoreValue, StorePosition, StoreRoot, StoreNew, Split, Join}
 use Rattle.mark_core.specs.declared.seat.SeatState.{SeatState}
 use Rattle.mark_core.specs.declared.seat.CacheState.{CacheState}
-use Rattle.mark_core.specs.declared.seat.BlockState.{BlockState}
 
 -- a step that is allowed has room for what it counts
-has_room : (sh : Shape) (w : Words) (seats : List SeatState) (s : SeatState) (step : Step) → IsShape sh → s.made ≤ 2000000 → AllTrue (parts sh w seats s step) → HasRoom s step
-has_room sh w seats s (Push p c) k m ok = let a : length_in_hand s.held p < sh.entries = ltb-true (length_in_hand s.held p) sh.entries (and_parts (has_length s.held p) (nat_lt (length_in_hand s.held p) sh.entries) ok.1.0).1 in omega (arith, a, k.entries)
-has_room sh w seats s (ReadField c i) k m ok = let a : i < sh.fields = ltb-true i sh.fields (and_parts (nat_lt c sh.cells) (nat_lt i sh.fields) (and_parts (nat_lt c sh.cells && nat_lt i sh.fields) (may_read_field sh s c i) ok.0).0).1 in omega (arith, a, k.fields)
-has_room sh w seats s (StoreRoot v r) k m ok = ltb-true v 32 (and_parts _ _ ok.0).0
-has_room sh w seats s (StoreNew c part word) k m ok = let a : part ≤ sh.fields + 1 = leb-true part (sh.fields + 1) (and_parts (nat_lt c sh.cells) (nat_le part (sh.fields + 1)) (and_parts (nat_lt c sh.cells && nat_le part (sh.fields + 1)) (may_mutate s) ok.0).0).1 in (omega (arith, a, k.fields), omega (arith, m))
-has_room sh w seats s step k m ok = tt
+pub has-room : (sh : Shape) (w : Words) (seats : List SeatState) (s : SeatState) (step : Step) → IsShape sh → s.made ≤ 2000000 → AllTrue (parts sh w seats s step) → HasRoom s step
+has-room sh w seats s (Push p c) k m ok = let a : length_in_hand s.held p < sh.entries = ltb-true (length_in_hand s.held p) sh.entries (and_parts (has_length s.held p) (nat_lt (length_in_hand s.held p) sh.entries) ok.1.0).1 in omega (arith, a, k.entries)
+has-room sh w seats s (ReadField c i) k m ok = let a : i < sh.fields = ltb-true i sh.fields (and_parts (nat_lt c sh.cells) (nat_lt i sh.fields) (and_parts (nat_lt c sh.cells && nat_lt i sh.fields) (may_read_field sh s c i) ok.0).0).1 in omega (arith, a, k.fields)
+has-room sh w seats s (StoreRoot v r) k m ok = ltb-true v 32 (and_parts _ _ ok.0).0
+has-room sh w seats s (StoreNew c part word) k m ok = let a : part ≤ sh.fields + 1 = leb-true part (sh.fields + 1) (and_parts (nat_lt c sh.cells) (nat_le part (sh.fields + 1)) (and_parts (nat_lt c sh.cells && nat_le part (sh.fields + 1)) (may_mutate s) ok.0).0).1 in (omega (arith, a, k.fields), omega (arith, m))
+has-room sh w seats s step k m ok = tt
 
 -- a split that is allowed finds fewer than all seats
 split_room : (sh : Shape) (w : Words) (seats : List SeatState) (s : SeatState) (step : Step) → AllTrue (parts sh w seats s step) → step ≡ Split → length seats < 41
 split_room sh w seats s Split ok e = ltb-true _ _ (and_parts _ _ ok.0).1
 split_room sh w seats s step ok e = absurd (cc)
 
-count-after : (sh : Shape) (w : Words) (seats ts : List SeatState) (s : SeatState) (step : Step) → length ts ≡ length seats → (1 ≤ length seats) × (length seats ≤ 41) → AllTrue (parts sh w seats s step) → (1 ≤ length (others_after sh step ts)) × (length (others_after sh step ts) ≤ 41)
+pub count-after : (sh : Shape) (w : Words) (seats ts : List SeatState) (s : SeatState) (step : Step) → length ts ≡ length seats → (1 ≤ length seats) × (length seats ≤ 41) → AllTrue (parts sh w seats s step) → (1 ≤ length (others_after sh step ts)) × (length (others_after sh step ts) ≤ 41)
 count-after sh w seats ts s Split l k ok = let few : length seats < 41 = split_room sh w seats s Split ok refl in rw length-append (omega (arith, l), omega (arith, l, few))
 count-after sh w seats ts s (Join other) l k ok = rw (length-set, l) k
 count-after sh w seats ts s step l k ok = rw l k
@@ -51,10 +51,6 @@ count-after sh w seats ts s step l k ok = rw l k
 cached_fits : (sh : Shape) (o : Option CacheState) → IsShape sh → IfSome o (CacheFits sh) → unwrap_or (cache_block o) 0 < block_count sh
 cached_fits sh None k h = omega (arith, k.cells)
 cached_fits sh (Some x) k h = h.0
-
-own_fits : (sh : Shape) (o : Option BlockState) → IsShape sh → IfSome o (λ (x : BlockState). x.block < block_count sh) → unwrap_or (block_in_hand o) 0 < block_count sh
-own_fits sh None k h = omega (arith, k.cells)
-own_fits sh (Some x) k h = h
 
 in_range : (sh : Shape) (s : SeatState) → IsShape sh → SeatBounds sh s → InRange sh s
 in_range sh s k b =
@@ -64,7 +60,7 @@ in_range sh s k b =
       lengths = λ p h. length-fits sh.entries s.held p b.held;
       env = λ v. variable-fits sh s v b.env;
       cache = cached_fits sh s.cache k b.cache;
-      block = own_fits sh s.block k b.block;
+      block = block-below sh s.block k b.block;
     }
 
 -- what an event that is allowed may rely on
@@ -80,13 +76,17 @@ seat_in : (c : Core) (i : ℕ) (step : Step) (o : Option SeatState) → slice_ge
 seat_in c i step None e f = absurd (some_none 0 f)
 seat_in c i step (Some s) e f = slice_get_within c.seats i s e
 
+-- the seat of an event that is allowed exists
+pub seat-within : (c : Core) (e : Event) → failing_part c e ≡ None → e.seat < length c.seats
+seat-within c e f = seat_in c e.seat e.step (slice_get c.seats e.seat) refl f
+
 not_spent : (b : Bool) (o : Option ℕ) → cond b (Some 0) o ≡ None → o ≡ None
 not_spent true o e = absurd (some_none 0 e)
 not_spent false o e = e
 
 pub ready : (c : Core) (e : Event) (s : SeatState) → IsBounded c → failing_part c e ≡ None → s ≡ get_or c.seats e.seat s → Ready c e s
 ready c e s k f is =
-    let hi : e.seat < length c.seats = seat_in c e.seat e.step (slice_get c.seats e.seat) refl f in
+    let hi : e.seat < length c.seats = seat-within c e f in
     let got : slice_get c.seats e.seat ≡ Some s = slice_get_read c.seats (length c.seats) e.seat s refl hi is in
     let P : Option SeatState → Type 0 = λ o. failing_of c o e.step ≡ None in
     let w : Words = words_of c.shape c.words in
@@ -97,7 +97,7 @@ ready c e s k f is =
     record {
       seat = hi;
       within = rw k.word_count (address-lt-total (region_sizes c.shape) (place c.shape s e.step).0 (place c.shape s e.step).1 at);
-      room = has_room c.shape w c.seats s e.step k.shaped b.made ok;
+      room = has-room c.shape w c.seats s e.step k.shaped b.made ok;
       split = split_room c.shape w c.seats s e.step ok;
       after = ap (λ o. after_of c e.seat o e.step) got;
       bounded = record {
@@ -119,6 +119,12 @@ done c e s t at old word others r is ha ho hw ht hs =
     let inside : at < length c.words = rw ha r.within in
     let found : old ≡ get_or c.words at 0 = get_or_read c.words at old inside ho 0 in
     rw (hs, ht, hw, found, ha) refl
+
+-- a number that a step stores fits a word where what is stored does
+pub numbers-fit : (sh : Shape) (s : SeatState) (step : Step) (old word : ℕ) → word ≡ written sh s step old → word < 18446744073709551616 → NumbersFit step
+numbers-fit sh s (StorePosition done) old word e h = subst (λ (n : ℕ). n < 18446744073709551616) e h
+numbers-fit sh s (StoreValue v n) old word e h = subst (λ (m : ℕ). m < 18446744073709551616) e h
+numbers-fit sh s step old word e h = tt
 
 -- what refuses an event of a seat that doesn't exist, or of one that was joined into another
 pub failing_past : (c : Core) (e : Event) → length c.seats ≤ e.seat → Some 0 ≡ failing_part c e

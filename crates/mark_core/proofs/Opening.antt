@@ -53,7 +53,7 @@ all_zero n zero = All-nil (λ x. x ≤ n)
 all_zero n (suc k) = All-cons (λ x. x ≤ n) 0 (replicate k 0) (omega arith) (all_zero n k)
 
 -- each region between the single words and the pools
-start_region : (sh : Shape) (r n : ℕ) → region_base (drop 1 (region_sizes sh)) (suc r) ≤ region_base (drop 1 (region_sizes sh)) 11 → All (λ x. x ≤ n) (region_words (region_sizes sh) (suc r) (start_words sh))
+pub start_region : (sh : Shape) (r n : ℕ) → region_base (drop 1 (region_sizes sh)) (suc r) ≤ region_base (drop 1 (region_sizes sh)) 11 → All (λ x. x ≤ n) (region_words (region_sizes sh) (suc r) (start_words sh))
 start_region sh r n h =
     let m : ℕ = address sh (pool_at sh 0 0) - 11 in
     let e : region_words (region_sizes sh) (suc r) (start_words sh) ≡ replicate (get_or (region_sizes sh) (suc r) 0) 0 = ap (region_words (drop 1 (region_sizes sh)) r) (append_assoc (replicate m 0) (full_pool sh) (replicate (3 * pool_words sh + 2) 0)) ∙ zero_region (drop 1 (region_sizes sh)) r m (full_pool sh ++ replicate (3 * pool_words sh + 2) 0) (omega (arith, h)) in

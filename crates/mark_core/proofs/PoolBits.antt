@@ -1,64 +1,29 @@
 -- One bit of a pool's word: what setting or clearing it does to the pools.
-use Rattle.std.proofs.Common.{ℕ, ◌≡◌, ◌≢◌, ◌+◌, ◌*◌, ◌/◌, ◌%◌, ◌^◌, ◌<◌, suc, zero, List, set, get_or, length, arith, refl, ap, ◌∙◌, Bool, true, false, eqb, ⊎_elim}
-use Rattle.std.specs.Int.{bit_at, bit_not}
-use Rattle.std.proofs.Math.Pow.{pow-lt}
+use Rattle.std.proofs.Common.{ℕ, ◌≡◌, ◌≢◌, ◌+◌, ◌*◌, ◌/◌, ◌%◌, ◌<◌, suc, zero, List, set, get_or, length, arith, refl, ap, Bool, true, false, ⊎_elim}
 use Rattle.std.proofs.lemmas.Nat.{mul-add-lt}
-use Rattle.std.proofs.lemmas.Nat.Bits.{bit_at_or, bit_at_and, bit_at_not, bit_at-pow_same, bit_at-pow_other, bit_at-lt, bit_at-zero}
 use Rattle.std.proofs.lemmas.List.{get_or-set_same, get_or-set_other}
-use Rattle.std.proofs.lemmas.Bool.{cases_eq, cases_order, eq-eqb, ne_eqb}
+use Rattle.std.proofs.lemmas.Bool.{cases_eq, cases_order}
 use Rattle.mark_core.specs.Layout.{pool_words}
 use Rattle.mark_core.specs.Bits.{has_bit, with_bit, without_bit}
 use Rattle.mark_core.specs.Cells.{in_pool, pool_count, empty_packets}
 use Rattle.mark_core.proofs.CountTests.{bit, bit-zero}
 use Rattle.mark_core.proofs.CountRange.{count-but-one}
+use Rattle.mark_core.proofs.CellBits.{with_same, with_other, without_same, without_other, same-index}
+use Rattle.mark_core.proofs.Ranges.{word-below}
 use Rattle.mark_core.specs.declared.kinds.Shape.{Shape}
-use mir.Syntax.{w64}
-
--- zero has no bit
-pub no-bit : (i : ℕ) → has_bit 0 i ≡ false
-no-bit i = rw bit_at-zero refl
-
-with_same : (w k : ℕ) → has_bit (with_bit w k) k ≡ true
-with_same w k = eq-eqb _ _ (bit_at_or w (2 ^ k) k ∙ rw bit_at-pow_same (omega (arith, bit_at-lt w k)))
-
-with_other : (w k i : ℕ) → i ≢ k → has_bit (with_bit w k) i ≡ has_bit w i
-with_other w k i d = ap (λ b. eqb b 1) (bit_at_or w (2 ^ k) i ∙ rw (bit_at-pow_other k i d) (omega (arith, bit_at-lt w i)))
-
-power_below : (k : ℕ) → k < 64 → 2 ^ k < 2 ^ 64
-power_below k h = pow-lt h
-
-without_same : (w k : ℕ) → k < 64 → has_bit (without_bit w k) k ≡ false
-without_same w k h =
-    let c : bit_at (bit_not w64 (2 ^ k)) k ≡ 0 = bit_at_not w64 (2 ^ k) k (power_below k h) h ∙ rw bit_at-pow_same refl in
-    let z : bit_at (without_bit w k) k ≡ 0 = bit_at_and w (bit_not w64 (2 ^ k)) k ∙ rw c (omega arith) in
-    ne_eqb _ _ (λ e. omega (arith, z, e))
-
-without_other : (w k i : ℕ) → k < 64 → i < 64 → i ≢ k → has_bit (without_bit w k) i ≡ has_bit w i
-without_other w k i h hi d =
-    let c : bit_at (bit_not w64 (2 ^ k)) i ≡ 1 = bit_at_not w64 (2 ^ k) i (power_below k h) hi ∙ rw (bit_at-pow_other k i d) refl in
-    ap (λ b. eqb b 1) (bit_at_and w (bit_not w64 (2 ^ k)) i ∙ rw c (omega (arith, bit_at-lt w i)))
 
 -- rows of the same width don't overlap
-same_place : (w q r a b : ℕ) → a < w → b < w → q * w + a ≡ r * w + b → (q ≡ r) × (a ≡ b)
+pub same_place : (w q r a b : ℕ) → a < w → b < w → q * w + a ≡ r * w + b → (q ≡ r) × (a ≡ b)
 same_place w q r a b ha hb e =
     ⊎_elim
     (λ (s : q ≡ r). (s, omega (arith, e, ap (λ x. x * w) s)))
     (λ u. absurd (⊎_elim (λ (h : q < r). grind (arith, mul-add-lt q w a r)) (λ (h : r < q). grind (arith, mul-add-lt r w b q)) u))
     (cases_order q r)
 
-pub in-row : (q n w a : ℕ) → q < n → a < w → q * w + a < n * w
-in-row q n w a h l = grind (arith, mul-add-lt)
-
 -- what is in the pools differs at packet p of pool q at most, which is there as b says
 pub record OneBit (sh : Shape) (pools pools' : List ℕ) (q p : ℕ) (b : Bool) : Type 0 where
   pub here : in_pool sh pools' q p ≡ b
   pub there : (r x : ℕ) → x < sh.packets → (r ≡ q → x ≡ p → ⊥) → in_pool sh pools' r x ≡ in_pool sh pools r x
-
-pub word-below : (sh : Shape) (p : ℕ) → p < sh.packets → p / 64 < pool_words sh
-word-below sh p h = omega (arith, h)
-
-same_packet : (x p : ℕ) → x / 64 ≡ p / 64 → x % 64 ≡ p % 64 → x ≡ p
-same_packet x p e f = omega arith
 
 one_bit : (sh : Shape) (pools : List ℕ) (q p v : ℕ) → q * pool_words sh + p / 64 < length pools → p < sh.packets
     → ((k : ℕ) → k < 64 → k ≢ p % 64 → has_bit v k ≡ has_bit (get_or pools (q * pool_words sh + p / 64) 0) k)
@@ -73,7 +38,7 @@ one_bit sh pools q p v l h others =
           ⊎_elim
           (λ (e : j ≡ i).
           let s = same_place (pool_words sh) r q (x / 64) (p / 64) (word-below sh x hx) (word-below sh p h) e in
-          let far : x % 64 ≢ p % 64 = λ f. n s.0 (same_packet x p s.1 f) in
+          let far : x % 64 ≢ p % 64 = λ f. n s.0 (same-index x p s.1 f) in
           rw e (rw get_or-set_same (others (x % 64) (omega arith) far)))
           (λ (d : j ≡ i → ⊥). ap (λ w. has_bit w (x % 64)) (get_or-set_other pools i j v 0 d))
           (cases_eq j i);

@@ -1,19 +1,14 @@
 -- The pool to which a packet goes back, by its length.
 use Rattle.std.proofs.Common.{ℕ, ◌≡◌, ◌*◌, ◌<◌, ◌≤◌, arith, refl, Bool, true, false, cond, eqb}
 use Rattle.std.specs.Prelude.{nat_le}
-use Rattle.std.proofs.lemmas.Bool.{eqb-true, eqb-false, leb-true, leb-false}
+use Rattle.std.proofs.lemmas.Bool.{eqb-true, leb-true, leb-false}
 use Rattle.mark_core.specs.PacketSteps.{pool_for}
+use Rattle.mark_core.proofs.Basics.{positive}
 use Rattle.mark_core.specs.declared.kinds.Shape.{Shape}
 
 -- deferred, empty, or at least half full
 abbrev choice : Bool → Bool → Bool → ℕ
 choice d a b = cond d 3 (cond a 0 (cond b 2 1))
-
-below_four : (d a b : Bool) → choice d a b < 4
-below_four true a b = omega arith
-below_four false true b = omega arith
-below_four false false true = omega arith
-below_four false false false = omega arith
 
 is_empty : (d a b : Bool) → choice d a b ≡ 0 → a ≡ true
 is_empty true a b e = absurd (omega arith)
@@ -38,12 +33,6 @@ is_deferred true a b e = refl
 is_deferred false true b e = absurd (omega arith)
 is_deferred false false true e = absurd (omega arith)
 is_deferred false false false e = absurd (omega arith)
-
-positive : (n : ℕ) → eqb n 0 ≡ false → 0 < n
-positive n e = grind (arith, eqb-false)
-
-pub pool_for-below : (sh : Shape) (n : ℕ) (d : Bool) → pool_for sh n d < 4
-pool_for-below sh n d = below_four d (eqb n 0) (nat_le sh.entries (2 * n))
 
 pub empty-fits : (sh : Shape) (n : ℕ) (d : Bool) → pool_for sh n d ≡ 0 → n ≡ 0
 empty-fits sh n d e = eqb-true n 0 (is_empty d (eqb n 0) (nat_le sh.entries (2 * n)) e)

@@ -15,10 +15,12 @@ use Rattle.mark_core.specs.Laws.{PacketsSound}
 use Rattle.mark_core.proofs.CountTests.{bit, neither, follows}
 use Rattle.mark_core.proofs.CountMoves.{agrees-but-one}
 use Rattle.mark_core.proofs.PoolSlots.{drop-other, holds-drop_same, stored-held}
-use Rattle.mark_core.proofs.PoolBits.{OneBit, pool-with, empty_packets-moves, in-row, word-below, in-no-pool}
-use Rattle.mark_core.proofs.PoolChoice.{pool_for-below, empty-fits, empty-chosen}
+use Rattle.mark_core.proofs.PoolBits.{OneBit, pool-with, empty_packets-moves, in-no-pool}
+use Rattle.mark_core.proofs.PoolChoice.{empty-fits, empty-chosen}
 use Rattle.mark_core.proofs.PoolMoves.{pools-give, held-alone, held-length}
 use Rattle.mark_core.proofs.PoolSteps.{At, holding, mine, sound-moved}
+use Rattle.mark_core.proofs.Basics.{not-not}
+use Rattle.mark_core.proofs.Ranges.{word-below, in-row, pool_for-below}
 use Rattle.mark_core.specs.declared.kinds.Shape.{Shape}
 use Rattle.mark_core.specs.declared.kinds.Step.TheVariants.{Give}
 use Rattle.mark_core.specs.declared.seat.SeatState.{SeatState}
@@ -41,10 +43,6 @@ some_entries false z n e h f = absurd (false≢true f)
 
 zero_not : (n : ℕ) → 0 < n → eqb n 0 ≡ false
 zero_not n h = ne_eqb n 0 (λ e. omega (arith, h, e))
-
-not_not : (b : Bool) → not (not b) ≡ b
-not_not true = refl
-not_not false = refl
 
 -- an empty packet that comes into its pool is owed to the count
 gives_one : (sh : Shape) (pools pools' : List ℕ) (p n : ℕ) (d z : Bool) → p < sh.packets → OneBit sh pools pools' (pool_for sh n d) p true → in_pool sh pools 0 p ≡ false → eqb n 0 ≡ z → (d ≡ true → 0 < n) → empty_packets sh pools' ≡ empty_packets sh pools + bit z
@@ -78,7 +76,7 @@ give_by sh w w' seats i p d s a hp h e entries rest debts stored heads empty o =
     sound-moved sh w w' seats i s t a
     (rw heads (pools-give sh w.heads w.pools w'.pools (hands seats) i p n d s.held k o h head (known-within sh w seats i p s a hp h e) some))
     (record {
-      counted = rw (empty, not_not (eqb n 0), free.0) (omega (arith, one));
+      counted = rw (empty, not-not (eqb n 0), free.0) (omega (arith, one));
       one_debt = rw free.1 refl;
       heads_agree =
           agrees-but-one sh w.heads w'.heads s t p (mine sh w seats i s a) (λ x f. rw heads refl) (λ x f. drop-other s.held p x f)

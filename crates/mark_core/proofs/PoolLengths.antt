@@ -1,6 +1,6 @@
 -- A new length of a packet in hand keeps the rules of packets.
-use Rattle.std.proofs.Common.{ℕ, ◌≡◌, ◌≢◌, ◌+◌, ◌-◌, ◌<◌, ◌≤◌, List, set, get_or, length, arith, refl, sym, ap, ◌∙◌, Bool, true, false, not, eqb, Option, Some, None, ⊎_elim}
-use Rattle.std.specs.Prelude.{is_some, nat_lt, slice_index, unwrap_or}
+use Rattle.std.proofs.Common.{ℕ, ◌≡◌, ◌≢◌, ◌+◌, ◌-◌, ◌<◌, ◌≤◌, List, set, get_or, length, arith, refl, sym, ap, ◌∙◌, Bool, true, false, not, Option, Some, None, ⊎_elim}
+use Rattle.std.specs.Prelude.{is_some, nat_lt, slice_index}
 use Rattle.std.proofs.lemmas.Bool.{cases_eq, false≢true, and_parts, ltb-true}
 use Rattle.std.proofs.lemmas.List.{get_or-set_same, get_or-set_other, set-get_or, length-map, get_or-map}
 use Rattle.mark_core.specs.Layout.{Words, put_word}
@@ -19,6 +19,7 @@ use Rattle.mark_core.proofs.PoolHolders.{only-holder}
 use Rattle.mark_core.proofs.PoolMoves.{pools-length, held-alone, held-length}
 use Rattle.mark_core.proofs.PoolSteps.{At, holding, mine, one-debt, sound-moved}
 use Rattle.mark_core.proofs.PoolGive.{known-within}
+use Rattle.mark_core.proofs.Basics.{some-positive, whole-length}
 use Rattle.mark_core.specs.declared.kinds.Shape.{Shape}
 use Rattle.mark_core.specs.declared.kinds.Step.TheVariants.{Push, Pop, StoreLength, ReadLength}
 use Rattle.mark_core.specs.declared.seat.SeatState.{SeatState}
@@ -71,17 +72,13 @@ sound-push sh w seats i p c old s a ok =
     lengthened sh w (put_word (place sh s (Push p c)) (written sh s (Push p c) old) w) seats i p (n + 1) false s (seat_after sh s (Push p c) old) a (and_parts _ _ ok.0).1 (omega (arith, ltb-true n sh.entries (and_parts _ _ ok.1.0).1))
     (record { held = refl; debts = (refl, refl); pools = refl; empty = refl; others = λ x d. refl; head = λ e. absurd (false≢true e) })
 
-known_where : (o : Option ℕ) → not (eqb (unwrap_or o 0) 0) ≡ true → is_some o ≡ true
-known_where None e = absurd (false≢true e)
-known_where (Some n) e = refl
-
 -- 6: a cell is taken from a packet
 pub sound-pop : (sh : Shape) (w : Words) (seats : List SeatState) (i p old : ℕ) (s : SeatState) → At sh w seats i s → AllTrue (parts sh w seats s (Pop p))
     → PacketsSound sh (put_word (place sh s (Pop p)) (written sh s (Pop p) old) w) (set seats i (seat_after sh s (Pop p) old))
 sound-pop sh w seats i p old s a ok =
     let n : ℕ = length_in_hand s.held p in
     let first = and_parts (nat_lt p sh.packets) (holds s.held p) ok.0 in
-    let known = known-within sh w seats i p s a (ltb-true p sh.packets first.0) first.1 (known_where (known_length s.held p) ok.1.0) in
+    let known = known-within sh w seats i p s a (ltb-true p sh.packets first.0) first.1 (some-positive (known_length s.held p) ok.1.0) in
     lengthened sh w (put_word (place sh s (Pop p)) (written sh s (Pop p) old) w) seats i p (n - 1) false s (seat_after sh s (Pop p) old) a first.1 (omega (arith, known))
     (record { held = refl; debts = (refl, refl); pools = refl; empty = refl; others = λ x d. refl; head = λ e. absurd (false≢true e) })
 
@@ -100,9 +97,6 @@ unknown : (o : Option ℕ) → not (is_some o) ≡ true → o ≡ None
 unknown None e = refl
 unknown (Some n) e = absurd (false≢true e)
 
-whole : (h e : ℕ) → h ≤ e → e ≤ 512 → reference_in h ≡ h
-whole h e l m = omega arith
-
 -- 42: the holder reads the length of its packet from the head
 pub sound-read_length : (sh : Shape) (w : Words) (seats : List SeatState) (i p : ℕ) (s : SeatState) → At sh w seats i s → AllTrue (parts sh w seats s (ReadLength p))
     → PacketsSound sh (put_word (place sh s (ReadLength p)) (written sh s (ReadLength p) (get_or w.heads p 0)) w) (set seats i (seat_after sh s (ReadLength p) (get_or w.heads p 0)))
@@ -114,7 +108,7 @@ sound-read_length sh w seats i p s a ok =
     let none : known_length s.held p ≡ None = unknown (known_length s.held p) ok.1.0 in
     let long : packet_length w.heads (hands seats) p ≡ old = rw (held-length sh w.heads w.pools (hands seats) i p s.held k hp first.1, none) refl in
     let within : old ≤ sh.entries = omega (arith, long, a.packets.pools.rooms p hp) in
-    let same : reference_in old ≡ old = whole old sh.entries within a.shaped.entries.1 in
+    let same : reference_in old ≡ old = whole-length old sh.entries within a.shaped.entries.1 in
     let back : set w.heads p old ≡ w.heads = set-get_or w.heads p 0 in
     lengthened sh w (put_word (place sh s (ReadLength p)) (written sh s (ReadLength p) old) w) seats i p (reference_in old) true s (seat_after sh s (ReadLength p) old) a first.1 (rw same within)
     (record { held = refl; debts = (refl, refl); pools = refl; empty = refl; others = λ x d. ap (λ (hs : List ℕ). get_or hs x 0) back; head = λ e. ap (λ (hs : List ℕ). get_or hs p 0) back ∙ sym same })

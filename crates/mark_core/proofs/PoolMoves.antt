@@ -9,10 +9,11 @@ use Rattle.mark_core.specs.PacketRules.{Pools}
 use Rattle.mark_core.specs.PacketSteps.{pool_for}
 use Rattle.mark_core.proofs.CountTests.{bit}
 use Rattle.mark_core.proofs.PoolSlots.{same-in-hand, put-other, drop-other, set-other, holds-put_same, known-put_same, holds-drop_same, holds-set_same, known-set_same}
-use Rattle.mark_core.proofs.PoolChoice.{pool_for-below, empty-fits, low-fits, high-fits, deferred-fits}
+use Rattle.mark_core.proofs.PoolChoice.{empty-fits, low-fits, high-fits, deferred-fits}
 use Rattle.mark_core.proofs.PoolBits.{OneBit, pool_count-moves, in-no-pool}
 use Rattle.mark_core.proofs.PoolHolders.{holders-set, holder-counts, among-held, among-unheld}
 use Rattle.mark_core.proofs.PoolPlaces.{IsPlaced, pools-but-one, pools-still, same-hands}
+use Rattle.mark_core.proofs.Ranges.{pool_for-below}
 use Rattle.mark_core.specs.declared.kinds.Shape.{Shape}
 
 -- seat i holds hs, where the rule of the pools is met

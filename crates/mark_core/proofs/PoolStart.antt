@@ -20,8 +20,9 @@ use Rattle.mark_core.specs.Laws.{StartMeetsPackets}
 use Rattle.mark_core.proofs.Regions.{words-get}
 use Rattle.mark_core.proofs.CountTests.{bit}
 use Rattle.mark_core.proofs.CountRange.{count-cons, count-none, count-same}
-use Rattle.mark_core.proofs.PoolBits.{no-bit, word-below, in-row}
 use Rattle.mark_core.proofs.PoolHolders.{among-unheld}
+use Rattle.mark_core.proofs.CellBits.{no-bit}
+use Rattle.mark_core.proofs.Ranges.{word-below, in-row}
 use Rattle.mark_core.specs.declared.kinds.Shape.{Shape}
 use Rattle.mark_core.specs.declared.seat.SeatState.{SeatState}
 

@@ -14,9 +14,10 @@ use Rattle.mark_core.specs.Laws.{PacketsSound}
 use Rattle.mark_core.proofs.CountTests.{bit}
 use Rattle.mark_core.proofs.CountMoves.{agrees-but-one}
 use Rattle.mark_core.proofs.PoolSlots.{put-other, known-put_same, any-put}
-use Rattle.mark_core.proofs.PoolBits.{OneBit, pool-without, empty_packets-moves, in-row, word-below}
+use Rattle.mark_core.proofs.PoolBits.{OneBit, pool-without, empty_packets-moves}
 use Rattle.mark_core.proofs.PoolMoves.{pools-take, pools-untaken, same-inside}
 use Rattle.mark_core.proofs.PoolSteps.{At, holding, mine, one-debt, work-holds, sound-moved}
+use Rattle.mark_core.proofs.Ranges.{word-below, in-row}
 use Rattle.mark_core.specs.declared.kinds.Shape.{Shape}
 use Rattle.mark_core.specs.declared.kinds.Step.TheVariants.{Take}
 use Rattle.mark_core.specs.declared.seat.SeatState.{SeatState}

@@ -17,8 +17,6 @@ use Rattle.mark_core.proofs.Regions.{words-get}
 use Rattle.mark_core.proofs.Places.{region-length}
 use Rattle.mark_core.proofs.Acting.{Acted, acted, found, words_left}
 use Rattle.mark_core.proofs.Core.{in_range_from}
-use Rattle.mark_core.proofs.PoolBits.{in-row, word-below}
-use Rattle.mark_core.proofs.PoolChoice.{pool_for-below}
 use Rattle.mark_core.proofs.PoolSteps.{At, work-holds}
 use Rattle.mark_core.proofs.PoolTake.{sound-take}
 use Rattle.mark_core.proofs.PoolGive.{sound-give}
@@ -26,6 +24,7 @@ use Rattle.mark_core.proofs.PoolLengths.{sound-push, sound-pop, sound-store_leng
 use Rattle.mark_core.proofs.PoolSeats.{sound-split, sound-join}
 use Rattle.mark_core.proofs.CountSteps.{sound-reserve, sound-credit, sound-work, sound-other, work-after, is_tracing}
 use Rattle.mark_core.proofs.Frames.{held_of, debts_of}
+use Rattle.mark_core.proofs.Ranges.{word-below, in-row, pool_for-below}
 use Rattle.mark_core.specs.declared.kinds.Shape.{Shape}
 use Rattle.mark_core.specs.declared.kinds.Event.{Event}
 use Rattle.mark_core.specs.declared.kinds.Step.{Step}

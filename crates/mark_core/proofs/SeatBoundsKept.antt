@@ -19,6 +19,7 @@ use Rattle.mark_core.specs.Effects.{seat_after}
 use Rattle.mark_core.specs.Start.{start_seat, spent_seat}
 use Rattle.mark_core.specs.Steps.{AllTrue}
 use Rattle.mark_core.proofs.SlotBounds.{choose, length-fits, put-fits, drop-fits, set-fits}
+use Rattle.mark_core.proofs.Ranges.{section-below}
 use Rattle.mark_core.specs.declared.kinds.Shape.{Shape}
 use Rattle.mark_core.specs.declared.kinds.Step.{Step}
 use Rattle.mark_core.specs.declared.kinds.Step.TheVariants.{Take, Give, Push, Pop, ReadAlloc, ReadOwn, ReadCat, StoreRoot, ClaimBlock, ReleaseBlock, ReadFree, StoreNew, PublishCells, NextBlock, ReadBlockMarks, StoreAlloc, ClearMarks, StoreLength, ReadLength, Reserve}
@@ -69,17 +70,20 @@ last_fits sh None r k e = absurd (cc)
 last_fits sh (Some x) r k e = last_is sh x.last r k.1 e
 
 -- a reference that a seat has is in range
-pub root-fits : (sh : Shape) (s : SeatState) (r : ℕ) → SeatBounds sh s → has_reference s r ≡ true → IsReference sh r
-root-fits sh s r k e =
+pub reference-fits : (sh : Shape) (s : SeatState) (r : ℕ) → All (IsReference sh) s.env → IsReference sh s.got → IfSome s.cache (CacheFits sh) → has_reference s r ≡ true → IsReference sh r
+reference-fits sh s r env got cache e =
     ⊎_elim
     (λ (a : ((eqb r 0 || eqb r s.got) || list_any (λ x. eqb x r) s.env) ≡ true).
     ⊎_elim
     (λ (b : (eqb r 0 || eqb r s.got) ≡ true).
-    ⊎_elim (λ (z : eqb r 0 ≡ true). omega (arith, eqb-true r 0 z)) (λ (g : eqb r s.got ≡ true). omega (arith, eqb-true r s.got g, k.got)) (or_cases (eqb r 0) (eqb r s.got) b))
-    (λ (b : list_any (λ x. eqb x r) s.env ≡ true). among sh.cells r s.env k.env b)
+    ⊎_elim (λ (z : eqb r 0 ≡ true). omega (arith, eqb-true r 0 z)) (λ (g : eqb r s.got ≡ true). omega (arith, eqb-true r s.got g, got)) (or_cases (eqb r 0) (eqb r s.got) b))
+    (λ (b : list_any (λ x. eqb x r) s.env ≡ true). among sh.cells r s.env env b)
     (or_cases (eqb r 0 || eqb r s.got) (list_any (λ x. eqb x r) s.env) a))
-    (λ (a : names_last s.cache r ≡ true). last_fits sh s.cache r k.cache (and_parts _ _ a).1)
+    (λ (a : names_last s.cache r ≡ true). last_fits sh s.cache r cache (and_parts _ _ a).1)
     (or_cases ((eqb r 0 || eqb r s.got) || list_any (λ x. eqb x r) s.env) (names_last s.cache r) e)
+
+pub root-fits : (sh : Shape) (s : SeatState) (r : ℕ) → SeatBounds sh s → has_reference s r ≡ true → IsReference sh r
+root-fits sh s r k e = reference-fits sh s r k.env k.got k.cache e
 
 -- so is each variable
 pub variable-fits : (sh : Shape) (s : SeatState) (v : ℕ) → All (IsReference sh) s.env → IsReference sh (variable s v)
@@ -150,7 +154,7 @@ next_fits : (sh : Shape) (old : ℕ) (b : Bool) (o : Option BlockState) → (b �
 next_fits sh old true o h k = h refl
 next_fits sh old false o h k = k
 
-block-after : (sh : Shape) (s : SeatState) (step : Step) (old : ℕ) → IfSome s.block (BlockFits sh) → IfSome (seat_after sh s step old).block (BlockFits sh)
+pub block-after : (sh : Shape) (s : SeatState) (step : Step) (old : ℕ) → IfSome s.block (BlockFits sh) → IfSome (seat_after sh s step old).block (BlockFits sh)
 block-after sh s (ReadAlloc b) old k = alloc_fits sh s.block b old k
 block-after sh s NextBlock old k = next_fits sh old (nat_lt old (block_count sh)) s.block (λ e. ltb-true old (block_count sh) e) k
 block-after sh s ReadBlockMarks old k = mark_fits sh s.block old k
@@ -170,7 +174,7 @@ next_made : (b : Bool) (n : ℕ) → n ≤ 2000000 → (b ≡ false → n < 2000
 next_made true n m h = m
 next_made false n m h = omega (arith, h refl)
 
-made-after : (sh : Shape) (w : Words) (seats : List SeatState) (s : SeatState) (step : Step) (old : ℕ) → s.made ≤ 2000000 → AllTrue (parts sh w seats s step) → (seat_after sh s step old).made ≤ 2000000
+pub made-after : (sh : Shape) (w : Words) (seats : List SeatState) (s : SeatState) (step : Step) (old : ℕ) → s.made ≤ 2000000 → AllTrue (parts sh w seats s step) → (seat_after sh s step old).made ≤ 2000000
 made-after sh w seats s (StoreNew c part word) old m ok = next_made (nat_le part sh.fields) s.made m (λ e. fits_made sh s part word (leb-false part sh.fields e) ok.1.1.0)
 made-after sh w seats s step old m ok = m
 
@@ -199,14 +203,10 @@ none_held e =
     tt
     (All-cons (SlotFits e) None (None ∷ None ∷ []) tt (All-cons (SlotFits e) None (None ∷ []) tt (All-cons (SlotFits e) None [] tt (All-nil (SlotFits e)))))
 
-own_section : (n i : ℕ) (b : Bool) → 1 ≤ n → (b ≡ true → i < n) → unwrap_or (cond b (Some i) None) 0 < n
-own_section n i true h f = f refl
-own_section n i false h f = omega (arith, h)
-
 pub start-bounds : (sh : Shape) (n : ℕ) → IsShape sh → SeatBounds sh (start_seat sh n)
 start-bounds sh n k =
     record {
-      section = own_section sh.sections n (nat_lt n sh.sections) (omega (arith, k.sections)) (λ e. ltb-true n sh.sections e);
+      section = section-below sh.sections n (nat_lt n sh.sections) (omega (arith, k.sections)) (λ e. ltb-true n sh.sections e);
       held = none_held sh.entries;
       env = nil_fits sh 32;
       got = omega arith;

@@ -16,6 +16,7 @@ use Rattle.mark_core.proofs.CountWork.{work-reads}
 use Rattle.mark_core.proofs.PoolSlots.{any-held}
 use Rattle.mark_core.proofs.WorldTally.{Fits}
 use Rattle.mark_core.proofs.WorldSeats.{Local, inside, stays, mutates, tracer-in, sweeper-in, runner-in, holder-in, worker-in, block-in, cache-in, bare-out, part-from_active, none-takes}
+use Rattle.mark_core.proofs.Basics.{none-is, or-second}
 use Rattle.mark_core.specs.declared.kinds.Shape.{Shape}
 use Rattle.mark_core.specs.declared.kinds.Step.{Step}
 use Rattle.mark_core.specs.declared.kinds.Step.TheVariants.{Reserve, Take, Give, Credit, Push, Pop, ReadAlloc, ReadField, ReadRoot, SetMark, DirtyCard, ClearCard, ReadMarks, ReadPhase, ReadOwn, ReadCat, StoreField, StoreRoot, ClaimBlock, ReleaseBlock, ReadFree, StoreNew, PublishCells, EnterStep, LeaveStep, Observe, DropStep, NextBlock, ReadBlockMarks, StoreAlloc, ClearMarks, StoreLength, ReadLength, JoinHelpStep, LeaveHelpStep}
@@ -81,15 +82,6 @@ empty_parts s e =
     let a = and_parts (not (holds_any s.held) && not s.reserved) (not s.credit) e in
     let b = and_parts (not (holds_any s.held)) (not s.reserved) a.0 in
     (not-true _ b.0, not-true _ b.1, not-true _ a.1)
-
-none_is : {A : Type 0} (o : Option A) → is_none o ≡ true → o ≡ None
-none_is None e = refl
-none_is (Some x) e = absurd (false≢true e)
-
-knower_in : (a k d : Bool) → k ≡ true → (a || k || d) ≡ true
-knower_in true k d e = refl
-knower_in false true d e = refl
-knower_in false false d e = absurd (false≢true e)
 
 -- the seat's facts after its step
 pub local-at : (sh : Shape) (w : Words) (seats : List SeatState) (s : SeatState) (step : Step) (old : ℕ) → Local sh s → Fits (standing_of s) → (IsTrue s.active → s.block ≡ None) → AllTrue (parts sh w seats s step) → Local sh (seat_after sh s step old)
@@ -172,8 +164,8 @@ local-at sh w seats s EnterStep old k f b ok =
 local-at sh w seats s LeaveStep old k f b ok =
     let empty = empty_parts s ok.1.0 in
     let rest = and_parts (is_none s.owes && is_none s.cache) (eqb s.got 0) ok.1.1.1.0 in
-    let owes = none_is s.owes (and_parts (is_none s.owes) (is_none s.cache) rest.0).0 in
-    let cache = none_is s.cache (and_parts (is_none s.owes) (is_none s.cache) rest.0).1 in
+    let owes = none-is s.owes (and_parts (is_none s.owes) (is_none s.cache) rest.0).0 in
+    let cache = none-is s.cache (and_parts (is_none s.owes) (is_none s.cache) rest.0).1 in
     let block : s.block ≡ None =
     ⊎_elim
     (λ (e : s.active ≡ true). b e)
@@ -193,7 +185,7 @@ local-at sh w seats s NextBlock old k f b ok =
     let part : takes_part s ≡ true =
     ⊎_elim
     (λ (e : may_sweep w.phase s ≡ true). sweeper-in w.phase s e)
-    (λ (e : may_clear w.phase s ≡ true). knower_in s.active s.knows s.admitted (and_parts s.knows _ e).0)
+    (λ (e : may_clear w.phase s ≡ true). or-second s.active s.knows s.admitted (and_parts s.knows _ e).0)
     (or_cases (may_sweep w.phase s) (may_clear w.phase s) ok.0) in
     stays sh s (seat_after sh s NextBlock old) k part refl refl refl (λ a. (k.calm a).0) refl refl
 local-at sh w seats s ReadBlockMarks old k f b ok =
@@ -212,7 +204,7 @@ local-at sh w seats s LeaveHelpStep old k f b ok =
     (λ (a : s.admitted ≡ false). (k.outside (rw a e)).4)
     (cases_Bool s.admitted) in
     record {
-      outside = λ e. (empty.0, empty.1, empty.2, not-true _ rest.0, cache e, none_is s.block rest.1);
+      outside = λ e. (empty.0, empty.1, empty.2, not-true _ rest.0, cache e, none-is s.block rest.1);
       calm = k.calm;
       unseen = λ e. refl;
       uncached = λ e. absurd (false≢true e);

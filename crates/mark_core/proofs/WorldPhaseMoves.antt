@@ -1,7 +1,7 @@
 -- The moves between the phases keep the rule of the phase.
-use Rattle.std.proofs.Common.{ℕ, zero, suc, ◌/◌, ◌%◌, ◌≡◌, ◌+◌, ◌<◌, List, [], ◌∷◌, set, get_or, length, refl, sym, ap, ◌∙◌, subst, Bool, true, false, eqb, cond}
+use Rattle.std.proofs.Common.{ℕ, ◌/◌, ◌%◌, ◌≡◌, ◌+◌, ◌<◌, List, set, get_or, length, refl, sym, ap, ◌∙◌, subst, Bool, true, false, eqb, cond}
 use Rattle.std.specs.Prelude.{IsTrue, IsFalse}
-use Rattle.std.specs.List.{All, list_all}
+use Rattle.std.specs.List.{All}
 use Rattle.std.proofs.lemmas.Bool.{and_parts, true≢false, false≢true, eqb-true}
 use Rattle.std.proofs.lemmas.List.{length-map, get_or-map}
 use Rattle.std.proofs.lemmas.List.Elements.{All-set}
@@ -16,12 +16,13 @@ use Rattle.mark_core.specs.Steps.{Core, AllTrue}
 use Rattle.mark_core.specs.WellFormed.{IsWellFormed}
 use Rattle.mark_core.specs.Laws.{ArePacketsSound}
 use Rattle.mark_core.proofs.CountTests.{follows}
-use Rattle.mark_core.proofs.PoolBits.{no-bit}
 use Rattle.mark_core.proofs.QuietReading.{quiet-hands, quiet-heads}
-use Rattle.mark_core.proofs.WorldReading.{StandsRight, passes-any, any-passes, some-passes, passes-counted}
+use Rattle.mark_core.proofs.WorldReading.{StandsRight, passes-any, any-passes, some-passes, passes-counted, at-standing}
 use Rattle.mark_core.proofs.WorldSights.{Sees}
 use Rattle.mark_core.proofs.WorldPhases.{InPhase, IsWhite, IsStill}
 use Rattle.mark_core.proofs.WorldPhaseKept.{knowers-set}
+use Rattle.mark_core.proofs.CellBits.{no-bit}
+use Rattle.mark_core.proofs.Basics.{all-zero}
 use Rattle.mark_core.specs.declared.kinds.Phase.{Phase}
 use Rattle.mark_core.specs.declared.kinds.Phase.TheVariants.{Idle, Marking, Drain, Sweep, Clear, Full}
 use Rattle.mark_core.specs.declared.kinds.Step.TheVariants.{StorePhase}
@@ -41,7 +42,7 @@ my_standing : (c : Core) (i : ℕ) (s : SeatState) (P : Standing → Type 0) →
 my_standing c i s P k a = subst P (get_or-map standing_of c.seats i s (standing_of s) k.seat ∙ ap standing_of k.is) (a i (standing_of s) (rw length-map k.seat))
 
 their_standing : (c : Core) (j : ℕ) (d : SeatState) (P : Standing → Type 0) → j < length c.seats → All P (standings c.seats) → P (standing_of (get_or c.seats j d))
-their_standing c j d P h a = subst P (get_or-map standing_of c.seats j d (standing_of d) h) (a j (standing_of d) (rw length-map h))
+their_standing c j d P h a = at-standing P c.seats j d h a
 
 -- while a seat knows and is alone, nobody is active and nobody is admitted: so all sights are right in any phase
 all_calm : (c : Core) (i : ℕ) (s : SeatState) (phase : ℕ) → Moving c i s → s.knows ≡ true → s.alone ≡ true → All (Sees phase) c.seats
@@ -63,14 +64,9 @@ knower c i s k e =
 at_rest : (c : Core) (i : ℕ) (s : SeatState) → Moving c i s → eqb (words_of c.shape c.words).empty (64 + c.shape.packets) ≡ true → IsStill c.shape (words_of c.shape c.words).heads c.seats
 at_rest c i s k e = let n = eqb-true (words_of c.shape c.words).empty (64 + c.shape.packets) e in (quiet-hands c k.formed k.packets n, quiet-heads c k.packets n)
 
-all_zero : (ws : List ℕ) → list_all (λ x. eqb x 0) ws ≡ true → (g : ℕ) → get_or ws g 0 ≡ 0
-all_zero [] e g = refl
-all_zero (w ∷ ws) e zero = eqb-true w 0 (and_parts (eqb w 0) (list_all (λ x. eqb x 0) ws) e).0
-all_zero (w ∷ ws) e (suc g) = all_zero ws (and_parts (eqb w 0) (list_all (λ x. eqb x 0) ws) e).1 g
-
 -- where every word of marks is zero, no cell is marked
-white_words : (c : Core) → none_marked (words_of c.shape c.words).marks ≡ true → IsWhite c.shape (words_of c.shape c.words).marks
-white_words c e x h = let ws : List ℕ = (words_of c.shape c.words).marks in ap (λ w. has_bit w (x % 64)) (all_zero ws e (x / 64)) ∙ no-bit (x % 64)
+pub white-words : (c : Core) → none_marked (words_of c.shape c.words).marks ≡ true → IsWhite c.shape (words_of c.shape c.words).marks
+white-words c e x h = let ws : List ℕ = (words_of c.shape c.words).marks in ap (λ w. has_bit w (x % 64)) (all-zero ws e (x / 64)) ∙ no-bit (x % 64)
 
 -- where a mutator runs no helper is admitted
 none_helps : (c : Core) (i : ℕ) (s : SeatState) → Moving c i s → s.active ≡ true → (j : ℕ) (d : SeatState) (P : Type 0) → j < length c.seats → IsTrue (get_or c.seats j d).admitted → P
@@ -103,7 +99,7 @@ moved_to c i s Idle k ok =
     record {
       sees = all_calm c i s 0 k asks.0 (follows s.knows s.alone ok.1.1.0 asks.0);
       stopped = λ e. absurd (false≢true e);
-      white = λ e. white_words c (and_parts _ _ asks.1).1;
+      white = λ e. white-words c (and_parts _ _ asks.1).1;
       still = λ e. k.phase.still (ap is_tracing from);
     }
 moved_to c i s Marking k ok = begun c i s (eqb (words_of c.shape c.words).phase 0) k ok.1.0

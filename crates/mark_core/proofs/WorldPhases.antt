@@ -18,9 +18,9 @@ use Rattle.mark_core.specs.Steps.{Core, AllTrue}
 use Rattle.mark_core.proofs.Regions.{words-get}
 use Rattle.mark_core.proofs.Acting.{found, words_left}
 use Rattle.mark_core.proofs.RegionWrites.{marks-kept}
-use Rattle.mark_core.proofs.PoolBits.{no-bit}
 use Rattle.mark_core.proofs.WorldSights.{Sees, traces-in}
 use Rattle.mark_core.proofs.WorldQuiet.{lengths-of-heads}
+use Rattle.mark_core.proofs.CellBits.{no-bit}
 use Rattle.mark_core.specs.declared.kinds.Shape.{Shape}
 use Rattle.mark_core.specs.declared.kinds.Phase.TheVariants.{Sweep}
 use Rattle.mark_core.specs.declared.kinds.Step.{Step}

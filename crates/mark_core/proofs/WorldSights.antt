@@ -54,9 +54,9 @@ sees-after sh w seats s JoinHelpStep old k l f h e ok =
 sees-after sh w seats s LeaveHelpStep old k l f h e ok = record { marking = λ a m. absurd (false≢true m); helper = λ a. tt }
 sees-after sh w seats s step old k l f h e ok = record { marking = k.marking; helper = k.helper }
 
-saw_number : (o : Option Phase) (p : Phase) (phase : ℕ) → saw o p ≡ true → IfSome o (λ x. phase ≡ phase_number x) → phase ≡ phase_number p
-saw_number None p phase e h = absurd (false≢true e)
-saw_number (Some x) p phase e h = h ∙ eqb-true (phase_number x) (phase_number p) e
+pub saw-number : (o : Option Phase) (p : Phase) (phase : ℕ) → saw o p ≡ true → IfSome o (λ x. phase ≡ phase_number x) → phase ≡ phase_number p
+saw-number None p phase e h = absurd (false≢true e)
+saw-number (Some x) p phase e h = h ∙ eqb-true (phase_number x) (phase_number p) e
 
 -- a seat traces in Marking or in Drain
 pub traces-in : (phase : ℕ) (s : SeatState) → Sees phase s → may_trace phase s ≡ true → is_tracing phase ≡ true
@@ -68,5 +68,5 @@ traces-in phase s k e =
     (λ (b : (s.active && saw s.phase_seen Marking) ≡ true). let p = and_parts s.active (saw s.phase_seen Marking) b in tracer 1 (k.marking p.0 p.1) refl)
     (λ (b : (s.knows && is_phase phase Drain) ≡ true). tracer 2 (eqb-true phase 2 (and_parts s.knows (is_phase phase Drain) b).1) refl)
     (or_cases (s.active && saw s.phase_seen Marking) (s.knows && is_phase phase Drain) a))
-    (λ (a : (s.admitted && saw s.phase_seen Drain) ≡ true). let p = and_parts s.admitted (saw s.phase_seen Drain) a in tracer 2 (saw_number s.phase_seen Drain phase p.1 (k.helper p.0)) refl)
+    (λ (a : (s.admitted && saw s.phase_seen Drain) ≡ true). let p = and_parts s.admitted (saw s.phase_seen Drain) a in tracer 2 (saw-number s.phase_seen Drain phase p.1 (k.helper p.0)) refl)
     (or_cases (s.active && saw s.phase_seen Marking || (s.knows && is_phase phase Drain)) (s.admitted && saw s.phase_seen Drain) e)

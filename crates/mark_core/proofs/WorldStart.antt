@@ -14,7 +14,6 @@ use Rattle.mark_core.specs.Views.{Standing, standings, standing_of}
 use Rattle.mark_core.specs.Start.{start_words, start_seats, full_pool, packet_bits}
 use Rattle.mark_core.proofs.Regions.{words-get}
 use Rattle.mark_core.proofs.CountRange.{count-none}
-use Rattle.mark_core.proofs.PoolBits.{no-bit}
 use Rattle.mark_core.proofs.PoolStart.{in-gap, past-gap, no-head, each-seat, gap, singles, tail_words}
 use Rattle.mark_core.proofs.WorldTally.{nowhere, nowhere-fits, Fits}
 use Rattle.mark_core.proofs.WorldNumbers.{Numbers}
@@ -24,6 +23,8 @@ use Rattle.mark_core.proofs.WorldSights.{Sees}
 use Rattle.mark_core.proofs.WorldPhases.{IsWhite}
 use Rattle.mark_core.proofs.WorldPhaseKept.{new-sees}
 use Rattle.mark_core.proofs.WorldKept.{WorldSound, together, new-local}
+use Rattle.mark_core.proofs.CellBits.{no-bit}
+use Rattle.mark_core.proofs.Ranges.{block-exists}
 use Rattle.mark_core.specs.declared.kinds.Shape.{Shape}
 use Rattle.mark_core.specs.declared.seat.SeatState.{SeatState}
 
@@ -36,14 +37,11 @@ no_help sh =
     ∙ (past-gap (singles sh) (full_pool sh) (tail_words sh) 11 (gap sh) (region_base (region_sizes sh) 13 + 0) (4 * w) refl (omega arith)
     ∙ (get_or-append_right (full_pool sh) (tail_words sh) w (4 * w) 0 long (omega arith) ∙ get_or-replicate (3 * w + 2) (4 * w - w) 0 0 (omega arith)))
 
-block_of : (sh : Shape) (x : ℕ) → IsShape sh → x < sh.cells → x / 64 < block_count sh
-block_of sh x z h = omega (arith, h, z.whole_blocks)
-
 -- no cell is marked
 starts_white : (sh : Shape) → IsShape sh → IsWhite sh (words_of sh (start_words sh)).marks
 starts_white sh z x h =
     let b : ℕ = x / 64 in
-    let hb : b < block_count sh = block_of sh x z h in
+    let hb : b < block_count sh = block-exists sh x z h in
     let word : slice_index (words_of sh (start_words sh)).marks b ≡ 0 =
     sym (words-get (region_sizes sh) 5 (start_words sh) b 0 hb) ∙ in-gap (singles sh) (full_pool sh) (tail_words sh) 11 (gap sh) (region_base (region_sizes sh) 5 + b) refl (omega arith) (omega (arith, hb)) in
     ap (λ w. has_bit w (x % 64)) word ∙ no-bit (x % 64)

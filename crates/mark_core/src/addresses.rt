@@ -19,6 +19,7 @@ use crate::sweep::own_block;
 use crate::{bits, layout, packets};
 
 /// The address of the one word that the step of this seat reads or writes.
+#[inline(always)]
 pub fn address(shape: &Shape, s: &SeatState, step: &Step) -> usize
     requires { IsShape shape.now }
     ensures { result ≡ address_of shape.now (place shape.now s.now step.now) }
@@ -35,6 +36,7 @@ pub fn address(shape: &Shape, s: &SeatState, step: &Step) -> usize
     }
 }
 
+#[inline(always)]
 fn of_packets(shape: &Shape, s: &SeatState, step: &Step) -> usize
     requires pass { pass_of_step step.now ≡ Pass.Packets }
     requires shaped { IsShape shape.now }
@@ -55,6 +57,7 @@ fn of_packets(shape: &Shape, s: &SeatState, step: &Step) -> usize
     }
 }
 
+#[inline(always)]
 fn of_colour(shape: &Shape, s: &SeatState, step: &Step) -> usize
     requires pass { pass_of_step step.now ≡ Pass.Colour }
     requires shaped { IsShape shape.now }
@@ -80,6 +83,7 @@ fn own_cell(s: &SeatState, v: u8) -> u32
     bits::cell_of(u64::from(variable(s, v))).number()
 }
 
+#[inline(always)]
 fn of_mutator(shape: &Shape, s: &SeatState, step: &Step) -> usize
     requires pass { pass_of_step step.now ≡ Pass.Mutator }
     requires shaped { IsShape shape.now }
@@ -111,6 +115,7 @@ fn part_at(shape: &Shape, c: Cell, part: u8) -> usize
     }
 }
 
+#[inline(always)]
 fn of_making(shape: &Shape, s: &SeatState, step: &Step) -> usize
     requires pass { pass_of_step step.now ≡ Pass.Making }
     requires shaped { IsShape shape.now }
@@ -125,6 +130,7 @@ fn of_making(shape: &Shape, s: &SeatState, step: &Step) -> usize
     }
 }
 
+#[inline(always)]
 fn of_world(step: &Step) -> usize
     requires { pass_of_step step.now ≡ Pass.World }
     ensures { (sh : Shape) (s : SeatState) → result ≡ address_of sh (place sh s step.now) }
@@ -135,6 +141,7 @@ fn of_world(step: &Step) -> usize
     }
 }
 
+#[inline(always)]
 fn of_sweep(shape: &Shape, s: &SeatState, step: &Step) -> usize
     requires pass { pass_of_step step.now ≡ Pass.Sweep }
     requires shaped { IsShape shape.now }
@@ -150,6 +157,7 @@ fn of_sweep(shape: &Shape, s: &SeatState, step: &Step) -> usize
     }
 }
 
+#[inline(always)]
 fn of_counters(shape: &Shape, s: &SeatState, step: &Step) -> usize
     requires pass { pass_of_step step.now ≡ Pass.Counters }
     requires shaped { IsShape shape.now }
@@ -169,6 +177,7 @@ fn of_counters(shape: &Shape, s: &SeatState, step: &Step) -> usize
     }
 }
 
+#[inline(always)]
 fn of_help(shape: &Shape, step: &Step) -> usize
     requires pass { pass_of_step step.now ≡ Pass.Help }
     requires shaped { IsShape shape.now }

@@ -11,6 +11,7 @@ use crate::seat::SeatState;
 use crate::{colour, help, making, mutator, packets, phase, season, sweep, world};
 
 /// Changes the seat's record, and answers what its word becomes, where the word was `old`.
+#[inline(always)]
 pub fn act(shape: &Shape, s: &mut SeatState, step: &Step, old: u64) -> u64
     requires { HasRoom s.old step.now }
     ensures word { result ≡ written shape.now s.old step.now old }
@@ -28,6 +29,7 @@ pub fn act(shape: &Shape, s: &mut SeatState, step: &Step, old: u64) -> u64
     }
 }
 
+#[inline(always)]
 fn of_packets(s: &mut SeatState, step: &Step, old: u64) -> u64
     requires pass { pass_of_step step.now ≡ Pass.Packets }
     requires room { HasRoom s.old step.now }
@@ -48,6 +50,7 @@ fn of_packets(s: &mut SeatState, step: &Step, old: u64) -> u64
     }
 }
 
+#[inline(always)]
 fn of_colour(s: &mut SeatState, step: &Step, old: u64) -> u64
     requires pass { pass_of_step step.now ≡ Pass.Colour }
     requires room { HasRoom s.old step.now }
@@ -68,6 +71,7 @@ fn of_colour(s: &mut SeatState, step: &Step, old: u64) -> u64
     }
 }
 
+#[inline(always)]
 fn of_mutator(s: &mut SeatState, step: &Step, old: u64) -> u64
     requires pass { pass_of_step step.now ≡ Pass.Mutator }
     requires room { HasRoom s.old step.now }
@@ -84,6 +88,7 @@ fn of_mutator(s: &mut SeatState, step: &Step, old: u64) -> u64
     }
 }
 
+#[inline(always)]
 fn of_making(shape: &Shape, s: &mut SeatState, step: &Step, old: u64) -> u64
     requires pass { pass_of_step step.now ≡ Pass.Making }
     requires room { HasRoom s.old step.now }
@@ -100,6 +105,7 @@ fn of_making(shape: &Shape, s: &mut SeatState, step: &Step, old: u64) -> u64
     }
 }
 
+#[inline(always)]
 fn of_world(s: &mut SeatState, step: &Step, old: u64) -> u64
     requires { pass_of_step step.now ≡ Pass.World }
     ensures word { (sh : Shape) → result ≡ written sh s.old step.now old }
@@ -117,6 +123,7 @@ fn of_world(s: &mut SeatState, step: &Step, old: u64) -> u64
     }
 }
 
+#[inline(always)]
 fn of_sweep(shape: &Shape, s: &mut SeatState, step: &Step, old: u64) -> u64
     requires { pass_of_step step.now ≡ Pass.Sweep }
     ensures word { result ≡ written shape.now s.old step.now old }
@@ -133,6 +140,7 @@ fn of_sweep(shape: &Shape, s: &mut SeatState, step: &Step, old: u64) -> u64
     }
 }
 
+#[inline(always)]
 fn of_counters(shape: &Shape, s: &mut SeatState, step: &Step, old: u64) -> u64
     requires { pass_of_step step.now ≡ Pass.Counters }
     ensures word { result ≡ written shape.now s.old step.now old }
@@ -148,6 +156,7 @@ fn of_counters(shape: &Shape, s: &mut SeatState, step: &Step, old: u64) -> u64
     }
 }
 
+#[inline(always)]
 fn of_help(s: &mut SeatState, step: &Step, old: u64) -> u64
     requires { pass_of_step step.now ≡ Pass.Help }
     ensures word { (sh : Shape) → result ≡ written sh s.old step.now old }

@@ -1,5 +1,16 @@
 // What holds of every state of the core and of every event: each law is the contract of a function that does nothing.
-ghost use Rattle.mark_core.specs.Laws.{StartMeetsPackets, EventsKeepPackets, CountShowsQuiet};
+ghost use Rattle.mark_core.specs.Laws.{StartIsCore, EventsKeepCore, StartMeetsPackets, EventsKeepPackets, CountShowsQuiet, ClosedMarksAll, FullIsReachable, ReachableStay, StartIsSwept, EventsKeepSwept, EventsKeepNotes, EventsKeepBounds};
+
+/// The state in which nothing has happened is sound: over all shapes and any number of seats.
+pub fn start_is_core()
+    ensures { StartIsCore }
+{}
+
+/// Each event that is allowed keeps a state sound, whichever seat acts and whatever the others have in hand. So every run is sound at each of its
+/// moments, in whatever order the steps of mutators, tracers, cleaners, sweepers and helpers come.
+pub fn events_keep_core()
+    ensures { EventsKeepCore }
+{}
 
 /// In the state in which nothing has happened every packet is in the empty pool, and the count says so: over all shapes and any number of seats.
 pub fn packets_start()
@@ -17,4 +28,40 @@ pub fn packets_are_kept()
 /// so one word tells that tracing is done, and no seat has to be asked.
 pub fn count_shows_quiet()
     ensures { CountShowsQuiet }
+{}
+
+/// A drain in which nothing is left to do (no packet and no seat has work, no card is dirty, no root names a white cell) has marked every reachable cell.
+pub fn closed_marks_all()
+    ensures { ClosedMarksAll }
+{}
+
+/// The heap is found full only where every cell is reachable.
+pub fn full_is_reachable()
+    ensures { FullIsReachable }
+{}
+
+/// No event takes the allocation bit of a cell that is reachable.
+pub fn reachable_stay()
+    ensures { ReachableStay }
+{}
+
+/// In the state in which nothing has happened there is nothing to sweep.
+pub fn swept_starts()
+    ensures { StartIsSwept }
+{}
+
+/// In Sweep and in Clear, a block that was handed out and that no seat has in hand any more has no mark: each event that is allowed keeps it.
+/// So once every block was handed out and put down no mark is left, and the cycle can end.
+pub fn swept_is_kept()
+    ensures { EventsKeepSwept }
+{}
+
+/// An event of one seat leaves each word for which another seat is steady: what that seat found there it may still count on.
+pub fn notes_are_kept()
+    ensures { EventsKeepNotes }
+{}
+
+/// While a seat helps, or knows that the world is stopped, the counters of cards and of blocks don't fall, unless this seat itself resets them.
+pub fn bounds_are_kept()
+    ensures { EventsKeepBounds }
 {}

@@ -181,7 +181,8 @@ pub fn store_new(shape: &Shape, s: &mut SeatState, c: Cell, part: u8, word: u64)
     word
 }
 
-fn used_bits(cache: Option<CacheState>) -> u64
+/// The bits of the used cells.
+pub fn used_bits(cache: Option<CacheState>) -> u64
     ensures { result ≡ used_bits_of cache }
 {
     match cache {

@@ -3,6 +3,7 @@ ghost use Rattle.std.specs.Prelude.{◌≡◌, ◌≤◌, if◌then◌else◌, i
 ghost use Rattle.std.specs.Option.{option_copied};
 ghost use Rattle.mark_core.specs.Kinds.{kind_of};
 ghost use Rattle.mark_core.specs.Shapes.{IsShape};
+ghost use Rattle.mark_core.specs.Laws.{IsCore};
 ghost use Rattle.mark_core.specs.Steps.{Core, failing_part, after_event, start_core, run_of, first_refused};
 
 use crate::addresses::address;
@@ -29,12 +30,14 @@ impl Model for CoreState {
     ghost use Rattle.std.specs.Prelude.{◌≤◌, vec_capacity};
     ghost use Rattle.mark_core.specs.Steps.{Core};
     ghost use Rattle.mark_core.specs.Bounds.{IsBounded};
+    ghost use Rattle.mark_core.specs.Laws.{IsCore};
 
     ghost Value = { Core };
 
     ghost view = { λ a. record { shape = a.shape; words = a.words.items; seats = a.seats.items } };
 
-    ghost invariant = { λ a. IsBounded (record { shape = a.shape; words = a.words.items; seats = a.seats.items }) × (41 ≤ vec_capacity a.seats) };
+    ghost invariant = { λ a. IsBounded (record { shape = a.shape; words = a.words.items; seats = a.seats.items }) × (41 ≤ vec_capacity a.seats)
+        × IsCore (record { shape = a.shape; words = a.words.items; seats = a.seats.items }) };
 }
 
 impl CoreState {
@@ -143,6 +146,14 @@ impl CoreState {
             i += 1;
         }
         Ok(())
+    }
+
+    /// The sizes of the heap. Whatever events led to the state, and in whichever order the seats acted, it is sound.
+    pub fn shape(&self) -> &Shape
+        ensures shape { result.now ≡ self.now.shape }
+        ensures sound { IsCore self.now }
+    {
+        &self.shape
     }
 
     /// What the seat with this number knows and has in hand; nothing where there is no such seat.

@@ -1,6 +1,14 @@
 //! Runs of events from the start, with what they are answered and what they leave.
 ghost use Rattle.mark_core.specs.Shapes.{IsShape};
 
+mod barrier;
+mod deferred;
+mod events;
+mod filled;
+mod helped;
+mod overflow;
+mod precise;
+
 use crate::kinds::{Cell, Event, Phase, Rule, Shape, Step};
 use crate::seat::SeatState;
 use crate::state::CoreState;
@@ -94,7 +102,7 @@ fn stopped() -> [Event; 3] {
     ]
 }
 
-/// A whole cycle of an empty heap follows.
+/// Seat 1 sweeps the one block, ends the cycle and resumes the world.
 fn swept() -> [Event; 9] {
     [
         by(1, Step::StorePhase { to: Phase::Sweep }),

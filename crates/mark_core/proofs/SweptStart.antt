@@ -1,0 +1,6 @@
+-- In the state in which nothing has happened there is nothing to sweep.
+use Rattle.std.proofs.lemmas.Bool.{false≢true}
+use Rattle.mark_core.specs.Laws.{StartIsSwept}
+
+pub swept-starts : StartIsSwept
+swept-starts sh n z = record { done_is_white = λ e. absurd (false≢true e) }

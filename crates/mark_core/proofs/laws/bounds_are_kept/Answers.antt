@@ -1,0 +1,5 @@
+use Rattle.mark_core.proofs.NotesBounds.{bounds-kept}
+use Rattle.mark_core.proofs.laws.bounds_are_kept.Goals as goal
+
+pub returns : goal.returns
+returns c = bounds-kept

@@ -1,0 +1,5 @@
+use Rattle.mark_core.proofs.Filling.{full-reachable}
+use Rattle.mark_core.proofs.laws.full_is_reachable.Goals as goal
+
+pub returns : goal.returns
+returns c = full-reachable

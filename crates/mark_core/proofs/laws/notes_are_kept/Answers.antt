@@ -1,0 +1,5 @@
+use Rattle.mark_core.proofs.NotesKept.{notes-kept}
+use Rattle.mark_core.proofs.laws.notes_are_kept.Goals as goal
+
+pub returns : goal.returns
+returns c = notes-kept

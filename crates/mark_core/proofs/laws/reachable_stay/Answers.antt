@@ -1,0 +1,5 @@
+use Rattle.mark_core.proofs.Staying.{reachable-stay}
+use Rattle.mark_core.proofs.laws.reachable_stay.Goals as goal
+
+pub returns : goal.returns
+returns c = reachable-stay

@@ -1,0 +1,5 @@
+use Rattle.mark_core.proofs.SweptKept.{swept-kept_by}
+use Rattle.mark_core.proofs.laws.swept_is_kept.Goals as goal
+
+pub returns : goal.returns
+returns c = swept-kept_by

@@ -1,0 +1,5 @@
+use Rattle.mark_core.proofs.SweptStart.{swept-starts}
+use Rattle.mark_core.proofs.laws.swept_starts.Goals as goal
+
+pub returns : goal.returns
+returns c = swept-starts
