@@ -27,6 +27,8 @@ small fields catalogue warehouses h few = record {
   first = small_one fields (unwrap_or catalogue []) h.first (omega arith);
   others = smalls fields warehouses h.others (omega arith);
   count = h.count;
+  most = h.most;
+  few = few;
 }
 
 first_of : (fields : ℕ) (c : Option (List (List Execution))) → option_map (λ (p : Parts). p.parts) (option_map (λ (p : List (List Execution)). record { number = 0; fields = fields; parts = p }) c) ≡ c
@@ -50,8 +52,8 @@ pub counted_sections : (fields : ℕ) (first : Option Parts) (others slice : Lis
     → first ≡ option_map (λ (p : List (List Execution)). record { number = 0; fields = fields; parts = p }) c → others ≡ numbered fields 1 ws → slice ≡ others
     → commands ≡ in_sections (counts AllOf) c ws → lines ≡ in_sections (counts Printing) c ws
     → parts ≡ fold (λ most p. max most (length p)) (max 1 (length (unwrap_or (option_map (λ (p : Parts). p.parts) first) []))) (map (λ (w : Parts). w.parts) slice)
-    → AreCounted (sections_shown fields first others) first others commands lines parts
-counted_sections fields first others slice c ws commands lines parts e f g x y z =
+    → AreSmall fields c ws → AreCounted (sections_shown fields first others) first others commands lines parts
+counted_sections fields first others slice c ws commands lines parts e f g x y z m =
     let s : Sections = record { fields = fields; catalogue = c; warehouses = ws } in
     let same : sections_shown fields first others ≡ s = shown fields first others c ws e f in
     let counted : AreCounted s first others commands lines parts = record {
@@ -62,5 +64,7 @@ counted_sections fields first others slice c ws commands lines parts e f g x y z
       parts_are =
           z ∙ ap (λ (l : List Parts). fold (λ most p. max most (length p)) (max 1 (length (unwrap_or (option_map (λ (p : Parts). p.parts) first) []))) (map (λ (w : Parts). w.parts) l)) g
           ∙ ap (λ (t : Sections). fold (λ most p. max most (length p)) (max 1 (length (unwrap_or t.catalogue []))) t.warehouses) same ∙ seasons_are s;
+      most = m.most;
+      few = omega (arith, x, executed_is s, m.few);
     } in
     subst (λ (t : Sections). AreCounted t first others commands lines parts) (sym same) counted

@@ -19,7 +19,7 @@ use Rattle.gc_script.specs.declared.block.Kind.TheVariants.{All as AllOf, Printi
 use Rattle.gc_script.specs.declared.progress.Progress.{Progress}
 use Rattle.gc_script.proofs.History.{executed_outside}
 use Rattle.gc_script.proofs.Totals.{Agree, total_is, sections_total}
-use Rattle.gc_script.proofs.Ranges.{AllFit, AreRanged, ranged, fit_push, fit_catalogue, fit_warehouses}
+use Rattle.gc_script.proofs.Ranges.{AllFit, AreRanged, ranged, sane, fit_push, fit_catalogue, fit_warehouses}
 use Rattle.gc_script.proofs.Seasons.{all_few, few_warehouses_all}
 
 printing : (catalogue : List (List ℕ)) → Agree is_printing (counts Printing) catalogue
@@ -68,6 +68,7 @@ legal version catalogue e h a f =
       first = record { range = fit_catalogue fields (open_section e) (open_parts catalogue e) (closed_catalogue catalogue e) parts r.first; seasons = few.0 };
       others = λ k d l. record { range = warehouses k d l; seasons = few.1 k d l };
       count = few_warehouses_all version catalogue e h;
+      most = (sane version e h).fields;
     }
 
 whole_content : (version : ℕ) (catalogue : List (List ℕ)) (e : List Statement) → AreClear version e → Agrees catalogue e → IsWhole (context_of version e) (content_of catalogue e)

@@ -1,5 +1,5 @@
 -- What holds of a section that was read.
-use Rattle.std.specs.Prelude.{ℕ, ◌≡◌, ◌≤◌, ◌+◌, List, [], ◌∷◌, length, map, sum_by, count_by, Bool, Option, Some, None, unwrap_or, option_map}
+use Rattle.std.specs.Prelude.{ℕ, ◌≡◌, ◌≤◌, ◌+◌, List, [], ◌∷◌, length, map, sum_by, count_by, Bool, true, Option, Some, None, unwrap_or, option_map}
 use Rattle.std.specs.List.{All}
 use Rattle.plain_heap.specs.PlainStep.{IsInRange}
 use Rattle.plain_heap.specs.Sections.{Execution, Sections, Parts, joined, section_of, warehouse_sections, made_by, printed_by, executed_total, printed_total, seasons}
@@ -17,6 +17,14 @@ pub record IsCounted (fields : ℕ) (parts : List (List Execution)) (commands ma
   pub made_is : made ≡ made_by (joined parts)
   pub printed_is : printed ≡ printed_by (joined parts)
 
+-- how many commands of these parts pass a test
+abbrev pub in_parts : (Execution → Bool) → List (List Execution) → ℕ
+in_parts test parts = count_by test (joined parts)
+
+-- how many commands of these sections pass a test
+abbrev pub in_sections : (Execution → Bool) → Option (List (List Execution)) → List (List (List Execution)) → ℕ
+in_sections test catalogue warehouses = in_parts test (unwrap_or catalogue []) + sum_by (in_parts test) warehouses
+
 -- a section without a limit on its commands
 pub record IsLegal (fields : ℕ) (parts : List (List Execution)) : Type 0 where
   pub range : All (λ e. IsInRange fields e.op) (joined parts)
@@ -27,19 +35,14 @@ pub record AreLegal (fields : ℕ) (catalogue : Option (List (List Execution))) 
   pub first : IsLegal fields (unwrap_or catalogue [])
   pub others : All (IsLegal fields) warehouses
   pub count : length warehouses ≤ 32
+  pub most : fields ≤ 16
 
 pub record AreSmall (fields : ℕ) (catalogue : Option (List (List Execution))) (warehouses : List (List (List Execution))) : Type 0 where
   pub first : IsSmall fields (unwrap_or catalogue [])
   pub others : All (IsSmall fields) warehouses
   pub count : length warehouses ≤ 32
-
--- how many commands of these parts pass a test
-abbrev pub in_parts : (Execution → Bool) → List (List Execution) → ℕ
-in_parts test parts = count_by test (joined parts)
-
--- how many commands of these sections pass a test
-abbrev pub in_sections : (Execution → Bool) → Option (List (List Execution)) → List (List (List Execution)) → ℕ
-in_sections test catalogue warehouses = in_parts test (unwrap_or catalogue []) + sum_by (in_parts test) warehouses
+  pub most : fields ≤ 16
+  pub few : in_sections (λ e. true) catalogue warehouses ≤ 2000000
 
 -- the sections of these parts, numbered from n on
 abbrev pub numbered : ℕ → ℕ → List (List (List Execution)) → List Parts
@@ -58,10 +61,12 @@ abbrev pub is_catalogue : Sections → Option Parts → Type 0
 is_catalogue s None = Unit {0}
 is_catalogue s (Some c) = c ≡ section_of s 0
 
--- the sections are numbered, and counted
+-- the sections are numbered, counted and few
 pub record AreCounted (s : Sections) (first : Option Parts) (others : List Parts) (commands lines parts : ℕ) : Type 0 where
   pub first_is : is_catalogue s first
   pub others_are : others ≡ warehouse_sections s
   pub commands_are : commands ≡ executed_total s
   pub lines_are : lines ≡ printed_total s
   pub parts_are : parts ≡ seasons s
+  pub most : s.fields ≤ 16
+  pub few : executed_total s ≤ 2000000

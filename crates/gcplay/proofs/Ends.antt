@@ -1,121 +1,66 @@
--- How a script's bytes are answered.
-use Rattle.std.proofs.Common.{◌≡◌, ◌≤◌, ◌<◌, ◌⊎◌, ℕ, ◌+◌, List, [], ◌∷◌, length, map, refl, sym, ◌∙◌, ap, subst, inl, inr, Bool, true, false, cond, arith, nat_lt}
-use Rattle.std.proofs.lemmas.Bool.Decides.{nat_tests}
-use Rattle.std.specs.Prelude.{Option, Some, None, Result, Ok, Err, ◌&&◌, nat_le, is_none}
-use Rattle.plain_heap.specs.Sections.{Execution, Sections, parts_of, joined, made_by, warehouse_sections, section_of}
-use Rattle.gc_script.specs.Faults.{Fault, TooLong}
-use Rattle.gc_script.specs.ScriptText.{first_foreign}
-use Rattle.gc_script.specs.Script.{Script, script, of_text}
-use Rattle.gc_script.specs.Shown.{fault_of}
-use Rattle.gc_script.specs.Finished.{is_refused}
-use Rattle.gc_script.specs.declared.script.ScriptError.{ScriptError}
-use Rattle.gc_script.specs.declared.script.ScriptError.TheVariants as errors
-use Rattle.play_report.specs.Text.{error_text, text_of_fault, report_text, IsReportText}
-use Rattle.play_report.specs.Report.{Outcome, outcome_of, survivor_of}
-use Rattle.play_report.specs.declared.report.Report.{Report}
-use Rattle.gcplay.specs.Form.{is_played, are_played, IsPlayText, IsFaultText}
-use Rattle.gcplay.specs.Playing.{IsPlayable, IsReport, places_of}
+-- How a command ends, once its text was handed to the sink.
+use Rattle.std.proofs.Common.{◌≡◌, ℕ, List, sym, subst}
+use Rattle.std.specs.Prelude.{Option, Result, Ok, Err}
+use Rattle.std.specs.Io.KnownBytes.{Appends}
+use Rattle.play_report.specs.Causes.{Writes}
+use Rattle.gcplay.specs.Ending.{code_of, after, TextEnds, CommandEnds}
+use Rattle.gcplay.specs.declared.status.Status.{Status}
+use Rattle.gcplay.specs.declared.status.Status.TheVariants as ends
 
-left : (a b : Bool) → (a && b) ≡ true → a ≡ true
-left true b e = refl
-left false b e = e
+-- a status that comes with a text of its own
+abbrev pub HasText : Status → Type 0
+HasText ends.Done = Unit {0}
+HasText ends.Usage = Unit {0}
+HasText ends.ScriptFault = Unit {0}
+HasText ends.Full = Unit {0}
+HasText ends.ReadFault = ⊥
+HasText ends.WriteFault = ⊥
+HasText ends.Memory = ⊥
 
-right : (a b : Bool) → (a && b) ≡ true → b ≡ true
-right true b e = e
-right false b e = cc
+written : (A : ℕ → List ℕ → Type 0) (status : Status) (text : List ℕ) (old new : Option (List ℕ)) (before now : ℕ) → HasText status → A (code_of status) text
+    → Appends old new text × (now ≡ before) → TextEnds A status old new before now
+written A ends.Done text old new before now has a p = ((text, a, p.0), p.1)
+written A ends.Usage text old new before now has a p = ((text, a, p.0), p.1)
+written A ends.ScriptFault text old new before now has a p = ((text, a, p.0), p.1)
+written A ends.Full text old new before now has a p = ((text, a, p.0), p.1)
+written A ends.ReadFault text old new before now has a p = absurd has
+written A ends.WriteFault text old new before now has a p = absurd has
+written A ends.Memory text old new before now has a p = absurd has
 
-at_most : (m n : ℕ) → nat_le m n ≡ true → m ≤ n
-at_most m n e = grind (arith, nat_tests)
+after_text : {T E : Type 0} (A : ℕ → List ℕ → Type 0) (status : Status) (r : Result T E) (text : List ℕ) (old new : Option (List ℕ)) (before now : ℕ) → HasText status
+    → A (code_of status) text → Writes r old new before now text → TextEnds A (after status r) old new before now
+after_text A status (Ok u) text old new before now has a p = written A status text old new before now has a p
+after_text A status (Err e) text old new before now has a p = ((text, (code_of status, a), p.0), p.1)
 
-none_is : (o : Option (List (List Execution))) → is_none o ≡ true → o ≡ None
-none_is None e = refl
-none_is (Some x) e = cc
+-- the text of a status was handed to the sink
+pub text_ends : {T E : Type 0} (A : ℕ → List ℕ → Type 0) (status result : Status) (r : Result T E) (text : List ℕ) (old new : Option (List ℕ)) (before now : ℕ)
+    → result ≡ after status r → HasText status → A (code_of status) text → Writes r old new before now text → TextEnds A result old new before now
+text_ends A status result r text old new before now is has a p =
+    subst (λ (s : Status). TextEnds A s old new before now) (sym is) (after_text A status r text old new before now has a p)
 
--- what is known of warehouses that are played
-pub record AreFew (warehouses : List (List (List Execution))) (parts : List (List Execution)) (cells : ℕ) : Type 0 where
-  pub few : length warehouses ≤ 1
-  pub one_part : length parts ≤ 1
-  pub made : made_by (joined parts) ≤ cells
+-- texts that answer one thing and another
+pub other_ends : (A B : ℕ → List ℕ → Type 0) (status : Status) (old new : Option (List ℕ)) (before now : ℕ) → ((n : ℕ) (text : List ℕ) → A n text → B n text)
+    → TextEnds A status old new before now → TextEnds B status old new before now
+other_ends A B ends.Done old new before now f ((text, a, p), e) = ((text, f 0 text a, p), e)
+other_ends A B ends.Usage old new before now f ((text, a, p), e) = ((text, f 1 text a, p), e)
+other_ends A B ends.ScriptFault old new before now f ((text, a, p), e) = ((text, f 2 text a, p), e)
+other_ends A B ends.Full old new before now f ((text, a, p), e) = ((text, f 3 text a, p), e)
+other_ends A B ends.ReadFault old new before now f h = absurd h
+other_ends A B ends.WriteFault old new before now f ((text, (n, a), p), rose) = ((text, (n, f n text a), p), rose)
+other_ends A B ends.Memory old new before now f h = h
 
-are_few : (fields cells : ℕ) (catalogue : Option (List (List Execution))) (warehouses : List (List (List Execution)))
-    → are_played cells (warehouse_sections (record { fields = fields; catalogue = catalogue; warehouses = warehouses })) ≡ true
-    → AreFew warehouses (parts_of (record { fields = fields; catalogue = catalogue; warehouses = warehouses }) 1) cells
-are_few fields cells catalogue [] e = record { few = omega arith; one_part = omega arith; made = omega arith }
-are_few fields cells catalogue (parts ∷ []) e = record {
-  few = omega arith;
-  one_part = at_most (length parts) 1 (left (nat_le (length parts) 1) _ e);
-  made = at_most (made_by (joined parts)) cells (left (nat_le (made_by (joined parts)) cells) _ (right (nat_le (length parts) 1) _ e));
-}
-are_few fields cells catalogue (parts ∷ others ∷ more) e = cc
+-- a command whose source stays as it was, or did not fail
+pub command_ends : (A : ℕ → List ℕ → Type 0) (status : Status) (reads reads_now : ℕ) (old new : Option (List ℕ)) (before now : ℕ) → reads_now ≡ reads
+    → TextEnds A status old new before now → CommandEnds A status reads reads_now old new before now
+command_ends A ends.Done reads reads_now old new before now e h = (h, e)
+command_ends A ends.Usage reads reads_now old new before now e h = (h, e)
+command_ends A ends.ScriptFault reads reads_now old new before now e h = (h, e)
+command_ends A ends.Full reads reads_now old new before now e h = (h, e)
+command_ends A ends.ReadFault reads reads_now old new before now e h = absurd h
+command_ends A ends.WriteFault reads reads_now old new before now e h = (h, e)
+command_ends A ends.Memory reads reads_now old new before now e h = (h, e)
 
--- a script that is played so far can be played
-pub playable : (s : Sections) → is_played 4096 s ≡ true → IsPlayable s 4096
-playable s e =
-    let later : (nat_le 1 s.fields && (nat_le s.fields 16 && are_played 4096 (warehouse_sections s))) ≡ true = right (is_none s.catalogue) _ e in
-    let last : (nat_le s.fields 16 && are_played 4096 (warehouse_sections s)) ≡ true = right (nat_le 1 s.fields) _ later in
-    let few : AreFew s.warehouses (parts_of s 1) 4096 = are_few s.fields 4096 s.catalogue s.warehouses (right (nat_le s.fields 16) _ last) in
-    record {
-      no_catalogue = none_is s.catalogue (left (is_none s.catalogue) _ e);
-      few_warehouses = few.few;
-      one_part = few.one_part;
-      fields = at_most 1 s.fields (left (nat_le 1 s.fields) _ later);
-      few_fields = at_most s.fields 16 (left (nat_le s.fields 16) _ last);
-      made = few.made;
-      few_cells = omega arith;
-    }
-
-short : (b : Bool) (x : Result Script Fault) (s : Script) → cond b (Err TooLong) x ≡ Ok s → b ≡ false
-short true x s e = cc
-short false x s e = refl
-
--- a script isn't too long
-pub script_is_short : (bytes : List ℕ) (s : Script) → script bytes ≡ Ok s → length bytes ≤ 1048576
-script_is_short bytes s e =
-    let test : nat_lt 1048576 (length bytes) ≡ false = short (nat_lt 1048576 (length bytes)) (of_text (first_foreign bytes) bytes) s e in
-    grind (arith, nat_tests)
-
--- what is too long has one fault
-pub long_fault : (bytes : List ℕ) → 1048577 ≤ length bytes → script bytes ≡ Err TooLong
-long_fault bytes long =
-    let test : nat_lt 1048576 (length bytes) ≡ true = grind (arith, nat_tests) in
-    ap (λ (b : Bool). cond b (Err TooLong) (of_text (first_foreign bytes) bytes)) test
-
-told : (o : Option Fault) (bytes : List ℕ) → (o ≡ None → ⊥) → is_refused o (script bytes) → IsFaultText bytes (text_of_fault o)
-told None bytes some h = absurd (some refl)
-told (Some fault) bytes some h = inl (fault, h, refl)
-
-is_fault : (e : ScriptError) → (e ≡ errors.OutOfMemory → ⊥) → fault_of e ≡ None → ⊥
-is_fault errors.OutOfMemory memory e = memory refl
-is_fault (errors.NotAscii offset) memory e = cc
-is_fault errors.BadHeader memory e = cc
-is_fault (errors.BadLine line) memory e = cc
-is_fault (errors.UnknownName line) memory e = cc
-is_fault (errors.TooManyNames line) memory e = cc
-is_fault (errors.NumberTooLarge line) memory e = cc
-is_fault (errors.RepeatOpen line) memory e = cc
-is_fault (errors.TooManySections line) memory e = cc
-is_fault errors.TooManyCommands memory e = cc
-is_fault errors.TooManyLines memory e = cc
-is_fault errors.TooLong memory e = cc
-is_fault errors.ConvertedTooLong memory e = cc
-is_fault (errors.TooManySeasons line) memory e = cc
-
--- the text of the reader's error is that of the bytes' fault
-pub fault_text_of : (e : ScriptError) (bytes : List ℕ) → (e ≡ errors.OutOfMemory → ⊥) → is_refused (fault_of e) (script bytes) → IsFaultText bytes (error_text e)
-fault_text_of e bytes memory h = told (fault_of e) bytes (is_fault e memory) h
-
--- the text of a report is one of the bytes' play
-pub play_text : (bytes : List ℕ) (s : Script) (r : Report) → script bytes ≡ Ok s → is_played 4096 s.sections ≡ true → IsReport s.sections 4096 r
-    → IsPlayText bytes (report_text (map outcome_of r.parts.items) (map survivor_of r.survivors.items) false)
-play_text bytes s r ok played report = (
-  s,
-  ok,
-  played,
-  record {
-    survivors = map survivor_of r.survivors.items;
-    reached = report.survivors;
-    places = places_of r;
-    placed = tt;
-    written = ap (λ (os : List Outcome). report_text os (map survivor_of r.survivors.items) false) report.outcomes;
-  },
-)
+-- a script that was read ends as its source does
+pub read_ends : {X E : Type 0} (A : Result X E → ℕ → List ℕ → Type 0) (r : Result X E) (s : X) (status : Status) (old new : Option (List ℕ)) (before now : ℕ) → r ≡ Ok s
+    → TextEnds (A (Ok s)) status old new before now → TextEnds (A r) status old new before now
+read_ends {X = X} {E = E} A r s status old new before now is h = subst (λ (x : Result X E). TextEnds (A x) status old new before now) (sym is) h

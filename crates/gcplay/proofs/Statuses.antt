@@ -1,27 +1,49 @@
--- The program's status.
-use Rattle.std.proofs.Common.{◌≡◌, ◌⊎◌, ℕ, List, [], ◌∷◌, refl, inl, arith}
-use Rattle.std.specs.Prelude.{Option, Some, None, IfSome, Contains}
-use Rattle.play_report.specs.Text.{usage_text}
-use Rattle.gcplay.specs.Form.{MayBeText}
-use Rattle.gcplay.specs.Ending.{code_of, WritesFront, RefuseEnds}
+-- The program's status, by how its command ended.
+use Rattle.std.proofs.Common.{◌≡◌, ◌≤◌, ◌<◌, ◌-◌, ◌^◌, ◌⊎◌, ℕ, List, refl, sym, subst, inl, inr, arith}
+use Rattle.std.specs.Prelude.{Option, None}
+use Rattle.play_report.specs.Causes.{Rose}
+use Rattle.gcplay.specs.Words.{Command}
+use Rattle.gcplay.specs.Promise.{IsAnswer, EndsWith}
+use Rattle.gcplay.specs.Ending.{code_of, CommandEnds, WritesSome}
 use Rattle.gcplay.specs.declared.status.Status.{Status}
 use Rattle.gcplay.specs.declared.status.Status.TheVariants as ends
+use Rattle.gcplay.proofs.Promised.{ends_with, usage_is_refusal}
 
-pub is_status : (status : Status) → Contains (0 ∷ 1 ∷ 2 ∷ 4 ∷ 5 ∷ 6 ∷ []) (code_of status)
-is_status ends.Done = (0, omega arith, refl)
-is_status ends.Usage = (1, omega arith, refl)
-is_status ends.ScriptFault = (2, omega arith, refl)
-is_status ends.ReadFault = (3, omega arith, refl)
-is_status ends.WriteFault = (4, omega arith, refl)
-is_status ends.Memory = (5, omega arith, refl)
+not_risen : (before now : ℕ) → before < 2 ^ 64 - 1 → now ≡ before → Rose before now → ⊥
+not_risen before now small same (least, rose) = grind (arith, rose)
 
--- where the sink failed, a front of the usage line was written
-pub usage_front : (status : Status) (old new left : Option (List ℕ)) (before now : ℕ) → RefuseEnds status old new before now → code_of status ≡ 5
-    → IfSome left (λ bytes. WritesFront old new (λ text. (text ≡ usage_text) ⊎ MayBeText bytes text))
-usage_front status old new None before now h e = tt
-usage_front ends.Usage old new (Some bytes) before now h e = absurd (omega arith)
-usage_front ends.WriteFault old new (Some bytes) before now h e = (usage_text, inl refl, h.0)
-usage_front ends.Done old new (Some bytes) before now h e = absurd h
-usage_front ends.ScriptFault old new (Some bytes) before now h e = absurd h
-usage_front ends.ReadFault old new (Some bytes) before now h e = absurd h
-usage_front ends.Memory old new (Some bytes) before now h e = absurd h
+module _ (reads reads_now : ℕ) (old new : Option (List ℕ)) (before now : ℕ) where
+  written_at : (A : ℕ → List ℕ → Type 0) (status : Status) → CommandEnds A status reads reads_now old new before now → code_of status ≤ 3 → WritesSome old new (A (code_of status))
+  written_at A ends.Done h l = h.0.0
+  written_at A ends.Usage h l = h.0.0
+  written_at A ends.ScriptFault h l = h.0.0
+  written_at A ends.Full h l = h.0.0
+  written_at A ends.ReadFault h l = absurd (omega arith)
+  written_at A ends.WriteFault h l = absurd (omega arith)
+  written_at A ends.Memory h l = absurd (omega arith)
+
+  -- a text of the status was written
+  pub text_written : (A : ℕ → List ℕ → Type 0) (status : Status) (n : ℕ) → n ≡ code_of status → CommandEnds A status reads reads_now old new before now → n ≤ 3 → WritesSome old new (A n)
+  text_written A status n is h =
+      subst (λ (k : ℕ). k ≤ 3 → WritesSome old new (A k)) (sym is) (written_at A status h)
+
+  module _ (asked : Option Command) (left : Option (List ℕ)) where
+    -- the status 1 comes to words that ask for nothing
+    pub usage_comes : (status : Status) (n : ℕ) → n ≡ code_of status → CommandEnds (IsAnswer asked left) status reads reads_now old new before now → n ≡ 1 → asked ≡ None
+    usage_comes status n is h one =
+        let some = subst (λ (k : ℕ). WritesSome old new (IsAnswer asked left k)) one (text_written (IsAnswer asked left) status n is h (omega (arith, one))) in
+        usage_is_refusal asked left some.0 some.1
+
+    module _ (reads_small : reads < 2 ^ 64 - 1) (writes_small : before < 2 ^ 64 - 1) (reads_same : reads_now ≡ reads) (writes_same : now ≡ before) where
+      complete_at : (status : Status) → CommandEnds (IsAnswer asked left) status reads reads_now old new before now → (code_of status ≡ 6) ⊎ EndsWith asked left (code_of status)
+      complete_at ends.Done h = inr (ends_with asked left 0 h.0.0.0 h.0.0.1)
+      complete_at ends.Usage h = inr (ends_with asked left 1 h.0.0.0 h.0.0.1)
+      complete_at ends.ScriptFault h = inr (ends_with asked left 2 h.0.0.0 h.0.0.1)
+      complete_at ends.Full h = inr (ends_with asked left 3 h.0.0.0 h.0.0.1)
+      complete_at ends.ReadFault h = absurd (not_risen reads reads_now reads_small reads_same h.2)
+      complete_at ends.WriteFault h = absurd (not_risen before now writes_small writes_same h.0.1)
+      complete_at ends.Memory h = inl refl
+
+      -- where nothing failed
+      pub complete : (status : Status) (n : ℕ) → n ≡ code_of status → CommandEnds (IsAnswer asked left) status reads reads_now old new before now → (n ≡ 6) ⊎ EndsWith asked left n
+      complete status n is h = subst (λ (k : ℕ). (k ≡ 6) ⊎ EndsWith asked left k) (sym is) (complete_at status h)

@@ -1,20 +1,28 @@
 -- How the program ends, and why.
-use Rattle.std.specs.Prelude.{ℕ, ◌≡◌, List, Option, IfSome}
+use Rattle.std.specs.Prelude.{ℕ, ◌≡◌, ◌≤◌, List, Option, Some, None, Result, Ok, Err}
 use Rattle.std.specs.Io.KnownBytes.{Appends, Keeps}
+use Rattle.gc_script.specs.Faults.{Fault}
 use Rattle.play_report.specs.Causes.{Rose, Grows}
-use Rattle.play_report.specs.Text.{usage_text}
+use Rattle.play_report.specs.Text.{fault_text}
+use Rattle.gcplay.specs.Playing.{AreInRange}
+use Rattle.gcplay.specs.declared.command_line.asked.Asked.{Asked}
+use Rattle.gcplay.specs.declared.command_line.asked.Asked.TheVariants as asked
 use Rattle.gcplay.specs.declared.status.Status.{Status}
 use Rattle.gcplay.specs.declared.status.Status.TheVariants as ends
-use Rattle.gcplay.specs.Form.{IsPlayText, IsFaultText, MayBeText}
-use Rattle.gcplay.specs.Reading.{IsSpent}
 
 abbrev pub code_of : Status → ℕ
 code_of ends.Done = 0
 code_of ends.Usage = 1
 code_of ends.ScriptFault = 2
+code_of ends.Full = 3
 code_of ends.ReadFault = 4
 code_of ends.WriteFault = 5
 code_of ends.Memory = 6
+
+-- the status after a text was handed to the sink
+abbrev pub after : {T E : Type 0} → Status → Result T E → Status
+after status (Ok u) = status
+after status (Err e) = ends.WriteFault
 
 -- some text was written, for which P holds
 abbrev pub WritesSome : Option (List ℕ) → Option (List ℕ) → (List ℕ → Type 0) → Type 0
@@ -24,36 +32,30 @@ WritesSome old new P = (text : List ℕ) × P text × Appends old new text
 abbrev pub WritesFront : Option (List ℕ) → Option (List ℕ) → (List ℕ → Type 0) → Type 0
 WritesFront old new P = (text : List ℕ) × P text × Grows old new text
 
--- how a script's bytes are answered: the text is theirs, or a front of it and the sink failed, or memory ran out
-abbrev pub BytesEnd : Status → List ℕ → Option (List ℕ) → Option (List ℕ) → ℕ → ℕ → Type 0
-BytesEnd ends.Done bytes old new before now = WritesSome old new (IsPlayText bytes) × (now ≡ before)
-BytesEnd ends.ScriptFault bytes old new before now = WritesSome old new (IsFaultText bytes) × (now ≡ before)
-BytesEnd ends.WriteFault bytes old new before now = WritesFront old new (MayBeText bytes) × Rose before now
-BytesEnd ends.Memory bytes old new before now = Keeps old new × (now ≡ before)
-BytesEnd ends.Usage bytes old new before now = ⊥
-BytesEnd ends.ReadFault bytes old new before now = ⊥
+-- how a command ends that has all its input, where `Answers` says which texts a status may have: such a text was written,
+-- or a front of one and the sink failed, or memory ran out and nothing was written
+abbrev pub TextEnds : (ℕ → List ℕ → Type 0) → Status → Option (List ℕ) → Option (List ℕ) → ℕ → ℕ → Type 0
+TextEnds Answers ends.Done old new before now = WritesSome old new (Answers 0) × (now ≡ before)
+TextEnds Answers ends.Usage old new before now = WritesSome old new (Answers 1) × (now ≡ before)
+TextEnds Answers ends.ScriptFault old new before now = WritesSome old new (Answers 2) × (now ≡ before)
+TextEnds Answers ends.Full old new before now = WritesSome old new (Answers 3) × (now ≡ before)
+TextEnds Answers ends.ReadFault old new before now = ⊥
+TextEnds Answers ends.WriteFault old new before now = WritesFront old new (λ text. (status : ℕ) × Answers status text) × Rose before now
+TextEnds Answers ends.Memory old new before now = Keeps old new × (now ≡ before)
 
--- the bytes that a source tells, what it has left, and its count of faults; the bytes that a sink tells, and its count
-pub record Outside : Type 0 where
-  pub left : Option (List ℕ)
-  pub reads : ℕ
-  pub written : Option (List ℕ)
-  pub writes : ℕ
+-- the text of a fault, where there is one
+abbrev pub IsFaultAnswer : Option Fault → ℕ → List ℕ → Type 0
+IsFaultAnswer None status text = ⊥
+IsFaultAnswer (Some fault) status text = (status ≡ 2) × (text ≡ fault_text fault)
 
--- how `run` ends
-abbrev pub RunEnds : Status → Outside → Outside → Type 0
-RunEnds ends.Done old new =
-    IfSome old.left (λ bytes. WritesSome old.written new.written (IsPlayText bytes) × IsSpent bytes new.left) × (new.reads ≡ old.reads) × (new.writes ≡ old.writes)
-RunEnds ends.ScriptFault old new =
-    IfSome old.left (λ bytes. WritesSome old.written new.written (IsFaultText bytes) × IsSpent bytes new.left) × (new.reads ≡ old.reads) × (new.writes ≡ old.writes)
-RunEnds ends.WriteFault old new =
-    IfSome old.left (λ bytes. WritesFront old.written new.written (MayBeText bytes)) × (new.reads ≡ old.reads) × Rose old.writes new.writes
-RunEnds ends.ReadFault old new = Keeps old.written new.written × Rose old.reads new.reads × (new.writes ≡ old.writes)
-RunEnds ends.Memory old new = Keeps old.written new.written × (new.reads ≡ old.reads) × (new.writes ≡ old.writes)
-RunEnds ends.Usage old new = ⊥
+-- how a command ends: the source failed and nothing was written, or its count stayed. The counts of the source come first.
+abbrev pub CommandEnds : (ℕ → List ℕ → Type 0) → Status → ℕ → ℕ → Option (List ℕ) → Option (List ℕ) → ℕ → ℕ → Type 0
+CommandEnds Answers ends.ReadFault reads reads_now old new before now = Keeps old new × (now ≡ before) × Rose reads reads_now
+CommandEnds Answers status reads reads_now old new before now = TextEnds Answers status old new before now × (reads_now ≡ reads)
 
--- how words end that ask for nothing
-abbrev pub RefuseEnds : Status → Option (List ℕ) → Option (List ℕ) → ℕ → ℕ → Type 0
-RefuseEnds ends.Usage old new before now = Appends old new usage_text × (now ≡ before)
-RefuseEnds ends.WriteFault old new before now = Grows old new usage_text × Rose before now
-RefuseEnds status old new before now = ⊥
+-- the values of a command's options are in their ranges
+abbrev pub IsInRange : Asked → Type 0
+IsInRange (asked.Run options) = AreInRange options
+IsInRange (asked.Gen number size) = (1 ≤ size) × (size ≤ 20000)
+IsInRange (asked.Load options number size) = AreInRange options × (1 ≤ size) × (size ≤ 20000)
+IsInRange asked.Convert = Unit {0}

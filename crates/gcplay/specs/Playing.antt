@@ -1,12 +1,15 @@
 -- What a play answers.
-use Rattle.std.specs.Prelude.{ℕ, ◌≡◌, ◌≤◌, List, [], ◌∷◌, length, map, None}
-use Rattle.plain_heap.specs.Sections.{Execution, Sections, parts_of, joined, made_by}
+use Rattle.std.specs.Prelude.{ℕ, ◌≡◌, ◌≤◌, ◌%◌, List, map, Result, Ok, Err}
+use Rattle.plain_heap.specs.Sections.{Sections}
 use Rattle.plain_heap.specs.PlainRun.{last_heaps}
 use Rattle.plain_heap.specs.Paths.{AreSurvivors}
-use Rattle.plain_heap.specs.Placement.{IsPlaced}
+use Rattle.plain_heap.specs.Placement.{IsPlaced, IsFilled}
 use Rattle.play_report.specs.Report.{outcome_of, survivor_of}
 use Rattle.play_report.specs.Text.{outcomes, placed_count}
 use Rattle.play_report.specs.declared.report.Report.{Report}
+use Rattle.gcplay.specs.declared.options.Options.{Options}
+use Rattle.gcplay.specs.declared.play.PlayError.{PlayError}
+use Rattle.gcplay.specs.declared.play.PlayError.TheVariants as ends
 
 -- the cells of each section's objects
 abbrev pub places_of : Report → List (List ℕ)
@@ -19,19 +22,16 @@ pub record IsReport (s : Sections) (cells : ℕ) (r : Report) : Type 0 where
   pub placed : IsPlaced s cells (places_of r)
   pub few : placed_count (map outcome_of r.parts.items) ≤ 2000000
 
--- a script without a catalogue, and with no warehouse or one of these parts
-abbrev pub no_section : ℕ → Sections
-no_section fields = record { fields = fields; catalogue = None; warehouses = [] }
+-- a report, or positions at which the reachable objects fill all cells; nothing is said of want of memory
+abbrev pub PlayAnswers : Result Report PlayError → Sections → ℕ → Type 0
+PlayAnswers (Ok r) s cells = IsReport s cells r
+PlayAnswers (Err (ends.Full p)) s cells = IsFilled s cells p.section p.done.items
+PlayAnswers (Err ends.OutOfMemory) s cells = Unit {0}
 
-abbrev pub one_section : ℕ → List (List Execution) → Sections
-one_section fields parts = record { fields = fields; catalogue = None; warehouses = parts ∷ [] }
-
--- what is played so far: no catalogue, at most one warehouse, in one part, and few enough objects that each has a cell of its own
-pub record IsPlayable (s : Sections) (cells : ℕ) : Type 0 where
-  pub no_catalogue : s.catalogue ≡ None
-  pub few_warehouses : length s.warehouses ≤ 1
-  pub one_part : length (parts_of s 1) ≤ 1
-  pub fields : 1 ≤ s.fields
-  pub few_fields : s.fields ≤ 16
-  pub made : made_by (joined (parts_of s 1)) ≤ cells
-  pub few_cells : cells ≤ 65536
+-- each option is in its range
+pub record AreInRange (o : Options) : Type 0 where
+  pub cells : (64 ≤ o.cells) × (o.cells ≤ 65536) × (o.cells % 64 ≡ 0)
+  pub workers : (1 ≤ o.workers) × (o.workers ≤ 32)
+  pub tracers : o.tracers ≤ 8
+  pub packets : (2 ≤ o.packets) × (o.packets ≤ 1024)
+  pub entries : (2 ≤ o.entries) × (o.entries ≤ 512)

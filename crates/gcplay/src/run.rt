@@ -1,132 +1,99 @@
 //! All that the program does.
-ghost use Rattle.std.specs.Prelude.{◌≡◌, ◌<◌, ◌≤◌, ◌-◌, ◌^◌, ◌⊎◌, ◌∷◌, [], List, ℕ, map, length, Contains, IfSome, Some, Ok, ◌≢◌, true, false};
+//!
+//! - `script`: the command `run`. `made`: `gen`. `loaded`: `load`. `converted`: `convert`.
+//! - `faulty`: a script with a fault.
+//!
+//! What each may write is `IsAnswer` in `specs/Promise.antt`, by the status.
+ghost use Rattle.std.specs.Prelude.{ℕ, ◌≡◌, ◌≢◌, ◌<◌, ◌≤◌, ◌-◌, ◌^◌, ◌⊎◌, ◌∷◌, [], map, Contains, IfSome, Some, None, true, false};
 ghost use Rattle.std.specs.String.{string_bytes};
-ghost use Rattle.std.specs.Io.KnownBytes.{Appends, Keeps};
-ghost use Rattle.play_report.specs.Text.{usage_text};
-ghost use Rattle.gc_script.specs.Script.{Script as Whole, script as meaning};
-ghost use Rattle.gc_script.specs.Shown.{fault_of};
-ghost use Rattle.gc_script.specs.Finished.{is_refused};
-ghost use Rattle.gcplay.specs.Form.{IsRun, IsTaken, IsPlayText, IsFaultText, MayBeText, is_played, usual};
+ghost use Rattle.std.specs.Io.KnownBytes.{Keeps};
+ghost use Rattle.gcplay.specs.CommandLine.{command_of};
+ghost use Rattle.gcplay.specs.Ending.{CommandEnds, IsInRange, WritesSome, WritesFront, code_of};
+ghost use Rattle.gcplay.specs.Promise.{EndsWith, IsAnswer, MayBeText, reads_source, wanted};
 ghost use Rattle.gcplay.specs.Reading.{IsSpent};
-ghost use Rattle.gcplay.specs.Ending.{BytesEnd, RunEnds, RefuseEnds, WritesSome, WritesFront};
+ghost use Rattle.gcplay.specs.Roomy.{AreFew, PlaysIn};
+ghost use Rattle.gcplay.specs.Words.{Load, Options};
+ghost use Rattle.plain_heap.specs.Sections.{Sections};
 
+mod converted;
+mod faulty;
+mod loaded;
+mod made;
+mod script;
+
+use crate::command_line::{Asked, command_of};
 use crate::gate::Gate;
-use crate::options::USUAL;
-use crate::play::play;
-use crate::played::is_played;
-use crate::source::{Unread, read_source};
 use crate::status::Status;
-use crate::words::is_run;
-use gc_script::{Script, ScriptError, read};
-use play_report::{Sink, Source, write_all, write_fault, write_report, write_usage};
+use converted::convert_source;
+use loaded::load_generated;
+use made::write_generated;
+use play_report::{Sink, Source, write_usage};
+use script::play_source;
 use std::alloc::Global;
 use std::sync::Wait;
 use std::thread::Threads;
 
-/// Plays a script that was read, and writes what it says.
-fn play_script<R: Threads + Wait + Sync, K: Sink, G: Gate + Sync>(
+/// Does the command that is asked for.
+fn do_command<R: Threads + Wait + Sync, S: Source, K: Sink, G: Gate + Sync>(
     rt: &R,
     alloc: Global,
-    script: &Script<'_>,
-    sink: &mut K,
-    gate: &G,
-) -> Status
-    requires { is_played usual.cells script.now.sections ≡ true }
-    ensures { (bytes : List ℕ) → meaning bytes ≡ Ok script.now → BytesEnd result bytes (K.written sink.old) (K.written sink.new) (K.faults sink.old) (K.faults sink.new) }
-{
-    match play(rt, alloc, script, &USUAL, gate) {
-        Err(_) => Status::Memory,
-        Ok(report) => match write_report(&report, USUAL.place, sink) {
-            Ok(()) => Status::Done,
-            Err(_) => Status::WriteFault,
-        },
-    }
-}
-
-/// Answers that a script is not played yet.
-fn refuse_script<K: Sink>(sink: &mut K) -> Status
-    ensures { (bytes : List ℕ) (s : Whole) → meaning bytes ≡ Ok s → is_played usual.cells s.sections ≡ false
-        → BytesEnd result bytes (K.written sink.old) (K.written sink.new) (K.faults sink.old) (K.faults sink.new) }
-{
-    match write_all(sink, b"13 NotBuilt\n") {
-        Ok(()) => Status::ScriptFault,
-        Err(_) => Status::WriteFault,
-    }
-}
-
-/// Writes the fault of a source.
-fn tell_fault<K: Sink>(fault: &ScriptError, sink: &mut K) -> Status
-    requires { fault.now ≢ ScriptError.OutOfMemory }
-    ensures { (bytes : List ℕ) → is_refused (fault_of fault.now) (meaning bytes)
-        → BytesEnd result bytes (K.written sink.old) (K.written sink.new) (K.faults sink.old) (K.faults sink.new) }
-{
-    match write_fault(fault, sink) {
-        Ok(()) => Status::ScriptFault,
-        Err(_) => Status::WriteFault,
-    }
-}
-
-/// Reads and plays a script, and writes what it says or its fault.
-fn run_bytes<R: Threads + Wait + Sync, K: Sink, G: Gate + Sync>(
-    rt: &R,
-    alloc: Global,
-    bytes: &[u8],
-    sink: &mut K,
-    gate: &G,
-) -> Status
-    ensures { BytesEnd result bytes.now (K.written sink.old) (K.written sink.new) (K.faults sink.old) (K.faults sink.new) }
-{
-    match read(alloc, bytes) {
-        Err(ScriptError::OutOfMemory) => Status::Memory,
-        Err(fault) => tell_fault(&fault, sink),
-        Ok(script) => {
-            if is_played(&script, USUAL.cells) {
-                play_script(rt, alloc, &script, sink, gate)
-            } else {
-                refuse_script(sink)
-            }
-        }
-    }
-}
-
-/// The command `run`.
-fn run<R: Threads + Wait + Sync, S: Source, K: Sink, G: Gate + Sync>(
-    rt: &R,
-    alloc: Global,
+    asked: Asked,
     source: &mut S,
     sink: &mut K,
     gate: &G,
 ) -> Status
-    ensures { RunEnds result
-        (record { left = S.left source.old; reads = S.faults source.old; written = K.written sink.old; writes = K.faults sink.old })
-        (record { left = S.left source.new; reads = S.faults source.new; written = K.written sink.new; writes = K.faults sink.new }) }
+    requires { IsInRange asked }
+    ensures ends { CommandEnds (IsAnswer (Some (command_of asked)) (S.left source.old)) result
+        (S.faults source.old) (S.faults source.new) (K.written sink.old) (K.written sink.new) (K.faults sink.old) (K.faults sink.new) }
+    ensures spent { reads_source (Some (command_of asked)) ≡ true → code_of result ≤ 3
+        → IfSome (S.left source.old) (λ bytes. IsSpent bytes (S.left source.new)) }
+    ensures untouched { reads_source (Some (command_of asked)) ≡ false → source.new ≡ source.old }
 {
-    match read_source(alloc, source) {
-        Err(Unread::Memory) => Status::Memory,
-        Err(Unread::Failed) => Status::ReadFault,
-        Ok(bytes) => run_bytes(rt, alloc, bytes.as_slice(), sink, gate),
+    match asked {
+        Asked::Run(options) => play_source(rt, alloc, &options, source, sink, gate),
+        Asked::Gen(number, size) => write_generated(alloc, number, size, sink),
+        Asked::Load(options, number, size) => {
+            load_generated(rt, alloc, &options, number, size, sink, gate)
+        }
+        Asked::Convert => convert_source(alloc, source, sink),
     }
 }
 
-/// Writes how the program is called.
-fn refuse<K: Sink>(sink: &mut K) -> Status
-    ensures { RefuseEnds result (K.written sink.old) (K.written sink.new) (K.faults sink.old) (K.faults sink.new) }
+/// Does what the words ask for.
+fn do_words<R: Threads + Wait + Sync, S: Source, K: Sink, G: Gate + Sync>(
+    rt: &R,
+    alloc: Global,
+    words: &[String],
+    source: &mut S,
+    sink: &mut K,
+    gate: &G,
+) -> Status
+    ensures ends { CommandEnds (IsAnswer (wanted (map string_bytes words.now)) (S.left source.old)) result
+        (S.faults source.old) (S.faults source.new) (K.written sink.old) (K.written sink.new) (K.faults sink.old) (K.faults sink.new) }
+    ensures spent { reads_source (wanted (map string_bytes words.now)) ≡ true → code_of result ≤ 3
+        → IfSome (S.left source.old) (λ bytes. IsSpent bytes (S.left source.new)) }
+    ensures untouched { reads_source (wanted (map string_bytes words.now)) ≡ false → source.new ≡ source.old }
 {
-    match write_usage(sink) {
-        Ok(()) => Status::Usage,
-        Err(_) => Status::WriteFault,
+    match command_of(alloc, words) {
+        Err(_) => Status::Memory,
+        Ok(None) => Status::Usage.after(write_usage(sink)),
+        Ok(Some(asked)) => do_command(rt, alloc, asked, source, sink, gate),
     }
 }
 
-/// All that the program does: takes the words, reads the source, plays the script and writes to the sink. It answers
-/// the program's status.
+/// All that the program does: takes the words, reads the source where their command reads one, and writes to the sink.
+/// It answers the program's status.
 ///
 /// | Status | Meaning | Written |
 /// |---|---|---|
-/// | 0 | done | each warehouse's transcript, then the objects that are reachable at the end |
-/// | 1 | the words are not `run` | `usage: gcplay command [options]` |
-/// | 2 | the script has a fault, or is not played yet | the fault's number, name and place, or `13 NotBuilt` |
-/// | 4 | the source failed | nothing |
+/// | 0 | done | of `run`: each warehouse's transcript, then the objects that are reachable at the end, and with `--place` the cell of each object that was made |
+/// | | | of `gen`: the generated script |
+/// | | | of `load`: how many commands were executed, objects made and lines printed, how many objects survive, and the sum of their values |
+/// | | | of `convert`: the script in the second version of the language |
+/// | 1 | the words ask for nothing | `usage: gcplay command [options]` |
+/// | 2 | of `run` and `convert`: the script has a fault | the fault's number, name and place |
+/// | 3 | of `run` and `load`: the reachable objects filled all cells | the section that found no cell, and how many commands each section did |
+/// | 4 | of `run` and `convert`: the source failed | nothing |
 /// | 5 | the sink failed | a front of what was to be written |
 /// | 6 | memory ran out | nothing |
 pub fn play_words<R: Threads + Wait + Sync, S: Source, K: Sink, G: Gate + Sync>(
@@ -140,39 +107,37 @@ pub fn play_words<R: Threads + Wait + Sync, S: Source, K: Sink, G: Gate + Sync>(
     requires source { S.faults source.old < 2 ^ 64 - 1 }
     requires sink { K.faults sink.old < 2 ^ 64 - 1 }
 
-    ensures statuses { Contains (0 ∷ 1 ∷ 2 ∷ 4 ∷ 5 ∷ 6 ∷ []) result }
+    ensures statuses { Contains (0 ∷ 1 ∷ 2 ∷ 3 ∷ 4 ∷ 5 ∷ 6 ∷ []) result }
 
-    // Each warehouse's transcript of a heap without a collector, then exactly the objects that are reachable at the end.
-    ensures played { result ≡ 0 → IfSome (S.left source.old) (λ bytes. WritesSome (K.written sink.old) (K.written sink.new) (IsPlayText bytes)) }
-    // A fault of the script is one that the bytes have.
-    ensures fault { result ≡ 2 → IfSome (S.left source.old) (λ bytes. WritesSome (K.written sink.old) (K.written sink.new) (IsFaultText bytes)) }
+    // What is written with the statuses 0 to 3 answers what the words ask for.
+    ensures written { result ≤ 3 → WritesSome (K.written sink.old) (K.written sink.new) (IsAnswer (wanted (map string_bytes words.now)) (S.left source.old) result) }
     // Nothing is left in the source, or it was too long and more was taken than a script may have.
-    ensures spent { (result ≡ 0) ⊎ (result ≡ 2) → IfSome (S.left source.old) (λ bytes. IsSpent bytes (S.left source.new)) }
+    ensures spent { reads_source (wanted (map string_bytes words.now)) ≡ true → result ≤ 3 → IfSome (S.left source.old) (λ bytes. IsSpent bytes (S.left source.new)) }
+    // `gen`, `load` and words that ask for nothing leave the source as it was.
+    ensures untouched { reads_source (wanted (map string_bytes words.now)) ≡ false → source.new ≡ source.old }
 
-    // The words are refused exactly where they are not `run`, and then the source is left as it was.
-    ensures usage { result ≡ 1 → IsRun (map string_bytes words.now) → ⊥ }
-    ensures refused { (IsRun (map string_bytes words.now) → ⊥) → (result ≡ 1) ⊎ (result ≡ 5) }
-    ensures usage_text { result ≡ 1 → Appends (K.written sink.old) (K.written sink.new) usage_text }
-    ensures untouched { (IsRun (map string_bytes words.now) → ⊥) → source.new ≡ source.old }
+    // The words are refused exactly where they ask for nothing.
+    ensures usage { result ≡ 1 → wanted (map string_bytes words.now) ≡ None }
+    ensures refused { wanted (map string_bytes words.now) ≡ None → (result ≡ 1) ⊎ (result ≡ 5) ⊎ (result ≡ 6) }
 
     // A fault of reading comes only where the source's count rose, and then nothing else comes but want of memory; nothing is written.
     ensures read_fault { result ≡ 4 → S.faults source.old < S.faults source.new }
     ensures read_rose { S.faults source.old < S.faults source.new → (result ≡ 4) ⊎ (result ≡ 6) }
     ensures silent { (result ≡ 4) ⊎ (result ≡ 6) → Keeps (K.written sink.old) (K.written sink.new) }
 
-    // A fault of writing comes exactly where the sink's count rose, and a front of the text is written.
+    // A fault of writing comes exactly where the sink's count rose, and a front of an answer is written.
     ensures write_fault { result ≡ 5 → K.faults sink.old < K.faults sink.new }
     ensures write_rose { K.faults sink.old < K.faults sink.new → result ≡ 5 }
-    ensures front { result ≡ 5 → IfSome (S.left source.old) (λ bytes.
-        WritesFront (K.written sink.old) (K.written sink.new) (λ text. (text ≡ usage_text) ⊎ MayBeText bytes text)) }
+    ensures front { result ≡ 5 → WritesFront (K.written sink.old) (K.written sink.new) (MayBeText (wanted (map string_bytes words.now)) (S.left source.old)) }
 
-    // Where no count rises, a script that is taken is played and any other is refused, unless memory runs out.
-    ensures complete { IsRun (map string_bytes words.now) → S.faults source.new ≡ S.faults source.old → K.faults sink.new ≡ K.faults sink.old
-        → IfSome (S.left source.old) (λ bytes. (IsTaken bytes → (result ≡ 0) ⊎ (result ≡ 6)) × ((IsTaken bytes → ⊥) → (result ≡ 2) ⊎ (result ≡ 6))) }
+    // Where no count rises, each command is done or tells its cause, unless memory runs out.
+    ensures complete { S.faults source.new ≡ S.faults source.old → K.faults sink.new ≡ K.faults sink.old
+        → (result ≡ 6) ⊎ EndsWith (wanted (map string_bytes words.now)) (S.left source.old) result }
+
+    // 3 doesn't come where the cells are more than what may be reachable at once.
+    ensures roomy { result ≡ 3 → (s : Sections) (cells : ℕ) → PlaysIn (wanted (map string_bytes words.now)) (S.left source.old) s cells → AreFew s cells }
+    // So it never comes to `load` with 256 cells or more.
+    ensures load_fits { (options : Options) (number size : ℕ) → wanted (map string_bytes words.now) ≡ Some (Load options number size) → 256 ≤ options.cells → result ≢ 3 }
 {
-    if is_run(words) {
-        run(rt, alloc, source, sink, gate).code()
-    } else {
-        refuse(sink).code()
-    }
+    do_words(rt, alloc, words, source, sink, gate).code()
 }

@@ -1,6 +1,8 @@
 //! How the program ends.
 ghost use Rattle.std.specs.Prelude.{◌≡◌};
-ghost use Rattle.gcplay.specs.Ending.{code_of};
+ghost use Rattle.gcplay.specs.Ending.{code_of, after};
+
+use play_report::Failed;
 
 /// How the program ends.
 #[derive(Clone, Copy, Debug, PartialEq, Eq)]
@@ -11,6 +13,8 @@ pub enum Status {
     Usage,
     /// The script has a fault.
     ScriptFault,
+    /// The reachable objects filled all cells.
+    Full,
     /// The source failed.
     ReadFault,
     /// The sink failed.
@@ -20,7 +24,7 @@ pub enum Status {
 }
 
 impl Status {
-    /// Its number: 0 done, 1 usage, 2 fault of the script, 4 read fault, 5 write fault, 6 memory.
+    /// Its number: 0 done, 1 usage, 2 fault of the script, 3 full, 4 read fault, 5 write fault, 6 memory.
     pub fn code(self) -> u8
         ensures { result ≡ code_of self }
     {
@@ -28,9 +32,20 @@ impl Status {
             Status::Done => 0,
             Status::Usage => 1,
             Status::ScriptFault => 2,
+            Status::Full => 3,
             Status::ReadFault => 4,
             Status::WriteFault => 5,
             Status::Memory => 6,
+        }
+    }
+
+    /// The status after its text was handed to the sink: itself, unless the sink failed.
+    pub fn after(self, written: Result<(), Failed>) -> Status
+        ensures { result ≡ after self written }
+    {
+        match written {
+            Ok(()) => self,
+            Err(_) => Status::WriteFault,
         }
     }
 }

@@ -2,17 +2,19 @@
 use Rattle.std.proofs.Common.{◌≡◌, ℕ, ◌+◌, ◌*◌, ◌%◌, ◌<◌, ◌≤◌, suc, List, [], ◌∷◌, ◌++◌, length, map, refl, ap, sym, ◌∙◌, subst, cond, Bool, true, false, arith, length-append}
 use Rattle.std.proofs.lemmas.Bool.Decides.{nat_tests}
 use Rattle.std.proofs.lemmas.List.{map-append}
-use Rattle.std.specs.Prelude.{not, ◌&&◌, ◌==◌, nat_le, Option, Some, None, is_some}
+use Rattle.std.proofs.lemmas.List.Elements.{All-nil, All-push}
+use Rattle.std.specs.Prelude.{not, ◌&&◌, ◌==◌, nat_le, All, Option, Some, None, is_some}
 use Rattle.std.specs.List.{list_all}
 use Rattle.std.specs.Option.{option_or}
 use Rattle.plain_heap.specs.Sections.{Execution}
 use Rattle.gc_script.specs.Statement.{Spoken, Statement, Warehouse, Command}
-use Rattle.gc_script.specs.Earlier.{has_name, reads, reads_of_catalogue, assigns, is_printing, known_names, open_repeat, open_section, warehouse_count, season_count, with_name}
+use Rattle.gc_script.specs.Earlier.{place, has_name, reads, reads_of_catalogue, assigns, is_printing, known_names, open_repeat, open_section, warehouse_count, season_count, with_name}
 use Rattle.gc_script.specs.Faults.{Fault, unless_, cuts_repeat, may_stand, line_fault}
 use Rattle.gc_script.specs.Script.{execution, executed, ended_parts, open_parts, if_warehouse, if_catalogue, closed_warehouses, closed_catalogue, sections, executed_count, one_if}
 use Rattle.load_gen.proofs.Conjunction.{and_true}
-use Rattle.load_gen.proofs.Known.{Knows, knows_none}
+use Rattle.load_gen.proofs.Known.{Knows, few_names, knows_none}
 use Rattle.load_gen.proofs.LineText.{MayStand}
+use Rattle.load_gen.proofs.Blocks.{IsStep, AreSteps, AreBlocks, steps_push}
 
 -- how many commands each part of each warehouse has
 abbrev pub part_lengths : List (List (List Execution)) → List (List ℕ)
@@ -26,6 +28,7 @@ pub record AreClosed (size w : ℕ) (lengths : List (List ℕ)) (earlier : List 
   pub warehouses : part_lengths (sections 1 [] earlier).warehouses ≡ lengths
   pub commands : executed_count (λ spoken. true) earlier ≡ w * size
   pub printed : 64 * executed_count is_printing earlier ≤ w * size
+  pub blocks : All AreBlocks (sections 1 [] earlier).warehouses
 
 -- w warehouses are whole, and the next one has m commands
 pub record IsOpen (size w m : ℕ) (lengths : List (List ℕ)) (earlier : List Statement) : Type 0 where
@@ -35,14 +38,16 @@ pub record IsOpen (size w m : ℕ) (lengths : List (List ℕ)) (earlier : List S
   pub seasons : season_count earlier ≡ 0
   pub names : Knows (known_names earlier) m
   pub ended : ended_parts [] earlier ≡ []
+  pub steps : AreSteps 0 (executed [] earlier)
   pub executed : length (executed [] earlier) ≡ m
   pub catalogue : closed_catalogue [] earlier ≡ None
   pub warehouses : part_lengths (closed_warehouses [] earlier) ≡ lengths
   pub commands : executed_count (λ spoken. true) earlier ≡ w * size + m
   pub printed : 64 * executed_count is_printing earlier + m % 64 ≤ w * size + m
+  pub blocks : All AreBlocks (closed_warehouses [] earlier)
 
 pub none_closed : (size : ℕ) → AreClosed size 0 [] []
-none_closed size = record { no_repeat = refl; count = refl; catalogue = refl; warehouses = refl; commands = omega arith; printed = omega arith }
+none_closed size = record { no_repeat = refl; count = refl; catalogue = refl; warehouses = refl; commands = omega arith; printed = omega arith; blocks = All-nil AreBlocks }
 
 at_most : (n m : ℕ) → n ≤ m → nat_le n m ≡ true
 at_most n m h = grind (arith, nat_tests)
@@ -73,6 +78,8 @@ started size w lengths earlier h = record {
   warehouses = h.warehouses;
   commands = omega (arith, h.commands);
   printed = omega (arith, h.printed);
+  steps = tt;
+  blocks = h.blocks;
 }
   where
     next_count : (n w : ℕ) → n ≡ w → n + 1 ≡ suc w
@@ -93,7 +100,7 @@ command_fault size w m lengths earlier prints spoken l h s =
     (passes _ _ _ (stands_there (open_section earlier) w spoken h.section)
     (passes _ _ _ (ap not s.small)
     (passes _ _ _ (names_known (known_names earlier) spoken s.known s.catalogue)
-    (passes _ _ _ (at_most (length (with_name (assigns spoken) (known_names earlier))) 32 (omega (arith, s.after.few)))
+    (passes _ _ _ (at_most (length (with_name (assigns spoken) (known_names earlier))) 32 (omega (arith, few_names _ (m + 1) s.after)))
     (passes _ _ _ (at_most (warehouse_count earlier) 32 (omega (arith, h.count, l)))
     (passes _ _ _ (at_most (season_count earlier) 63 (omega (arith, h.seasons)))
     refl))))))
@@ -102,6 +109,10 @@ command_fault size w m lengths earlier prints spoken l h s =
 executed_once : (o : Option (ℕ × ℕ)) (before : List Execution) (e : Execution) → o ≡ None → length (cond (is_some o) before (before ++ e ∷ [])) ≡ length before + 1
 executed_once None before e h = length-append before (e ∷ [])
 executed_once (Some opened) before e h = cc
+
+steps_once : (o : Option (ℕ × ℕ)) (before : List Execution) (e : Execution) (m : ℕ) → o ≡ None → length before ≡ m → AreSteps 0 before → IsStep (m % 64) e.op → AreSteps 0 (cond (is_some o) before (before ++ e ∷ []))
+steps_once None before e m h l s t = steps_push 0 before e s (subst (λ (n : ℕ). IsStep (n % 64) e.op) (let same : m ≡ 0 + length before = omega (arith, l) in same) t)
+steps_once (Some opened) before e m h l s t = cc
 
 counted_once : (o : Option (ℕ × ℕ)) (n : ℕ) (test : Bool) → o ≡ None → n + cond (is_some o) 0 (one_if test) ≡ n + one_if test
 counted_once None n test h = refl
@@ -136,6 +147,8 @@ commanded size w m lengths earlier spoken h s =
       warehouses = h.warehouses;
       commands = omega (arith, count, h.commands);
       printed = subst (λ (n : ℕ). 64 * n + (m + 1) % 64 ≤ w * size + (m + 1)) (sym lines) (printed_more (executed_count is_printing earlier) m (w * size) (is_printing spoken) s.printing h.printed);
+      steps = steps_once (open_repeat earlier) (executed [] earlier) (execution [] earlier spoken) m h.no_repeat h.executed h.steps (s.step (place []));
+      blocks = h.blocks;
     }
 
 -- a section that is open is one of one part
@@ -146,6 +159,10 @@ one_more o w m closed ended commands lengths a b c d =
     (map-append (λ (parts : List (List Execution)). map length parts) closed ((commands ∷ []) ∷ [])
     ∙ ap (λ (ls : List (List ℕ)). ls ++ (length commands ∷ []) ∷ []) c
     ∙ ap (λ (n : ℕ). lengths ++ (n ∷ []) ∷ []) d)
+
+blocks_more : (o : Option ℕ) (w : ℕ) (closed : List (List (List Execution))) (ended : List (List Execution)) (commands : List Execution)
+    → o ≡ Some (suc w) → ended ≡ [] → All AreBlocks closed → AreSteps 0 commands → All AreBlocks (closed ++ if_warehouse o (ended ++ commands ∷ []))
+blocks_more o w closed ended commands a b c d = rw (a, b) (All-push AreBlocks closed (commands ∷ []) c d)
 
 no_catalogue : (o : Option ℕ) (w : ℕ) (parts : List (List Execution)) (closed : Option (List (List Execution))) → o ≡ Some (suc w) → closed ≡ None → option_or (if_catalogue o parts) closed ≡ None
 no_catalogue o w parts closed a b = rw a b
@@ -159,4 +176,5 @@ closed size w lengths earlier h = record {
   warehouses = one_more (open_section earlier) w size (closed_warehouses [] earlier) (ended_parts [] earlier) (executed [] earlier) lengths h.section h.ended h.warehouses h.executed;
   commands = omega (arith, h.commands);
   printed = omega (arith, h.printed);
+  blocks = blocks_more (open_section earlier) w (closed_warehouses [] earlier) (ended_parts [] earlier) (executed [] earlier) h.section h.ended h.blocks h.steps;
 }

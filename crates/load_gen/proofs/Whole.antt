@@ -1,17 +1,18 @@
 -- The generated text is a script, line by line.
 use Rattle.std.proofs.Common.{◌≡◌, ℕ, ◌+◌, ◌%◌, ◌<◌, ◌≤◌, zero, suc, List, [], ◌∷◌, ◌++◌, length, map, refl, ap, sym, ◌∙◌, subst, cond, Bool, false, arith, codes}
 use Rattle.std.proofs.lemmas.Bool.Decides.{nat_tests}
-use Rattle.std.specs.Prelude.{◌==◌, nat_lt, Option, None, Err}
+use Rattle.std.specs.Prelude.{◌==◌, nat_lt, All, Option, None, Result, Err}
 use Rattle.gc_script.specs.ScriptText.{first_foreign, words}
 use Rattle.gc_script.specs.Statement.{Statement, Warehouse, Command}
 use Rattle.gc_script.specs.Earlier.{known_names}
 use Rattle.gc_script.specs.Faults.{Fault, TooLong, line_fault, first_fault, left_open, or_later}
-use Rattle.gc_script.specs.Script.{turned, body, of_lines, of_text, script}
+use Rattle.gc_script.specs.Script.{Script, turned, body, of_lines, of_text, script}
 use Rattle.load_gen.proofs.ScriptForm.{script_from, body_is}
 use Rattle.load_gen.specs.Generated.{state_after, line_text, lines_text, last_state, warehouses_text, generated}
 use Rattle.load_gen.specs.FourWarehouses.{HasFourWarehouses}
 use Rattle.load_gen.proofs.Cut.{lines_first, statements, statements_first}
 use Rattle.load_gen.proofs.LineText.{IsLine, line_is}
+use Rattle.load_gen.proofs.Blocks.{AreBlocks}
 use Rattle.load_gen.proofs.Source.{line_no_end, IsSource, generated_source, no_foreign}
 use Rattle.load_gen.proofs.Warehouse.{AreClosed, IsOpen, none_closed, start_fault, started, command_fault, commanded, closed}
 
@@ -74,14 +75,22 @@ warehouses_pass size state =
 not_past : (n most : ℕ) → n ≤ most → nat_lt most n ≡ false
 not_past n most h = grind (arith, nat_tests)
 
+-- what was read is a script of four warehouses, each of blocks
+pub record AreFourOfBlocks (size : ℕ) (read : Result Script Fault) : Type 0 where
+  pub four : HasFourWarehouses size read
+  pub blocks : All AreBlocks four.whole.sections.warehouses
+
 -- lines that pass after a header
-body_passes : (size : ℕ) (rest : List Statement) → size ≤ 20000 → Passes size [] (Warehouse ∷ rest) → HasFourWarehouses size (body 1 (Warehouse ∷ rest))
+body_passes : (size : ℕ) (rest : List Statement) → size ≤ 20000 → Passes size [] (Warehouse ∷ rest) → AreFourOfBlocks size (body 1 (Warehouse ∷ rest))
 body_passes size rest h p = record {
-  whole = script_from 1 (Warehouse ∷ rest);
-  no_fault = body_is 1 (Warehouse ∷ rest) p.no_fault (not_past _ 2000000 (omega (arith, p.end.commands, h))) (not_past _ 65536 (omega (arith, p.end.printed, h)));
-  version = refl;
-  catalogue = p.end.catalogue;
-  warehouses = p.end.warehouses;
+  four = record {
+    whole = script_from 1 (Warehouse ∷ rest);
+    no_fault = body_is 1 (Warehouse ∷ rest) p.no_fault (not_past _ 2000000 (omega (arith, p.end.commands, h))) (not_past _ 65536 (omega (arith, p.end.printed, h)));
+    version = refl;
+    catalogue = p.end.catalogue;
+    warehouses = p.end.warehouses;
+  };
+  blocks = p.end.blocks;
 }
 
 -- a text with a header means what the lines after it do
@@ -98,8 +107,8 @@ first_warehouse size more state =
     (statements rest, statements_first (codes "warehouse") rest refl)
 
 -- the generated text is a script of four warehouses
-pub generated_script : (number size : ℕ) → size ≤ 20000 → HasFourWarehouses size (script (generated number size))
+pub generated_script : (number size : ℕ) → size ≤ 20000 → AreFourOfBlocks size (script (generated number size))
 generated_script number size h =
     let first = first_warehouse size 3 number in
     let read : script (generated number size) ≡ body 1 (Warehouse ∷ first.0) = after_header (warehouses_text 4 size number) (generated_source number size h) ∙ ap (body 1) first.1 in
-    subst (HasFourWarehouses size) (sym read) (body_passes size first.0 h (subst (Passes size []) first.1 (warehouses_pass size number)))
+    subst (AreFourOfBlocks size) (sym read) (body_passes size first.0 h (subst (Passes size []) first.1 (warehouses_pass size number)))

@@ -1,7 +1,8 @@
 //! The whole text.
-ghost use Rattle.std.specs.Prelude.{◌≡◌, ◌≤◌, ◌++◌, IfOk, OnOk, codes};
+ghost use Rattle.std.specs.Prelude.{◌≡◌, ◌≤◌, ◌++◌, IfOk, OnOk, codes, length};
 ghost use Rattle.std.specs.String.{string_bytes};
 ghost use Rattle.gc_script.specs.Script.{script};
+ghost use Rattle.load_gen.specs.FewReachable.{HasFewReachable};
 ghost use Rattle.load_gen.specs.FourWarehouses.{HasFourWarehouses};
 ghost use Rattle.load_gen.specs.Generated.{generated, lines_text, last_state, warehouses_text};
 
@@ -58,13 +59,18 @@ fn text_of(alloc: Global, number: u32, size: u32) -> Result<String, AllocError>
 
 /// The text of a script of version 1: four warehouses of `size` lines each, drawn from `number` on.
 ///
-/// It has at most 800,051 bytes, and its memory is taken at once. `OutOfMemory` says that there was not enough.
+/// It has no fault, whatever the number is, and each of its lines but five is a command that is executed once. While it
+/// is played, no warehouse ever has more than 55 reachable objects. The text's memory is taken at once. `OutOfMemory`
+/// says that there was not enough.
 pub fn generate(alloc: Global, number: u32, size: u32) -> Result<String, OutOfMemory>
     requires least { 1 ≤ size }
     requires most { size ≤ 20000 }
     ensures text { IfOk result (λ text. string_bytes text ≡ generated number size) }
+    ensures short { length (generated number size) ≤ 800051 }
     // It is a script without a fault.
     ensures script { HasFourWarehouses size (script (generated number size)) }
+    // After each of its commands few objects are reachable.
+    ensures few { HasFewReachable 55 (script (generated number size)) }
 {
     text_of(alloc, number, size).map_err(|_| OutOfMemory)
 }

@@ -27,14 +27,14 @@ of_reachable heaps P held next name (object, path, is_path) = along name path ob
 pub reach_on : (heaps : List Heap) (from to : Name) → IsReachable heaps from → RefersTo heaps from to → IsObject heaps to → IsReachable heaps to
 reach_on heaps from to r refers object = (object, from ∷ r.1, (refers, r.2))
 
-contains_one : {X : Type 0} (x y : X) → Contains (x ∷ []) y → x ≡ y
+pub contains_one : {X : Type 0} (x y : X) → Contains (x ∷ []) y → x ≡ y
 contains_one x y (zero, below, e) = e
 contains_one x y (suc k, below, e) = absurd no
   where
     no : ⊥
     no = grind arith
 
-one_contains : {X : Type 0} (x : X) → Contains (x ∷ []) x
+pub one_contains : {X : Type 0} (x : X) → Contains (x ∷ []) x
 one_contains x = (0, omega arith, refl)
 
 contains_none : {x : ℕ} → Contains [] x → ⊥

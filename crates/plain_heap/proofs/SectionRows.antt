@@ -7,7 +7,7 @@ use Rattle.plain_heap.specs.declared.operation.Op.TheVariants as ops
 use Rattle.plain_heap.specs.declared.operation.Line.TheVariants as lines
 use Rattle.plain_heap.specs.PlainHeap.{empty_heap, variable}
 use Rattle.plain_heap.specs.Sections.{Execution, Sections, IsNext, first_of, seasons, end_of, section_of, executed_of, executed_total, printed_total, made_by, printed_by}
-use Rattle.plain_heap.specs.PlainRun.{plain, last_heap, heaps_at, transcript}
+use Rattle.plain_heap.specs.PlainRun.{plain, last_heap, heaps_at, printed_before, transcript}
 use Rattle.plain_heap.specs.Placement.{LiesIn}
 
 abbrev execution : Op → Execution
@@ -60,6 +60,10 @@ next = record { season = lit< tt; place = 1; before = refl; there = refl }
 says_each_season : transcript script 1
     ≡ record { label = []; line = lines.Value 40 } ∷ record { label = []; line = lines.Value 41 } ∷ record { label = []; line = lines.Walk 1 5 } ∷ []
 says_each_season = refl
+
+-- its first four commands print one line
+says_so_far : printed_before script 1 4 ≡ record { label = []; line = lines.Value 40 } ∷ []
+says_so_far = refl
 
 plain_at_start : plain script 1 0 ≡ empty_heap 4 1
 plain_at_start = refl

@@ -74,6 +74,10 @@ printed_in_parts s w z heap [] = []
 printed_in_parts s w z heap (part ∷ parts) =
     printed_from (seen_catalogue s w z) heap part ++ printed_in_parts s w (z + 1) (heap_from (seen_catalogue s w z) heap (ops_of part)) parts
 
+-- what section w prints in its first k commands
+abbrev pub printed_before : Sections → ℕ → ℕ → List Printed
+printed_before s w k = printed_in_parts s w 1 (empty_heap s.fields w) (first_of k (parts_of s w))
+
 -- what section w prints
 abbrev pub transcript : Sections → ℕ → List Printed
 transcript s w = printed_in_parts s w 1 (empty_heap s.fields w) (parts_of s w)

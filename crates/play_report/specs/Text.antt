@@ -11,7 +11,6 @@ use Rattle.gc_script.specs.Faults as faults
 use Rattle.gc_script.specs.Faults.{Fault}
 use Rattle.gc_script.specs.Shown.{fault_of}
 use Rattle.gc_script.specs.declared.script.ScriptError.{ScriptError}
-use Rattle.gc_script.specs.declared.script.ScriptError.TheVariants as answers
 use Rattle.play_report.specs.Report.{Outcome}
 
 abbrev pub line_text : Line → List ℕ
@@ -136,6 +135,26 @@ error_text error = text_of_fault (fault_of error)
 -- the text of status 1
 abbrev pub usage_text : List ℕ
 usage_text = codes "usage: gcplay command [options]\n"
+
+-- how many lines were printed
+abbrev pub printed_count : List Outcome → ℕ
+printed_count os = sum_by (λ o. length o.said) os
+
+-- the sum of the survivors' values
+abbrev pub total_of : List Survivor → ℕ
+total_of survivors = sum_by (λ s. s.value) survivors
+
+-- how many objects were made, and how many lines printed
+abbrev pub made_text : List Outcome → List ℕ
+made_text os = named_text (codes "objects ") (placed_count os) ++ named_text (codes "lines ") (printed_count os)
+
+-- how many survivors there are, and the sum of their values
+abbrev pub kept_text : List Survivor → List ℕ
+kept_text survivors = named_text (codes "survivors ") (length survivors) ++ named_text (codes "total ") (total_of survivors)
+
+-- a play that is done, in five lines
+abbrev pub brief_text : ℕ → List Outcome → List Survivor → List ℕ
+brief_text commands os survivors = named_text (codes "commands ") commands ++ (made_text os ++ kept_text survivors)
 
 -- what `load` writes on status 0: how many commands were executed, how many objects made and how many lines printed, and how many survivors there are with which total
 abbrev pub load_text : Sections → List Survivor → List ℕ

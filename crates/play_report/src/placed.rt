@@ -8,7 +8,8 @@ use crate::line::{write_named, write_triple};
 use crate::outside::{Failed, Sink};
 use crate::report::Part;
 
-fn count_places(parts: &[Part<'_>]) -> u64
+/// How many objects were made.
+pub fn count_places(parts: &[Part<'_>]) -> u64
     requires { sum_by (λ p. length p.places.items) parts.now < 2 ^ 32 }
     ensures { result ≡ sum_by (λ p. length p.places.items) parts.now }
 {

@@ -1,11 +1,11 @@
 //! Each text, over a sink in memory.
 ghost use Rattle.std.specs.Prelude.{◌≡◌, ◌<◌, ◌^◌, IfOk, map, length};
 ghost use Rattle.play_report.specs.Report.{outcome_of};
-ghost use Rattle.play_report.specs.Text.{placed_count};
+ghost use Rattle.play_report.specs.Text.{placed_count, printed_count};
 
 use crate::{
     CountSink, Failed, MemorySink, Part, Positions, Report, Said, Survivor, write_fault,
-    write_full, write_report, write_usage,
+    write_full, write_load, write_report, write_usage,
 };
 use gc_script::ScriptError;
 use plain_heap::Line;
@@ -24,7 +24,8 @@ fn part<'a>(
     dropped: u32,
     places: &[u32],
 ) -> Result<Part<'a>, AllocError>
-    ensures { IfOk result (λ p. length p.places.items ≡ length places.now) }
+    ensures places { IfOk result (λ p. length p.places.items ≡ length places.now) }
+    ensures said { IfOk result (λ p. length p.said.items ≡ length said.now) }
 {
     Ok(Part {
         said: Vec::from_slice(alloc, said)?,
@@ -34,7 +35,9 @@ fn part<'a>(
 }
 
 fn report(alloc: Global) -> Result<Report<'static>, AllocError>
-    ensures { IfOk result (λ r. placed_count (map outcome_of r.parts.items) < 2 ^ 32) }
+    ensures places { IfOk result (λ r. placed_count (map outcome_of r.parts.items) < 2 ^ 32) }
+    ensures said { IfOk result (λ r. printed_count (map outcome_of r.parts.items) < 2 ^ 64) }
+    ensures survivors { IfOk result (λ r. length r.survivors.items < 2 ^ 32) }
 {
     let five = Said {
         label: "a",
@@ -99,6 +102,31 @@ fn a_report_is_written_line_by_line(rt: HostRuntime) -> Result<(), Fail> {
     let mut count = CountSink::make();
     assert_eq!(rt; write_report(&report, true, &mut count), Ok(()));
     assert_eq!(rt; count.count(), 126);
+    Ok(())
+}
+
+/// 4,294,967,295 and 5 survive.
+#[test]
+fn five_lines_are_written(rt: HostRuntime) -> Result<(), Fail> {
+    let report = report(rt.alloc())?;
+    let rows = [
+        (
+            0,
+            Ok(()),
+            "commands 7\nobjects 3\nlines 3\nsurvivors 2\ntotal 4294967300\n",
+        ),
+        (1, Err(Failed), ""),
+        (
+            5,
+            Err(Failed),
+            "commands 7\nobjects 3\nlines 3\nsurvivors 2\n",
+        ),
+    ];
+    for (failing, answer, text) in rows {
+        let mut sink = MemorySink::make(rt.alloc(), 200, 200, &[failing])?;
+        assert_eq!(rt; write_load(&report, 7, &mut sink), answer);
+        assert_eq!(rt; sink.bytes(), text.as_bytes());
+    }
     Ok(())
 }
 

@@ -8,7 +8,7 @@ use Rattle.gc_script.proofs.finish.script_of_sections.Goals as goal
 pub make-requires : goal.make-requires
 make-requires c =
     counted_sections c.args.fields c.catalogue_section-catalogue.result c.in-Ok.warehouses.items c.as_slice.result.now (option_map parts_of c.args.kept.catalogue) (map parts_of c.args.kept.warehouses.items) _ _ _
-    c.catalogue_section-catalogue.ensures c.in-Ok.ensures c.as_slice.ensures.value c.requires.executed c.requires.printed c.most_seasons-seasons.ensures
+    c.catalogue_section-catalogue.ensures c.in-Ok.ensures c.as_slice.ensures.value c.requires.executed c.requires.printed c.most_seasons-seasons.ensures c.requires.small
 
 pub returns-clause-made : goal.returns-clause-made
 returns-clause-made c =

@@ -1,0 +1,106 @@
+-- One more command of a section: what it does and prints, and what stands where a part begins and ends.
+use Rattle.std.proofs.Common.{◌≡◌, ℕ, ◌+◌, ◌-◌, ◌<◌, ◌≤◌, refl, ap, sym, ◌∙◌, arith, List, [], ◌++◌, length, take, append_assoc}
+use Rattle.std.specs.Prelude.{None, slice_get}
+use Rattle.std.proofs.lemmas.List.{take-map, append-nil}
+use Rattle.std.proofs.lemmas.Option.{slice_get_within, same_Some}
+use Rattle.plain_heap.specs.declared.operation.Op.{Op}
+use Rattle.plain_heap.specs.PlainHeap.{Heap, empty_heap}
+use Rattle.plain_heap.specs.PlainStep.{heap_after, line_of}
+use Rattle.plain_heap.specs.Sections.{Execution, Sections, parts_of, part_of, joined, end_of, IsNext}
+use Rattle.plain_heap.specs.PlainRun.{Printed, heap_from, ops_of, plain, part_end, catalogue_end, seen_catalogue, with_label, printed_from, printed_in_parts, printed_before}
+use Rattle.plain_heap.proofs.Parts.{part_in, end-more, end-grows, take-next}
+use Rattle.plain_heap.proofs.Played.{heap-push, printed-push, heap-none, printed-none, heap-in-part, printed-in-part, catalogue-parts}
+
+-- what section w prints in its first z parts
+abbrev pub part_printed : Sections → ℕ → ℕ → List Printed
+part_printed s w z = printed_in_parts s w 1 (empty_heap s.fields w) (take z (parts_of s w))
+
+-- the heap of a section in part z, after so many of its commands
+pub in-part : (s : Sections) (w k z place : ℕ) → 0 < z → k ≡ end_of s w (z - 1) + place → place ≤ length (part_of s w z)
+    → plain s w k ≡ heap_from (seen_catalogue s w z) (part_end s w (z - 1)) (ops_of (take place (part_of s w z)))
+in-part s w k z place season is below =
+    heap-in-part s w 1 (empty_heap s.fields w) (parts_of s w) (z - 1) place k is below
+    ∙ ap (λ (y : ℕ). heap_from (seen_catalogue s w y) (part_end s w (z - 1)) (ops_of (take place (part_of s w z)))) (let e : 1 + (z - 1) ≡ z = omega arith in e)
+
+-- what it has printed there
+pub in-part-printed : (s : Sections) (w k z place : ℕ) → 0 < z → k ≡ end_of s w (z - 1) + place → place ≤ length (part_of s w z)
+    → printed_before s w k ≡ part_printed s w (z - 1) ++ printed_from (seen_catalogue s w z) (part_end s w (z - 1)) (take place (part_of s w z))
+in-part-printed s w k z place season is below =
+    printed-in-part s w 1 (empty_heap s.fields w) (parts_of s w) (z - 1) place k is below
+    ∙ ap (λ (y : ℕ). part_printed s w (z - 1) ++ printed_from (seen_catalogue s w y) (part_end s w (z - 1)) (take place (part_of s w z))) (let e : 1 + (z - 1) ≡ z = omega arith in e)
+
+-- a command of part z has its place there
+pub next-within : (s : Sections) (w k z : ℕ) (e : Execution) (next : IsNext s w k z e) → next.place < length (part_of s w z)
+next-within s w k z e next = slice_get_within (part_of s w z) next.place e next.there
+
+-- what the next command does
+pub next-heap : (s : Sections) (w k z : ℕ) (e : Execution) → IsNext s w k z e → plain s w (k + 1) ≡ heap_after (plain s w k) (seen_catalogue s w z) e.op
+next-heap s w k z e next =
+    let inside = next-within s w k z e next in
+    let start : Heap = part_end s w (z - 1) in
+    in-part s w (k + 1) z (next.place + 1) next.season (omega (arith, next.before)) (omega (arith, inside))
+    ∙ ap (λ (es : List Execution). heap_from (seen_catalogue s w z) start (ops_of es)) (take-next (part_of s w z) next.place e next.there)
+    ∙ heap-push (seen_catalogue s w z) start (take next.place (part_of s w z)) e
+    ∙ ap (λ (h : Heap). heap_after h (seen_catalogue s w z) e.op) (sym (in-part s w k z next.place next.season next.before (omega (arith, inside))))
+
+-- what it prints
+pub next-printed : (s : Sections) (w k z : ℕ) (e : Execution) → IsNext s w k z e
+    → printed_before s w (k + 1) ≡ printed_before s w k ++ with_label e.label (line_of (plain s w k) (seen_catalogue s w z) e.op) []
+next-printed s w k z e next =
+    let inside = next-within s w k z e next in
+    let start : Heap = part_end s w (z - 1) in
+    let done : List Execution = take next.place (part_of s w z) in
+    let line : Heap → List Printed = λ h. with_label e.label (line_of h (seen_catalogue s w z) e.op) [] in
+    let earlier : List Printed = part_printed s w (z - 1) in
+    in-part-printed s w (k + 1) z (next.place + 1) next.season (omega (arith, next.before)) (omega (arith, inside))
+    ∙ ap (λ (es : List Execution). earlier ++ printed_from (seen_catalogue s w z) start es) (take-next (part_of s w z) next.place e next.there)
+    ∙ ap (λ (l : List Printed). earlier ++ l) (printed-push (seen_catalogue s w z) start done e)
+    ∙ sym (append_assoc earlier (printed_from (seen_catalogue s w z) start done) (line (heap_from (seen_catalogue s w z) start (ops_of done))))
+    ∙ ap (λ (l : List Printed). l ++ line (heap_from (seen_catalogue s w z) start (ops_of done))) (sym (in-part-printed s w k z next.place next.season next.before (omega (arith, inside))))
+    ∙ ap (λ (h : Heap). printed_before s w k ++ line h) (sym (in-part s w k z next.place next.season next.before (omega (arith, inside))))
+
+-- where a section begins
+pub at-start : (s : Sections) (w : ℕ) → plain s w 0 ≡ empty_heap s.fields w
+at-start s w = heap-none s w 1 (empty_heap s.fields w) (parts_of s w)
+
+pub at-start-printed : (s : Sections) (w : ℕ) → printed_before s w 0 ≡ []
+at-start-printed s w = printed-none s w 1 (empty_heap s.fields w) (parts_of s w)
+
+pub end-start : (s : Sections) (w : ℕ) → end_of s w 0 ≡ 0
+end-start s w = refl
+
+-- where a part ends
+pub at-part-end : (s : Sections) (w z : ℕ) → plain s w (end_of s w z) ≡ part_end s w z
+at-part-end s w z = heap-in-part s w 1 (empty_heap s.fields w) (parts_of s w) z 0 (end_of s w z) (omega arith) (omega arith)
+
+pub at-part-end-printed : (s : Sections) (w z : ℕ) → printed_before s w (end_of s w z) ≡ part_printed s w z
+at-part-end-printed s w z = printed-in-part s w 1 (empty_heap s.fields w) (parts_of s w) z 0 (end_of s w z) (omega arith) (omega arith) ∙ append-nil (part_printed s w z)
+
+pub at-catalogue-end : (s : Sections) (z : ℕ) → plain s 0 (end_of s 0 z) ≡ catalogue_end s z
+at-catalogue-end s z =
+    at-part-end s 0 z
+    ∙ catalogue-parts s 1 (empty_heap s.fields 0) (take z (parts_of s 0))
+    ∙ ap (λ (ps : List (List Op)). heap_from None (empty_heap s.fields 0) (joined ps)) (sym (take-map ops_of z (parts_of s 0)))
+
+-- the ends of one part and of the next
+pub next-end : (s : Sections) (w z : ℕ) → end_of s w (z + 1) ≡ end_of s w z + length (part_of s w (z + 1))
+next-end s w z = end-more (parts_of s w) z ∙ ap (λ (y : ℕ). end_of s w z + length (part_in (parts_of s w) y)) (let e : z ≡ z + 1 - 1 = omega arith in e)
+
+pub this-end : (s : Sections) (w z : ℕ) → 1 ≤ z → end_of s w z ≡ end_of s w (z - 1) + length (part_of s w z)
+this-end s w z season = ap (end_of s w) (let e : z ≡ z - 1 + 1 = omega arith in e) ∙ end-more (parts_of s w) (z - 1)
+
+pub ends-grow : (s : Sections) (w y z : ℕ) → y ≤ z → end_of s w y ≤ end_of s w z
+ends-grow s w y z below = omega (arith, ap (end_of s w) (let e : y + (z - y) ≡ z = omega arith in e), end-grows (parts_of s w) y (z - y))
+
+-- the next command is one
+pub next-once : (s : Sections) (w k z y : ℕ) (e d : Execution) → IsNext s w k z e → IsNext s w k y d → (z ≡ y) × (e ≡ d)
+next-once s w k z y e d one other = (same, same_Some e d (sym one.there ∙ ap (slice_get (part_of s w z)) place ∙ ap (λ (x : ℕ). slice_get (part_of s w x) other.place) same ∙ other.there))
+  where
+    not_later : (z y : ℕ) (e d : Execution) → IsNext s w k z e → IsNext s w k y d → z < y → ⊥
+    not_later z y e d one other later = omega (arith, one.before, other.before, next-within s w k z e one, this-end s w z one.season, ends-grow s w z (y - 1) (omega arith))
+
+    same : z ≡ y
+    same = grind (arith, not_later z y e d one other, not_later y z d e other one)
+
+    place : one.place ≡ other.place
+    place = omega (arith, one.before, other.before, ap (λ (x : ℕ). end_of s w (x - 1)) same)
