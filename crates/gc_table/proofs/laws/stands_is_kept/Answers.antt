@@ -1,0 +1,5 @@
+use Rattle.gc_table.proofs.StandsKept.{stands-kept}
+use Rattle.gc_table.proofs.laws.stands_is_kept.Goals as goal
+
+pub returns : goal.returns
+returns c = stands-kept

@@ -1,0 +1,5 @@
+use Rattle.gc_table.proofs.StandsStart.{stands-starts}
+use Rattle.gc_table.proofs.laws.stands_starts.Goals as goal
+
+pub returns : goal.returns
+returns c = stands-starts

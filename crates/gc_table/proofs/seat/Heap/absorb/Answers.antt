@@ -1,0 +1,11 @@
+use Rattle.std.proofs.Common.{rules}
+use Rattle.gc_table.proofs.Allowed.{possible-live}
+use Rattle.gc_table.proofs.Closing.{joins}
+use Rattle.gc_table.proofs.seat.Heap.absorb.Goals as goal
+
+pub join_seat-requires : goal.join_seat-requires
+join_seat-requires c =
+    let q = c.requires in
+    let s = c.args.first.now in
+    let t = c.args.other in
+    (search rules, search rules, search rules, search rules, joins _ _ _ _ _ (possible-live _ s.possible) q.first.1 (possible-live _ t.possible) q.other.1 q.other.2)

@@ -1,0 +1,42 @@
+use Rattle.std.proofs.Common.{◌≡◌, ℕ, ◌+◌, List, ◌∷◌, [], length, sym, ap, ◌∙◌, subst, ⊎_elim, Some, arith, length-append}
+use Rattle.std.specs.Prelude.{slice_get}
+use Rattle.mark_core.specs.Start.{start_seat}
+use Rattle.gc_table.specs.declared.seat.HeapSeat.{HeapSeat}
+use Rattle.gc_table.specs.declared.view.View.{View}
+use Rattle.gc_table.specs.Seats.{Sits, view_of, IsFresh}
+use Rattle.gc_table.proofs.Records.{got-snoc, got-first}
+use Rattle.gc_table.proofs.seat.Heap.create_all.Goals as goal
+
+pub loop-number-preserved : goal.loop-number-preserved
+loop-number-preserved c =
+    let i = c.loop-number.invariant in
+    let f = c.open_seat.ensures.first in
+    let n = c.open_seat.ensures.new in
+    let P : ℕ → HeapSeat → Type 0 = λ j s. Sits c.in_ok-heap.heap s × IsFresh c.args.shape (j + 1) (view_of s) in
+    let number : c.loop-number.number ≡ length c.loop-number.all.items + 1 = sym i.long in
+    let new : P (length c.loop-number.all.items) c.open_seat.result =
+    (n.0, record { shape = n.0.1 ∙ i.shape; state = ap (λ (v : View). v.state) n.1 ∙ (λ x. start_seat (i.shape x) (number x)); log = ap (λ (v : View). v.log) n.1 }) in
+    record {
+      shape = i.shape;
+      sits = f.0;
+      fresh = record { shape = ap (λ (v : View). v.shape) f.1 ∙ i.fresh.shape; state = ap (λ (v : View). v.state) f.1 ∙ i.fresh.state; log = ap (λ (v : View). v.log) f.1 ∙ i.fresh.log };
+      opened = ap (λ (v : View). v.opened) f.1 ∙ ap (λ (x : ℕ). x + 1) i.opened;
+      count = omega (arith, c.push_reserved.ensures.len, i.count);
+      long = omega (arith, i.long, ap length c.push_reserved.ensures.items, length-append c.loop-number.all.items (c.open_seat.result ∷ []));
+      room = omega (arith, c.push_reserved.ensures.capacity, i.room);
+      each = λ j s e.
+          ⊎_elim
+          (λ (h : slice_get c.loop-number.all.items j ≡ Some s). i.each j s h)
+          (λ (t : (j ≡ length c.loop-number.all.items) × (c.open_seat.result ≡ s)). subst (λ (x : ℕ × HeapSeat). P x.0 x.1) (λ y. (sym t.0 y, t.1 y)) new)
+          (got-snoc c.loop-number.all.items c.open_seat.result s j (ap (λ (l : List HeapSeat). slice_get l j) (sym c.push_reserved.ensures.items) ∙ e));
+    }
+
+pub returns : goal.returns
+returns c =
+    let i = c.loop-number.invariant in
+    let P : ℕ → HeapSeat → Type 0 = λ j s. Sits c.in_ok-heap.heap s × IsFresh c.args.shape j (view_of s) in
+    let e = c.in_ok-insert.ensures in (
+      i.shape,
+      omega (arith, i.count, e.len),
+      λ j s h. got-first P c.loop-number.all.items c.loop-number.first (i.sits, i.fresh) i.each j s (ap (λ (l : List HeapSeat). slice_get l j) (sym (e.items)) ∙ h),
+    )

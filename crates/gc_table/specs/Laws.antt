@@ -1,0 +1,64 @@
+-- What is claimed of the plain heaps for which the words stand, as statements for proofs to meet.
+use Rattle.std.specs.Prelude.{ℕ, ◌≡◌, List, None, Some, IsTrue, slice_get, slice_set}
+use Rattle.mark_core.specs.Shapes.{IsShape}
+use Rattle.mark_core.specs.Steps.{Core, failing_part, after_event, start_core}
+use Rattle.mark_core.specs.Layout.{words_of}
+use Rattle.mark_core.specs.Views.{makers}
+use Rattle.mark_core.specs.Cells.{in_use}
+use Rattle.mark_core.specs.HeapRules.{section_of}
+use Rattle.mark_core.specs.Closed.{IsReachableIn}
+use Rattle.mark_core.specs.Laws.{IsCore}
+use Rattle.mark_core.specs.declared.kinds.Shape.{Shape}
+use Rattle.mark_core.specs.declared.kinds.Event.{Event}
+use Rattle.mark_core.specs.declared.kinds.Step.{Step}
+use Rattle.mark_core.specs.declared.seat.SeatState.{SeatState}
+use Rattle.plain_heap.specs.declared.operation.Op.{Op}
+use Rattle.plain_heap.specs.Paths.{Name, IsReachable}
+use Rattle.gc_table.specs.StandsFor.{StandsFor, Meaning, Holds, IsNext, heaps_of, name_at, object_count, start_meanings}
+use Rattle.plain_heap.specs.PlainStep.{IsInRange}
+use Rattle.gc_table.specs.PlainSteps.{meaning_after, meanings_after, seen_in, AsksIn, changes_heap}
+
+-- the state in which nothing has happened stands for empty heaps
+abbrev pub StartStands : Type 0
+StartStands = (sh : Shape) (n : ℕ) → IsShape sh → StandsFor (start_core sh n) (start_meanings sh)
+
+-- each event that is allowed, and whose step meets what is asked besides, keeps it: the words stand for the heaps after the step
+abbrev pub EventsKeepStands : Type 0
+EventsKeepStands =
+    (c : Core) (e : Event) (s : SeatState) (op : Op) (ms : List Meaning) → IsCore c → StandsFor c ms → slice_get c.seats e.seat ≡ Some s → AsksIn s ms e.step op → failing_part c e ≡ None
+    → StandsFor (after_event c e) (meanings_after c.shape s e.step op ms)
+
+-- the plain step of a store is one of a script: its variables, fields and values are in range
+abbrev pub PlainStepsAreInRange : Type 0
+PlainStepsAreInRange =
+    (c : Core) (e : Event) (s : SeatState) (op : Op) (ms : List Meaning) → IsCore c → StandsFor c ms → slice_get c.seats e.seat ≡ Some s → AsksIn s ms e.step op → failing_part c e ≡ None → IsTrue (changes_heap e.step)
+    → IsInRange c.shape.fields op
+
+-- a step of a section's seat changes the meaning of this section alone, by what it was and what the section sees of the catalogue
+abbrev pub OneMeaningChanges : Type 0
+OneMeaningChanges =
+    (sh : Shape) (s : SeatState) (step : Step) (op : Op) (ms : List Meaning) (w : ℕ) (m : Meaning) → s.section ≡ Some w → slice_get ms w ≡ Some m → meanings_after sh s step op ms ≡ slice_set ms w (meaning_after sh s (seen_in ms w) step op m)
+
+-- at most one cell of a section is made for the next object
+abbrev pub OneCellIsNext : Type 0
+OneCellIsNext =
+    (c : Core) (m : Meaning) (x y : ℕ) → let w = words_of c.shape c.words in IsCore c → IsTrue (in_use w.allocs (makers c.seats) x) → IsTrue (in_use w.allocs (makers c.seats) y)
+    → section_of w.identities x ≡ section_of w.identities y → IsNext c.shape w.identities w.values w.fields m x → IsNext c.shape w.identities w.values w.fields m y → x ≡ y
+
+-- cell x holds the object of this name
+abbrev pub IsCellOfObject : Core → List Meaning → Name → ℕ → Type 0
+IsCellOfObject c ms name x =
+    let w = words_of c.shape c.words in
+    IsTrue (in_use w.allocs (makers c.seats) x) × (name_at w.identities x ≡ name)
+    × ((m : Meaning) × (slice_get ms name.section ≡ Some m) × Holds c.shape w.identities w.values w.fields (object_count ms) m x)
+
+-- each reachable object has a cell, and this cell is reachable
+abbrev pub ReachableObjectsHaveCells : Type 0
+ReachableObjectsHaveCells =
+    (c : Core) (ms : List Meaning) → IsCore c → StandsFor c ms → (name : Name) → IsReachable (heaps_of ms) name → (x : ℕ) × IsCellOfObject c ms name x × IsReachableIn c x
+
+-- a reachable cell holds an object, and this object is reachable; so no cell that is made for the next object is reachable
+abbrev pub ReachableCellsHaveObjects : Type 0
+ReachableCellsHaveObjects =
+    (c : Core) (ms : List Meaning) → IsCore c → StandsFor c ms → (x : ℕ) → IsReachableIn c x
+    → IsCellOfObject c ms (name_at (words_of c.shape c.words).identities x) x × IsReachable (heaps_of ms) (name_at (words_of c.shape c.words).identities x)

@@ -1,0 +1,45 @@
+-- A seat of a heap.
+use Rattle.std.specs.Prelude.{ℕ, ◌≡◌, [], IsTrue}
+use Rattle.mark_core.specs.Seats.{is_bare}
+use Rattle.mark_core.specs.Start.{start_seat}
+use Rattle.mark_core.specs.declared.kinds.Shape.{Shape}
+use Rattle.mark_core.specs.Effects.{written}
+use Rattle.mark_core.specs.declared.kinds.Step.{Step}
+use Rattle.gc_table.specs.Taking.{after, Finds}
+use Rattle.gc_table.specs.declared.view.View.{View}
+use Rattle.gc_table.specs.declared.seat.Heap.{Heap}
+use Rattle.gc_table.specs.declared.seat.HeapSeat.{HeapSeat}
+
+-- what the seat knows
+abbrev pub view_of : HeapSeat → View
+view_of s = s.token.me.0
+
+-- the seat is one of the heap's
+abbrev pub Sits : Heap → HeapSeat → Type 0
+Sits h s = (s.token.table_id ≡ h.table.shared.table_id) × (s.token.me.0.shape ≡ h.shape)
+
+-- one step was taken, which found this word
+abbrev pub Found : Step → ℕ → View → View → Type 0
+Found step n v w = (w ≡ after step n v) × Finds step n v
+
+-- one step was taken
+abbrev pub Took : Step → View → View → Type 0
+Took step v w = (n : ℕ) × Found step n v w
+
+-- one step was taken, and of the word that it found this is true
+abbrev pub Answered : Step → (ℕ → Type 0) → View → View → Type 0
+Answered step P v w = (n : ℕ) × (w ≡ after step n v) × Finds step n v × P n
+
+-- one step was taken, which stored its word whatever was there
+abbrev pub Stored : Step → View → View → Type 0
+Stored step v w = w ≡ after step (written v.shape v.state step 0) v
+
+-- the seat i has done nothing yet
+pub record IsFresh (sh : Shape) (i : ℕ) (v : View) : Type 0 where
+  pub shape : v.shape ≡ sh
+  pub state : v.state ≡ start_seat sh i
+  pub log : v.log ≡ []
+
+-- the seat is outside the world, its stop and its help
+abbrev pub IsOutside : View → Type 0
+IsOutside v = IsTrue (is_bare v.state)

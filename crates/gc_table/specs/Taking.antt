@@ -1,0 +1,63 @@
+-- When a seat may take a step, and its view afterwards.
+use Rattle.std.specs.Prelude.{ℕ, ◌≡◌, ◌%◌, [], ◌∷◌, ◌++◌, Bool, true, not, ◌==◌, Some}
+use Rattle.mark_core.specs.Bits.{has_bit, has_flag}
+use Rattle.mark_core.specs.Layout.{words_of}
+use Rattle.mark_core.specs.Parts.{parts}
+use Rattle.mark_core.specs.Effects.{place, written, seat_after}
+use Rattle.mark_core.specs.Seats.{is_phase}
+use Rattle.mark_core.specs.Steps.{Core, AllTrue}
+use Rattle.mark_core.specs.Laws.{NumbersFit}
+use Rattle.mark_core.specs.Notes.{steady, keeps_bound}
+use Rattle.mark_core.specs.declared.kinds.Phase.{Phase}
+use Rattle.mark_core.specs.declared.kinds.Phase.TheVariants.{Idle, Marking}
+use Rattle.mark_core.specs.declared.kinds.Step.{Step}
+use Rattle.mark_core.specs.declared.kinds.Step.TheVariants.{Take, SetMark, ClearCard, ReadCard, ClaimBlock, EnterStep, RaiseStep, StorePhase, JoinHelpStep, Split, Join}
+use Rattle.gc_table.specs.declared.view.View.{View}
+use Rattle.gc_table.specs.Notes.{look, noting}
+use Rattle.gc_table.specs.Rule.{IsState, Agrees}
+
+-- a move of the phase takes place, where this phase is found
+abbrev pub moves_from : ℕ → Phase → Bool
+moves_from n Marking = is_phase n Idle
+moves_from n to = true
+
+-- the step got what it tried to get, where it found this word
+abbrev pub won : Step → ℕ → Bool
+won (Take q p) n = has_bit n (p % 64)
+won (SetMark c) n = not (has_bit n (c % 64))
+won (ClearCard card) n = n == 1
+won (ReadCard card) n = n == 1
+won (ClaimBlock b) n = n == 0
+won EnterStep n = not (has_flag n)
+won RaiseStep n = not (has_flag n)
+won JoinHelpStep n = has_flag n
+won (StorePhase to) n = moves_from n to
+won step n = true
+
+-- the view after a step that found n
+abbrev pub after : Step → ℕ → View → View
+after step n v =
+    record v {
+      state = seat_after v.shape v.state step n;
+      log = v.log ++ record { step = step; found = n; won = won step n } ∷ [];
+      known = noting (steady (seat_after v.shape v.state step n)) (place v.shape v.state step) (written v.shape v.state step n) v.known;
+      floors = noting (λ at m. keeps_bound (seat_after v.shape v.state step n) at) (place v.shape v.state step) (written v.shape v.state step n) v.floors;
+    }
+
+-- the condition of the step holds in every state that meets the rule and agrees with the view
+abbrev pub May : Step → View → Type 0
+May step v = (c : Core) (i : ℕ) → IsState c → Agrees c i v → AllTrue (parts c.shape (words_of c.shape c.words) c.seats v.state step)
+
+-- a step of one seat alone, whose numbers fit their types
+abbrev pub IsOwn : Step → Type 0
+IsOwn Split = ⊥
+IsOwn (Join other) = ⊥
+IsOwn step = NumbersFit step
+
+-- what the step found is what the seat had noted
+abbrev pub Finds : Step → ℕ → View → Type 0
+Finds step n v = (m : ℕ) → look (place v.shape v.state step) v.known ≡ Some m → n ≡ m
+
+-- what a store does doesn't rest on the word that it overwrites
+abbrev pub IsBlind : Step → View → Type 0
+IsBlind step v = (m n : ℕ) → (seat_after v.shape v.state step m ≡ seat_after v.shape v.state step n) × (written v.shape v.state step m ≡ written v.shape v.state step n)

@@ -1,0 +1,38 @@
+// What holds of the words and of the plain heaps for which they stand, over every state and event: each law is the contract of a function that does nothing.
+ghost use Rattle.gc_table.specs.Laws.{StartStands, EventsKeepStands, PlainStepsAreInRange, OneMeaningChanges, OneCellIsNext, ReachableObjectsHaveCells, ReachableCellsHaveObjects};
+
+/// The state in which nothing has happened stands for the empty heap of each section.
+pub fn stands_starts()
+    ensures { StartStands }
+{}
+
+/// Each event that is allowed, and whose step meets what is asked besides, leads to a state that stands for the plain heaps after the step.
+/// A store changes the plain heap of its seat's section by one plain step, and every other step leaves all plain heaps.
+pub fn stands_is_kept()
+    ensures { EventsKeepStands }
+{}
+
+/// The plain step of a store is one that a script may have: its variables, its field and its value are in range.
+pub fn plain_steps_are_in_range()
+    ensures { PlainStepsAreInRange }
+{}
+
+/// A step of a section's seat changes what this section's words mean and no other, so a seat can tell it by itself.
+pub fn one_meaning_changes()
+    ensures { OneMeaningChanges }
+{}
+
+/// At most one cell in use of a section has no object yet.
+pub fn one_cell_is_next()
+    ensures { OneCellIsNext }
+{}
+
+/// Each reachable object has a cell with its words, and this cell is reachable.
+pub fn reachable_objects_have_cells()
+    ensures { ReachableObjectsHaveCells }
+{}
+
+/// A reachable cell has the words of an object, and this object is reachable: never is it a cell whose object is still to come.
+pub fn reachable_cells_have_objects()
+    ensures { ReachableCellsHaveObjects }
+{}

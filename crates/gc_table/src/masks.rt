@@ -1,0 +1,21 @@
+//! The masks of single bits, and the flag above a count of seats.
+ghost use Rattle.std.specs.Prelude.{◌≡◌, ◌<◌, ◌^◌};
+ghost use Rattle.mark_core.specs.Bits.{complement};
+
+pub const FLAG: u64 = 4_294_967_296;
+
+/// Bit i alone.
+pub fn bit(i: u32) -> u64
+    requires { i < 64 }
+    ensures { result ≡ 2 ^ i }
+{
+    1 << i
+}
+
+/// All bits but bit i.
+pub fn all_but(i: u32) -> u64
+    requires { i < 64 }
+    ensures { result ≡ complement (2 ^ i) }
+{
+    !(1 << i)
+}

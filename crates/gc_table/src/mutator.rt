@@ -1,0 +1,135 @@
+//! The steps of a mutator on its objects, its variables and its block.
+ghost use Rattle.std.specs.Prelude.{◌≡◌};
+ghost use Rattle.gc_table.specs.Seats.{Answered, Found, Sits, Stored, view_of};
+ghost use Rattle.gc_table.specs.Taking.{May, won};
+
+use crate::seat::{Heap, HeapSeat};
+use mark_core::{Cell, Step, used_bits};
+
+impl Heap {
+    /// Field i of an object that the seat knows.
+    pub fn read_own(&self, seat: &mut HeapSeat, c: Cell, i: u8) -> u64
+        requires seat { Sits self.now seat.old }
+        requires may { May (Step.ReadOwn c i) (view_of seat.old) }
+        ensures seat { Sits self.now seat.new }
+        ensures view { Found (Step.ReadOwn c i) result (view_of seat.old) (view_of seat.new) }
+    {
+        self.load_step(seat, Step::ReadOwn { c, i })
+    }
+
+    /// The value of an object that the seat knows.
+    pub fn read_value(&self, seat: &mut HeapSeat, c: Cell) -> u64
+        requires seat { Sits self.now seat.old }
+        requires may { May (Step.ReadValue c) (view_of seat.old) }
+        ensures seat { Sits self.now seat.new }
+        ensures view { Found (Step.ReadValue c) result (view_of seat.old) (view_of seat.new) }
+    {
+        self.load_step(seat, Step::ReadValue { c })
+    }
+
+    /// Whose object it is, and which.
+    pub fn read_ident(&self, seat: &mut HeapSeat, c: Cell) -> u64
+        requires seat { Sits self.now seat.old }
+        requires may { May (Step.ReadIdent c) (view_of seat.old) }
+        ensures seat { Sits self.now seat.new }
+        ensures view { Found (Step.ReadIdent c) result (view_of seat.old) (view_of seat.new) }
+    {
+        self.load_step(seat, Step::ReadIdent { c })
+    }
+
+    /// Variable v of the catalogue.
+    pub fn read_cat(&self, seat: &mut HeapSeat, v: u8) -> u64
+        requires seat { Sits self.now seat.old }
+        requires may { May (Step.ReadCat v) (view_of seat.old) }
+        ensures seat { Sits self.now seat.new }
+        ensures view { Found (Step.ReadCat v) result (view_of seat.old) (view_of seat.new) }
+    {
+        self.load_step(seat, Step::ReadCat { v })
+    }
+
+    /// Stores variable w, or nil, in field i of variable v's object.
+    pub fn store_field(&self, seat: &mut HeapSeat, v: u8, i: u8, w: Option<u8>)
+        requires seat { Sits self.now seat.old }
+        requires may { May (Step.StoreField v i w) (view_of seat.old) }
+        ensures seat { Sits self.now seat.new }
+        ensures view { Stored (Step.StoreField v i w) (view_of seat.old) (view_of seat.new) }
+    {
+        self.store_step(seat, Step::StoreField { v, i, w });
+    }
+
+    /// Stores a value in variable v's object.
+    pub fn store_value(&self, seat: &mut HeapSeat, v: u8, n: u32)
+        requires seat { Sits self.now seat.old }
+        requires may { May (Step.StoreValue v n) (view_of seat.old) }
+        ensures seat { Sits self.now seat.new }
+        ensures view { Stored (Step.StoreValue v n) (view_of seat.old) (view_of seat.new) }
+    {
+        self.store_step(seat, Step::StoreValue { v, n });
+    }
+
+    /// Stores a reference in variable v.
+    pub fn store_root(&self, seat: &mut HeapSeat, v: u8, r: u64)
+        requires seat { Sits self.now seat.old }
+        requires may { May (Step.StoreRoot v r) (view_of seat.old) }
+        ensures seat { Sits self.now seat.new }
+        ensures view { Stored (Step.StoreRoot v r) (view_of seat.old) (view_of seat.new) }
+    {
+        self.store_step(seat, Step::StoreRoot { v, r });
+    }
+
+    /// Takes block b to make cells in: true where nobody had it.
+    pub fn claim_block(&self, seat: &mut HeapSeat, b: u32) -> bool
+        requires seat { Sits self.now seat.old }
+        requires may { May (Step.ClaimBlock b) (view_of seat.old) }
+        ensures seat { Sits self.now seat.new }
+        ensures view { Answered (Step.ClaimBlock b) (λ n. result ≡ won (Step.ClaimBlock b) n) (view_of seat.old) (view_of seat.new) }
+    {
+        let found = self.compare_exchange_step(
+            seat,
+            0,
+            u64::from(seat.state.number) + 1,
+            Step::ClaimBlock { b },
+        );
+        found == 0
+    }
+
+    /// Gives the block up.
+    pub fn release_block(&self, seat: &mut HeapSeat)
+        requires seat { Sits self.now seat.old }
+        requires may { May Step.ReleaseBlock (view_of seat.old) }
+        ensures seat { Sits self.now seat.new }
+        ensures view { Stored Step.ReleaseBlock (view_of seat.old) (view_of seat.new) }
+    {
+        self.store_step(seat, Step::ReleaseBlock);
+    }
+
+    /// The allocation bits of the seat's block, which tell its free cells.
+    pub fn read_free(&self, seat: &mut HeapSeat) -> u64
+        requires seat { Sits self.now seat.old }
+        requires may { May Step.ReadFree (view_of seat.old) }
+        ensures seat { Sits self.now seat.new }
+        ensures view { Found Step.ReadFree result (view_of seat.old) (view_of seat.new) }
+    {
+        self.load_step(seat, Step::ReadFree)
+    }
+
+    /// Stores a word of a new cell: the fields, then the value, then the identity.
+    pub fn store_new(&self, seat: &mut HeapSeat, c: Cell, part: u8, word: u64)
+        requires seat { Sits self.now seat.old }
+        requires may { May (Step.StoreNew c part word) (view_of seat.old) }
+        ensures seat { Sits self.now seat.new }
+        ensures view { Stored (Step.StoreNew c part word) (view_of seat.old) (view_of seat.new) }
+    {
+        self.store_step(seat, Step::StoreNew { c, part, word });
+    }
+
+    /// Publishes the cells that the seat made.
+    pub fn publish_cells(&self, seat: &mut HeapSeat) -> u64
+        requires seat { Sits self.now seat.old }
+        requires may { May Step.PublishCells (view_of seat.old) }
+        ensures seat { Sits self.now seat.new }
+        ensures view { Found Step.PublishCells result (view_of seat.old) (view_of seat.new) }
+    {
+        self.fetch_or_step(seat, used_bits(seat.state.cache), Step::PublishCells)
+    }
+}

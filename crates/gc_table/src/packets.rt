@@ -1,0 +1,112 @@
+//! The steps on packets. The pools are 0 empty, 1 low, 2 high, 3 deferred.
+ghost use Rattle.std.specs.Prelude.{◌≡◌};
+ghost use Rattle.mark_core.specs.Bits.{cell_of as cell_of_word, reference_in as reference_in_word};
+ghost use Rattle.gc_table.specs.Seats.{Answered, Found, Sits, Stored, Took, view_of};
+ghost use Rattle.gc_table.specs.Taking.{May, won};
+
+use crate::masks::{all_but, bit};
+use crate::seat::{Heap, HeapSeat};
+use mark_core::{Cell, Step, cell_of, has_bit, reference_in};
+
+impl Heap {
+    /// Takes one from the count of empty packets, before one is looked for.
+    pub fn reserve(&self, seat: &mut HeapSeat)
+        requires seat { Sits self.now seat.old }
+        requires may { May Step.Reserve (view_of seat.old) }
+        ensures seat { Sits self.now seat.new }
+        ensures view { Took Step.Reserve (view_of seat.old) (view_of seat.new) }
+    {
+        self.fetch_sub_step(seat, 1, Step::Reserve);
+    }
+
+    /// Takes packet p out of pool q: true where it was there.
+    pub fn take(&self, seat: &mut HeapSeat, q: u8, p: u32) -> bool
+        requires seat { Sits self.now seat.old }
+        requires may { May (Step.Take q p) (view_of seat.old) }
+        ensures seat { Sits self.now seat.new }
+        ensures view { Answered (Step.Take q p) (λ n. result ≡ won (Step.Take q p) n) (view_of seat.old) (view_of seat.new) }
+    {
+        let found = self.fetch_and_step(seat, all_but(p % 64), Step::Take { q, p });
+        has_bit(found, p % 64)
+    }
+
+    /// Gives packet p back to the pool of its length, or to the deferred pool.
+    pub fn give(&self, seat: &mut HeapSeat, p: u32, deferred: bool)
+        requires seat { Sits self.now seat.old }
+        requires may { May (Step.Give p deferred) (view_of seat.old) }
+        ensures seat { Sits self.now seat.new }
+        ensures view { Took (Step.Give p deferred) (view_of seat.old) (view_of seat.new) }
+    {
+        self.fetch_or_step(seat, bit(p % 64), Step::Give { p, deferred });
+    }
+
+    /// Counts the empty packet that the seat gave back, or reserved and found none of.
+    pub fn credit(&self, seat: &mut HeapSeat)
+        requires seat { Sits self.now seat.old }
+        requires may { May Step.Credit (view_of seat.old) }
+        ensures seat { Sits self.now seat.new }
+        ensures view { Took Step.Credit (view_of seat.old) (view_of seat.new) }
+    {
+        self.fetch_add_step(seat, 1, Step::Credit);
+    }
+
+    /// Puts a grey cell into packet p.
+    pub fn push(&self, seat: &mut HeapSeat, p: u32, cell: Cell)
+        requires seat { Sits self.now seat.old }
+        requires may { May (Step.Push p cell) (view_of seat.old) }
+        ensures seat { Sits self.now seat.new }
+        ensures view { Stored (Step.Push p cell) (view_of seat.old) (view_of seat.new) }
+    {
+        self.store_step(seat, Step::Push { p, cell });
+    }
+
+    /// Takes the grey cell that was put in last.
+    pub fn pop(&self, seat: &mut HeapSeat, p: u32) -> Cell
+        requires seat { Sits self.now seat.old }
+        requires may { May (Step.Pop p) (view_of seat.old) }
+        ensures seat { Sits self.now seat.new }
+        ensures view { Answered (Step.Pop p) (λ n. result ≡ cell_of_word n) (view_of seat.old) (view_of seat.new) }
+    {
+        cell_of(self.load_step(seat, Step::Pop { p }))
+    }
+
+    /// Word g of pool q.
+    pub fn look(&self, seat: &mut HeapSeat, q: u8, g: u32) -> u64
+        requires seat { Sits self.now seat.old }
+        requires may { May (Step.Look q g) (view_of seat.old) }
+        ensures seat { Sits self.now seat.new }
+        ensures view { Found (Step.Look q g) result (view_of seat.old) (view_of seat.new) }
+    {
+        self.load_step(seat, Step::Look { q, g })
+    }
+
+    /// The count of empty packets, 64 above.
+    pub fn read_count(&self, seat: &mut HeapSeat) -> u64
+        requires seat { Sits self.now seat.old }
+        requires may { May Step.ReadCount (view_of seat.old) }
+        ensures seat { Sits self.now seat.new }
+        ensures view { Found Step.ReadCount result (view_of seat.old) (view_of seat.new) }
+    {
+        self.load_step(seat, Step::ReadCount)
+    }
+
+    /// Stores the length of packet p in its head.
+    pub fn store_length(&self, seat: &mut HeapSeat, p: u32)
+        requires seat { Sits self.now seat.old }
+        requires may { May (Step.StoreLength p) (view_of seat.old) }
+        ensures seat { Sits self.now seat.new }
+        ensures view { Stored (Step.StoreLength p) (view_of seat.old) (view_of seat.new) }
+    {
+        self.store_step(seat, Step::StoreLength { p });
+    }
+
+    /// The length of packet p, from its head.
+    pub fn read_length(&self, seat: &mut HeapSeat, p: u32) -> u32
+        requires seat { Sits self.now seat.old }
+        requires may { May (Step.ReadLength p) (view_of seat.old) }
+        ensures seat { Sits self.now seat.new }
+        ensures view { Answered (Step.ReadLength p) (λ n. result ≡ reference_in_word n) (view_of seat.old) (view_of seat.new) }
+    {
+        reference_in(self.load_step(seat, Step::ReadLength { p }))
+    }
+}

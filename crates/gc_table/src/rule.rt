@@ -1,0 +1,55 @@
+//! The rule of the table, and what a step tells its seat.
+ghost use Rattle.std.specs.Prelude.{◌≡◌, []};
+ghost use Rattle.gc_table.specs.Notes.{look};
+ghost use Rattle.gc_table.specs.Rule.{Holds, IsPossible, newcomer};
+ghost use Rattle.gc_table.specs.Taking.{after, Finds};
+
+use crate::view::View;
+use atomic_table::{Play, TableRule};
+use mark_core::Shape;
+use std::marker::{Brand, PhantomData};
+
+/// What the rule is told when the table is made.
+#[derive(Drop)]
+pub struct Key {
+    pub shape: Shape,
+}
+
+pub struct Rule;
+
+impl TableRule<(), View, Key> for Rule {
+    ghost holds = { λ k. Holds k.shape };
+
+    ghost first = { λ k. newcomer k.shape 0 };
+}
+
+/// The step that is taken. Each call picks it.
+pub trait Telling {
+    ghost use Rattle.mark_core.specs.declared.kinds.Step.{Step};
+
+    ghost step: { Step };
+}
+
+impl Telling for Brand {
+    ghost use Rattle.mark_core.specs.declared.kinds.Step.TheVariants.{ReadCount};
+
+    ghost step = { ReadCount };
+}
+
+/// A word that was read, or read and written: the seat is as after the step, and the word is as it was noted.
+pub struct Told<T> {
+    of: PhantomData<T>,
+}
+
+impl<T: Telling> Play<(), View> for Told<T> {
+    ghost then = { λ st m found n. (n ≡ (after T.step found m.0, [])) × IsPossible n.0 × Finds T.step found m.0 };
+}
+
+/// A word that was written and not read.
+pub struct Stored<T> {
+    of: PhantomData<T>,
+}
+
+impl<T: Telling> Play<(), View> for Stored<T> {
+    ghost then = { λ st m new n. (n ≡ (after T.step new m.0, [])) × IsPossible n.0 };
+}

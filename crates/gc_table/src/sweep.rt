@@ -1,0 +1,125 @@
+//! The steps of the sweep and of the counters.
+ghost use Rattle.std.specs.Prelude.{◌≡◌};
+ghost use Rattle.mark_core.specs.SweepSteps.{survivors};
+ghost use Rattle.gc_table.specs.Seats.{Found, Sits, Stored, Took, view_of};
+ghost use Rattle.gc_table.specs.Taking.{May};
+
+use crate::seat::{Heap, HeapSeat};
+use mark_core::Step;
+
+impl Heap {
+    /// The next block of the sweep, which comes in hand where there is one.
+    pub fn next_block(&self, seat: &mut HeapSeat) -> u64
+        requires seat { Sits self.now seat.old }
+        requires may { May Step.NextBlock (view_of seat.old) }
+        ensures seat { Sits self.now seat.new }
+        ensures view { Found Step.NextBlock result (view_of seat.old) (view_of seat.new) }
+    {
+        self.fetch_add_step(seat, 1, Step::NextBlock)
+    }
+
+    /// The next card of the pass.
+    pub fn next_of_cards(&self, seat: &mut HeapSeat) -> u64
+        requires seat { Sits self.now seat.old }
+        requires may { May Step.NextOfCards (view_of seat.old) }
+        ensures seat { Sits self.now seat.new }
+        ensures view { Found Step.NextOfCards result (view_of seat.old) (view_of seat.new) }
+    {
+        self.fetch_add_step(seat, 1, Step::NextOfCards)
+    }
+
+    /// The mark bits of the block in hand.
+    pub fn read_block_marks(&self, seat: &mut HeapSeat) -> u64
+        requires seat { Sits self.now seat.old }
+        requires may { May Step.ReadBlockMarks (view_of seat.old) }
+        ensures seat { Sits self.now seat.new }
+        ensures view { Found Step.ReadBlockMarks result (view_of seat.old) (view_of seat.new) }
+    {
+        self.load_step(seat, Step::ReadBlockMarks)
+    }
+
+    /// Frees the white cells of the block in hand, and answers the bits of those that stay.
+    pub fn store_alloc(&self, seat: &mut HeapSeat) -> u64
+        requires seat { Sits self.now seat.old }
+        requires may { May Step.StoreAlloc (view_of seat.old) }
+        ensures seat { Sits self.now seat.new }
+        ensures view { Stored Step.StoreAlloc (view_of seat.old) (view_of seat.new) }
+        ensures word { result ≡ survivors (view_of seat.old).state.block }
+    {
+        self.store_step(seat, Step::StoreAlloc)
+    }
+
+    /// Clears the marks of the block in hand.
+    pub fn clear_marks(&self, seat: &mut HeapSeat)
+        requires seat { Sits self.now seat.old }
+        requires may { May Step.ClearMarks (view_of seat.old) }
+        ensures seat { Sits self.now seat.new }
+        ensures view { Stored Step.ClearMarks (view_of seat.old) (view_of seat.new) }
+    {
+        self.store_step(seat, Step::ClearMarks);
+    }
+
+    /// Wipes a card.
+    pub fn wipe_card(&self, seat: &mut HeapSeat, card: u32)
+        requires seat { Sits self.now seat.old }
+        requires may { May (Step.WipeCard card) (view_of seat.old) }
+        ensures seat { Sits self.now seat.new }
+        ensures view { Stored (Step.WipeCard card) (view_of seat.old) (view_of seat.new) }
+    {
+        self.store_step(seat, Step::WipeCard { card });
+    }
+
+    /// Stores how far the section has come.
+    pub fn store_position(&self, seat: &mut HeapSeat, done: u32)
+        requires seat { Sits self.now seat.old }
+        requires may { May (Step.StorePosition done) (view_of seat.old) }
+        ensures seat { Sits self.now seat.new }
+        ensures view { Stored (Step.StorePosition done) (view_of seat.old) (view_of seat.new) }
+    {
+        self.store_step(seat, Step::StorePosition { done });
+    }
+
+    /// Names the section, before it finds the heap full.
+    pub fn store_named(&self, seat: &mut HeapSeat)
+        requires seat { Sits self.now seat.old }
+        requires may { May Step.StoreNamed (view_of seat.old) }
+        ensures seat { Sits self.now seat.new }
+        ensures view { Stored Step.StoreNamed (view_of seat.old) (view_of seat.new) }
+    {
+        self.store_step(seat, Step::StoreNamed);
+    }
+
+    /// Sets a counter or statistic, 0 to 4, to 0.
+    pub fn reset(&self, seat: &mut HeapSeat, which: u8)
+        requires seat { Sits self.now seat.old }
+        requires may { May (Step.Reset which) (view_of seat.old) }
+        ensures seat { Sits self.now seat.new }
+        ensures view { Stored (Step.Reset which) (view_of seat.old) (view_of seat.new) }
+    {
+        self.store_step(seat, Step::Reset { which });
+    }
+
+    /// A counter, a statistic, the named section (7), or a position (8 and the section).
+    pub fn read_stat(&self, seat: &mut HeapSeat, which: u8) -> u64
+        requires seat { Sits self.now seat.old }
+        requires may { May (Step.ReadStat which) (view_of seat.old) }
+        ensures seat { Sits self.now seat.new }
+        ensures view { Found (Step.ReadStat which) result (view_of seat.old) (view_of seat.new) }
+    {
+        self.load_step(seat, Step::ReadStat { which })
+    }
+
+    /// Adds to a statistic, 2 to 6, or takes from it.
+    pub fn add_stat(&self, seat: &mut HeapSeat, which: u8, by: u32, down: bool)
+        requires seat { Sits self.now seat.old }
+        requires may { May (Step.AddStat which by down) (view_of seat.old) }
+        ensures seat { Sits self.now seat.new }
+        ensures view { Took (Step.AddStat which by down) (view_of seat.old) (view_of seat.new) }
+    {
+        if down {
+            self.fetch_sub_step(seat, u64::from(by), Step::AddStat { which, by, down });
+        } else {
+            self.fetch_add_step(seat, u64::from(by), Step::AddStat { which, by, down });
+        }
+    }
+}

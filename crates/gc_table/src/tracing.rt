@@ -1,0 +1,104 @@
+//! The steps of tracing and of cleaning cards.
+ghost use Rattle.std.specs.Prelude.{◌≡◌};
+ghost use Rattle.mark_core.specs.Seats.{phase_of as phase_of_word};
+ghost use Rattle.gc_table.specs.Seats.{Answered, Found, Sits, Stored, view_of};
+ghost use Rattle.gc_table.specs.Taking.{May, won};
+
+use crate::masks::bit;
+use crate::seat::{Heap, HeapSeat};
+use mark_core::{Cell, Phase, Step, has_bit, phase_of};
+
+impl Heap {
+    /// The allocation bits of block b.
+    pub fn read_alloc(&self, seat: &mut HeapSeat, b: u32) -> u64
+        requires seat { Sits self.now seat.old }
+        requires may { May (Step.ReadAlloc b) (view_of seat.old) }
+        ensures seat { Sits self.now seat.new }
+        ensures view { Found (Step.ReadAlloc b) result (view_of seat.old) (view_of seat.new) }
+    {
+        self.load_step(seat, Step::ReadAlloc { b })
+    }
+
+    /// The next field of the cell in scan, or the first one of a cell left in cleaning.
+    pub fn read_field(&self, seat: &mut HeapSeat, c: Cell, i: u8) -> u64
+        requires seat { Sits self.now seat.old }
+        requires may { May (Step.ReadField c i) (view_of seat.old) }
+        ensures seat { Sits self.now seat.new }
+        ensures view { Found (Step.ReadField c i) result (view_of seat.old) (view_of seat.new) }
+    {
+        self.load_step(seat, Step::ReadField { c, i })
+    }
+
+    /// Variable v of a section.
+    pub fn read_root(&self, seat: &mut HeapSeat, section: u32, v: u8) -> u64
+        requires seat { Sits self.now seat.old }
+        requires may { May (Step.ReadRoot section v) (view_of seat.old) }
+        ensures seat { Sits self.now seat.new }
+        ensures view { Found (Step.ReadRoot section v) result (view_of seat.old) (view_of seat.new) }
+    {
+        self.load_step(seat, Step::ReadRoot { section, v })
+    }
+
+    /// Marks the cell that was loaded: true where it was white.
+    pub fn set_mark(&self, seat: &mut HeapSeat, c: Cell) -> bool
+        requires seat { Sits self.now seat.old }
+        requires may { May (Step.SetMark c) (view_of seat.old) }
+        ensures seat { Sits self.now seat.new }
+        ensures view { Answered (Step.SetMark c) (λ n. result ≡ won (Step.SetMark c) n) (view_of seat.old) (view_of seat.new) }
+    {
+        let found = self.fetch_or_step(seat, bit(c.number() % 64), Step::SetMark { c });
+        !has_bit(found, c.number() % 64)
+    }
+
+    /// Dirties a card, which answers for what the seat owes it.
+    pub fn dirty_card(&self, seat: &mut HeapSeat, card: u32)
+        requires seat { Sits self.now seat.old }
+        requires may { May (Step.DirtyCard card) (view_of seat.old) }
+        ensures seat { Sits self.now seat.new }
+        ensures view { Stored (Step.DirtyCard card) (view_of seat.old) (view_of seat.new) }
+    {
+        self.store_step(seat, Step::DirtyCard { card });
+    }
+
+    /// Cleans a card: true where it was dirty.
+    pub fn clear_card(&self, seat: &mut HeapSeat, card: u32) -> bool
+        requires seat { Sits self.now seat.old }
+        requires may { May (Step.ClearCard card) (view_of seat.old) }
+        ensures seat { Sits self.now seat.new }
+        ensures view { Answered (Step.ClearCard card) (λ n. result ≡ won (Step.ClearCard card) n) (view_of seat.old) (view_of seat.new) }
+    {
+        let found = self.swap_step(seat, 0, Step::ClearCard { card });
+        found == 1
+    }
+
+    /// The mark bits of block b.
+    pub fn read_marks(&self, seat: &mut HeapSeat, b: u32) -> u64
+        requires seat { Sits self.now seat.old }
+        requires may { May (Step.ReadMarks b) (view_of seat.old) }
+        ensures seat { Sits self.now seat.new }
+        ensures view { Found (Step.ReadMarks b) result (view_of seat.old) (view_of seat.new) }
+    {
+        self.load_step(seat, Step::ReadMarks { b })
+    }
+
+    /// Whether a card is dirty.
+    pub fn read_card(&self, seat: &mut HeapSeat, card: u32) -> bool
+        requires seat { Sits self.now seat.old }
+        requires may { May (Step.ReadCard card) (view_of seat.old) }
+        ensures seat { Sits self.now seat.new }
+        ensures view { Answered (Step.ReadCard card) (λ n. result ≡ won (Step.ReadCard card) n) (view_of seat.old) (view_of seat.new) }
+    {
+        let found = self.load_step(seat, Step::ReadCard { card });
+        found == 1
+    }
+
+    /// The phase of the cycle.
+    pub fn read_phase(&self, seat: &mut HeapSeat) -> Phase
+        requires seat { Sits self.now seat.old }
+        requires may { May Step.ReadPhase (view_of seat.old) }
+        ensures seat { Sits self.now seat.new }
+        ensures view { Answered Step.ReadPhase (λ n. result ≡ phase_of_word n) (view_of seat.old) (view_of seat.new) }
+    {
+        phase_of(self.load_step(seat, Step::ReadPhase))
+    }
+}

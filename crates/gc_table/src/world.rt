@@ -1,0 +1,152 @@
+//! The steps that stop and resume the world, admit helpers and turn the season.
+ghost use Rattle.std.specs.Prelude.{◌≡◌};
+ghost use Rattle.gc_table.specs.Seats.{Answered, Found, Sits, Took, view_of};
+ghost use Rattle.gc_table.specs.Taking.{May, won};
+
+use crate::masks::FLAG;
+use crate::seat::{Heap, HeapSeat};
+use mark_core::{Phase, Step, has_flag, phase_number};
+
+impl Heap {
+    /// Enters the world: true where the seat is active, since no stop is under way.
+    pub fn enter_step(&self, seat: &mut HeapSeat) -> bool
+        requires seat { Sits self.now seat.old }
+        requires may { May Step.EnterStep (view_of seat.old) }
+        ensures seat { Sits self.now seat.new }
+        ensures view { Answered Step.EnterStep (λ n. result ≡ won Step.EnterStep n) (view_of seat.old) (view_of seat.new) }
+    {
+        let found = self.fetch_add_step(seat, 1, Step::EnterStep);
+        !has_flag(found)
+    }
+
+    /// Leaves the world.
+    pub fn leave_step(&self, seat: &mut HeapSeat)
+        requires seat { Sits self.now seat.old }
+        requires may { May Step.LeaveStep (view_of seat.old) }
+        ensures seat { Sits self.now seat.new }
+        ensures view { Took Step.LeaveStep (view_of seat.old) (view_of seat.new) }
+    {
+        self.fetch_sub_step(seat, 1, Step::LeaveStep);
+    }
+
+    /// Raises the stop flag: true where it is now the seat's own.
+    pub fn raise_step(&self, seat: &mut HeapSeat) -> bool
+        requires seat { Sits self.now seat.old }
+        requires may { May Step.RaiseStep (view_of seat.old) }
+        ensures seat { Sits self.now seat.new }
+        ensures view { Answered Step.RaiseStep (λ n. result ≡ won Step.RaiseStep n) (view_of seat.old) (view_of seat.new) }
+    {
+        let found = self.fetch_or_step(seat, FLAG, Step::RaiseStep);
+        !has_flag(found)
+    }
+
+    /// The word of the world. The seat whose flag it is learns from it that the world has stopped.
+    pub fn observe(&self, seat: &mut HeapSeat) -> u64
+        requires seat { Sits self.now seat.old }
+        requires may { May Step.Observe (view_of seat.old) }
+        ensures seat { Sits self.now seat.new }
+        ensures view { Found Step.Observe result (view_of seat.old) (view_of seat.new) }
+    {
+        self.load_step(seat, Step::Observe)
+    }
+
+    /// Resumes the world.
+    pub fn drop_step(&self, seat: &mut HeapSeat)
+        requires seat { Sits self.now seat.old }
+        requires may { May Step.DropStep (view_of seat.old) }
+        ensures seat { Sits self.now seat.new }
+        ensures view { Took Step.DropStep (view_of seat.old) (view_of seat.new) }
+    {
+        self.fetch_sub_step(seat, FLAG - 1, Step::DropStep);
+    }
+
+    /// Opens the stopped world to helpers.
+    pub fn open_step(&self, seat: &mut HeapSeat)
+        requires seat { Sits self.now seat.old }
+        requires may { May Step.OpenStep (view_of seat.old) }
+        ensures seat { Sits self.now seat.new }
+        ensures view { Took Step.OpenStep (view_of seat.old) (view_of seat.new) }
+    {
+        self.fetch_or_step(seat, FLAG, Step::OpenStep);
+    }
+
+    /// Joins the helpers: true where help is open.
+    pub fn join_help_step(&self, seat: &mut HeapSeat) -> bool
+        requires seat { Sits self.now seat.old }
+        requires may { May Step.JoinHelpStep (view_of seat.old) }
+        ensures seat { Sits self.now seat.new }
+        ensures view { Answered Step.JoinHelpStep (λ n. result ≡ won Step.JoinHelpStep n) (view_of seat.old) (view_of seat.new) }
+    {
+        let found = self.fetch_add_step(seat, 1, Step::JoinHelpStep);
+        has_flag(found)
+    }
+
+    /// Leaves the helpers.
+    pub fn leave_help_step(&self, seat: &mut HeapSeat)
+        requires seat { Sits self.now seat.old }
+        requires may { May Step.LeaveHelpStep (view_of seat.old) }
+        ensures seat { Sits self.now seat.new }
+        ensures view { Took Step.LeaveHelpStep (view_of seat.old) (view_of seat.new) }
+    {
+        self.fetch_sub_step(seat, 1, Step::LeaveHelpStep);
+    }
+
+    /// Closes help.
+    pub fn close_step(&self, seat: &mut HeapSeat)
+        requires seat { Sits self.now seat.old }
+        requires may { May Step.CloseStep (view_of seat.old) }
+        ensures seat { Sits self.now seat.new }
+        ensures view { Took Step.CloseStep (view_of seat.old) (view_of seat.new) }
+    {
+        self.fetch_sub_step(seat, FLAG, Step::CloseStep);
+    }
+
+    /// The word of help. The seat that stopped the world learns from it that no helper is left.
+    pub fn see_help(&self, seat: &mut HeapSeat) -> u64
+        requires seat { Sits self.now seat.old }
+        requires may { May Step.SeeHelp (view_of seat.old) }
+        ensures seat { Sits self.now seat.new }
+        ensures view { Found Step.SeeHelp result (view_of seat.old) (view_of seat.new) }
+    {
+        self.load_step(seat, Step::SeeHelp)
+    }
+
+    /// The season.
+    pub fn read_season(&self, seat: &mut HeapSeat) -> u64
+        requires seat { Sits self.now seat.old }
+        requires may { May Step.ReadSeason (view_of seat.old) }
+        ensures seat { Sits self.now seat.new }
+        ensures view { Found Step.ReadSeason result (view_of seat.old) (view_of seat.new) }
+    {
+        self.load_step(seat, Step::ReadSeason)
+    }
+
+    /// Turns the season.
+    pub fn next_season(&self, seat: &mut HeapSeat)
+        requires seat { Sits self.now seat.old }
+        requires may { May Step.NextSeason (view_of seat.old) }
+        ensures seat { Sits self.now seat.new }
+        ensures view { Took Step.NextSeason (view_of seat.old) (view_of seat.new) }
+    {
+        self.fetch_add_step(seat, 1, Step::NextSeason);
+    }
+
+    /// Moves the phase. The move to Marking is a try of a mutator: false where the phase wasn't Idle. Any other move is of the seat that stopped the world, and succeeds.
+    pub fn store_phase(&self, seat: &mut HeapSeat, to: Phase) -> bool
+        requires seat { Sits self.now seat.old }
+        requires may { May (Step.StorePhase to) (view_of seat.old) }
+        ensures seat { Sits self.now seat.new }
+        ensures view { Answered (Step.StorePhase to) (λ n. result ≡ won (Step.StorePhase to) n) (view_of seat.old) (view_of seat.new) }
+    {
+        match to {
+            Phase::Marking => {
+                let found = self.compare_exchange_step(seat, 0, 1, Step::StorePhase { to });
+                found == 0
+            }
+            _ => {
+                self.swap_step(seat, phase_number(to), Step::StorePhase { to });
+                true
+            }
+        }
+    }
+}
