@@ -1,33 +1,13 @@
 -- The bits of words and of cells: where one is set or cleared, where one word is replaced, and in unions and intersections.
-use Rattle.std.proofs.Common.{ℕ, ◌≡◌, ◌/◌, ◌%◌, ◌<◌, List, set, length, arith, sym, ap, ◌∙◌, true, false, max, min, ◌⊎◌, inl, inr, ⊎_elim, refl, ◌^◌, ◌≢◌, eqb}
+use Rattle.std.proofs.Common.{ℕ, ◌≡◌, ◌/◌, ◌%◌, ◌<◌, ◌≤◌, List, set, get_or, length, arith, sym, ap, ◌∙◌, true, false, max, min, ◌⊎◌, inl, inr, ⊎_elim, refl, ◌^◌, ◌≢◌, eqb}
 use Rattle.std.specs.Prelude.{bit_or, bit_and}
 use Rattle.std.specs.Int.{bit_at, bit_not}
-use Rattle.std.proofs.lemmas.Bool.{eqb-true, eq-eqb, cases_eq, cases_Bool, ne_eqb, true≢false}
+use Rattle.std.proofs.lemmas.Bool.{eqb-true, eq-eqb, cases_eq, cases_lt, cases_Bool, ne_eqb, true≢false}
 use Rattle.std.proofs.lemmas.Nat.Bits.{bit_at_or, bit_at_and, bit_at-lt, bit_at-zero, bit_at-pow_same, bit_at-pow_other, bit_at_not}
-use Rattle.std.proofs.lemmas.List.{get_or-set_same, get_or-set_other}
+use Rattle.std.proofs.lemmas.List.{get_or-set_same, get_or-set_other, set_past}
 use Rattle.std.proofs.Math.Pow.{pow-lt}
 use Rattle.mark_core.specs.Bits.{cell_bit, has_bit, with_bit, without_bit}
 use mir.Syntax.{w64}
-
--- a bit where one word is replaced: it stays if the new word has it
-pub bit-on : (ws : List ℕ) (b v x : ℕ) → b < length ws → (x / 64 ≡ b → has_bit v (x % 64) ≡ true) → cell_bit ws x ≡ true → cell_bit (set ws b v) x ≡ true
-bit-on ws b v x h f e =
-    ⊎_elim
-    (λ (a : x / 64 ≡ b). ap (λ (w : ℕ). has_bit w (x % 64)) (rw a (get_or-set_same ws b v 0 h)) ∙ f a)
-    (λ n. ap (λ (w : ℕ). has_bit w (x % 64)) (get_or-set_other ws b (x / 64) v 0 n) ∙ e)
-    (cases_eq (x / 64) b)
-
--- and is there if the new word has it
-pub bit-new : (ws : List ℕ) (b v x : ℕ) → b < length ws → x / 64 ≡ b → has_bit v (x % 64) ≡ true → cell_bit (set ws b v) x ≡ true
-bit-new ws b v x h a f = ap (λ (w : ℕ). has_bit w (x % 64)) (rw a (get_or-set_same ws b v 0 h)) ∙ f
-
--- and is there afterwards only from the new word, or where it was
-pub bit-back : (ws : List ℕ) (b v x : ℕ) → b < length ws → cell_bit (set ws b v) x ≡ true → ((x / 64 ≡ b) × (has_bit v (x % 64) ≡ true)) ⊎ (cell_bit ws x ≡ true)
-bit-back ws b v x h e =
-    ⊎_elim
-    (λ (a : x / 64 ≡ b). inl (a, sym (ap (λ (w : ℕ). has_bit w (x % 64)) (rw a (get_or-set_same ws b v 0 h))) ∙ e))
-    (λ n. inr (sym (ap (λ (w : ℕ). has_bit w (x % 64)) (get_or-set_other ws b (x / 64) v 0 n)) ∙ e))
-    (cases_eq (x / 64) b)
 
 pub bit-more : (w m i : ℕ) → has_bit w i ≡ true → has_bit (bit_or w m) i ≡ true
 bit-more w m i e = let a : bit_at w i ≡ 1 = eqb-true (bit_at w i) 1 e in eq-eqb _ _ (bit_at_or w m i ∙ omega (arith, a, bit_at-lt m i))
@@ -93,3 +73,27 @@ bit-here ws b v x h e = rw (← e) (rw (get_or-set_same ws b v 0 h) refl)
 
 pub bit-there : (ws : List ℕ) (b v x : ℕ) → x / 64 ≢ b → cell_bit (set ws b v) x ≡ cell_bit ws x
 bit-there ws b v x n = ap (λ w. has_bit w (x % 64)) (get_or-set_other ws b (x / 64) v 0 n)
+
+-- no bit is lost where the new word has those of the old one
+pub bits-grow : (ws : List ℕ) (b v x : ℕ) → (b ≡ x / 64 → has_bit (get_or ws b 0) (x % 64) ≡ true → has_bit v (x % 64) ≡ true) → cell_bit ws x ≡ true → cell_bit (set ws b v) x ≡ true
+bits-grow ws b v x f e =
+    ⊎_elim
+    (λ (s : x / 64 ≡ b).
+    ⊎_elim
+    (λ (h : b < length ws). bit-here ws b v x h (sym s) ∙ f (sym s) (rw (← s) e))
+    (λ (h : length ws ≤ b). rw (set_past ws b v h) e)
+    (cases_lt b (length ws)))
+    (λ (n : x / 64 ≡ b → ⊥). bit-there ws b v x n ∙ e)
+    (cases_eq (x / 64) b)
+
+-- a bit is there as before, or is one of the new word
+pub bits-from : (ws : List ℕ) (b v x : ℕ) → cell_bit (set ws b v) x ≡ true → (cell_bit ws x ≡ true) ⊎ ((b ≡ x / 64) × (has_bit v (x % 64) ≡ true))
+bits-from ws b v x e =
+    ⊎_elim
+    (λ (s : x / 64 ≡ b).
+    ⊎_elim
+    (λ (h : b < length ws). inr (sym s, sym (bit-here ws b v x h (sym s)) ∙ e))
+    (λ (h : length ws ≤ b). inl (rw (set_past ws b v h) at e))
+    (cases_lt b (length ws)))
+    (λ (n : x / 64 ≡ b → ⊥). inl (sym (bit-there ws b v x n) ∙ e))
+    (cases_eq (x / 64) b)

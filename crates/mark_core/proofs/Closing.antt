@@ -62,8 +62,9 @@ all-passes f xs i d h e =
     (λ (a : f (get_or xs i d) ≡ false). absurd (true≢false (sym e ∙ list_all_at f xs i d h a)))
     (cases_Bool (f (get_or xs i d)))
 
-clean_card : (cards : List ℕ) (i : ℕ) → cards_clean cards ≡ true → get_or cards i 0 ≡ 0
-clean_card cards i e =
+-- a clean card's word is nil
+pub clean-card : (cards : List ℕ) (i : ℕ) → cards_clean cards ≡ true → get_or cards i 0 ≡ 0
+clean-card cards i e =
     ⊎_elim
     (λ (h : i < length cards). eqb-true (get_or cards i 0) 0 (all-passes (λ (x : ℕ). eqb x 0) cards i 0 h e))
     (λ (h : length cards ≤ i). get_or_past cards i 0 h)
@@ -114,7 +115,7 @@ done_from c formed k e =
 not_waiting : (sh : Shape) (w : Words) (seats : List SeatState) (c : ℕ) → IsDone sh w seats → IsWaiting sh w.cards w.heads w.entries (hands seats) (grasps seats) c → ⊥
 not_waiting sh w seats c k (IsWaiting.queued q) = omega (arith, q.3, k.no_packet q.0 q.2)
 not_waiting sh w seats c k (IsWaiting.tended e) = true≢false (sym e ∙ list_any_none (tends c) (grasps seats) (λ i g h. none_tended sh.fields c (get_or (grasps seats) i g) (k.idle i g h)))
-not_waiting sh w seats c k (IsWaiting.dirty e) = absurd (omega (arith, e, clean_card w.cards (c / 16) k.clean))
+not_waiting sh w seats c k (IsWaiting.dirty e) = absurd (omega (arith, e, clean-card w.cards (c / 16) k.clean))
 not_waiting sh w seats c k (IsWaiting.cleaned e) =
     true≢false (sym e ∙ list_any_none (cleans_card (c / 16)) (grasps seats) (λ i g h. done-cleans (get_or (grasps seats) i g).cleaning (c / 16) (k.idle i g h).cleaning))
 

@@ -1,11 +1,10 @@
--- The bits of cells in a list of words, where one word is written.
-use Rattle.std.proofs.Common.{ℕ, ◌≡◌, ◌/◌, ◌%◌, ◌^◌, ◌<◌, ◌≤◌, List, set, get_or, length, arith, refl, sym, ◌∙◌, ◌⊎◌, inl, inr, true, ⊎_elim}
+-- Which bits come and go where the bit of one cell is set, or a word is cleared.
+use Rattle.std.proofs.Common.{ℕ, ◌≡◌, ◌/◌, ◌%◌, ◌^◌, ◌<◌, List, set, get_or, length, arith, refl, sym, ◌∙◌, ◌⊎◌, inl, inr, true, ⊎_elim}
 use Rattle.std.specs.Int.{bit_at}
-use Rattle.std.proofs.lemmas.Bool.{true≢false, cases_eq, cases_lt, eqb-true}
-use Rattle.std.proofs.lemmas.List.{set_past}
+use Rattle.std.proofs.lemmas.Bool.{true≢false, cases_eq, eqb-true}
 use Rattle.std.proofs.lemmas.Nat.Bits.{bit_at-pow_other}
 use Rattle.mark_core.specs.Bits.{has_bit, with_bit, cell_bit}
-use Rattle.mark_core.proofs.CellBits.{no-bit, with_same, bit-more, bit-either, bit-here, bit-there}
+use Rattle.mark_core.proofs.CellBits.{no-bit, with_same, bit-more, bit-either, bit-here, bits-grow, bits-from, same-index}
 
 bit_one : (w i : ℕ) → has_bit w i ≡ true → bit_at w i ≡ 1
 bit_one w i e = eqb-true (bit_at w i) 1 e
@@ -22,33 +21,6 @@ with-bit_cases w k i e =
     (cases_eq i k)))
     (bit-either w (2 ^ k) i e)
 
--- no bit is lost where the new word has those of the old one
-pub bits-grow : (ws : List ℕ) (b v x : ℕ) → (b ≡ x / 64 → has_bit (get_or ws b 0) (x % 64) ≡ true → has_bit v (x % 64) ≡ true) → cell_bit ws x ≡ true → cell_bit (set ws b v) x ≡ true
-bits-grow ws b v x f e =
-    ⊎_elim
-    (λ (s : x / 64 ≡ b).
-    ⊎_elim
-    (λ (h : b < length ws). bit-here ws b v x h (sym s) ∙ f (sym s) (rw (← s) e))
-    (λ (h : length ws ≤ b). rw (set_past ws b v h) e)
-    (cases_lt b (length ws)))
-    (λ (n : x / 64 ≡ b → ⊥). bit-there ws b v x n ∙ e)
-    (cases_eq (x / 64) b)
-
--- a bit is there as before, or is one of the new word
-pub bits-from : (ws : List ℕ) (b v x : ℕ) → cell_bit (set ws b v) x ≡ true → (cell_bit ws x ≡ true) ⊎ ((b ≡ x / 64) × (has_bit v (x % 64) ≡ true))
-bits-from ws b v x e =
-    ⊎_elim
-    (λ (s : x / 64 ≡ b).
-    ⊎_elim
-    (λ (h : b < length ws). inr (sym s, sym (bit-here ws b v x h (sym s)) ∙ e))
-    (λ (h : length ws ≤ b). inl (rw (set_past ws b v h) at e))
-    (cases_lt b (length ws)))
-    (λ (n : x / 64 ≡ b → ⊥). inl (sym (bit-there ws b v x n) ∙ e))
-    (cases_eq (x / 64) b)
-
-same_cell : (x c : ℕ) → c / 64 ≡ x / 64 → x % 64 ≡ c % 64 → x ≡ c
-same_cell x c e f = omega (arith, e, f)
-
 -- the bit of cell c is set: no bit is lost, and none but its own comes
 pub mark-grows : (ws : List ℕ) (c x : ℕ) → cell_bit ws x ≡ true → cell_bit (set ws (c / 64) (with_bit (get_or ws (c / 64) 0) (c % 64))) x ≡ true
 mark-grows ws c x e = bits-grow ws (c / 64) _ x (λ s h. bit-more (get_or ws (c / 64) 0) (2 ^ (c % 64)) (x % 64) h) e
@@ -63,7 +35,7 @@ mark-from ws c x e =
     (λ (p : (c / 64 ≡ x / 64) × (has_bit (with_bit (get_or ws (c / 64) 0) (c % 64)) (x % 64) ≡ true)).
     ⊎_elim
     (λ (h : has_bit (get_or ws (c / 64) 0) (x % 64) ≡ true). inl (rw p.0 at h))
-    (λ (f : x % 64 ≡ c % 64). inr (same_cell x c p.0 f))
+    (λ (f : x % 64 ≡ c % 64). inr (same-index x c (sym p.0) f))
     (with-bit_cases (get_or ws (c / 64) 0) (c % 64) (x % 64) p.1))
     (bits-from ws (c / 64) _ x e)
 

@@ -36,8 +36,8 @@ no-root sh k =
     (cases_lt k (sh.sections * 32))
 
 -- no cell is published
-no_alloc : (sh : Shape) → IsShape sh → (x : ℕ) → x < sh.cells → cell_bit (words_of sh (start_words sh)).allocs x ≡ false
-no_alloc sh z x h =
+pub unpublished : (sh : Shape) → IsShape sh → (x : ℕ) → x < sh.cells → cell_bit (words_of sh (start_words sh)).allocs x ≡ false
+unpublished sh z x h =
     let hb : x / 64 < block_count sh = omega (arith, h, z.whole_blocks) in
     let word : slice_index (words_of sh (start_words sh)).allocs (x / 64) ≡ 0 =
     sym (words-get (region_sizes sh) 4 (start_words sh) (x / 64) 0 hb) ∙ in-gap (singles sh) (full_pool sh) (tail_words sh) 11 (gap sh) (region_base (region_sizes sh) 4 + x / 64) refl (omega arith) (omega (arith, hb)) in
@@ -48,7 +48,7 @@ pub none-used : (sh : Shape) (n : ℕ) → IsShape sh → (x : ℕ) → x < sh.c
 none-used sh n z x h =
     let none : list_any (used_by x) (makers (start_seats sh n)) ≡ false =
     list_any_none (used_by x) (makers (start_seats sh n)) (All-map (λ (m : Maker). used_by x m ≡ false) maker_of (start_seats sh n) (each-seat (λ (s : SeatState). used_by x (maker_of s) ≡ false) sh n (λ k. refl))) in
-    rw (no_alloc sh z x h, none) refl
+    rw (unpublished sh z x h, none) refl
 
 start_env : (sh : Shape) (k : ℕ) (b : Bool) → IfSome (cond b (Some k) None) (λ w. (v : ℕ) → v < 32 → slice_index (start_seat sh k).env v ≡ slice_index (words_of sh (start_words sh)).roots (w * 32 + v))
 start_env sh k true = λ v h. get_or-replicate 32 v 0 0 h ∙ sym (no-root sh (k * 32 + v))

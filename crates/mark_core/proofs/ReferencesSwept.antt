@@ -19,11 +19,11 @@ use Rattle.mark_core.specs.Effects.{seat_after}
 use Rattle.mark_core.specs.Steps.{Core}
 use Rattle.mark_core.specs.Laws.{IsCore}
 use Rattle.mark_core.proofs.Acting.{found, words_left, seats_left}
-use Rattle.mark_core.proofs.AtSeat.{allocs-length, roots-length}
-use Rattle.mark_core.proofs.BlocksTaken.{Taken, in-place, mine as own-fact}
+use Rattle.mark_core.proofs.AtSeat.{roots-length}
+use Rattle.mark_core.proofs.BlocksTaken.{Taken, mine as own-fact}
 use Rattle.mark_core.proofs.BlocksStopped.{sweeping, still-stopped}
 use Rattle.mark_core.proofs.BlocksSteps.{none-at-move}
-use Rattle.mark_core.proofs.CellBits.{bit-on}
+use Rattle.mark_core.proofs.CellBits.{bits-grow}
 use Rattle.mark_core.proofs.HeldBlock.{own-strong}
 use Rattle.mark_core.proofs.Locals.{local-kept}
 use Rattle.mark_core.proofs.ReferencesEnv.{seat-section}
@@ -50,15 +50,14 @@ pub kept-on : (c : Core) (i : ℕ) (s : SeatState) (x : ℕ) → Taken c i s Sto
 kept-on c i s x k e =
     let w : Words = words_of c.shape c.words in
     let b : ℕ = own_block s in
-    let h : b < block_count c.shape = in-place c i s StoreAlloc k in
     let bit : Bool = cell_bit (words_left c s StoreAlloc).allocs x in
     let some : Bool = list_any (used_by x) (makers (seats_left c i s StoreAlloc)) in
     let marked : is_unswept (x / 64) s.block ≡ true → cell_bit w.marks x ≡ true = λ u. sym (kept-unswept w.next_block (blocks c.seats) w.allocs w.marks (makers c.seats) x (own-unswept c i s StoreAlloc (x / 64) k u)) ∙ e in
     ⊎_elim
     (λ (a : cell_bit w.allocs x ≡ true).
     or_left bit some
-    (bit-on w.allocs b (survivors s.block) x (omega (arith, h, allocs-length c k.core))
-    (λ z. survives w.phase w.next_block w.allocs w.marks s.block x k.ok.1.0 (own-strong c i s StoreAlloc k) z a marked)
+    (bits-grow w.allocs b (survivors s.block) x
+    (λ z _. survives w.phase w.next_block w.allocs w.marks s.block x k.ok.1.0 (own-strong c i s StoreAlloc k) (sym z) a marked)
     a))
     (λ (a : list_any (used_by x) (makers c.seats) ≡ true).
     ⊎_elim (λ (u : bit ≡ true). or_left bit some u) (λ (u : some ≡ true). or_right bit some u) (still-made c i s StoreAlloc x k a))

@@ -1,6 +1,6 @@
 -- No event takes the allocation bit of a cell that is reachable.
-use Rattle.std.proofs.Common.{ℕ, ◌≡◌, ◌/◌, ◌<◌, arith, refl, sym, ◌∙◌, subst, true}
-use Rattle.mark_core.specs.Layout.{Words, words_of, block_count}
+use Rattle.std.proofs.Common.{ℕ, ◌≡◌, ◌/◌, refl, sym, ◌∙◌, subst, true}
+use Rattle.mark_core.specs.Layout.{Words, words_of}
 use Rattle.mark_core.specs.Bits.{cell_bit}
 use Rattle.mark_core.specs.Seats.{is_phase}
 use Rattle.mark_core.specs.Views.{makers, blocks}
@@ -8,10 +8,9 @@ use Rattle.mark_core.specs.Cells.{is_unswept, IsReachable}
 use Rattle.mark_core.specs.SweepSteps.{survivors, own_block}
 use Rattle.mark_core.specs.Steps.{Core, after_event}
 use Rattle.mark_core.specs.Laws.{ReachableStay}
-use Rattle.mark_core.proofs.AtSeat.{allocs-length}
-use Rattle.mark_core.proofs.BlocksTaken.{Taken, in-place}
+use Rattle.mark_core.proofs.BlocksTaken.{Taken}
 use Rattle.mark_core.proofs.BlocksStopped.{sweeping}
-use Rattle.mark_core.proofs.CellBits.{bit-on}
+use Rattle.mark_core.proofs.CellBits.{bits-grow}
 use Rattle.mark_core.proofs.HeldBlock.{own-strong}
 use Rattle.mark_core.proofs.Sparing.{path-kept, kept-unswept, own-unswept, survives}
 use Rattle.mark_core.proofs.UsedCells.{alloc-on}
@@ -36,9 +35,8 @@ stays_at : (c : Core) (i : ℕ) (s : SeatState) (step : Step) (x : ℕ) → Take
     → cell_bit (words_of c.shape c.words).allocs x ≡ true → cell_bit (words_left c s step).allocs x ≡ true
 stays_at c i s StoreAlloc x k p e =
     let w : Words = words_of c.shape c.words in
-    let h : own_block s < block_count c.shape = in-place c i s StoreAlloc k in
-    bit-on w.allocs (own_block s) (survivors s.block) x (omega (arith, h, allocs-length c k.core))
-    (λ a. survives w.phase w.next_block w.allocs w.marks s.block x k.ok.1.0 (own-strong c i s StoreAlloc k) a e (stored_marked c i s x k p))
+    bits-grow w.allocs (own_block s) (survivors s.block) x
+    (λ a _. survives w.phase w.next_block w.allocs w.marks s.block x k.ok.1.0 (own-strong c i s StoreAlloc k) (sym a) e (stored_marked c i s x k p))
     e
 stays_at c i s step x k p e = alloc-on c i s step x k refl e
 

@@ -1,8 +1,8 @@
 -- In a drain with no work in hand, no entry and no dirty card, each field of a marked cell is nil or goes to a marked cell.
-use Rattle.std.proofs.Common.{ℕ, zero, suc, ◌≡◌, ◌+◌, ◌-◌, ◌/◌, ◌<◌, List, [], ◌∷◌, get_or, arith, refl, sym, ap, ◌∙◌, true, false, ◌||◌, eqb, Option, Some, None, ⊎_elim}
+use Rattle.std.proofs.Common.{ℕ, ◌≡◌, ◌+◌, ◌-◌, ◌/◌, ◌<◌, List, get_or, arith, refl, sym, ap, ◌∙◌, true, false, ◌||◌, Option, Some, None, ⊎_elim}
 use Rattle.std.specs.Prelude.{IsTrue, IsFalse, is_some}
-use Rattle.std.specs.List.{All, list_any, list_all}
-use Rattle.std.proofs.lemmas.Bool.{cases_Bool, or_cases, or_parts, or_from, and_parts, eqb-true, true≢false}
+use Rattle.std.specs.List.{All, list_any}
+use Rattle.std.proofs.lemmas.Bool.{cases_Bool, or_cases, or_parts, or_from, true≢false}
 use Rattle.std.proofs.lemmas.List.Elements.{All-map}
 use Rattle.std.proofs.lemmas.List.Folds.{list_any_none}
 use Rattle.mark_core.specs.Shapes.{EachCell}
@@ -18,6 +18,7 @@ use Rattle.mark_core.specs.Closed.{IsQuiet}
 use Rattle.mark_core.specs.Steps.{Core}
 use Rattle.mark_core.specs.Laws.{IsCore}
 use Rattle.mark_core.proofs.QuietReading.{quiet}
+use Rattle.mark_core.proofs.Closing.{clean-card}
 use Rattle.mark_core.proofs.BlocksOthers.{or-false}
 use Rattle.mark_core.proofs.BlocksStopped.{still-stopped}
 use Rattle.mark_core.proofs.HandsCleaning.{done-left, done-cleans, done-scan}
@@ -69,17 +70,11 @@ none_reads fields gs x i a l = list_any_none (will_read x i) gs (λ j d h. done-
 none_values : (fields : ℕ) (gs : List Grasp) (x : ℕ) → NoneHas fields gs → list_any (has_value x) gs ≡ false
 none_values fields gs x a = list_any_none (has_value x) gs (λ j d h. ap (λ o. is_the o x) (a j d h).value)
 
--- a clean card's word isn't one
-clean_card : (cards : List ℕ) (k : ℕ) (P : Type 0) → cards_clean cards ≡ true → get_or cards k 0 ≡ 1 → P
-clean_card [] k P e f = absurd (omega (arith, f))
-clean_card (y ∷ ys) zero P e f = absurd (omega (arith, f, eqb-true y 0 (and_parts (eqb y 0) (list_all (λ z. eqb z 0) ys) e).0))
-clean_card (y ∷ ys) (suc k) P e f = clean_card ys k P (and_parts (eqb y 0) (list_all (λ z. eqb z 0) ys) e).1 f
-
 -- nothing waits
 none_waits : (sh : Shape) (cards heads entries : List ℕ) (c : Core) (gs : List Grasp) (x : ℕ) (P : Type 0) → NoneHas sh.fields gs → ((p : ℕ) → p < sh.packets → packet_length heads (hands c.seats) p ≡ 0) → cards_clean cards ≡ true → IsWaiting sh cards heads entries (hands c.seats) gs x → P
 none_waits sh cards heads entries c gs x P a empty clean (queued q) = absurd (omega (arith, empty q.0 q.2, q.3))
 none_waits sh cards heads entries c gs x P a empty clean (tended e) = absurd (true≢false (sym e ∙ none_tends sh.fields gs x a))
-none_waits sh cards heads entries c gs x P a empty clean (dirty e) = clean_card cards (x / 16) P clean e
+none_waits sh cards heads entries c gs x P a empty clean (dirty e) = absurd (omega (arith, e, clean-card cards (x / 16) clean))
 none_waits sh cards heads entries c gs x P a empty clean (cleaned e) = absurd (true≢false (sym e ∙ none_cleans sh.fields gs (x / 16) a))
 
 only_scanned : (sh : Shape) (marks cards heads entries fields : List ℕ) (c : Core) (gs : List Grasp) (x : ℕ) → NoneHas sh.fields gs → ((p : ℕ) → p < sh.packets → packet_length heads (hands c.seats) p ≡ 0) → cards_clean cards ≡ true

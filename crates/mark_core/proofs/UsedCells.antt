@@ -1,5 +1,5 @@
 -- Which cells are in use after a step: those that were, but for what the sweep frees, and the cell that was made.
-use Rattle.std.proofs.Common.{ℕ, ◌≡◌, ◌/◌, ◌%◌, ◌<◌, List, arith, refl, sym, ap, ◌∙◌, subst, Bool, true, false, Option, Some, None, ◌⊎◌, inl, inr, ⊎_elim}
+use Rattle.std.proofs.Common.{ℕ, ◌≡◌, ◌/◌, ◌%◌, ◌<◌, List, refl, sym, ap, ◌∙◌, subst, Bool, true, false, Option, Some, None, ◌⊎◌, inl, inr, ⊎_elim}
 use Rattle.std.specs.Prelude.{IfSome, slice_index, unwrap_or, is_some, bit_or}
 use Rattle.std.proofs.lemmas.Bool.{true≢false, eq-eqb}
 use Rattle.mark_core.specs.Layout.{Words, words_of, address, block_count}
@@ -11,10 +11,10 @@ use Rattle.mark_core.specs.MutatorSteps.{cached_block, used_bits}
 use Rattle.mark_core.specs.Effects.{written}
 use Rattle.mark_core.specs.Steps.{Core}
 use Rattle.mark_core.proofs.BlocksTaken.{Taken, in-place, words-read}
-use Rattle.mark_core.proofs.AtSeat.{allocs-length, alloc-found}
+use Rattle.mark_core.proofs.AtSeat.{alloc-found}
 use Rattle.mark_core.proofs.Acting.{found, words_left}
 use Rattle.mark_core.proofs.HeldBlock.{MayStore, may-store, own-strong}
-use Rattle.mark_core.proofs.CellBits.{bit-on, bit-back, bit-more, bit-either, bit-first}
+use Rattle.mark_core.proofs.CellBits.{bits-grow, bits-from, bit-more, bit-either, bit-first}
 use Rattle.mark_core.proofs.RegionWrites.{allocs-kept}
 use Rattle.mark_core.specs.declared.kinds.Step.{Step}
 use Rattle.mark_core.specs.declared.kinds.Step.TheVariants.{ReadAlloc, ReadFree, PublishCells, StoreAlloc}
@@ -37,8 +37,8 @@ alloc-on c i s PublishCells x k f e =
     let b : ℕ = cached_block s in
     let h : b < block_count c.shape = in-place c i s PublishCells k in
     let old : ℕ = slice_index c.words (address c.shape (4, b)) in
-    bit-on w.allocs b (bit_or old (used_bits s.cache)) x (omega (arith, h, allocs-length c k.core))
-    (λ a. bit-more old (used_bits s.cache) (x % 64) (ap (λ (v : ℕ). has_bit v (x % 64)) (alloc-found c b h ∙ ap (λ (j : ℕ). slice_index w.allocs j) (sym a)) ∙ e))
+    bits-grow w.allocs b (bit_or old (used_bits s.cache)) x
+    (λ _ f. bit-more old (used_bits s.cache) (x % 64) (ap (λ (v : ℕ). has_bit v (x % 64)) (alloc-found c b h) ∙ f))
     e
 alloc-on c i s step x k f e = rw (allocs-kept c.shape s step (written c.shape s step (found c s step)) (words_of c.shape c.words) refl) e
 
@@ -65,19 +65,18 @@ alloc-back c i s PublishCells x k e =
     let h : b < block_count c.shape = in-place c i s PublishCells k in
     let old : ℕ = slice_index c.words (address c.shape (4, b)) in
     ⊎_elim
-    (λ (a : (x / 64 ≡ b) × (has_bit (bit_or old (used_bits s.cache)) (x % 64) ≡ true)).
-    ⊎_elim
-    (λ (f : has_bit old (x % 64) ≡ true). inl (ap (λ (v : ℕ). has_bit v (x % 64)) (ap (λ (j : ℕ). slice_index w.allocs j) a.0 ∙ sym (alloc-found c b h)) ∙ f))
-    (λ (f : has_bit (used_bits s.cache) (x % 64) ≡ true). inr (published_use s.cache x k.ok.0 a.0 f))
-    (bit-either old (used_bits s.cache) (x % 64) a.1))
     (λ (a : cell_bit w.allocs x ≡ true). inl a)
-    (bit-back w.allocs b (bit_or old (used_bits s.cache)) x (omega (arith, h, allocs-length c k.core)) e)
+    (λ (a : (b ≡ x / 64) × (has_bit (bit_or old (used_bits s.cache)) (x % 64) ≡ true)).
+    ⊎_elim
+    (λ (f : has_bit old (x % 64) ≡ true). inl (ap (λ (v : ℕ). has_bit v (x % 64)) (ap (λ (j : ℕ). slice_index w.allocs j) (sym a.0) ∙ sym (alloc-found c b h)) ∙ f))
+    (λ (f : has_bit (used_bits s.cache) (x % 64) ≡ true). inr (published_use s.cache x k.ok.0 (sym a.0) f))
+    (bit-either old (used_bits s.cache) (x % 64) a.1))
+    (bits-from w.allocs b (bit_or old (used_bits s.cache)) x e)
 alloc-back c i s StoreAlloc x k e =
     let w : Words = words_of c.shape c.words in
-    let b : ℕ = own_block s in
-    let h : b < block_count c.shape = in-place c i s StoreAlloc k in
     ⊎_elim
-    (λ (a : (x / 64 ≡ b) × (has_bit (survivors s.block) (x % 64) ≡ true)). inl (survivor_back w.phase w.next_block w.allocs w.marks s.block x k.ok.1.0 (own-strong c i s StoreAlloc k) a.0 a.1))
     (λ (a : cell_bit w.allocs x ≡ true). inl a)
-    (bit-back w.allocs b (survivors s.block) x (omega (arith, h, allocs-length c k.core)) e)
+    (λ (a : (own_block s ≡ x / 64) × (has_bit (survivors s.block) (x % 64) ≡ true)).
+    inl (survivor_back w.phase w.next_block w.allocs w.marks s.block x k.ok.1.0 (own-strong c i s StoreAlloc k) (sym a.0) a.1))
+    (bits-from w.allocs (own_block s) (survivors s.block) x e)
 alloc-back c i s step x k e = inl (sym (ap (λ (ws : List ℕ). cell_bit ws x) (allocs-kept c.shape s step (written c.shape s step (found c s step)) (words_of c.shape c.words) refl)) ∙ e)

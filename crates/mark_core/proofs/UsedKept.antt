@@ -20,7 +20,7 @@ use Rattle.mark_core.specs.Steps.{Core}
 use Rattle.mark_core.proofs.BlocksTaken.{Taken, within, own-record, in-place, mine as own-fact}
 use Rattle.mark_core.proofs.AtSeat.{allocs-length}
 use Rattle.mark_core.proofs.Acting.{found, words_left, seats_left}
-use Rattle.mark_core.proofs.CellBits.{bit-new, bit-joined}
+use Rattle.mark_core.proofs.CellBits.{bit-here, bit-joined}
 use Rattle.mark_core.proofs.SomePasses.{any-set, any-unset}
 use Rattle.mark_core.proofs.UsedSeats.{IsMadeBy, seat-on, seat-back}
 use Rattle.mark_core.proofs.UsedCells.{frees, alloc-on, alloc-back}
@@ -43,7 +43,7 @@ publish_bit c i s x k e =
     let h : b < block_count c.shape = in-place c i s PublishCells k in
     let a = published_on s.cache x e in
     let old : ℕ = slice_index c.words (address c.shape (4, b)) in
-    bit-new w.allocs b (bit_or old (used_bits s.cache)) x (omega (arith, h, allocs-length c k.core)) a.0 (bit-joined old (used_bits s.cache) (x % 64) a.1)
+    bit-here w.allocs b (bit_or old (used_bits s.cache)) x (omega (arith, h, allocs-length c k.core)) (sym a.0) ∙ bit-joined old (used_bits s.cache) (x % 64) a.1
 
 has_no_cache : (sh : Shape) (o : SeatState) → has_nothing sh o ≡ true → o.cache ≡ None
 has_no_cache sh o e =

@@ -9,6 +9,7 @@ ghost use Rattle.mark_core.specs.Shapes.{IsShape};
 ghost use Rattle.mark_core.specs.declared.kinds.Shape.{Shape};
 ghost use Rattle.mark_core.specs.declared.seat.SeatState.{SeatState};
 
+use crate::bases::Bases;
 use crate::kinds::{Cell, Shape, Step};
 use crate::making::cached_block;
 use crate::mutator::variable;
@@ -24,53 +25,59 @@ pub fn address(shape: &Shape, s: &SeatState, step: &Step) -> usize
     requires { IsShape shape.now }
     ensures { result ≡ address_of shape.now (place shape.now s.now step.now) }
 {
+    address_by(&Bases::of(shape), s, step)
+}
+
+/// The same, in a heap whose regions begin there.
+#[inline(always)]
+pub fn address_by(bases: &Bases, s: &SeatState, step: &Step) -> usize
+    ensures { result ≡ address_of bases.now.shape (place bases.now.shape s.now step.now) }
+{
     match pass_of(step) {
-        Pass::Packets => of_packets(shape, s, step),
-        Pass::Colour => of_colour(shape, s, step),
-        Pass::Mutator => of_mutator(shape, s, step),
-        Pass::Making => of_making(shape, s, step),
+        Pass::Packets => of_packets(bases, s, step),
+        Pass::Colour => of_colour(bases, s, step),
+        Pass::Mutator => of_mutator(bases, s, step),
+        Pass::Making => of_making(bases, s, step),
         Pass::World => of_world(step),
-        Pass::Sweep => of_sweep(shape, s, step),
-        Pass::Counters => of_counters(shape, s, step),
-        Pass::Help => of_help(shape, step),
+        Pass::Sweep => of_sweep(bases, s, step),
+        Pass::Counters => of_counters(bases, s, step),
+        Pass::Help => of_help(bases, step),
     }
 }
 
 #[inline(always)]
-fn of_packets(shape: &Shape, s: &SeatState, step: &Step) -> usize
-    requires pass { pass_of_step step.now ≡ Pass.Packets }
-    requires shaped { IsShape shape.now }
-    ensures { result ≡ address_of shape.now (place shape.now s.now step.now) }
+fn of_packets(bases: &Bases, s: &SeatState, step: &Step) -> usize
+    requires { pass_of_step step.now ≡ Pass.Packets }
+    ensures { result ≡ address_of bases.now.shape (place bases.now.shape s.now step.now) }
 {
     match *step {
         Step::Reserve | Step::Credit | Step::ReadCount => layout::EMPTY,
-        Step::Take { q, p } => layout::pool_at(shape, q as usize, p / 64),
+        Step::Take { q, p } => bases.pool_at(q as usize, p / 64),
         Step::Give { p, deferred } => {
-            let q = packets::pool_for(shape, length_in_hand(s.held, p), deferred);
-            layout::pool_at(shape, q, p / 64)
+            let q = packets::pool_for(&bases.shape, length_in_hand(s.held, p), deferred);
+            bases.pool_at(q, p / 64)
         }
-        Step::Push { p, cell: _ } => layout::entry_at(shape, p, length_in_hand(s.held, p)),
-        Step::Pop { p } => layout::entry_at(shape, p, length_in_hand(s.held, p).saturating_sub(1)),
-        Step::Look { q, g } => layout::pool_at(shape, q as usize, g),
-        Step::StoreLength { p } | Step::ReadLength { p } => layout::head_at(shape, p),
+        Step::Push { p, cell: _ } => bases.entry_at(p, length_in_hand(s.held, p)),
+        Step::Pop { p } => bases.entry_at(p, length_in_hand(s.held, p).saturating_sub(1)),
+        Step::Look { q, g } => bases.pool_at(q as usize, g),
+        Step::StoreLength { p } | Step::ReadLength { p } => bases.head_at(p),
         _ => unreachable!(),
     }
 }
 
 #[inline(always)]
-fn of_colour(shape: &Shape, s: &SeatState, step: &Step) -> usize
-    requires pass { pass_of_step step.now ≡ Pass.Colour }
-    requires shaped { IsShape shape.now }
-    ensures { result ≡ address_of shape.now (place shape.now s.now step.now) }
+fn of_colour(bases: &Bases, s: &SeatState, step: &Step) -> usize
+    requires { pass_of_step step.now ≡ Pass.Colour }
+    ensures { result ≡ address_of bases.now.shape (place bases.now.shape s.now step.now) }
 {
     match *step {
-        Step::ReadAlloc { b } => layout::alloc_at(shape, b),
-        Step::ReadField { c, i } => layout::field_at(shape, c.number(), i),
-        Step::ReadRoot { section, v } => layout::root_at(shape, section, v),
-        Step::SetMark { c } => layout::mark_at(shape, c.number() / 64),
+        Step::ReadAlloc { b } => bases.alloc_at(b),
+        Step::ReadField { c, i } => bases.field_at(c.number(), i),
+        Step::ReadRoot { section, v } => bases.root_at(section, v),
+        Step::SetMark { c } => bases.mark_at(c.number() / 64),
         Step::DirtyCard { card } | Step::ClearCard { card } | Step::ReadCard { card } =>
-            layout::card_at(shape, card),
-        Step::ReadMarks { b } => layout::mark_at(shape, b),
+            bases.card_at(card),
+        Step::ReadMarks { b } => bases.mark_at(b),
         Step::ReadPhase => layout::PHASE,
         _ => unreachable!(),
     }
@@ -84,48 +91,45 @@ fn own_cell(s: &SeatState, v: u8) -> u32
 }
 
 #[inline(always)]
-fn of_mutator(shape: &Shape, s: &SeatState, step: &Step) -> usize
-    requires pass { pass_of_step step.now ≡ Pass.Mutator }
-    requires shaped { IsShape shape.now }
-    ensures { result ≡ address_of shape.now (place shape.now s.now step.now) }
+fn of_mutator(bases: &Bases, s: &SeatState, step: &Step) -> usize
+    requires { pass_of_step step.now ≡ Pass.Mutator }
+    ensures { result ≡ address_of bases.now.shape (place bases.now.shape s.now step.now) }
 {
     match *step {
-        Step::ReadOwn { c, i } => layout::field_at(shape, c.number(), i),
-        Step::ReadValue { c } => layout::value_at(shape, c.number()),
-        Step::ReadIdent { c } => layout::identity_at(shape, c.number()),
-        Step::ReadCat { v } => layout::root_at(shape, 0, v),
-        Step::StoreField { v, i, w: _ } => layout::field_at(shape, own_cell(s, v), i),
-        Step::StoreValue { v, n: _ } => layout::value_at(shape, own_cell(s, v)),
-        Step::StoreRoot { v, r: _ } => layout::root_at(shape, s.section.unwrap_or(0), v),
+        Step::ReadOwn { c, i } => bases.field_at(c.number(), i),
+        Step::ReadValue { c } => bases.value_at(c.number()),
+        Step::ReadIdent { c } => bases.identity_at(c.number()),
+        Step::ReadCat { v } => bases.root_at(0, v),
+        Step::StoreField { v, i, w: _ } => bases.field_at(own_cell(s, v), i),
+        Step::StoreValue { v, n: _ } => bases.value_at(own_cell(s, v)),
+        Step::StoreRoot { v, r: _ } => bases.root_at(s.section.unwrap_or(0), v),
         _ => unreachable!(),
     }
 }
 
 /// Where a word of a new cell goes.
-fn part_at(shape: &Shape, c: Cell, part: u8) -> usize
-    requires { IsShape shape.now }
-    ensures { result ≡ address_of shape.now (part_place shape.now c part) }
+fn part_at(bases: &Bases, c: Cell, part: u8) -> usize
+    ensures { result ≡ address_of bases.now.shape (part_place bases.now.shape c part) }
 {
-    if u32::from(part) < shape.fields {
-        layout::field_at(shape, c.number(), part)
-    } else if u32::from(part) == shape.fields {
-        layout::value_at(shape, c.number())
+    if u32::from(part) < bases.shape.fields {
+        bases.field_at(c.number(), part)
+    } else if u32::from(part) == bases.shape.fields {
+        bases.value_at(c.number())
     } else {
-        layout::identity_at(shape, c.number())
+        bases.identity_at(c.number())
     }
 }
 
 #[inline(always)]
-fn of_making(shape: &Shape, s: &SeatState, step: &Step) -> usize
-    requires pass { pass_of_step step.now ≡ Pass.Making }
-    requires shaped { IsShape shape.now }
-    ensures { result ≡ address_of shape.now (place shape.now s.now step.now) }
+fn of_making(bases: &Bases, s: &SeatState, step: &Step) -> usize
+    requires { pass_of_step step.now ≡ Pass.Making }
+    ensures { result ≡ address_of bases.now.shape (place bases.now.shape s.now step.now) }
 {
     match *step {
-        Step::ClaimBlock { b } => layout::owner_at(shape, b),
-        Step::ReleaseBlock => layout::owner_at(shape, cached_block(s)),
-        Step::ReadFree | Step::PublishCells => layout::alloc_at(shape, cached_block(s)),
-        Step::StoreNew { c, part, word: _ } => part_at(shape, c, part),
+        Step::ClaimBlock { b } => bases.owner_at(b),
+        Step::ReleaseBlock => bases.owner_at(cached_block(s)),
+        Step::ReadFree | Step::PublishCells => bases.alloc_at(cached_block(s)),
+        Step::StoreNew { c, part, word: _ } => part_at(bases, c, part),
         _ => unreachable!(),
     }
 }
@@ -142,29 +146,27 @@ fn of_world(step: &Step) -> usize
 }
 
 #[inline(always)]
-fn of_sweep(shape: &Shape, s: &SeatState, step: &Step) -> usize
-    requires pass { pass_of_step step.now ≡ Pass.Sweep }
-    requires shaped { IsShape shape.now }
-    ensures { result ≡ address_of shape.now (place shape.now s.now step.now) }
+fn of_sweep(bases: &Bases, s: &SeatState, step: &Step) -> usize
+    requires { pass_of_step step.now ≡ Pass.Sweep }
+    ensures { result ≡ address_of bases.now.shape (place bases.now.shape s.now step.now) }
 {
     match *step {
         Step::NextBlock => layout::NEXT_BLOCK,
         Step::NextOfCards => layout::NEXT_CARD,
-        Step::ReadBlockMarks | Step::ClearMarks => layout::mark_at(shape, own_block(s)),
-        Step::StoreAlloc => layout::alloc_at(shape, own_block(s)),
-        Step::WipeCard { card } => layout::card_at(shape, card),
+        Step::ReadBlockMarks | Step::ClearMarks => bases.mark_at(own_block(s)),
+        Step::StoreAlloc => bases.alloc_at(own_block(s)),
+        Step::WipeCard { card } => bases.card_at(card),
         _ => unreachable!(),
     }
 }
 
 #[inline(always)]
-fn of_counters(shape: &Shape, s: &SeatState, step: &Step) -> usize
-    requires pass { pass_of_step step.now ≡ Pass.Counters }
-    requires shaped { IsShape shape.now }
-    ensures { result ≡ address_of shape.now (place shape.now s.now step.now) }
+fn of_counters(bases: &Bases, s: &SeatState, step: &Step) -> usize
+    requires { pass_of_step step.now ≡ Pass.Counters }
+    ensures { result ≡ address_of bases.now.shape (place bases.now.shape s.now step.now) }
 {
     match *step {
-        Step::StorePosition { done: _ } => layout::position_at(shape, s.section.unwrap_or(0)),
+        Step::StorePosition { done: _ } => bases.position_at(s.section.unwrap_or(0)),
         Step::StoreNamed => layout::NAMED,
         Step::Reset { which }
         | Step::AddStat {
@@ -172,19 +174,18 @@ fn of_counters(shape: &Shape, s: &SeatState, step: &Step) -> usize
             by: _,
             down: _,
         }
-        | Step::ReadStat { which } => layout::counter_at(shape, which),
+        | Step::ReadStat { which } => bases.counter_at(which),
         _ => unreachable!(),
     }
 }
 
 #[inline(always)]
-fn of_help(shape: &Shape, step: &Step) -> usize
-    requires pass { pass_of_step step.now ≡ Pass.Help }
-    requires shaped { IsShape shape.now }
-    ensures { (s : SeatState) → result ≡ address_of shape.now (place shape.now s step.now) }
+fn of_help(bases: &Bases, step: &Step) -> usize
+    requires { pass_of_step step.now ≡ Pass.Help }
+    ensures { (s : SeatState) → result ≡ address_of bases.now.shape (place bases.now.shape s step.now) }
 {
     match *step {
-        Step::ReadSeason | Step::NextSeason => layout::help(shape) + 1,
-        _ => layout::help(shape),
+        Step::ReadSeason | Step::NextSeason => bases.help() + 1,
+        _ => bases.help(),
     }
 }

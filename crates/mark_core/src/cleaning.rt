@@ -49,19 +49,14 @@ pub fn without_cell(cleaning: Option<Cleaning>, c: Cell) -> Option<Cleaning>
     }
 }
 
-pub fn redirty_off(cleaning: Option<Cleaning>, card: u32) -> Option<Cleaning>
-    ensures { result ≡ redirty_off_of cleaning card }
+#[inline(always)]
+pub fn redirty_off(cleaning: &mut Option<Cleaning>, card: u32)
+    ensures { cleaning.new ≡ redirty_off_of cleaning.old card }
 {
-    match cleaning {
-        None => None,
-        Some(x) => if x.card == card {
-            Some(Cleaning {
-                redirty: false,
-                ..x
-            })
-        } else {
-            Some(x)
-        },
+    if let Some(x) = cleaning {
+        if x.card == card {
+            x.redirty = false;
+        }
     }
 }
 

@@ -142,29 +142,25 @@ pub fn set_mark(s: &mut SeatState, c: Cell, old: u64) -> u64
     bits::with_bit(old, c.number() % 64)
 }
 
-fn fresh_off(fresh: Option<Cell>, card: u32) -> Option<Cell>
-    ensures { result ≡ fresh_off_of fresh card }
+#[inline(always)]
+fn fresh_off(fresh: &mut Option<Cell>, card: u32)
+    ensures { fresh.new ≡ fresh_off_of fresh.old card }
 {
-    match fresh {
-        None => None,
-        Some(c) => if c.number() / 16 == card {
-            None
-        } else {
-            Some(c)
-        },
+    if let Some(c) = *fresh {
+        if c.number() / 16 == card {
+            *fresh = None;
+        }
     }
 }
 
-fn popped_off(popped: Option<(Cell, bool)>, card: u32) -> Option<(Cell, bool)>
-    ensures { result ≡ popped_off_of popped card }
+#[inline(always)]
+fn popped_off(popped: &mut Option<(Cell, bool)>, card: u32)
+    ensures { popped.new ≡ popped_off_of popped.old card }
 {
-    match popped {
-        None => None,
-        Some(x) => if x.1 && x.0.number() / 16 == card {
-            None
-        } else {
-            Some(x)
-        },
+    if let Some(x) = *popped {
+        if x.1 && x.0.number() / 16 == card {
+            *popped = None;
+        }
     }
 }
 
@@ -175,16 +171,17 @@ pub fn check_dirty_card(shape: &Shape, s: &SeatState, card: u32) -> Option<u8>
 }
 
 /// The dirty card answers for all that the seat owes it.
+#[inline(always)]
 pub fn dirty_card(s: &mut SeatState, card: u32) -> u64
     ensures word { result ≡ 1 }
     ensures seat { s.new ≡ record s.old { fresh = fresh_off_of s.old.fresh card; popped = popped_off_of s.old.popped card; owes = if is_the_number s.old.owes card then None else s.old.owes; cleaning = redirty_off s.old.cleaning card } }
 {
-    s.fresh = fresh_off(s.fresh, card);
-    s.popped = popped_off(s.popped, card);
+    fresh_off(&mut s.fresh, card);
+    popped_off(&mut s.popped, card);
     if is_the(s.owes, card) {
         s.owes = None;
     }
-    s.cleaning = cleaning::redirty_off(s.cleaning, card);
+    cleaning::redirty_off(&mut s.cleaning, card);
     1
 }
 

@@ -1,7 +1,7 @@
-//! The address of each word in the list of all words.
+//! Where each region of words begins in the list of all words.
 ghost use Rattle.std.specs.Prelude.{◌≡◌, ◌<◌, ◌+◌, ◌-◌, ◌≤◌, ◌^◌, length, take, drop};
 ghost use Rattle.mark_core.specs.Layout.{pool_words as pool_words_of, block_count as block_count_of, card_count as card_count_of, region_sizes, region_base, total_words as total_words_of, address, words_of};
-ghost use Rattle.mark_core.specs.Places.{position_at as position_place, root_at as root_place, owner_at as owner_place, alloc_at as alloc_place, mark_at as mark_place, card_at as card_place, head_at as head_place, entry_at as entry_place, identity_at as identity_place, value_at as value_place, field_at as field_place, pool_at as pool_place, counter_at as counter_place};
+ghost use Rattle.mark_core.specs.Places.{identity_at as identity_place};
 ghost use Rattle.mark_core.specs.Shapes.{IsShape};
 
 use crate::kinds::Shape;
@@ -37,69 +37,69 @@ pub fn pool_words(shape: &Shape) -> usize
     (shape.packets as usize + 63) / 64
 }
 
-fn positions(shape: &Shape) -> usize
+pub fn positions(shape: &Shape) -> usize
     ensures { result ≡ region_base (region_sizes shape.now) 1 }
 {
     11
 }
 
-fn roots(shape: &Shape) -> usize
+pub fn roots(shape: &Shape) -> usize
     ensures { result ≡ region_base (region_sizes shape.now) 2 }
 {
     positions(shape) + shape.sections as usize
 }
 
-fn owners(shape: &Shape) -> usize
+pub fn owners(shape: &Shape) -> usize
     ensures { result ≡ region_base (region_sizes shape.now) 3 }
 {
     roots(shape) + shape.sections as usize * 32
 }
 
-fn allocs(shape: &Shape) -> usize
+pub fn allocs(shape: &Shape) -> usize
     ensures { result ≡ region_base (region_sizes shape.now) 4 }
 {
     owners(shape) + block_count(shape) as usize
 }
 
-fn marks(shape: &Shape) -> usize
+pub fn marks(shape: &Shape) -> usize
     ensures { result ≡ region_base (region_sizes shape.now) 5 }
 {
     allocs(shape) + block_count(shape) as usize
 }
 
-fn cards(shape: &Shape) -> usize
+pub fn cards(shape: &Shape) -> usize
     ensures { result ≡ region_base (region_sizes shape.now) 6 }
 {
     marks(shape) + block_count(shape) as usize
 }
 
-fn heads(shape: &Shape) -> usize
+pub fn heads(shape: &Shape) -> usize
     ensures { result ≡ region_base (region_sizes shape.now) 7 }
 {
     cards(shape) + card_count(shape) as usize
 }
 
-fn entries(shape: &Shape) -> usize
+pub fn entries(shape: &Shape) -> usize
     ensures { result ≡ region_base (region_sizes shape.now) 8 }
 {
     heads(shape) + shape.packets as usize
 }
 
-fn identities(shape: &Shape) -> usize
+pub fn identities(shape: &Shape) -> usize
     requires { IsShape shape.now }
     ensures { result ≡ region_base (region_sizes shape.now) 9 }
 {
     entries(shape) + shape.packets as usize * shape.entries as usize
 }
 
-fn values(shape: &Shape) -> usize
+pub fn values(shape: &Shape) -> usize
     requires { IsShape shape.now }
     ensures { result ≡ region_base (region_sizes shape.now) 10 }
 {
     identities(shape) + shape.cells as usize
 }
 
-fn fields(shape: &Shape) -> usize
+pub fn fields(shape: &Shape) -> usize
     requires { IsShape shape.now }
     ensures { result ≡ region_base (region_sizes shape.now) 11 }
 {
@@ -127,55 +127,6 @@ pub fn total_words(shape: &Shape) -> usize
     help(shape) + 2
 }
 
-pub fn entry_at(shape: &Shape, p: u32, k: u32) -> usize
-    requires { IsShape shape.now }
-    ensures { result ≡ address shape.now (entry_place shape.now p k) }
-{
-    entries(shape) + (p as usize * shape.entries as usize + k as usize)
-}
-
-pub fn position_at(shape: &Shape, section: u32) -> usize
-    ensures { result ≡ address shape.now (position_place section) }
-{
-    positions(shape) + section as usize
-}
-
-pub fn root_at(shape: &Shape, section: u32, v: u8) -> usize
-    ensures { result ≡ address shape.now (root_place section v) }
-{
-    roots(shape) + (section as usize * 32 + v as usize)
-}
-
-pub fn owner_at(shape: &Shape, b: u32) -> usize
-    ensures { result ≡ address shape.now (owner_place b) }
-{
-    owners(shape) + b as usize
-}
-
-pub fn alloc_at(shape: &Shape, b: u32) -> usize
-    ensures { result ≡ address shape.now (alloc_place b) }
-{
-    allocs(shape) + b as usize
-}
-
-pub fn mark_at(shape: &Shape, b: u32) -> usize
-    ensures { result ≡ address shape.now (mark_place b) }
-{
-    marks(shape) + b as usize
-}
-
-pub fn card_at(shape: &Shape, card: u32) -> usize
-    ensures { result ≡ address shape.now (card_place card) }
-{
-    cards(shape) + card as usize
-}
-
-pub fn head_at(shape: &Shape, p: u32) -> usize
-    ensures { result ≡ address shape.now (head_place p) }
-{
-    heads(shape) + p as usize
-}
-
 pub fn identity_at(shape: &Shape, c: u32) -> usize
     requires { IsShape shape.now }
     ensures { result ≡ address shape.now (identity_place c) }
@@ -183,41 +134,12 @@ pub fn identity_at(shape: &Shape, c: u32) -> usize
     identities(shape) + c as usize
 }
 
-pub fn value_at(shape: &Shape, c: u32) -> usize
-    requires { IsShape shape.now }
-    ensures { result ≡ address shape.now (value_place c) }
+/// How many commands each section has done.
+pub fn positions_of<'a>(shape: &Shape, words: &'a [u64]) -> &'a [u64]
+    requires { length words.now ≡ total_words_of (region_sizes shape.now) }
+    ensures { result.now ≡ (words_of shape.now words.now).positions }
 {
-    values(shape) + c as usize
-}
-
-pub fn field_at(shape: &Shape, c: u32, i: u8) -> usize
-    requires { IsShape shape.now }
-    ensures { result ≡ address shape.now (field_place shape.now c i) }
-{
-    fields(shape) + (c as usize * shape.fields as usize + i as usize)
-}
-
-pub fn pool_at(shape: &Shape, q: usize, g: u32) -> usize
-    requires shaped { IsShape shape.now }
-    requires pool { q < 256 }
-    ensures { result ≡ address shape.now (pool_place shape.now q g) }
-{
-    pools(shape) + (q * pool_words(shape) + g as usize)
-}
-
-/// The counters and the statistics from 0 on, then the named section, and from 8 on the positions.
-pub fn counter_at(shape: &Shape, which: u8) -> usize
-    ensures { result ≡ address shape.now (counter_place which) }
-{
-    if which < 2 {
-        NEXT_CARD + which as usize
-    } else if which < 7 {
-        NEXT_CARD + 1 + which as usize
-    } else if which == 7 {
-        NAMED
-    } else {
-        positions(shape) + (which as usize - 8)
-    }
+    &words[positions(shape)..roots(shape)]
 }
 
 /// The words of the roots.
@@ -254,4 +176,31 @@ pub fn cards_of<'a>(shape: &Shape, words: &'a [u64]) -> &'a [u64]
     ensures { result.now ≡ (words_of shape.now words.now).cards }
 {
     &words[cards(shape)..heads(shape)]
+}
+
+/// The identity of each cell.
+pub fn identities_of<'a>(shape: &Shape, words: &'a [u64]) -> &'a [u64]
+    requires shaped { IsShape shape.now }
+    requires whole { length words.now ≡ total_words_of (region_sizes shape.now) }
+    ensures { result.now ≡ (words_of shape.now words.now).identities }
+{
+    &words[identities(shape)..values(shape)]
+}
+
+/// The value of each cell.
+pub fn values_of<'a>(shape: &Shape, words: &'a [u64]) -> &'a [u64]
+    requires shaped { IsShape shape.now }
+    requires whole { length words.now ≡ total_words_of (region_sizes shape.now) }
+    ensures { result.now ≡ (words_of shape.now words.now).values }
+{
+    &words[values(shape)..fields(shape)]
+}
+
+/// The fields of all cells.
+pub fn fields_of<'a>(shape: &Shape, words: &'a [u64]) -> &'a [u64]
+    requires shaped { IsShape shape.now }
+    requires whole { length words.now ≡ total_words_of (region_sizes shape.now) }
+    ensures { result.now ≡ (words_of shape.now words.now).fields }
+{
+    &words[fields(shape)..pools(shape)]
 }

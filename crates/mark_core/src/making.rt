@@ -127,31 +127,25 @@ fn fits_part(shape: &Shape, s: &SeatState, part: u8, word: u64) -> bool
     }
 }
 
-fn with_making(cache: Option<CacheState>, c: Cell, part: u8) -> Option<CacheState>
-    ensures { result ≡ with_making_of cache c part }
+#[inline(always)]
+fn with_making(cache: &mut Option<CacheState>, c: Cell, part: u8)
+    ensures { cache.new ≡ with_making_of cache.old c part }
 {
-    match cache {
-        None => None,
-        Some(x) => Some(CacheState {
-            making: Some((c, part)),
-            ..x
-        }),
+    if let Some(x) = cache {
+        x.making = Some((c, part));
     }
 }
 
 /// The cell is made, and is used.
-fn with_made(cache: Option<CacheState>, c: Cell) -> Option<CacheState>
-    ensures { result ≡ with_made_of cache c }
+#[inline(always)]
+fn with_made(cache: &mut Option<CacheState>, c: Cell)
+    ensures { cache.new ≡ with_made_of cache.old c }
 {
-    match cache {
-        None => None,
-        Some(x) => Some(CacheState {
-            free: bits::without_bit(x.free, c.number() % 64),
-            used: bits::with_bit(x.used, c.number() % 64),
-            making: None,
-            last: Some(c),
-            ..x
-        }),
+    if let Some(x) = cache {
+        x.free = bits::without_bit(x.free, c.number() % 64);
+        x.used = bits::with_bit(x.used, c.number() % 64);
+        x.making = None;
+        x.last = Some(c);
     }
 }
 
@@ -166,6 +160,7 @@ pub fn check_store_new(shape: &Shape, s: &SeatState, c: Cell, part: u8, word: u6
     ])
 }
 
+#[inline(always)]
 pub fn store_new(shape: &Shape, s: &mut SeatState, c: Cell, part: u8, word: u64) -> u64
     requires part_counts { part < 255 }
     requires made_counts { s.old.made < 4294967295 }
@@ -173,9 +168,9 @@ pub fn store_new(shape: &Shape, s: &mut SeatState, c: Cell, part: u8, word: u64)
     ensures seat { s.new ≡ record s.old { cache = if nat_le part shape.now.fields then with_making_of s.old.cache c (part + 1) else with_made_of s.old.cache c; made = if nat_le part shape.now.fields then s.old.made else s.old.made + 1 } }
 {
     if u32::from(part) <= shape.fields {
-        s.cache = with_making(s.cache, c, part + 1);
+        with_making(&mut s.cache, c, part + 1);
     } else {
-        s.cache = with_made(s.cache, c);
+        with_made(&mut s.cache, c);
         s.made += 1;
     }
     word

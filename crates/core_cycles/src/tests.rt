@@ -9,9 +9,7 @@ mod helped;
 mod overflow;
 mod precise;
 
-use crate::kinds::{Cell, Event, Phase, Rule, Shape, Step};
-use crate::seat::SeatState;
-use crate::state::CoreState;
+use mark_core::{Cell, CoreState, Event, Phase, Rule, Shape, Step};
 use std::alloc::Global;
 
 const SMALL: Shape = Shape {

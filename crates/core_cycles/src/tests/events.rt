@@ -1,8 +1,7 @@
 //! Short lists of events that whole cycles are made of, over a small heap: 64 cells in one block of four cards,
 //! two packets of two cells, and one field an object. Seat 0 has the catalogue, seat 1 a section, seat 2 none.
 use super::{DONE, by};
-use crate::kinds::{Cell, Event, Shape, Step};
-use crate::state::CoreState;
+use mark_core::{Cell, CoreState, Event, Shape, Step};
 use plain_heap::OutOfMemory;
 use std::alloc::Global;
 

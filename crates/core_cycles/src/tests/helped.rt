@@ -4,8 +4,7 @@ use super::events::{
     scans, takes,
 };
 use super::{by, refusal};
-use crate::kinds::{Event, Phase, Shape, Step};
-use crate::state::CoreState;
+use mark_core::{CoreState, Event, Phase, Shape, Step};
 use plain_heap::OutOfMemory;
 use std::alloc::Global;
 

@@ -4,8 +4,7 @@ use super::events::{
     names, publishes, ran, scans, takes,
 };
 use super::{by, refusal, stopped, swept};
-use crate::kinds::{Event, Phase, Step};
-use crate::state::CoreState;
+use mark_core::{CoreState, Event, Phase, Step};
 
 /// The cell's field names the cell of variable 0, which then names this cell.
 fn links(c: u32) -> [Event; 3] {

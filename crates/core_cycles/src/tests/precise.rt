@@ -5,8 +5,7 @@ use super::events::{
     names, publishes, ran, scans, takes,
 };
 use super::{by, stopped, swept};
-use crate::kinds::{Event, Phase, Step};
-use crate::state::CoreState;
+use mark_core::{CoreState, Event, Phase, Step};
 
 /// Variable 0 names cell 0, and variable 1 cell 1; both are published.
 fn two_published(core: &mut CoreState) -> bool {

@@ -4,8 +4,7 @@ use super::events::{
     makes, mutates, names, publishes, ran, scans, takes,
 };
 use super::{by, stopped, swept};
-use crate::kinds::{Cell, Event, Phase, Step};
-use crate::state::CoreState;
+use mark_core::{Cell, CoreState, Event, Phase, Step};
 
 /// Variable 0 names cell 0, whose field names cell 1. Both are the mutator's alone, so no card is owed.
 fn two_unpublished(core: &mut CoreState) -> bool {

@@ -4,8 +4,7 @@ use super::events::{
     makes, mutates, names, publishes, ran, reads_field, scans, takes,
 };
 use super::{by, refusal, stopped, swept};
-use crate::kinds::{Cell, Event, Phase, Step};
-use crate::state::CoreState;
+use mark_core::{Cell, CoreState, Event, Phase, Step};
 
 /// Variables 0 to 3 name cells 0 to 3, and variable 4 names cell 16, on the next card.
 fn makes_all(core: &mut CoreState) -> bool {

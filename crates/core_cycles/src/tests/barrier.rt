@@ -4,8 +4,7 @@ use super::events::{
     loads, makes, mutates, names, publishes, ran, reads_field, scans, takes,
 };
 use super::{by, refusal, stopped, swept};
-use crate::kinds::{Event, Phase, Step};
-use crate::state::CoreState;
+use mark_core::{CoreState, Event, Phase, Step};
 
 /// Cell 0 is variable 0's and cell 1 is variable 1's; nobody names cell 2.
 fn three_published(core: &mut CoreState) -> bool {
