@@ -1,5 +1,5 @@
 -- The rule holds where a seat takes in another, and says what the words are in the end.
-use Rattle.std.proofs.Common.{ℕ, ◌≡◌, ◌≢◌, ◌+◌, List, set, length, refl, sym, ap, ◌∙◌, subst, ⊎_elim, Bool, true, false, Option, Some, None, cond, eqb, length-set}
+use Rattle.std.proofs.Common.{ℕ, ◌≡◌, ◌≢◌, ◌+◌, List, set, length, refl, sym, ap, ◌∙◌, subst, ⊎_elim, Bool, true, false, Option, Some, None, eqb, length-set}
 use Rattle.std.specs.Prelude.{slice_get, slice_index, IsTrue, IsFalse, not, ◌&&◌, is_none}
 use Rattle.std.specs.List.{All}
 use Rattle.std.proofs.lemmas.Bool.{true≢false, and_parts, and_from, or_from, not_from_false, false_from_ne_true, ne_eqb, eq-eqb}
@@ -13,23 +13,28 @@ use Rattle.mark_core.specs.Places.{the_world}
 use Rattle.mark_core.specs.Seats.{is_bare, takes_part, empty_handed}
 use Rattle.mark_core.specs.Views.{Standing, standing_of, standings}
 use Rattle.mark_core.specs.WorldRules.{IsEmpty, IsCalm, HelpsOnly}
-use Rattle.mark_core.specs.WorldSteps.{has_nothing, may_be_joined, other_has_nothing, join_parts}
+use Rattle.mark_core.specs.WorldSteps.{has_nothing, may_be_joined, other_has_nothing}
 use Rattle.mark_core.specs.Start.{spent_seat}
-use Rattle.mark_core.specs.Steps.{Core, first_false, failing_of, failing_part, after_of, after_event}
+use Rattle.mark_core.specs.Steps.{Core, after_of, after_event}
 use Rattle.mark_core.specs.Laws.{IsCore}
-use Rattle.mark_core.proofs.CoreKept.{core-kept}
-use Rattle.mark_core.proofs.SweptKept.{swept-kept_by}
 use Rattle.mark_core.proofs.NotesBeside.{sits, of-sits}
 use Rattle.mark_core.proofs.WorldReading.{at-standing}
 use Rattle.mark_core.specs.declared.kinds.Shape.{Shape}
-use Rattle.mark_core.specs.declared.kinds.Event.{Event}
 use Rattle.mark_core.specs.declared.kinds.Step.TheVariants.{Join}
 use Rattle.mark_core.specs.declared.seat.SeatState.{SeatState}
 use Rattle.gc_table.specs.declared.view.View.{View}
-use Rattle.gc_table.specs.Rule.{records_from, core_of, IsState, Agrees, Holds, IsFinal, nobody, takes_in}
-use Rattle.gc_table.proofs.Allowed.{all-hold}
-use Rattle.gc_table.proofs.Opening.{record-at, zero-plus}
-use Rattle.gc_table.proofs.Records.{record-live, records-set}
+use Rattle.std.specs.Prelude.{Contains}
+use Rattle.std.proofs.Common.{[], ◌∷◌, ◌++◌, zero, suc, arith}
+use Rattle.std.proofs.lemmas.List.Elements.{Contains-append_cases}
+use Rattle.plain_heap.specs.declared.operation.Op.{Op}
+use Rattle.gc_table.specs.declared.view.SectionState.{SectionState}
+use Rattle.gc_table.specs.Whole.{Whole, whole_after}
+use Rattle.gc_table.specs.Rule.{records_from, whole_of, IsState, HasJoined, Agrees, Holds, IsFinal, nobody, own_entry, takes_in}
+use Rattle.gc_table.proofs.Asking.{own-number}
+use Rattle.gc_table.proofs.Opening.{none-in, record-at, still-sections, zero-plus}
+use Rattle.gc_table.proofs.Records.{record-live, records-set, found-here, found-else}
+use Rattle.gc_table.proofs.WholeSteps.{Goes, event, sections-left}
+use Rattle.gc_table.proofs.WholeKept.{whole-kept}
 
 unset : (b : Bool) → not b ≡ true → b ≡ false
 unset true e = absurd (true≢false (sym e))
@@ -57,52 +62,87 @@ bare-nothing c i s core got bare =
     let hands : empty_handed s ≡ true = and_from _ _ (and_from _ _ (not_from_false _ empty.no_packet) (not_from_false _ empty.no_reservation)) (not_from_false _ empty.no_credit) in
     and_from _ _ (and_from _ _ (and_from _ _ (and_from _ _ (and_from _ _ hands (not_from_false _ empty.no_work)) (none-there s.owes calm.no_card_owed)) (none-there s.cache empty.no_cache)) (none-there s.block empty.no_block)) (eq-eqb s.got 0 calm.register_nil)
 
+one_in : {A : Type 0} (a b : A) → Contains (a ∷ []) b → a ≡ b
+one_in a b (zero, l, e) = e
+one_in a b (suc k, l, e) = absurd (omega (arith, l))
+
+-- the section of the seat that is taken in is as its view has it
+entry_is : (o : Option ℕ) (x y : SectionState) (w : ℕ) → Contains (own_entry o x) (w, y) → (o ≡ Some w) × (x ≡ y)
+entry_is None x y w h = absurd (none-in (w, y) h)
+entry_is (Some k) x y w h = let e : (k, x) ≡ (w, y) = one_in (k, x) (w, y) h in (ap (λ (p : ℕ × SectionState). Some p.0) e, ap (λ (p : ℕ × SectionState). p.1) e)
+
+some_seat : (s t : SeatState) → Some s ≡ Some t → s ≡ t
+some_seat s t e = cc
+
 -- a seat takes in another, while both are outside
-pub joins : (sh : Shape) (id : ℕ) (v : View) (other : ℕ) (w : View) → IsFalse v.state.spent → IsTrue (is_bare v.state) → IsFalse w.state.spent → IsTrue (is_bare w.state) → w.state.number ≢ 0 → Joins (Holds sh) id v other w (takes_in v w) nobody
-joins sh id v other w live bare live' bare' second s o me apart there' =
-    let c : Core = core_of sh s in
-    let there : get_elem? s.views other ≡ some w = sym (set_else s.views id other v apart) ∙ there' in
-    let a : Agrees c id v = o.each id v me live in
-    let b : Agrees c other w = o.each other w there live' in
+pub joins : (sh : Shape) (plan : List (List Op)) (id : ℕ) (v : View) (other : ℕ) (w : View) → IsFalse v.state.spent → IsTrue (is_bare v.state) → IsFalse w.state.spent → IsTrue (is_bare w.state) → w.state.number ≢ 0 → Joins (Holds sh plan) id v other w (takes_in v w) nobody
+joins sh plan id v other w live bare live' bare' second s o me apart there' =
+    let x : Whole = whole_of sh plan o.sections s in
+    let c : Core = x.core in
+    let there : get_elem? s.views other ≡ some w = sym (set_else s.views id other (takes_in v w) apart) ∙ there' in
+    let a : Agrees x id v = o.each id v me live in
+    let b : Agrees x other w = o.each other w there live' in
     let far : other ≢ 0 = λ e. second ((o.whole.core.formed.seats other w.state b.seat).number ∙ e) in
-    let e : Event = record { seat = id; step = Join other } in
     let number : v.state.number ≡ id = (o.whole.core.formed.seats id v.state a.seat).number in
     let first : (not (eqb other v.state.number) && may_be_joined (slice_get c.seats other) && is_bare v.state) ≡ true =
     and_from _ _ (and_from _ _ (ap not (ne_eqb other v.state.number (λ z. apart (z ∙ number)))) (ap may_be_joined b.seat ∙ and_from _ _ (not_from_false _ live') bare')) bare in
     let nothing : (has_nothing sh v.state && other_has_nothing sh (slice_get c.seats other)) ≡ true =
     and_from _ _ (bare-nothing c id v.state o.whole.core a.seat bare) (ap (other_has_nothing sh) b.seat ∙ bare-nothing c other w.state o.whole.core b.seat bare') in
-    let f : failing_part c e ≡ None = ap (λ x. failing_of c x (Join other)) a.seat ∙ (ap (λ (x : Bool). cond x (Some 0) (first_false 1 (join_parts sh c.seats v.state other))) live ∙ all-hold 1 (join_parts sh c.seats v.state other) (first, (nothing, tt))) in
-    let after : after_event c e ≡ after_of c id (Some v.state) (Join other) = ap (λ x. after_of c id x (Join other)) a.seat in
+    let g : Goes x id v.state (Join other) = record { whole = o.whole; got = a.seat; live = live; ok = (first, (nothing, tt)); fits = tt; asks = tt } in
+    let after : after_event c (event id (Join other)) ≡ after_of c id (Some v.state) (Join other) = ap (λ p. after_of c id p (Join other)) a.seat in
+    let sections : (whole_after x (event id (Join other))).sections ≡ o.sections = sections-left x id v.state (Join other) g ∙ still-sections v.state.section o.sections in
     let words : set s.words (address sh the_world) (slice_index s.words (address sh the_world)) ≡ s.words = set-get_or s.words (address sh the_world) 0 in
-    let vs : List View = set (set s.views id v) other nobody in
-    let kept : records_from sh 0 (set s.views id v) ≡ set (records_from sh 0 s.views) id v.state = records-set sh 0 s.views id v ∙ ap (set (records_from sh 0 s.views) id) (record-live sh (0 + id) v live) in
+    let both : View = takes_in v w in
+    let vs : List View = set (set s.views id both) other nobody in
+    let kept : records_from sh 0 (set s.views id both) ≡ set (records_from sh 0 s.views) id v.state = records-set sh 0 s.views id both ∙ ap (set (records_from sh 0 s.views) id) (record-live sh (0 + id) both live) in
     let seats : records_from sh 0 vs ≡ set (set (records_from sh 0 s.views) id v.state) other (spent_seat sh other) =
-    records-set sh 0 (set s.views id v) other nobody
-    ∙ (λ x. set (kept x) other (spent_seat sh (zero-plus other x))) in
+    records-set sh 0 (set s.views id both) other nobody
+    ∙ (λ y. set (kept y) other (spent_seat sh (zero-plus other y))) in
+    let gone : (k : ℕ) → slice_get c.seats k ≡ Some (spent_seat sh k) → slice_get (records_from sh 0 vs) k ≡ Some (spent_seat sh k) = λ k h.
+    let not_other : k ≢ other = λ e. true≢false (ap (λ (t : SeatState). t.spent) (some_seat (spent_seat sh k) w.state (sym h ∙ (ap (slice_get c.seats) e ∙ b.seat))) ∙ live') in
+    let not_own : k ≢ id = λ e. true≢false (ap (λ (t : SeatState). t.spent) (some_seat (spent_seat sh k) v.state (sym h ∙ (ap (slice_get c.seats) e ∙ a.seat))) ∙ live) in
+    ap (λ xs. slice_get xs k) seats ∙ (found-else (set c.seats id v.state) other k (spent_seat sh other) not_other ∙ (found-else c.seats id k v.state not_own ∙ h)) in
+    let left : Whole = whole_of sh plan o.sections (record { words = s.words; homes = s.homes; views = vs }) in
+    let joined : (u : View) → HasJoined x u → HasJoined left u = λ u h k y i. let q = h k y i in (q.0, gone k q.1) in
+    let core : after_event c (event id (Join other)) ≡ record { shape = sh; words = s.words; seats = records_from sh 0 vs } = after ∙ (λ y. record { shape = sh; words = words y; seats = sym seats y }) in
     record {
-      whole = subst IsState (after ∙ (λ x. record { shape = sh; words = words x; seats = sym seats x })) (record { core = core-kept c e o.whole.core tt f; swept = swept-kept_by c e o.whole.core o.whole.swept f });
+      sections = o.sections;
+      whole = subst IsState (λ y. record { core = core y; plan = plan; sections = sections y }) (whole-kept x id v.state (Join other) g);
       each = λ j u h l.
           let seat = record-at sh vs j u h l in
           ⊎_elim
-          (λ (p : (j ≡ other) × (nobody ≡ u)). absurd (true≢false (ap (λ (x : View). x.state.spent) p.1 ∙ l)))
-          (λ (p : (j ≢ other) × (get_elem? (set s.views id v) j ≡ some u)).
+          (λ (p : (j ≡ other) × (nobody ≡ u)). absurd (true≢false (ap (λ (y : View). y.state.spent) p.1 ∙ l)))
+          (λ (p : (j ≢ other) × (get_elem? (set s.views id both) j ≡ some u)).
           ⊎_elim
-          (λ (q : (j ≡ id) × (v ≡ u)). let z : Agrees (core_of sh s) id u = subst (Agrees (core_of sh s) id) q.1 a in record { shape = z.shape; seat = seat; noted = z.noted; floored = z.floored })
-          (λ (q : (j ≢ id) × (get_elem? s.views j ≡ some u)). let z = o.each j u q.1 l in record { shape = z.shape; seat = seat; noted = z.noted; floored = z.floored })
-          (at_set s.views id j v u p.1))
-          (at_set (set s.views id v) other j nobody u h);
+          (λ (q : (j ≡ id) × (both ≡ u)).
+          let mine : HasJoined left both = λ k y i.
+          ⊎_elim
+          (λ (i : Contains v.joined (k, y)). joined v a.joined k y i)
+          (λ (i : Contains (own_entry w.state.section w.own ++ w.joined) (k, y)).
+          ⊎_elim
+          (λ (i : Contains (own_entry w.state.section w.own) (k, y)).
+          let e = entry_is w.state.section w.own y k i in
+          let at : k ≡ other = own-number c other k w.state o.whole.core b.seat e.0 in
+          (b.own k e.0 ∙ ap Some e.1, ap (λ xs. slice_get xs k) seats ∙ (ap (slice_get (set (set c.seats id v.state) other (spent_seat sh other))) at ∙ (found-here (set c.seats id v.state) other w.state (spent_seat sh other) (found-else c.seats id other v.state apart ∙ b.seat) ∙ ap (λ (m : ℕ). Some (spent_seat sh m)) (sym at)))))
+          (λ (i : Contains w.joined (k, y)). joined w b.joined k y i)
+          (Contains-append_cases (own_entry w.state.section w.own) w.joined (k, y) i))
+          (Contains-append_cases v.joined (own_entry w.state.section w.own ++ w.joined) (k, y) i) in
+          subst (λ (z : View). Agrees left j z) q.1 (record { shape = a.shape; seat = seat ∙ ap (λ (z : View). Some z.state) (sym q.1); noted = a.noted; floored = a.floored; fetched = a.fetched; plan = a.plan; own = a.own; joined = mine }))
+          (λ (q : (j ≢ id) × (get_elem? s.views j ≡ some u)). let z = o.each j u q.1 l in record { shape = z.shape; seat = seat; noted = z.noted; floored = z.floored; fetched = z.fetched; plan = z.plan; own = z.own; joined = joined u z.joined })
+          (at_set s.views id j both u p.1))
+          (at_set (set s.views id both) other j nobody u h);
       opened = λ u h.
-          let long : length vs ≡ length s.views = length-set (set s.views id v) other nobody ∙ length-set s.views id v in
+          let long : length vs ≡ length s.views = length-set (set s.views id both) other nobody ∙ length-set s.views id both in
           ⊎_elim
           (λ (p : (0 ≡ other) × (nobody ≡ u)). absurd (far (sym p.0)))
-          (λ (p : (0 ≢ other) × (get_elem? (set s.views id v) 0 ≡ some u)).
+          (λ (p : (0 ≢ other) × (get_elem? (set s.views id both) 0 ≡ some u)).
           ⊎_elim
-          (λ (q : (0 ≡ id) × (v ≡ u)). ap (λ (x : View). x.opened) (sym q.1) ∙ (o.opened v (ap (get_elem? s.views) q.0 ∙ me) ∙ sym long))
+          (λ (q : (0 ≡ id) × (both ≡ u)). ap (λ (y : View). y.opened) (sym q.1) ∙ (o.opened v (ap (get_elem? s.views) q.0 ∙ me) ∙ sym long))
           (λ (q : (0 ≢ id) × (get_elem? s.views 0 ≡ some u)). o.opened u q.1 ∙ sym long)
-          (at_set s.views id 0 v u p.1))
-          (at_set (set s.views id v) other 0 nobody u h);
+          (at_set s.views id 0 both u p.1))
+          (at_set (set s.views id both) other 0 nobody u h);
     }
 
--- the words in the end
-pub closes : (sh : Shape) (id : ℕ) (v : View) (ws : List ℕ) (xs : List (Unit {0})) → Final (Seen (Holds sh) id v) ws xs → IsFinal sh ws
-closes sh id v ws xs f = record { state = core_of sh f.0; whole = f.1.0.whole; shape = refl; words = f.2 }
+-- the words in the end, and what the last seat's view says of all sections
+pub closes : (sh : Shape) (plan : List (List Op)) (id : ℕ) (v : View) (ws : List ℕ) (xs : List (Unit {0})) → IsFalse v.state.spent → Final (Seen (Holds sh plan) id v) ws xs → IsFinal v ws
+closes sh plan id v ws xs live f = record { state = whole_of sh plan f.1.0.sections f.0; whole = f.1.0.whole; words = f.2; index = id; agrees = f.1.0.each id v f.1.1 live }

@@ -14,7 +14,7 @@ pub some-is : (m n : ℕ) → Some m ≡ Some n → m ≡ n
 some-is m n e = cc
 
 -- the whole list at once
-look-map : (keeps : ℕ × ℕ → ℕ → Bool) (at : ℕ × ℕ) (xs : Notes) → look at (map (λ x. (x.0, if_kept keeps x.0 x.1)) xs) ≡ if_kept keeps at (look at xs)
+pub look-map : (keeps : ℕ × ℕ → ℕ → Bool) (at : ℕ × ℕ) (xs : Notes) → look at (map (λ x. (x.0, if_kept keeps x.0 x.1)) xs) ≡ if_kept keeps at (look at xs)
 look-map keeps at [] = refl
 look-map keeps at (x ∷ xs) = by_test (same_place x.0 at) refl (look-map keeps at xs)
   where

@@ -1,9 +1,10 @@
 -- The rule holds at the start, and where the first seat makes another.
-use Rattle.std.proofs.Common.{ℕ, ◌≡◌, ◌≢◌, ◌<◌, ◌≤◌, ◌+◌, zero, suc, List, [], ◌∷◌, ◌++◌, map, set, length, arith, refl, sym, ap, ◌∙◌, subst, inl, inr, ◌⊎◌, ⊎_elim, true, Some, None, length-set, length-append}
-use Rattle.std.specs.Prelude.{slice_get, slice_index, IsTrue, IsFalse, nat_lt}
+use Rattle.std.proofs.Common.{ℕ, ◌≡◌, ◌≢◌, ◌<◌, ◌+◌, zero, suc, List, [], ◌∷◌, ◌++◌, map, set, length, arith, refl, sym, ap, ◌∙◌, subst, inl, inr, ◌⊎◌, ⊎_elim, true, Some, None, length-set, length-append}
+use Rattle.std.specs.Prelude.{slice_get, slice_index, IsFalse, nat_lt}
 use Rattle.std.specs.List.{range_with_len}
 use Rattle.std.proofs.lemmas.Bool.{lt-ltb}
-use Rattle.std.proofs.lemmas.List.{set-get_or}
+use Rattle.std.proofs.lemmas.List.{set-get_or, length-map}
+use Rattle.std.proofs.lemmas.Option.{slice_get-get_or}
 use mathlib.Core.Option.{some, none, some-injective, some-ne-none}
 use lib.ListN.{get_elem?}
 use Rattle.atomic_table.specs.Table.{Splits, opening}
@@ -12,21 +13,28 @@ use Rattle.mark_core.specs.Layout.{address}
 use Rattle.mark_core.specs.Shapes.{IsShape}
 use Rattle.mark_core.specs.Places.{the_world}
 use Rattle.mark_core.specs.Start.{start_seat, start_words}
-use Rattle.mark_core.specs.Steps.{Core, AllTrue, failing_of, failing_part, after_of, after_event, start_core}
+use Rattle.mark_core.specs.Steps.{Core, AllTrue, after_of, after_event}
 use Rattle.mark_core.specs.WorldSteps.{split_parts}
-use Rattle.mark_core.proofs.CoreKept.{core-kept, core-starts}
-use Rattle.mark_core.proofs.SweptKept.{swept-kept_by}
-use Rattle.mark_core.proofs.SweptStart.{swept-starts}
 use Rattle.mark_core.specs.declared.kinds.Shape.{Shape}
-use Rattle.mark_core.specs.declared.kinds.Event.{Event}
 use Rattle.mark_core.specs.declared.kinds.Step.TheVariants.{Split}
 use Rattle.mark_core.specs.declared.seat.SeatState.{SeatState}
-use Rattle.mark_core.specs.Notes.{word_at, steady, keeps_bound}
 use Rattle.gc_table.specs.declared.view.View.{View}
 use Rattle.gc_table.specs.Notes.{look}
-use Rattle.gc_table.specs.Rule.{record_of, records_from, core_of, IsState, Agrees, Holds, IsPossible, newcomer, opens, opened_by}
-use Rattle.gc_table.proofs.Allowed.{St, all-hold}
-use Rattle.gc_table.proofs.Records.{record-live, records-get, records-set, records-snoc, records-length}
+use Rattle.gc_table.specs.Fetching.{last_pool}
+use Rattle.std.specs.Prelude.{Option, Contains}
+use Rattle.std.proofs.Common.{Bool, false, cond}
+use Rattle.std.proofs.lemmas.Bool.{ltb-true}
+use Rattle.mark_core.specs.Start.{spent_seat}
+use Rattle.plain_heap.specs.declared.operation.Op.{Op}
+use Rattle.gc_table.specs.declared.view.SectionState.{SectionState}
+use Rattle.gc_table.specs.Sections.{start_section, start_sections}
+use Rattle.gc_table.specs.Whole.{Whole, no_section, section_at, with_section, whole_after, start_whole}
+use Rattle.gc_table.specs.Rule.{record_of, records_from, whole_of, IsState, HasJoined, Agrees, Holds, IsPossible, newcomer, opens, opened_by}
+use Rattle.gc_table.proofs.Allowed.{St}
+use Rattle.gc_table.proofs.Records.{record-live, records-get, records-set, records-snoc, records-length, got-longer}
+use Rattle.gc_table.proofs.WholeSteps.{Goes, event, sections-left}
+use Rattle.gc_table.proofs.WholeKept.{whole-kept}
+use Rattle.gc_table.proofs.WholeStart.{whole-starts}
 
 pub at-end : {A : Type 0} (l : List A) (a b : A) (j : ℕ) → get_elem? (l ++ a ∷ []) j ≡ some b → (get_elem? l j ≡ some b) ⊎ ((j ≡ length l) × (a ≡ b))
 at-end [] a b zero e = inr (refl, some-injective a b e)
@@ -47,69 +55,114 @@ zero-plus n = omega arith
 pub record-at : (sh : Shape) (vs : List View) (j : ℕ) (u : View) → get_elem? vs j ≡ some u → IsFalse u.state.spent → slice_get (records_from sh 0 vs) j ≡ Some u.state
 record-at sh vs j u h l = records-get sh 0 vs j u h ∙ ap Some (record-live sh (0 + j) u l)
 
-start_at : (sh : Shape) (a n k : ℕ) → k < n → slice_get (map (start_seat sh) (range_with_len a n)) k ≡ Some (start_seat sh (a + k))
-start_at sh a zero k h = absurd (omega (arith, h))
-start_at sh a (suc n) zero h = let here : a ≡ a + 0 = omega arith in ap (λ (m : ℕ). Some (start_seat sh m)) here
-start_at sh a (suc n) (suc k) h = let there : a + 1 + k ≡ a + suc k = omega arith in start_at sh (a + 1) n k (omega (arith, h)) ∙ ap (λ (m : ℕ). Some (start_seat sh m)) there
+start_at : {A : Type 0} (f : ℕ → A) (a n k : ℕ) → k < n → slice_get (map f (range_with_len a n)) k ≡ Some (f (a + k))
+start_at f a zero k h = absurd (omega (arith, h))
+start_at f a (suc n) zero h = let here : a ≡ a + 0 = omega arith in ap (λ (m : ℕ). Some (f m)) here
+start_at f a (suc n) (suc k) h = let there : a + 1 + k ≡ a + suc k = omega arith in start_at f (a + 1) n k (omega (arith, h)) ∙ ap (λ (m : ℕ). Some (f m)) there
+
+pub none-in : {A : Type 0} (x : A) → Contains [] x → ⊥
+none-in x h = absurd (omega (arith, h.1))
+
+-- the section of a seat that has done nothing
+section_there : (sh : Shape) (k w : ℕ) → (start_seat sh k).section ≡ Some w → (w ≡ k) × (k < sh.sections)
+section_there sh k w e = by_place (nat_lt k sh.sections) refl e
+  where
+    by_place : (b : Bool) → nat_lt k sh.sections ≡ b → cond b (Some k) None ≡ Some w → (w ≡ k) × (k < sh.sections)
+    by_place true l h = (cc, ltb-true k sh.sections l)
+    by_place false l h = absurd (cc)
 
 -- a seat that has done nothing is one of a state in which nothing has happened
-pub newcomer-possible : (sh : Shape) (k : ℕ) → IsShape sh → k < 41 → IsPossible (newcomer sh k)
-newcomer-possible sh k z h =
+pub newcomer-agrees : (sh : Shape) (plan : List (List Op)) (k : ℕ) → Agrees (start_whole sh plan (k + 1)) k (newcomer sh plan k)
+newcomer-agrees sh plan k =
     record {
-      state = start_core sh (k + 1);
+      shape = refl;
+      seat = start_at (start_seat sh) 0 (k + 1) k (omega arith) ∙ ap (λ (m : ℕ). Some (start_seat sh m)) (zero-plus k);
+      noted = λ at n e. absurd (none_some n e);
+      floored = λ at n e. absurd (none_some n e);
+      fetched = λ p q there h m e. absurd (none_some q e);
+      plan = refl;
+      own = λ w e.
+          let p = section_there sh k w e in
+          ap (slice_get (start_sections sh)) p.0 ∙ (start_at (start_section sh) 0 sh.sections k p.1 ∙ ap (λ (m : ℕ). Some (start_section sh m)) (zero-plus k));
+      joined = λ w y h. absurd (none-in (w, y) h);
+    }
+
+pub newcomer-possible : (sh : Shape) (plan : List (List Op)) (k : ℕ) → IsShape sh → k < 41 → IsPossible (newcomer sh plan k)
+newcomer-possible sh plan k z h =
+    record {
+      state = start_whole sh plan (k + 1);
       index = k;
-      whole = record { core = core-starts sh (k + 1) z (omega (arith, h)) (omega (arith, h)); swept = swept-starts sh (k + 1) z };
-      agrees = record {
-        shape = refl;
-        seat = start_at sh 0 (k + 1) k (omega arith) ∙ ap (λ (m : ℕ). Some (start_seat sh m)) (zero-plus k);
-        noted = λ at n e. absurd (none_some n e);
-        floored = λ at n e. absurd (none_some n e);
-      };
+      whole = whole-starts sh plan (k + 1) z (omega (arith, h)) (omega (arith, h));
+      agrees = newcomer-agrees sh plan k;
       live = refl;
     }
 
 pub opens-possible : (v : View) → IsPossible v → IsPossible (opens v)
-opens-possible v p = record { state = p.state; index = p.index; whole = p.whole; agrees = record { shape = p.agrees.shape; seat = p.agrees.seat; noted = p.agrees.noted; floored = p.agrees.floored }; live = p.live }
+opens-possible v p =
+    record {
+      state = p.state;
+      index = p.index;
+      whole = p.whole;
+      agrees = record { shape = p.agrees.shape; seat = p.agrees.seat; noted = p.agrees.noted; floored = p.agrees.floored; fetched = p.agrees.fetched; plan = p.agrees.plan; own = p.agrees.own; joined = p.agrees.joined };
+      live = p.live;
+    }
 
 -- the table in which nothing has happened
-pub starts : (sh : Shape) (ws : List ℕ) → IsShape sh → ws ≡ start_words sh → Holds sh (opening ws [] (newcomer sh 0))
+pub starts : (sh : Shape) (plan : List (List Op)) (ws : List ℕ) → IsShape sh → ws ≡ start_words sh → Holds sh plan (opening ws [] (newcomer sh plan 0))
 unfolding newcomer-possible
-starts sh ws z is =
-    let first : IsPossible (newcomer sh 0) = newcomer-possible sh 0 z (omega arith) in
-    subst (λ (xs : List ℕ). Holds sh (opening xs [] (newcomer sh 0))) (sym is)
+starts sh plan ws z is =
+    let first : IsPossible (newcomer sh plan 0) = newcomer-possible sh plan 0 z (omega arith) in
+    subst (λ (xs : List ℕ). Holds sh plan (opening xs [] (newcomer sh plan 0))) (sym is)
     (record {
+      sections = start_sections sh;
       whole = first.whole;
       each = λ i v h l.
           ⊎_elim
           (λ (e : get_elem? [] i ≡ some v). absurd (some-ne-none v (sym e)))
-          (λ (e : (i ≡ 0) × (newcomer sh 0 ≡ v)). subst (λ (x : ℕ × View). Agrees (start_core sh 1) x.0 x.1) (λ y. (sym e.0 y, e.1 y)) first.agrees)
-          (at-end [] (newcomer sh 0) v i h);
-      opened = λ v h. ap (λ (u : View). u.opened) (sym (some-injective (newcomer sh 0) v h));
+          (λ (e : (i ≡ 0) × (newcomer sh plan 0 ≡ v)). subst (λ (x : ℕ × View). Agrees (start_whole sh plan 1) x.0 x.1) (λ y. (sym e.0 y, e.1 y)) first.agrees)
+          (at-end [] (newcomer sh plan 0) v i h);
+      opened = λ v h. ap (λ (u : View). u.opened) (sym (some-injective (newcomer sh plan 0) v h));
     })
 
+-- a step that leaves each section
+pub still-sections : (o : Option ℕ) (xs : List SectionState) → with_section o (λ y. y) xs ≡ xs
+still-sections None xs = refl
+still-sections (Some w) xs = set-get_or xs w no_section
+
 -- the state after a split
-split_left : (sh : Shape) (s : St) (v : View) → Holds sh s → get_elem? s.views 0 ≡ some v → v.state ≡ start_seat sh 0 → length s.views < 41
-    → IsState (record { shape = sh; words = s.words; seats = set (records_from sh 0 s.views) 0 v.state ++ start_seat sh (length s.views) ∷ [] })
-split_left sh s v o me first few =
-    let c : Core = core_of sh s in
-    let e : Event = record { seat = 0; step = Split } in
-    let live : IsFalse v.state.spent = ap (λ (x : SeatState). x.spent) first in
+split_left : (sh : Shape) (plan : List (List Op)) (s : St) (v : View) (o : Holds sh plan s) → get_elem? s.views 0 ≡ some v → v.state ≡ start_seat sh 0 → length s.views < 41
+    → IsState (record { core = record { shape = sh; words = s.words; seats = set (records_from sh 0 s.views) 0 v.state ++ start_seat sh (length s.views) ∷ [] }; plan = plan; sections = o.sections })
+split_left sh plan s v o me first few =
+    let x : Whole = whole_of sh plan o.sections s in
+    let c : Core = x.core in
+    let live : IsFalse v.state.spent = ap (λ (t : SeatState). t.spent) first in
     let got : slice_get c.seats 0 ≡ Some v.state = record-at sh s.views 0 v me live in
     let room : nat_lt (length c.seats) 41 ≡ true = lt-ltb (length c.seats) 41 (omega (arith, records-length sh 0 s.views, few)) in
-    let ok : AllTrue (split_parts sh c.seats (start_seat sh 0)) = (room, tt) in
-    let f : failing_part c e ≡ None = ap (λ o. failing_of c o Split) (got ∙ ap Some first) ∙ all-hold 1 (split_parts sh c.seats (start_seat sh 0)) ok in
-    let after : after_event c e ≡ after_of c 0 (Some v.state) Split = ap (λ o. after_of c 0 o Split) got in
+    let ok : AllTrue (split_parts sh c.seats v.state) = subst (λ (t : SeatState). AllTrue (split_parts sh c.seats t)) (sym first) (room, tt) in
+    let g : Goes x 0 v.state Split = record { whole = o.whole; got = got; live = live; ok = ok; fits = tt; asks = tt } in
+    let after : after_event c (event 0 Split) ≡ after_of c 0 (Some v.state) Split = ap (λ p. after_of c 0 p Split) got in
+    let sections : (whole_after x (event 0 Split)).sections ≡ o.sections = sections-left x 0 v.state Split g ∙ still-sections v.state.section o.sections in
     let words : set s.words (address sh the_world) (slice_index s.words (address sh the_world)) ≡ s.words = set-get_or s.words (address sh the_world) 0 in
     let long : length (set c.seats 0 v.state) ≡ length s.views = length-set c.seats 0 v.state ∙ records-length sh 0 s.views in
-    subst IsState (after ∙ (λ x. record { shape = sh; words = words x; seats = set c.seats 0 v.state ++ start_seat sh (long x) ∷ [] }))
-    (record { core = core-kept c e o.whole.core tt f; swept = swept-kept_by c e o.whole.core o.whole.swept f })
+    let core : after_event c (event 0 Split) ≡ record { shape = sh; words = s.words; seats = set c.seats 0 v.state ++ start_seat sh (length s.views) ∷ [] } =
+    after ∙ (λ y. record { shape = sh; words = words y; seats = set c.seats 0 v.state ++ start_seat sh (long y) ∷ [] }) in
+    subst IsState (λ y. record { core = core y; plan = plan; sections = sections y }) (whole-kept x 0 v.state Split g)
+
+-- the records after a split are those before it and one more
+longer : (xs : List SeatState) (s t u : SeatState) (w : ℕ) → slice_get xs 0 ≡ Some s → slice_get xs w ≡ Some u → slice_get (set xs 0 s ++ t ∷ []) w ≡ Some u
+longer xs s t u w first h = got-longer (set xs 0 s) t u w (ap (λ l. slice_get l w) (back xs first) ∙ h)
+  where
+    back : (l : List SeatState) → slice_get l 0 ≡ Some s → set l 0 s ≡ l
+    back [] e = absurd (cc)
+    back (y ∷ ys) e = let same : y ≡ s = cc in ap (λ z. z ∷ ys) (sym same)
 
 -- the first seat may make another, while it has nothing but its number
-pub splits : (sh : Shape) (id : ℕ) (v : View) → v.shape ≡ sh → v.state ≡ start_seat sh 0 → v.opened < 41 → Splits (Holds sh) id v (opens v) (opened_by v)
-splits sh id v shaped first few s o me =
-    let live : IsFalse v.state.spent = ap (λ (x : SeatState). x.spent) first in
-    let a : Agrees (core_of sh s) id v = o.each id v me live in
-    let nil : id ≡ 0 = sym ((o.whole.core.formed.seats id v.state a.seat).number) ∙ ap (λ (x : SeatState). x.number) first in
+pub splits : (sh : Shape) (plan : List (List Op)) (id : ℕ) (v : View) → v.shape ≡ sh → v.plan ≡ plan → v.state ≡ start_seat sh 0 → v.opened < 41 → Splits (Holds sh plan) id v (opens v) (opened_by v)
+splits sh plan id v shaped planned first few s o me =
+    let x : Whole = whole_of sh plan o.sections s in
+    let live : IsFalse v.state.spent = ap (λ (t : SeatState). t.spent) first in
+    let a : Agrees x id v = o.each id v me live in
+    let nil : id ≡ 0 = sym ((o.whole.core.formed.seats id v.state a.seat).number) ∙ ap (λ (t : SeatState). t.number) first in
     let here : get_elem? s.views 0 ≡ some v = ap (get_elem? s.views) (sym nil) ∙ me in
     let n : ℕ = length s.views in
     let all : v.opened ≡ n = o.opened v here in
@@ -119,29 +172,44 @@ splits sh id v shaped first few s o me =
     let seats : records_from sh 0 (vs ++ new ∷ []) ≡ set (records_from sh 0 s.views) 0 v.state ++ start_seat sh n ∷ [] =
     records-snoc sh 0 vs new
     ∙ (ap (λ xs. xs ++ record_of sh (0 + length vs) new ∷ []) (records-set sh 0 s.views id (opens v) ∙ (ap (set (records_from sh 0 s.views) id) (record-live sh (0 + id) (opens v) live) ∙ ap (λ (i : ℕ). set (records_from sh 0 s.views) i v.state) nil))
-    ∙ (λ x. set (records_from sh 0 s.views) 0 v.state ++ start_seat (shaped x) (all x) ∷ [])) in
+    ∙ (λ y. set (records_from sh 0 s.views) 0 v.state ++ start_seat (shaped y) (all y) ∷ [])) in
+    let joined : (u : View) → HasJoined x u → HasJoined (whole_of sh plan o.sections (record { words = s.words; homes = s.homes; views = vs ++ new ∷ [] })) u = λ u h w y i.
+    let q = h w y i in (q.0, ap (λ xs. slice_get xs w) seats ∙ longer (records_from sh 0 s.views) v.state (start_seat sh n) (spent_seat sh w) w (record-at sh s.views 0 v here live) q.1) in
     record {
-      whole = subst IsState (λ x. record { shape = sh; words = s.words; seats = sym seats x }) (split_left sh s v o here first (omega (arith, all, few)));
+      sections = o.sections;
+      whole = subst IsState (λ y. record { core = record { shape = sh; words = s.words; seats = sym seats y }; plan = plan; sections = o.sections }) (split_left sh plan s v o here first (omega (arith, all, few)));
       each = λ j u h l.
           let seat = record-at sh (vs ++ new ∷ []) j u h l in
           ⊎_elim
           (λ (g : get_elem? vs j ≡ some u).
           ⊎_elim
-          (λ (p : (j ≡ id) × (opens v ≡ u)). record { shape = ap (λ (x : View). x.shape) (sym p.1) ∙ shaped; seat = seat; noted = subst (λ (x : View). (at : ℕ × ℕ) (m : ℕ) → look at x.known ≡ Some m → IsTrue (steady x.state at m) × (word_at sh s.words at ≡ m)) p.1 a.noted; floored = subst (λ (x : View). (at : ℕ × ℕ) (m : ℕ) → look at x.floors ≡ Some m → IsTrue (keeps_bound x.state at) × (m ≤ word_at sh s.words at)) p.1 a.floored })
-          (λ (p : (j ≢ id) × (get_elem? s.views j ≡ some u)). let b = o.each j u p.1 l in record { shape = b.shape; seat = seat; noted = b.noted; floored = b.floored })
+          (λ (p : (j ≡ id) × (opens v ≡ u)).
+          let b : Agrees x id u = subst (λ (z : View). Agrees x id z) p.1 (record { shape = a.shape; seat = a.seat; noted = a.noted; floored = a.floored; fetched = a.fetched; plan = a.plan; own = a.own; joined = a.joined }) in
+          record { shape = b.shape; seat = seat; noted = b.noted; floored = b.floored; fetched = b.fetched; plan = b.plan; own = b.own; joined = joined u b.joined })
+          (λ (p : (j ≢ id) × (get_elem? s.views j ≡ some u)). let b = o.each j u p.1 l in record { shape = b.shape; seat = seat; noted = b.noted; floored = b.floored; fetched = b.fetched; plan = b.plan; own = b.own; joined = joined u b.joined })
           (at_set s.views id j (opens v) u g))
           (λ (p : (j ≡ length vs) × (new ≡ u)). record {
-            shape = ap (λ (x : View). x.shape) (sym p.1) ∙ shaped;
+            shape = ap (λ (y : View). y.shape) (sym p.1) ∙ shaped;
             seat = seat;
-            noted = λ at m e. absurd (none_some m (ap (λ (x : View). look at x.known) p.1 ∙ e));
-            floored = λ at m e. absurd (none_some m (ap (λ (x : View). look at x.floors) p.1 ∙ e));
+            noted = λ at m e. absurd (none_some m (ap (λ (y : View). look at y.known) p.1 ∙ e));
+            floored = λ at m e. absurd (none_some m (ap (λ (y : View). look at y.floors) p.1 ∙ e));
+            fetched = λ r q there h m e. absurd (none_some q (ap (λ (y : View). last_pool r y.log) p.1 ∙ e));
+            plan = ap (λ (y : View). y.plan) (sym p.1) ∙ planned;
+            own = λ w e.
+                let mine : (start_seat sh n).section ≡ Some w = (λ y. (start_seat (sym shaped y) (sym all y)).section) ∙ (ap (λ (z : View). z.state.section) p.1 ∙ e) in
+                let q = section_there sh n w mine in
+                let inside : w < length o.sections = omega (arith, q.0, q.1, o.whole.stands.sections, length-map o.sections (λ (y : SectionState). y.meaning)) in
+                let got : slice_get o.sections w ≡ Some (section_at o.sections w) = slice_get-get_or o.sections w no_section inside in
+                let still : section_at o.sections w ≡ start_section sh w = o.whole.told.unseated w (section_at o.sections w) got (omega (arith, q.0, records-length sh 0 s.views)) in
+                got ∙ (ap Some still ∙ ((λ y. Some (start_section (sym shaped y) ((q.0 ∙ sym all) y))) ∙ ap (λ (z : View). Some z.own) p.1));
+            joined = λ w y h. absurd (none-in (w, y) (subst (λ (z : View). Contains z.joined (w, y)) (sym p.1) h));
           })
           (at-end vs new u j h);
       opened = λ u h.
           ⊎_elim
           (λ (g : get_elem? vs 0 ≡ some u).
           ⊎_elim
-          (λ (p : (0 ≡ id) × (opens v ≡ u)). ap (λ (x : View). x.opened) (sym p.1) ∙ (let z : v.opened + 1 ≡ length (vs ++ new ∷ []) = omega (arith, all, long, length-append vs (new ∷ [])) in z))
+          (λ (p : (0 ≡ id) × (opens v ≡ u)). ap (λ (y : View). y.opened) (sym p.1) ∙ (let z : v.opened + 1 ≡ length (vs ++ new ∷ []) = omega (arith, all, long, length-append vs (new ∷ [])) in z))
           (λ (p : (0 ≢ id) × (get_elem? s.views 0 ≡ some u)). absurd (p.0 (sym nil)))
           (at_set s.views id 0 (opens v) u g))
           (λ (p : (0 ≡ length vs) × (new ≡ u)). absurd (some-ne-none v (sym here ∙ none_there s.views (p.0 ∙ long))))

@@ -11,7 +11,8 @@ use Rattle.plain_heap.specs.declared.object.Ref.{Ref}
 use Rattle.plain_heap.specs.declared.object.Ref.TheVariants as refs
 use Rattle.plain_heap.specs.Paths.{Names}
 use Rattle.plain_heap.specs.PlainStep.{lent}
-use Rattle.gc_table.specs.StandsFor.{Meaning, Agrees, Holds, IsNext, SeatStands}
+use Rattle.gc_table.specs.StandsFor.{Agrees, Holds, IsNext, SeatStands}
+use Rattle.gc_table.specs.declared.view.Meaning.{Meaning}
 
 -- a word and a reference agree as before, where the cell that is named keeps its identity, and no object goes
 pub agrees-on : (ids ids' : List ℕ) (p q : ℕ → ℕ) (w word : ℕ) (ref : Ref) → (0 < word → slice_index ids' (word - 1) ≡ slice_index ids (word - 1)) → ((k : ℕ) → p k ≤ q k) → Agrees ids p w word ref → Agrees ids' q w word ref

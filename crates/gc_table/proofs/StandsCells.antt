@@ -9,7 +9,8 @@ use Rattle.mark_core.specs.declared.kinds.Shape.{Shape}
 use Rattle.plain_heap.specs.declared.object.Ref.{Ref}
 use Rattle.plain_heap.specs.declared.object.Ref.TheVariants as refs
 use Rattle.plain_heap.specs.PlainStep.{followed, lent, field_of}
-use Rattle.gc_table.specs.StandsFor.{Meaning, object_count, objects_in, Agrees, Holds, IsNext, IsCellOf}
+use Rattle.gc_table.specs.StandsFor.{object_count, objects_in, Agrees, Holds, IsNext, IsCellOf}
+use Rattle.gc_table.specs.declared.view.Meaning.{Meaning}
 use Rattle.gc_table.specs.PlainSteps.{heap_in, seen_in}
 use Rattle.gc_table.proofs.StandsAgree.{Stays, holds-on, next-on, section-same, lent-agrees}
 use Rattle.gc_table.proofs.StandsFrame.{get-set_same, get-set_other}

@@ -9,7 +9,8 @@ use Rattle.mark_core.proofs.FormedAfter.{set-cases, set-here, set-there}
 use Rattle.mark_core.specs.declared.kinds.Shape.{Shape}
 use Rattle.mark_core.specs.declared.seat.SeatState.{SeatState}
 use Rattle.plain_heap.specs.PlainHeap.{variable}
-use Rattle.gc_table.specs.StandsFor.{Meaning, object_count, objects_in, Agrees, IsCellOf, IsSection, SeatStands, Stands}
+use Rattle.gc_table.specs.StandsFor.{object_count, objects_in, Agrees, IsCellOf, IsSection, SeatStands, Stands}
+use Rattle.gc_table.specs.declared.view.Meaning.{Meaning}
 use Rattle.gc_table.proofs.StandsAgree.{agrees-on, seat-on}
 
 -- an element that was written, and one of another place

@@ -8,7 +8,8 @@ use Rattle.mark_core.specs.declared.kinds.Step.{Step}
 use Rattle.mark_core.specs.declared.kinds.Step.TheVariants.{ReadOwn, ReadCat, StoreField, StoreValue, StoreRoot, ClaimBlock, ReleaseBlock, ReadFree, StoreNew, PublishCells, Split, Join}
 use Rattle.mark_core.specs.declared.seat.SeatState.{SeatState}
 use Rattle.plain_heap.specs.declared.operation.Op.{Op}
-use Rattle.gc_table.specs.StandsFor.{Meaning, StandsIn, StandsFor}
+use Rattle.gc_table.specs.StandsFor.{StandsIn, StandsFor}
+use Rattle.gc_table.specs.declared.view.Meaning.{Meaning}
 use Rattle.gc_table.specs.PlainSteps.{meanings_after, AsksIn}
 use Rattle.gc_table.specs.Laws.{EventsKeepStands}
 use Rattle.gc_table.proofs.StandsNew.{store-new}

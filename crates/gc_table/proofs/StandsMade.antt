@@ -22,7 +22,8 @@ use Rattle.mark_core.specs.declared.kinds.Step.{Step}
 use Rattle.mark_core.specs.declared.kinds.Step.TheVariants.{StoreNew}
 use Rattle.mark_core.specs.declared.seat.SeatState.{SeatState}
 use Rattle.mark_core.specs.declared.seat.CacheState.{CacheState}
-use Rattle.gc_table.specs.StandsFor.{Meaning, object_count, SeatStands, StandsFor}
+use Rattle.gc_table.specs.StandsFor.{object_count, SeatStands, StandsFor}
+use Rattle.gc_table.specs.declared.view.Meaning.{Meaning}
 use Rattle.gc_table.specs.PlainSteps.{meaning_of}
 use Rattle.gc_table.proofs.StandsAgree.{Stays, agrees-on}
 use Rattle.gc_table.proofs.StandsCells.{HasMeaning, cell-on}

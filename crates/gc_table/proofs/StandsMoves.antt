@@ -12,7 +12,8 @@ use Rattle.mark_core.specs.declared.kinds.Step.{Step}
 use Rattle.mark_core.specs.declared.kinds.Step.TheVariants.{ReadCount}
 use Rattle.mark_core.specs.declared.seat.SeatState.{SeatState}
 use Rattle.plain_heap.specs.PlainHeap.{variable}
-use Rattle.gc_table.specs.StandsFor.{Meaning, object_count, Agrees, IsSection, SeatStands, Stands, StandsFor}
+use Rattle.gc_table.specs.StandsFor.{object_count, Agrees, IsSection, SeatStands, Stands, StandsFor}
+use Rattle.gc_table.specs.declared.view.Meaning.{Meaning}
 use Rattle.gc_table.specs.PlainSteps.{meaning_of}
 use Rattle.gc_table.proofs.StandsCells.{HasMeaning}
 use Rattle.gc_table.proofs.StandsFrame.{Changes, stands-changed}

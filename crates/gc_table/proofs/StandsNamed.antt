@@ -12,7 +12,8 @@ use Rattle.plain_heap.specs.declared.object.Ref.TheVariants as refs
 use Rattle.plain_heap.specs.declared.object.Object.{Object}
 use Rattle.plain_heap.specs.PlainHeap.{Heap}
 use Rattle.plain_heap.specs.Paths.{Name, Names, HasObject}
-use Rattle.gc_table.specs.StandsFor.{Meaning, StandsFor, Agrees, Holds, heaps_of, name_at, object_count}
+use Rattle.gc_table.specs.StandsFor.{StandsFor, Agrees, Holds, heaps_of, name_at, object_count}
+use Rattle.gc_table.specs.declared.view.Meaning.{Meaning}
 
 -- a reference names one object
 pub names-one : (w : ℕ) (ref : Ref) (a b : Name) → Names w ref a → Names w ref b → a ≡ b

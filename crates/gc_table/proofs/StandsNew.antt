@@ -19,7 +19,8 @@ use Rattle.mark_core.specs.declared.kinds.Step.{Step}
 use Rattle.mark_core.specs.declared.kinds.Step.TheVariants.{StoreNew}
 use Rattle.mark_core.specs.declared.seat.SeatState.{SeatState}
 use Rattle.plain_heap.specs.declared.operation.Op.{Op}
-use Rattle.gc_table.specs.StandsFor.{Meaning, object_count, SeatStands, Stands, StandsIn, StandsFor}
+use Rattle.gc_table.specs.StandsFor.{object_count, SeatStands, Stands, StandsIn, StandsFor}
+use Rattle.gc_table.specs.declared.view.Meaning.{Meaning}
 use Rattle.gc_table.specs.PlainSteps.{own_section, meaning_of, changed, with_part, AsksIn}
 use Rattle.gc_table.proofs.StandsMade.{made-moves}
 use Rattle.gc_table.proofs.StandsMaking.{all-made, NewWords, part-moves}

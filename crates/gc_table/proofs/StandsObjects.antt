@@ -23,7 +23,8 @@ use Rattle.plain_heap.specs.declared.object.Ref.TheVariants as refs
 use Rattle.plain_heap.specs.declared.object.Object.{Object}
 use Rattle.plain_heap.specs.PlainHeap.{Heap, variable}
 use Rattle.plain_heap.specs.PlainStep.{replaced, replaced_by, stored_at}
-use Rattle.gc_table.specs.StandsFor.{Meaning, object_count, Agrees, Holds, SeatStands, StandsFor}
+use Rattle.gc_table.specs.StandsFor.{object_count, Agrees, Holds, SeatStands, StandsFor}
+use Rattle.gc_table.specs.declared.view.Meaning.{Meaning}
 use Rattle.gc_table.specs.PlainSteps.{meaning_of}
 use Rattle.gc_table.proofs.StandsAgree.{Stays, next-on, agrees-on}
 use Rattle.gc_table.proofs.StandsCells.{HasMeaning, cell-on, named-object}

@@ -1,5 +1,5 @@
 -- One meaning changes at a step, and one cell of a section is made for the next object.
-use Rattle.std.proofs.Common.{ℕ, ◌≡◌, ◌*◌, ◌+◌, ◌∙◌, List, set, arith, sym, ap, subst, Option, Some}
+use Rattle.std.proofs.Common.{ℕ, ◌≡◌, ◌∙◌, List, set, arith, sym, ap, subst, Option, Some}
 use Rattle.std.specs.Prelude.{slice_get, unwrap_or}
 use Rattle.std.proofs.lemmas.List.{set-get_or}
 use Rattle.std.proofs.lemmas.Option.{get_or_from_slice_get}
@@ -8,7 +8,7 @@ use Rattle.mark_core.specs.declared.kinds.Step.{Step}
 use Rattle.mark_core.specs.declared.kinds.Step.TheVariants.{ReadOwn, ReadCat, StoreField, StoreValue, StoreRoot, StoreNew}
 use Rattle.mark_core.specs.declared.seat.SeatState.{SeatState}
 use Rattle.plain_heap.specs.declared.operation.Op.{Op}
-use Rattle.gc_table.specs.StandsFor.{Meaning}
+use Rattle.gc_table.specs.declared.view.Meaning.{Meaning}
 use Rattle.gc_table.specs.PlainSteps.{own_section, meaning_of, no_meaning, seen_in, changed_by, meaning_after}
 use Rattle.gc_table.specs.Laws.{OneMeaningChanges, OneCellIsNext}
 use Rattle.gc_table.proofs.StandsStores.{used-exists}

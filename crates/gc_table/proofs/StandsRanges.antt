@@ -1,5 +1,5 @@
 -- The plain step of a store is in range.
-use Rattle.std.proofs.Common.{ℕ, ◌≡◌, ◌∙◌, ◌<◌, List, arith, refl, sym, subst, Bool, true, false, ◌&&◌, Option, Some, None}
+use Rattle.std.proofs.Common.{ℕ, ◌≡◌, ◌∙◌, ◌<◌, List, arith, sym, subst, true, ◌&&◌, Option, Some, None}
 use Rattle.std.specs.Prelude.{nat_lt}
 use Rattle.std.proofs.lemmas.Bool.{false≢true, and_parts, ltb-true}
 use Rattle.std.proofs.lemmas.Option.{same_Some}
@@ -16,7 +16,8 @@ use Rattle.plain_heap.specs.declared.operation.Op.{Op}
 use Rattle.plain_heap.specs.declared.operation.Op.TheVariants as ops
 use Rattle.plain_heap.specs.PlainHeap.{Heap}
 use Rattle.plain_heap.specs.PlainStep.{IsInRange}
-use Rattle.gc_table.specs.StandsFor.{Meaning, IsSection, StandsFor}
+use Rattle.gc_table.specs.StandsFor.{IsSection, StandsFor}
+use Rattle.gc_table.specs.declared.view.Meaning.{Meaning}
 use Rattle.gc_table.specs.PlainSteps.{seen_in, own_section, meaning_of, IsSet, IsAssignment, AsksIn, changes_heap}
 use Rattle.gc_table.specs.Laws.{PlainStepsAreInRange}
 use Rattle.gc_table.proofs.StandsSeat.{Mutates, mutates}

@@ -19,7 +19,8 @@ use Rattle.plain_heap.specs.declared.object.Object.{Object}
 use Rattle.plain_heap.specs.PlainHeap.{Heap, variable}
 use Rattle.plain_heap.specs.Paths.{Name, Names, IsObject, IsHeld, RefersTo, IsReachable}
 use Rattle.plain_heap.proofs.Reaching.{of_reachable, reach_on}
-use Rattle.gc_table.specs.StandsFor.{Meaning, StandsFor, Agrees, Holds, heaps_of, name_at, object_count}
+use Rattle.gc_table.specs.StandsFor.{StandsFor, Agrees, Holds, heaps_of, name_at, object_count}
+use Rattle.gc_table.specs.declared.view.Meaning.{Meaning}
 use Rattle.gc_table.specs.PlainSteps.{no_meaning, meaning_of}
 use Rattle.gc_table.specs.Laws.{IsCellOfObject, ReachableObjectsHaveCells, ReachableCellsHaveObjects}
 use Rattle.gc_table.proofs.StandsCells.{named-object}

@@ -24,7 +24,8 @@ use Rattle.plain_heap.specs.declared.operation.Op.{Op}
 use Rattle.plain_heap.specs.declared.operation.Op.TheVariants as ops
 use Rattle.plain_heap.specs.PlainHeap.{Heap, variable}
 use Rattle.plain_heap.specs.PlainStep.{heap_after, assigned, with_new, new_object, followed, lent_variable}
-use Rattle.gc_table.specs.StandsFor.{Meaning, object_count, objects_in, Agrees, IsNext, IsCellOf, SeatStands, StandsIn, StandsFor}
+use Rattle.gc_table.specs.StandsFor.{object_count, objects_in, Agrees, IsNext, IsCellOf, SeatStands, StandsIn, StandsFor}
+use Rattle.gc_table.specs.declared.view.Meaning.{Meaning}
 use Rattle.gc_table.specs.PlainSteps.{seen_in, own_section, meaning_of, changed, with_got, stepped, IsAssignment, AsksIn}
 use Rattle.gc_table.proofs.StandsAgree.{Stays, next-on, agrees-on}
 use Rattle.gc_table.proofs.StandsCells.{cell-on}
@@ -133,9 +134,9 @@ assigns_known c i s v r ms ref k st a agrees =
           inr (next-on c.shape w.identities w.identities w.values w.values w.fields w.fields (object_count ms) (object_count (set ms i n)) m n y (record { identity = refl; value = refl; each_field = λ j l. refl; targets = λ j l some. refl; more = more }) refl refl o);
     }
 
-last_is : (o : Option ℕ) (x : ℕ) → is_the o x ≡ true → o ≡ Some x
-last_is None x e = absurd (true≢false (sym e))
-last_is (Some y) x e = ap (λ z. Some z) (eqb-true y x e)
+pub last-is : (o : Option ℕ) (x : ℕ) → is_the o x ≡ true → o ≡ Some x
+last-is None x e = absurd (true≢false (sym e))
+last-is (Some y) x e = ap (λ z. Some z) (eqb-true y x e)
 
 -- an object that was added, and those before it
 pub get-front : {X : Type 0} (xs : List X) (y : X) (k : ℕ) → k < length xs → slice_get (xs ++ y ∷ []) k ≡ slice_get xs k
@@ -203,7 +204,7 @@ assigns_new c i s v r ms k st a last room = record {
     mine = st.seats_agree i s m k.got a.there k.live
 
     identity : (slice_index w.identities (r - 1) + 1 ≡ i * flag + s.made) × (0 < s.made)
-    identity = subst (λ (o : Option ℕ). IfSome o (λ x. (slice_index w.identities x + 1 ≡ i * flag + s.made) × (0 < s.made))) (last_is (last_made s.cache) (r - 1) parts.1) mine.last
+    identity = subst (λ (o : Option ℕ). IfSome o (λ x. (slice_index w.identities x + 1 ≡ i * flag + s.made) × (0 < s.made))) (last-is (last_made s.cache) (r - 1) parts.1) mine.last
 
     few : s.made ≤ 2000000
     few = (seat-formed c i s (StoreRoot v r) k).made

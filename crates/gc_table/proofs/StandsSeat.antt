@@ -28,7 +28,8 @@ use Rattle.mark_core.specs.declared.kinds.Step.TheVariants.{ReadCount}
 use Rattle.mark_core.specs.declared.seat.SeatState.{SeatState}
 use Rattle.mark_core.specs.declared.seat.CacheState.{CacheState}
 use Rattle.plain_heap.specs.PlainHeap.{variable}
-use Rattle.gc_table.specs.StandsFor.{Meaning, object_count, Agrees, SeatStands, StandsFor}
+use Rattle.gc_table.specs.StandsFor.{object_count, Agrees, SeatStands, StandsFor}
+use Rattle.gc_table.specs.declared.view.Meaning.{Meaning}
 use Rattle.gc_table.specs.PlainSteps.{own_section, meaning_of, no_meaning, place_of, known_as}
 
 -- any seat that isn't spent may look at a count

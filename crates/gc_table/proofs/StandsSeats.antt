@@ -8,7 +8,8 @@ use Rattle.mark_core.specs.MutatorSteps.{with_free, without_used}
 use Rattle.mark_core.specs.declared.kinds.Shape.{Shape}
 use Rattle.mark_core.specs.declared.seat.SeatState.{SeatState}
 use Rattle.mark_core.specs.declared.seat.CacheState.{CacheState}
-use Rattle.gc_table.specs.StandsFor.{Meaning, Agrees, SeatStands}
+use Rattle.gc_table.specs.StandsFor.{Agrees, SeatStands}
+use Rattle.gc_table.specs.declared.view.Meaning.{Meaning}
 
 -- a cache in which nothing further is made
 pub record MakesNoMore (o o' : Option CacheState) : Type 0 where

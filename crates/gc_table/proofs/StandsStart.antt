@@ -15,7 +15,8 @@ use Rattle.mark_core.specs.declared.kinds.Shape.{Shape}
 use Rattle.mark_core.specs.declared.seat.SeatState.{SeatState}
 use Rattle.plain_heap.specs.declared.object.Ref.TheVariants as refs
 use Rattle.plain_heap.specs.PlainHeap.{variable}
-use Rattle.gc_table.specs.StandsFor.{Meaning, object_count, IsSection, SeatStands, start_meaning, start_meanings}
+use Rattle.gc_table.specs.StandsFor.{object_count, IsSection, SeatStands, start_meaning, start_meanings}
+use Rattle.gc_table.specs.declared.view.Meaning.{Meaning}
 use Rattle.gc_table.specs.Laws.{StartStands}
 
 -- the meaning of section w at the start

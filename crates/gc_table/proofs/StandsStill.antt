@@ -16,7 +16,8 @@ use Rattle.mark_core.proofs.UsedKept.{used-back}
 use Rattle.mark_core.specs.declared.kinds.Step.{Step}
 use Rattle.mark_core.specs.declared.kinds.Step.TheVariants.{Split, Join}
 use Rattle.mark_core.specs.declared.seat.SeatState.{SeatState}
-use Rattle.gc_table.specs.StandsFor.{Meaning, object_count, SeatStands, Stands, StandsIn, StandsFor}
+use Rattle.gc_table.specs.StandsFor.{object_count, SeatStands, Stands, StandsIn, StandsFor}
+use Rattle.gc_table.specs.declared.view.Meaning.{Meaning}
 use Rattle.gc_table.proofs.StandsFrame.{stands-same}
 use Rattle.gc_table.proofs.StandsSeats.{MakesNoMore, seat-less}
 use Rattle.gc_table.proofs.StandsWords.{stores_cell, identities-same, values-same, fields-same}

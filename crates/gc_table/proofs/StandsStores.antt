@@ -31,7 +31,8 @@ use Rattle.plain_heap.specs.declared.operation.Op.{Op}
 use Rattle.plain_heap.specs.declared.operation.Op.TheVariants as ops
 use Rattle.plain_heap.specs.PlainHeap.{Heap, variable}
 use Rattle.plain_heap.specs.PlainStep.{heap_after, replaced, with_field, with_value}
-use Rattle.gc_table.specs.StandsFor.{Meaning, object_count, Agrees, Stands, StandsIn, StandsFor}
+use Rattle.gc_table.specs.StandsFor.{object_count, Agrees, Stands, StandsIn, StandsFor}
+use Rattle.gc_table.specs.declared.view.Meaning.{Meaning}
 use Rattle.gc_table.specs.PlainSteps.{seen_in, own_section, meaning_of, changed, stepped, IsSet, AsksIn}
 use Rattle.gc_table.proofs.StandsMoves.{moved}
 use Rattle.gc_table.proofs.StandsObjects.{Owns, owns, stored-object, with_object, Rewrites, object-moves}

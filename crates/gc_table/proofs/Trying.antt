@@ -6,7 +6,7 @@ use Rattle.mark_core.specs.Shapes.{IsShape}
 use Rattle.mark_core.specs.Layout.{Words, words_of}
 use Rattle.mark_core.specs.Parts.{parts}
 use Rattle.mark_core.specs.Effects.{seat_after}
-use Rattle.mark_core.specs.Steps.{AllTrue}
+use Rattle.mark_core.specs.Steps.{Core, AllTrue}
 use Rattle.mark_core.specs.Held.{put_packet}
 use Rattle.gc_table.specs.Trials.{inside, reserved}
 use Rattle.mark_core.specs.declared.kinds.Shape.{Shape}
@@ -17,7 +17,9 @@ use Rattle.gc_table.specs.Taking.{after, May}
 
 -- a step whose condition speaks of the record alone
 pub may-by : (sh : Shape) (v : View) (s : SeatState) (step : Step) → v.shape ≡ sh → v.state ≡ s → ((w : Words) (seats : List SeatState) → AllTrue (parts sh w seats s step)) → May step v
-may-by sh v s step shaped is h c i w a = subst (λ (x : Shape × SeatState). AllTrue (parts x.0 (words_of c.shape c.words) c.seats x.1 step)) (λ y. ((sym shaped ∙ a.shape) y, sym is y)) (h (words_of c.shape c.words) c.seats)
+may-by sh v s step shaped is h x i w a =
+    let c : Core = x.core in
+    subst (λ (q : Shape × SeatState). AllTrue (parts q.0 (words_of c.shape c.words) c.seats q.1 step)) (λ y. ((sym shaped ∙ a.shape) y, sym is y)) (h (words_of c.shape c.words) c.seats)
 
 -- the record after a step
 pub state-after : (sh : Shape) (v w : View) (s : SeatState) (step : Step) (n : ℕ) → v.shape ≡ sh → v.state ≡ s → w ≡ after step n v → w.state ≡ seat_after sh s step n

@@ -1,5 +1,5 @@
 -- What is claimed of the plain heaps for which the words stand, as statements for proofs to meet.
-use Rattle.std.specs.Prelude.{ℕ, ◌≡◌, List, None, Some, IsTrue, slice_get, slice_set}
+use Rattle.std.specs.Prelude.{ℕ, ◌≤◌, ◌≡◌, List, None, Some, IsTrue, slice_get, slice_set}
 use Rattle.mark_core.specs.Shapes.{IsShape}
 use Rattle.mark_core.specs.Steps.{Core, failing_part, after_event, start_core}
 use Rattle.mark_core.specs.Layout.{words_of}
@@ -7,16 +7,28 @@ use Rattle.mark_core.specs.Views.{makers}
 use Rattle.mark_core.specs.Cells.{in_use}
 use Rattle.mark_core.specs.HeapRules.{section_of}
 use Rattle.mark_core.specs.Closed.{IsReachableIn}
-use Rattle.mark_core.specs.Laws.{IsCore}
+use Rattle.mark_core.specs.Laws.{IsCore, NumbersFit}
+use Rattle.gc_table.specs.Whole.{Whole, whole_after, start_whole, AskedIn}
+use Rattle.gc_table.specs.Rule.{IsState}
 use Rattle.mark_core.specs.declared.kinds.Shape.{Shape}
 use Rattle.mark_core.specs.declared.kinds.Event.{Event}
 use Rattle.mark_core.specs.declared.kinds.Step.{Step}
 use Rattle.mark_core.specs.declared.seat.SeatState.{SeatState}
 use Rattle.plain_heap.specs.declared.operation.Op.{Op}
 use Rattle.plain_heap.specs.Paths.{Name, IsReachable}
-use Rattle.gc_table.specs.StandsFor.{StandsFor, Meaning, Holds, IsNext, heaps_of, name_at, object_count, start_meanings}
+use Rattle.gc_table.specs.StandsFor.{StandsFor, Holds, IsNext, heaps_of, name_at, object_count, start_meanings}
+use Rattle.gc_table.specs.declared.view.Meaning.{Meaning}
 use Rattle.plain_heap.specs.PlainStep.{IsInRange}
 use Rattle.gc_table.specs.PlainSteps.{meaning_after, meanings_after, seen_in, AsksIn, changes_heap}
+
+-- the state in which nothing has happened meets the rule
+abbrev pub StartMeetsRule : Type 0
+StartMeetsRule = (sh : Shape) (plan : List (List Op)) (n : ℕ) → IsShape sh → 1 ≤ n → n ≤ 41 → IsState (start_whole sh plan n)
+
+-- each event that is allowed, and whose step meets what is asked besides, keeps it
+abbrev pub EventsKeepRule : Type 0
+EventsKeepRule =
+    (x : Whole) (e : Event) (s : SeatState) → IsState x → slice_get x.core.seats e.seat ≡ Some s → failing_part x.core e ≡ None → NumbersFit e.step → AskedIn x s e.step → IsState (whole_after x e)
 
 -- the state in which nothing has happened stands for empty heaps
 abbrev pub StartStands : Type 0

@@ -1,4 +1,5 @@
 pub mod Notes
+pub mod Fetching
 pub mod Rule
 pub mod Taking
 pub mod Trials
@@ -6,3 +7,8 @@ pub mod Seats
 pub mod StandsFor
 pub mod PlainSteps
 pub mod Laws
+pub mod Sections
+pub mod Whole
+pub mod Told
+pub mod Reads
+pub mod Ends

@@ -13,7 +13,7 @@ use Rattle.plain_heap.specs.declared.operation.Op.{Op}
 use Rattle.plain_heap.specs.declared.operation.Op.TheVariants as ops
 use Rattle.plain_heap.specs.PlainHeap.{Heap, variable}
 use Rattle.plain_heap.specs.PlainStep.{heap_after, followed, lent_variable}
-use Rattle.gc_table.specs.StandsFor.{Meaning}
+use Rattle.gc_table.specs.declared.view.Meaning.{Meaning}
 
 -- the heap of a meaning, where there is one
 abbrev pub heap_in : Option Meaning → Option Heap

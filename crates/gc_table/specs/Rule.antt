@@ -1,5 +1,5 @@
--- The rule of the table. It speaks of a state of the core, made of the words and of the records of all seats, and of how each seat's view agrees with it.
-use Rattle.std.specs.Prelude.{ℕ, ◌≡◌, ◌≤◌, ◌+◌, List, [], ◌∷◌, if◌then◌else◌, slice_get, length, IsTrue, IsFalse, Some}
+-- The rule of the table. It speaks of a state of the core, made of the words and of the records of all seats, of what each section has come to, and of how each seat's view agrees with them.
+use Rattle.std.specs.Prelude.{ℕ, ◌≡◌, ◌⊎◌, ◌≤◌, ◌+◌, List, [], ◌∷◌, ◌++◌, if◌then◌else◌, slice_get, length, IsTrue, IsFalse, Option, None, Some, Contains}
 use mathlib.Core.Option.{some}
 use lib.ListN.{get_elem?}
 use Rattle.atomic_table.specs.Table.{State}
@@ -8,10 +8,17 @@ use Rattle.mark_core.specs.Steps.{Core}
 use Rattle.mark_core.specs.Laws.{IsCore}
 use Rattle.mark_core.specs.Swept.{IsSweptCore}
 use Rattle.mark_core.specs.Notes.{word_at, steady, keeps_bound}
+use Rattle.plain_heap.specs.declared.operation.Op.{Op}
 use Rattle.mark_core.specs.declared.kinds.Shape.{Shape}
 use Rattle.mark_core.specs.declared.seat.SeatState.{SeatState}
 use Rattle.gc_table.specs.declared.view.View.{View}
+use Rattle.gc_table.specs.declared.view.SectionState.{SectionState}
 use Rattle.gc_table.specs.Notes.{look}
+use Rattle.gc_table.specs.Fetching.{Fetched}
+use Rattle.gc_table.specs.StandsFor.{StandsFor}
+use Rattle.gc_table.specs.Sections.{start_section}
+use Rattle.gc_table.specs.Whole.{Whole, meanings_of}
+use Rattle.gc_table.specs.Told.{IsTold}
 
 -- the record of seat k, where a seat that was joined into another has that of a spent seat
 abbrev pub record_of : Shape → ℕ → View → SeatState
@@ -26,10 +33,16 @@ records_from sh k (v ∷ vs) = record_of sh k v ∷ records_from sh (k + 1) vs
 abbrev pub core_of : Shape → State (Unit {0}) View → Core
 core_of sh s = record { shape = sh; words = s.words; seats = records_from sh 0 s.views }
 
--- what holds of the words and of all records
-pub record IsState (c : Core) : Type 0 where
-  pub core : IsCore c
-  pub swept : IsSweptCore c
+-- the same with the plan and what the sections have come to
+abbrev pub whole_of : Shape → List (List Op) → List SectionState → State (Unit {0}) View → Whole
+whole_of sh plan xs s = record { core = core_of sh s; plan = plan; sections = xs }
+
+-- what holds of the words, of all records and of the sections
+pub record IsState (x : Whole) : Type 0 where
+  pub core : IsCore x.core
+  pub swept : IsSweptCore x.core
+  pub stands : StandsFor x.core (meanings_of x.sections)
+  pub told : IsTold x
 
 -- each note may be kept while others step, and is true
 abbrev pub Noted : Core → View → Type 0
@@ -39,50 +52,75 @@ Noted c v = (at : ℕ × ℕ) (n : ℕ) → look at v.known ≡ Some n → IsTru
 abbrev pub Floored : Core → View → Type 0
 Floored c v = (at : ℕ × ℕ) (n : ℕ) → look at v.floors ≡ Some n → IsTrue (keeps_bound v.state at) × (n ≤ word_at c.shape c.words at)
 
+-- the view has each section whose seat was joined into this one, as it is
+abbrev pub HasJoined : Whole → View → Type 0
+HasJoined x v = (w : ℕ) (y : SectionState) → Contains v.joined (w, y) → (slice_get x.sections w ≡ Some y) × (slice_get x.core.seats w ≡ Some (spent_seat x.core.shape w))
+
 -- what holds of the view of the unspent seat i
-pub record Agrees (c : Core) (i : ℕ) (v : View) : Type 0 where
-  pub shape : v.shape ≡ c.shape
-  pub seat : slice_get c.seats i ≡ Some v.state
-  pub noted : Noted c v
-  pub floored : Floored c v
+pub record Agrees (x : Whole) (i : ℕ) (v : View) : Type 0 where
+  pub shape : v.shape ≡ x.core.shape
+  pub seat : slice_get x.core.seats i ≡ Some v.state
+  pub noted : Noted x.core v
+  pub floored : Floored x.core v
+  pub fetched : Fetched x.core v
+  pub plan : v.plan ≡ x.plan
+  -- the view has the seat's own section as it is
+  pub own : (w : ℕ) → v.state.section ≡ Some w → slice_get x.sections w ≡ Some v.own
+  pub joined : HasJoined x v
 
 -- what holds between any two steps
-pub record Holds (sh : Shape) (s : State (Unit {0}) View) : Type 0 where
-  pub whole : IsState (core_of sh s)
-  pub each : (i : ℕ) (v : View) → get_elem? s.views i ≡ some v → IsFalse v.state.spent → Agrees (core_of sh s) i v
+pub record Holds (sh : Shape) (plan : List (List Op)) (s : State (Unit {0}) View) : Type 0 where
+  pub sections : List SectionState
+  pub whole : IsState (whole_of sh plan sections s)
+  pub each : (i : ℕ) (v : View) → get_elem? s.views i ≡ some v → IsFalse v.state.spent → Agrees (whole_of sh plan sections s) i v
   -- the first seat makes the others
   pub opened : (v : View) → get_elem? s.views 0 ≡ some v → v.opened ≡ length s.views
 
 -- some state that meets the rule agrees with the view
 pub record IsPossible (v : View) : Type 0 where
-  pub state : Core
+  pub state : Whole
   pub index : ℕ
   pub whole : IsState state
   pub agrees : Agrees state index v
   pub live : IsFalse v.state.spent
 
 -- a seat that has done nothing
-abbrev pub newcomer : Shape → ℕ → View
-newcomer sh k = record { shape = sh; state = start_seat sh k; log = []; known = []; floors = []; opened = 1 }
+abbrev pub newcomer : Shape → List (List Op) → ℕ → View
+newcomer sh plan k =
+    record { shape = sh; state = start_seat sh k; log = []; known = []; floors = []; opened = 1; plan = plan; own = start_section sh k; joined = [] }
 
 -- the first seat makes another
 abbrev pub opens : View → View
 opens v = record v { opened = v.opened + 1 }
 
 abbrev pub opened_by : View → View
-opened_by v = newcomer v.shape v.opened
+opened_by v = newcomer v.shape v.plan v.opened
 
--- a seat takes in another
+-- the seat's own section, where it has one
+abbrev pub own_entry : Option ℕ → SectionState → List (ℕ × SectionState)
+own_entry None x = []
+own_entry (Some w) x = (w, x) ∷ []
+
+-- a seat takes in another: it keeps what the other's section has come to, and the sections that the other took in
 abbrev pub takes_in : View → View → View
-takes_in v w = v
+takes_in v w = record v { joined = v.joined ++ (own_entry w.state.section w.own ++ w.joined) }
+
+-- no sizes
+abbrev pub no_shape : Shape
+no_shape = record { cells = 0; packets = 0; entries = 0; sections = 0; fields = 0 }
 
 -- what is left of a seat that was joined into another
 abbrev pub nobody : View
-nobody = record (newcomer (record { cells = 0; packets = 0; entries = 0; sections = 0; fields = 0 }) 0) { state = spent_seat (record { cells = 0; packets = 0; entries = 0; sections = 0; fields = 0 }) 0 }
+nobody = record (newcomer no_shape [] 0) { state = spent_seat no_shape 0 }
 
--- the words are those of a state that meets the rule
-pub record IsFinal (sh : Shape) (ws : List ℕ) : Type 0 where
-  pub state : Core
+-- the view has this section, by its seat or by one that it took in
+abbrev pub HasSection : View → ℕ → SectionState → Type 0
+HasSection v w x = ((v.state.section ≡ Some w) × (v.own ≡ x)) ⊎ Contains v.joined (w, x)
+
+-- the words are those of a state that meets the rule, and the last seat's view has all sections as they are
+pub record IsFinal (v : View) (ws : List ℕ) : Type 0 where
+  pub state : Whole
   pub whole : IsState state
-  pub shape : state.shape ≡ sh
-  pub words : state.words ≡ ws
+  pub words : state.core.words ≡ ws
+  pub index : ℕ
+  pub agrees : Agrees state index v

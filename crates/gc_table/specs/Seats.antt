@@ -1,5 +1,9 @@
 -- A seat of a heap.
-use Rattle.std.specs.Prelude.{ℕ, ◌≡◌, [], IsTrue}
+use Rattle.std.specs.Prelude.{ℕ, ◌≡◌, List, [], IsTrue}
+use Rattle.plain_heap.specs.declared.operation.Op.{Op}
+use Rattle.plain_heap.specs.PlainStep.{heap_after}
+use Rattle.gc_table.specs.PlainSteps.{Asks}
+use Rattle.gc_table.specs.Sections.{seen_by, start_section}
 use Rattle.mark_core.specs.Seats.{is_bare}
 use Rattle.mark_core.specs.Start.{start_seat}
 use Rattle.mark_core.specs.declared.kinds.Shape.{Shape}
@@ -35,11 +39,19 @@ abbrev pub Stored : Step → View → View → Type 0
 Stored step v w = w ≡ after step (written v.shape v.state step 0) v
 
 -- the seat i has done nothing yet
-pub record IsFresh (sh : Shape) (i : ℕ) (v : View) : Type 0 where
+pub record IsFresh (sh : Shape) (plan : List (List Op)) (i : ℕ) (v : View) : Type 0 where
   pub shape : v.shape ≡ sh
   pub state : v.state ≡ start_seat sh i
   pub log : v.log ≡ []
+  pub plan_is : v.plan ≡ plan
+  pub own : v.own ≡ start_section sh i
+  pub joined : v.joined ≡ []
 
 -- the seat is outside the world, its stop and its help
 abbrev pub IsOutside : View → Type 0
 IsOutside v = IsTrue (is_bare v.state)
+
+-- the store was one plain step: each that could be meant by it
+abbrev pub IsPlainStep : Step → View → View → Type 0
+IsPlainStep step v w =
+    (op : Op) → Asks v.state v.own.meaning (seen_by v.shape v.plan v.state) step op → w.own.meaning.heap ≡ heap_after v.own.meaning.heap (seen_by v.shape v.plan v.state) op

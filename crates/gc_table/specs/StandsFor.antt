@@ -16,12 +16,7 @@ use Rattle.plain_heap.specs.declared.object.Ref.TheVariants as refs
 use Rattle.plain_heap.specs.declared.object.Object.{Object}
 use Rattle.plain_heap.specs.PlainHeap.{Heap, empty_heap, variable}
 use Rattle.plain_heap.specs.Paths.{Name, Names}
-
--- what the words of a section and of its seat mean: its plain heap, the reference in the seat's register, and the value that was stored last in a new cell
-pub record Meaning : Type 0 where
-  pub heap : Heap
-  pub got : Ref
-  pub value : ℕ
+use Rattle.gc_table.specs.declared.view.Meaning.{Meaning}
 
 -- the plain heaps, in the order of the sections
 abbrev pub heaps_of : List Meaning → List Heap

@@ -1,19 +1,23 @@
 -- When a seat may take a step, and its view afterwards.
-use Rattle.std.specs.Prelude.{ℕ, ◌≡◌, ◌%◌, [], ◌∷◌, ◌++◌, Bool, true, not, ◌==◌, Some}
+use Rattle.std.specs.Prelude.{ℕ, ◌≡◌, ◌%◌, [], ◌∷◌, ◌++◌, Bool, true, not, ◌==◌}
 use Rattle.mark_core.specs.Bits.{has_bit, has_flag}
 use Rattle.mark_core.specs.Layout.{words_of}
 use Rattle.mark_core.specs.Parts.{parts}
 use Rattle.mark_core.specs.Effects.{place, written, seat_after}
 use Rattle.mark_core.specs.Seats.{is_phase}
-use Rattle.mark_core.specs.Steps.{Core, AllTrue}
+use Rattle.mark_core.specs.Steps.{AllTrue}
+use Rattle.mark_core.specs.Places.{the_named}
 use Rattle.mark_core.specs.Laws.{NumbersFit}
-use Rattle.mark_core.specs.Notes.{steady, keeps_bound}
+use Rattle.mark_core.specs.Notes.{word_at, steady, keeps_bound}
 use Rattle.mark_core.specs.declared.kinds.Phase.{Phase}
 use Rattle.mark_core.specs.declared.kinds.Phase.TheVariants.{Idle, Marking}
 use Rattle.mark_core.specs.declared.kinds.Step.{Step}
 use Rattle.mark_core.specs.declared.kinds.Step.TheVariants.{Take, SetMark, ClearCard, ReadCard, ClaimBlock, EnterStep, RaiseStep, StorePhase, JoinHelpStep, Split, Join}
 use Rattle.gc_table.specs.declared.view.View.{View}
 use Rattle.gc_table.specs.Notes.{look, noting}
+use Rattle.gc_table.specs.Sections.{section_after, AskedOf}
+use Rattle.gc_table.specs.Reads.{Reads}
+use Rattle.gc_table.specs.Whole.{Whole}
 use Rattle.gc_table.specs.Rule.{IsState, Agrees}
 
 -- a move of the phase takes place, where this phase is found
@@ -42,11 +46,16 @@ after step n v =
       log = v.log ++ record { step = step; found = n; won = won step n } ∷ [];
       known = noting (steady (seat_after v.shape v.state step n)) (place v.shape v.state step) (written v.shape v.state step n) v.known;
       floors = noting (λ at m. keeps_bound (seat_after v.shape v.state step n) at) (place v.shape v.state step) (written v.shape v.state step n) v.floors;
+      own = section_after v.shape v.plan v.state step v.own;
     }
 
 -- the condition of the step holds in every state that meets the rule and agrees with the view
 abbrev pub May : Step → View → Type 0
-May step v = (c : Core) (i : ℕ) → IsState c → Agrees c i v → AllTrue (parts c.shape (words_of c.shape c.words) c.seats v.state step)
+May step v = (x : Whole) (i : ℕ) → IsState x → Agrees x i v → AllTrue (parts x.core.shape (words_of x.core.shape x.core.words) x.core.seats v.state step)
+
+-- what is asked besides of a mutator's stores, of the next season and of a full heap
+abbrev pub Asked : Step → View → Type 0
+Asked step v = AskedOf v.shape v.plan v.state v.own (look the_named v.known) step
 
 -- a step of one seat alone, whose numbers fit their types
 abbrev pub IsOwn : Step → Type 0
@@ -54,9 +63,14 @@ IsOwn Split = ⊥
 IsOwn (Join other) = ⊥
 IsOwn step = NumbersFit step
 
--- what the step found is what the seat had noted
-abbrev pub Finds : Step → ℕ → View → Type 0
-Finds step n v = (m : ℕ) → look (place v.shape v.state step) v.known ≡ Some m → n ≡ m
+-- what the step found is the word of a state that meets the rule and agrees with what the seat knew; and what a mutator reads is the plain heap's
+pub record Finds (step : Step) (n : ℕ) (v : View) : Type 0 where
+  pub state : Whole
+  pub index : ℕ
+  pub whole : IsState state
+  pub agrees : Agrees state index v
+  pub word : word_at state.core.shape state.core.words (place state.core.shape v.state step) ≡ n
+  pub reads : Reads step n v
 
 -- what a store does doesn't rest on the word that it overwrites
 abbrev pub IsBlind : Step → View → Type 0

@@ -2,15 +2,18 @@
 ghost use Rattle.std.specs.Prelude.{◌≡◌, ◌≢◌, ℕ, ◌+◌, ◌<◌, ◌≤◌, [], slice_get, Some, IfOk, vec_len, vec_capacity};
 ghost use Rattle.mark_core.specs.Shapes.{IsShape};
 ghost use Rattle.mark_core.specs.Start.{start_seat as start_seat_of};
-ghost use Rattle.gc_table.specs.Rule.{newcomer, opens, opened_by, takes_in, nobody, IsFinal};
+ghost use Rattle.gc_table.specs.Ends.{IsEnd};
+ghost use Rattle.gc_table.specs.Rule.{newcomer, opens, opened_by, takes_in, nobody, HasSection, IsFinal, IsPossible};
 ghost use Rattle.gc_table.specs.Seats.{Sits, view_of, IsFresh, IsOutside};
 
+use crate::plan::{PlanTag, tag_of};
 use crate::rule::{Key, Rule};
 use crate::seat::{Heap, HeapSeat};
 use crate::view::View;
-use atomic_table::{Join, Split, Table};
-use mark_core::{SeatState, Shape, start_seat, start_words};
-use plain_heap::OutOfMemory;
+use crate::words::{Words, words_of};
+use atomic_table::{Join, Play, Split, Table};
+use mark_core::{Bases, SeatState, Shape, start_seat, start_words};
+use plain_heap::{OutOfMemory, Plan};
 use std::alloc::{AllocError, Global};
 
 /// The first seat makes another.
@@ -31,27 +34,43 @@ impl Join<View> for TakesIn {
     ghost spent = { nobody };
 }
 
+/// A seat reads a word, whatever it is, and nothing changes.
+pub struct Looks;
+
+impl Play<(), View> for Looks {
+    ghost then = { λ st m found n. (n ≡ m) × IsPossible n.0 };
+}
+
 impl Heap {
-    fn first(alloc: Global, shape: Shape) -> Result<(Heap, HeapSeat), AllocError>
+    fn first(alloc: Global, shape: Shape, plan: PlanTag) -> Result<(Heap, HeapSeat), AllocError>
         requires { IsShape shape }
-        ensures { IfOk result (λ r. (r.0.shape ≡ shape) × Sits r.0 r.1 × (view_of r.1 ≡ newcomer shape 0)) }
+        ensures { IfOk result (λ r. (r.0.shape ≡ shape) × Sits r.0 r.1 × (view_of r.1 ≡ newcomer shape plan.parts 0) × (r.0.table.shared.key.plan ≡ plan)) }
     {
         let words = start_words(alloc, &shape)?;
-        let key = Key { shape };
+        let key = Key { shape, plan };
         let (table, token) = Table::<(), View, Key, Rule, Global>::of_words(
             alloc,
             words.as_slice(),
             &key,
         )?;
         let state = start_seat(&shape, 0);
-        Ok((Heap { table, shape }, HeapSeat { state, token }))
+        let bases = Bases::of(&shape);
+        Ok((
+            Heap {
+                table,
+                shape,
+                bases,
+            },
+            HeapSeat { state, token },
+        ))
     }
 
     fn open_seat(&self, first: &mut HeapSeat, number: u32) -> HeapSeat
         requires seat { Sits self.now first.old × ((view_of first.old).state ≡ start_seat_of self.now.shape 0) }
         requires number { ((view_of first.old).opened ≡ number) × (number < 41) }
+        requires plan { (view_of first.old).plan ≡ self.now.table.shared.key.plan.parts }
         ensures first { Sits self.now first.new × (view_of first.new ≡ opens (view_of first.old)) }
-        ensures new { Sits self.now result × (view_of result ≡ newcomer self.now.shape number) }
+        ensures new { Sits self.now result × (view_of result ≡ newcomer self.now.shape (view_of first.old).plan number) }
     {
         let token = self.table.shared.split_seat::<Opens>(&mut first.token);
         HeapSeat {
@@ -64,11 +83,12 @@ impl Heap {
         alloc: Global,
         shape: Shape,
         seats: u32,
+        plan: PlanTag,
     ) -> Result<(Heap, Vec<HeapSeat>), AllocError>
         requires { IsShape shape × (1 ≤ seats) × (seats ≤ 41) }
-        ensures { IfOk result (λ r. (r.0.shape ≡ shape) × (vec_len r.1 ≡ seats) × ((i : ℕ) (s : HeapSeat) → slice_get r.1.items i ≡ Some s → Sits r.0 s × IsFresh shape i (view_of s))) }
+        ensures { IfOk result (λ r. (r.0.shape ≡ shape) × (vec_len r.1 ≡ seats) × ((i : ℕ) (s : HeapSeat) → slice_get r.1.items i ≡ Some s → Sits r.0 s × IsFresh shape plan.parts i (view_of s))) }
     {
-        let (heap, mut first) = Heap::first(alloc, shape)?;
+        let (heap, mut first) = Heap::first(alloc, shape, plan)?;
         let mut all = Vec::with_capacity(alloc, seats as usize)?;
         for number in 1..seats {
             all.push_reserved(heap.open_seat(&mut first, number));
@@ -78,16 +98,18 @@ impl Heap {
     }
 
     /// A heap in which nothing has happened, with all its seats in the order of their numbers. Seat w has section w, and
-    /// seats past the sections have none. It is refused only where memory ran out.
-    pub fn create(
+    /// seats past the sections have none. The plan says what the catalogue's seat is going to do, part by part; nothing
+    /// reads it as the program runs, and all views hold it for good. It is refused only where memory ran out.
+    pub fn create<P: Plan>(
         alloc: Global,
         shape: Shape,
         seats: u32,
+        plan: &P,
     ) -> Result<(Heap, Vec<HeapSeat>), OutOfMemory>
         requires { IsShape shape × (1 ≤ seats) × (seats ≤ 41) }
-        ensures { IfOk result (λ r. (r.0.shape ≡ shape) × (vec_len r.1 ≡ seats) × ((i : ℕ) (s : HeapSeat) → slice_get r.1.items i ≡ Some s → Sits r.0 s × IsFresh shape i (view_of s))) }
+        ensures { IfOk result (λ r. (r.0.shape ≡ shape) × (vec_len r.1 ≡ seats) × ((i : ℕ) (s : HeapSeat) → slice_get r.1.items i ≡ Some s → Sits r.0 s × IsFresh shape (P.plan plan.now) i (view_of s))) }
     {
-        match Heap::create_all(alloc, shape, seats) {
+        match Heap::create_all(alloc, shape, seats, tag_of(plan)) {
             Ok(made) => Ok(made),
             Err(_) => Err(OutOfMemory),
         }
@@ -96,18 +118,22 @@ impl Heap {
     fn absorb(&self, first: &mut HeapSeat, other: HeapSeat)
         requires first { Sits self.now first.old × IsOutside (view_of first.old) }
         requires other { Sits self.now other × IsOutside (view_of other) × ((view_of other).state.number ≢ 0) }
-        ensures { Sits self.now first.new × (view_of first.new ≡ view_of first.old) }
+        ensures { Sits self.now first.new × (view_of first.new ≡ takes_in (view_of first.old) (view_of other)) }
     {
         let HeapSeat { state: _, token } = other;
         self.table
             .shared
             .join_seat::<TakesIn>(&mut first.token, token);
+        // A join tells nothing of the table, and a read does.
+        self.table.shared.load::<Looks>(&mut first.token, 0);
     }
 
     fn join_all(&self, mut seats: Vec<HeapSeat>) -> HeapSeat
         requires some { 0 < vec_len seats }
         requires seats { (i : ℕ) (s : HeapSeat) → slice_get seats.items i ≡ Some s → Sits self.now s × ((view_of s).state.number ≡ i) × IsOutside (view_of s) }
-        ensures { Sits self.now result }
+        ensures seat { Sits self.now result }
+        ensures first { (s : HeapSeat) → slice_get seats.items 0 ≡ Some s → ((view_of result).state ≡ (view_of s).state) × ((view_of result).plan ≡ (view_of s).plan) }
+        ensures sections { (i : ℕ) (s : HeapSeat) (w : ℕ) → slice_get seats.items i ≡ Some s → (view_of s).state.section ≡ Some w → HasSection (view_of result) w (view_of s).own }
     {
         let mut first = seats.remove(0);
         while let Some(seat) = seats.pop() {
@@ -119,10 +145,14 @@ impl Heap {
     fn close_with(self, mut words: Vec<u64>, first: HeapSeat) -> Vec<u64>
         requires seat { Sits self first }
         requires room { (words.items ≡ []) × (self.table.shared.table_id.words ≤ vec_capacity words) }
-        ensures { IsFinal self.shape result.items }
+        ensures { IsFinal (view_of first) result.items }
     {
         let HeapSeat { state: _, token } = first;
-        let Heap { table, shape: _ } = self;
+        let Heap {
+            table,
+            shape: _,
+            bases: _,
+        } = self;
         let count = table.word_count();
         let closed = table.close_with(token);
         for i in 0..count {
@@ -132,20 +162,30 @@ impl Heap {
         words
     }
 
-    /// Joins all seats, and gives the words in the order of `mark_core`'s overview: those of a state that meets the rule.
-    /// The seats are all the heap's, in order, and each is outside the world, its stop and its help. Where memory ran
-    /// out the heap and the seats are gone.
-    pub fn close(self, alloc: Global, seats: Vec<HeapSeat>) -> Result<Vec<u64>, OutOfMemory>
+    fn close_all(self, alloc: Global, seats: Vec<HeapSeat>) -> Result<Words, AllocError>
         requires some { 0 < vec_len seats }
         requires seats { (i : ℕ) (s : HeapSeat) → slice_get seats.items i ≡ Some s → Sits self s × ((view_of s).state.number ≡ i) × IsOutside (view_of s) }
-        ensures { IfOk result (λ w. IsFinal self.shape w.items) }
+        ensures { IfOk result (λ w. IsEnd self.shape seats.items w) }
     {
-        let words = match Vec::with_capacity(alloc, self.table.word_count()) {
-            Ok(words) => words,
-            Err(_) => return Err(OutOfMemory),
-        };
+        let shape = self.shape;
+        let words = Vec::with_capacity(alloc, self.table.word_count())?;
         let first = self.join_all(seats);
-        Ok(self.close_with(words, first))
+        let words = self.close_with(words, first);
+        words_of(alloc, &shape, words.as_slice())
+    }
+
+    /// Joins all seats, and gives the words that say what lies where. The seats are all the heap's, in order, and each is
+    /// outside the world, its stop and its help. Contracts are told what the words mean: each section's plain heap, the
+    /// places of its objects and its position, as its seat left them. Where memory ran out the heap and the seats are gone.
+    pub fn close(self, alloc: Global, seats: Vec<HeapSeat>) -> Result<Words, OutOfMemory>
+        requires some { 0 < vec_len seats }
+        requires seats { (i : ℕ) (s : HeapSeat) → slice_get seats.items i ≡ Some s → Sits self s × ((view_of s).state.number ≡ i) × IsOutside (view_of s) }
+        ensures { IfOk result (λ w. IsEnd self.shape seats.items w) }
+    {
+        match self.close_all(alloc, seats) {
+            Ok(words) => Ok(words),
+            Err(_) => Err(OutOfMemory),
+        }
     }
 
     /// The sizes of the heap.

@@ -1,5 +1,15 @@
 // What holds of the words and of the plain heaps for which they stand, over every state and event: each law is the contract of a function that does nothing.
-ghost use Rattle.gc_table.specs.Laws.{StartStands, EventsKeepStands, PlainStepsAreInRange, OneMeaningChanges, OneCellIsNext, ReachableObjectsHaveCells, ReachableCellsHaveObjects};
+ghost use Rattle.gc_table.specs.Laws.{StartMeetsRule, EventsKeepRule, StartStands, EventsKeepStands, PlainStepsAreInRange, OneMeaningChanges, OneCellIsNext, ReachableObjectsHaveCells, ReachableCellsHaveObjects};
+
+/// The state in which nothing has happened meets the rule of the table, whatever the plan.
+pub fn rule_starts()
+    ensures { StartMeetsRule }
+{}
+
+/// Each event that is allowed, and whose step meets what is asked besides, leads to a state that meets the rule.
+pub fn rule_is_kept()
+    ensures { EventsKeepRule }
+{}
 
 /// The state in which nothing has happened stands for the empty heap of each section.
 pub fn stands_starts()

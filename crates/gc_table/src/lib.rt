@@ -15,39 +15,55 @@
 //! - notes: words that stay as the seat found or left them. While a seat is alone in a stopped world no other seat acts
 //!   on any word but those that count seats, so all that it reads then is noted. A few words stay for other reasons:
 //!   the phase while a helper is admitted, the season while a seat is active;
-//! - floors: counters that don't fall below what the seat found or left there.
+//! - floors: counters that don't fall below what the seat found or left there;
+//! - its own section ([`view::SectionState`]): the plain heap for which the section's words stand, where each object was
+//!   made, all plain steps with their seasons, the position stored last, and what the seat did at the ends of cycles;
+//! - the plan: what the catalogue's seat is going to do, part by part. It is given when the heap is made and stays;
+//! - the sections of the seats that were joined into this one.
 //!
 //! A note ends with the record that keeps it. `mark_core`'s `Notes` says which record keeps which word.
 //!
 //! # The rule
 //!
-//! Between any two steps, whatever threads do, the rule holds (`specs/Rule.antt`): the words and the records of all
-//! seats are a state that meets the rule of the core, in which no block that was swept has a mark; and each view agrees
-//! with that state, with its record, its notes and its floors.
+//! Between any two steps, whatever threads do, the rule holds (`specs/Rule.antt`). It speaks of a state (`Whole`): the
+//! words, the records of all seats, the plan, and what each section has come to.
+//!
+//! - The words and records are a state that meets the rule of the core, in which no block that was swept has a mark.
+//! - The words stand for the plain heaps (`specs/StandsFor.antt`).
+//! - What is told of the sections is true (`specs/Told.antt`). A cell in use lies where its object was made, and no
+//!   object was made where an older one lay that was reachable just before. The stored positions are the words. In the
+//!   warehouses' turn the catalogue is what its plan says. In a heap that was found full every cell is reachable, nothing
+//!   is stored any more, and the section that is named found it full. After an exact cycle in the catalogue's turn each
+//!   cell in use is reachable until the catalogue's seat stores again.
+//! - Each view agrees with that state: its record, notes, floors, plan and sections are the state's.
 //!
 //! # Steps
 //!
 //! A seat may take a step where its condition holds in every state that meets the rule and agrees with its view (`May`
-//! in `specs/Taking.antt`). The call then gives back the view after the step (`after`): the record and the notes that
-//! the core's effect says, and one entry more in the log. What it found at a noted word is what was noted. Loads,
-//! stores, exchanges and fetches are all told by the same rule, since the step is all that tells them apart.
+//! in `specs/Taking.antt`). A few steps are asked for more (`Asked`): a mutator's stores are one plain step each, the
+//! catalogue's seat alone moves the season on, and a section is named before the heap is full. The call then gives back
+//! the view after the step (`after`): the record, notes and section that the core's effect says, and one entry more in
+//! the log. What it found at a noted word is what was noted, and what a mutator reads is the plain heap's
+//! (`specs/Reads.antt`). Loads, stores, exchanges and fetches are all told by the same rule, since the step is all that
+//! tells them apart. None of the calls takes a runtime, and nothing can wait without one: a lock could not even be written.
 //!
 //! # What the words stand for
 //!
 //! A script means plain heaps (`plain_heap`), in which an object has a number for good and never goes. A state of the core
-//! stands for plain heaps, one for each section (`specs/StandsFor.antt`), where each root agrees with its variable, and the
-//! identity of each cell in use is an object of its section's plain heap whose value and fields agree with the cell's. A
-//! word agrees with a reference where both are nil, or where it names the cell of the object that the reference names. One
-//! cell of a section may be excepted: the one made last, until a variable gets it. The stores of a mutator change the plain
-//! heap of their own section, each by one plain step (`specs/PlainSteps.antt`), and all other steps leave every plain heap:
-//! the laws in `laws` say so of every state and event. They aren't part of the rule of the table yet.
+//! stands for plain heaps, one for each section, where each root agrees with its variable, and the identity of each cell in
+//! use is an object of its section's plain heap whose value and fields agree with the cell's. A word agrees with a
+//! reference where both are nil, or where it names the cell of the object that the reference names. One cell of a section
+//! may be excepted: the one made last, until a variable gets it. The stores of a mutator change the plain heap of their own
+//! section, each by one plain step (`specs/PlainSteps.antt`), and all other steps leave every plain heap.
 //!
 //! # Where what is
 //!
 //! `seat` has the heap and its seats. `ends` makes a heap with all its seats, and closes it with all of them: the words
-//! in the end are those of a state that meets the rule. `packets`, `tracing`, `mutator`, `world` and `sweep` have the
-//! steps. `stepping` and `operations` have what they rest on, two functions for each operation of the table, and
-//! `rule` what the table is told. In `proofs/`, `Allowed` shows once for all kinds of step that the rule is kept.
+//! in the end, which `words` copies out, are those of a state that meets the rule, in which each section is as its seat
+//! left it (`IsEnd` in `specs/Ends.antt`). `packets`, `tracing`, `mutator`, `world` and `sweep` have the steps.
+//! `stepping` and `operations` have what they rest on, two functions for each operation of the table, and `rule` what
+//! the table is told. In `proofs/`, `WholeKept` shows once for all kinds of step that the rule is kept, each part of it
+//! in files of its own.
 #![tactic(auto)]
 
 pub mod ends;
@@ -56,6 +72,7 @@ mod masks;
 pub mod mutator;
 mod operations;
 pub mod packets;
+mod plan;
 mod rule;
 pub mod seat;
 mod stepping;
@@ -64,10 +81,12 @@ pub mod sweep;
 mod tests;
 pub mod tracing;
 pub mod view;
+pub mod words;
 pub mod world;
 
 pub use laws::{
     one_cell_is_next, one_meaning_changes, plain_steps_are_in_range, reachable_cells_have_objects,
-    reachable_objects_have_cells, stands_is_kept, stands_starts,
+    reachable_objects_have_cells, rule_is_kept, rule_starts, stands_is_kept, stands_starts,
 };
 pub use seat::{Heap, HeapSeat};
+pub use words::Words;

@@ -1,7 +1,7 @@
 //! The steps of a mutator on its objects, its variables and its block.
 ghost use Rattle.std.specs.Prelude.{◌≡◌};
-ghost use Rattle.gc_table.specs.Seats.{Answered, Found, Sits, Stored, view_of};
-ghost use Rattle.gc_table.specs.Taking.{May, won};
+ghost use Rattle.gc_table.specs.Seats.{Answered, Found, IsPlainStep, Sits, Stored, view_of};
+ghost use Rattle.gc_table.specs.Taking.{Asked, May, won};
 
 use crate::seat::{Heap, HeapSeat};
 use mark_core::{Cell, Step, used_bits};
@@ -51,8 +51,10 @@ impl Heap {
     pub fn store_field(&self, seat: &mut HeapSeat, v: u8, i: u8, w: Option<u8>)
         requires seat { Sits self.now seat.old }
         requires may { May (Step.StoreField v i w) (view_of seat.old) }
+        requires asked { Asked (Step.StoreField v i w) (view_of seat.old) }
         ensures seat { Sits self.now seat.new }
         ensures view { Stored (Step.StoreField v i w) (view_of seat.old) (view_of seat.new) }
+        ensures plain { IsPlainStep (Step.StoreField v i w) (view_of seat.old) (view_of seat.new) }
     {
         self.store_step(seat, Step::StoreField { v, i, w });
     }
@@ -61,8 +63,10 @@ impl Heap {
     pub fn store_value(&self, seat: &mut HeapSeat, v: u8, n: u32)
         requires seat { Sits self.now seat.old }
         requires may { May (Step.StoreValue v n) (view_of seat.old) }
+        requires asked { Asked (Step.StoreValue v n) (view_of seat.old) }
         ensures seat { Sits self.now seat.new }
         ensures view { Stored (Step.StoreValue v n) (view_of seat.old) (view_of seat.new) }
+        ensures plain { IsPlainStep (Step.StoreValue v n) (view_of seat.old) (view_of seat.new) }
     {
         self.store_step(seat, Step::StoreValue { v, n });
     }
@@ -71,8 +75,10 @@ impl Heap {
     pub fn store_root(&self, seat: &mut HeapSeat, v: u8, r: u64)
         requires seat { Sits self.now seat.old }
         requires may { May (Step.StoreRoot v r) (view_of seat.old) }
+        requires asked { Asked (Step.StoreRoot v r) (view_of seat.old) }
         ensures seat { Sits self.now seat.new }
         ensures view { Stored (Step.StoreRoot v r) (view_of seat.old) (view_of seat.new) }
+        ensures plain { IsPlainStep (Step.StoreRoot v r) (view_of seat.old) (view_of seat.new) }
     {
         self.store_step(seat, Step::StoreRoot { v, r });
     }
@@ -117,6 +123,7 @@ impl Heap {
     pub fn store_new(&self, seat: &mut HeapSeat, c: Cell, part: u8, word: u64)
         requires seat { Sits self.now seat.old }
         requires may { May (Step.StoreNew c part word) (view_of seat.old) }
+        requires asked { Asked (Step.StoreNew c part word) (view_of seat.old) }
         ensures seat { Sits self.now seat.new }
         ensures view { Stored (Step.StoreNew c part word) (view_of seat.old) (view_of seat.new) }
     {

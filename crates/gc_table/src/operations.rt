@@ -4,7 +4,7 @@ ghost use prog.Atomic.{either};
 ghost use Rattle.mark_core.specs.Effects.{place, written};
 ghost use Rattle.mark_core.specs.Layout.{address as address_of};
 ghost use Rattle.gc_table.specs.Rule.{IsPossible};
-ghost use Rattle.gc_table.specs.Taking.{after, May, IsOwn, Finds, IsBlind};
+ghost use Rattle.gc_table.specs.Taking.{after, Asked, May, IsOwn, Finds, IsBlind};
 
 use crate::rule::{Stored, Telling, Told};
 use crate::seat::Heap;
@@ -25,6 +25,7 @@ impl Heap {
         requires word { (word < self.now.table.shared.table_id.words) × (word ≡ address_of token.old.me.0.shape (place token.old.me.0.shape token.old.me.0.state T.step)) }
         requires may { May T.step token.old.me.0 }
         requires own { IsOwn T.step }
+        requires asked { Asked T.step token.old.me.0 }
         requires kind { (n : ℕ) → written token.old.me.0.shape token.old.me.0.state T.step n ≡ n }
         ensures seat { (token.new.table_id ≡ token.old.table_id) × (token.new.id ≡ token.old.id) }
         ensures view { token.new.me ≡ (after T.step result token.old.me.0, []) }
@@ -47,6 +48,7 @@ impl Heap {
         requires word { (word < self.now.table.shared.table_id.words) × (word ≡ address_of token.old.me.0.shape (place token.old.me.0.shape token.old.me.0.state T.step)) }
         requires may { May T.step token.old.me.0 }
         requires own { IsOwn T.step }
+        requires asked { Asked T.step token.old.me.0 }
         requires kind { (n : ℕ) → written token.old.me.0.shape token.old.me.0.state T.step n ≡ new }
         ensures seat { (token.new.table_id ≡ token.old.table_id) × (token.new.id ≡ token.old.id) }
         ensures view { token.new.me ≡ (after T.step result token.old.me.0, []) }
@@ -69,6 +71,7 @@ impl Heap {
         requires word { (word < self.now.table.shared.table_id.words) × (word ≡ address_of token.old.me.0.shape (place token.old.me.0.shape token.old.me.0.state T.step)) }
         requires may { May T.step token.old.me.0 }
         requires own { IsOwn T.step }
+        requires asked { Asked T.step token.old.me.0 }
         requires kind { (n : ℕ) → written token.old.me.0.shape token.old.me.0.state T.step n ≡ (n + by) % 2 ^ 64 }
         ensures seat { (token.new.table_id ≡ token.old.table_id) × (token.new.id ≡ token.old.id) }
         ensures view { token.new.me ≡ (after T.step result token.old.me.0, []) }
@@ -91,6 +94,7 @@ impl Heap {
         requires word { (word < self.now.table.shared.table_id.words) × (word ≡ address_of token.old.me.0.shape (place token.old.me.0.shape token.old.me.0.state T.step)) }
         requires may { May T.step token.old.me.0 }
         requires own { IsOwn T.step }
+        requires asked { Asked T.step token.old.me.0 }
         requires kind { (n : ℕ) → written token.old.me.0.shape token.old.me.0.state T.step n ≡ (n + (2 ^ 64 - by)) % 2 ^ 64 }
         ensures seat { (token.new.table_id ≡ token.old.table_id) × (token.new.id ≡ token.old.id) }
         ensures view { token.new.me ≡ (after T.step result token.old.me.0, []) }
@@ -113,6 +117,7 @@ impl Heap {
         requires word { (word < self.now.table.shared.table_id.words) × (word ≡ address_of token.old.me.0.shape (place token.old.me.0.shape token.old.me.0.state T.step)) }
         requires may { May T.step token.old.me.0 }
         requires own { IsOwn T.step }
+        requires asked { Asked T.step token.old.me.0 }
         requires kind { (n : ℕ) → written token.old.me.0.shape token.old.me.0.state T.step n ≡ bit_and n by }
         ensures seat { (token.new.table_id ≡ token.old.table_id) × (token.new.id ≡ token.old.id) }
         ensures view { token.new.me ≡ (after T.step result token.old.me.0, []) }
@@ -135,6 +140,7 @@ impl Heap {
         requires word { (word < self.now.table.shared.table_id.words) × (word ≡ address_of token.old.me.0.shape (place token.old.me.0.shape token.old.me.0.state T.step)) }
         requires may { May T.step token.old.me.0 }
         requires own { IsOwn T.step }
+        requires asked { Asked T.step token.old.me.0 }
         requires kind { (n : ℕ) → written token.old.me.0.shape token.old.me.0.state T.step n ≡ bit_or n by }
         ensures seat { (token.new.table_id ≡ token.old.table_id) × (token.new.id ≡ token.old.id) }
         ensures view { token.new.me ≡ (after T.step result token.old.me.0, []) }
@@ -158,6 +164,7 @@ impl Heap {
         requires word { (word < self.now.table.shared.table_id.words) × (word ≡ address_of token.old.me.0.shape (place token.old.me.0.shape token.old.me.0.state T.step)) }
         requires may { May T.step token.old.me.0 }
         requires own { IsOwn T.step }
+        requires asked { Asked T.step token.old.me.0 }
         requires kind { (n : ℕ) → written token.old.me.0.shape token.old.me.0.state T.step n ≡ either (n == old) new n }
         ensures seat { (token.new.table_id ≡ token.old.table_id) × (token.new.id ≡ token.old.id) }
         ensures view { token.new.me ≡ (after T.step result token.old.me.0, []) }
@@ -182,6 +189,7 @@ impl Heap {
         requires word { (word < self.now.table.shared.table_id.words) × (word ≡ address_of token.old.me.0.shape (place token.old.me.0.shape token.old.me.0.state T.step)) }
         requires may { May T.step token.old.me.0 }
         requires own { IsOwn T.step }
+        requires asked { Asked T.step token.old.me.0 }
         requires kind { (n : ℕ) → written token.old.me.0.shape token.old.me.0.state T.step n ≡ new }
         requires blind { IsBlind T.step token.old.me.0 }
         ensures seat { (token.new.table_id ≡ token.old.table_id) × (token.new.id ≡ token.old.id) }

@@ -4,6 +4,7 @@ ghost use Rattle.gc_table.specs.Notes.{look};
 ghost use Rattle.gc_table.specs.Rule.{Holds, IsPossible, newcomer};
 ghost use Rattle.gc_table.specs.Taking.{after, Finds};
 
+use crate::plan::PlanTag;
 use crate::view::View;
 use atomic_table::{Play, TableRule};
 use mark_core::Shape;
@@ -13,14 +14,15 @@ use std::marker::{Brand, PhantomData};
 #[derive(Drop)]
 pub struct Key {
     pub shape: Shape,
+    pub plan: PlanTag,
 }
 
 pub struct Rule;
 
 impl TableRule<(), View, Key> for Rule {
-    ghost holds = { λ k. Holds k.shape };
+    ghost holds = { λ k. Holds k.shape k.plan.parts };
 
-    ghost first = { λ k. newcomer k.shape 0 };
+    ghost first = { λ k. newcomer k.shape k.plan.parts 0 };
 }
 
 /// The step that is taken. Each call picks it.

@@ -7,7 +7,7 @@ ghost use Rattle.gc_table.specs.Rule.{IsPossible};
 use crate::rule::{Key, Rule};
 use crate::view::View;
 use atomic_table::{Seat, Table};
-use mark_core::{SeatState, Shape};
+use mark_core::{Bases, SeatState, Shape};
 use std::alloc::Global;
 
 /// A heap that threads share. Its words change only by the steps of its seats.
@@ -15,7 +15,9 @@ use std::alloc::Global;
 pub struct Heap {
     pub(crate) table: Table<(), View, Key, Rule, Global>,
     pub(crate) shape: Shape,
+    pub(crate) bases: Bases,
     ghost shaped: { IsShape shape },
+    ghost based: { bases.shape ≡ shape },
     ghost keyed: { shape ≡ table.shared.key.shape },
     ghost sized: { table.shared.table_id.words ≡ total_words (region_sizes shape) },
     ghost slotless: { table.shared.table_id.slots ≡ 0 },

@@ -1,26 +1,36 @@
 //! One step of each kind of operation: the operation of the table, and the seat's record after it.
 ghost use Rattle.std.specs.Prelude.{◌≡◌, ℕ, ◌+◌, ◌-◌, ◌%◌, ◌^◌, ◌==◌, bit_or, bit_and};
 ghost use prog.Atomic.{either};
-ghost use Rattle.mark_core.specs.Effects.{written};
+ghost use Rattle.mark_core.specs.Effects.{place, written};
+ghost use Rattle.mark_core.specs.Layout.{address as address_of};
 ghost use Rattle.gc_table.specs.Seats.{Sits, view_of};
-ghost use Rattle.gc_table.specs.Taking.{after, May, IsOwn, Finds, IsBlind};
+ghost use Rattle.gc_table.specs.Taking.{after, Asked, May, IsOwn, Finds, IsBlind};
 
 use crate::seat::{Heap, HeapSeat};
-use mark_core::{Step, act, address};
+use mark_core::{SeatState, Step, act, address_by};
 use std::marker::Brand;
 
 impl Heap {
+    /// The address of the word of a step.
+    #[inline(always)]
+    fn address(&self, s: &SeatState, step: &Step) -> usize
+        ensures { result ≡ address_of self.now.shape (place self.now.shape s.now step.now) }
+    {
+        address_by(&self.bases, s, step)
+    }
+
     #[inline(always)]
     pub(crate) fn load_step(&self, seat: &mut HeapSeat, step: Step) -> u64
         requires seat { Sits self.now seat.old }
         requires may { May step (view_of seat.old) }
         requires own { IsOwn step }
+        requires asked { Asked step (view_of seat.old) }
         requires kind { (n : ℕ) → written (view_of seat.old).shape (view_of seat.old).state step n ≡ n }
         ensures seat { Sits self.now seat.new }
         ensures view { view_of seat.new ≡ after step result (view_of seat.old) }
         ensures finds { Finds step result (view_of seat.old) }
     {
-        let word = address(&self.shape, &seat.state, &step);
+        let word = self.address(&seat.state, &step);
         let found = self.load_told::<Brand>(&mut seat.token, word, step);
         act(&self.shape, &mut seat.state, &step, found);
         found
@@ -31,12 +41,13 @@ impl Heap {
         requires seat { Sits self.now seat.old }
         requires may { May step (view_of seat.old) }
         requires own { IsOwn step }
+        requires asked { Asked step (view_of seat.old) }
         requires kind { (n : ℕ) → written (view_of seat.old).shape (view_of seat.old).state step n ≡ new }
         ensures seat { Sits self.now seat.new }
         ensures view { view_of seat.new ≡ after step result (view_of seat.old) }
         ensures finds { Finds step result (view_of seat.old) }
     {
-        let word = address(&self.shape, &seat.state, &step);
+        let word = self.address(&seat.state, &step);
         let found = self.swap_told::<Brand>(&mut seat.token, word, new, step);
         act(&self.shape, &mut seat.state, &step, found);
         found
@@ -47,12 +58,13 @@ impl Heap {
         requires seat { Sits self.now seat.old }
         requires may { May step (view_of seat.old) }
         requires own { IsOwn step }
+        requires asked { Asked step (view_of seat.old) }
         requires kind { (n : ℕ) → written (view_of seat.old).shape (view_of seat.old).state step n ≡ (n + by) % 2 ^ 64 }
         ensures seat { Sits self.now seat.new }
         ensures view { view_of seat.new ≡ after step result (view_of seat.old) }
         ensures finds { Finds step result (view_of seat.old) }
     {
-        let word = address(&self.shape, &seat.state, &step);
+        let word = self.address(&seat.state, &step);
         let found = self.fetch_add_told::<Brand>(&mut seat.token, word, by, step);
         act(&self.shape, &mut seat.state, &step, found);
         found
@@ -63,12 +75,13 @@ impl Heap {
         requires seat { Sits self.now seat.old }
         requires may { May step (view_of seat.old) }
         requires own { IsOwn step }
+        requires asked { Asked step (view_of seat.old) }
         requires kind { (n : ℕ) → written (view_of seat.old).shape (view_of seat.old).state step n ≡ (n + (2 ^ 64 - by)) % 2 ^ 64 }
         ensures seat { Sits self.now seat.new }
         ensures view { view_of seat.new ≡ after step result (view_of seat.old) }
         ensures finds { Finds step result (view_of seat.old) }
     {
-        let word = address(&self.shape, &seat.state, &step);
+        let word = self.address(&seat.state, &step);
         let found = self.fetch_sub_told::<Brand>(&mut seat.token, word, by, step);
         act(&self.shape, &mut seat.state, &step, found);
         found
@@ -79,12 +92,13 @@ impl Heap {
         requires seat { Sits self.now seat.old }
         requires may { May step (view_of seat.old) }
         requires own { IsOwn step }
+        requires asked { Asked step (view_of seat.old) }
         requires kind { (n : ℕ) → written (view_of seat.old).shape (view_of seat.old).state step n ≡ bit_and n by }
         ensures seat { Sits self.now seat.new }
         ensures view { view_of seat.new ≡ after step result (view_of seat.old) }
         ensures finds { Finds step result (view_of seat.old) }
     {
-        let word = address(&self.shape, &seat.state, &step);
+        let word = self.address(&seat.state, &step);
         let found = self.fetch_and_told::<Brand>(&mut seat.token, word, by, step);
         act(&self.shape, &mut seat.state, &step, found);
         found
@@ -95,12 +109,13 @@ impl Heap {
         requires seat { Sits self.now seat.old }
         requires may { May step (view_of seat.old) }
         requires own { IsOwn step }
+        requires asked { Asked step (view_of seat.old) }
         requires kind { (n : ℕ) → written (view_of seat.old).shape (view_of seat.old).state step n ≡ bit_or n by }
         ensures seat { Sits self.now seat.new }
         ensures view { view_of seat.new ≡ after step result (view_of seat.old) }
         ensures finds { Finds step result (view_of seat.old) }
     {
-        let word = address(&self.shape, &seat.state, &step);
+        let word = self.address(&seat.state, &step);
         let found = self.fetch_or_told::<Brand>(&mut seat.token, word, by, step);
         act(&self.shape, &mut seat.state, &step, found);
         found
@@ -117,12 +132,13 @@ impl Heap {
         requires seat { Sits self.now seat.old }
         requires may { May step (view_of seat.old) }
         requires own { IsOwn step }
+        requires asked { Asked step (view_of seat.old) }
         requires kind { (n : ℕ) → written (view_of seat.old).shape (view_of seat.old).state step n ≡ either (n == old) new n }
         ensures seat { Sits self.now seat.new }
         ensures view { view_of seat.new ≡ after step result (view_of seat.old) }
         ensures finds { Finds step result (view_of seat.old) }
     {
-        let word = address(&self.shape, &seat.state, &step);
+        let word = self.address(&seat.state, &step);
         let found = self.compare_exchange_told::<Brand>(&mut seat.token, word, old, new, step);
         act(&self.shape, &mut seat.state, &step, found);
         found
@@ -133,12 +149,13 @@ impl Heap {
         requires seat { Sits self.now seat.old }
         requires may { May step (view_of seat.old) }
         requires own { IsOwn step }
+        requires asked { Asked step (view_of seat.old) }
         requires blind { IsBlind step (view_of seat.old) }
         ensures seat { Sits self.now seat.new }
         ensures view { view_of seat.new ≡ after step (written (view_of seat.old).shape (view_of seat.old).state step 0) (view_of seat.old) }
         ensures word { result ≡ written (view_of seat.old).shape (view_of seat.old).state step 0 }
     {
-        let word = address(&self.shape, &seat.state, &step);
+        let word = self.address(&seat.state, &step);
         let new = act(&self.shape, &mut seat.state, &step, 0);
         self.store_told::<Brand>(&mut seat.token, word, new, step);
         new

@@ -1,10 +1,12 @@
-//! Threads that take and give packets of one heap, and the largest heap.
+//! Threads that take and give packets of one heap, and what the largest heap hands out.
 ghost use Rattle.std.specs.Prelude.{IfSome};
 ghost use Rattle.std.specs.Bool.{OnTrue, OnFalse};
 ghost use Rattle.gc_table.specs.Trials.{At, entered, inside, reserved, holding, measured, returned, resting};
 
 use crate::seat::{Heap, HeapSeat};
+use crate::words::Words;
 use mark_core::{Phase, Shape};
+use plain_heap::NoPlan;
 use std::alloc::Global;
 use std::process::Abort;
 use std::thread::{Threads, join_mut};
@@ -148,7 +150,7 @@ fn two_seats(alloc: Global) -> Option<(Heap, HeapSeat, HeapSeat)>
         sections: 1,
         fields: 1,
     };
-    let Ok((heap, mut seats)) = Heap::create(alloc, shape, 2) else {
+    let Ok((heap, mut seats)) = Heap::create(alloc, shape, 2, &NoPlan) else {
         return None;
     };
     let one = seats.remove(0);
@@ -165,8 +167,8 @@ fn two_threads(rt: HostRuntime) {
     assert!(&rt; a == 1000 && b == 1000, "{a} {b}");
 }
 
-// How many words the largest heap gives when it is closed.
-fn words_of_largest(alloc: Global) -> Option<usize> {
+// What the largest heap gives when it is closed at once.
+fn words_of_largest(alloc: Global) -> Option<Words> {
     let shape = Shape {
         cells: 65536,
         packets: 1024,
@@ -174,16 +176,30 @@ fn words_of_largest(alloc: Global) -> Option<usize> {
         sections: 33,
         fields: 16,
     };
-    let Ok((heap, seats)) = Heap::create(alloc, shape, 41) else {
+    let Ok((heap, seats)) = Heap::create(alloc, shape, 41, &NoPlan) else {
         return None;
     };
-    let Ok(words) = heap.close(alloc, seats) else {
-        return None;
-    };
-    Some(words.len())
+    match heap.close(alloc, seats) {
+        Ok(words) => Some(words),
+        Err(_) => None,
+    }
+}
+
+// So many words, all 0.
+fn are_zero(words: &[u64], count: usize) -> bool {
+    words.len() == count && words.iter().all(|x| *x == 0)
 }
 
 #[test]
 fn largest(rt: HostRuntime) {
-    assert!(&rt; words_of_largest(rt.alloc()) == Some(1_713_294));
+    let Some(words) = words_of_largest(rt.alloc()) else {
+        panic!(&rt; "memory")
+    };
+    assert!(&rt; are_zero(words.idents.as_slice(), 65536), "identities");
+    assert!(&rt; are_zero(words.values.as_slice(), 65536), "values");
+    assert!(&rt; are_zero(words.fields.as_slice(), 1_048_576), "fields");
+    assert!(&rt; are_zero(words.alloc.as_slice(), 1024), "allocation bits");
+    assert!(&rt; are_zero(words.positions.as_slice(), 33), "positions");
+    assert!(&rt; are_zero(words.roots.as_slice(), 1056), "roots");
+    assert!(&rt; words.phase == Phase::Idle && words.named == 0, "phase");
 }

@@ -2,6 +2,7 @@
 ghost use Rattle.std.specs.Prelude.{◌≡◌};
 
 use mark_core::{SeatState, Shape, Step};
+use plain_heap::{Op, PlainHeap, Ref};
 use std::collections::LinkedList;
 
 /// A step that the seat took.
@@ -12,6 +13,52 @@ pub struct Entry {
     pub found: u64,
     /// It got what it tried to get.
     pub won: bool,
+}
+
+/// What the words of a section and of its seat mean.
+pub struct Meaning {
+    /// The section's plain heap.
+    pub heap: PlainHeap,
+    /// The reference in the seat's register.
+    pub got: Ref,
+    /// The value that was stored last in a new cell.
+    pub value: u32,
+}
+
+/// Where an object was made.
+pub struct Place {
+    /// Its cell.
+    pub cell: u32,
+    /// The season word that the seat had read.
+    pub season: u64,
+    /// The section's plain heap just before.
+    pub heap: PlainHeap,
+}
+
+/// A plain step of a section.
+pub struct Turn {
+    /// The season word that the seat had read.
+    pub season: u64,
+    /// The section's plain heap afterwards.
+    pub heap: PlainHeap,
+}
+
+/// What a section has come to by the steps of its seat.
+pub struct SectionState {
+    /// What its words mean.
+    pub meaning: Meaning,
+    /// Where its objects were made, in the order of their numbers.
+    pub places: LinkedList<Place>,
+    /// All its plain steps, in order.
+    pub turns: LinkedList<Turn>,
+    /// How many commands were done, as stored last.
+    pub position: u64,
+    /// How many times the seat moved the season on.
+    pub seasons: u64,
+    /// The seat found the heap full.
+    pub full: bool,
+    /// The seat ended an exact cycle in the catalogue's turn, and has stored nothing since.
+    pub settled: bool,
 }
 
 /// What a seat knows. No value of it is made.
@@ -28,4 +75,10 @@ pub struct View {
     pub floors: LinkedList<((u32, u32), Option<u64>)>,
     /// How many seats there are, where this is the first one.
     pub opened: u32,
+    /// The operations of the catalogue, part by part. It stays as it is.
+    pub plan: LinkedList<LinkedList<Op>>,
+    /// What the seat's section has come to, where it has one.
+    pub own: SectionState,
+    /// The same of the sections of the seats that were joined into this one.
+    pub joined: LinkedList<(u32, SectionState)>,
 }

@@ -1,7 +1,7 @@
 //! The steps that stop and resume the world, admit helpers and turn the season.
 ghost use Rattle.std.specs.Prelude.{◌≡◌};
 ghost use Rattle.gc_table.specs.Seats.{Answered, Found, Sits, Took, view_of};
-ghost use Rattle.gc_table.specs.Taking.{May, won};
+ghost use Rattle.gc_table.specs.Taking.{Asked, May, won};
 
 use crate::masks::FLAG;
 use crate::seat::{Heap, HeapSeat};
@@ -125,6 +125,7 @@ impl Heap {
     pub fn next_season(&self, seat: &mut HeapSeat)
         requires seat { Sits self.now seat.old }
         requires may { May Step.NextSeason (view_of seat.old) }
+        requires asked { Asked Step.NextSeason (view_of seat.old) }
         ensures seat { Sits self.now seat.new }
         ensures view { Took Step.NextSeason (view_of seat.old) (view_of seat.new) }
     {
@@ -135,6 +136,7 @@ impl Heap {
     pub fn store_phase(&self, seat: &mut HeapSeat, to: Phase) -> bool
         requires seat { Sits self.now seat.old }
         requires may { May (Step.StorePhase to) (view_of seat.old) }
+        requires asked { Asked (Step.StorePhase to) (view_of seat.old) }
         ensures seat { Sits self.now seat.new }
         ensures view { Answered (Step.StorePhase to) (λ n. result ≡ won (Step.StorePhase to) n) (view_of seat.old) (view_of seat.new) }
     {

@@ -3,6 +3,7 @@ use Rattle.std.specs.Prelude.{slice_get}
 use Rattle.mark_core.specs.Start.{start_seat}
 use Rattle.gc_table.specs.declared.seat.HeapSeat.{HeapSeat}
 use Rattle.gc_table.specs.declared.view.View.{View}
+use Rattle.gc_table.specs.Sections.{start_section}
 use Rattle.gc_table.specs.Seats.{Sits, view_of, IsFresh}
 use Rattle.gc_table.proofs.Records.{got-snoc, got-first}
 use Rattle.gc_table.proofs.seat.Heap.create_all.Goals as goal
@@ -12,14 +13,15 @@ loop-number-preserved c =
     let i = c.loop-number.invariant in
     let f = c.open_seat.ensures.first in
     let n = c.open_seat.ensures.new in
-    let P : ℕ → HeapSeat → Type 0 = λ j s. Sits c.in_ok-heap.heap s × IsFresh c.args.shape (j + 1) (view_of s) in
+    let P : ℕ → HeapSeat → Type 0 = λ j s. Sits c.in_ok-heap.heap s × IsFresh c.args.shape c.args.plan.parts (j + 1) (view_of s) in
     let number : c.loop-number.number ≡ length c.loop-number.all.items + 1 = sym i.long in
     let new : P (length c.loop-number.all.items) c.open_seat.result =
-    (n.0, record { shape = n.0.1 ∙ i.shape; state = ap (λ (v : View). v.state) n.1 ∙ (λ x. start_seat (i.shape x) (number x)); log = ap (λ (v : View). v.log) n.1 }) in
+    (n.0, record { shape = n.0.1 ∙ i.shape; state = ap (λ (v : View). v.state) n.1 ∙ (λ x. start_seat (i.shape x) (number x)); log = ap (λ (v : View). v.log) n.1; plan_is = ap (λ (v : View). v.plan) n.1 ∙ i.fresh.plan_is; own = ap (λ (v : View). v.own) n.1 ∙ (λ x. start_section (i.shape x) (number x)); joined = ap (λ (v : View). v.joined) n.1 }) in
     record {
       shape = i.shape;
+      keyed = i.keyed;
       sits = f.0;
-      fresh = record { shape = ap (λ (v : View). v.shape) f.1 ∙ i.fresh.shape; state = ap (λ (v : View). v.state) f.1 ∙ i.fresh.state; log = ap (λ (v : View). v.log) f.1 ∙ i.fresh.log };
+      fresh = record { shape = ap (λ (v : View). v.shape) f.1 ∙ i.fresh.shape; state = ap (λ (v : View). v.state) f.1 ∙ i.fresh.state; log = ap (λ (v : View). v.log) f.1 ∙ i.fresh.log; plan_is = ap (λ (v : View). v.plan) f.1 ∙ i.fresh.plan_is; own = ap (λ (v : View). v.own) f.1 ∙ i.fresh.own; joined = ap (λ (v : View). v.joined) f.1 ∙ i.fresh.joined };
       opened = ap (λ (v : View). v.opened) f.1 ∙ ap (λ (x : ℕ). x + 1) i.opened;
       count = omega (arith, c.push_reserved.ensures.len, i.count);
       long = omega (arith, i.long, ap length c.push_reserved.ensures.items, length-append c.loop-number.all.items (c.open_seat.result ∷ []));
@@ -34,7 +36,7 @@ loop-number-preserved c =
 pub returns : goal.returns
 returns c =
     let i = c.loop-number.invariant in
-    let P : ℕ → HeapSeat → Type 0 = λ j s. Sits c.in_ok-heap.heap s × IsFresh c.args.shape j (view_of s) in
+    let P : ℕ → HeapSeat → Type 0 = λ j s. Sits c.in_ok-heap.heap s × IsFresh c.args.shape c.args.plan.parts j (view_of s) in
     let e = c.in_ok-insert.ensures in (
       i.shape,
       omega (arith, i.count, e.len),

@@ -5,7 +5,7 @@ use Rattle.gc_table.proofs.Opening.{starts, newcomer-possible}
 use Rattle.gc_table.proofs.seat.Heap.first.Goals as goal
 
 pub of_words-requires : goal.of_words-requires
-of_words-requires c = starts c.args.shape _ c.requires (c.as_slice.ensures.value ∙ c.in_ok-words.ensures)
+of_words-requires c = starts c.args.shape c.args.plan.parts _ c.requires (c.as_slice.ensures.value ∙ c.in_ok-words.ensures)
 
 pub invariant_of-result-clause-sized : goal.invariant_of-result-clause-sized
 invariant_of-result-clause-sized c = c.in_ok-table.ensures.0 ∙ (ap length (c.as_slice.ensures.value ∙ c.in_ok-words.ensures) ∙ start-length c.args.shape)
@@ -14,4 +14,4 @@ pub invariant_of-result-2-clause-agrees : goal.invariant_of-result-2-clause-agre
 invariant_of-result-2-clause-agrees c = c.start_seat-state.ensures ∙ sym (ap (λ m. m.0.state) c.in_ok-table.ensures.4)
 
 pub invariant_of-result-2-clause-possible : goal.invariant_of-result-2-clause-possible
-invariant_of-result-2-clause-possible c = ∣ subst IsPossible (sym (ap (λ m. m.0) c.in_ok-table.ensures.4)) (newcomer-possible c.args.shape 0 c.requires (omega arith)) ∣₁
+invariant_of-result-2-clause-possible c = ∣ subst IsPossible (sym (ap (λ m. m.0) c.in_ok-table.ensures.4)) (newcomer-possible c.args.shape c.args.plan.parts 0 c.requires (omega arith)) ∣₁

@@ -1,8 +1,13 @@
-use Rattle.std.proofs.Common.{ℕ, ◌+◌, ◌<◌, List, length, sym, ap, ◌∙◌, subst, arith}
-use Rattle.std.specs.Prelude.{slice_get}
+use Rattle.std.proofs.Common.{ℕ, ◌≡◌, ◌+◌, ◌<◌, ◌∷◌, [], List, length, sym, ap, ◌∙◌, subst, inl, inr, ⊎_elim, arith, Some, length-append}
+use Rattle.std.specs.Prelude.{slice_get, Contains}
+use Rattle.std.proofs.lemmas.Option.{slice_get_within}
+use Rattle.mark_core.specs.declared.seat.SeatState.{SeatState}
+use Rattle.gc_table.specs.declared.view.View.{View}
 use Rattle.gc_table.specs.declared.seat.HeapSeat.{HeapSeat}
-use Rattle.gc_table.specs.Seats.{IsOutside}
-use Rattle.gc_table.proofs.Records.{first-of, rest-at, got-last, got-longer}
+use Rattle.gc_table.specs.Rule.{takes_in}
+use Rattle.gc_table.specs.Seats.{view_of, IsOutside}
+use Rattle.gc_table.proofs.Records.{first-of, rest-at, rest-long, got-last, got-longer}
+use Rattle.gc_table.proofs.Joining.{takes-own, takes-more, first-or-past, next-or-past, same-got}
 use Rattle.gc_table.proofs.seat.Heap.join_all.Goals as goal
 
 pub loop-seat-init : goal.loop-seat-init
@@ -10,8 +15,9 @@ loop-seat-init c =
     let e = c.remove-first.ensures in
     let xs : List HeapSeat = c.args.seats.items in
     let some_left : 0 < length xs = omega (arith, c.args.seats.ok, c.requires.some) in
-    let q = c.requires.seats 0 c.remove-first.result (first-of xs c.remove-first.result some_left e.value) in
-    record { sits = q.0; outside = q.2; left = λ i s h. rest-at xs i s (ap (λ (l : List HeapSeat). slice_get l i) (sym e.items) ∙ h) }
+    let at = first-of xs c.remove-first.result some_left e.value in
+    let q = c.requires.seats 0 c.remove-first.result at in
+    record { sits = q.0; outside = q.2; first = λ s h. let e = same-got xs 0 c.remove-first.result s at h in (ap (λ (x : HeapSeat). (view_of x).state) e, ap (λ (x : HeapSeat). (view_of x).own) e, ap (λ (x : HeapSeat). (view_of x).plan) e); joined = λ i s w far h m. absurd (omega (arith, far, ap length e.items, rest-long xs some_left, slice_get_within xs i s h)); left = λ i s h. rest-at xs i s (ap (λ (l : List HeapSeat). slice_get l i) (sym e.items) ∙ h) }
 
 pub absorb-requires-clause-other : goal.absorb-requires-clause-other
 absorb-requires-clause-other c =
@@ -25,8 +31,31 @@ loop-seat-preserved c =
     let e = c.in-Some.ensures in
     let i = c.loop-seat.invariant in
     let a = c.absorb.ensures in
+    let n : ℕ = length c.pop.new.self.items in
+    let last = i.left n c.in-Some.seat (ap (λ (l : List HeapSeat). slice_get l n) e.items ∙ got-last c.pop.new.self.items c.in-Some.seat) in
+    let long = length-append c.pop.new.self.items (c.in-Some.seat ∷ []) in
     record {
       sits = a.0;
       outside = subst IsOutside (sym a.1) i.outside;
+      first = λ s h. let q = i.first s h in (ap (λ (v : View). v.state) a.1 ∙ q.0, ap (λ (v : View). v.own) a.1 ∙ q.1, ap (λ (v : View). v.plan) a.1 ∙ q.2);
+      joined = λ j s w far h m.
+          subst (λ (v : View). Contains v.joined (w, (view_of s).own)) (sym a.1) (⊎_elim
+          (λ (z : j ≡ n + 1).
+          let same : c.in-Some.seat ≡ s = same-got c.args.seats.items (n + 1) c.in-Some.seat s last (subst (λ (k : ℕ). slice_get c.args.seats.items k ≡ Some s) z h) in
+          subst (λ (x : HeapSeat). Contains (takes_in (view_of c.loop-seat.first) (view_of x)).joined (w, (view_of s).own)) (sym same) (takes-own (view_of c.loop-seat.first) (view_of s) w m))
+          (λ (l : n + 1 < j). takes-more (view_of c.loop-seat.first) (view_of c.in-Some.seat) (w, (view_of s).own) (i.joined j s w (omega (arith, l, ap length e.items, long)) h m))
+          (next-or-past n j far));
       left = λ j s h. i.left j s (ap (λ (l : List HeapSeat). slice_get l j) e.items ∙ got-longer c.pop.new.self.items c.in-Some.seat s j h);
     }
+
+pub returns-clause-first : goal.returns-clause-first
+returns-clause-first c = λ s h. let q = c.loop-seat.invariant.first s h in (q.0, q.2)
+
+pub returns-clause-sections : goal.returns-clause-sections
+returns-clause-sections c = λ j s w h m.
+    let i = c.loop-seat.invariant in
+    let none : length c.loop-seat.seats.items ≡ 0 = omega (arith, c.loop-seat.seats.ok, c.in_default.ensures.cases) in
+    ⊎_elim
+    (λ (e : j ≡ 0). let q = i.first s (subst (λ (k : ℕ). slice_get c.args.seats.items k ≡ Some s) e h) in inl (ap (λ (x : SeatState). x.section) q.0 ∙ m, q.1))
+    (λ (l : 0 < j). inr (i.joined j s w (omega (arith, l, none)) h m))
+    (first-or-past j)

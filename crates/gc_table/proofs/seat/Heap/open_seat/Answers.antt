@@ -13,7 +13,7 @@ split_seat-token-requires c =
     let v : View = c.args.first.now.token.me.0 in
     let h = c.args.self.now in
     let shaped : v.shape ≡ h.table.shared.key.shape = q.seat.0.1 ∙ h.keyed in
-    (search rules, search rules, splits _ _ v shaped (q.seat.1 ∙ ap (λ sh. start_seat sh 0) h.keyed) (omega (arith, q.number.0, q.number.1)))
+    (search rules, search rules, splits _ _ _ v shaped q.plan (q.seat.1 ∙ ap (λ sh. start_seat sh 0) h.keyed) (omega (arith, q.number.0, q.number.1)))
 
 pub invariant_of-first-clause-possible : goal.invariant_of-first-clause-possible
 invariant_of-first-clause-possible c = ∥∥₁_map c.args.first.now.possible (λ p. subst IsPossible (sym (ap (λ m. m.0) c.split_seat-token.ensures.2)) (opens-possible (c.args.first.now.token.me.0) p))
@@ -27,4 +27,4 @@ pub invariant_of-result-clause-possible : goal.invariant_of-result-clause-possib
 invariant_of-result-clause-possible c =
     let q = c.requires in
     let v : View = c.args.first.now.token.me.0 in
-    ∣ subst IsPossible (sym (ap (λ m. m.0) c.split_seat-token.ensures.4)) (newcomer-possible v.shape v.opened (subst IsShape (sym q.seat.0.1) c.args.self.now.shaped) (omega (arith, q.number.0, q.number.1))) ∣₁
+    ∣ subst IsPossible (sym (ap (λ m. m.0) c.split_seat-token.ensures.4)) (newcomer-possible v.shape v.plan v.opened (subst IsShape (sym q.seat.0.1) c.args.self.now.shaped) (omega (arith, q.number.0, q.number.1))) ∣₁

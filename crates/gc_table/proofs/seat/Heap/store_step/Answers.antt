@@ -1,12 +1,12 @@
 use Rattle.std.proofs.Common.{ap, sym, ◌∙◌}
-use Rattle.gc_table.proofs.Allowed.{step-word, step-room, possible-live, stored-word, stored-view}
+use Rattle.gc_table.proofs.Fitting.{step-word, step-room, possible-live, stored-word, stored-view}
 use Rattle.gc_table.proofs.seat.Heap.store_step.Goals as goal
 
 pub act-new-requires : goal.act-new-requires
 act-new-requires c = let s = c.args.seat.now in step-room s.state (s.token.me.0) c.args.step s.agrees s.possible c.requires.may
 
 pub store_told-requires-clause-word : goal.store_told-requires-clause-word
-store_told-requires-clause-word c = let q = c.requires in let s = c.args.seat.now in step-word c.args.self.now.shape s.state (s.token.me.0) c.args.step _ _ c.address-word.ensures s.agrees q.seat.1 c.args.self.now.sized s.possible q.own q.may
+store_told-requires-clause-word c = let q = c.requires in let s = c.args.seat.now in step-word c.args.self.now.shape s.state (s.token.me.0) c.args.step _ _ c.address-word.ensures s.agrees q.seat.1 c.args.self.now.sized s.possible q.may
 
 pub store_told-requires-clause-live : goal.store_told-requires-clause-live
 store_told-requires-clause-live c = let s = c.args.seat.now in possible-live (s.token.me.0) s.possible

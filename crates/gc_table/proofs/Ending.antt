@@ -1,0 +1,88 @@
+-- A closed heap is in a state in which each section is as its own seat left it, and of the seats with sections only the first is left.
+use Rattle.std.proofs.Common.{ℕ, ◌≡◌, ◌<◌, List, length, Option, Some, None, inl, inr, ⊎_elim, sym, ap, ◌∙◌, subst}
+use Rattle.std.specs.Prelude.{slice_get, nat_lt, if◌then◌else◌, Contains}
+use Rattle.std.proofs.Math.Logic.{∥∥₁_elim}
+use Rattle.std.proofs.Props.{props}
+use Rattle.mark_core.specs.Layout.{region_sizes, total_words}
+use Rattle.mark_core.specs.Start.{spent_seat}
+use Rattle.mark_core.specs.declared.kinds.Shape.{Shape}
+use Rattle.mark_core.specs.declared.seat.SeatState.{SeatState}
+use Rattle.gc_table.specs.Rule.{IsPossible, IsFinal, HasSection}
+use Rattle.gc_table.specs.Seats.{view_of, IsOutside}
+use Rattle.gc_table.specs.Ends.{AreWords, IsResting, IsEnd}
+use Rattle.gc_table.specs.declared.view.View.{View}
+use Rattle.gc_table.specs.declared.view.SectionState.{SectionState}
+use Rattle.gc_table.specs.declared.seat.HeapSeat.{HeapSeat}
+use Rattle.gc_table.specs.declared.words.Words.{Words}
+use Rattle.gc_table.proofs.Asking.{own-number}
+use Rattle.gc_table.proofs.Joining.{same-got, some-at}
+
+-- the section of seat j, where there are n sections
+abbrev numbered : ℕ → ℕ → Option ℕ
+numbered j n = if nat_lt j n then Some j else None
+
+section_is : (sh : Shape) (j : ℕ) (v : View) → IsPossible v → v.shape ≡ sh → v.state.number ≡ j → v.state.section ≡ numbered j sh.sections
+section_is sh j v p shaped number =
+    let seat = p.whole.core.formed.seats p.index v.state p.agrees.seat in
+    seat.section ∙ (λ y. numbered ((sym seat.number ∙ number) y) ((sym p.agrees.shape ∙ shaped) y).sections)
+
+-- the seats are of this shape, in order, and outside
+abbrev pub AreGiven : Shape → List HeapSeat → Type 0
+AreGiven sh seats = (i : ℕ) (s : HeapSeat) → slice_get seats i ≡ Some s → ((view_of s).shape ≡ sh) × ((view_of s).state.number ≡ i) × IsOutside (view_of s)
+
+-- the view is the first seat's, with all sections
+abbrev pub IsFirst : List HeapSeat → View → Type 0
+IsFirst seats v = (s : HeapSeat) → slice_get seats 0 ≡ Some s → (v.state ≡ (view_of s).state) × (v.plan ≡ (view_of s).plan)
+
+abbrev pub HasAll : List HeapSeat → View → Type 0
+HasAll seats v = (i : ℕ) (s : HeapSeat) (k : ℕ) → slice_get seats i ≡ Some s → (view_of s).state.section ≡ Some k → HasSection v k (view_of s).own
+
+pub final-shape : (sh : Shape) (v : View) (ws : List ℕ) (f : IsFinal v ws) → v.shape ≡ sh → f.state.core.shape ≡ sh
+final-shape sh v ws f shaped = sym f.agrees.shape ∙ shaped
+
+pub final-length : (sh : Shape) (v : View) (ws : List ℕ) → IsFinal v ws → v.shape ≡ sh → length ws ≡ total_words (region_sizes sh)
+final-length sh v ws f shaped = ap length (sym f.words) ∙ (f.whole.core.formed.words ∙ ap (λ (x : Shape). total_words (region_sizes x)) (final-shape sh v ws f shaped))
+
+-- a section is as its seat left it
+section_left : (v : View) (ws : List ℕ) (f : IsFinal v ws) (k : ℕ) (x : SectionState) → HasSection v k x → slice_get f.state.sections k ≡ Some x
+section_left v ws f k x h =
+    ⊎_elim
+    (λ (o : (v.state.section ≡ Some k) × (v.own ≡ x)). f.agrees.own k o.0 ∙ ap Some o.1)
+    (λ (i : Contains v.joined (k, x)). (f.agrees.joined k x i).0)
+    h
+
+-- a record with a section is spent, or that of the last seat
+at_rest : (seats : List HeapSeat) (v : View) (ws : List ℕ) (f : IsFinal v ws) (k : ℕ) (x : SectionState) (r : SeatState) → ((s : HeapSeat) × (slice_get seats 0 ≡ Some s) × (v.state ≡ (view_of s).state) × IsOutside (view_of s)) → slice_get f.state.core.seats k ≡ Some r → HasSection v k x
+    → IsResting seats r
+at_rest seats v ws f k x r z got h =
+    let c = f.state.core in
+    ⊎_elim
+    (λ (o : (v.state.section ≡ Some k) × (v.own ≡ x)).
+    let at : k ≡ f.index = own-number c f.index k v.state f.whole.core f.agrees.seat o.0 in
+    let is : r ≡ v.state = same-got c.seats k r v.state got (ap (slice_get c.seats) at ∙ f.agrees.seat) in
+    inr (z.0, z.1, is ∙ z.2, z.3))
+    (λ (i : Contains v.joined (k, x)). inl (ap (λ (t : SeatState). t.spent) (same-got c.seats k r (spent_seat c.shape k) got (f.agrees.joined k x i).1)))
+    h
+
+pub ends : (sh : Shape) (seats : List HeapSeat) (v : View) (ws : List ℕ) (w : Words) → 0 < length seats → AreGiven sh seats → v.shape ≡ sh → IsFirst seats v → HasAll seats v → IsFinal v ws → AreWords sh ws w → IsEnd sh seats w
+ends sh seats v ws w some given shaped first all f words =
+    let c = f.state.core in
+    let same : c.shape ≡ sh = final-shape sh v ws f shaped in
+    record {
+      state = f.state;
+      whole = f.whole;
+      shape = same;
+      plan = λ s h. sym f.agrees.plan ∙ (first s h).1;
+      words = subst (λ (xs : List ℕ). AreWords sh xs w) (sym f.words) words;
+      sections = λ i s k h e. section_left v ws f k (view_of s).own (all i s k h e);
+      resting = λ j r k l got e.
+          let seat = some-at seats j l in
+          let s : HeapSeat = seat.0 in
+          let q = given j s seat.1 in
+          let zero = some-at seats 0 some in
+          let ours : (view_of s).state.section ≡ numbered j sh.sections = ∥∥₁_elim s.possible (Prim.hlevel props) (λ (p : IsPossible (view_of s)). section_is sh j (view_of s) p q.0 q.1) in
+          let theirs : r.section ≡ numbered j c.shape.sections = (f.whole.core.formed.seats j r got).section in
+          let mine : (view_of s).state.section ≡ Some k = ours ∙ (ap (λ (x : Shape). numbered j x.sections) (sym same) ∙ (sym theirs ∙ e)) in
+          let at : k ≡ j = own-number c j k r f.whole.core got e in
+          at_rest seats v ws f k (view_of s).own r (zero.0, zero.1, (first zero.0 zero.1).0, (given 0 zero.0 zero.1).2) (ap (slice_get c.seats) at ∙ got) (all j s k seat.1 mine);
+    }

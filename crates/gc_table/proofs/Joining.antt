@@ -1,0 +1,49 @@
+-- A seat that takes in another has its section, and keeps those that it had; and its view is possible, as it learns where it reads a word, whatever it finds.
+use Rattle.std.proofs.Common.{ℕ, zero, suc, ◌≡◌, ◌<◌, ◌+◌, ◌++◌, ◌∷◌, [], ◌⊎◌, inl, inr, ⊎_elim, List, length, Option, Some, None, arith, refl, sym, ap, subst}
+use Rattle.std.specs.Prelude.{slice_index, slice_get, IsFalse, Contains}
+use Rattle.std.proofs.lemmas.List.Elements.{Contains-append_left, Contains-append_right}
+use Rattle.gc_table.specs.declared.view.SectionState.{SectionState}
+use Rattle.std.proofs.lemmas.List.{set-get_or}
+use Rattle.atomic_table.specs.Table.{Me, stepped, keeps, Allows}
+use Rattle.atomic_table.proofs.Lists.{set_again}
+use Rattle.plain_heap.specs.declared.operation.Op.{Op}
+use Rattle.mark_core.specs.declared.kinds.Shape.{Shape}
+use Rattle.gc_table.specs.declared.view.View.{View}
+use Rattle.gc_table.specs.Rule.{whole_of, own_entry, takes_in, Holds, IsPossible}
+
+pub looks : (sh : Shape) (plan : List (List Op)) (slots id : ℕ) (m : Me (Unit {0}) View) (i : ℕ) → IsFalse m.0.state.spent → Allows (Holds sh plan) slots id m i (λ n. n) (λ found n. (n ≡ m) × IsPossible n.0)
+looks sh plan slots id m i live s o sized me fits =
+    let same : stepped s i (slice_index s.words i) id m.1 m.0 keeps ≡ s = λ y. record { words = set-get_or s.words i 0 y; homes = s.homes; views = set_again s.views id m.0 me y } in
+    (m.0, keeps, tt, subst (Holds sh plan) (sym same) o, (refl, record { state = whole_of sh plan o.sections s; index = id; whole = o.whole; agrees = o.each id m.0 me live; live = live }))
+
+own_in : (o : Option ℕ) (x : SectionState) (k : ℕ) → o ≡ Some k → Contains (own_entry o x) (k, x)
+own_in None x k e = absurd (cc)
+own_in (Some j) x k e = let same : j ≡ k = cc in (0, omega arith, ap (λ (n : ℕ). (n, x)) same)
+
+-- the section of the seat that is taken in, and those that were there before
+pub takes-own : (v w : View) (k : ℕ) → w.state.section ≡ Some k → Contains (takes_in v w).joined (k, w.own)
+takes-own v w k e = Contains-append_right v.joined (own_entry w.state.section w.own ++ w.joined) (k, w.own) (Contains-append_left (own_entry w.state.section w.own) w.joined (k, w.own) (own_in w.state.section w.own k e))
+
+pub takes-more : (v w : View) (p : ℕ × SectionState) → Contains v.joined p → Contains (takes_in v w).joined p
+takes-more v w p h = Contains-append_left v.joined (own_entry w.state.section w.own ++ w.joined) p h
+
+pub first-or-past : (j : ℕ) → (j ≡ 0) ⊎ (0 < j)
+first-or-past zero = inl refl
+first-or-past (suc j) = inr (omega arith)
+
+-- the next number, or one further on
+pub next-or-past : (n j : ℕ) → n < j → (j ≡ n + 1) ⊎ (n + 1 < j)
+next-or-past zero zero l = absurd (omega (arith, l))
+next-or-past zero (suc zero) l = inl refl
+next-or-past zero (suc (suc j)) l = inr (omega arith)
+next-or-past (suc n) zero l = absurd (omega (arith, l))
+next-or-past (suc n) (suc j) l = ⊎_elim (λ (e : j ≡ n + 1). inl (omega (arith, e))) (λ (m : n + 1 < j). inr (omega (arith, m))) (next-or-past n j (omega (arith, l)))
+
+module _ {A : Type 0} where
+  pub same-got : (xs : List A) (i : ℕ) (s t : A) → slice_get xs i ≡ Some s → slice_get xs i ≡ Some t → s ≡ t
+  same-got xs i s t e f = cc
+
+  pub some-at : (xs : List A) (i : ℕ) → i < length xs → (x : A) × (slice_get xs i ≡ Some x)
+  some-at [] i l = absurd (omega (arith, l))
+  some-at (x ∷ xs) zero l = (x, refl)
+  some-at (x ∷ xs) (suc i) l = some-at xs i (omega (arith, l))

@@ -1,0 +1,5 @@
+use Rattle.gc_table.proofs.WholeKept.{rule-kept_by}
+use Rattle.gc_table.proofs.laws.rule_is_kept.Goals as goal
+
+pub returns : goal.returns
+returns c = rule-kept_by

@@ -1,0 +1,5 @@
+use Rattle.gc_table.proofs.WholeStart.{whole-starts}
+use Rattle.gc_table.proofs.laws.rule_starts.Goals as goal
+
+pub returns : goal.returns
+returns c = whole-starts

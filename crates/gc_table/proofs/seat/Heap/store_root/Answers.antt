@@ -1,0 +1,10 @@
+use Rattle.std.proofs.Common.{refl, ap, ◌∙◌}
+use Rattle.mark_core.specs.declared.kinds.Step.TheVariants.{StoreRoot}
+use Rattle.gc_table.specs.declared.view.View.{View}
+use Rattle.gc_table.proofs.PlainTold.{plain-told}
+use Rattle.gc_table.proofs.seat.Heap.store_root.Goals as goal
+
+pub returns-clause-plain : goal.returns-clause-plain
+returns-clause-plain c op asks =
+    let s = c.args.seat.now in
+    ap (λ (v : View). v.own.meaning.heap) c.store_step.ensures.view ∙ plain-told (s.token.me.0) (StoreRoot c.args.v c.args.r) op s.possible c.requires.may asks refl

@@ -1,0 +1,38 @@
+-- What a closed heap hands out.
+use Rattle.std.specs.Prelude.{ℕ, ◌≡◌, ◌⊎◌, ◌<◌, List, length, slice_get, Some, IsTrue}
+use Rattle.mark_core.specs.Bits.{reference_in}
+use Rattle.mark_core.specs.Layout.{words_of}
+use Rattle.mark_core.specs.Seats.{phase_of}
+use Rattle.mark_core.specs.declared.kinds.Shape.{Shape}
+use Rattle.mark_core.specs.declared.seat.SeatState.{SeatState}
+use Rattle.gc_table.specs.Whole.{Whole}
+use Rattle.gc_table.specs.Rule.{IsState}
+use Rattle.gc_table.specs.Seats.{view_of, IsOutside}
+use Rattle.gc_table.specs.declared.seat.HeapSeat.{HeapSeat}
+use Rattle.gc_table.specs.declared.words.Words.{Words}
+
+-- these are the words of the list, read by their meaning
+pub record AreWords (sh : Shape) (ws : List ℕ) (w : Words) : Type 0 where
+  pub idents : w.idents.items ≡ (words_of sh ws).identities
+  pub values : w.values.items ≡ (words_of sh ws).values
+  pub fields : w.fields.items ≡ (words_of sh ws).fields
+  pub alloc : w.alloc.items ≡ (words_of sh ws).allocs
+  pub positions : w.positions.items ≡ (words_of sh ws).positions
+  pub phase : w.phase ≡ phase_of (words_of sh ws).phase
+  pub named : w.named ≡ reference_in (words_of sh ws).named
+  pub roots : w.roots.items ≡ (words_of sh ws).roots
+
+-- the record is that of a seat that was joined into the first, or the first seat's, which is outside the world, its stop and its help
+abbrev pub IsResting : List HeapSeat → SeatState → Type 0
+IsResting seats r = IsTrue r.spent ⊎ ((s : HeapSeat) × (slice_get seats 0 ≡ Some s) × (r ≡ (view_of s).state) × IsOutside (view_of s))
+
+-- the words are those of a state that meets the rule, in which each section is as its seat left it
+pub record IsEnd (sh : Shape) (seats : List HeapSeat) (w : Words) : Type 0 where
+  pub state : Whole
+  pub whole : IsState state
+  pub shape : state.core.shape ≡ sh
+  pub plan : (s : HeapSeat) → slice_get seats 0 ≡ Some s → state.plan ≡ (view_of s).plan
+  pub words : AreWords sh state.core.words w
+  pub sections : (i : ℕ) (s : HeapSeat) (k : ℕ) → slice_get seats i ≡ Some s → (view_of s).state.section ≡ Some k → slice_get state.sections k ≡ Some (view_of s).own
+  -- no seat with a section is at work, of those that were handed in
+  pub resting : (j : ℕ) (r : SeatState) (k : ℕ) → j < length seats → slice_get state.core.seats j ≡ Some r → r.section ≡ Some k → IsResting seats r
