@@ -1,0 +1,65 @@
+-- What one step of this crate makes of a seat that traces.
+use Rattle.std.proofs.Common.{ℕ, ◌≡◌, ◌<◌, ◌≤◌, ◌+◌, ◌-◌, arith, refl, sym, ap, ◌∙◌, subst, Bool, Some}
+use Rattle.mark_core.specs.Held.{known_length, set_length, length_in_hand}
+use Rattle.mark_core.specs.declared.kinds.Step.TheVariants.{Reserve, Take, Give, Credit, Push, Pop, Look, ReadCount, StoreLength, ReadLength}
+use Rattle.gc_table.specs.declared.view.View.{View}
+use Rattle.gc_table.specs.Taking.{after}
+use Rattle.packet_pools.specs.declared.held.Held.{Held}
+use Rattle.packet_pools.specs.Later.{Later}
+use Rattle.packet_pools.specs.Tracing.{Traces}
+use Rattle.packet_pools.specs.Hands.{IsHeld}
+use Rattle.packet_pools.proofs.LaterSteps.{later-step, later-to}
+use Rattle.packet_pools.proofs.Conditions.{traces-later}
+use Rattle.packet_pools.proofs.InHand.{known-set, known-length}
+
+module _ (v w : View) (n : ℕ) where
+  pub later-reserve : w ≡ after Reserve n v → Later v w
+  later-reserve e = later-to v w Reserve n e (later-step v Reserve n refl refl refl)
+
+  pub later-take : (q p : ℕ) → w ≡ after (Take q p) n v → Later v w
+  later-take q p e = later-to v w (Take q p) n e (later-step v (Take q p) n refl refl refl)
+
+  pub later-give : (p : ℕ) (d : Bool) → w ≡ after (Give p d) n v → Later v w
+  later-give p d e = later-to v w (Give p d) n e (later-step v (Give p d) n refl refl refl)
+
+  pub later-credit : w ≡ after Credit n v → Later v w
+  later-credit e = later-to v w Credit n e (later-step v Credit n refl refl refl)
+
+  pub later-push : (p x : ℕ) → w ≡ after (Push p x) n v → Later v w
+  later-push p x e = later-to v w (Push p x) n e (later-step v (Push p x) n refl refl refl)
+
+  pub later-pop : (p : ℕ) → w ≡ after (Pop p) n v → Later v w
+  later-pop p e = later-to v w (Pop p) n e (later-step v (Pop p) n refl refl refl)
+
+  pub later-look : (q g : ℕ) → w ≡ after (Look q g) n v → Later v w
+  later-look q g e = later-to v w (Look q g) n e (later-step v (Look q g) n refl refl refl)
+
+  pub later-read_count : w ≡ after ReadCount n v → Later v w
+  later-read_count e = later-to v w ReadCount n e (later-step v ReadCount n refl refl refl)
+
+  pub later-store_length : (p : ℕ) → w ≡ after (StoreLength p) n v → Later v w
+  later-store_length p e = later-to v w (StoreLength p) n e (later-step v (StoreLength p) n refl refl refl)
+
+  pub later-read_length : (p : ℕ) → w ≡ after (ReadLength p) n v → Later v w
+  later-read_length p e = later-to v w (ReadLength p) n e (later-step v (ReadLength p) n refl refl refl)
+
+-- the seat traces on
+pub traces-on : (v w : View) → Later v w → Traces v → w.state.reserved ≡ v.state.reserved → w.state.credit ≡ v.state.credit → Traces w
+traces-on v w k t r c = record { may = traces-later v w k t.may; unreserved = r ∙ t.unreserved; uncredited = c ∙ t.uncredited }
+
+-- the packet in hand has another length
+pub held-again : (v w : View) (h : Held) (n : ℕ) (b : Bool) → IsHeld h v → w.shape ≡ v.shape → w.state.held ≡ set_length v.state.held h.packet (length_in_hand v.state.held h.packet + n) b → h.length + n ≤ v.shape.entries → IsHeld (record h { length = h.length + n }) w
+held-again v w h n b k shape held fits =
+    record {
+      there = subst (λ sh. h.packet < sh) (ap (λ s. s.packets) (sym shape)) k.there;
+      known = ap (λ hs. known_length hs h.packet) held ∙ (known-set v.state.held h.packet h.length (length_in_hand v.state.held h.packet + n) b k.known ∙ ap (λ m. Some (m + n)) (known-length v.state.held h.packet h.length k.known));
+      fits = subst (λ m. h.length + n ≤ m) (ap (λ s. s.entries) (sym shape)) fits;
+    }
+
+pub held-less : (v w : View) (h : Held) (b : Bool) → IsHeld h v → w.shape ≡ v.shape → w.state.held ≡ set_length v.state.held h.packet (length_in_hand v.state.held h.packet - 1) b → IsHeld (record h { length = h.length - 1 }) w
+held-less v w h b k shape held =
+    record {
+      there = subst (λ sh. h.packet < sh) (ap (λ s. s.packets) (sym shape)) k.there;
+      known = ap (λ hs. known_length hs h.packet) held ∙ (known-set v.state.held h.packet h.length (length_in_hand v.state.held h.packet - 1) b k.known ∙ ap (λ m. Some (m - 1)) (known-length v.state.held h.packet h.length k.known));
+      fits = subst (λ m. h.length - 1 ≤ m) (ap (λ s. s.entries) (sym shape)) (omega (arith, k.fits));
+    }

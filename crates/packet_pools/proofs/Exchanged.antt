@@ -1,0 +1,44 @@
+-- The slots of a seat that changes one packet for another.
+use Rattle.std.proofs.Common.{ℕ, ◌≡◌, ◌≢◌, [], ◌∷◌, refl, sym, ap, ◌∙◌, Bool, true, false, Some, None, arith}
+use Rattle.std.proofs.lemmas.Bool.{true≢false, false≢true}
+use Rattle.mark_core.specs.Held.{Slots, Slot, slot_without, holds, holds_another, has_free_slot, known_length, drop_packet, set_length}
+use Rattle.mark_core.proofs.PoolSlots.{any-held, drop-other}
+use Rattle.packet_pools.specs.Hands.{with_packet}
+use Rattle.packet_pools.proofs.InHand.{known-held, drop-with}
+
+-- a packet that isn't held is another than one that is
+pub held-apart : (hs : Slots) (p q n : ℕ) → known_length hs p ≡ Some n → holds hs q ≡ false → q ≢ p
+held-apart hs p q n k u e = true≢false (sym (known-held hs p n k) ∙ (ap (holds hs) (sym e) ∙ u))
+
+-- two packets are held
+pub another-held : (hs : Slots) (p q : ℕ) → q ≢ p → holds hs q ≡ true → holds_another hs p ≡ true
+another-held hs p q d h = any-held (drop_packet hs p) q ((drop-other hs p q d).holds_same ∙ h)
+
+-- a packet that goes leaves a free slot
+pub drop-free : (hs : Slots) (p : ℕ) → holds hs p ≡ true → has_free_slot (drop_packet hs p) ≡ true
+drop-free [] p h = absurd (false≢true h)
+drop-free (None ∷ hs) p h = refl
+drop-free (Some x ∷ hs) p h = grind (arith, drop-free hs p)
+
+-- a length that is set leaves the slots free or not
+pub set-free : (hs : Slots) (p n : ℕ) (b : Bool) → has_free_slot (set_length hs p n b) ≡ has_free_slot hs
+set-free [] p n b = refl
+set-free (None ∷ hs) p n b = refl
+set-free (Some x ∷ hs) p n b = grind (arith, set-free hs p n b)
+
+without-either : (x : Slot) (p q : ℕ) → slot_without q (slot_without p x) ≡ slot_without p (slot_without q x)
+without-either None p q = refl
+without-either (Some x) p q = grind arith
+
+-- the order in which two packets go is free
+pub drop-either : (hs : Slots) (p q : ℕ) → drop_packet (drop_packet hs p) q ≡ drop_packet (drop_packet hs q) p
+drop-either [] p q = refl
+drop-either (x ∷ hs) p q = λ i. without-either x p q i ∷ drop-either hs p q i
+
+-- one packet came, and another went: but for these two the slots are as they were
+pub exchanged : (hs : Slots) (p q n : ℕ) → holds hs q ≡ false → drop_packet (drop_packet (with_packet hs q n) p) q ≡ drop_packet hs p
+exchanged hs p q n u = drop-either (with_packet hs q n) p q ∙ ap (λ l. drop_packet l p) (drop-with hs q n u)
+
+-- what is known of the packet that came stays as another goes
+pub known-came : (hs : Slots) (p q n : ℕ) → q ≢ p → known_length hs q ≡ Some n → known_length (drop_packet hs p) q ≡ Some n
+known-came hs p q n d k = (drop-other hs p q d).known_same ∙ k

@@ -1,0 +1,68 @@
+-- The packet in hand is filled, or changed for another.
+use Rattle.std.proofs.Common.{ℕ, ◌≡◌, ◌≢◌, ◌<◌, ◌≤◌, ◌+◌, List, sym, ap, ◌∙◌, subst, Bool, true, Some}
+use Rattle.mark_core.specs.Held.{holds, has_free_slot, drop_packet, set_length, length_in_hand, known_length}
+use Rattle.std.proofs.lemmas.Bool.{true≢false}
+use Rattle.mark_core.proofs.PoolSlots.{drop-other, holds-drop_same}
+use Rattle.mark_core.specs.declared.kinds.Shape.{Shape}
+use Rattle.mark_core.specs.declared.seat.SeatState.{SeatState}
+use Rattle.gc_table.specs.declared.view.View.{View}
+use Rattle.packet_pools.specs.declared.held.Held.{Held}
+use Rattle.packet_pools.specs.Hands.{IsHeld}
+use Rattle.packet_pools.specs.Gains.{Takes}
+use Rattle.packet_pools.specs.Scanning.{Fills}
+use Rattle.packet_pools.proofs.InHand.{drop-set, known-held, with-other}
+use Rattle.packet_pools.proofs.Doing.{held-again}
+use Rattle.packet_pools.proofs.Exchanged.{drop-free, exchanged, held-apart, known-came, set-free}
+
+-- a packet is held as before
+pub held-same : (v w : View) (h : Held) → w.shape ≡ v.shape → known_length w.state.held h.packet ≡ known_length v.state.held h.packet → IsHeld h v → IsHeld h w
+held-same v w h shape known k =
+    record {
+      there = subst (λ (s : Shape). h.packet < s.packets) (sym shape) k.there;
+      known = known ∙ k.known;
+      fits = subst (λ (s : Shape). h.length ≤ s.entries) (sym shape) k.fits;
+    }
+
+-- nothing was pushed
+pub fills-same : (v w : View) (h : Held) → w.shape ≡ v.shape → w.state.held ≡ v.state.held → IsHeld h v → has_free_slot v.state.held ≡ true → Fills h h v w
+fills-same v w h shape e k free =
+    record { held = held-same v w h shape (ap (λ hs. known_length hs h.packet) e) k; free = ap has_free_slot e ∙ free; slots = ap (λ hs. drop_packet hs h.packet) e }
+
+-- a cell was pushed
+pub fills-more : (v w : View) (h : Held) (b : Bool) → w.shape ≡ v.shape → w.state.held ≡ set_length v.state.held h.packet (length_in_hand v.state.held h.packet + 1) b → h.length + 1 ≤ v.shape.entries → IsHeld h v → has_free_slot v.state.held ≡ true → Fills h (record h { length = h.length + 1 }) v w
+fills-more v w h b shape e fits k free =
+    record {
+      held = held-again v w h 1 b k shape e fits;
+      free = ap has_free_slot e ∙ (set-free v.state.held h.packet (length_in_hand v.state.held h.packet + 1) b ∙ free);
+      slots = ap (λ hs. drop_packet hs h.packet) e ∙ drop-set v.state.held h.packet (length_in_hand v.state.held h.packet + 1) b;
+    }
+
+pub fills-join : (u v w : View) (h k l : Held) → Fills h k u v → Fills k l v w → Fills h l u w
+fills-join u v w h k l a b = record { held = b.held; free = b.free; slots = b.slots ∙ a.slots }
+
+-- another packet was taken
+module _ (v w : View) (qs : List ℕ) (h k : Held) (shape : w.shape ≡ v.shape) (mine : IsHeld h v) (t : Takes qs k v w) where
+  pub apart : k.packet ≢ h.packet
+  apart = held-apart v.state.held h.packet k.packet h.length mine.known t.unheld
+
+  pub kept : IsHeld h w
+  kept = held-same v w h shape (ap (λ (s : SeatState). known_length s.held h.packet) t.state ∙ with-other v.state.held k.packet k.length h.packet (λ e. apart (sym e))) mine
+
+  -- and the first one went back
+  pub fills-other : (x : View) → x.shape ≡ w.shape → x.state ≡ record w.state { held = drop_packet w.state.held h.packet } → Fills h k v x
+  fills-other x same e =
+      record {
+        held = held-same w x k same (ap (λ (s : SeatState). known_length s.held k.packet) e ∙ (known-came w.state.held h.packet k.packet k.length apart t.held.known ∙ sym t.held.known)) t.held;
+        free = ap (λ (s : SeatState). has_free_slot s.held) e ∙ drop-free w.state.held h.packet (known-held w.state.held h.packet h.length kept.known);
+        slots =
+            ap (λ (s : SeatState). drop_packet s.held k.packet) e
+            ∙ (ap (λ (s : SeatState). drop_packet (drop_packet s.held h.packet) k.packet) t.state ∙ exchanged v.state.held h.packet k.packet k.length t.unheld);
+      }
+
+-- any other packet in hand stays as it is
+pub another-kept : (v w : View) (h k p : Held) → w.shape ≡ v.shape → Fills h k v w → IsHeld p v → p.packet ≢ h.packet → IsHeld p w × (p.packet ≢ k.packet)
+another-kept v w h k p shape f mine d =
+    let still : known_length (drop_packet w.state.held k.packet) p.packet ≡ Some p.length =
+    ap (λ hs. known_length hs p.packet) f.slots ∙ ((drop-other v.state.held h.packet p.packet d).known_same ∙ mine.known) in
+    let apart : p.packet ≢ k.packet = λ e. true≢false (sym (known-held (drop_packet w.state.held k.packet) p.packet p.length still) ∙ (ap (holds (drop_packet w.state.held k.packet)) e ∙ holds-drop_same w.state.held k.packet)) in
+    (held-same v w p shape (sym (drop-other w.state.held k.packet p.packet apart).known_same ∙ (still ∙ sym mine.known)) mine, apart)

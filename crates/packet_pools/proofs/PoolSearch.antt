@@ -1,0 +1,106 @@
+-- One pool is searched after another.
+use Rattle.std.proofs.Common.{ℕ, ◌≡◌, ◌<◌, ◌*◌, List, [], ◌∷◌, ◌++◌, arith, refl, sym, ap, ◌∙◌, subst, ⊎_elim, inl, inr, Bool, true, false, ◌&&◌, ◌||◌}
+use Rattle.std.proofs.lemmas.Bool.{false≢true, true≢false, or_left, or_right, or_cases}
+use Rattle.mark_core.specs.Layout.{pool_words}
+use Rattle.mark_core.specs.Held.{holds}
+use Rattle.mark_core.specs.declared.kinds.Shape.{Shape}
+use Rattle.mark_core.specs.declared.seat.SeatState.{SeatState}
+use Rattle.gc_table.specs.declared.view.Entry.{Entry}
+use Rattle.gc_table.specs.declared.view.View.{View}
+use Rattle.packet_pools.specs.declared.held.Held.{Held}
+use Rattle.packet_pools.specs.Later.{Later, events}
+use Rattle.packet_pools.specs.Hands.{with_packet}
+use Rattle.packet_pools.specs.Seeking.{gets, gets_from, loses, shows_outside, seen_outside, was_lost, was_full, was_got, AllMissed, only_moves}
+use Rattle.packet_pools.specs.Gains.{ComesFrom, Takes, Gains, Misses}
+use Rattle.packet_pools.proofs.Log.{events-join}
+use Rattle.packet_pools.proofs.Searches.{before-left, before-right, missed-left, missed-right, some-parts, some-right, moves-join}
+
+pub below-words : (sh : Shape) (p : ℕ) → p < sh.packets → p < 64 * pool_words sh
+below-words sh p l = omega (arith, l)
+
+without-room : (a b f : Bool) → (a || b || (false && f)) ≡ true → (a || b) ≡ true
+without-room true b f e = refl
+without-room false true f e = refl
+without-room false false f e = e
+
+-- a whole pool without a packet
+pub all-missed : (sh : Shape) (q : ℕ) (es : List Entry) → Misses sh q false 0 (64 * pool_words sh) es → AllMissed sh q es
+all-missed sh q es m p l = without-room (seen_outside q p es) (was_lost p es) (was_full sh.entries p es) (m.all p (omega arith) (below-words sh p l) l)
+
+either-left : (q p : ℕ) (xs ys : List Entry) → (seen_outside q p xs || was_lost p xs) ≡ true → (seen_outside q p (xs ++ ys) || was_lost p (xs ++ ys)) ≡ true
+either-left q p xs ys e = ⊎_elim (λ a. or_left _ _ (before-left p (shows_outside q p) xs ys a)) (λ b. or_right (seen_outside q p (xs ++ ys)) _ (before-left p (loses p) xs ys b)) (or_cases (seen_outside q p xs) (was_lost p xs) e)
+
+either-right : (q p : ℕ) (xs ys : List Entry) → was_got p xs ≡ false → (seen_outside q p ys || was_lost p ys) ≡ true → (seen_outside q p (xs ++ ys) || was_lost p (xs ++ ys)) ≡ true
+either-right q p xs ys n e = ⊎_elim (λ a. or_left _ _ (before-right p (shows_outside q p) xs ys n a)) (λ b. or_right (seen_outside q p (xs ++ ys)) _ (before-right p (loses p) xs ys n b)) (or_cases (seen_outside q p ys) (was_lost p ys) e)
+
+pub all-left : (sh : Shape) (q : ℕ) (xs ys : List Entry) → AllMissed sh q xs → AllMissed sh q (xs ++ ys)
+all-left sh q xs ys m p l = either-left q p xs ys (m p l)
+
+pub all-right : (sh : Shape) (q : ℕ) (xs ys : List Entry) → ((p : ℕ) → was_got p xs ≡ false) → AllMissed sh q ys → AllMissed sh q (xs ++ ys)
+all-right sh q xs ys n m p l = either-right q p xs ys (n p) (m p l)
+
+-- where a packet came from, with events before it that got none
+comes-right : (sh : Shape) (qs : List ℕ) (h : Held) (xs ys : List Entry) → ((p : ℕ) → was_got p xs ≡ false) → ComesFrom sh qs h ys → ComesFrom sh qs h (xs ++ ys)
+comes-right sh [] h xs ys n c = c
+comes-right sh (q ∷ qs) h xs ys n c = ⊎_elim (λ a. inl (a.0, some-right (gets_from q h.packet) xs ys a.1)) (λ b. inr (all-right sh q xs ys n b.0, comes-right sh qs h xs ys n b.1)) c
+
+-- a packet of the first pool
+pub takes-first : (q : ℕ) (qs : List ℕ) (room : Bool) (h : Held) (v w : View) → v.state.reserved ≡ false → Gains q room h v w → Takes (q ∷ qs) h v w
+takes-first q qs room h v w r g =
+    record {
+      unheld = g.unheld;
+      held = g.held;
+      state = g.state ∙ (λ i. record v.state { held = with_packet v.state.held h.packet h.length; reserved = sym r i });
+      from = inl (g.range, g.got);
+      moves = g.moves;
+    }
+
+-- a packet of a later pool, where the first had none
+pub takes-next : (q : ℕ) (qs : List ℕ) (h : Held) (v u w : View) → Later v u → Later u w → u.state ≡ v.state → ((p : ℕ) → was_got p (events v u) ≡ false) → AllMissed v.shape q (events v u) → only_moves (events v u) ≡ true → Takes qs h u w → Takes (q ∷ qs) h v w
+takes-next q qs h v u w a b e n m before t =
+    let es = events-join v u w a.log b.log in
+    record {
+      unheld = ap (λ (s : SeatState). holds s.held h.packet) (sym e) ∙ t.unheld;
+      held = t.held;
+      state = t.state ∙ ap (λ (s : SeatState). record s { held = with_packet s.held h.packet h.length }) e;
+      from = inr (
+        subst (AllMissed v.shape q) (sym es) (all-left v.shape q (events v u) (events u w) m),
+        subst (ComesFrom v.shape qs h) (sym es) (comes-right v.shape qs h (events v u) (events u w) n (subst (λ (s : Shape). ComesFrom s qs h (events u w)) a.shape t.from)),
+      );
+      moves = ap only_moves es ∙ moves-join (events v u) (events u w) before t.moves;
+    }
+
+-- events around a search that take nothing
+pub misses-within : (sh : Shape) (q : ℕ) (room : Bool) (lo hi : ℕ) (xs es ys : List Entry) → ((p : ℕ) → was_got p xs ≡ false) → ((p : ℕ) → was_got p ys ≡ false) → only_moves xs ≡ true → only_moves ys ≡ true → Misses sh q room lo hi es → Misses sh q room lo hi (xs ++ (es ++ ys))
+misses-within sh q room lo hi xs es ys nx ny mx my m =
+    record {
+      all = λ p l h low. missed-right sh.entries q room p xs (es ++ ys) (nx p) (missed-left sh.entries q room p es ys (m.all p l h low));
+      got =
+          λ p e.
+          ⊎_elim
+          (λ a. absurd (true≢false (sym a ∙ nx p)))
+          (λ b. ⊎_elim (λ g. m.got p g) (λ d. absurd (true≢false (sym d ∙ ny p))) (some-parts (gets p) es ys b))
+          (some-parts (gets p) xs (es ++ ys) e);
+      moves = moves-join xs (es ++ ys) mx (moves-join es ys m.moves my);
+    }
+
+-- none in two pools
+pub two-pools : (a b l : Bool) → (a || l) ≡ true → (b || l) ≡ true → ((a && (b && true)) || l) ≡ true
+two-pools a b true x y = or_right _ true refl
+two-pools true true false x y = refl
+two-pools true false false x y = y
+two-pools false b false x y = absurd (false≢true x)
+
+-- none in one
+pub one-pool : (a l : Bool) → (a || l) ≡ true → ((a && true) || l) ≡ true
+one-pool true l e = refl
+one-pool false l e = e
+
+-- none in three, or no room
+pub three-pools : (a b c l f : Bool) → (a || l) ≡ true → (b || l) ≡ true → (c || l || (true && f)) ≡ true → ((a && (b && (c && true))) || l || f) ≡ true
+three-pools a b c true f x y z = or_left _ f (or_right _ true refl)
+three-pools a b c false true x y z = or_right _ true refl
+three-pools true true true false false x y z = refl
+three-pools true true false false false x y z = z
+three-pools true false c false false x y z = absurd (false≢true y)
+three-pools false b c false false x y z = absurd (false≢true x)

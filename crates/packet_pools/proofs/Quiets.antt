@@ -1,0 +1,8 @@
+-- A count of all packets shows that nothing is left to trace.
+use Rattle.std.proofs.Common.{◌+◌, ap, sym, ◌∙◌}
+use Rattle.mark_core.specs.declared.kinds.Shape.{Shape}
+use Rattle.mark_core.proofs.QuietReading.{quiet}
+use Rattle.packet_pools.specs.Quiet.{IsQuietAt}
+
+pub quiet-at : (sh : Shape) → IsQuietAt sh (64 + sh.packets)
+quiet-at sh x s e h = quiet x.core s.core.formed (record { pools = s.core.sound.pools; counts = s.core.sound.counts }) (h ∙ ap (λ (x : Shape). 64 + x.packets) (sym e))

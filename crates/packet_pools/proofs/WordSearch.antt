@@ -1,0 +1,140 @@
+-- The search of one word of a pool, packet by packet.
+use Rattle.std.proofs.Common.{ℕ, ◌≡◌, ◌<◌, ◌≤◌, ◌+◌, ◌*◌, ◌/◌, ◌%◌, List, [], ◌∷◌, ◌++◌, length, arith, refl, sym, ap, ◌∙◌, subst, ⊎_elim, Bool, true, false, eq-eqb}
+use Rattle.std.specs.Prelude.{IsTrue, slice_index}
+use Rattle.std.proofs.lemmas.Bool.{cases_lt, true≢false, false≢true, and_from, or_left, not_from_false, false_from_ne_true}
+use Rattle.std.proofs.lemmas.List.{get_or-map, length-map}
+use Rattle.std.proofs.lemmas.Option.{slice_get_within, get_or_from_slice_get}
+use Rattle.mark_core.specs.Bits.{has_bit}
+use Rattle.mark_core.specs.Held.{holds, has_free_slot}
+use Rattle.mark_core.specs.Cells.{in_pool, pool_count, holder_count}
+use Rattle.mark_core.specs.Layout.{words_of, pool_words}
+use Rattle.mark_core.specs.Views.{hands}
+use Rattle.mark_core.specs.Steps.{Core}
+use Rattle.mark_core.specs.declared.kinds.Shape.{Shape}
+use Rattle.mark_core.specs.declared.kinds.Step.TheVariants.{Look}
+use Rattle.mark_core.specs.declared.seat.SeatState.{SeatState}
+use Rattle.mark_core.proofs.PoolMoves.{held-alone}
+use Rattle.mark_core.proofs.PoolBits.{in-no-pool}
+use Rattle.gc_table.specs.declared.view.View.{View}
+use Rattle.gc_table.specs.Fetching.{is_in_range}
+use Rattle.gc_table.specs.Taking.{after, Finds}
+use Rattle.packet_pools.specs.declared.held.Held.{Held}
+use Rattle.packet_pools.specs.Later.{Later, events}
+use Rattle.packet_pools.specs.Hands.{with_packet}
+use Rattle.packet_pools.specs.Seeking.{gets, gets_from, some_event, shows_outside, seen_outside, was_got, only_moves}
+use Rattle.packet_pools.specs.Gains.{Seeks, Gains, Misses, missed}
+use Rattle.packet_pools.proofs.Log.{entry_of, events-after, events-join}
+use Rattle.packet_pools.proofs.LaterSteps.{later-join}
+use Rattle.packet_pools.proofs.Conditions.{traces-later}
+use Rattle.packet_pools.proofs.Doing.{later-look}
+use Rattle.packet_pools.proofs.Searches.{before-left, missed-left, missed-right, some-parts, some-right, ungot, moves-join}
+
+-- a packet that a look found in a pool isn't in the seat's hand
+pub shown-unheld : (v : View) (q g n p : ℕ) → Finds (Look q g) n v → q < 4 → p < v.shape.packets → p / 64 ≡ g → has_bit n (p % 64) ≡ true → holds v.state.held p ≡ false
+shown-unheld v q g n p f b low here bit = false_from_ne_true (holds v.state.held p) (λ h. true≢false (sym shown ∙ in-no-pool sh pools q p b (alone h).0))
+  where
+    c : Core
+    c = f.state.core
+
+    sh : Shape
+    sh = c.shape
+
+    pools : List ℕ
+    pools = (words_of sh c.words).pools
+
+    shown : in_pool sh pools q p ≡ true
+    shown = ap (λ x. has_bit (slice_index pools (q * pool_words sh + x)) (p % 64)) here ∙ (ap (λ x. has_bit x (p % 64)) f.word ∙ bit)
+
+    within : f.index < length c.seats
+    within = slice_get_within c.seats f.index v.state f.agrees.seat
+
+    alone : holds v.state.held p ≡ true → (pool_count sh pools p ≡ 0) × (holder_count (hands c.seats) p ≡ 1)
+    alone h =
+        held-alone sh (words_of sh c.words).heads pools (hands c.seats) f.index p v.state.held
+        (record {
+          rule = f.whole.core.sound.pools;
+          seat = rw length-map within;
+          is = get_or-map (λ (t : SeatState). t.held) c.seats f.index v.state v.state.held within ∙ ap (λ (t : SeatState). t.held) (get_or_from_slice_get c.seats f.index v.state v.state f.agrees.seat);
+        })
+        (subst (λ (s : Shape). p < s.packets) f.agrees.shape low)
+        h
+
+-- the search goes on
+pub seeks-on : (q : ℕ) (v w : View) → Later v w → w.state ≡ v.state → Seeks q v → Seeks q w
+seeks-on q v w l e k =
+    record {
+      may = traces-later v w l k.may;
+      pool = k.pool;
+      reserved = ap (λ (s : SeatState). s.reserved) e ∙ k.reserved;
+      uncredited = ap (λ (s : SeatState). s.credit) e ∙ k.uncredited;
+      free = ap (λ (s : SeatState). has_free_slot s.held) e ∙ k.free;
+    }
+
+-- what is taken later in a call
+pub gains-from : (q : ℕ) (room : Bool) (h : Held) (v w u : View) → Later v w → Later w u → w.state ≡ v.state → only_moves (events v w) ≡ true → Gains q room h w u → Gains q room h v u
+gains-from q room h v w u a b e before g =
+    record {
+      unheld = ap (λ (s : SeatState). holds s.held h.packet) (sym e) ∙ g.unheld;
+      held = g.held;
+      state = g.state ∙ ap (λ (s : SeatState). record s { held = with_packet s.held h.packet h.length; reserved = false }) e;
+      range = ap (λ (s : Shape). is_in_range s q h.length) (sym a.shape) ∙ g.range;
+      roomy = λ r. subst (λ (s : Shape). h.length < s.entries) a.shape (g.roomy r);
+      got = ap (some_event (gets_from q h.packet)) (events-join v w u a.log b.log) ∙ some-right (gets_from q h.packet) (events v w) (events w u) g.got;
+      moves = ap only_moves (events-join v w u a.log b.log) ∙ moves-join (events v w) (events w u) before g.moves;
+    }
+
+-- so far in word g of pool q
+pub record WordSeeks (sh : Shape) (q : ℕ) (room : Bool) (g word p : ℕ) (v w : View) : Type 0 where
+  pub later : Later v w
+  pub state : w.state ≡ v.state
+  pub misses : Misses sh q room (64 * g) p (events v w)
+  pub shown : (x : ℕ) → x / 64 ≡ g → has_bit word (x % 64) ≡ false → seen_outside q x (events v w) ≡ true
+  pub unheld : (x : ℕ) → x < sh.packets → x / 64 ≡ g → has_bit word (x % 64) ≡ true → holds v.state.held x ≡ false
+
+pub word-starts : (sh : Shape) (q : ℕ) (room : Bool) (g n : ℕ) (v w : View) → v.shape ≡ sh → q < 4 → w ≡ after (Look q g) n v → Finds (Look q g) n v → WordSeeks sh q room g n (64 * g) v w
+word-starts sh q room g n v w shape b e f =
+    let es : events v w ≡ entry_of (Look q g) n ∷ [] = events-after v w (Look q g) n e in
+    record {
+      later = later-look v w n q g e;
+      state = ap (λ (x : View). x.state) e;
+      misses = record { all = λ x l h. absurd (omega (arith, l, h)); got = λ x t. absurd (false≢true (ap (was_got x) (sym es) ∙ t)); moves = ap only_moves es };
+      shown = λ x here clear. ap (seen_outside q x) es ∙ or_left _ _ (and_from _ _ (and_from _ _ (eq-eqb q q refl) (eq-eqb g (x / 64) (sym here))) (not_from_false _ clear));
+      unheld = λ x low here bit. shown-unheld v q g n x f b (subst (λ (s : Shape). x < s.packets) (sym shape) low) here bit;
+    }
+
+in-word : (g p : ℕ) → 64 * g ≤ p → p < 64 * g + 64 → p / 64 ≡ g
+in-word g p l h = omega (arith, l, h)
+
+pub word-next : (sh : Shape) (q : ℕ) (room : Bool) (g word p : ℕ) (v w u : View) → 64 * g ≤ p → p < 64 * g + 64 → WordSeeks sh q room g word p v w → Later w u → u.state ≡ w.state
+    → ((x : ℕ) → IsTrue (was_got x (events w u)) → IsTrue room × (x < p + 1)) → (p < sh.packets → IsTrue (has_bit word (p % 64)) → IsTrue (missed sh.entries q room p (events w u))) → only_moves (events w u) ≡ true → WordSeeks sh q room g word (p + 1) v u
+word-next sh q room g word p v w u l h k later same got miss moving =
+    let es = events-join v w u k.later.log later.log in
+    record {
+      later = later-join v w u k.later later;
+      state = same ∙ k.state;
+      misses =
+          record {
+            all =
+                λ x a b low.
+                ap (missed sh.entries q room x) es
+                ∙ ⊎_elim
+                (λ (e : x < p). missed-left sh.entries q room x (events v w) (events w u) (k.misses.all x a e low))
+                (λ (e : p ≤ x).
+                let is : p ≡ x = omega (arith, b, e) in
+                subst (λ y. missed sh.entries q room y (events v w ++ events w u) ≡ true) is (this (subst (λ y. y < sh.packets) (sym is) low) (has_bit word (p % 64)) refl))
+                (cases_lt x p);
+            got =
+                λ x e.
+                ⊎_elim
+                (λ t. let r = k.misses.got x t in let z = r.1 in (r.0, omega (arith, z)))
+                (λ t. got x t)
+                (some-parts (gets x) (events v w) (events w u) (ap (was_got x) (sym es) ∙ e));
+            moves = ap only_moves es ∙ moves-join (events v w) (events w u) k.misses.moves moving;
+          };
+      shown = λ x here clear. ap (seen_outside q x) es ∙ before-left x (shows_outside q x) (events v w) (events w u) (k.shown x here clear);
+      unheld = k.unheld;
+    }
+  where
+    this : p < sh.packets → (b : Bool) → has_bit word (p % 64) ≡ b → missed sh.entries q room p (events v w ++ events w u) ≡ true
+    this low true e = missed-right sh.entries q room p (events v w) (events w u) (ungot sh q room (64 * g) p p (events v w) k.misses (omega arith)) (miss low e)
+    this low false e = missed-left sh.entries q room p (events v w) (events w u) (or_left _ _ (or_left _ _ (k.shown p (in-word g p l h) e)))

@@ -1,0 +1,35 @@
+use Rattle.std.proofs.Common.{ℕ, ◌<◌, sym, ap, subst, arith}
+use Rattle.std.specs.Prelude.{IsFalse}
+use Rattle.mark_core.specs.Seats.{work_in_hand}
+use Rattle.mark_core.specs.declared.kinds.Shape.{Shape}
+use Rattle.gc_table.specs.declared.view.View.{View}
+use Rattle.gc_table.specs.Seats.{view_of}
+use Rattle.packet_pools.proofs.Conditions.{may-pop}
+use Rattle.packet_pools.proofs.InHand.{known-held, known-entry}
+use Rattle.packet_pools.proofs.Doing.{later-pop, traces-on, held-less}
+use Rattle.packet_pools.proofs.entries.pop.Goals as goal
+
+pub pop-cell-requires-clause-may : goal.pop-cell-requires-clause-may
+pop-cell-requires-clause-may c =
+    let v : View = view_of c.args.seat.now in
+    let h = c.requires.held in
+    let p : ℕ = c.args.held.now.packet in
+    let n : ℕ = c.args.held.now.length in
+    let some : 0 < n = let d = c.if-held-eq0.false in omega (arith, d) in
+    may-pop v p c.requires.seat.1.may h.there (known-held v.state.held p n h.known) (known-entry v.state.held p n h.known some) (subst (λ (s : Shape). IsFalse (work_in_hand s.fields v.state)) (sym c.requires.seat.0.1) c.requires.work)
+
+pub returns-clause-seat : goal.returns-clause-seat
+returns-clause-seat c =
+    let v : View = view_of c.args.seat.now in
+    let w : View = view_of c.pop-cell.new.seat in
+    let e = c.pop-cell.ensures.view.1 in
+    (c.pop-cell.ensures.seat, traces-on v w (later-pop v w _ c.args.held.now.packet e) c.requires.seat.1 (ap (λ (x : View). x.state.reserved) e) (ap (λ (x : View). x.state.credit) e))
+
+pub returns-clause-later : goal.returns-clause-later
+returns-clause-later c = later-pop (view_of c.args.seat.now) (view_of c.pop-cell.new.seat) _ c.args.held.now.packet c.pop-cell.ensures.view.1
+
+pub returns-clause-held : goal.returns-clause-held
+returns-clause-held c =
+    let v : View = view_of c.args.seat.now in
+    let e = c.pop-cell.ensures.view.1 in
+    held-less v (view_of c.pop-cell.new.seat) c.args.held.now _ c.requires.held (ap (λ (x : View). x.shape) e) (ap (λ (x : View). x.state.held) e)

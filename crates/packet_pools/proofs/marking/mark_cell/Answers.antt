@@ -1,0 +1,122 @@
+use Rattle.std.proofs.Common.{◌-◌, ◌≡◌, ◌+◌, ◌%◌, [], ◌∷◌, ◌++◌, List, refl, sym, ap, ◌∙◌, subst, Bool, true, false, not, cond}
+use mir.Val.{bool_byte}
+use Rattle.std.proofs.lemmas.Bool.{true≢false, false≢true}
+use Rattle.mark_core.specs.Bits.{has_bit}
+use Rattle.mark_core.specs.declared.kinds.Shape.{Shape}
+use Rattle.mark_core.specs.declared.kinds.Step.TheVariants.{SetMark}
+use Rattle.gc_table.specs.declared.view.Entry.{Entry}
+use Rattle.gc_table.specs.declared.view.View.{View}
+use Rattle.gc_table.specs.Seats.{view_of}
+use Rattle.packet_pools.specs.Later.{events}
+use Rattle.packet_pools.specs.Counts.{Counts}
+use Rattle.packet_pools.proofs.Log.{entry_of, events-after, events-join}
+use Rattle.packet_pools.proofs.LaterSteps.{later-join}
+use Rattle.packet_pools.proofs.Doing.{traces-on}
+use Rattle.packet_pools.proofs.ScanSteps.{may-set_mark, later-set_mark}
+use Rattle.packet_pools.proofs.Counting.{counts-join, counts-mark}
+use Rattle.packet_pools.specs.Fields.{Asks}
+use Rattle.packet_pools.proofs.Reading.{asks-join}
+use Rattle.packet_pools.proofs.Pushed.{black, white, pushes-after}
+use Rattle.packet_pools.proofs.marking.mark_cell.Goals as goal
+
+from_not : (b d : Bool) → not b ≡ not d → b ≡ d
+from_not true true e = refl
+from_not true false e = absurd (false≢true e)
+from_not false true e = absurd (true≢false e)
+from_not false false e = refl
+
+one-byte : (b : Bool) → 0 + cond b 1 0 ≡ bool_byte b
+one-byte true = refl
+one-byte false = refl
+
+one-less : (b : Bool) → 0 + cond b 0 1 ≡ 1 - bool_byte b
+one-less true = refl
+one-less false = refl
+
+pub set_mark-requires-clause-may : goal.set_mark-requires-clause-may
+set_mark-requires-clause-may c = may-set_mark (view_of c.args.seat.now) c.args.cell c.requires.seat.1.may c.requires.hand.value
+
+pub returns-then-not-set_mark-clause-seat : goal.returns-then-not-set_mark-clause-seat
+returns-then-not-set_mark-clause-seat c =
+    let v : View = view_of c.args.seat.now in
+    let w : View = view_of c.set_mark.new.seat in
+    let e = c.set_mark.ensures.view.1 in
+    (c.set_mark.ensures.seat, traces-on v w (later-set_mark v w _ c.args.cell e) c.requires.seat.1 (ap (λ (z : View). z.state.reserved) e) (ap (λ (z : View). z.state.credit) e))
+
+pub returns-then-not-set_mark-clause-later : goal.returns-then-not-set_mark-clause-later
+returns-then-not-set_mark-clause-later c = later-set_mark (view_of c.args.seat.now) (view_of c.set_mark.new.seat) _ c.args.cell c.set_mark.ensures.view.1
+
+pub returns-then-not-set_mark-clause-pushes : goal.returns-then-not-set_mark-clause-pushes
+returns-then-not-set_mark-clause-pushes c =
+    let v : View = view_of c.args.seat.now in
+    let w : View = view_of c.set_mark.new.seat in
+    let s = c.set_mark.ensures.view in
+    let bit : has_bit s.0 (c.args.cell % 64) ≡ true = from_not _ true (sym s.3 ∙ c.if-not-set_mark.true) in
+    black v w c.args.out.now c.args.cell s.0 s.1 bit c.requires.hand c.requires.out.0 c.requires.out.1
+
+pub returns-then-not-set_mark-clause-counts : goal.returns-then-not-set_mark-clause-counts
+returns-then-not-set_mark-clause-counts c =
+    let sh : Shape = c.args.heap.now.shape in
+    let v : View = view_of c.args.seat.now in
+    let w : View = view_of c.set_mark.new.seat in
+    let s = c.set_mark.ensures.view in
+    let bit : has_bit s.0 (c.args.cell % 64) ≡ true = from_not _ true (sym s.3 ∙ c.if-not-set_mark.true) in
+    subst (λ z. Counts sh z.marked (z.marked - z.overflowed) z.overflowed (events v w)) (sym c.none.ensures)
+    (subst (Counts sh 0 0 0) (sym (events-after v w (SetMark c.args.cell) s.0 s.1)) (counts-mark sh c.args.cell s.0 true bit))
+
+pub push_marked-overflowed-requires-clause-seat : goal.push_marked-overflowed-requires-clause-seat
+push_marked-overflowed-requires-clause-seat c =
+    let v : View = view_of c.args.seat.now in
+    let w : View = view_of c.set_mark.new.seat in
+    let e = c.set_mark.ensures.view.1 in
+    (c.set_mark.ensures.seat, traces-on v w (later-set_mark v w _ c.args.cell e) c.requires.seat.1 (ap (λ (z : View). z.state.reserved) e) (ap (λ (z : View). z.state.credit) e))
+
+pub push_marked-overflowed-requires-clause-hand : goal.push_marked-overflowed-requires-clause-hand
+push_marked-overflowed-requires-clause-hand c =
+    let s = c.set_mark.ensures.view in
+    white (view_of c.args.seat.now) (view_of c.set_mark.new.seat) c.args.cell s.0 s.1 (from_not _ false (sym s.3 ∙ c.if-not-set_mark.false)) c.requires.hand
+
+pub returns-clause-later : goal.returns-clause-later
+returns-clause-later c =
+    let v : View = view_of c.args.seat.now in
+    let w : View = view_of c.set_mark.new.seat in
+    later-join v w (view_of c.push_marked-overflowed.new.seat) (later-set_mark v w _ c.args.cell c.set_mark.ensures.view.1) c.push_marked-overflowed.ensures.later
+
+pub returns-clause-pushes : goal.returns-clause-pushes
+returns-clause-pushes c =
+    pushes-after (view_of c.args.seat.now) (view_of c.set_mark.new.seat) (view_of c.push_marked-overflowed.new.seat) c.args.out.now c.push_marked-overflowed.new.out c.args.cell _ c.set_mark.ensures.view.1 c.push_marked-overflowed.ensures.pushes
+
+pub returns-clause-counts : goal.returns-clause-counts
+returns-clause-counts c =
+    let sh : Shape = c.args.heap.now.shape in
+    let v : View = view_of c.args.seat.now in
+    let w : View = view_of c.set_mark.new.seat in
+    let x : View = view_of c.push_marked-overflowed.new.seat in
+    let s = c.set_mark.ensures.view in
+    let p = c.push_marked-overflowed.ensures in
+    let bit : has_bit s.0 (c.args.cell % 64) ≡ false = from_not _ false (sym s.3 ∙ c.if-not-set_mark.false) in
+    counts-join sh 1 0 1 0 _ _ 0 _ _ (entry_of (SetMark c.args.cell) s.0 ∷ []) (events w x) (events v x)
+    (events-join v w x (later-set_mark v w _ c.args.cell s.1).log p.later.log ∙ ap (λ (l : List Entry). l ++ events w x) (events-after v w _ _ s.1))
+    refl
+    (one-less c.push_marked-overflowed.result ∙ ap (λ n. 1 - n) (sym c.from.ensures))
+    (one-byte c.push_marked-overflowed.result ∙ sym c.from.ensures)
+    (counts-mark sh c.args.cell s.0 false bit)
+    p.counts
+
+pub returns-then-not-set_mark-clause-asks : goal.returns-then-not-set_mark-clause-asks
+returns-then-not-set_mark-clause-asks c =
+    let v : View = view_of c.args.seat.now in
+    let w : View = view_of c.set_mark.new.seat in
+    subst (Asks (c.args.cell ∷ [])) (sym (events-after v w (SetMark c.args.cell) _ c.set_mark.ensures.view.1)) (record { read = refl; named = refl; asked = refl })
+
+pub returns-clause-asks : goal.returns-clause-asks
+returns-clause-asks c =
+    let v : View = view_of c.args.seat.now in
+    let w : View = view_of c.set_mark.new.seat in
+    let x : View = view_of c.push_marked-overflowed.new.seat in
+    let s = c.set_mark.ensures.view in
+    let p = c.push_marked-overflowed.ensures in
+    asks-join (c.args.cell ∷ []) [] (entry_of (SetMark c.args.cell) s.0 ∷ []) (events w x) (events v x)
+    (events-join v w x (later-set_mark v w _ c.args.cell s.1).log p.later.log ∙ ap (λ (l : List Entry). l ++ events w x) (events-after v w _ _ s.1))
+    (record { read = refl; named = refl; asked = refl })
+    p.asks

@@ -1,0 +1,23 @@
+use Rattle.std.proofs.Common.{sym, subst}
+use Rattle.std.specs.Prelude.{IsTrue, ◌==◌}
+use Rattle.mark_core.specs.Held.{holds_another}
+use Rattle.gc_table.specs.declared.view.View.{View}
+use Rattle.gc_table.specs.Seats.{view_of}
+use Rattle.packet_pools.specs.declared.held.Held.{Held}
+use Rattle.packet_pools.specs.Later.{events}
+use Rattle.packet_pools.proofs.InHand.{known-held}
+use Rattle.packet_pools.proofs.Exchanged.{another-held}
+use Rattle.packet_pools.proofs.Counting.{given-moves}
+use Rattle.packet_pools.proofs.room.change.Goals as goal
+
+pub give-requires-clause-work : goal.give-requires-clause-work
+give-requires-clause-work c =
+    let v : View = view_of c.args.seat.now in
+    let k : Held = c.args.other in
+    let o = c.requires.other in
+    λ _.
+    subst (λ (h : Held). IsTrue (holds_another v.state.held h.packet)) (sym c.replace-full.ensures.value)
+    (another-held v.state.held c.args.out.now.packet k.packet o.1 (known-held v.state.held k.packet k.length o.0.known))
+
+pub returns-clause-moves : goal.returns-clause-moves
+returns-clause-moves c = given-moves c.replace-full.result.packet _ (c.replace-full.result.length == 0) (events (view_of c.args.seat.now) (view_of c.give.new.seat)) c.give.ensures.steps

@@ -1,0 +1,43 @@
+use Rattle.std.proofs.Common.{[], ◌∷◌, sym, ap, ◌∙◌, subst}
+use Rattle.gc_table.specs.declared.view.View.{View}
+use Rattle.gc_table.specs.Seats.{view_of}
+use Rattle.packet_pools.specs.declared.held.Held.{Held}
+use Rattle.packet_pools.specs.Later.{events}
+use Rattle.packet_pools.specs.Seeking.{only_moves}
+use Rattle.packet_pools.specs.Scanning.{Fills}
+use Rattle.packet_pools.proofs.Log.{events-join}
+use Rattle.packet_pools.proofs.LaterSteps.{later-join}
+use Rattle.packet_pools.proofs.Searches.{moves-join}
+use Rattle.packet_pools.proofs.Filled.{apart, fills-other, kept}
+use Rattle.packet_pools.proofs.room.change_full.Goals as goal
+
+pub change-requires-clause-out : goal.change-requires-clause-out
+change-requires-clause-out c =
+    let e = c.in-Some.ensures in
+    kept (view_of c.args.seat.now) (view_of c.take_output.new.seat) (0 ∷ 1 ∷ 2 ∷ []) c.args.out.now c.in-Some.other e.later.shape c.requires.out.0 e.some.0
+
+pub change-requires-clause-other : goal.change-requires-clause-other
+change-requires-clause-other c =
+    let e = c.in-Some.ensures in
+    (e.some.0.held, apart (view_of c.args.seat.now) (view_of c.take_output.new.seat) (0 ∷ 1 ∷ 2 ∷ []) c.args.out.now c.in-Some.other e.later.shape c.requires.out.0 e.some.0)
+
+pub returns-in-Some-clause-later : goal.returns-in-Some-clause-later
+returns-in-Some-clause-later c = later-join (view_of c.args.seat.now) (view_of c.take_output.new.seat) (view_of c.change.new.seat) c.in-Some.ensures.later c.change.ensures.later
+
+pub returns-in-Some-clause-out : goal.returns-in-Some-clause-out
+returns-in-Some-clause-out c =
+    let v : View = view_of c.args.seat.now in
+    let x : View = view_of c.change.new.seat in
+    let e = c.in-Some.ensures in
+    let f = c.change.ensures in
+    subst (λ (k : Held). Fills c.args.out.now k v x) (sym f.out)
+    (fills-other v (view_of c.take_output.new.seat) (0 ∷ 1 ∷ 2 ∷ []) c.args.out.now c.in-Some.other e.later.shape c.requires.out.0 e.some.0 x f.later.shape f.state)
+
+pub returns-in-Some-clause-moves : goal.returns-in-Some-clause-moves
+returns-in-Some-clause-moves c =
+    let v : View = view_of c.args.seat.now in
+    let w : View = view_of c.take_output.new.seat in
+    let x : View = view_of c.change.new.seat in
+    let e = c.in-Some.ensures in
+    let f = c.change.ensures in
+    ap only_moves (events-join v w x e.later.log f.later.log) ∙ moves-join (events v w) (events w x) e.some.0.moves f.moves

@@ -1,0 +1,53 @@
+use Rattle.std.proofs.Common.{ℕ, ◌≡◌, ◌+◌, ◌*◌, ◌/◌, ◌∙◌, ap, arith, subst}
+use Rattle.mark_core.specs.Held.{holds}
+use Rattle.mark_core.specs.declared.seat.SeatState.{SeatState}
+use Rattle.gc_table.specs.declared.view.View.{View}
+use Rattle.gc_table.specs.Seats.{view_of}
+use Rattle.packet_pools.specs.Later.{events}
+use Rattle.packet_pools.specs.Gains.{Misses}
+use Rattle.packet_pools.proofs.LaterSteps.{later-join}
+use Rattle.packet_pools.proofs.WordSearch.{seeks-on, gains-from, word-starts, word-next}
+use Rattle.packet_pools.proofs.seeking.take_in_word.Goals as goal
+
+pub loop-p-init : goal.loop-p-init
+loop-p-init c =
+    let v : View = view_of c.args.seat.now in
+    let l = c.look-word.ensures in
+    record { sits = l.seat; seeks = word-starts c.args.heap.now.shape c.args.q c.args.room c.args.g c.look-word.result v (view_of c.look-word.new.seat) c.requires.seat.0.1 c.requires.seat.1.pool l.view.0 l.view.1 }
+
+pub take_shown-requires-clause-seat : goal.take_shown-requires-clause-seat
+take_shown-requires-clause-seat c = let i = c.loop-p.invariant in (i.sits, seeks-on c.args.q (view_of c.args.seat.now) (view_of c.loop-p.seat) i.seeks.later i.seeks.state c.requires.seat.1)
+
+pub take_shown-requires-clause-shown : goal.take_shown-requires-clause-shown
+take_shown-requires-clause-shown c = λ there bit.
+    let k = c.loop-p.invariant.seeks in
+    let p : ℕ = c.loop-p.p in
+    let here : p / 64 ≡ c.args.g = omega (arith, c.loop-p.auto.p, c.loop-p-test.true) in
+    ap (λ (s : SeatState). holds s.held p) k.state ∙ k.unheld p there here bit
+
+pub returns-in-Some-clause-later : goal.returns-in-Some-clause-later
+returns-in-Some-clause-later c = later-join (view_of c.args.seat.now) (view_of c.loop-p.seat) (view_of c.take_shown.new.seat) c.loop-p.invariant.seeks.later c.in-Some.ensures.later
+
+pub returns-in-Some-clause-some : goal.returns-in-Some-clause-some
+returns-in-Some-clause-some c =
+    let k = c.loop-p.invariant.seeks in
+    gains-from c.args.q c.args.room c.in-Some.held (view_of c.args.seat.now) (view_of c.loop-p.seat) (view_of c.take_shown.new.seat) k.later c.in-Some.ensures.later k.state k.misses.moves c.in-Some.ensures.some
+
+pub loop-p-preserved : goal.loop-p-preserved
+loop-p-preserved c =
+    let i = c.loop-p.invariant in
+    let e = c.in_default.ensures in
+    record {
+      sits = e.seat;
+      seeks = word-next c.args.heap.now.shape c.args.q c.args.room c.args.g c.look-word.result c.loop-p.p (view_of c.args.seat.now) (view_of c.loop-p.seat) (view_of c.take_shown.new.seat) c.loop-p.auto.p c.loop-p-test.true i.seeks e.later e.none.0 e.none.1 e.none.2 e.none.3;
+    }
+
+pub returns-clause-none : goal.returns-clause-none
+returns-clause-none c =
+    let k = c.loop-p.invariant.seeks in
+    let p : ℕ = c.loop-p.p in
+    let g : ℕ = c.args.g in
+    let most = c.loop-p.auto.p-end (omega arith) in
+    let past = c.loop-p-test.false in
+    let last : p ≡ 64 * g + 64 = omega (arith, most, past) in
+    (k.state, subst (λ x. Misses c.args.heap.now.shape c.args.q c.args.room (64 * g) x (events (view_of c.args.seat.now) (view_of c.loop-p.seat))) last k.misses)

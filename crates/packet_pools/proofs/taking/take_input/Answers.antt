@@ -1,0 +1,71 @@
+use Rattle.std.specs.Prelude.{IsTrue}
+use Rattle.std.proofs.Common.{ℕ, ◌≡◌, ◌<◌, ◌*◌, ◌++◌, [], ◌∷◌, refl, sym, ap, ◌∙◌, subst, arith, false}
+use Rattle.mark_core.specs.Layout.{pool_words}
+use Rattle.mark_core.specs.declared.kinds.Shape.{Shape}
+use Rattle.mark_core.specs.declared.seat.SeatState.{SeatState}
+use Rattle.gc_table.specs.declared.view.View.{View}
+use Rattle.gc_table.specs.Seats.{view_of}
+use Rattle.packet_pools.specs.Later.{events}
+use Rattle.packet_pools.specs.Seeking.{AllMissed, NoInput, seen_outside, was_lost, was_got, only_moves}
+use Rattle.packet_pools.specs.Gains.{Gains, Misses, Takes}
+use Rattle.packet_pools.proofs.Log.{events-join}
+use Rattle.packet_pools.proofs.LaterSteps.{later-join}
+use Rattle.packet_pools.proofs.Searches.{none-got, moves-join}
+use Rattle.packet_pools.proofs.PoolSearch.{all-missed, all-left, all-right, takes-first, takes-next, two-pools}
+use Rattle.packet_pools.proofs.Choices.{if-some, if-none, seeks-from, traces-same, traces-gained, traces-either, low-some}
+use Rattle.packet_pools.proofs.taking.take_input.Goals as goal
+
+pub take_any-requires-in-None-clause-seat : goal.take_any-requires-in-None-clause-seat
+take_any-requires-in-None-clause-seat c =
+    let e = c.in-None.ensures in
+    (e.seat, seeks-from 1 (view_of c.args.seat.now) (view_of c.take_any.new.seat) (omega arith) refl e.later e.none.0 c.requires.seat.1 c.requires.free)
+
+pub returns-in-Some-clause-seat : goal.returns-in-Some-clause-seat
+returns-in-Some-clause-seat c =
+    let e = c.in-Some.ensures in
+    let t = c.requires.seat.1 in
+    (e.seat, traces-gained 2 false c.in-Some.held (view_of c.args.seat.now) (view_of c.take_any.new.seat) e.later e.some t.may t.uncredited)
+
+pub returns-in-None-clause-seat : goal.returns-in-None-clause-seat
+returns-in-None-clause-seat c =
+    let v : View = view_of c.args.seat.now in
+    let u : View = view_of c.take_any.new.seat in
+    let w : View = view_of c.take_any-in-None.new.seat in
+    let e = c.in-None.ensures in
+    let f = c.take_any-in-None.ensures in
+    (f.seat, traces-either 1 false _ c.take_any-in-None.result u w f.later (traces-same v u e.later e.none.0 c.requires.seat.1) f.some f.none)
+
+pub returns-in-None-clause-later : goal.returns-in-None-clause-later
+returns-in-None-clause-later c = later-join (view_of c.args.seat.now) (view_of c.take_any.new.seat) (view_of c.take_any-in-None.new.seat) c.in-None.ensures.later c.take_any-in-None.ensures.later
+
+pub returns-in-None-clause-some : goal.returns-in-None-clause-some
+returns-in-None-clause-some c =
+    let sh : Shape = c.args.heap.now.shape in
+    let v : View = view_of c.args.seat.now in
+    let u : View = view_of c.take_any.new.seat in
+    let w : View = view_of c.take_any-in-None.new.seat in
+    let e = c.in-None.ensures in
+    let f = c.take_any-in-None.ensures in
+    let unreserved = ap (λ (s : SeatState). s.reserved) e.none.0 ∙ c.requires.seat.1.unreserved in
+    let missed : AllMissed v.shape 2 (events v u) = subst (λ s. AllMissed s 2 (events v u)) (sym c.requires.seat.0.1) (all-missed sh 2 (events v u) e.none.1) in
+    if-some c.take_any-in-None.result (λ h. Gains 1 false h u w) (λ h. Takes (2 ∷ 1 ∷ []) h v w × (0 < h.length))
+    (λ h g. (takes-next 2 (1 ∷ []) h v u w e.later f.later e.none.0 (λ p. none-got sh 2 0 (64 * pool_words sh) p (events v u) e.none.1) missed e.none.1.moves (takes-first 1 [] false h u w unreserved g), low-some u.shape h.length g.range))
+    f.some
+
+pub returns-in-None-clause-none : goal.returns-in-None-clause-none
+returns-in-None-clause-none c =
+    let sh : Shape = c.args.heap.now.shape in
+    let v : View = view_of c.args.seat.now in
+    let u : View = view_of c.take_any.new.seat in
+    let w : View = view_of c.take_any-in-None.new.seat in
+    let e = c.in-None.ensures in
+    let f = c.take_any-in-None.ensures in
+    let got : (p : ℕ) → was_got p (events v u) ≡ false = λ p. none-got sh 2 0 (64 * pool_words sh) p (events v u) e.none.1 in
+    if-none c.take_any-in-None.result ((w.state ≡ u.state) × Misses sh 1 false 0 (64 * pool_words sh) (events u w)) ((w.state ≡ v.state) × NoInput sh (events v w) × IsTrue (only_moves (events v w)))
+    (λ n. (
+      n.0 ∙ e.none.0,
+      subst (NoInput sh) (sym (events-join v u w e.later.log f.later.log))
+          (λ p l. two-pools (seen_outside 2 p (events v u ++ events u w)) (seen_outside 1 p (events v u ++ events u w)) (was_lost p (events v u ++ events u w)) (all-left sh 2 (events v u) (events u w) (all-missed sh 2 (events v u) e.none.1) p l) (all-right sh 1 (events v u) (events u w) got (all-missed sh 1 (events u w) n.1) p l)),
+      ap only_moves (events-join v u w e.later.log f.later.log) ∙ moves-join (events v u) (events u w) e.none.1.moves n.1.moves,
+    ))
+    f.none

@@ -1,0 +1,123 @@
+use Rattle.std.specs.Prelude.{IsTrue}
+use Rattle.std.proofs.Common.{ℕ, ◌≡◌, ◌<◌, ◌*◌, ◌++◌, [], ◌∷◌, refl, sym, ap, ◌∙◌, subst, arith, true, false, List}
+use Rattle.mark_core.specs.Layout.{pool_words}
+use Rattle.mark_core.specs.declared.kinds.Shape.{Shape}
+use Rattle.mark_core.specs.declared.seat.SeatState.{SeatState}
+use Rattle.gc_table.specs.declared.view.Entry.{Entry}
+use Rattle.gc_table.specs.declared.view.View.{View}
+use Rattle.gc_table.specs.Seats.{view_of}
+use Rattle.packet_pools.specs.declared.held.Held.{Held}
+use Rattle.packet_pools.specs.Later.{events}
+use Rattle.packet_pools.specs.Seeking.{AllMissed, NoOutput, seen_outside, was_full, was_got, was_lost, only_moves}
+use Rattle.packet_pools.specs.Gains.{Gains, Misses, Takes}
+use Rattle.packet_pools.proofs.Log.{events-join}
+use Rattle.packet_pools.proofs.LaterSteps.{later-join}
+use Rattle.packet_pools.proofs.Searches.{missed-right, none-got, moves-join}
+use Rattle.packet_pools.proofs.PoolSearch.{all-missed, all-left, all-right, below-words, takes-first, takes-next, three-pools}
+use Rattle.packet_pools.proofs.Choices.{if-some, if-none, seeks-from, traces-same, traces-gained, traces-either, low-room}
+use Rattle.packet_pools.proofs.taking.take_output.Goals as goal
+
+pub returns-in-Some-take_any-clause-seat : goal.returns-in-Some-take_any-clause-seat
+returns-in-Some-take_any-clause-seat c =
+    let v : View = view_of c.args.seat.now in
+    let a : View = view_of c.take_empty.new.seat in
+    let e = c.in_default.ensures in
+    let f = c.in-Some-take_any.ensures in
+    let t = traces-same v a e.later e.none.0 c.requires.seat.1 in
+    (f.seat, traces-gained 1 false c.in-Some-take_any.held a (view_of c.take_any.new.seat) f.later f.some t.may t.uncredited)
+
+pub returns-in-Some-take_any-clause-later : goal.returns-in-Some-take_any-clause-later
+returns-in-Some-take_any-clause-later c = later-join (view_of c.args.seat.now) (view_of c.take_empty.new.seat) (view_of c.take_any.new.seat) c.in_default.ensures.later c.in-Some-take_any.ensures.later
+
+missed-in : (sh : Shape) (v : View) (q : ℕ) (es : List Entry) → v.shape ≡ sh → Misses sh q false 0 (64 * pool_words sh) es → AllMissed v.shape q es
+missed-in sh v q es shape m = subst (λ s. AllMissed s q es) (sym shape) (all-missed sh q es m)
+
+pub returns-in-Some-take_any-clause-some : goal.returns-in-Some-take_any-clause-some
+returns-in-Some-take_any-clause-some c =
+    let sh : Shape = c.args.heap.now.shape in
+    let v : View = view_of c.args.seat.now in
+    let a : View = view_of c.take_empty.new.seat in
+    let b : View = view_of c.take_any.new.seat in
+    let h : Held = c.in-Some-take_any.held in
+    let e = c.in_default.ensures in
+    let f = c.in-Some-take_any.ensures in
+    let unreserved = ap (λ (s : SeatState). s.reserved) e.none.0 ∙ c.requires.seat.1.unreserved in (
+      takes-next 0 (1 ∷ 2 ∷ []) h v a b e.later f.later e.none.0 (λ p. none-got sh 0 0 (64 * pool_words sh) p (events v a) e.none.1) (missed-in sh v 0 (events v a) c.requires.seat.0.1 e.none.1) e.none.1.moves (takes-first 1 (2 ∷ []) false h a b unreserved f.some),
+      subst (λ (s : Shape). h.length < s.entries) e.seat.0.1 (low-room a.shape h.length f.some.range),
+    )
+
+pub take_any-requires-2-clause-seat : goal.take_any-requires-2-clause-seat
+take_any-requires-2-clause-seat c =
+    let v : View = view_of c.args.seat.now in
+    let a : View = view_of c.take_empty.new.seat in
+    let b : View = view_of c.take_any.new.seat in
+    let e = c.in_default.ensures in
+    let f = c.in_default-take_any.ensures in
+    (f.seat, seeks-from 2 v b (omega arith) refl (later-join v a b e.later f.later) (f.none.0 ∙ e.none.0) c.requires.seat.1 c.requires.free)
+
+pub returns-clause-seat : goal.returns-clause-seat
+returns-clause-seat c =
+    let v : View = view_of c.args.seat.now in
+    let a : View = view_of c.take_empty.new.seat in
+    let b : View = view_of c.take_any.new.seat in
+    let e = c.in_default.ensures in
+    let f = c.in_default-take_any.ensures in
+    let g = c.take_any-2.ensures in
+    (g.seat, traces-either 2 true _ c.take_any-2.result b (view_of c.take_any-2.new.seat) g.later (traces-same v b (later-join v a b e.later f.later) (f.none.0 ∙ e.none.0) c.requires.seat.1) g.some g.none)
+
+pub returns-clause-later : goal.returns-clause-later
+returns-clause-later c =
+    let v : View = view_of c.args.seat.now in
+    let a : View = view_of c.take_empty.new.seat in
+    let b : View = view_of c.take_any.new.seat in
+    let d : View = view_of c.take_any-2.new.seat in
+    later-join v a d c.in_default.ensures.later (later-join a b d c.in_default-take_any.ensures.later c.take_any-2.ensures.later)
+
+pub returns-clause-some : goal.returns-clause-some
+returns-clause-some c =
+    let sh : Shape = c.args.heap.now.shape in
+    let v : View = view_of c.args.seat.now in
+    let a : View = view_of c.take_empty.new.seat in
+    let b : View = view_of c.take_any.new.seat in
+    let d : View = view_of c.take_any-2.new.seat in
+    let e = c.in_default.ensures in
+    let f = c.in_default-take_any.ensures in
+    let g = c.take_any-2.ensures in
+    let unreserved = ap (λ (s : SeatState). s.reserved) (f.none.0 ∙ e.none.0) ∙ c.requires.seat.1.unreserved in
+    if-some c.take_any-2.result (λ h. Gains 2 true h b d) (λ h. Takes (0 ∷ 1 ∷ 2 ∷ []) h v d × (h.length < sh.entries))
+    (λ h k. (
+      takes-next 0 (1 ∷ 2 ∷ []) h v a d e.later (later-join a b d f.later g.later) e.none.0 (λ p. none-got sh 0 0 (64 * pool_words sh) p (events v a) e.none.1) (missed-in sh v 0 (events v a) c.requires.seat.0.1 e.none.1) e.none.1.moves
+          (takes-next 1 (2 ∷ []) h a b d f.later g.later f.none.0 (λ p. none-got sh 1 0 (64 * pool_words sh) p (events a b) f.none.1) (missed-in sh a 1 (events a b) e.seat.0.1 f.none.1) f.none.1.moves (takes-first 2 [] true h b d unreserved k)),
+      subst (λ (s : Shape). h.length < s.entries) f.seat.1 (k.roomy refl),
+    ))
+    g.some
+
+pub returns-clause-none : goal.returns-clause-none
+returns-clause-none c =
+    let sh : Shape = c.args.heap.now.shape in
+    let v : View = view_of c.args.seat.now in
+    let a : View = view_of c.take_empty.new.seat in
+    let b : View = view_of c.take_any.new.seat in
+    let d : View = view_of c.take_any-2.new.seat in
+    let e = c.in_default.ensures in
+    let f = c.in_default-take_any.ensures in
+    let g = c.take_any-2.ensures in
+    let xs : List Entry = events v a in
+    let ys : List Entry = events a b in
+    let zs : List Entry = events b d in
+    let es : events v d ≡ xs ++ (ys ++ zs) = events-join v a d e.later.log (later-join a b d f.later g.later).log ∙ ap (λ l. xs ++ l) (events-join a b d f.later.log g.later.log) in
+    let no_x : (p : ℕ) → was_got p xs ≡ false = λ p. none-got sh 0 0 (64 * pool_words sh) p xs e.none.1 in
+    let no_y : (p : ℕ) → was_got p ys ≡ false = λ p. none-got sh 1 0 (64 * pool_words sh) p ys f.none.1 in
+    if-none c.take_any-2.result ((d.state ≡ b.state) × Misses sh 2 true 0 (64 * pool_words sh) zs) ((d.state ≡ v.state) × NoOutput sh (events v d) × IsTrue (only_moves (events v d)))
+    (λ n. (
+      n.0 ∙ (f.none.0 ∙ e.none.0),
+      subst (NoOutput sh) (sym es)
+          (λ p l.
+          let all : List Entry = xs ++ (ys ++ zs) in
+          three-pools (seen_outside 0 p all) (seen_outside 1 p all) (seen_outside 2 p all) (was_lost p all) (was_full sh.entries p all)
+          (all-left sh 0 xs (ys ++ zs) (all-missed sh 0 xs e.none.1) p l)
+          (all-right sh 1 xs (ys ++ zs) no_x (all-left sh 1 ys zs (all-missed sh 1 ys f.none.1)) p l)
+          (missed-right sh.entries 2 true p xs (ys ++ zs) (no_x p) (missed-right sh.entries 2 true p ys zs (no_y p) (n.1.all p (omega arith) (below-words sh p l) l)))),
+      ap only_moves es ∙ moves-join xs (ys ++ zs) e.none.1.moves (moves-join ys zs f.none.1.moves n.1.moves),
+    ))
+    g.none

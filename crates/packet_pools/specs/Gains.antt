@@ -1,0 +1,53 @@
+-- A packet that was taken, and the search for one.
+use Rattle.std.specs.Prelude.{ℕ, ◌≡◌, ◌<◌, ◌≤◌, ◌⊎◌, ◌==◌, ◌&&◌, ◌||◌, List, [], ◌∷◌, Bool, false, IsTrue, IsFalse}
+use Rattle.mark_core.specs.Held.{holds, has_free_slot}
+use Rattle.mark_core.specs.declared.kinds.Shape.{Shape}
+use Rattle.gc_table.specs.declared.view.Entry.{Entry}
+use Rattle.gc_table.specs.declared.view.View.{View}
+use Rattle.gc_table.specs.Fetching.{is_in_range}
+use Rattle.packet_pools.specs.declared.held.Held.{Held}
+use Rattle.packet_pools.specs.Later.{events}
+use Rattle.packet_pools.specs.Tracing.{traces}
+use Rattle.packet_pools.specs.Hands.{IsHeld, with_packet}
+use Rattle.packet_pools.specs.Seeking.{seen_outside, was_lost, was_full, was_got, was_got_from, AllMissed, only_moves}
+
+-- the packet came from the first of these pools that had one to take
+abbrev pub ComesFrom : Shape → List ℕ → Held → List Entry → Type 0
+ComesFrom sh [] h es = ⊥
+ComesFrom sh (q ∷ qs) h es = (IsTrue (is_in_range sh q h.length) × IsTrue (was_got_from q h.packet es)) ⊎ (AllMissed sh q es × ComesFrom sh qs h es)
+
+-- the seat took a packet that it hadn't, out of the first of these pools that had one, and nothing else of its record changed
+pub record Takes (qs : List ℕ) (h : Held) (v w : View) : Type 0 where
+  pub unheld : IsFalse (holds v.state.held h.packet)
+  pub held : IsHeld h w
+  pub state : w.state ≡ record v.state { held = with_packet v.state.held h.packet h.length }
+  pub from : ComesFrom v.shape qs h (events v w)
+  pub moves : IsTrue (only_moves (events v w))
+
+-- the seat may take packets out of pool q: the empty one with a reservation
+pub record Seeks (q : ℕ) (v : View) : Type 0 where
+  pub may : IsTrue (traces v)
+  pub pool : q < 4
+  pub reserved : v.state.reserved ≡ (q == 0)
+  pub uncredited : IsFalse v.state.credit
+  pub free : IsTrue (has_free_slot v.state.held)
+
+-- it took this one, which has room where it should
+pub record Gains (q : ℕ) (room : Bool) (h : Held) (v w : View) : Type 0 where
+  pub unheld : IsFalse (holds v.state.held h.packet)
+  pub held : IsHeld h w
+  pub state : w.state ≡ record v.state { held = with_packet v.state.held h.packet h.length; reserved = false }
+  pub range : IsTrue (is_in_range v.shape q h.length)
+  pub roomy : IsTrue room → h.length < v.shape.entries
+  pub got : IsTrue (was_got_from q h.packet (events v w))
+  pub moves : IsTrue (only_moves (events v w))
+
+-- packet p couldn't be taken out of pool q, or had no room where it should
+abbrev pub missed : ℕ → ℕ → Bool → ℕ → List Entry → Bool
+missed entries q room p es = seen_outside q p es || was_lost p es || (room && was_full entries p es)
+
+-- so it is for the packets from lo on and below hi, and no others were taken
+pub record Misses (sh : Shape) (q : ℕ) (room : Bool) (lo hi : ℕ) (es : List Entry) : Type 0 where
+  pub all : (p : ℕ) → lo ≤ p → p < hi → p < sh.packets → IsTrue (missed sh.entries q room p es)
+  pub got : (p : ℕ) → IsTrue (was_got p es) → IsTrue room × (p < hi)
+  pub moves : IsTrue (only_moves es)

@@ -1,0 +1,9 @@
+pub mod Later
+pub mod Tracing
+pub mod Hands
+pub mod Quiet
+pub mod Seeking
+pub mod Gains
+pub mod Scanning
+pub mod Counts
+pub mod Fields

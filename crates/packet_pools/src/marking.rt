@@ -1,0 +1,61 @@
+//! A cell that was loaded is marked, and goes into a packet.
+ghost use Rattle.std.specs.Prelude.{◌≡◌, ◌≤◌, ◌-◌, [], ◌∷◌, if◌then◌else◌, Some, None, IsTrue};
+ghost use Rattle.mark_core.specs.Held.{has_free_slot};
+ghost use Rattle.gc_table.specs.Seats.{Sits, view_of};
+ghost use Rattle.packet_pools.specs.Later.{Later, events};
+ghost use Rattle.packet_pools.specs.Tracing.{Traces};
+ghost use Rattle.packet_pools.specs.Hands.{IsHeld};
+ghost use Rattle.packet_pools.specs.Scanning.{InHand, Pushes};
+ghost use Rattle.packet_pools.specs.Counts.{Counts};
+ghost use Rattle.packet_pools.specs.Fields.{Asks};
+
+use crate::entries::push;
+use crate::held::{Held, PacketFull};
+use crate::room::make_room;
+use crate::scanned::Scanned;
+use gc_table::{Heap, HeapSeat};
+use mark_core::Cell;
+
+/// Pushes the cell that the seat marked. Where no packet has room it dirties the cell's card, and says true.
+fn push_marked(heap: &Heap, seat: &mut HeapSeat, out: &mut Held, cell: Cell) -> bool
+    requires seat { Sits heap.now seat.old × Traces (view_of seat.old) }
+    requires out { IsHeld out.old (view_of seat.old) × IsTrue (has_free_slot (view_of seat.old).state.held) }
+    requires hand { InHand None (Some cell) (view_of seat.old).state }
+    ensures seat { Sits heap.now seat.new × Traces (view_of seat.new) }
+    ensures later { Later (view_of seat.old) (view_of seat.new) }
+    ensures pushes { Pushes out.old out.new (view_of seat.old).state.scan (view_of seat.old).state.cleaning (view_of seat.old) (view_of seat.new) }
+    ensures counts { Counts heap.now.shape 0 (if result then 0 else 1) (if result then 1 else 0) (events (view_of seat.old) (view_of seat.new)) }
+    ensures asks { Asks [] (events (view_of seat.old) (view_of seat.new)) }
+{
+    make_room(heap, seat, out);
+    match push(heap, seat, out, cell) {
+        Ok(()) => false,
+        Err(PacketFull) => {
+            heap.dirty_card(seat, cell.number() / 16);
+            true
+        }
+    }
+}
+
+/// Marks the cell that the seat loaded, and pushes it where it was white. The seat holds at most three packets, and the packet may be changed as
+/// [`scan_cell`](crate::scan_cell) says.
+pub fn mark_cell(heap: &Heap, seat: &mut HeapSeat, out: &mut Held, cell: Cell) -> Scanned
+    requires seat { Sits heap.now seat.old × Traces (view_of seat.old) }
+    requires out { IsHeld out.old (view_of seat.old) × IsTrue (has_free_slot (view_of seat.old).state.held) }
+    requires hand { InHand (Some cell) None (view_of seat.old).state }
+    ensures seat { Sits heap.now seat.new × Traces (view_of seat.new) }
+    ensures later { Later (view_of seat.old) (view_of seat.new) }
+    ensures pushes { Pushes out.old out.new (view_of seat.old).state.scan (view_of seat.old).state.cleaning (view_of seat.old) (view_of seat.new) }
+    ensures most { (result.overflowed ≤ result.marked) × (result.marked ≤ 1) }
+    ensures counts { Counts heap.now.shape result.marked (result.marked - result.overflowed) result.overflowed (events (view_of seat.old) (view_of seat.new)) }
+    ensures asks { Asks (cell ∷ []) (events (view_of seat.old) (view_of seat.new)) }
+{
+    if !heap.set_mark(seat, cell) {
+        return Scanned::none();
+    }
+    let overflowed = push_marked(heap, seat, out, cell);
+    Scanned {
+        marked: 1,
+        overflowed: u32::from(overflowed),
+    }
+}

@@ -1,0 +1,103 @@
+//! Objects are scanned: what they refer to is marked, and goes into packets.
+ghost use Rattle.std.specs.Prelude.{◌≡◌, ◌<◌, ◌≤◌, ◌+◌, ◌-◌, [], ◌∷◌, Some, None, IsTrue, IsFalse};
+ghost use Rattle.mark_core.specs.ColourSteps.{may_read_field, without_cell};
+ghost use Rattle.mark_core.specs.Held.{has_free_slot};
+ghost use Rattle.mark_core.specs.Seats.{cleaning_left, may_scan, scan_left, work_in_hand};
+ghost use Rattle.gc_table.specs.Seats.{Sits, view_of};
+ghost use Rattle.packet_pools.specs.Later.{Later, events};
+ghost use Rattle.packet_pools.specs.Tracing.{Traces};
+ghost use Rattle.packet_pools.specs.Hands.{IsHeld};
+ghost use Rattle.packet_pools.specs.Scanning.{InHand, Pushes, scan_end, cleaning_end};
+ghost use Rattle.packet_pools.specs.Counts.{Counts};
+ghost use Rattle.packet_pools.specs.Fields.{Follows, fields_from, fields_left};
+
+use crate::held::Held;
+use crate::marking::mark_cell;
+use crate::scanned::Scanned;
+use gc_table::{Heap, HeapSeat};
+use mark_core::{Cell, cell_of};
+
+/// Reads field i of the cell in scan, or the first field of a cell left in cleaning, and marks what it refers to.
+fn scan_field(heap: &Heap, seat: &mut HeapSeat, out: &mut Held, cell: Cell, i: u8) -> Scanned
+    requires seat { Sits heap.now seat.old × Traces (view_of seat.old) }
+    requires out { IsHeld out.old (view_of seat.old) × IsTrue (has_free_slot (view_of seat.old).state.held) }
+    requires hand { InHand None None (view_of seat.old).state }
+    requires field { (i < heap.now.shape.fields) × IsTrue (may_read_field heap.now.shape (view_of seat.old).state cell i) }
+    ensures seat { Sits heap.now seat.new × Traces (view_of seat.new) }
+    ensures later { Later (view_of seat.old) (view_of seat.new) }
+    ensures pushes { Pushes out.old out.new (Some (cell, i + 1)) (without_cell (view_of seat.old).state.cleaning cell) (view_of seat.old) (view_of seat.new) }
+    ensures most { (result.overflowed ≤ result.marked) × (result.marked ≤ 1) }
+    ensures counts { Counts heap.now.shape result.marked (result.marked - result.overflowed) result.overflowed (events (view_of seat.old) (view_of seat.new)) }
+    ensures follows { Follows ((cell, i) ∷ []) (events (view_of seat.old) (view_of seat.new)) }
+{
+    let word = heap.read_field(seat, cell, i);
+    if word == 0 {
+        return Scanned::none();
+    }
+    mark_cell(heap, seat, out, cell_of(word))
+}
+
+/// The fields from this one on.
+fn scan_fields(heap: &Heap, seat: &mut HeapSeat, out: &mut Held, cell: Cell, next: u8) -> Scanned
+    requires seat { Sits heap.now seat.old × Traces (view_of seat.old) }
+    requires out { IsHeld out.old (view_of seat.old) × IsTrue (has_free_slot (view_of seat.old).state.held) }
+    requires hand { InHand None None (view_of seat.old).state }
+    requires scan { (view_of seat.old).state.scan ≡ Some (cell, next) }
+    ensures seat { Sits heap.now seat.new × Traces (view_of seat.new) }
+    ensures later { Later (view_of seat.old) (view_of seat.new) }
+    ensures pushes { Pushes out.old out.new (scan_end heap.now.shape.fields (Some (cell, next))) (cleaning_end heap.now.shape.fields (Some (cell, next)) (view_of seat.old).state.cleaning) (view_of seat.old) (view_of seat.new) }
+    ensures most { (result.overflowed ≤ result.marked) × (result.marked ≤ heap.now.shape.fields - next) }
+    ensures counts { Counts heap.now.shape result.marked (result.marked - result.overflowed) result.overflowed (events (view_of seat.old) (view_of seat.new)) }
+    ensures follows { Follows (fields_from cell next (heap.now.shape.fields - next)) (events (view_of seat.old) (view_of seat.new)) }
+{
+    let mut scanned = Scanned::none();
+    for i in next..heap.shape().fields as u8 {
+        let one = scan_field(heap, seat, out, cell, i);
+        scanned.marked += one.marked;
+        scanned.overflowed += one.overflowed;
+    }
+    scanned
+}
+
+/// Scans what is left of the seat's object in scan: reads each field, marks what it refers to, and pushes what was white.
+///
+/// The seat holds at most three packets. A full one goes back once another was taken, which then is the one in hand.
+/// Where no packet has room the marked cell's card is dirtied.
+pub fn scan_cell(heap: &Heap, seat: &mut HeapSeat, out: &mut Held) -> Scanned
+    requires seat { Sits heap.now seat.old × Traces (view_of seat.old) }
+    requires out { IsHeld out.old (view_of seat.old) × IsTrue (has_free_slot (view_of seat.old).state.held) }
+    requires hand { InHand None None (view_of seat.old).state }
+    ensures seat { Sits heap.now seat.new × Traces (view_of seat.new) }
+    ensures later { Later (view_of seat.old) (view_of seat.new) }
+    ensures pushes { Pushes out.old out.new (scan_end heap.now.shape.fields (view_of seat.old).state.scan) (cleaning_end heap.now.shape.fields (view_of seat.old).state.scan (view_of seat.old).state.cleaning) (view_of seat.old) (view_of seat.new) }
+    ensures work { IsFalse (cleaning_left (view_of seat.old).state.cleaning) → IsFalse (work_in_hand heap.now.shape.fields (view_of seat.new).state) }
+    ensures most { (result.overflowed ≤ result.marked) × (result.marked ≤ heap.now.shape.fields) }
+    ensures counts { Counts heap.now.shape result.marked (result.marked - result.overflowed) result.overflowed (events (view_of seat.old) (view_of seat.new)) }
+    ensures follows { Follows (fields_left heap.now.shape.fields (view_of seat.old).state.scan) (events (view_of seat.old) (view_of seat.new)) }
+{
+    match seat.state().scan {
+        None => Scanned::none(),
+        Some((cell, next)) => scan_fields(heap, seat, out, cell, next),
+    }
+}
+
+/// Scans a cell that is left in the seat's cleaning, in the same way.
+pub fn scan_again(heap: &Heap, seat: &mut HeapSeat, out: &mut Held, cell: Cell) -> Scanned
+    requires seat { Sits heap.now seat.old × Traces (view_of seat.old) }
+    requires out { IsHeld out.old (view_of seat.old) × IsTrue (has_free_slot (view_of seat.old).state.held) }
+    requires hand { InHand None None (view_of seat.old).state }
+    requires left { IsTrue (may_scan (view_of seat.old).state.cleaning cell) × IsFalse (scan_left heap.now.shape.fields (view_of seat.old).state.scan) }
+    ensures seat { Sits heap.now seat.new × Traces (view_of seat.new) }
+    ensures later { Later (view_of seat.old) (view_of seat.new) }
+    ensures pushes { Pushes out.old out.new (Some (cell, heap.now.shape.fields)) (without_cell (view_of seat.old).state.cleaning cell) (view_of seat.old) (view_of seat.new) }
+    ensures most { (result.overflowed ≤ result.marked) × (result.marked ≤ heap.now.shape.fields) }
+    ensures counts { Counts heap.now.shape result.marked (result.marked - result.overflowed) result.overflowed (events (view_of seat.old) (view_of seat.new)) }
+    ensures follows { Follows (fields_from cell 0 heap.now.shape.fields) (events (view_of seat.old) (view_of seat.new)) }
+{
+    let first = scan_field(heap, seat, out, cell, 0);
+    let rest = scan_fields(heap, seat, out, cell, 1);
+    Scanned {
+        marked: first.marked + rest.marked,
+        overflowed: first.overflowed + rest.overflowed,
+    }
+}

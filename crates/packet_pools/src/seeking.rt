@@ -1,0 +1,96 @@
+//! A packet is looked for in one pool.
+ghost use Rattle.std.specs.Prelude.{ℕ, ◌≡◌, ◌<◌, ◌+◌, ◌*◌, ◌/◌, ◌%◌, IsTrue, IsFalse, IfSome, IfNone};
+ghost use Rattle.mark_core.specs.Bits.{has_bit as has_bit_of};
+ghost use Rattle.mark_core.specs.Held.{holds};
+ghost use Rattle.mark_core.specs.Layout.{pool_words};
+ghost use Rattle.gc_table.specs.Seats.{Sits, view_of};
+ghost use Rattle.packet_pools.specs.Later.{Later, events};
+ghost use Rattle.packet_pools.specs.Seeking.{only_moves, was_got};
+ghost use Rattle.packet_pools.specs.Gains.{Gains, Misses, Seeks, missed};
+
+use crate::giving::give;
+use crate::held::Held;
+use gc_table::{Heap, HeapSeat};
+use mark_core::has_bit;
+
+/// Takes packet p out of pool q, unless another seat is first. Where it should have room and has none, it goes back.
+fn take_packet(heap: &Heap, seat: &mut HeapSeat, q: u8, p: u32, room: bool) -> Option<Held>
+    requires seat { Sits heap.now seat.old × Seeks q (view_of seat.old) }
+    requires packet { (p < heap.now.shape.packets) × IsFalse (holds (view_of seat.old).state.held p) }
+    requires high { IsTrue room → q ≡ 2 }
+    ensures seat { Sits heap.now seat.new }
+    ensures later { Later (view_of seat.old) (view_of seat.new) }
+    ensures some { IfSome result (λ h. Gains q room h (view_of seat.old) (view_of seat.new)) }
+    ensures none { IfNone result (((view_of seat.new).state ≡ (view_of seat.old).state) × Misses heap.now.shape q room p (p + 1) (events (view_of seat.old) (view_of seat.new))) }
+{
+    if !heap.take(seat, q, p) {
+        return None;
+    }
+    let length = heap.read_length(seat, p);
+    let held = Held { packet: p, length };
+    if room && length == heap.shape().entries {
+        give(heap, seat, held, false);
+        return None;
+    }
+    Some(held)
+}
+
+/// The same, where the bit of packet p is set in this word of the pool.
+fn take_shown(
+    heap: &Heap,
+    seat: &mut HeapSeat,
+    q: u8,
+    p: u32,
+    word: u64,
+    room: bool,
+) -> Option<Held>
+    requires seat { Sits heap.now seat.old × Seeks q (view_of seat.old) }
+    requires shown { p < heap.now.shape.packets → IsTrue (has_bit_of word (p % 64)) → IsFalse (holds (view_of seat.old).state.held p) }
+    requires high { IsTrue room → q ≡ 2 }
+    ensures seat { Sits heap.now seat.new }
+    ensures later { Later (view_of seat.old) (view_of seat.new) }
+    ensures some { IfSome result (λ h. Gains q room h (view_of seat.old) (view_of seat.new)) }
+    ensures none { IfNone result (((view_of seat.new).state ≡ (view_of seat.old).state) × ((x : ℕ) → IsTrue (was_got x (events (view_of seat.old) (view_of seat.new))) → IsTrue room × (x < p + 1)) × (p < heap.now.shape.packets → IsTrue (has_bit_of word (p % 64)) → IsTrue (missed heap.now.shape.entries q room p (events (view_of seat.old) (view_of seat.new)))) × IsTrue (only_moves (events (view_of seat.old) (view_of seat.new)))) }
+{
+    if p < heap.shape().packets && has_bit(word, p % 64) {
+        take_packet(heap, seat, q, p, room)
+    } else {
+        None
+    }
+}
+
+/// Takes a packet whose bit is in word g of pool q.
+fn take_in_word(heap: &Heap, seat: &mut HeapSeat, q: u8, g: u32, room: bool) -> Option<Held>
+    requires seat { Sits heap.now seat.old × Seeks q (view_of seat.old) }
+    requires word { g < pool_words heap.now.shape }
+    requires high { IsTrue room → q ≡ 2 }
+    ensures seat { Sits heap.now seat.new }
+    ensures later { Later (view_of seat.old) (view_of seat.new) }
+    ensures some { IfSome result (λ h. Gains q room h (view_of seat.old) (view_of seat.new)) }
+    ensures none { IfNone result (((view_of seat.new).state ≡ (view_of seat.old).state) × Misses heap.now.shape q room (64 * g) (64 * g + 64) (events (view_of seat.old) (view_of seat.new))) }
+{
+    let word = heap.look(seat, q, g);
+    for p in 64 * g..64 * g + 64 {
+        if let Some(held) = take_shown(heap, seat, q, p, word, room) {
+            return Some(held);
+        }
+    }
+    None
+}
+
+/// Takes a packet out of pool q. Where it should have room, full ones go back. None comes only where each packet was seen outside the pool, was lost, or had no room.
+pub(crate) fn take_any(heap: &Heap, seat: &mut HeapSeat, q: u8, room: bool) -> Option<Held>
+    requires seat { Sits heap.now seat.old × Seeks q (view_of seat.old) }
+    requires high { IsTrue room → q ≡ 2 }
+    ensures seat { Sits heap.now seat.new }
+    ensures later { Later (view_of seat.old) (view_of seat.new) }
+    ensures some { IfSome result (λ h. Gains q room h (view_of seat.old) (view_of seat.new)) }
+    ensures none { IfNone result (((view_of seat.new).state ≡ (view_of seat.old).state) × Misses heap.now.shape q room 0 (64 * pool_words heap.now.shape) (events (view_of seat.old) (view_of seat.new))) }
+{
+    for g in 0..heap.shape().packets.div_ceil(64) {
+        if let Some(held) = take_in_word(heap, seat, q, g, room) {
+            return Some(held);
+        }
+    }
+    None
+}
