@@ -1,0 +1,48 @@
+#!/bin/sh
+# Times the steps of bench_table beside the same operations on bare atomic words, and prints the ratio of each.
+# From the top of the repository: sh bench/table.sh [RUNS]. The least time of so many runs counts, 40 if no number is given.
+# What a run takes besides the steps, the making and closing of heaps, is timed alone and taken off.
+set -eu
+cd "$(dirname "$0")/.."
+runs=${1:-40}
+program=crates/bench_table/out/bench_table
+bare=${TMPDIR:-/tmp}/bench_atomics.$$
+trap 'rm -f "$bare"' EXIT
+
+(cd crates/bench_table && rt run >/dev/null 2>&1)
+g++ -O2 -o "$bare" bench/atomics.cpp
+
+# The nanoseconds of one run: a program, what it does, and how many rounds.
+once() {
+    before=$(date +%s%N)
+    "$1" "$2" "$3" >/dev/null
+    after=$(date +%s%N)
+    echo $((after - before))
+}
+
+# The lesser of two numbers, where the first may be missing.
+lesser() {
+    if [ -z "$1" ] || [ "$2" -lt "$1" ]; then echo "$2"; else echo "$1"; fi
+}
+
+# A line of the table: its name, what is done, its rounds, what is taken off, its rounds, and the operations of a round.
+line() {
+    ours='' ours_off='' theirs='' theirs_off=''
+    run=0
+    while [ "$run" -lt "$runs" ]; do
+        ours=$(lesser "$ours" "$(once "$program" "$2" "$3")")
+        theirs=$(lesser "$theirs" "$(once "$bare" "$2" "$3")")
+        ours_off=$(lesser "$ours_off" "$(once "$program" "$4" "$5")")
+        theirs_off=$(lesser "$theirs_off" "$(once "$bare" "$4" "$5")")
+        run=$((run + 1))
+    done
+    awk -v name="$1" -v ours=$((ours - ours_off)) -v theirs=$((theirs - theirs_off)) -v count=$(($3 * $6)) 'BEGIN {
+        printf "%-28s %8.2f %8.2f %8.2f\n", name, ours / count, theirs / count, ours / theirs }'
+}
+
+printf '%-28s %8s %8s %8s\n' 'operation' 'table' 'bare' 'ratio'
+line 'load of the count' load 60000000 load 0 1
+line 'load of a card' look 30000000 load 0 1
+line 'store of a card' store 5000000 load 0 1
+line 'fetch of the count' fetch 3000000 load 0 2
+line 'cell made' make 100 open 100 4096

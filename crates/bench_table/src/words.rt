@@ -1,0 +1,62 @@
+//! What the words of the command line ask for.
+
+/// What is done many times.
+#[derive(Clone, Copy, Drop)]
+pub enum Work {
+    /// One load.
+    Load,
+    /// One load, of a word that is found by its number.
+    Look,
+    /// One store, in the same way.
+    Store,
+    /// Two fetches: one from a counter is taken, and given back.
+    Fetch,
+    /// A heap is made, cells are made in all its blocks, and it is closed.
+    Make,
+    /// The same with no cell.
+    Open,
+}
+
+impl Work {
+    pub fn name(&self) -> &'static str {
+        match *self {
+            Work::Load => "load",
+            Work::Look => "look",
+            Work::Store => "store",
+            Work::Fetch => "fetch",
+            Work::Make => "make",
+            Work::Open => "open",
+        }
+    }
+}
+
+/// What is done, and how many times.
+#[derive(Drop)]
+pub struct Asked {
+    pub work: Work,
+    pub rounds: u64,
+}
+
+fn work_named(name: &str) -> Option<Work> {
+    match name {
+        "load" => Some(Work::Load),
+        "look" => Some(Work::Look),
+        "store" => Some(Work::Store),
+        "fetch" => Some(Work::Fetch),
+        "make" => Some(Work::Make),
+        "open" => Some(Work::Open),
+        _ => None,
+    }
+}
+
+/// What two words ask for, or nothing.
+pub fn asked_by(words: &[String]) -> Option<Asked> {
+    let [name, rounds] = words else {
+        return None;
+    };
+    let work = work_named(name.as_str())?;
+    match rounds.as_str().parse::<u64>() {
+        Ok(rounds) => Some(Asked { work, rounds }),
+        Err(_) => None,
+    }
+}

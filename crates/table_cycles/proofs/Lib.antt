@@ -1,0 +1,4 @@
+pub mod Stepping
+pub mod Noted
+pub mod Making
+pub mod Owned

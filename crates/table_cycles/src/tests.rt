@@ -1,0 +1,26 @@
+//! The seats 0 and 1 of a heap take steps in turn.
+mod barrier;
+mod blocks;
+mod cells;
+mod checks;
+mod claims;
+mod packets;
+mod seasons;
+mod seats;
+mod slots;
+mod world;
+
+use mark_core::Shape;
+
+const SMALL: Shape = Shape {
+    cells: 64,
+    packets: 2,
+    entries: 2,
+    sections: 2,
+    fields: 4,
+};
+
+// So many words, all 0.
+fn are_zero(words: &[u64], count: usize) -> bool {
+    words.len() == count && words.iter().all(|x| *x == 0)
+}

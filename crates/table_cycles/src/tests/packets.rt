@@ -1,0 +1,148 @@
+//! The pool of empty packets, one more than fit into a word of it.
+ghost use Rattle.table_cycles.specs.Ready.{Ready};
+
+use super::are_zero;
+use super::checks::{is_marking, work_in_hand};
+use super::seats::{close, open};
+use super::slots::{has_free_slot, has_length, holds, is_stored};
+use super::world::{both_mark, leave};
+use gc_table::{Heap, HeapSeat, Words};
+use mark_core::{Phase, Shape};
+use std::alloc::Global;
+
+const WIDE: Shape = Shape {
+    cells: 64,
+    packets: 65,
+    entries: 2,
+    sections: 2,
+    fields: 4,
+};
+
+/// The second word of the empty pool.
+fn second_word(heap: &Heap, seat: &mut HeapSeat) -> Option<u64>
+    requires { Ready heap.now seat.old }
+    ensures { Ready heap.now seat.new }
+{
+    if heap.shape().packets == 65 {
+        Some(heap.look(seat, 0, 1))
+    } else {
+        None
+    }
+}
+
+/// Reserves an empty packet: true where the seat marks.
+fn reserve(heap: &Heap, seat: &mut HeapSeat) -> bool
+    requires { Ready heap.now seat.old }
+    ensures { Ready heap.now seat.new }
+{
+    if is_marking(seat) && !seat.state().reserved && !seat.state().credit {
+        heap.reserve(seat);
+        true
+    } else {
+        false
+    }
+}
+
+/// Takes the last packet: true where it was there.
+fn take_last(heap: &Heap, seat: &mut HeapSeat) -> bool
+    requires { Ready heap.now seat.old }
+    ensures { Ready heap.now seat.new }
+{
+    let held = seat.state().held;
+    if heap.shape().packets == 65
+        && is_marking(seat)
+        && !holds(held, 64)
+        && has_free_slot(held)
+        && seat.state().reserved
+    {
+        heap.take(seat, 0, 64)
+    } else {
+        false
+    }
+}
+
+/// Whether the last packet, which the seat took, is empty.
+fn is_empty(heap: &Heap, seat: &mut HeapSeat) -> bool
+    requires { Ready heap.now seat.old }
+    ensures { Ready heap.now seat.new }
+{
+    let held = seat.state().held;
+    heap.shape().packets == 65
+        && holds(held, 64)
+        && !has_length(held, 64)
+        && heap.read_length(seat, 64) == 0
+}
+
+/// Gives the last packet back, and counts it: true where the seat had it, and no work in hand.
+fn give_last(heap: &Heap, seat: &mut HeapSeat) -> bool
+    requires { Ready heap.now seat.old }
+    ensures { Ready heap.now seat.new }
+{
+    let held = seat.state().held;
+    if heap.shape().packets == 65
+        && holds(held, 64)
+        && has_length(held, 64)
+        && is_stored(held, 64)
+        && !work_in_hand(heap.shape().fields, seat)
+        && !seat.state().credit
+        && !seat.state().reserved
+    {
+        heap.give(seat, 64, false);
+        true
+    } else {
+        false
+    }
+}
+
+/// Counts the packet that the seat gave back.
+fn credit(heap: &Heap, seat: &mut HeapSeat) -> bool
+    requires { Ready heap.now seat.old }
+    ensures { Ready heap.now seat.new }
+{
+    if seat.state().credit {
+        heap.credit(seat);
+        true
+    } else {
+        false
+    }
+}
+
+/// Packet 64 is the one bit of the second word, until it is taken and when it is back.
+fn takes(heap: &Heap, zero: &mut HeapSeat, one: &mut HeapSeat) -> bool
+    requires zero { Ready heap.now zero.old }
+    requires one { Ready heap.now one.old }
+    ensures zero { Ready heap.now zero.new }
+    ensures one { Ready heap.now one.new }
+{
+    second_word(heap, one) == Some(1)
+        && both_mark(heap, zero, one)
+        && reserve(heap, one)
+        && take_last(heap, one)
+        && second_word(heap, one) == Some(0)
+        && is_empty(heap, one)
+        && give_last(heap, one)
+        && second_word(heap, one) == Some(1)
+        && credit(heap, one)
+        && leave(heap, zero)
+        && leave(heap, one)
+}
+
+fn taken(alloc: Global) -> Option<Words> {
+    let (heap, mut zero, mut one) = open(alloc, WIDE)?;
+    if takes(&heap, &mut zero, &mut one) {
+        close(alloc, heap, zero, one)
+    } else {
+        None
+    }
+}
+
+#[test]
+fn last_packet(rt: HostRuntime) {
+    let Some(words) = taken(rt.alloc()) else {
+        panic!(&rt; "a step")
+    };
+    assert!(&rt; words.phase == Phase::Marking && words.named == 0, "phase");
+    assert!(&rt; are_zero(words.alloc.as_slice(), 1), "allocation bits");
+    assert!(&rt; are_zero(words.idents.as_slice(), 64), "identities");
+    assert!(&rt; are_zero(words.roots.as_slice(), 64), "roots");
+}
