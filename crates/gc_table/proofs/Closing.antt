@@ -31,6 +31,7 @@ use Rattle.gc_table.specs.declared.view.SectionState.{SectionState}
 use Rattle.gc_table.specs.Whole.{Whole, whole_after}
 use Rattle.gc_table.specs.Rule.{records_from, whole_of, IsState, HasJoined, Agrees, Holds, IsFinal, nobody, own_entry, takes_in}
 use Rattle.gc_table.proofs.Asking.{own-number}
+use Rattle.gc_table.proofs.Joining.{both-noted}
 use Rattle.gc_table.proofs.Opening.{none-in, record-at, still-sections, zero-plus}
 use Rattle.gc_table.proofs.Records.{record-live, records-set, found-here, found-else}
 use Rattle.gc_table.proofs.WholeSteps.{Goes, event, sections-left}
@@ -127,8 +128,8 @@ joins sh plan id v other w live bare live' bare' second s o me apart there' =
           (λ (i : Contains w.joined (k, y)). joined w b.joined k y i)
           (Contains-append_cases (own_entry w.state.section w.own) w.joined (k, y) i))
           (Contains-append_cases v.joined (own_entry w.state.section w.own ++ w.joined) (k, y) i) in
-          subst (λ (z : View). Agrees left j z) q.1 (record { shape = a.shape; seat = seat ∙ ap (λ (z : View). Some z.state) (sym q.1); noted = a.noted; floored = a.floored; fetched = a.fetched; plan = a.plan; own = a.own; joined = mine }))
-          (λ (q : (j ≢ id) × (get_elem? s.views j ≡ some u)). let z = o.each j u q.1 l in record { shape = z.shape; seat = seat; noted = z.noted; floored = z.floored; fetched = z.fetched; plan = z.plan; own = z.own; joined = joined u z.joined })
+          subst (λ (z : View). Agrees left j z) q.1 (record { shape = a.shape; seat = seat ∙ ap (λ (z : View). Some z.state) (sym q.1); noted = both-noted x.core v w a.noted b.noted; floored = a.floored; fetched = a.fetched; stopped = a.stopped; plan = a.plan; own = a.own; joined = mine }))
+          (λ (q : (j ≢ id) × (get_elem? s.views j ≡ some u)). let z = o.each j u q.1 l in record { shape = z.shape; seat = seat; noted = z.noted; floored = z.floored; fetched = z.fetched; stopped = z.stopped; plan = z.plan; own = z.own; joined = joined u z.joined })
           (at_set s.views id j both u p.1))
           (at_set (set s.views id both) other j nobody u h);
       opened = λ u h.

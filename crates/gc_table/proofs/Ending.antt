@@ -1,5 +1,5 @@
 -- A closed heap is in a state in which each section is as its own seat left it, and of the seats with sections only the first is left.
-use Rattle.std.proofs.Common.{ℕ, ◌≡◌, ◌<◌, List, length, Option, Some, None, inl, inr, ⊎_elim, sym, ap, ◌∙◌, subst}
+use Rattle.std.proofs.Common.{ℕ, ◌≡◌, ◌<◌, List, length, Option, Some, None, inl, inr, ⊎_elim, sym, ap, ◌∙◌, subst, arith}
 use Rattle.std.specs.Prelude.{slice_get, nat_lt, if◌then◌else◌, Contains}
 use Rattle.std.proofs.Math.Logic.{∥∥₁_elim}
 use Rattle.std.proofs.Props.{props}
@@ -7,7 +7,14 @@ use Rattle.mark_core.specs.Layout.{region_sizes, total_words}
 use Rattle.mark_core.specs.Start.{spent_seat}
 use Rattle.mark_core.specs.declared.kinds.Shape.{Shape}
 use Rattle.mark_core.specs.declared.seat.SeatState.{SeatState}
-use Rattle.gc_table.specs.Rule.{IsPossible, IsFinal, HasSection}
+use Rattle.gc_table.specs.Rule.{IsPossible, IsFinal, HasSection, KnowsFull}
+use Rattle.std.proofs.lemmas.List.{get_or-take}
+use Rattle.mark_core.specs.Notes.{word_at}
+use Rattle.mark_core.specs.Places.{the_phase}
+use Rattle.mark_core.specs.Seats.{phase_of}
+use Rattle.mark_core.specs.Layout.{words_of}
+use Rattle.mark_core.specs.declared.kinds.Phase.{Phase}
+use Rattle.mark_core.specs.declared.kinds.Phase.TheVariants.{Full}
 use Rattle.gc_table.specs.Seats.{view_of, IsOutside}
 use Rattle.gc_table.specs.Ends.{AreWords, IsResting, IsEnd}
 use Rattle.gc_table.specs.declared.view.View.{View}
@@ -37,6 +44,17 @@ IsFirst seats v = (s : HeapSeat) → slice_get seats 0 ≡ Some s → (v.state �
 abbrev pub HasAll : List HeapSeat → View → Type 0
 HasAll seats v = (i : ℕ) (s : HeapSeat) (k : ℕ) → slice_get seats i ≡ Some s → (view_of s).state.section ≡ Some k → HasSection v k (view_of s).own
 
+abbrev pub TellsFull : List HeapSeat → View → Type 0
+TellsFull seats v = (i : ℕ) (s : HeapSeat) → slice_get seats i ≡ Some s → KnowsFull (view_of s) → KnowsFull v
+
+-- where the last seat knows that the heap was found full, it is
+found_full : (sh : Shape) (v : View) (ws : List ℕ) (w : Words) (f : IsFinal v ws) → f.state.core.shape ≡ sh → AreWords sh f.state.core.words w → KnowsFull v → w.phase ≡ Full
+found_full sh v ws w f same words k =
+    let c = f.state.core in
+    let at : word_at c.shape c.words the_phase ≡ 5 = (f.agrees.noted the_phase 5 k).1 in
+    let read : (words_of sh c.words).phase ≡ 5 = sym (get_or-take 11 c.words 1 0 (omega arith)) ∙ at in
+    words.phase ∙ ap phase_of read
+
 pub final-shape : (sh : Shape) (v : View) (ws : List ℕ) (f : IsFinal v ws) → v.shape ≡ sh → f.state.core.shape ≡ sh
 final-shape sh v ws f shaped = sym f.agrees.shape ∙ shaped
 
@@ -64,8 +82,8 @@ at_rest seats v ws f k x r z got h =
     (λ (i : Contains v.joined (k, x)). inl (ap (λ (t : SeatState). t.spent) (same-got c.seats k r (spent_seat c.shape k) got (f.agrees.joined k x i).1)))
     h
 
-pub ends : (sh : Shape) (seats : List HeapSeat) (v : View) (ws : List ℕ) (w : Words) → 0 < length seats → AreGiven sh seats → v.shape ≡ sh → IsFirst seats v → HasAll seats v → IsFinal v ws → AreWords sh ws w → IsEnd sh seats w
-ends sh seats v ws w some given shaped first all f words =
+pub ends : (sh : Shape) (seats : List HeapSeat) (v : View) (ws : List ℕ) (w : Words) → 0 < length seats → AreGiven sh seats → v.shape ≡ sh → IsFirst seats v → HasAll seats v → TellsFull seats v → IsFinal v ws → AreWords sh ws w → IsEnd sh seats w
+ends sh seats v ws w some given shaped first all tells f words =
     let c = f.state.core in
     let same : c.shape ≡ sh = final-shape sh v ws f shaped in
     record {
@@ -74,6 +92,7 @@ ends sh seats v ws w some given shaped first all f words =
       shape = same;
       plan = λ s h. sym f.agrees.plan ∙ (first s h).1;
       words = subst (λ (xs : List ℕ). AreWords sh xs w) (sym f.words) words;
+      full = λ i s h k. found_full sh v ws w f same (subst (λ (xs : List ℕ). AreWords sh xs w) (sym f.words) words) (tells i s h k);
       sections = λ i s k h e. section_left v ws f k (view_of s).own (all i s k h e);
       resting = λ j r k l got e.
           let seat = some-at seats j l in

@@ -40,6 +40,14 @@ use Rattle.mark_core.specs.Held.{holds, has_length}
 use Rattle.mark_core.specs.Places.{head_at}
 use Rattle.mark_core.proofs.RegionWrites.{touches_heads}
 use Rattle.mark_core.specs.declared.kinds.Step.TheVariants.{StoreLength, ReadLength}
+use Rattle.mark_core.specs.Places.{the_phase}
+use Rattle.mark_core.specs.Strong.{IsStrongSeat}
+use Rattle.mark_core.specs.WorldRules.{is_stopped_phase}
+use Rattle.mark_core.specs.declared.kinds.Step.TheVariants.{ReadPhase}
+use Rattle.mark_core.proofs.NotesBeside.{sits, of-sits}
+use Rattle.mark_core.proofs.NotesKept.{single-word}
+use Rattle.gc_table.specs.Stopping.{moves_on, has_moved, Unmoved}
+use Rattle.gc_table.proofs.Unmoved.{moved-last, none-knows, not-phase, knows-by, knower-steady}
 use Rattle.gc_table.specs.Fetching.{taken_out, last_pool, is_in_range, Fetched}
 use Rattle.gc_table.specs.Taking.{won}
 use Rattle.gc_table.proofs.Fetching.{Took, Kept, take-stores, fetched-record, heads-of, last-snoc, not-head, one-hand, range-of, store-asks, take-asks, take-pool, taken-told}
@@ -204,6 +212,22 @@ module _ (x : Whole) (i : ℕ) (v : View) (step : Step) (t : Takes x i v step) w
         (ap (λ (sh : Shape). is_in_range sh q (word_at c.shape c.words (head_at p))) (sym t.agrees.shape) ∙ t.agrees.fetched p q (subst (λ (sh : Shape). p < sh.packets) (sym t.agrees.shape) in_range) k.held k.unread (ap (λ o. or_else o (last_pool p v.log)) (sym k.none) ∙ pooled)))
         (fetched-record c.shape v.state step finds p (ap (λ (s : SeatState). holds s.held p) (sym state) ∙ h) (ap (λ (s : SeatState). has_length s.held p) (sym state) ∙ u))
 
+    -- the seat hasn't moved the phase, and knows that the world is stopped
+    own-stopped : (told : ℕ) → w.log ≡ v.log ++ record { step = step; found = told; won = won step told } ∷ [] → Unmoved left w
+    own-stopped told log knows still =
+        let on : moves_on (has_moved v.log) step ≡ false = sym (moved-last v.log (record { step = step; found = told; won = won step told })) ∙ (ap has_moved (sym log) ∙ still) in
+        let strong = of-sits (IsStrongSeat c.shape) c i v.state (sits c i v.state t.agrees.seat) t.whole.core.strong.seats_strong in
+        let phase : word_at left.shape left.words the_phase ≡ word_at c.shape c.words the_phase =
+        ⊎_elim
+        (λ (e : same_place (place c.shape v.state step) the_phase ≡ false). else-left the_phase e)
+        (λ (e : step ≡ ReadPhase). here-left the_phase (ap (λ z. same_place (place c.shape v.state z) the_phase) e) ∙ (ap (λ z. written c.shape v.state z finds) e ∙ (found-there ∙ ap (λ z. word_at c.shape c.words (place c.shape v.state z)) e)))
+        (not-phase c.shape v.state step (has_moved v.log) on) in
+        ap is_stopped_phase phase
+        ∙ ⊎_elim
+        (λ (h : (v.state.knows ≡ true) × (has_moved v.log ≡ false)). t.agrees.stopped h.0 h.1)
+        (λ (h : (v.state.raised ≡ true) × (v.state.knows ≡ false)). ap is_stopped_phase (single-word c.shape c.words 1 (omega arith)) ∙ none-knows c i v.state t.whole.core t.agrees.seat h.0 h.1)
+        (knows-by c v.state step finds (has_moved v.log) strong.knows_is_raised t.ok (ap (λ (s : SeatState). s.knows) (sym state) ∙ knows) on)
+
     pub own-agrees : w.known ≡ noting (steady w.state) (place c.shape v.state step) (written c.shape v.state step finds) v.known
         → w.floors ≡ noting (λ at m. keeps_bound w.state at) (place c.shape v.state step) (written c.shape v.state step finds) v.floors → (told : ℕ) → w.log ≡ v.log ++ record { step = step; found = told; won = won step told } ∷ [] → seat_after c.shape v.state step told ≡ seat_after c.shape v.state step finds
         → w.plan ≡ v.plan → w.own ≡ section_after c.shape x.plan v.state step v.own → w.joined ≡ v.joined → Agrees left_whole i w
@@ -214,6 +238,7 @@ module _ (x : Whole) (i : ℕ) (v : View) (step : Step) (t : Takes x i v step) w
           noted = own-noted known;
           floored = own-floored floors;
           fetched = own-fetched told log tells;
+          stopped = own-stopped told log;
           plan = plan ∙ t.agrees.plan;
           own = λ k e.
               let mine : v.state.section ≡ Some k = sym (section-stays c.shape v.state step finds) ∙ ap (λ (s : SeatState). s.section) (sym state) ∙ e in
@@ -237,6 +262,8 @@ module _ (x : Whole) (i : ℕ) (v : View) (step : Step) (t : Takes x i v step) w
         fetched = λ p q there h m last.
             let far : step ≡ StoreLength p → ⊥ = λ e. n (sym (one-hand c t.whole.core i j p v.state u.state t.agrees.seat a.seat (subst (λ (sh : Shape). p < sh.packets) a.shape there) (store-asks c v.state step t.ok p e) h)) in
             ap (is_in_range u.shape q) (head-stays p far) ∙ a.fetched p q there h m last;
+        stopped = λ h m.
+            ap is_stopped_phase (ap (λ (sh : Shape). word_at sh left.words the_phase) left-shape ∙ notes-kept c (event i step) t.whole.core allowed j u.state n a.seat the_phase (word_at c.shape c.words the_phase) (knower-steady u.state (word_at c.shape c.words the_phase) h) refl) ∙ a.stopped h m;
         plan = a.plan;
         own = λ k e.
             let there : k ≡ j = own-number c j k u.state t.whole.core a.seat e in

@@ -8,6 +8,7 @@ pub mod Closing
 pub mod Joining
 pub mod Ending
 pub mod Fetching
+pub mod Unmoved
 pub mod Noting
 pub mod Opening
 pub mod Records
@@ -57,3 +58,6 @@ pub mod WholeStands
 pub mod WholePlain
 pub mod WholeReads
 mod Rows
+pub mod Log
+pub mod Running
+pub mod Noticing

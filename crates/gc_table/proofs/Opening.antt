@@ -23,7 +23,7 @@ use Rattle.gc_table.specs.Notes.{look}
 use Rattle.gc_table.specs.Fetching.{last_pool}
 use Rattle.std.specs.Prelude.{Option, Contains}
 use Rattle.std.proofs.Common.{Bool, false, cond}
-use Rattle.std.proofs.lemmas.Bool.{ltb-true}
+use Rattle.std.proofs.lemmas.Bool.{ltb-true, false≢true}
 use Rattle.mark_core.specs.Start.{spent_seat}
 use Rattle.plain_heap.specs.declared.operation.Op.{Op}
 use Rattle.gc_table.specs.declared.view.SectionState.{SectionState}
@@ -80,6 +80,7 @@ newcomer-agrees sh plan k =
       noted = λ at n e. absurd (none_some n e);
       floored = λ at n e. absurd (none_some n e);
       fetched = λ p q there h m e. absurd (none_some q e);
+      stopped = λ h. absurd (false≢true h);
       plan = refl;
       own = λ w e.
           let p = section_there sh k w e in
@@ -103,7 +104,7 @@ opens-possible v p =
       state = p.state;
       index = p.index;
       whole = p.whole;
-      agrees = record { shape = p.agrees.shape; seat = p.agrees.seat; noted = p.agrees.noted; floored = p.agrees.floored; fetched = p.agrees.fetched; plan = p.agrees.plan; own = p.agrees.own; joined = p.agrees.joined };
+      agrees = record { shape = p.agrees.shape; seat = p.agrees.seat; noted = p.agrees.noted; floored = p.agrees.floored; fetched = p.agrees.fetched; stopped = p.agrees.stopped; plan = p.agrees.plan; own = p.agrees.own; joined = p.agrees.joined };
       live = p.live;
     }
 
@@ -184,9 +185,9 @@ splits sh plan id v shaped planned first few s o me =
           (λ (g : get_elem? vs j ≡ some u).
           ⊎_elim
           (λ (p : (j ≡ id) × (opens v ≡ u)).
-          let b : Agrees x id u = subst (λ (z : View). Agrees x id z) p.1 (record { shape = a.shape; seat = a.seat; noted = a.noted; floored = a.floored; fetched = a.fetched; plan = a.plan; own = a.own; joined = a.joined }) in
-          record { shape = b.shape; seat = seat; noted = b.noted; floored = b.floored; fetched = b.fetched; plan = b.plan; own = b.own; joined = joined u b.joined })
-          (λ (p : (j ≢ id) × (get_elem? s.views j ≡ some u)). let b = o.each j u p.1 l in record { shape = b.shape; seat = seat; noted = b.noted; floored = b.floored; fetched = b.fetched; plan = b.plan; own = b.own; joined = joined u b.joined })
+          let b : Agrees x id u = subst (λ (z : View). Agrees x id z) p.1 (record { shape = a.shape; seat = a.seat; noted = a.noted; floored = a.floored; fetched = a.fetched; stopped = a.stopped; plan = a.plan; own = a.own; joined = a.joined }) in
+          record { shape = b.shape; seat = seat; noted = b.noted; floored = b.floored; fetched = b.fetched; stopped = b.stopped; plan = b.plan; own = b.own; joined = joined u b.joined })
+          (λ (p : (j ≢ id) × (get_elem? s.views j ≡ some u)). let b = o.each j u p.1 l in record { shape = b.shape; seat = seat; noted = b.noted; floored = b.floored; fetched = b.fetched; stopped = b.stopped; plan = b.plan; own = b.own; joined = joined u b.joined })
           (at_set s.views id j (opens v) u g))
           (λ (p : (j ≡ length vs) × (new ≡ u)). record {
             shape = ap (λ (y : View). y.shape) (sym p.1) ∙ shaped;
@@ -194,6 +195,7 @@ splits sh plan id v shaped planned first few s o me =
             noted = λ at m e. absurd (none_some m (ap (λ (y : View). look at y.known) p.1 ∙ e));
             floored = λ at m e. absurd (none_some m (ap (λ (y : View). look at y.floors) p.1 ∙ e));
             fetched = λ r q there h m e. absurd (none_some q (ap (λ (y : View). last_pool r y.log) p.1 ∙ e));
+            stopped = λ h. absurd (false≢true (ap (λ (y : View). y.state.knows) p.1 ∙ h));
             plan = ap (λ (y : View). y.plan) (sym p.1) ∙ planned;
             own = λ w e.
                 let mine : (start_seat sh n).section ≡ Some w = (λ y. (start_seat (sym shaped y) (sym all y)).section) ∙ (ap (λ (z : View). z.state.section) p.1 ∙ e) in

@@ -73,7 +73,7 @@ pub part-moves : (c : Core) (i : ℕ) (s : SeatState) (x part word : ℕ) (ms : 
     → part ≤ c.shape.fields → NewWords c x part values fields value
     → Moves c i s (StoreNew x part word) (record (words_of c.shape c.words) { values = values; fields = fields }) (record s { cache = with_making s.cache x (part + 1) }) (record (meaning_of ms i) { value = value }) ms
 part-moves c i s x part word ms values fields value k st a free room few r = record {
-  numbered = let before = st.numbered i m a.there in (before.0, before.1, before.2, r.fits);
+  numbered = let before = st.numbered i m a.there in (before.0, before.1, before.2, r.fits, before.4);
   more = omega arith;
   identities_kept = λ y u. refl;
   other_roots = λ j u d h. refl;

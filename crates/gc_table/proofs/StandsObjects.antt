@@ -1,11 +1,12 @@
 -- An object changes in its cell and in its plain heap.
-use Rattle.std.proofs.Common.{ℕ, ◌≡◌, ◌≢◌, ◌+◌, ◌-◌, ◌<◌, ◌≤◌, zero, suc, List, set, length, arith, refl, sym, ap, ◌∙◌, subst, true, false, not, eqb, Option, Some, ◌⊎◌, inl, inr}
+use Rattle.std.proofs.Common.{ℕ, ◌≡◌, ◌≢◌, ◌+◌, ◌-◌, ◌<◌, ◌≤◌, zero, suc, List, set, length, arith, refl, sym, ap, ◌∙◌, subst, true, false, not, eqb, Option, Some, ◌⊎◌, inl, inr, ⊎_elim}
 use Rattle.std.specs.Prelude.{IsFalse, slice_get, slice_index, slice_index_or}
 use Rattle.std.proofs.lemmas.Bool.{true≢false, and_parts, not-true, eqb-true, eqb-false, cases_eq}
 use Rattle.std.proofs.lemmas.List.{length-set}
 use Rattle.std.proofs.lemmas.Option.{same_Some}
 use Rattle.mark_core.specs.Layout.{Words, words_of}
-use Rattle.mark_core.specs.Bits.{cell_of}
+use Rattle.mark_core.specs.Bits.{flag, cell_of}
+use Rattle.mark_core.proofs.FormedAfter.{set-cases}
 use Rattle.mark_core.specs.Seats.{is_the, has_making}
 use Rattle.mark_core.specs.Views.{makers}
 use Rattle.mark_core.specs.Cells.{field}
@@ -109,6 +110,7 @@ pub record Rewrites (c : Core) (i : ℕ) (ms : List Meaning) (y : ℕ) (values f
   pub room : length object.refs ≡ 16
   pub rest : (j : ℕ) → c.shape.fields ≤ j → slice_index_or object.refs j refs.Nil ≡ refs.Nil
   pub value : slice_index values y ≡ object.value
+  pub fits : object.value < flag
   pub each_field : (j : ℕ) → j < c.shape.fields → Agrees (words_of c.shape c.words).identities (object_count ms) i (field c.shape fields y j) (slice_index_or object.refs j refs.Nil)
   pub other_values : (z : ℕ) → z ≢ y → slice_index values z ≡ slice_index (words_of c.shape c.words).values z
   pub other_fields : (z j : ℕ) → z ≢ y → j < c.shape.fields → field c.shape fields z j ≡ field c.shape (words_of c.shape c.words).fields z j
@@ -116,7 +118,7 @@ pub record Rewrites (c : Core) (i : ℕ) (ms : List Meaning) (y : ℕ) (values f
 pub object-moves : (c : Core) (i : ℕ) (s : SeatState) (step : Step) (v : ℕ) (ms : List Meaning) (y : ℕ) (values fields : List ℕ) (object : Object) (owed : Option ℕ) → Taken c i s step → StandsFor c ms → (a : Mutates c i s ms) → ((z : ℕ) → IsMadeBy c.shape step z → ⊥)
     → Owns c i s v ms y → Rewrites c i ms y values fields object → Moves c i s step (record (words_of c.shape c.words) { values = values; fields = fields }) (record s { owes = owed }) (with_object c i ms y object) ms
 object-moves c i s step v ms y values fields object owed k st a none b r = record {
-  numbered = st.numbered i m a.there;
+  numbered = let before = st.numbered i m a.there in (before.0, before.1, before.2, before.3, λ j o e. ⊎_elim (λ x. subst (λ (z : Object). z.value < flag) x.1 r.fits) (λ x. before.4 j o x) (set-cases m.heap.objects number j object o e));
   more = omega (arith, long);
   identities_kept = λ z u. refl;
   other_roots = λ j u d h. refl;

@@ -3,7 +3,7 @@ use Rattle.std.proofs.Common.{ℕ, ◌≡◌, ◌≢◌, ◌+◌, ◌-◌, ◌*�
 use Rattle.std.specs.Prelude.{IsFalse, IfSome, slice_get, slice_index, slice_index_or, nat_lt}
 use Rattle.std.proofs.lemmas.Bool.{true≢false, and_parts, not-true, eqb-true, eqb-false, ltb-true, cases_eq}
 use Rattle.std.proofs.lemmas.List.{get_or-set_same, get_or-set_other, get_or-replicate, length-set, length-append}
-use Rattle.std.proofs.lemmas.Option.{slice_get_within}
+use Rattle.std.proofs.lemmas.Option.{same_Some, slice_get_within}
 use Rattle.mark_core.specs.Layout.{Words, words_of}
 use Rattle.mark_core.specs.Bits.{flag}
 use Rattle.mark_core.specs.Seats.{is_the, last_made, has_making, may_mutate}
@@ -18,13 +18,14 @@ use Rattle.mark_core.proofs.ReferencesRoots.{seat-formed}
 use Rattle.mark_core.specs.declared.kinds.Step.{Step}
 use Rattle.mark_core.specs.declared.kinds.Step.TheVariants.{StoreRoot}
 use Rattle.mark_core.specs.declared.seat.SeatState.{SeatState}
+use Rattle.plain_heap.specs.declared.object.Object.{Object}
 use Rattle.plain_heap.specs.declared.object.Ref.{Ref}
 use Rattle.plain_heap.specs.declared.object.Ref.TheVariants as refs
 use Rattle.plain_heap.specs.declared.operation.Op.{Op}
 use Rattle.plain_heap.specs.declared.operation.Op.TheVariants as ops
 use Rattle.plain_heap.specs.PlainHeap.{Heap, variable}
 use Rattle.plain_heap.specs.PlainStep.{heap_after, assigned, with_new, new_object, followed, lent_variable}
-use Rattle.gc_table.specs.StandsFor.{object_count, objects_in, Agrees, IsNext, IsCellOf, SeatStands, StandsIn, StandsFor}
+use Rattle.gc_table.specs.StandsFor.{object_count, objects_in, Agrees, IsNext, IsCellOf, ValuesFit, SeatStands, StandsIn, StandsFor}
 use Rattle.gc_table.specs.declared.view.Meaning.{Meaning}
 use Rattle.gc_table.specs.PlainSteps.{seen_in, own_section, meaning_of, changed, with_got, stepped, IsAssignment, AsksIn}
 use Rattle.gc_table.proofs.StandsAgree.{Stays, next-on, agrees-on}
@@ -48,6 +49,7 @@ pub record Assigns (c : Core) (i : ℕ) (s : SeatState) (v r : ℕ) (m n : Meani
   pub section : n.heap.section ≡ m.heap.section
   pub fields : n.heap.fields ≡ m.heap.fields
   pub value : n.value ≡ m.value
+  pub fit : ValuesFit m.heap → m.value < flag → ValuesFit n.heap
   pub got : n.got ≡ refs.Nil
   pub more : length m.heap.objects ≤ length n.heap.objects
   pub agrees : Agrees (words_of c.shape c.words).identities (object_count (set ms i n)) i r ref
@@ -64,6 +66,7 @@ root_moves c i s v r ms n ref k st a hv x = record {
     ap (λ vs. length vs) x.variables ∙ length-set m.heap.variables v ref ∙ (st.numbered i m a.there).1,
     x.fields ∙ (st.numbered i m a.there).2,
     omega (arith, x.value, (st.numbered i m a.there).3),
+    x.fit (st.numbered i m a.there).4 (st.numbered i m a.there).3,
   );
   more = x.more;
   identities_kept = λ y u. refl;
@@ -124,6 +127,7 @@ assigns_known c i s v r ms ref k st a agrees =
       section = refl;
       fields = refl;
       value = refl;
+      fit = λ f small. f;
       got = refl;
       more = omega arith;
       agrees = agrees-on w.identities w.identities (object_count ms) (object_count (set ms i n)) i r ref (λ some. refl) more agrees;
@@ -148,6 +152,13 @@ pub get-added : {X : Type 0} (xs : List X) (y : X) → slice_get (xs ++ y ∷ []
 get-added [] y = refl
 get-added (x ∷ xs) y = get-added xs y
 
+-- values that fit, and one more
+fit-added : (xs : List Object) (y : Object) → ((k : ℕ) (x : Object) → slice_get xs k ≡ Some x → x.value < flag) → y.value < flag → (k : ℕ) (x : Object) → slice_get (xs ++ y ∷ []) k ≡ Some x → x.value < flag
+fit-added [] y f small zero x e = subst (λ (z : Object). z.value < flag) (same_Some y x e) small
+fit-added [] y f small (suc k) x e = absurd (cc)
+fit-added (z ∷ xs) y f small zero x e = f 0 x e
+fit-added (z ∷ xs) y f small (suc k) x e = fit-added xs y (λ j w h. f (suc j) w h) small k x e
+
 nils : (n j : ℕ) → get_or (replicate n refs.Nil) j refs.Nil ≡ refs.Nil
 nils zero j = refl
 nils (suc n) zero = refl
@@ -161,6 +172,7 @@ assigns_new c i s v r ms k st a last room = record {
   section = refl;
   fields = refl;
   value = refl;
+  fit = fit-added m.heap.objects (new_object m.value);
   got = refl;
   more = omega (arith, longer);
   agrees = inr (some, (section, number), omega (arith, number, count, longer));

@@ -34,7 +34,7 @@ stands-starts sh n z =
     let p : ℕ → ℕ = object_count (start_meanings sh) in
     record {
       sections = length-map-range_with_len (start_meaning sh) 0 sh.sections;
-      numbered = λ k m g. subst (λ (x : Meaning). IsSection sh k x) (sym (meaning_is sh k m g)) (refl, refl, refl, omega arith);
+      numbered = λ k m g. subst (λ (x : Meaning). IsSection sh k x) (sym (meaning_is sh k m g)) (refl, refl, refl, omega arith, λ j object e. absurd (cc));
       roots_agree =
           λ k m g v h.
           inl (no-root sh (k * 32 + v), subst (λ (x : Meaning). variable x.heap v ≡ refs.Nil) (sym (meaning_is sh k m g)) (get_or-replicate 32 v refs.Nil refs.Nil h));

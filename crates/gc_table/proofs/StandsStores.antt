@@ -4,7 +4,7 @@ use Rattle.std.specs.Prelude.{IsTrue, slice_index_or, nat_lt}
 use Rattle.std.proofs.lemmas.Bool.{and_parts, ltb-true, cases_eq}
 use Rattle.std.proofs.lemmas.List.{get_or-set_same, get_or-set_other, length-set}
 use Rattle.mark_core.specs.Layout.{Words, words_of, region_sizes}
-use Rattle.mark_core.specs.Bits.{cell_of}
+use Rattle.mark_core.specs.Bits.{flag, cell_of}
 use Rattle.mark_core.specs.Seats.{may_mutate}
 use Rattle.mark_core.specs.Cells.{field}
 use Rattle.mark_core.specs.HeapRules.{number_of}
@@ -54,12 +54,13 @@ fields-length c k = region-length (region_sizes c.shape) 11 c.words (omega (arit
 pub values-length : (c : Core) → IsCore c → length (words_of c.shape c.words).values ≡ c.shape.cells
 values-length c k = region-length (region_sizes c.shape) 10 c.words (omega (arith, k.formed.words))
 
-field_rewrites : (c : Core) (i : ℕ) (s : SeatState) (v j y : ℕ) (o : Option ℕ) (ref : Ref) (ms : List Meaning) → Taken c i s (StoreField v j o) → j < c.shape.fields → (b : Owns c i s v ms y) → Agrees (words_of c.shape c.words).identities (object_count ms) i (variable_or_nil s o) ref
+field_rewrites : (c : Core) (i : ℕ) (s : SeatState) (v j y : ℕ) (o : Option ℕ) (ref : Ref) (ms : List Meaning) → Taken c i s (StoreField v j o) → j < c.shape.fields → (b : Owns c i s v ms y) → b.holds.object.value < flag → Agrees (words_of c.shape c.words).identities (object_count ms) i (variable_or_nil s o) ref
     → Rewrites c i ms y (words_of c.shape c.words).values (set (words_of c.shape c.words).fields (y * c.shape.fields + j) (variable_or_nil s o)) (with_field b.holds.object j ref)
-field_rewrites c i s v j y o ref ms k hj b agrees = record {
+field_rewrites c i s v j y o ref ms k hj b small agrees = record {
   room = length-set b.holds.object.refs j ref ∙ b.holds.room;
   rest = λ l hl. get_or-set_other b.holds.object.refs j l ref refs.Nil (λ e. omega (arith, e, hl, hj)) ∙ b.holds.rest l hl;
   value = b.holds.value;
+  fits = small;
   each_field = λ l hl. each l hl;
   other_values = λ z d. refl;
   other_fields = λ z l d hl. get_or-set_other fields (y * sh_fields + j) (z * sh_fields + l) word 0 (λ e. d (same_place sh_fields z y l j hl hj e).0);
@@ -112,17 +113,18 @@ store-field c i s v j o op ms k st asks =
     let P : ℕ → Heap → Type 0 = λ cell heap. Stands c.shape w.roots w.identities w.values (set w.fields (cell * c.shape.fields + j) (variable_or_nil s o)) (λ z. IsTrue (UsedAfter c i s step z)) (set c.seats i t) (set ms i (record m { heap = heap })) in
     let base : P y (replaced m.heap (number_of w.identities y) object) =
     moved c i s step (record w { values = w.values; fields = set w.fields (y * c.shape.fields + j) (variable_or_nil s o) }) t (with_object c i ms y object) ms k st a
-    (object-moves c i s step v ms y w.values (set w.fields (y * c.shape.fields + j) (variable_or_nil s o)) object t.owes k st a (λ z f. f) own (field_rewrites c i s v j y o ref ms k (ltb-true j c.shape.fields e.1) own x.2)) in
+    (object-moves c i s step v ms y w.values (set w.fields (y * c.shape.fields + j) (variable_or_nil s o)) object t.owes k st a (λ z f. f) own (field_rewrites c i s v j y o ref ms k (ltb-true j c.shape.fields e.1) own ((st.numbered i m a.there).4 (number_of w.identities y) own.holds.object own.holds.there) x.2)) in
     subst (λ (z : ℕ). StandsIn c.shape (words_left c s step) (seats_left c i s step) (changed ms z (stepped (seen_in ms z) op))) (sym a.own)
     (subst (λ (z : ℕ). P z (heap_after m.heap (seen_in ms i) op)) (sym own.cell) (subst (P y) (sym heap_is) base))
 
-value_rewrites : (c : Core) (i : ℕ) (s : SeatState) (v n y : ℕ) (ms : List Meaning) → IsCore c → (b : Owns c i s v ms y) → Rewrites c i ms y (set (words_of c.shape c.words).values y n) (words_of c.shape c.words).fields (with_value b.holds.object n)
-value_rewrites c i s v n y ms k b =
+value_rewrites : (c : Core) (i : ℕ) (s : SeatState) (v n y : ℕ) (ms : List Meaning) → IsCore c → n < flag → (b : Owns c i s v ms y) → Rewrites c i ms y (set (words_of c.shape c.words).values y n) (words_of c.shape c.words).fields (with_value b.holds.object n)
+value_rewrites c i s v n y ms k small b =
     let w : Words = words_of c.shape c.words in
     record {
       room = b.holds.room;
       rest = b.holds.rest;
       value = get_or-set_same w.values y n 0 (omega (arith, b.exists, values-length c k));
+      fits = small;
       each_field = λ l hl. subst (λ z. Agrees w.identities (object_count ms) z (field c.shape w.fields y l) (slice_index_or b.holds.object.refs l refs.Nil)) b.section (b.holds.each_field l hl);
       other_values = λ z d. get_or-set_other w.values y z n 0 d;
       other_fields = λ z l d hl. refl;
@@ -140,11 +142,12 @@ store-value c i s v n op ms k st asks =
     let own : Owns c i s v ms y = owns c i s step v ms k st a (used-exists c k.core) (ltb-true v 32 b.0) k.ok.1.0 in
     let m : Meaning = meaning_of ms i in
     let object : Object = with_value own.holds.object n in
+    let small : n < flag = asks.2 in
     let heap_is : heap_after m.heap (seen_in ms i) op ≡ replaced m.heap (number_of w.identities y) object =
     ap (λ (z : Op). heap_after m.heap (seen_in ms i) z) asks.1 ∙ stored-object c i s v ms y (λ z. with_value z n) own in
     let P : ℕ → Heap → Type 0 = λ cell heap. Stands c.shape w.roots w.identities (set w.values cell n) w.fields (λ z. IsTrue (UsedAfter c i s step z)) (set c.seats i s) (set ms i (record m { heap = heap })) in
     let base : P y (replaced m.heap (number_of w.identities y) object) =
     moved c i s step (record w { values = set w.values y n; fields = w.fields }) s (with_object c i ms y object) ms k st a
-    (object-moves c i s step v ms y (set w.values y n) w.fields object s.owes k st a (λ z f. f) own (value_rewrites c i s v n y ms k.core own)) in
+    (object-moves c i s step v ms y (set w.values y n) w.fields object s.owes k st a (λ z f. f) own (value_rewrites c i s v n y ms k.core small own)) in
     subst (λ (z : ℕ). StandsIn c.shape (words_left c s step) (seats_left c i s step) (changed ms z (stepped (seen_in ms z) op))) (sym a.own)
     (subst (λ (z : ℕ). P z (heap_after m.heap (seen_in ms i) op)) (sym own.cell) (subst (P y) (sym heap_is) base))

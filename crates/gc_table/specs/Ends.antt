@@ -4,9 +4,10 @@ use Rattle.mark_core.specs.Bits.{reference_in}
 use Rattle.mark_core.specs.Layout.{words_of}
 use Rattle.mark_core.specs.Seats.{phase_of}
 use Rattle.mark_core.specs.declared.kinds.Shape.{Shape}
+use Rattle.mark_core.specs.declared.kinds.Phase.TheVariants.{Full}
 use Rattle.mark_core.specs.declared.seat.SeatState.{SeatState}
 use Rattle.gc_table.specs.Whole.{Whole}
-use Rattle.gc_table.specs.Rule.{IsState}
+use Rattle.gc_table.specs.Rule.{IsState, KnowsFull}
 use Rattle.gc_table.specs.Seats.{view_of, IsOutside}
 use Rattle.gc_table.specs.declared.seat.HeapSeat.{HeapSeat}
 use Rattle.gc_table.specs.declared.words.Words.{Words}
@@ -34,5 +35,7 @@ pub record IsEnd (sh : Shape) (seats : List HeapSeat) (w : Words) : Type 0 where
   pub plan : (s : HeapSeat) → slice_get seats 0 ≡ Some s → state.plan ≡ (view_of s).plan
   pub words : AreWords sh state.core.words w
   pub sections : (i : ℕ) (s : HeapSeat) (k : ℕ) → slice_get seats i ≡ Some s → (view_of s).state.section ≡ Some k → slice_get state.sections k ≡ Some (view_of s).own
+  -- a seat that saw the heap full saw what is so in the end
+  pub full : (i : ℕ) (s : HeapSeat) → slice_get seats i ≡ Some s → KnowsFull (view_of s) → w.phase ≡ Full
   -- no seat with a section is at work, of those that were handed in
   pub resting : (j : ℕ) (r : SeatState) (k : ℕ) → j < length seats → slice_get state.core.seats j ≡ Some r → r.section ≡ Some k → IsResting seats r

@@ -1,5 +1,6 @@
 pub mod Notes
 pub mod Fetching
+pub mod Stopping
 pub mod Rule
 pub mod Taking
 pub mod Trials
@@ -12,3 +13,5 @@ pub mod Whole
 pub mod Told
 pub mod Reads
 pub mod Ends
+pub mod Log
+pub mod Running

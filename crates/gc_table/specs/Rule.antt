@@ -1,5 +1,5 @@
 -- The rule of the table. It speaks of a state of the core, made of the words and of the records of all seats, of what each section has come to, and of how each seat's view agrees with them.
-use Rattle.std.specs.Prelude.{ℕ, ◌≡◌, ◌⊎◌, ◌≤◌, ◌+◌, List, [], ◌∷◌, ◌++◌, if◌then◌else◌, slice_get, length, IsTrue, IsFalse, Option, None, Some, Contains}
+use Rattle.std.specs.Prelude.{ℕ, ◌≡◌, ◌⊎◌, ◌≤◌, ◌+◌, List, [], ◌∷◌, ◌++◌, if◌then◌else◌, ◌==◌, slice_get, length, IsTrue, IsFalse, Option, None, Some, Contains}
 use mathlib.Core.Option.{some}
 use lib.ListN.{get_elem?}
 use Rattle.atomic_table.specs.Table.{State}
@@ -13,8 +13,10 @@ use Rattle.mark_core.specs.declared.kinds.Shape.{Shape}
 use Rattle.mark_core.specs.declared.seat.SeatState.{SeatState}
 use Rattle.gc_table.specs.declared.view.View.{View}
 use Rattle.gc_table.specs.declared.view.SectionState.{SectionState}
-use Rattle.gc_table.specs.Notes.{look}
+use Rattle.mark_core.specs.Places.{the_phase}
+use Rattle.gc_table.specs.Notes.{Notes, look}
 use Rattle.gc_table.specs.Fetching.{Fetched}
+use Rattle.gc_table.specs.Stopping.{Unmoved}
 use Rattle.gc_table.specs.StandsFor.{StandsFor}
 use Rattle.gc_table.specs.Sections.{start_section}
 use Rattle.gc_table.specs.Whole.{Whole, meanings_of}
@@ -63,6 +65,7 @@ pub record Agrees (x : Whole) (i : ℕ) (v : View) : Type 0 where
   pub noted : Noted x.core v
   pub floored : Floored x.core v
   pub fetched : Fetched x.core v
+  pub stopped : Unmoved x.core v
   pub plan : v.plan ≡ x.plan
   -- the view has the seat's own section as it is
   pub own : (w : ℕ) → v.state.section ≡ Some w → slice_get x.sections w ≡ Some v.own
@@ -101,9 +104,18 @@ abbrev pub own_entry : Option ℕ → SectionState → List (ℕ × SectionState
 own_entry None x = []
 own_entry (Some w) x = (w, x) ∷ []
 
--- a seat takes in another: it keeps what the other's section has come to, and the sections that the other took in
+-- the seat knows that the heap was found full
+abbrev pub KnowsFull : View → Type 0
+KnowsFull v = look the_phase v.known ≡ Some 5
+
+-- a seat is told of the phase by another that knows that the heap was found full, as the heap stays so
+abbrev pub told_full : Option ℕ → Notes → Notes
+told_full None notes = notes
+told_full (Some n) notes = if n == 5 then (the_phase, Some 5) ∷ notes else notes
+
+-- a seat takes in another: it keeps what the other's section has come to, the sections that the other took in, and that the heap was found full
 abbrev pub takes_in : View → View → View
-takes_in v w = record v { joined = v.joined ++ (own_entry w.state.section w.own ++ w.joined) }
+takes_in v w = record v { known = told_full (look the_phase w.known) v.known; joined = v.joined ++ (own_entry w.state.section w.own ++ w.joined) }
 
 -- no sizes
 abbrev pub no_shape : Shape

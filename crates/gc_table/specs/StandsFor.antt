@@ -68,9 +68,13 @@ pub record SeatStands (sh : Shape) (identities values : List ℕ) (counts : ℕ 
   pub making : (c part : ℕ) → IsTrue (makes s.cache c part) → sh.fields < part → slice_index values c ≡ m.value
   pub last : IfSome (last_made s.cache) (λ c. (slice_index identities c + 1 ≡ w * flag + s.made) × (0 < s.made))
 
+-- the value of each object fits a value
+abbrev pub ValuesFit : Heap → Type 0
+ValuesFit heap = (n : ℕ) (object : Object) → slice_get heap.objects n ≡ Some object → object.value < flag
+
 -- what is true of each section's meaning by itself
 abbrev pub IsSection : Shape → ℕ → Meaning → Type 0
-IsSection sh w m = (m.heap.section ≡ w) × (length m.heap.variables ≡ 32) × (m.heap.fields ≡ sh.fields) × (m.value < flag)
+IsSection sh w m = (m.heap.section ≡ w) × (length m.heap.variables ≡ 32) × (m.heap.fields ≡ sh.fields) × (m.value < flag) × ValuesFit m.heap
 
 -- the words, the cells in use and the seats agree with what they mean, for each section
 pub record Stands (sh : Shape) (roots identities values fields : List ℕ) (used : ℕ → Type 0) (seats : List SeatState) (ms : List Meaning) : Type 0 where

@@ -3,7 +3,7 @@ ghost use Rattle.std.specs.Prelude.{◌≡◌, ◌≢◌, ℕ, ◌+◌, ◌<◌,
 ghost use Rattle.mark_core.specs.Shapes.{IsShape};
 ghost use Rattle.mark_core.specs.Start.{start_seat as start_seat_of};
 ghost use Rattle.gc_table.specs.Ends.{IsEnd};
-ghost use Rattle.gc_table.specs.Rule.{newcomer, opens, opened_by, takes_in, nobody, HasSection, IsFinal, IsPossible};
+ghost use Rattle.gc_table.specs.Rule.{newcomer, opens, opened_by, takes_in, nobody, HasSection, IsFinal, IsPossible, KnowsFull};
 ghost use Rattle.gc_table.specs.Seats.{Sits, view_of, IsFresh, IsOutside};
 
 use crate::plan::{PlanTag, tag_of};
@@ -61,7 +61,11 @@ impl Heap {
                 shape,
                 bases,
             },
-            HeapSeat { state, token },
+            HeapSeat {
+                state,
+                token,
+                hint: 0,
+            },
         ))
     }
 
@@ -76,6 +80,7 @@ impl Heap {
         HeapSeat {
             state: start_seat(&self.shape, number),
             token,
+            hint: 0,
         }
     }
 
@@ -120,7 +125,11 @@ impl Heap {
         requires other { Sits self.now other × IsOutside (view_of other) × ((view_of other).state.number ≢ 0) }
         ensures { Sits self.now first.new × (view_of first.new ≡ takes_in (view_of first.old) (view_of other)) }
     {
-        let HeapSeat { state: _, token } = other;
+        let HeapSeat {
+            state: _,
+            token,
+            hint: _,
+        } = other;
         self.table
             .shared
             .join_seat::<TakesIn>(&mut first.token, token);
@@ -134,6 +143,7 @@ impl Heap {
         ensures seat { Sits self.now result }
         ensures first { (s : HeapSeat) → slice_get seats.items 0 ≡ Some s → ((view_of result).state ≡ (view_of s).state) × ((view_of result).plan ≡ (view_of s).plan) }
         ensures sections { (i : ℕ) (s : HeapSeat) (w : ℕ) → slice_get seats.items i ≡ Some s → (view_of s).state.section ≡ Some w → HasSection (view_of result) w (view_of s).own }
+        ensures full { (i : ℕ) (s : HeapSeat) → slice_get seats.items i ≡ Some s → KnowsFull (view_of s) → KnowsFull (view_of result) }
     {
         let mut first = seats.remove(0);
         while let Some(seat) = seats.pop() {
@@ -147,7 +157,11 @@ impl Heap {
         requires room { (words.items ≡ []) × (self.table.shared.table_id.words ≤ vec_capacity words) }
         ensures { IsFinal (view_of first) result.items }
     {
-        let HeapSeat { state: _, token } = first;
+        let HeapSeat {
+            state: _,
+            token,
+            hint: _,
+        } = first;
         let Heap {
             table,
             shape: _,
@@ -197,6 +211,19 @@ impl Heap {
 }
 
 impl HeapSeat {
+    /// Where a search of the seat ended last, as it was told: no contract rests on it.
+    pub fn hint(&self) -> u32 {
+        self.hint
+    }
+
+    /// Remembers where a search ended.
+    pub fn remember(&mut self, hint: u32)
+        ensures sits { (h : Heap) → Sits h self.old → Sits h self.new }
+        ensures view { view_of self.new ≡ view_of self.old }
+    {
+        self.hint = hint;
+    }
+
     /// The seat's number.
     pub fn number(&self) -> u32
         ensures { result ≡ (view_of self.now).state.number }

@@ -47,6 +47,15 @@
 //! (`specs/Reads.antt`). Loads, stores, exchanges and fetches are all told by the same rule, since the step is all that
 //! tells them apart. None of the calls takes a runtime, and nothing can wait without one: a lock could not even be written.
 //!
+//! # What a call of several steps did
+//!
+//! The crates above take several steps in one call. What such a call did is what it added to the log of its seat
+//! (`specs/Log.antt`): the view afterwards is the one before after just these steps, one after another, each with the
+//! word that it saw (`Ran` in `specs/Running.antt`). So each atomic step of the call is one event of the core, and it
+//! did nothing else. `Only` says of which sort the steps were, and what they left as it was follows from both
+//! (`proofs/Running.antt`, `proofs/Noticing.antt`). `Known` and `AtLeast` are notes and floors that stay while others
+//! step, and `Alone` says that the seat has stopped the world and nobody else is in it.
+//!
 //! # What the words stand for
 //!
 //! A script means plain heaps (`plain_heap`), in which an object has a number for good and never goes. A state of the core

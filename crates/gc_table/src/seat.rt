@@ -28,6 +28,8 @@ pub struct Heap {
 pub struct HeapSeat {
     pub(crate) state: SeatState,
     pub(crate) token: Seat<(), View>,
+    /// Where its last search for a block ended. No contract speaks of it.
+    pub(crate) hint: u32,
     ghost agrees: { state ≡ token.me.0.state },
     ghost bare: { token.me.1 ≡ [] },
     ghost possible: { ∥ IsPossible token.me.0 ∥₁ },

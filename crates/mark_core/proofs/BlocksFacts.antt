@@ -1,10 +1,11 @@
--- A seat is exact while it knows that the world is stopped, and a seat that is spent or has no section has no variable: kept by each step that is allowed.
+-- A seat is exact while it knows that the world is stopped, and a seat that is spent or has no section has no variable and no cache: kept by each step that is allowed.
 use Rattle.std.proofs.Common.{ℕ, ◌≡◌, ◌<◌, replicate, get_or, length, refl, sym, ap, ◌∙◌, Bool, true, false, ◌||◌, Option, Some, None, ⊎_elim}
-use Rattle.std.specs.Prelude.{IsTrue, IsFalse, is_none}
+use Rattle.std.specs.Prelude.{IsTrue, IsFalse, is_none, is_some, if◌then◌else◌, nat_le}
 use Rattle.std.specs.List.{All}
 use Rattle.std.proofs.lemmas.Bool.{cases_Bool, and_parts, false≢true}
 use Rattle.std.proofs.lemmas.List.Elements.{All-replicate}
 use Rattle.mark_core.specs.Layout.{Words, words_of}
+use Rattle.mark_core.specs.MutatorSteps.{with_free, with_making, with_made, without_used}
 use Rattle.mark_core.specs.Seats.{is_phase, has_turn}
 use Rattle.mark_core.specs.Effects.{written, seat_after}
 use Rattle.mark_core.specs.Steps.{Core}
@@ -17,7 +18,7 @@ use Rattle.mark_core.proofs.BlocksStopped.{still-known, knower, not-still}
 use Rattle.mark_core.specs.declared.kinds.Phase.{Phase}
 use Rattle.mark_core.specs.declared.kinds.Phase.TheVariants.{Idle, Marking, Drain, Sweep, Clear, Full}
 use Rattle.mark_core.specs.declared.kinds.Step.{Step}
-use Rattle.mark_core.specs.declared.kinds.Step.TheVariants.{ReadPhase, StoreRoot, Observe, DropStep, StorePhase}
+use Rattle.mark_core.specs.declared.kinds.Step.TheVariants.{ReadPhase, StoreRoot, ClaimBlock, ReleaseBlock, ReadFree, StoreNew, PublishCells, Observe, DropStep, StorePhase}
 use Rattle.mark_core.specs.declared.seat.SeatState.{SeatState}
 
 -- an exact seat knows
@@ -27,6 +28,10 @@ ExactKnows s = IsTrue s.exact → IsTrue s.knows
 -- a seat that is spent or has no section names nothing
 abbrev pub SpentNames : SeatState → Type 0
 SpentNames s = IsTrue (s.spent || is_none s.section) → All (λ r. r ≡ 0) s.env
+
+-- a seat that is spent or has no section has no cache
+abbrev pub SpentCache : SeatState → Type 0
+SpentCache s = IsTrue (s.spent || is_none s.section) → s.cache ≡ None
 
 -- the seat isn't exact
 abbrev pub NotExact : SeatState → Type 0
@@ -75,6 +80,27 @@ pub spent-names : (c : Core) (i : ℕ) (s : SeatState) (step : Step) → Taken c
 spent-names c i s step t =
     let all : All SpentNames c.seats = λ j d h. (t.core.strong.seats_strong j d h).env_of_spent in
     local-kept SpentNames c.shape step c.seats i (seat_after c.shape s step (found c s step)) (λ k e. no_names 32) (λ k e. no_names 32) all (names_after c i s step t (mine c i s step SpentNames t all))
+
+is_given : (o : Option ℕ) (P : Type 0) → is_some o ≡ true → is_none o ≡ true → P
+is_given None P e f = absurd (false≢true e)
+is_given (Some x) P e f = absurd (false≢true f)
+
+cache_after : (c : Core) (i : ℕ) (s : SeatState) (step : Step) → Taken c i s step → SpentCache s → SpentCache (seat_after c.shape s step (found c s step))
+cache_after c i s (ClaimBlock b) t k e =
+    let none : is_none s.section ≡ true = rw t.live at e in
+    is_given s.section _ (and_parts (s.active || s.knows) _ t.ok.1.0).1 none
+cache_after c i s ReleaseBlock t k e = refl
+cache_after c i s ReadFree t k e = ap (λ o. with_free o (found c s ReadFree)) (k e)
+cache_after c i s (StoreNew y part word) t k e =
+    let none : is_none s.section ≡ true = rw t.live at e in
+    has_section s.section s.season_seen _ (and_parts s.active _ (and_parts _ _ t.ok.0).1).1 none
+cache_after c i s PublishCells t k e = ap without_used (k e)
+cache_after c i s step t k e = k e
+
+pub spent-cache : (c : Core) (i : ℕ) (s : SeatState) (step : Step) → Taken c i s step → All SpentCache (seats_left c i s step)
+spent-cache c i s step t =
+    let all : All SpentCache c.seats = λ j d h. (t.core.strong.seats_strong j d h).cache_of_spent in
+    local-kept SpentCache c.shape step c.seats i (seat_after c.shape s step (found c s step)) (λ k e. refl) (λ k e. refl) all (cache_after c i s step t (mine c i s step SpentCache t all))
 
 -- where a seat is exact, no seat is active
 pub exact-still : (c : Core) (j : ℕ) (d : SeatState) → IsCore c → j < length c.seats → IsTrue (get_or c.seats j d).exact → All (λ (x : SeatState). IsFalse x.active) c.seats

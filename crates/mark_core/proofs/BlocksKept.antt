@@ -14,7 +14,7 @@ use Rattle.mark_core.proofs.Acting.{found, words_left, seats_left}
 use Rattle.mark_core.proofs.BlocksTaken.{Taken, kept-after}
 use Rattle.mark_core.proofs.BlocksHand.{hand-others}
 use Rattle.mark_core.proofs.BlocksSteps.{Hand, hand-at}
-use Rattle.mark_core.proofs.BlocksFacts.{ExactKnows, SpentNames, NotExact, exact-knows, spent-names, marking-calm}
+use Rattle.mark_core.proofs.BlocksFacts.{ExactKnows, SpentNames, SpentCache, NotExact, exact-knows, spent-names, spent-cache, marking-calm}
 use Rattle.mark_core.specs.declared.kinds.Event.{Event}
 use Rattle.mark_core.specs.declared.kinds.Phase.TheVariants.{Marking}
 use Rattle.mark_core.specs.declared.kinds.Step.{Step}
@@ -27,6 +27,7 @@ pub record BlocksSound (w : Words) (seats : List SeatState) : Type 0 where
   pub exact_needs_knows : All ExactKnows seats
   pub no_exact_in_marking : IsTrue (is_phase w.phase Marking) → All NotExact seats
   pub env_of_spent : All SpentNames seats
+  pub cache_of_spent : All SpentCache seats
 
 blocks_at : (c : Core) (i : ℕ) (s : SeatState) (step : Step) → Taken c i s step → BlocksSound (words_left c s step) (seats_left c i s step)
 blocks_at c i s step t =
@@ -40,6 +41,7 @@ blocks_at c i s step t =
       exact_needs_knows = exact-knows c i s step t;
       no_exact_in_marking = marking-calm c i s step t;
       env_of_spent = spent-names c i s step t;
+      cache_of_spent = spent-cache c i s step t;
     }
 
 -- each event that is allowed keeps these facts

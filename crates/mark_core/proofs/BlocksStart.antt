@@ -9,7 +9,7 @@ use Rattle.mark_core.specs.Views.{blocks}
 use Rattle.mark_core.specs.Start.{start_words, start_seats}
 use Rattle.mark_core.proofs.PoolStart.{each-seat}
 use Rattle.mark_core.proofs.BlocksHand.{none-right}
-use Rattle.mark_core.proofs.BlocksFacts.{ExactKnows, SpentNames, NotExact}
+use Rattle.mark_core.proofs.BlocksFacts.{ExactKnows, SpentNames, SpentCache, NotExact}
 use Rattle.mark_core.proofs.BlocksKept.{BlocksSound}
 use Rattle.mark_core.specs.declared.kinds.Shape.{Shape}
 use Rattle.mark_core.specs.declared.seat.SeatState.{SeatState}
@@ -28,4 +28,5 @@ blocks-starts sh n z =
       exact_needs_knows = each-seat ExactKnows sh n (λ k e. absurd (false≢true e));
       no_exact_in_marking = λ e. each-seat NotExact sh n (λ k. refl);
       env_of_spent = each-seat SpentNames sh n (λ k e. All-replicate (λ r. r ≡ 0) 32 0 refl);
+      cache_of_spent = each-seat SpentCache sh n (λ k e. refl);
     }

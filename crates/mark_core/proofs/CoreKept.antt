@@ -57,6 +57,7 @@ strong_seats sh w seats world blocks hand apart facts i d h =
       free_apart_from_used = cache.free_apart_from_used;
       made_from_free = cache.made_from_free;
       env_of_spent = blocks.env_of_spent i d h;
+      cache_of_spent = blocks.cache_of_spent i d h;
       alone_knows = world.alone_knows i d h;
       admitted_has_no_cache = world.admitted_has_no_cache i d h;
     }

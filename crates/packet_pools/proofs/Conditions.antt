@@ -19,7 +19,7 @@ use Rattle.gc_table.specs.declared.view.View.{View}
 use Rattle.gc_table.specs.Notes.{look}
 use Rattle.gc_table.specs.Rule.{Agrees}
 use Rattle.gc_table.specs.Taking.{May}
-use Rattle.packet_pools.specs.Later.{Later}
+use Rattle.packet_pools.specs.Later.{LaterBy}
 use Rattle.packet_pools.specs.Tracing.{notes_drain, traces, Traces}
 
 some-is : (o : Option ℕ) (n : ℕ) → is_the o n ≡ true → o ≡ Some n
@@ -49,14 +49,14 @@ drain-steady s k = rw k (by_alone s.alone)
     by_alone true = refl
     by_alone false = refl
 
-drain-later : (v w : View) → Later v w → (v.state.knows && notes_drain v) ≡ true → (w.state.knows && notes_drain w) ≡ true
+drain-later : {b : Bool} (v w : View) → LaterBy b v w → (v.state.knows && notes_drain v) ≡ true → (w.state.knows && notes_drain w) ≡ true
 drain-later v w k e =
     let both = and_parts v.state.knows (notes_drain v) e in
     let noted = k.notes the_phase 2 refl (drain-steady v.state both.0) (some-is (look the_phase v.known) 2 both.1) in
     and_from w.state.knows (notes_drain w) (ap (λ (s : SeatState). s.knows) k.rest ∙ both.0) (ap (λ o. is_the o 2) noted)
 
 -- a seat that may trace still may after a call
-pub traces-later : (v w : View) → Later v w → traces v ≡ true → traces w ≡ true
+pub traces-later : {b : Bool} (v w : View) → LaterBy b v w → traces v ≡ true → traces w ≡ true
 traces-later v w k e =
     ap (λ (s : SeatState). (s.active && saw s.phase_seen Marking) || (w.state.knows && notes_drain w) || (s.admitted && saw s.phase_seen Drain)) k.rest
     ∙ or-mono _ _ _ _ (drain-later v w k) e

@@ -6,27 +6,27 @@ use Rattle.mark_core.specs.declared.kinds.Shape.{Shape}
 use Rattle.mark_core.specs.declared.kinds.Step.{Step}
 use Rattle.mark_core.specs.declared.kinds.Step.TheVariants.{Push, ReadField, SetMark, DirtyCard, Give, Credit, StoreLength}
 use Rattle.gc_table.specs.declared.view.Entry.{Entry}
-use Rattle.packet_pools.specs.Later.{steps_of}
+use Rattle.gc_table.specs.Log.{steps_of}
 use Rattle.packet_pools.specs.Seeking.{moves_packet, only_moves, NoOutput}
 use Rattle.packet_pools.specs.Counts.{marks_white, pushes, dirties, scans_object, count_of, only_scans, SomeStretch, Counts}
-use Rattle.packet_pools.proofs.Log.{entry_of}
+use Rattle.gc_table.proofs.Log.{entry_of}
 use Rattle.packet_pools.proofs.Searches.{moves-steps, all_move}
 
-count-join : (f : Step → ℕ → Bool) (xs ys : List Entry) → count_of f (xs ++ ys) ≡ count_of f xs + count_of f ys
+pub count-join : (f : Step → ℕ → Bool) (xs ys : List Entry) → count_of f (xs ++ ys) ≡ count_of f xs + count_of f ys
 count-join f [] ys = omega arith
 count-join f (x ∷ xs) ys = let e = count-join f xs ys in omega (arith, e)
 
-scans-join : (xs ys : List Entry) → only_scans xs ≡ true → only_scans ys ≡ true → only_scans (xs ++ ys) ≡ true
+pub scans-join : (xs ys : List Entry) → only_scans xs ≡ true → only_scans ys ≡ true → only_scans (xs ++ ys) ≡ true
 scans-join [] ys a b = b
 scans-join (x ∷ xs) ys a b = let h = and_parts (scans_object x.step) (only_scans xs) a in and_from _ _ h.0 (scans-join xs ys h.1 b)
 
-stretch-left : (P : List Entry → Type 0) (xs ys : List Entry) → SomeStretch P xs → SomeStretch P (xs ++ ys)
+pub stretch-left : (P : List Entry → Type 0) (xs ys : List Entry) → SomeStretch P xs → SomeStretch P (xs ++ ys)
 stretch-left P xs ys s = (s.0, s.1, s.2 ++ ys, ap (λ l. l ++ ys) s.3 ∙ (append_assoc s.0 (s.1 ++ s.2) ys ∙ ap (λ l. s.0 ++ l) (append_assoc s.1 s.2 ys)), s.4)
 
-stretch-right : (P : List Entry → Type 0) (xs ys : List Entry) → SomeStretch P ys → SomeStretch P (xs ++ ys)
+pub stretch-right : (P : List Entry → Type 0) (xs ys : List Entry) → SomeStretch P ys → SomeStretch P (xs ++ ys)
 stretch-right P xs ys s = (xs ++ s.0, s.1, s.2, ap (λ l. xs ++ l) s.3 ∙ sym (append_assoc xs s.0 (s.1 ++ s.2)), s.4)
 
-either-some : (m n : ℕ) → 0 < m + n → (0 < m) ⊎ (0 < n)
+pub either-some : (m n : ℕ) → 0 < m + n → (0 < m) ⊎ (0 < n)
 either-some m n l = ⊎_elim (λ (h : 0 < m). inl h) (λ (h : m ≤ 0). inr (omega (arith, l, h))) (cases_lt 0 m)
 
 -- one part of a scan after another
@@ -47,17 +47,17 @@ pub counts-none : (sh : Shape) → Counts sh 0 0 0 []
 counts-none sh = record { marked = refl; pushed = refl; overflowed = refl; cause = λ l. absurd (omega (arith, l)); scans = refl }
 
 -- a step that moves a packet is none that counts
-idle : (step : Step) (found : ℕ) → moves_packet step ≡ true → (marks_white step found ≡ false) × (pushes step found ≡ false) × (dirties step found ≡ false) × (scans_object step ≡ true)
+idle : (step : Step) (found : ℕ) → moves_packet (0 ∷ 1 ∷ 2 ∷ []) step ≡ true → (marks_white step found ≡ false) × (pushes step found ≡ false) × (dirties step found ≡ false) × (scans_object step ≡ true)
 idle (SetMark c) found m = absurd (false≢true m)
 idle (DirtyCard card) found m = absurd (false≢true m)
 idle (Push p cell) found m = absurd (false≢true m)
 idle (ReadField c i) found m = absurd (false≢true m)
 idle step found m = (refl, refl, refl, m)
 
-pub counts-moves : (sh : Shape) (es : List Entry) → only_moves es ≡ true → Counts sh 0 0 0 es
+pub counts-moves : (sh : Shape) (es : List Entry) → only_moves (0 ∷ 1 ∷ 2 ∷ []) es ≡ true → Counts sh 0 0 0 es
 counts-moves sh [] m = counts-none sh
 counts-moves sh (e ∷ es) m =
-    let h = and_parts (moves_packet e.step) (only_moves es) m in
+    let h = and_parts (moves_packet (0 ∷ 1 ∷ 2 ∷ []) e.step) (only_moves (0 ∷ 1 ∷ 2 ∷ []) es) m in
     let k = idle e.step e.found h.0 in
     let r = counts-moves sh es h.1 in
     record {
@@ -69,10 +69,10 @@ counts-moves sh (e ∷ es) m =
     }
 
 -- a packet that is given back
-pub given-moves : (p : ℕ) (d b : Bool) (es : List Entry) → steps_of es ≡ StoreLength p ∷ Give p d ∷ (cond b (Credit ∷ []) []) → only_moves es ≡ true
-given-moves p d b es e = moves-steps es ∙ (ap all_move e ∙ moving b)
+pub given-moves : (qs : List ℕ) (p : ℕ) (b : Bool) (es : List Entry) → steps_of es ≡ StoreLength p ∷ Give p false ∷ (cond b (Credit ∷ []) []) → only_moves qs es ≡ true
+given-moves qs p b es e = moves-steps qs es ∙ (ap (all_move qs) e ∙ moving b)
   where
-    moving : (c : Bool) → all_move (StoreLength p ∷ Give p d ∷ (cond c (Credit ∷ []) [])) ≡ true
+    moving : (c : Bool) → all_move qs (StoreLength p ∷ Give p false ∷ (cond c (Credit ∷ []) [])) ≡ true
     moving true = refl
     moving false = refl
 

@@ -1,9 +1,10 @@
 -- The slots of a seat that changes one packet for another.
-use Rattle.std.proofs.Common.{ℕ, ◌≡◌, ◌≢◌, [], ◌∷◌, refl, sym, ap, ◌∙◌, Bool, true, false, Some, None, arith}
+use Rattle.std.proofs.Common.{ℕ, ◌≡◌, ◌≢◌, ◌<◌, ◌≤◌, ◌+◌, [], ◌∷◌, cond, eqb, refl, sym, ap, ◌∙◌, Bool, true, false, Option, Some, None, arith}
+use Rattle.std.specs.Prelude.{◌||◌}
 use Rattle.std.proofs.lemmas.Bool.{true≢false, false≢true}
-use Rattle.mark_core.specs.Held.{Slots, Slot, slot_without, holds, holds_another, has_free_slot, known_length, drop_packet, set_length}
+use Rattle.mark_core.specs.Held.{Slots, Slot, slot_without, holds, holds_another, has_free_slot, known_length, put_packet, drop_packet, set_length}
 use Rattle.mark_core.proofs.PoolSlots.{any-held, drop-other}
-use Rattle.packet_pools.specs.Hands.{with_packet}
+use Rattle.packet_pools.specs.Hands.{with_packet, free_slots}
 use Rattle.packet_pools.proofs.InHand.{known-held, drop-with}
 
 -- a packet that isn't held is another than one that is
@@ -25,6 +26,49 @@ pub set-free : (hs : Slots) (p n : ℕ) (b : Bool) → has_free_slot (set_length
 set-free [] p n b = refl
 set-free (None ∷ hs) p n b = refl
 set-free (Some x ∷ hs) p n b = grind (arith, set-free hs p n b)
+
+pub set-frees : (hs : Slots) (p n : ℕ) (b : Bool) → free_slots (set_length hs p n b) ≡ free_slots hs
+set-frees [] p n b = refl
+set-frees (None ∷ hs) p n b = ap (λ m. 1 + m) (set-frees hs p n b)
+set-frees (Some x ∷ hs) p n b = either (eqb x.0 p) ∙ set-frees hs p n b
+  where
+    either : (c : Bool) → free_slots (cond c (Some (p, Some n, b)) (Some x) ∷ set_length hs p n b) ≡ free_slots (set_length hs p n b)
+    either true = refl
+    either false = refl
+
+dropped-one : (x : ℕ × Option ℕ × Bool) (hs : Slots) (c : Bool) → free_slots hs ≤ free_slots (cond c None (Some x) ∷ hs)
+dropped-one x hs true = omega arith
+dropped-one x hs false = omega arith
+
+drop-most : (hs : Slots) (p : ℕ) → free_slots hs ≤ free_slots (drop_packet hs p)
+drop-most [] p = omega arith
+drop-most (None ∷ hs) p = let e = drop-most hs p in omega (arith, e)
+drop-most (Some x ∷ hs) p = let e = drop-most hs p in let d = dropped-one x (drop_packet hs p) (eqb x.0 p) in omega (arith, e, d)
+
+-- a packet that goes leaves one more slot free
+pub drop-frees : (hs : Slots) (p : ℕ) → holds hs p ≡ true → free_slots hs + 1 ≤ free_slots (drop_packet hs p)
+drop-frees [] p h = absurd (false≢true h)
+drop-frees (None ∷ hs) p h = let e = drop-frees hs p h in omega (arith, e)
+drop-frees (Some x ∷ hs) p h = either (eqb x.0 p) h (drop-most hs p) (drop-frees hs p)
+  where
+    either : (c : Bool) → (c || holds hs p) ≡ true → free_slots hs ≤ free_slots (drop_packet hs p) → (holds hs p ≡ true → free_slots hs + 1 ≤ free_slots (drop_packet hs p)) → free_slots hs + 1 ≤ free_slots (cond c None (Some x) ∷ drop_packet hs p)
+    either true g e f = omega (arith, e)
+    either false g e f = f g
+
+put-frees : (hs : Slots) (p : ℕ) → has_free_slot hs ≡ true → free_slots (put_packet hs p) + 1 ≡ free_slots hs
+put-frees [] p f = absurd (false≢true f)
+put-frees (None ∷ hs) p f = omega arith
+put-frees (Some x ∷ hs) p f = put-frees hs p f
+
+-- a packet that was taken fills a slot
+pub with-frees : (hs : Slots) (p n : ℕ) → has_free_slot hs ≡ true → free_slots (with_packet hs p n) + 1 ≡ free_slots hs
+with-frees hs p n f = ap (λ m. m + 1) (set-frees (put_packet hs p) p n true) ∙ put-frees hs p f
+
+-- a slot is free where one is counted
+pub some-free : (hs : Slots) → 0 < free_slots hs → has_free_slot hs ≡ true
+some-free [] l = absurd (omega (arith, l))
+some-free (None ∷ hs) l = refl
+some-free (Some x ∷ hs) l = some-free hs l
 
 without-either : (x : Slot) (p q : ℕ) → slot_without q (slot_without p x) ≡ slot_without p (slot_without q x)
 without-either None p q = refl

@@ -1,10 +1,16 @@
 -- The slots of a seat that takes a packet, fills it, empties it or gives it back.
 use Rattle.std.proofs.Common.{ℕ, ◌≡◌, ◌≢◌, ◌<◌, [], ◌∷◌, arith, refl, sym, ap, ◌∙◌, Bool, true, false, not, Some, None, Option, is_some, cond, eqb, eq-eqb, unwrap_or}
 use Rattle.std.proofs.lemmas.Bool.{false≢true, or_parts, ne_eqb, not_from_false, true_from_ne_false}
+use Rattle.mark_core.specs.Seats.{work_in_hand}
+use Rattle.mark_core.specs.declared.seat.SeatState.{SeatState}
 use Rattle.mark_core.specs.Held.{Slots, slot_with, slot_without, holds, has_length, has_entry, length_in_hand, known_length, is_stored, has_free_slot, put_packet, drop_packet, set_length}
 use Rattle.mark_core.proofs.PoolSlots.{put-other, set-other, holds-put_same, known-put_same, known-set_same}
 use Rattle.mark_core.proofs.Known.{unheld-unknown}
 use Rattle.packet_pools.specs.Hands.{with_packet}
+
+-- no work in hand
+pub idle-popped : (fields : ℕ) (s : SeatState) → work_in_hand fields s ≡ false → is_some s.popped ≡ false
+idle-popped fields s e = (or_parts _ _ (or_parts _ _ (or_parts _ _ (or_parts _ _ e).0).0).0).0
 
 -- a known length is that of a packet in hand
 pub known-held : (hs : Slots) (p n : ℕ) → known_length hs p ≡ Some n → holds hs p ≡ true

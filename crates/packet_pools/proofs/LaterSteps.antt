@@ -1,9 +1,13 @@
 -- One step of tracing leaves the rest as it was, and so do many.
-use Rattle.std.proofs.Common.{ℕ, ◌≡◌, ◌∷◌, refl, sym, ap, ◌∙◌, subst, Bool, true, false, cond, Some, None, ⊎_elim}
+use Rattle.std.proofs.Common.{ℕ, ◌≡◌, ◌/◌, ◌%◌, ◌^◌, ◌∷◌, refl, sym, ap, ◌∙◌, subst, Bool, true, false, cond, Some, None, ⊎_elim, eq-eqb}
 use Rattle.std.specs.Prelude.{◌||◌}
-use Rattle.std.proofs.lemmas.Bool.{cases_Bool, and_parts, true≢false, false_from_ne_true}
+use Rattle.std.proofs.lemmas.Bool.{cases_Bool, and_parts, and_from, true≢false, false≢true, false_from_ne_true}
 use Rattle.mark_core.specs.Effects.{place, written, seat_after}
-use Rattle.mark_core.specs.Notes.{same_place, steady, keeps_bound, is_counter, word_at}
+use Rattle.mark_core.specs.Notes.{same_place, steady, keeps_bound, keeps_single, is_counter, word_at}
+use Rattle.mark_core.specs.Bits.{has_bit, with_bit}
+use Rattle.mark_core.specs.Places.{mark_at}
+use Rattle.mark_core.specs.declared.kinds.Step.TheVariants.{SetMark}
+use Rattle.mark_core.proofs.CellBits.{bit-more, with_same}
 use Rattle.mark_core.specs.declared.kinds.Step.{Step}
 use Rattle.mark_core.specs.declared.kinds.Shape.{Shape}
 use Rattle.mark_core.specs.declared.seat.SeatState.{SeatState}
@@ -12,8 +16,13 @@ use Rattle.gc_table.specs.Sections.{section_after}
 use Rattle.gc_table.specs.Notes.{Notes, look, if_kept, noting}
 use Rattle.gc_table.specs.Taking.{after, Finds}
 use Rattle.gc_table.proofs.Noting.{place-same, look-map}
-use Rattle.packet_pools.specs.Later.{is_traced, rest_of, Later}
-use Rattle.packet_pools.proofs.Log.{grows-refl, grows-join, grows-after}
+use Rattle.gc_table.specs.Running.{is_store, IsSeen}
+use Rattle.gc_table.proofs.Log.{grows-refl, grows-join, grows-after, only-none, only-after, only-join}
+use Rattle.gc_table.proofs.Noticing.{found-noted}
+use Rattle.gc_table.proofs.Running.{ran-refl, ran-after, ran-join, ran-events}
+use Rattle.packet_pools.specs.Keeping.{keeps_cells}
+use Rattle.packet_pools.specs.Later.{is_traced, rest_of, IsNotedMarked, traces_cells, LaterBy, Later, LaterCleaned}
+use Rattle.packet_pools.proofs.Keeping.{keep-none, keep-one, keep-join}
 
 -- what was noted of another place stays, where it may be kept
 note-stays : (keeps : ℕ × ℕ → ℕ → Bool) (to at : ℕ × ℕ) (word n : ℕ) (xs : Notes) → same_place to at ≡ false → keeps at n ≡ true → look at xs ≡ Some n → look at (noting keeps to word xs) ≡ Some n
@@ -30,17 +39,31 @@ note-again keeps to at word n xs here is k =
 traced-apart : (to at : ℕ × ℕ) → is_traced to ≡ true → is_traced at ≡ false → same_place to at ≡ false
 traced-apart to at t f = false_from_ne_true (same_place to at) (λ e. true≢false (sym t ∙ (ap is_traced (place-same to at e) ∙ f)))
 
+place-again : (at : ℕ × ℕ) → same_place at at ≡ true
+place-again at = and_from _ _ (eq-eqb at.0 at.0 refl) (eq-eqb at.1 at.1 refl)
+
 same-steady : (s t : SeatState) (at : ℕ × ℕ) (n : ℕ) → rest_of t ≡ rest_of s → steady s at n ≡ true → steady t at n ≡ true
 same-steady s t at n e h = ap (λ (x : SeatState). steady x at n) e ∙ h
 
 same-bound : (s t : SeatState) (at : ℕ × ℕ) → rest_of t ≡ rest_of s → keeps_bound s at ≡ true → keeps_bound t at ≡ true
 same-bound s t at e h = ap (λ (x : SeatState). keeps_bound x at) e ∙ h
 
-pub later-refl : (v : View) → Later v v
-later-refl v = record { shape = refl; opened = refl; plan = refl; own = refl; joined = refl; rest = refl; log = grows-refl v; notes = λ at n f k h. h; floors = λ at n f k h. h }
+-- a seat that is alone keeps its notes of mark words
+mark-steady : (s : SeatState) (b n : ℕ) → s.alone ≡ true → steady s (mark_at b) n ≡ true
+mark-steady s b n h = ap (λ (a : Bool). a || keeps_single s (mark_at b) n) h
 
-pub later-join : (u v w : View) → Later u v → Later v w → Later u w
-later-join u v w a b =
+-- the word of an event is what its step found, or what it stored
+pub seen-found : (v : View) (step : Step) (n : ℕ) → is_store step ≡ false → Finds step n v → IsSeen step n v
+seen-found v step n k f = record { found = λ _. f; stored = λ t. absurd (true≢false (sym t ∙ k)) }
+
+pub seen-stored : (v : View) (step : Step) (n : ℕ) → is_store step ≡ true → n ≡ written v.shape v.state step 0 → IsSeen step n v
+seen-stored v step n k e = record { found = λ f. absurd (true≢false (sym k ∙ f)); stored = λ _. e }
+
+pub later-refl : (v : View) → Later v v
+later-refl v = record { shape = refl; opened = refl; plan = refl; own = refl; joined = refl; rest = refl; log = grows-refl v; notes = λ at n f k h. h; floors = λ at n f k h. h; ran = ran-refl v; only = only-none traces_cells v; cells = λ _. keep-none v }
+
+by-join : (t : Bool) (u v w : View) → LaterBy t u v → LaterBy t v w → LaterBy t u w
+by-join t u v w a b =
     record {
       shape = b.shape ∙ a.shape;
       opened = b.opened ∙ a.opened;
@@ -51,11 +74,39 @@ later-join u v w a b =
       log = grows-join u v w a.log b.log;
       notes = λ at n f k h. b.notes at n f (same-steady u.state v.state at n a.rest k) (a.notes at n f k h);
       floors = λ at n f k h. b.floors at n f (same-bound u.state v.state at a.rest k) (a.floors at n f k h);
+      ran = ran-join u v w a.ran b.ran;
+      only = only-join traces_cells u v w a.log b.log a.only b.only;
+      cells = λ h. keep-join u v w (ran-events u v w a.ran b.ran) a.ran (a.cells h) (b.cells h);
+    }
+
+pub later-join : (u v w : View) → Later u v → Later v w → Later u w
+later-join u v w a b = by-join true u v w a b
+
+pub cleaned-join : (u v w : View) → LaterCleaned u v → LaterCleaned v w → LaterCleaned u w
+cleaned-join u v w a b = by-join false u v w a b
+
+-- a seat that traced may have cleaned, too
+pub later-cleaned : (v w : View) → Later v w → LaterCleaned v w
+later-cleaned v w a =
+    record {
+      shape = a.shape;
+      opened = a.opened;
+      plan = a.plan;
+      own = a.own;
+      joined = a.joined;
+      rest = a.rest;
+      log = a.log;
+      notes = a.notes;
+      floors = a.floors;
+      ran = a.ran;
+      only = a.only;
+      cells = λ t. absurd (false≢true t);
     }
 
 -- a step that writes a word of tracing
-pub later-step : (v : View) (step : Step) (n : ℕ) → is_traced (place v.shape v.state step) ≡ true → rest_of (seat_after v.shape v.state step n) ≡ rest_of v.state → section_after v.shape v.plan v.state step v.own ≡ v.own → Later v (after step n v)
-later-step v step n t e same =
+by-step : (b : Bool) (v : View) (step : Step) (n : ℕ) → is_traced (place v.shape v.state step) ≡ true → rest_of (seat_after v.shape v.state step n) ≡ rest_of v.state → section_after v.shape v.plan v.state step v.own ≡ v.own → IsSeen step n v → traces_cells step ≡ true → (b ≡ true → keeps_cells v.state step ≡ true)
+    → LaterBy b v (after step n v)
+by-step b v step n t e same seen sort keeps =
     let to : ℕ × ℕ = place v.shape v.state step in
     let s : SeatState = seat_after v.shape v.state step n in
     record {
@@ -68,19 +119,34 @@ later-step v step n t e same =
       log = grows-after v step n;
       notes = λ at m f k h. note-stays (steady s) to at (written v.shape v.state step n) m v.known (traced-apart to at t f) (same-steady v.state s at m e k) h;
       floors = λ at m f k h. note-stays (λ p x. keeps_bound s p) to at (written v.shape v.state step n) m v.floors (traced-apart to at t f) (same-bound v.state s at e k) h;
+      ran = ran-after v (after step n v) step n refl seen;
+      only = only-after traces_cells v (after step n v) step n sort refl;
+      cells = λ h. keep-one v step n (keeps h);
     }
 
-found-noted : (v : View) (step : Step) (n m : ℕ) (at : ℕ × ℕ) → Finds step n v → same_place (place v.shape v.state step) at ≡ true → look at v.known ≡ Some m → n ≡ m
-found-noted v step n m at f e h =
-    let to : place f.state.core.shape v.state step ≡ at = ap (λ (sh : Shape). place sh v.state step) (sym f.agrees.shape) ∙ place-same (place v.shape v.state step) at e in
-    sym f.word ∙ (ap (λ p. word_at f.state.core.shape f.state.core.words p) to ∙ (f.agrees.noted at m h).1)
+pub later-step : (v : View) (step : Step) (n : ℕ) → is_traced (place v.shape v.state step) ≡ true → rest_of (seat_after v.shape v.state step n) ≡ rest_of v.state → section_after v.shape v.plan v.state step v.own ≡ v.own → IsSeen step n v → traces_cells step ≡ true → keeps_cells v.state step ≡ true → Later v (after step n v)
+later-step v step n t e same seen sort keeps = by-step true v step n t e same seen sort (λ _. keeps)
+
+-- so where a cell in hand may be lost
+pub cleaned-step : (v : View) (step : Step) (n : ℕ) → is_traced (place v.shape v.state step) ≡ true → rest_of (seat_after v.shape v.state step n) ≡ rest_of v.state → section_after v.shape v.plan v.state step v.own ≡ v.own → IsSeen step n v → traces_cells step ≡ true → LaterCleaned v (after step n v)
+cleaned-step v step n t e same seen sort = by-step false v step n t e same seen sort (λ h. absurd (false≢true h))
 
 bound-counter : (s : SeatState) (at : ℕ × ℕ) → keeps_bound s at ≡ true → is_counter at ≡ true
 bound-counter s at h = (and_parts (is_counter at) (s.admitted || s.knows) h).0
 
+-- a step that reads a word leaves each note
+pub read-keeps : (v : View) (step : Step) (n : ℕ) → written v.shape v.state step n ≡ n → Finds step n v → (at : ℕ × ℕ) (m : ℕ) → steady (seat_after v.shape v.state step n) at m ≡ true → look at v.known ≡ Some m → look at (after step n v).known ≡ Some m
+read-keeps v step n reads f at m k h =
+    let to : ℕ × ℕ = place v.shape v.state step in
+    let s : SeatState = seat_after v.shape v.state step n in
+    ⊎_elim
+    (λ (here : same_place to at ≡ true). note-again (steady s) to at (written v.shape v.state step n) m v.known here (reads ∙ found-noted v step n m at f here h) k)
+    (λ (apart : same_place to at ≡ false). note-stays (steady s) to at (written v.shape v.state step n) m v.known apart k h)
+    (cases_Bool (same_place to at))
+
 -- a step that reads a word, other than a counter
-pub later-read : (v : View) (step : Step) (n : ℕ) → written v.shape v.state step n ≡ n → is_counter (place v.shape v.state step) ≡ false → Finds step n v → rest_of (seat_after v.shape v.state step n) ≡ rest_of v.state → section_after v.shape v.plan v.state step v.own ≡ v.own → Later v (after step n v)
-later-read v step n reads c f e same =
+pub later-read : (v : View) (step : Step) (n : ℕ) → written v.shape v.state step n ≡ n → is_counter (place v.shape v.state step) ≡ false → Finds step n v → rest_of (seat_after v.shape v.state step n) ≡ rest_of v.state → section_after v.shape v.plan v.state step v.own ≡ v.own → is_store step ≡ false → traces_cells step ≡ true → keeps_cells v.state step ≡ true → Later v (after step n v)
+later-read v step n reads c f e same load sort keeps =
     let to : ℕ × ℕ = place v.shape v.state step in
     let s : SeatState = seat_after v.shape v.state step n in
     record {
@@ -91,20 +157,45 @@ later-read v step n reads c f e same =
       joined = refl;
       rest = e;
       log = grows-after v step n;
-      notes =
-          λ at m _ k h.
-          ⊎_elim
-          (λ (here : same_place to at ≡ true). note-again (steady s) to at (written v.shape v.state step n) m v.known here (reads ∙ found-noted v step n m at f here h) (same-steady v.state s at m e k))
-          (λ (apart : same_place to at ≡ false). note-stays (steady s) to at (written v.shape v.state step n) m v.known apart (same-steady v.state s at m e k) h)
-          (cases_Bool (same_place to at));
+      notes = λ at m _ k h. read-keeps v step n reads f at m (same-steady v.state s at m e k) h;
       floors =
           λ at m _ k h.
           note-stays (λ p x. keeps_bound s p) to at (written v.shape v.state step n) m v.floors
           (false_from_ne_true (same_place to at) (λ here. true≢false (sym (bound-counter v.state at k) ∙ (ap is_counter (sym (place-same to at here)) ∙ c))))
           (same-bound v.state s at e k)
           h;
+      ran = ran-after v (after step n v) step n refl (seen-found v step n load f);
+      only = only-after traces_cells v (after step n v) step n sort refl;
+      cells = λ _. keep-one v step n keeps;
     }
+
+-- a cell is marked: the others of its block stay marked
+pub mark-keeps : (v : View) (x n c : ℕ) → Finds (SetMark x) n v → v.state.alone ≡ true → IsNotedMarked v c → IsNotedMarked (after (SetMark x) n v) c
+mark-keeps v x n c f alone k =
+    let to : ℕ × ℕ = mark_at (x / 64) in
+    let s : SeatState = seat_after v.shape v.state (SetMark x) n in
+    ⊎_elim
+    (λ (here : same_place to (mark_at (c / 64)) ≡ true).
+    let word : ℕ = with_bit n (x % 64) in (
+      word,
+      note-again (steady s) to (mark_at (c / 64)) word word v.known here refl (mark-steady s (c / 64) word alone),
+      bit-more n (2 ^ (x % 64)) (c % 64) (ap (λ m. has_bit m (c % 64)) (found-noted v (SetMark x) n k.0 (mark_at (c / 64)) f here k.1) ∙ k.2),
+    ))
+    (λ (apart : same_place to (mark_at (c / 64)) ≡ false).
+    (k.0, note-stays (steady s) to (mark_at (c / 64)) (with_bit n (x % 64)) k.0 v.known apart (mark-steady s (c / 64) k.0 alone) k.1, k.2))
+    (cases_Bool (same_place to (mark_at (c / 64))))
+
+-- and this one is noted as marked
+pub marks-noted : (v : View) (x n : ℕ) → v.state.alone ≡ true → IsNotedMarked (after (SetMark x) n v) x
+marks-noted v x n alone =
+    let at : ℕ × ℕ = mark_at (x / 64) in
+    let s : SeatState = seat_after v.shape v.state (SetMark x) n in
+    let word : ℕ = with_bit n (x % 64) in
+    (word, note-again (steady s) at at word word v.known (place-again at) refl (mark-steady s (x / 64) word alone), with_same n (x % 64))
 
 -- the same of the view after the call
 pub later-to : (v w : View) (step : Step) (n : ℕ) → w ≡ after step n v → Later v (after step n v) → Later v w
 later-to v w step n e k = subst (Later v) (sym e) k
+
+pub cleaned-to : (v w : View) (step : Step) (n : ℕ) → w ≡ after step n v → LaterCleaned v (after step n v) → LaterCleaned v w
+cleaned-to v w step n e k = subst (LaterCleaned v) (sym e) k

@@ -1,4 +1,4 @@
-pub mod Log
+pub mod Keeping
 pub mod LaterSteps
 pub mod Conditions
 pub mod Searches
@@ -19,3 +19,4 @@ pub mod Settled
 pub mod Pushed
 pub mod Rounds
 pub mod Reading
+pub mod Marked

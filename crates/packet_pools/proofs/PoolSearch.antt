@@ -8,12 +8,13 @@ use Rattle.mark_core.specs.declared.seat.SeatState.{SeatState}
 use Rattle.gc_table.specs.declared.view.Entry.{Entry}
 use Rattle.gc_table.specs.declared.view.View.{View}
 use Rattle.packet_pools.specs.declared.held.Held.{Held}
-use Rattle.packet_pools.specs.Later.{Later, events}
+use Rattle.packet_pools.specs.Later.{Later}
+use Rattle.gc_table.specs.Log.{events}
 use Rattle.packet_pools.specs.Hands.{with_packet}
 use Rattle.packet_pools.specs.Seeking.{gets, gets_from, loses, shows_outside, seen_outside, was_lost, was_full, was_got, AllMissed, only_moves}
 use Rattle.packet_pools.specs.Gains.{ComesFrom, Takes, Gains, Misses}
-use Rattle.packet_pools.proofs.Log.{events-join}
-use Rattle.packet_pools.proofs.Searches.{before-left, before-right, missed-left, missed-right, some-parts, some-right, moves-join}
+use Rattle.gc_table.proofs.Log.{events-join}
+use Rattle.packet_pools.proofs.Searches.{before-left, before-right, missed-left, missed-right, some-parts, some-right, first-pool, moves-join, next-pools}
 
 pub below-words : (sh : Shape) (p : ℕ) → p < sh.packets → p < 64 * pool_words sh
 below-words sh p l = omega (arith, l)
@@ -52,11 +53,11 @@ takes-first q qs room h v w r g =
       held = g.held;
       state = g.state ∙ (λ i. record v.state { held = with_packet v.state.held h.packet h.length; reserved = sym r i });
       from = inl (g.range, g.got);
-      moves = g.moves;
+      moves = first-pool q qs (events v w) g.moves;
     }
 
 -- a packet of a later pool, where the first had none
-pub takes-next : (q : ℕ) (qs : List ℕ) (h : Held) (v u w : View) → Later v u → Later u w → u.state ≡ v.state → ((p : ℕ) → was_got p (events v u) ≡ false) → AllMissed v.shape q (events v u) → only_moves (events v u) ≡ true → Takes qs h u w → Takes (q ∷ qs) h v w
+pub takes-next : (q : ℕ) (qs : List ℕ) (h : Held) (v u w : View) → Later v u → Later u w → u.state ≡ v.state → ((p : ℕ) → was_got p (events v u) ≡ false) → AllMissed v.shape q (events v u) → only_moves (q ∷ []) (events v u) ≡ true → Takes qs h u w → Takes (q ∷ qs) h v w
 takes-next q qs h v u w a b e n m before t =
     let es = events-join v u w a.log b.log in
     record {
@@ -67,11 +68,11 @@ takes-next q qs h v u w a b e n m before t =
         subst (AllMissed v.shape q) (sym es) (all-left v.shape q (events v u) (events u w) m),
         subst (ComesFrom v.shape qs h) (sym es) (comes-right v.shape qs h (events v u) (events u w) n (subst (λ (s : Shape). ComesFrom s qs h (events u w)) a.shape t.from)),
       );
-      moves = ap only_moves es ∙ moves-join (events v u) (events u w) before t.moves;
+      moves = ap (only_moves (q ∷ qs)) es ∙ moves-join (q ∷ qs) (events v u) (events u w) (first-pool q qs (events v u) before) (next-pools q qs (events u w) t.moves);
     }
 
 -- events around a search that take nothing
-pub misses-within : (sh : Shape) (q : ℕ) (room : Bool) (lo hi : ℕ) (xs es ys : List Entry) → ((p : ℕ) → was_got p xs ≡ false) → ((p : ℕ) → was_got p ys ≡ false) → only_moves xs ≡ true → only_moves ys ≡ true → Misses sh q room lo hi es → Misses sh q room lo hi (xs ++ (es ++ ys))
+pub misses-within : (sh : Shape) (q : ℕ) (room : Bool) (lo hi : ℕ) (xs es ys : List Entry) → ((p : ℕ) → was_got p xs ≡ false) → ((p : ℕ) → was_got p ys ≡ false) → only_moves (q ∷ []) xs ≡ true → only_moves (q ∷ []) ys ≡ true → Misses sh q room lo hi es → Misses sh q room lo hi (xs ++ (es ++ ys))
 misses-within sh q room lo hi xs es ys nx ny mx my m =
     record {
       all = λ p l h low. missed-right sh.entries q room p xs (es ++ ys) (nx p) (missed-left sh.entries q room p es ys (m.all p l h low));
@@ -81,7 +82,7 @@ misses-within sh q room lo hi xs es ys nx ny mx my m =
           (λ a. absurd (true≢false (sym a ∙ nx p)))
           (λ b. ⊎_elim (λ g. m.got p g) (λ d. absurd (true≢false (sym d ∙ ny p))) (some-parts (gets p) es ys b))
           (some-parts (gets p) xs (es ++ ys) e);
-      moves = moves-join xs (es ++ ys) mx (moves-join es ys m.moves my);
+      moves = moves-join (q ∷ []) xs (es ++ ys) mx (moves-join (q ∷ []) es ys m.moves my);
     }
 
 -- none in two pools

@@ -1,5 +1,5 @@
 -- What a seat has in hand after each step of a scan.
-use Rattle.std.proofs.Common.{ℕ, ◌≡◌, ◌≤◌, ◌+◌, ◌/◌, ◌%◌, ◌⊎◌, inl, inr, refl, sym, ap, ◌∙◌, subst, Bool, true, false, cond, Some, None, Option, eq-eqb}
+use Rattle.std.proofs.Common.{ℕ, ◌≡◌, ◌≤◌, ◌+◌, ◌/◌, ◌%◌, ◌⊎◌, inl, inr, arith, refl, sym, ap, ◌∙◌, subst, Bool, true, false, cond, Some, None, Option, eq-eqb}
 use Rattle.mark_core.specs.Bits.{has_bit}
 use Rattle.mark_core.specs.Held.{has_free_slot, drop_packet}
 use Rattle.mark_core.specs.Seats.{is_the}
@@ -11,7 +11,7 @@ use Rattle.gc_table.specs.declared.view.View.{View}
 use Rattle.gc_table.specs.Taking.{after}
 use Rattle.packet_pools.specs.declared.held.Held.{Held}
 use Rattle.packet_pools.specs.Scanning.{InHand, Fills, Pushes, Settles}
-use Rattle.packet_pools.specs.Hands.{IsHeld}
+use Rattle.packet_pools.specs.Hands.{IsHeld, free_slots}
 use Rattle.packet_pools.proofs.Filled.{fills-join, fills-more, fills-same}
 use Rattle.packet_pools.proofs.Settled.{settles-dirty, settles-join, settles-same}
 
@@ -118,7 +118,7 @@ white v w c n e bit hand =
 pub pushes-after : (v w x : View) (h k : Held) (c n : ℕ) → w ≡ after (SetMark c) n v → Pushes h k w.state.scan w.state.cleaning w x → Pushes h k v.state.scan v.state.cleaning v x
 pushes-after v w x h k c n e p =
     record {
-      packet = record { held = p.packet.held; free = p.packet.free; slots = p.packet.slots ∙ ap (λ (z : View). drop_packet z.state.held h.packet) e };
+      packet = record { held = p.packet.held; free = p.packet.free; frees = (let n : free_slots v.state.held ≡ free_slots w.state.held = ap (λ (z : View). free_slots z.state.held) (sym e) in omega (arith, n, p.packet.frees)); slots = p.packet.slots ∙ ap (λ (z : View). drop_packet z.state.held h.packet) e };
       hand = p.hand;
       scan = p.scan ∙ ap (λ (z : View). z.state.scan) e;
       cleaning = subst (λ y. Settles y x.state.cleaning) (ap (λ (z : View). z.state.cleaning) e) p.cleaning;

@@ -8,22 +8,22 @@ use Rattle.mark_core.specs.declared.kinds.Step.TheVariants.{ReadField, SetMark}
 use Rattle.gc_table.specs.declared.view.Entry.{Entry}
 use Rattle.packet_pools.specs.Seeking.{moves_packet, only_moves}
 use Rattle.packet_pools.specs.Fields.{fields_read, cells_named, cells_asked, picked, Asks, Follows, fields_from}
-use Rattle.packet_pools.proofs.Log.{entry_of}
+use Rattle.gc_table.proofs.Log.{entry_of}
 
-picked-join : {X : Type 0} (f : Step → ℕ → List X) (xs ys : List Entry) → picked f (xs ++ ys) ≡ picked f xs ++ picked f ys
+pub picked-join : {X : Type 0} (f : Step → ℕ → List X) (xs ys : List Entry) → picked f (xs ++ ys) ≡ picked f xs ++ picked f ys
 picked-join f [] ys = refl
 picked-join f (x ∷ xs) ys = ap (λ l. f x.step x.found ++ l) (picked-join f xs ys) ∙ sym (append_assoc (f x.step x.found) (picked f xs) (picked f ys))
 
 -- a step that moves a packet reads and marks nothing
-idle : (step : Step) (found : ℕ) → moves_packet step ≡ true → (fields_read step found ≡ []) × (cells_named step found ≡ []) × (cells_asked step found ≡ [])
+idle : (step : Step) (found : ℕ) → moves_packet (0 ∷ 1 ∷ 2 ∷ []) step ≡ true → (fields_read step found ≡ []) × (cells_named step found ≡ []) × (cells_asked step found ≡ [])
 idle (ReadField c i) found m = absurd (false≢true m)
 idle (SetMark c) found m = absurd (false≢true m)
 idle step found m = (refl, refl, refl)
 
-pub asks-moves : (es : List Entry) → only_moves es ≡ true → Asks [] es
+pub asks-moves : (es : List Entry) → only_moves (0 ∷ 1 ∷ 2 ∷ []) es ≡ true → Asks [] es
 asks-moves [] m = record { read = refl; named = refl; asked = refl }
 asks-moves (e ∷ es) m =
-    let h = and_parts (moves_packet e.step) (only_moves es) m in
+    let h = and_parts (moves_packet (0 ∷ 1 ∷ 2 ∷ []) e.step) (only_moves (0 ∷ 1 ∷ 2 ∷ []) es) m in
     let k = idle e.step e.found h.0 in
     let r = asks-moves es h.1 in
     record { read = λ i. k.0 i ++ r.read i; named = λ i. k.1 i ++ r.named i; asked = λ i. k.2 i ++ r.asked i }

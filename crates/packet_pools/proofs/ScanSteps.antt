@@ -1,24 +1,25 @@
 -- When a seat may take the steps of a scan, by what it knows.
-use Rattle.std.proofs.Common.{ℕ, ◌≡◌, ◌<◌, ◌≤◌, ◌/◌, arith, refl, sym, ap, ◌∙◌, subst, true, not, Some, None, Option, eqb, eqb-true, eq-eqb, ⊎_elim}
-use Rattle.std.specs.Prelude.{IfSome, ◌&&◌, ◌||◌, is_some}
+use Rattle.std.proofs.Common.{ℕ, ◌≡◌, ◌<◌, ◌≤◌, ◌/◌, arith, refl, sym, ap, ◌∙◌, subst, Bool, cond, true, not, Some, None, Option, eqb, eqb-true, eq-eqb, ⊎_elim}
+use Rattle.std.specs.Prelude.{IfSome, ◌&&◌, ◌||◌, is_some, is_none}
 use Rattle.std.proofs.lemmas.Bool.{false≢true, and_parts, and_from, or_cases, or_left, or_right, lt-ltb}
 use Rattle.mark_core.specs.Shapes.{IsShape}
 use Rattle.mark_core.specs.Layout.{card_count}
-use Rattle.mark_core.specs.ColourSteps.{may_read_field}
+use Rattle.mark_core.specs.ColourSteps.{fresh_off, may_read_field}
 use Rattle.mark_core.specs.Seats.{takes_part, is_the, scans, may_scan, scan_left, in_set, saw}
 use Rattle.mark_core.specs.WellFormed.{IsSeat, IsCleaning}
 use Rattle.mark_core.specs.declared.kinds.Shape.{Shape}
 use Rattle.mark_core.specs.declared.kinds.Phase.TheVariants.{Marking, Drain}
-use Rattle.mark_core.specs.declared.kinds.Step.TheVariants.{ReadField, SetMark, DirtyCard}
+use Rattle.mark_core.specs.declared.kinds.Step.TheVariants.{ReadField, ReadRoot, SetMark, DirtyCard}
 use Rattle.mark_core.specs.declared.seat.Cleaning.{Cleaning}
 use Rattle.mark_core.specs.declared.seat.SeatState.{SeatState}
 use Rattle.gc_table.specs.declared.view.View.{View}
 use Rattle.gc_table.specs.Taking.{May, Finds, after}
-use Rattle.packet_pools.specs.Later.{Later}
+use Rattle.packet_pools.specs.Keeping.{answers_for}
+use Rattle.packet_pools.specs.Later.{Later, LaterCleaned}
 use Rattle.packet_pools.specs.Tracing.{traces, notes_drain}
 use Rattle.packet_pools.specs.Scanning.{InHand}
 use Rattle.packet_pools.proofs.Conditions.{may-trace}
-use Rattle.packet_pools.proofs.LaterSteps.{later-step, later-read, later-to}
+use Rattle.packet_pools.proofs.LaterSteps.{cleaned-step, cleaned-to, later-step, later-read, later-to, seen-found, seen-stored}
 
 -- a seat that traces takes part
 pub traces-part : (v : View) → traces v ≡ true → takes_part v.state ≡ true
@@ -77,10 +78,23 @@ module _ (v : View) where
 
 module _ (v w : View) (n : ℕ) where
   pub later-read_field : (x i : ℕ) → Finds (ReadField x i) n v → w ≡ after (ReadField x i) n v → Later v w
-  later-read_field x i f e = later-to v w (ReadField x i) n e (later-read v (ReadField x i) n refl refl f refl refl)
+  later-read_field x i f e = later-to v w (ReadField x i) n e (later-read v (ReadField x i) n refl refl f refl refl refl refl refl)
 
-  pub later-set_mark : (x : ℕ) → w ≡ after (SetMark x) n v → Later v w
-  later-set_mark x e = later-to v w (SetMark x) n e (later-step v (SetMark x) n refl refl refl)
+  pub later-set_mark : (x : ℕ) → Finds (SetMark x) n v → v.state.fresh ≡ None → w ≡ after (SetMark x) n v → Later v w
+  later-set_mark x f none e = later-to v w (SetMark x) n e (later-step v (SetMark x) n refl refl refl (seen-found v (SetMark x) n refl f) refl (ap (λ (o : Option ℕ). not (is_some o)) none))
 
-  pub later-dirty_card : (card : ℕ) → w ≡ after (DirtyCard card) n v → Later v w
-  later-dirty_card card e = later-to v w (DirtyCard card) n e (later-step v (DirtyCard card) n refl refl refl)
+  pub later-dirty_card : (card : ℕ) → n ≡ 1 → answers_for v.state card ≡ true → w ≡ after (DirtyCard card) n v → Later v w
+  later-dirty_card card f answers e = later-to v w (DirtyCard card) n e (later-step v (DirtyCard card) n refl refl refl (seen-stored v (DirtyCard card) n refl f) refl answers)
+
+  -- a card is dirtied with no cell in hand
+  pub cleaned-dirty_card : (card : ℕ) → n ≡ 1 → w ≡ after (DirtyCard card) n v → LaterCleaned v w
+  cleaned-dirty_card card f e = cleaned-to v w (DirtyCard card) n e (cleaned-step v (DirtyCard card) n refl refl refl (seen-stored v (DirtyCard card) n refl f) refl)
+
+  pub later-read_root : (section u : ℕ) → Finds (ReadRoot section u) n v → w ≡ after (ReadRoot section u) n v → Later v w
+  later-read_root section u f e = later-to v w (ReadRoot section u) n e (later-read v (ReadRoot section u) n refl refl f refl refl refl refl refl)
+
+-- the card of a fresh cell
+pub fresh-answers : (s : SeatState) (x card : ℕ) → s.fresh ≡ Some x → x / 16 ≡ card → answers_for s card ≡ true
+fresh-answers s x card e b =
+    or_left _ _
+    (ap (λ (o : Option ℕ). is_some o && is_none (fresh_off o card)) e ∙ ap (λ (c : Bool). is_none (cond c None (Some x))) (eq-eqb (x / 16) card b))

@@ -1,11 +1,12 @@
 -- What the events of a search say, as more events come.
-use Rattle.std.proofs.Common.{ℕ, ◌≡◌, ◌<◌, ◌≤◌, List, [], ◌∷◌, ◌++◌, arith, ⊎_elim, inl, inr, ◌⊎◌, Bool, true, false, not, ◌&&◌, ◌||◌, ap, refl}
+use Rattle.std.proofs.Common.{ℕ, ◌≡◌, ◌<◌, ◌≤◌, List, [], ◌∷◌, ◌++◌, arith, ⊎_elim, inl, inr, ◌⊎◌, Bool, true, false, not, ◌&&◌, ◌||◌, ap, refl, eqb, eq-eqb}
 use Rattle.std.proofs.lemmas.Bool.{false≢true, and_parts, and_from, or_left, or_right, or_cases, or_parts, not_from_false, cases_lt, false_from_ne_true}
 use Rattle.mark_core.specs.declared.kinds.Step.{Step}
+use Rattle.mark_core.specs.declared.kinds.Step.TheVariants.{Reserve, Take, Give, Credit, Look, StoreLength, ReadLength}
 use Rattle.mark_core.specs.declared.kinds.Shape.{Shape}
 use Rattle.gc_table.specs.declared.view.Entry.{Entry}
-use Rattle.packet_pools.specs.Later.{steps_of}
-use Rattle.packet_pools.specs.Seeking.{gets, shows_outside, loses, some_event, before_got, was_full, was_got, reads_full, gets_from, moves_packet, only_moves}
+use Rattle.gc_table.specs.Log.{steps_of}
+use Rattle.packet_pools.specs.Seeking.{gets, shows_outside, loses, some_event, before_got, was_full, was_got, reads_full, gets_from, in_pools, moves_packet, only_moves}
 use Rattle.packet_pools.specs.Gains.{missed, Misses}
 
 pub some-left : (f : Step → ℕ → Bool) (xs ys : List Entry) → some_event f xs ≡ true → some_event f (xs ++ ys) ≡ true
@@ -66,18 +67,48 @@ missed-right entries q room p xs ys n h =
     (λ e. let b = and_parts room (was_full entries p ys) e in and_from _ _ b.0 (full-right entries p xs ys b.1))
     h
 
-pub moves-join : (xs ys : List Entry) → only_moves xs ≡ true → only_moves ys ≡ true → only_moves (xs ++ ys) ≡ true
-moves-join [] ys a b = b
-moves-join (x ∷ xs) ys a b = let h = and_parts (moves_packet x.step) (only_moves xs) a in and_from _ _ h.0 (moves-join xs ys h.1 b)
+pub moves-join : (qs : List ℕ) (xs ys : List Entry) → only_moves qs xs ≡ true → only_moves qs ys ≡ true → only_moves qs (xs ++ ys) ≡ true
+moves-join qs [] ys a b = b
+moves-join qs (x ∷ xs) ys a b = let h = and_parts (moves_packet qs x.step) (only_moves qs xs) a in and_from _ _ h.0 (moves-join qs xs ys h.1 b)
+
+-- a step of a search in fewer pools
+move-more : (qs rs : List ℕ) → ((q : ℕ) → in_pools q qs ≡ true → in_pools q rs ≡ true) → (step : Step) → moves_packet qs step ≡ true → moves_packet rs step ≡ true
+move-more qs rs h (Take q p) m = h q m
+move-more qs rs h (Give p d) m = m
+move-more qs rs h Reserve m = m
+move-more qs rs h Credit m = m
+move-more qs rs h (Look q g) m = m
+move-more qs rs h (StoreLength p) m = m
+move-more qs rs h (ReadLength p) m = m
+move-more qs rs h step m = absurd (false≢true m)
+
+pub moves-more : (qs rs : List ℕ) → ((q : ℕ) → in_pools q qs ≡ true → in_pools q rs ≡ true) → (es : List Entry) → only_moves qs es ≡ true → only_moves rs es ≡ true
+moves-more qs rs h [] m = refl
+moves-more qs rs h (e ∷ es) m = let k = and_parts (moves_packet qs e.step) (only_moves qs es) m in and_from _ _ (move-more qs rs h e.step k.0) (moves-more qs rs h es k.1)
+
+-- the first of some pools, and the others
+pub first-pool : (q : ℕ) (qs : List ℕ) (es : List Entry) → only_moves (q ∷ []) es ≡ true → only_moves (q ∷ qs) es ≡ true
+first-pool q qs es m = moves-more (q ∷ []) (q ∷ qs) (λ x e. either (eqb q x) (in_pools x qs) e) es m
+  where
+    either : (a b : Bool) → (a || false) ≡ true → (a || b) ≡ true
+    either true b e = refl
+    either false b e = absurd (false≢true e)
+
+pub next-pools : (q : ℕ) (qs : List ℕ) (es : List Entry) → only_moves qs es ≡ true → only_moves (q ∷ qs) es ≡ true
+next-pools q qs es m = moves-more qs (q ∷ qs) (λ x e. or_right (eqb q x) _ e) es m
+
+-- a take out of the pool
+pub take-moves : (q p : ℕ) → moves_packet (q ∷ []) (Take q p) ≡ true
+take-moves q p = or_left _ false (eq-eqb q q refl)
 
 -- the same by the steps alone
-abbrev pub all_move : List Step → Bool
-all_move [] = true
-all_move (x ∷ xs) = moves_packet x && all_move xs
+abbrev pub all_move : List ℕ → List Step → Bool
+all_move qs [] = true
+all_move qs (x ∷ xs) = moves_packet qs x && all_move qs xs
 
-pub moves-steps : (es : List Entry) → only_moves es ≡ all_move (steps_of es)
-moves-steps [] = refl
-moves-steps (e ∷ es) = ap (λ (b : Bool). moves_packet e.step && b) (moves-steps es)
+pub moves-steps : (qs : List ℕ) (es : List Entry) → only_moves qs es ≡ all_move qs (steps_of es)
+moves-steps qs [] = refl
+moves-steps qs (e ∷ es) = ap (λ (b : Bool). moves_packet qs e.step && b) (moves-steps qs es)
 
 -- a packet that no event got
 pub ungot : (sh : Shape) (q : ℕ) (room : Bool) (lo hi p : ℕ) (es : List Entry) → Misses sh q room lo hi es → hi ≤ p → was_got p es ≡ false
@@ -106,5 +137,5 @@ misses-join sh q room lo mid hi xs ys le a b =
           (λ x. let r = a.got p x in let l = r.1 in (r.0, omega (arith, l, le)))
           (λ y. b.got p y)
           (some-parts (gets p) xs ys e);
-      moves = moves-join xs ys a.moves b.moves;
+      moves = moves-join (q ∷ []) xs ys a.moves b.moves;
     }

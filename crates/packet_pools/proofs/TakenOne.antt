@@ -18,10 +18,11 @@ use Rattle.gc_table.specs.declared.view.View.{View}
 use Rattle.gc_table.specs.Fetching.{last_pool, is_in_range}
 use Rattle.gc_table.specs.Taking.{after, Finds}
 use Rattle.gc_table.proofs.Fetching.{last-snoc}
-use Rattle.packet_pools.specs.Later.{steps_of}
+use Rattle.gc_table.specs.Log.{steps_of}
 use Rattle.packet_pools.specs.Seeking.{gets, gets_from, loses, was_got}
 use Rattle.packet_pools.specs.Gains.{Misses, missed}
-use Rattle.packet_pools.proofs.Log.{entry_of}
+use Rattle.gc_table.proofs.Log.{entry_of}
+use Rattle.packet_pools.proofs.Searches.{take-moves}
 
 -- a take that another seat was first to do leaves the record
 pub lost-state : (sh : Shape) (s : SeatState) (q p n : ℕ) → has_bit n (p % 64) ≡ false → seat_after sh s (Take q p) n ≡ s
@@ -59,7 +60,7 @@ lost-misses sh q room p n e =
           (λ (f : gets x (Take q p) n ≡ true). true≢false (sym (and_parts (eqb p x) (has_bit n (x % 64)) f).1 ∙ (ap (λ y. has_bit n (y % 64)) (got-asked q p n x f) ∙ e)))
           (λ (f : false ≡ true). false≢true f)
           (or_cases (gets x (Take q p) n) false g));
-      moves = refl;
+      moves = and_from _ _ (take-moves q p) refl;
     }
 
 pub got-from : (q p n : ℕ) → has_bit n (p % 64) ≡ true → gets_from q p (Take q p) n ≡ true

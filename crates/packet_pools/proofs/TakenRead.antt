@@ -12,17 +12,18 @@ use Rattle.mark_core.proofs.PoolSlots.{holds-put_same}
 use Rattle.gc_table.specs.declared.view.View.{View}
 use Rattle.gc_table.specs.Fetching.{is_in_range}
 use Rattle.gc_table.specs.Taking.{after, Finds}
-use Rattle.packet_pools.specs.Later.{Later, events, steps_of}
+use Rattle.packet_pools.specs.Later.{Later}
+use Rattle.gc_table.specs.Log.{events, steps_of, Grows}
 use Rattle.packet_pools.specs.Tracing.{Traces}
 use Rattle.packet_pools.specs.Hands.{IsHeld, with_packet}
 use Rattle.packet_pools.specs.Seeking.{gets, gets_from, some_event, was_full, was_got, only_moves}
 use Rattle.packet_pools.specs.Gains.{Seeks, Gains, Misses, missed}
-use Rattle.packet_pools.proofs.Log.{entry_of, events-after, events-join}
+use Rattle.gc_table.proofs.Log.{entry_of, events-after, events-join, grows-after, grows-join}
 use Rattle.packet_pools.proofs.LaterSteps.{later-join}
 use Rattle.packet_pools.proofs.Conditions.{traces-later}
 use Rattle.packet_pools.proofs.InHand.{known-with, unread-put, drop-with}
 use Rattle.packet_pools.proofs.Doing.{later-take, later-read_length}
-use Rattle.packet_pools.proofs.Searches.{some-parts, full-left, moves-join, moves-steps, all_move}
+use Rattle.packet_pools.proofs.Searches.{some-parts, full-left, moves-join, moves-steps, all_move, take-moves}
 use Rattle.packet_pools.proofs.TakenOne.{won-state, got-asked, got-from, fetched-range, range-fits, last-taken, none-taken, some_take}
 
 module _ (v w : View) (q p n : ℕ) (k : Seeks q v) (there : p < v.shape.packets) (unheld : holds v.state.held p ≡ false) (taken : w ≡ after (Take q p) n v) (bit : has_bit n (p % 64) ≡ true) where
@@ -59,8 +60,14 @@ module _ (v w : View) (q p n : ℕ) (k : Seeks q v) (there : p < v.shape.packets
         ap (λ (z : View). z.state) read
         ∙ (ap (λ (s : SeatState). record s { held = set_length s.held p (reference_in m) true }) w-state ∙ ap (λ l. record v.state { held = with_packet v.state.held p l; reserved = false }) (sym is))
 
-    pub later : Later v x
-    later = later-join v w x (later-take v w n q p taken) (later-read_length w x m p read)
+    pub later : Finds (Take q p) n v → Later v x
+    later found = later-join v w x (later-take v w n q p found taken) (later-read_length w x m p f read)
+
+    took : Grows v w
+    took = subst (Grows v) (sym taken) (grows-after v (Take q p) n)
+
+    after_read : Grows w x
+    after_read = subst (Grows w) (sym read) (grows-after w (ReadLength p) m)
 
     pub held : IsHeld (record { packet = p; length = len }) x
     held =
@@ -70,9 +77,9 @@ module _ (v w : View) (q p n : ℕ) (k : Seeks q v) (there : p < v.shape.packets
           fits = subst (λ (sh : Shape). len ≤ sh.entries) (sym x-shape) fits;
         }
 
-    both : events v x ≡ entry_of (Take q p) n ∷ entry_of (ReadLength p) m ∷ []
+    pub both : events v x ≡ entry_of (Take q p) n ∷ entry_of (ReadLength p) m ∷ []
     both =
-        events-join v w x (later-take v w n q p taken).log (later-read_length w x m p read).log
+        events-join v w x took after_read
         ∙ (λ i. events-after v w (Take q p) n taken i ++ events-after w x (ReadLength p) m read i)
 
     -- the packet is kept
@@ -85,12 +92,12 @@ module _ (v w : View) (q p n : ℕ) (k : Seeks q v) (there : p < v.shape.packets
           range = in-range;
           roomy = roomy;
           got = ap (some_event (gets_from q p)) both ∙ or_left _ _ (got-from q p n bit);
-          moves = ap only_moves both;
+          moves = ap (only_moves (q ∷ [])) both ∙ and_from _ _ (take-moves q p) refl;
         }
 
     -- the seat may give it back
-    pub traces : Traces x
-    traces = record { may = traces-later v x later k.may; unreserved = ap (λ (s : SeatState). s.reserved) x-state; uncredited = ap (λ (s : SeatState). s.credit) x-state ∙ k.uncredited }
+    pub traces : Finds (Take q p) n v → Traces x
+    traces found = record { may = traces-later v x (later found) k.may; unreserved = ap (λ (s : SeatState). s.reserved) x-state; uncredited = ap (λ (s : SeatState). s.credit) x-state ∙ k.uncredited }
 
     pub keeps-another : (work_in_hand v.shape.fields v.state ≡ true → holds_any v.state.held ≡ true) → work_in_hand x.shape.fields x.state ≡ true → holds_another x.state.held p ≡ true
     keeps-another h e =
@@ -112,12 +119,12 @@ module _ (v w : View) (q p n : ℕ) (k : Seeks q v) (there : p < v.shape.packets
           nothing true = refl
           nothing false = refl
 
-      moving : (b : Bool) → all_move (StoreLength p ∷ Give p false ∷ (cond b (Credit ∷ []) [])) ≡ true
+      moving : (b : Bool) → all_move (q ∷ []) (StoreLength p ∷ Give p false ∷ (cond b (Credit ∷ []) [])) ≡ true
       moving true = refl
       moving false = refl
 
       all-events : events v y ≡ (entry_of (Take q p) n ∷ entry_of (ReadLength p) m ∷ []) ++ events x y
-      all-events = events-join v x y later.log after_it.log ∙ ap (λ es. es ++ events x y) both
+      all-events = events-join v x y (grows-join v w x took after_read) after_it.log ∙ ap (λ es. es ++ events x y) both
 
       seen-full : was_full v.shape.entries p (entry_of (Take q p) n ∷ entry_of (ReadLength p) m ∷ []) ≡ true
       seen-full =
@@ -144,5 +151,5 @@ module _ (v w : View) (q p n : ℕ) (k : Seeks q v) (there : p < v.shape.packets
                 (λ (h : was_got z (events x y) ≡ true). absurd (true≢false (sym h ∙ none-else z)))
                 (some-parts (gets z) (entry_of (Take q p) n ∷ entry_of (ReadLength p) m ∷ []) (events x y) (ap (was_got z) (sym all-events) ∙ g)) in
                 (refl, omega (arith, asked));
-            moves = ap only_moves all-events ∙ moves-join (entry_of (Take q p) n ∷ entry_of (ReadLength p) m ∷ []) (events x y) refl (moves-steps (events x y) ∙ (ap all_move steps ∙ moving d));
+            moves = ap (only_moves (q ∷ [])) all-events ∙ moves-join (q ∷ []) (entry_of (Take q p) n ∷ entry_of (ReadLength p) m ∷ []) (events x y) (and_from _ _ (take-moves q p) refl) (moves-steps (q ∷ []) (events x y) ∙ (ap (all_move (q ∷ [])) steps ∙ moving d));
           }

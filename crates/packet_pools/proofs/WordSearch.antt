@@ -1,7 +1,11 @@
 -- The search of one word of a pool, packet by packet.
 use Rattle.std.proofs.Common.{ℕ, ◌≡◌, ◌<◌, ◌≤◌, ◌+◌, ◌*◌, ◌/◌, ◌%◌, List, [], ◌∷◌, ◌++◌, length, arith, refl, sym, ap, ◌∙◌, subst, ⊎_elim, Bool, true, false, eq-eqb}
-use Rattle.std.specs.Prelude.{IsTrue, slice_index}
+use Rattle.std.specs.Prelude.{IsTrue, slice_index, ◌==◌, ◌-◌, ◌^◌}
 use Rattle.std.proofs.lemmas.Bool.{cases_lt, true≢false, false≢true, and_from, or_left, not_from_false, false_from_ne_true}
+use Rattle.std.specs.Int.{trailing_zeros}
+use mir.Syntax.{w64}
+use Rattle.std.proofs.lemmas.Nat.{trailing_le}
+use Rattle.std.proofs.lemmas.Nat.Bits.{bit_at-trailing_zeros, bit_at-zero}
 use Rattle.std.proofs.lemmas.List.{get_or-map, length-map}
 use Rattle.std.proofs.lemmas.Option.{slice_get_within, get_or_from_slice_get}
 use Rattle.mark_core.specs.Bits.{has_bit}
@@ -19,11 +23,12 @@ use Rattle.gc_table.specs.declared.view.View.{View}
 use Rattle.gc_table.specs.Fetching.{is_in_range}
 use Rattle.gc_table.specs.Taking.{after, Finds}
 use Rattle.packet_pools.specs.declared.held.Held.{Held}
-use Rattle.packet_pools.specs.Later.{Later, events}
+use Rattle.packet_pools.specs.Later.{Later}
+use Rattle.gc_table.specs.Log.{events}
 use Rattle.packet_pools.specs.Hands.{with_packet}
 use Rattle.packet_pools.specs.Seeking.{gets, gets_from, some_event, shows_outside, seen_outside, was_got, only_moves}
 use Rattle.packet_pools.specs.Gains.{Seeks, Gains, Misses, missed}
-use Rattle.packet_pools.proofs.Log.{entry_of, events-after, events-join}
+use Rattle.gc_table.proofs.Log.{entry_of, events-after, events-join}
 use Rattle.packet_pools.proofs.LaterSteps.{later-join}
 use Rattle.packet_pools.proofs.Conditions.{traces-later}
 use Rattle.packet_pools.proofs.Doing.{later-look}
@@ -71,7 +76,7 @@ seeks-on q v w l e k =
     }
 
 -- what is taken later in a call
-pub gains-from : (q : ℕ) (room : Bool) (h : Held) (v w u : View) → Later v w → Later w u → w.state ≡ v.state → only_moves (events v w) ≡ true → Gains q room h w u → Gains q room h v u
+pub gains-from : (q : ℕ) (room : Bool) (h : Held) (v w u : View) → Later v w → Later w u → w.state ≡ v.state → only_moves (q ∷ []) (events v w) ≡ true → Gains q room h w u → Gains q room h v u
 gains-from q room h v w u a b e before g =
     record {
       unheld = ap (λ (s : SeatState). holds s.held h.packet) (sym e) ∙ g.unheld;
@@ -80,7 +85,7 @@ gains-from q room h v w u a b e before g =
       range = ap (λ (s : Shape). is_in_range s q h.length) (sym a.shape) ∙ g.range;
       roomy = λ r. subst (λ (s : Shape). h.length < s.entries) a.shape (g.roomy r);
       got = ap (some_event (gets_from q h.packet)) (events-join v w u a.log b.log) ∙ some-right (gets_from q h.packet) (events v w) (events w u) g.got;
-      moves = ap only_moves (events-join v w u a.log b.log) ∙ moves-join (events v w) (events w u) before g.moves;
+      moves = ap (only_moves (q ∷ [])) (events-join v w u a.log b.log) ∙ moves-join (q ∷ []) (events v w) (events w u) before g.moves;
     }
 
 -- so far in word g of pool q
@@ -95,18 +100,48 @@ pub word-starts : (sh : Shape) (q : ℕ) (room : Bool) (g n : ℕ) (v w : View) 
 word-starts sh q room g n v w shape b e f =
     let es : events v w ≡ entry_of (Look q g) n ∷ [] = events-after v w (Look q g) n e in
     record {
-      later = later-look v w n q g e;
+      later = later-look v w n q g f e;
       state = ap (λ (x : View). x.state) e;
-      misses = record { all = λ x l h. absurd (omega (arith, l, h)); got = λ x t. absurd (false≢true (ap (was_got x) (sym es) ∙ t)); moves = ap only_moves es };
+      misses = record { all = λ x l h. absurd (omega (arith, l, h)); got = λ x t. absurd (false≢true (ap (was_got x) (sym es) ∙ t)); moves = ap (only_moves (q ∷ [])) es };
       shown = λ x here clear. ap (seen_outside q x) es ∙ or_left _ _ (and_from _ _ (and_from _ _ (eq-eqb q q refl) (eq-eqb g (x / 64) (sym here))) (not_from_false _ clear));
       unheld = λ x low here bit. shown-unheld v q g n x f b (subst (λ (s : Shape). x < s.packets) (sym shape) low) here bit;
+    }
+
+-- the bits below the lowest one that is set are clear
+clear-below : (word i : ℕ) → word < 2 ^ 64 → i < trailing_zeros w64 word → i < 64 → has_bit word i ≡ false
+clear-below word i small below l =
+    ⊎_elim
+    (λ (some : 0 < word). ap (λ b. b == 1) ((bit_at-trailing_zeros w64 word some small).2 i below))
+    (λ (none : word ≤ 0). let z : word ≡ 0 = omega (arith, none) in ap (λ n. has_bit n i) z ∙ ap (λ b. b == 1) (bit_at-zero i))
+    (cases_lt 0 word)
+
+-- the search begins at the first packet whose bit is set
+pub word-begins : (sh : Shape) (q : ℕ) (room : Bool) (g n z : ℕ) (v w : View) → n < 2 ^ 64 → z ≡ trailing_zeros w64 n → WordSeeks sh q room g n (64 * g) v w → WordSeeks sh q room g n (64 * g + z) v w
+word-begins sh q room g n z v w small is k =
+    let most = trailing_le 64 n in
+    record {
+      later = k.later;
+      state = k.state;
+      misses =
+          record {
+            all =
+                λ x a b low.
+                let here : x / 64 ≡ g = omega (arith, a, b, is, most) in
+                let place : x % 64 ≡ x - 64 * g = omega (arith, a, b, is, most) in
+                let below : x % 64 < trailing_zeros w64 n = omega (arith, a, b, is, place) in
+                or_left _ _ (or_left _ _ (k.shown x here (clear-below n (x % 64) small below (omega arith))));
+            got = λ x e. let r = k.misses.got x e in let l = r.1 in (r.0, omega (arith, l));
+            moves = k.misses.moves;
+          };
+      shown = k.shown;
+      unheld = k.unheld;
     }
 
 in-word : (g p : ℕ) → 64 * g ≤ p → p < 64 * g + 64 → p / 64 ≡ g
 in-word g p l h = omega (arith, l, h)
 
 pub word-next : (sh : Shape) (q : ℕ) (room : Bool) (g word p : ℕ) (v w u : View) → 64 * g ≤ p → p < 64 * g + 64 → WordSeeks sh q room g word p v w → Later w u → u.state ≡ w.state
-    → ((x : ℕ) → IsTrue (was_got x (events w u)) → IsTrue room × (x < p + 1)) → (p < sh.packets → IsTrue (has_bit word (p % 64)) → IsTrue (missed sh.entries q room p (events w u))) → only_moves (events w u) ≡ true → WordSeeks sh q room g word (p + 1) v u
+    → ((x : ℕ) → IsTrue (was_got x (events w u)) → IsTrue room × (x < p + 1)) → (p < sh.packets → IsTrue (has_bit word (p % 64)) → IsTrue (missed sh.entries q room p (events w u))) → only_moves (q ∷ []) (events w u) ≡ true → WordSeeks sh q room g word (p + 1) v u
 word-next sh q room g word p v w u l h k later same got miss moving =
     let es = events-join v w u k.later.log later.log in
     record {
@@ -129,7 +164,7 @@ word-next sh q room g word p v w u l h k later same got miss moving =
                 (λ t. let r = k.misses.got x t in let z = r.1 in (r.0, omega (arith, z)))
                 (λ t. got x t)
                 (some-parts (gets x) (events v w) (events w u) (ap (was_got x) (sym es) ∙ e));
-            moves = ap only_moves es ∙ moves-join (events v w) (events w u) k.misses.moves moving;
+            moves = ap (only_moves (q ∷ [])) es ∙ moves-join (q ∷ []) (events v w) (events w u) k.misses.moves moving;
           };
       shown = λ x here clear. ap (seen_outside q x) es ∙ before-left x (shows_outside q x) (events v w) (events w u) (k.shown x here clear);
       unheld = k.unheld;

@@ -28,7 +28,7 @@ scans_object (Push p cell) = true
 scans_object (ReadField c i) = true
 scans_object (SetMark c) = true
 scans_object (DirtyCard card) = true
-scans_object step = moves_packet step
+scans_object step = moves_packet (0 ∷ 1 ∷ 2 ∷ []) step
 
 -- how many events are like this
 abbrev pub count_of : (Step → ℕ → Bool) → List Entry → ℕ

@@ -6,7 +6,7 @@ use Rattle.gc_table.specs.declared.view.Entry.{Entry}
 use Rattle.gc_table.specs.declared.view.View.{View}
 use Rattle.gc_table.specs.Fetching.{is_in_range}
 use Rattle.packet_pools.specs.declared.held.Held.{Held}
-use Rattle.packet_pools.specs.Later.{events}
+use Rattle.gc_table.specs.Log.{events}
 use Rattle.packet_pools.specs.Tracing.{traces}
 use Rattle.packet_pools.specs.Hands.{IsHeld, with_packet}
 use Rattle.packet_pools.specs.Seeking.{seen_outside, was_lost, was_full, was_got, was_got_from, AllMissed, only_moves}
@@ -22,7 +22,7 @@ pub record Takes (qs : List ℕ) (h : Held) (v w : View) : Type 0 where
   pub held : IsHeld h w
   pub state : w.state ≡ record v.state { held = with_packet v.state.held h.packet h.length }
   pub from : ComesFrom v.shape qs h (events v w)
-  pub moves : IsTrue (only_moves (events v w))
+  pub moves : IsTrue (only_moves qs (events v w))
 
 -- the seat may take packets out of pool q: the empty one with a reservation
 pub record Seeks (q : ℕ) (v : View) : Type 0 where
@@ -40,7 +40,7 @@ pub record Gains (q : ℕ) (room : Bool) (h : Held) (v w : View) : Type 0 where
   pub range : IsTrue (is_in_range v.shape q h.length)
   pub roomy : IsTrue room → h.length < v.shape.entries
   pub got : IsTrue (was_got_from q h.packet (events v w))
-  pub moves : IsTrue (only_moves (events v w))
+  pub moves : IsTrue (only_moves (q ∷ []) (events v w))
 
 -- packet p couldn't be taken out of pool q, or had no room where it should
 abbrev pub missed : ℕ → ℕ → Bool → ℕ → List Entry → Bool
@@ -50,4 +50,4 @@ missed entries q room p es = seen_outside q p es || was_lost p es || (room && wa
 pub record Misses (sh : Shape) (q : ℕ) (room : Bool) (lo hi : ℕ) (es : List Entry) : Type 0 where
   pub all : (p : ℕ) → lo ≤ p → p < hi → p < sh.packets → IsTrue (missed sh.entries q room p es)
   pub got : (p : ℕ) → IsTrue (was_got p es) → IsTrue room × (p < hi)
-  pub moves : IsTrue (only_moves es)
+  pub moves : IsTrue (only_moves (q ∷ []) es)

@@ -1,24 +1,16 @@
 -- The steps that a call took, and what it leaves as it was.
-use Rattle.std.specs.Prelude.{ℕ, ◌≡◌, ◌||◌, ◌==◌, List, [], ◌++◌, length, drop, map, Bool, false, Some, None, IsTrue, IsFalse}
-use Rattle.mark_core.specs.Places.{the_empty_count}
+use Rattle.std.specs.Prelude.{ℕ, ◌≡◌, ◌/◌, ◌%◌, ◌||◌, ◌==◌, [], Bool, true, false, Some, None, IsTrue, IsFalse}
+use Rattle.mark_core.specs.Bits.{has_bit}
+use Rattle.mark_core.specs.Places.{the_empty_count, mark_at}
 use Rattle.mark_core.specs.Notes.{same_place, steady, keeps_bound}
 use Rattle.mark_core.specs.declared.kinds.Step.{Step}
+use Rattle.mark_core.specs.declared.kinds.Step.TheVariants.{Reserve, Take, Give, Credit, Push, Pop, Look, ReadCount, ReadAlloc, ReadField, ReadRoot, SetMark, DirtyCard, ClearCard, ReadMarks, ReadCard, StoreLength, ReadLength}
 use Rattle.mark_core.specs.declared.seat.SeatState.{SeatState}
-use Rattle.gc_table.specs.declared.view.Entry.{Entry}
 use Rattle.gc_table.specs.declared.view.View.{View}
 use Rattle.gc_table.specs.Notes.{look}
-
--- what was added to the log of a seat
-abbrev pub events : View → View → List Entry
-events v w = drop (length v.log) w.log
-
--- the log grew
-abbrev pub Grows : View → View → Type 0
-Grows v w = (more : List Entry) × (w.log ≡ v.log ++ more)
-
--- the steps of these events
-abbrev pub steps_of : List Entry → List Step
-steps_of es = map (λ (e : Entry). e.step) es
+use Rattle.gc_table.specs.Log.{events, Grows, Only}
+use Rattle.gc_table.specs.Running.{Ran}
+use Rattle.packet_pools.specs.Keeping.{all_keep}
 
 -- a word that tracing writes: the count of empty packets, mark bits, cards, and the heads, entries and pools of packets
 abbrev pub is_traced : ℕ × ℕ → Bool
@@ -37,8 +29,34 @@ KeepsNotes v w = (at : ℕ × ℕ) (n : ℕ) → IsFalse (is_traced at) → IsTr
 abbrev pub KeepsFloors : View → View → Type 0
 KeepsFloors v w = (at : ℕ × ℕ) (n : ℕ) → IsFalse (is_traced at) → IsTrue (keeps_bound v.state at) → look at v.floors ≡ Some n → look at w.floors ≡ Some n
 
--- the seat traced, and did nothing else
-pub record Later (v w : View) : Type 0 where
+-- the seat has noted that cell c is marked
+abbrev pub IsNotedMarked : View → ℕ → Type 0
+IsNotedMarked v c = (n : ℕ) × (look (mark_at (c / 64)) v.known ≡ Some n) × IsTrue (has_bit n (c % 64))
+
+-- a step of tracing
+abbrev pub traces_cells : Step → Bool
+traces_cells Reserve = true
+traces_cells (Take q p) = true
+traces_cells (Give p deferred) = true
+traces_cells Credit = true
+traces_cells (Push p c) = true
+traces_cells (Pop p) = true
+traces_cells (Look q g) = true
+traces_cells ReadCount = true
+traces_cells (ReadAlloc b) = true
+traces_cells (ReadField c i) = true
+traces_cells (ReadRoot section v) = true
+traces_cells (SetMark c) = true
+traces_cells (DirtyCard card) = true
+traces_cells (ClearCard card) = true
+traces_cells (ReadMarks b) = true
+traces_cells (ReadCard card) = true
+traces_cells (StoreLength p) = true
+traces_cells (ReadLength p) = true
+traces_cells step = false
+
+-- the seat traced, and did nothing else; where this is asked for, it lost no cell in hand
+pub record LaterBy (strict : Bool) (v w : View) : Type 0 where
   pub shape : w.shape ≡ v.shape
   pub opened : w.opened ≡ v.opened
   pub plan : w.plan ≡ v.plan
@@ -48,3 +66,14 @@ pub record Later (v w : View) : Type 0 where
   pub log : Grows v w
   pub notes : KeepsNotes v w
   pub floors : KeepsFloors v w
+  pub ran : Ran v w
+  pub only : Only traces_cells v w
+  pub cells : IsTrue strict → IsTrue (all_keep v (events v w))
+
+-- the seat traced: it lost no cell in hand, and did nothing else
+abbrev pub Later : View → View → Type 0
+Later v w = LaterBy true v w
+
+-- the seat traced and cleaned cards, and did nothing else: a card that was cleaned may be dirtied again with no cell in hand
+abbrev pub LaterCleaned : View → View → Type 0
+LaterCleaned v w = LaterBy false v w

@@ -1,3 +1,4 @@
+pub mod Keeping
 pub mod Later
 pub mod Tracing
 pub mod Hands

@@ -1,12 +1,12 @@
 -- What the scan of an object leaves in a seat's hand.
-use Rattle.std.specs.Prelude.{ℕ, ◌≡◌, ◌⊎◌, Bool, false, if◌then◌else◌, nat_lt, Option, Some, None, IsTrue}
+use Rattle.std.specs.Prelude.{ℕ, ◌≡◌, ◌≤◌, ◌⊎◌, Bool, false, if◌then◌else◌, nat_lt, Option, Some, None, IsTrue}
 use Rattle.mark_core.specs.Held.{has_free_slot, drop_packet}
 use Rattle.mark_core.specs.ColourSteps.{without_cell}
 use Rattle.mark_core.specs.declared.seat.SeatState.{SeatState}
 use Rattle.mark_core.specs.declared.seat.Cleaning.{Cleaning}
 use Rattle.gc_table.specs.declared.view.View.{View}
 use Rattle.packet_pools.specs.declared.held.Held.{Held}
-use Rattle.packet_pools.specs.Hands.{IsHeld}
+use Rattle.packet_pools.specs.Hands.{IsHeld, free_slots}
 
 -- no popped cell is in hand, and these are what was loaded and what was marked
 pub record InHand (loaded marked : Option ℕ) (s : SeatState) : Type 0 where
@@ -14,10 +14,11 @@ pub record InHand (loaded marked : Option ℕ) (s : SeatState) : Type 0 where
   pub value : s.value ≡ loaded
   pub fresh : s.fresh ≡ marked
 
--- in place of packet h the seat holds k, which may be the same; all other slots are as they were
+-- in place of packet h the seat holds k, which may be the same; all other slots are as they were, and none less is free
 pub record Fills (h k : Held) (v w : View) : Type 0 where
   pub held : IsHeld k w
   pub free : IsTrue (has_free_slot w.state.held)
+  pub frees : free_slots v.state.held ≤ free_slots w.state.held
   pub slots : drop_packet w.state.held k.packet ≡ drop_packet v.state.held h.packet
 
 -- a cleaning without the debt of its card

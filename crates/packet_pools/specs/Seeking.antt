@@ -72,21 +72,26 @@ seen_outside_all (q ∷ qs) p es = seen_outside q p es && seen_outside_all qs p 
 abbrev pub AllMissed : Shape → ℕ → List Entry → Type 0
 AllMissed sh q es = EachPacket sh (λ p. IsTrue (seen_outside q p es || was_lost p es))
 
--- a step that takes a packet, or gives one back
-abbrev pub moves_packet : Step → Bool
-moves_packet Reserve = true
-moves_packet (Take pool packet) = true
-moves_packet (Give packet deferred) = true
-moves_packet Credit = true
-moves_packet (Look pool g) = true
-moves_packet (StoreLength packet) = true
-moves_packet (ReadLength packet) = true
-moves_packet step = false
+-- pool q is one of these
+abbrev pub in_pools : ℕ → List ℕ → Bool
+in_pools q [] = false
+in_pools q (x ∷ xs) = (x == q) || in_pools q xs
+
+-- a step that takes a packet out of one of these pools, or gives one back that isn't put off
+abbrev pub moves_packet : List ℕ → Step → Bool
+moves_packet qs Reserve = true
+moves_packet qs (Take pool packet) = in_pools pool qs
+moves_packet qs (Give packet deferred) = not deferred
+moves_packet qs Credit = true
+moves_packet qs (Look pool g) = true
+moves_packet qs (StoreLength packet) = true
+moves_packet qs (ReadLength packet) = true
+moves_packet qs step = false
 
 -- all these events are such steps
-abbrev pub only_moves : List Entry → Bool
-only_moves [] = true
-only_moves (e ∷ es) = moves_packet e.step && only_moves es
+abbrev pub only_moves : List ℕ → List Entry → Bool
+only_moves qs [] = true
+only_moves qs (e ∷ es) = moves_packet qs e.step && only_moves qs es
 
 -- no packet to read from
 abbrev pub NoInput : Shape → List Entry → Type 0

@@ -4,7 +4,8 @@ ghost use Rattle.mark_core.specs.Held.{drop_packet, holds_another};
 ghost use Rattle.mark_core.specs.Seats.{work_in_hand};
 ghost use Rattle.mark_core.specs.declared.kinds.Step.TheVariants.{Credit, Give, StoreLength};
 ghost use Rattle.gc_table.specs.Seats.{Sits, view_of};
-ghost use Rattle.packet_pools.specs.Later.{Later, events, steps_of};
+ghost use Rattle.packet_pools.specs.Later.{Later};
+ghost use Rattle.gc_table.specs.Log.{events, steps_of};
 ghost use Rattle.packet_pools.specs.Tracing.{Traces};
 ghost use Rattle.packet_pools.specs.Hands.{IsHeld};
 

@@ -2,7 +2,8 @@
 ghost use Rattle.std.specs.Prelude.{◌≡◌, ◌≤◌, ◌-◌, [], ◌∷◌, if◌then◌else◌, Some, None, IsTrue};
 ghost use Rattle.mark_core.specs.Held.{has_free_slot};
 ghost use Rattle.gc_table.specs.Seats.{Sits, view_of};
-ghost use Rattle.packet_pools.specs.Later.{Later, events};
+ghost use Rattle.packet_pools.specs.Later.{Later, IsNotedMarked};
+ghost use Rattle.gc_table.specs.Log.{events};
 ghost use Rattle.packet_pools.specs.Tracing.{Traces};
 ghost use Rattle.packet_pools.specs.Hands.{IsHeld};
 ghost use Rattle.packet_pools.specs.Scanning.{InHand, Pushes};
@@ -49,6 +50,7 @@ pub fn mark_cell(heap: &Heap, seat: &mut HeapSeat, out: &mut Held, cell: Cell) -
     ensures most { (result.overflowed ≤ result.marked) × (result.marked ≤ 1) }
     ensures counts { Counts heap.now.shape result.marked (result.marked - result.overflowed) result.overflowed (events (view_of seat.old) (view_of seat.new)) }
     ensures asks { Asks (cell ∷ []) (events (view_of seat.old) (view_of seat.new)) }
+    ensures noted { IsTrue (view_of seat.old).state.alone → IsNotedMarked (view_of seat.new) cell }
 {
     if !heap.set_mark(seat, cell) {
         return Scanned::none();

@@ -1,8 +1,9 @@
 //! A full packet is changed for one with room.
-ghost use Rattle.std.specs.Prelude.{◌≡◌, ◌<◌, ◌≢◌, IsTrue};
+ghost use Rattle.std.specs.Prelude.{◌≡◌, [], ◌∷◌, ◌<◌, ◌≢◌, IsTrue};
 ghost use Rattle.mark_core.specs.Held.{drop_packet, has_free_slot};
 ghost use Rattle.gc_table.specs.Seats.{Sits, view_of};
-ghost use Rattle.packet_pools.specs.Later.{Later, events};
+ghost use Rattle.packet_pools.specs.Later.{Later};
+ghost use Rattle.gc_table.specs.Log.{events};
 ghost use Rattle.packet_pools.specs.Tracing.{Traces};
 ghost use Rattle.packet_pools.specs.Hands.{IsHeld};
 ghost use Rattle.packet_pools.specs.Seeking.{NoOutput, only_moves};
@@ -23,7 +24,7 @@ fn change(heap: &Heap, seat: &mut HeapSeat, out: &mut Held, other: Held)
     ensures later { Later (view_of seat.old) (view_of seat.new) }
     ensures out { out.new ≡ other }
     ensures state { (view_of seat.new).state ≡ record (view_of seat.old).state { held = drop_packet (view_of seat.old).state.held out.old.packet } }
-    ensures moves { IsTrue (only_moves (events (view_of seat.old) (view_of seat.new))) }
+    ensures moves { IsTrue (only_moves (0 ∷ 1 ∷ 2 ∷ []) (events (view_of seat.old) (view_of seat.new))) }
 {
     let full = mem::replace(out, other);
     give(heap, seat, full, false);
@@ -37,7 +38,7 @@ fn change_full(heap: &Heap, seat: &mut HeapSeat, out: &mut Held)
     ensures later { Later (view_of seat.old) (view_of seat.new) }
     ensures out { Fills out.old out.new (view_of seat.old) (view_of seat.new) }
     ensures state { (view_of seat.new).state ≡ record (view_of seat.old).state { held = (view_of seat.new).state.held } }
-    ensures moves { IsTrue (only_moves (events (view_of seat.old) (view_of seat.new))) }
+    ensures moves { IsTrue (only_moves (0 ∷ 1 ∷ 2 ∷ []) (events (view_of seat.old) (view_of seat.new))) }
     ensures full { out.new.length ≡ heap.now.shape.entries → NoOutput heap.now.shape (events (view_of seat.old) (view_of seat.new)) }
 {
     if let Some(other) = take_output(heap, seat) {
@@ -53,7 +54,7 @@ pub(crate) fn make_room(heap: &Heap, seat: &mut HeapSeat, out: &mut Held)
     ensures later { Later (view_of seat.old) (view_of seat.new) }
     ensures out { Fills out.old out.new (view_of seat.old) (view_of seat.new) }
     ensures state { (view_of seat.new).state ≡ record (view_of seat.old).state { held = (view_of seat.new).state.held } }
-    ensures moves { IsTrue (only_moves (events (view_of seat.old) (view_of seat.new))) }
+    ensures moves { IsTrue (only_moves (0 ∷ 1 ∷ 2 ∷ []) (events (view_of seat.old) (view_of seat.new))) }
     ensures full { out.new.length ≡ heap.now.shape.entries → NoOutput heap.now.shape (events (view_of seat.old) (view_of seat.new)) }
 {
     if out.length == heap.shape().entries {

@@ -1,10 +1,11 @@
 //! A packet is looked for in one pool.
-ghost use Rattle.std.specs.Prelude.{ℕ, ◌≡◌, ◌<◌, ◌+◌, ◌*◌, ◌/◌, ◌%◌, IsTrue, IsFalse, IfSome, IfNone};
+ghost use Rattle.std.specs.Prelude.{ℕ, ◌≡◌, [], ◌∷◌, ◌<◌, ◌+◌, ◌*◌, ◌/◌, ◌%◌, IsTrue, IsFalse, IfSome, IfNone};
 ghost use Rattle.mark_core.specs.Bits.{has_bit as has_bit_of};
 ghost use Rattle.mark_core.specs.Held.{holds};
 ghost use Rattle.mark_core.specs.Layout.{pool_words};
 ghost use Rattle.gc_table.specs.Seats.{Sits, view_of};
-ghost use Rattle.packet_pools.specs.Later.{Later, events};
+ghost use Rattle.packet_pools.specs.Later.{Later};
+ghost use Rattle.gc_table.specs.Log.{events};
 ghost use Rattle.packet_pools.specs.Seeking.{only_moves, was_got};
 ghost use Rattle.packet_pools.specs.Gains.{Gains, Misses, Seeks, missed};
 
@@ -50,7 +51,7 @@ fn take_shown(
     ensures seat { Sits heap.now seat.new }
     ensures later { Later (view_of seat.old) (view_of seat.new) }
     ensures some { IfSome result (λ h. Gains q room h (view_of seat.old) (view_of seat.new)) }
-    ensures none { IfNone result (((view_of seat.new).state ≡ (view_of seat.old).state) × ((x : ℕ) → IsTrue (was_got x (events (view_of seat.old) (view_of seat.new))) → IsTrue room × (x < p + 1)) × (p < heap.now.shape.packets → IsTrue (has_bit_of word (p % 64)) → IsTrue (missed heap.now.shape.entries q room p (events (view_of seat.old) (view_of seat.new)))) × IsTrue (only_moves (events (view_of seat.old) (view_of seat.new)))) }
+    ensures none { IfNone result (((view_of seat.new).state ≡ (view_of seat.old).state) × ((x : ℕ) → IsTrue (was_got x (events (view_of seat.old) (view_of seat.new))) → IsTrue room × (x < p + 1)) × (p < heap.now.shape.packets → IsTrue (has_bit_of word (p % 64)) → IsTrue (missed heap.now.shape.entries q room p (events (view_of seat.old) (view_of seat.new)))) × IsTrue (only_moves (q ∷ []) (events (view_of seat.old) (view_of seat.new)))) }
 {
     if p < heap.shape().packets && has_bit(word, p % 64) {
         take_packet(heap, seat, q, p, room)
@@ -70,7 +71,7 @@ fn take_in_word(heap: &Heap, seat: &mut HeapSeat, q: u8, g: u32, room: bool) -> 
     ensures none { IfNone result (((view_of seat.new).state ≡ (view_of seat.old).state) × Misses heap.now.shape q room (64 * g) (64 * g + 64) (events (view_of seat.old) (view_of seat.new))) }
 {
     let word = heap.look(seat, q, g);
-    for p in 64 * g..64 * g + 64 {
+    for p in 64 * g + word.trailing_zeros()..64 * g + 64 {
         if let Some(held) = take_shown(heap, seat, q, p, word, room) {
             return Some(held);
         }

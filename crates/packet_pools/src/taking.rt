@@ -3,7 +3,8 @@ ghost use Rattle.std.specs.Prelude.{◌≡◌, ◌<◌, ◌*◌, [], ◌∷◌, 
 ghost use Rattle.mark_core.specs.Held.{has_free_slot};
 ghost use Rattle.mark_core.specs.Layout.{pool_words};
 ghost use Rattle.gc_table.specs.Seats.{Sits, view_of};
-ghost use Rattle.packet_pools.specs.Later.{Later, events};
+ghost use Rattle.packet_pools.specs.Later.{Later};
+ghost use Rattle.gc_table.specs.Log.{events};
 ghost use Rattle.packet_pools.specs.Tracing.{Traces};
 ghost use Rattle.packet_pools.specs.Seeking.{NoInput, NoOutput, NoDeferred, only_moves};
 ghost use Rattle.packet_pools.specs.Gains.{Misses, Takes};
@@ -20,7 +21,7 @@ pub fn take_input(heap: &Heap, seat: &mut HeapSeat) -> Option<Held>
     ensures seat { Sits heap.now seat.new × Traces (view_of seat.new) }
     ensures later { Later (view_of seat.old) (view_of seat.new) }
     ensures some { IfSome result (λ h. Takes (2 ∷ 1 ∷ []) h (view_of seat.old) (view_of seat.new) × (0 < h.length)) }
-    ensures none { IfNone result (((view_of seat.new).state ≡ (view_of seat.old).state) × NoInput heap.now.shape (events (view_of seat.old) (view_of seat.new)) × IsTrue (only_moves (events (view_of seat.old) (view_of seat.new)))) }
+    ensures none { IfNone result (((view_of seat.new).state ≡ (view_of seat.old).state) × NoInput heap.now.shape (events (view_of seat.old) (view_of seat.new)) × IsTrue (only_moves (2 ∷ 1 ∷ []) (events (view_of seat.old) (view_of seat.new)))) }
 {
     match take_any(heap, seat, 2, false) {
         Some(held) => Some(held),
@@ -36,7 +37,7 @@ pub fn take_deferred(heap: &Heap, seat: &mut HeapSeat) -> Option<Held>
     ensures seat { Sits heap.now seat.new × Traces (view_of seat.new) }
     ensures later { Later (view_of seat.old) (view_of seat.new) }
     ensures some { IfSome result (λ h. Takes (3 ∷ []) h (view_of seat.old) (view_of seat.new) × (0 < h.length)) }
-    ensures none { IfNone result (((view_of seat.new).state ≡ (view_of seat.old).state) × NoDeferred heap.now.shape (events (view_of seat.old) (view_of seat.new)) × IsTrue (only_moves (events (view_of seat.old) (view_of seat.new)))) }
+    ensures none { IfNone result (((view_of seat.new).state ≡ (view_of seat.old).state) × NoDeferred heap.now.shape (events (view_of seat.old) (view_of seat.new)) × IsTrue (only_moves (3 ∷ []) (events (view_of seat.old) (view_of seat.new)))) }
 {
     take_any(heap, seat, 3, false)
 }
@@ -68,7 +69,7 @@ pub fn take_output(heap: &Heap, seat: &mut HeapSeat) -> Option<Held>
     ensures seat { Sits heap.now seat.new × Traces (view_of seat.new) }
     ensures later { Later (view_of seat.old) (view_of seat.new) }
     ensures some { IfSome result (λ h. Takes (0 ∷ 1 ∷ 2 ∷ []) h (view_of seat.old) (view_of seat.new) × (h.length < heap.now.shape.entries)) }
-    ensures none { IfNone result (((view_of seat.new).state ≡ (view_of seat.old).state) × NoOutput heap.now.shape (events (view_of seat.old) (view_of seat.new)) × IsTrue (only_moves (events (view_of seat.old) (view_of seat.new)))) }
+    ensures none { IfNone result (((view_of seat.new).state ≡ (view_of seat.old).state) × NoOutput heap.now.shape (events (view_of seat.old) (view_of seat.new)) × IsTrue (only_moves (0 ∷ 1 ∷ 2 ∷ []) (events (view_of seat.old) (view_of seat.new)))) }
 {
     if let Some(held) = take_empty(heap, seat) {
         return Some(held);

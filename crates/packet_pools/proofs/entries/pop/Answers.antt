@@ -5,7 +5,7 @@ use Rattle.mark_core.specs.declared.kinds.Shape.{Shape}
 use Rattle.gc_table.specs.declared.view.View.{View}
 use Rattle.gc_table.specs.Seats.{view_of}
 use Rattle.packet_pools.proofs.Conditions.{may-pop}
-use Rattle.packet_pools.proofs.InHand.{known-held, known-entry}
+use Rattle.packet_pools.proofs.InHand.{known-held, known-entry, idle-popped}
 use Rattle.packet_pools.proofs.Doing.{later-pop, traces-on, held-less}
 use Rattle.packet_pools.proofs.entries.pop.Goals as goal
 
@@ -23,10 +23,10 @@ returns-clause-seat c =
     let v : View = view_of c.args.seat.now in
     let w : View = view_of c.pop-cell.new.seat in
     let e = c.pop-cell.ensures.view.1 in
-    (c.pop-cell.ensures.seat, traces-on v w (later-pop v w _ c.args.held.now.packet e) c.requires.seat.1 (ap (λ (x : View). x.state.reserved) e) (ap (λ (x : View). x.state.credit) e))
+    (c.pop-cell.ensures.seat, traces-on v w (later-pop v w _ c.args.held.now.packet c.pop-cell.ensures.view.2 (idle-popped c.args.heap.now.shape.fields v.state c.requires.work) e) c.requires.seat.1 (ap (λ (x : View). x.state.reserved) e) (ap (λ (x : View). x.state.credit) e))
 
 pub returns-clause-later : goal.returns-clause-later
-returns-clause-later c = later-pop (view_of c.args.seat.now) (view_of c.pop-cell.new.seat) _ c.args.held.now.packet c.pop-cell.ensures.view.1
+returns-clause-later c = later-pop (view_of c.args.seat.now) (view_of c.pop-cell.new.seat) _ c.args.held.now.packet c.pop-cell.ensures.view.2 (idle-popped c.args.heap.now.shape.fields (view_of c.args.seat.now).state c.requires.work) c.pop-cell.ensures.view.1
 
 pub returns-clause-held : goal.returns-clause-held
 returns-clause-held c =

@@ -1,4 +1,4 @@
-use Rattle.std.proofs.Common.{ℕ, ◌≡◌, ◌<◌, ◌≤◌, ◌+◌, sym, ap, ◌∙◌, subst, arith}
+use Rattle.std.proofs.Common.{ℕ, ◌≡◌, ◌<◌, ◌≤◌, ◌+◌, refl, sym, ap, ◌∙◌, subst, arith}
 use Rattle.mark_core.specs.declared.kinds.Shape.{Shape}
 use Rattle.gc_table.specs.declared.view.View.{View}
 use Rattle.gc_table.specs.Seats.{view_of}
@@ -22,10 +22,10 @@ returns-clause-seat c =
     let v : View = view_of c.args.seat.now in
     let w : View = view_of c.push.new.seat in
     let e = c.push.ensures.view in
-    (c.push.ensures.seat, traces-on v w (later-push v w _ c.args.held.now.packet c.args.cell e) c.requires.seat.1 (ap (λ (x : View). x.state.reserved) e) (ap (λ (x : View). x.state.credit) e))
+    (c.push.ensures.seat, traces-on v w (later-push v w _ c.args.held.now.packet c.args.cell refl c.requires.cell e) c.requires.seat.1 (ap (λ (x : View). x.state.reserved) e) (ap (λ (x : View). x.state.credit) e))
 
 pub returns-clause-later : goal.returns-clause-later
-returns-clause-later c = later-push (view_of c.args.seat.now) (view_of c.push.new.seat) _ c.args.held.now.packet c.args.cell c.push.ensures.view
+returns-clause-later c = later-push (view_of c.args.seat.now) (view_of c.push.new.seat) _ c.args.held.now.packet c.args.cell refl c.requires.cell c.push.ensures.view
 
 pub returns-clause-held : goal.returns-clause-held
 returns-clause-held c =

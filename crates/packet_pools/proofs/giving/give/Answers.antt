@@ -1,4 +1,4 @@
-use Rattle.std.proofs.Common.{ℕ, ◌≡◌, ◌<◌, sym, ap, ◌∙◌, subst, arith, false, not, Some}
+use Rattle.std.proofs.Common.{ℕ, ◌≡◌, ◌<◌, refl, sym, ap, ◌∙◌, subst, arith, false, not, Some}
 use Rattle.std.proofs.lemmas.Bool.{or_left}
 use Rattle.mark_core.specs.Held.{drop_packet, has_entry, known_length, holds_another, is_stored}
 use Rattle.mark_core.specs.Seats.{work_in_hand}
@@ -86,15 +86,15 @@ returns-then-length-eq0-clause-later c =
     let w : View = view_of c.store_length.new.seat in
     let x : View = view_of c.give.new.seat in
     let y : View = view_of c.credit.new.seat in
-    later-join v w y (later-store_length v w _ c.args.held.packet c.store_length.ensures.view)
-    (later-join w x y (later-give w x _ c.args.held.packet c.args.deferred c.give.ensures.view.1.0) (later-credit x y _ c.credit.ensures.view.1.0))
+    later-join v w y (later-store_length v w _ c.args.held.packet refl c.store_length.ensures.view)
+    (later-join w x y (later-give w x _ c.args.held.packet c.args.deferred c.give.ensures.view.1.1 c.give.ensures.view.1.0) (later-credit x y _ c.credit.ensures.view.1.1 c.credit.ensures.view.1.0))
 
 pub returns-else-length-eq0-clause-later : goal.returns-else-length-eq0-clause-later
 returns-else-length-eq0-clause-later c =
     let v : View = view_of c.args.seat.now in
     let w : View = view_of c.store_length.new.seat in
     let x : View = view_of c.give.new.seat in
-    later-join v w x (later-store_length v w _ c.args.held.packet c.store_length.ensures.view) (later-give w x _ c.args.held.packet c.args.deferred c.give.ensures.view.1.0)
+    later-join v w x (later-store_length v w _ c.args.held.packet refl c.store_length.ensures.view) (later-give w x _ c.args.held.packet c.args.deferred c.give.ensures.view.1.1 c.give.ensures.view.1.0)
 
 pub returns-then-length-eq0-clause-seat : goal.returns-then-length-eq0-clause-seat
 returns-then-length-eq0-clause-seat c =
@@ -107,8 +107,8 @@ returns-then-length-eq0-clause-seat c =
     let k = c.requires.held.known in
     let t = c.requires.seat.1 in
     let later : Later v y =
-    later-join v w y (later-store_length v w _ p c.store_length.ensures.view)
-    (later-join w x y (later-give w x _ p c.args.deferred c.give.ensures.view.1.0) (later-credit x y _ c.credit.ensures.view.1.0)) in
+    later-join v w y (later-store_length v w _ p refl c.store_length.ensures.view)
+    (later-join w x y (later-give w x _ p c.args.deferred c.give.ensures.view.1.1 c.give.ensures.view.1.0) (later-credit x y _ c.credit.ensures.view.1.1 c.credit.ensures.view.1.0)) in
     let e = c.credit.ensures.view.1.0 in
     (c.credit.ensures.seat, traces-on v y later t (ap (λ (z : View). z.state.reserved) e ∙ sym t.unreserved) (ap (λ (z : View). z.state.credit) e ∙ sym t.uncredited))
 
@@ -121,7 +121,7 @@ returns-else-length-eq0-clause-seat c =
     let n : ℕ = c.args.held.length in
     let k = c.requires.held.known in
     let t = c.requires.seat.1 in
-    let later : Later v x = later-join v w x (later-store_length v w _ p c.store_length.ensures.view) (later-give w x _ p c.args.deferred c.give.ensures.view.1.0) in
+    let later : Later v x = later-join v w x (later-store_length v w _ p refl c.store_length.ensures.view) (later-give w x _ p c.args.deferred c.give.ensures.view.1.1 c.give.ensures.view.1.0) in
     let some : 0 < n = let d = c.if-length-eq0.false in omega (arith, d) in
     let state = after-give v w x p n k (ap (λ (y : View). y.state) c.store_length.ensures.view) (ap (λ (y : View). y.state) c.give.ensures.view.1.0) ∙ given-full v.state p n k some t.uncredited in
     (c.give.ensures.seat, traces-on v x later t (ap (λ (s : SeatState). s.reserved) state) (ap (λ (s : SeatState). s.credit) state))

@@ -7,10 +7,12 @@ use Rattle.mark_core.specs.declared.kinds.Step.TheVariants.{SetMark}
 use Rattle.gc_table.specs.declared.view.Entry.{Entry}
 use Rattle.gc_table.specs.declared.view.View.{View}
 use Rattle.gc_table.specs.Seats.{view_of}
-use Rattle.packet_pools.specs.Later.{events}
+use Rattle.gc_table.specs.Log.{events}
+use Rattle.packet_pools.specs.Later.{IsNotedMarked}
 use Rattle.packet_pools.specs.Counts.{Counts}
-use Rattle.packet_pools.proofs.Log.{entry_of, events-after, events-join}
-use Rattle.packet_pools.proofs.LaterSteps.{later-join}
+use Rattle.gc_table.proofs.Log.{entry_of, events-after, events-join}
+use Rattle.packet_pools.proofs.Marked.{marked-stays}
+use Rattle.packet_pools.proofs.LaterSteps.{later-join, marks-noted}
 use Rattle.packet_pools.proofs.Doing.{traces-on}
 use Rattle.packet_pools.proofs.ScanSteps.{may-set_mark, later-set_mark}
 use Rattle.packet_pools.proofs.Counting.{counts-join, counts-mark}
@@ -41,10 +43,10 @@ returns-then-not-set_mark-clause-seat c =
     let v : View = view_of c.args.seat.now in
     let w : View = view_of c.set_mark.new.seat in
     let e = c.set_mark.ensures.view.1 in
-    (c.set_mark.ensures.seat, traces-on v w (later-set_mark v w _ c.args.cell e) c.requires.seat.1 (ap (λ (z : View). z.state.reserved) e) (ap (λ (z : View). z.state.credit) e))
+    (c.set_mark.ensures.seat, traces-on v w (later-set_mark v w _ c.args.cell c.set_mark.ensures.view.2 c.requires.hand.fresh e) c.requires.seat.1 (ap (λ (z : View). z.state.reserved) e) (ap (λ (z : View). z.state.credit) e))
 
 pub returns-then-not-set_mark-clause-later : goal.returns-then-not-set_mark-clause-later
-returns-then-not-set_mark-clause-later c = later-set_mark (view_of c.args.seat.now) (view_of c.set_mark.new.seat) _ c.args.cell c.set_mark.ensures.view.1
+returns-then-not-set_mark-clause-later c = later-set_mark (view_of c.args.seat.now) (view_of c.set_mark.new.seat) _ c.args.cell c.set_mark.ensures.view.2 c.requires.hand.fresh c.set_mark.ensures.view.1
 
 pub returns-then-not-set_mark-clause-pushes : goal.returns-then-not-set_mark-clause-pushes
 returns-then-not-set_mark-clause-pushes c =
@@ -69,7 +71,7 @@ push_marked-overflowed-requires-clause-seat c =
     let v : View = view_of c.args.seat.now in
     let w : View = view_of c.set_mark.new.seat in
     let e = c.set_mark.ensures.view.1 in
-    (c.set_mark.ensures.seat, traces-on v w (later-set_mark v w _ c.args.cell e) c.requires.seat.1 (ap (λ (z : View). z.state.reserved) e) (ap (λ (z : View). z.state.credit) e))
+    (c.set_mark.ensures.seat, traces-on v w (later-set_mark v w _ c.args.cell c.set_mark.ensures.view.2 c.requires.hand.fresh e) c.requires.seat.1 (ap (λ (z : View). z.state.reserved) e) (ap (λ (z : View). z.state.credit) e))
 
 pub push_marked-overflowed-requires-clause-hand : goal.push_marked-overflowed-requires-clause-hand
 push_marked-overflowed-requires-clause-hand c =
@@ -80,7 +82,7 @@ pub returns-clause-later : goal.returns-clause-later
 returns-clause-later c =
     let v : View = view_of c.args.seat.now in
     let w : View = view_of c.set_mark.new.seat in
-    later-join v w (view_of c.push_marked-overflowed.new.seat) (later-set_mark v w _ c.args.cell c.set_mark.ensures.view.1) c.push_marked-overflowed.ensures.later
+    later-join v w (view_of c.push_marked-overflowed.new.seat) (later-set_mark v w _ c.args.cell c.set_mark.ensures.view.2 c.requires.hand.fresh c.set_mark.ensures.view.1) c.push_marked-overflowed.ensures.later
 
 pub returns-clause-pushes : goal.returns-clause-pushes
 returns-clause-pushes c =
@@ -96,7 +98,7 @@ returns-clause-counts c =
     let p = c.push_marked-overflowed.ensures in
     let bit : has_bit s.0 (c.args.cell % 64) ≡ false = from_not _ false (sym s.3 ∙ c.if-not-set_mark.false) in
     counts-join sh 1 0 1 0 _ _ 0 _ _ (entry_of (SetMark c.args.cell) s.0 ∷ []) (events w x) (events v x)
-    (events-join v w x (later-set_mark v w _ c.args.cell s.1).log p.later.log ∙ ap (λ (l : List Entry). l ++ events w x) (events-after v w _ _ s.1))
+    (events-join v w x (later-set_mark v w _ c.args.cell s.2 c.requires.hand.fresh s.1).log p.later.log ∙ ap (λ (l : List Entry). l ++ events w x) (events-after v w _ _ s.1))
     refl
     (one-less c.push_marked-overflowed.result ∙ ap (λ n. 1 - n) (sym c.from.ensures))
     (one-byte c.push_marked-overflowed.result ∙ sym c.from.ensures)
@@ -117,6 +119,18 @@ returns-clause-asks c =
     let s = c.set_mark.ensures.view in
     let p = c.push_marked-overflowed.ensures in
     asks-join (c.args.cell ∷ []) [] (entry_of (SetMark c.args.cell) s.0 ∷ []) (events w x) (events v x)
-    (events-join v w x (later-set_mark v w _ c.args.cell s.1).log p.later.log ∙ ap (λ (l : List Entry). l ++ events w x) (events-after v w _ _ s.1))
+    (events-join v w x (later-set_mark v w _ c.args.cell s.2 c.requires.hand.fresh s.1).log p.later.log ∙ ap (λ (l : List Entry). l ++ events w x) (events-after v w _ _ s.1))
     (record { read = refl; named = refl; asked = refl })
     p.asks
+
+pub returns-then-not-set_mark-clause-noted : goal.returns-then-not-set_mark-clause-noted
+returns-then-not-set_mark-clause-noted c alone =
+    let v : View = view_of c.args.seat.now in
+    let s = c.set_mark.ensures.view in
+    subst (λ (z : View). IsNotedMarked z c.args.cell) (sym s.1) (marks-noted v c.args.cell s.0 alone)
+
+pub returns-clause-noted : goal.returns-clause-noted
+returns-clause-noted c alone =
+    let v : View = view_of c.args.seat.now in
+    let s = c.set_mark.ensures.view in
+    marked-stays (view_of c.set_mark.new.seat) (view_of c.push_marked-overflowed.new.seat) c.push_marked-overflowed.ensures.later.ran c.push_marked-overflowed.ensures.later.only c.args.cell (ap (λ (z : View). z.state.alone) s.1 ∙ alone) (subst (λ (z : View). IsNotedMarked z c.args.cell) (sym s.1) (marks-noted v c.args.cell s.0 alone))

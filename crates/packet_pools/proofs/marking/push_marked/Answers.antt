@@ -7,12 +7,12 @@ use Rattle.gc_table.specs.declared.view.View.{View}
 use Rattle.gc_table.specs.Seats.{view_of}
 use Rattle.gc_table.specs.Taking.{after, May}
 use Rattle.packet_pools.specs.declared.held.Held.{Held}
-use Rattle.packet_pools.specs.Later.{events}
+use Rattle.gc_table.specs.Log.{events}
 use Rattle.packet_pools.specs.Scanning.{InHand, Pushes}
-use Rattle.packet_pools.proofs.Log.{entry_of, events-after, events-join}
+use Rattle.gc_table.proofs.Log.{entry_of, events-after, events-join}
 use Rattle.packet_pools.proofs.LaterSteps.{later-join}
 use Rattle.packet_pools.proofs.Doing.{traces-on}
-use Rattle.packet_pools.proofs.ScanSteps.{may-dirty_card, later-dirty_card}
+use Rattle.packet_pools.proofs.ScanSteps.{fresh-answers, may-dirty_card, later-dirty_card}
 use Rattle.packet_pools.proofs.Counting.{counts-join, counts-lost, counts-moves, counts-push}
 use Rattle.packet_pools.proofs.Reading.{asks-join, asks-moves}
 use Rattle.packet_pools.proofs.Pushed.{dirtied, pushed, pushes-from}
@@ -74,14 +74,15 @@ returns-in-Err-clause-later c =
     let v : View = view_of c.args.seat.now in
     let w : View = view_of c.make_room.new.seat in
     let y : View = view_of c.dirty_card.new.seat in
-    later-join v w y c.make_room.ensures.later (later-dirty_card w y _ (c.args.cell / 16) (lost-step w (view_of c.push.new.seat) y c.number.result c.args.cell _ c.in-Err.ensures.full.2 c.number.ensures c.dirty_card.ensures.view))
+    later-join v w y c.make_room.ensures.later (later-dirty_card w y _ (c.args.cell / 16) refl (fresh-answers w.state c.args.cell (c.args.cell / 16) (same-hand v w c.args.cell c.make_room.ensures.state c.requires.hand).fresh refl) (lost-step w (view_of c.push.new.seat) y c.number.result c.args.cell _ c.in-Err.ensures.full.2 c.number.ensures c.dirty_card.ensures.view))
 
 pub returns-in-Err-clause-seat : goal.returns-in-Err-clause-seat
 returns-in-Err-clause-seat c =
     let x : View = view_of c.push.new.seat in
     let y : View = view_of c.dirty_card.new.seat in
     let e = c.dirty_card.ensures.view in
-    (c.dirty_card.ensures.seat, traces-on x y (later-dirty_card x y _ (c.number.result / 16) e) c.in-Err.ensures.seat.1 (ap (λ (z : View). z.state.reserved) e) (ap (λ (z : View). z.state.credit) e))
+    let fresh = ap (λ (z : View). z.state.fresh) c.in-Err.ensures.full.2 ∙ (same-hand (view_of c.args.seat.now) (view_of c.make_room.new.seat) c.args.cell c.make_room.ensures.state c.requires.hand).fresh in
+    (c.dirty_card.ensures.seat, traces-on x y (later-dirty_card x y _ (c.number.result / 16) refl (fresh-answers x.state c.args.cell (c.number.result / 16) fresh (ap (λ k. k / 16) (sym c.number.ensures))) e) c.in-Err.ensures.seat.1 (ap (λ (z : View). z.state.reserved) e) (ap (λ (z : View). z.state.credit) e))
 
 pub returns-in-Err-clause-pushes : goal.returns-in-Err-clause-pushes
 returns-in-Err-clause-pushes c =
@@ -108,7 +109,7 @@ returns-in-Err-clause-counts c =
     let f = c.in-Err.ensures.full in
     let e = lost-step w (view_of c.push.new.seat) y c.number.result c.args.cell _ f.2 c.number.ensures c.dirty_card.ensures.view in
     counts-lost sh (c.args.cell / 16) _ (events v w) (events v y)
-    (events-join v w y m.later.log (later-dirty_card w y _ (c.args.cell / 16) e).log ∙ ap (λ (l : List Entry). events v w ++ l) (events-after w y _ _ e))
+    (events-join v w y m.later.log (later-dirty_card w y _ (c.args.cell / 16) refl (fresh-answers w.state c.args.cell (c.args.cell / 16) (same-hand v w c.args.cell m.state c.requires.hand).fresh refl) e).log ∙ ap (λ (l : List Entry). events v w ++ l) (events-after w y _ _ e))
     (m.full f.0)
     (counts-moves sh (events v w) m.moves)
 
@@ -131,6 +132,6 @@ returns-in-Err-clause-asks c =
     let m = c.make_room.ensures in
     let e = lost-step w (view_of c.push.new.seat) y c.number.result c.args.cell _ c.in-Err.ensures.full.2 c.number.ensures c.dirty_card.ensures.view in
     asks-join [] [] (events v w) (entry_of (DirtyCard (c.args.cell / 16)) _ ∷ []) (events v y)
-    (events-join v w y m.later.log (later-dirty_card w y _ (c.args.cell / 16) e).log ∙ ap (λ (l : List Entry). events v w ++ l) (events-after w y _ _ e))
+    (events-join v w y m.later.log (later-dirty_card w y _ (c.args.cell / 16) refl (fresh-answers w.state c.args.cell (c.args.cell / 16) (same-hand v w c.args.cell m.state c.requires.hand).fresh refl) e).log ∙ ap (λ (l : List Entry). events v w ++ l) (events-after w y _ _ e))
     (asks-moves (events v w) m.moves)
     (record { read = refl; named = refl; asked = refl })

@@ -6,7 +6,7 @@ use Rattle.packet_pools.proofs.Quiets.{quiet-at}
 use Rattle.packet_pools.proofs.quiet.all_empty.Goals as goal
 
 pub returns-clause-later : goal.returns-clause-later
-returns-clause-later c = later-read_count (view_of c.args.seat.now) (view_of c.read_count.new.seat) _ c.read_count.ensures.view.0
+returns-clause-later c = later-read_count (view_of c.args.seat.now) (view_of c.read_count.new.seat) _ c.read_count.ensures.view.1 c.read_count.ensures.view.0
 
 pub returns-clause-state : goal.returns-clause-state
 returns-clause-state c = ap (λ (x : View). x.state) c.read_count.ensures.view.0

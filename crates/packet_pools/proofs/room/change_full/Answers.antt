@@ -2,10 +2,10 @@ use Rattle.std.proofs.Common.{[], ◌∷◌, sym, ap, ◌∙◌, subst}
 use Rattle.gc_table.specs.declared.view.View.{View}
 use Rattle.gc_table.specs.Seats.{view_of}
 use Rattle.packet_pools.specs.declared.held.Held.{Held}
-use Rattle.packet_pools.specs.Later.{events}
+use Rattle.gc_table.specs.Log.{events}
 use Rattle.packet_pools.specs.Seeking.{only_moves}
 use Rattle.packet_pools.specs.Scanning.{Fills}
-use Rattle.packet_pools.proofs.Log.{events-join}
+use Rattle.gc_table.proofs.Log.{events-join}
 use Rattle.packet_pools.proofs.LaterSteps.{later-join}
 use Rattle.packet_pools.proofs.Searches.{moves-join}
 use Rattle.packet_pools.proofs.Filled.{apart, fills-other, kept}
@@ -31,7 +31,7 @@ returns-in-Some-clause-out c =
     let e = c.in-Some.ensures in
     let f = c.change.ensures in
     subst (λ (k : Held). Fills c.args.out.now k v x) (sym f.out)
-    (fills-other v (view_of c.take_output.new.seat) (0 ∷ 1 ∷ 2 ∷ []) c.args.out.now c.in-Some.other e.later.shape c.requires.out.0 e.some.0 x f.later.shape f.state)
+    (fills-other v (view_of c.take_output.new.seat) (0 ∷ 1 ∷ 2 ∷ []) c.args.out.now c.in-Some.other e.later.shape c.requires.out.0 e.some.0 c.requires.out.1 x f.later.shape f.state)
 
 pub returns-in-Some-clause-moves : goal.returns-in-Some-clause-moves
 returns-in-Some-clause-moves c =
@@ -40,4 +40,4 @@ returns-in-Some-clause-moves c =
     let x : View = view_of c.change.new.seat in
     let e = c.in-Some.ensures in
     let f = c.change.ensures in
-    ap only_moves (events-join v w x e.later.log f.later.log) ∙ moves-join (events v w) (events w x) e.some.0.moves f.moves
+    ap (only_moves (0 ∷ 1 ∷ 2 ∷ [])) (events-join v w x e.later.log f.later.log) ∙ moves-join (0 ∷ 1 ∷ 2 ∷ []) (events v w) (events w x) e.some.0.moves f.moves

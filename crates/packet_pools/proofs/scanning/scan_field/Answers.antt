@@ -6,9 +6,10 @@ use Rattle.mark_core.specs.declared.kinds.Step.TheVariants.{ReadField}
 use Rattle.gc_table.specs.declared.view.Entry.{Entry}
 use Rattle.gc_table.specs.declared.view.View.{View}
 use Rattle.gc_table.specs.Seats.{view_of}
-use Rattle.packet_pools.specs.Later.{events}
+use Rattle.gc_table.specs.Log.{events}
+use Rattle.packet_pools.specs.Scanning.{Pushes}
 use Rattle.packet_pools.specs.Counts.{Counts}
-use Rattle.packet_pools.proofs.Log.{entry_of, events-after, events-join}
+use Rattle.gc_table.proofs.Log.{entry_of, events-after, events-join}
 use Rattle.packet_pools.proofs.LaterSteps.{later-join}
 use Rattle.packet_pools.proofs.Doing.{traces-on}
 use Rattle.packet_pools.proofs.ScanSteps.{may-read_field, later-read_field}
@@ -58,6 +59,19 @@ returns-clause-later c =
     let w : View = view_of c.read_field-word.new.seat in
     let e = c.read_field-word.ensures.view in
     later-join v w (view_of c.mark_cell.new.seat) (later-read_field v w _ c.args.cell c.args.i e.1 e.0) c.mark_cell.ensures.later
+
+pub returns-clause-pushes : goal.returns-clause-pushes
+returns-clause-pushes c =
+    let x : View = view_of c.mark_cell.new.seat in
+    let p =
+    subst (λ (z : View). Pushes c.args.out.now c.mark_cell.new.out z.state.scan z.state.cleaning z x) c.read_field-word.ensures.view.0 c.mark_cell.ensures.pushes in
+    record {
+      packet = record { held = p.packet.held; free = p.packet.free; frees = p.packet.frees; slots = p.packet.slots };
+      hand = p.hand;
+      scan = p.scan;
+      cleaning = p.cleaning;
+      owes = p.owes;
+    }
 
 pub returns-clause-counts : goal.returns-clause-counts
 returns-clause-counts c =

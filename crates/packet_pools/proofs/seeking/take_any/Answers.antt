@@ -4,9 +4,9 @@ use Rattle.mark_core.specs.declared.kinds.Shape.{Shape}
 use Rattle.gc_table.specs.declared.view.Entry.{Entry}
 use Rattle.gc_table.specs.declared.view.View.{View}
 use Rattle.gc_table.specs.Seats.{view_of}
-use Rattle.packet_pools.specs.Later.{events}
+use Rattle.gc_table.specs.Log.{events}
 use Rattle.packet_pools.specs.Gains.{Misses}
-use Rattle.packet_pools.proofs.Log.{events-join}
+use Rattle.gc_table.proofs.Log.{events-join}
 use Rattle.packet_pools.proofs.LaterSteps.{later-join}
 use Rattle.packet_pools.proofs.Searches.{misses-join}
 use Rattle.packet_pools.proofs.WordSearch.{seeks-on, gains-from}

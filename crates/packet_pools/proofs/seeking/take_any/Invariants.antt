@@ -1,6 +1,7 @@
 use Rattle.std.proofs.Common.{◌≡◌, ◌*◌}
 use Rattle.gc_table.specs.Seats.{Sits, view_of}
-use Rattle.packet_pools.specs.Later.{Later, events}
+use Rattle.packet_pools.specs.Later.{Later}
+use Rattle.gc_table.specs.Log.{events}
 use Rattle.packet_pools.specs.Gains.{Misses}
 use Rattle.packet_pools.proofs.seeking.take_any.Given as goal
 

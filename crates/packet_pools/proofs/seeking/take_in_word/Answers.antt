@@ -1,19 +1,25 @@
-use Rattle.std.proofs.Common.{ℕ, ◌≡◌, ◌+◌, ◌*◌, ◌/◌, ◌∙◌, ap, arith, subst}
+use Rattle.std.proofs.Common.{ℕ, ◌≡◌, ◌+◌, ◌*◌, ◌/◌, ◌∙◌, ap, arith, refl, subst}
+use Rattle.std.proofs.lemmas.Nat.{trailing_le}
 use Rattle.mark_core.specs.Held.{holds}
 use Rattle.mark_core.specs.declared.seat.SeatState.{SeatState}
 use Rattle.gc_table.specs.declared.view.View.{View}
 use Rattle.gc_table.specs.Seats.{view_of}
-use Rattle.packet_pools.specs.Later.{events}
+use Rattle.gc_table.specs.Log.{events}
 use Rattle.packet_pools.specs.Gains.{Misses}
 use Rattle.packet_pools.proofs.LaterSteps.{later-join}
-use Rattle.packet_pools.proofs.WordSearch.{seeks-on, gains-from, word-starts, word-next}
+use Rattle.packet_pools.proofs.WordSearch.{seeks-on, gains-from, word-begins, word-starts, word-next}
 use Rattle.packet_pools.proofs.seeking.take_in_word.Goals as goal
 
 pub loop-p-init : goal.loop-p-init
 loop-p-init c =
     let v : View = view_of c.args.seat.now in
     let l = c.look-word.ensures in
-    record { sits = l.seat; seeks = word-starts c.args.heap.now.shape c.args.q c.args.room c.args.g c.look-word.result v (view_of c.look-word.new.seat) c.requires.seat.0.1 c.requires.seat.1.pool l.view.0 l.view.1 }
+    record {
+      sits = l.seat;
+      seeks =
+          word-begins c.args.heap.now.shape c.args.q c.args.room c.args.g c.look-word.result _ v (view_of c.look-word.new.seat) c.look-word.type_inv refl
+          (word-starts c.args.heap.now.shape c.args.q c.args.room c.args.g c.look-word.result v (view_of c.look-word.new.seat) c.requires.seat.0.1 c.requires.seat.1.pool l.view.0 l.view.1);
+    }
 
 pub take_shown-requires-clause-seat : goal.take_shown-requires-clause-seat
 take_shown-requires-clause-seat c = let i = c.loop-p.invariant in (i.sits, seeks-on c.args.q (view_of c.args.seat.now) (view_of c.loop-p.seat) i.seeks.later i.seeks.state c.requires.seat.1)
@@ -39,7 +45,7 @@ loop-p-preserved c =
     let e = c.in_default.ensures in
     record {
       sits = e.seat;
-      seeks = word-next c.args.heap.now.shape c.args.q c.args.room c.args.g c.look-word.result c.loop-p.p (view_of c.args.seat.now) (view_of c.loop-p.seat) (view_of c.take_shown.new.seat) c.loop-p.auto.p c.loop-p-test.true i.seeks e.later e.none.0 e.none.1 e.none.2 e.none.3;
+      seeks = word-next c.args.heap.now.shape c.args.q c.args.room c.args.g c.look-word.result c.loop-p.p (view_of c.args.seat.now) (view_of c.loop-p.seat) (view_of c.take_shown.new.seat) (omega (arith, c.loop-p.auto.p)) c.loop-p-test.true i.seeks e.later e.none.0 e.none.1 e.none.2 e.none.3;
     }
 
 pub returns-clause-none : goal.returns-clause-none
@@ -47,7 +53,8 @@ returns-clause-none c =
     let k = c.loop-p.invariant.seeks in
     let p : ℕ = c.loop-p.p in
     let g : ℕ = c.args.g in
-    let most = c.loop-p.auto.p-end (omega arith) in
+    let few = trailing_le 64 c.look-word.result in
+    let most = c.loop-p.auto.p-end (omega (arith, few)) in
     let past = c.loop-p-test.false in
     let last : p ≡ 64 * g + 64 = omega (arith, most, past) in
     (k.state, subst (λ x. Misses c.args.heap.now.shape c.args.q c.args.room (64 * g) x (events (view_of c.args.seat.now) (view_of c.loop-p.seat))) last k.misses)

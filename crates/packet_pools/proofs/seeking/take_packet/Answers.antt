@@ -7,9 +7,9 @@ use Rattle.mark_core.specs.declared.kinds.Shape.{Shape}
 use Rattle.mark_core.specs.declared.kinds.Step.TheVariants.{Take}
 use Rattle.gc_table.specs.declared.view.View.{View}
 use Rattle.gc_table.specs.Seats.{view_of}
-use Rattle.packet_pools.specs.Later.{events}
+use Rattle.gc_table.specs.Log.{events}
 use Rattle.packet_pools.specs.Gains.{Misses}
-use Rattle.packet_pools.proofs.Log.{events-after}
+use Rattle.gc_table.proofs.Log.{events-after}
 use Rattle.packet_pools.proofs.LaterSteps.{later-join}
 use Rattle.packet_pools.proofs.Conditions.{may-take, may-read_length}
 use Rattle.packet_pools.proofs.Doing.{later-take}
@@ -28,7 +28,7 @@ take-requires-clause-may c =
     may-take v c.args.q c.args.p k.may k.pool (there c.args.heap.now.shape v c.args.p c.requires.seat.0.1 c.requires.packet.0) c.requires.packet.1 k.reserved k.free
 
 pub returns-then-not-take-clause-later : goal.returns-then-not-take-clause-later
-returns-then-not-take-clause-later c = later-take (view_of c.args.seat.now) (view_of c.take.new.seat) _ c.args.q c.args.p c.take.ensures.view.1
+returns-then-not-take-clause-later c = later-take (view_of c.args.seat.now) (view_of c.take.new.seat) _ c.args.q c.args.p c.take.ensures.view.2 c.take.ensures.view.1
 
 pub returns-then-not-take-clause-none : goal.returns-then-not-take-clause-none
 returns-then-not-take-clause-none c =
@@ -57,7 +57,7 @@ give-requires-clause-seat c =
     let t = c.take.ensures.view in
     let r = c.read_length-length.ensures.view in
     let low = there c.args.heap.now.shape v c.args.p c.requires.seat.0.1 c.requires.packet.0 in
-    (c.read_length-length.ensures.seat, traces v (view_of c.take.new.seat) c.args.q c.args.p t.0 c.requires.seat.1 low c.requires.packet.1 t.1 (sym t.3 ∙ c.if-not-take.false) (view_of c.read_length-length.new.seat) r.0 c.read_length-length.result r.1 r.2 r.3)
+    (c.read_length-length.ensures.seat, traces v (view_of c.take.new.seat) c.args.q c.args.p t.0 c.requires.seat.1 low c.requires.packet.1 t.1 (sym t.3 ∙ c.if-not-take.false) (view_of c.read_length-length.new.seat) r.0 c.read_length-length.result r.1 r.2 r.3 t.2)
 
 pub give-requires-clause-held : goal.give-requires-clause-held
 give-requires-clause-held c =
@@ -83,7 +83,7 @@ returns-then-length-shape-clause-later c =
     let t = c.take.ensures.view in
     let r = c.read_length-length.ensures.view in
     let low = there c.args.heap.now.shape v c.args.p c.requires.seat.0.1 c.requires.packet.0 in
-    later-join v x (view_of c.give.new.seat) (later v (view_of c.take.new.seat) c.args.q c.args.p t.0 c.requires.seat.1 low c.requires.packet.1 t.1 (sym t.3 ∙ c.if-not-take.false) x r.0 c.read_length-length.result r.1 r.2 r.3) c.give.ensures.later
+    later-join v x (view_of c.give.new.seat) (later v (view_of c.take.new.seat) c.args.q c.args.p t.0 c.requires.seat.1 low c.requires.packet.1 t.1 (sym t.3 ∙ c.if-not-take.false) x r.0 c.read_length-length.result r.1 r.2 r.3 t.2) c.give.ensures.later
 
 pub returns-then-length-shape-clause-none : goal.returns-then-length-shape-clause-none
 returns-then-length-shape-clause-none c =
@@ -114,7 +114,7 @@ returns-clause-later c =
     let t = c.take.ensures.view in
     let r = c.read_length-length.ensures.view in
     let low = there c.args.heap.now.shape v c.args.p c.requires.seat.0.1 c.requires.packet.0 in
-    later v (view_of c.take.new.seat) c.args.q c.args.p t.0 c.requires.seat.1 low c.requires.packet.1 t.1 (sym t.3 ∙ c.if-not-take.false) x r.0 c.read_length-length.result r.1 r.2 r.3
+    later v (view_of c.take.new.seat) c.args.q c.args.p t.0 c.requires.seat.1 low c.requires.packet.1 t.1 (sym t.3 ∙ c.if-not-take.false) x r.0 c.read_length-length.result r.1 r.2 r.3 t.2
 
 pub returns-clause-some : goal.returns-clause-some
 returns-clause-some c =

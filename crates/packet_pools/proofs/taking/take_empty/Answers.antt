@@ -1,7 +1,6 @@
-use Rattle.std.proofs.Common.{ℕ, ◌≡◌, ◌*◌, ◌++◌, sym, ap, ◌∙◌, subst, arith, false}
+use Rattle.std.proofs.Common.{ℕ, ◌≡◌, ◌*◌, ◌++◌, [], ◌∷◌, sym, ap, ◌∙◌, subst, arith, false, inl}
 use Rattle.mark_core.specs.Layout.{pool_words}
 use Rattle.mark_core.specs.Held.{has_free_slot, holds}
-use Rattle.std.proofs.Common.{inl}
 use Rattle.gc_table.specs.Fetching.{is_in_range}
 use Rattle.packet_pools.specs.declared.held.Held.{Held}
 use Rattle.packet_pools.specs.Hands.{with_packet}
@@ -10,12 +9,13 @@ use Rattle.mark_core.specs.declared.kinds.Shape.{Shape}
 use Rattle.mark_core.specs.declared.kinds.Step.TheVariants.{Reserve, Credit}
 use Rattle.mark_core.specs.declared.seat.SeatState.{SeatState}
 use Rattle.gc_table.specs.declared.view.View.{View}
-use Rattle.gc_table.specs.Seats.{view_of}
+use Rattle.gc_table.specs.Seats.{Found, view_of}
 use Rattle.gc_table.specs.Taking.{after}
-use Rattle.packet_pools.specs.Later.{Later, events}
+use Rattle.packet_pools.specs.Later.{Later}
+use Rattle.gc_table.specs.Log.{events}
 use Rattle.packet_pools.specs.Seeking.{gets_from, was_got, was_got_from, only_moves}
 use Rattle.packet_pools.specs.Gains.{Misses}
-use Rattle.packet_pools.proofs.Log.{events-after, events-join}
+use Rattle.gc_table.proofs.Log.{events-after, events-join}
 use Rattle.packet_pools.proofs.LaterSteps.{later-join}
 use Rattle.packet_pools.proofs.Conditions.{may-reserve, traces-later}
 use Rattle.packet_pools.proofs.Doing.{later-reserve, later-credit, traces-on}
@@ -34,7 +34,7 @@ take_any-requires-clause-seat c =
     let t = c.requires.seat.1 in (
       c.reserve.ensures.seat,
       record {
-        may = traces-later v w (later-reserve v w _ e) t.may;
+        may = traces-later v w (later-reserve v w _ c.reserve.ensures.view.1.1 e) t.may;
         pool = omega arith;
         reserved = ap (λ (x : View). x.state.reserved) e;
         uncredited = ap (λ (x : View). x.state.credit) e ∙ t.uncredited;
@@ -49,13 +49,13 @@ returns-in-Some-clause-seat c =
     let e = c.reserve.ensures.view.1.0 in
     let t = c.requires.seat.1 in
     let f = c.in-Some.ensures in
-    (f.seat, traces-gained 0 false c.in-Some.held w (view_of c.take_any.new.seat) f.later f.some (traces-later v w (later-reserve v w _ e) t.may) (ap (λ (x : View). x.state.credit) e ∙ t.uncredited))
+    (f.seat, traces-gained 0 false c.in-Some.held w (view_of c.take_any.new.seat) f.later f.some (traces-later v w (later-reserve v w _ c.reserve.ensures.view.1.1 e) t.may) (ap (λ (x : View). x.state.credit) e ∙ t.uncredited))
 
 pub returns-in-Some-clause-later : goal.returns-in-Some-clause-later
 returns-in-Some-clause-later c =
     let v : View = view_of c.args.seat.now in
     let w : View = view_of c.reserve.new.seat in
-    later-join v w (view_of c.take_any.new.seat) (later-reserve v w _ c.reserve.ensures.view.1.0) c.in-Some.ensures.later
+    later-join v w (view_of c.take_any.new.seat) (later-reserve v w _ c.reserve.ensures.view.1.1 c.reserve.ensures.view.1.0) c.in-Some.ensures.later
 
 pub returns-in-Some-clause-some : goal.returns-in-Some-clause-some
 returns-in-Some-clause-some c =
@@ -66,7 +66,7 @@ returns-in-Some-clause-some c =
     let e = c.reserve.ensures.view.1.0 in
     let f = c.in-Some.ensures in
     let g = f.some in
-    let es = events-join v w x (later-reserve v w _ e).log f.later.log in
+    let es = events-join v w x (later-reserve v w _ c.reserve.ensures.view.1.1 e).log f.later.log in
     let first = events-after v w Reserve _ e in
     record {
       unheld = ap (λ (y : View). holds y.state.held h.packet) (sym e) ∙ g.unheld;
@@ -76,11 +76,11 @@ returns-in-Some-clause-some c =
           ∙ (ap (λ (y : View). record y.state { held = with_packet y.state.held h.packet h.length; reserved = false }) e
           ∙ (λ i. record v.state { held = with_packet v.state.held h.packet h.length; reserved = sym c.requires.seat.1.unreserved i }));
       from = inl (ap (λ (y : View). is_in_range y.shape 0 h.length) (sym e) ∙ g.range, ap (was_got_from 0 h.packet) es ∙ some-right (gets_from 0 h.packet) (events v w) (events w x) g.got);
-      moves = ap only_moves es ∙ moves-join (events v w) (events w x) (ap only_moves first) g.moves;
+      moves = ap (only_moves (0 ∷ [])) es ∙ moves-join (0 ∷ []) (events v w) (events w x) (ap (only_moves (0 ∷ [])) first) g.moves;
     }
 
-all-later : (v w u x : View) (m n : ℕ) → w ≡ after Reserve m v → Later w u → x ≡ after Credit n u → Later v x
-all-later v w u x m n a b d = later-join v w x (later-reserve v w m a) (later-join w u x b (later-credit u x n d))
+all-later : (v w u x : View) (m n : ℕ) → Found Reserve m v w → Later w u → Found Credit n u x → Later v x
+all-later v w u x m n a b d = later-join v w x (later-reserve v w m a.1 a.0) (later-join w u x b (later-credit u x n d.1 d.0))
 
 -- the reservation is given up again
 same-state : (v w u x : View) (m n : ℕ) → v.state.reserved ≡ false → v.state.credit ≡ false → w ≡ after Reserve m v → u.state ≡ w.state → x ≡ after Credit n u → x.state ≡ v.state
@@ -89,7 +89,7 @@ same-state v w u x m n r c a b d =
     ∙ (ap (λ (s : SeatState). record s { credit = false; reserved = false }) (b ∙ ap (λ (z : View). z.state) a) ∙ (λ i. record v.state { credit = sym c i; reserved = sym r i }))
 
 pub returns-in-None-clause-later : goal.returns-in-None-clause-later
-returns-in-None-clause-later c = all-later (view_of c.args.seat.now) (view_of c.reserve.new.seat) (view_of c.take_any.new.seat) (view_of c.credit.new.seat) _ _ c.reserve.ensures.view.1.0 c.in-None.ensures.later c.credit.ensures.view.1.0
+returns-in-None-clause-later c = all-later (view_of c.args.seat.now) (view_of c.reserve.new.seat) (view_of c.take_any.new.seat) (view_of c.credit.new.seat) _ _ c.reserve.ensures.view.1 c.in-None.ensures.later c.credit.ensures.view.1
 
 pub returns-in-None-clause-seat : goal.returns-in-None-clause-seat
 returns-in-None-clause-seat c =
@@ -101,7 +101,7 @@ returns-in-None-clause-seat c =
     let e = c.reserve.ensures.view.1.0 in
     let d = c.credit.ensures.view.1.0 in
     let same = same-state v w u x _ _ t.unreserved t.uncredited e c.in-None.ensures.none.0 d in
-    (c.credit.ensures.seat, traces-on v x (all-later v w u x _ _ e c.in-None.ensures.later d) t (ap (λ (s : SeatState). s.reserved) same) (ap (λ (s : SeatState). s.credit) same))
+    (c.credit.ensures.seat, traces-on v x (all-later v w u x _ _ c.reserve.ensures.view.1 c.in-None.ensures.later c.credit.ensures.view.1) t (ap (λ (s : SeatState). s.reserved) same) (ap (λ (s : SeatState). s.credit) same))
 
 pub returns-in-None-clause-none : goal.returns-in-None-clause-none
 returns-in-None-clause-none c =
@@ -114,10 +114,10 @@ returns-in-None-clause-none c =
     let e = c.reserve.ensures.view.1.0 in
     let d = c.credit.ensures.view.1.0 in
     let f = c.in-None.ensures in
-    let last = later-credit u x _ d in
-    let es = events-join v w x (later-reserve v w _ e).log (later-join w u x f.later last).log ∙ ap (λ ys. events v w ++ ys) (events-join w u x f.later.log last.log) in
+    let last = later-credit u x _ c.credit.ensures.view.1.1 d in
+    let es = events-join v w x (later-reserve v w _ c.reserve.ensures.view.1.1 e).log (later-join w u x f.later last).log ∙ ap (λ ys. events v w ++ ys) (events-join w u x f.later.log last.log) in
     let first_none : (p : ℕ) → was_got p (events v w) ≡ false = λ p. ap (was_got p) (events-after v w Reserve _ e) in
     let last_none : (p : ℕ) → was_got p (events u x) ≡ false = λ p. ap (was_got p) (events-after u x Credit _ d) in (
       same-state v w u x _ _ t.unreserved t.uncredited e f.none.0 d,
-      subst (Misses sh 0 false 0 (64 * pool_words sh)) (sym es) (misses-within sh 0 false 0 (64 * pool_words sh) (events v w) (events w u) (events u x) first_none last_none (ap only_moves (events-after v w Reserve _ e)) (ap only_moves (events-after u x Credit _ d)) f.none.1),
+      subst (Misses sh 0 false 0 (64 * pool_words sh)) (sym es) (misses-within sh 0 false 0 (64 * pool_words sh) (events v w) (events w u) (events u x) first_none last_none (ap (only_moves (0 ∷ [])) (events-after v w Reserve _ e)) (ap (only_moves (0 ∷ [])) (events-after u x Credit _ d)) f.none.1),
     )

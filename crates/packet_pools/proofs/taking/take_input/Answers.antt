@@ -1,16 +1,18 @@
-use Rattle.std.specs.Prelude.{IsTrue}
-use Rattle.std.proofs.Common.{ℕ, ◌≡◌, ◌<◌, ◌*◌, ◌++◌, [], ◌∷◌, refl, sym, ap, ◌∙◌, subst, arith, false}
+use Rattle.std.specs.Prelude.{IsTrue, nat_le}
+use Rattle.gc_table.specs.Fetching.{is_in_range}
+use Rattle.std.proofs.lemmas.Bool.{and_parts, leb-true}
+use Rattle.std.proofs.Common.{ℕ, true, ◌≡◌, ◌≤◌, ◌<◌, ◌*◌, ◌++◌, [], ◌∷◌, refl, sym, ap, ◌∙◌, subst, arith, false}
 use Rattle.mark_core.specs.Layout.{pool_words}
 use Rattle.mark_core.specs.declared.kinds.Shape.{Shape}
 use Rattle.mark_core.specs.declared.seat.SeatState.{SeatState}
 use Rattle.gc_table.specs.declared.view.View.{View}
 use Rattle.gc_table.specs.Seats.{view_of}
-use Rattle.packet_pools.specs.Later.{events}
+use Rattle.gc_table.specs.Log.{events}
 use Rattle.packet_pools.specs.Seeking.{AllMissed, NoInput, seen_outside, was_lost, was_got, only_moves}
 use Rattle.packet_pools.specs.Gains.{Gains, Misses, Takes}
-use Rattle.packet_pools.proofs.Log.{events-join}
+use Rattle.gc_table.proofs.Log.{events-join}
 use Rattle.packet_pools.proofs.LaterSteps.{later-join}
-use Rattle.packet_pools.proofs.Searches.{none-got, moves-join}
+use Rattle.packet_pools.proofs.Searches.{none-got, first-pool, moves-join, next-pools}
 use Rattle.packet_pools.proofs.PoolSearch.{all-missed, all-left, all-right, takes-first, takes-next, two-pools}
 use Rattle.packet_pools.proofs.Choices.{if-some, if-none, seeks-from, traces-same, traces-gained, traces-either, low-some}
 use Rattle.packet_pools.proofs.taking.take_input.Goals as goal
@@ -61,11 +63,22 @@ returns-in-None-clause-none c =
     let e = c.in-None.ensures in
     let f = c.take_any-in-None.ensures in
     let got : (p : ℕ) → was_got p (events v u) ≡ false = λ p. none-got sh 2 0 (64 * pool_words sh) p (events v u) e.none.1 in
-    if-none c.take_any-in-None.result ((w.state ≡ u.state) × Misses sh 1 false 0 (64 * pool_words sh) (events u w)) ((w.state ≡ v.state) × NoInput sh (events v w) × IsTrue (only_moves (events v w)))
+    if-none c.take_any-in-None.result ((w.state ≡ u.state) × Misses sh 1 false 0 (64 * pool_words sh) (events u w)) ((w.state ≡ v.state) × NoInput sh (events v w) × IsTrue (only_moves (2 ∷ 1 ∷ []) (events v w)))
     (λ n. (
       n.0 ∙ e.none.0,
       subst (NoInput sh) (sym (events-join v u w e.later.log f.later.log))
           (λ p l. two-pools (seen_outside 2 p (events v u ++ events u w)) (seen_outside 1 p (events v u ++ events u w)) (was_lost p (events v u ++ events u w)) (all-left sh 2 (events v u) (events u w) (all-missed sh 2 (events v u) e.none.1) p l) (all-right sh 1 (events v u) (events u w) got (all-missed sh 1 (events u w) n.1) p l)),
-      ap only_moves (events-join v u w e.later.log f.later.log) ∙ moves-join (events v u) (events u w) e.none.1.moves n.1.moves,
+      ap (only_moves (2 ∷ 1 ∷ [])) (events-join v u w e.later.log f.later.log) ∙ moves-join (2 ∷ 1 ∷ []) (events v u) (events u w) (first-pool 2 (1 ∷ []) (events v u) e.none.1.moves) (next-pools 2 (1 ∷ []) (events u w) n.1.moves),
     ))
     f.none
+
+high-some : (sh : Shape) (n : ℕ) → 2 ≤ sh.entries → is_in_range sh 2 n ≡ true → 0 < n
+high-some sh n two e = let l = leb-true sh.entries (2 * n) (and_parts (nat_le sh.entries (2 * n)) (nat_le n sh.entries) e).0 in omega (arith, two, l)
+
+pub returns-in-Some-clause-some : goal.returns-in-Some-clause-some
+returns-in-Some-clause-some c =
+    let v : View = view_of c.args.seat.now in
+    let w : View = view_of c.take_any.new.seat in
+    let e = c.in-Some.ensures in
+    let two : 2 ≤ v.shape.entries = subst (λ (s : Shape). 2 ≤ s.entries) (sym c.requires.seat.0.1) c.args.heap.now.shaped.entries.0 in
+    (takes-first 2 (1 ∷ []) false c.in-Some.held v w c.requires.seat.1.unreserved e.some, high-some v.shape c.in-Some.held.length two e.some.range)

@@ -1,5 +1,6 @@
 use Rattle.std.specs.Prelude.{IsTrue}
-use Rattle.std.proofs.Common.{ℕ, ◌≡◌, ◌<◌, ◌*◌, ◌++◌, [], ◌∷◌, refl, sym, ap, ◌∙◌, subst, arith, true, false, List}
+use Rattle.gc_table.specs.Fetching.{is_in_range}
+use Rattle.std.proofs.Common.{ℕ, inl, ⊎_elim, eqb-true, ◌≡◌, ◌≤◌, ◌<◌, ◌*◌, ◌++◌, [], ◌∷◌, refl, sym, ap, ◌∙◌, subst, arith, true, false, List}
 use Rattle.mark_core.specs.Layout.{pool_words}
 use Rattle.mark_core.specs.declared.kinds.Shape.{Shape}
 use Rattle.mark_core.specs.declared.seat.SeatState.{SeatState}
@@ -7,12 +8,12 @@ use Rattle.gc_table.specs.declared.view.Entry.{Entry}
 use Rattle.gc_table.specs.declared.view.View.{View}
 use Rattle.gc_table.specs.Seats.{view_of}
 use Rattle.packet_pools.specs.declared.held.Held.{Held}
-use Rattle.packet_pools.specs.Later.{events}
-use Rattle.packet_pools.specs.Seeking.{AllMissed, NoOutput, seen_outside, was_full, was_got, was_lost, only_moves}
-use Rattle.packet_pools.specs.Gains.{Gains, Misses, Takes}
-use Rattle.packet_pools.proofs.Log.{events-join}
+use Rattle.gc_table.specs.Log.{events}
+use Rattle.packet_pools.specs.Seeking.{AllMissed, NoOutput, seen_outside, was_full, was_got, was_got_from, was_lost, only_moves}
+use Rattle.packet_pools.specs.Gains.{ComesFrom, Gains, Misses, Takes}
+use Rattle.gc_table.proofs.Log.{events-join}
 use Rattle.packet_pools.proofs.LaterSteps.{later-join}
-use Rattle.packet_pools.proofs.Searches.{missed-right, none-got, moves-join}
+use Rattle.packet_pools.proofs.Searches.{missed-right, none-got, first-pool, moves-join, next-pools}
 use Rattle.packet_pools.proofs.PoolSearch.{all-missed, all-left, all-right, below-words, takes-first, takes-next, three-pools}
 use Rattle.packet_pools.proofs.Choices.{if-some, if-none, seeks-from, traces-same, traces-gained, traces-either, low-room}
 use Rattle.packet_pools.proofs.taking.take_output.Goals as goal
@@ -105,10 +106,11 @@ returns-clause-none c =
     let xs : List Entry = events v a in
     let ys : List Entry = events a b in
     let zs : List Entry = events b d in
+    let qs : List ℕ = 0 ∷ 1 ∷ 2 ∷ [] in
     let es : events v d ≡ xs ++ (ys ++ zs) = events-join v a d e.later.log (later-join a b d f.later g.later).log ∙ ap (λ l. xs ++ l) (events-join a b d f.later.log g.later.log) in
     let no_x : (p : ℕ) → was_got p xs ≡ false = λ p. none-got sh 0 0 (64 * pool_words sh) p xs e.none.1 in
     let no_y : (p : ℕ) → was_got p ys ≡ false = λ p. none-got sh 1 0 (64 * pool_words sh) p ys f.none.1 in
-    if-none c.take_any-2.result ((d.state ≡ b.state) × Misses sh 2 true 0 (64 * pool_words sh) zs) ((d.state ≡ v.state) × NoOutput sh (events v d) × IsTrue (only_moves (events v d)))
+    if-none c.take_any-2.result ((d.state ≡ b.state) × Misses sh 2 true 0 (64 * pool_words sh) zs) ((d.state ≡ v.state) × NoOutput sh (events v d) × IsTrue (only_moves (0 ∷ 1 ∷ 2 ∷ []) (events v d)))
     (λ n. (
       n.0 ∙ (f.none.0 ∙ e.none.0),
       subst (NoOutput sh) (sym es)
@@ -118,6 +120,25 @@ returns-clause-none c =
           (all-left sh 0 xs (ys ++ zs) (all-missed sh 0 xs e.none.1) p l)
           (all-right sh 1 xs (ys ++ zs) no_x (all-left sh 1 ys zs (all-missed sh 1 ys f.none.1)) p l)
           (missed-right sh.entries 2 true p xs (ys ++ zs) (no_x p) (missed-right sh.entries 2 true p ys zs (no_y p) (n.1.all p (omega arith) (below-words sh p l) l)))),
-      ap only_moves es ∙ moves-join xs (ys ++ zs) e.none.1.moves (moves-join ys zs f.none.1.moves n.1.moves),
+      ap (only_moves qs) es ∙ moves-join qs xs (ys ++ zs) (first-pool 0 (1 ∷ 2 ∷ []) xs e.none.1.moves) (moves-join qs ys zs (next-pools 0 (1 ∷ 2 ∷ []) ys (first-pool 1 (2 ∷ []) ys f.none.1.moves)) (next-pools 0 (1 ∷ 2 ∷ []) zs (next-pools 1 (2 ∷ []) zs n.1.moves))),
     ))
     g.none
+
+empty-room : (sh : Shape) (n : ℕ) → 2 ≤ sh.entries → is_in_range sh 0 n ≡ true → n < sh.entries
+empty-room sh n two e = let z = eqb-true n 0 e in omega (arith, two, z)
+
+-- an empty packet came from the first pool
+first-of : (sh : Shape) (h : Held) (es : List Entry) → ComesFrom sh (0 ∷ []) h es → IsTrue (is_in_range sh 0 h.length) × IsTrue (was_got_from 0 h.packet es)
+first-of sh h es c = ⊎_elim (λ a. a) (λ b. absurd b.1) c
+
+pub returns-in-Some-clause-some : goal.returns-in-Some-clause-some
+returns-in-Some-clause-some c =
+    let v : View = view_of c.args.seat.now in
+    let w : View = view_of c.take_empty.new.seat in
+    let h : Held = c.in-Some.held in
+    let t = c.in-Some.ensures.some in
+    let two : 2 ≤ v.shape.entries = subst (λ (s : Shape). 2 ≤ s.entries) (sym c.requires.seat.0.1) c.args.heap.now.shaped.entries.0 in
+    let from = first-of v.shape h (events v w) t.from in (
+      record { unheld = t.unheld; held = t.held; state = t.state; from = inl from; moves = first-pool 0 (1 ∷ 2 ∷ []) (events v w) t.moves },
+      subst (λ (s : Shape). h.length < s.entries) c.requires.seat.0.1 (empty-room v.shape h.length two from.0),
+    )

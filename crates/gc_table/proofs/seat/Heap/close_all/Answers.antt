@@ -21,5 +21,5 @@ returns c =
     c.words_of.result
     (AreWords sh c.as_slice.result.now)
     _
-    (λ (w : Words) (h : AreWords sh c.as_slice.result.now w). ends sh s.items v ws w some (λ i x e. let q = c.requires.seats i x e in (q.0.1, q.1, q.2)) j.seat.1 j.first j.sections c.close_with-words.ensures (subst (λ (xs : List ℕ). AreWords sh xs w) c.as_slice.ensures.value h))
+    (λ (w : Words) (h : AreWords sh c.as_slice.result.now w). ends sh s.items v ws w some (λ i x e. let q = c.requires.seats i x e in (q.0.1, q.1, q.2)) j.seat.1 j.first j.sections j.full c.close_with-words.ensures (subst (λ (xs : List ℕ). AreWords sh xs w) c.as_slice.ensures.value h))
     c.words_of.ensures

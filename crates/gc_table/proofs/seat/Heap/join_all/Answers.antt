@@ -1,13 +1,13 @@
-use Rattle.std.proofs.Common.{ℕ, ◌≡◌, ◌+◌, ◌<◌, ◌∷◌, [], List, length, sym, ap, ◌∙◌, subst, inl, inr, ⊎_elim, arith, Some, length-append}
+use Rattle.std.proofs.Common.{ℕ, ◌≡◌, ◌+◌, ◌<◌, ◌∷◌, [], List, length, sym, ap, ◌∙◌, subst, ◌⊎◌, inl, inr, ⊎_elim, arith, Some, length-append}
 use Rattle.std.specs.Prelude.{slice_get, Contains}
 use Rattle.std.proofs.lemmas.Option.{slice_get_within}
 use Rattle.mark_core.specs.declared.seat.SeatState.{SeatState}
 use Rattle.gc_table.specs.declared.view.View.{View}
 use Rattle.gc_table.specs.declared.seat.HeapSeat.{HeapSeat}
-use Rattle.gc_table.specs.Rule.{takes_in}
+use Rattle.gc_table.specs.Rule.{takes_in, KnowsFull}
 use Rattle.gc_table.specs.Seats.{view_of, IsOutside}
 use Rattle.gc_table.proofs.Records.{first-of, rest-at, rest-long, got-last, got-longer}
-use Rattle.gc_table.proofs.Joining.{takes-own, takes-more, first-or-past, next-or-past, same-got}
+use Rattle.gc_table.proofs.Joining.{takes-own, takes-more, takes-full, keeps-full, first-or-past, next-or-past, same-got}
 use Rattle.gc_table.proofs.seat.Heap.join_all.Goals as goal
 
 pub loop-seat-init : goal.loop-seat-init
@@ -17,7 +17,17 @@ loop-seat-init c =
     let some_left : 0 < length xs = omega (arith, c.args.seats.ok, c.requires.some) in
     let at = first-of xs c.remove-first.result some_left e.value in
     let q = c.requires.seats 0 c.remove-first.result at in
-    record { sits = q.0; outside = q.2; first = λ s h. let e = same-got xs 0 c.remove-first.result s at h in (ap (λ (x : HeapSeat). (view_of x).state) e, ap (λ (x : HeapSeat). (view_of x).own) e, ap (λ (x : HeapSeat). (view_of x).plan) e); joined = λ i s w far h m. absurd (omega (arith, far, ap length e.items, rest-long xs some_left, slice_get_within xs i s h)); left = λ i s h. rest-at xs i s (ap (λ (l : List HeapSeat). slice_get l i) (sym e.items) ∙ h) }
+    record {
+      sits = q.0;
+      outside = q.2;
+      first = λ s h. let e = same-got xs 0 c.remove-first.result s at h in (ap (λ (x : HeapSeat). (view_of x).state) e, ap (λ (x : HeapSeat). (view_of x).own) e, ap (λ (x : HeapSeat). (view_of x).plan) e);
+      joined = λ i s w far h m. absurd (omega (arith, far, ap length e.items, rest-long xs some_left, slice_get_within xs i s h));
+      full = λ i s where_is h k. ⊎_elim
+          (λ (z : i ≡ 0). subst (λ (x : HeapSeat). KnowsFull (view_of x)) (sym (same-got xs 0 c.remove-first.result s at (subst (λ (n : ℕ). slice_get xs n ≡ Some s) z h))) k)
+          (λ (far : length c.remove-first.new.self.items < i). absurd (omega (arith, far, ap length e.items, rest-long xs some_left, slice_get_within xs i s h)))
+          where_is;
+      left = λ i s h. rest-at xs i s (ap (λ (l : List HeapSeat). slice_get l i) (sym e.items) ∙ h);
+    }
 
 pub absorb-requires-clause-other : goal.absorb-requires-clause-other
 absorb-requires-clause-other c =
@@ -45,6 +55,16 @@ loop-seat-preserved c =
           subst (λ (x : HeapSeat). Contains (takes_in (view_of c.loop-seat.first) (view_of x)).joined (w, (view_of s).own)) (sym same) (takes-own (view_of c.loop-seat.first) (view_of s) w m))
           (λ (l : n + 1 < j). takes-more (view_of c.loop-seat.first) (view_of c.in-Some.seat) (w, (view_of s).own) (i.joined j s w (omega (arith, l, ap length e.items, long)) h m))
           (next-or-past n j far));
+      full = λ j s where_is h k.
+          subst KnowsFull (sym a.1) (⊎_elim
+          (λ (z : j ≡ 0). keeps-full (view_of c.loop-seat.first) (view_of c.in-Some.seat) (i.full j s (inl z) h k))
+          (λ (far : n < j). ⊎_elim
+          (λ (z : j ≡ n + 1).
+          let same : c.in-Some.seat ≡ s = same-got c.args.seats.items (n + 1) c.in-Some.seat s last (subst (λ (m : ℕ). slice_get c.args.seats.items m ≡ Some s) z h) in
+          takes-full (view_of c.loop-seat.first) (view_of c.in-Some.seat) (subst (λ (x : HeapSeat). KnowsFull (view_of x)) (sym same) k))
+          (λ (l : n + 1 < j). keeps-full (view_of c.loop-seat.first) (view_of c.in-Some.seat) (i.full j s (inr (omega (arith, l, ap length e.items, long))) h k))
+          (next-or-past n j far))
+          where_is);
       left = λ j s h. i.left j s (ap (λ (l : List HeapSeat). slice_get l j) e.items ∙ got-longer c.pop.new.self.items c.in-Some.seat s j h);
     }
 
@@ -58,4 +78,12 @@ returns-clause-sections c = λ j s w h m.
     ⊎_elim
     (λ (e : j ≡ 0). let q = i.first s (subst (λ (k : ℕ). slice_get c.args.seats.items k ≡ Some s) e h) in inl (ap (λ (x : SeatState). x.section) q.0 ∙ m, q.1))
     (λ (l : 0 < j). inr (i.joined j s w (omega (arith, l, none)) h m))
+    (first-or-past j)
+
+pub returns-clause-full : goal.returns-clause-full
+returns-clause-full c = λ j s h k.
+    let none : length c.loop-seat.seats.items ≡ 0 = omega (arith, c.loop-seat.seats.ok, c.in_default.ensures.cases) in
+    ⊎_elim
+    (λ (e : j ≡ 0). c.loop-seat.invariant.full j s (inl e) h k)
+    (λ (l : 0 < j). c.loop-seat.invariant.full j s (inr (omega (arith, l, none))) h k)
     (first-or-past j)

@@ -1,4 +1,5 @@
-use Rattle.std.proofs.Common.{◌≡◌, ℕ, ◌+◌, ◌<◌, length, vec_len, Some}
+use Rattle.gc_table.specs.Rule.{KnowsFull}
+use Rattle.std.proofs.Common.{◌⊎◌, ◌≡◌, ℕ, ◌+◌, ◌<◌, length, vec_len, Some}
 use Rattle.std.specs.Prelude.{slice_get, Contains}
 use Rattle.gc_table.specs.declared.seat.HeapSeat.{HeapSeat}
 use Rattle.gc_table.specs.Seats.{Sits, view_of, IsOutside}
@@ -13,5 +14,6 @@ invariant-loop-seat l = record {
   outside : IsOutside (view_of l.first);
   first : (s : HeapSeat) → slice_get l.fn.seats.items 0 ≡ Some s → ((view_of l.first).state ≡ (view_of s).state) × ((view_of l.first).own ≡ (view_of s).own) × ((view_of l.first).plan ≡ (view_of s).plan);
   joined : (i : ℕ) (s : HeapSeat) (w : ℕ) → length l.seats.items < i → slice_get l.fn.seats.items i ≡ Some s → (view_of s).state.section ≡ Some w → Contains (view_of l.first).joined (w, (view_of s).own);
+  full : (i : ℕ) (s : HeapSeat) → (i ≡ 0) ⊎ (length l.seats.items < i) → slice_get l.fn.seats.items i ≡ Some s → KnowsFull (view_of s) → KnowsFull (view_of l.first);
   left : (i : ℕ) (s : HeapSeat) → slice_get l.seats.items i ≡ Some s → slice_get l.fn.seats.items (i + 1) ≡ Some s;
 }
