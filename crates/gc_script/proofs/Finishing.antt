@@ -28,8 +28,26 @@ small fields catalogue warehouses h few = record {
   others = smalls fields warehouses h.others (omega arith);
   count = h.count;
   most = h.most;
+  least = h.least;
+  alone = h.alone;
   few = few;
 }
+
+-- the most parts of a section are no more than each has at the most
+most_within : (ws : List (List (List Execution))) (n most : ℕ) → n ≤ most → All (λ (p : List (List Execution)). length p ≤ most) ws → fold (λ m p. max m (length p)) n ws ≤ most
+most_within [] n most h k = h
+most_within (w ∷ ws) n most h k =
+    most_within ws (max n (length w)) most (max_within n (length w) most h (All-head (λ (p : List (List Execution)). length p ≤ most) w ws k)) (All-tail (λ (p : List (List Execution)). length p ≤ most) w ws k)
+  where
+    max_within : (a b c : ℕ) → a ≤ c → b ≤ c → max a b ≤ c
+    max_within a b c h k = omega (arith, h, k)
+
+short_sections : (fields : ℕ) (c : Option (List (List Execution))) (ws : List (List (List Execution))) → AreSmall fields c ws
+    → fold (λ m p. max m (length p)) (max 1 (length (unwrap_or c []))) ws ≤ 64
+short_sections fields c ws m = most_within ws (max 1 (length (unwrap_or c []))) 64 (first (length (unwrap_or c [])) m.first.seasons) (λ k d h. (m.others k d h).seasons)
+  where
+    first : (n : ℕ) → n ≤ 64 → max 1 n ≤ 64
+    first n h = omega (arith, h)
 
 first_of : (fields : ℕ) (c : Option (List (List Execution))) → option_map (λ (p : Parts). p.parts) (option_map (λ (p : List (List Execution)). record { number = 0; fields = fields; parts = p }) c) ≡ c
 first_of fields None = refl
@@ -65,6 +83,10 @@ counted_sections fields first others slice c ws commands lines parts e f g x y z
           z ∙ ap (λ (l : List Parts). fold (λ most p. max most (length p)) (max 1 (length (unwrap_or (option_map (λ (p : Parts). p.parts) first) []))) (map (λ (w : Parts). w.parts) l)) g
           ∙ ap (λ (t : Sections). fold (λ most p. max most (length p)) (max 1 (length (unwrap_or t.catalogue []))) t.warehouses) same ∙ seasons_are s;
       most = m.most;
+      least = m.least;
+      alone = m.alone;
+      count = m.count;
+      short = subst (λ (n : ℕ). n ≤ 64) (seasons_are s) (short_sections fields c ws m);
       few = omega (arith, x, executed_is s, m.few);
     } in
     subst (λ (t : Sections). AreCounted t first others commands lines parts) (sym same) counted

@@ -56,37 +56,38 @@ agreed version catalogue e Wrong k a = a
 abbrev pub Fits : ℕ → Execution → Type 0
 Fits fields e = IsInRange fields e.op
 
-abbrev pub AllFit : ℕ → List (List Execution) → Type 0
-AllFit fields parts = All (Fits fields) (joined parts)
+-- each of these parts' executions is so
+abbrev pub AllFit : (Execution → Type 0) → List (List Execution) → Type 0
+AllFit P parts = All P (joined parts)
 
-pub fit_push : (fields : ℕ) (parts : List (List Execution)) (part : List Execution) → AllFit fields parts → All (Fits fields) part → AllFit fields (parts ++ part ∷ [])
-fit_push fields parts part h k =
-    All-same (Fits fields) _ (joined parts ++ part) (flat_map-append (λ (p : List Execution). p) parts (part ∷ []) ∙ ap (λ (p : List Execution). joined parts ++ p) (append-nil part))
-    (All-append (Fits fields) (joined parts) part h k)
+pub fit_push : (P : Execution → Type 0) (parts : List (List Execution)) (part : List Execution) → AllFit P parts → All P part → AllFit P (parts ++ part ∷ [])
+fit_push P parts part h k =
+    All-same P _ (joined parts ++ part) (flat_map-append (λ (p : List Execution). p) parts (part ∷ []) ∙ ap (λ (p : List Execution). joined parts ++ p) (append-nil part))
+    (All-append P (joined parts) part h k)
 
-fit_repeated : (fields n : ℕ) (body : List Execution) → All (Fits fields) body → All (Fits fields) (repeated n body)
-fit_repeated fields zero body h = All-nil (Fits fields)
-fit_repeated fields (suc n) body h = All-append (Fits fields) body (repeated n body) h (fit_repeated fields n body h)
+pub fit_repeated : (P : Execution → Type 0) (n : ℕ) (body : List Execution) → All P body → All P (repeated n body)
+fit_repeated P zero body h = All-nil P
+fit_repeated P (suc n) body h = All-append P body (repeated n body) h (fit_repeated P n body h)
 
 -- everything that these lines make is in range
 pub record AreRanged (fields : ℕ) (catalogue : List (List ℕ)) (e : List Statement) : Type 0 where
-  pub first : AllFit fields (unwrap_or (closed_catalogue catalogue e) [])
-  pub warehouses : All (AllFit fields) (closed_warehouses catalogue e)
-  pub ended : AllFit fields (ended_parts catalogue e)
+  pub first : AllFit (Fits fields) (unwrap_or (closed_catalogue catalogue e) [])
+  pub warehouses : All (AllFit (Fits fields)) (closed_warehouses catalogue e)
+  pub ended : AllFit (Fits fields) (ended_parts catalogue e)
   pub executed : All (Fits fields) (executed catalogue e)
   pub pending : All (Fits fields) (pending catalogue e)
 
 -- a section is closed
-pub fit_catalogue : (fields : ℕ) (o : Option ℕ) (parts : List (List Execution)) (closed : Option (List (List Execution))) → AllFit fields parts → AllFit fields (unwrap_or closed [])
-    → AllFit fields (unwrap_or (option_or (if_catalogue o parts) closed) [])
-fit_catalogue fields None parts closed h k = k
-fit_catalogue fields (Some zero) parts closed h k = h
-fit_catalogue fields (Some (suc w)) parts closed h k = k
+pub fit_catalogue : (P : Execution → Type 0) (o : Option ℕ) (parts : List (List Execution)) (closed : Option (List (List Execution))) → (o ≡ Some 0 → AllFit P parts) → AllFit P (unwrap_or closed [])
+    → AllFit P (unwrap_or (option_or (if_catalogue o parts) closed) [])
+fit_catalogue P None parts closed h k = k
+fit_catalogue P (Some zero) parts closed h k = h refl
+fit_catalogue P (Some (suc w)) parts closed h k = k
 
-pub fit_warehouses : (fields : ℕ) (o : Option ℕ) (parts : List (List Execution)) (closed : List (List (List Execution))) → AllFit fields parts → All (AllFit fields) closed → All (AllFit fields) (closed ++ if_warehouse o parts)
-fit_warehouses fields None parts closed h k = All-same (AllFit fields) _ closed (append-nil closed) k
-fit_warehouses fields (Some zero) parts closed h k = All-same (AllFit fields) _ closed (append-nil closed) k
-fit_warehouses fields (Some (suc w)) parts closed h k = All-push (AllFit fields) closed parts k h
+pub fit_warehouses : (P : Execution → Type 0) (o : Option ℕ) (parts : List (List Execution)) (closed : List (List (List Execution))) → AllFit P parts → All (AllFit P) closed → All (AllFit P) (closed ++ if_warehouse o parts)
+fit_warehouses P None parts closed h k = All-same (AllFit P) _ closed (append-nil closed) k
+fit_warehouses P (Some zero) parts closed h k = All-same (AllFit P) _ closed (append-nil closed) k
+fit_warehouses P (Some (suc w)) parts closed h k = All-push (AllFit P) closed parts k h
 
 -- a section stands only where the number of fields is known
 fields_known : (version : ℕ) (e : List Statement) → AreClear version e → is_some (open_section e) ≡ true → is_none (known_fields version e) ≡ true → ⊥
@@ -113,9 +114,9 @@ some_is : (o : Option ℕ) (s : Spoken) → Rattle.gc_script.specs.Faults.may_st
 some_is None s h = h
 some_is (Some n) s h = refl
 
-more_executed : (fields : ℕ) (inside : Bool) (es : List Execution) (d : Execution) → All (Fits fields) es → Fits fields d → All (Fits fields) (cond inside es (es ++ d ∷ []))
-more_executed fields true es d h k = h
-more_executed fields false es d h k = All-push (Fits fields) es d h k
+pub more_executed : (P : Execution → Type 0) (inside : Bool) (es : List Execution) (d : Execution) → All P es → P d → All P (cond inside es (es ++ d ∷ []))
+more_executed P true es d h k = h
+more_executed P false es d h k = All-push P es d h k
 
 pub ranged : (version fields : ℕ) (catalogue : List (List ℕ)) (e : List Statement) → AreClear version e → Agrees catalogue e → (is_some (open_section e) ≡ true → known_fields version e ≡ Some fields)
     → AreRanged fields catalogue e
@@ -129,22 +130,22 @@ ranged version fields catalogue (Catalogue ∷ e) h a f =
     record { first = r.first; warehouses = r.warehouses; ended = All-nil _; executed = All-nil _; pending = All-nil _ }
 ranged version fields catalogue (Warehouse ∷ e) h a f =
     let r = ranged version fields catalogue e h.1 (agreed version catalogue e Warehouse h.0 a) (λ o. f refl) in
-    let parts : AllFit fields (open_parts catalogue e) = fit_push fields (ended_parts catalogue e) (executed catalogue e) r.ended r.executed in
+    let parts : AllFit (Fits fields) (open_parts catalogue e) = fit_push (Fits fields) (ended_parts catalogue e) (executed catalogue e) r.ended r.executed in
     record {
-      first = fit_catalogue fields (open_section e) (open_parts catalogue e) (closed_catalogue catalogue e) parts r.first;
-      warehouses = fit_warehouses fields (open_section e) (open_parts catalogue e) (closed_warehouses catalogue e) parts r.warehouses;
+      first = fit_catalogue (Fits fields) (open_section e) (open_parts catalogue e) (closed_catalogue catalogue e) (λ o. parts) r.first;
+      warehouses = fit_warehouses (Fits fields) (open_section e) (open_parts catalogue e) (closed_warehouses catalogue e) parts r.warehouses;
       ended = All-nil _;
       executed = All-nil _;
       pending = All-nil _;
     }
 ranged version fields catalogue (Season ∷ e) h a f =
     let r = ranged version fields catalogue e h.1 a f in
-    record { first = r.first; warehouses = r.warehouses; ended = fit_push fields (ended_parts catalogue e) (executed catalogue e) r.ended r.executed; executed = All-nil _; pending = All-nil _ }
+    record { first = r.first; warehouses = r.warehouses; ended = fit_push (Fits fields) (ended_parts catalogue e) (executed catalogue e) r.ended r.executed; executed = All-nil _; pending = All-nil _ }
 ranged version fields catalogue (Repeat n ∷ e) h a f =
     let r = ranged version fields catalogue e h.1 a f in record { first = r.first; warehouses = r.warehouses; ended = r.ended; executed = r.executed; pending = All-nil _ }
 ranged version fields catalogue (End ∷ e) h a f =
     let r = ranged version fields catalogue e h.1 a f in
-    let body = fit_repeated fields (repetitions (open_repeat e)) (pending catalogue e) r.pending in
+    let body = fit_repeated (Fits fields) (repetitions (open_repeat e)) (pending catalogue e) r.pending in
     record { first = r.first; warehouses = r.warehouses; ended = r.ended; executed = All-append (Fits fields) (executed catalogue e) _ r.executed body; pending = All-nil _ }
 ranged version fields catalogue (Command spoken ∷ e) h a f =
     let r = ranged version fields catalogue e h.1 a f in
@@ -156,7 +157,7 @@ ranged version fields catalogue (Command spoken ∷ e) h a f =
       first = r.first;
       warehouses = r.warehouses;
       ended = r.ended;
-      executed = more_executed fields (is_some (open_repeat e)) (executed catalogue e) (execution catalogue e spoken) r.executed one;
+      executed = more_executed (Fits fields) (is_some (open_repeat e)) (executed catalogue e) (execution catalogue e spoken) r.executed one;
       pending = All-push (Fits fields) (pending catalogue e) (execution catalogue e spoken) r.pending one;
     }
 ranged version fields catalogue (Wrong ∷ e) h a f = let r = ranged version fields catalogue e h.1 a f in record { first = r.first; warehouses = r.warehouses; ended = r.ended; executed = r.executed; pending = r.pending }

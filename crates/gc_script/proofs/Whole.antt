@@ -19,7 +19,9 @@ use Rattle.gc_script.specs.declared.block.Kind.TheVariants.{All as AllOf, Printi
 use Rattle.gc_script.specs.declared.progress.Progress.{Progress}
 use Rattle.gc_script.proofs.History.{executed_outside}
 use Rattle.gc_script.proofs.Totals.{Agree, total_is, sections_total}
-use Rattle.gc_script.proofs.Ranges.{AllFit, AreRanged, ranged, sane, fit_push, fit_catalogue, fit_warehouses}
+use Rattle.gc_script.proofs.Ranges.{AllFit, Fits, AreRanged, ranged, sane, fit_push, fit_catalogue, fit_warehouses}
+use Rattle.gc_script.proofs.Alone.{alone, alone-end}
+use Rattle.gc_script.proofs.Least.{least}
 use Rattle.gc_script.proofs.Seasons.{all_few, few_warehouses_all}
 
 printing : (catalogue : List (List ℕ)) → Agree is_printing (counts Printing) catalogue
@@ -61,14 +63,16 @@ legal : (version : ℕ) (catalogue : List (List ℕ)) (e : List Statement) → A
 legal version catalogue e h a f =
     let fields : ℕ = unwrap_or (known_fields version e) 0 in
     let r : AreRanged fields catalogue e = ranged version fields catalogue e h a (λ o. ends_known (known_fields version e) (open_repeat e) f) in
-    let parts : AllFit fields (open_parts catalogue e) = fit_push fields (ended_parts catalogue e) (executed catalogue e) r.ended r.executed in
+    let parts : AllFit (Fits fields) (open_parts catalogue e) = fit_push (Fits fields) (ended_parts catalogue e) (executed catalogue e) r.ended r.executed in
     let few = all_few version catalogue e h in
-    let warehouses : All (AllFit fields) (other_parts catalogue e (open_parts catalogue e)) = fit_warehouses fields (open_section e) (open_parts catalogue e) (closed_warehouses catalogue e) parts r.warehouses in
+    let warehouses : All (AllFit (Fits fields)) (other_parts catalogue e (open_parts catalogue e)) = fit_warehouses (Fits fields) (open_section e) (open_parts catalogue e) (closed_warehouses catalogue e) parts r.warehouses in
     record {
-      first = record { range = fit_catalogue fields (open_section e) (open_parts catalogue e) (closed_catalogue catalogue e) parts r.first; seasons = few.0 };
+      first = record { range = fit_catalogue (Fits fields) (open_section e) (open_parts catalogue e) (closed_catalogue catalogue e) (λ o. parts) r.first; seasons = few.0 };
       others = λ k d l. record { range = warehouses k d l; seasons = few.1 k d l };
       count = few_warehouses_all version catalogue e h;
       most = (sane version e h).fields;
+      least = least version e h (unwrap_or (known_fields version e) 0) (ends_known (known_fields version e) (open_repeat e) f);
+      alone = alone-end version catalogue e h;
     }
 
 whole_content : (version : ℕ) (catalogue : List (List ℕ)) (e : List Statement) → AreClear version e → Agrees catalogue e → IsWhole (context_of version e) (content_of catalogue e)

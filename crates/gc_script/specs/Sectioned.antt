@@ -1,8 +1,15 @@
 -- What holds of a section that was read.
-use Rattle.std.specs.Prelude.{ℕ, ◌≡◌, ◌≤◌, ◌+◌, List, [], ◌∷◌, length, map, sum_by, count_by, Bool, true, Option, Some, None, unwrap_or, option_map}
+use Rattle.std.specs.Prelude.{ℕ, ◌≡◌, ◌≤◌, ◌+◌, List, [], ◌∷◌, length, map, sum_by, count_by, Bool, true, false, IsFalse, Option, Some, None, unwrap_or, option_map}
 use Rattle.std.specs.List.{All}
 use Rattle.plain_heap.specs.PlainStep.{IsInRange}
-use Rattle.plain_heap.specs.Sections.{Execution, Sections, Parts, joined, section_of, warehouse_sections, made_by, printed_by, executed_total, printed_total, seasons}
+use Rattle.plain_heap.specs.declared.operation.Op.{Op}
+use Rattle.plain_heap.specs.declared.operation.Op.TheVariants.{Cat}
+use Rattle.plain_heap.specs.Sections.{Execution, Sections, Parts, joined, parts_of, section_of, warehouse_sections, made_by, printed_by, executed_total, printed_total, seasons}
+
+-- the operation reads a variable of the catalogue
+abbrev pub lends : Op → Bool
+lends (Cat v c) = true
+lends op = false
 
 -- few parts, of few commands in range
 pub record IsSmall (fields : ℕ) (parts : List (List Execution)) : Type 0 where
@@ -36,12 +43,17 @@ pub record AreLegal (fields : ℕ) (catalogue : Option (List (List Execution))) 
   pub others : All (IsLegal fields) warehouses
   pub count : length warehouses ≤ 32
   pub most : fields ≤ 16
+  pub least : 1 ≤ fields
+  -- the catalogue reads no variable of the catalogue
+  pub alone : All (λ e. IsFalse (lends e.op)) (joined (unwrap_or catalogue []))
 
 pub record AreSmall (fields : ℕ) (catalogue : Option (List (List Execution))) (warehouses : List (List (List Execution))) : Type 0 where
   pub first : IsSmall fields (unwrap_or catalogue [])
   pub others : All (IsSmall fields) warehouses
   pub count : length warehouses ≤ 32
   pub most : fields ≤ 16
+  pub least : 1 ≤ fields
+  pub alone : All (λ e. IsFalse (lends e.op)) (joined (unwrap_or catalogue []))
   pub few : in_sections (λ e. true) catalogue warehouses ≤ 2000000
 
 -- the sections of these parts, numbered from n on
@@ -69,4 +81,8 @@ pub record AreCounted (s : Sections) (first : Option Parts) (others : List Parts
   pub lines_are : lines ≡ printed_total s
   pub parts_are : parts ≡ seasons s
   pub most : s.fields ≤ 16
+  pub least : 1 ≤ s.fields
+  pub alone : All (λ e. IsFalse (lends e.op)) (joined (parts_of s 0))
+  pub count : length s.warehouses ≤ 32
+  pub short : seasons s ≤ 64
   pub few : executed_total s ≤ 2000000
