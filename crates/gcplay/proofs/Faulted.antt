@@ -11,7 +11,7 @@ use Rattle.gc_script.specs.declared.script.ScriptError.TheVariants as errors
 use Rattle.play_report.specs.Text.{error_text, text_of_fault}
 use Rattle.gcplay.specs.Answers.{RunsTo, ConvertsTo}
 use Rattle.gcplay.specs.Ending.{IsFaultAnswer}
-use Rattle.gcplay.specs.Words.{Options}
+use Rattle.command_words.specs.Words.{Options}
 
 is_fault : (e : ScriptError) → (e ≡ errors.OutOfMemory → ⊥) → fault_of e ≡ None → ⊥
 is_fault errors.OutOfMemory memory e = memory refl

@@ -10,7 +10,7 @@ use Rattle.plain_heap.specs.Placement.{cells_of, IsPlaced}
 use Rattle.play_report.specs.Report.{Outcome, outcome_of, survivor_of}
 use Rattle.play_report.specs.Text.{named_text, brief_text, load_text, outcomes, placed_count, printed_count, total_of, IsLoadText}
 use Rattle.play_report.specs.declared.report.Report.{Report}
-use Rattle.gcplay.specs.Playing.{IsReport, places_of}
+use Rattle.play_contract.specs.Playing.{IsReport, places_of}
 use Rattle.plain_heap.proofs.Counted.{section-at}
 use Rattle.gcplay.proofs.LoadFits.{lines_of, cells_counted}
 

@@ -2,7 +2,7 @@
 use Rattle.std.proofs.Common.{refl, codes, false}
 use Rattle.std.specs.Fmt.{digits}
 use Rattle.play_report.specs.Text.{named_text, printed_text, pair_text, triple_text}
-use Rattle.gcplay.specs.Words.{Options}
+use Rattle.command_words.specs.Words.{Options}
 use Rattle.gcplay.specs.Answers.{IsRunAnswer}
 use Rattle.gcplay.proofs.Computed.{done, faulty}
 

@@ -9,10 +9,10 @@ use Rattle.plain_heap.specs.Sections.{Sections, executed_total}
 use Rattle.play_report.specs.declared.report.Report.{Report}
 use Rattle.play_report.specs.declared.report.Positions.{Positions}
 use Rattle.gcplay.specs.Answers.{PlaysTo, LoadsTo}
-use Rattle.gcplay.specs.Playing.{IsReport, PlayAnswers, places_of}
-use Rattle.gcplay.specs.declared.play.PlayError.{PlayError}
-use Rattle.gcplay.specs.declared.play.PlayError.TheVariants as errors
-use Rattle.gcplay.specs.Words.{Options}
+use Rattle.play_contract.specs.Playing.{IsReport, PlayAnswers, places_of}
+use Rattle.play_contract.specs.declared.error.PlayError.{PlayError}
+use Rattle.play_contract.specs.declared.error.PlayError.TheVariants as errors
+use Rattle.command_words.specs.Words.{Options}
 use Rattle.gcplay.proofs.LoadText.{load_text_of}
 
 if_asked : (place : Bool) (P : Type 0) → P → MatchBool place P (Unit {0})

@@ -6,7 +6,7 @@ use Rattle.gc_script.specs.Script.{Script, script}
 use Rattle.gc_script.specs.Convert.{Conversion, convert}
 use Rattle.load_gen.specs.Generated.{generated}
 use Rattle.play_report.specs.Text.{usage_text}
-use Rattle.gcplay.specs.Words.{Options, Command, Run, Gen, Load, Convert, Schedule, Dump, Undump, Census, Batch}
+use Rattle.command_words.specs.Words.{Options, Command, Run, Gen, Load, Convert, Schedule, Dump, Undump, Census, Batch}
 use Rattle.gcplay.specs.Answers.{RunsTo, LoadsTo, ConvertsTo}
 use Rattle.gcplay.specs.Promise.{IsAnswer, EndsWith, RunsWith, ConvertsWith}
 

@@ -11,7 +11,7 @@ use Rattle.load_gen.specs.FourWarehouses.{HasFourWarehouses}
 use Rattle.load_gen.proofs.FewObjects.{generated_few}
 use Rattle.load_gen.proofs.Whole.{generated_script}
 use Rattle.play_report.specs.Text.{IsFullText}
-use Rattle.gcplay.specs.Words.{Options, Command, Run, Gen, Load, Convert, Schedule, Dump, Undump, Census, Batch}
+use Rattle.command_words.specs.Words.{Options, Command, Run, Gen, Load, Convert, Schedule, Dump, Undump, Census, Batch}
 use Rattle.gcplay.specs.Answers.{RunsTo, LoadsTo}
 use Rattle.gcplay.specs.Promise.{IsAnswer}
 use Rattle.gcplay.specs.Roomy.{PlaysIn, AreFew}

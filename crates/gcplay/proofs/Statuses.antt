@@ -2,7 +2,7 @@
 use Rattle.std.proofs.Common.{◌≡◌, ◌≤◌, ◌<◌, ◌-◌, ◌^◌, ◌⊎◌, ℕ, List, refl, sym, subst, inl, inr, arith}
 use Rattle.std.specs.Prelude.{Option, None}
 use Rattle.play_report.specs.Causes.{Rose}
-use Rattle.gcplay.specs.Words.{Command}
+use Rattle.command_words.specs.Words.{Command}
 use Rattle.gcplay.specs.Promise.{IsAnswer, EndsWith}
 use Rattle.gcplay.specs.Ending.{code_of, CommandEnds, WritesSome}
 use Rattle.gcplay.specs.declared.status.Status.{Status}

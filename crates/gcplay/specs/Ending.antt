@@ -1,12 +1,9 @@
 -- How the program ends, and why.
-use Rattle.std.specs.Prelude.{ℕ, ◌≡◌, ◌≤◌, List, Option, Some, None, Result, Ok, Err}
+use Rattle.std.specs.Prelude.{ℕ, ◌≡◌, List, Option, Some, None, Result, Ok, Err}
 use Rattle.std.specs.Io.KnownBytes.{Appends, Keeps}
 use Rattle.gc_script.specs.Faults.{Fault}
 use Rattle.play_report.specs.Causes.{Rose, Grows}
 use Rattle.play_report.specs.Text.{fault_text}
-use Rattle.gcplay.specs.Playing.{AreInRange}
-use Rattle.gcplay.specs.declared.command_line.asked.Asked.{Asked}
-use Rattle.gcplay.specs.declared.command_line.asked.Asked.TheVariants as asked
 use Rattle.gcplay.specs.declared.status.Status.{Status}
 use Rattle.gcplay.specs.declared.status.Status.TheVariants as ends
 
@@ -52,10 +49,3 @@ IsFaultAnswer (Some fault) status text = (status ≡ 2) × (text ≡ fault_text 
 abbrev pub CommandEnds : (ℕ → List ℕ → Type 0) → Status → ℕ → ℕ → Option (List ℕ) → Option (List ℕ) → ℕ → ℕ → Type 0
 CommandEnds Answers ends.ReadFault reads reads_now old new before now = Keeps old new × (now ≡ before) × Rose reads reads_now
 CommandEnds Answers status reads reads_now old new before now = TextEnds Answers status old new before now × (reads_now ≡ reads)
-
--- the values of a command's options are in their ranges
-abbrev pub IsInRange : Asked → Type 0
-IsInRange (asked.Run options) = AreInRange options
-IsInRange (asked.Gen number size) = (1 ≤ size) × (size ≤ 20000)
-IsInRange (asked.Load options number size) = AreInRange options × (1 ≤ size) × (size ≤ 20000)
-IsInRange asked.Convert = Unit {0}

@@ -4,8 +4,8 @@ use Rattle.gc_script.specs.Faults.{Fault}
 use Rattle.gc_script.specs.Script.{Script, script}
 use Rattle.gc_script.specs.Convert.{Conversion, convert}
 use Rattle.play_report.specs.Text.{usage_text}
-use Rattle.gcplay.specs.Words.{Command, Run, Gen, Load, Convert, Schedule, Dump, Undump, Census, Batch, command}
-use Rattle.gcplay.specs.CommandLine.{built}
+use Rattle.command_words.specs.Words.{Command, Run, Gen, Load, Convert, Schedule, Dump, Undump, Census, Batch, command}
+use Rattle.command_words.specs.Commands.{built}
 use Rattle.gcplay.specs.Answers.{IsRunAnswer, IsGenAnswer, IsLoadAnswer, IsConvertAnswer}
 
 -- the command that these words ask for, if they ask for one that the program has

@@ -3,7 +3,7 @@ use Rattle.std.specs.Prelude.{ℕ, ◌≡◌, ◌+◌, ◌<◌, ◌≤◌, List,
 use Rattle.plain_heap.specs.Sections.{Sections, executed_of, made_by, section_numbers, warehouse_numbers}
 use Rattle.gc_script.specs.Script.{Script, script}
 use Rattle.load_gen.specs.Generated.{generated}
-use Rattle.gcplay.specs.Words.{Command, Run, Load}
+use Rattle.command_words.specs.Words.{Command, Run, Load}
 use Rattle.gcplay.specs.Bounded.{KeepsFew}
 
 -- the bytes are a script of these sections

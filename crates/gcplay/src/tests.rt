@@ -4,7 +4,7 @@
 //! - `converts`, `made`: the commands `convert` and `gen`. `words`: words that ask for nothing.
 //! - `failing`: reads and writes that fail, and the longest source.
 //! - `played`: what a play writes. `long`: long plays, whose texts are built from `pieces`. `placed`: where objects lie.
-//! - `extremes`: options that change nothing. `watched`: what a gate is told.
+//! - `extremes`: options that change nothing.
 ghost use Rattle.std.specs.Prelude.{◌<◌};
 
 mod converts;
@@ -18,11 +18,10 @@ mod made;
 mod pieces;
 mod placed;
 mod played;
-mod watched;
 mod words;
 
-use crate::gate::OpenGate;
-use crate::run::play_words;
+use crate::program::play_words;
+use play_contract::OpenGate;
 use play_report::{MemorySink, MemorySource};
 use std::alloc::{AllocError, Global};
 use std::process::Abort;

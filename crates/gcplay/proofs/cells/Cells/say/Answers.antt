@@ -1,5 +1,0 @@
-use Rattle.gcplay.proofs.CellsPrints.{say_prints}
-use Rattle.gcplay.proofs.cells.Cells.say.Goals as goal
-
-pub returns : goal.returns
-returns c = say_prints c.args.self.now c.args.section c.args.v _ c.requires.section cc

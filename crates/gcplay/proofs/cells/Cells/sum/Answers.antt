@@ -1,5 +1,0 @@
-use Rattle.gcplay.proofs.CellsPrints.{sum_prints}
-use Rattle.gcplay.proofs.cells.Cells.sum.Goals as goal
-
-pub returns : goal.returns
-returns c = sum_prints c.args.self.now c.args.section c.args.v c.args.i c.args.limit _ c.requires.section cc
