@@ -54,11 +54,11 @@ fn of_packets(bases: &Bases, s: &SeatState, step: &Step) -> usize
         Step::Reserve | Step::Credit | Step::ReadCount => layout::EMPTY,
         Step::Take { q, p } => bases.pool_at(q as usize, p / 64),
         Step::Give { p, deferred } => {
-            let q = packets::pool_for(&bases.shape, length_in_hand(s.held, p), deferred);
+            let q = packets::pool_for(&bases.shape, length_in_hand(&s.held, p), deferred);
             bases.pool_at(q, p / 64)
         }
-        Step::Push { p, cell: _ } => bases.entry_at(p, length_in_hand(s.held, p)),
-        Step::Pop { p } => bases.entry_at(p, length_in_hand(s.held, p).saturating_sub(1)),
+        Step::Push { p, cell: _ } => bases.entry_at(p, length_in_hand(&s.held, p)),
+        Step::Pop { p } => bases.entry_at(p, length_in_hand(&s.held, p).saturating_sub(1)),
         Step::Look { q, g } => bases.pool_at(q as usize, g),
         Step::StoreLength { p } | Step::ReadLength { p } => bases.head_at(p),
         _ => unreachable!(),

@@ -7,45 +7,38 @@ use crate::kinds::Cell;
 use crate::seat::Cleaning;
 
 /// The cells left whose bit is set may be scanned, and the others leave the list, so that their card must be dirty again.
-fn seen_in(x: Cleaning, word: u64) -> Cleaning
-    ensures { result ≡ seen_in_of x word }
+#[inline(always)]
+fn see(x: &mut Cleaning, word: u64)
+    ensures { x.new ≡ seen_in_of x.old word }
 {
-    Cleaning {
-        left: x.left & word,
-        published: x.left & word,
-        redirty: x.redirty || !(x.left & !word == 0),
-        ..x
+    if !(x.left & !word == 0) {
+        x.redirty = true;
     }
+    x.left &= word;
+    x.published = x.left;
 }
 
-pub fn cleaning_after(cleaning: Option<Cleaning>, b: u32, word: u64) -> Option<Cleaning>
-    ensures { result ≡ cleaning_after_of cleaning b word }
+#[inline(always)]
+pub fn cleaning_after(cleaning: &mut Option<Cleaning>, b: u32, word: u64)
+    ensures { cleaning.new ≡ cleaning_after_of cleaning.old b word }
 {
-    match cleaning {
-        None => None,
-        Some(x) => if x.known && x.card / 4 == b {
-            Some(seen_in(x, word))
-        } else {
-            Some(x)
-        },
+    if let Some(x) = cleaning {
+        if x.known && x.card / 4 == b {
+            see(x, word);
+        }
     }
 }
 
 /// The cell is no longer left.
-pub fn without_cell(cleaning: Option<Cleaning>, c: Cell) -> Option<Cleaning>
-    ensures { result ≡ without_cell_of cleaning c }
+#[inline(always)]
+pub fn without_cell(cleaning: &mut Option<Cleaning>, c: Cell)
+    ensures { cleaning.new ≡ without_cell_of cleaning.old c }
 {
-    match cleaning {
-        None => None,
-        Some(x) => if x.card / 4 == c.number() / 64 {
-            Some(Cleaning {
-                left: bits::without_bit(x.left, c.number() % 64),
-                published: bits::without_bit(x.published, c.number() % 64),
-                ..x
-            })
-        } else {
-            Some(x)
-        },
+    if let Some(x) = cleaning {
+        if x.card / 4 == c.number() / 64 {
+            x.left = bits::without_bit(x.left, c.number() % 64);
+            x.published = bits::without_bit(x.published, c.number() % 64);
+        }
     }
 }
 
@@ -61,20 +54,15 @@ pub fn redirty_off(cleaning: &mut Option<Cleaning>, card: u32)
 }
 
 /// The marked cells of the cleaned card are left to scan.
-pub fn known_in(cleaning: Option<Cleaning>, b: u32, word: u64) -> Option<Cleaning>
-    ensures { result ≡ known_in_of cleaning b word }
+#[inline(always)]
+pub fn known_in(cleaning: &mut Option<Cleaning>, b: u32, word: u64)
+    ensures { cleaning.new ≡ known_in_of cleaning.old b word }
 {
-    match cleaning {
-        None => None,
-        Some(x) => if !x.known && x.card / 4 == b {
-            Some(Cleaning {
-                known: true,
-                left: word & bits::card_bits(x.card),
-                published: 0,
-                ..x
-            })
-        } else {
-            Some(x)
-        },
+    if let Some(x) = cleaning {
+        if !x.known && x.card / 4 == b {
+            x.known = true;
+            x.left = word & bits::card_bits(x.card);
+            x.published = 0;
+        }
     }
 }

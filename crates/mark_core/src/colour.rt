@@ -12,56 +12,32 @@ use crate::seat::{BlockState, Cleaning, SeatState};
 use crate::standing::{is_the, may_trace, phase_of, takes_part};
 use crate::{bits, cleaning, hand, slots};
 
-/// A popped cell of block b, once the block's allocation bits were read: it stays only where its bit is clear.
-fn popped_after(popped: Option<(Cell, bool)>, b: u32, word: u64) -> Option<(Cell, bool)>
-    ensures { result ≡ popped_after_of popped b word }
+/// A popped cell of block b, once the block's allocation bits were read: where its bit is set it is scanned from its first field on.
+#[inline(always)]
+fn scan_popped(popped: &mut Option<(Cell, bool)>, scan: &mut Option<(Cell, u8)>, b: u32, word: u64)
+    ensures popped { popped.new ≡ popped_after_of popped.old b word }
+    ensures scan { scan.new ≡ scan_after_of popped.old scan.old b word }
 {
-    match popped {
-        None => None,
-        Some(x) => if x.0.number() / 64 == b {
+    if let Some(x) = *popped {
+        if x.0.number() / 64 == b {
             if bits::has_bit(word, x.0.number() % 64) {
-                None
+                *popped = None;
+                *scan = Some((x.0, 0));
             } else {
-                Some((x.0, true))
+                *popped = Some((x.0, true));
             }
-        } else {
-            Some(x)
-        },
+        }
     }
 }
 
-/// It is scanned from its first field on, where its bit is set.
-fn scan_after(
-    popped: Option<(Cell, bool)>,
-    scan: Option<(Cell, u8)>,
-    b: u32,
-    word: u64,
-) -> Option<(Cell, u8)>
-    ensures { result ≡ scan_after_of popped scan b word }
+#[inline(always)]
+fn with_alloc_word(block: &mut Option<BlockState>, b: u32, word: u64)
+    ensures { block.new ≡ with_alloc_word_of block.old b word }
 {
-    match popped {
-        None => scan,
-        Some(x) => if x.0.number() / 64 == b && bits::has_bit(word, x.0.number() % 64) {
-            Some((x.0, 0))
-        } else {
-            scan
-        },
-    }
-}
-
-fn with_alloc_word(block: Option<BlockState>, b: u32, word: u64) -> Option<BlockState>
-    ensures { result ≡ with_alloc_word_of block b word }
-{
-    match block {
-        None => None,
-        Some(x) => if x.block == b {
-            Some(BlockState {
-                alloc_word: Some(word),
-                ..x
-            })
-        } else {
-            Some(x)
-        },
+    if let Some(x) = block {
+        if x.block == b {
+            x.alloc_word = Some(word);
+        }
     }
 }
 
@@ -71,14 +47,14 @@ pub fn check_read_alloc(shape: &Shape, s: &SeatState, b: u32) -> Option<u8>
     first_false(&[b < block_count(shape) && takes_part(s)])
 }
 
+#[inline(always)]
 pub fn read_alloc(s: &mut SeatState, b: u32, old: u64) -> u64
     ensures word { result ≡ (read_alloc_effect s.old b).written old }
     ensures seat { s.new ≡ (read_alloc_effect s.old b).seat old }
 {
-    s.scan = scan_after(s.popped, s.scan, b, old);
-    s.popped = popped_after(s.popped, b, old);
-    s.cleaning = cleaning::cleaning_after(s.cleaning, b, old);
-    s.block = with_alloc_word(s.block, b, old);
+    scan_popped(&mut s.popped, &mut s.scan, b, old);
+    cleaning::cleaning_after(&mut s.cleaning, b, old);
+    with_alloc_word(&mut s.block, b, old);
     old
 }
 
@@ -94,14 +70,27 @@ pub fn check_read_field(shape: &Shape, s: &SeatState, c: Cell, i: u8) -> Option<
     ])
 }
 
+/// What the word names is loaded.
+#[inline(always)]
+fn load(value: &mut Option<Cell>, word: u64)
+    ensures { value.new ≡ cell_named word }
+{
+    if word == 0 {
+        *value = None;
+    } else {
+        *value = Some(bits::cell_of(word));
+    }
+}
+
+#[inline(always)]
 pub fn read_field(s: &mut SeatState, c: Cell, i: u8, old: u64) -> u64
     requires { i < 255 }
     ensures word { result ≡ old }
     ensures seat { s.new ≡ record s.old { scan = Some (c, i + 1); cleaning = without_cell s.old.cleaning c; value = cell_named old } }
 {
     s.scan = Some((c, i + 1));
-    s.cleaning = cleaning::without_cell(s.cleaning, c);
-    s.value = bits::cell_named(old);
+    cleaning::without_cell(&mut s.cleaning, c);
+    load(&mut s.value, old);
     old
 }
 
@@ -114,11 +103,12 @@ pub fn check_read_root(shape: &Shape, phase: u64, s: &SeatState, section: u32, v
     ])
 }
 
+#[inline(always)]
 pub fn read_root(s: &mut SeatState, old: u64) -> u64
     ensures word { result ≡ old }
     ensures seat { s.new ≡ record s.old { value = cell_named old } }
 {
-    s.value = bits::cell_named(old);
+    load(&mut s.value, old);
     old
 }
 
@@ -131,6 +121,7 @@ pub fn check_set_mark(shape: &Shape, phase: u64, s: &SeatState, c: Cell) -> Opti
     ])
 }
 
+#[inline(always)]
 pub fn set_mark(s: &mut SeatState, c: Cell, old: u64) -> u64
     ensures word { result ≡ (set_mark_effect s.old c).written old }
     ensures seat { s.new ≡ (set_mark_effect s.old c).seat old }
@@ -194,6 +185,7 @@ pub fn check_clear_card(shape: &Shape, phase: u64, s: &SeatState, card: u32) -> 
     ])
 }
 
+#[inline(always)]
 pub fn clear_card(s: &mut SeatState, card: u32, old: u64) -> u64
     ensures word { result ≡ (clear_card_effect s.old card).written old }
     ensures seat { s.new ≡ (clear_card_effect s.old card).seat old }
@@ -216,11 +208,12 @@ pub fn check_read_marks(shape: &Shape, s: &SeatState, b: u32) -> Option<u8>
     first_false(&[b < block_count(shape) && takes_part(s)])
 }
 
+#[inline(always)]
 pub fn read_marks(s: &mut SeatState, b: u32, old: u64) -> u64
     ensures word { result ≡ (read_marks_effect s.old b).written old }
     ensures seat { s.new ≡ (read_marks_effect s.old b).seat old }
 {
-    s.cleaning = cleaning::known_in(s.cleaning, b, old);
+    cleaning::known_in(&mut s.cleaning, b, old);
     old
 }
 
@@ -230,6 +223,7 @@ pub fn check_read_card(shape: &Shape, card: u32) -> Option<u8>
     first_false(&[card < card_count(shape)])
 }
 
+#[inline(always)]
 pub fn read_phase(s: &mut SeatState, old: u64) -> u64
     ensures word { result ≡ (read_phase_effect s.old).written old }
     ensures seat { s.new ≡ (read_phase_effect s.old).seat old }

@@ -20,6 +20,7 @@ pub fn check_claim_block(shape: &Shape, phase: u64, s: &SeatState, b: u32) -> Op
     ])
 }
 
+#[inline(always)]
 pub fn claim_block(s: &mut SeatState, b: u32, old: u64) -> u64
     ensures word { result ≡ (claim_block_effect s.old b).written old }
     ensures seat { s.new ≡ (claim_block_effect s.old b).seat old }
@@ -58,6 +59,7 @@ pub fn check_release_block(s: &SeatState) -> Option<u8>
     ])
 }
 
+#[inline(always)]
 pub fn release_block(s: &mut SeatState) -> u64
     ensures word { result ≡ 0 }
     ensures seat { s.new ≡ record s.old { cache = None } }
@@ -67,16 +69,13 @@ pub fn release_block(s: &mut SeatState) -> u64
 }
 
 /// The free cells of the cache are those whose bit is clear.
-fn with_free(cache: Option<CacheState>, word: u64) -> Option<CacheState>
-    ensures { result ≡ with_free_of cache word }
+#[inline(always)]
+fn with_free(cache: &mut Option<CacheState>, word: u64)
+    ensures { cache.new ≡ with_free_of cache.old word }
 {
-    match cache {
-        None => None,
-        Some(x) => Some(CacheState {
-            unread: false,
-            free: !word,
-            ..x
-        }),
+    if let Some(x) = cache {
+        x.unread = false;
+        x.free = !word;
     }
 }
 
@@ -86,11 +85,12 @@ pub fn check_read_free(s: &SeatState) -> Option<u8>
     first_false(&[hand::is_unread(s.cache)])
 }
 
+#[inline(always)]
 pub fn read_free(s: &mut SeatState, old: u64) -> u64
     ensures word { result ≡ (read_free_effect s.old).written old }
     ensures seat { s.new ≡ (read_free_effect s.old).seat old }
 {
-    s.cache = with_free(s.cache, old);
+    with_free(&mut s.cache, old);
     old
 }
 
@@ -186,16 +186,13 @@ pub fn used_bits(cache: Option<CacheState>) -> u64
     }
 }
 
-fn without_used(cache: Option<CacheState>) -> Option<CacheState>
-    ensures { result ≡ without_used_of cache }
+#[inline(always)]
+fn without_used(cache: &mut Option<CacheState>)
+    ensures { cache.new ≡ without_used_of cache.old }
 {
-    match cache {
-        None => None,
-        Some(x) => Some(CacheState {
-            used: 0,
-            last: None,
-            ..x
-        }),
+    if let Some(x) = cache {
+        x.used = 0;
+        x.last = None;
     }
 }
 
@@ -208,11 +205,12 @@ pub fn check_publish_cells(s: &SeatState) -> Option<u8>
     ])
 }
 
+#[inline(always)]
 pub fn publish_cells(s: &mut SeatState, old: u64) -> u64
     ensures word { result ≡ (publish_cells_effect s.old).written old }
     ensures seat { s.new ≡ (publish_cells_effect s.old).seat old }
 {
     let used = used_bits(s.cache);
-    s.cache = without_used(s.cache);
+    without_used(&mut s.cache);
     old | used
 }

@@ -19,6 +19,7 @@ pub fn check_reserve(phase: u64, s: &SeatState) -> Option<u8>
     first_false(&[may_trace(phase, s), !s.reserved && !s.credit])
 }
 
+#[inline(always)]
 pub fn reserve(s: &mut SeatState, old: u64) -> u64
     ensures word { result ≡ (reserve_effect s.old).written old }
     ensures seat { s.new ≡ (reserve_effect s.old).seat old }
@@ -38,13 +39,14 @@ pub fn check_take(shape: &Shape, phase: u64, s: &SeatState, q: u8, p: u32) -> Op
     ])
 }
 
+#[inline(always)]
 pub fn take(s: &mut SeatState, q: u8, p: u32, old: u64) -> u64
     ensures word { result ≡ without_bit old (p % 64) }
     ensures seat { let found = has_bit old (p % 64) in s.new ≡ record s.old { held = if found then put_packet s.old.held p else s.old.held; reserved = s.old.reserved && not ((q == 0) && found) } }
 {
     let found = bits::has_bit(old, p % 64);
     if found {
-        s.held = slots::put_packet(s.held, p);
+        slots::put_packet(&mut s.held, p);
     }
     s.reserved = s.reserved && !(q == 0 && found);
     bits::without_bit(old, p % 64)
@@ -71,19 +73,20 @@ pub fn check_give(shape: &Shape, s: &SeatState, p: u32, deferred: bool) -> Optio
 {
     first_false(&[
         p < shape.packets && slots::holds(s.held, p),
-        slots::has_length(s.held, p) && (!deferred || slots::has_entry(s.held, p)),
+        slots::has_length(&s.held, p) && (!deferred || slots::has_entry(&s.held, p)),
         !hand::work_in_hand(shape.fields, s) || slots::holds_another(s.held, p),
         !s.credit && !s.reserved,
         slots::is_stored(s.held, p),
     ])
 }
 
+#[inline(always)]
 pub fn give(s: &mut SeatState, p: u32, old: u64) -> u64
     ensures word { result ≡ with_bit old (p % 64) }
     ensures seat { s.new ≡ record s.old { held = drop_packet s.old.held p; credit = not (has_entry s.old.held p) } }
 {
-    let has_entry = slots::has_entry(s.held, p);
-    s.held = slots::drop_packet(s.held, p);
+    let has_entry = slots::has_entry(&s.held, p);
+    slots::drop_packet(&mut s.held, p);
     s.credit = !has_entry;
     bits::with_bit(old, p % 64)
 }
@@ -94,6 +97,7 @@ pub fn check_credit(s: &SeatState) -> Option<u8>
     first_false(&[s.credit || s.reserved])
 }
 
+#[inline(always)]
 pub fn credit(s: &mut SeatState, old: u64) -> u64
     ensures word { result ≡ (credit_effect s.old).written old }
     ensures seat { s.new ≡ (credit_effect s.old).seat old }
@@ -108,18 +112,19 @@ pub fn check_push(shape: &Shape, s: &SeatState, p: u32, c: Cell) -> Option<u8>
 {
     first_false(&[
         p < shape.packets && c.number() < shape.cells && slots::holds(s.held, p),
-        slots::has_length(s.held, p) && slots::length_in_hand(s.held, p) < shape.entries,
+        slots::has_length(&s.held, p) && slots::length_in_hand(&s.held, p) < shape.entries,
         hand::is_the_cell(s.fresh, c) || hand::is_unpublished(s.popped, c),
     ])
 }
 
+#[inline(always)]
 pub fn push(s: &mut SeatState, p: u32, c: Cell) -> u64
     requires { length_in_hand s.old.held p < 4294967295 }
     ensures word { result ≡ c + 1 }
     ensures seat { s.new ≡ record s.old { held = set_length s.old.held p (length_in_hand s.old.held p + 1) false; fresh = if is_the s.old.fresh c then None else s.old.fresh; popped = if is_the s.old.fresh c then s.old.popped else None } }
 {
-    let length = slots::length_in_hand(s.held, p);
-    s.held = slots::set_length(s.held, p, length + 1, false);
+    let length = slots::length_in_hand(&s.held, p);
+    slots::set_length(&mut s.held, p, length + 1, false);
     if hand::is_the_cell(s.fresh, c) {
         s.fresh = None;
     } else {
@@ -133,18 +138,19 @@ pub fn check_pop(shape: &Shape, phase: u64, s: &SeatState, p: u32) -> Option<u8>
 {
     first_false(&[
         p < shape.packets && slots::holds(s.held, p),
-        slots::has_entry(s.held, p),
+        slots::has_entry(&s.held, p),
         !hand::work_in_hand(shape.fields, s),
         may_trace(phase, s),
     ])
 }
 
+#[inline(always)]
 pub fn pop(s: &mut SeatState, p: u32, old: u64) -> u64
     ensures word { result ≡ old }
     ensures seat { s.new ≡ record s.old { held = set_length s.old.held p (length_in_hand s.old.held p - 1) false; popped = Some (cell_of old, false) } }
 {
-    let length = slots::length_in_hand(s.held, p).saturating_sub(1);
-    s.held = slots::set_length(s.held, p, length, false);
+    let length = slots::length_in_hand(&s.held, p).saturating_sub(1);
+    slots::set_length(&mut s.held, p, length, false);
     s.popped = Some((bits::cell_of(old), false));
     old
 }
@@ -161,16 +167,17 @@ pub fn check_store_length(shape: &Shape, s: &SeatState, p: u32) -> Option<u8>
 {
     first_false(&[
         p < shape.packets && slots::holds(s.held, p),
-        slots::has_length(s.held, p),
+        slots::has_length(&s.held, p),
     ])
 }
 
+#[inline(always)]
 pub fn store_length(s: &mut SeatState, p: u32) -> u64
     ensures word { result ≡ length_in_hand s.old.held p }
     ensures seat { s.new ≡ record s.old { held = set_length s.old.held p (length_in_hand s.old.held p) true } }
 {
-    let length = slots::length_in_hand(s.held, p);
-    s.held = slots::set_length(s.held, p, length, true);
+    let length = slots::length_in_hand(&s.held, p);
+    slots::set_length(&mut s.held, p, length, true);
     u64::from(length)
 }
 
@@ -179,14 +186,15 @@ pub fn check_read_length(shape: &Shape, s: &SeatState, p: u32) -> Option<u8>
 {
     first_false(&[
         p < shape.packets && slots::holds(s.held, p),
-        !slots::has_length(s.held, p),
+        !slots::has_length(&s.held, p),
     ])
 }
 
+#[inline(always)]
 pub fn read_length(s: &mut SeatState, p: u32, old: u64) -> u64
     ensures word { result ≡ (read_length_effect s.old p).written old }
     ensures seat { s.new ≡ (read_length_effect s.old p).seat old }
 {
-    s.held = slots::set_length(s.held, p, bits::reference_in(old), true);
+    slots::set_length(&mut s.held, p, bits::reference_in(old), true);
     old
 }

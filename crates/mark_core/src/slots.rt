@@ -1,5 +1,5 @@
 //! The packets that a seat holds, in four slots.
-ghost use Rattle.std.specs.Prelude.{◌≡◌};
+ghost use Rattle.std.specs.Prelude.{ℕ, ◌≡◌, Option, Some, unwrap_or};
 ghost use Rattle.mark_core.specs.Held.{slot_of, length_in_slot, stored_in_slot, holds as holds_packet, known_length as known_length_of, length_in_hand as length_in_hand_of, has_length as has_length_of, has_entry as has_entry_of, is_stored as is_stored_packet, holds_any as holds_any_packet, has_free_slot as has_a_free_slot, put_packet as put_of, slot_without, slot_with, drop_packet as dropped_from, set_length as set_length_of, holds_another as holds_another_packet};
 
 /// Nothing, or a packet, its length if that is known, and whether its head holds this length.
@@ -16,12 +16,14 @@ fn is_of(slot: Slot, p: u32) -> bool
     }
 }
 
-fn length_or(slot: Slot, p: u32, rest: Option<u32>) -> Option<u32>
-    ensures { result ≡ length_in_slot slot p rest }
+/// What is known of the length of packet p, where this slot holds it.
+#[inline(always)]
+fn length_in(slot: &Slot, p: u32) -> Option<Option<u32>>
+    ensures { (rest : Option ℕ) → length_in_slot slot.now p rest ≡ unwrap_or result rest }
 {
     match slot {
-        None => rest,
-        Some(x) => if x.0 == p { x.1 } else { rest },
+        Some(x) => if x.0 == p { Some(x.1) } else { None },
+        None => None,
     }
 }
 
@@ -41,31 +43,42 @@ pub fn holds(held: Slots, p: u32) -> bool
     is_of(a, p) || is_of(b, p) || is_of(c, p) || is_of(d, p)
 }
 
-pub fn known_length(held: Slots, p: u32) -> Option<u32>
-    ensures { result ≡ known_length_of held p }
+#[inline(always)]
+pub fn known_length(held: &Slots, p: u32) -> Option<u32>
+    ensures { result ≡ known_length_of held.now p }
 {
     let [a, b, c, d] = held;
-    length_or(
-        a,
-        p,
-        length_or(b, p, length_or(c, p, length_or(d, p, None))),
-    )
+    if let Some(length) = length_in(a, p) {
+        return length;
+    }
+    if let Some(length) = length_in(b, p) {
+        return length;
+    }
+    if let Some(length) = length_in(c, p) {
+        return length;
+    }
+    if let Some(length) = length_in(d, p) {
+        return length;
+    }
+    None
 }
 
-pub fn length_in_hand(held: Slots, p: u32) -> u32
-    ensures { result ≡ length_in_hand_of held p }
+#[inline(always)]
+pub fn length_in_hand(held: &Slots, p: u32) -> u32
+    ensures { result ≡ length_in_hand_of held.now p }
 {
     known_length(held, p).unwrap_or(0)
 }
 
-pub fn has_length(held: Slots, p: u32) -> bool
-    ensures { result ≡ has_length_of held p }
+pub fn has_length(held: &Slots, p: u32) -> bool
+    ensures { result ≡ has_length_of held.now p }
 {
     known_length(held, p).is_some()
 }
 
-pub fn has_entry(held: Slots, p: u32) -> bool
-    ensures { result ≡ has_entry_of held p }
+#[inline(always)]
+pub fn has_entry(held: &Slots, p: u32) -> bool
+    ensures { result ≡ has_entry_of held.now p }
 {
     !(length_in_hand(held, p) == 0)
 }
@@ -90,65 +103,67 @@ pub fn has_free_slot(held: Slots) -> bool
 }
 
 /// The packet goes into the first free slot, with no length known.
-pub fn put_packet(held: Slots, p: u32) -> Slots
-    ensures { result ≡ put_of held p }
+#[inline(always)]
+pub fn put_packet(held: &mut Slots, p: u32)
+    ensures { held.new ≡ put_of held.old p }
 {
-    let [a, b, c, d] = held;
     let new = Some((p, None, true));
-    match (a, b, c, d) {
-        (None, _, _, _) => [new, b, c, d],
-        (_, None, _, _) => [a, new, c, d],
-        (_, _, None, _) => [a, b, new, d],
-        (_, _, _, None) => [a, b, c, new],
-        _ => held,
+    if held[0].is_none() {
+        held[0] = new;
+    } else if held[1].is_none() {
+        held[1] = new;
+    } else if held[2].is_none() {
+        held[2] = new;
+    } else if held[3].is_none() {
+        held[3] = new;
     }
 }
 
-fn without(p: u32, slot: Slot) -> Slot
-    ensures { result ≡ slot_without p slot }
+#[inline(always)]
+fn empty_slot(slot: &mut Slot, p: u32)
+    ensures { slot.new ≡ slot_without p slot.old }
 {
-    match slot {
-        None => None,
-        Some(x) => if x.0 == p { None } else { Some(x) },
+    if is_of(*slot, p) {
+        *slot = None;
     }
 }
 
-pub fn drop_packet(held: Slots, p: u32) -> Slots
-    ensures { result ≡ dropped_from held p }
+#[inline(always)]
+pub fn drop_packet(held: &mut Slots, p: u32)
+    ensures { held.new ≡ dropped_from held.old p }
 {
-    let [a, b, c, d] = held;
-    [without(p, a), without(p, b), without(p, c), without(p, d)]
+    empty_slot(&mut held[0], p);
+    empty_slot(&mut held[1], p);
+    empty_slot(&mut held[2], p);
+    empty_slot(&mut held[3], p);
 }
 
-fn with_length(p: u32, length: Option<u32>, stored: bool, slot: Slot) -> Slot
-    ensures { result ≡ slot_with p length stored slot }
+#[inline(always)]
+fn set_slot(slot: &mut Slot, p: u32, length: u32, stored: bool)
+    ensures { slot.new ≡ slot_with p (Some length) stored slot.old }
 {
-    match slot {
-        None => None,
-        Some(x) => if x.0 == p {
-            Some((p, length, stored))
-        } else {
-            Some(x)
-        },
+    if let Some(x) = slot {
+        if x.0 == p {
+            *x = (p, Some(length), stored);
+        }
     }
 }
 
 /// What is known of the packet becomes this length, which its head holds or not.
-pub fn set_length(held: Slots, p: u32, length: u32, stored: bool) -> Slots
-    ensures { result ≡ set_length_of held p length stored }
+#[inline(always)]
+pub fn set_length(held: &mut Slots, p: u32, length: u32, stored: bool)
+    ensures { held.new ≡ set_length_of held.old p length stored }
 {
-    let [a, b, c, d] = held;
-    let n = Some(length);
-    [
-        with_length(p, n, stored, a),
-        with_length(p, n, stored, b),
-        with_length(p, n, stored, c),
-        with_length(p, n, stored, d),
-    ]
+    set_slot(&mut held[0], p, length, stored);
+    set_slot(&mut held[1], p, length, stored);
+    set_slot(&mut held[2], p, length, stored);
+    set_slot(&mut held[3], p, length, stored);
 }
 
 pub fn holds_another(held: Slots, p: u32) -> bool
     ensures { result ≡ holds_another_packet held p }
 {
-    holds_any(drop_packet(held, p))
+    let mut others = held;
+    drop_packet(&mut others, p);
+    holds_any(others)
 }

@@ -21,6 +21,7 @@ pub fn check_next_block(phase: u64, s: &SeatState) -> Option<u8>
     ])
 }
 
+#[inline(always)]
 pub fn next_block(shape: &Shape, s: &mut SeatState, old: u64) -> u64
     ensures word { result ≡ (next_block_effect shape.now s.old).written old }
     ensures seat { s.new ≡ (next_block_effect shape.now s.old).seat old }
@@ -43,6 +44,7 @@ pub fn check_next_of_cards(phase: u64, s: &SeatState) -> Option<u8>
     first_false(&[may_trace(phase, s), s.below_card])
 }
 
+#[inline(always)]
 pub fn next_of_cards(s: &mut SeatState, old: u64) -> u64
     ensures word { result ≡ (next_of_cards_effect s.old).written old }
     ensures seat { s.new ≡ (next_of_cards_effect s.old).seat old }
@@ -61,15 +63,12 @@ pub fn own_block(s: &SeatState) -> u32
     }
 }
 
-fn with_mark_word(block: Option<BlockState>, word: u64) -> Option<BlockState>
-    ensures { result ≡ with_mark_word_of block word }
+#[inline(always)]
+fn with_mark_word(block: &mut Option<BlockState>, word: u64)
+    ensures { block.new ≡ with_mark_word_of block.old word }
 {
-    match block {
-        None => None,
-        Some(x) => Some(BlockState {
-            mark_word: Some(word),
-            ..x
-        }),
+    if let Some(x) = block {
+        x.mark_word = Some(word);
     }
 }
 
@@ -79,11 +78,12 @@ pub fn check_read_block_marks(phase: u64, s: &SeatState) -> Option<u8>
     first_false(&[s.block.is_some() && is_phase(phase, Phase::Sweep)])
 }
 
+#[inline(always)]
 pub fn read_block_marks(s: &mut SeatState, old: u64) -> u64
     ensures word { result ≡ (read_block_marks_effect s.old).written old }
     ensures seat { s.new ≡ (read_block_marks_effect s.old).seat old }
 {
-    s.block = with_mark_word(s.block, old);
+    with_mark_word(&mut s.block, old);
     old
 }
 
@@ -97,12 +97,12 @@ fn survivors(block: Option<BlockState>) -> u64
     }
 }
 
-fn with_stored(block: Option<BlockState>) -> Option<BlockState>
-    ensures { result ≡ with_stored_of block }
+#[inline(always)]
+fn with_stored(block: &mut Option<BlockState>)
+    ensures { block.new ≡ with_stored_of block.old }
 {
-    match block {
-        None => None,
-        Some(x) => Some(BlockState { stored: true, ..x }),
+    if let Some(x) = block {
+        x.stored = true;
     }
 }
 
@@ -112,12 +112,13 @@ pub fn check_store_alloc(phase: u64, s: &SeatState) -> Option<u8>
     first_false(&[may_sweep(phase, s), hand::may_store(s.block)])
 }
 
+#[inline(always)]
 pub fn store_alloc(s: &mut SeatState) -> u64
     ensures word { result ≡ survivors_of s.old.block }
     ensures seat { s.new ≡ record s.old { block = with_stored_of s.old.block } }
 {
     let word = survivors(s.block);
-    s.block = with_stored(s.block);
+    with_stored(&mut s.block);
     word
 }
 
@@ -128,6 +129,7 @@ pub fn check_clear_marks(phase: u64, s: &SeatState) -> Option<u8>
     first_false(&[s.block.is_some(), s.block.is_some() && swept])
 }
 
+#[inline(always)]
 pub fn clear_marks(s: &mut SeatState) -> u64
     ensures word { result ≡ 0 }
     ensures seat { s.new ≡ record s.old { block = None } }

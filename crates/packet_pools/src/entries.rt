@@ -14,6 +14,7 @@ use gc_table::{Heap, HeapSeat};
 use mark_core::Cell;
 
 /// Puts in a cell that the seat marked, or one that it popped and saw unpublished. A full packet is refused, and nothing changes then.
+#[inline(always)]
 pub fn push(heap: &Heap, seat: &mut HeapSeat, held: &mut Held, cell: Cell) -> Result<(), PacketFull>
     requires seat { Sits heap.now seat.old × Traces (view_of seat.old) }
     requires held { IsHeld held.old (view_of seat.old) }
@@ -33,6 +34,7 @@ pub fn push(heap: &Heap, seat: &mut HeapSeat, held: &mut Held, cell: Cell) -> Re
 }
 
 /// Takes out the cell that was put in last, which is then in the seat's hand. From an empty packet nothing comes, and nothing changes.
+#[inline(always)]
 pub fn pop(heap: &Heap, seat: &mut HeapSeat, held: &mut Held) -> Option<Cell>
     requires seat { Sits heap.now seat.old × Traces (view_of seat.old) }
     requires held { IsHeld held.old (view_of seat.old) }

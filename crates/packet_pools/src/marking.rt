@@ -18,6 +18,7 @@ use gc_table::{Heap, HeapSeat};
 use mark_core::Cell;
 
 /// Pushes the cell that the seat marked. Where no packet has room it dirties the cell's card, and says true.
+#[inline(always)]
 fn push_marked(heap: &Heap, seat: &mut HeapSeat, out: &mut Held, cell: Cell) -> bool
     requires seat { Sits heap.now seat.old × Traces (view_of seat.old) }
     requires out { IsHeld out.old (view_of seat.old) × IsTrue (has_free_slot (view_of seat.old).state.held) }
@@ -40,6 +41,7 @@ fn push_marked(heap: &Heap, seat: &mut HeapSeat, out: &mut Held, cell: Cell) -> 
 
 /// Marks the cell that the seat loaded, and pushes it where it was white. The seat holds at most three packets, and the packet may be changed as
 /// [`scan_cell`](crate::scan_cell) says.
+#[inline(always)]
 pub fn mark_cell(heap: &Heap, seat: &mut HeapSeat, out: &mut Held, cell: Cell) -> Scanned
     requires seat { Sits heap.now seat.old × Traces (view_of seat.old) }
     requires out { IsHeld out.old (view_of seat.old) × IsTrue (has_free_slot (view_of seat.old).state.held) }

@@ -31,6 +31,7 @@ fn change(heap: &Heap, seat: &mut HeapSeat, out: &mut Held, other: Held)
 }
 
 /// Takes another packet with room before it returns this one, which is full. Where there is none it keeps this one.
+#[inline(never)]
 fn change_full(heap: &Heap, seat: &mut HeapSeat, out: &mut Held)
     requires seat { Sits heap.now seat.old × Traces (view_of seat.old) }
     requires out { IsHeld out.old (view_of seat.old) × IsTrue (has_free_slot (view_of seat.old).state.held) }
@@ -47,6 +48,7 @@ fn change_full(heap: &Heap, seat: &mut HeapSeat, out: &mut Held)
 }
 
 /// Sees to it that the packet in hand has room. Where it is full still, no packet had room.
+#[inline(always)]
 pub(crate) fn make_room(heap: &Heap, seat: &mut HeapSeat, out: &mut Held)
     requires seat { Sits heap.now seat.old × Traces (view_of seat.old) }
     requires out { IsHeld out.old (view_of seat.old) × IsTrue (has_free_slot (view_of seat.old).state.held) }

@@ -19,6 +19,7 @@ use gc_table::{Heap, HeapSeat};
 use mark_core::{Cell, cell_of};
 
 /// Reads field i of the cell in scan, or the first field of a cell left in cleaning, and marks what it refers to.
+#[inline(always)]
 fn scan_field(heap: &Heap, seat: &mut HeapSeat, out: &mut Held, cell: Cell, i: u8) -> Scanned
     requires seat { Sits heap.now seat.old × Traces (view_of seat.old) }
     requires out { IsHeld out.old (view_of seat.old) × IsTrue (has_free_slot (view_of seat.old).state.held) }
@@ -39,6 +40,7 @@ fn scan_field(heap: &Heap, seat: &mut HeapSeat, out: &mut Held, cell: Cell, i: u
 }
 
 /// The fields from this one on.
+#[inline(always)]
 fn scan_fields(heap: &Heap, seat: &mut HeapSeat, out: &mut Held, cell: Cell, next: u8) -> Scanned
     requires seat { Sits heap.now seat.old × Traces (view_of seat.old) }
     requires out { IsHeld out.old (view_of seat.old) × IsTrue (has_free_slot (view_of seat.old).state.held) }
@@ -64,6 +66,7 @@ fn scan_fields(heap: &Heap, seat: &mut HeapSeat, out: &mut Held, cell: Cell, nex
 ///
 /// The seat holds at most three packets. A full one goes back once another was taken, which then is the one in hand.
 /// Where no packet has room the marked cell's card is dirtied.
+#[inline(always)]
 pub fn scan_cell(heap: &Heap, seat: &mut HeapSeat, out: &mut Held) -> Scanned
     requires seat { Sits heap.now seat.old × Traces (view_of seat.old) }
     requires out { IsHeld out.old (view_of seat.old) × IsTrue (has_free_slot (view_of seat.old).state.held) }
