@@ -28,7 +28,6 @@ impl Heap {
     }
 
     /// Whose object it is, and which.
-    #[inline(always)]
     pub fn read_ident(&self, seat: &mut HeapSeat, c: Cell) -> u64
         requires seat { Sits self.now seat.old }
         requires may { May (Step.ReadIdent c) (view_of seat.old) }
@@ -49,7 +48,6 @@ impl Heap {
     }
 
     /// Stores variable w, or nil, in field i of variable v's object.
-    #[inline(always)]
     pub fn store_field(&self, seat: &mut HeapSeat, v: u8, i: u8, w: Option<u8>)
         requires seat { Sits self.now seat.old }
         requires may { May (Step.StoreField v i w) (view_of seat.old) }
@@ -74,7 +72,6 @@ impl Heap {
     }
 
     /// Stores a reference in variable v.
-    #[inline(always)]
     pub fn store_root(&self, seat: &mut HeapSeat, v: u8, r: u64)
         requires seat { Sits self.now seat.old }
         requires may { May (Step.StoreRoot v r) (view_of seat.old) }
@@ -123,7 +120,6 @@ impl Heap {
     }
 
     /// Stores a word of a new cell: the fields, then the value, then the identity.
-    #[inline(always)]
     pub fn store_new(&self, seat: &mut HeapSeat, c: Cell, part: u8, word: u64)
         requires seat { Sits self.now seat.old }
         requires may { May (Step.StoreNew c part word) (view_of seat.old) }

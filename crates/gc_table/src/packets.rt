@@ -51,7 +51,6 @@ impl Heap {
     }
 
     /// Puts a grey cell into packet p.
-    #[inline(always)]
     pub fn push(&self, seat: &mut HeapSeat, p: u32, cell: Cell)
         requires seat { Sits self.now seat.old }
         requires may { May (Step.Push p cell) (view_of seat.old) }
@@ -62,7 +61,6 @@ impl Heap {
     }
 
     /// Takes the grey cell that was put in last.
-    #[inline(always)]
     pub fn pop(&self, seat: &mut HeapSeat, p: u32) -> Cell
         requires seat { Sits self.now seat.old }
         requires may { May (Step.Pop p) (view_of seat.old) }

@@ -10,7 +10,6 @@ use mark_core::{Cell, Phase, Step, has_bit, phase_of};
 
 impl Heap {
     /// The allocation bits of block b.
-    #[inline(always)]
     pub fn read_alloc(&self, seat: &mut HeapSeat, b: u32) -> u64
         requires seat { Sits self.now seat.old }
         requires may { May (Step.ReadAlloc b) (view_of seat.old) }
@@ -21,7 +20,6 @@ impl Heap {
     }
 
     /// The next field of the cell in scan, or the first one of a cell left in cleaning.
-    #[inline(always)]
     pub fn read_field(&self, seat: &mut HeapSeat, c: Cell, i: u8) -> u64
         requires seat { Sits self.now seat.old }
         requires may { May (Step.ReadField c i) (view_of seat.old) }
@@ -42,7 +40,6 @@ impl Heap {
     }
 
     /// Marks the cell that was loaded: true where it was white.
-    #[inline(always)]
     pub fn set_mark(&self, seat: &mut HeapSeat, c: Cell) -> bool
         requires seat { Sits self.now seat.old }
         requires may { May (Step.SetMark c) (view_of seat.old) }
@@ -54,7 +51,6 @@ impl Heap {
     }
 
     /// Dirties a card, which answers for what the seat owes it.
-    #[inline(always)]
     pub fn dirty_card(&self, seat: &mut HeapSeat, card: u32)
         requires seat { Sits self.now seat.old }
         requires may { May (Step.DirtyCard card) (view_of seat.old) }

@@ -7,7 +7,6 @@ use crate::kinds::Cell;
 use crate::seat::Cleaning;
 
 /// The cells left whose bit is set may be scanned, and the others leave the list, so that their card must be dirty again.
-#[inline(always)]
 fn see(x: &mut Cleaning, word: u64)
     ensures { x.new ≡ seen_in_of x.old word }
 {
@@ -18,7 +17,6 @@ fn see(x: &mut Cleaning, word: u64)
     x.published = x.left;
 }
 
-#[inline(always)]
 pub fn cleaning_after(cleaning: &mut Option<Cleaning>, b: u32, word: u64)
     ensures { cleaning.new ≡ cleaning_after_of cleaning.old b word }
 {
@@ -30,7 +28,6 @@ pub fn cleaning_after(cleaning: &mut Option<Cleaning>, b: u32, word: u64)
 }
 
 /// The cell is no longer left.
-#[inline(always)]
 pub fn without_cell(cleaning: &mut Option<Cleaning>, c: Cell)
     ensures { cleaning.new ≡ without_cell_of cleaning.old c }
 {
@@ -54,7 +51,6 @@ pub fn redirty_off(cleaning: &mut Option<Cleaning>, card: u32)
 }
 
 /// The marked cells of the cleaned card are left to scan.
-#[inline(always)]
 pub fn known_in(cleaning: &mut Option<Cleaning>, b: u32, word: u64)
     ensures { cleaning.new ≡ known_in_of cleaning.old b word }
 {

@@ -13,7 +13,6 @@ use crate::standing::{is_the, may_trace, phase_of, takes_part};
 use crate::{bits, cleaning, hand, slots};
 
 /// A popped cell of block b, once the block's allocation bits were read: where its bit is set it is scanned from its first field on.
-#[inline(always)]
 fn scan_popped(popped: &mut Option<(Cell, bool)>, scan: &mut Option<(Cell, u8)>, b: u32, word: u64)
     ensures popped { popped.new ≡ popped_after_of popped.old b word }
     ensures scan { scan.new ≡ scan_after_of popped.old scan.old b word }
@@ -30,7 +29,6 @@ fn scan_popped(popped: &mut Option<(Cell, bool)>, scan: &mut Option<(Cell, u8)>,
     }
 }
 
-#[inline(always)]
 fn with_alloc_word(block: &mut Option<BlockState>, b: u32, word: u64)
     ensures { block.new ≡ with_alloc_word_of block.old b word }
 {
@@ -47,7 +45,6 @@ pub fn check_read_alloc(shape: &Shape, s: &SeatState, b: u32) -> Option<u8>
     first_false(&[b < block_count(shape) && takes_part(s)])
 }
 
-#[inline(always)]
 pub fn read_alloc(s: &mut SeatState, b: u32, old: u64) -> u64
     ensures word { result ≡ (read_alloc_effect s.old b).written old }
     ensures seat { s.new ≡ (read_alloc_effect s.old b).seat old }
@@ -71,7 +68,6 @@ pub fn check_read_field(shape: &Shape, s: &SeatState, c: Cell, i: u8) -> Option<
 }
 
 /// What the word names is loaded.
-#[inline(always)]
 fn load(value: &mut Option<Cell>, word: u64)
     ensures { value.new ≡ cell_named word }
 {
@@ -82,7 +78,6 @@ fn load(value: &mut Option<Cell>, word: u64)
     }
 }
 
-#[inline(always)]
 pub fn read_field(s: &mut SeatState, c: Cell, i: u8, old: u64) -> u64
     requires { i < 255 }
     ensures word { result ≡ old }
@@ -103,7 +98,6 @@ pub fn check_read_root(shape: &Shape, phase: u64, s: &SeatState, section: u32, v
     ])
 }
 
-#[inline(always)]
 pub fn read_root(s: &mut SeatState, old: u64) -> u64
     ensures word { result ≡ old }
     ensures seat { s.new ≡ record s.old { value = cell_named old } }
@@ -121,7 +115,6 @@ pub fn check_set_mark(shape: &Shape, phase: u64, s: &SeatState, c: Cell) -> Opti
     ])
 }
 
-#[inline(always)]
 pub fn set_mark(s: &mut SeatState, c: Cell, old: u64) -> u64
     ensures word { result ≡ (set_mark_effect s.old c).written old }
     ensures seat { s.new ≡ (set_mark_effect s.old c).seat old }
@@ -185,7 +178,6 @@ pub fn check_clear_card(shape: &Shape, phase: u64, s: &SeatState, card: u32) -> 
     ])
 }
 
-#[inline(always)]
 pub fn clear_card(s: &mut SeatState, card: u32, old: u64) -> u64
     ensures word { result ≡ (clear_card_effect s.old card).written old }
     ensures seat { s.new ≡ (clear_card_effect s.old card).seat old }
@@ -208,7 +200,6 @@ pub fn check_read_marks(shape: &Shape, s: &SeatState, b: u32) -> Option<u8>
     first_false(&[b < block_count(shape) && takes_part(s)])
 }
 
-#[inline(always)]
 pub fn read_marks(s: &mut SeatState, b: u32, old: u64) -> u64
     ensures word { result ≡ (read_marks_effect s.old b).written old }
     ensures seat { s.new ≡ (read_marks_effect s.old b).seat old }
@@ -223,7 +214,6 @@ pub fn check_read_card(shape: &Shape, card: u32) -> Option<u8>
     first_false(&[card < card_count(shape)])
 }
 
-#[inline(always)]
 pub fn read_phase(s: &mut SeatState, old: u64) -> u64
     ensures word { result ≡ (read_phase_effect s.old).written old }
     ensures seat { s.new ≡ (read_phase_effect s.old).seat old }

@@ -20,7 +20,6 @@ pub fn check_claim_block(shape: &Shape, phase: u64, s: &SeatState, b: u32) -> Op
     ])
 }
 
-#[inline(always)]
 pub fn claim_block(s: &mut SeatState, b: u32, old: u64) -> u64
     ensures word { result ≡ (claim_block_effect s.old b).written old }
     ensures seat { s.new ≡ (claim_block_effect s.old b).seat old }
@@ -59,7 +58,6 @@ pub fn check_release_block(s: &SeatState) -> Option<u8>
     ])
 }
 
-#[inline(always)]
 pub fn release_block(s: &mut SeatState) -> u64
     ensures word { result ≡ 0 }
     ensures seat { s.new ≡ record s.old { cache = None } }
@@ -69,7 +67,6 @@ pub fn release_block(s: &mut SeatState) -> u64
 }
 
 /// The free cells of the cache are those whose bit is clear.
-#[inline(always)]
 fn with_free(cache: &mut Option<CacheState>, word: u64)
     ensures { cache.new ≡ with_free_of cache.old word }
 {
@@ -85,7 +82,6 @@ pub fn check_read_free(s: &SeatState) -> Option<u8>
     first_false(&[hand::is_unread(s.cache)])
 }
 
-#[inline(always)]
 pub fn read_free(s: &mut SeatState, old: u64) -> u64
     ensures word { result ≡ (read_free_effect s.old).written old }
     ensures seat { s.new ≡ (read_free_effect s.old).seat old }
@@ -186,7 +182,6 @@ pub fn used_bits(cache: Option<CacheState>) -> u64
     }
 }
 
-#[inline(always)]
 fn without_used(cache: &mut Option<CacheState>)
     ensures { cache.new ≡ without_used_of cache.old }
 {
@@ -205,7 +200,6 @@ pub fn check_publish_cells(s: &SeatState) -> Option<u8>
     ])
 }
 
-#[inline(always)]
 pub fn publish_cells(s: &mut SeatState, old: u64) -> u64
     ensures word { result ≡ (publish_cells_effect s.old).written old }
     ensures seat { s.new ≡ (publish_cells_effect s.old).seat old }

@@ -44,7 +44,6 @@ pub fn check_read_own(shape: &Shape, s: &SeatState, c: Cell, i: u8) -> Option<u8
 }
 
 /// What a mutator reads of an object or of the catalogue goes into its register.
-#[inline(always)]
 pub fn read_reference(s: &mut SeatState, old: u64) -> u64
     ensures word { result ≡ old }
     ensures seat { s.new ≡ record s.old { got = reference_in old } }
@@ -115,7 +114,6 @@ pub fn check_store_field(
 }
 
 /// Nobody else can know a cell that isn't published, so its card isn't owed.
-#[inline(always)]
 pub fn store_field(s: &mut SeatState, v: u8, w: Option<u8>) -> u64
     ensures word { result ≡ variable_or_nil_of s.old w }
     ensures seat { let c = cell_of (variable_of s.old v) in s.new ≡ record s.old { owes = if used_in s.old.cache c then s.old.owes else Some (c / 16) } }
@@ -167,7 +165,6 @@ pub fn check_store_root(s: &SeatState, v: u8, r: u64) -> Option<u8>
     ])
 }
 
-#[inline(always)]
 fn set_variable(env: &mut [u32; 32], v: u8, reference: u32)
     requires { v < 32 }
     ensures { env.new ≡ slice_set env.old v reference }
@@ -175,7 +172,6 @@ fn set_variable(env: &mut [u32; 32], v: u8, reference: u32)
     env[v as usize] = reference;
 }
 
-#[inline(always)]
 pub fn store_root(s: &mut SeatState, v: u8, r: u64) -> u64
     requires { v < 32 }
     ensures word { result ≡ r }

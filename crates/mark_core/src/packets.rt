@@ -19,7 +19,6 @@ pub fn check_reserve(phase: u64, s: &SeatState) -> Option<u8>
     first_false(&[may_trace(phase, s), !s.reserved && !s.credit])
 }
 
-#[inline(always)]
 pub fn reserve(s: &mut SeatState, old: u64) -> u64
     ensures word { result ≡ (reserve_effect s.old).written old }
     ensures seat { s.new ≡ (reserve_effect s.old).seat old }
@@ -39,7 +38,6 @@ pub fn check_take(shape: &Shape, phase: u64, s: &SeatState, q: u8, p: u32) -> Op
     ])
 }
 
-#[inline(always)]
 pub fn take(s: &mut SeatState, q: u8, p: u32, old: u64) -> u64
     ensures word { result ≡ without_bit old (p % 64) }
     ensures seat { let found = has_bit old (p % 64) in s.new ≡ record s.old { held = if found then put_packet s.old.held p else s.old.held; reserved = s.old.reserved && not ((q == 0) && found) } }
@@ -80,7 +78,6 @@ pub fn check_give(shape: &Shape, s: &SeatState, p: u32, deferred: bool) -> Optio
     ])
 }
 
-#[inline(always)]
 pub fn give(s: &mut SeatState, p: u32, old: u64) -> u64
     ensures word { result ≡ with_bit old (p % 64) }
     ensures seat { s.new ≡ record s.old { held = drop_packet s.old.held p; credit = not (has_entry s.old.held p) } }
@@ -97,7 +94,6 @@ pub fn check_credit(s: &SeatState) -> Option<u8>
     first_false(&[s.credit || s.reserved])
 }
 
-#[inline(always)]
 pub fn credit(s: &mut SeatState, old: u64) -> u64
     ensures word { result ≡ (credit_effect s.old).written old }
     ensures seat { s.new ≡ (credit_effect s.old).seat old }
@@ -117,7 +113,6 @@ pub fn check_push(shape: &Shape, s: &SeatState, p: u32, c: Cell) -> Option<u8>
     ])
 }
 
-#[inline(always)]
 pub fn push(s: &mut SeatState, p: u32, c: Cell) -> u64
     requires { length_in_hand s.old.held p < 4294967295 }
     ensures word { result ≡ c + 1 }
@@ -144,7 +139,6 @@ pub fn check_pop(shape: &Shape, phase: u64, s: &SeatState, p: u32) -> Option<u8>
     ])
 }
 
-#[inline(always)]
 pub fn pop(s: &mut SeatState, p: u32, old: u64) -> u64
     ensures word { result ≡ old }
     ensures seat { s.new ≡ record s.old { held = set_length s.old.held p (length_in_hand s.old.held p - 1) false; popped = Some (cell_of old, false) } }
@@ -171,7 +165,6 @@ pub fn check_store_length(shape: &Shape, s: &SeatState, p: u32) -> Option<u8>
     ])
 }
 
-#[inline(always)]
 pub fn store_length(s: &mut SeatState, p: u32) -> u64
     ensures word { result ≡ length_in_hand s.old.held p }
     ensures seat { s.new ≡ record s.old { held = set_length s.old.held p (length_in_hand s.old.held p) true } }
@@ -190,7 +183,6 @@ pub fn check_read_length(shape: &Shape, s: &SeatState, p: u32) -> Option<u8>
     ])
 }
 
-#[inline(always)]
 pub fn read_length(s: &mut SeatState, p: u32, old: u64) -> u64
     ensures word { result ≡ (read_length_effect s.old p).written old }
     ensures seat { s.new ≡ (read_length_effect s.old p).seat old }

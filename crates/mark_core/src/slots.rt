@@ -17,7 +17,6 @@ fn is_of(slot: Slot, p: u32) -> bool
 }
 
 /// What is known of the length of packet p, where this slot holds it.
-#[inline(always)]
 fn length_in(slot: &Slot, p: u32) -> Option<Option<u32>>
     ensures { (rest : Option ℕ) → length_in_slot slot.now p rest ≡ unwrap_or result rest }
 {
@@ -43,7 +42,6 @@ pub fn holds(held: Slots, p: u32) -> bool
     is_of(a, p) || is_of(b, p) || is_of(c, p) || is_of(d, p)
 }
 
-#[inline(always)]
 pub fn known_length(held: &Slots, p: u32) -> Option<u32>
     ensures { result ≡ known_length_of held.now p }
 {
@@ -63,7 +61,6 @@ pub fn known_length(held: &Slots, p: u32) -> Option<u32>
     None
 }
 
-#[inline(always)]
 pub fn length_in_hand(held: &Slots, p: u32) -> u32
     ensures { result ≡ length_in_hand_of held.now p }
 {
@@ -76,7 +73,6 @@ pub fn has_length(held: &Slots, p: u32) -> bool
     known_length(held, p).is_some()
 }
 
-#[inline(always)]
 pub fn has_entry(held: &Slots, p: u32) -> bool
     ensures { result ≡ has_entry_of held.now p }
 {
@@ -103,7 +99,6 @@ pub fn has_free_slot(held: Slots) -> bool
 }
 
 /// The packet goes into the first free slot, with no length known.
-#[inline(always)]
 pub fn put_packet(held: &mut Slots, p: u32)
     ensures { held.new ≡ put_of held.old p }
 {
@@ -119,7 +114,6 @@ pub fn put_packet(held: &mut Slots, p: u32)
     }
 }
 
-#[inline(always)]
 fn empty_slot(slot: &mut Slot, p: u32)
     ensures { slot.new ≡ slot_without p slot.old }
 {
@@ -128,7 +122,6 @@ fn empty_slot(slot: &mut Slot, p: u32)
     }
 }
 
-#[inline(always)]
 pub fn drop_packet(held: &mut Slots, p: u32)
     ensures { held.new ≡ dropped_from held.old p }
 {
@@ -138,7 +131,6 @@ pub fn drop_packet(held: &mut Slots, p: u32)
     empty_slot(&mut held[3], p);
 }
 
-#[inline(always)]
 fn set_slot(slot: &mut Slot, p: u32, length: u32, stored: bool)
     ensures { slot.new ≡ slot_with p (Some length) stored slot.old }
 {
@@ -150,7 +142,6 @@ fn set_slot(slot: &mut Slot, p: u32, length: u32, stored: bool)
 }
 
 /// What is known of the packet becomes this length, which its head holds or not.
-#[inline(always)]
 pub fn set_length(held: &mut Slots, p: u32, length: u32, stored: bool)
     ensures { held.new ≡ set_length_of held.old p length stored }
 {

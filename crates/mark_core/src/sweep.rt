@@ -21,7 +21,6 @@ pub fn check_next_block(phase: u64, s: &SeatState) -> Option<u8>
     ])
 }
 
-#[inline(always)]
 pub fn next_block(shape: &Shape, s: &mut SeatState, old: u64) -> u64
     ensures word { result ≡ (next_block_effect shape.now s.old).written old }
     ensures seat { s.new ≡ (next_block_effect shape.now s.old).seat old }
@@ -44,7 +43,6 @@ pub fn check_next_of_cards(phase: u64, s: &SeatState) -> Option<u8>
     first_false(&[may_trace(phase, s), s.below_card])
 }
 
-#[inline(always)]
 pub fn next_of_cards(s: &mut SeatState, old: u64) -> u64
     ensures word { result ≡ (next_of_cards_effect s.old).written old }
     ensures seat { s.new ≡ (next_of_cards_effect s.old).seat old }
@@ -63,7 +61,6 @@ pub fn own_block(s: &SeatState) -> u32
     }
 }
 
-#[inline(always)]
 fn with_mark_word(block: &mut Option<BlockState>, word: u64)
     ensures { block.new ≡ with_mark_word_of block.old word }
 {
@@ -78,7 +75,6 @@ pub fn check_read_block_marks(phase: u64, s: &SeatState) -> Option<u8>
     first_false(&[s.block.is_some() && is_phase(phase, Phase::Sweep)])
 }
 
-#[inline(always)]
 pub fn read_block_marks(s: &mut SeatState, old: u64) -> u64
     ensures word { result ≡ (read_block_marks_effect s.old).written old }
     ensures seat { s.new ≡ (read_block_marks_effect s.old).seat old }
@@ -97,7 +93,6 @@ fn survivors(block: Option<BlockState>) -> u64
     }
 }
 
-#[inline(always)]
 fn with_stored(block: &mut Option<BlockState>)
     ensures { block.new ≡ with_stored_of block.old }
 {
@@ -112,7 +107,6 @@ pub fn check_store_alloc(phase: u64, s: &SeatState) -> Option<u8>
     first_false(&[may_sweep(phase, s), hand::may_store(s.block)])
 }
 
-#[inline(always)]
 pub fn store_alloc(s: &mut SeatState) -> u64
     ensures word { result ≡ survivors_of s.old.block }
     ensures seat { s.new ≡ record s.old { block = with_stored_of s.old.block } }
@@ -129,7 +123,6 @@ pub fn check_clear_marks(phase: u64, s: &SeatState) -> Option<u8>
     first_false(&[s.block.is_some(), s.block.is_some() && swept])
 }
 
-#[inline(always)]
 pub fn clear_marks(s: &mut SeatState) -> u64
     ensures word { result ≡ 0 }
     ensures seat { s.new ≡ record s.old { block = None } }
