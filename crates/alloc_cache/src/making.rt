@@ -1,0 +1,94 @@
+//! A cell is made in a cache.
+ghost use Rattle.std.specs.Prelude.{◌≡◌, ◌<◌, ◌%◌, length, Some, IsTrue, IsFalse, IfSome, IfNone};
+ghost use Rattle.std.specs.Int.Count.{ones};
+ghost use Rattle.mark_core.specs.Bits.{without_bit};
+ghost use Rattle.mark_core.specs.Seats.{free_in, has_making, may_mutate};
+ghost use Rattle.gc_table.specs.Seats.{Sits, view_of};
+ghost use Rattle.alloc_cache.specs.Caching.{IsCached};
+ghost use Rattle.alloc_cache.specs.Making.{Cleared, Makes, identity_word as identity_word_of};
+ghost use Rattle.gc_table.specs.Running.{Ran};
+
+use crate::cache::Cache;
+use gc_table::{Heap, HeapSeat};
+use mark_core::{Cell, Identity};
+
+/// The word of an identity.
+fn identity_word(id: Identity) -> u64
+    ensures { result ≡ identity_word_of id }
+{
+    u64::from(id.section) * 4_294_967_296 + u64::from(id.number)
+}
+
+/// Stores nil in each field of a free cell.
+fn clear_fields(heap: &Heap, seat: &mut HeapSeat, cell: Cell)
+    requires seat { Sits heap.now seat.old }
+    requires turn { IsTrue (may_mutate (view_of seat.old).state) }
+    requires cell { IsTrue (free_in (view_of seat.old).state.cache cell) }
+    requires whole { IsFalse (has_making (view_of seat.old).state.cache) }
+    requires counted { length (view_of seat.old).own.meaning.heap.objects ≡ (view_of seat.old).state.made }
+    ensures seat { Sits heap.now seat.new }
+    ensures cleared { Cleared cell heap.now.shape.fields (view_of seat.old) (view_of seat.new) }
+{
+    for i in 0..heap.shape().fields {
+        heap.store_new(seat, cell, i as u8, 0);
+    }
+}
+
+/// Stores all words of a new cell in a free one.
+fn fill(heap: &Heap, seat: &mut HeapSeat, cell: Cell, id: Identity, value: u32)
+    requires seat { Sits heap.now seat.old }
+    requires turn { IsTrue (may_mutate (view_of seat.old).state) }
+    requires cell { IsTrue (free_in (view_of seat.old).state.cache cell) }
+    requires whole { IsFalse (has_making (view_of seat.old).state.cache) }
+    requires identity { ((view_of seat.old).state.section ≡ Some id.section) × (id.number ≡ (view_of seat.old).state.made) × (id.number < 2000000) }
+    requires counted { length (view_of seat.old).own.meaning.heap.objects ≡ (view_of seat.old).state.made }
+    ensures seat { Sits heap.now seat.new }
+    ensures ran { Ran (view_of seat.old) (view_of seat.new) }
+    ensures makes { Makes cell value id (view_of seat.old) (view_of seat.new) }
+{
+    let fields = heap.shape().fields as u8;
+    clear_fields(heap, seat, cell);
+    heap.store_new(seat, cell, fields, u64::from(value));
+    heap.store_new(seat, cell, fields + 1, identity_word(id));
+}
+
+/// The set of cells without cell i of the block.
+fn without_cell(cells: u64, i: u32) -> u64
+    requires { i < 64 }
+    ensures { result ≡ without_bit cells i }
+{
+    cells & !(1 << i)
+}
+
+/// Makes an unpublished cell with this identity and value and nil references.
+///
+/// The seat has its section's turn. `id` is that section, with the number of cells that the seat has made, which is below 2,000,000; each of these has
+/// its object, so a cell is stored in a variable before the next one is made. None comes exactly where no cell of the cache is free, and nothing
+/// changes then.
+pub fn new_cell(
+    heap: &Heap,
+    seat: &mut HeapSeat,
+    cache: &mut Cache,
+    id: Identity,
+    value: u32,
+) -> Option<Cell>
+    requires seat { Sits heap.now seat.old }
+    requires cache { IsCached cache.old (view_of seat.old) }
+    requires turn { IsTrue (may_mutate (view_of seat.old).state) }
+    requires identity { ((view_of seat.old).state.section ≡ Some id.section) × (id.number ≡ (view_of seat.old).state.made) × (id.number < 2000000) }
+    requires counted { length (view_of seat.old).own.meaning.heap.objects ≡ (view_of seat.old).state.made }
+    ensures seat { Sits heap.now seat.new }
+    ensures ran { Ran (view_of seat.old) (view_of seat.new) }
+    ensures cache { IsCached cache.new (view_of seat.new) }
+    ensures made { IfSome result (λ cell. (cell < heap.now.shape.cells) × IsTrue (free_in (view_of seat.old).state.cache cell) × (cache.new ≡ record cache.old { cells = without_bit cache.old.cells (cell % 64) }) × Makes cell value id (view_of seat.old) (view_of seat.new)) }
+    ensures none { IfNone result ((ones cache.old.cells ≡ 0) × (cache.new ≡ cache.old) × (view_of seat.new ≡ view_of seat.old)) }
+{
+    if cache.cells == 0 {
+        return None;
+    }
+    let i = cache.cells.trailing_zeros();
+    let cell = Cell::make(64 * cache.block + i);
+    fill(heap, seat, cell, id, value);
+    cache.cells = without_cell(cache.cells, i);
+    Some(cell)
+}

@@ -1,0 +1,65 @@
+//! The cells of a cache are published, and the cache is given up.
+ghost use Rattle.std.specs.Prelude.{◌≡◌, None};
+ghost use Rattle.mark_core.specs.MutatorSteps.{used_bits as used_bits_of, without_used};
+ghost use Rattle.mark_core.specs.declared.kinds.Step.TheVariants.{PublishCells};
+ghost use Rattle.gc_table.specs.Seats.{Sits, Took, view_of};
+ghost use Rattle.alloc_cache.specs.Caching.{IsCached};
+ghost use Rattle.alloc_cache.specs.Retiring.{publishing_steps, retiring_steps};
+ghost use Rattle.gc_table.specs.Log.{events, steps_of};
+ghost use Rattle.gc_table.specs.Running.{Ran};
+
+use crate::cache::Cache;
+use crate::claiming::FREE;
+use gc_table::{Heap, HeapSeat};
+use mark_core::used_bits;
+
+/// Publishes the cells that were made from this cache, all in one step on the allocation word of its block: exactly their bits are set. From then on
+/// tracers scan them, and stores in them go through the barrier. The seat owes no card.
+pub fn publish(heap: &Heap, seat: &mut HeapSeat, cache: &mut Cache)
+    requires seat { Sits heap.now seat.old }
+    requires cache { IsCached cache.old (view_of seat.old) }
+    requires owes { (view_of seat.old).state.owes ≡ None }
+    ensures seat { Sits heap.now seat.new }
+    ensures ran { Ran (view_of seat.old) (view_of seat.new) }
+    ensures took { Took PublishCells (view_of seat.old) (view_of seat.new) }
+    ensures cache { (cache.new ≡ cache.old) × IsCached cache.new (view_of seat.new) }
+    ensures state { (view_of seat.new).state ≡ record (view_of seat.old).state { cache = without_used (view_of seat.old).state.cache } }
+    ensures own { (view_of seat.new).own ≡ (view_of seat.old).own }
+{
+    heap.publish_cells(seat);
+}
+
+/// Publishes the cells that were made and not published yet, where there are any.
+fn publish_used(heap: &Heap, seat: &mut HeapSeat, cache: &Cache)
+    requires seat { Sits heap.now seat.old }
+    requires cache { IsCached cache.now (view_of seat.old) }
+    requires owes { (view_of seat.old).state.owes ≡ None }
+    ensures seat { Sits heap.now seat.new }
+    ensures ran { Ran (view_of seat.old) (view_of seat.new) }
+    ensures cache { IsCached cache.now (view_of seat.new) × (used_bits_of (view_of seat.new).state.cache ≡ 0) }
+    ensures state { (view_of seat.new).state ≡ record (view_of seat.old).state { cache = (view_of seat.new).state.cache } }
+    ensures own { (view_of seat.new).own ≡ (view_of seat.old).own }
+    ensures steps { steps_of (events (view_of seat.old) (view_of seat.new)) ≡ publishing_steps (used_bits_of (view_of seat.old).state.cache) }
+{
+    if used_bits(seat.state().cache) != 0 {
+        heap.publish_cells(seat);
+    }
+}
+
+/// Gives the block up: publishes what was made and not published yet, raises the count of free cells by those that are left, and releases the block after
+/// that. The seat owes no card.
+pub fn retire(heap: &Heap, seat: &mut HeapSeat, cache: Cache)
+    requires seat { Sits heap.now seat.old }
+    requires cache { IsCached cache (view_of seat.old) }
+    requires owes { (view_of seat.old).state.owes ≡ None }
+    ensures seat { Sits heap.now seat.new }
+    ensures ran { Ran (view_of seat.old) (view_of seat.new) }
+    ensures state { (view_of seat.new).state ≡ record (view_of seat.old).state { cache = None } }
+    ensures own { (view_of seat.new).own ≡ (view_of seat.old).own }
+    ensures steps { steps_of (events (view_of seat.old) (view_of seat.new)) ≡ retiring_steps cache (used_bits_of (view_of seat.old).state.cache) }
+{
+    publish_used(heap, seat, &cache);
+    let Cache { block: _, cells } = cache;
+    heap.add_stat(seat, FREE, cells.count_ones(), false);
+    heap.release_block(seat);
+}

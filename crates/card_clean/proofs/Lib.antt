@@ -1,0 +1,14 @@
+pub mod Owned
+mod Words
+mod CardCells
+mod Steps
+mod Between
+mod Learning
+mod Noted
+pub mod Drawing
+mod CardLooks
+mod Rooting
+pub mod Leavings
+pub mod Takings
+pub mod Staying
+pub mod Drawn

@@ -1,0 +1,149 @@
+use Rattle.std.proofs.Common.{◌≡◌, [], ◌∷◌, ◌++◌, ◌≤◌, ◌==◌, arith, refl, sym, ap, ◌∙◌, subst, inl, inr}
+use Rattle.mark_core.specs.Held.{has_free_slot, drop_packet}
+use Rattle.mark_core.specs.Layout.{card_count}
+use Rattle.mark_core.specs.declared.seat.SeatState.{SeatState}
+use Rattle.gc_table.specs.declared.view.View.{View}
+use Rattle.gc_table.specs.Seats.{view_of}
+use Rattle.gc_table.specs.Log.{events}
+use Rattle.gc_table.proofs.Log.{events-join}
+use Rattle.packet_pools.proofs.Counting.{given-moves}
+use Rattle.packet_pools.proofs.Doing.{traces-on}
+use Rattle.packet_pools.proofs.InHand.{drop-with}
+use Rattle.packet_pools.proofs.LaterSteps.{cleaned-join, later-cleaned, later-join}
+use Rattle.card_clean.specs.Leaving.{rescanned_in}
+use Rattle.packet_pools.specs.Hands.{free_slots}
+use Rattle.card_clean.proofs.Leavings.{rescanned-join, rescanned-moves}
+use Rattle.card_clean.proofs.Takings.{some-free, with-free}
+use Rattle.card_clean.proofs.CardLooks.{rescanned-clean, rescanned-dirty}
+use Rattle.card_clean.proofs.dirty_cards.clean_dirty.Goals as goal
+
+pub returns-in_default-clause-seat : goal.returns-in_default-clause-seat
+returns-in_default-clause-seat c =
+    let e = c.first_dirty.ensures in
+    (e.seat, traces-on (view_of c.args.seat.now) (view_of c.first_dirty.new.seat) e.later c.requires.seat.1 (ap (λ (s : SeatState). s.reserved) e.state) (ap (λ (s : SeatState). s.credit) e.state))
+
+pub returns-in_default-clause-left : goal.returns-in_default-clause-left
+returns-in_default-clause-left c =
+    let v : View = view_of c.args.seat.now in
+    rescanned-clean v (view_of c.first_dirty.new.seat) 0 (card_count c.args.heap.now.shape) c.in_default.ensures.clean
+
+pub take_some-requires-clause-seat : goal.take_some-requires-clause-seat
+take_some-requires-clause-seat c =
+    let e = c.first_dirty.ensures in
+    (e.seat, traces-on (view_of c.args.seat.now) (view_of c.first_dirty.new.seat) e.later c.requires.seat.1 (ap (λ (s : SeatState). s.reserved) e.state) (ap (λ (s : SeatState). s.credit) e.state))
+
+pub take_some-requires-clause-free : goal.take_some-requires-clause-free
+take_some-requires-clause-free c =
+    let v : View = view_of c.args.seat.now in
+    ap (λ (s : SeatState). has_free_slot s.held) c.first_dirty.ensures.state ∙ some-free v.state.held (omega (arith, c.requires.free))
+
+pub returns-in_default-take_some-clause-later : goal.returns-in_default-take_some-clause-later
+returns-in_default-take_some-clause-later c =
+    let v : View = view_of c.args.seat.now in
+    let x : View = view_of c.take_some.new.seat in
+    later-cleaned v x (later-join v (view_of c.first_dirty.new.seat) x c.first_dirty.ensures.later c.take_some.ensures.later)
+
+pub returns-in_default-clause-later : goal.returns-in_default-clause-later
+returns-in_default-clause-later c = later-cleaned (view_of c.args.seat.now) (view_of c.first_dirty.new.seat) c.first_dirty.ensures.later
+
+pub returns-in_default-take_some-clause-left : goal.returns-in_default-take_some-clause-left
+returns-in_default-take_some-clause-left c =
+    let v : View = view_of c.args.seat.now in
+    let w : View = view_of c.first_dirty.new.seat in
+    let x : View = view_of c.take_some.new.seat in
+    let first : rescanned_in v (events v w) ≡ 0 = rescanned-dirty v w 0 c.in-Some.card c.in-Some.ensures.dirty.2 in
+    let second : rescanned_in w (events w x) ≡ 0 = rescanned-moves (0 ∷ 1 ∷ 2 ∷ []) (events w x) w c.take_some.ensures.moves in
+    let j = rescanned-join v w x c.first_dirty.ensures.later.ran c.take_some.ensures.later.ran in
+    omega (arith, j, first, second)
+
+pub clean_from-rescanned-requires-clause-out : goal.clean_from-rescanned-requires-clause-out
+clean_from-rescanned-requires-clause-out c =
+    let v : View = view_of c.args.seat.now in
+    let w : View = view_of c.first_dirty.new.seat in
+    let h = c.in-Some-take_some.out in
+    let s = c.in-Some-take_some.ensures.some in
+    let many : 2 ≤ free_slots w.state.held = subst (λ (t : SeatState). 2 ≤ free_slots t.held) (sym c.first_dirty.ensures.state) c.requires.free in
+    (s.1, ap (λ (t : SeatState). has_free_slot t.held) s.2 ∙ with-free w.state.held h.packet h.length many)
+
+pub returns-clause-later : goal.returns-clause-later
+returns-clause-later c =
+    let v : View = view_of c.args.seat.now in
+    let w : View = view_of c.first_dirty.new.seat in
+    let x : View = view_of c.take_some.new.seat in
+    let y : View = view_of c.clean_from-rescanned.new.seat in
+    let z : View = view_of c.give.new.seat in
+    cleaned-join v w z (later-cleaned v w c.first_dirty.ensures.later)
+    (cleaned-join w x z (later-cleaned w x c.take_some.ensures.later) (cleaned-join x y z c.clean_from-rescanned.ensures.later (later-cleaned y z c.give.ensures.later)))
+
+pub returns-clause-held : goal.returns-clause-held
+returns-clause-held c =
+    let w : View = view_of c.first_dirty.new.seat in
+    let h = c.in-Some-take_some.out in
+    let s = c.in-Some-take_some.ensures.some in
+    ap (λ (t : SeatState). t.held) c.give.ensures.state
+    ∙ (c.clean_from-rescanned.ensures.out.slots
+    ∙ (ap (λ (t : SeatState). drop_packet t.held h.packet) s.2 ∙ (drop-with w.state.held h.packet h.length s.0 ∙ ap (λ (t : SeatState). t.held) c.first_dirty.ensures.state)))
+
+pub returns-clause-left : goal.returns-clause-left
+returns-clause-left c =
+    let v : View = view_of c.args.seat.now in
+    let w : View = view_of c.first_dirty.new.seat in
+    let x : View = view_of c.take_some.new.seat in
+    let y : View = view_of c.clean_from-rescanned.new.seat in
+    let z : View = view_of c.give.new.seat in
+    let k = c.clean_from-rescanned.new.out in
+    let a = c.first_dirty.ensures.later in
+    let b = c.take_some.ensures.later in
+    let d = c.clean_from-rescanned.ensures in
+    let g = c.give.ensures in
+    let end = cleaned-join x y z d.later (later-cleaned y z g.later) in
+    let first : rescanned_in v (events v w) ≡ 0 = rescanned-dirty v w 0 c.in-Some.card c.in-Some.ensures.dirty.2 in
+    let second : rescanned_in w (events w x) ≡ 0 = rescanned-moves (0 ∷ 1 ∷ 2 ∷ []) (events w x) w c.take_some.ensures.moves in
+    let last : rescanned_in y (events y z) ≡ 0 = rescanned-moves (0 ∷ 1 ∷ 2 ∷ []) (events y z) y (given-moves (0 ∷ 1 ∷ 2 ∷ []) k.packet (k.length == 0) (events y z) g.steps) in
+    let i = rescanned-join v w z a.ran (cleaned-join w x z (later-cleaned w x b) end).ran in
+    let j = rescanned-join w x z b.ran end.ran in
+    let l = rescanned-join x y z d.later.ran g.later.ran in
+    omega (arith, i, j, l, first, second, last, d.left)
+
+pub returns-in_default-clause-cleans : goal.returns-in_default-clause-cleans
+returns-in_default-clause-cleans c = inl (refl, c.in_default.ensures.clean)
+
+pub returns-in_default-take_some-clause-cleans : goal.returns-in_default-take_some-clause-cleans
+returns-in_default-take_some-clause-cleans c =
+    let v : View = view_of c.args.seat.now in
+    let w : View = view_of c.first_dirty.new.seat in
+    let x : View = view_of c.take_some.new.seat in
+    let d = c.in-Some.ensures.dirty in
+    inr (c.in-Some.card, d.1, events w x, events-join v w x c.first_dirty.ensures.later.log c.take_some.ensures.later.log ∙ ap (λ es. es ++ events w x) d.2, inl (refl, c.in_default-take_some.ensures.none.1))
+
+pub returns-clause-cleans : goal.returns-clause-cleans
+returns-clause-cleans c =
+    let v : View = view_of c.args.seat.now in
+    let w : View = view_of c.first_dirty.new.seat in
+    let x : View = view_of c.take_some.new.seat in
+    let y : View = view_of c.clean_from-rescanned.new.seat in
+    let z : View = view_of c.give.new.seat in
+    let k = c.clean_from-rescanned.new.out in
+    let a = c.first_dirty.ensures.later in
+    let b = c.take_some.ensures in
+    let d = c.clean_from-rescanned.ensures in
+    let g = c.give.ensures in
+    let end = cleaned-join x y z d.later (later-cleaned y z g.later) in
+    let rest = cleaned-join w x z (later-cleaned w x b.later) end in
+    inr (
+      c.in-Some.card,
+      c.in-Some.ensures.dirty.1,
+      events w z,
+      events-join v w z a.log rest.log ∙ ap (λ es. es ++ events w z) c.in-Some.ensures.dirty.2,
+      inr (
+          record {
+            taking = events w x;
+            cleaning = events x y;
+            giving = events y z;
+            events_are = events-join w x z b.later.log end.log ∙ ap (λ es. events w x ++ es) (events-join x y z d.later.log g.later.log);
+            takes = b.moves;
+            cleans = d.cleans;
+            gives = given-moves (0 ∷ 1 ∷ 2 ∷ []) k.packet (k.length == 0) (events y z) g.steps;
+          }
+          ),
+    )

@@ -1,0 +1,54 @@
+use Rattle.std.proofs.Common.{ℕ, suc, ◌≡◌, ◌+◌, ◌-◌, arith, refl, ap, subst}
+use Rattle.mark_core.specs.declared.kinds.Shape.{Shape}
+use Rattle.gc_table.specs.declared.view.View.{View}
+use Rattle.gc_table.specs.Seats.{view_of}
+use Rattle.gc_table.specs.Log.{events}
+use Rattle.packet_pools.proofs.Filled.{fills-join}
+use Rattle.packet_pools.proofs.LaterSteps.{cleaned-join}
+use Rattle.gc_table.proofs.Log.{events-join}
+use Rattle.card_clean.specs.DirtyCards.{CleanedFrom, CleanedWhereDirty}
+use Rattle.card_clean.proofs.Leavings.{rescanned-join}
+use Rattle.card_clean.proofs.dirty_cards.clean_from.Goals as goal
+
+pub clean_where_dirty-rescanned-requires-clause-seat : goal.clean_where_dirty-rescanned-requires-clause-seat
+clean_where_dirty-rescanned-requires-clause-seat c = let i = c.loop-card.invariant in (i.sits, i.traces)
+
+pub clean_where_dirty-rescanned-requires-clause-card : goal.clean_where_dirty-rescanned-requires-clause-card
+clean_where_dirty-rescanned-requires-clause-card c =
+    let cells : c.shape-card-end.result.cells ≡ c.args.heap.now.shape.cells = ap (λ (s : Shape). s.cells) c.shape-card-end.ensures in
+    omega (arith, c.loop-card-test.true, cells)
+
+pub clean_where_dirty-rescanned-requires-clause-out : goal.clean_where_dirty-rescanned-requires-clause-out
+clean_where_dirty-rescanned-requires-clause-out c = let i = c.loop-card.invariant in (i.packet.held, i.packet.free)
+
+pub clean_where_dirty-rescanned-requires-clause-work : goal.clean_where_dirty-rescanned-requires-clause-work
+clean_where_dirty-rescanned-requires-clause-work c = c.loop-card.invariant.work
+
+pub loop-card-preserved : goal.loop-card-preserved
+loop-card-preserved c =
+    let sh : Shape = c.args.heap.now.shape in
+    let v : View = view_of c.args.seat.now in
+    let w : View = view_of c.loop-card.seat in
+    let x : View = view_of c.clean_where_dirty-rescanned.new.seat in
+    let i = c.loop-card.invariant in
+    let e = c.clean_where_dirty-rescanned.ensures in
+    let from : ℕ = c.args.from in
+    let card : ℕ = c.loop-card.card in
+    let done : ℕ = c.loop-card.rescanned in
+    let one : ℕ = c.clean_where_dirty-rescanned.result in
+    let at : card ≡ from + (card - from) = omega (arith, i.order) in
+    let more : suc (card - from) ≡ card + 1 - from = omega (arith, i.order) in
+    record {
+      sits = e.seat.0;
+      traces = e.seat.1;
+      order = omega (arith, i.order);
+      still = λ l. absurd (omega (arith, c.loop-card-test.true, l, i.order));
+      later = cleaned-join v w x i.later e.later;
+      packet = fills-join v w x c.args.out.now c.loop-card.out c.clean_where_dirty-rescanned.new.out i.packet e.out;
+      work = e.work;
+      most = omega (arith, i.most, e.most, i.order);
+      left = let j = rescanned-join v w x i.later.ran e.later.ran in omega (arith, j, i.left, e.left);
+      cleans =
+          subst (λ k. CleanedFrom sh from k (done + one) (events v x)) more
+          (done, one, events v w, events w x, events-join v w x i.later.log e.later.log, refl, i.cleans, subst (λ k. CleanedWhereDirty sh k one (events w x)) at e.cleans);
+    }

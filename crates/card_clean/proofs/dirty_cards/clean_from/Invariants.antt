@@ -1,0 +1,25 @@
+use Rattle.std.proofs.Common.{◌≡◌, ◌≤◌, ◌-◌, ◌*◌}
+use Rattle.std.specs.Prelude.{IsFalse}
+use Rattle.mark_core.specs.Seats.{work_in_hand}
+use Rattle.gc_table.specs.Seats.{Sits, view_of}
+use Rattle.packet_pools.specs.Later.{LaterCleaned}
+use Rattle.gc_table.specs.Log.{events}
+use Rattle.packet_pools.specs.Tracing.{Traces}
+use Rattle.packet_pools.specs.Scanning.{Fills}
+use Rattle.card_clean.specs.Leaving.{rescanned_in}
+use Rattle.card_clean.specs.DirtyCards.{CleanedFrom}
+use Rattle.card_clean.proofs.dirty_cards.clean_from.Given as goal
+
+abbrev pub invariant-loop-card : goal.invariant-loop-card
+invariant-loop-card l = record {
+  sits : Sits l.heap l.seat;
+  traces : Traces (view_of l.seat);
+  order : l.fn.from ≤ l.card;
+  still : l.card-end ≤ l.fn.from → l.card ≡ l.fn.from;
+  later : LaterCleaned (view_of l.fn.seat) (view_of l.seat);
+  packet : Fills l.fn.out l.out (view_of l.fn.seat) (view_of l.seat);
+  work : IsFalse (work_in_hand l.heap.shape.fields (view_of l.seat).state);
+  most : l.rescanned ≤ 16 * (l.card - l.fn.from);
+  left : rescanned_in (view_of l.fn.seat) (events (view_of l.fn.seat) (view_of l.seat)) ≡ l.rescanned;
+  cleans : CleanedFrom l.heap.shape l.fn.from (l.card - l.fn.from) l.rescanned (events (view_of l.fn.seat) (view_of l.seat));
+}

@@ -1,0 +1,88 @@
+use Rattle.std.proofs.Common.{◌≡◌, ◌≢◌, ◌<◌, ◌≤◌, ◌∷◌, ◌++◌, [], arith, refl, sym, ap, ◌∙◌, subst, eqb-true, eq-eqb, inl, inr}
+use Rattle.std.proofs.lemmas.Bool.{true≢false}
+use Rattle.mark_core.specs.Layout.{card_count}
+use Rattle.mark_core.specs.declared.kinds.Shape.{Shape}
+use Rattle.mark_core.specs.declared.kinds.Step.TheVariants.{ReadCard}
+use Rattle.gc_table.specs.declared.view.View.{View}
+use Rattle.gc_table.specs.Seats.{view_of}
+use Rattle.gc_table.specs.Log.{events, event}
+use Rattle.packet_pools.proofs.Doing.{traces-on}
+use Rattle.packet_pools.proofs.LaterSteps.{cleaned-join, later-cleaned}
+use Rattle.gc_table.proofs.Log.{events-after, events-join}
+use Rattle.card_clean.specs.Leaving.{rescanned_in}
+use Rattle.card_clean.proofs.Leavings.{rescanned-join}
+use Rattle.card_clean.proofs.Steps.{later-read_card, card-small}
+use Rattle.card_clean.proofs.dirty_cards.clean_where_dirty.Goals as goal
+
+pub returns-then-not-read_card-clause-later : goal.returns-then-not-read_card-clause-later
+returns-then-not-read_card-clause-later c =
+    let e = c.read_card.ensures.view in
+    later-cleaned (view_of c.args.seat.now) (view_of c.read_card.new.seat) (later-read_card (view_of c.args.seat.now) (view_of c.read_card.new.seat) e.0 c.args.card e.2 e.1)
+
+pub returns-then-not-read_card-clause-seat : goal.returns-then-not-read_card-clause-seat
+returns-then-not-read_card-clause-seat c =
+    let v : View = view_of c.args.seat.now in
+    let w : View = view_of c.read_card.new.seat in
+    let e = c.read_card.ensures.view in
+    (c.read_card.ensures.seat, traces-on v w (later-read_card v w e.0 c.args.card e.2 e.1) c.requires.seat.1 (ap (λ (z : View). z.state.reserved) e.1) (ap (λ (z : View). z.state.credit) e.1))
+
+pub returns-then-not-read_card-clause-cleans : goal.returns-then-not-read_card-clause-cleans
+returns-then-not-read_card-clause-cleans c =
+    let v : View = view_of c.args.seat.now in
+    let w : View = view_of c.read_card.new.seat in
+    let e = c.read_card.ensures.view in
+    let f = e.2 in
+    let below : c.args.card < card_count f.state.core.shape = subst (λ (sh : Shape). c.args.card < card_count sh) (sym c.requires.seat.0.1 ∙ f.agrees.shape) c.requires.card in
+    let small : e.0 ≤ 1 = card-small f.state c.args.card e.0 f.whole below f.word in
+    let other : e.0 ≢ 1 = λ o. true≢false (sym (eq-eqb e.0 1 o) ∙ (sym e.3 ∙ c.if-not-read_card.true)) in
+    let none : e.0 ≡ 0 = omega (arith, small, other) in
+    record { cleaning = []; told = inl (refl, events-after v w (ReadCard c.args.card) e.0 e.1 ∙ ap (λ n. event (ReadCard c.args.card) n ∷ []) none, refl) }
+
+pub clean_card-cleaned-requires-clause-seat : goal.clean_card-cleaned-requires-clause-seat
+clean_card-cleaned-requires-clause-seat c =
+    let v : View = view_of c.args.seat.now in
+    let w : View = view_of c.read_card.new.seat in
+    let e = c.read_card.ensures.view in
+    (c.read_card.ensures.seat, traces-on v w (later-read_card v w e.0 c.args.card e.2 e.1) c.requires.seat.1 (ap (λ (z : View). z.state.reserved) e.1) (ap (λ (z : View). z.state.credit) e.1))
+
+pub returns-clause-later : goal.returns-clause-later
+returns-clause-later c =
+    let v : View = view_of c.args.seat.now in
+    let w : View = view_of c.read_card.new.seat in
+    let e = c.read_card.ensures.view in
+    cleaned-join v w (view_of c.clean_card-cleaned.new.seat) (later-cleaned v w (later-read_card v w e.0 c.args.card e.2 e.1)) c.clean_card-cleaned.ensures.later
+
+pub returns-clause-cleans : goal.returns-clause-cleans
+returns-clause-cleans c =
+    let v : View = view_of c.args.seat.now in
+    let w : View = view_of c.read_card.new.seat in
+    let x : View = view_of c.clean_card-cleaned.new.seat in
+    let e = c.read_card.ensures.view in
+    let one : e.0 ≡ 1 = eqb-true e.0 1 (sym e.3 ∙ c.if-not-read_card.false) in
+    record {
+      cleaning = events w x;
+      told =
+          inr (
+            c.clean_card-cleaned.result,
+            refl,
+            events-join v w x (later-read_card v w e.0 c.args.card e.2 e.1).log c.clean_card-cleaned.ensures.later.log
+                ∙ (λ i. (events-after v w (ReadCard c.args.card) e.0 e.1 ∙ ap (λ n. event (ReadCard c.args.card) n ∷ []) one) i ++ events w x),
+            c.clean_card-cleaned.ensures.cleans,
+          );
+    }
+
+pub returns-then-not-read_card-clause-left : goal.returns-then-not-read_card-clause-left
+returns-then-not-read_card-clause-left c =
+    let v : View = view_of c.args.seat.now in
+    let e = c.read_card.ensures.view in
+    ap (rescanned_in v) (events-after v (view_of c.read_card.new.seat) (ReadCard c.args.card) e.0 e.1)
+
+pub returns-clause-left : goal.returns-clause-left
+returns-clause-left c =
+    let v : View = view_of c.args.seat.now in
+    let w : View = view_of c.read_card.new.seat in
+    let x : View = view_of c.clean_card-cleaned.new.seat in
+    let e = c.read_card.ensures.view in
+    let first : rescanned_in v (events v w) ≡ 0 = ap (rescanned_in v) (events-after v w (ReadCard c.args.card) e.0 e.1) in
+    let j = rescanned-join v w x (later-read_card v w e.0 c.args.card e.2 e.1).ran c.clean_card-cleaned.ensures.later.ran in
+    omega (arith, j, first, c.clean_card-cleaned.ensures.left)

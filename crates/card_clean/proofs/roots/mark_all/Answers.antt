@@ -1,0 +1,51 @@
+use Rattle.std.proofs.Common.{◌≡◌, ◌≢◌, ◌<◌, ◌*◌, ◌+◌, arith, sym, ap, ◌∙◌, subst, true, ⊎_elim}
+use Rattle.std.proofs.lemmas.Bool.{cases_eq}
+use Rattle.mark_core.specs.declared.kinds.Shape.{Shape}
+use Rattle.mark_core.specs.declared.seat.SeatState.{SeatState}
+use Rattle.gc_table.specs.declared.view.View.{View}
+use Rattle.gc_table.specs.Seats.{view_of}
+use Rattle.packet_pools.proofs.Filled.{fills-join}
+use Rattle.packet_pools.proofs.LaterSteps.{later-join}
+use Rattle.card_clean.specs.Drained.{RootsNoted}
+use Rattle.card_clean.proofs.Staying.{root-stays}
+use Rattle.card_clean.proofs.Rooting.{roots-all}
+use Rattle.card_clean.proofs.Leavings.{rescanned-join}
+use Rattle.card_clean.proofs.roots.mark_all.Goals as goal
+
+pub mark_roots-requires-clause-seat : goal.mark_roots-requires-clause-seat
+mark_roots-requires-clause-seat c = let i = c.loop-section.invariant in (i.sits, i.traces)
+
+pub mark_roots-requires-clause-out : goal.mark_roots-requires-clause-out
+mark_roots-requires-clause-out c = let i = c.loop-section.invariant in (i.packet.held, i.packet.free)
+
+pub mark_roots-requires-clause-work : goal.mark_roots-requires-clause-work
+mark_roots-requires-clause-work c = c.loop-section.invariant.work
+
+pub loop-section-preserved : goal.loop-section-preserved
+loop-section-preserved c =
+    let v : View = view_of c.args.seat.now in
+    let w : View = view_of c.loop-section.seat in
+    let x : View = view_of c.mark_roots.new.seat in
+    let i = c.loop-section.invariant in
+    let e = c.mark_roots.ensures in
+    record {
+      sits = e.seat.0;
+      traces = e.seat.1;
+      later = later-join v w x i.later e.later;
+      packet = fills-join v w x c.args.out.now c.loop-section.out c.mark_roots.new.out i.packet e.out;
+      work = e.work;
+      left = let j = rescanned-join v w x i.later.ran e.later.ran in omega (arith, j, i.left, e.left);
+      noted =
+          λ alone k l.
+          let now_alone : w.state.alone ≡ true = ap (λ (s : SeatState). s.alone) i.later.rest ∙ alone in
+          ⊎_elim
+          (λ (s : k ≡ c.loop-section.section). subst (λ n. RootsNoted n 32 x) (sym s) (e.noted now_alone))
+          (λ (d : k ≢ c.loop-section.section). λ u h. root-stays w x e.later.ran e.later.only (k * 32 + u) now_alone (i.noted alone k (omega (arith, l, d)) u h))
+          (cases_eq k c.loop-section.section);
+    }
+
+pub returns-clause-noted : goal.returns-clause-noted
+returns-clause-noted c alone =
+    let sections : c.shape-section-end.result.sections ≡ c.args.heap.now.shape.sections = ap (λ (s : Shape). s.sections) c.shape-section-end.ensures in
+    let last : c.loop-section.section ≡ c.args.heap.now.shape.sections = omega (arith, c.loop-section-test.false, c.loop-section.auto.section-end, sections) in
+    roots-all c.args.heap.now.shape.sections (view_of c.loop-section.seat) (λ k l. c.loop-section.invariant.noted alone k (subst (λ n. k < n) (sym last) l))

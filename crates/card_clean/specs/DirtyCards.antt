@@ -1,0 +1,27 @@
+-- What the events of a pass over cards tell that cleans the dirty ones.
+use Rattle.std.specs.Prelude.{ℕ, zero, suc, ◌≡◌, ◌<◌, ◌+◌, ◌-◌, ◌⊎◌, List, [], ◌∷◌, ◌++◌}
+use Rattle.mark_core.specs.Layout.{card_count}
+use Rattle.mark_core.specs.declared.kinds.Shape.{Shape}
+use Rattle.mark_core.specs.declared.kinds.Step.TheVariants.{ReadCard}
+use Rattle.gc_table.specs.declared.view.Entry.{Entry}
+use Rattle.gc_table.specs.Log.{event}
+use Rattle.card_clean.specs.declared.cleaned.Cleaned.{Cleaned}
+use Rattle.card_clean.specs.Cleaning.{Cleans}
+use Rattle.card_clean.specs.Looking.{looks_clean, looks_dirty}
+use Rattle.card_clean.specs.Taking.{CleansWithPacket, NoPacket}
+
+-- the card was seen clean, or it was seen dirty and cleaned
+pub record CleanedWhereDirty (sh : Shape) (card n : ℕ) (es : List Entry) : Type 0 where
+  pub cleaning : List Entry
+  pub told : ((n ≡ 0) × (es ≡ event (ReadCard card) 0 ∷ []) × (cleaning ≡ [])) ⊎ ((r : Cleaned) × (n ≡ r.rescanned) × (es ≡ event (ReadCard card) 1 ∷ cleaning) × Cleans sh card r cleaning)
+
+-- so it was for so many cards from this one on, one after another; all in all so many cells were scanned again
+abbrev pub CleanedFrom : Shape → ℕ → ℕ → ℕ → List Entry → Type 0
+CleanedFrom sh from zero n es = (n ≡ 0) × (es ≡ [])
+CleanedFrom sh from (suc k) n es = (a b : ℕ) × (xs ys : List Entry) × (es ≡ xs ++ ys) × (n ≡ a + b) × CleanedFrom sh from k a xs × CleanedWhereDirty sh (from + k) b ys
+
+-- every card was seen clean; or one was seen dirty, and then no packet was found, or each card from it on was cleaned where it was dirty
+abbrev pub CleansDirty : Shape → ℕ → List Entry → Type 0
+CleansDirty sh n es =
+    ((n ≡ 0) × (es ≡ looks_clean 0 (card_count sh)))
+    ⊎ ((card : ℕ) × (card < card_count sh) × (rest : List Entry) × (es ≡ looks_dirty 0 card ++ rest) × (((n ≡ 0) × NoPacket sh rest) ⊎ CleansWithPacket (CleanedFrom sh card (card_count sh - card) n) rest))

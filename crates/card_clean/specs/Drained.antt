@@ -1,0 +1,56 @@
+-- What a seat that is alone has noted by the end of a drain.
+use Rattle.std.specs.Prelude.{ℕ, ◌≡◌, ◌≢◌, ◌≤◌, ◌<◌, ◌+◌, ◌-◌, ◌*◌, ◌⊎◌, List, [], ◌∷◌, ◌++◌, Some, IsFalse}
+use Rattle.mark_core.specs.Layout.{card_count}
+use Rattle.mark_core.specs.Places.{the_empty_count, the_next_block, card_at}
+use Rattle.mark_core.specs.Seats.{work_in_hand}
+use Rattle.mark_core.specs.declared.kinds.Phase.TheVariants.{Drain}
+use Rattle.mark_core.specs.declared.kinds.Shape.{Shape}
+use Rattle.mark_core.specs.declared.kinds.Step.TheVariants.{ReadCount}
+use Rattle.gc_table.specs.declared.view.Entry.{Entry}
+use Rattle.gc_table.specs.declared.view.View.{View}
+use Rattle.gc_table.specs.Log.{event}
+use Rattle.gc_table.specs.Notes.{look}
+use Rattle.gc_table.specs.Running.{Alone}
+use Rattle.packet_pools.specs.Later.{IsNotedMarked}
+use Rattle.card_clean.specs.Looking.{looks_clean, looks_dirty}
+
+-- the cards from this one on and below that one are noted as clean
+abbrev pub AreNotedClean : ℕ → ℕ → View → Type 0
+AreNotedClean from to v = (card : ℕ) → from ≤ card → card < to → look (card_at card) v.known ≡ Some 0
+
+-- root word i is noted as nil, or as going to a cell that is noted as marked
+pub record IsNotedRoot (i : ℕ) (v : View) : Type 0 where
+  pub word : ℕ
+  pub noted : look (2, i) v.known ≡ Some word
+  pub marked : (word ≡ 0) ⊎ IsNotedMarked v (word - 1)
+
+-- so is each variable of a section, below this one
+abbrev pub RootsNoted : ℕ → ℕ → View → Type 0
+RootsNoted section to v = (u : ℕ) → u < to → IsNotedRoot (section * 32 + u) v
+
+-- so is each of the first n root words
+abbrev pub RootsTo : ℕ → View → Type 0
+RootsTo n v = (i : ℕ) → i < n → IsNotedRoot i v
+
+-- the seat is alone in a drain, and knows that no block was handed out
+pub record IsBeforeSweep (v : View) : Type 0 where
+  pub drains : Alone Drain v
+  pub next_block : look the_next_block v.known ≡ Some 0
+
+-- and it has seen to all roots
+pub record IsRooted (v : View) : Type 0 where
+  pub ready : IsBeforeSweep v
+  pub roots : RootsTo (v.shape.sections * 32) v
+
+-- and then it saw that no card is dirty, and that all packets are empty
+pub record IsDrained (v : View) : Type 0 where
+  pub rooted : IsRooted v
+  pub cards : AreNotedClean 0 (card_count v.shape) v
+  pub empty : look the_empty_count v.known ≡ Some (64 + v.shape.packets)
+  pub work : IsFalse (work_in_hand v.shape.fields v.state)
+
+-- a dirty card was found, or no dirty card and another count of empty packets than that of all
+abbrev pub FindsWork : Shape → List Entry → Type 0
+FindsWork sh es =
+    ((card : ℕ) × (card < card_count sh) × (es ≡ looks_dirty 0 card))
+    ⊎ ((n : ℕ) × (n ≢ 64 + sh.packets) × (es ≡ looks_clean 0 (card_count sh) ++ event ReadCount n ∷ []))

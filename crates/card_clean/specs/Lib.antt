@@ -1,0 +1,10 @@
+pub mod Barrier
+pub mod Cells
+pub mod Rescanning
+pub mod Cleaning
+pub mod Passing
+pub mod Looking
+pub mod Taking
+pub mod Drained
+pub mod DirtyCards
+pub mod Leaving

@@ -1,0 +1,61 @@
+//! A mutator's stores in objects.
+ghost use Rattle.std.specs.Prelude.{◌≡◌, ◌<◌, None};
+ghost use Rattle.mark_core.specs.declared.kinds.Step.TheVariants.{StoreField, StoreValue};
+ghost use Rattle.gc_table.specs.Seats.{Sits, Stored, view_of};
+ghost use Rattle.gc_table.specs.Sections.{section_after};
+ghost use Rattle.card_clean.specs.Barrier.{HasOwn, IsStorable, MayStore, barrier_steps, field_stored, record_stored, value_stored};
+ghost use Rattle.gc_table.specs.Log.{events, steps_of};
+ghost use Rattle.gc_table.specs.Running.{Ran};
+
+use gc_table::{Heap, HeapSeat};
+
+/// The barrier: field `field` of variable v's object becomes what variable w is, or nil where `w` is None, and then the object's card is dirtied. The
+/// seat owes no card when the call returns.
+///
+/// Variables are numbered from 0 to 31, and fields from 0 up to the shape's number of fields. The object is of the seat's own section; the seat is in
+/// its section's turn, has read a phase other than Full, and owes no card. None is for a heap in which some variable is nil.
+///
+/// The field comes first. In the other order a white cell can be lost, c being an object that was scanned and x a white cell:
+///
+/// ```text
+/// mutator                         tracer
+/// dirties the card of c
+///                                 clears the card of c
+///                                 reads the old field of c
+/// stores x in the field of c
+/// ```
+///
+/// Now the card is clean and c was read, so no tracer looks at c again, and x stays white though c refers to it. With the field first, whoever clears the
+/// card before the mutator dirtied it leaves a card that is dirty again; whoever clears it later reads x.
+///
+/// An object that isn't published yet needs no card: nobody scans it before it is published, and then all its fields are read.
+pub fn store_ref(heap: &Heap, seat: &mut HeapSeat, v: u8, field: u8, w: Option<u8>)
+    requires seat { Sits heap.now seat.old × MayStore (view_of seat.old) }
+    requires own { HasOwn (view_of seat.old) v }
+    requires field { field < heap.now.shape.fields }
+    requires stored { IsStorable (view_of seat.old) w }
+    ensures seat { Sits heap.now seat.new × MayStore (view_of seat.new) }
+    ensures ran { Ran (view_of seat.old) (view_of seat.new) }
+    ensures steps { steps_of (events (view_of seat.old) (view_of seat.new)) ≡ barrier_steps (view_of seat.old).state v field w }
+    ensures state { (view_of seat.new).state ≡ record_stored (view_of seat.old).state v }
+    ensures own { (view_of seat.new).own ≡ section_after (view_of seat.old).shape (view_of seat.old).plan (view_of seat.old).state (StoreField v field w) (view_of seat.old).own }
+    ensures plain { (view_of seat.new).own.meaning.heap ≡ field_stored (view_of seat.old).own.meaning.heap v field w }
+{
+    heap.store_field(seat, v, field, w);
+    if let Some(card) = seat.state().owes {
+        heap.dirty_card(seat, card);
+    }
+}
+
+/// The value of variable v's object becomes this one. No card is dirtied, since a value refers to nothing. The same is asked of the seat and of
+/// variable v as by [`store_ref`].
+pub fn store_value(heap: &Heap, seat: &mut HeapSeat, v: u8, value: u32)
+    requires seat { Sits heap.now seat.old × MayStore (view_of seat.old) }
+    requires own { HasOwn (view_of seat.old) v }
+    ensures seat { Sits heap.now seat.new × MayStore (view_of seat.new) }
+    ensures ran { Ran (view_of seat.old) (view_of seat.new) }
+    ensures view { Stored (StoreValue v value) (view_of seat.old) (view_of seat.new) }
+    ensures plain { (view_of seat.new).own.meaning.heap ≡ value_stored (view_of seat.old).own.meaning.heap v value }
+{
+    heap.store_value(seat, v, value);
+}

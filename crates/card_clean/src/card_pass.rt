@@ -1,0 +1,37 @@
+//! The pass of a cycle over all cards, which its seats share.
+ghost use Rattle.std.specs.Prelude.{◌≡◌, ◌<◌, ◌≤◌, ◌+◌, false, IsTrue, IfSome};
+ghost use Rattle.mark_core.specs.Layout.{card_count};
+ghost use Rattle.gc_table.specs.Log.{Only};
+ghost use Rattle.gc_table.specs.Running.{Ran};
+ghost use Rattle.gc_table.specs.Seats.{Sits, view_of};
+ghost use Rattle.packet_pools.specs.Tracing.{Traces};
+ghost use Rattle.card_clean.specs.Passing.{DrawsCard, card_floor, draws_card, keeps_floor};
+
+use gc_table::{Heap, HeapSeat};
+
+/// The next card of this cycle's pass: its number, below the number of cells divided by 16. None comes where the counter was seen to have
+/// reached the number of cards. It is raised at most once, and only where it was read below its end. The seat may trace.
+///
+/// To a seat that helps, or that stopped the world, the numbers rise: each card that it draws lies above those that it drew before. So a loop
+/// that ends with None ends.
+pub fn next_card(heap: &Heap, seat: &mut HeapSeat) -> Option<u32>
+    requires seat { Sits heap.now seat.old × Traces (view_of seat.old) }
+    ensures seat { Sits heap.now seat.new × Traces (view_of seat.new) }
+    ensures ran { Ran (view_of seat.old) (view_of seat.new) }
+    ensures only { Only draws_card (view_of seat.old) (view_of seat.new) }
+    ensures draws { DrawsCard result (view_of seat.old) (view_of seat.new) }
+    ensures state { (view_of seat.new).state ≡ record (view_of seat.old).state { below_card = false } }
+    ensures there { IfSome result (λ card. card < card_count heap.now.shape) }
+    ensures rises { IfSome result (λ card. IsTrue (keeps_floor (view_of seat.old).state) → (card_floor (view_of seat.old) ≤ card) × (card_floor (view_of seat.new) ≡ card + 1)) }
+{
+    let end = u64::from(heap.shape().cells / 16);
+    if heap.read_stat(seat, 0) >= end {
+        return None;
+    }
+    let number = heap.next_of_cards(seat);
+    if number < end {
+        Some(number as u32)
+    } else {
+        None
+    }
+}

@@ -1,0 +1,42 @@
+//! What a cleaning came to.
+ghost use Rattle.std.specs.Prelude.{◌≡◌, false};
+
+/// What cleaning a card came to.
+#[derive(Clone, Copy, Debug, PartialEq, Eq)]
+pub struct Cleaned {
+    /// How many of its cells were scanned again: at most 16.
+    pub rescanned: u32,
+    /// Whether it was dirtied again: it has a marked cell that isn't published, or a cell found no packet with room.
+    pub redirtied: bool,
+}
+
+impl Cleaned {
+    /// The card was clean.
+    pub(crate) fn nothing() -> Cleaned
+        ensures { result ≡ record { rescanned = 0; redirtied = false } }
+    {
+        Cleaned {
+            rescanned: 0,
+            redirtied: false,
+        }
+    }
+}
+
+/// How many cells of a card were scanned again, and how many of the cells that they refer to found no packet with room.
+#[derive(Clone, Copy, Debug, PartialEq, Eq)]
+pub(crate) struct Rescanned {
+    pub(crate) cells: u32,
+    pub(crate) overflowed: u32,
+}
+
+impl Rescanned {
+    /// Nothing was scanned.
+    pub(crate) fn none() -> Rescanned
+        ensures { result ≡ record { cells = 0; overflowed = 0 } }
+    {
+        Rescanned {
+            cells: 0,
+            overflowed: 0,
+        }
+    }
+}

@@ -1,0 +1,136 @@
+//! One card is cleaned.
+ghost use Rattle.std.specs.Prelude.{◌≡◌, ◌<◌, ◌≤◌, ◌⊎◌, ◌||◌, nat_lt, [], ◌∷◌, if◌then◌else◌, Some, None, IsTrue, IsFalse};
+ghost use Rattle.mark_core.specs.Layout.{card_count};
+ghost use Rattle.mark_core.specs.Held.{has_free_slot};
+ghost use Rattle.mark_core.specs.Seats.{scan_left, work_in_hand};
+ghost use Rattle.mark_core.specs.declared.kinds.Step.TheVariants.{DirtyCard};
+ghost use Rattle.gc_table.specs.Seats.{Sits, view_of};
+ghost use Rattle.packet_pools.specs.Later.{Later, LaterCleaned};
+ghost use Rattle.gc_table.specs.Log.{events, event};
+ghost use Rattle.packet_pools.specs.Tracing.{Traces};
+ghost use Rattle.packet_pools.specs.Hands.{IsHeld};
+ghost use Rattle.packet_pools.specs.Scanning.{Fills, InHand, owes_card};
+ghost use Rattle.card_clean.specs.Cleaning.{Cleans, LearnsCells, RescansCard};
+ghost use Rattle.card_clean.specs.Leaving.{rescanned_in};
+ghost use Rattle.card_clean.specs.Rescanning.{OnlyOwes, just_cleared, left_word};
+
+use crate::cleaned::Cleaned;
+use crate::rescanning::rescan_cells;
+use gc_table::{Heap, HeapSeat};
+use packet_pools::Held;
+
+/// The cells that are left in the seat's cleaning, and whether its card must be dirtied again.
+fn what_is_left(seat: &HeapSeat) -> (u64, bool)
+    ensures { (result.0 ≡ left_word (view_of seat.now).state.cleaning) × (result.1 ≡ owes_card (view_of seat.now).state.cleaning) }
+{
+    match seat.state().cleaning {
+        None => (0, false),
+        Some(cleaning) => (cleaning.left, cleaning.redirty),
+    }
+}
+
+/// Reads the mark and the allocation bits of the card's block: which of its cells are left to scan, and whether it must be dirtied again.
+fn read_block(heap: &Heap, seat: &mut HeapSeat, card: u32) -> (u64, bool)
+    requires seat { Sits heap.now seat.old × Traces (view_of seat.old) }
+    requires card { card < card_count heap.now.shape }
+    requires hand { InHand None None (view_of seat.old).state }
+    requires cleared { (view_of seat.old).state.cleaning ≡ Some (just_cleared card) }
+    ensures seat { Sits heap.now seat.new × Traces (view_of seat.new) }
+    ensures later { Later (view_of seat.old) (view_of seat.new) }
+    ensures learns { LearnsCells card result.0 result.1 (view_of seat.old) (view_of seat.new) }
+{
+    heap.read_marks(seat, card / 4);
+    heap.read_alloc(seat, card / 4);
+    what_is_left(seat)
+}
+
+/// Whether a card that was cleaned must be dirtied again: the seat owes it that, or a cell found no packet.
+fn is_dirty_again(owes: bool, overflowed: u32) -> bool
+    ensures { result ≡ (owes || nat_lt 0 overflowed) }
+{
+    owes || overflowed > 0
+}
+
+/// Dirties the card again, where the seat owes it that, or is told to.
+fn redirty(heap: &Heap, seat: &mut HeapSeat, card: u32, redirtied: bool)
+    requires seat { Sits heap.now seat.old × Traces (view_of seat.old) }
+    requires card { card < card_count heap.now.shape }
+    requires owes { OnlyOwes card heap.now.shape.fields (view_of seat.old).state }
+    requires told { IsTrue (owes_card (view_of seat.old).state.cleaning) → IsTrue redirtied }
+    ensures seat { Sits heap.now seat.new × Traces (view_of seat.new) }
+    ensures later { LaterCleaned (view_of seat.old) (view_of seat.new) }
+    ensures held { (view_of seat.new).state.held ≡ (view_of seat.old).state.held }
+    ensures work { IsFalse (work_in_hand heap.now.shape.fields (view_of seat.new).state) }
+    ensures owed { ((view_of seat.new).state.owes ≡ (view_of seat.old).state.owes) ⊎ ((view_of seat.new).state.owes ≡ None) }
+    ensures events { events (view_of seat.old) (view_of seat.new) ≡ (if redirtied then event (DirtyCard card) 1 ∷ [] else []) }
+{
+    if redirtied {
+        heap.dirty_card(seat, card);
+    }
+}
+
+/// Scans what is left of a card that was just cleaned, and dirties it again where it must be.
+fn rescan_card(heap: &Heap, seat: &mut HeapSeat, card: u32, out: &mut Held) -> Cleaned
+    requires seat { Sits heap.now seat.old × Traces (view_of seat.old) }
+    requires card { card < card_count heap.now.shape }
+    requires out { IsHeld out.old (view_of seat.old) × IsTrue (has_free_slot (view_of seat.old).state.held) }
+    requires hand { InHand None None (view_of seat.old).state }
+    requires over { IsFalse (scan_left heap.now.shape.fields (view_of seat.old).state.scan) }
+    requires cleared { (view_of seat.old).state.cleaning ≡ Some (just_cleared card) }
+    ensures seat { Sits heap.now seat.new × Traces (view_of seat.new) }
+    ensures later { LaterCleaned (view_of seat.old) (view_of seat.new) }
+    ensures out { Fills out.old out.new (view_of seat.old) (view_of seat.new) }
+    ensures work { IsFalse (work_in_hand heap.now.shape.fields (view_of seat.new).state) }
+    ensures owes { ((view_of seat.new).state.owes ≡ (view_of seat.old).state.owes) ⊎ ((view_of seat.new).state.owes ≡ None) }
+    ensures most { result.rescanned ≤ 16 }
+    ensures left { rescanned_in (view_of seat.old) (events (view_of seat.old) (view_of seat.new)) ≡ result.rescanned }
+    ensures rescans { RescansCard heap.now.shape card result (events (view_of seat.old) (view_of seat.new)) }
+{
+    let (left, owes) = read_block(heap, seat, card);
+    let all = rescan_cells(heap, seat, out, card, left);
+    let redirtied = is_dirty_again(owes, all.overflowed);
+    redirty(heap, seat, card, redirtied);
+    Cleaned {
+        rescanned: all.cells,
+        redirtied,
+    }
+}
+
+/// Cleans a card: where it is dirty it is cleared, and then its marked published cells are scanned again, into packet `out`. Where it has a marked cell
+/// that isn't published yet, or where a cell found no packet with room, it is dirtied again. On a clean card nothing is done. Nothing is in hand when
+/// the call returns.
+///
+/// The card is cleared first. In the other order a white cell can be lost, c being an object on the card and x a white cell:
+///
+/// ```text
+/// tracer                          mutator
+/// reads the field of c
+///                                 stores x in the field of c
+///                                 dirties the card of c
+/// clears the card of c
+/// ```
+///
+/// Now the card is clean and c was read, and nothing leads a tracer to x. With the clearing first, a mutator that stores after c was read here dirties
+/// the card after it was cleared, so it is dirty when this call returns.
+///
+/// The card is below the number of cells divided by 16. The seat may trace, has no work in hand, and holds at most three packets, `out` among them;
+/// `out` may be exchanged for another packet as [`scan_cell`](packet_pools::scan_cell) says.
+pub fn clean_card(heap: &Heap, seat: &mut HeapSeat, card: u32, out: &mut Held) -> Cleaned
+    requires seat { Sits heap.now seat.old × Traces (view_of seat.old) }
+    requires card { card < card_count heap.now.shape }
+    requires out { IsHeld out.old (view_of seat.old) × IsTrue (has_free_slot (view_of seat.old).state.held) }
+    requires work { IsFalse (work_in_hand heap.now.shape.fields (view_of seat.old).state) }
+    ensures seat { Sits heap.now seat.new × Traces (view_of seat.new) }
+    ensures later { LaterCleaned (view_of seat.old) (view_of seat.new) }
+    ensures out { Fills out.old out.new (view_of seat.old) (view_of seat.new) }
+    ensures work { IsFalse (work_in_hand heap.now.shape.fields (view_of seat.new).state) }
+    ensures owes { ((view_of seat.new).state.owes ≡ (view_of seat.old).state.owes) ⊎ ((view_of seat.new).state.owes ≡ None) }
+    ensures most { result.rescanned ≤ 16 }
+    ensures left { rescanned_in (view_of seat.old) (events (view_of seat.old) (view_of seat.new)) ≡ result.rescanned }
+    ensures cleans { Cleans heap.now.shape card result (events (view_of seat.old) (view_of seat.new)) }
+{
+    if !heap.clear_card(seat, card) {
+        return Cleaned::nothing();
+    }
+    rescan_card(heap, seat, card, out)
+}

@@ -1,0 +1,107 @@
+//! A look at every card, and a pass over all cards that cleans the dirty ones.
+ghost use Rattle.std.specs.Prelude.{◌≡◌, ◌<◌, ◌≤◌, ◌-◌, IsTrue, IsFalse, IfSome, IfNone};
+ghost use Rattle.mark_core.specs.Layout.{card_count};
+ghost use Rattle.mark_core.specs.Held.{has_free_slot};
+ghost use Rattle.mark_core.specs.Seats.{work_in_hand};
+ghost use Rattle.gc_table.specs.Seats.{Sits, view_of};
+ghost use Rattle.packet_pools.specs.Later.{Later, LaterCleaned};
+ghost use Rattle.gc_table.specs.Log.{events};
+ghost use Rattle.packet_pools.specs.Tracing.{Traces};
+ghost use Rattle.packet_pools.specs.Hands.{IsHeld};
+ghost use Rattle.packet_pools.specs.Scanning.{Fills};
+ghost use Rattle.card_clean.specs.Leaving.{rescanned_in};
+ghost use Rattle.card_clean.specs.DirtyCards.{CleanedFrom, CleanedWhereDirty, CleansDirty};
+ghost use Rattle.card_clean.specs.Drained.{AreNotedClean};
+ghost use Rattle.card_clean.specs.Looking.{KeepsAllNotes, looks_clean, looks_dirty};
+ghost use Rattle.packet_pools.specs.Hands.{free_slots};
+
+use crate::cleaning::clean_card;
+use crate::taking::take_some;
+use gc_table::{Heap, HeapSeat};
+use packet_pools::{Held, give};
+
+/// The first dirty card from this one on: a look at each card, and nothing more. Where there is none a seat that is alone knows all these cards clean.
+pub(crate) fn first_dirty(heap: &Heap, seat: &mut HeapSeat, from: u32) -> Option<u32>
+    requires { Sits heap.now seat.old }
+    ensures seat { Sits heap.now seat.new }
+    ensures later { Later (view_of seat.old) (view_of seat.new) }
+    ensures state { (view_of seat.new).state ≡ (view_of seat.old).state }
+    ensures notes { KeepsAllNotes (view_of seat.old) (view_of seat.new) }
+    ensures dirty { IfSome result (λ card. (from ≤ card) × (card < card_count heap.now.shape) × (events (view_of seat.old) (view_of seat.new) ≡ looks_dirty from card)) }
+    ensures clean { IfNone result (events (view_of seat.old) (view_of seat.new) ≡ looks_clean from (card_count heap.now.shape)) }
+    ensures noted { IfNone result (IsTrue (view_of seat.old).state.alone → AreNotedClean from (card_count heap.now.shape) (view_of seat.new)) }
+{
+    for card in from..heap.shape().cells / 16 {
+        if heap.read_card(seat, card) {
+            return Some(card);
+        }
+    }
+    None
+}
+
+/// Looks at a card, and cleans it where it is dirty: how many of its cells were scanned again.
+fn clean_where_dirty(heap: &Heap, seat: &mut HeapSeat, card: u32, out: &mut Held) -> u32
+    requires seat { Sits heap.now seat.old × Traces (view_of seat.old) }
+    requires card { card < card_count heap.now.shape }
+    requires out { IsHeld out.old (view_of seat.old) × IsTrue (has_free_slot (view_of seat.old).state.held) }
+    requires work { IsFalse (work_in_hand heap.now.shape.fields (view_of seat.old).state) }
+    ensures seat { Sits heap.now seat.new × Traces (view_of seat.new) }
+    ensures later { LaterCleaned (view_of seat.old) (view_of seat.new) }
+    ensures out { Fills out.old out.new (view_of seat.old) (view_of seat.new) }
+    ensures work { IsFalse (work_in_hand heap.now.shape.fields (view_of seat.new).state) }
+    ensures most { result ≤ 16 }
+    ensures left { rescanned_in (view_of seat.old) (events (view_of seat.old) (view_of seat.new)) ≡ result }
+    ensures cleans { CleanedWhereDirty heap.now.shape card result (events (view_of seat.old) (view_of seat.new)) }
+{
+    if !heap.read_card(seat, card) {
+        return 0;
+    }
+    let cleaned = clean_card(heap, seat, card, out);
+    cleaned.rescanned
+}
+
+/// Looks at each card from this one on, and cleans those that are dirty: how many cells were scanned again. A clean card costs one look.
+fn clean_from(heap: &Heap, seat: &mut HeapSeat, from: u32, out: &mut Held) -> u32
+    requires seat { Sits heap.now seat.old × Traces (view_of seat.old) }
+    requires out { IsHeld out.old (view_of seat.old) × IsTrue (has_free_slot (view_of seat.old).state.held) }
+    requires work { IsFalse (work_in_hand heap.now.shape.fields (view_of seat.old).state) }
+    ensures seat { Sits heap.now seat.new × Traces (view_of seat.new) }
+    ensures later { LaterCleaned (view_of seat.old) (view_of seat.new) }
+    ensures out { Fills out.old out.new (view_of seat.old) (view_of seat.new) }
+    ensures work { IsFalse (work_in_hand heap.now.shape.fields (view_of seat.new).state) }
+    ensures most { result ≤ heap.now.shape.cells }
+    ensures left { rescanned_in (view_of seat.old) (events (view_of seat.old) (view_of seat.new)) ≡ result }
+    ensures cleans { CleanedFrom heap.now.shape from (card_count heap.now.shape - from) result (events (view_of seat.old) (view_of seat.new)) }
+{
+    let mut rescanned = 0;
+    for card in from..heap.shape().cells / 16 {
+        rescanned += clean_where_dirty(heap, seat, card, out);
+    }
+    rescanned
+}
+
+/// Looks at each card, and cleans those that are dirty, with a packet that it takes for it: how many cells were scanned again. Where every card is
+/// clean no packet is taken, and where no packet is found no card is cleaned. The seat may trace, has no work in hand, and holds at most two packets.
+///
+/// A card may be dirty again afterwards, as [`clean_card`](crate::clean_card) says, so that a further pass is due.
+pub fn clean_dirty(heap: &Heap, seat: &mut HeapSeat) -> u32
+    requires seat { Sits heap.now seat.old × Traces (view_of seat.old) }
+    requires free { 2 ≤ free_slots (view_of seat.old).state.held }
+    requires work { IsFalse (work_in_hand heap.now.shape.fields (view_of seat.old).state) }
+    ensures seat { Sits heap.now seat.new × Traces (view_of seat.new) }
+    ensures later { LaterCleaned (view_of seat.old) (view_of seat.new) }
+    ensures held { (view_of seat.new).state.held ≡ (view_of seat.old).state.held }
+    ensures work { IsFalse (work_in_hand heap.now.shape.fields (view_of seat.new).state) }
+    ensures left { rescanned_in (view_of seat.old) (events (view_of seat.old) (view_of seat.new)) ≡ result }
+    ensures cleans { CleansDirty heap.now.shape result (events (view_of seat.old) (view_of seat.new)) }
+{
+    let Some(card) = first_dirty(heap, seat, 0) else {
+        return 0;
+    };
+    let Some(mut out) = take_some(heap, seat) else {
+        return 0;
+    };
+    let rescanned = clean_from(heap, seat, card, &mut out);
+    give(heap, seat, out, false);
+    rescanned
+}

@@ -1,0 +1,36 @@
+//! The end of a drain, as the seat sees it that stopped the world and is alone.
+//!
+//! What such a seat reads stays until it changes it. So once the roots are seen to (each is nil, or goes to a marked cell), they are: tracing sets
+//! mark bits and clears none, and no mutator stores a root. Then it is enough to look at every card, and at the count of empty packets, with no
+//! step between that dirties a card or takes a packet.
+ghost use Rattle.std.specs.Prelude.{◌≡◌, IsTrue, IsFalse};
+ghost use Rattle.mark_core.specs.Seats.{work_in_hand};
+ghost use Rattle.gc_table.specs.Seats.{Sits, view_of};
+ghost use Rattle.gc_table.specs.Log.{events};
+ghost use Rattle.packet_pools.specs.Later.{Later};
+ghost use Rattle.card_clean.specs.Drained.{FindsWork, IsDrained, IsRooted};
+ghost use Rattle.card_clean.specs.Leaving.{rescanned_in};
+
+use crate::dirty_cards::first_dirty;
+use gc_table::{Heap, HeapSeat};
+use packet_pools::all_empty;
+
+/// Whether the drain is at its end, for a seat that is alone and has seen to all roots: no card is dirty, and no packet has an entry. False comes where a
+/// card was found dirty, or the count of empty packets isn't that of all packets.
+pub fn is_drained(heap: &Heap, seat: &mut HeapSeat) -> bool
+    requires seat { Sits heap.now seat.old }
+    requires rooted { IsRooted (view_of seat.old) }
+    requires work { IsFalse (work_in_hand heap.now.shape.fields (view_of seat.old).state) }
+    ensures seat { Sits heap.now seat.new }
+    ensures later { Later (view_of seat.old) (view_of seat.new) }
+    ensures state { (view_of seat.new).state ≡ (view_of seat.old).state }
+    ensures rooted { IsRooted (view_of seat.new) }
+    ensures drained { IsTrue result → IsDrained (view_of seat.new) }
+    ensures undrained { IsFalse result → FindsWork heap.now.shape (events (view_of seat.old) (view_of seat.new)) }
+    ensures left { rescanned_in (view_of seat.old) (events (view_of seat.old) (view_of seat.new)) ≡ 0 }
+{
+    match first_dirty(heap, seat, 0) {
+        Some(_) => false,
+        None => all_empty(heap, seat),
+    }
+}

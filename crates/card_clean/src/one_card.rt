@@ -1,0 +1,42 @@
+//! A card is cleaned with a packet that is taken for it.
+ghost use Rattle.std.specs.Prelude.{◌≡◌, ◌<◌, ◌≤◌, ◌⊎◌, [], ◌∷◌, None, IsTrue, IsFalse, IfSome, IfNone};
+ghost use Rattle.mark_core.specs.Layout.{card_count};
+ghost use Rattle.mark_core.specs.Seats.{work_in_hand};
+ghost use Rattle.gc_table.specs.Seats.{Sits, view_of};
+ghost use Rattle.gc_table.specs.Log.{events};
+ghost use Rattle.packet_pools.specs.Hands.{free_slots};
+ghost use Rattle.packet_pools.specs.Later.{LaterCleaned};
+ghost use Rattle.packet_pools.specs.Seeking.{NoOutput, only_moves};
+ghost use Rattle.packet_pools.specs.Tracing.{Traces};
+ghost use Rattle.card_clean.specs.Cleaning.{CleansOne};
+ghost use Rattle.card_clean.specs.Leaving.{rescanned_in};
+
+use crate::cleaned::Cleaned;
+use crate::cleaning::clean_card;
+use gc_table::{Heap, HeapSeat};
+use packet_pools::{give, take_output};
+
+/// Cleans a card as [`clean_card`](crate::clean_card) does, with a packet that it takes for it and gives back. The seat holds at most two packets.
+///
+/// None comes only where each packet was seen outside the pools of packets with room, was lost to another seat, or was taken and found full, in this
+/// call. Then the card wasn't touched.
+pub fn clean_one(heap: &Heap, seat: &mut HeapSeat, card: u32) -> Option<Cleaned>
+    requires seat { Sits heap.now seat.old × Traces (view_of seat.old) }
+    requires card { card < card_count heap.now.shape }
+    requires free { 2 ≤ free_slots (view_of seat.old).state.held }
+    requires work { IsFalse (work_in_hand heap.now.shape.fields (view_of seat.old).state) }
+    ensures seat { Sits heap.now seat.new × Traces (view_of seat.new) }
+    ensures later { LaterCleaned (view_of seat.old) (view_of seat.new) }
+    ensures held { (view_of seat.new).state.held ≡ (view_of seat.old).state.held }
+    ensures work { IsFalse (work_in_hand heap.now.shape.fields (view_of seat.new).state) }
+    ensures owes { ((view_of seat.new).state.owes ≡ (view_of seat.old).state.owes) ⊎ ((view_of seat.new).state.owes ≡ None) }
+    ensures some { IfSome result (λ r. CleansOne heap.now.shape card r (events (view_of seat.old) (view_of seat.new)) × (r.rescanned ≤ 16) × (rescanned_in (view_of seat.old) (events (view_of seat.old) (view_of seat.new)) ≡ r.rescanned)) }
+    ensures none { IfNone result (((view_of seat.new).state ≡ (view_of seat.old).state) × NoOutput heap.now.shape (events (view_of seat.old) (view_of seat.new)) × IsTrue (only_moves (0 ∷ 1 ∷ 2 ∷ []) (events (view_of seat.old) (view_of seat.new))) × (rescanned_in (view_of seat.old) (events (view_of seat.old) (view_of seat.new)) ≡ 0)) }
+{
+    let Some(mut out) = take_output(heap, seat) else {
+        return None;
+    };
+    let cleaned = clean_card(heap, seat, card, &mut out);
+    give(heap, seat, out, false);
+    Some(cleaned)
+}

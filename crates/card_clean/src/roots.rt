@@ -1,0 +1,99 @@
+//! Roots are seen to: what each refers to is marked.
+ghost use Rattle.std.specs.Prelude.{◌≡◌, ◌<◌, ◌≤◌, ◌+◌, ◌*◌, ◌⊎◌, None, IsTrue, IsFalse};
+ghost use Rattle.mark_core.specs.Held.{has_free_slot};
+ghost use Rattle.mark_core.specs.Seats.{work_in_hand};
+ghost use Rattle.gc_table.specs.Seats.{Sits, view_of};
+ghost use Rattle.packet_pools.specs.Later.{Later};
+ghost use Rattle.packet_pools.specs.Tracing.{Traces};
+ghost use Rattle.packet_pools.specs.Hands.{IsHeld};
+ghost use Rattle.packet_pools.specs.Scanning.{Fills};
+ghost use Rattle.card_clean.specs.Drained.{IsNotedRoot, IsBeforeSweep, IsRooted, RootsNoted, RootsTo};
+ghost use Rattle.packet_pools.specs.Hands.{free_slots};
+ghost use Rattle.gc_table.specs.Log.{events};
+ghost use Rattle.card_clean.specs.Leaving.{rescanned_in};
+ghost use Rattle.card_clean.specs.Taking.{NoPacket};
+
+use crate::taking::take_some;
+use gc_table::{Heap, HeapSeat};
+use mark_core::cell_of;
+use packet_pools::{Held, give, mark_cell};
+
+/// Marks what variable v of a section refers to. A seat that is alone then knows that the root is seen to.
+fn mark_root(heap: &Heap, seat: &mut HeapSeat, out: &mut Held, section: u32, v: u8)
+    requires seat { Sits heap.now seat.old × Traces (view_of seat.old) }
+    requires out { IsHeld out.old (view_of seat.old) × IsTrue (has_free_slot (view_of seat.old).state.held) }
+    requires root { (section < heap.now.shape.sections) × (v < 32) }
+    requires work { IsFalse (work_in_hand heap.now.shape.fields (view_of seat.old).state) }
+    ensures seat { Sits heap.now seat.new × Traces (view_of seat.new) }
+    ensures later { Later (view_of seat.old) (view_of seat.new) }
+    ensures out { Fills out.old out.new (view_of seat.old) (view_of seat.new) }
+    ensures work { IsFalse (work_in_hand heap.now.shape.fields (view_of seat.new).state) }
+    ensures left { rescanned_in (view_of seat.old) (events (view_of seat.old) (view_of seat.new)) ≡ 0 }
+    ensures noted { IsTrue (view_of seat.old).state.alone → IsNotedRoot (section * 32 + v) (view_of seat.new) }
+{
+    let word = heap.read_root(seat, section, v);
+    if word != 0 {
+        mark_cell(heap, seat, out, cell_of(word));
+    }
+}
+
+/// Marks what the variables of a section refer to. A seat that is alone then knows that these roots are seen to.
+fn mark_roots(heap: &Heap, seat: &mut HeapSeat, out: &mut Held, section: u32)
+    requires seat { Sits heap.now seat.old × Traces (view_of seat.old) }
+    requires out { IsHeld out.old (view_of seat.old) × IsTrue (has_free_slot (view_of seat.old).state.held) }
+    requires section { section < heap.now.shape.sections }
+    requires work { IsFalse (work_in_hand heap.now.shape.fields (view_of seat.old).state) }
+    ensures seat { Sits heap.now seat.new × Traces (view_of seat.new) }
+    ensures later { Later (view_of seat.old) (view_of seat.new) }
+    ensures out { Fills out.old out.new (view_of seat.old) (view_of seat.new) }
+    ensures work { IsFalse (work_in_hand heap.now.shape.fields (view_of seat.new).state) }
+    ensures left { rescanned_in (view_of seat.old) (events (view_of seat.old) (view_of seat.new)) ≡ 0 }
+    ensures noted { IsTrue (view_of seat.old).state.alone → RootsNoted section 32 (view_of seat.new) }
+{
+    for v in 0..32 {
+        mark_root(heap, seat, out, section, v);
+    }
+}
+
+/// Sees to the roots of all sections, with a packet that it takes for it, for a seat that is alone in a drain: each root is then nil, or goes to a cell
+/// that the seat knows marked. The seat has no work in hand and holds at most two packets.
+///
+/// False comes only where no packet was found, with room or with entries, in this call: nothing is marked then. A packet that was put off isn't
+/// found here.
+pub fn see_to_roots(heap: &Heap, seat: &mut HeapSeat) -> bool
+    requires seat { Sits heap.now seat.old × Traces (view_of seat.old) }
+    requires ready { IsBeforeSweep (view_of seat.old) }
+    requires free { 2 ≤ free_slots (view_of seat.old).state.held }
+    requires work { IsFalse (work_in_hand heap.now.shape.fields (view_of seat.old).state) }
+    ensures seat { Sits heap.now seat.new × Traces (view_of seat.new) }
+    ensures later { Later (view_of seat.old) (view_of seat.new) }
+    ensures held { (view_of seat.new).state.held ≡ (view_of seat.old).state.held }
+    ensures work { IsFalse (work_in_hand heap.now.shape.fields (view_of seat.new).state) }
+    ensures left { rescanned_in (view_of seat.old) (events (view_of seat.old) (view_of seat.new)) ≡ 0 }
+    ensures none { IsFalse result → ((view_of seat.new).state ≡ (view_of seat.old).state) × NoPacket heap.now.shape (events (view_of seat.old) (view_of seat.new)) }
+    ensures rooted { IsTrue result → IsRooted (view_of seat.new) }
+{
+    let Some(mut out) = take_some(heap, seat) else {
+        return false;
+    };
+    mark_all(heap, seat, &mut out);
+    give(heap, seat, out, false);
+    true
+}
+
+/// Marks what the variables of all sections refer to.
+fn mark_all(heap: &Heap, seat: &mut HeapSeat, out: &mut Held)
+    requires seat { Sits heap.now seat.old × Traces (view_of seat.old) }
+    requires out { IsHeld out.old (view_of seat.old) × IsTrue (has_free_slot (view_of seat.old).state.held) }
+    requires work { IsFalse (work_in_hand heap.now.shape.fields (view_of seat.old).state) }
+    ensures seat { Sits heap.now seat.new × Traces (view_of seat.new) }
+    ensures later { Later (view_of seat.old) (view_of seat.new) }
+    ensures out { Fills out.old out.new (view_of seat.old) (view_of seat.new) }
+    ensures work { IsFalse (work_in_hand heap.now.shape.fields (view_of seat.new).state) }
+    ensures left { rescanned_in (view_of seat.old) (events (view_of seat.old) (view_of seat.new)) ≡ 0 }
+    ensures noted { IsTrue (view_of seat.old).state.alone → RootsTo (heap.now.shape.sections * 32) (view_of seat.new) }
+{
+    for section in 0..heap.shape().sections {
+        mark_roots(heap, seat, out, section);
+    }
+}

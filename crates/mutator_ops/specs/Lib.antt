@@ -1,0 +1,5 @@
+pub mod Ready
+pub mod Doing
+pub mod Holding
+pub mod Creating
+pub mod Walking

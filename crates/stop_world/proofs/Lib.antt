@@ -1,0 +1,4 @@
+pub mod Standing
+pub mod Phases
+pub mod Passing
+pub mod Waits

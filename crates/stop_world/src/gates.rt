@@ -1,0 +1,90 @@
+//! The gate of the running world.
+ghost use Rattle.std.specs.Prelude.{◌≡◌, if◌then◌else◌, IsTrue, IsFalse};
+ghost use Rattle.std.specs.Bool.{OnTrue, OnFalse};
+ghost use Rattle.mark_core.specs.Bits.{has_flag};
+ghost use Rattle.mark_core.specs.Seats.{is_bare, phase_number};
+ghost use Rattle.mark_core.specs.WorldRules.{is_resting};
+ghost use Rattle.mark_core.specs.declared.kinds.Phase.{Phase};
+ghost use Rattle.gc_table.specs.Seats.{Answered, Sits, Took, view_of};
+ghost use Rattle.gc_table.specs.Running.{Alone, Ran};
+ghost use Rattle.gc_table.specs.Stopping.{has_moved};
+ghost use Rattle.stop_world.specs.Gates.{Enters, IsDone, IsFreeToLeave, TurnsBack};
+
+use gc_table::{Heap, HeapSeat};
+use mark_core::{Step, has_flag as flag_of};
+
+/// Whose flag it is that stops the world.
+#[derive(Clone, Copy)]
+pub enum Raised {
+    /// The seat's own, from now on.
+    Yours,
+    /// Another seat's, which was up before.
+    Theirs,
+}
+
+/// Enters the running world: true where the seat is now active. False exactly where a stop is under way: then the seat has left again.
+pub fn enter(heap: &Heap, seat: &mut HeapSeat) -> bool
+    requires seat { Sits heap.now seat.old }
+    requires bare { IsTrue (is_bare (view_of seat.old).state) }
+    ensures seat { Sits heap.now seat.new }
+    ensures ran { Ran (view_of seat.old) (view_of seat.new) }
+    ensures enters { OnTrue result (Enters (view_of seat.old) (view_of seat.new)) }
+    ensures turns { OnFalse result (TurnsBack (view_of seat.old) (view_of seat.new)) }
+{
+    if heap.enter_step(seat) {
+        return true;
+    }
+    heap.leave_step(seat);
+    false
+}
+
+/// Leaves the running world. The seat has given back its packets and its cache, and has nothing in hand.
+pub fn leave(heap: &Heap, seat: &mut HeapSeat)
+    requires seat { Sits heap.now seat.old }
+    requires active { IsTrue (view_of seat.old).state.active }
+    requires free { IsFreeToLeave (view_of seat.old) }
+    ensures seat { Sits heap.now seat.new }
+    ensures ran { Ran (view_of seat.old) (view_of seat.new) }
+    ensures step { Took Step.LeaveStep (view_of seat.old) (view_of seat.new) }
+{
+    heap.leave_step(seat);
+}
+
+/// Whether a stop is under way. Any seat may ask.
+pub fn poll(heap: &Heap, seat: &mut HeapSeat) -> bool
+    requires seat { Sits heap.now seat.old }
+    ensures seat { Sits heap.now seat.new }
+    ensures ran { Ran (view_of seat.old) (view_of seat.new) }
+    ensures step { Answered Step.Observe (λ n. result ≡ has_flag n) (view_of seat.old) (view_of seat.new) }
+    ensures state { IsFalse (view_of seat.old).state.raised → (view_of seat.new).state ≡ (view_of seat.old).state }
+{
+    flag_of(heap.observe(seat))
+}
+
+/// Raises the flag that stops the world: Theirs exactly where another seat's flag was up. The seat is outside the world and its help.
+pub fn raise(heap: &Heap, seat: &mut HeapSeat) -> Raised
+    requires seat { Sits heap.now seat.old }
+    requires bare { IsTrue (is_bare (view_of seat.old).state) }
+    ensures seat { Sits heap.now seat.new }
+    ensures ran { Ran (view_of seat.old) (view_of seat.new) }
+    ensures step { Answered Step.RaiseStep (λ n. result ≡ (if has_flag n then Raised.Theirs else Raised.Yours)) (view_of seat.old) (view_of seat.new) }
+    ensures unmoved { IsFalse (has_moved (view_of seat.new).log) }
+{
+    if heap.raise_step(seat) {
+        Raised::Yours
+    } else {
+        Raised::Theirs
+    }
+}
+
+/// Lets the world go on. The seat is active in the same step, so that no other stop comes first.
+pub fn resume(heap: &Heap, seat: &mut HeapSeat)
+    requires seat { Sits heap.now seat.old }
+    requires alone { (p : Phase) × IsTrue (is_resting (phase_number p)) × Alone p (view_of seat.old) }
+    requires done { IsDone (view_of seat.old) }
+    ensures seat { Sits heap.now seat.new }
+    ensures ran { Ran (view_of seat.old) (view_of seat.new) }
+    ensures step { Took Step.DropStep (view_of seat.old) (view_of seat.new) }
+{
+    heap.drop_step(seat);
+}

@@ -1,0 +1,13 @@
+pub mod Histories
+pub mod Joined
+pub mod Calm
+pub mod Quiet
+pub mod OneStep
+pub mod Carried
+pub mod Hand
+pub mod Moves
+pub mod Moments
+pub mod Whole
+pub mod RootScans
+pub mod Recycled
+pub mod Ending

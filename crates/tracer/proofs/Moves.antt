@@ -1,0 +1,27 @@
+-- The searches of a tracer move packets alone.
+use Rattle.std.proofs.Common.{◌≡◌, List, [], ◌∷◌, refl, Bool, true, false, Some, None, Option}
+use Rattle.std.specs.Prelude.{◌||◌, ◌==◌, IfSome, IfNone}
+use Rattle.std.proofs.lemmas.Bool.{false≢true}
+use Rattle.gc_table.specs.declared.view.Entry.{Entry}
+use Rattle.packet_pools.specs.declared.held.Held.{Held}
+use Rattle.packet_pools.specs.Seeking.{only_moves}
+use Rattle.packet_pools.proofs.Searches.{moves-more}
+
+more : (a b c : Bool) → (b || (a || false)) ≡ true → (c || (a || (b || false))) ≡ true
+more a b true e = refl
+more true b false e = refl
+more false true false e = refl
+more false false false e = absurd (false≢true e)
+
+pub input-moves : (es : List Entry) → only_moves (2 ∷ 1 ∷ []) es ≡ true → only_moves (0 ∷ 1 ∷ 2 ∷ []) es ≡ true
+input-moves es m = moves-more (2 ∷ 1 ∷ []) (0 ∷ 1 ∷ 2 ∷ []) (λ q e. more (1 == q) (2 == q) (0 == q) e) es m
+
+-- what holds whether a packet was found or not
+pub either-way : (r : Option Held) (P : Type 0) → IfSome r (λ h. P) → IfNone r P → P
+either-way None P some none = none
+either-way (Some h) P some none = some
+
+-- there is one
+pub sure-some : {X : Type 0} (r : Option X) (P : X → Type 0) (Q : Type 0) → IfSome r P → IfNone r Q → (Q → ⊥) → (x : X) × (r ≡ Some x) × P x
+sure-some None P Q some none never = absurd (never none)
+sure-some (Some x) P Q some none never = (x, refl, some)

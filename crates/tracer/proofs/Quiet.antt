@@ -1,0 +1,113 @@
+-- Takes, and the scan of an object, as parts of a trace.
+use Rattle.std.proofs.Common.{ℕ, ◌≡◌, List, [], ◌∷◌, refl, sym, ap, ◌∙◌, arith, cond, Bool, true, false, not, None, Option, ⊎_elim}
+use Rattle.std.specs.Prelude.{◌&&◌, ◌||◌, ◌==◌}
+use Rattle.std.proofs.lemmas.Bool.{and_parts, false≢true, or_cases}
+use Rattle.mark_core.specs.Seats.{is_the, is_unpublished}
+use Rattle.mark_core.specs.PacketSteps.{may_push}
+use Rattle.mark_core.specs.ColourSteps.{popped_off}
+use Rattle.mark_core.specs.Effects.{seat_after}
+use Rattle.mark_core.specs.declared.kinds.Shape.{Shape}
+use Rattle.mark_core.specs.declared.kinds.Step.{Step}
+use Rattle.mark_core.specs.declared.kinds.Step.TheVariants.{Reserve, Take, Give, Credit, Look, StoreLength, ReadLength, Push, ReadField, SetMark, DirtyCard}
+use Rattle.mark_core.specs.declared.seat.SeatState.{SeatState}
+use Rattle.gc_table.specs.declared.view.Entry.{Entry}
+use Rattle.gc_table.specs.declared.view.View.{View}
+use Rattle.gc_table.specs.Taking.{after}
+use Rattle.packet_pools.specs.Keeping.{all_keep, keeps_cells}
+use Rattle.packet_pools.specs.Seeking.{moves_packet, only_moves}
+use Rattle.packet_pools.specs.Counts.{count_of, dirties, only_scans, scans_object, Counts}
+use Rattle.packet_pools.proofs.Counting.{counts-moves}
+use Rattle.tracer.specs.Deferral.{waits_on}
+use Rattle.tracer.specs.Parts.{Did, Part}
+use Rattle.tracer.proofs.Calm.{AllCalm, AllStill, IsCalm, calm-got, calm-off, calm-popped, calm-pops, calm-traces, move-calm, move-still, still-waits}
+
+-- events that change nothing of what waits
+pub did-quiet : (o : Option ℕ) (l : ℕ) (v : View) (es : List Entry) → AllCalm v es → AllStill v es → count_of dirties es ≡ l → Did o o 0 0 l v es
+did-quiet o l v es c s d =
+    record {
+      waiting = λ p. still-waits p v es (is_the o p) s;
+      kept = λ p. calm-popped p v es (is_the o p) c;
+      undeferred = λ p. calm-got p v es c;
+      done = calm-pops v es c;
+      deferred = calm-off v es c;
+      dirtied = d;
+      steps = calm-traces v es c;
+    }
+
+moves-calm : (v : View) (es : List Entry) → only_moves (0 ∷ 1 ∷ 2 ∷ []) es ≡ true → AllCalm v es
+moves-calm v [] m = tt
+moves-calm v (e ∷ es) m = let h = and_parts (moves_packet (0 ∷ 1 ∷ 2 ∷ []) e.step) (only_moves (0 ∷ 1 ∷ 2 ∷ []) es) m in (move-calm v.state e.step e.found h.0, moves-calm (after e.step e.found v) es h.1)
+
+moves-still : (v : View) (es : List Entry) → only_moves (0 ∷ 1 ∷ 2 ∷ []) es ≡ true → AllStill v es
+moves-still v [] m = tt
+moves-still v (e ∷ es) m = let h = and_parts (moves_packet (0 ∷ 1 ∷ 2 ∷ []) e.step) (only_moves (0 ∷ 1 ∷ 2 ∷ []) es) m in (λ p b. move-still v.state e.step p b h.0, moves-still (after e.step e.found v) es h.1)
+
+-- packets were taken, or given back
+pub part-moves : (sh : Shape) (o : Option ℕ) (v : View) (es : List Entry) → only_moves (0 ∷ 1 ∷ 2 ∷ []) es ≡ true → Part sh o o 0 0 0 v es
+part-moves sh o v es m = record { did = did-quiet o 0 v es (moves-calm v es m) (moves-still v es m) (counts-moves sh es m).overflowed; cause = λ l. absurd (omega (arith, l)) }
+
+-- with no popped cell in hand it is a fresh one that is pushed
+fresh-pushed : (s : SeatState) (c : ℕ) → s.popped ≡ None → may_push s c ≡ true → is_the s.fresh c ≡ true
+fresh-pushed s c none k =
+    ⊎_elim
+    (λ (f : is_the s.fresh c ≡ true). f)
+    (λ (u : is_unpublished s.popped c ≡ true). absurd (false≢true (sym (ap (λ o. is_unpublished o c) none) ∙ u)))
+    (or_cases (is_the s.fresh c) (is_unpublished s.popped c) k)
+
+fresh-still : (a b f : Bool) → f ≡ true → (b || (a && not f)) ≡ b
+fresh-still a b false e = absurd (false≢true e)
+fresh-still true true true e = refl
+fresh-still true false true e = refl
+fresh-still false true true e = refl
+fresh-still false false true e = refl
+
+scan-calm : (s : SeatState) (step : Step) (n : ℕ) → s.popped ≡ None → keeps_cells s step ≡ true → scans_object step ≡ true → IsCalm s step n
+scan-calm s (Push q c) n none k m = record { from = λ p. refl; pop = refl; off = ap not (fresh-pushed s c none k); got = λ p. refl; trace = refl }
+scan-calm s (ReadField c i) n none k m = record { from = λ p. refl; pop = refl; off = refl; got = λ p. refl; trace = refl }
+scan-calm s (SetMark c) n none k m = record { from = λ p. refl; pop = refl; off = refl; got = λ p. refl; trace = refl }
+scan-calm s (DirtyCard card) n none k m = record { from = λ p. refl; pop = refl; off = refl; got = λ p. refl; trace = refl }
+scan-calm s step n none k m = move-calm s step n m
+
+scan-still : (s : SeatState) (step : Step) (p : ℕ) (b : Bool) → s.popped ≡ None → keeps_cells s step ≡ true → scans_object step ≡ true → waits_on p s step b ≡ b
+scan-still s (Push q c) p b none k m = fresh-still (q == p) b (is_the s.fresh c) (fresh-pushed s c none k)
+scan-still s (ReadField c i) p b none k m = refl
+scan-still s (SetMark c) p b none k m = refl
+scan-still s (DirtyCard card) p b none k m = refl
+scan-still s step p b none k m = move-still s step p b m
+
+kept-none : (b : Bool) (o : Option (ℕ × Bool)) → o ≡ None → cond b o None ≡ None
+kept-none true o e = e
+kept-none false o e = refl
+
+-- no popped cell comes in hand
+scan-none : (sh : Shape) (s : SeatState) (step : Step) (n : ℕ) → s.popped ≡ None → scans_object step ≡ true → (seat_after sh s step n).popped ≡ None
+scan-none sh s (Push q c) n none m = kept-none (is_the s.fresh c) s.popped none
+scan-none sh s (DirtyCard card) n none m = ap (λ o. popped_off o card) none
+scan-none sh s (ReadField c i) n none m = none
+scan-none sh s (SetMark c) n none m = none
+scan-none sh s Reserve n none m = none
+scan-none sh s (Take q x) n none m = none
+scan-none sh s (Give q d) n none m = none
+scan-none sh s Credit n none m = none
+scan-none sh s (Look q g) n none m = none
+scan-none sh s (StoreLength p) n none m = none
+scan-none sh s (ReadLength p) n none m = none
+scan-none sh s step n none m = absurd (false≢true m)
+
+scans-calm : (v : View) (es : List Entry) → v.state.popped ≡ None → all_keep v es ≡ true → only_scans es ≡ true → AllCalm v es
+scans-calm v [] none k m = tt
+scans-calm v (e ∷ es) none k m =
+    let a = and_parts (keeps_cells v.state e.step) (all_keep (after e.step e.found v) es) k in
+    let h = and_parts (scans_object e.step) (only_scans es) m in
+    (scan-calm v.state e.step e.found none a.0 h.0, scans-calm (after e.step e.found v) es (scan-none v.shape v.state e.step e.found none h.0) a.1 h.1)
+
+scans-still : (v : View) (es : List Entry) → v.state.popped ≡ None → all_keep v es ≡ true → only_scans es ≡ true → AllStill v es
+scans-still v [] none k m = tt
+scans-still v (e ∷ es) none k m =
+    let a = and_parts (keeps_cells v.state e.step) (all_keep (after e.step e.found v) es) k in
+    let h = and_parts (scans_object e.step) (only_scans es) m in
+    (λ p b. scan-still v.state e.step p b none a.0 h.0, scans-still (after e.step e.found v) es (scan-none v.shape v.state e.step e.found none h.0) a.1 h.1)
+
+-- an object was scanned
+pub part-scan : (sh : Shape) (o : Option ℕ) (white kept lost : ℕ) (v : View) (es : List Entry) → v.state.popped ≡ None → all_keep v es ≡ true → Counts sh white kept lost es → Part sh o o 0 0 lost v es
+part-scan sh o white kept lost v es none k c = record { did = did-quiet o lost v es (scans-calm v es none k c.scans) (scans-still v es none k c.scans) c.overflowed; cause = c.cause }

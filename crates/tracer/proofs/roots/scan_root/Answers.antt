@@ -1,0 +1,134 @@
+use Rattle.std.proofs.Common.{ℕ, ◌<◌, Some, None, List, [], ◌∷◌, ◌++◌, sym, ap, ◌∙◌, subst, arith}
+use Rattle.std.proofs.lemmas.Bool.{ne_eqb}
+use Rattle.mark_core.specs.Seats.{work_in_hand}
+use Rattle.mark_core.specs.declared.kinds.Shape.{Shape}
+use Rattle.mark_core.specs.declared.kinds.Step.TheVariants.{ReadRoot}
+use Rattle.gc_table.specs.declared.view.Entry.{Entry}
+use Rattle.packet_pools.specs.Fields.{Asks}
+use Rattle.packet_pools.specs.Scanning.{InHand}
+use Rattle.packet_pools.proofs.Doing.{traces-on}
+use Rattle.packet_pools.proofs.LaterSteps.{later-join}
+use Rattle.gc_table.proofs.Log.{events-after, events-join}
+use Rattle.tracer.proofs.Carried.{carries-fill, carries-free, carries-head, carries-same}
+use Rattle.packet_pools.proofs.ScanSteps.{later-read_root}
+use Rattle.tracer.proofs.RootScans.{cell-seen, holds-one, loaded, marked-work, may-read_root, nil-seen, nil-work, root-cell, root-nil}
+use Rattle.gc_table.specs.declared.view.View.{View}
+use Rattle.gc_table.specs.Seats.{view_of}
+use Rattle.gc_table.specs.Log.{events}
+use Rattle.tracer.proofs.roots.scan_root.Goals as goal
+
+pub read_root-word-requires-clause-may : goal.read_root-word-requires-clause-may
+read_root-word-requires-clause-may c =
+    let v : View = view_of c.args.seat.now in
+    let shape = c.requires.seat.0.1 in
+    may-read_root v c.args.section c.args.variable c.requires.seat.1.may
+    (subst (λ (s : Shape). c.args.section < s.sections) (sym shape) c.requires.root.0)
+    c.requires.root.1
+    (holds-one c.args.out.now [] v c.requires.out)
+    (ap (λ (s : Shape). work_in_hand s.fields v.state) shape ∙ c.requires.work)
+
+pub returns-then-word-eq0-clause-seat : goal.returns-then-word-eq0-clause-seat
+returns-then-word-eq0-clause-seat c =
+    let v : View = view_of c.args.seat.now in
+    let w : View = view_of c.read_root-word.new.seat in
+    let e = c.read_root-word.ensures.view in
+    (c.read_root-word.ensures.seat, traces-on v w (later-read_root v w _ c.args.section c.args.variable e.1 e.0) c.requires.seat.1 (ap (λ (z : View). z.state.reserved) e.0) (ap (λ (z : View). z.state.credit) e.0))
+
+pub returns-then-word-eq0-clause-later : goal.returns-then-word-eq0-clause-later
+returns-then-word-eq0-clause-later c =
+    let e = c.read_root-word.ensures.view in
+    later-read_root (view_of c.args.seat.now) (view_of c.read_root-word.new.seat) _ c.args.section c.args.variable e.1 e.0
+
+pub returns-then-word-eq0-clause-out : goal.returns-then-word-eq0-clause-out
+returns-then-word-eq0-clause-out c =
+    let v : View = view_of c.args.seat.now in
+    let w : View = view_of c.read_root-word.new.seat in
+    let e = c.read_root-word.ensures.view in
+    carries-same v w (ap (λ (z : View). z.shape) e.0) (c.args.out.now ∷ []) (ap (λ (z : View). z.state.held) e.0) c.requires.out
+
+pub returns-then-word-eq0-clause-work : goal.returns-then-word-eq0-clause-work
+returns-then-word-eq0-clause-work c =
+    let e = c.read_root-word.ensures.view in
+    nil-work (view_of c.args.seat.now) (view_of c.read_root-word.new.seat) c.args.section c.args.variable _ e.0 c.args.heap.now.shape.fields c.requires.work c.if-word-eq0.true
+
+pub returns-then-word-eq0-clause-follows : goal.returns-then-word-eq0-clause-follows
+returns-then-word-eq0-clause-follows c =
+    let v : View = view_of c.args.seat.now in
+    let w : View = view_of c.read_root-word.new.seat in
+    root-nil c.args.heap.now.shape c.args.section c.args.variable c.read_root-word.result (events v w) (events-after v w (ReadRoot c.args.section c.args.variable) _ c.read_root-word.ensures.view.0) c.if-word-eq0.true
+
+pub mark_cell-requires-clause-seat : goal.mark_cell-requires-clause-seat
+mark_cell-requires-clause-seat c =
+    let v : View = view_of c.args.seat.now in
+    let w : View = view_of c.read_root-word.new.seat in
+    let e = c.read_root-word.ensures.view in
+    (c.read_root-word.ensures.seat, traces-on v w (later-read_root v w _ c.args.section c.args.variable e.1 e.0) c.requires.seat.1 (ap (λ (z : View). z.state.reserved) e.0) (ap (λ (z : View). z.state.credit) e.0))
+
+pub mark_cell-requires-clause-out : goal.mark_cell-requires-clause-out
+mark_cell-requires-clause-out c =
+    let v : View = view_of c.args.seat.now in
+    let w : View = view_of c.read_root-word.new.seat in
+    let e = c.read_root-word.ensures.view in
+    let k = carries-same v w (ap (λ (z : View). z.shape) e.0) (c.args.out.now ∷ []) (ap (λ (z : View). z.state.held) e.0) c.requires.out in
+    (carries-head c.args.out.now [] w k, carries-free (c.args.out.now ∷ []) w (omega arith) k)
+
+pub mark_cell-requires-clause-hand : goal.mark_cell-requires-clause-hand
+mark_cell-requires-clause-hand c =
+    let w : View = view_of c.read_root-word.new.seat in
+    let e = c.read_root-word.ensures.view in
+    subst (λ k. InHand (Some k) None w.state) (sym c.cell_of.ensures)
+    (loaded (view_of c.args.seat.now) w c.args.section c.args.variable _ e.0 c.args.heap.now.shape.fields c.requires.work (ne_eqb c.read_root-word.result 0 c.if-word-eq0.false))
+
+pub returns-clause-later : goal.returns-clause-later
+returns-clause-later c =
+    let v : View = view_of c.args.seat.now in
+    let w : View = view_of c.read_root-word.new.seat in
+    let e = c.read_root-word.ensures.view in
+    later-join v w (view_of c.mark_cell.new.seat) (later-read_root v w _ c.args.section c.args.variable e.1 e.0) c.mark_cell.ensures.later
+
+pub returns-clause-out : goal.returns-clause-out
+returns-clause-out c =
+    let v : View = view_of c.args.seat.now in
+    let w : View = view_of c.read_root-word.new.seat in
+    let x : View = view_of c.mark_cell.new.seat in
+    let e = c.read_root-word.ensures.view in
+    let m = c.mark_cell.ensures in
+    carries-fill w x m.later.shape c.args.out.now c.mark_cell.new.out [] m.pushes.packet
+    (carries-same v w (ap (λ (z : View). z.shape) e.0) (c.args.out.now ∷ []) (ap (λ (z : View). z.state.held) e.0) c.requires.out)
+
+pub returns-clause-work : goal.returns-clause-work
+returns-clause-work c =
+    let e = c.read_root-word.ensures.view in
+    marked-work (view_of c.args.seat.now) (view_of c.read_root-word.new.seat) c.args.section c.args.variable _ e.0 c.args.heap.now.shape.fields c.requires.work (view_of c.mark_cell.new.seat) c.args.out.now c.mark_cell.new.out c.mark_cell.ensures.pushes
+
+pub returns-clause-follows : goal.returns-clause-follows
+returns-clause-follows c =
+    let v : View = view_of c.args.seat.now in
+    let w : View = view_of c.read_root-word.new.seat in
+    let x : View = view_of c.mark_cell.new.seat in
+    let n : ℕ = c.read_root-word.result in
+    let e = c.read_root-word.ensures.view in
+    let m = c.mark_cell.ensures in
+    root-cell c.args.heap.now.shape c.args.section c.args.variable n _ _ _ (events w x) (events v x)
+    (events-join v w x (later-read_root v w n c.args.section c.args.variable e.1 e.0).log m.later.log ∙ ap (λ (l : List Entry). l ++ events w x) (events-after v w _ _ e.0))
+    (ne_eqb n 0 c.if-word-eq0.false)
+    (subst (λ (k : ℕ). Asks (k ∷ []) (events w x)) c.cell_of.ensures m.asks)
+    m.counts
+
+pub returns-then-word-eq0-clause-seen : goal.returns-then-word-eq0-clause-seen
+returns-then-word-eq0-clause-seen c =
+    let v : View = view_of c.args.seat.now in
+    let w : View = view_of c.read_root-word.new.seat in
+    nil-seen c.args.section c.args.variable c.read_root-word.result (events v w) (events-after v w (ReadRoot c.args.section c.args.variable) _ c.read_root-word.ensures.view.0) c.if-word-eq0.true
+
+pub returns-clause-seen : goal.returns-clause-seen
+returns-clause-seen c =
+    let v : View = view_of c.args.seat.now in
+    let w : View = view_of c.read_root-word.new.seat in
+    let x : View = view_of c.mark_cell.new.seat in
+    let n : ℕ = c.read_root-word.result in
+    let e = c.read_root-word.ensures.view in
+    let m = c.mark_cell.ensures in
+    cell-seen c.args.section c.args.variable n (events w x) (events v x)
+    (events-join v w x (later-read_root v w n c.args.section c.args.variable e.1 e.0).log m.later.log ∙ ap (λ (l : List Entry). l ++ events w x) (events-after v w _ _ e.0))
+    (subst (λ (k : ℕ). Asks (k ∷ []) (events w x)) c.cell_of.ensures m.asks).asked

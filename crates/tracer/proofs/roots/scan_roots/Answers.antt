@@ -1,0 +1,133 @@
+use Rattle.std.proofs.Common.{ℕ, ◌≡◌, ◌+◌, [], ◌∷◌, sym, ap, ◌∙◌, subst, refl, arith}
+use Rattle.std.specs.Prelude.{◌==◌}
+use Rattle.mark_core.specs.Seats.{work_in_hand}
+use Rattle.mark_core.specs.declared.kinds.Shape.{Shape}
+use Rattle.mark_core.specs.declared.seat.SeatState.{SeatState}
+use Rattle.packet_pools.proofs.Counting.{given-moves}
+use Rattle.packet_pools.proofs.LaterSteps.{later-join}
+use Rattle.gc_table.proofs.Log.{events-join}
+use Rattle.tracer.specs.Hands.{IsIdle}
+use Rattle.tracer.specs.Roots.{Follows, roots_of}
+use Rattle.tracer.proofs.Carried.{carries-give}
+use Rattle.tracer.proofs.RootScans.{roots-join, roots-moves, roots-next, roots-owe, seen-all, seen-next}
+use Rattle.tracer.proofs.Whole.{append-none, keeps-record}
+use Rattle.gc_table.specs.declared.view.View.{View}
+use Rattle.gc_table.specs.Seats.{view_of}
+use Rattle.packet_pools.specs.Later.{Later}
+use Rattle.gc_table.specs.Log.{events}
+use Rattle.tracer.proofs.roots.scan_roots.Goals as goal
+
+pub loop-variable-init : goal.loop-variable-init
+loop-variable-init c =
+    let v : View = view_of c.args.seat.now in
+    let w : View = view_of c.take_either.new.seat in
+    let e = c.in-Some.ensures in
+    record {
+      sits = e.seat.0;
+      traces = e.seat.1;
+      later = e.later;
+      out = e.some;
+      work = e.work;
+      most = omega arith;
+      follows = (0, omega arith, roots-moves c.args.heap.now.shape (events v w) e.moves);
+      seen = λ v l. absurd (omega (arith, l));
+    }
+
+pub loop-variable-preserved : goal.loop-variable-preserved
+loop-variable-preserved c =
+    let sh : Shape = c.args.heap.now.shape in
+    let v : View = view_of c.args.seat.now in
+    let w : View = view_of c.loop-variable.seat in
+    let x : View = view_of c.scan_root-marked.new.seat in
+    let n : ℕ = c.loop-variable.variable in
+    let i = c.loop-variable.invariant in
+    let e = c.scan_root-marked.ensures in
+    record {
+      sits = e.seat.0;
+      traces = e.seat.1;
+      later = later-join v w x i.later e.later;
+      out = e.out;
+      work = e.work;
+      most = omega (arith, i.most, e.most.1);
+      follows = (
+        i.follows.0 + c.scan_root-marked.result.overflowed,
+        (let a = i.follows.1 in let b = e.most.0 in omega (arith, a, b)),
+        subst (λ l. Follows sh l (c.loop-variable.marked + c.scan_root-marked.result.marked) (i.follows.0 + c.scan_root-marked.result.overflowed) (events v x)) (roots-next c.args.section n)
+            (roots-join sh (roots_of c.args.section n) ((c.args.section, n) ∷ []) _ _ _ _ _ _ (events v w) (events w x) (events v x) (events-join v w x i.later.log e.later.log) refl refl i.follows.2 e.follows),
+      );
+      seen = seen-next c.args.section n (events v w) (events w x) (events v x) (events-join v w x i.later.log e.later.log) i.seen e.seen;
+    }
+
+pub returns-clause-later : goal.returns-clause-later
+returns-clause-later c = later-join (view_of c.args.seat.now) (view_of c.loop-variable.seat) (view_of c.give.new.seat) c.loop-variable.invariant.later c.give.ensures.later
+
+-- all roots were scanned, and the packet was given back
+ended : (sh : Shape) (section n marked lost : ℕ) (v w x : View) → Later v w → Later w x → n ≡ 32 → Follows sh (roots_of section n) marked lost (events v w) → Follows sh [] 0 0 (events w x) → Follows sh (roots_of section 32) marked lost (events v x)
+ended sh section n marked lost v w x a b all f g =
+    subst (λ l. Follows sh l marked lost (events v x)) (sym (append-none (roots_of section n)) ∙ ap (roots_of section) all)
+    (roots-join sh (roots_of section n) [] marked 0 marked lost 0 lost (events v w) (events w x) (events v x) (events-join v w x a.log b.log) (omega arith) (omega arith) f g)
+
+pub returns-clause-scanned : goal.returns-clause-scanned
+returns-clause-scanned c =
+    let sh : Shape = c.args.heap.now.shape in
+    let v : View = view_of c.args.seat.now in
+    let w : View = view_of c.loop-variable.seat in
+    let x : View = view_of c.give.new.seat in
+    let i = c.loop-variable.invariant in
+    let g = c.give.ensures in
+    let past = c.loop-variable-test.false in
+    let most = c.loop-variable.auto.variable-end in
+    let all : c.loop-variable.variable ≡ 32 = omega (arith, past, most) in (
+      i.follows.0,
+      i.follows.1,
+      subst (λ s. Follows s (roots_of c.args.section 32) c.loop-variable.marked i.follows.0 (events v x)) (sym c.requires.seat.0.1)
+          (ended sh c.args.section c.loop-variable.variable c.loop-variable.marked i.follows.0 v w x i.later g.later all i.follows.2
+          (roots-moves sh (events w x) (given-moves (0 ∷ 1 ∷ 2 ∷ []) c.loop-variable.out.packet (c.loop-variable.out.length == 0) (events w x) g.steps))),
+    )
+
+pub returns-clause-idle : goal.returns-clause-idle
+returns-clause-idle c =
+    let v : View = view_of c.args.seat.now in
+    let w : View = view_of c.loop-variable.seat in
+    let x : View = view_of c.give.new.seat in
+    let i = c.loop-variable.invariant in
+    let g = c.give.ensures in
+    let later : Later v x = later-join v w x i.later g.later in
+    record {
+      held = (carries-give w x g.later.shape c.loop-variable.out [] (ap (λ (s : SeatState). s.held) g.state) i.out).held;
+      work = ap (λ (s : Shape). work_in_hand s.fields x.state) g.seat.0.1 ∙ (ap (work_in_hand c.args.heap.now.shape.fields) g.state ∙ i.work);
+      block = ap (λ (s : SeatState). s.block) later.rest ∙ c.requires.idle.block;
+    }
+
+pub returns-clause-state : goal.returns-clause-state
+returns-clause-state c =
+    let sh : Shape = c.args.heap.now.shape in
+    let v : View = view_of c.args.seat.now in
+    let w : View = view_of c.loop-variable.seat in
+    let x : View = view_of c.give.new.seat in
+    let i = c.loop-variable.invariant in
+    let g = c.give.ensures in
+    let later : Later v x = later-join v w x i.later g.later in
+    let idle : IsIdle x =
+    record {
+      held = (carries-give w x g.later.shape c.loop-variable.out [] (ap (λ (s : SeatState). s.held) g.state) i.out).held;
+      work = ap (λ (s : Shape). work_in_hand s.fields x.state) g.seat.0.1 ∙ (ap (work_in_hand sh.fields) g.state ∙ i.work);
+      block = ap (λ (s : SeatState). s.block) later.rest ∙ c.requires.idle.block;
+    } in
+    let past = c.loop-variable-test.false in
+    let most = c.loop-variable.auto.variable-end in
+    let all : c.loop-variable.variable ≡ 32 = omega (arith, past, most) in
+    keeps-record v x later c.requires.seat.1 g.seat.1 c.requires.idle idle
+    (roots-owe v x later
+    (ended sh c.args.section c.loop-variable.variable c.loop-variable.marked i.follows.0 v w x i.later g.later all i.follows.2
+    (roots-moves sh (events w x) (given-moves (0 ∷ 1 ∷ 2 ∷ []) c.loop-variable.out.packet (c.loop-variable.out.length == 0) (events w x) g.steps))).steps)
+
+pub returns-clause-seen : goal.returns-clause-seen
+returns-clause-seen c =
+    let v : View = view_of c.args.seat.now in
+    let w : View = view_of c.loop-variable.seat in
+    let x : View = view_of c.give.new.seat in
+    let i = c.loop-variable.invariant in
+    let past = c.loop-variable-test.false in
+    let most = c.loop-variable.auto.variable-end in
+    seen-all c.args.section c.loop-variable.variable (events v w) (events w x) (events v x) (events-join v w x i.later.log c.give.ensures.later.log) (omega (arith, past, most)) i.seen

@@ -1,0 +1,78 @@
+use Rattle.std.proofs.Common.{ℕ, None, Option, List, [], ◌∷◌, ap, refl}
+use Rattle.std.specs.Prelude.{◌==◌}
+use Rattle.std.proofs.lemmas.Bool.{false≢true}
+use Rattle.mark_core.specs.declared.kinds.Shape.{Shape}
+use Rattle.mark_core.specs.declared.seat.SeatState.{SeatState}
+use Rattle.packet_pools.proofs.Counting.{given-moves}
+use Rattle.packet_pools.proofs.LaterSteps.{later-join}
+use Rattle.tracer.specs.declared.packets.Packets.{Packets}
+use Rattle.tracer.specs.Hands.{Carries, in_front, packet_of, packets_of}
+use Rattle.tracer.proofs.Carried.{carries-give, carries-head, deferred-front, front-held, second-front}
+use Rattle.tracer.proofs.Joined.{part-then}
+use Rattle.tracer.proofs.Quiet.{part-moves}
+use Rattle.gc_table.specs.declared.view.View.{View}
+use Rattle.gc_table.specs.Seats.{view_of}
+use Rattle.packet_pools.specs.declared.held.Held.{Held}
+use Rattle.gc_table.specs.Log.{events}
+use Rattle.tracer.proofs.tracing.finish.Goals as goal
+
+pub give_some-requires-clause-held : goal.give_some-requires-clause-held
+give_some-requires-clause-held c =
+    let v : View = view_of c.args.seat.now in
+    let x : Packets = c.args.packets in
+    front-held x.deferred (x.input ∷ in_front x.output []) v (deferred-front x.input x.output x.deferred v c.requires.packets.0)
+
+-- without the one that was being filled
+without : (x : Packets) (v w : View) → ((hs : List Held) → Carries (in_front x.deferred hs) v → Carries hs w) → Carries (packets_of x) v → Carries (in_front x.output (x.input ∷ [])) w
+without x v w give k = second-front x.input x.output [] w (give (x.input ∷ in_front x.output []) (deferred-front x.input x.output x.deferred v k))
+
+pub give_some-requires-2-clause-held : goal.give_some-requires-2-clause-held
+give_some-requires-2-clause-held c =
+    let v : View = view_of c.args.seat.now in
+    let w : View = view_of c.give_some.new.seat in
+    let x : Packets = c.args.packets in
+    front-held x.output (x.input ∷ []) w (without x v w c.give_some.ensures.packets c.requires.packets.0)
+
+pub give-requires-clause-held : goal.give-requires-clause-held
+give-requires-clause-held c =
+    let v : View = view_of c.args.seat.now in
+    let w : View = view_of c.give_some.new.seat in
+    let y : View = view_of c.give_some-2.new.seat in
+    let x : Packets = c.args.packets in
+    carries-head x.input [] y (c.give_some-2.ensures.packets (x.input ∷ []) (without x v w c.give_some.ensures.packets c.requires.packets.0))
+
+pub returns-clause-later : goal.returns-clause-later
+returns-clause-later c =
+    let v : View = view_of c.args.seat.now in
+    let w : View = view_of c.give_some.new.seat in
+    let y : View = view_of c.give_some-2.new.seat in
+    let z : View = view_of c.give.new.seat in
+    later-join v w z c.give_some.ensures.later (later-join w y z c.give_some-2.ensures.later c.give.ensures.later)
+
+pub returns-clause-held : goal.returns-clause-held
+returns-clause-held c =
+    let v : View = view_of c.args.seat.now in
+    let w : View = view_of c.give_some.new.seat in
+    let y : View = view_of c.give_some-2.new.seat in
+    let z : View = view_of c.give.new.seat in
+    let x : Packets = c.args.packets in
+    let all = c.give_some-2.ensures.packets (x.input ∷ []) (without x v w c.give_some.ensures.packets c.requires.packets.0) in
+    (carries-give y z c.give.ensures.later.shape x.input [] (ap (λ (s : SeatState). s.held) c.give.ensures.state) all).held
+
+pub returns-clause-part : goal.returns-clause-part
+returns-clause-part c =
+    let sh : Shape = c.args.heap.now.shape in
+    let v : View = view_of c.args.seat.now in
+    let w : View = view_of c.give_some.new.seat in
+    let y : View = view_of c.give_some-2.new.seat in
+    let z : View = view_of c.give.new.seat in
+    let x : Packets = c.args.packets in
+    let o : Option ℕ = packet_of x.deferred in
+    let e = c.give_some.ensures in
+    let f = c.give_some-2.ensures in
+    let g = c.give.ensures in
+    part-then sh o None None 0 0 0 0 0 0 0 0 0 v w z e.later (later-join w y z f.later g.later) refl refl refl
+    (e.part o (λ d. refl))
+    (part-then sh None None None 0 0 0 0 0 0 0 0 0 w y z f.later g.later refl refl refl
+    (f.part None (λ d. absurd (false≢true d)))
+    (part-moves sh None y (events y z) (given-moves (0 ∷ 1 ∷ 2 ∷ []) x.input.packet (x.input.length == 0) (events y z) g.steps)))

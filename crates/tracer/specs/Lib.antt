@@ -1,0 +1,9 @@
+pub mod Hands
+pub mod Deferral
+pub mod Tally
+pub mod Moments
+pub mod Causes
+pub mod Parts
+pub mod Roots
+pub mod Recycling
+pub mod Ends

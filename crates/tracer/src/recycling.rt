@@ -1,0 +1,51 @@
+//! What was put off is traced again.
+ghost use Rattle.std.specs.Prelude.{◌≡◌, ◌<◌, ◌≤◌, ◌+◌, if◌then◌else◌};
+ghost use Rattle.gc_table.specs.Seats.{Sits, view_of};
+ghost use Rattle.packet_pools.specs.Later.{Later};
+ghost use Rattle.gc_table.specs.Log.{events};
+ghost use Rattle.packet_pools.specs.Tracing.{Traces};
+ghost use Rattle.tracer.specs.Hands.{IsIdle};
+ghost use Rattle.tracer.specs.Recycling.{Recycled, Recycles};
+
+use gc_table::{Heap, HeapSeat};
+use mark_core::has_bit;
+use packet_pools::{give, take_deferred_at};
+
+/// Moves packet p from the deferred pool to that of its length, where it is there. True where it was moved.
+fn recycle(heap: &Heap, seat: &mut HeapSeat, p: u32) -> bool
+    requires seat { Sits heap.now seat.old × Traces (view_of seat.old) }
+    requires idle { IsIdle (view_of seat.old) }
+    requires packet { p < heap.now.shape.packets }
+    ensures seat { Sits heap.now seat.new × Traces (view_of seat.new) }
+    ensures later { Later (view_of seat.old) (view_of seat.new) }
+    ensures state { (view_of seat.new).state ≡ (view_of seat.old).state }
+    ensures recycles { Recycles p (p + 1) (if result then 1 else 0) (events (view_of seat.old) (view_of seat.new)) }
+{
+    let word = heap.look(seat, 3, p / 64);
+    if !has_bit(word, p % 64) {
+        return false;
+    }
+    let Some(held) = take_deferred_at(heap, seat, p) else {
+        return false;
+    };
+    give(heap, seat, held, false);
+    true
+}
+
+/// Moves the packets that were put off to the pools of their lengths, where tracers find them: how many it moved, each at most once. The seat may trace,
+/// and holds no packet. Each packet was moved, or was seen outside the deferred pool or lost to another seat in this call.
+/// Cells that still aren't published are put off again when they are popped, so a caller publishes first, or waits for others to.
+pub fn recycle_deferred(heap: &Heap, seat: &mut HeapSeat) -> u32
+    requires seat { Sits heap.now seat.old × Traces (view_of seat.old) }
+    requires idle { IsIdle (view_of seat.old) }
+    ensures seat { Sits heap.now seat.new × Traces (view_of seat.new) }
+    ensures later { Later (view_of seat.old) (view_of seat.new) }
+    ensures state { (view_of seat.new).state ≡ (view_of seat.old).state }
+    ensures recycled { Recycled heap.now.shape result (events (view_of seat.old) (view_of seat.new)) }
+{
+    let mut moved = 0;
+    for p in 0..heap.shape().packets {
+        moved += u32::from(recycle(heap, seat, p));
+    }
+    moved
+}

@@ -1,0 +1,93 @@
+//! The roots of a section are scanned.
+ghost use Rattle.std.specs.Prelude.{ℕ, ◌≡◌, ◌<◌, ◌≤◌, [], ◌∷◌, Some, None, IsTrue, IsFalse, IfSome, IfNone};
+ghost use Rattle.mark_core.specs.Seats.{work_in_hand};
+ghost use Rattle.gc_table.specs.Seats.{Sits, view_of};
+ghost use Rattle.packet_pools.specs.Later.{Later};
+ghost use Rattle.gc_table.specs.Log.{events};
+ghost use Rattle.packet_pools.specs.Seeking.{only_moves};
+ghost use Rattle.packet_pools.specs.Tracing.{Traces};
+ghost use Rattle.tracer.specs.Causes.{FoundNoPacket};
+ghost use Rattle.tracer.specs.Hands.{Carries, IsIdle, KeepsRecord};
+ghost use Rattle.tracer.specs.Roots.{Follows, RootsScanned, SeesRoots, root_marked};
+
+use crate::traced::RootScan;
+use gc_table::{Heap, HeapSeat};
+use mark_core::cell_of;
+use packet_pools::{Held, Scanned, give, mark_cell, take_input, take_output};
+
+/// How many variables a section has.
+const VARIABLES: u8 = 32;
+
+/// Takes a packet to put cells in, or else any with cells.
+fn take_either(heap: &Heap, seat: &mut HeapSeat) -> Option<Held>
+    requires seat { Sits heap.now seat.old × Traces (view_of seat.old) }
+    requires idle { IsIdle (view_of seat.old) }
+    ensures seat { Sits heap.now seat.new × Traces (view_of seat.new) }
+    ensures later { Later (view_of seat.old) (view_of seat.new) }
+    ensures work { IsFalse (work_in_hand heap.now.shape.fields (view_of seat.new).state) }
+    ensures moves { IsTrue (only_moves (0 ∷ 1 ∷ 2 ∷ []) (events (view_of seat.old) (view_of seat.new))) }
+    ensures some { IfSome result (λ h. Carries (h ∷ []) (view_of seat.new)) }
+    ensures none { IfNone result (((view_of seat.new).state ≡ (view_of seat.old).state) × FoundNoPacket (view_of seat.old) (view_of seat.new)) }
+{
+    match take_output(heap, seat) {
+        Some(held) => Some(held),
+        None => take_input(heap, seat),
+    }
+}
+
+/// Marks what one variable refers to.
+fn scan_root(
+    heap: &Heap,
+    seat: &mut HeapSeat,
+    out: &mut Held,
+    section: u32,
+    variable: u8,
+) -> Scanned
+    requires seat { Sits heap.now seat.old × Traces (view_of seat.old) }
+    requires out { Carries (out.old ∷ []) (view_of seat.old) }
+    requires work { IsFalse (work_in_hand heap.now.shape.fields (view_of seat.old).state) }
+    requires root { (section < heap.now.shape.sections) × (variable < 32) }
+    ensures seat { Sits heap.now seat.new × Traces (view_of seat.new) }
+    ensures later { Later (view_of seat.old) (view_of seat.new) }
+    ensures out { Carries (out.new ∷ []) (view_of seat.new) }
+    ensures work { IsFalse (work_in_hand heap.now.shape.fields (view_of seat.new).state) }
+    ensures most { (result.overflowed ≤ result.marked) × (result.marked ≤ 1) }
+    ensures follows { Follows heap.now.shape ((section, variable) ∷ []) result.marked result.overflowed (events (view_of seat.old) (view_of seat.new)) }
+    ensures seen { IsTrue (root_marked section variable (events (view_of seat.old) (view_of seat.new))) }
+{
+    let word = heap.read_root(seat, section, variable);
+    if word == 0 {
+        return Scanned {
+            marked: 0,
+            overflowed: 0,
+        };
+    }
+    mark_cell(heap, seat, out, cell_of(word))
+}
+
+/// Marks what the 32 variables of a section refer to, and pushes what was white: how many cells that were. The seat may trace, and holds no packet.
+///
+/// Each variable was read as nil, or its cell was marked or seen marked later in the call.
+/// Any section's variables may be scanned, while its mutator runs: a variable that is stored after it was read is that mutator's to scan again.
+/// NoPacket comes only where neither a packet with room nor one with cells was found while the seat held none, and nothing is marked then.
+pub fn scan_roots(heap: &Heap, seat: &mut HeapSeat, section: u32) -> RootScan
+    requires seat { Sits heap.now seat.old × Traces (view_of seat.old) }
+    requires idle { IsIdle (view_of seat.old) }
+    requires section { section < heap.now.shape.sections }
+    ensures seat { Sits heap.now seat.new × Traces (view_of seat.new) }
+    ensures later { Later (view_of seat.old) (view_of seat.new) }
+    ensures idle { IsIdle (view_of seat.new) }
+    ensures state { KeepsRecord (view_of seat.old) (view_of seat.new) }
+    ensures scanned { RootsScanned section result (view_of seat.old) (view_of seat.new) }
+    ensures seen { SeesRoots section result (events (view_of seat.old) (view_of seat.new)) }
+{
+    let Some(mut out) = take_either(heap, seat) else {
+        return RootScan::NoPacket;
+    };
+    let mut marked = 0;
+    for variable in 0..VARIABLES {
+        marked += scan_root(heap, seat, &mut out, section, variable).marked;
+    }
+    give(heap, seat, out, false);
+    RootScan::Done { marked }
+}

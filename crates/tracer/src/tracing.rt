@@ -1,0 +1,166 @@
+//! The loop of a tracer.
+ghost use Rattle.std.specs.Prelude.{ℕ, ◌≡◌, ◌≢◌, ◌<◌, ◌≤◌, ◌+◌, ◌*◌, ◌⊎◌, [], ◌∷◌, Option, Some, None, false, IsTrue, IsFalse, IfSome, IfNone};
+ghost use Rattle.mark_core.specs.Seats.{cleaning_left, work_in_hand};
+ghost use Rattle.gc_table.specs.Seats.{Sits, view_of};
+ghost use Rattle.packet_pools.specs.Later.{Later};
+ghost use Rattle.gc_table.specs.Log.{events};
+ghost use Rattle.packet_pools.specs.Tracing.{Traces};
+ghost use Rattle.packet_pools.specs.Scanning.{InHand};
+ghost use Rattle.packet_pools.specs.Seeking.{NoInput, only_moves};
+ghost use Rattle.tracer.specs.Causes.{FoundNoWork};
+ghost use Rattle.tracer.specs.Deferral.{PutsOff};
+ghost use Rattle.tracer.specs.Ends.{all_end_well};
+ghost use Rattle.tracer.specs.Hands.{Carries, HasRoom, IsIdle, KeepsRecord, no_packets, packet_of, packets_of};
+ghost use Rattle.tracer.specs.Parts.{Ended, HasPopped, Part};
+ghost use Rattle.tracer.specs.Tally.{Tally};
+
+use crate::deferring::put_off;
+use crate::finding::next_cell;
+use crate::packets::{Packets, give_some};
+use crate::traced::{Passed, Stopped, Traced};
+use gc_table::{Heap, HeapSeat};
+use mark_core::{Cell, has_bit};
+use packet_pools::{Scanned, give, scan_cell, take_input, take_output};
+
+/// Scans the object in scan into the output, or into the input where there is none.
+fn scan(heap: &Heap, seat: &mut HeapSeat, packets: &mut Packets) -> Scanned
+    requires seat { Sits heap.now seat.old × Traces (view_of seat.old) }
+    requires packets { Carries (packets_of packets.old) (view_of seat.old) }
+    requires hand { InHand None None (view_of seat.old).state × IsFalse (cleaning_left (view_of seat.old).state.cleaning) }
+    ensures seat { Sits heap.now seat.new × Traces (view_of seat.new) }
+    ensures later { Later (view_of seat.old) (view_of seat.new) }
+    ensures packets { Carries (packets_of packets.new) (view_of seat.new) × (packets.new.deferred ≡ packets.old.deferred) }
+    ensures work { IsFalse (work_in_hand heap.now.shape.fields (view_of seat.new).state) }
+    ensures most { (result.overflowed ≤ result.marked) × (result.marked ≤ heap.now.shape.fields) }
+    ensures part { (o : Option ℕ) → Part heap.now.shape o o 0 0 result.overflowed (view_of seat.old) (events (view_of seat.old) (view_of seat.new)) }
+{
+    match &mut packets.output {
+        Some(output) => scan_cell(heap, seat, output),
+        None => scan_cell(heap, seat, &mut packets.input),
+    }
+}
+
+/// Traces the cell that was popped: how many cells were put off for it, 0 or 1, and how many were left to their cards.
+fn trace_cell(heap: &Heap, seat: &mut HeapSeat, packets: &mut Packets, cell: Cell) -> Passed
+    requires seat { Sits heap.now seat.old × Traces (view_of seat.old) }
+    requires packets { Carries (packets_of packets.old) (view_of seat.old) × HasRoom heap.now.shape packets.old.deferred }
+    requires cell { HasPopped cell false (view_of seat.old) }
+    ensures seat { Sits heap.now seat.new × Traces (view_of seat.new) }
+    ensures later { Later (view_of seat.old) (view_of seat.new) }
+    ensures packets { Carries (packets_of packets.new) (view_of seat.new) × HasRoom heap.now.shape packets.new.deferred }
+    ensures work { IsFalse (work_in_hand heap.now.shape.fields (view_of seat.new).state) }
+    ensures most { (result.deferred ≤ 1) × (result.overflowed ≤ 16) }
+    ensures part { Part heap.now.shape (packet_of packets.old.deferred) (packet_of packets.new.deferred) 0 result.deferred result.overflowed (view_of seat.old) (events (view_of seat.old) (view_of seat.new)) }
+{
+    let word = heap.read_alloc(seat, cell.number() / 64);
+    if has_bit(word, cell.number() % 64) {
+        let scanned = scan(heap, seat, packets);
+        return Passed {
+            deferred: 0,
+            overflowed: scanned.overflowed,
+        };
+    }
+    let overflowed = put_off(heap, seat, packets, cell);
+    Passed {
+        deferred: u32::from(!overflowed),
+        overflowed: u32::from(overflowed),
+    }
+}
+
+/// Traces at most so many cells.
+fn trace_all(heap: &Heap, seat: &mut HeapSeat, packets: &mut Packets, quota: u32) -> Traced
+    requires seat { Sits heap.now seat.old × Traces (view_of seat.old) }
+    requires packets { Carries (packets_of packets.old) (view_of seat.old) × HasRoom heap.now.shape packets.old.deferred }
+    requires idle { IsFalse (work_in_hand heap.now.shape.fields (view_of seat.old).state) × ((view_of seat.old).state.block ≡ None) }
+    requires quota { 16 * quota < 4294967296 }
+    ensures seat { Sits heap.now seat.new × Traces (view_of seat.new) }
+    ensures later { Later (view_of seat.old) (view_of seat.new) }
+    ensures packets { Carries (packets_of packets.new) (view_of seat.new) × HasRoom heap.now.shape packets.new.deferred }
+    ensures work { IsFalse (work_in_hand heap.now.shape.fields (view_of seat.new).state) }
+    ensures part { Part heap.now.shape (packet_of packets.old.deferred) (packet_of packets.new.deferred) result.done result.deferred result.overflowed (view_of seat.old) (events (view_of seat.old) (view_of seat.new)) }
+    ensures stopped { ((result.stopped ≡ Stopped.Quota) × (result.done ≡ quota)) ⊎ ((result.stopped ≡ Stopped.NoWork) × (result.done < quota) × Ended heap.now.shape packets.new (view_of seat.old) (view_of seat.new)) }
+{
+    let mut traced = Traced::started();
+    for _turn in 0..quota {
+        let Some(cell) = next_cell(heap, seat, packets) else {
+            traced.stopped = Stopped::NoWork;
+            return traced;
+        };
+        let passed = trace_cell(heap, seat, packets, cell);
+        traced.done += 1;
+        traced.deferred += passed.deferred;
+        traced.overflowed += passed.overflowed;
+    }
+    traced
+}
+
+/// Takes packets to trace with. None comes only where no packet with a cell was found.
+fn begin(heap: &Heap, seat: &mut HeapSeat) -> Option<Packets>
+    requires seat { Sits heap.now seat.old × Traces (view_of seat.old) }
+    requires idle { IsIdle (view_of seat.old) }
+    ensures seat { Sits heap.now seat.new × Traces (view_of seat.new) }
+    ensures later { Later (view_of seat.old) (view_of seat.new) }
+    ensures idle { IsFalse (work_in_hand heap.now.shape.fields (view_of seat.new).state) × ((view_of seat.new).state.block ≡ None) }
+    ensures part { Part heap.now.shape None None 0 0 0 (view_of seat.old) (events (view_of seat.old) (view_of seat.new)) }
+    ensures some { IfSome result (λ x. Carries (packets_of x) (view_of seat.new) × (x.deferred ≡ None)) }
+    ensures none { IfNone result (((view_of seat.new).state ≡ (view_of seat.old).state) × NoInput heap.now.shape (events (view_of seat.old) (view_of seat.new)) × IsTrue (only_moves (2 ∷ 1 ∷ []) (events (view_of seat.old) (view_of seat.new)))) }
+{
+    let input = take_input(heap, seat)?;
+    let output = take_output(heap, seat);
+    Some(Packets {
+        input,
+        output,
+        deferred: None,
+    })
+}
+
+/// Gives all packets back, and what was put off as deferred.
+fn finish(heap: &Heap, seat: &mut HeapSeat, packets: Packets)
+    requires seat { Sits heap.now seat.old × Traces (view_of seat.old) }
+    requires packets { Carries (packets_of packets) (view_of seat.old) × HasRoom heap.now.shape packets.deferred }
+    requires work { IsFalse (work_in_hand heap.now.shape.fields (view_of seat.old).state) }
+    ensures seat { Sits heap.now seat.new × Traces (view_of seat.new) }
+    ensures later { Later (view_of seat.old) (view_of seat.new) }
+    ensures held { (view_of seat.new).state.held ≡ no_packets }
+    ensures work { IsFalse (work_in_hand heap.now.shape.fields (view_of seat.new).state) }
+    ensures part { Part heap.now.shape (packet_of packets.deferred) None 0 0 0 (view_of seat.old) (events (view_of seat.old) (view_of seat.new)) }
+{
+    let Packets {
+        input,
+        output,
+        deferred,
+    } = packets;
+    give_some(heap, seat, deferred, true);
+    give_some(heap, seat, output, false);
+    give(heap, seat, input, false);
+}
+
+/// Traces at most `quota` objects: each is popped, and what it refers to is marked and pushed. The seat may trace, and holds no packet.
+///
+/// `done` counts the objects that were popped, `deferred` those of them that weren't published yet and went into a deferred packet, and `overflowed` the cells that
+/// found no packet with room, so that their cards are dirty. Quota is answered exactly where `done` is the quota. NoWork comes only where no packet with a cell was
+/// found while nothing was left in hand. NoPacket never comes: where only one packet is to be had, the seat pops out of it and pushes into it.
+/// 16 times the quota fits a `u32`, since each object has at most 16 fields.
+pub fn trace(heap: &Heap, seat: &mut HeapSeat, quota: u32) -> Traced
+    requires seat { Sits heap.now seat.old × Traces (view_of seat.old) }
+    requires idle { IsIdle (view_of seat.old) }
+    requires quota { 16 * quota < 4294967296 }
+    ensures seat { Sits heap.now seat.new × Traces (view_of seat.new) }
+    ensures later { Later (view_of seat.old) (view_of seat.new) }
+    ensures idle { IsIdle (view_of seat.new) }
+    ensures state { KeepsRecord (view_of seat.old) (view_of seat.new) }
+    ensures stopped { ((result.stopped ≡ Stopped.Quota) × (result.done ≡ quota)) ⊎ ((result.stopped ≡ Stopped.NoWork) × (result.done < quota) × FoundNoWork (view_of seat.old) (view_of seat.new)) }
+    ensures tally { Tally result.done result.deferred result.overflowed (view_of seat.old) (view_of seat.new) }
+    ensures deferral { PutsOff (view_of seat.old) (view_of seat.new) }
+    ensures ends { IsTrue (all_end_well (view_of seat.old) (events (view_of seat.old) (view_of seat.new))) }
+{
+    if quota == 0 {
+        return Traced::started();
+    }
+    let Some(mut packets) = begin(heap, seat) else {
+        return Traced::without_work();
+    };
+    let traced = trace_all(heap, seat, &mut packets, quota);
+    finish(heap, seat, packets);
+    traced
+}
