@@ -1,0 +1,170 @@
+//! A dump that was read, and its records: parts of the bytes, and nothing copied.
+ghost use Rattle.std.specs.Prelude.{◌≡◌, ◌<◌, ◌≤◌, ◌+◌, ◌*◌, ◌++◌, ℕ, List, [], length, slice_index, IfOk, IsOkAnd, MatchOption, SomeIff};
+ghost use Rattle.std.specs.Result.{result_err};
+ghost use Rattle.heap_dump.specs.Final.{Heap, IsLegal, object};
+ghost use Rattle.heap_dump.specs.Spelling.{dump};
+ghost use Rattle.heap_dump.specs.Reading.{heap_of, heap_fault, fault_of, object_in, record_bytes, numbers};
+
+use crate::check::check_heap;
+use crate::fault::DumpError;
+use crate::frame::{Frame, frame_of};
+use std::marker::Model;
+
+/// A dump: its bytes, which tell a legal heap.
+#[derive(Drop)]
+pub struct Dump<'a> {
+    frame: Frame<'a>,
+}
+
+impl<'a> Model for Dump<'a> {
+    ghost use Rattle.std.specs.Prelude.{◌≡◌, List, ℕ, None};
+    ghost use Rattle.heap_dump.specs.Reading.{heap_of, heap_fault};
+
+    ghost Value = { List ℕ };
+
+    ghost view = { λ d. d.frame.bytes.now };
+
+    ghost invariant = { λ d. heap_fault (heap_of d.frame.bytes.now) ≡ None };
+}
+
+/// A record of a dump: the part of its bytes that tells one object.
+#[derive(Drop)]
+pub struct Record<'a> {
+    bytes: &'a [u8],
+    fields: u32,
+}
+
+impl<'a> Model for Record<'a> {
+    ghost use Rattle.std.specs.Prelude.{◌≡◌, ◌≤◌, ◌+◌, ◌*◌, List, ℕ, length};
+
+    ghost Value = { List ℕ };
+
+    ghost view = { λ r. r.bytes.now };
+
+    ghost invariant = { λ r. (length r.bytes.now ≡ 12 + 4 * r.fields) × (r.fields ≤ 16) };
+}
+
+/// The dump that the bytes are, or their first fault. Nothing is copied, and no memory is taken.
+pub fn read_dump<'a>(bytes: &'a [u8]) -> Result<Dump<'a>, DumpError>
+    // An error is the first fault of the bytes, and comes exactly where they have one.
+    ensures exact { result_err result ≡ fault_of bytes.now }
+    // The dump is these bytes, and they are the one dump of a legal heap.
+    ensures found { IfOk result (λ d. (d ≡ bytes.now) × IsLegal (heap_of d) × (d ≡ dump (heap_of d))) }
+    // The dump of a legal heap is read, and tells that heap.
+    ensures only { (h : Heap) → IsLegal h → bytes.now ≡ dump h → IsOkAnd result (λ d. heap_of d ≡ h) }
+{
+    match frame_of(bytes) {
+        Ok(frame) => match check_heap(&frame) {
+            Ok(()) => Ok(Dump { frame }),
+            Err(e) => Err(e),
+        },
+        Err(e) => Err(e),
+    }
+}
+
+impl<'a> Dump<'a> {
+    /// How many fields each object has.
+    pub fn fields(&self) -> u32
+        ensures { result ≡ (heap_of self.now).fields }
+    {
+        self.frame.fields
+    }
+
+    /// How many sections there are.
+    pub fn sections(&self) -> u32
+        ensures { result ≡ (heap_of self.now).sections }
+    {
+        self.frame.sections
+    }
+
+    /// How many records there are.
+    pub fn records(&self) -> u32
+        ensures { result ≡ length (heap_of self.now).records }
+    {
+        self.frame.records
+    }
+
+    /// Variable v of a section: 0 for nil, k + 1 for record k. None exactly where there is no such
+    /// section or v is not below 32.
+    pub fn root(&self, section: u32, v: u32) -> Option<u32>
+        ensures { SomeIff result ((section < (heap_of self.now).sections) × (v < 32))
+            (slice_index (heap_of self.now).roots (32 * section + v)) }
+    {
+        if section < self.frame.sections && v < 32 {
+            Some(self.frame.root(32 * section + v))
+        } else {
+            None
+        }
+    }
+
+    /// Record k, a part of the bytes that were read. None exactly where there is no such record.
+    pub fn nth(&self, k: u32) -> Option<Record<'a>>
+        ensures { MatchOption result (length (heap_of self.now).records ≤ k) (λ r. (k < length (heap_of self.now).records)
+            × (r ≡ record_bytes (heap_of self.now).fields (heap_of self.now).sections self.now k)
+            × (object_in r ≡ object (heap_of self.now) k)) }
+    {
+        if k < self.frame.records {
+            Some(Record {
+                bytes: self.frame.record_bytes(k),
+                fields: self.frame.fields,
+            })
+        } else {
+            None
+        }
+    }
+}
+
+/// Number i of the bytes.
+fn number_in(bytes: &[u8], i: usize) -> u32
+    requires { 4 * i + 4 ≤ length bytes.now }
+    ensures { result ≡ slice_index (numbers bytes.now) i }
+{
+    let at = 4 * i;
+    u32::from_be_bytes([bytes[at], bytes[at + 1], bytes[at + 2], bytes[at + 3]])
+}
+
+impl<'a> Record<'a> {
+    /// The object's section.
+    pub fn section(&self) -> u32
+        ensures { result ≡ (object_in self.now).section }
+    {
+        number_in(self.bytes, 0)
+    }
+
+    /// The object's number within its section.
+    pub fn number(&self) -> u32
+        ensures { result ≡ (object_in self.now).number }
+    {
+        number_in(self.bytes, 1)
+    }
+
+    /// The object's value.
+    pub fn value(&self) -> u32
+        ensures { result ≡ (object_in self.now).value }
+    {
+        number_in(self.bytes, 2)
+    }
+
+    /// Field i: 0 for nil, k + 1 for record k. None exactly where the object has no such field.
+    pub fn reference(&self, i: u32) -> Option<u32>
+        ensures { SomeIff result (i < length (object_in self.now).refs) (slice_index (object_in self.now).refs i) }
+    {
+        if i < self.fields {
+            Some(number_in(self.bytes, 3 + i as usize))
+        } else {
+            None
+        }
+    }
+
+    /// The bytes of the record, a part of the bytes that were read.
+    pub fn bytes(&self) -> &'a [u8]
+        ensures { result.now ≡ self.now }
+    {
+        self.bytes
+    }
+}
+
+/// No dump begins another, and two legal heaps have two dumps.
+pub fn one_dump()
+    ensures { (g h : Heap) (rest : List ℕ) → IsLegal g → IsLegal h → dump g ++ rest ≡ dump h → (rest ≡ []) × (g ≡ h) }
+{}

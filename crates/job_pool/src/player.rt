@@ -1,0 +1,17 @@
+//! Who plays a job.
+ghost use Rattle.std.specs.Prelude.{ℕ, List};
+
+use crate::text::Text;
+use std::alloc::Global;
+use std::sync::Wait;
+use std::thread::Threads;
+
+/// Plays a script, and answers with a status and a text.
+pub trait Player {
+    /// Which status and text this player may answer for a script.
+    ghost fits: { Self → List ℕ → ℕ → List ℕ → Type 0 };
+
+    /// Plays one job: its status and its text. Each answer is one that fits.
+    fn play_job<R: Threads + Wait + Sync>(&self, rt: &R, alloc: Global, script: &[u8]) -> (u8, Text)
+        ensures { Self.fits self.now script.now result.0 result.1 };
+}
