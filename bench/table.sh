@@ -1,16 +1,21 @@
 #!/bin/sh
-# Times the steps of bench_table beside the same operations on bare atomic words, and prints the ratio of each.
+# Times the steps of bench_table and the operations of bench_operations beside the same steps on bare atomic words, and prints the ratio of each.
 # From the top of the repository: sh bench/table.sh [RUNS]. The least time of so many runs counts, 40 if no number is given.
-# What a run takes besides the steps, the making and closing of heaps, is timed alone and taken off.
+# What a run takes besides what is measured, as the making and closing of heaps, is timed alone and taken off.
 set -eu
 cd "$(dirname "$0")/.."
 runs=${1:-40}
-program=crates/bench_table/out/bench_table
-bare=${TMPDIR:-/tmp}/bench_atomics.$$
-trap 'rm -f "$bare"' EXIT
+folder=${TMPDIR:-/tmp}/bench.$$
+mkdir "$folder"
+trap 'rm -rf "$folder"' EXIT
 
-(cd crates/bench_table && rt run >/dev/null 2>&1)
-g++ -O2 -o "$bare" bench/atomics.cpp
+# A program of the repository, and the same loops in C++.
+build() {
+    (cd "crates/$1" && rt run >/dev/null 2>&1)
+    g++ -O2 -o "$folder/$1" "$2"
+    program=crates/$1/out/$1
+    bare=$folder/$1
+}
 
 # The nanoseconds of one run: a program, what it does, and how many rounds.
 once() {
@@ -41,8 +46,16 @@ line() {
 }
 
 printf '%-28s %8s %8s %8s\n' 'operation' 'table' 'bare' 'ratio'
+build bench_table bench/atomics.cpp
 line 'load of the count' load 60000000 load 0 1
 line 'load of a card' look 30000000 load 0 1
 line 'store of a card' store 5000000 load 0 1
 line 'fetch of the count' fetch 3000000 load 0 2
-line 'cell made' make 100 open 100 4096
+line 'cell made, typed steps' make 100 open 100 4096
+build bench_operations bench/operations.cpp
+line 'new cell' make 100 open 100 4096
+line 'store with its card' publish 2000000 publish 0 1
+line 'store without a card' hide 2000000 hide 0 1
+line 'object traced' trace 100 mesh 100 4096
+line 'clean card passed over' look 100000 look 0 256
+line 'block swept' sweep 10000 drain 10000 64

@@ -1,0 +1,6 @@
+use Rattle.std.proofs.Common.{◌*◌}
+use Rattle.bench_operations.specs.Standing.{Waiting}
+use Rattle.bench_operations.proofs.cells.fill_all.Given as goal
+
+abbrev pub invariant-loop-b : goal.invariant-loop-b
+invariant-loop-b l = Waiting l.heap (l.b * 64) l.seat
