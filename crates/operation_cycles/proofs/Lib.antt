@@ -1,0 +1,4 @@
+pub mod Turning
+pub mod Drains
+pub mod Ended
+pub mod Packets

@@ -1,0 +1,156 @@
+//! A stop in which a drain ends, and then every block is swept, or cleared of its marks.
+ghost use Rattle.std.specs.Prelude.{◌<◌};
+ghost use Rattle.std.specs.Bool.{OnTrue};
+ghost use Rattle.mark_core.specs.declared.kinds.Phase.TheVariants.{Clear, Idle, Sweep};
+ghost use Rattle.gc_table.specs.Running.{Alone};
+ghost use Rattle.gc_table.specs.Seats.{Sits, view_of};
+ghost use Rattle.gc_table.specs.Trials.{resting};
+ghost use Rattle.card_clean.specs.Drained.{IsBeforeSweep, IsDrained};
+ghost use Rattle.sweeper.specs.Sweepers.{Clears, Sweeps};
+ghost use Rattle.operation_cycles.specs.Seats.{Bare, New};
+
+use super::SMALL;
+use super::opening::{next_seat, open};
+use super::seasons::{next_turn, raises_own, stops_idle};
+use super::tracing::are_bare;
+use card_clean::{is_drained, see_to_roots};
+use gc_table::{Heap, HeapSeat};
+use mark_core::Phase;
+use std::sync::Wait;
+use sweeper::{Swept, clear_marks_next, clear_rest, end_clear, end_sweep, sweep_next, sweep_rest};
+
+/// Begins a drain, in which no block was handed out.
+fn drains(heap: &Heap, seat: &mut HeapSeat)
+    requires { Sits heap.now seat.old × Alone Idle (view_of seat.old) }
+    ensures { Sits heap.now seat.new × IsBeforeSweep (view_of seat.new) }
+{
+    heap.store_phase(seat, Phase::Drain);
+    heap.reset(seat, 1);
+}
+
+/// Whether the seat has nothing in its hands.
+fn has_nothing(seat: &HeapSeat) -> bool
+    ensures { OnTrue result (Bare (view_of seat.now).state) }
+{
+    let s = seat.state();
+    are_bare(s.held)
+        && (!s.reserved && !s.credit)
+        && (s.popped.is_none() && s.scan.is_none() && s.value.is_none())
+        && (s.fresh.is_none() && s.cleaning.is_none())
+}
+
+/// Whether the drain ends: all roots are seen to, every card is clean, and every packet is empty.
+fn drained(heap: &Heap, seat: &mut HeapSeat) -> bool
+    requires { Sits heap.now seat.old × IsBeforeSweep (view_of seat.old) }
+    ensures { OnTrue result (Sits heap.now seat.new × IsDrained (view_of seat.new)) }
+{
+    has_nothing(seat) && see_to_roots(heap, seat) && is_drained(heap, seat)
+}
+
+fn begins_sweep(heap: &Heap, seat: &mut HeapSeat)
+    requires { Sits heap.now seat.old × IsDrained (view_of seat.old) }
+    ensures { Sits heap.now seat.new × Alone Sweep (view_of seat.new) }
+{
+    heap.store_phase(seat, Phase::Sweep);
+}
+
+fn begins_clear(heap: &Heap, seat: &mut HeapSeat)
+    requires { Sits heap.now seat.old × IsDrained (view_of seat.old) }
+    ensures { Sits heap.now seat.new × Alone Clear (view_of seat.new) }
+{
+    heap.store_phase(seat, Phase::Clear);
+}
+
+/// The block, and how many of its cells were freed.
+fn told(swept: Option<Swept>) -> Option<(u32, u32)> {
+    match swept {
+        Some(swept) => Some((swept.block, swept.freed)),
+        None => None,
+    }
+}
+
+/// The next block of the sweep, and how many of its cells it freed.
+fn sweeps(heap: &Heap, seat: &mut HeapSeat) -> Option<(u32, u32)>
+    requires { Sits heap.now seat.old × Sweeps (view_of seat.old) × Alone Sweep (view_of seat.old) }
+    ensures { Sits heap.now seat.new × Sweeps (view_of seat.new) × Alone Sweep (view_of seat.new) }
+{
+    let swept = sweep_next(heap, seat);
+    told(swept)
+}
+
+/// What two calls sweep, and how many cells are freed of what they leave.
+fn sweeps_all(
+    heap: &Heap,
+    seat: &mut HeapSeat,
+) -> Option<(Option<(u32, u32)>, Option<(u32, u32)>, u32)>
+    requires { Sits heap.now seat.old × Alone Sweep (view_of seat.old) }
+{
+    if seat.state().block.is_some() {
+        return None;
+    }
+    let first = sweeps(heap, seat);
+    let second = sweeps(heap, seat);
+    let rest = sweep_rest(heap, seat);
+    end_sweep(heap, seat);
+    Some((first, second, rest))
+}
+
+/// The next block that is cleared of its marks.
+fn clears(heap: &Heap, seat: &mut HeapSeat) -> Option<u32>
+    requires { Sits heap.now seat.old × Clears (view_of seat.old) × Alone Clear (view_of seat.old) }
+    ensures { Sits heap.now seat.new × Clears (view_of seat.new) × Alone Clear (view_of seat.new) }
+{
+    clear_marks_next(heap, seat)
+}
+
+/// The blocks that two calls clear of their marks.
+fn clears_all(heap: &Heap, seat: &mut HeapSeat) -> Option<(Option<u32>, Option<u32>)>
+    requires { Sits heap.now seat.old × Alone Clear (view_of seat.old) }
+{
+    if seat.state().block.is_some() {
+        return None;
+    }
+    let first = clears(heap, seat);
+    let second = clears(heap, seat);
+    clear_rest(heap, seat);
+    end_clear(heap, seat);
+    Some((first, second))
+}
+
+/// A stop by seat 1, in which a drain ends.
+fn ends_drain<R: Wait>(rt: &R, heap: &Heap, zero: &mut HeapSeat, one: &mut HeapSeat) -> bool
+    requires { New heap.now resting 0 zero.old × New heap.now resting 1 one.old × (0 < heap.now.shape.sections) }
+    ensures { OnTrue result (Sits heap.now one.new × IsDrained (view_of one.new)) }
+{
+    if !next_turn(rt, heap, zero) || !raises_own(heap, one, 1) || !stops_idle(rt, heap, one, 1) {
+        return false;
+    }
+    drains(heap, one);
+    drained(heap, one)
+}
+
+#[test]
+fn each_block_is_swept_once(rt: HostRuntime) {
+    let Some((heap, mut seats)) = open(rt.alloc(), SMALL) else {
+        panic!(&rt; "memory")
+    };
+    let mut zero = next_seat(&heap, &mut seats, 0);
+    let mut one = next_seat(&heap, &mut seats, 1);
+    let ended = ends_drain(&rt, &heap, &mut zero, &mut one);
+    assert!(&rt; ended);
+    begins_sweep(&heap, &mut one);
+    assert!(&rt; sweeps_all(&heap, &mut one) == Some((Some((0, 0)), None, 0)));
+}
+
+#[test]
+fn each_block_is_cleared_once(rt: HostRuntime) {
+    let Some((heap, mut seats)) = open(rt.alloc(), SMALL) else {
+        panic!(&rt; "memory")
+    };
+    let mut zero = next_seat(&heap, &mut seats, 0);
+    let mut one = next_seat(&heap, &mut seats, 1);
+    let ended = ends_drain(&rt, &heap, &mut zero, &mut one);
+    assert!(&rt; ended);
+    begins_clear(&heap, &mut one);
+    assert!(&rt; clears_all(&heap, &mut one) == Some((Some(0), None)));
+}

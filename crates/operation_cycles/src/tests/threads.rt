@@ -1,0 +1,183 @@
+//! Cells go from one thread to another in packets.
+ghost use Rattle.std.specs.Prelude.{◌<◌};
+ghost use Rattle.gc_table.specs.Seats.{Sits, view_of};
+ghost use Rattle.gc_table.specs.Trials.{At, inside, resting};
+ghost use Rattle.packet_pools.specs.Tracing.{Traces};
+ghost use Rattle.std.specs.Bool.{OnTrue};
+ghost use Rattle.operation_cycles.specs.Seats.{Fills, Mutates};
+ghost use Rattle.tracer.specs.Hands.{IsIdle};
+
+use super::FOUR;
+use super::objects::{link, make_three, publish, take};
+use super::opening::{next_seat, open};
+use super::seasons::{begin, enters, sees_marking};
+use super::tracing::{recycles, scans, traces};
+use alloc_cache::{Cache, retire};
+use gc_table::{Heap, HeapSeat};
+use packet_pools::all_empty;
+use std::thread::{Threads, join_mut};
+use tracer::trace;
+
+/// A tracer's seat enters, and sees that marking is under way.
+fn joins(heap: &Heap, seat: &mut HeapSeat, k: u32) -> bool
+    requires { At heap.now resting k seat.old }
+    ensures { OnTrue result (At heap.now inside k seat.new) }
+{
+    enters(heap, seat, k) && sees_marking(heap, seat, k)
+}
+
+/// Traces in 200 turns of at most 4 objects each: how many objects that were.
+fn traces_on(heap: &Heap, seat: &mut HeapSeat) -> u32
+    requires { Sits heap.now seat.old × Traces (view_of seat.old) × IsIdle (view_of seat.old) }
+    ensures { Sits heap.now seat.new × Traces (view_of seat.new) × IsIdle (view_of seat.new) }
+{
+    let mut done = 0u32;
+    for _turn in 0..200 {
+        done = done.wrapping_add(trace(heap, seat, 4).done);
+    }
+    done
+}
+
+/// The same for a seat that has just begun.
+fn begins_tracing(heap: &Heap, seat: &mut HeapSeat, k: u32) -> u32
+    requires { At heap.now inside k seat.old }
+    ensures { Sits heap.now seat.new × Traces (view_of seat.new) × IsIdle (view_of seat.new) }
+{
+    traces_on(heap, seat)
+}
+
+/// Stores in a published object, 200 times each of two fields.
+fn stores_on(heap: &Heap, seat: &mut HeapSeat, cache: &Cache)
+    requires { Fills heap.now seat.old cache.now × (1 < heap.now.shape.fields) }
+    ensures { Fills heap.now seat.new cache.now }
+{
+    for _turn in 0..200 {
+        link(heap, seat, cache, 0, 0, 0);
+        link(heap, seat, cache, 0, 1, 1);
+    }
+}
+
+/// Two seats trace, each in a thread of its own.
+fn both_trace<R: Threads + Sync>(rt: &R, heap: &Heap, zero: &mut HeapSeat, two: &mut HeapSeat)
+    requires { At heap.now inside 0 zero.old × At heap.now inside 2 two.old }
+    ensures { Sits heap.now zero.new × Sits heap.now two.new }
+{
+    join_mut(
+        rt,
+        &mut || begins_tracing(heap, zero, 0),
+        &mut || begins_tracing(heap, two, 2),
+    );
+}
+
+/// One thread stores while two others trace.
+fn three_threads<R: Threads + Sync>(
+    rt: &R,
+    heap: &Heap,
+    zero: &mut HeapSeat,
+    one: &mut HeapSeat,
+    two: &mut HeapSeat,
+    cache: &Cache,
+)
+    requires tracers { At heap.now inside 0 zero.old × At heap.now inside 2 two.old }
+    requires mutator { Fills heap.now one.old cache.now × (1 < heap.now.shape.fields) }
+    ensures tracers { Sits heap.now zero.new × Sits heap.now two.new }
+    ensures mutator { Fills heap.now one.new cache.now }
+{
+    join_mut(
+        rt,
+        &mut ||
+            requires { At heap.now inside 0 zero.now × At heap.now inside 2 two.now }
+        { both_trace(rt, heap, zero, two) },
+        &mut || stores_on(heap, one, cache),
+    );
+}
+
+/// What was left is traced by one seat.
+fn settles(heap: &Heap, seat: &mut HeapSeat, cache: &Cache)
+    requires { Fills heap.now seat.old cache.now }
+    ensures { Fills heap.now seat.new cache.now }
+{
+    scans(heap, seat, cache);
+    recycles(heap, seat, cache);
+    traces(heap, seat, cache, 100);
+}
+
+/// Whether each seat finds all packets empty, once the threads are joined and what they left was traced.
+fn ends_empty<R: Threads + Sync>(
+    rt: &R,
+    heap: &Heap,
+    zero: &mut HeapSeat,
+    one: &mut HeapSeat,
+    two: &mut HeapSeat,
+) -> Option<[bool; 3]>
+    requires tracers { At heap.now inside 0 zero.old × At heap.now inside 2 two.old }
+    requires mutator { Mutates heap.now one.old }
+{
+    if heap.shape().fields < 2 {
+        return None;
+    }
+    let mut cache = take(heap, one)?;
+    make_three(heap, one, &mut cache);
+    publish(heap, one, &mut cache);
+    scans(heap, one, &cache);
+    three_threads(rt, heap, zero, one, two, &cache);
+    settles(heap, one, &cache);
+    let answers = [
+        all_empty(heap, zero),
+        all_empty(heap, one),
+        all_empty(heap, two),
+    ];
+    retire(heap, one, cache);
+    Some(answers)
+}
+
+/// A root is scanned in one thread, and what it leads to is traced in another: how many objects were.
+fn hands_over<R: Threads + Sync>(
+    rt: &R,
+    heap: &Heap,
+    one: &mut HeapSeat,
+    two: &mut HeapSeat,
+) -> Option<u32>
+    requires { Mutates heap.now one.old × At heap.now inside 2 two.old }
+{
+    if heap.shape().fields < 2 {
+        return None;
+    }
+    let mut cache = take(heap, one)?;
+    make_three(heap, one, &mut cache);
+    publish(heap, one, &mut cache);
+    let (_scanned, done) = join_mut(rt, &mut || scans(heap, one, &cache), &mut || 0);
+    let (_none, traced) = join_mut(rt, &mut || done, &mut || begins_tracing(heap, two, 2));
+    retire(heap, one, cache);
+    Some(traced)
+}
+
+#[test]
+fn cells_go_from_thread_to_thread(rt: HostRuntime) {
+    let Some((heap, mut seats)) = open(rt.alloc(), FOUR) else {
+        panic!(&rt; "memory")
+    };
+    let mut zero = next_seat(&heap, &mut seats, 0);
+    let mut one = next_seat(&heap, &mut seats, 1);
+    let mut two = next_seat(&heap, &mut seats, 2);
+    let begun = begin(&rt, &heap, &mut zero, &mut one);
+    assert!(&rt; begun);
+    let joined = joins(&heap, &mut two, 2);
+    assert!(&rt; joined);
+    assert!(&rt; hands_over(&rt, &heap, &mut one, &mut two) == Some(3));
+}
+
+#[test]
+fn all_packets_are_empty_in_the_end(rt: HostRuntime) {
+    let Some((heap, mut seats)) = open(rt.alloc(), FOUR) else {
+        panic!(&rt; "memory")
+    };
+    let mut zero = next_seat(&heap, &mut seats, 0);
+    let mut one = next_seat(&heap, &mut seats, 1);
+    let mut two = next_seat(&heap, &mut seats, 2);
+    let begun = begin(&rt, &heap, &mut zero, &mut one);
+    assert!(&rt; begun);
+    let joined = joins(&heap, &mut two, 2);
+    assert!(&rt; joined);
+    assert!(&rt; ends_empty(&rt, &heap, &mut zero, &mut one, &mut two) == Some([true, true, true]));
+}
