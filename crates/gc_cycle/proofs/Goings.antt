@@ -1,0 +1,411 @@
+-- A mutator goes out of the world and in again.
+use Rattle.std.proofs.Common.{ℕ, ◌≡◌, ◌+◌, zero-add, List, [], ◌∷◌, ◌++◌, refl, sym, ap, ◌∙◌, subst, Bool, true, false, not, ◌&&◌, Some, None, Option, is_some, ⊎_elim, ◌⊎◌, inl, inr, eqb-true}
+use Rattle.std.specs.Prelude.{◌==◌, if◌then◌else◌, is_none}
+use Rattle.std.proofs.lemmas.Bool.{and_from, and_parts, false≢true, not-true, or_left, or_parts, or_right, true≢false}
+use Rattle.packet_pools.specs.Counts.{count_of}
+use Rattle.packet_pools.proofs.Counting.{count-join}
+use Rattle.mark_core.specs.Bits.{has_flag}
+use Rattle.mark_core.specs.Effects.{seat_after}
+use Rattle.mark_core.specs.Seats.{empty_handed, is_bare, work_in_hand}
+use Rattle.mark_core.specs.Views.{standing_of}
+use Rattle.mark_core.specs.WorldRules.{HelpsOnly}
+use Rattle.mark_core.specs.WorldSteps.{has_nothing}
+use Rattle.mark_core.specs.declared.kinds.Phase.{Phase}
+use Rattle.mark_core.specs.declared.kinds.Shape.{Shape}
+use Rattle.mark_core.specs.declared.kinds.Step.{Step}
+use Rattle.mark_core.specs.declared.kinds.Step.TheVariants.{ClaimBlock, EnterStep, JoinHelpStep, LeaveHelpStep, LeaveStep, NextSeason, Observe, RaiseStep, ReadCat, ReadOwn, ReadPhase, StoreField, StoreNew, StorePhase, StorePosition, StoreRoot, StoreValue}
+use Rattle.mark_core.specs.declared.seat.SeatState.{SeatState}
+use Rattle.gc_table.specs.Seats.{Stored, Took}
+use Rattle.gc_table.specs.Taking.{after, Finds, May}
+use Rattle.gc_table.specs.declared.view.Entry.{Entry}
+use Rattle.gc_table.specs.declared.view.View.{View}
+use Rattle.packet_pools.specs.Seeking.{some_event}
+use Rattle.packet_pools.proofs.Searches.{some-left, some-right}
+use Rattle.gc_table.specs.Log.{all_steps, event, events, Only}
+use Rattle.gc_table.specs.Running.{changes_section, IsSeen, Ran}
+use Rattle.gc_table.proofs.Log.{events-after, only-after, only-more, only-none}
+use Rattle.gc_table.proofs.Running.{own-kept, ran-events, ran-identity, ran-join, ran-only, ran-refl, ran-shape, ran-stored, ran-took, run-keeps, state-kept}
+use Rattle.stop_world.proofs.Standing.{active-counted, strong, unless}
+use Rattle.mark_core.proofs.NotesBeside.{Sits, sits}
+use Rattle.std.proofs.lemmas.List.{get_or-map, length-map}
+use Rattle.gc_table.specs.Rule.{Agrees, IsState}
+use Rattle.gc_table.specs.Whole.{Whole}
+use Rattle.stop_world.specs.Gates.{Declines, Enters, IsDone, IsFreeToLeave, Joins, TurnsBack}
+use Rattle.gc_cycle.specs.Cycles.{never_fills}
+use Rattle.gc_cycle.specs.Events.{last_is, never, Sort}
+use Rattle.stop_world.specs.Waiting.{is_mutators, watches}
+use Rattle.stop_world.specs.declared.Raised.{Raised}
+use Rattle.stop_world.specs.declared.Raised.TheVariants.{Theirs, Yours}
+use Rattle.gc_cycle.specs.Mutating.{GoesOut, keeps_section, stays_calm, tries_stopping, TriesToStop}
+use Rattle.gc_cycle.specs.Polling.{offered_help, poll_found_stop, saw_resumed}
+use Rattle.gc_cycle.specs.Sorts.{claims, joins, moves_to, polls, raises_flag, sees_no_flag}
+use Rattle.mark_core.specs.declared.kinds.Phase.TheVariants.{Clear, Drain, Full, Idle, Marking, Sweep}
+use Rattle.gc_cycle.specs.Standing.{IsOut, KeepsSeat, KeepsSection, Mutates}
+use Rattle.gc_cycle.proofs.Sequences.{none-of-steps}
+use Rattle.gc_cycle.proofs.Traced.{nothing-rest, rest-nothing}
+
+-- what the steps keep that don't change the section
+
+env-kept : (sh : Shape) (s : SeatState) (step : Step) (old : ℕ) → keeps_section step ≡ true → (seat_after sh s step old).env ≡ s.env
+env-kept sh s (StoreRoot v r) old e = absurd (false≢true e)
+env-kept sh s step old e = refl
+
+made-kept : (sh : Shape) (s : SeatState) (step : Step) (old : ℕ) → keeps_section step ≡ true → (seat_after sh s step old).made ≡ s.made
+made-kept sh s (StoreNew c part word) old e = absurd (false≢true e)
+made-kept sh s step old e = refl
+
+section-step : (v x : View) (step : Step) (n : ℕ) → keeps_section step ≡ true → KeepsSection v x → KeepsSection v (after step n x)
+section-step v x (ReadOwn c i) n e k = absurd (false≢true e)
+section-step v x (ReadCat u) n e k = absurd (false≢true e)
+section-step v x (StoreField u i w) n e k = absurd (false≢true e)
+section-step v x (StoreValue u m) n e k = absurd (false≢true e)
+section-step v x (StoreRoot u r) n e k = absurd (false≢true e)
+section-step v x (StoreNew c part word) n e k = absurd (false≢true e)
+section-step v x NextSeason n e k = absurd (false≢true e)
+section-step v x step n e k = record { meaning = k.meaning; places = k.places; turns = k.turns; seasons = k.seasons }
+
+pub keeps-section : (v w : View) → Ran v w → Only keeps_section v w → KeepsSection v w
+keeps-section v w r o = run-keeps keeps_section (λ (x : View). KeepsSection v x) (λ x step n p s k. section-step v x step n p k) v w r o (record { meaning = refl; places = refl; turns = refl; seasons = refl })
+
+pub keeps-seat : (v w : View) → Ran v w → Only keeps_section v w → KeepsSeat v w
+keeps-seat v w r o =
+    let who = ran-identity v w r in
+    record {
+      number = ap (λ p. p.0) who;
+      section = ap (λ p. p.1) who;
+      env = state-kept (λ (s : SeatState). s.env) keeps_section env-kept v w r o;
+      made = state-kept (λ (s : SeatState). s.made) keeps_section made-kept v w r o;
+      spent = ap (λ p. p.2) who;
+    }
+
+pub calm-keeps : (step : Step) → stays_calm step ≡ true → keeps_section step ≡ true
+calm-keeps (ClaimBlock b) e = absurd (false≢true e)
+calm-keeps RaiseStep e = absurd (false≢true e)
+calm-keeps (StorePhase to) e = absurd (false≢true e)
+calm-keeps step e = e
+
+pub calm-tries : (step : Step) → stays_calm step ≡ true → tries_stopping step ≡ true
+calm-tries RaiseStep e = refl
+calm-tries step e = e
+
+pub tries-keep : (step : Step) → tries_stopping step ≡ true → keeps_section step ≡ true
+tries-keep RaiseStep e = refl
+tries-keep (ClaimBlock b) e = absurd (false≢true e)
+tries-keep (StorePhase to) e = absurd (false≢true e)
+tries-keep step e = e
+
+no-full : (step : Step) (n : ℕ) → tries_stopping step ≡ true → moves_to Full step n ≡ false
+no-full (StorePhase to) n e = absurd (false≢true e)
+no-full step n e = refl
+
+no-claim : (step : Step) (n : ℕ) → tries_stopping step ≡ true → claims step n ≡ false
+no-claim (ClaimBlock b) n e = absurd (false≢true e)
+no-claim step n e = refl
+
+no-raise : (step : Step) (n : ℕ) → stays_calm step ≡ true → raises_flag step n ≡ false
+no-raise RaiseStep n e = absurd (false≢true e)
+no-raise step n e = refl
+
+pub tries-never-fill : (es : List Entry) → all_steps tries_stopping es ≡ true → never_fills es ≡ true
+tries-never-fill es o = ap not (none-of-steps tries_stopping (moves_to Full) no-full es o)
+
+pub tries-never-claim : (es : List Entry) → all_steps tries_stopping es ≡ true → never claims es ≡ true
+tries-never-claim es o = ap not (none-of-steps tries_stopping claims no-claim es o)
+
+pub goes-out : (v w : View) → Ran v w → Only stays_calm v w → GoesOut v w
+goes-out v w r o =
+    let keeps = only-more stays_calm keeps_section calm-keeps v w o in
+    let tries = only-more stays_calm tries_stopping calm-tries v w o in
+    record {
+      ran = r;
+      only = o;
+      seat = keeps-seat v w r keeps;
+      section = keeps-section v w r keeps;
+      not_full = tries-never-fill (events v w) tries;
+      calm = ap not (none-of-steps stays_calm raises_flag no-raise (events v w) o);
+      unclaimed = tries-never-claim (events v w) tries;
+    }
+
+pub out-none : (v : View) → GoesOut v v
+out-none v = goes-out v v (ran-refl v) (only-none stays_calm v)
+
+pub out-join : (u v w : View) → GoesOut u v → GoesOut v w → GoesOut u w
+out-join u v w a b = goes-out u w (ran-join u v w a.ran b.ran) (ran-only stays_calm u v w a.ran b.ran a.only b.only)
+
+-- the parts of being at rest
+
+nothing-work : (sh : Shape) (s : SeatState) → has_nothing sh s ≡ true → (empty_handed s ≡ true) × (work_in_hand sh.fields s ≡ false) × (is_none s.owes ≡ true) × (is_none s.cache ≡ true) × (is_none s.block ≡ true) × ((s.got == 0) ≡ true)
+nothing-work sh s e =
+    let p5 = and_parts _ (s.got == 0) e in
+    let p4 = and_parts (empty_handed s && not (work_in_hand sh.fields s) && is_none s.owes && is_none s.cache) (is_none s.block) p5.0 in
+    let p3 = and_parts (empty_handed s && not (work_in_hand sh.fields s) && is_none s.owes) (is_none s.cache) p4.0 in
+    let p2 = and_parts (empty_handed s && not (work_in_hand sh.fields s)) (is_none s.owes) p3.0 in
+    let p1 = and_parts (empty_handed s) (not (work_in_hand sh.fields s)) p2.0 in
+    (p1.0, not-true _ p1.1, p2.1, p3.1, p4.1, p5.1)
+
+pub none-of : {X : Type 0} (o : Option X) → is_none o ≡ true → o ≡ None
+none-of None e = refl
+none-of (Some x) e = absurd (false≢true e)
+
+pub no-cache : (sh : Shape) (s : SeatState) → has_nothing sh s ≡ true → s.cache ≡ None
+no-cache sh s e = none-of s.cache (nothing-work sh s e).3
+
+pub is-done : (v : View) → has_nothing v.shape v.state ≡ true → IsDone v
+is-done v e = let p = nothing-work v.shape v.state e in record { handed = p.0; idle = p.1; block = none-of v.state.block p.4 }
+
+pub mutator-nothing : (v : View) → Mutates v → v.state.cache ≡ None → has_nothing v.shape v.state ≡ true
+mutator-nothing v m n = rest-nothing v.shape v.state m.rest (ap (λ o. is_none o) n)
+
+pub free-to-leave : (v : View) → has_nothing v.shape v.state ≡ true → IsFreeToLeave v
+free-to-leave v e =
+    let p = nothing-work v.shape v.state e in
+    record { handed = p.0; idle = p.1; owes = none-of v.state.owes p.2; cache = none-of v.state.cache p.3; got = eqb-true v.state.got 0 p.5 }
+
+-- leaving
+
+pub may-position : (v : View) (done : ℕ) → is_some v.state.section ≡ true → v.state.active ≡ true → May (StorePosition done) v
+may-position v done s a x i k g = (s, (or_left v.state.active v.state.knows a, tt))
+
+bare-from : (a b d : Bool) → a ≡ false → b ≡ false → d ≡ false → (not a && not b && not d) ≡ true
+bare-from a b d e f g = and_from _ _ (and_from _ _ (ap not e) (ap not f)) (ap not g)
+
+-- a mutator that has stored its position and left is out
+pub left-out : (u v w : View) (done : ℕ) → Mutates u → u.state.cache ≡ None → Stored (StorePosition done) u v → Took LeaveStep v w → IsOut w × GoesOut u w × (w.own.position ≡ done)
+left-out u v w done m none s t =
+    let first : Ran u v = ran-stored u v (StorePosition done) refl s in
+    let second : Ran v w = ran-took v w LeaveStep refl t in
+    let state : v.state ≡ u.state = ap (λ (x : View). x.state) s in
+    let shape : v.shape ≡ u.shape = ap (λ (x : View). x.shape) s in
+    let nothing : has_nothing v.shape v.state ≡ true = ap (λ (x : View). has_nothing x.shape x.state) s ∙ mutator-nothing u m none in
+    let f = t.1.1 in
+    let active : v.state.active ≡ true = ap (λ (x : SeatState). x.active) state ∙ m.active in
+    let counted = active-counted f.state f.index v f.whole f.agrees active in
+    let rules = strong f.state f.index v f.whole f.agrees in
+    let unraised : v.state.raised ≡ false = unless v.state.raised (not v.state.counted) (λ e. ap not (rules.raised_not_counted e)) (ap not counted) in
+    let unhelping : v.state.helping ≡ false = ap (λ (x : SeatState). x.helping) state ∙ m.unhelping in
+    let out : IsOut w =
+    subst IsOut (sym t.1.0) (record { bare = bare-from false v.state.raised v.state.helping refl unraised unhelping; rest = nothing }) in
+    let goes : GoesOut u w =
+    goes-out u w (ran-join u v w first second)
+    (ran-only stays_calm u v w first second (only-after stays_calm u v (StorePosition done) done refl s) (only-after stays_calm v w LeaveStep t.0 refl t.1.0)) in
+    (out, goes, ap (λ (x : View). x.own.position) t.1.0 ∙ ap (λ (x : View). x.own.position) s)
+
+-- entering, and turning back
+
+pub bare-parts : (s : SeatState) → is_bare s ≡ true → (s.counted ≡ false) × (s.raised ≡ false) × (s.helping ≡ false)
+bare-parts s e =
+    let a = and_parts (not s.counted && not s.raised) (not s.helping) e in
+    let b = and_parts (not s.counted) (not s.raised) a.0 in
+    (not-true _ b.0, not-true _ b.1, not-true _ a.1)
+
+by-events : (P : Step → Bool) (v w : View) (es : List Entry) → events v w ≡ es → all_steps P es ≡ true → Only P v w
+by-events P v w es e h = ap (all_steps P) e ∙ h
+
+-- a step at a gate
+abbrev pub at_gate : Step → Bool
+at_gate EnterStep = true
+at_gate LeaveStep = true
+at_gate JoinHelpStep = true
+at_gate LeaveHelpStep = true
+at_gate ReadPhase = true
+at_gate Observe = true
+at_gate step = false
+
+gate-own : (v w : View) (es : List Entry) → Ran v w → events v w ≡ es → all_steps at_gate es ≡ true → w.own ≡ v.own
+gate-own v w es r e h = own-kept at_gate section v w r (by-events at_gate v w es e h)
+  where
+    section : (step : Step) → at_gate step ≡ true → changes_section step ≡ false
+    section EnterStep p = refl
+    section LeaveStep p = refl
+    section JoinHelpStep p = refl
+    section LeaveHelpStep p = refl
+    section ReadPhase p = refl
+    section Observe p = refl
+    section step p = absurd (false≢true p)
+
+pub enters-in : (v w : View) → IsOut v → is_some v.state.section ≡ true → Ran v w → Enters v w → Mutates w × GoesOut v w × (w.own ≡ v.own) × (w.state.cache ≡ None)
+enters-in v w o s r e =
+    let shape = ran-shape v w r in
+    let nothing : has_nothing w.shape w.state ≡ true = ap (λ (sh : Shape). has_nothing sh w.state) shape ∙ (ap (λ (x : SeatState). has_nothing v.shape x) e.state ∙ o.rest) in (
+      record {
+        active = ap (λ (x : SeatState). x.active) e.state;
+        unhelping = ap (λ (x : SeatState). x.helping) e.state ∙ (bare-parts v.state o.bare).2;
+        section = ap (λ (x : SeatState). is_some x.section) e.state ∙ s;
+        rest = nothing-rest w.shape w.state nothing;
+      },
+      goes-out v w r (by-events stays_calm v w _ e.events refl),
+      gate-own v w _ r e.events refl,
+      no-cache w.shape w.state nothing,
+    )
+
+pub turns-out : (v w : View) → IsOut v → Ran v w → TurnsBack v w → IsOut w × GoesOut v w × (w.own ≡ v.own)
+turns-out v w o r e =
+    let shape = ran-shape v w r in (
+      record { bare = ap (λ (x : SeatState). is_bare x) e.state ∙ o.bare; rest = ap (λ (sh : Shape). has_nothing sh w.state) shape ∙ (ap (λ (x : SeatState). has_nothing v.shape x) e.state ∙ o.rest) },
+      goes-out v w r (by-events stays_calm v w _ e.events refl),
+      gate-own v w _ r e.events refl,
+    )
+
+-- joining the helpers
+
+pub declines-out : (v w : View) → IsOut v → Ran v w → Declines v w → IsOut w × GoesOut v w × (w.own ≡ v.own) × (some_event joins (events v w) ≡ true)
+declines-out v w o r e =
+    let shape = ran-shape v w r in (
+      record { bare = ap (λ (x : SeatState). is_bare x) e.state ∙ o.bare; rest = ap (λ (sh : Shape). has_nothing sh w.state) shape ∙ (ap (λ (x : SeatState). has_nothing v.shape x) e.state ∙ o.rest) },
+      goes-out v w r (by-events stays_calm v w _ e.events refl),
+      gate-own v w _ r e.events refl,
+      ap (some_event joins) e.events,
+    )
+
+pub joined-nothing : (v w : View) → IsOut v → Ran v w → Joins v w → has_nothing w.shape w.state ≡ true
+joined-nothing v w o r e = ap (λ (sh : Shape). has_nothing sh w.state) (ran-shape v w r) ∙ (ap (λ (x : SeatState). has_nothing v.shape x) e.state ∙ o.rest)
+
+pub joined-admitted : (v w : View) → Joins v w → w.state.admitted ≡ true
+joined-admitted v w e = ap (λ (x : SeatState). x.admitted) e.state
+
+pub joins-out : (v w : View) → Ran v w → Joins v w → GoesOut v w × (w.own ≡ v.own) × (some_event joins (events v w) ≡ true)
+joins-out v w r e = (goes-out v w r (by-events stays_calm v w _ e.events refl), gate-own v w _ r e.events refl, ap (some_event joins) e.events)
+
+-- a helper leaves
+pub leaves-help : (v w : View) → v.state.admitted ≡ true → has_nothing v.shape v.state ≡ true → Took LeaveHelpStep v w → IsOut w × GoesOut v w × (w.own ≡ v.own)
+leaves-help v w a n t =
+    let f = t.1.1 in
+    let outside : HelpsOnly (standing_of v.state) = helper f.state f.index v f.whole f.agrees in
+    let only = outside a in (
+      subst IsOut (sym t.1.0) (record { bare = bare-from v.state.counted v.state.raised false only.1 only.2 refl; rest = n }),
+      goes-out v w (ran-took v w LeaveHelpStep refl t) (only-after stays_calm v w LeaveHelpStep t.0 refl t.1.0),
+      ap (λ (x : View). x.own) t.1.0,
+    )
+  where
+    helper : (x : Whole) (i : ℕ) (u : View) → IsState x → Agrees x i u → HelpsOnly (standing_of u.state)
+    helper x i u k g =
+        let s : Sits x.core i u.state = sits x.core i u.state g.seat in
+        subst HelpsOnly (get_or-map standing_of x.core.seats i u.state (standing_of u.state) s.within ∙ ap standing_of s.is)
+        (k.core.sound.world.admitted_helps i (standing_of u.state) (rw length-map s.within))
+
+-- polling
+
+pub polled-out : (v w : View) (n : ℕ) → Ran v w → w ≡ after Observe n v → GoesOut v w × (w.own ≡ v.own)
+polled-out v w n r e = (goes-out v w r (only-after stays_calm v w Observe n refl e), ap (λ (x : View). x.own) e)
+
+last-here : (f g : Sort) (xs : List Entry) (e : Entry) → f e.step e.found ≡ true → last_is f g (xs ++ e ∷ []) ≡ g e.step e.found
+last-here f g [] e h = ap (λ (b : Bool). b && g e.step e.found) h
+last-here f g (x ∷ xs) e h = ap (λ (b : Bool). if b then last_is f g (xs ++ e ∷ []) else f x.step x.found && g x.step x.found) (some-right f xs (e ∷ []) (or_left (f e.step e.found) false h)) ∙ last-here f g xs e h
+
+-- either no poll was made yet, or help was offered
+abbrev pub Offered : List Entry → Type 0
+Offered es = (es ≡ []) ⊎ (some_event joins es ≡ true)
+
+pub resumed-last : (v w : View) (es : List Entry) (n : ℕ) → events v w ≡ es ++ event Observe n ∷ [] → has_flag n ≡ false → saw_resumed (events v w) ≡ true
+resumed-last v w es n e f = ap saw_resumed e ∙ (last-here polls sees_no_flag es (event Observe n) refl ∙ ap not f)
+
+pub offered-last : (v w : View) (es : List Entry) (n : ℕ) → events v w ≡ es ++ event Observe n ∷ [] → has_flag n ≡ false → Offered es → offered_help (events v w) ≡ true
+offered-last v w es n e f o =
+    ap offered_help e
+    ∙ ⊎_elim
+    (λ (none : es ≡ []). ap (λ xs. offered_help (xs ++ event Observe n ∷ [])) none ∙ or_left (not (has_flag n)) false (ap not f))
+    (λ (some : some_event joins es ≡ true). or_right (not (poll_found_stop (es ++ event Observe n ∷ []))) _ (some-left joins es (event Observe n ∷ []) some))
+    o
+
+-- raising the flag
+
+pub yours-free : (b : Bool) → Yours ≡ (if b then Theirs else Yours) → b ≡ false
+yours-free false e = refl
+yours-free true e = absurd (true≢false (ap is_yours e))
+  where
+    is_yours : Raised → Bool
+    is_yours Yours = true
+    is_yours Theirs = false
+
+theirs-up : (b : Bool) → Theirs ≡ (if b then Theirs else Yours) → b ≡ true
+theirs-up true e = refl
+theirs-up false e = absurd (true≢false (ap is_theirs e))
+  where
+    is_theirs : Raised → Bool
+    is_theirs Yours = false
+    is_theirs Theirs = true
+
+pub out-unaware : (v w : View) (n : ℕ) → IsOut v → w ≡ after RaiseStep n v → Finds RaiseStep n v → (w.state.knows ≡ false) × (w.state.alone ≡ false)
+out-unaware v w n o e f =
+    let rules = strong f.state f.index v f.whole f.agrees in
+    let knows : v.state.knows ≡ false = unless v.state.knows v.state.raised (λ h. rules.knows_is_raised h) (bare-parts v.state o.bare).1 in
+    let alone : v.state.alone ≡ false = unless v.state.alone v.state.knows (λ h. rules.alone_knows h) knows in
+    (ap (λ (x : View). x.state.knows) e ∙ knows, ap (λ (x : View). x.state.alone) e ∙ alone)
+
+raise-seen : (v : View) (n : ℕ) → Finds RaiseStep n v → IsSeen RaiseStep n v
+raise-seen v n f = record { found = λ e. f; stored = λ e. absurd (false≢true e) }
+
+pub raised-only : (v w : View) (n : ℕ) → w ≡ after RaiseStep n v → Only tries_stopping v w
+raised-only v w n e = only-after tries_stopping v w RaiseStep n refl e
+
+pub theirs-out : (v w : View) (n : ℕ) → IsOut v → w ≡ after RaiseStep n v → Theirs ≡ (if has_flag n then Theirs else Yours) → IsOut w
+theirs-out v w n o e h =
+    let b = bare-parts v.state o.bare in
+    subst IsOut (sym e) (record { bare = bare-from v.state.counted (not (has_flag n)) v.state.helping b.0 (ap not (theirs-up (has_flag n) h)) b.2; rest = o.rest })
+
+count-none : (f : Sort) (es : List Entry) → some_event f es ≡ false → count_of f es ≡ 0
+count-none f [] h = refl
+count-none f (e ∷ es) h =
+    let p = or_parts (f e.step e.found) (some_event f es) h in ap (λ (b : Bool). (if b then 1 else 0) + count_of f es) p.0 ∙ (zero-add (count_of f es) ∙ count-none f es p.1)
+
+-- no flag was raised
+pub calm-count : (es : List Entry) → never raises_flag es ≡ true → count_of raises_flag es ≡ 0
+calm-count es h = count-none raises_flag es (not-true _ h)
+
+-- the seat's own flag was raised, once
+pub raised-once : (v w x : View) (n : ℕ) → Ran v w → Ran w x → w ≡ after RaiseStep n v → Only watches w x → Yours ≡ (if has_flag n then Theirs else Yours) → count_of raises_flag (events v x) ≡ 1
+raised-once v w x n r q e o h =
+    let none : count_of raises_flag (events w x) ≡ 0 = count-none raises_flag (events w x) (none-of-steps watches raises_flag unraised (events w x) o) in
+    let one : count_of raises_flag (events v w) ≡ 1 = ap (count_of raises_flag) (events-after v w RaiseStep n e) ∙ ap (λ (b : Bool). (if not b then 1 else 0) + 0) (yours-free (has_flag n) h) in
+    ap (count_of raises_flag) (ran-events v w x r q) ∙ (count-join raises_flag (events v w) (events w x) ∙ (ap (λ k. k + count_of raises_flag (events w x)) one ∙ ap (λ k. 1 + k) none))
+  where
+    unraised : (step : Step) (k : ℕ) → watches step ≡ true → raises_flag step k ≡ false
+    unraised Observe k p = refl
+    unraised ReadPhase k p = refl
+    unraised step k p = absurd (false≢true p)
+
+-- another's flag was found
+pub raised-never : (v w : View) (n : ℕ) → w ≡ after RaiseStep n v → Theirs ≡ (if has_flag n then Theirs else Yours) → count_of raises_flag (events v w) ≡ 0
+raised-never v w n e h = ap (count_of raises_flag) (events-after v w RaiseStep n e) ∙ ap (λ (b : Bool). (if not b then 1 else 0) + 0) (theirs-up (has_flag n) h)
+
+-- one call after another
+pub count-calls : (u v w : View) (k n : ℕ) → Ran u v → Ran v w → count_of raises_flag (events u v) ≡ k → count_of raises_flag (events v w) ≡ n → count_of raises_flag (events u w) ≡ k + n
+count-calls u v w k n r q a b =
+    ap (count_of raises_flag) (ran-events u v w r q) ∙ (count-join raises_flag (events u v) (events v w) ∙ (ap (λ i. i + count_of raises_flag (events v w)) a ∙ ap (λ i. k + i) b))
+
+pub raised-event : (v w : View) (n : ℕ) → w ≡ after RaiseStep n v → Yours ≡ (if has_flag n then Theirs else Yours) → some_event raises_flag (events v w) ≡ true
+raised-event v w n e h = ap (some_event raises_flag) (events-after v w RaiseStep n e) ∙ or_left (not (has_flag n)) false (ap not (yours-free (has_flag n) h))
+
+pub tries : (v w : View) → Ran v w → Only tries_stopping v w → w.state.cache ≡ None → TriesToStop v w
+tries v w r o n =
+    let keeps = only-more tries_stopping keeps_section tries-keep v w o in
+    record {
+      ran = r;
+      only = o;
+      seat = keeps-seat v w r keeps;
+      section = keeps-section v w r keeps;
+      not_full = tries-never-fill (events v w) o;
+      unclaimed = tries-never-claim (events v w) o;
+      cache = n;
+    }
+
+pub watches-try : (step : Step) → watches step ≡ true → tries_stopping step ≡ true
+watches-try Observe e = refl
+watches-try ReadPhase e = refl
+watches-try step e = absurd (false≢true e)
+
+pub watches-own : (v w : View) → Ran v w → Only watches v w → w.own ≡ v.own
+watches-own v w r o = own-kept watches section v w r o
+  where
+    section : (step : Step) → watches step ≡ true → changes_section step ≡ false
+    section Observe e = refl
+    section ReadPhase e = refl
+    section step e = absurd (false≢true e)
+
+pub mutators-left : (p : Phase) → is_mutators p ≡ true → (p ≡ Idle) ⊎ (p ≡ Marking) ⊎ (p ≡ Full)
+mutators-left Idle e = inl refl
+mutators-left Marking e = inr (inl refl)
+mutators-left Full e = inr (inr refl)
+mutators-left Drain e = absurd (false≢true e)
+mutators-left Sweep e = absurd (false≢true e)
+mutators-left Clear e = absurd (false≢true e)

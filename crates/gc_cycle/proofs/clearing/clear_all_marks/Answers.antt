@@ -1,0 +1,60 @@
+use Rattle.std.proofs.Common.{refl, ap, ◌∙◌, arith, not}
+use Rattle.mark_core.specs.declared.kinds.Phase.TheVariants.{Clear, Drain}
+use Rattle.gc_table.specs.Seats.{view_of}
+use Rattle.gc_table.specs.declared.view.View.{View}
+use Rattle.gc_table.specs.Log.{events}
+use Rattle.gc_table.proofs.Running.{ran-events, ran-join, ran-only}
+use Rattle.gc_cycle.specs.Events.{never}
+use Rattle.gc_cycle.specs.Finishing.{finishes}
+use Rattle.card_clean.specs.Leaving.{rescans}
+use Rattle.sweeper.specs.Freeing.{frees}
+use Rattle.gc_cycle.specs.Sorts.{tells_full}
+use Rattle.gc_cycle.proofs.Completing.{frees-none, move-total, none-in, part-untold, total-run}
+use Rattle.gc_cycle.proofs.Finishes.{begins-later, never-both}
+use Rattle.gc_cycle.proofs.Parts.{move-finishes, part-finishes}
+use Rattle.gc_cycle.proofs.clearing.clear_all_marks.Goals as goal
+
+pub returns-clause-begun : goal.returns-clause-begun
+returns-clause-begun g c =
+    let v : View = view_of c.args.seat.now in
+    let w : View = view_of c.begin_clear.new.seat in
+    let x : View = view_of c.clear_rest.new.seat in
+    let y : View = view_of c.begin_again.new.seat in
+    let m = c.begin_clear.ensures.moved in
+    let p = c.clear_rest.ensures.part in
+    begins-later v x y (ran-join v w x m.ran p.ran)
+    (ran-only finishes v w x m.ran p.ran (move-finishes Drain Clear v w m) (part-finishes Clear w x p))
+    (ap (never tells_full) (ran-events v w x m.ran p.ran) ∙ never-both tells_full (events v w) (events w x) (ap (never tells_full) m.events_are) (ap not (part-untold Clear w x p)))
+    c.begin_again.ensures.begun
+
+pub returns-clause-rescanned : goal.returns-clause-rescanned
+returns-clause-rescanned g c =
+    let v : View = view_of c.args.seat.now in
+    let w : View = view_of c.begin_clear.new.seat in
+    let x : View = view_of c.clear_rest.new.seat in
+    let y : View = view_of c.begin_again.new.seat in
+    let m = c.begin_clear.ensures.moved in
+    let p = c.clear_rest.ensures.part in
+    let b = c.begin_again.ensures.begun in
+    let all = total-run rescans v w y m.ran (ran-join w x y p.ran b.ran) in
+    let later = total-run rescans w x y p.ran b.ran in
+    let one = move-total rescans Drain Clear (λ s n. refl) v w m in
+    let two = c.clear_rest.ensures.rescanned in
+    let three = c.begin_again.ensures.rescanned in
+    omega (arith, all, later, one, two, three)
+
+pub returns-clause-freed : goal.returns-clause-freed
+returns-clause-freed g c =
+    let v : View = view_of c.args.seat.now in
+    let w : View = view_of c.begin_clear.new.seat in
+    let x : View = view_of c.clear_rest.new.seat in
+    let y : View = view_of c.begin_again.new.seat in
+    let m = c.begin_clear.ensures.moved in
+    let p = c.clear_rest.ensures.part in
+    let b = c.begin_again.ensures.begun in
+    let all = total-run frees v w y m.ran (ran-join w x y p.ran b.ran) in
+    let later = total-run frees w x y p.ran b.ran in
+    let one = move-total frees Drain Clear (λ s n. refl) v w m in
+    let two = none-in frees Clear (frees-none Clear refl) w x p in
+    let three = c.begin_again.ensures.freed in
+    omega (arith, all, later, one, two, three)

@@ -1,0 +1,45 @@
+use Rattle.gc_table.specs.Seats.{view_of}
+use Rattle.gc_table.specs.declared.view.View.{View}
+use Rattle.std.proofs.Common.{refl}
+use Rattle.gc_cycle.proofs.Collected.{ends-at_full, ends-collected, full-alone, exactly-collects, holds-phase, resumed-mutates}
+use Rattle.gc_cycle.proofs.Goings.{is-done}
+use Rattle.gc_cycle.specs.Moments.{begins}
+use Rattle.gc_table.specs.Log.{events}
+use Rattle.mark_core.specs.declared.kinds.Phase.TheVariants.{Full, Idle}
+use Rattle.gc_cycle.proofs.collecting.collect_in_stop.Goals as goal
+
+pub resume-requires-clause-alone : goal.resume-requires-clause-alone
+resume-requires-clause-alone g c = (Full, refl, full-alone (view_of c.args.seat.now) c.requires.stopped c.if-has_seen_full.ensures.seen)
+
+pub resume-requires-clause-done : goal.resume-requires-clause-done
+resume-requires-clause-done g c = is-done (view_of c.args.seat.now) c.requires.stopped.rest.rest
+
+pub returns-then-has_seen_full-clause-seat : goal.returns-then-has_seen_full-clause-seat
+returns-then-has_seen_full-clause-seat g c =
+    let h = c.requires.stopped in (c.resume.ensures.seat, (resumed-mutates (view_of c.args.seat.now) (view_of c.resume.new.seat) h.rest h.section h.unhelping c.resume.ensures.step).0)
+
+pub returns-then-has_seen_full-clause-ends : goal.returns-then-has_seen_full-clause-ends
+returns-then-has_seen_full-clause-ends g c = ends-at_full (view_of c.args.seat.now) (view_of c.resume.new.seat) c.requires.stopped c.if-has_seen_full.ensures.seen c.resume.ensures.ran c.resume.ensures.step
+
+pub precise-requires-clause-alone : goal.precise-requires-clause-alone
+precise-requires-clause-alone g c = (holds-phase (view_of c.args.seat.now) c.requires.stopped c.if-has_seen_full.ensures.other).0
+
+pub resume-requires-2-clause-alone : goal.resume-requires-2-clause-alone
+resume-requires-2-clause-alone g c = (Idle, refl, c.precise.ensures.alone.0.alone)
+
+pub resume-requires-2-clause-done : goal.resume-requires-2-clause-done
+resume-requires-2-clause-done g c = is-done (view_of c.precise.new.seat) c.precise.ensures.alone.0.rest.rest
+
+pub returns-clause-seat : goal.returns-clause-seat
+returns-clause-seat g c =
+    let v : View = view_of c.args.seat.now in
+    let w : View = view_of c.precise.new.seat in
+    let p = c.precise.ensures in
+    (c.resume-2.ensures.seat, (ends-collected v w (view_of c.resume-2.new.seat) c.requires.stopped (holds-phase v c.requires.stopped c.if-has_seen_full.ensures.other).1 p.ran p.only p.spares p.calm p.going (exactly-collects c.args.heap.now.shape (begins v) (events v w) p.collects) p.alone.0.rest c.resume-2.ensures.ran c.resume-2.ensures.step).0)
+
+pub returns-clause-ends : goal.returns-clause-ends
+returns-clause-ends g c =
+    let v : View = view_of c.args.seat.now in
+    let w : View = view_of c.precise.new.seat in
+    let p = c.precise.ensures in
+    (ends-collected v w (view_of c.resume-2.new.seat) c.requires.stopped (holds-phase v c.requires.stopped c.if-has_seen_full.ensures.other).1 p.ran p.only p.spares p.calm p.going (exactly-collects c.args.heap.now.shape (begins v) (events v w) p.collects) p.alone.0.rest c.resume-2.ensures.ran c.resume-2.ensures.step).1

@@ -1,0 +1,185 @@
+use Rattle.std.proofs.Common.{◌∙◌, ap, Bool}
+use Rattle.std.specs.Prelude.{if◌then◌else◌}
+use Rattle.gc_table.specs.Seats.{view_of}
+use Rattle.gc_table.specs.Log.{events}
+use Rattle.gc_table.specs.declared.view.View.{View}
+use Rattle.gc_table.proofs.Running.{ran-join}
+use Rattle.packet_pools.specs.Counts.{count_of}
+use Rattle.gc_cycle.specs.Sorts.{raises_flag}
+use Rattle.gc_cycle.proofs.Answered.{full-later}
+use Rattle.gc_cycle.proofs.Collected.{answers-section, answers-uncounted, goes-collected, held, none-raised, stopped, tells-tried, tried}
+use Rattle.gc_cycle.proofs.collecting.collect_once.Goals as goal
+
+pub collect_in_stop-requires-clause-stopped : goal.collect_in_stop-requires-clause-stopped
+collect_in_stop-requires-clause-stopped g c =
+    held (view_of c.ends_full.new.seat) (view_of c.stop.new.seat) c.ends_full.ensures.seat.1 c.stop.ensures.tries c.if-not-stop.ensures.yours
+
+pub returns-then-ends_full-clause-some : goal.returns-then-ends_full-clause-some
+returns-then-ends_full-clause-some g c =
+    let u : View = view_of c.args.seat.now in
+    let v : View = view_of c.ends_full.new.seat in
+    λ z r t. full-later c.args.done z u v r c.ends_full.ensures.ran c.if-ends_full.ensures.full.0
+
+pub returns-then-ends_full-clause-once : goal.returns-then-ends_full-clause-once
+returns-then-ends_full-clause-once g c =
+    let u : View = view_of c.args.seat.now in
+    let v : View = view_of c.ends_full.new.seat in
+    none-raised (count_of raises_flag (events u v)) (answers-uncounted u v c.ends_full.ensures.ran c.ends_full.ensures.only)
+
+pub returns-then-ends_full-clause-only : goal.returns-then-ends_full-clause-only
+returns-then-ends_full-clause-only g c =
+    let u : View = view_of c.args.seat.now in
+    let v : View = view_of c.ends_full.new.seat in
+    answers-section u v c.ends_full.ensures.only
+
+pub returns-then-not-stop-clause-ran : goal.returns-then-not-stop-clause-ran
+returns-then-not-stop-clause-ran g c =
+    let u : View = view_of c.args.seat.now in
+    let v : View = view_of c.ends_full.new.seat in
+    let w : View = view_of c.stop.new.seat in
+    let e = c.ends_full.ensures in
+    let t = c.stop.ensures in
+    let d = tried u v w e.ran e.only t.tries (t.raises ∙ ap (λ (b : Bool). if b then 1 else 0) c.if-not-stop.true) c.if-not-stop.ensures.theirs in
+    d.0
+
+pub returns-then-not-stop-clause-none : goal.returns-then-not-stop-clause-none
+returns-then-not-stop-clause-none g c =
+    let u : View = view_of c.args.seat.now in
+    let v : View = view_of c.ends_full.new.seat in
+    let w : View = view_of c.stop.new.seat in
+    let e = c.ends_full.ensures in
+    let t = c.stop.ensures in
+    let d = tried u v w e.ran e.only t.tries (t.raises ∙ ap (λ (b : Bool). if b then 1 else 0) c.if-not-stop.true) c.if-not-stop.ensures.theirs in
+    d.1
+
+pub returns-then-not-stop-clause-once : goal.returns-then-not-stop-clause-once
+returns-then-not-stop-clause-once g c =
+    let u : View = view_of c.args.seat.now in
+    let v : View = view_of c.ends_full.new.seat in
+    let w : View = view_of c.stop.new.seat in
+    let e = c.ends_full.ensures in
+    let t = c.stop.ensures in
+    let d = tried u v w e.ran e.only t.tries (t.raises ∙ ap (λ (b : Bool). if b then 1 else 0) c.if-not-stop.true) c.if-not-stop.ensures.theirs in
+    none-raised (count_of raises_flag (events u w)) d.1.calm
+
+pub returns-then-not-stop-clause-only : goal.returns-then-not-stop-clause-only
+returns-then-not-stop-clause-only g c =
+    let u : View = view_of c.args.seat.now in
+    let v : View = view_of c.ends_full.new.seat in
+    let w : View = view_of c.stop.new.seat in
+    let e = c.ends_full.ensures in
+    let t = c.stop.ensures in
+    let d = tried u v w e.ran e.only t.tries (t.raises ∙ ap (λ (b : Bool). if b then 1 else 0) c.if-not-stop.true) c.if-not-stop.ensures.theirs in
+    d.2
+
+pub returns-then-ends_full-2-clause-ran : goal.returns-then-ends_full-2-clause-ran
+returns-then-ends_full-2-clause-ran g c =
+    let u : View = view_of c.args.seat.now in
+    let v : View = view_of c.ends_full.new.seat in
+    let w : View = view_of c.stop.new.seat in
+    let e = c.ends_full.ensures in
+    let t = c.stop.ensures in
+    let x : View = view_of c.collect_in_stop.new.seat in
+    let y : View = view_of c.ends_full-2.new.seat in
+    let i = c.collect_in_stop.ensures in
+    let l = c.ends_full-2.ensures in
+    let d = stopped u v w x y e.ran e.only t.tries (t.raises ∙ ap (λ (b : Bool). if b then 1 else 0) c.if-not-stop.false) i.ends l.ran l.only in
+    d.0
+
+pub returns-then-ends_full-2-clause-once : goal.returns-then-ends_full-2-clause-once
+returns-then-ends_full-2-clause-once g c =
+    let u : View = view_of c.args.seat.now in
+    let v : View = view_of c.ends_full.new.seat in
+    let w : View = view_of c.stop.new.seat in
+    let e = c.ends_full.ensures in
+    let t = c.stop.ensures in
+    let x : View = view_of c.collect_in_stop.new.seat in
+    let y : View = view_of c.ends_full-2.new.seat in
+    let i = c.collect_in_stop.ensures in
+    let l = c.ends_full-2.ensures in
+    let d = stopped u v w x y e.ran e.only t.tries (t.raises ∙ ap (λ (b : Bool). if b then 1 else 0) c.if-not-stop.false) i.ends l.ran l.only in
+    d.2
+
+pub returns-then-ends_full-2-clause-only : goal.returns-then-ends_full-2-clause-only
+returns-then-ends_full-2-clause-only g c =
+    let u : View = view_of c.args.seat.now in
+    let v : View = view_of c.ends_full.new.seat in
+    let w : View = view_of c.stop.new.seat in
+    let e = c.ends_full.ensures in
+    let t = c.stop.ensures in
+    let x : View = view_of c.collect_in_stop.new.seat in
+    let y : View = view_of c.ends_full-2.new.seat in
+    let i = c.collect_in_stop.ensures in
+    let l = c.ends_full-2.ensures in
+    let d = stopped u v w x y e.ran e.only t.tries (t.raises ∙ ap (λ (b : Bool). if b then 1 else 0) c.if-not-stop.false) i.ends l.ran l.only in
+    d.1
+
+pub returns-clause-ran : goal.returns-clause-ran
+returns-clause-ran g c =
+    let u : View = view_of c.args.seat.now in
+    let v : View = view_of c.ends_full.new.seat in
+    let w : View = view_of c.stop.new.seat in
+    let e = c.ends_full.ensures in
+    let t = c.stop.ensures in
+    let x : View = view_of c.collect_in_stop.new.seat in
+    let y : View = view_of c.ends_full-2.new.seat in
+    let i = c.collect_in_stop.ensures in
+    let l = c.ends_full-2.ensures in
+    let d = stopped u v w x y e.ran e.only t.tries (t.raises ∙ ap (λ (b : Bool). if b then 1 else 0) c.if-not-stop.false) i.ends l.ran l.only in
+    d.0
+
+pub returns-clause-once : goal.returns-clause-once
+returns-clause-once g c =
+    let u : View = view_of c.args.seat.now in
+    let v : View = view_of c.ends_full.new.seat in
+    let w : View = view_of c.stop.new.seat in
+    let e = c.ends_full.ensures in
+    let t = c.stop.ensures in
+    let x : View = view_of c.collect_in_stop.new.seat in
+    let y : View = view_of c.ends_full-2.new.seat in
+    let i = c.collect_in_stop.ensures in
+    let l = c.ends_full-2.ensures in
+    let d = stopped u v w x y e.ran e.only t.tries (t.raises ∙ ap (λ (b : Bool). if b then 1 else 0) c.if-not-stop.false) i.ends l.ran l.only in
+    d.2
+
+pub returns-clause-only : goal.returns-clause-only
+returns-clause-only g c =
+    let u : View = view_of c.args.seat.now in
+    let v : View = view_of c.ends_full.new.seat in
+    let w : View = view_of c.stop.new.seat in
+    let e = c.ends_full.ensures in
+    let t = c.stop.ensures in
+    let x : View = view_of c.collect_in_stop.new.seat in
+    let y : View = view_of c.ends_full-2.new.seat in
+    let i = c.collect_in_stop.ensures in
+    let l = c.ends_full-2.ensures in
+    let d = stopped u v w x y e.ran e.only t.tries (t.raises ∙ ap (λ (b : Bool). if b then 1 else 0) c.if-not-stop.false) i.ends l.ran l.only in
+    d.1
+
+pub returns-then-ends_full-2-clause-some : goal.returns-then-ends_full-2-clause-some
+returns-then-ends_full-2-clause-some g c =
+    let u : View = view_of c.args.seat.now in
+    let v : View = view_of c.ends_full.new.seat in
+    let w : View = view_of c.stop.new.seat in
+    let e = c.ends_full.ensures in
+    let t = c.stop.ensures in
+    let x : View = view_of c.collect_in_stop.new.seat in
+    let y : View = view_of c.ends_full-2.new.seat in
+    let i = c.collect_in_stop.ensures in
+    let l = c.ends_full-2.ensures in
+    let d = stopped u v w x y e.ran e.only t.tries (t.raises ∙ ap (λ (b : Bool). if b then 1 else 0) c.if-not-stop.false) i.ends l.ran l.only in
+    λ z r k. full-later c.args.done z x y (ran-join z w x (tells-tried z u v w r k e.ran e.only t.tries).0 i.ends.ran) l.ran c.if-ends_full-2.ensures.full.0
+
+pub returns-clause-some : goal.returns-clause-some
+returns-clause-some g c =
+    let u : View = view_of c.args.seat.now in
+    let v : View = view_of c.ends_full.new.seat in
+    let w : View = view_of c.stop.new.seat in
+    let e = c.ends_full.ensures in
+    let t = c.stop.ensures in
+    let x : View = view_of c.collect_in_stop.new.seat in
+    let y : View = view_of c.ends_full-2.new.seat in
+    let i = c.collect_in_stop.ensures in
+    let l = c.ends_full-2.ensures in
+    let d = stopped u v w x y e.ran e.only t.tries (t.raises ∙ ap (λ (b : Bool). if b then 1 else 0) c.if-not-stop.false) i.ends l.ran l.only in
+    λ z r k. let b = tells-tried z u v w r k e.ran e.only t.tries in goes-collected z w x y b.0 b.1 i.ends.ran l.ran i.ends c.if-ends_full-2.ensures.going

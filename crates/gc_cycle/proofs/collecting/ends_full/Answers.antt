@@ -1,0 +1,36 @@
+use Rattle.std.proofs.Common.{◌∙◌, None, refl, ap}
+use Rattle.mark_core.specs.declared.kinds.Step.TheVariants.{ReadPhase}
+use Rattle.gc_table.specs.Seats.{view_of}
+use Rattle.gc_table.specs.declared.view.View.{View}
+use Rattle.gc_table.proofs.Log.{only-none}
+use Rattle.gc_table.proofs.Running.{ran-refl, ran-took}
+use Rattle.gc_cycle.specs.Answering.{retires}
+use Rattle.gc_cycle.proofs.Answered.{cached-still, ends-full}
+use Rattle.gc_cycle.proofs.collecting.ends_full.Goals as goal
+
+pub returns-then-not-finds_full-clause-ran : goal.returns-then-not-finds_full-clause-ran
+returns-then-not-finds_full-clause-ran c = ran-took (view_of c.args.seat.now) (view_of c.finds_full.new.seat) ReadPhase refl c.finds_full.ensures.read
+
+pub returns-then-not-finds_full-clause-going : goal.returns-then-not-finds_full-clause-going
+returns-then-not-finds_full-clause-going c =
+    let v : View = view_of c.args.seat.now in
+    let w : View = view_of c.finds_full.new.seat in
+    let t = c.finds_full.ensures.read in
+    record { same = refl; cached = cached-still None v w (ap (λ (x : View). x.state.cache) t.1.0) c.requires.cache; looked = t; going = c.if-not-finds_full.ensures.going }
+
+pub returns-clause-ran : goal.returns-clause-ran
+returns-clause-ran c =
+    let v : View = view_of c.args.seat.now in
+    let w : View = view_of c.finds_full.new.seat in
+    let t = c.finds_full.ensures.read in
+    let f = c.if-not-finds_full.ensures.full in
+    (ends-full v w w (view_of c.store_position.new.seat) c.args.done t f.1 f.0 (ran-refl w) (only-none retires w) c.finds_full.ensures.seat.1 (ap (λ (x : View). x.state.cache) t.1.0 ∙ c.requires.cache) refl c.store_position.ensures.view).0
+
+pub returns-clause-full : goal.returns-clause-full
+returns-clause-full c =
+    let v : View = view_of c.args.seat.now in
+    let w : View = view_of c.finds_full.new.seat in
+    let t = c.finds_full.ensures.read in
+    let f = c.if-not-finds_full.ensures.full in
+    let e = ends-full v w w (view_of c.store_position.new.seat) c.args.done t f.1 f.0 (ran-refl w) (only-none retires w) c.finds_full.ensures.seat.1 (ap (λ (x : View). x.state.cache) t.1.0 ∙ c.requires.cache) refl c.store_position.ensures.view in
+    (e.2, e.3)

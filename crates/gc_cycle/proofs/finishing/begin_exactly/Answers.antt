@@ -1,0 +1,91 @@
+use Rattle.std.proofs.Common.{refl, ap, arith}
+use Rattle.mark_core.specs.declared.kinds.Phase.TheVariants.{Drain, Idle, Marking}
+use Rattle.gc_table.specs.Seats.{view_of}
+use Rattle.gc_table.specs.declared.view.View.{View}
+use Rattle.gc_table.proofs.Running.{ran-join, ran-only}
+use Rattle.gc_cycle.specs.Helping.{freed_in, rescanned_in}
+use Rattle.card_clean.specs.Leaving.{rescans}
+use Rattle.sweeper.specs.Freeing.{frees}
+use Rattle.gc_cycle.proofs.Completing.{frees-none, none-in, total-run}
+use Rattle.gc_cycle.specs.Finishing.{finishes}
+use Rattle.gc_cycle.proofs.Parts.{part-finishes}
+use Rattle.gc_cycle.proofs.Finishes.{begins-later}
+use Rattle.gc_cycle.proofs.Starting.{drain-no-full, either-untold, idle-begins, look-drain-events, look-drain-finishes, look-finishes, look-ran, marking-ran}
+use Rattle.gc_cycle.proofs.finishing.begin_exactly.Goals as goal
+
+pub returns-then-idle-clause-begun : goal.returns-then-idle-clause-begun
+returns-then-idle-clause-begun g c =
+    let v : View = view_of c.args.seat.now in
+    let w : View = view_of c.finds_idle-idle.new.seat in
+    let x : View = view_of c.begin_drain.new.seat in
+    let t = c.finds_idle-idle.ensures.read in
+    let a = c.if-idle.ensures.idle in
+    let b = c.begin_drain.ensures in
+    begins-later v w x (look-ran v w t) (look-finishes v w t) (either-untold v w t c.requires.alone) (idle-begins w x b.ran (b.events Idle a) b.alone (b.exact a))
+
+pub returns-then-idle-clause-rescanned : goal.returns-then-idle-clause-rescanned
+returns-then-idle-clause-rescanned g c =
+    let v : View = view_of c.args.seat.now in
+    let w : View = view_of c.finds_idle-idle.new.seat in
+    let x : View = view_of c.begin_drain.new.seat in
+    let b = c.begin_drain.ensures in
+    let none = ap (rescanned_in v) (look-drain-events v w x 0 c.finds_idle-idle.ensures.read b.ran (b.events Idle c.if-idle.ensures.idle)) in
+    omega (arith, none)
+
+pub returns-then-idle-clause-freed : goal.returns-then-idle-clause-freed
+returns-then-idle-clause-freed g c =
+    let v : View = view_of c.args.seat.now in
+    let w : View = view_of c.finds_idle-idle.new.seat in
+    let x : View = view_of c.begin_drain.new.seat in
+    let b = c.begin_drain.ensures in
+    ap (freed_in v) (look-drain-events v w x 0 c.finds_idle-idle.ensures.read b.ran (b.events Idle c.if-idle.ensures.idle))
+
+pub returns-clause-begun : goal.returns-clause-begun
+returns-clause-begun g c =
+    let v : View = view_of c.args.seat.now in
+    let w : View = view_of c.finds_idle-idle.new.seat in
+    let x : View = view_of c.begin_drain.new.seat in
+    let y : View = view_of c.drain_alone-rescanned.new.seat in
+    let z : View = view_of c.clear_all_marks.new.seat in
+    let t = c.finds_idle-idle.ensures.read in
+    let b = c.begin_drain.ensures in
+    let p = c.drain_alone-rescanned.ensures.part in
+    begins-later v y z (ran-join v x y (marking-ran v w x t b.ran) p.ran)
+    (ran-only finishes v x y (marking-ran v w x t b.ran) p.ran (look-drain-finishes v w x 1 t b.ran (b.events Marking c.if-idle.ensures.marking)) (part-finishes Drain x y p))
+    (drain-no-full v w x y 1 t b.ran (either-untold v w t c.requires.alone) (b.events Marking c.if-idle.ensures.marking) p) c.clear_all_marks.ensures.begun
+
+pub returns-clause-rescanned : goal.returns-clause-rescanned
+returns-clause-rescanned g c =
+    let v : View = view_of c.args.seat.now in
+    let w : View = view_of c.finds_idle-idle.new.seat in
+    let x : View = view_of c.begin_drain.new.seat in
+    let y : View = view_of c.drain_alone-rescanned.new.seat in
+    let z : View = view_of c.clear_all_marks.new.seat in
+    let t = c.finds_idle-idle.ensures.read in
+    let b = c.begin_drain.ensures in
+    let p = c.drain_alone-rescanned.ensures.part in
+    let q = c.clear_all_marks.ensures.begun in
+    let all = total-run rescans v x z (marking-ran v w x t b.ran) (ran-join x y z p.ran q.ran) in
+    let later = total-run rescans x y z p.ran q.ran in
+    let one = ap (rescanned_in v) (look-drain-events v w x 1 t b.ran (b.events Marking c.if-idle.ensures.marking)) in
+    let two = c.drain_alone-rescanned.ensures.rescanned in
+    let three = c.clear_all_marks.ensures.rescanned in
+    omega (arith, all, later, one, two, three)
+
+pub returns-clause-freed : goal.returns-clause-freed
+returns-clause-freed g c =
+    let v : View = view_of c.args.seat.now in
+    let w : View = view_of c.finds_idle-idle.new.seat in
+    let x : View = view_of c.begin_drain.new.seat in
+    let y : View = view_of c.drain_alone-rescanned.new.seat in
+    let z : View = view_of c.clear_all_marks.new.seat in
+    let t = c.finds_idle-idle.ensures.read in
+    let b = c.begin_drain.ensures in
+    let p = c.drain_alone-rescanned.ensures.part in
+    let q = c.clear_all_marks.ensures.begun in
+    let all = total-run frees v x z (marking-ran v w x t b.ran) (ran-join x y z p.ran q.ran) in
+    let later = total-run frees x y z p.ran q.ran in
+    let one = ap (freed_in v) (look-drain-events v w x 1 t b.ran (b.events Marking c.if-idle.ensures.marking)) in
+    let two = none-in frees Drain (frees-none Drain refl) x y p in
+    let three = c.clear_all_marks.ensures.freed in
+    omega (arith, all, later, one, two, three)

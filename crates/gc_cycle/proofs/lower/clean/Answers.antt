@@ -1,0 +1,157 @@
+use Rattle.std.proofs.Common.{ℕ, ◌≡◌, ◌/◌, List, [], ◌∷◌, ◌++◌, append-nil, refl, sym, ap, ◌∙◌, subst, Bool, true, false, not, ⊎_elim, eq-eqb, ◌⊎◌}
+use Rattle.std.specs.Prelude.{if◌then◌else◌}
+use Rattle.std.proofs.lemmas.Bool.{and_from, false≢true, not-true, or_from, or_left}
+use Rattle.mark_core.specs.Seats.{work_in_hand}
+use Rattle.mark_core.specs.declared.kinds.Shape.{Shape}
+use Rattle.mark_core.specs.declared.kinds.Step.{Step}
+use Rattle.mark_core.specs.declared.kinds.Step.TheVariants.{ClearCard, DirtyCard, NextOfCards, ReadAlloc, ReadMarks}
+use Rattle.gc_table.specs.Log.{event, events}
+use Rattle.gc_table.specs.Seats.{view_of}
+use Rattle.gc_table.specs.declared.view.Entry.{Entry}
+use Rattle.gc_table.specs.declared.view.View.{View}
+use Rattle.packet_pools.specs.Counts.{scans_object}
+use Rattle.packet_pools.specs.Later.{LaterCleaned, traces_cells}
+use Rattle.packet_pools.specs.Seeking.{moves_packet, NoOutput, only_moves, some_event}
+use Rattle.packet_pools.specs.Tracing.{Traces}
+use Rattle.packet_pools.proofs.Searches.{some-left, some-right}
+use Rattle.tracer.specs.Moments.{front, no_output}
+use Rattle.tracer.proofs.Moments.{output-front}
+use Rattle.card_clean.specs.Cleaning.{CleansOne, FoundClean, FoundDirty}
+use Rattle.card_clean.specs.declared.cleaned.Cleaned.{Cleaned}
+use Rattle.gc_cycle.specs.Events.{never, Sort}
+use Rattle.gc_cycle.specs.Lower.{HasTraced}
+use Rattle.gc_cycle.specs.Moments.{at_some_moment, begins, finds_no_room, holds_one}
+use Rattle.gc_cycle.specs.Sorts.{clears_card, draws, pops, reads_root}
+use Rattle.gc_cycle.specs.Standing.{is_at_rest}
+use Rattle.gc_cycle.proofs.Finishes.{never-both}
+use Rattle.gc_cycle.proofs.Idling.{idle-of, rescanned-same, rest-parts, traced-held, traces-of}
+use Rattle.gc_cycle.proofs.Rooted.{rest-room}
+use Rattle.gc_cycle.proofs.Sequences.{this-moment}
+use Rattle.gc_cycle.proofs.Untaken.{moved-untaken, moves-unpopped, moves-unrooted, scan-steps, scan-unpopped, scan-unrooted, Spares, untaken, unread-of}
+use Rattle.gc_cycle.proofs.lower.clean.Goals as goal
+
+rest-there : (sh : Shape) (v : View) → v.shape ≡ sh → is_at_rest sh v.state ≡ true → is_at_rest v.shape v.state ≡ true
+rest-there sh v e r = subst (λ (x : Shape). is_at_rest x v.state ≡ true) (sym e) r
+
+-- the card was cleared in the middle of the call
+met : (sh : Shape) (card : ℕ) (r : Cleaned) (es : List Entry) → CleansOne sh card r es → some_event (clears_card card) es ≡ true
+met sh card r es k =
+    ap (some_event (clears_card card)) k.events_are
+    ∙ some-right (clears_card card) k.taking (k.cleaning ++ k.giving)
+    (some-left (clears_card card) k.cleaning k.giving
+    (⊎_elim
+    (λ (a : FoundClean card r k.cleaning). ap (some_event (clears_card card)) a.events_are ∙ or_left _ _ (eq-eqb card card refl))
+    (λ (a : FoundDirty sh card r k.cleaning). ap (some_event (clears_card card)) a.1 ∙ or_left _ _ (eq-eqb card card refl))
+    k.cleans))
+
+-- the card is dirtied again where it has to be
+abbrev ending : ℕ → Bool → List Entry
+ending card b = if b then event (DirtyCard card) 1 ∷ [] else []
+
+-- what is neither a move of packets nor a step of a scan, and isn't one of the steps of cleaning itself, isn't there
+module _ (f : Sort) (h : Spares (moves_packet (0 ∷ 1 ∷ 2 ∷ [])) f) (k : Spares scans_object f) (cleared : (card n : ℕ) → f (ClearCard card) n ≡ false) (marks : (b n : ℕ) → f (ReadMarks b) n ≡ false) (allocs : (b n : ℕ) → f (ReadAlloc b) n ≡ false) (dirtied : (card n : ℕ) → f (DirtyCard card) n ≡ false) where
+  one : (step : Step) (n : ℕ) (es : List Entry) → f step n ≡ false → never f es ≡ true → never f (event step n ∷ es) ≡ true
+  one step n es a b = ap not (or_from (f step n) (some_event f es) a (not-true _ b))
+
+  none-ending : (card : ℕ) (b : Bool) → never f (ending card b) ≡ true
+  none-ending card true = one (DirtyCard card) 1 [] (dirtied card 1) refl
+  none-ending card false = refl
+
+  none-cleaning : (sh : Shape) (card : ℕ) (r : Cleaned) (es : List Entry) → FoundClean card r es ⊎ FoundDirty sh card r es → never f es ≡ true
+  none-cleaning sh card r es c =
+      ⊎_elim
+      (λ (a : FoundClean card r es). ap (never f) a.events_are ∙ one (ClearCard card) 0 [] (cleared card 0) refl)
+      (λ (a : FoundDirty sh card r es).
+      let x = a.2 in
+      let rest : List Entry = x.scan ++ ending card r.redirtied in
+      ap (never f) (a.1 ∙ ap (λ l. event (ClearCard card) 1 ∷ l) x.events_are)
+      ∙ one (ClearCard card) 1 (event (ReadMarks (card / 4)) x.marks ∷ event (ReadAlloc (card / 4)) x.allocs ∷ rest) (cleared card 1)
+      (one (ReadMarks (card / 4)) x.marks (event (ReadAlloc (card / 4)) x.allocs ∷ rest) (marks (card / 4) x.marks)
+      (one (ReadAlloc (card / 4)) x.allocs rest (allocs (card / 4) x.allocs)
+      (never-both f x.scan (ending card r.redirtied) (untaken scans_object f k x.scan (sym (scan-steps x.scan) ∙ x.rescans.counts.scans)) (none-ending card r.redirtied)))))
+      c
+
+  none-one : (sh : Shape) (card : ℕ) (r : Cleaned) (es : List Entry) → CleansOne sh card r es → never f es ≡ true
+  none-one sh card r es c =
+      ap (never f) c.events_are
+      ∙ never-both f c.taking (c.cleaning ++ c.giving) (moved-untaken (0 ∷ 1 ∷ 2 ∷ []) f h c.taking c.takes)
+      (never-both f c.cleaning c.giving (none-cleaning sh card r c.cleaning c.cleans) (moved-untaken (0 ∷ 1 ∷ 2 ∷ []) f h c.giving c.gives))
+
+undraws : Spares traces_cells draws
+undraws NextOfCards n e = absurd (false≢true e)
+undraws step n e = refl
+
+-- no packet with room was found, from the beginning on
+roomless : (sh : Shape) (v : View) (es : List Entry) → holds_one v.state.held ≡ true → NoOutput sh es → only_moves (0 ∷ 1 ∷ 2 ∷ []) es ≡ true → at_some_moment sh (finds_no_room sh) (begins v) es ≡ true
+roomless sh v es one none moves =
+    this-moment sh (finds_no_room sh) es (begins v) (and_from _ _ one (sym (ap (λ l. no_output sh (front (moves_packet (0 ∷ 1 ∷ 2 ∷ [])) l)) (append-nil es)) ∙ output-front sh es [] none moves))
+
+pub clean_one-requires-clause-seat : goal.clean_one-requires-clause-seat
+clean_one-requires-clause-seat c = (c.requires.seat.0, traces-of c.args.heap.now.shape (view_of c.args.seat.now) c.requires.seat.1 c.requires.rest)
+
+pub clean_one-requires-clause-free : goal.clean_one-requires-clause-free
+clean_one-requires-clause-free c = let v : View = view_of c.args.seat.now in rest-room v c.args.seat.now.possible (rest-there c.args.heap.now.shape v c.requires.seat.0.1 c.requires.rest)
+
+pub clean_one-requires-clause-work : goal.clean_one-requires-clause-work
+clean_one-requires-clause-work c = (rest-parts c.args.heap.now.shape (view_of c.args.seat.now).state c.requires.rest).work
+
+-- at rest before, and with the packets and the work of before
+traced : (sh : Shape) (v w : View) → v.shape ≡ sh → w.shape ≡ sh → is_at_rest sh v.state ≡ true → LaterCleaned v w → Traces w → w.state.held ≡ v.state.held → work_in_hand sh.fields w.state ≡ false → HasTraced v w
+traced sh v w ve we r l t h k = traced-held v w l t h (ap (λ (x : Shape). work_in_hand x.fields w.state) we ∙ k) (rest-there sh v ve r)
+
+pub returns-in-Some-clause-traced : goal.returns-in-Some-clause-traced
+returns-in-Some-clause-traced c =
+    let e = c.in-Some.ensures in
+    traced c.args.heap.now.shape (view_of c.args.seat.now) (view_of c.clean_one.new.seat) c.requires.seat.0.1 e.seat.0.1 c.requires.rest e.later e.seat.1 e.held e.work
+
+pub returns-in-Some-clause-some : goal.returns-in-Some-clause-some
+returns-in-Some-clause-some c =
+    let v : View = view_of c.args.seat.now in
+    let es = events v (view_of c.clean_one.new.seat) in
+    let s = c.in-Some.ensures.some in
+    (rescanned-same es v ∙ s.2, met c.args.heap.now.shape c.args.card c.in-Some.cleaned es s.0)
+
+pub returns-in-Some-clause-most : goal.returns-in-Some-clause-most
+returns-in-Some-clause-most c = c.in-Some.ensures.some.1
+
+pub returns-in-Some-clause-unpopped : goal.returns-in-Some-clause-unpopped
+returns-in-Some-clause-unpopped c =
+    none-one pops (moves-unpopped (0 ∷ 1 ∷ 2 ∷ [])) scan-unpopped (λ k n. refl) (λ k n. refl) (λ k n. refl) (λ k n. refl) c.args.heap.now.shape c.args.card c.in-Some.cleaned (events (view_of c.args.seat.now) (view_of c.clean_one.new.seat)) c.in-Some.ensures.some.0
+
+pub returns-in-Some-clause-unrooted : goal.returns-in-Some-clause-unrooted
+returns-in-Some-clause-unrooted c =
+    none-one reads_root (moves-unrooted (0 ∷ 1 ∷ 2 ∷ [])) scan-unrooted (λ k n. refl) (λ k n. refl) (λ k n. refl) (λ k n. refl) c.args.heap.now.shape c.args.card c.in-Some.cleaned (events (view_of c.args.seat.now) (view_of c.clean_one.new.seat)) c.in-Some.ensures.some.0
+
+pub returns-in-Some-clause-undrawn : goal.returns-in-Some-clause-undrawn
+returns-in-Some-clause-undrawn c = untaken traces_cells draws undraws (events (view_of c.args.seat.now) (view_of c.clean_one.new.seat)) c.in-Some.ensures.later.only
+
+pub returns-in-None-clause-traced : goal.returns-in-None-clause-traced
+returns-in-None-clause-traced c =
+    let e = c.in-None.ensures in
+    traced c.args.heap.now.shape (view_of c.args.seat.now) (view_of c.clean_one.new.seat) c.requires.seat.0.1 e.seat.0.1 c.requires.rest e.later e.seat.1 e.held e.work
+
+pub returns-in-None-clause-none : goal.returns-in-None-clause-none
+returns-in-None-clause-none c =
+    let sh = c.args.heap.now.shape in
+    let v : View = view_of c.args.seat.now in
+    let idle = idle-of v c.args.seat.now.possible (rest-there sh v c.requires.seat.0.1 c.requires.rest) in
+    let n = c.in-None.ensures.none in
+    roomless sh v (events v (view_of c.clean_one.new.seat)) (ap holds_one idle.held) n.1 n.2
+
+pub returns-in-None-clause-left : goal.returns-in-None-clause-left
+returns-in-None-clause-left c = let v : View = view_of c.args.seat.now in rescanned-same (events v (view_of c.clean_one.new.seat)) v ∙ c.in-None.ensures.none.3
+
+pub returns-in-None-clause-unpopped : goal.returns-in-None-clause-unpopped
+returns-in-None-clause-unpopped c = moved-untaken (0 ∷ 1 ∷ 2 ∷ []) pops (moves-unpopped (0 ∷ 1 ∷ 2 ∷ [])) (events (view_of c.args.seat.now) (view_of c.clean_one.new.seat)) c.in-None.ensures.none.2
+
+pub returns-in-None-clause-unrooted : goal.returns-in-None-clause-unrooted
+returns-in-None-clause-unrooted c = moved-untaken (0 ∷ 1 ∷ 2 ∷ []) reads_root (moves-unrooted (0 ∷ 1 ∷ 2 ∷ [])) (events (view_of c.args.seat.now) (view_of c.clean_one.new.seat)) c.in-None.ensures.none.2
+
+pub returns-in-None-clause-undrawn : goal.returns-in-None-clause-undrawn
+returns-in-None-clause-undrawn c = untaken traces_cells draws undraws (events (view_of c.args.seat.now) (view_of c.clean_one.new.seat)) c.in-None.ensures.later.only
+
+pub returns-in-Some-clause-unread : goal.returns-in-Some-clause-unread
+returns-in-Some-clause-unread c = unread-of (view_of c.args.seat.now) (view_of c.clean_one.new.seat) c.in-Some.ensures.later
+
+pub returns-in-None-clause-unread : goal.returns-in-None-clause-unread
+returns-in-None-clause-unread c = unread-of (view_of c.args.seat.now) (view_of c.clean_one.new.seat) c.in-None.ensures.later

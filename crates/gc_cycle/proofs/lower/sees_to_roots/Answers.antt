@@ -1,0 +1,103 @@
+use Rattle.std.proofs.Common.{◌≡◌, ◌∷◌, [], sym, ap, ◌∙◌, true, false}
+use Rattle.std.proofs.lemmas.Bool.{not-true}
+use Rattle.mark_core.specs.Seats.{work_in_hand}
+use Rattle.mark_core.specs.declared.kinds.Phase.TheVariants.{Drain}
+use Rattle.mark_core.specs.declared.kinds.Shape.{Shape}
+use Rattle.gc_table.specs.Log.{events}
+use Rattle.gc_table.specs.Seats.{view_of}
+use Rattle.gc_table.specs.declared.view.View.{View}
+use Rattle.packet_pools.specs.Later.{Later}
+use Rattle.packet_pools.specs.Tracing.{Traces}
+use Rattle.card_clean.proofs.Staying.{ready-stays}
+use Rattle.gc_cycle.specs.Finishing.{IsAloneIn}
+use Rattle.gc_cycle.specs.Lower.{HasTraced}
+use Rattle.gc_cycle.specs.Standing.{is_at_rest}
+use Rattle.gc_cycle.proofs.Idling.{idle-of, moves-quiet, rescanned-same, traced-held, traced-of, traces-of}
+use Rattle.gc_cycle.proofs.Moving.{no-work}
+use Rattle.gc_cycle.proofs.Parts.{part-join}
+use Rattle.gc_cycle.proofs.Rooted.{ready-of, rest-room, rooted-of}
+use Rattle.gc_cycle.proofs.Traced.{alone-traces, nothing-rest, rescans-none, traced-part}
+use Rattle.gc_cycle.proofs.lower.sees_to_roots.Goals as goal
+
+rest-of : (v : View) → IsAloneIn Drain v → is_at_rest v.shape v.state ≡ true
+rest-of v a = nothing-rest v.shape v.state a.rest.rest
+
+seen : (sh : Shape) (v w : View) → w.shape ≡ sh → IsAloneIn Drain v → Later v w → Traces w → w.state.held ≡ v.state.held → work_in_hand sh.fields w.state ≡ false → HasTraced v w
+seen sh v w e a l t h k = traced-held v w l t h (ap (λ (x : Shape). work_in_hand x.fields w.state) e ∙ k) (rest-of v a)
+
+pub see_to_roots-requires-clause-seat : goal.see_to_roots-requires-clause-seat
+see_to_roots-requires-clause-seat c =
+    let v : View = view_of c.args.seat.now in
+    (c.requires.seat, traces-of v.shape v (alone-traces v c.requires.alone.0) (rest-of v c.requires.alone.0))
+
+pub see_to_roots-requires-clause-ready : goal.see_to_roots-requires-clause-ready
+see_to_roots-requires-clause-ready c = ready-of (view_of c.args.seat.now) c.requires.alone.0 c.requires.alone.1
+
+pub see_to_roots-requires-clause-free : goal.see_to_roots-requires-clause-free
+see_to_roots-requires-clause-free c = let v : View = view_of c.args.seat.now in rest-room v c.args.seat.now.possible (rest-of v c.requires.alone.0)
+
+pub see_to_roots-requires-clause-work : goal.see_to_roots-requires-clause-work
+see_to_roots-requires-clause-work c =
+    let v : View = view_of c.args.seat.now in
+    ap (λ (sh : Shape). work_in_hand sh.fields v.state) (sym c.requires.seat.1) ∙ not-true _ (no-work v c.requires.alone.0.rest)
+
+pub returns-then-see_to_roots-clause-part : goal.returns-then-see_to_roots-clause-part
+returns-then-see_to_roots-clause-part c =
+    let v : View = view_of c.args.seat.now in
+    let w : View = view_of c.see_to_roots.new.seat in
+    let e = c.see_to_roots.ensures in
+    traced-part v w c.requires.alone.0 (seen c.args.heap.now.shape v w e.seat.0.1 c.requires.alone.0 e.later e.seat.1 e.held e.work)
+
+pub returns-then-see_to_roots-clause-next : goal.returns-then-see_to_roots-clause-next
+returns-then-see_to_roots-clause-next c =
+    let v : View = view_of c.args.seat.now in
+    let e = c.see_to_roots.ensures in
+    (ready-stays v (view_of c.see_to_roots.new.seat) e.later.ran e.later.only (ready-of v c.requires.alone.0 c.requires.alone.1)).next_block
+
+pub returns-then-see_to_roots-clause-rescanned : goal.returns-then-see_to_roots-clause-rescanned
+returns-then-see_to_roots-clause-rescanned c =
+    let v : View = view_of c.args.seat.now in
+    rescanned-same (events v (view_of c.see_to_roots.new.seat)) v ∙ c.see_to_roots.ensures.left
+
+pub returns-then-see_to_roots-clause-rooted : goal.returns-then-see_to_roots-clause-rooted
+unfolding returns-then-see_to_roots-clause-part
+returns-then-see_to_roots-clause-rooted c t =
+    rooted-of (view_of c.see_to_roots.new.seat) (returns-then-see_to_roots-clause-part c).alone (c.if-see_to_roots.ensures.rooted t)
+
+pub recycle_deferred-requires-clause-seat : goal.recycle_deferred-requires-clause-seat
+recycle_deferred-requires-clause-seat c = c.see_to_roots.ensures.seat
+
+pub recycle_deferred-requires-clause-idle : goal.recycle_deferred-requires-clause-idle
+recycle_deferred-requires-clause-idle c =
+    let v : View = view_of c.args.seat.now in
+    let w : View = view_of c.see_to_roots.new.seat in
+    let e = c.see_to_roots.ensures in
+    idle-of w c.see_to_roots.new.seat.possible (seen c.args.heap.now.shape v w e.seat.0.1 c.requires.alone.0 e.later e.seat.1 e.held e.work).rest
+
+pub returns-clause-part : goal.returns-clause-part
+returns-clause-part c =
+    let v : View = view_of c.args.seat.now in
+    let w : View = view_of c.see_to_roots.new.seat in
+    let x : View = view_of c.recycle_deferred.new.seat in
+    let e = c.see_to_roots.ensures in
+    let r = c.recycle_deferred.ensures in
+    let t = seen c.args.heap.now.shape v w e.seat.0.1 c.requires.alone.0 e.later e.seat.1 e.held e.work in
+    let p = traced-part v w c.requires.alone.0 t in
+    part-join Drain v w x p (traced-part w x p.alone (traced-of w x r.later ((λ i. is_at_rest (r.later.shape i) (r.state i)) ∙ t.rest)))
+
+pub returns-clause-next : goal.returns-clause-next
+returns-clause-next c =
+    let v : View = view_of c.args.seat.now in
+    let w : View = view_of c.see_to_roots.new.seat in
+    let e = c.see_to_roots.ensures in
+    let r = c.recycle_deferred.ensures in
+    (ready-stays w (view_of c.recycle_deferred.new.seat) r.later.ran r.later.only (ready-stays v w e.later.ran e.later.only (ready-of v c.requires.alone.0 c.requires.alone.1))).next_block
+
+pub returns-clause-rescanned : goal.returns-clause-rescanned
+returns-clause-rescanned c =
+    let v : View = view_of c.args.seat.now in
+    let w : View = view_of c.see_to_roots.new.seat in
+    let x : View = view_of c.recycle_deferred.new.seat in
+    let e = c.see_to_roots.ensures in
+    let r = c.recycle_deferred.ensures in
+    rescans-none v w x e.later.ran r.later.ran (rescanned-same (events v w) v ∙ e.left) (moves-quiet (3 ∷ []) (events w x) w r.recycled.moves)

@@ -1,0 +1,95 @@
+use Rattle.std.proofs.Common.{ℕ, arith, ◌≡◌, ◌≤◌, [], ◌∷◌, refl, sym, ap, ◌∙◌, subst, Bool, true, ⊎_elim}
+use Rattle.std.specs.Prelude.{if◌then◌else◌, ◌<◌, ◌++◌}
+use Rattle.std.proofs.lemmas.Bool.{and_from, and_parts, le-leb, le-ltb, lt-ltb, or_left, or_right}
+use Rattle.mark_core.specs.Layout.{block_count}
+use Rattle.mark_core.specs.Notes.{keeps_bound}
+use Rattle.mark_core.specs.Places.{the_next_block}
+use Rattle.mark_core.specs.declared.kinds.Shape.{Shape}
+use Rattle.mark_core.specs.declared.kinds.Step.TheVariants.{ReadStat}
+use Rattle.mark_core.specs.declared.seat.SeatState.{SeatState}
+use Rattle.gc_table.specs.Log.{event, events}
+use Rattle.gc_table.specs.Seats.{view_of}
+use Rattle.gc_table.specs.declared.view.View.{View}
+use Rattle.gc_table.proofs.Log.{only-more}
+use Rattle.packet_pools.specs.Counts.{count_of}
+use Rattle.packet_pools.specs.Seeking.{some_event}
+use Rattle.sweeper.specs.Blocks.{Ended, drawn, swept_events}
+use Rattle.sweeper.specs.Sweepers.{is_sweeping}
+use Rattle.gc_cycle.specs.Lower.{block_floor, sweeps_blocks}
+use Rattle.gc_cycle.specs.Sorts.{gets_block, sees_last_block}
+use Rattle.gc_cycle.proofs.Swept.{cleaning-done, floor-above, floor-low, floor-rises, freed-same, sweeping}
+use Rattle.gc_cycle.proofs.lower.sweep_next.Goals as goal
+
+same-state : (v w : View) (s : SeatState) → w.state ≡ s → s ≡ record v.state { below_block = s.below_block; cleaning = s.cleaning } → w.state ≡ record v.state { below_block = w.state.below_block; cleaning = w.state.cleaning }
+same-state v w s e h = e ∙ (h ∙ (λ i. record v.state { below_block = sym (ap (λ (t : SeatState). t.below_block) e) i; cleaning = sym (ap (λ (t : SeatState). t.cleaning) e) i }))
+
+abbrev one_if : Bool → ℕ
+one_if b = if b then 1 else 0
+
+-- one block came in hand
+got-one : (n b seen alloc mark : ℕ) → b < n → count_of (gets_block n) (drawn seen b ++ swept_events b alloc mark) ≡ 1
+got-one n b seen alloc mark l = let h = ap one_if (lt-ltb b n l) in omega (arith, h)
+
+got-none : (n : ℕ) (v w : View) (e : Ended v w) → n ≤ e.number → count_of (gets_block n) (events v w) ≡ 0
+got-none n v w e l =
+    ⊎_elim
+    (λ (x : events v w ≡ event (ReadStat 1) e.number ∷ []). ap (count_of (gets_block n)) x)
+    (λ (x : (seen : ℕ) × (events v w ≡ drawn seen e.number)).
+    ap (count_of (gets_block n)) x.1 ∙ (let h = ap one_if (le-ltb e.number n l) in omega (arith, h)))
+    e.events
+
+-- the end was seen
+end-seen : (n : ℕ) (v w : View) (e : Ended v w) → n ≤ e.number → some_event (sees_last_block n) (events v w) ≡ true
+end-seen n v w e h =
+    ⊎_elim
+    (λ (x : events v w ≡ event (ReadStat 1) e.number ∷ []). ap (some_event (sees_last_block n)) x ∙ or_left _ _ (and_from _ _ refl (le-leb n e.number h)))
+    (λ (x : (seen : ℕ) × (events v w ≡ drawn seen e.number)). ap (some_event (sees_last_block n)) x.1 ∙ or_right _ _ (or_left _ _ (le-leb n e.number h)))
+    e.events
+
+pub sweep_next-requires : goal.sweep_next-requires
+sweep_next-requires c = record { seat = (c.requires.seat, record { may = ⊎_elim (λ a. or_left _ _ a) (λ b. or_right _ _ b) c.requires.sweeps; free = c.requires.block }) }
+
+pub returns-in-Some-clause-only : goal.returns-in-Some-clause-only
+returns-in-Some-clause-only c = only-more is_sweeping sweeps_blocks sweeping (view_of c.args.seat.now) (view_of c.sweep_next.new.seat) c.in-Some.ensures.only
+
+pub returns-in-Some-clause-state : goal.returns-in-Some-clause-state
+returns-in-Some-clause-state c = same-state (view_of c.args.seat.now) (view_of c.sweep_next.new.seat) _ c.in-Some.ensures.some.state refl
+
+pub returns-in-Some-clause-left : goal.returns-in-Some-clause-left
+returns-in-Some-clause-left c left = cleaning-done (view_of c.args.seat.now) (view_of c.sweep_next.new.seat) c.in-Some.ensures.ran c.in-Some.ensures.only left
+
+pub returns-in-Some-clause-some : goal.returns-in-Some-clause-some
+returns-in-Some-clause-some c =
+    let v : View = view_of c.args.seat.now in
+    let w : View = view_of c.sweep_next.new.seat in
+    let s = c.in-Some.ensures.some in
+    let keeps : keeps_bound v.state the_next_block ≡ true =
+    ⊎_elim (λ a. or_right v.state.admitted v.state.knows (and_parts v.state.knows _ a).0) (λ b. or_left v.state.admitted v.state.knows (and_parts v.state.admitted _ b).0) c.requires.sweeps in
+    let low = floor-low v c.in-Some.swept.block keeps s.order in
+    let there = s.there in
+    let shape = c.requires.seat.1 in (
+      freed-same (events v w) v ∙ s.counted,
+      floor-rises v w c.in-Some.swept.block keeps s.order s.above,
+      subst (λ (sh : Shape). block_floor v < block_count sh) shape (omega (arith, low, there)),
+      ap (count_of (gets_block (block_count c.args.heap.now.shape))) s.events ∙ got-one (block_count c.args.heap.now.shape) c.in-Some.swept.block s.seen s.alloc s.mark (subst (λ (sh : Shape). c.in-Some.swept.block < block_count sh) shape there),
+    )
+
+pub returns-in-None-clause-only : goal.returns-in-None-clause-only
+returns-in-None-clause-only c = only-more is_sweeping sweeps_blocks sweeping (view_of c.args.seat.now) (view_of c.sweep_next.new.seat) c.in-None.ensures.only
+
+pub returns-in-None-clause-state : goal.returns-in-None-clause-state
+returns-in-None-clause-state c = same-state (view_of c.args.seat.now) (view_of c.sweep_next.new.seat) _ c.in-None.ensures.none.state refl
+
+pub returns-in-None-clause-left : goal.returns-in-None-clause-left
+returns-in-None-clause-left c left = cleaning-done (view_of c.args.seat.now) (view_of c.sweep_next.new.seat) c.in-None.ensures.ran c.in-None.ensures.only left
+
+pub returns-in-None-clause-none : goal.returns-in-None-clause-none
+returns-in-None-clause-none c =
+    let v : View = view_of c.args.seat.now in
+    let w : View = view_of c.sweep_next.new.seat in
+    let e = c.in-None.ensures.none in
+    let shape = c.requires.seat.1 in (
+      end-seen (block_count c.args.heap.now.shape) v w e (subst (λ (sh : Shape). block_count sh ≤ e.number) shape e.end),
+      subst (λ (sh : Shape). block_count sh ≤ block_floor w) shape (floor-above (block_count v.shape) w e.above),
+      got-none (block_count c.args.heap.now.shape) v w e (subst (λ (sh : Shape). block_count sh ≤ e.number) shape e.end),
+    )

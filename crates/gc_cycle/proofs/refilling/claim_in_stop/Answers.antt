@@ -1,0 +1,56 @@
+use Rattle.std.proofs.Common.{refl, sym, ap, ◌∙◌, Some}
+use Rattle.mark_core.specs.declared.seat.SeatState.{SeatState}
+use Rattle.gc_table.specs.Log.{events}
+use Rattle.gc_table.specs.Seats.{view_of}
+use Rattle.gc_table.specs.declared.view.View.{View}
+use Rattle.gc_cycle.specs.Moments.{begins}
+use Rattle.gc_cycle.proofs.Collected.{exactly-collects}
+use Rattle.gc_cycle.proofs.InStop.{claims-later, claims-none, fills-caused, fills-own, quiet-finish, rests-held, rests-later}
+use Rattle.gc_cycle.proofs.refilling.claim_in_stop.Goals as goal
+
+pub claim_or_collect-requires-clause-alone : goal.claim_or_collect-requires-clause-alone
+claim_or_collect-requires-clause-alone g c =
+    let u : View = view_of c.args.seat.now in
+    let p = c.finish_cycle.ensures in
+    (p.alone, rests-later u (view_of c.finish_cycle.new.seat) p.ran p.only u refl refl (rests-held u c.requires.stopped))
+
+pub claim_or_fill-requires-clause-alone : goal.claim_or_fill-requires-clause-alone
+claim_or_fill-requires-clause-alone g c =
+    let u : View = view_of c.args.seat.now in
+    let p = c.precise.ensures in
+    (p.alone.0, rests-later u (view_of c.precise.new.seat) p.ran p.only u refl refl (rests-held u c.requires.stopped))
+
+pub returns-in-Some-Full-clause-claims : goal.returns-in-Some-Full-clause-claims
+returns-in-Some-Full-clause-claims g c =
+    let is = rw c.in-Some-Full.is at c.in-Some-Full.field-0-is in
+    claims-none (view_of c.args.seat.now) c.requires.stopped (ap (λ (s : SeatState). s.phase_seen) (sym c.state.ensures) ∙ (c.in-Some-Full.is ∙ ap Some is))
+
+pub returns-in-Some-Marking-clause-claims : goal.returns-in-Some-Marking-clause-claims
+returns-in-Some-Marking-clause-claims g c =
+    let u : View = view_of c.args.seat.now in
+    let v : View = view_of c.finish_cycle.new.seat in
+    let p = c.finish_cycle.ensures in
+    claims-later c.claim_or_collect.result u v (view_of c.claim_or_collect.new.seat) (quiet-finish u v p.ran p.only p.spares p.going) c.claim_or_collect.ensures.claims
+
+pub returns-in-Some-Marking-clause-fills : goal.returns-in-Some-Marking-clause-fills
+returns-in-Some-Marking-clause-fills g c =
+    let u : View = view_of c.args.seat.now in
+    let v : View = view_of c.finish_cycle.new.seat in
+    let p = c.finish_cycle.ensures in
+    fills-own c.args.heap.now.shape u v (view_of c.claim_or_collect.new.seat) (quiet-finish u v p.ran p.only p.spares p.going) c.claim_or_collect.ensures.claims.ran c.claim_or_collect.ensures.fills
+
+pub returns-in_default-clause-claims : goal.returns-in_default-clause-claims
+returns-in_default-clause-claims g c =
+    let u : View = view_of c.args.seat.now in
+    let v : View = view_of c.precise.new.seat in
+    let p = c.precise.ensures in
+    claims-later c.claim_or_fill.result u v (view_of c.claim_or_fill.new.seat) (quiet-finish u v p.ran p.only p.spares p.going) c.claim_or_fill.ensures.claims
+
+pub returns-in_default-clause-fills : goal.returns-in_default-clause-fills
+returns-in_default-clause-fills g c =
+    let u : View = view_of c.args.seat.now in
+    let v : View = view_of c.precise.new.seat in
+    let p = c.precise.ensures in
+    let f = c.claim_or_fill.ensures in
+    fills-caused c.args.heap.now.shape u v (view_of c.claim_or_fill.new.seat) (quiet-finish u v p.ran p.only p.spares p.going) f.claims.ran
+    (f.fills (events u v) (exactly-collects c.args.heap.now.shape (begins u) (events u v) p.collects))

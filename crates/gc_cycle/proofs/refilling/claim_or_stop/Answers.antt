@@ -1,0 +1,61 @@
+use Rattle.std.proofs.Common.{◌<◌, Some, subst}
+use Rattle.mark_core.specs.Layout.{block_count}
+use Rattle.mark_core.specs.declared.kinds.Shape.{Shape}
+use Rattle.gc_table.specs.Seats.{view_of}
+use Rattle.gc_table.specs.declared.view.View.{View}
+use Rattle.gc_table.proofs.Log.{only-more}
+use Rattle.gc_table.proofs.Running.{ran-join}
+use Rattle.alloc_cache.specs.Claiming.{seeks_block}
+use Rattle.gc_cycle.specs.Refilling.{prepares}
+use Rattle.gc_cycle.proofs.Answered.{mutates-same}
+use Rattle.gc_cycle.proofs.Paced.{seeks-prepare}
+use Rattle.gc_cycle.proofs.Rounds.{calm-stops, claims-cached, claims-claimed, claims-mutates, claims-only, leads-caused, leads-prepared, leads-stops, later-some, round-calm, round-later, searched-stops, some-blocks}
+use Rattle.gc_cycle.proofs.refilling.claim_or_stop.Goals as goal
+
+pub returns-in-None-clause-round : goal.returns-in-None-clause-round
+returns-in-None-clause-round g c =
+    let v : View = view_of c.args.seat.now in
+    let x : View = view_of c.claim.new.seat in
+    round-later v x (view_of c.refill_in_stop.new.seat) c.refill_in_stop.result (leads-prepared v x c.claim.ensures.ran (only-more seeks_block prepares seeks-prepare v x c.in-None.ensures.none.3)) c.refill_in_stop.ensures.round
+
+pub returns-in-None-clause-stops : goal.returns-in-None-clause-stops
+returns-in-None-clause-stops g c =
+    let v : View = view_of c.args.seat.now in
+    let x : View = view_of c.claim.new.seat in
+    let sh : Shape = c.args.heap.now.shape in
+    let n = c.in-None.ensures.none in
+    let some : 0 < block_count sh = subst (λ (s : Shape). 0 < block_count s) c.requires.seat.0.1 (some-blocks v c.args.seat.now.possible) in
+    leads-caused sh v x (view_of c.refill_in_stop.new.seat) (leads-prepared v x c.claim.ensures.ran (only-more seeks_block prepares seeks-prepare v x n.3)) c.refill_in_stop.ensures.round.ran (searched-stops sh v x some n.3 n.2)
+
+pub returns-in-None-clause-some : goal.returns-in-None-clause-some
+returns-in-None-clause-some g c =
+    let v : View = view_of c.args.seat.now in
+    let x : View = view_of c.claim.new.seat in
+    let l = leads-prepared v x c.claim.ensures.ran (only-more seeks_block prepares seeks-prepare v x c.in-None.ensures.none.3) in
+    later-some c.refill_in_stop.result (λ r f u q t p. f u (ran-join u v x q l.ran) (l.tells u q t)) c.refill_in_stop.ensures.some
+
+pub returns-in-Some-clause-round : goal.returns-in-Some-clause-round
+returns-in-Some-clause-round g c =
+    let v : View = view_of c.args.seat.now in
+    let x : View = view_of c.claim.new.seat in
+    let w : View = view_of c.pay_for.new.seat in
+    let p = c.pay_for.ensures in
+    round-later v x w (Some c.pay_for.result) (leads-prepared v x c.claim.ensures.ran (claims-only c.in-Some.cache v x c.in-Some.ensures.some)) (round-calm x w c.pay_for.result p.ran p.only p.known)
+
+pub returns-in-Some-clause-stops : goal.returns-in-Some-clause-stops
+returns-in-Some-clause-stops g c =
+    let v : View = view_of c.args.seat.now in
+    let x : View = view_of c.claim.new.seat in
+    let w : View = view_of c.pay_for.new.seat in
+    let p = c.pay_for.ensures in
+    let sh : Shape = c.args.heap.now.shape in
+    leads-stops sh v x w (leads-prepared v x c.claim.ensures.ran (claims-only c.in-Some.cache v x c.in-Some.ensures.some)) p.ran (calm-stops sh x w p.only)
+
+pub returns-in-Some-clause-some : goal.returns-in-Some-clause-some
+returns-in-Some-clause-some g c =
+    let v : View = view_of c.args.seat.now in
+    let x : View = view_of c.claim.new.seat in
+    λ u q t p. c.pay_for.ensures.refills u (claims-claimed c.in-Some.cache u v x c.requires.seat.1.active q t p c.claim.ensures.ran c.in-Some.ensures.some)
+
+pub pay_for-requires-clause-cache : goal.pay_for-requires-clause-cache
+pay_for-requires-clause-cache g c = claims-cached c.in-Some.cache (view_of c.args.seat.now) (view_of c.claim.new.seat) c.in-Some.ensures.some

@@ -1,0 +1,68 @@
+use Rattle.std.proofs.Common.{◌∙◌, refl, subst, sym}
+use Rattle.gc_table.specs.Seats.{view_of}
+use Rattle.gc_table.specs.declared.view.View.{View}
+use Rattle.gc_table.proofs.Log.{only-more, only-none}
+use Rattle.gc_table.proofs.Running.{ran-refl}
+use Rattle.gc_cycle.specs.Answering.{answers}
+use Rattle.gc_cycle.specs.Mutating.{stays_calm}
+use Rattle.gc_cycle.specs.Payment.{HasPaid, pays_cells}
+use Rattle.gc_cycle.specs.Sparing.{spares_part}
+use Rattle.gc_cycle.proofs.Answered.{answers-calm, full-later}
+use Rattle.gc_cycle.proofs.Collected.{calm-spares}
+use Rattle.gc_cycle.proofs.Fulls.{mutates-still}
+use Rattle.gc_cycle.proofs.Refilled.{gets-free, gets-paid, gives-up, looked-calm, looked-ran, read-idle}
+use Rattle.gc_cycle.proofs.Retired.{owes-none}
+use Rattle.gc_cycle.proofs.refilling.pay_for.Goals as goal
+
+pub retire-requires-clause-owes : goal.retire-requires-clause-owes
+retire-requires-clause-owes c =
+    let w : View = view_of c.read_phase.new.seat in
+    let t = c.read_phase.ensures.view in
+    owes-none w (mutates-still (view_of c.args.seat.now) w t.0 (t.1, t.2) c.requires.seat.1)
+
+pub returns-in-Full : goal.returns-in-Full
+returns-in-Full c =
+    let v : View = view_of c.args.seat.now in
+    let y : View = view_of c.store_position.new.seat in
+    let t = c.read_phase.ensures.view in
+    let e = c.retire.ensures in
+    let g = gives-up v (view_of c.read_phase.new.seat) (view_of c.retire.new.seat) y c.args.cache c.args.done t.0 c.requires.seat.1 (t.1, t.2) (sym t.3 ∙ c.in-Full.is) e.ran e.state e.steps c.store_position.ensures.view in
+    record {
+      seat = c.store_position.ensures.seat;
+      ran = g.0;
+      only = only-more answers stays_calm answers-calm v y g.1;
+      known = g.3;
+      refills = λ u k. full-later c.args.done u v y k.ran g.0 g.2;
+    }
+
+pub returns-in-Marking : goal.returns-in-Marking
+returns-in-Marking c =
+    let v : View = view_of c.args.seat.now in
+    let w : View = view_of c.read_phase.new.seat in
+    let x : View = view_of c.pay-paid.new.seat in
+    let t = c.read_phase.ensures.view in
+    let q = subst (λ n. HasPaid n c.pay-paid.result w x) c.free.ensures c.pay-paid.ensures.paid in
+    let calm = looked-calm v w x t.0 (t.1, t.2) q.ran q.only in
+    record {
+      seat = c.pay-paid.ensures.seat;
+      ran = looked-ran v w x t.0 (t.1, t.2) q.ran;
+      only = calm;
+      known = only-more stays_calm spares_part calm-spares v x calm;
+      refills = λ u k. gets-paid c.args.cache u v w x t.0 k (t.1, t.2) q.ran q.only c.pay-paid.result c.requires.seat.1 c.requires.cache q (sym t.3 ∙ c.in-Marking.is);
+    }
+
+pub returns-in_default : goal.returns-in_default
+returns-in_default c =
+    let v : View = view_of c.args.seat.now in
+    let w : View = view_of c.read_phase.new.seat in
+    let t = c.read_phase.ensures.view in
+    let m = c.requires.seat.1 in
+    let calm = looked-calm v w w t.0 (t.1, t.2) (ran-refl w) (only-none pays_cells w) in
+    let idle = read-idle v t.0 c.read_phase.result t.2 m.active t.3 c.in_default.not-Marking c.in_default.not-Full in
+    record {
+      seat = c.read_phase.ensures.seat;
+      ran = looked-ran v w w t.0 (t.1, t.2) (ran-refl w);
+      only = calm;
+      known = only-more stays_calm spares_part calm-spares v w calm;
+      refills = λ u k. gets-free c.args.cache u v w w t.0 k (t.1, t.2) (ran-refl w) (only-none pays_cells w) c.nothing.result m c.requires.cache c.nothing.ensures idle (mutates-still v w t.0 (t.1, t.2) m) refl refl;
+    }

@@ -1,0 +1,80 @@
+use Rattle.gc_table.specs.Seats.{view_of}
+use Rattle.gc_table.specs.declared.view.View.{View}
+use Rattle.mark_core.specs.declared.kinds.Shape.{Shape}
+use Rattle.gc_table.specs.Log.{events}
+use Rattle.gc_cycle.specs.Cycles.{fills_with_cause}
+use Rattle.gc_cycle.specs.Stops.{stops_with_cause}
+use Rattle.std.proofs.Common.{sym, subst, true, ◌≡◌}
+use Rattle.gc_table.proofs.Running.{ran-refl}
+use Rattle.gc_cycle.proofs.Fulls.{tells-none}
+use Rattle.gc_cycle.proofs.Rounds.{ends-round, tried-more, tried-none}
+use Rattle.gc_cycle.proofs.refilling.refill.Goals as goal
+
+pub loop-init : goal.loop-init
+loop-init g c = record { next = tt; finite = tt; sits = c.requires.seat.0; tried = tried-none (view_of c.args.seat.now) c.requires.seat.1 c.requires.cache }
+
+pub loop-preserved : goal.loop-preserved
+loop-preserved g c =
+    let i = c.loop.invariant in
+    let e = c.refill_once.ensures in
+    record { next = tt; finite = tt; sits = e.seat; tried = tried-more (view_of c.args.seat.now) (view_of c.loop.seat) (view_of c.refill_once.new.seat) i.tried c.in_default.ensures.round (subst (λ (sh : Shape). stops_with_cause sh (events (view_of c.loop.seat) (view_of c.refill_once.new.seat)) ≡ true) (sym i.sits.1) e.stops) }
+
+pub returns-in-Some-refill_once-clause-ran : goal.returns-in-Some-refill_once-clause-ran
+returns-in-Some-refill_once-clause-ran g c =
+    let u : View = view_of c.args.seat.now in
+    let v : View = view_of c.loop.seat in
+    let w : View = view_of c.refill_once.new.seat in
+    let e = c.in-Some-refill_once.ensures in
+    let d = ends-round _ u v w c.loop.invariant.tried e.round (subst (λ (sh : Shape). stops_with_cause sh (events v w) ≡ true) (sym c.loop.invariant.sits.1) e.stops) in
+    d.ran
+
+pub returns-in-Some-refill_once-clause-stops : goal.returns-in-Some-refill_once-clause-stops
+returns-in-Some-refill_once-clause-stops g c =
+    let u : View = view_of c.args.seat.now in
+    let v : View = view_of c.loop.seat in
+    let w : View = view_of c.refill_once.new.seat in
+    let e = c.in-Some-refill_once.ensures in
+    let d = ends-round _ u v w c.loop.invariant.tried e.round (subst (λ (sh : Shape). stops_with_cause sh (events v w) ≡ true) (sym c.loop.invariant.sits.1) e.stops) in
+    subst (λ (sh : Shape). stops_with_cause sh (events u w) ≡ true) c.requires.seat.0.1 d.stops
+
+pub returns-in-Some-refill_once-clause-fills : goal.returns-in-Some-refill_once-clause-fills
+returns-in-Some-refill_once-clause-fills g c =
+    let u : View = view_of c.args.seat.now in
+    let v : View = view_of c.loop.seat in
+    let w : View = view_of c.refill_once.new.seat in
+    let e = c.in-Some-refill_once.ensures in
+    let d = ends-round _ u v w c.loop.invariant.tried e.round (subst (λ (sh : Shape). stops_with_cause sh (events v w) ≡ true) (sym c.loop.invariant.sits.1) e.stops) in
+    subst (λ (sh : Shape). fills_with_cause sh (events u w) ≡ true) c.requires.seat.0.1 d.fills
+
+pub returns-in-Some-refill_once-clause-keeps : goal.returns-in-Some-refill_once-clause-keeps
+returns-in-Some-refill_once-clause-keeps g c =
+    let u : View = view_of c.args.seat.now in
+    let v : View = view_of c.loop.seat in
+    let w : View = view_of c.refill_once.new.seat in
+    let e = c.in-Some-refill_once.ensures in
+    let d = ends-round _ u v w c.loop.invariant.tried e.round (subst (λ (sh : Shape). stops_with_cause sh (events v w) ≡ true) (sym c.loop.invariant.sits.1) e.stops) in
+    d.keeps
+
+pub returns-in-Some-refill_once-clause-only : goal.returns-in-Some-refill_once-clause-only
+returns-in-Some-refill_once-clause-only g c =
+    let u : View = view_of c.args.seat.now in
+    let v : View = view_of c.loop.seat in
+    let w : View = view_of c.refill_once.new.seat in
+    let e = c.in-Some-refill_once.ensures in
+    let d = ends-round _ u v w c.loop.invariant.tried e.round (subst (λ (sh : Shape). stops_with_cause sh (events v w) ≡ true) (sym c.loop.invariant.sits.1) e.stops) in
+    d.only
+
+pub returns-in-Some-refill_once-clause-spares : goal.returns-in-Some-refill_once-clause-spares
+returns-in-Some-refill_once-clause-spares g c =
+    let u : View = view_of c.args.seat.now in
+    let v : View = view_of c.loop.seat in
+    let w : View = view_of c.refill_once.new.seat in
+    let e = c.in-Some-refill_once.ensures in
+    let d = ends-round _ u v w c.loop.invariant.tried e.round (subst (λ (sh : Shape). stops_with_cause sh (events v w) ≡ true) (sym c.loop.invariant.sits.1) e.stops) in
+    d.spares
+
+pub returns-in-Some-refill_once-clause-refills : goal.returns-in-Some-refill_once-clause-refills
+returns-in-Some-refill_once-clause-refills g c =
+    let u : View = view_of c.args.seat.now in
+    let t = c.loop.invariant.tried in
+    c.in-Some-refill_once.ensures.some u t.ran (t.leads.tells u (ran-refl u) (tells-none u))

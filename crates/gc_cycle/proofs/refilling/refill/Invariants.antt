@@ -1,0 +1,11 @@
+use Rattle.gc_table.specs.Seats.{Sits, view_of}
+use Rattle.gc_cycle.proofs.Rounds.{HasTried}
+use Rattle.gc_cycle.proofs.refilling.refill.Given as goal
+
+abbrev pub invariant-loop : goal.invariant-loop
+invariant-loop g l = record {
+  next : (goal.iterator-loop g).can_next l.iterator';
+  finite : (goal.iterator-loop g).is_finite l.iterator';
+  sits : Sits l.heap l.seat;
+  tried : HasTried (view_of l.fn.seat) (view_of l.seat);
+}

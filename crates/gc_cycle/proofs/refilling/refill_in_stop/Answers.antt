@@ -1,0 +1,84 @@
+use Rattle.gc_table.specs.Seats.{view_of}
+use Rattle.gc_table.specs.declared.view.View.{View}
+use Rattle.gc_cycle.proofs.AfterStop.{done-resuming, round-cache, round-full, round-gets, round-none, round-theirs, to-drop}
+use Rattle.gc_cycle.proofs.Answered.{full-later}
+use Rattle.gc_cycle.proofs.refilling.refill_in_stop.Goals as goal
+
+pub returns-then-not-stop-clause-round : goal.returns-then-not-stop-clause-round
+returns-then-not-stop-clause-round g c = round-theirs (view_of c.args.seat.now) (view_of c.stop.new.seat) c.stop.ensures.tries c.if-not-stop.ensures.theirs
+
+pub resume-requires-clause-done : goal.resume-requires-clause-done
+resume-requires-clause-done g c = done-resuming (view_of c.claim_in_stop-cache.new.seat) c.claim_in_stop-cache.ensures.claims.resume
+
+pub returns-in-Full-clause-round : goal.returns-in-Full-clause-round
+returns-in-Full-clause-round g c =
+    let u : View = view_of c.args.seat.now in
+    let v : View = view_of c.stop.new.seat in
+    let w : View = view_of c.claim_in_stop-cache.new.seat in
+    let x : View = view_of c.resume.new.seat in
+    let y : View = view_of c.go_on.new.seat in
+    let o = c.claim_in_stop-cache.result in
+    let t = c.stop.ensures.tries in
+    let i = c.claim_in_stop-cache.ensures in
+    let d = c.resume.ensures.step in
+    let e = c.go_on.ensures in
+    round-full o u v w x y t i.claims d e.ran e.only c.args.heap.now.shape c.requires.seat.0.1 c.if-not-stop.ensures.yours.raised i.fills c.in-Full.ensures.answer.1
+
+pub returns-in-Full-clause-some : goal.returns-in-Full-clause-some
+returns-in-Full-clause-some g c =
+    let u : View = view_of c.args.seat.now in
+    let v : View = view_of c.stop.new.seat in
+    let w : View = view_of c.claim_in_stop-cache.new.seat in
+    let x : View = view_of c.resume.new.seat in
+    let y : View = view_of c.go_on.new.seat in
+    let o = c.claim_in_stop-cache.result in
+    let t = c.stop.ensures.tries in
+    let i = c.claim_in_stop-cache.ensures in
+    let d = c.resume.ensures.step in
+    let e = c.go_on.ensures in
+    λ z r k. full-later c.args.done z x y (to-drop o u v w x y t i.claims d e.ran e.only z r) e.ran c.in-Full.ensures.answer.0
+
+pub returns-in-Going-Some-clause-round : goal.returns-in-Going-Some-clause-round
+returns-in-Going-Some-clause-round g c =
+    let u : View = view_of c.args.seat.now in
+    let v : View = view_of c.stop.new.seat in
+    let w : View = view_of c.claim_in_stop-cache.new.seat in
+    let x : View = view_of c.resume.new.seat in
+    let y : View = view_of c.go_on.new.seat in
+    let o = c.claim_in_stop-cache.result in
+    let t = c.stop.ensures.tries in
+    let i = c.claim_in_stop-cache.ensures in
+    let d = c.resume.ensures.step in
+    let e = c.go_on.ensures in
+    let k = rw c.in-Going-Some.field-0-is at c.in-Going-Some.ensures.answer in
+    round-cache o u v w x y t i.claims d e.ran e.only c.args.heap.now.shape c.requires.seat.0.1 c.if-not-stop.ensures.yours.raised i.fills c.in-Going-Some.cache c.nothing.result k
+
+pub returns-in-Going-Some-clause-some : goal.returns-in-Going-Some-clause-some
+returns-in-Going-Some-clause-some g c =
+    let u : View = view_of c.args.seat.now in
+    let v : View = view_of c.stop.new.seat in
+    let w : View = view_of c.claim_in_stop-cache.new.seat in
+    let x : View = view_of c.resume.new.seat in
+    let y : View = view_of c.go_on.new.seat in
+    let o = c.claim_in_stop-cache.result in
+    let t = c.stop.ensures.tries in
+    let i = c.claim_in_stop-cache.ensures in
+    let d = c.resume.ensures.step in
+    let e = c.go_on.ensures in
+    let k = rw c.in-Going-Some.field-0-is at c.in-Going-Some.ensures.answer in
+    λ z r b. round-gets o u v w x y t i.claims d e.ran e.only z i.full r b c.in-Going-Some.cache c.nothing.result c.nothing.ensures k
+
+pub returns-in-Going-None-clause-round : goal.returns-in-Going-None-clause-round
+returns-in-Going-None-clause-round g c =
+    let u : View = view_of c.args.seat.now in
+    let v : View = view_of c.stop.new.seat in
+    let w : View = view_of c.claim_in_stop-cache.new.seat in
+    let x : View = view_of c.resume.new.seat in
+    let y : View = view_of c.go_on.new.seat in
+    let o = c.claim_in_stop-cache.result in
+    let t = c.stop.ensures.tries in
+    let i = c.claim_in_stop-cache.ensures in
+    let d = c.resume.ensures.step in
+    let e = c.go_on.ensures in
+    let k = rw c.in-Going-None.field-0-is at c.in-Going-None.ensures.answer in
+    round-none o u v w x y t i.claims d e.ran e.only c.args.heap.now.shape c.requires.seat.0.1 c.if-not-stop.ensures.yours.raised i.fills i.full k e.seat.1

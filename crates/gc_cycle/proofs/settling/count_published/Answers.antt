@@ -1,0 +1,29 @@
+use Rattle.std.proofs.Common.{arith}
+use Rattle.gc_table.specs.Seats.{view_of}
+use Rattle.gc_table.specs.declared.view.View.{View}
+use Rattle.mark_core.specs.declared.kinds.Phase.TheVariants.{Idle}
+use Rattle.std.proofs.lemmas.Nat.{ones-le}
+use Rattle.gc_cycle.proofs.Parts.{part-join}
+use Rattle.gc_cycle.proofs.Sets.{allocs-more, ones-more, part-read}
+use Rattle.gc_cycle.proofs.settling.count_published.Goals as goal
+
+pub loop-b-preserved : goal.loop-b-preserved
+loop-b-preserved c =
+    let u : View = view_of c.args.seat.now in
+    let v : View = view_of c.loop-b.seat in
+    let w : View = view_of c.read_alloc.new.seat in
+    let i = c.loop-b.invariant in
+    let b = c.loop-b.b in
+    let n = c.read_alloc.result in
+    let f = c.read_alloc.ensures.view in
+    let one = ones-more v w b n f i.part.alone.rest i.noted in
+    let few = ones-le 64 n c.read_alloc.type_inv in
+    let count = i.count in
+    let bound = i.bound in
+    record {
+      sits = c.read_alloc.ensures.seat;
+      part = part-join Idle u v w i.part (part-read v w b n f i.part.alone);
+      noted = allocs-more v w b n f i.part.alone.rest i.noted;
+      count = omega (arith, one, count);
+      bound = omega (arith, few, bound);
+    }

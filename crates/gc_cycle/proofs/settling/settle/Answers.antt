@@ -1,0 +1,65 @@
+use Rattle.std.proofs.Common.{ℕ, ◌-◌, refl, sym, ap, ◌∙◌, subst}
+use Rattle.mark_core.specs.Layout.{block_count}
+use Rattle.mark_core.specs.Places.{alloc_at, counter_at}
+use Rattle.mark_core.specs.declared.kinds.Phase.TheVariants.{Idle}
+use Rattle.mark_core.specs.declared.kinds.Shape.{Shape}
+use Rattle.gc_table.specs.Seats.{view_of}
+use Rattle.gc_table.specs.declared.view.View.{View}
+use Rattle.gc_table.specs.Running.{Known}
+use Rattle.gc_cycle.specs.Finishing.{AllocsNoted, ones_noted}
+use Rattle.gc_cycle.proofs.Ended.{cycle-ends}
+use Rattle.gc_cycle.proofs.Parts.{part-join}
+use Rattle.gc_cycle.proofs.Sets.{allocs-kept, KeepsAllocs, ones-kept, sets-kept}
+use Rattle.gc_cycle.proofs.settling.settle.Goals as goal
+
+pub returns-clause-part : goal.returns-clause-part
+returns-clause-part c =
+    let u : View = view_of c.args.seat.now in
+    let v : View = view_of c.count_published-marked.new.seat in
+    let w2 : View = view_of c.set_statistic.new.seat in
+    let w3 : View = view_of c.set_statistic-2.new.seat in
+    let w5 : View = view_of c.set_free.new.seat in
+    let w4 : View = view_of c.clear_statistic.new.seat in
+    let w0 : View = view_of c.clear_statistic-2.new.seat in
+    part-join Idle u v w0 c.count_published-marked.ensures.part
+    (part-join Idle v w2 w0 c.set_statistic.ensures.sets.part
+    (part-join Idle w2 w3 w0 c.set_statistic-2.ensures.sets.part
+    (part-join Idle w3 w5 w0 c.set_free.ensures.sets.part (part-join Idle w5 w4 w0 c.clear_statistic.ensures.sets.part c.clear_statistic-2.ensures.sets.part))))
+
+pub returns-clause-end : goal.returns-clause-end
+returns-clause-end c =
+    let v : View = view_of c.count_published-marked.new.seat in
+    let w2 : View = view_of c.set_statistic.new.seat in
+    let w3 : View = view_of c.set_statistic-2.new.seat in
+    let w5 : View = view_of c.set_free.new.seat in
+    let w4 : View = view_of c.clear_statistic.new.seat in
+    let w0 : View = view_of c.clear_statistic-2.new.seat in
+    let marked = c.count_published-marked.result in
+    let n = block_count c.args.heap.now.shape in
+    let p = c.count_published-marked.ensures in
+    let s2 = c.set_statistic.ensures.sets in
+    let s3 = c.set_statistic-2.ensures.sets in
+    let s5 = c.set_free.ensures.sets in
+    let s4 = c.clear_statistic.ensures.sets in
+    let s0 = c.clear_statistic-2.ensures.sets in
+    let keeps : KeepsAllocs v w0 =
+    λ b word k.
+    sets-kept 0 0 w4 w0 (alloc_at b) word refl refl s4.part.alone s0
+    (sets-kept 4 0 w5 w4 (alloc_at b) word refl refl s5.part.alone s4
+    (sets-kept 5 _ w3 w5 (alloc_at b) word refl refl s3.part.alone s5
+    (sets-kept 3 _ w2 w3 (alloc_at b) word refl refl s2.part.alone s3 (sets-kept 2 _ v w2 (alloc_at b) word refl refl p.part.alone s2 k)))) in
+    let last =
+    sets-kept 0 0 w4 w0 (counter_at 2) _ refl refl s4.part.alone s0
+    (sets-kept 4 0 w5 w4 (counter_at 2) _ refl refl s5.part.alone s4
+    (sets-kept 5 _ w3 w5 (counter_at 2) _ refl refl s3.part.alone s5 (sets-kept 3 _ w2 w3 (counter_at 2) _ refl refl s2.part.alone s3 s2.known))) in
+    let rescanned =
+    sets-kept 0 0 w4 w0 (counter_at 3) _ refl refl s4.part.alone s0
+    (sets-kept 4 0 w5 w4 (counter_at 3) _ refl refl s5.part.alone s4 (sets-kept 5 _ w3 w5 (counter_at 3) _ refl refl s3.part.alone s5 s3.known)) in
+    let free = sets-kept 0 0 w4 w0 (counter_at 5) _ refl refl s4.part.alone s0 (sets-kept 4 0 w5 w4 (counter_at 5) _ refl refl s5.part.alone s4 s5.known) in
+    let traced = sets-kept 0 0 w4 w0 (counter_at 4) _ refl refl s4.part.alone s0 s4.known in
+    let shape = c.clear_statistic-2.ensures.seat.1 in
+    cycle-ends (record { marked = marked; freed = c.args.freed; rescanned = c.args.rescanned }) w0 s0.part.alone
+    (subst (λ (sh : Shape). AllocsNoted (block_count sh) w0) (sym shape) (allocs-kept n v w0 p.noted keeps))
+    (p.count ∙ (sym (ones-kept n v w0 p.noted keeps) ∙ ap (λ (sh : Shape). ones_noted (block_count sh) w0) (sym shape)))
+    last rescanned traced s0.known
+    (subst (λ (m : ℕ). Known w0 (counter_at 5) m) (ap (λ (sh : Shape). sh.cells - marked) (c.shape.ensures ∙ sym shape)) free)

@@ -1,0 +1,85 @@
+use Rattle.std.proofs.Common.{◌++◌, sym, ap, ◌∙◌, inr}
+use Rattle.mark_core.specs.declared.kinds.Step.TheVariants.{Observe}
+use Rattle.gc_table.specs.Seats.{view_of}
+use Rattle.gc_table.specs.declared.view.View.{View}
+use Rattle.packet_pools.specs.Seeking.{some_event}
+use Rattle.packet_pools.proofs.Searches.{some-right}
+use Rattle.gc_table.specs.Log.{events}
+use Rattle.gc_table.proofs.Log.{events-after}
+use Rattle.gc_table.proofs.Running.{ran-events, ran-join}
+use Rattle.gc_cycle.specs.Events.{never}
+use Rattle.gc_cycle.specs.Sorts.{joins, leaves}
+use Rattle.gc_cycle.proofs.Waits.{stays-join}
+use Rattle.gc_cycle.proofs.Goings.{offered-last, out-join, polled-out, resumed-last}
+use Rattle.gc_cycle.proofs.stopping.await_resumed_helping.Goals as goal
+
+pub loop-preserved : goal.loop-preserved
+loop-preserved g c =
+    let u : View = view_of c.args.seat.now in
+    let v : View = view_of c.loop.seat in
+    let w : View = view_of c.poll.new.seat in
+    let x : View = view_of c.help_once.new.seat in
+    let i = c.loop.invariant in
+    let t = c.poll.ensures.step in
+    let p = polled-out v w t.0 c.poll.ensures.ran t.1 in
+    let h = c.help_once.ensures in
+    let to_x = out-join v w x p.0 h.out in
+    record {
+      next = tt;
+      finite = tt;
+      sits = h.seat.0;
+      out = h.seat.1;
+      goes = out-join u v x i.goes to_x;
+      own = h.own ∙ (p.1 ∙ i.own);
+      inside =
+          ap (never leaves) (ran-events u v x i.goes.ran to_x.ran)
+          ∙ stays-join (events u v) (events v x) i.inside
+          (ap (never leaves) (ran-events v w x p.0.ran h.out.ran) ∙ stays-join (events v w) (events w x) (ap (never leaves) (events-after v w Observe t.0 t.1)) h.inside);
+      offered =
+          inr
+          (ap (some_event joins) (ran-events u v x i.goes.ran to_x.ran)
+          ∙ some-right joins (events u v) (events v x) (ap (some_event joins) (ran-events v w x p.0.ran h.out.ran) ∙ some-right joins (events v w) (events w x) h.offered));
+    }
+
+pub returns-then-not-poll-clause-ran : goal.returns-then-not-poll-clause-ran
+returns-then-not-poll-clause-ran g c = ran-join (view_of c.args.seat.now) (view_of c.loop.seat) (view_of c.poll.new.seat) c.loop.invariant.goes.ran c.poll.ensures.ran
+
+pub returns-then-not-poll-clause-resumed : goal.returns-then-not-poll-clause-resumed
+returns-then-not-poll-clause-resumed g c =
+    let u : View = view_of c.args.seat.now in
+    let v : View = view_of c.loop.seat in
+    let w : View = view_of c.poll.new.seat in
+    let t = c.poll.ensures.step in
+    resumed-last u w (events u v) t.0 (ran-events u v w c.loop.invariant.goes.ran c.poll.ensures.ran ∙ ap (λ es. events u v ++ es) (events-after v w Observe t.0 t.1)) (sym t.3 ∙ c.if-not-poll.true)
+
+pub returns-then-not-poll-clause-offered : goal.returns-then-not-poll-clause-offered
+returns-then-not-poll-clause-offered g c =
+    let u : View = view_of c.args.seat.now in
+    let v : View = view_of c.loop.seat in
+    let w : View = view_of c.poll.new.seat in
+    let t = c.poll.ensures.step in
+    offered-last u w (events u v) t.0 (ran-events u v w c.loop.invariant.goes.ran c.poll.ensures.ran ∙ ap (λ es. events u v ++ es) (events-after v w Observe t.0 t.1)) (sym t.3 ∙ c.if-not-poll.true) c.loop.invariant.offered
+
+pub returns-then-not-poll-clause-only : goal.returns-then-not-poll-clause-only
+returns-then-not-poll-clause-only g c =
+    let u : View = view_of c.args.seat.now in
+    let v : View = view_of c.loop.seat in
+    let w : View = view_of c.poll.new.seat in
+    let t = c.poll.ensures.step in
+    (out-join u v w c.loop.invariant.goes (polled-out v w t.0 c.poll.ensures.ran t.1).0).only
+
+pub returns-then-not-poll-clause-not_full : goal.returns-then-not-poll-clause-not_full
+returns-then-not-poll-clause-not_full g c =
+    let u : View = view_of c.args.seat.now in
+    let v : View = view_of c.loop.seat in
+    let w : View = view_of c.poll.new.seat in
+    let t = c.poll.ensures.step in
+    (out-join u v w c.loop.invariant.goes (polled-out v w t.0 c.poll.ensures.ran t.1).0).not_full
+
+pub returns-then-not-poll-clause-inside : goal.returns-then-not-poll-clause-inside
+returns-then-not-poll-clause-inside g c =
+    let u : View = view_of c.args.seat.now in
+    let v : View = view_of c.loop.seat in
+    let w : View = view_of c.poll.new.seat in
+    let t = c.poll.ensures.step in
+    ap (never leaves) (ran-events u v w c.loop.invariant.goes.ran c.poll.ensures.ran) ∙ stays-join (events u v) (events v w) c.loop.invariant.inside (ap (never leaves) (events-after v w Observe t.0 t.1))

@@ -1,0 +1,129 @@
+use Rattle.std.proofs.Common.{ℕ, ◌≡◌, List, [], ◌∷◌, ◌++◌, append_assoc, refl, ap, ◌∙◌, true}
+use Rattle.mark_core.specs.declared.kinds.Step.TheVariants.{EnterStep, LeaveStep}
+use Rattle.gc_table.specs.Log.{event, events}
+use Rattle.gc_table.specs.Running.{Ran}
+use Rattle.gc_table.specs.declared.view.Entry.{Entry}
+use Rattle.gc_table.proofs.Log.{events-none, only-more}
+use Rattle.gc_table.proofs.Running.{ran-events, ran-join}
+use Rattle.gc_cycle.specs.Answering.{waits_helping}
+use Rattle.gc_cycle.specs.Events.{never}
+use Rattle.gc_cycle.specs.Mutating.{stays_calm}
+use Rattle.gc_cycle.specs.Polling.{offered_help}
+use Rattle.gc_cycle.specs.Sorts.{leaves}
+use Rattle.gc_cycle.specs.Sparing.{spares_part}
+use Rattle.gc_cycle.proofs.Collected.{calm-spares}
+use Rattle.gc_cycle.proofs.Waits.{entered-waits, offered-join, turned-waits}
+use Rattle.std.specs.Prelude.{is_some}
+use Rattle.gc_table.specs.Seats.{view_of}
+use Rattle.gc_table.specs.declared.view.View.{View}
+use Rattle.gc_cycle.proofs.Goings.{enters-in, goes-out, out-join, out-none, turns-out}
+use Rattle.gc_cycle.proofs.stopping.go_in.Goals as goal
+
+goes-waiting : (u v w x : View) (n m : ℕ) → Ran u v → Ran v w → Ran w x → events w x ≡ event EnterStep n ∷ event LeaveStep m ∷ [] → ((ys : List Entry) → waits_helping ys ≡ true → offered_help ys ≡ true → waits_helping (events u v ++ ys) ≡ true) → never leaves (events v w) ≡ true → offered_help (events v w) ≡ true → (ys : List Entry) → waits_helping ys ≡ true → offered_help ys ≡ true → waits_helping (events u x ++ ys) ≡ true
+goes-waiting u v w x n m r q p e h s o ys a b =
+    let later = ran-join v w x q p in
+    let t = turned-waits (events v w) n m ys s o a b in
+    let tail : events v x ++ ys ≡ events v w ++ (event EnterStep n ∷ event LeaveStep m ∷ ys) =
+    ap (λ es. es ++ ys) (ran-events v w x q p ∙ ap (λ es. events v w ++ es) e) ∙ append_assoc (events v w) (event EnterStep n ∷ event LeaveStep m ∷ []) ys in
+    let all : events u x ++ ys ≡ events u v ++ (events v w ++ (event EnterStep n ∷ event LeaveStep m ∷ ys)) =
+    ap (λ es. es ++ ys) (ran-events u v x r later) ∙ (append_assoc (events u v) (events v x) ys ∙ ap (λ es. events u v ++ es) tail) in
+    ap waits_helping all ∙ h (events v w ++ (event EnterStep n ∷ event LeaveStep m ∷ ys)) t.0 t.1
+
+pub loop-init : goal.loop-init
+loop-init g c =
+    let u : View = view_of c.args.seat.now in
+    record {
+      next = tt;
+      finite = tt;
+      sits = c.requires.seat.0;
+      out = c.requires.seat.1;
+      goes = out-none u;
+      own = refl;
+      waits = λ ys p q. ap (λ es. waits_helping (es ++ ys)) (events-none u) ∙ p;
+      offered = ap offered_help (events-none u);
+    }
+
+pub loop-preserved : goal.loop-preserved
+loop-preserved g c =
+    let u : View = view_of c.args.seat.now in
+    let v : View = view_of c.loop.seat in
+    let w : View = view_of c.await_resumed_helping.new.seat in
+    let x : View = view_of c.enter.new.seat in
+    let i = c.loop.invariant in
+    let a = c.await_resumed_helping.ensures in
+    let b = c.if-enter.ensures.turns in
+    let t = turns-out w x a.seat.1 c.enter.ensures.ran b in
+    record {
+      next = tt;
+      finite = tt;
+      sits = c.enter.ensures.seat;
+      out = t.0;
+      goes = out-join u v x i.goes (out-join v w x (goes-out v w a.ran a.only) t.1);
+      own = t.2 ∙ (a.own ∙ i.own);
+      waits = λ ys p q. goes-waiting u v w x b.word b.left i.goes.ran a.ran c.enter.ensures.ran b.events i.waits a.inside a.offered ys p q;
+      offered =
+          ap offered_help (ran-events u v x i.goes.ran (ran-join v w x a.ran c.enter.ensures.ran))
+          ∙ offered-join (events u v) (events v x) i.offered
+          (ap offered_help (ran-events v w x a.ran c.enter.ensures.ran ∙ ap (λ es. events v w ++ es) b.events) ∙ (turned-waits (events v w) b.word b.left [] a.inside a.offered refl refl).1);
+    }
+
+pub returns-then-enter-clause-seat : goal.returns-then-enter-clause-seat
+returns-then-enter-clause-seat g c =
+    let u : View = view_of c.args.seat.now in
+    let v : View = view_of c.loop.seat in
+    let w : View = view_of c.await_resumed_helping.new.seat in
+    let x : View = view_of c.enter.new.seat in
+    let i = c.loop.invariant in
+    let a = c.await_resumed_helping.ensures in
+    let here : is_some w.state.section ≡ true = ap (λ o. is_some o) (a.keeps.section ∙ i.goes.seat.section) ∙ c.requires.section in
+    (c.enter.ensures.seat, (enters-in w x a.seat.1 here c.enter.ensures.ran c.if-enter.ensures.enters).0)
+
+pub returns-then-enter-clause-entered : goal.returns-then-enter-clause-entered
+returns-then-enter-clause-entered g c =
+    let u : View = view_of c.args.seat.now in
+    let v : View = view_of c.loop.seat in
+    let w : View = view_of c.await_resumed_helping.new.seat in
+    let x : View = view_of c.enter.new.seat in
+    let i = c.loop.invariant in
+    let a = c.await_resumed_helping.ensures in
+    let here : is_some w.state.section ≡ true = ap (λ o. is_some o) (a.keeps.section ∙ i.goes.seat.section) ∙ c.requires.section in
+    let t = enters-in w x a.seat.1 here c.enter.ensures.ran c.if-enter.ensures.enters in
+    record { out = out-join u v x i.goes (out-join v w x (goes-out v w a.ran a.only) t.1); cache = t.3; position = ap (λ s. s.position) (t.2 ∙ (a.own ∙ i.own)) }
+
+pub returns-then-enter-clause-waits : goal.returns-then-enter-clause-waits
+returns-then-enter-clause-waits g c =
+    let u : View = view_of c.args.seat.now in
+    let v : View = view_of c.loop.seat in
+    let w : View = view_of c.await_resumed_helping.new.seat in
+    let x : View = view_of c.enter.new.seat in
+    let i = c.loop.invariant in
+    let a = c.await_resumed_helping.ensures in
+    let b = c.if-enter.ensures.enters in
+    let t = entered-waits (events v w) b.word a.inside a.offered in
+    ap waits_helping (ran-events u v x i.goes.ran (ran-join v w x a.ran c.enter.ensures.ran) ∙ ap (λ es. events u v ++ es) (ran-events v w x a.ran c.enter.ensures.ran ∙ ap (λ es. events v w ++ es) b.events))
+    ∙ i.waits (events v w ++ event EnterStep b.word ∷ []) t.0 t.1
+
+pub returns-then-enter-clause-offered : goal.returns-then-enter-clause-offered
+returns-then-enter-clause-offered g c =
+    let u : View = view_of c.args.seat.now in
+    let v : View = view_of c.loop.seat in
+    let w : View = view_of c.await_resumed_helping.new.seat in
+    let x : View = view_of c.enter.new.seat in
+    let i = c.loop.invariant in
+    let a = c.await_resumed_helping.ensures in
+    let b = c.if-enter.ensures.enters in
+    let t = entered-waits (events v w) b.word a.inside a.offered in
+    ap offered_help (ran-events u v x i.goes.ran (ran-join v w x a.ran c.enter.ensures.ran) ∙ ap (λ es. events u v ++ es) (ran-events v w x a.ran c.enter.ensures.ran ∙ ap (λ es. events v w ++ es) b.events))
+    ∙ offered-join (events u v) (events v w ++ event EnterStep b.word ∷ []) i.offered t.1
+
+pub returns-then-enter-clause-spares : goal.returns-then-enter-clause-spares
+returns-then-enter-clause-spares g c =
+    let u : View = view_of c.args.seat.now in
+    let v : View = view_of c.loop.seat in
+    let w : View = view_of c.await_resumed_helping.new.seat in
+    let x : View = view_of c.enter.new.seat in
+    let i = c.loop.invariant in
+    let a = c.await_resumed_helping.ensures in
+    let here : is_some w.state.section ≡ true = ap (λ o. is_some o) (a.keeps.section ∙ i.goes.seat.section) ∙ c.requires.section in
+    let t = enters-in w x a.seat.1 here c.enter.ensures.ran c.if-enter.ensures.enters in
+    only-more stays_calm spares_part calm-spares u x (out-join u v x i.goes (out-join v w x (goes-out v w a.ran a.only) t.1)).only

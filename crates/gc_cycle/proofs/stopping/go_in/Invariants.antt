@@ -1,0 +1,21 @@
+use Rattle.gc_table.specs.Seats.{Sits, view_of}
+use Rattle.std.proofs.Common.{◌≡◌, ◌++◌, List, true}
+use Rattle.gc_table.specs.Log.{events}
+use Rattle.gc_table.specs.declared.view.Entry.{Entry}
+use Rattle.gc_cycle.specs.Answering.{waits_helping}
+use Rattle.gc_cycle.specs.Polling.{offered_help}
+use Rattle.gc_cycle.specs.Mutating.{GoesOut}
+use Rattle.gc_cycle.specs.Standing.{IsOut}
+use Rattle.gc_cycle.proofs.stopping.go_in.Given as goal
+
+abbrev pub invariant-loop : goal.invariant-loop
+invariant-loop g l = record {
+  next : (goal.iterator-loop g).can_next l.iterator';
+  finite : (goal.iterator-loop g).is_finite l.iterator';
+  sits : Sits l.heap l.seat;
+  out : IsOut (view_of l.seat);
+  goes : GoesOut (view_of l.fn.seat) (view_of l.seat);
+  own : (view_of l.seat).own ≡ (view_of l.fn.seat).own;
+  waits : (ys : List Entry) → waits_helping ys ≡ true → offered_help ys ≡ true → waits_helping (events (view_of l.fn.seat) (view_of l.seat) ++ ys) ≡ true;
+  offered : offered_help (events (view_of l.fn.seat) (view_of l.seat)) ≡ true;
+}

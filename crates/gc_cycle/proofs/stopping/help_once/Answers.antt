@@ -1,0 +1,82 @@
+use Rattle.std.proofs.Common.{ap, ◌∙◌}
+use Rattle.gc_table.specs.Seats.{view_of}
+use Rattle.gc_table.specs.declared.view.View.{View}
+use Rattle.packet_pools.specs.Seeking.{some_event}
+use Rattle.packet_pools.proofs.Searches.{some-left}
+use Rattle.gc_table.specs.Log.{events}
+use Rattle.gc_table.proofs.Running.{ran-events, ran-join}
+use Rattle.mark_core.specs.declared.kinds.Step.TheVariants.{LeaveHelpStep}
+use Rattle.gc_table.proofs.Log.{events-after}
+use Rattle.gc_cycle.specs.Events.{never}
+use Rattle.gc_cycle.specs.Sorts.{joins, leaves}
+use Rattle.gc_cycle.proofs.Waits.{stays-join}
+use Rattle.gc_cycle.proofs.Goings.{declines-out, is-done, joins-out, leaves-help, out-join}
+use Rattle.gc_cycle.proofs.stopping.help_once.Goals as goal
+
+pub leave_help-requires-clause-admitted : goal.leave_help-requires-clause-admitted
+leave_help-requires-clause-admitted c = c.help_joined.ensures.seat.1.admitted
+
+pub leave_help-requires-clause-done : goal.leave_help-requires-clause-done
+leave_help-requires-clause-done c = is-done (view_of c.help_joined.new.seat) c.help_joined.ensures.seat.1.rest
+
+pub returns-then-join_help-clause-seat : goal.returns-then-join_help-clause-seat
+returns-then-join_help-clause-seat c =
+    let h = c.help_joined.ensures.seat.1 in
+    (c.leave_help.ensures.seat, (leaves-help (view_of c.help_joined.new.seat) (view_of c.leave_help.new.seat) h.admitted h.rest c.leave_help.ensures.step).0)
+
+pub returns-then-join_help-clause-out : goal.returns-then-join_help-clause-out
+returns-then-join_help-clause-out c =
+    let v : View = view_of c.args.seat.now in
+    let w : View = view_of c.join_help.new.seat in
+    let x : View = view_of c.help_joined.new.seat in
+    let y : View = view_of c.leave_help.new.seat in
+    let h = c.help_joined.ensures.seat.1 in
+    let j = joins-out v w c.join_help.ensures.ran c.if-join_help.ensures.joins in
+    let l = leaves-help x y h.admitted h.rest c.leave_help.ensures.step in
+    out-join v w y j.0 (out-join w x y c.help_joined.ensures.out l.1)
+
+pub returns-then-join_help-clause-own : goal.returns-then-join_help-clause-own
+returns-then-join_help-clause-own c =
+    let v : View = view_of c.args.seat.now in
+    let w : View = view_of c.join_help.new.seat in
+    let x : View = view_of c.help_joined.new.seat in
+    let y : View = view_of c.leave_help.new.seat in
+    let h = c.help_joined.ensures.seat.1 in
+    let j = joins-out v w c.join_help.ensures.ran c.if-join_help.ensures.joins in
+    let l = leaves-help x y h.admitted h.rest c.leave_help.ensures.step in
+    l.2 ∙ (c.help_joined.ensures.own ∙ j.1)
+
+pub returns-then-join_help-clause-offered : goal.returns-then-join_help-clause-offered
+returns-then-join_help-clause-offered c =
+    let v : View = view_of c.args.seat.now in
+    let w : View = view_of c.join_help.new.seat in
+    let x : View = view_of c.help_joined.new.seat in
+    let y : View = view_of c.leave_help.new.seat in
+    let j = joins-out v w c.join_help.ensures.ran c.if-join_help.ensures.joins in
+    ap (some_event joins) (ran-events v w y c.join_help.ensures.ran (ran-join w x y c.help_joined.ensures.out.ran c.leave_help.ensures.ran))
+    ∙ some-left joins (events v w) (events w y) j.2
+
+pub returns-else-join_help-clause-seat : goal.returns-else-join_help-clause-seat
+returns-else-join_help-clause-seat c = (c.join_help.ensures.seat, (declines-out (view_of c.args.seat.now) (view_of c.join_help.new.seat) c.requires.seat.1 c.join_help.ensures.ran c.if-join_help.ensures.declines).0)
+
+pub returns-else-join_help-clause-out : goal.returns-else-join_help-clause-out
+returns-else-join_help-clause-out c = (declines-out (view_of c.args.seat.now) (view_of c.join_help.new.seat) c.requires.seat.1 c.join_help.ensures.ran c.if-join_help.ensures.declines).1
+
+pub returns-else-join_help-clause-own : goal.returns-else-join_help-clause-own
+returns-else-join_help-clause-own c = (declines-out (view_of c.args.seat.now) (view_of c.join_help.new.seat) c.requires.seat.1 c.join_help.ensures.ran c.if-join_help.ensures.declines).2
+
+pub returns-else-join_help-clause-offered : goal.returns-else-join_help-clause-offered
+returns-else-join_help-clause-offered c = (declines-out (view_of c.args.seat.now) (view_of c.join_help.new.seat) c.requires.seat.1 c.join_help.ensures.ran c.if-join_help.ensures.declines).3
+
+pub returns-then-join_help-clause-inside : goal.returns-then-join_help-clause-inside
+returns-then-join_help-clause-inside c =
+    let v : View = view_of c.args.seat.now in
+    let w : View = view_of c.join_help.new.seat in
+    let x : View = view_of c.help_joined.new.seat in
+    let y : View = view_of c.leave_help.new.seat in
+    let later = ran-join w x y c.help_joined.ensures.out.ran c.leave_help.ensures.ran in
+    let t = c.leave_help.ensures.step in
+    ap (never leaves) (ran-events v w y c.join_help.ensures.ran later)
+    ∙ stays-join (events v w) (events w y) (ap (never leaves) c.if-join_help.ensures.joins.events)
+    (ap (never leaves) (ran-events w x y c.help_joined.ensures.out.ran c.leave_help.ensures.ran)
+    ∙ stays-join (events w x) (events x y) c.help_joined.ensures.inside (ap (never leaves) (events-after x y LeaveHelpStep t.0 t.1.0)))

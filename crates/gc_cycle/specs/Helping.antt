@@ -1,0 +1,65 @@
+-- What a helper does in a stop, and why it ends.
+use Rattle.std.specs.Prelude.{ℕ, ◌≡◌, ◌≢◌, ◌&&◌, ◌||◌, not, List, [], ◌∷◌, Bool, true, nat_lt, IsTrue}
+use Rattle.mark_core.specs.Layout.{block_count, card_count}
+use Rattle.mark_core.specs.Seats.{saw}
+use Rattle.mark_core.specs.declared.kinds.Phase.TheVariants.{Drain, Sweep}
+use Rattle.mark_core.specs.declared.kinds.Shape.{Shape}
+use Rattle.mark_core.specs.declared.kinds.Step.{Step}
+use Rattle.mark_core.specs.declared.kinds.Step.TheVariants.{NextOfCards}
+use Rattle.gc_table.specs.declared.view.Entry.{Entry}
+use Rattle.gc_table.specs.declared.view.View.{View}
+use Rattle.packet_pools.specs.Counts.{count_of}
+use Rattle.packet_pools.specs.Seeking.{some_event}
+use Rattle.card_clean.specs.Leaving.{rescans}
+use Rattle.sweeper.specs.Freeing.{frees}
+use Rattle.gc_cycle.specs.declared.counts.Helped.{Helped}
+use Rattle.gc_cycle.specs.declared.counts.HelpEnd.{HelpEnd}
+use Rattle.gc_cycle.specs.declared.counts.HelpEnd.TheVariants.{Quota, NoWork, NoPacket, Swept}
+use Rattle.gc_cycle.specs.Events.{never, not_followed}
+use Rattle.gc_cycle.specs.Sorts.{clears, clears_card, gets_block, pops, sees_last_block, sees_last_card}
+use Rattle.gc_cycle.specs.Moments.{Moment, at_some_moment, begins, finds_no_room, finds_no_work, total_of}
+
+-- how many objects were scanned again
+abbrev pub rescanned_in : View → List Entry → ℕ
+rescanned_in v es = total_of rescans v es
+
+-- how many cells were freed
+abbrev pub freed_in : View → List Entry → ℕ
+freed_in v es = total_of frees v es
+
+-- the event gave out a card, which these later events clear
+abbrev pub meets_card : ℕ → Step → ℕ → List Entry → Bool
+meets_card cards NextOfCards found later = not (nat_lt found cards) || some_event (clears_card found) later
+meets_card cards step found later = true
+
+-- each card that was given out was cleared later
+abbrev pub meets_cards : ℕ → List Entry → Bool
+meets_cards cards [] = true
+meets_cards cards (e ∷ es) = meets_card cards e.step e.found es && meets_cards cards es
+
+-- after the last card that was cleared, the counter of cards was at its end; nothing was left in hand and there was no packet to read from; and each card given out was cleared
+abbrev pub helped_to_the_end : Shape → Moment → List Entry → Bool
+helped_to_the_end sh m es =
+    not_followed (sees_last_card (card_count sh)) clears es
+    && at_some_moment sh (λ n later. never clears later && finds_no_work sh n later) m es
+    && meets_cards (card_count sh) es
+
+-- why a helper ended that traces: Quota exactly where it traced as many as it should
+abbrev pub DrainsTo : HelpEnd → Shape → ℕ → ℕ → Moment → List Entry → Type 0
+DrainsTo Quota sh quota done m es = done ≡ quota
+DrainsTo NoWork sh quota done m es = (done ≢ quota) × IsTrue (helped_to_the_end sh m es)
+DrainsTo NoPacket sh quota done m es = (done ≢ quota) × IsTrue (at_some_moment sh (finds_no_room sh) m es)
+DrainsTo Swept sh quota done m es = ⊥
+
+-- a helper swept until no block was left
+pub record SweepsAll (sh : Shape) (helped : Helped) (es : List Entry) : Type 0 where
+  pub ended : helped.ended ≡ Swept
+  pub end : IsTrue (some_event (sees_last_block (block_count sh)) es)
+
+-- what it did is what it says, by the phase in which it helped
+pub record HelpsAs (quota : ℕ) (helped : Helped) (v : View) (es : List Entry) : Type 0 where
+  pub traced : count_of pops es ≡ helped.traced
+  pub rescanned : rescanned_in v es ≡ helped.rescanned
+  pub swept : count_of (gets_block (block_count v.shape)) es ≡ helped.swept
+  pub drain : IsTrue (saw v.state.phase_seen Drain) → DrainsTo helped.ended v.shape quota helped.traced (begins v) es
+  pub sweep : IsTrue (saw v.state.phase_seen Sweep) → (helped.traced ≡ 0) × SweepsAll v.shape helped es

@@ -1,0 +1,87 @@
+-- What the calls of the crates below promise, in the words of this one.
+use Rattle.std.specs.Prelude.{ℕ, ◌≡◌, ◌<◌, Bool, true, false, Option, Some, None, unwrap_or, IsTrue}
+use Rattle.mark_core.specs.Layout.{card_count}
+use Rattle.mark_core.specs.Places.{the_next_block}
+use Rattle.mark_core.specs.declared.kinds.Step.{Step}
+use Rattle.mark_core.specs.declared.kinds.Step.TheVariants.{Reserve, Take, Give, Credit, Push, Pop, Look, ReadAlloc, ReadField, ReadRoot, SetMark, DirtyCard, ClearCard, ReadMarks, ReadCard, ReadCount, StoreLength, ReadLength, NextOfCards, ReadStat, NextBlock, ReadBlockMarks, StoreAlloc, ClearMarks}
+use Rattle.gc_table.specs.Notes.{look}
+use Rattle.gc_table.specs.declared.view.View.{View}
+use Rattle.packet_pools.specs.Counts.{count_of}
+use Rattle.packet_pools.specs.Later.{rest_of}
+use Rattle.tracer.specs.declared.traced.Stopped.TheVariants.{Quota, NoWork, NoPacket}
+use Rattle.tracer.specs.declared.traced.RootScan.{RootScan}
+use Rattle.tracer.specs.declared.traced.RootScan.TheVariants as roots
+use Rattle.tracer.specs.declared.traced.Traced.{Traced}
+use Rattle.gc_table.specs.Log.{events, Only}
+use Rattle.gc_table.specs.Running.{Ran}
+use Rattle.gc_cycle.specs.Events.{never}
+use Rattle.gc_cycle.specs.Moments.{at_some_moment, begins, finds_no_packet, finds_no_room, finds_no_work}
+use Rattle.packet_pools.specs.Seeking.{some_event}
+use Rattle.gc_cycle.specs.Roots.{roots_scanned}
+use Rattle.gc_cycle.specs.Sorts.{gives_card, pops, reads_root, sees_last_card}
+use Rattle.gc_cycle.specs.Drained.{IsRooted}
+use Rattle.gc_cycle.specs.Standing.{is_at_rest}
+
+-- a step of tracing, or of cleaning cards
+abbrev pub traces_cells : Step → Bool
+traces_cells Reserve = true
+traces_cells (Take q p) = true
+traces_cells (Give p deferred) = true
+traces_cells Credit = true
+traces_cells (Push p c) = true
+traces_cells (Pop p) = true
+traces_cells (Look q g) = true
+traces_cells ReadCount = true
+traces_cells (ReadAlloc b) = true
+traces_cells (ReadField c i) = true
+traces_cells (ReadRoot section v) = true
+traces_cells (SetMark c) = true
+traces_cells (DirtyCard card) = true
+traces_cells (ClearCard card) = true
+traces_cells (ReadMarks b) = true
+traces_cells (ReadCard card) = true
+traces_cells (StoreLength p) = true
+traces_cells (ReadLength p) = true
+traces_cells NextOfCards = true
+traces_cells (ReadStat which) = true
+traces_cells step = false
+
+-- a step of the sweep
+abbrev pub sweeps_blocks : Step → Bool
+sweeps_blocks NextBlock = true
+sweeps_blocks (ReadAlloc b) = true
+sweeps_blocks ReadBlockMarks = true
+sweeps_blocks StoreAlloc = true
+sweeps_blocks ClearMarks = true
+sweeps_blocks (ReadStat which) = true
+sweeps_blocks step = false
+
+-- the seat traced, with nothing in hand before and after, and nothing else of its record is another, but whether it read the counter of cards below its end
+pub record HasTraced (v w : View) : Type 0 where
+  pub ran : Ran v w
+  pub only : Only traces_cells v w
+  pub rest : IsTrue (is_at_rest w.shape w.state)
+  pub record_is : rest_of w.state ≡ record (rest_of v.state) { below_card = w.state.below_card }
+  -- tracing sets mark bits and clears none, so roots that were seen to stay so while nobody else is there
+  pub rooted : IsRooted v → IsRooted w
+
+-- how a trace ended
+pub record EndsTrace (quota : ℕ) (r : Traced) (v w : View) : Type 0 where
+  pub done : count_of pops (events v w) ≡ r.done
+  pub all : (r.stopped ≡ Quota → r.done ≡ quota) × (r.done ≡ quota → r.stopped ≡ Quota)
+  pub no_work : r.stopped ≡ NoWork → IsTrue (at_some_moment v.shape (finds_no_work v.shape) (begins v) (events v w))
+  pub no_packet : r.stopped ≡ NoPacket → IsTrue (at_some_moment v.shape (finds_no_room v.shape) (begins v) (events v w))
+
+-- the number below which the counter of blocks won't fall, as the seat knows it
+abbrev pub block_floor : View → ℕ
+block_floor v = unwrap_or (look the_next_block v.floors) 0
+
+-- the next card that the pass gives out, or none where the counter was seen at its end
+abbrev pub DrawsCard : Option ℕ → View → View → Type 0
+DrawsCard None v w = IsTrue (some_event (sees_last_card (card_count v.shape)) (events v w))
+DrawsCard (Some card) v w = (card < card_count v.shape) × IsTrue (some_event (gives_card card) (events v w))
+
+-- each variable of the section was seen to; or no packet could be taken, and none was read
+abbrev pub ScansRoots : ℕ → RootScan → View → View → Type 0
+ScansRoots section (roots.Done marked) v w = IsTrue (roots_scanned section (events v w))
+ScansRoots section roots.NoPacket v w = IsTrue (finds_no_packet v.shape (begins v) (events v w)) × IsTrue (never reads_root (events v w))

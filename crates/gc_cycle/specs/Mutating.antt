@@ -1,0 +1,69 @@
+-- How a mutator goes out of the world and in again, and stops it.
+use Rattle.std.specs.Prelude.{Bool, true, false, ◌≡◌, ◌⊎◌, Some, None, IsTrue, IsFalse}
+use Rattle.mark_core.specs.declared.kinds.Phase.{Phase}
+use Rattle.mark_core.specs.declared.kinds.Phase.TheVariants.{Idle, Marking, Full}
+use Rattle.mark_core.specs.declared.kinds.Step.{Step}
+use Rattle.mark_core.specs.declared.kinds.Step.TheVariants.{ClaimBlock, RaiseStep, ReadCat, ReadOwn, StorePhase}
+use Rattle.gc_table.specs.declared.view.View.{View}
+use Rattle.packet_pools.specs.Seeking.{some_event}
+use Rattle.gc_table.specs.Log.{events, Only}
+use Rattle.gc_table.specs.Running.{Alone, Ran}
+use Rattle.gc_cycle.specs.Cycles.{never_fills}
+use Rattle.gc_cycle.specs.Events.{never}
+use Rattle.gc_cycle.specs.Sorts.{claims, raises_flag}
+use Rattle.gc_cycle.specs.Sparing.{fills_part}
+use Rattle.gc_cycle.specs.Standing.{IsAlone, KeepsSeat, KeepsSection}
+
+-- a step that changes nothing of what the seat's section has come to, but for its position and for what the ends of cycles say; it reads no season, and counts no part that was played
+abbrev pub keeps_section : Step → Bool
+keeps_section (ReadOwn c i) = false
+keeps_section (ReadCat v) = false
+keeps_section step = fills_part step
+
+-- and that neither claims a block, nor raises the flag, nor moves the phase
+abbrev pub stays_calm : Step → Bool
+stays_calm (ClaimBlock b) = false
+stays_calm RaiseStep = false
+stays_calm (StorePhase to) = false
+stays_calm step = keeps_section step
+
+-- so it is of this step, but that it may raise the flag
+abbrev pub tries_stopping : Step → Bool
+tries_stopping RaiseStep = true
+tries_stopping step = stays_calm step
+
+-- the seat and its section are as they were, and the heap wasn't said to be full
+pub record GoesOut (v w : View) : Type 0 where
+  pub ran : Ran v w
+  pub only : Only stays_calm v w
+  pub seat : KeepsSeat v w
+  pub section : KeepsSection v w
+  pub not_full : IsTrue (never_fills (events v w))
+  pub calm : IsTrue (never raises_flag (events v w))
+  pub unclaimed : IsTrue (never claims (events v w))
+
+-- so it is of a seat that entered
+pub record HasEntered (v w : View) : Type 0 where
+  pub out : GoesOut v w
+  pub cache : w.state.cache ≡ None
+  pub position : w.own.position ≡ v.own.position
+
+-- so it is of one that tried to stop the world, but that it may have raised the flag
+pub record TriesToStop (v w : View) : Type 0 where
+  pub ran : Ran v w
+  pub only : Only tries_stopping v w
+  pub seat : KeepsSeat v w
+  pub section : KeepsSection v w
+  pub not_full : IsTrue (never_fills (events v w))
+  pub unclaimed : IsTrue (never claims (events v w))
+  pub cache : w.state.cache ≡ None
+
+-- the world is stopped by this seat, which is alone in it, in a phase that it has read
+pub record StopsWorld (v w : View) : Type 0 where
+  pub rest : IsAlone w
+  pub phase : Phase
+  pub alone : Alone phase w
+  pub seen : w.state.phase_seen ≡ Some phase
+  pub left : (phase ≡ Idle) ⊎ (phase ≡ Marking) ⊎ (phase ≡ Full)
+  pub unhelping : IsFalse w.state.helping
+  pub raised : IsTrue (some_event raises_flag (events v w))

@@ -1,0 +1,23 @@
+-- How a seat that is alone sets a counter or a statistic.
+use Rattle.std.specs.Prelude.{ℕ, ◌==◌, Bool, false}
+use Rattle.mark_core.specs.Places.{counter_at}
+use Rattle.mark_core.specs.declared.kinds.Phase.TheVariants.{Idle}
+use Rattle.mark_core.specs.declared.kinds.Step.{Step}
+use Rattle.mark_core.specs.declared.kinds.Step.TheVariants.{AddStat, ReadStat, Reset}
+use Rattle.gc_table.specs.declared.view.View.{View}
+use Rattle.gc_table.specs.Log.{Only}
+use Rattle.gc_table.specs.Running.{Known}
+use Rattle.gc_cycle.specs.Finishing.{IsPart}
+
+-- a step at this counter or statistic
+abbrev pub adjusts : ℕ → Step → Bool
+adjusts which (Reset w) = w == which
+adjusts which (AddStat w by down) = w == which
+adjusts which (ReadStat w) = w == which
+adjusts which step = false
+
+-- the counter or statistic has come to this number, and no other word was touched
+pub record Sets (which number : ℕ) (v w : View) : Type 0 where
+  pub part : IsPart Idle v w
+  pub only : Only (adjusts which) v w
+  pub known : Known w (counter_at which) number

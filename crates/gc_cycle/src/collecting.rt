@@ -1,0 +1,215 @@
+//! Safe points, and collections that a mutator asks for.
+ghost use Rattle.std.specs.Prelude.{◌≡◌, ◌≢◌, ◌≤◌, ◌⊎◌, None, Some, IfNone, IfSome, IsTrue};
+ghost use Rattle.std.specs.Bool.{OnFalse, OnTrue};
+ghost use Rattle.mark_core.specs.declared.kinds.Phase.TheVariants.{Full};
+ghost use Rattle.mark_core.specs.declared.kinds.Step.TheVariants.{ReadPhase};
+ghost use Rattle.gc_table.specs.declared.view.View.{View};
+ghost use Rattle.gc_table.specs.Rule.{KnowsFull};
+ghost use Rattle.packet_pools.specs.Counts.{count_of};
+ghost use Rattle.gc_cycle.specs.Events.{never};
+ghost use Rattle.gc_table.specs.Seats.{Sits, Took, view_of};
+ghost use Rattle.packet_pools.specs.Seeking.{some_event};
+ghost use Rattle.gc_table.specs.Log.{Only, events};
+ghost use Rattle.gc_table.specs.Running.{Ran};
+ghost use Rattle.gc_cycle.specs.Answering.{AnswersTo, CollectsTo, EndsFull, GivesWay, GoesOn, HasCache, KeepsOn, SafeTo, TellsFull, answers, retires, waits_helping};
+ghost use Rattle.gc_cycle.specs.Collecting.{EndsStop, HoldsWorld, TriesAgain, spares_section};
+ghost use Rattle.gc_cycle.specs.Cycles.{never_fills};
+ghost use Rattle.gc_cycle.specs.Polling.{saw_full};
+ghost use Rattle.gc_cycle.specs.Sorts.{polls, raises_flag};
+ghost use Rattle.gc_cycle.specs.Sparing.{KnowsAnswer, spares_part};
+ghost use Rattle.gc_cycle.specs.Standing.{KeepsSeat, KeepsSection, Mutates};
+
+use crate::counts::Safe;
+use crate::finishing::precise;
+use crate::lower::{poll, resume, retire};
+use crate::stopping::{go_in, go_out, stop};
+use alloc_cache::Cache;
+use gc_table::{Heap, HeapSeat};
+use mark_core::Phase;
+use std::sync::Wait;
+
+/// A precise collection that this mutator makes. Where another seat's stop comes first it waits for its end, and tries again.
+///
+/// `done` is how many commands the mutator has done. It has no cache. Full comes exactly where it read that the heap is full.
+pub fn collect<R: Wait>(rt: &R, heap: &Heap, seat: &mut HeapSeat, done: u32) -> Safe
+    requires seat { Sits heap.now seat.old × Mutates (view_of seat.old) }
+    requires cache { (view_of seat.old).state.cache ≡ None }
+    ensures seat { Sits heap.now seat.new }
+    ensures ran { Ran (view_of seat.old) (view_of seat.new) }
+    ensures collects { CollectsTo result done (view_of seat.old) (view_of seat.new) }
+    ensures once { count_of raises_flag (events (view_of seat.old) (view_of seat.new)) ≤ 1 }
+    ensures not_full { IsTrue (never_fills (events (view_of seat.old) (view_of seat.new))) }
+    ensures keeps { KeepsSeat (view_of seat.old) (view_of seat.new) × KeepsSection (view_of seat.old) (view_of seat.new) }
+    ensures spares { Only spares_part (view_of seat.old) (view_of seat.new) }
+    ensures known { KnowsAnswer result (view_of seat.new) }
+{
+    for _ in rt.forever() {
+        if let Some(safe) = collect_once(rt, heap, seat, done) {
+            return safe;
+        }
+    }
+    unreachable!()
+}
+
+/// One try, which ends without an answer where another seat's stop came first.
+fn collect_once<R: Wait>(rt: &R, heap: &Heap, seat: &mut HeapSeat, done: u32) -> Option<Safe>
+    requires seat { Sits heap.now seat.old × Mutates (view_of seat.old) }
+    requires cache { (view_of seat.old).state.cache ≡ None }
+    ensures seat { Sits heap.now seat.new }
+    ensures ran { Ran (view_of seat.old) (view_of seat.new) }
+    ensures none { IfNone result (TriesAgain (view_of seat.old) (view_of seat.new)) }
+    ensures some { IfSome result (λ safe. (u : View) → Ran u (view_of seat.old) → TellsFull u (view_of seat.old) → CollectsTo safe done u (view_of seat.new)) }
+    ensures once { count_of raises_flag (events (view_of seat.old) (view_of seat.new)) ≤ 1 }
+    ensures only { Only spares_section (view_of seat.old) (view_of seat.new) }
+    ensures known { IfSome result (λ safe. KnowsAnswer safe (view_of seat.new)) }
+{
+    if ends_full(heap, seat, done) {
+        return Some(Safe::Full);
+    }
+    if !stop(rt, heap, seat, done) {
+        return None;
+    }
+    collect_in_stop(rt, heap, seat);
+    if ends_full(heap, seat, done) {
+        return Some(Safe::Full);
+    }
+    Some(Safe::Going(None))
+}
+
+/// A precise collection in a stop of its own, and the end of the stop. There is none where the heap is full.
+fn collect_in_stop<R: Wait>(rt: &R, heap: &Heap, seat: &mut HeapSeat)
+    requires seat { Sits heap.now seat.old }
+    requires stopped { HoldsWorld (view_of seat.old) }
+    ensures seat { Sits heap.now seat.new × Mutates (view_of seat.new) }
+    ensures ends { EndsStop (view_of seat.old) (view_of seat.new) }
+{
+    if has_seen_full(seat) {
+        resume(heap, seat);
+        return;
+    }
+    precise(rt, heap, seat);
+    resume(heap, seat);
+}
+
+/// Whether the seat has read the phase last as Full.
+fn has_seen_full(seat: &HeapSeat) -> bool
+    ensures seen { OnTrue result ((view_of seat.now).state.phase_seen ≡ Some Full) }
+    ensures other { OnFalse result ((view_of seat.now).state.phase_seen ≢ Some Full) }
+{
+    match seat.state().phase_seen {
+        Some(Phase::Full) => true,
+        _ => false,
+    }
+}
+
+/// A safe point of a mutator that has done `done` commands. Where a stop is under way it gives up its cache, leaves until the stop has ended, and helps
+/// meanwhile. Full comes exactly where it read that the heap is full.
+pub fn safe_point<R: Wait>(
+    rt: &R,
+    heap: &Heap,
+    seat: &mut HeapSeat,
+    cache: Option<Cache>,
+    done: u32,
+) -> Safe
+    requires seat { Sits heap.now seat.old × Mutates (view_of seat.old) }
+    requires cache { HasCache cache (view_of seat.old) }
+    ensures seat { Sits heap.now seat.new }
+    ensures ran { Ran (view_of seat.old) (view_of seat.new) }
+    ensures safe { SafeTo result cache done (view_of seat.old) (view_of seat.new) }
+    ensures polled { IsTrue (some_event polls (events (view_of seat.old) (view_of seat.new))) }
+    ensures calm { IsTrue (never raises_flag (events (view_of seat.old) (view_of seat.new))) }
+    ensures helping { IsTrue (waits_helping (events (view_of seat.old) (view_of seat.new))) }
+    ensures not_full { IsTrue (never_fills (events (view_of seat.old) (view_of seat.new))) }
+    ensures keeps { KeepsSeat (view_of seat.old) (view_of seat.new) × KeepsSection (view_of seat.old) (view_of seat.new) }
+    ensures spares { Only spares_part (view_of seat.old) (view_of seat.new) }
+    ensures known { KnowsAnswer result (view_of seat.new) }
+{
+    let kept = give_way(rt, heap, seat, cache, done);
+    go_on(heap, seat, kept, done)
+}
+
+/// Gives way to a stop, if one is under way: the mutator gives up its cache, leaves, helps, and enters once the stop has ended. What it still has.
+fn give_way<R: Wait>(
+    rt: &R,
+    heap: &Heap,
+    seat: &mut HeapSeat,
+    cache: Option<Cache>,
+    done: u32,
+) -> Option<Cache>
+    requires seat { Sits heap.now seat.old × Mutates (view_of seat.old) }
+    requires cache { HasCache cache (view_of seat.old) }
+    ensures seat { Sits heap.now seat.new × Mutates (view_of seat.new) }
+    ensures gives { GivesWay cache result done (view_of seat.old) (view_of seat.new) }
+{
+    if !poll(heap, seat) {
+        return cache;
+    }
+    retire_some(heap, seat, cache);
+    go_out(heap, seat, done);
+    go_in(rt, heap, seat);
+    None
+}
+
+/// Whether a mutator goes on, with its cache. Where it reads that the heap is full it gives the cache up, and stores its position.
+pub(crate) fn go_on(heap: &Heap, seat: &mut HeapSeat, cache: Option<Cache>, done: u32) -> Safe
+    requires seat { Sits heap.now seat.old × Mutates (view_of seat.old) }
+    requires cache { HasCache cache (view_of seat.old) }
+    ensures seat { Sits heap.now seat.new × Mutates (view_of seat.new) }
+    ensures ran { Ran (view_of seat.old) (view_of seat.new) }
+    ensures only { Only answers (view_of seat.old) (view_of seat.new) }
+    ensures answer { AnswersTo result cache done (view_of seat.old) (view_of seat.new) }
+{
+    if !finds_full(heap, seat) {
+        return Safe::Going(cache);
+    }
+    retire_some(heap, seat, cache);
+    heap.store_position(seat, done);
+    Safe::Full
+}
+
+/// Whether the heap is full, as a mutator without a cache reads it. Where it is, the mutator stores its position.
+pub(crate) fn ends_full(heap: &Heap, seat: &mut HeapSeat, done: u32) -> bool
+    requires seat { Sits heap.now seat.old × Mutates (view_of seat.old) }
+    requires cache { (view_of seat.old).state.cache ≡ None }
+    ensures seat { Sits heap.now seat.new × Mutates (view_of seat.new) }
+    ensures ran { Ran (view_of seat.old) (view_of seat.new) }
+    ensures only { Only answers (view_of seat.old) (view_of seat.new) }
+    ensures full { OnTrue result (EndsFull done (view_of seat.old) (view_of seat.new) × KnowsFull (view_of seat.new)) }
+    ensures going { OnFalse result (KeepsOn None None (view_of seat.old) (view_of seat.new)) }
+{
+    if !finds_full(heap, seat) {
+        return false;
+    }
+    heap.store_position(seat, done);
+    true
+}
+
+/// Whether the heap is full, as a mutator reads it. Where it isn't, the mutator goes on after whatever it did before.
+fn finds_full(heap: &Heap, seat: &mut HeapSeat) -> bool
+    requires seat { Sits heap.now seat.old × Mutates (view_of seat.old) }
+    ensures seat { Sits heap.now seat.new × Mutates (view_of seat.new) }
+    ensures read { Took ReadPhase (view_of seat.old) (view_of seat.new) }
+    ensures full { OnTrue result (((view_of seat.new).state.phase_seen ≡ Some Full) × IsTrue (saw_full (events (view_of seat.old) (view_of seat.new)))) }
+    ensures going { OnFalse result ((u : View) → Ran u (view_of seat.old) → TellsFull u (view_of seat.old) → GoesOn u (view_of seat.new)) }
+{
+    match heap.read_phase(seat) {
+        Phase::Full => true,
+        _ => false,
+    }
+}
+
+/// Gives a cache up, if there is one.
+fn retire_some(heap: &Heap, seat: &mut HeapSeat, cache: Option<Cache>)
+    requires seat { Sits heap.now seat.old × Mutates (view_of seat.old) }
+    requires cache { HasCache cache (view_of seat.old) }
+    ensures seat { Sits heap.now seat.new × Mutates (view_of seat.new) }
+    ensures cache { (view_of seat.new).state.cache ≡ None }
+    ensures ran { Ran (view_of seat.old) (view_of seat.new) }
+    ensures only { Only retires (view_of seat.old) (view_of seat.new) }
+    ensures seen { (view_of seat.new).state.phase_seen ≡ (view_of seat.old).state.phase_seen }
+    ensures own { (view_of seat.new).own ≡ (view_of seat.old).own }
+{
+    if let Some(cache) = cache {
+        retire(heap, seat, cache);
+    }
+}

@@ -1,0 +1,130 @@
+//! The drain: what the mutators left is marked, first with the helpers and then alone.
+ghost use Rattle.std.specs.Prelude.{ℕ, ◌≡◌, ◌+◌, ◌⊎◌, [], ◌∷◌, min, IsTrue};
+ghost use Rattle.mark_core.specs.Places.{the_next_card};
+ghost use Rattle.mark_core.specs.Seats.{phase_number};
+ghost use Rattle.mark_core.specs.declared.kinds.Phase.{Phase};
+ghost use Rattle.mark_core.specs.declared.kinds.Phase.TheVariants.{Idle, Marking, Drain, Sweep};
+ghost use Rattle.mark_core.specs.declared.kinds.Step.TheVariants.{Reset, StorePhase};
+ghost use Rattle.gc_table.specs.Seats.{Sits, view_of};
+ghost use Rattle.packet_pools.specs.Seeking.{some_event};
+ghost use Rattle.gc_table.specs.Log.{event, events};
+ghost use Rattle.gc_table.specs.Running.{Ran};
+ghost use Rattle.gc_cycle.specs.Drained.{IsDrained, IsRooted};
+ghost use Rattle.gc_cycle.specs.Finishing.{IsAloneIn, IsMove, IsOpen, IsOpenPart, IsPart, most};
+ghost use Rattle.gc_cycle.specs.Helping.{rescanned_in};
+ghost use Rattle.gc_cycle.specs.Sorts.{opens};
+
+use crate::lower::{
+    clean_dirty, close_help, is_drained, open_help, recycle_deferred, scan_roots, see_to_roots,
+    trace,
+};
+use gc_table::{Heap, HeapSeat};
+use mark_core::Phase as CyclePhase;
+use std::sync::Wait;
+
+/// How many objects a round of the drain pops at most.
+const ROUND: u32 = 65_536;
+
+/// Begins the drain. The pass over all cards begins again.
+pub(crate) fn begin_drain(heap: &Heap, seat: &mut HeapSeat)
+    requires seat { Sits heap.now seat.old }
+    requires alone { IsAloneIn Idle (view_of seat.old) ⊎ IsAloneIn Marking (view_of seat.old) }
+    ensures seat { Sits heap.now seat.new }
+    ensures ran { Ran (view_of seat.old) (view_of seat.new) }
+    ensures alone { IsAloneIn Drain (view_of seat.new) }
+    ensures events { (p : Phase) → IsAloneIn p (view_of seat.old) → events (view_of seat.old) (view_of seat.new) ≡ event (StorePhase Drain) (phase_number p) ∷ event (Reset 0) 0 ∷ [] }
+    ensures exact { IsAloneIn Idle (view_of seat.old) → IsTrue (view_of seat.new).state.exact }
+{
+    heap.store_phase(seat, CyclePhase::Drain);
+    heap.reset(seat, 0);
+}
+
+/// One round: what was put off, all sections' roots, all packets, and all cards. How many objects were scanned again.
+fn drain_round(heap: &Heap, seat: &mut HeapSeat) -> u32
+    requires seat { Sits heap.now seat.old }
+    requires alone { IsAloneIn Drain (view_of seat.old) }
+    ensures seat { Sits heap.now seat.new }
+    ensures part { IsPart Drain (view_of seat.old) (view_of seat.new) }
+    ensures rooted { IsRooted (view_of seat.old) → IsRooted (view_of seat.new) }
+    ensures rescanned { rescanned_in (view_of seat.old) (events (view_of seat.old) (view_of seat.new)) ≡ result }
+{
+    recycle_deferred(heap, seat);
+    trace(heap, seat, ROUND);
+    clean_dirty(heap, seat)
+}
+
+/// Marks what the roots of all sections refer to, as far as packets can be had.
+fn scan_all_roots(heap: &Heap, seat: &mut HeapSeat)
+    requires seat { Sits heap.now seat.old }
+    requires alone { IsAloneIn Drain (view_of seat.old) }
+    ensures seat { Sits heap.now seat.new }
+    ensures part { IsPart Drain (view_of seat.old) (view_of seat.new) }
+    ensures rescanned { rescanned_in (view_of seat.old) (events (view_of seat.old) (view_of seat.new)) ≡ 0 }
+{
+    for section in 0..heap.shape().sections {
+        scan_roots(heap, seat, section);
+    }
+}
+
+/// Marks together with helpers. How many objects this seat scanned again.
+pub(crate) fn drain_together<R: Wait>(rt: &R, heap: &Heap, seat: &mut HeapSeat) -> u32
+    requires seat { Sits heap.now seat.old }
+    requires alone { IsAloneIn Drain (view_of seat.old) }
+    ensures seat { Sits heap.now seat.new }
+    ensures part { IsPart Drain (view_of seat.old) (view_of seat.new) }
+    ensures opened { IsTrue (some_event opens (events (view_of seat.old) (view_of seat.new))) }
+    ensures rescanned { rescanned_in (view_of seat.old) (events (view_of seat.old) (view_of seat.new)) ≡ result }
+{
+    scan_all_roots(heap, seat);
+    open_help(heap, seat);
+    let rescanned = help_drain(heap, seat);
+    close_help(rt, heap, seat);
+    rescanned
+}
+
+/// Marks what is left, alone. Then every packet is empty, no card is dirty, and each root is nil or marked. How many objects were scanned again.
+///
+/// What was noted before help was opened ended with it, since helpers dirty cards and mark cells. So the roots, the cards and the count are looked
+/// at again here, and the counter of blocks is set. What is found stays, because nobody else is there; where something is left it goes round again.
+pub(crate) fn drain_alone<R: Wait>(rt: &R, heap: &Heap, seat: &mut HeapSeat) -> u32
+    requires seat { Sits heap.now seat.old }
+    requires alone { IsAloneIn Drain (view_of seat.old) }
+    ensures seat { Sits heap.now seat.new }
+    ensures part { IsPart Drain (view_of seat.old) (view_of seat.new) }
+    ensures drained { IsDrained (view_of seat.new) }
+    ensures rescanned { result ≡ min (rescanned_in (view_of seat.old) (events (view_of seat.old) (view_of seat.new))) most }
+{
+    heap.reset(seat, 1);
+    see_to_roots(rt, heap, seat);
+    let mut rescanned: u32 = 0;
+    for _ in rt.forever() {
+        if is_drained(heap, seat) {
+            return rescanned;
+        }
+        rescanned = rescanned.saturating_add(drain_round(heap, seat));
+    }
+    unreachable!()
+}
+
+/// Ends the drain.
+pub(crate) fn begin_sweep(heap: &Heap, seat: &mut HeapSeat)
+    requires seat { Sits heap.now seat.old }
+    requires drained { IsDrained (view_of seat.old) }
+    ensures seat { Sits heap.now seat.new }
+    ensures moved { IsMove Drain Sweep (view_of seat.old) (view_of seat.new) }
+{
+    heap.store_phase(seat, CyclePhase::Sweep);
+}
+
+/// What one seat does of an open drain.
+fn help_drain(heap: &Heap, seat: &mut HeapSeat) -> u32
+    requires seat { Sits heap.now seat.old }
+    requires open { IsOpen Drain (view_of seat.old) }
+    ensures seat { Sits heap.now seat.new }
+    ensures open { IsOpenPart Drain (view_of seat.old) (view_of seat.new) }
+    ensures rescanned { rescanned_in (view_of seat.old) (events (view_of seat.old) (view_of seat.new)) ≡ result }
+{
+    recycle_deferred(heap, seat);
+    trace(heap, seat, ROUND);
+    clean_dirty(heap, seat)
+}

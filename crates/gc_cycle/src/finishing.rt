@@ -1,0 +1,132 @@
+//! A cycle ends in a stop: the final phase, and the sweep.
+ghost use Rattle.std.specs.Prelude.{◌≡◌, ◌+◌, ◌⊎◌, min, IsTrue, IsFalse};
+ghost use Rattle.mark_core.specs.declared.kinds.Phase.TheVariants.{Idle, Marking, Drain};
+ghost use Rattle.std.specs.Bool.{OnTrue, OnFalse};
+ghost use Rattle.mark_core.specs.declared.kinds.Step.TheVariants.{ReadPhase};
+ghost use Rattle.gc_table.specs.Seats.{Sits, Took, view_of};
+ghost use Rattle.gc_table.specs.Log.{Only, events};
+ghost use Rattle.gc_table.specs.Running.{Ran};
+ghost use Rattle.gc_cycle.specs.Cycles.{collects_exactly, lets_help, never_fills};
+ghost use Rattle.gc_cycle.specs.Ending.{InEach, IsCycleEnd, IsExact};
+ghost use Rattle.gc_cycle.specs.Finishing.{BeginsExactly, Completes, IsAloneIn, finishes, most};
+ghost use Rattle.gc_cycle.specs.Helping.{freed_in, rescanned_in};
+ghost use Rattle.gc_cycle.specs.Events.{never};
+ghost use Rattle.gc_cycle.specs.Moments.{begins};
+ghost use Rattle.gc_cycle.specs.Polling.{saw_full};
+ghost use Rattle.gc_cycle.specs.Sorts.{raises_flag};
+ghost use Rattle.gc_cycle.specs.Sparing.{spares_part};
+ghost use Rattle.gc_cycle.specs.Standing.{KeepsSeat, KeepsSection};
+
+use crate::clearing::clear_all_marks;
+use crate::counts::Counts;
+use crate::draining::{begin_drain, begin_sweep, drain_alone, drain_together};
+use crate::settling::settle;
+use crate::sweeping::{end_sweep, sweep_together};
+use gc_table::{Heap, HeapSeat};
+use mark_core::Phase as CyclePhase;
+use std::sync::Wait;
+
+/// From a drain that has begun to the end of the cycle. So many objects were scanned again before.
+fn complete<R: Wait>(rt: &R, heap: &Heap, seat: &mut HeapSeat, before: u32) -> Counts
+    requires seat { Sits heap.now seat.old }
+    requires alone { IsAloneIn Drain (view_of seat.old) }
+    ensures seat { Sits heap.now seat.new }
+    ensures completes { Completes (view_of seat.old) (view_of seat.new) }
+    ensures end { InEach (IsCycleEnd result) (view_of seat.new) }
+    ensures rescanned { result.rescanned ≡ min (before + rescanned_in (view_of seat.old) (events (view_of seat.old) (view_of seat.new))) most }
+    ensures freed { result.freed ≡ freed_in (view_of seat.old) (events (view_of seat.old) (view_of seat.new)) }
+{
+    let together = before.saturating_add(drain_together(rt, heap, seat));
+    let rescanned = together.saturating_add(drain_alone(rt, heap, seat));
+    begin_sweep(heap, seat);
+    let freed = sweep_together(rt, heap, seat);
+    end_sweep(heap, seat);
+    settle(heap, seat, rescanned, freed)
+}
+
+/// Whether no cycle is under way, where else one is marking.
+fn finds_idle(heap: &Heap, seat: &mut HeapSeat) -> bool
+    requires seat { Sits heap.now seat.old }
+    requires alone { IsAloneIn Idle (view_of seat.old) ⊎ IsAloneIn Marking (view_of seat.old) }
+    ensures seat { Sits heap.now seat.new }
+    ensures read { Took ReadPhase (view_of seat.old) (view_of seat.new) }
+    ensures idle { OnTrue result (IsAloneIn Idle (view_of seat.new)) }
+    ensures marking { OnFalse result (IsAloneIn Marking (view_of seat.new)) }
+{
+    match heap.read_phase(seat) {
+        CyclePhase::Idle => true,
+        _ => false,
+    }
+}
+
+/// Begins a drain in which no cell is marked. How many objects were scanned again.
+fn begin_exactly<R: Wait>(rt: &R, heap: &Heap, seat: &mut HeapSeat) -> u32
+    requires seat { Sits heap.now seat.old }
+    requires alone { IsAloneIn Idle (view_of seat.old) ⊎ IsAloneIn Marking (view_of seat.old) }
+    ensures seat { Sits heap.now seat.new }
+    ensures begun { BeginsExactly (view_of seat.old) (view_of seat.new) }
+    ensures rescanned { result ≡ min (rescanned_in (view_of seat.old) (events (view_of seat.old) (view_of seat.new))) most }
+    ensures freed { freed_in (view_of seat.old) (events (view_of seat.old) (view_of seat.new)) ≡ 0 }
+{
+    let idle = finds_idle(heap, seat);
+    begin_drain(heap, seat);
+    if idle {
+        return 0;
+    }
+    let rescanned = drain_alone(rt, heap, seat);
+    clear_all_marks(rt, heap, seat);
+    rescanned
+}
+
+/// Ends a cycle that is marking: what the mutators left is marked, and white cells are freed. It frees no reachable cell.
+///
+/// Helpers are let in for the drain and for the sweep, and have left again before each move of the phase.
+pub fn finish_cycle<R: Wait>(rt: &R, heap: &Heap, seat: &mut HeapSeat) -> Counts
+    requires seat { Sits heap.now seat.old }
+    requires alone { IsAloneIn Marking (view_of seat.old) }
+    ensures seat { Sits heap.now seat.new }
+    ensures ran { Ran (view_of seat.old) (view_of seat.new) }
+    ensures only { Only finishes (view_of seat.old) (view_of seat.new) }
+    ensures keeps { KeepsSeat (view_of seat.old) (view_of seat.new) × KeepsSection (view_of seat.old) (view_of seat.new) }
+    ensures position { (view_of seat.new).own.position ≡ (view_of seat.old).own.position }
+    ensures spares { Only spares_part (view_of seat.old) (view_of seat.new) }
+    ensures alone { IsAloneIn Idle (view_of seat.new) }
+    ensures help { IsTrue (lets_help (events (view_of seat.old) (view_of seat.new))) }
+    ensures not_full { IsTrue (never_fills (events (view_of seat.old) (view_of seat.new))) }
+    ensures calm { IsTrue (never raises_flag (events (view_of seat.old) (view_of seat.new))) }
+    ensures going { IsFalse (saw_full (events (view_of seat.old) (view_of seat.new))) }
+    ensures end { InEach (IsCycleEnd result) (view_of seat.new) }
+    ensures rescanned { result.rescanned ≡ min (rescanned_in (view_of seat.old) (events (view_of seat.old) (view_of seat.new))) most }
+    ensures freed { result.freed ≡ freed_in (view_of seat.old) (events (view_of seat.old) (view_of seat.new)) }
+{
+    begin_drain(heap, seat);
+    complete(rt, heap, seat, 0)
+}
+
+/// A precise collection: the cells in use afterwards are exactly the reachable ones.
+///
+/// A cycle that is marking has marked cells that died since. So what it left is marked first, for only then are all packets empty, all marks are
+/// cleared, and the drain begins once more from the roots.
+pub fn precise<R: Wait>(rt: &R, heap: &Heap, seat: &mut HeapSeat) -> Counts
+    requires seat { Sits heap.now seat.old }
+    requires alone { IsAloneIn Idle (view_of seat.old) ⊎ IsAloneIn Marking (view_of seat.old) }
+    ensures seat { Sits heap.now seat.new }
+    ensures ran { Ran (view_of seat.old) (view_of seat.new) }
+    ensures only { Only finishes (view_of seat.old) (view_of seat.new) }
+    ensures keeps { KeepsSeat (view_of seat.old) (view_of seat.new) × KeepsSection (view_of seat.old) (view_of seat.new) }
+    ensures position { (view_of seat.new).own.position ≡ (view_of seat.old).own.position }
+    ensures spares { Only spares_part (view_of seat.old) (view_of seat.new) }
+    ensures alone { IsAloneIn Idle (view_of seat.new) × IsTrue (view_of seat.new).state.exact }
+    ensures collects { IsTrue (collects_exactly heap.now.shape (begins (view_of seat.old)) (events (view_of seat.old) (view_of seat.new))) }
+    ensures help { IsTrue (lets_help (events (view_of seat.old) (view_of seat.new))) }
+    ensures not_full { IsTrue (never_fills (events (view_of seat.old) (view_of seat.new))) }
+    ensures calm { IsTrue (never raises_flag (events (view_of seat.old) (view_of seat.new))) }
+    ensures going { IsFalse (saw_full (events (view_of seat.old) (view_of seat.new))) }
+    ensures end { InEach (IsCycleEnd result) (view_of seat.new) }
+    ensures exact { InEach IsExact (view_of seat.new) }
+    ensures rescanned { result.rescanned ≡ min (rescanned_in (view_of seat.old) (events (view_of seat.old) (view_of seat.new))) most }
+    ensures freed { result.freed ≡ freed_in (view_of seat.old) (events (view_of seat.old) (view_of seat.new)) }
+{
+    let first = begin_exactly(rt, heap, seat);
+    complete(rt, heap, seat, first)
+}

@@ -1,0 +1,148 @@
+//! What a mutator pays for its cache while a cycle is marking.
+//!
+//! It marks the roots of its own section and traces a quota of objects, which is larger the fewer cells are free. So marking keeps pace with allocation: Barabash
+//! and others, *A parallel, incremental, mostly concurrent garbage collector for servers*, 2005. Where it finds no packet to trace from it cleans cards, which
+//! fills packets again, and at last it brings back what was put off.
+ghost use Rattle.std.specs.Prelude.{◌≡◌, ◌≤◌, Some, IfSome, IfNone};
+ghost use Rattle.mark_core.specs.declared.kinds.Phase.TheVariants.{Marking};
+ghost use Rattle.gc_table.specs.Log.{Only, events};
+ghost use Rattle.gc_table.specs.PlainSteps.{own_section};
+ghost use Rattle.gc_table.specs.Running.{Ran};
+ghost use Rattle.gc_table.specs.Seats.{Sits, view_of};
+ghost use Rattle.gc_cycle.specs.Payment.{HasPaid, MarksAndTraces, TracesNone, TracesOn, reads_number, stop_of};
+ghost use Rattle.gc_cycle.specs.Pacing.{quota_seen};
+ghost use Rattle.gc_cycle.specs.Standing.{Mutates};
+
+use crate::counts::Paid;
+use crate::lower::{clean, next_card, recycle_deferred, scan_roots, trace};
+use crate::pace::{FREE, LAST, RESCANNED, TRACED, read_statistic};
+use crate::quota::quota_of;
+use gc_table::{Heap, HeapSeat};
+use tracer::{RootScan, Stopped};
+
+/// What the mutator pays for a cache of `cells` free cells, at most 64, where it has read last that a cycle is marking: it marks its roots and traces its quota
+/// of objects, as [`quota_of`] has it of the numbers read now. How many it traced is told to the others once.
+///
+/// In the answer, `stopped` is Quota exactly where it traced its quota. NoWork comes only where, after its roots were read, no packet to read from was found while
+/// nothing was left in hand, and NoPacket only where none with room was found. Where no packet could be taken at all, neither roots nor objects were marked.
+pub(crate) fn pay(heap: &Heap, seat: &mut HeapSeat, cells: u32) -> Paid
+    requires seat { Sits heap.now seat.old × Mutates (view_of seat.old) }
+    requires marking { (view_of seat.old).state.phase_seen ≡ Some Marking }
+    requires cells { cells ≤ 64 }
+    ensures seat { Sits heap.now seat.new }
+    ensures paid { HasPaid cells result (view_of seat.old) (view_of seat.new) }
+    ensures own { (view_of seat.new).own ≡ (view_of seat.old).own }
+{
+    let quota = quota_now(heap, seat, cells);
+    let paid = mark_and_trace(heap, seat, quota);
+    heap.add_stat(seat, TRACED, paid.done, false);
+    paid
+}
+
+/// The quota for a cache of `cells` free cells, by the numbers as they are now.
+fn quota_now(heap: &Heap, seat: &mut HeapSeat, cells: u32) -> u32
+    requires seat { Sits heap.now seat.old }
+    requires cells { cells ≤ 64 }
+    ensures seat { Sits heap.now seat.new }
+    ensures ran { Ran (view_of seat.old) (view_of seat.new) }
+    ensures only { Only reads_number (view_of seat.old) (view_of seat.new) }
+    ensures state { (view_of seat.new).state ≡ (view_of seat.old).state }
+    ensures quota { quota_seen cells (events (view_of seat.old) (view_of seat.new)) ≡ Some result }
+    ensures bound { result ≤ 1024 }
+{
+    let last = read_statistic(heap, seat, LAST);
+    let rescanned = read_statistic(heap, seat, RESCANNED);
+    let traced = read_statistic(heap, seat, TRACED);
+    let free = read_statistic(heap, seat, FREE);
+    quota_of(cells, last, rescanned, traced, free)
+}
+
+/// Marks the roots of the seat's section, and traces a quota. Where no packet can be taken, nothing is done.
+fn mark_and_trace(heap: &Heap, seat: &mut HeapSeat, quota: u32) -> Paid
+    requires seat { Sits heap.now seat.old × Mutates (view_of seat.old) }
+    requires marking { (view_of seat.old).state.phase_seen ≡ Some Marking }
+    requires quota { quota ≤ 1024 }
+    ensures seat { Sits heap.now seat.new }
+    ensures pays { MarksAndTraces (own_section (view_of seat.old).state) quota result (view_of seat.old) (view_of seat.new) }
+{
+    let section = seat.state().section.unwrap_or(0);
+    match scan_roots(heap, seat, section) {
+        RootScan::NoPacket => Paid {
+            quota,
+            done: 0,
+            stopped: stopped_at(quota),
+        },
+        RootScan::Done { marked: _ } => pay_quota(heap, seat, quota),
+    }
+}
+
+/// Why nothing was traced, where no packet could be taken.
+fn stopped_at(quota: u32) -> Stopped
+    ensures { result ≡ stop_of quota }
+{
+    if quota == 0 {
+        Stopped::Quota
+    } else {
+        Stopped::NoPacket
+    }
+}
+
+/// Traces a quota. Where there is no packet to trace from in the end, what was put off is brought back.
+fn pay_quota(heap: &Heap, seat: &mut HeapSeat, quota: u32) -> Paid
+    requires seat { Sits heap.now seat.old × Mutates (view_of seat.old) }
+    requires marking { (view_of seat.old).state.phase_seen ≡ Some Marking }
+    requires quota { quota ≤ 1024 }
+    ensures seat { Sits heap.now seat.new }
+    ensures traces { TracesOn quota 0 result (view_of seat.old) (view_of seat.new) }
+{
+    let paid = trace_and_clean(heap, seat, quota);
+    if let Stopped::NoWork = paid.stopped {
+        recycle_deferred(heap, seat);
+    }
+    paid
+}
+
+/// Traces a quota. Where there is no packet to trace from, cards are cleaned until there is one: each at most once, since the counter of cards may be reset meanwhile.
+fn trace_and_clean(heap: &Heap, seat: &mut HeapSeat, quota: u32) -> Paid
+    requires seat { Sits heap.now seat.old × Mutates (view_of seat.old) }
+    requires marking { (view_of seat.old).state.phase_seen ≡ Some Marking }
+    requires quota { quota ≤ 1024 }
+    ensures seat { Sits heap.now seat.new }
+    ensures traces { TracesOn quota 0 result (view_of seat.old) (view_of seat.new) }
+{
+    let first = trace(heap, seat, quota);
+    let mut paid = Paid {
+        quota,
+        done: first.done,
+        stopped: first.stopped,
+    };
+    for _card in 0..heap.shape().cells / 16 {
+        let Stopped::NoWork = paid.stopped else {
+            return paid;
+        };
+        let Some(more) = clean_next(heap, seat, paid) else {
+            return paid;
+        };
+        paid = more;
+    }
+    paid
+}
+
+/// Cleans the next card and traces on, after what was paid before. None where no card is left, or no packet to clean it with.
+fn clean_next(heap: &Heap, seat: &mut HeapSeat, before: Paid) -> Option<Paid>
+    requires seat { Sits heap.now seat.old × Mutates (view_of seat.old) }
+    requires marking { (view_of seat.old).state.phase_seen ≡ Some Marking }
+    requires quota { (before.done ≤ before.quota) × (before.quota ≤ 1024) }
+    ensures seat { Sits heap.now seat.new }
+    ensures some { IfSome result (λ paid. TracesOn before.quota before.done paid (view_of seat.old) (view_of seat.new)) }
+    ensures none { IfNone result (TracesNone (view_of seat.old) (view_of seat.new)) }
+{
+    let card = next_card(heap, seat)?;
+    clean(heap, seat, card)?;
+    let more = trace(heap, seat, before.quota - before.done);
+    Some(Paid {
+        quota: before.quota,
+        done: before.done + more.done,
+        stopped: more.stopped,
+    })
+}

@@ -1,0 +1,267 @@
+//! A cache for a mutator, and its tracing increment.
+ghost use Rattle.std.specs.Prelude.{ℕ, ◌≡◌, [], List, None, Some, IfSome, IsTrue};
+ghost use Rattle.std.specs.Bool.{OnFalse, OnTrue};
+ghost use Rattle.mark_core.specs.Places.{the_phase};
+ghost use Rattle.mark_core.specs.declared.kinds.Phase.TheVariants.{Full, Idle, Marking};
+ghost use Rattle.gc_table.specs.Log.{Only, events};
+ghost use Rattle.gc_table.specs.Rule.{KnowsFull};
+ghost use Rattle.gc_table.specs.Running.{Known, Ran};
+ghost use Rattle.gc_table.specs.Seats.{Sits, view_of};
+ghost use Rattle.gc_table.specs.declared.view.Entry.{Entry};
+ghost use Rattle.gc_table.specs.declared.view.View.{View};
+ghost use Rattle.alloc_cache.specs.Caching.{IsCached};
+ghost use Rattle.gc_cycle.specs.Answering.{RefillsTo, TellsFull};
+ghost use Rattle.gc_cycle.specs.Collecting.{HoldsWorld};
+ghost use Rattle.gc_cycle.specs.Cycles.{collects, fills_with_cause, may_fill};
+ghost use Rattle.gc_cycle.specs.Events.{each_after};
+ghost use Rattle.gc_cycle.specs.Finishing.{IsAloneIn, IsPart};
+ghost use Rattle.gc_cycle.specs.Mutating.{stays_calm};
+ghost use Rattle.gc_cycle.specs.Paying.{IsFree};
+ghost use Rattle.gc_cycle.specs.Refilling.{ClaimsAlone, HasClaimed, IsPaced, IsRound, RestsAlone, SeesEnd, SeesFull, looks_for_end, prepares};
+ghost use Rattle.gc_cycle.specs.Sorts.{moves_to};
+ghost use Rattle.gc_cycle.specs.Sparing.{SparesRefill, fills_part};
+ghost use Rattle.gc_cycle.specs.Standing.{KeepsSeat, KeepsSection, Mutates};
+ghost use Rattle.gc_cycle.specs.Stops.{stops_with_cause};
+
+use crate::collecting::{ends_full, go_on};
+use crate::counts::{Paid, Refill, Safe};
+use crate::finishing::{finish_cycle, precise};
+use crate::lower::{claim, resume, retire};
+use crate::pace::kick_off;
+use crate::paying::pay;
+use crate::stopping::stop;
+use alloc_cache::Cache;
+use gc_table::{Heap, HeapSeat};
+use mark_core::Phase;
+use packet_pools::all_empty;
+use std::sync::Wait;
+use tracer::Stopped;
+
+impl Paid {
+    /// Nothing was owed.
+    fn nothing() -> Paid
+        ensures { IsFree result }
+    {
+        Paid {
+            quota: 0,
+            done: 0,
+            stopped: Stopped::Quota,
+        }
+    }
+}
+
+/// A cache for a mutator without one, that has done `done` commands. While a cycle is marking, the mutator pays for it: it marks its roots, and traces
+/// a quota of objects.
+///
+/// The world is stopped only where no block has a free cell, or marking is done. Full comes only where the phase says so; this call says it only after
+/// a precise collection in its own stop that left no cell free.
+pub fn refill<R: Wait>(rt: &R, heap: &Heap, seat: &mut HeapSeat, done: u32) -> Refill
+    requires seat { Sits heap.now seat.old × Mutates (view_of seat.old) }
+    requires cache { (view_of seat.old).state.cache ≡ None }
+    ensures seat { Sits heap.now seat.new }
+    ensures ran { Ran (view_of seat.old) (view_of seat.new) }
+    ensures refills { RefillsTo result done (view_of seat.old) (view_of seat.new) }
+    ensures stops { IsTrue (stops_with_cause heap.now.shape (events (view_of seat.old) (view_of seat.new))) }
+    ensures fills { IsTrue (fills_with_cause heap.now.shape (events (view_of seat.old) (view_of seat.new))) }
+    ensures keeps { KeepsSeat (view_of seat.old) (view_of seat.new) × KeepsSection (view_of seat.old) (view_of seat.new) }
+    ensures only { Only fills_part (view_of seat.old) (view_of seat.new) }
+    ensures spares { SparesRefill result (view_of seat.old) (view_of seat.new) }
+{
+    for _ in rt.forever() {
+        if let Some(refill) = refill_once(rt, heap, seat, done) {
+            return refill;
+        }
+    }
+    unreachable!()
+}
+
+/// One round, which ends without an answer where another seat's stop came first.
+fn refill_once<R: Wait>(rt: &R, heap: &Heap, seat: &mut HeapSeat, done: u32) -> Option<Refill>
+    requires seat { Sits heap.now seat.old × Mutates (view_of seat.old) }
+    requires cache { (view_of seat.old).state.cache ≡ None }
+    ensures seat { Sits heap.now seat.new }
+    ensures round { IsRound result (view_of seat.old) (view_of seat.new) }
+    ensures stops { IsTrue (stops_with_cause heap.now.shape (events (view_of seat.old) (view_of seat.new))) }
+    ensures some { IfSome result (λ r. (u : View) → Ran u (view_of seat.old) → TellsFull u (view_of seat.old) → RefillsTo r done u (view_of seat.new)) }
+{
+    if ends_full(heap, seat, done) {
+        return Some(Refill::Full);
+    }
+    if sees_to_cycle(heap, seat) {
+        return refill_in_stop(rt, heap, seat, done);
+    }
+    claim_or_stop(rt, heap, seat, done)
+}
+
+/// Begins a cycle, where the phase was read as Idle and one is due. Whether the cycle under way is done with marking.
+fn sees_to_cycle(heap: &Heap, seat: &mut HeapSeat) -> bool
+    requires seat { Sits heap.now seat.old × Mutates (view_of seat.old) }
+    requires marking { (view_of seat.old).state.phase_seen ≡ Some Marking → Known (view_of seat.old) the_phase 1 }
+    ensures seat { Sits heap.now seat.new × Mutates (view_of seat.new) }
+    ensures ran { Ran (view_of seat.old) (view_of seat.new) }
+    ensures only { Only prepares (view_of seat.old) (view_of seat.new) }
+    ensures cache { (view_of seat.new).state.cache ≡ (view_of seat.old).state.cache }
+    ensures done { OnTrue result (((view_of seat.old).state.phase_seen ≡ Some Marking) × SeesEnd heap.now.shape (events (view_of seat.old) (view_of seat.new))) }
+    ensures paced { OnFalse result (IsPaced (events (view_of seat.old) (view_of seat.new)) (view_of seat.new)) }
+{
+    if has_seen_marking(seat) {
+        return marking_is_done(heap, seat);
+    }
+    kick_off(heap, seat);
+    false
+}
+
+/// Whether the seat has read the phase last as Marking.
+fn has_seen_marking(seat: &HeapSeat) -> bool
+    ensures seen { OnTrue result ((view_of seat.now).state.phase_seen ≡ Some Marking) }
+{
+    match seat.state().phase_seen {
+        Some(Phase::Marking) => true,
+        _ => false,
+    }
+}
+
+/// A cache where a block can be claimed, and what is paid for it. Where none can, the mutator stops the world.
+fn claim_or_stop<R: Wait>(rt: &R, heap: &Heap, seat: &mut HeapSeat, done: u32) -> Option<Refill>
+    requires seat { Sits heap.now seat.old × Mutates (view_of seat.old) }
+    requires cache { (view_of seat.old).state.cache ≡ None }
+    ensures seat { Sits heap.now seat.new }
+    ensures round { IsRound result (view_of seat.old) (view_of seat.new) }
+    ensures stops { IsTrue (stops_with_cause heap.now.shape (events (view_of seat.old) (view_of seat.new))) }
+    ensures some { IfSome result (λ r. (u : View) → Ran u (view_of seat.old) → TellsFull u (view_of seat.old) → IsPaced (events u (view_of seat.old)) (view_of seat.old) → RefillsTo r done u (view_of seat.new)) }
+{
+    match claim(heap, seat) {
+        None => refill_in_stop(rt, heap, seat, done),
+        Some(cache) => Some(pay_for(heap, seat, cache, done)),
+    }
+}
+
+/// Whether the pass over the cards has ended and all packets are empty. Then marking is done, but for what mutators still do.
+fn marking_is_done(heap: &Heap, seat: &mut HeapSeat) -> bool
+    requires seat { Sits heap.now seat.old × Mutates (view_of seat.old) }
+    ensures seat { Sits heap.now seat.new × Mutates (view_of seat.new) }
+    ensures ran { Ran (view_of seat.old) (view_of seat.new) }
+    ensures only { Only looks_for_end (view_of seat.old) (view_of seat.new) }
+    ensures cache { (view_of seat.new).state.cache ≡ (view_of seat.old).state.cache }
+    ensures done { IsTrue result → SeesEnd heap.now.shape (events (view_of seat.old) (view_of seat.new)) }
+{
+    let seen = heap.read_stat(seat, 0);
+    if seen < u64::from(heap.shape().cells / 16) {
+        return false;
+    }
+    all_empty(heap, seat)
+}
+
+/// What is paid for a cache, by the phase after its claim. Where the heap is full by then, the cache is given up.
+fn pay_for(heap: &Heap, seat: &mut HeapSeat, cache: Cache, done: u32) -> Refill
+    requires seat { Sits heap.now seat.old × Mutates (view_of seat.old) }
+    requires cache { IsCached cache (view_of seat.old) }
+    ensures seat { Sits heap.now seat.new }
+    ensures ran { Ran (view_of seat.old) (view_of seat.new) }
+    ensures only { Only stays_calm (view_of seat.old) (view_of seat.new) }
+    ensures known { SparesRefill result (view_of seat.old) (view_of seat.new) }
+    ensures refills { (u : View) → HasClaimed cache u (view_of seat.old) → RefillsTo result done u (view_of seat.new) }
+{
+    match heap.read_phase(seat) {
+        Phase::Full => {
+            retire(heap, seat, cache);
+            heap.store_position(seat, done);
+            Refill::Full
+        }
+        Phase::Marking => {
+            let paid = pay(heap, seat, cache.free());
+            Refill::Cache(cache, paid)
+        }
+        _ => Refill::Cache(cache, Paid::nothing()),
+    }
+}
+
+/// The same in a stop of its own. Where another seat's flag is up it waits, and has no answer.
+fn refill_in_stop<R: Wait>(rt: &R, heap: &Heap, seat: &mut HeapSeat, done: u32) -> Option<Refill>
+    requires seat { Sits heap.now seat.old × Mutates (view_of seat.old) }
+    requires cache { (view_of seat.old).state.cache ≡ None }
+    ensures seat { Sits heap.now seat.new }
+    ensures round { IsRound result (view_of seat.old) (view_of seat.new) }
+    ensures some { IfSome result (λ r. (u : View) → Ran u (view_of seat.old) → TellsFull u (view_of seat.old) → RefillsTo r done u (view_of seat.new)) }
+{
+    if !stop(rt, heap, seat, done) {
+        return None;
+    }
+    let cache = claim_in_stop(rt, heap, seat);
+    resume(heap, seat);
+    match go_on(heap, seat, cache, done) {
+        Safe::Full => Some(Refill::Full),
+        Safe::Going(Some(cache)) => Some(Refill::Cache(cache, Paid::nothing())),
+        Safe::Going(None) => None,
+    }
+}
+
+/// Ends the cycle that is marking, or collects precisely, and claims a block. There is none where the heap is full.
+fn claim_in_stop<R: Wait>(rt: &R, heap: &Heap, seat: &mut HeapSeat) -> Option<Cache>
+    requires seat { Sits heap.now seat.old }
+    requires stopped { HoldsWorld (view_of seat.old) }
+    ensures seat { Sits heap.now seat.new }
+    ensures claims { ClaimsAlone result (view_of seat.old) (view_of seat.new) }
+    ensures full { KnowsFull (view_of seat.old) → KnowsFull (view_of seat.new) }
+    ensures fills { IsTrue (each_after (may_fill heap.now.shape) (moves_to Full) [] (events (view_of seat.old) (view_of seat.new))) }
+{
+    match seat.state().phase_seen {
+        Some(Phase::Full) => None,
+        Some(Phase::Marking) => {
+            finish_cycle(rt, heap, seat);
+            claim_or_collect(rt, heap, seat)
+        }
+        _ => {
+            precise(rt, heap, seat);
+            claim_or_fill(heap, seat)
+        }
+    }
+}
+
+/// A cache after an ordinary cycle, or else after a precise collection.
+fn claim_or_collect<R: Wait>(rt: &R, heap: &Heap, seat: &mut HeapSeat) -> Option<Cache>
+    requires seat { Sits heap.now seat.old }
+    requires alone { IsAloneIn Idle (view_of seat.old) × RestsAlone (view_of seat.old) }
+    ensures seat { Sits heap.now seat.new }
+    ensures claims { ClaimsAlone result (view_of seat.old) (view_of seat.new) }
+    ensures fills { IsTrue (each_after (may_fill heap.now.shape) (moves_to Full) [] (events (view_of seat.old) (view_of seat.new))) }
+{
+    if let Some(cache) = claim(heap, seat) {
+        return Some(cache);
+    }
+    precise(rt, heap, seat);
+    claim_or_fill(heap, seat)
+}
+
+/// A cache after a precise collection. Where every allocation word is all ones, the heap is said to be full.
+fn claim_or_fill(heap: &Heap, seat: &mut HeapSeat) -> Option<Cache>
+    requires seat { Sits heap.now seat.old }
+    requires alone { IsAloneIn Idle (view_of seat.old) × RestsAlone (view_of seat.old) }
+    requires exact { IsTrue (view_of seat.old).state.exact }
+    ensures seat { Sits heap.now seat.new }
+    ensures claims { ClaimsAlone result (view_of seat.old) (view_of seat.new) }
+    ensures fills { (before : List Entry) → IsTrue (collects before) → IsTrue (each_after (may_fill heap.now.shape) (moves_to Full) before (events (view_of seat.old) (view_of seat.new))) }
+{
+    if all_allocated(heap, seat) {
+        heap.store_named(seat);
+        heap.store_phase(seat, Phase::Full);
+        return None;
+    }
+    claim(heap, seat)
+}
+
+/// Whether every cell is published, as a seat that is alone reads it.
+fn all_allocated(heap: &Heap, seat: &mut HeapSeat) -> bool
+    requires seat { Sits heap.now seat.old }
+    requires alone { IsAloneIn Idle (view_of seat.old) }
+    ensures seat { Sits heap.now seat.new }
+    ensures part { IsPart Idle (view_of seat.old) (view_of seat.new) }
+    ensures full { IsTrue result → SeesFull heap.now.shape (view_of seat.old) (view_of seat.new) }
+{
+    for b in 0..heap.shape().cells / 64 {
+        if heap.read_alloc(seat, b) != u64::MAX {
+            return false;
+        }
+    }
+    true
+}

@@ -1,0 +1,143 @@
+//! A mutator stops the world, and waits for the stop of another.
+ghost use Rattle.std.specs.Prelude.{ℕ, ◌≡◌, ◌∷◌, [], if◌then◌else◌, None, is_some, IsTrue};
+ghost use Rattle.std.specs.Bool.{OnTrue, OnFalse};
+ghost use Rattle.gc_table.specs.Seats.{Sits, view_of};
+ghost use Rattle.packet_pools.specs.Seeking.{some_event};
+ghost use Rattle.mark_core.specs.declared.kinds.Step.TheVariants.{LeaveStep, StorePosition};
+ghost use Rattle.packet_pools.specs.Counts.{count_of};
+ghost use Rattle.gc_table.specs.Log.{Only, event, events};
+ghost use Rattle.gc_table.specs.Running.{Ran};
+ghost use Rattle.gc_cycle.specs.Answering.{waits_helping};
+ghost use Rattle.gc_cycle.specs.Cycles.{never_fills};
+ghost use Rattle.gc_cycle.specs.Events.{never};
+ghost use Rattle.gc_cycle.specs.Mutating.{GoesOut, HasEntered, StopsWorld, TriesToStop, stays_calm};
+ghost use Rattle.gc_cycle.specs.Polling.{offered_help, saw_resumed};
+ghost use Rattle.gc_cycle.specs.Sorts.{joins, leaves, raises_flag};
+ghost use Rattle.gc_cycle.specs.Sparing.{spares_part};
+ghost use Rattle.gc_cycle.specs.Standing.{IsAdmitted, IsOut, KeepsSeat, KeepsSection, Mutates};
+
+use crate::helping::help;
+use crate::lower::{await_stopped, enter, join_help, leave, leave_help, poll, raise};
+use gc_table::{Heap, HeapSeat};
+use mark_core::Phase;
+use std::sync::Wait;
+use std::thread;
+use stop_world::Raised;
+
+/// How many objects a waiting seat traces before it looks again whether the stop has ended.
+const TURN: u32 = 1_024;
+
+/// Helps, where the stop is in a drain or a sweep.
+fn help_joined(heap: &Heap, seat: &mut HeapSeat)
+    requires seat { Sits heap.now seat.old × IsAdmitted (view_of seat.old) }
+    ensures seat { Sits heap.now seat.new × IsAdmitted (view_of seat.new) }
+    ensures out { GoesOut (view_of seat.old) (view_of seat.new) }
+    ensures own { (view_of seat.new).own ≡ (view_of seat.old).own }
+    ensures inside { IsTrue (never leaves (events (view_of seat.old) (view_of seat.new))) }
+{
+    match seat.state().phase_seen {
+        Some(Phase::Drain) => {
+            help(heap, seat, TURN);
+        }
+        Some(Phase::Sweep) => {
+            help(heap, seat, TURN);
+        }
+        _ => {}
+    }
+}
+
+/// Joins the helpers once, where help is open, and helps.
+fn help_once(heap: &Heap, seat: &mut HeapSeat)
+    requires seat { Sits heap.now seat.old × IsOut (view_of seat.old) }
+    ensures seat { Sits heap.now seat.new × IsOut (view_of seat.new) }
+    ensures out { GoesOut (view_of seat.old) (view_of seat.new) }
+    ensures own { (view_of seat.new).own ≡ (view_of seat.old).own }
+    ensures offered { IsTrue (some_event joins (events (view_of seat.old) (view_of seat.new))) }
+    ensures inside { IsTrue (never leaves (events (view_of seat.old) (view_of seat.new))) }
+{
+    if join_help(heap, seat) {
+        help_joined(heap, seat);
+        leave_help(heap, seat);
+    }
+}
+
+/// Waits until no stop is under way. Meanwhile it joins the helpers of the stop, and helps.
+pub fn await_resumed_helping<R: Wait>(rt: &R, heap: &Heap, seat: &mut HeapSeat)
+    requires seat { Sits heap.now seat.old × IsOut (view_of seat.old) }
+    ensures seat { Sits heap.now seat.new × IsOut (view_of seat.new) }
+    ensures ran { Ran (view_of seat.old) (view_of seat.new) }
+    ensures resumed { IsTrue (saw_resumed (events (view_of seat.old) (view_of seat.new))) }
+    ensures offered { IsTrue (offered_help (events (view_of seat.old) (view_of seat.new))) }
+    ensures only { Only stays_calm (view_of seat.old) (view_of seat.new) }
+    ensures not_full { IsTrue (never_fills (events (view_of seat.old) (view_of seat.new))) }
+    ensures keeps { KeepsSeat (view_of seat.old) (view_of seat.new) }
+    ensures own { (view_of seat.new).own ≡ (view_of seat.old).own }
+    ensures inside { IsTrue (never leaves (events (view_of seat.old) (view_of seat.new))) }
+{
+    for _ in rt.forever() {
+        if !poll(heap, seat) {
+            return;
+        }
+        help_once(heap, seat);
+        thread::yield_now();
+    }
+    unreachable!()
+}
+
+/// Leaves the world with the position stored: the mutator has done `done` commands. It has no cache.
+pub fn go_out(heap: &Heap, seat: &mut HeapSeat, done: u32)
+    requires seat { Sits heap.now seat.old × Mutates (view_of seat.old) }
+    requires cache { (view_of seat.old).state.cache ≡ None }
+    ensures seat { Sits heap.now seat.new × IsOut (view_of seat.new) }
+    ensures out { GoesOut (view_of seat.old) (view_of seat.new) }
+    ensures position { (view_of seat.new).own.position ≡ done }
+    ensures left { (n : ℕ) × (events (view_of seat.old) (view_of seat.new) ≡ event (StorePosition done) done ∷ event LeaveStep n ∷ []) }
+    ensures spares { Only spares_part (view_of seat.old) (view_of seat.new) }
+{
+    heap.store_position(seat, done);
+    leave(heap, seat);
+}
+
+/// Enters the world, as soon as no stop is under way. Meanwhile the seat helps.
+pub fn go_in<R: Wait>(rt: &R, heap: &Heap, seat: &mut HeapSeat)
+    requires seat { Sits heap.now seat.old × IsOut (view_of seat.old) }
+    requires section { IsTrue (is_some (view_of seat.old).state.section) }
+    ensures seat { Sits heap.now seat.new × Mutates (view_of seat.new) }
+    ensures entered { HasEntered (view_of seat.old) (view_of seat.new) }
+    ensures waits { IsTrue (waits_helping (events (view_of seat.old) (view_of seat.new))) }
+    ensures offered { IsTrue (offered_help (events (view_of seat.old) (view_of seat.new))) }
+    ensures spares { Only spares_part (view_of seat.old) (view_of seat.new) }
+{
+    for _ in rt.forever() {
+        await_resumed_helping(rt, heap, seat);
+        if enter(heap, seat) {
+            return;
+        }
+    }
+    unreachable!()
+}
+
+/// Asks for a stop of its own, with the position stored: true where the seat has stopped the world and is alone in it. Where another seat's flag is up it
+/// waits until that stop has ended, and enters again.
+pub(crate) fn stop<R: Wait>(rt: &R, heap: &Heap, seat: &mut HeapSeat, done: u32) -> bool
+    requires seat { Sits heap.now seat.old × Mutates (view_of seat.old) }
+    requires cache { (view_of seat.old).state.cache ≡ None }
+    ensures seat { Sits heap.now seat.new }
+    ensures tries { TriesToStop (view_of seat.old) (view_of seat.new) }
+    ensures yours { OnTrue result (StopsWorld (view_of seat.old) (view_of seat.new)) }
+    ensures theirs { OnFalse result (Mutates (view_of seat.new)) }
+    ensures position { (view_of seat.new).own.position ≡ done }
+    ensures raises { count_of raises_flag (events (view_of seat.old) (view_of seat.new)) ≡ (if result then 1 else 0) }
+{
+    go_out(heap, seat, done);
+    match raise(heap, seat) {
+        Raised::Yours => {
+            await_stopped(rt, heap, seat);
+            true
+        }
+        Raised::Theirs => {
+            go_in(rt, heap, seat);
+            false
+        }
+    }
+}
