@@ -1,0 +1,63 @@
+-- A section without commands is counted.
+use Rattle.std.proofs.Common.{◌≡◌, List, refl, sym, ap, ◌∙◌, subst, ◌&&◌, true, false, not}
+use Rattle.std.proofs.lemmas.Bool.{and_from}
+use Rattle.mark_core.specs.WorldSteps.{has_nothing}
+use Rattle.mark_core.specs.declared.kinds.Step.TheVariants.{AddStat, LeaveStep}
+use Rattle.gc_table.specs.Seats.{Took}
+use Rattle.gc_table.specs.declared.view.Entry.{Entry}
+use Rattle.gc_table.specs.declared.view.View.{View}
+use Rattle.gc_table.proofs.Log.{events-after, only-after}
+use Rattle.gc_table.proofs.Running.{ran-took}
+use Rattle.gc_cycle.specs.Cycles.{never_fills}
+use Rattle.gc_cycle.specs.Mutating.{HasEntered}
+use Rattle.gc_cycle.specs.Sparing.{done_count, spares_part}
+use Rattle.gc_cycle.specs.Standing.{IsOut, Mutates}
+use Rattle.gc_cycle.proofs.Goings.{mutator-nothing}
+use Rattle.gc_table.specs.Log.{Only}
+use Rattle.play_end.specs.Done.{IsStill}
+use Rattle.stop_world.proofs.Standing.{active-counted, strong, unless}
+use Rattle.warehouse.specs.Ending.{CountsAbsent}
+use Rattle.warehouse.specs.Turns.{KeepsPart}
+use Rattle.warehouse.proofs.Counting.{spares-seasons}
+use Rattle.warehouse.proofs.Seasons.{keeps-join, spared-keeps}
+
+-- the seat entered (v), and counted the part (w)
+module _ (u v w : View) (entered : HasEntered u v) (spares : Only spares_part u v) (mutates : Mutates v) (count : Took (AddStat done_count 1 false) v w) where
+  pub counted-nothing : has_nothing w.shape w.state ≡ true
+  counted-nothing = subst (λ (y : View). has_nothing y.shape y.state ≡ true) (sym count.1.0) (mutator-nothing v mutates entered.cache)
+
+  pub counted-active : w.state.active ≡ true
+  counted-active = ap (λ (y : View). y.state.active) count.1.0 ∙ mutates.active
+
+  count_keeps : KeepsPart v w
+  count_keeps =
+      record {
+        ran = ran-took v w (AddStat done_count 1 false) refl count;
+        still = subst (λ (y : View). IsStill v.own y.own) (sym count.1.0) (record { heap = refl; turns = refl; places = refl; full = refl });
+        position = ap (λ (y : View). y.own.position) count.1.0;
+        made = ap (λ (y : View). y.state.made) count.1.0;
+        unfilled = ap (λ (es : List Entry). never_fills es) (events-after v w (AddStat done_count 1 false) count.0 count.1.0);
+      }
+
+  -- and left
+  module _ (x : View) (leave : Took LeaveStep w x) where
+    pub absent-out : IsOut x
+    absent-out =
+        let f = leave.1.1 in
+        let counted = active-counted f.state f.index w f.whole f.agrees counted-active in
+        let rules = strong f.state f.index w f.whole f.agrees in
+        let unraised : w.state.raised ≡ false = unless w.state.raised (not w.state.counted) (λ e. ap not (rules.raised_not_counted e)) (ap not counted) in
+        let unhelping : w.state.helping ≡ false = ap (λ (y : View). y.state.helping) count.1.0 ∙ mutates.unhelping in
+        subst IsOut (sym leave.1.0)
+        (record { bare = and_from (not false && not w.state.raised) (not w.state.helping) (ap not unraised) (ap not unhelping); rest = counted-nothing })
+
+    pub counts-absent : CountsAbsent u x
+    counts-absent =
+        let gone = only-after spares_part w x LeaveStep leave.0 refl leave.1.0 in
+        let left = ran-took w x LeaveStep refl leave in
+        record {
+          keeps =
+              keeps-join u v x (spared-keeps u v entered.out.ran spares entered.position)
+              (keeps-join v w x count_keeps (spared-keeps w x left gone (ap (λ (y : View). y.own.position) leave.1.0)));
+          seasons = spares-seasons w x left gone ∙ (ap (λ (y : View). y.own.seasons) count.1.0 ∙ spares-seasons u v entered.out.ran spares);
+        }

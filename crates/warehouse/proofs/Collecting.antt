@@ -1,0 +1,116 @@
+-- A mutator collects, where the script says so.
+use Rattle.std.proofs.Common.{ℕ, ◌≡◌, ◌+◌, ◌≤◌, ◌++◌, List, [], ◌∷◌, map, refl, sym, ap, ◌∙◌, subst, Option, Some, None, if◌then◌else◌, arith, inl}
+use Rattle.plain_heap.specs.PlainRun.{with_label}
+use Rattle.plain_heap.specs.PlainStep.{line_of}
+use Rattle.plain_heap.specs.Sections.{Execution, Parts}
+use Rattle.plain_heap.specs.declared.operation.Op.TheVariants as ops
+use Rattle.gc_table.specs.Log.{Only, events}
+use Rattle.gc_table.specs.Rule.{KnowsFull}
+use Rattle.gc_table.specs.Running.{Ran}
+use Rattle.gc_table.specs.Sections.{season_of}
+use Rattle.gc_table.specs.Seats.{Sits, view_of}
+use Rattle.gc_table.specs.declared.seat.Heap.{Heap}
+use Rattle.gc_table.specs.declared.seat.HeapSeat.{HeapSeat}
+use Rattle.gc_table.specs.declared.view.Place.{Place}
+use Rattle.gc_table.specs.declared.view.View.{View}
+use Rattle.gc_table.proofs.Running.{ran-join}
+use Rattle.packet_pools.specs.Counts.{count_of}
+use Rattle.alloc_cache.specs.declared.cache.Cache.{Cache}
+use Rattle.mutator_ops.specs.Doing.{seen}
+use Rattle.play_end.specs.Done.{Does}
+use Rattle.play_end.specs.Parts.{DoesCommand}
+use Rattle.play_end.specs.Playing.{drops}
+use Rattle.play_end.proofs.Commands.{still-does}
+use Rattle.gc_cycle.specs.Answering.{Collects, CollectsTo, EndsFull, HasCache}
+use Rattle.warehouse.specs.Commands.{DoesOne, MayDo, StopsBefore}
+use Rattle.warehouse.specs.Playing.{Acts, IsPlaying, Stays, Waits, collects_by, player_of}
+use Rattle.gc_cycle.specs.Sorts.{raises_flag}
+use Rattle.gc_cycle.specs.Sparing.{spares_part}
+use Rattle.gc_cycle.specs.Standing.{KeepsSeat}
+use Rattle.gc_cycle.specs.declared.counts.Safe.TheVariants as safes
+use Rattle.warehouse.specs.declared.mutator.Mutator.{Mutator}
+use Rattle.warehouse.proofs.Acting.{acts-join}
+use Rattle.warehouse.proofs.Causes.{acts-asked, acts-collect}
+use Rattle.warehouse.proofs.Commanding.{stays-of}
+use Rattle.warehouse.proofs.Coming.{moved, says-moved}
+use Rattle.warehouse.proofs.Fulls.{counted-kept}
+use Rattle.warehouse.proofs.Makings.{printed-later}
+use Rattle.warehouse.proofs.Others.{made-later}
+use Rattle.warehouse.proofs.Sparings.{stays-join, stays-spared}
+
+append_none : {X : Type 0} (xs : List X) → xs ≡ xs ++ []
+append_none [] = refl
+append_none (x ∷ xs) = ap (λ ys. x ∷ ys) (append_none xs)
+
+-- no cache is left
+no_cache : (kept : Option Cache) (done : ℕ) (v w : View) → CollectsTo (safes.Going kept) done v w → HasCache kept w × Collects v w
+no_cache None done v w c = (c.cache, c)
+no_cache (Some h) done v w c = absurd c
+
+-- the command counts one collection
+one_collect : (e : Execution) → e.op ≡ ops.Collect → collects_by (e ∷ []) ≡ 1
+one_collect e is = ap (λ op. collects_by (record { line = e.line; label = e.label; op = op } ∷ [])) is
+
+-- the mutator with its seat moved on, and one command done
+abbrev pub counted_up : Mutator → HeapSeat → Mutator
+counted_up m s = record m { seat = s; count = m.count + 1 }
+
+-- from a mutator whose seat gave its cache up (s), and collected then (t)
+module _
+    (h : Heap) (p : Parts) (e : Execution) (m : Mutator) (cache : Option Cache) (s t : HeapSeat) (is : e.op ≡ ops.Collect) (playing : IsPlaying h p cache m) (may : MayDo p e m) (sits : Sits h t)
+    (waits : Waits (view_of m.seat) (view_of s)) (stays : Stays (view_of m.seat) (view_of s)) (ran : Ran (view_of s) (view_of t)) (spares : Only spares_part (view_of s) (view_of t))
+    (keeps : KeepsSeat (view_of s) (view_of t)) (once : count_of raises_flag (events (view_of s) (view_of t)) ≤ 1) where
+  both_stay : Stays (view_of m.seat) (view_of t)
+  both_stay = stays-join (view_of m.seat) (view_of s) (view_of t) stays (stays-spared (view_of s) (view_of t) ran spares keeps)
+
+  both_ran : Ran (view_of m.seat) (view_of t)
+  both_ran = ran-join (view_of m.seat) (view_of s) (view_of t) (waits 0).ran ran
+
+  collect_does : DoesCommand e (player_of m) (player_of (counted_up m t))
+  collect_does =
+      let v : View = view_of m.seat in
+      let w : View = view_of t in
+      record {
+        of = stays-of v w both_ran;
+        does = subst (λ op. Does (seen v) (season_of v.state) op v.own w.own) (sym is) (still-does (seen v) (season_of v.state) ops.Collect v.own w.own refl both_stay.still);
+        count = refl;
+        said = append_none (player_of m).said ∙ ap (λ op. (player_of m).said ++ with_label e.label (line_of v.own.meaning.heap (seen v) op) []) (sym is);
+        dropped = plus_none m.dropped ∙ ap (λ op. m.dropped + (if drops v.own.meaning.heap op then 1 else 0)) (sym is);
+        cells = may.next.left.after.said.cells_are ∙ ap (λ (ps : List Place). map (λ (q : Place). q.cell) ps) (sym both_stay.still.places);
+      }
+    where
+      plus_none : (n : ℕ) → n ≡ n + 0
+      plus_none n = omega arith
+
+  pub collects-going : (kept : Option Cache) (done : ℕ) → CollectsTo (safes.Going kept) done (view_of s) (view_of t) → DoesOne h p kept e m (counted_up m t)
+  collects-going kept done c =
+      let k = no_cache kept done (view_of s) (view_of t) c in
+      record {
+        playing = record { sits = sits; mutates = k.1.goes_on.mutates; cached = k.0; counted = counted-kept (view_of m.seat) (view_of t) both_stay.still.heap both_stay.made playing.counted };
+        does = collect_does;
+        room = λ later r.
+            record {
+              said = omega (arith, r.said, printed-later e later);
+              places = omega (arith, r.places, made-later e later);
+              count = omega (arith, r.count);
+              made = omega (arith, r.made, made-later e later, both_stay.made);
+              dropped = omega (arith, r.dropped);
+            };
+        acts = λ season read.
+            subst (λ n. Acts season 0 n n (view_of m.seat) (view_of t)) (sym (one_collect e is))
+            (acts-join season 0 0 0 0 1 1 0 1 1 (view_of m.seat) (view_of s) (view_of t) (waits season) (acts-collect season (view_of s) (view_of t) ran spares k.1.collected once) (omega arith) (omega arith) (omega arith));
+      }
+
+  pub collects-full : EndsFull m.count (view_of s) (view_of t) → KnowsFull (view_of t) → StopsBefore h p e m (moved m t)
+  collects-full ends known =
+      record {
+        playing = record { sits = sits; mutates = ends.mutates; cached = ends.cache; counted = counted-kept (view_of m.seat) (view_of t) both_stay.still.heap both_stay.made playing.counted };
+        kept = record { heap = both_stay.still.heap; turns = both_stay.still.turns; places = both_stay.still.places };
+        says = says-moved m t;
+        position = ends.position;
+        known = known;
+        found = λ full. inl (sym both_stay.still.full ∙ full);
+        acts = λ season.
+            subst (λ n. Acts season 0 0 n (view_of m.seat) (view_of t)) (sym (one_collect e is))
+            (acts-join season 0 0 0 0 0 1 0 0 1 (view_of m.seat) (view_of s) (view_of t) (waits season) (acts-asked season (view_of s) (view_of t) ran spares once) (omega arith) (omega arith) (omega arith));
+      }

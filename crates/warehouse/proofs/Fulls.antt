@@ -1,0 +1,58 @@
+-- A mutator that waits finds the heap full.
+use Rattle.std.proofs.Common.{ℕ, ◌≡◌, sym, ap, ◌∙◌, length}
+use Rattle.plain_heap.specs.PlainHeap.{Heap}
+use Rattle.gc_table.specs.Log.{events}
+use Rattle.gc_table.specs.Rule.{KnowsFull}
+use Rattle.gc_table.specs.Running.{Ran}
+use Rattle.gc_table.specs.declared.view.Meaning.{Meaning}
+use Rattle.gc_table.specs.declared.view.View.{View}
+use Rattle.gc_table.proofs.Running.{ran-events}
+use Rattle.packet_pools.proofs.Searches.{some-right}
+use Rattle.mark_core.specs.declared.kinds.Phase.TheVariants.{Full}
+use Rattle.gc_cycle.specs.Answering.{EndsFull}
+use Rattle.warehouse.specs.Playing.{FindsFull, IsCounted, Stays, Waits}
+use Rattle.gc_cycle.specs.Polling.{saw_full}
+use Rattle.gc_cycle.specs.Sorts.{reads_phase}
+use Rattle.gc_cycle.specs.Standing.{KeepsSeat, KeepsSection}
+use Rattle.warehouse.proofs.Acting.{waits-join, waits-ran}
+
+-- a call before it makes no difference
+pub ends-before : (done : ℕ) (u v w : View) → Ran u v → Ran v w → EndsFull done v w → EndsFull done u w
+ends-before done u v w r s e =
+    record {
+      mutates = e.mutates;
+      read = ap saw_full (ran-events u v w r s) ∙ some-right (reads_phase Full) (events u v) (events v w) e.read;
+      seen = e.seen;
+      cache = e.cache;
+      position = e.position;
+    }
+
+-- the call that finds it leaves the section, after others that did
+pub finds-after : (done : ℕ) (u v w : View) → Stays u v → Waits u v → KeepsSeat v w → KeepsSection v w → Waits v w → EndsFull done v w → KnowsFull w → FindsFull done u w
+finds-after done u v w stays before seat section acts ends known =
+    record {
+      heap = ap (λ (m : Meaning). m.heap) section.meaning ∙ stays.still.heap;
+      turns = section.turns ∙ stays.still.turns;
+      places = section.places ∙ stays.still.places;
+      ends = ends-before done u v w (waits-ran u v before) (waits-ran v w acts) ends;
+      known = known;
+      made = seat.made ∙ stays.made;
+      acts = waits-join u v w before acts;
+    }
+
+-- and so it does after calls that found room
+pub finds-later : (done : ℕ) (u v w : View) → Stays u v → Waits u v → FindsFull done v w → FindsFull done u w
+finds-later done u v w stays before f =
+    record {
+      heap = f.heap ∙ stays.still.heap;
+      turns = f.turns ∙ stays.still.turns;
+      places = f.places ∙ stays.still.places;
+      ends = ends-before done u v w (waits-ran u v before) (waits-ran v w f.acts) f.ends;
+      known = f.known;
+      made = f.made ∙ stays.made;
+      acts = waits-join u v w before f.acts;
+    }
+
+-- each object has its cell still
+pub counted-kept : (v w : View) → w.own.meaning.heap ≡ v.own.meaning.heap → w.state.made ≡ v.state.made → IsCounted v → IsCounted w
+counted-kept v w heap made c = ap (λ (h : Heap). length h.objects) heap ∙ c ∙ sym made

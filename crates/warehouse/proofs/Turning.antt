@@ -1,0 +1,137 @@
+-- The plain steps of a command, all in one turn.
+use Rattle.std.proofs.Common.{ℕ, ◌≡◌, List, [], ◌∷◌, ◌++◌, refl, sym, ap, ◌∙◌, subst, Bool, true, false}
+use Rattle.std.specs.Prelude.{unwrap_or}
+use Rattle.std.specs.List.{All}
+use Rattle.std.proofs.lemmas.Bool.{and_parts, false≢true}
+use Rattle.std.proofs.lemmas.List.Elements.{All-nil, All-cons, All-append}
+use Rattle.mark_core.specs.declared.kinds.Step.{Step}
+use Rattle.mark_core.specs.declared.kinds.Step.TheVariants.{ReadOwn, ReadValue, ReadIdent, ReadCat, StoreField, StoreValue, StoreRoot, StoreNew, DirtyCard}
+use Rattle.plain_heap.specs.PlainHeap.{Heap}
+use Rattle.plain_heap.specs.declared.operation.Op.{Op}
+use Rattle.plain_heap.specs.declared.operation.Op.TheVariants as ops
+use Rattle.gc_table.specs.declared.view.Entry.{Entry}
+use Rattle.gc_table.specs.declared.view.SectionState.{SectionState}
+use Rattle.gc_table.specs.declared.view.Turn.{Turn}
+use Rattle.gc_table.specs.declared.view.View.{View}
+use Rattle.gc_table.specs.Log.{Only, all_steps, events}
+use Rattle.gc_table.specs.Running.{Ran, after_all}
+use Rattle.gc_table.specs.Sections.{season_of}
+use Rattle.gc_table.specs.Taking.{after}
+use Rattle.gc_table.proofs.Log.{only-more}
+use Rattle.mutator_ops.specs.Doing.{belongs}
+use Rattle.play_end.specs.Done.{last_heap_of}
+
+-- by plain steps of one turn the section's heap became another
+pub record Turns (season : ℕ) (x y : SectionState) : Type 0 where
+  pub more : List Turn
+  pub turns : y.turns ≡ x.turns ++ more
+  pub in_turn : All (λ (t : Turn). t.season ≡ season) more
+  pub last : y.meaning.heap ≡ last_heap_of x.meaning.heap more
+
+append_none : {X : Type 0} (xs : List X) → xs ≡ xs ++ []
+append_none [] = refl
+append_none (x ∷ xs) = ap (λ ys. x ∷ ys) (append_none xs)
+
+append_more : {X : Type 0} (xs ys zs : List X) → (xs ++ ys) ++ zs ≡ xs ++ (ys ++ zs)
+append_more [] ys zs = refl
+append_more (x ∷ xs) ys zs = ap (λ l. x ∷ l) (append_more xs ys zs)
+
+last_both : (h : Heap) (xs ys : List Turn) → last_heap_of (last_heap_of h xs) ys ≡ last_heap_of h (xs ++ ys)
+last_both h [] ys = refl
+last_both h (t ∷ ts) ys = last_both t.heap ts ys
+
+pub turns-none : (season : ℕ) (x y : SectionState) → y.turns ≡ x.turns → y.meaning.heap ≡ x.meaning.heap → Turns season x y
+turns-none season x y t h = record { more = []; turns = t ∙ append_none x.turns; in_turn = All-nil (λ (t : Turn). t.season ≡ season); last = h }
+
+pub turns-join : (season : ℕ) (x y z : SectionState) → Turns season x y → Turns season y z → Turns season x z
+turns-join season x y z a b =
+    record {
+      more = a.more ++ b.more;
+      turns = b.turns ∙ ap (λ (ts : List Turn). ts ++ b.more) a.turns ∙ append_more x.turns a.more b.more;
+      in_turn = All-append (λ (t : Turn). t.season ≡ season) a.more b.more a.in_turn b.in_turn;
+      last = b.last ∙ ap (λ (h : Heap). last_heap_of h b.more) a.last ∙ last_both x.meaning.heap a.more b.more;
+    }
+
+-- a step that a command may take
+abbrev pub is_of_command : Step → Bool
+is_of_command (ReadOwn c j) = true
+is_of_command (ReadValue c) = true
+is_of_command (ReadIdent c) = true
+is_of_command (ReadCat u) = true
+is_of_command (StoreField u j o) = true
+is_of_command (StoreValue u m) = true
+is_of_command (StoreRoot u r) = true
+is_of_command (StoreNew c part word) = true
+is_of_command (DirtyCard card) = true
+is_of_command step = false
+
+-- one plain step
+one_turn : (x y : SectionState) (season : ℕ) → y.turns ≡ x.turns ++ record { season = season; heap = y.meaning.heap } ∷ [] → Turns season x y
+one_turn x y season e =
+    record {
+      more = record { season = season; heap = y.meaning.heap } ∷ [];
+      turns = e;
+      in_turn = All-cons (λ (t : Turn). t.season ≡ season) (record { season = season; heap = y.meaning.heap }) [] refl (All-nil (λ (t : Turn). t.season ≡ season));
+      last = refl;
+    }
+
+turns_step : (v : View) (step : Step) (n : ℕ) → is_of_command step ≡ true → Turns (season_of v.state) v.own (after step n v).own
+turns_step v (ReadOwn c j) n b = turns-none _ _ _ refl refl
+turns_step v (ReadValue c) n b = turns-none _ _ _ refl refl
+turns_step v (ReadIdent c) n b = turns-none _ _ _ refl refl
+turns_step v (ReadCat u) n b = turns-none _ _ _ refl refl
+turns_step v (StoreNew c part word) n b = turns-none _ _ _ refl refl
+turns_step v (DirtyCard card) n b = turns-none _ _ _ refl refl
+turns_step v (StoreField u j o) n b = one_turn v.own (after (StoreField u j o) n v).own (season_of v.state) refl
+turns_step v (StoreValue u m) n b = one_turn v.own (after (StoreValue u m) n v).own (season_of v.state) refl
+turns_step v (StoreRoot u r) n b = one_turn v.own (after (StoreRoot u r) n v).own (season_of v.state) refl
+turns_step v step n b = absurd (false≢true b)
+
+pub season-step : (v : View) (step : Step) (n : ℕ) → is_of_command step ≡ true → (after step n v).state.season_seen ≡ v.state.season_seen
+season-step v (ReadOwn c j) n b = refl
+season-step v (ReadValue c) n b = refl
+season-step v (ReadIdent c) n b = refl
+season-step v (ReadCat u) n b = refl
+season-step v (StoreNew c part word) n b = refl
+season-step v (DirtyCard card) n b = refl
+season-step v (StoreField u j o) n b = refl
+season-step v (StoreValue u m) n b = refl
+season-step v (StoreRoot u r) n b = refl
+season-step v step n b = absurd (false≢true b)
+
+turns_all : (season : ℕ) (es : List Entry) (v : View) → season_of v.state ≡ season → all_steps is_of_command es ≡ true → Turns season v.own (after_all es v).own
+turns_all season [] v s b = turns-none season v.own v.own refl refl
+turns_all season (e ∷ es) v s b =
+    let p = and_parts (is_of_command e.step) (all_steps is_of_command es) b in
+    let x = after e.step e.found v in
+    turns-join season v.own x.own (after_all es x).own
+    (subst (λ z. Turns z v.own x.own) s (turns_step v e.step e.found p.0))
+    (turns_all season es x (ap (λ o. unwrap_or o 0) (season-step v e.step e.found p.0) ∙ s) p.1)
+
+-- the steps of any command are such
+pub of-command : (op : Op) (step : Step) → belongs op step ≡ true → is_of_command step ≡ true
+of-command op (ReadOwn c j) b = refl
+of-command op (ReadValue c) b = refl
+of-command op (ReadIdent c) b = refl
+of-command op (ReadCat u) b = refl
+of-command op (StoreNew c part word) b = refl
+of-command op (DirtyCard card) b = refl
+of-command op (StoreField u j o) b = refl
+of-command op (StoreValue u m) b = refl
+of-command op (StoreRoot u r) b = refl
+of-command (ops.New v n) step b = absurd (false≢true b)
+of-command (ops.Let v w) step b = absurd (false≢true b)
+of-command (ops.Nil v) step b = absurd (false≢true b)
+of-command (ops.Set v i w) step b = absurd (false≢true b)
+of-command (ops.Get v w i) step b = absurd (false≢true b)
+of-command (ops.Cat v c) step b = absurd (false≢true b)
+of-command (ops.Put v n) step b = absurd (false≢true b)
+of-command (ops.Say v) step b = absurd (false≢true b)
+of-command (ops.Sum v i limit) step b = absurd (false≢true b)
+of-command ops.Collect step b = absurd (false≢true b)
+
+-- the plain steps of a call that takes steps of one command alone
+pub turns-of : (op : Op) (v w : View) → Ran v w → Only (belongs op) v w → Turns (season_of v.state) v.own w.own
+turns-of op v w ran only =
+    subst (λ (x : View). Turns (season_of v.state) v.own x.own) (sym ran.steps)
+    (turns_all (season_of v.state) (events v w) v refl (only-more (belongs op) is_of_command (of-command op) v w only))

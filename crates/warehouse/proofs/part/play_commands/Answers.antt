@@ -1,0 +1,25 @@
+use Rattle.std.proofs.Common.{◌∙◌, ap, sym}
+use Rattle.play_end.specs.Done.{turn_word}
+use Rattle.gc_script.specs.Shown.{execution_of}
+use Rattle.warehouse.proofs.Going.{next-of, so-far-next, so-far-none, stops-within}
+use Rattle.warehouse.proofs.part.play_commands.Goals as goal
+
+pub loop-command-init : goal.loop-command-init
+loop-command-init g c =
+    so-far-none c.args.heap.now c.args.section.now c.args.season c.turn_of-turn.result c.into_iter-command-iterator.result c.args.mutator.now c.requires.playing (c.turn_of-turn.ensures ∙ ap (λ w. turn_word w c.args.season) c.number.ensures)
+    (sym c.commands_of-command-items.ensures.commands ∙ sym c.into_iter-command-iterator.ensures.into_iter_gives)
+
+pub play_command-requires-clause-left : goal.play_command-requires-clause-left
+play_command-requires-clause-left g c =
+    next-of c.args.heap.now c.args.section.now c.args.season c.turn_of-turn.result c.loop-command.cache (execution_of c.in-Some.command) c.loop-command.command-iterator c.next.new.self c.args.mutator.now c.loop-command.mutator
+    c.in-Some.ensures.steps c.loop-command.invariant c.commands_of-command-items.ensures.range c.requires.before
+
+pub returns-in-Full : goal.returns-in-Full
+returns-in-Full g c =
+    stops-within c.args.heap.now c.args.section.now c.args.season c.turn_of-turn.result c.loop-command.cache (execution_of c.in-Some.command) c.loop-command.command-iterator c.next.new.self c.args.mutator.now c.loop-command.mutator
+    c.in-Some.ensures.steps c.loop-command.invariant c.play_command.new.mutator c.in-Full.ensures
+
+pub loop-command-preserved : goal.loop-command-preserved
+loop-command-preserved g c =
+    so-far-next c.args.heap.now c.args.section.now c.args.season c.turn_of-turn.result c.loop-command.cache (execution_of c.in-Some.command) c.loop-command.command-iterator c.next.new.self c.args.mutator.now c.loop-command.mutator
+    c.in-Some.ensures.steps c.loop-command.invariant c.in-Going.kept c.play_command.new.mutator c.requires.before.season c.in-Going.ensures

@@ -1,0 +1,20 @@
+use Rattle.gc_table.specs.Seats.{view_of}
+use Rattle.warehouse.proofs.Turned.{asked-turn, ends-done, ends-full, may-turn}
+use Rattle.warehouse.proofs.season.end_turn.Goals as goal
+
+pub returns-then-end_cycle-clause-ends : goal.returns-then-end_cycle-clause-ends
+returns-then-end_cycle-clause-ends g c =
+    ends-full (view_of c.args.seat.now) (view_of c.stop_at_last.new.seat) (view_of c.end_cycle.new.seat) c.requires.turn c.stop_at_last.ensures.stops c.if-end_cycle.ensures.ends c.if-end_cycle.ensures.alone
+
+pub next_season-requires-clause-may : goal.next_season-requires-clause-may
+next_season-requires-clause-may g c =
+    may-turn (view_of c.args.seat.now) (view_of c.stop_at_last.new.seat) (view_of c.end_cycle.new.seat) c.requires.turn c.stop_at_last.ensures.stops _ c.if-end_cycle.ensures.ends c.if-end_cycle.ensures.alone
+
+pub next_season-requires-clause-asked : goal.next_season-requires-clause-asked
+next_season-requires-clause-asked g c =
+    asked-turn (view_of c.args.seat.now) (view_of c.stop_at_last.new.seat) (view_of c.end_cycle.new.seat) c.requires.turn c.stop_at_last.ensures.stops _ c.if-end_cycle.ensures.ends
+
+pub returns-clause-ends : goal.returns-clause-ends
+returns-clause-ends g c =
+    ends-done (view_of c.args.seat.now) (view_of c.stop_at_last.new.seat) (view_of c.end_cycle.new.seat) c.requires.turn c.stop_at_last.ensures.stops (view_of c.next_season.new.seat) c.if-end_cycle.ensures.ends c.next_season.ensures.view
+    c.if-end_cycle.ensures.alone

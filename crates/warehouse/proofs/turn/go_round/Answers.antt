@@ -1,0 +1,27 @@
+use Rattle.std.proofs.Common.{◌∙◌, ap}
+use Rattle.std.specs.Prelude.{is_some}
+use Rattle.gc_table.specs.Seats.{view_of}
+use Rattle.warehouse.proofs.turn.go_round.Goals as goal
+use Rattle.warehouse.proofs.Acting.{waits-join}
+use Rattle.warehouse.proofs.Sparings.{stays-join, stays-spared, waits-calm}
+
+pub go_in-requires-clause-section : goal.go_in-requires-clause-section
+go_in-requires-clause-section g c = ap (λ o. is_some o) (c.go_out.ensures.out.seat.section) ∙ c.retire_some.ensures.seat.1.section
+
+pub returns-clause-stays : goal.returns-clause-stays
+returns-clause-stays g c =
+    let a = view_of c.args.seat.now in
+    let b = view_of c.retire_some.new.seat in
+    let d = view_of c.go_out.new.seat in
+    let e = view_of c.go_in.new.seat in
+    stays-join a b e c.retire_some.ensures.stays
+    (stays-join b d e (stays-spared b d c.go_out.ensures.out.ran c.go_out.ensures.spares c.go_out.ensures.out.seat) (stays-spared d e c.go_in.ensures.entered.out.ran c.go_in.ensures.spares c.go_in.ensures.entered.out.seat))
+
+pub returns-clause-acts : goal.returns-clause-acts
+returns-clause-acts g c =
+    let a = view_of c.args.seat.now in
+    let b = view_of c.retire_some.new.seat in
+    let d = view_of c.go_out.new.seat in
+    let e = view_of c.go_in.new.seat in
+    waits-join a b e (waits-calm a b c.retire_some.ensures.ran c.retire_some.ensures.spares c.retire_some.ensures.calm)
+    (waits-join b d e (waits-calm b d c.go_out.ensures.out.ran c.go_out.ensures.spares c.go_out.ensures.out.calm) (waits-calm d e c.go_in.ensures.entered.out.ran c.go_in.ensures.spares c.go_in.ensures.entered.out.calm))

@@ -1,0 +1,196 @@
+-- A mutator that plays a part: what it has between its commands, and what it says at the end.
+use Rattle.std.specs.Prelude.{ℕ, ◌≡◌, ◌⊎◌, ◌+◌, ◌-◌, ◌<◌, ◌≤◌, ◌==◌, ◌&&◌, not, List, [], length, map, take, drop, count_by, slice_index_or, Bool, true, false, Option, Some, None, IsTrue, IsFalse, vec_capacity}
+use Rattle.std.specs.Int.Count.{ones}
+use Rattle.mark_core.specs.declared.kinds.Step.{Step}
+use Rattle.mark_core.specs.declared.kinds.Step.TheVariants.{AddStat, ReadSeason}
+use Rattle.plain_heap.specs.declared.operation.Op.{Op}
+use Rattle.plain_heap.specs.declared.operation.Op.TheVariants as ops
+use Rattle.plain_heap.specs.Sections.{Execution, Sections, Parts, joined, made_by, printed_by}
+use Rattle.plain_heap.specs.PlainRun.{plain}
+use Rattle.play_report.specs.Report.{printed_of}
+use Rattle.gc_table.specs.declared.seat.Heap.{Heap}
+use Rattle.gc_table.specs.declared.seat.HeapSeat.{HeapSeat}
+use Rattle.gc_table.specs.declared.view.Entry.{Entry}
+use Rattle.gc_table.specs.declared.view.View.{View}
+use Rattle.gc_table.specs.Log.{events}
+use Rattle.gc_table.specs.Running.{Ran}
+use Rattle.gc_table.specs.Seats.{Found, Sits, view_of}
+use Rattle.packet_pools.specs.Counts.{count_of}
+use Rattle.alloc_cache.specs.declared.cache.Cache.{Cache}
+use Rattle.std.specs.List.{list_any}
+use Rattle.mutator_ops.specs.Doing.{lends}
+use Rattle.mutator_ops.specs.Ready.{IsReady}
+use Rattle.play_end.specs.Alike.{AreAlike}
+use Rattle.play_end.specs.Done.{IsStill, turn_word}
+use Rattle.play_end.specs.Parts.{Player, AreOf, IsAfterParts, PlaysPart}
+use Rattle.play_end.specs.declared.played.Played.{Played}
+use Rattle.play_end.specs.declared.played.Played.TheVariants as plays
+use Rattle.warehouse.specs.declared.mutator.Mutator.{Mutator}
+use Rattle.gc_cycle.specs.declared.counts.Safe.{Safe}
+use Rattle.gc_cycle.specs.declared.counts.Safe.TheVariants as safes
+use Rattle.gc_cycle.specs.Answering.{EndsFull, HasCache}
+use Rattle.gc_cycle.specs.Cycles.{never_fills}
+use Rattle.gc_cycle.specs.Events.{never}
+use Rattle.gc_cycle.specs.PartEvents.{PlaysCommands, StopsAtFull, polled_last}
+use Rattle.gc_cycle.specs.Sorts.{ends_cycle, polls}
+use Rattle.gc_cycle.specs.Standing.{IsOut, Mutates}
+use Rattle.gc_cycle.specs.Stops.{stops_without_cause}
+use Rattle.gc_cycle.specs.Sparing.{done_count}
+use Rattle.warehouse.specs.Storing.{stores_in}
+use Rattle.gc_table.specs.Rule.{KnowsFull}
+
+-- what the mutator has, as its player
+abbrev pub player_of : Mutator → Player
+player_of m = record { view = view_of m.seat; count = m.count; said = map printed_of m.said.items; dropped = m.dropped; cells = m.places.items }
+
+-- room for all that these commands print and make, so that none takes memory, and no number passes its bound
+pub record HasRoom (left : List Execution) (m : Mutator) : Type 0 where
+  pub said : length m.said.items + printed_by left ≤ vec_capacity m.said
+  pub places : length m.places.items + made_by left ≤ vec_capacity m.places
+  pub count : m.count + length left ≤ 2000000
+  pub made : (view_of m.seat).state.made + made_by left ≤ 2000000
+  pub dropped : m.dropped ≤ m.count
+
+-- the command collects
+abbrev pub is_collect : Op → Bool
+is_collect ops.Collect = true
+is_collect op = false
+
+-- how many of these commands collect
+abbrev pub collects_by : List Execution → ℕ
+collects_by es = count_by (λ e. is_collect e.op) es
+
+-- in its turn, and ready for a command
+pub record IsInTurn (turn : ℕ) (v : View) : Type 0 where
+  pub ready : IsReady v
+  pub season : v.state.season_seen ≡ Some turn
+
+-- each object has its cell
+abbrev pub IsCounted : View → Type 0
+IsCounted v = length v.own.meaning.heap.objects ≡ v.state.made
+
+-- a part that was played was counted
+abbrev pub counts_part : Step → ℕ → Bool
+counts_part (AddStat which by down) found = (which == done_count) && not down
+counts_part step found = false
+
+-- so many commands and collections were done, with so many stops that had no cause, and what was stored was stored in this season
+pub record Acts (season commands collects stops : ℕ) (v w : View) : Type 0 where
+  pub ran : Ran v w
+  pub polled : commands ≤ count_of polls (events v w)
+  pub collected : collects ≤ count_of ends_cycle (events v w)
+  pub stopped : (since : List Entry) → stops_without_cause v.shape since (events v w) ≤ stops
+  pub stored : IsTrue (stores_in season v (events v w))
+  -- none of it counted a part
+  pub uncounted : IsTrue (never counts_part (events v w))
+  -- nor moved the season on
+  pub seasons : w.own.seasons ≡ v.own.seasons
+
+-- the section stays as the player left it
+pub record Stays (v w : View) : Type 0 where
+  pub still : IsStill v.own w.own
+  pub made : w.state.made ≡ v.state.made
+
+-- nothing was done that a part tells of
+abbrev pub Waits : View → View → Type 0
+Waits v w = (season : ℕ) → Acts season 0 0 0 v w
+
+-- the season is read where the seat doesn't know it any more, as after a stop, and nothing else is done
+abbrev pub LooksAtSeason : View → View → Type 0
+LooksAtSeason v w = (w ≡ v) ⊎ ((n : ℕ) × Found ReadSeason n v w)
+
+-- between two commands: the mutator polled, and is in its turn
+pub record GetsReady (turn : ℕ) (kept : Option Cache) (v w : View) : Type 0 where
+  pub mutates : Mutates w
+  pub acts : (season : ℕ) → Acts season 1 0 0 v w
+  pub stays : Stays v w
+  pub turn_is : IsInTurn turn w
+  pub cached : HasCache kept w
+  pub polled : IsTrue (polled_last (events v w))
+
+-- the section is kept as it was before the heap was found full, which the seat knows; its record has no cache, and the position is stored
+pub record FindsFull (done : ℕ) (v w : View) : Type 0 where
+  pub heap : w.own.meaning.heap ≡ v.own.meaning.heap
+  pub turns : w.own.turns ≡ v.own.turns
+  pub places : w.own.places ≡ v.own.places
+  pub ends : EndsFull done v w
+  pub known : KnowsFull w
+  pub made : w.state.made ≡ v.state.made
+  pub acts : Waits v w
+
+abbrev pub ReadiesTo : Safe → ℕ → ℕ → View → View → Type 0
+ReadiesTo (safes.Going kept) turn done v w = GetsReady turn kept v w
+ReadiesTo safes.Full turn done v w = FindsFull done v w
+
+-- the cache has a free cell
+abbrev pub HasFree : Option Cache → Type 0
+HasFree None = ⊥
+HasFree (Some h) = 0 < ones h.cells
+
+-- a mutator inside a part: active, with this cache
+pub record IsPlaying (h : Heap) (p : Parts) (kept : Option Cache) (m : Mutator) : Type 0 where
+  pub sits : Sits h m.seat
+  pub mutates : Mutates (view_of m.seat)
+  pub cached : HasCache kept (view_of m.seat)
+  pub counted : IsCounted (view_of m.seat)
+
+-- the mutator was made for the section, is outside, and played the parts before part z
+pub record MayPlay (h : Heap) (p : Parts) (z : ℕ) (m : Mutator) : Type 0 where
+  pub season : 0 < z
+  pub sits : Sits h m.seat
+  pub out : IsOut (view_of m.seat)
+  pub counted : IsCounted (view_of m.seat)
+  pub room : HasRoom (joined (drop (z - 1) p.parts)) m
+  -- the catalogue reads no variable of the catalogue
+  pub lends_is : IsTrue (p.number == 0) → IsFalse (list_any (λ e. lends e.op) (joined p.parts))
+  pub sections : Sections
+  pub of : AreOf sections p (view_of m.seat)
+  pub before : IsAfterParts sections p.number (z - 1) (player_of m)
+
+-- the commands of the part
+abbrev pub part_at : Parts → ℕ → List Execution
+part_at p z = slice_index_or p.parts (z - 1) []
+
+-- what the events of a part say that was played to its end, by so many commands
+pub record TellsDone (p : Parts) (z n : ℕ) (v w : View) : Type 0 where
+  pub plays : PlaysCommands v.shape n (collects_by (part_at p z)) (events v w)
+  pub all : n ≡ length (part_at p z)
+  pub counted : count_of counts_part (events v w) ≡ 1
+  pub stored : IsTrue (stores_in (turn_word p.number z) v (events v w))
+  -- nor did it say that the heap is full
+  pub unfilled : IsTrue (never_fills (events v w))
+
+-- and of one that stopped after so many, where the heap was found full
+pub record TellsFull (p : Parts) (z n : ℕ) (v w : View) : Type 0 where
+  pub stops : StopsAtFull v.shape n (collects_by (take n (part_at p z))) (collects_by (take 1 (drop n (part_at p z)))) (events v w)
+  pub counted : count_of counts_part (events v w) ≡ 0
+  pub stored : IsTrue (stores_in (turn_word p.number z) v (events v w))
+
+abbrev pub PartTells : Played → Parts → ℕ → ℕ → View → View → Type 0
+PartTells plays.Done p z n v w = TellsDone p z n v w
+PartTells plays.Full p z n v w = TellsFull p z n v w
+
+-- the whole of it
+pub record IsPart (played : Played) (h : Heap) (p : Parts) (z : ℕ) (x y : Mutator) : Type 0 where
+  pub sits : Sits h y.seat
+  pub out : IsOut (view_of y.seat)
+  pub ran : Ran (view_of x.seat) (view_of y.seat)
+  pub counted : IsCounted (view_of y.seat)
+  pub seasons : (view_of y.seat).own.seasons ≡ (view_of x.seat).own.seasons
+  pub room : played ≡ plays.Done → HasRoom (joined (drop z p.parts)) y
+  pub plays : PlaysPart played p z (player_of x) (player_of y)
+  pub tells : PartTells played p z (y.count - x.count) (view_of x.seat) (view_of y.seat)
+
+-- when a gate may be passed: the seat is active and the section's, its plain heap is that of any script with this section after so many commands, and of the seat's stores and polls the last is a poll
+pub record MayPass (s : HeapSeat) (p : Parts) (command : ℕ) : Type 0 where
+  pub active : IsTrue (view_of s).state.active
+  pub section : (view_of s).state.section ≡ Some p.number
+  pub sections : Sections
+  pub of : AreOf sections p (view_of s)
+  pub heap : AreAlike (view_of s).own.meaning.heap (plain sections p.number command)
+  pub polled : IsTrue (polled_last (view_of s).log)
+
+-- when a gate may be told of a tracer's turn
+pub record MayTurn (s : HeapSeat) : Type 0 where
+  pub active : IsTrue (view_of s).state.active
+  pub section : (view_of s).state.section ≡ None

@@ -1,0 +1,206 @@
+//! One command of a part.
+ghost use Rattle.std.specs.Prelude.{◌≡◌, ◌+◌, ◌<◌, ◌≤◌, ◌++◌, [], ◌∷◌, if◌then◌else◌, is_some, length, map, IsTrue, vec_capacity};
+ghost use Rattle.plain_heap.specs.PlainRun.{with_label};
+ghost use Rattle.plain_heap.specs.Sections.{makes_object};
+ghost use Rattle.plain_heap.specs.declared.operation.Op.TheVariants as ops;
+ghost use Rattle.play_report.specs.Report.{printed_of};
+ghost use Rattle.gc_script.specs.Shown.{execution_of};
+ghost use Rattle.warehouse.specs.Commands.{ComesTo, CommandEnds, CommandPlayed, DoesOne, IsNextOf, IsTurn, MayDo, is_other};
+ghost use Rattle.warehouse.specs.Playing.{HasFree, IsPlaying};
+
+use crate::gate::Gate;
+use crate::mutator::Mutator;
+use crate::turn::{await_cell, await_turn, retire_some};
+use alloc_cache::Cache;
+use gc_cycle::{Safe, collect};
+use gc_script::{Command, Section};
+use gc_table::Heap;
+use mutator_ops::create;
+use plain_heap::{Line, Op};
+use play_report::Said;
+use std::sync::Wait;
+
+/// Notes what a command printed, in room that was taken before.
+fn say<'a>(said: &mut Vec<Said<'a>>, command: &Command<'a>, line: Option<Line>)
+    requires room { IsTrue (is_some line) → length said.old.items < vec_capacity said.old }
+    ensures said { map printed_of said.new.items ≡ map printed_of said.old.items ++ with_label command.now.label.now line [] }
+    ensures room { vec_capacity said.old ≤ vec_capacity said.new }
+    ensures count { length said.new.items ≡ length said.old.items + (if is_some line then 1 else 0) }
+{
+    if let Some(line) = line {
+        let Ok(()) = said.push(Said {
+            label: command.label,
+            line,
+        }) else {
+            unreachable!()
+        };
+    }
+}
+
+/// Notes the cell of a new object, in room that was taken before.
+fn place(places: &mut Vec<u32>, cell: u32)
+    requires room { length places.old.items < vec_capacity places.old }
+    ensures places { places.new.items ≡ places.old.items ++ cell ∷ [] }
+    ensures room { vec_capacity places.old ≤ vec_capacity places.new }
+    ensures count { length places.new.items ≡ length places.old.items + 1 }
+{
+    let Ok(()) = places.push(cell) else {
+        unreachable!()
+    };
+}
+
+/// Makes an object, in the cache.
+fn make_object<'a>(
+    heap: &Heap,
+    mutator: &mut Mutator<'a>,
+    section: &Section<'a>,
+    command: &Command<'a>,
+    cache: Option<Cache>,
+    v: u8,
+    n: u32,
+) -> Option<Cache>
+    requires op { (execution_of command.now).op ≡ ops.New v n }
+    requires playing { IsPlaying heap.now section.now cache mutator.old }
+    requires free { HasFree cache }
+    requires may { MayDo section.now (execution_of command.now) mutator.old }
+    ensures { DoesOne heap.now section.now result (execution_of command.now) mutator.old mutator.new }
+{
+    let Some(mut cache) = cache else {
+        unreachable!()
+    };
+    match create(heap, &mut mutator.seat, &mut cache, v, n) {
+        Some(cell) => place(&mut mutator.places, cell.number()),
+        None => unreachable!(),
+    }
+    mutator.count += 1;
+    Some(cache)
+}
+
+/// 1 where it is so, else 0.
+fn one_if(so: bool) -> u32
+    ensures { result ≡ (if so then 1 else 0) }
+{
+    if so { 1 } else { 0 }
+}
+
+/// Does a command that neither makes an object nor collects.
+fn do_other<'a>(
+    heap: &Heap,
+    mutator: &mut Mutator<'a>,
+    section: &Section<'a>,
+    command: &Command<'a>,
+    cache: Option<Cache>,
+) -> Option<Cache>
+    requires op { IsTrue (is_other (execution_of command.now).op) }
+    requires playing { IsPlaying heap.now section.now cache mutator.old }
+    requires may { MayDo section.now (execution_of command.now) mutator.old }
+    ensures { DoesOne heap.now section.now result (execution_of command.now) mutator.old mutator.new }
+{
+    let done = mutator_ops::command(heap, &mut mutator.seat, command.op);
+    say(&mut mutator.said, command, done.line);
+    mutator.dropped += one_if(done.dropped);
+    mutator.count += 1;
+    cache
+}
+
+/// Collects, where the script says so.
+fn collect_now<'a, R: Wait>(
+    rt: &R,
+    heap: &Heap,
+    mutator: &mut Mutator<'a>,
+    section: &Section<'a>,
+    command: &Command<'a>,
+    cache: Option<Cache>,
+) -> Safe
+    requires op { (execution_of command.now).op ≡ ops.Collect }
+    requires playing { IsPlaying heap.now section.now cache mutator.old }
+    requires may { MayDo section.now (execution_of command.now) mutator.old }
+    ensures { CommandEnds result heap.now section.now (execution_of command.now) mutator.old mutator.new }
+{
+    retire_some(heap, &mut mutator.seat, cache);
+    match collect(rt, heap, &mut mutator.seat, mutator.count) {
+        Safe::Full => Safe::Full,
+        Safe::Going(kept) => {
+            mutator.count += 1;
+            Safe::Going(kept)
+        }
+    }
+}
+
+/// Does a command, of a mutator that is in its turn, and has a cell where the command makes an object.
+fn do_command<'a, R: Wait>(
+    rt: &R,
+    heap: &Heap,
+    mutator: &mut Mutator<'a>,
+    section: &Section<'a>,
+    command: &Command<'a>,
+    cache: Option<Cache>,
+) -> Safe
+    requires playing { IsPlaying heap.now section.now cache mutator.old }
+    requires free { IsTrue (makes_object (execution_of command.now).op) → HasFree cache }
+    requires may { MayDo section.now (execution_of command.now) mutator.old }
+    ensures { CommandEnds result heap.now section.now (execution_of command.now) mutator.old mutator.new }
+{
+    match command.op {
+        Op::New { v, n } => Safe::Going(make_object(heap, mutator, section, command, cache, v, n)),
+        Op::Collect => collect_now(rt, heap, mutator, section, command, cache),
+        _ => Safe::Going(do_other(heap, mutator, section, command, cache)),
+    }
+}
+
+/// Whether the command makes an object.
+fn makes(op: Op) -> bool
+    ensures { result ≡ makes_object op }
+{
+    match op {
+        Op::New { .. } => true,
+        _ => false,
+    }
+}
+
+/// Comes to the command: a safe point in the turn, with a cell where the command makes an object.
+fn come_to<'a, R: Wait>(
+    rt: &R,
+    heap: &Heap,
+    mutator: &mut Mutator<'a>,
+    section: &Section<'a>,
+    command: &Command<'a>,
+    cache: Option<Cache>,
+    turn: u64,
+) -> Safe
+    requires playing { IsPlaying heap.now section.now cache mutator.old }
+    requires turn { IsTurn section.now turn mutator.old }
+    requires left { IsNextOf section.now turn (execution_of command.now) mutator.old }
+    ensures { ComesTo result heap.now section.now turn (execution_of command.now) mutator.old mutator.new }
+{
+    if makes(command.op) {
+        await_cell(rt, heap, &mut mutator.seat, cache, turn, mutator.count)
+    } else {
+        await_turn(rt, heap, &mut mutator.seat, cache, turn, mutator.count)
+    }
+}
+
+/// Plays a command: comes to it, tells the gate, and does it.
+pub(crate) fn play_command<'a, R: Wait, G: Gate>(
+    rt: &R,
+    heap: &Heap,
+    mutator: &mut Mutator<'a>,
+    section: &Section<'a>,
+    command: &Command<'a>,
+    cache: Option<Cache>,
+    turn: u64,
+    gate: &G,
+) -> Safe
+    requires playing { IsPlaying heap.now section.now cache mutator.old }
+    requires turn { IsTurn section.now turn mutator.old }
+    requires left { IsNextOf section.now turn (execution_of command.now) mutator.old }
+    ensures { CommandPlayed result heap.now section.now turn (execution_of command.now) mutator.old mutator.new }
+{
+    match come_to(rt, heap, mutator, section, command, cache, turn) {
+        Safe::Full => Safe::Full,
+        Safe::Going(kept) => {
+            gate.pass(&mutator.seat, section, u64::from(mutator.count));
+            do_command(rt, heap, mutator, section, command, kept)
+        }
+    }
+}

@@ -1,0 +1,109 @@
+//! One part of a section.
+ghost use Rattle.std.specs.Prelude.{◌≡◌, ◌≤◌, None, is_some, IsTrue};
+ghost use Rattle.gc_table.specs.Seats.{Sits, view_of};
+ghost use Rattle.gc_cycle.specs.Standing.{IsOut};
+ghost use Rattle.play_end.specs.Done.{turn_word};
+ghost use Rattle.warehouse.specs.Commands.{AllEnds, CountsPart, MayPlayPart};
+ghost use Rattle.warehouse.specs.Ending.{CountsAbsent};
+ghost use Rattle.warehouse.specs.Playing.{IsPart, IsPlaying, MayPlay, part_at};
+
+use crate::commands::play_command;
+use crate::gate::Gate;
+use crate::mutator::Mutator;
+use crate::turn::retire_some;
+use alloc_cache::Cache;
+use gc_cycle::{Safe, go_in, go_out};
+use gc_script::Section;
+use gc_table::{Heap, HeapSeat};
+use play_end::Played;
+use std::sync::Wait;
+use stop_world::leave;
+
+/// Which statistic counts the parts that were played.
+const DONE: u8 = 6;
+
+/// The season word in a section's turn: the catalogue's comes first.
+fn turn_of(section: u32, season: u32) -> u64
+    requires { 1 ≤ season }
+    ensures { result ≡ turn_word section season }
+{
+    let end = 2 * u64::from(season);
+    if section == 0 { end - 2 } else { end - 1 }
+}
+
+/// Plays each command of a part, until the heap is found full.
+fn play_commands<'a, R: Wait, G: Gate>(
+    rt: &R,
+    heap: &Heap,
+    mutator: &mut Mutator<'a>,
+    section: &Section<'a>,
+    season: u32,
+    gate: &G,
+) -> Safe
+    requires playing { IsPlaying heap.now section.now None mutator.old }
+    requires before { MayPlayPart section.now season mutator.old }
+    ensures { AllEnds result heap.now section.now season (part_at section.now season) mutator.old mutator.new }
+{
+    let turn = turn_of(section.number(), season);
+    let mut cache: Option<Cache> = None;
+    for command in section.commands_of(season) {
+        match play_command(rt, heap, mutator, section, &command, cache, turn, gate) {
+            Safe::Full => return Safe::Full,
+            Safe::Going(kept) => cache = kept,
+        }
+    }
+    Safe::Going(cache)
+}
+
+/// Counts the part, gives the cache up, and leaves with the position stored.
+fn end_part<'a, R: Wait>(
+    rt: &R,
+    heap: &Heap,
+    mutator: &mut Mutator<'a>,
+    section: &Section<'a>,
+    cache: Option<Cache>,
+)
+    requires playing { IsPlaying heap.now section.now cache mutator.old }
+    ensures { CountsPart 1 heap.now section.now mutator.old mutator.new }
+{
+    retire_some(heap, &mut mutator.seat, cache);
+    heap.add_stat(&mut mutator.seat, DONE, 1, false);
+    go_out(heap, &mut mutator.seat, mutator.count);
+}
+
+/// Plays one part of a section. Full comes where the heap was found full: the section then stands at its stored position.
+pub fn play_part<'a, R: Wait, G: Gate>(
+    rt: &R,
+    heap: &Heap,
+    mutator: &mut Mutator<'a>,
+    section: &Section<'a>,
+    season: u32,
+    gate: &G,
+) -> Played
+    requires { MayPlay heap.now section.now season mutator.old }
+    ensures { IsPart result heap.now section.now season mutator.old mutator.new }
+{
+    go_in(rt, heap, &mut mutator.seat);
+    match play_commands(rt, heap, mutator, section, season, gate) {
+        Safe::Full => {
+            go_out(heap, &mut mutator.seat, mutator.count);
+            Played::Full
+        }
+        Safe::Going(cache) => {
+            end_part(rt, heap, mutator, section, cache);
+            Played::Done
+        }
+    }
+}
+
+/// Counts the part of a section that has no commands: its seat enters, counts the part and leaves.
+pub fn play_absent<R: Wait>(rt: &R, heap: &Heap, seat: &mut HeapSeat)
+    requires seat { Sits heap.now seat.old × IsOut (view_of seat.old) }
+    requires section { IsTrue (is_some (view_of seat.old).state.section) }
+    ensures seat { Sits heap.now seat.new × IsOut (view_of seat.new) }
+    ensures counts { CountsAbsent (view_of seat.old) (view_of seat.new) }
+{
+    go_in(rt, heap, seat);
+    heap.add_stat(seat, DONE, 1, false);
+    leave(heap, seat);
+}
