@@ -14,7 +14,7 @@ use crate::standing::is_phase;
 use crate::words::read;
 use crate::{bits, hand, layout};
 
-fn all_are(words: &[u64], word: u64) -> bool
+pub fn all_are(words: &[u64], word: u64) -> bool
     ensures { result ≡ list_all (λ x. x == word) words.now }
 {
     words.iter().all(|x| *x == word)
@@ -31,14 +31,14 @@ fn is_marked(marks: &[u64], reference: u64) -> bool
     bits::has_bit(read(marks, (c / 64) as usize), (c % 64) as u32)
 }
 
-fn roots_marked(roots: &[u64], marks: &[u64]) -> bool
+pub fn roots_marked(roots: &[u64], marks: &[u64]) -> bool
     ensures { result ≡ roots_marked_of roots.now marks.now }
 {
     roots.iter().all(|x| is_marked(marks, *x))
 }
 
 /// All packets are in the empty pool, and the seat has no work in hand.
-fn is_quiet(shape: &Shape, words: &[u64], s: &SeatState) -> bool
+pub fn is_quiet(shape: &Shape, words: &[u64], s: &SeatState) -> bool
     ensures { result ≡ is_quiet_of shape.now (words_of shape.now words.now) s.now }
 {
     read(words, layout::EMPTY) == 64 + u64::from(shape.packets)

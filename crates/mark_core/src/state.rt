@@ -21,9 +21,9 @@ use std::marker::Model;
 /// [`CoreState::start`] by events that were allowed. It has room for 41 seats, so no call but `start` takes memory.
 #[derive(Drop)]
 pub struct CoreState {
-    shape: Shape,
-    words: Vec<u64>,
-    seats: Vec<SeatState>,
+    pub(crate) shape: Shape,
+    pub(crate) words: Vec<u64>,
+    pub(crate) seats: Vec<SeatState>,
 }
 
 impl Model for CoreState {
