@@ -36,7 +36,7 @@ use Rattle.gc_cycle.proofs.Goings.{calm-count, count-calls, keeps-seat, keeps-se
 use Rattle.gc_cycle.proofs.Sequences.{followed-later, none-of-steps, some-none}
 use Rattle.gc_cycle.proofs.Traced.{nothing-rest}
 use Rattle.mark_core.specs.declared.kinds.Step.{Step}
-use Rattle.mark_core.specs.declared.kinds.Step.TheVariants.{ClaimBlock, DropStep, JoinHelpStep, LeaveHelpStep, RaiseStep, ReadCat, ReadOwn, ReadPhase, StorePhase, StorePosition}
+use Rattle.mark_core.specs.declared.kinds.Step.TheVariants.{ClaimBlock, DropStep, JoinHelpStep, LeaveHelpStep, RaiseStep, ReadCat, ReadOwn, ReadPhase, StorePhase, StorePosition, ReadStat}
 use Rattle.gc_cycle.specs.Collecting.{EndsStop, HoldsWorld, spares_section, TriesAgain}
 use Rattle.gc_cycle.specs.Mutating.{keeps_section, stays_calm, StopsWorld, tries_stopping, TriesToStop}
 use Rattle.gc_cycle.specs.Sparing.{fills_part, spares_part}
@@ -63,6 +63,7 @@ pub tries-section : (step : Step) → tries_stopping step ≡ true → spares_se
 tries-section (ClaimBlock b) e = absurd (false≢true e)
 tries-section RaiseStep e = refl
 tries-section (StorePhase to) e = absurd (false≢true e)
+tries-section (ReadStat which) e = refl
 tries-section step e = e
 
 pub calm-spares : (step : Step) → stays_calm step ≡ true → spares_part step ≡ true
@@ -71,6 +72,7 @@ calm-spares RaiseStep e = absurd (false≢true e)
 calm-spares (StorePhase to) e = absurd (false≢true e)
 calm-spares (ReadOwn c i) e = absurd (false≢true e)
 calm-spares (ReadCat v) e = absurd (false≢true e)
+calm-spares (ReadStat which) e = refl
 calm-spares step e = e
 
 -- a step that ends a cycle keeps what the section has come to

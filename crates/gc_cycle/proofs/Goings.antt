@@ -13,7 +13,7 @@ use Rattle.mark_core.specs.WorldSteps.{has_nothing}
 use Rattle.mark_core.specs.declared.kinds.Phase.{Phase}
 use Rattle.mark_core.specs.declared.kinds.Shape.{Shape}
 use Rattle.mark_core.specs.declared.kinds.Step.{Step}
-use Rattle.mark_core.specs.declared.kinds.Step.TheVariants.{ClaimBlock, EnterStep, JoinHelpStep, LeaveHelpStep, LeaveStep, NextSeason, Observe, RaiseStep, ReadCat, ReadOwn, ReadPhase, StoreField, StoreNew, StorePhase, StorePosition, StoreRoot, StoreValue}
+use Rattle.mark_core.specs.declared.kinds.Step.TheVariants.{ClaimBlock, EnterStep, JoinHelpStep, LeaveHelpStep, LeaveStep, NextSeason, Observe, RaiseStep, ReadCat, ReadOwn, ReadPhase, StoreField, StoreNew, StorePhase, StorePosition, StoreRoot, StoreValue, ReadStat}
 use Rattle.mark_core.specs.declared.seat.SeatState.{SeatState}
 use Rattle.gc_table.specs.Seats.{Stored, Took}
 use Rattle.gc_table.specs.Taking.{after, Finds, May}
@@ -82,6 +82,7 @@ pub calm-keeps : (step : Step) → stays_calm step ≡ true → keeps_section st
 calm-keeps (ClaimBlock b) e = absurd (false≢true e)
 calm-keeps RaiseStep e = absurd (false≢true e)
 calm-keeps (StorePhase to) e = absurd (false≢true e)
+calm-keeps (ReadStat which) e = refl
 calm-keeps step e = e
 
 pub calm-tries : (step : Step) → stays_calm step ≡ true → tries_stopping step ≡ true
@@ -92,6 +93,7 @@ pub tries-keep : (step : Step) → tries_stopping step ≡ true → keeps_sectio
 tries-keep RaiseStep e = refl
 tries-keep (ClaimBlock b) e = absurd (false≢true e)
 tries-keep (StorePhase to) e = absurd (false≢true e)
+tries-keep (ReadStat which) e = refl
 tries-keep step e = e
 
 no-full : (step : Step) (n : ℕ) → tries_stopping step ≡ true → moves_to Full step n ≡ false

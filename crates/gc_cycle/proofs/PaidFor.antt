@@ -36,11 +36,12 @@ use Rattle.gc_cycle.proofs.Payment.{earlier-moment, later-moment, moment-map, mu
 use Rattle.gc_cycle.proofs.Untaken.{Spares, untaken}
 
 number-pays : (step : Step) → reads_number step ≡ true → pays_cells step ≡ true
-number-pays (ReadStat which) e = refl
+number-pays (ReadStat which) e = e
 number-pays step e = absurd (false≢true e)
 
 trace-pays : (step : Step) → traces_cells step ≡ true → pays_cells step ≡ true
 trace-pays (AddStat which by down) e = absurd (false≢true e)
+trace-pays (ReadStat which) e = ap (λ n. not (n == 6)) (eqb-true which 0 e)
 trace-pays step e = e
 
 -- what these steps don't do
@@ -210,4 +211,5 @@ module _ (cells quota : ℕ) (p : Paid) (u v w x : View) (m : Mutates u) (r : Ra
 -- the section stays
 pub pays-kept : (step : Step) → pays_cells step ≡ true → changes_section step ≡ false
 pays-kept (AddStat which by down) e = refl
+pays-kept (ReadStat which) e = refl
 pays-kept step e = traces-kept step e

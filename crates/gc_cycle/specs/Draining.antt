@@ -15,7 +15,7 @@ use Rattle.gc_cycle.specs.declared.counts.HelpEnd.{HelpEnd}
 use Rattle.gc_cycle.specs.declared.counts.HelpEnd.TheVariants.{Quota, NoWork, NoPacket, Swept}
 use Rattle.gc_cycle.specs.Events.{never}
 use Rattle.gc_cycle.specs.Helping.{helped_to_the_end, rescanned_in}
-use Rattle.gc_cycle.specs.Lower.{sweeps_blocks, traces_cells}
+use Rattle.gc_cycle.specs.Lower.{sweeps_next, traces_cells}
 use Rattle.gc_cycle.specs.Moments.{Moment, at_some_moment, begins, finds_no_room, finds_no_work}
 use Rattle.gc_cycle.specs.Sorts.{clears, clears_card, draws, gets_block, pops, sees_last_block}
 use Rattle.gc_cycle.specs.Standing.{Helps}
@@ -75,7 +75,7 @@ pub record CleansOn (quota card : ℕ) (before after : Helped) (v w : View) : Ty
 -- blocks were swept until none was left
 pub record SweepsOn (helped : Helped) (v w : View) : Type 0 where
   pub ran : Ran v w
-  pub only : Only sweeps_blocks v w
+  pub only : Only sweeps_next v w
   pub helps : Helps w
   pub phase : w.state.phase_seen ≡ v.state.phase_seen
   pub traced : helped.traced ≡ 0

@@ -1,9 +1,9 @@
 -- How a mutator goes out of the world and in again, and stops it.
-use Rattle.std.specs.Prelude.{Bool, true, false, ◌≡◌, ◌⊎◌, Some, None, IsTrue, IsFalse}
+use Rattle.std.specs.Prelude.{Bool, true, false, not, ◌==◌, ◌≡◌, ◌⊎◌, Some, None, IsTrue, IsFalse}
 use Rattle.mark_core.specs.declared.kinds.Phase.{Phase}
 use Rattle.mark_core.specs.declared.kinds.Phase.TheVariants.{Idle, Marking, Full}
 use Rattle.mark_core.specs.declared.kinds.Step.{Step}
-use Rattle.mark_core.specs.declared.kinds.Step.TheVariants.{ClaimBlock, RaiseStep, ReadCat, ReadOwn, StorePhase}
+use Rattle.mark_core.specs.declared.kinds.Step.TheVariants.{ClaimBlock, RaiseStep, ReadCat, ReadOwn, ReadStat, StorePhase}
 use Rattle.gc_table.specs.declared.view.View.{View}
 use Rattle.packet_pools.specs.Seeking.{some_event}
 use Rattle.gc_table.specs.Log.{events, Only}
@@ -11,7 +11,7 @@ use Rattle.gc_table.specs.Running.{Alone, Ran}
 use Rattle.gc_cycle.specs.Cycles.{never_fills}
 use Rattle.gc_cycle.specs.Events.{never}
 use Rattle.gc_cycle.specs.Sorts.{claims, raises_flag}
-use Rattle.gc_cycle.specs.Sparing.{fills_part}
+use Rattle.gc_cycle.specs.Sparing.{done_count, fills_part}
 use Rattle.gc_cycle.specs.Standing.{IsAlone, KeepsSeat, KeepsSection}
 
 -- a step that changes nothing of what the seat's section has come to, but for its position and for what the ends of cycles say; it reads no season, and counts no part that was played
@@ -20,11 +20,12 @@ keeps_section (ReadOwn c i) = false
 keeps_section (ReadCat v) = false
 keeps_section step = fills_part step
 
--- and that neither claims a block, nor raises the flag, nor moves the phase
+-- and that neither claims a block, nor raises the flag, nor moves the phase, nor reads how many parts were played
 abbrev pub stays_calm : Step → Bool
 stays_calm (ClaimBlock b) = false
 stays_calm RaiseStep = false
 stays_calm (StorePhase to) = false
+stays_calm (ReadStat which) = not (which == done_count)
 stays_calm step = keeps_section step
 
 -- so it is of this step, but that it may raise the flag

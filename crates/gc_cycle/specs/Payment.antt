@@ -20,16 +20,18 @@ use Rattle.gc_cycle.specs.Pacing.{quota_seen}
 use Rattle.gc_cycle.specs.Paying.{StopsAs}
 use Rattle.gc_cycle.specs.Roots.{roots_scanned}
 use Rattle.gc_cycle.specs.Sorts.{claims, pops, raises_traced, reads_pace, reads_root}
+use Rattle.gc_cycle.specs.Sparing.{done_count}
 use Rattle.gc_cycle.specs.Standing.{Mutates}
 
--- a step of the increment: of tracing, or it tells how much was traced
+-- a step of the increment: of tracing, or it reads a number that isn't that of the parts that were played, or it tells how much was traced
 abbrev pub pays_cells : Step → Bool
 pays_cells (AddStat which by down) = (which == 4) && not down
+pays_cells (ReadStat which) = not (which == done_count)
 pays_cells step = traces_cells step
 
--- a number is read
+-- a number is read, but not how many parts were played
 abbrev pub reads_number : Step → Bool
-reads_number (ReadStat which) = true
+reads_number (ReadStat which) = not (which == done_count)
 reads_number step = false
 
 -- from here on no root is read, and nothing is left in hand and there is no packet to read from

@@ -17,7 +17,7 @@ ghost use Rattle.gc_cycle.specs.Drained.{IsDrained, IsRooted};
 ghost use Rattle.gc_cycle.specs.Events.{never};
 ghost use Rattle.gc_cycle.specs.Finishing.{IsAloneIn, IsPart};
 ghost use Rattle.gc_cycle.specs.Helping.{freed_in, meets_cards, rescanned_in};
-ghost use Rattle.gc_cycle.specs.Lower.{DrawsCard, EndsTrace, HasTraced, ScansRoots, block_floor, sweeps_blocks, traces_cells};
+ghost use Rattle.gc_cycle.specs.Lower.{DrawsCard, EndsTrace, HasTraced, ScansRoots, block_floor, sweeps_blocks, sweeps_next, traces_cells};
 ghost use Rattle.gc_cycle.specs.Moments.{at_some_moment, begins, finds_no_room};
 ghost use Rattle.gc_cycle.specs.Sorts.{clears, clears_card, draws, draws_or_clears, gets_block, pops, reads_pace, reads_root, sees_last_block};
 ghost use Rattle.gc_cycle.specs.Standing.{is_at_rest};
@@ -214,7 +214,7 @@ pub(crate) fn sweep_next(heap: &Heap, seat: &mut HeapSeat) -> Option<u32>
     requires block { (view_of seat.old).state.block ≡ None }
     ensures seat { Sits heap.now seat.new }
     ensures ran { Ran (view_of seat.old) (view_of seat.new) }
-    ensures only { Only sweeps_blocks (view_of seat.old) (view_of seat.new) }
+    ensures only { Only sweeps_next (view_of seat.old) (view_of seat.new) }
     ensures state { (view_of seat.new).state ≡ record (view_of seat.old).state { below_block = (view_of seat.new).state.below_block; cleaning = (view_of seat.new).state.cleaning } }
     ensures left { IsFalse (cleaning_left (view_of seat.old).state.cleaning) → IsFalse (cleaning_left (view_of seat.new).state.cleaning) }
     ensures some { IfSome result (λ n. (freed_in (view_of seat.old) (events (view_of seat.old) (view_of seat.new)) ≡ n) × (block_floor (view_of seat.old) < block_floor (view_of seat.new)) × (block_floor (view_of seat.old) < block_count heap.now.shape) × (count_of (gets_block (block_count heap.now.shape)) (events (view_of seat.old) (view_of seat.new)) ≡ 1)) }

@@ -34,6 +34,7 @@ use Rattle.stop_world.specs.declared.Raised.{Raised}
 use Rattle.stop_world.specs.declared.Raised.TheVariants.{Theirs, Yours}
 use Rattle.stop_world.proofs.Phases.{phase-read, read-number}
 use Rattle.stop_world.proofs.Standing.{bare-parts, strong, unless}
+use Rattle.gc_cycle.proofs.Collected.{calm-spares as calm_spares}
 use Rattle.gc_cycle.specs.Events.{never}
 use Rattle.gc_cycle.specs.Finishing.{finishes}
 use Rattle.gc_cycle.specs.Mutating.{stays_calm}
@@ -130,14 +131,6 @@ helping_same sh s step old b = refl
 -- the end of a cycle makes no helper
 pub finishes-unhelped : (v w : View) → Ran v w → Only finishes v w → w.state.helping ≡ v.state.helping
 finishes-unhelped v w ran only = state-kept (λ (s : SeatState). s.helping) finishes helping_same v w ran only
-
-calm_spares : (step : Step) → stays_calm step ≡ true → spares_part step ≡ true
-calm_spares (StorePhase to) b = absurd (false≢true b)
-calm_spares (ReadOwn c i) b = absurd (false≢true b)
-calm_spares (ReadCat u) b = absurd (false≢true b)
-calm_spares (ClaimBlock k) b = absurd (false≢true b)
-calm_spares RaiseStep b = absurd (false≢true b)
-calm_spares step b = b
 
 -- so does a seat that waits outside
 pub calm-spares : (v w : View) → Only stays_calm v w → Only spares_part v w

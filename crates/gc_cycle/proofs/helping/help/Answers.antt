@@ -1,4 +1,5 @@
-use Rattle.std.proofs.Common.{ℕ, ◌≡◌, ◌∙◌, refl, sym, ap, true, false, not, Option, Some, None, ◌||◌}
+use Rattle.std.proofs.Common.{ℕ, eqb-true, ◌≡◌, ◌∙◌, refl, sym, ap, true, false, not, Option, Some, None, ◌||◌}
+use Rattle.std.specs.Prelude.{◌==◌}
 use Rattle.std.proofs.lemmas.Bool.{false≢true, true≢false}
 use Rattle.mark_core.specs.Layout.{block_count}
 use Rattle.mark_core.specs.Seats.{saw}
@@ -20,7 +21,7 @@ use Rattle.gc_cycle.specs.declared.counts.HelpEnd.TheVariants.{Quota, NoWork, No
 use Rattle.gc_cycle.specs.Draining.{EndsAs, EndsAt, HelpsOn, StopsFor, SweepsOn}
 use Rattle.gc_cycle.specs.Events.{never}
 use Rattle.gc_cycle.specs.Helping.{DrainsTo, HelpsAs}
-use Rattle.gc_cycle.specs.Lower.{sweeps_blocks, traces_cells}
+use Rattle.gc_cycle.specs.Lower.{sweeps_next, traces_cells}
 use Rattle.gc_cycle.specs.Moments.{begins}
 use Rattle.gc_cycle.specs.Mutating.{GoesOut, stays_calm}
 use Rattle.gc_cycle.specs.Sorts.{gets_block, leaves, pops}
@@ -29,16 +30,16 @@ use Rattle.gc_cycle.proofs.Goings.{goes-out}
 use Rattle.gc_cycle.proofs.Sequences.{none-of-steps, total-none}
 use Rattle.gc_cycle.proofs.helping.help.Goals as goal
 
-sweeps-calm : (step : Step) → sweeps_blocks step ≡ true → stays_calm step ≡ true
+sweeps-calm : (step : Step) → sweeps_next step ≡ true → stays_calm step ≡ true
 sweeps-calm NextBlock e = refl
 sweeps-calm (ReadAlloc b) e = refl
 sweeps-calm ReadBlockMarks e = refl
 sweeps-calm StoreAlloc e = refl
 sweeps-calm ClearMarks e = refl
-sweeps-calm (ReadStat which) e = refl
+sweeps-calm (ReadStat which) e = ap (λ n. not (n == 6)) (eqb-true which 1 e)
 sweeps-calm step e = absurd (false≢true e)
 
-sweeps-kept : (step : Step) → sweeps_blocks step ≡ true → changes_section step ≡ false
+sweeps-kept : (step : Step) → sweeps_next step ≡ true → changes_section step ≡ false
 sweeps-kept NextBlock e = refl
 sweeps-kept (ReadAlloc b) e = refl
 sweeps-kept ReadBlockMarks e = refl
@@ -47,15 +48,15 @@ sweeps-kept ClearMarks e = refl
 sweeps-kept (ReadStat which) e = refl
 sweeps-kept step e = absurd (false≢true e)
 
-sweeps-inside : (step : Step) (n : ℕ) → sweeps_blocks step ≡ true → leaves step n ≡ false
+sweeps-inside : (step : Step) (n : ℕ) → sweeps_next step ≡ true → leaves step n ≡ false
 sweeps-inside LeaveStep n e = absurd (false≢true e)
 sweeps-inside step n e = refl
 
-sweeps-unpopped : (step : Step) (n : ℕ) → sweeps_blocks step ≡ true → pops step n ≡ false
+sweeps-unpopped : (step : Step) (n : ℕ) → sweeps_next step ≡ true → pops step n ≡ false
 sweeps-unpopped (Pop p) n e = absurd (false≢true e)
 sweeps-unpopped step n e = refl
 
-sweeps-unscanned : (s : SeatState) (step : Step) (n : ℕ) → sweeps_blocks step ≡ true → rescans s step n ≡ 0
+sweeps-unscanned : (s : SeatState) (step : Step) (n : ℕ) → sweeps_next step ≡ true → rescans s step n ≡ 0
 sweeps-unscanned s (ReadField c i) n e = absurd (false≢true e)
 sweeps-unscanned s step n e = refl
 
@@ -72,6 +73,7 @@ traces-calm (StoreNew c part word) e = absurd (false≢true e)
 traces-calm ReadSeason e = absurd (false≢true e)
 traces-calm NextSeason e = absurd (false≢true e)
 traces-calm (AddStat which by down) e = absurd (false≢true e)
+traces-calm (ReadStat which) e = ap (λ n. not (n == 6)) (eqb-true which 0 e)
 traces-calm step e = refl
 
 traces-inside : (step : Step) (n : ℕ) → traces_cells step ≡ true → leaves step n ≡ false
@@ -96,9 +98,9 @@ drains-to Swept quota done v w s e = s
 
 swept-out : (helped : Helped) (v w : View) → SweepsOn helped v w → GoesOut v w × (never leaves (events v w) ≡ true) × (w.own ≡ v.own)
 swept-out helped v w s = (
-  goes-out v w s.ran (only-more sweeps_blocks stays_calm sweeps-calm v w s.only),
-  ap not (none-of-steps sweeps_blocks leaves sweeps-inside (events v w) s.only),
-  own-kept sweeps_blocks sweeps-kept v w s.ran s.only,
+  goes-out v w s.ran (only-more sweeps_next stays_calm sweeps-calm v w s.only),
+  ap not (none-of-steps sweeps_next leaves sweeps-inside (events v w) s.only),
+  own-kept sweeps_next sweeps-kept v w s.ran s.only,
 )
 
 drained-out : (quota : ℕ) (helped : Helped) (v w : View) → HelpsOn quota helped v w → GoesOut v w × (never leaves (events v w) ≡ true) × (w.own ≡ v.own)
@@ -111,8 +113,8 @@ drained-out quota helped v w h = (
 swept-as : (quota : ℕ) (helped : Helped) (v w : View) → v.state.phase_seen ≡ Some Sweep → SweepsOn helped v w → HelpsAs quota helped v (events v w)
 swept-as quota helped v w p s =
     record {
-      traced = count-none pops (events v w) (ap not (none-of-steps sweeps_blocks pops sweeps-unpopped (events v w) s.only)) ∙ sym s.traced;
-      rescanned = total-none rescans sweeps_blocks sweeps-unscanned (events v w) v s.only ∙ sym s.rescanned;
+      traced = count-none pops (events v w) (ap not (none-of-steps sweeps_next pops sweeps-unpopped (events v w) s.only)) ∙ sym s.traced;
+      rescanned = total-none rescans sweeps_next sweeps-unscanned (events v w) v s.only ∙ sym s.rescanned;
       swept = s.swept;
       drain = λ h. absurd (true≢false (sym h ∙ ap (λ o. saw o Drain) p));
       sweep = λ _. (s.traced, record { ended = s.ended; end = s.end });

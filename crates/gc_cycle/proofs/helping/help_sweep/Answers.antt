@@ -15,7 +15,7 @@ use Rattle.gc_table.proofs.Running.{ran-events, ran-join, ran-only, ran-shape}
 use Rattle.packet_pools.specs.Counts.{count_of}
 use Rattle.packet_pools.specs.Seeking.{some_event}
 use Rattle.packet_pools.proofs.Searches.{some-right}
-use Rattle.gc_cycle.specs.Lower.{sweeps_blocks}
+use Rattle.gc_cycle.specs.Lower.{sweeps_next}
 use Rattle.gc_cycle.specs.Sorts.{gets_block, sees_last_block}
 use Rattle.gc_cycle.specs.Standing.{Helps}
 use Rattle.gc_cycle.proofs.Admitted.{count-run}
@@ -59,7 +59,7 @@ loop-swept-preserved c =
       sits = e.seat;
       helps = swept-helps v w i.helps (ran-shape v w e.ran) w.state.below_block w.state.cleaning e.state (e.left (done-of v i.helps));
       ran = ran-join u v w i.ran e.ran;
-      only = ran-only sweeps_blocks u v w i.ran e.ran i.only e.only;
+      only = ran-only sweeps_next u v w i.ran e.ran i.only e.only;
       phase = ap (λ (s : SeatState). s.phase_seen) e.state ∙ i.phase;
       count = omega (arith, counts, one, so_far);
       few = omega (arith, few, rises);
@@ -79,7 +79,7 @@ returns-clause-swept c =
     let all : count_of (gets_block (block_count c.args.heap.now.shape)) (events u w) ≡ c.loop-swept.swept = omega (arith, counts, none, so_far) in
     record {
       ran = ran-join u v w i.ran e.ran;
-      only = ran-only sweeps_blocks u v w i.ran e.ran i.only e.only;
+      only = ran-only sweeps_next u v w i.ran e.ran i.only e.only;
       helps = swept-helps v w i.helps (ran-shape v w e.ran) w.state.below_block w.state.cleaning e.state (e.left (done-of v i.helps));
       phase = ap (λ (s : SeatState). s.phase_seen) e.state ∙ i.phase;
       traced = refl;

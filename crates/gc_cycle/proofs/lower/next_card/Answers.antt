@@ -8,7 +8,7 @@ use Rattle.mark_core.specs.WorldSteps.{has_nothing}
 use Rattle.mark_core.specs.declared.kinds.Phase.TheVariants.{Drain}
 use Rattle.mark_core.specs.declared.kinds.Shape.{Shape}
 use Rattle.mark_core.specs.declared.seat.SeatState.{SeatState}
-use Rattle.gc_table.specs.Log.{events, Only}
+use Rattle.gc_table.specs.Log.{all_steps, events, Only}
 use Rattle.gc_table.specs.Running.{Ran}
 use Rattle.gc_table.proofs.Noticing.{alone-kept}
 use Rattle.gc_table.proofs.Running.{ran-shape}
@@ -17,7 +17,6 @@ use Rattle.card_clean.specs.Leaving.{rescans}
 use Rattle.card_clean.proofs.Drawn.{rooted-drawn}
 use Rattle.gc_table.specs.Seats.{view_of}
 use Rattle.gc_table.specs.declared.view.View.{View}
-use Rattle.gc_table.proofs.Log.{only-more}
 use Rattle.packet_pools.specs.Seeking.{some_event}
 use Rattle.card_clean.specs.Passing.{card_floor, Draws, DrawsCard as CardDrawn, draws_card, keeps_floor}
 use Rattle.gc_table.specs.declared.view.Entry.{Entry}
@@ -33,18 +32,18 @@ use Rattle.gc_cycle.proofs.Traced.{quiet}
 use Rattle.gc_cycle.proofs.Untaken.{Spares, untaken}
 use Rattle.gc_cycle.proofs.lower.next_card.Goals as goal
 
-drawing : (step : Step) → draws_card step ≡ true → traces_cells step ≡ true
-drawing (ReadStat which) e = refl
-drawing NextOfCards e = refl
-drawing step e = absurd (false≢true e)
+-- a draw reads the counter of cards alone
+draws-only : (r : Option ℕ) (v w : View) → CardDrawn r v w → Only traces_cells v w
+draws-only r v w (inl over) = ap (all_steps traces_cells) over.0.events_are
+draws-only r v w (inr gives) = ap (all_steps traces_cells) gives.1.events_are
 
 -- a draw leaves the seat at rest, and what it has seen to
-drawn-traced : (v w : View) → Ran v w → Only draws_card v w → w.state ≡ record v.state { below_card = false } → is_at_rest v.shape v.state ≡ true → HasTraced v w
-drawn-traced v w r o e rest =
+drawn-traced : (v w : View) → Ran v w → Only draws_card v w → Only traces_cells v w → w.state ≡ record v.state { below_card = false } → is_at_rest v.shape v.state ≡ true → HasTraced v w
+drawn-traced v w r o t e rest =
     let shape = ran-shape v w r in
     record {
       ran = r;
-      only = only-more draws_card traces_cells drawing v w o;
+      only = t;
       rest = ap (λ (sh : Shape). is_at_rest sh w.state) shape ∙ (ap (λ (s : SeatState). is_at_rest v.shape s) e ∙ rest);
       record_is = ap rest_of e ∙ (λ i. record (rest_of v.state) { below_card = sym (ap (λ (s : SeatState). s.below_card) e) i });
       rooted = λ k.
@@ -56,7 +55,7 @@ drawn-traced v w r o e rest =
                   alone = ap (λ (s : SeatState). s.alone) e ∙ k.rest.alone;
                   rest = ap (λ (sh : Shape). has_nothing sh w.state) shape ∙ (ap (λ (s : SeatState). has_nothing v.shape s) e ∙ k.rest.rest);
                 };
-            alone = alone-kept Drain draws_card (λ step p. quiet step (drawing step p)) v w r o k.drain;
+            alone = alone-kept Drain traces_cells quiet v w r t k.drain;
           })
           (rooted-drawn v w r o (roots-seen v k));
     }
@@ -121,7 +120,7 @@ pub next_card-requires : goal.next_card-requires
 next_card-requires c = record { seat = (c.requires.seat.0, traces-of c.args.heap.now.shape (view_of c.args.seat.now) c.requires.seat.1 c.requires.rest) }
 
 pub returns-clause-only : goal.returns-clause-only
-returns-clause-only c = only-more draws_card traces_cells drawing (view_of c.args.seat.now) (view_of c.next_card.new.seat) c.next_card.ensures.only
+returns-clause-only c = draws-only c.next_card.result (view_of c.args.seat.now) (view_of c.next_card.new.seat) c.next_card.ensures.draws
 
 pub returns-clause-draws : goal.returns-clause-draws
 returns-clause-draws c = drawn c.next_card.result (view_of c.args.seat.now) (view_of c.next_card.new.seat) c.next_card.ensures.draws
@@ -131,7 +130,7 @@ returns-clause-traced c =
     let v : View = view_of c.args.seat.now in
     let w : View = view_of c.next_card.new.seat in
     let e = c.next_card.ensures in
-    drawn-traced v w e.ran e.only e.state (subst (λ (sh : Shape). is_at_rest sh v.state ≡ true) (sym c.requires.seat.0.1) c.requires.rest)
+    drawn-traced v w e.ran e.only (draws-only c.next_card.result v w e.draws) e.state (subst (λ (sh : Shape). is_at_rest sh v.state ≡ true) (sym c.requires.seat.0.1) c.requires.rest)
 
 pub returns-clause-rises : goal.returns-clause-rises
 returns-clause-rises c = rising c.next_card.result (view_of c.args.seat.now) (view_of c.next_card.new.seat) c.next_card.ensures.rises

@@ -7,17 +7,15 @@ use Rattle.mark_core.specs.Places.{the_next_block}
 use Rattle.mark_core.specs.declared.kinds.Shape.{Shape}
 use Rattle.mark_core.specs.declared.kinds.Step.TheVariants.{ReadStat}
 use Rattle.mark_core.specs.declared.seat.SeatState.{SeatState}
-use Rattle.gc_table.specs.Log.{event, events}
+use Rattle.gc_table.specs.Log.{all_steps, event, events}
 use Rattle.gc_table.specs.Seats.{view_of}
 use Rattle.gc_table.specs.declared.view.View.{View}
-use Rattle.gc_table.proofs.Log.{only-more}
 use Rattle.packet_pools.specs.Counts.{count_of}
 use Rattle.packet_pools.specs.Seeking.{some_event}
 use Rattle.sweeper.specs.Blocks.{Ended, drawn, swept_events}
-use Rattle.sweeper.specs.Sweepers.{is_sweeping}
-use Rattle.gc_cycle.specs.Lower.{block_floor, sweeps_blocks}
+use Rattle.gc_cycle.specs.Lower.{block_floor, sweeps_next}
 use Rattle.gc_cycle.specs.Sorts.{gets_block, sees_last_block}
-use Rattle.gc_cycle.proofs.Swept.{cleaning-done, floor-above, floor-low, floor-rises, freed-same, sweeping}
+use Rattle.gc_cycle.proofs.Swept.{cleaning-done, floor-above, floor-low, floor-rises, freed-same}
 use Rattle.gc_cycle.proofs.lower.sweep_next.Goals as goal
 
 same-state : (v w : View) (s : SeatState) → w.state ≡ s → s ≡ record v.state { below_block = s.below_block; cleaning = s.cleaning } → w.state ≡ record v.state { below_block = w.state.below_block; cleaning = w.state.cleaning }
@@ -50,7 +48,7 @@ pub sweep_next-requires : goal.sweep_next-requires
 sweep_next-requires c = record { seat = (c.requires.seat, record { may = ⊎_elim (λ a. or_left _ _ a) (λ b. or_right _ _ b) c.requires.sweeps; free = c.requires.block }) }
 
 pub returns-in-Some-clause-only : goal.returns-in-Some-clause-only
-returns-in-Some-clause-only c = only-more is_sweeping sweeps_blocks sweeping (view_of c.args.seat.now) (view_of c.sweep_next.new.seat) c.in-Some.ensures.only
+returns-in-Some-clause-only c = ap (all_steps sweeps_next) c.in-Some.ensures.some.events
 
 pub returns-in-Some-clause-state : goal.returns-in-Some-clause-state
 returns-in-Some-clause-state c = same-state (view_of c.args.seat.now) (view_of c.sweep_next.new.seat) _ c.in-Some.ensures.some.state refl
@@ -75,7 +73,14 @@ returns-in-Some-clause-some c =
     )
 
 pub returns-in-None-clause-only : goal.returns-in-None-clause-only
-returns-in-None-clause-only c = only-more is_sweeping sweeps_blocks sweeping (view_of c.args.seat.now) (view_of c.sweep_next.new.seat) c.in-None.ensures.only
+returns-in-None-clause-only c =
+    let v : View = view_of c.args.seat.now in
+    let w : View = view_of c.sweep_next.new.seat in
+    let e = c.in-None.ensures.none in
+    ⊎_elim
+    (λ (x : events v w ≡ event (ReadStat 1) e.number ∷ []). ap (all_steps sweeps_next) x)
+    (λ (x : (seen : ℕ) × (events v w ≡ drawn seen e.number)). ap (all_steps sweeps_next) x.1)
+    e.events
 
 pub returns-in-None-clause-state : goal.returns-in-None-clause-state
 returns-in-None-clause-state c = same-state (view_of c.args.seat.now) (view_of c.sweep_next.new.seat) _ c.in-None.ensures.none.state refl
