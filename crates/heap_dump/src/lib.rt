@@ -12,7 +12,8 @@
 //! # Where what is
 //!
 //! `fault` has the faults, `frame` bytes of the stated length and the numbers in them, `check` the tests of records, roots and references in this
-//! order, `reader` the dump that was read and its records, and `final_heap` and `writer` a heap that is to be written, and its dump.
+//! order, `reader` the dump that was read and its records, `final_heap` and `writer` a heap that is to be written, and its dump, and `text` a dump
+//! and its faults as lines that people read.
 #![tactic(auto)]
 
 mod check;
@@ -22,9 +23,11 @@ mod frame;
 mod reader;
 #[cfg(test)]
 mod tests;
+mod text;
 mod writer;
 
 pub use fault::DumpError;
 pub use final_heap::{FinalHeap, FinalRecord};
 pub use reader::{Dump, Record, one_dump, read_dump};
+pub use text::{write_dump_fault, write_undump};
 pub use writer::write_dump;

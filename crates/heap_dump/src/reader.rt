@@ -3,7 +3,7 @@ ghost use Rattle.std.specs.Prelude.{◌≡◌, ◌<◌, ◌≤◌, ◌+◌, ◌*
 ghost use Rattle.std.specs.Result.{result_err};
 ghost use Rattle.heap_dump.specs.Final.{Heap, IsLegal, object};
 ghost use Rattle.heap_dump.specs.Spelling.{dump};
-ghost use Rattle.heap_dump.specs.Reading.{heap_of, heap_fault, fault_of, object_in, record_bytes, numbers};
+ghost use Rattle.heap_dump.specs.Reading.{heap_of, fault_of, object_in, record_bytes, numbers};
 
 use crate::check::check_heap;
 use crate::fault::DumpError;
@@ -17,14 +17,15 @@ pub struct Dump<'a> {
 }
 
 impl<'a> Model for Dump<'a> {
-    ghost use Rattle.std.specs.Prelude.{◌≡◌, List, ℕ, None};
-    ghost use Rattle.heap_dump.specs.Reading.{heap_of, heap_fault};
+    ghost use Rattle.std.specs.Prelude.{List, ℕ};
+    ghost use Rattle.heap_dump.specs.Final.{IsLegal};
+    ghost use Rattle.heap_dump.specs.Reading.{heap_of};
 
     ghost Value = { List ℕ };
 
     ghost view = { λ d. d.frame.bytes.now };
 
-    ghost invariant = { λ d. heap_fault (heap_of d.frame.bytes.now) ≡ None };
+    ghost invariant = { λ d. IsLegal (heap_of d.frame.bytes.now) };
 }
 
 /// A record of a dump: the part of its bytes that tells one object.
@@ -79,7 +80,9 @@ impl<'a> Dump<'a> {
 
     /// How many records there are.
     pub fn records(&self) -> u32
-        ensures { result ≡ length (heap_of self.now).records }
+        ensures count { result ≡ length (heap_of self.now).records }
+        // What a dump tells is a legal heap.
+        ensures legal { IsLegal (heap_of self.now) }
     {
         self.frame.records
     }
