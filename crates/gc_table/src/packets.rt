@@ -1,12 +1,14 @@
 //! The steps on packets. The pools are 0 empty, 1 low, 2 high, 3 deferred.
 ghost use Rattle.std.specs.Prelude.{◌≡◌};
 ghost use Rattle.mark_core.specs.Bits.{cell_of as cell_of_word, reference_in as reference_in_word};
+ghost use Rattle.mark_core.specs.Held.{length_in_hand};
 ghost use Rattle.gc_table.specs.Seats.{Answered, Found, Sits, Stored, Took, view_of};
 ghost use Rattle.gc_table.specs.Taking.{May, won};
 
 use crate::masks::{all_but, bit};
 use crate::seat::{Heap, HeapSeat};
-use mark_core::{Cell, Step, cell_of, has_bit, reference_in};
+use mark_core::{Cell, Step, cell_of, has_bit, pop_at, push_at, reference_in};
+use std::marker::Brand;
 
 impl Heap {
     /// Takes one from the count of empty packets, before one is looked for.
@@ -60,6 +62,21 @@ impl Heap {
         self.store_step(seat, Step::Push { p, cell });
     }
 
+    /// The same for a caller that knows how many cells are in the packet, so that its length isn't looked up.
+    #[inline(always)]
+    pub fn push_at(&self, seat: &mut HeapSeat, p: u32, length: u32, cell: Cell)
+        requires seat { Sits self.now seat.old }
+        requires may { May (Step.Push p cell) (view_of seat.old) }
+        requires known { length ≡ length_in_hand (view_of seat.old).state.held p }
+        ensures seat { Sits self.now seat.new }
+        ensures view { Stored (Step.Push p cell) (view_of seat.old) (view_of seat.new) }
+    {
+        let word = self.bases.entry_at(p, length);
+        let new = u64::from(cell.number()) + 1;
+        self.store_told::<Brand>(&mut seat.token, word, new, Step::Push { p, cell });
+        push_at(&mut seat.state, p, length, cell);
+    }
+
     /// Takes the grey cell that was put in last.
     pub fn pop(&self, seat: &mut HeapSeat, p: u32) -> Cell
         requires seat { Sits self.now seat.old }
@@ -68,6 +85,21 @@ impl Heap {
         ensures view { Answered (Step.Pop p) (λ n. result ≡ cell_of_word n) (view_of seat.old) (view_of seat.new) }
     {
         cell_of(self.load_step(seat, Step::Pop { p }))
+    }
+
+    /// The same for a caller that knows how many cells are in the packet, so that its length isn't looked up.
+    #[inline(always)]
+    pub fn pop_at(&self, seat: &mut HeapSeat, p: u32, length: u32) -> Cell
+        requires seat { Sits self.now seat.old }
+        requires may { May (Step.Pop p) (view_of seat.old) }
+        requires known { length ≡ length_in_hand (view_of seat.old).state.held p }
+        ensures seat { Sits self.now seat.new }
+        ensures view { Answered (Step.Pop p) (λ n. result ≡ cell_of_word n) (view_of seat.old) (view_of seat.new) }
+    {
+        let word = self.bases.entry_at(p, length.saturating_sub(1));
+        let cell = cell_of(self.load_told::<Brand>(&mut seat.token, word, Step::Pop { p }));
+        pop_at(&mut seat.state, p, length, cell);
+        cell
     }
 
     /// Word g of pool q.

@@ -113,18 +113,28 @@ pub fn check_push(shape: &Shape, s: &SeatState, p: u32, c: Cell) -> Option<u8>
     ])
 }
 
-pub fn push(s: &mut SeatState, p: u32, c: Cell) -> u64
-    requires { length_in_hand s.old.held p < 4294967295 }
-    ensures word { result ≡ c + 1 }
-    ensures seat { s.new ≡ record s.old { held = set_length s.old.held p (length_in_hand s.old.held p + 1) false; fresh = if is_the s.old.fresh c then None else s.old.fresh; popped = if is_the s.old.fresh c then s.old.popped else None } }
+/// What a push makes of the record, where the length of packet p is known.
+#[inline(always)]
+pub fn push_at(s: &mut SeatState, p: u32, length: u32, c: Cell)
+    requires known { length ≡ length_in_hand s.old.held p }
+    requires room { length < 4294967295 }
+    ensures { s.new ≡ record s.old { held = set_length s.old.held p (length_in_hand s.old.held p + 1) false; fresh = if is_the s.old.fresh c then None else s.old.fresh; popped = if is_the s.old.fresh c then s.old.popped else None } }
 {
-    let length = slots::length_in_hand(&s.held, p);
     slots::set_length(&mut s.held, p, length + 1, false);
     if hand::is_the_cell(s.fresh, c) {
         s.fresh = None;
     } else {
         s.popped = None;
     }
+}
+
+pub fn push(s: &mut SeatState, p: u32, c: Cell) -> u64
+    requires { length_in_hand s.old.held p < 4294967295 }
+    ensures word { result ≡ c + 1 }
+    ensures seat { s.new ≡ record s.old { held = set_length s.old.held p (length_in_hand s.old.held p + 1) false; fresh = if is_the s.old.fresh c then None else s.old.fresh; popped = if is_the s.old.fresh c then s.old.popped else None } }
+{
+    let length = slots::length_in_hand(&s.held, p);
+    push_at(s, p, length, c);
     u64::from(c.number()) + 1
 }
 
@@ -139,13 +149,22 @@ pub fn check_pop(shape: &Shape, phase: u64, s: &SeatState, p: u32) -> Option<u8>
     ])
 }
 
+/// What a pop makes of the record, where the length of packet p is known.
+#[inline(always)]
+pub fn pop_at(s: &mut SeatState, p: u32, length: u32, c: Cell)
+    requires known { length ≡ length_in_hand s.old.held p }
+    ensures { s.new ≡ record s.old { held = set_length s.old.held p (length_in_hand s.old.held p - 1) false; popped = Some (c, false) } }
+{
+    slots::set_length(&mut s.held, p, length.saturating_sub(1), false);
+    s.popped = Some((c, false));
+}
+
 pub fn pop(s: &mut SeatState, p: u32, old: u64) -> u64
     ensures word { result ≡ old }
     ensures seat { s.new ≡ record s.old { held = set_length s.old.held p (length_in_hand s.old.held p - 1) false; popped = Some (cell_of old, false) } }
 {
-    let length = slots::length_in_hand(&s.held, p).saturating_sub(1);
-    slots::set_length(&mut s.held, p, length, false);
-    s.popped = Some((bits::cell_of(old), false));
+    let length = slots::length_in_hand(&s.held, p);
+    pop_at(s, p, length, bits::cell_of(old));
     old
 }
 

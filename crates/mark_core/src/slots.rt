@@ -142,6 +142,7 @@ fn set_slot(slot: &mut Slot, p: u32, length: u32, stored: bool)
 }
 
 /// What is known of the packet becomes this length, which its head holds or not.
+#[inline(always)]
 pub fn set_length(held: &mut Slots, p: u32, length: u32, stored: bool)
     ensures { held.new ≡ set_length_of held.old p length stored }
 {

@@ -28,7 +28,7 @@ pub fn push(heap: &Heap, seat: &mut HeapSeat, held: &mut Held, cell: Cell) -> Re
     if held.length == heap.shape().entries {
         return Err(PacketFull);
     }
-    heap.push(seat, held.packet, cell);
+    heap.push_at(seat, held.packet, held.length, cell);
     held.length += 1;
     Ok(())
 }
@@ -48,7 +48,7 @@ pub fn pop(heap: &Heap, seat: &mut HeapSeat, held: &mut Held) -> Option<Cell>
     if held.length == 0 {
         return None;
     }
-    let cell = heap.pop(seat, held.packet);
+    let cell = heap.pop_at(seat, held.packet, held.length);
     held.length -= 1;
     Some(cell)
 }

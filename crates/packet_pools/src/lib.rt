@@ -68,5 +68,5 @@ pub use held::{Held, PacketFull};
 pub use marking::mark_cell;
 pub use quiet::all_empty;
 pub use scanned::Scanned;
-pub use scanning::{scan_again, scan_cell};
+pub use scanning::{scan_again, scan_cell, scan_whole};
 pub use taking::{take_deferred, take_input, take_output};

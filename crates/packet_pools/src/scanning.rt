@@ -85,6 +85,24 @@ pub fn scan_cell(heap: &Heap, seat: &mut HeapSeat, out: &mut Held) -> Scanned
     }
 }
 
+/// Scans the object in scan, which is this one, from its first field on, in the same way.
+#[inline(always)]
+pub fn scan_whole(heap: &Heap, seat: &mut HeapSeat, out: &mut Held, cell: Cell) -> Scanned
+    requires seat { Sits heap.now seat.old × Traces (view_of seat.old) }
+    requires out { IsHeld out.old (view_of seat.old) × IsTrue (has_free_slot (view_of seat.old).state.held) }
+    requires hand { InHand None None (view_of seat.old).state }
+    requires scan { (view_of seat.old).state.scan ≡ Some (cell, 0) }
+    ensures seat { Sits heap.now seat.new × Traces (view_of seat.new) }
+    ensures later { Later (view_of seat.old) (view_of seat.new) }
+    ensures pushes { Pushes out.old out.new (scan_end heap.now.shape.fields (view_of seat.old).state.scan) (cleaning_end heap.now.shape.fields (view_of seat.old).state.scan (view_of seat.old).state.cleaning) (view_of seat.old) (view_of seat.new) }
+    ensures work { IsFalse (cleaning_left (view_of seat.old).state.cleaning) → IsFalse (work_in_hand heap.now.shape.fields (view_of seat.new).state) }
+    ensures most { (result.overflowed ≤ result.marked) × (result.marked ≤ heap.now.shape.fields) }
+    ensures counts { Counts heap.now.shape result.marked (result.marked - result.overflowed) result.overflowed (events (view_of seat.old) (view_of seat.new)) }
+    ensures follows { Follows (fields_left heap.now.shape.fields (view_of seat.old).state.scan) (events (view_of seat.old) (view_of seat.new)) }
+{
+    scan_fields(heap, seat, out, cell, 0)
+}
+
 /// Scans a cell that is left in the seat's cleaning, in the same way.
 pub fn scan_again(heap: &Heap, seat: &mut HeapSeat, out: &mut Held, cell: Cell) -> Scanned
     requires seat { Sits heap.now seat.old × Traces (view_of seat.old) }

@@ -114,6 +114,13 @@ module _ (v w : View) (c n : ℕ) (p : HasPopped c false v) (e : w ≡ after (Re
         fresh = ap (λ (z : View). z.state.fresh) e ∙ none-of v.state.fresh free.fresh;
       }
 
+  -- it is scanned from its first field on
+  pub scanned : has_bit n (c % 64) ≡ true → w.state.scan ≡ Some (c, 0)
+  scanned bit =
+      ap (λ (z : View). z.state.scan) e
+      ∙ (ap (λ o. scan_after o v.state.scan (c / 64) n) p.popped
+      ∙ (ap (λ (d : Bool). cond (d && has_bit n (c % 64)) (Some (c, 0)) v.state.scan) (eq-eqb (c / 64) (c / 64) refl) ∙ ap (λ (d : Bool). cond d (Some (c, 0)) v.state.scan) bit))
+
   -- the cell isn't
   pub unpublished : has_bit n (c % 64) ≡ false → HasPopped c true w
   unpublished bit =

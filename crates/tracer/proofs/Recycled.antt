@@ -1,8 +1,11 @@
 -- Packets that are recycled, one after another.
-use Rattle.std.proofs.Common.{ℕ, ◌≡◌, ◌<◌, ◌≤◌, ◌+◌, ◌/◌, ◌%◌, inl, inr, List, [], ◌∷◌, ◌++◌, refl, sym, ap, ◌∙◌, subst, arith, ◌≢◌, cond, Bool, true, false, not, eqb-true, eq-eqb, ⊎_elim}
+use Rattle.std.proofs.Common.{ℕ, ◌≡◌, ◌<◌, ◌≤◌, ◌+◌, ◌*◌, ◌/◌, ◌%◌, inl, inr, List, [], ◌∷◌, ◌++◌, refl, sym, ap, ◌∙◌, subst, arith, ◌≢◌, cond, Bool, true, false, not, eqb-true, eq-eqb, ⊎_elim}
 use Rattle.std.specs.Prelude.{◌&&◌, ◌||◌, ◌==◌, IsTrue}
 use Rattle.std.proofs.lemmas.Bool.{and_from, and_parts, cases_lt, false≢true, false_from_ne_true, ne_eqb, not_from_false, or_cases, or_left, or_right}
 use Rattle.mark_core.specs.Bits.{has_bit}
+use Rattle.mark_core.proofs.CellBits.{no-bit}
+use Rattle.mark_core.specs.Seats.{work_in_hand}
+use Rattle.mark_core.specs.declared.seat.SeatState.{SeatState}
 use Rattle.mark_core.specs.declared.kinds.Step.{Step}
 use Rattle.mark_core.specs.declared.kinds.Step.TheVariants.{Credit, Give, Look, ReadLength, StoreLength, Take}
 use Rattle.gc_table.specs.declared.view.Entry.{Entry}
@@ -12,6 +15,8 @@ use Rattle.packet_pools.specs.Counts.{count_of}
 use Rattle.packet_pools.proofs.Counting.{count-join}
 use Rattle.gc_table.proofs.Log.{entry_of}
 use Rattle.packet_pools.proofs.Searches.{all_move, before-left, before-right, moves-join, moves-steps, some-left, some-parts, some-right}
+use Rattle.gc_table.specs.declared.view.View.{View}
+use Rattle.tracer.specs.Hands.{IsIdle}
 use Rattle.tracer.specs.Recycling.{gives, gives_to, is_settled, Recycles, was_moved}
 
 moved-left : (p : ℕ) (xs ys : List Entry) → was_moved p xs ≡ true → was_moved p (xs ++ ys) ≡ true
@@ -99,6 +104,45 @@ recycles-outside p n es whole clear =
       count = refl;
       moves = refl;
     })
+
+-- a look takes and gives none
+pub recycles-look : (lo g n : ℕ) (es : List Entry) → es ≡ entry_of (Look 3 g) n ∷ [] → Recycles lo lo 0 es
+recycles-look lo g n es whole =
+    subst (Recycles lo lo 0) (sym whole)
+    (record {
+      all = λ x a b. absurd (omega (arith, a, b));
+      got = λ x h. absurd (false≢true h);
+      once = λ x. omega arith;
+      none = λ x o. refl;
+      count = refl;
+      moves = refl;
+    })
+
+-- a word that shows none
+pub recycles-empty : (g hi n : ℕ) (es : List Entry) → hi ≤ 64 * g + 64 → n ≡ 0 → es ≡ entry_of (Look 3 g) n ∷ [] → Recycles (64 * g) hi 0 es
+recycles-empty g hi n es most nothing whole =
+    subst (Recycles (64 * g) hi 0) (sym whole)
+    (record {
+      all =
+          λ x a b.
+          let here : g ≡ x / 64 = omega (arith, a, b, most) in
+          let clear : has_bit n (x % 64) ≡ false = ap (λ w. has_bit w (x % 64)) nothing ∙ no-bit (x % 64) in
+          or_left _ _ (or_left _ _ (or_left (shows_outside 3 x (Look 3 g) n) _ (and_from _ _ (eq-eqb g (x / 64) here) (not_from_false _ clear))));
+      got = λ x h. absurd (false≢true h);
+      once = λ x. omega arith;
+      none = λ x o. refl;
+      count = refl;
+      moves = refl;
+    })
+
+-- a seat that is idle is so while its record stays
+pub idle-still : (v w : View) → w.shape ≡ v.shape → w.state ≡ v.state → IsIdle v → IsIdle w
+idle-still v w shape same a =
+    record {
+      held = ap (λ (s : SeatState). s.held) same ∙ a.held;
+      work = (λ i. work_in_hand (shape i).fields (same i)) ∙ a.work;
+      block = ap (λ (s : SeatState). s.block) same ∙ a.block;
+    }
 
 -- the packets that some steps ask for
 abbrev asks : ℕ → Step → Bool

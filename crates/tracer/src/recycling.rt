@@ -1,5 +1,5 @@
 //! What was put off is traced again.
-ghost use Rattle.std.specs.Prelude.{◌≡◌, ◌<◌, ◌≤◌, ◌+◌, if◌then◌else◌};
+ghost use Rattle.std.specs.Prelude.{◌≡◌, ◌<◌, ◌≤◌, ◌+◌, ◌*◌, ◌/◌, if◌then◌else◌};
 ghost use Rattle.gc_table.specs.Seats.{Sits, view_of};
 ghost use Rattle.packet_pools.specs.Later.{Later};
 ghost use Rattle.gc_table.specs.Log.{events};
@@ -32,6 +32,58 @@ fn recycle(heap: &Heap, seat: &mut HeapSeat, p: u32) -> bool
     true
 }
 
+/// The same for the packets from `first` on and below `end`: how many it moved.
+fn recycle_between(heap: &Heap, seat: &mut HeapSeat, first: u32, end: u32) -> u32
+    requires seat { Sits heap.now seat.old × Traces (view_of seat.old) }
+    requires idle { IsIdle (view_of seat.old) }
+    requires packets { (first ≤ end) × (end ≤ heap.now.shape.packets) }
+    ensures seat { Sits heap.now seat.new × Traces (view_of seat.new) }
+    ensures later { Later (view_of seat.old) (view_of seat.new) }
+    ensures state { (view_of seat.new).state ≡ (view_of seat.old).state }
+    ensures most { result + first ≤ end }
+    ensures recycles { Recycles first end result (events (view_of seat.old) (view_of seat.new)) }
+{
+    let mut moved = 0;
+    for p in first..end {
+        moved += u32::from(recycle(heap, seat, p));
+    }
+    moved
+}
+
+/// The same for the packets of word g of the pool that are below `end`. A word that shows none is read once.
+fn recycle_in_word(heap: &Heap, seat: &mut HeapSeat, g: u32, end: u32) -> u32
+    requires seat { Sits heap.now seat.old × Traces (view_of seat.old) }
+    requires idle { IsIdle (view_of seat.old) }
+    requires packets { (64 * g < end) × (end ≤ 64 * g + 64) × (end ≤ heap.now.shape.packets) }
+    ensures seat { Sits heap.now seat.new × Traces (view_of seat.new) }
+    ensures later { Later (view_of seat.old) (view_of seat.new) }
+    ensures state { (view_of seat.new).state ≡ (view_of seat.old).state }
+    ensures most { result + 64 * g ≤ end }
+    ensures recycles { Recycles (64 * g) end result (events (view_of seat.old) (view_of seat.new)) }
+{
+    if heap.look(seat, 3, g) == 0 {
+        return 0;
+    }
+    recycle_between(heap, seat, 64 * g, end)
+}
+
+/// The same for all words that are full of packets.
+fn recycle_words(heap: &Heap, seat: &mut HeapSeat) -> u32
+    requires seat { Sits heap.now seat.old × Traces (view_of seat.old) }
+    requires idle { IsIdle (view_of seat.old) }
+    ensures seat { Sits heap.now seat.new × Traces (view_of seat.new) }
+    ensures later { Later (view_of seat.old) (view_of seat.new) }
+    ensures state { (view_of seat.new).state ≡ (view_of seat.old).state }
+    ensures most { result ≤ 64 * (heap.now.shape.packets / 64) }
+    ensures recycles { Recycles 0 (64 * (heap.now.shape.packets / 64)) result (events (view_of seat.old) (view_of seat.new)) }
+{
+    let mut moved = 0;
+    for g in 0..heap.shape().packets / 64 {
+        moved += recycle_in_word(heap, seat, g, 64 * g + 64);
+    }
+    moved
+}
+
 /// Moves the packets that were put off to the pools of their lengths, where tracers find them: how many it moved, each at most once. The seat may trace,
 /// and holds no packet. Each packet was moved, or was seen outside the deferred pool or lost to another seat in this call.
 /// Cells that still aren't published are put off again when they are popped, so a caller publishes first, or waits for others to.
@@ -43,9 +95,10 @@ pub fn recycle_deferred(heap: &Heap, seat: &mut HeapSeat) -> u32
     ensures state { (view_of seat.new).state ≡ (view_of seat.old).state }
     ensures recycled { Recycled heap.now.shape result (events (view_of seat.old) (view_of seat.new)) }
 {
-    let mut moved = 0;
-    for p in 0..heap.shape().packets {
-        moved += u32::from(recycle(heap, seat, p));
+    let moved = recycle_words(heap, seat);
+    let packets = heap.shape().packets;
+    if packets % 64 == 0 {
+        return moved;
     }
-    moved
+    moved + recycle_in_word(heap, seat, packets / 64, packets)
 }

@@ -20,13 +20,14 @@ use crate::packets::{Packets, give_some};
 use crate::traced::{Passed, Stopped, Traced};
 use gc_table::{Heap, HeapSeat};
 use mark_core::{Cell, has_bit};
-use packet_pools::{Scanned, give, scan_cell, take_input, take_output};
+use packet_pools::{Scanned, give, scan_whole, take_input, take_output};
 
-/// Scans the object in scan into the output, or into the input where there is none.
-fn scan(heap: &Heap, seat: &mut HeapSeat, packets: &mut Packets) -> Scanned
+/// Scans the object in scan, which is this one, into the output, or into the input where there is none.
+fn scan(heap: &Heap, seat: &mut HeapSeat, packets: &mut Packets, cell: Cell) -> Scanned
     requires seat { Sits heap.now seat.old × Traces (view_of seat.old) }
     requires packets { Carries (packets_of packets.old) (view_of seat.old) }
     requires hand { InHand None None (view_of seat.old).state × IsFalse (cleaning_left (view_of seat.old).state.cleaning) }
+    requires scan { (view_of seat.old).state.scan ≡ Some (cell, 0) }
     ensures seat { Sits heap.now seat.new × Traces (view_of seat.new) }
     ensures later { Later (view_of seat.old) (view_of seat.new) }
     ensures packets { Carries (packets_of packets.new) (view_of seat.new) × (packets.new.deferred ≡ packets.old.deferred) }
@@ -35,8 +36,8 @@ fn scan(heap: &Heap, seat: &mut HeapSeat, packets: &mut Packets) -> Scanned
     ensures part { (o : Option ℕ) → Part heap.now.shape o o 0 0 result.overflowed (view_of seat.old) (events (view_of seat.old) (view_of seat.new)) }
 {
     match &mut packets.output {
-        Some(output) => scan_cell(heap, seat, output),
-        None => scan_cell(heap, seat, &mut packets.input),
+        Some(output) => scan_whole(heap, seat, output, cell),
+        None => scan_whole(heap, seat, &mut packets.input, cell),
     }
 }
 
@@ -54,7 +55,7 @@ fn trace_cell(heap: &Heap, seat: &mut HeapSeat, packets: &mut Packets, cell: Cel
 {
     let word = heap.read_alloc(seat, cell.number() / 64);
     if has_bit(word, cell.number() % 64) {
-        let scanned = scan(heap, seat, packets);
+        let scanned = scan(heap, seat, packets, cell);
         return Passed {
             deferred: 0,
             overflowed: scanned.overflowed,

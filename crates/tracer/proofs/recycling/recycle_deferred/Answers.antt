@@ -1,59 +1,42 @@
-use Rattle.std.proofs.Common.{◌≡◌, ◌≤◌, ◌+◌, Bool, true, false, cond, sym, ap, ◌∙◌, refl, arith}
-use mir.Val.{bool_byte}
+use Rattle.std.proofs.Common.{ℕ, ◌≡◌, ◌≤◌, ◌*◌, ◌/◌, List, ap, subst, refl, arith}
 use Rattle.mark_core.specs.declared.kinds.Shape.{Shape}
-use Rattle.mark_core.specs.declared.seat.SeatState.{SeatState}
-use Rattle.mark_core.specs.Seats.{work_in_hand}
 use Rattle.packet_pools.proofs.LaterSteps.{later-join}
 use Rattle.gc_table.proofs.Log.{events-join}
-use Rattle.tracer.specs.Hands.{IsIdle}
-use Rattle.tracer.proofs.Recycled.{recycles-join}
+use Rattle.tracer.specs.Recycling.{Recycled, Recycles}
+use Rattle.tracer.proofs.Recycled.{recycles-join, idle-still}
+use Rattle.gc_table.specs.declared.view.Entry.{Entry}
 use Rattle.gc_table.specs.declared.view.View.{View}
 use Rattle.gc_table.specs.Seats.{view_of}
 use Rattle.gc_table.specs.Log.{events}
 use Rattle.tracer.proofs.recycling.recycle_deferred.Goals as goal
 
-idle-still : (v w : View) → w.shape ≡ v.shape → w.state ≡ v.state → IsIdle v → IsIdle w
-idle-still v w shape same a =
-    record {
-      held = ap (λ (s : SeatState). s.held) same ∙ a.held;
-      work = (λ i. work_in_hand (shape i).fields (same i)) ∙ a.work;
-      block = ap (λ (s : SeatState). s.block) same ∙ a.block;
-    }
+-- all packets were seen to
+all-seen : (sh : Shape) (hi n : ℕ) (es : List Entry) → sh.packets ≤ hi → Recycles 0 hi n es → Recycled sh n es
+all-seen sh hi n es most r = record { all = λ p l. r.all p (omega arith) (omega (arith, l, most)); count = r.count; once = r.once; moves = r.moves }
 
-pub recycle-requires-clause-idle : goal.recycle-requires-clause-idle
-recycle-requires-clause-idle c = let i = c.loop-p.invariant in idle-still (view_of c.args.seat.now) (view_of c.loop-p.seat) i.later.shape i.state c.requires.idle
+pub returns-then-packets-eq0-clause-recycled : goal.returns-then-packets-eq0-clause-recycled
+returns-then-packets-eq0-clause-recycled c =
+    let sh : Shape = c.args.heap.now.shape in
+    let packets : c.shape-packets.result.packets ≡ sh.packets = ap (λ (s : Shape). s.packets) c.shape-packets.ensures in
+    let whole = c.if-packets-eq0.true in
+    all-seen sh (64 * (sh.packets / 64)) _ _ (omega (arith, packets, whole)) c.recycle_words-moved.ensures.recycles
 
-one-byte : (b : Bool) → bool_byte b ≡ cond b 1 0
-one-byte true = refl
-one-byte false = refl
+pub recycle_in_word-requires-clause-idle : goal.recycle_in_word-requires-clause-idle
+recycle_in_word-requires-clause-idle c = let e = c.recycle_words-moved.ensures in idle-still (view_of c.args.seat.now) (view_of c.recycle_words-moved.new.seat) e.later.shape e.state c.requires.idle
 
-byte-most : (b : Bool) → bool_byte b ≤ 1
-byte-most true = omega arith
-byte-most false = omega arith
-
-pub loop-p-preserved : goal.loop-p-preserved
-loop-p-preserved c =
-    let v : View = view_of c.args.seat.now in
-    let w : View = view_of c.loop-p.seat in
-    let x : View = view_of c.recycle.new.seat in
-    let i = c.loop-p.invariant in
-    let e = c.recycle.ensures in
-    let b : Bool = c.recycle.result in
-    let byte = c.from-moved.ensures in
-    let one = byte-most b in
-    record {
-      sits = e.seat.0;
-      traces = e.seat.1;
-      later = later-join v w x i.later e.later;
-      state = e.state ∙ i.state;
-      most = omega (arith, i.most, byte, one);
-      recycles =
-          recycles-join 0 c.loop-p.p (c.loop-p.p + 1) c.loop-p.moved (cond b 1 0) _ (events v w) (events w x) (events v x) (events-join v w x i.later.log e.later.log) (omega arith) (omega arith) (ap (λ n. c.loop-p.moved + n) (sym (byte ∙ one-byte b))) i.recycles e.recycles;
-    }
+pub returns-clause-later : goal.returns-clause-later
+returns-clause-later c = later-join (view_of c.args.seat.now) (view_of c.recycle_words-moved.new.seat) (view_of c.recycle_in_word.new.seat) c.recycle_words-moved.ensures.later c.recycle_in_word.ensures.later
 
 pub returns-clause-recycled : goal.returns-clause-recycled
 returns-clause-recycled c =
-    let i = c.loop-p.invariant in
-    let past = c.loop-p-test.false in
-    let packets : c.shape-p-end.result.packets ≡ c.args.heap.now.shape.packets = ap (λ (s : Shape). s.packets) c.shape-p-end.ensures in
-    record { all = λ p l. i.recycles.all p (omega arith) (omega (arith, l, past, packets)); count = i.recycles.count; once = i.recycles.once; moves = i.recycles.moves }
+    let sh : Shape = c.args.heap.now.shape in
+    let v : View = view_of c.args.seat.now in
+    let w : View = view_of c.recycle_words-moved.new.seat in
+    let x : View = view_of c.recycle_in_word.new.seat in
+    let a = c.recycle_words-moved.ensures in
+    let b = c.recycle_in_word.ensures in
+    let packets : c.shape-packets.result.packets ≡ sh.packets = ap (λ (s : Shape). s.packets) c.shape-packets.ensures in
+    all-seen sh sh.packets _ _ (omega arith)
+    (recycles-join 0 (64 * (sh.packets / 64)) sh.packets c.recycle_words-moved.result c.recycle_in_word.result _ (events v w) (events w x) (events v x)
+    (events-join v w x a.later.log b.later.log) (omega arith) (omega arith) refl a.recycles
+    (subst (λ (k : ℕ). Recycles (64 * (k / 64)) k c.recycle_in_word.result (events w x)) packets b.recycles))

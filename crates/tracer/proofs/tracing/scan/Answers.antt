@@ -13,15 +13,15 @@ use Rattle.tracer.proofs.tracing.scan.Goals as goal
 output-front : (x : Packets) (o : Held) (v : View) → x.output ≡ Some o → Carries (packets_of x) v → Carries (o ∷ x.input ∷ in_front x.deferred []) v
 output-front x o v is c = carries-front (x.input ∷ []) o (in_front x.deferred []) v (subst (λ r. Carries (x.input ∷ in_front r (in_front x.deferred [])) v) is c)
 
-pub scan_cell-requires-clause-out : goal.scan_cell-requires-clause-out
-scan_cell-requires-clause-out c =
+pub scan_whole-requires-clause-out : goal.scan_whole-requires-clause-out
+scan_whole-requires-clause-out c =
     let v : View = view_of c.args.seat.now in
     let x : Packets = c.args.packets.now in
     let k = output-front x c.in-Some.output v c.in-Some.is c.requires.packets in
     (carries-head c.in-Some.output (x.input ∷ in_front x.deferred []) v k, carries-free (packets_of x) v (packets-three x) c.requires.packets)
 
-pub scan_cell-requires-in-None-clause-out : goal.scan_cell-requires-in-None-clause-out
-scan_cell-requires-in-None-clause-out c =
+pub scan_whole-requires-in-None-clause-out : goal.scan_whole-requires-in-None-clause-out
+scan_whole-requires-in-None-clause-out c =
     let v : View = view_of c.args.seat.now in
     let x : Packets = c.args.packets.now in
     (carries-head x.input (in_front x.output (in_front x.deferred [])) v c.requires.packets, carries-free (packets_of x) v (packets-three x) c.requires.packets)
@@ -29,30 +29,30 @@ scan_cell-requires-in-None-clause-out c =
 pub returns-in-Some-clause-packets : goal.returns-in-Some-clause-packets
 returns-in-Some-clause-packets c =
     let v : View = view_of c.args.seat.now in
-    let w : View = view_of c.scan_cell.new.seat in
+    let w : View = view_of c.scan_whole.new.seat in
     let x : Packets = c.args.packets.now in
-    let e = c.scan_cell.ensures in
+    let e = c.scan_whole.ensures in
     let k = output-front x c.in-Some.output v c.in-Some.is c.requires.packets in
-    (carries-back (x.input ∷ []) c.scan_cell.new.out (in_front x.deferred []) w (carries-fill v w e.later.shape c.in-Some.output c.scan_cell.new.out (x.input ∷ in_front x.deferred []) e.pushes.packet k), refl)
+    (carries-back (x.input ∷ []) c.scan_whole.new.out (in_front x.deferred []) w (carries-fill v w e.later.shape c.in-Some.output c.scan_whole.new.out (x.input ∷ in_front x.deferred []) e.pushes.packet k), refl)
 
 pub returns-in-None-clause-packets : goal.returns-in-None-clause-packets
 returns-in-None-clause-packets c =
     let v : View = view_of c.args.seat.now in
-    let w : View = view_of c.scan_cell-in-None.new.seat in
+    let w : View = view_of c.scan_whole-in-None.new.seat in
     let x : Packets = c.args.packets.now in
-    let e = c.scan_cell-in-None.ensures in
-    (carries-fill v w e.later.shape x.input c.scan_cell-in-None.new.out (in_front x.output (in_front x.deferred [])) e.pushes.packet c.requires.packets, refl)
+    let e = c.scan_whole-in-None.ensures in
+    (carries-fill v w e.later.shape x.input c.scan_whole-in-None.new.out (in_front x.output (in_front x.deferred [])) e.pushes.packet c.requires.packets, refl)
 
 pub returns-in-Some-clause-part : goal.returns-in-Some-clause-part
 returns-in-Some-clause-part c =
     let v : View = view_of c.args.seat.now in
-    let w : View = view_of c.scan_cell.new.seat in
-    let e = c.scan_cell.ensures in
+    let w : View = view_of c.scan_whole.new.seat in
+    let e = c.scan_whole.ensures in
     λ o. part-scan c.args.heap.now.shape o _ _ _ v (events v w) c.requires.hand.0.popped (e.later.cells refl) e.counts
 
 pub returns-in-None-clause-part : goal.returns-in-None-clause-part
 returns-in-None-clause-part c =
     let v : View = view_of c.args.seat.now in
-    let w : View = view_of c.scan_cell-in-None.new.seat in
-    let e = c.scan_cell-in-None.ensures in
+    let w : View = view_of c.scan_whole-in-None.new.seat in
+    let e = c.scan_whole-in-None.ensures in
     λ o. part-scan c.args.heap.now.shape o _ _ _ v (events v w) c.requires.hand.0.popped (e.later.cells refl) e.counts

@@ -11,7 +11,7 @@ use Rattle.packet_pools.proofs.LaterSteps.{later-join}
 use Rattle.tracer.specs.Hands.{packet_of, packets_of}
 use Rattle.tracer.specs.Parts.{HasPopped, Part}
 use Rattle.tracer.proofs.Carried.{carries-same}
-use Rattle.tracer.proofs.Hand.{alloc-cleaning, later-read_alloc, may-read_alloc, published, unpublished}
+use Rattle.tracer.proofs.Hand.{alloc-cleaning, later-read_alloc, may-read_alloc, published, scanned, unpublished}
 use Rattle.tracer.proofs.Joined.{part-then}
 use Rattle.tracer.proofs.OneStep.{part-alloc}
 use Rattle.gc_table.specs.declared.view.View.{View}
@@ -60,6 +60,14 @@ scan-scanned-requires-clause-hand c =
     let n : ℕ = c.read_alloc-word.result in
     let r = was-read c.args.cell c.number.result n v w c.requires.cell c.requires.seat.1 c.number.ensures c.read_alloc-word.ensures.view in
     (published v w c.args.cell n c.requires.cell r.view (bit-of n c.number-2.result c.args.cell c.has_bit.result true c.number-2.ensures c.has_bit.ensures c.if-has_bit.true), alloc-cleaning v w c.args.cell n c.requires.cell r.view)
+
+pub scan-scanned-requires-clause-scan : goal.scan-scanned-requires-clause-scan
+scan-scanned-requires-clause-scan c =
+    let v : View = view_of c.args.seat.now in
+    let w : View = view_of c.read_alloc-word.new.seat in
+    let n : ℕ = c.read_alloc-word.result in
+    let r = was-read c.args.cell c.number.result n v w c.requires.cell c.requires.seat.1 c.number.ensures c.read_alloc-word.ensures.view in
+    scanned v w c.args.cell n c.requires.cell r.view (bit-of n c.number-2.result c.args.cell c.has_bit.result true c.number-2.ensures c.has_bit.ensures c.if-has_bit.true)
 
 pub returns-then-has_bit-clause-later : goal.returns-then-has_bit-clause-later
 returns-then-has_bit-clause-later c =
