@@ -1,7 +1,8 @@
 #!/bin/sh
-# Times the steps of bench_table and the operations of bench_operations beside the same steps on bare atomic words, and prints the ratio of each.
-# From the top of the repository: sh bench/table.sh [RUNS]. The least time of so many runs counts, 40 if no number is given.
-# What a run takes besides what is measured, as the making and closing of heaps, is timed alone and taken off.
+# Times the steps of bench_table, the operations of bench_operations and the collections of bench_cycle beside the same steps on bare atomic words, and
+# prints the ratio of each. From the top of the repository: sh bench/table.sh [RUNS]. The least time of so many runs counts, 40 if no number is given.
+# What a run takes besides what is measured, as the making and closing of heaps, is timed alone and taken off. A collection is timed by the program itself,
+# since the heap that it finds takes longer to make.
 set -eu
 cd "$(dirname "$0")/.."
 runs=${1:-40}
@@ -45,6 +46,18 @@ line() {
         printf "%-28s %8.2f %8.2f %8.2f\n", name, ours / count, theirs / count, ours / theirs }'
 }
 
+# A line of collections: its name, what the heap holds, its cells, and how many collections there are in a run, of which the fastest counts.
+stop() {
+    ours='' theirs=''
+    run=0
+    while [ "$run" -lt "$runs" ]; do
+        ours=$(lesser "$ours" "$("$program" "$2" "$3" "$4")")
+        theirs=$(lesser "$theirs" "$("$bare" "$2" "$3" "$4")")
+        run=$((run + 1))
+    done
+    awk -v name="$1" -v ours="$ours" -v theirs="$theirs" 'BEGIN { printf "%-28s %8d %8d %8.2f\n", name, ours, theirs, ours / theirs }'
+}
+
 printf '%-28s %8s %8s %8s\n' 'operation' 'table' 'bare' 'ratio'
 build bench_table bench/atomics.cpp
 line 'load of the count' load 60000000 load 0 1
@@ -59,3 +72,10 @@ line 'store without a card' hide 2000000 hide 0 1
 line 'object traced' trace 100 mesh 100 4096
 line 'clean card passed over' look 100000 look 0 256
 line 'block swept' sweep 10000 drain 10000 64
+build bench_cycle bench/cycles.cpp
+stop 'stop, 64 cells, empty' empty 64 10000
+stop 'stop, 64 cells, live' live 64 1000
+stop 'stop, 64 cells, dead' dead 64 1000
+stop 'stop, 65536 cells, empty' empty 65536 100
+stop 'stop, 65536 cells, live' live 65536 10
+stop 'stop, 65536 cells, dead' dead 65536 10

@@ -1,7 +1,7 @@
 -- A mutator that stopped the world and looks for a block in it.
-use Rattle.std.proofs.Common.{ℕ, ◌≡◌, List, [], ◌∷◌, ◌++◌, refl, sym, ap, ◌∙◌, subst, true, false, not, ◌&&◌, Option, Some, None, is_some, inl, inr, ◌⊎◌}
-use Rattle.std.specs.Prelude.{◌==◌, Bool, IfNone, IfSome}
-use Rattle.std.proofs.lemmas.Bool.{and_from, and_parts, false≢true, not-true, or_right}
+use Rattle.std.proofs.Common.{ℕ, ◌≡◌, List, [], ◌++◌, refl, sym, ap, ◌∙◌, subst, true, false, not, ◌&&◌, Option, Some, None, is_some, inl, inr, ◌⊎◌}
+use Rattle.std.specs.Prelude.{IfNone, IfSome}
+use Rattle.std.proofs.lemmas.Bool.{and_from, false≢true, not-true, or_right}
 use Rattle.std.proofs.lemmas.List.{append-nil, append_assoc}
 use Rattle.mark_core.specs.Seats.{is_the, phase_number}
 use Rattle.mark_core.specs.Effects.{seat_after}
@@ -13,7 +13,7 @@ use Rattle.mark_core.specs.declared.kinds.Shape.{Shape}
 use Rattle.mark_core.specs.declared.kinds.Step.{Step}
 use Rattle.mark_core.specs.declared.kinds.Step.TheVariants.{AddStat, ClaimBlock, JoinHelpStep, LeaveHelpStep, ReadFree, ReleaseBlock}
 use Rattle.mark_core.specs.declared.seat.SeatState.{SeatState}
-use Rattle.gc_table.specs.Log.{all_steps, events, Only}
+use Rattle.gc_table.specs.Log.{events, Only}
 use Rattle.gc_table.specs.Rule.{KnowsFull}
 use Rattle.gc_table.specs.Running.{ends_alone, Ran}
 use Rattle.gc_table.specs.declared.view.Entry.{Entry}
@@ -33,7 +33,7 @@ use Rattle.gc_cycle.specs.Mutating.{keeps_section}
 use Rattle.gc_cycle.specs.Polling.{saw_full}
 use Rattle.gc_cycle.specs.Refilling.{ClaimsAlone, EndsClaimed, MayResume, prepares, RestsAlone}
 use Rattle.gc_cycle.specs.Sorts.{moves_to, raises_flag, reads_phase, tells_full}
-use Rattle.gc_cycle.specs.Sparing.{done_count, spares_part}
+use Rattle.gc_cycle.specs.Sparing.{spares_part}
 use Rattle.gc_cycle.specs.Standing.{is_at_rest}
 use Rattle.gc_cycle.proofs.Causes.{after-earlier, after-join, after-none, fill-later}
 use Rattle.gc_cycle.proofs.Collected.{finishes-keep, full-alone}

@@ -50,7 +50,7 @@ use Rattle.gc_cycle.proofs.Causes.{caused-stops, done-stops, failed-stops, fills
 use Rattle.gc_cycle.proofs.Collected.{calm-spares}
 use Rattle.gc_cycle.proofs.Fulls.{found-low, phase-seen}
 use Rattle.gc_cycle.proofs.Goings.{calm-keeps, keeps-seat, keeps-section}
-use Rattle.gc_cycle.proofs.Paced.{cycle-kept, full-kept, paced-later, paced-searched, seeks-prepare, steady-marking}
+use Rattle.gc_cycle.proofs.Paced.{cycle-kept, full-kept, paced-later, paced-searched, steady-marking}
 use Rattle.gc_cycle.proofs.Sequences.{none-of-steps, some-none}
 
 pub on-false : {P : Type 0} (b : Bool) → P → OnFalse b P

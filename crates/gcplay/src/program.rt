@@ -14,7 +14,7 @@ ghost use Rattle.plain_heap.specs.Sections.{Sections};
 use crate::commands::do_command;
 use crate::status::Status;
 use command_words::command_of;
-use play_contract::Gate;
+use gc_play::Gate;
 use play_report::{Sink, Source, write_usage};
 use std::alloc::Global;
 use std::sync::Wait;

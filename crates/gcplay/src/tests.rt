@@ -4,7 +4,7 @@
 //! - `converts`, `made`: the commands `convert` and `gen`. `words`: words that ask for nothing.
 //! - `failing`: reads and writes that fail, and the longest source.
 //! - `played`: what a play writes. `long`: long plays, whose texts are built from `pieces`. `placed`: where objects lie.
-//! - `extremes`: options that change nothing.
+//! - `extremes`: options that change nothing. `folded`: a generated script beside heaps that forget nothing.
 ghost use Rattle.std.specs.Prelude.{◌<◌};
 
 mod converts;
@@ -13,6 +13,7 @@ mod edges;
 mod extremes;
 mod failing;
 mod faults;
+mod folded;
 mod long;
 mod made;
 mod pieces;
@@ -21,7 +22,7 @@ mod played;
 mod words;
 
 use crate::program::play_words;
-use play_contract::OpenGate;
+use gc_play::OpenGate;
 use play_report::{MemorySink, MemorySource};
 use std::alloc::{AllocError, Global};
 use std::process::Abort;

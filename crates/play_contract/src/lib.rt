@@ -1,17 +1,16 @@
 //! What a play of a script is given, and what it has to answer.
 //!
-//! A play takes the sections of a script through a heap of so many cells. However it does it, on one thread or on many, with
-//! cells that are used again or not, its answer has to be that of heaps which forget nothing. So the statement stands here,
-//! apart from every way to meet it, and the program above cites no more than this.
+//! A play takes the sections of a script through a heap of so many cells. On however many threads it
+//! does so, and however it finds the cells that it uses again, its answer has to be that of heaps which forget nothing. So the
+//! statement stands here, apart from every way to meet it, and the program above cites no more than this.
 //!
 //! - [`Options`] say how a script is to be played; `AreInRange` in `specs/Playing.antt` says which there may be.
-//! - A [`Gate`] looks on while sections are played. It changes nothing: no answer speaks of it.
 //! - [`PlayError`] is what comes in place of a report.
 //! - `PlayAnswers` in `specs/Playing.antt` is the statement. A report has each section's transcript and dropped stores, exactly
 //!   the objects that are reachable at the end, and for each object a cell in which no object lay that was reachable when it was
 //!   made. `Full` has positions at which the reachable objects fill all cells, so that a `new` there can find none.
 //!
-//! A play is a function with this contract:
+//! A play is a function with this contract, where a gate looks on while sections are played and changes nothing:
 //!
 //!     pub fn play<'a, R: Threads + Wait + Sync, G: Gate + Sync>(rt: &R, alloc: Global, script: &Script<'a>, options: &Options, gate: &G)
 //!         -> Result<Report<'a>, PlayError>
@@ -20,9 +19,7 @@
 #![tactic(auto)]
 
 mod error;
-mod gate;
 mod options;
 
 pub use error::PlayError;
-pub use gate::{Gate, OpenGate};
 pub use options::{Options, USUAL};

@@ -38,6 +38,7 @@ pub fn close_played<'a>(
     requires parts { AreParts script.now.sections seats.items parts.items }
     ensures report { IfOk result (λ r. IsReport script.now.sections heap.shape.cells r.0) }
     ensures words { IfOk result (λ r. IsEnd heap.shape seats.items r.1) }
+    ensures parts { IfOk result (λ r. AreParts script.now.sections seats.items r.0.parts.items) }
 {
     see_limits(script);
     see_ranges(script);

@@ -11,7 +11,7 @@ use Rattle.mark_core.specs.declared.kinds.Phase.{Phase}
 use Rattle.mark_core.specs.declared.kinds.Phase.TheVariants.{Idle, Marking, Drain, Sweep, Clear, Full}
 use Rattle.mark_core.specs.declared.kinds.Shape.{Shape}
 use Rattle.mark_core.specs.declared.kinds.Step.{Step}
-use Rattle.mark_core.specs.declared.kinds.Step.TheVariants.{ClaimBlock, DropStep, JoinHelpStep, LeaveHelpStep, LeaveStep, Observe, RaiseStep, ReadCat, ReadOwn, ReadPhase, StorePhase}
+use Rattle.mark_core.specs.declared.kinds.Step.TheVariants.{DropStep, JoinHelpStep, LeaveHelpStep, LeaveStep, Observe, RaiseStep, ReadPhase}
 use Rattle.mark_core.specs.declared.seat.SeatState.{SeatState}
 use Rattle.gc_table.specs.Log.{Only, all_steps, event, events}
 use Rattle.gc_table.specs.Rule.{KnowsFull}

@@ -8,10 +8,10 @@ ghost use Rattle.gcplay.specs.Ending.{TextEnds};
 ghost use Rattle.play_contract.specs.Playing.{AreInRange};
 
 use crate::status::Status;
-use cell_play::play;
+use gc_play::{Gate, play};
 use gc_script::{Script, read};
 use load_gen::generate;
-use play_contract::{Gate, Options, PlayError};
+use play_contract::{Options, PlayError};
 use play_report::{Sink, write_full, write_load};
 use std::alloc::Global;
 use std::sync::Wait;

@@ -1,7 +1,7 @@
 //! Reads and writes that fail, and the longest source.
 use crate::program::play_words;
 use crate::tests::{CONVERT, FIRST, Outside, RUN, answer_of, words_of};
-use play_contract::OpenGate;
+use gc_play::OpenGate;
 use play_report::{CountSink, SureSource};
 use std::alloc::{AllocError, Global};
 use std::process::Abort;

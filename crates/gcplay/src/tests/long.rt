@@ -1,5 +1,5 @@
 //! Long plays: full heaps, deep chains, cells that are used again and again.
-use crate::tests::pieces::Piece::{Objects as Lines, Times, Warehouses};
+use crate::tests::pieces::Piece::{InEach, Objects as Lines, Times, Warehouses};
 use crate::tests::pieces::{Objects, Piece, built};
 use crate::tests::{RUN, answers};
 use std::test::Fail;
@@ -13,7 +13,7 @@ type Row = (
 
 const SMALL: &[&str] = &["run", "--cells", "64"];
 
-const ROWS: [Row; 7] = [
+const ROWS: [Row; 8] = [
     // All cells are reachable.
     (
         SMALL,
@@ -115,6 +115,19 @@ const ROWS: [Row; 7] = [
                 count: 40,
                 values: &[1],
             }),
+        ],
+    ),
+    // Each of 31 warehouses has a worker, and all share one block of cells, which are few more than may be reachable.
+    (
+        &["run", "--cells", "64", "--workers", "31"],
+        &[
+            Times(1, "gcscript 1\n"),
+            Times(31, "warehouse\nnew a 1\nrepeat 100\nnew b 2\nend\n"),
+        ],
+        &[
+            Warehouses(31, ""),
+            Times(1, "survivors 62\n"),
+            InEach(31, &[(0, 1), (100, 2)]),
         ],
     ),
     // A chain of 65,000 objects.

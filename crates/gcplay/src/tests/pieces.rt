@@ -10,6 +10,8 @@ pub enum Piece<'a> {
     Warehouses(u32, &'a str),
     /// One line for each object of a section.
     Objects(Objects<'a>),
+    /// One line for each of the same objects of so many warehouses, each with its number and value.
+    InEach(u32, &'a [(u32, u32)]),
 }
 
 /// Objects of a section: so many numbers from the first on, each so far behind the one before, and the values in turn.
@@ -64,11 +66,28 @@ fn push_objects(alloc: Global, text: &mut String, objects: &Objects<'_>) -> Resu
     Ok(())
 }
 
+fn push_in_each(
+    alloc: Global,
+    text: &mut String,
+    warehouses: u32,
+    objects: &[(u32, u32)],
+) -> Result<(), AllocError> {
+    for i in 0..warehouses {
+        let section = u64::from(i) + 1;
+        for (number, value) in objects {
+            let line = format!(in alloc; "{section} {number} {value}\n")?;
+            text.push_str(line.as_str())?;
+        }
+    }
+    Ok(())
+}
+
 fn push_piece(alloc: Global, text: &mut String, piece: &Piece<'_>) -> Result<(), AllocError> {
     match piece {
         Piece::Times(count, lines) => push_times(text, *count, lines),
         Piece::Warehouses(count, said) => push_warehouses(alloc, text, *count, said),
         Piece::Objects(objects) => push_objects(alloc, text, objects),
+        Piece::InEach(warehouses, objects) => push_in_each(alloc, text, *warehouses, objects),
     }
 }
 

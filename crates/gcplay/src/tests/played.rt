@@ -4,7 +4,7 @@ use crate::tests::{FIRST, Outside, RUN, answer_of, answers};
 use std::test::Fail;
 
 /// The words, the source, the status and the text.
-const ROWS: [(&[&str], &[u8], u8, &[u8]); 19] = [
+const ROWS: [(&[&str], &[u8], u8, &[u8]); 18] = [
     (
         RUN,
         FIRST,
@@ -107,12 +107,6 @@ const ROWS: [(&[&str], &[u8], u8, &[u8]); 19] = [
         b"",
         0,
         b"commands 32\nobjects 0\nlines 0\nsurvivors 0\ntotal 0\n",
-    ),
-    (
-        &["load", "--number", "7", "--size", "20000"],
-        b"",
-        0,
-        b"commands 80000\nobjects 25806\nlines 1248\nsurvivors 15\ntotal 7091\n",
     ),
 ];
 

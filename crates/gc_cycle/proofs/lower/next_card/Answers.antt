@@ -3,7 +3,7 @@ use Rattle.std.specs.Prelude.{nat_le, nat_lt, if◌then◌else◌, ◌||◌, ◌
 use Rattle.std.proofs.lemmas.Bool.{and_from, false≢true, le-leb, ltb-false, ltb-true, or_left, or_right}
 use Rattle.mark_core.specs.Layout.{card_count}
 use Rattle.mark_core.specs.declared.kinds.Step.{Step}
-use Rattle.mark_core.specs.declared.kinds.Step.TheVariants.{ClearCard, NextOfCards, Pop, ReadField, ReadRoot, ReadStat}
+use Rattle.mark_core.specs.declared.kinds.Step.TheVariants.{ClearCard, NextOfCards, Pop, ReadField, ReadRoot}
 use Rattle.mark_core.specs.WorldSteps.{has_nothing}
 use Rattle.mark_core.specs.declared.kinds.Phase.TheVariants.{Drain}
 use Rattle.mark_core.specs.declared.kinds.Shape.{Shape}

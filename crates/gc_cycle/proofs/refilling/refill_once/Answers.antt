@@ -1,12 +1,8 @@
-use Rattle.std.proofs.Common.{◌≡◌, None, Some, ap, subst, sym}
-use Rattle.mark_core.specs.declared.kinds.Phase.TheVariants.{Marking}
-use Rattle.gc_table.specs.Log.{events}
 use Rattle.gc_table.specs.Seats.{view_of}
 use Rattle.gc_table.specs.declared.view.View.{View}
 use Rattle.gc_table.proofs.Running.{ran-join}
 use Rattle.gc_cycle.specs.Answering.{answers}
 use Rattle.gc_cycle.specs.Mutating.{stays_calm}
-use Rattle.gc_cycle.specs.Refilling.{IsPaced}
 use Rattle.gc_table.proofs.Log.{only-more}
 use Rattle.gc_cycle.proofs.Answered.{answers-calm, full-later}
 use Rattle.gc_cycle.proofs.Rounds.{calm-stops, later-some, leads-caused, leads-join, leads-looked, leads-prepared, leads-stops, looked-seen, marked-stops, marking-known, paced-after, round-calm, round-later}

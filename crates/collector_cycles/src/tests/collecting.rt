@@ -1,0 +1,191 @@
+//! A mutator that finds no block collects: what it doesn't reach is free again, and where it reaches all the heap is full.
+ghost use Rattle.std.specs.Prelude.{IfNone, IfSome};
+ghost use Rattle.collector_cycles.specs.Seats.{Carries, Fills};
+
+use super::SMALL;
+use super::checks::{is_ready, may_call};
+use super::objects::{chain, forget, free_cells, link, make, take};
+use super::opening::{next_seat, open};
+use super::seasons::begin;
+use alloc_cache::{Cache, retire};
+use gc_cycle::{Paid, Refill, Safe, collect, refill};
+use gc_table::{Heap, HeapSeat};
+use mark_core::Phase;
+use std::sync::Wait;
+
+/// A cache and what was paid for it, for a mutator that has done `done` commands.
+pub fn refills<R: Wait>(
+    rt: &R,
+    heap: &Heap,
+    seat: &mut HeapSeat,
+    done: u32,
+) -> Option<(Cache, Paid)>
+    requires { Carries heap.now seat.old }
+    ensures some { IfSome result (λ r. Fills heap.now seat.new r.0) }
+    ensures none { IfNone result (Carries heap.now seat.new) }
+{
+    if !may_call(heap, seat) || seat.state().cache.is_some() {
+        return None;
+    }
+    match refill(rt, heap, seat, done) {
+        Refill::Full => None,
+        Refill::Cache(cache, paid) => {
+            heap.read_season(seat);
+            if is_ready(heap, seat) {
+                return Some((cache, paid));
+            }
+            retire(heap, seat, cache);
+            None
+        }
+    }
+}
+
+/// Whether the heap is full for a mutator that has done `done` commands.
+fn finds_full<R: Wait>(rt: &R, heap: &Heap, seat: &mut HeapSeat, done: u32) -> bool
+    requires { Carries heap.now seat.old }
+    ensures { Carries heap.now seat.new }
+{
+    if !may_call(heap, seat) || seat.state().cache.is_some() {
+        return false;
+    }
+    match refill(rt, heap, seat, done) {
+        Refill::Full => true,
+        Refill::Cache(cache, _paid) => {
+            retire(heap, seat, cache);
+            false
+        }
+    }
+}
+
+/// A collection: true where the mutator goes on.
+pub fn collects<R: Wait>(rt: &R, heap: &Heap, seat: &mut HeapSeat) -> bool
+    requires { Carries heap.now seat.old }
+    ensures { Carries heap.now seat.new }
+{
+    if !may_call(heap, seat) || seat.state().cache.is_some() {
+        return false;
+    }
+    match collect(rt, heap, seat, 0) {
+        Safe::Going(None) => true,
+        Safe::Going(Some(cache)) => {
+            retire(heap, seat, cache);
+            false
+        }
+        Safe::Full => false,
+    }
+}
+
+/// Makes 64 objects, each stored in variable 0: how many were made.
+fn fill(heap: &Heap, seat: &mut HeapSeat, cache: &mut Cache) -> u32
+    requires { Fills heap.now seat.old cache.old }
+    ensures { Fills heap.now seat.new cache.new }
+{
+    let mut made = 0u32;
+    for n in 0..64 {
+        if make(heap, seat, cache, 0, n) {
+            made = made.wrapping_add(1);
+        }
+    }
+    made
+}
+
+/// The free cells of the cache that a mutator gets when all but one object of the block are garbage.
+fn refills_after_garbage<R: Wait>(rt: &R, heap: &Heap, seat: &mut HeapSeat) -> Option<u32>
+    requires { Carries heap.now seat.old }
+{
+    let mut cache = take(heap, seat)?;
+    let made = fill(heap, seat, &mut cache);
+    retire(heap, seat, cache);
+    if made != 64 {
+        return None;
+    }
+    let (cache, _paid) = refills(rt, heap, seat, 193)?;
+    let free = cache.free();
+    retire(heap, seat, cache);
+    Some(free)
+}
+
+/// The phase, the section that is named, and its position, once all 64 objects of a chain fill the heap.
+fn fills_up<R: Wait>(rt: &R, heap: &Heap, seat: &mut HeapSeat) -> Option<(Phase, u64, u64)>
+    requires { Carries heap.now seat.old }
+{
+    if heap.shape().sections < 2
+        || chain(heap, seat, 64) != 64
+        || !finds_full(rt, heap, seat, 193)
+    {
+        return None;
+    }
+    let phase = heap.read_phase(seat);
+    let named = heap.read_stat(seat, 7);
+    let position = heap.read_stat(seat, 9);
+    Some((phase, named, position))
+}
+
+/// Makes two objects that refer to each other, which no variable names.
+fn make_ring(heap: &Heap, seat: &mut HeapSeat) -> bool
+    requires { Carries heap.now seat.old }
+    ensures { Carries heap.now seat.new }
+{
+    let Some(mut cache) = take(heap, seat) else {
+        return false;
+    };
+    let first = make(heap, seat, &mut cache, 0, 1);
+    let second = make(heap, seat, &mut cache, 1, 2);
+    link(heap, seat, &cache, 0, 1);
+    link(heap, seat, &cache, 1, 0);
+    forget(heap, seat, &cache, 0);
+    forget(heap, seat, &cache, 1);
+    retire(heap, seat, cache);
+    first && second
+}
+
+/// The free cells before a collection and after it.
+fn frees_ring<R: Wait>(rt: &R, heap: &Heap, seat: &mut HeapSeat) -> Option<(u32, u32)>
+    requires { Carries heap.now seat.old }
+{
+    if !make_ring(heap, seat) {
+        return None;
+    }
+    let before = free_cells(heap, seat)?;
+    if !collects(rt, heap, seat) {
+        return None;
+    }
+    let after = free_cells(heap, seat)?;
+    Some((before, after))
+}
+
+#[test]
+fn a_refill_frees_what_no_variable_names(rt: HostRuntime) {
+    let Some((heap, mut seats)) = open(rt.alloc(), SMALL, 2) else {
+        panic!(&rt; "memory")
+    };
+    let mut zero = next_seat(&heap, &mut seats, 0);
+    let mut one = next_seat(&heap, &mut seats, 1);
+    let begun = begin(&rt, &heap, &mut zero, &mut one);
+    assert!(&rt; begun);
+    assert!(&rt; refills_after_garbage(&rt, &heap, &mut one) == Some(63));
+}
+
+#[test]
+fn a_heap_is_full_of_reachable_objects(rt: HostRuntime) {
+    let Some((heap, mut seats)) = open(rt.alloc(), SMALL, 2) else {
+        panic!(&rt; "memory")
+    };
+    let mut zero = next_seat(&heap, &mut seats, 0);
+    let mut one = next_seat(&heap, &mut seats, 1);
+    let begun = begin(&rt, &heap, &mut zero, &mut one);
+    assert!(&rt; begun);
+    assert!(&rt; fills_up(&rt, &heap, &mut one) == Some((Phase::Full, 1, 193)));
+}
+
+#[test]
+fn a_collection_frees_a_ring(rt: HostRuntime) {
+    let Some((heap, mut seats)) = open(rt.alloc(), SMALL, 2) else {
+        panic!(&rt; "memory")
+    };
+    let mut zero = next_seat(&heap, &mut seats, 0);
+    let mut one = next_seat(&heap, &mut seats, 1);
+    let begun = begin(&rt, &heap, &mut zero, &mut one);
+    assert!(&rt; begun);
+    assert!(&rt; frees_ring(&rt, &heap, &mut one) == Some((62, 64)));
+}

@@ -1,0 +1,213 @@
+//! A seat outside helps a stop: it traces in its drain, and sweeps in its sweep.
+ghost use Rattle.std.specs.Prelude.{◌<◌, ◌*◌, IsFalse, IsTrue};
+ghost use Rattle.std.specs.Bool.{OnTrue};
+ghost use Rattle.mark_core.specs.Places.{the_phase};
+ghost use Rattle.mark_core.specs.declared.kinds.Phase.TheVariants.{Drain, Marking, Sweep};
+ghost use Rattle.gc_table.specs.Running.{Alone, Known};
+ghost use Rattle.gc_table.specs.Seats.{Sits, view_of};
+ghost use Rattle.gc_table.specs.Stopping.{has_moved};
+ghost use Rattle.gc_table.specs.Trials.{At, resting};
+ghost use Rattle.card_clean.specs.Drained.{IsBeforeSweep, IsDrained, IsRooted};
+ghost use Rattle.collector_cycles.specs.Seats.{Carries, flagged};
+
+use super::SMALL;
+use super::checks::{holds_nothing, is_bare, is_done, is_free, may_help};
+use super::objects::chain;
+use super::opening::{next_seat, open};
+use super::seasons::{begin, marks, raises_own};
+use card_clean::{is_drained, see_to_roots};
+use gc_cycle::{HelpEnd, Helped, help};
+use gc_table::{Heap, HeapSeat};
+use mark_core::Phase;
+use std::sync::Wait;
+use stop_world::{await_stopped, close_help, join_help, leave, leave_help, open_help};
+
+/// What a seat did that was let in to help: nothing where help was closed.
+pub fn helps(heap: &Heap, seat: &mut HeapSeat, quota: u32) -> Option<Helped>
+    requires quota { 16 * quota < 4294967296 }
+    requires seat { Sits heap.now seat.old }
+    ensures { Sits heap.now seat.new }
+{
+    if !is_bare(seat) || !join_help(heap, seat) || !may_help(heap, seat) {
+        return None;
+    }
+    let helped = help(heap, seat, quota);
+    if !is_done(heap, seat) {
+        return None;
+    }
+    leave_help(heap, seat);
+    Some(helped)
+}
+
+/// Makes a chain of ten objects, begins marking, and leaves.
+fn leaves_marking(heap: &Heap, seat: &mut HeapSeat) -> bool
+    requires { Carries heap.now seat.old }
+    ensures { Sits heap.now seat.new }
+{
+    if chain(heap, seat, 10) != 10 || !marks(heap, seat) {
+        return false;
+    }
+    if !seat.state().active || !is_free(heap, seat) {
+        return false;
+    }
+    leave(heap, seat);
+    true
+}
+
+/// Waits for the stop: true where a cycle was marking.
+fn stops_marking<R: Wait>(rt: &R, heap: &Heap, seat: &mut HeapSeat) -> bool
+    requires { At heap.now flagged 0 seat.old × IsFalse (has_moved (view_of seat.old).log) }
+    ensures { OnTrue result (Sits heap.now seat.new × Alone Marking (view_of seat.new)) }
+{
+    await_stopped(rt, heap, seat);
+    match seat.state().phase_seen {
+        Some(Phase::Marking) => true,
+        _ => false,
+    }
+}
+
+/// Begins a drain, in which no block was handed out.
+fn drains(heap: &Heap, seat: &mut HeapSeat)
+    requires { Sits heap.now seat.old × Alone Marking (view_of seat.old) }
+    ensures { Sits heap.now seat.new × IsBeforeSweep (view_of seat.new) }
+{
+    heap.store_phase(seat, Phase::Drain);
+    heap.reset(seat, 1);
+}
+
+/// Lets others help in the drain.
+fn opens(heap: &Heap, seat: &mut HeapSeat)
+    requires seat { Sits heap.now seat.old × Alone Drain (view_of seat.old) }
+    requires closed { IsFalse (view_of seat.old).state.opened }
+    ensures { Sits heap.now seat.new × Known (view_of seat.new) the_phase 2 }
+{
+    open_help(heap, seat);
+}
+
+/// Sees to all roots, where no block was handed out.
+fn scans_all(heap: &Heap, seat: &mut HeapSeat) -> bool
+    requires { Sits heap.now seat.old × IsBeforeSweep (view_of seat.old) }
+    ensures { OnTrue result (Sits heap.now seat.new × IsRooted (view_of seat.new)) }
+{
+    holds_nothing(seat) && see_to_roots(heap, seat)
+}
+
+/// Begins the drain, scans all roots, and lets others help.
+fn opens_drain(heap: &Heap, seat: &mut HeapSeat) -> bool
+    requires { Sits heap.now seat.old × Alone Marking (view_of seat.old) }
+    ensures { OnTrue result (Sits heap.now seat.new × Known (view_of seat.new) the_phase 2) }
+{
+    drains(heap, seat);
+    if !scans_all(heap, seat) || seat.state().opened {
+        return false;
+    }
+    opens(heap, seat);
+    true
+}
+
+/// Closes the drain to others. No block was handed out in it.
+fn closes<R: Wait>(rt: &R, heap: &Heap, seat: &mut HeapSeat)
+    requires seat { Sits heap.now seat.old × Known (view_of seat.old) the_phase 2 }
+    requires opened { IsTrue (view_of seat.old).state.opened }
+    ensures { Sits heap.now seat.new × Alone Drain (view_of seat.new) }
+{
+    close_help(rt, heap, seat);
+}
+
+/// The counter of blocks begins again.
+fn resets(heap: &Heap, seat: &mut HeapSeat)
+    requires { Sits heap.now seat.old × Alone Drain (view_of seat.old) }
+    ensures { Sits heap.now seat.new × IsBeforeSweep (view_of seat.new) }
+{
+    heap.reset(seat, 1);
+}
+
+/// Whether the drain ends: all roots are seen to, every card is clean, and every packet is empty.
+fn drained(heap: &Heap, seat: &mut HeapSeat) -> bool
+    requires { Sits heap.now seat.old × IsBeforeSweep (view_of seat.old) }
+    ensures { OnTrue result (Sits heap.now seat.new × IsDrained (view_of seat.new)) }
+{
+    holds_nothing(seat) && see_to_roots(heap, seat) && is_drained(heap, seat)
+}
+
+fn begins_sweep(heap: &Heap, seat: &mut HeapSeat)
+    requires { Sits heap.now seat.old × IsDrained (view_of seat.old) }
+    ensures { Sits heap.now seat.new × Alone Sweep (view_of seat.new) }
+{
+    heap.store_phase(seat, Phase::Sweep);
+}
+
+/// Lets others help in the sweep.
+fn opens_blocks(heap: &Heap, seat: &mut HeapSeat)
+    requires seat { Sits heap.now seat.old × Alone Sweep (view_of seat.old) }
+    requires closed { IsFalse (view_of seat.old).state.opened }
+{
+    open_help(heap, seat);
+}
+
+/// Closes the drain to others, and begins the sweep, which it opens to them.
+fn opens_sweep<R: Wait>(rt: &R, heap: &Heap, seat: &mut HeapSeat) -> bool
+    requires { Sits heap.now seat.old × Known (view_of seat.old) the_phase 2 }
+{
+    if !seat.state().opened {
+        return false;
+    }
+    closes(rt, heap, seat);
+    resets(heap, seat);
+    if !drained(heap, seat) {
+        return false;
+    }
+    begins_sweep(heap, seat);
+    if seat.state().opened {
+        return false;
+    }
+    opens_blocks(heap, seat);
+    true
+}
+
+/// What seat 1 does as a helper of seat 0's stop, in its drain and in its sweep.
+fn shares<R: Wait>(
+    rt: &R,
+    heap: &Heap,
+    zero: &mut HeapSeat,
+    one: &mut HeapSeat,
+) -> Option<(Helped, Helped)>
+    requires { At heap.now resting 0 zero.old × Carries heap.now one.old }
+{
+    if !leaves_marking(heap, one) || !raises_own(heap, zero, 0) || !stops_marking(rt, heap, zero) {
+        return None;
+    }
+    if !opens_drain(heap, zero) {
+        return None;
+    }
+    let drained = helps(heap, one, 100)?;
+    if !opens_sweep(rt, heap, zero) {
+        return None;
+    }
+    let swept = helps(heap, one, 100)?;
+    Some((drained, swept))
+}
+
+#[test]
+fn a_seat_that_waits_traces_and_sweeps(rt: HostRuntime) {
+    let Some((heap, mut seats)) = open(rt.alloc(), SMALL, 2) else {
+        panic!(&rt; "memory")
+    };
+    let mut zero = next_seat(&heap, &mut seats, 0);
+    let mut one = next_seat(&heap, &mut seats, 1);
+    let begun = begin(&rt, &heap, &mut zero, &mut one);
+    assert!(&rt; begun);
+    let drained = Helped {
+        traced: 10,
+        rescanned: 0,
+        swept: 0,
+        ended: HelpEnd::NoWork,
+    };
+    let swept = Helped {
+        traced: 0,
+        rescanned: 0,
+        swept: 1,
+        ended: HelpEnd::Swept,
+    };
+    assert!(&rt; shares(&rt, &heap, &mut zero, &mut one) == Some((drained, swept)));
+}

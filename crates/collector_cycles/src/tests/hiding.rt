@@ -1,0 +1,140 @@
+//! A store hides an unmarked object behind a clean card, while a cycle is marking: the end of the cycle keeps it.
+ghost use Rattle.collector_cycles.specs.Seats.{Carries, Fills};
+
+use super::SMALL;
+use super::checks::may_trace;
+use super::collecting::refills;
+use super::objects::{forget, link, make, take, walk};
+use super::opening::{next_seat, open};
+use super::seasons::{begin, marks};
+use alloc_cache::{Cache, retire};
+use card_clean::next_card;
+use gc_table::{Heap, HeapSeat};
+use mark_core::Phase;
+use std::sync::Wait;
+use tracer::{scan_roots, trace};
+
+/// Makes an object with value 7 in variable 0.
+fn make_first(heap: &Heap, seat: &mut HeapSeat) -> bool
+    requires { Carries heap.now seat.old }
+    ensures { Carries heap.now seat.new }
+{
+    let Some(mut cache) = take(heap, seat) else {
+        return false;
+    };
+    let made = make(heap, seat, &mut cache, 0, 7);
+    retire(heap, seat, cache);
+    made
+}
+
+/// Marks the roots and traces: how many objects were scanned.
+fn traces(heap: &Heap, seat: &mut HeapSeat) -> Option<u32>
+    requires { Carries heap.now seat.old }
+    ensures { Carries heap.now seat.new }
+{
+    if heap.shape().sections < 2 || !may_trace(heap, seat) {
+        return None;
+    }
+    scan_roots(heap, seat, 1);
+    if !may_trace(heap, seat) {
+        return None;
+    }
+    Some(trace(heap, seat, 100).done)
+}
+
+/// The next card of the pass.
+fn draws(heap: &Heap, seat: &mut HeapSeat) -> Option<u32>
+    requires { Carries heap.now seat.old }
+    ensures { Carries heap.now seat.new }
+{
+    if !may_trace(heap, seat) {
+        return None;
+    }
+    next_card(heap, seat)
+}
+
+/// The pass over the four cards ends: whether each was given out.
+fn passes(heap: &Heap, seat: &mut HeapSeat) -> bool
+    requires { Carries heap.now seat.old }
+    ensures { Carries heap.now seat.new }
+{
+    draws(heap, seat) == Some(0)
+        && draws(heap, seat) == Some(1)
+        && draws(heap, seat) == Some(2)
+        && draws(heap, seat) == Some(3)
+        && draws(heap, seat).is_none()
+}
+
+/// Whether the first card is dirty.
+fn is_dirty(heap: &Heap, seat: &mut HeapSeat) -> bool
+    requires { Carries heap.now seat.old }
+    ensures { Carries heap.now seat.new }
+{
+    heap.shape().cells >= 64 && seat.state().active && heap.read_card(seat, 0)
+}
+
+/// Makes a garbage object, and one with value 9 that only a field of the first object leads to.
+fn hide(heap: &Heap, seat: &mut HeapSeat, cache: &mut Cache) -> bool
+    requires { Fills heap.now seat.old cache.old }
+    ensures { Fills heap.now seat.new cache.new }
+{
+    let garbage = make(heap, seat, cache, 1, 8);
+    let hidden = make(heap, seat, cache, 1, 9);
+    link(heap, seat, cache, 0, 1);
+    forget(heap, seat, cache, 1);
+    garbage && hidden
+}
+
+/// The same in a block of its own.
+fn hides(heap: &Heap, seat: &mut HeapSeat) -> bool
+    requires { Carries heap.now seat.old }
+    ensures { Carries heap.now seat.new }
+{
+    let Some(mut cache) = take(heap, seat) else {
+        return false;
+    };
+    let hidden = hide(heap, seat, &mut cache);
+    retire(heap, seat, cache);
+    hidden
+}
+
+/// Whether the first object was scanned, no card was dirty after that, and the store of the second one dirtied its card.
+fn hides_behind(heap: &Heap, seat: &mut HeapSeat) -> bool
+    requires { Carries heap.now seat.old }
+    ensures { Carries heap.now seat.new }
+{
+    make_first(heap, seat)
+        && marks(heap, seat)
+        && traces(heap, seat) == Some(1)
+        && passes(heap, seat)
+        && !is_dirty(heap, seat)
+        && hides(heap, seat)
+        && is_dirty(heap, seat)
+}
+
+/// The free cells of the cache with which the cycle ends, the phase then, and the objects that are left with the sum of their values.
+fn keeps<R: Wait>(rt: &R, heap: &Heap, seat: &mut HeapSeat) -> Option<(u32, Phase, u32, u64)>
+    requires { Carries heap.now seat.old }
+{
+    if !hides_behind(heap, seat) {
+        return None;
+    }
+    let (cache, _paid) = refills(rt, heap, seat, 5)?;
+    let free = cache.free();
+    retire(heap, seat, cache);
+    let phase = heap.read_phase(seat);
+    let (count, total) = walk(heap, seat)?;
+    Some((free, phase, count, total))
+}
+
+#[test]
+fn a_hidden_object_is_kept(rt: HostRuntime) {
+    let Some((heap, mut seats)) = open(rt.alloc(), SMALL, 2) else {
+        panic!(&rt; "memory")
+    };
+    let mut zero = next_seat(&heap, &mut seats, 0);
+    let mut one = next_seat(&heap, &mut seats, 1);
+    let begun = begin(&rt, &heap, &mut zero, &mut one);
+    assert!(&rt; begun);
+    assert!(&rt; keeps(&rt, &heap, &mut one) == Some((62, Phase::Idle, 2, 16)));
+}

@@ -1,0 +1,79 @@
+//! A mutator that takes the last block of a heap begins a cycle, and traces in it.
+ghost use Rattle.collector_cycles.specs.Seats.{Carries};
+
+use super::LARGE;
+use super::collecting::{collects, refills};
+use super::objects::chain;
+use super::opening::{next_seat, open};
+use super::seasons::begin;
+use alloc_cache::retire;
+use gc_cycle::Paid;
+use gc_table::{Heap, HeapSeat};
+use mark_core::Phase;
+use std::sync::Wait;
+use tracer::Stopped;
+
+/// What a refill comes to.
+#[derive(PartialEq, Drop)]
+struct Came {
+    cells: u32,
+    paid: Paid,
+    phase: Phase,
+    free: u64,
+}
+
+/// Makes a chain of 576 objects in nine blocks: whether all were made.
+fn make_chain(heap: &Heap, seat: &mut HeapSeat) -> bool
+    requires { Carries heap.now seat.old }
+    ensures { Carries heap.now seat.new }
+{
+    for _block in 0..9 {
+        if chain(heap, seat, 64) != 64 {
+            return false;
+        }
+    }
+    true
+}
+
+/// What the refill after a collection comes to.
+fn refills_last<R: Wait>(rt: &R, heap: &Heap, seat: &mut HeapSeat) -> Option<Came>
+    requires { Carries heap.now seat.old }
+{
+    if !make_chain(heap, seat) || !collects(rt, heap, seat) {
+        return None;
+    }
+    let (cache, paid) = refills(rt, heap, seat, 0)?;
+    let cells = cache.free();
+    let phase = heap.read_phase(seat);
+    let free = heap.read_stat(seat, 5);
+    retire(heap, seat, cache);
+    Some(Came {
+        cells,
+        paid,
+        phase,
+        free,
+    })
+}
+
+#[test]
+fn the_last_block_is_paid_for(rt: HostRuntime) {
+    let Some((heap, mut seats)) = open(rt.alloc(), LARGE, 2) else {
+        panic!(&rt; "memory")
+    };
+    let mut zero = next_seat(&heap, &mut seats, 0);
+    let mut one = next_seat(&heap, &mut seats, 1);
+    let begun = begin(&rt, &heap, &mut zero, &mut one);
+    assert!(&rt; begun);
+    let paid = Paid {
+        quota: 1_024,
+        done: 576,
+        stopped: Stopped::NoWork,
+    };
+    let wanted = Came {
+        cells: 64,
+        paid,
+        phase: Phase::Marking,
+        free: 0,
+    };
+    assert!(&rt; refills_last(&rt, &heap, &mut one) == Some(wanted));
+}

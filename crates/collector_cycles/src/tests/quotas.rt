@@ -1,0 +1,17 @@
+//! The quota of a cache: the work that is left, shared among the free cells.
+use gc_cycle::quota_of;
+
+#[test]
+fn work_is_shared_among_free_cells(rt: HostRuntime) {
+    assert!(&rt; quota_of(64, 100, 20, 40, 160) == 32);
+}
+
+#[test]
+fn a_quota_is_at_most_sixteen_a_cell(rt: HostRuntime) {
+    assert!(&rt; quota_of(64, 1_000, 0, 0, 0) == 1_024);
+}
+
+#[test]
+fn nothing_is_owed_where_no_work_is_left(rt: HostRuntime) {
+    assert!(&rt; quota_of(64, 10, 0, 10, 50) == 0);
+}

@@ -1,0 +1,180 @@
+//! A thread that waits for the stops of another helps in them: it traces, and it sweeps.
+ghost use Rattle.std.specs.Prelude.{◌<◌};
+ghost use Rattle.gc_table.specs.Seats.{Sits};
+ghost use Rattle.collector_cycles.specs.Seats.{Carries, Fills};
+
+use super::BROAD;
+use super::collecting::collects;
+use super::helping::helps;
+use super::objects::{assign_to, link, make, take, walk};
+use super::opening::{next_seat, open};
+use super::seasons::begin;
+use alloc_cache::{Cache, retire};
+use gc_table::{Heap, HeapSeat};
+use std::sync::Wait;
+use std::sync::atomic::{AtomicBool, Ordering};
+use std::thread::{Threads, join_mut, yield_now};
+
+/// Puts a new object with value n before the chain from variable v along field 0.
+fn grow(heap: &Heap, seat: &mut HeapSeat, cache: &mut Cache, v: u8, n: u32) -> bool
+    requires range { v < 32 }
+    requires fills { Fills heap.now seat.old cache.old }
+    ensures { Fills heap.now seat.new cache.new }
+{
+    if !make(heap, seat, cache, 31, n) {
+        return false;
+    }
+    link(heap, seat, cache, 31, v);
+    assign_to(heap, seat, cache, v, 31);
+    true
+}
+
+/// Puts four objects before each of the chains of variables 0 to 15: how many were made.
+fn grow_all(heap: &Heap, seat: &mut HeapSeat, cache: &mut Cache) -> u32
+    requires { Fills heap.now seat.old cache.old }
+    ensures { Fills heap.now seat.new cache.new }
+{
+    let mut made = 0u32;
+    for n in 0..64 {
+        if grow(heap, seat, cache, (n % 16) as u8, n) {
+            made = made.wrapping_add(1);
+        }
+    }
+    made
+}
+
+/// Grows all chains in a block of its own: whether all objects were made.
+fn grow_block(heap: &Heap, seat: &mut HeapSeat) -> bool
+    requires { Carries heap.now seat.old }
+    ensures { Carries heap.now seat.new }
+{
+    let Some(mut cache) = take(heap, seat) else {
+        return false;
+    };
+    let made = grow_all(heap, seat, &mut cache);
+    retire(heap, seat, cache);
+    made == 64
+}
+
+/// Makes sixteen chains of 36 objects: whether all were made.
+fn make_chains(heap: &Heap, seat: &mut HeapSeat) -> bool
+    requires { Carries heap.now seat.old }
+    ensures { Carries heap.now seat.new }
+{
+    for _block in 0..9 {
+        if !grow_block(heap, seat) {
+            return false;
+        }
+    }
+    true
+}
+
+/// Collects until it is over, but at most 20,000 times: whether the mutator went on each time.
+fn collects_on<R: Wait>(rt: &R, heap: &Heap, seat: &mut HeapSeat, over: &AtomicBool) -> bool
+    requires { Carries heap.now seat.old }
+    ensures { Carries heap.now seat.new }
+{
+    let mut goes_on = true;
+    for _round in 0..20_000 {
+        if over.load(Ordering::SeqCst) || !goes_on {
+            return goes_on;
+        }
+        goes_on = collects(rt, heap, seat);
+    }
+    goes_on
+}
+
+/// The same, and says that it is over.
+fn collects_last<R: Wait>(rt: &R, heap: &Heap, seat: &mut HeapSeat, over: &AtomicBool) -> bool
+    requires { Carries heap.now seat.old }
+    ensures { Carries heap.now seat.new }
+{
+    let goes_on = collects_on(rt, heap, seat, over);
+    over.store(true, Ordering::SeqCst);
+    goes_on
+}
+
+/// Waits and helps until it has traced and swept, or it is over: whether it has done both.
+fn helps_on(heap: &Heap, seat: &mut HeapSeat, over: &AtomicBool) -> bool
+    requires { Sits heap.now seat.old }
+    ensures { Sits heap.now seat.new }
+{
+    let mut has_traced = false;
+    let mut has_swept = false;
+    for _turn in 0..1_000_000_000u32 {
+        if let Some(helped) = helps(heap, seat, 1_024) {
+            has_traced = has_traced || helped.traced > 0;
+            has_swept = has_swept || helped.swept > 0;
+        }
+        if has_traced && has_swept || over.load(Ordering::SeqCst) {
+            return has_traced && has_swept;
+        }
+        yield_now();
+    }
+    false
+}
+
+/// The same, and says that it is over.
+fn helps_last(heap: &Heap, seat: &mut HeapSeat, over: &AtomicBool) -> bool
+    requires { Sits heap.now seat.old }
+    ensures { Sits heap.now seat.new }
+{
+    let has_helped = helps_on(heap, seat, over);
+    over.store(true, Ordering::SeqCst);
+    has_helped
+}
+
+/// What is left after the stops of one thread in which another helps.
+#[derive(PartialEq, Drop)]
+struct Left {
+    goes_on: bool,
+    has_helped: bool,
+    chain: (u32, u64),
+    free: u64,
+}
+
+/// One thread collects until another has traced and swept in its stops.
+fn shares<R: Threads + Wait + Sync>(
+    rt: &R,
+    heap: &Heap,
+    zero: &mut HeapSeat,
+    one: &mut HeapSeat,
+) -> Option<Left>
+    requires { Sits heap.now zero.old × Carries heap.now one.old }
+{
+    if !make_chains(heap, one) {
+        return None;
+    }
+    let over = AtomicBool::new(false);
+    let (goes_on, has_helped) = join_mut(
+        rt,
+        &mut || collects_last(rt, heap, one, &over),
+        &mut || helps_last(heap, zero, &over),
+    );
+    let chain = walk(heap, one)?;
+    let free = heap.read_stat(one, 5);
+    Some(Left {
+        goes_on,
+        has_helped,
+        chain,
+        free,
+    })
+}
+
+#[test]
+fn a_thread_that_waits_traces_and_sweeps(rt: HostRuntime) {
+    let Some((heap, mut seats)) = open(rt.alloc(), BROAD, 2) else {
+        panic!(&rt; "memory")
+    };
+    let mut zero = next_seat(&heap, &mut seats, 0);
+    let mut one = next_seat(&heap, &mut seats, 1);
+    let begun = begin(&rt, &heap, &mut zero, &mut one);
+    assert!(&rt; begun);
+    let wanted = Left {
+        goes_on: true,
+        has_helped: true,
+        chain: (36, 864),
+        free: 15_808,
+    };
+    assert!(&rt; shares(&rt, &heap, &mut zero, &mut one) == Some(wanted));
+}

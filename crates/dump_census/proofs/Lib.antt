@@ -1,0 +1,6 @@
+pub mod Found
+pub mod Rounding
+pub mod Leveling
+pub mod Tally
+pub mod Adding
+pub mod Reached

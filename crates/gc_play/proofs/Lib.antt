@@ -1,0 +1,15 @@
+pub mod Steps
+pub mod Parts
+pub mod Shares
+pub mod Dealt
+pub mod Starting
+pub mod Counting
+pub mod Turning
+pub mod Leaving
+pub mod Catalogues
+pub mod Handing
+pub mod Ending
+pub mod Logs
+pub mod Lending
+pub mod Tending
+pub mod Rounds

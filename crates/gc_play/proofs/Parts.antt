@@ -1,0 +1,93 @@
+-- The part of one section.
+use Rattle.std.proofs.Common.{ℕ, zero, suc, ◌≡◌, ◌+◌, ◌-◌, ◌<◌, length, map, get_or, refl, sym, ap, ◌∙◌, subst, arith}
+use Rattle.std.specs.Prelude.{◌==◌, IsTrue, IsFalse}
+use Rattle.std.specs.List.{list_any}
+use Rattle.mark_core.specs.WorldSteps.{has_nothing}
+use Rattle.mark_core.specs.declared.kinds.Shape.{Shape}
+use Rattle.plain_heap.specs.Sections.{Sections, Parts, section_of, counted, joined, parts_of}
+use Rattle.gc_table.specs.Running.{Ran}
+use Rattle.gc_table.specs.Seats.{Sits, view_of}
+use Rattle.gc_table.specs.declared.seat.Heap.{Heap}
+use Rattle.gc_table.specs.declared.seat.HeapSeat.{HeapSeat}
+use Rattle.gc_table.specs.declared.view.View.{View}
+use Rattle.gc_table.proofs.Running.{ran-shape, ran-plan, ran-number, ran-section}
+use Rattle.mutator_ops.specs.Doing.{lends}
+use Rattle.play_end.specs.Parts.{AreOf}
+use Rattle.play_end.specs.declared.played.Played.{Played}
+use Rattle.play_end.specs.declared.played.Played.TheVariants.{Done, Full}
+use Rattle.warehouse.specs.declared.mutator.Mutator.{Mutator}
+use Rattle.warehouse.specs.Playing.{IsPart, MayPlay}
+use Rattle.gc_cycle.specs.Standing.{IsOut}
+use Rattle.gc_play.specs.Standing.{IsSeated, PlayedTo, Rests, StoppedIn}
+use Rattle.gc_play.specs.Dealing.{number_of, IsWarehouse, OneEnds}
+
+pub counted-long : (from n : ℕ) → length (counted from n) ≡ n
+counted-long from zero = refl
+counted-long from (suc n) = ap (λ k. suc k) (counted-long (from + 1) n)
+
+pub counted-at : (s : Sections) (from n i : ℕ) (d : Parts) → i < n → get_or (map (section_of s) (counted from n)) i d ≡ section_of s (from + i)
+counted-at s from zero i d below = absurd (omega (arith, below))
+counted-at s from (suc n) zero d below = ap (section_of s) (omega arith)
+counted-at s from (suc n) (suc i) d below = counted-at s (from + 1) n i d (omega (arith, below)) ∙ ap (section_of s) (omega arith)
+
+-- a seat at rest, as the calls below ask for it
+pub rests-out : (h : Heap) (x : HeapSeat) → Rests h x → IsOut (view_of x)
+rests-out h x r = record { bare = r.outside; rest = ap (λ (sh : Shape). has_nothing sh (view_of x).state) r.sits.1 ∙ r.idle }
+
+pub out-rests : (h : Heap) (x : HeapSeat) → Sits h x → IsOut (view_of x) → Rests h x
+out-rests h x sits o = record { sits = sits; outside = o.bare; idle = ap (λ (sh : Shape). has_nothing sh (view_of x).state) (sym sits.1) ∙ o.rest }
+
+-- a call leaves the seat of a section that section's
+pub seated-ran : (h : Heap) (s : Sections) (w : ℕ) (x y : HeapSeat) → Ran (view_of x) (view_of y) → Sits h y → IsOut (view_of y) → IsSeated h s w x → IsSeated h s w y
+seated-ran h s w x y r sits out p =
+    let v : View = view_of x in
+    let u : View = view_of y in
+    record {
+      rests = out-rests h y sits out;
+      number = ran-number v u r ∙ p.number;
+      section = ran-section v u r ∙ p.section;
+      plan_is = ran-plan v u r ∙ p.plan_is;
+      fields = ap (λ (sh : Shape). sh.fields) (ran-shape v u r) ∙ p.fields;
+    }
+
+pub are-of : (h : Heap) (s : Sections) (w : ℕ) (x : HeapSeat) → IsSeated h s w x → AreOf s (section_of s w) (view_of x)
+are-of h s w x p = record { same = refl; plan = p.plan_is; fields = p.fields; own = p.section }
+
+-- a section that played the parts before may play the next
+pub may-play : (h : Heap) (s : Sections) (w z : ℕ) (m : Mutator) → 0 < z → (IsTrue (w == 0) → IsFalse (list_any (λ e. lends e.op) (joined (parts_of s w)))) → PlayedTo h s w (z - 1) m → MayPlay h (section_of s w) z m
+may-play h s w z m season alone p = record {
+  season = season;
+  sits = p.seated.rests.sits;
+  out = rests-out h m.seat p.seated.rests;
+  counted = p.counted;
+  room = p.room;
+  lends_is = alone;
+  sections = s;
+  of = are-of h s w m.seat p.seated;
+  before = p.after;
+}
+
+-- how its part ends
+pub part-done : (h : Heap) (s : Sections) (w z : ℕ) (m n : Mutator) → PlayedTo h s w (z - 1) m → IsPart Done h (section_of s w) z m n → PlayedTo h s w z n
+part-done h s w z m n p x = record {
+  seated = seated-ran h s w m.seat n.seat x.ran x.sits x.out p.seated;
+  after = x.plays s (are-of h s w m.seat p.seated) p.after;
+  counted = x.counted;
+  room = x.room refl;
+}
+
+pub part-full : (h : Heap) (s : Sections) (w z : ℕ) (m n : Mutator) → PlayedTo h s w (z - 1) m → IsPart Full h (section_of s w) z m n → StoppedIn h s w z n
+part-full h s w z m n p x =
+    let e = x.plays s (are-of h s w m.seat p.seated) p.after in
+    record { seated = seated-ran h s w m.seat n.seat x.ran x.sits x.out p.seated; at = e.0.0; stopped = e.0.1; full = e.1 }
+
+-- what a part leaves, as one warehouse of the script
+pub one-ends : (r : Played) (h : Heap) (s : Sections) (z : ℕ) (m n : Mutator) (a : Parts) → a ≡ section_of s (number_of m) → IsWarehouse s (number_of m) → PlayedTo h s (number_of m) (z - 1) m → IsPart r h a z m n → OneEnds r h s z n × (number_of n ≡ number_of m)
+one-ends Done h s z m n a f w p x =
+    let q = part-done h s (number_of m) z m n p (subst (λ (y : Parts). IsPart Done h y z m n) f x) in
+    let same : number_of n ≡ number_of m = q.seated.number in
+    (record { warehouse = subst (IsWarehouse s) (sym same) w; played = subst (λ k. PlayedTo h s k z n) (sym same) q }, same)
+one-ends Full h s z m n a f w p x =
+    let q = part-full h s (number_of m) z m n p (subst (λ (y : Parts). IsPart Full h y z m n) f x) in
+    let same : number_of n ≡ number_of m = q.seated.number in
+    (record { warehouse = subst (IsWarehouse s) (sym same) w; stopped = subst (λ k. StoppedIn h s k z n) (sym same) q }, same)

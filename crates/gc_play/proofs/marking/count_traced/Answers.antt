@@ -1,0 +1,10 @@
+use Rattle.mark_core.specs.declared.kinds.Step.TheVariants.{AddStat}
+use Rattle.std.proofs.Common.{false}
+use Rattle.gc_table.specs.Seats.{view_of}
+use Rattle.gc_table.proofs.Log.{events-after}
+use Rattle.gc_play.proofs.marking.count_traced.Goals as goal
+
+pub returns-clause-events : goal.returns-clause-events
+returns-clause-events c =
+    let t = c.add_stat.ensures.view in
+    (t.0, events-after (view_of c.args.seat.now) (view_of c.add_stat.new.seat) (AddStat 4 c.args.by false) t.0 t.1.0)

@@ -1,0 +1,45 @@
+use Rattle.std.proofs.Common.{◌≡◌, ◌-◌, ◌*◌, inl, inr, subst, arith}
+use Rattle.gc_play.specs.Crews.{CatalogueAt, PlaySettles}
+use Rattle.gc_play.specs.Dealing.{EachOne, StandsAt}
+use Rattle.gc_play.proofs.Counting.{some-season}
+use Rattle.gc_play.proofs.playing.play_seasons.Goals as goal
+
+pub settle-requires-clause-parts : goal.settle-requires-clause-parts
+settle-requires-clause-parts g c κs within = (omega (arith, some-season c.args.script.now.sections, c.seasons-all.ensures.same), omega (arith, c.requires.script.few, c.seasons-all.ensures.same))
+
+pub settle-requires-clause-at : goal.settle-requires-clause-at
+settle-requires-clause-at g c κs within =
+    let all : c.loop-before.before ≡ c.seasons-all.result = omega (arith, c.loop-before-test.false, c.loop-before.auto.before-end) in
+    subst (λ n. CatalogueAt c.args.heap.now c.args.script.now.sections n (2 * n - 1) c.loop-before.crew.catalogue) all c.loop-before.invariant.catalogue
+
+pub returns-in-Done-settle-clause-ends : goal.returns-in-Done-settle-clause-ends
+returns-in-Done-settle-clause-ends g c =
+    let h = c.args.heap.now in
+    let s = c.args.script.now.sections in
+    let i = c.loop-before.invariant in
+    let all : c.loop-before.before ≡ c.seasons-all.result = omega (arith, c.loop-before-test.false, c.loop-before.auto.before-end) in
+    let e = subst (λ r. PlaySettles r h s c.seasons-all.result c.settle.new.catalogue) c.in-Done-settle.is c.settle.ensures in
+    (record { catalogue = e.0; dealt = i.dealt; played = subst (λ n. EachOne (StandsAt h s n) c.loop-before.crew.workers.items) all i.played; going = i.going; tracers = i.tracers }, e.1)
+
+pub returns-in-Done-settle-clause-season : goal.returns-in-Done-settle-clause-season
+returns-in-Done-settle-clause-season g c = omega (arith, some-season c.args.script.now.sections, c.seasons-all.ensures.same)
+
+pub returns-in-Full-clause-ends : goal.returns-in-Full-clause-ends
+returns-in-Full-clause-ends g c =
+    let h = c.args.heap.now in
+    let s = c.args.script.now.sections in
+    let i = c.loop-before.invariant in
+    let all : c.loop-before.before ≡ c.seasons-all.result = omega (arith, c.loop-before-test.false, c.loop-before.auto.before-end) in
+    let e = subst (λ r. PlaySettles r h s c.seasons-all.result c.settle.new.catalogue) c.in-Full.is c.settle.ensures in
+    let played : EachOne (StandsAt h s c.seasons-all.result) c.loop-before.crew.workers.items = subst (λ n. EachOne (StandsAt h s n) c.loop-before.crew.workers.items) all i.played in
+    record {
+      season = omega (arith, some-season s, c.seasons-all.ensures.same);
+      catalogue = e.0;
+      dealt = i.dealt;
+      halted = λ k d low j m below. inr (inl (played k d low j m below));
+      known = inl e.1;
+      tracers = i.tracers;
+    }
+
+pub returns-in-Full-clause-season : goal.returns-in-Full-clause-season
+returns-in-Full-clause-season g c = omega (arith, some-season c.args.script.now.sections, c.seasons-all.ensures.same)

@@ -1,0 +1,207 @@
+-- All seats of a play, in the hands of those that play.
+use Rattle.std.specs.Prelude.{ℕ, zero, suc, ◌≡◌, ◌+◌, ◌-◌, ◌*◌, ◌<◌, ◌≤◌, ◌⊎◌, List, [], length, map, All, false, None, Some, IsNone, IsTrue, slice_index_or}
+use Rattle.plain_heap.specs.Sections.{Sections, end_of}
+use Rattle.plain_heap.specs.PlainRun.{plan_of}
+use Rattle.play_report.specs.Report.{printed_of}
+use Rattle.play_report.specs.declared.report.Part.{Part}
+use Rattle.play_report.specs.declared.report.Said.{Said}
+use Rattle.gc_table.specs.Rule.{KnowsFull}
+use Rattle.gc_table.specs.Seats.{Sits, IsFresh, IsOutside, view_of}
+use Rattle.gc_table.specs.declared.seat.Heap.{Heap}
+use Rattle.gc_table.specs.declared.seat.HeapSeat.{HeapSeat}
+use Rattle.gc_table.specs.declared.view.SectionState.{SectionState}
+use Rattle.play_end.specs.Done.{HasPlayed, HasStopped, HasSaid}
+use Rattle.play_end.specs.Ended.{CameTo}
+use Rattle.play_end.specs.declared.played.Played.{Played}
+use Rattle.play_end.specs.declared.played.Played.TheVariants as ends
+use Rattle.warehouse.specs.declared.mutator.Mutator.{Mutator}
+use Rattle.gc_play.specs.declared.crew.Catalogue.{Catalogue}
+use Rattle.gc_play.specs.declared.crew.Catalogue.TheVariants as seats
+use Rattle.gc_play.specs.declared.crew.Crew.{Crew}
+use Rattle.gc_play.specs.declared.season.Ended.{Ended}
+use Rattle.gc_play.specs.declared.season.Ended.TheVariants as plays
+use Rattle.gc_play.specs.declared.workers.Worker.{Worker}
+use Rattle.gc_play.specs.Dealing.{EachOne, IsDealt, StandsAt, HaltsAt, SomeAt}
+use Rattle.gc_play.specs.Standing.{IsSeated, IsTracer, PlayedTo, Rests}
+
+-- each of these is what P says of its number, counted from n
+abbrev pub Numbered : {X : Type 0} → (ℕ → X → Type 0) → ℕ → List X → Type 0
+Numbered {X} P n xs = (i : ℕ) (d : X) → i < length xs → P (n + i) (slice_index_or xs i d)
+
+-- the seat of the heap with this number has done nothing
+pub record IsNew (h : Heap) (s : Sections) (n : ℕ) (x : HeapSeat) : Type 0 where
+  pub sits : Sits h x
+  pub fresh : IsFresh h.shape (plan_of s) n (view_of x)
+  pub sections : h.shape.sections ≡ 1 + length s.warehouses
+  pub fields : h.shape.fields ≡ s.fields
+
+-- a heap that was made for a script, with all its seats
+pub record IsMade (s : Sections) (h : Heap) (xs : List HeapSeat) : Type 0 where
+  pub fields : h.shape.fields ≡ s.fields
+  pub sections : h.shape.sections ≡ 1 + length s.warehouses
+  pub enough : 1 + length s.warehouses ≤ length xs
+
+-- the seat of section 0
+abbrev pub seat_in : Catalogue → HeapSeat
+seat_in (seats.Playing m) = m.seat
+seat_in (seats.Absent x) = x
+
+-- what section 0 came to
+abbrev pub own_of : Catalogue → SectionState
+own_of c = (view_of (seat_in c)).own
+
+-- section 0 may go on after its first z parts, or has no parts
+abbrev pub MayGoOn : Heap → Sections → ℕ → Catalogue → Type 0
+MayGoOn h s z (seats.Playing m) = (IsNone s.catalogue → ⊥) × PlayedTo h s 0 z m
+MayGoOn h s z (seats.Absent x) = IsNone s.catalogue
+
+-- section 0 played its first z parts, and moved the season on so often
+pub record CatalogueAt (h : Heap) (s : Sections) (z moved : ℕ) (c : Catalogue) : Type 0 where
+  pub seated : IsSeated h s 0 (seat_in c)
+  pub played : HasPlayed s 0 z (own_of c)
+  pub moved_is : (own_of c).seasons ≡ moved
+  pub goes_on : MayGoOn h s z c
+
+-- section 0 stopped within part z, since the heap is full
+pub record CatalogueStops (h : Heap) (s : Sections) (z : ℕ) (c : Catalogue) : Type 0 where
+  pub seated : IsSeated h s 0 (seat_in c)
+  pub at : ℕ
+  pub stopped : HasStopped s 0 z at (own_of c)
+  pub full : KnowsFull (view_of (seat_in c))
+
+-- section 0 played its part z, and another stop found the heap full
+pub record CatalogueWaits (h : Heap) (s : Sections) (z : ℕ) (c : Catalogue) : Type 0 where
+  pub seated : IsSeated h s 0 (seat_in c)
+  pub played : HasPlayed s 0 z (own_of c)
+
+-- how the catalogue's part ends
+abbrev pub CatalogueEnds : Played → Heap → Sections → ℕ → ℕ → Catalogue → Type 0
+CatalogueEnds ends.Done h s z moved c = CatalogueAt h s z moved c
+CatalogueEnds ends.Full h s z moved c = CatalogueStops h s z c
+
+-- how a stop between two turns ends
+abbrev pub TurnMoves : Played → Heap → Sections → ℕ → ℕ → Catalogue → Type 0
+TurnMoves ends.Done h s z moved c = CatalogueAt h s z (moved + 1) c
+TurnMoves ends.Full h s z moved c = CatalogueWaits h s z c × KnowsFull (view_of (seat_in c))
+
+-- how a season begins: the turn is the catalogue's again, or that stop found the heap full
+abbrev pub CatalogueStarts : Played → Heap → Sections → ℕ → Catalogue → Type 0
+CatalogueStarts ends.Done h s z c = CatalogueAt h s (z - 1) (2 * z - 2) c
+CatalogueStarts ends.Full h s z c = CatalogueStops h s z c
+
+-- how the last stop ends
+abbrev pub PlaySettles : Played → Heap → Sections → ℕ → Catalogue → Type 0
+PlaySettles ends.Done h s z c = CatalogueAt h s z (2 * z) c × IsTrue (own_of c).settled
+PlaySettles ends.Full h s z c = CatalogueWaits h s z c × KnowsFull (view_of (seat_in c))
+
+-- the tracers' seats come after those of the sections
+abbrev pub AreTracers : Heap → Sections → List HeapSeat → Type 0
+AreTracers h s xs = Numbered (IsTracer h) (1 + length s.warehouses) xs
+
+-- a seat at rest without a section
+pub record IsAnyTracer (h : Heap) (x : HeapSeat) : Type 0 where
+  pub rests : Rests h x
+  pub section : (view_of x).state.section ≡ None
+
+-- all sections played their first z parts, and the season was moved on so often
+pub record IsCrew (h : Heap) (s : Sections) (n z moved : ℕ) (c : Crew) : Type 0 where
+  pub catalogue : CatalogueAt h s z moved c.catalogue
+  pub dealt : IsDealt n (length s.warehouses) c.workers.items
+  pub played : EachOne (StandsAt h s z) c.workers.items
+  pub going : All (λ (x : Worker). x.full ≡ false) c.workers.items
+  pub tracers : AreTracers h s c.tracers.items
+
+-- some warehouse knows that the heap is full
+abbrev pub SomeKnows : List Worker → Type 0
+SomeKnows ws = SomeAt (λ (x : Worker). SomeAt (λ (m : Mutator). KnowsFull (view_of m.seat)) x.mutators.items) ws
+
+-- the catalogue's turn of season z found the heap full: the warehouses wait for theirs
+pub record IsHaltedFirst (h : Heap) (s : Sections) (n z : ℕ) (c : Crew) : Type 0 where
+  pub catalogue : CatalogueStops h s z c.catalogue
+  pub dealt : IsDealt n (length s.warehouses) c.workers.items
+  pub waiting : EachOne (StandsAt h s (z - 1)) c.workers.items
+  pub tracers : AreTracers h s c.tracers.items
+
+-- or the warehouses' turn, or a stop after a turn
+pub record IsHaltedLater (h : Heap) (s : Sections) (n z : ℕ) (c : Crew) : Type 0 where
+  pub season : 0 < z
+  pub catalogue : CatalogueWaits h s z c.catalogue
+  pub dealt : IsDealt n (length s.warehouses) c.workers.items
+  pub halted : EachOne (HaltsAt h s z) c.workers.items
+  pub known : KnowsFull (view_of (seat_in c.catalogue)) ⊎ SomeKnows c.workers.items
+  pub tracers : AreTracers h s c.tracers.items
+
+-- how a season ends: the season was moved on twice in each one, but for once in the last so far
+abbrev pub CrewEnds : Ended → Heap → Sections → ℕ → ℕ → Crew → Type 0
+CrewEnds plays.Done h s n z c = IsCrew h s n z (2 * z - 1) c
+CrewEnds plays.First h s n z c = IsHaltedFirst h s n z c
+CrewEnds plays.Later h s n z c = IsHaltedLater h s n z c
+
+-- how a play ends: where all was played, the last stop was made
+abbrev pub PlayEnds : Ended → Heap → Sections → ℕ → ℕ → Crew → Type 0
+PlayEnds plays.Done h s n z c = IsCrew h s n z (2 * z) c × IsTrue (own_of c.catalogue).settled
+PlayEnds plays.First h s n z c = IsHaltedFirst h s n z c
+PlayEnds plays.Later h s n z c = IsHaltedLater h s n z c
+
+-- how the warehouses' turn of a season ends
+abbrev pub TurnEnds : Played → Heap → Sections → ℕ → List Worker → Type 0
+TurnEnds ends.Done h s z ws = EachOne (StandsAt h s z) ws × All (λ (x : Worker). x.full ≡ false) ws
+TurnEnds ends.Full h s z ws = EachOne (HaltsAt h s z) ws × SomeKnows ws
+
+-- where a warehouse is at the end of a play
+abbrev pub EndsAt : Ended → Heap → Sections → ℕ → Mutator → Type 0
+EndsAt plays.Done h s z m = StandsAt h s z m
+EndsAt plays.First h s z m = StandsAt h s (z - 1) m
+EndsAt plays.Later h s z m = HaltsAt h s z m
+
+-- what a section came to, where a play ended
+abbrev pub CameIn : Ended → Sections → ℕ → ℕ → SectionState → Type 0
+CameIn plays.Done s z w y = HasPlayed s w z y
+CameIn plays.First s z zero y = (k : ℕ) × HasStopped s 0 z k y
+CameIn plays.First s z (suc w) y = HasPlayed s (suc w) (z - 1) y
+CameIn plays.Later s z zero y = HasPlayed s 0 z y
+CameIn plays.Later s z (suc w) y = CameTo s (suc w) z y
+
+-- the seat is that of section w, as a play left it
+pub record IsLeftOf (r : Ended) (s : Sections) (z w : ℕ) (x : HeapSeat) : Type 0 where
+  pub section : (view_of x).state.section ≡ Some w
+  pub plan_is : (view_of x).plan ≡ plan_of s
+  pub came : CameIn r s z w (view_of x).own
+
+-- the seat with this number, as a play left it
+pub record IsLeft (r : Ended) (h : Heap) (s : Sections) (z n : ℕ) (x : HeapSeat) : Type 0 where
+  pub sits : Sits h x
+  pub number : (view_of x).state.number ≡ n
+  pub outside : IsOutside (view_of x)
+  pub of_section : n ≤ length s.warehouses → IsLeftOf r s z n x
+
+-- what was printed, dropped and placed is that of section w, where all was played
+abbrev pub Says : Ended → Sections → ℕ → ℕ → HeapSeat → Part → Type 0
+Says plays.Done s z w x p = HasSaid s w (end_of s w z) (map printed_of p.said.items) p.dropped p.places.items (view_of x).own
+Says plays.First s z w x p = Unit {0}
+Says plays.Later s z w x p = Unit {0}
+
+-- what section 0 had
+abbrev pub HandsOver : Catalogue → HeapSeat → List Said → List ℕ → ℕ → Type 0
+HandsOver (seats.Playing m) x said places dropped = (x ≡ m.seat) × (said ≡ m.said.items) × (places ≡ m.places.items) × (dropped ≡ m.dropped)
+HandsOver (seats.Absent y) x said places dropped = (x ≡ y) × (said ≡ []) × (places ≡ []) × (dropped ≡ 0)
+
+-- so is each of these of its section, counted from n
+abbrev pub AreSaid : Ended → Sections → ℕ → ℕ → List HeapSeat → List Part → Type 0
+AreSaid r s z n xs ps = (i : ℕ) (d : HeapSeat) (p : Part) → i < length ps → Says r s z (n + i) (slice_index_or xs i d) (slice_index_or ps i p)
+
+-- some seat knows that the heap is full
+abbrev pub SomeSeatKnows : List HeapSeat → Type 0
+SomeSeatKnows xs = SomeAt (λ (x : HeapSeat). KnowsFull (view_of x)) xs
+
+-- so it is where not all was played
+abbrev pub KnowsEnd : Ended → List HeapSeat → Type 0
+KnowsEnd plays.Done xs = Unit {0}
+KnowsEnd plays.First xs = SomeSeatKnows xs
+KnowsEnd plays.Later xs = SomeSeatKnows xs
+
+-- and where all was played, the catalogue's seat ended an exact cycle at last
+abbrev pub SettlesEnd : Ended → List HeapSeat → Type 0
+SettlesEnd plays.Done xs = (d : HeapSeat) → IsTrue (view_of (slice_index_or xs 0 d)).own.settled
+SettlesEnd plays.First xs = Unit {0}
+SettlesEnd plays.Later xs = Unit {0}

@@ -1,0 +1,7 @@
+pub mod Standing
+pub mod Stays
+pub mod Dealing
+pub mod Crews
+pub mod Options
+pub mod Turns
+pub mod Tending

@@ -1,0 +1,136 @@
+//! What a tracer does inside while marking is under way: a few objects, and where there are none, a few cards.
+//!
+//! Each turn is short, since a stop waits until it has ended.
+ghost use Rattle.std.specs.Prelude.{◌<◌, false, IfSome};
+ghost use Rattle.mark_core.specs.Layout.{card_count};
+ghost use Rattle.mark_core.specs.declared.kinds.Step.TheVariants.{AddStat};
+ghost use Rattle.gc_table.specs.Log.{events};
+ghost use Rattle.gc_table.specs.Seats.{view_of};
+ghost use Rattle.gc_play.specs.Standing.{Goes};
+ghost use Rattle.gc_play.specs.Stays.{Stays};
+ghost use Rattle.gc_play.specs.Tending.{Marks, Tended};
+ghost use Rattle.gc_play.specs.Turns.{IsOne, Traces, TracesInside};
+
+use card_clean::{clean_one, next_card};
+use gc_table::{Heap, HeapSeat};
+use tracer::{Stopped, Traced, recycle_deferred, trace};
+
+/// How many objects a turn traces.
+const OBJECTS: u32 = 64;
+
+/// How many cards a turn cleans.
+const CARDS: u32 = 64;
+
+/// Traces the objects of a turn.
+fn trace_objects(heap: &Heap, seat: &mut HeapSeat) -> Traced
+    requires { Marks heap.now seat.old }
+    ensures seat { Marks heap.now seat.new }
+    ensures tended { Tended result.done (view_of seat.old) (view_of seat.new) }
+    ensures traces { Traces heap.now.shape (events (view_of seat.old) (view_of seat.new)) }
+{
+    trace(heap, seat, OBJECTS)
+}
+
+/// The next card of the cycle's pass.
+fn draw(heap: &Heap, seat: &mut HeapSeat) -> Option<u32>
+    requires { Marks heap.now seat.old }
+    ensures seat { Marks heap.now seat.new }
+    ensures tended { Tended 0 (view_of seat.old) (view_of seat.new) }
+    ensures there { IfSome result (λ card. card < card_count heap.now.shape) }
+{
+    next_card(heap, seat)
+}
+
+/// Cleans a card. False where no packet has room.
+fn clean(heap: &Heap, seat: &mut HeapSeat, card: u32) -> bool
+    requires seat { Marks heap.now seat.old }
+    requires card { card < card_count heap.now.shape }
+    ensures seat { Marks heap.now seat.new }
+    ensures tended { Tended 0 (view_of seat.old) (view_of seat.new) }
+{
+    match clean_one(heap, seat, card) {
+        Some(_) => true,
+        None => false,
+    }
+}
+
+/// Cleans the next card of the cycle's pass. False where no card is left, or no packet has room.
+fn clean_next(heap: &Heap, seat: &mut HeapSeat) -> bool
+    requires { Marks heap.now seat.old }
+    ensures seat { Marks heap.now seat.new }
+    ensures tended { Tended 0 (view_of seat.old) (view_of seat.new) }
+{
+    match draw(heap, seat) {
+        Some(card) => clean(heap, seat, card),
+        None => false,
+    }
+}
+
+/// Cleans the cards of a turn.
+fn clean_cards(heap: &Heap, seat: &mut HeapSeat)
+    requires { Marks heap.now seat.old }
+    ensures seat { Marks heap.now seat.new }
+    ensures tended { Tended 0 (view_of seat.old) (view_of seat.new) }
+{
+    for _ in 0..CARDS {
+        if !clean_next(heap, seat) {
+            return;
+        }
+    }
+}
+
+/// Cleans the cards of a turn, where a trace ended since there was nothing to trace.
+fn clean_after(heap: &Heap, seat: &mut HeapSeat, stopped: Stopped)
+    requires { Marks heap.now seat.old }
+    ensures seat { Marks heap.now seat.new }
+    ensures tended { Tended 0 (view_of seat.old) (view_of seat.new) }
+{
+    if let Stopped::NoWork = stopped {
+        clean_cards(heap, seat);
+    }
+}
+
+/// Lets what was put off be traced again.
+fn recycle(heap: &Heap, seat: &mut HeapSeat)
+    requires { Marks heap.now seat.old }
+    ensures seat { Marks heap.now seat.new }
+    ensures tended { Tended 0 (view_of seat.old) (view_of seat.new) }
+{
+    recycle_deferred(heap, seat);
+}
+
+/// Adds to the number of traced objects.
+fn count_traced(heap: &Heap, seat: &mut HeapSeat, by: u32)
+    requires { Goes heap.now seat.old }
+    ensures seat { Goes heap.now seat.new }
+    ensures stays { Stays (view_of seat.old) (view_of seat.new) }
+    ensures events { IsOne (AddStat 4 by false) (events (view_of seat.old) (view_of seat.new)) }
+{
+    heap.add_stat(seat, 4, by, false);
+}
+
+/// Traces, cleans cards, and lets what was put off be traced again. Returns how many objects it traced.
+fn tend(heap: &Heap, seat: &mut HeapSeat) -> u32
+    requires { Marks heap.now seat.old }
+    ensures seat { Marks heap.now seat.new }
+    ensures tended { Tended result (view_of seat.old) (view_of seat.new) }
+    ensures traces { Traces heap.now.shape (events (view_of seat.old) (view_of seat.new)) }
+{
+    let traced = trace_objects(heap, seat);
+    clean_after(heap, seat, traced.stopped);
+    recycle(heap, seat);
+    traced.done
+}
+
+/// What a tracer does in a turn. What it traced it adds to the number of traced objects, by one step.
+pub(crate) fn trace_inside(heap: &Heap, seat: &mut HeapSeat)
+    requires { Marks heap.now seat.old }
+    ensures seat { Goes heap.now seat.new }
+    ensures stays { Stays (view_of seat.old) (view_of seat.new) }
+    ensures traces { TracesInside heap.now.shape (events (view_of seat.old) (view_of seat.new)) }
+{
+    let traced = tend(heap, seat);
+    if traced > 0 {
+        count_traced(heap, seat, traced);
+    }
+}

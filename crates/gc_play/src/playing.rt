@@ -1,0 +1,222 @@
+//! A whole play.
+ghost use Rattle.std.specs.Prelude.{◌≡◌, ◌+◌, ◌≤◌, [], IfOk, length, vec_len};
+ghost use Rattle.plain_heap.specs.Sections.{seasons};
+ghost use Rattle.mark_core.specs.Shapes.{IsShape};
+ghost use Rattle.play_contract.specs.Playing.{AreInRange, PlayAnswers};
+ghost use Rattle.gc_play.specs.declared.season.Ended.TheVariants as ends;
+ghost use Rattle.gc_play.specs.Crews.{IsCrew, IsLeft, IsMade, IsNew, Numbered, PlayEnds, AreSaid, KnowsEnd, SettlesEnd};
+ghost use Rattle.gc_play.specs.Options.{FinalAnswers, IsPlayable, shape_for};
+
+use crate::crew::{Crew, muster};
+use crate::gathering::put_away;
+use crate::limits::see_script;
+use crate::season::{Ended, play_season, settle};
+use gc_script::Script;
+use gc_table::{Heap, HeapSeat, Words};
+use mark_core::Shape;
+use plain_heap::OutOfMemory;
+use play_contract::{Options, PlayError};
+use play_end::{Played, close_full, close_played};
+use play_report::{Part, Report};
+use std::alloc::Global;
+use std::sync::Wait;
+use std::thread::Threads;
+use warehouse::Gate;
+
+/// How many sections there are.
+fn count_sections(script: &Script<'_>) -> u32
+    requires { IsPlayable script.now.sections }
+    ensures count { result ≡ 1 + length script.now.sections.warehouses }
+    ensures few { result ≤ 33 }
+{
+    script.warehouses().len() as u32 + 1
+}
+
+/// The sizes of the heap.
+fn shape_of(script: &Script<'_>, options: &Options) -> Shape
+    requires range { AreInRange options.now }
+    requires script { IsPlayable script.now.sections }
+    ensures same { result ≡ shape_for options.now script.now.sections }
+    ensures shape { IsShape result }
+{
+    Shape {
+        cells: options.cells,
+        packets: options.packets,
+        entries: options.entries,
+        sections: count_sections(script),
+        fields: script.fields(),
+    }
+}
+
+/// The heap, with a seat for each section and each tracer.
+fn make_heap(
+    alloc: Global,
+    script: &Script<'_>,
+    options: &Options,
+) -> Result<(Heap, Vec<HeapSeat>), OutOfMemory>
+    requires range { AreInRange options.now }
+    requires script { IsPlayable script.now.sections }
+    ensures shape { IfOk result (λ r. r.0.shape ≡ shape_for options.now script.now.sections) }
+    ensures count { IfOk result (λ r. vec_len r.1 ≡ 1 + length script.now.sections.warehouses + options.now.tracers) }
+    ensures seats { IfOk result (λ r. Numbered (IsNew r.0 script.now.sections) 0 r.1.items) }
+{
+    let shape = shape_of(script, options);
+    match Heap::create(alloc, shape, shape.sections + options.tracers, script) {
+        Ok(made) => Ok(made),
+        Err(e) => Err(e),
+    }
+}
+
+/// Room for the parts of a report.
+fn make_parts<'a>(alloc: Global, script: &Script<'a>) -> Result<Vec<Part<'a>>, OutOfMemory>
+    ensures { IfOk result (λ v. v.items ≡ []) }
+{
+    match Vec::with_capacity(alloc, script.warehouses().len() + 1) {
+        Ok(parts) => Ok(parts),
+        Err(_) => Err(OutOfMemory),
+    }
+}
+
+/// Plays all seasons, up to one in which the heap is found full, and says which was the last.
+fn play_seasons<'a, R: Threads + Wait + Sync, G: Gate + Sync>(
+    rt: &R,
+    heap: &Heap,
+    script: &Script<'a>,
+    crew: &mut Crew<'a>,
+    workers: u32,
+    gate: &G,
+) -> (Ended, u32)
+    requires script { IsPlayable script.now.sections }
+    requires crew { IsCrew heap.now script.now.sections workers 0 0 crew.old }
+    ensures ends { PlayEnds result.0 heap.now script.now.sections workers result.1 crew.new }
+    ensures season { 1 ≤ result.1 }
+    ensures all { result.0 ≡ ends.Done → result.1 ≡ seasons script.now.sections }
+{
+    let sections = count_sections(script);
+    let all = script.seasons();
+    for before in 0..all {
+        let season = before + 1;
+        let until = season * sections;
+        match play_season(rt, heap, script, crew, workers, season, until, gate) {
+            Ended::Done => {}
+            ended => return (ended, season),
+        }
+    }
+    match settle(rt, heap, script, &mut crew.catalogue, all) {
+        Played::Done => (Ended::Done, all),
+        Played::Full => (Ended::Later, all),
+    }
+}
+
+/// Closes the heap of a play.
+fn close<'a>(
+    alloc: Global,
+    script: &Script<'a>,
+    heap: Heap,
+    seats: Vec<HeapSeat>,
+    parts: Vec<Part<'a>>,
+    ended: Ended,
+    _season: u32,
+) -> Result<(Report<'a>, Words), PlayError>
+    requires made { IsMade script.now.sections heap seats.items }
+    requires season { 1 ≤ _season }
+    requires all { ended ≡ ends.Done → _season ≡ seasons script.now.sections }
+    requires left { Numbered (IsLeft ended heap script.now.sections _season) 0 seats.items }
+    requires parts { length parts.items ≡ 1 + length script.now.sections.warehouses }
+    requires said { AreSaid ended script.now.sections _season 0 seats.items parts.items }
+    requires knows { KnowsEnd ended seats.items }
+    requires settles { SettlesEnd ended seats.items }
+    ensures { FinalAnswers result script.now.sections heap.shape }
+{
+    match ended {
+        Ended::Done => match close_played(alloc, script, heap, seats, parts) {
+            Ok(end) => Ok(end),
+            Err(_) => Err(PlayError::OutOfMemory),
+        },
+        _ => match close_full(alloc, script, heap, seats) {
+            Ok(positions) => Err(PlayError::Full(positions)),
+            Err(_) => Err(PlayError::OutOfMemory),
+        },
+    }
+}
+
+/// All that a play needs before its first command: the heap, the sections' players, the tracers' seats, and room for the report.
+fn prepare<'a>(
+    alloc: Global,
+    script: &Script<'a>,
+    options: &Options,
+) -> Result<(Heap, Crew<'a>, Vec<Part<'a>>), OutOfMemory>
+    requires range { AreInRange options.now }
+    requires script { IsPlayable script.now.sections }
+    ensures shape { IfOk result (λ r. r.0.shape ≡ shape_for options.now script.now.sections) }
+    ensures crew { IfOk result (λ r. IsCrew r.0 script.now.sections options.now.workers 0 0 r.1) }
+    ensures parts { IfOk result (λ r. r.2.items ≡ []) }
+{
+    let (heap, seats) = match make_heap(alloc, script, options) {
+        Ok(made) => made,
+        Err(e) => return Err(e),
+    };
+    let crew = match muster(alloc, &heap, script, options.workers, seats) {
+        Ok(crew) => crew,
+        Err(e) => return Err(e),
+    };
+    match make_parts(alloc, script) {
+        Ok(parts) => Ok((heap, crew, parts)),
+        Err(e) => Err(e),
+    }
+}
+
+/// Plays a script as [`play`] does, and gives the words of the heap besides.
+pub fn play_final<'a, R: Threads + Wait + Sync, G: Gate + Sync>(
+    rt: &R,
+    alloc: Global,
+    script: &Script<'a>,
+    options: &Options,
+    gate: &G,
+) -> Result<(Report<'a>, Words), PlayError>
+    requires { AreInRange options.now }
+    ensures { FinalAnswers result script.now.sections (shape_for options.now script.now.sections) }
+{
+    see_script(script);
+    let (heap, mut crew, parts) = match prepare(alloc, script, options) {
+        Ok(made) => made,
+        Err(_) => return Err(PlayError::OutOfMemory),
+    };
+    let (ended, season) = play_seasons(rt, &heap, script, &mut crew, options.workers, gate);
+    let (seats, parts) = match put_away(
+        alloc,
+        &heap,
+        script,
+        crew,
+        parts,
+        options.workers,
+        ended,
+        season,
+    ) {
+        Ok(left) => left,
+        Err(_) => return Err(PlayError::OutOfMemory),
+    };
+    close(alloc, script, heap, seats, parts, ended, season)
+}
+
+/// Plays a script over a heap of `options.cells` cells, on `options.workers` threads with `options.tracers` beside them: each
+/// section's transcript and dropped stores, exactly the objects that are reachable at the end, and the cell of each object.
+/// None of this depends on the threads but for the cells.
+///
+/// `Full` says that the reachable objects filled all cells where a section was to make one more. Memory is taken before the
+/// first command and after the last one only.
+pub fn play<'a, R: Threads + Wait + Sync, G: Gate + Sync>(
+    rt: &R,
+    alloc: Global,
+    script: &Script<'a>,
+    options: &Options,
+    gate: &G,
+) -> Result<Report<'a>, PlayError>
+    requires { AreInRange options.now }
+    ensures { PlayAnswers result script.now.sections options.now.cells }
+{
+    match play_final(rt, alloc, script, options, gate) {
+        Ok((report, _)) => Ok(report),
+        Err(e) => Err(e),
+    }
+}

@@ -1,0 +1,210 @@
+//! A season: the catalogue's turn, and then all threads of the warehouses' turn.
+ghost use Rattle.std.specs.Prelude.{◌≡◌, ◌+◌, ◌-◌, ◌*◌, ◌<◌, ◌≤◌, ◌⊎◌, All, false};
+ghost use Rattle.gc_play.specs.Crews.{AreTracers, CatalogueAt, CatalogueEnds, CatalogueStarts, CrewEnds, IsAnyTracer, IsCrew, PlaySettles, TurnEnds, TurnMoves};
+ghost use Rattle.gc_play.specs.Dealing.{EachOne, SameShares, ShareEnds, StandsAt};
+ghost use Rattle.gc_play.specs.Options.{IsPlayable};
+ghost use Rattle.gc_play.specs.Stays.{AreKept};
+
+use crate::crew::{Catalogue, Crew};
+use crate::tracers::run_tracers;
+use crate::workers::{Worker, any_full, play_warehouses};
+use gc_script::Script;
+use gc_table::{Heap, HeapSeat};
+use play_end::Played;
+use std::sync::Wait;
+use std::thread::{Threads, join_mut};
+use warehouse::{Gate, end_play, play_absent, play_part, turn_season};
+
+/// How a season ended, or a play.
+#[derive(Clone, Copy, PartialEq, Eq, Debug)]
+pub(crate) enum Ended {
+    /// All was played.
+    Done,
+    /// The heap was found full before the warehouses' turn.
+    First,
+    /// It was found full in the warehouses' turn, or in a stop after the catalogue's part.
+    Later,
+}
+
+/// Runs all workers and tracers, each in a thread of its own. It ends when all of them have ended.
+fn run_threads<'a, R: Threads + Wait + Sync, G: Gate + Sync>(
+    rt: &R,
+    heap: &Heap,
+    script: &Script<'a>,
+    workers: &mut Vec<Worker<'a>>,
+    tracers: &mut Vec<HeapSeat>,
+    season: u32,
+    until: u32,
+    gate: &G,
+)
+    requires season { 1 ≤ season }
+    requires before { EachOne (StandsAt heap.now script.now.sections (season - 1)) workers.old.items }
+    requires going { All (λ x. x.full ≡ false) workers.old.items }
+    requires tracers { All (IsAnyTracer heap.now) tracers.old.items }
+    ensures ends { All (λ x. ShareEnds x.full heap.now script.now.sections season x.mutators.items) workers.new.items }
+    ensures same { SameShares workers.old.items workers.new.items }
+    ensures kept { AreKept heap.now tracers.old.items tracers.new.items }
+{
+    join_mut(
+        rt,
+        &mut ||
+            requires { All (IsAnyTracer heap.now) tracers.now.items }
+            ensures { AreKept heap.entry.now tracers.entry.now.items tracers.exit.now.items }
+        { run_tracers(rt, heap, tracers, until, gate) },
+        &mut ||
+            requires { (1 ≤ season) × EachOne (StandsAt heap.now script.now.sections (season - 1)) workers.now.items × All (λ x. x.full ≡ false) workers.now.items }
+            ensures { All (λ x. ShareEnds x.full heap.entry.now script.entry.now.sections season x.mutators.items) workers.exit.now.items × SameShares workers.entry.now.items workers.exit.now.items }
+        { play_warehouses(rt, heap, script, workers, season, gate) },
+    );
+}
+
+/// The warehouses' turn of a season.
+fn play_turn<'a, R: Threads + Wait + Sync, G: Gate + Sync>(
+    rt: &R,
+    heap: &Heap,
+    script: &Script<'a>,
+    workers: &mut Vec<Worker<'a>>,
+    tracers: &mut Vec<HeapSeat>,
+    season: u32,
+    until: u32,
+    gate: &G,
+) -> Played
+    requires season { 1 ≤ season }
+    requires before { EachOne (StandsAt heap.now script.now.sections (season - 1)) workers.old.items }
+    requires going { All (λ x. x.full ≡ false) workers.old.items }
+    requires tracers { AreTracers heap.now script.now.sections tracers.old.items }
+    ensures ends { TurnEnds result heap.now script.now.sections season workers.new.items }
+    ensures same { SameShares workers.old.items workers.new.items }
+    ensures tracers { AreTracers heap.now script.now.sections tracers.new.items }
+{
+    run_threads(rt, heap, script, workers, tracers, season, until, gate);
+    if any_full(workers.as_slice()) {
+        Played::Full
+    } else {
+        Played::Done
+    }
+}
+
+/// The catalogue's turn of a season.
+fn play_catalogue<'a, R: Threads + Wait + Sync, G: Gate>(
+    rt: &R,
+    heap: &Heap,
+    script: &Script<'a>,
+    catalogue: &mut Catalogue<'a>,
+    season: u32,
+    gate: &G,
+) -> Played
+    requires season { 1 ≤ season }
+    requires script { IsPlayable script.now.sections }
+    requires before { CatalogueAt heap.now script.now.sections (season - 1) (2 * season - 2) catalogue.old }
+    ensures { CatalogueEnds result heap.now script.now.sections season (2 * season - 2) catalogue.new }
+{
+    match catalogue {
+        Catalogue::Playing(mutator) => match script.catalogue() {
+            Some(section) => play_part(rt, heap, mutator, section, season, gate),
+            None => unreachable!(),
+        },
+        Catalogue::Absent(seat) => {
+            play_absent(rt, heap, seat);
+            Played::Done
+        }
+    }
+}
+
+/// The catalogue's seat moves the season on, after so many parts.
+fn next_turn<'a, R: Threads + Wait + Sync>(
+    rt: &R,
+    heap: &Heap,
+    _script: &Script<'a>,
+    catalogue: &mut Catalogue<'a>,
+    _parts: u32,
+    _moved: u32,
+) -> Played
+    requires parts { 1 ≤ _parts }
+    requires few { _moved < 128 }
+    requires turn { (_moved ≡ 2 * _parts - 2) ⊎ (_moved ≡ 2 * _parts - 1) }
+    requires at { CatalogueAt heap.now _script.now.sections _parts _moved catalogue.old }
+    ensures { TurnMoves result heap.now _script.now.sections _parts _moved catalogue.new }
+{
+    match catalogue {
+        Catalogue::Playing(mutator) => mutator.next_turn(rt, heap),
+        Catalogue::Absent(seat) => turn_season(rt, heap, seat),
+    }
+}
+
+/// The last stop of a play, after so many parts.
+pub(crate) fn settle<'a, R: Threads + Wait + Sync>(
+    rt: &R,
+    heap: &Heap,
+    _script: &Script<'a>,
+    catalogue: &mut Catalogue<'a>,
+    _parts: u32,
+) -> Played
+    requires parts { (1 ≤ _parts) × (_parts ≤ 64) }
+    requires at { CatalogueAt heap.now _script.now.sections _parts (2 * _parts - 1) catalogue.old }
+    ensures { PlaySettles result heap.now _script.now.sections _parts catalogue.new }
+{
+    match catalogue {
+        Catalogue::Playing(mutator) => mutator.end_play(rt, heap),
+        Catalogue::Absent(seat) => end_play(rt, heap, seat),
+    }
+}
+
+/// The turn comes back to the catalogue, but for the first season, which begins with it.
+fn begin_season<'a, R: Threads + Wait + Sync>(
+    rt: &R,
+    heap: &Heap,
+    script: &Script<'a>,
+    catalogue: &mut Catalogue<'a>,
+    season: u32,
+) -> Played
+    requires season { (1 ≤ season) × (season ≤ 64) }
+    requires before { CatalogueAt heap.now script.now.sections (season - 1) (2 * (season - 1) - 1) catalogue.old }
+    ensures { CatalogueStarts result heap.now script.now.sections season catalogue.new }
+{
+    if season > 1 {
+        return next_turn(rt, heap, script, catalogue, season - 1, 2 * season - 3);
+    }
+    Played::Done
+}
+
+/// One season of all sections.
+pub(crate) fn play_season<'a, R: Threads + Wait + Sync, G: Gate + Sync>(
+    rt: &R,
+    heap: &Heap,
+    script: &Script<'a>,
+    crew: &mut Crew<'a>,
+    _workers: u32,
+    season: u32,
+    until: u32,
+    gate: &G,
+) -> Ended
+    requires season { (1 ≤ season) × (season ≤ 64) }
+    requires script { IsPlayable script.now.sections }
+    requires before { IsCrew heap.now script.now.sections _workers (season - 1) (2 * (season - 1) - 1) crew.old }
+    ensures { CrewEnds result heap.now script.now.sections _workers season crew.new }
+{
+    if let Played::Full = begin_season(rt, heap, script, &mut crew.catalogue, season) {
+        return Ended::First;
+    }
+    if let Played::Full = play_catalogue(rt, heap, script, &mut crew.catalogue, season, gate) {
+        return Ended::First;
+    }
+    let turn = 2 * season - 2;
+    if let Played::Full = next_turn(rt, heap, script, &mut crew.catalogue, season, turn) {
+        return Ended::Later;
+    }
+    if let Played::Full = play_turn(
+        rt,
+        heap,
+        script,
+        &mut crew.workers,
+        &mut crew.tracers,
+        season,
+        until,
+        gate,
+    ) {
+        return Ended::Later;
+    }
+    Ended::Done
+}

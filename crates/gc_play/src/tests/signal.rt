@@ -1,0 +1,43 @@
+//! What a gate waits for, but not forever.
+use std::sync::atomic::AtomicU64;
+use std::sync::atomic::Ordering::SeqCst;
+use std::thread::yield_now;
+
+/// How many times a thread looks before it gives up.
+const LOOKS: u32 = 10_000_000;
+
+/// Comes when it was told often enough. When one thread gave it up, no other waits for it any more.
+#[derive(Drop)]
+pub struct Signal {
+    wanted: u64,
+    told: AtomicU64,
+    given_up: AtomicU64,
+}
+
+impl Signal {
+    pub fn of(wanted: u64) -> Signal {
+        Signal {
+            wanted,
+            told: AtomicU64::new(0),
+            given_up: AtomicU64::new(0),
+        }
+    }
+
+    pub fn tell(&self) {
+        self.told.fetch_add(1, SeqCst);
+    }
+
+    pub fn wait(&self) {
+        for _ in 0..LOOKS {
+            if self.told.load(SeqCst) >= self.wanted || self.was_given_up() {
+                return;
+            }
+            yield_now();
+        }
+        self.given_up.fetch_add(1, SeqCst);
+    }
+
+    pub fn was_given_up(&self) -> bool {
+        self.given_up.load(SeqCst) > 0
+    }
+}

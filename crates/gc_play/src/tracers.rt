@@ -1,0 +1,149 @@
+//! The seats that trace beside the mutators.
+ghost use Rattle.std.specs.Prelude.{◌≡◌, ◌∷◌, [], All, None, Some};
+ghost use Rattle.gc_table.specs.Seats.{view_of};
+ghost use Rattle.gc_play.specs.Crews.{IsAnyTracer};
+ghost use Rattle.gc_play.specs.Standing.{Goes, Rests};
+ghost use Rattle.mark_core.specs.declared.kinds.Phase.TheVariants.{Marking};
+ghost use Rattle.mark_core.specs.declared.kinds.Step.TheVariants.{ReadStat};
+ghost use Rattle.gc_table.specs.Log.{events};
+ghost use Rattle.gc_play.specs.Stays.{AreKept, IsKept, Stays};
+ghost use Rattle.gc_play.specs.Turns.{HasTraced, IsOne, IsOneTurn, IsQuiet, IsRound, TracesInside, entry};
+
+use crate::entering::{enter, leave, see_phase};
+use crate::marking::trace_inside;
+use gc_cycle::await_resumed_helping;
+use gc_table::{Heap, HeapSeat};
+use mark_core::Phase;
+use std::sync::Wait;
+use std::thread;
+use std::thread::{Threads, yield_now};
+use warehouse::Gate;
+
+/// Waits until no stop is under way, and helps until then.
+fn await_resumed<R: Wait>(rt: &R, heap: &Heap, seat: &mut HeapSeat)
+    requires { Rests heap.now seat.old }
+    ensures seat { Rests heap.now seat.new }
+    ensures stays { Stays (view_of seat.old) (view_of seat.new) }
+    ensures quiet { IsQuiet (events (view_of seat.old) (view_of seat.new)) }
+{
+    await_resumed_helping(rt, heap, seat);
+}
+
+/// How many parts were played.
+fn see_done(heap: &Heap, seat: &mut HeapSeat) -> u64
+    requires { Rests heap.now seat.old }
+    ensures seat { Rests heap.now seat.new }
+    ensures stays { Stays (view_of seat.old) (view_of seat.new) }
+    ensures events { events (view_of seat.old) (view_of seat.new) ≡ entry (ReadStat 6) result ∷ [] }
+{
+    heap.read_stat(seat, 6)
+}
+
+/// Traces, where marking is under way.
+fn trace_if(heap: &Heap, seat: &mut HeapSeat, phase: Phase)
+    requires seat { Goes heap.now seat.old }
+    requires seen { (view_of seat.old).state.phase_seen ≡ Some phase }
+    ensures seat { Goes heap.now seat.new }
+    ensures stays { Stays (view_of seat.old) (view_of seat.new) }
+    ensures marking { phase ≡ Marking → TracesInside heap.now.shape (events (view_of seat.old) (view_of seat.new)) }
+    ensures other { (phase ≡ Marking → ⊥) → events (view_of seat.old) (view_of seat.new) ≡ [] }
+{
+    if let Phase::Marking = phase {
+        trace_inside(heap, seat);
+    }
+}
+
+/// What a tracer does in the world. True where the heap is full.
+fn go_round<G: Gate>(heap: &Heap, seat: &mut HeapSeat, gate: &G) -> bool
+    requires seat { Goes heap.now seat.old }
+    requires section { (view_of seat.old).state.section ≡ None }
+    ensures seat { Rests heap.now seat.new }
+    ensures stays { Stays (view_of seat.old) (view_of seat.new) }
+    ensures round { IsRound heap.now.shape result (events (view_of seat.old) (view_of seat.new)) }
+{
+    let phase = see_phase(heap, seat);
+    gate.turn(seat);
+    trace_if(heap, seat, phase);
+    leave(heap, seat);
+    matches!(phase, Phase::Full)
+}
+
+/// One turn of a tracer. True where nothing more is to be traced.
+fn take_turn<R: Threads + Wait + Sync, G: Gate>(
+    rt: &R,
+    heap: &Heap,
+    seat: &mut HeapSeat,
+    until: u32,
+    gate: &G,
+) -> bool
+    requires { IsAnyTracer heap.now seat.old }
+    ensures seat { Rests heap.now seat.new }
+    ensures stays { Stays (view_of seat.old) (view_of seat.new) }
+    ensures turn { IsOneTurn heap.now.shape until result (events (view_of seat.old) (view_of seat.new)) }
+{
+    if see_done(heap, seat) >= u64::from(until) {
+        return true;
+    }
+    if !enter(heap, seat) {
+        await_resumed(rt, heap, seat);
+        return false;
+    }
+    go_round(heap, seat, gate)
+}
+
+/// How often a tracer yields between two turns. A turn changes the word of the world, which each mutator reads at each command.
+const YIELDS: u32 = 64;
+
+/// Lets others run.
+fn rest() {
+    for _ in 0..YIELDS {
+        yield_now();
+    }
+}
+
+/// Traces beside the mutators, turn by turn, until so many parts were played or the heap is full.
+pub fn run_tracer<R: Threads + Wait + Sync, G: Gate>(
+    rt: &R,
+    heap: &Heap,
+    seat: &mut HeapSeat,
+    until: u32,
+    gate: &G,
+)
+    requires { IsAnyTracer heap.now seat.old }
+    ensures kept { IsKept heap.now seat.old seat.new }
+    ensures turns { HasTraced heap.now.shape until (events (view_of seat.old) (view_of seat.new)) }
+{
+    for _ in rt.forever() {
+        if take_turn(rt, heap, seat, until, gate) {
+            return;
+        }
+        rest();
+    }
+    unreachable!()
+}
+
+/// Runs each tracer in a thread of its own.
+pub(crate) fn run_tracers<R: Threads + Wait + Sync, G: Gate + Sync>(
+    rt: &R,
+    heap: &Heap,
+    tracers: &mut Vec<HeapSeat>,
+    until: u32,
+    gate: &G,
+)
+    requires { All (IsAnyTracer heap.now) tracers.old.items }
+    ensures { AreKept heap.now tracers.old.items tracers.new.items }
+{
+    let threads = tracers.len();
+    if threads == 0 {
+        return;
+    }
+    thread::for_each_mut(
+        rt,
+        tracers.as_mut_slice(),
+        threads,
+        &|_, seat: &mut HeapSeat|
+            requires { IsAnyTracer heap.now seat.now }
+            ensures { IsKept heap.entry.now seat.entry.now seat.exit.now }
+        { run_tracer(rt, heap, seat, until, gate) },
+    );
+}
