@@ -1,0 +1,10 @@
+pub mod Forms
+pub mod Table
+pub mod Faults
+pub mod Schedule
+pub mod Reading
+pub mod Shown
+pub mod Verdicts
+pub mod Played
+pub mod Text
+pub mod Telling

@@ -1,0 +1,168 @@
+-- The table of steps: the name of each, and the forms of its parameters in order.
+use Rattle.std.specs.Prelude.{ℕ, List, [], ◌∷◌, if◌then◌else◌, Option, Some, None, codes}
+use Rattle.std.specs.Str.{bytes_eq}
+use Rattle.schedule_check.specs.Forms.{byte, number, long, cell, flag, phase, variable}
+use Rattle.mark_core.specs.declared.kinds.Step.{Step}
+use Rattle.mark_core.specs.declared.kinds.Step.TheVariants.{Reserve, Take, Give, Credit, Push, Pop, Look, ReadCount, ReadAlloc, ReadField, ReadRoot, SetMark, DirtyCard, ClearCard, ReadMarks, ReadCard, ReadPhase, ReadOwn, ReadValue, ReadIdent, ReadCat, StoreField, StoreValue, StoreRoot, ClaimBlock, ReleaseBlock, ReadFree, StoreNew, PublishCells, EnterStep, LeaveStep, RaiseStep, Observe, DropStep, StorePhase, Split, Join, NextBlock, NextOfCards, ReadBlockMarks, StoreAlloc, ClearMarks, WipeCard, StorePosition, StoreNamed, Reset, AddStat, ReadStat, StoreLength, ReadLength, OpenStep, JoinHelpStep, LeaveHelpStep, CloseStep, SeeHelp, ReadSeason, NextSeason}
+
+-- the parameters, where there are so many and each has its form
+abbrev pub both : {A B : Type 0} → Option A → Option B → Option (A × B)
+both (Some x) (Some y) = Some (x, y)
+both x y = None
+
+abbrev pub all_three : {A B C : Type 0} → Option A → Option B → Option C → Option (A × B × C)
+all_three (Some x) (Some y) (Some z) = Some (x, y, z)
+all_three x y z = None
+
+abbrev pub single : {A : Type 0} → (List ℕ → Option A) → List (List ℕ) → Option A
+single a (u ∷ []) = a u
+single a words = None
+
+abbrev pub pair : {A B : Type 0} → (List ℕ → Option A) → (List ℕ → Option B) → List (List ℕ) → Option (A × B)
+pair a b (u ∷ v ∷ []) = both (a u) (b v)
+pair a b words = None
+
+abbrev pub triple : {A B C : Type 0} → (List ℕ → Option A) → (List ℕ → Option B) → (List ℕ → Option C) → List (List ℕ) → Option (A × B × C)
+triple a b c (u ∷ v ∷ w ∷ []) = all_three (a u) (b v) (c w)
+triple a b c words = None
+
+-- the step that the parameters give
+abbrev pub with_one : {A : Type 0} → (A → Step) → Option A → Option Step
+with_one step None = None
+with_one step (Some x) = Some (step x)
+
+abbrev pub with_two : {A B : Type 0} → (A → B → Step) → Option (A × B) → Option Step
+with_two step None = None
+with_two step (Some x) = Some (step x.0 x.1)
+
+abbrev pub with_three : {A B C : Type 0} → (A → B → C → Step) → Option (A × B × C) → Option Step
+with_three step None = None
+with_three step (Some x) = Some (step x.0 x.1 x.2)
+
+-- a step without parameters, or with parameters of these forms
+abbrev pub none : Step → List (List ℕ) → Option Step
+none step [] = Some step
+none step (word ∷ words) = None
+
+abbrev pub one : {A : Type 0} → (List ℕ → Option A) → (A → Step) → List (List ℕ) → Option Step
+one a step words = with_one step (single a words)
+
+abbrev pub two : {A B : Type 0} → (List ℕ → Option A) → (List ℕ → Option B) → (A → B → Step) → List (List ℕ) → Option Step
+two a b step words = with_two step (pair a b words)
+
+abbrev pub three : {A B C : Type 0} → (List ℕ → Option A) → (List ℕ → Option B) → (List ℕ → Option C) → (A → B → C → Step) → List (List ℕ) → Option Step
+three a b c step words = with_three step (triple a b c words)
+
+-- a row: the name, and the step that the parameters give
+pub record Row : Type 0 where
+  pub name : List ℕ
+  pub step : List (List ℕ) → Option Step
+
+abbrev row : List ℕ → (List (List ℕ) → Option Step) → Row
+row name step = record { name = name; step = step }
+
+abbrev pub packet_rows : List Row
+packet_rows =
+    row (codes "reserve") (none Reserve)
+    ∷ row (codes "take") (two byte number Take)
+    ∷ row (codes "give") (two number flag Give)
+    ∷ row (codes "credit") (none Credit)
+    ∷ row (codes "push") (two number cell Push)
+    ∷ row (codes "pop") (one number Pop)
+    ∷ row (codes "look") (two byte number Look)
+    ∷ row (codes "read_count") (none ReadCount)
+    ∷ row (codes "store_length") (one number StoreLength)
+    ∷ row (codes "read_length") (one number ReadLength)
+    ∷ []
+
+abbrev pub colour_rows : List Row
+colour_rows =
+    row (codes "read_alloc") (one number ReadAlloc)
+    ∷ row (codes "read_field") (two cell byte ReadField)
+    ∷ row (codes "read_root") (two number byte ReadRoot)
+    ∷ row (codes "set_mark") (one cell SetMark)
+    ∷ row (codes "dirty_card") (one number DirtyCard)
+    ∷ row (codes "clear_card") (one number ClearCard)
+    ∷ row (codes "read_marks") (one number ReadMarks)
+    ∷ row (codes "read_card") (one number ReadCard)
+    ∷ row (codes "read_phase") (none ReadPhase)
+    ∷ []
+
+abbrev pub mutator_rows : List Row
+mutator_rows =
+    row (codes "read_own") (two cell byte ReadOwn)
+    ∷ row (codes "read_value") (one cell ReadValue)
+    ∷ row (codes "read_ident") (one cell ReadIdent)
+    ∷ row (codes "read_cat") (one byte ReadCat)
+    ∷ row (codes "store_field") (three byte byte variable StoreField)
+    ∷ row (codes "store_value") (two byte number StoreValue)
+    ∷ row (codes "store_root") (two byte long StoreRoot)
+    ∷ []
+
+abbrev pub making_rows : List Row
+making_rows =
+    row (codes "claim_block") (one number ClaimBlock)
+    ∷ row (codes "release_block") (none ReleaseBlock)
+    ∷ row (codes "read_free") (none ReadFree)
+    ∷ row (codes "store_new") (three cell byte long StoreNew)
+    ∷ row (codes "publish_cells") (none PublishCells)
+    ∷ []
+
+abbrev pub world_rows : List Row
+world_rows =
+    row (codes "enter_step") (none EnterStep)
+    ∷ row (codes "leave_step") (none LeaveStep)
+    ∷ row (codes "raise_step") (none RaiseStep)
+    ∷ row (codes "observe") (none Observe)
+    ∷ row (codes "drop_step") (none DropStep)
+    ∷ row (codes "store_phase") (one phase StorePhase)
+    ∷ row (codes "split") (none Split)
+    ∷ row (codes "join") (one number Join)
+    ∷ []
+
+abbrev pub sweep_rows : List Row
+sweep_rows =
+    row (codes "next_block") (none NextBlock)
+    ∷ row (codes "next_of_cards") (none NextOfCards)
+    ∷ row (codes "read_block_marks") (none ReadBlockMarks)
+    ∷ row (codes "store_alloc") (none StoreAlloc)
+    ∷ row (codes "clear_marks") (none ClearMarks)
+    ∷ row (codes "wipe_card") (one number WipeCard)
+    ∷ []
+
+abbrev pub counter_rows : List Row
+counter_rows =
+    row (codes "store_position") (one number StorePosition)
+    ∷ row (codes "store_named") (none StoreNamed)
+    ∷ row (codes "reset") (one byte Reset)
+    ∷ row (codes "add_stat") (three byte number flag AddStat)
+    ∷ row (codes "read_stat") (one byte ReadStat)
+    ∷ []
+
+abbrev pub help_rows : List Row
+help_rows =
+    row (codes "open_step") (none OpenStep)
+    ∷ row (codes "join_help_step") (none JoinHelpStep)
+    ∷ row (codes "leave_help_step") (none LeaveHelpStep)
+    ∷ row (codes "close_step") (none CloseStep)
+    ∷ row (codes "see_help") (none SeeHelp)
+    ∷ row (codes "read_season") (none ReadSeason)
+    ∷ row (codes "next_season") (none NextSeason)
+    ∷ []
+
+-- what these rows, and then another lookup, say of a name with its parameters
+abbrev pub by_rows : List Row → Option Step → List ℕ → List (List ℕ) → Option Step
+by_rows [] rest name words = rest
+by_rows (r ∷ rows) rest name words = if bytes_eq name r.name then r.step words else by_rows rows rest name words
+
+-- the table, group by group
+abbrev pub table : List (List Row)
+table = packet_rows ∷ colour_rows ∷ mutator_rows ∷ making_rows ∷ world_rows ∷ sweep_rows ∷ counter_rows ∷ help_rows ∷ []
+
+abbrev pub by_groups : List (List Row) → List ℕ → List (List ℕ) → Option Step
+by_groups [] name words = None
+by_groups (rows ∷ groups) name words = by_rows rows (by_groups groups name words) name words
+
+-- the step of a name with its parameters
+abbrev pub step_of : List ℕ → List (List ℕ) → Option Step
+step_of name words = by_groups table name words

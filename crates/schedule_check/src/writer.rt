@@ -1,0 +1,131 @@
+//! Writes verdicts and faults.
+ghost use Rattle.std.specs.Prelude.{◌≢◌};
+ghost use Rattle.play_report.specs.Causes.{Writes};
+ghost use Rattle.schedule_check.specs.Text.{closed_text, used_text, marking_text, words_text, end_text, accepted_text, verdict_text, error_text};
+
+use crate::fault::ScheduleFault;
+use crate::output::{write_named, write_refused};
+use crate::verdict::Verdict;
+use mark_core::{Phase, phase_number};
+use play_report::{Failed, Sink, write_all};
+
+fn write_closed<K: Sink>(closed: bool, sink: &mut K) -> Result<(), Failed>
+    ensures { Writes result (K.written sink.old) (K.written sink.new) (K.faults sink.old) (K.faults sink.new)
+        (closed_text closed) }
+{
+    if closed {
+        write_all(sink, b"closed yes\n")
+    } else {
+        write_all(sink, b"closed no\n")
+    }
+}
+
+fn write_used<K: Sink>(used: u32, closed: bool, sink: &mut K) -> Result<(), Failed>
+    ensures { Writes result (K.written sink.old) (K.written sink.new) (K.faults sink.old) (K.faults sink.new)
+        (used_text used closed) }
+{
+    match write_named("used ", used as u64, sink) {
+        Ok(()) => write_closed(closed, sink),
+        Err(e) => Err(e),
+    }
+}
+
+fn write_marking<K: Sink>(marked: u32, used: u32, closed: bool, sink: &mut K) -> Result<(), Failed>
+    ensures { Writes result (K.written sink.old) (K.written sink.new) (K.faults sink.old) (K.faults sink.new)
+        (marking_text marked used closed) }
+{
+    match write_named("marked ", marked as u64, sink) {
+        Ok(()) => write_used(used, closed, sink),
+        Err(e) => Err(e),
+    }
+}
+
+/// The phase by its number, and the word that counts empty packets.
+fn write_words<K: Sink>(phase: Phase, empty: u64, sink: &mut K) -> Result<(), Failed>
+    ensures { Writes result (K.written sink.old) (K.written sink.new) (K.faults sink.old) (K.faults sink.new)
+        (words_text phase empty) }
+{
+    match write_named("phase ", phase_number(phase), sink) {
+        Ok(()) => write_named("empty ", empty, sink),
+        Err(e) => Err(e),
+    }
+}
+
+fn write_end<K: Sink>(
+    phase: Phase,
+    empty: u64,
+    marked: u32,
+    used: u32,
+    closed: bool,
+    sink: &mut K,
+) -> Result<(), Failed>
+    ensures { Writes result (K.written sink.old) (K.written sink.new) (K.faults sink.old) (K.faults sink.new)
+        (end_text phase empty marked used closed) }
+{
+    match write_words(phase, empty, sink) {
+        Ok(()) => write_marking(marked, used, closed, sink),
+        Err(e) => Err(e),
+    }
+}
+
+fn write_accepted<K: Sink>(
+    events: u32,
+    phase: Phase,
+    empty: u64,
+    marked: u32,
+    used: u32,
+    closed: bool,
+    sink: &mut K,
+) -> Result<(), Failed>
+    ensures { Writes result (K.written sink.old) (K.written sink.new) (K.faults sink.old) (K.faults sink.new)
+        (accepted_text events phase empty marked used closed) }
+{
+    match write_named("accepted ", events as u64, sink) {
+        Ok(()) => write_end(phase, empty, marked, used, closed, sink),
+        Err(e) => Err(e),
+    }
+}
+
+/// Writes the text of a verdict: for an accepted schedule the lines `accepted`, `phase`, `empty`, `marked` and `used`,
+/// each with a number, and `closed yes` or `closed no`; for a refused one the line `refused line L rule K part P`. Failed
+/// only where the sink's count of faults rose in this call, and a front of the text was then written. Each line is one
+/// piece, and the rest of a piece that was taken in part is handed again. It takes no memory.
+pub fn write_verdict<K: Sink>(verdict: &Verdict, sink: &mut K) -> Result<(), Failed>
+    ensures { Writes result (K.written sink.old) (K.written sink.new) (K.faults sink.old) (K.faults sink.new)
+        (verdict_text verdict.now) }
+{
+    match verdict {
+        Verdict::Accepted {
+            events,
+            phase,
+            empty,
+            marked,
+            used,
+            closed,
+        } => write_accepted(*events, *phase, *empty, *marked, *used, *closed, sink),
+        Verdict::Refused { line, rule } => write_refused(*line, rule, sink),
+    }
+}
+
+/// Writes the text of a fault: its number and name, and its place. Want of memory is no fault of a schedule and has no
+/// text. Failed only where the sink's count of faults rose in this call, and a front of the text was then written. The
+/// line is one piece, and the rest of a piece that was taken in part is handed again. It takes no memory.
+pub fn write_schedule_fault<K: Sink>(fault: &ScheduleFault, sink: &mut K) -> Result<(), Failed>
+    requires { fault.now ≢ ScheduleFault.OutOfMemory }
+    ensures { Writes result (K.written sink.old) (K.written sink.new) (K.faults sink.old) (K.faults sink.new)
+        (error_text fault.now) }
+{
+    match fault {
+        ScheduleFault::NotAscii { offset } => {
+            write_named("21 NotAscii offset ", *offset as u64, sink)
+        }
+        ScheduleFault::BadHeader => write_all(sink, b"22 BadHeader\n"),
+        ScheduleFault::BadShape => write_all(sink, b"23 BadShape\n"),
+        ScheduleFault::BadEvent { line } => { write_named("24 BadEvent line ", *line as u64, sink) }
+        ScheduleFault::TooManyEvents { line } => {
+            write_named("25 TooManyEvents line ", *line as u64, sink)
+        }
+        ScheduleFault::TooLong => write_all(sink, b"26 TooLong\n"),
+        ScheduleFault::OutOfMemory => unreachable!(),
+    }
+}
