@@ -5,7 +5,9 @@ use Rattle.std.specs.Prelude.{Option, Some, None, IfSome, option_map, option_and
 use Rattle.std.specs.Str.{bytes_eq}
 use Rattle.gc_script.specs.ScriptText.{number_of}
 use Rattle.command_words.specs.Words.{Options, Setting, Command, Run, Gen, Load, Convert, Schedule, Dump, Undump, Census, Batch, command, by_name, settings, allowing, given, chosen, number_in, is_set, cells, workers, tracers, packets, entries, runners, options, number, size, run, gen, load, dump, batch, play_names, made_names}
-use Rattle.command_words.specs.Commands.{IsInRange, built, is_built, command_of}
+use Rattle.command_words.specs.Commands.{IsInRange, command_of, options_of}
+use Rattle.play_contract.specs.Playing.{AreInRange}
+use Rattle.play_contract.specs.declared.options.Options.{Options as PlayOptions}
 use Rattle.command_words.specs.declared.asked.Asked.{Asked}
 use Rattle.command_words.specs.declared.asked.Asked.TheVariants as asked
 
@@ -76,11 +78,13 @@ options_in all =
     (chosen_in 2 1024 (Some 64) (given (codes "--packets") all) (omega arith, omega arith))
     (chosen_in 2 512 (Some 32) (given (codes "--entries") all) (omega arith, omega arith))
 
--- the values of a command that the program has are in their ranges
+-- the values of a command are in their ranges
 abbrev IsFine : Option Command → Type 0
 IsFine (Some (Run o)) = AreIn (Some o)
 IsFine (Some (Gen number size)) = In 1 20000 (Some size)
 IsFine (Some (Load o number size)) = AreIn (Some o) × In 1 20000 (Some size)
+IsFine (Some (Dump o)) = AreIn (Some o)
+IsFine (Some (Batch o runners)) = AreIn (Some o) × In 1 8 (Some runners)
 IsFine other = Unit {0}
 
 one_of : (b : Bool) (x y : Option Command) → IsFine x → IsFine y → IsFine (if b then x else y)
@@ -106,17 +110,20 @@ load_fine (Some o) None size h k = tt
 load_fine (Some o) (Some n) None h k = tt
 load_fine (Some o) (Some n) (Some m) h k = (h, k)
 
-dump_fine : (o : Option Options) → IsFine (option_and_then (λ o. Some (Dump o)) o)
-dump_fine None = tt
-dump_fine (Some o) = tt
+dump_fine : (o : Option Options) → AreIn o → IsFine (option_and_then (λ o. Some (Dump o)) o)
+dump_fine None h = tt
+dump_fine (Some o) h = h
 
-batch_fine : (o : Option Options) (runners : Option ℕ) → IsFine (option_and_then (λ o. option_and_then (λ r. Some (Batch o r)) runners) o)
-batch_fine None runners = tt
-batch_fine (Some o) None = tt
-batch_fine (Some o) (Some r) = tt
+batch_fine : (o : Option Options) (runners : Option ℕ) → AreIn o → In 1 8 runners → IsFine (option_and_then (λ o. option_and_then (λ r. Some (Batch o r)) runners) o)
+batch_fine None runners h k = tt
+batch_fine (Some o) None h k = tt
+batch_fine (Some o) (Some r) h k = (h, k)
 
 size_in : (all : List Setting) → In 1 20000 (size all)
 size_in all = chosen_in 1 20000 None (given (codes "--size") all) tt
+
+runners_in : (all : List Setting) → In 1 8 (runners all)
+runners_in all = chosen_in 1 8 (Some 2) (given (codes "--runners") all) (omega arith, omega arith)
 
 -- the first of nine commands whose name is given
 first_of : (a b c d e f g h i : Bool) (r s t u v w x y z : Option Command) → IsFine r → IsFine s → IsFine t → IsFine u → IsFine v → IsFine w → IsFine x → IsFine y → IsFine z
@@ -143,10 +150,10 @@ named_fine name all =
     (load_fine (options all) (number all) (size all) (options_in all) (size_in all)))
     (allowed [] all (Some Convert) tt)
     (allowed [] all (Some Schedule) tt)
-    (allowed play_names all (option_and_then (λ o. Some (Dump o)) (options all)) (dump_fine (options all)))
+    (allowed play_names all (option_and_then (λ o. Some (Dump o)) (options all)) (dump_fine (options all) (options_in all)))
     (allowed [] all (Some Undump) tt)
     (allowed [] all (Some Census) tt)
-    (allowed (codes "--runners" ∷ play_names) all (option_and_then (λ o. option_and_then (λ r. Some (Batch o r)) (runners all)) (options all)) (batch_fine (options all) (runners all)))
+    (allowed (codes "--runners" ∷ play_names) all (option_and_then (λ o. option_and_then (λ r. Some (Batch o r)) (runners all)) (options all)) (batch_fine (options all) (runners all) (options_in all) (runners_in all)))
 
 with_settings : (name : List ℕ) (all : Option (List Setting)) → IsFine (option_and_then (by_name name) all)
 with_settings name None = tt
@@ -156,24 +163,28 @@ command_fine : (words : List (List ℕ)) → IsFine (command words)
 command_fine [] = tt
 command_fine (name ∷ words) = with_settings name (settings words None)
 
-built_fine : (c : Option Command) → IsFine c → IsFine (built c)
-built_fine None h = tt
-built_fine (Some c) h = one_of (is_built c) (Some c) None h tt
+options_fine : (o : PlayOptions) → AreIn (Some (options_of o)) → AreInRange o
+options_fine o h = record { cells = h.0; workers = h.1; tracers = h.2.1; packets = h.3; entries = h.4 }
 
 range_of : (a : Asked) → IsFine (Some (command_of a)) → IsInRange a
-range_of (asked.Run o) h = record { cells = h.0; workers = h.1; tracers = h.2.1; packets = h.3; entries = h.4 }
+range_of (asked.Run o) h = options_fine o h
 range_of (asked.Gen number size) h = h
-range_of (asked.Load o number size) h = (record { cells = h.0.0; workers = h.0.1; tracers = h.0.2.1; packets = h.0.3; entries = h.0.4 }, h.1.0, h.1.1)
+range_of (asked.Load o number size) h = (options_fine o h.0, h.1.0, h.1.1)
 range_of asked.Convert h = tt
+range_of asked.Schedule h = tt
+range_of (asked.Dump o) h = options_fine o h
+range_of asked.Undump h = tt
+range_of asked.Census h = tt
+range_of (asked.Batch o runners) h = (options_fine o h.0, h.1.0, h.1.1)
 
 -- what the words ask for is in range
-in_range : (words : List (List ℕ)) (a : Asked) → Some (command_of a) ≡ built (command words) → IsInRange a
-in_range words a e = range_of a (subst IsFine (sym e) (built_fine (command words) (command_fine words)))
+in_range : (words : List (List ℕ)) (a : Asked) → Some (command_of a) ≡ command words → IsInRange a
+in_range words a e = range_of a (subst IsFine (sym e) (command_fine words))
 
-pub all_in_range : (words : List (List ℕ)) (a : Option Asked) → option_map command_of a ≡ built (command words) → IfSome a IsInRange
+pub all_in_range : (words : List (List ℕ)) (a : Option Asked) → option_map command_of a ≡ command words → IfSome a IsInRange
 all_in_range words None e = tt
 all_in_range words (Some a) e = in_range words a e
 
 -- the size of a generated script that is played
-pub load_size : (words : List (List ℕ)) (o : Options) (number size : ℕ) → built (command words) ≡ Some (Load o number size) → size ≤ 20000
-load_size words o number size e = (subst IsFine e (built_fine (command words) (command_fine words))).1.1
+pub load_size : (words : List (List ℕ)) (o : Options) (number size : ℕ) → command words ≡ Some (Load o number size) → size ≤ 20000
+load_size words o number size e = (subst IsFine e (command_fine words)).1.1

@@ -8,9 +8,8 @@ use Rattle.std.proofs.lemmas.List.Folds.{list_all-append}
 use Rattle.std.proofs.lemmas.Slice.Eq.{bytes_eq-Decides}
 use Rattle.clap.specs.Walk.{Text}
 use Rattle.clap.proofs.WalkLemmas.{list_any-map}
-use Rattle.command_words.specs.Words.{Command, Convert, Gen, Load, Options, Run, Setting, allowing, cells, chosen, entries, given, is_set, number, number_in, options, packets, size, tracers, workers}
-use Rattle.command_words.specs.Commands.{built}
-use Rattle.command_words.specs.Parsing.{are_allowed, dashed, is_flag, is_required, load_options, made_options, play_options, run_options}
+use Rattle.command_words.specs.Words.{Batch, Command, Dump, Gen, Load, Options, Run, Setting, allowing, cells, chosen, entries, given, is_set, number, number_in, options, packets, runners, size, tracers, workers}
+use Rattle.command_words.specs.Parsing.{are_allowed, batch_options, dashed, is_flag, is_required, load_options, made_options, play_options, run_options}
 use Rattle.command_words.proofs.NamedRules.{has_name}
 use Rattle.command_words.proofs.LeafTurns.{begins_with_hyphen}
 use Rattle.command_words.proofs.LeafRefused.{is_bad, is_misused}
@@ -120,8 +119,8 @@ none_either true o e = e
 none_either false o e = refl
 
 refuses_by : (names : List Text) (inner : List Setting → Option Command) → IsStrict names inner → (done more : List Setting) (x : Setting) → is_bad names done x ≡ true
-    → built (allowing (map dashed names) (done ++ x ∷ more) (inner (done ++ x ∷ more))) ≡ None
-refuses_by names inner strict done more x bad = ap built (go (list_any (λ n. bytes_eq x.name (dashed n)) names) refl bad)
+    → allowing (map dashed names) (done ++ x ∷ more) (inner (done ++ x ∷ more)) ≡ None
+refuses_by names inner strict done more x bad = go (list_any (λ n. bytes_eq x.name (dashed n)) names) refl bad
   where
     and_no : (a b : Bool) → (a && (false && b)) ≡ false
     and_no true b = refl
@@ -244,8 +243,25 @@ load_strict all n known spoilt =
     (λ e. ap (loads_by (options all) (number all)) (none_of all n spoilt (codes "size") e refl 1 20000 None) ∙ no_load_size (options all) (number all))
     (λ h. ap (λ o. loads_by o (number all) (size all)) (play_strict all n spoilt h))) known
 
-pub convert_strict : IsStrict [] (λ all. Some Convert)
-convert_strict all n known spoilt = absurd (true≢false (sym known))
+-- a command without options
+pub bare_strict : (command : Command) → IsStrict [] (λ all. Some command)
+bare_strict command all n known spoilt = absurd (true≢false (sym known))
+
+pub dump_strict : IsStrict play_options (λ all. option_and_then (λ o. Some (Dump o)) (options all))
+dump_strict all n known spoilt = ap (option_and_then (λ (o : Options). Some (Dump o))) (play_strict all n spoilt known)
+
+abbrev pub batches_by : Option Options → Option ℕ → Option Command
+batches_by o r = option_and_then (λ options. option_and_then (λ runners. Some (Batch options runners)) r) o
+
+no_batch_runners : (o : Option Options) → batches_by o None ≡ None
+no_batch_runners None = refl
+no_batch_runners (Some o) = refl
+
+pub batch_strict : IsStrict batch_options (λ all. batches_by (options all) (runners all))
+batch_strict all n known spoilt =
+    either_name (codes "runners") n play_options
+    (λ e. ap (batches_by (options all)) (none_of all n spoilt (codes "runners") e refl 1 8 (Some 2)) ∙ no_batch_runners (options all))
+    (λ h. ap (λ o. batches_by o (runners all)) (play_strict all n spoilt h)) known
 
 -- ---- the commands that need an option
 
@@ -284,13 +300,19 @@ load_needs all n known needed missing =
     (λ e. ap (λ l. loads_by (options all) (number all) (chosen 1 20000 None l)) (ap (λ m. given (dashed m) all) e ∙ missing) ∙ no_load_size (options all) (number all))
     (play_free n needed)) known
 
-pub convert_needs : NeedsAll [] (λ all. Some Convert)
-convert_needs all n known needed missing = absurd (true≢false (sym known))
+pub bare_needs : (command : Command) → NeedsAll [] (λ all. Some command)
+bare_needs command all n known needed missing = absurd (true≢false (sym known))
+
+pub dump_needs : NeedsAll play_options (λ all. option_and_then (λ o. Some (Dump o)) (options all))
+dump_needs all n known needed missing = play_free n needed known
+
+pub batch_needs : NeedsAll batch_options (λ all. batches_by (options all) (runners all))
+batch_needs all n known needed missing = either_name (codes "runners") n play_options (not_needed (codes "runners") n refl needed) (play_free n needed) known
 
 pub keeps_by : (names : List Text) (inner : List Setting → Option Command) → has_name names [] ≡ false → IsStrict names inner → NeedsAll names inner
-    → Keeps names (λ all. built (allowing (map dashed names) all (inner all)))
+    → Keeps names (λ all. allowing (map dashed names) all (inner all))
 keeps_by names inner named strict needs = record {
   named = named;
   refuses = refuses_by names inner strict;
-  needs = λ all n known needed missing. ap built (none_either (are_allowed names all) (inner all) (needs all n known needed missing));
+  needs = λ all n known needed missing. none_either (are_allowed names all) (inner all) (needs all n known needed missing);
 }

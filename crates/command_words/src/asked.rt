@@ -12,4 +12,14 @@ pub enum Asked {
     Load(Options, u32, u32),
     /// Writes the script of the source in the second version of the language.
     Convert,
+    /// Checks the schedule of the source.
+    Schedule,
+    /// Plays the script of the source, as these options say, and writes the dump of the heap at its end.
+    Dump(Options),
+    /// Writes the records of the source's dump.
+    Undump,
+    /// Writes the census of the source's dump.
+    Census,
+    /// Plays the scripts of the source's batch, each as these options say, on so many runners.
+    Batch(Options, u32),
 }

@@ -2,9 +2,9 @@
 ghost use Rattle.std.specs.Prelude.{◌≡◌, List, ℕ, Option, Some, None, true, option_map, option_and_then};
 ghost use Rattle.clap.specs.Words.{first_of, found_of, rows_of};
 ghost use Rattle.clap.specs.Walk.{one_of};
-ghost use Rattle.command_words.specs.Words.{Setting, allowing, by_name, cells, chosen, gen, is_set, load, options, run, Convert};
-ghost use Rattle.command_words.specs.Commands.{built, command_of, options_of};
-ghost use Rattle.command_words.specs.Parsing.{IsAsked, IsToldFlag, Tells, are_allowed, load_options, made_options, run_options, told};
+ghost use Rattle.command_words.specs.Words.{Setting, batch, by_name, cells, chosen, dump, gen, is_set, load, options, run};
+ghost use Rattle.command_words.specs.Commands.{command_of, options_of};
+ghost use Rattle.command_words.specs.Parsing.{IsAsked, IsToldFlag, Tells, are_allowed, batch_options, load_options, made_options, play_options, run_options, told};
 
 use crate::asked::Asked;
 use crate::number::number_in;
@@ -57,13 +57,13 @@ fn options(matches: &ArgMatches<'_>) -> Option<Options>
 }
 
 fn run(matches: &ArgMatches<'_>) -> Option<Asked>
-    ensures { (all : List Setting) → Tells (rows_of (found_of matches.now)) all → are_allowed run_options all ≡ true → option_map command_of result ≡ built (run all) }
+    ensures { (all : List Setting) → Tells (rows_of (found_of matches.now)) all → are_allowed run_options all ≡ true → option_map command_of result ≡ run all }
 {
     Some(Asked::Run(options(matches)?))
 }
 
 fn generate(matches: &ArgMatches<'_>) -> Option<Asked>
-    ensures { (all : List Setting) → Tells (rows_of (found_of matches.now)) all → are_allowed made_options all ≡ true → option_map command_of result ≡ built (gen all) }
+    ensures { (all : List Setting) → Tells (rows_of (found_of matches.now)) all → are_allowed made_options all ≡ true → option_map command_of result ≡ gen all }
 {
     let number = chosen(matches, "number", 0, 4_294_967_295, None)?;
     let size = chosen(matches, "size", 1, 20_000, None)?;
@@ -71,7 +71,7 @@ fn generate(matches: &ArgMatches<'_>) -> Option<Asked>
 }
 
 fn load(matches: &ArgMatches<'_>) -> Option<Asked>
-    ensures { (all : List Setting) → Tells (rows_of (found_of matches.now)) all → are_allowed load_options all ≡ true → option_map command_of result ≡ built (load all) }
+    ensures { (all : List Setting) → Tells (rows_of (found_of matches.now)) all → are_allowed load_options all ≡ true → option_map command_of result ≡ load all }
 {
     let options = options(matches)?;
     let number = chosen(matches, "number", 0, 4_294_967_295, None)?;
@@ -79,9 +79,23 @@ fn load(matches: &ArgMatches<'_>) -> Option<Asked>
     Some(Asked::Load(options, number, size))
 }
 
+fn dump(matches: &ArgMatches<'_>) -> Option<Asked>
+    ensures { (all : List Setting) → Tells (rows_of (found_of matches.now)) all → are_allowed play_options all ≡ true → option_map command_of result ≡ dump all }
+{
+    Some(Asked::Dump(options(matches)?))
+}
+
+fn batch(matches: &ArgMatches<'_>) -> Option<Asked>
+    ensures { (all : List Setting) → Tells (rows_of (found_of matches.now)) all → are_allowed batch_options all ≡ true → option_map command_of result ≡ batch all }
+{
+    let options = options(matches)?;
+    let runners = chosen(matches, "runners", 1, 8, Some(2))?;
+    Some(Asked::Batch(options, runners))
+}
+
 /// The command of this name, from the matches of its own words.
 pub fn by_name(name: &str, matches: &ArgMatches<'_>) -> Option<Asked>
-    ensures { (all : List Setting) → IsAsked name.now (rows_of (found_of matches.now)) all → option_map command_of result ≡ built (by_name name.now all) }
+    ensures { (all : List Setting) → IsAsked name.now (rows_of (found_of matches.now)) all → option_map command_of result ≡ by_name name.now all }
 {
     if name == "run" {
         run(matches)
@@ -91,6 +105,16 @@ pub fn by_name(name: &str, matches: &ArgMatches<'_>) -> Option<Asked>
         load(matches)
     } else if name == "convert" {
         Some(Asked::Convert)
+    } else if name == "schedule" {
+        Some(Asked::Schedule)
+    } else if name == "dump" {
+        dump(matches)
+    } else if name == "undump" {
+        Some(Asked::Undump)
+    } else if name == "census" {
+        Some(Asked::Census)
+    } else if name == "batch" {
+        batch(matches)
     } else {
         None
     }

@@ -15,7 +15,7 @@ pub struct Form {
 }
 
 /// The commands that the program has. `clap` is told each line.
-const COMMANDS: [Form; 4] = [
+const COMMANDS: [Form; 9] = [
     Form {
         name: "run",
         options: &["place", "cells", "workers", "tracers", "packets", "entries"],
@@ -33,6 +33,28 @@ const COMMANDS: [Form; 4] = [
     Form {
         name: "convert",
         options: &[],
+    },
+    Form {
+        name: "schedule",
+        options: &[],
+    },
+    Form {
+        name: "dump",
+        options: &["cells", "workers", "tracers", "packets", "entries"],
+    },
+    Form {
+        name: "undump",
+        options: &[],
+    },
+    Form {
+        name: "census",
+        options: &[],
+    },
+    Form {
+        name: "batch",
+        options: &[
+            "runners", "cells", "workers", "tracers", "packets", "entries",
+        ],
     },
 ];
 

@@ -13,6 +13,7 @@ use Rattle.load_gen.proofs.Whole.{generated_script}
 use Rattle.play_report.specs.Text.{IsFullText}
 use Rattle.command_words.specs.Words.{Options, Command, Run, Gen, Load, Convert, Schedule, Dump, Undump, Census, Batch}
 use Rattle.gcplay.specs.Answers.{RunsTo, LoadsTo}
+use Rattle.gcplay.specs.Dumping.{DumpsTo}
 use Rattle.gcplay.specs.Promise.{IsAnswer}
 use Rattle.gcplay.specs.Roomy.{PlaysIn, AreFew}
 use Rattle.gcplay.proofs.Bounding.{few-never-fill}
@@ -40,8 +41,19 @@ load_full o s text whole f plays =
     (λ (a : (3 ≡ 3) × IsFullText whole.sections o.cells text). subst (λ (t : Sections). AreFew t o.cells) f (full_few whole.sections o.cells text a.1))
     plays
 
-run_few : (o : Options) (s : Sections) (text : List ℕ) (read : Result Script Fault) (whole : Script) → read ≡ Ok whole → whole.sections ≡ s → RunsTo o read 3 text → AreFew s o.cells
+-- a script that was read, and is full
+pub run_few : (o : Options) (s : Sections) (text : List ℕ) (read : Result Script Fault) (whole : Script) → read ≡ Ok whole → whole.sections ≡ s → RunsTo o read 3 text → AreFew s o.cells
 run_few o s text read whole e f runs = run_full o s text whole f (subst (λ (r : Result Script Fault). RunsTo o r 3 text) e runs)
+
+dump_full : (o : Options) (s : Sections) (text : List ℕ) (whole : Script) → whole.sections ≡ s → DumpsTo o (Ok whole) 3 text → AreFew s o.cells
+dump_full o s text whole f plays =
+    ⊎_elim
+    (λ a. absurd (omega (arith, a.0)))
+    (λ (a : (3 ≡ 3) × IsFullText whole.sections o.cells text). subst (λ (t : Sections). AreFew t o.cells) f (full_few whole.sections o.cells text a.1))
+    plays
+
+dump_few : (o : Options) (s : Sections) (text : List ℕ) (read : Result Script Fault) (whole : Script) → read ≡ Ok whole → whole.sections ≡ s → DumpsTo o read 3 text → AreFew s o.cells
+dump_few o s text read whole e f dumps = dump_full o s text whole f (subst (λ (r : Result Script Fault). DumpsTo o r 3 text) e dumps)
 
 load_few : (o : Options) (s : Sections) (text : List ℕ) (read : Result Script Fault) (whole : Script) → read ≡ Ok whole → whole.sections ≡ s → LoadsTo o read 3 text → AreFew s o.cells
 load_few o s text read whole e f loads = load_full o s text whole f (subst (λ (r : Result Script Fault). LoadsTo o r 3 text) e loads)
@@ -51,13 +63,16 @@ pub full-few : (asked : Option Command) (left : Option (List ℕ)) (text : List 
 full-few (Some (Run o)) (Some bytes) text answer s cells plays =
     let at : script bytes ≡ script answer.0 = ap script answer.1 in
     subst (AreFew s) plays.1 (run_few o s text (script answer.0) plays.0.0 (sym at ∙ plays.0.1) plays.0.2 answer.2)
+full-few (Some (Dump o)) (Some bytes) text answer s cells plays =
+    let at : script bytes ≡ script answer.0 = ap script answer.1 in
+    subst (AreFew s) plays.1 (dump_few o s text (script answer.0) plays.0.0 (sym at ∙ plays.0.1) plays.0.2 answer.2)
 full-few (Some (Load o number size)) left text answer s cells plays = subst (AreFew s) plays.1 (load_few o s text (script (generated number size)) plays.0.0 plays.0.1 plays.0.2 answer)
 full-few None left text answer s cells plays = absurd plays
 full-few (Some (Run o)) None text answer s cells plays = absurd plays
 full-few (Some (Gen number size)) left text answer s cells plays = absurd plays
 full-few (Some Convert) left text answer s cells plays = absurd plays
 full-few (Some Schedule) left text answer s cells plays = absurd plays
-full-few (Some (Dump o)) left text answer s cells plays = absurd plays
+full-few (Some (Dump o)) None text answer s cells plays = absurd plays
 full-few (Some Undump) left text answer s cells plays = absurd plays
 full-few (Some Census) left text answer s cells plays = absurd plays
 full-few (Some (Batch o runners)) left text answer s cells plays = absurd plays

@@ -1,5 +1,5 @@
 -- How the program ends, and why.
-use Rattle.std.specs.Prelude.{ℕ, ◌≡◌, List, Option, Some, None, Result, Ok, Err}
+use Rattle.std.specs.Prelude.{ℕ, ◌≡◌, ◌≤◌, ◌⊎◌, List, Option, Some, None, Result, Ok, Err}
 use Rattle.std.specs.Io.KnownBytes.{Appends, Keeps}
 use Rattle.gc_script.specs.Faults.{Fault}
 use Rattle.play_report.specs.Causes.{Rose, Grows}
@@ -10,11 +10,16 @@ use Rattle.gcplay.specs.declared.status.Status.TheVariants as ends
 abbrev pub code_of : Status → ℕ
 code_of ends.Done = 0
 code_of ends.Usage = 1
-code_of ends.ScriptFault = 2
+code_of ends.InputFault = 2
 code_of ends.Full = 3
 code_of ends.ReadFault = 4
 code_of ends.WriteFault = 5
 code_of ends.Memory = 6
+code_of ends.Refused = 7
+
+-- the statuses with which a whole text is written
+abbrev pub HasItsText : ℕ → Type 0
+HasItsText status = (status ≤ 3) ⊎ (status ≡ 7)
 
 -- the status after a text was handed to the sink
 abbrev pub after : {T E : Type 0} → Status → Result T E → Status
@@ -34,11 +39,12 @@ WritesFront old new P = (text : List ℕ) × P text × Grows old new text
 abbrev pub TextEnds : (ℕ → List ℕ → Type 0) → Status → Option (List ℕ) → Option (List ℕ) → ℕ → ℕ → Type 0
 TextEnds Answers ends.Done old new before now = WritesSome old new (Answers 0) × (now ≡ before)
 TextEnds Answers ends.Usage old new before now = WritesSome old new (Answers 1) × (now ≡ before)
-TextEnds Answers ends.ScriptFault old new before now = WritesSome old new (Answers 2) × (now ≡ before)
+TextEnds Answers ends.InputFault old new before now = WritesSome old new (Answers 2) × (now ≡ before)
 TextEnds Answers ends.Full old new before now = WritesSome old new (Answers 3) × (now ≡ before)
 TextEnds Answers ends.ReadFault old new before now = ⊥
 TextEnds Answers ends.WriteFault old new before now = WritesFront old new (λ text. (status : ℕ) × Answers status text) × Rose before now
 TextEnds Answers ends.Memory old new before now = Keeps old new × (now ≡ before)
+TextEnds Answers ends.Refused old new before now = WritesSome old new (Answers 7) × (now ≡ before)
 
 -- the text of a fault, where there is one
 abbrev pub IsFaultAnswer : Option Fault → ℕ → List ℕ → Type 0

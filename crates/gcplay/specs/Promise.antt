@@ -5,18 +5,36 @@ use Rattle.gc_script.specs.Script.{Script, script}
 use Rattle.gc_script.specs.Convert.{Conversion, convert}
 use Rattle.play_report.specs.Text.{usage_text}
 use Rattle.command_words.specs.Words.{Command, Run, Gen, Load, Convert, Schedule, Dump, Undump, Census, Batch, command}
-use Rattle.command_words.specs.Commands.{built}
+use Rattle.job_pool.specs.Batch.{Fault as BatchFault, batch}
 use Rattle.gcplay.specs.Answers.{IsRunAnswer, IsGenAnswer, IsLoadAnswer, IsConvertAnswer}
+use Rattle.gcplay.specs.Batching.{IsBatchAnswer}
+use Rattle.gcplay.specs.Dumping.{IsDumpAnswer, IsUndumpAnswer, IsCensusAnswer}
+use Rattle.heap_dump.specs.Reading.{fault_of}
+use Rattle.heap_dump.specs.declared.fault.DumpError.{DumpError}
+use Rattle.schedule_check.specs.Telling.{status_of, IsAnswer as IsScheduleAnswer}
 
--- the command that these words ask for, if they ask for one that the program has
+-- the command that these words ask for, if they ask for one
 abbrev pub wanted : List (List ℕ) → Option Command
-wanted words = built (command words)
+wanted words = command words
 
 -- whether the source is read
 abbrev pub reads_source : Option Command → Bool
 reads_source (Some (Run options)) = true
 reads_source (Some Convert) = true
+reads_source (Some Schedule) = true
+reads_source (Some (Dump options)) = true
+reads_source (Some Undump) = true
+reads_source (Some Census) = true
+reads_source (Some (Batch options runners)) = true
 reads_source other = false
+
+-- as many bytes of the source as decide: one more than the longest input of the command
+abbrev pub enough_for : Option Command → ℕ
+enough_for (Some Schedule) = 4194305
+enough_for (Some Undump) = 4984981
+enough_for (Some Census) = 4984981
+enough_for (Some (Batch options runners)) = 16777217
+enough_for other = 1048577
 
 -- the text answers some bytes, which are those that the source tells where it tells them
 abbrev pub OfSource : (List ℕ → ℕ → List ℕ → Type 0) → Option (List ℕ) → ℕ → List ℕ → Type 0
@@ -29,11 +47,11 @@ IsAnswer (Some (Run options)) left status text = OfSource (IsRunAnswer options) 
 IsAnswer (Some (Gen number size)) left status text = IsGenAnswer number size status text
 IsAnswer (Some (Load options number size)) left status text = IsLoadAnswer options number size status text
 IsAnswer (Some Convert) left status text = OfSource IsConvertAnswer left status text
-IsAnswer (Some Schedule) left status text = ⊥
-IsAnswer (Some (Dump options)) left status text = ⊥
-IsAnswer (Some Undump) left status text = ⊥
-IsAnswer (Some Census) left status text = ⊥
-IsAnswer (Some (Batch options runners)) left status text = ⊥
+IsAnswer (Some Schedule) left status text = OfSource IsScheduleAnswer left status text
+IsAnswer (Some (Dump options)) left status text = OfSource (IsDumpAnswer options) left status text
+IsAnswer (Some Undump) left status text = OfSource IsUndumpAnswer left status text
+IsAnswer (Some Census) left status text = OfSource IsCensusAnswer left status text
+IsAnswer (Some (Batch options runners)) left status text = OfSource (IsBatchAnswer options) left status text
 
 -- a text that may be written with some status
 abbrev pub MayBeText : Option Command → Option (List ℕ) → List ℕ → Type 0
@@ -48,6 +66,15 @@ abbrev pub ConvertsWith : Result Conversion Fault → ℕ → Type 0
 ConvertsWith (Ok c) status = status ≡ 0
 ConvertsWith (Err fault) status = status ≡ 2
 
+-- the status of a dump, or of bytes with a fault
+abbrev pub DumpsWith : Option DumpError → ℕ → Type 0
+DumpsWith None status = status ≡ 0
+DumpsWith (Some fault) status = status ≡ 2
+
+abbrev pub BatchesWith : Result (List (List ℕ)) BatchFault → ℕ → Type 0
+BatchesWith (Ok jobs) status = status ≡ 0
+BatchesWith (Err fault) status = status ≡ 2
+
 -- the status where nothing fails and there is memory
 abbrev pub EndsWith : Option Command → Option (List ℕ) → ℕ → Type 0
 EndsWith None left status = status ≡ 1
@@ -55,8 +82,8 @@ EndsWith (Some (Run options)) left status = IfSome left (λ bytes. RunsWith (scr
 EndsWith (Some (Gen number size)) left status = status ≡ 0
 EndsWith (Some (Load options number size)) left status = (status ≡ 0) ⊎ (status ≡ 3)
 EndsWith (Some Convert) left status = IfSome left (λ bytes. ConvertsWith (convert bytes) status)
-EndsWith (Some Schedule) left status = ⊥
-EndsWith (Some (Dump options)) left status = ⊥
-EndsWith (Some Undump) left status = ⊥
-EndsWith (Some Census) left status = ⊥
-EndsWith (Some (Batch options runners)) left status = ⊥
+EndsWith (Some Schedule) left status = IfSome left (λ bytes. status ≡ status_of bytes)
+EndsWith (Some (Dump options)) left status = IfSome left (λ bytes. RunsWith (script bytes) status)
+EndsWith (Some Undump) left status = IfSome left (λ bytes. DumpsWith (fault_of bytes) status)
+EndsWith (Some Census) left status = IfSome left (λ bytes. DumpsWith (fault_of bytes) status)
+EndsWith (Some (Batch options runners)) left status = IfSome left (λ bytes. BatchesWith (batch bytes) status)

@@ -3,7 +3,7 @@ use Rattle.std.specs.Prelude.{ℕ, ◌≡◌, ◌+◌, ◌<◌, ◌≤◌, List,
 use Rattle.plain_heap.specs.Sections.{Sections, executed_of, made_by, section_numbers, warehouse_numbers}
 use Rattle.gc_script.specs.Script.{Script, script}
 use Rattle.load_gen.specs.Generated.{generated}
-use Rattle.command_words.specs.Words.{Command, Run, Load}
+use Rattle.command_words.specs.Words.{Command, Run, Load, Dump}
 use Rattle.gcplay.specs.Bounded.{KeepsFew}
 
 -- the bytes are a script of these sections
@@ -13,6 +13,7 @@ IsOf bytes s = (whole : Script) × (script bytes ≡ Ok whole) × (whole.section
 -- the command plays these sections, in so many cells
 abbrev pub PlaysIn : Option Command → Option (List ℕ) → Sections → ℕ → Type 0
 PlaysIn (Some (Run options)) (Some bytes) s cells = IsOf bytes s × (options.cells ≡ cells)
+PlaysIn (Some (Dump options)) (Some bytes) s cells = IsOf bytes s × (options.cells ≡ cells)
 PlaysIn (Some (Load options number size)) left s cells = IsOf (generated number size) s × (options.cells ≡ cells)
 PlaysIn asked left s cells = ⊥
 

@@ -4,9 +4,10 @@
 ghost use Rattle.std.specs.Prelude.{ℕ, ◌≡◌, ◌≢◌, ◌<◌, ◌≤◌, ◌-◌, ◌^◌, ◌⊎◌, ◌∷◌, [], map, Contains, IfSome, Some, None, true, false};
 ghost use Rattle.std.specs.String.{string_bytes};
 ghost use Rattle.std.specs.Io.KnownBytes.{Keeps};
-ghost use Rattle.command_words.specs.Words.{Load, Options};
-ghost use Rattle.gcplay.specs.Ending.{CommandEnds, WritesSome, WritesFront, code_of};
-ghost use Rattle.gcplay.specs.Promise.{EndsWith, IsAnswer, MayBeText, reads_source, wanted};
+ghost use Rattle.command_words.specs.Words.{Load, Options, Schedule};
+ghost use Rattle.schedule_check.specs.Telling.{status_of};
+ghost use Rattle.gcplay.specs.Ending.{CommandEnds, HasItsText, WritesSome, WritesFront, code_of};
+ghost use Rattle.gcplay.specs.Promise.{EndsWith, IsAnswer, MayBeText, enough_for, reads_source, wanted};
 ghost use Rattle.gcplay.specs.Reading.{IsSpent};
 ghost use Rattle.gcplay.specs.Roomy.{AreFew, PlaysIn};
 ghost use Rattle.plain_heap.specs.Sections.{Sections};
@@ -31,8 +32,8 @@ fn do_words<R: Threads + Wait + Sync, S: Source, K: Sink, G: Gate + Sync>(
 ) -> Status
     ensures ends { CommandEnds (IsAnswer (wanted (map string_bytes words.now)) (S.left source.old)) result
         (S.faults source.old) (S.faults source.new) (K.written sink.old) (K.written sink.new) (K.faults sink.old) (K.faults sink.new) }
-    ensures spent { reads_source (wanted (map string_bytes words.now)) ≡ true → code_of result ≤ 3
-        → IfSome (S.left source.old) (λ bytes. IsSpent bytes (S.left source.new)) }
+    ensures spent { reads_source (wanted (map string_bytes words.now)) ≡ true → HasItsText (code_of result)
+        → IfSome (S.left source.old) (λ bytes. IsSpent (enough_for (wanted (map string_bytes words.now))) bytes (S.left source.new)) }
     ensures untouched { reads_source (wanted (map string_bytes words.now)) ≡ false → source.new ≡ source.old }
 {
     match command_of(alloc, words) {
@@ -51,12 +52,16 @@ fn do_words<R: Threads + Wait + Sync, S: Source, K: Sink, G: Gate + Sync>(
 /// | | | of `gen`: the generated script |
 /// | | | of `load`: how many commands were executed, objects made and lines printed, how many objects survive, and the sum of their values |
 /// | | | of `convert`: the script in the second version of the language |
+/// | | | of `schedule`: that it is accepted, and its end |
+/// | | | of `dump`: the heap at the end of the play; of `undump`: its records; of `census`: how many there are of each kind |
+/// | | | of `batch`: for each job a line with its status and length, and the text that `run` writes of its script |
 /// | 1 | the words ask for nothing | `usage: gcplay command [options]` |
-/// | 2 | of `run` and `convert`: the script has a fault | the fault's number, name and place |
-/// | 3 | of `run` and `load`: the reachable objects filled all cells | the section that found no cell, and how many commands each section did |
-/// | 4 | of `run` and `convert`: the source failed | nothing |
+/// | 2 | of the commands that read: the input has a fault | the fault's number, name and place |
+/// | 3 | of `run`, `load` and `dump`: the reachable objects filled all cells | the section that found no cell, and how many commands each section did |
+/// | 4 | of the commands that read: the source failed | nothing |
 /// | 5 | the sink failed | a front of what was to be written |
 /// | 6 | memory ran out | nothing |
+/// | 7 | of `schedule`: the schedule is refused | the line, the rule and its part |
 pub fn play_words<R: Threads + Wait + Sync, S: Source, K: Sink, G: Gate + Sync>(
     rt: &R,
     alloc: Global,
@@ -68,14 +73,17 @@ pub fn play_words<R: Threads + Wait + Sync, S: Source, K: Sink, G: Gate + Sync>(
     requires source { S.faults source.old < 2 ^ 64 - 1 }
     requires sink { K.faults sink.old < 2 ^ 64 - 1 }
 
-    ensures statuses { Contains (0 ∷ 1 ∷ 2 ∷ 3 ∷ 4 ∷ 5 ∷ 6 ∷ []) result }
+    ensures statuses { Contains (0 ∷ 1 ∷ 2 ∷ 3 ∷ 4 ∷ 5 ∷ 6 ∷ 7 ∷ []) result }
 
-    // What is written with the statuses 0 to 3 answers what the words ask for.
-    ensures written { result ≤ 3 → WritesSome (K.written sink.old) (K.written sink.new) (IsAnswer (wanted (map string_bytes words.now)) (S.left source.old) result) }
-    // Nothing is left in the source, or it was too long and more was taken than a script may have.
-    ensures spent { reads_source (wanted (map string_bytes words.now)) ≡ true → result ≤ 3 → IfSome (S.left source.old) (λ bytes. IsSpent bytes (S.left source.new)) }
+    // What is written with the statuses 0 to 3, and with 7, answers what the words ask for.
+    ensures written { HasItsText result → WritesSome (K.written sink.old) (K.written sink.new) (IsAnswer (wanted (map string_bytes words.now)) (S.left source.old) result) }
+    // Nothing is left in the source, or it was too long and more was taken than the command's input may have.
+    ensures spent { reads_source (wanted (map string_bytes words.now)) ≡ true → HasItsText result → IfSome (S.left source.old) (λ bytes. IsSpent (enough_for (wanted (map string_bytes words.now))) bytes (S.left source.new)) }
     // `gen`, `load` and words that ask for nothing leave the source as it was.
     ensures untouched { reads_source (wanted (map string_bytes words.now)) ≡ false → source.new ≡ source.old }
+
+    // 7 comes exactly where the source is a schedule that is refused.
+    ensures refuses { result ≡ 7 → (wanted (map string_bytes words.now) ≡ Some Schedule) × IfSome (S.left source.old) (λ bytes. status_of bytes ≡ 7) }
 
     // The words are refused exactly where they ask for nothing.
     ensures usage { result ≡ 1 → wanted (map string_bytes words.now) ≡ None }

@@ -12,15 +12,28 @@ pub enum Unread {
 }
 
 /// One byte more than the longest script.
-const ENOUGH: usize = 1_048_577;
+pub const SCRIPT: usize = 1_048_577;
 
-/// Takes bytes until there are no more, or more than a script may have.
-pub fn read_source<S: Source>(alloc: Global, source: &mut S) -> Result<Vec<u8>, Unread>
-    ensures { Reads result (S.left source.old) (S.left source.new) (S.faults source.old) (S.faults source.new) }
+/// One byte more than the longest schedule.
+pub const SCHEDULE: usize = 4_194_305;
+
+/// One byte more than the longest dump.
+pub const DUMP: usize = 4_984_981;
+
+/// One byte more than the longest batch.
+pub const BATCH: usize = 16_777_217;
+
+/// Takes bytes until there are no more, or `enough` of them, which is more than the input may have.
+pub fn read_source<S: Source>(
+    alloc: Global,
+    source: &mut S,
+    enough: usize,
+) -> Result<Vec<u8>, Unread>
+    ensures { Reads enough result (S.left source.old) (S.left source.new) (S.faults source.old) (S.faults source.new) }
 {
     let mut bytes = Vec::new(alloc);
     let mut buf = [0u8; 4096];
-    for _turn in 0..ENOUGH {
+    for _turn in 0..enough {
         match source.read(&mut buf) {
             Err(_) => return Err(Unread::Failed),
             Ok(n) => {
@@ -30,7 +43,7 @@ pub fn read_source<S: Source>(alloc: Global, source: &mut S) -> Result<Vec<u8>, 
                 if bytes.extend_from_slice(&buf[..n]).is_err() {
                     return Err(Unread::Memory);
                 }
-                if bytes.len() >= ENOUGH {
+                if bytes.len() >= enough {
                     return Ok(bytes);
                 }
             }

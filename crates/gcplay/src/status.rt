@@ -11,8 +11,8 @@ pub enum Status {
     Done,
     /// The words ask for nothing.
     Usage,
-    /// The script has a fault.
-    ScriptFault,
+    /// The input has a fault.
+    InputFault,
     /// The reachable objects filled all cells.
     Full,
     /// The source failed.
@@ -21,21 +21,25 @@ pub enum Status {
     WriteFault,
     /// Memory ran out.
     Memory,
+    /// The schedule is refused.
+    Refused,
 }
 
 impl Status {
-    /// Its number: 0 done, 1 usage, 2 fault of the script, 3 full, 4 read fault, 5 write fault, 6 memory.
+    /// Its number: 0 done, 1 usage, 2 fault of the input, 3 full, 4 read fault, 5 write fault, 6 memory,
+    /// 7 refused.
     pub fn code(self) -> u8
         ensures { result ≡ code_of self }
     {
         match self {
             Status::Done => 0,
             Status::Usage => 1,
-            Status::ScriptFault => 2,
+            Status::InputFault => 2,
             Status::Full => 3,
             Status::ReadFault => 4,
             Status::WriteFault => 5,
             Status::Memory => 6,
+            Status::Refused => 7,
         }
     }
 

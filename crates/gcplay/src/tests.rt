@@ -1,14 +1,17 @@
 //! What no clause says: whole runs of the program, from the words and the bytes in to the bytes out.
 //!
 //! - `faults`, `edges`: scripts with a fault, and scripts at the limits of the language. `cuts`: a script cut short.
-//! - `converts`, `made`: the commands `convert` and `gen`. `words`: words that ask for nothing.
+//! - `converts`, `made`, `batches`: the commands `convert`, `gen` and `batch`. `words`: words that ask for nothing.
+//! - `dumps`: the commands `dump`, `undump` and `census`. `schedules`: the command `schedule`.
 //! - `failing`: reads and writes that fail, and the longest source.
 //! - `played`: what a play writes. `long`: long plays, whose texts are built from `pieces`. `placed`: where objects lie.
 //! - `extremes`: options that change nothing. `folded`: a generated script beside heaps that forget nothing.
 ghost use Rattle.std.specs.Prelude.{◌<◌};
 
+mod batches;
 mod converts;
 mod cuts;
+mod dumps;
 mod edges;
 mod extremes;
 mod failing;
@@ -19,6 +22,7 @@ mod made;
 mod pieces;
 mod placed;
 mod played;
+mod schedules;
 mod words;
 
 use crate::program::play_words;

@@ -2,8 +2,8 @@
 use crate::tests::asked_by;
 use std::test::Fail;
 
-/// No command, or more than one, or one that isn't built yet.
-const COMMANDS: [&[&str]; 18] = [
+/// No command, or more than one.
+const COMMANDS: [&[&str]; 21] = [
     &[],
     &[""],
     &["--"],
@@ -20,12 +20,15 @@ const COMMANDS: [&[&str]; 18] = [
     &["run", "convert"],
     &["--place", "run"],
     &["--cells", "64", "run"],
-    &["dump", "--cells", "128"],
-    &["schedule"],
+    &["schedules"],
+    &["Schedule"],
+    &["dump", "run"],
+    &["undump", "census"],
+    &["batch", "run"],
 ];
 
 /// A word where an option has to begin, and is none of the command's.
-const OPTIONS: [&[&str]; 23] = [
+const OPTIONS: [&[&str]; 31] = [
     &["run", ""],
     &["run", "--"],
     &["run", "--", "--cells", "64"],
@@ -49,10 +52,18 @@ const OPTIONS: [&[&str]; 23] = [
     &["gen", "--number", "1", "--size", "8", "--cells", "64"],
     &["load", "--number", "1", "--size", "8", "--place"],
     &["convert", "--cells", "64"],
+    &["schedule", "--cells", "64"],
+    &["dump", "--place"],
+    &["dump", "--runners", "2"],
+    &["undump", "--cells", "64"],
+    &["census", "--place"],
+    &["batch", "--place"],
+    &["batch", "--number", "1"],
+    &["run", "--runners", "2"],
 ];
 
 /// An option that is there twice, without its value, with one that it doesn't take, or not at all.
-const TIMES: [&[&str]; 16] = [
+const TIMES: [&[&str]; 18] = [
     &["run", "--cells", "64", "--cells", "64"],
     &["run", "--cells=64", "--workers", "4", "--cells", "128"],
     &["run", "--place", "--place"],
@@ -69,10 +80,12 @@ const TIMES: [&[&str]; 16] = [
     &["gen", "--number", "1"],
     &["gen", "--size", "8"],
     &["load", "--cells", "64"],
+    &["batch", "--runners"],
+    &["batch", "--runners", "2", "--runners=2"],
 ];
 
 /// A value that is no number, or out of its range.
-const VALUES: [&[&str]; 27] = [
+const VALUES: [&[&str]; 32] = [
     &["run", "--cells", ""],
     &["run", "--cells="],
     &["run", "--cells=", "64"],
@@ -100,6 +113,11 @@ const VALUES: [&[&str]; 27] = [
     &["run", "--entries", "1"],
     &["run", "--entries", "513"],
     &["run", "--entries", "18446744073709551618"],
+    &["dump", "--cells", "100"],
+    &["batch", "--workers", "33"],
+    &["batch", "--runners", "0"],
+    &["batch", "--runners", "9"],
+    &["batch", "--runners="],
 ];
 
 /// Beyond what `gen` and `load` take.

@@ -1,6 +1,6 @@
 //! Words that ask for a command.
 use crate::Asked;
-use crate::Asked::{Convert, Gen, Load, Run};
+use crate::Asked::{Batch, Census, Convert, Dump, Gen, Load, Run, Schedule, Undump};
 use crate::tests::asked_by;
 use play_contract::{Options, USUAL};
 use std::test::Fail;
@@ -32,7 +32,7 @@ const PLACED: Options = Options {
     ..USUAL
 };
 
-const ROWS: [(&[&str], Asked); 15] = [
+const ROWS: [(&[&str], Asked); 26] = [
     (&["run"], Run(USUAL)),
     (&["run", "--cells", "64"], Run(SMALL)),
     (&["run", "--cells=64"], Run(SMALL)),
@@ -111,6 +111,46 @@ const ROWS: [(&[&str], Asked); 15] = [
         Run(SMALL),
     ),
     (&["convert"], Convert),
+    (&["schedule"], Schedule),
+    (&["dump"], Dump(USUAL)),
+    (&["dump", "--cells=64"], Dump(SMALL)),
+    (&["undump"], Undump),
+    (&["census"], Census),
+    (&["batch"], Batch(USUAL, 2)),
+    (&["batch", "--runners", "1"], Batch(USUAL, 1)),
+    (&["batch", "--runners=008"], Batch(USUAL, 8)),
+    (
+        &["batch", "--cells", "64", "--runners", "3"],
+        Batch(SMALL, 3),
+    ),
+    (
+        &[
+            "dump",
+            "--cells",
+            "64",
+            "--workers",
+            "1",
+            "--tracers",
+            "0",
+            "--packets",
+            "2",
+            "--entries",
+            "2",
+        ],
+        Dump(LEAST),
+    ),
+    (
+        &[
+            "batch",
+            "--runners=8",
+            "--entries=2",
+            "--packets=2",
+            "--tracers=0",
+            "--workers=1",
+            "--cells=64",
+        ],
+        Batch(LEAST, 8),
+    ),
 ];
 
 #[test]

@@ -4,12 +4,12 @@ ghost use Rattle.gc_script.specs.Convert.{added_lines, converted_text};
 ghost use Rattle.gc_script.specs.Converting.{conversion_of};
 ghost use Rattle.play_report.specs.Causes.{Writes};
 ghost use Rattle.gcplay.specs.Answers.{IsConvertAnswer};
-ghost use Rattle.gcplay.specs.Ending.{CommandEnds, TextEnds, code_of};
+ghost use Rattle.gcplay.specs.Ending.{CommandEnds, HasItsText, TextEnds, code_of};
 ghost use Rattle.gcplay.specs.Promise.{OfSource};
 ghost use Rattle.gcplay.specs.Reading.{IsSpent};
 
 use crate::commands::fault::tell_fault;
-use crate::source::{Unread, read_source};
+use crate::source::{SCRIPT, Unread, read_source};
 use crate::status::Status;
 use gc_script::{Converted, ScriptError, convert};
 use play_report::{Failed, Sink, Source, write_all};
@@ -53,9 +53,9 @@ fn convert_bytes<K: Sink>(alloc: Global, bytes: &[u8], sink: &mut K) -> Status
 pub fn convert_source<S: Source, K: Sink>(alloc: Global, source: &mut S, sink: &mut K) -> Status
     ensures ends { CommandEnds (OfSource IsConvertAnswer (S.left source.old)) result
         (S.faults source.old) (S.faults source.new) (K.written sink.old) (K.written sink.new) (K.faults sink.old) (K.faults sink.new) }
-    ensures spent { code_of result ≤ 3 → IfSome (S.left source.old) (λ bytes. IsSpent bytes (S.left source.new)) }
+    ensures spent { HasItsText (code_of result) → IfSome (S.left source.old) (λ bytes. IsSpent 1048577 bytes (S.left source.new)) }
 {
-    match read_source(alloc, source) {
+    match read_source(alloc, source, SCRIPT) {
         Err(Unread::Memory) => Status::Memory,
         Err(Unread::Failed) => Status::ReadFault,
         Ok(bytes) => convert_bytes(alloc, bytes.as_slice(), sink),

@@ -13,5 +13,5 @@ pub fn tell_fault<K: Sink>(fault: &ScriptError, sink: &mut K) -> Status
     ensures { TextEnds (IsFaultAnswer (fault_of fault.now)) result
         (K.written sink.old) (K.written sink.new) (K.faults sink.old) (K.faults sink.new) }
 {
-    Status::ScriptFault.after(write_fault(fault, sink))
+    Status::InputFault.after(write_fault(fault, sink))
 }

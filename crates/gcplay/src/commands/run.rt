@@ -2,13 +2,13 @@
 ghost use Rattle.std.specs.Prelude.{◌≡◌, ◌≤◌, IfSome};
 ghost use Rattle.gcplay.specs.Answers.{IsRunAnswer, PlaysTo};
 ghost use Rattle.command_words.specs.Commands.{options_of};
-ghost use Rattle.gcplay.specs.Ending.{CommandEnds, TextEnds, code_of};
+ghost use Rattle.gcplay.specs.Ending.{CommandEnds, HasItsText, TextEnds, code_of};
 ghost use Rattle.play_contract.specs.Playing.{AreInRange};
 ghost use Rattle.gcplay.specs.Promise.{OfSource};
 ghost use Rattle.gcplay.specs.Reading.{IsSpent};
 
 use crate::commands::fault::tell_fault;
-use crate::source::{Unread, read_source};
+use crate::source::{SCRIPT, Unread, read_source};
 use crate::status::Status;
 use gc_play::{Gate, play};
 use gc_script::{Script, ScriptError, read};
@@ -39,7 +39,7 @@ fn play_script<R: Threads + Wait + Sync, K: Sink, G: Gate + Sync>(
 }
 
 /// Reads and plays a script, and writes what it says or its fault.
-fn play_bytes<R: Threads + Wait + Sync, K: Sink, G: Gate + Sync>(
+pub fn play_bytes<R: Threads + Wait + Sync, K: Sink, G: Gate + Sync>(
     rt: &R,
     alloc: Global,
     bytes: &[u8],
@@ -70,9 +70,9 @@ pub fn play_source<R: Threads + Wait + Sync, S: Source, K: Sink, G: Gate + Sync>
     requires { AreInRange options.now }
     ensures ends { CommandEnds (OfSource (IsRunAnswer (options_of options.now)) (S.left source.old)) result
         (S.faults source.old) (S.faults source.new) (K.written sink.old) (K.written sink.new) (K.faults sink.old) (K.faults sink.new) }
-    ensures spent { code_of result ≤ 3 → IfSome (S.left source.old) (λ bytes. IsSpent bytes (S.left source.new)) }
+    ensures spent { HasItsText (code_of result) → IfSome (S.left source.old) (λ bytes. IsSpent 1048577 bytes (S.left source.new)) }
 {
-    match read_source(alloc, source) {
+    match read_source(alloc, source, SCRIPT) {
         Err(Unread::Memory) => Status::Memory,
         Err(Unread::Failed) => Status::ReadFault,
         Ok(bytes) => play_bytes(rt, alloc, bytes.as_slice(), options, sink, gate),

@@ -14,7 +14,7 @@ fn refuses_words(rt: HostRuntime) -> Result<(), Fail> {
         &["Run"],
         &["gen", "--number", "1"],
         &["convert", "--place"],
-        &["dump"],
+        &["dump", "--place"],
     ];
     for (i, words) in rows.iter().enumerate() {
         assert!(rt;

@@ -1,4 +1,4 @@
-use Rattle.std.proofs.Common.{ℕ, map, subst, arith}
+use Rattle.std.proofs.Common.{ℕ, map, subst, inl, arith}
 use Rattle.std.specs.Prelude.{Option}
 use Rattle.std.specs.String.{string_bytes}
 use Rattle.gcplay.specs.Promise.{IsAnswer, wanted}
@@ -6,7 +6,7 @@ use Rattle.gcplay.specs.Ending.{WritesSome}
 use Rattle.command_words.specs.Words.{Command}
 use Rattle.command_words.proofs.InRange.{load_size}
 use Rattle.gcplay.proofs.Roomy.{full-few, load-fits}
-use Rattle.gcplay.proofs.Statuses.{text_written, usage_comes, complete}
+use Rattle.gcplay.proofs.Statuses.{text_written, usage_comes, refused_comes, complete}
 use Rattle.gcplay.proofs.program.play_words.Goals as goal
 
 pub returns-clause-written : goal.returns-clause-written
@@ -27,13 +27,18 @@ pub returns-clause-roomy : goal.returns-clause-roomy
 returns-clause-roomy g c three =
     let some =
     subst (λ (n : ℕ). WritesSome (g.K.Sink.written c.args.sink.now) (g.K.Sink.written c.do_words.new.sink) (IsAnswer (wanted (map string_bytes c.args.words.now)) (g.S.Source.left c.args.source.now) n)) three
-    (text_written _ _ _ _ _ _ (IsAnswer (wanted (map string_bytes c.args.words.now)) (g.S.Source.left c.args.source.now)) c.do_words.result _ c.code.ensures c.do_words.ensures.ends (omega (arith, three))) in
+    (text_written _ _ _ _ _ _ (IsAnswer (wanted (map string_bytes c.args.words.now)) (g.S.Source.left c.args.source.now)) c.do_words.result _ c.code.ensures c.do_words.ensures.ends (inl (omega (arith, three)))) in
     full-few (wanted (map string_bytes c.args.words.now)) (g.S.Source.left c.args.source.now) some.0 some.1
 
 pub returns-clause-load_fits : goal.returns-clause-load_fits
 returns-clause-load_fits g c options number size asked room three =
     let some =
     subst (λ (n : ℕ). WritesSome (g.K.Sink.written c.args.sink.now) (g.K.Sink.written c.do_words.new.sink) (IsAnswer (wanted (map string_bytes c.args.words.now)) (g.S.Source.left c.args.source.now) n)) three
-    (text_written _ _ _ _ _ _ (IsAnswer (wanted (map string_bytes c.args.words.now)) (g.S.Source.left c.args.source.now)) c.do_words.result _ c.code.ensures c.do_words.ensures.ends (omega (arith, three))) in
+    (text_written _ _ _ _ _ _ (IsAnswer (wanted (map string_bytes c.args.words.now)) (g.S.Source.left c.args.source.now)) c.do_words.result _ c.code.ensures c.do_words.ensures.ends (inl (omega (arith, three)))) in
     load-fits options number size (g.S.Source.left c.args.source.now) some.0 (load_size (map string_bytes c.args.words.now) options number size asked) room
     (subst (λ (a : Option Command). IsAnswer a (g.S.Source.left c.args.source.now) 3 some.0) asked some.1)
+
+pub returns-clause-refuses : goal.returns-clause-refuses
+returns-clause-refuses g c =
+    refused_comes _ _ (g.K.Sink.written c.args.sink.now) (g.K.Sink.written c.do_words.new.sink) _ _ (wanted (map string_bytes c.args.words.now)) (g.S.Source.left c.args.source.now) c.do_words.result _
+    c.code.ensures c.do_words.ensures.ends

@@ -1,0 +1,10 @@
+pub mod Lists
+pub mod Loops
+pub mod Counting
+pub mod Closing
+pub mod Objects
+pub mod Reached
+pub mod Told
+pub mod Legal
+pub mod Made
+pub mod One

@@ -1,0 +1,4 @@
+pub mod Final
+pub mod Ending
+pub mod Laws
+pub mod Telling

@@ -1,0 +1,74 @@
+gcschedule 1
+# A second packet is taken before the first is given back, so the count is never too high.
+# cells, packets, entries, sections, fields, seats
+shape 64 2 2 2 1 3
+
+# seat 0 has the catalogue: it stops the world, turns the season to the warehouses' turn, resumes the world and leaves
+0 raise_step
+0 observe
+0 next_season
+0 drop_step
+0 leave_step
+
+# seat 1 has section 1: it enters, reads that it is its turn, and takes block 0 to make cells in
+1 enter_step
+1 read_season
+1 claim_block 0
+1 read_free
+
+# it makes cell 0, its object 0: a nil field, the value 5, and section and number
+1 store_new 0 0 0
+1 store_new 0 1 5
+1 store_new 0 2 4294967296
+# variable 0 names it
+1 store_root 0 1
+
+# it publishes its cells with one store of the block's allocation bits, and gives the block up
+1 publish_cells
+1 release_block
+
+# it begins marking, and seat 2, a tracer, enters and reads the phase
+1 store_phase 1
+2 enter_step
+2 read_phase
+
+# seat 2 announces that it takes an empty packet, takes packet 0, and reads its length, 0
+2 reserve
+2 take 0 0
+2 read_length 0
+
+# it loads variable 0 of section 1, marks cell 0, and puts it into packet 0: the cell is grey
+2 read_root 1 0
+2 set_mark 0
+2 push 0 0
+
+# it takes cell 0 from the packet: the packet is empty, and the cell is in hand
+2 pop 0
+2 store_length 0
+
+# before it gives packet 0 back it takes packet 1, so the count stays below 66 while the cell is in hand
+2 reserve
+2 take 0 1
+2 read_length 1
+2 give 0 0
+2 credit
+# 65: one packet isn't counted, that of the seat with work in hand
+2 read_count
+
+# it scans the cell
+2 read_alloc 0
+2 read_field 0 0
+# now nothing is in hand, and the packet may go
+2 store_length 1
+2 give 1 0
+2 credit
+# 66: all packets are counted, and one word has told that nothing is left
+2 read_count
+
+2 leave_step
+1 leave_step
+
+# seat 1 stops the world: it raises the flag, reads that no seat is counted, and moves to Drain
+1 raise_step
+1 observe
+1 store_phase 2

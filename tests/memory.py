@@ -1,0 +1,59 @@
+#!/usr/bin/env python3
+"""Refuses memory and threads: in each run of `cases.py` each allocation in turn, and each together with all later ones.
+
+From the top of the repository: `python3 tests/memory.py [PROGRAM]`. A run has to end with the status 6 and nothing written, or as it
+ends where nothing is refused. The status of the script is 0 where there was no third kind.
+"""
+
+import collections
+import itertools
+import sys
+
+from cases import runs
+from disturbed import Disturbed, each
+
+WAYS = (
+    ("one allocation", lambda n: {"alloc_fails": n}),
+    ("each allocation from one on", lambda n: {"alloc_fails": n, "alloc_on": 1}),
+    ("one thread", lambda n: {"thread_fails": n}),
+    ("each thread from one on", lambda n: {"thread_fails": n, "thread_on": 1}),
+)
+
+
+def kind(run, status, text):
+    if (status, text) == (6, b""):
+        return "status 6 and nothing written"
+    if (status, text) == (run.status, run.text):
+        return "the whole answer"
+    return "a third kind"
+
+
+def refuse_in_turn(disturbed, run, way):
+    """How many runs ended in which way, until a run asked for no more than was given."""
+    kinds = collections.Counter()
+    for n in itertools.count(1):
+        status, text, failed = disturbed.answer(run.words, run.source, **way(n))
+        if not failed:
+            if (status, text) != (run.status, run.text):
+                kinds["a third kind"] += 1
+            return kinds
+        kinds[kind(run, status, text)] += 1
+        if kind(run, status, text) == "a third kind":
+            print(f"WRONG {' '.join(run.words)}, call {n}: status {status}, {text!r}", flush=True)
+
+
+def main():
+    disturbed = Disturbed()
+    everything = [(run, name, way) for name, way in WAYS for run in runs()]
+    found = each(lambda item: refuse_in_turn(disturbed, item[0], item[2]), everything)
+    total = collections.Counter()
+    for name, _ in WAYS:
+        kinds = sum((kinds for (_, other, _), kinds in zip(everything, found) if other == name), collections.Counter())
+        print(f"{name}: " + ", ".join(f"{count} {kind}" for kind, count in sorted(kinds.items())))
+        total += kinds
+    print(f"{sum(total.values())} runs, {total['a third kind']} of a third kind")
+    sys.exit(1 if total["a third kind"] else 0)
+
+
+if __name__ == "__main__":
+    main()
