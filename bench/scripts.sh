@@ -24,11 +24,11 @@ live() {
     for _warehouse in 1 2 3 4 5 6 7 8; do
         printf 'warehouse\nnil customers\nrepeat 250\nnew customer 1\nset customer 0 customers\nlet customers customer\n'
         for field in 1 2; do
-            printf 'nil papers\n'
-            for _paper in 1 2 3 4 5 6 7; do printf 'new paper 2\nset paper 0 papers\nlet papers paper\n'; done
-            printf 'set customer %s papers\n' "$field"
+            printf 'nil pages\n'
+            for _page in 1 2 3 4 5 6 7; do printf 'new page 2\nset page 0 pages\nlet pages page\n'; done
+            printf 'set customer %s pages\n' "$field"
         done
-        printf 'end\nrepeat 115000\nnew visit 3\nset visit 0 customers\nend\nsum row customers 0 1000\nnil customers\nnil customer\nnil papers\nnil paper\nnil visit\n'
+        printf 'end\nrepeat 115000\nnew visit 3\nset visit 0 customers\nend\nsum row customers 0 1000\nnil customers\nnil customer\nnil pages\nnil page\nnil visit\n'
     done
 }
 
