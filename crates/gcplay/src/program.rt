@@ -82,7 +82,7 @@ pub fn play_words<R: Threads + Wait + Sync, S: Source, K: Sink, G: Gate + Sync>(
     // `gen`, `load` and words that ask for nothing leave the source as it was.
     ensures untouched { reads_source (wanted (map string_bytes words.now)) ≡ false → source.new ≡ source.old }
 
-    // 7 comes exactly where the source is a schedule that is refused.
+    // 7 comes only to `schedule`, of a source that is a refused schedule. That it comes to each of these is part of `complete`.
     ensures refuses { result ≡ 7 → (wanted (map string_bytes words.now) ≡ Some Schedule) × IfSome (S.left source.old) (λ bytes. status_of bytes ≡ 7) }
 
     // The words are refused exactly where they ask for nothing.
