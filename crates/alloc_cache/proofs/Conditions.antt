@@ -18,18 +18,18 @@ use Rattle.mark_core.specs.declared.kinds.Step.TheVariants.{ReadCount, ClaimBloc
 use Rattle.mark_core.specs.declared.seat.SeatState.{SeatState}
 use Rattle.gc_table.specs.declared.view.View.{View}
 use Rattle.gc_table.specs.Notes.{look}
-use Rattle.gc_table.specs.Whole.{Whole}
+use Rattle.gc_table.specs.TableState.{TableState}
 use Rattle.gc_table.specs.Rule.{IsState, Agrees}
 use Rattle.gc_table.specs.Taking.{May}
 use Rattle.gc_table.proofs.StandsSeat.{looks, free-below}
 use Rattle.alloc_cache.specs.Claiming.{MayClaim, notes_idle}
 
 -- the seat, in a state that agrees with its view
-pub seat-there : (x : Whole) (i : ℕ) (v : View) → IsState x → Agrees x i v → v.state.spent ≡ false → Taken x.core i v.state ReadCount
+pub seat-there : (x : TableState) (i : ℕ) (v : View) → IsState x → Agrees x i v → v.state.spent ≡ false → Taken x.core i v.state ReadCount
 seat-there x i v st a live = looks x.core i v.state st.core a.seat live
 
 -- a seat with a block takes part
-pub part-cached : (x : Whole) (i : ℕ) (v : View) → IsState x → Agrees x i v → v.state.spent ≡ false → is_some v.state.cache ≡ true → takes_part v.state ≡ true
+pub part-cached : (x : TableState) (i : ℕ) (v : View) → IsState x → Agrees x i v → v.state.spent ≡ false → is_some v.state.cache ≡ true → takes_part v.state ≡ true
 part-cached x i v st a live has = by_part (takes_part v.state) refl
   where
     by_part : (b : Bool) → takes_part v.state ≡ b → b ≡ true
@@ -63,7 +63,7 @@ some-is None n e = absurd (true≢false (sym e))
 some-is (Some m) n e = ap Some (eqb-true m n e)
 
 -- the phase that is noted is idle, in each state that agrees with the view
-idle-there : (x : Whole) (i : ℕ) (v : View) → Agrees x i v → notes_idle v ≡ true → is_phase (words_of x.core.shape x.core.words).phase Idle ≡ true
+idle-there : (x : TableState) (i : ℕ) (v : View) → Agrees x i v → notes_idle v ≡ true → is_phase (words_of x.core.shape x.core.words).phase Idle ≡ true
 idle-there x i v a e =
     let word = (a.noted the_phase 0 (some-is (look the_phase v.known) 0 e)).1 in
     eq-eqb (words_of x.core.shape x.core.words).phase 0 (sym (single-word x.core.shape x.core.words 1 (omega arith)) ∙ word)
@@ -80,7 +80,7 @@ resting_of true true n p apart noted e = absurd (apart refl refl)
 resting_of false true n p apart noted e = noted e
 
 -- a seat that runs hasn't stopped the world
-runs-apart : (x : Whole) (i : ℕ) (v : View) → IsState x → Agrees x i v → v.state.spent ≡ false → v.state.knows ≡ true → v.state.active ≡ true → ⊥
+runs-apart : (x : TableState) (i : ℕ) (v : View) → IsState x → Agrees x i v → v.state.spent ≡ false → v.state.knows ≡ true → v.state.active ≡ true → ⊥
 runs-apart x i v st a live knows active =
     let s : SeatState = v.state in
     let k : Taken x.core i s ReadCount = seat-there x i v st a live in

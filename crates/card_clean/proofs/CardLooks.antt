@@ -15,7 +15,7 @@ use Rattle.gc_table.specs.Taking.{Finds, after, won}
 use Rattle.gc_table.proofs.Log.{events-after, events-join}
 use Rattle.gc_table.proofs.Noticing.{alone-steady}
 use Rattle.packet_pools.specs.Fields.{fields_read, picked}
-use Rattle.packet_pools.specs.Later.{Later}
+use Rattle.packet_pools.specs.OnlyTraced.{OnlyTraced}
 use Rattle.card_clean.specs.Drained.{AreNotedClean}
 use Rattle.card_clean.specs.Leaving.{rescanned_in}
 use Rattle.card_clean.specs.Looking.{KeepsAllNotes, looks_clean, looks_dirty}
@@ -66,7 +66,7 @@ looks-next from card l =
     let at : from + (card - from) ≡ card = omega (arith, l) in
     sym (ap (λ m. map (λ k. event (ReadCard k) 0) (range_with_len from m)) (sym n) ∙ (one-longer from (card - from) ∙ ap (λ m. looks_clean from card ++ event (ReadCard m) 0 ∷ []) at))
 
-module _ (v w x : View) (from card n : ℕ) (a : Later v w) (b : Later w x) (e : x ≡ after (ReadCard card) n w) (h : events v w ≡ looks_clean from card) where
+module _ (v w x : View) (from card n : ℕ) (a : OnlyTraced v w) (b : OnlyTraced w x) (e : x ≡ after (ReadCard card) n w) (h : events v w ≡ looks_clean from card) where
   pub clean-look : from ≤ card → card < card_count w.shape → Finds (ReadCard card) n w → won (ReadCard card) n ≡ false → events v x ≡ looks_clean from (card + 1)
   clean-look l below f lost =
       events-join v w x a.log b.log

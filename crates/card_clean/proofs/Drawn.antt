@@ -9,7 +9,7 @@ use Rattle.gc_table.specs.declared.view.View.{View}
 use Rattle.gc_table.specs.Log.{Only}
 use Rattle.gc_table.specs.Running.{Ran, ends_alone}
 use Rattle.gc_table.proofs.Noticing.{Spares, alone-steady, known-alone}
-use Rattle.packet_pools.specs.Later.{IsNotedMarked}
+use Rattle.packet_pools.specs.OnlyTraced.{IsNotedMarked}
 use Rattle.card_clean.specs.Drained.{IsBeforeSweep, IsNotedRoot, IsRooted}
 use Rattle.card_clean.specs.Passing.{draws_card}
 use Rattle.card_clean.proofs.Staying.{ready-by, root-by, rooted-by}

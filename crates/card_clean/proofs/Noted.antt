@@ -9,7 +9,7 @@ use Rattle.gc_table.specs.declared.view.View.{View}
 use Rattle.gc_table.specs.Notes.{Notes, look, noting}
 use Rattle.gc_table.specs.Taking.{after, Finds}
 use Rattle.gc_table.proofs.Noticing.{note-left}
-use Rattle.packet_pools.proofs.LaterSteps.{read-keeps}
+use Rattle.packet_pools.proofs.TracedSteps.{read-keeps}
 use Rattle.card_clean.specs.Looking.{KeepsAllNotes}
 
 same-place : (at : ℕ × ℕ) → same_place at at ≡ true

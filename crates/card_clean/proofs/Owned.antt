@@ -14,33 +14,33 @@ use Rattle.plain_heap.specs.PlainHeap.{variable}
 use Rattle.plain_heap.specs.declared.object.Ref.{Ref}
 use Rattle.plain_heap.specs.declared.object.Ref.TheVariants as refs
 use Rattle.gc_table.specs.Rule.{IsState, Agrees}
-use Rattle.gc_table.specs.StandsFor.{Agrees as AgreesWith, object_count}
+use Rattle.gc_table.specs.StandsFor.{WordAgrees, object_count}
 use Rattle.gc_table.specs.Taking.{May}
-use Rattle.gc_table.specs.Whole.{Whole, meanings_of}
+use Rattle.gc_table.specs.TableState.{TableState, meanings_of}
 use Rattle.gc_table.specs.declared.view.Meaning.{Meaning}
 use Rattle.gc_table.specs.declared.view.View.{View}
 use Rattle.gc_table.proofs.StandsSeat.{looks, env-agrees}
-use Rattle.gc_table.proofs.WholePlain.{Views, views}
+use Rattle.gc_table.proofs.StatePlain.{Views, views}
 use Rattle.card_clean.specs.Barrier.{is_own, HasOwn, IsStorable, MayStore}
 
 -- a word that agrees with an own reference isn't nil, and names a cell of the section
-owned-word : (ids : List ℕ) (p : ℕ → ℕ) (i word : ℕ) (ref : Ref) → is_own ref ≡ true → AgreesWith ids p i word ref → (0 < word) × (section_of ids (word - 1) ≡ i)
+owned-word : (ids : List ℕ) (p : ℕ → ℕ) (i word : ℕ) (ref : Ref) → is_own ref ≡ true → WordAgrees ids p i word ref → (0 < word) × (section_of ids (word - 1) ≡ i)
 owned-word ids p i word refs.Nil is a = absurd (false≢true is)
 owned-word ids p i word (refs.Cat k) is a = absurd (false≢true is)
 owned-word ids p i word (refs.Own k) is (inl z) = absurd (cc)
 owned-word ids p i word (refs.Own k) is (inr (some, names, below)) = (some, names.0)
 
 -- in each state that agrees with the view, the variable's word agrees with the variable
-pub variable-there : (x : Whole) (i : ℕ) (v : View) (u : ℕ) → IsState x → Agrees x i v → IsFalse v.state.spent → may_mutate v.state ≡ true → u < 32
-    → AgreesWith (words_of x.core.shape x.core.words).identities (object_count (meanings_of x.sections)) i (word_in v.state u) (variable v.own.meaning.heap u)
+pub variable-there : (x : TableState) (i : ℕ) (v : View) (u : ℕ) → IsState x → Agrees x i v → IsFalse v.state.spent → may_mutate v.state ≡ true → u < 32
+    → WordAgrees (words_of x.core.shape x.core.words).identities (object_count (meanings_of x.sections)) i (word_in v.state u) (variable v.own.meaning.heap u)
 variable-there x i v u st a live turn below =
     let k : Taken x.core i v.state ReadCount = looks x.core i v.state st.core a.seat live in
     let n : Views x i v = views x i v ReadCount (record { whole = st; agrees = a; live = live; ok = tt }) turn in
-    subst (λ (m : Meaning). AgreesWith (words_of x.core.shape x.core.words).identities (object_count (meanings_of x.sections)) i (word_in v.state u) (variable m.heap u)) n.meaning
+    subst (λ (m : Meaning). WordAgrees (words_of x.core.shape x.core.words).identities (object_count (meanings_of x.sections)) i (word_in v.state u) (variable m.heap u)) n.meaning
     (env-agrees x.core i v.state ReadCount (meanings_of x.sections) u k st.stands n.mutates below)
 
 -- and names a cell of the own section, where the variable holds an own object
-own-there : (x : Whole) (i : ℕ) (v : View) (u : ℕ) → IsState x → Agrees x i v → IsFalse v.state.spent → may_mutate v.state ≡ true → HasOwn v u → has_own (words_of x.core.shape x.core.words).identities v.state u ≡ true
+own-there : (x : TableState) (i : ℕ) (v : View) (u : ℕ) → IsState x → Agrees x i v → IsFalse v.state.spent → may_mutate v.state ≡ true → HasOwn v u → has_own (words_of x.core.shape x.core.words).identities v.state u ≡ true
 own-there x i v u st a live turn own =
     let ids : List ℕ = (words_of x.core.shape x.core.words).identities in
     let n : Views x i v = views x i v ReadCount (record { whole = st; agrees = a; live = live; ok = tt }) turn in

@@ -17,7 +17,7 @@ use Rattle.gc_table.specs.declared.view.View.{View}
 use Rattle.gc_table.specs.Taking.{May, Finds, after}
 use Rattle.packet_pools.specs.declared.held.Held.{Held}
 use Rattle.packet_pools.specs.Hands.{IsHeld}
-use Rattle.packet_pools.specs.Later.{Later, IsNotedMarked}
+use Rattle.packet_pools.specs.OnlyTraced.{OnlyTraced, IsNotedMarked}
 use Rattle.packet_pools.specs.Scanning.{Pushes}
 use Rattle.packet_pools.specs.Tracing.{traces}
 use Rattle.packet_pools.proofs.Conditions.{may-trace}
@@ -50,7 +50,7 @@ root-small v n section u there low f =
     omega (arith, most, f.whole.core.formed.shaped.cells.1)
 
 -- a root that was read, and whose cell was marked after
-pub root-noted : (v x : View) (n section u : ℕ) → section < v.shape.sections → u < 32 → v.state.alone ≡ true → Finds (ReadRoot section u) n v → Later (after (ReadRoot section u) n v) x → (n ≡ 0) ⊎ IsNotedMarked x (cell_of n) → IsNotedRoot (section * 32 + u) x
+pub root-noted : (v x : View) (n section u : ℕ) → section < v.shape.sections → u < 32 → v.state.alone ≡ true → Finds (ReadRoot section u) n v → OnlyTraced (after (ReadRoot section u) n v) x → (n ≡ 0) ⊎ IsNotedMarked x (cell_of n) → IsNotedRoot (section * 32 + u) x
 root-noted v x n section u there low alone f k marked =
     let w : View = after (ReadRoot section u) n v in
     let at : ℕ × ℕ = (2, section * 32 + u) in

@@ -11,7 +11,7 @@ use Rattle.gc_table.specs.Log.{Only}
 use Rattle.gc_table.specs.Running.{Ran, ends_alone}
 use Rattle.gc_table.proofs.Noticing.{Spares, alone-kept, alone-steady, known-alone}
 use Rattle.gc_table.proofs.Running.{ran-shape}
-use Rattle.packet_pools.specs.Later.{IsNotedMarked, traces_cells}
+use Rattle.packet_pools.specs.OnlyTraced.{IsNotedMarked, traces_cells}
 use Rattle.packet_pools.proofs.Marked.{marked-stays, tracing-alone}
 use Rattle.card_clean.specs.Drained.{IsBeforeSweep, IsNotedRoot, IsRooted}
 

@@ -11,7 +11,7 @@ use Rattle.gc_table.specs.declared.view.View.{View}
 use Rattle.gc_table.specs.Log.{event}
 use Rattle.gc_table.specs.Notes.{look}
 use Rattle.gc_table.specs.Running.{Alone}
-use Rattle.packet_pools.specs.Later.{IsNotedMarked}
+use Rattle.packet_pools.specs.OnlyTraced.{IsNotedMarked}
 use Rattle.card_clean.specs.Looking.{looks_clean, looks_dirty}
 
 -- the cards from this one on and below that one are noted as clean

@@ -5,7 +5,7 @@ ghost use Rattle.mark_core.specs.Held.{has_free_slot};
 ghost use Rattle.mark_core.specs.Seats.{scan_left, work_in_hand};
 ghost use Rattle.mark_core.specs.declared.kinds.Step.TheVariants.{DirtyCard};
 ghost use Rattle.gc_table.specs.Seats.{Sits, view_of};
-ghost use Rattle.packet_pools.specs.Later.{Later, LaterCleaned};
+ghost use Rattle.packet_pools.specs.OnlyTraced.{OnlyTraced, OnlyCleaned};
 ghost use Rattle.gc_table.specs.Log.{events, event};
 ghost use Rattle.packet_pools.specs.Tracing.{Traces};
 ghost use Rattle.packet_pools.specs.Hands.{IsHeld};
@@ -36,7 +36,7 @@ fn read_block(heap: &Heap, seat: &mut HeapSeat, card: u32) -> (u64, bool)
     requires hand { InHand None None (view_of seat.old).state }
     requires cleared { (view_of seat.old).state.cleaning ≡ Some (just_cleared card) }
     ensures seat { Sits heap.now seat.new × Traces (view_of seat.new) }
-    ensures later { Later (view_of seat.old) (view_of seat.new) }
+    ensures later { OnlyTraced (view_of seat.old) (view_of seat.new) }
     ensures learns { LearnsCells card result.0 result.1 (view_of seat.old) (view_of seat.new) }
 {
     heap.read_marks(seat, card / 4);
@@ -58,7 +58,7 @@ fn redirty(heap: &Heap, seat: &mut HeapSeat, card: u32, redirtied: bool)
     requires owes { OnlyOwes card heap.now.shape.fields (view_of seat.old).state }
     requires told { IsTrue (owes_card (view_of seat.old).state.cleaning) → IsTrue redirtied }
     ensures seat { Sits heap.now seat.new × Traces (view_of seat.new) }
-    ensures later { LaterCleaned (view_of seat.old) (view_of seat.new) }
+    ensures later { OnlyCleaned (view_of seat.old) (view_of seat.new) }
     ensures held { (view_of seat.new).state.held ≡ (view_of seat.old).state.held }
     ensures work { IsFalse (work_in_hand heap.now.shape.fields (view_of seat.new).state) }
     ensures owed { ((view_of seat.new).state.owes ≡ (view_of seat.old).state.owes) ⊎ ((view_of seat.new).state.owes ≡ None) }
@@ -78,7 +78,7 @@ fn rescan_card(heap: &Heap, seat: &mut HeapSeat, card: u32, out: &mut Held) -> C
     requires over { IsFalse (scan_left heap.now.shape.fields (view_of seat.old).state.scan) }
     requires cleared { (view_of seat.old).state.cleaning ≡ Some (just_cleared card) }
     ensures seat { Sits heap.now seat.new × Traces (view_of seat.new) }
-    ensures later { LaterCleaned (view_of seat.old) (view_of seat.new) }
+    ensures later { OnlyCleaned (view_of seat.old) (view_of seat.new) }
     ensures out { Fills out.old out.new (view_of seat.old) (view_of seat.new) }
     ensures work { IsFalse (work_in_hand heap.now.shape.fields (view_of seat.new).state) }
     ensures owes { ((view_of seat.new).state.owes ≡ (view_of seat.old).state.owes) ⊎ ((view_of seat.new).state.owes ≡ None) }
@@ -121,7 +121,7 @@ pub fn clean_card(heap: &Heap, seat: &mut HeapSeat, card: u32, out: &mut Held) -
     requires out { IsHeld out.old (view_of seat.old) × IsTrue (has_free_slot (view_of seat.old).state.held) }
     requires work { IsFalse (work_in_hand heap.now.shape.fields (view_of seat.old).state) }
     ensures seat { Sits heap.now seat.new × Traces (view_of seat.new) }
-    ensures later { LaterCleaned (view_of seat.old) (view_of seat.new) }
+    ensures later { OnlyCleaned (view_of seat.old) (view_of seat.new) }
     ensures out { Fills out.old out.new (view_of seat.old) (view_of seat.new) }
     ensures work { IsFalse (work_in_hand heap.now.shape.fields (view_of seat.new).state) }
     ensures owes { ((view_of seat.new).state.owes ≡ (view_of seat.old).state.owes) ⊎ ((view_of seat.new).state.owes ≡ None) }

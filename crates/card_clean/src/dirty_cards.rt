@@ -4,7 +4,7 @@ ghost use Rattle.mark_core.specs.Layout.{card_count};
 ghost use Rattle.mark_core.specs.Held.{has_free_slot};
 ghost use Rattle.mark_core.specs.Seats.{work_in_hand};
 ghost use Rattle.gc_table.specs.Seats.{Sits, view_of};
-ghost use Rattle.packet_pools.specs.Later.{Later, LaterCleaned};
+ghost use Rattle.packet_pools.specs.OnlyTraced.{OnlyTraced, OnlyCleaned};
 ghost use Rattle.gc_table.specs.Log.{events};
 ghost use Rattle.packet_pools.specs.Tracing.{Traces};
 ghost use Rattle.packet_pools.specs.Hands.{IsHeld};
@@ -24,7 +24,7 @@ use packet_pools::{Held, give};
 pub(crate) fn first_dirty(heap: &Heap, seat: &mut HeapSeat, from: u32) -> Option<u32>
     requires { Sits heap.now seat.old }
     ensures seat { Sits heap.now seat.new }
-    ensures later { Later (view_of seat.old) (view_of seat.new) }
+    ensures later { OnlyTraced (view_of seat.old) (view_of seat.new) }
     ensures state { (view_of seat.new).state ≡ (view_of seat.old).state }
     ensures notes { KeepsAllNotes (view_of seat.old) (view_of seat.new) }
     ensures dirty { IfSome result (λ card. (from ≤ card) × (card < card_count heap.now.shape) × (events (view_of seat.old) (view_of seat.new) ≡ looks_dirty from card)) }
@@ -46,7 +46,7 @@ fn clean_where_dirty(heap: &Heap, seat: &mut HeapSeat, card: u32, out: &mut Held
     requires out { IsHeld out.old (view_of seat.old) × IsTrue (has_free_slot (view_of seat.old).state.held) }
     requires work { IsFalse (work_in_hand heap.now.shape.fields (view_of seat.old).state) }
     ensures seat { Sits heap.now seat.new × Traces (view_of seat.new) }
-    ensures later { LaterCleaned (view_of seat.old) (view_of seat.new) }
+    ensures later { OnlyCleaned (view_of seat.old) (view_of seat.new) }
     ensures out { Fills out.old out.new (view_of seat.old) (view_of seat.new) }
     ensures work { IsFalse (work_in_hand heap.now.shape.fields (view_of seat.new).state) }
     ensures most { result ≤ 16 }
@@ -66,7 +66,7 @@ fn clean_from(heap: &Heap, seat: &mut HeapSeat, from: u32, out: &mut Held) -> u3
     requires out { IsHeld out.old (view_of seat.old) × IsTrue (has_free_slot (view_of seat.old).state.held) }
     requires work { IsFalse (work_in_hand heap.now.shape.fields (view_of seat.old).state) }
     ensures seat { Sits heap.now seat.new × Traces (view_of seat.new) }
-    ensures later { LaterCleaned (view_of seat.old) (view_of seat.new) }
+    ensures later { OnlyCleaned (view_of seat.old) (view_of seat.new) }
     ensures out { Fills out.old out.new (view_of seat.old) (view_of seat.new) }
     ensures work { IsFalse (work_in_hand heap.now.shape.fields (view_of seat.new).state) }
     ensures most { result ≤ heap.now.shape.cells }
@@ -89,7 +89,7 @@ pub fn clean_dirty(heap: &Heap, seat: &mut HeapSeat) -> u32
     requires free { 2 ≤ free_slots (view_of seat.old).state.held }
     requires work { IsFalse (work_in_hand heap.now.shape.fields (view_of seat.old).state) }
     ensures seat { Sits heap.now seat.new × Traces (view_of seat.new) }
-    ensures later { LaterCleaned (view_of seat.old) (view_of seat.new) }
+    ensures later { OnlyCleaned (view_of seat.old) (view_of seat.new) }
     ensures held { (view_of seat.new).state.held ≡ (view_of seat.old).state.held }
     ensures work { IsFalse (work_in_hand heap.now.shape.fields (view_of seat.new).state) }
     ensures left { rescanned_in (view_of seat.old) (events (view_of seat.old) (view_of seat.new)) ≡ result }

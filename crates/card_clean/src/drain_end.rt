@@ -7,7 +7,7 @@ ghost use Rattle.std.specs.Prelude.{◌≡◌, IsTrue, IsFalse};
 ghost use Rattle.mark_core.specs.Seats.{work_in_hand};
 ghost use Rattle.gc_table.specs.Seats.{Sits, view_of};
 ghost use Rattle.gc_table.specs.Log.{events};
-ghost use Rattle.packet_pools.specs.Later.{Later};
+ghost use Rattle.packet_pools.specs.OnlyTraced.{OnlyTraced};
 ghost use Rattle.card_clean.specs.Drained.{FindsWork, IsDrained, IsRooted};
 ghost use Rattle.card_clean.specs.Leaving.{rescanned_in};
 
@@ -22,7 +22,7 @@ pub fn is_drained(heap: &Heap, seat: &mut HeapSeat) -> bool
     requires rooted { IsRooted (view_of seat.old) }
     requires work { IsFalse (work_in_hand heap.now.shape.fields (view_of seat.old).state) }
     ensures seat { Sits heap.now seat.new }
-    ensures later { Later (view_of seat.old) (view_of seat.new) }
+    ensures later { OnlyTraced (view_of seat.old) (view_of seat.new) }
     ensures state { (view_of seat.new).state ≡ (view_of seat.old).state }
     ensures rooted { IsRooted (view_of seat.new) }
     ensures drained { IsTrue result → IsDrained (view_of seat.new) }

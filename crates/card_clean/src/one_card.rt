@@ -5,7 +5,7 @@ ghost use Rattle.mark_core.specs.Seats.{work_in_hand};
 ghost use Rattle.gc_table.specs.Seats.{Sits, view_of};
 ghost use Rattle.gc_table.specs.Log.{events};
 ghost use Rattle.packet_pools.specs.Hands.{free_slots};
-ghost use Rattle.packet_pools.specs.Later.{LaterCleaned};
+ghost use Rattle.packet_pools.specs.OnlyTraced.{OnlyCleaned};
 ghost use Rattle.packet_pools.specs.Seeking.{NoOutput, only_moves};
 ghost use Rattle.packet_pools.specs.Tracing.{Traces};
 ghost use Rattle.card_clean.specs.Cleaning.{CleansOne};
@@ -26,7 +26,7 @@ pub fn clean_one(heap: &Heap, seat: &mut HeapSeat, card: u32) -> Option<Cleaned>
     requires free { 2 ≤ free_slots (view_of seat.old).state.held }
     requires work { IsFalse (work_in_hand heap.now.shape.fields (view_of seat.old).state) }
     ensures seat { Sits heap.now seat.new × Traces (view_of seat.new) }
-    ensures later { LaterCleaned (view_of seat.old) (view_of seat.new) }
+    ensures later { OnlyCleaned (view_of seat.old) (view_of seat.new) }
     ensures held { (view_of seat.new).state.held ≡ (view_of seat.old).state.held }
     ensures work { IsFalse (work_in_hand heap.now.shape.fields (view_of seat.new).state) }
     ensures owes { ((view_of seat.new).state.owes ≡ (view_of seat.old).state.owes) ⊎ ((view_of seat.new).state.owes ≡ None) }

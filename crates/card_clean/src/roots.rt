@@ -3,7 +3,7 @@ ghost use Rattle.std.specs.Prelude.{◌≡◌, ◌<◌, ◌≤◌, ◌+◌, ◌*
 ghost use Rattle.mark_core.specs.Held.{has_free_slot};
 ghost use Rattle.mark_core.specs.Seats.{work_in_hand};
 ghost use Rattle.gc_table.specs.Seats.{Sits, view_of};
-ghost use Rattle.packet_pools.specs.Later.{Later};
+ghost use Rattle.packet_pools.specs.OnlyTraced.{OnlyTraced};
 ghost use Rattle.packet_pools.specs.Tracing.{Traces};
 ghost use Rattle.packet_pools.specs.Hands.{IsHeld};
 ghost use Rattle.packet_pools.specs.Scanning.{Fills};
@@ -25,7 +25,7 @@ fn mark_root(heap: &Heap, seat: &mut HeapSeat, out: &mut Held, section: u32, v: 
     requires root { (section < heap.now.shape.sections) × (v < 32) }
     requires work { IsFalse (work_in_hand heap.now.shape.fields (view_of seat.old).state) }
     ensures seat { Sits heap.now seat.new × Traces (view_of seat.new) }
-    ensures later { Later (view_of seat.old) (view_of seat.new) }
+    ensures later { OnlyTraced (view_of seat.old) (view_of seat.new) }
     ensures out { Fills out.old out.new (view_of seat.old) (view_of seat.new) }
     ensures work { IsFalse (work_in_hand heap.now.shape.fields (view_of seat.new).state) }
     ensures left { rescanned_in (view_of seat.old) (events (view_of seat.old) (view_of seat.new)) ≡ 0 }
@@ -44,7 +44,7 @@ fn mark_roots(heap: &Heap, seat: &mut HeapSeat, out: &mut Held, section: u32)
     requires section { section < heap.now.shape.sections }
     requires work { IsFalse (work_in_hand heap.now.shape.fields (view_of seat.old).state) }
     ensures seat { Sits heap.now seat.new × Traces (view_of seat.new) }
-    ensures later { Later (view_of seat.old) (view_of seat.new) }
+    ensures later { OnlyTraced (view_of seat.old) (view_of seat.new) }
     ensures out { Fills out.old out.new (view_of seat.old) (view_of seat.new) }
     ensures work { IsFalse (work_in_hand heap.now.shape.fields (view_of seat.new).state) }
     ensures left { rescanned_in (view_of seat.old) (events (view_of seat.old) (view_of seat.new)) ≡ 0 }
@@ -66,7 +66,7 @@ pub fn see_to_roots(heap: &Heap, seat: &mut HeapSeat) -> bool
     requires free { 2 ≤ free_slots (view_of seat.old).state.held }
     requires work { IsFalse (work_in_hand heap.now.shape.fields (view_of seat.old).state) }
     ensures seat { Sits heap.now seat.new × Traces (view_of seat.new) }
-    ensures later { Later (view_of seat.old) (view_of seat.new) }
+    ensures later { OnlyTraced (view_of seat.old) (view_of seat.new) }
     ensures held { (view_of seat.new).state.held ≡ (view_of seat.old).state.held }
     ensures work { IsFalse (work_in_hand heap.now.shape.fields (view_of seat.new).state) }
     ensures left { rescanned_in (view_of seat.old) (events (view_of seat.old) (view_of seat.new)) ≡ 0 }
@@ -87,7 +87,7 @@ fn mark_all(heap: &Heap, seat: &mut HeapSeat, out: &mut Held)
     requires out { IsHeld out.old (view_of seat.old) × IsTrue (has_free_slot (view_of seat.old).state.held) }
     requires work { IsFalse (work_in_hand heap.now.shape.fields (view_of seat.old).state) }
     ensures seat { Sits heap.now seat.new × Traces (view_of seat.new) }
-    ensures later { Later (view_of seat.old) (view_of seat.new) }
+    ensures later { OnlyTraced (view_of seat.old) (view_of seat.new) }
     ensures out { Fills out.old out.new (view_of seat.old) (view_of seat.new) }
     ensures work { IsFalse (work_in_hand heap.now.shape.fields (view_of seat.new).state) }
     ensures left { rescanned_in (view_of seat.old) (events (view_of seat.old) (view_of seat.new)) ≡ 0 }

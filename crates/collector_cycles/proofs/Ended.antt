@@ -19,16 +19,16 @@ use Rattle.gc_table.specs.Notes.{look}
 use Rattle.gc_table.specs.Rule.{Agrees, IsState}
 use Rattle.gc_table.specs.Running.{Alone}
 use Rattle.gc_table.specs.Taking.{after, May}
-use Rattle.gc_table.specs.Whole.{Whole}
+use Rattle.gc_table.specs.TableState.{TableState}
 use Rattle.gc_table.proofs.Noticing.{alone-steady, alone-step, known-here, knows-steady}
-use Rattle.packet_pools.specs.Later.{IsNotedMarked}
+use Rattle.packet_pools.specs.OnlyTraced.{IsNotedMarked}
 use Rattle.card_clean.specs.Drained.{IsBeforeSweep, IsDrained, IsNotedRoot}
 
 all-from : (f : ℕ → Bool) (xs : List ℕ) → ((i : ℕ) → i < length xs → f (get_or xs i 0) ≡ true) → list_all f xs ≡ true
 all-from f [] h = refl
 all-from f (x ∷ xs) h = and_from (f x) (list_all f xs) (h 0 (omega arith)) (all-from f xs (λ i l. h (suc i) (omega (arith, l))))
 
-single : (x : Whole) (i : ℕ) (v : View) (j n : ℕ) → Agrees x i v → j < 11 → look (0, j) v.known ≡ Some n → get_or x.core.words j 0 ≡ n
+single : (x : TableState) (i : ℕ) (v : View) (j n : ℕ) → Agrees x i v → j < 11 → look (0, j) v.known ≡ Some n → get_or x.core.words j 0 ≡ n
 single x i v j n a low h = sym (single-word x.core.shape x.core.words j low) ∙ (a.noted (0, j) n h).1
 
 -- the counter of blocks may be set to 0 in a drain, and the seat knows that it is
@@ -42,7 +42,7 @@ before-sweep v l =
       next_block = (known-here v (Reset 1) 0 the_next_block refl (alone-steady v.state the_next_block 0 refl l.alone)).0;
     }
 
-module _ (x : Whole) (i : ℕ) (v : View) (k : IsState x) (a : Agrees x i v) (d : IsDrained v) where
+module _ (x : TableState) (i : ℕ) (v : View) (k : IsState x) (a : Agrees x i v) (d : IsDrained v) where
   all-clean : cards_clean (words_of x.core.shape x.core.words).cards ≡ true
   all-clean =
       all-from (λ n. n == 0) (words_of x.core.shape x.core.words).cards

@@ -13,7 +13,7 @@ use Rattle.gc_table.specs.Running.{Alone, Ran, changes_section}
 use Rattle.gc_table.specs.Log.{Only}
 use Rattle.gc_table.specs.Taking.{May}
 use Rattle.gc_table.specs.Seats.{Found}
-use Rattle.gc_table.specs.Whole.{no_section}
+use Rattle.gc_table.specs.TableState.{no_section}
 use Rattle.gc_table.specs.declared.view.SectionState.{SectionState}
 use Rattle.gc_table.specs.declared.view.View.{View}
 use Rattle.gc_table.proofs.Noticing.{alone-step}

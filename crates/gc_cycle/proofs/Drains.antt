@@ -15,11 +15,11 @@ use Rattle.mark_core.proofs.NotesKept.{single-word}
 use Rattle.mark_core.proofs.Places.{region-length}
 use Rattle.gc_table.specs.Rule.{Agrees, IsState}
 use Rattle.gc_table.specs.Taking.{May}
-use Rattle.gc_table.specs.Whole.{Whole}
+use Rattle.gc_table.specs.TableState.{TableState}
 use Rattle.gc_table.specs.declared.view.View.{View}
 use Rattle.stop_world.proofs.Phases.{phase-is}
 use Rattle.gc_cycle.specs.Drained.{IsDrained}
-use Rattle.packet_pools.specs.Later.{IsNotedMarked}
+use Rattle.packet_pools.specs.OnlyTraced.{IsNotedMarked}
 use Rattle.card_clean.specs.Drained.{IsNotedRoot}
 use Rattle.gc_cycle.proofs.Moving.{no-work}
 
@@ -27,7 +27,7 @@ all-from : (f : ℕ → Bool) (xs : List ℕ) → ((i : ℕ) → i < length xs �
 all-from f [] h = refl
 all-from f (x ∷ xs) h = and_from (f x) (list_all f xs) (h 0 (omega arith)) (all-from f xs (λ i l. h (suc i) (omega (arith, l))))
 
-module _ (c : Whole) (k : ℕ) (v : View) (w : IsState c) (a : Agrees c k v) (d : IsDrained v) where
+module _ (c : TableState) (k : ℕ) (v : View) (w : IsState c) (a : Agrees c k v) (d : IsDrained v) where
   all-clean : cards_clean (words_of c.core.shape c.core.words).cards ≡ true
   all-clean =
       all-from (λ x. x == 0) (words_of c.core.shape c.core.words).cards

@@ -18,7 +18,7 @@ use Rattle.mark_core.proofs.FormedWords.{word-in}
 use Rattle.mark_core.proofs.NotesBeside.{Sits, sits}
 use Rattle.mark_core.proofs.NotesKept.{single-word, word-found}
 use Rattle.gc_table.specs.Rule.{Agrees, IsState}
-use Rattle.gc_table.specs.Whole.{Whole}
+use Rattle.gc_table.specs.TableState.{TableState}
 use Rattle.gc_table.specs.declared.view.View.{View}
 use Rattle.gc_table.specs.Running.{Known}
 use Rattle.stop_world.proofs.Phases.{phase-is}
@@ -27,7 +27,7 @@ use Rattle.gc_cycle.specs.Finishing.{AllocsNoted, IsAloneIn, ones_noted}
 use Rattle.gc_cycle.specs.declared.counts.Counts.{Counts}
 use Rattle.gc_cycle.proofs.Counted.{blocks-count, none-used, Reads}
 
-module _ (x : Whole) (i : ℕ) (v : View) (k : IsState x) (a : Agrees x i v) where
+module _ (x : TableState) (i : ℕ) (v : View) (k : IsState x) (a : Agrees x i v) where
   -- where a seat knows that the world is stopped, no seat is active
   none-active : v.state.knows ≡ true → NoneActive (standings x.core.seats)
   none-active h =

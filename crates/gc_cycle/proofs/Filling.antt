@@ -20,7 +20,7 @@ use Rattle.gc_table.specs.Rule.{Agrees, IsState}
 use Rattle.gc_table.specs.Running.{Ran}
 use Rattle.gc_table.specs.Seats.{Stored}
 use Rattle.gc_table.specs.Taking.{after, Finds, May}
-use Rattle.gc_table.specs.Whole.{Whole}
+use Rattle.gc_table.specs.TableState.{TableState}
 use Rattle.gc_table.specs.declared.view.Entry.{Entry}
 use Rattle.gc_table.specs.declared.view.View.{View}
 use Rattle.gc_table.proofs.Log.{events-after}
@@ -54,7 +54,7 @@ all-pass f (x ∷ xs) d h = and_from (f x) (list_all f xs) (h 0 (omega arith)) (
 abbrev pub NotesFull : View → Type 0
 NotesFull v = (b : ℕ) → b < block_count v.shape → look (alloc_at b) v.known ≡ Some all_ones
 
-all-published : (x : Whole) (i : ℕ) (v : View) → IsState x → Agrees x i v → NotesFull v → all_allocated (words_of x.core.shape x.core.words).allocs ≡ true
+all-published : (x : TableState) (i : ℕ) (v : View) → IsState x → Agrees x i v → NotesFull v → all_allocated (words_of x.core.shape x.core.words).allocs ≡ true
 all-published x i v k a h =
     let sh : Shape = x.core.shape in
     let allocs : List ℕ = (words_of sh x.core.words).allocs in

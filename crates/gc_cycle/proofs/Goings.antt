@@ -29,7 +29,7 @@ use Rattle.stop_world.proofs.Standing.{active-counted, strong, unless}
 use Rattle.mark_core.proofs.NotesBeside.{Sits, sits}
 use Rattle.std.proofs.lemmas.List.{get_or-map, length-map}
 use Rattle.gc_table.specs.Rule.{Agrees, IsState}
-use Rattle.gc_table.specs.Whole.{Whole}
+use Rattle.gc_table.specs.TableState.{TableState}
 use Rattle.stop_world.specs.Gates.{Declines, Enters, IsDone, IsFreeToLeave, Joins, TurnsBack}
 use Rattle.gc_cycle.specs.Cycles.{never_fills}
 use Rattle.gc_cycle.specs.Events.{last_is, never, Sort}
@@ -279,7 +279,7 @@ leaves-help v w a n t =
       ap (λ (x : View). x.own) t.1.0,
     )
   where
-    helper : (x : Whole) (i : ℕ) (u : View) → IsState x → Agrees x i u → HelpsOnly (standing_of u.state)
+    helper : (x : TableState) (i : ℕ) (u : View) → IsState x → Agrees x i u → HelpsOnly (standing_of u.state)
     helper x i u k g =
         let s : Sits x.core i u.state = sits x.core i u.state g.seat in
         subst HelpsOnly (get_or-map standing_of x.core.seats i u.state (standing_of u.state) s.within ∙ ap standing_of s.is)

@@ -21,7 +21,7 @@ use Rattle.gc_table.specs.declared.view.View.{View}
 use Rattle.gc_table.proofs.Log.{only-more}
 use Rattle.gc_table.proofs.Noticing.{alone-kept, alone-steady}
 use Rattle.gc_table.proofs.Running.{run-keeps}
-use Rattle.packet_pools.specs.Later.{LaterBy, rest_of, traces_cells as traces_packets}
+use Rattle.packet_pools.specs.OnlyTraced.{OnlyTracedBy, rest_of, traces_cells as traces_packets}
 use Rattle.packet_pools.specs.Seeking.{moves_packet, only_moves}
 use Rattle.packet_pools.specs.Tracing.{Traces, traces}
 use Rattle.packet_pools.proofs.Marked.{tracing-alone}
@@ -159,18 +159,18 @@ owes-step x (ReadLength k) n p s e = e
 owes-step x step n p s e = absurd (false≢true p)
 
 -- while a seat traces no card comes to be owed
-pub owes-none : {b : Bool} (v w : View) → LaterBy b v w → v.state.owes ≡ None → w.state.owes ≡ None
+pub owes-none : {b : Bool} (v w : View) → OnlyTracedBy b v w → v.state.owes ≡ None → w.state.owes ≡ None
 owes-none v w l e = run-keeps traces_packets (λ (x : View). x.state.owes ≡ None) owes-step v w l.ran l.only e
 
 -- with no packet and no work in hand it is at rest again
-pub rest-again : {b : Bool} (v w : View) → LaterBy b v w → Traces w → holds_any w.state.held ≡ false → work_in_hand w.shape.fields w.state ≡ false → is_at_rest v.shape v.state ≡ true → is_at_rest w.shape w.state ≡ true
+pub rest-again : {b : Bool} (v w : View) → OnlyTracedBy b v w → Traces w → holds_any w.state.held ≡ false → work_in_hand w.shape.fields w.state ≡ false → is_at_rest v.shape v.state ≡ true → is_at_rest w.shape w.state ≡ true
 rest-again v w l t packets work e =
     let a = rest-parts v.shape v.state e in
     rest-from w.shape w.state packets t.unreserved t.uncredited work (owes-none v w l a.owes) (ap (λ (s : SeatState). s.block) l.rest ∙ a.block) (ap (λ (s : SeatState). s.got == 0) l.rest ∙ a.register)
     (ap (λ (s : SeatState). not (has_making s.cache)) l.rest ∙ a.making)
 
 -- roots that were seen to stay so
-pub rooted-by : {b : Bool} (v w : View) → LaterBy b v w → is_at_rest w.shape w.state ≡ true → IsRooted v → IsRooted w
+pub rooted-by : {b : Bool} (v w : View) → OnlyTracedBy b v w → is_at_rest w.shape w.state ≡ true → IsRooted v → IsRooted w
 rooted-by v w l rest r =
     let drain = alone-kept Drain traces_packets tracing-alone v w l.ran l.only r.drain in
     let cache = (and_parts _ (is_none v.state.cache) (and_parts _ (is_none v.state.block) (and_parts _ (v.state.got == 0) r.rest.rest).0).0).1 in
@@ -185,11 +185,11 @@ rest-but : (v w : View) → rest_of w.state ≡ rest_of v.state → rest_of w.st
 rest-but v w e = e ∙ (λ i. record (rest_of v.state) { below_card = sym (ap (λ (s : SeatState). s.below_card) e) i })
 
 -- what packet_pools' relation says of a call after which the seat is at rest again
-pub traced-of : {b : Bool} (v w : View) → LaterBy b v w → is_at_rest w.shape w.state ≡ true → HasTraced v w
+pub traced-of : {b : Bool} (v w : View) → OnlyTracedBy b v w → is_at_rest w.shape w.state ≡ true → HasTraced v w
 traced-of v w l rest = record { ran = l.ran; only = only-more traces_packets traces_cells widened v w l.only; rest = rest; record_is = rest-but v w l.rest; rooted = rooted-by v w l rest }
 
 -- the same where the packets in hand are as before, and no work is left
-pub traced-held : {b : Bool} (v w : View) → LaterBy b v w → Traces w → w.state.held ≡ v.state.held → work_in_hand w.shape.fields w.state ≡ false → is_at_rest v.shape v.state ≡ true → HasTraced v w
+pub traced-held : {b : Bool} (v w : View) → OnlyTracedBy b v w → Traces w → w.state.held ≡ v.state.held → work_in_hand w.shape.fields w.state ≡ false → is_at_rest v.shape v.state ≡ true → HasTraced v w
 traced-held v w l t h k r = traced-of v w l (rest-again v w l t (ap holds_any h ∙ (rest-parts v.shape v.state r).packets) k r)
 
 -- card_clean counts the same

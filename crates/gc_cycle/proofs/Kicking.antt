@@ -10,7 +10,7 @@ use Rattle.gc_table.specs.declared.view.Entry.{Entry}
 use Rattle.gc_table.specs.declared.view.View.{View}
 use Rattle.gc_table.specs.Taking.{after, May, won}
 use Rattle.gc_table.specs.Rule.{IsState, Agrees}
-use Rattle.gc_table.specs.Whole.{Whole}
+use Rattle.gc_table.specs.TableState.{TableState}
 use Rattle.gc_table.specs.Log.{events, event}
 use Rattle.gc_table.specs.Running.{Ran}
 use Rattle.gc_table.proofs.Log.{events-after}
@@ -41,7 +41,7 @@ pub one-due : (a b d m : ℕ) (r : Bool) → nat_lt (8 * statistic d) (statistic
 one-due a b d m r e f = record { due = true; read = ap Some e; tried = refl; answer = f ∙ same-twice (is_phase m Idle) }
 
 -- an active seat hasn't stopped the world
-pub active-unknowing : (x : Whole) (i : ℕ) (v : View) → IsState x → Agrees x i v → v.state.active ≡ true → v.state.knows ≡ false
+pub active-unknowing : (x : TableState) (i : ℕ) (v : View) → IsState x → Agrees x i v → v.state.active ≡ true → v.state.knows ≡ false
 active-unknowing x i v k a active =
     let s = strong x i v k a in
     let counted = active-counted x i v k a active in

@@ -17,7 +17,7 @@ use Rattle.mark_core.proofs.SweptDone.{done-white}
 use Rattle.gc_table.specs.Notes.{look}
 use Rattle.gc_table.specs.Rule.{IsState, Agrees}
 use Rattle.gc_table.specs.Taking.{after, Finds, May}
-use Rattle.gc_table.specs.Whole.{Whole}
+use Rattle.gc_table.specs.TableState.{TableState}
 use Rattle.gc_table.specs.declared.view.View.{View}
 use Rattle.gc_table.specs.Running.{Alone, Known}
 use Rattle.gc_table.proofs.Log.{events-after}
@@ -62,15 +62,15 @@ moved from to v w n e a is f =
     }
 
 -- the phase of each state that agrees
-at-phase : (p : Phase) (x : Whole) (i : ℕ) (v : View) → Agrees x i v → Alone p v → (words_of x.core.shape x.core.words).phase ≡ phase_number p
+at-phase : (p : Phase) (x : TableState) (i : ℕ) (v : View) → Agrees x i v → Alone p v → (words_of x.core.shape x.core.words).phase ≡ phase_number p
 at-phase p x i v a h = phase-is x i v (phase_number p) a h.phase
 
-counter-above : (x : Whole) (i : ℕ) (v : View) (o : Option ℕ) → Agrees x i v → look the_next_block v.floors ≡ o → unwrap_or o 0 ≤ (words_of x.core.shape x.core.words).next_block
+counter-above : (x : TableState) (i : ℕ) (v : View) (o : Option ℕ) → Agrees x i v → look the_next_block v.floors ≡ o → unwrap_or o 0 ≤ (words_of x.core.shape x.core.words).next_block
 counter-above x i v None a e = omega arith
 counter-above x i v (Some n) a e = subst (λ m. n ≤ m) (single-word x.core.shape x.core.words 4 (omega arith)) (a.floored the_next_block n e).1
 
 -- every block was handed out and put down, so no cell is marked
-done : (x : Whole) (i : ℕ) (v : View) → IsState x → Agrees x i v → IsAlone v → IsSweepingPhase (words_of x.core.shape x.core.words).phase → block_count v.shape ≤ block_floor v → blocks_done x.core.shape (words_of x.core.shape x.core.words) v.state ≡ true
+done : (x : TableState) (i : ℕ) (v : View) → IsState x → Agrees x i v → IsAlone v → IsSweepingPhase (words_of x.core.shape x.core.words).phase → block_count v.shape ≤ block_floor v → blocks_done x.core.shape (words_of x.core.shape x.core.words) v.state ≡ true
 done x i v k a h phase all =
     let above = counter-above x i v (look the_next_block v.floors) a refl in
     let all_out : block_count x.core.shape ≤ (words_of x.core.shape x.core.words).next_block =

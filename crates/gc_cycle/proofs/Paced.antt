@@ -19,7 +19,7 @@ use Rattle.gc_table.specs.Log.{all_steps, events, Only}
 use Rattle.gc_table.specs.Rule.{Agrees, IsState, KnowsFull}
 use Rattle.gc_table.specs.Running.{AllSeen, ends_alone, IsSeen, Known, Ran, after_all}
 use Rattle.gc_table.specs.Taking.{after, Finds}
-use Rattle.gc_table.specs.Whole.{Whole}
+use Rattle.gc_table.specs.TableState.{TableState}
 use Rattle.gc_table.specs.declared.view.Entry.{Entry}
 use Rattle.gc_table.specs.declared.view.View.{View}
 use Rattle.gc_table.proofs.Log.{only-more}
@@ -54,7 +54,7 @@ left-number (suc (suc (suc (suc (suc zero))))) h e = inr (inr refl)
 left-number (suc (suc (suc (suc (suc (suc n)))))) h e = absurd (omega (arith, h))
 
 -- while a mutator is active the phase is none of those of a stop
-active-number : (x : Whole) (i : ℕ) (v : View) (n : ℕ) → IsState x → Agrees x i v → v.state.active ≡ true → word_at x.core.shape x.core.words the_phase ≡ n → (n ≡ 0) ⊎ ((n ≡ 1) ⊎ (n ≡ 5))
+active-number : (x : TableState) (i : ℕ) (v : View) (n : ℕ) → IsState x → Agrees x i v → v.state.active ≡ true → word_at x.core.shape x.core.words the_phase ≡ n → (n ≡ 0) ⊎ ((n ≡ 1) ⊎ (n ≡ 5))
 active-number x i v n k a active w =
     let c = x.core in
     let is = sym (single-word c.shape c.words 1 (omega arith)) ∙ w in

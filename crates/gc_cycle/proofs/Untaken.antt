@@ -7,7 +7,7 @@ use Rattle.gc_table.specs.Log.{all_steps, events}
 use Rattle.gc_table.specs.declared.view.Entry.{Entry}
 use Rattle.gc_table.specs.declared.view.View.{View}
 use Rattle.packet_pools.specs.Counts.{only_scans, scans_object}
-use Rattle.packet_pools.specs.Later.{LaterBy, traces_cells as traces_packets}
+use Rattle.packet_pools.specs.OnlyTraced.{OnlyTracedBy, traces_cells as traces_packets}
 use Rattle.packet_pools.specs.Seeking.{moves_packet, only_moves}
 use Rattle.tracer.specs.Roots.{only_roots, scans_roots}
 use Rattle.tracer.specs.Tally.{only_traces, traces_cells}
@@ -88,5 +88,5 @@ packets-unread (ReadStat which) n e = absurd (false≢true e)
 packets-unread step n e = refl
 
 -- a call that traces reads none of the numbers that pace a cycle
-pub unread-of : {b : Bool} (v w : View) → LaterBy b v w → never reads_pace (events v w) ≡ true
+pub unread-of : {b : Bool} (v w : View) → OnlyTracedBy b v w → never reads_pace (events v w) ≡ true
 unread-of v w l = untaken traces_packets reads_pace packets-unread (events v w) l.only

@@ -9,7 +9,7 @@ use Rattle.mark_core.specs.Shapes.{EachCell}
 use Rattle.mark_core.specs.Views.{makers}
 use Rattle.mark_core.specs.Steps.{Core}
 use Rattle.gc_table.specs.Rule.{IsState, Agrees}
-use Rattle.gc_table.specs.Whole.{Whole}
+use Rattle.gc_table.specs.TableState.{TableState}
 use Rattle.gc_table.specs.declared.view.View.{View}
 use Rattle.gc_cycle.specs.declared.counts.Counts.{Counts}
 
@@ -41,4 +41,4 @@ IsExact x = EachCell x.shape (λ c. (IsTrue (is_used x c) → IsReachableIn x c)
 
 -- so it is of each state that the seat may be in
 abbrev pub InEach : (Core → Type 0) → View → Type 0
-InEach P v = (x : Whole) (i : ℕ) → IsState x → Agrees x i v → P x.core
+InEach P v = (x : TableState) (i : ℕ) → IsState x → Agrees x i v → P x.core

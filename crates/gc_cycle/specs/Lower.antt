@@ -7,7 +7,7 @@ use Rattle.mark_core.specs.declared.kinds.Step.TheVariants.{Reserve, Take, Give,
 use Rattle.gc_table.specs.Notes.{look}
 use Rattle.gc_table.specs.declared.view.View.{View}
 use Rattle.packet_pools.specs.Counts.{count_of}
-use Rattle.packet_pools.specs.Later.{rest_of}
+use Rattle.packet_pools.specs.OnlyTraced.{rest_of}
 use Rattle.tracer.specs.declared.traced.Stopped.TheVariants.{Quota, NoWork, NoPacket}
 use Rattle.tracer.specs.declared.traced.RootScan.{RootScan}
 use Rattle.tracer.specs.declared.traced.RootScan.TheVariants as roots

@@ -51,7 +51,7 @@ pub record IsOut (v : View) : Type 0 where
 pub record KeepsSection (v w : View) : Type 0 where
   pub meaning : w.own.meaning ≡ v.own.meaning
   pub places : w.own.places ≡ v.own.places
-  pub turns : w.own.turns ≡ v.own.turns
+  pub turns : w.own.history ≡ v.own.history
   pub seasons : w.own.seasons ≡ v.own.seasons
 
 -- so does what the seat is and has made

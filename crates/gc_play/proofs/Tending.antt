@@ -25,7 +25,7 @@ use Rattle.gc_table.specs.declared.view.View.{View}
 use Rattle.gc_table.proofs.Log.{events-join, events-none, only-join, only-more, only-none}
 use Rattle.gc_table.proofs.Running.{own-kept, ran-grows, ran-number, ran-plan, ran-section, ran-shape}
 use Rattle.packet_pools.specs.Counts.{SomeStretch, count_of, only_scans, scans_object}
-use Rattle.packet_pools.specs.Later.{LaterBy, rest_of, traces_cells}
+use Rattle.packet_pools.specs.OnlyTraced.{OnlyTracedBy, rest_of, traces_cells}
 use Rattle.packet_pools.specs.Seeking.{NoInput, moves_packet, only_moves, some_event}
 use Rattle.packet_pools.specs.Tracing.{Traces as MayTrace}
 use Rattle.packet_pools.proofs.Counting.{count-join, stretch-right}
@@ -173,12 +173,12 @@ marks-on h x y m r own same sits t held work owes =
       },
     )
 
-pub marks-later : {b : Bool} (h : Heap) (x y : HeapSeat) → Marks h x → LaterBy b (view_of x) (view_of y) → Sits h y → MayTrace (view_of y) → holds_any (view_of y).state.held ≡ false
+pub marks-later : {b : Bool} (h : Heap) (x y : HeapSeat) → Marks h x → OnlyTracedBy b (view_of x) (view_of y) → Sits h y → MayTrace (view_of y) → holds_any (view_of y).state.held ≡ false
     → work_in_hand h.shape.fields (view_of y).state ≡ false → is_none (view_of y).state.owes ≡ true → Marks h y × Stays (view_of x) (view_of y)
 marks-later h x y m k sits t held work owes = marks-on h x y m k.ran k.own (ap (λ (s : SeatState). record s { below_card = false; below_block = false }) k.rest) sits t held work owes
 
 -- so it does after a cleaning
-pub marks-cleaned : {b : Bool} (h : Heap) (x y : HeapSeat) → Marks h x → LaterBy b (view_of x) (view_of y) → Sits h y → MayTrace (view_of y) → (view_of y).state.held ≡ (view_of x).state.held
+pub marks-cleaned : {b : Bool} (h : Heap) (x y : HeapSeat) → Marks h x → OnlyTracedBy b (view_of x) (view_of y) → Sits h y → MayTrace (view_of y) → (view_of y).state.held ≡ (view_of x).state.held
     → work_in_hand h.shape.fields (view_of y).state ≡ false → ((view_of y).state.owes ≡ (view_of x).state.owes) ⊎ ((view_of y).state.owes ≡ None) → Marks h y × Stays (view_of x) (view_of y)
 marks-cleaned h x y m k sits t held work owes =
     let n = empty-of h.shape (view_of x).state m.goes.idle in
@@ -195,7 +195,7 @@ traces-tend (ReadStat which) e = absurd (true≢false (sym e))
 traces-tend (AddStat which by down) e = e
 traces-tend step e = refl
 
-pub tends-later : {b : Bool} (v w : View) → LaterBy b v w → Only tends v w
+pub tends-later : {b : Bool} (v w : View) → OnlyTracedBy b v w → Only tends v w
 tends-later v w k = only-more traces_cells tends traces-tend v w k.only
 
 pub tended-none : (v : View) → Tended 0 v v

@@ -18,11 +18,11 @@ use Rattle.gc_table.specs.Taking.{after, May, IsOwn, Finds, IsBlind}
 use Rattle.gc_table.proofs.Records.{record-live, records-set}
 use Rattle.plain_heap.specs.declared.operation.Op.{Op}
 use Rattle.gc_table.specs.Sections.{section_after}
-use Rattle.gc_table.specs.Whole.{Whole}
-use Rattle.gc_table.specs.Rule.{whole_of}
+use Rattle.gc_table.specs.TableState.{TableState}
+use Rattle.gc_table.specs.Rule.{table_state}
 use Rattle.gc_table.specs.Taking.{Asked}
 use Rattle.gc_table.specs.Reads.{Reads}
-use Rattle.gc_table.proofs.WholeReads.{reads-true}
+use Rattle.gc_table.proofs.StateReads.{reads-true}
 use Rattle.gc_table.proofs.Leaving.{Takes, finds, found-there, left_whole, left-words, left-seats, left-shape, left-state, own-agrees, other-agrees, spent-stays}
 
 abbrev pub St : Type 0
@@ -32,23 +32,23 @@ zero-plus : (n : ℕ) → 0 + n ≡ n
 zero-plus n = omega arith
 
 -- the rule after a step, where the seat's view is then w
-pub rule-kept : (sh : Shape) (plan : List (List Op)) (s : St) (id : ℕ) (v w : View) (step : Step) (o : Holds sh plan s) (t : Takes (whole_of sh plan o.sections s) id v step) → get_elem? s.views id ≡ some v → IsFalse w.state.spent → w.opened ≡ v.opened
-    → w.state ≡ seat_after sh v.state step (finds (whole_of sh plan o.sections s) id v step t) → Agrees (left_whole (whole_of sh plan o.sections s) id v step t) id w
-    → Holds sh plan (stepped s (address sh (place sh v.state step)) (written sh v.state step (finds (whole_of sh plan o.sections s) id v step t)) id [] w keeps)
+pub rule-kept : (sh : Shape) (plan : List (List Op)) (s : St) (id : ℕ) (v w : View) (step : Step) (o : Holds sh plan s) (t : Takes (table_state sh plan o.sections s) id v step) → get_elem? s.views id ≡ some v → IsFalse w.state.spent → w.opened ≡ v.opened
+    → w.state ≡ seat_after sh v.state step (finds (table_state sh plan o.sections s) id v step t) → Agrees (left_whole (table_state sh plan o.sections s) id v step t) id w
+    → Holds sh plan (stepped s (address sh (place sh v.state step)) (written sh v.state step (finds (table_state sh plan o.sections s) id v step t)) id [] w keeps)
 rule-kept sh plan s id v w step o t me live same state agrees =
-    let x : Whole = whole_of sh plan o.sections s in
-    let d : Whole = left_whole x id v step t in
+    let x : TableState = table_state sh plan o.sections s in
+    let d : TableState = left_whole x id v step t in
     let s' : St = stepped s (address sh (place sh v.state step)) (written sh v.state step (finds x id v step t)) id [] w keeps in
     let words : s'.words ≡ d.core.words = sym (left-words x id v step t) in
     let seats : records_from sh 0 s'.views ≡ d.core.seats = records-set sh 0 s.views id w ∙ (ap (λ (n : ℕ). set (records_from sh 0 s.views) id (record_of sh n w)) (zero-plus id) ∙ ap (set (records_from sh 0 s.views) id) (record-live sh id w live ∙ state) ∙ sym (left-seats x id v step t)) in
-    let is : whole_of sh plan d.sections s' ≡ d = (λ y. record { core = record { shape = sym (left-shape x id v step t) y; words = words y; seats = seats y }; plan = plan; sections = d.sections }) in
+    let is : table_state sh plan d.sections s' ≡ d = (λ y. record { core = record { shape = sym (left-shape x id v step t) y; words = words y; seats = seats y }; plan = plan; sections = d.sections }) in
     record {
       sections = d.sections;
       whole = subst IsState (sym is) (left-state x id v step t);
       each = λ j u h l.
           ⊎_elim
-          (λ (p : (j ≡ id) × (w ≡ u)). subst (λ (q : Whole × ℕ × View). Agrees q.0 q.1 q.2) (λ y. (sym is y, sym p.0 y, p.1 y)) agrees)
-          (λ (p : (j ≢ id) × (get_elem? s.views j ≡ some u)). subst (λ (q : Whole). Agrees q j u) (sym is) (other-agrees x id v step t j u p.0 (o.each j u p.1 l)))
+          (λ (p : (j ≡ id) × (w ≡ u)). subst (λ (q : TableState × ℕ × View). Agrees q.0 q.1 q.2) (λ y. (sym is y, sym p.0 y, p.1 y)) agrees)
+          (λ (p : (j ≢ id) × (get_elem? s.views j ≡ some u)). subst (λ (q : TableState). Agrees q j u) (sym is) (other-agrees x id v step t j u p.0 (o.each j u p.1 l)))
           (at_set s.views id j w u h);
       opened = λ u h.
           ⊎_elim
@@ -58,7 +58,7 @@ rule-kept sh plan s id v w step o t me live same state agrees =
     }
 
 -- the view after a step, where the word that it is told tells as much as the word that was there
-pub after-agrees : (x : Whole) (i : ℕ) (v : View) (step : Step) (t : Takes x i v step) (n : ℕ) → seat_after v.shape v.state step n ≡ seat_after v.shape v.state step (finds x i v step t)
+pub after-agrees : (x : TableState) (i : ℕ) (v : View) (step : Step) (t : Takes x i v step) (n : ℕ) → seat_after v.shape v.state step n ≡ seat_after v.shape v.state step (finds x i v step t)
     → written v.shape v.state step n ≡ written v.shape v.state step (finds x i v step t) → Agrees (left_whole x i v step t) i (after step n v)
 after-agrees x i v step t n state word =
     let c : Core = x.core in
@@ -71,11 +71,11 @@ after-agrees x i v step t n state word =
     refl (λ y. section_after (t.agrees.shape y) (t.agrees.plan y) v.state step v.own) refl
 
 -- a step that is told n, where n tells as much as the word that was there
-takes-told : (sh : Shape) (plan : List (List Op)) (s : St) (id : ℕ) (v : View) (step : Step) (at word n : ℕ) (carried : List (ℕ × Unit {0})) (o : Holds sh plan s) (t : Takes (whole_of sh plan o.sections s) id v step) → get_elem? s.views id ≡ some v → at ≡ address sh (place sh v.state step)
-    → word ≡ written sh v.state step (finds (whole_of sh plan o.sections s) id v step t) → seat_after v.shape v.state step n ≡ seat_after v.shape v.state step (finds (whole_of sh plan o.sections s) id v step t)
-    → written v.shape v.state step n ≡ written v.shape v.state step (finds (whole_of sh plan o.sections s) id v step t) → carried ≡ [] → Holds sh plan (stepped s at word id carried (after step n v) keeps) × IsPossible (after step n v)
+takes-told : (sh : Shape) (plan : List (List Op)) (s : St) (id : ℕ) (v : View) (step : Step) (at word n : ℕ) (carried : List (ℕ × Unit {0})) (o : Holds sh plan s) (t : Takes (table_state sh plan o.sections s) id v step) → get_elem? s.views id ≡ some v → at ≡ address sh (place sh v.state step)
+    → word ≡ written sh v.state step (finds (table_state sh plan o.sections s) id v step t) → seat_after v.shape v.state step n ≡ seat_after v.shape v.state step (finds (table_state sh plan o.sections s) id v step t)
+    → written v.shape v.state step n ≡ written v.shape v.state step (finds (table_state sh plan o.sections s) id v step t) → carried ≡ [] → Holds sh plan (stepped s at word id carried (after step n v) keeps) × IsPossible (after step n v)
 takes-told sh plan s id v step at word n carried o t here there is state left_there bare =
-    let x : Whole = whole_of sh plan o.sections s in
+    let x : TableState = table_state sh plan o.sections s in
     let w : View = after step n v in
     let live : IsFalse w.state.spent = spent-stays v.shape v.state step n ∙ t.live in
     let agrees : Agrees (left_whole x id v step t) id w = after-agrees x id v step t n state left_there in
@@ -89,7 +89,7 @@ pub allows : (sh : Shape) (plan : List (List Op)) (slots id : ℕ) (m : View × 
     → Allows (Holds sh plan) slots id m at f (λ found a. (a ≡ (after step found m.0, [])) × IsPossible a.0 × Finds step found m.0)
 allows sh plan slots id m step at f bare live here does own may asked s o _ me small =
     let v : View = m.0 in
-    let x : Whole = whole_of sh plan o.sections s in
+    let x : TableState = table_state sh plan o.sections s in
     let ag : Agrees x id v = o.each id v me live in
     let t : Takes x id v step = record { whole = o.whole; agrees = ag; live = live; ok = may x id o.whole ag; own = own; asked = asked } in
     let there : at ≡ address sh (place sh v.state step) = here ∙ ap (λ (y : Shape). address y (place y v.state step)) ag.shape in
@@ -112,7 +112,7 @@ pub allows-store : (sh : Shape) (plan : List (List Op)) (slots id : ℕ) (m : Vi
     → Asked step m.0 → Allows (Holds sh plan) slots id m at (λ _. new) (λ _ a. (a ≡ (after step new m.0, [])) × IsPossible a.0)
 allows-store sh plan slots id m step at new bare live here does blind own may asked s o _ me small =
     let v : View = m.0 in
-    let x : Whole = whole_of sh plan o.sections s in
+    let x : TableState = table_state sh plan o.sections s in
     let ag : Agrees x id v = o.each id v me live in
     let t : Takes x id v step = record { whole = o.whole; agrees = ag; live = live; ok = may x id o.whole ag; own = own; asked = asked } in
     let there : at ≡ address sh (place sh v.state step) = here ∙ ap (λ (y : Shape). address y (place y v.state step)) ag.shape in

@@ -9,8 +9,8 @@ use Rattle.plain_heap.specs.declared.object.Object.{Object}
 use Rattle.plain_heap.proofs.Reaching.{of_reachable, reach_on}
 use Rattle.gc_table.specs.StandsFor.{heaps_of}
 use Rattle.gc_table.specs.Told.{heap_before, heaps_before}
-use Rattle.gc_table.specs.Whole.{meanings_of}
-use Rattle.gc_table.specs.declared.view.Turn.{Turn}
+use Rattle.gc_table.specs.TableState.{meanings_of}
+use Rattle.gc_table.specs.declared.view.PlainStep.{PlainStep}
 use Rattle.gc_table.specs.declared.view.SectionState.{SectionState}
 
 -- what is reachable over some heaps is reachable over more
@@ -30,12 +30,12 @@ not_before : (a b : ℕ) → b ≤ a → nat_lt a b ≡ false
 not_before a b h = false_from_ne_true (nat_lt a b) (λ e. omega (arith, h, ltb-true a b e))
 
 -- a turn of this season or a later one doesn't count
-pub before-late : (season : ℕ) (heap : Heap) (ts : List Turn) (t : Turn) → season ≤ t.season → heap_before season heap (ts ++ t ∷ []) ≡ heap_before season heap ts
+pub before-late : (season : ℕ) (heap : Heap) (ts : List PlainStep) (t : PlainStep) → season ≤ t.season → heap_before season heap (ts ++ t ∷ []) ≡ heap_before season heap ts
 before-late season heap [] t h = ap (λ (b : Bool). if b then t.heap else heap) (not_before t.season season h)
 before-late season heap (u ∷ ts) t h = before-late season (if nat_lt u.season season then u.heap else heap) ts t h
 
 -- where each turn was before a season, the next season has the same heap
-pub before-next : (season : ℕ) (heap : Heap) (ts : List Turn) → ((n : ℕ) (t : Turn) → slice_get ts n ≡ Some t → t.season < season) → heap_before season heap ts ≡ heap_before (season + 1) heap ts
+pub before-next : (season : ℕ) (heap : Heap) (ts : List PlainStep) → ((n : ℕ) (t : PlainStep) → slice_get ts n ≡ Some t → t.season < season) → heap_before season heap ts ≡ heap_before (season + 1) heap ts
 before-next season heap [] h = refl
 before-next season heap (u ∷ ts) h =
     let l : u.season < season = h 0 u refl in
@@ -44,14 +44,14 @@ before-next season heap (u ∷ ts) h =
 
 -- a section that changes leaves the heaps, where its turns before the season mean the same
 pub heaps-set : (sh : Shape) (season w : ℕ) (xs : List SectionState) (k : ℕ) (y : SectionState)
-    → ((x : SectionState) → slice_get xs k ≡ Some x → (base : Heap) → heap_before season base y.turns ≡ heap_before season base x.turns) → heaps_before sh season w (set xs k y) ≡ heaps_before sh season w xs
+    → ((x : SectionState) → slice_get xs k ≡ Some x → (base : Heap) → heap_before season base y.history ≡ heap_before season base x.history) → heaps_before sh season w (set xs k y) ≡ heaps_before sh season w xs
 heaps-set sh season w [] k y h = refl
 heaps-set sh season w (x ∷ xs) zero y h = ap (λ (b : Heap). b ∷ heaps_before sh season (w + 1) xs) (h x refl (empty_heap sh.fields w))
-heaps-set sh season w (x ∷ xs) (suc k) y h = ap (λ (bs : List Heap). heap_before season (empty_heap sh.fields w) x.turns ∷ bs) (heaps-set sh season (w + 1) xs k y h)
+heaps-set sh season w (x ∷ xs) (suc k) y h = ap (λ (bs : List Heap). heap_before season (empty_heap sh.fields w) x.history ∷ bs) (heaps-set sh season (w + 1) xs k y h)
 
 -- they are those of now, where the turns before the season are all
 pub heaps-now : (sh : Shape) (season w : ℕ) (xs : List SectionState)
-    → ((k j : ℕ) (x : SectionState) → j ≡ w + k → slice_get xs k ≡ Some x → heap_before season (empty_heap sh.fields j) x.turns ≡ x.meaning.heap) → heaps_before sh season w xs ≡ heaps_of (meanings_of xs)
+    → ((k j : ℕ) (x : SectionState) → j ≡ w + k → slice_get xs k ≡ Some x → heap_before season (empty_heap sh.fields j) x.history ≡ x.meaning.heap) → heaps_before sh season w xs ≡ heaps_of (meanings_of xs)
 heaps-now sh season w [] h = refl
 heaps-now sh season w (x ∷ xs) h =
     ap (λ (b : Heap). b ∷ heaps_before sh season (w + 1) xs) (h 0 w x (omega arith) refl)

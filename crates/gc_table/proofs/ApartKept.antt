@@ -14,17 +14,17 @@ use Rattle.plain_heap.specs.PlainHeap.{Heap}
 use Rattle.plain_heap.specs.Paths.{IsReachable}
 use Rattle.gc_table.specs.Sections.{section_after, season_of}
 use Rattle.gc_table.specs.Told.{AreApart, Turns, heap_before, heaps_beside}
-use Rattle.gc_table.specs.Whole.{Whole, no_section, section_at, with_section, whole_after}
+use Rattle.gc_table.specs.TableState.{TableState, no_section, section_at, with_section, state_after}
 use Rattle.gc_table.specs.declared.view.Place.{Place}
 use Rattle.gc_table.specs.declared.view.SectionState.{SectionState}
 use Rattle.gc_table.proofs.ApartHeaps.{before-late, heaps-set}
 use Rattle.gc_table.proofs.ApartPlaces.{season_in, in-turn, made_place, new-apart}
-use Rattle.gc_table.proofs.WholeSteps.{Goes, event, kept-whole, each-left}
+use Rattle.gc_table.proofs.StateSteps.{Goes, event, kept-whole, each-left}
 
 -- no turn of the section that changes is added before this season or an earlier one
 abbrev AddsLate : ℕ → Option ℕ → (SectionState → SectionState) → List SectionState → Type 0
 AddsLate season o f xs =
-    (w z : ℕ) (y : SectionState) → o ≡ Some w → slice_get xs w ≡ Some y → z ≤ season → (base : Heap) → heap_before z base (f y).turns ≡ heap_before z base y.turns
+    (w z : ℕ) (y : SectionState) → o ≡ Some w → slice_get xs w ≡ Some y → z ≤ season → (base : Heap) → heap_before z base (f y).history ≡ heap_before z base y.history
 
 -- two objects of a section, of which the newer wasn't made where the older was reachable
 abbrev IsApart : Shape → List (List Op) → List SectionState → ℕ → ℕ → Place → Place → Type 0
@@ -46,7 +46,7 @@ beside_same sh plan season (Some zero) f (x ∷ xs) zero p late l = refl
 beside_same sh plan season (Some (suc k)) f (x ∷ xs) zero p late l =
     ap (λ (hs : List Heap). p.heap ∷ hs)
     (heaps-set sh p.season 1 xs k (f (section_at xs k))
-    (λ y g base. ap (λ (u : SectionState). heap_before p.season base (f u).turns) (get_or_from_slice_get xs k y no_section g) ∙ late (suc k) p.season y refl g l base))
+    (λ y g base. ap (λ (u : SectionState). heap_before p.season base (f u).history) (get_or_from_slice_get xs k y no_section g) ∙ late (suc k) p.season y refl g l base))
 
 -- sections stay apart, where one changes so
 apart_left : (sh : Shape) (plan : List (List Op)) (season : ℕ) (o : Option ℕ) (f : SectionState → SectionState) (xs : List SectionState) → Turns sh season xs → AreApart sh plan xs
@@ -73,13 +73,13 @@ apart_left sh plan season o f xs turns apart late adds = each-left P f o xs othe
         (adds w y e g n m p q l a b)
 
 -- what is asked of the section that the step changes
-abbrev StaysApart : Whole → SeatState → (SectionState → SectionState) → Type 0
+abbrev StaysApart : TableState → SeatState → (SectionState → SectionState) → Type 0
 StaysApart x s f = AddsLate (season_in x) s.section f x.sections × AddsApart x.core.shape x.plan (season_in x) s.section f x.sections
 
 -- a turn of a mutator is one of this season
-turn_late : (x : Whole) (i : ℕ) (s : SeatState) (step : Step) (w z : ℕ) (y : SectionState) (after base : Heap) → Goes x i s step → may_mutate s ≡ true → s.section ≡ Some w → z ≤ season_in x
-    → heap_before z base (y.turns ++ record { season = season_of s; heap = after } ∷ []) ≡ heap_before z base y.turns
-turn_late x i s step w z y after base g m e l = before-late z base y.turns (record { season = season_of s; heap = after }) (subst (λ k. z ≤ k) (sym (in-turn x i s step w g m e).0) l)
+turn_late : (x : TableState) (i : ℕ) (s : SeatState) (step : Step) (w z : ℕ) (y : SectionState) (after base : Heap) → Goes x i s step → may_mutate s ≡ true → s.section ≡ Some w → z ≤ season_in x
+    → heap_before z base (y.history ++ record { season = season_of s; heap = after } ∷ []) ≡ heap_before z base y.history
+turn_late x i s step w z y after base g m e l = before-late z base y.history (record { season = season_of s; heap = after }) (subst (λ k. z ≤ k) (sym (in-turn x i s step w g m e).0) l)
 
 -- of two places after a new one at the end, both were there, or the later one is new
 new_places : (ps : List Place) (b : Bool) (new : Place) (n m : ℕ) (p q : Place) → m < n → slice_get (if b then ps ++ new ∷ [] else ps) n ≡ Some p → slice_get (if b then ps ++ new ∷ [] else ps) m ≡ Some q
@@ -95,7 +95,7 @@ new_places ps true new n m p q l a c =
     earlier h = ⊎_elim (λ (k : (m ≡ length ps) × (new ≡ q)). absurd (omega (arith, h, k.0))) (λ (k : slice_get ps m ≡ Some q). k) (push-cases ps m new q c)
 
 -- a new object lies apart
-made_apart : (x : Whole) (i : ℕ) (s : SeatState) (c part word : ℕ) → Goes x i s (StoreNew c part word) → StaysApart x s (section_after x.core.shape x.plan s (StoreNew c part word))
+made_apart : (x : TableState) (i : ℕ) (s : SeatState) (c part word : ℕ) → Goes x i s (StoreNew c part word) → StaysApart x s (section_after x.core.shape x.plan s (StoreNew c part word))
 made_apart x i s c part word g = (λ w z y e there l base. refl, adds)
   where
     step : Step
@@ -117,7 +117,7 @@ made_apart x i s c part word g = (λ w z y e there l base. refl, adds)
         inr (subst (λ (r : Place). (r.season ≤ season_in x) × IsApart x.core.shape x.plan x.sections w m r q) h.1 (now, new-apart x i s c part word w m y q g e late there h.2)))
         (new_places y.places last (made_place s c y) n m p q l a b)
 
-stays_apart : (x : Whole) (i : ℕ) (s : SeatState) (step : Step) → Goes x i s step → StaysApart x s (section_after x.core.shape x.plan s step)
+stays_apart : (x : TableState) (i : ℕ) (s : SeatState) (step : Step) → Goes x i s step → StaysApart x s (section_after x.core.shape x.plan s step)
 stays_apart x i s (StoreField v j o) g =
     (λ w z y e there l base. turn_late x i s (StoreField v j o) w z y _ base g (and_parts _ (may_mutate s) g.ok.0).1 e l, λ w y e there n m p q l a b. inl (a, b))
 stays_apart x i s (StoreValue v n) g =
@@ -128,7 +128,7 @@ stays_apart x i s (StoreNew c part word) g = made_apart x i s c part word g
 stays_apart x i s step g = (λ w z y e there l base. refl, λ w y e there n m p q l a b. inl (a, b))
 
 -- each step that a seat may take keeps objects apart
-pub apart-kept : (x : Whole) (i : ℕ) (s : SeatState) (step : Step) → Goes x i s step → AreApart (whole_after x (event i step)).core.shape (whole_after x (event i step)).plan (whole_after x (event i step)).sections
+pub apart-kept : (x : TableState) (i : ℕ) (s : SeatState) (step : Step) → Goes x i s step → AreApart (state_after x (event i step)).core.shape (state_after x (event i step)).plan (state_after x (event i step)).sections
 apart-kept x i s step g =
     let a = stays_apart x i s step g in
     kept-whole (λ sh words seats xs. AreApart sh x.plan xs) x i s step g

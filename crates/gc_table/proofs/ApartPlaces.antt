@@ -18,19 +18,19 @@ use Rattle.plain_heap.specs.Paths.{Name, IsReachable}
 use Rattle.gc_table.specs.StandsFor.{heaps_of}
 use Rattle.gc_table.specs.Sections.{planned, season_of}
 use Rattle.gc_table.specs.Told.{heap_before, heaps_before, heaps_beside}
-use Rattle.gc_table.specs.Whole.{Whole, meanings_of, section_at}
+use Rattle.gc_table.specs.TableState.{TableState, meanings_of, section_at}
 use Rattle.gc_table.specs.declared.view.Place.{Place}
-use Rattle.gc_table.specs.declared.view.Turn.{Turn}
+use Rattle.gc_table.specs.declared.view.PlainStep.{PlainStep}
 use Rattle.gc_table.specs.declared.view.SectionState.{SectionState}
 use Rattle.gc_table.proofs.ApartHeaps.{reach-more, before-next, heaps-now}
 use Rattle.gc_table.proofs.StandsNamed.{heap-there}
 use Rattle.gc_table.proofs.StandsReached.{objects-have-cells}
 use Rattle.gc_table.proofs.StandsSeat.{making-is-free, free-not-used}
 use Rattle.gc_table.proofs.StandsStores.{used-exists}
-use Rattle.gc_table.proofs.WholeSteps.{Goes, taken}
+use Rattle.gc_table.proofs.StateSteps.{Goes, taken}
 
 -- the season word
-abbrev pub season_in : Whole → ℕ
+abbrev pub season_in : TableState → ℕ
 season_in x = (words_of x.core.shape x.core.words).season
 
 -- an active seat that has read a season has read this one
@@ -43,7 +43,7 @@ turn_seen o None w e h = absurd (true≢false (sym h ∙ ap (λ p. has_turn p No
 turn_seen o (Some z) w e h = (z, refl, subst (λ p. has_turn p (Some z) ≡ true) e h)
 
 -- a mutator has read the season word as it is, and it is its section's turn
-pub in-turn : (x : Whole) (i : ℕ) (s : SeatState) (step : Step) (w : ℕ) → Goes x i s step → may_mutate s ≡ true → s.section ≡ Some w → (season_of s ≡ season_in x) × (has_turn (Some w) (Some (season_of s)) ≡ true)
+pub in-turn : (x : TableState) (i : ℕ) (s : SeatState) (step : Step) (w : ℕ) → Goes x i s step → may_mutate s ≡ true → s.section ≡ Some w → (season_of s ≡ season_in x) × (has_turn (Some w) (Some (season_of s)) ≡ true)
 in-turn x i s step w g m e =
     let a = and_parts s.active (has_turn s.section s.season_seen) m in
     let z = turn_seen s.section s.season_seen w e a.1 in
@@ -70,7 +70,7 @@ odd_turn : (w z : ℕ) → has_turn (Some (suc w)) (Some z) ≡ true → z % 2 �
 odd_turn w z e = eqb-true (z % 2) (if eqb (suc w) 0 then 0 else 1) e ∙ ap (λ (b : Bool). if b then 0 else 1) (ne_eqb (suc w) 0 (λ f. omega (arith, f)))
 
 -- in the warehouses' turn the plan says what the catalogue is
-beside_warehouse : (x : Whole) (i : ℕ) (s : SeatState) (step : Step) (w c : ℕ) (y : SectionState) → Goes x i s step → may_mutate s ≡ true → s.section ≡ Some (suc w) → slice_get x.sections (suc w) ≡ Some y
+beside_warehouse : (x : TableState) (i : ℕ) (s : SeatState) (step : Step) (w c : ℕ) (y : SectionState) → Goes x i s step → may_mutate s ≡ true → s.section ≡ Some (suc w) → slice_get x.sections (suc w) ≡ Some y
     → (h : Heap) → Contains (heaps_beside x.core.shape x.plan x.sections (suc w) (made_place s c y)) h → Contains (heaps_of (meanings_of x.sections)) h
 beside_warehouse x i s step w c y g m e there h (zero, below, is) =
     let turn = in-turn x i s step (suc w) g m e in
@@ -88,26 +88,26 @@ after_first : (j k : ℕ) → j ≡ 1 + k → j ≡ suc k
 after_first j k e = omega (arith, e)
 
 -- in the catalogue's turn the warehouses are as they were left
-beside_catalogue : (x : Whole) (i : ℕ) (s : SeatState) (step : Step) (c : ℕ) (y : SectionState) (rest : List SectionState) → Goes x i s step → may_mutate s ≡ true → s.section ≡ Some 0 → x.sections ≡ y ∷ rest
+beside_catalogue : (x : TableState) (i : ℕ) (s : SeatState) (step : Step) (c : ℕ) (y : SectionState) (rest : List SectionState) → Goes x i s step → may_mutate s ≡ true → s.section ≡ Some 0 → x.sections ≡ y ∷ rest
     → heaps_beside x.core.shape x.plan x.sections 0 (made_place s c y) ≡ heaps_of (meanings_of x.sections)
 beside_catalogue x i s step c y rest g m e split =
     let turn = in-turn x i s step 0 g m e in
     let z : ℕ = season_of s in
     let even : z % 2 ≡ 0 = eqb-true (z % 2) 0 turn.1 in
     let at : (k j : ℕ) (u : SectionState) → j ≡ 1 + k → slice_get rest k ≡ Some u → slice_get x.sections j ≡ Some u = λ k j u d h. ap (λ l. slice_get l j) split ∙ (ap (λ n. slice_get (y ∷ rest) n) (after_first j k d) ∙ h) in
-    let past : (k j : ℕ) (u : SectionState) → j ≡ 1 + k → slice_get rest k ≡ Some u → (n : ℕ) (t : Turn) → slice_get u.turns n ≡ Some t → t.season < z =
+    let past : (k j : ℕ) (u : SectionState) → j ≡ 1 + k → slice_get rest k ≡ Some u → (n : ℕ) (t : PlainStep) → slice_get u.history n ≡ Some t → t.season < z =
     λ k j u d h n t f.
     let a = g.whole.told.turns.turns_past j u (at k j u d h) n t f in
     warehouse_past z k t.season (subst (λ l. t.season ≤ l) (sym turn.0) a.0) even (subst (λ l. has_turn (Some l) (Some t.season) ≡ true) (after_first j k d) a.1) in
     let now : heaps_before x.core.shape z 1 rest ≡ heaps_of (meanings_of rest) =
     heaps-now x.core.shape z 1 rest
     (λ k j u d h.
-    before-next z (empty_heap x.core.shape.fields j) u.turns (past k j u d h)
-    ∙ (ap (λ l. heap_before (l + 1) (empty_heap x.core.shape.fields j) u.turns) turn.0 ∙ sym (g.whole.told.turns.last j u (at k j u d h)))) in
+    before-next z (empty_heap x.core.shape.fields j) u.history (past k j u d h)
+    ∙ (ap (λ l. heap_before (l + 1) (empty_heap x.core.shape.fields j) u.history) turn.0 ∙ sym (g.whole.told.turns.last j u (at k j u d h)))) in
     ap (λ l. y.meaning.heap ∷ heaps_before x.core.shape z 1 (drop 1 l)) split ∙ (ap (λ hs. y.meaning.heap ∷ hs) now ∙ ap (λ l. heaps_of (meanings_of l)) (sym split))
 
 -- so each heap beside a new object is one of those of now
-beside_now : (x : Whole) (i : ℕ) (s : SeatState) (step : Step) (w c : ℕ) (y : SectionState) → Goes x i s step → may_mutate s ≡ true → s.section ≡ Some w → slice_get x.sections w ≡ Some y
+beside_now : (x : TableState) (i : ℕ) (s : SeatState) (step : Step) (w c : ℕ) (y : SectionState) → Goes x i s step → may_mutate s ≡ true → s.section ≡ Some w → slice_get x.sections w ≡ Some y
     → (h : Heap) → Contains (heaps_beside x.core.shape x.plan x.sections w (made_place s c y)) h → Contains (heaps_of (meanings_of x.sections)) h
 beside_now x i s step zero c y g m e there h a =
     let split = headed x.sections y there in
@@ -119,7 +119,7 @@ beside_now x i s step zero c y g m e there h a =
 beside_now x i s step (suc w) c y g m e there h a = beside_warehouse x i s step w c y g m e there h a
 
 -- where an object lies that is reachable: its cell is in use
-reached_lies : (x : Whole) (i : ℕ) (s : SeatState) (step : Step) (w m : ℕ) (y : SectionState) (o : Place) → Goes x i s step → slice_get x.sections w ≡ Some y → slice_get y.places m ≡ Some o
+reached_lies : (x : TableState) (i : ℕ) (s : SeatState) (step : Step) (w m : ℕ) (y : SectionState) (o : Place) → Goes x i s step → slice_get x.sections w ≡ Some y → slice_get y.places m ≡ Some o
     → IsReachable (heaps_of (meanings_of x.sections)) (record { section = w; number = m }) → Used x.core o.cell ≡ true
 reached_lies x i s step w m y o g there at reach =
     let ids : List ℕ = (words_of x.core.shape x.core.words).identities in
@@ -133,7 +133,7 @@ reached_lies x i s step w m y o g there at reach =
     subst (λ k. Used x.core k ≡ true) (sym lies.2.2 ∙ ap (λ (p : Place). p.cell) place) used
 
 -- the cell to which the last part goes isn't that of an object that is reachable just before
-pub new-apart : (x : Whole) (i : ℕ) (s : SeatState) (c part word w m : ℕ) (y : SectionState) (o : Place) → Goes x i s (StoreNew c part word) → s.section ≡ Some w → 0 < part → slice_get x.sections w ≡ Some y → slice_get y.places m ≡ Some o
+pub new-apart : (x : TableState) (i : ℕ) (s : SeatState) (c part word w m : ℕ) (y : SectionState) (o : Place) → Goes x i s (StoreNew c part word) → s.section ≡ Some w → 0 < part → slice_get x.sections w ≡ Some y → slice_get y.places m ≡ Some o
     → IsReachable (heaps_beside x.core.shape x.plan x.sections w (made_place s c y)) (record { section = w; number = m }) → c ≡ o.cell → ⊥
 new-apart x i s c part word w m y o g e late there at reach same =
     let step : Step = StoreNew c part word in

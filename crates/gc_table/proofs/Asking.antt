@@ -21,7 +21,7 @@ use Rattle.gc_table.specs.declared.view.View.{View}
 use Rattle.gc_table.specs.Notes.{look}
 use Rattle.gc_table.specs.PlainSteps.{own_section}
 use Rattle.gc_table.specs.Sections.{AskedOf}
-use Rattle.gc_table.specs.Whole.{Whole, no_section, section_at, AskedIn}
+use Rattle.gc_table.specs.TableState.{TableState, no_section, section_at, AskedIn}
 use Rattle.gc_table.specs.Rule.{IsState, Agrees}
 use Rattle.gc_table.specs.Taking.{Asked}
 
@@ -41,18 +41,18 @@ has-section s e = by_section s.section refl
     by_section (Some w) h = (w, h)
 
 -- the view has the seat's own section as it is
-pub own-is : (x : Whole) (i : ℕ) (v : View) (w : ℕ) → Agrees x i v → v.state.section ≡ Some w → v.own ≡ section_at x.sections (own_section v.state)
+pub own-is : (x : TableState) (i : ℕ) (v : View) (w : ℕ) → Agrees x i v → v.state.section ≡ Some w → v.own ≡ section_at x.sections (own_section v.state)
 own-is x i v w a e = sym (ap (λ (o : Option ℕ). section_at x.sections (unwrap_or o 0)) e ∙ get_or_from_slice_get x.sections w v.own no_section (a.own w e))
 
 -- where the seat has a section, what is asked of the view is asked of the state
-asked_same : (x : Whole) (i : ℕ) (v : View) (w : ℕ) (step : Step) → Agrees x i v → v.state.section ≡ Some w → AskedOf v.shape v.plan v.state v.own (Some (words_of x.core.shape x.core.words).named) step → AskedIn x v.state step
+asked_same : (x : TableState) (i : ℕ) (v : View) (w : ℕ) (step : Step) → Agrees x i v → v.state.section ≡ Some w → AskedOf v.shape v.plan v.state v.own (Some (words_of x.core.shape x.core.words).named) step → AskedIn x v.state step
 asked_same x i v w step a e h =
     subst (λ (q : Shape × List (List Op) × SectionState). AskedOf q.0 q.1 v.state q.2 (Some (words_of x.core.shape x.core.words).named) step) (λ y. (a.shape y, a.plan y, own-is x i v w a e y)) h
 
-named_there : (x : Whole) (i : ℕ) (v : View) (w : ℕ) → Agrees x i v → look the_named v.known ≡ Some w → Some (words_of x.core.shape x.core.words).named ≡ Some w
+named_there : (x : TableState) (i : ℕ) (v : View) (w : ℕ) → Agrees x i v → look the_named v.known ≡ Some w → Some (words_of x.core.shape x.core.words).named ≡ Some w
 named_there x i v w a e = ap Some (sym (single-word x.core.shape x.core.words 5 (omega arith)) ∙ (a.noted the_named w e).1)
 
-pub asked-in : (x : Whole) (i : ℕ) (v : View) (step : Step) → IsState x → Agrees x i v → AllTrue (parts x.core.shape (words_of x.core.shape x.core.words) x.core.seats v.state step) → Asked step v → AskedIn x v.state step
+pub asked-in : (x : TableState) (i : ℕ) (v : View) (step : Step) → IsState x → Agrees x i v → AllTrue (parts x.core.shape (words_of x.core.shape x.core.words) x.core.seats v.state step) → Asked step v → AskedIn x v.state step
 asked-in x i v (StoreField u j w) k a ok h = let m = has-section v.state (and_parts _ (may_mutate v.state) ok.0).1 in asked_same x i v m.0 (StoreField u j w) a m.1 h
 asked-in x i v (StoreValue u n) k a ok h = let m = has-section v.state (and_parts _ (may_mutate v.state) ok.0).1 in asked_same x i v m.0 (StoreValue u n) a m.1 h
 asked-in x i v (StoreRoot u r) k a ok h = let m = has-section v.state (and_parts _ (may_mutate v.state) ok.0).1 in asked_same x i v m.0 (StoreRoot u r) a m.1 h

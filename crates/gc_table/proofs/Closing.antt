@@ -28,14 +28,14 @@ use Rattle.std.proofs.Common.{[], ◌∷◌, ◌++◌, zero, suc, arith}
 use Rattle.std.proofs.lemmas.List.Elements.{Contains-append_cases}
 use Rattle.plain_heap.specs.declared.operation.Op.{Op}
 use Rattle.gc_table.specs.declared.view.SectionState.{SectionState}
-use Rattle.gc_table.specs.Whole.{Whole, whole_after}
-use Rattle.gc_table.specs.Rule.{records_from, whole_of, IsState, HasJoined, Agrees, Holds, IsFinal, nobody, own_entry, takes_in}
+use Rattle.gc_table.specs.TableState.{TableState, state_after}
+use Rattle.gc_table.specs.Rule.{records_from, table_state, IsState, HasJoined, Agrees, Holds, IsFinal, nobody, own_entry, takes_in}
 use Rattle.gc_table.proofs.Asking.{own-number}
 use Rattle.gc_table.proofs.Joining.{both-noted}
 use Rattle.gc_table.proofs.Opening.{none-in, record-at, still-sections, zero-plus}
 use Rattle.gc_table.proofs.Records.{record-live, records-set, found-here, found-else}
-use Rattle.gc_table.proofs.WholeSteps.{Goes, event, sections-left}
-use Rattle.gc_table.proofs.WholeKept.{whole-kept}
+use Rattle.gc_table.proofs.StateSteps.{Goes, event, sections-left}
+use Rattle.gc_table.proofs.StateKept.{whole-kept}
 
 unset : (b : Bool) → not b ≡ true → b ≡ false
 unset true e = absurd (true≢false (sym e))
@@ -78,7 +78,7 @@ some_seat s t e = cc
 -- a seat takes in another, while both are outside
 pub joins : (sh : Shape) (plan : List (List Op)) (id : ℕ) (v : View) (other : ℕ) (w : View) → IsFalse v.state.spent → IsTrue (is_bare v.state) → IsFalse w.state.spent → IsTrue (is_bare w.state) → w.state.number ≢ 0 → Joins (Holds sh plan) id v other w (takes_in v w) nobody
 joins sh plan id v other w live bare live' bare' second s o me apart there' =
-    let x : Whole = whole_of sh plan o.sections s in
+    let x : TableState = table_state sh plan o.sections s in
     let c : Core = x.core in
     let there : get_elem? s.views other ≡ some w = sym (set_else s.views id other (takes_in v w) apart) ∙ there' in
     let a : Agrees x id v = o.each id v me live in
@@ -91,7 +91,7 @@ joins sh plan id v other w live bare live' bare' second s o me apart there' =
     and_from _ _ (bare-nothing c id v.state o.whole.core a.seat bare) (ap (other_has_nothing sh) b.seat ∙ bare-nothing c other w.state o.whole.core b.seat bare') in
     let g : Goes x id v.state (Join other) = record { whole = o.whole; got = a.seat; live = live; ok = (first, (nothing, tt)); fits = tt; asks = tt } in
     let after : after_event c (event id (Join other)) ≡ after_of c id (Some v.state) (Join other) = ap (λ p. after_of c id p (Join other)) a.seat in
-    let sections : (whole_after x (event id (Join other))).sections ≡ o.sections = sections-left x id v.state (Join other) g ∙ still-sections v.state.section o.sections in
+    let sections : (state_after x (event id (Join other))).sections ≡ o.sections = sections-left x id v.state (Join other) g ∙ still-sections v.state.section o.sections in
     let words : set s.words (address sh the_world) (slice_index s.words (address sh the_world)) ≡ s.words = set-get_or s.words (address sh the_world) 0 in
     let both : View = takes_in v w in
     let vs : List View = set (set s.views id both) other nobody in
@@ -103,7 +103,7 @@ joins sh plan id v other w live bare live' bare' second s o me apart there' =
     let not_other : k ≢ other = λ e. true≢false (ap (λ (t : SeatState). t.spent) (some_seat (spent_seat sh k) w.state (sym h ∙ (ap (slice_get c.seats) e ∙ b.seat))) ∙ live') in
     let not_own : k ≢ id = λ e. true≢false (ap (λ (t : SeatState). t.spent) (some_seat (spent_seat sh k) v.state (sym h ∙ (ap (slice_get c.seats) e ∙ a.seat))) ∙ live) in
     ap (λ xs. slice_get xs k) seats ∙ (found-else (set c.seats id v.state) other k (spent_seat sh other) not_other ∙ (found-else c.seats id k v.state not_own ∙ h)) in
-    let left : Whole = whole_of sh plan o.sections (record { words = s.words; homes = s.homes; views = vs }) in
+    let left : TableState = table_state sh plan o.sections (record { words = s.words; homes = s.homes; views = vs }) in
     let joined : (u : View) → HasJoined x u → HasJoined left u = λ u h k y i. let q = h k y i in (q.0, gone k q.1) in
     let core : after_event c (event id (Join other)) ≡ record { shape = sh; words = s.words; seats = records_from sh 0 vs } = after ∙ (λ y. record { shape = sh; words = words y; seats = sym seats y }) in
     record {
@@ -146,4 +146,4 @@ joins sh plan id v other w live bare live' bare' second s o me apart there' =
 
 -- the words in the end, and what the last seat's view says of all sections
 pub closes : (sh : Shape) (plan : List (List Op)) (id : ℕ) (v : View) (ws : List ℕ) (xs : List (Unit {0})) → IsFalse v.state.spent → Final (Seen (Holds sh plan) id v) ws xs → IsFinal v ws
-closes sh plan id v ws xs live f = record { state = whole_of sh plan f.1.0.sections f.0; whole = f.1.0.whole; words = f.2; index = id; agrees = f.1.0.each id v f.1.1 live }
+closes sh plan id v ws xs live f = record { state = table_state sh plan f.1.0.sections f.0; whole = f.1.0.whole; words = f.2; index = id; agrees = f.1.0.each id v f.1.1 live }

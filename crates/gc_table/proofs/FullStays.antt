@@ -27,11 +27,11 @@ use Rattle.mark_core.specs.declared.kinds.Step.{Step}
 use Rattle.mark_core.specs.declared.kinds.Step.TheVariants.{ReadPhase, StoreField, StoreValue, StoreRoot, StoreNew, StorePhase, StoreAlloc, StoreNamed, Reset, AddStat, ReadStat}
 use Rattle.mark_core.specs.declared.seat.SeatState.{SeatState}
 use Rattle.gc_table.specs.PlainSteps.{HasSeenPhase}
-use Rattle.gc_table.specs.Whole.{Whole}
+use Rattle.gc_table.specs.TableState.{TableState}
 use Rattle.gc_table.proofs.FullSeen.{SeesFull}
 use Rattle.gc_table.proofs.ReachStill.{ReachedAfter, reach-still}
 use Rattle.gc_table.proofs.StandsSeat.{free-not-used}
-use Rattle.gc_table.proofs.WholeSteps.{Goes, taken}
+use Rattle.gc_table.proofs.StateSteps.{Goes, taken}
 
 -- the heap was found full
 abbrev pub IsFull : Core → Type 0
@@ -101,7 +101,7 @@ no_cell c i s y part word P k a =
     absurd (true≢false (sym (or_left (cell_bit (words_of c.shape c.words).allocs y) _ (a y below)) ∙ free-not-used c i s step y k free))
 
 -- so every cell stays reachable
-pub reached-on : (x : Whole) (i : ℕ) (s : SeatState) (step : Step) → Goes x i s step → All SeesFull x.core.seats → AllPublished x.core → EachCell x.core.shape (IsReachableIn x.core) → EachCell x.core.shape (ReachedAfter x.core s step)
+pub reached-on : (x : TableState) (i : ℕ) (s : SeatState) (step : Step) → Goes x i s step → All SeesFull x.core.seats → AllPublished x.core → EachCell x.core.shape (IsReachableIn x.core) → EachCell x.core.shape (ReachedAfter x.core s step)
 reached-on x i s (StoreField v j o) g seen a r = no_mutator x.core i s (StoreField v j o) _ (taken x i s (StoreField v j o) g) seen (and_parts _ _ g.ok.0).1 g.asks.1.0
 reached-on x i s (StoreValue v n) g seen a r = no_mutator x.core i s (StoreValue v n) _ (taken x i s (StoreValue v n) g) seen (and_parts _ _ g.ok.0).1 g.asks.1.0
 reached-on x i s (StoreRoot v t) g seen a r = no_mutator x.core i s (StoreRoot v t) _ (taken x i s (StoreRoot v t) g) seen (and_parts _ _ g.ok.0).1 g.asks.1.0

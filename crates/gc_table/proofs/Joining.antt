@@ -16,13 +16,13 @@ use Rattle.mark_core.specs.Places.{the_phase}
 use Rattle.mark_core.specs.Steps.{Core}
 use Rattle.mark_core.specs.declared.seat.SeatState.{SeatState}
 use Rattle.gc_table.specs.Notes.{Notes, look}
-use Rattle.gc_table.specs.Rule.{whole_of, own_entry, takes_in, told_full, KnowsFull, Noted, Holds, IsPossible}
+use Rattle.gc_table.specs.Rule.{table_state, own_entry, takes_in, told_full, KnowsFull, Noted, Holds, IsPossible}
 use Rattle.gc_table.proofs.Noting.{place-same}
 
 pub looks : (sh : Shape) (plan : List (List Op)) (slots id : ℕ) (m : Me (Unit {0}) View) (i : ℕ) → IsFalse m.0.state.spent → Allows (Holds sh plan) slots id m i (λ n. n) (λ found n. (n ≡ m) × IsPossible n.0)
 looks sh plan slots id m i live s o sized me fits =
     let same : stepped s i (slice_index s.words i) id m.1 m.0 keeps ≡ s = λ y. record { words = set-get_or s.words i 0 y; homes = s.homes; views = set_again s.views id m.0 me y } in
-    (m.0, keeps, tt, subst (Holds sh plan) (sym same) o, (refl, record { state = whole_of sh plan o.sections s; index = id; whole = o.whole; agrees = o.each id m.0 me live; live = live }))
+    (m.0, keeps, tt, subst (Holds sh plan) (sym same) o, (refl, record { state = table_state sh plan o.sections s; index = id; whole = o.whole; agrees = o.each id m.0 me live; live = live }))
 
 own_in : (o : Option ℕ) (x : SectionState) (k : ℕ) → o ≡ Some k → Contains (own_entry o x) (k, x)
 own_in None x k e = absurd (cc)

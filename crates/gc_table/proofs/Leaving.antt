@@ -30,9 +30,9 @@ use Rattle.std.proofs.lemmas.Option.{get_or_from_slice_get}
 use Rattle.mark_core.specs.Start.{spent_seat}
 use Rattle.gc_table.specs.declared.view.SectionState.{SectionState}
 use Rattle.gc_table.specs.Sections.{section_after}
-use Rattle.gc_table.specs.Whole.{Whole, no_section, section_at, with_section, whole_after}
-use Rattle.gc_table.proofs.WholeSteps.{Goes, event, may-happen, sections-left}
-use Rattle.gc_table.proofs.WholeKept.{whole-kept}
+use Rattle.gc_table.specs.TableState.{TableState, no_section, section_at, with_section, state_after}
+use Rattle.gc_table.proofs.StateSteps.{Goes, event, may-happen, sections-left}
+use Rattle.gc_table.proofs.StateKept.{whole-kept}
 use Rattle.std.proofs.Common.{◌%◌, ◌++◌, ◌⊎◌, eq-eqb}
 use Rattle.mark_core.specs.Bits.{has_bit}
 use Rattle.mark_core.specs.Cells.{or_else}
@@ -85,7 +85,7 @@ other-left f None k xs n = refl
 other-left f (Some j) k xs n = found-else xs j k (f (section_at xs j)) (λ e. n (ap Some (sym e)))
 
 -- an unspent seat that takes a step whose condition holds, and which meets what is asked besides
-pub record Takes (x : Whole) (i : ℕ) (v : View) (step : Step) : Type 0 where
+pub record Takes (x : TableState) (i : ℕ) (v : View) (step : Step) : Type 0 where
   pub whole : IsState x
   pub agrees : Agrees x i v
   pub live : IsFalse v.state.spent
@@ -93,7 +93,7 @@ pub record Takes (x : Whole) (i : ℕ) (v : View) (step : Step) : Type 0 where
   pub own : IsOwn step
   pub asked : Asked step v
 
-module _ (x : Whole) (i : ℕ) (v : View) (step : Step) (t : Takes x i v step) where
+module _ (x : TableState) (i : ℕ) (v : View) (step : Step) (t : Takes x i v step) where
   abbrev c : Core
   c = x.core
 
@@ -114,8 +114,8 @@ module _ (x : Whole) (i : ℕ) (v : View) (step : Step) (t : Takes x i v step) w
   found-there = word-found c.shape c.words (place c.shape v.state step) placed-at
 
   -- the state that it leaves
-  abbrev pub left_whole : Whole
-  left_whole = whole_after x (event i step)
+  abbrev pub left_whole : TableState
+  left_whole = state_after x (event i step)
 
   abbrev pub left : Core
   left = after_event c (event i step)

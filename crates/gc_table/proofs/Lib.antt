@@ -2,8 +2,8 @@ pub mod Allowed
 pub mod Fitting
 pub mod Leaving
 pub mod Asking
-pub mod WholeKept
-pub mod WholeStart
+pub mod StateKept
+pub mod StateStart
 pub mod Closing
 pub mod Joining
 pub mod Ending
@@ -35,7 +35,7 @@ pub mod StandsNamed
 pub mod StandsReached
 pub mod StandsRanges
 pub mod StandsOne
-pub mod WholeSteps
+pub mod StateSteps
 pub mod PlainTold
 pub mod ApartHeaps
 pub mod ApartPlaces
@@ -52,11 +52,11 @@ pub mod PlacedLeft
 pub mod PlacedMore
 pub mod PlacedNew
 pub mod PlacedKept
-pub mod WholeStores
-pub mod WholeSeen
-pub mod WholeStands
-pub mod WholePlain
-pub mod WholeReads
+pub mod StateStores
+pub mod StateSeen
+pub mod StateStands
+pub mod StatePlain
+pub mod StateReads
 mod Rows
 pub mod Log
 pub mod Running

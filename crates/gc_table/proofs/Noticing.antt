@@ -20,7 +20,7 @@ use Rattle.gc_table.specs.Notes.{Notes, look, if_kept, noting}
 use Rattle.gc_table.specs.Running.{is_store, IsSeen, Ran, Known, AtLeast, Alone, ends_alone}
 use Rattle.gc_table.specs.Rule.{Agrees}
 use Rattle.gc_table.specs.Taking.{after, Finds}
-use Rattle.gc_table.specs.Whole.{Whole}
+use Rattle.gc_table.specs.TableState.{TableState}
 use Rattle.gc_table.proofs.Noting.{place-same, look-map}
 use Rattle.gc_table.proofs.Running.{run-keeps}
 
@@ -249,5 +249,5 @@ pub found-above : (v : View) (step : Step) (n : ℕ) (at : ℕ × ℕ) (m : ℕ)
 found-above v step n at m f e a = let low = found-floored v step n a.floor at f e a.noted in omega (arith, low, a.above)
 
 -- the counter itself isn't below it, in a state that agrees with the view
-pub word-above : (x : Whole) (i : ℕ) (v : View) (at : ℕ × ℕ) (m : ℕ) → Agrees x i v → AtLeast v at m → m ≤ word_at x.core.shape x.core.words at
+pub word-above : (x : TableState) (i : ℕ) (v : View) (at : ℕ × ℕ) (m : ℕ) → Agrees x i v → AtLeast v at m → m ≤ word_at x.core.shape x.core.words at
 word-above x i v at m a f = let low = (a.floored at f.floor f.noted).1 in omega (arith, low, f.above)

@@ -28,13 +28,13 @@ use Rattle.mark_core.specs.Start.{spent_seat}
 use Rattle.plain_heap.specs.declared.operation.Op.{Op}
 use Rattle.gc_table.specs.declared.view.SectionState.{SectionState}
 use Rattle.gc_table.specs.Sections.{start_section, start_sections}
-use Rattle.gc_table.specs.Whole.{Whole, no_section, section_at, with_section, whole_after, start_whole}
-use Rattle.gc_table.specs.Rule.{record_of, records_from, whole_of, IsState, HasJoined, Agrees, Holds, IsPossible, newcomer, opens, opened_by}
+use Rattle.gc_table.specs.TableState.{TableState, no_section, section_at, with_section, state_after, start_state}
+use Rattle.gc_table.specs.Rule.{record_of, records_from, table_state, IsState, HasJoined, Agrees, Holds, IsPossible, newcomer, opens, opened_by}
 use Rattle.gc_table.proofs.Allowed.{St}
 use Rattle.gc_table.proofs.Records.{record-live, records-get, records-set, records-snoc, records-length, got-longer}
-use Rattle.gc_table.proofs.WholeSteps.{Goes, event, sections-left}
-use Rattle.gc_table.proofs.WholeKept.{whole-kept}
-use Rattle.gc_table.proofs.WholeStart.{whole-starts}
+use Rattle.gc_table.proofs.StateSteps.{Goes, event, sections-left}
+use Rattle.gc_table.proofs.StateKept.{whole-kept}
+use Rattle.gc_table.proofs.StateStart.{whole-starts}
 
 pub at-end : {A : Type 0} (l : List A) (a b : A) (j : ℕ) → get_elem? (l ++ a ∷ []) j ≡ some b → (get_elem? l j ≡ some b) ⊎ ((j ≡ length l) × (a ≡ b))
 at-end [] a b zero e = inr (refl, some-injective a b e)
@@ -72,7 +72,7 @@ section_there sh k w e = by_place (nat_lt k sh.sections) refl e
     by_place false l h = absurd (cc)
 
 -- a seat that has done nothing is one of a state in which nothing has happened
-pub newcomer-agrees : (sh : Shape) (plan : List (List Op)) (k : ℕ) → Agrees (start_whole sh plan (k + 1)) k (newcomer sh plan k)
+pub newcomer-agrees : (sh : Shape) (plan : List (List Op)) (k : ℕ) → Agrees (start_state sh plan (k + 1)) k (newcomer sh plan k)
 newcomer-agrees sh plan k =
     record {
       shape = refl;
@@ -91,7 +91,7 @@ newcomer-agrees sh plan k =
 pub newcomer-possible : (sh : Shape) (plan : List (List Op)) (k : ℕ) → IsShape sh → k < 41 → IsPossible (newcomer sh plan k)
 newcomer-possible sh plan k z h =
     record {
-      state = start_whole sh plan (k + 1);
+      state = start_state sh plan (k + 1);
       index = k;
       whole = whole-starts sh plan (k + 1) z (omega (arith, h)) (omega (arith, h));
       agrees = newcomer-agrees sh plan k;
@@ -120,7 +120,7 @@ starts sh plan ws z is =
       each = λ i v h l.
           ⊎_elim
           (λ (e : get_elem? [] i ≡ some v). absurd (some-ne-none v (sym e)))
-          (λ (e : (i ≡ 0) × (newcomer sh plan 0 ≡ v)). subst (λ (x : ℕ × View). Agrees (start_whole sh plan 1) x.0 x.1) (λ y. (sym e.0 y, e.1 y)) first.agrees)
+          (λ (e : (i ≡ 0) × (newcomer sh plan 0 ≡ v)). subst (λ (x : ℕ × View). Agrees (start_state sh plan 1) x.0 x.1) (λ y. (sym e.0 y, e.1 y)) first.agrees)
           (at-end [] (newcomer sh plan 0) v i h);
       opened = λ v h. ap (λ (u : View). u.opened) (sym (some-injective (newcomer sh plan 0) v h));
     })
@@ -134,7 +134,7 @@ still-sections (Some w) xs = set-get_or xs w no_section
 split_left : (sh : Shape) (plan : List (List Op)) (s : St) (v : View) (o : Holds sh plan s) → get_elem? s.views 0 ≡ some v → v.state ≡ start_seat sh 0 → length s.views < 41
     → IsState (record { core = record { shape = sh; words = s.words; seats = set (records_from sh 0 s.views) 0 v.state ++ start_seat sh (length s.views) ∷ [] }; plan = plan; sections = o.sections })
 split_left sh plan s v o me first few =
-    let x : Whole = whole_of sh plan o.sections s in
+    let x : TableState = table_state sh plan o.sections s in
     let c : Core = x.core in
     let live : IsFalse v.state.spent = ap (λ (t : SeatState). t.spent) first in
     let got : slice_get c.seats 0 ≡ Some v.state = record-at sh s.views 0 v me live in
@@ -142,7 +142,7 @@ split_left sh plan s v o me first few =
     let ok : AllTrue (split_parts sh c.seats v.state) = subst (λ (t : SeatState). AllTrue (split_parts sh c.seats t)) (sym first) (room, tt) in
     let g : Goes x 0 v.state Split = record { whole = o.whole; got = got; live = live; ok = ok; fits = tt; asks = tt } in
     let after : after_event c (event 0 Split) ≡ after_of c 0 (Some v.state) Split = ap (λ p. after_of c 0 p Split) got in
-    let sections : (whole_after x (event 0 Split)).sections ≡ o.sections = sections-left x 0 v.state Split g ∙ still-sections v.state.section o.sections in
+    let sections : (state_after x (event 0 Split)).sections ≡ o.sections = sections-left x 0 v.state Split g ∙ still-sections v.state.section o.sections in
     let words : set s.words (address sh the_world) (slice_index s.words (address sh the_world)) ≡ s.words = set-get_or s.words (address sh the_world) 0 in
     let long : length (set c.seats 0 v.state) ≡ length s.views = length-set c.seats 0 v.state ∙ records-length sh 0 s.views in
     let core : after_event c (event 0 Split) ≡ record { shape = sh; words = s.words; seats = set c.seats 0 v.state ++ start_seat sh (length s.views) ∷ [] } =
@@ -160,7 +160,7 @@ longer xs s t u w first h = got-longer (set xs 0 s) t u w (ap (λ l. slice_get l
 -- the first seat may make another, while it has nothing but its number
 pub splits : (sh : Shape) (plan : List (List Op)) (id : ℕ) (v : View) → v.shape ≡ sh → v.plan ≡ plan → v.state ≡ start_seat sh 0 → v.opened < 41 → Splits (Holds sh plan) id v (opens v) (opened_by v)
 splits sh plan id v shaped planned first few s o me =
-    let x : Whole = whole_of sh plan o.sections s in
+    let x : TableState = table_state sh plan o.sections s in
     let live : IsFalse v.state.spent = ap (λ (t : SeatState). t.spent) first in
     let a : Agrees x id v = o.each id v me live in
     let nil : id ≡ 0 = sym ((o.whole.core.formed.seats id v.state a.seat).number) ∙ ap (λ (t : SeatState). t.number) first in
@@ -174,7 +174,7 @@ splits sh plan id v shaped planned first few s o me =
     records-snoc sh 0 vs new
     ∙ (ap (λ xs. xs ++ record_of sh (0 + length vs) new ∷ []) (records-set sh 0 s.views id (opens v) ∙ (ap (set (records_from sh 0 s.views) id) (record-live sh (0 + id) (opens v) live) ∙ ap (λ (i : ℕ). set (records_from sh 0 s.views) i v.state) nil))
     ∙ (λ y. set (records_from sh 0 s.views) 0 v.state ++ start_seat (shaped y) (all y) ∷ [])) in
-    let joined : (u : View) → HasJoined x u → HasJoined (whole_of sh plan o.sections (record { words = s.words; homes = s.homes; views = vs ++ new ∷ [] })) u = λ u h w y i.
+    let joined : (u : View) → HasJoined x u → HasJoined (table_state sh plan o.sections (record { words = s.words; homes = s.homes; views = vs ++ new ∷ [] })) u = λ u h w y i.
     let q = h w y i in (q.0, ap (λ xs. slice_get xs w) seats ∙ longer (records_from sh 0 s.views) v.state (start_seat sh n) (spent_seat sh w) w (record-at sh s.views 0 v here live) q.1) in
     record {
       sections = o.sections;

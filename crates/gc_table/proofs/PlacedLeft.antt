@@ -13,10 +13,10 @@ use Rattle.mark_core.specs.declared.kinds.Shape.{Shape}
 use Rattle.mark_core.specs.declared.seat.SeatState.{SeatState}
 use Rattle.gc_table.specs.declared.view.Place.{Place}
 use Rattle.gc_table.specs.declared.view.SectionState.{SectionState}
-use Rattle.gc_table.specs.Whole.{no_section, section_at, with_section}
+use Rattle.gc_table.specs.TableState.{no_section, section_at, with_section}
 use Rattle.gc_table.specs.Told.{EachSection, LiesAt, Placed}
 use Rattle.gc_table.proofs.StandsFrame.{get-set_same, get-set_other}
-use Rattle.gc_table.proofs.WholeSteps.{each-left}
+use Rattle.gc_table.proofs.StateSteps.{each-left}
 
 -- where objects lie, of words, records and sections
 abbrev pub PlacedIn : Shape → Words → List SeatState → List SectionState → Type 0

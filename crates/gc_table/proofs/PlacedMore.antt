@@ -11,11 +11,11 @@ use Rattle.mark_core.specs.declared.kinds.Shape.{Shape}
 use Rattle.mark_core.specs.declared.seat.SeatState.{SeatState}
 use Rattle.gc_table.specs.declared.view.Place.{Place}
 use Rattle.gc_table.specs.declared.view.SectionState.{SectionState}
-use Rattle.gc_table.specs.Whole.{no_section, section_at, with_section}
+use Rattle.gc_table.specs.TableState.{no_section, section_at, with_section}
 use Rattle.gc_table.specs.Told.{LiesAt, Placed}
 use Rattle.gc_table.proofs.PlacedLeft.{left-there}
 use Rattle.gc_table.proofs.StandsFrame.{get-set_same}
-use Rattle.gc_table.proofs.WholeSteps.{each-left}
+use Rattle.gc_table.proofs.StateSteps.{each-left}
 
 -- an element of a list to which one is added, and the one that is added
 get_push : {X : Type 0} (xs : List X) (n : ℕ) (x y : X) → slice_get xs n ≡ Some x → slice_get (xs ++ y ∷ []) n ≡ Some x

@@ -24,12 +24,12 @@ use Rattle.gc_table.specs.declared.view.Place.{Place}
 use Rattle.gc_table.specs.declared.view.SectionState.{SectionState}
 use Rattle.gc_table.specs.PlainSteps.{with_part}
 use Rattle.gc_table.specs.Sections.{season_of}
-use Rattle.gc_table.specs.Whole.{Whole, meanings_of, with_section}
+use Rattle.gc_table.specs.TableState.{TableState, meanings_of, with_section}
 use Rattle.gc_table.specs.Told.{Placed}
 use Rattle.gc_table.proofs.PlacedLeft.{PlacedIn, counted-seat, placed-same}
 use Rattle.gc_table.proofs.PlacedMore.{Adds, placed-more}
 use Rattle.gc_table.proofs.StandsSeat.{Mutates, mutates, free-below, free-not-used}
-use Rattle.gc_table.proofs.WholeSteps.{Goes, taken, sections_left}
+use Rattle.gc_table.proofs.StateSteps.{Goes, taken, sections_left}
 
 -- the place of an object that is made next
 abbrev new_place : SeatState → ℕ → SectionState → Place
@@ -40,14 +40,14 @@ abbrev new_section : Shape → SeatState → ℕ → ℕ → ℕ → Bool → Se
 new_section sh s c part word last y = record y { meaning = with_part sh part word y.meaning; places = cond last (y.places ++ new_place s c y ∷ []) y.places; settled = false }
 
 -- where objects lie after the word, where it is a field, at most the value, the value, and the last
-abbrev NewPlaced : Whole → ℕ → SeatState → ℕ → ℕ → ℕ → Bool → Bool → Bool → Bool → Type 0
+abbrev NewPlaced : TableState → ℕ → SeatState → ℕ → ℕ → ℕ → Bool → Bool → Bool → Bool → Type 0
 NewPlaced x i s c part word field_part early value_part last =
     let w : Words = put_word (cond field_part (11, c * x.core.shape.fields + part) (cond value_part (10, c) (9, c))) word (words_of x.core.shape x.core.words) in
     Placed x.core.shape w.identities (λ y. IsTrue (UsedAfter x.core i s (StoreNew c part word) y))
     (set x.core.seats i (record s { cache = cond early (with_making s.cache c (part + 1)) (with_made s.cache c); made = cond early s.made (s.made + 1) })) (with_section s.section (new_section x.core.shape s c part word last) x.sections)
 
 -- a word that isn't the last
-early_part : (x : Whole) (i : ℕ) (s : SeatState) (c part word : ℕ) (t : SeatState) → Goes x i s (StoreNew c part word) → part ≤ x.core.shape.fields → t.made ≡ s.made
+early_part : (x : TableState) (i : ℕ) (s : SeatState) (c part word : ℕ) (t : SeatState) → Goes x i s (StoreNew c part word) → part ≤ x.core.shape.fields → t.made ≡ s.made
     → Placed x.core.shape (words_of x.core.shape x.core.words).identities (λ y. IsTrue (UsedAfter x.core i s (StoreNew c part word) y)) (set x.core.seats i t) (with_section s.section (new_section x.core.shape s c part word false) x.sections)
 early_part x i s c part word t g h made =
     let step : Step = StoreNew c part word in
@@ -64,7 +64,7 @@ new_identity sh s part word h e =
     let f = rw (a, b) at e in
     eqb-true word (unwrap_or s.section 0 * flag + s.made) (and_parts (is_some s.section && nat_lt s.made 2000000) (eqb word (unwrap_or s.section 0 * flag + s.made)) f).1
 
-last_part : (x : Whole) (i : ℕ) (s : SeatState) (c part word : ℕ) → Goes x i s (StoreNew c part word) → x.core.shape.fields < part → NewPlaced x i s c part word false false false true
+last_part : (x : TableState) (i : ℕ) (s : SeatState) (c part word : ℕ) → Goes x i s (StoreNew c part word) → x.core.shape.fields < part → NewPlaced x i s c part word false false false true
 last_part x i s c part word g h =
     subst (λ o. Placed x.core.shape (set ids c word) after (set x.core.seats i t) (with_section o (new_section x.core.shape s c part word true) x.sections)) (sym a.section)
     (placed-more x.core.shape ids (λ y. IsTrue (Used x.core y)) after x.core.seats x.sections i c word s t (new_section x.core.shape s c part word true) (new_place s c) adds g.whole.told.placed)
@@ -113,7 +113,7 @@ last_part x i s c part word g h =
     }
 
 -- the three kinds of words
-pub placed-new : (x : Whole) (i : ℕ) (s : SeatState) (c part word : ℕ) → Goes x i s (StoreNew c part word)
+pub placed-new : (x : TableState) (i : ℕ) (s : SeatState) (c part word : ℕ) → Goes x i s (StoreNew c part word)
     → PlacedIn x.core.shape (words_left x.core s (StoreNew c part word)) (seats_left x.core i s (StoreNew c part word)) (sections_left x s (StoreNew c part word))
 placed-new x i s c part word g = of (cases_lt part n) (cases_eq part n)
   where

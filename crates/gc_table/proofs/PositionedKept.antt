@@ -23,9 +23,9 @@ use Rattle.plain_heap.specs.declared.operation.Op.{Op}
 use Rattle.gc_table.specs.declared.view.SectionState.{SectionState}
 use Rattle.gc_table.specs.PlainSteps.{own_section}
 use Rattle.gc_table.specs.Sections.{section_after}
-use Rattle.gc_table.specs.Whole.{Whole, whole_after}
+use Rattle.gc_table.specs.TableState.{TableState, state_after}
 use Rattle.gc_table.specs.Told.{Positioned}
-use Rattle.gc_table.proofs.WholeSteps.{Goes, event, taken, sections_left, kept-whole, each-left}
+use Rattle.gc_table.proofs.StateSteps.{Goes, event, taken, sections_left, kept-whole, each-left}
 
 -- the counters below the named section are single words
 single : (P : ℕ × ℕ → Type 0) (which : ℕ) → which < 7 → ((i : ℕ) → P (0, i)) → P (counter_at which)
@@ -60,7 +60,7 @@ position_same sh plan s (StorePosition done) y e = absurd (true≢false e)
 position_same sh plan s step y e = refl
 
 -- a step that stores no position
-positions_stay : (x : Whole) (i : ℕ) (s : SeatState) (step : Step) → Goes x i s step → stores_position step ≡ false → Positioned (words_left x.core s step).positions (sections_left x s step)
+positions_stay : (x : TableState) (i : ℕ) (s : SeatState) (step : Step) → Goes x i s step → stores_position step ≡ false → Positioned (words_left x.core s step).positions (sections_left x s step)
 positions_stay x i s step g f =
     let before : Positioned (words_of x.core.shape x.core.words).positions x.sections = g.whole.told.positioned in
     subst (λ (ps : List ℕ). Positioned ps (sections_left x s step)) (sym (positions_same x.core i s step (taken x i s step g) f))
@@ -75,7 +75,7 @@ section_there None e = absurd (false≢true e)
 section_there (Some w) e = (w, refl)
 
 -- the store of a position
-position_stored : (x : Whole) (i : ℕ) (s : SeatState) (done : ℕ) → Goes x i s (StorePosition done) → Positioned (words_left x.core s (StorePosition done)).positions (sections_left x s (StorePosition done))
+position_stored : (x : TableState) (i : ℕ) (s : SeatState) (done : ℕ) → Goes x i s (StorePosition done) → Positioned (words_left x.core s (StorePosition done)).positions (sections_left x s (StorePosition done))
 position_stored x i s done g =
     let ps : List ℕ = (words_of x.core.shape x.core.words).positions in
     let own = section_there s.section g.ok.0 in
@@ -89,9 +89,9 @@ position_stored x i s done g =
     let here : own_section s ≡ w = ap (λ (o : Option ℕ). unwrap_or o 0) e in
     subst (λ (k : ℕ). slice_index (set ps k done) w ≡ done) (sym here) (get_or-set_same ps w done 0 (within w y h)))
 
-positioned_left : (x : Whole) (i : ℕ) (s : SeatState) (step : Step) → Goes x i s step → Positioned (words_left x.core s step).positions (sections_left x s step)
+positioned_left : (x : TableState) (i : ℕ) (s : SeatState) (step : Step) → Goes x i s step → Positioned (words_left x.core s step).positions (sections_left x s step)
 positioned_left x i s (StorePosition done) g = position_stored x i s done g
 positioned_left x i s step g = positions_stay x i s step g refl
 
-pub positioned-kept : (x : Whole) (i : ℕ) (s : SeatState) (step : Step) → Goes x i s step → Positioned (words_of (whole_after x (event i step)).core.shape (whole_after x (event i step)).core.words).positions (whole_after x (event i step)).sections
+pub positioned-kept : (x : TableState) (i : ℕ) (s : SeatState) (step : Step) → Goes x i s step → Positioned (words_of (state_after x (event i step)).core.shape (state_after x (event i step)).core.words).positions (state_after x (event i step)).sections
 positioned-kept x i s step g = kept-whole (λ sh w seats xs. Positioned w.positions xs) x i s step g (positioned_left x i s step g)

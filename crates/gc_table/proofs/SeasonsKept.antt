@@ -21,9 +21,9 @@ use Rattle.plain_heap.specs.declared.operation.Op.{Op}
 use Rattle.gc_table.specs.declared.view.SectionState.{SectionState}
 use Rattle.gc_table.specs.PlainSteps.{own_section, changes_heap}
 use Rattle.gc_table.specs.Sections.{planned, section_after}
-use Rattle.gc_table.specs.Whole.{Whole, no_section, section_at, with_section, whole_after}
+use Rattle.gc_table.specs.TableState.{TableState, no_section, section_at, with_section, state_after}
 use Rattle.gc_table.specs.Told.{Seasons}
-use Rattle.gc_table.proofs.WholeSteps.{Goes, event, taken, sections_left, kept-whole}
+use Rattle.gc_table.proofs.StateSteps.{Goes, event, taken, sections_left, kept-whole}
 
 -- the season word
 abbrev pub season_in : Core → ℕ
@@ -85,10 +85,10 @@ first_left P (Some (suc k)) f xs h other own = subst P (sym (get_or-set_other xs
 abbrev InSeason : Shape → List (List Op) → ℕ → SectionState → Type 0
 InSeason sh plan season y = (season ≡ y.seasons) × (season % 2 ≡ 1 → y.meaning.heap ≡ planned sh plan season)
 
-before : (x : Whole) (i : ℕ) (s : SeatState) (step : Step) → Goes x i s step → InSeason x.core.shape x.plan (season_in x.core) (section_at x.sections 0)
+before : (x : TableState) (i : ℕ) (s : SeatState) (step : Step) → Goes x i s step → InSeason x.core.shape x.plan (season_in x.core) (section_at x.sections 0)
 before x i s step g = (g.whole.told.seasons.moved, g.whole.told.seasons.planned_there)
 
-some_sections : (x : Whole) (i : ℕ) (s : SeatState) (step : Step) → Goes x i s step → 0 < length x.sections
+some_sections : (x : TableState) (i : ℕ) (s : SeatState) (step : Step) → Goes x i s step → 0 < length x.sections
 some_sections x i s step g = omega (arith, g.whole.core.formed.shaped.sections, g.whole.stands.sections, length-map x.sections (λ (z : SectionState). z.meaning))
 
 -- a store of the catalogue's seat is in an even season
@@ -99,7 +99,7 @@ even_there c i s step k f e =
     eqb-true (season_in c % 2) 0 (subst (λ (w : ℕ). has_turn (Some w) (Some (season_in c)) ≡ true) zero_there a.3)
 
 -- a step that leaves the season
-season_stays : (x : Whole) (i : ℕ) (s : SeatState) (step : Step) → Goes x i s step → moves_season step ≡ false → InSeason x.core.shape x.plan (season_in x.core) (section_at (sections_left x s step) 0)
+season_stays : (x : TableState) (i : ℕ) (s : SeatState) (step : Step) → Goes x i s step → moves_season step ≡ false → InSeason x.core.shape x.plan (season_in x.core) (section_at (sections_left x s step) 0)
 season_stays x i s step g f =
     let y : SectionState = section_at x.sections 0 in
     let b = before x i s step g in
@@ -114,7 +114,7 @@ season_stays x i s step g f =
     ))
 
 -- the catalogue's seat moves the season on
-season_moves : (x : Whole) (i : ℕ) (s : SeatState) → Goes x i s NextSeason → InSeason x.core.shape x.plan (season_in x.core + 1) (section_at (sections_left x s NextSeason) 0)
+season_moves : (x : TableState) (i : ℕ) (s : SeatState) → Goes x i s NextSeason → InSeason x.core.shape x.plan (season_in x.core + 1) (section_at (sections_left x s NextSeason) 0)
 season_moves x i s g =
     let y : SectionState = section_at x.sections 0 in
     let b = before x i s NextSeason g in
@@ -126,13 +126,13 @@ season_moves x i s g =
     subst (λ (o : Option ℕ). InSeason x.core.shape x.plan (season_in x.core + 1) (section_at (with_section o (section_after x.core.shape x.plan s NextSeason) x.sections) 0)) (sym g.asks.0)
     (subst (InSeason x.core.shape x.plan (season_in x.core + 1)) (sym (get_or-set_same x.sections 0 (section_after x.core.shape x.plan s NextSeason y) no_section (some_sections x i s NextSeason g))) after)
 
-seasons_at : (x : Whole) (i : ℕ) (s : SeatState) (step : Step) → Goes x i s step → InSeason x.core.shape x.plan (words_left x.core s step).season (section_at (sections_left x s step) 0)
+seasons_at : (x : TableState) (i : ℕ) (s : SeatState) (step : Step) → Goes x i s step → InSeason x.core.shape x.plan (words_left x.core s step).season (section_at (sections_left x s step) 0)
 seasons_at x i s NextSeason g = subst (λ (z : ℕ). InSeason x.core.shape x.plan z (section_at (sections_left x s NextSeason) 0)) (sym (season-next x.core i s (taken x i s NextSeason g))) (season_moves x i s g)
 seasons_at x i s step g = subst (λ (z : ℕ). InSeason x.core.shape x.plan z (section_at (sections_left x s step) 0)) (sym (season-same x.core i s step (taken x i s step g) refl)) (season_stays x i s step g refl)
 
-seasons_left : (x : Whole) (i : ℕ) (s : SeatState) (step : Step) → Goes x i s step → Seasons x.core.shape x.plan (words_left x.core s step).season (sections_left x s step)
+seasons_left : (x : TableState) (i : ℕ) (s : SeatState) (step : Step) → Goes x i s step → Seasons x.core.shape x.plan (words_left x.core s step).season (sections_left x s step)
 seasons_left x i s step g = let a = seasons_at x i s step g in record { moved = a.0; planned_there = a.1 }
 
-pub seasons-kept : (x : Whole) (i : ℕ) (s : SeatState) (step : Step) → Goes x i s step
-    → Seasons (whole_after x (event i step)).core.shape (whole_after x (event i step)).plan (words_of (whole_after x (event i step)).core.shape (whole_after x (event i step)).core.words).season (whole_after x (event i step)).sections
+pub seasons-kept : (x : TableState) (i : ℕ) (s : SeatState) (step : Step) → Goes x i s step
+    → Seasons (state_after x (event i step)).core.shape (state_after x (event i step)).plan (words_of (state_after x (event i step)).core.shape (state_after x (event i step)).core.words).season (state_after x (event i step)).sections
 seasons-kept x i s step g = kept-whole (λ sh w seats xs. Seasons sh x.plan w.season xs) x i s step g (seasons_left x i s step g)

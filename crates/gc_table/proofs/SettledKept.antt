@@ -26,11 +26,11 @@ use Rattle.mark_core.specs.declared.seat.SeatState.{SeatState}
 use Rattle.plain_heap.specs.declared.operation.Op.{Op}
 use Rattle.gc_table.specs.declared.view.SectionState.{SectionState}
 use Rattle.gc_table.specs.Sections.{section_after}
-use Rattle.gc_table.specs.Whole.{Whole, no_section, section_at, with_section, whole_after}
+use Rattle.gc_table.specs.TableState.{TableState, no_section, section_at, with_section, state_after}
 use Rattle.gc_table.specs.Told.{IsSettled}
 use Rattle.gc_table.proofs.ReachStill.{ReachedAfter, reach-still}
 use Rattle.gc_table.proofs.StandsWords.{stores_cell}
-use Rattle.gc_table.proofs.WholeSteps.{Goes, event, taken, may-happen, sections_left, kept-whole}
+use Rattle.gc_table.proofs.StateSteps.{Goes, event, taken, may-happen, sections_left, kept-whole}
 
 -- the first section that a step leaves is the one that was there, or the catalogue's own after the step
 first_left : (P : SectionState → Type 0) (f : SectionState → SectionState) (o : Option ℕ) (xs : List SectionState) → P no_section → ((o ≡ Some 0 → ⊥) → P (section_at xs 0)) → (o ≡ Some 0 → P (f (section_at xs 0))) → P (section_at (with_section o f xs) 0)
@@ -128,8 +128,8 @@ own c i s step plan x k exact st e = still_settled c i s step x k refl refl (λ 
 abbrev SettledRule : Shape → Words → List SeatState → List SectionState → Type 0
 SettledRule sh w seats xs = ExactSound sh w seats → IsSettled sh w seats (section_at xs 0)
 
-pub settled-kept : (x : Whole) (i : ℕ) (s : SeatState) (step : Step) → Goes x i s step
-    → IsSettled (whole_after x (event i step)).core.shape (words_of (whole_after x (event i step)).core.shape (whole_after x (event i step)).core.words) (whole_after x (event i step)).core.seats (section_at (whole_after x (event i step)).sections 0)
+pub settled-kept : (x : TableState) (i : ℕ) (s : SeatState) (step : Step) → Goes x i s step
+    → IsSettled (state_after x (event i step)).core.shape (words_of (state_after x (event i step)).core.shape (state_after x (event i step)).core.words) (state_after x (event i step)).core.seats (section_at (state_after x (event i step)).sections 0)
 settled-kept x i s step g =
     let k : Taken x.core i s step = taken x i s step g in
     let told = g.whole.told in

@@ -11,11 +11,11 @@ use Rattle.plain_heap.specs.declared.object.Ref.{Ref}
 use Rattle.plain_heap.specs.declared.object.Ref.TheVariants as refs
 use Rattle.plain_heap.specs.Paths.{Names}
 use Rattle.plain_heap.specs.PlainStep.{lent}
-use Rattle.gc_table.specs.StandsFor.{Agrees, Holds, IsNext, SeatStands}
+use Rattle.gc_table.specs.StandsFor.{WordAgrees, HoldsObject, IsNext, SeatStands}
 use Rattle.gc_table.specs.declared.view.Meaning.{Meaning}
 
 -- a word and a reference agree as before, where the cell that is named keeps its identity, and no object goes
-pub agrees-on : (ids ids' : List ℕ) (p q : ℕ → ℕ) (w word : ℕ) (ref : Ref) → (0 < word → slice_index ids' (word - 1) ≡ slice_index ids (word - 1)) → ((k : ℕ) → p k ≤ q k) → Agrees ids p w word ref → Agrees ids' q w word ref
+pub agrees-on : (ids ids' : List ℕ) (p q : ℕ → ℕ) (w word : ℕ) (ref : Ref) → (0 < word → slice_index ids' (word - 1) ≡ slice_index ids (word - 1)) → ((k : ℕ) → p k ≤ q k) → WordAgrees ids p w word ref → WordAgrees ids' q w word ref
 agrees-on ids ids' p q w word ref same more (inl z) = inl z
 agrees-on ids ids' p q w word ref same more (inr (some, names, there)) =
     let P : ℕ → Type 0 = λ n. Names w ref (record { section = n / flag; number = n % flag }) × (n % flag < q (n / flag)) in
@@ -23,15 +23,15 @@ agrees-on ids ids' p q w word ref same more (inr (some, names, there)) =
     inr (some, now.0, now.1)
 
 -- nil agrees with nil alone
-pub nil-agrees : (ids : List ℕ) (p : ℕ → ℕ) (w : ℕ) → Agrees ids p w 0 refs.Nil
+pub nil-agrees : (ids : List ℕ) (p : ℕ → ℕ) (w : ℕ) → WordAgrees ids p w 0 refs.Nil
 nil-agrees ids p w = inl (refl, refl)
 
-pub nil-is : (ids : List ℕ) (p : ℕ → ℕ) (w : ℕ) (ref : Ref) → Agrees ids p w 0 ref → ref ≡ refs.Nil
+pub nil-is : (ids : List ℕ) (p : ℕ → ℕ) (w : ℕ) (ref : Ref) → WordAgrees ids p w 0 ref → ref ≡ refs.Nil
 nil-is ids p w ref (inl z) = z.1
 nil-is ids p w ref (inr (some, names, there)) = absurd (omega (arith, some))
 
 -- a reference of the catalogue, as a warehouse sees it
-pub lent-agrees : (ids : List ℕ) (p : ℕ → ℕ) (w word : ℕ) (ref : Ref) → Agrees ids p 0 word ref → Agrees ids p (suc w) word (lent ref)
+pub lent-agrees : (ids : List ℕ) (p : ℕ → ℕ) (w word : ℕ) (ref : Ref) → WordAgrees ids p 0 word ref → WordAgrees ids p (suc w) word (lent ref)
 lent-agrees ids p w word refs.Nil (inl z) = inl (z.0, refl)
 lent-agrees ids p w word refs.Nil (inr (some, names, there)) = absurd names
 lent-agrees ids p w word (refs.Own n) (inl z) = absurd (no z.1)
@@ -61,7 +61,7 @@ section-same ids ids' c e = ap (λ (n : ℕ). n / flag) e
 
 -- a cell that stays holds its object, where this stays too
 pub holds-on : (sh : Shape) (ids ids' values values' fields fields' : List ℕ) (p q : ℕ → ℕ) (m n : Meaning) (c : ℕ) → Stays sh ids ids' values values' fields fields' p q c
-    → slice_get n.heap.objects (number_of ids c) ≡ slice_get m.heap.objects (number_of ids c) → Holds sh ids values fields p m c → Holds sh ids' values' fields' q n c
+    → slice_get n.heap.objects (number_of ids c) ≡ slice_get m.heap.objects (number_of ids c) → HoldsObject sh ids values fields p m c → HoldsObject sh ids' values' fields' q n c
 holds-on sh ids ids' values values' fields fields' p q m n c k same h =
     record {
       object = h.object;
@@ -71,8 +71,8 @@ holds-on sh ids ids' values values' fields fields' p q m n c k same h =
       value = k.value ∙ h.value;
       each_field =
           λ i l.
-          subst (λ (w : ℕ). Agrees ids' q w (field sh fields' c i) (slice_index_or h.object.refs i refs.Nil)) (sym (section-same ids ids' c k.identity))
-          (subst (λ (word : ℕ). Agrees ids' q (section_of ids c) word (slice_index_or h.object.refs i refs.Nil)) (sym (k.each_field i l))
+          subst (λ (w : ℕ). WordAgrees ids' q w (field sh fields' c i) (slice_index_or h.object.refs i refs.Nil)) (sym (section-same ids ids' c k.identity))
+          (subst (λ (word : ℕ). WordAgrees ids' q (section_of ids c) word (slice_index_or h.object.refs i refs.Nil)) (sym (k.each_field i l))
           (agrees-on ids ids' p q (section_of ids c) (field sh fields c i) (slice_index_or h.object.refs i refs.Nil) (k.targets i l) k.more (h.each_field i l)));
     }
 

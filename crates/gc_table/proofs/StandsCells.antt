@@ -9,7 +9,7 @@ use Rattle.mark_core.specs.declared.kinds.Shape.{Shape}
 use Rattle.plain_heap.specs.declared.object.Ref.{Ref}
 use Rattle.plain_heap.specs.declared.object.Ref.TheVariants as refs
 use Rattle.plain_heap.specs.PlainStep.{followed, lent, field_of}
-use Rattle.gc_table.specs.StandsFor.{object_count, objects_in, Agrees, Holds, IsNext, IsCellOf}
+use Rattle.gc_table.specs.StandsFor.{object_count, objects_in, WordAgrees, HoldsObject, IsNext, IsCellOf}
 use Rattle.gc_table.specs.declared.view.Meaning.{Meaning}
 use Rattle.gc_table.specs.PlainSteps.{heap_in, seen_in}
 use Rattle.gc_table.proofs.StandsAgree.{Stays, holds-on, next-on, section-same, lent-agrees}
@@ -21,7 +21,7 @@ HasMeaning sh ids values fields ms c = (x : Meaning) × (slice_get ms (section_o
 
 -- the cells of the section that changed keep theirs by what is shown of its objects, and the other ones as they are
 pub cell-on : (sh : Shape) (ids ids' values values' fields fields' : List ℕ) (ms : List Meaning) (i : ℕ) (m n : Meaning) (c : ℕ) → slice_get ms i ≡ Some m → Stays sh ids ids' values values' fields fields' (object_count ms) (object_count (set ms i n)) c
-    → (section_of ids c ≡ i → Holds sh ids values fields (object_count ms) m c → slice_get n.heap.objects (number_of ids c) ≡ slice_get m.heap.objects (number_of ids c))
+    → (section_of ids c ≡ i → HoldsObject sh ids values fields (object_count ms) m c → slice_get n.heap.objects (number_of ids c) ≡ slice_get m.heap.objects (number_of ids c))
     → (section_of ids c ≡ i → IsNext sh ids values fields m c → IsCellOf sh ids' values' fields' (object_count (set ms i n)) n c) → HasMeaning sh ids values fields ms c → HasMeaning sh ids' values' fields' (set ms i n) c
 cell-on sh ids ids' values values' fields fields' ms i m n c g k held next (x, there, cell) = of (cases_eq (section_of ids c) i)
   where
@@ -50,13 +50,13 @@ cell-on sh ids ids' values values' fields fields' ms i m n c g k held next (x, t
 
 -- the object of a cell that is named
 pub named-object : (sh : Shape) (ids values fields : List ℕ) (ms : List Meaning) (c : ℕ) → number_of ids c < object_count ms (section_of ids c) → HasMeaning sh ids values fields ms c
-    → (x : Meaning) × (slice_get ms (section_of ids c) ≡ Some x) × Holds sh ids values fields (object_count ms) x c
+    → (x : Meaning) × (slice_get ms (section_of ids c) ≡ Some x) × HoldsObject sh ids values fields (object_count ms) x c
 named-object sh ids values fields ms c below (x, there, inl h) = (x, there, h)
 named-object sh ids values fields ms c below (x, there, inr h) = let count : object_count ms (section_of ids c) ≡ length x.heap.objects = ap objects_in there in absurd (omega (arith, below, count, h.number))
 
 -- a field of a cell that a reference names agrees with what the plain heap finds there
-pub field-agrees : (sh : Shape) (ids values fields : List ℕ) (ms : List Meaning) (i c j : ℕ) (m : Meaning) (ref : Ref) → slice_get ms i ≡ Some m → j < sh.fields → Agrees ids (object_count ms) i (c + 1) ref → HasMeaning sh ids values fields ms c
-    → Agrees ids (object_count ms) i (field sh fields c j) (followed m.heap (seen_in ms i) ref j)
+pub field-agrees : (sh : Shape) (ids values fields : List ℕ) (ms : List Meaning) (i c j : ℕ) (m : Meaning) (ref : Ref) → slice_get ms i ≡ Some m → j < sh.fields → WordAgrees ids (object_count ms) i (c + 1) ref → HasMeaning sh ids values fields ms c
+    → WordAgrees ids (object_count ms) i (field sh fields c j) (followed m.heap (seen_in ms i) ref j)
 field-agrees sh ids values fields ms i c j m refs.Nil g l (inl z) cell = absurd (omega (arith, z.0))
 field-agrees sh ids values fields ms i c j m refs.Nil g l (inr (some, names, below)) cell = absurd names
 field-agrees sh ids values fields ms i c j m (refs.Own n) g l (inl z) cell = absurd (omega (arith, z.0))
@@ -67,8 +67,8 @@ field-agrees sh ids values fields ms i c j m (refs.Own n) g l (inr (some, names,
     let o = named-object sh ids values fields ms c (subst (λ d. number_of ids d < object_count ms (section_of ids d)) at below) cell in
     let same : m ≡ o.0 = same_Some m o.0 (sym g ∙ ap (λ k. slice_get ms k) (sym section) ∙ o.1) in
     let object_is : slice_get m.heap.objects n ≡ Some o.2.object = ap (λ (x : Meaning). slice_get x.heap.objects n) same ∙ ap (λ k. slice_get o.0.heap.objects k) (sym number) ∙ o.2.there in
-    subst (λ (r : Ref). Agrees ids (object_count ms) i (field sh fields c j) r) (sym (ap (λ x. field_of x j) object_is))
-    (subst (λ k. Agrees ids (object_count ms) k (field sh fields c j) (slice_index_or o.2.object.refs j refs.Nil)) section (o.2.each_field j l))
+    subst (λ (r : Ref). WordAgrees ids (object_count ms) i (field sh fields c j) r) (sym (ap (λ x. field_of x j) object_is))
+    (subst (λ k. WordAgrees ids (object_count ms) k (field sh fields c j) (slice_index_or o.2.object.refs j refs.Nil)) section (o.2.each_field j l))
 field-agrees sh ids values fields ms i c j m (refs.Cat n) g l (inl z) cell = absurd (omega (arith, z.0))
 field-agrees sh ids values fields ms zero c j m (refs.Cat n) g l (inr (some, names, below)) cell = absurd names
 field-agrees sh ids values fields ms (suc i) c j m (refs.Cat n) g l (inr (some, names, below)) cell =
@@ -80,5 +80,5 @@ field-agrees sh ids values fields ms (suc i) c j m (refs.Cat n) g l (inr (some, 
     let object_is : slice_get o.0.heap.objects n ≡ Some o.2.object = ap (λ k. slice_get o.0.heap.objects k) (sym number) ∙ o.2.there in
     let is : followed m.heap (seen_in ms (suc i)) (refs.Cat n) j ≡ lent (slice_index_or o.2.object.refs j refs.Nil) =
     ap (λ y. followed m.heap (heap_in y) (refs.Cat n) j) seen ∙ ap (λ y. lent (field_of y j)) object_is in
-    subst (λ (r : Ref). Agrees ids (object_count ms) (suc i) (field sh fields c j) r) (sym is)
-    (lent-agrees ids (object_count ms) i (field sh fields c j) (slice_index_or o.2.object.refs j refs.Nil) (subst (λ k. Agrees ids (object_count ms) k (field sh fields c j) (slice_index_or o.2.object.refs j refs.Nil)) section (o.2.each_field j l)))
+    subst (λ (r : Ref). WordAgrees ids (object_count ms) (suc i) (field sh fields c j) r) (sym is)
+    (lent-agrees ids (object_count ms) i (field sh fields c j) (slice_index_or o.2.object.refs j refs.Nil) (subst (λ k. WordAgrees ids (object_count ms) k (field sh fields c j) (slice_index_or o.2.object.refs j refs.Nil)) section (o.2.each_field j l)))

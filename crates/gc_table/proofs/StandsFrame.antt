@@ -9,7 +9,7 @@ use Rattle.mark_core.proofs.FormedAfter.{set-cases, set-here, set-there}
 use Rattle.mark_core.specs.declared.kinds.Shape.{Shape}
 use Rattle.mark_core.specs.declared.seat.SeatState.{SeatState}
 use Rattle.plain_heap.specs.PlainHeap.{variable}
-use Rattle.gc_table.specs.StandsFor.{object_count, objects_in, Agrees, IsCellOf, IsSection, SeatStands, Stands}
+use Rattle.gc_table.specs.StandsFor.{object_count, objects_in, WordAgrees, IsCellOf, IsSection, SeatStands, Stands}
 use Rattle.gc_table.specs.declared.view.Meaning.{Meaning}
 use Rattle.gc_table.proofs.StandsAgree.{agrees-on, seat-on}
 
@@ -61,7 +61,7 @@ pub record Changes (sh : Shape) (roots roots' ids ids' values values' fields' : 
   pub identities : (c : ℕ) → used c → slice_index ids' c ≡ slice_index ids c
   pub roots_used : (k : ℕ) → 0 < slice_index roots k → used (slice_index roots k - 1)
   pub other_roots : (w v : ℕ) → w ≢ i → v < 32 → slice_index roots' (w * 32 + v) ≡ slice_index roots (w * 32 + v)
-  pub own_roots : (v : ℕ) → v < 32 → Agrees ids' (object_count (set ms i n)) i (slice_index roots' (i * 32 + v)) (variable n.heap v)
+  pub own_roots : (v : ℕ) → v < 32 → WordAgrees ids' (object_count (set ms i n)) i (slice_index roots' (i * 32 + v)) (variable n.heap v)
   pub cells : (c : ℕ) → c < sh.cells → used' c → (x : Meaning) × (slice_get (set ms i n) (section_of ids' c) ≡ Some x) × IsCellOf sh ids' values' fields' (object_count (set ms i n)) x c
   pub other_got : (w : ℕ) (s : SeatState) → w ≢ i → slice_get seats w ≡ Some s → IsFalse s.spent → 0 < s.got → used (s.got - 1)
   pub other_making : (w : ℕ) (s : SeatState) → w ≢ i → slice_get seats w ≡ Some s → IsFalse s.spent → (c part : ℕ) → makes s.cache c part ≡ true → slice_index values' c ≡ slice_index values c
@@ -87,13 +87,13 @@ stands-changed sh roots roots' ids ids' values values' fields fields' used used'
     numbered w y (inl e) = subst (λ (z : Meaning). IsSection sh w z) e.1 (subst (λ (j : ℕ). IsSection sh j n) (sym e.0) x.numbered)
     numbered w y (inr g) = k.numbered w y g
 
-    rooted : (w : ℕ) (y : Meaning) (v : ℕ) → v < 32 → slice_get (set ms i n) w ≡ Some y → (w ≡ i) ⊎ (w ≢ i) → Agrees ids' (object_count (set ms i n)) w (slice_index roots' (w * 32 + v)) (variable y.heap v)
+    rooted : (w : ℕ) (y : Meaning) (v : ℕ) → v < 32 → slice_get (set ms i n) w ≡ Some y → (w ≡ i) ⊎ (w ≢ i) → WordAgrees ids' (object_count (set ms i n)) w (slice_index roots' (w * 32 + v)) (variable y.heap v)
     rooted w y v h g (inl e) =
         let same : n ≡ y = set-here ms i n y (subst (λ (j : ℕ). slice_get (set ms i n) j ≡ Some y) e g) in
-        subst (λ (j : ℕ). Agrees ids' (object_count (set ms i n)) j (slice_index roots' (j * 32 + v)) (variable y.heap v)) (sym e)
-        (subst (λ (z : Meaning). Agrees ids' (object_count (set ms i n)) i (slice_index roots' (i * 32 + v)) (variable z.heap v)) same (x.own_roots v h))
+        subst (λ (j : ℕ). WordAgrees ids' (object_count (set ms i n)) j (slice_index roots' (j * 32 + v)) (variable y.heap v)) (sym e)
+        (subst (λ (z : Meaning). WordAgrees ids' (object_count (set ms i n)) i (slice_index roots' (i * 32 + v)) (variable z.heap v)) same (x.own_roots v h))
     rooted w y v h g (inr d) =
-        subst (λ (word : ℕ). Agrees ids' (object_count (set ms i n)) w word (variable y.heap v)) (sym (x.other_roots w v d h))
+        subst (λ (word : ℕ). WordAgrees ids' (object_count (set ms i n)) w word (variable y.heap v)) (sym (x.other_roots w v d h))
         (agrees-on ids ids' (object_count ms) (object_count (set ms i n)) w (slice_index roots (w * 32 + v)) (variable y.heap v) (λ some. x.identities (slice_index roots (w * 32 + v) - 1) (x.roots_used (w * 32 + v) some)) more
         (k.roots_agree w y (set-there ms i w n y d g) v h))
 

@@ -12,7 +12,7 @@ use Rattle.mark_core.specs.declared.kinds.Step.{Step}
 use Rattle.mark_core.specs.declared.kinds.Step.TheVariants.{ReadCount}
 use Rattle.mark_core.specs.declared.seat.SeatState.{SeatState}
 use Rattle.plain_heap.specs.PlainHeap.{variable}
-use Rattle.gc_table.specs.StandsFor.{object_count, Agrees, IsSection, SeatStands, Stands, StandsFor}
+use Rattle.gc_table.specs.StandsFor.{object_count, WordAgrees, IsSection, SeatStands, Stands, StandsFor}
 use Rattle.gc_table.specs.declared.view.Meaning.{Meaning}
 use Rattle.gc_table.specs.PlainSteps.{meaning_of}
 use Rattle.gc_table.proofs.StandsCells.{HasMeaning}
@@ -25,7 +25,7 @@ pub record Moves (c : Core) (i : ℕ) (s : SeatState) (step : Step) (x : Words) 
   pub more : length (meaning_of ms i).heap.objects ≤ length n.heap.objects
   pub identities_kept : (y : ℕ) → Used c y ≡ true → slice_index x.identities y ≡ slice_index (words_of c.shape c.words).identities y
   pub other_roots : (w v : ℕ) → w ≢ i → v < 32 → slice_index x.roots (w * 32 + v) ≡ slice_index (words_of c.shape c.words).roots (w * 32 + v)
-  pub own_roots : (v : ℕ) → v < 32 → Agrees x.identities (object_count (set ms i n)) i (slice_index x.roots (i * 32 + v)) (variable n.heap v)
+  pub own_roots : (v : ℕ) → v < 32 → WordAgrees x.identities (object_count (set ms i n)) i (slice_index x.roots (i * 32 + v)) (variable n.heap v)
   pub cells : (y : ℕ) → y < c.shape.cells → UsedAfter c i s step y ≡ true → HasMeaning c.shape x.identities x.values x.fields (set ms i n) y
   pub other_making : (w : ℕ) (o : SeatState) → w ≢ i → slice_get c.seats w ≡ Some o → IsFalse o.spent → (y part : ℕ) → makes o.cache y part ≡ true → slice_index x.values y ≡ slice_index (words_of c.shape c.words).values y
   pub own_seat : IsFalse t.spent → SeatStands c.shape x.identities x.values (object_count (set ms i n)) i t n

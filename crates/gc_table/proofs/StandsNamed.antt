@@ -12,7 +12,7 @@ use Rattle.plain_heap.specs.declared.object.Ref.TheVariants as refs
 use Rattle.plain_heap.specs.declared.object.Object.{Object}
 use Rattle.plain_heap.specs.PlainHeap.{Heap}
 use Rattle.plain_heap.specs.Paths.{Name, Names, HasObject}
-use Rattle.gc_table.specs.StandsFor.{StandsFor, Agrees, Holds, heaps_of, name_at, object_count}
+use Rattle.gc_table.specs.StandsFor.{StandsFor, WordAgrees, HoldsObject, heaps_of, name_at, object_count}
 use Rattle.gc_table.specs.declared.view.Meaning.{Meaning}
 
 -- a reference names one object
@@ -29,12 +29,12 @@ names-one (suc w) (refs.Cat n) a b x y = same a b (x.0 ∙ sym y.0) (x.1 ∙ sym
     same a b s n = ap (λ (k : ℕ). record { section = k; number = a.number }) s ∙ ap (λ (k : ℕ). record { section = b.section; number = k }) n
 
 -- the word of a reference that names an object names the object's cell
-pub word-of : (ids : List ℕ) (p : ℕ → ℕ) (w word : ℕ) (ref : Ref) (name : Name) → Agrees ids p w word ref → Names w ref name → (x : ℕ) × (word ≡ x + 1) × (name_at ids x ≡ name) × (number_of ids x < p (section_of ids x))
+pub word-of : (ids : List ℕ) (p : ℕ → ℕ) (w word : ℕ) (ref : Ref) (name : Name) → WordAgrees ids p w word ref → Names w ref name → (x : ℕ) × (word ≡ x + 1) × (name_at ids x ≡ name) × (number_of ids x < p (section_of ids x))
 word-of ids p w word ref name (inl z) names = absurd (subst (λ (r : Ref). Names w r name) z.1 names)
 word-of ids p w word ref name (inr (some, own, below)) names = (word - 1, omega (arith, some), names-one w ref (name_at ids (word - 1)) name own names, below)
 
 -- the reference of a word that names a cell names the cell's object
-pub ref-of : (ids : List ℕ) (p : ℕ → ℕ) (w word x : ℕ) (ref : Ref) → word ≡ x + 1 → Agrees ids p w word ref → Names w ref (name_at ids x) × (number_of ids x < p (section_of ids x))
+pub ref-of : (ids : List ℕ) (p : ℕ → ℕ) (w word x : ℕ) (ref : Ref) → word ≡ x + 1 → WordAgrees ids p w word ref → Names w ref (name_at ids x) × (number_of ids x < p (section_of ids x))
 ref-of ids p w word x ref e (inl z) = absurd (omega (arith, e, z.0))
 ref-of ids p w word x ref e (inr (some, own, below)) =
     let at : word - 1 ≡ x = omega (arith, e) in subst (λ y. Names w ref (name_at ids y) × (number_of ids y < p (section_of ids y))) at (own, below)
@@ -59,7 +59,7 @@ there-heap c ms heap st (k, below, e) =
 
 -- the object of a cell is one of the heaps
 pub has-object : (c : Core) (ms : List Meaning) (x : ℕ) (m : Meaning) → StandsFor c ms → slice_get ms (section_of (words_of c.shape c.words).identities x) ≡ Some m
-    → (h : Holds c.shape (words_of c.shape c.words).identities (words_of c.shape c.words).values (words_of c.shape c.words).fields (object_count ms) m x) → HasObject (heaps_of ms) (name_at (words_of c.shape c.words).identities x) h.object
+    → (h : HoldsObject c.shape (words_of c.shape c.words).identities (words_of c.shape c.words).values (words_of c.shape c.words).fields (object_count ms) m x) → HasObject (heaps_of ms) (name_at (words_of c.shape c.words).identities x) h.object
 has-object c ms x m st g h = (m.heap, heap-there ms (section_of (words_of c.shape c.words).identities x) m g, (st.numbered (section_of (words_of c.shape c.words).identities x) m g).0, h.there)
 
 -- an object of the heaps is the one in the heap of its section

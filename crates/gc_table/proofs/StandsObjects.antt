@@ -24,7 +24,7 @@ use Rattle.plain_heap.specs.declared.object.Ref.TheVariants as refs
 use Rattle.plain_heap.specs.declared.object.Object.{Object}
 use Rattle.plain_heap.specs.PlainHeap.{Heap, variable}
 use Rattle.plain_heap.specs.PlainStep.{replaced, replaced_by, stored_at}
-use Rattle.gc_table.specs.StandsFor.{object_count, Agrees, Holds, SeatStands, StandsFor}
+use Rattle.gc_table.specs.StandsFor.{object_count, WordAgrees, HoldsObject, SeatStands, StandsFor}
 use Rattle.gc_table.specs.declared.view.Meaning.{Meaning}
 use Rattle.gc_table.specs.PlainSteps.{meaning_of}
 use Rattle.gc_table.proofs.StandsAgree.{Stays, next-on, agrees-on}
@@ -40,10 +40,10 @@ pub record Owns (c : Core) (i : ℕ) (s : SeatState) (v : ℕ) (ms : List Meanin
   pub exists : y < c.shape.cells
   pub section : section_of (words_of c.shape c.words).identities y ≡ i
   pub ref : variable (meaning_of ms i).heap v ≡ refs.Own (number_of (words_of c.shape c.words).identities y)
-  pub holds : Holds c.shape (words_of c.shape c.words).identities (words_of c.shape c.words).values (words_of c.shape c.words).fields (object_count ms) (meaning_of ms i) y
+  pub holds : HoldsObject c.shape (words_of c.shape c.words).identities (words_of c.shape c.words).values (words_of c.shape c.words).fields (object_count ms) (meaning_of ms i) y
 
 -- a reference to a cell of the own section
-own_ref : (ids : List ℕ) (p : ℕ → ℕ) (i word : ℕ) (ref : Ref) → 0 < word → section_of ids (word - 1) ≡ i → Agrees ids p i word ref → (ref ≡ refs.Own (number_of ids (word - 1))) × (number_of ids (word - 1) < p (section_of ids (word - 1)))
+own_ref : (ids : List ℕ) (p : ℕ → ℕ) (i word : ℕ) (ref : Ref) → 0 < word → section_of ids (word - 1) ≡ i → WordAgrees ids p i word ref → (ref ≡ refs.Own (number_of ids (word - 1))) × (number_of ids (word - 1) < p (section_of ids (word - 1)))
 own_ref ids p i word ref some e (inl z) = absurd (omega (arith, z.0, some))
 own_ref ids p i word refs.Nil some e (inr (nonzero, names, below)) = absurd names
 own_ref ids p i word (refs.Own n) some e (inr (nonzero, names, below)) = (ap (λ k. refs.Own k) (sym names.1), below)
@@ -53,7 +53,7 @@ own_ref ids p (suc i) word (refs.Cat n) some e (inr (nonzero, names, below)) = a
 -- a variable whose object is of the own section names the cell of an object of the own plain heap
 pub owns : (c : Core) (i : ℕ) (s : SeatState) (step : Step) (v : ℕ) (ms : List Meaning) → Taken c i s step → StandsFor c ms → (a : Mutates c i s ms) → ((x : ℕ) → Used c x ≡ true → x < c.shape.cells) → v < 32 → has_own (words_of c.shape c.words).identities s v ≡ true
     → Owns c i s v ms (word_in s v - 1)
-owns c i s step v ms k st a exist hv e = record { cell = whole; used = used; exists = exists; section = section; ref = ref.0; holds = subst (λ (z : Meaning). Holds c.shape w.identities w.values w.fields (object_count ms) z y) (sym same) o.2 }
+owns c i s step v ms k st a exist hv e = record { cell = whole; used = used; exists = exists; section = section; ref = ref.0; holds = subst (λ (z : Meaning). HoldsObject c.shape w.identities w.values w.fields (object_count ms) z y) (sym same) o.2 }
   where
     w : Words
     w = words_of c.shape c.words
@@ -88,7 +88,7 @@ owns c i s step v ms k st a exist hv e = record { cell = whole; used = used; exi
     ref : (variable (meaning_of ms i).heap v ≡ refs.Own (number_of w.identities y)) × (number_of w.identities y < object_count ms (section_of w.identities y))
     ref = own_ref w.identities (object_count ms) i word (variable (meaning_of ms i).heap v) some section (env-agrees c i s step ms v k st a hv)
 
-    o : (x : Meaning) × (slice_get ms (section_of w.identities y) ≡ Some x) × Holds c.shape w.identities w.values w.fields (object_count ms) x y
+    o : (x : Meaning) × (slice_get ms (section_of w.identities y) ≡ Some x) × HoldsObject c.shape w.identities w.values w.fields (object_count ms) x y
     o = named-object c.shape w.identities w.values w.fields ms y ref.1 (st.cells_agree y exists used)
 
     same : meaning_of ms i ≡ o.0
@@ -111,7 +111,7 @@ pub record Rewrites (c : Core) (i : ℕ) (ms : List Meaning) (y : ℕ) (values f
   pub rest : (j : ℕ) → c.shape.fields ≤ j → slice_index_or object.refs j refs.Nil ≡ refs.Nil
   pub value : slice_index values y ≡ object.value
   pub fits : object.value < flag
-  pub each_field : (j : ℕ) → j < c.shape.fields → Agrees (words_of c.shape c.words).identities (object_count ms) i (field c.shape fields y j) (slice_index_or object.refs j refs.Nil)
+  pub each_field : (j : ℕ) → j < c.shape.fields → WordAgrees (words_of c.shape c.words).identities (object_count ms) i (field c.shape fields y j) (slice_index_or object.refs j refs.Nil)
   pub other_values : (z : ℕ) → z ≢ y → slice_index values z ≡ slice_index (words_of c.shape c.words).values z
   pub other_fields : (z j : ℕ) → z ≢ y → j < c.shape.fields → field c.shape fields z j ≡ field c.shape (words_of c.shape c.words).fields z j
 
@@ -177,7 +177,7 @@ object-moves c i s step v ms y values fields object owed k st a none b r = recor
         value = r.value;
         each_field =
             λ j l.
-            subst (λ o. Agrees w.identities q o (field c.shape fields y j) (slice_index_or object.refs j refs.Nil)) (sym b.section)
+            subst (λ o. WordAgrees w.identities q o (field c.shape fields y j) (slice_index_or object.refs j refs.Nil)) (sym b.section)
             (agrees-on w.identities w.identities (object_count ms) q i _ _ (λ some. refl) more (r.each_field j l));
       }),
     )

@@ -19,7 +19,7 @@ use Rattle.plain_heap.specs.declared.object.Object.{Object}
 use Rattle.plain_heap.specs.PlainHeap.{Heap, variable}
 use Rattle.plain_heap.specs.Paths.{Name, Names, IsObject, IsHeld, RefersTo, IsReachable}
 use Rattle.plain_heap.proofs.Reaching.{of_reachable, reach_on}
-use Rattle.gc_table.specs.StandsFor.{StandsFor, Agrees, Holds, heaps_of, name_at, object_count}
+use Rattle.gc_table.specs.StandsFor.{StandsFor, WordAgrees, HoldsObject, heaps_of, name_at, object_count}
 use Rattle.gc_table.specs.declared.view.Meaning.{Meaning}
 use Rattle.gc_table.specs.PlainSteps.{no_meaning, meaning_of}
 use Rattle.gc_table.specs.Laws.{IsCellOfObject, ReachableObjectsHaveCells, ReachableCellsHaveObjects}
@@ -70,7 +70,7 @@ rooted c ms x k core st h e = (named.1, (object, [], held))
 
     named : Names section (variable m.heap (k % 32)) (name_at ids x) × IsGiven c ms x
     named = ref-of ids (object_count ms) section (slice_index (words_of c.shape c.words).roots k) x (variable m.heap (k % 32)) e
-        (subst (λ j. Agrees ids (object_count ms) section (slice_index (words_of c.shape c.words).roots j) (variable m.heap (k % 32))) place (st.roots_agree section m there (k % 32) low))
+        (subst (λ j. WordAgrees ids (object_count ms) section (slice_index (words_of c.shape c.words).roots j) (variable m.heap (k % 32))) place (st.roots_agree section m there (k % 32) low))
 
     holds : IsCellOfObject c ms (name_at ids x) x
     holds = cell_holds c ms x core st (reach-root c.shape (words_of c.shape c.words).roots (words_of c.shape c.words).fields k x h e) named.1
@@ -142,7 +142,7 @@ held_cell c ms name core st (heap, there, ref, (v, below, is), names) =
     let low : v < 32 = omega (arith, below, (st.numbered heap.section m.0 m.1).1, ap (λ (h : Heap). length h.variables) m.2) in
     let section : heap.section < length ms = slice_get_within ms heap.section m.0 m.1 in
     let ref_is : variable m.0.heap v ≡ ref = ap (λ (h : Heap). variable h v) m.2 ∙ (get_or_default heap.variables v refs.Nil ref below ∙ is) in
-    let agrees : Agrees w.identities (object_count ms) heap.section (slice_index w.roots (heap.section * 32 + v)) ref = subst (λ (r : Ref). Agrees w.identities (object_count ms) heap.section (slice_index w.roots (heap.section * 32 + v)) r) ref_is (st.roots_agree heap.section m.0 m.1 v low) in
+    let agrees : WordAgrees w.identities (object_count ms) heap.section (slice_index w.roots (heap.section * 32 + v)) ref = subst (λ (r : Ref). WordAgrees w.identities (object_count ms) heap.section (slice_index w.roots (heap.section * 32 + v)) r) ref_is (st.roots_agree heap.section m.0 m.1 v low) in
     let x = word-of w.identities (object_count ms) heap.section (slice_index w.roots (heap.section * 32 + v)) ref name agrees names in
     let inside : heap.section * 32 + v < length w.roots = omega (arith, low, section, roots-length c core, st.sections) in
     found_cell c ms name x.0 core st (reach-root c.shape w.roots w.fields (heap.section * 32 + v) x.0 inside x.1) x.2 x.3
@@ -154,7 +154,7 @@ referred_cell c ms from to core st (x, cell, reach) (object, has, ref, (j, below
     w : Words
     w = words_of c.shape c.words
 
-    h : Holds c.shape w.identities w.values w.fields (object_count ms) cell.2.0 x
+    h : HoldsObject c.shape w.identities w.values w.fields (object_count ms) cell.2.0 x
     h = cell.2.2
 
     same : h.object ≡ object
@@ -166,9 +166,9 @@ referred_cell c ms from to core st (x, cell, reach) (object, has, ref, (j, below
     of : (j < c.shape.fields) ⊎ (c.shape.fields ≤ j) → HasCell c ms to
     of (inl l) =
         let section : section_of w.identities x ≡ from.section = ap (λ (n : Name). n.section) cell.1 in
-        let agrees : Agrees w.identities (object_count ms) from.section (field c.shape w.fields x j) ref =
-        subst (λ s. Agrees w.identities (object_count ms) s (field c.shape w.fields x j) ref) section
-        (subst (λ (r : Ref). Agrees w.identities (object_count ms) (section_of w.identities x) (field c.shape w.fields x j) r) ref_is (h.each_field j l)) in
+        let agrees : WordAgrees w.identities (object_count ms) from.section (field c.shape w.fields x j) ref =
+        subst (λ s. WordAgrees w.identities (object_count ms) s (field c.shape w.fields x j) ref) section
+        (subst (λ (r : Ref). WordAgrees w.identities (object_count ms) (section_of w.identities x) (field c.shape w.fields x j) r) ref_is (h.each_field j l)) in
         let z = word-of w.identities (object_count ms) from.section (field c.shape w.fields x j) ref to agrees names in
         found_cell c ms to z.0 core st (reach-field c.shape w.roots w.fields x j z.0 reach l z.1) z.2 z.3
     of (inr l) = absurd (subst (λ (r : Ref). Names from.section r to) (sym ref_is ∙ h.rest j l) names)

@@ -25,7 +25,7 @@ use Rattle.plain_heap.specs.declared.operation.Op.{Op}
 use Rattle.plain_heap.specs.declared.operation.Op.TheVariants as ops
 use Rattle.plain_heap.specs.PlainHeap.{Heap, variable}
 use Rattle.plain_heap.specs.PlainStep.{heap_after, assigned, with_new, new_object, followed, lent_variable}
-use Rattle.gc_table.specs.StandsFor.{object_count, objects_in, Agrees, IsNext, IsCellOf, ValuesFit, SeatStands, StandsIn, StandsFor}
+use Rattle.gc_table.specs.StandsFor.{object_count, objects_in, WordAgrees, IsNext, IsCellOf, ValuesFit, SeatStands, StandsIn, StandsFor}
 use Rattle.gc_table.specs.declared.view.Meaning.{Meaning}
 use Rattle.gc_table.specs.PlainSteps.{seen_in, own_section, meaning_of, changed, with_got, stepped, IsAssignment, AsksIn}
 use Rattle.gc_table.proofs.StandsAgree.{Stays, next-on, agrees-on}
@@ -35,8 +35,8 @@ use Rattle.gc_table.proofs.StandsMoves.{Moves, moved, had-meaning}
 use Rattle.gc_table.proofs.StandsSeat.{Mutates, mutates, env-agrees}
 
 -- each root of the section agrees, where one is stored beside its variable
-own_root : (ids : List ℕ) (q : ℕ → ℕ) (i v r : ℕ) (roots : List ℕ) (vars : List Ref) (ref : Ref) → length vars ≡ 32 → i * 32 + v < length roots → v < 32 → Agrees ids q i r ref
-    → ((u : ℕ) → u < 32 → Agrees ids q i (get_or roots (i * 32 + u) 0) (get_or vars u refs.Nil)) → (u : ℕ) → u < 32 → Agrees ids q i (get_or (set roots (i * 32 + v) r) (i * 32 + u) 0) (get_or (set vars v ref) u refs.Nil)
+own_root : (ids : List ℕ) (q : ℕ → ℕ) (i v r : ℕ) (roots : List ℕ) (vars : List Ref) (ref : Ref) → length vars ≡ 32 → i * 32 + v < length roots → v < 32 → WordAgrees ids q i r ref
+    → ((u : ℕ) → u < 32 → WordAgrees ids q i (get_or roots (i * 32 + u) 0) (get_or vars u refs.Nil)) → (u : ℕ) → u < 32 → WordAgrees ids q i (get_or (set roots (i * 32 + v) r) (i * 32 + u) 0) (get_or (set vars v ref) u refs.Nil)
 own_root ids q i v r roots vars ref l h hv now before u hu =
     ⊎_elim
     (λ (e : u ≡ v). rw (e, get_or-set_same roots (i * 32 + v) r 0 h, get_or-set_same vars v ref refs.Nil (omega (arith, l, hv))) now)
@@ -52,7 +52,7 @@ pub record Assigns (c : Core) (i : ℕ) (s : SeatState) (v r : ℕ) (m n : Meani
   pub fit : ValuesFit m.heap → m.value < flag → ValuesFit n.heap
   pub got : n.got ≡ refs.Nil
   pub more : length m.heap.objects ≤ length n.heap.objects
-  pub agrees : Agrees (words_of c.shape c.words).identities (object_count (set ms i n)) i r ref
+  pub agrees : WordAgrees (words_of c.shape c.words).identities (object_count (set ms i n)) i r ref
   pub made : (length n.heap.objects ≡ s.made) ⊎ ((length n.heap.objects + 1 ≡ s.made) × IsFalse (has_making s.cache))
   pub held : (y : ℕ) → y < length m.heap.objects → slice_get n.heap.objects y ≡ slice_get m.heap.objects y
   pub next : (y : ℕ) → IsNext c.shape (words_of c.shape c.words).identities (words_of c.shape c.words).values (words_of c.shape c.words).fields m y
@@ -73,8 +73,8 @@ root_moves c i s v r ms n ref k st a hv x = record {
   other_roots = λ j u d hu. ap (λ (rs : List ℕ). slice_index rs (j * 32 + u)) roots_are ∙ get_or-set_other w.roots (i * 32 + v) (j * 32 + u) r 0 (λ e. d (omega (arith, e, hu, hv)));
   own_roots =
       λ u hu.
-      subst (λ (rs : List ℕ). Agrees w.identities q i (slice_index rs (i * 32 + u)) (variable n.heap u)) (sym roots_are)
-      (subst (λ (vs : List Ref). Agrees w.identities q i (slice_index (set w.roots (i * 32 + v) r) (i * 32 + u)) (slice_index_or vs u refs.Nil)) (sym x.variables)
+      subst (λ (rs : List ℕ). WordAgrees w.identities q i (slice_index rs (i * 32 + u)) (variable n.heap u)) (sym roots_are)
+      (subst (λ (vs : List Ref). WordAgrees w.identities q i (slice_index (set w.roots (i * 32 + v) r) (i * 32 + u)) (slice_index_or vs u refs.Nil)) (sym x.variables)
       (own_root w.identities q i v r w.roots m.heap.variables ref (st.numbered i m a.there).1 inside hv x.agrees
       (λ y h. agrees-on w.identities w.identities (object_count ms) q i _ _ (λ some. refl) more (st.roots_agree i m a.there y h)) u hu));
   cells =
@@ -115,7 +115,7 @@ root_moves c i s v r ms n ref k st a hv x = record {
     inside = omega (arith, roots-length c k.core, a.inside, hv)
 
 -- the variable gets a reference that agrees already
-assigns_known : (c : Core) (i : ℕ) (s : SeatState) (v r : ℕ) (ms : List Meaning) (ref : Ref) → Taken c i s (StoreRoot v r) → StandsFor c ms → (a : Mutates c i s ms) → Agrees (words_of c.shape c.words).identities (object_count ms) i r ref
+assigns_known : (c : Core) (i : ℕ) (s : SeatState) (v r : ℕ) (ms : List Meaning) (ref : Ref) → Taken c i s (StoreRoot v r) → StandsFor c ms → (a : Mutates c i s ms) → WordAgrees (words_of c.shape c.words).identities (object_count ms) i r ref
     → Assigns c i s v r (meaning_of ms i) (with_got refs.Nil (record (meaning_of ms i) { heap = assigned (meaning_of ms i).heap v ref })) ms ref
 assigns_known c i s v r ms ref k st a agrees =
     let w : Words = words_of c.shape c.words in
@@ -240,7 +240,7 @@ from_register : (c : Core) (i : ℕ) (s : SeatState) (v r : ℕ) (ms : List Mean
 from_register c i s v r ms u ref k st a e word is =
     let w : Words = words_of c.shape c.words in
     let mine : SeatStands c.shape w.identities w.values (object_count ms) i s (meaning_of ms i) = st.seats_agree i s (meaning_of ms i) k.got a.there k.live in
-    let agrees : Agrees w.identities (object_count ms) i r ref = subst (λ (y : ℕ). Agrees w.identities (object_count ms) i y ref) (sym word) (subst (λ (z : Ref). Agrees w.identities (object_count ms) i s.got z) is mine.got) in
+    let agrees : WordAgrees w.identities (object_count ms) i r ref = subst (λ (y : ℕ). WordAgrees w.identities (object_count ms) i y ref) (sym word) (subst (λ (z : Ref). WordAgrees w.identities (object_count ms) i s.got z) is mine.got) in
     subst (λ (z : ℕ). AssignsSome c i s v r ms (assigned (meaning_of ms i).heap z ref)) (sym e) (ref, assigns_known c i s v r ms ref k st a agrees)
 
 assigns : (c : Core) (i : ℕ) (s : SeatState) (v r : ℕ) (op : Op) (ms : List Meaning) → Taken c i s (StoreRoot v r) → StandsFor c ms → (a : Mutates c i s ms) → IsAssignment s (meaning_of ms i) (seen_in ms i) v r op
@@ -253,7 +253,7 @@ assigns c i s v r (ops.Nil u) ms k st a (e, nil) =
 assigns c i s v r (ops.Let u x) ms k st a (e, h, word) =
     let ref : Ref = variable (meaning_of ms i).heap x in
     subst (λ (z : ℕ). AssignsSome c i s v r ms (assigned (meaning_of ms i).heap z ref)) (sym e)
-    (ref, assigns_known c i s v r ms ref k st a (subst (λ (y : ℕ). Agrees (words_of c.shape c.words).identities (object_count ms) i y ref) (sym word) (env-agrees c i s (StoreRoot v r) ms x k st a h)))
+    (ref, assigns_known c i s v r ms ref k st a (subst (λ (y : ℕ). WordAgrees (words_of c.shape c.words).identities (object_count ms) i y ref) (sym word) (env-agrees c i s (StoreRoot v r) ms x k st a h)))
 assigns c i s v r (ops.Get u x j) ms k st a (e, word, is, x_below, j_below) = from_register c i s v r ms u (followed (meaning_of ms i).heap (seen_in ms i) (variable (meaning_of ms i).heap x) j) k st a e word is
 assigns c i s v r (ops.Cat u x) ms k st a (e, word, is, x_below) = from_register c i s v r ms u (lent_variable (seen_in ms i) x) k st a e word is
 assigns c i s v r (ops.Set u x y) ms k st a z = absurd z

@@ -28,7 +28,7 @@ use Rattle.mark_core.specs.declared.kinds.Step.TheVariants.{ReadCount}
 use Rattle.mark_core.specs.declared.seat.SeatState.{SeatState}
 use Rattle.mark_core.specs.declared.seat.CacheState.{CacheState}
 use Rattle.plain_heap.specs.PlainHeap.{variable}
-use Rattle.gc_table.specs.StandsFor.{object_count, Agrees, SeatStands, StandsFor}
+use Rattle.gc_table.specs.StandsFor.{object_count, WordAgrees, SeatStands, StandsFor}
 use Rattle.gc_table.specs.declared.view.Meaning.{Meaning}
 use Rattle.gc_table.specs.PlainSteps.{own_section, meaning_of, no_meaning, place_of, known_as}
 
@@ -123,12 +123,12 @@ mutates c i s step ms k st e =
 
 -- each variable of a mutator agrees with that of its plain heap
 pub env-agrees : (c : Core) (i : ℕ) (s : SeatState) (step : Step) (ms : List Meaning) (v : ℕ) → Taken c i s step → StandsFor c ms → Mutates c i s ms → v < 32
-    → Agrees (words_of c.shape c.words).identities (object_count ms) i (slice_index s.env v) (variable (meaning_of ms i).heap v)
+    → WordAgrees (words_of c.shape c.words).identities (object_count ms) i (slice_index s.env v) (variable (meaning_of ms i).heap v)
 env-agrees c i s step ms v k st a h =
     let roots : List ℕ = (words_of c.shape c.words).roots in
     let env : EnvIsRoots roots s = own-fact c i s step (EnvIsRoots roots) k k.core.sound.references.env_is_roots in
     let same : slice_index s.env v ≡ slice_index roots (i * 32 + v) = subst (λ (o : Option ℕ). IfSome o (λ w. (u : ℕ) → u < 32 → slice_index s.env u ≡ slice_index roots (w * 32 + u))) a.section (env k.live) v h in
-    subst (λ word. Agrees (words_of c.shape c.words).identities (object_count ms) i word (variable (meaning_of ms i).heap v)) (sym same) (st.roots_agree i (meaning_of ms i) a.there v h)
+    subst (λ word. WordAgrees (words_of c.shape c.words).identities (object_count ms) i word (variable (meaning_of ms i).heap v)) (sym same) (st.roots_agree i (meaning_of ms i) a.there v h)
 
 -- a word among others has a place
 pub word-found : (xs : List ℕ) (word k : ℕ) → list_any (λ (x : ℕ). eqb x word) xs ≡ true → (p : ℕ) × (place_of xs word k ≡ k + p) × (p < length xs) × (get_or xs p 0 ≡ word)
@@ -143,7 +143,7 @@ word-found (x ∷ xs) word k e =
 
 -- a cell that the seat knows is named by the reference by which it knows it
 pub known-agrees : (c : Core) (i : ℕ) (s : SeatState) (step : Step) (ms : List Meaning) (x : ℕ) → Taken c i s step → StandsFor c ms → Mutates c i s ms → knows_cell s x ≡ true
-    → Agrees (words_of c.shape c.words).identities (object_count ms) i (x + 1) (known_as s (meaning_of ms i) x)
+    → WordAgrees (words_of c.shape c.words).identities (object_count ms) i (x + 1) (known_as s (meaning_of ms i) x)
 known-agrees c i s step ms x k st a e = of (eqb s.got (x + 1)) refl
   where
     m : Meaning
@@ -155,14 +155,14 @@ known-agrees c i s step ms x k st a e = of (eqb s.got (x + 1)) refl
     mine : SeatStands c.shape ids (words_of c.shape c.words).values (object_count ms) i s m
     mine = st.seats_agree i s m k.got a.there k.live
 
-    of : (b : Bool) → eqb s.got (x + 1) ≡ b → Agrees ids (object_count ms) i (x + 1) (known_as s m x)
+    of : (b : Bool) → eqb s.got (x + 1) ≡ b → WordAgrees ids (object_count ms) i (x + 1) (known_as s m x)
     of true f =
-        subst (λ r. Agrees ids (object_count ms) i (x + 1) r) (sym (ap (λ (b : Bool). if b then m.got else variable m.heap (place_of s.env (x + 1) 0)) f))
-        (subst (λ word. Agrees ids (object_count ms) i word m.got) (eqb-true s.got (x + 1) f) mine.got)
+        subst (λ r. WordAgrees ids (object_count ms) i (x + 1) r) (sym (ap (λ (b : Bool). if b then m.got else variable m.heap (place_of s.env (x + 1) 0)) f))
+        (subst (λ word. WordAgrees ids (object_count ms) i word m.got) (eqb-true s.got (x + 1) f) mine.got)
     of false f =
         let there : list_any (λ (y : ℕ). eqb y (x + 1)) s.env ≡ true = sym (ap (λ (b : Bool). b || list_any (λ (y : ℕ). eqb y (x + 1)) s.env) f) ∙ e in
         let r = word-found s.env (x + 1) 0 there in
         let h : r.0 < 32 = omega (arith, r.2, (seat-formed c i s step k).env) in
         let place : place_of s.env (x + 1) 0 ≡ r.0 = r.1 ∙ omega arith in
-        subst (λ q. Agrees ids (object_count ms) i (x + 1) q) (sym (ap (λ (b : Bool). if b then m.got else variable m.heap (place_of s.env (x + 1) 0)) f ∙ ap (λ p. variable m.heap p) place))
-        (subst (λ word. Agrees ids (object_count ms) i word (variable m.heap r.0)) r.3 (env-agrees c i s step ms r.0 k st a h))
+        subst (λ q. WordAgrees ids (object_count ms) i (x + 1) q) (sym (ap (λ (b : Bool). if b then m.got else variable m.heap (place_of s.env (x + 1) 0)) f ∙ ap (λ p. variable m.heap p) place))
+        (subst (λ word. WordAgrees ids (object_count ms) i word (variable m.heap r.0)) r.3 (env-agrees c i s step ms r.0 k st a h))

@@ -8,7 +8,7 @@ use Rattle.mark_core.specs.MutatorSteps.{with_free, without_used}
 use Rattle.mark_core.specs.declared.kinds.Shape.{Shape}
 use Rattle.mark_core.specs.declared.seat.SeatState.{SeatState}
 use Rattle.mark_core.specs.declared.seat.CacheState.{CacheState}
-use Rattle.gc_table.specs.StandsFor.{Agrees, SeatStands}
+use Rattle.gc_table.specs.StandsFor.{WordAgrees, SeatStands}
 use Rattle.gc_table.specs.declared.view.Meaning.{Meaning}
 
 -- a cache in which nothing further is made
@@ -47,7 +47,7 @@ made_less n made o o' f (inr e) = inr (e.0, f e.1)
 pub seat-less : (sh : Shape) (ids values : List ℕ) (p : ℕ → ℕ) (w : ℕ) (s t : SeatState) (m : Meaning) → t.got ≡ s.got → t.made ≡ s.made → MakesNoMore s.cache t.cache → SeatStands sh ids values p w s m → SeatStands sh ids values p w t m
 seat-less sh ids values p w s t m got made less k =
     record {
-      got = subst (λ (g : ℕ). Agrees ids p w g m.got) (sym got) k.got;
+      got = subst (λ (g : ℕ). WordAgrees ids p w g m.got) (sym got) k.got;
       made = subst (λ (n : ℕ). (length m.heap.objects ≡ n) ⊎ ((length m.heap.objects + 1 ≡ n) × IsFalse (has_making t.cache))) (sym made) (made_less (length m.heap.objects) s.made s.cache t.cache less.making k.made);
       making = λ c part e l. k.making c part (less.makes c part e) l;
       last = subst (λ (n : ℕ). IfSome (last_made t.cache) (λ c. (slice_index ids c + 1 ≡ w * flag + n) × (0 < n))) (sym made) (last_less ids w s.made (last_made s.cache) (last_made t.cache) less.last k.last);

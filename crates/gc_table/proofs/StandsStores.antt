@@ -31,7 +31,7 @@ use Rattle.plain_heap.specs.declared.operation.Op.{Op}
 use Rattle.plain_heap.specs.declared.operation.Op.TheVariants as ops
 use Rattle.plain_heap.specs.PlainHeap.{Heap, variable}
 use Rattle.plain_heap.specs.PlainStep.{heap_after, replaced, with_field, with_value}
-use Rattle.gc_table.specs.StandsFor.{object_count, Agrees, Stands, StandsIn, StandsFor}
+use Rattle.gc_table.specs.StandsFor.{object_count, WordAgrees, Stands, StandsIn, StandsFor}
 use Rattle.gc_table.specs.declared.view.Meaning.{Meaning}
 use Rattle.gc_table.specs.PlainSteps.{seen_in, own_section, meaning_of, changed, stepped, IsSet, AsksIn}
 use Rattle.gc_table.proofs.StandsMoves.{moved}
@@ -44,7 +44,7 @@ used-exists c k x u = in_use-below c.shape (words_of c.shape c.words).allocs (ma
 
 -- what is stored in a field, and the variable by which the plain heap stores it
 set_agrees : (c : Core) (i : ℕ) (s : SeatState) (step : Step) (v j : ℕ) (o : Option ℕ) (op : Op) (ms : List Meaning) → Taken c i s step → StandsFor c ms → Mutates c i s ms → in_variables o ≡ true → IsSet (meaning_of ms i).heap v j o op
-    → (u : ℕ) × (op ≡ ops.Set v j u) × Agrees (words_of c.shape c.words).identities (object_count ms) i (variable_or_nil s o) (variable (meaning_of ms i).heap u)
+    → (u : ℕ) × (op ≡ ops.Set v j u) × WordAgrees (words_of c.shape c.words).identities (object_count ms) i (variable_or_nil s o) (variable (meaning_of ms i).heap u)
 set_agrees c i s step v j None op ms k st a h (u, below, nil, is) = (u, is, inl (refl, nil))
 set_agrees c i s step v j (Some u) op ms k st a h is = (u, is, env-agrees c i s step ms u k st a (ltb-true u 32 h))
 
@@ -54,7 +54,7 @@ fields-length c k = region-length (region_sizes c.shape) 11 c.words (omega (arit
 pub values-length : (c : Core) → IsCore c → length (words_of c.shape c.words).values ≡ c.shape.cells
 values-length c k = region-length (region_sizes c.shape) 10 c.words (omega (arith, k.formed.words))
 
-field_rewrites : (c : Core) (i : ℕ) (s : SeatState) (v j y : ℕ) (o : Option ℕ) (ref : Ref) (ms : List Meaning) → Taken c i s (StoreField v j o) → j < c.shape.fields → (b : Owns c i s v ms y) → b.holds.object.value < flag → Agrees (words_of c.shape c.words).identities (object_count ms) i (variable_or_nil s o) ref
+field_rewrites : (c : Core) (i : ℕ) (s : SeatState) (v j y : ℕ) (o : Option ℕ) (ref : Ref) (ms : List Meaning) → Taken c i s (StoreField v j o) → j < c.shape.fields → (b : Owns c i s v ms y) → b.holds.object.value < flag → WordAgrees (words_of c.shape c.words).identities (object_count ms) i (variable_or_nil s o) ref
     → Rewrites c i ms y (words_of c.shape c.words).values (set (words_of c.shape c.words).fields (y * c.shape.fields + j) (variable_or_nil s o)) (with_field b.holds.object j ref)
 field_rewrites c i s v j y o ref ms k hj b small agrees = record {
   room = length-set b.holds.object.refs j ref ∙ b.holds.room;
@@ -81,13 +81,13 @@ field_rewrites c i s v j y o ref ms k hj b small agrees = record {
         let here : y * sh_fields + j < c.shape.cells * sh_fields = subst (λ z. z * sh_fields + j < c.shape.cells * sh_fields) b.cell h in
         subst (λ l. y * sh_fields + j < l) (sym (fields-length c k.core)) here
 
-    each : (l : ℕ) → l < sh_fields → Agrees (words_of c.shape c.words).identities (object_count ms) i (get_or (set fields (y * sh_fields + j) word) (y * sh_fields + l) 0) (get_or (set b.holds.object.refs j ref) l refs.Nil)
+    each : (l : ℕ) → l < sh_fields → WordAgrees (words_of c.shape c.words).identities (object_count ms) i (get_or (set fields (y * sh_fields + j) word) (y * sh_fields + l) 0) (get_or (set b.holds.object.refs j ref) l refs.Nil)
     each l hl =
         ⊎_elim
         (λ (e : l ≡ j). rw (e, get_or-set_same fields (y * sh_fields + j) word 0 inside, get_or-set_same b.holds.object.refs j ref refs.Nil (omega (arith, b.holds.room, hj, k.core.formed.shaped.fields))) agrees)
         (λ (d : l ≢ j).
         rw (get_or-set_other fields (y * sh_fields + j) (y * sh_fields + l) word 0 (λ e. d (omega (arith, e))), get_or-set_other b.holds.object.refs j l ref refs.Nil d)
-        (subst (λ z. Agrees (words_of c.shape c.words).identities (object_count ms) z (field c.shape fields y l) (slice_index_or b.holds.object.refs l refs.Nil)) b.section (b.holds.each_field l hl)))
+        (subst (λ z. WordAgrees (words_of c.shape c.words).identities (object_count ms) z (field c.shape fields y l) (slice_index_or b.holds.object.refs l refs.Nil)) b.section (b.holds.each_field l hl)))
         (cases_eq l j)
 
 -- a reference is stored
@@ -125,7 +125,7 @@ value_rewrites c i s v n y ms k small b =
       rest = b.holds.rest;
       value = get_or-set_same w.values y n 0 (omega (arith, b.exists, values-length c k));
       fits = small;
-      each_field = λ l hl. subst (λ z. Agrees w.identities (object_count ms) z (field c.shape w.fields y l) (slice_index_or b.holds.object.refs l refs.Nil)) b.section (b.holds.each_field l hl);
+      each_field = λ l hl. subst (λ z. WordAgrees w.identities (object_count ms) z (field c.shape w.fields y l) (slice_index_or b.holds.object.refs l refs.Nil)) b.section (b.holds.each_field l hl);
       other_values = λ z d. get_or-set_other w.values y z n 0 d;
       other_fields = λ z l d hl. refl;
     }

@@ -17,13 +17,13 @@ use Rattle.plain_heap.specs.PlainHeap.{Heap, empty_heap}
 use Rattle.plain_heap.specs.declared.operation.Op.{Op}
 use Rattle.gc_table.specs.declared.view.Meaning.{Meaning}
 use Rattle.gc_table.specs.declared.view.Place.{Place}
-use Rattle.gc_table.specs.declared.view.Turn.{Turn}
+use Rattle.gc_table.specs.declared.view.PlainStep.{PlainStep}
 use Rattle.gc_table.specs.declared.view.SectionState.{SectionState}
 use Rattle.gc_table.specs.PlainSteps.{with_part, changes_heap}
-use Rattle.gc_table.specs.Sections.{season_of, seen_by, meaning_by, turned, placed, section_after}
-use Rattle.gc_table.specs.Whole.{Whole, whole_after}
+use Rattle.gc_table.specs.Sections.{season_of, seen_by, meaning_by, with_plain_step, placed, section_after}
+use Rattle.gc_table.specs.TableState.{TableState, state_after}
 use Rattle.gc_table.specs.Told.{EachSection, heap_before, Turns}
-use Rattle.gc_table.proofs.WholeSteps.{Goes, event, taken, sections_left, kept-whole, each-left}
+use Rattle.gc_table.proofs.StateSteps.{Goes, event, taken, sections_left, kept-whole, each-left}
 use Rattle.gc_table.proofs.SeasonsKept.{season_in, moves_season, season-same, season-next, in-turn, storer-mutates}
 
 -- what happened by the season, in a turn of the section
@@ -32,12 +32,12 @@ Past season w z = (z ≤ season) × IsTrue (has_turn (Some w) (Some z))
 
 -- what is said of each section
 record InTurns (sh : Shape) (season w : ℕ) (y : SectionState) : Type 0 where
-  pub turns_past : (n : ℕ) (t : Turn) → slice_get y.turns n ≡ Some t → Past season w t.season
+  pub turns_past : (n : ℕ) (t : PlainStep) → slice_get y.history n ≡ Some t → Past season w t.season
   pub places_past : (n : ℕ) (p : Place) → slice_get y.places n ≡ Some p → Past season w p.season
-  pub last : y.meaning.heap ≡ heap_before (season + 1) (empty_heap sh.fields w) y.turns
+  pub last : y.meaning.heap ≡ heap_before (season + 1) (empty_heap sh.fields w) y.history
 
 -- a turn that comes before the season leaves its heap
-heap_next : (season : ℕ) (heap : Heap) (ts : List Turn) → ((n : ℕ) (t : Turn) → slice_get ts n ≡ Some t → t.season < season) → heap_before season heap ts ≡ heap_before (season + 1) heap ts
+heap_next : (season : ℕ) (heap : Heap) (ts : List PlainStep) → ((n : ℕ) (t : PlainStep) → slice_get ts n ≡ Some t → t.season < season) → heap_before season heap ts ≡ heap_before (season + 1) heap ts
 heap_next season heap [] past = refl
 heap_next season heap (t ∷ ts) past =
     let h : t.season < season = past 0 t refl in
@@ -45,7 +45,7 @@ heap_next season heap (t ∷ ts) past =
     ap (λ (b : Bool). heap_before season (cond b t.heap heap) ts) now ∙ heap_next season (cond (nat_lt t.season (season + 1)) t.heap heap) ts (λ n u e. past (suc n) u e)
 
 -- the last turn leaves its heap
-heap_last : (season : ℕ) (heap : Heap) (ts : List Turn) (t : Turn) → t.season < season → heap_before season heap (ts ++ t ∷ []) ≡ t.heap
+heap_last : (season : ℕ) (heap : Heap) (ts : List PlainStep) (t : PlainStep) → t.season < season → heap_before season heap (ts ++ t ∷ []) ≡ t.heap
 heap_last season heap [] t h = ap (λ (b : Bool). cond b t.heap heap) (lt-ltb t.season season h)
 heap_last season heap (u ∷ ts) t h = heap_last season (cond (nat_lt u.season season) u.heap heap) ts t h
 
@@ -57,18 +57,18 @@ in_next : (sh : Shape) (season w : ℕ) (y : SectionState) → InTurns sh season
 in_next sh season w y k = record {
   turns_past = λ n t e. past_next season w t.season (k.turns_past n t e);
   places_past = λ n p e. past_next season w p.season (k.places_past n p e);
-  last = k.last ∙ heap_next (season + 1) (empty_heap sh.fields w) y.turns (λ n t e. let h : t.season ≤ season = (k.turns_past n t e).0 in omega (arith, h));
+  last = k.last ∙ heap_next (season + 1) (empty_heap sh.fields w) y.history (λ n t e. let h : t.season ≤ season = (k.turns_past n t e).0 in omega (arith, h));
 }
 
 past_now : (season w z : ℕ) → z ≡ season → has_turn (Some w) (Some season) ≡ true → Past season w z
 past_now season w z e h = (omega (arith, e), subst (λ (j : ℕ). IsTrue (has_turn (Some w) (Some j))) (sym e) h)
 
 -- a plain step
-in_turned : (sh : Shape) (s : SeatState) (season w : ℕ) (m : Meaning) (y : SectionState) → season_of s ≡ season → has_turn (Some w) (Some season) ≡ true → InTurns sh season w y → InTurns sh season w (turned s (record y { meaning = m }))
+in_turned : (sh : Shape) (s : SeatState) (season w : ℕ) (m : Meaning) (y : SectionState) → season_of s ≡ season → has_turn (Some w) (Some season) ≡ true → InTurns sh season w y → InTurns sh season w (with_plain_step s (record y { meaning = m }))
 in_turned sh s season w m y seen turn k = record {
-  turns_past = each-push (λ n (t : Turn). Past season w t.season) y.turns (record { season = season_of s; heap = m.heap }) (past_now season w (season_of s) seen turn) k.turns_past;
+  turns_past = each-push (λ n (t : PlainStep). Past season w t.season) y.history (record { season = season_of s; heap = m.heap }) (past_now season w (season_of s) seen turn) k.turns_past;
   places_past = k.places_past;
-  last = sym (heap_last (season + 1) (empty_heap sh.fields w) y.turns (record { season = season_of s; heap = m.heap }) (omega (arith, seen)));
+  last = sym (heap_last (season + 1) (empty_heap sh.fields w) y.history (record { season = season_of s; heap = m.heap }) (omega (arith, seen)));
 }
 
 -- a place more, where the last word of a new cell is stored
@@ -91,7 +91,7 @@ own_turn c i s step w k e h =
     (ap (λ (o : Option ℕ). unwrap_or o 0) a.2, subst (λ (j : ℕ). has_turn (Some j) (Some (season_in c)) ≡ true) (same_Some a.0 w (sym a.1 ∙ e)) a.3)
 
 in_stored : (c : Core) (i : ℕ) (s : SeatState) (step : Step) (w : ℕ) (m : Meaning) (y : SectionState) → Taken c i s step → s.section ≡ Some w → changes_heap step ≡ true → InTurns c.shape (season_in c) w y
-    → InTurns c.shape (season_in c) w (turned s (record y { meaning = m }))
+    → InTurns c.shape (season_in c) w (with_plain_step s (record y { meaning = m }))
 in_stored c i s step w m y k e h b = let a = own_turn c i s step w k e (storer-mutates c i s step k h) in in_turned c.shape s (season_in c) w m y a.0 a.1 b
 
 -- the seat's own section after a step that leaves the season
@@ -107,11 +107,11 @@ own_after c plan i s (StoreNew x part word) w y k e f b =
 own_after c plan i s NextSeason w y k e f b = absurd (true≢false f)
 own_after c plan i s step w y k e f b = record { turns_past = b.turns_past; places_past = b.places_past; last = b.last }
 
-before : (x : Whole) → Turns x.core.shape (season_in x.core) x.sections → EachSection x.sections (InTurns x.core.shape (season_in x.core))
+before : (x : TableState) → Turns x.core.shape (season_in x.core) x.sections → EachSection x.sections (InTurns x.core.shape (season_in x.core))
 before x k w y h = record { turns_past = k.turns_past w y h; places_past = k.places_past w y h; last = k.last w y h }
 
 -- all sections after the step
-each_in : (x : Whole) (i : ℕ) (s : SeatState) (step : Step) → Goes x i s step → EachSection (sections_left x s step) (InTurns x.core.shape (words_left x.core s step).season)
+each_in : (x : TableState) (i : ℕ) (s : SeatState) (step : Step) → Goes x i s step → EachSection (sections_left x s step) (InTurns x.core.shape (words_left x.core s step).season)
 each_in x i s NextSeason g =
     let sh : Shape = x.core.shape in
     subst (λ (z : ℕ). EachSection (sections_left x s NextSeason) (InTurns sh z)) (sym (season-next x.core i s (taken x i s NextSeason g)))
@@ -123,10 +123,10 @@ each_in x i s step g =
     subst (λ (z : ℕ). EachSection (sections_left x s step) (InTurns sh z)) (sym (season-same x.core i s step k refl))
     (each-left (InTurns sh (season_in x.core)) (section_after sh x.plan s step) s.section x.sections (λ w y h d. before x g.whole.told.turns w y h) (λ w y h e. own_after x.core x.plan i s step w y k e refl (before x g.whole.told.turns w y h)))
 
-turns_left : (x : Whole) (i : ℕ) (s : SeatState) (step : Step) → Goes x i s step → Turns x.core.shape (words_left x.core s step).season (sections_left x s step)
+turns_left : (x : TableState) (i : ℕ) (s : SeatState) (step : Step) → Goes x i s step → Turns x.core.shape (words_left x.core s step).season (sections_left x s step)
 turns_left x i s step g =
     let a = each_in x i s step g in record { turns_past = λ w y h. (a w y h).turns_past; places_past = λ w y h. (a w y h).places_past; last = λ w y h. (a w y h).last }
 
-pub turns-kept : (x : Whole) (i : ℕ) (s : SeatState) (step : Step) → Goes x i s step
-    → Turns (whole_after x (event i step)).core.shape (words_of (whole_after x (event i step)).core.shape (whole_after x (event i step)).core.words).season (whole_after x (event i step)).sections
+pub turns-kept : (x : TableState) (i : ℕ) (s : SeatState) (step : Step) → Goes x i s step
+    → Turns (state_after x (event i step)).core.shape (words_of (state_after x (event i step)).core.shape (state_after x (event i step)).core.words).season (state_after x (event i step)).sections
 turns-kept x i s step g = kept-whole (λ sh w seats xs. Turns sh w.season xs) x i s step g (turns_left x i s step g)

@@ -6,7 +6,7 @@ use Rattle.mark_core.specs.Seats.{phase_of}
 use Rattle.mark_core.specs.declared.kinds.Shape.{Shape}
 use Rattle.mark_core.specs.declared.kinds.Phase.TheVariants.{Full}
 use Rattle.mark_core.specs.declared.seat.SeatState.{SeatState}
-use Rattle.gc_table.specs.Whole.{Whole}
+use Rattle.gc_table.specs.TableState.{TableState}
 use Rattle.gc_table.specs.Rule.{IsState, KnowsFull}
 use Rattle.gc_table.specs.Seats.{view_of, IsOutside}
 use Rattle.gc_table.specs.declared.seat.HeapSeat.{HeapSeat}
@@ -29,7 +29,7 @@ IsResting seats r = IsTrue r.spent ⊎ ((s : HeapSeat) × (slice_get seats 0 ≡
 
 -- the words are those of a state that meets the rule, in which each section is as its seat left it
 pub record IsEnd (sh : Shape) (seats : List HeapSeat) (w : Words) : Type 0 where
-  pub state : Whole
+  pub state : TableState
   pub whole : IsState state
   pub shape : state.core.shape ≡ sh
   pub plan : (s : HeapSeat) → slice_get seats 0 ≡ Some s → state.plan ≡ (view_of s).plan

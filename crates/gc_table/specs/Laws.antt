@@ -8,7 +8,7 @@ use Rattle.mark_core.specs.Cells.{in_use}
 use Rattle.mark_core.specs.HeapRules.{section_of}
 use Rattle.mark_core.specs.Closed.{IsReachableIn}
 use Rattle.mark_core.specs.Laws.{IsCore, NumbersFit}
-use Rattle.gc_table.specs.Whole.{Whole, whole_after, start_whole, AskedIn}
+use Rattle.gc_table.specs.TableState.{TableState, state_after, start_state, AskedIn}
 use Rattle.gc_table.specs.Rule.{IsState}
 use Rattle.mark_core.specs.declared.kinds.Shape.{Shape}
 use Rattle.mark_core.specs.declared.kinds.Event.{Event}
@@ -16,19 +16,19 @@ use Rattle.mark_core.specs.declared.kinds.Step.{Step}
 use Rattle.mark_core.specs.declared.seat.SeatState.{SeatState}
 use Rattle.plain_heap.specs.declared.operation.Op.{Op}
 use Rattle.plain_heap.specs.Paths.{Name, IsReachable}
-use Rattle.gc_table.specs.StandsFor.{StandsFor, Holds, IsNext, heaps_of, name_at, object_count, start_meanings}
+use Rattle.gc_table.specs.StandsFor.{StandsFor, HoldsObject, IsNext, heaps_of, name_at, object_count, start_meanings}
 use Rattle.gc_table.specs.declared.view.Meaning.{Meaning}
 use Rattle.plain_heap.specs.PlainStep.{IsInRange}
 use Rattle.gc_table.specs.PlainSteps.{meaning_after, meanings_after, seen_in, AsksIn, changes_heap}
 
 -- the state in which nothing has happened meets the rule
 abbrev pub StartMeetsRule : Type 0
-StartMeetsRule = (sh : Shape) (plan : List (List Op)) (n : ℕ) → IsShape sh → 1 ≤ n → n ≤ 41 → IsState (start_whole sh plan n)
+StartMeetsRule = (sh : Shape) (plan : List (List Op)) (n : ℕ) → IsShape sh → 1 ≤ n → n ≤ 41 → IsState (start_state sh plan n)
 
 -- each event that is allowed, and whose step meets what is asked besides, keeps it
 abbrev pub EventsKeepRule : Type 0
 EventsKeepRule =
-    (x : Whole) (e : Event) (s : SeatState) → IsState x → slice_get x.core.seats e.seat ≡ Some s → failing_part x.core e ≡ None → NumbersFit e.step → AskedIn x s e.step → IsState (whole_after x e)
+    (x : TableState) (e : Event) (s : SeatState) → IsState x → slice_get x.core.seats e.seat ≡ Some s → failing_part x.core e ≡ None → NumbersFit e.step → AskedIn x s e.step → IsState (state_after x e)
 
 -- the state in which nothing has happened stands for empty heaps
 abbrev pub StartStands : Type 0
@@ -62,7 +62,7 @@ abbrev pub IsCellOfObject : Core → List Meaning → Name → ℕ → Type 0
 IsCellOfObject c ms name x =
     let w = words_of c.shape c.words in
     IsTrue (in_use w.allocs (makers c.seats) x) × (name_at w.identities x ≡ name)
-    × ((m : Meaning) × (slice_get ms name.section ≡ Some m) × Holds c.shape w.identities w.values w.fields (object_count ms) m x)
+    × ((m : Meaning) × (slice_get ms name.section ≡ Some m) × HoldsObject c.shape w.identities w.values w.fields (object_count ms) m x)
 
 -- each reachable object has a cell, and this cell is reachable
 abbrev pub ReachableObjectsHaveCells : Type 0

@@ -9,7 +9,7 @@ pub mod StandsFor
 pub mod PlainSteps
 pub mod Laws
 pub mod Sections
-pub mod Whole
+pub mod TableState
 pub mod Told
 pub mod Reads
 pub mod Ends

@@ -19,7 +19,7 @@ use Rattle.gc_table.specs.Fetching.{Fetched}
 use Rattle.gc_table.specs.Stopping.{Unmoved}
 use Rattle.gc_table.specs.StandsFor.{StandsFor}
 use Rattle.gc_table.specs.Sections.{start_section}
-use Rattle.gc_table.specs.Whole.{Whole, meanings_of}
+use Rattle.gc_table.specs.TableState.{TableState, meanings_of}
 use Rattle.gc_table.specs.Told.{IsTold}
 
 -- the record of seat k, where a seat that was joined into another has that of a spent seat
@@ -36,11 +36,11 @@ abbrev pub core_of : Shape → State (Unit {0}) View → Core
 core_of sh s = record { shape = sh; words = s.words; seats = records_from sh 0 s.views }
 
 -- the same with the plan and what the sections have come to
-abbrev pub whole_of : Shape → List (List Op) → List SectionState → State (Unit {0}) View → Whole
-whole_of sh plan xs s = record { core = core_of sh s; plan = plan; sections = xs }
+abbrev pub table_state : Shape → List (List Op) → List SectionState → State (Unit {0}) View → TableState
+table_state sh plan xs s = record { core = core_of sh s; plan = plan; sections = xs }
 
 -- what holds of the words, of all records and of the sections
-pub record IsState (x : Whole) : Type 0 where
+pub record IsState (x : TableState) : Type 0 where
   pub core : IsCore x.core
   pub swept : IsSweptCore x.core
   pub stands : StandsFor x.core (meanings_of x.sections)
@@ -55,11 +55,11 @@ abbrev pub Floored : Core → View → Type 0
 Floored c v = (at : ℕ × ℕ) (n : ℕ) → look at v.floors ≡ Some n → IsTrue (keeps_bound v.state at) × (n ≤ word_at c.shape c.words at)
 
 -- the view has each section whose seat was joined into this one, as it is
-abbrev pub HasJoined : Whole → View → Type 0
+abbrev pub HasJoined : TableState → View → Type 0
 HasJoined x v = (w : ℕ) (y : SectionState) → Contains v.joined (w, y) → (slice_get x.sections w ≡ Some y) × (slice_get x.core.seats w ≡ Some (spent_seat x.core.shape w))
 
 -- what holds of the view of the unspent seat i
-pub record Agrees (x : Whole) (i : ℕ) (v : View) : Type 0 where
+pub record Agrees (x : TableState) (i : ℕ) (v : View) : Type 0 where
   pub shape : v.shape ≡ x.core.shape
   pub seat : slice_get x.core.seats i ≡ Some v.state
   pub noted : Noted x.core v
@@ -74,14 +74,14 @@ pub record Agrees (x : Whole) (i : ℕ) (v : View) : Type 0 where
 -- what holds between any two steps
 pub record Holds (sh : Shape) (plan : List (List Op)) (s : State (Unit {0}) View) : Type 0 where
   pub sections : List SectionState
-  pub whole : IsState (whole_of sh plan sections s)
-  pub each : (i : ℕ) (v : View) → get_elem? s.views i ≡ some v → IsFalse v.state.spent → Agrees (whole_of sh plan sections s) i v
+  pub whole : IsState (table_state sh plan sections s)
+  pub each : (i : ℕ) (v : View) → get_elem? s.views i ≡ some v → IsFalse v.state.spent → Agrees (table_state sh plan sections s) i v
   -- the first seat makes the others
   pub opened : (v : View) → get_elem? s.views 0 ≡ some v → v.opened ≡ length s.views
 
 -- some state that meets the rule agrees with the view
 pub record IsPossible (v : View) : Type 0 where
-  pub state : Whole
+  pub state : TableState
   pub index : ℕ
   pub whole : IsState state
   pub agrees : Agrees state index v
@@ -131,7 +131,7 @@ HasSection v w x = ((v.state.section ≡ Some w) × (v.own ≡ x)) ⊎ Contains 
 
 -- the words are those of a state that meets the rule, and the last seat's view has all sections as they are
 pub record IsFinal (v : View) (ws : List ℕ) : Type 0 where
-  pub state : Whole
+  pub state : TableState
   pub whole : IsState state
   pub words : state.core.words ≡ ws
   pub index : ℕ

@@ -62,8 +62,8 @@ meaning_by sh s catalogue (StoreNew c part word) m = with_part sh part word m
 meaning_by sh s catalogue step m = m
 
 -- a plain step was done
-abbrev pub turned : SeatState → SectionState → SectionState
-turned s x = record x { turns = x.turns ++ record { season = season_of s; heap = x.meaning.heap } ∷ []; settled = false }
+abbrev pub with_plain_step : SeatState → SectionState → SectionState
+with_plain_step s x = record x { history = x.history ++ record { season = season_of s; heap = x.meaning.heap } ∷ []; settled = false }
 
 -- a word of a new cell was stored, and with the last one the cell has its object's identity
 abbrev pub placed : Shape → SeatState → ℕ → ℕ → SectionState → SectionState
@@ -72,9 +72,9 @@ placed sh s c part x =
 
 -- what the seat did besides
 abbrev pub noted : Shape → SeatState → Step → SectionState → SectionState
-noted sh s (StoreField v i w) x = turned s x
-noted sh s (StoreValue v n) x = turned s x
-noted sh s (StoreRoot v r) x = turned s x
+noted sh s (StoreField v i w) x = with_plain_step s x
+noted sh s (StoreValue v n) x = with_plain_step s x
+noted sh s (StoreRoot v r) x = with_plain_step s x
 noted sh s (StoreNew c part word) x = placed sh s c part x
 noted sh s (StorePosition done) x = record x { position = done }
 noted sh s (StorePhase to) x =
@@ -100,7 +100,7 @@ AskedOf sh plan s x named step = Unit {0}
 
 -- a section that has done nothing
 abbrev pub start_section : Shape → ℕ → SectionState
-start_section sh w = record { meaning = start_meaning sh w; places = []; turns = []; position = 0; seasons = 0; full = false; settled = false }
+start_section sh w = record { meaning = start_meaning sh w; places = []; history = []; position = 0; seasons = 0; full = false; settled = false }
 
 -- all sections at the start
 abbrev pub start_sections : Shape → List SectionState

@@ -36,17 +36,17 @@ abbrev pub object_count : List Meaning → ℕ → ℕ
 object_count ms w = objects_in (slice_get ms w)
 
 -- a word agrees with a reference of a section: both are nil, or the reference names the object in the word's cell, and there is such an object
-abbrev pub Agrees : List ℕ → (ℕ → ℕ) → ℕ → ℕ → Ref → Type 0
-Agrees identities counts section word ref =
+abbrev pub WordAgrees : List ℕ → (ℕ → ℕ) → ℕ → ℕ → Ref → Type 0
+WordAgrees identities counts section word ref =
     ((word ≡ 0) × (ref ≡ refs.Nil)) ⊎ ((0 < word) × Names section ref (name_at identities (word - 1)) × (number_of identities (word - 1) < counts (section_of identities (word - 1))))
 
 -- the words of cell c agree with its object
-pub record Holds (sh : Shape) (identities values fields : List ℕ) (counts : ℕ → ℕ) (m : Meaning) (c : ℕ) : Type 0 where
+pub record HoldsObject (sh : Shape) (identities values fields : List ℕ) (counts : ℕ → ℕ) (m : Meaning) (c : ℕ) : Type 0 where
   pub object : Object
   pub there : slice_get m.heap.objects (number_of identities c) ≡ Some object
   pub room : length object.refs ≡ 16
   pub value : slice_index values c ≡ object.value
-  pub each_field : EachField sh (λ i. Agrees identities counts (section_of identities c) (field sh fields c i) (slice_index_or object.refs i refs.Nil))
+  pub each_field : EachField sh (λ i. WordAgrees identities counts (section_of identities c) (field sh fields c i) (slice_index_or object.refs i refs.Nil))
   -- an object has room for more references than it may have
   pub rest : (i : ℕ) → sh.fields ≤ i → slice_index_or object.refs i refs.Nil ≡ refs.Nil
 
@@ -58,11 +58,11 @@ pub record IsNext (sh : Shape) (identities values fields : List ℕ) (m : Meanin
 
 -- cell c has an object of its section, or is made for the next one
 abbrev pub IsCellOf : Shape → List ℕ → List ℕ → List ℕ → (ℕ → ℕ) → Meaning → ℕ → Type 0
-IsCellOf sh identities values fields counts m c = Holds sh identities values fields counts m c ⊎ IsNext sh identities values fields m c
+IsCellOf sh identities values fields counts m c = HoldsObject sh identities values fields counts m c ⊎ IsNext sh identities values fields m c
 
 -- what the seat of section w has at hand
 pub record SeatStands (sh : Shape) (identities values : List ℕ) (counts : ℕ → ℕ) (w : ℕ) (s : SeatState) (m : Meaning) : Type 0 where
-  pub got : Agrees identities counts w s.got m.got
+  pub got : WordAgrees identities counts w s.got m.got
   -- each cell that was made has an object, but for the one made last
   pub made : (length m.heap.objects ≡ s.made) ⊎ ((length m.heap.objects + 1 ≡ s.made) × IsFalse (has_making s.cache))
   pub making : (c part : ℕ) → IsTrue (makes s.cache c part) → sh.fields < part → slice_index values c ≡ m.value
@@ -81,7 +81,7 @@ pub record Stands (sh : Shape) (roots identities values fields : List ℕ) (used
   pub sections : length ms ≡ sh.sections
   pub numbered : (w : ℕ) (m : Meaning) → slice_get ms w ≡ Some m → IsSection sh w m
   -- each root agrees with its variable
-  pub roots_agree : (w : ℕ) (m : Meaning) → slice_get ms w ≡ Some m → (v : ℕ) → v < 32 → Agrees identities (object_count ms) w (slice_index roots (w * 32 + v)) (variable m.heap v)
+  pub roots_agree : (w : ℕ) (m : Meaning) → slice_get ms w ≡ Some m → (v : ℕ) → v < 32 → WordAgrees identities (object_count ms) w (slice_index roots (w * 32 + v)) (variable m.heap v)
   -- each cell in use belongs to a section
   pub cells_agree : EachCell sh (λ c. used c → (m : Meaning) × (slice_get ms (section_of identities c) ≡ Some m) × IsCellOf sh identities values fields (object_count ms) m c)
   pub seats_agree : (w : ℕ) (s : SeatState) (m : Meaning) → slice_get seats w ≡ Some s → slice_get ms w ≡ Some m → IsFalse s.spent → SeatStands sh identities values (object_count ms) w s m

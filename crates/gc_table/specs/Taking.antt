@@ -17,7 +17,7 @@ use Rattle.gc_table.specs.declared.view.View.{View}
 use Rattle.gc_table.specs.Notes.{look, noting}
 use Rattle.gc_table.specs.Sections.{section_after, AskedOf}
 use Rattle.gc_table.specs.Reads.{Reads}
-use Rattle.gc_table.specs.Whole.{Whole}
+use Rattle.gc_table.specs.TableState.{TableState}
 use Rattle.gc_table.specs.Rule.{IsState, Agrees}
 
 -- a move of the phase takes place, where this phase is found
@@ -51,7 +51,7 @@ after step n v =
 
 -- the condition of the step holds in every state that meets the rule and agrees with the view
 abbrev pub May : Step → View → Type 0
-May step v = (x : Whole) (i : ℕ) → IsState x → Agrees x i v → AllTrue (parts x.core.shape (words_of x.core.shape x.core.words) x.core.seats v.state step)
+May step v = (x : TableState) (i : ℕ) → IsState x → Agrees x i v → AllTrue (parts x.core.shape (words_of x.core.shape x.core.words) x.core.seats v.state step)
 
 -- what is asked besides of a mutator's stores, of the next season and of a full heap
 abbrev pub Asked : Step → View → Type 0
@@ -65,7 +65,7 @@ IsOwn step = NumbersFit step
 
 -- what the step found is the word of a state that meets the rule and agrees with what the seat knew; and what a mutator reads is the plain heap's
 pub record Finds (step : Step) (n : ℕ) (v : View) : Type 0 where
-  pub state : Whole
+  pub state : TableState
   pub index : ℕ
   pub whole : IsState state
   pub agrees : Agrees state index v

@@ -15,10 +15,10 @@ use Rattle.plain_heap.specs.declared.operation.Op.{Op}
 use Rattle.plain_heap.specs.PlainHeap.{Heap, empty_heap}
 use Rattle.plain_heap.specs.Paths.{IsReachable as IsReached}
 use Rattle.gc_table.specs.declared.view.Place.{Place}
-use Rattle.gc_table.specs.declared.view.Turn.{Turn}
+use Rattle.gc_table.specs.declared.view.PlainStep.{PlainStep}
 use Rattle.gc_table.specs.declared.view.SectionState.{SectionState}
 use Rattle.gc_table.specs.Sections.{planned, start_section}
-use Rattle.gc_table.specs.Whole.{Whole, section_at}
+use Rattle.gc_table.specs.TableState.{TableState, section_at}
 
 -- a fact of each section
 abbrev pub EachSection : List SectionState → (ℕ → SectionState → Type 0) → Type 0
@@ -49,22 +49,22 @@ pub record Seasons (sh : Shape) (plan : List (List Op)) (season : ℕ) (xs : Lis
   pub planned_there : season % 2 ≡ 1 → (section_at xs 0).meaning.heap ≡ planned sh plan season
 
 -- the heap after the turns before this season
-abbrev pub heap_before : ℕ → Heap → List Turn → Heap
+abbrev pub heap_before : ℕ → Heap → List PlainStep → Heap
 heap_before season heap [] = heap
 heap_before season heap (t ∷ ts) = heap_before season (if nat_lt t.season season then t.heap else heap) ts
 
 -- when sections stored and made objects
 pub record Turns (sh : Shape) (season : ℕ) (xs : List SectionState) : Type 0 where
   -- each plain step was in a turn of its section
-  pub turns_past : EachSection xs (λ w x. (n : ℕ) (t : Turn) → slice_get x.turns n ≡ Some t → (t.season ≤ season) × IsTrue (has_turn (Some w) (Some t.season)))
+  pub turns_past : EachSection xs (λ w x. (n : ℕ) (t : PlainStep) → slice_get x.history n ≡ Some t → (t.season ≤ season) × IsTrue (has_turn (Some w) (Some t.season)))
   pub places_past : EachSection xs (λ w x. (n : ℕ) (p : Place) → slice_get x.places n ≡ Some p → (p.season ≤ season) × IsTrue (has_turn (Some w) (Some p.season)))
   -- the last one left the plain heap as it is
-  pub last : EachSection xs (λ w x. x.meaning.heap ≡ heap_before (season + 1) (empty_heap sh.fields w) x.turns)
+  pub last : EachSection xs (λ w x. x.meaning.heap ≡ heap_before (season + 1) (empty_heap sh.fields w) x.history)
 
 -- the plain heap of each section, counted from w, after its turns before a season
 abbrev pub heaps_before : Shape → ℕ → ℕ → List SectionState → List Heap
 heaps_before sh season w [] = []
-heaps_before sh season w (x ∷ xs) = heap_before season (empty_heap sh.fields w) x.turns ∷ heaps_before sh season (w + 1) xs
+heaps_before sh season w (x ∷ xs) = heap_before season (empty_heap sh.fields w) x.history ∷ heaps_before sh season (w + 1) xs
 
 -- the plain heaps that reach objects of section w, just before its seat made an object in this place
 abbrev pub heaps_beside : Shape → List (List Op) → List SectionState → ℕ → Place → List Heap
@@ -103,5 +103,5 @@ pub record Tells (sh : Shape) (w : Words) (seats : List SeatState) (plan : List 
   pub settled : IsSettled sh w seats (section_at xs 0)
 
 -- the same of a state
-abbrev pub IsTold : Whole → Type 0
+abbrev pub IsTold : TableState → Type 0
 IsTold x = Tells x.core.shape (words_of x.core.shape x.core.words) x.core.seats x.plan x.sections

@@ -25,7 +25,7 @@
 //!
 //! # The rule
 //!
-//! Between any two steps, whatever threads do, the rule holds (`specs/Rule.antt`). It speaks of a state (`Whole`): the
+//! Between any two steps, whatever threads do, the rule holds (`specs/Rule.antt`). It speaks of a state (`TableState`): the
 //! words, the records of all seats, the plan, and what each section has come to.
 //!
 //! - The words and records are a state that meets the rule of the core, in which no block that was swept has a mark.
@@ -71,7 +71,7 @@
 //! in the end, which `words` copies out, are those of a state that meets the rule, in which each section is as its seat
 //! left it (`IsEnd` in `specs/Ends.antt`). `packets`, `tracing`, `mutator`, `world` and `sweep` have the steps.
 //! `stepping` and `operations` have what they rest on, two functions for each operation of the table, and `rule` what
-//! the table is told. In `proofs/`, `WholeKept` shows once for all kinds of step that the rule is kept, each part of it
+//! the table is told. In `proofs/`, `StateKept` shows once for all kinds of step that the rule is kept, each part of it
 //! in files of its own.
 #![tactic(auto)]
 

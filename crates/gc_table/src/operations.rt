@@ -6,14 +6,14 @@ ghost use Rattle.mark_core.specs.Layout.{address as address_of};
 ghost use Rattle.gc_table.specs.Rule.{IsPossible};
 ghost use Rattle.gc_table.specs.Taking.{after, Asked, May, IsOwn, Finds, IsBlind};
 
-use crate::rule::{Stored, Telling, Told};
+use crate::rule::{AtFound, AtStored, PicksStep};
 use crate::seat::Heap;
 use crate::view::View;
 use atomic_table::Seat;
 use mark_core::Step;
 
 impl Heap {
-    pub(crate) fn load_told<T: Telling>(
+    pub(crate) fn load_told<T: PicksStep>(
         &self,
         token: &mut Seat<(), View>,
         word: usize,
@@ -32,10 +32,10 @@ impl Heap {
         ensures possible { IsPossible token.new.me.0 }
         ensures finds { Finds T.step result token.old.me.0 }
     {
-        self.table.shared.load::<Told<T>>(token, word)
+        self.table.shared.load::<AtFound<T>>(token, word)
     }
 
-    pub(crate) fn swap_told<T: Telling>(
+    pub(crate) fn swap_told<T: PicksStep>(
         &self,
         token: &mut Seat<(), View>,
         word: usize,
@@ -55,10 +55,10 @@ impl Heap {
         ensures possible { IsPossible token.new.me.0 }
         ensures finds { Finds T.step result token.old.me.0 }
     {
-        self.table.shared.swap::<Told<T>>(token, word, new)
+        self.table.shared.swap::<AtFound<T>>(token, word, new)
     }
 
-    pub(crate) fn fetch_add_told<T: Telling>(
+    pub(crate) fn fetch_add_told<T: PicksStep>(
         &self,
         token: &mut Seat<(), View>,
         word: usize,
@@ -78,10 +78,10 @@ impl Heap {
         ensures possible { IsPossible token.new.me.0 }
         ensures finds { Finds T.step result token.old.me.0 }
     {
-        self.table.shared.fetch_add::<Told<T>>(token, word, by)
+        self.table.shared.fetch_add::<AtFound<T>>(token, word, by)
     }
 
-    pub(crate) fn fetch_sub_told<T: Telling>(
+    pub(crate) fn fetch_sub_told<T: PicksStep>(
         &self,
         token: &mut Seat<(), View>,
         word: usize,
@@ -101,10 +101,10 @@ impl Heap {
         ensures possible { IsPossible token.new.me.0 }
         ensures finds { Finds T.step result token.old.me.0 }
     {
-        self.table.shared.fetch_sub::<Told<T>>(token, word, by)
+        self.table.shared.fetch_sub::<AtFound<T>>(token, word, by)
     }
 
-    pub(crate) fn fetch_and_told<T: Telling>(
+    pub(crate) fn fetch_and_told<T: PicksStep>(
         &self,
         token: &mut Seat<(), View>,
         word: usize,
@@ -124,10 +124,10 @@ impl Heap {
         ensures possible { IsPossible token.new.me.0 }
         ensures finds { Finds T.step result token.old.me.0 }
     {
-        self.table.shared.fetch_and::<Told<T>>(token, word, by)
+        self.table.shared.fetch_and::<AtFound<T>>(token, word, by)
     }
 
-    pub(crate) fn fetch_or_told<T: Telling>(
+    pub(crate) fn fetch_or_told<T: PicksStep>(
         &self,
         token: &mut Seat<(), View>,
         word: usize,
@@ -147,10 +147,10 @@ impl Heap {
         ensures possible { IsPossible token.new.me.0 }
         ensures finds { Finds T.step result token.old.me.0 }
     {
-        self.table.shared.fetch_or::<Told<T>>(token, word, by)
+        self.table.shared.fetch_or::<AtFound<T>>(token, word, by)
     }
 
-    pub(crate) fn compare_exchange_told<T: Telling>(
+    pub(crate) fn compare_exchange_told<T: PicksStep>(
         &self,
         token: &mut Seat<(), View>,
         word: usize,
@@ -173,10 +173,10 @@ impl Heap {
     {
         self.table
             .shared
-            .compare_exchange::<Told<T>>(token, word, old, new)
+            .compare_exchange::<AtFound<T>>(token, word, old, new)
     }
 
-    pub(crate) fn store_told<T: Telling>(
+    pub(crate) fn store_told<T: PicksStep>(
         &self,
         token: &mut Seat<(), View>,
         word: usize,
@@ -196,6 +196,6 @@ impl Heap {
         ensures view { token.new.me ≡ (after T.step new token.old.me.0, []) }
         ensures possible { IsPossible token.new.me.0 }
     {
-        self.table.shared.store::<Stored<T>>(token, word, new)
+        self.table.shared.store::<AtStored<T>>(token, word, new)
     }
 }

@@ -17,7 +17,7 @@ impl Model for PlanTag {
 }
 
 /// How a tag is read off a value.
-pub trait Reads<X> {
+pub trait ReadsPlan<X> {
     ghost use Rattle.std.specs.Prelude.{List};
     ghost use Rattle.plain_heap.specs.declared.operation.Op.{Op};
 
@@ -25,7 +25,7 @@ pub trait Reads<X> {
 }
 
 impl PlanTag {
-    pub fn of<X, M: Reads<X>>(x: &X) -> PlanTag
+    pub fn of<X, M: ReadsPlan<X>>(x: &X) -> PlanTag
         ensures { result.parts ≡ M.parts x.now }
     {
         let _ = x;
@@ -39,7 +39,7 @@ struct Own<P> {
     of: PhantomData<P>,
 }
 
-impl<P: Plan> Reads<P> for Own<P> {
+impl<P: Plan> ReadsPlan<P> for Own<P> {
     ghost parts = { λ p. P.plan p };
 }
 

@@ -26,32 +26,32 @@ impl TableRule<(), View, Key> for Rule {
 }
 
 /// The step that is taken. Each call picks it.
-pub trait Telling {
+pub trait PicksStep {
     ghost use Rattle.mark_core.specs.declared.kinds.Step.{Step};
 
     ghost step: { Step };
 }
 
-impl Telling for Brand {
+impl PicksStep for Brand {
     ghost use Rattle.mark_core.specs.declared.kinds.Step.TheVariants.{ReadCount};
 
     ghost step = { ReadCount };
 }
 
 /// A word that was read, or read and written: the seat is as after the step, and the word is as it was noted.
-pub struct Told<T> {
+pub struct AtFound<T> {
     of: PhantomData<T>,
 }
 
-impl<T: Telling> Play<(), View> for Told<T> {
+impl<T: PicksStep> Play<(), View> for AtFound<T> {
     ghost then = { λ st m found n. (n ≡ (after T.step found m.0, [])) × IsPossible n.0 × Finds T.step found m.0 };
 }
 
 /// A word that was written and not read.
-pub struct Stored<T> {
+pub struct AtStored<T> {
     of: PhantomData<T>,
 }
 
-impl<T: Telling> Play<(), View> for Stored<T> {
+impl<T: PicksStep> Play<(), View> for AtStored<T> {
     ghost then = { λ st m new n. (n ≡ (after T.step new m.0, [])) × IsPossible n.0 };
 }

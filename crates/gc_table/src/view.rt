@@ -36,7 +36,7 @@ pub struct Place {
 }
 
 /// A plain step of a section.
-pub struct Turn {
+pub struct PlainStep {
     /// The season word that the seat had read.
     pub season: u64,
     /// The section's plain heap afterwards.
@@ -50,7 +50,7 @@ pub struct SectionState {
     /// Where its objects were made, in the order of their numbers.
     pub places: LinkedList<Place>,
     /// All its plain steps, in order.
-    pub turns: LinkedList<Turn>,
+    pub history: LinkedList<PlainStep>,
     /// How many commands were done, as stored last.
     pub position: u64,
     /// How many times the seat moved the season on.

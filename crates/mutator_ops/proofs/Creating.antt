@@ -99,8 +99,8 @@ module _ (u n c r : ℕ) (id : Identity) (v x : View) (ready : IsReady v) (ran :
             ∙ ap (λ (y : View). record (with_cell v.state c) { env = y.state.env }) (sym e);
         own =
             own
-            ∙ ap (λ (y : SectionState). record y { meaning = (section_after x.shape x.plan x.state (StoreRoot u r) x.own).meaning; turns = (section_after x.shape x.plan x.state (StoreRoot u r) x.own).turns; settled = false }) k.own
-            ∙ ap (λ (y : SectionState). record (with_place v.state c n v.own) { meaning = y.meaning; turns = y.turns; settled = false }) (sym own);
+            ∙ ap (λ (y : SectionState). record y { meaning = (section_after x.shape x.plan x.state (StoreRoot u r) x.own).meaning; history = (section_after x.shape x.plan x.state (StoreRoot u r) x.own).history; settled = false }) k.own
+            ∙ ap (λ (y : SectionState). record (with_place v.state c n v.own) { meaning = y.meaning; history = y.history; settled = false }) (sym own);
       }
 
   -- and the seat is ready again

@@ -51,7 +51,7 @@ reads-none p v = record { ran = ran-refl v; only = only-none p v; spares = only-
 
 -- the one section, with what commands change of the other
 abbrev beside : SectionState → SectionState → SectionState
-beside x y = record x { meaning = y.meaning; turns = y.turns; settled = y.settled }
+beside x y = record x { meaning = y.meaning; history = y.history; settled = y.settled }
 
 -- the whole command, where `same` is what the store is called
 pub root-does :

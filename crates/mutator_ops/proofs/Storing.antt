@@ -94,12 +94,12 @@ looks-does op dropped v w more k heap =
       heap = heap;
       undropped = ap (λ (y : SectionState). y.meaning.heap.dropped) k.own;
       state = k.state ∙ ap (λ (s : SeatState). record v.state { env = s.env }) (sym k.state);
-      own = k.own ∙ ap (λ (y : SectionState). record v.own { meaning = y.meaning; turns = y.turns; settled = y.settled }) (sym k.own);
+      own = k.own ∙ ap (λ (y : SectionState). record v.own { meaning = y.meaning; history = y.history; settled = y.settled }) (sym k.own);
     }
 
 -- and stored
 pub stores-does : (op : Op) (v x w : View) → ((step : Step) → reads_ident step ≡ true → belongs op step ≡ true) → Looks v x → Ran x w → Only (belongs op) x w → w.state ≡ x.state
-    → w.own ≡ record x.own { meaning = w.own.meaning; turns = w.own.turns; settled = w.own.settled } → IsOneStep x w → IsStepped op 0 v w → w.own.meaning.heap.dropped ≡ x.own.meaning.heap.dropped → Does op 0 v w
+    → w.own ≡ record x.own { meaning = w.own.meaning; history = w.own.history; settled = w.own.settled } → IsOneStep x w → IsStepped op 0 v w → w.own.meaning.heap.dropped ≡ x.own.meaning.heap.dropped → Does op 0 v w
 stores-does op v x w more k ran only state own once heap undropped =
     let same : w.state ≡ v.state = state ∙ k.state in
     record {
@@ -109,7 +109,7 @@ stores-does op v x w more k ran only state own once heap undropped =
       heap = heap;
       undropped = undropped ∙ ap (λ (y : SectionState). y.meaning.heap.dropped) k.own;
       state = same ∙ ap (λ (s : SeatState). record v.state { env = s.env }) (sym same);
-      own = own ∙ ap (λ (y : SectionState). record y { meaning = w.own.meaning; turns = w.own.turns; settled = w.own.settled }) k.own;
+      own = own ∙ ap (λ (y : SectionState). record y { meaning = w.own.meaning; history = w.own.history; settled = w.own.settled }) k.own;
     }
 
 -- reading an identity belongs to both

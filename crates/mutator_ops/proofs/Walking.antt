@@ -131,5 +131,5 @@ read-does op v x k got same =
       heap = λ d. (let none : d + 0 ≡ d = omega arith in λ j. with_dropped (none j) (k.own j).meaning.heap) ∙ sym (same d);
       undropped = ap (λ (y : SectionState). y.meaning.heap.dropped) k.own;
       state = state ∙ ap (λ (s : SeatState). record v.state { env = s.env }) (sym state);
-      own = k.own ∙ ap (λ (y : SectionState). record v.own { meaning = y.meaning; turns = y.turns; settled = y.settled }) (sym k.own);
+      own = k.own ∙ ap (λ (y : SectionState). record v.own { meaning = y.meaning; history = y.history; settled = y.settled }) (sym k.own);
     }

@@ -16,4 +16,4 @@ pub record Creates (u n cell : ℕ) (v w : View) : Type 0 where
   pub heap : IsStepped (ops.New u n) 0 v w
   pub undropped : w.own.meaning.heap.dropped ≡ v.own.meaning.heap.dropped
   pub state : w.state ≡ record (with_cell v.state cell) { env = w.state.env }
-  pub own : w.own ≡ record v.own { meaning = w.own.meaning; turns = w.own.turns; places = v.own.places ++ record { cell = cell; season = season_of v.state; heap = v.own.meaning.heap } ∷ []; settled = false }
+  pub own : w.own ≡ record v.own { meaning = w.own.meaning; history = w.own.history; places = v.own.places ++ record { cell = cell; season = season_of v.state; heap = v.own.meaning.heap } ∷ []; settled = false }

@@ -84,7 +84,7 @@ pub record Does (op : Op) (dropped : ℕ) (v w : View) : Type 0 where
   -- the count in the view isn't the count of dropped stores: no command changes it
   pub undropped : w.own.meaning.heap.dropped ≡ v.own.meaning.heap.dropped
   pub state : w.state ≡ record v.state { env = w.state.env }
-  pub own : w.own ≡ record v.own { meaning = w.own.meaning; turns = w.own.turns; settled = w.own.settled }
+  pub own : w.own ≡ record v.own { meaning = w.own.meaning; history = w.own.history; settled = w.own.settled }
 
 -- the seat has read by steps of this sort, and nothing but its register is another
 pub record HasRead (p : Step → Bool) (v w : View) : Type 0 where

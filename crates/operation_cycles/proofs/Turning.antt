@@ -20,7 +20,7 @@ use Rattle.gc_table.specs.Notes.{look}
 use Rattle.gc_table.specs.Rule.{Agrees, IsState}
 use Rattle.gc_table.specs.Taking.{May}
 use Rattle.gc_table.specs.Seats.{Found}
-use Rattle.gc_table.specs.Whole.{Whole, no_section}
+use Rattle.gc_table.specs.TableState.{TableState, no_section}
 use Rattle.gc_table.specs.declared.view.SectionState.{SectionState}
 use Rattle.gc_table.specs.declared.view.View.{View}
 use Rattle.gc_table.proofs.Noticing.{alone-step}

@@ -8,7 +8,7 @@ use Rattle.mark_core.specs.declared.seat.SeatState.{SeatState}
 use Rattle.gc_table.specs.declared.view.View.{View}
 use Rattle.gc_table.specs.Fetching.{is_in_range}
 use Rattle.packet_pools.specs.declared.held.Held.{Held}
-use Rattle.packet_pools.specs.Later.{Later}
+use Rattle.packet_pools.specs.OnlyTraced.{OnlyTraced}
 use Rattle.packet_pools.specs.Tracing.{traces, Traces}
 use Rattle.packet_pools.specs.Gains.{Gains, Seeks}
 use Rattle.packet_pools.proofs.Conditions.{traces-later}
@@ -23,7 +23,7 @@ if-none None P Q f k = f k
 if-none (Some h) P Q f k = k
 
 -- the seat that looks in pool q is one that traces
-pub seeks-from : (q : ℕ) (v w : View) → q < 4 → eqb q 0 ≡ false → Later v w → w.state ≡ v.state → Traces v → has_free_slot v.state.held ≡ true → Seeks q w
+pub seeks-from : (q : ℕ) (v w : View) → q < 4 → eqb q 0 ≡ false → OnlyTraced v w → w.state ≡ v.state → Traces v → has_free_slot v.state.held ≡ true → Seeks q w
 seeks-from q v w b nz l e t free =
     record {
       may = traces-later v w l t.may;
@@ -33,14 +33,14 @@ seeks-from q v w b nz l e t free =
       free = ap (λ (s : SeatState). has_free_slot s.held) e ∙ free;
     }
 
-pub traces-same : (v w : View) → Later v w → w.state ≡ v.state → Traces v → Traces w
+pub traces-same : (v w : View) → OnlyTraced v w → w.state ≡ v.state → Traces v → Traces w
 traces-same v w l e t = traces-on v w l t (ap (λ (s : SeatState). s.reserved) e) (ap (λ (s : SeatState). s.credit) e)
 
-pub traces-gained : (q : ℕ) (room : Bool) (h : Held) (v w : View) → Later v w → Gains q room h v w → traces v ≡ true → v.state.credit ≡ false → Traces w
+pub traces-gained : (q : ℕ) (room : Bool) (h : Held) (v w : View) → OnlyTraced v w → Gains q room h v w → traces v ≡ true → v.state.credit ≡ false → Traces w
 traces-gained q room h v w l g t c = record { may = traces-later v w l t; unreserved = ap (λ (s : SeatState). s.reserved) g.state; uncredited = ap (λ (s : SeatState). s.credit) g.state ∙ c }
 
 -- the seat traces on, whatever was answered
-pub traces-either : (q : ℕ) (room : Bool) (X : Type 0) (o : Option Held) (v w : View) → Later v w → Traces v → IfSome o (λ h. Gains q room h v w) → IfNone o ((w.state ≡ v.state) × X) → Traces w
+pub traces-either : (q : ℕ) (room : Bool) (X : Type 0) (o : Option Held) (v w : View) → OnlyTraced v w → Traces v → IfSome o (λ h. Gains q room h v w) → IfNone o ((w.state ≡ v.state) × X) → Traces w
 traces-either q room X None v w l t some none = traces-same v w l none.0 t
 traces-either q room X (Some h) v w l t some none = traces-gained q room h v w l some t.may t.uncredited
 

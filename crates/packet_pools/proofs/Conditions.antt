@@ -3,7 +3,7 @@ use Rattle.std.proofs.Common.{ℕ, ◌≡◌, ◌<◌, arith, refl, sym, ap, ◌
 use Rattle.std.specs.Prelude.{IfSome, nat_lt, ◌==◌}
 use Rattle.std.proofs.lemmas.Bool.{true≢false, and_parts, and_from, or_cases, lt-ltb, not_from_false}
 use Rattle.mark_core.specs.Layout.{words_of, pool_words}
-use Rattle.gc_table.specs.Whole.{Whole}
+use Rattle.gc_table.specs.TableState.{TableState}
 use Rattle.mark_core.specs.Places.{the_phase}
 use Rattle.mark_core.specs.Held.{holds, has_length, length_in_hand, has_entry, is_stored, has_free_slot, holds_another}
 use Rattle.mark_core.specs.Seats.{may_trace, saw, is_the, is_phase, work_in_hand, is_unpublished}
@@ -19,7 +19,7 @@ use Rattle.gc_table.specs.declared.view.View.{View}
 use Rattle.gc_table.specs.Notes.{look}
 use Rattle.gc_table.specs.Rule.{Agrees}
 use Rattle.gc_table.specs.Taking.{May}
-use Rattle.packet_pools.specs.Later.{LaterBy}
+use Rattle.packet_pools.specs.OnlyTraced.{OnlyTracedBy}
 use Rattle.packet_pools.specs.Tracing.{notes_drain, traces, Traces}
 
 some-is : (o : Option ℕ) (n : ℕ) → is_the o n ≡ true → o ≡ Some n
@@ -32,14 +32,14 @@ or-mono false true c d h e = rw (h refl) refl
 or-mono false false true d h e = refl
 or-mono false false false d h e = e
 
-drains : (c : Whole) (i : ℕ) (v : View) → Agrees c i v → (v.state.knows && notes_drain v) ≡ true → (v.state.knows && is_phase (words_of c.core.shape c.core.words).phase Drain) ≡ true
+drains : (c : TableState) (i : ℕ) (v : View) → Agrees c i v → (v.state.knows && notes_drain v) ≡ true → (v.state.knows && is_phase (words_of c.core.shape c.core.words).phase Drain) ≡ true
 drains c i v a e =
     let both = and_parts v.state.knows (notes_drain v) e in
     let word = (a.noted the_phase 2 (some-is (look the_phase v.known) 2 both.1)).1 in
     and_from v.state.knows (is_phase (words_of c.core.shape c.core.words).phase Drain) both.0 (eq-eqb (words_of c.core.shape c.core.words).phase 2 (sym (single-word c.core.shape c.core.words 1 (omega arith)) ∙ word))
 
 -- the seat may trace in each state that agrees with its view
-pub may-trace : (c : Whole) (i : ℕ) (v : View) → Agrees c i v → traces v ≡ true → may_trace (words_of c.core.shape c.core.words).phase v.state ≡ true
+pub may-trace : (c : TableState) (i : ℕ) (v : View) → Agrees c i v → traces v ≡ true → may_trace (words_of c.core.shape c.core.words).phase v.state ≡ true
 may-trace c i v a e = or-mono _ _ _ _ (drains c i v a) e
 
 drain-steady : (s : SeatState) → s.knows ≡ true → steady s the_phase 2 ≡ true
@@ -49,14 +49,14 @@ drain-steady s k = rw k (by_alone s.alone)
     by_alone true = refl
     by_alone false = refl
 
-drain-later : {b : Bool} (v w : View) → LaterBy b v w → (v.state.knows && notes_drain v) ≡ true → (w.state.knows && notes_drain w) ≡ true
+drain-later : {b : Bool} (v w : View) → OnlyTracedBy b v w → (v.state.knows && notes_drain v) ≡ true → (w.state.knows && notes_drain w) ≡ true
 drain-later v w k e =
     let both = and_parts v.state.knows (notes_drain v) e in
     let noted = k.notes the_phase 2 refl (drain-steady v.state both.0) (some-is (look the_phase v.known) 2 both.1) in
     and_from w.state.knows (notes_drain w) (ap (λ (s : SeatState). s.knows) k.rest ∙ both.0) (ap (λ o. is_the o 2) noted)
 
 -- a seat that may trace still may after a call
-pub traces-later : {b : Bool} (v w : View) → LaterBy b v w → traces v ≡ true → traces w ≡ true
+pub traces-later : {b : Bool} (v w : View) → OnlyTracedBy b v w → traces v ≡ true → traces w ≡ true
 traces-later v w k e =
     ap (λ (s : SeatState). (s.active && saw s.phase_seen Marking) || (w.state.knows && notes_drain w) || (s.admitted && saw s.phase_seen Drain)) k.rest
     ∙ or-mono _ _ _ _ (drain-later v w k) e
@@ -81,7 +81,7 @@ module _ (v : View) where
   pub may-read_count : May ReadCount v
   may-read_count c i w a = tt
 
-  within : (c : Whole) (i p : ℕ) → Agrees c i v → p < v.shape.packets → holds v.state.held p ≡ true → (nat_lt p c.core.shape.packets && holds v.state.held p) ≡ true
+  within : (c : TableState) (i p : ℕ) → Agrees c i v → p < v.shape.packets → holds v.state.held p ≡ true → (nat_lt p c.core.shape.packets && holds v.state.held p) ≡ true
   within c i p a there h = and_from _ _ (lt-ltb p c.core.shape.packets (subst (λ (sh : Shape). p < sh.packets) a.shape there)) h
 
   pub may-read_length : (p : ℕ) → p < v.shape.packets → holds v.state.held p ≡ true → has_length v.state.held p ≡ false → May (ReadLength p) v

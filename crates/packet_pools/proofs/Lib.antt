@@ -1,5 +1,5 @@
 pub mod Keeping
-pub mod LaterSteps
+pub mod TracedSteps
 pub mod Conditions
 pub mod Searches
 pub mod InHand

@@ -12,8 +12,8 @@ use Rattle.gc_table.specs.Log.{Only}
 use Rattle.gc_table.specs.Running.{IsSeen, Ran, ends_alone}
 use Rattle.gc_table.proofs.Noticing.{is_load, known-step, alone-stays, alone-steady}
 use Rattle.gc_table.proofs.Running.{run-keeps}
-use Rattle.packet_pools.specs.Later.{IsNotedMarked, traces_cells}
-use Rattle.packet_pools.proofs.LaterSteps.{mark-keeps}
+use Rattle.packet_pools.specs.OnlyTraced.{IsNotedMarked, traces_cells}
+use Rattle.packet_pools.proofs.TracedSteps.{mark-keeps}
 
 -- tracing doesn't end that the seat is alone
 pub tracing-alone : (step : Step) → traces_cells step ≡ true → ends_alone step ≡ false

@@ -8,7 +8,7 @@ use Rattle.mark_core.specs.declared.seat.SeatState.{SeatState}
 use Rattle.gc_table.specs.declared.view.Entry.{Entry}
 use Rattle.gc_table.specs.declared.view.View.{View}
 use Rattle.packet_pools.specs.declared.held.Held.{Held}
-use Rattle.packet_pools.specs.Later.{Later}
+use Rattle.packet_pools.specs.OnlyTraced.{OnlyTraced}
 use Rattle.gc_table.specs.Log.{events}
 use Rattle.packet_pools.specs.Hands.{with_packet}
 use Rattle.packet_pools.specs.Seeking.{gets, gets_from, loses, shows_outside, seen_outside, was_lost, was_full, was_got, AllMissed, only_moves}
@@ -57,7 +57,7 @@ takes-first q qs room h v w r g =
     }
 
 -- a packet of a later pool, where the first had none
-pub takes-next : (q : ℕ) (qs : List ℕ) (h : Held) (v u w : View) → Later v u → Later u w → u.state ≡ v.state → ((p : ℕ) → was_got p (events v u) ≡ false) → AllMissed v.shape q (events v u) → only_moves (q ∷ []) (events v u) ≡ true → Takes qs h u w → Takes (q ∷ qs) h v w
+pub takes-next : (q : ℕ) (qs : List ℕ) (h : Held) (v u w : View) → OnlyTraced v u → OnlyTraced u w → u.state ≡ v.state → ((p : ℕ) → was_got p (events v u) ≡ false) → AllMissed v.shape q (events v u) → only_moves (q ∷ []) (events v u) ≡ true → Takes qs h u w → Takes (q ∷ qs) h v w
 takes-next q qs h v u w a b e n m before t =
     let es = events-join v u w a.log b.log in
     record {

@@ -15,11 +15,11 @@ use Rattle.mark_core.specs.declared.seat.SeatState.{SeatState}
 use Rattle.gc_table.specs.declared.view.View.{View}
 use Rattle.gc_table.specs.Taking.{May, Finds, after}
 use Rattle.packet_pools.specs.Keeping.{answers_for}
-use Rattle.packet_pools.specs.Later.{Later, LaterCleaned}
+use Rattle.packet_pools.specs.OnlyTraced.{OnlyTraced, OnlyCleaned}
 use Rattle.packet_pools.specs.Tracing.{traces, notes_drain}
 use Rattle.packet_pools.specs.Scanning.{InHand}
 use Rattle.packet_pools.proofs.Conditions.{may-trace}
-use Rattle.packet_pools.proofs.LaterSteps.{cleaned-step, cleaned-to, later-step, later-read, later-to, seen-found, seen-stored}
+use Rattle.packet_pools.proofs.TracedSteps.{cleaned-step, cleaned-to, later-step, later-read, later-to, seen-found, seen-stored}
 
 -- a seat that traces takes part
 pub traces-part : (v : View) → traces v ≡ true → takes_part v.state ≡ true
@@ -77,20 +77,20 @@ module _ (v : View) where
       (and_from _ _ (lt-ltb (x / 16) (card_count c.core.shape) (omega (arith, below, whole))) (traces-part v t), tt)
 
 module _ (v w : View) (n : ℕ) where
-  pub later-read_field : (x i : ℕ) → Finds (ReadField x i) n v → w ≡ after (ReadField x i) n v → Later v w
+  pub later-read_field : (x i : ℕ) → Finds (ReadField x i) n v → w ≡ after (ReadField x i) n v → OnlyTraced v w
   later-read_field x i f e = later-to v w (ReadField x i) n e (later-read v (ReadField x i) n refl refl f refl refl refl refl refl)
 
-  pub later-set_mark : (x : ℕ) → Finds (SetMark x) n v → v.state.fresh ≡ None → w ≡ after (SetMark x) n v → Later v w
+  pub later-set_mark : (x : ℕ) → Finds (SetMark x) n v → v.state.fresh ≡ None → w ≡ after (SetMark x) n v → OnlyTraced v w
   later-set_mark x f none e = later-to v w (SetMark x) n e (later-step v (SetMark x) n refl refl refl (seen-found v (SetMark x) n refl f) refl (ap (λ (o : Option ℕ). not (is_some o)) none))
 
-  pub later-dirty_card : (card : ℕ) → n ≡ 1 → answers_for v.state card ≡ true → w ≡ after (DirtyCard card) n v → Later v w
+  pub later-dirty_card : (card : ℕ) → n ≡ 1 → answers_for v.state card ≡ true → w ≡ after (DirtyCard card) n v → OnlyTraced v w
   later-dirty_card card f answers e = later-to v w (DirtyCard card) n e (later-step v (DirtyCard card) n refl refl refl (seen-stored v (DirtyCard card) n refl f) refl answers)
 
   -- a card is dirtied with no cell in hand
-  pub cleaned-dirty_card : (card : ℕ) → n ≡ 1 → w ≡ after (DirtyCard card) n v → LaterCleaned v w
+  pub cleaned-dirty_card : (card : ℕ) → n ≡ 1 → w ≡ after (DirtyCard card) n v → OnlyCleaned v w
   cleaned-dirty_card card f e = cleaned-to v w (DirtyCard card) n e (cleaned-step v (DirtyCard card) n refl refl refl (seen-stored v (DirtyCard card) n refl f) refl)
 
-  pub later-read_root : (section u : ℕ) → Finds (ReadRoot section u) n v → w ≡ after (ReadRoot section u) n v → Later v w
+  pub later-read_root : (section u : ℕ) → Finds (ReadRoot section u) n v → w ≡ after (ReadRoot section u) n v → OnlyTraced v w
   later-read_root section u f e = later-to v w (ReadRoot section u) n e (later-read v (ReadRoot section u) n refl refl f refl refl refl refl refl)
 
 -- the card of a fresh cell

@@ -12,14 +12,14 @@ use Rattle.mark_core.proofs.PoolSlots.{holds-put_same}
 use Rattle.gc_table.specs.declared.view.View.{View}
 use Rattle.gc_table.specs.Fetching.{is_in_range}
 use Rattle.gc_table.specs.Taking.{after, Finds}
-use Rattle.packet_pools.specs.Later.{Later}
+use Rattle.packet_pools.specs.OnlyTraced.{OnlyTraced}
 use Rattle.gc_table.specs.Log.{events, steps_of, Grows}
 use Rattle.packet_pools.specs.Tracing.{Traces}
 use Rattle.packet_pools.specs.Hands.{IsHeld, with_packet}
 use Rattle.packet_pools.specs.Seeking.{gets, gets_from, some_event, was_full, was_got, only_moves}
 use Rattle.packet_pools.specs.Gains.{Seeks, Gains, Misses, missed}
 use Rattle.gc_table.proofs.Log.{entry_of, events-after, events-join, grows-after, grows-join}
-use Rattle.packet_pools.proofs.LaterSteps.{later-join}
+use Rattle.packet_pools.proofs.TracedSteps.{later-join}
 use Rattle.packet_pools.proofs.Conditions.{traces-later}
 use Rattle.packet_pools.proofs.InHand.{known-with, unread-put, drop-with}
 use Rattle.packet_pools.proofs.Doing.{later-take, later-read_length}
@@ -60,7 +60,7 @@ module _ (v w : View) (q p n : ℕ) (k : Seeks q v) (there : p < v.shape.packets
         ap (λ (z : View). z.state) read
         ∙ (ap (λ (s : SeatState). record s { held = set_length s.held p (reference_in m) true }) w-state ∙ ap (λ l. record v.state { held = with_packet v.state.held p l; reserved = false }) (sym is))
 
-    pub later : Finds (Take q p) n v → Later v x
+    pub later : Finds (Take q p) n v → OnlyTraced v x
     later found = later-join v w x (later-take v w n q p found taken) (later-read_length w x m p f read)
 
     took : Grows v w
@@ -104,7 +104,7 @@ module _ (v w : View) (q p n : ℕ) (k : Seeks q v) (there : p < v.shape.packets
         ap (λ (s : SeatState). holds_another s.held p) x-state
         ∙ (ap holds_any (drop-with v.state.held p len unheld) ∙ h ((λ i. work_in_hand (sym x-shape i).fields (record v.state { held = v.state.held })) ∙ (ap (λ (s : SeatState). work_in_hand x.shape.fields s) (sym x-state) ∙ e)))
 
-    module _ (y : View) (high : q ≡ 2) (gave : y.state ≡ record x.state { held = drop_packet x.state.held p }) (after_it : Later x y) (d : Bool) (steps : steps_of (events x y) ≡ StoreLength p ∷ Give p false ∷ (cond d (Credit ∷ []) [])) (full : len ≡ v.shape.entries) where
+    module _ (y : View) (high : q ≡ 2) (gave : y.state ≡ record x.state { held = drop_packet x.state.held p }) (after_it : OnlyTraced x y) (d : Bool) (steps : steps_of (events x y) ≡ StoreLength p ∷ Give p false ∷ (cond d (Credit ∷ []) [])) (full : len ≡ v.shape.entries) where
       -- it is back, and the record is as it was
       pub back-state : y.state ≡ v.state
       back-state =

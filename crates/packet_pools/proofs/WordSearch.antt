@@ -23,13 +23,13 @@ use Rattle.gc_table.specs.declared.view.View.{View}
 use Rattle.gc_table.specs.Fetching.{is_in_range}
 use Rattle.gc_table.specs.Taking.{after, Finds}
 use Rattle.packet_pools.specs.declared.held.Held.{Held}
-use Rattle.packet_pools.specs.Later.{Later}
+use Rattle.packet_pools.specs.OnlyTraced.{OnlyTraced}
 use Rattle.gc_table.specs.Log.{events}
 use Rattle.packet_pools.specs.Hands.{with_packet}
 use Rattle.packet_pools.specs.Seeking.{gets, gets_from, some_event, shows_outside, seen_outside, was_got, only_moves}
 use Rattle.packet_pools.specs.Gains.{Seeks, Gains, Misses, missed}
 use Rattle.gc_table.proofs.Log.{entry_of, events-after, events-join}
-use Rattle.packet_pools.proofs.LaterSteps.{later-join}
+use Rattle.packet_pools.proofs.TracedSteps.{later-join}
 use Rattle.packet_pools.proofs.Conditions.{traces-later}
 use Rattle.packet_pools.proofs.Doing.{later-look}
 use Rattle.packet_pools.proofs.Searches.{before-left, missed-left, missed-right, some-parts, some-right, ungot, moves-join}
@@ -65,7 +65,7 @@ shown-unheld v q g n p f b low here bit = false_from_ne_true (holds v.state.held
         h
 
 -- the search goes on
-pub seeks-on : (q : ℕ) (v w : View) → Later v w → w.state ≡ v.state → Seeks q v → Seeks q w
+pub seeks-on : (q : ℕ) (v w : View) → OnlyTraced v w → w.state ≡ v.state → Seeks q v → Seeks q w
 seeks-on q v w l e k =
     record {
       may = traces-later v w l k.may;
@@ -76,7 +76,7 @@ seeks-on q v w l e k =
     }
 
 -- what is taken later in a call
-pub gains-from : (q : ℕ) (room : Bool) (h : Held) (v w u : View) → Later v w → Later w u → w.state ≡ v.state → only_moves (q ∷ []) (events v w) ≡ true → Gains q room h w u → Gains q room h v u
+pub gains-from : (q : ℕ) (room : Bool) (h : Held) (v w u : View) → OnlyTraced v w → OnlyTraced w u → w.state ≡ v.state → only_moves (q ∷ []) (events v w) ≡ true → Gains q room h w u → Gains q room h v u
 gains-from q room h v w u a b e before g =
     record {
       unheld = ap (λ (s : SeatState). holds s.held h.packet) (sym e) ∙ g.unheld;
@@ -90,7 +90,7 @@ gains-from q room h v w u a b e before g =
 
 -- so far in word g of pool q
 pub record WordSeeks (sh : Shape) (q : ℕ) (room : Bool) (g word p : ℕ) (v w : View) : Type 0 where
-  pub later : Later v w
+  pub later : OnlyTraced v w
   pub state : w.state ≡ v.state
   pub misses : Misses sh q room (64 * g) p (events v w)
   pub shown : (x : ℕ) → x / 64 ≡ g → has_bit word (x % 64) ≡ false → seen_outside q x (events v w) ≡ true
@@ -140,7 +140,7 @@ word-begins sh q room g n z v w small is k =
 in-word : (g p : ℕ) → 64 * g ≤ p → p < 64 * g + 64 → p / 64 ≡ g
 in-word g p l h = omega (arith, l, h)
 
-pub word-next : (sh : Shape) (q : ℕ) (room : Bool) (g word p : ℕ) (v w u : View) → 64 * g ≤ p → p < 64 * g + 64 → WordSeeks sh q room g word p v w → Later w u → u.state ≡ w.state
+pub word-next : (sh : Shape) (q : ℕ) (room : Bool) (g word p : ℕ) (v w u : View) → 64 * g ≤ p → p < 64 * g + 64 → WordSeeks sh q room g word p v w → OnlyTraced w u → u.state ≡ w.state
     → ((x : ℕ) → IsTrue (was_got x (events w u)) → IsTrue room × (x < p + 1)) → (p < sh.packets → IsTrue (has_bit word (p % 64)) → IsTrue (missed sh.entries q room p (events w u))) → only_moves (q ∷ []) (events w u) ≡ true → WordSeeks sh q room g word (p + 1) v u
 word-next sh q room g word p v w u l h k later same got miss moving =
     let es = events-join v w u k.later.log later.log in

@@ -1,5 +1,5 @@
 pub mod Keeping
-pub mod Later
+pub mod OnlyTraced
 pub mod Tracing
 pub mod Hands
 pub mod Quiet

@@ -5,7 +5,7 @@ ghost use Rattle.mark_core.specs.Seats.{work_in_hand};
 ghost use Rattle.mark_core.specs.PacketSteps.{may_push};
 ghost use Rattle.mark_core.specs.declared.kinds.Step.TheVariants.{Pop, Push};
 ghost use Rattle.gc_table.specs.Seats.{Answered, Sits, Stored, view_of};
-ghost use Rattle.packet_pools.specs.Later.{Later};
+ghost use Rattle.packet_pools.specs.OnlyTraced.{OnlyTraced};
 ghost use Rattle.packet_pools.specs.Tracing.{Traces};
 ghost use Rattle.packet_pools.specs.Hands.{IsHeld};
 
@@ -20,7 +20,7 @@ pub fn push(heap: &Heap, seat: &mut HeapSeat, held: &mut Held, cell: Cell) -> Re
     requires held { IsHeld held.old (view_of seat.old) }
     requires cell { IsTrue (may_push (view_of seat.old).state cell) }
     ensures seat { Sits heap.now seat.new × Traces (view_of seat.new) }
-    ensures later { Later (view_of seat.old) (view_of seat.new) }
+    ensures later { OnlyTraced (view_of seat.old) (view_of seat.new) }
     ensures held { IsHeld held.new (view_of seat.new) }
     ensures pushed { OnOk result ((held.old.length < heap.now.shape.entries) × (held.new ≡ record held.old { length = held.old.length + 1 }) × Stored (Push held.old.packet cell) (view_of seat.old) (view_of seat.new)) }
     ensures full { OnErr result ((held.old.length ≡ heap.now.shape.entries) × (held.new ≡ held.old) × (view_of seat.new ≡ view_of seat.old)) }
@@ -40,7 +40,7 @@ pub fn pop(heap: &Heap, seat: &mut HeapSeat, held: &mut Held) -> Option<Cell>
     requires held { IsHeld held.old (view_of seat.old) }
     requires work { IsFalse (work_in_hand heap.now.shape.fields (view_of seat.old).state) }
     ensures seat { Sits heap.now seat.new × Traces (view_of seat.new) }
-    ensures later { Later (view_of seat.old) (view_of seat.new) }
+    ensures later { OnlyTraced (view_of seat.old) (view_of seat.new) }
     ensures held { IsHeld held.new (view_of seat.new) }
     ensures popped { IfSome result (λ cell. (0 < held.old.length) × (held.new ≡ record held.old { length = held.old.length - 1 }) × Answered (Pop held.old.packet) (λ n. cell ≡ cell_of n) (view_of seat.old) (view_of seat.new)) }
     ensures empty { IfNone result ((held.old.length ≡ 0) × (held.new ≡ held.old) × (view_of seat.new ≡ view_of seat.old)) }

@@ -4,7 +4,7 @@ ghost use Rattle.mark_core.specs.Held.{drop_packet, holds_another};
 ghost use Rattle.mark_core.specs.Seats.{work_in_hand};
 ghost use Rattle.mark_core.specs.declared.kinds.Step.TheVariants.{Credit, Give, StoreLength};
 ghost use Rattle.gc_table.specs.Seats.{Sits, view_of};
-ghost use Rattle.packet_pools.specs.Later.{Later};
+ghost use Rattle.packet_pools.specs.OnlyTraced.{OnlyTraced};
 ghost use Rattle.gc_table.specs.Log.{events, steps_of};
 ghost use Rattle.packet_pools.specs.Tracing.{Traces};
 ghost use Rattle.packet_pools.specs.Hands.{IsHeld};
@@ -20,7 +20,7 @@ pub fn give(heap: &Heap, seat: &mut HeapSeat, held: Held, deferred: bool)
     requires deferred { IsTrue deferred → 0 < held.length }
     requires work { IsTrue (work_in_hand heap.now.shape.fields (view_of seat.old).state) → IsTrue (holds_another (view_of seat.old).state.held held.packet) }
     ensures seat { Sits heap.now seat.new × Traces (view_of seat.new) }
-    ensures later { Later (view_of seat.old) (view_of seat.new) }
+    ensures later { OnlyTraced (view_of seat.old) (view_of seat.new) }
     ensures state { (view_of seat.new).state ≡ record (view_of seat.old).state { held = drop_packet (view_of seat.old).state.held held.packet } }
     ensures steps { steps_of (events (view_of seat.old) (view_of seat.new)) ≡ StoreLength held.packet ∷ Give held.packet deferred ∷ (if held.length == 0 then Credit ∷ [] else []) }
 {

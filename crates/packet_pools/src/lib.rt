@@ -33,7 +33,7 @@
 //!
 //! Each call says what became of the seat's record, and of its log: which steps it took, and what they found. An answer of
 //! None is a statement on the events of that one call (`specs/Seeking.antt`): each packet was seen outside the pools, or was
-//! lost to another seat's step, or (for [`take_output`]) was taken and found full. `Later` (`specs/Later.antt`) says that
+//! lost to another seat's step, or (for [`take_output`]) was taken and found full. `OnlyTraced` (`specs/OnlyTraced.antt`) says that
 //! the call is its steps and nothing else (`Ran`), that all of them are steps of tracing, and so what no call of this crate changes: all of the
 //! record that isn't about packets and cells in hand, and the notes and floors of all words but those that tracing writes.
 //! A scan says besides which fields it read, that each cell which they name was to be marked, how many of these were white, and how many of

@@ -2,7 +2,7 @@
 ghost use Rattle.std.specs.Prelude.{◌≡◌, ◌≤◌, ◌-◌, [], ◌∷◌, if◌then◌else◌, Some, None, IsTrue};
 ghost use Rattle.mark_core.specs.Held.{has_free_slot};
 ghost use Rattle.gc_table.specs.Seats.{Sits, view_of};
-ghost use Rattle.packet_pools.specs.Later.{Later, IsNotedMarked};
+ghost use Rattle.packet_pools.specs.OnlyTraced.{OnlyTraced, IsNotedMarked};
 ghost use Rattle.gc_table.specs.Log.{events};
 ghost use Rattle.packet_pools.specs.Tracing.{Traces};
 ghost use Rattle.packet_pools.specs.Hands.{IsHeld};
@@ -24,7 +24,7 @@ fn push_marked(heap: &Heap, seat: &mut HeapSeat, out: &mut Held, cell: Cell) -> 
     requires out { IsHeld out.old (view_of seat.old) × IsTrue (has_free_slot (view_of seat.old).state.held) }
     requires hand { InHand None (Some cell) (view_of seat.old).state }
     ensures seat { Sits heap.now seat.new × Traces (view_of seat.new) }
-    ensures later { Later (view_of seat.old) (view_of seat.new) }
+    ensures later { OnlyTraced (view_of seat.old) (view_of seat.new) }
     ensures pushes { Pushes out.old out.new (view_of seat.old).state.scan (view_of seat.old).state.cleaning (view_of seat.old) (view_of seat.new) }
     ensures counts { Counts heap.now.shape 0 (if result then 0 else 1) (if result then 1 else 0) (events (view_of seat.old) (view_of seat.new)) }
     ensures asks { Asks [] (events (view_of seat.old) (view_of seat.new)) }
@@ -47,7 +47,7 @@ pub fn mark_cell(heap: &Heap, seat: &mut HeapSeat, out: &mut Held, cell: Cell) -
     requires out { IsHeld out.old (view_of seat.old) × IsTrue (has_free_slot (view_of seat.old).state.held) }
     requires hand { InHand (Some cell) None (view_of seat.old).state }
     ensures seat { Sits heap.now seat.new × Traces (view_of seat.new) }
-    ensures later { Later (view_of seat.old) (view_of seat.new) }
+    ensures later { OnlyTraced (view_of seat.old) (view_of seat.new) }
     ensures pushes { Pushes out.old out.new (view_of seat.old).state.scan (view_of seat.old).state.cleaning (view_of seat.old) (view_of seat.new) }
     ensures most { (result.overflowed ≤ result.marked) × (result.marked ≤ 1) }
     ensures counts { Counts heap.now.shape result.marked (result.marked - result.overflowed) result.overflowed (events (view_of seat.old) (view_of seat.new)) }

@@ -4,7 +4,7 @@ ghost use Rattle.mark_core.specs.ColourSteps.{may_read_field, without_cell};
 ghost use Rattle.mark_core.specs.Held.{has_free_slot};
 ghost use Rattle.mark_core.specs.Seats.{cleaning_left, may_scan, scan_left, work_in_hand};
 ghost use Rattle.gc_table.specs.Seats.{Sits, view_of};
-ghost use Rattle.packet_pools.specs.Later.{Later};
+ghost use Rattle.packet_pools.specs.OnlyTraced.{OnlyTraced};
 ghost use Rattle.gc_table.specs.Log.{events};
 ghost use Rattle.packet_pools.specs.Tracing.{Traces};
 ghost use Rattle.packet_pools.specs.Hands.{IsHeld};
@@ -26,7 +26,7 @@ fn scan_field(heap: &Heap, seat: &mut HeapSeat, out: &mut Held, cell: Cell, i: u
     requires hand { InHand None None (view_of seat.old).state }
     requires field { (i < heap.now.shape.fields) × IsTrue (may_read_field heap.now.shape (view_of seat.old).state cell i) }
     ensures seat { Sits heap.now seat.new × Traces (view_of seat.new) }
-    ensures later { Later (view_of seat.old) (view_of seat.new) }
+    ensures later { OnlyTraced (view_of seat.old) (view_of seat.new) }
     ensures pushes { Pushes out.old out.new (Some (cell, i + 1)) (without_cell (view_of seat.old).state.cleaning cell) (view_of seat.old) (view_of seat.new) }
     ensures most { (result.overflowed ≤ result.marked) × (result.marked ≤ 1) }
     ensures counts { Counts heap.now.shape result.marked (result.marked - result.overflowed) result.overflowed (events (view_of seat.old) (view_of seat.new)) }
@@ -47,7 +47,7 @@ fn scan_fields(heap: &Heap, seat: &mut HeapSeat, out: &mut Held, cell: Cell, nex
     requires hand { InHand None None (view_of seat.old).state }
     requires scan { (view_of seat.old).state.scan ≡ Some (cell, next) }
     ensures seat { Sits heap.now seat.new × Traces (view_of seat.new) }
-    ensures later { Later (view_of seat.old) (view_of seat.new) }
+    ensures later { OnlyTraced (view_of seat.old) (view_of seat.new) }
     ensures pushes { Pushes out.old out.new (scan_end heap.now.shape.fields (Some (cell, next))) (cleaning_end heap.now.shape.fields (Some (cell, next)) (view_of seat.old).state.cleaning) (view_of seat.old) (view_of seat.new) }
     ensures most { (result.overflowed ≤ result.marked) × (result.marked ≤ heap.now.shape.fields - next) }
     ensures counts { Counts heap.now.shape result.marked (result.marked - result.overflowed) result.overflowed (events (view_of seat.old) (view_of seat.new)) }
@@ -72,7 +72,7 @@ pub fn scan_cell(heap: &Heap, seat: &mut HeapSeat, out: &mut Held) -> Scanned
     requires out { IsHeld out.old (view_of seat.old) × IsTrue (has_free_slot (view_of seat.old).state.held) }
     requires hand { InHand None None (view_of seat.old).state }
     ensures seat { Sits heap.now seat.new × Traces (view_of seat.new) }
-    ensures later { Later (view_of seat.old) (view_of seat.new) }
+    ensures later { OnlyTraced (view_of seat.old) (view_of seat.new) }
     ensures pushes { Pushes out.old out.new (scan_end heap.now.shape.fields (view_of seat.old).state.scan) (cleaning_end heap.now.shape.fields (view_of seat.old).state.scan (view_of seat.old).state.cleaning) (view_of seat.old) (view_of seat.new) }
     ensures work { IsFalse (cleaning_left (view_of seat.old).state.cleaning) → IsFalse (work_in_hand heap.now.shape.fields (view_of seat.new).state) }
     ensures most { (result.overflowed ≤ result.marked) × (result.marked ≤ heap.now.shape.fields) }
@@ -93,7 +93,7 @@ pub fn scan_whole(heap: &Heap, seat: &mut HeapSeat, out: &mut Held, cell: Cell) 
     requires hand { InHand None None (view_of seat.old).state }
     requires scan { (view_of seat.old).state.scan ≡ Some (cell, 0) }
     ensures seat { Sits heap.now seat.new × Traces (view_of seat.new) }
-    ensures later { Later (view_of seat.old) (view_of seat.new) }
+    ensures later { OnlyTraced (view_of seat.old) (view_of seat.new) }
     ensures pushes { Pushes out.old out.new (scan_end heap.now.shape.fields (view_of seat.old).state.scan) (cleaning_end heap.now.shape.fields (view_of seat.old).state.scan (view_of seat.old).state.cleaning) (view_of seat.old) (view_of seat.new) }
     ensures work { IsFalse (cleaning_left (view_of seat.old).state.cleaning) → IsFalse (work_in_hand heap.now.shape.fields (view_of seat.new).state) }
     ensures most { (result.overflowed ≤ result.marked) × (result.marked ≤ heap.now.shape.fields) }
@@ -110,7 +110,7 @@ pub fn scan_again(heap: &Heap, seat: &mut HeapSeat, out: &mut Held, cell: Cell) 
     requires hand { InHand None None (view_of seat.old).state }
     requires left { IsTrue (may_scan (view_of seat.old).state.cleaning cell) × IsFalse (scan_left heap.now.shape.fields (view_of seat.old).state.scan) }
     ensures seat { Sits heap.now seat.new × Traces (view_of seat.new) }
-    ensures later { Later (view_of seat.old) (view_of seat.new) }
+    ensures later { OnlyTraced (view_of seat.old) (view_of seat.new) }
     ensures pushes { Pushes out.old out.new (Some (cell, heap.now.shape.fields)) (without_cell (view_of seat.old).state.cleaning cell) (view_of seat.old) (view_of seat.new) }
     ensures most { (result.overflowed ≤ result.marked) × (result.marked ≤ heap.now.shape.fields) }
     ensures counts { Counts heap.now.shape result.marked (result.marked - result.overflowed) result.overflowed (events (view_of seat.old) (view_of seat.new)) }

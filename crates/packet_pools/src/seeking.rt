@@ -4,7 +4,7 @@ ghost use Rattle.mark_core.specs.Bits.{has_bit as has_bit_of};
 ghost use Rattle.mark_core.specs.Held.{holds};
 ghost use Rattle.mark_core.specs.Layout.{pool_words};
 ghost use Rattle.gc_table.specs.Seats.{Sits, view_of};
-ghost use Rattle.packet_pools.specs.Later.{Later};
+ghost use Rattle.packet_pools.specs.OnlyTraced.{OnlyTraced};
 ghost use Rattle.gc_table.specs.Log.{events};
 ghost use Rattle.packet_pools.specs.Seeking.{only_moves, was_got};
 ghost use Rattle.packet_pools.specs.Gains.{Gains, Misses, Seeks, missed};
@@ -20,7 +20,7 @@ fn take_packet(heap: &Heap, seat: &mut HeapSeat, q: u8, p: u32, room: bool) -> O
     requires packet { (p < heap.now.shape.packets) × IsFalse (holds (view_of seat.old).state.held p) }
     requires high { IsTrue room → q ≡ 2 }
     ensures seat { Sits heap.now seat.new }
-    ensures later { Later (view_of seat.old) (view_of seat.new) }
+    ensures later { OnlyTraced (view_of seat.old) (view_of seat.new) }
     ensures some { IfSome result (λ h. Gains q room h (view_of seat.old) (view_of seat.new)) }
     ensures none { IfNone result (((view_of seat.new).state ≡ (view_of seat.old).state) × Misses heap.now.shape q room p (p + 1) (events (view_of seat.old) (view_of seat.new))) }
 {
@@ -49,7 +49,7 @@ fn take_shown(
     requires shown { p < heap.now.shape.packets → IsTrue (has_bit_of word (p % 64)) → IsFalse (holds (view_of seat.old).state.held p) }
     requires high { IsTrue room → q ≡ 2 }
     ensures seat { Sits heap.now seat.new }
-    ensures later { Later (view_of seat.old) (view_of seat.new) }
+    ensures later { OnlyTraced (view_of seat.old) (view_of seat.new) }
     ensures some { IfSome result (λ h. Gains q room h (view_of seat.old) (view_of seat.new)) }
     ensures none { IfNone result (((view_of seat.new).state ≡ (view_of seat.old).state) × ((x : ℕ) → IsTrue (was_got x (events (view_of seat.old) (view_of seat.new))) → IsTrue room × (x < p + 1)) × (p < heap.now.shape.packets → IsTrue (has_bit_of word (p % 64)) → IsTrue (missed heap.now.shape.entries q room p (events (view_of seat.old) (view_of seat.new)))) × IsTrue (only_moves (q ∷ []) (events (view_of seat.old) (view_of seat.new)))) }
 {
@@ -66,7 +66,7 @@ fn take_in_word(heap: &Heap, seat: &mut HeapSeat, q: u8, g: u32, room: bool) -> 
     requires word { g < pool_words heap.now.shape }
     requires high { IsTrue room → q ≡ 2 }
     ensures seat { Sits heap.now seat.new }
-    ensures later { Later (view_of seat.old) (view_of seat.new) }
+    ensures later { OnlyTraced (view_of seat.old) (view_of seat.new) }
     ensures some { IfSome result (λ h. Gains q room h (view_of seat.old) (view_of seat.new)) }
     ensures none { IfNone result (((view_of seat.new).state ≡ (view_of seat.old).state) × Misses heap.now.shape q room (64 * g) (64 * g + 64) (events (view_of seat.old) (view_of seat.new))) }
 {
@@ -84,7 +84,7 @@ pub(crate) fn take_any(heap: &Heap, seat: &mut HeapSeat, q: u8, room: bool) -> O
     requires seat { Sits heap.now seat.old × Seeks q (view_of seat.old) }
     requires high { IsTrue room → q ≡ 2 }
     ensures seat { Sits heap.now seat.new }
-    ensures later { Later (view_of seat.old) (view_of seat.new) }
+    ensures later { OnlyTraced (view_of seat.old) (view_of seat.new) }
     ensures some { IfSome result (λ h. Gains q room h (view_of seat.old) (view_of seat.new)) }
     ensures none { IfNone result (((view_of seat.new).state ≡ (view_of seat.old).state) × Misses heap.now.shape q room 0 (64 * pool_words heap.now.shape) (events (view_of seat.old) (view_of seat.new))) }
 {

@@ -3,7 +3,7 @@ ghost use Rattle.std.specs.Prelude.{◌≡◌, ◌<◌, ◌*◌, [], ◌∷◌, 
 ghost use Rattle.mark_core.specs.Held.{has_free_slot};
 ghost use Rattle.mark_core.specs.Layout.{pool_words};
 ghost use Rattle.gc_table.specs.Seats.{Sits, view_of};
-ghost use Rattle.packet_pools.specs.Later.{Later};
+ghost use Rattle.packet_pools.specs.OnlyTraced.{OnlyTraced};
 ghost use Rattle.gc_table.specs.Log.{events};
 ghost use Rattle.packet_pools.specs.Tracing.{Traces};
 ghost use Rattle.packet_pools.specs.Seeking.{NoInput, NoOutput, NoDeferred, only_moves};
@@ -19,7 +19,7 @@ pub fn take_input(heap: &Heap, seat: &mut HeapSeat) -> Option<Held>
     requires seat { Sits heap.now seat.old × Traces (view_of seat.old) }
     requires free { IsTrue (has_free_slot (view_of seat.old).state.held) }
     ensures seat { Sits heap.now seat.new × Traces (view_of seat.new) }
-    ensures later { Later (view_of seat.old) (view_of seat.new) }
+    ensures later { OnlyTraced (view_of seat.old) (view_of seat.new) }
     ensures some { IfSome result (λ h. Takes (2 ∷ 1 ∷ []) h (view_of seat.old) (view_of seat.new) × (0 < h.length)) }
     ensures none { IfNone result (((view_of seat.new).state ≡ (view_of seat.old).state) × NoInput heap.now.shape (events (view_of seat.old) (view_of seat.new)) × IsTrue (only_moves (2 ∷ 1 ∷ []) (events (view_of seat.old) (view_of seat.new)))) }
 {
@@ -35,7 +35,7 @@ pub fn take_deferred(heap: &Heap, seat: &mut HeapSeat) -> Option<Held>
     requires seat { Sits heap.now seat.old × Traces (view_of seat.old) }
     requires free { IsTrue (has_free_slot (view_of seat.old).state.held) }
     ensures seat { Sits heap.now seat.new × Traces (view_of seat.new) }
-    ensures later { Later (view_of seat.old) (view_of seat.new) }
+    ensures later { OnlyTraced (view_of seat.old) (view_of seat.new) }
     ensures some { IfSome result (λ h. Takes (3 ∷ []) h (view_of seat.old) (view_of seat.new) × (0 < h.length)) }
     ensures none { IfNone result (((view_of seat.new).state ≡ (view_of seat.old).state) × NoDeferred heap.now.shape (events (view_of seat.old) (view_of seat.new)) × IsTrue (only_moves (3 ∷ []) (events (view_of seat.old) (view_of seat.new)))) }
 {
@@ -47,7 +47,7 @@ fn take_empty(heap: &Heap, seat: &mut HeapSeat) -> Option<Held>
     requires seat { Sits heap.now seat.old × Traces (view_of seat.old) }
     requires free { IsTrue (has_free_slot (view_of seat.old).state.held) }
     ensures seat { Sits heap.now seat.new × Traces (view_of seat.new) }
-    ensures later { Later (view_of seat.old) (view_of seat.new) }
+    ensures later { OnlyTraced (view_of seat.old) (view_of seat.new) }
     ensures some { IfSome result (λ h. Takes (0 ∷ []) h (view_of seat.old) (view_of seat.new)) }
     ensures none { IfNone result (((view_of seat.new).state ≡ (view_of seat.old).state) × Misses heap.now.shape 0 false 0 (64 * pool_words heap.now.shape) (events (view_of seat.old) (view_of seat.new))) }
 {
@@ -67,7 +67,7 @@ pub fn take_output(heap: &Heap, seat: &mut HeapSeat) -> Option<Held>
     requires seat { Sits heap.now seat.old × Traces (view_of seat.old) }
     requires free { IsTrue (has_free_slot (view_of seat.old).state.held) }
     ensures seat { Sits heap.now seat.new × Traces (view_of seat.new) }
-    ensures later { Later (view_of seat.old) (view_of seat.new) }
+    ensures later { OnlyTraced (view_of seat.old) (view_of seat.new) }
     ensures some { IfSome result (λ h. Takes (0 ∷ 1 ∷ 2 ∷ []) h (view_of seat.old) (view_of seat.new) × (h.length < heap.now.shape.entries)) }
     ensures none { IfNone result (((view_of seat.new).state ≡ (view_of seat.old).state) × NoOutput heap.now.shape (events (view_of seat.old) (view_of seat.new)) × IsTrue (only_moves (0 ∷ 1 ∷ 2 ∷ []) (events (view_of seat.old) (view_of seat.new)))) }
 {

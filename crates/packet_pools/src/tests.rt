@@ -26,7 +26,7 @@ fn enter(heap: &Heap, seat: &mut HeapSeat, k: u32) -> bool
     heap.enter_step(seat)
 }
 
-fn mark(heap: &Heap, seat: &mut HeapSeat, k: u32)
+fn try_marking(heap: &Heap, seat: &mut HeapSeat, k: u32)
     requires { At heap.now entered k seat.old }
     ensures { At heap.now entered k seat.new }
 {
@@ -51,7 +51,7 @@ fn begin(heap: &Heap, seat: &mut HeapSeat, k: u32) -> bool
     if !enter(heap, seat, k) {
         return false;
     }
-    mark(heap, seat, k);
+    try_marking(heap, seat, k);
     sees_marking(heap, seat, k)
 }
 

@@ -14,7 +14,7 @@ use Rattle.gc_table.specs.declared.seat.HeapSeat.{HeapSeat}
 use Rattle.gc_table.specs.declared.view.Meaning.{Meaning}
 use Rattle.gc_table.specs.declared.words.Words.{Words}
 use Rattle.gc_table.specs.Seats.{view_of}
-use Rattle.gc_table.specs.Whole.{Whole, no_section, section_at, meanings_of}
+use Rattle.gc_table.specs.TableState.{TableState, no_section, section_at, meanings_of}
 use Rattle.play_end.specs.Alike.{AreAlike}
 use Rattle.play_end.specs.Closed.{IsClosed, PlayedAll}
 use Rattle.play_end.specs.Done.{HasDone}
@@ -73,7 +73,7 @@ module _ (s : Sections) (sh : Shape) (seats : List HeapSeat) (w : Words) (k : Is
   field-count = ap length fields-are ∙ (region-length (region_sizes k.end.state.core.shape) 11 k.end.state.core.words (omega (arith, k.end.whole.core.formed.words)) ∙ ap (λ (x : Shape). x.cells * x.fields) k.end.shape)
 
 -- the plain heap of a section is like the last one of its run
-pub last-alike : (s : Sections) (cells : ℕ) (x : Whole) (j : ℕ) (m : Meaning) → IsStateOf s cells (ends s) x → slice_get (meanings_of x.sections) j ≡ Some m → AreAlike m.heap (last_heap s j)
+pub last-alike : (s : Sections) (cells : ℕ) (x : TableState) (j : ℕ) (m : Meaning) → IsStateOf s cells (ends s) x → slice_get (meanings_of x.sections) j ≡ Some m → AreAlike m.heap (last_heap s j)
 last-alike s cells x j m o at =
     let below : j < length (section_numbers s) = meaning-within s cells (ends s) x j m o at in
     subst (λ (h : Heap). AreAlike m.heap h) (ap (plain s j) (all-done s j below) ∙ at-last s j (seasons s) (omega arith)) (meaning-alike s cells (ends s) x j m o at)

@@ -22,7 +22,7 @@ use Rattle.gc_table.specs.declared.view.SectionState.{SectionState}
 use Rattle.gc_table.specs.declared.words.Words.{Words}
 use Rattle.gc_table.specs.Laws.{IsCellOfObject}
 use Rattle.gc_table.specs.StandsFor.{name_at}
-use Rattle.gc_table.specs.Whole.{Whole, meanings_of, section_at}
+use Rattle.gc_table.specs.TableState.{TableState, meanings_of, section_at}
 use Rattle.gc_table.proofs.StandsReached.{objects-have-cells, cells-have-objects}
 use Rattle.gc_table.proofs.StandsStores.{used-exists}
 use Rattle.gc_table.proofs.StandsUsed.{reachable-used}
@@ -44,7 +44,7 @@ abbrev pub named : Survivor → Name
 named y = name_of (survivor_of y)
 
 -- the state in which the play ended
-abbrev pub end_state : (s : Sections) (r : Report) (w : Words) → IsEndOf s r w → Whole
+abbrev pub end_state : (s : Sections) (r : Report) (w : Words) → IsEndOf s r w → TableState
 end_state s r w e = e.closed.end.state
 
 module _ (s : Sections) (r : Report) (w : Words) (e : IsEndOf s r w) where
@@ -114,7 +114,7 @@ module _ (s : Sections) (r : Report) (w : Words) (e : IsEndOf s r w) where
   -- a cell that can be reached is the place of a survivor
   pub cell-survivor : (c : ℕ) → IsReachableIn (end_state s r w e).core c → (j : ℕ) × (y : Survivor) × IsSurvivor r j y × (cell_in r y ≡ c)
   cell-survivor c reach =
-      let x : Whole = end_state s r w e in
+      let x : TableState = end_state s r w e in
       let name : Name = name_at (the_words x).identities c in
       let reached : IsReachable (last_heaps s) name =
       subst (λ (hs : List Heap). IsReachable hs name) (last-done s (ends s) (all-done s))
@@ -131,7 +131,7 @@ module _ (s : Sections) (r : Report) (w : Words) (e : IsEndOf s r w) where
   -- the place of a survivor can be reached, and has its object
   pub survivor-cell : (j : ℕ) (y : Survivor) → IsSurvivor r j y → IsCellOfObject (end_state s r w e).core (meanings_of (end_state s r w e).sections) (named y) (cell_in r y) × IsReachableIn (end_state s r w e).core (cell_in r y)
   survivor-cell j y at =
-      let x : Whole = end_state s r w e in
+      let x : TableState = end_state s r w e in
       let ms : List Meaning = meanings_of x.sections in
       let cell =
       objects-have-cells x.core ms e.closed.end.whole.core e.closed.end.whole.stands (named y)

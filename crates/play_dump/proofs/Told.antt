@@ -21,8 +21,8 @@ use Rattle.play_report.specs.declared.report.Report.{Report}
 use Rattle.play_report.specs.declared.report.Survivor.{Survivor}
 use Rattle.gc_table.specs.declared.view.Meaning.{Meaning}
 use Rattle.gc_table.specs.declared.words.Words.{Words}
-use Rattle.gc_table.specs.StandsFor.{Agrees, name_at, object_count}
-use Rattle.gc_table.specs.Whole.{Whole, meanings_of, section_at}
+use Rattle.gc_table.specs.StandsFor.{WordAgrees, name_at, object_count}
+use Rattle.gc_table.specs.TableState.{TableState, meanings_of, section_at}
 use Rattle.heap_dump.specs.Final.{Heap as Dumped, object}
 use Rattle.play_end.proofs.Alike.{alike-objects, alike-variables}
 use Rattle.play_end.proofs.EndHeaps.{meaning-there}
@@ -48,7 +48,7 @@ room-for c cells fields below = omega (arith, mul-le-mul_right {m = c + 1} {n = 
 module _ (s : Sections) (r : Report) (w : Words) (e : IsEndOf s r w) where
   -- a word that agrees with a reference, and goes to a cell that can be reached, is told as the number of the record
   pub told : (numbers : List ℕ) (h : Dumped) → AreNumbers r (length w.idents.items) numbers → HasSurvivors r h → (section word : ℕ) (ref : Ref)
-      → Agrees (the_words (end_state s r w e)).identities (object_count (meanings_of (end_state s r w e).sections)) section word ref
+      → WordAgrees (the_words (end_state s r w e)).identities (object_count (meanings_of (end_state s r w e).sections)) section word ref
       → ((c : ℕ) → word ≡ c + 1 → IsReachableIn (end_state s r w e).core c) → IsNumberOf h section ref (number_of numbers word)
   told numbers h n held section zero ref (inl nil) reach = inl (nil.1, refl)
   told numbers h n held section zero ref (inr goes) reach = absurd (omega (arith, goes.0))
@@ -67,13 +67,13 @@ module _ (s : Sections) (r : Report) (w : Words) (e : IsEndOf s r w) where
   -- a root goes to a cell that can be reached
   pub root-reaches : (k c : ℕ) → k < length w.roots.items → slice_index w.roots.items k ≡ c + 1 → IsReachableIn (end_state s r w e).core c
   root-reaches k c inside goes =
-      let x : Whole = end_state s r w e in
+      let x : TableState = end_state s r w e in
       let same : w.roots.items ≡ (the_words x).roots = roots-are s e.shape e.seats w e.closed in
       reach-root x.core.shape (the_words x).roots (the_words x).fields k c (subst (λ (l : List ℕ). k < length l) same inside) (ap (λ (l : List ℕ). slice_index l k) (sym same) ∙ goes)
 
   pub root-count : length w.roots.items ≡ length (section_numbers s) * 32
   root-count =
-      let x : Whole = end_state s r w e in
+      let x : TableState = end_state s r w e in
       ap length (roots-are s e.shape e.seats w e.closed)
       ∙ (roots-length x.core e.closed.end.whole.core ∙ ap (λ (n : ℕ). n * 32) (ap (λ (h : Shape). h.sections) e.closed.end.shape ∙ e.closed.made.sections))
 
@@ -88,7 +88,7 @@ module _ (s : Sections) (r : Report) (w : Words) (e : IsEndOf s r w) where
   pub told-variable : (numbers : List ℕ) (h : Dumped) → AreNumbers r (length w.idents.items) numbers → HasSurvivors r h → (i v : ℕ) → i < length (section_numbers s) → v < 32
       → IsNumberOf h i (variable (last_heap s i) v) (number_of numbers (slice_index w.roots.items (32 * i + v)))
   told-variable numbers h n held i v within low =
-      let x : Whole = end_state s r w e in
+      let x : TableState = end_state s r w e in
       let o = stands s r w e in
       let m : Meaning = (section_at x.sections i).meaning in
       let there = meaning-there s e.shape.cells (ends s) x i o within in
@@ -98,8 +98,8 @@ module _ (s : Sections) (r : Report) (w : Words) (e : IsEndOf s r w) where
       let word : slice_index (the_words x).roots (i * 32 + v) ≡ slice_index w.roots.items (32 * i + v) =
       ap (slice_index (the_words x).roots) place ∙ ap (λ (l : List ℕ). slice_index l (32 * i + v)) (sym (roots-are s e.shape e.seats w e.closed)) in
       told numbers h n held i (slice_index w.roots.items (32 * i + v)) (variable (last_heap s i) v)
-      (subst (λ (t : Ref). Agrees (the_words x).identities (object_count (meanings_of x.sections)) i (slice_index w.roots.items (32 * i + v)) t) same
-      (subst (λ (t : ℕ). Agrees (the_words x).identities (object_count (meanings_of x.sections)) i t (variable m.heap v)) word (e.closed.end.whole.stands.roots_agree i m there v low)))
+      (subst (λ (t : Ref). WordAgrees (the_words x).identities (object_count (meanings_of x.sections)) i (slice_index w.roots.items (32 * i + v)) t) same
+      (subst (λ (t : ℕ). WordAgrees (the_words x).identities (object_count (meanings_of x.sections)) i t (variable m.heap v)) word (e.closed.end.whole.stands.roots_agree i m there v low)))
       (λ c goes. root-reaches (32 * i + v) c inside goes)
 
   -- so many fields
@@ -109,12 +109,12 @@ module _ (s : Sections) (r : Report) (w : Words) (e : IsEndOf s r w) where
   -- a field of a survivor's cell, as the words have it
   field-is : (c i : ℕ) → field (end_state s r w e).core.shape (the_words (end_state s r w e)).fields c i ≡ field_word w s.fields c i
   field-is c i =
-      let x : Whole = end_state s r w e in
+      let x : TableState = end_state s r w e in
       ap (λ (n : ℕ). slice_index (the_words x).fields (c * n + i)) field-shape ∙ ap (λ (l : List ℕ). slice_index l (c * s.fields + i)) (sym (fields-are s e.shape e.seats w e.closed))
 
   pub field-reaches : (j : ℕ) (y : Survivor) → IsSurvivor r j y → (i c : ℕ) → i < s.fields → field_word w s.fields (cell_in r y) i ≡ c + 1 → IsReachableIn (end_state s r w e).core c
   field-reaches j y at i c few goes =
-      let x : Whole = end_state s r w e in
+      let x : TableState = end_state s r w e in
       reach-field x.core.shape (the_words x).roots (the_words x).fields (cell_in r y) i c (survivor-cell s r w e j y at).1 (omega (arith, few, field-shape)) (field-is (cell_in r y) i ∙ goes)
 
   pub has-fields : (j : ℕ) (y : Survivor) → IsSurvivor r j y → HasFields w s.fields (length w.idents.items) (cell_in r y)
@@ -140,7 +140,7 @@ module _ (s : Sections) (r : Report) (w : Words) (e : IsEndOf s r w) where
       → (o : Object) → slice_get (last_heap s y.section).objects y.number ≡ Some o → (i : ℕ) → i < s.fields
       → IsNumberOf h y.section (slice_index_or o.refs i refs.Nil) (number_of numbers (field_word w s.fields (cell_in r y) i))
   told-field numbers h n held j y at o there i few =
-      let x : Whole = end_state s r w e in
+      let x : TableState = end_state s r w e in
       let ids : List ℕ = (the_words x).identities in
       let cell = (survivor-cell s r w e j y at).0 in
       let m : Meaning = cell.2.0 in
@@ -150,15 +150,15 @@ module _ (s : Sections) (r : Report) (w : Words) (e : IsEndOf s r w) where
       same_Some holds.object o (sym holds.there ∙ (ap (λ (k : Name). slice_get m.heap.objects k.number) cell.1 ∙ (ap (λ (os : List Object). slice_get os y.number) (alike-objects m.heap (last_heap s y.section) alike) ∙ there))) in
       let section : section_of ids (cell_in r y) ≡ y.section = ap (λ (k : Name). k.section) cell.1 in
       told numbers h n held y.section (field_word w s.fields (cell_in r y) i) (slice_index_or o.refs i refs.Nil)
-      (subst (λ (k : ℕ). Agrees ids (object_count (meanings_of x.sections)) k (field_word w s.fields (cell_in r y) i) (slice_index_or o.refs i refs.Nil)) section
-      (subst (λ (p : Object). Agrees ids (object_count (meanings_of x.sections)) (section_of ids (cell_in r y)) (field_word w s.fields (cell_in r y) i) (slice_index_or p.refs i refs.Nil)) own
-      (subst (λ (t : ℕ). Agrees ids (object_count (meanings_of x.sections)) (section_of ids (cell_in r y)) t (slice_index_or holds.object.refs i refs.Nil)) (field-is (cell_in r y) i) (holds.each_field i (omega (arith, few, field-shape))))))
+      (subst (λ (k : ℕ). WordAgrees ids (object_count (meanings_of x.sections)) k (field_word w s.fields (cell_in r y) i) (slice_index_or o.refs i refs.Nil)) section
+      (subst (λ (p : Object). WordAgrees ids (object_count (meanings_of x.sections)) (section_of ids (cell_in r y)) (field_word w s.fields (cell_in r y) i) (slice_index_or p.refs i refs.Nil)) own
+      (subst (λ (t : ℕ). WordAgrees ids (object_count (meanings_of x.sections)) (section_of ids (cell_in r y)) t (slice_index_or holds.object.refs i refs.Nil)) (field-is (cell_in r y) i) (holds.each_field i (omega (arith, few, field-shape))))))
       (λ c goes. field-reaches j y at i c few goes)
 
   -- its value fits
   pub value-fits : (j : ℕ) (y : Survivor) → IsSurvivor r j y → (o : Object) → slice_get (last_heap s y.section).objects y.number ≡ Some o → o.value < 4294967296
   value-fits j y at o there =
-      let x : Whole = end_state s r w e in
+      let x : TableState = end_state s r w e in
       let cell = (survivor-cell s r w e j y at).0 in
       let m : Meaning = cell.2.0 in
       let alike = last-alike s e.shape.cells x y.section m (stands s r w e) cell.2.1 in

@@ -35,7 +35,7 @@ use Rattle.play_report.specs.declared.report.Report.{Report}
 use Rattle.play_contract.specs.Playing.{IsReport}
 use Rattle.play_end.specs.Reported.{AreParts, ListsWords, IsShort}
 use Rattle.play_end.specs.Closed.{IsClosed, PlayedAll, EndsWell, SeatsStopped, EndsFull}
-use Rattle.gc_table.specs.Whole.{Whole, start_whole}
+use Rattle.gc_table.specs.TableState.{TableState, start_state}
 use Rattle.mark_core.specs.Shapes.{IsShape}
 use Rattle.mark_core.specs.Layout.{words_of}
 
@@ -119,23 +119,23 @@ pub record StepsMakeCommands : Type 0 where
 -- the state in which nothing has happened is that of each script, at the start of each section
 abbrev pub StartIsState : Type 0
 StartIsState =
-    (s : Sections) (sh : Shape) (n : ℕ) → IsShape sh → 1 ≤ n → n ≤ 41 → sh.fields ≡ s.fields → sh.sections ≡ length (section_numbers s) → IsStateOf s sh.cells [] (start_whole sh (plan_of s) n)
+    (s : Sections) (sh : Shape) (n : ℕ) → IsShape sh → 1 ≤ n → n ≤ 41 → sh.fields ≡ s.fields → sh.sections ≡ length (section_numbers s) → IsStateOf s sh.cells [] (start_state sh (plan_of s) n)
 
 -- where each cell in use is published and reachable, the objects in allocated cells are exactly the reachable ones, with their values
 abbrev pub ListedSurvive : Type 0
 ListedSurvive =
-    (s : Sections) (cells : ℕ) (done : List ℕ) (x : Whole) (listed : List Survivor) → AreInRange s → IsStateOf s cells done x → IsExact x.core
+    (s : Sections) (cells : ℕ) (done : List ℕ) (x : TableState) (listed : List Survivor) → AreInRange s → IsStateOf s cells done x → IsExact x.core
     → AreListed cells (words_of x.core.shape x.core.words).identities (words_of x.core.shape x.core.words).values (words_of x.core.shape x.core.words).allocs listed
     → AreSurvivors (heaps_done s done) listed
 
 -- where each section did all its parts, each object of each section has a legal place
 abbrev pub PlacesAreLegal : Type 0
-PlacesAreLegal = (s : Sections) (cells : ℕ) (done : List ℕ) (x : Whole) (places : List (List ℕ)) → IsStateOf s cells done x → DidAll s done → ArePlaces s x places → IsPlaced s cells places
+PlacesAreLegal = (s : Sections) (cells : ℕ) (done : List ℕ) (x : TableState) (places : List (List ℕ)) → IsStateOf s cells done x → DidAll s done → ArePlaces s x places → IsPlaced s cells places
 
 -- where the heap was found full, and each section stopped or ended its part of one turn, its positions are filled for the section that is named
 abbrev pub StoppedIsFilled : Type 0
 StoppedIsFilled =
-    (s : Sections) (cells z named : ℕ) (done : List ℕ) (x : Whole) → IsHeapOf s cells x → HaveStopped s z x.sections → ArePositions s x done → (words_of x.core.shape x.core.words).phase ≡ 5
+    (s : Sections) (cells z named : ℕ) (done : List ℕ) (x : TableState) → IsHeapOf s cells x → HaveStopped s z x.sections → ArePositions s x done → (words_of x.core.shape x.core.words).phase ≡ 5
     → named ≡ reference_in (words_of x.core.shape x.core.words).named → IsFilled s cells named done
 
 -- a heap that is closed after all parts, and after an exact cycle, gives the survivors and the places

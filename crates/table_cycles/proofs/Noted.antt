@@ -18,7 +18,7 @@ use Rattle.mark_core.proofs.NotesKept.{single-word}
 use Rattle.gc_table.specs.Notes.{Notes, look, noting, if_kept}
 use Rattle.gc_table.specs.Rule.{IsState, Agrees}
 use Rattle.gc_table.specs.Taking.{after}
-use Rattle.gc_table.specs.Whole.{Whole, no_section}
+use Rattle.gc_table.specs.TableState.{TableState, no_section}
 use Rattle.gc_table.specs.declared.view.SectionState.{SectionState}
 use Rattle.gc_table.specs.declared.view.View.{View}
 
@@ -48,23 +48,23 @@ phase-noted v w n is knows =
     ap (λ (u : View). look the_phase u.known) is ∙ noted-here s the_phase n v.known (or_right s.alone _ (or_left _ _ (or_left _ _ (or_left s.knows _ knows))))
 
 -- and is the phase, in every state that agrees with the view
-pub phase-there : (x : Whole) (i : ℕ) (v : View) (n : ℕ) → Agrees x i v → look the_phase v.known ≡ Some n → (words_of x.core.shape x.core.words).phase ≡ n
+pub phase-there : (x : TableState) (i : ℕ) (v : View) (n : ℕ) → Agrees x i v → look the_phase v.known ≡ Some n → (words_of x.core.shape x.core.words).phase ≡ n
 phase-there x i v n a e = sym (single-word x.core.shape x.core.words 1 (omega arith)) ∙ (a.noted the_phase n e).1
 
 -- a seat that stopped the world and read that no cycle is under way
-pub idle-there : (x : Whole) (i : ℕ) (v w : View) (n : ℕ) → Agrees x i w → w ≡ after ReadPhase n v → v.state.knows ≡ true → phase_of n ≡ Idle → is_phase (words_of x.core.shape x.core.words).phase Idle ≡ true
+pub idle-there : (x : TableState) (i : ℕ) (v w : View) (n : ℕ) → Agrees x i w → w ≡ after ReadPhase n v → v.state.knows ≡ true → phase_of n ≡ Idle → is_phase (words_of x.core.shape x.core.words).phase Idle ≡ true
 idle-there x i v w n a is knows e = eq-eqb _ 0 (phase-there x i w n a (phase-noted v w n is knows) ∙ idle-word n e)
 
 -- the season, as the catalogue's seat knows it
-pub season-there : (x : Whole) (i : ℕ) (v : View) → IsState x → Agrees x i v → v.state.section ≡ Some 0 → (words_of x.core.shape x.core.words).season ≡ v.own.seasons
+pub season-there : (x : TableState) (i : ℕ) (v : View) → IsState x → Agrees x i v → v.state.section ≡ Some 0 → (words_of x.core.shape x.core.words).season ≡ v.own.seasons
 season-there x i v st a e = st.told.seasons.moved ∙ ap (λ (s : SectionState). s.seasons) (get_or_from_slice_get x.sections 0 v.own no_section (a.own 0 e))
 
 -- the condition of a step in this state
-abbrev pub MetIn : Whole → SeatState → Step → Type 0
+abbrev pub MetIn : TableState → SeatState → Step → Type 0
 MetIn x s step = AllTrue (parts x.core.shape (words_of x.core.shape x.core.words) x.core.seats s step)
 
 -- the seat may resume the world
-pub may-drop : (x : Whole) (i : ℕ) (v w : View) (sh : Shape) (n : ℕ) → Agrees x i w → w ≡ after ReadPhase n v → v.shape ≡ sh → phase_of n ≡ Idle
+pub may-drop : (x : TableState) (i : ℕ) (v w : View) (sh : Shape) (n : ℕ) → Agrees x i w → w ≡ after ReadPhase n v → v.shape ≡ sh → phase_of n ≡ Idle
     → (v.state.knows && v.state.alone && (empty_handed v.state && not (work_in_hand sh.fields v.state) && is_none v.state.block)) ≡ true → MetIn x w.state DropStep
 may-drop x i v w sh n a is shaped idle e =
     let p = and_parts (v.state.knows && v.state.alone) _ e in
@@ -74,7 +74,7 @@ may-drop x i v w sh n a is shaped idle e =
     subst (λ (u : View). MetIn x u.state DropStep) (sym is) (q.0, (hand, (or_left _ _ (idle-there x i v w n a is q.0 idle), (q.1, tt))))
 
 -- the catalogue's seat may turn the season for the first time
-pub may-turn : (x : Whole) (i : ℕ) (v w : View) (n : ℕ) → IsState x → Agrees x i w → w ≡ after ReadPhase n v → phase_of n ≡ Idle → v.state.knows ≡ true → v.state.section ≡ Some 0 → v.own.seasons ≡ 0 → MetIn x w.state NextSeason
+pub may-turn : (x : TableState) (i : ℕ) (v w : View) (n : ℕ) → IsState x → Agrees x i w → w ≡ after ReadPhase n v → phase_of n ≡ Idle → v.state.knows ≡ true → v.state.section ≡ Some 0 → v.own.seasons ≡ 0 → MetIn x w.state NextSeason
 may-turn x i v w n st a is idle knows first none =
     let season = season-there x i w st a (ap (λ (u : View). u.state.section) is ∙ first) ∙ ap (λ (u : View). u.own.seasons) is ∙ none in
     let early : nat_lt (words_of x.core.shape x.core.words).season 128 ≡ true = lt-ltb _ 128 (omega (arith, season)) in

@@ -22,9 +22,9 @@ use Rattle.plain_heap.specs.declared.operation.Op.TheVariants as ops
 use Rattle.gc_table.specs.PlainSteps.{meaning_of, no_meaning}
 use Rattle.gc_table.specs.Rule.{IsState, Agrees}
 use Rattle.gc_table.specs.Seats.{Sits, view_of}
-use Rattle.gc_table.specs.StandsFor.{Agrees as AgreesWith, object_count}
+use Rattle.gc_table.specs.StandsFor.{WordAgrees, object_count}
 use Rattle.gc_table.specs.Taking.{after, Asked, May}
-use Rattle.gc_table.specs.Whole.{Whole, meanings_of}
+use Rattle.gc_table.specs.TableState.{TableState, meanings_of}
 use Rattle.gc_table.specs.declared.seat.Heap.{Heap}
 use Rattle.gc_table.specs.declared.seat.HeapSeat.{HeapSeat}
 use Rattle.gc_table.specs.declared.view.Meaning.{Meaning}
@@ -36,14 +36,14 @@ use Rattle.table_cycles.specs.Ready.{Ready, Unnamed}
 use Rattle.table_cycles.proofs.Making.{seen_marking, heap-named}
 
 -- a word that agrees with an own reference isn't nil, and names a cell of the section
-owned-word : (ids : List ℕ) (p : ℕ → ℕ) (i word : ℕ) (ref : Ref) → is_own ref ≡ true → AgreesWith ids p i word ref → (0 < word) × (section_of ids (word - 1) ≡ i)
+owned-word : (ids : List ℕ) (p : ℕ → ℕ) (i word : ℕ) (ref : Ref) → is_own ref ≡ true → WordAgrees ids p i word ref → (0 < word) × (section_of ids (word - 1) ≡ i)
 owned-word ids p i word refs.Nil is a = absurd (false≢true is)
 owned-word ids p i word (refs.Cat k) is a = absurd (false≢true is)
 owned-word ids p i word (refs.Own k) is (inl z) = absurd (cc)
 owned-word ids p i word (refs.Own k) is (inr (some, names, below)) = (some, names.0)
 
 -- in each state that agrees with the view, the variable's word names a cell of the own section
-own-there : (y : Whole) (i : ℕ) (v : View) (u : ℕ) → IsState y → Agrees y i v → IsFalse v.state.spent → may_mutate v.state ≡ true → u < 32 → is_own (variable v.own.meaning.heap u) ≡ true
+own-there : (y : TableState) (i : ℕ) (v : View) (u : ℕ) → IsState y → Agrees y i v → IsFalse v.state.spent → may_mutate v.state ≡ true → u < 32 → is_own (variable v.own.meaning.heap u) ≡ true
     → has_own (words_of y.core.shape y.core.words).identities v.state u ≡ true
 own-there y i v u st a live acts below own = and_from _ _ not_nil here
   where

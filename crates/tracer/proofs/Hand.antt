@@ -14,10 +14,10 @@ use Rattle.mark_core.specs.declared.seat.SeatState.{SeatState}
 use Rattle.gc_table.specs.declared.view.View.{View}
 use Rattle.gc_table.specs.Taking.{May, Finds, after}
 use Rattle.packet_pools.specs.Keeping.{answers_for}
-use Rattle.packet_pools.specs.Later.{Later, rest_of}
+use Rattle.packet_pools.specs.OnlyTraced.{OnlyTraced, rest_of}
 use Rattle.packet_pools.specs.Tracing.{traces}
 use Rattle.packet_pools.specs.Scanning.{InHand}
-use Rattle.packet_pools.proofs.LaterSteps.{later-read, later-to}
+use Rattle.packet_pools.proofs.TracedSteps.{later-read, later-to}
 use Rattle.packet_pools.proofs.ScanSteps.{traces-part}
 use Rattle.tracer.specs.Parts.{HasPopped}
 
@@ -91,7 +91,7 @@ alloc-left (Some x) b word e = either (x.known && (x.card / 4 == b))
     either false = e
 
 module _ (v w : View) (c n : ℕ) (p : HasPopped c false v) (e : w ≡ after (ReadAlloc (c / 64)) n v) where
-  pub later-read_alloc : Finds (ReadAlloc (c / 64)) n v → Later v w
+  pub later-read_alloc : Finds (ReadAlloc (c / 64)) n v → OnlyTraced v w
   later-read_alloc f =
       let block : with_alloc_word v.state.block (c / 64) n ≡ v.state.block = ap (λ o. with_alloc_word o (c / 64) n) p.block ∙ sym p.block in
       later-to v w (ReadAlloc (c / 64)) n e (later-read v (ReadAlloc (c / 64)) n refl refl f (λ i. rest_of (record v.state { block = block i })) refl refl refl refl)

@@ -5,7 +5,7 @@ use Rattle.mark_core.specs.declared.kinds.Shape.{Shape}
 use Rattle.gc_table.specs.declared.view.Entry.{Entry}
 use Rattle.gc_table.specs.declared.view.View.{View}
 use Rattle.gc_table.specs.Running.{after_all}
-use Rattle.packet_pools.specs.Later.{Later}
+use Rattle.packet_pools.specs.OnlyTraced.{OnlyTraced}
 use Rattle.gc_table.specs.Log.{events}
 use Rattle.packet_pools.specs.Seeking.{gets_from, NoOutput, was_got_from}
 use Rattle.packet_pools.specs.Counts.{count_of, dirties, SomeStretch}
@@ -46,5 +46,5 @@ module _ (o q r : Option ℕ) (d e f g l m x y z : ℕ) (u v : View) (xs ys es :
       }
 
 -- one call after another
-pub part-then : (sh : Shape) (o q r : Option ℕ) (d e f g l m x y z : ℕ) (u v w : View) → Later u v → Later v w → d + e ≡ x → f + g ≡ y → l + m ≡ z → Part sh o q d f l u (events u v) → Part sh q r e g m v (events v w) → Part sh o r x y z u (events u w)
+pub part-then : (sh : Shape) (o q r : Option ℕ) (d e f g l m x y z : ℕ) (u v w : View) → OnlyTraced u v → OnlyTraced v w → d + e ≡ x → f + g ≡ y → l + m ≡ z → Part sh o q d f l u (events u v) → Part sh q r e g m v (events v w) → Part sh o r x y z u (events u w)
 part-then sh o q r d e f g l m x y z u v w a b dx fy lz = part-join o q r d e f g l m x y z u v (events u v) (events v w) (events u w) (events-join u v w a.log b.log) a.ran.steps dx fy lz sh

@@ -10,7 +10,7 @@ use Rattle.mark_core.specs.declared.seat.SeatState.{SeatState}
 use Rattle.gc_table.specs.declared.view.Entry.{Entry}
 use Rattle.gc_table.specs.declared.view.View.{View}
 use Rattle.gc_table.specs.Taking.{after}
-use Rattle.packet_pools.specs.Later.{Later}
+use Rattle.packet_pools.specs.OnlyTraced.{OnlyTraced}
 use Rattle.gc_table.specs.Log.{events, steps_of}
 use Rattle.packet_pools.specs.Seeking.{only_moves, NoOutput}
 use Rattle.packet_pools.specs.Counts.{count_of, dirties}
@@ -93,7 +93,7 @@ part-push sh o q c n v w e f either =
     })
 
 -- a card was dirtied after a search that found no packet with room
-pub part-spill : (sh : Shape) (o : Option ℕ) (card n : ℕ) (u v w : View) → Later u v → Later v w → only_moves (0 ∷ 1 ∷ 2 ∷ []) (events u v) ≡ true → NoOutput sh (events u v) → w ≡ after (DirtyCard card) n v → Part sh o o 0 0 1 u (events u w)
+pub part-spill : (sh : Shape) (o : Option ℕ) (card n : ℕ) (u v w : View) → OnlyTraced u v → OnlyTraced v w → only_moves (0 ∷ 1 ∷ 2 ∷ []) (events u v) ≡ true → NoOutput sh (events u v) → w ≡ after (DirtyCard card) n v → Part sh o o 0 0 1 u (events u w)
 part-spill sh o card n u v w a b m none e =
     let one : List Entry = entry_of (DirtyCard card) n ∷ [] in
     let last : events v w ≡ one = events-after v w (DirtyCard card) n e in

@@ -17,7 +17,7 @@ use Rattle.gc_table.specs.declared.view.View.{View}
 use Rattle.gc_table.specs.Taking.{May, after}
 use Rattle.packet_pools.specs.declared.held.Held.{Held}
 use Rattle.gc_table.specs.Running.{after_all}
-use Rattle.packet_pools.specs.Later.{Later}
+use Rattle.packet_pools.specs.OnlyTraced.{OnlyTraced}
 use Rattle.gc_table.specs.Log.{events}
 use Rattle.packet_pools.specs.Tracing.{traces}
 use Rattle.packet_pools.specs.Scanning.{InHand, Pushes}
@@ -185,7 +185,7 @@ all-owe : (es : List Entry) (v : View) → only_roots es ≡ true → v.state.ow
 all-owe [] v t e = e
 all-owe (x ∷ es) v t e = let h = and_parts (scans_roots x.step) (only_roots es) t in all-owe es (after x.step x.found v) h.1 (root-owes v.shape v.state x.step x.found h.0 e)
 
-pub roots-owe : (v w : View) → Later v w → only_roots (events v w) ≡ true → v.state.owes ≡ None → w.state.owes ≡ None
+pub roots-owe : (v w : View) → OnlyTraced v w → only_roots (events v w) ≡ true → v.state.owes ≡ None → w.state.owes ≡ None
 roots-owe v w l steps e = ap (λ (z : View). z.state.owes) l.ran.steps ∙ all-owe (events v w) v steps e
 
 -- a cell that was asked for is shown marked

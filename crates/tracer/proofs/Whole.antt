@@ -20,7 +20,7 @@ use Rattle.packet_pools.specs.declared.held.Held.{Held}
 use Rattle.gc_table.specs.Rule.{IsPossible}
 use Rattle.gc_table.specs.Running.{after_all}
 use Rattle.packet_pools.specs.Keeping.{all_keep, keeps_cells}
-use Rattle.packet_pools.specs.Later.{Later}
+use Rattle.packet_pools.specs.OnlyTraced.{OnlyTraced}
 use Rattle.gc_table.specs.Log.{events}
 use Rattle.packet_pools.specs.Tracing.{Traces}
 use Rattle.packet_pools.specs.Seeking.{NoInput, NoOutput, only_moves}
@@ -50,7 +50,7 @@ spill-all v (e ∷ es) k =
     let h = and_parts (keeps_cells v.state e.step) (all_keep (after e.step e.found v) es) k in
     λ i. cond (spill-one v.state e.step e.found h.0 i) 1 0 + spill-all (after e.step e.found v) es h.1 i
 
-module _ (sh : Shape) (d f l : ℕ) (v w : View) (shape : v.shape ≡ sh) (later : Later v w) (p : Part sh None None d f l v (events v w)) where
+module _ (sh : Shape) (d f l : ℕ) (v w : View) (shape : v.shape ≡ sh) (later : OnlyTraced v w) (p : Part sh None None d f l v (events v w)) where
   pub tally-of : Tally d f l v w
   tally-of =
       record {
@@ -86,14 +86,14 @@ all-owe : (es : List Entry) (v : View) → only_traces es ≡ true → v.state.o
 all-owe [] v t e = e
 all-owe (x ∷ es) v t e = let h = and_parts (traces_cells x.step) (only_traces es) t in all-owe es (after x.step x.found v) h.1 (trace-owes v.shape v.state x.step x.found h.0 e)
 
-pub traces-owe : (v w : View) → Later v w → only_traces (events v w) ≡ true → v.state.owes ≡ None → w.state.owes ≡ None
+pub traces-owe : (v w : View) → OnlyTraced v w → only_traces (events v w) ≡ true → v.state.owes ≡ None → w.state.owes ≡ None
 traces-owe v w l steps e = ap (λ (z : View). z.state.owes) l.ran.steps ∙ all-owe (events v w) v steps e
 
 idle-popped : (fields : ℕ) (s : SeatState) → work_in_hand fields s ≡ false → s.popped ≡ None
 idle-popped fields s e = none-of s.popped (or_parts _ _ (or_parts _ _ (or_parts _ _ (or_parts _ _ e).0).0).0).0
 
 -- but for what tracing leaves, the record is as it was
-pub keeps-record : (v w : View) → Later v w → Traces v → Traces w → IsIdle v → IsIdle w → (v.state.owes ≡ None → w.state.owes ≡ None) → KeepsRecord v w
+pub keeps-record : (v w : View) → OnlyTraced v w → Traces v → Traces w → IsIdle v → IsIdle w → (v.state.owes ≡ None → w.state.owes ≡ None) → KeepsRecord v w
 keeps-record v w l t u a b owes =
     let f = free-of v.shape.fields v.state a.work in
     let g = free-of w.shape.fields w.state b.work in
@@ -156,7 +156,7 @@ held-apart : (v : View) → ∥ IsPossible v ∥₁ → AllPairs IsApart v.state
 held-apart v q i j d k l = ∥∥₁_elim q (Prim.hlevel props) (λ (p : IsPossible v). (p.whole.core.formed.seats p.index v.state p.agrees.seat).held.apart i j d k l)
 
 -- a trace that begins, goes on until nothing is found, and gives its packets back
-module _ (sh : Shape) (x : Packets) (o : Option ℕ) (d f l : ℕ) (u v w y : View) (shape : u.shape ≡ sh) (a : Later u v) (b : Later v w) (c : Later w y) (first : Part sh None None 0 0 0 u (events u v)) (main : Part sh None (packet_of x.deferred) d f l v (events v w)) (e : Ended sh x v w) (k : Carries (packets_of x) w) (possible : ∥ IsPossible w ∥₁) (work : work_in_hand u.shape.fields w.state ≡ false) where
+module _ (sh : Shape) (x : Packets) (o : Option ℕ) (d f l : ℕ) (u v w y : View) (shape : u.shape ≡ sh) (a : OnlyTraced u v) (b : OnlyTraced v w) (c : OnlyTraced w y) (first : Part sh None None 0 0 0 u (events u v)) (main : Part sh None (packet_of x.deferred) d f l v (events v w)) (e : Ended sh x v w) (k : Carries (packets_of x) w) (possible : ∥ IsPossible w ∥₁) (work : work_in_hand u.shape.fields w.state ≡ false) where
   abbrev earlier : List Entry
   earlier = events u v ++ e.before
 

@@ -1,7 +1,7 @@
 //! What was put off is traced again.
 ghost use Rattle.std.specs.Prelude.{◌≡◌, ◌<◌, ◌≤◌, ◌+◌, ◌*◌, ◌/◌, if◌then◌else◌};
 ghost use Rattle.gc_table.specs.Seats.{Sits, view_of};
-ghost use Rattle.packet_pools.specs.Later.{Later};
+ghost use Rattle.packet_pools.specs.OnlyTraced.{OnlyTraced};
 ghost use Rattle.gc_table.specs.Log.{events};
 ghost use Rattle.packet_pools.specs.Tracing.{Traces};
 ghost use Rattle.tracer.specs.Hands.{IsIdle};
@@ -17,7 +17,7 @@ fn recycle(heap: &Heap, seat: &mut HeapSeat, p: u32) -> bool
     requires idle { IsIdle (view_of seat.old) }
     requires packet { p < heap.now.shape.packets }
     ensures seat { Sits heap.now seat.new × Traces (view_of seat.new) }
-    ensures later { Later (view_of seat.old) (view_of seat.new) }
+    ensures later { OnlyTraced (view_of seat.old) (view_of seat.new) }
     ensures state { (view_of seat.new).state ≡ (view_of seat.old).state }
     ensures recycles { Recycles p (p + 1) (if result then 1 else 0) (events (view_of seat.old) (view_of seat.new)) }
 {
@@ -38,7 +38,7 @@ fn recycle_between(heap: &Heap, seat: &mut HeapSeat, first: u32, end: u32) -> u3
     requires idle { IsIdle (view_of seat.old) }
     requires packets { (first ≤ end) × (end ≤ heap.now.shape.packets) }
     ensures seat { Sits heap.now seat.new × Traces (view_of seat.new) }
-    ensures later { Later (view_of seat.old) (view_of seat.new) }
+    ensures later { OnlyTraced (view_of seat.old) (view_of seat.new) }
     ensures state { (view_of seat.new).state ≡ (view_of seat.old).state }
     ensures most { result + first ≤ end }
     ensures recycles { Recycles first end result (events (view_of seat.old) (view_of seat.new)) }
@@ -56,7 +56,7 @@ fn recycle_in_word(heap: &Heap, seat: &mut HeapSeat, g: u32, end: u32) -> u32
     requires idle { IsIdle (view_of seat.old) }
     requires packets { (64 * g < end) × (end ≤ 64 * g + 64) × (end ≤ heap.now.shape.packets) }
     ensures seat { Sits heap.now seat.new × Traces (view_of seat.new) }
-    ensures later { Later (view_of seat.old) (view_of seat.new) }
+    ensures later { OnlyTraced (view_of seat.old) (view_of seat.new) }
     ensures state { (view_of seat.new).state ≡ (view_of seat.old).state }
     ensures most { result + 64 * g ≤ end }
     ensures recycles { Recycles (64 * g) end result (events (view_of seat.old) (view_of seat.new)) }
@@ -72,7 +72,7 @@ fn recycle_words(heap: &Heap, seat: &mut HeapSeat) -> u32
     requires seat { Sits heap.now seat.old × Traces (view_of seat.old) }
     requires idle { IsIdle (view_of seat.old) }
     ensures seat { Sits heap.now seat.new × Traces (view_of seat.new) }
-    ensures later { Later (view_of seat.old) (view_of seat.new) }
+    ensures later { OnlyTraced (view_of seat.old) (view_of seat.new) }
     ensures state { (view_of seat.new).state ≡ (view_of seat.old).state }
     ensures most { result ≤ 64 * (heap.now.shape.packets / 64) }
     ensures recycles { Recycles 0 (64 * (heap.now.shape.packets / 64)) result (events (view_of seat.old) (view_of seat.new)) }
@@ -91,7 +91,7 @@ pub fn recycle_deferred(heap: &Heap, seat: &mut HeapSeat) -> u32
     requires seat { Sits heap.now seat.old × Traces (view_of seat.old) }
     requires idle { IsIdle (view_of seat.old) }
     ensures seat { Sits heap.now seat.new × Traces (view_of seat.new) }
-    ensures later { Later (view_of seat.old) (view_of seat.new) }
+    ensures later { OnlyTraced (view_of seat.old) (view_of seat.new) }
     ensures state { (view_of seat.new).state ≡ (view_of seat.old).state }
     ensures recycled { Recycled heap.now.shape result (events (view_of seat.old) (view_of seat.new)) }
 {

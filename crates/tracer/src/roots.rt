@@ -2,7 +2,7 @@
 ghost use Rattle.std.specs.Prelude.{ℕ, ◌≡◌, ◌<◌, ◌≤◌, [], ◌∷◌, Some, None, IsTrue, IsFalse, IfSome, IfNone};
 ghost use Rattle.mark_core.specs.Seats.{work_in_hand};
 ghost use Rattle.gc_table.specs.Seats.{Sits, view_of};
-ghost use Rattle.packet_pools.specs.Later.{Later};
+ghost use Rattle.packet_pools.specs.OnlyTraced.{OnlyTraced};
 ghost use Rattle.gc_table.specs.Log.{events};
 ghost use Rattle.packet_pools.specs.Seeking.{only_moves};
 ghost use Rattle.packet_pools.specs.Tracing.{Traces};
@@ -23,7 +23,7 @@ fn take_either(heap: &Heap, seat: &mut HeapSeat) -> Option<Held>
     requires seat { Sits heap.now seat.old × Traces (view_of seat.old) }
     requires idle { IsIdle (view_of seat.old) }
     ensures seat { Sits heap.now seat.new × Traces (view_of seat.new) }
-    ensures later { Later (view_of seat.old) (view_of seat.new) }
+    ensures later { OnlyTraced (view_of seat.old) (view_of seat.new) }
     ensures work { IsFalse (work_in_hand heap.now.shape.fields (view_of seat.new).state) }
     ensures moves { IsTrue (only_moves (0 ∷ 1 ∷ 2 ∷ []) (events (view_of seat.old) (view_of seat.new))) }
     ensures some { IfSome result (λ h. Carries (h ∷ []) (view_of seat.new)) }
@@ -48,7 +48,7 @@ fn scan_root(
     requires work { IsFalse (work_in_hand heap.now.shape.fields (view_of seat.old).state) }
     requires root { (section < heap.now.shape.sections) × (variable < 32) }
     ensures seat { Sits heap.now seat.new × Traces (view_of seat.new) }
-    ensures later { Later (view_of seat.old) (view_of seat.new) }
+    ensures later { OnlyTraced (view_of seat.old) (view_of seat.new) }
     ensures out { Carries (out.new ∷ []) (view_of seat.new) }
     ensures work { IsFalse (work_in_hand heap.now.shape.fields (view_of seat.new).state) }
     ensures most { (result.overflowed ≤ result.marked) × (result.marked ≤ 1) }
@@ -75,7 +75,7 @@ pub fn scan_roots(heap: &Heap, seat: &mut HeapSeat, section: u32) -> RootScan
     requires idle { IsIdle (view_of seat.old) }
     requires section { section < heap.now.shape.sections }
     ensures seat { Sits heap.now seat.new × Traces (view_of seat.new) }
-    ensures later { Later (view_of seat.old) (view_of seat.new) }
+    ensures later { OnlyTraced (view_of seat.old) (view_of seat.new) }
     ensures idle { IsIdle (view_of seat.new) }
     ensures state { KeepsRecord (view_of seat.old) (view_of seat.new) }
     ensures scanned { RootsScanned section result (view_of seat.old) (view_of seat.new) }

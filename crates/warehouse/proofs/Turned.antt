@@ -15,7 +15,7 @@ use Rattle.gc_table.specs.Running.{Alone, Ran, ends_alone}
 use Rattle.gc_table.specs.Sections.{planned}
 use Rattle.gc_table.specs.Seats.{Took}
 use Rattle.gc_table.specs.Taking.{Asked, May}
-use Rattle.gc_table.specs.Whole.{Whole, no_section}
+use Rattle.gc_table.specs.TableState.{TableState, no_section}
 use Rattle.gc_table.specs.declared.view.Entry.{Entry}
 use Rattle.gc_table.specs.declared.view.SectionState.{SectionState}
 use Rattle.gc_table.specs.declared.view.View.{View}
@@ -39,7 +39,7 @@ use Rattle.warehouse.proofs.Seasons.{keeps-join, neither, since-more}
 use Rattle.warehouse.proofs.Seen.{never-join, none-count}
 
 -- the season is what the catalogue's seat made it
-season_there : (x : Whole) (i : ℕ) (v : View) → IsState x → Agrees x i v → v.state.section ≡ Some 0 → (words_of x.core.shape x.core.words).season ≡ v.own.seasons
+season_there : (x : TableState) (i : ℕ) (v : View) → IsState x → Agrees x i v → v.state.section ≡ Some 0 → (words_of x.core.shape x.core.words).season ≡ v.own.seasons
 season_there x i v st a e = st.told.seasons.moved ∙ ap (λ (s : SectionState). s.seasons) (get_or_from_slice_get x.sections 0 v.own no_section (a.own 0 e))
 
 module _ (u v w : View) (may : MayTurnSeason u) (stop : StopsAt u v) where

@@ -11,7 +11,7 @@ use Rattle.plain_heap.specs.declared.operation.Op.{Op}
 use Rattle.plain_heap.specs.declared.operation.Op.TheVariants as ops
 use Rattle.gc_table.specs.declared.view.Entry.{Entry}
 use Rattle.gc_table.specs.declared.view.SectionState.{SectionState}
-use Rattle.gc_table.specs.declared.view.Turn.{Turn}
+use Rattle.gc_table.specs.declared.view.PlainStep.{PlainStep}
 use Rattle.gc_table.specs.declared.view.View.{View}
 use Rattle.gc_table.specs.Log.{Only, all_steps, events}
 use Rattle.gc_table.specs.Running.{Ran, after_all}
@@ -23,9 +23,9 @@ use Rattle.play_end.specs.Done.{last_heap_of}
 
 -- by plain steps of one turn the section's heap became another
 pub record Turns (season : ℕ) (x y : SectionState) : Type 0 where
-  pub more : List Turn
-  pub turns : y.turns ≡ x.turns ++ more
-  pub in_turn : All (λ (t : Turn). t.season ≡ season) more
+  pub more : List PlainStep
+  pub turns : y.history ≡ x.history ++ more
+  pub in_turn : All (λ (t : PlainStep). t.season ≡ season) more
   pub last : y.meaning.heap ≡ last_heap_of x.meaning.heap more
 
 append_none : {X : Type 0} (xs : List X) → xs ≡ xs ++ []
@@ -36,19 +36,19 @@ append_more : {X : Type 0} (xs ys zs : List X) → (xs ++ ys) ++ zs ≡ xs ++ (y
 append_more [] ys zs = refl
 append_more (x ∷ xs) ys zs = ap (λ l. x ∷ l) (append_more xs ys zs)
 
-last_both : (h : Heap) (xs ys : List Turn) → last_heap_of (last_heap_of h xs) ys ≡ last_heap_of h (xs ++ ys)
+last_both : (h : Heap) (xs ys : List PlainStep) → last_heap_of (last_heap_of h xs) ys ≡ last_heap_of h (xs ++ ys)
 last_both h [] ys = refl
 last_both h (t ∷ ts) ys = last_both t.heap ts ys
 
-pub turns-none : (season : ℕ) (x y : SectionState) → y.turns ≡ x.turns → y.meaning.heap ≡ x.meaning.heap → Turns season x y
-turns-none season x y t h = record { more = []; turns = t ∙ append_none x.turns; in_turn = All-nil (λ (t : Turn). t.season ≡ season); last = h }
+pub turns-none : (season : ℕ) (x y : SectionState) → y.history ≡ x.history → y.meaning.heap ≡ x.meaning.heap → Turns season x y
+turns-none season x y t h = record { more = []; turns = t ∙ append_none x.history; in_turn = All-nil (λ (t : PlainStep). t.season ≡ season); last = h }
 
 pub turns-join : (season : ℕ) (x y z : SectionState) → Turns season x y → Turns season y z → Turns season x z
 turns-join season x y z a b =
     record {
       more = a.more ++ b.more;
-      turns = b.turns ∙ ap (λ (ts : List Turn). ts ++ b.more) a.turns ∙ append_more x.turns a.more b.more;
-      in_turn = All-append (λ (t : Turn). t.season ≡ season) a.more b.more a.in_turn b.in_turn;
+      turns = b.turns ∙ ap (λ (ts : List PlainStep). ts ++ b.more) a.turns ∙ append_more x.history a.more b.more;
+      in_turn = All-append (λ (t : PlainStep). t.season ≡ season) a.more b.more a.in_turn b.in_turn;
       last = b.last ∙ ap (λ (h : Heap). last_heap_of h b.more) a.last ∙ last_both x.meaning.heap a.more b.more;
     }
 
@@ -66,12 +66,12 @@ is_of_command (DirtyCard card) = true
 is_of_command step = false
 
 -- one plain step
-one_turn : (x y : SectionState) (season : ℕ) → y.turns ≡ x.turns ++ record { season = season; heap = y.meaning.heap } ∷ [] → Turns season x y
+one_turn : (x y : SectionState) (season : ℕ) → y.history ≡ x.history ++ record { season = season; heap = y.meaning.heap } ∷ [] → Turns season x y
 one_turn x y season e =
     record {
       more = record { season = season; heap = y.meaning.heap } ∷ [];
       turns = e;
-      in_turn = All-cons (λ (t : Turn). t.season ≡ season) (record { season = season; heap = y.meaning.heap }) [] refl (All-nil (λ (t : Turn). t.season ≡ season));
+      in_turn = All-cons (λ (t : PlainStep). t.season ≡ season) (record { season = season; heap = y.meaning.heap }) [] refl (All-nil (λ (t : PlainStep). t.season ≡ season));
       last = refl;
     }
 

@@ -111,7 +111,7 @@ pub record GetsReady (turn : ℕ) (kept : Option Cache) (v w : View) : Type 0 wh
 -- the section is kept as it was before the heap was found full, which the seat knows; its record has no cache, and the position is stored
 pub record FindsFull (done : ℕ) (v w : View) : Type 0 where
   pub heap : w.own.meaning.heap ≡ v.own.meaning.heap
-  pub turns : w.own.turns ≡ v.own.turns
+  pub turns : w.own.history ≡ v.own.history
   pub places : w.own.places ≡ v.own.places
   pub ends : EndsFull done v w
   pub known : KnowsFull w

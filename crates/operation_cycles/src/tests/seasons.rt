@@ -78,7 +78,7 @@ pub fn enters(heap: &Heap, seat: &mut HeapSeat, k: u32) -> bool
 }
 
 /// Begins marking, where no cycle is under way.
-fn mark(heap: &Heap, seat: &mut HeapSeat, k: u32)
+fn try_marking(heap: &Heap, seat: &mut HeapSeat, k: u32)
     requires { At heap.now entered k seat.old }
     ensures seat { At heap.now entered k seat.new }
     ensures keeps { Keeps (view_of seat.old) (view_of seat.new) }
@@ -125,6 +125,6 @@ pub fn begin<R: Wait>(rt: &R, heap: &Heap, zero: &mut HeapSeat, one: &mut HeapSe
     if !next_turn(rt, heap, zero) || !enters(heap, zero, 0) || !enters(heap, one, 1) {
         return false;
     }
-    mark(heap, one, 1);
+    try_marking(heap, one, 1);
     sees_marking(heap, zero, 0) && plays(heap, one)
 }

@@ -9,7 +9,7 @@ use Rattle.gc_table.proofs.Log.{events-join}
 use Rattle.packet_pools.proofs.Counting.{given-moves}
 use Rattle.packet_pools.proofs.Doing.{traces-on}
 use Rattle.packet_pools.proofs.InHand.{drop-with}
-use Rattle.packet_pools.proofs.LaterSteps.{cleaned-join, later-cleaned, later-join}
+use Rattle.packet_pools.proofs.TracedSteps.{cleaned-join, later-cleaned, later-join}
 use Rattle.card_clean.specs.Leaving.{rescanned_in}
 use Rattle.packet_pools.specs.Hands.{free_slots}
 use Rattle.card_clean.proofs.Leavings.{rescanned-join, rescanned-moves}

@@ -2,7 +2,7 @@ use Rattle.std.proofs.Common.{◌≡◌, ◌≤◌, ◌-◌, ◌*◌}
 use Rattle.std.specs.Prelude.{IsFalse}
 use Rattle.mark_core.specs.Seats.{work_in_hand}
 use Rattle.gc_table.specs.Seats.{Sits, view_of}
-use Rattle.packet_pools.specs.Later.{LaterCleaned}
+use Rattle.packet_pools.specs.OnlyTraced.{OnlyCleaned}
 use Rattle.gc_table.specs.Log.{events}
 use Rattle.packet_pools.specs.Tracing.{Traces}
 use Rattle.packet_pools.specs.Scanning.{Fills}
@@ -16,7 +16,7 @@ invariant-loop-card l = record {
   traces : Traces (view_of l.seat);
   order : l.fn.from ≤ l.card;
   still : l.card-end ≤ l.fn.from → l.card ≡ l.fn.from;
-  later : LaterCleaned (view_of l.fn.seat) (view_of l.seat);
+  later : OnlyCleaned (view_of l.fn.seat) (view_of l.seat);
   packet : Fills l.fn.out l.out (view_of l.fn.seat) (view_of l.seat);
   work : IsFalse (work_in_hand l.heap.shape.fields (view_of l.seat).state);
   most : l.rescanned ≤ 16 * (l.card - l.fn.from);

@@ -5,8 +5,8 @@ use Rattle.mark_core.specs.declared.kinds.Step.TheVariants.{ReadCard}
 use Rattle.mark_core.specs.declared.seat.SeatState.{SeatState}
 use Rattle.gc_table.specs.declared.view.View.{View}
 use Rattle.gc_table.specs.Seats.{view_of}
-use Rattle.packet_pools.specs.Later.{Later}
-use Rattle.packet_pools.proofs.LaterSteps.{later-join}
+use Rattle.packet_pools.specs.OnlyTraced.{OnlyTraced}
+use Rattle.packet_pools.proofs.TracedSteps.{later-join}
 use Rattle.card_clean.specs.Drained.{AreNotedClean}
 use Rattle.card_clean.specs.Looking.{KeepsAllNotes}
 use Rattle.card_clean.proofs.CardLooks.{clean-look, clean-more, dirty-look}
@@ -47,7 +47,7 @@ loop-card-preserved c =
     let v : View = view_of c.args.seat.now in
     let w : View = view_of c.loop-card.seat in
     let x : View = view_of c.read_card.new.seat in
-    let k : Later w x = later-read_card w x e.0 card e.2 e.1 in
+    let k : OnlyTraced w x = later-read_card w x e.0 card e.2 e.1 in
     let cells : c.shape-card-end.result.cells ≡ c.args.heap.now.shape.cells = ap (λ (s : Shape). s.cells) c.shape-card-end.ensures in
     let below : card < card_count c.args.heap.now.shape = omega (arith, c.loop-card-test.true, cells) in
     let there : card < card_count w.shape = subst (λ (sh : Shape). card < card_count sh) (sym i.sits.1) below in

@@ -1,7 +1,7 @@
 use Rattle.std.proofs.Common.{◌≡◌, ◌≤◌}
 use Rattle.std.specs.Prelude.{IsTrue}
 use Rattle.gc_table.specs.Seats.{Sits, view_of}
-use Rattle.packet_pools.specs.Later.{Later}
+use Rattle.packet_pools.specs.OnlyTraced.{OnlyTraced}
 use Rattle.gc_table.specs.Log.{events}
 use Rattle.card_clean.specs.Drained.{AreNotedClean}
 use Rattle.card_clean.specs.Looking.{KeepsAllNotes, looks_clean}
@@ -12,7 +12,7 @@ invariant-loop-card l = record {
   sits : Sits l.heap l.seat;
   order : l.fn.from ≤ l.card;
   still : l.card-end ≤ l.fn.from → l.card ≡ l.fn.from;
-  later : Later (view_of l.fn.seat) (view_of l.seat);
+  later : OnlyTraced (view_of l.fn.seat) (view_of l.seat);
   state : (view_of l.seat).state ≡ (view_of l.fn.seat).state;
   notes : KeepsAllNotes (view_of l.fn.seat) (view_of l.seat);
   looked : events (view_of l.fn.seat) (view_of l.seat) ≡ looks_clean l.fn.from l.card;

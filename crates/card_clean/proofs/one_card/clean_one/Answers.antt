@@ -7,7 +7,7 @@ use Rattle.gc_table.specs.Log.{events}
 use Rattle.gc_table.proofs.Log.{events-join}
 use Rattle.packet_pools.proofs.Counting.{given-moves}
 use Rattle.packet_pools.proofs.InHand.{drop-with}
-use Rattle.packet_pools.proofs.LaterSteps.{cleaned-join, later-cleaned}
+use Rattle.packet_pools.proofs.TracedSteps.{cleaned-join, later-cleaned}
 use Rattle.card_clean.specs.Leaving.{rescanned_in}
 use Rattle.card_clean.proofs.Leavings.{rescanned-join, rescanned-moves}
 use Rattle.card_clean.proofs.Takings.{some-free, with-free}

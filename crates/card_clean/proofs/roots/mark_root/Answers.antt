@@ -7,9 +7,9 @@ use Rattle.mark_core.specs.declared.kinds.Step.TheVariants.{ReadRoot}
 use Rattle.gc_table.specs.declared.view.View.{View}
 use Rattle.gc_table.specs.Seats.{view_of}
 use Rattle.gc_table.specs.Taking.{after}
-use Rattle.packet_pools.specs.Later.{Later, IsNotedMarked}
+use Rattle.packet_pools.specs.OnlyTraced.{OnlyTraced, IsNotedMarked}
 use Rattle.packet_pools.proofs.Doing.{traces-on}
-use Rattle.packet_pools.proofs.LaterSteps.{later-join, later-refl}
+use Rattle.packet_pools.proofs.TracedSteps.{later-join, later-refl}
 use Rattle.card_clean.specs.Drained.{IsNotedRoot}
 use Rattle.card_clean.proofs.Rooting.{may-read_root, root-noted, marked-work}
 use Rattle.packet_pools.proofs.ScanSteps.{later-read_root}
@@ -86,7 +86,7 @@ returns-then-word-ne0-clause-noted c alone =
     let n : ℕ = c.read_root-word.result in
     let e = c.read_root-word.ensures.view in
     let m = c.mark_cell.ensures in
-    root-noted v x n c.args.section c.args.v (subst (λ (sh : Shape). c.args.section < sh.sections) (sym c.requires.seat.0.1) c.requires.root.0) c.requires.root.1 alone e.1 (subst (λ z. Later z x) e.0 m.later)
+    root-noted v x n c.args.section c.args.v (subst (λ (sh : Shape). c.args.section < sh.sections) (sym c.requires.seat.0.1) c.requires.root.0) c.requires.root.1 alone e.1 (subst (λ z. OnlyTraced z x) e.0 m.later)
     (inr (subst (IsNotedMarked x) c.cell_of.ensures (m.noted (ap (λ (z : View). z.state.alone) e.0 ∙ alone))))
 
 pub returns-else-word-ne0-clause-left : goal.returns-else-word-ne0-clause-left

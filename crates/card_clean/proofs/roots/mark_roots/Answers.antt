@@ -3,7 +3,7 @@ use Rattle.mark_core.specs.declared.seat.SeatState.{SeatState}
 use Rattle.gc_table.specs.declared.view.View.{View}
 use Rattle.gc_table.specs.Seats.{view_of}
 use Rattle.packet_pools.proofs.Filled.{fills-join}
-use Rattle.packet_pools.proofs.LaterSteps.{later-join}
+use Rattle.packet_pools.proofs.TracedSteps.{later-join}
 use Rattle.card_clean.specs.Drained.{RootsNoted}
 use Rattle.card_clean.proofs.Staying.{root-stays}
 use Rattle.card_clean.proofs.Rooting.{roots-next}

@@ -2,7 +2,7 @@ use Rattle.std.proofs.Common.{◌≡◌}
 use Rattle.std.specs.Prelude.{IsTrue, IsFalse}
 use Rattle.mark_core.specs.Seats.{work_in_hand}
 use Rattle.gc_table.specs.Seats.{Sits, view_of}
-use Rattle.packet_pools.specs.Later.{Later}
+use Rattle.packet_pools.specs.OnlyTraced.{OnlyTraced}
 use Rattle.packet_pools.specs.Tracing.{Traces}
 use Rattle.packet_pools.specs.Scanning.{Fills}
 use Rattle.card_clean.specs.Drained.{RootsNoted}
@@ -14,7 +14,7 @@ abbrev pub invariant-loop-v : goal.invariant-loop-v
 invariant-loop-v l = record {
   sits : Sits l.heap l.seat;
   traces : Traces (view_of l.seat);
-  later : Later (view_of l.fn.seat) (view_of l.seat);
+  later : OnlyTraced (view_of l.fn.seat) (view_of l.seat);
   packet : Fills l.fn.out l.out (view_of l.fn.seat) (view_of l.seat);
   work : IsFalse (work_in_hand l.heap.shape.fields (view_of l.seat).state);
   left : rescanned_in (view_of l.fn.seat) (events (view_of l.fn.seat) (view_of l.seat)) ≡ 0;

@@ -5,7 +5,7 @@ use Rattle.mark_core.specs.declared.seat.SeatState.{SeatState}
 use Rattle.gc_table.specs.declared.view.View.{View}
 use Rattle.gc_table.specs.Seats.{view_of}
 use Rattle.packet_pools.proofs.InHand.{drop-with}
-use Rattle.packet_pools.proofs.LaterSteps.{later-join}
+use Rattle.packet_pools.proofs.TracedSteps.{later-join}
 use Rattle.card_clean.proofs.Staying.{ready-stays, root-stays}
 use Rattle.card_clean.proofs.Takings.{some-free, with-free}
 use Rattle.std.specs.Prelude.{[], ◌∷◌, ◌==◌}

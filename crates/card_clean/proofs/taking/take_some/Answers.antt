@@ -9,10 +9,10 @@ use Rattle.gc_table.specs.declared.view.View.{View}
 use Rattle.gc_table.specs.Seats.{view_of}
 use Rattle.gc_table.specs.Log.{events}
 use Rattle.packet_pools.specs.Seeking.{NoInput, NoOutput, only_moves}
-use Rattle.packet_pools.proofs.LaterSteps.{later-join}
+use Rattle.packet_pools.proofs.TracedSteps.{later-join}
 use Rattle.gc_table.proofs.Log.{events-join}
 use Rattle.packet_pools.proofs.Searches.{moves-join, moves-more}
-use Rattle.packet_pools.specs.Later.{Later}
+use Rattle.packet_pools.specs.OnlyTraced.{OnlyTraced}
 use Rattle.card_clean.specs.Taking.{NoPacket}
 use Rattle.card_clean.proofs.taking.take_some.Goals as goal
 
@@ -32,7 +32,7 @@ input-moves sh None v w s n = widened (events v w) n.2
 input-moves sh (Some h) v w s n = widened (events v w) s.0.moves
 
 -- both searches failed
-both-none : (sh : Shape) (o : Option Held) (v w x : View) → w.state ≡ v.state → NoOutput sh (events v w) → Later v w → Later w x → IfNone o ((x.state ≡ w.state) × NoInput sh (events w x) × IsTrue (only_moves (2 ∷ 1 ∷ []) (events w x))) → IfNone o ((x.state ≡ v.state) × NoPacket sh (events v x))
+both-none : (sh : Shape) (o : Option Held) (v w x : View) → w.state ≡ v.state → NoOutput sh (events v w) → OnlyTraced v w → OnlyTraced w x → IfNone o ((x.state ≡ w.state) × NoInput sh (events w x) × IsTrue (only_moves (2 ∷ 1 ∷ []) (events w x))) → IfNone o ((x.state ≡ v.state) × NoPacket sh (events v x))
 both-none sh (Some h) v w x e out a b n = n
 both-none sh None v w x e out a b n = (n.0 ∙ e, record { first = events v w; second = events w x; events_are = events-join v w x a.log b.log; no_output = out; no_input = n.1 })
 

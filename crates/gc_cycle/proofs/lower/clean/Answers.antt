@@ -10,7 +10,7 @@ use Rattle.gc_table.specs.Seats.{view_of}
 use Rattle.gc_table.specs.declared.view.Entry.{Entry}
 use Rattle.gc_table.specs.declared.view.View.{View}
 use Rattle.packet_pools.specs.Counts.{scans_object}
-use Rattle.packet_pools.specs.Later.{LaterCleaned, traces_cells}
+use Rattle.packet_pools.specs.OnlyTraced.{OnlyCleaned, traces_cells}
 use Rattle.packet_pools.specs.Seeking.{moves_packet, NoOutput, only_moves, some_event}
 use Rattle.packet_pools.specs.Tracing.{Traces}
 use Rattle.packet_pools.proofs.Searches.{some-left, some-right}
@@ -96,7 +96,7 @@ pub clean_one-requires-clause-work : goal.clean_one-requires-clause-work
 clean_one-requires-clause-work c = (rest-parts c.args.heap.now.shape (view_of c.args.seat.now).state c.requires.rest).work
 
 -- at rest before, and with the packets and the work of before
-traced : (sh : Shape) (v w : View) → v.shape ≡ sh → w.shape ≡ sh → is_at_rest sh v.state ≡ true → LaterCleaned v w → Traces w → w.state.held ≡ v.state.held → work_in_hand sh.fields w.state ≡ false → HasTraced v w
+traced : (sh : Shape) (v w : View) → v.shape ≡ sh → w.shape ≡ sh → is_at_rest sh v.state ≡ true → OnlyCleaned v w → Traces w → w.state.held ≡ v.state.held → work_in_hand sh.fields w.state ≡ false → HasTraced v w
 traced sh v w ve we r l t h k = traced-held v w l t h (ap (λ (x : Shape). work_in_hand x.fields w.state) we ∙ k) (rest-there sh v ve r)
 
 pub returns-in-Some-clause-traced : goal.returns-in-Some-clause-traced

@@ -12,7 +12,7 @@ use Rattle.gc_table.specs.Log.{all_steps, events, Only}
 use Rattle.gc_table.specs.Running.{Ran}
 use Rattle.gc_table.proofs.Noticing.{alone-kept}
 use Rattle.gc_table.proofs.Running.{ran-shape}
-use Rattle.packet_pools.specs.Later.{rest_of}
+use Rattle.packet_pools.specs.OnlyTraced.{rest_of}
 use Rattle.card_clean.specs.Leaving.{rescans}
 use Rattle.card_clean.proofs.Drawn.{rooted-drawn}
 use Rattle.gc_table.specs.Seats.{view_of}

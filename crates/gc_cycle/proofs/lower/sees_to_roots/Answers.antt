@@ -6,7 +6,7 @@ use Rattle.mark_core.specs.declared.kinds.Shape.{Shape}
 use Rattle.gc_table.specs.Log.{events}
 use Rattle.gc_table.specs.Seats.{view_of}
 use Rattle.gc_table.specs.declared.view.View.{View}
-use Rattle.packet_pools.specs.Later.{Later}
+use Rattle.packet_pools.specs.OnlyTraced.{OnlyTraced}
 use Rattle.packet_pools.specs.Tracing.{Traces}
 use Rattle.card_clean.proofs.Staying.{ready-stays}
 use Rattle.gc_cycle.specs.Finishing.{IsAloneIn}
@@ -22,7 +22,7 @@ use Rattle.gc_cycle.proofs.lower.sees_to_roots.Goals as goal
 rest-of : (v : View) → IsAloneIn Drain v → is_at_rest v.shape v.state ≡ true
 rest-of v a = nothing-rest v.shape v.state a.rest.rest
 
-seen : (sh : Shape) (v w : View) → w.shape ≡ sh → IsAloneIn Drain v → Later v w → Traces w → w.state.held ≡ v.state.held → work_in_hand sh.fields w.state ≡ false → HasTraced v w
+seen : (sh : Shape) (v w : View) → w.shape ≡ sh → IsAloneIn Drain v → OnlyTraced v w → Traces w → w.state.held ≡ v.state.held → work_in_hand sh.fields w.state ≡ false → HasTraced v w
 seen sh v w e a l t h k = traced-held v w l t h (ap (λ (x : Shape). work_in_hand x.fields w.state) e ∙ k) (rest-of v a)
 
 pub see_to_roots-requires-clause-seat : goal.see_to_roots-requires-clause-seat

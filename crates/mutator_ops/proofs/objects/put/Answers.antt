@@ -43,7 +43,7 @@ done c =
     let own = ap (λ (y : View). y.own) e.view in
     stores-does (ops.Put c.args.v c.args.n) v x w (reads-put c.args.v c.args.n) k (ran-stored x w (StoreValue c.args.v c.args.n) refl e.view) (only-after (belongs (ops.Put c.args.v c.args.n)) x w (StoreValue c.args.v c.args.n) _ refl e.view)
     (ap (λ (y : View). y.state) e.view)
-    (own ∙ ap (λ (y : SectionState). record x.own { meaning = y.meaning; turns = y.turns; settled = y.settled }) (sym own))
+    (own ∙ ap (λ (y : SectionState). record x.own { meaning = y.meaning; history = y.history; settled = y.settled }) (sym own))
     (once-after x w (StoreValue c.args.v c.args.n) _ e.view)
     (λ d. ap (λ (h : Heap). with_dropped (d + 0) h) e.plain
     ∙ ap (λ (y : SectionState). with_dropped (d + 0) (stored_at y.meaning.heap (variable y.meaning.heap c.args.v) (λ (o : Object). with_value o c.args.n))) k.own

@@ -39,7 +39,7 @@ done c =
     let q = c.look_at.ensures.seat.1 in
     stores-does (ops.Set c.args.v c.args.i c.args.w) v x w (reads-set c.args.v c.args.i c.args.w) k e.ran (only-barrier x.state c.args.v c.args.i c.args.w _ x w e.steps)
     (e.state ∙ stored-same x.shape.fields x.state c.args.v q.idle q.stores.owes)
-    (e.own ∙ ap (λ (y : SectionState). record x.own { meaning = y.meaning; turns = y.turns; settled = y.settled }) (sym e.own))
+    (e.own ∙ ap (λ (y : SectionState). record x.own { meaning = y.meaning; history = y.history; settled = y.settled }) (sym e.own))
     (once-barrier x.state c.args.v c.args.i _ x w e.steps)
     (λ d. ap (λ (h : Heap). with_dropped (d + 0) h) e.plain
     ∙ ap (λ (y : SectionState). with_dropped (d + 0) (stored_at y.meaning.heap (variable y.meaning.heap c.args.v) (λ (o : Object). with_field o c.args.i (variable y.meaning.heap c.args.w)))) k.own

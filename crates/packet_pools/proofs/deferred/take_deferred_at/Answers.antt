@@ -18,7 +18,7 @@ use Rattle.gc_table.proofs.Log.{events-after}
 use Rattle.packet_pools.proofs.Conditions.{may-read_length, may-take}
 use Rattle.packet_pools.proofs.Choices.{seeks-from, traces-same}
 use Rattle.packet_pools.proofs.Doing.{later-take}
-use Rattle.packet_pools.proofs.LaterSteps.{later-refl}
+use Rattle.packet_pools.proofs.TracedSteps.{later-refl}
 use Rattle.packet_pools.proofs.TakenOne.{lost-state}
 use Rattle.packet_pools.proofs.TakenRead.{both, gains, later, traces, w-holds, w-there, w-unread}
 use Rattle.packet_pools.proofs.deferred.take_deferred_at.Goals as goal

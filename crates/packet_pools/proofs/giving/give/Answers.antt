@@ -6,8 +6,8 @@ use Rattle.mark_core.specs.declared.kinds.Shape.{Shape}
 use Rattle.mark_core.specs.declared.seat.SeatState.{SeatState}
 use Rattle.gc_table.specs.declared.view.View.{View}
 use Rattle.gc_table.specs.Seats.{view_of}
-use Rattle.packet_pools.specs.Later.{Later}
-use Rattle.packet_pools.proofs.LaterSteps.{later-join}
+use Rattle.packet_pools.specs.OnlyTraced.{OnlyTraced}
+use Rattle.packet_pools.proofs.TracedSteps.{later-join}
 use Rattle.packet_pools.proofs.Conditions.{may-store_length, may-give, may-credit}
 use Rattle.packet_pools.proofs.InHand.{known-held, known-has, known-entry}
 use Rattle.packet_pools.proofs.Doing.{later-store_length, later-give, later-credit, traces-on}
@@ -106,7 +106,7 @@ returns-then-length-eq0-clause-seat c =
     let n : ℕ = c.args.held.length in
     let k = c.requires.held.known in
     let t = c.requires.seat.1 in
-    let later : Later v y =
+    let later : OnlyTraced v y =
     later-join v w y (later-store_length v w _ p refl c.store_length.ensures.view)
     (later-join w x y (later-give w x _ p c.args.deferred c.give.ensures.view.1.1 c.give.ensures.view.1.0) (later-credit x y _ c.credit.ensures.view.1.1 c.credit.ensures.view.1.0)) in
     let e = c.credit.ensures.view.1.0 in
@@ -121,7 +121,7 @@ returns-else-length-eq0-clause-seat c =
     let n : ℕ = c.args.held.length in
     let k = c.requires.held.known in
     let t = c.requires.seat.1 in
-    let later : Later v x = later-join v w x (later-store_length v w _ p refl c.store_length.ensures.view) (later-give w x _ p c.args.deferred c.give.ensures.view.1.1 c.give.ensures.view.1.0) in
+    let later : OnlyTraced v x = later-join v w x (later-store_length v w _ p refl c.store_length.ensures.view) (later-give w x _ p c.args.deferred c.give.ensures.view.1.1 c.give.ensures.view.1.0) in
     let some : 0 < n = let d = c.if-length-eq0.false in omega (arith, d) in
     let state = after-give v w x p n k (ap (λ (y : View). y.state) c.store_length.ensures.view) (ap (λ (y : View). y.state) c.give.ensures.view.1.0) ∙ given-full v.state p n k some t.uncredited in
     (c.give.ensures.seat, traces-on v x later t (ap (λ (s : SeatState). s.reserved) state) (ap (λ (s : SeatState). s.credit) state))

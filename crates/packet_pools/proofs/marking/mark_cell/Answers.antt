@@ -8,11 +8,11 @@ use Rattle.gc_table.specs.declared.view.Entry.{Entry}
 use Rattle.gc_table.specs.declared.view.View.{View}
 use Rattle.gc_table.specs.Seats.{view_of}
 use Rattle.gc_table.specs.Log.{events}
-use Rattle.packet_pools.specs.Later.{IsNotedMarked}
+use Rattle.packet_pools.specs.OnlyTraced.{IsNotedMarked}
 use Rattle.packet_pools.specs.Counts.{Counts}
 use Rattle.gc_table.proofs.Log.{entry_of, events-after, events-join}
 use Rattle.packet_pools.proofs.Marked.{marked-stays}
-use Rattle.packet_pools.proofs.LaterSteps.{later-join, marks-noted}
+use Rattle.packet_pools.proofs.TracedSteps.{later-join, marks-noted}
 use Rattle.packet_pools.proofs.Doing.{traces-on}
 use Rattle.packet_pools.proofs.ScanSteps.{may-set_mark, later-set_mark}
 use Rattle.packet_pools.proofs.Counting.{counts-join, counts-mark}

@@ -10,7 +10,7 @@ use Rattle.gc_table.specs.Log.{events}
 use Rattle.packet_pools.specs.Scanning.{Pushes}
 use Rattle.packet_pools.specs.Counts.{Counts}
 use Rattle.gc_table.proofs.Log.{entry_of, events-after, events-join}
-use Rattle.packet_pools.proofs.LaterSteps.{later-join}
+use Rattle.packet_pools.proofs.TracedSteps.{later-join}
 use Rattle.packet_pools.proofs.Doing.{traces-on}
 use Rattle.packet_pools.proofs.ScanSteps.{may-read_field, later-read_field}
 use Rattle.packet_pools.specs.Fields.{Asks}

@@ -4,7 +4,7 @@ use Rattle.gc_table.specs.declared.view.View.{View}
 use Rattle.gc_table.specs.Seats.{view_of}
 use Rattle.gc_table.specs.Log.{events}
 use Rattle.gc_table.proofs.Log.{events-join}
-use Rattle.packet_pools.proofs.LaterSteps.{later-join}
+use Rattle.packet_pools.proofs.TracedSteps.{later-join}
 use Rattle.packet_pools.specs.Fields.{Follows, fields_from}
 use Rattle.packet_pools.proofs.Reading.{fields-next, follows-join}
 use Rattle.packet_pools.proofs.Counting.{counts-join}

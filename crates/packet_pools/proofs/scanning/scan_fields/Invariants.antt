@@ -1,6 +1,6 @@
 use Rattle.std.proofs.Common.{◌-◌, ◌≡◌, ◌≤◌, ◌+◌, Some}
 use Rattle.gc_table.specs.Seats.{Sits, view_of}
-use Rattle.packet_pools.specs.Later.{Later}
+use Rattle.packet_pools.specs.OnlyTraced.{OnlyTraced}
 use Rattle.gc_table.specs.Log.{events}
 use Rattle.packet_pools.specs.Tracing.{Traces}
 use Rattle.packet_pools.specs.Scanning.{Pushes}
@@ -13,7 +13,7 @@ abbrev pub invariant-loop-i : goal.invariant-loop-i
 invariant-loop-i l = record {
   sits : Sits l.heap l.seat;
   traces : Traces (view_of l.seat);
-  later : Later (view_of l.fn.seat) (view_of l.seat);
+  later : OnlyTraced (view_of l.fn.seat) (view_of l.seat);
   order : l.fn.next ≤ l.i;
   still : l.heap.shape.fields ≤ l.fn.next → l.i ≡ l.fn.next;
   pushes : Pushes l.fn.out l.out (Some (l.fn.cell, l.i)) (cleaned l.fn.cell l.fn.next l.i (view_of l.fn.seat).state.cleaning) (view_of l.fn.seat) (view_of l.seat);

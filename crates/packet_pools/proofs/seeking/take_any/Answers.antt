@@ -7,7 +7,7 @@ use Rattle.gc_table.specs.Seats.{view_of}
 use Rattle.gc_table.specs.Log.{events}
 use Rattle.packet_pools.specs.Gains.{Misses}
 use Rattle.gc_table.proofs.Log.{events-join}
-use Rattle.packet_pools.proofs.LaterSteps.{later-join}
+use Rattle.packet_pools.proofs.TracedSteps.{later-join}
 use Rattle.packet_pools.proofs.Searches.{misses-join}
 use Rattle.packet_pools.proofs.WordSearch.{seeks-on, gains-from}
 use Rattle.packet_pools.proofs.seeking.take_any.Goals as goal

@@ -10,7 +10,7 @@ use Rattle.gc_table.specs.Seats.{view_of}
 use Rattle.gc_table.specs.Log.{events}
 use Rattle.packet_pools.specs.Gains.{Misses}
 use Rattle.gc_table.proofs.Log.{events-after}
-use Rattle.packet_pools.proofs.LaterSteps.{later-join}
+use Rattle.packet_pools.proofs.TracedSteps.{later-join}
 use Rattle.packet_pools.proofs.Conditions.{may-take, may-read_length}
 use Rattle.packet_pools.proofs.Doing.{later-take}
 use Rattle.packet_pools.proofs.TakenOne.{lost-state, lost-misses, work-holds}

@@ -11,12 +11,12 @@ use Rattle.mark_core.specs.declared.seat.SeatState.{SeatState}
 use Rattle.gc_table.specs.declared.view.View.{View}
 use Rattle.gc_table.specs.Seats.{Found, view_of}
 use Rattle.gc_table.specs.Taking.{after}
-use Rattle.packet_pools.specs.Later.{Later}
+use Rattle.packet_pools.specs.OnlyTraced.{OnlyTraced}
 use Rattle.gc_table.specs.Log.{events}
 use Rattle.packet_pools.specs.Seeking.{gets_from, was_got, was_got_from, only_moves}
 use Rattle.packet_pools.specs.Gains.{Misses}
 use Rattle.gc_table.proofs.Log.{events-after, events-join}
-use Rattle.packet_pools.proofs.LaterSteps.{later-join}
+use Rattle.packet_pools.proofs.TracedSteps.{later-join}
 use Rattle.packet_pools.proofs.Conditions.{may-reserve, traces-later}
 use Rattle.packet_pools.proofs.Doing.{later-reserve, later-credit, traces-on}
 use Rattle.packet_pools.proofs.PoolSearch.{misses-within}
@@ -79,7 +79,7 @@ returns-in-Some-clause-some c =
       moves = ap (only_moves (0 ∷ [])) es ∙ moves-join (0 ∷ []) (events v w) (events w x) (ap (only_moves (0 ∷ [])) first) g.moves;
     }
 
-all-later : (v w u x : View) (m n : ℕ) → Found Reserve m v w → Later w u → Found Credit n u x → Later v x
+all-later : (v w u x : View) (m n : ℕ) → Found Reserve m v w → OnlyTraced w u → Found Credit n u x → OnlyTraced v x
 all-later v w u x m n a b d = later-join v w x (later-reserve v w m a.1 a.0) (later-join w u x b (later-credit u x n d.1 d.0))
 
 -- the reservation is given up again

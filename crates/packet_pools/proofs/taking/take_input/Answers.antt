@@ -11,7 +11,7 @@ use Rattle.gc_table.specs.Log.{events}
 use Rattle.packet_pools.specs.Seeking.{AllMissed, NoInput, seen_outside, was_lost, was_got, only_moves}
 use Rattle.packet_pools.specs.Gains.{Gains, Misses, Takes}
 use Rattle.gc_table.proofs.Log.{events-join}
-use Rattle.packet_pools.proofs.LaterSteps.{later-join}
+use Rattle.packet_pools.proofs.TracedSteps.{later-join}
 use Rattle.packet_pools.proofs.Searches.{none-got, first-pool, moves-join, next-pools}
 use Rattle.packet_pools.proofs.PoolSearch.{all-missed, all-left, all-right, takes-first, takes-next, two-pools}
 use Rattle.packet_pools.proofs.Choices.{if-some, if-none, seeks-from, traces-same, traces-gained, traces-either, low-some}

@@ -12,7 +12,7 @@ use Rattle.gc_table.specs.Log.{events}
 use Rattle.packet_pools.specs.Seeking.{AllMissed, NoOutput, seen_outside, was_full, was_got, was_got_from, was_lost, only_moves}
 use Rattle.packet_pools.specs.Gains.{ComesFrom, Gains, Misses, Takes}
 use Rattle.gc_table.proofs.Log.{events-join}
-use Rattle.packet_pools.proofs.LaterSteps.{later-join}
+use Rattle.packet_pools.proofs.TracedSteps.{later-join}
 use Rattle.packet_pools.proofs.Searches.{missed-right, none-got, first-pool, moves-join, next-pools}
 use Rattle.packet_pools.proofs.PoolSearch.{all-missed, all-left, all-right, below-words, takes-first, takes-next, three-pools}
 use Rattle.packet_pools.proofs.Choices.{if-some, if-none, seeks-from, traces-same, traces-gained, traces-either, low-room}

@@ -6,7 +6,7 @@ use Rattle.mark_core.specs.declared.kinds.Step.TheVariants.{Push}
 use Rattle.mark_core.specs.declared.seat.SeatState.{SeatState}
 use Rattle.gc_table.specs.Seats.{Stored, view_of}
 use Rattle.packet_pools.specs.Hands.{IsHeld}
-use Rattle.packet_pools.proofs.LaterSteps.{later-join}
+use Rattle.packet_pools.proofs.TracedSteps.{later-join}
 use Rattle.tracer.specs.Hands.{Carries}
 use Rattle.tracer.specs.Parts.{Part}
 use Rattle.tracer.proofs.Carried.{carries-give, carries-set}

@@ -5,7 +5,7 @@ use Rattle.mark_core.specs.declared.kinds.Step.TheVariants.{DirtyCard}
 use Rattle.mark_core.specs.declared.seat.SeatState.{SeatState}
 use Rattle.gc_table.specs.Taking.{May}
 use Rattle.packet_pools.proofs.Doing.{traces-on}
-use Rattle.packet_pools.proofs.LaterSteps.{later-join}
+use Rattle.packet_pools.proofs.TracedSteps.{later-join}
 use Rattle.packet_pools.proofs.ScanSteps.{later-dirty_card}
 use Rattle.tracer.specs.declared.packets.Packets.{Packets}
 use Rattle.tracer.specs.Hands.{Carries, HasRoom, in_front, packet_of, packets_of}

@@ -1,7 +1,7 @@
 use Rattle.std.proofs.Common.{◌≡◌, Option, List, [], ◌∷◌, sym, ap, ◌∙◌, subst, refl}
 use Rattle.std.proofs.lemmas.Bool.{false≢true}
 use Rattle.mark_core.specs.declared.kinds.Shape.{Shape}
-use Rattle.packet_pools.proofs.LaterSteps.{later-join}
+use Rattle.packet_pools.proofs.TracedSteps.{later-join}
 use Rattle.tracer.specs.declared.packets.Packets.{Packets}
 use Rattle.tracer.specs.Hands.{Carries, in_front, packets_of}
 use Rattle.tracer.proofs.Carried.{carries-free, carries-take, front-held, packets-three, second-front}

@@ -14,7 +14,7 @@ use Rattle.packet_pools.proofs.Choices.{traces-same}
 use Rattle.packet_pools.proofs.Conditions.{may-look}
 use Rattle.packet_pools.proofs.Doing.{later-look}
 use Rattle.packet_pools.proofs.InHand.{drop-with}
-use Rattle.packet_pools.proofs.LaterSteps.{later-join}
+use Rattle.packet_pools.proofs.TracedSteps.{later-join}
 use Rattle.gc_table.proofs.Log.{entry_of, events-after, events-join}
 use Rattle.tracer.specs.Recycling.{is_settled, Recycles}
 use Rattle.tracer.proofs.Carried.{carries-free, carries-none}
@@ -22,7 +22,7 @@ use Rattle.tracer.proofs.Recycled.{given-event, moved-both, recycles-lost, recyc
 use Rattle.gc_table.specs.declared.view.View.{View}
 use Rattle.gc_table.specs.Seats.{view_of}
 use Rattle.packet_pools.specs.declared.held.Held.{Held}
-use Rattle.packet_pools.specs.Later.{Later}
+use Rattle.packet_pools.specs.OnlyTraced.{OnlyTraced}
 use Rattle.tracer.proofs.recycling.recycle.Goals as goal
 
 pub look-word-requires-clause-may : goal.look-word-requires-clause-may
@@ -68,7 +68,7 @@ returns-in_default-clause-later c =
     let w : View = view_of c.look-word.new.seat in
     later-join v w (view_of c.take_deferred_at.new.seat) (later-look v w _ 3 (c.args.p / 64) c.look-word.ensures.view.1 c.look-word.ensures.view.0) c.in_default.ensures.later
 
-after-look : (v w x : View) (g n : ℕ) → Finds (Look 3 g) n v → w ≡ after (Look 3 g) n v → Later w x → events v x ≡ entry_of (Look 3 g) n ∷ events w x
+after-look : (v w x : View) (g n : ℕ) → Finds (Look 3 g) n v → w ≡ after (Look 3 g) n v → OnlyTraced w x → events v x ≡ entry_of (Look 3 g) n ∷ events w x
 after-look v w x g n f e b = events-join v w x (later-look v w n 3 g f e).log b.log ∙ ap (λ (l : List Entry). l ++ events w x) (events-after v w (Look 3 g) n e)
 
 pub returns-in_default-clause-recycles : goal.returns-in_default-clause-recycles
@@ -102,7 +102,7 @@ pub returns-clause-state : goal.returns-clause-state
 returns-clause-state c =
     back (view_of c.args.seat.now) (view_of c.look-word.new.seat) (view_of c.take_deferred_at.new.seat) (view_of c.give.new.seat) c.in-Some.held (ap (λ (z : View). z.state) c.look-word.ensures.view.0) c.in-Some.ensures.some.0 c.requires.seat.1.unreserved c.give.ensures.state
 
-moved : (v w x y : View) (p n : ℕ) (b : Bool) → Finds (Look 3 (p / 64)) n v → w ≡ after (Look 3 (p / 64)) n v → Later w x → Later x y → steps_of (events w x) ≡ Take 3 p ∷ ReadLength p ∷ [] → was_got_from 3 p (events w x) ≡ true → steps_of (events x y) ≡ StoreLength p ∷ Give p false ∷ (cond b (Credit ∷ []) []) → Recycles p (p + 1) 1 (events v y)
+moved : (v w x y : View) (p n : ℕ) (b : Bool) → Finds (Look 3 (p / 64)) n v → w ≡ after (Look 3 (p / 64)) n v → OnlyTraced w x → OnlyTraced x y → steps_of (events w x) ≡ Take 3 p ∷ ReadLength p ∷ [] → was_got_from 3 p (events w x) ≡ true → steps_of (events x y) ≡ StoreLength p ∷ Give p false ∷ (cond b (Credit ∷ []) []) → Recycles p (p + 1) 1 (events v y)
 moved v w x y p n b f e l m took got gave =
     let all : events v y ≡ entry_of (Look 3 (p / 64)) n ∷ (events w x ++ events x y) =
     after-look v w y (p / 64) n f e (later-join w x y l m) ∙ ap (λ (t : List Entry). entry_of (Look 3 (p / 64)) n ∷ t) (events-join w x y l.log m.log) in

@@ -1,6 +1,6 @@
 use Rattle.std.proofs.Common.{◌≡◌, ◌≤◌, ◌+◌, Bool, true, false, cond, sym, ap, ◌∙◌, refl, arith, subst}
 use mir.Val.{bool_byte}
-use Rattle.packet_pools.proofs.LaterSteps.{later-join}
+use Rattle.packet_pools.proofs.TracedSteps.{later-join}
 use Rattle.gc_table.proofs.Log.{events-join}
 use Rattle.tracer.specs.Recycling.{Recycles}
 use Rattle.tracer.proofs.Recycled.{recycles-join, idle-still}

@@ -1,6 +1,6 @@
 use Rattle.std.proofs.Common.{◌≡◌, ◌≤◌, ◌+◌}
 use Rattle.gc_table.specs.Seats.{Sits, view_of}
-use Rattle.packet_pools.specs.Later.{Later}
+use Rattle.packet_pools.specs.OnlyTraced.{OnlyTraced}
 use Rattle.gc_table.specs.Log.{events}
 use Rattle.packet_pools.specs.Tracing.{Traces}
 use Rattle.tracer.specs.Recycling.{Recycles}
@@ -10,7 +10,7 @@ abbrev pub invariant-loop-p : goal.invariant-loop-p
 invariant-loop-p l = record {
   sits : Sits l.heap l.seat;
   traces : Traces (view_of l.seat);
-  later : Later (view_of l.fn.seat) (view_of l.seat);
+  later : OnlyTraced (view_of l.fn.seat) (view_of l.seat);
   state : (view_of l.seat).state ≡ (view_of l.fn.seat).state;
   most : l.moved + l.fn.first ≤ l.p;
   recycles : Recycles l.fn.first l.p l.moved (events (view_of l.fn.seat) (view_of l.seat));

@@ -4,7 +4,7 @@ use Rattle.mark_core.specs.declared.kinds.Step.TheVariants.{Look}
 use Rattle.packet_pools.proofs.Choices.{traces-same}
 use Rattle.packet_pools.proofs.Conditions.{may-look}
 use Rattle.packet_pools.proofs.Doing.{later-look}
-use Rattle.packet_pools.proofs.LaterSteps.{later-join}
+use Rattle.packet_pools.proofs.TracedSteps.{later-join}
 use Rattle.gc_table.proofs.Log.{events-after, events-join}
 use Rattle.tracer.proofs.Recycled.{recycles-empty, recycles-join, recycles-look, idle-still}
 use Rattle.gc_table.specs.declared.view.View.{View}

@@ -4,7 +4,7 @@ use Rattle.mark_core.specs.Seats.{work_in_hand}
 use Rattle.mark_core.specs.declared.kinds.Shape.{Shape}
 use Rattle.mark_core.specs.declared.seat.SeatState.{SeatState}
 use Rattle.packet_pools.proofs.Counting.{given-moves}
-use Rattle.packet_pools.proofs.LaterSteps.{later-join}
+use Rattle.packet_pools.proofs.TracedSteps.{later-join}
 use Rattle.gc_table.proofs.Log.{events-join}
 use Rattle.tracer.specs.Hands.{IsIdle}
 use Rattle.tracer.specs.Roots.{Follows, roots_of}
@@ -13,7 +13,7 @@ use Rattle.tracer.proofs.RootScans.{roots-join, roots-moves, roots-next, roots-o
 use Rattle.tracer.proofs.Whole.{append-none, keeps-record}
 use Rattle.gc_table.specs.declared.view.View.{View}
 use Rattle.gc_table.specs.Seats.{view_of}
-use Rattle.packet_pools.specs.Later.{Later}
+use Rattle.packet_pools.specs.OnlyTraced.{OnlyTraced}
 use Rattle.gc_table.specs.Log.{events}
 use Rattle.tracer.proofs.roots.scan_roots.Goals as goal
 
@@ -62,7 +62,7 @@ pub returns-clause-later : goal.returns-clause-later
 returns-clause-later c = later-join (view_of c.args.seat.now) (view_of c.loop-variable.seat) (view_of c.give.new.seat) c.loop-variable.invariant.later c.give.ensures.later
 
 -- all roots were scanned, and the packet was given back
-ended : (sh : Shape) (section n marked lost : ℕ) (v w x : View) → Later v w → Later w x → n ≡ 32 → Follows sh (roots_of section n) marked lost (events v w) → Follows sh [] 0 0 (events w x) → Follows sh (roots_of section 32) marked lost (events v x)
+ended : (sh : Shape) (section n marked lost : ℕ) (v w x : View) → OnlyTraced v w → OnlyTraced w x → n ≡ 32 → Follows sh (roots_of section n) marked lost (events v w) → Follows sh [] 0 0 (events w x) → Follows sh (roots_of section 32) marked lost (events v x)
 ended sh section n marked lost v w x a b all f g =
     subst (λ l. Follows sh l marked lost (events v x)) (sym (append-none (roots_of section n)) ∙ ap (roots_of section) all)
     (roots-join sh (roots_of section n) [] marked 0 marked lost 0 lost (events v w) (events w x) (events v x) (events-join v w x a.log b.log) (omega arith) (omega arith) f g)
@@ -92,7 +92,7 @@ returns-clause-idle c =
     let x : View = view_of c.give.new.seat in
     let i = c.loop-variable.invariant in
     let g = c.give.ensures in
-    let later : Later v x = later-join v w x i.later g.later in
+    let later : OnlyTraced v x = later-join v w x i.later g.later in
     record {
       held = (carries-give w x g.later.shape c.loop-variable.out [] (ap (λ (s : SeatState). s.held) g.state) i.out).held;
       work = ap (λ (s : Shape). work_in_hand s.fields x.state) g.seat.0.1 ∙ (ap (work_in_hand c.args.heap.now.shape.fields) g.state ∙ i.work);
@@ -107,7 +107,7 @@ returns-clause-state c =
     let x : View = view_of c.give.new.seat in
     let i = c.loop-variable.invariant in
     let g = c.give.ensures in
-    let later : Later v x = later-join v w x i.later g.later in
+    let later : OnlyTraced v x = later-join v w x i.later g.later in
     let idle : IsIdle x =
     record {
       held = (carries-give w x g.later.shape c.loop-variable.out [] (ap (λ (s : SeatState). s.held) g.state) i.out).held;

@@ -2,7 +2,7 @@ use Rattle.std.proofs.Common.{ℕ, ◌<◌, ◌≤◌, [], ◌∷◌}
 use Rattle.std.specs.Prelude.{IsFalse, IsTrue}
 use Rattle.mark_core.specs.Seats.{work_in_hand}
 use Rattle.gc_table.specs.Seats.{Sits, view_of}
-use Rattle.packet_pools.specs.Later.{Later}
+use Rattle.packet_pools.specs.OnlyTraced.{OnlyTraced}
 use Rattle.gc_table.specs.Log.{events}
 use Rattle.packet_pools.specs.Tracing.{Traces}
 use Rattle.tracer.specs.Hands.{Carries}
@@ -13,7 +13,7 @@ abbrev pub invariant-loop-variable : goal.invariant-loop-variable
 invariant-loop-variable l = record {
   sits : Sits l.heap l.seat;
   traces : Traces (view_of l.seat);
-  later : Later (view_of l.fn.seat) (view_of l.seat);
+  later : OnlyTraced (view_of l.fn.seat) (view_of l.seat);
   out : Carries (l.out ∷ []) (view_of l.seat);
   work : IsFalse (work_in_hand l.heap.shape.fields (view_of l.seat).state);
   most : l.marked ≤ l.variable;

@@ -4,7 +4,7 @@ use Rattle.mark_core.specs.declared.kinds.Shape.{Shape}
 use Rattle.mark_core.specs.declared.seat.SeatState.{SeatState}
 use Rattle.packet_pools.specs.Seeking.{NoInput, NoOutput, only_moves}
 use Rattle.packet_pools.proofs.Choices.{if-none, if-some}
-use Rattle.packet_pools.proofs.LaterSteps.{later-join}
+use Rattle.packet_pools.proofs.TracedSteps.{later-join}
 use Rattle.gc_table.proofs.Log.{events-join}
 use Rattle.packet_pools.proofs.Searches.{moves-join}
 use Rattle.tracer.specs.Hands.{Carries}
@@ -19,7 +19,7 @@ use Rattle.tracer.proofs.Moves.{either-way, input-moves}
 use Rattle.gc_table.specs.declared.view.View.{View}
 use Rattle.gc_table.specs.Seats.{view_of}
 use Rattle.packet_pools.specs.declared.held.Held.{Held}
-use Rattle.packet_pools.specs.Later.{Later}
+use Rattle.packet_pools.specs.OnlyTraced.{OnlyTraced}
 use Rattle.gc_table.specs.Log.{events}
 use Rattle.tracer.proofs.roots.take_either.Goals as goal
 
@@ -43,7 +43,7 @@ take_input-requires-clause-free c =
 pub returns-in-None-clause-later : goal.returns-in-None-clause-later
 returns-in-None-clause-later c = later-join (view_of c.args.seat.now) (view_of c.take_output.new.seat) (view_of c.take_input.new.seat) c.in-None.ensures.later c.take_input.ensures.later
 
-both-move : (v w x : View) (r : Option Held) → Later v w → Later w x → only_moves (0 ∷ 1 ∷ 2 ∷ []) (events v w) ≡ true → only_moves (2 ∷ 1 ∷ []) (events w x) ≡ true → only_moves (0 ∷ 1 ∷ 2 ∷ []) (events v x) ≡ true
+both-move : (v w x : View) (r : Option Held) → OnlyTraced v w → OnlyTraced w x → only_moves (0 ∷ 1 ∷ 2 ∷ []) (events v w) ≡ true → only_moves (2 ∷ 1 ∷ []) (events w x) ≡ true → only_moves (0 ∷ 1 ∷ 2 ∷ []) (events v x) ≡ true
 both-move v w x r a b m n = ap (only_moves (0 ∷ 1 ∷ 2 ∷ [])) (events-join v w x a.log b.log) ∙ moves-join (0 ∷ 1 ∷ 2 ∷ []) (events v w) (events w x) m (input-moves (events w x) n)
 
 pub returns-in-None-clause-moves : goal.returns-in-None-clause-moves
@@ -67,7 +67,7 @@ returns-in-None-clause-some c =
     if-some c.take_input.result _ (λ h. Carries (h ∷ []) x) (λ h t. carries-take w x f.later.shape (2 ∷ 1 ∷ []) h [] t.0 (carries-free [] w (omega arith) none) none) f.some
 
 -- both searches are told by the events of the call
-found : (v w x : View) → holds_any v.state.held ≡ false → holds_any w.state.held ≡ false → Later v w → Later w x → NoOutput v.shape (events v w) → only_moves (0 ∷ 1 ∷ 2 ∷ []) (events v w) ≡ true → NoInput v.shape (events w x) → only_moves (2 ∷ 1 ∷ []) (events w x) ≡ true → only_moves (0 ∷ 1 ∷ 2 ∷ []) (events v x) ≡ true → FoundNoPacket v x
+found : (v w x : View) → holds_any v.state.held ≡ false → holds_any w.state.held ≡ false → OnlyTraced v w → OnlyTraced w x → NoOutput v.shape (events v w) → only_moves (0 ∷ 1 ∷ 2 ∷ []) (events v w) ≡ true → NoInput v.shape (events w x) → only_moves (2 ∷ 1 ∷ []) (events w x) ≡ true → only_moves (0 ∷ 1 ∷ 2 ∷ []) (events v x) ≡ true → FoundNoPacket v x
 found v w x bare still a b output outward input inward moves =
     let all : events v x ≡ events v w ++ (events w x ++ []) = events-join v w x a.log b.log ∙ ap (λ es. events v w ++ es) (append-none (events w x)) in
     let fills = at-moment v.shape (finds_none_to_fill v.shape) (begins v) [] (events v w ++ (events w x ++ [])) (and_from _ _ (not_from_false _ bare) (output-front v.shape (events v w) (events w x ++ []) output outward)) in

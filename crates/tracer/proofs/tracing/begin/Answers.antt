@@ -4,7 +4,7 @@ use Rattle.mark_core.specs.declared.kinds.Shape.{Shape}
 use Rattle.packet_pools.specs.Gains.{Takes}
 use Rattle.packet_pools.specs.Seeking.{only_moves}
 use Rattle.packet_pools.proofs.Choices.{if-none, if-some}
-use Rattle.packet_pools.proofs.LaterSteps.{later-join}
+use Rattle.packet_pools.proofs.TracedSteps.{later-join}
 use Rattle.tracer.specs.Hands.{Carries, in_front}
 use Rattle.tracer.proofs.Carried.{carries-free, carries-none, carries-take, deferred-back, taken-either}
 use Rattle.tracer.proofs.Joined.{part-then}

@@ -4,7 +4,7 @@ use Rattle.std.proofs.lemmas.Bool.{false≢true}
 use Rattle.mark_core.specs.declared.kinds.Shape.{Shape}
 use Rattle.mark_core.specs.declared.seat.SeatState.{SeatState}
 use Rattle.packet_pools.proofs.Counting.{given-moves}
-use Rattle.packet_pools.proofs.LaterSteps.{later-join}
+use Rattle.packet_pools.proofs.TracedSteps.{later-join}
 use Rattle.tracer.specs.declared.packets.Packets.{Packets}
 use Rattle.tracer.specs.Hands.{Carries, in_front, packet_of, packets_of}
 use Rattle.tracer.proofs.Carried.{carries-give, carries-head, deferred-front, front-held, second-front}

@@ -2,7 +2,7 @@ use Rattle.std.proofs.Common.{ℕ, ◌≡◌, ◌+◌, inl, inr, None, Option, s
 use Rattle.mark_core.specs.Seats.{work_in_hand}
 use Rattle.mark_core.specs.declared.kinds.Shape.{Shape}
 use Rattle.mark_core.specs.declared.seat.SeatState.{SeatState}
-use Rattle.packet_pools.proofs.LaterSteps.{later-join}
+use Rattle.packet_pools.proofs.TracedSteps.{later-join}
 use Rattle.tracer.specs.declared.packets.Packets.{Packets}
 use Rattle.tracer.specs.declared.traced.Traced.{Traced}
 use Rattle.tracer.specs.Hands.{IsIdle, no_packets, packet_of}
@@ -13,7 +13,7 @@ use Rattle.tracer.proofs.Joined.{part-then}
 use Rattle.tracer.proofs.Whole.{found-end, found-none, keeps-record, puts-off, tally-of, traces-owe}
 use Rattle.gc_table.specs.declared.view.View.{View}
 use Rattle.gc_table.specs.Seats.{view_of}
-use Rattle.packet_pools.specs.Later.{Later}
+use Rattle.packet_pools.specs.OnlyTraced.{OnlyTraced}
 use Rattle.gc_table.specs.Log.{events}
 use Rattle.tracer.proofs.tracing.trace.Goals as goal
 
@@ -41,7 +41,7 @@ plus-none : (n : ℕ) → n + 0 ≡ n
 plus-none n = omega arith
 
 -- packets are taken, cells are traced, and the packets are given back
-whole : (sh : Shape) (d f l : ℕ) (o q : Option ℕ) (v w x y : View) → Later v w → Later w x → Later x y → o ≡ None → Part sh None None 0 0 0 v (events v w) → Part sh o q d f l w (events w x) → Part sh q None 0 0 0 x (events x y) → Part sh None None d f l v (events v y)
+whole : (sh : Shape) (d f l : ℕ) (o q : Option ℕ) (v w x y : View) → OnlyTraced v w → OnlyTraced w x → OnlyTraced x y → o ≡ None → Part sh None None 0 0 0 v (events v w) → Part sh o q d f l w (events w x) → Part sh q None 0 0 0 x (events x y) → Part sh None None d f l v (events v y)
 whole sh d f l o q v w x y a b c none first main last =
     part-then sh None None None 0 d 0 f 0 l d f l v w y a (later-join w x y b c) (zero-plus d) (zero-plus f) (zero-plus l) first
     (part-then sh None q None d 0 f 0 l 0 d f l w x y b c (plus-none d) (plus-none f) (plus-none l) (subst (λ z. Part sh z q d f l w (events w x)) none main) last)
@@ -82,7 +82,7 @@ returns-clause-deferral c =
     (whole sh t.done t.deferred t.overflowed _ _ v w x y e.later f.later g.later (ap packet_of e.some.1) e.part f.part g.part)
 
 -- nothing is held, and nothing is in hand
-idle-end : (sh : Shape) (v y : View) → y.shape ≡ sh → Later v y → v.state.block ≡ None → y.state.held ≡ no_packets → work_in_hand sh.fields y.state ≡ false → IsIdle y
+idle-end : (sh : Shape) (v y : View) → y.shape ≡ sh → OnlyTraced v y → v.state.block ≡ None → y.state.held ≡ no_packets → work_in_hand sh.fields y.state ≡ false → IsIdle y
 idle-end sh v y shape later block held work =
     record { held = held; work = ap (λ (s : Shape). work_in_hand s.fields y.state) shape ∙ work; block = ap (λ (s : SeatState). s.block) later.rest ∙ block }
 
@@ -97,7 +97,7 @@ returns-clause-state c =
     let e = c.in-Some.ensures in
     let f = c.trace_all-traced.ensures in
     let g = c.finish.ensures in
-    let later : Later v y = later-join v w y e.later (later-join w x y f.later g.later) in
+    let later : OnlyTraced v y = later-join v w y e.later (later-join w x y f.later g.later) in
     keeps-record v y later c.requires.seat.1 g.seat.1 c.requires.idle (idle-end sh v y g.seat.0.1 later c.requires.idle.block g.held g.work)
     (traces-owe v y later (whole sh t.done t.deferred t.overflowed _ _ v w x y e.later f.later g.later (ap packet_of e.some.1) e.part f.part g.part).did.steps)
 
@@ -144,5 +144,5 @@ returns-clause-ends c =
     let e = c.in-Some.ensures in
     let f = c.trace_all-traced.ensures in
     let g = c.finish.ensures in
-    let later : Later v y = later-join v w y e.later (later-join w x y f.later g.later) in
+    let later : OnlyTraced v y = later-join v w y e.later (later-join w x y f.later g.later) in
     all-end v (events v y) (later.cells refl) (whole sh t.done t.deferred t.overflowed _ _ v w x y e.later f.later g.later (ap packet_of e.some.1) e.part f.part g.part).did.steps

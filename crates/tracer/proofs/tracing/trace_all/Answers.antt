@@ -3,7 +3,7 @@ use Rattle.mark_core.specs.Seats.{is_the}
 use Rattle.mark_core.specs.declared.kinds.Shape.{Shape}
 use Rattle.mark_core.specs.declared.seat.SeatState.{SeatState}
 use Rattle.gc_table.proofs.Log.{events-join}
-use Rattle.packet_pools.proofs.LaterSteps.{later-join}
+use Rattle.packet_pools.proofs.TracedSteps.{later-join}
 use Rattle.tracer.specs.declared.packets.Packets.{Packets}
 use Rattle.tracer.specs.Deferral.{waits}
 use Rattle.tracer.specs.Hands.{IsEmpty, packet_of}
@@ -11,7 +11,7 @@ use Rattle.tracer.specs.Parts.{Ended, NothingFound, Part}
 use Rattle.tracer.proofs.Joined.{part-then}
 use Rattle.gc_table.specs.declared.view.View.{View}
 use Rattle.gc_table.specs.Seats.{view_of}
-use Rattle.packet_pools.specs.Later.{Later}
+use Rattle.packet_pools.specs.OnlyTraced.{OnlyTraced}
 use Rattle.gc_table.specs.Log.{events}
 use Rattle.tracer.proofs.tracing.trace_all.Goals as goal
 
@@ -46,7 +46,7 @@ returns-in_default-clause-part c =
     subst (λ r. Part sh o r c.loop-turn.traced.done c.loop-turn.traced.deferred c.loop-turn.traced.overflowed v (events v x)) (sym (ap packet_of e.packets.1))
     (part-then sh o q q c.loop-turn.traced.done 0 c.loop-turn.traced.deferred 0 c.loop-turn.traced.overflowed 0 _ _ _ v w x i.later e.later (plus-none _) (plus-none _) (plus-none _) i.part (e.none.1 q))
 
-ended : (sh : Shape) (p q : Packets) (v w x : View) → Later v w → Later w x → NothingFound sh p q w x → ((o : Option ℕ) → Part sh o o 0 0 0 w (events w x)) → Ended sh q v x
+ended : (sh : Shape) (p q : Packets) (v w x : View) → OnlyTraced v w → OnlyTraced w x → NothingFound sh p q w x → ((o : Option ℕ) → Part sh o o 0 0 0 w (events w x)) → Ended sh q v x
 ended sh p q v w x a b n parts =
     record {
       before = events v w;

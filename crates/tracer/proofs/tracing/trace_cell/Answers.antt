@@ -7,7 +7,7 @@ use Rattle.gc_table.specs.Seats.{Found, view_of}
 use Rattle.gc_table.specs.Taking.{May, Finds, after}
 use Rattle.packet_pools.specs.Tracing.{Traces}
 use Rattle.packet_pools.proofs.Doing.{traces-on}
-use Rattle.packet_pools.proofs.LaterSteps.{later-join}
+use Rattle.packet_pools.proofs.TracedSteps.{later-join}
 use Rattle.tracer.specs.Hands.{packet_of, packets_of}
 use Rattle.tracer.specs.Parts.{HasPopped, Part}
 use Rattle.tracer.proofs.Carried.{carries-same}
@@ -15,7 +15,7 @@ use Rattle.tracer.proofs.Hand.{alloc-cleaning, later-read_alloc, may-read_alloc,
 use Rattle.tracer.proofs.Joined.{part-then}
 use Rattle.tracer.proofs.OneStep.{part-alloc}
 use Rattle.gc_table.specs.declared.view.View.{View}
-use Rattle.packet_pools.specs.Later.{Later}
+use Rattle.packet_pools.specs.OnlyTraced.{OnlyTraced}
 use Rattle.gc_table.specs.Log.{events}
 use Rattle.tracer.proofs.tracing.trace_cell.Goals as goal
 
@@ -27,13 +27,13 @@ read_alloc-word-requires-clause-may c =
 -- the word of the cell's block was read
 pub record WasRead (cell n : ℕ) (v w : View) : Type 0 where
   pub view : w ≡ after (ReadAlloc (cell / 64)) n v
-  pub later : Later v w
+  pub later : OnlyTraced v w
   pub traces : Traces w
 
 was-read : (cell k n : ℕ) (v w : View) → HasPopped cell false v → Traces v → k ≡ cell → Found (ReadAlloc (k / 64)) n v w → WasRead cell n v w
 was-read cell k n v w p t is f =
     let e : w ≡ after (ReadAlloc (cell / 64)) n v = f.0 ∙ ap (λ x. after (ReadAlloc (x / 64)) n v) is in
-    let later : Later v w = later-read_alloc v w cell n p e (subst (λ x. Finds (ReadAlloc (x / 64)) n v) is f.1) in
+    let later : OnlyTraced v w = later-read_alloc v w cell n p e (subst (λ x. Finds (ReadAlloc (x / 64)) n v) is f.1) in
     record { view = e; later = later; traces = traces-on v w later t (ap (λ (z : View). z.state.reserved) e) (ap (λ (z : View). z.state.credit) e) }
 
 pub scan-scanned-requires-clause-seat : goal.scan-scanned-requires-clause-seat

@@ -21,7 +21,7 @@ use Rattle.gc_table.proofs.Log.{grows-refl, grows-join, grows-after, only-none, 
 use Rattle.gc_table.proofs.Noticing.{found-noted}
 use Rattle.gc_table.proofs.Running.{ran-refl, ran-after, ran-join, ran-events}
 use Rattle.packet_pools.specs.Keeping.{keeps_cells}
-use Rattle.packet_pools.specs.Later.{is_traced, rest_of, IsNotedMarked, traces_cells, LaterBy, Later, LaterCleaned}
+use Rattle.packet_pools.specs.OnlyTraced.{is_traced, rest_of, IsNotedMarked, traces_cells, OnlyTracedBy, OnlyTraced, OnlyCleaned}
 use Rattle.packet_pools.proofs.Keeping.{keep-none, keep-one, keep-join}
 
 -- what was noted of another place stays, where it may be kept
@@ -59,10 +59,10 @@ seen-found v step n k f = record { found = λ _. f; stored = λ t. absurd (true�
 pub seen-stored : (v : View) (step : Step) (n : ℕ) → is_store step ≡ true → n ≡ written v.shape v.state step 0 → IsSeen step n v
 seen-stored v step n k e = record { found = λ f. absurd (true≢false (sym k ∙ f)); stored = λ _. e }
 
-pub later-refl : (v : View) → Later v v
+pub later-refl : (v : View) → OnlyTraced v v
 later-refl v = record { shape = refl; opened = refl; plan = refl; own = refl; joined = refl; rest = refl; log = grows-refl v; notes = λ at n f k h. h; floors = λ at n f k h. h; ran = ran-refl v; only = only-none traces_cells v; cells = λ _. keep-none v }
 
-by-join : (t : Bool) (u v w : View) → LaterBy t u v → LaterBy t v w → LaterBy t u w
+by-join : (t : Bool) (u v w : View) → OnlyTracedBy t u v → OnlyTracedBy t v w → OnlyTracedBy t u w
 by-join t u v w a b =
     record {
       shape = b.shape ∙ a.shape;
@@ -79,14 +79,14 @@ by-join t u v w a b =
       cells = λ h. keep-join u v w (ran-events u v w a.ran b.ran) a.ran (a.cells h) (b.cells h);
     }
 
-pub later-join : (u v w : View) → Later u v → Later v w → Later u w
+pub later-join : (u v w : View) → OnlyTraced u v → OnlyTraced v w → OnlyTraced u w
 later-join u v w a b = by-join true u v w a b
 
-pub cleaned-join : (u v w : View) → LaterCleaned u v → LaterCleaned v w → LaterCleaned u w
+pub cleaned-join : (u v w : View) → OnlyCleaned u v → OnlyCleaned v w → OnlyCleaned u w
 cleaned-join u v w a b = by-join false u v w a b
 
 -- a seat that traced may have cleaned, too
-pub later-cleaned : (v w : View) → Later v w → LaterCleaned v w
+pub later-cleaned : (v w : View) → OnlyTraced v w → OnlyCleaned v w
 later-cleaned v w a =
     record {
       shape = a.shape;
@@ -105,7 +105,7 @@ later-cleaned v w a =
 
 -- a step that writes a word of tracing
 by-step : (b : Bool) (v : View) (step : Step) (n : ℕ) → is_traced (place v.shape v.state step) ≡ true → rest_of (seat_after v.shape v.state step n) ≡ rest_of v.state → section_after v.shape v.plan v.state step v.own ≡ v.own → IsSeen step n v → traces_cells step ≡ true → (b ≡ true → keeps_cells v.state step ≡ true)
-    → LaterBy b v (after step n v)
+    → OnlyTracedBy b v (after step n v)
 by-step b v step n t e same seen sort keeps =
     let to : ℕ × ℕ = place v.shape v.state step in
     let s : SeatState = seat_after v.shape v.state step n in
@@ -124,11 +124,11 @@ by-step b v step n t e same seen sort keeps =
       cells = λ h. keep-one v step n (keeps h);
     }
 
-pub later-step : (v : View) (step : Step) (n : ℕ) → is_traced (place v.shape v.state step) ≡ true → rest_of (seat_after v.shape v.state step n) ≡ rest_of v.state → section_after v.shape v.plan v.state step v.own ≡ v.own → IsSeen step n v → traces_cells step ≡ true → keeps_cells v.state step ≡ true → Later v (after step n v)
+pub later-step : (v : View) (step : Step) (n : ℕ) → is_traced (place v.shape v.state step) ≡ true → rest_of (seat_after v.shape v.state step n) ≡ rest_of v.state → section_after v.shape v.plan v.state step v.own ≡ v.own → IsSeen step n v → traces_cells step ≡ true → keeps_cells v.state step ≡ true → OnlyTraced v (after step n v)
 later-step v step n t e same seen sort keeps = by-step true v step n t e same seen sort (λ _. keeps)
 
 -- so where a cell in hand may be lost
-pub cleaned-step : (v : View) (step : Step) (n : ℕ) → is_traced (place v.shape v.state step) ≡ true → rest_of (seat_after v.shape v.state step n) ≡ rest_of v.state → section_after v.shape v.plan v.state step v.own ≡ v.own → IsSeen step n v → traces_cells step ≡ true → LaterCleaned v (after step n v)
+pub cleaned-step : (v : View) (step : Step) (n : ℕ) → is_traced (place v.shape v.state step) ≡ true → rest_of (seat_after v.shape v.state step n) ≡ rest_of v.state → section_after v.shape v.plan v.state step v.own ≡ v.own → IsSeen step n v → traces_cells step ≡ true → OnlyCleaned v (after step n v)
 cleaned-step v step n t e same seen sort = by-step false v step n t e same seen sort (λ h. absurd (false≢true h))
 
 bound-counter : (s : SeatState) (at : ℕ × ℕ) → keeps_bound s at ≡ true → is_counter at ≡ true
@@ -145,7 +145,7 @@ read-keeps v step n reads f at m k h =
     (cases_Bool (same_place to at))
 
 -- a step that reads a word, other than a counter
-pub later-read : (v : View) (step : Step) (n : ℕ) → written v.shape v.state step n ≡ n → is_counter (place v.shape v.state step) ≡ false → Finds step n v → rest_of (seat_after v.shape v.state step n) ≡ rest_of v.state → section_after v.shape v.plan v.state step v.own ≡ v.own → is_store step ≡ false → traces_cells step ≡ true → keeps_cells v.state step ≡ true → Later v (after step n v)
+pub later-read : (v : View) (step : Step) (n : ℕ) → written v.shape v.state step n ≡ n → is_counter (place v.shape v.state step) ≡ false → Finds step n v → rest_of (seat_after v.shape v.state step n) ≡ rest_of v.state → section_after v.shape v.plan v.state step v.own ≡ v.own → is_store step ≡ false → traces_cells step ≡ true → keeps_cells v.state step ≡ true → OnlyTraced v (after step n v)
 later-read v step n reads c f e same load sort keeps =
     let to : ℕ × ℕ = place v.shape v.state step in
     let s : SeatState = seat_after v.shape v.state step n in
@@ -194,8 +194,8 @@ marks-noted v x n alone =
     (word, note-again (steady s) at at word word v.known (place-again at) refl (mark-steady s (x / 64) word alone), with_same n (x % 64))
 
 -- the same of the view after the call
-pub later-to : (v w : View) (step : Step) (n : ℕ) → w ≡ after step n v → Later v (after step n v) → Later v w
-later-to v w step n e k = subst (Later v) (sym e) k
+pub later-to : (v w : View) (step : Step) (n : ℕ) → w ≡ after step n v → OnlyTraced v (after step n v) → OnlyTraced v w
+later-to v w step n e k = subst (OnlyTraced v) (sym e) k
 
-pub cleaned-to : (v w : View) (step : Step) (n : ℕ) → w ≡ after step n v → LaterCleaned v (after step n v) → LaterCleaned v w
-cleaned-to v w step n e k = subst (LaterCleaned v) (sym e) k
+pub cleaned-to : (v w : View) (step : Step) (n : ℕ) → w ≡ after step n v → OnlyCleaned v (after step n v) → OnlyCleaned v w
+cleaned-to v w step n e k = subst (OnlyCleaned v) (sym e) k

@@ -22,7 +22,7 @@ use Rattle.plain_heap.specs.declared.operation.Op.TheVariants as ops
 use Rattle.plain_heap.specs.PlainHeap.{Heap, variable}
 use Rattle.plain_heap.specs.Paths.{Name, Names}
 use Rattle.plain_heap.specs.PlainStep.{heap_after, assigned, with_new, with_field, stored_at, followed, lent_variable}
-use Rattle.gc_table.specs.StandsFor.{object_count, objects_in, Agrees, SeatStands, StandsFor}
+use Rattle.gc_table.specs.StandsFor.{object_count, objects_in, WordAgrees, SeatStands, StandsFor}
 use Rattle.gc_table.specs.declared.view.Meaning.{Meaning}
 use Rattle.gc_table.specs.PlainSteps.{meaning_of, known_as, with_got, IsSet, IsAssignment, meaning_after, Asks}
 use Rattle.gc_table.specs.Sections.{named_by, stored_ref, rooted, meaning_by}
@@ -43,7 +43,7 @@ names-ref (suc w) (refs.Cat n) (refs.Own k) name x y = absurd (omega (arith, x.0
 names-ref (suc w) (refs.Cat n) (refs.Cat k) name x y = ap (λ (j : ℕ). refs.Cat j) (sym x.1 ∙ y.1)
 
 -- two references that agree with one word in one section are the same
-pub agrees-one : (ids : List ℕ) (p : ℕ → ℕ) (w word : ℕ) (a b : Ref) → Agrees ids p w word a → Agrees ids p w word b → a ≡ b
+pub agrees-one : (ids : List ℕ) (p : ℕ → ℕ) (w word : ℕ) (a b : Ref) → WordAgrees ids p w word a → WordAgrees ids p w word b → a ≡ b
 agrees-one ids p w word a b (inl x) (inl y) = x.1 ∙ sym y.1
 agrees-one ids p w word a b (inl x) (inr y) = absurd (omega (arith, x.0, y.0))
 agrees-one ids p w word a b (inr x) (inl y) = absurd (omega (arith, x.0, y.0))
@@ -54,7 +54,7 @@ abbrev is_next : SeatState → Meaning → ℕ → Bool
 is_next s m r = names_last s.cache r && eqb (length m.heap.objects + 1) s.made
 
 -- a word that agrees with a reference goes to no cell that is made for the next object
-has_object : (c : Core) (i : ℕ) (s : SeatState) (step : Step) (ms : List Meaning) (r : ℕ) (ref : Ref) → Taken c i s step → StandsFor c ms → Mutates c i s ms → Agrees (words_of c.shape c.words).identities (object_count ms) i r ref
+has_object : (c : Core) (i : ℕ) (s : SeatState) (step : Step) (ms : List Meaning) (r : ℕ) (ref : Ref) → Taken c i s step → StandsFor c ms → Mutates c i s ms → WordAgrees (words_of c.shape c.words).identities (object_count ms) i r ref
     → is_next s (meaning_of ms i) r ≡ false
 has_object c i s step ms r ref k st a h = false_from_ne_true (is_next s m r) (λ e. of h (and_parts (names_last s.cache r) (eqb (length m.heap.objects + 1) s.made) e))
   where
@@ -67,7 +67,7 @@ has_object c i s step ms r ref k st a h = false_from_ne_true (is_next s m r) (λ
     mine : SeatStands c.shape ids (words_of c.shape c.words).values (object_count ms) i s m
     mine = st.seats_agree i s m k.got a.there k.live
 
-    of : Agrees ids (object_count ms) i r ref → (names_last s.cache r ≡ true) × (eqb (length m.heap.objects + 1) s.made ≡ true) → ⊥
+    of : WordAgrees ids (object_count ms) i r ref → (names_last s.cache r ≡ true) × (eqb (length m.heap.objects + 1) s.made ≡ true) → ⊥
     of (inl z) e = eqb-false r 0 (not-true (eqb r 0) (and_parts (not (eqb r 0)) (is_the (last_made s.cache) (r - 1)) e.0).0) z.0
     of (inr (some, names, below)) e =
         let last = last-is (last_made s.cache) (r - 1) (and_parts (not (eqb r 0)) (is_the (last_made s.cache) (r - 1)) e.0).1 in
@@ -80,13 +80,13 @@ has_object c i s step ms r ref k st a h = false_from_ne_true (is_next s m r) (λ
         omega (arith, below, number, count)
 
 -- a seat knows a word that it has by the reference that agrees with it
-named_as : (c : Core) (i : ℕ) (s : SeatState) (step : Step) (ms : List Meaning) (r : ℕ) (ref : Ref) → Taken c i s step → StandsFor c ms → Mutates c i s ms → Agrees (words_of c.shape c.words).identities (object_count ms) i r ref
+named_as : (c : Core) (i : ℕ) (s : SeatState) (step : Step) (ms : List Meaning) (r : ℕ) (ref : Ref) → Taken c i s step → StandsFor c ms → Mutates c i s ms → WordAgrees (words_of c.shape c.words).identities (object_count ms) i r ref
     → ((x : ℕ) → r ≡ x + 1 → knows_cell s x ≡ true) → named_by s (meaning_of ms i) r ≡ ref
 named_as c i s step ms zero ref k st a h knows = sym (nil-is (words_of c.shape c.words).identities (object_count ms) i ref h)
 named_as c i s step ms (suc x) ref k st a h knows =
     let ids : List ℕ = (words_of c.shape c.words).identities in
     let e : suc x ≡ x + 1 = omega arith in
-    agrees-one ids (object_count ms) i (x + 1) (known_as s (meaning_of ms i) x) ref (known-agrees c i s step ms x k st a (knows x e)) (subst (λ (word : ℕ). Agrees ids (object_count ms) i word ref) e h)
+    agrees-one ids (object_count ms) i (x + 1) (known_as s (meaning_of ms i) x) ref (known-agrees c i s step ms x k st a (knows x e)) (subst (λ (word : ℕ). WordAgrees ids (object_count ms) i word ref) e h)
 
 knows_got : (s : SeatState) (r : ℕ) → r ≡ s.got → (x : ℕ) → r ≡ x + 1 → knows_cell s x ≡ true
 knows_got s r e x f = or_left (eqb s.got (x + 1)) (list_any (λ (y : ℕ). eqb y (x + 1)) s.env) (eq-eqb s.got (x + 1) (sym e ∙ f))
@@ -96,7 +96,7 @@ knows_variable s r v h e x f =
     or_right (eqb s.got (x + 1)) (list_any (λ (y : ℕ). eqb y (x + 1)) s.env) (list_any_at (λ (y : ℕ). eqb y (x + 1)) s.env v 0 h (eq-eqb (get_or s.env v 0) (x + 1) (sym e ∙ f)))
 
 -- a variable gets a reference that the seat has
-assigned_is : (c : Core) (i : ℕ) (s : SeatState) (step : Step) (ms : List Meaning) (v r : ℕ) (ref : Ref) → Taken c i s step → StandsFor c ms → Mutates c i s ms → Agrees (words_of c.shape c.words).identities (object_count ms) i r ref
+assigned_is : (c : Core) (i : ℕ) (s : SeatState) (step : Step) (ms : List Meaning) (v r : ℕ) (ref : Ref) → Taken c i s step → StandsFor c ms → Mutates c i s ms → WordAgrees (words_of c.shape c.words).identities (object_count ms) i r ref
     → ((x : ℕ) → r ≡ x + 1 → knows_cell s x ≡ true) → assigned (meaning_of ms i).heap v ref ≡ rooted s (meaning_of ms i) v r
 assigned_is c i s step ms v r ref k st a h knows =
     let m : Meaning = meaning_of ms i in
@@ -110,7 +110,7 @@ register_is c i s step ms u v r ref k st a e word is =
     let ids : List ℕ = (words_of c.shape c.words).identities in
     let m : Meaning = meaning_of ms i in
     let mine : SeatStands c.shape ids (words_of c.shape c.words).values (object_count ms) i s m = st.seats_agree i s m k.got a.there k.live in
-    let agrees : Agrees ids (object_count ms) i r ref = subst (λ (y : ℕ). Agrees ids (object_count ms) i y ref) (sym word) (subst (λ (z : Ref). Agrees ids (object_count ms) i s.got z) is mine.got) in
+    let agrees : WordAgrees ids (object_count ms) i r ref = subst (λ (y : ℕ). WordAgrees ids (object_count ms) i y ref) (sym word) (subst (λ (z : Ref). WordAgrees ids (object_count ms) i s.got z) is mine.got) in
     ap (λ (z : ℕ). assigned m.heap z ref) e ∙ assigned_is c i s step ms v r ref k st a agrees (knows_got s r word)
 
 -- the plain step of a stored root is the one that the word tells
@@ -128,7 +128,7 @@ root_told c i s step ms catalogue v r (ops.Let u x) k st a (e, h, word) =
     let ids : List ℕ = (words_of c.shape c.words).identities in
     let m : Meaning = meaning_of ms i in
     let ref : Ref = variable m.heap x in
-    let agrees : Agrees ids (object_count ms) i r ref = subst (λ (y : ℕ). Agrees ids (object_count ms) i y ref) (sym word) (env-agrees c i s step ms x k st a h) in
+    let agrees : WordAgrees ids (object_count ms) i r ref = subst (λ (y : ℕ). WordAgrees ids (object_count ms) i y ref) (sym word) (env-agrees c i s step ms x k st a h) in
     ap (λ (z : ℕ). assigned m.heap z ref) e ∙ assigned_is c i s step ms v r ref k st a agrees (knows_variable s r x (omega (arith, h, (seat-formed c i s step k).env)) word)
 root_told c i s step ms catalogue v r (ops.Get u x j) k st a (e, word, is, x_below, j_below) = register_is c i s step ms u v r (followed (meaning_of ms i).heap catalogue (variable (meaning_of ms i).heap x) j) k st a e word is
 root_told c i s step ms catalogue v r (ops.Cat u x) k st a (e, word, is, x_below) = register_is c i s step ms u v r (lent_variable catalogue x) k st a e word is

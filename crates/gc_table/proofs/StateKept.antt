@@ -19,7 +19,7 @@ use Rattle.mark_core.specs.declared.kinds.Step.TheVariants.{Split, Join}
 use Rattle.mark_core.specs.declared.seat.SeatState.{SeatState}
 use Rattle.gc_table.specs.declared.view.SectionState.{SectionState}
 use Rattle.gc_table.specs.Sections.{section_after, start_section}
-use Rattle.gc_table.specs.Whole.{Whole, whole_after}
+use Rattle.gc_table.specs.TableState.{TableState, state_after}
 use Rattle.gc_table.specs.Told.{EachSection}
 use Rattle.gc_table.specs.Rule.{IsState}
 use Rattle.gc_table.proofs.ApartKept.{apart-kept}
@@ -30,8 +30,8 @@ use Rattle.gc_table.proofs.PositionedKept.{positioned-kept}
 use Rattle.gc_table.proofs.SeasonsKept.{seasons-kept}
 use Rattle.gc_table.proofs.SettledKept.{settled-kept}
 use Rattle.gc_table.proofs.TurnsKept.{turns-kept}
-use Rattle.gc_table.proofs.WholeStands.{stands-whole}
-use Rattle.gc_table.proofs.WholeSteps.{Goes, event, taken, may-happen, kept-whole, each-left, some-same}
+use Rattle.gc_table.proofs.StateStands.{stands-whole}
+use Rattle.gc_table.proofs.StateSteps.{Goes, event, taken, may-happen, kept-whole, each-left, some-same}
 
 -- no record goes
 seats_stay : (c : Core) (i : ℕ) (s : SeatState) (step : Step) → length c.seats ≤ length (seats_left c i s step)
@@ -47,7 +47,7 @@ seats_stay c i s step = omega (arith, length-set c.seats i (seat_after c.shape s
 abbrev pub HaveDoneNothing : Shape → List SeatState → List SectionState → Type 0
 HaveDoneNothing sh seats xs = EachSection xs (λ k x. length seats ≤ k → x ≡ start_section sh k)
 
-unseated-kept : (x : Whole) (i : ℕ) (s : SeatState) (step : Step) → Goes x i s step → HaveDoneNothing (whole_after x (event i step)).core.shape (whole_after x (event i step)).core.seats (whole_after x (event i step)).sections
+unseated-kept : (x : TableState) (i : ℕ) (s : SeatState) (step : Step) → Goes x i s step → HaveDoneNothing (state_after x (event i step)).core.shape (state_after x (event i step)).core.seats (state_after x (event i step)).sections
 unseated-kept x i s step g =
     let more = seats_stay x.core i s step in
     kept-whole (λ sh w seats xs. HaveDoneNothing sh seats xs) x i s step g
@@ -55,7 +55,7 @@ unseated-kept x i s step g =
     (λ k y e n l. g.whole.told.unseated k y e (omega (arith, l, more)))
     (λ k y e mine l. absurd (omega (arith, l, more, own-number x.core i k s g.whole.core g.got mine, within x.core i s step (taken x i s step g)))))
 
-pub whole-kept : (x : Whole) (i : ℕ) (s : SeatState) (step : Step) → Goes x i s step → IsState (whole_after x (event i step))
+pub whole-kept : (x : TableState) (i : ℕ) (s : SeatState) (step : Step) → Goes x i s step → IsState (state_after x (event i step))
 whole-kept x i s step g =
     let f = may-happen x i s step g in
     record {

@@ -18,33 +18,33 @@ use Rattle.gc_table.specs.declared.view.Meaning.{Meaning}
 use Rattle.gc_table.specs.declared.view.View.{View}
 use Rattle.gc_table.specs.PlainSteps.{seen_in, meaning_of, meaning_after, changes_heap, Asks}
 use Rattle.gc_table.specs.Sections.{seen_by, meaning_by, section_after}
-use Rattle.gc_table.specs.Whole.{Whole, no_section, meanings_of, section_at}
+use Rattle.gc_table.specs.TableState.{TableState, no_section, meanings_of, section_at}
 use Rattle.gc_table.specs.Rule.{IsState, Agrees}
 use Rattle.gc_table.proofs.StandsSeat.{Mutates, mutates}
-use Rattle.gc_table.proofs.WholeSeen.{meaning-at, seen-is}
-use Rattle.gc_table.proofs.WholeStores.{meaning-told}
+use Rattle.gc_table.proofs.StateSeen.{meaning-at, seen-is}
+use Rattle.gc_table.proofs.StateStores.{meaning-told}
 
 -- the seat of this view may take the step
-pub record Acts (x : Whole) (i : ℕ) (v : View) (step : Step) : Type 0 where
+pub record Acts (x : TableState) (i : ℕ) (v : View) (step : Step) : Type 0 where
   pub whole : IsState x
   pub agrees : Agrees x i v
   pub live : IsFalse v.state.spent
   pub ok : AllTrue (parts x.core.shape (words_of x.core.shape x.core.words) x.core.seats v.state step)
 
-pub acts-taken : (x : Whole) (i : ℕ) (v : View) (step : Step) → Acts x i v step → Taken x.core i v.state step
+pub acts-taken : (x : TableState) (i : ℕ) (v : View) (step : Step) → Acts x i v step → Taken x.core i v.state step
 acts-taken x i v step k = record { core = k.whole.core; got = k.agrees.seat; live = k.live; ok = k.ok }
 
 -- the view has its own section
-pub own-section : (x : Whole) (i w : ℕ) (v : View) → Agrees x i v → v.state.section ≡ Some w → section_at x.sections w ≡ v.own
+pub own-section : (x : TableState) (i w : ℕ) (v : View) → Agrees x i v → v.state.section ≡ Some w → section_at x.sections w ≡ v.own
 own-section x i w v k e = get_or_from_slice_get x.sections w v.own no_section (k.own w e)
 
 -- what the view of a mutator says
-pub record Views (x : Whole) (i : ℕ) (v : View) : Type 0 where
+pub record Views (x : TableState) (i : ℕ) (v : View) : Type 0 where
   pub mutates : Mutates x.core i v.state (meanings_of x.sections)
   pub meaning : meaning_of (meanings_of x.sections) i ≡ v.own.meaning
   pub seen : seen_by v.shape v.plan v.state ≡ seen_in (meanings_of x.sections) i
 
-pub views : (x : Whole) (i : ℕ) (v : View) (step : Step) → Acts x i v step → may_mutate v.state ≡ true → Views x i v
+pub views : (x : TableState) (i : ℕ) (v : View) (step : Step) → Acts x i v step → may_mutate v.state ≡ true → Views x i v
 views x i v step k may =
     let a : Mutates x.core i v.state (meanings_of x.sections) = mutates x.core i v.state step (meanings_of x.sections) (acts-taken x i v step k) k.whole.stands may in
     record {
@@ -56,7 +56,7 @@ views x i v step k may =
     }
 
 -- the meaning after a step of a mutator, told with its plain step
-told_by : (x : Whole) (i : ℕ) (v : View) (step : Step) (op : Op) → Acts x i v step → may_mutate v.state ≡ true → Asks v.state v.own.meaning (seen_by v.shape v.plan v.state) step op
+told_by : (x : TableState) (i : ℕ) (v : View) (step : Step) (op : Op) → Acts x i v step → may_mutate v.state ≡ true → Asks v.state v.own.meaning (seen_by v.shape v.plan v.state) step op
     → meaning_after x.core.shape v.state (seen_by v.shape v.plan v.state) step op v.own.meaning ≡ meaning_by x.core.shape v.state (seen_by v.shape v.plan v.state) step v.own.meaning
 told_by x i v step op k may asks =
     let catalogue : Option Heap = seen_by v.shape v.plan v.state in
@@ -64,7 +64,7 @@ told_by x i v step op k may asks =
     subst (λ (m : Meaning). meaning_after x.core.shape v.state catalogue step op m ≡ meaning_by x.core.shape v.state catalogue step m) same
     (meaning-told x.core i v.state step op (meanings_of x.sections) catalogue (acts-taken x i v step k) k.whole.stands (subst (λ (m : Meaning). Asks v.state m catalogue step op) (sym same) asks))
 
-plain_of : (x : Whole) (i : ℕ) (v : View) (step : Step) (op : Op) → Acts x i v step → Asks v.state v.own.meaning (seen_by v.shape v.plan v.state) step op → IsTrue (changes_heap step)
+plain_of : (x : TableState) (i : ℕ) (v : View) (step : Step) (op : Op) → Acts x i v step → Asks v.state v.own.meaning (seen_by v.shape v.plan v.state) step op → IsTrue (changes_heap step)
     → (section_after v.shape v.plan v.state step v.own).meaning.heap ≡ heap_after v.own.meaning.heap (seen_by v.shape v.plan v.state) op
 plain_of x i v (StoreField a j o) op k asks c = sym (ap (λ (m : Meaning). m.heap) (told_by x i v (StoreField a j o) op k (and_parts _ (may_mutate v.state) k.ok.0).1 asks))
 plain_of x i v (StoreValue a n) op k asks c = sym (ap (λ (m : Meaning). m.heap) (told_by x i v (StoreValue a n) op k (and_parts _ (may_mutate v.state) k.ok.0).1 asks))
@@ -72,6 +72,6 @@ plain_of x i v (StoreRoot a r) op k asks c = sym (ap (λ (m : Meaning). m.heap) 
 plain_of x i v step op k asks c = absurd (true≢false (sym c))
 
 -- a store changes the plain heap by its plain step
-pub plain-by : (x : Whole) (i : ℕ) (v : View) (step : Step) (op : Op) → IsState x → Agrees x i v → IsFalse v.state.spent → AllTrue (parts x.core.shape (words_of x.core.shape x.core.words) x.core.seats v.state step)
+pub plain-by : (x : TableState) (i : ℕ) (v : View) (step : Step) (op : Op) → IsState x → Agrees x i v → IsFalse v.state.spent → AllTrue (parts x.core.shape (words_of x.core.shape x.core.words) x.core.seats v.state step)
     → Asks v.state v.own.meaning (seen_by v.shape v.plan v.state) step op → IsTrue (changes_heap step) → (section_after v.shape v.plan v.state step v.own).meaning.heap ≡ heap_after v.own.meaning.heap (seen_by v.shape v.plan v.state) op
 plain-by x i v step op whole agrees live ok asks c = plain_of x i v step op (record { whole = whole; agrees = agrees; live = live; ok = ok }) asks c

@@ -13,7 +13,7 @@ use Rattle.mark_core.specs.declared.seat.SeatState.{SeatState}
 use Rattle.gc_table.specs.declared.view.SectionState.{SectionState}
 use Rattle.gc_table.specs.PlainSteps.{heap_in, seen_in, own_section, meaning_of}
 use Rattle.gc_table.specs.Sections.{planned, seen_of, season_of, seen_by}
-use Rattle.gc_table.specs.Whole.{Whole, meanings_of, no_section, section_at}
+use Rattle.gc_table.specs.TableState.{TableState, meanings_of, no_section, section_at}
 use Rattle.gc_table.specs.Rule.{IsState}
 use Rattle.gc_table.proofs.StandsSeat.{Mutates, mutates, looks}
 
@@ -26,7 +26,7 @@ meaning-at (x ∷ xs) (suc w) = meaning-at xs w
 pub meaning-there : (xs : List SectionState) (w : ℕ) → w < length xs → slice_get (meanings_of xs) w ≡ Some (section_at xs w).meaning
 meaning-there xs w h = slice_get-map (λ (x : SectionState). x.meaning) xs w ∙ ap (option_map (λ (x : SectionState). x.meaning)) (slice_get-get_or xs w no_section h)
 
-pub sections-length : (x : Whole) → IsState x → length x.sections ≡ x.core.shape.sections
+pub sections-length : (x : TableState) → IsState x → length x.sections ≡ x.core.shape.sections
 sections-length x k = sym (length-map x.sections (λ (y : SectionState). y.meaning)) ∙ k.stands.sections
 
 -- a warehouse has its turn in odd seasons
@@ -35,13 +35,13 @@ warehouse_turn w None e = absurd (true≢false (sym e))
 warehouse_turn w (Some z) e = (z, refl, eqb-true (z % 2) (if eqb (suc w) 0 then 0 else 1) e ∙ ap (λ (b : Bool). if b then 0 else 1) (ne_eqb (suc w) 0 (λ n. omega (arith, n))))
 
 -- the season that a mutator has read is the season
-pub season-read : (x : Whole) (i : ℕ) (s : SeatState) (z : ℕ) → Taken x.core i s ReadCount → s.active ≡ true → s.season_seen ≡ Some z → (words_of x.core.shape x.core.words).season ≡ z
+pub season-read : (x : TableState) (i : ℕ) (s : SeatState) (z : ℕ) → Taken x.core i s ReadCount → s.active ≡ true → s.season_seen ≡ Some z → (words_of x.core.shape x.core.words).season ≡ z
 season-read x i s z k a e =
     let season : ℕ = (words_of x.core.shape x.core.words).season in
     let known : IsTrue s.active → IfSome s.season_seen (λ y. season ≡ y) = own-fact x.core i s ReadCount (λ (t : SeatState). IsTrue t.active → IfSome t.season_seen (λ y. season ≡ y)) k k.core.sound.season.season_known in
     subst (λ (o : Option ℕ). IfSome o (λ y. season ≡ y)) e (known a)
 
-seen_at : (x : Whole) (i w : ℕ) (s : SeatState) → IsState x → Taken x.core i s ReadCount → s.active ≡ true → s.section ≡ Some w → has_turn (Some w) s.season_seen ≡ true → w < length x.sections
+seen_at : (x : TableState) (i w : ℕ) (s : SeatState) → IsState x → Taken x.core i s ReadCount → s.active ≡ true → s.section ≡ Some w → has_turn (Some w) s.season_seen ≡ true → w < length x.sections
     → seen_of x.core.shape x.plan (Some w) (season_of s) ≡ seen_in (meanings_of x.sections) w
 seen_at x i zero s k t a e turn h = refl
 seen_at x i (suc w) s k t a e turn h =
@@ -53,7 +53,7 @@ seen_at x i (suc w) s k t a e turn h =
     ap (λ n. Some (planned x.core.shape x.plan n)) read ∙ ap (λ n. Some n) (sym there) ∙ sym (ap heap_in (meaning-there x.sections 0 (omega (arith, h))))
 
 -- a mutator sees the catalogue as it is
-pub seen-is : (x : Whole) (i : ℕ) (s : SeatState) → IsState x → slice_get x.core.seats i ≡ Some s → IsFalse s.spent → may_mutate s ≡ true → seen_by x.core.shape x.plan s ≡ seen_in (meanings_of x.sections) (own_section s)
+pub seen-is : (x : TableState) (i : ℕ) (s : SeatState) → IsState x → slice_get x.core.seats i ≡ Some s → IsFalse s.spent → may_mutate s ≡ true → seen_by x.core.shape x.plan s ≡ seen_in (meanings_of x.sections) (own_section s)
 seen-is x i s k g live may =
     let t : Taken x.core i s ReadCount = looks x.core i s k.core g live in
     let a : Mutates x.core i s (meanings_of x.sections) = mutates x.core i s ReadCount (meanings_of x.sections) t k.stands may in

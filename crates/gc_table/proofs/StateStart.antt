@@ -23,7 +23,7 @@ use Rattle.gc_table.specs.StandsFor.{StandsFor, start_meaning}
 use Rattle.gc_table.specs.declared.view.Meaning.{Meaning}
 use Rattle.gc_table.specs.declared.view.SectionState.{SectionState}
 use Rattle.gc_table.specs.Sections.{start_section, start_sections}
-use Rattle.gc_table.specs.Whole.{start_whole, meanings_of, no_section, section_at}
+use Rattle.gc_table.specs.TableState.{start_state, meanings_of, no_section, section_at}
 use Rattle.gc_table.specs.Told.{EachSection, IsTold}
 use Rattle.gc_table.specs.Rule.{IsState}
 use Rattle.gc_table.proofs.StandsStart.{stands-starts}
@@ -64,7 +64,7 @@ no_season sh =
     ∙ (past-gap (singles sh) (full_pool sh) (tail_words sh) 11 (gap sh) (region_base (region_sizes sh) 13 + 1) (4 * w + 1) refl (omega arith)
     ∙ (get_or-append_right (full_pool sh) (tail_words sh) w (4 * w + 1) 0 long (omega arith) ∙ get_or-replicate (3 * w + 2) (4 * w + 1 - w) 0 0 (omega arith)))
 
-pub told-starts : (sh : Shape) (plan : List (List Op)) (n : ℕ) → IsShape sh → 1 ≤ n → n ≤ 41 → IsTold (start_whole sh plan n)
+pub told-starts : (sh : Shape) (plan : List (List Op)) (n : ℕ) → IsShape sh → 1 ≤ n → n ≤ 41 → IsTold (start_state sh plan n)
 told-starts sh plan n z some few = record {
   unseated = λ w x e l. section_is sh w x e;
   placed =
@@ -98,11 +98,11 @@ meanings_from : (sh : Shape) (a n : ℕ) → meanings_of (map (start_section sh)
 meanings_from sh a zero = refl
 meanings_from sh a (suc n) = ap (λ ms. start_meaning sh a ∷ ms) (meanings_from sh (a + 1) n)
 
-pub whole-starts : (sh : Shape) (plan : List (List Op)) (n : ℕ) → IsShape sh → 1 ≤ n → n ≤ 41 → IsState (start_whole sh plan n)
+pub whole-starts : (sh : Shape) (plan : List (List Op)) (n : ℕ) → IsShape sh → 1 ≤ n → n ≤ 41 → IsState (start_state sh plan n)
 whole-starts sh plan n z some few =
     record {
       core = core-starts sh n z some few;
       swept = swept-starts sh n z;
-      stands = subst (λ (ms : List Meaning). StandsFor (start_whole sh plan n).core ms) (sym (meanings_from sh 0 sh.sections)) (stands-starts sh n z);
+      stands = subst (λ (ms : List Meaning). StandsFor (start_state sh plan n).core ms) (sym (meanings_from sh 0 sh.sections)) (stands-starts sh n z);
       told = told-starts sh plan n z some few;
     }

@@ -24,21 +24,21 @@ use Rattle.plain_heap.specs.declared.object.Object.{Object}
 use Rattle.plain_heap.specs.PlainHeap.{Heap}
 use Rattle.plain_heap.specs.PlainStep.{object_of, followed, lent_variable}
 use Rattle.plain_heap.specs.Paths.{Names}
-use Rattle.gc_table.specs.StandsFor.{object_count, name_at, Agrees as AgreesWith, StandsFor}
+use Rattle.gc_table.specs.StandsFor.{object_count, name_at, WordAgrees, StandsFor}
 use Rattle.gc_table.specs.declared.view.Meaning.{Meaning}
 use Rattle.gc_table.specs.declared.view.View.{View}
 use Rattle.gc_table.specs.PlainSteps.{heap_in, seen_in, meaning_of, known_as}
 use Rattle.gc_table.specs.Reads.{Reads}
-use Rattle.gc_table.specs.Whole.{Whole, meanings_of}
+use Rattle.gc_table.specs.TableState.{TableState, meanings_of}
 use Rattle.gc_table.specs.Rule.{IsState, Agrees}
 use Rattle.gc_table.proofs.StandsCells.{HasMeaning, named-object}
 use Rattle.gc_table.proofs.StandsNamed.{ref-of}
 use Rattle.gc_table.proofs.StandsReads.{own-found, cat-found}
 use Rattle.gc_table.proofs.StandsSeat.{Mutates, known-agrees}
-use Rattle.gc_table.proofs.WholePlain.{Acts, acts-taken, own-section, Views, views}
+use Rattle.gc_table.proofs.StatePlain.{Acts, acts-taken, own-section, Views, views}
 
 -- the object that a reference to a cell names has the cell's value
-object_agrees : (sh : Shape) (ids values fields : List ℕ) (ms : List Meaning) (i c : ℕ) (m : Meaning) (ref : Ref) → slice_get ms i ≡ Some m → AgreesWith ids (object_count ms) i (c + 1) ref → HasMeaning sh ids values fields ms c
+object_agrees : (sh : Shape) (ids values fields : List ℕ) (ms : List Meaning) (i c : ℕ) (m : Meaning) (ref : Ref) → slice_get ms i ≡ Some m → WordAgrees ids (object_count ms) i (c + 1) ref → HasMeaning sh ids values fields ms c
     → (o : Object) × (object_of m.heap (seen_in ms i) ref ≡ Some o) × (slice_index values c ≡ o.value)
 object_agrees sh ids values fields ms i c m ref g (inl z) cell = absurd (omega (arith, z.0))
 object_agrees sh ids values fields ms i c m refs.Nil g (inr (some, names, below)) cell = absurd names
@@ -59,7 +59,7 @@ object_agrees sh ids values fields ms (suc i) c m (refs.Cat n) g (inr (some, nam
     (o.2.object, ap (λ y. object_of m.heap (heap_in y) (refs.Cat n)) seen ∙ ap (λ k. slice_get o.0.heap.objects k) (sym number) ∙ o.2.there, o.2.value)
 
 -- a word is nil exactly where its reference is
-nil_both : (ids : List ℕ) (p : ℕ → ℕ) (w word : ℕ) (ref : Ref) → AgreesWith ids p w word ref → (word ≡ 0) ↔ (ref ≡ refs.Nil)
+nil_both : (ids : List ℕ) (p : ℕ → ℕ) (w word : ℕ) (ref : Ref) → WordAgrees ids p w word ref → (word ≡ 0) ↔ (ref ≡ refs.Nil)
 nil_both ids p w word ref (inl z) = (λ e. z.1, λ e. z.0)
 nil_both ids p w word ref (inr (some, names, below)) = (λ e. absurd (omega (arith, e, some)), λ e. absurd (subst (λ (r : Ref). Names w r (name_at ids (word - 1))) e names))
 
@@ -99,19 +99,19 @@ position_counter w =
     (false_from_ne_true (nat_lt (8 + w) 7) (λ e. omega (arith, ltb-true (8 + w) 7 e))) (ne_eqb (8 + w) 7 (λ e. omega (arith, e))) (omega arith)
 
 -- what a mutator reads of a section's words, in the words of its view
-value_read : (x : Whole) (i : ℕ) (v : View) (c : ℕ) → Acts x i v (ReadValue c) → Views x i v → Reads (ReadValue c) (found x.core v.state (ReadValue c)) v
+value_read : (x : TableState) (i : ℕ) (v : View) (c : ℕ) → Acts x i v (ReadValue c) → Views x i v → Reads (ReadValue c) (found x.core v.state (ReadValue c)) v
 value_read x i v c k a =
     subst (λ (o : Option Heap). (object : Object) × (object_of v.own.meaning.heap o (known_as v.state v.own.meaning c) ≡ Some object) × (found x.core v.state (ReadValue c) ≡ object.value)) (sym a.seen)
     (subst (λ (m : Meaning). (object : Object) × (object_of m.heap (seen_in (meanings_of x.sections) i) (known_as v.state m c) ≡ Some object) × (found x.core v.state (ReadValue c) ≡ object.value)) a.meaning
     (value_found x.core i v.state c (meanings_of x.sections) (acts-taken x i v (ReadValue c) k) k.whole.stands a.mutates))
 
-ident_read : (x : Whole) (i : ℕ) (v : View) (c : ℕ) → Acts x i v (ReadIdent c) → Views x i v → Reads (ReadIdent c) (found x.core v.state (ReadIdent c)) v
+ident_read : (x : TableState) (i : ℕ) (v : View) (c : ℕ) → Acts x i v (ReadIdent c) → Views x i v → Reads (ReadIdent c) (found x.core v.state (ReadIdent c)) v
 ident_read x i v c k a =
     subst (λ (w : ℕ). IsNamed w (known_as v.state v.own.meaning c) (found x.core v.state (ReadIdent c))) (sym a.mutates.own)
     (subst (λ (m : Meaning). IsNamed i (known_as v.state m c) (found x.core v.state (ReadIdent c))) a.meaning
     (ident_found x.core i v.state c (meanings_of x.sections) (acts-taken x i v (ReadIdent c) k) k.whole.stands a.mutates))
 
-own_read : (x : Whole) (i : ℕ) (v : View) (c j : ℕ) → Acts x i v (ReadOwn c j) → Views x i v → Reads (ReadOwn c j) (found x.core v.state (ReadOwn c j)) v
+own_read : (x : TableState) (i : ℕ) (v : View) (c j : ℕ) → Acts x i v (ReadOwn c j) → Views x i v → Reads (ReadOwn c j) (found x.core v.state (ReadOwn c j)) v
 own_read x i v c j k a =
     let ms : List Meaning = meanings_of x.sections in
     let n : ℕ = found x.core v.state (ReadOwn c j) in
@@ -119,18 +119,18 @@ own_read x i v c j k a =
     (subst (λ (m : Meaning). (n ≡ 0) ↔ (followed m.heap (seen_in ms i) (known_as v.state m c) j ≡ refs.Nil)) a.meaning
     (nil_both (words_of x.core.shape x.core.words).identities (object_count ms) i n _ (own-found x.core i v.state c j ms (acts-taken x i v (ReadOwn c j) k) k.whole.stands a.mutates).1))
 
-cat_read : (x : Whole) (i : ℕ) (v : View) (u : ℕ) → Acts x i v (ReadCat u) → Views x i v → Reads (ReadCat u) (found x.core v.state (ReadCat u)) v
+cat_read : (x : TableState) (i : ℕ) (v : View) (u : ℕ) → Acts x i v (ReadCat u) → Views x i v → Reads (ReadCat u) (found x.core v.state (ReadCat u)) v
 cat_read x i v u k a =
     let ms : List Meaning = meanings_of x.sections in
     let n : ℕ = found x.core v.state (ReadCat u) in
     subst (λ (o : Option Heap). (n ≡ 0) ↔ (lent_variable o u ≡ refs.Nil)) (sym a.seen)
     (nil_both (words_of x.core.shape x.core.words).identities (object_count ms) i n _ (cat-found x.core i v.state u ms (acts-taken x i v (ReadCat u) k) k.whole.stands a.mutates).1)
 
-season_read : (x : Whole) (i : ℕ) (v : View) → Acts x i v ReadSeason → Reads ReadSeason (found x.core v.state ReadSeason) v
+season_read : (x : TableState) (i : ℕ) (v : View) → Acts x i v ReadSeason → Reads ReadSeason (found x.core v.state ReadSeason) v
 season_read x i v k e =
     words-get (region_sizes x.core.shape) 13 x.core.words 1 0 (omega arith) ∙ k.whole.told.seasons.moved ∙ ap (λ y. y.seasons) (own-section x i 0 v k.agrees e)
 
-position_read : (x : Whole) (i : ℕ) (v : View) (which : ℕ) → Acts x i v (ReadStat which) → Reads (ReadStat which) (found x.core v.state (ReadStat which)) v
+position_read : (x : TableState) (i : ℕ) (v : View) (which : ℕ) → Acts x i v (ReadStat which) → Reads (ReadStat which) (found x.core v.state (ReadStat which)) v
 position_read x i v which k w e at =
     let h : which < 8 + x.core.shape.sections = ltb-true which (8 + x.core.shape.sections) k.ok.0 in
     ap (λ (n : ℕ). slice_index x.core.words (address x.core.shape (counter_at n))) at
@@ -138,7 +138,7 @@ position_read x i v which k w e at =
     ∙ words-get (region_sizes x.core.shape) 1 x.core.words w 0 (omega (arith, h, at))
     ∙ k.whole.told.positioned w v.own (k.agrees.own w e)
 
-reads_of : (x : Whole) (i : ℕ) (v : View) (step : Step) → Acts x i v step → Reads step (found x.core v.state step) v
+reads_of : (x : TableState) (i : ℕ) (v : View) (step : Step) → Acts x i v step → Reads step (found x.core v.state step) v
 reads_of x i v (ReadValue c) k = value_read x i v c k (views x i v (ReadValue c) k (and_parts _ (may_mutate v.state) k.ok.0).1)
 reads_of x i v (ReadIdent c) k = ident_read x i v c k (views x i v (ReadIdent c) k (and_parts _ (may_mutate v.state) k.ok.0).1)
 reads_of x i v (ReadOwn c j) k = own_read x i v c j k (views x i v (ReadOwn c j) k (and_parts _ (may_mutate v.state) k.ok.0).1)
@@ -148,5 +148,5 @@ reads_of x i v (ReadStat which) k = position_read x i v which k
 reads_of x i v step k = tt
 
 -- what a seat reads is what its view says of the plain heap, the season and its own position
-pub reads-true : (x : Whole) (i : ℕ) (v : View) (step : Step) → IsState x → Agrees x i v → IsFalse v.state.spent → AllTrue (parts x.core.shape (words_of x.core.shape x.core.words) x.core.seats v.state step) → Reads step (found x.core v.state step) v
+pub reads-true : (x : TableState) (i : ℕ) (v : View) (step : Step) → IsState x → Agrees x i v → IsFalse v.state.spent → AllTrue (parts x.core.shape (words_of x.core.shape x.core.words) x.core.seats v.state step) → Reads step (found x.core v.state step) v
 reads-true x i v step whole agrees live ok = reads_of x i v step (record { whole = whole; agrees = agrees; live = live; ok = ok })

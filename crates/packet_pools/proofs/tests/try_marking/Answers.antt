@@ -5,7 +5,7 @@ use Rattle.mark_core.specs.declared.kinds.Phase.TheVariants.{Marking}
 use Rattle.mark_core.specs.declared.kinds.Step.TheVariants.{StorePhase}
 use Rattle.gc_table.specs.Trials.{entered}
 use Rattle.gc_table.proofs.Trying.{may-by, state-after, first-packet}
-use Rattle.packet_pools.proofs.tests.mark.Goals as goal
+use Rattle.packet_pools.proofs.tests.try_marking.Goals as goal
 
 pub store_phase-requires-clause-may : goal.store_phase-requires-clause-may
 store_phase-requires-clause-may c = let sh = c.args.heap.now.shape in may-by sh _ (entered sh c.args.k) (StorePhase Marking) c.requires.0.1 c.requires.1 (λ w seats. (refl, (refl, (refl, tt))))

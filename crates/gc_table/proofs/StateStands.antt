@@ -14,12 +14,12 @@ use Rattle.gc_table.specs.declared.view.Meaning.{Meaning}
 use Rattle.gc_table.specs.declared.view.SectionState.{SectionState}
 use Rattle.gc_table.specs.PlainSteps.{seen_in, own_section, meaning_of, no_meaning, meaning_after, changed_by, meanings_after, Asks, AsksIn}
 use Rattle.gc_table.specs.Sections.{seen_by, meaning_by, section_after}
-use Rattle.gc_table.specs.Whole.{Whole, meanings_of, section_at, with_section, whole_after}
+use Rattle.gc_table.specs.TableState.{TableState, meanings_of, section_at, with_section, state_after}
 use Rattle.gc_table.proofs.StandsKept.{stands-kept}
 use Rattle.gc_table.proofs.StandsSeat.{Mutates, mutates}
-use Rattle.gc_table.proofs.WholeSeen.{meaning-at, seen-is}
-use Rattle.gc_table.proofs.WholeSteps.{Goes, event, taken, may-happen, sections_left, sections-left}
-use Rattle.gc_table.proofs.WholeStores.{meaning-told}
+use Rattle.gc_table.proofs.StateSeen.{meaning-at, seen-is}
+use Rattle.gc_table.proofs.StateSteps.{Goes, event, taken, may-happen, sections_left, sections-left}
+use Rattle.gc_table.proofs.StateStores.{meaning-told}
 
 pub meanings-set : (xs : List SectionState) (w : ℕ) (y : SectionState) → meanings_of (set xs w y) ≡ set (meanings_of xs) w y.meaning
 meanings-set [] w y = refl
@@ -33,11 +33,11 @@ still_means xs f (Some w) same =
     meanings-set xs w (f (section_at xs w)) ∙ ap (λ m. set (meanings_of xs) w m) (same (section_at xs w) ∙ sym (meaning-at xs w)) ∙ set-get_or (meanings_of xs) w no_meaning
 
 -- the plain step of a step, and what the sections mean after it
-abbrev pub Means : Whole → SeatState → Step → Type 0
+abbrev pub Means : TableState → SeatState → Step → Type 0
 Means x s step = (op : Op) × AsksIn s (meanings_of x.sections) step op × (meanings_of (sections_left x s step) ≡ meanings_after x.core.shape s step op (meanings_of x.sections))
 
 -- a step of a mutator
-mutating : (x : Whole) (i : ℕ) (s : SeatState) (step : Step) (op : Op) → Goes x i s step → may_mutate s ≡ true → Asks s (section_at x.sections (own_section s)).meaning (seen_by x.core.shape x.plan s) step op
+mutating : (x : TableState) (i : ℕ) (s : SeatState) (step : Step) (op : Op) → Goes x i s step → may_mutate s ≡ true → Asks s (section_at x.sections (own_section s)).meaning (seen_by x.core.shape x.plan s) step op
     → ((y : SectionState) → (section_after x.core.shape x.plan s step y).meaning ≡ meaning_by x.core.shape s (seen_by x.core.shape x.plan s) step y.meaning)
     → (o : Op) × AsksIn s (meanings_of x.sections) step o × (meanings_of (sections_left x s step) ≡ changed_by x.core.shape s step o (meanings_of x.sections))
 mutating x i s step op g may asked means = (op, asks, meanings)
@@ -77,7 +77,7 @@ mutating x i s step op g may asked means = (op, asks, meanings)
     meanings =
         ap (λ o. meanings_of (with_section o (section_after x.core.shape x.plan s step) x.sections)) section ∙ meanings-set x.sections w after ∙ ap (λ m. set ms w m) mine
 
-means-left : (x : Whole) (i : ℕ) (s : SeatState) (step : Step) → Goes x i s step → Means x s step
+means-left : (x : TableState) (i : ℕ) (s : SeatState) (step : Step) → Goes x i s step → Means x s step
 means-left x i s (ReadOwn c j) g = mutating x i s (ReadOwn c j) ops.Collect g (and_parts _ (may_mutate s) g.ok.0).1 tt (λ y. refl)
 means-left x i s (ReadCat v) g = mutating x i s (ReadCat v) ops.Collect g (and_parts _ (may_mutate s) g.ok.0).1 tt (λ y. refl)
 means-left x i s (StoreField v j o) g = mutating x i s (StoreField v j o) g.asks.0 g (and_parts _ (may_mutate s) g.ok.0).1 g.asks.1 (λ y. refl)
@@ -87,9 +87,9 @@ means-left x i s (StoreNew c part word) g = mutating x i s (StoreNew c part word
 means-left x i s step g = (ops.Collect, tt, still_means x.sections (section_after x.core.shape x.plan s step) s.section (λ y. refl))
 
 -- each step keeps that the words stand for what the sections say
-pub stands-whole : (x : Whole) (i : ℕ) (s : SeatState) (step : Step) → Goes x i s step → StandsFor (whole_after x (event i step)).core (meanings_of (whole_after x (event i step)).sections)
+pub stands-whole : (x : TableState) (i : ℕ) (s : SeatState) (step : Step) → Goes x i s step → StandsFor (state_after x (event i step)).core (meanings_of (state_after x (event i step)).sections)
 stands-whole x i s step g =
     let m : Means x s step = means-left x i s step g in
-    let after : meanings_of (whole_after x (event i step)).sections ≡ meanings_after x.core.shape s step m.0 (meanings_of x.sections) = ap meanings_of (sections-left x i s step g) ∙ m.2 in
-    subst (λ (ms : List Meaning). StandsFor (whole_after x (event i step)).core ms) (sym after)
+    let after : meanings_of (state_after x (event i step)).sections ≡ meanings_after x.core.shape s step m.0 (meanings_of x.sections) = ap meanings_of (sections-left x i s step g) ∙ m.2 in
+    subst (λ (ms : List Meaning). StandsFor (state_after x (event i step)).core ms) (sym after)
     (stands-kept x.core (event i step) s m.0 (meanings_of x.sections) g.whole.core g.whole.stands g.got m.1 (may-happen x i s step g))

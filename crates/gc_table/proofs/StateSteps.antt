@@ -13,14 +13,14 @@ use Rattle.mark_core.specs.declared.kinds.Step.{Step}
 use Rattle.mark_core.specs.declared.seat.SeatState.{SeatState}
 use Rattle.gc_table.specs.declared.view.SectionState.{SectionState}
 use Rattle.gc_table.specs.Sections.{section_after}
-use Rattle.gc_table.specs.Whole.{Whole, no_section, section_at, with_section, sections_after, whole_after, AskedIn}
+use Rattle.gc_table.specs.TableState.{TableState, no_section, section_at, with_section, sections_after, state_after, AskedIn}
 use Rattle.gc_table.specs.Told.{EachSection}
 use Rattle.gc_table.specs.Rule.{IsState}
 use Rattle.std.proofs.lemmas.Bool.{cases_eq}
 use Rattle.std.proofs.lemmas.Option.{get_or_from_slice_get}
 use Rattle.gc_table.proofs.StandsFrame.{get-set_same, get-set_other}
 
-pub record Goes (x : Whole) (i : ℕ) (s : SeatState) (step : Step) : Type 0 where
+pub record Goes (x : TableState) (i : ℕ) (s : SeatState) (step : Step) : Type 0 where
   pub whole : IsState x
   pub got : slice_get x.core.seats i ≡ Some s
   pub live : IsFalse s.spent
@@ -31,37 +31,37 @@ pub record Goes (x : Whole) (i : ℕ) (s : SeatState) (step : Step) : Type 0 whe
 abbrev pub event : ℕ → Step → Event
 event i step = record { seat = i; step = step }
 
-pub taken : (x : Whole) (i : ℕ) (s : SeatState) (step : Step) → Goes x i s step → Taken x.core i s step
+pub taken : (x : TableState) (i : ℕ) (s : SeatState) (step : Step) → Goes x i s step → Taken x.core i s step
 taken x i s step g = record { core = g.whole.core; got = g.got; live = g.live; ok = g.ok }
 
 pub all-hold : (k : ℕ) (bs : List Bool) → AllTrue bs → first_false k bs ≡ None
 all-hold k [] ok = refl
 all-hold k (b ∷ bs) ok = ap (λ (x : Bool). cond x (first_false (k + 1) bs) (Some k)) ok.0 ∙ all-hold (k + 1) bs ok.1
 
-pub may-happen : (x : Whole) (i : ℕ) (s : SeatState) (step : Step) → Goes x i s step → failing_part x.core (event i step) ≡ None
+pub may-happen : (x : TableState) (i : ℕ) (s : SeatState) (step : Step) → Goes x i s step → failing_part x.core (event i step) ≡ None
 may-happen x i s step g =
     ap (λ o. failing_of x.core o step) g.got
     ∙ (ap (λ (b : Bool). cond b (Some 0) (first_false 1 (parts x.core.shape (words_of x.core.shape x.core.words) x.core.seats s step))) g.live ∙ all-hold 1 _ g.ok)
 
 -- the sections that the step leaves
-abbrev pub sections_left : Whole → SeatState → Step → List SectionState
+abbrev pub sections_left : TableState → SeatState → Step → List SectionState
 sections_left x s step = with_section s.section (section_after x.core.shape x.plan s step) x.sections
 
-pub sections-left : (x : Whole) (i : ℕ) (s : SeatState) (step : Step) → Goes x i s step → (whole_after x (event i step)).sections ≡ sections_left x s step
+pub sections-left : (x : TableState) (i : ℕ) (s : SeatState) (step : Step) → Goes x i s step → (state_after x (event i step)).sections ≡ sections_left x s step
 sections-left x i s step g = ap (λ o. sections_after x.core.shape x.plan o step x.sections) g.got
 
 pub some-same : {A : Type 0} (a b : A) → Some a ≡ Some b → a ≡ b
 some-same a b e = cc
 
 -- a rule that holds of what the step leaves holds of the state after it
-pub kept-whole : (Rule : Shape → Words → List SeatState → List SectionState → Type 0) (x : Whole) (i : ℕ) (s : SeatState) (step : Step) (g : Goes x i s step)
+pub kept-whole : (Rule : Shape → Words → List SeatState → List SectionState → Type 0) (x : TableState) (i : ℕ) (s : SeatState) (step : Step) (g : Goes x i s step)
     → Rule x.core.shape (words_left x.core s step) (seats_left x.core i s step) (sections_left x s step)
-    → Rule (whole_after x (event i step)).core.shape (words_of (whole_after x (event i step)).core.shape (whole_after x (event i step)).core.words) (whole_after x (event i step)).core.seats (whole_after x (event i step)).sections
+    → Rule (state_after x (event i step)).core.shape (words_of (state_after x (event i step)).core.shape (state_after x (event i step)).core.words) (state_after x (event i step)).core.seats (state_after x (event i step)).sections
 kept-whole Rule x i s step g r =
-    kept-after (λ sh w seats. Rule sh w seats (whole_after x (event i step)).sections) x.core (event i step) g.whole.core (may-happen x i s step g)
+    kept-after (λ sh w seats. Rule sh w seats (state_after x (event i step)).sections) x.core (event i step) g.whole.core (may-happen x i s step g)
     (λ t a k.
     let same : t ≡ s = some-same t s (sym a.seat ∙ g.got) in
-    subst (λ (u : SeatState). Rule x.core.shape (words_left x.core u step) (seats_left x.core i u step) (whole_after x (event i step)).sections) (sym same)
+    subst (λ (u : SeatState). Rule x.core.shape (words_left x.core u step) (seats_left x.core i u step) (state_after x (event i step)).sections) (sym same)
     (subst (λ xs. Rule x.core.shape (words_left x.core s step) (seats_left x.core i s step) xs) (sym (sections-left x i s step g)) r))
 
 same_or : (w k : ℕ) → (w ≡ k) ⊎ (w ≢ k)

@@ -12,7 +12,7 @@ use Rattle.gc_table.specs.declared.view.SectionState.{SectionState}
 use Rattle.gc_table.specs.PlainSteps.{no_meaning, own_section}
 use Rattle.gc_table.specs.Sections.{section_after, start_sections, AskedOf}
 
-pub record Whole : Type 0 where
+pub record TableState : Type 0 where
   pub core : Core
   -- the operations of the catalogue, part by part
   pub plan : List (List Op)
@@ -25,7 +25,7 @@ meanings_of xs = map (λ (x : SectionState). x.meaning) xs
 
 -- what stands before anything is known
 abbrev pub no_section : SectionState
-no_section = record { meaning = no_meaning; places = []; turns = []; position = 0; seasons = 0; full = false; settled = false }
+no_section = record { meaning = no_meaning; places = []; history = []; position = 0; seasons = 0; full = false; settled = false }
 
 -- section w
 abbrev pub section_at : List SectionState → ℕ → SectionState
@@ -42,8 +42,8 @@ sections_after sh plan None step xs = xs
 sections_after sh plan (Some s) step xs = with_section s.section (section_after sh plan s step) xs
 
 -- the state after an event that is allowed
-abbrev pub whole_after : Whole → Event → Whole
-whole_after x e =
+abbrev pub state_after : TableState → Event → TableState
+state_after x e =
     record {
       core = after_event x.core e;
       plan = x.plan;
@@ -51,9 +51,9 @@ whole_after x e =
     }
 
 -- the state in which n seats have done nothing
-abbrev pub start_whole : Shape → List (List Op) → ℕ → Whole
-start_whole sh plan n = record { core = start_core sh n; plan = plan; sections = start_sections sh }
+abbrev pub start_state : Shape → List (List Op) → ℕ → TableState
+start_state sh plan n = record { core = start_core sh n; plan = plan; sections = start_sections sh }
 
 -- what is asked of a step of the seat with this record, besides its own condition
-abbrev pub AskedIn : Whole → SeatState → Step → Type 0
+abbrev pub AskedIn : TableState → SeatState → Step → Type 0
 AskedIn x s step = AskedOf x.core.shape x.plan s (section_at x.sections (own_section s)) (Some (words_of x.core.shape x.core.words).named) step

@@ -56,7 +56,7 @@ traces_cells (ReadLength p) = true
 traces_cells step = false
 
 -- the seat traced, and did nothing else; where this is asked for, it lost no cell in hand
-pub record LaterBy (strict : Bool) (v w : View) : Type 0 where
+pub record OnlyTracedBy (strict : Bool) (v w : View) : Type 0 where
   pub shape : w.shape ≡ v.shape
   pub opened : w.opened ≡ v.opened
   pub plan : w.plan ≡ v.plan
@@ -71,9 +71,9 @@ pub record LaterBy (strict : Bool) (v w : View) : Type 0 where
   pub cells : IsTrue strict → IsTrue (all_keep v (events v w))
 
 -- the seat traced: it lost no cell in hand, and did nothing else
-abbrev pub Later : View → View → Type 0
-Later v w = LaterBy true v w
+abbrev pub OnlyTraced : View → View → Type 0
+OnlyTraced v w = OnlyTracedBy true v w
 
 -- the seat traced and cleaned cards, and did nothing else: a card that was cleaned may be dirtied again with no cell in hand
-abbrev pub LaterCleaned : View → View → Type 0
-LaterCleaned v w = LaterBy false v w
+abbrev pub OnlyCleaned : View → View → Type 0
+OnlyCleaned v w = OnlyTracedBy false v w
