@@ -1,5 +1,5 @@
 -- Each step that a seat may take keeps the rule.
-use Rattle.std.proofs.Common.{ℕ, ◌≡◌, ◌≢◌, ◌+◌, List, [], set, arith, refl, sym, ap, ◌∙◌, subst, ⊎_elim, length-set}
+use Rattle.std.proofs.Common.{ℕ, ◌≡◌, ◌≢◌, ◌+◌, ◌<◌, List, [], set, arith, refl, sym, ap, ◌∙◌, subst, ⊎_elim, length-set}
 use Rattle.std.specs.Prelude.{slice_index, IsFalse}
 use mathlib.Core.Option.{some}
 use lib.ListN.{get_elem?}
@@ -14,7 +14,9 @@ use Rattle.mark_core.specs.declared.kinds.Step.{Step}
 use Rattle.gc_table.specs.declared.view.View.{View}
 use Rattle.gc_table.specs.Notes.{noting}
 use Rattle.gc_table.specs.Rule.{record_of, records_from, IsState, Agrees, Holds, IsPossible}
+use Rattle.gc_table.specs.Operations.{MayTake, Token, Writes}
 use Rattle.gc_table.specs.Taking.{after, May, IsOwn, Finds, IsBlind}
+use Rattle.gc_table.specs.declared.seat.Heap.{Heap}
 use Rattle.gc_table.proofs.Records.{record-live, records-set}
 use Rattle.plain_heap.specs.declared.operation.Op.{Op}
 use Rattle.gc_table.specs.Sections.{section_after}
@@ -124,3 +126,13 @@ allows-store sh plan slots id m step at new bare live here does blind own may as
       r.0,
       (ap (λ (l : List (ℕ × Unit {0})). (after step new v, l)) bare, r.1),
     )
+
+-- what the table asks of an operation that makes f of the word that it finds
+pub allows-found : (sh : Shape) (plan : List (List Op)) (slots id : ℕ) (h : Heap) (t : Token) (word : ℕ) (step : Step) (f : ℕ → ℕ) → MayTake h t word step → Writes step f t.me.0
+    → (t.table_id ≡ h.table.shared.table_id) × (word < h.table.shared.table_id.words) × Allows (Holds sh plan) slots id t.me word f (λ found a. (a ≡ (after step found t.me.0, [])) × IsPossible a.0 × Finds step found t.me.0)
+allows-found sh plan slots id h t word step f q writes = (q.table, q.within, allows sh plan slots id t.me step word f q.bare q.live q.there writes q.own q.may q.asked)
+
+-- the same of a store
+pub allows-stored : (sh : Shape) (plan : List (List Op)) (slots id : ℕ) (h : Heap) (t : Token) (word : ℕ) (step : Step) (new : ℕ) → MayTake h t word step → Writes step (λ _. new) t.me.0 → IsBlind step t.me.0
+    → (t.table_id ≡ h.table.shared.table_id) × (word < h.table.shared.table_id.words) × Allows (Holds sh plan) slots id t.me word (λ _. new) (λ _ a. (a ≡ (after step new t.me.0, [])) × IsPossible a.0)
+allows-stored sh plan slots id h t word step new q writes blind = (q.table, q.within, allows-store sh plan slots id t.me step word new q.bare q.live q.there writes blind q.own q.may q.asked)

@@ -18,7 +18,11 @@ use Rattle.mark_core.specs.declared.kinds.Step.TheVariants.{Push, ReadField, Sto
 use Rattle.mark_core.specs.declared.seat.SeatState.{SeatState}
 use Rattle.gc_table.specs.declared.view.View.{View}
 use Rattle.gc_table.specs.Rule.{IsPossible}
-use Rattle.gc_table.specs.Taking.{after, May, IsBlind}
+use Rattle.gc_table.specs.Operations.{MayTake}
+use Rattle.gc_table.specs.Seats.{Sits, view_of}
+use Rattle.gc_table.specs.Taking.{after, Asked, IsBlind, IsOwn, May}
+use Rattle.gc_table.specs.declared.seat.Heap.{Heap}
+use Rattle.gc_table.specs.declared.seat.HeapSeat.{HeapSeat}
 
 -- the word that the step touches exists, and there is room for what it counts
 takes_within : (v : View) (step : Step) → IsPossible v → May step v → address v.shape (place v.shape v.state step) < total_words (region_sizes v.shape)
@@ -55,6 +59,12 @@ step-word sh s v step at words is same shaped sized h may =
     let there : at ≡ address v.shape (place v.shape v.state step) = is ∙ (λ x. address (sym shaped x) (place (sym shaped x) (same x) step)) in
     let long : words ≡ total_words (region_sizes v.shape) = sized ∙ ap (λ (x : Shape). total_words (region_sizes x)) (sym shaped) in
     (subst (λ (x : ℕ × ℕ). x.0 < x.1) (λ y. (sym there y, sym long y)) (takes-within v step h may), there)
+
+-- so a seat of the heap may take a step at its word
+pub may-take : (h : Heap) (s : HeapSeat) (step : Step) (word : ℕ) → word ≡ address h.shape (place h.shape s.state step) → Sits h s → May step (view_of s) → IsOwn step → Asked step (view_of s) → MayTake h s.token word step
+may-take h s step word is sits may own asked =
+    let at = step-word h.shape s.state (s.token.me.0) step word h.table.shared.table_id.words is s.agrees sits.1 h.sized s.possible may in
+    record { table = sits.0; bare = s.bare; shape = sits.1; live = possible-live (s.token.me.0) s.possible; within = at.0; there = at.1; may = may; own = own; asked = asked }
 
 pub step-room : (s : SeatState) (v : View) (step : Step) → s ≡ v.state → ∥ IsPossible v ∥₁ → May step v → HasRoom s step
 step-room s v step same h may = subst (λ (x : SeatState). HasRoom x step) (sym same) (takes-room v step h may)

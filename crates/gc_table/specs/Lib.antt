@@ -3,6 +3,7 @@ pub mod Fetching
 pub mod Stopping
 pub mod Rule
 pub mod Taking
+pub mod Operations
 pub mod Trials
 pub mod Seats
 pub mod StandsFor

@@ -35,7 +35,7 @@ records_from sh k (v ∷ vs) = record_of sh k v ∷ records_from sh (k + 1) vs
 abbrev pub core_of : Shape → State (Unit {0}) View → Core
 core_of sh s = record { shape = sh; words = s.words; seats = records_from sh 0 s.views }
 
--- the same with the plan and what the sections have come to
+-- the state that the table shows, with the plan and what the sections have come to
 abbrev pub table_state : Shape → List (List Op) → List SectionState → State (Unit {0}) View → TableState
 table_state sh plan xs s = record { core = core_of sh s; plan = plan; sections = xs }
 

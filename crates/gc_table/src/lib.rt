@@ -25,8 +25,8 @@
 //!
 //! # The rule
 //!
-//! Between any two steps, whatever threads do, the rule holds (`specs/Rule.antt`). It speaks of a state (`TableState`): the
-//! words, the records of all seats, the plan, and what each section has come to.
+//! Between any two steps, whatever threads do, the rule holds (`specs/Rule.antt`). It speaks of a state (`TableState`):
+//! the words, the records of all seats, the plan, and what each section has come to.
 //!
 //! - The words and records are a state that meets the rule of the core, in which no block that was swept has a mark.
 //! - The words stand for the plain heaps (`specs/StandsFor.antt`).
@@ -67,12 +67,15 @@
 //!
 //! # Where what is
 //!
-//! `seat` has the heap and its seats. `ends` makes a heap with all its seats, and closes it with all of them: the words
-//! in the end, which `words` copies out, are those of a state that meets the rule, in which each section is as its seat
-//! left it (`IsEnd` in `specs/Ends.antt`). `packets`, `tracing`, `mutator`, `world` and `sweep` have the steps.
-//! `stepping` and `operations` have what they rest on, two functions for each operation of the table, and `rule` what
-//! the table is told. In `proofs/`, `StateKept` shows once for all kinds of step that the rule is kept, each part of it
-//! in files of its own.
+//! `seat` has the heap and its seats. `ends` makes a heap with all its seats, and closes it with all of them: the
+//! words in the end, which `words` copies out, are those of a state that meets the rule, in which each section is as
+//! its seat left it (`IsEnd` in `specs/Ends.antt`). `packets`, `tracing`, `mutator`, `world` and `sweep` have the
+//! steps, and `masks` the bits that they set and clear. `stepping` and `operations` have what the steps rest on, two
+//! functions for each operation of the table, and `rule` what the table is told: `specs/Operations.antt` says once
+//! what all operations ask and promise. `view` has what contracts say that a seat knows, and `plan` what they say of
+//! the catalogue's plan; no value of a view is made, and a plan's tag has no bytes. `laws` has the theorems of this
+//! crate, each as the contract of a function that does nothing. In `proofs/`, `StateKept` shows once for all kinds of
+//! step that the rule is kept, each part of it in files of its own.
 #![tactic(auto)]
 
 pub mod ends;

@@ -2,6 +2,7 @@
 ghost use Rattle.std.specs.Prelude.{◌≡◌, ◌<◌, ◌^◌};
 ghost use Rattle.mark_core.specs.Bits.{complement};
 
+/// The flag of a stop or of help, in a word that counts seats below it.
 pub const FLAG: u64 = 4_294_967_296;
 
 /// Bit i alone.

@@ -1,10 +1,12 @@
-//! The operations of the table, each as one step: the rule is told which. The step is a value that nothing reads as the program runs.
-ghost use Rattle.std.specs.Prelude.{◌≡◌, ℕ, ◌+◌, ◌-◌, ◌%◌, ◌^◌, ◌<◌, ◌==◌, [], false, bit_or, bit_and};
+//! The operations of the table, each as one step: the rule is told which. The step is a value that nothing reads as the
+//! program runs: it is handed down for the rule alone (see `PicksStep`).
+//!
+//! All of them ask the same, that their seat may take the step at this word (`MayTake`), and promise the same, that
+//! it has taken it (`HasTaken`); they differ in what they make of the word.
+ghost use Rattle.std.specs.Prelude.{◌≡◌, ◌+◌, ◌-◌, ◌%◌, ◌^◌, ◌==◌, bit_or, bit_and};
 ghost use prog.Atomic.{either};
-ghost use Rattle.mark_core.specs.Effects.{place, written};
-ghost use Rattle.mark_core.specs.Layout.{address as address_of};
-ghost use Rattle.gc_table.specs.Rule.{IsPossible};
-ghost use Rattle.gc_table.specs.Taking.{after, Asked, May, IsOwn, Finds, IsBlind};
+ghost use Rattle.gc_table.specs.Operations.{HasTaken, MayTake, Writes};
+ghost use Rattle.gc_table.specs.Taking.{Finds, IsBlind};
 
 use crate::rule::{AtFound, AtStored, PicksStep};
 use crate::seat::Heap;
@@ -13,6 +15,7 @@ use atomic_table::Seat;
 use mark_core::Step;
 
 impl Heap {
+    /// Reads the word.
     pub(crate) fn load_told<T: PicksStep>(
         &self,
         token: &mut Seat<(), View>,
@@ -20,21 +23,15 @@ impl Heap {
         _step: Step,
     ) -> u64
         requires step { _step ≡ T.step }
-        requires seat { (token.old.table_id ≡ self.now.table.shared.table_id) × (token.old.me.1 ≡ []) × (token.old.me.0.shape ≡ self.now.shape) }
-        requires live { token.old.me.0.state.spent ≡ false }
-        requires word { (word < self.now.table.shared.table_id.words) × (word ≡ address_of token.old.me.0.shape (place token.old.me.0.shape token.old.me.0.state T.step)) }
-        requires may { May T.step token.old.me.0 }
-        requires own { IsOwn T.step }
-        requires asked { Asked T.step token.old.me.0 }
-        requires kind { (n : ℕ) → written token.old.me.0.shape token.old.me.0.state T.step n ≡ n }
-        ensures seat { (token.new.table_id ≡ token.old.table_id) × (token.new.id ≡ token.old.id) }
-        ensures view { token.new.me ≡ (after T.step result token.old.me.0, []) }
-        ensures possible { IsPossible token.new.me.0 }
+        requires take { MayTake self.now token.old word T.step }
+        requires kind { Writes T.step (λ n. n) token.old.me.0 }
+        ensures taken { HasTaken T.step result token.old token.new }
         ensures finds { Finds T.step result token.old.me.0 }
     {
         self.table.shared.load::<AtFound<T>>(token, word)
     }
 
+    /// Stores a word, and tells the one that it found.
     pub(crate) fn swap_told<T: PicksStep>(
         &self,
         token: &mut Seat<(), View>,
@@ -43,21 +40,15 @@ impl Heap {
         _step: Step,
     ) -> u64
         requires step { _step ≡ T.step }
-        requires seat { (token.old.table_id ≡ self.now.table.shared.table_id) × (token.old.me.1 ≡ []) × (token.old.me.0.shape ≡ self.now.shape) }
-        requires live { token.old.me.0.state.spent ≡ false }
-        requires word { (word < self.now.table.shared.table_id.words) × (word ≡ address_of token.old.me.0.shape (place token.old.me.0.shape token.old.me.0.state T.step)) }
-        requires may { May T.step token.old.me.0 }
-        requires own { IsOwn T.step }
-        requires asked { Asked T.step token.old.me.0 }
-        requires kind { (n : ℕ) → written token.old.me.0.shape token.old.me.0.state T.step n ≡ new }
-        ensures seat { (token.new.table_id ≡ token.old.table_id) × (token.new.id ≡ token.old.id) }
-        ensures view { token.new.me ≡ (after T.step result token.old.me.0, []) }
-        ensures possible { IsPossible token.new.me.0 }
+        requires take { MayTake self.now token.old word T.step }
+        requires kind { Writes T.step (λ _. new) token.old.me.0 }
+        ensures taken { HasTaken T.step result token.old token.new }
         ensures finds { Finds T.step result token.old.me.0 }
     {
         self.table.shared.swap::<AtFound<T>>(token, word, new)
     }
 
+    /// Adds to the word.
     pub(crate) fn fetch_add_told<T: PicksStep>(
         &self,
         token: &mut Seat<(), View>,
@@ -66,21 +57,15 @@ impl Heap {
         _step: Step,
     ) -> u64
         requires step { _step ≡ T.step }
-        requires seat { (token.old.table_id ≡ self.now.table.shared.table_id) × (token.old.me.1 ≡ []) × (token.old.me.0.shape ≡ self.now.shape) }
-        requires live { token.old.me.0.state.spent ≡ false }
-        requires word { (word < self.now.table.shared.table_id.words) × (word ≡ address_of token.old.me.0.shape (place token.old.me.0.shape token.old.me.0.state T.step)) }
-        requires may { May T.step token.old.me.0 }
-        requires own { IsOwn T.step }
-        requires asked { Asked T.step token.old.me.0 }
-        requires kind { (n : ℕ) → written token.old.me.0.shape token.old.me.0.state T.step n ≡ (n + by) % 2 ^ 64 }
-        ensures seat { (token.new.table_id ≡ token.old.table_id) × (token.new.id ≡ token.old.id) }
-        ensures view { token.new.me ≡ (after T.step result token.old.me.0, []) }
-        ensures possible { IsPossible token.new.me.0 }
+        requires take { MayTake self.now token.old word T.step }
+        requires kind { Writes T.step (λ n. (n + by) % 2 ^ 64) token.old.me.0 }
+        ensures taken { HasTaken T.step result token.old token.new }
         ensures finds { Finds T.step result token.old.me.0 }
     {
         self.table.shared.fetch_add::<AtFound<T>>(token, word, by)
     }
 
+    /// Takes from the word.
     pub(crate) fn fetch_sub_told<T: PicksStep>(
         &self,
         token: &mut Seat<(), View>,
@@ -89,21 +74,15 @@ impl Heap {
         _step: Step,
     ) -> u64
         requires step { _step ≡ T.step }
-        requires seat { (token.old.table_id ≡ self.now.table.shared.table_id) × (token.old.me.1 ≡ []) × (token.old.me.0.shape ≡ self.now.shape) }
-        requires live { token.old.me.0.state.spent ≡ false }
-        requires word { (word < self.now.table.shared.table_id.words) × (word ≡ address_of token.old.me.0.shape (place token.old.me.0.shape token.old.me.0.state T.step)) }
-        requires may { May T.step token.old.me.0 }
-        requires own { IsOwn T.step }
-        requires asked { Asked T.step token.old.me.0 }
-        requires kind { (n : ℕ) → written token.old.me.0.shape token.old.me.0.state T.step n ≡ (n + (2 ^ 64 - by)) % 2 ^ 64 }
-        ensures seat { (token.new.table_id ≡ token.old.table_id) × (token.new.id ≡ token.old.id) }
-        ensures view { token.new.me ≡ (after T.step result token.old.me.0, []) }
-        ensures possible { IsPossible token.new.me.0 }
+        requires take { MayTake self.now token.old word T.step }
+        requires kind { Writes T.step (λ n. (n + (2 ^ 64 - by)) % 2 ^ 64) token.old.me.0 }
+        ensures taken { HasTaken T.step result token.old token.new }
         ensures finds { Finds T.step result token.old.me.0 }
     {
         self.table.shared.fetch_sub::<AtFound<T>>(token, word, by)
     }
 
+    /// Keeps these bits of the word alone.
     pub(crate) fn fetch_and_told<T: PicksStep>(
         &self,
         token: &mut Seat<(), View>,
@@ -112,21 +91,15 @@ impl Heap {
         _step: Step,
     ) -> u64
         requires step { _step ≡ T.step }
-        requires seat { (token.old.table_id ≡ self.now.table.shared.table_id) × (token.old.me.1 ≡ []) × (token.old.me.0.shape ≡ self.now.shape) }
-        requires live { token.old.me.0.state.spent ≡ false }
-        requires word { (word < self.now.table.shared.table_id.words) × (word ≡ address_of token.old.me.0.shape (place token.old.me.0.shape token.old.me.0.state T.step)) }
-        requires may { May T.step token.old.me.0 }
-        requires own { IsOwn T.step }
-        requires asked { Asked T.step token.old.me.0 }
-        requires kind { (n : ℕ) → written token.old.me.0.shape token.old.me.0.state T.step n ≡ bit_and n by }
-        ensures seat { (token.new.table_id ≡ token.old.table_id) × (token.new.id ≡ token.old.id) }
-        ensures view { token.new.me ≡ (after T.step result token.old.me.0, []) }
-        ensures possible { IsPossible token.new.me.0 }
+        requires take { MayTake self.now token.old word T.step }
+        requires kind { Writes T.step (λ n. bit_and n by) token.old.me.0 }
+        ensures taken { HasTaken T.step result token.old token.new }
         ensures finds { Finds T.step result token.old.me.0 }
     {
         self.table.shared.fetch_and::<AtFound<T>>(token, word, by)
     }
 
+    /// Sets these bits of the word.
     pub(crate) fn fetch_or_told<T: PicksStep>(
         &self,
         token: &mut Seat<(), View>,
@@ -135,21 +108,15 @@ impl Heap {
         _step: Step,
     ) -> u64
         requires step { _step ≡ T.step }
-        requires seat { (token.old.table_id ≡ self.now.table.shared.table_id) × (token.old.me.1 ≡ []) × (token.old.me.0.shape ≡ self.now.shape) }
-        requires live { token.old.me.0.state.spent ≡ false }
-        requires word { (word < self.now.table.shared.table_id.words) × (word ≡ address_of token.old.me.0.shape (place token.old.me.0.shape token.old.me.0.state T.step)) }
-        requires may { May T.step token.old.me.0 }
-        requires own { IsOwn T.step }
-        requires asked { Asked T.step token.old.me.0 }
-        requires kind { (n : ℕ) → written token.old.me.0.shape token.old.me.0.state T.step n ≡ bit_or n by }
-        ensures seat { (token.new.table_id ≡ token.old.table_id) × (token.new.id ≡ token.old.id) }
-        ensures view { token.new.me ≡ (after T.step result token.old.me.0, []) }
-        ensures possible { IsPossible token.new.me.0 }
+        requires take { MayTake self.now token.old word T.step }
+        requires kind { Writes T.step (λ n. bit_or n by) token.old.me.0 }
+        ensures taken { HasTaken T.step result token.old token.new }
         ensures finds { Finds T.step result token.old.me.0 }
     {
         self.table.shared.fetch_or::<AtFound<T>>(token, word, by)
     }
 
+    /// Stores a word where it finds `old`.
     pub(crate) fn compare_exchange_told<T: PicksStep>(
         &self,
         token: &mut Seat<(), View>,
@@ -159,16 +126,9 @@ impl Heap {
         _step: Step,
     ) -> u64
         requires step { _step ≡ T.step }
-        requires seat { (token.old.table_id ≡ self.now.table.shared.table_id) × (token.old.me.1 ≡ []) × (token.old.me.0.shape ≡ self.now.shape) }
-        requires live { token.old.me.0.state.spent ≡ false }
-        requires word { (word < self.now.table.shared.table_id.words) × (word ≡ address_of token.old.me.0.shape (place token.old.me.0.shape token.old.me.0.state T.step)) }
-        requires may { May T.step token.old.me.0 }
-        requires own { IsOwn T.step }
-        requires asked { Asked T.step token.old.me.0 }
-        requires kind { (n : ℕ) → written token.old.me.0.shape token.old.me.0.state T.step n ≡ either (n == old) new n }
-        ensures seat { (token.new.table_id ≡ token.old.table_id) × (token.new.id ≡ token.old.id) }
-        ensures view { token.new.me ≡ (after T.step result token.old.me.0, []) }
-        ensures possible { IsPossible token.new.me.0 }
+        requires take { MayTake self.now token.old word T.step }
+        requires kind { Writes T.step (λ n. either (n == old) new n) token.old.me.0 }
+        ensures taken { HasTaken T.step result token.old token.new }
         ensures finds { Finds T.step result token.old.me.0 }
     {
         self.table
@@ -176,6 +136,7 @@ impl Heap {
             .compare_exchange::<AtFound<T>>(token, word, old, new)
     }
 
+    /// Stores a word, whatever is there: it is told nothing of what it overwrites, so the step has to be blind to it.
     pub(crate) fn store_told<T: PicksStep>(
         &self,
         token: &mut Seat<(), View>,
@@ -184,17 +145,10 @@ impl Heap {
         _step: Step,
     )
         requires step { _step ≡ T.step }
-        requires seat { (token.old.table_id ≡ self.now.table.shared.table_id) × (token.old.me.1 ≡ []) × (token.old.me.0.shape ≡ self.now.shape) }
-        requires live { token.old.me.0.state.spent ≡ false }
-        requires word { (word < self.now.table.shared.table_id.words) × (word ≡ address_of token.old.me.0.shape (place token.old.me.0.shape token.old.me.0.state T.step)) }
-        requires may { May T.step token.old.me.0 }
-        requires own { IsOwn T.step }
-        requires asked { Asked T.step token.old.me.0 }
-        requires kind { (n : ℕ) → written token.old.me.0.shape token.old.me.0.state T.step n ≡ new }
+        requires take { MayTake self.now token.old word T.step }
+        requires kind { Writes T.step (λ _. new) token.old.me.0 }
         requires blind { IsBlind T.step token.old.me.0 }
-        ensures seat { (token.new.table_id ≡ token.old.table_id) × (token.new.id ≡ token.old.id) }
-        ensures view { token.new.me ≡ (after T.step new token.old.me.0, []) }
-        ensures possible { IsPossible token.new.me.0 }
+        ensures taken { HasTaken T.step new token.old token.new }
     {
         self.table.shared.store::<AtStored<T>>(token, word, new)
     }

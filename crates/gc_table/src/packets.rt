@@ -52,7 +52,8 @@ impl Heap {
         self.fetch_add_step(seat, 1, Step::Credit);
     }
 
-    /// Puts a grey cell into packet p.
+    /// Puts a grey cell into packet p: the call of its kind of step, for a caller that doesn't know the packet's
+    /// length.
     pub fn push(&self, seat: &mut HeapSeat, p: u32, cell: Cell)
         requires seat { Sits self.now seat.old }
         requires may { May (Step.Push p cell) (view_of seat.old) }
@@ -62,7 +63,8 @@ impl Heap {
         self.store_step(seat, Step::Push { p, cell });
     }
 
-    /// The same for a caller that knows how many cells are in the packet, so that its length isn't looked up.
+    /// The same for a caller that knows how many cells are in the packet, as `packet_pools` does: its length isn't
+    /// looked up.
     #[inline(always)]
     pub fn push_at(&self, seat: &mut HeapSeat, p: u32, length: u32, cell: Cell)
         requires seat { Sits self.now seat.old }
@@ -77,7 +79,8 @@ impl Heap {
         push_at(&mut seat.state, p, length, cell);
     }
 
-    /// Takes the grey cell that was put in last.
+    /// Takes the grey cell that was put in last: the call of its kind, for a caller that doesn't know the packet's
+    /// length.
     pub fn pop(&self, seat: &mut HeapSeat, p: u32) -> Cell
         requires seat { Sits self.now seat.old }
         requires may { May (Step.Pop p) (view_of seat.old) }
@@ -87,7 +90,8 @@ impl Heap {
         cell_of(self.load_step(seat, Step::Pop { p }))
     }
 
-    /// The same for a caller that knows how many cells are in the packet, so that its length isn't looked up.
+    /// The same for a caller that knows how many cells are in the packet, as `packet_pools` does: its length isn't
+    /// looked up.
     #[inline(always)]
     pub fn pop_at(&self, seat: &mut HeapSeat, p: u32, length: u32) -> Cell
         requires seat { Sits self.now seat.old }

@@ -9,6 +9,7 @@ use std::marker::{Model, PhantomData};
 /// The operations of a catalogue, part by part. It has no bytes.
 pub struct PlanTag {
     marker: PhantomData<()>,
+    /// By part of the catalogue, its operations in order.
     pub ghost parts: { List (List Op) },
 }
 
@@ -25,6 +26,7 @@ pub trait ReadsPlan<X> {
 }
 
 impl PlanTag {
+    /// The tag that is read off this value.
     pub fn of<X, M: ReadsPlan<X>>(x: &X) -> PlanTag
         ensures { result.parts ≡ M.parts x.now }
     {

@@ -13,10 +13,13 @@ use std::marker::{Brand, PhantomData};
 /// What the rule is told when the table is made.
 #[derive(Drop)]
 pub struct Key {
+    /// The sizes of the heap.
     pub shape: Shape,
+    /// The operations of the catalogue, part by part.
     pub plan: PlanTag,
 }
 
+/// What holds of the table between any two operations: `Holds` in `specs/Rule.antt`.
 pub struct Rule;
 
 impl TableRule<(), View, Key> for Rule {
@@ -25,13 +28,18 @@ impl TableRule<(), View, Key> for Rule {
     ghost first = { λ k. newcomer k.shape k.plan.parts 0 };
 }
 
-/// The step that is taken. Each call picks it.
+/// Which step an operation of the table is: the rule is told by this type, since the program needs no such value.
+///
+/// Each call of an operation is made at [`Brand`], whose step is picked anew there. It is the value that is handed to
+/// the operation as `_step`: `ghosts-load_told a = record { step = a._step }`, in
+/// `proofs/seat/Heap/load_step/Invariants.antt`, and so at each caller.
 pub trait PicksStep {
     ghost use Rattle.mark_core.specs.declared.kinds.Step.{Step};
 
     ghost step: { Step };
 }
 
+/// An impl has to name a step. This one is never taken, as each call names its own.
 impl PicksStep for Brand {
     ghost use Rattle.mark_core.specs.declared.kinds.Step.TheVariants.{ReadCount};
 

@@ -1,10 +1,13 @@
 //! One step of each kind of operation: the operation of the table, and the seat's record after it.
-ghost use Rattle.std.specs.Prelude.{◌≡◌, ℕ, ◌+◌, ◌-◌, ◌%◌, ◌^◌, ◌==◌, bit_or, bit_and};
+//!
+//! Each hands its step to the operation below it, which is told at `Brand` which step it is (see `PicksStep`).
+ghost use Rattle.std.specs.Prelude.{◌≡◌, ◌+◌, ◌-◌, ◌%◌, ◌^◌, ◌==◌, bit_or, bit_and};
 ghost use prog.Atomic.{either};
 ghost use Rattle.mark_core.specs.Effects.{place, written};
 ghost use Rattle.mark_core.specs.Layout.{address as address_of};
-ghost use Rattle.gc_table.specs.Seats.{Sits, view_of};
-ghost use Rattle.gc_table.specs.Taking.{after, Asked, May, IsOwn, Finds, IsBlind};
+ghost use Rattle.gc_table.specs.Operations.{Writes};
+ghost use Rattle.gc_table.specs.Seats.{Found, Sits, Stored, view_of};
+ghost use Rattle.gc_table.specs.Taking.{Asked, IsBlind, IsOwn, May};
 
 use crate::seat::{Heap, HeapSeat};
 use mark_core::{SeatState, Step, act, address_by};
@@ -19,16 +22,16 @@ impl Heap {
         address_by(&self.bases, s, step)
     }
 
+    /// A step that reads its word.
     #[inline(always)]
     pub(crate) fn load_step(&self, seat: &mut HeapSeat, step: Step) -> u64
         requires seat { Sits self.now seat.old }
         requires may { May step (view_of seat.old) }
         requires own { IsOwn step }
         requires asked { Asked step (view_of seat.old) }
-        requires kind { (n : ℕ) → written (view_of seat.old).shape (view_of seat.old).state step n ≡ n }
+        requires kind { Writes step (λ n. n) (view_of seat.old) }
         ensures seat { Sits self.now seat.new }
-        ensures view { view_of seat.new ≡ after step result (view_of seat.old) }
-        ensures finds { Finds step result (view_of seat.old) }
+        ensures view { Found step result (view_of seat.old) (view_of seat.new) }
     {
         let word = self.address(&seat.state, &step);
         let found = self.load_told::<Brand>(&mut seat.token, word, step);
@@ -36,16 +39,16 @@ impl Heap {
         found
     }
 
+    /// A step that stores a word and tells the one that it found.
     #[inline(always)]
     pub(crate) fn swap_step(&self, seat: &mut HeapSeat, new: u64, step: Step) -> u64
         requires seat { Sits self.now seat.old }
         requires may { May step (view_of seat.old) }
         requires own { IsOwn step }
         requires asked { Asked step (view_of seat.old) }
-        requires kind { (n : ℕ) → written (view_of seat.old).shape (view_of seat.old).state step n ≡ new }
+        requires kind { Writes step (λ _. new) (view_of seat.old) }
         ensures seat { Sits self.now seat.new }
-        ensures view { view_of seat.new ≡ after step result (view_of seat.old) }
-        ensures finds { Finds step result (view_of seat.old) }
+        ensures view { Found step result (view_of seat.old) (view_of seat.new) }
     {
         let word = self.address(&seat.state, &step);
         let found = self.swap_told::<Brand>(&mut seat.token, word, new, step);
@@ -53,16 +56,16 @@ impl Heap {
         found
     }
 
+    /// A step that adds to its word.
     #[inline(always)]
     pub(crate) fn fetch_add_step(&self, seat: &mut HeapSeat, by: u64, step: Step) -> u64
         requires seat { Sits self.now seat.old }
         requires may { May step (view_of seat.old) }
         requires own { IsOwn step }
         requires asked { Asked step (view_of seat.old) }
-        requires kind { (n : ℕ) → written (view_of seat.old).shape (view_of seat.old).state step n ≡ (n + by) % 2 ^ 64 }
+        requires kind { Writes step (λ n. (n + by) % 2 ^ 64) (view_of seat.old) }
         ensures seat { Sits self.now seat.new }
-        ensures view { view_of seat.new ≡ after step result (view_of seat.old) }
-        ensures finds { Finds step result (view_of seat.old) }
+        ensures view { Found step result (view_of seat.old) (view_of seat.new) }
     {
         let word = self.address(&seat.state, &step);
         let found = self.fetch_add_told::<Brand>(&mut seat.token, word, by, step);
@@ -70,16 +73,16 @@ impl Heap {
         found
     }
 
+    /// A step that takes from its word.
     #[inline(always)]
     pub(crate) fn fetch_sub_step(&self, seat: &mut HeapSeat, by: u64, step: Step) -> u64
         requires seat { Sits self.now seat.old }
         requires may { May step (view_of seat.old) }
         requires own { IsOwn step }
         requires asked { Asked step (view_of seat.old) }
-        requires kind { (n : ℕ) → written (view_of seat.old).shape (view_of seat.old).state step n ≡ (n + (2 ^ 64 - by)) % 2 ^ 64 }
+        requires kind { Writes step (λ n. (n + (2 ^ 64 - by)) % 2 ^ 64) (view_of seat.old) }
         ensures seat { Sits self.now seat.new }
-        ensures view { view_of seat.new ≡ after step result (view_of seat.old) }
-        ensures finds { Finds step result (view_of seat.old) }
+        ensures view { Found step result (view_of seat.old) (view_of seat.new) }
     {
         let word = self.address(&seat.state, &step);
         let found = self.fetch_sub_told::<Brand>(&mut seat.token, word, by, step);
@@ -87,16 +90,16 @@ impl Heap {
         found
     }
 
+    /// A step that keeps these bits of its word alone.
     #[inline(always)]
     pub(crate) fn fetch_and_step(&self, seat: &mut HeapSeat, by: u64, step: Step) -> u64
         requires seat { Sits self.now seat.old }
         requires may { May step (view_of seat.old) }
         requires own { IsOwn step }
         requires asked { Asked step (view_of seat.old) }
-        requires kind { (n : ℕ) → written (view_of seat.old).shape (view_of seat.old).state step n ≡ bit_and n by }
+        requires kind { Writes step (λ n. bit_and n by) (view_of seat.old) }
         ensures seat { Sits self.now seat.new }
-        ensures view { view_of seat.new ≡ after step result (view_of seat.old) }
-        ensures finds { Finds step result (view_of seat.old) }
+        ensures view { Found step result (view_of seat.old) (view_of seat.new) }
     {
         let word = self.address(&seat.state, &step);
         let found = self.fetch_and_told::<Brand>(&mut seat.token, word, by, step);
@@ -104,16 +107,16 @@ impl Heap {
         found
     }
 
+    /// A step that sets these bits of its word.
     #[inline(always)]
     pub(crate) fn fetch_or_step(&self, seat: &mut HeapSeat, by: u64, step: Step) -> u64
         requires seat { Sits self.now seat.old }
         requires may { May step (view_of seat.old) }
         requires own { IsOwn step }
         requires asked { Asked step (view_of seat.old) }
-        requires kind { (n : ℕ) → written (view_of seat.old).shape (view_of seat.old).state step n ≡ bit_or n by }
+        requires kind { Writes step (λ n. bit_or n by) (view_of seat.old) }
         ensures seat { Sits self.now seat.new }
-        ensures view { view_of seat.new ≡ after step result (view_of seat.old) }
-        ensures finds { Finds step result (view_of seat.old) }
+        ensures view { Found step result (view_of seat.old) (view_of seat.new) }
     {
         let word = self.address(&seat.state, &step);
         let found = self.fetch_or_told::<Brand>(&mut seat.token, word, by, step);
@@ -121,6 +124,7 @@ impl Heap {
         found
     }
 
+    /// A step that stores a word where it finds `old`.
     #[inline(always)]
     pub(crate) fn compare_exchange_step(
         &self,
@@ -133,10 +137,9 @@ impl Heap {
         requires may { May step (view_of seat.old) }
         requires own { IsOwn step }
         requires asked { Asked step (view_of seat.old) }
-        requires kind { (n : ℕ) → written (view_of seat.old).shape (view_of seat.old).state step n ≡ either (n == old) new n }
+        requires kind { Writes step (λ n. either (n == old) new n) (view_of seat.old) }
         ensures seat { Sits self.now seat.new }
-        ensures view { view_of seat.new ≡ after step result (view_of seat.old) }
-        ensures finds { Finds step result (view_of seat.old) }
+        ensures view { Found step result (view_of seat.old) (view_of seat.new) }
     {
         let word = self.address(&seat.state, &step);
         let found = self.compare_exchange_told::<Brand>(&mut seat.token, word, old, new, step);
@@ -144,6 +147,7 @@ impl Heap {
         found
     }
 
+    /// A step that stores its word, whatever is there, and tells what it stored.
     #[inline(always)]
     pub(crate) fn store_step(&self, seat: &mut HeapSeat, step: Step) -> u64
         requires seat { Sits self.now seat.old }
@@ -152,7 +156,7 @@ impl Heap {
         requires asked { Asked step (view_of seat.old) }
         requires blind { IsBlind step (view_of seat.old) }
         ensures seat { Sits self.now seat.new }
-        ensures view { view_of seat.new ≡ after step (written (view_of seat.old).shape (view_of seat.old).state step 0) (view_of seat.old) }
+        ensures view { Stored step (view_of seat.old) (view_of seat.new) }
         ensures word { result ≡ written (view_of seat.old).shape (view_of seat.old).state step 0 }
     {
         let word = self.address(&seat.state, &step);

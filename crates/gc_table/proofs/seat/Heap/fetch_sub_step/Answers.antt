@@ -1,8 +1,8 @@
-use Rattle.gc_table.proofs.Fitting.{step-word, step-room}
+use Rattle.gc_table.proofs.Fitting.{may-take, step-room}
 use Rattle.gc_table.proofs.seat.Heap.fetch_sub_step.Goals as goal
 
-pub fetch_sub_told-found-requires-clause-word : goal.fetch_sub_told-found-requires-clause-word
-fetch_sub_told-found-requires-clause-word c = let q = c.requires in let s = c.args.seat.now in step-word c.args.self.now.shape s.state (s.token.me.0) c.args.step _ _ c.address-word.ensures s.agrees q.seat.1 c.args.self.now.sized s.possible q.may
+pub fetch_sub_told-found-requires-clause-take : goal.fetch_sub_told-found-requires-clause-take
+fetch_sub_told-found-requires-clause-take c = let q = c.requires in may-take c.args.self.now c.args.seat.now c.args.step _ c.address-word.ensures q.seat q.may q.own q.asked
 
 pub act-requires : goal.act-requires
 act-requires c = let s = c.args.seat.now in step-room s.state (s.token.me.0) c.args.step s.agrees s.possible c.requires.may

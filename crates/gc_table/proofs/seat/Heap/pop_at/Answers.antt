@@ -6,19 +6,17 @@ use Rattle.mark_core.specs.Places.{entry_at}
 use Rattle.mark_core.specs.Effects.{seat_after}
 use Rattle.mark_core.specs.declared.kinds.Step.TheVariants.{Pop}
 use Rattle.mark_core.specs.declared.seat.SeatState.{SeatState}
-use Rattle.gc_table.proofs.Fitting.{step-word}
+use Rattle.gc_table.proofs.Fitting.{may-take}
 use Rattle.gc_table.proofs.seat.Heap.pop_at.Goals as goal
 
-pub load_told-requires-clause-word : goal.load_told-requires-clause-word
-load_told-requires-clause-word c =
+pub load_told-requires-clause-take : goal.load_told-requires-clause-take
+load_told-requires-clause-take c =
     let q = c.requires in
     let s = c.args.seat.now in
     let h = c.args.self.now in
     let long : c.args.length ≡ length_in_hand s.state.held c.args.p = q.known ∙ ap (λ (x : SeatState). length_in_hand x.held c.args.p) (sym s.agrees) in
     let less : c.saturating_sub.result ≡ length_in_hand s.state.held c.args.p - 1 = c.saturating_sub.ensures ∙ ap (λ (n : ℕ). n - 1) long in
-    step-word h.shape s.state (s.token.me.0) (Pop c.args.p) _ _
-    (c.entry_at-word.ensures ∙ (λ i. address (h.based i) (entry_at (h.based i) c.args.p (less i))))
-    s.agrees q.seat.1 h.sized s.possible q.may
+    may-take h s (Pop c.args.p) _ (c.entry_at-word.ensures ∙ (λ i. address (h.based i) (entry_at (h.based i) c.args.p (less i)))) q.seat q.may tt tt
 
 pub invariant_of-seat-clause-agrees : goal.invariant_of-seat-clause-agrees
 invariant_of-seat-clause-agrees c =
@@ -27,4 +25,4 @@ invariant_of-seat-clause-agrees c =
     let n : ℕ = c.load_told.result in
     c.pop_at.ensures
     ∙ (ap (λ (k : ℕ). record s.state { held = set_length s.state.held p (length_in_hand s.state.held p - 1) false; popped = Some (k, false) }) c.cell_of-cell.ensures
-    ∙ ((λ i. seat_after (sym c.requires.seat.1 i) (s.agrees i) (Pop p) n) ∙ sym (ap (λ m. m.0.state) c.load_told.ensures.view)))
+    ∙ ((λ i. seat_after (sym c.requires.seat.1 i) (s.agrees i) (Pop p) n) ∙ sym (ap (λ m. m.0.state) c.load_told.ensures.taken.2)))

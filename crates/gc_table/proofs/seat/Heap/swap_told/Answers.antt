@@ -1,5 +1,5 @@
-use Rattle.gc_table.proofs.Allowed.{allows}
+use Rattle.gc_table.proofs.Allowed.{allows-found}
 use Rattle.gc_table.proofs.seat.Heap.swap_told.Goals as goal
 
 pub swap-requires : goal.swap-requires
-swap-requires g c = (c.requires.seat.0, c.requires.word.0, allows _ _ _ _ _ _ _ _ c.requires.seat.1 c.requires.live c.requires.word.1 c.requires.kind c.requires.own c.requires.may c.requires.asked)
+swap-requires g c = allows-found _ _ _ _ _ _ _ _ _ c.requires.take c.requires.kind
