@@ -3,8 +3,8 @@ ghost use Rattle.std.specs.Prelude.{◌≡◌, ◌<◌, ◌≤◌, ◌+◌, fals
 ghost use Rattle.mark_core.specs.Layout.{card_count};
 ghost use Rattle.gc_table.specs.Log.{Only};
 ghost use Rattle.gc_table.specs.Running.{Ran};
-ghost use Rattle.gc_table.specs.Seats.{Sits, view_of};
-ghost use Rattle.packet_pools.specs.Tracing.{Traces};
+ghost use Rattle.gc_table.specs.Seats.{view_of};
+ghost use Rattle.packet_pools.specs.Tracing.{IsTracer};
 ghost use Rattle.card_clean.specs.Passing.{DrawsCard, card_floor, draws_card, keeps_floor};
 
 use gc_table::{Heap, HeapSeat};
@@ -15,8 +15,8 @@ use gc_table::{Heap, HeapSeat};
 /// To a seat that helps, or that stopped the world, the numbers rise: each card that it draws lies above those that it drew before. So a loop
 /// that ends with None ends.
 pub fn next_card(heap: &Heap, seat: &mut HeapSeat) -> Option<u32>
-    requires seat { Sits heap.now seat.old × Traces (view_of seat.old) }
-    ensures seat { Sits heap.now seat.new × Traces (view_of seat.new) }
+    requires seat { IsTracer heap.now seat.old }
+    ensures seat { IsTracer heap.now seat.new }
     ensures ran { Ran (view_of seat.old) (view_of seat.new) }
     ensures only { Only draws_card (view_of seat.old) (view_of seat.new) }
     ensures draws { DrawsCard result (view_of seat.old) (view_of seat.new) }

@@ -4,10 +4,10 @@ ghost use Rattle.mark_core.specs.Layout.{card_count};
 ghost use Rattle.mark_core.specs.Held.{has_free_slot};
 ghost use Rattle.mark_core.specs.Seats.{scan_left, work_in_hand};
 ghost use Rattle.mark_core.specs.declared.kinds.Step.TheVariants.{DirtyCard};
-ghost use Rattle.gc_table.specs.Seats.{Sits, view_of};
+ghost use Rattle.gc_table.specs.Seats.{view_of};
 ghost use Rattle.packet_pools.specs.OnlyTraced.{OnlyTraced, OnlyCleaned};
 ghost use Rattle.gc_table.specs.Log.{events, event};
-ghost use Rattle.packet_pools.specs.Tracing.{Traces};
+ghost use Rattle.packet_pools.specs.Tracing.{IsTracer};
 ghost use Rattle.packet_pools.specs.Hands.{IsHeld};
 ghost use Rattle.packet_pools.specs.Scanning.{Fills, InHand, owes_card};
 ghost use Rattle.card_clean.specs.Cleaning.{Cleans, LearnsCells, RescansCard};
@@ -31,11 +31,11 @@ fn what_is_left(seat: &HeapSeat) -> (u64, bool)
 
 /// Reads the mark and the allocation bits of the card's block: which of its cells are left to scan, and whether it must be dirtied again.
 fn read_block(heap: &Heap, seat: &mut HeapSeat, card: u32) -> (u64, bool)
-    requires seat { Sits heap.now seat.old × Traces (view_of seat.old) }
+    requires seat { IsTracer heap.now seat.old }
     requires card { card < card_count heap.now.shape }
     requires hand { InHand None None (view_of seat.old).state }
     requires cleared { (view_of seat.old).state.cleaning ≡ Some (just_cleared card) }
-    ensures seat { Sits heap.now seat.new × Traces (view_of seat.new) }
+    ensures seat { IsTracer heap.now seat.new }
     ensures later { OnlyTraced (view_of seat.old) (view_of seat.new) }
     ensures learns { LearnsCells card result.0 result.1 (view_of seat.old) (view_of seat.new) }
 {
@@ -53,11 +53,11 @@ fn is_dirty_again(owes: bool, overflowed: u32) -> bool
 
 /// Dirties the card again, where the seat owes it that, or is told to.
 fn redirty(heap: &Heap, seat: &mut HeapSeat, card: u32, redirtied: bool)
-    requires seat { Sits heap.now seat.old × Traces (view_of seat.old) }
+    requires seat { IsTracer heap.now seat.old }
     requires card { card < card_count heap.now.shape }
     requires owes { OnlyOwes card heap.now.shape.fields (view_of seat.old).state }
     requires told { IsTrue (owes_card (view_of seat.old).state.cleaning) → IsTrue redirtied }
-    ensures seat { Sits heap.now seat.new × Traces (view_of seat.new) }
+    ensures seat { IsTracer heap.now seat.new }
     ensures later { OnlyCleaned (view_of seat.old) (view_of seat.new) }
     ensures held { (view_of seat.new).state.held ≡ (view_of seat.old).state.held }
     ensures work { IsFalse (work_in_hand heap.now.shape.fields (view_of seat.new).state) }
@@ -71,13 +71,13 @@ fn redirty(heap: &Heap, seat: &mut HeapSeat, card: u32, redirtied: bool)
 
 /// Scans what is left of a card that was just cleaned, and dirties it again where it must be.
 fn rescan_card(heap: &Heap, seat: &mut HeapSeat, card: u32, out: &mut Held) -> Cleaned
-    requires seat { Sits heap.now seat.old × Traces (view_of seat.old) }
+    requires seat { IsTracer heap.now seat.old }
     requires card { card < card_count heap.now.shape }
     requires out { IsHeld out.old (view_of seat.old) × IsTrue (has_free_slot (view_of seat.old).state.held) }
     requires hand { InHand None None (view_of seat.old).state }
     requires over { IsFalse (scan_left heap.now.shape.fields (view_of seat.old).state.scan) }
     requires cleared { (view_of seat.old).state.cleaning ≡ Some (just_cleared card) }
-    ensures seat { Sits heap.now seat.new × Traces (view_of seat.new) }
+    ensures seat { IsTracer heap.now seat.new }
     ensures later { OnlyCleaned (view_of seat.old) (view_of seat.new) }
     ensures out { Fills out.old out.new (view_of seat.old) (view_of seat.new) }
     ensures work { IsFalse (work_in_hand heap.now.shape.fields (view_of seat.new).state) }
@@ -116,11 +116,11 @@ fn rescan_card(heap: &Heap, seat: &mut HeapSeat, card: u32, out: &mut Held) -> C
 /// The card is below the number of cells divided by 16. The seat may trace, has no work in hand, and holds at most three packets, `out` among them;
 /// `out` may be exchanged for another packet as [`scan_cell`](packet_pools::scan_cell) says.
 pub fn clean_card(heap: &Heap, seat: &mut HeapSeat, card: u32, out: &mut Held) -> Cleaned
-    requires seat { Sits heap.now seat.old × Traces (view_of seat.old) }
+    requires seat { IsTracer heap.now seat.old }
     requires card { card < card_count heap.now.shape }
     requires out { IsHeld out.old (view_of seat.old) × IsTrue (has_free_slot (view_of seat.old).state.held) }
     requires work { IsFalse (work_in_hand heap.now.shape.fields (view_of seat.old).state) }
-    ensures seat { Sits heap.now seat.new × Traces (view_of seat.new) }
+    ensures seat { IsTracer heap.now seat.new }
     ensures later { OnlyCleaned (view_of seat.old) (view_of seat.new) }
     ensures out { Fills out.old out.new (view_of seat.old) (view_of seat.new) }
     ensures work { IsFalse (work_in_hand heap.now.shape.fields (view_of seat.new).state) }

@@ -6,7 +6,7 @@ ghost use Rattle.mark_core.specs.Seats.{work_in_hand};
 ghost use Rattle.gc_table.specs.Seats.{Sits, view_of};
 ghost use Rattle.packet_pools.specs.OnlyTraced.{OnlyTraced, OnlyCleaned};
 ghost use Rattle.gc_table.specs.Log.{events};
-ghost use Rattle.packet_pools.specs.Tracing.{Traces};
+ghost use Rattle.packet_pools.specs.Tracing.{IsTracer};
 ghost use Rattle.packet_pools.specs.Hands.{IsHeld};
 ghost use Rattle.packet_pools.specs.Scanning.{Fills};
 ghost use Rattle.card_clean.specs.Leaving.{rescanned_in};
@@ -41,11 +41,11 @@ pub(crate) fn first_dirty(heap: &Heap, seat: &mut HeapSeat, from: u32) -> Option
 
 /// Looks at a card, and cleans it where it is dirty: how many of its cells were scanned again.
 fn clean_where_dirty(heap: &Heap, seat: &mut HeapSeat, card: u32, out: &mut Held) -> u32
-    requires seat { Sits heap.now seat.old × Traces (view_of seat.old) }
+    requires seat { IsTracer heap.now seat.old }
     requires card { card < card_count heap.now.shape }
     requires out { IsHeld out.old (view_of seat.old) × IsTrue (has_free_slot (view_of seat.old).state.held) }
     requires work { IsFalse (work_in_hand heap.now.shape.fields (view_of seat.old).state) }
-    ensures seat { Sits heap.now seat.new × Traces (view_of seat.new) }
+    ensures seat { IsTracer heap.now seat.new }
     ensures later { OnlyCleaned (view_of seat.old) (view_of seat.new) }
     ensures out { Fills out.old out.new (view_of seat.old) (view_of seat.new) }
     ensures work { IsFalse (work_in_hand heap.now.shape.fields (view_of seat.new).state) }
@@ -62,10 +62,10 @@ fn clean_where_dirty(heap: &Heap, seat: &mut HeapSeat, card: u32, out: &mut Held
 
 /// Looks at each card from this one on, and cleans those that are dirty: how many cells were scanned again. A clean card costs one look.
 fn clean_from(heap: &Heap, seat: &mut HeapSeat, from: u32, out: &mut Held) -> u32
-    requires seat { Sits heap.now seat.old × Traces (view_of seat.old) }
+    requires seat { IsTracer heap.now seat.old }
     requires out { IsHeld out.old (view_of seat.old) × IsTrue (has_free_slot (view_of seat.old).state.held) }
     requires work { IsFalse (work_in_hand heap.now.shape.fields (view_of seat.old).state) }
-    ensures seat { Sits heap.now seat.new × Traces (view_of seat.new) }
+    ensures seat { IsTracer heap.now seat.new }
     ensures later { OnlyCleaned (view_of seat.old) (view_of seat.new) }
     ensures out { Fills out.old out.new (view_of seat.old) (view_of seat.new) }
     ensures work { IsFalse (work_in_hand heap.now.shape.fields (view_of seat.new).state) }
@@ -85,10 +85,10 @@ fn clean_from(heap: &Heap, seat: &mut HeapSeat, from: u32, out: &mut Held) -> u3
 ///
 /// A card may be dirty again afterwards, as [`clean_card`](crate::clean_card) says, so that a further pass is due.
 pub fn clean_dirty(heap: &Heap, seat: &mut HeapSeat) -> u32
-    requires seat { Sits heap.now seat.old × Traces (view_of seat.old) }
+    requires seat { IsTracer heap.now seat.old }
     requires free { 2 ≤ free_slots (view_of seat.old).state.held }
     requires work { IsFalse (work_in_hand heap.now.shape.fields (view_of seat.old).state) }
-    ensures seat { Sits heap.now seat.new × Traces (view_of seat.new) }
+    ensures seat { IsTracer heap.now seat.new }
     ensures later { OnlyCleaned (view_of seat.old) (view_of seat.new) }
     ensures held { (view_of seat.new).state.held ≡ (view_of seat.old).state.held }
     ensures work { IsFalse (work_in_hand heap.now.shape.fields (view_of seat.new).state) }

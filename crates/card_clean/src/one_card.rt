@@ -2,12 +2,12 @@
 ghost use Rattle.std.specs.Prelude.{◌≡◌, ◌<◌, ◌≤◌, ◌⊎◌, [], ◌∷◌, None, IsTrue, IsFalse, IfSome, IfNone};
 ghost use Rattle.mark_core.specs.Layout.{card_count};
 ghost use Rattle.mark_core.specs.Seats.{work_in_hand};
-ghost use Rattle.gc_table.specs.Seats.{Sits, view_of};
+ghost use Rattle.gc_table.specs.Seats.{view_of};
 ghost use Rattle.gc_table.specs.Log.{events};
 ghost use Rattle.packet_pools.specs.Hands.{free_slots};
 ghost use Rattle.packet_pools.specs.OnlyTraced.{OnlyCleaned};
 ghost use Rattle.packet_pools.specs.Seeking.{NoOutput, only_moves};
-ghost use Rattle.packet_pools.specs.Tracing.{Traces};
+ghost use Rattle.packet_pools.specs.Tracing.{IsTracer};
 ghost use Rattle.card_clean.specs.Cleaning.{CleansOne};
 ghost use Rattle.card_clean.specs.Leaving.{rescanned_in};
 
@@ -21,11 +21,11 @@ use packet_pools::{give, take_output};
 /// None comes only where each packet was seen outside the pools of packets with room, was lost to another seat, or was taken and found full, in this
 /// call. Then the card wasn't touched.
 pub fn clean_one(heap: &Heap, seat: &mut HeapSeat, card: u32) -> Option<Cleaned>
-    requires seat { Sits heap.now seat.old × Traces (view_of seat.old) }
+    requires seat { IsTracer heap.now seat.old }
     requires card { card < card_count heap.now.shape }
     requires free { 2 ≤ free_slots (view_of seat.old).state.held }
     requires work { IsFalse (work_in_hand heap.now.shape.fields (view_of seat.old).state) }
-    ensures seat { Sits heap.now seat.new × Traces (view_of seat.new) }
+    ensures seat { IsTracer heap.now seat.new }
     ensures later { OnlyCleaned (view_of seat.old) (view_of seat.new) }
     ensures held { (view_of seat.new).state.held ≡ (view_of seat.old).state.held }
     ensures work { IsFalse (work_in_hand heap.now.shape.fields (view_of seat.new).state) }

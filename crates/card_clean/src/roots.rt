@@ -2,9 +2,9 @@
 ghost use Rattle.std.specs.Prelude.{◌≡◌, ◌<◌, ◌≤◌, ◌+◌, ◌*◌, ◌⊎◌, None, IsTrue, IsFalse};
 ghost use Rattle.mark_core.specs.Held.{has_free_slot};
 ghost use Rattle.mark_core.specs.Seats.{work_in_hand};
-ghost use Rattle.gc_table.specs.Seats.{Sits, view_of};
+ghost use Rattle.gc_table.specs.Seats.{view_of};
 ghost use Rattle.packet_pools.specs.OnlyTraced.{OnlyTraced};
-ghost use Rattle.packet_pools.specs.Tracing.{Traces};
+ghost use Rattle.packet_pools.specs.Tracing.{IsTracer};
 ghost use Rattle.packet_pools.specs.Hands.{IsHeld};
 ghost use Rattle.packet_pools.specs.Scanning.{Fills};
 ghost use Rattle.card_clean.specs.Drained.{IsNotedRoot, IsBeforeSweep, IsRooted, RootsNoted, RootsTo};
@@ -20,11 +20,11 @@ use packet_pools::{Held, give, mark_cell};
 
 /// Marks what variable v of a section refers to. A seat that is alone then knows that the root is seen to.
 fn mark_root(heap: &Heap, seat: &mut HeapSeat, out: &mut Held, section: u32, v: u8)
-    requires seat { Sits heap.now seat.old × Traces (view_of seat.old) }
+    requires seat { IsTracer heap.now seat.old }
     requires out { IsHeld out.old (view_of seat.old) × IsTrue (has_free_slot (view_of seat.old).state.held) }
     requires root { (section < heap.now.shape.sections) × (v < 32) }
     requires work { IsFalse (work_in_hand heap.now.shape.fields (view_of seat.old).state) }
-    ensures seat { Sits heap.now seat.new × Traces (view_of seat.new) }
+    ensures seat { IsTracer heap.now seat.new }
     ensures later { OnlyTraced (view_of seat.old) (view_of seat.new) }
     ensures out { Fills out.old out.new (view_of seat.old) (view_of seat.new) }
     ensures work { IsFalse (work_in_hand heap.now.shape.fields (view_of seat.new).state) }
@@ -39,11 +39,11 @@ fn mark_root(heap: &Heap, seat: &mut HeapSeat, out: &mut Held, section: u32, v: 
 
 /// Marks what the variables of a section refer to. A seat that is alone then knows that these roots are seen to.
 fn mark_roots(heap: &Heap, seat: &mut HeapSeat, out: &mut Held, section: u32)
-    requires seat { Sits heap.now seat.old × Traces (view_of seat.old) }
+    requires seat { IsTracer heap.now seat.old }
     requires out { IsHeld out.old (view_of seat.old) × IsTrue (has_free_slot (view_of seat.old).state.held) }
     requires section { section < heap.now.shape.sections }
     requires work { IsFalse (work_in_hand heap.now.shape.fields (view_of seat.old).state) }
-    ensures seat { Sits heap.now seat.new × Traces (view_of seat.new) }
+    ensures seat { IsTracer heap.now seat.new }
     ensures later { OnlyTraced (view_of seat.old) (view_of seat.new) }
     ensures out { Fills out.old out.new (view_of seat.old) (view_of seat.new) }
     ensures work { IsFalse (work_in_hand heap.now.shape.fields (view_of seat.new).state) }
@@ -61,11 +61,11 @@ fn mark_roots(heap: &Heap, seat: &mut HeapSeat, out: &mut Held, section: u32)
 /// False comes only where no packet was found, with room or with entries, in this call: nothing is marked then. A packet that was put off isn't
 /// found here.
 pub fn see_to_roots(heap: &Heap, seat: &mut HeapSeat) -> bool
-    requires seat { Sits heap.now seat.old × Traces (view_of seat.old) }
+    requires seat { IsTracer heap.now seat.old }
     requires ready { IsBeforeSweep (view_of seat.old) }
     requires free { 2 ≤ free_slots (view_of seat.old).state.held }
     requires work { IsFalse (work_in_hand heap.now.shape.fields (view_of seat.old).state) }
-    ensures seat { Sits heap.now seat.new × Traces (view_of seat.new) }
+    ensures seat { IsTracer heap.now seat.new }
     ensures later { OnlyTraced (view_of seat.old) (view_of seat.new) }
     ensures held { (view_of seat.new).state.held ≡ (view_of seat.old).state.held }
     ensures work { IsFalse (work_in_hand heap.now.shape.fields (view_of seat.new).state) }
@@ -83,10 +83,10 @@ pub fn see_to_roots(heap: &Heap, seat: &mut HeapSeat) -> bool
 
 /// Marks what the variables of all sections refer to.
 fn mark_all(heap: &Heap, seat: &mut HeapSeat, out: &mut Held)
-    requires seat { Sits heap.now seat.old × Traces (view_of seat.old) }
+    requires seat { IsTracer heap.now seat.old }
     requires out { IsHeld out.old (view_of seat.old) × IsTrue (has_free_slot (view_of seat.old).state.held) }
     requires work { IsFalse (work_in_hand heap.now.shape.fields (view_of seat.old).state) }
-    ensures seat { Sits heap.now seat.new × Traces (view_of seat.new) }
+    ensures seat { IsTracer heap.now seat.new }
     ensures later { OnlyTraced (view_of seat.old) (view_of seat.new) }
     ensures out { Fills out.old out.new (view_of seat.old) (view_of seat.new) }
     ensures work { IsFalse (work_in_hand heap.now.shape.fields (view_of seat.new).state) }

@@ -1,10 +1,10 @@
 //! A packet is taken for the cells that are marked.
 ghost use Rattle.std.specs.Prelude.{◌≡◌, [], ◌∷◌, IsTrue, IsFalse, IfSome, IfNone};
 ghost use Rattle.mark_core.specs.Held.{has_free_slot, holds};
-ghost use Rattle.gc_table.specs.Seats.{Sits, view_of};
+ghost use Rattle.gc_table.specs.Seats.{view_of};
 ghost use Rattle.packet_pools.specs.OnlyTraced.{OnlyTraced};
 ghost use Rattle.gc_table.specs.Log.{events};
-ghost use Rattle.packet_pools.specs.Tracing.{Traces};
+ghost use Rattle.packet_pools.specs.Tracing.{IsTracer};
 ghost use Rattle.packet_pools.specs.Hands.{IsHeld, with_packet};
 ghost use Rattle.packet_pools.specs.Seeking.{only_moves};
 ghost use Rattle.card_clean.specs.Taking.{NoPacket};
@@ -14,9 +14,9 @@ use packet_pools::{Held, take_input, take_output};
 
 /// Takes a packet, with room where there is one.
 pub(crate) fn take_some(heap: &Heap, seat: &mut HeapSeat) -> Option<Held>
-    requires seat { Sits heap.now seat.old × Traces (view_of seat.old) }
+    requires seat { IsTracer heap.now seat.old }
     requires free { IsTrue (has_free_slot (view_of seat.old).state.held) }
-    ensures seat { Sits heap.now seat.new × Traces (view_of seat.new) }
+    ensures seat { IsTracer heap.now seat.new }
     ensures later { OnlyTraced (view_of seat.old) (view_of seat.new) }
     ensures moves { IsTrue (only_moves (0 ∷ 1 ∷ 2 ∷ []) (events (view_of seat.old) (view_of seat.new))) }
     ensures some { IfSome result (λ h. IsFalse (holds (view_of seat.old).state.held h.packet) × IsHeld h (view_of seat.new) × ((view_of seat.new).state ≡ record (view_of seat.old).state { held = with_packet (view_of seat.old).state.held h.packet h.length })) }

@@ -5,6 +5,9 @@ use Rattle.mark_core.specs.Seats.{saw, is_the, phase_number}
 use Rattle.mark_core.specs.declared.kinds.Phase.TheVariants.{Marking, Drain}
 use Rattle.gc_table.specs.declared.view.View.{View}
 use Rattle.gc_table.specs.Notes.{look}
+use Rattle.gc_table.specs.Seats.{Sits, view_of}
+use Rattle.gc_table.specs.declared.seat.Heap.{Heap}
+use Rattle.gc_table.specs.declared.seat.HeapSeat.{HeapSeat}
 
 -- the phase is noted, and is that of a drain
 abbrev pub notes_drain : View → Bool
@@ -19,3 +22,7 @@ pub record Traces (v : View) : Type 0 where
   pub may : IsTrue (traces v)
   pub unreserved : IsFalse v.state.reserved
   pub uncredited : IsFalse v.state.credit
+
+-- a seat of the heap that does so: what each call of tracing is given, and leaves
+abbrev pub IsTracer : Heap → HeapSeat → Type 0
+IsTracer h s = Sits h s × Traces (view_of s)

@@ -4,9 +4,9 @@ ghost use Rattle.mark_core.specs.Bits.{cell_of};
 ghost use Rattle.mark_core.specs.Seats.{work_in_hand};
 ghost use Rattle.mark_core.specs.PacketSteps.{may_push};
 ghost use Rattle.mark_core.specs.declared.kinds.Step.TheVariants.{Pop, Push};
-ghost use Rattle.gc_table.specs.Seats.{Answered, Sits, Stored, view_of};
+ghost use Rattle.gc_table.specs.Seats.{Answered, Stored, view_of};
 ghost use Rattle.packet_pools.specs.OnlyTraced.{OnlyTraced};
-ghost use Rattle.packet_pools.specs.Tracing.{Traces};
+ghost use Rattle.packet_pools.specs.Tracing.{IsTracer};
 ghost use Rattle.packet_pools.specs.Hands.{IsHeld};
 
 use crate::held::{Held, PacketFull};
@@ -16,10 +16,10 @@ use mark_core::Cell;
 /// Puts in a cell that the seat marked, or one that it popped and saw unpublished. A full packet is refused, and nothing changes then.
 #[inline(always)]
 pub fn push(heap: &Heap, seat: &mut HeapSeat, held: &mut Held, cell: Cell) -> Result<(), PacketFull>
-    requires seat { Sits heap.now seat.old × Traces (view_of seat.old) }
+    requires seat { IsTracer heap.now seat.old }
     requires held { IsHeld held.old (view_of seat.old) }
     requires cell { IsTrue (may_push (view_of seat.old).state cell) }
-    ensures seat { Sits heap.now seat.new × Traces (view_of seat.new) }
+    ensures seat { IsTracer heap.now seat.new }
     ensures later { OnlyTraced (view_of seat.old) (view_of seat.new) }
     ensures held { IsHeld held.new (view_of seat.new) }
     ensures pushed { OnOk result ((held.old.length < heap.now.shape.entries) × (held.new ≡ record held.old { length = held.old.length + 1 }) × Stored (Push held.old.packet cell) (view_of seat.old) (view_of seat.new)) }
@@ -36,10 +36,10 @@ pub fn push(heap: &Heap, seat: &mut HeapSeat, held: &mut Held, cell: Cell) -> Re
 /// Takes out the cell that was put in last, which is then in the seat's hand. From an empty packet nothing comes, and nothing changes.
 #[inline(always)]
 pub fn pop(heap: &Heap, seat: &mut HeapSeat, held: &mut Held) -> Option<Cell>
-    requires seat { Sits heap.now seat.old × Traces (view_of seat.old) }
+    requires seat { IsTracer heap.now seat.old }
     requires held { IsHeld held.old (view_of seat.old) }
     requires work { IsFalse (work_in_hand heap.now.shape.fields (view_of seat.old).state) }
-    ensures seat { Sits heap.now seat.new × Traces (view_of seat.new) }
+    ensures seat { IsTracer heap.now seat.new }
     ensures later { OnlyTraced (view_of seat.old) (view_of seat.new) }
     ensures held { IsHeld held.new (view_of seat.new) }
     ensures popped { IfSome result (λ cell. (0 < held.old.length) × (held.new ≡ record held.old { length = held.old.length - 1 }) × Answered (Pop held.old.packet) (λ n. cell ≡ cell_of n) (view_of seat.old) (view_of seat.new)) }

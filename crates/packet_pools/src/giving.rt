@@ -3,10 +3,10 @@ ghost use Rattle.std.specs.Prelude.{◌≡◌, ◌<◌, ◌==◌, [], ◌∷◌,
 ghost use Rattle.mark_core.specs.Held.{drop_packet, holds_another};
 ghost use Rattle.mark_core.specs.Seats.{work_in_hand};
 ghost use Rattle.mark_core.specs.declared.kinds.Step.TheVariants.{Credit, Give, StoreLength};
-ghost use Rattle.gc_table.specs.Seats.{Sits, view_of};
+ghost use Rattle.gc_table.specs.Seats.{view_of};
 ghost use Rattle.packet_pools.specs.OnlyTraced.{OnlyTraced};
 ghost use Rattle.gc_table.specs.Log.{events, steps_of};
-ghost use Rattle.packet_pools.specs.Tracing.{Traces};
+ghost use Rattle.packet_pools.specs.Tracing.{IsTracer};
 ghost use Rattle.packet_pools.specs.Hands.{IsHeld};
 
 use crate::held::Held;
@@ -15,11 +15,11 @@ use gc_table::{Heap, HeapSeat};
 /// Returns the packet to the pool of its length, or to the deferred pool. An empty one is counted after its return.
 /// A packet that is put off has an entry, and a seat with work in hand keeps another packet.
 pub fn give(heap: &Heap, seat: &mut HeapSeat, held: Held, deferred: bool)
-    requires seat { Sits heap.now seat.old × Traces (view_of seat.old) }
+    requires seat { IsTracer heap.now seat.old }
     requires held { IsHeld held (view_of seat.old) }
     requires deferred { IsTrue deferred → 0 < held.length }
     requires work { IsTrue (work_in_hand heap.now.shape.fields (view_of seat.old).state) → IsTrue (holds_another (view_of seat.old).state.held held.packet) }
-    ensures seat { Sits heap.now seat.new × Traces (view_of seat.new) }
+    ensures seat { IsTracer heap.now seat.new }
     ensures later { OnlyTraced (view_of seat.old) (view_of seat.new) }
     ensures state { (view_of seat.new).state ≡ record (view_of seat.old).state { held = drop_packet (view_of seat.old).state.held held.packet } }
     ensures steps { steps_of (events (view_of seat.old) (view_of seat.new)) ≡ StoreLength held.packet ∷ Give held.packet deferred ∷ (if held.length == 0 then Credit ∷ [] else []) }

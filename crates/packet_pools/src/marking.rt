@@ -1,10 +1,10 @@
 //! A cell that was loaded is marked, and goes into a packet.
 ghost use Rattle.std.specs.Prelude.{◌≡◌, ◌≤◌, ◌-◌, [], ◌∷◌, if◌then◌else◌, Some, None, IsTrue};
 ghost use Rattle.mark_core.specs.Held.{has_free_slot};
-ghost use Rattle.gc_table.specs.Seats.{Sits, view_of};
+ghost use Rattle.gc_table.specs.Seats.{view_of};
 ghost use Rattle.packet_pools.specs.OnlyTraced.{OnlyTraced, IsNotedMarked};
 ghost use Rattle.gc_table.specs.Log.{events};
-ghost use Rattle.packet_pools.specs.Tracing.{Traces};
+ghost use Rattle.packet_pools.specs.Tracing.{IsTracer};
 ghost use Rattle.packet_pools.specs.Hands.{IsHeld};
 ghost use Rattle.packet_pools.specs.Scanning.{InHand, Pushes};
 ghost use Rattle.packet_pools.specs.Counts.{Counts};
@@ -20,10 +20,10 @@ use mark_core::Cell;
 /// Pushes the cell that the seat marked. Where no packet has room it dirties the cell's card, and says true.
 #[inline(always)]
 fn push_marked(heap: &Heap, seat: &mut HeapSeat, out: &mut Held, cell: Cell) -> bool
-    requires seat { Sits heap.now seat.old × Traces (view_of seat.old) }
+    requires seat { IsTracer heap.now seat.old }
     requires out { IsHeld out.old (view_of seat.old) × IsTrue (has_free_slot (view_of seat.old).state.held) }
     requires hand { InHand None (Some cell) (view_of seat.old).state }
-    ensures seat { Sits heap.now seat.new × Traces (view_of seat.new) }
+    ensures seat { IsTracer heap.now seat.new }
     ensures later { OnlyTraced (view_of seat.old) (view_of seat.new) }
     ensures pushes { Pushes out.old out.new (view_of seat.old).state.scan (view_of seat.old).state.cleaning (view_of seat.old) (view_of seat.new) }
     ensures counts { Counts heap.now.shape 0 (if result then 0 else 1) (if result then 1 else 0) (events (view_of seat.old) (view_of seat.new)) }
@@ -43,10 +43,10 @@ fn push_marked(heap: &Heap, seat: &mut HeapSeat, out: &mut Held, cell: Cell) -> 
 /// [`scan_cell`](crate::scan_cell) says.
 #[inline(always)]
 pub fn mark_cell(heap: &Heap, seat: &mut HeapSeat, out: &mut Held, cell: Cell) -> Scanned
-    requires seat { Sits heap.now seat.old × Traces (view_of seat.old) }
+    requires seat { IsTracer heap.now seat.old }
     requires out { IsHeld out.old (view_of seat.old) × IsTrue (has_free_slot (view_of seat.old).state.held) }
     requires hand { InHand (Some cell) None (view_of seat.old).state }
-    ensures seat { Sits heap.now seat.new × Traces (view_of seat.new) }
+    ensures seat { IsTracer heap.now seat.new }
     ensures later { OnlyTraced (view_of seat.old) (view_of seat.new) }
     ensures pushes { Pushes out.old out.new (view_of seat.old).state.scan (view_of seat.old).state.cleaning (view_of seat.old) (view_of seat.new) }
     ensures most { (result.overflowed ≤ result.marked) × (result.marked ≤ 1) }

@@ -1,10 +1,10 @@
 //! A full packet is changed for one with room.
 ghost use Rattle.std.specs.Prelude.{◌≡◌, [], ◌∷◌, ◌<◌, ◌≢◌, IsTrue};
 ghost use Rattle.mark_core.specs.Held.{drop_packet, has_free_slot};
-ghost use Rattle.gc_table.specs.Seats.{Sits, view_of};
+ghost use Rattle.gc_table.specs.Seats.{view_of};
 ghost use Rattle.packet_pools.specs.OnlyTraced.{OnlyTraced};
 ghost use Rattle.gc_table.specs.Log.{events};
-ghost use Rattle.packet_pools.specs.Tracing.{Traces};
+ghost use Rattle.packet_pools.specs.Tracing.{IsTracer};
 ghost use Rattle.packet_pools.specs.Hands.{IsHeld};
 ghost use Rattle.packet_pools.specs.Seeking.{NoOutput, only_moves};
 ghost use Rattle.packet_pools.specs.Scanning.{Fills};
@@ -17,10 +17,10 @@ use std::mem;
 
 /// Returns the packet for another one, which the seat holds as well.
 fn change(heap: &Heap, seat: &mut HeapSeat, out: &mut Held, other: Held)
-    requires seat { Sits heap.now seat.old × Traces (view_of seat.old) }
+    requires seat { IsTracer heap.now seat.old }
     requires out { IsHeld out.old (view_of seat.old) }
     requires other { IsHeld other (view_of seat.old) × (other.packet ≢ out.old.packet) }
-    ensures seat { Sits heap.now seat.new × Traces (view_of seat.new) }
+    ensures seat { IsTracer heap.now seat.new }
     ensures later { OnlyTraced (view_of seat.old) (view_of seat.new) }
     ensures out { out.new ≡ other }
     ensures state { (view_of seat.new).state ≡ record (view_of seat.old).state { held = drop_packet (view_of seat.old).state.held out.old.packet } }
@@ -33,9 +33,9 @@ fn change(heap: &Heap, seat: &mut HeapSeat, out: &mut Held, other: Held)
 /// Takes another packet with room before it returns this one, which is full. Where there is none it keeps this one.
 #[inline(never)]
 fn change_full(heap: &Heap, seat: &mut HeapSeat, out: &mut Held)
-    requires seat { Sits heap.now seat.old × Traces (view_of seat.old) }
+    requires seat { IsTracer heap.now seat.old }
     requires out { IsHeld out.old (view_of seat.old) × IsTrue (has_free_slot (view_of seat.old).state.held) }
-    ensures seat { Sits heap.now seat.new × Traces (view_of seat.new) }
+    ensures seat { IsTracer heap.now seat.new }
     ensures later { OnlyTraced (view_of seat.old) (view_of seat.new) }
     ensures out { Fills out.old out.new (view_of seat.old) (view_of seat.new) }
     ensures state { (view_of seat.new).state ≡ record (view_of seat.old).state { held = (view_of seat.new).state.held } }
@@ -50,9 +50,9 @@ fn change_full(heap: &Heap, seat: &mut HeapSeat, out: &mut Held)
 /// Sees to it that the packet in hand has room. Where it is full still, no packet had room.
 #[inline(always)]
 pub(crate) fn make_room(heap: &Heap, seat: &mut HeapSeat, out: &mut Held)
-    requires seat { Sits heap.now seat.old × Traces (view_of seat.old) }
+    requires seat { IsTracer heap.now seat.old }
     requires out { IsHeld out.old (view_of seat.old) × IsTrue (has_free_slot (view_of seat.old).state.held) }
-    ensures seat { Sits heap.now seat.new × Traces (view_of seat.new) }
+    ensures seat { IsTracer heap.now seat.new }
     ensures later { OnlyTraced (view_of seat.old) (view_of seat.new) }
     ensures out { Fills out.old out.new (view_of seat.old) (view_of seat.new) }
     ensures state { (view_of seat.new).state ≡ record (view_of seat.old).state { held = (view_of seat.new).state.held } }

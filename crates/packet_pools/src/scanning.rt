@@ -3,10 +3,10 @@ ghost use Rattle.std.specs.Prelude.{◌≡◌, ◌<◌, ◌≤◌, ◌+◌, ◌-
 ghost use Rattle.mark_core.specs.ColourSteps.{may_read_field, without_cell};
 ghost use Rattle.mark_core.specs.Held.{has_free_slot};
 ghost use Rattle.mark_core.specs.Seats.{cleaning_left, may_scan, scan_left, work_in_hand};
-ghost use Rattle.gc_table.specs.Seats.{Sits, view_of};
+ghost use Rattle.gc_table.specs.Seats.{view_of};
 ghost use Rattle.packet_pools.specs.OnlyTraced.{OnlyTraced};
 ghost use Rattle.gc_table.specs.Log.{events};
-ghost use Rattle.packet_pools.specs.Tracing.{Traces};
+ghost use Rattle.packet_pools.specs.Tracing.{IsTracer};
 ghost use Rattle.packet_pools.specs.Hands.{IsHeld};
 ghost use Rattle.packet_pools.specs.Scanning.{InHand, Pushes, scan_end, cleaning_end};
 ghost use Rattle.packet_pools.specs.Counts.{Counts};
@@ -21,11 +21,11 @@ use mark_core::{Cell, cell_of};
 /// Reads field i of the cell in scan, or the first field of a cell left in cleaning, and marks what it refers to.
 #[inline(always)]
 fn scan_field(heap: &Heap, seat: &mut HeapSeat, out: &mut Held, cell: Cell, i: u8) -> Scanned
-    requires seat { Sits heap.now seat.old × Traces (view_of seat.old) }
+    requires seat { IsTracer heap.now seat.old }
     requires out { IsHeld out.old (view_of seat.old) × IsTrue (has_free_slot (view_of seat.old).state.held) }
     requires hand { InHand None None (view_of seat.old).state }
     requires field { (i < heap.now.shape.fields) × IsTrue (may_read_field heap.now.shape (view_of seat.old).state cell i) }
-    ensures seat { Sits heap.now seat.new × Traces (view_of seat.new) }
+    ensures seat { IsTracer heap.now seat.new }
     ensures later { OnlyTraced (view_of seat.old) (view_of seat.new) }
     ensures pushes { Pushes out.old out.new (Some (cell, i + 1)) (without_cell (view_of seat.old).state.cleaning cell) (view_of seat.old) (view_of seat.new) }
     ensures most { (result.overflowed ≤ result.marked) × (result.marked ≤ 1) }
@@ -42,11 +42,11 @@ fn scan_field(heap: &Heap, seat: &mut HeapSeat, out: &mut Held, cell: Cell, i: u
 /// The fields from this one on.
 #[inline(always)]
 fn scan_fields(heap: &Heap, seat: &mut HeapSeat, out: &mut Held, cell: Cell, next: u8) -> Scanned
-    requires seat { Sits heap.now seat.old × Traces (view_of seat.old) }
+    requires seat { IsTracer heap.now seat.old }
     requires out { IsHeld out.old (view_of seat.old) × IsTrue (has_free_slot (view_of seat.old).state.held) }
     requires hand { InHand None None (view_of seat.old).state }
     requires scan { (view_of seat.old).state.scan ≡ Some (cell, next) }
-    ensures seat { Sits heap.now seat.new × Traces (view_of seat.new) }
+    ensures seat { IsTracer heap.now seat.new }
     ensures later { OnlyTraced (view_of seat.old) (view_of seat.new) }
     ensures pushes { Pushes out.old out.new (scan_end heap.now.shape.fields (Some (cell, next))) (cleaning_end heap.now.shape.fields (Some (cell, next)) (view_of seat.old).state.cleaning) (view_of seat.old) (view_of seat.new) }
     ensures most { (result.overflowed ≤ result.marked) × (result.marked ≤ heap.now.shape.fields - next) }
@@ -68,10 +68,10 @@ fn scan_fields(heap: &Heap, seat: &mut HeapSeat, out: &mut Held, cell: Cell, nex
 /// Where no packet has room the marked cell's card is dirtied.
 #[inline(always)]
 pub fn scan_cell(heap: &Heap, seat: &mut HeapSeat, out: &mut Held) -> Scanned
-    requires seat { Sits heap.now seat.old × Traces (view_of seat.old) }
+    requires seat { IsTracer heap.now seat.old }
     requires out { IsHeld out.old (view_of seat.old) × IsTrue (has_free_slot (view_of seat.old).state.held) }
     requires hand { InHand None None (view_of seat.old).state }
-    ensures seat { Sits heap.now seat.new × Traces (view_of seat.new) }
+    ensures seat { IsTracer heap.now seat.new }
     ensures later { OnlyTraced (view_of seat.old) (view_of seat.new) }
     ensures pushes { Pushes out.old out.new (scan_end heap.now.shape.fields (view_of seat.old).state.scan) (cleaning_end heap.now.shape.fields (view_of seat.old).state.scan (view_of seat.old).state.cleaning) (view_of seat.old) (view_of seat.new) }
     ensures work { IsFalse (cleaning_left (view_of seat.old).state.cleaning) → IsFalse (work_in_hand heap.now.shape.fields (view_of seat.new).state) }
@@ -88,11 +88,11 @@ pub fn scan_cell(heap: &Heap, seat: &mut HeapSeat, out: &mut Held) -> Scanned
 /// Scans the object in scan, which is this one, from its first field on, in the same way.
 #[inline(always)]
 pub fn scan_whole(heap: &Heap, seat: &mut HeapSeat, out: &mut Held, cell: Cell) -> Scanned
-    requires seat { Sits heap.now seat.old × Traces (view_of seat.old) }
+    requires seat { IsTracer heap.now seat.old }
     requires out { IsHeld out.old (view_of seat.old) × IsTrue (has_free_slot (view_of seat.old).state.held) }
     requires hand { InHand None None (view_of seat.old).state }
     requires scan { (view_of seat.old).state.scan ≡ Some (cell, 0) }
-    ensures seat { Sits heap.now seat.new × Traces (view_of seat.new) }
+    ensures seat { IsTracer heap.now seat.new }
     ensures later { OnlyTraced (view_of seat.old) (view_of seat.new) }
     ensures pushes { Pushes out.old out.new (scan_end heap.now.shape.fields (view_of seat.old).state.scan) (cleaning_end heap.now.shape.fields (view_of seat.old).state.scan (view_of seat.old).state.cleaning) (view_of seat.old) (view_of seat.new) }
     ensures work { IsFalse (cleaning_left (view_of seat.old).state.cleaning) → IsFalse (work_in_hand heap.now.shape.fields (view_of seat.new).state) }
@@ -105,11 +105,11 @@ pub fn scan_whole(heap: &Heap, seat: &mut HeapSeat, out: &mut Held, cell: Cell) 
 
 /// Scans a cell that is left in the seat's cleaning, in the same way.
 pub fn scan_again(heap: &Heap, seat: &mut HeapSeat, out: &mut Held, cell: Cell) -> Scanned
-    requires seat { Sits heap.now seat.old × Traces (view_of seat.old) }
+    requires seat { IsTracer heap.now seat.old }
     requires out { IsHeld out.old (view_of seat.old) × IsTrue (has_free_slot (view_of seat.old).state.held) }
     requires hand { InHand None None (view_of seat.old).state }
     requires left { IsTrue (may_scan (view_of seat.old).state.cleaning cell) × IsFalse (scan_left heap.now.shape.fields (view_of seat.old).state.scan) }
-    ensures seat { Sits heap.now seat.new × Traces (view_of seat.new) }
+    ensures seat { IsTracer heap.now seat.new }
     ensures later { OnlyTraced (view_of seat.old) (view_of seat.new) }
     ensures pushes { Pushes out.old out.new (Some (cell, heap.now.shape.fields)) (without_cell (view_of seat.old).state.cleaning cell) (view_of seat.old) (view_of seat.new) }
     ensures most { (result.overflowed ≤ result.marked) × (result.marked ≤ heap.now.shape.fields) }

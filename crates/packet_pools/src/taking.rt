@@ -2,10 +2,10 @@
 ghost use Rattle.std.specs.Prelude.{◌≡◌, ◌<◌, ◌*◌, [], ◌∷◌, false, IsTrue, IfSome, IfNone};
 ghost use Rattle.mark_core.specs.Held.{has_free_slot};
 ghost use Rattle.mark_core.specs.Layout.{pool_words};
-ghost use Rattle.gc_table.specs.Seats.{Sits, view_of};
+ghost use Rattle.gc_table.specs.Seats.{view_of};
 ghost use Rattle.packet_pools.specs.OnlyTraced.{OnlyTraced};
 ghost use Rattle.gc_table.specs.Log.{events};
-ghost use Rattle.packet_pools.specs.Tracing.{Traces};
+ghost use Rattle.packet_pools.specs.Tracing.{IsTracer};
 ghost use Rattle.packet_pools.specs.Seeking.{NoInput, NoOutput, NoDeferred, only_moves};
 ghost use Rattle.packet_pools.specs.Gains.{Misses, Takes};
 
@@ -16,9 +16,9 @@ use gc_table::{Heap, HeapSeat};
 /// Takes a packet with cells to trace: one of the fuller ones, else one of the others. The seat holds at most three.
 /// None comes only where each packet was seen outside these pools, or was lost to another seat, in this call.
 pub fn take_input(heap: &Heap, seat: &mut HeapSeat) -> Option<Held>
-    requires seat { Sits heap.now seat.old × Traces (view_of seat.old) }
+    requires seat { IsTracer heap.now seat.old }
     requires free { IsTrue (has_free_slot (view_of seat.old).state.held) }
-    ensures seat { Sits heap.now seat.new × Traces (view_of seat.new) }
+    ensures seat { IsTracer heap.now seat.new }
     ensures later { OnlyTraced (view_of seat.old) (view_of seat.new) }
     ensures some { IfSome result (λ h. Takes (2 ∷ 1 ∷ []) h (view_of seat.old) (view_of seat.new) × (0 < h.length)) }
     ensures none { IfNone result (((view_of seat.new).state ≡ (view_of seat.old).state) × NoInput heap.now.shape (events (view_of seat.old) (view_of seat.new)) × IsTrue (only_moves (2 ∷ 1 ∷ []) (events (view_of seat.old) (view_of seat.new)))) }
@@ -32,9 +32,9 @@ pub fn take_input(heap: &Heap, seat: &mut HeapSeat) -> Option<Held>
 /// Takes a packet with cells that were put off. The seat holds at most three.
 /// None comes only where each packet was seen outside the deferred pool, or was lost to another seat, in this call.
 pub fn take_deferred(heap: &Heap, seat: &mut HeapSeat) -> Option<Held>
-    requires seat { Sits heap.now seat.old × Traces (view_of seat.old) }
+    requires seat { IsTracer heap.now seat.old }
     requires free { IsTrue (has_free_slot (view_of seat.old).state.held) }
-    ensures seat { Sits heap.now seat.new × Traces (view_of seat.new) }
+    ensures seat { IsTracer heap.now seat.new }
     ensures later { OnlyTraced (view_of seat.old) (view_of seat.new) }
     ensures some { IfSome result (λ h. Takes (3 ∷ []) h (view_of seat.old) (view_of seat.new) × (0 < h.length)) }
     ensures none { IfNone result (((view_of seat.new).state ≡ (view_of seat.old).state) × NoDeferred heap.now.shape (events (view_of seat.old) (view_of seat.new)) × IsTrue (only_moves (3 ∷ []) (events (view_of seat.old) (view_of seat.new)))) }
@@ -44,9 +44,9 @@ pub fn take_deferred(heap: &Heap, seat: &mut HeapSeat) -> Option<Held>
 
 /// Takes an empty packet: the count of empty packets falls before one is looked for, and rises again where none was found.
 fn take_empty(heap: &Heap, seat: &mut HeapSeat) -> Option<Held>
-    requires seat { Sits heap.now seat.old × Traces (view_of seat.old) }
+    requires seat { IsTracer heap.now seat.old }
     requires free { IsTrue (has_free_slot (view_of seat.old).state.held) }
-    ensures seat { Sits heap.now seat.new × Traces (view_of seat.new) }
+    ensures seat { IsTracer heap.now seat.new }
     ensures later { OnlyTraced (view_of seat.old) (view_of seat.new) }
     ensures some { IfSome result (λ h. Takes (0 ∷ []) h (view_of seat.old) (view_of seat.new)) }
     ensures none { IfNone result (((view_of seat.new).state ≡ (view_of seat.old).state) × Misses heap.now.shape 0 false 0 (64 * pool_words heap.now.shape) (events (view_of seat.old) (view_of seat.new))) }
@@ -64,9 +64,9 @@ fn take_empty(heap: &Heap, seat: &mut HeapSeat) -> Option<Held>
 /// Takes a packet with room: an empty one, else one of the low ones, else one of the fuller ones. The seat holds at most three.
 /// None comes only where each packet was seen outside these pools, was lost to another seat, or was taken and found full, in this call.
 pub fn take_output(heap: &Heap, seat: &mut HeapSeat) -> Option<Held>
-    requires seat { Sits heap.now seat.old × Traces (view_of seat.old) }
+    requires seat { IsTracer heap.now seat.old }
     requires free { IsTrue (has_free_slot (view_of seat.old).state.held) }
-    ensures seat { Sits heap.now seat.new × Traces (view_of seat.new) }
+    ensures seat { IsTracer heap.now seat.new }
     ensures later { OnlyTraced (view_of seat.old) (view_of seat.new) }
     ensures some { IfSome result (λ h. Takes (0 ∷ 1 ∷ 2 ∷ []) h (view_of seat.old) (view_of seat.new) × (h.length < heap.now.shape.entries)) }
     ensures none { IfNone result (((view_of seat.new).state ≡ (view_of seat.old).state) × NoOutput heap.now.shape (events (view_of seat.old) (view_of seat.new)) × IsTrue (only_moves (0 ∷ 1 ∷ 2 ∷ []) (events (view_of seat.old) (view_of seat.new)))) }

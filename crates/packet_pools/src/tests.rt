@@ -4,8 +4,8 @@ ghost use Rattle.std.specs.Bool.{OnTrue};
 ghost use Rattle.gc_table.specs.declared.seat.HeapSeat.{HeapSeat};
 ghost use Rattle.mark_core.specs.Held.{has_free_slot};
 ghost use Rattle.mark_core.specs.Seats.{work_in_hand};
-ghost use Rattle.gc_table.specs.Seats.{Sits, view_of};
-ghost use Rattle.packet_pools.specs.Tracing.{Traces};
+ghost use Rattle.gc_table.specs.Seats.{view_of};
+ghost use Rattle.packet_pools.specs.Tracing.{IsTracer};
 ghost use Rattle.gc_table.specs.Trials.{At, entered, inside, resting};
 
 use crate::entries::pop;
@@ -72,10 +72,10 @@ fn one_packet(heap: &Heap, seat: &mut HeapSeat, k: u32) -> Option<(u32, bool, bo
 
 /// Takes a packet with room and gives it back. False where none was found.
 fn exchange(heap: &Heap, seat: &mut HeapSeat) -> bool
-    requires seat { Sits heap.now seat.old × Traces (view_of seat.old) }
+    requires seat { IsTracer heap.now seat.old }
     requires free { IsTrue (has_free_slot (view_of seat.old).state.held) }
     requires idle { IsFalse (work_in_hand heap.now.shape.fields (view_of seat.old).state) }
-    ensures seat { Sits heap.now seat.new × Traces (view_of seat.new) }
+    ensures seat { IsTracer heap.now seat.new }
     ensures shape { (view_of seat.new).shape ≡ (view_of seat.old).shape }
     ensures state { (view_of seat.new).state ≡ (view_of seat.old).state }
 {

@@ -1,9 +1,9 @@
 //! What was put off is traced again.
 ghost use Rattle.std.specs.Prelude.{◌≡◌, ◌<◌, ◌≤◌, ◌+◌, ◌*◌, ◌/◌, if◌then◌else◌};
-ghost use Rattle.gc_table.specs.Seats.{Sits, view_of};
+ghost use Rattle.gc_table.specs.Seats.{view_of};
 ghost use Rattle.packet_pools.specs.OnlyTraced.{OnlyTraced};
 ghost use Rattle.gc_table.specs.Log.{events};
-ghost use Rattle.packet_pools.specs.Tracing.{Traces};
+ghost use Rattle.packet_pools.specs.Tracing.{IsTracer};
 ghost use Rattle.tracer.specs.Hands.{IsIdle};
 ghost use Rattle.tracer.specs.Recycling.{Recycled, Recycles};
 
@@ -13,10 +13,10 @@ use packet_pools::{give, take_deferred_at};
 
 /// Moves packet p from the deferred pool to that of its length, where it is there. True where it was moved.
 fn recycle(heap: &Heap, seat: &mut HeapSeat, p: u32) -> bool
-    requires seat { Sits heap.now seat.old × Traces (view_of seat.old) }
+    requires seat { IsTracer heap.now seat.old }
     requires idle { IsIdle (view_of seat.old) }
     requires packet { p < heap.now.shape.packets }
-    ensures seat { Sits heap.now seat.new × Traces (view_of seat.new) }
+    ensures seat { IsTracer heap.now seat.new }
     ensures later { OnlyTraced (view_of seat.old) (view_of seat.new) }
     ensures state { (view_of seat.new).state ≡ (view_of seat.old).state }
     ensures recycles { Recycles p (p + 1) (if result then 1 else 0) (events (view_of seat.old) (view_of seat.new)) }
@@ -34,10 +34,10 @@ fn recycle(heap: &Heap, seat: &mut HeapSeat, p: u32) -> bool
 
 /// The same for the packets from `first` on and below `end`: how many it moved.
 fn recycle_between(heap: &Heap, seat: &mut HeapSeat, first: u32, end: u32) -> u32
-    requires seat { Sits heap.now seat.old × Traces (view_of seat.old) }
+    requires seat { IsTracer heap.now seat.old }
     requires idle { IsIdle (view_of seat.old) }
     requires packets { (first ≤ end) × (end ≤ heap.now.shape.packets) }
-    ensures seat { Sits heap.now seat.new × Traces (view_of seat.new) }
+    ensures seat { IsTracer heap.now seat.new }
     ensures later { OnlyTraced (view_of seat.old) (view_of seat.new) }
     ensures state { (view_of seat.new).state ≡ (view_of seat.old).state }
     ensures most { result + first ≤ end }
@@ -52,10 +52,10 @@ fn recycle_between(heap: &Heap, seat: &mut HeapSeat, first: u32, end: u32) -> u3
 
 /// The same for the packets of word g of the pool that are below `end`. A word that shows none is read once.
 fn recycle_in_word(heap: &Heap, seat: &mut HeapSeat, g: u32, end: u32) -> u32
-    requires seat { Sits heap.now seat.old × Traces (view_of seat.old) }
+    requires seat { IsTracer heap.now seat.old }
     requires idle { IsIdle (view_of seat.old) }
     requires packets { (64 * g < end) × (end ≤ 64 * g + 64) × (end ≤ heap.now.shape.packets) }
-    ensures seat { Sits heap.now seat.new × Traces (view_of seat.new) }
+    ensures seat { IsTracer heap.now seat.new }
     ensures later { OnlyTraced (view_of seat.old) (view_of seat.new) }
     ensures state { (view_of seat.new).state ≡ (view_of seat.old).state }
     ensures most { result + 64 * g ≤ end }
@@ -69,9 +69,9 @@ fn recycle_in_word(heap: &Heap, seat: &mut HeapSeat, g: u32, end: u32) -> u32
 
 /// The same for all words that are full of packets.
 fn recycle_words(heap: &Heap, seat: &mut HeapSeat) -> u32
-    requires seat { Sits heap.now seat.old × Traces (view_of seat.old) }
+    requires seat { IsTracer heap.now seat.old }
     requires idle { IsIdle (view_of seat.old) }
-    ensures seat { Sits heap.now seat.new × Traces (view_of seat.new) }
+    ensures seat { IsTracer heap.now seat.new }
     ensures later { OnlyTraced (view_of seat.old) (view_of seat.new) }
     ensures state { (view_of seat.new).state ≡ (view_of seat.old).state }
     ensures most { result ≤ 64 * (heap.now.shape.packets / 64) }
@@ -88,9 +88,9 @@ fn recycle_words(heap: &Heap, seat: &mut HeapSeat) -> u32
 /// and holds no packet. Each packet was moved, or was seen outside the deferred pool or lost to another seat in this call.
 /// Cells that still aren't published are put off again when they are popped, so a caller publishes first, or waits for others to.
 pub fn recycle_deferred(heap: &Heap, seat: &mut HeapSeat) -> u32
-    requires seat { Sits heap.now seat.old × Traces (view_of seat.old) }
+    requires seat { IsTracer heap.now seat.old }
     requires idle { IsIdle (view_of seat.old) }
-    ensures seat { Sits heap.now seat.new × Traces (view_of seat.new) }
+    ensures seat { IsTracer heap.now seat.new }
     ensures later { OnlyTraced (view_of seat.old) (view_of seat.new) }
     ensures state { (view_of seat.new).state ≡ (view_of seat.old).state }
     ensures recycled { Recycled heap.now.shape result (events (view_of seat.old) (view_of seat.new)) }

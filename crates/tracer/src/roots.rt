@@ -1,11 +1,11 @@
 //! The roots of a section are scanned.
 ghost use Rattle.std.specs.Prelude.{ℕ, ◌≡◌, ◌<◌, ◌≤◌, [], ◌∷◌, Some, None, IsTrue, IsFalse, IfSome, IfNone};
 ghost use Rattle.mark_core.specs.Seats.{work_in_hand};
-ghost use Rattle.gc_table.specs.Seats.{Sits, view_of};
+ghost use Rattle.gc_table.specs.Seats.{view_of};
 ghost use Rattle.packet_pools.specs.OnlyTraced.{OnlyTraced};
 ghost use Rattle.gc_table.specs.Log.{events};
 ghost use Rattle.packet_pools.specs.Seeking.{only_moves};
-ghost use Rattle.packet_pools.specs.Tracing.{Traces};
+ghost use Rattle.packet_pools.specs.Tracing.{IsTracer};
 ghost use Rattle.tracer.specs.Causes.{FoundNoPacket};
 ghost use Rattle.tracer.specs.Hands.{Carries, IsIdle, KeepsRecord};
 ghost use Rattle.tracer.specs.Roots.{Follows, RootsScanned, SeesRoots, root_marked};
@@ -20,9 +20,9 @@ const VARIABLES: u8 = 32;
 
 /// Takes a packet to put cells in, or else any with cells.
 fn take_either(heap: &Heap, seat: &mut HeapSeat) -> Option<Held>
-    requires seat { Sits heap.now seat.old × Traces (view_of seat.old) }
+    requires seat { IsTracer heap.now seat.old }
     requires idle { IsIdle (view_of seat.old) }
-    ensures seat { Sits heap.now seat.new × Traces (view_of seat.new) }
+    ensures seat { IsTracer heap.now seat.new }
     ensures later { OnlyTraced (view_of seat.old) (view_of seat.new) }
     ensures work { IsFalse (work_in_hand heap.now.shape.fields (view_of seat.new).state) }
     ensures moves { IsTrue (only_moves (0 ∷ 1 ∷ 2 ∷ []) (events (view_of seat.old) (view_of seat.new))) }
@@ -43,11 +43,11 @@ fn scan_root(
     section: u32,
     variable: u8,
 ) -> Scanned
-    requires seat { Sits heap.now seat.old × Traces (view_of seat.old) }
+    requires seat { IsTracer heap.now seat.old }
     requires out { Carries (out.old ∷ []) (view_of seat.old) }
     requires work { IsFalse (work_in_hand heap.now.shape.fields (view_of seat.old).state) }
     requires root { (section < heap.now.shape.sections) × (variable < 32) }
-    ensures seat { Sits heap.now seat.new × Traces (view_of seat.new) }
+    ensures seat { IsTracer heap.now seat.new }
     ensures later { OnlyTraced (view_of seat.old) (view_of seat.new) }
     ensures out { Carries (out.new ∷ []) (view_of seat.new) }
     ensures work { IsFalse (work_in_hand heap.now.shape.fields (view_of seat.new).state) }
@@ -71,10 +71,10 @@ fn scan_root(
 /// Any section's variables may be scanned, while its mutator runs: a variable that is stored after it was read is that mutator's to scan again.
 /// NoPacket comes only where neither a packet with room nor one with cells was found while the seat held none, and nothing is marked then.
 pub fn scan_roots(heap: &Heap, seat: &mut HeapSeat, section: u32) -> RootScan
-    requires seat { Sits heap.now seat.old × Traces (view_of seat.old) }
+    requires seat { IsTracer heap.now seat.old }
     requires idle { IsIdle (view_of seat.old) }
     requires section { section < heap.now.shape.sections }
-    ensures seat { Sits heap.now seat.new × Traces (view_of seat.new) }
+    ensures seat { IsTracer heap.now seat.new }
     ensures later { OnlyTraced (view_of seat.old) (view_of seat.new) }
     ensures idle { IsIdle (view_of seat.new) }
     ensures state { KeepsRecord (view_of seat.old) (view_of seat.new) }

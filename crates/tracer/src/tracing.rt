@@ -1,10 +1,10 @@
 //! The loop of a tracer.
 ghost use Rattle.std.specs.Prelude.{ℕ, ◌≡◌, ◌≢◌, ◌<◌, ◌≤◌, ◌+◌, ◌*◌, ◌⊎◌, [], ◌∷◌, Option, Some, None, false, IsTrue, IsFalse, IfSome, IfNone};
 ghost use Rattle.mark_core.specs.Seats.{cleaning_left, work_in_hand};
-ghost use Rattle.gc_table.specs.Seats.{Sits, view_of};
+ghost use Rattle.gc_table.specs.Seats.{view_of};
 ghost use Rattle.packet_pools.specs.OnlyTraced.{OnlyTraced};
 ghost use Rattle.gc_table.specs.Log.{events};
-ghost use Rattle.packet_pools.specs.Tracing.{Traces};
+ghost use Rattle.packet_pools.specs.Tracing.{IsTracer};
 ghost use Rattle.packet_pools.specs.Scanning.{InHand};
 ghost use Rattle.packet_pools.specs.Seeking.{NoInput, only_moves};
 ghost use Rattle.tracer.specs.Causes.{FoundNoWork};
@@ -24,11 +24,11 @@ use packet_pools::{Scanned, give, scan_whole, take_input, take_output};
 
 /// Scans the object in scan, which is this one, into the output, or into the input where there is none.
 fn scan(heap: &Heap, seat: &mut HeapSeat, packets: &mut Packets, cell: Cell) -> Scanned
-    requires seat { Sits heap.now seat.old × Traces (view_of seat.old) }
+    requires seat { IsTracer heap.now seat.old }
     requires packets { Carries (packets_of packets.old) (view_of seat.old) }
     requires hand { InHand None None (view_of seat.old).state × IsFalse (cleaning_left (view_of seat.old).state.cleaning) }
     requires scan { (view_of seat.old).state.scan ≡ Some (cell, 0) }
-    ensures seat { Sits heap.now seat.new × Traces (view_of seat.new) }
+    ensures seat { IsTracer heap.now seat.new }
     ensures later { OnlyTraced (view_of seat.old) (view_of seat.new) }
     ensures packets { Carries (packets_of packets.new) (view_of seat.new) × (packets.new.deferred ≡ packets.old.deferred) }
     ensures work { IsFalse (work_in_hand heap.now.shape.fields (view_of seat.new).state) }
@@ -43,10 +43,10 @@ fn scan(heap: &Heap, seat: &mut HeapSeat, packets: &mut Packets, cell: Cell) -> 
 
 /// Traces the cell that was popped: how many cells were put off for it, 0 or 1, and how many were left to their cards.
 fn trace_cell(heap: &Heap, seat: &mut HeapSeat, packets: &mut Packets, cell: Cell) -> Passed
-    requires seat { Sits heap.now seat.old × Traces (view_of seat.old) }
+    requires seat { IsTracer heap.now seat.old }
     requires packets { Carries (packets_of packets.old) (view_of seat.old) × HasRoom heap.now.shape packets.old.deferred }
     requires cell { HasPopped cell false (view_of seat.old) }
-    ensures seat { Sits heap.now seat.new × Traces (view_of seat.new) }
+    ensures seat { IsTracer heap.now seat.new }
     ensures later { OnlyTraced (view_of seat.old) (view_of seat.new) }
     ensures packets { Carries (packets_of packets.new) (view_of seat.new) × HasRoom heap.now.shape packets.new.deferred }
     ensures work { IsFalse (work_in_hand heap.now.shape.fields (view_of seat.new).state) }
@@ -70,11 +70,11 @@ fn trace_cell(heap: &Heap, seat: &mut HeapSeat, packets: &mut Packets, cell: Cel
 
 /// Traces at most so many cells.
 fn trace_all(heap: &Heap, seat: &mut HeapSeat, packets: &mut Packets, quota: u32) -> Traced
-    requires seat { Sits heap.now seat.old × Traces (view_of seat.old) }
+    requires seat { IsTracer heap.now seat.old }
     requires packets { Carries (packets_of packets.old) (view_of seat.old) × HasRoom heap.now.shape packets.old.deferred }
     requires idle { IsFalse (work_in_hand heap.now.shape.fields (view_of seat.old).state) × ((view_of seat.old).state.block ≡ None) }
     requires quota { 16 * quota < 4294967296 }
-    ensures seat { Sits heap.now seat.new × Traces (view_of seat.new) }
+    ensures seat { IsTracer heap.now seat.new }
     ensures later { OnlyTraced (view_of seat.old) (view_of seat.new) }
     ensures packets { Carries (packets_of packets.new) (view_of seat.new) × HasRoom heap.now.shape packets.new.deferred }
     ensures work { IsFalse (work_in_hand heap.now.shape.fields (view_of seat.new).state) }
@@ -97,9 +97,9 @@ fn trace_all(heap: &Heap, seat: &mut HeapSeat, packets: &mut Packets, quota: u32
 
 /// Takes packets to trace with. None comes only where no packet with a cell was found.
 fn begin(heap: &Heap, seat: &mut HeapSeat) -> Option<Packets>
-    requires seat { Sits heap.now seat.old × Traces (view_of seat.old) }
+    requires seat { IsTracer heap.now seat.old }
     requires idle { IsIdle (view_of seat.old) }
-    ensures seat { Sits heap.now seat.new × Traces (view_of seat.new) }
+    ensures seat { IsTracer heap.now seat.new }
     ensures later { OnlyTraced (view_of seat.old) (view_of seat.new) }
     ensures idle { IsFalse (work_in_hand heap.now.shape.fields (view_of seat.new).state) × ((view_of seat.new).state.block ≡ None) }
     ensures part { Part heap.now.shape None None 0 0 0 (view_of seat.old) (events (view_of seat.old) (view_of seat.new)) }
@@ -117,10 +117,10 @@ fn begin(heap: &Heap, seat: &mut HeapSeat) -> Option<Packets>
 
 /// Gives all packets back, and what was put off as deferred.
 fn finish(heap: &Heap, seat: &mut HeapSeat, packets: Packets)
-    requires seat { Sits heap.now seat.old × Traces (view_of seat.old) }
+    requires seat { IsTracer heap.now seat.old }
     requires packets { Carries (packets_of packets) (view_of seat.old) × HasRoom heap.now.shape packets.deferred }
     requires work { IsFalse (work_in_hand heap.now.shape.fields (view_of seat.old).state) }
-    ensures seat { Sits heap.now seat.new × Traces (view_of seat.new) }
+    ensures seat { IsTracer heap.now seat.new }
     ensures later { OnlyTraced (view_of seat.old) (view_of seat.new) }
     ensures held { (view_of seat.new).state.held ≡ no_packets }
     ensures work { IsFalse (work_in_hand heap.now.shape.fields (view_of seat.new).state) }
@@ -143,10 +143,10 @@ fn finish(heap: &Heap, seat: &mut HeapSeat, packets: Packets)
 /// found while nothing was left in hand. NoPacket never comes: where only one packet is to be had, the seat pops out of it and pushes into it.
 /// 16 times the quota fits a `u32`, since each object has at most 16 fields.
 pub fn trace(heap: &Heap, seat: &mut HeapSeat, quota: u32) -> Traced
-    requires seat { Sits heap.now seat.old × Traces (view_of seat.old) }
+    requires seat { IsTracer heap.now seat.old }
     requires idle { IsIdle (view_of seat.old) }
     requires quota { 16 * quota < 4294967296 }
-    ensures seat { Sits heap.now seat.new × Traces (view_of seat.new) }
+    ensures seat { IsTracer heap.now seat.new }
     ensures later { OnlyTraced (view_of seat.old) (view_of seat.new) }
     ensures idle { IsIdle (view_of seat.new) }
     ensures state { KeepsRecord (view_of seat.old) (view_of seat.new) }

@@ -3,10 +3,10 @@ ghost use Rattle.std.specs.Prelude.{◌<◌, None, Some, IsFalse, IsTrue};
 ghost use Rattle.std.specs.Bool.{OnTrue};
 ghost use Rattle.mark_core.specs.Held.{has_free_slot};
 ghost use Rattle.mark_core.specs.Seats.{work_in_hand};
-ghost use Rattle.gc_table.specs.Seats.{Sits, view_of};
+ghost use Rattle.gc_table.specs.Seats.{view_of};
 ghost use Rattle.packet_pools.specs.Hands.{IsHeld};
 ghost use Rattle.packet_pools.specs.Scanning.{InHand, Pushes};
-ghost use Rattle.packet_pools.specs.Tracing.{Traces};
+ghost use Rattle.packet_pools.specs.Tracing.{IsTracer};
 ghost use Rattle.operation_cycles.specs.Seats.{Mutates};
 
 use super::FOUR;
@@ -37,10 +37,10 @@ fn fills_packet(heap: &Heap, seat: &mut HeapSeat) -> bool
 
 /// Pushes the object that was marked. Where the packet is full its card is dirtied, and the answer is true.
 fn pushes(heap: &Heap, seat: &mut HeapSeat, held: &mut Held, cell: Cell) -> bool
-    requires seat { Sits heap.now seat.old × Traces (view_of seat.old) }
+    requires seat { IsTracer heap.now seat.old }
     requires held { IsHeld held.old (view_of seat.old) × IsTrue (has_free_slot (view_of seat.old).state.held) }
     requires hand { InHand None (Some cell) (view_of seat.old).state }
-    ensures seat { Sits heap.now seat.new × Traces (view_of seat.new) }
+    ensures seat { IsTracer heap.now seat.new }
     ensures pushes { Pushes held.old held.new (view_of seat.old).state.scan (view_of seat.old).state.cleaning (view_of seat.old) (view_of seat.new) }
 {
     match push(heap, seat, held, cell) {
@@ -54,10 +54,10 @@ fn pushes(heap: &Heap, seat: &mut HeapSeat, held: &mut Held, cell: Cell) -> bool
 
 /// Marks the object that was loaded, and pushes it where it was white.
 fn marks(heap: &Heap, seat: &mut HeapSeat, held: &mut Held, cell: Cell) -> bool
-    requires seat { Sits heap.now seat.old × Traces (view_of seat.old) }
+    requires seat { IsTracer heap.now seat.old }
     requires held { IsHeld held.old (view_of seat.old) × IsTrue (has_free_slot (view_of seat.old).state.held) }
     requires hand { InHand (Some cell) None (view_of seat.old).state }
-    ensures seat { Sits heap.now seat.new × Traces (view_of seat.new) }
+    ensures seat { IsTracer heap.now seat.new }
     ensures pushes { Pushes held.old held.new (view_of seat.old).state.scan (view_of seat.old).state.cleaning (view_of seat.old) (view_of seat.new) }
 {
     if !heap.set_mark(seat, cell) {
@@ -68,11 +68,11 @@ fn marks(heap: &Heap, seat: &mut HeapSeat, held: &mut Held, cell: Cell) -> bool
 
 /// Marks the object of variable 3: whether it was white, and found the packet full.
 fn overfills(heap: &Heap, seat: &mut HeapSeat, held: &mut Held) -> bool
-    requires seat { Sits heap.now seat.old × Traces (view_of seat.old) }
+    requires seat { IsTracer heap.now seat.old }
     requires held { IsHeld held.old (view_of seat.old) × IsTrue (has_free_slot (view_of seat.old).state.held) }
     requires section { 1 < heap.now.shape.sections }
     requires work { IsFalse (work_in_hand heap.now.shape.fields (view_of seat.old).state) }
-    ensures seat { Sits heap.now seat.new × Traces (view_of seat.new) }
+    ensures seat { IsTracer heap.now seat.new }
     ensures held { IsHeld held.new (view_of seat.new) }
     ensures work { IsFalse (work_in_hand heap.now.shape.fields (view_of seat.new).state) }
 {
