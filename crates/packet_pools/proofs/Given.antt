@@ -1,8 +1,15 @@
--- The record of a seat that stores a packet's length, gives the packet back and counts it.
-use Rattle.std.proofs.Common.{ℕ, ◌≡◌, ◌<◌, sym, ap, ◌∙◌, true, false, not, Some, eqb}
+-- A seat that stores a packet's length, gives the packet back and counts it.
+use Rattle.std.proofs.Common.{ℕ, ◌≡◌, ◌<◌, refl, sym, ap, ◌∙◌, Bool, true, false, not, Some, eqb}
 use Rattle.std.proofs.lemmas.Bool.{not_from_true}
 use Rattle.mark_core.specs.Held.{holds_any, holds_another, has_entry, is_stored, length_in_hand, known_length, drop_packet, set_length}
 use Rattle.mark_core.specs.declared.seat.SeatState.{SeatState}
+use Rattle.mark_core.specs.declared.kinds.Step.TheVariants.{Credit, Give, StoreLength}
+use Rattle.gc_table.specs.declared.view.View.{View}
+use Rattle.gc_table.specs.Seats.{Found, Stored}
+use Rattle.packet_pools.specs.OnlyTraced.{OnlyTraced}
+use Rattle.packet_pools.specs.Tracing.{Traces}
+use Rattle.packet_pools.proofs.TracedSteps.{later-join}
+use Rattle.packet_pools.proofs.Doing.{later-store_length, later-give, later-credit, traces-on}
 use Rattle.packet_pools.proofs.InHand.{drop-set, known-entry, known-held, known-length, known-set, stored-set}
 
 module _ (s : SeatState) (p n : ℕ) (k : known_length s.held p ≡ Some n) where
@@ -35,3 +42,31 @@ module _ (s : SeatState) (p n : ℕ) (k : known_length s.held p ≡ Some n) wher
 
   pub given-empty : s.credit ≡ false → s.reserved ≡ false → record returned { credit = false; reserved = false } ≡ record s { held = drop_packet s.held p }
   given-empty c r = λ i. record s { held = drop-set s.held p (length_in_hand s.held p) true i; credit = sym c i; reserved = sym r i }
+
+-- the seat with view v stored the length of packet p, which has n entries, and gave it back: its view is x then
+module _ {v w x : View} {p n m : ℕ} {d : Bool} (t : Traces v) (k : known_length v.state.held p ≡ Some n) (a : Stored (StoreLength p) v w) (b : Found (Give p d) m w x) where
+  pub gave-state : x.state ≡ returned v.state p n k
+  gave-state =
+      let w_is : w.state ≡ stored v.state p n k = ap (λ (z : View). z.state) a in
+      ap (λ (z : View). z.state) b.0 ∙ ap (λ (s : SeatState). record s { held = drop_packet s.held p; credit = not (has_entry s.held p) }) w_is
+
+  pub gave-later : OnlyTraced v x
+  gave-later = later-join v w x (later-store_length v w _ p refl a) (later-give w x m p d b.1 b.0)
+
+  -- a packet with entries needs no more
+  pub gave-full : 0 < n → x.state ≡ record v.state { held = drop_packet v.state.held p }
+  gave-full some = gave-state ∙ given-full v.state p n k some t.uncredited
+
+  pub gave-traces : 0 < n → Traces x
+  gave-traces some = let e = gave-full some in traces-on v x gave-later t (ap (λ (s : SeatState). s.reserved) e) (ap (λ (s : SeatState). s.credit) e)
+
+-- an empty one is counted then
+module _ {v w x y : View} {p n m j : ℕ} {d : Bool} (t : Traces v) (k : known_length v.state.held p ≡ Some n) (a : Stored (StoreLength p) v w) (b : Found (Give p d) m w x) (e : Found Credit j x y) where
+  pub counted-state : y.state ≡ record v.state { held = drop_packet v.state.held p }
+  counted-state = ap (λ (z : View). z.state) e.0 ∙ (ap (λ (s : SeatState). record s { credit = false; reserved = false }) (gave-state t k a b) ∙ given-empty v.state p n k t.uncredited t.unreserved)
+
+  pub counted-later : OnlyTraced v y
+  counted-later = later-join v x y (gave-later t k a b) (later-credit x y j e.1 e.0)
+
+  pub counted-traces : Traces y
+  counted-traces = traces-on v y counted-later t (ap (λ (z : View). z.state.reserved) e.0 ∙ sym t.unreserved) (ap (λ (z : View). z.state.credit) e.0 ∙ sym t.uncredited)

@@ -14,7 +14,7 @@ use Rattle.packet_pools.specs.Hands.{with_packet}
 use Rattle.packet_pools.specs.Seeking.{gets, gets_from, loses, shows_outside, seen_outside, was_lost, was_full, was_got, AllMissed, only_moves}
 use Rattle.packet_pools.specs.Gains.{ComesFrom, Takes, Gains, Misses}
 use Rattle.gc_table.proofs.Log.{events-join}
-use Rattle.packet_pools.proofs.Searches.{before-left, before-right, missed-left, missed-right, some-parts, some-right, first-pool, moves-join, next-pools}
+use Rattle.packet_pools.proofs.Searches.{before-left, before-right, missed-left, missed-right, none-got, some-parts, some-right, first-pool, moves-join, next-pools}
 
 pub below-words : (sh : Shape) (p : ℕ) → p < sh.packets → p < 64 * pool_words sh
 below-words sh p l = omega (arith, l)
@@ -56,19 +56,21 @@ takes-first q qs room h v w r g =
       moves = first-pool q qs (events v w) g.moves;
     }
 
--- a packet of a later pool, where the first had none
-pub takes-next : (q : ℕ) (qs : List ℕ) (h : Held) (v u w : View) → OnlyTraced v u → OnlyTraced u w → u.state ≡ v.state → ((p : ℕ) → was_got p (events v u) ≡ false) → AllMissed v.shape q (events v u) → only_moves (q ∷ []) (events v u) ≡ true → Takes qs h u w → Takes (q ∷ qs) h v w
-takes-next q qs h v u w a b e n m before t =
+-- a packet of a later pool, where a whole search of the first found none
+pub takes-next : (sh : Shape) (q : ℕ) (qs : List ℕ) (h : Held) (v u w : View) → v.shape ≡ sh → OnlyTraced v u → OnlyTraced u w → u.state ≡ v.state → Misses sh q false 0 (64 * pool_words sh) (events v u) → Takes qs h u w → Takes (q ∷ qs) h v w
+takes-next sh q qs h v u w shape a b e m t =
     let es = events-join v u w a.log b.log in
+    let none : (p : ℕ) → was_got p (events v u) ≡ false = λ p. none-got sh q 0 (64 * pool_words sh) p (events v u) m in
+    let missed : AllMissed v.shape q (events v u) = subst (λ (s : Shape). AllMissed s q (events v u)) (sym shape) (all-missed sh q (events v u) m) in
     record {
       unheld = ap (λ (s : SeatState). holds s.held h.packet) (sym e) ∙ t.unheld;
       held = t.held;
       state = t.state ∙ ap (λ (s : SeatState). record s { held = with_packet s.held h.packet h.length }) e;
       from = inr (
-        subst (AllMissed v.shape q) (sym es) (all-left v.shape q (events v u) (events u w) m),
-        subst (ComesFrom v.shape qs h) (sym es) (comes-right v.shape qs h (events v u) (events u w) n (subst (λ (s : Shape). ComesFrom s qs h (events u w)) a.shape t.from)),
+        subst (AllMissed v.shape q) (sym es) (all-left v.shape q (events v u) (events u w) missed),
+        subst (ComesFrom v.shape qs h) (sym es) (comes-right v.shape qs h (events v u) (events u w) none (subst (λ (s : Shape). ComesFrom s qs h (events u w)) a.shape t.from)),
       );
-      moves = ap (only_moves (q ∷ qs)) es ∙ moves-join (q ∷ qs) (events v u) (events u w) (first-pool q qs (events v u) before) (next-pools q qs (events u w) t.moves);
+      moves = ap (only_moves (q ∷ qs)) es ∙ moves-join (q ∷ qs) (events v u) (events u w) (first-pool q qs (events v u) m.moves) (next-pools q qs (events u w) t.moves);
     }
 
 -- events around a search that take nothing

@@ -1,17 +1,14 @@
-use Rattle.std.proofs.Common.{ℕ, ◌≡◌, ◌<◌, refl, sym, ap, ◌∙◌, subst, arith, false, not, Some}
+use Rattle.std.proofs.Common.{ℕ, ◌≡◌, ◌<◌, sym, ap, ◌∙◌, subst, arith, Some}
 use Rattle.std.proofs.lemmas.Bool.{or_left}
-use Rattle.mark_core.specs.Held.{drop_packet, has_entry, known_length, holds_another, is_stored}
+use Rattle.mark_core.specs.Held.{known_length, holds_another, is_stored}
 use Rattle.mark_core.specs.Seats.{work_in_hand}
 use Rattle.mark_core.specs.declared.kinds.Shape.{Shape}
 use Rattle.mark_core.specs.declared.seat.SeatState.{SeatState}
 use Rattle.gc_table.specs.declared.view.View.{View}
 use Rattle.gc_table.specs.Seats.{view_of}
-use Rattle.packet_pools.specs.OnlyTraced.{OnlyTraced}
-use Rattle.packet_pools.proofs.TracedSteps.{later-join}
 use Rattle.packet_pools.proofs.Conditions.{may-store_length, may-give, may-credit}
 use Rattle.packet_pools.proofs.InHand.{known-held, known-has, known-entry}
-use Rattle.packet_pools.proofs.Doing.{later-store_length, later-give, later-credit, traces-on}
-use Rattle.packet_pools.proofs.Given.{stored, returned, stored-known, stored-head, stored-another, returned-empty, given-full, given-empty}
+use Rattle.packet_pools.proofs.Given.{stored, stored-known, stored-head, stored-another, returned-empty, gave-state, gave-later, gave-full, gave-traces, counted-state, counted-later, counted-traces}
 use Rattle.packet_pools.proofs.giving.give.Goals as goal
 
 pub store_length-requires-clause-may : goal.store_length-requires-clause-may
@@ -42,86 +39,28 @@ give-requires-clause-may c =
     (ap (λ (s : SeatState). s.credit) state ∙ t.uncredited)
     (ap (λ (s : SeatState). is_stored s.held p) state ∙ stored-head v.state p n k.known)
 
-after-give : (v w x : View) (p n : ℕ) (k : known_length v.state.held p ≡ Some n) → w.state ≡ stored v.state p n k → x.state ≡ record w.state { held = drop_packet w.state.held p; credit = not (has_entry w.state.held p) } → x.state ≡ returned v.state p n k
-after-give v w x p n k a b = b ∙ ap (λ (s : SeatState). record s { held = drop_packet s.held p; credit = not (has_entry s.held p) }) a
-
 pub credit-requires-clause-may : goal.credit-requires-clause-may
 credit-requires-clause-may c =
     let v : View = view_of c.args.seat.now in
-    let w : View = view_of c.store_length.new.seat in
     let x : View = view_of c.give.new.seat in
-    let p : ℕ = c.args.held.packet in
-    let n : ℕ = c.args.held.length in
     let k = c.requires.held.known in
-    let state = after-give v w x p n k (ap (λ (y : View). y.state) c.store_length.ensures.view) (ap (λ (y : View). y.state) c.give.ensures.view.1.0) in
-    may-credit x (or_left _ _ (ap (λ (s : SeatState). s.credit) state ∙ returned-empty v.state p n k c.if-length-eq0.true))
+    let state = gave-state c.requires.seat.1 k c.store_length.ensures.view c.give.ensures.view.1 in
+    may-credit x (or_left _ _ (ap (λ (s : SeatState). s.credit) state ∙ returned-empty v.state c.args.held.packet c.args.held.length k c.if-length-eq0.true))
 
 pub returns-then-length-eq0-clause-state : goal.returns-then-length-eq0-clause-state
-returns-then-length-eq0-clause-state c =
-    let v : View = view_of c.args.seat.now in
-    let w : View = view_of c.store_length.new.seat in
-    let x : View = view_of c.give.new.seat in
-    let p : ℕ = c.args.held.packet in
-    let n : ℕ = c.args.held.length in
-    let k = c.requires.held.known in
-    let state = after-give v w x p n k (ap (λ (y : View). y.state) c.store_length.ensures.view) (ap (λ (y : View). y.state) c.give.ensures.view.1.0) in
-    ap (λ (y : View). y.state) c.credit.ensures.view.1.0
-    ∙ (ap (λ (s : SeatState). record s { credit = false; reserved = false }) state ∙ given-empty v.state p n k c.requires.seat.1.uncredited c.requires.seat.1.unreserved)
+returns-then-length-eq0-clause-state c = counted-state c.requires.seat.1 c.requires.held.known c.store_length.ensures.view c.give.ensures.view.1 c.credit.ensures.view.1
 
 pub returns-else-length-eq0-clause-state : goal.returns-else-length-eq0-clause-state
-returns-else-length-eq0-clause-state c =
-    let v : View = view_of c.args.seat.now in
-    let w : View = view_of c.store_length.new.seat in
-    let x : View = view_of c.give.new.seat in
-    let p : ℕ = c.args.held.packet in
-    let n : ℕ = c.args.held.length in
-    let k = c.requires.held.known in
-    let state = after-give v w x p n k (ap (λ (y : View). y.state) c.store_length.ensures.view) (ap (λ (y : View). y.state) c.give.ensures.view.1.0) in
-    let some : 0 < n = let d = c.if-length-eq0.false in omega (arith, d) in
-    state ∙ given-full v.state p n k some c.requires.seat.1.uncredited
+returns-else-length-eq0-clause-state c = gave-full c.requires.seat.1 c.requires.held.known c.store_length.ensures.view c.give.ensures.view.1 (let d = c.if-length-eq0.false in omega (arith, d))
 
 pub returns-then-length-eq0-clause-later : goal.returns-then-length-eq0-clause-later
-returns-then-length-eq0-clause-later c =
-    let v : View = view_of c.args.seat.now in
-    let w : View = view_of c.store_length.new.seat in
-    let x : View = view_of c.give.new.seat in
-    let y : View = view_of c.credit.new.seat in
-    later-join v w y (later-store_length v w _ c.args.held.packet refl c.store_length.ensures.view)
-    (later-join w x y (later-give w x _ c.args.held.packet c.args.deferred c.give.ensures.view.1.1 c.give.ensures.view.1.0) (later-credit x y _ c.credit.ensures.view.1.1 c.credit.ensures.view.1.0))
+returns-then-length-eq0-clause-later c = counted-later c.requires.seat.1 c.requires.held.known c.store_length.ensures.view c.give.ensures.view.1 c.credit.ensures.view.1
 
 pub returns-else-length-eq0-clause-later : goal.returns-else-length-eq0-clause-later
-returns-else-length-eq0-clause-later c =
-    let v : View = view_of c.args.seat.now in
-    let w : View = view_of c.store_length.new.seat in
-    let x : View = view_of c.give.new.seat in
-    later-join v w x (later-store_length v w _ c.args.held.packet refl c.store_length.ensures.view) (later-give w x _ c.args.held.packet c.args.deferred c.give.ensures.view.1.1 c.give.ensures.view.1.0)
+returns-else-length-eq0-clause-later c = gave-later c.requires.seat.1 c.requires.held.known c.store_length.ensures.view c.give.ensures.view.1
 
 pub returns-then-length-eq0-clause-seat : goal.returns-then-length-eq0-clause-seat
-returns-then-length-eq0-clause-seat c =
-    let v : View = view_of c.args.seat.now in
-    let w : View = view_of c.store_length.new.seat in
-    let x : View = view_of c.give.new.seat in
-    let y : View = view_of c.credit.new.seat in
-    let p : ℕ = c.args.held.packet in
-    let n : ℕ = c.args.held.length in
-    let k = c.requires.held.known in
-    let t = c.requires.seat.1 in
-    let later : OnlyTraced v y =
-    later-join v w y (later-store_length v w _ p refl c.store_length.ensures.view)
-    (later-join w x y (later-give w x _ p c.args.deferred c.give.ensures.view.1.1 c.give.ensures.view.1.0) (later-credit x y _ c.credit.ensures.view.1.1 c.credit.ensures.view.1.0)) in
-    let e = c.credit.ensures.view.1.0 in
-    (c.credit.ensures.seat, traces-on v y later t (ap (λ (z : View). z.state.reserved) e ∙ sym t.unreserved) (ap (λ (z : View). z.state.credit) e ∙ sym t.uncredited))
+returns-then-length-eq0-clause-seat c = (c.credit.ensures.seat, counted-traces c.requires.seat.1 c.requires.held.known c.store_length.ensures.view c.give.ensures.view.1 c.credit.ensures.view.1)
 
 pub returns-else-length-eq0-clause-seat : goal.returns-else-length-eq0-clause-seat
-returns-else-length-eq0-clause-seat c =
-    let v : View = view_of c.args.seat.now in
-    let w : View = view_of c.store_length.new.seat in
-    let x : View = view_of c.give.new.seat in
-    let p : ℕ = c.args.held.packet in
-    let n : ℕ = c.args.held.length in
-    let k = c.requires.held.known in
-    let t = c.requires.seat.1 in
-    let later : OnlyTraced v x = later-join v w x (later-store_length v w _ p refl c.store_length.ensures.view) (later-give w x _ p c.args.deferred c.give.ensures.view.1.1 c.give.ensures.view.1.0) in
-    let some : 0 < n = let d = c.if-length-eq0.false in omega (arith, d) in
-    let state = after-give v w x p n k (ap (λ (y : View). y.state) c.store_length.ensures.view) (ap (λ (y : View). y.state) c.give.ensures.view.1.0) ∙ given-full v.state p n k some t.uncredited in
-    (c.give.ensures.seat, traces-on v x later t (ap (λ (s : SeatState). s.reserved) state) (ap (λ (s : SeatState). s.credit) state))
+returns-else-length-eq0-clause-seat c = (c.give.ensures.seat, gave-traces c.requires.seat.1 c.requires.held.known c.store_length.ensures.view c.give.ensures.view.1 (let d = c.if-length-eq0.false in omega (arith, d)))

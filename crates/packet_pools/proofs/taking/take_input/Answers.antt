@@ -8,7 +8,7 @@ use Rattle.mark_core.specs.declared.seat.SeatState.{SeatState}
 use Rattle.gc_table.specs.declared.view.View.{View}
 use Rattle.gc_table.specs.Seats.{view_of}
 use Rattle.gc_table.specs.Log.{events}
-use Rattle.packet_pools.specs.Seeking.{AllMissed, NoInput, seen_outside, was_lost, was_got, only_moves}
+use Rattle.packet_pools.specs.Seeking.{NoInput, seen_outside, was_lost, was_got, only_moves}
 use Rattle.packet_pools.specs.Gains.{Gains, Misses, Takes}
 use Rattle.gc_table.proofs.Log.{events-join}
 use Rattle.packet_pools.proofs.TracedSteps.{later-join}
@@ -49,9 +49,8 @@ returns-in-None-clause-some c =
     let e = c.in-None.ensures in
     let f = c.take_any-in-None.ensures in
     let unreserved = ap (λ (s : SeatState). s.reserved) e.none.0 ∙ c.requires.seat.1.unreserved in
-    let missed : AllMissed v.shape 2 (events v u) = subst (λ s. AllMissed s 2 (events v u)) (sym c.requires.seat.0.1) (all-missed sh 2 (events v u) e.none.1) in
     if-some c.take_any-in-None.result (λ h. Gains 1 false h u w) (λ h. Takes (2 ∷ 1 ∷ []) h v w × (0 < h.length))
-    (λ h g. (takes-next 2 (1 ∷ []) h v u w e.later f.later e.none.0 (λ p. none-got sh 2 0 (64 * pool_words sh) p (events v u) e.none.1) missed e.none.1.moves (takes-first 1 [] false h u w unreserved g), low-some u.shape h.length g.range))
+    (λ h g. (takes-next sh 2 (1 ∷ []) h v u w c.requires.seat.0.1 e.later f.later e.none.0 e.none.1 (takes-first 1 [] false h u w unreserved g), low-some u.shape h.length g.range))
     f.some
 
 pub returns-in-None-clause-none : goal.returns-in-None-clause-none

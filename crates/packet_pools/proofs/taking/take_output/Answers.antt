@@ -9,7 +9,7 @@ use Rattle.gc_table.specs.declared.view.View.{View}
 use Rattle.gc_table.specs.Seats.{view_of}
 use Rattle.packet_pools.specs.declared.held.Held.{Held}
 use Rattle.gc_table.specs.Log.{events}
-use Rattle.packet_pools.specs.Seeking.{AllMissed, NoOutput, seen_outside, was_full, was_got, was_got_from, was_lost, only_moves}
+use Rattle.packet_pools.specs.Seeking.{NoOutput, seen_outside, was_full, was_got, was_got_from, was_lost, only_moves}
 use Rattle.packet_pools.specs.Gains.{ComesFrom, Gains, Misses, Takes}
 use Rattle.gc_table.proofs.Log.{events-join}
 use Rattle.packet_pools.proofs.TracedSteps.{later-join}
@@ -30,9 +30,6 @@ returns-in-Some-take_any-clause-seat c =
 pub returns-in-Some-take_any-clause-later : goal.returns-in-Some-take_any-clause-later
 returns-in-Some-take_any-clause-later c = later-join (view_of c.args.seat.now) (view_of c.take_empty.new.seat) (view_of c.take_any.new.seat) c.in_default.ensures.later c.in-Some-take_any.ensures.later
 
-missed-in : (sh : Shape) (v : View) (q : ℕ) (es : List Entry) → v.shape ≡ sh → Misses sh q false 0 (64 * pool_words sh) es → AllMissed v.shape q es
-missed-in sh v q es shape m = subst (λ s. AllMissed s q es) (sym shape) (all-missed sh q es m)
-
 pub returns-in-Some-take_any-clause-some : goal.returns-in-Some-take_any-clause-some
 returns-in-Some-take_any-clause-some c =
     let sh : Shape = c.args.heap.now.shape in
@@ -43,7 +40,7 @@ returns-in-Some-take_any-clause-some c =
     let e = c.in_default.ensures in
     let f = c.in-Some-take_any.ensures in
     let unreserved = ap (λ (s : SeatState). s.reserved) e.none.0 ∙ c.requires.seat.1.unreserved in (
-      takes-next 0 (1 ∷ 2 ∷ []) h v a b e.later f.later e.none.0 (λ p. none-got sh 0 0 (64 * pool_words sh) p (events v a) e.none.1) (missed-in sh v 0 (events v a) c.requires.seat.0.1 e.none.1) e.none.1.moves (takes-first 1 (2 ∷ []) false h a b unreserved f.some),
+      takes-next sh 0 (1 ∷ 2 ∷ []) h v a b c.requires.seat.0.1 e.later f.later e.none.0 e.none.1 (takes-first 1 (2 ∷ []) false h a b unreserved f.some),
       subst (λ (s : Shape). h.length < s.entries) e.seat.0.1 (low-room a.shape h.length f.some.range),
     )
 
@@ -87,8 +84,8 @@ returns-clause-some c =
     let unreserved = ap (λ (s : SeatState). s.reserved) (f.none.0 ∙ e.none.0) ∙ c.requires.seat.1.unreserved in
     if-some c.take_any-2.result (λ h. Gains 2 true h b d) (λ h. Takes (0 ∷ 1 ∷ 2 ∷ []) h v d × (h.length < sh.entries))
     (λ h k. (
-      takes-next 0 (1 ∷ 2 ∷ []) h v a d e.later (later-join a b d f.later g.later) e.none.0 (λ p. none-got sh 0 0 (64 * pool_words sh) p (events v a) e.none.1) (missed-in sh v 0 (events v a) c.requires.seat.0.1 e.none.1) e.none.1.moves
-          (takes-next 1 (2 ∷ []) h a b d f.later g.later f.none.0 (λ p. none-got sh 1 0 (64 * pool_words sh) p (events a b) f.none.1) (missed-in sh a 1 (events a b) e.seat.0.1 f.none.1) f.none.1.moves (takes-first 2 [] true h b d unreserved k)),
+      takes-next sh 0 (1 ∷ 2 ∷ []) h v a d c.requires.seat.0.1 e.later (later-join a b d f.later g.later) e.none.0 e.none.1
+          (takes-next sh 1 (2 ∷ []) h a b d e.seat.0.1 f.later g.later f.none.0 f.none.1 (takes-first 2 [] true h b d unreserved k)),
       subst (λ (s : Shape). h.length < s.entries) f.seat.1 (k.roomy refl),
     ))
     g.some
