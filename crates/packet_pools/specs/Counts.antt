@@ -1,11 +1,12 @@
 -- What the events of a scan count.
-use Rattle.std.specs.Prelude.{ℕ, ◌≡◌, ◌<◌, ◌+◌, ◌%◌, ◌&&◌, not, if◌then◌else◌, List, [], ◌∷◌, ◌++◌, Bool, true, false, IsTrue}
+use Rattle.std.specs.Prelude.{ℕ, ◌≡◌, ◌<◌, ◌+◌, ◌-◌, ◌%◌, ◌&&◌, not, if◌then◌else◌, List, [], ◌∷◌, ◌++◌, Bool, true, false, IsTrue}
 use Rattle.mark_core.specs.Bits.{has_bit}
 use Rattle.mark_core.specs.declared.kinds.Shape.{Shape}
 use Rattle.mark_core.specs.declared.kinds.Step.{Step}
 use Rattle.mark_core.specs.declared.kinds.Step.TheVariants.{Push, ReadField, SetMark, DirtyCard}
 use Rattle.gc_table.specs.declared.view.Entry.{Entry}
 use Rattle.packet_pools.specs.Seeking.{moves_packet, NoOutput}
+use Rattle.packet_pools.specs.declared.scanned.Scanned.{Scanned}
 
 -- a cell was marked that was white
 abbrev pub marks_white : Step → ℕ → Bool
@@ -51,3 +52,7 @@ pub record Counts (sh : Shape) (white kept lost : ℕ) (es : List Entry) : Type 
   pub overflowed : count_of dirties es ≡ lost
   pub cause : 0 < lost → SomeStretch (NoOutput sh) es
   pub scans : IsTrue (only_scans es)
+
+-- what a scan answers is what its events count
+abbrev pub CountsScanned : Shape → Scanned → List Entry → Type 0
+CountsScanned sh r es = Counts sh r.marked (r.marked - r.overflowed) r.overflowed es

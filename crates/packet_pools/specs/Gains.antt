@@ -51,3 +51,11 @@ pub record Misses (sh : Shape) (q : ℕ) (room : Bool) (lo hi : ℕ) (es : List 
   pub all : (p : ℕ) → lo ≤ p → p < hi → p < sh.packets → IsTrue (missed sh.entries q room p es)
   pub got : (p : ℕ) → IsTrue (was_got p es) → IsTrue room × (p < hi)
   pub moves : IsTrue (only_moves (q ∷ []) es)
+
+-- so it is of those packets, and the seat's record is as it was
+abbrev pub FindsNone : Shape → ℕ → Bool → ℕ → ℕ → View → View → Type 0
+FindsNone sh q room lo hi v w = (w.state ≡ v.state) × Misses sh q room lo hi (events v w)
+
+-- a search of these pools took nothing: this is true of its events, and the seat's record is as it was
+abbrev pub TakesNone : (List Entry → Type 0) → List ℕ → View → View → Type 0
+TakesNone P qs v w = (w.state ≡ v.state) × P (events v w) × IsTrue (only_moves qs (events v w))

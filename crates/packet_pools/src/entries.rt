@@ -13,7 +13,8 @@ use crate::held::{Held, PacketFull};
 use gc_table::{Heap, HeapSeat};
 use mark_core::Cell;
 
-/// Puts in a cell that the seat marked, or one that it popped and saw unpublished. A full packet is refused, and nothing changes then.
+/// Puts in a cell that the seat marked, or one that it popped and saw unpublished. A full packet is refused, and
+/// nothing changes then.
 #[inline(always)]
 pub fn push(heap: &Heap, seat: &mut HeapSeat, held: &mut Held, cell: Cell) -> Result<(), PacketFull>
     requires seat { IsTracer heap.now seat.old }
@@ -33,7 +34,8 @@ pub fn push(heap: &Heap, seat: &mut HeapSeat, held: &mut Held, cell: Cell) -> Re
     Ok(())
 }
 
-/// Takes out the cell that was put in last, which is then in the seat's hand. From an empty packet nothing comes, and nothing changes.
+/// Takes out the cell that was put in last, which is then in the seat's hand. From an empty packet nothing comes, and
+/// nothing changes.
 #[inline(always)]
 pub fn pop(heap: &Heap, seat: &mut HeapSeat, held: &mut Held) -> Option<Cell>
     requires seat { IsTracer heap.now seat.old }

@@ -1,5 +1,5 @@
 //! A cell that was loaded is marked, and goes into a packet.
-ghost use Rattle.std.specs.Prelude.{◌≡◌, ◌≤◌, ◌-◌, [], ◌∷◌, if◌then◌else◌, Some, None, IsTrue};
+ghost use Rattle.std.specs.Prelude.{◌≡◌, ◌≤◌, [], ◌∷◌, if◌then◌else◌, Some, None, IsTrue};
 ghost use Rattle.mark_core.specs.Held.{has_free_slot};
 ghost use Rattle.gc_table.specs.Seats.{view_of};
 ghost use Rattle.packet_pools.specs.OnlyTraced.{OnlyTraced, IsNotedMarked};
@@ -7,7 +7,7 @@ ghost use Rattle.gc_table.specs.Log.{events};
 ghost use Rattle.packet_pools.specs.Tracing.{IsTracer};
 ghost use Rattle.packet_pools.specs.Hands.{IsHeld};
 ghost use Rattle.packet_pools.specs.Scanning.{InHand, Pushes};
-ghost use Rattle.packet_pools.specs.Counts.{Counts};
+ghost use Rattle.packet_pools.specs.Counts.{Counts, CountsScanned};
 ghost use Rattle.packet_pools.specs.Fields.{Asks};
 
 use crate::entries::push;
@@ -39,8 +39,8 @@ fn push_marked(heap: &Heap, seat: &mut HeapSeat, out: &mut Held, cell: Cell) -> 
     }
 }
 
-/// Marks the cell that the seat loaded, and pushes it where it was white. The seat holds at most three packets, and the packet may be changed as
-/// [`scan_cell`](crate::scan_cell) says.
+/// Marks the cell that the seat loaded, and pushes it where it was white. The seat holds at most three packets, and
+/// the packet may be changed as [`scan_cell`](crate::scan_cell) says.
 #[inline(always)]
 pub fn mark_cell(heap: &Heap, seat: &mut HeapSeat, out: &mut Held, cell: Cell) -> Scanned
     requires seat { IsTracer heap.now seat.old }
@@ -50,7 +50,7 @@ pub fn mark_cell(heap: &Heap, seat: &mut HeapSeat, out: &mut Held, cell: Cell) -
     ensures later { OnlyTraced (view_of seat.old) (view_of seat.new) }
     ensures pushes { Pushes out.old out.new (view_of seat.old).state.scan (view_of seat.old).state.cleaning (view_of seat.old) (view_of seat.new) }
     ensures most { (result.overflowed ≤ result.marked) × (result.marked ≤ 1) }
-    ensures counts { Counts heap.now.shape result.marked (result.marked - result.overflowed) result.overflowed (events (view_of seat.old) (view_of seat.new)) }
+    ensures counts { CountsScanned heap.now.shape result (events (view_of seat.old) (view_of seat.new)) }
     ensures asks { Asks (cell ∷ []) (events (view_of seat.old) (view_of seat.new)) }
     ensures noted { IsTrue (view_of seat.old).state.alone → IsNotedMarked (view_of seat.new) cell }
 {

@@ -9,7 +9,7 @@ ghost use Rattle.gc_table.specs.Log.{events};
 ghost use Rattle.packet_pools.specs.Tracing.{IsTracer};
 ghost use Rattle.packet_pools.specs.Hands.{IsHeld};
 ghost use Rattle.packet_pools.specs.Scanning.{InHand, Pushes, scan_end, cleaning_end};
-ghost use Rattle.packet_pools.specs.Counts.{Counts};
+ghost use Rattle.packet_pools.specs.Counts.{CountsScanned};
 ghost use Rattle.packet_pools.specs.Fields.{Follows, fields_from, fields_left};
 
 use crate::held::Held;
@@ -29,7 +29,7 @@ fn scan_field(heap: &Heap, seat: &mut HeapSeat, out: &mut Held, cell: Cell, i: u
     ensures later { OnlyTraced (view_of seat.old) (view_of seat.new) }
     ensures pushes { Pushes out.old out.new (Some (cell, i + 1)) (without_cell (view_of seat.old).state.cleaning cell) (view_of seat.old) (view_of seat.new) }
     ensures most { (result.overflowed ≤ result.marked) × (result.marked ≤ 1) }
-    ensures counts { Counts heap.now.shape result.marked (result.marked - result.overflowed) result.overflowed (events (view_of seat.old) (view_of seat.new)) }
+    ensures counts { CountsScanned heap.now.shape result (events (view_of seat.old) (view_of seat.new)) }
     ensures follows { Follows ((cell, i) ∷ []) (events (view_of seat.old) (view_of seat.new)) }
 {
     let word = heap.read_field(seat, cell, i);
@@ -50,7 +50,7 @@ fn scan_fields(heap: &Heap, seat: &mut HeapSeat, out: &mut Held, cell: Cell, nex
     ensures later { OnlyTraced (view_of seat.old) (view_of seat.new) }
     ensures pushes { Pushes out.old out.new (scan_end heap.now.shape.fields (Some (cell, next))) (cleaning_end heap.now.shape.fields (Some (cell, next)) (view_of seat.old).state.cleaning) (view_of seat.old) (view_of seat.new) }
     ensures most { (result.overflowed ≤ result.marked) × (result.marked ≤ heap.now.shape.fields - next) }
-    ensures counts { Counts heap.now.shape result.marked (result.marked - result.overflowed) result.overflowed (events (view_of seat.old) (view_of seat.new)) }
+    ensures counts { CountsScanned heap.now.shape result (events (view_of seat.old) (view_of seat.new)) }
     ensures follows { Follows (fields_from cell next (heap.now.shape.fields - next)) (events (view_of seat.old) (view_of seat.new)) }
 {
     let mut scanned = Scanned::none();
@@ -62,7 +62,8 @@ fn scan_fields(heap: &Heap, seat: &mut HeapSeat, out: &mut Held, cell: Cell, nex
     scanned
 }
 
-/// Scans what is left of the seat's object in scan: reads each field, marks what it refers to, and pushes what was white.
+/// Scans what is left of the seat's object in scan: reads each field, marks what it refers to, and pushes what was
+/// white.
 ///
 /// The seat holds at most three packets. A full one goes back once another was taken, which then is the one in hand.
 /// Where no packet has room the marked cell's card is dirtied.
@@ -76,7 +77,7 @@ pub fn scan_cell(heap: &Heap, seat: &mut HeapSeat, out: &mut Held) -> Scanned
     ensures pushes { Pushes out.old out.new (scan_end heap.now.shape.fields (view_of seat.old).state.scan) (cleaning_end heap.now.shape.fields (view_of seat.old).state.scan (view_of seat.old).state.cleaning) (view_of seat.old) (view_of seat.new) }
     ensures work { IsFalse (cleaning_left (view_of seat.old).state.cleaning) → IsFalse (work_in_hand heap.now.shape.fields (view_of seat.new).state) }
     ensures most { (result.overflowed ≤ result.marked) × (result.marked ≤ heap.now.shape.fields) }
-    ensures counts { Counts heap.now.shape result.marked (result.marked - result.overflowed) result.overflowed (events (view_of seat.old) (view_of seat.new)) }
+    ensures counts { CountsScanned heap.now.shape result (events (view_of seat.old) (view_of seat.new)) }
     ensures follows { Follows (fields_left heap.now.shape.fields (view_of seat.old).state.scan) (events (view_of seat.old) (view_of seat.new)) }
 {
     match seat.state().scan {
@@ -97,7 +98,7 @@ pub fn scan_whole(heap: &Heap, seat: &mut HeapSeat, out: &mut Held, cell: Cell) 
     ensures pushes { Pushes out.old out.new (scan_end heap.now.shape.fields (view_of seat.old).state.scan) (cleaning_end heap.now.shape.fields (view_of seat.old).state.scan (view_of seat.old).state.cleaning) (view_of seat.old) (view_of seat.new) }
     ensures work { IsFalse (cleaning_left (view_of seat.old).state.cleaning) → IsFalse (work_in_hand heap.now.shape.fields (view_of seat.new).state) }
     ensures most { (result.overflowed ≤ result.marked) × (result.marked ≤ heap.now.shape.fields) }
-    ensures counts { Counts heap.now.shape result.marked (result.marked - result.overflowed) result.overflowed (events (view_of seat.old) (view_of seat.new)) }
+    ensures counts { CountsScanned heap.now.shape result (events (view_of seat.old) (view_of seat.new)) }
     ensures follows { Follows (fields_left heap.now.shape.fields (view_of seat.old).state.scan) (events (view_of seat.old) (view_of seat.new)) }
 {
     scan_fields(heap, seat, out, cell, 0)
@@ -113,7 +114,7 @@ pub fn scan_again(heap: &Heap, seat: &mut HeapSeat, out: &mut Held, cell: Cell) 
     ensures later { OnlyTraced (view_of seat.old) (view_of seat.new) }
     ensures pushes { Pushes out.old out.new (Some (cell, heap.now.shape.fields)) (without_cell (view_of seat.old).state.cleaning cell) (view_of seat.old) (view_of seat.new) }
     ensures most { (result.overflowed ≤ result.marked) × (result.marked ≤ heap.now.shape.fields) }
-    ensures counts { Counts heap.now.shape result.marked (result.marked - result.overflowed) result.overflowed (events (view_of seat.old) (view_of seat.new)) }
+    ensures counts { CountsScanned heap.now.shape result (events (view_of seat.old) (view_of seat.new)) }
     ensures follows { Follows (fields_from cell 0 heap.now.shape.fields) (events (view_of seat.old) (view_of seat.new)) }
 {
     let first = scan_field(heap, seat, out, cell, 0);

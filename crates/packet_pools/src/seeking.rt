@@ -7,7 +7,7 @@ ghost use Rattle.gc_table.specs.Seats.{Sits, view_of};
 ghost use Rattle.packet_pools.specs.OnlyTraced.{OnlyTraced};
 ghost use Rattle.gc_table.specs.Log.{events};
 ghost use Rattle.packet_pools.specs.Seeking.{only_moves, was_got};
-ghost use Rattle.packet_pools.specs.Gains.{Gains, Misses, Seeks, missed};
+ghost use Rattle.packet_pools.specs.Gains.{FindsNone, Gains, Seeks, missed};
 
 use crate::giving::give;
 use crate::held::Held;
@@ -22,7 +22,7 @@ fn take_packet(heap: &Heap, seat: &mut HeapSeat, q: u8, p: u32, room: bool) -> O
     ensures seat { Sits heap.now seat.new }
     ensures later { OnlyTraced (view_of seat.old) (view_of seat.new) }
     ensures some { IfSome result (λ h. Gains q room h (view_of seat.old) (view_of seat.new)) }
-    ensures none { IfNone result (((view_of seat.new).state ≡ (view_of seat.old).state) × Misses heap.now.shape q room p (p + 1) (events (view_of seat.old) (view_of seat.new))) }
+    ensures none { IfNone result (FindsNone heap.now.shape q room p (p + 1) (view_of seat.old) (view_of seat.new)) }
 {
     if !heap.take(seat, q, p) {
         return None;
@@ -68,7 +68,7 @@ fn take_in_word(heap: &Heap, seat: &mut HeapSeat, q: u8, g: u32, room: bool) -> 
     ensures seat { Sits heap.now seat.new }
     ensures later { OnlyTraced (view_of seat.old) (view_of seat.new) }
     ensures some { IfSome result (λ h. Gains q room h (view_of seat.old) (view_of seat.new)) }
-    ensures none { IfNone result (((view_of seat.new).state ≡ (view_of seat.old).state) × Misses heap.now.shape q room (64 * g) (64 * g + 64) (events (view_of seat.old) (view_of seat.new))) }
+    ensures none { IfNone result (FindsNone heap.now.shape q room (64 * g) (64 * g + 64) (view_of seat.old) (view_of seat.new)) }
 {
     let word = heap.look(seat, q, g);
     for p in 64 * g + word.trailing_zeros()..64 * g + 64 {
@@ -79,14 +79,15 @@ fn take_in_word(heap: &Heap, seat: &mut HeapSeat, q: u8, g: u32, room: bool) -> 
     None
 }
 
-/// Takes a packet out of pool q. Where it should have room, full ones go back. None comes only where each packet was seen outside the pool, was lost, or had no room.
+/// Takes a packet out of pool q. Where it should have room, full ones go back. None comes only where each packet was
+/// seen outside the pool, was lost, or had no room.
 pub(crate) fn take_any(heap: &Heap, seat: &mut HeapSeat, q: u8, room: bool) -> Option<Held>
     requires seat { Sits heap.now seat.old × Seeks q (view_of seat.old) }
     requires high { IsTrue room → q ≡ 2 }
     ensures seat { Sits heap.now seat.new }
     ensures later { OnlyTraced (view_of seat.old) (view_of seat.new) }
     ensures some { IfSome result (λ h. Gains q room h (view_of seat.old) (view_of seat.new)) }
-    ensures none { IfNone result (((view_of seat.new).state ≡ (view_of seat.old).state) × Misses heap.now.shape q room 0 (64 * pool_words heap.now.shape) (events (view_of seat.old) (view_of seat.new))) }
+    ensures none { IfNone result (FindsNone heap.now.shape q room 0 (64 * pool_words heap.now.shape) (view_of seat.old) (view_of seat.new)) }
 {
     for g in 0..heap.shape().packets.div_ceil(64) {
         if let Some(held) = take_in_word(heap, seat, q, g, room) {

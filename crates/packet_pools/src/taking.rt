@@ -1,13 +1,12 @@
 //! Packets are taken: to read cells from, to put cells in, or because they were put off.
-ghost use Rattle.std.specs.Prelude.{◌≡◌, ◌<◌, ◌*◌, [], ◌∷◌, false, IsTrue, IfSome, IfNone};
+ghost use Rattle.std.specs.Prelude.{◌<◌, ◌*◌, [], ◌∷◌, false, IsTrue, IfSome, IfNone};
 ghost use Rattle.mark_core.specs.Held.{has_free_slot};
 ghost use Rattle.mark_core.specs.Layout.{pool_words};
 ghost use Rattle.gc_table.specs.Seats.{view_of};
 ghost use Rattle.packet_pools.specs.OnlyTraced.{OnlyTraced};
-ghost use Rattle.gc_table.specs.Log.{events};
 ghost use Rattle.packet_pools.specs.Tracing.{IsTracer};
-ghost use Rattle.packet_pools.specs.Seeking.{NoInput, NoOutput, NoDeferred, only_moves};
-ghost use Rattle.packet_pools.specs.Gains.{Misses, Takes};
+ghost use Rattle.packet_pools.specs.Seeking.{NoDeferred, NoInput, NoOutput};
+ghost use Rattle.packet_pools.specs.Gains.{FindsNone, Takes, TakesNone};
 
 use crate::held::Held;
 use crate::seeking::take_any;
@@ -21,7 +20,7 @@ pub fn take_input(heap: &Heap, seat: &mut HeapSeat) -> Option<Held>
     ensures seat { IsTracer heap.now seat.new }
     ensures later { OnlyTraced (view_of seat.old) (view_of seat.new) }
     ensures some { IfSome result (λ h. Takes (2 ∷ 1 ∷ []) h (view_of seat.old) (view_of seat.new) × (0 < h.length)) }
-    ensures none { IfNone result (((view_of seat.new).state ≡ (view_of seat.old).state) × NoInput heap.now.shape (events (view_of seat.old) (view_of seat.new)) × IsTrue (only_moves (2 ∷ 1 ∷ []) (events (view_of seat.old) (view_of seat.new)))) }
+    ensures none { IfNone result (TakesNone (NoInput heap.now.shape) (2 ∷ 1 ∷ []) (view_of seat.old) (view_of seat.new)) }
 {
     match take_any(heap, seat, 2, false) {
         Some(held) => Some(held),
@@ -37,19 +36,20 @@ pub fn take_deferred(heap: &Heap, seat: &mut HeapSeat) -> Option<Held>
     ensures seat { IsTracer heap.now seat.new }
     ensures later { OnlyTraced (view_of seat.old) (view_of seat.new) }
     ensures some { IfSome result (λ h. Takes (3 ∷ []) h (view_of seat.old) (view_of seat.new) × (0 < h.length)) }
-    ensures none { IfNone result (((view_of seat.new).state ≡ (view_of seat.old).state) × NoDeferred heap.now.shape (events (view_of seat.old) (view_of seat.new)) × IsTrue (only_moves (3 ∷ []) (events (view_of seat.old) (view_of seat.new)))) }
+    ensures none { IfNone result (TakesNone (NoDeferred heap.now.shape) (3 ∷ []) (view_of seat.old) (view_of seat.new)) }
 {
     take_any(heap, seat, 3, false)
 }
 
-/// Takes an empty packet: the count of empty packets falls before one is looked for, and rises again where none was found.
+/// Takes an empty packet: the count of empty packets falls before one is looked for, and rises again where none was
+/// found.
 fn take_empty(heap: &Heap, seat: &mut HeapSeat) -> Option<Held>
     requires seat { IsTracer heap.now seat.old }
     requires free { IsTrue (has_free_slot (view_of seat.old).state.held) }
     ensures seat { IsTracer heap.now seat.new }
     ensures later { OnlyTraced (view_of seat.old) (view_of seat.new) }
     ensures some { IfSome result (λ h. Takes (0 ∷ []) h (view_of seat.old) (view_of seat.new)) }
-    ensures none { IfNone result (((view_of seat.new).state ≡ (view_of seat.old).state) × Misses heap.now.shape 0 false 0 (64 * pool_words heap.now.shape) (events (view_of seat.old) (view_of seat.new))) }
+    ensures none { IfNone result (FindsNone heap.now.shape 0 false 0 (64 * pool_words heap.now.shape) (view_of seat.old) (view_of seat.new)) }
 {
     heap.reserve(seat);
     match take_any(heap, seat, 0, false) {
@@ -61,15 +61,16 @@ fn take_empty(heap: &Heap, seat: &mut HeapSeat) -> Option<Held>
     }
 }
 
-/// Takes a packet with room: an empty one, else one of the low ones, else one of the fuller ones. The seat holds at most three.
-/// None comes only where each packet was seen outside these pools, was lost to another seat, or was taken and found full, in this call.
+/// Takes a packet with room: an empty one, else one of the low ones, else one of the fuller ones. The seat holds at
+/// most three. None comes only where each packet was seen outside these pools, was lost to another seat, or was taken
+/// and found full, in this call.
 pub fn take_output(heap: &Heap, seat: &mut HeapSeat) -> Option<Held>
     requires seat { IsTracer heap.now seat.old }
     requires free { IsTrue (has_free_slot (view_of seat.old).state.held) }
     ensures seat { IsTracer heap.now seat.new }
     ensures later { OnlyTraced (view_of seat.old) (view_of seat.new) }
     ensures some { IfSome result (λ h. Takes (0 ∷ 1 ∷ 2 ∷ []) h (view_of seat.old) (view_of seat.new) × (h.length < heap.now.shape.entries)) }
-    ensures none { IfNone result (((view_of seat.new).state ≡ (view_of seat.old).state) × NoOutput heap.now.shape (events (view_of seat.old) (view_of seat.new)) × IsTrue (only_moves (0 ∷ 1 ∷ 2 ∷ []) (events (view_of seat.old) (view_of seat.new)))) }
+    ensures none { IfNone result (TakesNone (NoOutput heap.now.shape) (0 ∷ 1 ∷ 2 ∷ []) (view_of seat.old) (view_of seat.new)) }
 {
     if let Some(held) = take_empty(heap, seat) {
         return Some(held);

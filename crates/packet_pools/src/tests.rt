@@ -55,7 +55,8 @@ fn begin(heap: &Heap, seat: &mut HeapSeat, k: u32) -> bool
     sees_marking(heap, seat, k)
 }
 
-/// The length of a packet that a seat takes when it begins, and whether all are empty while it has it and after it is given back.
+/// The length of a packet that a seat takes when it begins, and whether all are empty while it has it and after it is
+/// given back.
 fn one_packet(heap: &Heap, seat: &mut HeapSeat, k: u32) -> Option<(u32, bool, bool)>
     requires { At heap.now resting k seat.old }
 {
