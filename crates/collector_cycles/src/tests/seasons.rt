@@ -116,7 +116,7 @@ pub fn begin<R: Wait>(rt: &R, heap: &Heap, zero: &mut HeapSeat, one: &mut HeapSe
 }
 
 /// Tries to begin a cycle.
-fn start_marking(heap: &Heap, seat: &mut HeapSeat)
+fn try_marking(heap: &Heap, seat: &mut HeapSeat)
     requires seat { Carries heap.now seat.old }
     requires active { IsTrue (view_of seat.old).state.active }
     ensures { Carries heap.now seat.new }
@@ -132,6 +132,6 @@ pub fn marks(heap: &Heap, seat: &mut HeapSeat) -> bool
     if !seat.state().active {
         return false;
     }
-    start_marking(heap, seat);
+    try_marking(heap, seat);
     heap.read_phase(seat) == Phase::Marking
 }

@@ -48,7 +48,7 @@ pub fn sees_season(heap: &Heap, seat: &mut HeapSeat, season: u64) -> bool
 }
 
 /// Begins marking: true where the seat is active, and the phase was idle.
-pub fn begin_marking(heap: &Heap, seat: &mut HeapSeat) -> bool
+pub fn try_marking(heap: &Heap, seat: &mut HeapSeat) -> bool
     requires { Ready heap.now seat.old }
     ensures { Ready heap.now seat.new }
 {
@@ -64,7 +64,7 @@ pub fn both_mark(heap: &Heap, zero: &mut HeapSeat, one: &mut HeapSeat) -> bool
 {
     enter(heap, zero)
         && enter(heap, one)
-        && begin_marking(heap, one)
+        && try_marking(heap, one)
         && sees_phase(heap, zero, Phase::Marking)
         && sees_phase(heap, one, Phase::Marking)
 }
