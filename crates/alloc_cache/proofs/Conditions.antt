@@ -7,11 +7,11 @@ use Rattle.mark_core.specs.Places.{the_phase}
 use Rattle.mark_core.specs.Seats.{takes_part, may_mutate, free_in, has_making, has_used, is_unread, is_phase, is_the}
 use Rattle.mark_core.specs.MutatorSteps.{is_next_part, fits_part}
 use Rattle.mark_core.specs.WorldRules.{IsEmpty}
-use Rattle.mark_core.proofs.BlocksTaken.{Taken, mine, within, own-record}
-use Rattle.mark_core.proofs.WorldReading.{at-standing}
+use Rattle.mark_core.proofs.Blocks.BlocksTaken.{Taken, mine, within, own-record}
+use Rattle.mark_core.proofs.World.WorldReading.{at-standing}
 use Rattle.mark_core.specs.Strong.{IsStrongSeat}
 use Rattle.mark_core.specs.Views.{Standing}
-use Rattle.mark_core.proofs.NotesKept.{single-word}
+use Rattle.mark_core.proofs.Notes.NotesKept.{single-word}
 use Rattle.mark_core.specs.declared.kinds.Shape.{Shape}
 use Rattle.mark_core.specs.declared.kinds.Phase.TheVariants.{Idle}
 use Rattle.mark_core.specs.declared.kinds.Step.TheVariants.{ReadCount, ClaimBlock, ReadFree, ReleaseBlock, StoreNew, PublishCells, AddStat}

@@ -8,9 +8,7 @@ ghost use Rattle.gc_table.specs.Running.{Ran};
 
 use crate::cache::Cache;
 use gc_table::{Heap, HeapSeat};
-
-/// Which statistic counts the free cells.
-pub(crate) const FREE: u8 = 5;
+use mark_core::FREE;
 
 /// Claims block b, unless another seat has it or no cell of it is free. A block that was got and is full is released again.
 fn claim_block(heap: &Heap, seat: &mut HeapSeat, b: u32) -> Option<Cache>

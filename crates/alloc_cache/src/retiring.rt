@@ -9,9 +9,8 @@ ghost use Rattle.gc_table.specs.Log.{events, steps_of};
 ghost use Rattle.gc_table.specs.Running.{Ran};
 
 use crate::cache::Cache;
-use crate::claiming::FREE;
 use gc_table::{Heap, HeapSeat};
-use mark_core::used_bits;
+use mark_core::{FREE, used_bits};
 
 /// Publishes the cells that were made from this cache, all in one step on the allocation word of its block: exactly their bits are set. From then on
 /// tracers scan them, and stores in them go through the barrier. The seat owes no card.

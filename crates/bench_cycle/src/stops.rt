@@ -8,13 +8,11 @@ use crate::words::{Asked, Content};
 use alloc_cache::retire;
 use gc_cycle::{Safe, collect};
 use gc_table::{Heap, HeapSeat};
+use mark_core::FREE;
 use std::alloc::Global;
 use std::rt::Clock;
 use std::sync::Wait;
 use std::time::Instant;
-
-/// The number by which `read_stat` knows how many cells are free.
-const FREE: u8 = 5;
 
 /// A collection of a mutator without a cache: true where it goes on.
 #[inline(never)]

@@ -11,7 +11,7 @@ use Rattle.mark_core.specs.declared.kinds.Phase.TheVariants.{Idle, Marking, Drai
 use Rattle.mark_core.specs.declared.kinds.Shape.{Shape}
 use Rattle.mark_core.specs.declared.kinds.Step.{Step}
 use Rattle.mark_core.specs.declared.kinds.Step.TheVariants.{ReadPhase, StorePhase, NextBlock, ReadAlloc, ReadBlockMarks, StoreAlloc, ClearMarks, ReadStat}
-use Rattle.mark_core.proofs.NotesKept.{single-word}
+use Rattle.mark_core.proofs.Notes.NotesKept.{single-word}
 use Rattle.gc_table.specs.declared.view.View.{View}
 use Rattle.gc_table.specs.Taking.{after, May}
 use Rattle.gc_table.specs.Log.{Only}

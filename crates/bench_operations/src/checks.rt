@@ -1,8 +1,7 @@
 //! What a seat's record says.
 ghost use Rattle.std.specs.Prelude.{◌≡◌, ◌&&◌, ◌==◌, not, is_none, IsTrue};
 ghost use Rattle.std.specs.Bool.{OnTrue};
-ghost use Rattle.mark_core.specs.Seats.{is_bare as is_bare_seat, empty_handed as empty_handed_of, work_in_hand as work_in_hand_of, scan_left as scan_left_of, cleaning_left as cleaning_left_of, saw as saw_phase};
-ghost use Rattle.mark_core.specs.Held.{holds_any as holds_any_packet};
+ghost use Rattle.mark_core.specs.Seats.{is_bare as is_bare_seat, empty_handed as empty_handed_of, work_in_hand as work_in_hand_of, saw as saw_phase};
 ghost use Rattle.mark_core.specs.declared.kinds.Phase.TheVariants.{Marking};
 ghost use Rattle.gc_table.specs.Seats.{Sits, view_of};
 ghost use Rattle.packet_pools.specs.Tracing.{Traces};
@@ -10,7 +9,6 @@ ghost use Rattle.tracer.specs.Hands.{IsIdle, no_packets};
 ghost use Rattle.bench_operations.specs.Standing.{StandsAlone};
 
 use gc_table::{Heap, HeapSeat};
-use mark_core::{Cell, Cleaning, Phase};
 
 type Slots = [Option<(u32, Option<u32>, bool)>; 4];
 
@@ -18,52 +16,21 @@ type Slots = [Option<(u32, Option<u32>, bool)>; 4];
 pub fn is_bare(seat: &HeapSeat) -> bool
     ensures { result ≡ is_bare_seat (view_of seat.now).state }
 {
-    let s = seat.state();
-    !s.counted && !s.raised && !s.helping
-}
-
-fn holds_any(held: Slots) -> bool
-    ensures { result ≡ holds_any_packet held }
-{
-    held[0].is_some() || held[1].is_some() || held[2].is_some() || held[3].is_some()
+    seat.state().is_bare()
 }
 
 /// The seat has neither a packet, nor a reservation, nor a credit.
 pub fn empty_handed(seat: &HeapSeat) -> bool
     ensures { result ≡ empty_handed_of (view_of seat.now).state }
 {
-    let s = seat.state();
-    !holds_any(s.held) && !s.reserved && !s.credit
-}
-
-fn scan_left(fields: u32, scan: Option<(Cell, u8)>) -> bool
-    ensures { result ≡ scan_left_of fields scan }
-{
-    match scan {
-        None => false,
-        Some(x) => u32::from(x.1) < fields,
-    }
-}
-
-fn cleaning_left(cleaning: Option<Cleaning>) -> bool
-    ensures { result ≡ cleaning_left_of cleaning }
-{
-    match cleaning {
-        None => false,
-        Some(x) => !x.known || !(x.left == 0) || x.redirty,
-    }
+    seat.state().empty_handed()
 }
 
 /// The seat has a grey cell, or something that may lead to one.
 pub fn work_in_hand(fields: u32, seat: &HeapSeat) -> bool
     ensures { result ≡ work_in_hand_of fields (view_of seat.now).state }
 {
-    let s = seat.state();
-    s.popped.is_some()
-        || scan_left(fields, s.scan)
-        || s.value.is_some()
-        || s.fresh.is_some()
-        || cleaning_left(s.cleaning)
+    seat.state().work_in_hand(fields)
 }
 
 /// The seat owes no card, has no block to make cells in, and no reference in its register.
@@ -78,12 +45,7 @@ pub fn owns_nothing(seat: &HeapSeat) -> bool
 fn is_marking(seat: &HeapSeat) -> bool
     ensures { result ≡ ((view_of seat.now).state.active && saw_phase (view_of seat.now).state.phase_seen Marking) }
 {
-    let s = seat.state();
-    s.active
-        && match s.phase_seen {
-            Some(Phase::Marking) => true,
-            _ => false,
-        }
+    seat.state().is_marking()
 }
 
 fn are_bare(held: Slots) -> bool

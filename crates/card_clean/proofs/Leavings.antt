@@ -23,6 +23,7 @@ use Rattle.gc_table.specs.Log.{events, all_steps}
 use Rattle.packet_pools.specs.Seeking.{moves_packet, only_moves}
 use Rattle.card_clean.specs.Leaving.{rescans, rescanned_in}
 use Rattle.card_clean.specs.Passing.{draws_card}
+use Rattle.mark_core.specs.Cards.{block_of_card}
 
 total-join : (xs ys : List Entry) (v : View) → rescanned_in v (xs ++ ys) ≡ rescanned_in v xs + rescanned_in (after_all xs v) ys
 total-join [] ys v = omega arith
@@ -69,7 +70,7 @@ left-after sh s step n c o e = refl
 
 left-gone : (o : Option Cleaning) (c : ℕ) → left_in (without_cell o c) c ≡ false
 left-gone None c = refl
-left-gone (Some x) c = by_block (x.card / 4 == c / 64) refl
+left-gone (Some x) c = by_block (block_of_card x.card == c / 64) refl
   where
     less : Cleaning
     less = record x { left = without_bit x.left (c % 64); published = without_bit x.published (c % 64) }
@@ -78,8 +79,8 @@ left-gone (Some x) c = by_block (x.card / 4 == c / 64) refl
     and_false true d e = e
     and_false false d e = refl
 
-    by_block : (b : Bool) → (x.card / 4 == c / 64) ≡ b → left_in (Some (cond b less x)) c ≡ false
-    by_block true e = and_false (x.card / 4 == c / 64) _ (without_same x.left (c % 64) (omega arith))
+    by_block : (b : Bool) → (block_of_card x.card == c / 64) ≡ b → left_in (Some (cond b less x)) c ≡ false
+    by_block true e = and_false (block_of_card x.card == c / 64) _ (without_same x.left (c % 64) (omega arith))
     by_block false e = ap (λ b. b && has_bit x.left (c % 64)) e
 
 abbrev pub first_of : List (ℕ × ℕ) → ℕ × ℕ
@@ -135,7 +136,7 @@ one-leaves c (e ∷ es) v i n o p l =
 -- a cell that may be scanned is left
 pub scan-left : (o : Option Cleaning) (c : ℕ) → may_scan o c ≡ true → left_in o c ≡ true
 scan-left None c e = e
-scan-left (Some x) c e = (and_parts (in_set (x.card / 4) x.left c) (in_set (x.card / 4) x.published c) e).0
+scan-left (Some x) c e = (and_parts (in_set (block_of_card x.card) x.left c) (in_set (block_of_card x.card) x.published c) e).0
 
 -- the same in the events of a call
 pub rescanned-events : (v : View) (es fs : List Entry) → es ≡ fs → rescanned_in v es ≡ rescanned_in v fs

@@ -9,7 +9,7 @@ use Rattle.mark_core.specs.Seats.{is_the, may_mutate}
 use Rattle.mark_core.specs.WellFormed.{IsSeat}
 use Rattle.mark_core.specs.declared.kinds.Shape.{Shape}
 use Rattle.mark_core.specs.declared.kinds.Step.TheVariants.{StoreField, StoreValue, DirtyCard, ReadCount}
-use Rattle.mark_core.proofs.BlocksTaken.{Taken}
+use Rattle.mark_core.proofs.Blocks.BlocksTaken.{Taken}
 use Rattle.plain_heap.specs.PlainHeap.{variable}
 use Rattle.plain_heap.specs.declared.object.Ref.{Ref}
 use Rattle.plain_heap.specs.declared.object.Ref.TheVariants as refs

@@ -1,6 +1,6 @@
 -- What the events of a cleaning tell.
 use Rattle.std.specs.Prelude.{ℕ, ◌≡◌, ◌/◌, ◌⊎◌, ◌==◌, ◌||◌, not, if◌then◌else◌, nat_lt, List, [], ◌∷◌, ◌++◌, length, Bool, false, Some, bit_and}
-use Rattle.mark_core.specs.Bits.{card_bits, complement}
+use Rattle.mark_core.specs.Bits.{complement}
 use Rattle.mark_core.specs.declared.kinds.Shape.{Shape}
 use Rattle.mark_core.specs.declared.kinds.Step.TheVariants.{ClearCard, DirtyCard, ReadAlloc, ReadMarks}
 use Rattle.gc_table.specs.declared.view.Entry.{Entry}
@@ -10,6 +10,7 @@ use Rattle.card_clean.specs.declared.cleaned.Cleaned.{Cleaned}
 use Rattle.card_clean.specs.Cells.{cells_of_card}
 use Rattle.card_clean.specs.Rescanning.{Rescans, seen_cells}
 use Rattle.card_clean.specs.Taking.{CleansWithPacket}
+use Rattle.mark_core.specs.Cards.{block_of_card, card_bits}
 
 -- the card has a marked cell that isn't published, by the mark and allocation bits of its block
 abbrev pub has_unpublished : ℕ → ℕ → ℕ → Bool
@@ -26,7 +27,7 @@ pub record LearnsCells (card left : ℕ) (debt : Bool) (v w : View) : Type 0 whe
   pub left_is : left ≡ published_cells card marks allocs
   pub debt_is : debt ≡ has_unpublished card marks allocs
   pub state : w.state ≡ record v.state { cleaning = Some (seen_cells card left debt) }
-  pub events_are : events v w ≡ event (ReadMarks (card / 4)) marks ∷ event (ReadAlloc (card / 4)) allocs ∷ []
+  pub events_are : events v w ≡ event (ReadMarks (block_of_card card)) marks ∷ event (ReadAlloc (block_of_card card)) allocs ∷ []
 
 -- the card was found clean: nothing else was done
 pub record FoundClean (card : ℕ) (r : Cleaned) (es : List Entry) : Type 0 where
@@ -39,7 +40,7 @@ pub record RescansCard (sh : Shape) (card : ℕ) (r : Cleaned) (es : List Entry)
   pub allocs : ℕ
   pub scan : List Entry
   pub lost : ℕ
-  pub events_are : es ≡ event (ReadMarks (card / 4)) marks ∷ event (ReadAlloc (card / 4)) allocs ∷ (scan ++ (if r.redirtied then event (DirtyCard card) 1 ∷ [] else []))
+  pub events_are : es ≡ event (ReadMarks (block_of_card card)) marks ∷ event (ReadAlloc (block_of_card card)) allocs ∷ (scan ++ (if r.redirtied then event (DirtyCard card) 1 ∷ [] else []))
   pub rescans : Rescans sh (cells_of_card card (published_cells card marks allocs)) lost scan
   pub rescanned : r.rescanned ≡ length (cells_of_card card (published_cells card marks allocs))
   pub redirtied : r.redirtied ≡ (has_unpublished card marks allocs || nat_lt 0 lost)

@@ -1,5 +1,6 @@
 -- The pass over all cards, whose next card the seats draw from one counter.
 use Rattle.std.specs.Prelude.{ℕ, ◌≡◌, ◌<◌, ◌≤◌, ◌⊎◌, ◌||◌, if◌then◌else◌, nat_lt, [], ◌∷◌, Bool, true, false, Option, Some, None, unwrap_or}
+use Rattle.mark_core.specs.Numbers.{card_counter}
 use Rattle.mark_core.specs.Layout.{card_count}
 use Rattle.mark_core.specs.Places.{the_next_card}
 use Rattle.mark_core.specs.declared.kinds.Step.{Step}
@@ -13,19 +14,19 @@ use Rattle.gc_table.specs.Log.{events, event}
 -- the counter was read, and it was at its end
 pub record PassIsOver (v w : View) : Type 0 where
   pub seen : ℕ
-  pub finds : Finds (ReadStat 0) seen v
+  pub finds : Finds (ReadStat card_counter) seen v
   pub over : card_count v.shape ≤ seen
-  pub view : w ≡ after (ReadStat 0) seen v
-  pub events_are : events v w ≡ event (ReadStat 0) seen ∷ []
+  pub view : w ≡ after (ReadStat card_counter) seen v
+  pub events_are : events v w ≡ event (ReadStat card_counter) seen ∷ []
 
 -- the counter was read below its end, and raised: it was n then
 pub record Draws (n : ℕ) (v w : View) : Type 0 where
   pub seen : ℕ
-  pub finds : Finds (ReadStat 0) seen v
+  pub finds : Finds (ReadStat card_counter) seen v
   pub under : seen < card_count v.shape
-  pub draws : Finds NextOfCards n (after (ReadStat 0) seen v)
-  pub view : w ≡ after NextOfCards n (after (ReadStat 0) seen v)
-  pub events_are : events v w ≡ event (ReadStat 0) seen ∷ event NextOfCards n ∷ []
+  pub draws : Finds NextOfCards n (after (ReadStat card_counter) seen v)
+  pub view : w ≡ after NextOfCards n (after (ReadStat card_counter) seen v)
+  pub events_are : events v w ≡ event (ReadStat card_counter) seen ∷ event NextOfCards n ∷ []
 
 -- the next card, or none where the counter was seen to have reached the number of cards
 abbrev pub DrawsCard : Option ℕ → View → View → Type 0

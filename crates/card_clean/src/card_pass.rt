@@ -8,8 +8,9 @@ ghost use Rattle.packet_pools.specs.Tracing.{IsTracer};
 ghost use Rattle.card_clean.specs.Passing.{DrawsCard, card_floor, draws_card, keeps_floor};
 
 use gc_table::{Heap, HeapSeat};
+use mark_core::{CARD_CELLS, CARD_COUNTER};
 
-/// The next card of this cycle's pass: its number, below the number of cells divided by 16. None comes where the counter was seen to have
+/// The next card of this cycle's pass: its number, below the number of cards. None comes where the counter was seen to have
 /// reached the number of cards. It is raised at most once, and only where it was read below its end. The seat may trace.
 ///
 /// To a seat that helps, or that stopped the world, the numbers rise: each card that it draws lies above those that it drew before. So a loop
@@ -24,8 +25,8 @@ pub fn next_card(heap: &Heap, seat: &mut HeapSeat) -> Option<u32>
     ensures there { IfSome result (λ card. card < card_count heap.now.shape) }
     ensures rises { IfSome result (λ card. IsTrue (keeps_floor (view_of seat.old).state) → (card_floor (view_of seat.old) ≤ card) × (card_floor (view_of seat.new) ≡ card + 1)) }
 {
-    let end = u64::from(heap.shape().cells / 16);
-    if heap.read_stat(seat, 0) >= end {
+    let end = u64::from(heap.shape().cells / CARD_CELLS);
+    if heap.read_stat(seat, CARD_COUNTER) >= end {
         return None;
     }
     let number = heap.next_of_cards(seat);

@@ -4,7 +4,7 @@ ghost use Rattle.std.specs.Prelude.{◌≡◌, false};
 /// What cleaning a card came to.
 #[derive(Clone, Copy, Debug, PartialEq, Eq)]
 pub struct Cleaned {
-    /// How many of its cells were scanned again: at most 16.
+    /// How many of its cells were scanned again: at most the cells of a card.
     pub rescanned: u32,
     /// Whether it was dirtied again: it has a marked cell that isn't published, or a cell found no packet with room.
     pub redirtied: bool,

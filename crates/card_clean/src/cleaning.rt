@@ -1,5 +1,6 @@
 //! One card is cleaned.
 ghost use Rattle.std.specs.Prelude.{◌≡◌, ◌<◌, ◌≤◌, ◌⊎◌, ◌||◌, nat_lt, [], ◌∷◌, if◌then◌else◌, Some, None, IsTrue, IsFalse};
+ghost use Rattle.mark_core.specs.Cards.{card_cells};
 ghost use Rattle.mark_core.specs.Layout.{card_count};
 ghost use Rattle.mark_core.specs.Held.{has_free_slot};
 ghost use Rattle.mark_core.specs.Seats.{scan_left, work_in_hand};
@@ -17,6 +18,7 @@ ghost use Rattle.card_clean.specs.Rescanning.{OnlyOwes, just_cleared, left_word}
 use crate::cleaned::Cleaned;
 use crate::rescanning::rescan_cells;
 use gc_table::{Heap, HeapSeat};
+use mark_core::BLOCK_CARDS;
 use packet_pools::Held;
 
 /// The cells that are left in the seat's cleaning, and whether its card must be dirtied again.
@@ -39,8 +41,8 @@ fn read_block(heap: &Heap, seat: &mut HeapSeat, card: u32) -> (u64, bool)
     ensures later { OnlyTraced (view_of seat.old) (view_of seat.new) }
     ensures learns { LearnsCells card result.0 result.1 (view_of seat.old) (view_of seat.new) }
 {
-    heap.read_marks(seat, card / 4);
-    heap.read_alloc(seat, card / 4);
+    heap.read_marks(seat, card / BLOCK_CARDS);
+    heap.read_alloc(seat, card / BLOCK_CARDS);
     what_is_left(seat)
 }
 
@@ -82,7 +84,7 @@ fn rescan_card(heap: &Heap, seat: &mut HeapSeat, card: u32, out: &mut Held) -> C
     ensures out { Fills out.old out.new (view_of seat.old) (view_of seat.new) }
     ensures work { IsFalse (work_in_hand heap.now.shape.fields (view_of seat.new).state) }
     ensures owes { ((view_of seat.new).state.owes ≡ (view_of seat.old).state.owes) ⊎ ((view_of seat.new).state.owes ≡ None) }
-    ensures most { result.rescanned ≤ 16 }
+    ensures most { result.rescanned ≤ card_cells }
     ensures left { rescanned_in (view_of seat.old) (events (view_of seat.old) (view_of seat.new)) ≡ result.rescanned }
     ensures rescans { RescansCard heap.now.shape card result (events (view_of seat.old) (view_of seat.new)) }
 {
@@ -113,7 +115,7 @@ fn rescan_card(heap: &Heap, seat: &mut HeapSeat, card: u32, out: &mut Held) -> C
 /// Now the card is clean and c was read, and nothing leads a tracer to x. With the clearing first, a mutator that stores after c was read here dirties
 /// the card after it was cleared, so it is dirty when this call returns.
 ///
-/// The card is below the number of cells divided by 16. The seat may trace, has no work in hand, and holds at most three packets, `out` among them;
+/// The card is below the number of cards. The seat may trace, has no work in hand, and holds at most three packets, `out` among them;
 /// `out` may be exchanged for another packet as [`scan_cell`](packet_pools::scan_cell) says.
 pub fn clean_card(heap: &Heap, seat: &mut HeapSeat, card: u32, out: &mut Held) -> Cleaned
     requires seat { IsTracer heap.now seat.old }
@@ -125,7 +127,7 @@ pub fn clean_card(heap: &Heap, seat: &mut HeapSeat, card: u32, out: &mut Held) -
     ensures out { Fills out.old out.new (view_of seat.old) (view_of seat.new) }
     ensures work { IsFalse (work_in_hand heap.now.shape.fields (view_of seat.new).state) }
     ensures owes { ((view_of seat.new).state.owes ≡ (view_of seat.old).state.owes) ⊎ ((view_of seat.new).state.owes ≡ None) }
-    ensures most { result.rescanned ≤ 16 }
+    ensures most { result.rescanned ≤ card_cells }
     ensures left { rescanned_in (view_of seat.old) (events (view_of seat.old) (view_of seat.new)) ≡ result.rescanned }
     ensures cleans { Cleans heap.now.shape card result (events (view_of seat.old) (view_of seat.new)) }
 {

@@ -1,5 +1,6 @@
 //! A look at every card, and a pass over all cards that cleans the dirty ones.
 ghost use Rattle.std.specs.Prelude.{◌≡◌, ◌<◌, ◌≤◌, ◌-◌, IsTrue, IsFalse, IfSome, IfNone};
+ghost use Rattle.mark_core.specs.Cards.{card_cells};
 ghost use Rattle.mark_core.specs.Layout.{card_count};
 ghost use Rattle.mark_core.specs.Held.{has_free_slot};
 ghost use Rattle.mark_core.specs.Seats.{work_in_hand};
@@ -18,6 +19,7 @@ ghost use Rattle.packet_pools.specs.Hands.{free_slots};
 use crate::cleaning::clean_card;
 use crate::taking::take_some;
 use gc_table::{Heap, HeapSeat};
+use mark_core::CARD_CELLS;
 use packet_pools::{Held, give};
 
 /// The first dirty card from this one on: a look at each card, and nothing more. Where there is none a seat that is alone knows all these cards clean.
@@ -31,7 +33,7 @@ pub(crate) fn first_dirty(heap: &Heap, seat: &mut HeapSeat, from: u32) -> Option
     ensures clean { IfNone result (events (view_of seat.old) (view_of seat.new) ≡ looks_clean from (card_count heap.now.shape)) }
     ensures noted { IfNone result (IsTrue (view_of seat.old).state.alone → AreNotedClean from (card_count heap.now.shape) (view_of seat.new)) }
 {
-    for card in from..heap.shape().cells / 16 {
+    for card in from..heap.shape().cells / CARD_CELLS {
         if heap.read_card(seat, card) {
             return Some(card);
         }
@@ -49,7 +51,7 @@ fn clean_where_dirty(heap: &Heap, seat: &mut HeapSeat, card: u32, out: &mut Held
     ensures later { OnlyCleaned (view_of seat.old) (view_of seat.new) }
     ensures out { Fills out.old out.new (view_of seat.old) (view_of seat.new) }
     ensures work { IsFalse (work_in_hand heap.now.shape.fields (view_of seat.new).state) }
-    ensures most { result ≤ 16 }
+    ensures most { result ≤ card_cells }
     ensures left { rescanned_in (view_of seat.old) (events (view_of seat.old) (view_of seat.new)) ≡ result }
     ensures cleans { CleanedWhereDirty heap.now.shape card result (events (view_of seat.old) (view_of seat.new)) }
 {
@@ -74,7 +76,7 @@ fn clean_from(heap: &Heap, seat: &mut HeapSeat, from: u32, out: &mut Held) -> u3
     ensures cleans { CleanedFrom heap.now.shape from (card_count heap.now.shape - from) result (events (view_of seat.old) (view_of seat.new)) }
 {
     let mut rescanned = 0;
-    for card in from..heap.shape().cells / 16 {
+    for card in from..heap.shape().cells / CARD_CELLS {
         rescanned += clean_where_dirty(heap, seat, card, out);
     }
     rescanned

@@ -1,6 +1,6 @@
 //! Cards: a mutator's barrier dirties them, and tracers clean them.
 //!
-//! A heap is cut into cards of 16 cells. While tracers read the fields of objects, mutators store in them, so an object that was scanned may refer to
+//! A heap is cut into cards (`mark_core` says of how many cells). While tracers read the fields of objects, mutators store in them, so an object that was scanned may refer to
 //! a white cell since. Its card says so: it is dirty. To clean a card is to scan its marked objects again (as in Boehm and others, "Mostly parallel
 //! garbage collection", PLDI 1991, with pages for cards, and in Barabash and others, TOPLAS 2005, whose cards these are). Throughout a cycle a marked
 //! published object that refers to a white cell is in a packet or in somebody's hand, or its card is dirty, owed by a mutator, or being cleaned.

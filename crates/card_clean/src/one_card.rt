@@ -1,5 +1,6 @@
 //! A card is cleaned with a packet that is taken for it.
 ghost use Rattle.std.specs.Prelude.{◌≡◌, ◌<◌, ◌≤◌, ◌⊎◌, [], ◌∷◌, None, IsTrue, IsFalse, IfSome, IfNone};
+ghost use Rattle.mark_core.specs.Cards.{card_cells};
 ghost use Rattle.mark_core.specs.Layout.{card_count};
 ghost use Rattle.mark_core.specs.Seats.{work_in_hand};
 ghost use Rattle.gc_table.specs.Seats.{view_of};
@@ -30,7 +31,7 @@ pub fn clean_one(heap: &Heap, seat: &mut HeapSeat, card: u32) -> Option<Cleaned>
     ensures held { (view_of seat.new).state.held ≡ (view_of seat.old).state.held }
     ensures work { IsFalse (work_in_hand heap.now.shape.fields (view_of seat.new).state) }
     ensures owes { ((view_of seat.new).state.owes ≡ (view_of seat.old).state.owes) ⊎ ((view_of seat.new).state.owes ≡ None) }
-    ensures some { IfSome result (λ r. CleansOne heap.now.shape card r (events (view_of seat.old) (view_of seat.new)) × (r.rescanned ≤ 16) × (rescanned_in (view_of seat.old) (events (view_of seat.old) (view_of seat.new)) ≡ r.rescanned)) }
+    ensures some { IfSome result (λ r. CleansOne heap.now.shape card r (events (view_of seat.old) (view_of seat.new)) × (r.rescanned ≤ card_cells) × (rescanned_in (view_of seat.old) (events (view_of seat.old) (view_of seat.new)) ≡ r.rescanned)) }
     ensures none { IfNone result (((view_of seat.new).state ≡ (view_of seat.old).state) × NoOutput heap.now.shape (events (view_of seat.old) (view_of seat.new)) × IsTrue (only_moves (0 ∷ 1 ∷ 2 ∷ []) (events (view_of seat.old) (view_of seat.new))) × (rescanned_in (view_of seat.old) (events (view_of seat.old) (view_of seat.new)) ≡ 0)) }
 {
     let Some(mut out) = take_output(heap, seat) else {

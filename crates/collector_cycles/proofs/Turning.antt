@@ -8,7 +8,7 @@ use Rattle.mark_core.specs.declared.kinds.Phase.TheVariants.{Idle}
 use Rattle.mark_core.specs.declared.kinds.Shape.{Shape}
 use Rattle.mark_core.specs.declared.kinds.Step.{Step}
 use Rattle.mark_core.specs.declared.kinds.Step.TheVariants.{NextSeason, Observe, ReadPhase}
-use Rattle.mark_core.proofs.NotesKept.{single-word}
+use Rattle.mark_core.proofs.Notes.NotesKept.{single-word}
 use Rattle.gc_table.specs.Running.{Alone, Ran, changes_section}
 use Rattle.gc_table.specs.Log.{Only}
 use Rattle.gc_table.specs.Taking.{May}

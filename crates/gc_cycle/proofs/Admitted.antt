@@ -3,6 +3,7 @@ use Rattle.std.proofs.Common.{ℕ, ◌≡◌, ◌≤◌, ◌+◌, zero-add, List
 use Rattle.std.specs.Prelude.{◌==◌, if◌then◌else◌, is_none, nat_lt, unwrap_or}
 use Rattle.std.specs.List.{list_all, list_any, range_with_len}
 use Rattle.std.proofs.lemmas.Bool.{and_from, and_parts, cases_Bool, false≢true, not-true, or_cases, or_from, or_left, or_parts, or_right, true≢false}
+use Rattle.mark_core.specs.Cards.{card_cells}
 use Rattle.mark_core.specs.Effects.{place, seat_after}
 use Rattle.mark_core.specs.Held.{Slot, Slots}
 use Rattle.mark_core.specs.Layout.{card_count}
@@ -269,7 +270,7 @@ trace-stops stops.NoPacket k before quota r v w e q m t n =
     (λ f. let g : r.stopped ≡ stops.Quota = t.all.1 (omega (arith, f, q)) in let x : stops.NoPacket ≡ stops.Quota = sym e ∙ g in absurd (cc x), t.no_packet e)
 
 -- a card was cleaned, and then the helper traced
-pub cleaned-on : (quota card k n : ℕ) (before : Helped) (r : Traced) (v w x : View) → Helps v → HasTraced v w → HasTraced w x → rescanned_in v (events v w) ≡ n → some_event (clears_card card) (events v w) ≡ true → n ≤ 16 → never pops (events v w) ≡ true → never draws (events v w) ≡ true → EndsTrace k r w x → r.done ≤ k → before.traced + k ≡ quota → rescanned_in w (events w x) ≡ 0 → never draws_or_clears (events w x) ≡ true → CleansOn quota card before (record { traced = before.traced + r.done; rescanned = before.rescanned + n; swept = before.swept; ended = end_as r.stopped }) v x
+pub cleaned-on : (quota card k n : ℕ) (before : Helped) (r : Traced) (v w x : View) → Helps v → HasTraced v w → HasTraced w x → rescanned_in v (events v w) ≡ n → some_event (clears_card card) (events v w) ≡ true → n ≤ card_cells → never pops (events v w) ≡ true → never draws (events v w) ≡ true → EndsTrace k r w x → r.done ≤ k → before.traced + k ≡ quota → rescanned_in w (events w x) ≡ 0 → never draws_or_clears (events w x) ≡ true → CleansOn quota card before (record { traced = before.traced + r.done; rescanned = before.rescanned + n; swept = before.swept; ended = end_as r.stopped }) v x
 cleaned-on quota card k n before r v w x h a b s c few p d t m q z u =
     let first = traced-helps v w h a in
     let second = traced-helps w x first.helps b in

@@ -22,7 +22,8 @@ use Rattle.packet_pools.specs.Fields.{picked}
 use Rattle.packet_pools.specs.Seeking.{some_event}
 use Rattle.packet_pools.proofs.Searches.{some-parts}
 use Rattle.stop_world.specs.Gates.{IsDone}
-use Rattle.alloc_cache.specs.Claiming.{claimed_by, free_count}
+use Rattle.mark_core.specs.Numbers.{free_count}
+use Rattle.alloc_cache.specs.Claiming.{claimed_by}
 use Rattle.alloc_cache.specs.declared.cache.Cache.{Cache}
 use Rattle.gc_cycle.specs.Answering.{answers, GetsCache, KeepsOn, TellsFull}
 use Rattle.gc_cycle.specs.declared.counts.Paid.{Paid}

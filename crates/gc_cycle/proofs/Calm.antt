@@ -7,7 +7,7 @@ use Rattle.mark_core.specs.Seats.{cleaning_left, left_in}
 use Rattle.mark_core.specs.declared.kinds.Step.{Step}
 use Rattle.mark_core.specs.declared.kinds.Step.TheVariants.{Reserve, Take, Give, Credit, Push, Pop, Look, ReadAlloc, ReadField, ReadRoot, SetMark, DirtyCard, StoreLength, ReadLength}
 use Rattle.mark_core.specs.declared.seat.Cleaning.{Cleaning}
-use Rattle.mark_core.proofs.MarksIdle.{left-works}
+use Rattle.mark_core.proofs.Marks.MarksIdle.{left-works}
 use Rattle.gc_table.specs.Log.{all_steps}
 use Rattle.gc_table.specs.Taking.{after}
 use Rattle.gc_table.specs.declared.view.Entry.{Entry}

@@ -11,7 +11,7 @@ use Rattle.mark_core.specs.WorldSteps.{cards_clean, roots_marked}
 use Rattle.mark_core.specs.declared.kinds.Phase.TheVariants.{Drain, Sweep}
 use Rattle.mark_core.specs.declared.kinds.Shape.{Shape}
 use Rattle.mark_core.specs.declared.kinds.Step.TheVariants.{StorePhase}
-use Rattle.mark_core.proofs.NotesKept.{single-word}
+use Rattle.mark_core.proofs.Notes.NotesKept.{single-word}
 use Rattle.mark_core.proofs.Places.{region-length}
 use Rattle.gc_table.specs.Rule.{Agrees, IsState}
 use Rattle.gc_table.specs.Taking.{May}

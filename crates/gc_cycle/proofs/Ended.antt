@@ -13,10 +13,10 @@ use Rattle.mark_core.specs.WorldRules.{is_resting, IsCalm, NoneActive}
 use Rattle.mark_core.specs.declared.kinds.Phase.TheVariants.{Idle}
 use Rattle.mark_core.specs.declared.kinds.Shape.{Shape}
 use Rattle.mark_core.specs.declared.seat.SeatState.{SeatState}
-use Rattle.mark_core.proofs.CountRange.{count-same}
-use Rattle.mark_core.proofs.FormedWords.{word-in}
-use Rattle.mark_core.proofs.NotesBeside.{Sits, sits}
-use Rattle.mark_core.proofs.NotesKept.{single-word, word-found}
+use Rattle.mark_core.proofs.Count.CountRange.{count-same}
+use Rattle.mark_core.proofs.Formed.FormedWords.{word-in}
+use Rattle.mark_core.proofs.Notes.NotesBeside.{Sits, sits}
+use Rattle.mark_core.proofs.Notes.NotesKept.{single-word, word-found}
 use Rattle.gc_table.specs.Rule.{Agrees, IsState}
 use Rattle.gc_table.specs.TableState.{TableState}
 use Rattle.gc_table.specs.declared.view.View.{View}

@@ -12,7 +12,7 @@ use Rattle.mark_core.specs.declared.kinds.Shape.{Shape}
 use Rattle.mark_core.specs.declared.kinds.Step.{Step}
 use Rattle.mark_core.specs.declared.kinds.Step.TheVariants.{DropStep, OpenStep, ReadPhase, StorePhase}
 use Rattle.mark_core.specs.declared.seat.SeatState.{SeatState}
-use Rattle.mark_core.proofs.NotesKept.{single-word}
+use Rattle.mark_core.proofs.Notes.NotesKept.{single-word}
 use Rattle.gc_table.specs.Seats.{Found}
 use Rattle.gc_table.specs.Taking.{after, Finds}
 use Rattle.gc_table.specs.declared.view.Entry.{Entry}

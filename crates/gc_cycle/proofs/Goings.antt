@@ -26,7 +26,7 @@ use Rattle.gc_table.specs.Running.{changes_section, IsSeen, Ran}
 use Rattle.gc_table.proofs.Log.{events-after, only-after, only-more, only-none}
 use Rattle.gc_table.proofs.Running.{own-kept, ran-events, ran-identity, ran-join, ran-only, ran-refl, ran-shape, ran-stored, ran-took, run-keeps, state-kept}
 use Rattle.stop_world.proofs.Standing.{active-counted, strong, unless}
-use Rattle.mark_core.proofs.NotesBeside.{Sits, sits}
+use Rattle.mark_core.proofs.Notes.NotesBeside.{Sits, sits}
 use Rattle.std.proofs.lemmas.List.{get_or-map, length-map}
 use Rattle.gc_table.specs.Rule.{Agrees, IsState}
 use Rattle.gc_table.specs.TableState.{TableState}

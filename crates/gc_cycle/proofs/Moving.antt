@@ -12,8 +12,8 @@ use Rattle.mark_core.specs.declared.kinds.Phase.TheVariants.{Idle, Marking, Drai
 use Rattle.mark_core.specs.declared.kinds.Shape.{Shape}
 use Rattle.mark_core.specs.declared.kinds.Step.TheVariants.{Reset, StorePhase}
 use Rattle.mark_core.specs.declared.seat.BlockState.{BlockState}
-use Rattle.mark_core.proofs.NotesKept.{single-word}
-use Rattle.mark_core.proofs.SweptDone.{done-white}
+use Rattle.mark_core.proofs.Notes.NotesKept.{single-word}
+use Rattle.mark_core.proofs.Swept.SweptDone.{done-white}
 use Rattle.gc_table.specs.Notes.{look}
 use Rattle.gc_table.specs.Rule.{IsState, Agrees}
 use Rattle.gc_table.specs.Taking.{after, Finds, May}

@@ -12,9 +12,9 @@ use Rattle.mark_core.specs.declared.kinds.Shape.{Shape}
 use Rattle.mark_core.specs.declared.kinds.Step.{Step}
 use Rattle.mark_core.specs.declared.kinds.Step.TheVariants.{AddStat, ClaimBlock, ReadCount, ReadFree, ReadPhase, ReadStat, ReleaseBlock, StorePhase}
 use Rattle.mark_core.specs.declared.seat.SeatState.{SeatState}
-use Rattle.mark_core.proofs.BlocksStopped.{still-known}
-use Rattle.mark_core.proofs.NotesBeside.{of-sits, sits}
-use Rattle.mark_core.proofs.NotesKept.{single-word}
+use Rattle.mark_core.proofs.Blocks.BlocksStopped.{still-known}
+use Rattle.mark_core.proofs.Notes.NotesBeside.{of-sits, sits}
+use Rattle.mark_core.proofs.Notes.NotesKept.{single-word}
 use Rattle.gc_table.specs.Log.{all_steps, events, Only}
 use Rattle.gc_table.specs.Rule.{Agrees, IsState, KnowsFull}
 use Rattle.gc_table.specs.Running.{AllSeen, ends_alone, IsSeen, Known, Ran, after_all}

@@ -32,7 +32,8 @@ use Rattle.packet_pools.proofs.Searches.{some-right}
 use Rattle.tracer.specs.declared.traced.Stopped.{Stopped}
 use Rattle.tracer.specs.declared.traced.Stopped.TheVariants.{Quota, NoWork, NoPacket}
 use Rattle.alloc_cache.specs.Caching.{IsCached}
-use Rattle.alloc_cache.specs.Claiming.{claimed_by, free_count}
+use Rattle.mark_core.specs.Numbers.{free_count}
+use Rattle.alloc_cache.specs.Claiming.{claimed_by}
 use Rattle.alloc_cache.specs.Retiring.{retiring_steps}
 use Rattle.alloc_cache.specs.declared.cache.Cache.{Cache}
 use Rattle.gc_cycle.specs.Answering.{answers, EndsFull, GetsCache, GoesOn, last_phase, later_or, phase_read}

@@ -43,7 +43,8 @@ use Rattle.gc_cycle.specs.Pacing.{was_not_due}
 use Rattle.gc_cycle.specs.Polling.{saw_full}
 use Rattle.gc_cycle.specs.Refilling.{EndsClaimed, HasClaimed, IsPaced, IsRound, prepares, SeesEnd, TriesOn}
 use Rattle.gc_cycle.specs.Sorts.{moves_to, raises_flag, reads_phase}
-use Rattle.gc_cycle.specs.Sparing.{done_count, fills_part, SparesRefill, spares_part}
+use Rattle.mark_core.specs.Numbers.{done_count}
+use Rattle.gc_cycle.specs.Sparing.{fills_part, SparesRefill, spares_part}
 use Rattle.gc_cycle.specs.Standing.{is_at_rest, KeepsSeat, KeepsSection, Mutates}
 use Rattle.gc_cycle.specs.Stops.{may_stop, stops_with_cause}
 use Rattle.gc_cycle.proofs.Causes.{caused-stops, done-stops, failed-stops, fills-join, search-failed, stops-join, unfilled, unraised-stops}

@@ -29,10 +29,11 @@ use Rattle.gc_table.proofs.Noticing.{alone-steady, alone-step, found-noted, know
 use Rattle.gc_table.proofs.Running.{ran-found, ran-only}
 use Rattle.gc_cycle.specs.Finishing.{AllocsNoted, IsAloneIn, IsPart, ones_noted, stays_in}
 use Rattle.gc_cycle.specs.Settling.{adjusts, Sets}
-use Rattle.gc_cycle.specs.Sparing.{done_count}
+use Rattle.mark_core.specs.Numbers.{done_count}
 use Rattle.gc_cycle.specs.Standing.{IsAlone}
 use Rattle.gc_cycle.proofs.Moving.{may-reset_idle, no-block}
 use Rattle.gc_cycle.proofs.Parts.{part-join, part-none, part-reset, part-step}
+use Rattle.mark_core.specs.Cards.{block_of_card}
 
 -- a read of allocation bits
 
@@ -46,7 +47,7 @@ cleaned (Some x) b word e =
     let a = or_parts (not x.known || not (eqb x.left 0)) x.redirty e in
     let c = or_parts (not x.known) (not (eqb x.left 0)) a.0 in
     let left : x.left ≡ 0 = eqb-true x.left 0 (not-false (eqb x.left 0) c.1) in
-    by_block (x.known && eqb (x.card / 4) b) c.0 left a.1
+    by_block (x.known && eqb (block_of_card x.card) b) c.0 left a.1
   where
     none : (k : ℕ) → k ≡ 0 → not (eqb k 0) ≡ false
     none k h = ap not (eq-eqb k 0 h)

@@ -29,7 +29,7 @@ use Rattle.gc_cycle.specs.Mutating.{GoesOut}
 use Rattle.gc_cycle.specs.Paying.{Pays, since_claim}
 use Rattle.gc_cycle.specs.Polling.{offered_help, poll_found_stop, saw_full}
 use Rattle.gc_cycle.specs.Sorts.{leaves, lowers_free, polls}
-use Rattle.gc_cycle.specs.Sparing.{done_count}
+use Rattle.mark_core.specs.Numbers.{done_count}
 use Rattle.gc_cycle.specs.Standing.{Mutates}
 
 -- each time that the seat left, its first poll found no stop, or it offered its help

@@ -1,5 +1,6 @@
 -- What a helper does of a drain and of a sweep.
 use Rattle.std.specs.Prelude.{ℕ, ◌≡◌, ◌≢◌, ◌≤◌, ◌+◌, ◌&&◌, List, Bool, IsTrue}
+use Rattle.mark_core.specs.Cards.{card_cells}
 use Rattle.mark_core.specs.Layout.{block_count}
 use Rattle.mark_core.specs.declared.kinds.Shape.{Shape}
 use Rattle.gc_table.specs.declared.view.Entry.{Entry}
@@ -65,7 +66,7 @@ pub record CleansOn (quota card : ℕ) (before after : Helped) (v w : View) : Ty
   pub drained : DrainsOn v w
   pub traced : before.traced + count_of pops (events v w) ≡ after.traced
   pub rescanned : before.rescanned + rescanned_in v (events v w) ≡ after.rescanned
-  pub few : after.rescanned ≤ before.rescanned + 16
+  pub few : after.rescanned ≤ before.rescanned + card_cells
   pub swept : after.swept ≡ before.swept
   pub most : after.traced ≤ quota
   pub stops : StopsFor after.ended quota after.traced v w

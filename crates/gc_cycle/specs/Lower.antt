@@ -1,5 +1,6 @@
 -- What the calls of the crates below promise, in the words of this one.
 use Rattle.std.specs.Prelude.{◌==◌, ℕ, ◌≡◌, ◌<◌, Bool, true, false, Option, Some, None, unwrap_or, IsTrue}
+use Rattle.mark_core.specs.Numbers.{block_counter, card_counter}
 use Rattle.mark_core.specs.Layout.{card_count}
 use Rattle.mark_core.specs.Places.{the_next_block}
 use Rattle.mark_core.specs.declared.kinds.Step.{Step}
@@ -43,7 +44,7 @@ traces_cells (ReadCard card) = true
 traces_cells (StoreLength p) = true
 traces_cells (ReadLength p) = true
 traces_cells NextOfCards = true
-traces_cells (ReadStat which) = which == 0
+traces_cells (ReadStat which) = which == card_counter
 traces_cells step = false
 
 -- a step of the sweep
@@ -58,7 +59,7 @@ sweeps_blocks step = false
 
 -- the same, where no counter but that of blocks is read
 abbrev pub sweeps_next : Step → Bool
-sweeps_next (ReadStat which) = which == 1
+sweeps_next (ReadStat which) = which == block_counter
 sweeps_next step = sweeps_blocks step
 
 -- the seat traced, with nothing in hand before and after, and nothing else of its record is another, but whether it read the counter of cards below its end

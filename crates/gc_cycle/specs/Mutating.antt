@@ -11,7 +11,8 @@ use Rattle.gc_table.specs.Running.{Alone, Ran}
 use Rattle.gc_cycle.specs.Cycles.{never_fills}
 use Rattle.gc_cycle.specs.Events.{never}
 use Rattle.gc_cycle.specs.Sorts.{claims, raises_flag}
-use Rattle.gc_cycle.specs.Sparing.{done_count, fills_part}
+use Rattle.mark_core.specs.Numbers.{done_count}
+use Rattle.gc_cycle.specs.Sparing.{fills_part}
 use Rattle.gc_cycle.specs.Standing.{IsAlone, KeepsSeat, KeepsSection}
 
 -- a step that changes nothing of what the seat's section has come to, but for its position and for what the ends of cycles say; it reads no season, and counts no part that was played

@@ -20,12 +20,12 @@ use Rattle.gc_cycle.specs.Pacing.{quota_seen}
 use Rattle.gc_cycle.specs.Paying.{StopsAs}
 use Rattle.gc_cycle.specs.Roots.{roots_scanned}
 use Rattle.gc_cycle.specs.Sorts.{claims, pops, raises_traced, reads_pace, reads_root}
-use Rattle.gc_cycle.specs.Sparing.{done_count}
+use Rattle.mark_core.specs.Numbers.{done_count, traced_count}
 use Rattle.gc_cycle.specs.Standing.{Mutates}
 
 -- a step of the increment: of tracing, or it reads a number that isn't that of the parts that were played, or it tells how much was traced
 abbrev pub pays_cells : Step → Bool
-pays_cells (AddStat which by down) = (which == 4) && not down
+pays_cells (AddStat which by down) = (which == traced_count) && not down
 pays_cells (ReadStat which) = not (which == done_count)
 pays_cells step = traces_cells step
 

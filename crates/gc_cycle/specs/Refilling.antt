@@ -27,7 +27,8 @@ use Rattle.gc_cycle.specs.Mutating.{keeps_section}
 use Rattle.gc_cycle.specs.Pacing.{was_not_due}
 use Rattle.gc_cycle.specs.Polling.{saw_full}
 use Rattle.gc_cycle.specs.Sorts.{raises_flag, reads_all_ones, sees_all_empty, sees_last_card}
-use Rattle.gc_cycle.specs.Sparing.{SparesRefill, done_count, spares_part}
+use Rattle.mark_core.specs.Numbers.{done_count}
+use Rattle.gc_cycle.specs.Sparing.{SparesRefill, spares_part}
 use Rattle.gc_cycle.specs.Standing.{Mutates, is_at_rest}
 use Rattle.gc_cycle.specs.declared.counts.Refill.{Refill}
 

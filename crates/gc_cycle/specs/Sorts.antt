@@ -1,5 +1,6 @@
 -- Sorts of events: what one step did, by the word that it found.
 use Rattle.std.specs.Prelude.{ℕ, ◌==◌, ◌&&◌, ◌||◌, not, if◌then◌else◌, List, [], ◌∷◌, Bool, true, false, nat_le, nat_lt, Some}
+use Rattle.mark_core.specs.Numbers.{block_counter, card_counter, done_count, free_count, traced_count}
 use Rattle.mark_core.specs.Bits.{all_ones, has_flag}
 use Rattle.mark_core.specs.Seats.{is_phase, phase_of, saw}
 use Rattle.mark_core.specs.declared.kinds.Phase.{Phase}
@@ -108,13 +109,13 @@ sees_all_empty all step found = false
 
 -- the counter of cards was seen at its end, or raised there
 abbrev pub sees_last_card : ℕ → Step → ℕ → Bool
-sees_last_card cards (ReadStat which) found = (which == 0) && nat_le cards found
+sees_last_card cards (ReadStat which) found = (which == card_counter) && nat_le cards found
 sees_last_card cards NextOfCards found = nat_le cards found
 sees_last_card cards step found = false
 
 -- the counter of blocks was seen at its end, or raised there
 abbrev pub sees_last_block : ℕ → Step → ℕ → Bool
-sees_last_block blocks (ReadStat which) found = (which == 1) && nat_le blocks found
+sees_last_block blocks (ReadStat which) found = (which == block_counter) && nat_le blocks found
 sees_last_block blocks NextBlock found = nat_le blocks found
 sees_last_block blocks step found = false
 
@@ -173,12 +174,12 @@ stores step found = false
 
 -- the count of parts that were played was read
 abbrev pub reads_done : Step → ℕ → Bool
-reads_done (ReadStat which) found = which == 6
+reads_done (ReadStat which) found = which == done_count
 reads_done step found = false
 
 -- it was below this number
 abbrev pub reads_done_below : ℕ → Step → ℕ → Bool
-reads_done_below until (ReadStat which) found = (which == 6) && nat_lt found until
+reads_done_below until (ReadStat which) found = (which == done_count) && nat_lt found until
 reads_done_below until step found = false
 
 -- a number was read that paces a cycle
@@ -188,10 +189,10 @@ reads_pace step found = false
 
 -- by how much the number of traced cells was raised
 abbrev pub raises_traced : Step → ℕ → List ℕ
-raises_traced (AddStat which by down) found = if (which == 4) && not down then by ∷ [] else []
+raises_traced (AddStat which by down) found = if (which == traced_count) && not down then by ∷ [] else []
 raises_traced step found = []
 
 -- by how much the number of free cells was lowered
 abbrev pub lowers_free : Step → ℕ → List ℕ
-lowers_free (AddStat which by down) found = if (which == 5) && down then by ∷ [] else []
+lowers_free (AddStat which by down) found = if (which == free_count) && down then by ∷ [] else []
 lowers_free step found = []

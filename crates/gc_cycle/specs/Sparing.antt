@@ -1,5 +1,6 @@
 -- What the calls of the collector leave of a part that is being played.
 use Rattle.std.specs.Prelude.{ℕ, ◌==◌, not, Bool, true, false, Some}
+use Rattle.mark_core.specs.Numbers.{done_count}
 use Rattle.mark_core.specs.Seats.{saw}
 use Rattle.mark_core.specs.declared.kinds.Phase.TheVariants.{Full}
 use Rattle.mark_core.specs.declared.kinds.Step.{Step}
@@ -11,10 +12,6 @@ use Rattle.gc_cycle.specs.declared.counts.Refill.{Refill}
 use Rattle.gc_cycle.specs.declared.counts.Refill.TheVariants as refills
 use Rattle.gc_cycle.specs.declared.counts.Safe.{Safe}
 use Rattle.gc_cycle.specs.declared.counts.Safe.TheVariants as safes
-
--- the count of parts that were played
-abbrev pub done_count : ℕ
-done_count = 6
 
 -- the step is none of a command, reads and moves no season, and counts no part that was played
 abbrev pub fills_part : Step → Bool

@@ -1,5 +1,6 @@
 //! The drain: what the mutators left is marked, first with the helpers and then alone.
 ghost use Rattle.std.specs.Prelude.{ℕ, ◌≡◌, ◌+◌, ◌⊎◌, [], ◌∷◌, min, IsTrue};
+ghost use Rattle.mark_core.specs.Numbers.{card_counter};
 ghost use Rattle.mark_core.specs.Places.{the_next_card};
 ghost use Rattle.mark_core.specs.Seats.{phase_number};
 ghost use Rattle.mark_core.specs.declared.kinds.Phase.{Phase};
@@ -19,7 +20,7 @@ use crate::lower::{
     trace,
 };
 use gc_table::{Heap, HeapSeat};
-use mark_core::Phase as CyclePhase;
+use mark_core::{BLOCK_COUNTER, CARD_COUNTER, Phase as CyclePhase};
 use std::sync::Wait;
 
 /// How many objects a round of the drain pops at most.
@@ -32,11 +33,11 @@ pub(crate) fn begin_drain(heap: &Heap, seat: &mut HeapSeat)
     ensures seat { Sits heap.now seat.new }
     ensures ran { Ran (view_of seat.old) (view_of seat.new) }
     ensures alone { IsAloneIn Drain (view_of seat.new) }
-    ensures events { (p : Phase) → IsAloneIn p (view_of seat.old) → events (view_of seat.old) (view_of seat.new) ≡ event (StorePhase Drain) (phase_number p) ∷ event (Reset 0) 0 ∷ [] }
+    ensures events { (p : Phase) → IsAloneIn p (view_of seat.old) → events (view_of seat.old) (view_of seat.new) ≡ event (StorePhase Drain) (phase_number p) ∷ event (Reset card_counter) 0 ∷ [] }
     ensures exact { IsAloneIn Idle (view_of seat.old) → IsTrue (view_of seat.new).state.exact }
 {
     heap.store_phase(seat, CyclePhase::Drain);
-    heap.reset(seat, 0);
+    heap.reset(seat, CARD_COUNTER);
 }
 
 /// One round: what was put off, all sections' roots, all packets, and all cards. How many objects were scanned again.
@@ -94,7 +95,7 @@ pub(crate) fn drain_alone<R: Wait>(rt: &R, heap: &Heap, seat: &mut HeapSeat) -> 
     ensures drained { IsDrained (view_of seat.new) }
     ensures rescanned { result ≡ min (rescanned_in (view_of seat.old) (events (view_of seat.old) (view_of seat.new))) most }
 {
-    heap.reset(seat, 1);
+    heap.reset(seat, BLOCK_COUNTER);
     see_to_roots(rt, heap, seat);
     let mut rescanned: u32 = 0;
     for _ in rt.forever() {

@@ -1,6 +1,7 @@
 //! A seat that waits helps the stop of another.
 ghost use Rattle.std.specs.Prelude.{ℕ, ◌≡◌, ◌≢◌, ◌<◌, ◌≤◌, ◌+◌, ◌*◌, Some, IsTrue};
 ghost use Rattle.std.specs.Bool.{OnFalse, OnTrue};
+ghost use Rattle.mark_core.specs.Cards.{card_cells};
 ghost use Rattle.mark_core.specs.Layout.{card_count};
 ghost use Rattle.mark_core.specs.declared.kinds.Phase.TheVariants.{Drain, Sweep};
 ghost use Rattle.gc_table.specs.Seats.{Sits, view_of};
@@ -105,7 +106,7 @@ fn clean_on(heap: &Heap, seat: &mut HeapSeat, quota: u32, card: u32, before: Hel
     requires drain { (view_of seat.old).state.phase_seen ≡ Some Drain }
     requires card { card < card_count heap.now.shape }
     requires quota { (before.traced ≤ quota) × (before.traced ≢ quota) × (16 * quota < 4294967296) }
-    requires room { before.rescanned + 16 < 4294967296 }
+    requires room { before.rescanned + card_cells < 4294967296 }
     ensures seat { Sits heap.now seat.new }
     ensures cleans { CleansOn quota card before result (view_of seat.old) (view_of seat.new) }
 {

@@ -1,5 +1,6 @@
 //! The calls of the crates below, told in the words of this one: what each asks of a seat at rest, and what it leaves of it.
 ghost use Rattle.std.specs.Prelude.{ℕ, ◌≡◌, ◌<◌, ◌≤◌, ◌+◌, ◌*◌, ◌&&◌, ◌⊎◌, List, ◌++◌, Some, None, IsTrue, IsFalse, IfSome, IfNone, false};
+ghost use Rattle.mark_core.specs.Cards.{card_cells};
 ghost use Rattle.mark_core.specs.Layout.{block_count, card_count};
 ghost use Rattle.mark_core.specs.Places.{the_next_block, the_phase};
 ghost use Rattle.mark_core.specs.Seats.{cleaning_left, is_the, saw};
@@ -166,7 +167,7 @@ pub(crate) fn clean(heap: &Heap, seat: &mut HeapSeat, card: u32) -> Option<u32>
     ensures seat { Sits heap.now seat.new }
     ensures traced { HasTraced (view_of seat.old) (view_of seat.new) }
     ensures some { IfSome result (λ n. (rescanned_in (view_of seat.old) (events (view_of seat.old) (view_of seat.new)) ≡ n) × IsTrue (some_event (clears_card card) (events (view_of seat.old) (view_of seat.new)))) }
-    ensures most { IfSome result (λ n. n ≤ 16) }
+    ensures most { IfSome result (λ n. n ≤ card_cells) }
     ensures left { IfNone result (rescanned_in (view_of seat.old) (events (view_of seat.old) (view_of seat.new)) ≡ 0) }
     ensures none { IfNone result (IsTrue (at_some_moment heap.now.shape (finds_no_room heap.now.shape) (begins (view_of seat.old)) (events (view_of seat.old) (view_of seat.new)))) }
     ensures unpopped { IsTrue (never pops (events (view_of seat.old) (view_of seat.new))) }

@@ -15,9 +15,10 @@ ghost use Rattle.gc_cycle.specs.Standing.{Mutates};
 
 use crate::counts::Paid;
 use crate::lower::{clean, next_card, recycle_deferred, scan_roots, trace};
-use crate::pace::{FREE, LAST, RESCANNED, TRACED, read_statistic};
+use crate::pace::read_statistic;
 use crate::quota::quota_of;
 use gc_table::{Heap, HeapSeat};
+use mark_core::{CARD_CELLS, FREE, LAST, RESCANNED, TRACED};
 use tracer::{RootScan, Stopped};
 
 /// What the mutator pays for a cache of `cells` free cells, at most 64, where it has read last that a cycle is marking: it marks its roots and traces its quota
@@ -116,7 +117,7 @@ fn trace_and_clean(heap: &Heap, seat: &mut HeapSeat, quota: u32) -> Paid
         done: first.done,
         stopped: first.stopped,
     };
-    for _card in 0..heap.shape().cells / 16 {
+    for _card in 0..heap.shape().cells / CARD_CELLS {
         let Stopped::NoWork = paid.stopped else {
             return paid;
         };

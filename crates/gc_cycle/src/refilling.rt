@@ -32,7 +32,7 @@ use crate::paying::pay;
 use crate::stopping::stop;
 use alloc_cache::Cache;
 use gc_table::{Heap, HeapSeat};
-use mark_core::Phase;
+use mark_core::{CARD_CELLS, CARD_COUNTER, Phase};
 use packet_pools::all_empty;
 use std::sync::Wait;
 use tracer::Stopped;
@@ -145,8 +145,8 @@ fn marking_is_done(heap: &Heap, seat: &mut HeapSeat) -> bool
     ensures cache { (view_of seat.new).state.cache ≡ (view_of seat.old).state.cache }
     ensures done { IsTrue result → SeesEnd heap.now.shape (events (view_of seat.old) (view_of seat.new)) }
 {
-    let seen = heap.read_stat(seat, 0);
-    if seen < u64::from(heap.shape().cells / 16) {
+    let seen = heap.read_stat(seat, CARD_COUNTER);
+    if seen < u64::from(heap.shape().cells / CARD_CELLS) {
         return false;
     }
     all_empty(heap, seat)

@@ -1,5 +1,6 @@
 //! The numbers for the next cycle.
 ghost use Rattle.std.specs.Prelude.{◌≡◌, ◌≤◌};
+ghost use Rattle.mark_core.specs.Numbers.{free_count, last_count, traced_count};
 ghost use Rattle.mark_core.specs.Layout.{block_count};
 ghost use Rattle.mark_core.specs.Places.{counter_at};
 ghost use Rattle.mark_core.specs.declared.kinds.Phase.TheVariants.{Idle};
@@ -10,8 +11,8 @@ ghost use Rattle.gc_cycle.specs.Finishing.{AllocsNoted, IsAloneIn, IsPart, ones_
 ghost use Rattle.gc_cycle.specs.Settling.{Sets};
 
 use crate::counts::Counts;
-use crate::pace::{FREE, LAST, RESCANNED, TRACED};
 use gc_table::{Heap, HeapSeat};
+use mark_core::{CARD_COUNTER, FREE, LAST, RESCANNED, TRACED};
 
 /// How many allocation bits are set, as a seat that is alone reads them.
 fn count_published(heap: &Heap, seat: &mut HeapSeat) -> u32
@@ -30,11 +31,11 @@ fn count_published(heap: &Heap, seat: &mut HeapSeat) -> u32
     published
 }
 
-/// Sets a statistic, 2 to 4, to a number.
+/// Sets a statistic, from `LAST` to `TRACED`, to a number.
 fn set_statistic(heap: &Heap, seat: &mut HeapSeat, which: u8, number: u32)
     requires seat { Sits heap.now seat.old }
     requires alone { IsAloneIn Idle (view_of seat.old) }
-    requires which { (2 ≤ which) × (which ≤ 4) }
+    requires which { (last_count ≤ which) × (which ≤ traced_count) }
     ensures seat { Sits heap.now seat.new }
     ensures sets { Sets which number (view_of seat.old) (view_of seat.new) }
 {
@@ -42,11 +43,11 @@ fn set_statistic(heap: &Heap, seat: &mut HeapSeat, which: u8, number: u32)
     heap.add_stat(seat, which, number, false);
 }
 
-/// Sets the counter of cards, or a statistic, 0 to 4, to 0.
+/// Sets the counter of cards, or a statistic up to `TRACED`, to 0.
 fn clear_statistic(heap: &Heap, seat: &mut HeapSeat, which: u8)
     requires seat { Sits heap.now seat.old }
     requires alone { IsAloneIn Idle (view_of seat.old) }
-    requires which { which ≤ 4 }
+    requires which { which ≤ traced_count }
     ensures seat { Sits heap.now seat.new }
     ensures sets { Sets which 0 (view_of seat.old) (view_of seat.new) }
 {
@@ -57,9 +58,9 @@ fn clear_statistic(heap: &Heap, seat: &mut HeapSeat, which: u8)
 fn raise_free(heap: &Heap, seat: &mut HeapSeat, from: u64, to: u64)
     requires seat { Sits heap.now seat.old }
     requires alone { IsAloneIn Idle (view_of seat.old) }
-    requires from { Known (view_of seat.old) (counter_at 5) from }
+    requires from { Known (view_of seat.old) (counter_at free_count) from }
     ensures seat { Sits heap.now seat.new }
-    ensures sets { Sets 5 to (view_of seat.old) (view_of seat.new) }
+    ensures sets { Sets free_count to (view_of seat.old) (view_of seat.new) }
 {
     let much = to.wrapping_sub(from);
     for _step in 0..much / 4_294_967_295 {
@@ -73,7 +74,7 @@ fn set_free(heap: &Heap, seat: &mut HeapSeat, number: u32)
     requires seat { Sits heap.now seat.old }
     requires alone { IsAloneIn Idle (view_of seat.old) }
     ensures seat { Sits heap.now seat.new }
-    ensures sets { Sets 5 number (view_of seat.old) (view_of seat.new) }
+    ensures sets { Sets free_count number (view_of seat.old) (view_of seat.new) }
 {
     let from = heap.read_stat(seat, FREE);
     let above = from.wrapping_sub(u64::from(number));
@@ -99,7 +100,7 @@ pub(crate) fn settle(heap: &Heap, seat: &mut HeapSeat, rescanned: u32, freed: u3
     set_statistic(heap, seat, RESCANNED, rescanned);
     set_free(heap, seat, free);
     clear_statistic(heap, seat, TRACED);
-    clear_statistic(heap, seat, 0);
+    clear_statistic(heap, seat, CARD_COUNTER);
     Counts {
         marked,
         freed,

@@ -1,5 +1,6 @@
 -- What a tracer leaves as it was while it traces.
 use Rattle.std.specs.Prelude.{ℕ, ◌≡◌, ◌==◌, not, Bool, true, false, IsTrue}
+use Rattle.mark_core.specs.Numbers.{done_count}
 use Rattle.mark_core.specs.Seats.{saw}
 use Rattle.mark_core.specs.declared.kinds.Phase.TheVariants.{Marking}
 use Rattle.mark_core.specs.declared.kinds.Step.{Step}
@@ -22,7 +23,7 @@ pub record Marks (h : Heap) (x : HeapSeat) : Type 0 where
 -- the step neither leaves, nor reads how many parts were played, nor adds to a number
 abbrev pub tends : Step → Bool
 tends LeaveStep = false
-tends (ReadStat which) = not (which == 6)
+tends (ReadStat which) = not (which == done_count)
 tends (AddStat which by down) = false
 tends step = true
 

@@ -1,5 +1,6 @@
 -- The turns of a tracer, by its events: what comes after each read of the number of parts that were played.
 use Rattle.std.specs.Prelude.{ℕ, ◌≡◌, ◌⊎◌, ◌<◌, ◌≤◌, ◌==◌, if◌then◌else◌, List, [], ◌∷◌, ◌++◌, not, Bool, true, false, Some, IsTrue, IsFalse}
+use Rattle.mark_core.specs.Numbers.{done_count, traced_count}
 use Rattle.mark_core.specs.Bits.{has_flag}
 use Rattle.mark_core.specs.Seats.{phase_of, saw}
 use Rattle.mark_core.specs.declared.kinds.Phase.{Phase}
@@ -19,7 +20,7 @@ entry step n = record { step = step; found = n; won = won step n }
 
 -- a read of the number of parts that were played
 abbrev pub reads_done : Step → Bool
-reads_done (ReadStat which) = which == 6
+reads_done (ReadStat which) = which == done_count
 reads_done step = false
 
 -- any other step
@@ -57,7 +58,7 @@ inside (e ∷ es) = if leaves e.step then [] else e ∷ inside es
 
 -- what was added to the number of traced cells
 abbrev pub added : Step → List ℕ
-added (AddStat which by down) = if which == 4 then by ∷ [] else []
+added (AddStat which by down) = if which == traced_count then by ∷ [] else []
 added step = []
 
 abbrev pub amounts : List Entry → List ℕ

@@ -2,6 +2,7 @@
 //!
 //! Each turn is short, since a stop waits until it has ended.
 ghost use Rattle.std.specs.Prelude.{◌<◌, false, IfSome};
+ghost use Rattle.mark_core.specs.Numbers.{traced_count};
 ghost use Rattle.mark_core.specs.Layout.{card_count};
 ghost use Rattle.mark_core.specs.declared.kinds.Step.TheVariants.{AddStat};
 ghost use Rattle.gc_table.specs.Log.{events};
@@ -13,6 +14,7 @@ ghost use Rattle.gc_play.specs.Turns.{IsOne, Traces, TracesInside};
 
 use card_clean::{clean_one, next_card};
 use gc_table::{Heap, HeapSeat};
+use mark_core::TRACED;
 use tracer::{Stopped, Traced, recycle_deferred, trace};
 
 /// How many objects a turn traces.
@@ -104,9 +106,9 @@ fn count_traced(heap: &Heap, seat: &mut HeapSeat, by: u32)
     requires { Goes heap.now seat.old }
     ensures seat { Goes heap.now seat.new }
     ensures stays { Stays (view_of seat.old) (view_of seat.new) }
-    ensures events { IsOne (AddStat 4 by false) (events (view_of seat.old) (view_of seat.new)) }
+    ensures events { IsOne (AddStat traced_count by false) (events (view_of seat.old) (view_of seat.new)) }
 {
-    heap.add_stat(seat, 4, by, false);
+    heap.add_stat(seat, TRACED, by, false);
 }
 
 /// Traces, cleans cards, and lets what was put off be traced again. Returns how many objects it traced.

@@ -3,6 +3,7 @@ ghost use Rattle.std.specs.Prelude.{◌≡◌, ◌∷◌, [], All, None, Some};
 ghost use Rattle.gc_table.specs.Seats.{view_of};
 ghost use Rattle.gc_play.specs.Crews.{IsAnyTracer};
 ghost use Rattle.gc_play.specs.Standing.{Goes, Rests};
+ghost use Rattle.mark_core.specs.Numbers.{done_count};
 ghost use Rattle.mark_core.specs.declared.kinds.Phase.TheVariants.{Marking};
 ghost use Rattle.mark_core.specs.declared.kinds.Step.TheVariants.{ReadStat};
 ghost use Rattle.gc_table.specs.Log.{events};
@@ -13,7 +14,7 @@ use crate::entering::{enter, leave, see_phase};
 use crate::marking::trace_inside;
 use gc_cycle::await_resumed_helping;
 use gc_table::{Heap, HeapSeat};
-use mark_core::Phase;
+use mark_core::{DONE, Phase};
 use std::sync::Wait;
 use std::thread;
 use std::thread::{Threads, yield_now};
@@ -34,9 +35,9 @@ fn see_done(heap: &Heap, seat: &mut HeapSeat) -> u64
     requires { Rests heap.now seat.old }
     ensures seat { Rests heap.now seat.new }
     ensures stays { Stays (view_of seat.old) (view_of seat.new) }
-    ensures events { events (view_of seat.old) (view_of seat.new) ≡ entry (ReadStat 6) result ∷ [] }
+    ensures events { events (view_of seat.old) (view_of seat.new) ≡ entry (ReadStat done_count) result ∷ [] }
 {
-    heap.read_stat(seat, 6)
+    heap.read_stat(seat, DONE)
 }
 
 /// Traces, where marking is under way.

@@ -7,9 +7,9 @@ use Rattle.std.specs.Option.{option_map}
 use Rattle.mark_core.specs.Layout.{words_of}
 use Rattle.mark_core.specs.Seats.{has_turn, may_mutate}
 use Rattle.mark_core.specs.HeapRules.{section_of, number_of}
-use Rattle.mark_core.proofs.BlocksTaken.{mine}
-use Rattle.mark_core.proofs.CachesNext.{next-makes}
-use Rattle.mark_core.proofs.ReferencesRoots.{Used}
+use Rattle.mark_core.proofs.Blocks.BlocksTaken.{mine}
+use Rattle.mark_core.proofs.Caches.CachesNext.{next-makes}
+use Rattle.mark_core.proofs.References.ReferencesRoots.{Used}
 use Rattle.mark_core.specs.declared.kinds.Step.{Step}
 use Rattle.mark_core.specs.declared.kinds.Step.TheVariants.{StoreNew}
 use Rattle.mark_core.specs.declared.seat.SeatState.{SeatState}

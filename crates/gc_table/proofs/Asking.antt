@@ -9,8 +9,8 @@ use Rattle.mark_core.specs.Places.{the_named}
 use Rattle.mark_core.specs.Seats.{may_mutate, has_turn}
 use Rattle.mark_core.specs.Steps.{Core, AllTrue}
 use Rattle.mark_core.specs.Laws.{IsCore}
-use Rattle.mark_core.proofs.ReferencesEnv.{section-is}
-use Rattle.mark_core.proofs.NotesKept.{single-word}
+use Rattle.mark_core.proofs.References.ReferencesEnv.{section-is}
+use Rattle.mark_core.proofs.Notes.NotesKept.{single-word}
 use Rattle.mark_core.specs.declared.kinds.Shape.{Shape}
 use Rattle.mark_core.specs.declared.kinds.Step.{Step}
 use Rattle.mark_core.specs.declared.kinds.Step.TheVariants.{StoreField, StoreValue, StoreRoot, StoreNew, StorePhase, NextSeason}

@@ -17,8 +17,8 @@ use Rattle.mark_core.specs.WorldSteps.{has_nothing, may_be_joined, other_has_not
 use Rattle.mark_core.specs.Start.{spent_seat}
 use Rattle.mark_core.specs.Steps.{Core, after_of, after_event}
 use Rattle.mark_core.specs.Laws.{IsCore}
-use Rattle.mark_core.proofs.NotesBeside.{sits, of-sits}
-use Rattle.mark_core.proofs.WorldReading.{at-standing}
+use Rattle.mark_core.proofs.Notes.NotesBeside.{sits, of-sits}
+use Rattle.mark_core.proofs.World.WorldReading.{at-standing}
 use Rattle.mark_core.specs.declared.kinds.Shape.{Shape}
 use Rattle.mark_core.specs.declared.kinds.Step.TheVariants.{Join}
 use Rattle.mark_core.specs.declared.seat.SeatState.{SeatState}

@@ -9,7 +9,7 @@ use Rattle.mark_core.specs.Effects.{place, written, seat_after}
 use Rattle.mark_core.specs.Steps.{Core}
 use Rattle.mark_core.specs.Room.{HasRoom}
 use Rattle.mark_core.proofs.Doing.{has-room}
-use Rattle.mark_core.proofs.BlocksTaken.{in-place}
+use Rattle.mark_core.proofs.Blocks.BlocksTaken.{in-place}
 use Rattle.mark_core.proofs.Ranges.{IsPlace}
 use Rattle.mark_core.proofs.Regions.{address-lt-total}
 use Rattle.mark_core.specs.declared.kinds.Shape.{Shape}

@@ -10,12 +10,12 @@ use Rattle.mark_core.specs.Layout.{Words, words_of}
 use Rattle.mark_core.specs.Seats.{saw}
 use Rattle.mark_core.specs.Closed.{IsReachableIn}
 use Rattle.mark_core.proofs.Acting.{some_none, words_left, seats_left}
-use Rattle.mark_core.proofs.BlocksStopped.{AllStill, still-while-knows}
-use Rattle.mark_core.proofs.BlocksTaken.{Taken}
+use Rattle.mark_core.proofs.Blocks.BlocksStopped.{AllStill, still-while-knows}
+use Rattle.mark_core.proofs.Blocks.BlocksTaken.{Taken}
 use Rattle.mark_core.proofs.Filling.{full-reachable}
-use Rattle.mark_core.proofs.ReferencesRoots.{seat-formed}
-use Rattle.mark_core.proofs.SweepsPhase.{phase-came}
-use Rattle.mark_core.proofs.SweepsUsed.{none-used, use-published}
+use Rattle.mark_core.proofs.References.ReferencesRoots.{seat-formed}
+use Rattle.mark_core.proofs.Sweeps.SweepsPhase.{phase-came}
+use Rattle.mark_core.proofs.Sweeps.SweepsUsed.{none-used, use-published}
 use Rattle.mark_core.specs.declared.kinds.Phase.{Phase}
 use Rattle.mark_core.specs.declared.kinds.Phase.TheVariants.{Idle, Marking, Drain, Sweep, Clear, Full}
 use Rattle.mark_core.specs.declared.kinds.Step.{Step}

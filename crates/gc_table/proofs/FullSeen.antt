@@ -11,12 +11,12 @@ use Rattle.mark_core.specs.Strong.{IsStrongSeat}
 use Rattle.mark_core.specs.Steps.{Core}
 use Rattle.mark_core.proofs.Acting.{found, seats_left}
 use Rattle.mark_core.proofs.AtSeat.{of-view}
-use Rattle.mark_core.proofs.BlocksStopped.{AllStill}
-use Rattle.mark_core.proofs.BlocksTaken.{Taken, mine}
+use Rattle.mark_core.proofs.Blocks.BlocksStopped.{AllStill}
+use Rattle.mark_core.proofs.Blocks.BlocksTaken.{Taken, mine}
 use Rattle.mark_core.proofs.Locals.{local-kept}
-use Rattle.mark_core.proofs.WorldReading.{numbers-of}
-use Rattle.mark_core.proofs.WorldSeats.{bare-out}
-use Rattle.mark_core.proofs.WorldTally.{Fits}
+use Rattle.mark_core.proofs.World.WorldReading.{numbers-of}
+use Rattle.mark_core.proofs.World.WorldSeats.{bare-out}
+use Rattle.mark_core.proofs.World.WorldTally.{Fits}
 use Rattle.mark_core.specs.declared.kinds.Phase.{Phase}
 use Rattle.mark_core.specs.declared.kinds.Phase.TheVariants.{Full}
 use Rattle.mark_core.specs.declared.kinds.Step.{Step}

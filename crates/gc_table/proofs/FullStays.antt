@@ -12,14 +12,14 @@ use Rattle.mark_core.specs.Effects.{written}
 use Rattle.mark_core.specs.Closed.{IsReachableIn}
 use Rattle.mark_core.specs.Steps.{Core}
 use Rattle.mark_core.proofs.Acting.{found, words_left}
-use Rattle.mark_core.proofs.BlocksStopped.{sweeping}
-use Rattle.mark_core.proofs.BlocksTaken.{Taken, mine, words-read}
-use Rattle.mark_core.proofs.BlocksWords.{statistic}
-use Rattle.mark_core.proofs.CachesFacts.{all-facts}
-use Rattle.mark_core.proofs.CachesNext.{next-free}
-use Rattle.mark_core.proofs.CachesSeat.{CacheFacts}
-use Rattle.mark_core.proofs.ReferencesRoots.{mutator-is}
-use Rattle.mark_core.proofs.UsedCells.{alloc-on}
+use Rattle.mark_core.proofs.Blocks.BlocksStopped.{sweeping}
+use Rattle.mark_core.proofs.Blocks.BlocksTaken.{Taken, mine, words-read}
+use Rattle.mark_core.proofs.Blocks.BlocksWords.{statistic}
+use Rattle.mark_core.proofs.Caches.CachesFacts.{all-facts}
+use Rattle.mark_core.proofs.Caches.CachesNext.{next-free}
+use Rattle.mark_core.proofs.Caches.CachesSeat.{CacheFacts}
+use Rattle.mark_core.proofs.References.ReferencesRoots.{mutator-is}
+use Rattle.mark_core.proofs.Used.UsedCells.{alloc-on}
 use Rattle.mark_core.proofs.Writes.{phase-kept, at_part}
 use Rattle.mark_core.specs.declared.kinds.Phase.{Phase}
 use Rattle.mark_core.specs.declared.kinds.Phase.TheVariants.{Idle, Marking, Drain, Sweep, Clear, Full}
@@ -32,6 +32,7 @@ use Rattle.gc_table.proofs.FullSeen.{SeesFull}
 use Rattle.gc_table.proofs.ReachStill.{ReachedAfter, reach-still}
 use Rattle.gc_table.proofs.StandsSeat.{free-not-used}
 use Rattle.gc_table.proofs.StateSteps.{Goes, taken}
+use Rattle.mark_core.specs.Numbers.{done_count, last_count}
 
 -- the heap was found full
 abbrev pub IsFull : Core → Type 0
@@ -70,9 +71,9 @@ named-on c i s (Reset which) k e =
 named-on c i s (AddStat which by down) k e =
     let w : Words = words_of c.shape c.words in
     let v : ℕ = written c.shape s (AddStat which by down) (found c s (AddStat which by down)) in
-    let range = and_parts (nat_le 2 which) (nat_le which 6) (and_parts _ _ k.ok.0).0 in
-    let low : 2 ≤ which = leb-true 2 which range.0 in
-    statistic (λ at. (put_word at v w).named ≡ w.named) which low (leb-true which 6 range.1) (rw (ne_eqb (4 + which) 5 (λ z. omega (arith, z, low))) refl)
+    let range = and_parts (nat_le last_count which) (nat_le which done_count) (and_parts _ _ k.ok.0).0 in
+    let low : last_count ≤ which = leb-true last_count which range.0 in
+    statistic (λ at. (put_word at v w).named ≡ w.named) which low (leb-true which done_count range.1) (rw (ne_eqb (4 + which) 5 (λ z. omega (arith, z, low))) refl)
 named-on c i s (ReadStat which) k e = ap (λ (w : Words). w.named) (words-read c i s (ReadStat which) k refl)
 named-on c i s (StoreNew x part word) k e =
     let w : Words = words_of c.shape c.words in at_part (λ at. (put_word at word w).named ≡ w.named) c.shape x part (λ j. refl) (λ j. refl) (λ j. refl)

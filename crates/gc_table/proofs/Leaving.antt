@@ -8,11 +8,11 @@ use Rattle.mark_core.specs.Effects.{place, written, seat_after}
 use Rattle.mark_core.specs.Steps.{Core, AllTrue, failing_part, others_after, after_of, after_event}
 use Rattle.mark_core.specs.Laws.{NumbersFit}
 use Rattle.mark_core.specs.Notes.{same_place, word_at, steady, keeps_bound, resets}
-use Rattle.mark_core.proofs.NotesKept.{notes-kept, word-found, word-elsewhere}
-use Rattle.mark_core.proofs.NotesBounds.{bounds-kept}
-use Rattle.mark_core.proofs.NotesOwn.{word-here}
-use Rattle.mark_core.proofs.PoolsKept.{shape-kept}
-use Rattle.mark_core.proofs.BlocksTaken.{in-place}
+use Rattle.mark_core.proofs.Notes.NotesKept.{notes-kept, word-found, word-elsewhere}
+use Rattle.mark_core.proofs.Notes.NotesBounds.{bounds-kept}
+use Rattle.mark_core.proofs.Notes.NotesOwn.{word-here}
+use Rattle.mark_core.proofs.Pool.PoolsKept.{shape-kept}
+use Rattle.mark_core.proofs.Blocks.BlocksTaken.{in-place}
 use Rattle.mark_core.proofs.Ranges.{IsPlace}
 use Rattle.mark_core.specs.declared.kinds.Shape.{Shape}
 use Rattle.mark_core.specs.declared.kinds.Step.{Step}
@@ -44,8 +44,8 @@ use Rattle.mark_core.specs.Places.{the_phase}
 use Rattle.mark_core.specs.Strong.{IsStrongSeat}
 use Rattle.mark_core.specs.WorldRules.{is_stopped_phase}
 use Rattle.mark_core.specs.declared.kinds.Step.TheVariants.{ReadPhase}
-use Rattle.mark_core.proofs.NotesBeside.{sits, of-sits}
-use Rattle.mark_core.proofs.NotesKept.{single-word}
+use Rattle.mark_core.proofs.Notes.NotesBeside.{sits, of-sits}
+use Rattle.mark_core.proofs.Notes.NotesKept.{single-word}
 use Rattle.gc_table.specs.Stopping.{moves_on, has_moved, Unmoved}
 use Rattle.gc_table.proofs.Unmoved.{moved-last, none-knows, not-phase, knows-by, knower-steady}
 use Rattle.gc_table.specs.Fetching.{taken_out, last_pool, is_in_range, Fetched}

@@ -5,9 +5,9 @@ use Rattle.std.proofs.lemmas.List.{length-set, length-append}
 use Rattle.mark_core.specs.Layout.{words_of}
 use Rattle.mark_core.specs.Effects.{seat_after}
 use Rattle.mark_core.proofs.Acting.{found, words_left, seats_left}
-use Rattle.mark_core.proofs.ReferencesRoots.{Used, UsedAfter}
-use Rattle.mark_core.proofs.UsedKept.{used-back}
-use Rattle.mark_core.proofs.UsedSeats.{IsMadeBy}
+use Rattle.mark_core.proofs.References.ReferencesRoots.{Used, UsedAfter}
+use Rattle.mark_core.proofs.Used.UsedKept.{used-back}
+use Rattle.mark_core.proofs.Used.UsedSeats.{IsMadeBy}
 use Rattle.mark_core.specs.declared.kinds.Step.{Step}
 use Rattle.mark_core.specs.declared.kinds.Step.TheVariants.{StoreField, StoreValue, StoreNew, Split, Join}
 use Rattle.mark_core.specs.declared.seat.SeatState.{SeatState}

@@ -6,7 +6,7 @@ use Rattle.std.proofs.lemmas.Option.{slice_get-get_or}
 use Rattle.mark_core.specs.Bits.{flag}
 use Rattle.mark_core.specs.HeapRules.{section_of, number_of}
 use Rattle.mark_core.proofs.Acting.{some_none}
-use Rattle.mark_core.proofs.FormedAfter.{set-here, set-there, push-cases}
+use Rattle.mark_core.proofs.Formed.FormedAfter.{set-here, set-there, push-cases}
 use Rattle.mark_core.specs.declared.kinds.Shape.{Shape}
 use Rattle.mark_core.specs.declared.seat.SeatState.{SeatState}
 use Rattle.gc_table.specs.declared.view.Place.{Place}

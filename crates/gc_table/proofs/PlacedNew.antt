@@ -8,14 +8,14 @@ use Rattle.mark_core.specs.Bits.{flag}
 use Rattle.mark_core.specs.Seats.{free_in, may_mutate}
 use Rattle.mark_core.specs.MutatorSteps.{fits_part, with_making, with_made}
 use Rattle.mark_core.proofs.Acting.{words_left, seats_left}
-use Rattle.mark_core.proofs.BlocksTaken.{Taken, within, mine as own-fact}
-use Rattle.mark_core.proofs.CachesFacts.{all-facts}
-use Rattle.mark_core.proofs.CachesNext.{next-free}
-use Rattle.mark_core.proofs.CachesSeat.{CacheFacts}
+use Rattle.mark_core.proofs.Blocks.BlocksTaken.{Taken, within, mine as own-fact}
+use Rattle.mark_core.proofs.Caches.CachesFacts.{all-facts}
+use Rattle.mark_core.proofs.Caches.CachesNext.{next-free}
+use Rattle.mark_core.proofs.Caches.CachesSeat.{CacheFacts}
 use Rattle.mark_core.proofs.Places.{region-length}
-use Rattle.mark_core.proofs.ReferencesRoots.{Used, UsedAfter, seat-formed}
-use Rattle.mark_core.proofs.UsedKept.{used-back}
-use Rattle.mark_core.proofs.UsedSeats.{IsMadeBy}
+use Rattle.mark_core.proofs.References.ReferencesRoots.{Used, UsedAfter, seat-formed}
+use Rattle.mark_core.proofs.Used.UsedKept.{used-back}
+use Rattle.mark_core.proofs.Used.UsedSeats.{IsMadeBy}
 use Rattle.mark_core.specs.declared.kinds.Shape.{Shape}
 use Rattle.mark_core.specs.declared.kinds.Step.{Step}
 use Rattle.mark_core.specs.declared.kinds.Step.TheVariants.{StoreNew}

@@ -11,7 +11,7 @@ use Rattle.mark_core.specs.Effects.{written}
 use Rattle.mark_core.specs.Steps.{Core}
 use Rattle.mark_core.specs.Laws.{IsCore}
 use Rattle.mark_core.proofs.Acting.{found, words_left}
-use Rattle.mark_core.proofs.BlocksTaken.{Taken, words-read}
+use Rattle.mark_core.proofs.Blocks.BlocksTaken.{Taken, words-read}
 use Rattle.mark_core.proofs.Places.{region-length}
 use Rattle.mark_core.proofs.Ranges.{either}
 use Rattle.mark_core.proofs.Writes.{at_part}
@@ -26,11 +26,12 @@ use Rattle.gc_table.specs.Sections.{section_after}
 use Rattle.gc_table.specs.TableState.{TableState, state_after}
 use Rattle.gc_table.specs.Told.{Positioned}
 use Rattle.gc_table.proofs.StateSteps.{Goes, event, taken, sections_left, kept-whole, each-left}
+use Rattle.mark_core.specs.Numbers.{done_count, last_count, named_number, traced_count}
 
 -- the counters below the named section are single words
-single : (P : ℕ × ℕ → Type 0) (which : ℕ) → which < 7 → ((i : ℕ) → P (0, i)) → P (counter_at which)
+single : (P : ℕ × ℕ → Type 0) (which : ℕ) → which < named_number → ((i : ℕ) → P (0, i)) → P (counter_at which)
 single P which h f =
-    either P (nat_lt which 2) _ _ (λ e. f _) (λ e. either P (nat_lt which 7) _ _ (λ g. f _) (λ g. absurd (omega (arith, h, ltb-false which 7 g))))
+    either P (nat_lt which last_count) _ _ (λ e. f _) (λ e. either P (nat_lt which named_number) _ _ (λ g. f _) (λ g. absurd (omega (arith, h, ltb-false which named_number g))))
 
 abbrev stores_position : Step → Bool
 stores_position (StorePosition done) = true
@@ -44,13 +45,13 @@ positions_same c i s (StoreNew x part word) k e =
     let w : Words = words_of c.shape c.words in at_part (λ at. (put_word at (written c.shape s (StoreNew x part word) (found c s (StoreNew x part word))) w).positions ≡ w.positions) c.shape x part (λ i. refl) (λ i. refl) (λ i. refl)
 positions_same c i s (Reset which) k e =
     let w : Words = words_of c.shape c.words in
-    let a = and_parts (nat_le which 4 && s.alone) _ k.ok.0 in
-    let h : which ≤ 4 = leb-true which 4 (and_parts (nat_le which 4) s.alone a.0).0 in
+    let a = and_parts (nat_le which traced_count && s.alone) _ k.ok.0 in
+    let h : which ≤ 4 = leb-true which traced_count (and_parts (nat_le which traced_count) s.alone a.0).0 in
     single (λ at. (put_word at (written c.shape s (Reset which) (found c s (Reset which))) w).positions ≡ w.positions) which (omega (arith, h)) (λ i. refl)
 positions_same c i s (AddStat which by down) k e =
     let w : Words = words_of c.shape c.words in
-    let a = and_parts (nat_le 2 which && nat_le which 6) (takes_part s) k.ok.0 in
-    let h : which ≤ 6 = leb-true which 6 (and_parts (nat_le 2 which) (nat_le which 6) a.0).1 in
+    let a = and_parts (nat_le last_count which && nat_le which done_count) (takes_part s) k.ok.0 in
+    let h : which ≤ done_count = leb-true which done_count (and_parts (nat_le last_count which) (nat_le which done_count) a.0).1 in
     single (λ at. (put_word at (written c.shape s (AddStat which by down) (found c s (AddStat which by down))) w).positions ≡ w.positions) which (omega (arith, h)) (λ i. refl)
 positions_same c i s step k e = refl
 

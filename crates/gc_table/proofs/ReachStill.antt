@@ -5,8 +5,8 @@ use Rattle.mark_core.specs.Cells.{IsReachable}
 use Rattle.mark_core.specs.Closed.{IsReachableIn}
 use Rattle.mark_core.specs.Steps.{Core}
 use Rattle.mark_core.proofs.Acting.{words_left}
-use Rattle.mark_core.proofs.BlocksTaken.{Taken}
-use Rattle.mark_core.proofs.ReferencesRoots.{stores_root, roots-same}
+use Rattle.mark_core.proofs.Blocks.BlocksTaken.{Taken}
+use Rattle.mark_core.proofs.References.ReferencesRoots.{stores_root, roots-same}
 use Rattle.mark_core.specs.declared.kinds.Step.{Step}
 use Rattle.mark_core.specs.declared.seat.SeatState.{SeatState}
 use Rattle.gc_table.proofs.StandsWords.{stores_cell, fields-same}

@@ -11,7 +11,7 @@ use Rattle.mark_core.specs.Effects.{written}
 use Rattle.mark_core.specs.Steps.{Core}
 use Rattle.mark_core.proofs.Regions.{words-get}
 use Rattle.mark_core.proofs.Acting.{found, words_left}
-use Rattle.mark_core.proofs.BlocksTaken.{Taken, words-read, mine as own-fact}
+use Rattle.mark_core.proofs.Blocks.BlocksTaken.{Taken, words-read, mine as own-fact}
 use Rattle.mark_core.proofs.Writes.{season-kept}
 use Rattle.mark_core.specs.declared.kinds.Shape.{Shape}
 use Rattle.mark_core.specs.declared.kinds.Step.{Step}

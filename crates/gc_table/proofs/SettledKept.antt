@@ -12,11 +12,11 @@ use Rattle.mark_core.specs.Sound.{some_exact}
 use Rattle.mark_core.specs.Effects.{seat_after}
 use Rattle.mark_core.specs.Steps.{Core}
 use Rattle.mark_core.proofs.Acting.{found, words_left, seats_left}
-use Rattle.mark_core.proofs.BlocksTaken.{Taken, within, mine}
-use Rattle.mark_core.proofs.ExactsKept.{ExactSound, exact-kept_by}
-use Rattle.mark_core.proofs.ReferencesRoots.{Used, UsedAfter, stores_root}
-use Rattle.mark_core.proofs.UsedSeats.{IsMadeBy}
-use Rattle.mark_core.proofs.UsedKept.{used-back}
+use Rattle.mark_core.proofs.Blocks.BlocksTaken.{Taken, within, mine}
+use Rattle.mark_core.proofs.Exacts.ExactsKept.{ExactSound, exact-kept_by}
+use Rattle.mark_core.proofs.References.ReferencesRoots.{Used, UsedAfter, stores_root}
+use Rattle.mark_core.proofs.Used.UsedSeats.{IsMadeBy}
+use Rattle.mark_core.proofs.Used.UsedKept.{used-back}
 use Rattle.mark_core.specs.declared.kinds.Shape.{Shape}
 use Rattle.mark_core.specs.declared.kinds.Phase.{Phase}
 use Rattle.mark_core.specs.declared.kinds.Phase.TheVariants.{Idle, Marking, Drain, Sweep, Clear, Full}

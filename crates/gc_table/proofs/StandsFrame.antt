@@ -5,7 +5,7 @@ use Rattle.std.proofs.lemmas.Bool.{cases_eq}
 use Rattle.std.proofs.lemmas.List.{length-set}
 use Rattle.mark_core.specs.Seats.{makes, last_made}
 use Rattle.mark_core.specs.HeapRules.{section_of}
-use Rattle.mark_core.proofs.FormedAfter.{set-cases, set-here, set-there}
+use Rattle.mark_core.proofs.Formed.FormedAfter.{set-cases, set-here, set-there}
 use Rattle.mark_core.specs.declared.kinds.Shape.{Shape}
 use Rattle.mark_core.specs.declared.seat.SeatState.{SeatState}
 use Rattle.plain_heap.specs.PlainHeap.{variable}

@@ -11,13 +11,13 @@ use Rattle.mark_core.specs.HeapRules.{section_of, number_of}
 use Rattle.mark_core.specs.MutatorSteps.{with_made}
 use Rattle.mark_core.specs.Steps.{Core}
 use Rattle.mark_core.specs.Laws.{IsCore}
-use Rattle.mark_core.proofs.BlocksTaken.{Taken}
-use Rattle.mark_core.proofs.CachesMakes.{made_makes}
+use Rattle.mark_core.proofs.Blocks.BlocksTaken.{Taken}
+use Rattle.mark_core.proofs.Caches.CachesMakes.{made_makes}
 use Rattle.mark_core.proofs.Places.{region-length}
-use Rattle.mark_core.proofs.ReferencesFields.{new-fields}
-use Rattle.mark_core.proofs.ReferencesRoots.{Used, read-field, seat-formed}
-use Rattle.mark_core.proofs.UsedKept.{used-back}
-use Rattle.mark_core.proofs.UsedSeats.{IsMadeBy}
+use Rattle.mark_core.proofs.References.ReferencesFields.{new-fields}
+use Rattle.mark_core.proofs.References.ReferencesRoots.{Used, read-field, seat-formed}
+use Rattle.mark_core.proofs.Used.UsedKept.{used-back}
+use Rattle.mark_core.proofs.Used.UsedSeats.{IsMadeBy}
 use Rattle.mark_core.specs.declared.kinds.Step.{Step}
 use Rattle.mark_core.specs.declared.kinds.Step.TheVariants.{StoreNew}
 use Rattle.mark_core.specs.declared.seat.SeatState.{SeatState}

@@ -10,10 +10,10 @@ use Rattle.mark_core.specs.Cells.{field}
 use Rattle.mark_core.specs.HeapRules.{section_of, NumbersBelow}
 use Rattle.mark_core.specs.MutatorSteps.{with_making}
 use Rattle.mark_core.specs.Steps.{Core}
-use Rattle.mark_core.proofs.BlocksTaken.{Taken}
-use Rattle.mark_core.proofs.CachesAt.{maker-at}
-use Rattle.mark_core.proofs.FormedAfter.{one-of}
-use Rattle.mark_core.proofs.ReferencesRoots.{Used}
+use Rattle.mark_core.proofs.Blocks.BlocksTaken.{Taken}
+use Rattle.mark_core.proofs.Caches.CachesAt.{maker-at}
+use Rattle.mark_core.proofs.Formed.FormedAfter.{one-of}
+use Rattle.mark_core.proofs.References.ReferencesRoots.{Used}
 use Rattle.mark_core.specs.declared.kinds.Shape.{Shape}
 use Rattle.mark_core.specs.declared.kinds.Step.{Step}
 use Rattle.mark_core.specs.declared.kinds.Step.TheVariants.{ReadCount, StoreNew}

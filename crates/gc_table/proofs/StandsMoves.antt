@@ -4,10 +4,10 @@ use Rattle.std.specs.Prelude.{IsTrue, IsFalse, slice_get, slice_index}
 use Rattle.mark_core.specs.Layout.{Words, words_of}
 use Rattle.mark_core.specs.Seats.{makes}
 use Rattle.mark_core.specs.Steps.{Core}
-use Rattle.mark_core.proofs.BlocksTaken.{Taken, within}
-use Rattle.mark_core.proofs.ReferencesRoots.{Used, UsedAfter}
-use Rattle.mark_core.proofs.UsedKept.{used-back}
-use Rattle.mark_core.proofs.UsedSeats.{IsMadeBy}
+use Rattle.mark_core.proofs.Blocks.BlocksTaken.{Taken, within}
+use Rattle.mark_core.proofs.References.ReferencesRoots.{Used, UsedAfter}
+use Rattle.mark_core.proofs.Used.UsedKept.{used-back}
+use Rattle.mark_core.proofs.Used.UsedSeats.{IsMadeBy}
 use Rattle.mark_core.specs.declared.kinds.Step.{Step}
 use Rattle.mark_core.specs.declared.kinds.Step.TheVariants.{ReadCount}
 use Rattle.mark_core.specs.declared.seat.SeatState.{SeatState}

@@ -9,12 +9,12 @@ use Rattle.mark_core.specs.Seats.{free_in, makes, may_mutate}
 use Rattle.mark_core.specs.MutatorSteps.{with_making, with_made}
 use Rattle.mark_core.specs.Steps.{Core}
 use Rattle.mark_core.proofs.Acting.{words_left, seats_left}
-use Rattle.mark_core.proofs.BlocksTaken.{Taken, mine as own-fact}
-use Rattle.mark_core.proofs.CachesFacts.{all-facts}
-use Rattle.mark_core.proofs.CachesNext.{next-free, next-makes}
-use Rattle.mark_core.proofs.CachesSeat.{CacheFacts}
-use Rattle.mark_core.proofs.PoolBits.{same_place}
-use Rattle.mark_core.proofs.ReferencesRoots.{UsedAfter}
+use Rattle.mark_core.proofs.Blocks.BlocksTaken.{Taken, mine as own-fact}
+use Rattle.mark_core.proofs.Caches.CachesFacts.{all-facts}
+use Rattle.mark_core.proofs.Caches.CachesNext.{next-free, next-makes}
+use Rattle.mark_core.proofs.Caches.CachesSeat.{CacheFacts}
+use Rattle.mark_core.proofs.Pool.PoolBits.{same_place}
+use Rattle.mark_core.proofs.References.ReferencesRoots.{UsedAfter}
 use Rattle.mark_core.specs.declared.kinds.Step.{Step}
 use Rattle.mark_core.specs.declared.kinds.Step.TheVariants.{StoreNew}
 use Rattle.mark_core.specs.declared.seat.SeatState.{SeatState}

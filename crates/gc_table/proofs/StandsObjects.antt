@@ -6,16 +6,16 @@ use Rattle.std.proofs.lemmas.List.{length-set}
 use Rattle.std.proofs.lemmas.Option.{same_Some}
 use Rattle.mark_core.specs.Layout.{Words, words_of}
 use Rattle.mark_core.specs.Bits.{flag, cell_of}
-use Rattle.mark_core.proofs.FormedAfter.{set-cases}
+use Rattle.mark_core.proofs.Formed.FormedAfter.{set-cases}
 use Rattle.mark_core.specs.Seats.{is_the, has_making}
 use Rattle.mark_core.specs.Views.{makers}
 use Rattle.mark_core.specs.Cells.{field}
 use Rattle.mark_core.specs.HeapRules.{section_of, number_of, NamesInUse}
 use Rattle.mark_core.specs.MutatorSteps.{has_own, variable as word_in}
 use Rattle.mark_core.specs.Steps.{Core}
-use Rattle.mark_core.proofs.BlocksTaken.{Taken, mine as own-fact}
-use Rattle.mark_core.proofs.ReferencesRoots.{Used, seat-formed}
-use Rattle.mark_core.proofs.UsedSeats.{IsMadeBy}
+use Rattle.mark_core.proofs.Blocks.BlocksTaken.{Taken, mine as own-fact}
+use Rattle.mark_core.proofs.References.ReferencesRoots.{Used, seat-formed}
+use Rattle.mark_core.proofs.Used.UsedSeats.{IsMadeBy}
 use Rattle.mark_core.specs.declared.kinds.Step.{Step}
 use Rattle.mark_core.specs.declared.kinds.Step.TheVariants.{ReadCount}
 use Rattle.mark_core.specs.declared.seat.SeatState.{SeatState}

@@ -8,7 +8,7 @@ use Rattle.mark_core.specs.MutatorSteps.{in_variables}
 use Rattle.mark_core.specs.Steps.{Core}
 use Rattle.mark_core.proofs.Acting.{Acted}
 use Rattle.mark_core.proofs.Core.{acts}
-use Rattle.mark_core.proofs.BlocksTaken.{Taken}
+use Rattle.mark_core.proofs.Blocks.BlocksTaken.{Taken}
 use Rattle.mark_core.specs.declared.kinds.Step.{Step}
 use Rattle.mark_core.specs.declared.kinds.Step.TheVariants.{StoreField, StoreValue, StoreRoot}
 use Rattle.mark_core.specs.declared.seat.SeatState.{SeatState}

@@ -10,11 +10,11 @@ use Rattle.mark_core.specs.Cells.{field}
 use Rattle.mark_core.specs.Steps.{Core}
 use Rattle.mark_core.proofs.Acting.{found, words_left, seats_left}
 use Rattle.mark_core.proofs.AtSeat.{roots-length}
-use Rattle.mark_core.proofs.BlocksTaken.{Taken, in-place, words-read}
+use Rattle.mark_core.proofs.Blocks.BlocksTaken.{Taken, in-place, words-read}
 use Rattle.mark_core.proofs.Regions.{words-get}
-use Rattle.mark_core.proofs.ReferencesNames.{known-used}
-use Rattle.mark_core.proofs.ReferencesRoots.{Used, UsedAfter, read-whole, read-field}
-use Rattle.mark_core.proofs.UsedSeats.{IsMadeBy}
+use Rattle.mark_core.proofs.References.ReferencesNames.{known-used}
+use Rattle.mark_core.proofs.References.ReferencesRoots.{Used, UsedAfter, read-whole, read-field}
+use Rattle.mark_core.proofs.Used.UsedSeats.{IsMadeBy}
 use Rattle.mark_core.proofs.Writes.{only_reads}
 use Rattle.mark_core.specs.declared.kinds.Step.{Step}
 use Rattle.mark_core.specs.declared.kinds.Step.TheVariants.{ReadOwn, ReadCat}

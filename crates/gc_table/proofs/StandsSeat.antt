@@ -14,14 +14,14 @@ use Rattle.mark_core.specs.MutatorSteps.{knows_cell}
 use Rattle.mark_core.specs.WellFormed.{IsCache}
 use Rattle.mark_core.specs.Steps.{Core}
 use Rattle.mark_core.specs.Laws.{IsCore}
-use Rattle.mark_core.proofs.BlocksTaken.{Taken, mine as own-fact}
-use Rattle.mark_core.proofs.CachesAt.{caching, maker-at}
-use Rattle.mark_core.proofs.CachesFacts.{all-facts}
-use Rattle.mark_core.proofs.CachesNext.{making-free, free-block}
-use Rattle.mark_core.proofs.CachesOwners.{free-unused, same-seat}
-use Rattle.mark_core.proofs.CachesSeat.{CacheFacts}
-use Rattle.mark_core.proofs.ReferencesEnv.{section-is}
-use Rattle.mark_core.proofs.ReferencesRoots.{Used, own-used, seat-formed, mutator-is}
+use Rattle.mark_core.proofs.Blocks.BlocksTaken.{Taken, mine as own-fact}
+use Rattle.mark_core.proofs.Caches.CachesAt.{caching, maker-at}
+use Rattle.mark_core.proofs.Caches.CachesFacts.{all-facts}
+use Rattle.mark_core.proofs.Caches.CachesNext.{making-free, free-block}
+use Rattle.mark_core.proofs.Caches.CachesOwners.{free-unused, same-seat}
+use Rattle.mark_core.proofs.Caches.CachesSeat.{CacheFacts}
+use Rattle.mark_core.proofs.References.ReferencesEnv.{section-is}
+use Rattle.mark_core.proofs.References.ReferencesRoots.{Used, own-used, seat-formed, mutator-is}
 use Rattle.mark_core.specs.declared.kinds.Shape.{Shape}
 use Rattle.mark_core.specs.declared.kinds.Step.{Step}
 use Rattle.mark_core.specs.declared.kinds.Step.TheVariants.{ReadCount}

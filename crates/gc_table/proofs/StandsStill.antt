@@ -8,11 +8,11 @@ use Rattle.mark_core.specs.Start.{start_seat, spent_seat}
 use Rattle.mark_core.specs.Effects.{seat_after}
 use Rattle.mark_core.specs.Steps.{Core}
 use Rattle.mark_core.proofs.Acting.{found, words_left, seats_left}
-use Rattle.mark_core.proofs.BlocksTaken.{Taken}
-use Rattle.mark_core.proofs.FormedAfter.{set-cases, push-cases}
-use Rattle.mark_core.proofs.ReferencesRoots.{Used, UsedAfter, stores_root, roots-same}
-use Rattle.mark_core.proofs.UsedSeats.{IsMadeBy}
-use Rattle.mark_core.proofs.UsedKept.{used-back}
+use Rattle.mark_core.proofs.Blocks.BlocksTaken.{Taken}
+use Rattle.mark_core.proofs.Formed.FormedAfter.{set-cases, push-cases}
+use Rattle.mark_core.proofs.References.ReferencesRoots.{Used, UsedAfter, stores_root, roots-same}
+use Rattle.mark_core.proofs.Used.UsedSeats.{IsMadeBy}
+use Rattle.mark_core.proofs.Used.UsedKept.{used-back}
 use Rattle.mark_core.specs.declared.kinds.Step.{Step}
 use Rattle.mark_core.specs.declared.kinds.Step.TheVariants.{Split, Join}
 use Rattle.mark_core.specs.declared.seat.SeatState.{SeatState}

@@ -14,12 +14,12 @@ use Rattle.mark_core.specs.Steps.{Core}
 use Rattle.mark_core.specs.Laws.{IsCore}
 use Rattle.mark_core.proofs.Acting.{found, words_left, seats_left}
 use Rattle.mark_core.proofs.AtSeat.{allocs-length}
-use Rattle.mark_core.proofs.BlocksTaken.{Taken, in-place}
+use Rattle.mark_core.proofs.Blocks.BlocksTaken.{Taken, in-place}
 use Rattle.mark_core.proofs.Core.{all-makers}
 use Rattle.mark_core.proofs.Known.{in_use-below}
 use Rattle.mark_core.proofs.Places.{region-length}
-use Rattle.mark_core.proofs.PoolBits.{same_place}
-use Rattle.mark_core.proofs.ReferencesRoots.{Used, UsedAfter}
+use Rattle.mark_core.proofs.Pool.PoolBits.{same_place}
+use Rattle.mark_core.proofs.References.ReferencesRoots.{Used, UsedAfter}
 use Rattle.mark_core.specs.Views.{makers}
 use Rattle.mark_core.specs.declared.kinds.Step.{Step}
 use Rattle.mark_core.specs.declared.kinds.Step.TheVariants.{StoreField, StoreValue}

@@ -11,7 +11,7 @@ use Rattle.mark_core.specs.Closed.{IsReachableIn}
 use Rattle.mark_core.specs.Steps.{Core}
 use Rattle.mark_core.specs.Laws.{IsCore}
 use Rattle.mark_core.proofs.Closing.{goes-to}
-use Rattle.mark_core.proofs.ReferencesRoots.{Used}
+use Rattle.mark_core.proofs.References.ReferencesRoots.{Used}
 use Rattle.mark_core.proofs.Sparing.{Kept, kept-below, path-kept}
 use Rattle.mark_core.specs.declared.kinds.Phase.TheVariants.{Sweep}
 use Rattle.gc_table.proofs.StandsStores.{used-exists}

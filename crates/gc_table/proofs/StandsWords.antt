@@ -5,7 +5,7 @@ use Rattle.mark_core.specs.Layout.{Words, words_of, put_word}
 use Rattle.mark_core.specs.Effects.{written}
 use Rattle.mark_core.specs.Steps.{Core}
 use Rattle.mark_core.proofs.Acting.{found, words_left}
-use Rattle.mark_core.proofs.BlocksTaken.{Taken, words-read}
+use Rattle.mark_core.proofs.Blocks.BlocksTaken.{Taken, words-read}
 use Rattle.mark_core.proofs.RegionWrites.{identities-kept, fields-kept}
 use Rattle.mark_core.proofs.Writes.{at_counter}
 use Rattle.mark_core.specs.declared.kinds.Step.{Step}

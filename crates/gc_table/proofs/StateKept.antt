@@ -10,9 +10,9 @@ use Rattle.mark_core.specs.Steps.{AllTrue}
 use Rattle.mark_core.proofs.Acting.{Acted, found, seats_left}
 use Rattle.mark_core.proofs.Core.{acts}
 use Rattle.gc_table.specs.Laws.{EventsKeepRule}
-use Rattle.mark_core.proofs.BlocksTaken.{within}
+use Rattle.mark_core.proofs.Blocks.BlocksTaken.{within}
 use Rattle.mark_core.proofs.CoreKept.{core-kept}
-use Rattle.mark_core.proofs.SweptKept.{swept-kept_by}
+use Rattle.mark_core.proofs.Swept.SweptKept.{swept-kept_by}
 use Rattle.mark_core.specs.declared.kinds.Shape.{Shape}
 use Rattle.mark_core.specs.declared.kinds.Step.{Step}
 use Rattle.mark_core.specs.declared.kinds.Step.TheVariants.{Split, Join}

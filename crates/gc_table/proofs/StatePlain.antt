@@ -7,7 +7,7 @@ use Rattle.mark_core.specs.Layout.{words_of}
 use Rattle.mark_core.specs.Parts.{parts}
 use Rattle.mark_core.specs.Seats.{may_mutate}
 use Rattle.mark_core.specs.Steps.{AllTrue}
-use Rattle.mark_core.proofs.BlocksTaken.{Taken}
+use Rattle.mark_core.proofs.Blocks.BlocksTaken.{Taken}
 use Rattle.mark_core.specs.declared.kinds.Shape.{Shape}
 use Rattle.mark_core.specs.declared.kinds.Step.{Step}
 use Rattle.mark_core.specs.declared.kinds.Step.TheVariants.{StoreField, StoreValue, StoreRoot}

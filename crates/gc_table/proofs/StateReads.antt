@@ -11,8 +11,8 @@ use Rattle.mark_core.specs.Seats.{may_mutate}
 use Rattle.mark_core.specs.HeapRules.{section_of, number_of}
 use Rattle.mark_core.specs.Steps.{Core, AllTrue}
 use Rattle.mark_core.proofs.Acting.{found}
-use Rattle.mark_core.proofs.BlocksTaken.{Taken, in-place}
-use Rattle.mark_core.proofs.ReferencesNames.{known-used}
+use Rattle.mark_core.proofs.Blocks.BlocksTaken.{Taken, in-place}
+use Rattle.mark_core.proofs.References.ReferencesNames.{known-used}
 use Rattle.mark_core.proofs.Regions.{words-get}
 use Rattle.mark_core.specs.declared.kinds.Shape.{Shape}
 use Rattle.mark_core.specs.declared.kinds.Step.{Step}
@@ -36,6 +36,7 @@ use Rattle.gc_table.proofs.StandsNamed.{ref-of}
 use Rattle.gc_table.proofs.StandsReads.{own-found, cat-found}
 use Rattle.gc_table.proofs.StandsSeat.{Mutates, known-agrees}
 use Rattle.gc_table.proofs.StatePlain.{Acts, acts-taken, own-section, Views, views}
+use Rattle.mark_core.specs.Numbers.{first_position, last_count, named_number}
 
 -- the object that a reference to a cell names has the cell's value
 object_agrees : (sh : Shape) (ids values fields : List ℕ) (ms : List Meaning) (i c : ℕ) (m : Meaning) (ref : Ref) → slice_get ms i ≡ Some m → WordAgrees ids (object_count ms) i (c + 1) ref → HasMeaning sh ids values fields ms c
@@ -87,16 +88,16 @@ ident_found c i s x ms k st a =
     subst (IsNamed i ref) (sym old) (ref-of w.identities (object_count ms) i (x + 1) x ref refl (known-agrees c i s step ms x k st a k.ok.1.0)).0
 
 -- the counters from 8 on are positions
-counter_is : (b d e : Bool) (which n : ℕ) → b ≡ false → d ≡ false → e ≡ false → which - 8 ≡ n → (if b then (0, 3 + which) else if d then (0, 4 + which) else if e then the_named else position_at (which - 8)) ≡ position_at n
+counter_is : (b d e : Bool) (which n : ℕ) → b ≡ false → d ≡ false → e ≡ false → which - first_position ≡ n → (if b then (0, 3 + which) else if d then (0, 4 + which) else if e then the_named else position_at (which - first_position)) ≡ position_at n
 counter_is true d e which n x y z h = absurd (cc)
 counter_is false true e which n x y z h = absurd (cc)
 counter_is false false true which n x y z h = absurd (cc)
 counter_is false false false which n x y z h = ap position_at h
 
-position_counter : (w : ℕ) → counter_at (8 + w) ≡ position_at w
+position_counter : (w : ℕ) → counter_at (first_position + w) ≡ position_at w
 position_counter w =
-    counter_is (nat_lt (8 + w) 2) (nat_lt (8 + w) 7) (eqb (8 + w) 7) (8 + w) w (false_from_ne_true (nat_lt (8 + w) 2) (λ e. omega (arith, ltb-true (8 + w) 2 e)))
-    (false_from_ne_true (nat_lt (8 + w) 7) (λ e. omega (arith, ltb-true (8 + w) 7 e))) (ne_eqb (8 + w) 7 (λ e. omega (arith, e))) (omega arith)
+    counter_is (nat_lt (first_position + w) last_count) (nat_lt (first_position + w) named_number) (eqb (first_position + w) named_number) (first_position + w) w (false_from_ne_true (nat_lt (first_position + w) last_count) (λ e. omega (arith, ltb-true (first_position + w) 2 e)))
+    (false_from_ne_true (nat_lt (first_position + w) named_number) (λ e. omega (arith, ltb-true (first_position + w) named_number e))) (ne_eqb (first_position + w) named_number (λ e. omega (arith, e))) (omega arith)
 
 -- what a mutator reads of a section's words, in the words of its view
 value_read : (x : TableState) (i : ℕ) (v : View) (c : ℕ) → Acts x i v (ReadValue c) → Views x i v → Reads (ReadValue c) (found x.core v.state (ReadValue c)) v
@@ -132,7 +133,7 @@ season_read x i v k e =
 
 position_read : (x : TableState) (i : ℕ) (v : View) (which : ℕ) → Acts x i v (ReadStat which) → Reads (ReadStat which) (found x.core v.state (ReadStat which)) v
 position_read x i v which k w e at =
-    let h : which < 8 + x.core.shape.sections = ltb-true which (8 + x.core.shape.sections) k.ok.0 in
+    let h : which < first_position + x.core.shape.sections = ltb-true which (first_position + x.core.shape.sections) k.ok.0 in
     ap (λ (n : ℕ). slice_index x.core.words (address x.core.shape (counter_at n))) at
     ∙ ap (λ (p : ℕ × ℕ). slice_index x.core.words (address x.core.shape p)) (position_counter w)
     ∙ words-get (region_sizes x.core.shape) 1 x.core.words w 0 (omega (arith, h, at))

@@ -7,7 +7,7 @@ use Rattle.std.proofs.lemmas.List.{length-map}
 use Rattle.std.proofs.lemmas.Option.{slice_get-map, slice_get-get_or}
 use Rattle.mark_core.specs.Layout.{words_of}
 use Rattle.mark_core.specs.Seats.{has_turn, may_mutate}
-use Rattle.mark_core.proofs.BlocksTaken.{Taken, mine as own-fact}
+use Rattle.mark_core.proofs.Blocks.BlocksTaken.{Taken, mine as own-fact}
 use Rattle.mark_core.specs.declared.kinds.Step.TheVariants.{ReadCount}
 use Rattle.mark_core.specs.declared.seat.SeatState.{SeatState}
 use Rattle.gc_table.specs.declared.view.SectionState.{SectionState}

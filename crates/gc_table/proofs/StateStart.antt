@@ -11,11 +11,11 @@ use Rattle.mark_core.specs.Layout.{words_of, region_base, region_sizes, pool_wor
 use Rattle.mark_core.specs.Start.{start_words, start_seats, full_pool, packet_bits}
 use Rattle.mark_core.proofs.Acting.{some_none}
 use Rattle.mark_core.proofs.CoreKept.{core-starts}
-use Rattle.mark_core.proofs.FormedStart.{seat-at}
-use Rattle.mark_core.proofs.PoolStart.{in-gap, past-gap, gap, singles, tail_words}
-use Rattle.mark_core.proofs.ReferencesStart.{none-used}
+use Rattle.mark_core.proofs.Formed.FormedStart.{seat-at}
+use Rattle.mark_core.proofs.Pool.PoolStart.{in-gap, past-gap, gap, singles, tail_words}
+use Rattle.mark_core.proofs.References.ReferencesStart.{none-used}
 use Rattle.mark_core.proofs.Regions.{words-get}
-use Rattle.mark_core.proofs.SweptStart.{swept-starts}
+use Rattle.mark_core.proofs.Swept.SweptStart.{swept-starts}
 use Rattle.mark_core.specs.declared.kinds.Shape.{Shape}
 use Rattle.mark_core.specs.declared.seat.SeatState.{SeatState}
 use Rattle.plain_heap.specs.declared.operation.Op.{Op}

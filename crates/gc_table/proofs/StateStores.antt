@@ -10,8 +10,8 @@ use Rattle.mark_core.specs.Seats.{is_the, last_made, may_mutate}
 use Rattle.mark_core.specs.HeapRules.{section_of, number_of}
 use Rattle.mark_core.specs.MutatorSteps.{names_last, knows_cell, variable as word_in}
 use Rattle.mark_core.specs.Steps.{Core}
-use Rattle.mark_core.proofs.BlocksTaken.{Taken}
-use Rattle.mark_core.proofs.ReferencesRoots.{seat-formed}
+use Rattle.mark_core.proofs.Blocks.BlocksTaken.{Taken}
+use Rattle.mark_core.proofs.References.ReferencesRoots.{seat-formed}
 use Rattle.mark_core.specs.declared.kinds.Step.{Step}
 use Rattle.mark_core.specs.declared.kinds.Step.TheVariants.{StoreField, StoreValue, StoreRoot}
 use Rattle.mark_core.specs.declared.seat.SeatState.{SeatState}

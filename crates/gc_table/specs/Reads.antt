@@ -1,5 +1,6 @@
 -- What a seat reads, in the words of the plain heaps.
 use Rattle.std.specs.Prelude.{ℕ, ◌≡◌, ◌+◌, ◌/◌, ◌%◌, ◌↔◌, Some}
+use Rattle.mark_core.specs.Numbers.{first_position}
 use Rattle.mark_core.specs.Bits.{flag}
 use Rattle.mark_core.specs.declared.kinds.Step.{Step}
 use Rattle.mark_core.specs.declared.kinds.Step.TheVariants.{ReadOwn, ReadValue, ReadIdent, ReadCat, ReadStat, ReadSeason}
@@ -23,5 +24,5 @@ Reads (ReadCat u) n v = (n ≡ 0) ↔ ((section_after v.shape v.plan v.state (Re
 -- how many times the catalogue's seat moved the season on
 Reads ReadSeason n v = v.state.section ≡ Some 0 → n ≡ v.own.seasons
 -- how many commands the seat's own section has done
-Reads (ReadStat which) n v = (w : ℕ) → v.state.section ≡ Some w → which ≡ 8 + w → n ≡ v.own.position
+Reads (ReadStat which) n v = (w : ℕ) → v.state.section ≡ Some w → which ≡ first_position + w → n ≡ v.own.position
 Reads step n v = Unit {0}

@@ -6,7 +6,7 @@ use Rattle.std.proofs.lemmas.List.{get_or-map, length-map}
 use Rattle.mark_core.specs.Layout.{words_of, address, region_sizes, block_count}
 use Rattle.mark_core.specs.Steps.{Core}
 use Rattle.mark_core.specs.Laws.{IsCore}
-use Rattle.mark_core.proofs.BlocksTaken.{Taken, within, own-record}
+use Rattle.mark_core.proofs.Blocks.BlocksTaken.{Taken, within, own-record}
 use Rattle.mark_core.proofs.Regions.{words-get}
 use Rattle.mark_core.proofs.Places.{region-length}
 use Rattle.mark_core.specs.declared.kinds.Step.{Step}

@@ -1,5 +1,5 @@
 -- A drain in which nothing is left to do has marked every reachable cell.
-use Rattle.std.proofs.Common.{ℕ, ◌≡◌, ◌+◌, ◌-◌, ◌/◌, ◌<◌, ◌≤◌, List, [], ◌∷◌, get_or, length, arith, refl, sym, ◌∙◌, subst, Bool, true, false, not, ◌||◌, ◌&&◌, eqb, Option, Some, None, ⊎_elim}
+use Rattle.std.proofs.Common.{ℕ, ◌≡◌, ◌+◌, ◌-◌, ◌<◌, ◌≤◌, List, [], ◌∷◌, get_or, length, arith, refl, sym, ◌∙◌, subst, Bool, true, false, not, ◌||◌, ◌&&◌, eqb, Option, Some, None, ⊎_elim}
 use Rattle.std.specs.Prelude.{is_some, IsTrue, IsFalse, slice_index}
 use Rattle.std.specs.List.{All, list_any, list_all}
 use Rattle.std.proofs.lemmas.Bool.{true≢false, or_cases, and_parts, eqb-true, cases_lt, cases_Bool}
@@ -23,13 +23,14 @@ use Rattle.mark_core.specs.WellFormed.{IsWellFormed}
 use Rattle.mark_core.specs.Laws.{ClosedMarksAll}
 use Rattle.mark_core.proofs.Places.{region-length}
 use Rattle.mark_core.proofs.Known.{bit-below}
-use Rattle.mark_core.proofs.CountWork.{idle-from}
+use Rattle.mark_core.proofs.Count.CountWork.{idle-from}
 use Rattle.mark_core.proofs.QuietReading.{quiet}
-use Rattle.mark_core.proofs.WorldReading.{at-standing, any-passes, some-passes}
-use Rattle.mark_core.proofs.HandsCleaning.{done-left, done-cleans, done-scan}
+use Rattle.mark_core.proofs.World.WorldReading.{at-standing, any-passes, some-passes}
+use Rattle.mark_core.proofs.Hands.HandsCleaning.{done-left, done-cleans, done-scan}
 use Rattle.mark_core.specs.declared.kinds.Shape.{Shape}
 use Rattle.mark_core.specs.declared.kinds.Phase.TheVariants.{Drain}
 use Rattle.mark_core.specs.declared.seat.SeatState.{SeatState}
+use Rattle.mark_core.specs.Cards.{card_of}
 
 -- a seat without work in hand that owes no card
 pub record IsIdle (fields : ℕ) (g : Grasp) : Type 0 where
@@ -115,9 +116,9 @@ done_from c formed k e =
 not_waiting : (sh : Shape) (w : Words) (seats : List SeatState) (c : ℕ) → IsDone sh w seats → IsWaiting sh w.cards w.heads w.entries (hands seats) (grasps seats) c → ⊥
 not_waiting sh w seats c k (IsWaiting.queued q) = omega (arith, q.3, k.no_packet q.0 q.2)
 not_waiting sh w seats c k (IsWaiting.tended e) = true≢false (sym e ∙ list_any_none (tends c) (grasps seats) (λ i g h. none_tended sh.fields c (get_or (grasps seats) i g) (k.idle i g h)))
-not_waiting sh w seats c k (IsWaiting.dirty e) = absurd (omega (arith, e, clean-card w.cards (c / 16) k.clean))
+not_waiting sh w seats c k (IsWaiting.dirty e) = absurd (omega (arith, e, clean-card w.cards (card_of c) k.clean))
 not_waiting sh w seats c k (IsWaiting.cleaned e) =
-    true≢false (sym e ∙ list_any_none (cleans_card (c / 16)) (grasps seats) (λ i g h. done-cleans (get_or (grasps seats) i g).cleaning (c / 16) (k.idle i g h).cleaning))
+    true≢false (sym e ∙ list_any_none (cleans_card (card_of c)) (grasps seats) (λ i g h. done-cleans (get_or (grasps seats) i g).cleaning (card_of c) (k.idle i g h).cleaning))
 
 -- a field of a scanned cell goes to a marked cell
 scanned_goes : (sh : Shape) (w : Words) (seats : List SeatState) (c i r : ℕ) → IsDone sh w seats → i < sh.fields → (nil_or (is_marked_soon w.marks (grasps seats)) r || list_any (will_read c i) (grasps seats)) ≡ true → nil_or (cell_bit w.marks) r ≡ true
@@ -130,7 +131,7 @@ scanned_goes sh w seats c i r k h e =
 names_marked : (sh : Shape) (w : Words) (seats : List SeatState) (c i : ℕ) → IsDone sh w seats → i < sh.fields → IsAccounted sh w.marks w.cards w.heads w.entries w.fields (hands seats) (grasps seats) c → nil_or (cell_bit w.marks) (field sh w.fields c i) ≡ true
 names_marked sh w seats c i k h (IsAccounted.waiting a) = absurd (not_waiting sh w seats c k a)
 names_marked sh w seats c i k h (IsAccounted.owed e) =
-    absurd (true≢false (sym e ∙ list_any_none (owes_card (c / 16)) (grasps seats) (λ j g l. rw (k.idle j g l).owes refl)))
+    absurd (true≢false (sym e ∙ list_any_none (owes_card (card_of c)) (grasps seats) (λ j g l. rw (k.idle j g l).owes refl)))
 names_marked sh w seats c i k h (IsAccounted.scanned f) = scanned_goes sh w seats c i (field sh w.fields c i) k h (f i h)
 
 -- every path leads to marked cells

@@ -8,31 +8,31 @@ use Rattle.mark_core.specs.Start.{start_words, start_seats}
 use Rattle.mark_core.specs.Strong.{IsStrongSeat}
 use Rattle.mark_core.specs.Steps.{Core, failing_part, after_event, start_core}
 use Rattle.mark_core.specs.Laws.{IsCore, StartIsCore, EventsKeepCore, ArePacketsSound}
-use Rattle.mark_core.proofs.BlocksKept.{BlocksSound, blocks-kept_by}
-use Rattle.mark_core.proofs.BlocksStart.{blocks-starts}
-use Rattle.mark_core.proofs.CachesFacts.{SeatFacts, facts-kept_by, facts-starts}
-use Rattle.mark_core.proofs.CachesKept.{caches-kept_by}
-use Rattle.mark_core.proofs.CachesStart.{caches-starts}
-use Rattle.mark_core.proofs.ColoursPublished.{published-kept_by, published-starts}
-use Rattle.mark_core.proofs.ColoursUnpublished.{unpublished-kept_by, unpublished-starts}
-use Rattle.mark_core.proofs.ExactsKept.{exact-kept_by}
-use Rattle.mark_core.proofs.ExactsStart.{exact-starts}
-use Rattle.mark_core.proofs.FormedKept.{formed-kept_by}
-use Rattle.mark_core.proofs.FormedStart.{formed-starts}
-use Rattle.mark_core.proofs.HandsKept.{hands-kept_by, hands-starts, apart-kept_by, apart-starts}
-use Rattle.mark_core.proofs.HandsApart.{HandApart}
-use Rattle.mark_core.proofs.HandsRight.{HandRight}
-use Rattle.mark_core.proofs.MarksKept.{marks-kept_by}
-use Rattle.mark_core.proofs.MarksStart.{marks-starts}
-use Rattle.mark_core.proofs.PoolStart.{start, each-seat}
-use Rattle.mark_core.proofs.PoolsKept.{packets-kept, shape-kept}
-use Rattle.mark_core.proofs.ReferencesKept.{references-kept_by}
-use Rattle.mark_core.proofs.ReferencesStart.{references-starts}
+use Rattle.mark_core.proofs.Blocks.BlocksKept.{BlocksSound, blocks-kept_by}
+use Rattle.mark_core.proofs.Blocks.BlocksStart.{blocks-starts}
+use Rattle.mark_core.proofs.Caches.CachesFacts.{SeatFacts, facts-kept_by, facts-starts}
+use Rattle.mark_core.proofs.Caches.CachesKept.{caches-kept_by}
+use Rattle.mark_core.proofs.Caches.CachesStart.{caches-starts}
+use Rattle.mark_core.proofs.Colours.ColoursPublished.{published-kept_by, published-starts}
+use Rattle.mark_core.proofs.Colours.ColoursUnpublished.{unpublished-kept_by, unpublished-starts}
+use Rattle.mark_core.proofs.Exacts.ExactsKept.{exact-kept_by}
+use Rattle.mark_core.proofs.Exacts.ExactsStart.{exact-starts}
+use Rattle.mark_core.proofs.Formed.FormedKept.{formed-kept_by}
+use Rattle.mark_core.proofs.Formed.FormedStart.{formed-starts}
+use Rattle.mark_core.proofs.Hands.HandsKept.{hands-kept_by, hands-starts, apart-kept_by, apart-starts}
+use Rattle.mark_core.proofs.Hands.HandsApart.{HandApart}
+use Rattle.mark_core.proofs.Hands.HandsRight.{HandRight}
+use Rattle.mark_core.proofs.Marks.MarksKept.{marks-kept_by}
+use Rattle.mark_core.proofs.Marks.MarksStart.{marks-starts}
+use Rattle.mark_core.proofs.Pool.PoolStart.{start, each-seat}
+use Rattle.mark_core.proofs.Pool.PoolsKept.{packets-kept, shape-kept}
+use Rattle.mark_core.proofs.References.ReferencesKept.{references-kept_by}
+use Rattle.mark_core.proofs.References.ReferencesStart.{references-starts}
 use Rattle.mark_core.proofs.SeasonKept.{KnowsSeason, season-kept_by}
-use Rattle.mark_core.proofs.SweepsKept.{sweeping-kept_by}
-use Rattle.mark_core.proofs.SweepsStart.{sweeping-starts}
-use Rattle.mark_core.proofs.WorldKept.{WorldSound, world-kept_by}
-use Rattle.mark_core.proofs.WorldStart.{world-starts}
+use Rattle.mark_core.proofs.Sweeps.SweepsKept.{sweeping-kept_by}
+use Rattle.mark_core.proofs.Sweeps.SweepsStart.{sweeping-starts}
+use Rattle.mark_core.proofs.World.WorldKept.{WorldSound, world-kept_by}
+use Rattle.mark_core.proofs.World.WorldStart.{world-starts}
 use Rattle.mark_core.specs.declared.kinds.Shape.{Shape}
 use Rattle.mark_core.specs.declared.kinds.Event.{Event}
 use Rattle.mark_core.specs.declared.seat.SeatState.{SeatState}

@@ -6,7 +6,7 @@ use Rattle.mark_core.specs.Layout.{words_of}
 use Rattle.mark_core.specs.Seats.{may_store}
 use Rattle.mark_core.specs.Strong.{IsStrongBlock, KeepsWord}
 use Rattle.mark_core.specs.Steps.{Core}
-use Rattle.mark_core.proofs.BlocksTaken.{Taken}
+use Rattle.mark_core.proofs.Blocks.BlocksTaken.{Taken}
 use Rattle.mark_core.proofs.AtSeat.{of-view}
 use Rattle.mark_core.specs.declared.kinds.Step.{Step}
 use Rattle.mark_core.specs.declared.seat.SeatState.{SeatState}

@@ -16,7 +16,7 @@ use Rattle.mark_core.specs.SweepSteps.{survivors}
 use Rattle.mark_core.specs.Steps.{Core}
 use Rattle.mark_core.specs.Laws.{IsCore}
 use Rattle.mark_core.proofs.AtSeat.{allocs-length, marks-length}
-use Rattle.mark_core.proofs.BlocksTaken.{Taken, within, own-record}
+use Rattle.mark_core.proofs.Blocks.BlocksTaken.{Taken, within, own-record}
 use Rattle.mark_core.proofs.CellBits.{bit-both}
 use Rattle.mark_core.proofs.HeldBlock.{MayStore, may-store}
 use Rattle.mark_core.proofs.Known.{HasCache, bit-below, in_use-below}

@@ -8,15 +8,15 @@ use Rattle.mark_core.specs.Cells.{is_unswept, IsReachable}
 use Rattle.mark_core.specs.SweepSteps.{survivors, own_block}
 use Rattle.mark_core.specs.Steps.{Core, after_event}
 use Rattle.mark_core.specs.Laws.{ReachableStay}
-use Rattle.mark_core.proofs.BlocksTaken.{Taken}
-use Rattle.mark_core.proofs.BlocksStopped.{sweeping}
+use Rattle.mark_core.proofs.Blocks.BlocksTaken.{Taken}
+use Rattle.mark_core.proofs.Blocks.BlocksStopped.{sweeping}
 use Rattle.mark_core.proofs.CellBits.{bits-grow}
 use Rattle.mark_core.proofs.HeldBlock.{own-strong}
 use Rattle.mark_core.proofs.Sparing.{path-kept, kept-unswept, own-unswept, survives}
-use Rattle.mark_core.proofs.UsedCells.{alloc-on}
+use Rattle.mark_core.proofs.Used.UsedCells.{alloc-on}
 use Rattle.mark_core.proofs.Acting.{Acted, words_left}
 use Rattle.mark_core.proofs.Core.{acts}
-use Rattle.mark_core.proofs.PoolsKept.{shape-kept}
+use Rattle.mark_core.proofs.Pool.PoolsKept.{shape-kept}
 use Rattle.mark_core.specs.declared.kinds.Shape.{Shape}
 use Rattle.mark_core.specs.declared.kinds.Phase.TheVariants.{Sweep}
 use Rattle.mark_core.specs.declared.kinds.Step.{Step}

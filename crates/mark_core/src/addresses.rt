@@ -11,13 +11,14 @@ ghost use Rattle.mark_core.specs.declared.seat.SeatState.{SeatState};
 
 use crate::bases::Bases;
 use crate::kinds::{Cell, Shape, Step};
-use crate::making::cached_block;
-use crate::mutator::variable;
 use crate::passes::{Pass, pass_of};
 use crate::seat::SeatState;
 use crate::slots::length_in_hand;
-use crate::sweep::own_block;
-use crate::{bits, layout, packets};
+use crate::steps::making::cached_block;
+use crate::steps::mutator::variable;
+use crate::steps::packets;
+use crate::steps::sweep::own_block;
+use crate::{bits, layout};
 
 /// The address of the one word that the step of this seat reads or writes.
 #[inline(always)]

@@ -6,6 +6,7 @@ ghost use Rattle.mark_core.specs.Shapes.{IsShape};
 
 use crate::kinds::Shape;
 use crate::layout::{self, NAMED, NEXT_CARD};
+use crate::numbers::{FIRST_POSITION, LAST, NAMED_SECTION};
 
 /// Where the regions of a heap's words begin. It holds for the sizes from which it was made, so that no address has to be worked out from the sizes.
 #[derive(Drop)]
@@ -68,6 +69,7 @@ impl Bases {
         }
     }
 
+    /// The address of the word that says how many commands this section has done.
     #[inline(always)]
     pub fn position_at(&self, section: u32) -> usize
         ensures { result ≡ address self.now.shape (position_place section) }
@@ -75,6 +77,7 @@ impl Bases {
         self.positions + section as usize
     }
 
+    /// The address of variable v of this section.
     #[inline(always)]
     pub fn root_at(&self, section: u32, v: u8) -> usize
         ensures { result ≡ address self.now.shape (root_place section v) }
@@ -82,6 +85,7 @@ impl Bases {
         self.roots + (section as usize * 32 + v as usize)
     }
 
+    /// The address of the word that says who makes cells in block b.
     #[inline(always)]
     pub fn owner_at(&self, b: u32) -> usize
         ensures { result ≡ address self.now.shape (owner_place b) }
@@ -89,6 +93,7 @@ impl Bases {
         self.owners + b as usize
     }
 
+    /// The address of the allocation bits of block b.
     #[inline(always)]
     pub fn alloc_at(&self, b: u32) -> usize
         ensures { result ≡ address self.now.shape (alloc_place b) }
@@ -96,6 +101,7 @@ impl Bases {
         self.allocs + b as usize
     }
 
+    /// The address of the mark bits of block b.
     #[inline(always)]
     pub fn mark_at(&self, b: u32) -> usize
         ensures { result ≡ address self.now.shape (mark_place b) }
@@ -103,6 +109,7 @@ impl Bases {
         self.marks + b as usize
     }
 
+    /// The address of the word of this card: 1 where it is dirty.
     #[inline(always)]
     pub fn card_at(&self, card: u32) -> usize
         ensures { result ≡ address self.now.shape (card_place card) }
@@ -110,6 +117,7 @@ impl Bases {
         self.cards + card as usize
     }
 
+    /// The address of the head of packet p, which holds its length.
     #[inline(always)]
     pub fn head_at(&self, p: u32) -> usize
         ensures { result ≡ address self.now.shape (head_place p) }
@@ -117,6 +125,7 @@ impl Bases {
         self.heads + p as usize
     }
 
+    /// The address of entry k of packet p.
     #[inline(always)]
     pub fn entry_at(&self, p: u32, k: u32) -> usize
         ensures { result ≡ address self.now.shape (entry_place self.now.shape p k) }
@@ -124,6 +133,7 @@ impl Bases {
         self.entries + (p as usize * self.shape.entries as usize + k as usize)
     }
 
+    /// The address of the identity of cell c.
     #[inline(always)]
     pub fn identity_at(&self, c: u32) -> usize
         ensures { result ≡ address self.now.shape (identity_place c) }
@@ -131,6 +141,7 @@ impl Bases {
         self.identities + c as usize
     }
 
+    /// The address of the value of cell c.
     #[inline(always)]
     pub fn value_at(&self, c: u32) -> usize
         ensures { result ≡ address self.now.shape (value_place c) }
@@ -138,6 +149,7 @@ impl Bases {
         self.values + c as usize
     }
 
+    /// The address of field i of cell c.
     #[inline(always)]
     pub fn field_at(&self, c: u32, i: u8) -> usize
         ensures { result ≡ address self.now.shape (field_place self.now.shape c i) }
@@ -145,6 +157,7 @@ impl Bases {
         self.fields + (c as usize * self.shape.fields as usize + i as usize)
     }
 
+    /// The address of word g of pool q, which has a bit for each of 64 packets.
     #[inline(always)]
     pub fn pool_at(&self, q: usize, g: u32) -> usize
         requires { q < 256 }
@@ -153,19 +166,19 @@ impl Bases {
         self.pools + (q * self.pool_words + g as usize)
     }
 
-    /// The counters and the statistics from 0 on, then the named section, and from 8 on the positions.
+    /// The counters, then the statistics, whose words stand behind that of the named section, then the named section and the positions.
     #[inline(always)]
     pub fn counter_at(&self, which: u8) -> usize
         ensures { result ≡ address self.now.shape (counter_place which) }
     {
-        if which < 2 {
+        if which < LAST {
             NEXT_CARD + which as usize
-        } else if which < 7 {
+        } else if which < NAMED_SECTION {
             NEXT_CARD + 1 + which as usize
-        } else if which == 7 {
+        } else if which == NAMED_SECTION {
             NAMED
         } else {
-            self.positions + (which as usize - 8)
+            self.positions + (which - FIRST_POSITION) as usize
         }
     }
 

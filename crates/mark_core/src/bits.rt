@@ -1,18 +1,20 @@
 //! Words as sets of bits, as counts beside a flag, and as references to cells.
 ghost use Rattle.std.specs.Prelude.{◌≡◌, ◌<◌};
-ghost use Rattle.mark_core.specs.Bits.{has_flag as has_flag_of, has_bit as has_bit_of, with_bit as with_bit_of, without_bit as without_bit_of, card_bits as card_bits_of, cell_of as cell_of_word, cell_named as cell_named_of, reference_in as reference_in_word};
+ghost use Rattle.mark_core.specs.Bits.{has_flag as has_flag_of, has_bit as has_bit_of, with_bit as with_bit_of, without_bit as without_bit_of, cell_of as cell_of_word, cell_named as cell_named_of, reference_in as reference_in_word};
 
 use crate::kinds::Cell;
 
 /// The flag above a count of seats.
 pub const FLAG: u64 = 4_294_967_296;
 
+/// Whether the flag stands beside the count in this word: the stop flag in the world, or in the word of help that it is open.
 pub fn has_flag(word: u64) -> bool
     ensures { result ≡ has_flag_of word }
 {
     !(word < FLAG)
 }
 
+/// Whether bit i, below 64, is set. In a word of a block it is the bit of the block's cell i.
 pub fn has_bit(word: u64, i: u32) -> bool
     requires { i < 64 }
     ensures { result ≡ has_bit_of word i }
@@ -20,6 +22,7 @@ pub fn has_bit(word: u64, i: u32) -> bool
     (word >> i) & 1 == 1
 }
 
+/// The word with bit i set.
 pub fn with_bit(word: u64, i: u32) -> u64
     requires { i < 64 }
     ensures { result ≡ with_bit_of word i }
@@ -27,6 +30,7 @@ pub fn with_bit(word: u64, i: u32) -> u64
     word | (1 << i)
 }
 
+/// The word with bit i clear.
 pub fn without_bit(word: u64, i: u32) -> u64
     requires { i < 64 }
     ensures { result ≡ without_bit_of word i }
@@ -34,21 +38,7 @@ pub fn without_bit(word: u64, i: u32) -> u64
     word & !(1 << i)
 }
 
-/// The bits of the card's sixteen cells in the word of their block.
-pub fn card_bits(card: u32) -> u64
-    ensures { result ≡ card_bits_of card }
-{
-    if card % 4 == 0 {
-        65535
-    } else if card % 4 == 1 {
-        4_294_901_760
-    } else if card % 4 == 2 {
-        281_470_681_743_360
-    } else {
-        18_446_462_598_732_840_960
-    }
-}
-
+/// The cell that a word names which isn't nil: a word of a field, a root or a packet has the cell's number and 1. Of nil it says cell 0.
 pub fn cell_of(word: u64) -> Cell
     ensures { result ≡ cell_of_word word }
 {
@@ -62,6 +52,7 @@ pub fn cell_named(word: u64) -> Option<Cell>
     if word == 0 { None } else { Some(cell_of(word)) }
 }
 
+/// The word as a reference: nil is 0, and a cell its number and 1. Only the lower half of the word counts.
 pub fn reference_in(word: u64) -> u32
     ensures { result ≡ reference_in_word word }
 {

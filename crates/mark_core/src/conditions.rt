@@ -8,10 +8,11 @@ ghost use Rattle.mark_core.specs.Steps.{first_false as first_false_of};
 ghost use Rattle.mark_core.specs.declared.seat.SeatState.{SeatState};
 
 use crate::kinds::{Shape, Step};
+use crate::layout;
 use crate::passes::{Pass, pass_of};
 use crate::seat::SeatState;
+use crate::steps::{colour, help, making, mutator, packets, phase, season, sweep, world};
 use crate::words::{identity_of, read, season_of};
-use crate::{colour, help, layout, making, mutator, packets, phase, season, sweep, world};
 
 /// The least part of the step's condition that fails; `s` is the record of the seat that takes it.
 pub fn failing_part(

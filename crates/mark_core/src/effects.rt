@@ -8,7 +8,7 @@ ghost use Rattle.mark_core.specs.declared.kinds.Shape.{Shape};
 use crate::kinds::{Shape, Step};
 use crate::passes::{Pass, pass_of};
 use crate::seat::SeatState;
-use crate::{colour, help, making, mutator, packets, phase, season, sweep, world};
+use crate::steps::{colour, help, making, mutator, packets, phase, season, sweep, world};
 
 /// Changes the seat's record, and answers what its word becomes, where the word was `old`.
 #[inline(always)]

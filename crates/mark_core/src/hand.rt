@@ -2,10 +2,12 @@
 ghost use Rattle.std.specs.Prelude.{◌≡◌};
 ghost use Rattle.mark_core.specs.Seats.{is_the as is_the_cell_number, scan_left as scan_left_of, cleaning_left as cleaning_left_of, work_in_hand as work_in_hand_of, empty_handed as empty_handed_of, in_set as in_set_of, may_scan as may_scan_of, is_unpublished as is_unpublished_of, scans as scans_of, free_in as free_in_of, used_in as used_in_of, has_used as has_used_of, is_unread as is_unread_of, has_making as has_making_of, makes as makes_of, may_store as may_store_of, is_swept as is_swept_of};
 
+use crate::cards::block_of_card;
 use crate::kinds::Cell;
 use crate::seat::{BlockState, CacheState, Cleaning, SeatState};
 use crate::{bits, slots};
 
+/// The option holds this cell.
 pub fn is_the_cell(held: Option<Cell>, c: Cell) -> bool
     ensures { result ≡ is_the_cell_number held c }
 {
@@ -15,6 +17,7 @@ pub fn is_the_cell(held: Option<Cell>, c: Cell) -> bool
     }
 }
 
+/// The scan has a field left.
 pub fn scan_left(fields: u32, scan: Option<(Cell, u8)>) -> bool
     ensures { result ≡ scan_left_of fields scan }
 {
@@ -24,6 +27,7 @@ pub fn scan_left(fields: u32, scan: Option<(Cell, u8)>) -> bool
     }
 }
 
+/// A cleaning that is still to be done.
 fn cleaning_left(cleaning: Option<Cleaning>) -> bool
     ensures { result ≡ cleaning_left_of cleaning }
 {
@@ -64,7 +68,8 @@ pub fn may_scan(cleaning: Option<Cleaning>, c: Cell) -> bool
 {
     match cleaning {
         None => false,
-        Some(x) => in_set(x.card / 4, x.left, c) && in_set(x.card / 4, x.published, c),
+        Some(x) => in_set(block_of_card(x.card), x.left, c)
+            && in_set(block_of_card(x.card), x.published, c),
     }
 }
 
@@ -88,6 +93,7 @@ pub fn scans(scan: Option<(Cell, u8)>, c: Cell, i: u8) -> bool
     }
 }
 
+/// The cell is free in the cache.
 pub fn free_in(cache: Option<CacheState>, c: Cell) -> bool
     ensures { result ≡ free_in_of cache c }
 {
@@ -107,6 +113,7 @@ pub fn used_in(cache: Option<CacheState>, c: Cell) -> bool
     }
 }
 
+/// The cache has a cell that is made and not yet published.
 pub fn has_used(cache: Option<CacheState>) -> bool
     ensures { result ≡ has_used_of cache }
 {
@@ -116,6 +123,7 @@ pub fn has_used(cache: Option<CacheState>) -> bool
     }
 }
 
+/// There is a cache whose free cells weren't read yet.
 pub fn is_unread(cache: Option<CacheState>) -> bool
     ensures { result ≡ is_unread_of cache }
 {
@@ -125,6 +133,7 @@ pub fn is_unread(cache: Option<CacheState>) -> bool
     }
 }
 
+/// A cell is being made.
 pub fn has_making(cache: Option<CacheState>) -> bool
     ensures { result ≡ has_making_of cache }
 {
@@ -154,6 +163,7 @@ pub fn may_store(block: Option<BlockState>) -> bool
     }
 }
 
+/// The allocation bits of the block in hand were stored.
 pub fn is_swept(block: Option<BlockState>) -> bool
     ensures { result ≡ is_swept_of block }
 {

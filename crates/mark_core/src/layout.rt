@@ -4,30 +4,42 @@ ghost use Rattle.mark_core.specs.Layout.{pool_words as pool_words_of, block_coun
 ghost use Rattle.mark_core.specs.Places.{identity_at as identity_place};
 ghost use Rattle.mark_core.specs.Shapes.{IsShape};
 
+use crate::cards::CARD_CELLS;
 use crate::kinds::Shape;
 
+/// How many single words there are. They come first.
+pub const SINGLE_WORDS: usize = 11;
+
+/// How many seats run, and above that number the stop flag. Entering raises it by 1 and leaving lowers it; the flag is raised and dropped by the seat that stops the world.
 pub const WORLD: usize = 0;
 
+/// The phase of the cycle, by its number.
 pub const PHASE: usize = 1;
 
+/// The count of empty packets, 64 above: `Reserve` lowers it by 1, `Credit` raises it by 1, and it is never above the packets of the empty pool.
 pub const EMPTY: usize = 2;
 
+/// The counter of the card pass (`CARD_COUNTER`). Those of the sweep and the statistics follow, with the named section in between.
 pub const NEXT_CARD: usize = 3;
 
+/// The counter of the sweep (`BLOCK_COUNTER`).
 pub const NEXT_BLOCK: usize = 4;
 
+/// The section that found the heap full, which it stores itself just before.
 pub const NAMED: usize = 5;
 
+/// How many blocks of 64 cells there are.
 pub fn block_count(shape: &Shape) -> u32
     ensures { result ≡ block_count_of shape.now }
 {
     shape.cells / 64
 }
 
+/// How many cards there are, numbered from 0 on.
 pub fn card_count(shape: &Shape) -> u32
     ensures { result ≡ card_count_of shape.now }
 {
-    shape.cells / 16
+    shape.cells / CARD_CELLS
 }
 
 /// How many words hold one bit for each packet.
@@ -37,54 +49,63 @@ pub fn pool_words(shape: &Shape) -> usize
     (shape.packets as usize + 63) / 64
 }
 
+/// Where the positions begin, one for each section.
 pub fn positions(shape: &Shape) -> usize
     ensures { result ≡ region_base (region_sizes shape.now) 1 }
 {
-    11
+    SINGLE_WORDS
 }
 
+/// Where the roots begin, 32 for each section.
 pub fn roots(shape: &Shape) -> usize
     ensures { result ≡ region_base (region_sizes shape.now) 2 }
 {
     positions(shape) + shape.sections as usize
 }
 
+/// Where the owners begin, one for each block.
 pub fn owners(shape: &Shape) -> usize
     ensures { result ≡ region_base (region_sizes shape.now) 3 }
 {
     roots(shape) + shape.sections as usize * 32
 }
 
+/// Where the allocation bits begin, a word for each block.
 pub fn allocs(shape: &Shape) -> usize
     ensures { result ≡ region_base (region_sizes shape.now) 4 }
 {
     owners(shape) + block_count(shape) as usize
 }
 
+/// Where the mark bits begin, a word for each block.
 pub fn marks(shape: &Shape) -> usize
     ensures { result ≡ region_base (region_sizes shape.now) 5 }
 {
     allocs(shape) + block_count(shape) as usize
 }
 
+/// Where the cards begin, a word for each.
 pub fn cards(shape: &Shape) -> usize
     ensures { result ≡ region_base (region_sizes shape.now) 6 }
 {
     marks(shape) + block_count(shape) as usize
 }
 
+/// Where the heads of packets begin, a word for each packet.
 pub fn heads(shape: &Shape) -> usize
     ensures { result ≡ region_base (region_sizes shape.now) 7 }
 {
     cards(shape) + card_count(shape) as usize
 }
 
+/// Where the entries begin, packet by packet.
 pub fn entries(shape: &Shape) -> usize
     ensures { result ≡ region_base (region_sizes shape.now) 8 }
 {
     heads(shape) + shape.packets as usize
 }
 
+/// Where the identities begin, a word for each cell.
 pub fn identities(shape: &Shape) -> usize
     requires { IsShape shape.now }
     ensures { result ≡ region_base (region_sizes shape.now) 9 }
@@ -92,6 +113,7 @@ pub fn identities(shape: &Shape) -> usize
     entries(shape) + shape.packets as usize * shape.entries as usize
 }
 
+/// Where the values begin, a word for each cell.
 pub fn values(shape: &Shape) -> usize
     requires { IsShape shape.now }
     ensures { result ≡ region_base (region_sizes shape.now) 10 }
@@ -99,6 +121,7 @@ pub fn values(shape: &Shape) -> usize
     identities(shape) + shape.cells as usize
 }
 
+/// Where the fields begin, cell by cell.
 pub fn fields(shape: &Shape) -> usize
     requires { IsShape shape.now }
     ensures { result ≡ region_base (region_sizes shape.now) 11 }
@@ -106,6 +129,7 @@ pub fn fields(shape: &Shape) -> usize
     values(shape) + shape.cells as usize
 }
 
+/// Where the pools begin, one behind the other.
 pub fn pools(shape: &Shape) -> usize
     requires { IsShape shape.now }
     ensures { result ≡ region_base (region_sizes shape.now) 12 }
@@ -113,6 +137,7 @@ pub fn pools(shape: &Shape) -> usize
     fields(shape) + shape.cells as usize * shape.fields as usize
 }
 
+/// Where the word of help stands; the season follows.
 pub fn help(shape: &Shape) -> usize
     requires { IsShape shape.now }
     ensures { result ≡ region_base (region_sizes shape.now) 13 }
@@ -120,6 +145,7 @@ pub fn help(shape: &Shape) -> usize
     pools(shape) + 4 * pool_words(shape)
 }
 
+/// How many words a heap of this shape has.
 pub fn total_words(shape: &Shape) -> usize
     requires { IsShape shape.now }
     ensures { result ≡ total_words_of (region_sizes shape.now) }
@@ -127,6 +153,7 @@ pub fn total_words(shape: &Shape) -> usize
     help(shape) + 2
 }
 
+/// The address of the identity of cell c.
 pub fn identity_at(shape: &Shape, c: u32) -> usize
     requires { IsShape shape.now }
     ensures { result ≡ address shape.now (identity_place c) }

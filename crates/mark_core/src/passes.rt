@@ -18,6 +18,7 @@ pub enum Pass {
     Help,
 }
 
+/// The group of kinds to which the step belongs.
 #[inline(always)]
 pub fn pass_of(step: &Step) -> Pass
     ensures { result ≡ pass_of_step step.now }

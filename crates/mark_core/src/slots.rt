@@ -7,6 +7,7 @@ pub type Slot = Option<(u32, Option<u32>, bool)>;
 
 pub type Slots = [Slot; 4];
 
+/// The slot holds packet p.
 fn is_of(slot: Slot, p: u32) -> bool
     ensures { result ≡ slot_of slot p }
 {
@@ -26,6 +27,7 @@ fn length_in(slot: &Slot, p: u32) -> Option<Option<u32>>
     }
 }
 
+/// The slot holds packet p, and its head holds its length.
 fn is_stored_in(slot: Slot, p: u32) -> bool
     ensures { result ≡ stored_in_slot slot p }
 {
@@ -35,6 +37,7 @@ fn is_stored_in(slot: Slot, p: u32) -> bool
     }
 }
 
+/// Packet p is held.
 pub fn holds(held: Slots, p: u32) -> bool
     ensures { result ≡ holds_packet held p }
 {
@@ -42,6 +45,7 @@ pub fn holds(held: Slots, p: u32) -> bool
     is_of(a, p) || is_of(b, p) || is_of(c, p) || is_of(d, p)
 }
 
+/// The length of packet p, where it is held and its length is known.
 pub fn known_length(held: &Slots, p: u32) -> Option<u32>
     ensures { result ≡ known_length_of held.now p }
 {
@@ -61,24 +65,28 @@ pub fn known_length(held: &Slots, p: u32) -> Option<u32>
     None
 }
 
+/// The length of packet p where it is known, and 0 else.
 pub fn length_in_hand(held: &Slots, p: u32) -> u32
     ensures { result ≡ length_in_hand_of held.now p }
 {
     known_length(held, p).unwrap_or(0)
 }
 
+/// Packet p is held, and its length is known.
 pub fn has_length(held: &Slots, p: u32) -> bool
     ensures { result ≡ has_length_of held.now p }
 {
     known_length(held, p).is_some()
 }
 
+/// Packet p is known to have an entry.
 pub fn has_entry(held: &Slots, p: u32) -> bool
     ensures { result ≡ has_entry_of held.now p }
 {
     !(length_in_hand(held, p) == 0)
 }
 
+/// Packet p is held, and its head holds its length.
 pub fn is_stored(held: Slots, p: u32) -> bool
     ensures { result ≡ is_stored_packet held p }
 {
@@ -86,12 +94,14 @@ pub fn is_stored(held: Slots, p: u32) -> bool
     is_stored_in(a, p) || is_stored_in(b, p) || is_stored_in(c, p) || is_stored_in(d, p)
 }
 
+/// A packet is held.
 pub fn holds_any(held: Slots) -> bool
     ensures { result ≡ holds_any_packet held }
 {
     held[0].is_some() || held[1].is_some() || held[2].is_some() || held[3].is_some()
 }
 
+/// A slot is free.
 pub fn has_free_slot(held: Slots) -> bool
     ensures { result ≡ has_a_free_slot held }
 {
@@ -114,6 +124,7 @@ pub fn put_packet(held: &mut Slots, p: u32)
     }
 }
 
+/// The slot is free, where it held packet p.
 fn empty_slot(slot: &mut Slot, p: u32)
     ensures { slot.new ≡ slot_without p slot.old }
 {
@@ -122,6 +133,7 @@ fn empty_slot(slot: &mut Slot, p: u32)
     }
 }
 
+/// Packet p is no longer held.
 pub fn drop_packet(held: &mut Slots, p: u32)
     ensures { held.new ≡ dropped_from held.old p }
 {
@@ -131,6 +143,7 @@ pub fn drop_packet(held: &mut Slots, p: u32)
     empty_slot(&mut held[3], p);
 }
 
+/// The slot of packet p says this length, and whether the head holds it.
 fn set_slot(slot: &mut Slot, p: u32, length: u32, stored: bool)
     ensures { slot.new ≡ slot_with p (Some length) stored slot.old }
 {
@@ -152,6 +165,7 @@ pub fn set_length(held: &mut Slots, p: u32, length: u32, stored: bool)
     set_slot(&mut held[3], p, length, stored);
 }
 
+/// A packet other than p is held.
 pub fn holds_another(held: Slots, p: u32) -> bool
     ensures { result ≡ holds_another_packet held p }
 {

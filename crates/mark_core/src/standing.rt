@@ -5,6 +5,7 @@ ghost use Rattle.mark_core.specs.Seats.{phase_number as phase_number_of, phase_o
 use crate::kinds::Phase;
 use crate::seat::SeatState;
 
+/// The number, 0 to 5, that stands for the phase in its word.
 pub fn phase_number(phase: Phase) -> u64
     ensures { result ≡ phase_number_of phase }
 {
@@ -18,6 +19,7 @@ pub fn phase_number(phase: Phase) -> u64
     }
 }
 
+/// The phase that its word says. Full stands for 5 and all above, which no heap has.
 pub fn phase_of(word: u64) -> Phase
     ensures { result ≡ phase_of_word word }
 {
@@ -31,13 +33,15 @@ pub fn phase_of(word: u64) -> Phase
     }
 }
 
+/// The word says this phase.
 pub fn is_phase(word: u64, phase: Phase) -> bool
     ensures { result ≡ is_phase_of word phase }
 {
     word == phase_number(phase)
 }
 
-fn saw(seen: Option<Phase>, phase: Phase) -> bool
+/// The phase seen is this one.
+pub fn saw(seen: Option<Phase>, phase: Phase) -> bool
     ensures { result ≡ saw_phase seen phase }
 {
     match seen {
@@ -46,6 +50,7 @@ fn saw(seen: Option<Phase>, phase: Phase) -> bool
     }
 }
 
+/// The option holds this number.
 pub fn is_the(held: Option<u32>, number: u32) -> bool
     ensures { result ≡ is_the_number held number }
 {
@@ -92,6 +97,7 @@ pub fn is_bare(s: &SeatState) -> bool
     !s.counted && !s.raised && !s.helping
 }
 
+/// The season is the section's turn: even for the catalogue, odd for a warehouse.
 fn has_turn(section: Option<u32>, season: Option<u64>) -> bool
     ensures { result ≡ has_turn_of section season }
 {

@@ -95,6 +95,7 @@ fn full_pool(alloc: Global, shape: &Shape) -> Result<Vec<u64>, AllocError>
         .collect(alloc)
 }
 
+/// The words of a new heap: no seat runs, the phase is Idle, all packets are empty and in their pool, and no cell is made.
 pub fn start_words(alloc: Global, shape: &Shape) -> Result<Vec<u64>, AllocError>
     requires { IsShape shape.now }
     ensures { IfOk result (λ v. v.items ≡ start_words_of shape.now) }

@@ -15,8 +15,9 @@ use crate::kinds::{Cell, Phase, Shape};
 use crate::seat::SeatState;
 use crate::standing::is_phase;
 use crate::state::CoreState;
+use crate::steps::phase;
 use crate::words::read;
-use crate::{bits, hand, layout, phase};
+use crate::{bits, hand, layout};
 
 fn cell_bit(words: &[u64], c: u32) -> bool
     ensures { result ≡ cell_bit_of words.now c }

@@ -33,6 +33,7 @@ pub fn identity_of(shape: &Shape, words: &[u64], c: u32) -> u64
     }
 }
 
+/// The season, which says whose turn it is.
 pub fn season_of(shape: &Shape, words: &[u64]) -> u64
     requires shaped { IsShape shape.now }
     requires whole { length words.now ≡ total_words_of (region_sizes shape.now) }

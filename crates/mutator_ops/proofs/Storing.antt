@@ -21,6 +21,7 @@ use Rattle.gc_table.proofs.Running.{ran-join, ran-only}
 use Rattle.card_clean.specs.Barrier.{barrier_steps, cell_in, record_stored}
 use Rattle.mutator_ops.specs.Doing.{belongs, plain_steps, reads_ident, spares_plain, Does, IsOneStep, IsStepped, Looks}
 use Rattle.mutator_ops.proofs.Once.{once-last, once-none}
+use Rattle.mark_core.specs.Cards.{card_of}
 
 -- a seat with nothing in hand dirties a card, and nothing of its record changes
 or_none : (a b : Bool) → (a || b) ≡ false → (a ≡ false) × (b ≡ false)
@@ -56,9 +57,9 @@ dirtied_none fields s card idle owes =
 pub stored-same : (fields : ℕ) (s : SeatState) (u : ℕ) → work_in_hand fields s ≡ false → s.owes ≡ None → record_stored s u ≡ s
 stored-same fields s u idle owes = by_use (used_in s.cache (cell_in s u))
   where
-    by_use : (b : Bool) → (if b then s else (dirty_card_effect s (cell_in s u / 16)).seat 0) ≡ s
+    by_use : (b : Bool) → (if b then s else (dirty_card_effect s (card_of (cell_in s u))).seat 0) ≡ s
     by_use true = refl
-    by_use false = dirtied_none fields s (cell_in s u / 16) idle owes
+    by_use false = dirtied_none fields s (card_of (cell_in s u)) idle owes
 
 pub all-by : (p : Step → Bool) (es : List Entry) → all_steps p es ≡ list_all p (steps_of es)
 all-by p [] = refl
@@ -68,7 +69,7 @@ all-by p (e ∷ es) = ap (λ (b : Bool). p e.step && b) (all-by p es)
 pub only-barrier : (s : SeatState) (u i w : ℕ) (o : Option ℕ) (v x : View) → steps_of (events v x) ≡ barrier_steps s u i o → Only (belongs (ops.Set u i w)) v x
 only-barrier s u i w o v x e = all-by (belongs (ops.Set u i w)) (events v x) ∙ ap (list_all (belongs (ops.Set u i w))) e ∙ by_use (used_in s.cache (cell_in s u))
   where
-    by_use : (b : Bool) → list_all (belongs (ops.Set u i w)) (StoreField u i o ∷ (if b then [] else DirtyCard (cell_in s u / 16) ∷ [])) ≡ true
+    by_use : (b : Bool) → list_all (belongs (ops.Set u i w)) (StoreField u i o ∷ (if b then [] else DirtyCard (card_of (cell_in s u)) ∷ [])) ≡ true
     by_use true = refl
     by_use false = refl
 
@@ -76,7 +77,7 @@ only-barrier s u i w o v x e = all-by (belongs (ops.Set u i w)) (events v x) ∙
 pub once-barrier : (s : SeatState) (u i : ℕ) (o : Option ℕ) (v x : View) → steps_of (events v x) ≡ barrier_steps s u i o → IsOneStep v x
 once-barrier s u i o v x e = rw (ap plain_steps e) (by_use (used_in s.cache (cell_in s u)))
   where
-    by_use : (b : Bool) → plain_steps (StoreField u i o ∷ (if b then [] else DirtyCard (cell_in s u / 16) ∷ [])) ≤ 1
+    by_use : (b : Bool) → plain_steps (StoreField u i o ∷ (if b then [] else DirtyCard (card_of (cell_in s u)) ∷ [])) ≤ 1
     by_use true = omega arith
     by_use false = omega arith
 

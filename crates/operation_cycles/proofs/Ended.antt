@@ -14,7 +14,7 @@ use Rattle.mark_core.specs.declared.kinds.Phase.TheVariants.{Clear, Drain, Idle,
 use Rattle.mark_core.specs.declared.kinds.Shape.{Shape}
 use Rattle.mark_core.specs.declared.kinds.Step.{Step}
 use Rattle.mark_core.specs.declared.kinds.Step.TheVariants.{ClearMarks, NextBlock, ReadStat, Reset, StorePhase}
-use Rattle.mark_core.proofs.NotesKept.{single-word}
+use Rattle.mark_core.proofs.Notes.NotesKept.{single-word}
 use Rattle.mark_core.proofs.Places.{region-length}
 use Rattle.gc_table.specs.declared.view.View.{View}
 use Rattle.gc_table.specs.Log.{Only}

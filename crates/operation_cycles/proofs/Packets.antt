@@ -6,7 +6,7 @@ use Rattle.mark_core.specs.Seats.{cleaning_left, scan_left, work_in_hand}
 use Rattle.mark_core.specs.declared.kinds.Shape.{Shape}
 use Rattle.mark_core.specs.declared.kinds.Step.TheVariants.{ReadRoot}
 use Rattle.mark_core.specs.declared.seat.SeatState.{SeatState}
-use Rattle.mark_core.proofs.PoolSlots.{any-held}
+use Rattle.mark_core.proofs.Pool.PoolSlots.{any-held}
 use Rattle.gc_table.specs.Taking.{May}
 use Rattle.gc_table.specs.declared.view.View.{View}
 use Rattle.packet_pools.specs.Hands.{IsHeld}

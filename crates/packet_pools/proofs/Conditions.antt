@@ -10,7 +10,7 @@ use Rattle.mark_core.specs.Seats.{may_trace, saw, is_the, is_phase, work_in_hand
 use Rattle.mark_core.specs.PacketSteps.{may_push}
 use Rattle.mark_core.specs.Notes.{steady}
 use Rattle.mark_core.specs.WellFormed.{IsSeat}
-use Rattle.mark_core.proofs.NotesKept.{single-word}
+use Rattle.mark_core.proofs.Notes.NotesKept.{single-word}
 use Rattle.mark_core.specs.declared.kinds.Shape.{Shape}
 use Rattle.mark_core.specs.declared.kinds.Phase.TheVariants.{Marking, Drain}
 use Rattle.mark_core.specs.declared.kinds.Step.TheVariants.{Reserve, Take, Give, Credit, Push, Pop, Look, ReadCount, StoreLength, ReadLength}

@@ -3,7 +3,7 @@ use Rattle.std.proofs.Common.{ℕ, ◌≡◌, ◌≢◌, ◌<◌, ◌≤◌, ◌
 use Rattle.std.specs.Prelude.{◌||◌}
 use Rattle.std.proofs.lemmas.Bool.{true≢false, false≢true}
 use Rattle.mark_core.specs.Held.{Slots, Slot, slot_without, holds, holds_another, has_free_slot, known_length, put_packet, drop_packet, set_length}
-use Rattle.mark_core.proofs.PoolSlots.{any-held, drop-other}
+use Rattle.mark_core.proofs.Pool.PoolSlots.{any-held, drop-other}
 use Rattle.packet_pools.specs.Hands.{with_packet, free_slots}
 use Rattle.packet_pools.proofs.InHand.{known-held, drop-with}
 

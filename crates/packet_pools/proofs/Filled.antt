@@ -2,7 +2,7 @@
 use Rattle.std.proofs.Common.{ℕ, ◌≡◌, ◌≢◌, ◌<◌, ◌≤◌, ◌+◌, List, sym, ap, ◌∙◌, subst, arith, Bool, true, Some}
 use Rattle.mark_core.specs.Held.{holds, has_free_slot, drop_packet, set_length, length_in_hand, known_length}
 use Rattle.std.proofs.lemmas.Bool.{true≢false}
-use Rattle.mark_core.proofs.PoolSlots.{drop-other, holds-drop_same}
+use Rattle.mark_core.proofs.Pool.PoolSlots.{drop-other, holds-drop_same}
 use Rattle.mark_core.specs.declared.kinds.Shape.{Shape}
 use Rattle.mark_core.specs.declared.seat.SeatState.{SeatState}
 use Rattle.gc_table.specs.declared.view.View.{View}

@@ -4,7 +4,7 @@ use Rattle.std.proofs.lemmas.Bool.{false≢true, or_parts, ne_eqb, not_from_fals
 use Rattle.mark_core.specs.Seats.{work_in_hand}
 use Rattle.mark_core.specs.declared.seat.SeatState.{SeatState}
 use Rattle.mark_core.specs.Held.{Slots, slot_with, slot_without, holds, has_length, has_entry, length_in_hand, known_length, is_stored, has_free_slot, put_packet, drop_packet, set_length}
-use Rattle.mark_core.proofs.PoolSlots.{put-other, set-other, holds-put_same, known-put_same, known-set_same}
+use Rattle.mark_core.proofs.Pool.PoolSlots.{put-other, set-other, holds-put_same, known-put_same, known-set_same}
 use Rattle.mark_core.proofs.Known.{unheld-unknown}
 use Rattle.packet_pools.specs.Hands.{with_packet}
 

@@ -14,6 +14,7 @@ use Rattle.packet_pools.specs.Scanning.{InHand, Fills, Pushes, Settles}
 use Rattle.packet_pools.specs.Hands.{IsHeld, free_slots}
 use Rattle.packet_pools.proofs.Filled.{fills-join, fills-more, fills-same}
 use Rattle.packet_pools.proofs.Settled.{settles-dirty, settles-join, settles-same}
+use Rattle.mark_core.specs.Cards.{card_of}
 
 abbrev pub Owed : SeatState → SeatState → Type 0
 Owed s t = (t.owes ≡ s.owes) ⊎ (t.owes ≡ None)
@@ -64,15 +65,15 @@ module _ (v w : View) (h : Held) (c n : ℕ) (e : w ≡ after (Push h.packet c) 
       }
 
 -- its card is dirtied
-module _ (v w : View) (h : Held) (c n : ℕ) (e : w ≡ after (DirtyCard (c / 16)) n v) (hand : InHand None (Some c) v.state) where
+module _ (v w : View) (h : Held) (c n : ℕ) (e : w ≡ after (DirtyCard (card_of c)) n v) (hand : InHand None (Some c) v.state) where
   dirtied-hand : InHand None None w.state
   dirtied-hand =
       record {
-        popped = ap (λ (z : View). z.state.popped) e ∙ ap (λ o. popped_off o (c / 16)) hand.popped;
+        popped = ap (λ (z : View). z.state.popped) e ∙ ap (λ o. popped_off o (card_of c)) hand.popped;
         value = ap (λ (z : View). z.state.value) e ∙ hand.value;
         fresh =
             ap (λ (z : View). z.state.fresh) e
-            ∙ (ap (λ o. fresh_off o (c / 16)) hand.fresh ∙ ap (λ (b : Bool). cond b None (Some c)) (eq-eqb (c / 16) (c / 16) refl));
+            ∙ (ap (λ o. fresh_off o (card_of c)) hand.fresh ∙ ap (λ (b : Bool). cond b None (Some c)) (eq-eqb (card_of c) (card_of c) refl));
       }
 
   paid : (b : Bool) → w.state.owes ≡ cond b None v.state.owes → Owed v.state w.state
@@ -85,8 +86,8 @@ module _ (v w : View) (h : Held) (c n : ℕ) (e : w ≡ after (DirtyCard (c / 16
         packet = fills-same v w h (ap (λ (z : View). z.shape) e) (ap (λ (z : View). z.state.held) e) k free;
         hand = dirtied-hand;
         scan = ap (λ (z : View). z.state.scan) e;
-        cleaning = subst (Settles v.state.cleaning) (sym (ap (λ (z : View). z.state.cleaning) e)) (settles-dirty v.state.cleaning (c / 16));
-        owes = paid (is_the v.state.owes (c / 16)) (ap (λ (z : View). z.state.owes) e);
+        cleaning = subst (Settles v.state.cleaning) (sym (ap (λ (z : View). z.state.cleaning) e)) (settles-dirty v.state.cleaning (card_of c));
+        owes = paid (is_the v.state.owes (card_of c)) (ap (λ (z : View). z.state.owes) e);
       }
 
 -- the loaded cell was marked before

@@ -20,6 +20,7 @@ use Rattle.packet_pools.specs.Tracing.{traces, notes_drain}
 use Rattle.packet_pools.specs.Scanning.{InHand}
 use Rattle.packet_pools.proofs.Conditions.{may-trace}
 use Rattle.packet_pools.proofs.TracedSteps.{cleaned-step, cleaned-to, later-step, later-read, later-to, seen-found, seen-stored}
+use Rattle.mark_core.specs.Cards.{block_of_card, card_of}
 
 -- a seat that traces takes part
 pub traces-part : (v : View) → traces v ≡ true → takes_part v.state ≡ true
@@ -40,7 +41,7 @@ scanned-below sh (Some y) x i h e = subst (λ n. n < sh.cells) (eqb-true y.0 x (
 left-below : (sh : Shape) (o : Option Cleaning) (x : ℕ) → IsShape sh → IfSome o (IsCleaning sh) → may_scan o x ≡ true → x < sh.cells
 left-below sh None x s h e = absurd (false≢true e)
 left-below sh (Some y) x s h e =
-    let block = eqb-true (y.card / 4) (x / 64) (and_parts (eqb (y.card / 4) (x / 64)) _ (and_parts (in_set (y.card / 4) y.left x) (in_set (y.card / 4) y.published x) e).0).0 in
+    let block = eqb-true (block_of_card y.card) (x / 64) (and_parts (eqb (block_of_card y.card) (x / 64)) _ (and_parts (in_set (block_of_card y.card) y.left x) (in_set (block_of_card y.card) y.published x) e).0).0 in
     omega (arith, h.card, s.whole_blocks, block)
 
 -- a cell with a field to read exists
@@ -70,11 +71,11 @@ module _ (v : View) where
     (may-trace c k v a t, tt),
   )
 
-  pub may-dirty_card : (x : ℕ) → traces v ≡ true → v.state.fresh ≡ Some x → May (DirtyCard (x / 16)) v
+  pub may-dirty_card : (x : ℕ) → traces v ≡ true → v.state.fresh ≡ Some x → May (DirtyCard (card_of x)) v
   may-dirty_card x t e c k w a =
       let below = the-below c.core.shape v.state.fresh x (w.core.formed.seats k v.state a.seat).fresh e in
       let whole = w.core.formed.shaped.whole_blocks in
-      (and_from _ _ (lt-ltb (x / 16) (card_count c.core.shape) (omega (arith, below, whole))) (traces-part v t), tt)
+      (and_from _ _ (lt-ltb (card_of x) (card_count c.core.shape) (omega (arith, below, whole))) (traces-part v t), tt)
 
 module _ (v w : View) (n : ℕ) where
   pub later-read_field : (x i : ℕ) → Finds (ReadField x i) n v → w ≡ after (ReadField x i) n v → OnlyTraced v w
@@ -94,7 +95,7 @@ module _ (v w : View) (n : ℕ) where
   later-read_root section u f e = later-to v w (ReadRoot section u) n e (later-read v (ReadRoot section u) n refl refl f refl refl refl refl refl)
 
 -- the card of a fresh cell
-pub fresh-answers : (s : SeatState) (x card : ℕ) → s.fresh ≡ Some x → x / 16 ≡ card → answers_for s card ≡ true
+pub fresh-answers : (s : SeatState) (x card : ℕ) → s.fresh ≡ Some x → card_of x ≡ card → answers_for s card ≡ true
 fresh-answers s x card e b =
     or_left _ _
-    (ap (λ (o : Option ℕ). is_some o && is_none (fresh_off o card)) e ∙ ap (λ (c : Bool). is_none (cond c None (Some x))) (eq-eqb (x / 16) card b))
+    (ap (λ (o : Option ℕ). is_some o && is_none (fresh_off o card)) e ∙ ap (λ (c : Bool). is_none (cond c None (Some x))) (eq-eqb (card_of x) card b))

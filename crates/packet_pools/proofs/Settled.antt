@@ -9,6 +9,7 @@ use Rattle.mark_core.specs.Seats.{cleaning_left}
 use Rattle.mark_core.specs.ColourSteps.{redirty_off, without_cell}
 use Rattle.mark_core.specs.declared.seat.Cleaning.{Cleaning}
 use Rattle.packet_pools.specs.Scanning.{Settles, settled, owes_card}
+use Rattle.mark_core.specs.Cards.{block_of_card}
 
 pub settles-same : (x : Option Cleaning) → Settles x x
 settles-same x = record { same = refl; debt = λ d. d }
@@ -27,7 +28,7 @@ settles-dirty (Some x) card = by_card (eqb x.card card)
 
 settled-without : (x : Option Cleaning) (c : ℕ) → settled (without_cell x c) ≡ without_cell (settled x) c
 settled-without None c = refl
-settled-without (Some x) c = by_block (eqb (x.card / 4) (c / 64))
+settled-without (Some x) c = by_block (eqb (block_of_card x.card) (c / 64))
   where
     less : Cleaning
     less = record x { left = without_bit x.left (c % 64); published = without_bit x.published (c % 64) }
@@ -38,7 +39,7 @@ settled-without (Some x) c = by_block (eqb (x.card / 4) (c / 64))
 
 owes-without : (x : Option Cleaning) (c : ℕ) → owes_card (without_cell x c) ≡ owes_card x
 owes-without None c = refl
-owes-without (Some x) c = by_block (eqb (x.card / 4) (c / 64))
+owes-without (Some x) c = by_block (eqb (block_of_card x.card) (c / 64))
   where
     by_block : (b : Bool) → owes_card (Some (cond b (record x { left = without_bit x.left (c % 64); published = without_bit x.published (c % 64) }) x)) ≡ x.redirty
     by_block true = refl
@@ -58,12 +59,12 @@ bit-twice w m = and_assoc m w m ∙ ap (bit_and w) (and_self m)
 -- it can't be left less
 pub without-twice : (x : Option Cleaning) (c : ℕ) → without_cell (without_cell x c) c ≡ without_cell x c
 without-twice None c = refl
-without-twice (Some x) c = by_block (eqb (x.card / 4) (c / 64)) refl
+without-twice (Some x) c = by_block (eqb (block_of_card x.card) (c / 64)) refl
   where
     less : Cleaning
     less = record x { left = without_bit x.left (c % 64); published = without_bit x.published (c % 64) }
 
-    by_block : (b : Bool) → eqb (x.card / 4) (c / 64) ≡ b → without_cell (Some (cond b less x)) c ≡ Some (cond b less x)
+    by_block : (b : Bool) → eqb (block_of_card x.card) (c / 64) ≡ b → without_cell (Some (cond b less x)) c ≡ Some (cond b less x)
     by_block true e =
         ap (λ (d : Bool). Some (cond d (record less { left = without_bit less.left (c % 64); published = without_bit less.published (c % 64) }) less)) e
         ∙ (λ i. Some (record less { left = bit-twice x.left (complement (2 ^ (c % 64))) i; published = bit-twice x.published (complement (2 ^ (c % 64))) i }))
@@ -89,7 +90,7 @@ settles-left x y s e =
 
 pub without-left : (x : Option Cleaning) (c : ℕ) → cleaning_left x ≡ false → cleaning_left (without_cell x c) ≡ false
 without-left None c e = e
-without-left (Some x) c e = by_block (eqb (x.card / 4) (c / 64))
+without-left (Some x) c e = by_block (eqb (block_of_card x.card) (c / 64))
   where
     parts : ((not x.known || not (x.left == 0)) ≡ false) × (x.redirty ≡ false)
     parts = or_parts (not x.known || not (x.left == 0)) x.redirty e

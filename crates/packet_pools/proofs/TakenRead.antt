@@ -8,7 +8,7 @@ use Rattle.mark_core.specs.Seats.{work_in_hand}
 use Rattle.mark_core.specs.declared.kinds.Shape.{Shape}
 use Rattle.mark_core.specs.declared.kinds.Step.TheVariants.{Take, ReadLength, StoreLength, Give, Credit}
 use Rattle.mark_core.specs.declared.seat.SeatState.{SeatState}
-use Rattle.mark_core.proofs.PoolSlots.{holds-put_same}
+use Rattle.mark_core.proofs.Pool.PoolSlots.{holds-put_same}
 use Rattle.gc_table.specs.declared.view.View.{View}
 use Rattle.gc_table.specs.Fetching.{is_in_range}
 use Rattle.gc_table.specs.Taking.{after, Finds}

@@ -11,6 +11,7 @@ ghost use Rattle.packet_pools.specs.Gains.{Gains};
 
 use crate::held::Held;
 use gc_table::{Heap, HeapSeat};
+use mark_core::DEFERRED_POOL;
 
 /// Takes packet p out of the deferred pool, unless another seat is first. The seat holds at most three.
 pub fn take_deferred_at(heap: &Heap, seat: &mut HeapSeat, p: u32) -> Option<Held>
@@ -22,7 +23,7 @@ pub fn take_deferred_at(heap: &Heap, seat: &mut HeapSeat, p: u32) -> Option<Held
     ensures some { IfSome result (λ h. Gains 3 false h (view_of seat.old) (view_of seat.new) × (h.packet ≡ p) × (steps_of (events (view_of seat.old) (view_of seat.new)) ≡ Take 3 p ∷ ReadLength p ∷ [])) }
     ensures none { IfNone result (((view_of seat.new).state ≡ (view_of seat.old).state) × IsTrue (was_lost p (events (view_of seat.old) (view_of seat.new))) × (steps_of (events (view_of seat.old) (view_of seat.new)) ≡ Take 3 p ∷ [])) }
 {
-    if !heap.take(seat, 3, p) {
+    if !heap.take(seat, DEFERRED_POOL, p) {
         return None;
     }
     let length = heap.read_length(seat, p);

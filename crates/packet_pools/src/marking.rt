@@ -15,7 +15,7 @@ use crate::held::{Held, PacketFull};
 use crate::room::make_room;
 use crate::scanned::Scanned;
 use gc_table::{Heap, HeapSeat};
-use mark_core::Cell;
+use mark_core::{Cell, card_of};
 
 /// Pushes the cell that the seat marked. Where no packet has room it dirties the cell's card, and says true.
 #[inline(always)]
@@ -33,7 +33,7 @@ fn push_marked(heap: &Heap, seat: &mut HeapSeat, out: &mut Held, cell: Cell) -> 
     match push(heap, seat, out, cell) {
         Ok(()) => false,
         Err(PacketFull) => {
-            heap.dirty_card(seat, cell.number() / 16);
+            heap.dirty_card(seat, card_of(cell));
             true
         }
     }

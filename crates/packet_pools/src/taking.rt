@@ -11,6 +11,7 @@ ghost use Rattle.packet_pools.specs.Gains.{FindsNone, Takes, TakesNone};
 use crate::held::Held;
 use crate::seeking::take_any;
 use gc_table::{Heap, HeapSeat};
+use mark_core::{DEFERRED_POOL, EMPTY_POOL, HIGH_POOL, LOW_POOL};
 
 /// Takes a packet with cells to trace: one of the fuller ones, else one of the others. The seat holds at most three.
 /// None comes only where each packet was seen outside these pools, or was lost to another seat, in this call.
@@ -22,9 +23,9 @@ pub fn take_input(heap: &Heap, seat: &mut HeapSeat) -> Option<Held>
     ensures some { IfSome result (λ h. Takes (2 ∷ 1 ∷ []) h (view_of seat.old) (view_of seat.new) × (0 < h.length)) }
     ensures none { IfNone result (TakesNone (NoInput heap.now.shape) (2 ∷ 1 ∷ []) (view_of seat.old) (view_of seat.new)) }
 {
-    match take_any(heap, seat, 2, false) {
+    match take_any(heap, seat, HIGH_POOL, false) {
         Some(held) => Some(held),
-        None => take_any(heap, seat, 1, false),
+        None => take_any(heap, seat, LOW_POOL, false),
     }
 }
 
@@ -38,7 +39,7 @@ pub fn take_deferred(heap: &Heap, seat: &mut HeapSeat) -> Option<Held>
     ensures some { IfSome result (λ h. Takes (3 ∷ []) h (view_of seat.old) (view_of seat.new) × (0 < h.length)) }
     ensures none { IfNone result (TakesNone (NoDeferred heap.now.shape) (3 ∷ []) (view_of seat.old) (view_of seat.new)) }
 {
-    take_any(heap, seat, 3, false)
+    take_any(heap, seat, DEFERRED_POOL, false)
 }
 
 /// Takes an empty packet: the count of empty packets falls before one is looked for, and rises again where none was
@@ -52,7 +53,7 @@ fn take_empty(heap: &Heap, seat: &mut HeapSeat) -> Option<Held>
     ensures none { IfNone result (FindsNone heap.now.shape 0 false 0 (64 * pool_words heap.now.shape) (view_of seat.old) (view_of seat.new)) }
 {
     heap.reserve(seat);
-    match take_any(heap, seat, 0, false) {
+    match take_any(heap, seat, EMPTY_POOL, false) {
         Some(held) => Some(held),
         None => {
             heap.credit(seat);
@@ -75,8 +76,8 @@ pub fn take_output(heap: &Heap, seat: &mut HeapSeat) -> Option<Held>
     if let Some(held) = take_empty(heap, seat) {
         return Some(held);
     }
-    if let Some(held) = take_any(heap, seat, 1, false) {
+    if let Some(held) = take_any(heap, seat, LOW_POOL, false) {
         return Some(held);
     }
-    take_any(heap, seat, 2, true)
+    take_any(heap, seat, HIGH_POOL, true)
 }

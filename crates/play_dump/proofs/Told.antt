@@ -9,7 +9,7 @@ use Rattle.mark_core.specs.Cells.{field}
 use Rattle.mark_core.specs.Closed.{IsReachableIn}
 use Rattle.mark_core.specs.HeapRules.{section_of}
 use Rattle.mark_core.proofs.AtSeat.{roots-length}
-use Rattle.mark_core.proofs.ExactsReach.{reach-root, reach-field}
+use Rattle.mark_core.proofs.Exacts.ExactsReach.{reach-root, reach-field}
 use Rattle.plain_heap.specs.declared.object.Ref.{Ref}
 use Rattle.plain_heap.specs.declared.object.Ref.TheVariants as refs
 use Rattle.plain_heap.specs.declared.object.Object.{Object}

@@ -12,7 +12,7 @@ use Rattle.mark_core.specs.declared.kinds.Phase.TheVariants.{Marking}
 use Rattle.mark_core.specs.declared.kinds.Shape.{Shape}
 use Rattle.mark_core.specs.declared.kinds.Step.TheVariants.{StoreField, ReadCount, StoreRoot}
 use Rattle.mark_core.specs.declared.seat.SeatState.{SeatState}
-use Rattle.mark_core.proofs.BlocksTaken.{Taken}
+use Rattle.mark_core.proofs.Blocks.BlocksTaken.{Taken}
 use Rattle.plain_heap.specs.PlainHeap.{Heap as PlainHeap, variable}
 use Rattle.plain_heap.specs.PlainStep.{stored_at, replaced_by, with_field}
 use Rattle.plain_heap.specs.declared.object.Object.{Object}

@@ -7,7 +7,6 @@ mod claims;
 mod packets;
 mod seasons;
 mod seats;
-mod slots;
 mod world;
 
 use mark_core::Shape;

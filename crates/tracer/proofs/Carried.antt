@@ -6,7 +6,7 @@ use Rattle.mark_core.specs.Held.{Slots, holds, known_length, drop_packet, set_le
 use Rattle.mark_core.specs.Seats.{is_the}
 use Rattle.mark_core.specs.declared.kinds.Shape.{Shape}
 use Rattle.mark_core.specs.declared.seat.SeatState.{SeatState}
-use Rattle.mark_core.proofs.PoolSlots.{drop-other, holds-drop_same}
+use Rattle.mark_core.proofs.Pool.PoolSlots.{drop-other, holds-drop_same}
 use Rattle.gc_table.specs.declared.view.View.{View}
 use Rattle.packet_pools.specs.declared.held.Held.{Held}
 use Rattle.packet_pools.specs.Hands.{IsHeld, free_slots}

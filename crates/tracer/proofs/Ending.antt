@@ -14,6 +14,7 @@ use Rattle.gc_table.specs.Taking.{after}
 use Rattle.packet_pools.specs.Keeping.{all_keep, keeps_cells}
 use Rattle.tracer.specs.Tally.{only_traces, traces_cells}
 use Rattle.tracer.specs.Ends.{all_end_well, ends_well, fresh_ends, popped_ends, was_clear}
+use Rattle.mark_core.specs.Cards.{card_of}
 
 fresh-stays : (o : Option ℕ) → fresh_ends o o ≡ false
 fresh-stays None = refl
@@ -47,7 +48,7 @@ pushed-clear (Some y) x false e = or_right (not true) _ (and_parts (y.0 == x) y.
 
 dirtied-clear : (o : Option (ℕ × Bool)) (card : ℕ) → (not (popped_ends o (popped_off o card)) || was_clear o) ≡ true
 dirtied-clear None card = refl
-dirtied-clear (Some y) card = either y.1 (y.0 / 16 == card)
+dirtied-clear (Some y) card = either y.1 (card_of y.0 == card)
   where
     either : (b c : Bool) → (not (popped_ends (Some y) (cond (b && c) None (Some y))) || b) ≡ true
     either true c = or_right (not (popped_ends (Some y) (cond (true && c) None (Some y)))) _ refl

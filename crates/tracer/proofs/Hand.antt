@@ -20,6 +20,7 @@ use Rattle.packet_pools.specs.Scanning.{InHand}
 use Rattle.packet_pools.proofs.TracedSteps.{later-read, later-to}
 use Rattle.packet_pools.proofs.ScanSteps.{traces-part}
 use Rattle.tracer.specs.Parts.{HasPopped}
+use Rattle.mark_core.specs.Cards.{block_of_card, card_of}
 
 popped-below : (sh : Shape) (o : Option (ℕ × Bool)) (c : ℕ) (b : Bool) → IfSome o (λ x. x.0 < sh.cells) → o ≡ Some (c, b) → c < sh.cells
 popped-below sh o c b h e = subst (λ (p : Option (ℕ × Bool)). IfSome p (λ x. x.0 < sh.cells)) e h
@@ -31,17 +32,17 @@ module _ (v : View) (c : ℕ) (b : Bool) (t : traces v ≡ true) (e : v.state.po
       let whole = w.core.formed.shaped.whole_blocks in
       (and_from _ _ (lt-ltb (c / 64) (block_count x.core.shape) (omega (arith, below, whole))) (traces-part v t), tt)
 
-  pub may-dirty_popped : May (DirtyCard (c / 16)) v
+  pub may-dirty_popped : May (DirtyCard (card_of c)) v
   may-dirty_popped x k w a =
       let below = popped-below x.core.shape v.state.popped c b (w.core.formed.seats k v.state a.seat).popped e in
       let whole = w.core.formed.shaped.whole_blocks in
-      (and_from _ _ (lt-ltb (c / 16) (card_count x.core.shape) (omega (arith, below, whole))) (traces-part v t), tt)
+      (and_from _ _ (lt-ltb (card_of c) (card_count x.core.shape) (omega (arith, below, whole))) (traces-part v t), tt)
 
 -- the card of a cell that was popped and seen unpublished
-pub popped-answers : (s : SeatState) (x card : ℕ) → s.popped ≡ Some (x, true) → x / 16 ≡ card → answers_for s card ≡ true
+pub popped-answers : (s : SeatState) (x card : ℕ) → s.popped ≡ Some (x, true) → card_of x ≡ card → answers_for s card ≡ true
 popped-answers s x card e b =
     or_right (is_some s.fresh && _) _
-    (ap (λ (o : Option (ℕ × Bool)). is_some o && is_none (popped_off o card)) e ∙ ap (λ (d : Bool). is_none {T = ℕ × Bool} (cond (true && d) None (Some (x, true)))) (eq-eqb (x / 16) card b))
+    (ap (λ (o : Option (ℕ × Bool)). is_some o && is_none (popped_off o card)) e ∙ ap (λ (d : Bool). is_none {T = ℕ × Bool} (cond (true && d) None (Some (x, true)))) (eq-eqb (card_of x) card b))
 
 -- the parts of an idle hand
 pub record IsFree (fields : ℕ) (s : SeatState) : Type 0 where
@@ -84,7 +85,7 @@ seen-left x word e =
 -- a cleaning that is done stays so
 pub alloc-left : (o : Option Cleaning) (b word : ℕ) → cleaning_left o ≡ false → cleaning_left (cleaning_after o b word) ≡ false
 alloc-left None b word e = refl
-alloc-left (Some x) b word e = either (x.known && (x.card / 4 == b))
+alloc-left (Some x) b word e = either (x.known && (block_of_card x.card == b))
   where
     either : (d : Bool) → cleaning_left (Some (cond d (seen_in x word) x)) ≡ false
     either true = seen-left x word e

@@ -11,7 +11,7 @@ use Rattle.mark_core.specs.declared.kinds.Shape.{Shape}
 use Rattle.mark_core.specs.declared.kinds.Step.{Step}
 use Rattle.mark_core.specs.declared.kinds.Step.TheVariants.{DirtyCard, Give, Push, ReadRoot, ReadField, SetMark, Reserve, Take, Credit, Look, StoreLength, ReadLength}
 use Rattle.mark_core.specs.declared.seat.SeatState.{SeatState}
-use Rattle.mark_core.proofs.PoolSlots.{any-held}
+use Rattle.mark_core.proofs.Pool.PoolSlots.{any-held}
 use Rattle.gc_table.specs.declared.view.Entry.{Entry}
 use Rattle.gc_table.specs.declared.view.View.{View}
 use Rattle.gc_table.specs.Taking.{May, after}

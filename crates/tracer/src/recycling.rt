@@ -8,7 +8,7 @@ ghost use Rattle.tracer.specs.Hands.{IsIdle};
 ghost use Rattle.tracer.specs.Recycling.{Recycled, Recycles};
 
 use gc_table::{Heap, HeapSeat};
-use mark_core::has_bit;
+use mark_core::{DEFERRED_POOL, has_bit};
 use packet_pools::{give, take_deferred_at};
 
 /// Moves packet p from the deferred pool to that of its length, where it is there. True where it was moved.
@@ -21,7 +21,7 @@ fn recycle(heap: &Heap, seat: &mut HeapSeat, p: u32) -> bool
     ensures state { (view_of seat.new).state ≡ (view_of seat.old).state }
     ensures recycles { Recycles p (p + 1) (if result then 1 else 0) (events (view_of seat.old) (view_of seat.new)) }
 {
-    let word = heap.look(seat, 3, p / 64);
+    let word = heap.look(seat, DEFERRED_POOL, p / 64);
     if !has_bit(word, p % 64) {
         return false;
     }
@@ -61,7 +61,7 @@ fn recycle_in_word(heap: &Heap, seat: &mut HeapSeat, g: u32, end: u32) -> u32
     ensures most { result + 64 * g ≤ end }
     ensures recycles { Recycles (64 * g) end result (events (view_of seat.old) (view_of seat.new)) }
 {
-    if heap.look(seat, 3, g) == 0 {
+    if heap.look(seat, DEFERRED_POOL, g) == 0 {
         return 0;
     }
     recycle_between(heap, seat, 64 * g, end)

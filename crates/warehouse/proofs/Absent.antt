@@ -10,7 +10,8 @@ use Rattle.gc_table.proofs.Log.{events-after, only-after}
 use Rattle.gc_table.proofs.Running.{ran-took}
 use Rattle.gc_cycle.specs.Cycles.{never_fills}
 use Rattle.gc_cycle.specs.Mutating.{HasEntered}
-use Rattle.gc_cycle.specs.Sparing.{done_count, spares_part}
+use Rattle.mark_core.specs.Numbers.{done_count}
+use Rattle.gc_cycle.specs.Sparing.{spares_part}
 use Rattle.gc_cycle.specs.Standing.{IsOut, Mutates}
 use Rattle.gc_cycle.proofs.Goings.{mutator-nothing}
 use Rattle.gc_table.specs.Log.{Only}

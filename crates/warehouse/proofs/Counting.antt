@@ -11,7 +11,8 @@ use Rattle.gc_table.specs.declared.view.View.{View}
 use Rattle.gc_table.proofs.Running.{run-keeps}
 use Rattle.gc_cycle.specs.Events.{never}
 use Rattle.warehouse.specs.Playing.{counts_part}
-use Rattle.gc_cycle.specs.Sparing.{done_count, fills_part, spares_part}
+use Rattle.mark_core.specs.Numbers.{done_count}
+use Rattle.gc_cycle.specs.Sparing.{fills_part, spares_part}
 use Rattle.warehouse.proofs.Seen.{never-of}
 use Rattle.warehouse.proofs.Storing.{stores_none}
 use Rattle.warehouse.proofs.Turning.{is_of_command}

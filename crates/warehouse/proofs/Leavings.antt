@@ -18,7 +18,8 @@ use Rattle.warehouse.specs.Commands.{Leaves}
 use Rattle.gc_cycle.specs.Events.{never}
 use Rattle.warehouse.specs.Playing.{Acts, Stays, Waits, counts_part}
 use Rattle.gc_cycle.specs.Sorts.{ends_cycle, polls, raises_flag}
-use Rattle.gc_cycle.specs.Sparing.{done_count, spares_part}
+use Rattle.mark_core.specs.Numbers.{done_count}
+use Rattle.gc_cycle.specs.Sparing.{spares_part}
 use Rattle.gc_cycle.specs.Stops.{stops_without_cause}
 use Rattle.warehouse.specs.Storing.{stores_in}
 use Rattle.packet_pools.specs.Seeking.{some_event}

@@ -35,7 +35,7 @@ use Rattle.gc_cycle.specs.PartEvents.{PlaysCommands, StopsAtFull, polled_last}
 use Rattle.gc_cycle.specs.Sorts.{ends_cycle, polls}
 use Rattle.gc_cycle.specs.Standing.{IsOut, Mutates}
 use Rattle.gc_cycle.specs.Stops.{stops_without_cause}
-use Rattle.gc_cycle.specs.Sparing.{done_count}
+use Rattle.mark_core.specs.Numbers.{done_count}
 use Rattle.warehouse.specs.Storing.{stores_in}
 use Rattle.gc_table.specs.Rule.{KnowsFull}
 

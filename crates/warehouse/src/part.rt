@@ -15,12 +15,10 @@ use alloc_cache::Cache;
 use gc_cycle::{Safe, go_in, go_out};
 use gc_script::Section;
 use gc_table::{Heap, HeapSeat};
+use mark_core::DONE;
 use play_end::Played;
 use std::sync::Wait;
 use stop_world::leave;
-
-/// Which statistic counts the parts that were played.
-const DONE: u8 = 6;
 
 /// The season word in a section's turn: the catalogue's comes first.
 fn turn_of(section: u32, season: u32) -> u64

@@ -1,8 +1,7 @@
 //! What a seat's record says.
 ghost use Rattle.std.specs.Prelude.{◌≡◌, ◌&&◌};
 ghost use Rattle.std.specs.Bool.{OnTrue};
-ghost use Rattle.mark_core.specs.Held.{holds_any as holds_any_packet};
-ghost use Rattle.mark_core.specs.Seats.{cleaning_left as cleaning_left_of, empty_handed as empty_handed_of, has_making as has_making_of, has_turn as has_turn_of, is_bare as is_bare_seat, may_mutate as may_mutate_of, saw, scan_left as scan_left_of, work_in_hand as work_in_hand_of};
+ghost use Rattle.mark_core.specs.Seats.{empty_handed as empty_handed_of, has_making as has_making_of, is_bare as is_bare_seat, may_mutate as may_mutate_of, saw, work_in_hand as work_in_hand_of};
 ghost use Rattle.mark_core.specs.WorldSteps.{has_nothing as has_nothing_of};
 ghost use Rattle.mark_core.specs.declared.kinds.Phase.TheVariants.{Marking};
 ghost use Rattle.gc_table.specs.PlainSteps.{HasSeenPhase};
@@ -15,79 +14,36 @@ ghost use Rattle.gc_cycle.specs.Standing.{Helps, IsOut, Mutates, is_at_rest as i
 ghost use Rattle.collector_cycles.specs.Seats.{Bare, Carries};
 
 use gc_table::{Heap, HeapSeat};
-use mark_core::{Cell, Cleaning, Phase};
+use mark_core::Phase;
 
 type Slots = [Option<(u32, Option<u32>, bool)>; 4];
-
-fn holds_any(held: Slots) -> bool
-    ensures { result ≡ holds_any_packet held }
-{
-    held[0].is_some() || held[1].is_some() || held[2].is_some() || held[3].is_some()
-}
 
 /// The seat has neither a packet, nor a reservation, nor a credit.
 fn empty_handed(seat: &HeapSeat) -> bool
     ensures { result ≡ empty_handed_of (view_of seat.now).state }
 {
-    let s = seat.state();
-    !holds_any(s.held) && !s.reserved && !s.credit
-}
-
-fn scan_left(fields: u32, scan: Option<(Cell, u8)>) -> bool
-    ensures { result ≡ scan_left_of fields scan }
-{
-    match scan {
-        None => false,
-        Some(x) => u32::from(x.1) < fields,
-    }
-}
-
-fn cleaning_left(cleaning: Option<Cleaning>) -> bool
-    ensures { result ≡ cleaning_left_of cleaning }
-{
-    match cleaning {
-        None => false,
-        Some(x) => !x.known || !(x.left == 0) || x.redirty,
-    }
+    seat.state().empty_handed()
 }
 
 /// The seat has a grey cell, or something that may lead to one.
 fn work_in_hand(fields: u32, seat: &HeapSeat) -> bool
     ensures { result ≡ work_in_hand_of fields (view_of seat.now).state }
 {
-    let s = seat.state();
-    s.popped.is_some()
-        || scan_left(fields, s.scan)
-        || s.value.is_some()
-        || s.fresh.is_some()
-        || cleaning_left(s.cleaning)
+    seat.state().work_in_hand(fields)
 }
 
 /// A cell is half made.
 fn has_making(seat: &HeapSeat) -> bool
     ensures { result ≡ has_making_of (view_of seat.now).state.cache }
 {
-    match seat.state().cache {
-        None => false,
-        Some(x) => x.making.is_some(),
-    }
-}
-
-fn has_turn(section: Option<u32>, season: Option<u64>) -> bool
-    ensures { result ≡ has_turn_of section season }
-{
-    match (section, season) {
-        (Some(section), Some(season)) => season % 2 == if section == 0 { 0 } else { 1 },
-        _ => false,
-    }
+    seat.state().has_making()
 }
 
 /// The seat is active in its section's turn.
 fn may_mutate(seat: &HeapSeat) -> bool
     ensures { result ≡ may_mutate_of (view_of seat.now).state }
 {
-    let s = seat.state();
-    s.active && has_turn(s.section, s.season_seen)
+    seat.state().may_mutate()
 }
 
 /// The seat has read the phase, in which it may store.
@@ -154,8 +110,7 @@ pub fn is_ready(heap: &Heap, seat: &HeapSeat) -> bool
 pub fn is_bare(seat: &HeapSeat) -> bool
     ensures { result ≡ is_bare_seat (view_of seat.now).state }
 {
-    let s = seat.state();
-    !s.counted && !s.raised && !s.helping
+    seat.state().is_bare()
 }
 
 /// The seat is outside with nothing in hand.
@@ -192,12 +147,7 @@ fn are_bare(held: Slots) -> bool
 fn is_marking(seat: &HeapSeat) -> bool
     ensures { result ≡ ((view_of seat.now).state.active && saw (view_of seat.now).state.phase_seen Marking) }
 {
-    let s = seat.state();
-    s.active
-        && match s.phase_seen {
-            Some(Phase::Marking) => true,
-            _ => false,
-        }
+    seat.state().is_marking()
 }
 
 /// The seat marks as a mutator, and is between two calls.

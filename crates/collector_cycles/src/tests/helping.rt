@@ -18,7 +18,7 @@ use super::seasons::{begin, marks, raises_own};
 use card_clean::{is_drained, see_to_roots};
 use gc_cycle::{HelpEnd, Helped, help};
 use gc_table::{Heap, HeapSeat};
-use mark_core::Phase;
+use mark_core::{BLOCK_COUNTER, Phase};
 use std::sync::Wait;
 use stop_world::{await_stopped, close_help, join_help, leave, leave_help, open_help};
 
@@ -72,7 +72,7 @@ fn drains(heap: &Heap, seat: &mut HeapSeat)
     ensures { Sits heap.now seat.new × IsBeforeSweep (view_of seat.new) }
 {
     heap.store_phase(seat, Phase::Drain);
-    heap.reset(seat, 1);
+    heap.reset(seat, BLOCK_COUNTER);
 }
 
 /// Lets others help in the drain.
@@ -119,7 +119,7 @@ fn resets(heap: &Heap, seat: &mut HeapSeat)
     requires { Sits heap.now seat.old × Alone Drain (view_of seat.old) }
     ensures { Sits heap.now seat.new × IsBeforeSweep (view_of seat.new) }
 {
-    heap.reset(seat, 1);
+    heap.reset(seat, BLOCK_COUNTER);
 }
 
 /// Whether the drain ends: all roots are seen to, every card is clean, and every packet is empty.

@@ -15,7 +15,7 @@ use super::opening::{next_seat, open};
 use super::seasons::begin;
 use super::tracing::{is_idle, scans, traces};
 use gc_table::{Heap, HeapSeat};
-use mark_core::{Cell, cell_of};
+use mark_core::{Cell, card_of, cell_of};
 use packet_pools::{Held, PacketFull, give, push, take_input};
 
 /// Two objects that a third refers to are put in one packet, and a fourth is stored in variable 3, white.
@@ -46,7 +46,7 @@ fn pushes(heap: &Heap, seat: &mut HeapSeat, held: &mut Held, cell: Cell) -> bool
     match push(heap, seat, held, cell) {
         Ok(()) => false,
         Err(PacketFull) => {
-            heap.dirty_card(seat, cell.number() / 16);
+            heap.dirty_card(seat, card_of(cell));
             true
         }
     }

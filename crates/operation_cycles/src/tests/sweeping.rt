@@ -15,7 +15,7 @@ use super::seasons::{next_turn, raises_own, stops_idle};
 use super::tracing::are_bare;
 use card_clean::{is_drained, see_to_roots};
 use gc_table::{Heap, HeapSeat};
-use mark_core::Phase;
+use mark_core::{BLOCK_COUNTER, Phase};
 use std::sync::Wait;
 use sweeper::{Swept, clear_marks_next, clear_rest, end_clear, end_sweep, sweep_next, sweep_rest};
 
@@ -25,7 +25,7 @@ fn drains(heap: &Heap, seat: &mut HeapSeat)
     ensures { Sits heap.now seat.new × IsBeforeSweep (view_of seat.new) }
 {
     heap.store_phase(seat, Phase::Drain);
-    heap.reset(seat, 1);
+    heap.reset(seat, BLOCK_COUNTER);
 }
 
 /// Whether the seat has nothing in its hands.

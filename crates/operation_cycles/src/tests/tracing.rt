@@ -13,7 +13,6 @@ use super::opening::{next_seat, open};
 use super::seasons::begin;
 use alloc_cache::{Cache, retire};
 use gc_table::{Heap, HeapSeat};
-use mark_core::Phase;
 use tracer::{RootScan, Stopped, Traced, recycle_deferred, scan_roots, trace};
 
 type Slots = [Option<(u32, Option<u32>, bool)>; 4];
@@ -30,12 +29,7 @@ pub fn are_bare(held: Slots) -> bool
 fn is_marking(seat: &HeapSeat) -> bool
     ensures { result ≡ ((view_of seat.now).state.active && saw (view_of seat.now).state.phase_seen Marking) }
 {
-    let s = seat.state();
-    s.active
-        && match s.phase_seen {
-            Some(Phase::Marking) => true,
-            _ => false,
-        }
+    seat.state().is_marking()
 }
 
 /// Whether the seat marks as a mutator, and holds no packet and no block to sweep.

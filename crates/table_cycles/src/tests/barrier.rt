@@ -14,7 +14,7 @@ use super::seasons::begin;
 use super::seats::{close, open};
 use super::world::leave;
 use gc_table::{Heap, HeapSeat, Words};
-use mark_core::{Phase, Shape};
+use mark_core::{CARD_CELLS, Phase, Shape};
 use std::alloc::Global;
 
 fn may_link(shape: &Shape, seat: &HeapSeat, v: u8, i: u8, w: u8) -> bool
@@ -55,7 +55,7 @@ fn dirty_owed(heap: &Heap, seat: &mut HeapSeat) -> bool
     let Some(card) = owed(seat) else {
         return false;
     };
-    if card < heap.shape().cells / 16 && takes_part(seat) {
+    if card < heap.shape().cells / CARD_CELLS && takes_part(seat) {
         heap.dirty_card(seat, card);
         true
     } else {
@@ -68,7 +68,7 @@ fn is_dirty(heap: &Heap, seat: &mut HeapSeat) -> Option<bool>
     requires { Ready heap.now seat.old × HasOwn seat.old 0 }
     ensures { Ready heap.now seat.new × HasOwn seat.new 0 }
 {
-    if heap.shape().cells >= 16 {
+    if heap.shape().cells >= CARD_CELLS {
         Some(heap.read_card(seat, 0))
     } else {
         None

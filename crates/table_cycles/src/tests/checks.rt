@@ -1,19 +1,16 @@
 //! What a record says.
 ghost use Rattle.std.specs.Prelude.{◌≡◌, ◌&&◌, ◌==◌, not, is_none};
-ghost use Rattle.mark_core.specs.Seats.{is_bare as is_bare_seat, takes_part as takes_part_of, may_mutate as may_mutate_of, empty_handed as empty_handed_of, has_turn as has_turn_of, work_in_hand as work_in_hand_of, scan_left as scan_left_of, cleaning_left as cleaning_left_of, saw as saw_phase, is_the as is_the_number};
+ghost use Rattle.mark_core.specs.Seats.{is_bare as is_bare_seat, takes_part as takes_part_of, may_mutate as may_mutate_of, empty_handed as empty_handed_of, work_in_hand as work_in_hand_of, saw as saw_phase, is_the as is_the_number};
 ghost use Rattle.mark_core.specs.declared.kinds.Phase.TheVariants.{Marking};
 ghost use Rattle.gc_table.specs.Seats.{view_of};
 
-use super::slots::holds_any;
 use gc_table::HeapSeat;
-use mark_core::{Cell, Cleaning, Phase};
 
 /// The seat is outside the world, its stop and its help.
 pub fn is_bare(seat: &HeapSeat) -> bool
     ensures { result ≡ is_bare_seat (view_of seat.now).state }
 {
-    let s = seat.state();
-    !s.counted && !s.raised && !s.helping
+    seat.state().is_bare()
 }
 
 /// The seat is active, and stops nobody.
@@ -28,75 +25,35 @@ pub fn is_running(seat: &HeapSeat) -> bool
 pub fn takes_part(seat: &HeapSeat) -> bool
     ensures { result ≡ takes_part_of (view_of seat.now).state }
 {
-    let s = seat.state();
-    s.active || s.knows || s.admitted
+    seat.state().takes_part()
 }
 
 /// The seat is active, and has read that marking is under way.
 pub fn is_marking(seat: &HeapSeat) -> bool
     ensures { result ≡ ((view_of seat.now).state.active && saw_phase (view_of seat.now).state.phase_seen Marking) }
 {
-    let s = seat.state();
-    s.active
-        && match s.phase_seen {
-            Some(Phase::Marking) => true,
-            _ => false,
-        }
-}
-
-fn has_turn(section: Option<u32>, season: Option<u64>) -> bool
-    ensures { result ≡ has_turn_of section season }
-{
-    match (section, season) {
-        (Some(section), Some(season)) => season % 2 == if section == 0 { 0 } else { 1 },
-        _ => false,
-    }
+    seat.state().is_marking()
 }
 
 /// The seat is active in its section's turn.
 pub fn may_mutate(seat: &HeapSeat) -> bool
     ensures { result ≡ may_mutate_of (view_of seat.now).state }
 {
-    let s = seat.state();
-    s.active && has_turn(s.section, s.season_seen)
+    seat.state().may_mutate()
 }
 
 /// The seat has neither a packet, nor a reservation, nor a credit.
 pub fn empty_handed(seat: &HeapSeat) -> bool
     ensures { result ≡ empty_handed_of (view_of seat.now).state }
 {
-    let s = seat.state();
-    !holds_any(s.held) && !s.reserved && !s.credit
-}
-
-fn scan_left(fields: u32, scan: Option<(Cell, u8)>) -> bool
-    ensures { result ≡ scan_left_of fields scan }
-{
-    match scan {
-        None => false,
-        Some(x) => u32::from(x.1) < fields,
-    }
-}
-
-fn cleaning_left(cleaning: Option<Cleaning>) -> bool
-    ensures { result ≡ cleaning_left_of cleaning }
-{
-    match cleaning {
-        None => false,
-        Some(x) => !x.known || !(x.left == 0) || x.redirty,
-    }
+    seat.state().empty_handed()
 }
 
 /// The seat has a grey cell, or something that may lead to one.
 pub fn work_in_hand(fields: u32, seat: &HeapSeat) -> bool
     ensures { result ≡ work_in_hand_of fields (view_of seat.now).state }
 {
-    let s = seat.state();
-    s.popped.is_some()
-        || scan_left(fields, s.scan)
-        || s.value.is_some()
-        || s.fresh.is_some()
-        || cleaning_left(s.cleaning)
+    seat.state().work_in_hand(fields)
 }
 
 /// The seat owes no card, has no block to make cells in, and no reference in its register.

@@ -4,7 +4,6 @@ ghost use Rattle.table_cycles.specs.Ready.{Ready};
 use super::are_zero;
 use super::checks::{is_marking, work_in_hand};
 use super::seats::{close, open};
-use super::slots::{has_free_slot, has_length, holds, is_stored};
 use super::world::{both_mark, leave};
 use gc_table::{Heap, HeapSeat, Words};
 use mark_core::{Phase, Shape};
@@ -48,11 +47,10 @@ fn take_last(heap: &Heap, seat: &mut HeapSeat) -> bool
     requires { Ready heap.now seat.old }
     ensures { Ready heap.now seat.new }
 {
-    let held = seat.state().held;
     if heap.shape().packets == 65
         && is_marking(seat)
-        && !holds(held, 64)
-        && has_free_slot(held)
+        && !seat.state().holds(64)
+        && seat.state().has_free_slot()
         && seat.state().reserved
     {
         heap.take(seat, 0, 64)
@@ -66,10 +64,9 @@ fn is_empty(heap: &Heap, seat: &mut HeapSeat) -> bool
     requires { Ready heap.now seat.old }
     ensures { Ready heap.now seat.new }
 {
-    let held = seat.state().held;
     heap.shape().packets == 65
-        && holds(held, 64)
-        && !has_length(held, 64)
+        && seat.state().holds(64)
+        && !seat.state().has_length(64)
         && heap.read_length(seat, 64) == 0
 }
 
@@ -78,11 +75,10 @@ fn give_last(heap: &Heap, seat: &mut HeapSeat) -> bool
     requires { Ready heap.now seat.old }
     ensures { Ready heap.now seat.new }
 {
-    let held = seat.state().held;
     if heap.shape().packets == 65
-        && holds(held, 64)
-        && has_length(held, 64)
-        && is_stored(held, 64)
+        && seat.state().holds(64)
+        && seat.state().has_length(64)
+        && seat.state().is_stored(64)
         && !work_in_hand(heap.shape().fields, seat)
         && !seat.state().credit
         && !seat.state().reserved

@@ -1,5 +1,6 @@
 use Rattle.std.proofs.Common.{◌≡◌, ◌≤◌, ◌-◌, ◌*◌}
 use Rattle.std.specs.Prelude.{IsFalse}
+use Rattle.mark_core.specs.Cards.{card_cells}
 use Rattle.mark_core.specs.Seats.{work_in_hand}
 use Rattle.gc_table.specs.Seats.{Sits, view_of}
 use Rattle.packet_pools.specs.OnlyTraced.{OnlyCleaned}
@@ -19,7 +20,7 @@ invariant-loop-card l = record {
   later : OnlyCleaned (view_of l.fn.seat) (view_of l.seat);
   packet : Fills l.fn.out l.out (view_of l.fn.seat) (view_of l.seat);
   work : IsFalse (work_in_hand l.heap.shape.fields (view_of l.seat).state);
-  most : l.rescanned ≤ 16 * (l.card - l.fn.from);
+  most : l.rescanned ≤ card_cells * (l.card - l.fn.from);
   left : rescanned_in (view_of l.fn.seat) (events (view_of l.fn.seat) (view_of l.seat)) ≡ l.rescanned;
   cleans : CleanedFrom l.heap.shape l.fn.from (l.card - l.fn.from) l.rescanned (events (view_of l.fn.seat) (view_of l.seat));
 }

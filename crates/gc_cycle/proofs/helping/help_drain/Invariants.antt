@@ -1,4 +1,5 @@
 use Rattle.std.proofs.Common.{◌≡◌, ◌≤◌, ◌-◌, ◌*◌, true}
+use Rattle.mark_core.specs.Cards.{card_cells}
 use Rattle.mark_core.specs.Layout.{card_count}
 use Rattle.gc_table.specs.Log.{events}
 use Rattle.gc_table.specs.Seats.{Sits, view_of}
@@ -13,7 +14,7 @@ invariant-loop-helped l = record {
   sits : Sits l.heap l.seat;
   helps : HelpsOn l.quota l.helped (view_of l.fn.seat) (view_of l.seat);
   met : l.helped.ended ≡ NoWork → meets_cards (card_count l.heap.shape) (events (view_of l.fn.seat) (view_of l.seat)) ≡ true;
-  room : l.helped.rescanned ≤ 16 * card_floor (view_of l.seat);
+  room : l.helped.rescanned ≤ card_cells * card_floor (view_of l.seat);
 }
 
 abbrev pub decreases-loop-helped : goal.decreases-loop-helped

@@ -29,6 +29,7 @@ use Rattle.gc_cycle.proofs.Rooted.{rest-room}
 use Rattle.gc_cycle.proofs.Sequences.{this-moment}
 use Rattle.gc_cycle.proofs.Untaken.{moved-untaken, moves-unpopped, moves-unrooted, scan-steps, scan-unpopped, scan-unrooted, Spares, untaken, unread-of}
 use Rattle.gc_cycle.proofs.lower.clean.Goals as goal
+use Rattle.mark_core.specs.Cards.{block_of_card}
 
 rest-there : (sh : Shape) (v : View) → v.shape ≡ sh → is_at_rest sh v.state ≡ true → is_at_rest v.shape v.state ≡ true
 rest-there sh v e r = subst (λ (x : Shape). is_at_rest x v.state ≡ true) (sym e) r
@@ -65,9 +66,9 @@ module _ (f : Sort) (h : Spares (moves_packet (0 ∷ 1 ∷ 2 ∷ [])) f) (k : Sp
       let x = a.2 in
       let rest : List Entry = x.scan ++ ending card r.redirtied in
       ap (never f) (a.1 ∙ ap (λ l. event (ClearCard card) 1 ∷ l) x.events_are)
-      ∙ one (ClearCard card) 1 (event (ReadMarks (card / 4)) x.marks ∷ event (ReadAlloc (card / 4)) x.allocs ∷ rest) (cleared card 1)
-      (one (ReadMarks (card / 4)) x.marks (event (ReadAlloc (card / 4)) x.allocs ∷ rest) (marks (card / 4) x.marks)
-      (one (ReadAlloc (card / 4)) x.allocs rest (allocs (card / 4) x.allocs)
+      ∙ one (ClearCard card) 1 (event (ReadMarks (block_of_card card)) x.marks ∷ event (ReadAlloc (block_of_card card)) x.allocs ∷ rest) (cleared card 1)
+      (one (ReadMarks (block_of_card card)) x.marks (event (ReadAlloc (block_of_card card)) x.allocs ∷ rest) (marks (block_of_card card) x.marks)
+      (one (ReadAlloc (block_of_card card)) x.allocs rest (allocs (block_of_card card) x.allocs)
       (never-both f x.scan (ending card r.redirtied) (untaken scans_object f k x.scan (sym (scan-steps x.scan) ∙ x.rescans.counts.scans)) (none-ending card r.redirtied)))))
       c
 

@@ -2,7 +2,7 @@ use Rattle.std.proofs.Common.{ℕ, ◌≡◌, ◌<◌, ◌⊎◌, arith, sym, ap
 use Rattle.std.proofs.lemmas.Bool.{false≢true, true≢false}
 use Rattle.mark_core.specs.Held.{holds_any}
 use Rattle.mark_core.specs.declared.kinds.Shape.{Shape}
-use Rattle.mark_core.proofs.MarksIdle.{idle-cleaning}
+use Rattle.mark_core.proofs.Marks.MarksIdle.{idle-cleaning}
 use Rattle.gc_table.specs.Log.{events}
 use Rattle.gc_table.specs.Seats.{view_of}
 use Rattle.gc_table.specs.declared.view.View.{View}

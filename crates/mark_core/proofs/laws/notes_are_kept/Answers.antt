@@ -1,4 +1,4 @@
-use Rattle.mark_core.proofs.NotesKept.{notes-kept}
+use Rattle.mark_core.proofs.Notes.NotesKept.{notes-kept}
 use Rattle.mark_core.proofs.laws.notes_are_kept.Goals as goal
 
 pub returns : goal.returns

@@ -16,6 +16,7 @@ use Rattle.packet_pools.proofs.ScanSteps.{fresh-answers, may-dirty_card, later-d
 use Rattle.packet_pools.proofs.Counting.{counts-join, counts-lost, counts-moves, counts-push}
 use Rattle.packet_pools.proofs.Reading.{asks-join, asks-moves}
 use Rattle.packet_pools.proofs.Pushed.{dirtied, pushed, pushes-from}
+use Rattle.mark_core.specs.Cards.{card_of}
 use Rattle.packet_pools.proofs.marking.push_marked.Goals as goal
 
 -- the hand is as before where nothing but slots changed
@@ -63,18 +64,18 @@ dirty_card-requires-clause-may c =
     let x : View = view_of c.push.new.seat in
     let e = c.in-Err.ensures in
     let fresh = ap (λ (z : View). z.state.fresh) e.full.2 ∙ (same-hand v w c.args.cell c.make_room.ensures.state c.requires.hand).fresh in
-    subst (λ k. May (DirtyCard (k / 16)) x) (sym c.number.ensures) (may-dirty_card x c.args.cell e.seat.1.may fresh)
+    subst (λ k. May (DirtyCard k) x) (sym c.card_of.ensures) (may-dirty_card x c.args.cell e.seat.1.may fresh)
 
 -- the card was dirtied after the search for a packet
-lost-step : (w x y : View) (k card : ℕ) (n : ℕ) → x ≡ w → k ≡ card → y ≡ after (DirtyCard (k / 16)) n x → y ≡ after (DirtyCard (card / 16)) n w
-lost-step w x y k card n a b e = e ∙ (λ i. after (DirtyCard (b i / 16)) n (a i))
+lost-step : (w x y : View) (k card : ℕ) (n : ℕ) → x ≡ w → k ≡ card → y ≡ after (DirtyCard k) n x → y ≡ after (DirtyCard card) n w
+lost-step w x y k card n a b e = e ∙ (λ i. after (DirtyCard (b i)) n (a i))
 
 pub returns-in-Err-clause-later : goal.returns-in-Err-clause-later
 returns-in-Err-clause-later c =
     let v : View = view_of c.args.seat.now in
     let w : View = view_of c.make_room.new.seat in
     let y : View = view_of c.dirty_card.new.seat in
-    later-join v w y c.make_room.ensures.later (later-dirty_card w y _ (c.args.cell / 16) refl (fresh-answers w.state c.args.cell (c.args.cell / 16) (same-hand v w c.args.cell c.make_room.ensures.state c.requires.hand).fresh refl) (lost-step w (view_of c.push.new.seat) y c.number.result c.args.cell _ c.in-Err.ensures.full.2 c.number.ensures c.dirty_card.ensures.view))
+    later-join v w y c.make_room.ensures.later (later-dirty_card w y _ (card_of c.args.cell) refl (fresh-answers w.state c.args.cell (card_of c.args.cell) (same-hand v w c.args.cell c.make_room.ensures.state c.requires.hand).fresh refl) (lost-step w (view_of c.push.new.seat) y c.card_of.result (card_of c.args.cell) _ c.in-Err.ensures.full.2 c.card_of.ensures c.dirty_card.ensures.view))
 
 pub returns-in-Err-clause-seat : goal.returns-in-Err-clause-seat
 returns-in-Err-clause-seat c =
@@ -82,7 +83,7 @@ returns-in-Err-clause-seat c =
     let y : View = view_of c.dirty_card.new.seat in
     let e = c.dirty_card.ensures.view in
     let fresh = ap (λ (z : View). z.state.fresh) c.in-Err.ensures.full.2 ∙ (same-hand (view_of c.args.seat.now) (view_of c.make_room.new.seat) c.args.cell c.make_room.ensures.state c.requires.hand).fresh in
-    (c.dirty_card.ensures.seat, traces-on x y (later-dirty_card x y _ (c.number.result / 16) refl (fresh-answers x.state c.args.cell (c.number.result / 16) fresh (ap (λ k. k / 16) (sym c.number.ensures))) e) c.in-Err.ensures.seat.1 (ap (λ (z : View). z.state.reserved) e) (ap (λ (z : View). z.state.credit) e))
+    (c.dirty_card.ensures.seat, traces-on x y (later-dirty_card x y _ c.card_of.result refl (fresh-answers x.state c.args.cell c.card_of.result fresh (sym c.card_of.ensures)) e) c.in-Err.ensures.seat.1 (ap (λ (z : View). z.state.reserved) e) (ap (λ (z : View). z.state.credit) e))
 
 pub returns-in-Err-clause-pushes : goal.returns-in-Err-clause-pushes
 returns-in-Err-clause-pushes c =
@@ -93,7 +94,7 @@ returns-in-Err-clause-pushes c =
     let k : Held = c.make_room.new.out in
     let m = c.make_room.ensures in
     let f = c.in-Err.ensures.full in
-    let e = lost-step w (view_of c.push.new.seat) y c.number.result c.args.cell _ f.2 c.number.ensures c.dirty_card.ensures.view in
+    let e = lost-step w (view_of c.push.new.seat) y c.card_of.result (card_of c.args.cell) _ f.2 c.card_of.ensures c.dirty_card.ensures.view in
     subst (λ (s : SeatState). Pushes h c.push.new.held s.scan s.cleaning v y) m.state
     (subst (λ (l : Held). Pushes h l w.state.scan w.state.cleaning v y) (sym f.1)
     (pushes-from v w y h k k w.state.scan w.state.cleaning m.out (ap (λ (s : SeatState). s.owes) m.state)
@@ -107,9 +108,9 @@ returns-in-Err-clause-counts c =
     let y : View = view_of c.dirty_card.new.seat in
     let m = c.make_room.ensures in
     let f = c.in-Err.ensures.full in
-    let e = lost-step w (view_of c.push.new.seat) y c.number.result c.args.cell _ f.2 c.number.ensures c.dirty_card.ensures.view in
-    counts-lost sh (c.args.cell / 16) _ (events v w) (events v y)
-    (events-join v w y m.later.log (later-dirty_card w y _ (c.args.cell / 16) refl (fresh-answers w.state c.args.cell (c.args.cell / 16) (same-hand v w c.args.cell m.state c.requires.hand).fresh refl) e).log ∙ ap (λ (l : List Entry). events v w ++ l) (events-after w y _ _ e))
+    let e = lost-step w (view_of c.push.new.seat) y c.card_of.result (card_of c.args.cell) _ f.2 c.card_of.ensures c.dirty_card.ensures.view in
+    counts-lost sh (card_of c.args.cell) _ (events v w) (events v y)
+    (events-join v w y m.later.log (later-dirty_card w y _ (card_of c.args.cell) refl (fresh-answers w.state c.args.cell (card_of c.args.cell) (same-hand v w c.args.cell m.state c.requires.hand).fresh refl) e).log ∙ ap (λ (l : List Entry). events v w ++ l) (events-after w y _ _ e))
     (m.full f.0)
     (counts-moves sh (events v w) m.moves)
 
@@ -130,8 +131,8 @@ returns-in-Err-clause-asks c =
     let w : View = view_of c.make_room.new.seat in
     let y : View = view_of c.dirty_card.new.seat in
     let m = c.make_room.ensures in
-    let e = lost-step w (view_of c.push.new.seat) y c.number.result c.args.cell _ c.in-Err.ensures.full.2 c.number.ensures c.dirty_card.ensures.view in
-    asks-join [] [] (events v w) (entry_of (DirtyCard (c.args.cell / 16)) _ ∷ []) (events v y)
-    (events-join v w y m.later.log (later-dirty_card w y _ (c.args.cell / 16) refl (fresh-answers w.state c.args.cell (c.args.cell / 16) (same-hand v w c.args.cell m.state c.requires.hand).fresh refl) e).log ∙ ap (λ (l : List Entry). events v w ++ l) (events-after w y _ _ e))
+    let e = lost-step w (view_of c.push.new.seat) y c.card_of.result (card_of c.args.cell) _ c.in-Err.ensures.full.2 c.card_of.ensures c.dirty_card.ensures.view in
+    asks-join [] [] (events v w) (entry_of (DirtyCard (card_of c.args.cell)) _ ∷ []) (events v y)
+    (events-join v w y m.later.log (later-dirty_card w y _ (card_of c.args.cell) refl (fresh-answers w.state c.args.cell (card_of c.args.cell) (same-hand v w c.args.cell m.state c.requires.hand).fresh refl) e).log ∙ ap (λ (l : List Entry). events v w ++ l) (events-after w y _ _ e))
     (asks-moves (events v w) m.moves)
     (record { read = refl; named = refl; asked = refl })

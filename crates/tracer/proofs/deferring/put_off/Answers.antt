@@ -25,7 +25,7 @@ pub dirty_card-requires-clause-may : goal.dirty_card-requires-clause-may
 dirty_card-requires-clause-may c =
     let w : View = view_of c.take_deferring.new.seat in
     let e = c.in_default.ensures in
-    subst (λ k. May (DirtyCard (k / 16)) w) (sym c.number.ensures) (may-dirty_popped w c.args.cell _ e.seat.1.may (ap (λ (s : SeatState). s.popped) e.state ∙ c.requires.cell.popped))
+    subst (λ k. May (DirtyCard k) w) (sym c.card_of.ensures) (may-dirty_popped w c.args.cell _ e.seat.1.may (ap (λ (s : SeatState). s.popped) e.state ∙ c.requires.cell.popped))
 
 pub returns-in_default-clause-seat : goal.returns-in_default-clause-seat
 returns-in_default-clause-seat c =
@@ -33,16 +33,16 @@ returns-in_default-clause-seat c =
     let y : View = view_of c.dirty_card.new.seat in
     let e = c.in_default.ensures in
     let d = c.dirty_card.ensures.view in
-    let answers = popped-answers w.state c.args.cell (c.number.result / 16) (ap (λ (s : SeatState). s.popped) e.state ∙ c.requires.cell.popped) (ap (λ k. k / 16) (sym c.number.ensures)) in
-    (c.dirty_card.ensures.seat, traces-on w y (later-dirty_card w y _ (c.number.result / 16) refl answers d) e.seat.1 (ap (λ (z : View). z.state.reserved) d) (ap (λ (z : View). z.state.credit) d))
+    let answers = popped-answers w.state c.args.cell c.card_of.result (ap (λ (s : SeatState). s.popped) e.state ∙ c.requires.cell.popped) (sym c.card_of.ensures) in
+    (c.dirty_card.ensures.seat, traces-on w y (later-dirty_card w y _ c.card_of.result refl answers d) e.seat.1 (ap (λ (z : View). z.state.reserved) d) (ap (λ (z : View). z.state.credit) d))
 
 pub returns-in_default-clause-later : goal.returns-in_default-clause-later
 returns-in_default-clause-later c =
     let w : View = view_of c.take_deferring.new.seat in
     let y : View = view_of c.dirty_card.new.seat in
     let e = c.in_default.ensures in
-    let answers = popped-answers w.state c.args.cell (c.number.result / 16) (ap (λ (s : SeatState). s.popped) e.state ∙ c.requires.cell.popped) (ap (λ k. k / 16) (sym c.number.ensures)) in
-    later-join (view_of c.args.seat.now) w y e.later (later-dirty_card w y _ (c.number.result / 16) refl answers c.dirty_card.ensures.view)
+    let answers = popped-answers w.state c.args.cell c.card_of.result (ap (λ (s : SeatState). s.popped) e.state ∙ c.requires.cell.popped) (sym c.card_of.ensures) in
+    later-join (view_of c.args.seat.now) w y e.later (later-dirty_card w y _ c.card_of.result refl answers c.dirty_card.ensures.view)
 
 pub returns-in_default-clause-part : goal.returns-in_default-clause-part
 returns-in_default-clause-part c =
@@ -52,9 +52,9 @@ returns-in_default-clause-part c =
     let y : View = view_of c.dirty_card.new.seat in
     let o : Option ℕ = packet_of c.args.packets.now.deferred in
     let e = c.in_default.ensures in
-    let answers = popped-answers w.state c.args.cell (c.number.result / 16) (ap (λ (s : SeatState). s.popped) e.state ∙ c.requires.cell.popped) (ap (λ k. k / 16) (sym c.number.ensures)) in
+    let answers = popped-answers w.state c.args.cell c.card_of.result (ap (λ (s : SeatState). s.popped) e.state ∙ c.requires.cell.popped) (sym c.card_of.ensures) in
     subst (λ q. Part sh o q 0 0 1 v (events v y)) (ap packet_of e.none.0 ∙ sym (ap (λ (x : Packets). packet_of x.deferred) e.packets.0))
-    (part-spill sh o (c.number.result / 16) _ v w y e.later (later-dirty_card w y _ (c.number.result / 16) refl answers c.dirty_card.ensures.view) e.moves e.none.1 c.dirty_card.ensures.view)
+    (part-spill sh o c.card_of.result _ v w y e.later (later-dirty_card w y _ c.card_of.result refl answers c.dirty_card.ensures.view) e.moves e.none.1 c.dirty_card.ensures.view)
 
 pub returns-clause-later : goal.returns-clause-later
 returns-clause-later c =

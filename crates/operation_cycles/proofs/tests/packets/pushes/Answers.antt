@@ -9,6 +9,7 @@ use Rattle.packet_pools.specs.declared.held.Held.{Held}
 use Rattle.packet_pools.proofs.Doing.{traces-on}
 use Rattle.packet_pools.proofs.Pushed.{dirtied, pushed}
 use Rattle.packet_pools.proofs.ScanSteps.{fresh-answers, later-dirty_card, may-dirty_card}
+use Rattle.mark_core.specs.Cards.{card_of}
 use Rattle.operation_cycles.proofs.tests.packets.pushes.Goals as goal
 
 pub returns-in-Ok-clause-pushes : goal.returns-in-Ok-clause-pushes
@@ -25,11 +26,11 @@ dirty_card-requires-clause-may c =
     let x : View = view_of c.push.new.seat in
     let e = c.in-Err.ensures in
     let fresh = ap (λ (z : View). z.state.fresh) e.full.2 ∙ c.requires.hand.fresh in
-    subst (λ k. May (DirtyCard (k / 16)) x) (sym c.number.ensures) (may-dirty_card x c.args.cell e.seat.1.may fresh)
+    subst (λ k. May (DirtyCard k) x) (sym c.card_of.ensures) (may-dirty_card x c.args.cell e.seat.1.may fresh)
 
 -- the packet was full, so nothing changed before the card was dirtied
-lost-step : (w x y : View) (k card n : ℕ) → x ≡ w → k ≡ card → y ≡ after (DirtyCard (k / 16)) n x → y ≡ after (DirtyCard (card / 16)) n w
-lost-step w x y k card n a b e = e ∙ (λ i. after (DirtyCard (b i / 16)) n (a i))
+lost-step : (w x y : View) (k card n : ℕ) → x ≡ w → k ≡ card → y ≡ after (DirtyCard k) n x → y ≡ after (DirtyCard card) n w
+lost-step w x y k card n a b e = e ∙ (λ i. after (DirtyCard (b i)) n (a i))
 
 pub returns-in-Err-clause-seat : goal.returns-in-Err-clause-seat
 returns-in-Err-clause-seat c =
@@ -37,7 +38,7 @@ returns-in-Err-clause-seat c =
     let y : View = view_of c.dirty_card.new.seat in
     let e = c.dirty_card.ensures.view in
     let fresh = ap (λ (z : View). z.state.fresh) c.in-Err.ensures.full.2 ∙ c.requires.hand.fresh in
-    (c.dirty_card.ensures.seat, traces-on x y (later-dirty_card x y _ (c.number.result / 16) refl (fresh-answers x.state c.args.cell (c.number.result / 16) fresh (ap (λ k. k / 16) (sym c.number.ensures))) e) c.in-Err.ensures.seat.1 (ap (λ (z : View). z.state.reserved) e) (ap (λ (z : View). z.state.credit) e))
+    (c.dirty_card.ensures.seat, traces-on x y (later-dirty_card x y _ c.card_of.result refl (fresh-answers x.state c.args.cell c.card_of.result fresh (sym c.card_of.ensures)) e) c.in-Err.ensures.seat.1 (ap (λ (z : View). z.state.reserved) e) (ap (λ (z : View). z.state.credit) e))
 
 pub returns-in-Err-clause-pushes : goal.returns-in-Err-clause-pushes
 returns-in-Err-clause-pushes c =
@@ -46,5 +47,5 @@ returns-in-Err-clause-pushes c =
     let h : Held = c.args.held.now in
     let q = c.requires in
     let f = c.in-Err.ensures.full in
-    let e = lost-step v (view_of c.push.new.seat) y c.number.result c.args.cell _ f.2 c.number.ensures c.dirty_card.ensures.view in
+    let e = lost-step v (view_of c.push.new.seat) y c.card_of.result (card_of c.args.cell) _ f.2 c.card_of.ensures c.dirty_card.ensures.view in
     subst (λ (l : Held). Pushes h l v.state.scan v.state.cleaning v y) (sym f.1) (dirtied v y h c.args.cell _ e q.hand q.held.0 q.held.1)

@@ -1,0 +1,146 @@
+-- A seat is exact while it knows that the world is stopped, and a seat that is spent or has no section has no variable and no cache: kept by each step that is allowed.
+use Rattle.std.proofs.Common.{ℕ, ◌≡◌, ◌<◌, replicate, get_or, length, refl, sym, ap, ◌∙◌, Bool, true, false, ◌||◌, Option, Some, None, ⊎_elim}
+use Rattle.std.specs.Prelude.{IsTrue, IsFalse, is_none, is_some}
+use Rattle.std.specs.List.{All}
+use Rattle.std.proofs.lemmas.Bool.{cases_Bool, and_parts, false≢true}
+use Rattle.std.proofs.lemmas.List.Elements.{All-replicate}
+use Rattle.mark_core.specs.Layout.{Words, words_of}
+use Rattle.mark_core.specs.MutatorSteps.{with_free, without_used}
+use Rattle.mark_core.specs.Seats.{is_phase, has_turn}
+use Rattle.mark_core.specs.Effects.{written, seat_after}
+use Rattle.mark_core.specs.Steps.{Core}
+use Rattle.mark_core.specs.Laws.{IsCore}
+use Rattle.mark_core.proofs.Acting.{found, words_left, seats_left}
+use Rattle.mark_core.proofs.Locals.{local-kept}
+use Rattle.mark_core.proofs.Writes.{phase-kept}
+use Rattle.mark_core.proofs.Blocks.BlocksTaken.{Taken, mine, words-read}
+use Rattle.mark_core.proofs.Blocks.BlocksStopped.{still-known, knower, not-still}
+use Rattle.mark_core.specs.declared.kinds.Phase.{Phase}
+use Rattle.mark_core.specs.declared.kinds.Phase.TheVariants.{Idle, Marking, Drain, Sweep, Clear, Full}
+use Rattle.mark_core.specs.declared.kinds.Step.{Step}
+use Rattle.mark_core.specs.declared.kinds.Step.TheVariants.{ReadPhase, StoreRoot, ClaimBlock, ReleaseBlock, ReadFree, StoreNew, PublishCells, Observe, DropStep, StorePhase}
+use Rattle.mark_core.specs.declared.seat.SeatState.{SeatState}
+
+-- an exact seat knows
+abbrev pub ExactKnows : SeatState → Type 0
+ExactKnows s = IsTrue s.exact → IsTrue s.knows
+
+-- a seat that is spent or has no section names nothing
+abbrev pub SpentNames : SeatState → Type 0
+SpentNames s = IsTrue (s.spent || is_none s.section) → All (λ r. r ≡ 0) s.env
+
+-- a seat that is spent or has no section has no cache
+abbrev pub SpentCache : SeatState → Type 0
+SpentCache s = IsTrue (s.spent || is_none s.section) → s.cache ≡ None
+
+-- the seat isn't exact
+abbrev pub NotExact : SeatState → Type 0
+NotExact s = IsFalse s.exact
+
+or_none : (b c : Bool) → (b || false) ≡ c → b ≡ c
+or_none true c e = e
+or_none false c e = e
+
+still_false : (b : Bool) → b ≡ false → (b || false) ≡ false
+still_false b e = rw e refl
+
+exact_moves : (c : Core) (i : ℕ) (s : SeatState) (to : Phase) → Taken c i s (StorePhase to) → ExactKnows s → ExactKnows (seat_after c.shape s (StorePhase to) (found c s (StorePhase to)))
+exact_moves c i s Drain t k e = (and_parts s.knows _ t.ok.1.0).0
+exact_moves c i s Idle t k e = k (or_none s.exact true e)
+exact_moves c i s Marking t k e = k (or_none s.exact true e)
+exact_moves c i s Sweep t k e = k (or_none s.exact true e)
+exact_moves c i s Clear t k e = k (or_none s.exact true e)
+exact_moves c i s Full t k e = k (or_none s.exact true e)
+
+exact_after : (c : Core) (i : ℕ) (s : SeatState) (step : Step) → Taken c i s step → ExactKnows s → ExactKnows (seat_after c.shape s step (found c s step))
+exact_after c i s Observe t k e = rw (k e) refl
+exact_after c i s DropStep t k e = absurd (false≢true e)
+exact_after c i s (StorePhase to) t k e = exact_moves c i s to t k e
+exact_after c i s step t k e = k e
+
+pub exact-knows : (c : Core) (i : ℕ) (s : SeatState) (step : Step) → Taken c i s step → All ExactKnows (seats_left c i s step)
+exact-knows c i s step t =
+    let all : All ExactKnows c.seats = λ j d h. (t.core.strong.seats_strong j d h).exact_needs_knows in
+    local-kept ExactKnows c.shape step c.seats i (seat_after c.shape s step (found c s step)) (λ k e. absurd (false≢true e)) (λ k e. absurd (false≢true e)) all (exact_after c i s step t (mine c i s step ExactKnows t all))
+
+has_section : (o season : Option ℕ) (P : Type 0) → has_turn o season ≡ true → is_none o ≡ true → P
+has_section None season P e f = absurd (false≢true e)
+has_section (Some x) season P e f = absurd (false≢true f)
+
+names_after : (c : Core) (i : ℕ) (s : SeatState) (step : Step) → Taken c i s step → SpentNames s → SpentNames (seat_after c.shape s step (found c s step))
+names_after c i s (StoreRoot v r) t k e =
+    let none : is_none s.section ≡ true = rw t.live at e in
+    has_section s.section s.season_seen _ (and_parts s.active _ (and_parts _ _ t.ok.0).1).1 none
+names_after c i s step t k e = k e
+
+no_names : (k : ℕ) → All (λ (r : ℕ). r ≡ 0) (replicate k 0)
+no_names k = All-replicate (λ (r : ℕ). r ≡ 0) k 0 refl
+
+pub spent-names : (c : Core) (i : ℕ) (s : SeatState) (step : Step) → Taken c i s step → All SpentNames (seats_left c i s step)
+spent-names c i s step t =
+    let all : All SpentNames c.seats = λ j d h. (t.core.strong.seats_strong j d h).env_of_spent in
+    local-kept SpentNames c.shape step c.seats i (seat_after c.shape s step (found c s step)) (λ k e. no_names 32) (λ k e. no_names 32) all (names_after c i s step t (mine c i s step SpentNames t all))
+
+is_given : (o : Option ℕ) (P : Type 0) → is_some o ≡ true → is_none o ≡ true → P
+is_given None P e f = absurd (false≢true e)
+is_given (Some x) P e f = absurd (false≢true f)
+
+cache_after : (c : Core) (i : ℕ) (s : SeatState) (step : Step) → Taken c i s step → SpentCache s → SpentCache (seat_after c.shape s step (found c s step))
+cache_after c i s (ClaimBlock b) t k e =
+    let none : is_none s.section ≡ true = rw t.live at e in
+    is_given s.section _ (and_parts (s.active || s.knows) _ t.ok.1.0).1 none
+cache_after c i s ReleaseBlock t k e = refl
+cache_after c i s ReadFree t k e = ap (λ o. with_free o (found c s ReadFree)) (k e)
+cache_after c i s (StoreNew y part word) t k e =
+    let none : is_none s.section ≡ true = rw t.live at e in
+    has_section s.section s.season_seen _ (and_parts s.active _ (and_parts _ _ t.ok.0).1).1 none
+cache_after c i s PublishCells t k e = ap without_used (k e)
+cache_after c i s step t k e = k e
+
+pub spent-cache : (c : Core) (i : ℕ) (s : SeatState) (step : Step) → Taken c i s step → All SpentCache (seats_left c i s step)
+spent-cache c i s step t =
+    let all : All SpentCache c.seats = λ j d h. (t.core.strong.seats_strong j d h).cache_of_spent in
+    local-kept SpentCache c.shape step c.seats i (seat_after c.shape s step (found c s step)) (λ k e. refl) (λ k e. refl) all (cache_after c i s step t (mine c i s step SpentCache t all))
+
+-- where a seat is exact, no seat is active
+pub exact-still : (c : Core) (j : ℕ) (d : SeatState) → IsCore c → j < length c.seats → IsTrue (get_or c.seats j d).exact → All (λ (x : SeatState). IsFalse x.active) c.seats
+exact-still c j d k h e = still-known c k (knower c.seats j d h ((k.strong.seats_strong j d h).exact_needs_knows e))
+
+-- where a mutator runs no seat is exact
+pub running-not-exact : (c : Core) (i : ℕ) (s : SeatState) (step : Step) → Taken c i s step → s.active ≡ true → All NotExact c.seats
+running-not-exact c i s step t run j d h =
+    ⊎_elim
+    (λ (e : (get_or c.seats j d).exact ≡ true). not-still c i s step _ t (exact-still c j d t.core h e) run)
+    (λ (e : (get_or c.seats j d).exact ≡ false). e)
+    (cases_Bool (get_or c.seats j d).exact)
+
+-- none is exact after a step that makes its own seat none
+pub none-exact : (c : Core) (i : ℕ) (s : SeatState) (step : Step) → All NotExact c.seats → NotExact (seat_after c.shape s step (found c s step)) → All NotExact (seats_left c i s step)
+none-exact c i s step a own = local-kept NotExact c.shape step c.seats i (seat_after c.shape s step (found c s step)) (λ k. refl) (λ k. refl) a own
+
+-- in Marking no seat is exact
+abbrev pub CalmMarking : Core → ℕ → SeatState → Step → Type 0
+CalmMarking c i s step = IsTrue (is_phase (words_left c s step).phase Marking) → All NotExact (seats_left c i s step)
+
+marking_moves : (c : Core) (i : ℕ) (s : SeatState) (to : Phase) → Taken c i s (StorePhase to) → CalmMarking c i s (StorePhase to)
+marking_moves c i s Marking t e =
+    let all = running-not-exact c i s (StorePhase Marking) t t.ok.1.0 in
+    none-exact c i s (StorePhase Marking) all (still_false s.exact (mine c i s (StorePhase Marking) NotExact t all))
+marking_moves c i s Idle t e = absurd (false≢true e)
+marking_moves c i s Drain t e = absurd (false≢true e)
+marking_moves c i s Sweep t e = absurd (false≢true e)
+marking_moves c i s Clear t e = absurd (false≢true e)
+marking_moves c i s Full t e = absurd (false≢true e)
+
+pub marking-calm : (c : Core) (i : ℕ) (s : SeatState) (step : Step) → Taken c i s step → CalmMarking c i s step
+marking-calm c i s (StorePhase to) t e = marking_moves c i s to t e
+marking-calm c i s ReadPhase t e =
+    let was = ap (λ (w : Words). is_phase w.phase Marking) (sym (words-read c i s ReadPhase t refl)) ∙ e in
+    let all = t.core.strong.no_exact_in_marking was in
+    none-exact c i s ReadPhase all (mine c i s ReadPhase NotExact t all)
+marking-calm c i s DropStep t e = none-exact c i s DropStep (t.core.strong.no_exact_in_marking e) refl
+marking-calm c i s step t e =
+    let w : Words = words_of c.shape c.words in
+    let was = ap (λ p. is_phase p Marking) (sym (phase-kept c.shape s step (written c.shape s step (found c s step)) w refl)) ∙ e in
+    let all = t.core.strong.no_exact_in_marking was in
+    none-exact c i s step all (mine c i s step NotExact t all)

@@ -1,0 +1,137 @@
+-- The rule of caches after a part of a new cell was stored.
+use Rattle.std.proofs.Common.{ℕ, ◌≡◌, ◌≢◌, ◌+◌, ◌*◌, ◌/◌, ◌%◌, ◌^◌, ◌<◌, List, set, get_or, arith, refl, sym, ◌∙◌, subst, true, false, ◌||◌, Option, Some, None, eqb, ◌⊎◌, inl, inr, ⊎_elim}
+use Rattle.std.specs.Prelude.{slice_get}
+use Rattle.std.specs.List.{All}
+use Rattle.std.proofs.lemmas.Bool.{and_parts, and_from, or_cases, or_left, or_right, cases_eq, eqb-true, false≢true}
+use Rattle.mark_core.specs.Bits.{flag, has_bit, with_bit, without_bit, complement}
+use Rattle.mark_core.specs.Seats.{is_the, free_in, used_in}
+use Rattle.mark_core.specs.Views.{Maker}
+use Rattle.mark_core.specs.Cells.{in_use, field}
+use Rattle.mark_core.specs.HeapRules.{Caches, CachesUnpublished, MakesNil}
+use Rattle.mark_core.specs.MutatorSteps.{with_making, with_made}
+use Rattle.mark_core.proofs.Formed.FormedAfter.{one-of}
+use Rattle.mark_core.proofs.Caches.CachesNext.{is_next, next-free, next-makes, free-block}
+use Rattle.mark_core.proofs.Caches.CachesSeat.{CacheFacts}
+use Rattle.mark_core.proofs.Caches.CachesOwners.{free-unused}
+use Rattle.mark_core.proofs.Caches.CachesClaims.{owns-same}
+use Rattle.mark_core.proofs.Caches.CachesNames.{Names}
+use Rattle.mark_core.proofs.Caches.CachesUses.{use-set, use-published, use-mine, use-made}
+use Rattle.mark_core.proofs.Caches.CachesNew.{Naming, names-new}
+use Rattle.mark_core.proofs.Caches.CachesMakes.{making-next, making_block, made_block, made_makes}
+use Rattle.mark_core.proofs.Caches.CachesSteps.{Caching, with_cache, names-of, caches-set, cache-set}
+use Rattle.mark_core.proofs.CellBits.{with_other, bit-first}
+use Rattle.mark_core.proofs.Used.UsedBits.{making-used}
+use Rattle.mark_core.specs.declared.kinds.Shape.{Shape}
+use Rattle.mark_core.specs.declared.seat.CacheState.{CacheState}
+
+-- seat i may store this part of cell c next
+pub record Storing (sh : Shape) (owners allocs ids fields : List ℕ) (ms : List Maker) (i c part : ℕ) (m : Maker) : Type 0 where
+  pub rule : Caching sh owners allocs ids fields ms
+  pub seat : slice_get ms i ≡ Some m
+  pub cell : c < sh.cells
+  pub next : is_next m.cache c part ≡ true
+
+-- the fields before this part are nil
+before : (sh : Shape) (owners allocs ids fields : List ℕ) (ms : List Maker) (i c part : ℕ) (m : Maker) → Storing sh owners allocs ids fields ms i c part m → (j : ℕ) → j < part → j < sh.fields → field sh fields c j ≡ 0
+before sh owners allocs ids fields ms i c part m k j l f =
+    let nil : MakesNil sh fields m = one-of (MakesNil sh fields) ms i m k.seat k.rule.caches.making_nil in
+    nil c part j (next-makes m.cache c part (λ z. omega (arith, z, l)) k.next) l f
+
+same_cells : (o : Option CacheState) (d part c : ℕ) → (free_in (with_making o d part) c || used_in (with_making o d part) c) ≡ (free_in o c || used_in o c)
+same_cells None d part c = refl
+same_cells (Some x) d part c = refl
+
+-- a part that isn't the last: a field, which becomes nil, or the value
+pub part-kept : (sh : Shape) (owners allocs ids fields fields' : List ℕ) (ms : List Maker) (i c part : ℕ) (m : Maker) → Storing sh owners allocs ids fields ms i c part m → ((x : Maker) → MakesNil sh fields x → MakesNil sh fields' x) → ((j : ℕ) → field sh fields c j ≡ 0 → field sh fields' c j ≡ 0)
+    → (part < sh.fields → field sh fields' c part ≡ 0) → Caches sh owners allocs ids fields' (set ms i (with_cache m (with_making m.cache c (part + 1))))
+part-kept sh owners allocs ids fields fields' ms i c part m k stays nil now =
+    let o : Option CacheState = with_making m.cache c (part + 1) in
+    let mine : CachesUnpublished sh allocs m = one-of (CachesUnpublished sh allocs) ms i m k.seat k.rule.caches.unpublished in
+    let a : Caches sh owners allocs ids fields ms = k.rule.caches in
+    let now_nil : All (MakesNil sh fields') ms = λ j d h. stays (get_or ms j d) (a.making_nil j d h) in
+    let after : Caching sh owners allocs ids fields' ms =
+    record {
+      shaped = k.rule.shaped;
+      owners_long = k.rule.owners_long;
+      allocs_long = k.rule.allocs_long;
+      ids_long = k.rule.ids_long;
+      caches =
+          record { owned = a.owned; owners_exist = a.owners_exist; unpublished = a.unpublished; making_nil = now_nil; distinct = a.distinct; numbers_below = a.numbers_below; sections_seated = a.sections_seated };
+      facts = k.rule.facts;
+      ranges = k.rule.ranges;
+      sections = k.rule.sections;
+    } in
+    cache-set sh owners owners allocs ids fields' ms i m o after k.seat (owns-same sh owners ms i m (with_cache m o) k.seat (making_block m.cache c (part + 1)) a.owned) a.owners_exist
+    (λ x h e. mine x h (sym (same_cells m.cache c (part + 1) x) ∙ e))
+    (λ x q j e l f. making-next sh fields' m.cache c part x q j (λ p u v. nil p (before sh owners allocs ids fields ms i c part m k p u v)) now e l f)
+    (λ x e. sym (making-used m.cache c (part + 1) x) ∙ e)
+
+same_cell : (b c d : ℕ) → b ≡ d / 64 → b ≡ c / 64 → c % 64 ≡ d % 64 → c ≡ d
+same_cell b c d e f g = omega (arith, e, f, g)
+
+-- the used cells are those before and the cell that was made
+made_used : (o : Option CacheState) (d c : ℕ) → free_in o d ≡ true → used_in (with_made o d) c ≡ true → (c ≡ d) ⊎ (used_in o c ≡ true)
+made_used None d c f e = absurd (false≢true e)
+made_used (Some x) d c f e =
+    let a = and_parts (eqb x.block (c / 64)) (has_bit (with_bit x.used (d % 64)) (c % 64)) e in
+    ⊎_elim
+    (λ (s : c % 64 ≡ d % 64). inl (same_cell x.block c d (free-block x d f) (eqb-true _ _ a.0) s))
+    (λ (n : c % 64 ≢ d % 64). inr (and_from _ _ a.0 (sym (with_other x.used (d % 64) (c % 64) n) ∙ a.1)))
+    (cases_eq (c % 64) (d % 64))
+
+-- and no cell became free
+made_free : (o : Option CacheState) (d c : ℕ) → free_in (with_made o d) c ≡ true → free_in o c ≡ true
+made_free None d c e = e
+made_free (Some x) d c e =
+    let a = and_parts (eqb x.block (c / 64)) (has_bit (without_bit x.free (d % 64)) (c % 64)) e in and_from _ _ a.0 (bit-first x.free (complement (2 ^ (d % 64))) (c % 64) a.1)
+
+made_cells : (o : Option CacheState) (d c : ℕ) → free_in o d ≡ true → (free_in (with_made o d) c || used_in (with_made o d) c) ≡ true → (free_in o c || used_in o c) ≡ true
+made_cells o d c f e =
+    ⊎_elim
+    (λ (a : free_in (with_made o d) c ≡ true). or_left (free_in o c) (used_in o c) (made_free o d c a))
+    (λ (a : used_in (with_made o d) c ≡ true).
+    ⊎_elim
+    (λ (s : c ≡ d). or_left (free_in o c) (used_in o c) (subst (λ z. free_in o z ≡ true) (sym s) f))
+    (λ (u : used_in o c ≡ true). or_right (free_in o c) (used_in o c) u)
+    (made_used o d c f a))
+    (or_cases (free_in (with_made o d) c) (used_in (with_made o d) c) e)
+
+-- the seat with the cell that it made
+abbrev pub maker_made : Maker → ℕ → Maker
+maker_made m c = record m { cache = with_made m.cache c; made = m.made + 1 }
+
+-- the last part: the identity
+pub made-kept : (sh : Shape) (owners allocs ids fields : List ℕ) (ms : List Maker) (i c part word : ℕ) (m : Maker) → Storing sh owners allocs ids fields ms i c part m → m.spent ≡ false → m.section ≡ Some i → word ≡ i * flag + m.made → m.made < flag
+    → ((j : ℕ) (x : Maker) (z : ℕ) → slice_get ms j ≡ Some x → is_the x.section z ≡ true → z ≡ j) → Caches sh owners allocs (set ids c word) fields (set ms i (maker_made m c))
+made-kept sh owners allocs ids fields ms i c part word m k live section identity room others =
+    let n : Maker = maker_made m c in
+    let a : Caches sh owners allocs ids fields ms = k.rule.caches in
+    let facts : CacheFacts m.cache = one-of (λ (x : Maker). CacheFacts x.cache) ms i m k.seat k.rule.facts in
+    let free : free_in m.cache c ≡ true = next-free m.cache c part facts.made_from_free k.next in
+    let mine : CachesUnpublished sh allocs m = one-of (CachesUnpublished sh allocs) ms i m k.seat a.unpublished in
+    let names : Names sh ids (in_use allocs ms) ms = names-of sh owners allocs ids fields ms a in
+    let naming : Naming sh ids (in_use allocs ms) (in_use allocs (set ms i n)) ms i c word m n =
+    record {
+      seat = k.seat;
+      live = live;
+      stored = omega (arith, k.cell, k.rule.ids_long);
+      unused = free-unused sh owners allocs ms i c m k.rule.shaped a.owned a.unpublished facts k.seat k.cell free;
+      section = section;
+      others = others;
+      identity = identity;
+      room = room;
+      same_section = refl;
+      counts = refl;
+      fewer =
+          λ d h u.
+          use-set ((d ≡ c) ⊎ (in_use allocs ms d ≡ true)) allocs ms i d n (λ b. inr (use-published allocs ms d b))
+          (λ b. ⊎_elim (λ (s : d ≡ c). inl s) (λ (v : used_in m.cache d ≡ true). inr (use-mine allocs ms i d m k.seat v)) (made_used m.cache c d free b))
+          (λ b. inr (use-made allocs ms d b))
+          u;
+    } in
+    caches-set sh owners allocs (set ids c word) fields ms i n (owns-same sh owners ms i m n k.seat (made_block m.cache c) a.owned) a.owners_exist
+    (λ x h e. mine x h (made_cells m.cache c x free e))
+    (λ j x d e. one-of (CachesUnpublished sh allocs) ms j x e a.unpublished)
+    (λ x q j e l f. absurd (false≢true (sym (made_makes m.cache c x q) ∙ e)))
+    (λ j x d e. one-of (MakesNil sh fields) ms j x e a.making_nil)
+    (names-new sh ids (in_use allocs ms) (in_use allocs (set ms i n)) ms i c word m n naming names)

@@ -1,0 +1,7 @@
+-- The files on exact cycles.
+pub mod ExactsReach
+pub mod ExactsStill
+pub mod ExactsDrain
+pub mod ExactsMoves
+pub mod ExactsKept
+pub mod ExactsStart

@@ -1,0 +1,14 @@
+-- The files on marked cells.
+pub mod MarksAny
+pub mod MarksCells
+pub mod MarksIdle
+pub mod MarksUse
+pub mod MarksWords
+pub mod MarksLengths
+pub mod MarksEntries
+pub mod MarksQueues
+pub mod MarksHands
+pub mod MarksBefore
+pub mod MarksComes
+pub mod MarksKept
+pub mod MarksStart

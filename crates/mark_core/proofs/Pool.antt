@@ -1,0 +1,14 @@
+-- The files on the pools of packets.
+pub mod PoolSlots
+pub mod PoolBits
+pub mod PoolHolders
+pub mod PoolPlaces
+pub mod PoolChoice
+pub mod PoolMoves
+pub mod PoolSteps
+pub mod PoolTake
+pub mod PoolGive
+pub mod PoolLengths
+pub mod PoolSeats
+pub mod PoolsKept
+pub mod PoolStart

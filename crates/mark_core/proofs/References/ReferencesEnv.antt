@@ -1,0 +1,137 @@
+-- After a step the variables of a seat are still the roots of its section, and the roots of sections that have had no seat are nil.
+use Rattle.std.proofs.Common.{ℕ, ◌≡◌, ◌≢◌, ◌+◌, ◌*◌, ◌<◌, ◌≤◌, List, [], ◌∷◌, set, get_or, length, arith, refl, sym, ap, ◌∙◌, subst, Bool, true, false, cond, Option, Some, None, ⊎_elim}
+use Rattle.std.specs.Prelude.{IfSome, slice_index, unwrap_or, nat_lt, is_none}
+use Rattle.std.specs.List.{All}
+use Rattle.std.proofs.lemmas.Bool.{true≢false, and_parts, ltb-true, cases_eq}
+use Rattle.std.proofs.lemmas.List.{get_or-replicate, get_or-set_same, get_or-set_other, length-set, length-append}
+use Rattle.std.proofs.lemmas.List.Elements.{All-set}
+use Rattle.std.proofs.lemmas.Option.{slice_get-get_or}
+use Rattle.mark_core.specs.Layout.{Words, words_of}
+use Rattle.mark_core.specs.Bits.{reference_in}
+use Rattle.mark_core.specs.Seats.{may_mutate}
+use Rattle.mark_core.specs.HeapRules.{EnvIsRoots}
+use Rattle.mark_core.specs.Start.{start_seat, spent_seat}
+use Rattle.mark_core.specs.Effects.{seat_after}
+use Rattle.mark_core.specs.Steps.{Core}
+use Rattle.mark_core.specs.Laws.{IsCore}
+use Rattle.mark_core.proofs.Acting.{found, words_left, seats_left}
+use Rattle.mark_core.proofs.AtSeat.{roots-length}
+use Rattle.mark_core.proofs.Blocks.BlocksTaken.{Taken, within, in-place, mine as own-fact}
+use Rattle.mark_core.proofs.Locals.{all-push}
+use Rattle.mark_core.proofs.References.ReferencesRoots.{mutator-is, has-use, read-whole, roots-same, seat-formed}
+use Rattle.mark_core.specs.declared.kinds.Shape.{Shape}
+use Rattle.mark_core.specs.declared.kinds.Step.{Step}
+use Rattle.mark_core.specs.declared.kinds.Step.TheVariants.{StoreRoot, Split, Join}
+use Rattle.mark_core.specs.declared.seat.SeatState.{SeatState}
+
+by_place : (b : Bool) (i w : ℕ) → Some w ≡ cond b (Some i) None → w ≡ i
+by_place true i w e = ap (λ (o : Option ℕ). unwrap_or o 0) e
+by_place false i w e = absurd (true≢false (sym (ap is_none e)))
+
+-- the section of a seat is its number
+pub section-is : (n i w : ℕ) (o : Option ℕ) → o ≡ cond (nat_lt i n) (Some i) None → o ≡ Some w → w ≡ i
+section-is n i w o e f = by_place (nat_lt i n) i w (sym f ∙ e)
+
+-- a root of another section stays where one is stored
+other_root : (roots : List ℕ) (i j u v r : ℕ) → i ≢ j → u < 32 → v < 32 → get_or (set roots (i * 32 + v) r) (j * 32 + u) 0 ≡ get_or roots (j * 32 + u) 0
+other_root roots i j u v r n hu hv = get_or-set_other roots (i * 32 + v) (j * 32 + u) r 0 (λ e. n (omega (arith, e, hu, hv)))
+
+env_at : (roots : List ℕ) (n i j v r : ℕ) (env : List ℕ) (o : Option ℕ) → i ≢ j → v < 32 → o ≡ cond (nat_lt j n) (Some j) None → IfSome o (λ w. (u : ℕ) → u < 32 → slice_index env u ≡ slice_index roots (w * 32 + u))
+    → IfSome o (λ w. (u : ℕ) → u < 32 → slice_index env u ≡ slice_index (set roots (i * 32 + v) r) (w * 32 + u))
+env_at roots n i j v r env None d hv e k = tt
+env_at roots n i j v r env (Some w) d hv e k = λ u hu. k u hu ∙ sym (other_root roots i w u v r (λ z. d (z ∙ section-is n j w (Some w) e refl)) hu hv)
+
+env_other : (roots : List ℕ) (n i j v r : ℕ) (s : SeatState) → i ≢ j → v < 32 → s.section ≡ cond (nat_lt j n) (Some j) None → EnvIsRoots roots s → EnvIsRoots (set roots (i * 32 + v) r) s
+env_other roots n i j v r s d hv e k f = env_at roots n i j v r s.env s.section d hv e (k f)
+
+-- the variable that is stored is the root that is stored
+stored_root : (roots env : List ℕ) (w u v r : ℕ) → u < 32 → v < 32 → length env ≡ 32 → w * 32 + v < length roots → get_or env u 0 ≡ get_or roots (w * 32 + u) 0 → get_or (set env v r) u 0 ≡ get_or (set roots (w * 32 + v) r) (w * 32 + u) 0
+stored_root roots env w u v r hu hv l h e =
+    ⊎_elim
+    (λ (a : u ≡ v). rw (a, get_or-set_same env v r 0 (omega (arith, l, hv)), get_or-set_same roots (w * 32 + v) r 0 h) refl)
+    (λ n. get_or-set_other env v u r 0 n ∙ (e ∙ sym (get_or-set_other roots (w * 32 + v) (w * 32 + u) r 0 (λ z. n (omega (arith, z))))))
+    (cases_eq u v)
+
+-- the roots of a section without a seat are those of a new seat
+new_env : (sh : Shape) (roots : List ℕ) (n : ℕ) (b : Bool) → ((k : ℕ) → n * 32 ≤ k → get_or roots k 0 ≡ 0) → IfSome (cond b (Some n) None) (λ w. (v : ℕ) → v < 32 → get_or (start_seat sh n).env v 0 ≡ get_or roots (w * 32 + v) 0)
+new_env sh roots n true k = λ v h. get_or-replicate 32 v 0 0 h ∙ sym (k (n * 32 + v) (omega arith))
+new_env sh roots n false k = tt
+
+store_at : (roots env : List ℕ) (o : Option ℕ) (i v x r : ℕ) → x ≡ r → v < 32 → length env ≡ 32 → unwrap_or o 0 * 32 + v < length roots → o ≡ Some i → IfSome o (λ w. (u : ℕ) → u < 32 → slice_index env u ≡ slice_index roots (w * 32 + u))
+    → IfSome o (λ w. (u : ℕ) → u < 32 → slice_index (set env v x) u ≡ slice_index (set roots (unwrap_or o 0 * 32 + v) r) (w * 32 + u))
+store_at roots env None i v x r a hv l h e k = tt
+store_at roots env (Some w) i v x r a hv l h e k = λ u hu. rw a (stored_root roots env w u v r hu hv l h (k u hu))
+
+-- the seat that stores a root
+store_env : (c : Core) (i : ℕ) (s : SeatState) (v r : ℕ) → Taken c i s (StoreRoot v r) → EnvIsRoots (words_left c s (StoreRoot v r)).roots (seat_after c.shape s (StoreRoot v r) (found c s (StoreRoot v r)))
+store_env c i s v r k f =
+    let w : Words = words_of c.shape c.words in
+    let step : Step = StoreRoot v r in
+    let a = and_parts (nat_lt v 32) (may_mutate s) k.ok.0 in
+    let place = (mutator-is s a.1).1 in
+    let h : unwrap_or s.section 0 * 32 + v < c.shape.sections * 32 = in-place c i s step k in
+    let whole : reference_in r ≡ r = read-whole c i s step r k (has-use c i s step r k k.ok.1.0) in
+    let before : EnvIsRoots w.roots s = own-fact c i s step (EnvIsRoots w.roots) k k.core.sound.references.env_is_roots in
+    store_at w.roots s.env s.section place.0 v (reference_in r) r whole (ltb-true v 32 a.0) (seat-formed c i s step k).env (subst (λ (n : ℕ). unwrap_or s.section 0 * 32 + v < n) (sym (roots-length c k.core)) h) place.1 (before f)
+
+-- the seats of a state, each at its place
+pub seat-section : (c : Core) (j : ℕ) (d : SeatState) → IsCore c → j < length c.seats → (get_or c.seats j d).section ≡ cond (nat_lt j c.shape.sections) (Some j) None
+seat-section c j d k h = (k.formed.seats j (get_or c.seats j d) (slice_get-get_or c.seats j d h)).section
+
+stored_envs : (c : Core) (i : ℕ) (s : SeatState) (v r : ℕ) → Taken c i s (StoreRoot v r) → All (EnvIsRoots (words_left c s (StoreRoot v r)).roots) (seats_left c i s (StoreRoot v r))
+stored_envs c i s v r k j d h =
+    let w : Words = words_of c.shape c.words in
+    let step : Step = StoreRoot v r in
+    let t : SeatState = seat_after c.shape s step (found c s step) in
+    let P : SeatState → Type 0 = EnvIsRoots (words_left c s step).roots in
+    let a = and_parts (nat_lt v 32) (may_mutate s) k.ok.0 in
+    let place = (mutator-is s a.1).1 in
+    let at : unwrap_or s.section 0 ≡ i = ap (λ (o : Option ℕ). unwrap_or o 0) place.1 ∙ section-is c.shape.sections i place.0 s.section (seat-formed c i s step k).section place.1 in
+    let l : j < length c.seats = subst (λ (n : ℕ). j < n) (length-set c.seats i t) h in
+    ⊎_elim
+    (λ (z : j ≡ i). let e : get_or (set c.seats i t) j d ≡ t = rw z (get_or-set_same c.seats i t d (within c i s step k)) in subst P (sym e) (store_env c i s v r k))
+    (λ n.
+    let old : EnvIsRoots (set w.roots (i * 32 + v) r) (get_or c.seats j d) =
+    env_other w.roots c.shape.sections i j v r (get_or c.seats j d) (λ z. n (sym z)) (ltb-true v 32 a.0) (seat-section c j d k.core l) (k.core.sound.references.env_is_roots j d l) in
+    subst P (sym (get_or-set_other c.seats i j t d n)) (subst (λ (x : ℕ). EnvIsRoots (set w.roots (x * 32 + v) r) (get_or c.seats j d)) (sym at) old))
+    (cases_eq j i)
+
+-- the variables of each seat are the roots of its section after the step
+pub env-roots : (c : Core) (i : ℕ) (s : SeatState) (step : Step) → Taken c i s step → All (EnvIsRoots (words_left c s step).roots) (seats_left c i s step)
+env-roots c i s (StoreRoot v r) k = stored_envs c i s v r k
+env-roots c i s Split k =
+    let w : Words = words_of c.shape c.words in
+    let P : SeatState → Type 0 = EnvIsRoots w.roots in
+    let n : ℕ = length (set c.seats i s) in
+    let before : All P c.seats = k.core.sound.references.env_is_roots in
+    all-push P (set c.seats i s) (start_seat c.shape n) (All-set P c.seats i s (own-fact c i s Split P k before) before)
+    (λ f. new_env c.shape w.roots n (nat_lt n c.shape.sections) (λ j h. k.core.sound.references.unseated_nil j (subst (λ (m : ℕ). m * 32 ≤ j) (length-set c.seats i s) h)))
+env-roots c i s (Join other) k =
+    let w : Words = words_of c.shape c.words in
+    let P : SeatState → Type 0 = EnvIsRoots w.roots in
+    let before : All P c.seats = k.core.sound.references.env_is_roots in
+    All-set P (set c.seats i s) other (spent_seat c.shape other) (λ f. absurd (true≢false f)) (All-set P c.seats i s (own-fact c i s (Join other) P k before) before)
+env-roots c i s step k =
+    let P : SeatState → Type 0 = EnvIsRoots (words_of c.shape c.words).roots in
+    let before : All P c.seats = k.core.sound.references.env_is_roots in
+    let t : SeatState = seat_after c.shape s step (found c s step) in
+    let mine : P s = own-fact c i s step P k before in
+    subst (λ (rs : List ℕ). All (EnvIsRoots rs) (set c.seats i t)) (sym (roots-same c i s step k refl)) (All-set P c.seats i t mine before)
+
+-- the roots of a section that has had no seat stay nil
+pub unseated-nil : (c : Core) (i : ℕ) (s : SeatState) (step : Step) → Taken c i s step → (j : ℕ) → length (seats_left c i s step) * 32 ≤ j → slice_index (words_left c s step).roots j ≡ 0
+unseated-nil c i s (StoreRoot v r) k j h =
+    let w : Words = words_of c.shape c.words in
+    let step : Step = StoreRoot v r in
+    let a = and_parts (nat_lt v 32) (may_mutate s) k.ok.0 in
+    let place = (mutator-is s a.1).1 in
+    let t : SeatState = seat_after c.shape s step (found c s step) in
+    let l : length (set c.seats i t) ≡ length c.seats = length-set c.seats i t in
+    let at : unwrap_or s.section 0 ≡ i = ap (λ (o : Option ℕ). unwrap_or o 0) place.1 ∙ section-is c.shape.sections i place.0 s.section (seat-formed c i s step k).section place.1 in
+    get_or-set_other w.roots (unwrap_or s.section 0 * 32 + v) j r 0 (λ e. omega (arith, e, at, h, l, within c i s step k, ltb-true v 32 a.0))
+    ∙ k.core.sound.references.unseated_nil j (omega (arith, h, l))
+unseated-nil c i s Split k j h = k.core.sound.references.unseated_nil j (omega (arith, h, length-set c.seats i s, length-append (set c.seats i s) (start_seat c.shape (length (set c.seats i s)) ∷ [])))
+unseated-nil c i s (Join other) k j h = k.core.sound.references.unseated_nil j (omega (arith, h, length-set c.seats i s, length-set (set c.seats i s) other (spent_seat c.shape other)))
+unseated-nil c i s step k j h =
+    let t : SeatState = seat_after c.shape s step (found c s step) in
+    ap (λ (rs : List ℕ). slice_index rs j) (roots-same c i s step k refl) ∙ k.core.sound.references.unseated_nil j (omega (arith, h, length-set c.seats i t))

@@ -1,0 +1,154 @@
+-- Roots, variables and registers name cells in use after a step, unless the sweep stores allocation bits.
+use Rattle.std.proofs.Common.{ℕ, ◌≡◌, ◌+◌, ◌*◌, ◌-◌, ◌<◌, ◌≤◌, List, get_or, length, arith, refl, sym, ap, ◌∙◌, subst, Bool, true, false, not, ◌||◌, eqb, Option, Some, None, ⊎_elim}
+use Rattle.std.specs.Prelude.{IsTrue, IsFalse, IfSome, unwrap_or}
+use Rattle.std.specs.List.{All, list_any}
+use Rattle.std.proofs.lemmas.Bool.{true≢false, and_parts, or_cases, or_left, or_right, eqb-true, cases_Bool}
+use Rattle.std.proofs.lemmas.List.{get_or-map, length-map}
+use Rattle.std.proofs.lemmas.List.Elements.{All-set}
+use Rattle.std.proofs.lemmas.List.Folds.{list_any_at}
+use Rattle.std.proofs.lemmas.Option.{slice_get_read}
+use Rattle.mark_core.specs.Layout.{Words, words_of}
+use Rattle.mark_core.specs.Bits.{nil_or, reference_in, cell_bit}
+use Rattle.mark_core.specs.Seats.{used_in, last_made, is_the, has_turn, is_phase, may_mutate}
+use Rattle.mark_core.specs.Views.{makers, maker_of}
+use Rattle.mark_core.specs.Cells.{in_use, used_by, field, AllGo}
+use Rattle.mark_core.specs.WorldRules.{is_stopped_phase}
+use Rattle.mark_core.specs.HeapRules.{NamesInUse}
+use Rattle.mark_core.specs.MutatorSteps.{has_reference, names_last}
+use Rattle.mark_core.specs.WellFormed.{IsSeat, IsCache}
+use Rattle.mark_core.specs.Effects.{written}
+use Rattle.mark_core.specs.Steps.{Core}
+use Rattle.mark_core.proofs.Known.{HasCache, in_use-below, reference-within}
+use Rattle.mark_core.proofs.Core.{all-makers}
+use Rattle.mark_core.proofs.Blocks.BlocksStopped.{still-stopped}
+use Rattle.mark_core.proofs.Acting.{found, words_left, seats_left}
+use Rattle.mark_core.proofs.Blocks.BlocksTaken.{Taken, within, own-record, words-read, mine as own-fact}
+use Rattle.mark_core.proofs.AtSeat.{allocs-length}
+use Rattle.mark_core.proofs.RegionWrites.{roots-kept}
+use Rattle.mark_core.proofs.Used.UsedCells.{frees}
+use Rattle.mark_core.proofs.Used.UsedKept.{used-on}
+use Rattle.mark_core.proofs.World.WorldReading.{any-passes, some-passes}
+use Rattle.mark_core.specs.declared.kinds.Shape.{Shape}
+use Rattle.mark_core.specs.declared.kinds.Phase.TheVariants.{Sweep}
+use Rattle.mark_core.specs.declared.kinds.Step.{Step}
+use Rattle.mark_core.specs.declared.kinds.Step.TheVariants.{ReadRoot, ReadCat, StoreRoot}
+use Rattle.mark_core.specs.declared.seat.SeatState.{SeatState}
+use Rattle.mark_core.specs.declared.seat.CacheState.{CacheState}
+
+-- the cells in use before the step, and those after it
+abbrev pub Used : Core → ℕ → Bool
+Used c x = in_use (words_of c.shape c.words).allocs (makers c.seats) x
+
+abbrev pub UsedAfter : Core → ℕ → SeatState → Step → ℕ → Bool
+UsedAfter c i s step x = in_use (words_left c s step).allocs (makers (seats_left c i s step)) x
+
+-- a reference that is nil or goes to a cell with one property goes to one with another that follows
+pub nil-on : (p q : ℕ → Bool) (r : ℕ) → ((x : ℕ) → p x ≡ true → q x ≡ true) → nil_or p r ≡ true → nil_or q r ≡ true
+nil-on p q r f e =
+    ⊎_elim
+    (λ (a : eqb r 0 ≡ true). or_left (eqb r 0) (q (r - 1)) a)
+    (λ (a : p (r - 1) ≡ true). or_right (eqb r 0) (q (r - 1)) (f (r - 1) a))
+    (or_cases (eqb r 0) (p (r - 1)) e)
+
+-- the reference of a cell that has the property
+pub names-cell : (p : ℕ → Bool) (r : ℕ) → p (r - 1) ≡ true → nil_or p r ≡ true
+names-cell p r e = or_right (eqb r 0) (p (r - 1)) e
+
+-- the step stores a root
+abbrev pub stores_root : Step → Bool
+stores_root (StoreRoot v r) = true
+stores_root step = false
+
+-- every step but the store of a root leaves the roots
+pub roots-same : (c : Core) (i : ℕ) (s : SeatState) (step : Step) → Taken c i s step → stores_root step ≡ false → (words_left c s step).roots ≡ (words_of c.shape c.words).roots
+roots-same c i s (ReadRoot section v) k f = ap (λ (w : Words). w.roots) (words-read c i s (ReadRoot section v) k refl)
+roots-same c i s (ReadCat v) k f = ap (λ (w : Words). w.roots) (words-read c i s (ReadCat v) k refl)
+roots-same c i s (StoreRoot v r) k f = absurd (true≢false f)
+roots-same c i s step k f = roots-kept c.shape s step (written c.shape s step (found c s step)) (words_of c.shape c.words) refl
+
+last_at : (y : CacheState) (o : Option ℕ) (x : ℕ) → IfSome o (λ c. IsTrue (used_in (Some y) c)) → is_the o x ≡ true → used_in (Some y) x ≡ true
+last_at y None x k e = absurd (true≢false (sym e))
+last_at y (Some z) x k e = subst (λ (j : ℕ). used_in (Some y) j ≡ true) (eqb-true z x e) k
+
+last_used : (sh : Shape) (o : Option CacheState) (x : ℕ) → IfSome o (IsCache sh) → is_the (last_made o) x ≡ true → used_in o x ≡ true
+last_used sh None x k e = absurd (true≢false (sym e))
+last_used sh (Some y) x k e = last_at y y.last x k.last e
+
+-- the record of the seat is in range
+pub seat-formed : (c : Core) (i : ℕ) (s : SeatState) (step : Step) → Taken c i s step → IsSeat c.shape i s
+seat-formed c i s step k = k.core.formed.seats i s (slice_get_read c.seats (length c.seats) i s refl (within c i s step k) (sym (own-record c i s step s k)))
+
+-- a cell that the seat has made is in use
+pub own-used : (c : Core) (i : ℕ) (s : SeatState) (step : Step) (x : ℕ) → Taken c i s step → used_in s.cache x ≡ true → Used c x ≡ true
+own-used c i s step x k e =
+    let mine : get_or (makers c.seats) i (maker_of s) ≡ maker_of s = get_or-map maker_of c.seats i s (maker_of s) (within c i s step k) ∙ ap maker_of (own-record c i s step s k) in
+    or_right (cell_bit (words_of c.shape c.words).allocs x) (list_any (used_by x) (makers c.seats)) (list_any_at (used_by x) (makers c.seats) i (maker_of s) (rw length-map (within c i s step k)) (ap (used_by x) mine ∙ e))
+
+-- a variable's reference goes where the property holds
+pub in-env : (env : List ℕ) (r : ℕ) (p : ℕ → Bool) → AllGo p env → list_any (λ (x : ℕ). eqb x r) env ≡ true → nil_or p r ≡ true
+in-env env r p a e =
+    let one = some-passes (λ (x : ℕ). eqb x r) env (any-passes (λ (x : ℕ). eqb x r) env e) in
+    subst (λ (y : ℕ). nil_or p y ≡ true) (eqb-true (get_or env one.0 0) r (one.2 0)) (a one.0 0 one.1)
+
+-- a reference that the seat has is nil or goes to a cell in use
+pub has-use : (c : Core) (i : ℕ) (s : SeatState) (step : Step) (r : ℕ) → Taken c i s step → has_reference s r ≡ true → nil_or (Used c) r ≡ true
+has-use c i s step r k e =
+    let names : NamesInUse (words_of c.shape c.words).allocs (makers c.seats) s = own-fact c i s step (NamesInUse (words_of c.shape c.words).allocs (makers c.seats)) k k.core.sound.references.seats_in_use in
+    ⊎_elim
+    (λ (a : (eqb r 0 || eqb r s.got || list_any (λ (x : ℕ). eqb x r) s.env) ≡ true).
+    ⊎_elim
+    (λ (b : (eqb r 0 || eqb r s.got) ≡ true).
+    ⊎_elim
+    (λ (z : eqb r 0 ≡ true). or_left (eqb r 0) (Used c (r - 1)) z)
+    (λ (z : eqb r s.got ≡ true). subst (λ (g : ℕ). nil_or (Used c) g ≡ true) (sym (eqb-true r s.got z)) names.1)
+    (or_cases (eqb r 0) (eqb r s.got) b))
+    (λ (b : list_any (λ (x : ℕ). eqb x r) s.env ≡ true). in-env s.env r (Used c) names.0 b)
+    (or_cases (eqb r 0 || eqb r s.got) (list_any (λ (x : ℕ). eqb x r) s.env) a))
+    (λ (a : names_last s.cache r ≡ true).
+    let last : used_in s.cache (r - 1) ≡ true = last_used c.shape s.cache (r - 1) (seat-formed c i s step k).cache (and_parts (not (eqb r 0)) (is_the (last_made s.cache) (r - 1)) a).1 in
+    names-cell (Used c) r (own-used c i s step (r - 1) k last))
+    (or_cases (eqb r 0 || eqb r s.got || list_any (λ (x : ℕ). eqb x r) s.env) (names_last s.cache r) e)
+
+roots_stay : (c : Core) (i : ℕ) (s : SeatState) (step : Step) → Taken c i s step → frees step ≡ false → (words_left c s step).roots ≡ (words_of c.shape c.words).roots → AllGo (UsedAfter c i s step) (words_left c s step).roots
+roots_stay c i s step k f e =
+    subst (λ (rs : List ℕ). AllGo (UsedAfter c i s step) rs) (sym e)
+    (λ j d h. nil-on (Used c) (UsedAfter c i s step) (get_or (words_of c.shape c.words).roots j d) (λ x u. used-on c i s step x k f u) (k.core.sound.references.roots_in_use j d h))
+
+section_there : (o z : Option ℕ) → has_turn o z ≡ true → (w : ℕ) × (o ≡ Some w)
+section_there None z e = absurd (true≢false (sym e))
+section_there (Some w) z e = (w, refl)
+
+sweep_stops : (phase : ℕ) → is_phase phase Sweep ≡ true → is_stopped_phase phase ≡ true
+sweep_stops phase e = rw (eqb-true phase 3 e) refl
+
+-- a mutator is outside the sweep
+pub not-sweep : (c : Core) (i : ℕ) (s : SeatState) (step : Step) → Taken c i s step → s.active ≡ true → is_phase (words_of c.shape c.words).phase Sweep ≡ false
+not-sweep c i s step k a =
+    ⊎_elim
+    (λ (e : is_phase (words_of c.shape c.words).phase Sweep ≡ true). absurd (true≢false (sym a ∙ own-fact c i s step (λ (t : SeatState). IsFalse t.active) k (still-stopped c k.core (sweep_stops (words_of c.shape c.words).phase e)))))
+    (λ (e : is_phase (words_of c.shape c.words).phase Sweep ≡ false). e)
+    (cases_Bool (is_phase (words_of c.shape c.words).phase Sweep))
+
+-- the cells that roots name are in use after the step
+pub roots-used : (c : Core) (i : ℕ) (s : SeatState) (step : Step) → Taken c i s step → frees step ≡ false → AllGo (UsedAfter c i s step) (words_left c s step).roots
+roots-used c i s (StoreRoot v r) k f =
+    let on : (x : ℕ) → Used c x ≡ true → UsedAfter c i s (StoreRoot v r) x ≡ true = λ x e. used-on c i s (StoreRoot v r) x k f e in
+    let Goes : ℕ → Type 0 = λ y. IsTrue (nil_or (UsedAfter c i s (StoreRoot v r)) y) in
+    let before : All Goes (words_of c.shape c.words).roots = λ j d h. nil-on (Used c) (UsedAfter c i s (StoreRoot v r)) (get_or (words_of c.shape c.words).roots j d) on (k.core.sound.references.roots_in_use j d h) in
+    All-set Goes (words_of c.shape c.words).roots (unwrap_or s.section 0 * 32 + v) r (nil-on (Used c) (UsedAfter c i s (StoreRoot v r)) r on (has-use c i s (StoreRoot v r) r k k.ok.1.0)) before
+roots-used c i s step k f = roots_stay c i s step k f (roots-same c i s step k refl)
+
+-- a reference to a cell in use is at most the number of cells, and so is read whole
+pub read-whole : (c : Core) (i : ℕ) (s : SeatState) (step : Step) (r : ℕ) → Taken c i s step → nil_or (Used c) r ≡ true → reference_in r ≡ r
+read-whole c i s step r k e =
+    let caches : All (HasCache c.shape) (makers c.seats) = all-makers c.shape c.seats (λ j t g. (k.core.formed.seats j t g).cache) in
+    let below : r ≤ c.shape.cells = reference-within c.shape (Used c) r (λ x u. in_use-below c.shape (words_of c.shape c.words).allocs (makers c.seats) x k.core.formed.shaped (allocs-length c k.core) caches u) e in
+    omega (arith, below, k.core.formed.shaped.cells)
+
+-- a mutator is active, and has a section
+pub mutator-is : (s : SeatState) → may_mutate s ≡ true → (s.active ≡ true) × ((w : ℕ) × (s.section ≡ Some w))
+mutator-is s e = let a = and_parts s.active (has_turn s.section s.season_seen) e in (a.0, section_there s.section s.season_seen a.1)
+
+-- outside the sweep a field of a cell in use names a cell in use; a mutator is outside it
+pub read-field : (c : Core) (i : ℕ) (s : SeatState) (step : Step) (x j : ℕ) → Taken c i s step → s.active ≡ true → x < c.shape.cells → Used c x ≡ true → j < c.shape.fields → nil_or (Used c) (field c.shape (words_of c.shape c.words).fields x j) ≡ true
+read-field c i s step x j k a h u l = k.core.sound.references.fields_in_use (not-sweep c i s step k a) x h u j l

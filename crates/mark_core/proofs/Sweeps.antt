@@ -1,0 +1,10 @@
+-- The files on the sweep.
+pub mod SweepsBounds
+pub mod SweepsSpared
+pub mod SweepsUsed
+pub mod SweepsStored
+pub mod SweepsSteps
+pub mod SweepsClosed
+pub mod SweepsPhase
+pub mod SweepsKept
+pub mod SweepsStart

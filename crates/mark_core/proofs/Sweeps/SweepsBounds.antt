@@ -1,0 +1,155 @@
+-- The counters of blocks and of cards never run far past their ends: kept by each step that is allowed.
+use Rattle.std.proofs.Common.{ℕ, ◌≡◌, ◌+◌, ◌%◌, ◌<◌, ◌≤◌, List, set, get_or, length, arith, refl, ap, Bool, true, false, cond, eqb, ◌⊎◌, inl, inr, ⊎_elim}
+use Rattle.std.specs.Prelude.{nat_lt, nat_le}
+use Rattle.std.specs.List.{count_by}
+use Rattle.std.proofs.lemmas.Bool.{cases_Bool, cases_lt, and_parts, ltb-true, leb-true, eqb-true, ne_eqb}
+use Rattle.std.proofs.lemmas.List.{length-set, set_past}
+use Rattle.std.proofs.lemmas.List.Sums.{sum_by-set, sum_by_push, count_by-le-length}
+use Rattle.mark_core.specs.Layout.{Words, words_of, put_word, block_count, card_count}
+use Rattle.mark_core.specs.Places.{counter_at}
+use Rattle.mark_core.specs.Sound.{card_readers, block_readers}
+use Rattle.mark_core.specs.Start.{start_seat, spent_seat}
+use Rattle.mark_core.specs.Effects.{written, seat_after}
+use Rattle.mark_core.specs.Steps.{Core, others_after}
+use Rattle.mark_core.proofs.Acting.{found, words_left, seats_left}
+use Rattle.mark_core.proofs.Frames.{readings-kept}
+use Rattle.mark_core.proofs.Writes.{at_counter, next_card-kept, next_block-kept}
+use Rattle.mark_core.proofs.Count.CountTests.{bit}
+use Rattle.mark_core.proofs.Blocks.BlocksTaken.{Taken, within, own-record, words-read}
+use Rattle.mark_core.proofs.Blocks.BlocksWords.{statistic}
+use Rattle.mark_core.specs.declared.kinds.Shape.{Shape}
+use Rattle.mark_core.specs.declared.kinds.Step.{Step}
+use Rattle.mark_core.specs.declared.kinds.Step.TheVariants.{NextBlock, NextOfCards, Reset, AddStat, ReadStat, Split, Join}
+use Rattle.mark_core.specs.declared.seat.SeatState.{SeatState}
+use Rattle.mark_core.specs.Numbers.{block_counter, card_counter, done_count, last_count}
+
+-- no further seat passes a test that neither a new record nor an ended one does
+others_pass : (f : SeatState → Bool) (sh : Shape) (step : Step) (seats : List SeatState) → ((k : ℕ) → f (start_seat sh k) ≡ false) → ((k : ℕ) → f (spent_seat sh k) ≡ false) → count_by f (others_after sh step seats) ≤ count_by f seats
+others_pass f sh Split seats new old =
+    let k : ℕ = length seats in
+    omega (arith, sum_by_push (λ (x : SeatState). bit (f x)) seats (start_seat sh k), ap bit (new k))
+others_pass f sh (Join other) seats new old =
+    ⊎_elim
+    (λ (h : other < length seats). omega (arith, sum_by-set (λ (x : SeatState). bit (f x)) seats other (spent_seat sh other) (spent_seat sh other) h, ap bit (old other)))
+    (λ (h : length seats ≤ other). omega (arith, ap (count_by f) (set_past seats other (spent_seat sh other) h)))
+    (cases_lt other (length seats))
+others_pass f sh step seats new old = omega arith
+
+-- what a step may do to a counter and to its seat's reading
+bound_kept : (f : SeatState → Bool) (sh : Shape) (step : Step) (seats : List SeatState) (i : ℕ) (s t : SeatState) (n m b : ℕ) → ((k : ℕ) → f (start_seat sh k) ≡ false) → ((k : ℕ) → f (spent_seat sh k) ≡ false) → i < length seats → get_or seats i s ≡ s
+    → n + count_by f seats ≤ b → m + bit (f t) ≤ n + bit (f s) → m + count_by f (others_after sh step (set seats i t)) ≤ b
+bound_kept f sh step seats i s t n m b new old h is few less =
+    let moved : count_by f (set seats i t) + bit (f s) ≡ count_by f seats + bit (f t) = rw is at (sum_by-set (λ (x : SeatState). bit (f x)) seats i t s h) in
+    omega (arith, others_pass f sh step (set seats i t) new old, moved)
+
+-- a seat that reads a counter below its end may raise it
+reading_kept : (f : SeatState → Bool) (seats : List SeatState) (i : ℕ) (s t : SeatState) (n b : ℕ) → i < length seats → get_or seats i s ≡ s → length seats ≤ 41 → n + count_by f seats ≤ b + 41 → (f t ≡ true → (n < b) ⊎ (f s ≡ true)) → n + count_by f (set seats i t) ≤ b + 41
+reading_kept f seats i s t n b h is few k reads =
+    let moved : count_by f (set seats i t) + bit (f s) ≡ count_by f seats + bit (f t) = rw is at (sum_by-set (λ (x : SeatState). bit (f x)) seats i t s h) in
+    ⊎_elim
+    (λ (e : f t ≡ true).
+    ⊎_elim
+    (λ (l : n < b). omega (arith, l, count_by-le-length f (set seats i t), length-set seats i t))
+    (λ (g : f s ≡ true). omega (arith, moved, ap bit e, ap bit g))
+    (reads e))
+    (λ (e : f t ≡ false). omega (arith, moved, ap bit e))
+    (cases_Bool (f t))
+
+-- a reading that was just made, or one that stays
+chosen : (e b d : Bool) → cond e b d ≡ true → ((e ≡ true) × (b ≡ true)) ⊎ (d ≡ true)
+chosen true b d h = inl (refl, h)
+chosen false b d h = inr h
+
+-- a counter that is reset doesn't grow
+reset_one : (b : Bool) (n : ℕ) → cond b 0 n ≤ n
+reset_one true n = omega arith
+reset_one false n = omega arith
+
+no_word : (w : Words) (which v : ℕ) → last_count ≤ which → which ≤ done_count → ((put_word (counter_at which) v w).next_card ≡ w.next_card) × ((put_word (counter_at which) v w).next_block ≡ w.next_block)
+no_word w which v h g =
+    let none = λ (k : ℕ) (l : k ≤ 5). ne_eqb (4 + which) k (λ e. omega (arith, h, l, e)) in
+    statistic (λ at. ((put_word at v w).next_card ≡ w.next_card) × ((put_word at v w).next_block ≡ w.next_block)) which h g (rw (none 3 (omega arith)) refl, rw (none 4 (omega arith)) refl)
+
+-- the counter of blocks
+abbrev pub BlocksBounded : Core → ℕ → SeatState → Step → Type 0
+BlocksBounded c i s step = (words_left c s step).next_block + block_readers (seats_left c i s step) ≤ block_count c.shape + 41
+
+blocks_by : (c : Core) (i : ℕ) (s : SeatState) (step : Step) → Taken c i s step → (words_left c s step).next_block + bit (seat_after c.shape s step (found c s step)).below_block ≤ (words_of c.shape c.words).next_block + bit s.below_block → BlocksBounded c i s step
+blocks_by c i s step t less =
+    bound_kept (λ (x : SeatState). x.below_block) c.shape step c.seats i s (seat_after c.shape s step (found c s step)) (words_of c.shape c.words).next_block (words_left c s step).next_block (block_count c.shape + 41) (λ k. refl) (λ k. refl)
+    (within c i s step t) (own-record c i s step s t) t.core.sound.sweeping.blocks_bounded less
+
+pub blocks-bounded : (c : Core) (i : ℕ) (s : SeatState) (step : Step) → Taken c i s step → BlocksBounded c i s step
+blocks-bounded c i s NextBlock t =
+    let n : ℕ = (words_of c.shape c.words).next_block in
+    let room : (n + 1) % 18446744073709551616 ≡ n + 1 = omega (arith, t.core.sound.sweeping.blocks_bounded, t.core.formed.shaped.cells) in
+    blocks_by c i s NextBlock t (omega (arith, room, ap bit t.ok.1.1.0))
+blocks-bounded c i s (Reset which) t =
+    let w : Words = words_of c.shape c.words in
+    let less : (put_word (counter_at which) 0 w).next_block ≤ w.next_block = at_counter (λ at. (put_word at 0 w).next_block ≤ w.next_block) which (λ j h. reset_one (eqb j 4) w.next_block) (λ j. omega arith) in
+    blocks_by c i s (Reset which) t (omega (arith, less))
+blocks-bounded c i s (AddStat which by down) t =
+    let range = and_parts (nat_le last_count which) (nat_le which done_count) (and_parts _ _ t.ok.0).0 in
+    let w : Words = words_of c.shape c.words in
+    let same = no_word w which (written c.shape s (AddStat which by down) (found c s (AddStat which by down))) (leb-true last_count which range.0) (leb-true which done_count range.1) in
+    blocks_by c i s (AddStat which by down) t (omega (arith, same.1))
+blocks-bounded c i s (ReadStat which) t =
+    let w : Words = words_of c.shape c.words in
+    let old : ℕ = found c s (ReadStat which) in
+    let same = ap (λ (v : Words). v.next_block) (words-read c i s (ReadStat which) t refl) in
+    let kept = reading_kept (λ (x : SeatState). x.below_block) c.seats i s (seat_after c.shape s (ReadStat which) old) w.next_block (block_count c.shape) (within c i s (ReadStat which) t) (own-record c i s (ReadStat which) s t) t.core.formed.seat_count.1 t.core.sound.sweeping.blocks_bounded
+    (λ e.
+    ⊎_elim
+    (λ a.
+    let here : old ≡ w.next_block = ap (λ k. found c s (ReadStat k)) (eqb-true which block_counter a.0) in
+    inl (omega (arith, here, ltb-true old (block_count c.shape) a.1)))
+    (λ (a : s.below_block ≡ true). inr a)
+    (chosen (eqb which block_counter) (nat_lt old (block_count c.shape)) s.below_block e)) in
+    omega (arith, same, kept)
+blocks-bounded c i s NextOfCards t = blocks_by c i s NextOfCards t (omega arith)
+blocks-bounded c i s step t =
+    let same = next_block-kept c.shape s step (written c.shape s step (found c s step)) (words_of c.shape c.words) refl in
+    let reads = ap (λ (x : Bool × Bool). bit x.1) (readings-kept c.shape s step (found c s step) refl) in
+    blocks_by c i s step t (omega (arith, same, reads))
+
+-- the counter of cards
+abbrev pub CardsBounded : Core → ℕ → SeatState → Step → Type 0
+CardsBounded c i s step = (words_left c s step).next_card + card_readers (seats_left c i s step) ≤ card_count c.shape + 41
+
+cards_by : (c : Core) (i : ℕ) (s : SeatState) (step : Step) → Taken c i s step → (words_left c s step).next_card + bit (seat_after c.shape s step (found c s step)).below_card ≤ (words_of c.shape c.words).next_card + bit s.below_card → CardsBounded c i s step
+cards_by c i s step t less =
+    bound_kept (λ (x : SeatState). x.below_card) c.shape step c.seats i s (seat_after c.shape s step (found c s step)) (words_of c.shape c.words).next_card (words_left c s step).next_card (card_count c.shape + 41) (λ k. refl) (λ k. refl)
+    (within c i s step t) (own-record c i s step s t) t.core.sound.sweeping.cards_bounded less
+
+pub cards-bounded : (c : Core) (i : ℕ) (s : SeatState) (step : Step) → Taken c i s step → CardsBounded c i s step
+cards-bounded c i s NextOfCards t =
+    let n : ℕ = (words_of c.shape c.words).next_card in
+    let room : (n + 1) % 18446744073709551616 ≡ n + 1 = omega (arith, t.core.sound.sweeping.cards_bounded, t.core.formed.shaped.cells) in
+    cards_by c i s NextOfCards t (omega (arith, room, ap bit t.ok.1.0))
+cards-bounded c i s (Reset which) t =
+    let w : Words = words_of c.shape c.words in
+    let less : (put_word (counter_at which) 0 w).next_card ≤ w.next_card = at_counter (λ at. (put_word at 0 w).next_card ≤ w.next_card) which (λ j h. reset_one (eqb j 3) w.next_card) (λ j. omega arith) in
+    cards_by c i s (Reset which) t (omega (arith, less))
+cards-bounded c i s (AddStat which by down) t =
+    let range = and_parts (nat_le last_count which) (nat_le which done_count) (and_parts _ _ t.ok.0).0 in
+    let w : Words = words_of c.shape c.words in
+    let same = no_word w which (written c.shape s (AddStat which by down) (found c s (AddStat which by down))) (leb-true last_count which range.0) (leb-true which done_count range.1) in
+    cards_by c i s (AddStat which by down) t (omega (arith, same.0))
+cards-bounded c i s (ReadStat which) t =
+    let w : Words = words_of c.shape c.words in
+    let old : ℕ = found c s (ReadStat which) in
+    let same = ap (λ (v : Words). v.next_card) (words-read c i s (ReadStat which) t refl) in
+    let kept = reading_kept (λ (x : SeatState). x.below_card) c.seats i s (seat_after c.shape s (ReadStat which) old) w.next_card (card_count c.shape) (within c i s (ReadStat which) t) (own-record c i s (ReadStat which) s t) t.core.formed.seat_count.1 t.core.sound.sweeping.cards_bounded
+    (λ e.
+    ⊎_elim
+    (λ a.
+    let here : old ≡ w.next_card = ap (λ k. found c s (ReadStat k)) (eqb-true which card_counter a.0) in
+    inl (omega (arith, here, ltb-true old (card_count c.shape) a.1)))
+    (λ (a : s.below_card ≡ true). inr a)
+    (chosen (eqb which card_counter) (nat_lt old (card_count c.shape)) s.below_card e)) in
+    omega (arith, same, kept)
+cards-bounded c i s NextBlock t = cards_by c i s NextBlock t (omega arith)
+cards-bounded c i s step t =
+    let same = next_card-kept c.shape s step (written c.shape s step (found c s step)) (words_of c.shape c.words) refl in
+    let reads = ap (λ (x : Bool × Bool). bit x.0) (readings-kept c.shape s step (found c s step) refl) in
+    cards_by c i s step t (omega (arith, same, reads))

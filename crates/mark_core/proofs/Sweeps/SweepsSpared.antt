@@ -1,0 +1,104 @@
+-- Which cells the sweep keeps where no seat has made a cell that isn't published, and how this stays when a block is taken, swept or put down.
+use Rattle.std.proofs.Common.{ℕ, zero, suc, ◌≡◌, ◌≢◌, ◌+◌, ◌/◌, ◌<◌, ◌≤◌, List, set, get_or, length, arith, refl, sym, ap, ◌∙◌, Bool, true, false, ◌&&◌, cond, eqb, Option, Some, None, ⊎_elim}
+use Rattle.std.specs.Prelude.{nat_lt, bit_and}
+use Rattle.std.specs.List.{list_any}
+use Rattle.std.specs.Int.{bit_at}
+use Rattle.std.proofs.lemmas.Bool.{cases_Bool, cases_eq, cases_lt, cases_order, eqb-true, eq-eqb, ne_eqb, lt-ltb, le-ltb, true≢false}
+use Rattle.std.proofs.lemmas.Nat.Bits.{bit_at_and, bit_at-lt}
+use Rattle.std.proofs.lemmas.List.{length-set, get_or-set_same}
+use Rattle.std.proofs.lemmas.List.Folds.{list_any_none, list_any_at}
+use Rattle.mark_core.specs.Bits.{has_bit, cell_bit}
+use Rattle.mark_core.specs.Cells.{is_unswept, is_swept_block}
+use Rattle.mark_core.proofs.Blocks.BlocksOthers.{Others, all-set, any-alone, any-same}
+use Rattle.mark_core.proofs.Blocks.BlocksHand.{AreApart}
+use Rattle.mark_core.proofs.Blocks.BlocksWrites.{taken}
+use Rattle.mark_core.proofs.Basics.{not-not}
+use Rattle.mark_core.specs.declared.seat.BlockState.{BlockState}
+
+-- a cell is spared where it is published in a swept block, or marked in another
+abbrev pub is_spared : ℕ → List (Option BlockState) → List ℕ → List ℕ → ℕ → Bool
+is_spared nb bs allocs marks x = cond (is_swept_block nb bs (x / 64)) (cell_bit allocs x) (cell_bit marks x)
+
+pub spared-same : (nb nb' : ℕ) (bs bs' : List (Option BlockState)) (allocs marks : List ℕ) (x : ℕ) → is_swept_block nb' bs' (x / 64) ≡ is_swept_block nb bs (x / 64) → is_spared nb' bs' allocs marks x ≡ is_spared nb bs allocs marks x
+spared-same nb nb' bs bs' allocs marks x e = rw e refl
+
+-- a block of which no seat has the bits still to store
+same_swept : (nb b : ℕ) (bs bs' : List (Option BlockState)) → list_any (is_unswept b) bs' ≡ list_any (is_unswept b) bs → is_swept_block nb bs' b ≡ is_swept_block nb bs b
+same_swept nb b bs bs' e = rw e refl
+
+never : (b : Bool) → (b && false) ≡ false
+never true = refl
+never false = refl
+
+zero_bit : (n : ℕ) → n < 2 → eqb n 1 ≡ false → n ≡ 0
+zero_bit zero h e = refl
+zero_bit (suc zero) h e = absurd (true≢false e)
+zero_bit (suc (suc n)) h e = absurd (omega (arith, h))
+
+more : (b n : ℕ) → n ≤ b → b ≢ n → n + 1 ≤ b
+more b n h d =
+    ⊎_elim
+    (λ (e : b ≡ n). absurd (d e))
+    (λ u. ⊎_elim (λ (l : b < n). omega (arith, h, l)) (λ (l : n < b). omega (arith, l)) u)
+    (cases_order b n)
+
+-- another number is below the next one where it is below this one
+next_below : (b n : ℕ) → b ≢ n → nat_lt b (n + 1) ≡ nat_lt b n
+next_below b n d =
+    ⊎_elim
+    (λ (h : b < n). lt-ltb b (n + 1) (omega arith) ∙ sym (lt-ltb b n h))
+    (λ (h : n ≤ b). le-ltb b (n + 1) (more b n h d) ∙ sym (le-ltb b n h))
+    (cases_lt b n)
+
+-- the next block is taken in hand, and isn't swept yet
+pub swept-taken : (nb b : ℕ) (bs : List (Option BlockState)) (i : ℕ) → i < length bs → get_or bs i None ≡ None → is_swept_block (nb + 1) (set bs i (Some (taken nb))) b ≡ is_swept_block nb bs b
+swept-taken nb b bs i h is =
+    ⊎_elim
+    (λ (e : nb ≡ b).
+    let own : is_unswept b (Some (taken nb)) ≡ true = rw (eq-eqb nb b e) refl in
+    let here : is_unswept b (get_or (set bs i (Some (taken nb))) i None) ≡ true = rw (get_or-set_same bs i (Some (taken nb)) None h) own in
+    let any : list_any (is_unswept b) (set bs i (Some (taken nb))) ≡ true = list_any_at (is_unswept b) (set bs i (Some (taken nb))) i None (omega (arith, h, length-set bs i (Some (taken nb)))) here in
+    rw (any, le-ltb b nb (omega (arith, e))) (never (nat_lt b (nb + 1))))
+    (λ (n : nb ≡ b → ⊥).
+    let own : is_unswept b (Some (taken nb)) ≡ false = rw (ne_eqb nb b n) refl in
+    let any : list_any (is_unswept b) (set bs i (Some (taken nb))) ≡ list_any (is_unswept b) bs = any-same (is_unswept b) bs i (Some (taken nb)) None h (own ∙ sym (ap (is_unswept b) is)) in
+    rw (any, next_below b nb (λ e. n (sym e))) refl)
+    (cases_eq nb b)
+
+-- all blocks were taken
+pub swept-past : (nb b : ℕ) (bs : List (Option BlockState)) → b < nb → is_swept_block (nb + 1) bs b ≡ is_swept_block nb bs b
+swept-past nb b bs h = rw (lt-ltb b (nb + 1) (omega arith), lt-ltb b nb h) refl
+
+-- the same block in another's hand
+other_unswept : (x : BlockState) (y : Option BlockState) → AreApart (Some x) y → is_unswept x.block y ≡ false
+other_unswept x None a = refl
+other_unswept x (Some y) a = rw (ne_eqb y.block x.block (λ e. true≢false (sym (eq-eqb x.block y.block (sym e)) ∙ a))) refl
+
+-- the block of seat i, which is counted, is swept once its bits were stored, and not before
+pub swept-own : (nb : ℕ) (bs : List (Option BlockState)) (i : ℕ) (x : BlockState) → i < length bs → ((d : Option BlockState) → get_or bs i d ≡ Some x) → Others i (AreApart (Some x)) bs → x.block < nb → is_swept_block nb bs x.block ≡ x.stored
+swept-own nb bs i x h is apart l =
+    let any : list_any (is_unswept x.block) bs ≡ is_unswept x.block (Some x) = any-alone (is_unswept x.block) bs i (Some x) h is (λ j d k n. other_unswept x (get_or bs j d) (apart j d k n)) in
+    rw (any, lt-ltb x.block nb l, eq-eqb x.block x.block refl) (not-not x.stored)
+
+-- once seat i has stored its block, or has it no more, the block is swept
+pub swept-done : (nb : ℕ) (bs : List (Option BlockState)) (i : ℕ) (x : BlockState) (y : Option BlockState) → Others i (AreApart (Some x)) bs → is_unswept x.block y ≡ false → x.block < nb → is_swept_block nb (set bs i y) x.block ≡ true
+swept-done nb bs i x y apart e l =
+    let any : list_any (is_unswept x.block) (set bs i y) ≡ false = list_any_none (is_unswept x.block) (set bs i y) (all-set (λ z. is_unswept x.block z ≡ false) bs i y (λ j d k n. other_unswept x (get_or bs j d) (apart j d k n)) e) in
+    rw (any, lt-ltb x.block nb l) refl
+
+-- any other block stays as it was
+pub swept-other : (nb b : ℕ) (bs : List (Option BlockState)) (i : ℕ) (y : Option BlockState) → i < length bs → is_unswept b y ≡ is_unswept b (get_or bs i None) → is_swept_block nb (set bs i y) b ≡ is_swept_block nb bs b
+swept-other nb b bs i y h e = same_swept nb b bs (set bs i y) (any-same (is_unswept b) bs i y None h e)
+
+-- a bit of what survives
+pub bit-within : (a m i : ℕ) → (has_bit m i ≡ true → has_bit a i ≡ true) → has_bit (bit_and a m) i ≡ has_bit m i
+bit-within a m i h =
+    ⊎_elim
+    (λ (e : has_bit m i ≡ true).
+    let both : bit_at (bit_and a m) i ≡ 1 = bit_at_and a m i ∙ rw (eqb-true (bit_at a i) 1 (h e), eqb-true (bit_at m i) 1 e) refl in
+    eq-eqb _ _ both ∙ sym e)
+    (λ (e : has_bit m i ≡ false).
+    let none : bit_at m i ≡ 0 = zero_bit (bit_at m i) (bit_at-lt m i) e in
+    let one : bit_at (bit_and a m) i ≡ 0 = bit_at_and a m i ∙ rw none (omega arith) in
+    ne_eqb _ _ (λ z. omega (arith, one, z)) ∙ sym e)
+    (cases_Bool (has_bit m i))

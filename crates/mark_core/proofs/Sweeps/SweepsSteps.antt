@@ -1,0 +1,188 @@
+-- A step that is allowed in Sweep leaves the roots, the fields, and which cells are spared.
+use Rattle.std.proofs.Common.{ℕ, ◌≡◌, ◌+◌, ◌/◌, ◌%◌, ◌<◌, ◌≤◌, List, [], ◌∷◌, ◌++◌, set, get_or, length, arith, refl, sym, ap, ◌∙◌, subst, Bool, true, false, not, ◌||◌, cond, eqb, Option, Some, None}
+use Rattle.std.specs.Prelude.{slice_get, nat_lt}
+use Rattle.std.specs.List.{list_any}
+use Rattle.std.proofs.lemmas.Bool.{and_parts, ltb-false, true≢false, false≢true}
+use Rattle.std.proofs.lemmas.List.{length-map, get_or-map, map-set, map_push, set-get_or}
+use Rattle.std.proofs.lemmas.List.Folds.{list_any-append}
+use Rattle.std.proofs.lemmas.Option.{slice_get_within, get_or_from_slice_get}
+use Rattle.mark_core.specs.Shapes.{EachCell}
+use Rattle.mark_core.specs.Layout.{Words, words_of, region_sizes, block_count}
+use Rattle.mark_core.specs.Bits.{cell_bit}
+use Rattle.mark_core.specs.Seats.{is_phase, is_swept}
+use Rattle.mark_core.specs.Views.{blocks}
+use Rattle.mark_core.specs.Cells.{is_unswept, is_swept_block}
+use Rattle.mark_core.specs.ColourSteps.{with_alloc_word}
+use Rattle.mark_core.specs.WorldRules.{is_stopped_phase}
+use Rattle.mark_core.specs.WorldSteps.{other_has_nothing}
+use Rattle.mark_core.specs.SweepSteps.{with_stored, with_mark_word}
+use Rattle.mark_core.specs.Start.{start_seat, spent_seat}
+use Rattle.mark_core.specs.Effects.{seat_after}
+use Rattle.mark_core.specs.Steps.{Core}
+use Rattle.mark_core.proofs.Places.{region-length}
+use Rattle.mark_core.proofs.Acting.{found, words_left, seats_left}
+use Rattle.mark_core.proofs.Blocks.BlocksTaken.{Taken, within, own-record, in-place}
+use Rattle.mark_core.proofs.Blocks.BlocksOthers.{or-false, any-same}
+use Rattle.mark_core.proofs.Blocks.BlocksWords.{heap-left}
+use Rattle.mark_core.proofs.Blocks.BlocksStopped.{AllStill, tracing, still-stopped, not-still}
+use Rattle.mark_core.proofs.Blocks.BlocksWrites.{taken}
+use Rattle.mark_core.proofs.Blocks.BlocksSteps.{own-block, own-right, others-apart, publishes-nothing}
+use Rattle.mark_core.proofs.Sweeps.SweepsSpared.{is_spared, spared-same, swept-taken, swept-past}
+use Rattle.mark_core.proofs.Sweeps.SweepsUsed.{none-used, use-published}
+use Rattle.mark_core.proofs.Sweeps.SweepsStored.{spared-stored, spared-cleared}
+use Rattle.mark_core.proofs.Basics.{none-is}
+use Rattle.mark_core.specs.declared.kinds.Shape.{Shape}
+use Rattle.mark_core.specs.declared.kinds.Phase.TheVariants.{Sweep}
+use Rattle.mark_core.specs.declared.kinds.Step.{Step}
+use Rattle.mark_core.specs.declared.kinds.Step.TheVariants.{ReadAlloc, SetMark, StoreField, StoreRoot, StoreNew, PublishCells, StorePhase, Split, Join, NextBlock, ReadBlockMarks, StoreAlloc, ClearMarks, Reset}
+use Rattle.mark_core.specs.declared.seat.SeatState.{SeatState}
+use Rattle.mark_core.specs.declared.seat.BlockState.{BlockState}
+
+-- the references and the spared cells stay
+pub record SweepOn (c : Core) (i : ℕ) (s : SeatState) (step : Step) : Type 0 where
+  pub roots : (words_left c s step).roots ≡ (words_of c.shape c.words).roots
+  pub fields : (words_left c s step).fields ≡ (words_of c.shape c.words).fields
+  pub spared :
+      EachCell c.shape (λ x. is_spared (words_left c s step).next_block (blocks (seats_left c i s step)) (words_left c s step).allocs (words_left c s step).marks x ≡ is_spared (words_of c.shape c.words).next_block (blocks c.seats) (words_of c.shape c.words).allocs (words_of c.shape c.words).marks x)
+
+-- the seat's own block doesn't change whether block b is still to be swept
+own_unswept : (c : Core) (i : ℕ) (s : SeatState) (step : Step) (x : SeatState) (b : ℕ) → Taken c i s step → is_unswept b x.block ≡ is_unswept b s.block → list_any (is_unswept b) (blocks (set c.seats i x)) ≡ list_any (is_unswept b) (blocks c.seats)
+own_unswept c i s step x b t e =
+    ap (list_any (is_unswept b)) (map-set (λ (y : SeatState). y.block) c.seats i x)
+    ∙ any-same (is_unswept b) (blocks c.seats) i x.block None (rw length-map (within c i s step t)) (e ∙ sym (ap (is_unswept b) (own-block c i s step None t)))
+
+-- neither does a further seat
+push_unswept : (b : ℕ) (sh : Shape) (seats : List SeatState) (k : ℕ) → list_any (is_unswept b) (blocks (seats ++ start_seat sh k ∷ [])) ≡ list_any (is_unswept b) (blocks seats)
+push_unswept b sh seats k =
+    ap (list_any (is_unswept b)) (map_push (λ (y : SeatState). y.block) seats (start_seat sh k)) ∙ (list_any-append (is_unswept b) (blocks seats) (None ∷ []) ∙ or-false (list_any (is_unswept b) (blocks seats)))
+
+-- nor the end of a record that has no block
+end_unswept : (b : ℕ) (sh : Shape) (seats : List SeatState) (j : ℕ) (o : Option SeatState) → slice_get seats j ≡ o → other_has_nothing sh o ≡ true → list_any (is_unswept b) (blocks (set seats j (spent_seat sh j))) ≡ list_any (is_unswept b) (blocks seats)
+end_unswept b sh seats j None g e = absurd (false≢true e)
+end_unswept b sh seats j (Some o) g e =
+    let h : j < length seats = slice_get_within seats j o g in
+    let none : o.block ≡ None = none-is o.block (and_parts _ _ (and_parts _ _ e).0).1 in
+    let own : get_or (blocks seats) j None ≡ None = get_or-map (λ (y : SeatState). y.block) seats j o None h ∙ (ap (λ (y : SeatState). y.block) (get_or_from_slice_get seats j o o g) ∙ none) in
+    ap (list_any (is_unswept b)) (map-set (λ (y : SeatState). y.block) seats j (spent_seat sh j))
+    ∙ any-same (is_unswept b) (blocks seats) j None None (rw length-map h) (sym (ap (is_unswept b) own))
+
+pub unswept-left : (c : Core) (i : ℕ) (s : SeatState) (step : Step) (b : ℕ) → Taken c i s step → is_unswept b (seat_after c.shape s step (found c s step)).block ≡ is_unswept b s.block
+    → list_any (is_unswept b) (blocks (seats_left c i s step)) ≡ list_any (is_unswept b) (blocks c.seats)
+unswept-left c i s Split b t e = push_unswept b c.shape (set c.seats i s) (length (set c.seats i s)) ∙ own_unswept c i s Split s b t e
+unswept-left c i s (Join other) b t e =
+    let back : set c.seats i s ≡ c.seats = subst (λ (y : SeatState). set c.seats i y ≡ c.seats) (own-record c i s (Join other) s t) (set-get_or c.seats i s) in
+    rw back (end_unswept b c.shape c.seats other (slice_get c.seats other) refl (and_parts _ _ t.ok.1.0).1)
+unswept-left c i s step b t e = own_unswept c i s step (seat_after c.shape s step (found c s step)) b t e
+
+-- a step that leaves the words, and what is still to be swept
+same_sweep : (c : Core) (i : ℕ) (s : SeatState) (step : Step) → Taken c i s step → (words_left c s step).next_block ≡ (words_of c.shape c.words).next_block → (words_left c s step).roots ≡ (words_of c.shape c.words).roots
+    → (words_left c s step).allocs ≡ (words_of c.shape c.words).allocs → (words_left c s step).marks ≡ (words_of c.shape c.words).marks → (words_left c s step).fields ≡ (words_of c.shape c.words).fields
+    → ((b : ℕ) → is_unswept b (seat_after c.shape s step (found c s step)).block ≡ is_unswept b s.block) → SweepOn c i s step
+same_sweep c i s step t n r a m f own =
+    record {
+      roots = r;
+      fields = f;
+      spared =
+          λ x h.
+          let e : list_any (is_unswept (x / 64)) (blocks (seats_left c i s step)) ≡ list_any (is_unswept (x / 64)) (blocks c.seats) = unswept-left c i s step (x / 64) t (own (x / 64)) in
+          rw (n, a, m, e) refl;
+    }
+
+chosen_unswept : (x : BlockState) (d : Bool) (word b : ℕ) → is_unswept b (Some (cond d (record x { alloc_word = Some word }) x)) ≡ is_unswept b (Some x)
+chosen_unswept x true word b = refl
+chosen_unswept x false word b = refl
+
+alloc_unswept : (o : Option BlockState) (g word b : ℕ) → is_unswept b (with_alloc_word o g word) ≡ is_unswept b o
+alloc_unswept None g word b = refl
+alloc_unswept (Some x) g word b = chosen_unswept x (eqb x.block g) word b
+
+mark_unswept : (o : Option BlockState) (word b : ℕ) → is_unswept b (with_mark_word o word) ≡ is_unswept b o
+mark_unswept None word b = refl
+mark_unswept (Some x) word b = refl
+
+-- the next block is taken, where there is one
+taken_swept : (n b last : ℕ) (bs : List (Option BlockState)) (i : ℕ) (o : Option BlockState) (d : Bool) → (d ≡ false → last ≤ n) → b < last → i < length bs → get_or bs i None ≡ o → o ≡ None
+    → is_swept_block (n + 1) (set bs i (cond d (Some (taken n)) o)) b ≡ is_swept_block n bs b
+taken_swept n b last bs i o true f h l is e = swept-taken n b bs i l (is ∙ e)
+taken_swept n b last bs i o false f h l is e =
+    let back : set bs i o ≡ bs = subst (λ (y : Option BlockState). set bs i y ≡ bs) is (set-get_or bs i None) in
+    rw back (swept-past n b bs (omega (arith, h, f refl)))
+
+next_sweeps : (c : Core) (i : ℕ) (s : SeatState) → Taken c i s NextBlock → SweepOn c i s NextBlock
+next_sweeps c i s t =
+    let w : Words = words_of c.shape c.words in
+    let n : ℕ = w.next_block in
+    let room : (n + 1) % 18446744073709551616 ≡ n + 1 = omega (arith, t.core.sound.sweeping.blocks_bounded, t.core.formed.shaped.cells) in
+    let b : Bool = nat_lt n (block_count c.shape) in
+    record {
+      roots = refl;
+      fields = refl;
+      spared =
+          λ x h.
+          let g : x / 64 < block_count c.shape = omega (arith, h, t.core.formed.shaped.whole_blocks) in
+          let at : blocks (seats_left c i s NextBlock) ≡ set (blocks c.seats) i (cond b (Some (taken n)) s.block) = map-set (λ (y : SeatState). y.block) c.seats i (seat_after c.shape s NextBlock n) in
+          rw (room, at)
+          (spared-same n (n + 1) (blocks c.seats) (set (blocks c.seats) i (cond b (Some (taken n)) s.block)) w.allocs w.marks x
+          (taken_swept n (x / 64) (block_count c.shape) (blocks c.seats) i s.block b (ltb-false n (block_count c.shape)) g (rw length-map (within c i s NextBlock t)) (own-block c i s NextBlock None t) (none-is s.block t.ok.1.0)));
+    }
+
+-- while the world is stopped a marked cell is published
+marked_published : (c : Core) (i : ℕ) (s : SeatState) (step : Step) (x : ℕ) → Taken c i s step → AllStill c → x < c.shape.cells → cell_bit (words_of c.shape c.words).marks x ≡ true → cell_bit (words_of c.shape c.words).allocs x ≡ true
+marked_published c i s step x t still h e =
+    let w : Words = words_of c.shape c.words in
+    sym (use-published w.allocs c.seats x (none-used c.shape w.world w.help c.seats t.core.sound.world still)) ∙ t.core.sound.marks.marked_in_use x h e
+
+store_sweeps : (c : Core) (i : ℕ) (s : SeatState) → Taken c i s StoreAlloc → AllStill c → SweepOn c i s StoreAlloc
+store_sweeps c i s t still =
+    let w : Words = words_of c.shape c.words in
+    let long : length w.allocs ≡ block_count c.shape = region-length (region_sizes c.shape) 4 c.words (omega (arith, t.core.formed.words)) in
+    record {
+      roots = refl;
+      fields = refl;
+      spared =
+          λ x h.
+          let at : blocks (seats_left c i s StoreAlloc) ≡ set (blocks c.seats) i (with_stored s.block) = map-set (λ (y : SeatState). y.block) c.seats i (seat_after c.shape s StoreAlloc (found c s StoreAlloc)) in
+          rw at
+          (spared-stored w.phase w.next_block (blocks c.seats) i s.block w.allocs w.marks x (rw length-map (within c i s StoreAlloc t)) (λ d. own-block c i s StoreAlloc d t) (others-apart c i s StoreAlloc t) (own-right c i s StoreAlloc t) t.ok.1.0
+          (omega (arith, long, in-place c i s StoreAlloc t))
+          (marked_published c i s StoreAlloc x t still h));
+    }
+
+clear_sweeps : (c : Core) (i : ℕ) (s : SeatState) → Taken c i s ClearMarks → is_swept s.block ≡ true → SweepOn c i s ClearMarks
+clear_sweeps c i s t swept =
+    let w : Words = words_of c.shape c.words in
+    record {
+      roots = refl;
+      fields = refl;
+      spared =
+          λ x h.
+          let at : blocks (seats_left c i s ClearMarks) ≡ set (blocks c.seats) i None = map-set (λ (y : SeatState). y.block) c.seats i (seat_after c.shape s ClearMarks (found c s ClearMarks)) in
+          rw at
+          (spared-cleared w.phase w.next_block (blocks c.seats) i s.block w.allocs w.marks x (rw length-map (within c i s ClearMarks t)) (λ d. own-block c i s ClearMarks d t) (others-apart c i s ClearMarks t) (own-right c i s ClearMarks t) swept);
+    }
+
+-- what is asked of a seat that clears marks, in Sweep
+swept_first : (p b : Bool) → p ≡ true → (not p || b) ≡ true → b ≡ true
+swept_first true b e h = h
+swept_first false b e h = absurd (false≢true e)
+
+pub sweep-on : (c : Core) (i : ℕ) (s : SeatState) (step : Step) → Taken c i s step → (words_of c.shape c.words).phase ≡ 3 → SweepOn c i s step
+sweep-on c i s (SetMark x) t e = absurd (true≢false (sym (tracing c i s (SetMark x) t t.ok.1.0) ∙ ap (λ p. eqb p 1 || eqb p 2) e))
+sweep-on c i s (Reset which) t e = absurd (true≢false (sym (and_parts _ _ t.ok.0).1 ∙ ap (λ p. eqb p 0 || eqb p 2) e))
+sweep-on c i s (StoreField v f x) t e = not-still c i s (StoreField v f x) _ t (still-stopped c t.core (ap is_stopped_phase e)) (and_parts s.active _ (and_parts _ _ t.ok.0).1).0
+sweep-on c i s (StoreRoot v r) t e = not-still c i s (StoreRoot v r) _ t (still-stopped c t.core (ap is_stopped_phase e)) (and_parts s.active _ (and_parts _ _ t.ok.0).1).0
+sweep-on c i s (StoreNew x part word) t e = not-still c i s (StoreNew x part word) _ t (still-stopped c t.core (ap is_stopped_phase e)) (and_parts s.active _ (and_parts _ _ t.ok.0).1).0
+sweep-on c i s PublishCells t e = same_sweep c i s PublishCells t refl refl (publishes-nothing c i s t (still-stopped c t.core (ap is_stopped_phase e))) refl refl (λ b. refl)
+sweep-on c i s (StorePhase to) t e = same_sweep c i s (StorePhase to) t refl refl refl refl refl (λ b. refl)
+sweep-on c i s NextBlock t e = next_sweeps c i s t
+sweep-on c i s StoreAlloc t e = store_sweeps c i s t (still-stopped c t.core (ap is_stopped_phase e))
+sweep-on c i s ClearMarks t e = clear_sweeps c i s t (swept_first (is_phase (words_of c.shape c.words).phase Sweep) (is_swept s.block) (ap (λ p. eqb p 3) e) (and_parts _ _ t.ok.1.0).1)
+sweep-on c i s (ReadAlloc b) t e =
+    let same = heap-left c i s (ReadAlloc b) t refl in
+    same_sweep c i s (ReadAlloc b) t same.next_block same.roots same.allocs same.marks same.fields (λ g. alloc_unswept s.block b (found c s (ReadAlloc b)) g)
+sweep-on c i s ReadBlockMarks t e =
+    let same = heap-left c i s ReadBlockMarks t refl in
+    same_sweep c i s ReadBlockMarks t same.next_block same.roots same.allocs same.marks same.fields (λ g. mark_unswept s.block (found c s ReadBlockMarks) g)
+sweep-on c i s step t e =
+    let same = heap-left c i s step t refl in
+    same_sweep c i s step t same.next_block same.roots same.allocs same.marks same.fields (λ b. refl)

@@ -1,0 +1,5 @@
+-- The files on used cells.
+pub mod UsedBits
+pub mod UsedCells
+pub mod UsedKept
+pub mod UsedSeats

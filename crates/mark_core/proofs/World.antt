@@ -1,0 +1,16 @@
+-- The files on the number of seats, the stop and the phase.
+pub mod WorldTally
+pub mod WorldWords
+pub mod WorldMoves
+pub mod WorldNumbers
+pub mod WorldReading
+pub mod WorldStandings
+pub mod WorldSeats
+pub mod WorldLocals
+pub mod WorldSights
+pub mod WorldQuiet
+pub mod WorldPhases
+pub mod WorldPhaseKept
+pub mod WorldPhaseMoves
+pub mod WorldKept
+pub mod WorldStart

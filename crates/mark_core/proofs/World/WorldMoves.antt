@@ -1,0 +1,285 @@
+-- What a step makes of the words of the world and of help, and of how its seat stands, keeps the rule on the numbers.
+use Rattle.std.proofs.Common.{ℕ, ◌≡◌, ◌+◌, ◌<◌, ◌≤◌, arith, refl, Bool, true, false, not, ⊎_elim}
+use Rattle.std.specs.Prelude.{bit_or}
+use Rattle.std.proofs.lemmas.Bool.{cases_lt}
+use Rattle.mark_core.specs.Bits.{flag, has_flag, wrapped_sum, wrapped_difference}
+use Rattle.mark_core.specs.Views.{Standing}
+use Rattle.mark_core.proofs.Count.CountTests.{bit, bit-below}
+use Rattle.mark_core.proofs.World.WorldTally.{Census, plus, Fits, CensusFits, IsTally, IsFew}
+use Rattle.mark_core.proofs.World.WorldWords.{flag-is, or-flag}
+
+zero_if : (a b : ℕ) → (0 < a → 0 < b) → b ≡ 0 → a ≡ 0
+zero_if a b h e =
+    ⊎_elim
+    (λ (g : 0 < a). absurd (omega (arith, h g, e)))
+    (λ (g : a ≤ 0). omega arith)
+    (cases_lt 0 a)
+
+-- seat x stands beside the others, whose numbers are r
+pub record Stands (world help : ℕ) (r : Census) (x : Standing) : Type 0 where
+  pub fits : Fits x
+  pub tally : IsTally world help (plus r x)
+  pub others : CensusFits r
+  pub few : IsFew r
+
+-- the seat is in neither number, and has not raised the flag
+pub record Bare (x : Standing) : Type 0 where
+  pub counted : bit x.counted ≡ 0
+  pub raised : bit x.raised ≡ 0
+  pub helping : bit x.helping ≡ 0
+
+not_bit : (b : Bool) → bit (not b) + bit b ≡ 1
+not_bit true = refl
+not_bit false = refl
+
+world_flag : (world help : ℕ) (r : Census) (x : Standing) → Stands world help r x → bit (has_flag world) ≡ r.raised + bit x.raised
+world_flag world help r x k = flag-is world (r.counted + bit x.counted) (r.raised + bit x.raised) k.tally.world_word (omega (arith, k.few.counted, bit-below x.counted)) k.tally.one_raised
+
+help_flag : (world help : ℕ) (r : Census) (x : Standing) → Stands world help r x → bit (has_flag help) ≡ r.opened + bit x.opened
+help_flag world help r x k =
+    flag-is help (r.helping + bit x.helping) (r.opened + bit x.opened) k.tally.help_word (omega (arith, k.few.helping, bit-below x.helping)) (omega (arith, k.fits, k.others, k.tally.one_raised))
+
+-- 25
+pub enters : (world help : ℕ) (r : Census) (x : Standing) → Stands world help r x → Bare x → Stands (wrapped_sum world 1) help r (record x { counted = true; active = not (has_flag world) })
+enters world help r x k b =
+    let flagged = world_flag world help r x k in
+    let other = not_bit (has_flag world) in
+    let t = k.tally in
+    let f = k.fits in
+    let o = k.others in
+    let c = k.few in
+    record {
+      fits =
+          record {
+            opened_or_alone = f.opened_or_alone;
+            knows_raised = f.knows_raised;
+            active_counted = bit-below (not (has_flag world));
+            admitted_helps = f.admitted_helps;
+            one_role = omega arith;
+          };
+      tally =
+          record {
+            world_word = omega arith;
+            one_raised = t.one_raised;
+            help_word = t.help_word;
+            admitted_stopped = t.admitted_stopped;
+            knows_stopped = λ h. omega arith;
+            alone_unhelped = t.alone_unhelped;
+          };
+      others = o;
+      few = c;
+    }
+
+-- 26: the seat was counted
+pub leaves : (world help : ℕ) (r : Census) (x : Standing) → Stands world help r x → bit x.counted ≡ 1 → Stands (wrapped_difference world 1) help r (record x { counted = false; active = false })
+leaves world help r x k b =
+    let t = k.tally in
+    let f = k.fits in
+    let o = k.others in
+    let c = k.few in
+    record {
+      fits = record { opened_or_alone = omega arith; knows_raised = omega arith; active_counted = omega arith; admitted_helps = omega arith; one_role = omega arith };
+      tally =
+          record {
+            world_word = omega arith;
+            one_raised = omega arith;
+            help_word = omega arith;
+            admitted_stopped = λ h. omega arith;
+            knows_stopped = λ h. omega arith;
+            alone_unhelped = λ h. omega arith;
+          };
+      others = o;
+      few = c;
+    }
+
+-- 27
+pub raises : (world help : ℕ) (r : Census) (x : Standing) → Stands world help r x → Bare x → Stands (bit_or world flag) help r (record x { raised = not (has_flag world) })
+raises world help r x k b =
+    let flagged = world_flag world help r x k in
+    let other = not_bit (has_flag world) in
+    let set = or-flag world (r.counted + bit x.counted) (r.raised + bit x.raised) k.tally.world_word (omega (arith, k.few.counted, bit-below x.counted)) k.tally.one_raised in
+    let t = k.tally in
+    let f = k.fits in
+    let o = k.others in
+    let c = k.few in
+    record {
+      fits = record { opened_or_alone = omega arith; knows_raised = omega arith; active_counted = omega arith; admitted_helps = omega arith; one_role = omega arith };
+      tally =
+          record {
+            world_word = omega arith;
+            one_raised = omega arith;
+            help_word = omega arith;
+            admitted_stopped = λ h. omega arith;
+            knows_stopped = λ h. omega arith;
+            alone_unhelped = λ h. omega arith;
+          };
+      others = o;
+      few = c;
+    }
+
+-- 29: the seat knows, and is alone
+pub drops : (world help : ℕ) (r : Census) (x : Standing) → Stands world help r x → bit x.knows ≡ 1 → bit x.alone ≡ 1 → Stands (wrapped_difference world 4294967295) help r (record x { raised = false; knows = false; alone = false; counted = true; active = true })
+drops world help r x k b d =
+    let t = k.tally in
+    let f = k.fits in
+    let o = k.others in
+    let c = k.few in
+    record {
+      fits = record { opened_or_alone = omega arith; knows_raised = omega arith; active_counted = omega arith; admitted_helps = omega arith; one_role = omega arith };
+      tally =
+          record {
+            world_word = omega arith;
+            one_raised = omega arith;
+            help_word = omega arith;
+            admitted_stopped = λ h. omega arith;
+            knows_stopped = λ h. omega arith;
+            alone_unhelped = λ h. omega arith;
+          };
+      others = o;
+      few = c;
+    }
+
+-- 43: the seat knows, and has not opened
+pub opens : (world help : ℕ) (r : Census) (x : Standing) → Stands world help r x → bit x.knows ≡ 1 → bit x.opened ≡ 0 → Stands world (bit_or help flag) r (record x { opened = true; alone = false })
+opens world help r x k b d =
+    let set = or-flag help (r.helping + bit x.helping) (r.opened + bit x.opened) k.tally.help_word (omega (arith, k.few.helping, bit-below x.helping)) (omega (arith, k.fits, k.others, k.tally.one_raised)) in
+    let t = k.tally in
+    let f = k.fits in
+    let o = k.others in
+    let c = k.few in
+    record {
+      fits = record { opened_or_alone = omega arith; knows_raised = omega arith; active_counted = omega arith; admitted_helps = omega arith; one_role = omega arith };
+      tally =
+          record {
+            world_word = omega arith;
+            one_raised = omega arith;
+            help_word = omega arith;
+            admitted_stopped = λ h. omega arith;
+            knows_stopped = λ h. omega arith;
+            alone_unhelped = λ h. omega arith;
+          };
+      others = o;
+      few = c;
+    }
+
+-- 44
+pub joins : (world help : ℕ) (r : Census) (x : Standing) → Stands world help r x → Bare x → Stands world (wrapped_sum help 1) r (record x { helping = true; admitted = has_flag help })
+joins world help r x k b =
+    let flagged = help_flag world help r x k in
+    let below = bit-below (has_flag help) in
+    let t = k.tally in
+    let f = k.fits in
+    let o = k.others in
+    let c = k.few in
+    record {
+      fits = record { opened_or_alone = omega arith; knows_raised = omega arith; active_counted = omega arith; admitted_helps = omega arith; one_role = omega arith };
+      tally =
+          record {
+            world_word = omega arith;
+            one_raised = omega arith;
+            help_word = omega arith;
+            admitted_stopped = λ h.
+                ⊎_elim
+                (λ (g : 0 < r.knows + bit x.knows). g)
+                (λ (g : r.knows + bit x.knows ≤ 0).
+                let none = zero_if (r.admitted + bit x.admitted) (r.knows + bit x.knows) k.tally.admitted_stopped (omega arith) in
+                absurd (omega arith))
+                (cases_lt 0 (r.knows + bit x.knows));
+            knows_stopped = λ h. omega arith;
+            alone_unhelped = λ h. omega arith;
+          };
+      others = o;
+      few = c;
+    }
+
+-- 45: the seat helps
+pub leaves-help : (world help : ℕ) (r : Census) (x : Standing) → Stands world help r x → bit x.helping ≡ 1 → Stands world (wrapped_difference help 1) r (record x { helping = false; admitted = false })
+leaves-help world help r x k b =
+    let t = k.tally in
+    let f = k.fits in
+    let o = k.others in
+    let c = k.few in
+    record {
+      fits = record { opened_or_alone = omega arith; knows_raised = omega arith; active_counted = omega arith; admitted_helps = omega arith; one_role = omega arith };
+      tally =
+          record {
+            world_word = omega arith;
+            one_raised = omega arith;
+            help_word = omega arith;
+            admitted_stopped = λ h. omega arith;
+            knows_stopped = λ h. omega arith;
+            alone_unhelped = λ h. omega arith;
+          };
+      others = o;
+      few = c;
+    }
+
+-- 46: the seat has opened
+pub closes : (world help : ℕ) (r : Census) (x : Standing) → Stands world help r x → bit x.opened ≡ 1 → Stands world (wrapped_difference help flag) r (record x { opened = false })
+closes world help r x k b =
+    let below = bit-below x.helping in
+    let t = k.tally in
+    let f = k.fits in
+    let o = k.others in
+    let c = k.few in
+    record {
+      fits = record { opened_or_alone = omega arith; knows_raised = omega arith; active_counted = omega arith; admitted_helps = omega arith; one_role = omega arith };
+      tally =
+          record {
+            world_word = omega arith;
+            one_raised = omega arith;
+            help_word = omega arith;
+            admitted_stopped = λ h. omega arith;
+            knows_stopped = λ h. omega arith;
+            alone_unhelped = λ h. omega arith;
+          };
+      others = o;
+      few = c;
+    }
+
+-- 28: the seat that raised the flag finds no seat counted
+pub observes : (world help : ℕ) (r : Census) (x : Standing) → Stands world help r x → world ≡ flag → bit x.raised ≡ 1 → bit x.knows ≡ 0 → Stands world help r (record x { knows = true; alone = true })
+observes world help r x k e b d =
+    let least = k.tally.one_raised in
+    let fewer = k.others.knows_raised in
+    let none = zero_if (r.admitted + bit x.admitted) (r.knows + bit x.knows) k.tally.admitted_stopped (omega arith) in
+    let t = k.tally in
+    let f = k.fits in
+    let o = k.others in
+    let c = k.few in
+    record {
+      fits = record { opened_or_alone = omega arith; knows_raised = omega arith; active_counted = omega arith; admitted_helps = omega arith; one_role = omega arith };
+      tally =
+          record {
+            world_word = omega arith;
+            one_raised = omega arith;
+            help_word = omega arith;
+            admitted_stopped = λ h. omega arith;
+            knows_stopped = λ h. omega arith;
+            alone_unhelped = λ h. omega arith;
+          };
+      others = o;
+      few = c;
+    }
+
+-- 47: the seat knows, has not opened, and finds no seat helping
+pub sees : (world help : ℕ) (r : Census) (x : Standing) → Stands world help r x → help ≡ 0 → bit x.knows ≡ 1 → bit x.opened ≡ 0 → Stands world help r (record x { alone = true })
+sees world help r x k e b d =
+    let t = k.tally in
+    let f = k.fits in
+    let o = k.others in
+    let c = k.few in
+    record {
+      fits = record { opened_or_alone = omega arith; knows_raised = omega arith; active_counted = omega arith; admitted_helps = omega arith; one_role = omega arith };
+      tally =
+          record {
+            world_word = omega arith;
+            one_raised = omega arith;
+            help_word = omega arith;
+            admitted_stopped = λ h. omega arith;
+            knows_stopped = λ h. omega arith;
+            alone_unhelped = λ h. omega arith;
+          };
+      others = o;
+      few = c;
+    }

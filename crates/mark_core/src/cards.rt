@@ -1,0 +1,39 @@
+//! Cards: how many cells one has, the card of a cell, the block of a card, and the bits of its cells. A card's size stands here alone.
+ghost use Rattle.std.specs.Prelude.{◌≡◌};
+ghost use Rattle.mark_core.specs.Cards.{card_of as card_of_cell, block_of_card as block_of, first_bit as first_bit_of, card_bits as card_bits_of};
+
+use crate::kinds::Cell;
+
+/// How many cells a card has.
+pub const CARD_CELLS: u32 = 16;
+
+/// How many cards a block of 64 cells has.
+pub const BLOCK_CARDS: u32 = 64 / CARD_CELLS;
+
+/// The card of a cell, by its number.
+pub fn card_of(c: Cell) -> u32
+    ensures { result ≡ card_of_cell c }
+{
+    c.number() / CARD_CELLS
+}
+
+/// The block in which a card lies.
+pub fn block_of_card(card: u32) -> u32
+    ensures { result ≡ block_of card }
+{
+    card / BLOCK_CARDS
+}
+
+/// The bit of the card's first cell in the words of its block.
+pub fn first_bit(card: u32) -> u32
+    ensures { result ≡ first_bit_of card }
+{
+    CARD_CELLS * (card % BLOCK_CARDS)
+}
+
+/// The bits of the card's cells in the words of its block.
+pub fn card_bits(card: u32) -> u64
+    ensures { result ≡ card_bits_of card }
+{
+    ((1 << CARD_CELLS) - 1) << first_bit(card)
+}

@@ -1,0 +1,67 @@
+//! A card that a seat cleared, and what becomes of its cells as the seat reads their bits.
+ghost use Rattle.std.specs.Prelude.{◌≡◌};
+ghost use Rattle.mark_core.specs.ColourSteps.{seen_in as seen_in_of, cleaning_after as cleaning_after_of, without_cell as without_cell_of, redirty_off as redirty_off_of, known_in as known_in_of};
+
+use crate::bits;
+use crate::cards::{block_of_card, card_bits};
+use crate::kinds::Cell;
+use crate::seat::Cleaning;
+
+/// The cells left whose bit is set may be scanned, and the others leave the list, so that their card must be dirty again.
+fn see(x: &mut Cleaning, word: u64)
+    ensures { x.new ≡ seen_in_of x.old word }
+{
+    if !(x.left & !word == 0) {
+        x.redirty = true;
+    }
+    x.left &= word;
+    x.published = x.left;
+}
+
+/// What a cleaning in block b becomes, once the block's allocation bits were read.
+pub fn cleaning_after(cleaning: &mut Option<Cleaning>, b: u32, word: u64)
+    ensures { cleaning.new ≡ cleaning_after_of cleaning.old b word }
+{
+    if let Some(x) = cleaning {
+        if x.known && block_of_card(x.card) == b {
+            see(x, word);
+        }
+    }
+}
+
+/// The cell is no longer left.
+pub fn without_cell(cleaning: &mut Option<Cleaning>, c: Cell)
+    ensures { cleaning.new ≡ without_cell_of cleaning.old c }
+{
+    if let Some(x) = cleaning {
+        if block_of_card(x.card) == c.number() / 64 {
+            x.left = bits::without_bit(x.left, c.number() % 64);
+            x.published = bits::without_bit(x.published, c.number() % 64);
+        }
+    }
+}
+
+/// The card was dirtied, so the cleaning owes that no more.
+#[inline(always)]
+pub fn redirty_off(cleaning: &mut Option<Cleaning>, card: u32)
+    ensures { cleaning.new ≡ redirty_off_of cleaning.old card }
+{
+    if let Some(x) = cleaning {
+        if x.card == card {
+            x.redirty = false;
+        }
+    }
+}
+
+/// The marked cells of the cleaned card are left to scan.
+pub fn known_in(cleaning: &mut Option<Cleaning>, b: u32, word: u64)
+    ensures { cleaning.new ≡ known_in_of cleaning.old b word }
+{
+    if let Some(x) = cleaning {
+        if !x.known && block_of_card(x.card) == b {
+            x.known = true;
+            x.left = word & card_bits(x.card);
+            x.published = 0;
+        }
+    }
+}

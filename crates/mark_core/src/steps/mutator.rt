@@ -1,0 +1,193 @@
+//! The steps of a mutator. They read and change objects and roots, and make cells in a cached block.
+ghost use Rattle.std.specs.Prelude.{◌≡◌, ◌<◌, ◌-◌, ◌/◌, ◌==◌, ℕ, List, if◌then◌else◌, slice_index, slice_set};
+ghost use Rattle.std.specs.List.{list_any};
+ghost use Rattle.mark_core.specs.Bits.{cell_of, reference_in};
+ghost use Rattle.mark_core.specs.Cards.{card_of as card_of_cell};
+ghost use Rattle.mark_core.specs.MutatorSteps.{read_object_parts, read_own_parts, read_cat_parts, store_field_parts, store_value_parts, store_root_parts};
+ghost use Rattle.mark_core.specs.MutatorSteps.{knows_cell as knows_cell_of, variable as variable_of, has_own as has_own_of, in_variables as in_variables_of, variable_or_nil as variable_or_nil_of, names_last as names_last_of, has_reference as has_reference_of};
+ghost use Rattle.mark_core.specs.Seats.{used_in};
+ghost use Rattle.mark_core.specs.Steps.{first_false as first_false_of};
+
+use crate::cards::card_of;
+use crate::kinds::{Cell, Shape};
+use crate::parts::first_false;
+use crate::seat::{CacheState, SeatState};
+use crate::standing::{is_the, may_mutate};
+use crate::{bits, hand};
+
+/// A variable of the seat holds this reference.
+fn has_variable(s: &SeatState, reference: u64) -> bool
+    ensures { result ≡ list_any (λ x. x == reference) s.now.env }
+{
+    s.env.iter().any(|x| u64::from(*x) == reference)
+}
+
+/// The seat's variables or its register name the cell.
+fn knows_cell(s: &SeatState, c: Cell) -> bool
+    ensures { result ≡ knows_cell_of s.now c }
+{
+    let reference = u64::from(c.number()) + 1;
+    u64::from(s.got) == reference || has_variable(s, reference)
+}
+
+/// The least part of the condition of kind 17 that fails, if one does.
+pub fn check_read_object(shape: &Shape, s: &SeatState, c: Cell) -> Option<u8>
+    ensures { result ≡ first_false_of 1 (read_object_parts shape.now s.now c) }
+{
+    first_false(&[c.number() < shape.cells && may_mutate(s), knows_cell(s, c)])
+}
+
+/// The least part of the condition of kind 17 that fails, if one does.
+pub fn check_read_own(shape: &Shape, s: &SeatState, c: Cell, i: u8) -> Option<u8>
+    ensures { result ≡ first_false_of 1 (read_own_parts shape.now s.now c i) }
+{
+    first_false(&[
+        c.number() < shape.cells && u32::from(i) < shape.fields && may_mutate(s),
+        knows_cell(s, c),
+    ])
+}
+
+/// What a mutator reads of an object or of the catalogue goes into its register.
+pub fn read_reference(s: &mut SeatState, old: u64) -> u64
+    ensures word { result ≡ old }
+    ensures seat { s.new ≡ record s.old { got = reference_in old } }
+{
+    s.got = bits::reference_in(old);
+    old
+}
+
+/// The least part of the condition of kind 17 that fails, if one does.
+pub fn check_read_cat(s: &SeatState, v: u8) -> Option<u8>
+    ensures { result ≡ first_false_of 1 (read_cat_parts s.now v) }
+{
+    first_false(&[v < 32 && may_mutate(s), !is_the(s.section, 0)])
+}
+
+/// What variable v of the seat refers to.
+pub fn variable(s: &SeatState, v: u8) -> u32
+    ensures { result ≡ variable_of s.now v }
+{
+    s.env.get(v as usize).copied().unwrap_or(0)
+}
+
+/// The cell that variable v names, if it isn't nil.
+pub fn variable_cell(s: &SeatState, v: u8) -> u32
+    ensures { result ≡ variable_of s.now v - 1 }
+{
+    variable(s, v).saturating_sub(1)
+}
+
+/// Variable v names an object of the seat's section; its cell has this identity.
+fn has_own(s: &SeatState, v: u8, identity: u64) -> bool
+    ensures { (ids : List ℕ) → slice_index ids (variable_of s.now v - 1) ≡ identity → result ≡ has_own_of ids s.now v }
+{
+    !(variable(s, v) == 0) && is_the(s.section, (identity / bits::FLAG) as u32)
+}
+
+fn in_variables(w: Option<u8>) -> bool
+    ensures { result ≡ in_variables_of w }
+{
+    match w {
+        None => true,
+        Some(x) => x < 32,
+    }
+}
+
+fn variable_or_nil(s: &SeatState, w: Option<u8>) -> u32
+    ensures { result ≡ variable_or_nil_of s.now w }
+{
+    match w {
+        None => 0,
+        Some(x) => variable(s, x),
+    }
+}
+
+/// The least part of the condition of kind 18 that fails, if one does.
+pub fn check_store_field(
+    shape: &Shape,
+    identity: u64,
+    s: &SeatState,
+    v: u8,
+    i: u8,
+    w: Option<u8>,
+) -> Option<u8>
+    ensures { (ids : List ℕ) → slice_index ids (variable_of s.now v - 1) ≡ identity → result ≡ first_false_of 1 (store_field_parts shape.now ids s.now v i w) }
+{
+    first_false(&[
+        v < 32 && u32::from(i) < shape.fields && in_variables(w) && may_mutate(s),
+        has_own(s, v, identity),
+        s.owes.is_none(),
+    ])
+}
+
+/// Nobody else can know a cell that isn't published, so its card isn't owed.
+pub fn store_field(s: &mut SeatState, v: u8, w: Option<u8>) -> u64
+    ensures word { result ≡ variable_or_nil_of s.old w }
+    ensures seat { let c = cell_of (variable_of s.old v) in s.new ≡ record s.old { owes = if used_in s.old.cache c then s.old.owes else Some (card_of_cell c) } }
+{
+    let c = bits::cell_of(u64::from(variable(s, v)));
+    if !hand::used_in(s.cache, c) {
+        s.owes = Some(card_of(c));
+    }
+    u64::from(variable_or_nil(s, w))
+}
+
+/// The least part of the condition of kind 18 that fails, if one does.
+pub fn check_store_value(identity: u64, s: &SeatState, v: u8) -> Option<u8>
+    ensures { (ids : List ℕ) → slice_index ids (variable_of s.now v - 1) ≡ identity → result ≡ first_false_of 1 (store_value_parts ids s.now v) }
+{
+    first_false(&[
+        v < 32 && may_mutate(s),
+        has_own(s, v, identity),
+        s.owes.is_none(),
+    ])
+}
+
+/// The reference names the used cell made last.
+fn names_last(cache: Option<CacheState>, r: u64) -> bool
+    ensures { result ≡ names_last_of cache r }
+{
+    match cache {
+        None => false,
+        Some(x) => match x.last {
+            None => false,
+            Some(c) => !(r == 0) && u64::from(c.number()) == r - 1,
+        },
+    }
+}
+
+/// Nil, or a reference that the seat has.
+fn has_reference(s: &SeatState, r: u64) -> bool
+    ensures { result ≡ has_reference_of s.now r }
+{
+    r == 0 || r == u64::from(s.got) || has_variable(s, r) || names_last(s.cache, r)
+}
+
+/// The least part of the condition of kind 19 that fails, if one does.
+pub fn check_store_root(s: &SeatState, v: u8, r: u64) -> Option<u8>
+    ensures { result ≡ first_false_of 1 (store_root_parts s.now v r) }
+{
+    first_false(&[
+        v < 32 && may_mutate(s),
+        has_reference(s, r),
+        s.owes.is_none() && !hand::has_making(s.cache),
+    ])
+}
+
+fn set_variable(env: &mut [u32; 32], v: u8, reference: u32)
+    requires { v < 32 }
+    ensures { env.new ≡ slice_set env.old v reference }
+{
+    env[v as usize] = reference;
+}
+
+/// What kind 19 makes of the seat's record, and what it leaves in the word.
+pub fn store_root(s: &mut SeatState, v: u8, r: u64) -> u64
+    requires { v < 32 }
+    ensures word { result ≡ r }
+    ensures seat { s.new ≡ record s.old { env = slice_set s.old.env v (reference_in r); got = 0 } }
+{
+    set_variable(&mut s.env, v, bits::reference_in(r));
+    s.got = 0;
+    r
+}
