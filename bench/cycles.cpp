@@ -10,7 +10,7 @@
 
 namespace {
 
-constexpr uint64_t kIdle = 0, kDrain = 2, kSweep = 3, kFull = 5;
+constexpr uint64_t kFull = 5;
 
 // How many cells a round of the drain traces at most.
 constexpr uint64_t kRound = 65536;
@@ -83,7 +83,7 @@ void settle(const Heap &heap) {
 // A mutator collects, and goes on: false where the drain didn't end at once. Nobody else is there.
 __attribute__((noinline)) bool collect(const Heap &heap) {
     if (heap.words[kPhase].load() == kFull) return false;
-    heap.words[kPosition].store(0);
+    heap.words[kPositions].store(0);
     heap.words[kWorld].fetch_sub(1);
     if (heap.words[kWorld].fetch_or(kFlag) & kFlag) return false;
     while (heap.words[kWorld].load() != kFlag) {}

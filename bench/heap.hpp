@@ -1,63 +1,14 @@
-// A heap over bare atomic words, and what a mutator and a tracer do to it: the same operations on the same words as in the crates, in the same order, and no
-// more. The sizes of the heap are known only as it runs, as there.
+// What a mutator and a tracer do to the words of a heap, as single operations that are timed: the same as in the crates, in the same order, and no more.
+// The words are the floor's, with at most 64 packets, so that each pool is one word.
 #pragma once
-#include <atomic>
 #include <cstdint>
 #include <utility>
-#include <vector>
+
+#include "floor/words.hpp"
 
 namespace {
 
-// The sizes of a heap, as they are known only when it is made.
-struct Sizes {
-    uint64_t cells, packets, entries, sections, fields;
-};
-
-constexpr uint64_t kWorld = 0, kPhase = 1, kEmpty = 2, kNextCard = 3, kNextBlock = 4, kLast = 6, kRescanned = 7, kTraced = 8, kFree = 9, kPosition = 11;
-constexpr uint64_t kFlag = uint64_t{1} << 32;
-
-using Word = std::atomic<uint64_t>;
-
-// The words lie in the order of mark_core's layout.
-struct Heap {
-    Word *words;
-    Sizes sizes;
-    uint64_t blocks, cards, roots, owners, allocs, marks, dirty, heads, entries, identities, values, references, pools, help, season, count;
-
-    explicit Heap(Sizes of) : sizes(of) {
-        blocks = of.cells / 64;
-        cards = of.cells / 16;
-        roots = 11 + of.sections;
-        owners = roots + 32 * of.sections;
-        allocs = owners + blocks;
-        marks = allocs + blocks;
-        dirty = marks + blocks;
-        heads = dirty + cards;
-        entries = heads + of.packets;
-        identities = entries + of.packets * of.entries;
-        values = identities + of.cells;
-        references = values + of.cells;
-        pools = references + of.cells * of.fields;
-        help = pools + 4;
-        season = help + 1;
-        count = season + 1;
-        words = new Word[count]();
-        words[kEmpty] = 64 + of.packets;
-        words[pools] = (uint64_t{1} << of.packets) - 1;
-    }
-
-    Word &field(uint64_t c, uint64_t f) const { return words[references + sizes.fields * c + f]; }
-    Word &entry(uint64_t p, uint64_t k) const { return words[entries + sizes.entries * p + k]; }
-
-    // Copies the words out, as the table's heap gives them.
-    bool close() {
-        std::vector<uint64_t> copy;
-        copy.reserve(count);
-        for (uint64_t i = 0; i < count; i++) copy.push_back(words[i].load(std::memory_order_relaxed));
-        delete[] words;
-        return copy.size() == count;
-    }
-};
+using namespace bare;
 
 // What a mutator knows besides the words: its variables, and the cells that it made and hasn't published.
 struct Mutator {

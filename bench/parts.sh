@@ -30,6 +30,17 @@ build_go() {
     fi
 }
 
+# A program of its own name that starts Java with what was compiled.
+build_java() {
+    if command -v javac >/dev/null 2>&1 && javac -d "$folder" bench/peers/Plain.java 2>/dev/null; then
+        printf '#!/bin/sh\nexec java -cp %s Plain "$@"\n' "$folder" >"$folder/java"
+        chmod +x "$folder/java"
+        printf 'java;%s\n' "$folder/java" >>"$folder/programs"
+    else
+        echo 'java left out: bench/peers/Plain.java is compiled where there is a JDK'
+    fi
+}
+
 build_floor() {
     g++ -std=c++20 -O2 -o "$folder/measure" bench/measure.cpp
     build_peer floor bench/floor/play.cpp
@@ -40,6 +51,7 @@ build_peers() {
     build_peer plain bench/peers/plain.cpp
     build_peer boehm bench/peers/boehm.cpp -lgc
     build_go
+    build_java
 }
 
 # One run: a program's name and its file, a script, and the words of the command. What it took is added to the file of that program, script and words;

@@ -35,8 +35,8 @@ peers_table() {
     echo "|---|---|---|---|---|---|---|"
     while read -r script words; do
         # shellcheck disable=SC2086
-        in_turns "$runs" 'gcplay floor plain boehm go' "$script" $words
-        for name in gcplay floor plain boehm go; do
+        in_turns "$runs" 'gcplay floor plain boehm go java' "$script" $words
+        for name in gcplay floor plain boehm go java; do
             # shellcheck disable=SC2086
             line "$name" "$script" $words
         done
@@ -47,7 +47,7 @@ peers_table() {
 means_table() {
     echo "| Program | Geometric mean of the ratios | Greatest |"
     echo "|---|---|---|"
-    for name in gcplay plain boehm go; do
+    for name in gcplay plain boehm go java; do
         while read -r script words; do
             [ "$(commands_in "$folder/$script")" -ge 1000000 ] && [ -f "$folder/$name.$script.$(echo "$words" | tr -d ' ')" ] || continue
             # shellcheck disable=SC2086

@@ -29,7 +29,6 @@ use Rattle.gc_cycle.specs.Events.{first_is, Sort}
 use Rattle.gc_cycle.specs.Mutating.{GoesOut, HasEntered, stays_calm, tries_stopping}
 use Rattle.gc_cycle.specs.Polling.{offered_help, poll_found_stop, saw_full}
 use Rattle.gc_cycle.specs.Sorts.{leaves, polls, reads_phase, sees_flag}
-use Rattle.gc_cycle.specs.Sparing.{KnowsAnswer}
 use Rattle.gc_cycle.specs.Standing.{Mutates}
 use Rattle.gc_cycle.proofs.Fulls.{full-seen, tells-more, tells-none}
 use Rattle.gc_cycle.proofs.Goings.{calm-tries, goes-out, out-join}
@@ -214,10 +213,6 @@ passes u v w handed kept done (safes.Going k) g r a =
           (ap (λ (z : View). z.own.position) a.looked.1.0 ∙ p.0, ap (some_event leaves) (ran-events u v w g.out.ran r) ∙ some-left leaves (events u v) (events v w) p.1);
     }
 passes u v w handed kept done safes.Full g r a = full-later done u v w g.out.ran r a.0
-
-pub knows-answer : (v w : View) (kept : Option Cache) (done : ℕ) (safe : Safe) → AnswersTo safe kept done v w → KnowsAnswer safe w
-knows-answer v w kept done (safes.Going k) a = tt
-knows-answer v w kept done safes.Full a = a.1
 
 pub answers-out : (v w : View) → Ran v w → Only answers v w → GoesOut v w
 answers-out v w r o = goes-out v w r (only-more answers stays_calm answers-calm v w o)

@@ -18,6 +18,7 @@ ghost use Rattle.gc_cycle.specs.Polling.{saw_full};
 ghost use Rattle.gc_cycle.specs.Sorts.{polls, raises_flag};
 ghost use Rattle.gc_cycle.specs.Sparing.{KnowsAnswer, spares_part};
 ghost use Rattle.gc_cycle.specs.Standing.{KeepsSeat, KeepsSection, Mutates};
+ghost use Rattle.gc_cycle.specs.declared.counts.Safe.TheVariants as safes;
 
 use crate::counts::Safe;
 use crate::finishing::precise;
@@ -124,30 +125,55 @@ pub fn safe_point<R: Wait>(
     ensures spares { Only spares_part (view_of seat.old) (view_of seat.new) }
     ensures known { KnowsAnswer result (view_of seat.new) }
 {
-    let kept = give_way(rt, heap, seat, cache, done);
-    go_on(heap, seat, kept, done)
+    let mut cache = cache;
+    if pass_safe_point(rt, heap, seat, &mut cache, done) {
+        return Safe::Going(cache);
+    }
+    spend_none(cache);
+    Safe::Full
 }
 
-/// Gives way to a stop, if one is under way: the mutator gives up its cache, leaves, helps, and enters once the stop has ended. What it still has.
-fn give_way<R: Wait>(
+/// The same with the cache lent, for a player that comes to a safe point at each command: the cache moves only where a stop is under way or the heap is
+/// full. True where the mutator goes on, with the cache that it has then; where it doesn't, it has none.
+#[inline(always)]
+pub fn pass_safe_point<R: Wait>(
     rt: &R,
     heap: &Heap,
     seat: &mut HeapSeat,
-    cache: Option<Cache>,
+    cache: &mut Option<Cache>,
     done: u32,
-) -> Option<Cache>
+) -> bool
     requires seat { Sits heap.now seat.old × Mutates (view_of seat.old) }
-    requires cache { HasCache cache (view_of seat.old) }
+    requires cache { HasCache cache.old (view_of seat.old) }
+    ensures seat { Sits heap.now seat.new }
+    ensures ran { Ran (view_of seat.old) (view_of seat.new) }
+    ensures going { OnTrue result (SafeTo (safes.Going cache.new) cache.old done (view_of seat.old) (view_of seat.new)) }
+    ensures full { OnFalse result (SafeTo safes.Full cache.old done (view_of seat.old) (view_of seat.new) × KnowsFull (view_of seat.new) × (cache.new ≡ None)) }
+    ensures polled { IsTrue (some_event polls (events (view_of seat.old) (view_of seat.new))) }
+    ensures calm { IsTrue (never raises_flag (events (view_of seat.old) (view_of seat.new))) }
+    ensures helping { IsTrue (waits_helping (events (view_of seat.old) (view_of seat.new))) }
+    ensures not_full { IsTrue (never_fills (events (view_of seat.old) (view_of seat.new))) }
+    ensures keeps { KeepsSeat (view_of seat.old) (view_of seat.new) × KeepsSection (view_of seat.old) (view_of seat.new) }
+    ensures spares { Only spares_part (view_of seat.old) (view_of seat.new) }
+{
+    give_way(rt, heap, seat, cache, done);
+    goes_on(heap, seat, cache, done)
+}
+
+/// Gives way to a stop, if one is under way: the mutator gives up its cache, leaves, helps, and enters once the stop has ended.
+#[inline(always)]
+fn give_way<R: Wait>(rt: &R, heap: &Heap, seat: &mut HeapSeat, cache: &mut Option<Cache>, done: u32)
+    requires seat { Sits heap.now seat.old × Mutates (view_of seat.old) }
+    requires cache { HasCache cache.old (view_of seat.old) }
     ensures seat { Sits heap.now seat.new × Mutates (view_of seat.new) }
-    ensures gives { GivesWay cache result done (view_of seat.old) (view_of seat.new) }
+    ensures gives { GivesWay cache.old cache.new done (view_of seat.old) (view_of seat.new) }
 {
     if !poll(heap, seat) {
-        return cache;
+        return;
     }
     retire_some(heap, seat, cache);
     go_out(heap, seat, done);
     go_in(rt, heap, seat);
-    None
 }
 
 /// Whether a mutator goes on, with its cache. Where it reads that the heap is full it gives the cache up, and stores its position.
@@ -159,12 +185,41 @@ pub(crate) fn go_on(heap: &Heap, seat: &mut HeapSeat, cache: Option<Cache>, done
     ensures only { Only answers (view_of seat.old) (view_of seat.new) }
     ensures answer { AnswersTo result cache done (view_of seat.old) (view_of seat.new) }
 {
-    if !finds_full(heap, seat) {
+    let mut cache = cache;
+    if goes_on(heap, seat, &mut cache, done) {
         return Safe::Going(cache);
+    }
+    spend_none(cache);
+    Safe::Full
+}
+
+/// The same with the cache lent. Where the mutator doesn't go on, it has none.
+#[inline(always)]
+fn goes_on(heap: &Heap, seat: &mut HeapSeat, cache: &mut Option<Cache>, done: u32) -> bool
+    requires seat { Sits heap.now seat.old × Mutates (view_of seat.old) }
+    requires cache { HasCache cache.old (view_of seat.old) }
+    ensures seat { Sits heap.now seat.new × Mutates (view_of seat.new) }
+    ensures ran { Ran (view_of seat.old) (view_of seat.new) }
+    ensures only { Only answers (view_of seat.old) (view_of seat.new) }
+    ensures going { OnTrue result (AnswersTo (safes.Going cache.new) cache.old done (view_of seat.old) (view_of seat.new)) }
+    ensures full { OnFalse result (AnswersTo safes.Full cache.old done (view_of seat.old) (view_of seat.new) × (cache.new ≡ None)) }
+{
+    if !finds_full(heap, seat) {
+        return true;
     }
     retire_some(heap, seat, cache);
     heap.store_position(seat, done);
-    Safe::Full
+    false
+}
+
+/// There is no cache to give up.
+fn spend_none(cache: Option<Cache>)
+    requires { cache ≡ None }
+{
+    match cache {
+        None => (),
+        Some(_) => unreachable!(),
+    }
 }
 
 /// Whether the heap is full, as a mutator without a cache reads it. Where it is, the mutator stores its position.
@@ -185,6 +240,7 @@ pub(crate) fn ends_full(heap: &Heap, seat: &mut HeapSeat, done: u32) -> bool
 }
 
 /// Whether the heap is full, as a mutator reads it. Where it isn't, the mutator goes on after whatever it did before.
+#[inline(always)]
 fn finds_full(heap: &Heap, seat: &mut HeapSeat) -> bool
     requires seat { Sits heap.now seat.old × Mutates (view_of seat.old) }
     ensures seat { Sits heap.now seat.new × Mutates (view_of seat.new) }
@@ -199,17 +255,20 @@ fn finds_full(heap: &Heap, seat: &mut HeapSeat) -> bool
 }
 
 /// Gives a cache up, if there is one.
-fn retire_some(heap: &Heap, seat: &mut HeapSeat, cache: Option<Cache>)
+#[cold]
+#[inline(never)]
+fn retire_some(heap: &Heap, seat: &mut HeapSeat, cache: &mut Option<Cache>)
     requires seat { Sits heap.now seat.old × Mutates (view_of seat.old) }
-    requires cache { HasCache cache (view_of seat.old) }
+    requires cache { HasCache cache.old (view_of seat.old) }
     ensures seat { Sits heap.now seat.new × Mutates (view_of seat.new) }
     ensures cache { (view_of seat.new).state.cache ≡ None }
+    ensures none { cache.new ≡ None }
     ensures ran { Ran (view_of seat.old) (view_of seat.new) }
     ensures only { Only retires (view_of seat.old) (view_of seat.new) }
     ensures seen { (view_of seat.new).state.phase_seen ≡ (view_of seat.old).state.phase_seen }
     ensures own { (view_of seat.new).own ≡ (view_of seat.old).own }
 {
-    if let Some(cache) = cache {
+    if let Some(cache) = cache.take() {
         retire(heap, seat, cache);
     }
 }

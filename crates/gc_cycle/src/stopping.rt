@@ -85,6 +85,7 @@ pub fn await_resumed_helping<R: Wait>(rt: &R, heap: &Heap, seat: &mut HeapSeat)
 }
 
 /// Leaves the world with the position stored: the mutator has done `done` commands. It has no cache.
+#[inline(never)]
 pub fn go_out(heap: &Heap, seat: &mut HeapSeat, done: u32)
     requires seat { Sits heap.now seat.old × Mutates (view_of seat.old) }
     requires cache { (view_of seat.old).state.cache ≡ None }
@@ -99,6 +100,7 @@ pub fn go_out(heap: &Heap, seat: &mut HeapSeat, done: u32)
 }
 
 /// Enters the world, as soon as no stop is under way. Meanwhile the seat helps.
+#[inline(never)]
 pub fn go_in<R: Wait>(rt: &R, heap: &Heap, seat: &mut HeapSeat)
     requires seat { Sits heap.now seat.old × IsOut (view_of seat.old) }
     requires section { IsTrue (is_some (view_of seat.old).state.section) }

@@ -47,6 +47,10 @@ no_cache : (kept : Option Cache) (done : ℕ) (v w : View) → CollectsTo (safes
 no_cache None done v w c = (c.cache, c)
 no_cache (Some h) done v w c = absurd c
 
+pub no-cache-left : (kept : Option Cache) (done : ℕ) (v w : View) → CollectsTo (safes.Going kept) done v w → kept ≡ None
+no-cache-left None done v w c = refl
+no-cache-left (Some h) done v w c = absurd c
+
 -- the command counts one collection
 one_collect : (e : Execution) → e.op ≡ ops.Collect → collects_by (e ∷ []) ≡ 1
 one_collect e is = ap (λ op. collects_by (record { line = e.line; label = e.label; op = op } ∷ [])) is

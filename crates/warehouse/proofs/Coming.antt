@@ -21,11 +21,9 @@ use Rattle.alloc_cache.specs.declared.cache.Cache.{Cache}
 use Rattle.play_end.specs.Alike.{AreAlike}
 use Rattle.play_end.specs.Done.{turn_word}
 use Rattle.play_end.specs.Parts.{SaysSame}
-use Rattle.warehouse.specs.Commands.{ComesTo, IsAt, IsNextOf, StopsBefore}
+use Rattle.warehouse.specs.Commands.{IsAt, IsNextOf, StopsBefore}
 use Rattle.gc_cycle.specs.PartEvents.{polled_last}
-use Rattle.warehouse.specs.Playing.{Acts, FindsFull, GetsReady, HasFree, HasRoom, IsCounted, MayPass, ReadiesTo, Stays, collects_by, player_of}
-use Rattle.gc_cycle.specs.declared.counts.Safe.{Safe}
-use Rattle.gc_cycle.specs.declared.counts.Safe.TheVariants as safes
+use Rattle.warehouse.specs.Playing.{Acts, FindsFull, GetsReady, HasFree, HasRoom, IsCounted, MayPass, Stays, collects_by, player_of}
 use Rattle.warehouse.specs.declared.mutator.Mutator.{Mutator}
 use Rattle.warehouse.proofs.Commanding.{stays-of}
 use Rattle.warehouse.proofs.Fulls.{counted-kept}
@@ -117,11 +115,6 @@ module _ (h : Heap) (p : Parts) (turn : ℕ) (e : Execution) (m : Mutator) (s : 
       wider season =
           let a = k.acts season in
           record { ran = a.ran; polled = a.polled; collected = a.collected; stopped = λ since. let q : _ ≤ 0 = a.stopped since in omega (arith, q); stored = a.stored; uncounted = a.uncounted; seasons = a.seasons }
-
-  pub comes : (r : Safe) → ReadiesTo r turn m.count (view_of m.seat) (view_of s) → ((kept : Option Cache) → r ≡ safes.Going kept → IsTrue (makes_object e.op) → HasFree kept)
-      → (IsTrue (view_of s).own.full → IsTrue (view_of m.seat).own.full ⊎ IsNew e.op) → ComesTo r h p turn e m (moved m s)
-  comes (safes.Going kept) k free found = comes-going kept k (free kept refl)
-  comes safes.Full k free found = comes-full k found
 
 -- where it makes an object, it is `new`
 pub makes-new : (op : Op) → makes_object op ≡ true → IsNew op

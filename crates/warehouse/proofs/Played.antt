@@ -5,17 +5,16 @@ use Rattle.plain_heap.specs.Sections.{Execution, Parts}
 use Rattle.gc_table.specs.declared.seat.Heap.{Heap}
 use Rattle.gc_table.specs.Seats.{view_of}
 use Rattle.alloc_cache.specs.declared.cache.Cache.{Cache}
-use Rattle.warehouse.specs.Commands.{CommandEnds, CommandPlayed, IsAt}
+use Rattle.warehouse.specs.Commands.{DoesOne, IsAt, PlaysOne, StopsBefore}
 use Rattle.warehouse.specs.Playing.{collects_by, player_of}
-use Rattle.gc_cycle.specs.declared.counts.Safe.{Safe}
-use Rattle.gc_cycle.specs.declared.counts.Safe.TheVariants as safes
 use Rattle.warehouse.specs.declared.mutator.Mutator.{Mutator}
 use Rattle.warehouse.proofs.Acting.{acts-join}
 use Rattle.warehouse.proofs.Commanding.{stays-of}
 use Rattle.warehouse.proofs.Leaving.{left-command}
 
-pub played-from : (h : Heap) (p : Parts) (turn : ℕ) (kept : Option Cache) (e : Execution) (x m y : Mutator) (r : Safe) → IsAt h p turn kept e x m → CommandEnds r h p e m y → CommandPlayed r h p turn e x y
-played-from h p turn kept e x m y (safes.Going k) at ends =
+-- it was done
+pub plays-from : (h : Heap) (p : Parts) (turn : ℕ) (kept still : Option Cache) (e : Execution) (x m y : Mutator) → IsAt h p turn kept e x m → DoesOne h p still e m y → PlaysOne h p turn still e x y
+plays-from h p turn kept still e x m y at ends =
     record {
       playing = ends.playing;
       left = λ old z rest pos word left.
@@ -27,7 +26,10 @@ played-from h p turn kept e x m y (safes.Going k) at ends =
   where
     c : ℕ
     c = collects_by (e ∷ [])
-played-from h p turn kept e x m y safes.Full at ends =
+
+-- the heap was full before it
+pub stops-from : (h : Heap) (p : Parts) (turn : ℕ) (kept : Option Cache) (e : Execution) (x m y : Mutator) → IsAt h p turn kept e x m → StopsBefore h p e m y → StopsBefore h p e x y
+stops-from h p turn kept e x m y at ends =
     record {
       playing = ends.playing;
       kept =

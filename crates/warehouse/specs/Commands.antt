@@ -78,10 +78,6 @@ pub record StopsBefore (h : Heap) (p : Parts) (e : Execution) (x y : Mutator) : 
   pub found : IsTrue (view_of y.seat).own.full → IsTrue (view_of x.seat).own.full ⊎ IsNew e.op
   pub acts : (season : ℕ) → Acts season 0 0 (collects_by (e ∷ [])) (view_of x.seat) (view_of y.seat)
 
-abbrev pub CommandEnds : Safe → Heap → Parts → Execution → Mutator → Mutator → Type 0
-CommandEnds (safes.Going kept) h p e x y = DoesOne h p kept e x y
-CommandEnds safes.Full h p e x y = StopsBefore h p e x y
-
 -- the mutator is at the command, and the section is as it was
 pub record IsAt (h : Heap) (p : Parts) (turn : ℕ) (kept : Option Cache) (e : Execution) (x y : Mutator) : Type 0 where
   pub playing : IsPlaying h p kept y
@@ -94,10 +90,6 @@ pub record IsAt (h : Heap) (p : Parts) (turn : ℕ) (kept : Option Cache) (e : E
   pub pass : MayPass y.seat p y.count
   pub free : IsTrue (makes_object e.op) → HasFree kept
 
-abbrev pub ComesTo : Safe → Heap → Parts → ℕ → Execution → Mutator → Mutator → Type 0
-ComesTo (safes.Going kept) h p turn e x y = IsAt h p turn kept e x y
-ComesTo safes.Full h p turn e x y = StopsBefore h p e x y
-
 -- a command with the poll before it: of a player that had these commands left, all but the first are left
 pub record PlaysOne (h : Heap) (p : Parts) (turn : ℕ) (kept : Option Cache) (e : Execution) (x y : Mutator) : Type 0 where
   pub playing : IsPlaying h p kept y
@@ -105,10 +97,6 @@ pub record PlaysOne (h : Heap) (p : Parts) (turn : ℕ) (kept : Option Cache) (e
   pub count : y.count ≡ x.count + 1
   pub room : (later : List Execution) → HasRoom (e ∷ later) x → HasRoom later y
   pub acts : Acts turn 1 (collects_by (e ∷ [])) (collects_by (e ∷ [])) (view_of x.seat) (view_of y.seat)
-
-abbrev pub CommandPlayed : Safe → Heap → Parts → ℕ → Execution → Mutator → Mutator → Type 0
-CommandPlayed (safes.Going kept) h p turn e x y = PlaysOne h p turn kept e x y
-CommandPlayed safes.Full h p turn e x y = StopsBefore h p e x y
 
 -- all commands that were left were done
 pub record PlaysAll (h : Heap) (p : Parts) (z : ℕ) (kept : Option Cache) (part : List Execution) (x y : Mutator) : Type 0 where

@@ -26,8 +26,6 @@ use Rattle.play_end.specs.Parts.{Player, AreOf, IsAfterParts, PlaysPart}
 use Rattle.play_end.specs.declared.played.Played.{Played}
 use Rattle.play_end.specs.declared.played.Played.TheVariants as plays
 use Rattle.warehouse.specs.declared.mutator.Mutator.{Mutator}
-use Rattle.gc_cycle.specs.declared.counts.Safe.{Safe}
-use Rattle.gc_cycle.specs.declared.counts.Safe.TheVariants as safes
 use Rattle.gc_cycle.specs.Answering.{EndsFull, HasCache}
 use Rattle.gc_cycle.specs.Cycles.{never_fills}
 use Rattle.gc_cycle.specs.Events.{never}
@@ -117,10 +115,6 @@ pub record FindsFull (done : ℕ) (v w : View) : Type 0 where
   pub known : KnowsFull w
   pub made : w.state.made ≡ v.state.made
   pub acts : Waits v w
-
-abbrev pub ReadiesTo : Safe → ℕ → ℕ → View → View → Type 0
-ReadiesTo (safes.Going kept) turn done v w = GetsReady turn kept v w
-ReadiesTo safes.Full turn done v w = FindsFull done v w
 
 -- the cache has a free cell
 abbrev pub HasFree : Option Cache → Type 0

@@ -1,16 +1,17 @@
 //! One command of a part.
-ghost use Rattle.std.specs.Prelude.{◌≡◌, ◌+◌, ◌<◌, ◌≤◌, ◌++◌, [], ◌∷◌, if◌then◌else◌, is_some, length, map, IsTrue, vec_capacity};
+ghost use Rattle.std.specs.Prelude.{◌≡◌, ◌+◌, ◌<◌, ◌≤◌, ◌++◌, [], ◌∷◌, if◌then◌else◌, is_some, length, map, IsTrue, None, vec_capacity};
+ghost use Rattle.std.specs.Bool.{OnFalse, OnTrue};
 ghost use Rattle.plain_heap.specs.PlainRun.{with_label};
 ghost use Rattle.plain_heap.specs.Sections.{makes_object};
 ghost use Rattle.plain_heap.specs.declared.operation.Op.TheVariants as ops;
 ghost use Rattle.play_report.specs.Report.{printed_of};
 ghost use Rattle.gc_script.specs.Shown.{execution_of};
-ghost use Rattle.warehouse.specs.Commands.{ComesTo, CommandEnds, CommandPlayed, DoesOne, IsNextOf, IsTurn, MayDo, is_other};
+ghost use Rattle.warehouse.specs.Commands.{DoesOne, IsAt, IsNextOf, IsTurn, MayDo, PlaysOne, StopsBefore, is_other};
 ghost use Rattle.warehouse.specs.Playing.{HasFree, IsPlaying};
 
 use crate::gate::Gate;
 use crate::mutator::Mutator;
-use crate::turn::{await_cell, await_turn, retire_some};
+use crate::turn::{await_cell, await_turn, retire_some, spend_none};
 use alloc_cache::Cache;
 use gc_cycle::{Safe, collect};
 use gc_script::{Command, Section};
@@ -55,25 +56,22 @@ fn make_object<'a>(
     mutator: &mut Mutator<'a>,
     section: &Section<'a>,
     command: &Command<'a>,
-    cache: Option<Cache>,
+    cache: &mut Option<Cache>,
     v: u8,
     n: u32,
-) -> Option<Cache>
+)
     requires op { (execution_of command.now).op ≡ ops.New v n }
-    requires playing { IsPlaying heap.now section.now cache mutator.old }
-    requires free { HasFree cache }
+    requires playing { IsPlaying heap.now section.now cache.old mutator.old }
+    requires free { HasFree cache.old }
     requires may { MayDo section.now (execution_of command.now) mutator.old }
-    ensures { DoesOne heap.now section.now result (execution_of command.now) mutator.old mutator.new }
+    ensures { DoesOne heap.now section.now cache.new (execution_of command.now) mutator.old mutator.new }
 {
-    let Some(mut cache) = cache else {
-        unreachable!()
-    };
-    match create(heap, &mut mutator.seat, &mut cache, v, n) {
+    let Some(cache) = cache else { unreachable!() };
+    match create(heap, &mut mutator.seat, cache, v, n) {
         Some(cell) => place(&mut mutator.places, cell.number()),
         None => unreachable!(),
     }
     mutator.count += 1;
-    Some(cache)
 }
 
 /// 1 where it is so, else 0.
@@ -83,68 +81,76 @@ fn one_if(so: bool) -> u32
     if so { 1 } else { 0 }
 }
 
-/// Does a command that neither makes an object nor collects.
+/// Does a command that neither makes an object nor collects. The cache stays as it is.
 fn do_other<'a>(
     heap: &Heap,
     mutator: &mut Mutator<'a>,
     section: &Section<'a>,
     command: &Command<'a>,
-    cache: Option<Cache>,
-) -> Option<Cache>
+    _cache: &Option<Cache>,
+)
     requires op { IsTrue (is_other (execution_of command.now).op) }
-    requires playing { IsPlaying heap.now section.now cache mutator.old }
+    requires playing { IsPlaying heap.now section.now _cache.now mutator.old }
     requires may { MayDo section.now (execution_of command.now) mutator.old }
-    ensures { DoesOne heap.now section.now result (execution_of command.now) mutator.old mutator.new }
+    ensures { DoesOne heap.now section.now _cache.now (execution_of command.now) mutator.old mutator.new }
 {
     let done = mutator_ops::command(heap, &mut mutator.seat, command.op);
     say(&mut mutator.said, command, done.line);
     mutator.dropped += one_if(done.dropped);
     mutator.count += 1;
-    cache
 }
 
-/// Collects, where the script says so.
+/// Collects, where the script says so. False where the heap is full.
 fn collect_now<'a, R: Wait>(
     rt: &R,
     heap: &Heap,
     mutator: &mut Mutator<'a>,
     section: &Section<'a>,
     command: &Command<'a>,
-    cache: Option<Cache>,
-) -> Safe
+    cache: &mut Option<Cache>,
+) -> bool
     requires op { (execution_of command.now).op ≡ ops.Collect }
-    requires playing { IsPlaying heap.now section.now cache mutator.old }
+    requires playing { IsPlaying heap.now section.now cache.old mutator.old }
     requires may { MayDo section.now (execution_of command.now) mutator.old }
-    ensures { CommandEnds result heap.now section.now (execution_of command.now) mutator.old mutator.new }
+    ensures does { OnTrue result (DoesOne heap.now section.now cache.new (execution_of command.now) mutator.old mutator.new) }
+    ensures stops { OnFalse result (StopsBefore heap.now section.now (execution_of command.now) mutator.old mutator.new × (cache.new ≡ None)) }
 {
-    retire_some(heap, &mut mutator.seat, cache);
+    retire_some(heap, &mut mutator.seat, cache.take());
     match collect(rt, heap, &mut mutator.seat, mutator.count) {
-        Safe::Full => Safe::Full,
+        Safe::Full => false,
         Safe::Going(kept) => {
+            spend_none(kept);
             mutator.count += 1;
-            Safe::Going(kept)
+            true
         }
     }
 }
 
-/// Does a command, of a mutator that is in its turn, and has a cell where the command makes an object.
+/// Does a command, of a mutator that is in its turn, and has a cell where the command makes an object. False where the heap is full.
 fn do_command<'a, R: Wait>(
     rt: &R,
     heap: &Heap,
     mutator: &mut Mutator<'a>,
     section: &Section<'a>,
     command: &Command<'a>,
-    cache: Option<Cache>,
-) -> Safe
-    requires playing { IsPlaying heap.now section.now cache mutator.old }
-    requires free { IsTrue (makes_object (execution_of command.now).op) → HasFree cache }
+    cache: &mut Option<Cache>,
+) -> bool
+    requires playing { IsPlaying heap.now section.now cache.old mutator.old }
+    requires free { IsTrue (makes_object (execution_of command.now).op) → HasFree cache.old }
     requires may { MayDo section.now (execution_of command.now) mutator.old }
-    ensures { CommandEnds result heap.now section.now (execution_of command.now) mutator.old mutator.new }
+    ensures does { OnTrue result (DoesOne heap.now section.now cache.new (execution_of command.now) mutator.old mutator.new) }
+    ensures stops { OnFalse result (StopsBefore heap.now section.now (execution_of command.now) mutator.old mutator.new × (cache.new ≡ None)) }
 {
     match command.op {
-        Op::New { v, n } => Safe::Going(make_object(heap, mutator, section, command, cache, v, n)),
+        Op::New { v, n } => {
+            make_object(heap, mutator, section, command, cache, v, n);
+            true
+        }
         Op::Collect => collect_now(rt, heap, mutator, section, command, cache),
-        _ => Safe::Going(do_other(heap, mutator, section, command, cache)),
+        _ => {
+            do_other(heap, mutator, section, command, cache);
+            true
+        }
     }
 }
 
@@ -158,20 +164,21 @@ fn makes(op: Op) -> bool
     }
 }
 
-/// Comes to the command: a safe point in the turn, with a cell where the command makes an object.
+/// Comes to the command: a safe point in the turn, with a cell where the command makes an object. False where the heap is full.
 fn come_to<'a, R: Wait>(
     rt: &R,
     heap: &Heap,
     mutator: &mut Mutator<'a>,
     section: &Section<'a>,
     command: &Command<'a>,
-    cache: Option<Cache>,
+    cache: &mut Option<Cache>,
     turn: u64,
-) -> Safe
-    requires playing { IsPlaying heap.now section.now cache mutator.old }
+) -> bool
+    requires playing { IsPlaying heap.now section.now cache.old mutator.old }
     requires turn { IsTurn section.now turn mutator.old }
     requires left { IsNextOf section.now turn (execution_of command.now) mutator.old }
-    ensures { ComesTo result heap.now section.now turn (execution_of command.now) mutator.old mutator.new }
+    ensures at { OnTrue result (IsAt heap.now section.now turn cache.new (execution_of command.now) mutator.old mutator.new) }
+    ensures stops { OnFalse result (StopsBefore heap.now section.now (execution_of command.now) mutator.old mutator.new × (cache.new ≡ None)) }
 {
     if makes(command.op) {
         await_cell(rt, heap, &mut mutator.seat, cache, turn, mutator.count)
@@ -180,27 +187,26 @@ fn come_to<'a, R: Wait>(
     }
 }
 
-/// Plays a command: comes to it, tells the gate, and does it.
+/// Plays a command: comes to it, tells the gate, and does it. False where the heap is full, and then no cache is left.
 pub(crate) fn play_command<'a, R: Wait, G: Gate>(
     rt: &R,
     heap: &Heap,
     mutator: &mut Mutator<'a>,
     section: &Section<'a>,
     command: &Command<'a>,
-    cache: Option<Cache>,
+    cache: &mut Option<Cache>,
     turn: u64,
     gate: &G,
-) -> Safe
-    requires playing { IsPlaying heap.now section.now cache mutator.old }
+) -> bool
+    requires playing { IsPlaying heap.now section.now cache.old mutator.old }
     requires turn { IsTurn section.now turn mutator.old }
     requires left { IsNextOf section.now turn (execution_of command.now) mutator.old }
-    ensures { CommandPlayed result heap.now section.now turn (execution_of command.now) mutator.old mutator.new }
+    ensures plays { OnTrue result (PlaysOne heap.now section.now turn cache.new (execution_of command.now) mutator.old mutator.new) }
+    ensures stops { OnFalse result (StopsBefore heap.now section.now (execution_of command.now) mutator.old mutator.new × (cache.new ≡ None)) }
 {
-    match come_to(rt, heap, mutator, section, command, cache, turn) {
-        Safe::Full => Safe::Full,
-        Safe::Going(kept) => {
-            gate.pass(&mutator.seat, section, u64::from(mutator.count));
-            do_command(rt, heap, mutator, section, command, kept)
-        }
+    if !come_to(rt, heap, mutator, section, command, cache, turn) {
+        return false;
     }
+    gate.pass(&mutator.seat, section, u64::from(mutator.count));
+    do_command(rt, heap, mutator, section, command, cache)
 }

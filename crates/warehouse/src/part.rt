@@ -10,7 +10,7 @@ ghost use Rattle.warehouse.specs.Playing.{IsPart, IsPlaying, MayPlay, part_at};
 use crate::commands::play_command;
 use crate::gate::Gate;
 use crate::mutator::Mutator;
-use crate::turn::retire_some;
+use crate::turn::{retire_some, spend_none};
 use alloc_cache::Cache;
 use gc_cycle::{Safe, go_in, go_out};
 use gc_script::Section;
@@ -45,9 +45,9 @@ fn play_commands<'a, R: Wait, G: Gate>(
     let turn = turn_of(section.number(), season);
     let mut cache: Option<Cache> = None;
     for command in section.commands_of(season) {
-        match play_command(rt, heap, mutator, section, &command, cache, turn, gate) {
-            Safe::Full => return Safe::Full,
-            Safe::Going(kept) => cache = kept,
+        if !play_command(rt, heap, mutator, section, &command, &mut cache, turn, gate) {
+            spend_none(cache);
+            return Safe::Full;
         }
     }
     Safe::Going(cache)

@@ -1,19 +1,19 @@
 //! A mutator comes into its turn, with a cache where it needs one.
-ghost use Rattle.std.specs.Prelude.{◌≡◌, Some, None, IsTrue, IsFalse};
+ghost use Rattle.std.specs.Prelude.{◌≡◌, Some, None, IsTrue};
+ghost use Rattle.std.specs.Bool.{OnFalse, OnTrue};
 ghost use Rattle.mark_core.specs.Seats.{has_turn};
 ghost use Rattle.gc_table.specs.Log.{Only, events};
 ghost use Rattle.gc_table.specs.Running.{Ran};
 ghost use Rattle.gc_table.specs.Seats.{Sits, view_of};
 ghost use Rattle.gc_cycle.specs.Answering.{HasCache};
-ghost use Rattle.warehouse.specs.Playing.{HasFree, IsCounted, LooksAtSeason, ReadiesTo, Stays, Waits};
+ghost use Rattle.warehouse.specs.Playing.{FindsFull, GetsReady, HasFree, IsCounted, LooksAtSeason, Stays, Waits};
 ghost use Rattle.gc_cycle.specs.Events.{never};
 ghost use Rattle.gc_cycle.specs.Sorts.{raises_flag};
 ghost use Rattle.gc_cycle.specs.Sparing.{spares_part};
 ghost use Rattle.gc_cycle.specs.Standing.{Mutates};
-ghost use Rattle.gc_cycle.specs.declared.counts.Safe.TheVariants as safes;
 
 use alloc_cache::{Cache, retire};
-use gc_cycle::{Refill, Safe, go_in, go_out, refill, safe_point};
+use gc_cycle::{Refill, go_in, go_out, pass_safe_point, refill};
 use gc_table::{Heap, HeapSeat};
 use std::sync::Wait;
 
@@ -33,7 +33,18 @@ pub(crate) fn retire_some(heap: &Heap, seat: &mut HeapSeat, cache: Option<Cache>
     }
 }
 
+/// There is no cache to give up.
+pub(crate) fn spend_none(cache: Option<Cache>)
+    requires { cache ≡ None }
+{
+    match cache {
+        None => (),
+        Some(_cache) => unreachable!(),
+    }
+}
+
 /// Whether the season is this turn. It is read only where the seat doesn't know it any more: it moves on in a stop alone, and then the seat is outside.
+#[inline(always)]
 fn is_turn(heap: &Heap, seat: &mut HeapSeat, turn: u64) -> bool
     requires seat { Sits heap.now seat.old × Mutates (view_of seat.old) }
     ensures seat { Sits heap.now seat.new }
@@ -47,49 +58,50 @@ fn is_turn(heap: &Heap, seat: &mut HeapSeat, turn: u64) -> bool
 }
 
 /// Leaves, and enters again.
-fn go_round<R: Wait>(rt: &R, heap: &Heap, seat: &mut HeapSeat, cache: Option<Cache>, done: u32)
+#[cold]
+#[inline(never)]
+fn go_round<R: Wait>(rt: &R, heap: &Heap, seat: &mut HeapSeat, cache: &mut Option<Cache>, done: u32)
     requires seat { Sits heap.now seat.old × Mutates (view_of seat.old) }
-    requires cache { HasCache cache (view_of seat.old) }
+    requires cache { HasCache cache.old (view_of seat.old) }
     ensures seat { Sits heap.now seat.new × Mutates (view_of seat.new) }
     ensures cache { (view_of seat.new).state.cache ≡ None }
+    ensures none { cache.new ≡ None }
     ensures stays { Stays (view_of seat.old) (view_of seat.new) }
     ensures acts { Waits (view_of seat.old) (view_of seat.new) }
 {
-    retire_some(heap, seat, cache);
+    retire_some(heap, seat, cache.take());
     go_out(heap, seat, done);
     go_in(rt, heap, seat);
 }
 
 /// A safe point, and the season after it: in a stop the seat was outside, and what it had read of the season is no longer known. Where it isn't this turn
-/// the seat goes out and in until it is.
+/// the seat goes out and in until it is. True where it is; else the heap is full, and the cache is given up.
+#[inline(always)]
 pub(crate) fn await_turn<R: Wait>(
     rt: &R,
     heap: &Heap,
     seat: &mut HeapSeat,
-    cache: Option<Cache>,
+    cache: &mut Option<Cache>,
     turn: u64,
     done: u32,
-) -> Safe
+) -> bool
     requires seat { Sits heap.now seat.old × Mutates (view_of seat.old) }
-    requires cache { HasCache cache (view_of seat.old) }
+    requires cache { HasCache cache.old (view_of seat.old) }
     requires counted { IsCounted (view_of seat.old) }
     requires turn { IsTrue (has_turn (view_of seat.old).state.section (Some turn)) }
     ensures seat { Sits heap.now seat.new }
-    ensures readies { ReadiesTo result turn done (view_of seat.old) (view_of seat.new) }
+    ensures ready { OnTrue result (GetsReady turn cache.new (view_of seat.old) (view_of seat.new)) }
+    ensures full { OnFalse result (FindsFull done (view_of seat.old) (view_of seat.new) × (cache.new ≡ None)) }
     ensures unfilled { (view_of seat.new).own.full ≡ (view_of seat.old).own.full }
 {
-    let mut cache = cache;
     for _ in rt.forever() {
-        match safe_point(rt, heap, seat, cache, done) {
-            Safe::Full => return Safe::Full,
-            Safe::Going(kept) => {
-                if is_turn(heap, seat, turn) {
-                    return Safe::Going(kept);
-                }
-                go_round(rt, heap, seat, kept, done);
-                cache = None;
-            }
+        if !pass_safe_point(rt, heap, seat, cache, done) {
+            return false;
         }
+        if is_turn(heap, seat, turn) {
+            return true;
+        }
+        go_round(rt, heap, seat, cache, done);
     }
     unreachable!()
 }
@@ -104,37 +116,42 @@ fn has_free(cache: &Option<Cache>) -> bool
     }
 }
 
+/// Keeps a cache where there was none.
+fn keep(place: &mut Option<Cache>, cache: Cache)
+    requires { place.old ≡ None }
+    ensures { place.new ≡ Some cache }
+{
+    spend_none(place.replace(cache));
+}
+
 /// The same, with a cell to make an object in.
 pub(crate) fn await_cell<R: Wait>(
     rt: &R,
     heap: &Heap,
     seat: &mut HeapSeat,
-    cache: Option<Cache>,
+    cache: &mut Option<Cache>,
     turn: u64,
     done: u32,
-) -> Safe
+) -> bool
     requires seat { Sits heap.now seat.old × Mutates (view_of seat.old) }
-    requires cache { HasCache cache (view_of seat.old) }
+    requires cache { HasCache cache.old (view_of seat.old) }
     requires counted { IsCounted (view_of seat.old) }
     requires turn { IsTrue (has_turn (view_of seat.old).state.section (Some turn)) }
     ensures seat { Sits heap.now seat.new }
-    ensures readies { ReadiesTo result turn done (view_of seat.old) (view_of seat.new) }
-    ensures free { (kept : _) → result ≡ safes.Going kept → HasFree kept }
+    ensures ready { OnTrue result (GetsReady turn cache.new (view_of seat.old) (view_of seat.new) × HasFree cache.new) }
+    ensures full { OnFalse result (FindsFull done (view_of seat.old) (view_of seat.new) × (cache.new ≡ None)) }
 {
-    let mut cache = cache;
     for _ in rt.forever() {
-        match await_turn(rt, heap, seat, cache, turn, done) {
-            Safe::Full => return Safe::Full,
-            Safe::Going(kept) => {
-                if has_free(&kept) {
-                    return Safe::Going(kept);
-                }
-                retire_some(heap, seat, kept);
-                match refill(rt, heap, seat, done) {
-                    Refill::Full => return Safe::Full,
-                    Refill::Cache(next, _) => cache = Some(next),
-                }
-            }
+        if !await_turn(rt, heap, seat, cache, turn, done) {
+            return false;
+        }
+        if has_free(cache) {
+            return true;
+        }
+        retire_some(heap, seat, cache.take());
+        match refill(rt, heap, seat, done) {
+            Refill::Full => return false,
+            Refill::Cache(next, _) => keep(cache, next),
         }
     }
     unreachable!()

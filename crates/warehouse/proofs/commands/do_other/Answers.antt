@@ -44,7 +44,7 @@ returns c =
           record {
             sits = c.command-done.ensures.seat.0;
             mutates = mutates-other e.op _ v w k c.requires.playing.mutates;
-            cached = has-cache c.args.cache v w (ap (λ (s : SeatState). s.cache) k.state) c.requires.playing.cached;
+            cached = has-cache c.args._cache.now v w (ap (λ (s : SeatState). s.cache) k.state) c.requires.playing.cached;
             counted = c.command-done.ensures.seat.1.counted;
           };
       does =

@@ -14,12 +14,15 @@ play_command-requires-clause-left g c =
     next-of c.args.heap.now c.args.section.now c.args.season c.turn_of-turn.result c.loop-command.cache (execution_of c.in-Some.command) c.loop-command.command-iterator c.next.new.self c.args.mutator.now c.loop-command.mutator
     c.in-Some.ensures.steps c.loop-command.invariant c.commands_of-command-items.ensures.range c.requires.before
 
-pub returns-in-Full : goal.returns-in-Full
-returns-in-Full g c =
+pub spend_none-requires : goal.spend_none-requires
+spend_none-requires g c = c.if-not-play_command.ensures.stops.1
+
+pub returns-then-not-play_command : goal.returns-then-not-play_command
+returns-then-not-play_command g c =
     stops-within c.args.heap.now c.args.section.now c.args.season c.turn_of-turn.result c.loop-command.cache (execution_of c.in-Some.command) c.loop-command.command-iterator c.next.new.self c.args.mutator.now c.loop-command.mutator
-    c.in-Some.ensures.steps c.loop-command.invariant c.play_command.new.mutator c.in-Full.ensures
+    c.in-Some.ensures.steps c.loop-command.invariant c.play_command.new.mutator c.if-not-play_command.ensures.stops.0
 
 pub loop-command-preserved : goal.loop-command-preserved
 loop-command-preserved g c =
     so-far-next c.args.heap.now c.args.section.now c.args.season c.turn_of-turn.result c.loop-command.cache (execution_of c.in-Some.command) c.loop-command.command-iterator c.next.new.self c.args.mutator.now c.loop-command.mutator
-    c.in-Some.ensures.steps c.loop-command.invariant c.in-Going.kept c.play_command.new.mutator c.requires.before.season c.in-Going.ensures
+    c.in-Some.ensures.steps c.loop-command.invariant c.play_command.new.cache c.play_command.new.mutator c.requires.before.season c.if-not-play_command.ensures.plays

@@ -1,7 +1,5 @@
-use Rattle.std.proofs.Common.{◌≡◌, ◌∙◌, sym, ap, subst, true, false, Bool}
-use Rattle.std.specs.Prelude.{Option, None, Some}
-use Rattle.std.proofs.lemmas.Bool.{false≢true}
-use Rattle.alloc_cache.specs.declared.cache.Cache.{Cache}
+use Rattle.std.proofs.Common.{◌≡◌, ◌∙◌, sym, ap, subst, true}
+use Rattle.std.specs.Prelude.{Some}
 use Rattle.gc_table.specs.Log.{events}
 use Rattle.gc_table.specs.Seats.{view_of}
 use Rattle.gc_table.specs.declared.view.View.{View}
@@ -9,32 +7,13 @@ use Rattle.gc_table.proofs.Running.{ran-section}
 use Rattle.mark_core.specs.Seats.{has_turn}
 use Rattle.mark_core.specs.declared.kinds.Shape.{Shape}
 use Rattle.gc_cycle.specs.Stops.{stops_with_cause}
-use Rattle.warehouse.specs.Playing.{HasFree}
-use Rattle.gc_cycle.specs.declared.counts.Safe.{Safe}
-use Rattle.gc_cycle.specs.declared.counts.Safe.TheVariants as safes
+use Rattle.gc_cycle.specs.Answering.{HasCache}
 use Rattle.warehouse.proofs.Acting.{waits-join, waits-ran}
 use Rattle.warehouse.proofs.Causes.{waits-caused}
 use Rattle.warehouse.proofs.Fulls.{counted-kept, finds-after, finds-later}
 use Rattle.warehouse.proofs.Readying.{ready-after, ready-waits}
 use Rattle.warehouse.proofs.Sparings.{stays-join, stays-none, stays-spared, waits-calm, waits-none}
 use Rattle.warehouse.proofs.turn.await_cell.Goals as goal
-
-kept_of : Safe → Option Cache
-kept_of (safes.Going kept) = kept
-kept_of safes.Full = None
-
-goes : Safe → Bool
-goes (safes.Going kept) = true
-goes safes.Full = false
-
--- the answer has this cache
-of_kept : (a b : Option Cache) → safes.Going a ≡ safes.Going b → HasFree a → HasFree b
-unfolding kept_of
-of_kept a b e h = subst HasFree (ap kept_of e) h
-
-no_kept : (b : Option Cache) → safes.Full ≡ safes.Going b → HasFree b
-unfolding goes
-no_kept b e = absurd (false≢true (ap goes e))
 
 pub loop-init : goal.loop-init
 loop-init g c =
@@ -59,27 +38,27 @@ await_turn-requires-clause-turn g c =
     let v : View = view_of c.loop.seat in
     ap (λ o. has_turn o (Some c.args.turn)) (ran-section u v (waits-ran u v c.loop.invariant.waits)) ∙ c.requires.turn
 
-pub returns-in-Full-clause-readies : goal.returns-in-Full-clause-readies
-returns-in-Full-clause-readies g c =
+pub returns-then-not-await_turn-clause-full : goal.returns-then-not-await_turn-clause-full
+returns-then-not-await_turn-clause-full g c =
     let i = c.loop.invariant in
-    finds-later c.args.done (view_of c.args.seat.now) (view_of c.loop.seat) (view_of c.await_turn.new.seat) i.stays i.waits c.in-Full.ensures.readies
+    let full = c.if-not-await_turn.ensures.full in
+    (finds-later c.args.done (view_of c.args.seat.now) (view_of c.loop.seat) (view_of c.await_turn.new.seat) i.stays i.waits full.0, full.1)
 
-pub returns-in-Full-clause-free : goal.returns-in-Full-clause-free
-returns-in-Full-clause-free g c = λ kept e. no_kept kept e
-
-pub returns-then-has_free-clause-readies : goal.returns-then-has_free-clause-readies
-returns-then-has_free-clause-readies g c =
-    let i = c.loop.invariant in
-    ready-after c.args.turn c.in-Going.kept (view_of c.args.seat.now) (view_of c.loop.seat) (view_of c.await_turn.new.seat) i.stays i.waits c.in-Going.ensures.readies
-
-pub returns-then-has_free-clause-free : goal.returns-then-has_free-clause-free
-returns-then-has_free-clause-free g c = λ kept e. of_kept c.in-Going.kept kept e (c.has_free.ensures c.if-has_free.true)
+pub returns-then-has_free-clause-ready : goal.returns-then-has_free-clause-ready
+returns-then-has_free-clause-ready g c =
+    let i = c.loop.invariant in (
+      ready-after c.args.turn c.await_turn.new.cache (view_of c.args.seat.now) (view_of c.loop.seat) (view_of c.await_turn.new.seat) i.stays i.waits c.if-not-await_turn.ensures.ready,
+      c.has_free.ensures c.if-has_free.true,
+    )
 
 pub retire_some-requires-clause-seat : goal.retire_some-requires-clause-seat
-retire_some-requires-clause-seat g c = (c.await_turn.ensures.seat, c.in-Going.ensures.readies.mutates)
+retire_some-requires-clause-seat g c = (c.await_turn.ensures.seat, c.if-not-await_turn.ensures.ready.mutates)
 
 pub retire_some-requires-clause-cache : goal.retire_some-requires-clause-cache
-retire_some-requires-clause-cache g c = c.in-Going.ensures.readies.cached
+retire_some-requires-clause-cache g c = subst (λ o. HasCache o (view_of c.await_turn.new.seat)) (sym c.take.ensures.value) c.if-not-await_turn.ensures.ready.cached
+
+pub keep-requires : goal.keep-requires
+keep-requires g c = c.take.ensures.after
 
 pub loop-preserved : goal.loop-preserved
 loop-preserved g c =
@@ -89,7 +68,7 @@ loop-preserved g c =
     let x : View = view_of c.retire_some.new.seat in
     let y : View = view_of c.refill.new.seat in
     let i = c.loop.invariant in
-    let k = c.in-Going.ensures.readies in
+    let k = c.if-not-await_turn.ensures.ready in
     let r = c.retire_some.ensures in
     let f = c.refill.ensures in
     let cause = subst (λ (sh : Shape). stops_with_cause sh (events x y) ≡ true) (sym r.seat.0.1) f.stops in
@@ -98,26 +77,25 @@ loop-preserved g c =
       finite = tt;
       sits = f.seat;
       mutates = c.in-Cache.ensures.refills.goes_on.mutates;
-      cached = c.in-Cache.ensures.refills.cached;
+      cached = subst (λ o. HasCache o y) (sym c.keep.ensures) c.in-Cache.ensures.refills.cached;
       stays = stays-join u v y i.stays (stays-join v w y k.stays (stays-join w x y r.stays (stays-spared x y f.ran c.in-Cache.ensures.spares f.keeps.0)));
-      waits = waits-join u v y i.waits (waits-join v w y (ready-waits c.args.turn c.in-Going.kept v w k) (waits-join w x y (waits-calm w x r.ran r.spares r.calm) (waits-caused x y f.ran f.only cause)));
+      waits = waits-join u v y i.waits (waits-join v w y (ready-waits c.args.turn c.await_turn.new.cache v w k) (waits-join w x y (waits-calm w x r.ran r.spares r.calm) (waits-caused x y f.ran f.only cause)));
     }
 
-pub returns-in-Full-refill-clause-readies : goal.returns-in-Full-refill-clause-readies
-returns-in-Full-refill-clause-readies g c =
+pub returns-in-Full-clause-full : goal.returns-in-Full-clause-full
+returns-in-Full-clause-full g c =
     let u : View = view_of c.args.seat.now in
     let v : View = view_of c.loop.seat in
     let w : View = view_of c.await_turn.new.seat in
     let x : View = view_of c.retire_some.new.seat in
     let y : View = view_of c.refill.new.seat in
     let i = c.loop.invariant in
-    let k = c.in-Going.ensures.readies in
+    let k = c.if-not-await_turn.ensures.ready in
     let r = c.retire_some.ensures in
     let f = c.refill.ensures in
-    let cause = subst (λ (sh : Shape). stops_with_cause sh (events x y) ≡ true) (sym r.seat.0.1) f.stops in
-    finds-after c.args.done u x y (stays-join u v x i.stays (stays-join v w x k.stays r.stays))
-    (waits-join u v x i.waits (waits-join v w x (ready-waits c.args.turn c.in-Going.kept v w k) (waits-calm w x r.ran r.spares r.calm))) f.keeps.0 f.keeps.1 (waits-caused x y f.ran f.only cause)
-    c.in-Full-refill.ensures.refills c.in-Full-refill.ensures.spares
-
-pub returns-in-Full-refill-clause-free : goal.returns-in-Full-refill-clause-free
-returns-in-Full-refill-clause-free g c = λ kept e. no_kept kept e
+    let cause = subst (λ (sh : Shape). stops_with_cause sh (events x y) ≡ true) (sym r.seat.0.1) f.stops in (
+      finds-after c.args.done u x y (stays-join u v x i.stays (stays-join v w x k.stays r.stays))
+          (waits-join u v x i.waits (waits-join v w x (ready-waits c.args.turn c.await_turn.new.cache v w k) (waits-calm w x r.ran r.spares r.calm))) f.keeps.0 f.keeps.1 (waits-caused x y f.ran f.only cause)
+          c.in-Full.ensures.refills c.in-Full.ensures.spares,
+      c.take.ensures.after,
+    )

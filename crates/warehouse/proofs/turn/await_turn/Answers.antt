@@ -1,5 +1,6 @@
-use Rattle.std.proofs.Common.{◌∙◌, ap}
+use Rattle.std.proofs.Common.{◌∙◌, ap, subst, sym}
 use Rattle.gc_table.specs.Seats.{view_of}
+use Rattle.gc_cycle.specs.Answering.{HasCache}
 use Rattle.gc_table.specs.declared.view.View.{View}
 use Rattle.gc_table.proofs.Running.{ran-section}
 use Rattle.mark_core.specs.Seats.{has_turn}
@@ -22,29 +23,30 @@ loop-init g c =
       waits = waits-none (view_of c.args.seat.now);
     }
 
-pub returns-in-Full-clause-readies : goal.returns-in-Full-clause-readies
-returns-in-Full-clause-readies g c =
+pub returns-then-not-pass_safe_point-clause-full : goal.returns-then-not-pass_safe_point-clause-full
+returns-then-not-pass_safe_point-clause-full g c =
     let u : View = view_of c.args.seat.now in
     let v : View = view_of c.loop.seat in
-    let w : View = view_of c.safe_point.new.seat in
+    let w : View = view_of c.pass_safe_point.new.seat in
     let i = c.loop.invariant in
-    let s = c.safe_point.ensures in
-    finds-after c.args.done u v w i.stays i.waits s.keeps.0 s.keeps.1 (waits-calm v w s.ran s.spares s.calm) c.in-Full.ensures.safe c.in-Full.ensures.known
+    let s = c.pass_safe_point.ensures in
+    let full = c.if-not-pass_safe_point.ensures.full in
+    (finds-after c.args.done u v w i.stays i.waits s.keeps.0 s.keeps.1 (waits-calm v w s.ran s.spares s.calm) full.0 full.1, full.2)
 
-pub returns-in-Full-clause-unfilled : goal.returns-in-Full-clause-unfilled
-returns-in-Full-clause-unfilled g c =
-    let s = c.safe_point.ensures in
-    (stays-spared (view_of c.loop.seat) (view_of c.safe_point.new.seat) s.ran s.spares s.keeps.0).still.full ∙ c.loop.invariant.stays.still.full
+pub returns-then-not-pass_safe_point-clause-unfilled : goal.returns-then-not-pass_safe_point-clause-unfilled
+returns-then-not-pass_safe_point-clause-unfilled g c =
+    let s = c.pass_safe_point.ensures in
+    (stays-spared (view_of c.loop.seat) (view_of c.pass_safe_point.new.seat) s.ran s.spares s.keeps.0).still.full ∙ c.loop.invariant.stays.still.full
 
 pub loop-preserved : goal.loop-preserved
 loop-preserved g c =
     let u : View = view_of c.args.seat.now in
     let v : View = view_of c.loop.seat in
-    let w : View = view_of c.safe_point.new.seat in
+    let w : View = view_of c.pass_safe_point.new.seat in
     let x : View = view_of c.is_turn.new.seat in
     let y : View = view_of c.go_round.new.seat in
     let i = c.loop.invariant in
-    let s = c.safe_point.ensures in
+    let s = c.pass_safe_point.ensures in
     let looks = c.is_turn.ensures.looks in
     let gone = c.go_round.ensures in
     record {
@@ -52,35 +54,35 @@ loop-preserved g c =
       finite = tt;
       sits = gone.seat.0;
       mutates = gone.seat.1;
-      cached = gone.cache;
+      cached = subst (λ o. HasCache o y) (sym gone.none) gone.cache;
       stays = stays-join u v y i.stays (stays-join v w y (stays-spared v w s.ran s.spares s.keeps.0) (stays-join w x y (looks-stays w x looks) gone.stays));
       waits = waits-join u v y i.waits (waits-join v w y (waits-calm v w s.ran s.spares s.calm) (waits-join w x y (looks-waits w x looks) gone.acts));
     }
 
-pub returns-then-is_turn-clause-readies : goal.returns-then-is_turn-clause-readies
-returns-then-is_turn-clause-readies g c =
+pub returns-then-is_turn-clause-ready : goal.returns-then-is_turn-clause-ready
+returns-then-is_turn-clause-ready g c =
     let u : View = view_of c.args.seat.now in
     let v : View = view_of c.loop.seat in
-    let w : View = view_of c.safe_point.new.seat in
+    let w : View = view_of c.pass_safe_point.new.seat in
     let x : View = view_of c.is_turn.new.seat in
     let i = c.loop.invariant in
-    let s = c.safe_point.ensures in
-    let k = c.in-Going.ensures.safe in
+    let s = c.pass_safe_point.ensures in
+    let k = c.if-not-pass_safe_point.ensures.going in
     let looks = c.is_turn.ensures.looks in
-    ready-after c.args.turn c.in-Going.kept u v x i.stays i.waits
-    (reads-ready c.args.turn c.in-Going.kept v w x s.ran s.spares s.calm s.keeps.0 s.polled k.goes_on k.cached
+    ready-after c.args.turn c.pass_safe_point.new.cache u v x i.stays i.waits
+    (reads-ready c.args.turn c.pass_safe_point.new.cache v w x s.ran s.spares s.calm s.keeps.0 s.polled k.goes_on k.cached
     (counted-kept u v i.stays.still.heap i.stays.made c.requires.counted) (ap (λ o. has_turn o (Some c.args.turn)) (ran-section u v (waits-ran u v i.waits)) ∙ c.requires.turn) looks
     (c.is_turn.ensures.turn c.if-is_turn.true))
 
 pub returns-then-is_turn-clause-unfilled : goal.returns-then-is_turn-clause-unfilled
 returns-then-is_turn-clause-unfilled g c =
     let v : View = view_of c.loop.seat in
-    let w : View = view_of c.safe_point.new.seat in
+    let w : View = view_of c.pass_safe_point.new.seat in
     let x : View = view_of c.is_turn.new.seat in
-    let s = c.safe_point.ensures in
+    let s = c.pass_safe_point.ensures in
     let looks = c.is_turn.ensures.looks in
     (looks-stays w x looks).still.full ∙ ((stays-spared v w s.ran s.spares s.keeps.0).still.full ∙ c.loop.invariant.stays.still.full)
 
 pub go_round-requires-clause-cache : goal.go_round-requires-clause-cache
 go_round-requires-clause-cache g c =
-    looks-cache (view_of c.safe_point.new.seat) (view_of c.is_turn.new.seat) c.is_turn.ensures.looks c.in-Going.kept c.in-Going.ensures.safe.cached
+    looks-cache (view_of c.pass_safe_point.new.seat) (view_of c.is_turn.new.seat) c.is_turn.ensures.looks c.pass_safe_point.new.cache c.if-not-pass_safe_point.ensures.going.cached

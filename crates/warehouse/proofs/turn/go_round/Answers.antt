@@ -1,9 +1,13 @@
-use Rattle.std.proofs.Common.{◌∙◌, ap}
+use Rattle.std.proofs.Common.{◌∙◌, ap, subst, sym}
 use Rattle.std.specs.Prelude.{is_some}
 use Rattle.gc_table.specs.Seats.{view_of}
+use Rattle.gc_cycle.specs.Answering.{HasCache}
 use Rattle.warehouse.proofs.turn.go_round.Goals as goal
 use Rattle.warehouse.proofs.Acting.{waits-join}
 use Rattle.warehouse.proofs.Sparings.{stays-join, stays-spared, waits-calm}
+
+pub retire_some-requires-clause-cache : goal.retire_some-requires-clause-cache
+retire_some-requires-clause-cache g c = subst (λ o. HasCache o (view_of c.args.seat.now)) (sym c.take.ensures.value) c.requires.cache
 
 pub go_in-requires-clause-section : goal.go_in-requires-clause-section
 go_in-requires-clause-section g c = ap (λ o. is_some o) (c.go_out.ensures.out.seat.section) ∙ c.retire_some.ensures.seat.1.section
