@@ -8,7 +8,7 @@ use Rattle.plain_heap.specs.Paths.{Name, Survivor}
 use Rattle.heap_dump.specs.Final.{Heap, blank}
 use Rattle.dump_census.specs.Levels.{HasPath, IsLevel, AreLevels}
 use Rattle.dump_census.specs.Rounds.{is_unknown}
-use Rattle.dump_census.specs.Counted.{Counts, level_counts, IsCensus}
+use Rattle.dump_census.specs.Counted.{Counts, IsCensus}
 use Rattle.dump_census.specs.Surviving.{survivor_of, name_at, TellsSurvivors}
 use Rattle.dump_census.proofs.Found.{Found, at, one_more}
 
@@ -63,12 +63,7 @@ one_level h k None (Some n) p q = absurd (p n q.0)
 one_level h k (Some m) None p q = absurd (q m p.0)
 one_level h k (Some m) (Some n) p q = let e : m ≡ n = omega (arith, p.1 n q.0, q.1 m p.0) in ap Some e
 
-levels_fixed : (h : Heap) (a b : Found) → AreLevels h a → AreLevels h b → a ≡ b
+pub levels_fixed : (h : Heap) (a b : Found) → AreLevels h a → AreLevels h b → a ≡ b
 levels_fixed h a b p q = ext_get_or None a b (p.0 ∙ sym q.0) (λ k lt.
     let small : k < length h.records = omega (arith, p.0) in
     one_level h k (at a k) (at b k) (p.1 k small) (q.1 k small))
-
-pub one_census : (h : Heap) (c d : Counts) → IsCensus h c → IsCensus h d → (c.levels ≡ d.levels) × (c.unreached ≡ d.unreached) × (c.sections ≡ d.sections)
-one_census h c d p q =
-    let same = levels_fixed h p.of q.of p.leveled q.leveled in
-    (p.levels ∙ ap level_counts same ∙ sym q.levels, p.unreached ∙ ap (count_by is_unknown) same ∙ sym q.unreached, p.sections ∙ sym q.sections)

@@ -52,7 +52,7 @@ rises_far vs rising i (suc d) lt =
     let last = rising (i + suc d) (omega arith) in
     subst (λ j. (value_at vs i).value < (value_at vs j).value) e (omega (arith, near, last))
 
-rises_to : (vs : List ValueCount) → ((i : ℕ) → suc i < length vs → (value_at vs i).value < (value_at vs (suc i)).value) → (i j : ℕ) → i < j → j < length vs
+pub rises_to : (vs : List ValueCount) → ((i : ℕ) → suc i < length vs → (value_at vs i).value < (value_at vs (suc i)).value) → (i j : ℕ) → i < j → j < length vs
     → (value_at vs i).value < (value_at vs j).value
 rises_to vs rising i j lt small =
     let e : i + suc (j - suc i) ≡ j = omega arith in

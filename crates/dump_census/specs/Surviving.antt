@@ -24,6 +24,6 @@ pub record TellsSurvivors (heaps : List Plain) (h : Heap) : Type 0 where
 abbrev pub SurvivorsAreReached : Type 0
 SurvivorsAreReached = (heaps : List Plain) (h : Heap) (c : Counts) → TellsSurvivors heaps h → IsCensus h c → c.unreached ≡ 0
 
--- a dump has one number of records of each level, and one without a level
-abbrev pub LevelsAreFixed : Type 0
-LevelsAreFixed = (h : Heap) (c d : Counts) → IsCensus h c → IsCensus h d → (c.levels ≡ d.levels) × (c.unreached ≡ d.unreached) × (c.sections ≡ d.sections)
+-- a dump has one census
+abbrev pub OneCensus : Type 0
+OneCensus = (h : Heap) (c d : Counts) → IsCensus h c → IsCensus h d → c ≡ d

@@ -37,5 +37,5 @@ mod values;
 
 pub use counting::census;
 pub use counts::{Census, SectionCount, ValueCount};
-pub use laws::{levels_are_fixed, survivors_are_reached};
+pub use laws::{one_census, survivors_are_reached};
 pub use text::write_census;

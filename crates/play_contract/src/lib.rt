@@ -16,10 +16,15 @@
 //!         -> Result<Report<'a>, PlayError>
 //!         requires { AreInRange options.now }
 //!         ensures { PlayAnswers result script.now.sections options.now.cells }
+//!
+//! Two plays of one script answer the same but for places, whatever their cells and threads: [`one_report`] says so of reports, [`one_text`]
+//! of what is written.
 #![tactic(auto)]
 
 mod error;
+mod laws;
 mod options;
 
 pub use error::PlayError;
+pub use laws::{one_load_text, one_report, one_text, survivors_exist};
 pub use options::{Options, USUAL};

@@ -22,7 +22,7 @@ use Rattle.play_end.specs.Ended.{IsHeapOf, IsStateOf, DidAll}
 use Rattle.play_end.proofs.EndClosed.{some-seat}
 use Rattle.play_end.proofs.EndHeaps.{meaning-within, meaning-alike}
 use Rattle.play_end.proofs.EndListed.{the_words}
-use Rattle.play_end.proofs.SectionLists.{map-at}
+use Rattle.play_contract.proofs.SectionLists.{map-at}
 
 -- how many commands each section does
 abbrev pub ends : Sections → List ℕ

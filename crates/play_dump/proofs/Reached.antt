@@ -30,14 +30,15 @@ use Rattle.play_end.specs.Ended.{IsStateOf, IsUsed, ArePlaces}
 use Rattle.play_end.proofs.EndClosed.{some-seat}
 use Rattle.play_end.proofs.EndFilled.{halves}
 use Rattle.play_end.proofs.EndHeaps.{reached-run, reached-stand}
-use Rattle.play_end.proofs.EndListed.{the_words, map-from, map-to}
+use Rattle.play_contract.proofs.Members.{map-from, map-to}
+use Rattle.play_end.proofs.EndListed.{the_words}
 use Rattle.play_end.proofs.EndPlaced.{last-done, lies-in}
-use Rattle.play_end.proofs.SectionLists.{got, contains_got}
+use Rattle.play_contract.proofs.SectionLists.{got, contains_got}
 use Rattle.play_dump.specs.Ending.{IsEndOf}
 use Rattle.play_dump.specs.Telling.{IsSurvivor, cell_in, ArePlaced}
 use Rattle.play_dump.proofs.Closing.{ends, all-done, own-section, played-state, ident-count}
 use Rattle.play_dump.proofs.Lists.{image-at, few-images}
-use Rattle.play_dump.proofs.Objects.{reached-object}
+use Rattle.play_contract.proofs.LastHeaps.{reached-object}
 
 -- the name of a survivor
 abbrev pub named : Survivor → Name

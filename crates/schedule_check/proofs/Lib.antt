@@ -7,3 +7,4 @@ pub mod Runs
 pub mod Judged
 pub mod Handed
 pub mod Short
+pub mod Accepting

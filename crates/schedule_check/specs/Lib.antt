@@ -8,3 +8,4 @@ pub mod Verdicts
 pub mod Played
 pub mod Text
 pub mod Telling
+pub mod Laws

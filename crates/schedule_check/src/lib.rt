@@ -20,8 +20,9 @@
 //!
 //! What is proved of it: the schedule or fault is a function of the bytes (`specs/Schedule.antt`), and so are the verdict
 //! and the text (`specs/Verdicts.antt`, `specs/Text.antt`, `specs/Telling.antt`). An accepted schedule's events are a run,
-//! and its end is sound, however the steps of mutators, tracers and helpers come. `closed` is yes exactly where some seat
-//! sees at the end that nothing is left to mark, and then every reachable cell is marked.
+//! and its end is sound, however the steps of mutators, tracers and helpers come; and each run of the core is accepted
+//! ([`runs_are_accepted`]). `closed` is yes exactly where some seat sees at the end that nothing is left to mark, and then
+//! every reachable cell is marked.
 //!
 //! # Where what is
 //!
@@ -34,6 +35,7 @@
 mod fault;
 mod forms;
 mod judge;
+mod laws;
 mod line;
 mod output;
 mod parameters;
@@ -49,6 +51,7 @@ mod writer;
 
 pub use fault::ScheduleFault;
 pub use judge::check;
+pub use laws::runs_are_accepted;
 pub use line::Line;
 pub use reader::read_schedule;
 pub use schedule::Schedule;

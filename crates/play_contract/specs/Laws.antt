@@ -1,0 +1,34 @@
+-- What is claimed of reports and of their texts, as statements for proofs to meet.
+use Rattle.std.specs.Prelude.{ℕ, ◌≡◌, List, map, false}
+use Rattle.plain_heap.specs.Sections.{Sections}
+use Rattle.plain_heap.specs.PlainRun.{Printed, last_heaps}
+use Rattle.plain_heap.specs.Paths.{Survivor, AreSurvivors}
+use Rattle.play_report.specs.Report.{Outcome, outcome_of, survivor_of}
+use Rattle.play_report.specs.Text.{IsReportText, IsLoadText}
+use Rattle.play_report.specs.declared.report.Report.{Report}
+use Rattle.play_contract.specs.Playing.{IsReport}
+
+-- what a section printed, and how many stores it dropped
+abbrev pub said_of : Outcome → List Printed × ℕ
+said_of o = (o.said, o.dropped)
+
+-- two reports differ in the places of objects alone
+pub record AgreeButForPlaces (a b : Report) : Type 0 where
+  pub said : map said_of (map outcome_of a.parts.items) ≡ map said_of (map outcome_of b.parts.items)
+  pub survivors : map survivor_of a.survivors.items ≡ map survivor_of b.survivors.items
+
+-- all reports of a script agree but for places, in however many cells it was played
+abbrev pub OneReport : Type 0
+OneReport = (s : Sections) (m n : ℕ) (a b : Report) → IsReport s m a → IsReport s n b → AgreeButForPlaces a b
+
+-- and there are survivors to report: of each script the reachable objects can be listed
+abbrev pub SurvivorsExist : Type 0
+SurvivorsExist = (s : Sections) → (survivors : List Survivor) × AreSurvivors (last_heaps s) survivors
+
+-- so a script has one text where no places are written
+abbrev pub OneText : Type 0
+OneText = (s : Sections) (m n : ℕ) (a b : List ℕ) → IsReportText s m false a → IsReportText s n false b → a ≡ b
+
+-- and one text of counts
+abbrev pub OneLoadText : Type 0
+OneLoadText = (s : Sections) (a b : List ℕ) → IsLoadText s a → IsLoadText s b → a ≡ b

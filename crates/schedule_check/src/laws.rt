@@ -1,0 +1,7 @@
+// A law over definitions: it is the contract of a function that does nothing.
+ghost use Rattle.schedule_check.specs.Laws.{RunsAreAccepted};
+
+/// Each list of events that the core runs without refusing one is accepted when it is told as a schedule, with the end that the core's run has.
+pub fn runs_are_accepted()
+    ensures { RunsAreAccepted }
+{}
