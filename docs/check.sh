@@ -2,6 +2,7 @@
 # Compares the documents with the repository: the picture of the crates with crates.txt, and the names in backquotes with the sources.
 # From the top of the repository: sh docs/check.sh. It prints what differs, and nothing where all agrees.
 set -eu
+export LC_ALL=C
 cd "$(dirname "$0")/.."
 folder=${TMPDIR:-/tmp}/docs.$$
 mkdir "$folder"
@@ -29,15 +30,16 @@ awk '$2 == "->" { gsub(/[()]/, ""); for (i = 3; i <= NF; i++) print $1, $i }' do
 diff "$folder/named" "$folder/drawn" || true
 
 # Names in backquotes that stand in no source, and paths that lead nowhere.
-find crates -name '*.rt' -o -name '*.antt' -o -name '*.edit' | xargs cat | grep -o '[A-Za-z_][A-Za-z_0-9]*' | sort -u >"$folder/words"
+find crates -name out -prune -o -type f -print >"$folder/files"
+grep -e '\.rt$' -e '\.antt$' -e '\.edit$' "$folder/files" | xargs cat | grep -o '[A-Za-z_][A-Za-z_0-9]*' | sort -u >"$folder/words"
 for text in README.md docs/*.md bench/README.md crates/*/README.md; do
     [ -f "$text" ] || continue
     grep -o '`[A-Za-z_][A-Za-z_0-9:]*`' "$text" | tr -d '`' | sed 's/.*:://' | sort -u | comm -23 - "$folder/words" >"$folder/missing"
     while read -r name; do
-        [ -e "crates/$name" ] || find crates -name "$name*.antt" | grep -q . || echo "$text: $name"
+        [ -e "crates/$name" ] || grep -q "/$name[^/]*\.antt$" "$folder/files" || echo "$text: $name"
     done <"$folder/missing"
     grep -o '`[A-Za-z_./]*/[A-Za-z_.]*\.\(rt\|antt\|md\|sh\|cpp\|edit\)`' "$text" | tr -d '`' | sort -u | while read -r path; do
         case $text in crates/*) own=$(dirname "$text")/$path ;; *) own=crates/$path ;; esac
-        [ -e "$path" ] || [ -e "$own" ] || find crates -path "*/$path" | grep -q . || echo "$text: $path"
+        [ -e "$path" ] || [ -e "$own" ] || grep -q "/$path$" "$folder/files" || echo "$text: $path"
     done
 done

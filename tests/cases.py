@@ -1,8 +1,13 @@
 """The runs that `memory.py` and `streams.py` disturb: words, a source, and the answer that the plain play asks for.
 
-A command that is added to the program gets its lines here, with the answer worked out by hand or by `language` and `plain`.
+A command that is added to the program gets its lines here, with the answer worked out by hand or by the judges beside this file
+(`language` and `plain`, `dumps`, `batches`). What is told of a schedule stands in the examples of the documents.
 """
 
+import os
+
+import batches
+import dumps
 import language
 from plain import Play
 
@@ -54,6 +59,9 @@ FULL_TEXT = b"full section 1\nposition 0 0\nposition 1 193\n"
 
 ADDED = b"gcscript 2\nfields 4\n"
 
+# Two fields, a record of the catalogue that warehouse 2 refers to, and two records that no variable leads to.
+TANGLED = dumps.MAGIC + dumps.numbers([2, 3, 4] + 64 * [0] + [2] + 31 * [0] + [0, 7, 1, 0, 0, 2, 0, 2, 1, 0, 2, 3, 5, 4, 3, 2, 9, 5, 3, 1])
+
 USAGE = b"usage: gcplay command [options]\n"
 
 GENERATED = b"gcscript 1\n" + 4 * b"warehouse\nnil a\nnil b\nnil c\nnil d\nnil e\nnil f\nnil g\nnil h\n"
@@ -62,36 +70,73 @@ LOADED = b"commands 32\nobjects 0\nlines 0\nsurvivors 0\ntotal 0\n"
 NARROW = ["--cells", "64", "--workers", "2", "--tracers", "1", "--packets", "2", "--entries", "2"]
 
 
+EXAMPLES = os.path.join(os.path.dirname(os.path.abspath(__file__)), "..", "examples", "schedules")
+
+
+def example(name, end):
+    """A schedule of the documents (`gs`), or what is told of it (`out`)."""
+    with open(os.path.join(EXAMPLES, f"{name}.{end}"), "rb") as file:
+        return file.read()
+
+
 class Run:
     """Words and a source; whether the words read it; the status and the text that have to come."""
 
     def __init__(self, words, source=b"", status=None, text=None):
         self.words = words
         self.source = source
-        self.reads = words[0] in ("run", "convert") if text != USAGE else False
+        self.reads = words[0] in READERS and text != USAGE
         if text is None:
             self.status, self.text = expected(words[0], source)
         else:
             self.status, self.text = status, text
 
     def pieces(self):
-        """The text as it is handed to the sink: line by line, but a generated or converted script as it is."""
-        if self.words[0] == "gen":
-            return [self.text]
-        if self.words[0] == "convert" and self.status == 0:
-            added = 0 if self.text == self.source else len(ADDED)
-            return [piece for piece in (self.text[:added], self.text[added:]) if piece]
+        """The text as it is handed to the sink: line by line, but for a generated or converted script, a dump and what jobs wrote."""
+        if self.status == 0 and self.words[0] in PIECES:
+            return [piece for piece in PIECES[self.words[0]](self) if piece]
         return self.text.splitlines(keepends=True)
 
 
+def converted_pieces(run):
+    added = 0 if run.text == run.source else len(ADDED)
+    return run.text[:added], run.text[added:]
+
+
+def dump_pieces(run):
+    """The head, the sizes, the variables of each section, and each record."""
+    dump = dumps.Dump(run.text)
+    sizes = [8, 12] + dump.sections * [128] + dump.count * [12 + 4 * dump.fields]
+    return [run.text[sum(sizes[:i]) : sum(sizes[: i + 1])] for i in range(len(sizes))]
+
+
+def batch_pieces(run):
+    """A line for each job, and its text."""
+    return [piece for job, answer in enumerate(batches.jobs(run.text)) for piece in (batches.line(job, answer), answer[1])]
+
+
+READERS = ("run", "convert", "schedule", "dump", "undump", "census", "batch")
+PIECES = {"gen": lambda run: [run.text], "convert": converted_pieces, "dump": dump_pieces, "batch": batch_pieces}
+
+
+def answered(command, source):
+    """The text of a command that is done, where the cells are enough; a `Fault` where the source has one."""
+    if command == "convert":
+        return language.converted(source)
+    if command in ("undump", "census"):
+        return dumps.told(command, source)
+    if command == "batch":
+        return batches.written([expected("run", script) for script in batches.read(source)])
+    play = Play(language.read(source))
+    return dumps.of(play) if command == "dump" else play.text().encode()
+
+
 def expected(command, source):
-    """What `run` or `convert` has to answer, where the cells are enough."""
+    """What a command that reads has to answer, where the cells are enough."""
     try:
-        if command == "convert":
-            return 0, language.converted(source)
-        return 0, Play(language.read(source)).text().encode()
+        return 0, answered(command, source)
     except language.Fault as fault:
-        return 2, str(fault).encode() + b"\n"
+        return 2, f"{fault}\n".encode()
 
 
 def runs():
@@ -116,4 +161,23 @@ def runs():
         Run(["gen", "--number", "1", "--size", "8"], b"", 0, GENERATED),
         Run(["load", "--number", "1", "--size", "8"], b"", 0, LOADED),
         Run(["load", "--number", "1", "--size", "8"] + NARROW, b"", 0, LOADED),
+        Run(["schedule"], example("published", "gs"), 0, example("published", "out")),
+        Run(["schedule"], example("two_helpers", "gs"), 0, example("two_helpers", "out")),
+        Run(["schedule"], example("hidden_cell_lost", "gs"), 7, example("hidden_cell_lost", "out")),
+        Run(["schedule"], b"gcschedule 1\nshape 64 2 2 1 1 1\n\n0 take 0\n", 2, b"24 BadEvent line 4\n"),
+        Run(["dump"], FIRST),
+        Run(["dump"] + NARROW, SEASONS),
+        Run(["dump", "--cells", "64", "--workers", "32", "--tracers", "8"], CHURN),
+        Run(["dump", "--cells", "64"], FULL, 3, FULL_TEXT),
+        Run(["dump"], b"gcscript 1\nwarehouse\nset x 0 x\n"),
+        Run(["undump"], dumps.of(Play(language.read(FIRST)))),
+        Run(["undump"], TANGLED),
+        Run(["undump"], TANGLED[:-1]),
+        Run(["census"], dumps.of(Play(language.read(FIRST)))),
+        Run(["census"], TANGLED),
+        Run(["census"], TANGLED + b"\0"),
+        Run(["batch"], batches.of([FIRST, b"", TWO])),
+        Run(["batch", "--runners", "8"] + NARROW, batches.of([SEASONS, CHURN, FIRST])),
+        Run(["batch", "--runners=1", "--cells=64"], batches.of([FULL]), 0, batches.written([(3, FULL_TEXT)])),
+        Run(["batch"], batches.of([FIRST])[:-1]),
     ]

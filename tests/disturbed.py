@@ -7,7 +7,7 @@ import sys
 import tempfile
 
 PROGRAM = "crates/gcplay/out/gcplay"
-BOUND = 120
+BOUND = int(os.environ.get("BOUND", "120"))
 
 
 def library():

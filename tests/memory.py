@@ -2,13 +2,15 @@
 """Refuses memory and threads: in each run of `cases.py` each allocation in turn, and each together with all later ones.
 
 From the top of the repository: `python3 tests/memory.py [PROGRAM]`. A run has to end with the status 6 and nothing written, or as it
-ends where nothing is refused. The status of the script is 0 where there was no third kind.
+ends where nothing is refused. Each job of a batch may so end too: then the batch is done, and tells the status 6 of a job that wrote nothing.
+The status of the script is 0 where there was no third kind.
 """
 
 import collections
 import itertools
 import sys
 
+import batches
 from cases import runs
 from disturbed import Disturbed, each
 
@@ -20,12 +22,20 @@ WAYS = (
 )
 
 
+def lost_jobs(run, status, text):
+    """Whether a batch is done in which jobs ended with the status 6, and every other job as it ends where nothing is refused."""
+    if run.words[0] != "batch" or (status, run.status) != (0, 0):
+        return False
+    found, wanted = batches.jobs(text), batches.jobs(run.text)
+    return found is not None and len(found) == len(wanted) and all(job in ((6, b""), other) for job, other in zip(found, wanted))
+
+
 def kind(run, status, text):
     if (status, text) == (6, b""):
         return "status 6 and nothing written"
     if (status, text) == (run.status, run.text):
         return "the whole answer"
-    return "a third kind"
+    return "the whole batch, with jobs of the status 6" if lost_jobs(run, status, text) else "a third kind"
 
 
 def refuse_in_turn(disturbed, run, way):
@@ -51,7 +61,12 @@ def main():
         kinds = sum((kinds for (_, other, _), kinds in zip(everything, found) if other == name), collections.Counter())
         print(f"{name}: " + ", ".join(f"{count} {kind}" for kind, count in sorted(kinds.items())))
         total += kinds
-    print(f"{sum(total.values())} runs, {total['a third kind']} of a third kind")
+    commands = collections.Counter()
+    for (run, _, _), kinds in zip(everything, found):
+        commands[run.words[0]] += sum(kinds.values())
+    print("runs by command: " + ", ".join(f"{command} {count}" for command, count in sorted(commands.items())))
+    print(f"{sum(total.values())} runs: " + ", ".join(f"{count} {kind}" for kind, count in sorted(total.items())))
+    print(f"{total['a third kind']} of a third kind")
     sys.exit(1 if total["a third kind"] else 0)
 
 

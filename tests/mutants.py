@@ -1,8 +1,9 @@
 #!/usr/bin/env python3
-"""Changes scripts at random, so that most have a fault, and compares what `run` and `convert` write with `language.py`.
+"""Changes inputs at random, so that most have a fault, and compares what every command that reads writes with the judges beside this file.
 
-From the top of the repository: `python3 tests/mutants.py COUNT [PROGRAM [FIRST]]`. Changes are drawn from numbers, FIRST and so on; words
-and lines are lost, doubled, swapped, and put in from a list that has each greatest number and the number after it.
+From the top of the repository: `python3 tests/mutants.py COUNT [PROGRAM [FIRST]]`. Changes are drawn from numbers, FIRST and so on. Of
+each number there are a script for `run`, `convert` and `dump`, in which words and lines are lost, doubled, swapped, and put in from a list
+that has each greatest number and the number after it, and a dump, a batch and a schedule of `inputs.py`.
 """
 
 import collections
@@ -11,8 +12,12 @@ import random
 import subprocess
 import sys
 
+import batches
+import dumps
+import inputs
 import language
-from cases import CHURN, FIRST, FULL, SEASONS, TWO
+import schedules
+from cases import CHURN, FIRST, FULL, SEASONS, TWO, expected
 from disturbed import BOUND, PROGRAM, each
 from verdict import Case
 
@@ -85,34 +90,93 @@ def mutant(number):
 
 def answer(program, words, source):
     done = subprocess.run([program] + words, input=source, stdout=subprocess.PIPE, timeout=BOUND)
-    return done.returncode, done.stdout.decode()
+    return done.returncode, done.stdout
 
 
-def try_run(program, source, cells):
-    """The sort of the answer to `run`, and what is wrong with it."""
+def sort_of(status, text):
+    """How an answer is counted: by its fault, or by its status."""
+    return b" ".join(text.split()[:2]).decode() if status == 2 else f"status {status}"
+
+
+def why_not_played(source, cells, status, text):
+    """What is wrong with an answer to `run` on one worker."""
+    try:
+        return Case(source).why_wrong(status, text.decode(), cells, 1, False)
+    except language.Fault as fault:
+        return None if (status, text) == (2, f"{fault}\n".encode()) else f"{text!r} and not {fault}"
+
+
+def try_run(program, number):
+    source, cells = mutant(number), random.Random(number).choice((64, 128, 4096))
     status, text = answer(program, ["run", "--cells", str(cells), "--workers", "1"], source)
+    return sort_of(status, text), why_not_played(source, cells, status, text)
+
+
+def try_dump(program, number):
+    """A dump is that of the plain play; where there is none, the answer is that of `run`."""
+    source, cells = mutant(number), random.Random(number).choice((64, 128, 4096))
+    status, text = answer(program, ["dump", "--cells", str(cells), "--workers", "1"], source)
+    if status != 0:
+        return sort_of(status, text), why_not_played(source, cells, status, text)
+    case = Case(source)
+    is_right = text == dumps.of(case.play) and case.full_in_order(cells) is None
+    return sort_of(status, text), None if is_right else "another dump"
+
+
+def try_told(command, make):
+    """What `expected` says of a made input is compared with what the command writes."""
+    def work(program, number):
+        source = make(number)
+        found, wanted = answer(program, [command], source), expected(command, source)
+        return sort_of(*found), None if found == wanted else f"{found} and not {wanted}"
+
+    return work
+
+
+def try_batch(program, number):
+    """Each job of a batch is judged as a play of its own."""
+    draw, source = random.Random(number), inputs.batch(number)
+    cells = draw.choice((64, 4096))
+    words = ["batch", "--cells", str(cells), "--workers", "1", "--runners", str(draw.randint(1, 8))]
+    status, text = answer(program, words, source)
     try:
-        why = Case(source).why_wrong(status, text, cells, 1, False)
-        return f"status {status}", why
+        scripts = batches.read(source)
     except language.Fault as fault:
-        return " ".join(str(fault).split()[:2]), None if (status, text) == (2, f"{fault}\n") else f"{text!r} and not {fault}"
+        return sort_of(status, text), None if (status, text) == (2, f"{fault}\n".encode()) else f"{text!r} and not {fault}"
+    jobs = batches.jobs(text)
+    if status != 0 or jobs is None or len(jobs) != len(scripts):
+        return sort_of(status, text), f"status {status}, {text!r}"
+    whys = [why_not_played(script, cells, *job) for script, job in zip(scripts, jobs)]
+    return sort_of(status, text), next((f"job {job}: {why}" for job, why in enumerate(whys) if why), None)
 
 
-def try_convert(program, source):
-    """What is wrong with the answer to `convert`."""
-    try:
-        wanted = (0, language.converted(source).decode())
-    except language.Fault as fault:
-        wanted = (2, f"{fault}\n")
-    found = answer(program, ["convert"], source)
-    return None if found == wanted else f"{found} and not {wanted}"
+def try_schedule(program, number):
+    """Where an event is refused, what stands before it is accepted."""
+    source = inputs.schedule(number)
+    status, text = answer(program, ["schedule"], source)
+    why, line = schedules.why_wrong(source, status, text.decode())
+    if why is None and line is not None:
+        before = schedules.front(source, line)
+        status_before, text_before = answer(program, ["schedule"], before)
+        why, _ = schedules.why_wrong(before, status_before, text_before.decode())
+        why = why or (None if status_before == 0 else f"refused at line {line}, and before it status {status_before}")
+    return sort_of(status, text), why
 
 
-def try_mutant(program, number):
-    """The sort of the answer to `run`, and what was wrong."""
-    source = mutant(number)
-    sort, wrong = try_run(program, source, random.Random(number).choice((64, 128, 4096)))
-    return sort, [f"{number}: {why}" for why in (wrong, try_convert(program, source)) if why]
+WAYS = {
+    "run": try_run,
+    "convert": try_told("convert", mutant),
+    "dump": try_dump,
+    "undump": try_told("undump", inputs.dump),
+    "census": try_told("census", inputs.dump),
+    "batch": try_batch,
+    "schedule": try_schedule,
+}
+
+
+def try_number(program, number):
+    """For each command the sort of its answer and what was wrong with it."""
+    return [(command, number) + way(program, number) for command, way in WAYS.items()]
 
 
 def main():
@@ -120,14 +184,15 @@ def main():
     program = os.path.abspath(sys.argv[2] if len(sys.argv) > 2 else PROGRAM)
     first = int(sys.argv[3]) if len(sys.argv) > 3 else 0
     sorts, wrongs = collections.Counter(), 0
-    for sort, wrong in each(lambda number: try_mutant(program, number), range(first, first + count)):
-        sorts[sort] += 1
-        wrongs += len(wrong)
-        for what in wrong:
-            print("WRONG", what, flush=True)
+    for told in each(lambda number: try_number(program, number), range(first, first + count)):
+        for command, number, sort, why in told:
+            sorts[f"{command}: {sort}"] += 1
+            wrongs += why is not None
+            if why:
+                print(f"WRONG {command} {number}: {why}", flush=True)
     for sort, times in sorted(sorts.items()):
         print(f"{sort}: {times}")
-    print(f"{count} scripts, {2 * count} runs, {wrongs} wrong")
+    print(f"{count} inputs of each sort, {sum(sorts.values())} runs, {wrongs} wrong")
     sys.exit(1 if wrongs else 0)
 
 

@@ -2,8 +2,9 @@
 """Plays made scripts at every extreme of the options, and judges each answer by a play without a collector.
 
 From the top of the repository: `python3 tests/plays.py MINUTES [PROGRAM [FIRST]]`. Scripts are made from the numbers FIRST, FIRST + 1
-and so on. Eight scripts are played side by side, in the time of one processor at most. What goes wrong is kept as a file with its
-words, and the last lines are the counts; the status is 0 where nothing went wrong.
+and so on. A shape is played by `run`, by `dump`, or by `batch`, with the script as two jobs among others; what `dump` wrote is listed and
+counted. Eight scripts are played side by side, in the time of one processor at most. What goes wrong is kept as a file with its words, and
+the last lines are the counts; the status is 0 where nothing went wrong.
 """
 
 import collections
@@ -17,11 +18,12 @@ import sys
 import tempfile
 import time
 
+import batches
+import dumps
 import generate
+from disturbed import BOUND, PROGRAM
 from verdict import Case
 
-PROGRAM = "crates/gcplay/out/gcplay"
-BOUND = 120
 JOBS = 8
 CELLS = (64, 128, 4096, 65536, "tight")
 WORKERS = (1, 2, 4, 32)
@@ -45,10 +47,10 @@ def tight(case):
     return min(65536, max(64, -(-most // 64) * 64))
 
 
-def words_of(shape, cells, placed):
+def words_of(command, shape, cells, further):
     _, workers, tracers, packets, entries = shape
     words = ["--cells", cells, "--workers", workers, "--tracers", tracers, "--packets", packets, "--entries", entries]
-    return ["run"] + [str(word) for word in words] + (["--place"] if placed else [])
+    return [command] + [str(word) for word in words] + further
 
 
 def answer(program, words, source, processors):
@@ -57,10 +59,10 @@ def answer(program, words, source, processors):
     try:
         done = subprocess.run([program] + words, input=source, stdout=subprocess.PIPE, timeout=BOUND)
     except subprocess.TimeoutExpired:
-        return None, ""
+        return None, b""
     finally:
         os.sched_setaffinity(0, PROCESSORS)
-    return done.returncode, done.stdout.decode()
+    return done.returncode, done.stdout
 
 
 class Tally:
@@ -76,7 +78,7 @@ class Tally:
         """Keeps what went wrong."""
         self.counts["wrong"] += 1
         name = os.path.join(self.folder, f"{number}.{self.counts['wrong']}")
-        for end, content in ((".gc", source), (".text", text.encode()), (".words", (" ".join(words) + "\n" + why + "\n").encode())):
+        for end, content in ((".gc", source), (".text", text), (".words", (" ".join(words) + "\n" + why + "\n").encode())):
             with open(name + end, "wb") as file:
                 file.write(content)
         print(f"WRONG {name}: {why}: {' '.join(words)}", flush=True)
@@ -92,23 +94,71 @@ class Tally:
         yield f"longest play {self.longest[0]:.1f} s: {self.longest[1]}"
 
 
+OTHER = Case(b"gcscript 1\nwarehouse\nrepeat 70\nnew x 1\nend\nsay a x\n")
+
+
+class Way:
+    """A command that plays a script: its further words, its source, and what is wrong with its answer."""
+
+    def __init__(self, draw, program, case, shape, cells):
+        self.command = draw.choice(("run", "run", "run", "dump", "batch"))
+        self.program, self.case, self.shape, self.cells = program, case, shape, cells
+        self.placed = self.command == "run" and draw.random() < 0.3
+        self.further = ["--place"] if self.placed else ["--runners", str(draw.randint(1, 8))] if self.command == "batch" else []
+        self.source = batches.of([case.source, OTHER.source, b"", case.source]) if self.command == "batch" else case.source
+
+    def words(self):
+        return words_of(self.command, self.shape, self.cells, self.further)
+
+    def why_not_played(self, case, status, text):
+        return case.why_wrong(status, text.decode(), self.cells, self.shape[1], self.placed)
+
+    def why_wrong(self, status, text):
+        if self.command == "batch":
+            return self.why_not_done(status, batches.jobs(text))
+        if self.command == "dump" and status == 0:
+            return self.why_not_dumped(text)
+        return self.why_not_played(self.case, status, text)
+
+    def why_not_done(self, status, jobs):
+        """Each job of a batch is judged as a play of its own."""
+        if status != 0 or jobs is None or len(jobs) != 4 or jobs[2] != (2, b"2 BadHeader\n"):
+            return f"status {status}, and other jobs"
+        for job, case in ((0, self.case), (1, OTHER), (3, self.case)):
+            why = self.why_not_played(case, *jobs[job])
+            if why:
+                return f"job {job}: {why}"
+        return None
+
+    def why_not_dumped(self, dump):
+        """A dump is that of the plain play, and is listed and counted."""
+        in_order = self.shape[1] == 1 or self.case.one_by_one
+        if in_order and self.case.full_in_order(self.cells) is not None:
+            return "not full, but more objects were reachable than there are cells"
+        if dump != dumps.of(self.case.play):
+            return "another dump"
+        for command in ("undump", "census"):
+            if answer(self.program, [command], dump, PROCESSORS) != (0, dumps.told(command, dump)):
+                return f"another text of {command}"
+        return None
+
+
 def play(tally, program, number, case, shape, draw):
-    cells = tight(case) if shape[0] == "tight" else shape[0]
-    placed = draw.random() < 0.3
-    words = words_of(shape, cells, placed)
+    way = Way(draw, program, case, shape, tight(case) if shape[0] == "tight" else shape[0])
+    words = way.words()
     began = time.monotonic()
-    status, text = answer(program, words, case.source, draw.sample(PROCESSORS, draw.randint(1, len(PROCESSORS))))
+    status, text = answer(program, words, way.source, draw.sample(PROCESSORS, draw.randint(1, len(PROCESSORS))))
     taken = time.monotonic() - began
     tally.longest = max(tally.longest, (taken, f"script {number}, {' '.join(words)}"))
     tally.shapes[shape] += 1
     tally.counts["plays"] += 1
-    tally.counts[f"plays with status {status}"] += 1
-    tally.counts["plays with cells told"] += placed and status == 0
+    tally.counts[f"plays of {way.command} with status {status}"] += 1
+    tally.counts["plays with cells told"] += way.placed and status == 0
     tally.counts["plays as tight as can be, done"] += shape[0] == "tight" and status == 0
     tally.counts["commands executed"] += case.play.clock if status == 0 else 0
-    why = f"longer than {BOUND} s" if status is None else case.why_wrong(status, text, cells, shape[1], placed)
+    why = f"longer than {BOUND} s" if status is None else way.why_wrong(status, text)
     if why:
-        tally.keep(number, case.source, words, text, why)
+        tally.keep(number, way.source, words, text, why)
 
 
 def rest_if_ahead(began):

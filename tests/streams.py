@@ -11,7 +11,9 @@ import subprocess
 import sys
 import threading
 
-from cases import CHURN, FIRST, SEASONS, TWO, Run, runs
+import batches
+import schedules
+from cases import CHURN, FIRST, SEASONS, TANGLED, TWO, Run, example, runs
 from disturbed import BOUND, Disturbed, each
 
 PARTS = (1, 4, 4096)
@@ -124,18 +126,43 @@ def files_that_fail(judge, program, run):
         judge.take(name, run, status == (4 if run.reads else run.status), status)
 
 
+# What a source without an end comes to, where all its bytes are zero; a dump's first bytes are told before its length.
+ENDLESS = {
+    "run": b"11 TooLong\n",
+    "convert": b"11 TooLong\n",
+    "dump": b"11 TooLong\n",
+    "schedule": b"26 TooLong\n",
+    "undump": b"32 BadMagic\n",
+    "census": b"32 BadMagic\n",
+    "batch": b"44 BatchTooLong\n",
+}
+
+
 def endless(judge, program):
     """A source without an end is too long, whatever its bytes are."""
-    for command in ("run", "convert"):
+    for command, text in ENDLESS.items():
         with open("/dev/zero", "rb") as source:
             done = subprocess.run([program, command], stdin=source, stdout=subprocess.PIPE, timeout=BOUND)
-        judge.take("a source without an end", Run([command], b""), (done.returncode, done.stdout) == (2, b"11 TooLong\n"), done)
+        judge.take("a source without an end", Run([command], b"", 2, text), (done.returncode, done.stdout) == (2, text), done)
+
+
+# Each command that reads, and the sources that are cut for it.
+CUT = [(command, source) for command in ("run", "convert", "dump") for source in (FIRST, TWO, SEASONS, CHURN)]
+CUT += [(command, TANGLED) for command in ("undump", "census")] + [("batch", batches.of([FIRST, b"", TWO]))]
 
 
 def cut(judge, disturbed, command, source, size):
     run = Run([command], source[:size])
     answer = disturbed.answer([command], run.source, read_bytes=7)
-    judge.take("a script cut after a byte", run, same(run, answer), (size, answer))
+    judge.take("an input cut after a byte", run, same(run, answer), (size, answer))
+
+
+def cut_schedule(judge, disturbed, source, size):
+    """What stands before a cut of an accepted schedule is accepted, unless the cut left a fault, or an event with a shorter number."""
+    status, text, _ = disturbed.answer(["schedule"], source[:size], read_bytes=7)
+    why, refused = schedules.why_wrong(source[:size], status, text.decode())
+    shorter = source[size : size + 1].isdigit() and refused == source[:size].count(b"\n") + 1
+    judge.take("a schedule cut after a byte", Run(["schedule"], b"", 0, b""), why is None and (status != 7 or shorter), (size, why))
 
 
 def main():
@@ -144,8 +171,10 @@ def main():
     each(lambda item: item[0](judge, disturbed, item[1]), list(itertools.product(ways, runs())))
     each(lambda run: files_that_fail(judge, disturbed.program, run), runs())
     endless(judge, disturbed.program)
-    cuts = [(command, source, size) for command in ("run", "convert") for source in (FIRST, TWO, SEASONS, CHURN) for size in range(len(source) + 1)]
+    cuts = [(command, source, size) for command, source in CUT for size in range(len(source) + 1)]
     each(lambda item: cut(judge, disturbed, *item), cuts)
+    accepted = example("published", "gs")
+    each(lambda size: cut_schedule(judge, disturbed, accepted, size), range(len(accepted) + 1))
     for sort, count in sorted(judge.counts.items()):
         print(f"{sort}: {count}")
     print(f"{sum(judge.counts.values())} runs, {judge.wrong} wrong")

@@ -2,7 +2,7 @@
 """Draws command lines, right ones and wrong ones, and compares what the program writes with what the words ask for.
 
 From the top of the repository: `python3 tests/words.py COUNT [PROGRAM [FIRST]]`. What words ask for is worked out here by the rules of
-docs/SCRIPTS.md alone, and so is the script that `gen` makes.
+docs/SCRIPTS.md and docs/FORMATS.md alone, and so is the script that `gen` makes. The source is one that fits the first word.
 """
 
 import collections
@@ -12,15 +12,21 @@ import re
 import subprocess
 import sys
 
+import batches
+import dumps
 import language
-from cases import FIRST, USAGE
+from cases import FIRST, USAGE, example, expected
 from disturbed import BOUND, PROGRAM, each
 from plain import Play
 
 HEAP = {"cells": (64, 65536), "workers": (1, 32), "tracers": (0, 8), "packets": (2, 1024), "entries": (2, 512)}
 MADE = {"number": (0, 4294967295), "size": (1, 20000)}
-OPTIONS = {"run": HEAP, "gen": MADE, "load": dict(HEAP, **MADE), "convert": {}}
-FLAGS = {"run": ("place",), "gen": (), "load": (), "convert": ()}
+RUNNERS = {"runners": (1, 8)}
+OPTIONS = {"run": HEAP, "gen": MADE, "load": HEAP | MADE, "convert": {}, "schedule": {}, "dump": HEAP, "undump": {}, "census": {}, "batch": HEAP | RUNNERS}
+FLAGS = {"run": ("place",)}
+FIRST_DUMP = dumps.of(Play(language.read(FIRST)))
+SOURCES = {"schedule": example("published", "gs"), "undump": FIRST_DUMP, "census": FIRST_DUMP, "batch": batches.of([FIRST, FIRST])}
+TOLD = {"schedule": (0, example("published", "out"))} | {name: expected(name, SOURCES.get(name, FIRST)) for name in ("convert", "dump", "undump", "census", "batch")}
 
 
 def value_of(name, text, least, most):
@@ -42,7 +48,7 @@ def asked(words):
         name = name.decode(errors="replace")
         if not word.startswith(b"--") or name in found:
             return None
-        if name in FLAGS[command] and not equals:
+        if name in FLAGS.get(command, ()) and not equals:
             found[name] = True
         elif name in OPTIONS[command] and (equals or rest):
             found[name] = value_of(name, text if equals else rest.pop(0), *OPTIONS[command][name])
@@ -87,14 +93,18 @@ def loaded(number, size):
     return f"commands {play.clock}\nobjects {len(play.news)}\nlines {lines}\nsurvivors {len(left)}\ntotal {sum(t.value for t in left)}\n".encode()
 
 
+def source_of(words):
+    return SOURCES.get(words[0].decode(errors="replace") if words else "", FIRST)
+
+
 def is_right(words, status, text):
-    """Whether this is the answer to the words, with the source FIRST."""
+    """Whether this is the answer to the words, with the source that fits them."""
     wanted = asked(words)
     if wanted is None:
         return (status, text) == (1, USAGE)
     command, options = wanted
-    if command == "convert":
-        return (status, text) == (0, language.converted(FIRST))
+    if command in TOLD:
+        return (status, text) == TOLD[command]
     if command == "gen":
         return (status, text) == (0, made(options["number"], options["size"]))
     if command == "load":
@@ -109,7 +119,7 @@ def is_right(words, status, text):
 
 def drawn_value(draw, name):
     """A value, in its range or close to it, or no number."""
-    least, most = (HEAP | MADE).get(name, (0, 9))
+    least, most = (HEAP | MADE | RUNNERS).get(name, (0, 9))
     right = [least, most, draw.randint(least, min(most, least + 500))]
     wrong = [least - 1, most + 1, 2**32, 2**64, 10**30, "", "x", "+1", "0x40", "1 ", "64.0", "--place", "\u0661", "\xff"]
     if name == "cells":
@@ -124,14 +134,14 @@ def drawn_value(draw, name):
 def drawn_words(number):
     """The words of this number."""
     draw = random.Random(number)
-    command = draw.choice(("run", "run", "gen", "load", "convert"))
+    command = draw.choice(("run", "run", "batch", "dump") + tuple(OPTIONS))
     names = [name for name in OPTIONS[command] if name in ("number", "size") or draw.random() < 0.4]
     draw.shuffle(names)
     words = [command.encode()]
     for name in names:
         value = drawn_value(draw, name)
         words += [b"--%s=%s" % (name.encode(), value)] if draw.random() < 0.5 else [b"--" + name.encode(), value]
-    if command == "run" and draw.random() < 0.3:
+    if draw.random() < (0.3 if command == "run" else 0.02):
         words.insert(draw.randint(1, len(words)), b"--place")
     if draw.random() < 0.3:
         place = draw.randint(0, len(words))
@@ -140,13 +150,13 @@ def drawn_words(number):
 
 
 ODD = (b"--", b"-", b"", b"--help", b"--version", b"-h", b"help", b"run", b"gen", b"--cells=64", b"--cells", b"--place", b"--place=", b"--place=1")
-ODD += (b"--number=1", b"--size", b"7", b"--Cells=64", b"--cell=64", b"--tracers==1", b"-tracers=1", b"\xff", b"--cells=\xc3", b"x" * 70_000)
+ODD += (b"--runners", b"--runners=1", b"dump", b"undump", b"census", b"batch", b"schedule", b"--number=1", b"--size", b"7", b"--Cells=64", b"--cell=64", b"--tracers==1", b"-tracers=1", b"\xff", b"--cells=\xc3", b"x" * 70_000)
 
 
 def try_words(program, number):
     """The sort of the answer, and the words where it was wrong."""
     words = drawn_words(number)
-    done = subprocess.run([program.encode()] + words, input=FIRST, stdout=subprocess.PIPE, timeout=BOUND)
+    done = subprocess.run([program.encode()] + words, input=source_of(words), stdout=subprocess.PIPE, timeout=BOUND)
     sort = f"{words[0].decode(errors='replace') if asked(words) else 'refused'}: status {done.returncode}"
     return sort, None if is_right(words, done.returncode, done.stdout) else (number, [word[:100] for word in words], done.returncode)
 

@@ -139,9 +139,7 @@ fn each_cut_is_told(rt: HostRuntime) {
 /// The fault of the dump of one object in which the byte at this place is another.
 fn changed(at: usize, to: u8) -> Option<DumpError> {
     let mut bytes = row();
-    if at < bytes.len() {
-        bytes[at] = to;
-    }
+    change(&mut bytes, at, to);
     read_dump(front(&bytes, 304)).err()
 }
 
@@ -158,25 +156,64 @@ fn sizes_past_their_limits_are_told(rt: HostRuntime) {
     assert_eq!(rt; changed(15, 33), Some(DumpError::Cut { needed: 4272 }));
 }
 
+/// Faults in the order in which they are told: how many bytes there are, the byte that is changed, to what, and the fault.
+const FAULTS: [(usize, usize, u8, DumpError); 8] = [
+    (19, 304, 0, DumpError::Cut { needed: 20 }),
+    (304, 7, b'2', DumpError::BadMagic),
+    (304, 11, 0, DumpError::BadShape),
+    (303, 304, 0, DumpError::Cut { needed: 304 }),
+    (305, 304, 0, DumpError::TooMuch),
+    (304, 279, 2, DumpError::BadRecord { k: 0 }),
+    (304, 151, 2, DumpError::BadRoot { index: 32 }),
+    (304, 303, 2, DumpError::BadRef { k: 0, field: 3 }),
+];
+
+fn change(bytes: &mut [u8; 305], at: usize, to: u8) {
+    if at < bytes.len() {
+        bytes[at] = to;
+    }
+}
+
+/// The fault of the dump of one object with both of these faults; a cut comes before further bytes.
+fn both(
+    one: &(usize, usize, u8, DumpError),
+    other: &(usize, usize, u8, DumpError),
+) -> Option<DumpError> {
+    let mut bytes = row();
+    change(&mut bytes, one.1, one.2);
+    change(&mut bytes, other.1, other.2);
+    let least = one.0.min(other.0);
+    let length = if least < 304 {
+        least
+    } else {
+        one.0.max(other.0)
+    };
+    read_dump(front(&bytes, length)).err()
+}
+
 #[test]
 fn of_two_faults_the_first_is_told(rt: HostRuntime) {
+    for (i, first) in FAULTS.iter().enumerate() {
+        for second in FAULTS.iter().skip(i) {
+            assert_eq!(rt; both(first, second), Some(first.3), "{first:?}, {second:?}");
+            assert_eq!(rt; both(second, first), Some(first.3), "{first:?}, {second:?}");
+        }
+    }
+}
+
+#[test]
+fn of_two_references_the_first_is_told(rt: HostRuntime) {
     let mut bytes = row();
-    bytes[7] = b'2';
-    bytes[11] = 0;
+    bytes[291] = 2;
+    bytes[303] = 2;
     assert_eq!(rt;
-        read_dump(front(&bytes, 19)).err(),
-        Some(DumpError::Cut { needed: 20 })
+        read_dump(front(&bytes, 304)).err(),
+        Some(DumpError::BadRef { k: 0, field: 0 })
     );
+    bytes[155] = 2;
+    bytes[151] = 2;
     assert_eq!(rt;
-        read_dump(front(&bytes, 303)).err(),
-        Some(DumpError::BadMagic)
+        read_dump(front(&bytes, 304)).err(),
+        Some(DumpError::BadRoot { index: 32 })
     );
-    bytes[7] = b'1';
-    assert_eq!(rt;
-        read_dump(front(&bytes, 303)).err(),
-        Some(DumpError::BadShape)
-    );
-    bytes[11] = 4;
-    bytes[279] = 2;
-    assert_eq!(rt; read_dump(&bytes).err(), Some(DumpError::TooMuch));
 }

@@ -1,0 +1,49 @@
+#!/usr/bin/env bash
+# Tries the edits crates/*/must-not-compile/*.edit, or those of the crate that is named, each on a copy: the borrow checker has to refuse them.
+# An edit has the form of those in must-fail. `rt must-fail` cannot try these, since it wants the edited text to compile.
+set -eu
+top=$(cd "$(dirname "$0")/.." && pwd)
+copy=$(mktemp -d)
+trap 'rm -rf "$copy"' EXIT
+
+# The crates of this repository that a crate stands on, with itself.
+below() {
+    sed -n "s/^$1://p" "$top/crates.txt" | tr ' ' '\n' | while read -r name; do
+        if grep -q "^$name:" "$top/crates.txt"; then echo "$name"; fi
+    done
+    echo "$1"
+}
+
+# Copies a crate with those that it stands on, without proofs' work.
+copy_crates() {
+    rm -rf "${copy:?}"/*
+    cp "$top/HANDLES" "$copy"
+    mkdir "$copy/crates"
+    below "$1" | while read -r name; do
+        grep "^$name:" "$top/crates.txt" >> "$copy/crates.txt"
+        mkdir "$copy/crates/$name"
+        cp -r "$top/crates/$name/src" "$top/crates/$name/specs" "$top/crates/$name/proofs" "$copy/crates/$name"
+    done
+}
+
+failed=0
+for edit in "$top"/crates/${1:-*}/must-not-compile/*.edit; do
+    crate=$(basename "$(dirname "$(dirname "$edit")")")
+    copy_crates "$crate"
+    cd "$copy/crates/$crate"
+    python3 - "$edit" <<'END'
+import sys
+lines = open(sys.argv[1]).read().splitlines()
+file, old, new = (line.split(": ", 1)[1] for line in lines)
+text = open(file).read()
+assert text.count(old) == 1, "the old text stands there once"
+open(file, "w").write(text.replace(old, new))
+END
+    if rt try --test 2>&1 | grep 'error\[borrow-e0597\]'; then
+        echo "$crate, $(basename "$edit"): refused, as it must be"
+    else
+        echo "$crate, $(basename "$edit"): NOT REFUSED by the borrow checker"
+        failed=1
+    fi
+done
+exit $failed
