@@ -41,8 +41,6 @@ mod asked;
 mod choice;
 mod number;
 mod program;
-#[cfg(test)]
-mod tests;
 
 pub use asked::Asked;
 use choice::by_name;

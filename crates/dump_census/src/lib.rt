@@ -30,8 +30,6 @@ mod laws;
 mod levels;
 mod search;
 mod sections;
-#[cfg(test)]
-mod tests;
 mod text;
 mod values;
 

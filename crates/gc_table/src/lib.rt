@@ -89,8 +89,6 @@ mod rule;
 pub mod seat;
 mod stepping;
 pub mod sweep;
-#[cfg(test)]
-mod tests;
 pub mod tracing;
 pub mod view;
 pub mod words;

@@ -21,8 +21,6 @@ mod fault;
 mod final_heap;
 mod frame;
 mod reader;
-#[cfg(test)]
-mod tests;
 mod text;
 mod writer;
 

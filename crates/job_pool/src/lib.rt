@@ -29,8 +29,6 @@ mod fault;
 mod player;
 mod reader;
 mod run;
-#[cfg(test)]
-mod tests;
 mod text;
 
 pub use batch::Batch;

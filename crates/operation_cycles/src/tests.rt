@@ -5,11 +5,13 @@ mod mutators;
 mod objects;
 mod opening;
 mod packets;
+mod pools;
 mod seasons;
 mod stops;
 mod sweeping;
 mod threads;
 mod tracing;
+mod trades;
 
 use mark_core::Shape;
 

@@ -61,8 +61,6 @@ mod scanned;
 mod scanning;
 mod seeking;
 mod taking;
-#[cfg(test)]
-mod tests;
 
 pub use deferred::take_deferred_at;
 pub use entries::{pop, push};

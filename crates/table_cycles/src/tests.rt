@@ -4,6 +4,7 @@ mod blocks;
 mod cells;
 mod checks;
 mod claims;
+mod largest;
 mod packets;
 mod seasons;
 mod seats;

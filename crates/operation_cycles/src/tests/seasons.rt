@@ -78,7 +78,7 @@ pub fn enters(heap: &Heap, seat: &mut HeapSeat, k: u32) -> bool
 }
 
 /// Begins marking, where no cycle is under way.
-fn try_marking(heap: &Heap, seat: &mut HeapSeat, k: u32)
+pub fn try_marking(heap: &Heap, seat: &mut HeapSeat, k: u32)
     requires { At heap.now entered k seat.old }
     ensures seat { At heap.now entered k seat.new }
     ensures keeps { Keeps (view_of seat.old) (view_of seat.new) }

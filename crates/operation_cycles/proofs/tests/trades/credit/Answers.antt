@@ -1,0 +1,14 @@
+use Rattle.std.proofs.Common.{refl, ap, sym, ◌∙◌, Bool, true, false, ◌&&◌}
+use Rattle.std.proofs.lemmas.Bool.{OnTrue_from, OnFalse_from}
+use Rattle.mark_core.specs.Start.{start_seat}
+use Rattle.mark_core.specs.declared.kinds.Phase.TheVariants.{Marking}
+use Rattle.mark_core.specs.declared.kinds.Step.TheVariants.{Credit}
+use Rattle.gc_table.specs.Trials.{returned}
+use Rattle.gc_table.proofs.Trying.{may-by, state-after, first-packet}
+use Rattle.operation_cycles.proofs.tests.trades.credit.Goals as goal
+
+pub credit-requires-clause-may : goal.credit-requires-clause-may
+credit-requires-clause-may c = let sh = c.args.heap.now.shape in may-by sh _ (returned sh c.args.k) Credit c.requires.0.1 c.requires.1 (λ w seats. (refl, tt))
+
+pub returns : goal.returns
+returns c = let sh = c.args.heap.now.shape in let v = c.credit.ensures.view in (c.credit.ensures.seat, state-after sh _ _ (returned sh c.args.k) Credit _ c.requires.0.1 c.requires.1 v.1.0)

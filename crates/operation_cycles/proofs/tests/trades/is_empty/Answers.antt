@@ -1,0 +1,11 @@
+use Rattle.std.proofs.Common.{refl, ap, sym, ◌∙◌, Bool, true, false, ◌&&◌}
+use Rattle.std.proofs.lemmas.Bool.{OnTrue_from, OnFalse_from}
+use Rattle.mark_core.specs.Start.{start_seat}
+use Rattle.mark_core.specs.declared.kinds.Phase.TheVariants.{Marking}
+use Rattle.mark_core.specs.declared.kinds.Step.TheVariants.{ReadLength}
+use Rattle.gc_table.specs.Trials.{holding}
+use Rattle.gc_table.proofs.Trying.{may-by, state-after, first-packet}
+use Rattle.operation_cycles.proofs.tests.trades.is_empty.Goals as goal
+
+pub read_length-requires-clause-may : goal.read_length-requires-clause-may
+read_length-requires-clause-may c = let sh = c.args.heap.now.shape in may-by sh _ (holding sh c.args.k) (ReadLength 0) c.requires.0.1 c.requires.1 (λ w seats. (ap (λ (b : Bool). b && true) (first-packet sh c.args.heap.now.shaped), (refl, tt)))

@@ -1,0 +1,14 @@
+use Rattle.std.proofs.Common.{refl, ap, sym, ◌∙◌, Bool, true, false, ◌&&◌}
+use Rattle.std.proofs.lemmas.Bool.{OnTrue_from, OnFalse_from}
+use Rattle.mark_core.specs.Start.{start_seat}
+use Rattle.mark_core.specs.declared.kinds.Phase.TheVariants.{Marking}
+use Rattle.mark_core.specs.declared.kinds.Step.TheVariants.{Reserve}
+use Rattle.gc_table.specs.Trials.{inside}
+use Rattle.gc_table.proofs.Trying.{may-by, state-after, first-packet}
+use Rattle.operation_cycles.proofs.tests.trades.reserve.Goals as goal
+
+pub reserve-requires-clause-may : goal.reserve-requires-clause-may
+reserve-requires-clause-may c = let sh = c.args.heap.now.shape in may-by sh _ (inside sh c.args.k) Reserve c.requires.0.1 c.requires.1 (λ w seats. (refl, (refl, tt)))
+
+pub returns : goal.returns
+returns c = let sh = c.args.heap.now.shape in let v = c.reserve.ensures.view in (c.reserve.ensures.seat, state-after sh _ _ (inside sh c.args.k) Reserve _ c.requires.0.1 c.requires.1 v.1.0)

@@ -1,0 +1,5 @@
+use Rattle.gc_table.specs.Trials.{At, resting}
+use Rattle.operation_cycles.proofs.tests.trades.rounds.Given as goal
+
+abbrev pub invariant-loop-done : goal.invariant-loop-done
+invariant-loop-done l = At l.heap resting l.fn.k l.seat

@@ -1,0 +1,206 @@
+//! Threads that take and give packets of one heap, and the answers at the start of marking.
+ghost use Rattle.std.specs.Prelude.{◌≡◌, IsTrue, IsFalse};
+ghost use Rattle.std.specs.Bool.{OnTrue};
+ghost use Rattle.mark_core.specs.Held.{has_free_slot};
+ghost use Rattle.mark_core.specs.Seats.{work_in_hand};
+ghost use Rattle.gc_table.specs.Seats.{view_of};
+ghost use Rattle.gc_table.specs.Trials.{At, inside, resting};
+ghost use Rattle.packet_pools.specs.Tracing.{IsTracer};
+
+use super::SMALL;
+use super::opening::{next_seat, open};
+use super::seasons::{enters, sees_marking, try_marking};
+use gc_table::{Heap, HeapSeat};
+use packet_pools::{all_empty, give, pop, take_deferred, take_input, take_output};
+use std::thread::{Threads, join_mut};
+
+/// The seat begins to mark.
+fn begin(heap: &Heap, seat: &mut HeapSeat, k: u32) -> bool
+    requires { At heap.now resting k seat.old }
+    ensures { OnTrue result (At heap.now inside k seat.new) }
+{
+    if !enters(heap, seat, k) {
+        return false;
+    }
+    try_marking(heap, seat, k);
+    sees_marking(heap, seat, k)
+}
+
+/// The length of a packet that a seat takes when it begins, and whether all are empty while it has it and after it is
+/// given back.
+fn one_packet(heap: &Heap, seat: &mut HeapSeat, k: u32) -> Option<(u32, bool, bool)>
+    requires { At heap.now resting k seat.old }
+{
+    if !begin(heap, seat, k) {
+        return None;
+    }
+    let held = take_output(heap, seat)?;
+    let length = held.length();
+    let before = all_empty(heap, seat);
+    give(heap, seat, held, false);
+    let after = all_empty(heap, seat);
+    Some((length, before, after))
+}
+
+/// Takes a packet with room and gives it back. False where none was found.
+fn exchange(heap: &Heap, seat: &mut HeapSeat) -> bool
+    requires seat { IsTracer heap.now seat.old }
+    requires free { IsTrue (has_free_slot (view_of seat.old).state.held) }
+    requires idle { IsFalse (work_in_hand heap.now.shape.fields (view_of seat.old).state) }
+    ensures seat { IsTracer heap.now seat.new }
+    ensures shape { (view_of seat.new).shape ≡ (view_of seat.old).shape }
+    ensures state { (view_of seat.new).state ≡ (view_of seat.old).state }
+{
+    match take_output(heap, seat) {
+        Some(held) => {
+            give(heap, seat, held, false);
+            true
+        }
+        None => false,
+    }
+}
+
+/// Whether a third packet is found after a seat that begins took two.
+fn third_packet(heap: &Heap, seat: &mut HeapSeat, k: u32) -> Option<bool>
+    requires { At heap.now resting k seat.old }
+{
+    if !begin(heap, seat, k) {
+        return None;
+    }
+    let first = take_output(heap, seat)?;
+    let Some(second) = take_output(heap, seat) else {
+        give(heap, seat, first, false);
+        return None;
+    };
+    let found = exchange(heap, seat);
+    give(heap, seat, second, false);
+    give(heap, seat, first, false);
+    Some(found)
+}
+
+/// Whether a packet with cells is found.
+fn finds_work(heap: &Heap, seat: &mut HeapSeat, k: u32) -> bool
+    requires { At heap.now inside k seat.old }
+    ensures { At heap.now inside k seat.new }
+{
+    if let Some(held) = take_input(heap, seat) {
+        give(heap, seat, held, false);
+        return true;
+    }
+    if let Some(held) = take_deferred(heap, seat) {
+        give(heap, seat, held, false);
+        return true;
+    }
+    false
+}
+
+/// Whether nothing comes out of an empty packet.
+fn pops_nothing(heap: &Heap, seat: &mut HeapSeat, k: u32) -> Option<bool>
+    requires { At heap.now inside k seat.old }
+{
+    let mut held = take_output(heap, seat)?;
+    if held.length() != 0 {
+        give(heap, seat, held, false);
+        return None;
+    }
+    let popped = pop(heap, seat, &mut held);
+    give(heap, seat, held, false);
+    Some(popped.is_none())
+}
+
+/// The same of a seat with nothing in hand.
+fn round(heap: &Heap, seat: &mut HeapSeat, k: u32) -> bool
+    requires { At heap.now inside k seat.old }
+    ensures { At heap.now inside k seat.new }
+{
+    exchange(heap, seat)
+}
+
+/// Takes and gives so many packets: how many it got.
+fn rounds(heap: &Heap, seat: &mut HeapSeat, k: u32, count: u32) -> u32
+    requires { At heap.now resting k seat.old }
+{
+    if !begin(heap, seat, k) {
+        return 0;
+    }
+    let mut done = 0;
+    for _attempt in 0..100_000_000_u32 {
+        if done == count {
+            return done;
+        }
+        if round(heap, seat, k) {
+            done = done.saturating_add(1);
+        }
+    }
+    done
+}
+
+/// The rounds of two seats, each in a thread of its own.
+fn both<R: Threads + Sync>(
+    rt: &R,
+    heap: &Heap,
+    one: &mut HeapSeat,
+    two: &mut HeapSeat,
+    j: u32,
+    k: u32,
+) -> u32
+    requires { At heap.now resting j one.old × At heap.now resting k two.old }
+{
+    let (a, b) = join_mut(
+        rt,
+        &mut || rounds(heap, one, j, 1000),
+        &mut || rounds(heap, two, k, 1000),
+    );
+    a.saturating_add(b)
+}
+
+// The answers of one seat at the start of marking.
+fn first_answers(heap: &Heap, seat: &mut HeapSeat) -> Option<(bool, bool)>
+    requires { At heap.now resting 0 seat.old }
+{
+    if !begin(heap, seat, 0) {
+        return None;
+    }
+    let found = finds_work(heap, seat, 0);
+    let popped = pops_nothing(heap, seat, 0)?;
+    Some((found, popped))
+}
+
+#[test]
+fn answers(rt: HostRuntime) {
+    let Some((heap, mut seats)) = open(rt.alloc(), SMALL) else {
+        panic!(&rt; "memory")
+    };
+    let mut seat = next_seat(&heap, &mut seats, 0);
+    assert!(&rt; first_answers(&heap, &mut seat) == Some((false, true)));
+}
+
+#[test]
+fn quiet(rt: HostRuntime) {
+    let Some((heap, mut seats)) = open(rt.alloc(), SMALL) else {
+        panic!(&rt; "memory")
+    };
+    let mut seat = next_seat(&heap, &mut seats, 0);
+    assert!(&rt; one_packet(&heap, &mut seat, 0) == Some((0, false, true)));
+}
+
+#[test]
+fn no_third(rt: HostRuntime) {
+    let Some((heap, mut seats)) = open(rt.alloc(), SMALL) else {
+        panic!(&rt; "memory")
+    };
+    let mut seat = next_seat(&heap, &mut seats, 0);
+    assert!(&rt; third_packet(&heap, &mut seat, 0) == Some(false));
+}
+
+#[test]
+fn two_threads(rt: HostRuntime) {
+    let Some((heap, mut seats)) = open(rt.alloc(), SMALL) else {
+        panic!(&rt; "memory")
+    };
+    let mut one = next_seat(&heap, &mut seats, 0);
+    let mut two = next_seat(&heap, &mut seats, 1);
+    let mut other = next_seat(&heap, &mut seats, 2);
+    let done = both(&rt, &heap, &mut one, &mut two, 0, 1);
+    assert!(&rt; done == 2000 && all_empty(&heap, &mut other), "{done}");
+}

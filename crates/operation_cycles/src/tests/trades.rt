@@ -1,0 +1,125 @@
+//! Two threads take and give the first packet of one heap, step by step.
+ghost use Rattle.std.specs.Bool.{OnTrue, OnFalse};
+ghost use Rattle.gc_table.specs.Trials.{At, inside, reserved, holding, measured, returned, resting};
+
+use super::SMALL;
+use super::opening::{next_seat, open};
+use super::seasons::{enters, sees_marking, try_marking};
+use gc_table::{Heap, HeapSeat};
+use std::thread::{Threads, join_mut};
+
+fn reserve(heap: &Heap, seat: &mut HeapSeat, k: u32)
+    requires { At heap.now inside k seat.old }
+    ensures { At heap.now reserved k seat.new }
+{
+    heap.reserve(seat);
+}
+
+fn take(heap: &Heap, seat: &mut HeapSeat, k: u32) -> bool
+    requires { At heap.now reserved k seat.old }
+    ensures taken { OnTrue result (At heap.now holding k seat.new) }
+    ensures lost { OnFalse result (At heap.now reserved k seat.new) }
+{
+    heap.take(seat, 0, 0)
+}
+
+fn is_empty(heap: &Heap, seat: &mut HeapSeat, k: u32) -> bool
+    requires { At heap.now holding k seat.old }
+    ensures { OnTrue result (At heap.now measured k seat.new) }
+{
+    heap.read_length(seat, 0) == 0
+}
+
+fn give(heap: &Heap, seat: &mut HeapSeat, k: u32)
+    requires { At heap.now measured k seat.old }
+    ensures { At heap.now returned k seat.new }
+{
+    heap.give(seat, 0, false);
+}
+
+fn credit(heap: &Heap, seat: &mut HeapSeat, k: u32)
+    requires { At heap.now returned k seat.old }
+    ensures { At heap.now inside k seat.new }
+{
+    heap.credit(seat);
+}
+
+fn cancel(heap: &Heap, seat: &mut HeapSeat, k: u32)
+    requires { At heap.now reserved k seat.old }
+    ensures { At heap.now inside k seat.new }
+{
+    heap.credit(seat);
+}
+
+fn leave(heap: &Heap, seat: &mut HeapSeat, k: u32)
+    requires { At heap.now inside k seat.old }
+    ensures { At heap.now resting k seat.new }
+{
+    heap.leave_step(seat);
+}
+
+/// Takes packet 0 and gives it back, or finds it taken. False where the world is stopped, marking isn't under way or the packet isn't empty.
+fn round(heap: &Heap, seat: &mut HeapSeat, k: u32) -> bool
+    requires { At heap.now resting k seat.old }
+    ensures { OnTrue result (At heap.now resting k seat.new) }
+{
+    if !enters(heap, seat, k) {
+        return false;
+    }
+    try_marking(heap, seat, k);
+    if !sees_marking(heap, seat, k) {
+        return false;
+    }
+    reserve(heap, seat, k);
+    if take(heap, seat, k) {
+        if !is_empty(heap, seat, k) {
+            return false;
+        }
+        give(heap, seat, k);
+        credit(heap, seat, k);
+    } else {
+        cancel(heap, seat, k);
+    }
+    leave(heap, seat, k);
+    true
+}
+
+/// How many of so many rounds were done.
+fn rounds(heap: &Heap, seat: &mut HeapSeat, k: u32, count: u32) -> u32
+    requires { At heap.now resting k seat.old }
+{
+    for done in 0..count {
+        if !round(heap, seat, k) {
+            return done;
+        }
+    }
+    count
+}
+
+/// The rounds of two seats, each in a thread of its own.
+fn both<R: Threads + Sync>(
+    rt: &R,
+    heap: &Heap,
+    one: &mut HeapSeat,
+    two: &mut HeapSeat,
+) -> (u32, u32)
+    requires one { At heap.now resting 0 one.old }
+    requires two { At heap.now resting 1 two.old }
+{
+    join_mut(
+        rt,
+        &mut || rounds(heap, one, 0, 1000),
+        &mut || rounds(heap, two, 1, 1000),
+    )
+}
+
+#[test]
+fn two_threads(rt: HostRuntime) {
+    let Some((heap, mut seats)) = open(rt.alloc(), SMALL) else {
+        panic!(&rt; "memory")
+    };
+    let mut one = next_seat(&heap, &mut seats, 0);
+    let mut two = next_seat(&heap, &mut seats, 1);
+    let (a, b) = both(&rt, &heap, &mut one, &mut two);
+    assert!(&rt; a == 1000 && b == 1000, "{a} {b}");
+}

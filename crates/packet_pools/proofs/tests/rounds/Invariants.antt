@@ -1,5 +1,0 @@
-use Rattle.gc_table.specs.Trials.{At, inside}
-use Rattle.packet_pools.proofs.tests.rounds.Given as goal
-
-abbrev pub invariant-loop-attempt : goal.invariant-loop-attempt
-invariant-loop-attempt l = At l.heap inside l.fn.k l.seat

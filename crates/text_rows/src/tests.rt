@@ -1,0 +1,14 @@
+//! By what is read and written.
+//!
+//! - `words`: the words of the command line. `scripts`, `generated`: scripts, and those that are made from two numbers.
+//! - `texts`: reports, faults and the other texts; `streams`: sources and sinks that they go through.
+//! - `batches`: batches of scripts, and runners that play beside each other.
+//! - `dumps`, `censuses`: dumps of a heap, and what is counted of them.
+mod batches;
+mod censuses;
+mod dumps;
+mod generated;
+mod scripts;
+mod streams;
+mod texts;
+mod words;

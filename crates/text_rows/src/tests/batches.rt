@@ -1,0 +1,201 @@
+//! Batches and their faults, and runners that play beside each other.
+use job_pool::{Player, Text, read_batch, run_jobs};
+use std::alloc::Global;
+use std::sync::Wait;
+use std::sync::atomic::{AtomicU64, Ordering};
+use std::test::*;
+use std::thread::Threads;
+
+const TURNS: u64 = 1_000_000_000;
+
+/// Answers with the script itself. It holds a job whose script is `0` until one whose script is `1` was played.
+#[derive(Drop)]
+struct Holding {
+    played: AtomicU64,
+    late: AtomicU64,
+}
+
+impl Player for Holding {
+    ghost use Rattle.std.specs.Prelude.{◌≡◌, ◌⊎◌, []};
+
+    ghost fits = { λ player script status text. ((status ≡ 0) × (text ≡ script)) ⊎ ((status ≡ 6) × (text ≡ [])) };
+
+    fn play_job<R: Threads + Wait + Sync>(
+        &self,
+        _rt: &R,
+        alloc: Global,
+        script: &[u8],
+    ) -> (u8, Text) {
+        if script == [b'0'].as_slice() {
+            self.hold();
+        }
+        if script == [b'1'].as_slice() {
+            self.played.store(1, Ordering::SeqCst);
+        }
+        let mut text = Text::make(alloc);
+        match text.append(script) {
+            Ok(()) => (0, text),
+            Err(_) => (6, text),
+        }
+    }
+}
+
+impl Holding {
+    fn hold(&self) {
+        for _ in 0..TURNS {
+            if self.played.load(Ordering::SeqCst) == 1 {
+                return;
+            }
+        }
+        self.late.store(1, Ordering::SeqCst);
+    }
+}
+
+#[test]
+fn runners_play_beside_each_other(rt: HostRuntime) -> Result<(), Fail> {
+    let player = Holding {
+        played: AtomicU64::new(0),
+        late: AtomicU64::new(0),
+    };
+    let Ok(batch) = read_batch(rt.alloc(), b"gcbatch 1\njob 1\n0job 1\n1job 0\n") else {
+        return Err(Fail::from("a batch is refused"));
+    };
+    let Ok(done) = run_jobs(&rt, rt.alloc(), &batch, 2, &player) else {
+        return Err(Fail::from("no memory"));
+    };
+    assert_eq!(rt; player.late.load(Ordering::SeqCst), 0);
+    assert_eq!(rt; done.len(), 3);
+    for (j, d) in done.iter().enumerate() {
+        assert_eq!(rt; d.job as usize, j);
+        assert_eq!(rt; d.status, 0);
+    }
+    assert_eq!(rt; done[0].text.bytes(), b"0".as_slice());
+    assert_eq!(rt; done[1].text.bytes(), b"1".as_slice());
+    Ok(())
+}
+
+/// Answers with the script itself, and holds nothing.
+#[derive(Drop)]
+struct Echo;
+
+impl Player for Echo {
+    ghost use Rattle.std.specs.Prelude.{◌≡◌, ◌⊎◌, []};
+
+    ghost fits = { λ player script status text. ((status ≡ 0) × (text ≡ script)) ⊎ ((status ≡ 6) × (text ≡ [])) };
+
+    fn play_job<R: Threads + Wait + Sync>(
+        &self,
+        _rt: &R,
+        alloc: Global,
+        script: &[u8],
+    ) -> (u8, Text) {
+        let mut text = Text::make(alloc);
+        match text.append(script) {
+            Ok(()) => (0, text),
+            Err(_) => (6, text),
+        }
+    }
+}
+
+#[test]
+fn one_two_and_eight_runners_answer_alike(rt: HostRuntime) -> Result<(), Fail> {
+    let mut source = Vec::new(rt.alloc());
+    source.extend_from_slice(b"gcbatch 1\n")?;
+    for _ in 0..32u32 {
+        source.extend_from_slice(b"job 2\nabjob 3\ncde")?;
+    }
+    let Ok(batch) = read_batch(rt.alloc(), source.as_slice()) else {
+        return Err(Fail::from("a batch is refused"));
+    };
+    for runners in [1, 2, 8] {
+        let Ok(done) = run_jobs(&rt, rt.alloc(), &batch, runners, &Echo) else {
+            return Err(Fail::from("no memory"));
+        };
+        assert_eq!(rt; done.len(), 64);
+        for (j, d) in done.iter().enumerate() {
+            assert_eq!(rt; d.job as usize, j);
+            assert_eq!(rt; d.text.bytes(), batch.jobs()[j]);
+        }
+    }
+    Ok(())
+}
+
+#[test]
+fn a_batch_without_jobs_has_no_results(rt: HostRuntime) -> Result<(), Fail> {
+    let Ok(batch) = read_batch(rt.alloc(), b"gcbatch 1\n") else {
+        return Err(Fail::from("a batch is refused"));
+    };
+    let Ok(done) = run_jobs(&rt, rt.alloc(), &batch, 8, &Echo) else {
+        return Err(Fail::from("no memory"));
+    };
+    assert_eq!(rt; done.len(), 0);
+    Ok(())
+}
+
+/// What reading says, in a few words.
+fn said(rt: &HostRuntime, source: &[u8]) -> Result<String, Fail> {
+    Ok(match read_batch(rt.alloc(), source) {
+        Ok(batch) => format!(in rt.alloc(); "{} jobs", batch.jobs().len())?,
+        Err(e) => format!(in rt.alloc(); "{e:?}")?,
+    })
+}
+
+#[test]
+fn batches(rt: HostRuntime) -> Result<(), Fail> {
+    let text = b"gcbatch 1\njob 3\nabcjob 0\njob 007\ngcjob 9";
+    let Ok(batch) = read_batch(rt.alloc(), text) else {
+        return Err(Fail::from("a batch is refused"));
+    };
+    let jobs = batch.jobs();
+    assert_eq!(rt; jobs.len(), 3);
+    assert_eq!(rt; jobs[0], b"abc".as_slice());
+    assert_eq!(rt; jobs[1], b"".as_slice());
+    assert_eq!(rt; jobs[2], b"gcjob 9".as_slice());
+    assert_eq!(rt; said(&rt, b"gcbatch 1\n")?.as_str(), "0 jobs");
+    assert_eq!(rt;
+        said(&rt, b"gcbatch 1\njob 5\nabc\n")?.as_str(),
+        "CutJob { job: 0 }"
+    );
+    assert_eq!(rt; said(&rt, b"gcbatch 1")?.as_str(), "BadBatch { offset: 0 }");
+    assert_eq!(rt;
+        said(&rt, b"gcbatch 1\njob \n")?.as_str(),
+        "BadBatch { offset: 10 }"
+    );
+    assert_eq!(rt;
+        said(&rt, b"gcbatch 1\njob  5\nabcde")?.as_str(),
+        "BadBatch { offset: 10 }"
+    );
+    assert_eq!(rt;
+        said(&rt, b"gcbatch 1\njob 5")?.as_str(),
+        "BadBatch { offset: 10 }"
+    );
+    assert_eq!(rt;
+        said(&rt, b"gcbatch 1\njob 16777217\n")?.as_str(),
+        "BadBatch { offset: 10 }"
+    );
+    assert_eq!(rt;
+        said(&rt, b"gcbatch 1\njob 16777216\n")?.as_str(),
+        "CutJob { job: 0 }"
+    );
+    assert_eq!(rt;
+        said(&rt, b"gcbatch 1\njob 99999999999999999999999\n")?.as_str(),
+        "BadBatch { offset: 10 }"
+    );
+    let mut long = Vec::new(rt.alloc());
+    long.extend_from_slice(b"gcbatch 1\n")?;
+    for _ in 0..64u32 {
+        long.extend_from_slice(b"job 0\n")?;
+    }
+    assert_eq!(rt; said(&rt, long.as_slice())?.as_str(), "64 jobs");
+    long.extend_from_slice(b"job 5\n")?;
+    assert_eq!(rt;
+        said(&rt, long.as_slice())?.as_str(),
+        "TooManyJobs { offset: 394 }"
+    );
+    long.extend_from_slice(b"job")?;
+    assert_eq!(rt;
+        said(&rt, long.as_slice())?.as_str(),
+        "TooManyJobs { offset: 394 }"
+    );
+    Ok(())
+}
