@@ -3,7 +3,7 @@
 
 From the top of the repository: `python3 tests/memory.py [PROGRAM]`. A run has to end with the status 6 and nothing written, or as it
 ends where nothing is refused. Each job of a batch may so end too: then the batch is done, and tells the status 6 of a job that wrote nothing.
-The status of the script is 0 where there was no third kind.
+The status of the script is 0 where there was no third kind, and each command, and each way, had something refused.
 """
 
 import collections
@@ -57,8 +57,10 @@ def main():
     everything = [(run, name, way) for name, way in WAYS for run in runs()]
     found = each(lambda item: refuse_in_turn(disturbed, item[0], item[2]), everything)
     total = collections.Counter()
+    idle = []
     for name, _ in WAYS:
         kinds = sum((kinds for (_, other, _), kinds in zip(everything, found) if other == name), collections.Counter())
+        idle += [] if kinds else [name]
         print(f"{name}: " + ", ".join(f"{count} {kind}" for kind, count in sorted(kinds.items())))
         total += kinds
     commands = collections.Counter()
@@ -67,7 +69,10 @@ def main():
     print("runs by command: " + ", ".join(f"{command} {count}" for command, count in sorted(commands.items())))
     print(f"{sum(total.values())} runs: " + ", ".join(f"{count} {kind}" for kind, count in sorted(total.items())))
     print(f"{total['a third kind']} of a third kind")
-    sys.exit(1 if total["a third kind"] else 0)
+    idle += [command for command, count in commands.items() if not count]
+    for name in idle:
+        print(f"NOTHING REFUSED: {name}")
+    sys.exit(1 if total["a third kind"] or idle else 0)
 
 
 if __name__ == "__main__":
