@@ -2,8 +2,13 @@
 use Rattle.std.proofs.Common.{ℕ, ◌≡◌, List, [], ◌∷◌, ◌++◌, refl, sym, ap, ◌∙◌, Bool, true, false, not, ◌||◌, ⊎_elim}
 use Rattle.std.specs.Prelude.{if◌then◌else◌}
 use Rattle.std.proofs.lemmas.Bool.{and_from, and_parts, cases_Bool, not-true, or_cases, or_left, or_parts, or_right}
-use Rattle.mark_core.specs.declared.kinds.Step.TheVariants.{EnterStep, LeaveStep}
-use Rattle.gc_table.specs.Log.{event}
+use Rattle.mark_core.specs.declared.kinds.Step.TheVariants.{EnterStep, LeaveStep, Observe}
+use Rattle.gc_table.specs.Taking.{after}
+use Rattle.gc_table.specs.Running.{Ran}
+use Rattle.gc_table.specs.declared.view.View.{View}
+use Rattle.gc_table.proofs.Log.{events-after}
+use Rattle.gc_table.proofs.Running.{ran-events}
+use Rattle.gc_table.specs.Log.{event, events}
 use Rattle.gc_table.specs.declared.view.Entry.{Entry}
 use Rattle.packet_pools.specs.Seeking.{some_event}
 use Rattle.packet_pools.proofs.Searches.{some-left}
@@ -56,6 +61,10 @@ stayed-waits (x ∷ xs) h =
 -- two calls in which the seat doesn't leave
 pub stays-join : (xs ys : List Entry) → never leaves xs ≡ true → never leaves ys ≡ true → never leaves (xs ++ ys) ≡ true
 stays-join xs ys a b = ap not (some-none leaves xs ys (not-true _ a) (not-true _ b))
+
+-- who looks whether a stop is under way doesn't leave
+pub stays-look : (u v w : View) (n : ℕ) → Ran u v → Ran v w → w ≡ after Observe n v → never leaves (events u v) ≡ true → never leaves (events u w) ≡ true
+stays-look u v w n r s e i = ap (never leaves) (ran-events u v w r s) ∙ stays-join (events u v) (events v w) i (ap (never leaves) (events-after v w Observe n e))
 
 -- a seat that found a stop when it entered has left again, and waits on
 pub turned-waits : (es : List Entry) (n m : ℕ) (ys : List Entry) → never leaves es ≡ true → offered_help es ≡ true → waits_helping ys ≡ true → offered_help ys ≡ true → (waits_helping (es ++ event EnterStep n ∷ event LeaveStep m ∷ ys) ≡ true) × (offered_help (es ++ event EnterStep n ∷ event LeaveStep m ∷ ys) ≡ true)

@@ -27,6 +27,10 @@ use stop_world::Raised;
 /// How many objects a waiting seat traces before it looks again whether the stop has ended.
 const TURN: u32 = 1_024;
 
+/// How often a waiting seat looks whether the stop has ended before it helps again. Most stops are shorter than that, and helpers that find no work
+/// hold them up: each looks through the pools, and takes a card of the pass, where the seat that stopped the world does the same.
+const PAUSE: u32 = 512;
+
 /// Helps, where the stop is in a drain or a sweep.
 fn help_joined(heap: &Heap, seat: &mut HeapSeat)
     requires seat { Sits heap.now seat.old × IsAdmitted (view_of seat.old) }
@@ -61,6 +65,22 @@ fn help_once(heap: &Heap, seat: &mut HeapSeat)
     }
 }
 
+/// Looks some times whether the stop has ended, and no longer once it has.
+fn pause(heap: &Heap, seat: &mut HeapSeat)
+    requires seat { Sits heap.now seat.old × IsOut (view_of seat.old) }
+    ensures seat { Sits heap.now seat.new × IsOut (view_of seat.new) }
+    ensures out { GoesOut (view_of seat.old) (view_of seat.new) }
+    ensures own { (view_of seat.new).own ≡ (view_of seat.old).own }
+    ensures inside { IsTrue (never leaves (events (view_of seat.old) (view_of seat.new))) }
+{
+    for _ in 0..PAUSE {
+        if !poll(heap, seat) {
+            return;
+        }
+        thread::yield_now();
+    }
+}
+
 /// Waits until no stop is under way. Meanwhile it joins the helpers of the stop, and helps.
 pub fn await_resumed_helping<R: Wait>(rt: &R, heap: &Heap, seat: &mut HeapSeat)
     requires seat { Sits heap.now seat.old × IsOut (view_of seat.old) }
@@ -79,7 +99,7 @@ pub fn await_resumed_helping<R: Wait>(rt: &R, heap: &Heap, seat: &mut HeapSeat)
             return;
         }
         help_once(heap, seat);
-        thread::yield_now();
+        pause(heap, seat);
     }
     unreachable!()
 }

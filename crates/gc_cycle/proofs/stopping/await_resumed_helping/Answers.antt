@@ -3,13 +3,13 @@ use Rattle.mark_core.specs.declared.kinds.Step.TheVariants.{Observe}
 use Rattle.gc_table.specs.Seats.{view_of}
 use Rattle.gc_table.specs.declared.view.View.{View}
 use Rattle.packet_pools.specs.Seeking.{some_event}
-use Rattle.packet_pools.proofs.Searches.{some-right}
+use Rattle.packet_pools.proofs.Searches.{some-left, some-right}
 use Rattle.gc_table.specs.Log.{events}
 use Rattle.gc_table.proofs.Log.{events-after}
 use Rattle.gc_table.proofs.Running.{ran-events, ran-join}
 use Rattle.gc_cycle.specs.Events.{never}
 use Rattle.gc_cycle.specs.Sorts.{joins, leaves}
-use Rattle.gc_cycle.proofs.Waits.{stays-join}
+use Rattle.gc_cycle.proofs.Waits.{stays-join, stays-look}
 use Rattle.gc_cycle.proofs.Goings.{offered-last, out-join, polled-out, resumed-last}
 use Rattle.gc_cycle.proofs.stopping.await_resumed_helping.Goals as goal
 
@@ -19,26 +19,30 @@ loop-preserved g c =
     let v : View = view_of c.loop.seat in
     let w : View = view_of c.poll.new.seat in
     let x : View = view_of c.help_once.new.seat in
+    let y : View = view_of c.pause.new.seat in
     let i = c.loop.invariant in
     let t = c.poll.ensures.step in
     let p = polled-out v w t.0 c.poll.ensures.ran t.1 in
     let h = c.help_once.ensures in
-    let to_x = out-join v w x p.0 h.out in
+    let q = c.pause.ensures in
+    let to_y = out-join w x y h.out q.out in
+    let from_v = out-join v w y p.0 to_y in
+    let helped = ran-events w x y h.out.ran q.out.ran in
     record {
       next = tt;
       finite = tt;
-      sits = h.seat.0;
-      out = h.seat.1;
-      goes = out-join u v x i.goes to_x;
-      own = h.own ∙ (p.1 ∙ i.own);
+      sits = q.seat.0;
+      out = q.seat.1;
+      goes = out-join u v y i.goes from_v;
+      own = q.own ∙ (h.own ∙ (p.1 ∙ i.own));
       inside =
-          ap (never leaves) (ran-events u v x i.goes.ran to_x.ran)
-          ∙ stays-join (events u v) (events v x) i.inside
-          (ap (never leaves) (ran-events v w x p.0.ran h.out.ran) ∙ stays-join (events v w) (events w x) (ap (never leaves) (events-after v w Observe t.0 t.1)) h.inside);
+          ap (never leaves) (ran-events u w y (out-join u v w i.goes p.0).ran to_y.ran)
+          ∙ stays-join (events u w) (events w y) (stays-look u v w t.0 i.goes.ran c.poll.ensures.ran t.1 i.inside)
+          (ap (never leaves) helped ∙ stays-join (events w x) (events x y) h.inside q.inside);
       offered =
           inr
-          (ap (some_event joins) (ran-events u v x i.goes.ran to_x.ran)
-          ∙ some-right joins (events u v) (events v x) (ap (some_event joins) (ran-events v w x p.0.ran h.out.ran) ∙ some-right joins (events v w) (events w x) h.offered));
+          (ap (some_event joins) (ran-events u w y (out-join u v w i.goes p.0).ran to_y.ran)
+          ∙ some-right joins (events u w) (events w y) (ap (some_event joins) helped ∙ some-left joins (events w x) (events x y) h.offered));
     }
 
 pub returns-then-not-poll-clause-ran : goal.returns-then-not-poll-clause-ran
@@ -78,8 +82,5 @@ returns-then-not-poll-clause-not_full g c =
 
 pub returns-then-not-poll-clause-inside : goal.returns-then-not-poll-clause-inside
 returns-then-not-poll-clause-inside g c =
-    let u : View = view_of c.args.seat.now in
-    let v : View = view_of c.loop.seat in
-    let w : View = view_of c.poll.new.seat in
     let t = c.poll.ensures.step in
-    ap (never leaves) (ran-events u v w c.loop.invariant.goes.ran c.poll.ensures.ran) ∙ stays-join (events u v) (events v w) c.loop.invariant.inside (ap (never leaves) (events-after v w Observe t.0 t.1))
+    stays-look (view_of c.args.seat.now) (view_of c.loop.seat) (view_of c.poll.new.seat) t.0 c.loop.invariant.goes.ran c.poll.ensures.ran t.1 c.loop.invariant.inside

@@ -1,0 +1,50 @@
+use Rattle.std.proofs.Common.{refl, ap, ◌∙◌}
+use Rattle.gc_table.specs.Seats.{view_of}
+use Rattle.gc_table.specs.declared.view.View.{View}
+use Rattle.gc_table.proofs.Log.{events-none}
+use Rattle.gc_cycle.specs.Events.{never}
+use Rattle.gc_cycle.specs.Sorts.{leaves}
+use Rattle.gc_cycle.proofs.Goings.{looked-out, out-join, out-none, polled-out}
+use Rattle.gc_cycle.proofs.Waits.{stays-look}
+use Rattle.gc_cycle.proofs.stopping.pause.Goals as goal
+
+pub loop-init : goal.loop-init
+loop-init c =
+    let v : View = view_of c.args.seat.now in
+    record { sits = c.requires.seat.0; out = c.requires.seat.1; goes = out-none v; own = refl; inside = ap (never leaves) (events-none v) }
+
+pub loop-preserved : goal.loop-preserved
+loop-preserved c =
+    let u : View = view_of c.args.seat.now in
+    let v : View = view_of c.loop.seat in
+    let w : View = view_of c.poll.new.seat in
+    let i = c.loop.invariant in
+    let t = c.poll.ensures.step in
+    let p = polled-out v w t.0 c.poll.ensures.ran t.1 in
+    record {
+      sits = c.poll.ensures.seat;
+      out = looked-out v w i.out c.poll.ensures.ran c.poll.ensures.state;
+      goes = out-join u v w i.goes p.0;
+      own = p.1 ∙ i.own;
+      inside = stays-look u v w t.0 i.goes.ran c.poll.ensures.ran t.1 i.inside;
+    }
+
+pub returns-then-not-poll-clause-seat : goal.returns-then-not-poll-clause-seat
+returns-then-not-poll-clause-seat c = (c.poll.ensures.seat, looked-out (view_of c.loop.seat) (view_of c.poll.new.seat) c.loop.invariant.out c.poll.ensures.ran c.poll.ensures.state)
+
+pub returns-then-not-poll-clause-out : goal.returns-then-not-poll-clause-out
+returns-then-not-poll-clause-out c =
+    let v : View = view_of c.loop.seat in
+    let w : View = view_of c.poll.new.seat in
+    let t = c.poll.ensures.step in
+    out-join (view_of c.args.seat.now) v w c.loop.invariant.goes (polled-out v w t.0 c.poll.ensures.ran t.1).0
+
+pub returns-then-not-poll-clause-own : goal.returns-then-not-poll-clause-own
+returns-then-not-poll-clause-own c =
+    let t = c.poll.ensures.step in
+    (polled-out (view_of c.loop.seat) (view_of c.poll.new.seat) t.0 c.poll.ensures.ran t.1).1 ∙ c.loop.invariant.own
+
+pub returns-then-not-poll-clause-inside : goal.returns-then-not-poll-clause-inside
+returns-then-not-poll-clause-inside c =
+    let t = c.poll.ensures.step in
+    stays-look (view_of c.args.seat.now) (view_of c.loop.seat) (view_of c.poll.new.seat) t.0 c.loop.invariant.goes.ran c.poll.ensures.ran t.1 c.loop.invariant.inside

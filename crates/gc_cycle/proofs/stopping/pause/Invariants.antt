@@ -1,0 +1,17 @@
+use Rattle.std.proofs.Common.{◌≡◌, true}
+use Rattle.gc_table.specs.Log.{events}
+use Rattle.gc_table.specs.Seats.{Sits, view_of}
+use Rattle.gc_cycle.specs.Events.{never}
+use Rattle.gc_cycle.specs.Mutating.{GoesOut}
+use Rattle.gc_cycle.specs.Sorts.{leaves}
+use Rattle.gc_cycle.specs.Standing.{IsOut}
+use Rattle.gc_cycle.proofs.stopping.pause.Given as goal
+
+abbrev pub invariant-loop : goal.invariant-loop
+invariant-loop l = record {
+  sits : Sits l.heap l.seat;
+  out : IsOut (view_of l.seat);
+  goes : GoesOut (view_of l.fn.seat) (view_of l.seat);
+  own : (view_of l.seat).own ≡ (view_of l.fn.seat).own;
+  inside : never leaves (events (view_of l.fn.seat) (view_of l.seat)) ≡ true;
+}
