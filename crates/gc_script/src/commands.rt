@@ -22,7 +22,8 @@ pub struct Cursor<'s, 'a> {
 impl<'s, 'a> Cursor<'s, 'a> {
     ghost use Rattle.gc_script.specs.Cursor.{commands_left, steps_left};
 
-    /// Goes to the next block, where no command of this one is left.
+    /// Goes to the next block, where no command of this one is left. Out of line, so that a step stays short.
+    #[inline(never)]
     fn turn(&mut self) -> bool
         requires { self.old.rest.now ≡ [] }
         ensures same { IsTrue result → commands_left self.new ≡ commands_left self.old }
@@ -49,13 +50,13 @@ impl<'s, 'a> Cursor<'s, 'a> {
         false
     }
 
-    fn step(&mut self) -> Option<Command<'a>>
-        ensures { MatchOption result ((commands_left self.old ≡ []) × (commands_left self.new ≡ [])) (λ c. commands_left self.old ≡ execution_of c ∷ commands_left self.new) }
+    fn step(&mut self) -> Option<&'s Command<'a>>
+        ensures { MatchOption result ((commands_left self.old ≡ []) × (commands_left self.new ≡ [])) (λ c. commands_left self.old ≡ execution_of c.now ∷ commands_left self.new) }
     {
         loop {
             if let [command, rest @ ..] = self.rest {
                 self.rest = rest;
-                return Some(*command);
+                return Some(command);
             }
             if !self.turn() {
                 return None;
@@ -82,6 +83,15 @@ impl<'s, 'a> Model for Commands<'s, 'a> {
 }
 
 impl<'s, 'a> Commands<'s, 'a> {
+    /// The same commands, each lent where it stands: none is copied.
+    pub fn lent(self) -> Lent<'s, 'a>
+        ensures { result ≡ self.entry }
+    {
+        Lent {
+            cursor: self.cursor,
+        }
+    }
+
     pub(crate) fn of_parts(parts: &'s [Part<'a>]) -> Commands<'s, 'a>
         ensures { result ≡ joined (map part_shown parts.now) }
     {
@@ -133,6 +143,35 @@ impl<'s, 'a> Iterator for Commands<'s, 'a> {
     ghost remaining = { item_count (λ s. s) };
 
     fn next(&mut self) -> Option<Command<'a>> {
+        self.cursor.step().copied()
+    }
+}
+
+/// The same, each command lent from the script.
+#[derive(Drop)]
+pub struct Lent<'s, 'a> {
+    cursor: Cursor<'s, 'a>,
+}
+
+impl<'s, 'a> Model for Lent<'s, 'a> {
+    ghost use Rattle.std.specs.Prelude.{List};
+    ghost use Rattle.plain_heap.specs.Sections.{Execution};
+
+    ghost Value = { List Execution };
+
+    ghost use Rattle.gc_script.specs.Cursor.{commands_left};
+
+    ghost view = { λ s. commands_left s.cursor };
+}
+
+impl<'s, 'a> Iterator for Lent<'s, 'a> {
+    type Item = &'s Command<'a>;
+
+    ghost next_gives = { YieldsFirstBy (λ c. execution_of c.now) (λ s. s) };
+
+    ghost remaining = { item_count (λ s. s) };
+
+    fn next(&mut self) -> Option<&'s Command<'a>> {
         self.cursor.step()
     }
 }

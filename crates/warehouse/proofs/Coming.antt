@@ -1,5 +1,5 @@
 -- A mutator comes to a command.
-use Rattle.std.proofs.Common.{ℕ, ◌≡◌, ◌-◌, ◌*◌, ◌%◌, ◌<◌, ◌≤◌, ◌==◌, ◌++◌, List, ◌∷◌, [], refl, sym, ap, ◌∙◌, subst, true, Option, Some, if◌then◌else◌, arith, ◌⊎◌, eq-eqb, ne_eqb}
+use Rattle.std.proofs.Common.{ℕ, ◌≡◌, ◌-◌, ◌*◌, ◌%◌, ◌<◌, ◌≤◌, ◌==◌, ◌++◌, List, ◌∷◌, [], refl, sym, ap, ◌∙◌, subst, true, Option, Some, if◌then◌else◌, arith, ◌⊎◌, ⊎_elim, inl, inr, eq-eqb, ne_eqb}
 use Rattle.std.specs.Prelude.{IsTrue, zero, suc}
 use Rattle.std.proofs.lemmas.Bool.{false≢true}
 use Rattle.mark_core.specs.Seats.{has_turn}
@@ -23,12 +23,14 @@ use Rattle.play_end.specs.Done.{turn_word}
 use Rattle.play_end.specs.Parts.{SaysSame}
 use Rattle.warehouse.specs.Commands.{IsAt, IsNextOf, StopsBefore}
 use Rattle.gc_cycle.specs.PartEvents.{polled_last}
-use Rattle.warehouse.specs.Playing.{Acts, FindsFull, GetsReady, HasFree, HasRoom, IsCounted, MayPass, Stays, collects_by, player_of}
+use Rattle.warehouse.specs.Playing.{Acts, FindsFull, GetsReady, HasFree, HasRoom, IsCounted, MayPass, Stays, Waits, collects_by, player_of}
 use Rattle.warehouse.specs.declared.mutator.Mutator.{Mutator}
+use Rattle.warehouse.proofs.Acting.{acts-join}
 use Rattle.warehouse.proofs.Commanding.{stays-of}
 use Rattle.warehouse.proofs.Fulls.{counted-kept}
 use Rattle.warehouse.proofs.Leaving.{within-still}
 use Rattle.warehouse.proofs.Readying.{polled-right}
+use Rattle.warehouse.proofs.Sparings.{stays-join}
 
 -- the season word of a section's turn
 pub own-turn : (w z : ℕ) (o : Option ℕ) → 0 < z → o ≡ Some w → has_turn o (Some (turn_word w z)) ≡ true
@@ -128,3 +130,35 @@ makes-new (ops.Put v n) b = absurd (false≢true b)
 makes-new (ops.Say v) b = absurd (false≢true b)
 makes-new (ops.Sum v i limit) b = absurd (false≢true b)
 makes-new ops.Collect b = absurd (false≢true b)
+
+-- it waited, and then came to the command, or found the heap full
+module _ (h : Heap) (p : Parts) (turn : ℕ) (e : Execution) (m : Mutator) (s : HeapSeat) (y : Mutator) (stays : Stays (view_of m.seat) (view_of s)) (waits : Waits (view_of m.seat) (view_of s)) where
+  says_later : SaysSame (player_of (moved m s)) (player_of y) → SaysSame (player_of m) (player_of y)
+  says_later k = record { count = k.count; said = k.said; dropped = k.dropped; cells = k.cells }
+
+  pub at-later : (kept : Option Cache) → IsAt h p turn kept e (moved m s) y → IsAt h p turn kept e m y
+  at-later kept k =
+      record {
+        playing = k.playing;
+        stays = stays-join (view_of m.seat) (view_of s) (view_of y.seat) stays k.stays;
+        says = says_later k.says;
+        acts = λ season. acts-join season 0 0 0 1 0 0 1 0 0 (view_of m.seat) (view_of s) (view_of y.seat) (waits season) (k.acts season) (omega arith) (omega arith) (omega arith);
+        may = k.may;
+        season = k.season;
+        room = λ left r. k.room left (room-moved m s stays.made left r);
+        pass = k.pass;
+        free = k.free;
+      }
+
+  pub stops-later : StopsBefore h p e (moved m s) y → StopsBefore h p e m y
+  stops-later k =
+      let c : ℕ = collects_by (e ∷ []) in
+      record {
+        playing = k.playing;
+        kept = record { heap = k.kept.heap ∙ stays.still.heap; turns = k.kept.turns ∙ stays.still.turns; places = k.kept.places ∙ stays.still.places };
+        says = says_later k.says;
+        position = k.position;
+        known = k.known;
+        found = λ full. ⊎_elim (λ a. inl (sym stays.still.full ∙ a)) (λ b. inr b) (k.found full);
+        acts = λ season. acts-join season 0 0 0 0 0 c 0 0 c (view_of m.seat) (view_of s) (view_of y.seat) (waits season) (k.acts season) (omega arith) (omega arith) (omega arith);
+      }

@@ -24,3 +24,4 @@ pub mod Settling
 pub mod Absent
 pub mod Played
 pub mod Sparings
+pub mod Glances

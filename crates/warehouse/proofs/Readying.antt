@@ -131,8 +131,8 @@ module _ (w x : View) (looks : LooksAtSeason w x) where
   pub looks-waits : Waits w x
   looks-waits = looks_by (λ y. Waits w y) (waits-none w) (λ n found. season_waits n w x found)
 
-  looks_mutates : Mutates w → Mutates x
-  looks_mutates m = looks_by Mutates m (λ n found. season_mutates n w x found m)
+  pub looks-mutates : Mutates w → Mutates x
+  looks-mutates m = looks_by Mutates m (λ n found. season_mutates n w x found m)
 
   looks_seen : HasSeenPhase w.state → HasSeenPhase x.state
   looks_seen h = looks_by (λ y. HasSeenPhase y.state) h (λ n found. subst (λ (y : View). HasSeenPhase y.state) (sym found.0) h)
@@ -213,7 +213,7 @@ reads-ready turn kept v w x ran spares calm keeps poll goes cached counted t loo
     let waits = waits-join v w x (waits-calm v w ran spares calm) (looks-waits w x looks) in
     let later : Ran w x = looks-ran w x looks in
     let polled = ap (some_event polls) (ran-events v w x ran later) ∙ some-left polls (events v w) (events w x) poll in
-    let mutates = looks_mutates w x looks goes.mutates in
+    let mutates = looks-mutates w x looks goes.mutates in
     record {
       mutates = mutates;
       acts = acts-polled v x waits polled;

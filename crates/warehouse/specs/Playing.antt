@@ -16,6 +16,7 @@ use Rattle.gc_table.specs.Log.{events}
 use Rattle.gc_table.specs.Running.{Ran}
 use Rattle.gc_table.specs.Seats.{Found, Sits, view_of}
 use Rattle.packet_pools.specs.Counts.{count_of}
+use Rattle.packet_pools.specs.Seeking.{some_event}
 use Rattle.alloc_cache.specs.declared.cache.Cache.{Cache}
 use Rattle.std.specs.List.{list_any}
 use Rattle.mutator_ops.specs.Doing.{lends}
@@ -29,6 +30,7 @@ use Rattle.warehouse.specs.declared.mutator.Mutator.{Mutator}
 use Rattle.gc_cycle.specs.Answering.{EndsFull, HasCache}
 use Rattle.gc_cycle.specs.Cycles.{never_fills}
 use Rattle.gc_cycle.specs.Events.{never}
+use Rattle.gc_cycle.specs.Mutating.{GoesOut}
 use Rattle.gc_cycle.specs.PartEvents.{PlaysCommands, StopsAtFull, polled_last}
 use Rattle.gc_cycle.specs.Sorts.{ends_cycle, polls}
 use Rattle.gc_cycle.specs.Standing.{IsOut, Mutates}
@@ -96,6 +98,12 @@ Waits v w = (season : ℕ) → Acts season 0 0 0 v w
 -- the season is read where the seat doesn't know it any more, as after a stop, and nothing else is done
 abbrev pub LooksAtSeason : View → View → Type 0
 LooksAtSeason v w = (w ≡ v) ⊎ ((n : ℕ) × Found ReadSeason n v w)
+
+-- the mutator polled, and at most read the phase: it has the cache that it had
+pub record Glances (v w : View) : Type 0 where
+  pub out : GoesOut v w
+  pub polled : IsTrue (some_event polls (events v w))
+  pub cache : w.state.cache ≡ v.state.cache
 
 -- between two commands: the mutator polled, and is in its turn
 pub record GetsReady (turn : ℕ) (kept : Option Cache) (v w : View) : Type 0 where

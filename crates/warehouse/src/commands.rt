@@ -11,7 +11,7 @@ ghost use Rattle.warehouse.specs.Playing.{HasFree, IsPlaying};
 
 use crate::gate::Gate;
 use crate::mutator::Mutator;
-use crate::turn::{await_cell, await_turn, retire_some, spend_none};
+use crate::turn::{await_cell, await_turn, has_free, is_ready, retire_some, spend_none};
 use alloc_cache::Cache;
 use gc_cycle::{Safe, collect};
 use gc_script::{Command, Section};
@@ -164,8 +164,10 @@ fn makes(op: Op) -> bool
     }
 }
 
-/// Comes to the command: a safe point in the turn, with a cell where the command makes an object. False where the heap is full.
-fn come_to<'a, R: Wait>(
+/// Comes to the command by a safe point in the turn, with a cell where the command makes an object. False where the heap is full.
+#[cold]
+#[inline(never)]
+fn come_late<'a, R: Wait>(
     rt: &R,
     heap: &Heap,
     mutator: &mut Mutator<'a>,
@@ -185,6 +187,37 @@ fn come_to<'a, R: Wait>(
     } else {
         await_turn(rt, heap, &mut mutator.seat, cache, turn, mutator.count)
     }
+}
+
+/// Whether a mutator that may be ready has the cell that the command needs, if it needs one.
+fn may_begin(ready: bool, command: &Command<'_>, cache: &Option<Cache>) -> bool
+    ensures ready { IsTrue result → IsTrue ready }
+    ensures free { IsTrue result → IsTrue (makes_object (execution_of command.now).op) → HasFree cache.now }
+{
+    ready && (!makes(command.op) || has_free(cache))
+}
+
+/// Comes to the command, at once where nothing stands in the way. False where the heap is full.
+fn come_to<'a, R: Wait>(
+    rt: &R,
+    heap: &Heap,
+    mutator: &mut Mutator<'a>,
+    section: &Section<'a>,
+    command: &Command<'a>,
+    cache: &mut Option<Cache>,
+    turn: u64,
+) -> bool
+    requires playing { IsPlaying heap.now section.now cache.old mutator.old }
+    requires turn { IsTurn section.now turn mutator.old }
+    requires left { IsNextOf section.now turn (execution_of command.now) mutator.old }
+    ensures at { OnTrue result (IsAt heap.now section.now turn cache.new (execution_of command.now) mutator.old mutator.new) }
+    ensures stops { OnFalse result (StopsBefore heap.now section.now (execution_of command.now) mutator.old mutator.new × (cache.new ≡ None)) }
+{
+    let ready = is_ready(heap, &mut mutator.seat, cache, turn);
+    if may_begin(ready, command, cache) {
+        return true;
+    }
+    come_late(rt, heap, mutator, section, command, cache, turn)
 }
 
 /// Plays a command: comes to it, tells the gate, and does it. False where the heap is full, and then no cache is left.

@@ -44,8 +44,8 @@ fn play_commands<'a, R: Wait, G: Gate>(
 {
     let turn = turn_of(section.number(), season);
     let mut cache: Option<Cache> = None;
-    for command in section.commands_of(season) {
-        if !play_command(rt, heap, mutator, section, &command, &mut cache, turn, gate) {
+    for command in section.commands_of(season).lent() {
+        if !play_command(rt, heap, mutator, section, command, &mut cache, turn, gate) {
             spend_none(cache);
             return Safe::Full;
         }

@@ -1,13 +1,15 @@
 //! A mutator comes into its turn, with a cache where it needs one.
-ghost use Rattle.std.specs.Prelude.{◌≡◌, Some, None, IsTrue};
+ghost use Rattle.std.specs.Prelude.{◌≡◌, Some, None, IsTrue, IsFalse};
 ghost use Rattle.std.specs.Bool.{OnFalse, OnTrue};
-ghost use Rattle.mark_core.specs.Seats.{has_turn};
+ghost use Rattle.mark_core.specs.Seats.{has_turn, saw};
+ghost use Rattle.mark_core.specs.declared.kinds.Phase.TheVariants.{Full};
 ghost use Rattle.gc_table.specs.Log.{Only, events};
 ghost use Rattle.gc_table.specs.Running.{Ran};
 ghost use Rattle.gc_table.specs.Seats.{Sits, view_of};
-ghost use Rattle.gc_cycle.specs.Answering.{HasCache};
-ghost use Rattle.warehouse.specs.Playing.{FindsFull, GetsReady, HasFree, IsCounted, LooksAtSeason, Stays, Waits};
+ghost use Rattle.gc_cycle.specs.Answering.{GoesOn, HasCache};
+ghost use Rattle.warehouse.specs.Playing.{FindsFull, GetsReady, Glances, HasFree, IsCounted, LooksAtSeason, Stays, Waits};
 ghost use Rattle.gc_cycle.specs.Events.{never};
+ghost use Rattle.gc_cycle.specs.Polling.{poll_found_stop};
 ghost use Rattle.gc_cycle.specs.Sorts.{raises_flag};
 ghost use Rattle.gc_cycle.specs.Sparing.{spares_part};
 ghost use Rattle.gc_cycle.specs.Standing.{Mutates};
@@ -15,7 +17,9 @@ ghost use Rattle.gc_cycle.specs.Standing.{Mutates};
 use alloc_cache::{Cache, retire};
 use gc_cycle::{Refill, go_in, go_out, pass_safe_point, refill};
 use gc_table::{Heap, HeapSeat};
+use mark_core::Phase;
 use std::sync::Wait;
+use stop_world::poll;
 
 /// Gives a cache up, if there is one.
 pub(crate) fn retire_some(heap: &Heap, seat: &mut HeapSeat, cache: Option<Cache>)
@@ -74,9 +78,53 @@ fn go_round<R: Wait>(rt: &R, heap: &Heap, seat: &mut HeapSeat, cache: &mut Optio
     go_in(rt, heap, seat);
 }
 
+/// Whether a heap in this phase is full.
+fn is_full(phase: Phase) -> bool
+    ensures { result ≡ saw (Some phase) Full }
+{
+    match phase {
+        Phase::Full => true,
+        _ => false,
+    }
+}
+
+/// Whether no stop is under way and the heap isn't full. The mutator only looks: where there is one, or the heap is full, it still has a safe point to pass.
+#[inline(always)]
+fn sees_clear(heap: &Heap, seat: &mut HeapSeat) -> bool
+    requires seat { Sits heap.now seat.old × Mutates (view_of seat.old) }
+    ensures seat { Sits heap.now seat.new × Mutates (view_of seat.new) }
+    ensures glances { Glances (view_of seat.old) (view_of seat.new) }
+    ensures free { IsTrue result → IsFalse (poll_found_stop (events (view_of seat.old) (view_of seat.new))) }
+    ensures clear { IsTrue result → GoesOn (view_of seat.old) (view_of seat.new) }
+{
+    if poll(heap, seat) {
+        return false;
+    }
+    !is_full(heap.read_phase(seat))
+}
+
+/// Whether a command may be done at once, as it nearly always may: no stop is under way, the heap isn't full, and it is the turn. Else the mutator has only
+/// looked.
+#[inline(always)]
+pub(crate) fn is_ready(heap: &Heap, seat: &mut HeapSeat, _cache: &Option<Cache>, turn: u64) -> bool
+    requires seat { Sits heap.now seat.old × Mutates (view_of seat.old) }
+    requires cache { HasCache _cache.now (view_of seat.old) }
+    requires counted { IsCounted (view_of seat.old) }
+    requires turn { IsTrue (has_turn (view_of seat.old).state.section (Some turn)) }
+    ensures seat { Sits heap.now seat.new × Mutates (view_of seat.new) }
+    ensures cache { HasCache _cache.now (view_of seat.new) }
+    ensures ready { IsTrue result → GetsReady turn _cache.now (view_of seat.old) (view_of seat.new) }
+    ensures stays { Stays (view_of seat.old) (view_of seat.new) }
+    ensures waits { Waits (view_of seat.old) (view_of seat.new) }
+{
+    if !sees_clear(heap, seat) {
+        return false;
+    }
+    is_turn(heap, seat, turn)
+}
+
 /// A safe point, and the season after it: in a stop the seat was outside, and what it had read of the season is no longer known. Where it isn't this turn
 /// the seat goes out and in until it is. True where it is; else the heap is full, and the cache is given up.
-#[inline(always)]
 pub(crate) fn await_turn<R: Wait>(
     rt: &R,
     heap: &Heap,
@@ -107,7 +155,7 @@ pub(crate) fn await_turn<R: Wait>(
 }
 
 /// Whether a cell can be made in the cache.
-fn has_free(cache: &Option<Cache>) -> bool
+pub(crate) fn has_free(cache: &Option<Cache>) -> bool
     ensures { IsTrue result → HasFree cache.now }
 {
     match cache {

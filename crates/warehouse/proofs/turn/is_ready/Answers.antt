@@ -1,0 +1,62 @@
+use Rattle.gc_table.specs.Seats.{view_of}
+use Rattle.gc_table.specs.declared.view.View.{View}
+use Rattle.gc_table.proofs.Log.{only-more}
+use Rattle.gc_cycle.specs.Mutating.{stays_calm}
+use Rattle.gc_cycle.specs.Sparing.{spares_part}
+use Rattle.gc_cycle.proofs.Collected.{calm-spares}
+use Rattle.warehouse.proofs.Acting.{waits-join}
+use Rattle.warehouse.proofs.Others.{has-cache}
+use Rattle.warehouse.proofs.Readying.{looks-cache, looks-mutates, looks-stays, looks-waits, reads-ready}
+use Rattle.warehouse.proofs.Sparings.{stays-join, stays-spared, waits-calm}
+use Rattle.warehouse.proofs.turn.is_ready.Goals as goal
+
+pub returns-then-not-sees_clear-clause-cache : goal.returns-then-not-sees_clear-clause-cache
+returns-then-not-sees_clear-clause-cache c = has-cache c.args._cache.now (view_of c.args.seat.now) (view_of c.sees_clear.new.seat) c.sees_clear.ensures.glances.cache c.requires.cache
+
+pub returns-then-not-sees_clear-clause-stays : goal.returns-then-not-sees_clear-clause-stays
+returns-then-not-sees_clear-clause-stays c =
+    let v : View = view_of c.args.seat.now in
+    let w : View = view_of c.sees_clear.new.seat in
+    let o = c.sees_clear.ensures.glances.out in
+    stays-spared v w o.ran (only-more stays_calm spares_part calm-spares v w o.only) o.seat
+
+pub returns-then-not-sees_clear-clause-waits : goal.returns-then-not-sees_clear-clause-waits
+returns-then-not-sees_clear-clause-waits c =
+    let v : View = view_of c.args.seat.now in
+    let w : View = view_of c.sees_clear.new.seat in
+    let o = c.sees_clear.ensures.glances.out in
+    waits-calm v w o.ran (only-more stays_calm spares_part calm-spares v w o.only) o.calm
+
+pub returns-clause-seat : goal.returns-clause-seat
+returns-clause-seat c = (c.is_turn.ensures.seat, looks-mutates (view_of c.sees_clear.new.seat) (view_of c.is_turn.new.seat) c.is_turn.ensures.looks c.sees_clear.ensures.seat.1)
+
+pub returns-clause-cache : goal.returns-clause-cache
+returns-clause-cache c =
+    let v : View = view_of c.args.seat.now in
+    let w : View = view_of c.sees_clear.new.seat in
+    looks-cache w (view_of c.is_turn.new.seat) c.is_turn.ensures.looks c.args._cache.now (has-cache c.args._cache.now v w c.sees_clear.ensures.glances.cache c.requires.cache)
+
+pub returns-clause-ready : goal.returns-clause-ready
+returns-clause-ready c =
+    let v : View = view_of c.args.seat.now in
+    let w : View = view_of c.sees_clear.new.seat in
+    let g = c.sees_clear.ensures.glances in
+    λ is.
+    reads-ready c.args.turn c.args._cache.now v w (view_of c.is_turn.new.seat) g.out.ran (only-more stays_calm spares_part calm-spares v w g.out.only) g.out.calm g.out.seat g.polled
+    (c.sees_clear.ensures.clear c.if-not-sees_clear.false) (has-cache c.args._cache.now v w g.cache c.requires.cache) c.requires.counted c.requires.turn c.is_turn.ensures.looks (c.is_turn.ensures.turn is)
+
+pub returns-clause-stays : goal.returns-clause-stays
+returns-clause-stays c =
+    let v : View = view_of c.args.seat.now in
+    let w : View = view_of c.sees_clear.new.seat in
+    let x : View = view_of c.is_turn.new.seat in
+    let o = c.sees_clear.ensures.glances.out in
+    stays-join v w x (stays-spared v w o.ran (only-more stays_calm spares_part calm-spares v w o.only) o.seat) (looks-stays w x c.is_turn.ensures.looks)
+
+pub returns-clause-waits : goal.returns-clause-waits
+returns-clause-waits c =
+    let v : View = view_of c.args.seat.now in
+    let w : View = view_of c.sees_clear.new.seat in
+    let x : View = view_of c.is_turn.new.seat in
+    let o = c.sees_clear.ensures.glances.out in
+    waits-join v w x (waits-calm v w o.ran (only-more stays_calm spares_part calm-spares v w o.only) o.calm) (looks-waits w x c.is_turn.ensures.looks)
