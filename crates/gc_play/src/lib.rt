@@ -44,8 +44,6 @@ mod limits;
 mod marking;
 mod playing;
 mod season;
-#[cfg(test)]
-mod tests;
 mod tracers;
 mod workers;
 

@@ -1,8 +1,0 @@
-use Rattle.job_pool.specs.Batch.{fault_of}
-use Rattle.gcplay.specs.Batching.{IsBatchFault}
-use Rattle.gcplay.proofs.Batched.{fault_told}
-use Rattle.gcplay.proofs.Ends.{text_ends}
-use Rattle.gcplay.proofs.commands.batch.tell_batch_fault.Goals as goal
-
-pub returns : goal.returns
-returns g c = text_ends (IsBatchFault (fault_of c.args.fault.now)) _ _ _ _ _ _ _ _ c.after.ensures tt (fault_told c.args.fault.now c.requires) c.write_batch_fault.ensures

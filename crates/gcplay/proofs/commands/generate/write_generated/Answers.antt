@@ -1,7 +1,0 @@
-use Rattle.std.proofs.Common.{refl, ◌∙◌}
-use Rattle.gcplay.specs.Answers.{IsGenAnswer}
-use Rattle.gcplay.proofs.Ends.{text_ends}
-use Rattle.gcplay.proofs.commands.generate.write_generated.Goals as goal
-
-pub returns-in-Ok : goal.returns-in-Ok
-returns-in-Ok g c = text_ends (IsGenAnswer c.args.number c.args.size) _ _ _ _ _ _ _ _ c.after.ensures tt (refl, c.as_bytes.ensures.value ∙ c.in-Ok.ensures.text) c.write_all.ensures

@@ -1,0 +1,51 @@
+-- What a play answers.
+use Rattle.std.proofs.Common.{◌≡◌, ℕ, List, refl, ap, subst, inl, inr, Bool, true, false, map}
+use Rattle.std.specs.Prelude.{MatchBool, Ok, Err}
+use Rattle.plain_heap.specs.Placement.{IsPlaced, IsFilled}
+use Rattle.gc_script.specs.Script.{Script}
+use Rattle.play_report.specs.Report.{Outcome, outcome_of, survivor_of}
+use Rattle.play_report.specs.Text.{report_text, full_text, brief_text, IsFullText}
+use Rattle.plain_heap.specs.Sections.{Sections, executed_total}
+use Rattle.play_report.specs.declared.report.Report.{Report}
+use Rattle.play_report.specs.declared.report.Positions.{Positions}
+use Rattle.play_words.specs.Answers.{PlaysTo, LoadsTo}
+use Rattle.play_contract.specs.Playing.{IsReport, PlayAnswers, places_of}
+use Rattle.play_contract.specs.declared.error.PlayError.{PlayError}
+use Rattle.play_contract.specs.declared.error.PlayError.TheVariants as errors
+use Rattle.command_words.specs.Words.{Options}
+use Rattle.play_words.proofs.LoadText.{load_text_of}
+
+if_asked : (place : Bool) (P : Type 0) → P → MatchBool place P (Unit {0})
+if_asked true P p = p
+if_asked false P p = tt
+
+-- a report answers a play
+pub done_answer : (o : Options) (s : Script) (r : Report) → IsReport s.sections o.cells r → PlaysTo o s 0 (report_text (map outcome_of r.parts.items) (map survivor_of r.survivors.items) o.place)
+done_answer o s r report = inl (
+  refl,
+  record {
+    survivors = map survivor_of r.survivors.items;
+    reached = report.survivors;
+    places = places_of r;
+    placed = if_asked o.place (IsPlaced s.sections o.cells (places_of r)) report.placed;
+    written = ap (λ (os : List Outcome). report_text os (map survivor_of r.survivors.items) o.place) report.outcomes;
+  },
+)
+
+filled_at : (s : Sections) (cells : ℕ) (e : PlayError) (p : Positions) → e ≡ errors.Full p → PlayAnswers (Err e) s cells → IsFilled s cells p.section p.done.items
+filled_at s cells e p is h = subst (λ (x : PlayError). PlayAnswers (Err x) s cells) is h
+
+full_of : (o : Options) (s : Script) (p : Positions) → IsFilled s.sections o.cells p.section p.done.items → IsFullText s.sections o.cells (full_text p.section p.done.items)
+full_of o s p filled = record { section = p.section; positions = p.done.items; filled = filled; written = refl }
+
+-- positions answer it
+pub full_answer : (o : Options) (s : Script) (e : PlayError) (p : Positions) → e ≡ errors.Full p → PlayAnswers (Err e) s.sections o.cells → PlaysTo o s 3 (full_text p.section p.done.items)
+full_answer o s e p is h = inr (refl, full_of o s p (filled_at s.sections o.cells e p is h))
+
+-- the five lines of a report, and positions, answer `load`
+pub five_answer : (o : Options) (s : Script) (commands : ℕ) (r : Report) → IsReport s.sections o.cells r → commands ≡ executed_total s.sections
+    → LoadsTo o (Ok s) 0 (brief_text commands (map outcome_of r.parts.items) (map survivor_of r.survivors.items))
+five_answer o s commands r report count = inl (refl, load_text_of s.sections o.cells commands r report count)
+
+pub full_load : (o : Options) (s : Script) (e : PlayError) (p : Positions) → e ≡ errors.Full p → PlayAnswers (Err e) s.sections o.cells → LoadsTo o (Ok s) 3 (full_text p.section p.done.items)
+full_load o s e p is h = inr (refl, full_of o s p (filled_at s.sections o.cells e p is h))

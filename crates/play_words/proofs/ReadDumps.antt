@@ -1,0 +1,54 @@
+-- What is read of a dump, and what a play's end answers.
+use Rattle.std.proofs.Common.{◌≡◌, ℕ, List, refl, sym, subst, inl, inr}
+use Rattle.std.specs.Prelude.{Option, Some, None, Result, Ok, Err}
+use Rattle.gc_script.specs.Script.{Script}
+use Rattle.gc_script.specs.Faults.{Fault}
+use Rattle.gc_script.specs.Finished.{is_refused}
+use Rattle.plain_heap.specs.Placement.{IsFilled}
+use Rattle.play_report.specs.Text.{full_text, IsFullText}
+use Rattle.play_report.specs.declared.report.Positions.{Positions}
+use Rattle.play_contract.specs.Playing.{PlayAnswers}
+use Rattle.play_contract.specs.declared.error.PlayError.{PlayError}
+use Rattle.play_contract.specs.declared.error.PlayError.TheVariants as errors
+use Rattle.heap_dump.specs.Final.{Heap}
+use Rattle.heap_dump.specs.Reading.{fault_of, heap_of}
+use Rattle.heap_dump.specs.Spelling.{dump}
+use Rattle.heap_dump.specs.Text.{dump_fault_text}
+use Rattle.heap_dump.specs.declared.fault.DumpError.{DumpError}
+use Rattle.play_dump.specs.Final.{IsFinalHeap}
+use Rattle.command_words.specs.Words.{Options}
+use Rattle.play_words.specs.Dumping.{DumpsTo, EndsIn, IsEndAnswer, IsCensusAnswer, IsCensusText, IsCountOf, OfDump}
+use Rattle.play_words.specs.Ending.{IsFaultAnswer}
+
+-- bytes with a fault are told so
+pub read_fault : (P : Heap → List ℕ → Type 0) (bytes : List ℕ) (e : DumpError) → Some e ≡ fault_of bytes → OfDump P bytes (fault_of bytes) 2 (dump_fault_text e)
+read_fault P bytes e is = subst (λ (o : Option DumpError). OfDump P bytes o 2 (dump_fault_text e)) is (refl, refl)
+
+-- a text of the heap that a dump tells
+pub read_done : (P : Heap → List ℕ → Type 0) (bytes d text : List ℕ) → None ≡ fault_of bytes → d ≡ bytes → P (heap_of d) text → OfDump P bytes (fault_of bytes) 0 text
+read_done P bytes d text is same p =
+    subst (λ (o : Option DumpError). OfDump P bytes o 0 text) is (refl, subst (λ (l : List ℕ). P (heap_of l) text) same p)
+
+-- the census of the heap that a dump tells
+pub count_answer : (bytes d : List ℕ) → None ≡ fault_of bytes → d ≡ bytes → (status : ℕ) (text : List ℕ) → IsCountOf (heap_of d) status text → IsCensusAnswer bytes status text
+count_answer bytes d is same status text a =
+    subst (λ (o : Option DumpError). OfDump IsCensusText bytes o status text) is (a.0, subst (λ (l : List ℕ). IsCensusText (heap_of l) text) same a.1)
+
+-- the dump of the heap at the end answers a play that is done
+pub end_answer : (s : Script) (h : Heap) → IsFinalHeap s.sections h → IsEndAnswer s 0 (dump h)
+end_answer s h final = (refl, record { heap = h; final = final; written = refl })
+
+pub dump_answer : (o : Options) (s : Script) (status : ℕ) (text : List ℕ) → IsEndAnswer s status text → EndsIn o s status text
+dump_answer o s status text a = inl a
+
+filled_at : (s : Script) (cells : ℕ) (e : PlayError) (p : Positions) → e ≡ errors.Full p → PlayAnswers (Err e) s.sections cells → IsFilled s.sections cells p.section p.done.items
+filled_at s cells e p is h = subst (λ (x : PlayError). PlayAnswers (Err x) s.sections cells) is h
+
+-- positions answer it
+pub full_dump : (o : Options) (s : Script) (e : PlayError) (p : Positions) → e ≡ errors.Full p → PlayAnswers (Err e) s.sections o.cells → EndsIn o s 3 (full_text p.section p.done.items)
+full_dump o s e p is h = inr (refl, record { section = p.section; positions = p.done.items; filled = filled_at s o.cells e p is h; written = refl })
+
+-- the text of a script's fault answers it
+pub dump_fault : (o : Options) (fault : Option Fault) (r : Result Script Fault) → is_refused fault r → (status : ℕ) (text : List ℕ) → IsFaultAnswer fault status text → DumpsTo o r status text
+dump_fault o None r h status text a = absurd a
+dump_fault o (Some fault) r h status text a = subst (λ (x : Result Script Fault). DumpsTo o x status text) (sym h) a

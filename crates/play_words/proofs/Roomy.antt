@@ -1,0 +1,90 @@
+-- Where more cells than reachable objects are there, no command finds its cells too few.
+use Rattle.std.proofs.Common.{◌≡◌, ◌≤◌, ◌<◌, ◌+◌, ℕ, List, [], map, length, refl, sym, ap, ◌∙◌, subst, arith, ⊎_elim, sum_by}
+use Rattle.std.proofs.lemmas.Bool.{cases_lt}
+use Rattle.std.proofs.lemmas.List.{length-map}
+use Rattle.std.specs.Prelude.{Option, Some, None, Result, Ok, unwrap_or}
+use Rattle.plain_heap.specs.Sections.{Sections, Execution, executed_of, made_by, joined, counted, warehouse_numbers}
+use Rattle.gc_script.specs.Faults.{Fault}
+use Rattle.gc_script.specs.Script.{Script, script}
+use Rattle.load_gen.specs.Generated.{generated}
+use Rattle.load_gen.specs.FourWarehouses.{HasFourWarehouses}
+use Rattle.load_gen.proofs.FewObjects.{generated_few}
+use Rattle.load_gen.proofs.Whole.{generated_script}
+use Rattle.play_report.specs.Text.{IsFullText}
+use Rattle.command_words.specs.Words.{Options, Command, Run, Gen, Load, Convert, Schedule, Dump, Undump, Census, Batch}
+use Rattle.play_words.specs.Answers.{RunsTo, LoadsTo}
+use Rattle.play_words.specs.Dumping.{DumpsTo}
+use Rattle.play_words.specs.Promise.{IsAnswer}
+use Rattle.play_words.specs.Roomy.{PlaysIn, AreFew}
+use Rattle.play_words.proofs.Bounding.{few-never-fill}
+
+-- a full text tells that the cells were too few
+full_few : (s : Sections) (cells : ℕ) (text : List ℕ) → IsFullText s cells text → AreFew s cells
+full_few s cells text full most keeps =
+    let sum : ℕ = made_by (executed_of s 0) + sum_by most (warehouse_numbers s) in
+    ⊎_elim
+    (λ (roomy : sum < cells). absurd (few-never-fill s cells full.section full.positions most keeps roomy full.filled))
+    (λ (few : cells ≤ sum). few)
+    (cases_lt sum cells)
+
+run_full : (o : Options) (s : Sections) (text : List ℕ) (whole : Script) → whole.sections ≡ s → RunsTo o (Ok whole) 3 text → AreFew s o.cells
+run_full o s text whole f plays =
+    ⊎_elim
+    (λ a. absurd (omega (arith, a.0)))
+    (λ (a : (3 ≡ 3) × IsFullText whole.sections o.cells text). subst (λ (t : Sections). AreFew t o.cells) f (full_few whole.sections o.cells text a.1))
+    plays
+
+load_full : (o : Options) (s : Sections) (text : List ℕ) (whole : Script) → whole.sections ≡ s → LoadsTo o (Ok whole) 3 text → AreFew s o.cells
+load_full o s text whole f plays =
+    ⊎_elim
+    (λ a. absurd (omega (arith, a.0)))
+    (λ (a : (3 ≡ 3) × IsFullText whole.sections o.cells text). subst (λ (t : Sections). AreFew t o.cells) f (full_few whole.sections o.cells text a.1))
+    plays
+
+-- a script that was read, and is full
+pub run_few : (o : Options) (s : Sections) (text : List ℕ) (read : Result Script Fault) (whole : Script) → read ≡ Ok whole → whole.sections ≡ s → RunsTo o read 3 text → AreFew s o.cells
+run_few o s text read whole e f runs = run_full o s text whole f (subst (λ (r : Result Script Fault). RunsTo o r 3 text) e runs)
+
+dump_full : (o : Options) (s : Sections) (text : List ℕ) (whole : Script) → whole.sections ≡ s → DumpsTo o (Ok whole) 3 text → AreFew s o.cells
+dump_full o s text whole f plays =
+    ⊎_elim
+    (λ a. absurd (omega (arith, a.0)))
+    (λ (a : (3 ≡ 3) × IsFullText whole.sections o.cells text). subst (λ (t : Sections). AreFew t o.cells) f (full_few whole.sections o.cells text a.1))
+    plays
+
+dump_few : (o : Options) (s : Sections) (text : List ℕ) (read : Result Script Fault) (whole : Script) → read ≡ Ok whole → whole.sections ≡ s → DumpsTo o read 3 text → AreFew s o.cells
+dump_few o s text read whole e f dumps = dump_full o s text whole f (subst (λ (r : Result Script Fault). DumpsTo o r 3 text) e dumps)
+
+load_few : (o : Options) (s : Sections) (text : List ℕ) (read : Result Script Fault) (whole : Script) → read ≡ Ok whole → whole.sections ≡ s → LoadsTo o read 3 text → AreFew s o.cells
+load_few o s text read whole e f loads = load_full o s text whole f (subst (λ (r : Result Script Fault). LoadsTo o r 3 text) e loads)
+
+-- the status 3 comes only where the cells are few
+pub full-few : (asked : Option Command) (left : Option (List ℕ)) (text : List ℕ) → IsAnswer asked left 3 text → (s : Sections) (cells : ℕ) → PlaysIn asked left s cells → AreFew s cells
+full-few (Some (Run o)) (Some bytes) text answer s cells plays =
+    let at : script bytes ≡ script answer.0 = ap script answer.1 in
+    subst (AreFew s) plays.1 (run_few o s text (script answer.0) plays.0.0 (sym at ∙ plays.0.1) plays.0.2 answer.2)
+full-few (Some (Dump o)) (Some bytes) text answer s cells plays =
+    let at : script bytes ≡ script answer.0 = ap script answer.1 in
+    subst (AreFew s) plays.1 (dump_few o s text (script answer.0) plays.0.0 (sym at ∙ plays.0.1) plays.0.2 answer.2)
+full-few (Some (Load o number size)) left text answer s cells plays = subst (AreFew s) plays.1 (load_few o s text (script (generated number size)) plays.0.0 plays.0.1 plays.0.2 answer)
+full-few None left text answer s cells plays = absurd plays
+full-few (Some (Run o)) None text answer s cells plays = absurd plays
+full-few (Some (Gen number size)) left text answer s cells plays = absurd plays
+full-few (Some Convert) left text answer s cells plays = absurd plays
+full-few (Some Schedule) left text answer s cells plays = absurd plays
+full-few (Some (Dump o)) None text answer s cells plays = absurd plays
+full-few (Some Undump) left text answer s cells plays = absurd plays
+full-few (Some Census) left text answer s cells plays = absurd plays
+full-few (Some (Batch o runners)) left text answer s cells plays = absurd plays
+
+-- four warehouses of at most 55 reachable objects, and no catalogue
+pub load-fits : (o : Options) (number size : ℕ) (left : Option (List ℕ)) (text : List ℕ) → size ≤ 20000 → 256 ≤ o.cells → IsAnswer (Some (Load o number size)) left 3 text → ⊥
+load-fits o number size left text h room answer =
+    let four : HasFourWarehouses size (script (generated number size)) = (generated_script number size h).four in
+    let s : Sections = four.whole.sections in
+    let few = full-few (Some (Load o number size)) left text answer s o.cells ((four.whole, four.no_fault, refl), refl) (λ w. 55) (λ w least most k numbers reached. generated_few number size h four.whole four.no_fault w k numbers reached) in
+    let none : made_by (executed_of s 0) ≡ 0 = ap (λ (c : Option (List (List Execution))). made_by (joined (unwrap_or c []))) four.catalogue in
+    let long : length (map (λ (parts : List (List Execution)). map length parts) s.warehouses) ≡ length s.warehouses = length-map s.warehouses (λ (parts : List (List Execution)). map length parts) in
+    let count : length s.warehouses ≡ 4 = sym long ∙ ap (λ (xs : List (List ℕ)). length xs) four.warehouses in
+    let sum : sum_by (λ (w : ℕ). 55) (warehouse_numbers s) ≡ 220 = ap (λ (n : ℕ). sum_by (λ (w : ℕ). 55) (counted 1 n)) count in
+    omega (arith, few, none, sum, room)

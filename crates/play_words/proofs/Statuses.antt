@@ -1,0 +1,63 @@
+-- The program's status, by how its command ended.
+use Rattle.std.proofs.Common.{◌≡◌, ◌≤◌, ◌<◌, ◌-◌, ◌^◌, ◌⊎◌, ℕ, List, refl, sym, subst, inl, inr, arith}
+use Rattle.std.specs.Prelude.{Option, Some, None, IfSome}
+use Rattle.play_report.specs.Causes.{Rose}
+use Rattle.schedule_check.specs.Telling.{status_of}
+use Rattle.command_words.specs.Words.{Command, Schedule}
+use Rattle.play_words.specs.Promise.{IsAnswer, EndsWith}
+use Rattle.play_words.specs.Ending.{HasItsText, code_of, CommandEnds, WritesSome}
+use Rattle.play_words.specs.declared.status.Status.{Status}
+use Rattle.play_words.specs.declared.status.Status.TheVariants as ends
+use Rattle.play_words.proofs.Promised.{ends_with, refusal_is_schedule, usage_is_refusal}
+
+not_risen : (before now : ℕ) → before < 2 ^ 64 - 1 → now ≡ before → Rose before now → ⊥
+not_risen before now small same (least, rose) = grind (arith, rose)
+
+untold : (n : ℕ) → HasItsText n → 3 < n → n < 7 → ⊥
+untold n (inl low) big small = omega (arith, low, big)
+untold n (inr seven) big small = omega (arith, seven, small)
+
+module _ (reads reads_now : ℕ) (old new : Option (List ℕ)) (before now : ℕ) where
+  written_at : (A : ℕ → List ℕ → Type 0) (status : Status) → CommandEnds A status reads reads_now old new before now → HasItsText (code_of status) → WritesSome old new (A (code_of status))
+  written_at A ends.Done h l = h.0.0
+  written_at A ends.Usage h l = h.0.0
+  written_at A ends.InputFault h l = h.0.0
+  written_at A ends.Full h l = h.0.0
+  written_at A ends.ReadFault h l = absurd (untold 4 l (omega arith) (omega arith))
+  written_at A ends.WriteFault h l = absurd (untold 5 l (omega arith) (omega arith))
+  written_at A ends.Memory h l = absurd (untold 6 l (omega arith) (omega arith))
+  written_at A ends.Refused h l = h.0.0
+
+  -- a text of the status was written
+  pub text_written : (A : ℕ → List ℕ → Type 0) (status : Status) (n : ℕ) → n ≡ code_of status → CommandEnds A status reads reads_now old new before now → HasItsText n → WritesSome old new (A n)
+  text_written A status n is h =
+      subst (λ (k : ℕ). HasItsText k → WritesSome old new (A k)) (sym is) (written_at A status h)
+
+  module _ (asked : Option Command) (left : Option (List ℕ)) where
+    -- the status 1 comes to words that ask for nothing
+    pub usage_comes : (status : Status) (n : ℕ) → n ≡ code_of status → CommandEnds (IsAnswer asked left) status reads reads_now old new before now → n ≡ 1 → asked ≡ None
+    usage_comes status n is h one =
+        let some = subst (λ (k : ℕ). WritesSome old new (IsAnswer asked left k)) one (text_written (IsAnswer asked left) status n is h (inl (omega (arith, one)))) in
+        usage_is_refusal asked left some.0 some.1
+
+    -- the status 7 comes to refused schedules
+    pub refused_comes : (status : Status) (n : ℕ) → n ≡ code_of status → CommandEnds (IsAnswer asked left) status reads reads_now old new before now → n ≡ 7
+        → (asked ≡ Some Schedule) × IfSome left (λ bytes. status_of bytes ≡ 7)
+    refused_comes status n is h seven =
+        let some = subst (λ (k : ℕ). WritesSome old new (IsAnswer asked left k)) seven (text_written (IsAnswer asked left) status n is h (inr seven)) in
+        refusal_is_schedule asked left some.0 some.1
+
+    module _ (reads_small : reads < 2 ^ 64 - 1) (writes_small : before < 2 ^ 64 - 1) (reads_same : reads_now ≡ reads) (writes_same : now ≡ before) where
+      complete_at : (status : Status) → CommandEnds (IsAnswer asked left) status reads reads_now old new before now → (code_of status ≡ 6) ⊎ EndsWith asked left (code_of status)
+      complete_at ends.Done h = inr (ends_with asked left 0 h.0.0.0 h.0.0.1)
+      complete_at ends.Usage h = inr (ends_with asked left 1 h.0.0.0 h.0.0.1)
+      complete_at ends.InputFault h = inr (ends_with asked left 2 h.0.0.0 h.0.0.1)
+      complete_at ends.Full h = inr (ends_with asked left 3 h.0.0.0 h.0.0.1)
+      complete_at ends.ReadFault h = absurd (not_risen reads reads_now reads_small reads_same h.2)
+      complete_at ends.WriteFault h = absurd (not_risen before now writes_small writes_same h.0.1)
+      complete_at ends.Memory h = inl refl
+      complete_at ends.Refused h = inr (ends_with asked left 7 h.0.0.0 h.0.0.1)
+
+      -- where nothing failed
+      pub complete : (status : Status) (n : ℕ) → n ≡ code_of status → CommandEnds (IsAnswer asked left) status reads reads_now old new before now → (n ≡ 6) ⊎ EndsWith asked left n
+      complete status n is h = subst (λ (k : ℕ). (k ≡ 6) ⊎ EndsWith asked left k) (sym is) (complete_at status h)

@@ -1,0 +1,143 @@
+-- What was taken of a source, and what it answers.
+use Rattle.std.proofs.Common.{◌≡◌, ◌≤◌, ◌<◌, ◌⊎◌, ℕ, List, [], ◌++◌, length, drop, codes, refl, sym, ◌∙◌, ap, subst, inl, inr, arith, length-append, Bool, true, nat_lt, cond}
+use Rattle.std.proofs.lemmas.Bool.Decides.{nat_tests}
+use Rattle.std.proofs.lemmas.List.{append-nil}
+use Rattle.std.specs.Prelude.{Option, Some, None, IfSome, Result, Err}
+use Rattle.std.specs.Io.KnownBytes.{Consumes, IsAtEnd}
+use Rattle.gc_script.specs.Faults.{Fault, TooLong}
+use Rattle.gc_script.specs.Script.{Script, script, of_text}
+use Rattle.gc_script.specs.ScriptText.{first_foreign}
+use Rattle.gc_script.specs.Convert.{Conversion, convert, converted}
+use Rattle.job_pool.specs.Batch as batches
+use Rattle.job_pool.specs.Batch.{batch, begins, jobs_from}
+use Rattle.play_words.specs.Answers.{IsRunAnswer, IsConvertAnswer, RunsTo, ConvertsTo}
+use Rattle.play_words.specs.Batching.{IsBatchAnswer, BatchesTo}
+use Rattle.play_words.specs.Dumping.{IsDumpAnswer, IsUndumpAnswer, IsCensusAnswer, DumpsTo, OfDump, IsUndumpText, IsCensusText}
+use Rattle.heap_dump.specs.Final.{Heap}
+use Rattle.heap_dump.specs.Reading.{fault_of}
+use Rattle.schedule_check.specs.Faults as schedules
+use Rattle.schedule_check.specs.Schedule.{Schedule, schedule, of_text as schedule_of_text}
+use Rattle.schedule_check.specs.Telling.{IsToldAs, IsAnswer as IsScheduleAnswer}
+use Rattle.play_words.proofs.Dumped.{long_answer}
+use Rattle.play_words.specs.Ending.{TextEnds, CommandEnds}
+use Rattle.play_words.specs.Promise.{OfSource}
+use Rattle.play_words.specs.Reading.{IsSpent}
+use Rattle.command_words.specs.Words.{Options}
+use Rattle.play_words.specs.declared.status.Status.{Status}
+use Rattle.play_words.proofs.Ends.{other_ends, command_ends}
+
+-- what was taken of some bytes: all, or as many as decide
+pub record Takes (enough : ℕ) (bytes taken rest : List ℕ) : Type 0 where
+  pub whole : bytes ≡ taken ++ rest
+  pub enough_taken : (rest ≡ []) ⊎ (enough ≤ length taken)
+
+all_taken : (bytes taken rest : List ℕ) → bytes ≡ taken ++ rest → rest ≡ [] → bytes ≡ taken
+all_taken bytes taken rest whole none = whole ∙ ap (λ (l : List ℕ). taken ++ l) none ∙ append-nil taken
+
+-- a meaning that is the same for all bytes that are too long is that of the whole
+same_meaning : {X : Type 0} (meaning : List ℕ → X) (enough : ℕ) (too_long : X) → ((bytes : List ℕ) → enough ≤ length bytes → meaning bytes ≡ too_long)
+    → (bytes taken rest : List ℕ) → Takes enough bytes taken rest → meaning taken ≡ meaning bytes
+same_meaning {X = X} meaning enough too_long decides bytes taken rest t = by t.enough_taken
+  where
+    by : (rest ≡ []) ⊎ (enough ≤ length taken) → meaning taken ≡ meaning bytes
+    by (inl none) = ap meaning (sym (all_taken bytes taken rest t.whole none))
+    by (inr long) = decides taken long ∙ sym (decides bytes (omega (arith, long, ap length t.whole, length-append taken rest)))
+
+-- what is too long has one fault
+long_script : (bytes : List ℕ) → 1048577 ≤ length bytes → script bytes ≡ Err TooLong
+long_script bytes long =
+    let test : nat_lt 1048576 (length bytes) ≡ true = grind (arith, nat_tests) in
+    ap (λ (b : Bool). cond b (Err TooLong) (of_text (first_foreign bytes) bytes)) test
+
+long_conversion : (bytes : List ℕ) → 1048577 ≤ length bytes → convert bytes ≡ Err TooLong
+long_conversion bytes long = ap (λ (r : Result Script Fault). converted r bytes) (long_script bytes long)
+
+long_batch : (bytes : List ℕ) → 16777217 ≤ length bytes → batch bytes ≡ Err batches.BatchTooLong
+long_batch bytes long =
+    let test : nat_lt 16777216 (length bytes) ≡ true = grind (arith, nat_tests) in
+    ap (λ (b : Bool). cond b (Err batches.BatchTooLong) (cond (begins (codes "gcbatch 1\n") bytes) (jobs_from (length bytes) 64 [] (drop 10 bytes)) (Err (batches.BadBatch 0)))) test
+
+-- an answer to what was taken is one to the whole
+abbrev pub IsOfWhole : ℕ → (List ℕ → ℕ → List ℕ → Type 0) → Type 0
+IsOfWhole enough A = (bytes taken rest : List ℕ) → Takes enough bytes taken rest → (status : ℕ) (text : List ℕ) → A taken status text → A bytes status text
+
+pub run_of_whole : (o : Options) → IsOfWhole 1048577 (IsRunAnswer o)
+run_of_whole o bytes taken rest t status text a =
+    subst (λ (r : Result Script Fault). RunsTo o r status text) (same_meaning script 1048577 (Err TooLong) long_script bytes taken rest t) a
+
+pub conversion_of_whole : IsOfWhole 1048577 IsConvertAnswer
+conversion_of_whole bytes taken rest t status text a =
+    subst (λ (r : Result Conversion Fault). ConvertsTo r status text) (same_meaning convert 1048577 (Err TooLong) long_conversion bytes taken rest t) a
+
+pub batch_of_whole : (o : Options) → IsOfWhole 16777217 (IsBatchAnswer o)
+batch_of_whole o bytes taken rest t status text a =
+    subst (λ (r : Result (List (List ℕ)) batches.Fault). BatchesTo o r status text) (same_meaning batch 16777217 (Err batches.BatchTooLong) long_batch bytes taken rest t) a
+
+long_schedule : (bytes : List ℕ) → 4194305 ≤ length bytes → schedule bytes ≡ Err schedules.TooLong
+long_schedule bytes long =
+    let test : nat_lt 4194304 (length bytes) ≡ true = grind (arith, nat_tests) in
+    ap (λ (b : Bool). cond b (Err schedules.TooLong) (schedule_of_text (first_foreign bytes) bytes)) test
+
+pub schedule_of_whole : IsOfWhole 4194305 IsScheduleAnswer
+schedule_of_whole bytes taken rest t status text a =
+    subst (λ (r : Result Schedule schedules.Fault). IsToldAs r status text) (same_meaning schedule 4194305 (Err schedules.TooLong) long_schedule bytes taken rest t) a
+
+pub dump_of_whole : (o : Options) → IsOfWhole 1048577 (IsDumpAnswer o)
+dump_of_whole o bytes taken rest t status text a =
+    subst (λ (r : Result Script Fault). DumpsTo o r status text) (same_meaning script 1048577 (Err TooLong) long_script bytes taken rest t) a
+
+read_of_whole : (P : Heap → List ℕ → Type 0) → IsOfWhole 4984981 (λ bytes status text. OfDump P bytes (fault_of bytes) status text)
+read_of_whole P bytes taken rest t status text a = by t.enough_taken
+  where
+    by : (rest ≡ []) ⊎ (4984981 ≤ length taken) → OfDump P bytes (fault_of bytes) status text
+    by (inl none) = subst (λ (l : List ℕ). OfDump P l (fault_of l) status text) (sym (all_taken bytes taken rest t.whole none)) a
+    by (inr long) = subst (λ (l : List ℕ). OfDump P l (fault_of l) status text) (sym t.whole) (long_answer P taken rest long status text a)
+
+pub undump_of_whole : IsOfWhole 4984981 IsUndumpAnswer
+undump_of_whole = read_of_whole IsUndumpText
+
+pub census_of_whole : IsOfWhole 4984981 IsCensusAnswer
+census_of_whole = read_of_whole IsCensusText
+
+module _ (enough : ℕ) where
+  -- what was taken, where the source tells its bytes
+  takes : (bytes taken : List ℕ) (left : Option (List ℕ)) → Consumes (Some bytes) left taken → IsAtEnd left ⊎ (enough ≤ length taken) → (rest : List ℕ) × (left ≡ Some rest) × Takes enough bytes taken rest
+  takes bytes taken None consumed decided = absurd consumed
+  takes bytes taken (Some rest) consumed decided = (rest, refl, record { whole = consumed; enough_taken = decided })
+
+  of_source : (A : List ℕ → ℕ → List ℕ → Type 0) (left left_now : Option (List ℕ)) (taken : List ℕ) → IsOfWhole enough A → Consumes left left_now taken → IsAtEnd left_now ⊎ (enough ≤ length taken)
+      → (status : ℕ) (text : List ℕ) → A taken status text → OfSource A left status text
+  of_source A None left_now taken whole consumed decided status text a = (taken, tt, a)
+  of_source A (Some bytes) left_now taken whole consumed decided status text a =
+      let t = takes bytes taken left_now consumed decided in
+      (bytes, refl, whole bytes taken t.0 t.2 status text a)
+
+  -- a command whose source was read ends as what was taken does
+  pub source_ends : (A : List ℕ → ℕ → List ℕ → Type 0) (status : Status) (left left_now : Option (List ℕ)) (taken bytes : List ℕ) (reads reads_now : ℕ) (old new : Option (List ℕ)) (before now : ℕ)
+      → IsOfWhole enough A → Consumes left left_now taken × (IsAtEnd left_now ⊎ (enough ≤ length taken)) × (reads_now ≡ reads) → bytes ≡ taken
+      → TextEnds (A bytes) status old new before now → CommandEnds (OfSource A left) status reads reads_now old new before now
+  source_ends A status left left_now taken bytes reads reads_now old new before now whole (consumed, decided, same) is h =
+      command_ends (OfSource A left) status reads reads_now old new before now same
+      (other_ends (A taken) (OfSource A left) status old new before now (of_source A left left_now taken whole consumed decided)
+      (subst (λ (l : List ℕ). TextEnds (A l) status old new before now) is h))
+
+  is_spent : (bytes taken rest : List ℕ) → Takes enough bytes taken rest → IsSpent enough bytes (Some rest)
+  is_spent bytes taken rest t = record {
+    short = λ short. ap Some (none short t.enough_taken);
+    long = λ long. (taken, rest, t.whole, decided long t.enough_taken, refl);
+  }
+    where
+      none : length bytes < enough → (rest ≡ []) ⊎ (enough ≤ length taken) → rest ≡ []
+      none short (inl nothing) = nothing
+      none short (inr many) = absurd (omega (arith, ap length t.whole, length-append taken rest))
+
+      decided : enough ≤ length bytes → (rest ≡ []) ⊎ (enough ≤ length taken) → enough ≤ length taken
+      decided long (inl nothing) = let size : length rest ≡ 0 = ap length nothing in omega (arith, ap length t.whole, length-append taken rest)
+      decided long (inr many) = many
+
+  -- a source that was read is spent
+  pub source_spent : (left left_now : Option (List ℕ)) (taken : List ℕ) → Consumes left left_now taken → IsAtEnd left_now ⊎ (enough ≤ length taken) → IfSome left (λ bytes. IsSpent enough bytes left_now)
+  source_spent None left_now taken consumed decided = tt
+  source_spent (Some bytes) left_now taken consumed decided =
+      let t = takes bytes taken left_now consumed decided in
+      subst (λ (o : Option (List ℕ)). IsSpent enough bytes o) (sym t.1) (is_spent bytes taken t.0 t.2)

@@ -1,0 +1,5 @@
+use Rattle.play_words.proofs.Alike.{dumps-alike}
+use Rattle.play_words.proofs.laws.dumps_alike.Goals as goal
+
+pub returns : goal.returns
+returns c = dumps-alike

@@ -1,0 +1,57 @@
+-- How the program ends, and why.
+use Rattle.std.specs.Prelude.{ℕ, ◌≡◌, ◌≤◌, ◌⊎◌, List, Option, Some, None, Result, Ok, Err}
+use Rattle.std.specs.Io.KnownBytes.{Appends, Keeps}
+use Rattle.gc_script.specs.Faults.{Fault}
+use Rattle.play_report.specs.Causes.{Rose, Grows}
+use Rattle.play_report.specs.Text.{fault_text}
+use Rattle.play_words.specs.declared.status.Status.{Status}
+use Rattle.play_words.specs.declared.status.Status.TheVariants as ends
+
+abbrev pub code_of : Status → ℕ
+code_of ends.Done = 0
+code_of ends.Usage = 1
+code_of ends.InputFault = 2
+code_of ends.Full = 3
+code_of ends.ReadFault = 4
+code_of ends.WriteFault = 5
+code_of ends.Memory = 6
+code_of ends.Refused = 7
+
+-- the statuses with which a whole text is written
+abbrev pub HasItsText : ℕ → Type 0
+HasItsText status = (status ≤ 3) ⊎ (status ≡ 7)
+
+-- the status after a text was handed to the sink
+abbrev pub after : {T E : Type 0} → Status → Result T E → Status
+after status (Ok u) = status
+after status (Err e) = ends.WriteFault
+
+-- some text was written, for which P holds
+abbrev pub WritesSome : Option (List ℕ) → Option (List ℕ) → (List ℕ → Type 0) → Type 0
+WritesSome old new P = (text : List ℕ) × P text × Appends old new text
+
+-- a front of some text was written, for which P holds
+abbrev pub WritesFront : Option (List ℕ) → Option (List ℕ) → (List ℕ → Type 0) → Type 0
+WritesFront old new P = (text : List ℕ) × P text × Grows old new text
+
+-- how a command ends that has all its input, where `Answers` says which texts a status may have: such a text was written,
+-- or a front of one and the sink failed, or memory ran out and nothing was written
+abbrev pub TextEnds : (ℕ → List ℕ → Type 0) → Status → Option (List ℕ) → Option (List ℕ) → ℕ → ℕ → Type 0
+TextEnds Answers ends.Done old new before now = WritesSome old new (Answers 0) × (now ≡ before)
+TextEnds Answers ends.Usage old new before now = WritesSome old new (Answers 1) × (now ≡ before)
+TextEnds Answers ends.InputFault old new before now = WritesSome old new (Answers 2) × (now ≡ before)
+TextEnds Answers ends.Full old new before now = WritesSome old new (Answers 3) × (now ≡ before)
+TextEnds Answers ends.ReadFault old new before now = ⊥
+TextEnds Answers ends.WriteFault old new before now = WritesFront old new (λ text. (status : ℕ) × Answers status text) × Rose before now
+TextEnds Answers ends.Memory old new before now = Keeps old new × (now ≡ before)
+TextEnds Answers ends.Refused old new before now = WritesSome old new (Answers 7) × (now ≡ before)
+
+-- the text of a fault, where there is one
+abbrev pub IsFaultAnswer : Option Fault → ℕ → List ℕ → Type 0
+IsFaultAnswer None status text = ⊥
+IsFaultAnswer (Some fault) status text = (status ≡ 2) × (text ≡ fault_text fault)
+
+-- how a command ends: the source failed and nothing was written, or its count stayed. The counts of the source come first.
+abbrev pub CommandEnds : (ℕ → List ℕ → Type 0) → Status → ℕ → ℕ → Option (List ℕ) → Option (List ℕ) → ℕ → ℕ → Type 0
+CommandEnds Answers ends.ReadFault reads reads_now old new before now = Keeps old new × (now ≡ before) × Rose reads reads_now
+CommandEnds Answers status reads reads_now old new before now = TextEnds Answers status old new before now × (reads_now ≡ reads)

@@ -1,0 +1,76 @@
+//! The commands, each in a file of its own.
+//!
+//! - `run` plays the script of the source. `load` makes a script and plays it, and writes five lines of it.
+//! - `generate` is the command `gen`: it makes that script and writes it.
+//! - `convert` writes the script of the source in the second version of the language.
+//! - `schedule` checks the schedule of the source. `dump` plays the script of the source and writes the heap at its end;
+//!   `undump` writes the records of such a dump, and `census` counts them.
+//! - `batch` plays the scripts of the source's batch on several runners, each as `run` does.
+//! - `fault` is what a script with a fault is answered, whichever command read it.
+//!
+//! A command takes its input whole before it writes, so a source that fails or a script with a fault leaves nothing written but
+//! the fault's text. How each ends is `CommandEnds` in `specs/Ending.antt`, for the texts that `specs/Answers.antt` allows it.
+ghost use Rattle.std.specs.Prelude.{◌≡◌, ◌≤◌, IfSome, Some, true, false};
+ghost use Rattle.command_words.specs.Commands.{IsInRange, command_of};
+ghost use Rattle.play_words.specs.Ending.{CommandEnds, HasItsText, code_of};
+ghost use Rattle.play_words.specs.Promise.{IsAnswer, enough_for, reads_source};
+ghost use Rattle.play_words.specs.Reading.{IsSpent};
+
+mod batch;
+mod census;
+mod convert;
+mod dump;
+mod fault;
+mod generate;
+mod load;
+mod run;
+mod schedule;
+mod undump;
+
+use crate::status::Status;
+use batch::play_batch;
+use census::census_source;
+use command_words::Asked;
+use convert::convert_source;
+use dump::dump_source;
+use gc_play::Gate;
+use generate::write_generated;
+use load::load_generated;
+use play_report::{Sink, Source};
+use run::play_source;
+use schedule::check_source;
+use std::alloc::Global;
+use std::sync::Wait;
+use std::thread::Threads;
+use undump::undump_source;
+
+/// Does the command that is asked for.
+pub fn do_command<R: Threads + Wait + Sync, S: Source, K: Sink, G: Gate + Sync>(
+    rt: &R,
+    alloc: Global,
+    asked: Asked,
+    source: &mut S,
+    sink: &mut K,
+    gate: &G,
+) -> Status
+    requires { IsInRange asked }
+    ensures ends { CommandEnds (IsAnswer (Some (command_of asked)) (S.left source.old)) result
+        (S.faults source.old) (S.faults source.new) (K.written sink.old) (K.written sink.new) (K.faults sink.old) (K.faults sink.new) }
+    ensures spent { reads_source (Some (command_of asked)) ≡ true → HasItsText (code_of result)
+        → IfSome (S.left source.old) (λ bytes. IsSpent (enough_for (Some (command_of asked))) bytes (S.left source.new)) }
+    ensures untouched { reads_source (Some (command_of asked)) ≡ false → source.new ≡ source.old }
+{
+    match asked {
+        Asked::Run(options) => play_source(rt, alloc, &options, source, sink, gate),
+        Asked::Gen(number, size) => write_generated(alloc, number, size, sink),
+        Asked::Load(options, number, size) => {
+            load_generated(rt, alloc, &options, number, size, sink, gate)
+        }
+        Asked::Convert => convert_source(alloc, source, sink),
+        Asked::Batch(options, runners) => { play_batch(rt, alloc, &options, runners, source, sink) }
+        Asked::Schedule => check_source(alloc, source, sink),
+        Asked::Dump(options) => dump_source(rt, alloc, &options, source, sink, gate),
+        Asked::Undump => undump_source(alloc, source, sink),
+        Asked::Census => census_source(rt, alloc, source, sink),
+    }
+}

@@ -1,0 +1,98 @@
+//! The command `batch`: plays the scripts of a batch, several at a time, each as `run` does.
+//!
+//! - `player`: plays one script over memory. - `text`: the jobs' results, and the faults of a batch.
+ghost use Rattle.std.specs.Prelude.{◌≢◌, ◌≤◌, IfSome, Ok};
+ghost use Rattle.job_pool.specs.Batch.{fault_of};
+ghost use Rattle.command_words.specs.Commands.{options_of};
+ghost use Rattle.play_contract.specs.Playing.{AreInRange};
+ghost use Rattle.play_words.specs.Batching.{IsBatchAnswer, IsBatchFault, BatchesTo};
+ghost use Rattle.play_words.specs.Ending.{CommandEnds, HasItsText, TextEnds, code_of};
+ghost use Rattle.play_words.specs.Promise.{OfSource};
+ghost use Rattle.play_words.specs.Reading.{IsSpent};
+
+mod player;
+mod text;
+
+use crate::source::{BATCH, Unread, read_source};
+use crate::status::Status;
+use job_pool::{Batch, BatchError, read_batch, run_jobs};
+use play_contract::Options;
+use play_report::{Sink, Source};
+use player::ScriptPlayer;
+use std::alloc::Global;
+use std::sync::Wait;
+use std::thread::Threads;
+use text::{write_batch_fault, write_jobs};
+
+/// Plays the jobs, and writes their results.
+fn play_jobs<R: Threads + Wait + Sync, K: Sink>(
+    rt: &R,
+    alloc: Global,
+    batch: &Batch<'_>,
+    options: &Options,
+    runners: u32,
+    sink: &mut K,
+) -> Status
+    requires range { AreInRange options.now }
+    requires runners { (1 ≤ runners) × (runners ≤ 8) }
+    ensures { TextEnds (BatchesTo (options_of options.now) (Ok batch.now)) result
+        (K.written sink.old) (K.written sink.new) (K.faults sink.old) (K.faults sink.new) }
+{
+    let player = ScriptPlayer { options: *options };
+    match run_jobs(rt, alloc, batch, runners, &player) {
+        Err(_) => Status::Memory,
+        Ok(done) => Status::Done.after(write_jobs(done.as_slice(), sink)),
+    }
+}
+
+/// Writes a fault; want of memory is none.
+fn tell_batch_fault<K: Sink>(fault: &BatchError, sink: &mut K) -> Status
+    requires { fault.now ≢ BatchError.OutOfMemory }
+    ensures { TextEnds (IsBatchFault (fault_of fault.now)) result
+        (K.written sink.old) (K.written sink.new) (K.faults sink.old) (K.faults sink.new) }
+{
+    Status::InputFault.after(write_batch_fault(fault, sink))
+}
+
+/// Reads and plays a batch, and writes its jobs' results or its fault.
+fn batch_bytes<R: Threads + Wait + Sync, K: Sink>(
+    rt: &R,
+    alloc: Global,
+    bytes: &[u8],
+    options: &Options,
+    runners: u32,
+    sink: &mut K,
+) -> Status
+    requires range { AreInRange options.now }
+    requires runners { (1 ≤ runners) × (runners ≤ 8) }
+    ensures { TextEnds (IsBatchAnswer (options_of options.now) bytes.now) result
+        (K.written sink.old) (K.written sink.new) (K.faults sink.old) (K.faults sink.new) }
+{
+    match read_batch(alloc, bytes) {
+        Err(BatchError::OutOfMemory) => Status::Memory,
+        Err(fault) => tell_batch_fault(&fault, sink),
+        Ok(batch) => play_jobs(rt, alloc, &batch, options, runners, sink),
+    }
+}
+
+/// Plays the batch of the source, each script as the options say, on so many runners.
+pub fn play_batch<R: Threads + Wait + Sync, S: Source, K: Sink>(
+    rt: &R,
+    alloc: Global,
+    options: &Options,
+    runners: u32,
+    source: &mut S,
+    sink: &mut K,
+) -> Status
+    requires range { AreInRange options.now }
+    requires runners { (1 ≤ runners) × (runners ≤ 8) }
+    ensures ends { CommandEnds (OfSource (IsBatchAnswer (options_of options.now)) (S.left source.old)) result
+        (S.faults source.old) (S.faults source.new) (K.written sink.old) (K.written sink.new) (K.faults sink.old) (K.faults sink.new) }
+    ensures spent { HasItsText (code_of result) → IfSome (S.left source.old) (λ bytes. IsSpent 16777217 bytes (S.left source.new)) }
+{
+    match read_source(alloc, source, BATCH) {
+        Err(Unread::Memory) => Status::Memory,
+        Err(Unread::Failed) => Status::ReadFault,
+        Ok(bytes) => batch_bytes(rt, alloc, bytes.as_slice(), options, runners, sink),
+    }
+}

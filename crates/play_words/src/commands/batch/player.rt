@@ -1,0 +1,68 @@
+//! Plays a job of a batch: its script, as `run` plays one, with the text in memory.
+ghost use Rattle.play_contract.specs.Playing.{AreInRange};
+
+use crate::commands::run::play_bytes;
+use crate::status::Status;
+use gc_play::OpenGate;
+use job_pool::{Player, Text};
+use play_contract::Options;
+use play_report::{Failed, Sink};
+use std::alloc::Global;
+use std::sync::Wait;
+use std::thread::Threads;
+
+/// Keeps what is written as a text. It fails only for want of memory.
+#[derive(Drop)]
+struct TextSink {
+    text: Text,
+    faults: u64,
+}
+
+impl Sink for TextSink {
+    ghost use Rattle.std.specs.Prelude.{Some};
+
+    ghost written = { λ s. Some s.text };
+
+    ghost faults = { λ s. s.faults };
+
+    fn write(&mut self, piece: &[u8]) -> Result<usize, Failed> {
+        match self.text.append(piece) {
+            Ok(()) => Ok(piece.len()),
+            Err(_) => {
+                self.faults = self.faults.saturating_add(1);
+                Err(Failed)
+            }
+        }
+    }
+}
+
+/// Plays scripts as the options say.
+#[derive(Drop)]
+pub struct ScriptPlayer {
+    pub options: Options,
+    pub ghost range: { AreInRange options },
+}
+
+impl Player for ScriptPlayer {
+    ghost use Rattle.command_words.specs.Commands.{options_of};
+    ghost use Rattle.play_words.specs.Answers.{FitsJob};
+
+    ghost fits = { λ player script status text. FitsJob (options_of player.options) script status text };
+
+    /// Plays the script as `run` does. For want of memory the status is 6 and the text empty.
+    fn play_job<R: Threads + Wait + Sync>(
+        &self,
+        rt: &R,
+        alloc: Global,
+        script: &[u8],
+    ) -> (u8, Text) {
+        let mut sink = TextSink {
+            text: Text::make(alloc),
+            faults: 0,
+        };
+        match play_bytes(rt, alloc, script, &self.options, &mut sink, &OpenGate) {
+            Status::WriteFault | Status::Memory => (Status::Memory.code(), Text::make(alloc)),
+            status => (status.code(), sink.text),
+        }
+    }
+}

@@ -1,0 +1,65 @@
+//! The command `census`: counts the records of the source's dump.
+ghost use Rattle.std.specs.Prelude.{◌≤◌, IfSome};
+ghost use Rattle.heap_dump.specs.Reading.{heap_of};
+ghost use Rattle.play_words.specs.Dumping.{IsCensusAnswer, IsCountOf};
+ghost use Rattle.play_words.specs.Ending.{CommandEnds, HasItsText, TextEnds, code_of};
+ghost use Rattle.play_words.specs.Promise.{OfSource};
+ghost use Rattle.play_words.specs.Reading.{IsSpent};
+
+use crate::source::{DUMP, Unread, read_source};
+use crate::status::Status;
+use dump_census::{census, write_census};
+use heap_dump::{Dump, read_dump, write_dump_fault};
+use play_report::{Sink, Source};
+use std::alloc::Global;
+use std::thread::Threads;
+
+/// Counts the records, and writes the census.
+fn count_records<R: Threads + Sync, K: Sink>(
+    rt: &R,
+    alloc: Global,
+    dump: &Dump<'_>,
+    sink: &mut K,
+) -> Status
+    ensures { TextEnds (IsCountOf (heap_of dump.now)) result
+        (K.written sink.old) (K.written sink.new) (K.faults sink.old) (K.faults sink.new) }
+{
+    match census(rt, alloc, dump) {
+        Err(_) => Status::Memory,
+        Ok(census) => Status::Done.after(write_census(&census, sink)),
+    }
+}
+
+/// Writes the census of a dump, or its fault.
+fn census_bytes<R: Threads + Sync, K: Sink>(
+    rt: &R,
+    alloc: Global,
+    bytes: &[u8],
+    sink: &mut K,
+) -> Status
+    ensures { TextEnds (IsCensusAnswer bytes.now) result
+        (K.written sink.old) (K.written sink.new) (K.faults sink.old) (K.faults sink.new) }
+{
+    match read_dump(bytes) {
+        Err(fault) => Status::InputFault.after(write_dump_fault(&fault, sink)),
+        Ok(dump) => count_records(rt, alloc, &dump, sink),
+    }
+}
+
+/// Writes the census of the source's dump.
+pub fn census_source<R: Threads + Sync, S: Source, K: Sink>(
+    rt: &R,
+    alloc: Global,
+    source: &mut S,
+    sink: &mut K,
+) -> Status
+    ensures ends { CommandEnds (OfSource IsCensusAnswer (S.left source.old)) result
+        (S.faults source.old) (S.faults source.new) (K.written sink.old) (K.written sink.new) (K.faults sink.old) (K.faults sink.new) }
+    ensures spent { HasItsText (code_of result) → IfSome (S.left source.old) (λ bytes. IsSpent 4984981 bytes (S.left source.new)) }
+{
+    match read_source(alloc, source, DUMP) {
+        Err(Unread::Memory) => Status::Memory,
+        Err(Unread::Failed) => Status::ReadFault,
+        Ok(bytes) => census_bytes(rt, alloc, bytes.as_slice(), sink),
+    }
+}

@@ -1,0 +1,63 @@
+//! The command `convert`: writes the script of the source in the second version of the language.
+ghost use Rattle.std.specs.Prelude.{◌≡◌, ◌≤◌, [], IfSome, if◌then◌else◌};
+ghost use Rattle.gc_script.specs.Convert.{added_lines, converted_text};
+ghost use Rattle.gc_script.specs.Converting.{conversion_of};
+ghost use Rattle.play_report.specs.Causes.{Writes};
+ghost use Rattle.play_words.specs.Answers.{IsConvertAnswer};
+ghost use Rattle.play_words.specs.Ending.{CommandEnds, HasItsText, TextEnds, code_of};
+ghost use Rattle.play_words.specs.Promise.{OfSource};
+ghost use Rattle.play_words.specs.Reading.{IsSpent};
+
+use crate::commands::fault::tell_fault;
+use crate::source::{SCRIPT, Unread, read_source};
+use crate::status::Status;
+use gc_script::{Converted, ScriptError, convert};
+use play_report::{Failed, Sink, Source, write_all};
+use std::alloc::Global;
+
+fn write_added<K: Sink>(added: bool, sink: &mut K) -> Result<(), Failed>
+    ensures { Writes result (K.written sink.old) (K.written sink.new) (K.faults sink.old) (K.faults sink.new)
+        (if added then added_lines else []) }
+{
+    if added {
+        write_all(sink, b"gcscript 2\nfields 4\n")
+    } else {
+        Ok(())
+    }
+}
+
+/// Writes a conversion: the lines that are added, and the rest as it stands.
+fn write_converted<K: Sink>(converted: &Converted<'_>, sink: &mut K) -> Result<(), Failed>
+    ensures { Writes result (K.written sink.old) (K.written sink.new) (K.faults sink.old) (K.faults sink.new)
+        (converted_text (conversion_of converted.now)) }
+{
+    match write_added(converted.added, sink) {
+        Ok(()) => write_all(sink, converted.rest),
+        Err(e) => Err(e),
+    }
+}
+
+/// Converts a script, and writes it or its fault.
+fn convert_bytes<K: Sink>(alloc: Global, bytes: &[u8], sink: &mut K) -> Status
+    ensures { TextEnds (IsConvertAnswer bytes.now) result
+        (K.written sink.old) (K.written sink.new) (K.faults sink.old) (K.faults sink.new) }
+{
+    match convert(alloc, bytes) {
+        Err(ScriptError::OutOfMemory) => Status::Memory,
+        Err(fault) => tell_fault(&fault, sink),
+        Ok(converted) => Status::Done.after(write_converted(&converted, sink)),
+    }
+}
+
+/// Converts the script of the source.
+pub fn convert_source<S: Source, K: Sink>(alloc: Global, source: &mut S, sink: &mut K) -> Status
+    ensures ends { CommandEnds (OfSource IsConvertAnswer (S.left source.old)) result
+        (S.faults source.old) (S.faults source.new) (K.written sink.old) (K.written sink.new) (K.faults sink.old) (K.faults sink.new) }
+    ensures spent { HasItsText (code_of result) → IfSome (S.left source.old) (λ bytes. IsSpent 1048577 bytes (S.left source.new)) }
+{
+    match read_source(alloc, source, SCRIPT) {
+        Err(Unread::Memory) => Status::Memory,
+        Err(Unread::Failed) => Status::ReadFault,
+        Ok(bytes) => convert_bytes(alloc, bytes.as_slice(), sink),
+    }
+}

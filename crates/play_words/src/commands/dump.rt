@@ -1,0 +1,117 @@
+//! The command `dump`: plays the script of the source, and writes the heap at its end.
+ghost use Rattle.std.specs.Prelude.{◌≤◌, Err, IfSome};
+ghost use Rattle.command_words.specs.Commands.{options_of};
+ghost use Rattle.play_contract.specs.Playing.{AreInRange, PlayAnswers};
+ghost use Rattle.play_dump.specs.Ending.{IsEndOf};
+ghost use Rattle.play_words.specs.Dumping.{EndsIn, IsDumpAnswer, IsEndAnswer};
+ghost use Rattle.play_words.specs.Ending.{CommandEnds, HasItsText, TextEnds, code_of};
+ghost use Rattle.play_words.specs.Promise.{OfSource};
+ghost use Rattle.play_words.specs.Reading.{IsSpent};
+
+use crate::commands::fault::tell_fault;
+use crate::source::{SCRIPT, Unread, read_source};
+use crate::status::Status;
+use gc_play::{Gate, play_final};
+use gc_script::{Script, ScriptError, read};
+use gc_table::Words;
+use heap_dump::write_dump;
+use play_contract::{Options, PlayError};
+use play_dump::final_heap;
+use play_report::{Report, Sink, Source, write_full};
+use std::alloc::Global;
+use std::sync::Wait;
+use std::thread::Threads;
+
+/// Writes the heap at the end of a play.
+fn write_end<K: Sink>(
+    alloc: Global,
+    script: &Script<'_>,
+    end: &(Report<'_>, Words),
+    sink: &mut K,
+) -> Status
+    requires { IsEndOf script.now.sections end.now.0 end.now.1 }
+    ensures { TextEnds (IsEndAnswer script.now) result
+        (K.written sink.old) (K.written sink.new) (K.faults sink.old) (K.faults sink.new) }
+{
+    match final_heap(alloc, script, &end.0, &end.1) {
+        Err(_) => Status::Memory,
+        Ok(heap) => Status::Done.after(write_dump(&heap, sink)),
+    }
+}
+
+/// Writes how far a play came that found too few cells.
+fn write_error<K: Sink>(
+    error: PlayError,
+    _script: &Script<'_>,
+    _options: &Options,
+    sink: &mut K,
+) -> Status
+    requires { PlayAnswers (Err error) _script.now.sections _options.now.cells }
+    ensures { TextEnds (EndsIn (options_of _options.now) _script.now) result
+        (K.written sink.old) (K.written sink.new) (K.faults sink.old) (K.faults sink.new) }
+{
+    match error {
+        PlayError::OutOfMemory => Status::Memory,
+        PlayError::Full(positions) => Status::Full.after(write_full(&positions, sink)),
+    }
+}
+
+/// Plays a script, and writes the heap at its end or how far it came.
+fn dump_script<R: Threads + Wait + Sync, K: Sink, G: Gate + Sync>(
+    rt: &R,
+    alloc: Global,
+    script: &Script<'_>,
+    options: &Options,
+    sink: &mut K,
+    gate: &G,
+) -> Status
+    requires { AreInRange options.now }
+    ensures { TextEnds (EndsIn (options_of options.now) script.now) result
+        (K.written sink.old) (K.written sink.new) (K.faults sink.old) (K.faults sink.new) }
+{
+    match play_final(rt, alloc, script, options, gate) {
+        Err(error) => write_error(error, script, options, sink),
+        Ok(end) => write_end(alloc, script, &end, sink),
+    }
+}
+
+/// Reads and plays a script, and writes the heap at its end or its fault.
+fn dump_bytes<R: Threads + Wait + Sync, K: Sink, G: Gate + Sync>(
+    rt: &R,
+    alloc: Global,
+    bytes: &[u8],
+    options: &Options,
+    sink: &mut K,
+    gate: &G,
+) -> Status
+    requires { AreInRange options.now }
+    ensures { TextEnds (IsDumpAnswer (options_of options.now) bytes.now) result
+        (K.written sink.old) (K.written sink.new) (K.faults sink.old) (K.faults sink.new) }
+{
+    match read(alloc, bytes) {
+        Err(ScriptError::OutOfMemory) => Status::Memory,
+        Err(fault) => tell_fault(&fault, sink),
+        Ok(script) => dump_script(rt, alloc, &script, options, sink, gate),
+    }
+}
+
+/// Plays the script of the source, as the options say, and writes the heap at its end.
+pub fn dump_source<R: Threads + Wait + Sync, S: Source, K: Sink, G: Gate + Sync>(
+    rt: &R,
+    alloc: Global,
+    options: &Options,
+    source: &mut S,
+    sink: &mut K,
+    gate: &G,
+) -> Status
+    requires { AreInRange options.now }
+    ensures ends { CommandEnds (OfSource (IsDumpAnswer (options_of options.now)) (S.left source.old)) result
+        (S.faults source.old) (S.faults source.new) (K.written sink.old) (K.written sink.new) (K.faults sink.old) (K.faults sink.new) }
+    ensures spent { HasItsText (code_of result) → IfSome (S.left source.old) (λ bytes. IsSpent 1048577 bytes (S.left source.new)) }
+{
+    match read_source(alloc, source, SCRIPT) {
+        Err(Unread::Memory) => Status::Memory,
+        Err(Unread::Failed) => Status::ReadFault,
+        Ok(bytes) => dump_bytes(rt, alloc, bytes.as_slice(), options, sink, gate),
+    }
+}

@@ -1,0 +1,17 @@
+//! What a script with a fault is answered.
+ghost use Rattle.std.specs.Prelude.{◌≢◌};
+ghost use Rattle.gc_script.specs.Shown.{fault_of};
+ghost use Rattle.play_words.specs.Ending.{IsFaultAnswer, TextEnds};
+
+use crate::status::Status;
+use gc_script::ScriptError;
+use play_report::{Sink, write_fault};
+
+/// Writes a fault; want of memory is none.
+pub fn tell_fault<K: Sink>(fault: &ScriptError, sink: &mut K) -> Status
+    requires { fault.now ≢ ScriptError.OutOfMemory }
+    ensures { TextEnds (IsFaultAnswer (fault_of fault.now)) result
+        (K.written sink.old) (K.written sink.new) (K.faults sink.old) (K.faults sink.new) }
+{
+    Status::InputFault.after(write_fault(fault, sink))
+}

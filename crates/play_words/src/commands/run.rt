@@ -1,0 +1,80 @@
+//! The command `run`: plays the script of the source.
+ghost use Rattle.std.specs.Prelude.{◌≡◌, ◌≤◌, IfSome};
+ghost use Rattle.play_words.specs.Answers.{IsRunAnswer, PlaysTo};
+ghost use Rattle.command_words.specs.Commands.{options_of};
+ghost use Rattle.play_words.specs.Ending.{CommandEnds, HasItsText, TextEnds, code_of};
+ghost use Rattle.play_contract.specs.Playing.{AreInRange};
+ghost use Rattle.play_words.specs.Promise.{OfSource};
+ghost use Rattle.play_words.specs.Reading.{IsSpent};
+
+use crate::commands::fault::tell_fault;
+use crate::source::{SCRIPT, Unread, read_source};
+use crate::status::Status;
+use gc_play::{Gate, play};
+use gc_script::{Script, ScriptError, read};
+use play_contract::{Options, PlayError};
+use play_report::{Sink, Source, write_full, write_report};
+use std::alloc::Global;
+use std::sync::Wait;
+use std::thread::Threads;
+
+/// Plays a script, and writes what it says or how far it came.
+fn play_script<R: Threads + Wait + Sync, K: Sink, G: Gate + Sync>(
+    rt: &R,
+    alloc: Global,
+    script: &Script<'_>,
+    options: &Options,
+    sink: &mut K,
+    gate: &G,
+) -> Status
+    requires { AreInRange options.now }
+    ensures { TextEnds (PlaysTo (options_of options.now) script.now) result
+        (K.written sink.old) (K.written sink.new) (K.faults sink.old) (K.faults sink.new) }
+{
+    match play(rt, alloc, script, options, gate) {
+        Err(PlayError::OutOfMemory) => Status::Memory,
+        Err(PlayError::Full(positions)) => Status::Full.after(write_full(&positions, sink)),
+        Ok(report) => Status::Done.after(write_report(&report, options.place, sink)),
+    }
+}
+
+/// Reads and plays a script, and writes what it says or its fault.
+pub fn play_bytes<R: Threads + Wait + Sync, K: Sink, G: Gate + Sync>(
+    rt: &R,
+    alloc: Global,
+    bytes: &[u8],
+    options: &Options,
+    sink: &mut K,
+    gate: &G,
+) -> Status
+    requires { AreInRange options.now }
+    ensures { TextEnds (IsRunAnswer (options_of options.now) bytes.now) result
+        (K.written sink.old) (K.written sink.new) (K.faults sink.old) (K.faults sink.new) }
+{
+    match read(alloc, bytes) {
+        Err(ScriptError::OutOfMemory) => Status::Memory,
+        Err(fault) => tell_fault(&fault, sink),
+        Ok(script) => play_script(rt, alloc, &script, options, sink, gate),
+    }
+}
+
+/// Plays the script of the source, as the options say.
+pub fn play_source<R: Threads + Wait + Sync, S: Source, K: Sink, G: Gate + Sync>(
+    rt: &R,
+    alloc: Global,
+    options: &Options,
+    source: &mut S,
+    sink: &mut K,
+    gate: &G,
+) -> Status
+    requires { AreInRange options.now }
+    ensures ends { CommandEnds (OfSource (IsRunAnswer (options_of options.now)) (S.left source.old)) result
+        (S.faults source.old) (S.faults source.new) (K.written sink.old) (K.written sink.new) (K.faults sink.old) (K.faults sink.new) }
+    ensures spent { HasItsText (code_of result) → IfSome (S.left source.old) (λ bytes. IsSpent 1048577 bytes (S.left source.new)) }
+{
+    match read_source(alloc, source, SCRIPT) {
+        Err(Unread::Memory) => Status::Memory,
+        Err(Unread::Failed) => Status::ReadFault,
+        Ok(bytes) => play_bytes(rt, alloc, bytes.as_slice(), options, sink, gate),
+    }
+}

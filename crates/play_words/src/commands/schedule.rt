@@ -1,0 +1,39 @@
+//! The command `schedule`: checks the schedule of the source.
+ghost use Rattle.std.specs.Prelude.{◌≤◌, IfSome};
+ghost use Rattle.schedule_check.specs.Telling.{IsAnswer as IsScheduleAnswer};
+ghost use Rattle.play_words.specs.Ending.{CommandEnds, HasItsText, TextEnds, code_of};
+ghost use Rattle.play_words.specs.Promise.{OfSource};
+ghost use Rattle.play_words.specs.Reading.{IsSpent};
+
+use crate::source::{SCHEDULE, Unread, read_source};
+use crate::status::Status;
+use play_report::{Sink, Source};
+use schedule_check::{Told, Untold, tell_schedule};
+use std::alloc::Global;
+
+/// Writes the verdict on a schedule, or its fault.
+fn check_bytes<K: Sink>(alloc: Global, bytes: &[u8], sink: &mut K) -> Status
+    ensures { TextEnds (IsScheduleAnswer bytes.now) result
+        (K.written sink.old) (K.written sink.new) (K.faults sink.old) (K.faults sink.new) }
+{
+    match tell_schedule(alloc, bytes, sink) {
+        Ok(Told::Accepted) => Status::Done,
+        Ok(Told::Faulty) => Status::InputFault,
+        Ok(Told::Refused) => Status::Refused,
+        Err(Untold::OutOfMemory) => Status::Memory,
+        Err(Untold::Failed) => Status::WriteFault,
+    }
+}
+
+/// Checks the schedule of the source.
+pub fn check_source<S: Source, K: Sink>(alloc: Global, source: &mut S, sink: &mut K) -> Status
+    ensures ends { CommandEnds (OfSource IsScheduleAnswer (S.left source.old)) result
+        (S.faults source.old) (S.faults source.new) (K.written sink.old) (K.written sink.new) (K.faults sink.old) (K.faults sink.new) }
+    ensures spent { HasItsText (code_of result) → IfSome (S.left source.old) (λ bytes. IsSpent 4194305 bytes (S.left source.new)) }
+{
+    match read_source(alloc, source, SCHEDULE) {
+        Err(Unread::Memory) => Status::Memory,
+        Err(Unread::Failed) => Status::ReadFault,
+        Ok(bytes) => check_bytes(alloc, bytes.as_slice(), sink),
+    }
+}

@@ -1,0 +1,36 @@
+//! The command `undump`: writes the records of the source's dump.
+ghost use Rattle.std.specs.Prelude.{◌≤◌, IfSome};
+ghost use Rattle.play_words.specs.Dumping.{IsUndumpAnswer};
+ghost use Rattle.play_words.specs.Ending.{CommandEnds, HasItsText, TextEnds, code_of};
+ghost use Rattle.play_words.specs.Promise.{OfSource};
+ghost use Rattle.play_words.specs.Reading.{IsSpent};
+
+use crate::source::{DUMP, Unread, read_source};
+use crate::status::Status;
+use heap_dump::{read_dump, write_dump_fault, write_undump};
+use play_report::{Sink, Source};
+use std::alloc::Global;
+
+/// Writes the records of a dump, or its fault.
+fn undump_bytes<K: Sink>(bytes: &[u8], sink: &mut K) -> Status
+    ensures { TextEnds (IsUndumpAnswer bytes.now) result
+        (K.written sink.old) (K.written sink.new) (K.faults sink.old) (K.faults sink.new) }
+{
+    match read_dump(bytes) {
+        Err(fault) => Status::InputFault.after(write_dump_fault(&fault, sink)),
+        Ok(dump) => Status::Done.after(write_undump(&dump, sink)),
+    }
+}
+
+/// Writes the records of the source's dump.
+pub fn undump_source<S: Source, K: Sink>(alloc: Global, source: &mut S, sink: &mut K) -> Status
+    ensures ends { CommandEnds (OfSource IsUndumpAnswer (S.left source.old)) result
+        (S.faults source.old) (S.faults source.new) (K.written sink.old) (K.written sink.new) (K.faults sink.old) (K.faults sink.new) }
+    ensures spent { HasItsText (code_of result) → IfSome (S.left source.old) (λ bytes. IsSpent 4984981 bytes (S.left source.new)) }
+{
+    match read_source(alloc, source, DUMP) {
+        Err(Unread::Memory) => Status::Memory,
+        Err(Unread::Failed) => Status::ReadFault,
+        Ok(bytes) => undump_bytes(bytes.as_slice(), sink),
+    }
+}

@@ -1,0 +1,17 @@
+// Laws over what `play_words` promises: each is the contract of a function that does nothing.
+ghost use Rattle.play_words.specs.Laws.{DumpsAlike, LoadsAlike, RunsAlike};
+
+/// Two runs of one script that are done, without `--place`, write the same bytes, whatever their cells, workers, tracers, packets and entries.
+pub fn runs_alike()
+    ensures { RunsAlike }
+{}
+
+/// So do two dumps of one script.
+pub fn dumps_alike()
+    ensures { DumpsAlike }
+{}
+
+/// So do two loads with the same numbers.
+pub fn loads_alike()
+    ensures { LoadsAlike }
+{}
