@@ -1,36 +1,81 @@
-//! The command `convert`.
-use crate::tests::{CONVERT, FIRST, answers};
-use std::test::Fail;
+//! The command `convert`, and the longest source: a conversion adds 9 bytes, and may have as many as a source.
 
-const ROWS: [(&[u8], &[u8]); 7] = [
-    (
-        FIRST,
-        b"gcscript 2\nfields 4\nwarehouse\nnew x 5\nsay a x\n",
-    ),
-    (b"gcscript 1", b"gcscript 2\nfields 4\n"),
-    (b"gcscript 1\n", b"gcscript 2\nfields 4\n"),
-    (
-        b"  gcscript   1 \n# a \n\n warehouse",
-        b"gcscript 2\nfields 4\n# a \n\n warehouse",
-    ),
-    (b"gcscript 2\nfields 9", b"gcscript 2\nfields 9"),
-    (
-        b" gcscript  2\n\nfields  016\nwarehouse\nnil x\nget x x 15\n",
-        b" gcscript  2\n\nfields  016\nwarehouse\nnil x\nget x x 15\n",
-    ),
-    (
-        b"gcscript 3\nfields 1\nwarehouse\nseason\n",
-        b"gcscript 3\nfields 1\nwarehouse\nseason\n",
-    ),
-];
+pub const CONVERTS: &str = "$ convert
+gcscript 1
+warehouse
+new x 5
+say a x
+=> 0
+gcscript 2
+fields 4
+warehouse
+new x 5
+say a x
+$ convert
+gcscript 1=> 0
+gcscript 2
+fields 4
+$ convert
+gcscript 1
+=> 0
+gcscript 2
+fields 4
+$ convert
+  gcscript   1 
+# a 
 
-#[test]
-fn converts_scripts(rt: HostRuntime) -> Result<(), Fail> {
-    for (i, (bytes, text)) in ROWS.iter().enumerate() {
-        assert!(rt;
-            answers(&rt, rt.alloc(), CONVERT, bytes, 0, text)?,
-            "row {i}"
-        );
-    }
-    Ok(())
-}
+ warehouse=> 0
+gcscript 2
+fields 4
+# a 
+
+ warehouse$ convert
+gcscript 2
+fields 9=> 0
+gcscript 2
+fields 9$ convert
+ gcscript  2
+
+fields  016
+warehouse
+nil x
+get x x 15
+=> 0
+ gcscript  2
+
+fields  016
+warehouse
+nil x
+get x x 15
+$ convert
+gcscript 3
+fields 1
+warehouse
+season
+=> 0
+gcscript 3
+fields 1
+warehouse
+season
+$ run
+gcscript 1
+#{1048564*a}=> 0
+survivors 0
+$ run
+gcscript 1
+#{1048565*a}=> 2
+11 TooLong
+$ convert
+gcscript 1
+#{1048555*a}=> 0
+gcscript 2
+fields 4
+#{1048555*a}$ convert
+gcscript 1
+#{1048556*a}=> 2
+14 ConvertedTooLong
+$ convert
+gcscript 1
+#{1048565*a}=> 2
+11 TooLong
+";

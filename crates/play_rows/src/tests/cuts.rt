@@ -1,103 +1,145 @@
 //! A script that is cut after each of its bytes.
-use crate::tests::faults::is_told;
-use crate::tests::{CONVERT, RUN, answers};
+use crate::tests::cases::all_hold;
+use std::process::Abort;
+use std::sync::Wait;
 use std::test::Fail;
+use std::thread::Threads;
 
-const WHOLE: &[u8] =
-    b"gcscript 1\ncatalogue\nnew item 40\nwarehouse\ncat i item\nset i 0 i\nput i 7\nsay a i\nnew o 1\nset o 2 i\nget j o 2\nsay b j\n";
+/// A catalogue with an object, and a warehouse that stores into it and refers to it.
+const WHOLE: &str = "gcscript 1
+catalogue
+new item 40
+warehouse
+cat i item
+set i 0 i
+put i 7
+say a i
+new o 1
+set o 2 i
+get j o 2
+say b j
+";
 
-/// The first and the last cut with a fault. Line 5 may end in a name that the catalogue does not have.
-const FAULTS: [(usize, usize, &[u8]); 13] = [
-    (0, 9, b"2 BadHeader\n"),
-    (12, 19, b"3 BadLine line 2\n"),
-    (22, 30, b"3 BadLine line 3\n"),
-    (34, 41, b"3 BadLine line 4\n"),
-    (44, 49, b"3 BadLine line 5\n"),
-    (50, 52, b"4 UnknownName line 5\n"),
-    (55, 62, b"3 BadLine line 6\n"),
-    (65, 70, b"3 BadLine line 7\n"),
-    (73, 78, b"3 BadLine line 8\n"),
-    (81, 86, b"3 BadLine line 9\n"),
-    (89, 96, b"3 BadLine line 10\n"),
-    (99, 106, b"3 BadLine line 11\n"),
-    (109, 114, b"3 BadLine line 12\n"),
-];
+/// The first and the last cut, and the fault of the script so cut, or what its play writes. Line 3 may end in another number, and line 5
+/// in a name that the catalogue does not have.
+const CUTS: &str = "$ 0 9
+2 BadHeader
+$ 10 11
+survivors 0
+$ 12 19
+3 BadLine line 2
+$ 20 21
+survivors 0
+$ 22 30
+3 BadLine line 3
+$ 31 31
+survivors 1
+0 0 4
+$ 32 33
+survivors 1
+0 0 40
+$ 34 41
+3 BadLine line 4
+$ 42 43
+warehouse 1
+dropped 0
+survivors 1
+0 0 40
+$ 44 49
+3 BadLine line 5
+$ 50 52
+4 UnknownName line 5
+$ 53 54
+warehouse 1
+dropped 0
+survivors 1
+0 0 40
+$ 55 62
+3 BadLine line 6
+$ 63 64
+warehouse 1
+dropped 1
+survivors 1
+0 0 40
+$ 65 70
+3 BadLine line 7
+$ 71 72
+warehouse 1
+dropped 2
+survivors 1
+0 0 40
+$ 73 78
+3 BadLine line 8
+$ 79 80
+warehouse 1
+a 40
+dropped 2
+survivors 1
+0 0 40
+$ 81 86
+3 BadLine line 9
+$ 87 88
+warehouse 1
+a 40
+dropped 2
+survivors 2
+0 0 40
+1 0 1
+$ 89 96
+3 BadLine line 10
+$ 97 98
+warehouse 1
+a 40
+dropped 2
+survivors 2
+0 0 40
+1 0 1
+$ 99 106
+3 BadLine line 11
+$ 107 108
+warehouse 1
+a 40
+dropped 2
+survivors 2
+0 0 40
+1 0 1
+$ 109 114
+3 BadLine line 12
+$ 115 116
+warehouse 1
+a 40
+b 40
+dropped 2
+survivors 2
+0 0 40
+1 0 1
+";
 
-/// The first and the last cut of a script without a fault, and what its play writes. Line 3 may end in another number.
-const PLAYS: [(usize, usize, &[u8]); 13] = [
-    (10, 11, b"survivors 0\n"),
-    (20, 21, b"survivors 0\n"),
-    (31, 31, b"survivors 1\n0 0 4\n"),
-    (32, 33, b"survivors 1\n0 0 40\n"),
-    (42, 43, b"warehouse 1\ndropped 0\nsurvivors 1\n0 0 40\n"),
-    (53, 54, b"warehouse 1\ndropped 0\nsurvivors 1\n0 0 40\n"),
-    (63, 64, b"warehouse 1\ndropped 1\nsurvivors 1\n0 0 40\n"),
-    (71, 72, b"warehouse 1\ndropped 2\nsurvivors 1\n0 0 40\n"),
-    (
-        79,
-        80,
-        b"warehouse 1\na 40\ndropped 2\nsurvivors 1\n0 0 40\n",
-    ),
-    (
-        87,
-        88,
-        b"warehouse 1\na 40\ndropped 2\nsurvivors 2\n0 0 40\n1 0 1\n",
-    ),
-    (
-        97,
-        98,
-        b"warehouse 1\na 40\ndropped 2\nsurvivors 2\n0 0 40\n1 0 1\n",
-    ),
-    (
-        107,
-        108,
-        b"warehouse 1\na 40\ndropped 2\nsurvivors 2\n0 0 40\n1 0 1\n",
-    ),
-    (
-        115,
-        116,
-        b"warehouse 1\na 40\nb 40\ndropped 2\nsurvivors 2\n0 0 40\n1 0 1\n",
-    ),
-];
-
-/// The source up to a cut.
-fn cut(end: usize) -> &'static [u8] {
-    WHOLE.get(..end).unwrap_or(WHOLE)
+/// Fails where the script that ends there isn't judged so.
+fn is_cut<R: Abort + AllocGlobal + Threads + Wait + Sync>(
+    rt: &R,
+    end: usize,
+    text: &str,
+) -> Result<(), Fail> {
+    let script = WHOLE.get(..end).ok_or("end")?;
+    let rest = WHOLE.get(11..end).unwrap_or("");
+    let cases = if text.contains("survivors") {
+        format!(in rt.alloc();
+            "$ run\n{script}=> 0\n{text}$ convert\n{script}=> 0\ngcscript 2\nfields 4\n{rest}"
+        )?
+    } else {
+        format!(in rt.alloc(); "$ run\n{script}=> 2\n{text}$ convert\n{script}=> 2\n{text}")?
+    };
+    all_hold(rt, cases.as_str())
 }
 
 #[test]
-fn tells_the_fault_of_a_cut(rt: HostRuntime) -> Result<(), Fail> {
-    for (first, last, text) in FAULTS {
-        for end in first..=last {
-            assert!(rt; is_told(&rt, rt.alloc(), cut(end), text)?, "cut {end}");
-        }
-    }
-    Ok(())
-}
-
-#[test]
-fn converts_a_cut(rt: HostRuntime) -> Result<(), Fail> {
-    for (first, last, _) in PLAYS {
-        for end in first..=last {
-            let mut text = b"gcscript 2\nfields 4\n".to_vec(rt.alloc())?;
-            text.extend_from_slice(cut(end).get(11..).unwrap_or(b""))?;
-            assert!(rt;
-                answers(&rt, rt.alloc(), CONVERT, cut(end), 0, text.as_slice())?,
-                "cut {end}"
-            );
-        }
-    }
-    Ok(())
-}
-
-#[test]
-fn plays_a_cut(rt: HostRuntime) -> Result<(), Fail> {
-    for (first, last, text) in PLAYS {
-        for end in first..=last {
-            assert!(rt;
-                answers(&rt, rt.alloc(), RUN, cut(end), 0, text)?,
-                "cut {end}"
-            );
+fn judges_cuts(rt: HostRuntime) -> Result<(), Fail> {
+    for row in CUTS.split("$ ").skip(1) {
+        let (cuts, text) = row.split_once('\n').ok_or("cuts")?;
+        let (first, last) = cuts.split_once(' ').ok_or("last")?;
+        for end in first.parse::<usize>()?..=last.parse::<usize>()? {
+            is_cut(&rt, end, text)?;
         }
     }
     Ok(())

@@ -1,8 +1,6 @@
 //! The words at the end of a play.
-
 use gc_play::{OpenGate, play_final};
 use gc_script::read;
-use gc_table::Words;
 use mark_core::Phase;
 use play_contract::{Options, USUAL};
 use std::test::Fail;
@@ -11,32 +9,16 @@ use std::test::Fail;
 const SCRIPT: &[u8] =
     b"gcscript 1\nwarehouse\nnew a 7\nnew b 8\nset a 0 b\nnew b 6\nnil b\nwarehouse\nnew c 5\nnew c 9\n";
 
-/// The value of the cell that a word refers to.
-fn value_at(words: &Words, word: u64) -> u64 {
-    let cell = word.saturating_sub(1) as usize;
-    words.values.get(cell).copied().unwrap_or(0)
+fn at(words: &[u64], place: usize) -> u64 {
+    words.get(place).copied().unwrap_or(0)
 }
 
-/// The word of the first field of the cell that a word refers to, of four fields.
-fn first_field(words: &Words, word: u64) -> u64 {
-    let cell = word.saturating_sub(1).saturating_mul(4) as usize;
-    words.fields.get(cell).copied().unwrap_or(0)
+/// The cell that a word refers to.
+fn cell_of(word: u64) -> usize {
+    word.saturating_sub(1) as usize
 }
 
-/// The word of variable 0 of a section.
-fn first_variable(words: &Words, section: usize) -> u64 {
-    words
-        .roots
-        .get(section.saturating_mul(32))
-        .copied()
-        .unwrap_or(0)
-}
-
-/// How many cells are allocated, of 64.
-fn allocated(words: &Words) -> u32 {
-    words.alloc.first().map_or(0, |word| word.count_ones())
-}
-
+/// The cells of 64 that are allocated stand in one word. A section has 32 variables, and a cell 4 fields.
 #[test]
 fn words_at_the_end(rt: HostRuntime) -> Result<(), Fail> {
     let options = Options {
@@ -51,10 +33,14 @@ fn words_at_the_end(rt: HostRuntime) -> Result<(), Fail> {
     assert_eq!(rt; report.survivors.len(), 3);
     assert!(rt; words.phase == Phase::Idle);
     assert_eq!(rt; words.positions.as_slice(), [0, 5, 2].as_slice());
-    assert_eq!(rt; allocated(&words), 3);
-    let head = first_variable(&words, 1);
-    assert_eq!(rt; value_at(&words, head), 7);
-    assert_eq!(rt; value_at(&words, first_field(&words, head)), 8);
-    assert_eq!(rt; value_at(&words, first_variable(&words, 2)), 9);
+    assert_eq!(rt; at(words.alloc.as_slice(), 0).count_ones(), 3);
+    let head = cell_of(at(words.roots.as_slice(), 32));
+    let next = cell_of(at(words.fields.as_slice(), head.saturating_mul(4)));
+    let last = cell_of(at(words.roots.as_slice(), 64));
+    let values = words.values.as_slice();
+    assert_eq!(rt;
+        [at(values, head), at(values, next), at(values, last)],
+        [7, 8, 9]
+    );
     Ok(())
 }

@@ -1,113 +1,234 @@
 //! Scripts with a fault: a source has one, which `run` and `convert` both tell.
-use crate::tests::{CONVERT, RUN, answers};
-use std::alloc::Global;
+use crate::tests::cases::all_hold;
 use std::process::Abort;
 use std::sync::Wait;
 use std::test::Fail;
 use std::thread::Threads;
 
-const ROWS: [(&[u8], &[u8]); 35] = [
-    (b"", b"2 BadHeader\n"),
-    (b"\n", b"2 BadHeader\n"),
-    (b" gcscript  4", b"2 BadHeader\n"),
-    (b"gcscript 1\n\xc3", b"1 NotAscii offset 11\n"),
-    (b"gcscript 1\r\n", b"1 NotAscii offset 10\n"),
-    (b"gcscript 1\n\0", b"1 NotAscii offset 11\n"),
-    (b"gcscript 1\n#\t", b"1 NotAscii offset 12\n"),
-    (b"bogus\n\x7f", b"1 NotAscii offset 6\n"),
-    (b"gcscript 1\nwarehouse\xff\n", b"1 NotAscii offset 20\n"),
-    (
-        b"gcscript 1\nwarehouse\nnil x\nsay a y\nbogus\n",
-        b"4 UnknownName line 4\n",
-    ),
-    (
-        b"gcscript 1\nwarehouse\nrepeat 3\nnew x 1\n",
-        b"7 RepeatOpen line 3\n",
-    ),
-    (
-        b"gcscript 1\nwarehouse\nnew x 4294967296\n",
-        b"6 NumberTooLarge line 3\n",
-    ),
-    (
-        b"gcscript 1\nwarehouse\nnil x\nrepeat 65537\nsay a x\nend\n",
-        b"10 TooManyLines\n",
-    ),
-    (
-        b"gcscript 1\n# note\ncatalogue\nsay a b\n",
-        b"3 BadLine line 4\n",
-    ),
-    (b"gcscript 1\nwarehouse\nend\n", b"3 BadLine line 3\n"),
-    (
-        b"gcscript 2\nfields 1\nwarehouse\nnew x 5\nset x 1 x\nsum a x 0 3\n",
-        b"6 NumberTooLarge line 5\n",
-    ),
-    (b"gcscript 2\nfields 17\n", b"6 NumberTooLarge line 2\n"),
-    (b"gcscript 2\nwarehouse\n", b"3 BadLine line 2\n"),
-    (b"gcscript 2\n", b"2 BadHeader\n"),
-    (b"gcscript 3\n\n# note\n", b"2 BadHeader\n"),
-    (b"gcscript 2\nfields 0\n", b"3 BadLine line 2\n"),
-    (b"gcscript 1\nfields 4\n", b"3 BadLine line 2\n"),
-    (
-        b"gcscript 2\nfields 4\nwarehouse\nseason\n",
-        b"3 BadLine line 4\n",
-    ),
-    (b"gcscript 3\nfields 4\nseason\n", b"3 BadLine line 3\n"),
-    (
-        b"gcscript 3\nfields 4\nwarehouse\nrepeat 1\nseason\n",
-        b"3 BadLine line 5\n",
-    ),
-    (b"gcscript 1\nnil x\n", b"3 BadLine line 2\n"),
-    (b"gcscript 1\nwarehouse\ncatalogue\n", b"3 BadLine line 3\n"),
-    (
-        b"gcscript 1\nwarehouse\nrepeat 1\nrepeat 1\nend\nend\n",
-        b"3 BadLine line 4\n",
-    ),
-    (
-        b"gcscript 1\nwarehouse\nrepeat 1\nend\nend\n",
-        b"3 BadLine line 5\n",
-    ),
-    (
-        b"gcscript 1\nwarehouse\nrepeat 1\nwarehouse now\n",
-        b"3 BadLine line 4\n",
-    ),
-    (
-        b"gcscript 1\nwarehouse\nnil a0\nnil a1\nnil a2\nnil a3\nnil a4\nnil a5\nnil a6\nnil a7\nnil a8\nnil a9\nnil a10\nnil a11\nnil a12\nnil a13\nnil a14\nnil a15\nnil a16\nnil a17\nnil a18\nnil a19\nnil a20\nnil a21\nnil a22\nnil a23\nnil a24\nnil a25\nnil a26\nnil a27\nnil a28\nnil a29\nnil a30\nnil a31\nnil a32\n",
-        b"5 TooManyNames line 35\n",
-    ),
-    (
-        b"gcscript 1\nwarehouse\nwarehouse\nwarehouse\nwarehouse\nwarehouse\nwarehouse\nwarehouse\nwarehouse\nwarehouse\nwarehouse\nwarehouse\nwarehouse\nwarehouse\nwarehouse\nwarehouse\nwarehouse\nwarehouse\nwarehouse\nwarehouse\nwarehouse\nwarehouse\nwarehouse\nwarehouse\nwarehouse\nwarehouse\nwarehouse\nwarehouse\nwarehouse\nwarehouse\nwarehouse\nwarehouse\nwarehouse\nwarehouse\n",
-        b"8 TooManySections line 34\n",
-    ),
-    (
-        b"gcscript 1\nwarehouse\nrepeat 2000000\nnil x\nend\nnil x\n",
-        b"9 TooManyCommands\n",
-    ),
-    // In one line a number that is too large comes before a name that isn't known.
-    (
-        b"gcscript 1\nwarehouse\nset x 4 y\n",
-        b"6 NumberTooLarge line 3\n",
-    ),
-    // A `repeat` that is open comes before everything else of a section line.
-    (
-        b"gcscript 1\nwarehouse\nrepeat 1\ncatalogue\n",
-        b"7 RepeatOpen line 3\n",
-    ),
-];
+/// Scripts, each with its fault. In one line a number that is too large comes before a name that isn't known, and a `repeat` that is
+/// open comes before everything else of a section line.
+pub const FAULTS: &str = "$ => 2 BadHeader
+$ 
+=> 2 BadHeader
+$  gcscript  4=> 2 BadHeader
+$ gcscript 1
+é=> 1 NotAscii offset 11
+$ gcscript 1\r
+=> 1 NotAscii offset 10
+$ gcscript 1
+\0=> 1 NotAscii offset 11
+$ gcscript 1
+#\t=> 1 NotAscii offset 12
+$ bogus
+\x7f=> 1 NotAscii offset 6
+$ gcscript 1
+warehouseÿ
+=> 1 NotAscii offset 20
+$ gcscript 1
+warehouse
+nil x
+say a y
+bogus
+=> 4 UnknownName line 4
+$ gcscript 1
+warehouse
+repeat 3
+new x 1
+=> 7 RepeatOpen line 3
+$ gcscript 1
+warehouse
+new x 4294967296
+=> 6 NumberTooLarge line 3
+$ gcscript 1
+warehouse
+nil x
+repeat 65537
+say a x
+end
+=> 10 TooManyLines
+$ gcscript 1
+# note
+catalogue
+say a b
+=> 3 BadLine line 4
+$ gcscript 1
+warehouse
+end
+=> 3 BadLine line 3
+$ gcscript 2
+fields 1
+warehouse
+new x 5
+set x 1 x
+sum a x 0 3
+=> 6 NumberTooLarge line 5
+$ gcscript 2
+fields 17
+=> 6 NumberTooLarge line 2
+$ gcscript 2
+warehouse
+=> 3 BadLine line 2
+$ gcscript 2
+=> 2 BadHeader
+$ gcscript 3
 
-/// Whether both commands that read a script tell this fault.
-pub fn is_told<R: Abort + Threads + Wait + Sync>(
+# note
+=> 2 BadHeader
+$ gcscript 2
+fields 0
+=> 3 BadLine line 2
+$ gcscript 1
+fields 4
+=> 3 BadLine line 2
+$ gcscript 2
+fields 4
+warehouse
+season
+=> 3 BadLine line 4
+$ gcscript 3
+fields 4
+season
+=> 3 BadLine line 3
+$ gcscript 3
+fields 4
+warehouse
+repeat 1
+season
+=> 3 BadLine line 5
+$ gcscript 1
+nil x
+=> 3 BadLine line 2
+$ gcscript 1
+warehouse
+catalogue
+=> 3 BadLine line 3
+$ gcscript 1
+warehouse
+repeat 1
+repeat 1
+end
+end
+=> 3 BadLine line 4
+$ gcscript 1
+warehouse
+repeat 1
+end
+end
+=> 3 BadLine line 5
+$ gcscript 1
+warehouse
+repeat 1
+warehouse now
+=> 3 BadLine line 4
+$ gcscript 1
+warehouse
+nil a0
+nil a1
+nil a2
+nil a3
+nil a4
+nil a5
+nil a6
+nil a7
+nil a8
+nil a9
+nil a10
+nil a11
+nil a12
+nil a13
+nil a14
+nil a15
+nil a16
+nil a17
+nil a18
+nil a19
+nil a20
+nil a21
+nil a22
+nil a23
+nil a24
+nil a25
+nil a26
+nil a27
+nil a28
+nil a29
+nil a30
+nil a31
+nil a32
+=> 5 TooManyNames line 35
+$ gcscript 1
+warehouse
+warehouse
+warehouse
+warehouse
+warehouse
+warehouse
+warehouse
+warehouse
+warehouse
+warehouse
+warehouse
+warehouse
+warehouse
+warehouse
+warehouse
+warehouse
+warehouse
+warehouse
+warehouse
+warehouse
+warehouse
+warehouse
+warehouse
+warehouse
+warehouse
+warehouse
+warehouse
+warehouse
+warehouse
+warehouse
+warehouse
+warehouse
+warehouse
+=> 8 TooManySections line 34
+$ gcscript 1
+warehouse
+repeat 2000000
+nil x
+end
+nil x
+=> 9 TooManyCommands
+$ gcscript 1
+warehouse
+set x 4 y
+=> 6 NumberTooLarge line 3
+$ gcscript 1
+warehouse
+repeat 1
+catalogue
+=> 7 RepeatOpen line 3
+";
+
+/// Fails where a script behind this head isn't judged so: its fault is told, or, as `itself` says, it converts to itself.
+pub fn all_are_judged<R: Abort + AllocGlobal + Threads + Wait + Sync>(
     rt: &R,
-    alloc: Global,
-    bytes: &[u8],
-    text: &[u8],
-) -> Result<bool, Fail> {
-    Ok(answers(rt, alloc, RUN, bytes, 2, text)? && answers(rt, alloc, CONVERT, bytes, 2, text)?)
+    rows: &str,
+    head: &str,
+) -> Result<(), Fail> {
+    for row in rows.split("$ ").skip(1) {
+        let (lines, fault) = row.split_once("=> ").ok_or("row")?;
+        let script = format!(in rt.alloc(); "{head}{lines}")?;
+        let cases = if fault == "itself\n" {
+            format!(in rt.alloc(); "$ convert\n{script}=> 0\n{script}")?
+        } else {
+            format!(in rt.alloc(); "$ run\n{script}=> 2\n{fault}$ convert\n{script}=> 2\n{fault}")?
+        };
+        all_hold(rt, cases.as_str())?;
+    }
+    Ok(())
 }
 
 #[test]
 fn tells_faults(rt: HostRuntime) -> Result<(), Fail> {
-    for (i, (bytes, text)) in ROWS.iter().enumerate() {
-        assert!(rt; is_told(&rt, rt.alloc(), bytes, text)?, "row {i}");
-    }
-    Ok(())
+    all_are_judged(&rt, FAULTS, "")
 }

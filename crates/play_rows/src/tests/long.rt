@@ -1,242 +1,229 @@
 //! Long plays: full heaps, deep chains, cells that are used again and again.
-use crate::tests::pieces::Piece::{InEach, Objects as Lines, Times, Warehouses};
-use crate::tests::pieces::{Objects, Piece, built};
-use crate::tests::{RUN, answers};
-use std::test::Fail;
 
-/// The words, and the pieces of the source and of the text. The status is 0.
-type Row = (
-    &'static [&'static str],
-    &'static [Piece<'static>],
-    &'static [Piece<'static>],
-);
-
-const SMALL: &[&str] = &["run", "--cells", "64"];
-
-const ROWS: [Row; 8] = [
-    // All cells are reachable.
-    (
-        SMALL,
-        &[
-            Times(1, "gcscript 1\nwarehouse\nnil x\n"),
-            Times(64, "new y 1\nset y 0 x\nlet x y\n"),
-        ],
-        &[
-            Warehouses(1, ""),
-            Times(1, "survivors 64\n"),
-            Lines(Objects {
-                section: 1,
-                first: 0,
-                step: 1,
-                count: 64,
-                values: &[1],
-            }),
-        ],
-    ),
-    (
-        SMALL,
-        &[Times(
-            1,
-            "gcscript 1\nwarehouse\nnil x\nrepeat 64\nnew y 1\nset y 0 x\nlet x y\nend\nsum s x 0 100\n",
-        )],
-        &[
-            Warehouses(1, "s 64 64\n"),
-            Times(1, "survivors 64\n"),
-            Lines(Objects {
-                section: 1,
-                first: 0,
-                step: 1,
-                count: 64,
-                values: &[1],
-            }),
-        ],
-    ),
-    // A chain grows among objects that nothing reaches.
-    (
-        SMALL,
-        &[Times(
-            1,
-            "gcscript 1\nwarehouse\nnew head 1\nlet last head\nrepeat 50\nnew n 2\nset last 0 n\nlet last n\nnil n\nnew g 9\nnew g 9\nend\nsum t head 0 100\n",
-        )],
-        &[
-            Warehouses(1, "t 51 101\n"),
-            Times(1, "survivors 52\n1 0 1\n"),
-            Lines(Objects {
-                section: 1,
-                first: 1,
-                step: 3,
-                count: 50,
-                values: &[2],
-            }),
-            Times(1, "1 150 9\n"),
-        ],
-    ),
-    // Each of 1,000 objects of a chain has three leaves, and packets are as few and as short as may be.
-    (
-        &["run", "--packets", "2", "--entries", "2"],
-        &[Times(
-            1,
-            "gcscript 1\nwarehouse\nnil spine\nrepeat 1000\nnew n 1\nset n 0 spine\nnew l 2\nset n 1 l\nnew l 2\nset n 2 l\nnew l 2\nset n 3 l\nlet spine n\nend\ncollect\nsum s spine 0 2000\n",
-        )],
-        &[
-            Warehouses(1, "s 1000 1000\n"),
-            Times(1, "survivors 4000\n"),
-            Lines(Objects {
-                section: 1,
-                first: 0,
-                step: 1,
-                count: 4_000,
-                values: &[1, 2, 2, 2],
-            }),
-        ],
-    ),
-    // The catalogue grows anew in each of three seasons.
-    (
-        SMALL,
-        &[
-            Times(1, "gcscript 3\nfields 4\ncatalogue\n"),
-            Times(
-                1,
-                "nil s\nnil n\nrepeat 40\nnew n 1\nset n 0 s\nlet s n\nend\n",
-            ),
-            Times(
-                2,
-                "season\nnil s\nnil n\nrepeat 40\nnew n 1\nset n 0 s\nlet s n\nend\n",
-            ),
-            Times(1, "warehouse\nseason\nseason\ncat x s\nsum t x 0 99\n"),
-        ],
-        &[
-            Warehouses(1, "t 40 40\n"),
-            Times(1, "survivors 40\n"),
-            Lines(Objects {
-                section: 0,
-                first: 80,
-                step: 1,
-                count: 40,
-                values: &[1],
-            }),
-        ],
-    ),
-    // Each of 31 warehouses has a worker, and all share one block of cells, which are few more than may be reachable.
-    (
-        &["run", "--cells", "64", "--workers", "31"],
-        &[
-            Times(1, "gcscript 1\n"),
-            Times(31, "warehouse\nnew a 1\nrepeat 100\nnew b 2\nend\n"),
-        ],
-        &[
-            Warehouses(31, ""),
-            Times(1, "survivors 62\n"),
-            InEach(31, &[(0, 1), (100, 2)]),
-        ],
-    ),
-    // A chain of 65,000 objects.
-    (
-        &["run", "--cells", "65536"],
-        &[Times(
-            1,
-            "gcscript 1\nwarehouse\nnil x\nrepeat 65000\nnew y 1\nset y 0 x\nlet x y\nend\nsum s x 0 65536\n",
-        )],
-        &[
-            Warehouses(1, "s 65000 65000\n"),
-            Times(1, "survivors 65000\n"),
-            Lines(Objects {
-                section: 1,
-                first: 0,
-                step: 1,
-                count: 65_000,
-                values: &[1],
-            }),
-        ],
-    ),
-    // As many objects as a script may make.
-    (
-        SMALL,
-        &[Times(1, "gcscript 1\nwarehouse\nrepeat 2000000\nnew x 1\nend\n")],
-        &[Warehouses(1, ""), Times(1, "survivors 1\n1 1999999 1\n")],
-    ),
-];
-
-#[test]
-fn plays_long_scripts(rt: HostRuntime) -> Result<(), Fail> {
-    for (i, (words, source, text)) in ROWS.iter().enumerate() {
-        let source = built(rt.alloc(), source)?;
-        let text = built(rt.alloc(), text)?;
-        assert!(rt;
-            answers(
-                &rt,
-                rt.alloc(),
-                words,
-                source.as_bytes(),
-                0,
-                text.as_bytes()
-            )?,
-            "row {i}"
-        );
-    }
-    Ok(())
-}
-
-/// One order of ten lines, which each refer to the line before and to the first item.
-const ORDER_LINE: &str = "new line 3\nset line 0 order\nset line 1 item\nlet order line\n";
-
-/// The lines of a warehouse's last order.
-fn last_order(warehouse: u32) -> Piece<'static> {
-    Lines(Objects {
-        section: warehouse,
-        first: 49_990,
-        step: 1,
-        count: 10,
-        values: &[3],
-    })
-}
-
-/// Eight warehouses, each with 5,000 orders, beside a catalogue of 200 items.
-#[test]
-fn plays_orders(rt: HostRuntime) -> Result<(), Fail> {
-    let warehouse = built(
-        rt.alloc(),
-        &[
-            Times(
-                1,
-                "warehouse\ncat item first\nnil order\nrepeat 5000\nnil order\n",
-            ),
-            Times(10, ORDER_LINE),
-            Times(1, "end\nsum stock item 0 1000\nsum lines order 0 100\n"),
-        ],
-    )?;
-    let source = built(
-        rt.alloc(),
-        &[
-            Times(
-                1,
-                "gcscript 1\ncatalogue\nnew first 1\nlet last first\nrepeat 199\nnew item 2\nset last 0 item\nlet last item\nend\n",
-            ),
-            Times(8, warehouse.as_str()),
-        ],
-    )?;
-    let text = built(
-        rt.alloc(),
-        &[
-            Warehouses(8, "stock 200 399\nlines 10 30\n"),
-            Times(1, "survivors 280\n0 0 1\n"),
-            Lines(Objects {
-                section: 0,
-                first: 1,
-                step: 1,
-                count: 199,
-                values: &[2],
-            }),
-            last_order(1),
-            last_order(2),
-            last_order(3),
-            last_order(4),
-            last_order(5),
-            last_order(6),
-            last_order(7),
-            last_order(8),
-        ],
-    )?;
-    assert!(rt; answers(&rt, rt.alloc(), RUN, source.as_bytes(), 0, text.as_bytes())?);
-    Ok(())
-}
+/// All cells are reachable, in two ways; a chain grows among objects that nothing reaches; each of 1,000 objects of a chain has three leaves,
+/// and packets are as few and as short as may be; the catalogue grows anew in each of three seasons; each of 31 warehouses has a worker,
+/// and all share one block of cells, which are few more than may be reachable; a chain of 65,000 objects; as many objects as a script
+/// may make; and eight warehouses, each with 5,000 orders of ten lines, beside a catalogue of 200 items.
+pub const LONG: &str = "$ run --cells 64
+gcscript 1
+warehouse
+nil x
+{64*new y 1
+set y 0 x
+let x y
+}=> 0
+warehouse 1
+dropped 0
+survivors 64
+{0..64*1 % 1
+}$ run --cells 64
+gcscript 1
+warehouse
+nil x
+repeat 64
+new y 1
+set y 0 x
+let x y
+end
+sum s x 0 100
+=> 0
+warehouse 1
+s 64 64
+dropped 0
+survivors 64
+{0..64*1 % 1
+}$ run --cells 64
+gcscript 1
+warehouse
+new head 1
+let last head
+repeat 50
+new n 2
+set last 0 n
+let last n
+nil n
+{9*new g 9
+}end
+sum t head 0 100
+=> 0
+warehouse 1
+t 51 101
+dropped 0
+survivors 52
+1 0 1
+1 1 2
+{1..50*1 %1 2
+}1 500 9
+$ run --packets 2 --entries 2
+gcscript 1
+warehouse
+nil spine
+repeat 1000
+new n 1
+set n 0 spine
+new l 2
+set n 1 l
+new l 2
+set n 2 l
+new l 2
+set n 3 l
+let spine n
+end
+collect
+sum s spine 0 2000
+=> 0
+warehouse 1
+s 1000 1000
+dropped 0
+survivors 4000
+{1000*1 & 1
+1 & 2
+1 & 2
+1 & 2
+}$ run --cells 64
+gcscript 3
+fields 4
+catalogue
+nil s
+nil n
+repeat 40
+new n 1
+set n 0 s
+let s n
+end
+{2*season
+nil s
+nil n
+repeat 40
+new n 1
+set n 0 s
+let s n
+end
+}warehouse
+season
+season
+cat x s
+sum t x 0 99
+=> 0
+warehouse 1
+t 40 40
+dropped 0
+survivors 40
+{80..120*0 % 1
+}$ run --cells 64 --workers 31
+gcscript 1
+{31*warehouse
+new a 1
+repeat 100
+new b 2
+end
+}=> 0
+{1..32*warehouse %
+dropped 0
+}survivors 62
+{1..32*% 0 1
+% 100 2
+}$ run --cells 65536
+gcscript 1
+warehouse
+nil x
+repeat 65000
+new y 1
+set y 0 x
+let x y
+end
+sum s x 0 65536
+=> 0
+warehouse 1
+s 65000 65000
+dropped 0
+survivors 65000
+{0..65000*1 % 1
+}$ run --cells 64
+gcscript 1
+warehouse
+repeat 2000000
+new x 1
+end
+=> 0
+warehouse 1
+dropped 0
+survivors 1
+1 1999999 1
+$ run
+gcscript 1
+catalogue
+new first 1
+let last first
+repeat 199
+new item 2
+set last 0 item
+let last item
+end
+{8*warehouse
+cat item first
+nil order
+repeat 5000
+nil order
+new line 3
+set line 0 order
+set line 1 item
+let order line
+new line 3
+set line 0 order
+set line 1 item
+let order line
+new line 3
+set line 0 order
+set line 1 item
+let order line
+new line 3
+set line 0 order
+set line 1 item
+let order line
+new line 3
+set line 0 order
+set line 1 item
+let order line
+new line 3
+set line 0 order
+set line 1 item
+let order line
+new line 3
+set line 0 order
+set line 1 item
+let order line
+new line 3
+set line 0 order
+set line 1 item
+let order line
+new line 3
+set line 0 order
+set line 1 item
+let order line
+new line 3
+set line 0 order
+set line 1 item
+let order line
+end
+sum stock item 0 1000
+sum lines order 0 100
+}=> 0
+{1..9*warehouse %
+stock 200 399
+lines 10 30
+dropped 0
+}survivors 280
+0 0 1
+{1..200*0 % 2
+}{1..9*% 49990 3
+% 49991 3
+% 49992 3
+% 49993 3
+% 49994 3
+% 49995 3
+% 49996 3
+% 49997 3
+% 49998 3
+% 49999 3
+}";

@@ -1,165 +1,262 @@
 //! What a play writes.
-use crate::tests::failing::count_of;
-use crate::tests::{FIRST, Outside, RUN, answer_of, answers};
-use std::test::Fail;
 
-/// The words, the source, the status and the text.
-const ROWS: [(&[&str], &[u8], u8, &[u8]); 18] = [
-    (
-        RUN,
-        FIRST,
-        0,
-        b"warehouse 1\na 5\ndropped 0\nsurvivors 1\n1 0 5\n",
-    ),
-    (RUN, b"gcscript 1\n", 0, b"survivors 0\n"),
-    (
-        RUN,
-        b"gcscript 1\nwarehouse\nnew x 1\nnew y 2\nset x 0 y\nset y 0 x\nnil x\nnil y\ncollect\nsay a x\n",
-        0,
-        b"warehouse 1\na nil\ndropped 0\nsurvivors 0\n",
-    ),
-    (
-        RUN,
-        b"gcscript 1\nwarehouse\nnew x 7\nset x 0 x\nsum a x 0 0\nsum b x 0 3\nnil y\nsum c y 0 5\nnew p 1\nnew q 2\nset p 0 q\nsum d p 0 1\nsum e p 0 9\n",
-        0,
-        b"warehouse 1\na 0 0\nb 3 21\nc 0 0\nd 1 1\ne 2 3\ndropped 0\nsurvivors 3\n1 0 7\n1 1 1\n1 2 2\n",
-    ),
-    (
-        RUN,
-        b"gcscript 1\nwarehouse\nnil x\nsay a x\nset x 0 x\nput x 9\nget y x 0\nsay b y\n",
-        0,
-        b"warehouse 1\na nil\nb nil\ndropped 0\nsurvivors 0\n",
-    ),
-    (
-        RUN,
-        b"gcscript 1\nwarehouse\nnew x 4294967295\n",
-        0,
-        b"warehouse 1\ndropped 0\nsurvivors 1\n1 0 4294967295\n",
-    ),
-    (
-        RUN,
-        b"gcscript 1\nwarehouse\nrepeat 2000000\nnil x\nend\n",
-        0,
-        b"warehouse 1\ndropped 0\nsurvivors 0\n",
-    ),
-    (
-        RUN,
-        b"gcscript 1\n\n  warehouse \n new   x  005",
-        0,
-        b"warehouse 1\ndropped 0\nsurvivors 1\n1 0 5\n",
-    ),
-    (
-        &["run", "--cells", "64"],
-        b"gcscript 1\nwarehouse\nrepeat 200000\nnew x 1\nend\n",
-        0,
-        b"warehouse 1\ndropped 0\nsurvivors 1\n1 199999 1\n",
-    ),
-    (
-        &["run", "--cells=64"],
-        b"gcscript 1\nwarehouse\nnew a 1\nnew b 2\nset a 0 b\nnil a\nnil b\nrepeat 100\nnew c 3\nend\nsay s c\n",
-        0,
-        b"warehouse 1\ns 3\ndropped 0\nsurvivors 1\n1 101 3\n",
-    ),
-    (
-        &["run", "--cells", "64"],
-        b"gcscript 1\nwarehouse\nnil x\nrepeat 65\nnew y 1\nset y 0 x\nlet x y\nend\nsum s x 0 100\n",
-        3,
-        b"full section 1\nposition 0 0\nposition 1 193\n",
-    ),
-    (
-        RUN,
-        b"gcscript 1\nwarehouse\nnew x 1\nnew y 2\nset x 0 y\nset y 0 x\nnil x\nnil y\nsay a x\n",
-        0,
-        b"warehouse 1\na nil\ndropped 0\nsurvivors 0\n",
-    ),
-    (
-        &["run", "--cells", "64", "--workers", "1"],
-        b"gcscript 1\nwarehouse\nnil x\nrepeat 40\nnew y 1\nset y 0 x\nlet x y\nend\nwarehouse\nnil x\nrepeat 30\nnew y 1\nset y 0 x\nlet x y\nend\n",
-        3,
-        b"full section 2\nposition 0 0\nposition 1 121\nposition 2 73\n",
-    ),
-    (
-        RUN,
-        b"gcscript 2\nfields 1\nwarehouse\nnew x 5\nset x 0 x\nsum a x 0 3\n",
-        0,
-        b"warehouse 1\na 3 15\ndropped 0\nsurvivors 1\n1 0 5\n",
-    ),
-    (
-        RUN,
-        b"gcscript 2\nfields 16\nwarehouse\nnew x 1\nset x 15 x\nget y x 15\nsay a y\n",
-        0,
-        b"warehouse 1\na 1\ndropped 0\nsurvivors 1\n1 0 1\n",
-    ),
-    (
-        RUN,
-        b"gcscript 3\nfields 4\ncatalogue\nnew a 1\nseason\nnew a 2\nwarehouse\ncat x a\nsay p x\nseason\nsay q x\ncat y a\nsay r y\n",
-        0,
-        b"warehouse 1\np 1\nq 1\nr 2\ndropped 0\nsurvivors 2\n0 0 1\n0 1 2\n",
-    ),
-    (
-        RUN,
-        b"gcscript 3\nfields 4\ncatalogue\nnew a 1\nseason\nnew a 2\nwarehouse\ncat x a\nsay p x\nseason\nsay q x\ncat y a\nsay r y\nnil x\n",
-        0,
-        b"warehouse 1\np 1\nq 1\nr 2\ndropped 0\nsurvivors 1\n0 1 2\n",
-    ),
-    (
-        &["load", "--number", "1", "--size", "8"],
-        b"",
-        0,
-        b"commands 32\nobjects 0\nlines 0\nsurvivors 0\ntotal 0\n",
-    ),
-];
+pub const PLAYED: &str = "$ run
+gcscript 1
+warehouse
+new x 5
+say a x
+=> 0
+warehouse 1
+a 5
+dropped 0
+survivors 1
+1 0 5
+$ run
+gcscript 1
+=> 0
+survivors 0
+$ run
+gcscript 1
+warehouse
+new x 1
+new y 2
+set x 0 y
+set y 0 x
+nil x
+nil y
+collect
+say a x
+=> 0
+warehouse 1
+a nil
+dropped 0
+survivors 0
+$ run
+gcscript 1
+warehouse
+new x 7
+set x 0 x
+sum a x 0 0
+sum b x 0 3
+nil y
+sum c y 0 5
+new p 1
+new q 2
+set p 0 q
+sum d p 0 1
+sum e p 0 9
+=> 0
+warehouse 1
+a 0 0
+b 3 21
+c 0 0
+d 1 1
+e 2 3
+dropped 0
+survivors 3
+1 0 7
+1 1 1
+1 2 2
+$ run
+gcscript 1
+warehouse
+nil x
+say a x
+set x 0 x
+put x 9
+get y x 0
+say b y
+=> 0
+warehouse 1
+a nil
+b nil
+dropped 0
+survivors 0
+$ run
+gcscript 1
+warehouse
+new x 4294967295
+=> 0
+warehouse 1
+dropped 0
+survivors 1
+1 0 4294967295
+$ run
+gcscript 1
+warehouse
+repeat 2000000
+nil x
+end
+=> 0
+warehouse 1
+dropped 0
+survivors 0
+$ run
+gcscript 1
 
-#[test]
-fn plays_scripts(rt: HostRuntime) -> Result<(), Fail> {
-    for (i, (words, bytes, status, text)) in ROWS.iter().enumerate() {
-        assert!(rt;
-            answers(&rt, rt.alloc(), words, bytes, *status, text)?,
-            "row {i}"
-        );
-    }
-    assert_eq!(rt; count_of(&rt, rt.alloc(), RUN, 1_048_576)?, (0, 12));
-    Ok(())
-}
-
-/// The sink's room, how many bytes a write takes, which write fails, and what comes. The text has 44 bytes in five lines.
-const WRITES: [(usize, usize, u32, u8, &[u8]); 8] = [
-    (4_096, 4_096, 1, 5, b""),
-    (4_096, 4_096, 2, 5, b"warehouse 1\n"),
-    (4_096, 4_096, 3, 5, b"warehouse 1\na 5\n"),
-    (4_096, 4_096, 4, 5, b"warehouse 1\na 5\ndropped 0\n"),
-    (
-        4_096,
-        4_096,
-        5,
-        5,
-        b"warehouse 1\na 5\ndropped 0\nsurvivors 1\n",
-    ),
-    (12, 4_096, 6, 5, b"warehouse 1\n"),
-    (4_096, 4, 5, 5, b"warehouse 1\na 5\n"),
-    (
-        4_096,
-        4,
-        13,
-        0,
-        b"warehouse 1\na 5\ndropped 0\nsurvivors 1\n1 0 5\n",
-    ),
-];
-
-#[test]
-fn tells_that_a_line_was_not_written(rt: HostRuntime) -> Result<(), Fail> {
-    for (i, (room, per_write, write, status, text)) in WRITES.iter().enumerate() {
-        let outside = Outside {
-            bytes: FIRST,
-            per_read: 10,
-            reads: &[6],
-            room: *room,
-            per_write: *per_write,
-            writes: &[*write],
-        };
-        let (found, written) = answer_of(&rt, rt.alloc(), RUN, &outside)?;
-        assert_eq!(rt; found, *status, "row {i}");
-        assert_eq!(rt; written.as_slice(), *text, "row {i}");
-    }
-    Ok(())
-}
+  warehouse 
+ new   x  005=> 0
+warehouse 1
+dropped 0
+survivors 1
+1 0 5
+$ run --cells 64
+gcscript 1
+warehouse
+repeat 200000
+new x 1
+end
+=> 0
+warehouse 1
+dropped 0
+survivors 1
+1 199999 1
+$ run --cells=64
+gcscript 1
+warehouse
+new a 1
+new b 2
+set a 0 b
+nil a
+nil b
+repeat 100
+new c 3
+end
+say s c
+=> 0
+warehouse 1
+s 3
+dropped 0
+survivors 1
+1 101 3
+$ run --cells 64
+gcscript 1
+warehouse
+nil x
+repeat 65
+new y 1
+set y 0 x
+let x y
+end
+sum s x 0 100
+=> 3
+full section 1
+position 0 0
+position 1 193
+$ run
+gcscript 1
+warehouse
+new x 1
+new y 2
+set x 0 y
+set y 0 x
+nil x
+nil y
+say a x
+=> 0
+warehouse 1
+a nil
+dropped 0
+survivors 0
+$ run --cells 64 --workers 1
+gcscript 1
+warehouse
+nil x
+repeat 40
+new y 1
+set y 0 x
+let x y
+end
+warehouse
+nil x
+repeat 30
+new y 1
+set y 0 x
+let x y
+end
+=> 3
+full section 2
+position 0 0
+position 1 121
+position 2 73
+$ run
+gcscript 2
+fields 1
+warehouse
+new x 5
+set x 0 x
+sum a x 0 3
+=> 0
+warehouse 1
+a 3 15
+dropped 0
+survivors 1
+1 0 5
+$ run
+gcscript 2
+fields 16
+warehouse
+new x 1
+set x 15 x
+get y x 15
+say a y
+=> 0
+warehouse 1
+a 1
+dropped 0
+survivors 1
+1 0 1
+$ run
+gcscript 3
+fields 4
+catalogue
+new a 1
+season
+new a 2
+warehouse
+cat x a
+say p x
+season
+say q x
+cat y a
+say r y
+=> 0
+warehouse 1
+p 1
+q 1
+r 2
+dropped 0
+survivors 2
+0 0 1
+0 1 2
+$ run
+gcscript 3
+fields 4
+catalogue
+new a 1
+season
+new a 2
+warehouse
+cat x a
+say p x
+season
+say q x
+cat y a
+say r y
+nil x
+=> 0
+warehouse 1
+p 1
+q 1
+r 2
+dropped 0
+survivors 1
+0 1 2
+$ load --number 1 --size 8
+=> 0
+commands 32
+objects 0
+lines 0
+survivors 0
+total 0
+";
