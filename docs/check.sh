@@ -1,5 +1,6 @@
 #!/bin/sh
-# Compares the documents with the repository: the picture of the crates with crates.txt, and the names in backquotes with the sources.
+# Compares the documents with the repository: the picture of the crates with crates.txt, the names in backquotes with the sources, and the code of
+# docs/EMBEDDING.md with the program that it is taken from.
 # From the top of the repository: sh docs/check.sh. It prints what differs, and nothing where all agrees.
 set -eu
 export LC_ALL=C
@@ -43,3 +44,11 @@ for text in README.md docs/*.md bench/README.md crates/*/README.md; do
         [ -e "$path" ] || [ -e "$own" ] || grep -q "/$path$" "$folder/files" || echo "$text: $path"
     done
 done
+
+# Code on the page about embedding that isn't the program's, word for word.
+cat crates/binary_trees/src/*.rt >"$folder/program"
+awk '
+FNR == NR { program = program $0 "\n"; next }
+/^```rust$/ { block = ""; inside = 1; next }
+/^```$/ { if (inside && !index(program, block)) print "docs/EMBEDDING.md: what ends in line " FNR " is not in crates/binary_trees/src"; inside = 0; next }
+inside { block = block $0 "\n" }' "$folder/program" docs/EMBEDDING.md

@@ -1,0 +1,17 @@
+use Rattle.std.proofs.Common.{ℕ, zero, suc, ◌≡◌, ◌<◌, ◌==◌, false, eqb-true, sym, ◌∙◌, subst, arith}
+use Rattle.std.proofs.lemmas.Bool.{OnFalse_from, OnTrue_from, true≢false}
+use Rattle.gc_table.specs.Seats.{view_of}
+use Rattle.mutator_ops.proofs.Knowing.{nil-variable, some-variable}
+use Rattle.binary_trees.proofs.nodes.is_nil.Goals as goal
+
+pub returns-clause-nil : goal.returns-clause-nil
+returns-clause-nil c =
+    OnTrue_from _ _ (λ e. nil-variable (view_of c.args.seat.now) c.args.v c.args.seat.now.possible c.requires.plays.ready.stores.turn c.requires.range (sym c.word_of.ensures ∙ eqb-true c.word_of.result 0 e))
+
+positive : (w : ℕ) → (w == 0) ≡ false → 0 < w
+positive zero e = absurd (true≢false e)
+positive (suc w) e = omega arith
+
+pub returns-clause-some : goal.returns-clause-some
+returns-clause-some c =
+    OnFalse_from _ _ (λ e. some-variable (view_of c.args.seat.now) c.args.v c.args.seat.now.possible c.requires.plays.ready.stores.turn c.requires.range (subst (λ w. 0 < w) c.word_of.ensures (positive c.word_of.result e)))

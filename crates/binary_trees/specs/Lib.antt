@@ -1,0 +1,6 @@
+pub mod Trees
+pub mod Standing
+pub mod Turning
+pub mod Counts
+pub mod Opening
+pub mod Playing

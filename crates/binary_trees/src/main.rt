@@ -1,0 +1,80 @@
+//! The program `binary_trees`: the well-known workload of that name, on the collector as a library.
+//!
+//! A tree is made and thrown away, so that the heap is stretched; one tree is made and kept; and while it lives, many trees of growing depth are made,
+//! counted and thrown away. Each worker is a mutator in a thread of its own, with a section and a seat; tracers mark beside them; all share one heap.
+//! `docs/EMBEDDING.md` walks through the files in this order:
+//!
+//! - `words`: what the words of the command line ask for.
+//! - `opening`: a heap with a seat for each section and each tracer, and its end. The seat of section 0 opens the workers' turn, and does nothing else.
+//! - `turns`: a mutator's safe point, with a cell to make an object in.
+//! - `nodes`: one node of a tree: made, joined to its subtrees, looked at, forgotten.
+//! - `trees`: a whole tree: made, counted, forgotten.
+//! - `workers`: what a worker does from entering to leaving, and how the work is shared.
+//! - `tracers`: a thread that marks beside the workers.
+//! - `threads`: all threads of a run. `crew`: all seats of a run, dealt out and put back in order.
+//! - `running`: a whole run. `output`: its lines.
+//!
+//! # What stands where a native program has its stack
+//!
+//! A section has 32 variables, and they are its only roots. A tree of depth d is made in variable v with the 2 d variables behind it: the subtrees of a
+//! node wait in the next two until the node refers to them. It is counted with the d + 1 variables behind v, one for each node on the way down.
+//! So a tree of depth 15 fits, which is more than the cells of a heap allow; a deeper one would have to be walked by references in the nodes themselves.
+//!
+//! # Where a stop can come
+//!
+//! Before each node that is made there is a safe point. Counting makes nothing, and a stop waits for the walk of one tree.
+#![tactic(auto)]
+
+mod crew;
+mod nodes;
+mod opening;
+mod output;
+mod running;
+mod threads;
+mod tracers;
+mod trees;
+mod turns;
+mod words;
+mod workers;
+
+use output::report;
+use running::run;
+use std::process::ExitCode;
+use std::{env, io};
+use words::asked_by;
+
+/// The words of the command line, without the program's own name. Where one isn't UTF-8, they ask for nothing, as `--` does.
+fn given_words<R: std::rt::Env + AllocGlobal>(rt: &R) -> io::Result<Vec<String>> {
+    let mut words = Vec::new(rt.alloc());
+    let mut is_name = true;
+    for word in env::args(rt)? {
+        if is_name {
+            is_name = false;
+        } else {
+            words.push(word)?;
+        }
+    }
+    Ok(words)
+}
+
+fn main(rt: HostRuntime) -> ExitCode {
+    let Ok(words) = given_words(&rt) else {
+        return ExitCode::from(6);
+    };
+    let asked = match asked_by(rt.alloc(), words.as_slice()) {
+        Ok(asked) => asked,
+        Err(_) => return ExitCode::from(6),
+    };
+    match asked {
+        None => match println!(rt;
+            "usage: binary_trees [--depth n] [--cells n] [--workers k] [--tracers t]"
+        ) {
+            Ok(()) => ExitCode::from(1),
+            Err(_) => ExitCode::from(5),
+        },
+        Some(asked) => match report(&rt, &asked, &run(&rt, rt.alloc(), &asked)) {
+            Ok(status) => ExitCode::from(status),
+            Err(_) => ExitCode::from(5),
+        },
+    }
+}

@@ -1,0 +1,118 @@
+//! A heap with its seats, and the workers' turn.
+ghost use Rattle.std.specs.Prelude.{◌≡◌, ◌+◌, ◌<◌, IfOk, IsFalse, vec_len};
+ghost use Rattle.std.specs.Bool.{OnTrue};
+ghost use Rattle.mark_core.specs.Shapes.{IsShape};
+ghost use Rattle.mark_core.specs.declared.kinds.Phase.TheVariants.{Idle};
+ghost use Rattle.gc_table.specs.Running.{Alone};
+ghost use Rattle.gc_table.specs.Seats.{view_of};
+ghost use Rattle.gc_table.specs.Stopping.{has_moved};
+ghost use Rattle.gc_table.specs.Trials.{At, resting};
+ghost use Rattle.binary_trees.specs.Counts.{IsInRange};
+ghost use Rattle.binary_trees.specs.Opening.{AreNew, IsNew, Keeps, Opens, flagged, stopped};
+
+use crate::words::Asked;
+use gc_table::{Heap, HeapSeat};
+use mark_core::{Phase, Shape};
+use plain_heap::{NoPlan, OutOfMemory};
+use std::alloc::Global;
+use std::sync::Wait;
+use stop_world::{Raised, await_stopped, leave, raise, resume};
+
+/// The sizes of the heap: a section for each worker besides section 0, and two references in each object. The packets hold 2,048 cells that wait to be
+/// scanned; where more wait, cards take the place of packets.
+fn shape_of(asked: &Asked) -> Shape
+    requires { IsInRange asked.now }
+    ensures shape { IsShape result }
+    ensures two { result.fields ≡ 2 }
+    ensures sections { result.sections ≡ 1 + asked.now.workers }
+{
+    Shape {
+        cells: asked.cells,
+        packets: 64,
+        entries: 32,
+        sections: 1 + asked.workers,
+        fields: 2,
+    }
+}
+
+/// The heap, with a seat for each section and each tracer. Nothing takes memory for objects later: they lie in its cells.
+pub fn open(alloc: Global, asked: &Asked) -> Result<(Heap, Vec<HeapSeat>), OutOfMemory>
+    requires { IsInRange asked.now }
+    ensures two { IfOk result (λ r. r.0.shape.fields ≡ 2) }
+    ensures sections { IfOk result (λ r. r.0.shape.sections ≡ 1 + asked.now.workers) }
+    ensures count { IfOk result (λ r. vec_len r.1 ≡ 1 + asked.now.workers + asked.now.tracers) }
+    ensures seats { IfOk result (λ r. AreNew r.0 0 r.1.items) }
+{
+    let shape = shape_of(asked);
+    match Heap::create(alloc, shape, shape.sections + asked.tracers, &NoPlan) {
+        Ok(made) => Ok(made),
+        Err(_) => Err(OutOfMemory),
+    }
+}
+
+/// The first of the seats that are left, which is seat k.
+pub fn next_seat(heap: &Heap, seats: &mut Vec<HeapSeat>, _k: u32) -> HeapSeat
+    requires some { 0 < vec_len seats.old }
+    requires new { AreNew heap.now _k seats.old.items }
+    ensures seat { IsNew heap.now _k result }
+    ensures rest { AreNew heap.now (_k + 1) seats.new.items }
+    ensures count { vec_len seats.new + 1 ≡ vec_len seats.old }
+{
+    seats.remove(0)
+}
+
+/// Raises the flag that stops the world: true where it is the seat's own.
+fn raises(heap: &Heap, seat: &mut HeapSeat) -> bool
+    requires { At heap.now resting 0 seat.old }
+    ensures raised { OnTrue result (At heap.now flagged 0 seat.new × IsFalse (has_moved (view_of seat.new).log)) }
+    ensures keeps { Keeps (view_of seat.old) (view_of seat.new) }
+{
+    match raise(heap, seat) {
+        Raised::Yours => true,
+        Raised::Theirs => false,
+    }
+}
+
+/// Waits until the world has stopped: true where no cycle is under way.
+fn stops_idle<R: Wait>(rt: &R, heap: &Heap, seat: &mut HeapSeat) -> bool
+    requires { At heap.now flagged 0 seat.old × IsFalse (has_moved (view_of seat.old).log) }
+    ensures stopped { OnTrue result (At heap.now stopped 0 seat.new × Alone Idle (view_of seat.new)) }
+    ensures keeps { Keeps (view_of seat.old) (view_of seat.new) }
+{
+    await_stopped(rt, heap, seat);
+    match seat.state().phase_seen {
+        Some(Phase::Idle) => true,
+        _ => false,
+    }
+}
+
+/// Section 0 ends its turn.
+fn turn(heap: &Heap, seat: &mut HeapSeat)
+    requires { Opens heap.now stopped seat.old × (0 < heap.now.shape.sections) × Alone Idle (view_of seat.old) }
+    ensures { At heap.now stopped 0 seat.new × Alone Idle (view_of seat.new) }
+{
+    heap.next_season(seat);
+}
+
+/// The world goes on, and the seat is outside.
+fn goes_on(heap: &Heap, seat: &mut HeapSeat)
+    requires { At heap.now stopped 0 seat.old × Alone Idle (view_of seat.old) }
+    ensures { At heap.now resting 0 seat.new }
+{
+    resume(heap, seat);
+    leave(heap, seat);
+}
+
+/// Opens the workers' turn with the seat of section 0, which has nothing to do in its own. False where another seat stops the world or a cycle is under
+/// way, which is not so in a new heap.
+pub fn open_turn<R: Wait>(rt: &R, heap: &Heap, seat: &mut HeapSeat) -> bool
+    requires { Opens heap.now resting seat.old × (0 < heap.now.shape.sections) }
+    ensures { OnTrue result (At heap.now resting 0 seat.new) }
+{
+    if !raises(heap, seat) || !stops_idle(rt, heap, seat) {
+        return false;
+    }
+    turn(heap, seat);
+    goes_on(heap, seat);
+    true
+}
