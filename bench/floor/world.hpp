@@ -42,10 +42,15 @@ inline void help_once(const Heap &heap) {
     heap.words[heap.help].fetch_sub(1);
 }
 
+// Looks some times whether the stop has ended.
+inline void pause(const Heap &heap) {
+    for (int round = 0; round < 512 && (heap.words[kWorld].load() & kFlag); round++) std::this_thread::yield();
+}
+
 inline void await_resumed_helping(const Heap &heap) {
     while (heap.words[kWorld].load() & kFlag) {
         help_once(heap);
-        std::this_thread::yield();
+        pause(heap);
     }
 }
 
