@@ -22,7 +22,9 @@ copy_crates() {
     below "$1" | while read -r name; do
         grep "^$name:" "$top/crates.txt" >> "$copy/crates.txt"
         mkdir "$copy/crates/$name"
-        cp -r "$top/crates/$name/src" "$top/crates/$name/specs" "$top/crates/$name/proofs" "$copy/crates/$name"
+        for part in src specs proofs; do
+            if [ -d "$top/crates/$name/$part" ]; then cp -r "$top/crates/$name/$part" "$copy/crates/$name"; fi
+        done
     done
 }
 
