@@ -141,7 +141,7 @@ fn said(rt: &HostRuntime, source: &[u8]) -> Result<String, Fail> {
 }
 
 #[test]
-fn batches(rt: HostRuntime) -> Result<(), Fail> {
+fn jobs_are_read_in_order(rt: HostRuntime) -> Result<(), Fail> {
     let text = b"gcbatch 1\njob 3\nabcjob 0\njob 007\ngcjob 9";
     let Ok(batch) = read_batch(rt.alloc(), text) else {
         return Err(Fail::from("a batch is refused"));
@@ -151,51 +151,51 @@ fn batches(rt: HostRuntime) -> Result<(), Fail> {
     assert_eq!(rt; jobs[0], b"abc".as_slice());
     assert_eq!(rt; jobs[1], b"".as_slice());
     assert_eq!(rt; jobs[2], b"gcjob 9".as_slice());
-    assert_eq!(rt; said(&rt, b"gcbatch 1\n")?.as_str(), "0 jobs");
-    assert_eq!(rt;
-        said(&rt, b"gcbatch 1\njob 5\nabc\n")?.as_str(),
-        "CutJob { job: 0 }"
-    );
-    assert_eq!(rt; said(&rt, b"gcbatch 1")?.as_str(), "BadBatch { offset: 0 }");
-    assert_eq!(rt;
-        said(&rt, b"gcbatch 1\njob \n")?.as_str(),
-        "BadBatch { offset: 10 }"
-    );
-    assert_eq!(rt;
-        said(&rt, b"gcbatch 1\njob  5\nabcde")?.as_str(),
-        "BadBatch { offset: 10 }"
-    );
-    assert_eq!(rt;
-        said(&rt, b"gcbatch 1\njob 5")?.as_str(),
-        "BadBatch { offset: 10 }"
-    );
-    assert_eq!(rt;
-        said(&rt, b"gcbatch 1\njob 16777217\n")?.as_str(),
-        "BadBatch { offset: 10 }"
-    );
-    assert_eq!(rt;
-        said(&rt, b"gcbatch 1\njob 16777216\n")?.as_str(),
-        "CutJob { job: 0 }"
-    );
-    assert_eq!(rt;
-        said(&rt, b"gcbatch 1\njob 99999999999999999999999\n")?.as_str(),
-        "BadBatch { offset: 10 }"
-    );
+    Ok(())
+}
+
+/// Batches, one a piece of the text, each with what is said of it behind the last `>`.
+const SAID: &str = "gcbatch 1
+>0 jobs|gcbatch 1
+job 5
+abc
+>CutJob { job: 0 }|gcbatch 1>BadBatch { offset: 0 }|gcbatch 1
+job \n>BadBatch { offset: 10 }|gcbatch 1
+job  5
+abcde>BadBatch { offset: 10 }|gcbatch 1
+job 5>BadBatch { offset: 10 }|gcbatch 1
+job 16777217
+>BadBatch { offset: 10 }|gcbatch 1
+job 16777216
+>CutJob { job: 0 }|gcbatch 1
+job 99999999999999999999999
+>BadBatch { offset: 10 }";
+
+#[test]
+fn faults_of_batches_are_told(rt: HostRuntime) -> Result<(), Fail> {
+    for row in SAID.split('|') {
+        let (source, told) = row.split_once('>').ok_or("row")?;
+        let found = said(&rt, source.as_bytes())?;
+        assert_eq!(rt; found.as_str(), told, "{source}");
+    }
+    Ok(())
+}
+
+/// 64 jobs are read, and the fault of one more is told where it begins, whatever comes behind.
+#[test]
+fn a_batch_has_at_most_64_jobs(rt: HostRuntime) -> Result<(), Fail> {
     let mut long = Vec::new(rt.alloc());
     long.extend_from_slice(b"gcbatch 1\n")?;
     for _ in 0..64u32 {
         long.extend_from_slice(b"job 0\n")?;
     }
     assert_eq!(rt; said(&rt, long.as_slice())?.as_str(), "64 jobs");
-    long.extend_from_slice(b"job 5\n")?;
-    assert_eq!(rt;
-        said(&rt, long.as_slice())?.as_str(),
-        "TooManyJobs { offset: 394 }"
-    );
-    long.extend_from_slice(b"job")?;
-    assert_eq!(rt;
-        said(&rt, long.as_slice())?.as_str(),
-        "TooManyJobs { offset: 394 }"
-    );
+    for more in [b"job 5\n".as_slice(), b"job".as_slice()] {
+        long.extend_from_slice(more)?;
+        assert_eq!(rt;
+            said(&rt, long.as_slice())?.as_str(),
+            "TooManyJobs { offset: 394 }"
+        );
+    }
     Ok(())
 }
