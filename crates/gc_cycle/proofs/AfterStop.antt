@@ -1,5 +1,5 @@
 -- A mutator's round in a stop of its own: it stopped the world, claimed a block or found none, resumed the world, and read the phase once more.
-use Rattle.std.proofs.Common.{◌≡◌, List, [], ◌∷◌, ◌++◌, refl, sym, ap, ◌∙◌, subst, Bool, true, false, not, ◌&&◌, ◌||◌, Some, None, Option, ⊎_elim, ◌⊎◌}
+use Rattle.std.proofs.Common.{ℕ, ◌≡◌, List, [], ◌∷◌, ◌++◌, refl, sym, ap, ◌∙◌, subst, Bool, true, false, not, ◌&&◌, ◌||◌, Some, None, Option, ⊎_elim, ◌⊎◌}
 use Rattle.std.specs.Prelude.{IfNone, IfSome, is_none}
 use Rattle.std.specs.Int.Count.{ones}
 use Rattle.std.proofs.lemmas.Bool.{and_parts, not-true, true≢false}
@@ -52,13 +52,13 @@ tries-unfull : (v w : View) → Only tries_stopping v w → some_event (moves_to
 tries-unfull v w o = not-true _ (tries-never-fill (events v w) o)
 
 -- another seat's stop came first
-pub round-theirs : (v w : View) → TriesToStop v w → Mutates w → IsRound None v w
-round-theirs v w t m =
+pub round-theirs : (done : ℕ) (v w : View) → TriesToStop v w → w.own.position ≡ done → Mutates w → IsRound None done v w
+round-theirs done v w t at m =
     record {
       ran = t.ran;
       only = only-more tries_stopping keeps_section tries-keep v w t.only;
       fills = unfilled v.shape (events v w) (tries-unfull v w t.only);
-      none = record { mutates = m; cache = t.cache; tells = λ u r k. tells-more u v w r t.ran t.only k; spares = tries-spare v w t.only };
+      none = record { mutates = m; cache = t.cache; position = at; tells = λ u r k. tells-more u v w r t.ran t.only k; spares = tries-spare v w t.only };
       spares = tt;
     }
 
@@ -136,9 +136,13 @@ module _ (o : Option Cache) (u v w x y : View) (t : TriesToStop u v) (c : Claims
       let g = k.going x (ran-refl x) (tells-none x) in
       true≢false (sym (ap saw_full (events-after x y ReadPhase n k.looked.1.0) ∙ ap (λ m. saw (Some (phase_of m)) Full || false) is) ∙ g.going)
 
+  -- the position that was stored stays
+  position-end : (kept : Option Cache) → KeepsOn o kept x y → y.own.position ≡ v.own.position
+  position-end kept k = ap (λ (z : View). z.own.position) k.looked.1.0 ∙ (ap (λ (z : View). z.own.position) d.1.0 ∙ c.position)
+
   -- the heap is full
-  pub round-full : (sh : Shape) → u.shape ≡ sh → some_event raises_flag (events u v) ≡ true → each_after (may_fill sh) (moves_to Full) [] (events v w) ≡ true → KnowsFull y → IsRound (Some refills.Full) u y
-  round-full sh e raised fills f =
+  pub round-full : (done : ℕ) (sh : Shape) → u.shape ≡ sh → some_event raises_flag (events u v) ≡ true → each_after (may_fill sh) (moves_to Full) [] (events v w) ≡ true → KnowsFull y → IsRound (Some refills.Full) done u y
+  round-full done sh e raised fills f =
       record {
         ran = round-ran;
         only = round-keeps;
@@ -148,8 +152,8 @@ module _ (o : Option Cache) (u v w x y : View) (t : TriesToStop u v) (c : Claims
       }
 
   -- there is no block, and the heap isn't full
-  pub round-none : (sh : Shape) → u.shape ≡ sh → some_event raises_flag (events u v) ≡ true → each_after (may_fill sh) (moves_to Full) [] (events v w) ≡ true → (KnowsFull v → KnowsFull w) → KeepsOn o None x y → Mutates y → IsRound None u y
-  round-none sh e raised fills full k m =
+  pub round-none : (done : ℕ) (sh : Shape) → v.own.position ≡ done → u.shape ≡ sh → some_event raises_flag (events u v) ≡ true → each_after (may_fill sh) (moves_to Full) [] (events v w) ≡ true → (KnowsFull v → KnowsFull w) → KeepsOn o None x y → Mutates y → IsRound None done u y
+  round-none done sh at e raised fills full k m =
       record {
         ran = round-ran;
         only = round-keeps;
@@ -158,6 +162,7 @@ module _ (o : Option Cache) (u v w x y : View) (t : TriesToStop u v) (c : Claims
             record {
               mutates = m;
               cache = k.cached;
+              position = position-end None k ∙ at;
               tells = λ z r h. tells-more z w y (to-claim z r) tail tail-only (claim-tells z full r h);
               spares = round-spares spared;
             };
@@ -171,8 +176,8 @@ module _ (o : Option Cache) (u v w x y : View) (t : TriesToStop u v) (c : Claims
   claimed : (h : Cache) → KeepsOn o (Some h) x y → Only spares_part v w × ((first : List Entry) × EndsClaimed h first v w)
   claimed h k = subst (λ p. IfSome p (λ z. Only spares_part v w × ((first : List Entry) × EndsClaimed z first v w))) (sym k.same) c.some
 
-  pub round-cache : (sh : Shape) → u.shape ≡ sh → some_event raises_flag (events u v) ≡ true → each_after (may_fill sh) (moves_to Full) [] (events v w) ≡ true → (h : Cache) (paid : Paid) → KeepsOn o (Some h) x y → IsRound (Some (refills.Cache h paid)) u y
-  round-cache sh e raised fills h paid k =
+  pub round-cache : (done : ℕ) (sh : Shape) → u.shape ≡ sh → some_event raises_flag (events u v) ≡ true → each_after (may_fill sh) (moves_to Full) [] (events v w) ≡ true → (h : Cache) (paid : Paid) → KeepsOn o (Some h) x y → IsRound (Some (refills.Cache h paid)) done u y
+  round-cache done sh e raised fills h paid k =
       record {
         ran = round-ran;
         only = round-keeps;
@@ -182,8 +187,8 @@ module _ (o : Option Cache) (u v w x y : View) (t : TriesToStop u v) (c : Claims
       }
 
   -- its free cells were taken off the number of free cells in the stop, and nothing was owed
-  pub round-gets : (z : View) → (KnowsFull v → KnowsFull w) → Ran z u → TellsFull z u → (h : Cache) (paid : Paid) → IsFree paid → KeepsOn o (Some h) x y → GetsCache h paid z y
-  round-gets z full r b h paid free k =
+  pub round-gets : (done : ℕ) (z : View) → v.own.position ≡ done → (KnowsFull v → KnowsFull w) → Ran z u → TellsFull z u → (h : Cache) (paid : Paid) → IsFree paid → KeepsOn o (Some h) x y → GetsCache h paid done z y
+  round-gets done z at full r b h paid free k =
       let first : List Entry = (claimed h k).1.0 in
       let e : EndsClaimed h first v w = (claimed h k).1.1 in
       let m = d.0 in
@@ -202,6 +207,7 @@ module _ (o : Option Cache) (u v w x y : View) (t : TriesToStop u v) (c : Claims
       record {
         goes_on = k.going z (to-drop z r) (drop-tells z full r b);
         cached = k.cached;
+        position = λ left. position-end (Some h) k ∙ at;
         free = e.free;
         told = ap (picked lowers_free) since;
         pays = in_stop (record { inside = ap (some_event resumes) since; free = free });

@@ -34,6 +34,7 @@ use Rattle.gc_cycle.proofs.Fulls.{full-known, tells-more, tells-none}
 use Rattle.gc_cycle.proofs.Answered.{answers-out, answers-try}
 use Rattle.gc_cycle.proofs.Goings.{calm-count, count-calls, keeps-seat, keeps-section, no-cache}
 use Rattle.gc_cycle.proofs.Sequences.{followed-later, none-of-steps, some-none}
+use Rattle.gc_cycle.proofs.Spared.{finish-position}
 use Rattle.gc_cycle.proofs.Traced.{nothing-rest}
 use Rattle.mark_core.specs.declared.kinds.Step.{Step}
 use Rattle.mark_core.specs.declared.kinds.Step.TheVariants.{ClaimBlock, DropStep, JoinHelpStep, LeaveHelpStep, RaiseStep, ReadCat, ReadOwn, ReadPhase, StorePhase, StorePosition, ReadStat}
@@ -154,6 +155,7 @@ ends-at_full v w h f r t =
       only = only-more tries_stopping spares_section tries-section v w (only-drop v w t);
       calm = ap (never raises_flag) (events-after v w DropStep t.0 t.1.0);
       cache = (resumed-mutates v w h.rest h.section h.unhelping t).1;
+      position = ap (λ (x : View). x.own.position) t.1.0;
       collected = inr (full-known v w r (only-drop v w t) known);
     }
 
@@ -189,6 +191,7 @@ ends-collected v w x h n r f s calm going c a q t =
         only = ran-only spares_section v w x r q (finished-section v w f s) (only-more tries_stopping spares_section tries-section w x (only-drop w x t));
         calm = ap (never raises_flag) es ∙ ap not (some-none raises_flag (events v w) (events w x) (not-true _ calm) (ap (some_event raises_flag) last));
         cache = m.1;
+        position = ap (λ (y : View). y.own.position) t.1.0 ∙ finish-position v w r f;
         collected =
             inl (
               ap collects es ∙ followed-earlier begins_exactly ends_cycle (events v w) (events w x) c,
@@ -212,8 +215,8 @@ held v w m t s =
     }
 
 -- the mutator looked once more, and goes on after the collection
-pub goes-collected : (u w x y : View) → Ran u w → TellsFull u w → Ran w x → Ran x y → EndsStop w x → KeepsOn None None x y → Collects u y
-goes-collected u w x y r t q p e k =
+pub goes-collected : (done : ℕ) (u w x y : View) → Ran u w → TellsFull u w → w.own.position ≡ done → Ran w x → Ran x y → EndsStop w x → KeepsOn None None x y → Collects done u y
+goes-collected done u w x y r t at q p e k =
     let to_x : Ran u x = ran-join u w x r q in
     ⊎_elim
     (λ (c : IsTrue (collects (events w x)) × IsFalse (saw_full (events w x)) × (KnowsFull w → ⊥)).
@@ -223,6 +226,7 @@ goes-collected u w x y r t q p e k =
     record {
       goes_on = k.going u to_x (λ h. absurd (true≢false (sym h ∙ none)));
       cache = k.cached;
+      position = ap (λ (z : View). z.own.position) k.looked.1.0 ∙ (e.position ∙ at);
       collected = ap collects (ran-events u x y to_x p) ∙ followed-earlier begins_exactly ends_cycle (events u x) (events x y) both;
     })
     (λ (f : KnowsFull x).
@@ -264,10 +268,10 @@ pub answers-tried : (v w : View) → Only answers v w → Only tries_stopping v 
 answers-tried v w o = only-more answers tries_stopping answers-try v w o
 
 -- a try that another seat's stop ended
-pub tried : (u v w : View) → Ran u v → Only answers u v → TriesToStop v w → count_of raises_flag (events v w) ≡ 0 → Mutates w → Ran u w × TriesAgain u w × Only spares_section u w
-tried u v w r o t n m =
+pub tried : (done : ℕ) (u v w : View) → Ran u v → Only answers u v → TriesToStop v w → w.own.position ≡ done → count_of raises_flag (events v w) ≡ 0 → Mutates w → Ran u w × TriesAgain done u w × Only spares_section u w
+tried done u v w r o t at n m =
     let only = ran-only tries_stopping u v w r t.ran (answers-tried u v o) t.only in
-    (ran-join u v w r t.ran, record { mutates = m; cache = t.cache; only = only; calm = count-calls u v w 0 0 r t.ran (answers-uncounted u v r o) n }, tries-spare u w only)
+    (ran-join u v w r t.ran, record { mutates = m; cache = t.cache; position = at; only = only; calm = count-calls u v w 0 0 r t.ran (answers-uncounted u v r o) n }, tries-spare u w only)
 
 -- a try that came to its own stop
 pub stopped : (u v w x y : View) → Ran u v → Only answers u v → TriesToStop v w → count_of raises_flag (events v w) ≡ 1 → EndsStop w x → Ran x y → Only answers x y → Ran u y × Only spares_section u y × (count_of raises_flag (events u y) ≤ 1)

@@ -113,6 +113,7 @@ full-claims u v w x n p b s is f =
       going = ap saw_full m.events_are;
       resume = resume-in Full x refl m.alone rests;
       cached = no-cache x.shape x.state m.alone.rest.rest;
+      position = ap (λ (z : View). z.own.position) is;
       some = tt;
       none = inr m.alone.alone.phase;
     })

@@ -40,9 +40,10 @@ use Rattle.gc_cycle.proofs.Collected.{finishes-keep, full-alone}
 use Rattle.gc_cycle.proofs.Completing.{part-untold}
 use Rattle.gc_cycle.proofs.Goings.{no-cache}
 use Rattle.gc_cycle.proofs.Parts.{part-finishes}
+use Rattle.gc_cycle.proofs.Positions.{position-kept}
 use Rattle.gc_cycle.proofs.Rounds.{claim-only, claims-cached, claims-prepare, claims_block, leads-prepared, seeks-claim, some-ones, unfull, with-cache}
 use Rattle.gc_cycle.proofs.Sequences.{none-of-steps, some-none}
-use Rattle.gc_cycle.proofs.Spared.{finish-calm, finish-spares, untold-fills, untold-sees}
+use Rattle.gc_cycle.proofs.Spared.{finish-calm, finish-position, finish-spares, untold-fills, untold-sees}
 use Rattle.gc_cycle.proofs.Traced.{nothing-rest}
 
 seeks-quiet : (step : Step) → seeks_block step ≡ true → ends_alone step ≡ false
@@ -84,6 +85,7 @@ pub record Quiet (v w : View) : Type 0 where
   pub spares : Only spares_part v w
   pub calm : some_event raises_flag (events v w) ≡ false
   pub going : saw_full (events v w) ≡ false
+  pub position : w.own.position ≡ v.own.position
 
 pub quiet-join : (u v w : View) → Quiet u v → Quiet v w → Quiet u w
 quiet-join u v w a b =
@@ -94,11 +96,12 @@ quiet-join u v w a b =
       spares = ran-only spares_part u v w a.ran b.ran a.spares b.spares;
       calm = ap (some_event raises_flag) es ∙ some-none raises_flag (events u v) (events v w) a.calm b.calm;
       going = ap saw_full es ∙ some-none (reads_phase Full) (events u v) (events v w) a.going b.going;
+      position = b.position ∙ a.position;
     }
 
 -- a collection
 pub quiet-finish : (v w : View) → Ran v w → Only finishes v w → Only spares_part v w → saw_full (events v w) ≡ false → Quiet v w
-quiet-finish v w r o s g = record { ran = r; keeps = only-more finishes keeps_section finishes-keep v w o; spares = s; calm = not-true _ (finish-calm v w o); going = g }
+quiet-finish v w r o s g = record { ran = r; keeps = only-more finishes keeps_section finishes-keep v w o; spares = s; calm = not-true _ (finish-calm v w o); going = g; position = finish-position v w r o }
 
 -- a part of it
 pub quiet-part : (p : Phase) (v w : View) → IsPart p v w → Quiet v w
@@ -124,7 +127,7 @@ unlooked step n e = absurd (false≢true e)
 quiet-steps : (v w : View) → Ran v w → Only claims_block v w → Quiet v w
 quiet-steps v w r o =
     let l = leads-prepared v w r (only-more claims_block prepares claims-prepare v w o) in
-    record { ran = r; keeps = l.keeps; spares = l.spares; calm = l.calm; going = none-of-steps claims_block (reads_phase Full) unlooked (events v w) o }
+    record { ran = r; keeps = l.keeps; spares = l.spares; calm = l.calm; going = none-of-steps claims_block (reads_phase Full) unlooked (events v w) o; position = position-kept v w r l.inside }
 
 -- what a search for a block that found none leaves
 abbrev pub ClaimsNone : Shape → View → View → Type 0
@@ -171,7 +174,7 @@ rests-same v w e b = record { section = ap (λ (s : SeatState). is_some s.sectio
 
 claims-by : (o : Option Cache) (v w : View) → Quiet v w → MayResume w → HasCache o w → IfSome o (λ h. (first : List Entry) × EndsClaimed h first v w) → ClaimsAlone o v w
 claims-by o v w q m c e =
-    record { ran = q.ran; only = q.keeps; calm = ap not q.calm; going = q.going; resume = m; cached = c; some = some o e; none = none o }
+    record { ran = q.ran; only = q.keeps; calm = ap not q.calm; going = q.going; resume = m; cached = c; position = q.position; some = some o e; none = none o }
   where
     some : (p : Option Cache) → IfSome p (λ h. (first : List Entry) × EndsClaimed h first v w) → IfSome p (λ h. Only spares_part v w × ((first : List Entry) × EndsClaimed h first v w))
     some None k = tt
@@ -209,6 +212,7 @@ claims-later o u v w q c =
       going = ap saw_full es ∙ some-none (reads_phase Full) (events u v) (events v w) q.going c.going;
       resume = c.resume;
       cached = c.cached;
+      position = c.position ∙ q.position;
       some = some o c.some;
       none = none o c.none;
     }
@@ -240,6 +244,7 @@ claims-none v h f =
       going = ap saw_full (events-none v);
       resume = resume-in Full v refl (record { rest = h.rest; alone = a }) (rests-held v h);
       cached = no-cache v.shape v.state h.rest.rest;
+      position = refl;
       some = tt;
       none = inr a.phase;
     }

@@ -55,6 +55,7 @@ use Rattle.gc_cycle.proofs.Fulls.{goes-on, mutates-still, phase-seen}
 use Rattle.gc_cycle.proofs.Paced.{active-read}
 use Rattle.gc_cycle.proofs.PaidFor.{pays-unclaimed, picked-none}
 use Rattle.gc_cycle.proofs.Payment.{later-moment, packet-widens, roots-right}
+use Rattle.gc_cycle.proofs.Positions.{pays-inside, stays_inside, stored-more}
 use Rattle.gc_cycle.proofs.Retired.{retired-mutates, retired-only}
 use Rattle.gc_cycle.proofs.Searched.{both-widen, room-widens, work-widens}
 use Rattle.gc_cycle.proofs.Sequences.{none-of-steps, since-this, some-none}
@@ -134,7 +135,7 @@ or-none None = refl
 or-none (Some n) = refl
 
 -- it claimed this block by the call from u to v, read the phase as n, and paid by the call from w to x
-module _ (h : Cache) (u v w x : View) (n : ℕ) (k : HasClaimed h u v) (f : Found ReadPhase n v w) (r : Ran w x) (o : Only pays_cells w x) where
+module _ (h : Cache) (done : ℕ) (u v w x : View) (n : ℕ) (k : HasClaimed h done u v) (f : Found ReadPhase n v w) (r : Ran w x) (o : Only pays_cells w x) where
   looked : Ran v w
   looked = ran-found v w ReadPhase n refl f
 
@@ -178,14 +179,18 @@ module _ (h : Cache) (u v w x : View) (n : ℕ) (k : HasClaimed h u v) (f : Foun
         going = ap saw_full es ∙ some-none (reads_phase Full) (events u w) (events w x) g.going (none-of-steps pays_cells (reads_phase Full) pays-unlooked (events w x) o);
       }
 
+  inside : Only stays_inside v x
+  inside = ran-only stays_inside v w x looked r (only-after stays_inside v w ReadPhase n refl f.0) (only-more pays_cells stays_inside pays-inside w x o)
+
   told : picked lowers_free (since_claim (events u x)) ≡ ones h.cells ∷ []
   told = ap (picked lowers_free) since ∙ ap (λ l. ones h.cells ∷ l) (picked-none pays_cells lowers_free pays-unlowered (events w x) o)
 
-  gets-cache : (p : Paid) → Mutates v → IsCached h v → Mutates x → x.state.cache ≡ w.state.cache → x.state.phase_seen ≡ w.state.phase_seen → saw (Some (phase_of n)) Full ≡ false → Pays u.shape (own_section u.state) (ones h.cells) p (begins u) (events u x) → GetsCache h p u x
+  gets-cache : (p : Paid) → Mutates v → IsCached h v → Mutates x → x.state.cache ≡ w.state.cache → x.state.phase_seen ≡ w.state.phase_seen → saw (Some (phase_of n)) Full ≡ false → Pays u.shape (own_section u.state) (ones h.cells) p (begins u) (events u x) → GetsCache h p done u x
   gets-cache p m cached now kept seen low pays =
       record {
         goes_on = goes m now seen low;
         cached = cached-still (Some h) v x (kept ∙ ap (λ (z : View). z.state.cache) f.0) cached;
+        position = stored-more done u v x k.ran later inside k.position;
         free = k.claimed.free;
         told = told;
         pays = pays;
@@ -239,10 +244,10 @@ module _ (h : Cache) (u v w x : View) (n : ℕ) (k : HasClaimed h u v) (f : Foun
           (λ c. absurd (⊎_elim (λ (a : Known v the_phase 1). other 0 a) (λ (b : Known v the_phase 5). other 4 b) c))
           k.paced
 
-  pub gets-paid : (p : Paid) → Mutates v → IsCached h v → HasPaid (ones h.cells) p w x → phase_of n ≡ Marking → GetsCache h p u x
+  pub gets-paid : (p : Paid) → Mutates v → IsCached h v → HasPaid (ones h.cells) p w x → phase_of n ≡ Marking → GetsCache h p done u x
   gets-paid p m cached q e = gets-cache p m cached q.mutates q.cache q.seen (ap (λ z. saw (Some z) Full) e) (in_marking (pays-marking p q e))
 
-  pub gets-free : (p : Paid) → Mutates v → IsCached h v → IsFree p → n ≡ 0 → Mutates x → x.state.cache ≡ w.state.cache → x.state.phase_seen ≡ w.state.phase_seen → GetsCache h p u x
+  pub gets-free : (p : Paid) → Mutates v → IsCached h v → IsFree p → n ≡ 0 → Mutates x → x.state.cache ≡ w.state.cache → x.state.phase_seen ≡ w.state.phase_seen → GetsCache h p done u x
   gets-free p m cached free e now kept seen = gets-cache p m cached now kept seen (ap (λ i. saw (Some (phase_of i)) Full) e) (in_idle (pays-idle p free e))
 
 -- it looked at the phase, and paid

@@ -34,7 +34,7 @@ use Rattle.packet_pools.proofs.Searches.{some-parts}
 use Rattle.alloc_cache.specs.Caching.{cached, IsCached}
 use Rattle.alloc_cache.specs.Claiming.{claimed_by, Claims, NoBlock, seeks_block}
 use Rattle.alloc_cache.specs.declared.cache.Cache.{Cache}
-use Rattle.gc_cycle.specs.Answering.{KeepsOn, TellsFull}
+use Rattle.gc_cycle.specs.Answering.{KeepsOn, StoredAt, TellsFull}
 use Rattle.gc_cycle.specs.declared.counts.Refill.{Refill}
 use Rattle.gc_cycle.specs.declared.counts.Refill.TheVariants as refills
 use Rattle.gc_cycle.specs.Cycles.{fills_with_cause}
@@ -52,6 +52,7 @@ use Rattle.gc_cycle.proofs.Collected.{calm-spares}
 use Rattle.gc_cycle.proofs.Fulls.{found-low, phase-seen}
 use Rattle.gc_cycle.proofs.Goings.{calm-keeps, keeps-seat, keeps-section}
 use Rattle.gc_cycle.proofs.Paced.{cycle-kept, full-kept, paced-later, paced-searched, steady-marking}
+use Rattle.gc_cycle.proofs.Positions.{prepares-inside, stays_inside, stored-more, stored-none}
 use Rattle.gc_cycle.proofs.Sequences.{none-of-steps, some-none}
 
 pub on-false : {P : Type 0} (b : Bool) → P → OnFalse b P
@@ -110,6 +111,7 @@ pub record Leads (v w : View) : Type 0 where
   pub keeps : Only keeps_section v w
   pub spares : Only spares_part v w
   pub calm : some_event raises_flag (events v w) ≡ false
+  pub inside : Only stays_inside v w
   pub tells : (u : View) → Ran u v → TellsFull u v → TellsFull u w
 
 pub leads-prepared : (v w : View) → Ran v w → Only prepares v w → Leads v w
@@ -119,6 +121,7 @@ leads-prepared v w r o =
       keeps = only-more prepares keeps_section prepares-keep v w o;
       spares = only-more prepares spares_part prepares-spare v w o;
       calm = none-of-steps prepares raises_flag unraised (events v w) o;
+      inside = only-more prepares stays_inside prepares-inside v w o;
       tells =
           λ u q t h.
           ⊎_elim
@@ -136,6 +139,7 @@ leads-looked v w k =
       keeps = only-after keeps_section v w ReadPhase t.0 refl t.1.0;
       spares = only-after spares_part v w ReadPhase t.0 refl t.1.0;
       calm = ap (some_event raises_flag) (events-after v w ReadPhase t.0 t.1.0);
+      inside = only-after stays_inside v w ReadPhase t.0 refl t.1.0;
       tells = λ u q o h. absurd (true≢false (sym h ∙ (k.going u q o).going));
     }
 
@@ -146,6 +150,7 @@ leads-join u v w a b =
       keeps = ran-only keeps_section u v w a.ran b.ran a.keeps b.keeps;
       spares = ran-only spares_part u v w a.ran b.ran a.spares b.spares;
       calm = ap (some_event raises_flag) (ran-events u v w a.ran b.ran) ∙ some-none raises_flag (events u v) (events v w) a.calm b.calm;
+      inside = ran-only stays_inside u v w a.ran b.ran a.inside b.inside;
       tells = λ z q t. b.tells z (ran-join z u v q a.ran) (a.tells z q t);
     }
 
@@ -160,8 +165,8 @@ spares-refill (refills.Cache h paid) u v w a b o s = ran-only spares_part u v w 
 spares-refill refills.Full u v w a b o s = s
 
 -- a round, with steps before it
-pub round-later : (u v w : View) (o : Option Refill) → Leads u v → IsRound o v w → IsRound o u w
-round-later u v w o l r =
+pub round-later : (done : ℕ) (u v w : View) (o : Option Refill) → Leads u v → IsRound o done v w → IsRound o done u w
+round-later done u v w o l r =
     record {
       ran = ran-join u v w l.ran r.ran;
       only = ran-only keeps_section u v w l.ran r.ran l.keeps r.only;
@@ -170,11 +175,12 @@ round-later u v w o l r =
       spares = some-later o r.spares;
     }
   where
-    none-later : (p : Option Refill) → IfNone p (TriesOn v w) → IfNone p (TriesOn u w)
+    none-later : (p : Option Refill) → IfNone p (TriesOn done v w) → IfNone p (TriesOn done u w)
     none-later None t =
         record {
           mutates = t.mutates;
           cache = t.cache;
+          position = t.position;
           tells = λ z q k. t.tells z (ran-join z u v q l.ran) (l.tells z q k);
           spares = ran-only spares_part u v w l.ran r.ran l.spares t.spares;
         }
@@ -185,8 +191,8 @@ round-later u v w o l r =
     some-later (Some x) s = spares-refill x u v w l.ran r.ran l.spares s
 
 -- a round that ended with an answer, and calmly
-pub round-calm : (v w : View) (r : Refill) → Ran v w → Only stays_calm v w → SparesRefill r v w → IsRound (Some r) v w
-round-calm v w r q o s =
+pub round-calm : (done : ℕ) (v w : View) (r : Refill) → Ran v w → Only stays_calm v w → SparesRefill r v w → IsRound (Some r) done v w
+round-calm done v w r q o s =
     record {
       ran = q;
       only = only-more stays_calm keeps_section calm-keeps v w o;
@@ -292,12 +298,14 @@ claims-end h u v w r q k =
       free = some-ones h.cells k.some;
     }
 
-pub claims-claimed : (h : Cache) (u v w : View) → v.state.active ≡ true → Ran u v → TellsFull u v → IsPaced (events u v) v → Ran v w → Claims h v w → HasClaimed h u w
-claims-claimed h u v w a r t p q k =
+pub claims-claimed : (h : Cache) (done : ℕ) (u v w : View) → v.state.active ≡ true → Ran u v → TellsFull u v → StoredAt done u v → IsPaced (events u v) v → Ran v w → Claims h v w → HasClaimed h done u w
+claims-claimed h done u v w a r t s p q k =
     let o = claims-only h v w k in
+    let l = leads-prepared v w q o in
     record {
       ran = ran-join u v w r q;
-      tells = (leads-prepared v w q o).tells u r t;
+      tells = l.tells u r t;
+      position = stored-more done u v w r q l.inside s;
       first = events u v ++ k.events_are.0;
       claimed = claims-end h u v w r q k;
       paced =
@@ -337,17 +345,25 @@ later-some None f p = tt
 later-some (Some r) f p = f r p
 
 -- the rounds so far
-pub record HasTried (u v : View) : Type 0 where
-  pub leads : TriesOn u v
+pub record HasTried (done : ℕ) (u v : View) : Type 0 where
+  pub mutates : Mutates v
+  pub cache : v.state.cache ≡ None
+  pub position : StoredAt done u v
+  pub tells : (z : View) → Ran z u → TellsFull z u → TellsFull z v
+  pub spares : Only spares_part u v
   pub ran : Ran u v
   pub only : Only keeps_section u v
   pub stops : stops_with_cause u.shape (events u v) ≡ true
   pub fills : fills_with_cause u.shape (events u v) ≡ true
 
-pub tried-none : (v : View) → Mutates v → v.state.cache ≡ None → HasTried v v
-tried-none v m n =
+pub tried-none : (done : ℕ) (v : View) → Mutates v → v.state.cache ≡ None → HasTried done v v
+tried-none done v m n =
     record {
-      leads = record { mutates = m; cache = n; tells = λ u r t. t; spares = only-none spares_part v };
+      mutates = m;
+      cache = n;
+      position = stored-none done v;
+      tells = λ u r t. t;
+      spares = only-none spares_part v;
       ran = ran-refl v;
       only = only-none keeps_section v;
       stops = ap (stops_with_cause v.shape) (events-none v);
@@ -358,16 +374,14 @@ shaped-stops : (v w x : View) → Ran v w → stops_with_cause w.shape (events w
 shaped-stops v w x r h = subst (λ (sh : Shape). stops_with_cause sh (events w x) ≡ true) (ran-shape v w r) h
 
 -- one round more
-pub tried-more : (u v w : View) → HasTried u v → IsRound None v w → stops_with_cause v.shape (events v w) ≡ true → HasTried u w
-tried-more u v w a r s =
+pub tried-more : (done : ℕ) (u v w : View) → HasTried done u v → IsRound None done v w → stops_with_cause v.shape (events v w) ≡ true → HasTried done u w
+tried-more done u v w a r s =
     record {
-      leads =
-          record {
-            mutates = r.none.mutates;
-            cache = r.none.cache;
-            tells = λ z q t. r.none.tells z (ran-join z u v q a.ran) (a.leads.tells z q t);
-            spares = ran-only spares_part u v w a.ran r.ran a.leads.spares r.none.spares;
-          };
+      mutates = r.none.mutates;
+      cache = r.none.cache;
+      position = λ h. r.none.position;
+      tells = λ z q t. r.none.tells z (ran-join z u v q a.ran) (a.tells z q t);
+      spares = ran-only spares_part u v w a.ran r.ran a.spares r.none.spares;
       ran = ran-join u v w a.ran r.ran;
       only = ran-only keeps_section u v w a.ran r.ran a.only r.only;
       stops = ap (stops_with_cause u.shape) (ran-events u v w a.ran r.ran) ∙ stops-join u.shape (events u v) (events v w) a.stops (shaped-stops u v w a.ran s);
@@ -388,8 +402,8 @@ pub record Ends (r : Refill) (u w : View) : Type 0 where
   pub only : Only fills_part u w
   pub spares : SparesRefill r u w
 
-pub ends-round : (r : Refill) (u v w : View) → HasTried u v → IsRound (Some r) v w → stops_with_cause v.shape (events v w) ≡ true → Ends r u w
-ends-round r u v w a i s =
+pub ends-round : (r : Refill) (done : ℕ) (u v w : View) → HasTried done u v → IsRound (Some r) done v w → stops_with_cause v.shape (events v w) ≡ true → Ends r u w
+ends-round r done u v w a i s =
     let ran = ran-join u v w a.ran i.ran in
     let only = ran-only keeps_section u v w a.ran i.ran a.only i.only in
     record {
@@ -398,7 +412,7 @@ ends-round r u v w a i s =
       fills = ap (fills_with_cause u.shape) (ran-events u v w a.ran i.ran) ∙ fills-join u.shape (events u v) (events v w) a.fills (shaped-fills u v w a.ran i.fills);
       keeps = (keeps-seat u w ran only, keeps-section u w ran only);
       only = only-more keeps_section fills_part keeps-fill u w only;
-      spares = spares-refill r u v w a.ran i.ran a.leads.spares i.spares;
+      spares = spares-refill r u v w a.ran i.ran a.spares i.spares;
     }
 
 -- what was read last is so after whatever was read before

@@ -55,6 +55,10 @@ last_phase (e ∷ es) = later_or (last_phase es) (phase_read e.step e.found)
 abbrev pub TellsFull : View → View → Type 0
 TellsFull v w = IsTrue (saw_full (events v w)) → KnowsFull w
 
+-- where the seat left the world, its section's position is this one
+abbrev pub StoredAt : ℕ → View → View → Type 0
+StoredAt done v w = IsTrue (some_event leaves (events v w)) → w.own.position ≡ done
+
 -- the mutator goes on: it read the phase, never as Full, and its record has what it read last
 pub record GoesOn (v w : View) : Type 0 where
   pub mutates : Mutates w
@@ -112,16 +116,17 @@ pub record GivesWay (handed kept : Option Cache) (done : ℕ) (v w : View) : Typ
   pub position : IsTrue (poll_found_stop (events v w)) → (w.own.position ≡ done) × IsTrue (some_event leaves (events v w))
   pub waits : IsTrue (waits_helping (events v w))
 
--- a cache with free cells, which were taken off the number of free cells, and paid for
-pub record GetsCache (h : Cache) (paid : Paid) (v w : View) : Type 0 where
+-- a cache with free cells, which were taken off the number of free cells, and paid for; where the seat left the world on the way, its position is stored
+pub record GetsCache (h : Cache) (paid : Paid) (done : ℕ) (v w : View) : Type 0 where
   pub goes_on : GoesOn v w
   pub cached : IsCached h w
+  pub position : StoredAt done v w
   pub free : 0 < ones h.cells
   pub told : picked lowers_free (since_claim (events v w)) ≡ ones h.cells ∷ []
   pub pays : Pays v.shape (own_section v.state) (ones h.cells) paid (begins v) (events v w)
 
 abbrev pub RefillsTo : Refill → ℕ → View → View → Type 0
-RefillsTo (refills.Cache h paid) done v w = GetsCache h paid v w
+RefillsTo (refills.Cache h paid) done v w = GetsCache h paid done v w
 RefillsTo refills.Full done v w = EndsFull done v w
 
 -- it polled; where the first poll found a stop it stored its position, left, offered its help and gave up its cache, and else it has what it had
@@ -135,13 +140,14 @@ abbrev pub SafeTo : Safe → Option Cache → ℕ → View → View → Type 0
 SafeTo (safes.Going kept) handed done v w = PassesSafely handed kept done v w
 SafeTo safes.Full handed done v w = EndsFull done v w
 
--- a drain began in which no cell was marked, and the cycle ended
-pub record Collects (v w : View) : Type 0 where
+-- a drain began in which no cell was marked, and the cycle ended; the position is stored, as at each stop
+pub record Collects (done : ℕ) (v w : View) : Type 0 where
   pub goes_on : GoesOn v w
   pub cache : w.state.cache ≡ None
+  pub position : w.own.position ≡ done
   pub collected : IsTrue (collects (events v w))
 
 abbrev pub CollectsTo : Safe → ℕ → View → View → Type 0
-CollectsTo (safes.Going None) done v w = Collects v w
+CollectsTo (safes.Going None) done v w = Collects done v w
 CollectsTo (safes.Going (Some h)) done v w = ⊥
 CollectsTo safes.Full done v w = EndsFull done v w

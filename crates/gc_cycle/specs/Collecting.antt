@@ -1,5 +1,5 @@
 -- How a mutator collects in a stop of its own.
-use Rattle.std.specs.Prelude.{◌≡◌, ◌⊎◌, not, Bool, Some, None, is_some, IsTrue, IsFalse}
+use Rattle.std.specs.Prelude.{ℕ, ◌≡◌, ◌⊎◌, not, Bool, Some, None, is_some, IsTrue, IsFalse}
 use Rattle.mark_core.specs.Seats.{saw}
 use Rattle.mark_core.specs.declared.kinds.Phase.{Phase}
 use Rattle.mark_core.specs.declared.kinds.Phase.TheVariants.{Idle, Marking, Full}
@@ -32,10 +32,11 @@ pub record HoldsWorld (v : View) : Type 0 where
   pub seen : v.state.phase_seen ≡ Some phase
   pub left : (phase ≡ Idle) ⊎ (phase ≡ Marking) ⊎ (phase ≡ Full)
 
--- another seat's stop came first: the seat waited for its end, and is a mutator again
-pub record TriesAgain (v w : View) : Type 0 where
+-- another seat's stop came first: the seat stored its position, waited for the end of that stop, and is a mutator again
+pub record TriesAgain (done : ℕ) (v w : View) : Type 0 where
   pub mutates : Mutates w
   pub cache : w.state.cache ≡ None
+  pub position : w.own.position ≡ done
   pub only : Only tries_stopping v w
   pub calm : count_of raises_flag (events v w) ≡ 0
 
@@ -43,10 +44,11 @@ pub record TriesAgain (v w : View) : Type 0 where
 abbrev pub HasCollected : View → View → Type 0
 HasCollected v w = (IsTrue (collects (events v w)) × IsFalse (saw_full (events v w)) × (KnowsFull v → ⊥)) ⊎ KnowsFull w
 
--- the stop ended after that
+-- the stop ended after that, and the position stayed
 pub record EndsStop (v w : View) : Type 0 where
   pub ran : Ran v w
   pub only : Only spares_section v w
   pub calm : IsTrue (never raises_flag (events v w))
   pub cache : w.state.cache ≡ None
+  pub position : w.own.position ≡ v.own.position
   pub collected : HasCollected v w

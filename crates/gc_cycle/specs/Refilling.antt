@@ -20,7 +20,7 @@ use Rattle.gc_table.specs.declared.view.View.{View}
 use Rattle.packet_pools.specs.Seeking.{some_event}
 use Rattle.alloc_cache.specs.Claiming.{claimed_by}
 use Rattle.alloc_cache.specs.declared.cache.Cache.{Cache}
-use Rattle.gc_cycle.specs.Answering.{HasCache, TellsFull}
+use Rattle.gc_cycle.specs.Answering.{HasCache, StoredAt, TellsFull}
 use Rattle.gc_cycle.specs.Cycles.{fills_with_cause}
 use Rattle.gc_cycle.specs.Events.{never}
 use Rattle.gc_cycle.specs.Mutating.{keeps_section}
@@ -74,27 +74,29 @@ pub record EndsClaimed (h : Cache) (first : List Entry) (v w : View) : Type 0 wh
   pub all : events v w ≡ first ++ claimed_by h word count
   pub free : 0 < ones h.cells
 
--- the same of a mutator that claimed it outside a stop
-pub record HasClaimed (h : Cache) (v w : View) : Type 0 where
+-- the same of a mutator that claimed it outside a stop, with its position stored where it left the world before
+pub record HasClaimed (h : Cache) (done : ℕ) (v w : View) : Type 0 where
   pub ran : Ran v w
   pub tells : TellsFull v w
+  pub position : StoredAt done v w
   pub first : List Entry
   pub claimed : EndsClaimed h first v w
   pub paced : IsPaced first w
 
--- another round is to be made: the seat is a mutator without a cache, and the heap wasn't said to be full
-pub record TriesOn (v w : View) : Type 0 where
+-- another round is to be made: the seat stopped the world or waited for another's stop, with its position stored; it is a mutator without a cache, and the heap wasn't said to be full
+pub record TriesOn (done : ℕ) (v w : View) : Type 0 where
   pub mutates : Mutates w
   pub cache : w.state.cache ≡ None
+  pub position : w.own.position ≡ done
   pub tells : (u : View) → Ran u v → TellsFull u v → TellsFull u w
   pub spares : Only spares_part v w
 
 -- what a round leaves, whatever its answer
-pub record IsRound (o : Option Refill) (v w : View) : Type 0 where
+pub record IsRound (o : Option Refill) (done : ℕ) (v w : View) : Type 0 where
   pub ran : Ran v w
   pub only : Only keeps_section v w
   pub fills : IsTrue (fills_with_cause v.shape (events v w))
-  pub none : IfNone o (TriesOn v w)
+  pub none : IfNone o (TriesOn done v w)
   pub spares : IfSome o (λ r. SparesRefill r v w)
 
 -- the seat may resume the world, with nothing in hand but perhaps a cache
@@ -106,7 +108,7 @@ pub record MayResume (v : View) : Type 0 where
   pub unhelping : IsFalse v.state.helping
   pub rest : IsTrue (is_at_rest v.shape v.state)
 
--- in the stop a block was claimed, or none: then the heap is full, or it wasn't said to be
+-- in the stop a block was claimed, or none: then the heap is full, or it wasn't said to be; the position stayed
 pub record ClaimsAlone (o : Option Cache) (v w : View) : Type 0 where
   pub ran : Ran v w
   pub only : Only keeps_section v w
@@ -114,6 +116,7 @@ pub record ClaimsAlone (o : Option Cache) (v w : View) : Type 0 where
   pub going : IsFalse (saw_full (events v w))
   pub resume : MayResume w
   pub cached : HasCache o w
+  pub position : w.own.position ≡ v.own.position
   pub some : IfSome o (λ h. Only spares_part v w × ((first : List Entry) × EndsClaimed h first v w))
   pub none : IfNone o (Only spares_part v w ⊎ KnowsFull w)
 

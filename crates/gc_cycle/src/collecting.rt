@@ -58,7 +58,7 @@ fn collect_once<R: Wait>(rt: &R, heap: &Heap, seat: &mut HeapSeat, done: u32) ->
     requires cache { (view_of seat.old).state.cache ≡ None }
     ensures seat { Sits heap.now seat.new }
     ensures ran { Ran (view_of seat.old) (view_of seat.new) }
-    ensures none { IfNone result (TriesAgain (view_of seat.old) (view_of seat.new)) }
+    ensures none { IfNone result (TriesAgain done (view_of seat.old) (view_of seat.new)) }
     ensures some { IfSome result (λ safe. (u : View) → Ran u (view_of seat.old) → TellsFull u (view_of seat.old) → CollectsTo safe done u (view_of seat.new)) }
     ensures once { count_of raises_flag (events (view_of seat.old) (view_of seat.new)) ≤ 1 }
     ensures only { Only spares_section (view_of seat.old) (view_of seat.new) }

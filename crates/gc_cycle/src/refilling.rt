@@ -10,7 +10,7 @@ ghost use Rattle.gc_table.specs.Seats.{Sits, view_of};
 ghost use Rattle.gc_table.specs.declared.view.Entry.{Entry};
 ghost use Rattle.gc_table.specs.declared.view.View.{View};
 ghost use Rattle.alloc_cache.specs.Caching.{IsCached};
-ghost use Rattle.gc_cycle.specs.Answering.{RefillsTo, TellsFull};
+ghost use Rattle.gc_cycle.specs.Answering.{RefillsTo, StoredAt, TellsFull};
 ghost use Rattle.gc_cycle.specs.Collecting.{HoldsWorld};
 ghost use Rattle.gc_cycle.specs.Cycles.{collects, fills_with_cause, may_fill};
 ghost use Rattle.gc_cycle.specs.Events.{each_after};
@@ -80,9 +80,9 @@ fn refill_once<R: Wait>(rt: &R, heap: &Heap, seat: &mut HeapSeat, done: u32) -> 
     requires seat { Sits heap.now seat.old × Mutates (view_of seat.old) }
     requires cache { (view_of seat.old).state.cache ≡ None }
     ensures seat { Sits heap.now seat.new }
-    ensures round { IsRound result (view_of seat.old) (view_of seat.new) }
+    ensures round { IsRound result done (view_of seat.old) (view_of seat.new) }
     ensures stops { IsTrue (stops_with_cause heap.now.shape (events (view_of seat.old) (view_of seat.new))) }
-    ensures some { IfSome result (λ r. (u : View) → Ran u (view_of seat.old) → TellsFull u (view_of seat.old) → RefillsTo r done u (view_of seat.new)) }
+    ensures some { IfSome result (λ r. (u : View) → Ran u (view_of seat.old) → TellsFull u (view_of seat.old) → StoredAt done u (view_of seat.old) → RefillsTo r done u (view_of seat.new)) }
 {
     if ends_full(heap, seat, done) {
         return Some(Refill::Full);
@@ -126,9 +126,9 @@ fn claim_or_stop<R: Wait>(rt: &R, heap: &Heap, seat: &mut HeapSeat, done: u32) -
     requires seat { Sits heap.now seat.old × Mutates (view_of seat.old) }
     requires cache { (view_of seat.old).state.cache ≡ None }
     ensures seat { Sits heap.now seat.new }
-    ensures round { IsRound result (view_of seat.old) (view_of seat.new) }
+    ensures round { IsRound result done (view_of seat.old) (view_of seat.new) }
     ensures stops { IsTrue (stops_with_cause heap.now.shape (events (view_of seat.old) (view_of seat.new))) }
-    ensures some { IfSome result (λ r. (u : View) → Ran u (view_of seat.old) → TellsFull u (view_of seat.old) → IsPaced (events u (view_of seat.old)) (view_of seat.old) → RefillsTo r done u (view_of seat.new)) }
+    ensures some { IfSome result (λ r. (u : View) → Ran u (view_of seat.old) → TellsFull u (view_of seat.old) → StoredAt done u (view_of seat.old) → IsPaced (events u (view_of seat.old)) (view_of seat.old) → RefillsTo r done u (view_of seat.new)) }
 {
     match claim(heap, seat) {
         None => refill_in_stop(rt, heap, seat, done),
@@ -160,7 +160,7 @@ fn pay_for(heap: &Heap, seat: &mut HeapSeat, cache: Cache, done: u32) -> Refill
     ensures ran { Ran (view_of seat.old) (view_of seat.new) }
     ensures only { Only stays_calm (view_of seat.old) (view_of seat.new) }
     ensures known { SparesRefill result (view_of seat.old) (view_of seat.new) }
-    ensures refills { (u : View) → HasClaimed cache u (view_of seat.old) → RefillsTo result done u (view_of seat.new) }
+    ensures refills { (u : View) → HasClaimed cache done u (view_of seat.old) → RefillsTo result done u (view_of seat.new) }
 {
     match heap.read_phase(seat) {
         Phase::Full => {
@@ -181,8 +181,8 @@ fn refill_in_stop<R: Wait>(rt: &R, heap: &Heap, seat: &mut HeapSeat, done: u32) 
     requires seat { Sits heap.now seat.old × Mutates (view_of seat.old) }
     requires cache { (view_of seat.old).state.cache ≡ None }
     ensures seat { Sits heap.now seat.new }
-    ensures round { IsRound result (view_of seat.old) (view_of seat.new) }
-    ensures some { IfSome result (λ r. (u : View) → Ran u (view_of seat.old) → TellsFull u (view_of seat.old) → RefillsTo r done u (view_of seat.new)) }
+    ensures round { IsRound result done (view_of seat.old) (view_of seat.new) }
+    ensures some { IfSome result (λ r. (u : View) → Ran u (view_of seat.old) → TellsFull u (view_of seat.old) → StoredAt done u (view_of seat.old) → RefillsTo r done u (view_of seat.new)) }
 {
     if !stop(rt, heap, seat, done) {
         return None;

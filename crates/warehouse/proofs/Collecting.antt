@@ -43,7 +43,7 @@ append_none [] = refl
 append_none (x ∷ xs) = ap (λ ys. x ∷ ys) (append_none xs)
 
 -- no cache is left
-no_cache : (kept : Option Cache) (done : ℕ) (v w : View) → CollectsTo (safes.Going kept) done v w → HasCache kept w × Collects v w
+no_cache : (kept : Option Cache) (done : ℕ) (v w : View) → CollectsTo (safes.Going kept) done v w → HasCache kept w × Collects done v w
 no_cache None done v w c = (c.cache, c)
 no_cache (Some h) done v w c = absurd c
 

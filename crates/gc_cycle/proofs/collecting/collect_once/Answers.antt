@@ -39,7 +39,7 @@ returns-then-not-stop-clause-ran g c =
     let w : View = view_of c.stop.new.seat in
     let e = c.ends_full.ensures in
     let t = c.stop.ensures in
-    let d = tried u v w e.ran e.only t.tries (t.raises ∙ ap (λ (b : Bool). if b then 1 else 0) c.if-not-stop.true) c.if-not-stop.ensures.theirs in
+    let d = tried c.args.done u v w e.ran e.only t.tries t.position (t.raises ∙ ap (λ (b : Bool). if b then 1 else 0) c.if-not-stop.true) c.if-not-stop.ensures.theirs in
     d.0
 
 pub returns-then-not-stop-clause-none : goal.returns-then-not-stop-clause-none
@@ -49,7 +49,7 @@ returns-then-not-stop-clause-none g c =
     let w : View = view_of c.stop.new.seat in
     let e = c.ends_full.ensures in
     let t = c.stop.ensures in
-    let d = tried u v w e.ran e.only t.tries (t.raises ∙ ap (λ (b : Bool). if b then 1 else 0) c.if-not-stop.true) c.if-not-stop.ensures.theirs in
+    let d = tried c.args.done u v w e.ran e.only t.tries t.position (t.raises ∙ ap (λ (b : Bool). if b then 1 else 0) c.if-not-stop.true) c.if-not-stop.ensures.theirs in
     d.1
 
 pub returns-then-not-stop-clause-once : goal.returns-then-not-stop-clause-once
@@ -59,7 +59,7 @@ returns-then-not-stop-clause-once g c =
     let w : View = view_of c.stop.new.seat in
     let e = c.ends_full.ensures in
     let t = c.stop.ensures in
-    let d = tried u v w e.ran e.only t.tries (t.raises ∙ ap (λ (b : Bool). if b then 1 else 0) c.if-not-stop.true) c.if-not-stop.ensures.theirs in
+    let d = tried c.args.done u v w e.ran e.only t.tries t.position (t.raises ∙ ap (λ (b : Bool). if b then 1 else 0) c.if-not-stop.true) c.if-not-stop.ensures.theirs in
     none-raised (count_of raises_flag (events u w)) d.1.calm
 
 pub returns-then-not-stop-clause-only : goal.returns-then-not-stop-clause-only
@@ -69,7 +69,7 @@ returns-then-not-stop-clause-only g c =
     let w : View = view_of c.stop.new.seat in
     let e = c.ends_full.ensures in
     let t = c.stop.ensures in
-    let d = tried u v w e.ran e.only t.tries (t.raises ∙ ap (λ (b : Bool). if b then 1 else 0) c.if-not-stop.true) c.if-not-stop.ensures.theirs in
+    let d = tried c.args.done u v w e.ran e.only t.tries t.position (t.raises ∙ ap (λ (b : Bool). if b then 1 else 0) c.if-not-stop.true) c.if-not-stop.ensures.theirs in
     d.2
 
 pub returns-then-ends_full-2-clause-ran : goal.returns-then-ends_full-2-clause-ran
@@ -182,4 +182,4 @@ returns-clause-some g c =
     let i = c.collect_in_stop.ensures in
     let l = c.ends_full-2.ensures in
     let d = stopped u v w x y e.ran e.only t.tries (t.raises ∙ ap (λ (b : Bool). if b then 1 else 0) c.if-not-stop.false) i.ends l.ran l.only in
-    λ z r k. let b = tells-tried z u v w r k e.ran e.only t.tries in goes-collected z w x y b.0 b.1 i.ends.ran l.ran i.ends c.if-ends_full-2.ensures.going
+    λ z r k. let b = tells-tried z u v w r k e.ran e.only t.tries in goes-collected c.args.done z w x y b.0 b.1 t.position i.ends.ran l.ran i.ends c.if-ends_full-2.ensures.going

@@ -8,6 +8,7 @@ use Rattle.gc_table.proofs.Running.{ran-join}
 use Rattle.alloc_cache.specs.Claiming.{seeks_block}
 use Rattle.gc_cycle.specs.Refilling.{prepares}
 use Rattle.gc_cycle.proofs.Paced.{seeks-prepare}
+use Rattle.gc_cycle.proofs.Positions.{stored-more}
 use Rattle.gc_cycle.proofs.Rounds.{calm-stops, claims-cached, claims-claimed, claims-only, leads-caused, leads-prepared, leads-stops, later-some, round-calm, round-later, searched-stops, some-blocks}
 use Rattle.gc_cycle.proofs.refilling.claim_or_stop.Goals as goal
 
@@ -15,7 +16,7 @@ pub returns-in-None-clause-round : goal.returns-in-None-clause-round
 returns-in-None-clause-round g c =
     let v : View = view_of c.args.seat.now in
     let x : View = view_of c.claim.new.seat in
-    round-later v x (view_of c.refill_in_stop.new.seat) c.refill_in_stop.result (leads-prepared v x c.claim.ensures.ran (only-more seeks_block prepares seeks-prepare v x c.in-None.ensures.none.3)) c.refill_in_stop.ensures.round
+    round-later c.args.done v x (view_of c.refill_in_stop.new.seat) c.refill_in_stop.result (leads-prepared v x c.claim.ensures.ran (only-more seeks_block prepares seeks-prepare v x c.in-None.ensures.none.3)) c.refill_in_stop.ensures.round
 
 pub returns-in-None-clause-stops : goal.returns-in-None-clause-stops
 returns-in-None-clause-stops g c =
@@ -31,7 +32,7 @@ returns-in-None-clause-some g c =
     let v : View = view_of c.args.seat.now in
     let x : View = view_of c.claim.new.seat in
     let l = leads-prepared v x c.claim.ensures.ran (only-more seeks_block prepares seeks-prepare v x c.in-None.ensures.none.3) in
-    later-some c.refill_in_stop.result (λ r f u q t p. f u (ran-join u v x q l.ran) (l.tells u q t)) c.refill_in_stop.ensures.some
+    later-some c.refill_in_stop.result (λ r f u q t k p. f u (ran-join u v x q l.ran) (l.tells u q t) (stored-more c.args.done u v x q l.ran l.inside k)) c.refill_in_stop.ensures.some
 
 pub returns-in-Some-clause-round : goal.returns-in-Some-clause-round
 returns-in-Some-clause-round g c =
@@ -39,7 +40,7 @@ returns-in-Some-clause-round g c =
     let x : View = view_of c.claim.new.seat in
     let w : View = view_of c.pay_for.new.seat in
     let p = c.pay_for.ensures in
-    round-later v x w (Some c.pay_for.result) (leads-prepared v x c.claim.ensures.ran (claims-only c.in-Some.cache v x c.in-Some.ensures.some)) (round-calm x w c.pay_for.result p.ran p.only p.known)
+    round-later c.args.done v x w (Some c.pay_for.result) (leads-prepared v x c.claim.ensures.ran (claims-only c.in-Some.cache v x c.in-Some.ensures.some)) (round-calm c.args.done x w c.pay_for.result p.ran p.only p.known)
 
 pub returns-in-Some-clause-stops : goal.returns-in-Some-clause-stops
 returns-in-Some-clause-stops g c =
@@ -54,7 +55,7 @@ pub returns-in-Some-clause-some : goal.returns-in-Some-clause-some
 returns-in-Some-clause-some g c =
     let v : View = view_of c.args.seat.now in
     let x : View = view_of c.claim.new.seat in
-    λ u q t p. c.pay_for.ensures.refills u (claims-claimed c.in-Some.cache u v x c.requires.seat.1.active q t p c.claim.ensures.ran c.in-Some.ensures.some)
+    λ u q t k p. c.pay_for.ensures.refills u (claims-claimed c.in-Some.cache c.args.done u v x c.requires.seat.1.active q t k p c.claim.ensures.ran c.in-Some.ensures.some)
 
 pub pay_for-requires-clause-cache : goal.pay_for-requires-clause-cache
 pay_for-requires-clause-cache g c = claims-cached c.in-Some.cache (view_of c.args.seat.now) (view_of c.claim.new.seat) c.in-Some.ensures.some

@@ -48,7 +48,7 @@ returns-in-Marking c =
       ran = looked-ran v w x t.0 (t.1, t.2) q.ran;
       only = calm;
       known = only-more stays_calm spares_part calm-spares v x calm;
-      refills = λ u k. gets-paid c.args.cache u v w x t.0 k (t.1, t.2) q.ran q.only c.pay-paid.result c.requires.seat.1 c.requires.cache q (sym t.3 ∙ c.in-Marking.is);
+      refills = λ u k. gets-paid c.args.cache c.args.done u v w x t.0 k (t.1, t.2) q.ran q.only c.pay-paid.result c.requires.seat.1 c.requires.cache q (sym t.3 ∙ c.in-Marking.is);
     }
 
 pub returns-in_default : goal.returns-in_default
@@ -64,5 +64,5 @@ returns-in_default c =
       ran = looked-ran v w w t.0 (t.1, t.2) (ran-refl w);
       only = calm;
       known = only-more stays_calm spares_part calm-spares v w calm;
-      refills = λ u k. gets-free c.args.cache u v w w t.0 k (t.1, t.2) (ran-refl w) (only-none pays_cells w) c.nothing.result m c.requires.cache c.nothing.ensures idle (mutates-still v w t.0 (t.1, t.2) m) refl refl;
+      refills = λ u k. gets-free c.args.cache c.args.done u v w w t.0 k (t.1, t.2) (ran-refl w) (only-none pays_cells w) c.nothing.result m c.requires.cache c.nothing.ensures idle (mutates-still v w t.0 (t.1, t.2) m) refl refl;
     }

@@ -11,13 +11,13 @@ use Rattle.gc_cycle.proofs.Rounds.{ends-round, tried-more, tried-none}
 use Rattle.gc_cycle.proofs.refilling.refill.Goals as goal
 
 pub loop-init : goal.loop-init
-loop-init g c = record { next = tt; finite = tt; sits = c.requires.seat.0; tried = tried-none (view_of c.args.seat.now) c.requires.seat.1 c.requires.cache }
+loop-init g c = record { next = tt; finite = tt; sits = c.requires.seat.0; tried = tried-none c.args.done (view_of c.args.seat.now) c.requires.seat.1 c.requires.cache }
 
 pub loop-preserved : goal.loop-preserved
 loop-preserved g c =
     let i = c.loop.invariant in
     let e = c.refill_once.ensures in
-    record { next = tt; finite = tt; sits = e.seat; tried = tried-more (view_of c.args.seat.now) (view_of c.loop.seat) (view_of c.refill_once.new.seat) i.tried c.in_default.ensures.round (subst (λ (sh : Shape). stops_with_cause sh (events (view_of c.loop.seat) (view_of c.refill_once.new.seat)) ≡ true) (sym i.sits.1) e.stops) }
+    record { next = tt; finite = tt; sits = e.seat; tried = tried-more c.args.done (view_of c.args.seat.now) (view_of c.loop.seat) (view_of c.refill_once.new.seat) i.tried c.in_default.ensures.round (subst (λ (sh : Shape). stops_with_cause sh (events (view_of c.loop.seat) (view_of c.refill_once.new.seat)) ≡ true) (sym i.sits.1) e.stops) }
 
 pub returns-in-Some-refill_once-clause-ran : goal.returns-in-Some-refill_once-clause-ran
 returns-in-Some-refill_once-clause-ran g c =
@@ -25,7 +25,7 @@ returns-in-Some-refill_once-clause-ran g c =
     let v : View = view_of c.loop.seat in
     let w : View = view_of c.refill_once.new.seat in
     let e = c.in-Some-refill_once.ensures in
-    let d = ends-round _ u v w c.loop.invariant.tried e.round (subst (λ (sh : Shape). stops_with_cause sh (events v w) ≡ true) (sym c.loop.invariant.sits.1) e.stops) in
+    let d = ends-round _ c.args.done u v w c.loop.invariant.tried e.round (subst (λ (sh : Shape). stops_with_cause sh (events v w) ≡ true) (sym c.loop.invariant.sits.1) e.stops) in
     d.ran
 
 pub returns-in-Some-refill_once-clause-stops : goal.returns-in-Some-refill_once-clause-stops
@@ -34,7 +34,7 @@ returns-in-Some-refill_once-clause-stops g c =
     let v : View = view_of c.loop.seat in
     let w : View = view_of c.refill_once.new.seat in
     let e = c.in-Some-refill_once.ensures in
-    let d = ends-round _ u v w c.loop.invariant.tried e.round (subst (λ (sh : Shape). stops_with_cause sh (events v w) ≡ true) (sym c.loop.invariant.sits.1) e.stops) in
+    let d = ends-round _ c.args.done u v w c.loop.invariant.tried e.round (subst (λ (sh : Shape). stops_with_cause sh (events v w) ≡ true) (sym c.loop.invariant.sits.1) e.stops) in
     subst (λ (sh : Shape). stops_with_cause sh (events u w) ≡ true) c.requires.seat.0.1 d.stops
 
 pub returns-in-Some-refill_once-clause-fills : goal.returns-in-Some-refill_once-clause-fills
@@ -43,7 +43,7 @@ returns-in-Some-refill_once-clause-fills g c =
     let v : View = view_of c.loop.seat in
     let w : View = view_of c.refill_once.new.seat in
     let e = c.in-Some-refill_once.ensures in
-    let d = ends-round _ u v w c.loop.invariant.tried e.round (subst (λ (sh : Shape). stops_with_cause sh (events v w) ≡ true) (sym c.loop.invariant.sits.1) e.stops) in
+    let d = ends-round _ c.args.done u v w c.loop.invariant.tried e.round (subst (λ (sh : Shape). stops_with_cause sh (events v w) ≡ true) (sym c.loop.invariant.sits.1) e.stops) in
     subst (λ (sh : Shape). fills_with_cause sh (events u w) ≡ true) c.requires.seat.0.1 d.fills
 
 pub returns-in-Some-refill_once-clause-keeps : goal.returns-in-Some-refill_once-clause-keeps
@@ -52,7 +52,7 @@ returns-in-Some-refill_once-clause-keeps g c =
     let v : View = view_of c.loop.seat in
     let w : View = view_of c.refill_once.new.seat in
     let e = c.in-Some-refill_once.ensures in
-    let d = ends-round _ u v w c.loop.invariant.tried e.round (subst (λ (sh : Shape). stops_with_cause sh (events v w) ≡ true) (sym c.loop.invariant.sits.1) e.stops) in
+    let d = ends-round _ c.args.done u v w c.loop.invariant.tried e.round (subst (λ (sh : Shape). stops_with_cause sh (events v w) ≡ true) (sym c.loop.invariant.sits.1) e.stops) in
     d.keeps
 
 pub returns-in-Some-refill_once-clause-only : goal.returns-in-Some-refill_once-clause-only
@@ -61,7 +61,7 @@ returns-in-Some-refill_once-clause-only g c =
     let v : View = view_of c.loop.seat in
     let w : View = view_of c.refill_once.new.seat in
     let e = c.in-Some-refill_once.ensures in
-    let d = ends-round _ u v w c.loop.invariant.tried e.round (subst (λ (sh : Shape). stops_with_cause sh (events v w) ≡ true) (sym c.loop.invariant.sits.1) e.stops) in
+    let d = ends-round _ c.args.done u v w c.loop.invariant.tried e.round (subst (λ (sh : Shape). stops_with_cause sh (events v w) ≡ true) (sym c.loop.invariant.sits.1) e.stops) in
     d.only
 
 pub returns-in-Some-refill_once-clause-spares : goal.returns-in-Some-refill_once-clause-spares
@@ -70,11 +70,11 @@ returns-in-Some-refill_once-clause-spares g c =
     let v : View = view_of c.loop.seat in
     let w : View = view_of c.refill_once.new.seat in
     let e = c.in-Some-refill_once.ensures in
-    let d = ends-round _ u v w c.loop.invariant.tried e.round (subst (λ (sh : Shape). stops_with_cause sh (events v w) ≡ true) (sym c.loop.invariant.sits.1) e.stops) in
+    let d = ends-round _ c.args.done u v w c.loop.invariant.tried e.round (subst (λ (sh : Shape). stops_with_cause sh (events v w) ≡ true) (sym c.loop.invariant.sits.1) e.stops) in
     d.spares
 
 pub returns-in-Some-refill_once-clause-refills : goal.returns-in-Some-refill_once-clause-refills
 returns-in-Some-refill_once-clause-refills g c =
     let u : View = view_of c.args.seat.now in
     let t = c.loop.invariant.tried in
-    c.in-Some-refill_once.ensures.some u t.ran (t.leads.tells u (ran-refl u) (tells-none u))
+    c.in-Some-refill_once.ensures.some u t.ran (t.tells u (ran-refl u) (tells-none u)) t.position

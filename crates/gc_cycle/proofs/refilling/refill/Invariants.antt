@@ -7,5 +7,5 @@ invariant-loop g l = record {
   next : (goal.iterator-loop g).can_next l.iterator';
   finite : (goal.iterator-loop g).is_finite l.iterator';
   sits : Sits l.heap l.seat;
-  tried : HasTried (view_of l.fn.seat) (view_of l.seat);
+  tried : HasTried l.fn.done (view_of l.fn.seat) (view_of l.seat);
 }

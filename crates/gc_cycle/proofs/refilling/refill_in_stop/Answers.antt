@@ -5,7 +5,7 @@ use Rattle.gc_cycle.proofs.Answered.{full-later}
 use Rattle.gc_cycle.proofs.refilling.refill_in_stop.Goals as goal
 
 pub returns-then-not-stop-clause-round : goal.returns-then-not-stop-clause-round
-returns-then-not-stop-clause-round g c = round-theirs (view_of c.args.seat.now) (view_of c.stop.new.seat) c.stop.ensures.tries c.if-not-stop.ensures.theirs
+returns-then-not-stop-clause-round g c = round-theirs c.args.done (view_of c.args.seat.now) (view_of c.stop.new.seat) c.stop.ensures.tries c.stop.ensures.position c.if-not-stop.ensures.theirs
 
 pub resume-requires-clause-done : goal.resume-requires-clause-done
 resume-requires-clause-done g c = done-resuming (view_of c.claim_in_stop-cache.new.seat) c.claim_in_stop-cache.ensures.claims.resume
@@ -22,7 +22,7 @@ returns-in-Full-clause-round g c =
     let i = c.claim_in_stop-cache.ensures in
     let d = c.resume.ensures.step in
     let e = c.go_on.ensures in
-    round-full o u v w x y t i.claims d e.ran e.only c.args.heap.now.shape c.requires.seat.0.1 c.if-not-stop.ensures.yours.raised i.fills c.in-Full.ensures.answer.1
+    round-full o u v w x y t i.claims d e.ran e.only c.args.done c.args.heap.now.shape c.requires.seat.0.1 c.if-not-stop.ensures.yours.raised i.fills c.in-Full.ensures.answer.1
 
 pub returns-in-Full-clause-some : goal.returns-in-Full-clause-some
 returns-in-Full-clause-some g c =
@@ -36,7 +36,7 @@ returns-in-Full-clause-some g c =
     let i = c.claim_in_stop-cache.ensures in
     let d = c.resume.ensures.step in
     let e = c.go_on.ensures in
-    λ z r k. full-later c.args.done z x y (to-drop o u v w x y t i.claims d e.ran e.only z r) e.ran c.in-Full.ensures.answer.0
+    λ z r k s. full-later c.args.done z x y (to-drop o u v w x y t i.claims d e.ran e.only z r) e.ran c.in-Full.ensures.answer.0
 
 pub returns-in-Going-Some-clause-round : goal.returns-in-Going-Some-clause-round
 returns-in-Going-Some-clause-round g c =
@@ -51,7 +51,7 @@ returns-in-Going-Some-clause-round g c =
     let d = c.resume.ensures.step in
     let e = c.go_on.ensures in
     let k = rw c.in-Going-Some.field-0-is at c.in-Going-Some.ensures.answer in
-    round-cache o u v w x y t i.claims d e.ran e.only c.args.heap.now.shape c.requires.seat.0.1 c.if-not-stop.ensures.yours.raised i.fills c.in-Going-Some.cache c.nothing.result k
+    round-cache o u v w x y t i.claims d e.ran e.only c.args.done c.args.heap.now.shape c.requires.seat.0.1 c.if-not-stop.ensures.yours.raised i.fills c.in-Going-Some.cache c.nothing.result k
 
 pub returns-in-Going-Some-clause-some : goal.returns-in-Going-Some-clause-some
 returns-in-Going-Some-clause-some g c =
@@ -66,7 +66,7 @@ returns-in-Going-Some-clause-some g c =
     let d = c.resume.ensures.step in
     let e = c.go_on.ensures in
     let k = rw c.in-Going-Some.field-0-is at c.in-Going-Some.ensures.answer in
-    λ z r b. round-gets o u v w x y t i.claims d e.ran e.only z i.full r b c.in-Going-Some.cache c.nothing.result c.nothing.ensures k
+    λ z r b s. round-gets o u v w x y t i.claims d e.ran e.only c.args.done z c.stop.ensures.position i.full r b c.in-Going-Some.cache c.nothing.result c.nothing.ensures k
 
 pub returns-in-Going-None-clause-round : goal.returns-in-Going-None-clause-round
 returns-in-Going-None-clause-round g c =
@@ -81,4 +81,4 @@ returns-in-Going-None-clause-round g c =
     let d = c.resume.ensures.step in
     let e = c.go_on.ensures in
     let k = rw c.in-Going-None.field-0-is at c.in-Going-None.ensures.answer in
-    round-none o u v w x y t i.claims d e.ran e.only c.args.heap.now.shape c.requires.seat.0.1 c.if-not-stop.ensures.yours.raised i.fills i.full k e.seat.1
+    round-none o u v w x y t i.claims d e.ran e.only c.args.done c.args.heap.now.shape c.stop.ensures.position c.requires.seat.0.1 c.if-not-stop.ensures.yours.raised i.fills i.full k e.seat.1

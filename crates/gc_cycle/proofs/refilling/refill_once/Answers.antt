@@ -5,6 +5,7 @@ use Rattle.gc_cycle.specs.Answering.{answers}
 use Rattle.gc_cycle.specs.Mutating.{stays_calm}
 use Rattle.gc_table.proofs.Log.{only-more}
 use Rattle.gc_cycle.proofs.Answered.{answers-calm, full-later}
+use Rattle.gc_cycle.proofs.Positions.{stored-more}
 use Rattle.gc_cycle.proofs.Rounds.{calm-stops, later-some, leads-caused, leads-join, leads-looked, leads-prepared, leads-stops, looked-seen, marked-stops, marking-known, paced-after, round-calm, round-later}
 use Rattle.gc_cycle.proofs.refilling.refill_once.Goals as goal
 
@@ -13,7 +14,7 @@ returns-then-ends_full-clause-round g c =
     let v : View = view_of c.args.seat.now in
     let w : View = view_of c.ends_full.new.seat in
     let e = c.ends_full.ensures in
-    round-calm v w _ e.ran (only-more answers stays_calm answers-calm v w e.only) c.if-ends_full.ensures.full.1
+    round-calm c.args.done v w _ e.ran (only-more answers stays_calm answers-calm v w e.only) c.if-ends_full.ensures.full.1
 
 pub returns-then-ends_full-clause-stops : goal.returns-then-ends_full-clause-stops
 returns-then-ends_full-clause-stops g c =
@@ -23,7 +24,7 @@ returns-then-ends_full-clause-stops g c =
 
 pub returns-then-ends_full-clause-some : goal.returns-then-ends_full-clause-some
 returns-then-ends_full-clause-some g c =
-    λ u r t. full-later c.args.done u (view_of c.args.seat.now) (view_of c.ends_full.new.seat) r c.ends_full.ensures.ran c.if-ends_full.ensures.full.0
+    λ u r t s. full-later c.args.done u (view_of c.args.seat.now) (view_of c.ends_full.new.seat) r c.ends_full.ensures.ran c.if-ends_full.ensures.full.0
 
 pub sees_to_cycle-requires-clause-marking : goal.sees_to_cycle-requires-clause-marking
 sees_to_cycle-requires-clause-marking g c =
@@ -38,7 +39,7 @@ returns-then-sees_to_cycle-clause-round g c =
     let w : View = view_of c.ends_full.new.seat in
     let x : View = view_of c.sees_to_cycle.new.seat in
     let s = c.sees_to_cycle.ensures in
-    round-later v x (view_of c.refill_in_stop.new.seat) c.refill_in_stop.result (leads-join v w x (leads-looked v w c.if-ends_full.ensures.going) (leads-prepared w x s.ran s.only)) c.refill_in_stop.ensures.round
+    round-later c.args.done v x (view_of c.refill_in_stop.new.seat) c.refill_in_stop.result (leads-join v w x (leads-looked v w c.if-ends_full.ensures.going) (leads-prepared w x s.ran s.only)) c.refill_in_stop.ensures.round
 
 pub returns-then-sees_to_cycle-clause-stops : goal.returns-then-sees_to_cycle-clause-stops
 returns-then-sees_to_cycle-clause-stops g c =
@@ -58,7 +59,7 @@ returns-then-sees_to_cycle-clause-some g c =
     let x : View = view_of c.sees_to_cycle.new.seat in
     let s = c.sees_to_cycle.ensures in
     let l = leads-join v w x (leads-looked v w c.if-ends_full.ensures.going) (leads-prepared w x s.ran s.only) in
-    later-some c.refill_in_stop.result (λ r f u q t. f u (ran-join u v x q l.ran) (l.tells u q t)) c.refill_in_stop.ensures.some
+    later-some c.refill_in_stop.result (λ r f u q t k. f u (ran-join u v x q l.ran) (l.tells u q t) (stored-more c.args.done u v x q l.ran l.inside k)) c.refill_in_stop.ensures.some
 
 pub returns-clause-round : goal.returns-clause-round
 returns-clause-round g c =
@@ -66,7 +67,7 @@ returns-clause-round g c =
     let w : View = view_of c.ends_full.new.seat in
     let x : View = view_of c.sees_to_cycle.new.seat in
     let s = c.sees_to_cycle.ensures in
-    round-later v x (view_of c.claim_or_stop.new.seat) c.claim_or_stop.result (leads-join v w x (leads-looked v w c.if-ends_full.ensures.going) (leads-prepared w x s.ran s.only)) c.claim_or_stop.ensures.round
+    round-later c.args.done v x (view_of c.claim_or_stop.new.seat) c.claim_or_stop.result (leads-join v w x (leads-looked v w c.if-ends_full.ensures.going) (leads-prepared w x s.ran s.only)) c.claim_or_stop.ensures.round
 
 pub returns-clause-stops : goal.returns-clause-stops
 returns-clause-stops g c =
@@ -84,4 +85,4 @@ returns-clause-some g c =
     let s = c.sees_to_cycle.ensures in
     let a = leads-looked v w c.if-ends_full.ensures.going in
     let l = leads-join v w x a (leads-prepared w x s.ran s.only) in
-    later-some c.claim_or_stop.result (λ r f u q t. f u (ran-join u v x q l.ran) (l.tells u q t) (paced-after u w x (ran-join u v w q a.ran) s.ran c.if-sees_to_cycle.ensures.paced)) c.claim_or_stop.ensures.some
+    later-some c.claim_or_stop.result (λ r f u q t k. f u (ran-join u v x q l.ran) (l.tells u q t) (stored-more c.args.done u v x q l.ran l.inside k) (paced-after u w x (ran-join u v w q a.ran) s.ran c.if-sees_to_cycle.ensures.paced)) c.claim_or_stop.ensures.some
