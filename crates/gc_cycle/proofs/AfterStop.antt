@@ -2,7 +2,7 @@
 use Rattle.std.proofs.Common.{ℕ, ◌≡◌, List, [], ◌∷◌, ◌++◌, refl, sym, ap, ◌∙◌, subst, Bool, true, false, not, ◌&&◌, ◌||◌, Some, None, Option, ⊎_elim, ◌⊎◌}
 use Rattle.std.specs.Prelude.{IfNone, IfSome, is_none}
 use Rattle.std.specs.Int.Count.{ones}
-use Rattle.std.proofs.lemmas.Bool.{and_parts, not-true, true≢false}
+use Rattle.std.proofs.lemmas.Bool.{and_parts, not-true, or_right, true≢false}
 use Rattle.std.proofs.lemmas.List.{append-nil, append_assoc}
 use Rattle.mark_core.specs.Places.{the_phase}
 use Rattle.mark_core.specs.Seats.{empty_handed, phase_of, saw, work_in_hand}
@@ -18,6 +18,7 @@ use Rattle.gc_table.specs.declared.view.View.{View}
 use Rattle.gc_table.proofs.Log.{events-after, only-more}
 use Rattle.gc_table.proofs.Noticing.{found-noted}
 use Rattle.gc_table.proofs.Running.{ran-events, ran-join, ran-only, ran-refl, ran-took}
+use Rattle.packet_pools.specs.Counts.{count_of}
 use Rattle.packet_pools.specs.Fields.{picked}
 use Rattle.packet_pools.specs.Seeking.{some_event}
 use Rattle.packet_pools.proofs.Searches.{some-parts}
@@ -29,19 +30,22 @@ use Rattle.gc_cycle.specs.Answering.{answers, GetsCache, KeepsOn, TellsFull}
 use Rattle.gc_cycle.specs.declared.counts.Paid.{Paid}
 use Rattle.gc_cycle.specs.declared.counts.Refill.TheVariants as refills
 use Rattle.gc_cycle.specs.Cycles.{fills_with_cause, may_fill}
-use Rattle.gc_cycle.specs.Events.{each_after, since_last}
+use Rattle.gc_cycle.specs.Events.{each_after, never, since_last}
 use Rattle.gc_cycle.specs.Mutating.{keeps_section, tries_stopping, TriesToStop}
 use Rattle.gc_cycle.specs.Paying.{in_stop, IsFree, since_claim}
 use Rattle.gc_cycle.specs.Polling.{saw_full}
-use Rattle.gc_cycle.specs.Refilling.{ClaimsAlone, EndsClaimed, IsRound, MayResume}
-use Rattle.gc_cycle.specs.Sorts.{claims, lowers_free, moves_to, raises_flag, reads_phase, resumes}
+use Rattle.gc_cycle.specs.Refilling.{ClaimsAlone, EndsClaimed, HasMissed, IsRound, MayResume}
+use Rattle.gc_cycle.specs.Sorts.{claims, ends_cycle, lowers_free, moves_to, raises_flag, reads_phase, resumes}
 use Rattle.gc_cycle.specs.Sparing.{spares_part}
 use Rattle.gc_cycle.specs.Standing.{Mutates}
+use Rattle.gc_cycle.specs.Stops.{may_stop_again, misses_block, stops_again_with_cause}
+use Rattle.gc_cycle.proofs.Again.{missed-later, missed-more, none-counted, quiet-again, raised-first, tried-unended, unraised-again}
+use Rattle.gc_cycle.proofs.Answered.{answers-out}
 use Rattle.gc_cycle.proofs.Causes.{after-join, after-none, fills-since, unfilled}
-use Rattle.gc_cycle.proofs.Collected.{answers-tried, only-drop, section-spares, tries-section}
+use Rattle.gc_cycle.proofs.Collected.{answers-tried, one-raised, only-drop, section-spares, tries-section}
 use Rattle.gc_cycle.proofs.Fulls.{full-known, tells-more, tells-none}
 use Rattle.gc_cycle.proofs.Goings.{none-of, tries-keep, tries-never-fill}
-use Rattle.gc_cycle.proofs.Sequences.{since-this}
+use Rattle.gc_cycle.proofs.Sequences.{since-this, some-none}
 
 -- what trying to stop the world leaves
 
@@ -52,13 +56,23 @@ tries-unfull : (v w : View) → Only tries_stopping v w → some_event (moves_to
 tries-unfull v w o = not-true _ (tries-never-fill (events v w) o)
 
 -- another seat's stop came first
-pub round-theirs : (done : ℕ) (v w : View) → TriesToStop v w → w.own.position ≡ done → Mutates w → IsRound None done v w
-round-theirs done v w t at m =
+pub round-theirs : (done : ℕ) (v w : View) → TriesToStop v w → w.own.position ≡ done → count_of raises_flag (events v w) ≡ 0 → Mutates w → IsRound None done v w
+round-theirs done v w t at count m =
+    let calm : some_event raises_flag (events v w) ≡ false = none-counted raises_flag (events v w) count in
     record {
       ran = t.ran;
       only = only-more tries_stopping keeps_section tries-keep v w t.only;
       fills = unfilled v.shape (events v w) (tries-unfull v w t.only);
-      none = record { mutates = m; cache = t.cache; position = at; tells = λ u r k. tells-more u v w r t.ran t.only k; spares = tries-spare v w t.only };
+      again = unraised-again v.shape [] (events v w) calm;
+      none =
+          record {
+            mutates = m;
+            cache = t.cache;
+            position = at;
+            tells = λ u r k. tells-more u v w r t.ran t.only k;
+            spares = tries-spare v w t.only;
+            missed = quiet-again v.shape (events v w) calm (tried-unended (events v w) t.only);
+          };
       spares = tt;
     }
 
@@ -74,7 +88,7 @@ done-resuming v m =
     record { handed = p1.0; idle = not-true _ p1.1; block = none-of v.state.block p3.1 }
 
 -- the whole round, from the stop on
-module _ (o : Option Cache) (u v w x y : View) (t : TriesToStop u v) (c : ClaimsAlone o v w) (d : Took DropStep w x) (q : Ran x y) (a : Only answers x y) where
+module _ (o : Option Cache) (u v w x y : View) (t : TriesToStop u v) (once : count_of raises_flag (events u v) ≡ 1) (c : ClaimsAlone o v w) (d : Took DropStep w x) (q : Ran x y) (a : Only answers x y) where
   dropped : Ran w x
   dropped = ran-took w x DropStep refl d
 
@@ -109,6 +123,25 @@ module _ (o : Option Cache) (u v w x y : View) (t : TriesToStop u v) (c : Claims
     where
       test : List Entry → Bool
       test es = may_fill sh (since_last raises_flag es)
+
+  -- the flag was raised once, before the stop
+  round-again : (sh : Shape) → stops_again_with_cause sh (events u y) ≡ true
+  round-again sh =
+      ap (stops_again_with_cause sh) (ran-events u v y t.ran later)
+      ∙ after-join (may_stop_again sh) raises_flag [] (events u v) (events v y) (raised-first sh (events u v) [] t.only (one-raised (count_of raises_flag (events u v)) once) refl refl)
+      (unraised-again sh (events u v) (events v y) (ap (some_event raises_flag) (ran-events v w y c.ran tail) ∙ some-none raises_flag (events v w) (events w y) (not-true _ c.calm) unraised))
+    where
+      unraised : some_event raises_flag (events w y) ≡ false
+      unraised =
+          ap (some_event raises_flag) (ran-events w x y dropped q)
+          ∙ some-none raises_flag (events w x) (events x y) (ap (some_event raises_flag) (events-after w x DropStep d.0 d.1.0)) (not-true _ (answers-out x y q a).calm)
+
+  -- a block with a free cell was missed in it
+  round-missed : (sh : Shape) → misses_block sh (since_last ends_cycle (events v w)) ≡ true → may_stop_again sh (events u y) ≡ true
+  round-missed sh s =
+      or_right (never raises_flag (events u y) && never ends_cycle (events u y)) _
+      (ap (λ es. misses_block sh (since_last ends_cycle es)) (ran-events u v y t.ran later ∙ ap (λ es. events u v ++ es) (ran-events v w y c.ran tail))
+      ∙ missed-later sh (events u v) (events v w ++ events w y) (missed-more sh (events v w) (events w y) s (tried-unended (events w y) tail-only)))
 
   -- what was known of a full heap is so still
   claim-tells : (z : View) → (KnowsFull v → KnowsFull w) → Ran z u → TellsFull z u → TellsFull z w
@@ -147,17 +180,19 @@ module _ (o : Option Cache) (u v w x y : View) (t : TriesToStop u v) (c : Claims
         ran = round-ran;
         only = round-keeps;
         fills = subst (λ (z : Shape). fills_with_cause z (events u y) ≡ true) (sym e) (round-fills sh raised fills);
+        again = round-again u.shape;
         none = tt;
         spares = f;
       }
 
   -- there is no block, and the heap isn't full
-  pub round-none : (done : ℕ) (sh : Shape) → v.own.position ≡ done → u.shape ≡ sh → some_event raises_flag (events u v) ≡ true → each_after (may_fill sh) (moves_to Full) [] (events v w) ≡ true → (KnowsFull v → KnowsFull w) → KeepsOn o None x y → Mutates y → IsRound None done u y
-  round-none done sh at e raised fills full k m =
+  pub round-none : (done : ℕ) (sh : Shape) → v.own.position ≡ done → u.shape ≡ sh → some_event raises_flag (events u v) ≡ true → each_after (may_fill sh) (moves_to Full) [] (events v w) ≡ true → (KnowsFull v → KnowsFull w) → HasMissed sh o (events v w) w → KeepsOn o None x y → Mutates y → IsRound None done u y
+  round-none done sh at e raised fills full none k m =
       record {
         ran = round-ran;
         only = round-keeps;
         fills = subst (λ (z : Shape). fills_with_cause z (events u y) ≡ true) (sym e) (round-fills sh raised fills);
+        again = round-again u.shape;
         none =
             record {
               mutates = m;
@@ -165,10 +200,16 @@ module _ (o : Option Cache) (u v w x y : View) (t : TriesToStop u v) (c : Claims
               position = position-end None k ∙ at;
               tells = λ z r h. tells-more z w y (to-claim z r) tail tail-only (claim-tells z full r h);
               spares = round-spares spared;
+              missed = subst (λ (z : Shape). may_stop_again z (events u y) ≡ true) (sym e) (round-missed sh missed);
             };
         spares = tt;
       }
     where
+      missed : misses_block sh (since_last ends_cycle (events v w)) ≡ true
+      missed =
+          ⊎_elim (λ (s : misses_block sh (since_last ends_cycle (events v w)) ≡ true). s) (λ (f : KnowsFull w). absurd (unfull None k f))
+          (subst (λ p. HasMissed sh p (events v w) w) (sym k.same) none)
+
       spared : Only spares_part v w
       spared = ⊎_elim (λ (s : Only spares_part v w). s) (λ (f : KnowsFull w). absurd (unfull None k f)) (subst (λ p. IfNone p (Only spares_part v w ⊎ KnowsFull w)) (sym k.same) c.none)
 
@@ -182,6 +223,7 @@ module _ (o : Option Cache) (u v w x y : View) (t : TriesToStop u v) (c : Claims
         ran = round-ran;
         only = round-keeps;
         fills = subst (λ (z : Shape). fills_with_cause z (events u y) ≡ true) (sym e) (round-fills sh raised fills);
+        again = round-again u.shape;
         none = tt;
         spares = round-spares (claimed h k).0;
       }

@@ -78,7 +78,7 @@ taken-more b (x ∷ xs) ys h =
 blocks-more : (sh : Shape) (xs ys : List Entry) → no_block sh xs ≡ true → no_block sh (xs ++ ys) ≡ true
 blocks-more sh xs ys h = all-more (λ b. seen_taken b xs) (λ b. seen_taken b (xs ++ ys)) (λ b k. taken-more b xs ys k) (range_with_len 0 (block_count sh)) h
 
-failed-more : (sh : Shape) (xs ys : List Entry) → claim_failed sh xs ≡ true → claim_failed sh (xs ++ ys) ≡ true
+pub failed-more : (sh : Shape) (xs ys : List Entry) → claim_failed sh xs ≡ true → claim_failed sh (xs ++ ys) ≡ true
 failed-more sh [] ys h = absurd (false≢true h)
 failed-more sh (x ∷ xs) ys h =
     ⊎_elim
@@ -109,7 +109,7 @@ stop-more sh xs ys h =
     (λ (k : marking_done sh xs ≡ true). or_right (claim_failed sh (xs ++ ys)) (marking_done sh (xs ++ ys)) (done-more sh xs ys k))
     (or_cases (claim_failed sh xs) (marking_done sh xs) h)
 
-failed-later : (sh : Shape) (xs ys : List Entry) → claim_failed sh ys ≡ true → claim_failed sh (xs ++ ys) ≡ true
+pub failed-later : (sh : Shape) (xs ys : List Entry) → claim_failed sh ys ≡ true → claim_failed sh (xs ++ ys) ≡ true
 failed-later sh [] ys h = h
 failed-later sh (x ∷ xs) ys h = or_right (no_block sh (front seeks_block (x ∷ (xs ++ ys)))) (claim_failed sh (xs ++ ys)) (failed-later sh xs ys h)
 

@@ -1,6 +1,6 @@
 -- The seat that stopped the world says that the heap is full, once it has seen that every cell is published.
-use Rattle.std.proofs.Common.{ℕ, ◌≡◌, ◌<◌, List, [], ◌∷◌, ◌++◌, suc, get_or, length, arith, refl, sym, ap, ◌∙◌, subst, Bool, true, false, not, ◌&&◌, Some, None, Option, is_some, inr}
-use Rattle.std.specs.Prelude.{◌==◌, unwrap_or}
+use Rattle.std.proofs.Common.{ℕ, ◌≡◌, ◌<◌, List, [], ◌∷◌, ◌++◌, suc, get_or, length, arith, refl, sym, ap, ◌∙◌, subst, Bool, true, false, not, ◌&&◌, Some, None, Option, is_some, inl, inr}
+use Rattle.std.specs.Prelude.{◌==◌, IfNone, unwrap_or}
 use Rattle.std.specs.List.{list_all}
 use Rattle.std.proofs.lemmas.Bool.{and_from, eq-eqb, false≢true, or_right, true≢false}
 use Rattle.mark_core.specs.Bits.{all_ones}
@@ -16,7 +16,7 @@ use Rattle.mark_core.specs.declared.kinds.Step.TheVariants.{StoreNamed, StorePha
 use Rattle.mark_core.proofs.Places.{region-length}
 use Rattle.gc_table.specs.Log.{all_steps, event, events}
 use Rattle.gc_table.specs.Notes.{look}
-use Rattle.gc_table.specs.Rule.{Agrees, IsState}
+use Rattle.gc_table.specs.Rule.{Agrees, IsState, KnowsFull}
 use Rattle.gc_table.specs.Running.{Ran}
 use Rattle.gc_table.specs.Seats.{Stored}
 use Rattle.gc_table.specs.Taking.{after, Finds, May}
@@ -29,20 +29,23 @@ use Rattle.gc_table.proofs.Running.{ran-events, ran-join, ran-only}
 use Rattle.packet_pools.specs.Seeking.{some_event}
 use Rattle.packet_pools.proofs.Searches.{some-left, some-right}
 use Rattle.stop_world.proofs.Phases.{phase-is}
-use Rattle.gc_cycle.specs.Cycles.{collects, may_fill, sees_all_full}
+use Rattle.alloc_cache.specs.Claiming.{seeks_block}
+use Rattle.alloc_cache.specs.declared.cache.Cache.{Cache}
+use Rattle.gc_cycle.specs.Cycles.{collects, may_fill, sees_all_full, sees_free_cell}
 use Rattle.gc_cycle.specs.Events.{each_after, never, since_last}
 use Rattle.gc_cycle.specs.Finishing.{finishes, IsAloneIn, IsPart, stays}
 use Rattle.gc_cycle.specs.Mutating.{keeps_section}
 use Rattle.gc_cycle.specs.Polling.{saw_full}
-use Rattle.gc_cycle.specs.Refilling.{ClaimsAlone, RestsAlone, SeesFull}
-use Rattle.gc_cycle.specs.Sorts.{begins_exactly, ends_cycle, moves_to, names, raises_flag, reads_all_ones}
-use Rattle.gc_cycle.proofs.Causes.{after-join, each-in, followed-some, since-more}
+use Rattle.gc_cycle.specs.Refilling.{ClaimsAlone, HasMissed, RestsAlone, SeesFull}
+use Rattle.gc_cycle.specs.Sorts.{begins_exactly, ends_cycle, moves_to, names, raises_flag, reads_all_ones, reads_free_cell}
+use Rattle.gc_cycle.specs.Stops.{claim_failed, misses_block}
+use Rattle.gc_cycle.proofs.Causes.{after-join, each-in, failed-later, followed-some, search-failed, since-more}
 use Rattle.gc_cycle.proofs.Collected.{followed-earlier}
 use Rattle.gc_cycle.proofs.Goings.{no-cache}
-use Rattle.gc_cycle.proofs.InStop.{claims-later, quiet-part, rests-later, resume-in, unfills}
+use Rattle.gc_cycle.proofs.InStop.{claims-later, ClaimsNone, quiet-part, rests-later, resume-in, unfills}
 use Rattle.gc_cycle.proofs.Moving.{moved}
 use Rattle.gc_cycle.proofs.Parts.{move-finishes, part-finishes, part-join, part-stays, part-step}
-use Rattle.gc_cycle.proofs.Sequences.{none-of-steps}
+use Rattle.gc_cycle.proofs.Sequences.{none-of-steps, some-none}
 
 -- every word of allocation bits is all ones, in each state that agrees with such notes
 
@@ -118,9 +121,31 @@ full-claims u v w x n p b s is f =
       none = inr m.alone.alone.phase;
     })
 
+-- the seat knows it
+pub full-told : (u v w x : View) (n : ℕ) → IsPart Idle u v → Stored StoreNamed v w → x ≡ after (StorePhase Full) n w → Finds (StorePhase Full) n w → KnowsFull x
+full-told u v w x n p s is f = (moved Idle Full w x n refl (part-join Idle u v w p (named-part v w s p.alone)).alone is f).alone.alone.phase
+
 unended : (step : Step) (n : ℕ) → stays step ≡ true → ends_cycle step n ≡ false
 unended (StorePhase to) n e = absurd (false≢true e)
 unended step n e = refl
+
+seeks-unended : (step : Step) (n : ℕ) → seeks_block step ≡ true → ends_cycle step n ≡ false
+seeks-unended (StorePhase to) n e = absurd (false≢true e)
+seeks-unended step n e = refl
+
+-- after a collection in the same stop a block with a free cell was read, and a search found none
+pub looked-missed : (sh : Shape) (o : Option Cache) (u v w : View) → 0 < block_count sh → IsPart Idle u v → sees_free_cell sh (events u v) ≡ true → Ran v w → IfNone o (ClaimsNone sh v w) → (before : List Entry) → collects before ≡ true → HasMissed sh o (before ++ events u w) w
+looked-missed sh None u v w some p s r n before c =
+    let es = ran-events u v w p.ran r in
+    let none : some_event ends_cycle (events u w) ≡ false =
+    ap (some_event ends_cycle) es
+    ∙ some-none ends_cycle (events u v) (events v w) (none-of-steps stays ends_cycle unended (events u v) (part-stays Idle u v p)) (none-of-steps seeks_block ends_cycle seeks-unended (events v w) n.3) in
+    inl
+    (ap (misses_block sh) (since-more ends_cycle before (events u w) (followed-some begins_exactly ends_cycle before c) none)
+    ∙ and_from _ _
+    (some-right (reads_free_cell (block_count sh)) (since_last ends_cycle before) (events u w) (ap (sees_free_cell sh) es ∙ some-left (reads_free_cell (block_count sh)) (events u v) (events v w) s))
+    (failed-later sh (since_last ends_cycle before) (events u w) (ap (claim_failed sh) es ∙ failed-later sh (events u v) (events v w) (search-failed sh (events v w) some n.3 n.2))))
+looked-missed sh (Some h) u v w some p s r n before c = tt
 
 -- after a precise collection in the same stop there was cause
 pub full-fills : (sh : Shape) (u v w x : View) (n : ℕ) → IsPart Idle u v → SeesFull sh u v → Stored StoreNamed v w → x ≡ after (StorePhase Full) n w → Finds (StorePhase Full) n w → (before : List Entry) → collects before ≡ true → each_after (may_fill sh) (moves_to Full) before (events u x) ≡ true

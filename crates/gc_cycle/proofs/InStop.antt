@@ -41,7 +41,8 @@ use Rattle.gc_cycle.proofs.Completing.{part-untold}
 use Rattle.gc_cycle.proofs.Goings.{no-cache}
 use Rattle.gc_cycle.proofs.Parts.{part-finishes}
 use Rattle.gc_cycle.proofs.Positions.{position-kept}
-use Rattle.gc_cycle.proofs.Rounds.{claim-only, claims-cached, claims-prepare, claims_block, leads-prepared, seeks-claim, some-ones, unfull, with-cache}
+use Rattle.gc_cycle.proofs.Claimed.{claim-only, claims-cached, claims-prepare, claims_block, seeks-claim, some-ones, with-cache}
+use Rattle.gc_cycle.proofs.Rounds.{leads-prepared, unfull}
 use Rattle.gc_cycle.proofs.Sequences.{none-of-steps, some-none}
 use Rattle.gc_cycle.proofs.Spared.{finish-calm, finish-position, finish-spares, untold-fills, untold-sees}
 use Rattle.gc_cycle.proofs.Traced.{nothing-rest}

@@ -1,58 +1,50 @@
--- A mutator's rounds on the way to a cache, one after another, and what each has done before it claims a block or stops the world.
-use Rattle.std.proofs.Common.{ℕ, ◌≡◌, ◌<◌, ◌≤◌, List, [], ◌∷◌, ◌++◌, arith, refl, sym, ap, ◌∙◌, subst, Bool, true, false, not, ◌&&◌, Some, None, Option, is_some, ⊎_elim, inl, inr, zero, suc}
-use Rattle.std.specs.Prelude.{◌==◌, IfNone, IfSome}
+-- A mutator's round on the way to a cache, and what it has done before it claims a block or stops the world.
+use Rattle.std.proofs.Common.{ℕ, ◌≡◌, ◌<◌, ◌≤◌, [], ◌++◌, arith, refl, sym, ap, ◌∙◌, subst, Bool, true, false, ◌&&◌, Some, None, Option, ⊎_elim, inl, inr, zero, suc}
+use Rattle.std.specs.Prelude.{IfNone, IfSome}
 use Rattle.std.specs.Bool.{OnFalse}
-use Rattle.std.specs.Int.Count.{ones}
 use Rattle.std.proofs.Math.Logic.{∥∥₁_elim}
 use Rattle.std.proofs.Props.{props}
-use Rattle.std.proofs.lemmas.Bool.{and_from, and_parts, false≢true, not-true, true≢false}
-use Rattle.std.proofs.lemmas.List.{append_assoc}
-use Rattle.std.proofs.lemmas.Nat.{zero_from_ones}
+use Rattle.std.proofs.lemmas.Bool.{false≢true, not-true, true≢false}
 use Rattle.mark_core.specs.Effects.{seat_after}
 use Rattle.mark_core.specs.Layout.{block_count}
 use Rattle.mark_core.specs.Notes.{steady}
-use Rattle.mark_core.specs.MutatorSteps.{used_bits}
 use Rattle.mark_core.specs.Places.{the_phase}
-use Rattle.mark_core.specs.Seats.{has_making, last_made, phase_number, phase_of, saw}
+use Rattle.mark_core.specs.Seats.{phase_number, phase_of, saw}
 use Rattle.mark_core.specs.declared.kinds.Phase.TheVariants.{Full, Marking}
 use Rattle.mark_core.specs.declared.kinds.Shape.{Shape}
 use Rattle.mark_core.specs.declared.kinds.Step.{Step}
-use Rattle.mark_core.specs.declared.kinds.Step.TheVariants.{AddStat, ClaimBlock, ReadCount, ReadFree, RaiseStep, ReadCat, ReadOwn, ReadPhase, ReadStat, ReleaseBlock, StorePhase}
-use Rattle.mark_core.specs.declared.seat.SeatState.{SeatState}
-use Rattle.gc_table.specs.Log.{all_steps, event, events, Only}
+use Rattle.mark_core.specs.declared.kinds.Step.TheVariants.{AddStat, ClaimBlock, ReadCount, ReadFree, RaiseStep, ReadPhase, ReadStat, ReleaseBlock, StorePhase}
+use Rattle.gc_table.specs.Log.{event, events, Only}
 use Rattle.gc_table.specs.Rule.{IsPossible}
 use Rattle.gc_table.specs.Running.{Known, Ran}
 use Rattle.gc_table.specs.Seats.{Took}
 use Rattle.gc_table.specs.Taking.{after, moves_from}
-use Rattle.gc_table.specs.declared.view.Entry.{Entry}
 use Rattle.gc_table.specs.declared.view.View.{View}
-use Rattle.gc_table.proofs.Log.{events-after, events-none, only-after, only-more, only-none}
+use Rattle.gc_table.proofs.Log.{events-after, only-after, only-more}
 use Rattle.gc_table.proofs.Noticing.{known-here}
-use Rattle.gc_table.proofs.Running.{ran-events, ran-join, ran-only, ran-refl, ran-shape, ran-took}
+use Rattle.gc_table.proofs.Running.{ran-events, ran-join, ran-only, ran-shape, ran-took}
 use Rattle.packet_pools.specs.Seeking.{some_event}
 use Rattle.packet_pools.proofs.Searches.{some-parts}
-use Rattle.alloc_cache.specs.Caching.{cached, IsCached}
-use Rattle.alloc_cache.specs.Claiming.{claimed_by, Claims, NoBlock, seeks_block}
-use Rattle.alloc_cache.specs.declared.cache.Cache.{Cache}
-use Rattle.gc_cycle.specs.Answering.{KeepsOn, StoredAt, TellsFull}
+use Rattle.alloc_cache.specs.Claiming.{NoBlock, seeks_block}
+use Rattle.gc_cycle.specs.Answering.{KeepsOn, TellsFull}
 use Rattle.gc_cycle.specs.declared.counts.Refill.{Refill}
 use Rattle.gc_cycle.specs.declared.counts.Refill.TheVariants as refills
 use Rattle.gc_cycle.specs.Cycles.{fills_with_cause}
 use Rattle.gc_cycle.specs.Mutating.{keeps_section, stays_calm}
 use Rattle.gc_cycle.specs.Pacing.{was_not_due}
 use Rattle.gc_cycle.specs.Polling.{saw_full}
-use Rattle.gc_cycle.specs.Refilling.{EndsClaimed, HasClaimed, IsPaced, IsRound, prepares, SeesEnd, TriesOn}
-use Rattle.gc_cycle.specs.Sorts.{moves_to, raises_flag, reads_phase}
-use Rattle.mark_core.specs.Numbers.{done_count}
-use Rattle.gc_cycle.specs.Sparing.{fills_part, SparesRefill, spares_part}
-use Rattle.gc_cycle.specs.Standing.{is_at_rest, KeepsSeat, KeepsSection, Mutates}
-use Rattle.gc_cycle.specs.Stops.{may_stop, stops_with_cause}
+use Rattle.gc_cycle.specs.Refilling.{IsPaced, IsRound, prepares, SeesEnd, TriesOn}
+use Rattle.gc_cycle.specs.Sorts.{ends_cycle, moves_to, raises_flag, reads_phase}
+use Rattle.gc_cycle.specs.Sparing.{SparesRefill, spares_part}
+use Rattle.gc_cycle.specs.Standing.{Mutates}
+use Rattle.gc_cycle.specs.Stops.{may_stop, may_stop_again, stops_again_with_cause, stops_with_cause}
+use Rattle.gc_cycle.proofs.Again.{again-join, again-stops-join, prepared-unended, quiet-again, unraised-again}
 use Rattle.gc_cycle.proofs.Causes.{caused-stops, done-stops, failed-stops, fills-join, search-failed, stops-join, unfilled, unraised-stops}
 use Rattle.gc_cycle.proofs.Collected.{calm-spares}
 use Rattle.gc_cycle.proofs.Fulls.{found-low, phase-seen}
-use Rattle.gc_cycle.proofs.Goings.{calm-keeps, keeps-seat, keeps-section}
-use Rattle.gc_cycle.proofs.Paced.{cycle-kept, full-kept, paced-later, paced-searched, steady-marking}
-use Rattle.gc_cycle.proofs.Positions.{prepares-inside, stays_inside, stored-more, stored-none}
+use Rattle.gc_cycle.proofs.Goings.{calm-keeps}
+use Rattle.gc_cycle.proofs.Paced.{full-kept, paced-later, steady-marking}
+use Rattle.gc_cycle.proofs.Positions.{prepares-inside, stays_inside}
 use Rattle.gc_cycle.proofs.Sequences.{none-of-steps, some-none}
 
 pub on-false : {P : Type 0} (b : Bool) → P → OnFalse b P
@@ -111,6 +103,7 @@ pub record Leads (v w : View) : Type 0 where
   pub keeps : Only keeps_section v w
   pub spares : Only spares_part v w
   pub calm : some_event raises_flag (events v w) ≡ false
+  pub unended : some_event ends_cycle (events v w) ≡ false
   pub inside : Only stays_inside v w
   pub tells : (u : View) → Ran u v → TellsFull u v → TellsFull u w
 
@@ -121,6 +114,7 @@ leads-prepared v w r o =
       keeps = only-more prepares keeps_section prepares-keep v w o;
       spares = only-more prepares spares_part prepares-spare v w o;
       calm = none-of-steps prepares raises_flag unraised (events v w) o;
+      unended = prepared-unended (events v w) o;
       inside = only-more prepares stays_inside prepares-inside v w o;
       tells =
           λ u q t h.
@@ -139,6 +133,7 @@ leads-looked v w k =
       keeps = only-after keeps_section v w ReadPhase t.0 refl t.1.0;
       spares = only-after spares_part v w ReadPhase t.0 refl t.1.0;
       calm = ap (some_event raises_flag) (events-after v w ReadPhase t.0 t.1.0);
+      unended = ap (some_event ends_cycle) (events-after v w ReadPhase t.0 t.1.0);
       inside = only-after stays_inside v w ReadPhase t.0 refl t.1.0;
       tells = λ u q o h. absurd (true≢false (sym h ∙ (k.going u q o).going));
     }
@@ -150,6 +145,7 @@ leads-join u v w a b =
       keeps = ran-only keeps_section u v w a.ran b.ran a.keeps b.keeps;
       spares = ran-only spares_part u v w a.ran b.ran a.spares b.spares;
       calm = ap (some_event raises_flag) (ran-events u v w a.ran b.ran) ∙ some-none raises_flag (events u v) (events v w) a.calm b.calm;
+      unended = ap (some_event ends_cycle) (ran-events u v w a.ran b.ran) ∙ some-none ends_cycle (events u v) (events v w) a.unended b.unended;
       inside = ran-only stays_inside u v w a.ran b.ran a.inside b.inside;
       tells = λ z q t. b.tells z (ran-join z u v q a.ran) (a.tells z q t);
     }
@@ -157,8 +153,14 @@ leads-join u v w a b =
 unfilled-by : (v w : View) → Only spares_part v w → fills_with_cause v.shape (events v w) ≡ true
 unfilled-by v w o = unfilled v.shape (events v w) (none-of-steps spares_part (moves_to Full) unfull (events v w) o)
 
-shaped-fills : (v w x : View) → Ran v w → fills_with_cause w.shape (events w x) ≡ true → fills_with_cause v.shape (events w x) ≡ true
+pub shaped-fills : (v w x : View) → Ran v w → fills_with_cause w.shape (events w x) ≡ true → fills_with_cause v.shape (events w x) ≡ true
 shaped-fills v w x r h = subst (λ (sh : Shape). fills_with_cause sh (events w x) ≡ true) (ran-shape v w r) h
+
+pub shaped-again : (v w x : View) → Ran v w → stops_again_with_cause w.shape (events w x) ≡ true → stops_again_with_cause v.shape (events w x) ≡ true
+shaped-again v w x r h = subst (λ (sh : Shape). stops_again_with_cause sh (events w x) ≡ true) (ran-shape v w r) h
+
+pub shaped-missed : (v w x : View) → Ran v w → may_stop_again w.shape (events w x) ≡ true → may_stop_again v.shape (events w x) ≡ true
+shaped-missed v w x r h = subst (λ (sh : Shape). may_stop_again sh (events w x) ≡ true) (ran-shape v w r) h
 
 pub spares-refill : (r : Refill) (u v w : View) → Ran u v → Ran v w → Only spares_part u v → SparesRefill r v w → SparesRefill r u w
 spares-refill (refills.Cache h paid) u v w a b o s = ran-only spares_part u v w a b o s
@@ -171,10 +173,14 @@ round-later done u v w o l r =
       ran = ran-join u v w l.ran r.ran;
       only = ran-only keeps_section u v w l.ran r.ran l.keeps r.only;
       fills = ap (fills_with_cause u.shape) (ran-events u v w l.ran r.ran) ∙ fills-join u.shape (events u v) (events v w) (unfilled-by u v l.spares) (shaped-fills u v w l.ran r.fills);
+      again = ap (stops_again_with_cause u.shape) (ran-events u v w l.ran r.ran) ∙ again-stops-join u.shape (events u v) (events v w) (unraised-again u.shape [] (events u v) l.calm) lead (shaped-again u v w l.ran r.again);
       none = none-later o r.none;
       spares = some-later o r.spares;
     }
   where
+    lead : may_stop_again u.shape (events u v) ≡ true
+    lead = quiet-again u.shape (events u v) l.calm l.unended
+
     none-later : (p : Option Refill) → IfNone p (TriesOn done v w) → IfNone p (TriesOn done u w)
     none-later None t =
         record {
@@ -183,12 +189,20 @@ round-later done u v w o l r =
           position = t.position;
           tells = λ z q k. t.tells z (ran-join z u v q l.ran) (l.tells z q k);
           spares = ran-only spares_part u v w l.ran r.ran l.spares t.spares;
+          missed = ap (may_stop_again u.shape) (ran-events u v w l.ran r.ran) ∙ again-join u.shape (events u v) (events v w) lead (shaped-missed u v w l.ran t.missed);
         }
     none-later (Some x) t = tt
 
     some-later : (p : Option Refill) → IfSome p (λ x. SparesRefill x v w) → IfSome p (λ x. SparesRefill x u w)
     some-later None s = tt
     some-later (Some x) s = spares-refill x u v w l.ran r.ran l.spares s
+
+calm-unraised : (step : Step) (n : ℕ) → stays_calm step ≡ true → raises_flag step n ≡ false
+calm-unraised step n e = unraised-by step n e
+  where
+    unraised-by : (s : Step) (m : ℕ) → stays_calm s ≡ true → raises_flag s m ≡ false
+    unraised-by RaiseStep m h = absurd (false≢true h)
+    unraised-by s m h = refl
 
 -- a round that ended with an answer, and calmly
 pub round-calm : (done : ℕ) (v w : View) (r : Refill) → Ran v w → Only stays_calm v w → SparesRefill r v w → IsRound (Some r) done v w
@@ -197,16 +211,10 @@ round-calm done v w r q o s =
       ran = q;
       only = only-more stays_calm keeps_section calm-keeps v w o;
       fills = unfilled-by v w (only-more stays_calm spares_part calm-spares v w o);
+      again = unraised-again v.shape [] (events v w) (none-of-steps stays_calm raises_flag calm-unraised (events v w) o);
       none = tt;
       spares = s;
     }
-
-calm-unraised : (step : Step) (n : ℕ) → stays_calm step ≡ true → raises_flag step n ≡ false
-calm-unraised step n e = unraised-by step n e
-  where
-    unraised-by : (s : Step) (m : ℕ) → stays_calm s ≡ true → raises_flag s m ≡ false
-    unraised-by RaiseStep m h = absurd (false≢true h)
-    unraised-by s m h = refl
 
 pub calm-stops : (sh : Shape) (v w : View) → Only stays_calm v w → stops_with_cause sh (events v w) ≡ true
 calm-stops sh v w o = unraised-stops sh (events v w) (none-of-steps stays_calm raises_flag calm-unraised (events v w) o)
@@ -234,86 +242,6 @@ pub marked-stops : (sh : Shape) (u v w : View) → (t : Took ReadPhase u v) → 
 marked-stops sh u v w t p r s =
     ap (may_stop sh) (ran-events u v w (ran-took u v ReadPhase refl t) r ∙ ap (λ es. es ++ events v w) (events-after u v ReadPhase t.0 t.1.0))
     ∙ done-stops sh (event ReadPhase t.0) (events v w) (ap (λ q. saw (Some q) Marking) p) s.cards s.empty
-
--- a claim that found a block
-
--- a step of the search for a block, or of its claim
-abbrev pub claims_block : Step → Bool
-claims_block (AddStat which by down) = not (which == done_count)
-claims_block step = seeks_block step
-
-pub seeks-claim : (step : Step) → seeks_block step ≡ true → claims_block step ≡ true
-seeks-claim (AddStat which by down) e = absurd (false≢true e)
-seeks-claim step e = e
-
-pub claims-prepare : (step : Step) → claims_block step ≡ true → prepares step ≡ true
-claims-prepare (ClaimBlock b) e = refl
-claims-prepare ReadFree e = refl
-claims-prepare ReleaseBlock e = refl
-claims-prepare (AddStat which by down) e = e
-claims-prepare step e = absurd (false≢true e)
-
-claim-steps : (h : Cache) (first : List Entry) (word count : ℕ) → all_steps seeks_block first ≡ true → all_steps claims_block (first ++ claimed_by h word count) ≡ true
-claim-steps h [] word count o = refl
-claim-steps h (e ∷ es) word count o =
-    let p = and_parts (seeks_block e.step) (all_steps seeks_block es) o in and_from _ _ (seeks-claim e.step p.0) (claim-steps h es word count p.1)
-
-pub claim-only : (h : Cache) (v w : View) → Claims h v w → Only claims_block v w
-claim-only h v w k = let e = k.events_are in ap (all_steps claims_block) e.3 ∙ claim-steps h e.0 e.1 e.2 e.5
-
-pub claims-only : (h : Cache) (v w : View) → Claims h v w → Only prepares v w
-claims-only h v w k = only-more claims_block prepares claims-prepare v w (claim-only h v w k)
-
-pub claims-cached : (h : Cache) (v w : View) → Claims h v w → IsCached h w
-claims-cached h v w k = subst (λ c. c ≡ cached h.block h.cells (used_bits c) (last_made c)) (sym (ap (λ (s : SeatState). s.cache) k.state)) refl
-
-pub with-cache : (sh : Shape) (s : SeatState) (h : Cache) → is_at_rest sh s ≡ true → is_at_rest sh (record s { cache = cached h.block h.cells 0 None }) ≡ true
-with-cache sh s h e = and_from _ true (and_parts _ (not (has_making s.cache)) e).0 refl
-
-pub claims-mutates : (h : Cache) (v w : View) → Mutates v → Ran v w → Claims h v w → Mutates w
-claims-mutates h v w m r k =
-    let e = k.state in
-    record {
-      active = ap (λ (s : SeatState). s.active) e ∙ m.active;
-      unhelping = ap (λ (s : SeatState). s.helping) e ∙ m.unhelping;
-      section = ap (λ (s : SeatState). is_some s.section) e ∙ m.section;
-      rest = ap (λ (sh : Shape). is_at_rest sh w.state) (ran-shape v w r) ∙ (ap (λ (s : SeatState). is_at_rest v.shape s) e ∙ with-cache v.shape v.state h m.rest);
-    }
-
-pub some-ones : (n : ℕ) → 0 < n → 0 < ones n
-some-ones n l = either (ones n) refl
-  where
-    either : (k : ℕ) → ones n ≡ k → 0 < k
-    either zero e = let z = zero_from_ones n e in absurd (omega (arith, l, z))
-    either (suc k) e = omega arith
-
--- the events of earlier calls before those of the claim
-pub claims-end : (h : Cache) (u v w : View) → Ran u v → Ran v w → (k : Claims h v w) → EndsClaimed h (events u v ++ k.events_are.0) u w
-claims-end h u v w r q k =
-    let e = k.events_are in
-    record {
-      word = e.1;
-      count = e.2;
-      all = ran-events u v w r q ∙ (ap (λ es. events u v ++ es) e.3 ∙ sym (append_assoc (events u v) e.0 (claimed_by h e.1 e.2)));
-      free = some-ones h.cells k.some;
-    }
-
-pub claims-claimed : (h : Cache) (done : ℕ) (u v w : View) → v.state.active ≡ true → Ran u v → TellsFull u v → StoredAt done u v → IsPaced (events u v) v → Ran v w → Claims h v w → HasClaimed h done u w
-claims-claimed h done u v w a r t s p q k =
-    let o = claims-only h v w k in
-    let l = leads-prepared v w q o in
-    record {
-      ran = ran-join u v w r q;
-      tells = l.tells u r t;
-      position = stored-more done u v w r q l.inside s;
-      first = events u v ++ k.events_are.0;
-      claimed = claims-end h u v w r q k;
-      paced =
-          ⊎_elim
-          (λ n. inl (paced-searched (events u v) k.events_are.0 k.events_are.5 n))
-          (λ c. inr (cycle-kept v w q o a c))
-          p;
-    }
 
 -- a mutator that reads the phase as Marking knows it
 pub marking-known : (v w : View) (t : Took ReadPhase v w) → w.state.active ≡ true → phase_of t.0 ≡ Marking → Known w the_phase 1
@@ -343,77 +271,6 @@ looked-seen v w t m e = some-same (sym (phase-seen v w t.0 t.1 m) ∙ e)
 pub later-some : {P Q : Refill → Type 0} (o : Option Refill) → ((r : Refill) → P r → Q r) → IfSome o P → IfSome o Q
 later-some None f p = tt
 later-some (Some r) f p = f r p
-
--- the rounds so far
-pub record HasTried (done : ℕ) (u v : View) : Type 0 where
-  pub mutates : Mutates v
-  pub cache : v.state.cache ≡ None
-  pub position : StoredAt done u v
-  pub tells : (z : View) → Ran z u → TellsFull z u → TellsFull z v
-  pub spares : Only spares_part u v
-  pub ran : Ran u v
-  pub only : Only keeps_section u v
-  pub stops : stops_with_cause u.shape (events u v) ≡ true
-  pub fills : fills_with_cause u.shape (events u v) ≡ true
-
-pub tried-none : (done : ℕ) (v : View) → Mutates v → v.state.cache ≡ None → HasTried done v v
-tried-none done v m n =
-    record {
-      mutates = m;
-      cache = n;
-      position = stored-none done v;
-      tells = λ u r t. t;
-      spares = only-none spares_part v;
-      ran = ran-refl v;
-      only = only-none keeps_section v;
-      stops = ap (stops_with_cause v.shape) (events-none v);
-      fills = ap (fills_with_cause v.shape) (events-none v);
-    }
-
-shaped-stops : (v w x : View) → Ran v w → stops_with_cause w.shape (events w x) ≡ true → stops_with_cause v.shape (events w x) ≡ true
-shaped-stops v w x r h = subst (λ (sh : Shape). stops_with_cause sh (events w x) ≡ true) (ran-shape v w r) h
-
--- one round more
-pub tried-more : (done : ℕ) (u v w : View) → HasTried done u v → IsRound None done v w → stops_with_cause v.shape (events v w) ≡ true → HasTried done u w
-tried-more done u v w a r s =
-    record {
-      mutates = r.none.mutates;
-      cache = r.none.cache;
-      position = λ h. r.none.position;
-      tells = λ z q t. r.none.tells z (ran-join z u v q a.ran) (a.tells z q t);
-      spares = ran-only spares_part u v w a.ran r.ran a.spares r.none.spares;
-      ran = ran-join u v w a.ran r.ran;
-      only = ran-only keeps_section u v w a.ran r.ran a.only r.only;
-      stops = ap (stops_with_cause u.shape) (ran-events u v w a.ran r.ran) ∙ stops-join u.shape (events u v) (events v w) a.stops (shaped-stops u v w a.ran s);
-      fills = ap (fills_with_cause u.shape) (ran-events u v w a.ran r.ran) ∙ fills-join u.shape (events u v) (events v w) a.fills (shaped-fills u v w a.ran r.fills);
-    }
-
-keeps-fill : (step : Step) → keeps_section step ≡ true → fills_part step ≡ true
-keeps-fill (ReadOwn c i) e = absurd (false≢true e)
-keeps-fill (ReadCat v) e = absurd (false≢true e)
-keeps-fill step e = e
-
--- what a call of rounds leaves, once one of them has an answer
-pub record Ends (r : Refill) (u w : View) : Type 0 where
-  pub ran : Ran u w
-  pub stops : stops_with_cause u.shape (events u w) ≡ true
-  pub fills : fills_with_cause u.shape (events u w) ≡ true
-  pub keeps : KeepsSeat u w × KeepsSection u w
-  pub only : Only fills_part u w
-  pub spares : SparesRefill r u w
-
-pub ends-round : (r : Refill) (done : ℕ) (u v w : View) → HasTried done u v → IsRound (Some r) done v w → stops_with_cause v.shape (events v w) ≡ true → Ends r u w
-ends-round r done u v w a i s =
-    let ran = ran-join u v w a.ran i.ran in
-    let only = ran-only keeps_section u v w a.ran i.ran a.only i.only in
-    record {
-      ran = ran;
-      stops = ap (stops_with_cause u.shape) (ran-events u v w a.ran i.ran) ∙ stops-join u.shape (events u v) (events v w) a.stops (shaped-stops u v w a.ran s);
-      fills = ap (fills_with_cause u.shape) (ran-events u v w a.ran i.ran) ∙ fills-join u.shape (events u v) (events v w) a.fills (shaped-fills u v w a.ran i.fills);
-      keeps = (keeps-seat u w ran only, keeps-section u w ran only);
-      only = only-more keeps_section fills_part keeps-fill u w only;
-      spares = spares-refill r u v w a.ran i.ran a.spares i.spares;
-    }
 
 -- what was read last is so after whatever was read before
 pub paced-after : (u v w : View) → Ran u v → Ran v w → IsPaced (events v w) w → IsPaced (events u w) w

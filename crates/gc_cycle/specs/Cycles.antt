@@ -4,7 +4,7 @@ use Rattle.mark_core.specs.declared.kinds.Phase.TheVariants.{Idle, Drain, Sweep,
 use Rattle.mark_core.specs.declared.kinds.Shape.{Shape}
 use Rattle.gc_table.specs.declared.view.Entry.{Entry}
 use Rattle.gc_cycle.specs.Events.{followed, since_last, each_after, never}
-use Rattle.gc_cycle.specs.Sorts.{begins_exactly, ends_cycle, moves_to, opens, names, raises_flag, reads_all_ones}
+use Rattle.gc_cycle.specs.Sorts.{begins_exactly, ends_cycle, moves_to, opens, names, raises_flag, reads_all_ones, reads_free_cell}
 use Rattle.gc_cycle.specs.Moments.{Moment, after_moment, at_some_moment}
 use Rattle.mark_core.specs.Layout.{block_count}
 use Rattle.std.specs.List.{list_all, range_with_len}
@@ -40,6 +40,10 @@ lets_help es = opens_in_drain es && opens_in_sweep es
 -- every allocation word was read as all ones
 abbrev pub sees_all_full : Shape → List Entry → Bool
 sees_all_full sh es = list_all (λ b. some_event (reads_all_ones b) es) (range_with_len 0 (block_count sh))
+
+-- some block was read with a free cell
+abbrev pub sees_free_cell : Shape → List Entry → Bool
+sees_free_cell sh es = some_event (reads_free_cell (block_count sh)) es
 
 -- in this stop a precise collection was made, at its end every allocation word was all ones, and the section was named
 abbrev pub may_fill : Shape → List Entry → Bool

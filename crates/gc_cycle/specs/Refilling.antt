@@ -22,14 +22,15 @@ use Rattle.alloc_cache.specs.Claiming.{claimed_by}
 use Rattle.alloc_cache.specs.declared.cache.Cache.{Cache}
 use Rattle.gc_cycle.specs.Answering.{HasCache, StoredAt, TellsFull}
 use Rattle.gc_cycle.specs.Cycles.{fills_with_cause}
-use Rattle.gc_cycle.specs.Events.{never}
+use Rattle.gc_cycle.specs.Events.{never, since_last}
 use Rattle.gc_cycle.specs.Mutating.{keeps_section}
 use Rattle.gc_cycle.specs.Pacing.{was_not_due}
 use Rattle.gc_cycle.specs.Polling.{saw_full}
-use Rattle.gc_cycle.specs.Sorts.{raises_flag, reads_all_ones, sees_all_empty, sees_last_card}
+use Rattle.gc_cycle.specs.Sorts.{ends_cycle, raises_flag, reads_all_ones, sees_all_empty, sees_last_card}
 use Rattle.mark_core.specs.Numbers.{done_count}
 use Rattle.gc_cycle.specs.Sparing.{SparesRefill, spares_part}
 use Rattle.gc_cycle.specs.Standing.{Mutates, is_at_rest}
+use Rattle.gc_cycle.specs.Stops.{may_stop_again, misses_block, stops_again_with_cause}
 use Rattle.gc_cycle.specs.declared.counts.Refill.{Refill}
 
 -- a look at the counter of cards, or at the count of empty packets
@@ -47,6 +48,10 @@ pub record SeesEnd (sh : Shape) (es : List Entry) : Type 0 where
 pub record SeesFull (sh : Shape) (v w : View) : Type 0 where
   pub seen : (b : ℕ) → b < block_count sh → IsTrue (some_event (reads_all_ones b) (events v w))
   pub noted : (b : ℕ) → b < block_count sh → look (alloc_at b) w.known ≡ Some all_ones
+
+-- no block was claimed only where the heap is full, or where since the last cycle ended a block with a free cell was read and a search found none
+abbrev pub HasMissed : Shape → Option Cache → List Entry → View → Type 0
+HasMissed sh o es w = IfNone o (IsTrue (misses_block sh (since_last ends_cycle es)) ⊎ KnowsFull w)
 
 -- a step of a mutator on the way to a block: it reads the numbers that pace a cycle, may begin one, and looks for a block
 abbrev pub prepares : Step → Bool
@@ -90,12 +95,15 @@ pub record TriesOn (done : ℕ) (v w : View) : Type 0 where
   pub position : w.own.position ≡ done
   pub tells : (u : View) → Ran u v → TellsFull u v → TellsFull u w
   pub spares : Only spares_part v w
+  -- where it stopped the world itself, it missed a block with a free cell then
+  pub missed : IsTrue (may_stop_again v.shape (events v w))
 
 -- what a round leaves, whatever its answer
 pub record IsRound (o : Option Refill) (done : ℕ) (v w : View) : Type 0 where
   pub ran : Ran v w
   pub only : Only keeps_section v w
   pub fills : IsTrue (fills_with_cause v.shape (events v w))
+  pub again : IsTrue (stops_again_with_cause v.shape (events v w))
   pub none : IfNone o (TriesOn done v w)
   pub spares : IfSome o (λ r. SparesRefill r v w)
 

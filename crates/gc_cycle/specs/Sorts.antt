@@ -155,6 +155,11 @@ abbrev pub reads_all_ones : ℕ → Step → ℕ → Bool
 reads_all_ones b (ReadAlloc block) found = (block == b) && (found == all_ones)
 reads_all_ones b step found = false
 
+-- the allocation bits of a block below this number were read, and not all were set: it has a free cell
+abbrev pub reads_free_cell : ℕ → Step → ℕ → Bool
+reads_free_cell blocks (ReadAlloc b) found = nat_lt b blocks && not (found == all_ones)
+reads_free_cell blocks step found = false
+
 -- the section was named, before it finds the heap full
 abbrev pub names : Step → ℕ → Bool
 names StoreNamed found = true

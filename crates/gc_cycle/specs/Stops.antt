@@ -7,8 +7,9 @@ use Rattle.mark_core.specs.declared.kinds.Shape.{Shape}
 use Rattle.gc_table.specs.declared.view.Entry.{Entry}
 use Rattle.packet_pools.specs.Seeking.{some_event}
 use Rattle.alloc_cache.specs.Claiming.{seeks_block, seen_taken}
-use Rattle.gc_cycle.specs.Events.{front, each_after}
-use Rattle.gc_cycle.specs.Sorts.{raises_flag, reads_phase, sees_last_card, sees_all_empty, makes}
+use Rattle.gc_cycle.specs.Cycles.{sees_free_cell}
+use Rattle.gc_cycle.specs.Events.{front, each_after, never, since_last}
+use Rattle.gc_cycle.specs.Sorts.{ends_cycle, raises_flag, reads_phase, sees_last_card, sees_all_empty, makes}
 
 -- each block was seen claimed, or was got and seen with all allocation bits set
 abbrev pub no_block : Shape → List Entry → Bool
@@ -32,6 +33,18 @@ may_stop sh es = claim_failed sh es || marking_done sh es
 -- the flag was raised only where the events of the call before gave cause
 abbrev pub stops_with_cause : Shape → List Entry → Bool
 stops_with_cause sh es = each_after (may_stop sh) raises_flag [] es
+
+-- a block with a free cell was read, and a search for a block found none
+abbrev pub misses_block : Shape → List Entry → Bool
+misses_block sh es = sees_free_cell sh es && claim_failed sh es
+
+-- these events neither stopped the world nor ended a cycle, or a block was missed so since the last cycle ended
+abbrev pub may_stop_again : Shape → List Entry → Bool
+may_stop_again sh es = (never raises_flag es && never ends_cycle es) || misses_block sh (since_last ends_cycle es)
+
+-- after a stop of the same call the flag was raised again only so
+abbrev pub stops_again_with_cause : Shape → List Entry → Bool
+stops_again_with_cause sh es = each_after (may_stop_again sh) raises_flag [] es
 
 -- how often the flag was raised where the events since the last store into a new cell gave no cause; `since` are those before the list
 abbrev pub stops_without_cause : Shape → List Entry → List Entry → ℕ

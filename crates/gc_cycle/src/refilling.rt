@@ -1,5 +1,5 @@
 //! A cache for a mutator, and its tracing increment.
-ghost use Rattle.std.specs.Prelude.{ℕ, ◌≡◌, [], List, None, Some, IfSome, IsTrue};
+ghost use Rattle.std.specs.Prelude.{ℕ, ◌≡◌, [], ◌++◌, List, None, Some, IfSome, IsTrue};
 ghost use Rattle.std.specs.Bool.{OnFalse, OnTrue};
 ghost use Rattle.mark_core.specs.Places.{the_phase};
 ghost use Rattle.mark_core.specs.declared.kinds.Phase.TheVariants.{Full, Idle, Marking};
@@ -12,16 +12,16 @@ ghost use Rattle.gc_table.specs.declared.view.View.{View};
 ghost use Rattle.alloc_cache.specs.Caching.{IsCached};
 ghost use Rattle.gc_cycle.specs.Answering.{RefillsTo, StoredAt, TellsFull};
 ghost use Rattle.gc_cycle.specs.Collecting.{HoldsWorld};
-ghost use Rattle.gc_cycle.specs.Cycles.{collects, fills_with_cause, may_fill};
+ghost use Rattle.gc_cycle.specs.Cycles.{collects, fills_with_cause, may_fill, sees_free_cell};
 ghost use Rattle.gc_cycle.specs.Events.{each_after};
 ghost use Rattle.gc_cycle.specs.Finishing.{IsAloneIn, IsPart};
 ghost use Rattle.gc_cycle.specs.Mutating.{stays_calm};
 ghost use Rattle.gc_cycle.specs.Paying.{IsFree};
-ghost use Rattle.gc_cycle.specs.Refilling.{ClaimsAlone, HasClaimed, IsPaced, IsRound, RestsAlone, SeesEnd, SeesFull, looks_for_end, prepares};
+ghost use Rattle.gc_cycle.specs.Refilling.{ClaimsAlone, HasClaimed, HasMissed, IsPaced, IsRound, RestsAlone, SeesEnd, SeesFull, looks_for_end, prepares};
 ghost use Rattle.gc_cycle.specs.Sorts.{moves_to};
 ghost use Rattle.gc_cycle.specs.Sparing.{SparesRefill, fills_part};
 ghost use Rattle.gc_cycle.specs.Standing.{KeepsSeat, KeepsSection, Mutates};
-ghost use Rattle.gc_cycle.specs.Stops.{stops_with_cause};
+ghost use Rattle.gc_cycle.specs.Stops.{stops_again_with_cause, stops_with_cause};
 
 use crate::collecting::{ends_full, go_on};
 use crate::counts::{Paid, Refill, Safe};
@@ -53,8 +53,8 @@ impl Paid {
 /// A cache for a mutator without one, that has done `done` commands. While a cycle is marking, the mutator pays for it: it marks its roots, and traces
 /// a quota of objects.
 ///
-/// The world is stopped only where no block has a free cell, or marking is done. Full comes only where the phase says so; this call says it only after
-/// a precise collection in its own stop that left no cell free.
+/// The world is stopped only where no block has a free cell, or marking is done, and once more only where a collection left a cell free. Full comes only
+/// where the phase says so; this call says it only after a precise collection in its own stop that left no cell free.
 pub fn refill<R: Wait>(rt: &R, heap: &Heap, seat: &mut HeapSeat, done: u32) -> Refill
     requires seat { Sits heap.now seat.old × Mutates (view_of seat.old) }
     requires cache { (view_of seat.old).state.cache ≡ None }
@@ -62,6 +62,7 @@ pub fn refill<R: Wait>(rt: &R, heap: &Heap, seat: &mut HeapSeat, done: u32) -> R
     ensures ran { Ran (view_of seat.old) (view_of seat.new) }
     ensures refills { RefillsTo result done (view_of seat.old) (view_of seat.new) }
     ensures stops { IsTrue (stops_with_cause heap.now.shape (events (view_of seat.old) (view_of seat.new))) }
+    ensures again { IsTrue (stops_again_with_cause heap.now.shape (events (view_of seat.old) (view_of seat.new))) }
     ensures fills { IsTrue (fills_with_cause heap.now.shape (events (view_of seat.old) (view_of seat.new))) }
     ensures keeps { KeepsSeat (view_of seat.old) (view_of seat.new) × KeepsSection (view_of seat.old) (view_of seat.new) }
     ensures only { Only fills_part (view_of seat.old) (view_of seat.new) }
@@ -203,6 +204,7 @@ fn claim_in_stop<R: Wait>(rt: &R, heap: &Heap, seat: &mut HeapSeat) -> Option<Ca
     ensures seat { Sits heap.now seat.new }
     ensures claims { ClaimsAlone result (view_of seat.old) (view_of seat.new) }
     ensures full { KnowsFull (view_of seat.old) → KnowsFull (view_of seat.new) }
+    ensures missed { HasMissed heap.now.shape result (events (view_of seat.old) (view_of seat.new)) (view_of seat.new) }
     ensures fills { IsTrue (each_after (may_fill heap.now.shape) (moves_to Full) [] (events (view_of seat.old) (view_of seat.new))) }
 {
     match seat.state().phase_seen {
@@ -224,6 +226,7 @@ fn claim_or_collect<R: Wait>(rt: &R, heap: &Heap, seat: &mut HeapSeat) -> Option
     requires alone { IsAloneIn Idle (view_of seat.old) × RestsAlone (view_of seat.old) }
     ensures seat { Sits heap.now seat.new }
     ensures claims { ClaimsAlone result (view_of seat.old) (view_of seat.new) }
+    ensures missed { HasMissed heap.now.shape result (events (view_of seat.old) (view_of seat.new)) (view_of seat.new) }
     ensures fills { IsTrue (each_after (may_fill heap.now.shape) (moves_to Full) [] (events (view_of seat.old) (view_of seat.new))) }
 {
     if let Some(cache) = claim(heap, seat) {
@@ -240,6 +243,7 @@ fn claim_or_fill(heap: &Heap, seat: &mut HeapSeat) -> Option<Cache>
     requires exact { IsTrue (view_of seat.old).state.exact }
     ensures seat { Sits heap.now seat.new }
     ensures claims { ClaimsAlone result (view_of seat.old) (view_of seat.new) }
+    ensures missed { (before : List Entry) → IsTrue (collects before) → HasMissed heap.now.shape result (before ++ events (view_of seat.old) (view_of seat.new)) (view_of seat.new) }
     ensures fills { (before : List Entry) → IsTrue (collects before) → IsTrue (each_after (may_fill heap.now.shape) (moves_to Full) before (events (view_of seat.old) (view_of seat.new))) }
 {
     if all_allocated(heap, seat) {
@@ -257,6 +261,7 @@ fn all_allocated(heap: &Heap, seat: &mut HeapSeat) -> bool
     ensures seat { Sits heap.now seat.new }
     ensures part { IsPart Idle (view_of seat.old) (view_of seat.new) }
     ensures full { IsTrue result → SeesFull heap.now.shape (view_of seat.old) (view_of seat.new) }
+    ensures free { OnFalse result (IsTrue (sees_free_cell heap.now.shape (events (view_of seat.old) (view_of seat.new)))) }
 {
     for b in 0..heap.shape().cells / 64 {
         if heap.read_alloc(seat, b) != u64::MAX {

@@ -1,5 +1,5 @@
-use Rattle.std.proofs.Common.{◌≡◌, arith, refl, ap, ◌∙◌, subst, false, below_more, eq-eqb}
-use Rattle.std.proofs.lemmas.Bool.{and_from, or_left}
+use Rattle.std.proofs.Common.{ℕ, ◌≡◌, ◌<◌, arith, refl, ap, ◌∙◌, subst, true, false, not, below_more, eq-eqb}
+use Rattle.std.proofs.lemmas.Bool.{and_from, lt-ltb, ne_eqb, or_left}
 use Rattle.mark_core.specs.Bits.{all_ones}
 use Rattle.mark_core.specs.Layout.{block_count}
 use Rattle.mark_core.specs.Places.{alloc_at}
@@ -14,7 +14,7 @@ use Rattle.gc_table.proofs.Log.{events-after}
 use Rattle.gc_table.proofs.Running.{ran-events}
 use Rattle.packet_pools.specs.Seeking.{some_event}
 use Rattle.packet_pools.proofs.Searches.{some-left, some-right}
-use Rattle.gc_cycle.specs.Sorts.{reads_all_ones}
+use Rattle.gc_cycle.specs.Sorts.{reads_all_ones, reads_free_cell}
 use Rattle.gc_cycle.proofs.Parts.{part-join}
 use Rattle.gc_cycle.proofs.Sets.{part-read, read-here, read-kept}
 use Rattle.gc_cycle.proofs.refilling.all_allocated.Goals as goal
@@ -51,6 +51,23 @@ returns-then-read_alloc-clause-part c =
     let w : View = view_of c.read_alloc.new.seat in
     let i = c.loop-b.invariant in
     part-join Idle u v w i.part (part-read v w c.loop-b.b c.read_alloc.result c.read_alloc.ensures.view i.part.alone)
+
+pub returns-then-read_alloc-clause-free : goal.returns-then-read_alloc-clause-free
+returns-then-read_alloc-clause-free c =
+    let u : View = view_of c.args.seat.now in
+    let v : View = view_of c.loop-b.seat in
+    let w : View = view_of c.read_alloc.new.seat in
+    let i = c.loop-b.invariant in
+    let b = c.loop-b.b in
+    let n = c.read_alloc.result in
+    let f = c.read_alloc.ensures.view in
+    let blocks : ℕ = block_count c.args.heap.now.shape in
+    let far = c.loop-b-test.true in
+    let all = ap (λ (s : Shape). block_count s) c.shape-b-end.ensures in
+    let low : b < blocks = omega (arith, far, all) in
+    let here : reads_free_cell blocks (ReadAlloc b) n ≡ true = and_from _ _ (lt-ltb b blocks low) (ap not (ne_eqb n all_ones c.if-read_alloc.true)) in
+    ap (some_event (reads_free_cell blocks)) (ran-events u v w i.part.ran (part-read v w b n f i.part.alone).ran)
+    ∙ some-right (reads_free_cell blocks) (events u v) (events v w) (ap (some_event (reads_free_cell blocks)) (events-after v w (ReadAlloc b) n f.0) ∙ or_left _ false here)
 
 pub returns-clause-full : goal.returns-clause-full
 returns-clause-full c = λ h.

@@ -1,10 +1,14 @@
-use Rattle.std.proofs.Common.{refl, sym, ap, ◌∙◌, Some}
+use Rattle.std.proofs.Common.{refl, sym, ap, ◌∙◌, subst, Some, inr}
+use Rattle.mark_core.specs.declared.kinds.Shape.{Shape}
 use Rattle.mark_core.specs.declared.seat.SeatState.{SeatState}
 use Rattle.gc_table.specs.Log.{events}
 use Rattle.gc_table.specs.Seats.{view_of}
 use Rattle.gc_table.specs.declared.view.View.{View}
+use Rattle.gc_table.proofs.Running.{ran-events}
+use Rattle.gc_cycle.specs.Refilling.{HasMissed}
+use Rattle.gc_cycle.proofs.Again.{none-later}
 use Rattle.gc_cycle.specs.Moments.{begins}
-use Rattle.gc_cycle.proofs.Collected.{exactly-collects}
+use Rattle.gc_cycle.proofs.Collected.{exactly-collects, full-alone}
 use Rattle.gc_cycle.proofs.InStop.{claims-later, claims-none, fills-caused, fills-own, quiet-finish, rests-held, rests-later}
 use Rattle.gc_cycle.proofs.refilling.claim_in_stop.Goals as goal
 
@@ -24,6 +28,30 @@ pub returns-in-Some-Full-clause-claims : goal.returns-in-Some-Full-clause-claims
 returns-in-Some-Full-clause-claims g c =
     let is = rw c.in-Some-Full.is at c.in-Some-Full.field-0-is in
     claims-none (view_of c.args.seat.now) c.requires.stopped (ap (λ (s : SeatState). s.phase_seen) (sym c.state.ensures) ∙ (c.in-Some-Full.is ∙ ap Some is))
+
+pub returns-in-Some-Full-clause-missed : goal.returns-in-Some-Full-clause-missed
+returns-in-Some-Full-clause-missed g c =
+    let is = rw c.in-Some-Full.is at c.in-Some-Full.field-0-is in
+    inr (full-alone (view_of c.args.seat.now) c.requires.stopped (ap (λ (s : SeatState). s.phase_seen) (sym c.state.ensures) ∙ (c.in-Some-Full.is ∙ ap Some is))).phase
+
+pub returns-in-Some-Marking-clause-missed : goal.returns-in-Some-Marking-clause-missed
+returns-in-Some-Marking-clause-missed g c =
+    let u : View = view_of c.args.seat.now in
+    let v : View = view_of c.finish_cycle.new.seat in
+    let w : View = view_of c.claim_or_collect.new.seat in
+    let sh : Shape = c.args.heap.now.shape in
+    let e = c.claim_or_collect.ensures in
+    subst (λ es. HasMissed sh c.claim_or_collect.result es w) (sym (ran-events u v w c.finish_cycle.ensures.ran e.claims.ran)) (none-later sh c.claim_or_collect.result (events u v) (events v w) w e.missed)
+
+pub returns-in_default-clause-missed : goal.returns-in_default-clause-missed
+returns-in_default-clause-missed g c =
+    let u : View = view_of c.args.seat.now in
+    let v : View = view_of c.precise.new.seat in
+    let w : View = view_of c.claim_or_fill.new.seat in
+    let sh : Shape = c.args.heap.now.shape in
+    let p = c.precise.ensures in
+    let e = c.claim_or_fill.ensures in
+    subst (λ es. HasMissed sh c.claim_or_fill.result es w) (sym (ran-events u v w p.ran e.claims.ran)) (e.missed (events u v) (exactly-collects sh (begins u) (events u v) p.collects))
 
 pub returns-in-Some-Marking-clause-claims : goal.returns-in-Some-Marking-clause-claims
 returns-in-Some-Marking-clause-claims g c =

@@ -1,17 +1,22 @@
-use Rattle.std.proofs.Common.{[], None, Some, inl, ap, ◌≡◌, ◌∙◌, true}
+use Rattle.std.proofs.Common.{[], None, Some, inl, ap, ◌≡◌, ◌∙◌, true, sym, subst}
 use Rattle.mark_core.specs.declared.kinds.Shape.{Shape}
 use Rattle.mark_core.specs.declared.seat.SeatState.{SeatState}
 use Rattle.gc_table.specs.Log.{events}
 use Rattle.gc_table.specs.Seats.{view_of}
 use Rattle.gc_table.specs.declared.view.View.{View}
-use Rattle.gc_table.proofs.Running.{ran-events}
-use Rattle.gc_cycle.specs.Cycles.{collects}
+use Rattle.gc_table.specs.Running.{Ran}
+use Rattle.gc_table.proofs.Running.{ran-events, ran-join}
+use Rattle.gc_cycle.specs.Cycles.{collects, collects_exactly}
 use Rattle.gc_cycle.specs.Moments.{begins}
+use Rattle.gc_cycle.specs.Refilling.{HasMissed}
 use Rattle.gc_cycle.specs.Sorts.{begins_exactly, ends_cycle}
 use Rattle.gc_cycle.proofs.Collected.{exactly-collects}
 use Rattle.gc_cycle.proofs.InStop.{alone-same, claims-alone, claims-later, fills-caused, quiet-claim, quiet-finish, quiet-join, rests-later, unfills}
 use Rattle.gc_cycle.proofs.Sequences.{followed-later}
 use Rattle.gc_cycle.proofs.refilling.claim_or_collect.Goals as goal
+
+collected-after : (sh : Shape) (u v w : View) → Ran u v → Ran v w → collects_exactly sh (begins v) (events v w) ≡ true → collects (events u w) ≡ true
+collected-after sh u v w r q c = ap collects (ran-events u v w r q) ∙ followed-later begins_exactly ends_cycle (events u v) (events v w) (exactly-collects sh (begins v) (events v w) c)
 
 pub returns-in-Some-clause-claims : goal.returns-in-Some-clause-claims
 returns-in-Some-clause-claims g c =
@@ -40,6 +45,17 @@ returns-clause-claims g c =
     (quiet-join u v w (quiet-claim None c.args.heap.now.shape u v c.claim.ensures.ran tt c.in_default.ensures.none) (quiet-finish v w p.ran p.only p.spares p.going))
     c.claim_or_fill.ensures.claims
 
+pub returns-clause-missed : goal.returns-clause-missed
+returns-clause-missed g c =
+    let u : View = view_of c.args.seat.now in
+    let v : View = view_of c.claim.new.seat in
+    let w : View = view_of c.precise.new.seat in
+    let x : View = view_of c.claim_or_fill.new.seat in
+    let sh : Shape = c.args.heap.now.shape in
+    let p = c.precise.ensures in
+    let f = c.claim_or_fill.ensures in
+    subst (λ es. HasMissed sh c.claim_or_fill.result es x) (sym (ran-events u w x (ran-join u v w c.claim.ensures.ran p.ran) f.claims.ran)) (f.missed (events u w) (collected-after sh u v w c.claim.ensures.ran p.ran p.collects))
+
 pub returns-clause-fills : goal.returns-clause-fills
 returns-clause-fills g c =
     let u : View = view_of c.args.seat.now in
@@ -48,8 +64,6 @@ returns-clause-fills g c =
     let sh : Shape = c.args.heap.now.shape in
     let p = c.precise.ensures in
     let f = c.claim_or_fill.ensures in
-    let collected : collects (events u w) ≡ true =
-    ap collects (ran-events u v w c.claim.ensures.ran p.ran) ∙ followed-later begins_exactly ends_cycle (events u v) (events v w) (exactly-collects sh (begins v) (events v w) p.collects) in
     fills-caused sh u w (view_of c.claim_or_fill.new.seat)
     (quiet-join u v w (quiet-claim None sh u v c.claim.ensures.ran tt c.in_default.ensures.none) (quiet-finish v w p.ran p.only p.spares p.going))
-    f.claims.ran (f.fills (events u w) collected)
+    f.claims.ran (f.fills (events u w) (collected-after sh u v w c.claim.ensures.ran p.ran p.collects))

@@ -1,4 +1,4 @@
-use Rattle.std.proofs.Common.{◌<◌, refl, ap, ◌∙◌, subst}
+use Rattle.std.proofs.Common.{◌<◌, refl, ap, ◌∙◌, subst, inr}
 use Rattle.std.specs.Prelude.{is_some}
 use Rattle.mark_core.specs.Layout.{block_count}
 use Rattle.mark_core.specs.declared.kinds.Phase.TheVariants.{Idle}
@@ -7,9 +7,10 @@ use Rattle.gc_table.specs.Seats.{view_of}
 use Rattle.gc_table.specs.declared.view.View.{View}
 use Rattle.gc_table.proofs.Running.{ran-section}
 use Rattle.gc_cycle.proofs.Completing.{part-exact}
-use Rattle.gc_cycle.proofs.Filling.{full-claims, full-fills, may-fill, may-name, named-asked, named-kept, named-part}
+use Rattle.gc_cycle.proofs.Filling.{full-claims, full-fills, full-told, looked-missed, may-fill, may-name, named-asked, named-kept, named-part}
 use Rattle.gc_cycle.proofs.InStop.{claims-alone, claims-later, may-claim, quiet-claim, quiet-join, quiet-part, rests-later, unfills}
 use Rattle.gc_cycle.proofs.Parts.{part-finishes}
+use Rattle.gc_cycle.proofs.Rounds.{some-blocks}
 use Rattle.gc_cycle.proofs.refilling.claim_or_fill.Goals as goal
 
 pub store_named-requires-clause-may : goal.store_named-requires-clause-may
@@ -47,6 +48,11 @@ returns-then-all_allocated-clause-fills c = λ before h.
     let t = c.store_phase.ensures.view in
     full-fills c.args.heap.now.shape (view_of c.args.seat.now) (view_of c.all_allocated.new.seat) (view_of c.store_named.new.seat) (view_of c.store_phase.new.seat) t.0 c.all_allocated.ensures.part (c.if-all_allocated.ensures.full refl) c.store_named.ensures.view t.1 t.2 before h
 
+pub returns-then-all_allocated-clause-missed : goal.returns-then-all_allocated-clause-missed
+returns-then-all_allocated-clause-missed c = λ before h.
+    let t = c.store_phase.ensures.view in
+    inr (full-told (view_of c.args.seat.now) (view_of c.all_allocated.new.seat) (view_of c.store_named.new.seat) (view_of c.store_phase.new.seat) t.0 c.all_allocated.ensures.part c.store_named.ensures.view t.1 t.2)
+
 pub claim-requires : goal.claim-requires
 claim-requires c =
     let u : View = view_of c.args.seat.now in
@@ -63,6 +69,12 @@ returns-clause-claims c =
     let e = c.claim.ensures in
     claims-later c.claim.result u v w (quiet-part Idle u v p)
     (claims-alone c.claim.result c.args.heap.now.shape v w p.alone (rests-later u v p.ran (part-finishes Idle u v p) u refl refl c.requires.alone.1) e.ran e.some e.none)
+
+pub returns-clause-missed : goal.returns-clause-missed
+returns-clause-missed c = λ before h.
+    let e = c.claim.ensures in
+    let some : 0 < block_count c.args.heap.now.shape = subst (λ (s : Shape). 0 < block_count s) c.requires.seat.1 (some-blocks (view_of c.args.seat.now) c.args.seat.now.possible) in
+    looked-missed c.args.heap.now.shape c.claim.result (view_of c.args.seat.now) (view_of c.all_allocated.new.seat) (view_of c.claim.new.seat) some c.all_allocated.ensures.part c.if-all_allocated.ensures.free e.ran e.none before h
 
 pub returns-clause-fills : goal.returns-clause-fills
 returns-clause-fills c = λ before h.

@@ -9,7 +9,8 @@ use Rattle.alloc_cache.specs.Claiming.{seeks_block}
 use Rattle.gc_cycle.specs.Refilling.{prepares}
 use Rattle.gc_cycle.proofs.Paced.{seeks-prepare}
 use Rattle.gc_cycle.proofs.Positions.{stored-more}
-use Rattle.gc_cycle.proofs.Rounds.{calm-stops, claims-cached, claims-claimed, claims-only, leads-caused, leads-prepared, leads-stops, later-some, round-calm, round-later, searched-stops, some-blocks}
+use Rattle.gc_cycle.proofs.Claimed.{claims-cached, claims-claimed, claims-only}
+use Rattle.gc_cycle.proofs.Rounds.{calm-stops, leads-caused, leads-prepared, leads-stops, later-some, round-calm, round-later, searched-stops, some-blocks}
 use Rattle.gc_cycle.proofs.refilling.claim_or_stop.Goals as goal
 
 pub returns-in-None-clause-round : goal.returns-in-None-clause-round

@@ -3,11 +3,11 @@ use Rattle.gc_table.specs.declared.view.View.{View}
 use Rattle.mark_core.specs.declared.kinds.Shape.{Shape}
 use Rattle.gc_table.specs.Log.{events}
 use Rattle.gc_cycle.specs.Cycles.{fills_with_cause}
-use Rattle.gc_cycle.specs.Stops.{stops_with_cause}
+use Rattle.gc_cycle.specs.Stops.{stops_again_with_cause, stops_with_cause}
 use Rattle.std.proofs.Common.{sym, subst, true, ◌≡◌}
 use Rattle.gc_table.proofs.Running.{ran-refl}
 use Rattle.gc_cycle.proofs.Fulls.{tells-none}
-use Rattle.gc_cycle.proofs.Rounds.{ends-round, tried-more, tried-none}
+use Rattle.gc_cycle.proofs.Tried.{ends-round, tried-more, tried-none}
 use Rattle.gc_cycle.proofs.refilling.refill.Goals as goal
 
 pub loop-init : goal.loop-init
@@ -36,6 +36,15 @@ returns-in-Some-refill_once-clause-stops g c =
     let e = c.in-Some-refill_once.ensures in
     let d = ends-round _ c.args.done u v w c.loop.invariant.tried e.round (subst (λ (sh : Shape). stops_with_cause sh (events v w) ≡ true) (sym c.loop.invariant.sits.1) e.stops) in
     subst (λ (sh : Shape). stops_with_cause sh (events u w) ≡ true) c.requires.seat.0.1 d.stops
+
+pub returns-in-Some-refill_once-clause-again : goal.returns-in-Some-refill_once-clause-again
+returns-in-Some-refill_once-clause-again g c =
+    let u : View = view_of c.args.seat.now in
+    let v : View = view_of c.loop.seat in
+    let w : View = view_of c.refill_once.new.seat in
+    let e = c.in-Some-refill_once.ensures in
+    let d = ends-round _ c.args.done u v w c.loop.invariant.tried e.round (subst (λ (sh : Shape). stops_with_cause sh (events v w) ≡ true) (sym c.loop.invariant.sits.1) e.stops) in
+    subst (λ (sh : Shape). stops_again_with_cause sh (events u w) ≡ true) c.requires.seat.0.1 d.again
 
 pub returns-in-Some-refill_once-clause-fills : goal.returns-in-Some-refill_once-clause-fills
 returns-in-Some-refill_once-clause-fills g c =

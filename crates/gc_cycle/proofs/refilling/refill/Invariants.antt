@@ -1,5 +1,5 @@
 use Rattle.gc_table.specs.Seats.{Sits, view_of}
-use Rattle.gc_cycle.proofs.Rounds.{HasTried}
+use Rattle.gc_cycle.proofs.Tried.{HasTried}
 use Rattle.gc_cycle.proofs.refilling.refill.Given as goal
 
 abbrev pub invariant-loop : goal.invariant-loop

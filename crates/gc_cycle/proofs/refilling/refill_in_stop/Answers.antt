@@ -1,3 +1,5 @@
+use Rattle.std.proofs.Common.{◌∙◌, ap, Bool}
+use Rattle.std.specs.Prelude.{if◌then◌else◌}
 use Rattle.gc_table.specs.Seats.{view_of}
 use Rattle.gc_table.specs.declared.view.View.{View}
 use Rattle.gc_cycle.proofs.AfterStop.{done-resuming, round-cache, round-full, round-gets, round-none, round-theirs, to-drop}
@@ -5,7 +7,7 @@ use Rattle.gc_cycle.proofs.Answered.{full-later}
 use Rattle.gc_cycle.proofs.refilling.refill_in_stop.Goals as goal
 
 pub returns-then-not-stop-clause-round : goal.returns-then-not-stop-clause-round
-returns-then-not-stop-clause-round g c = round-theirs c.args.done (view_of c.args.seat.now) (view_of c.stop.new.seat) c.stop.ensures.tries c.stop.ensures.position c.if-not-stop.ensures.theirs
+returns-then-not-stop-clause-round g c = round-theirs c.args.done (view_of c.args.seat.now) (view_of c.stop.new.seat) c.stop.ensures.tries c.stop.ensures.position (c.stop.ensures.raises ∙ ap (λ (b : Bool). if b then 1 else 0) c.if-not-stop.true) c.if-not-stop.ensures.theirs
 
 pub resume-requires-clause-done : goal.resume-requires-clause-done
 resume-requires-clause-done g c = done-resuming (view_of c.claim_in_stop-cache.new.seat) c.claim_in_stop-cache.ensures.claims.resume
@@ -19,10 +21,11 @@ returns-in-Full-clause-round g c =
     let y : View = view_of c.go_on.new.seat in
     let o = c.claim_in_stop-cache.result in
     let t = c.stop.ensures.tries in
+    let once = c.stop.ensures.raises ∙ ap (λ (b : Bool). if b then 1 else 0) c.if-not-stop.false in
     let i = c.claim_in_stop-cache.ensures in
     let d = c.resume.ensures.step in
     let e = c.go_on.ensures in
-    round-full o u v w x y t i.claims d e.ran e.only c.args.done c.args.heap.now.shape c.requires.seat.0.1 c.if-not-stop.ensures.yours.raised i.fills c.in-Full.ensures.answer.1
+    round-full o u v w x y t once i.claims d e.ran e.only c.args.done c.args.heap.now.shape c.requires.seat.0.1 c.if-not-stop.ensures.yours.raised i.fills c.in-Full.ensures.answer.1
 
 pub returns-in-Full-clause-some : goal.returns-in-Full-clause-some
 returns-in-Full-clause-some g c =
@@ -33,10 +36,11 @@ returns-in-Full-clause-some g c =
     let y : View = view_of c.go_on.new.seat in
     let o = c.claim_in_stop-cache.result in
     let t = c.stop.ensures.tries in
+    let once = c.stop.ensures.raises ∙ ap (λ (b : Bool). if b then 1 else 0) c.if-not-stop.false in
     let i = c.claim_in_stop-cache.ensures in
     let d = c.resume.ensures.step in
     let e = c.go_on.ensures in
-    λ z r k s. full-later c.args.done z x y (to-drop o u v w x y t i.claims d e.ran e.only z r) e.ran c.in-Full.ensures.answer.0
+    λ z r k s. full-later c.args.done z x y (to-drop o u v w x y t once i.claims d e.ran e.only z r) e.ran c.in-Full.ensures.answer.0
 
 pub returns-in-Going-Some-clause-round : goal.returns-in-Going-Some-clause-round
 returns-in-Going-Some-clause-round g c =
@@ -47,11 +51,12 @@ returns-in-Going-Some-clause-round g c =
     let y : View = view_of c.go_on.new.seat in
     let o = c.claim_in_stop-cache.result in
     let t = c.stop.ensures.tries in
+    let once = c.stop.ensures.raises ∙ ap (λ (b : Bool). if b then 1 else 0) c.if-not-stop.false in
     let i = c.claim_in_stop-cache.ensures in
     let d = c.resume.ensures.step in
     let e = c.go_on.ensures in
     let k = rw c.in-Going-Some.field-0-is at c.in-Going-Some.ensures.answer in
-    round-cache o u v w x y t i.claims d e.ran e.only c.args.done c.args.heap.now.shape c.requires.seat.0.1 c.if-not-stop.ensures.yours.raised i.fills c.in-Going-Some.cache c.nothing.result k
+    round-cache o u v w x y t once i.claims d e.ran e.only c.args.done c.args.heap.now.shape c.requires.seat.0.1 c.if-not-stop.ensures.yours.raised i.fills c.in-Going-Some.cache c.nothing.result k
 
 pub returns-in-Going-Some-clause-some : goal.returns-in-Going-Some-clause-some
 returns-in-Going-Some-clause-some g c =
@@ -62,11 +67,12 @@ returns-in-Going-Some-clause-some g c =
     let y : View = view_of c.go_on.new.seat in
     let o = c.claim_in_stop-cache.result in
     let t = c.stop.ensures.tries in
+    let once = c.stop.ensures.raises ∙ ap (λ (b : Bool). if b then 1 else 0) c.if-not-stop.false in
     let i = c.claim_in_stop-cache.ensures in
     let d = c.resume.ensures.step in
     let e = c.go_on.ensures in
     let k = rw c.in-Going-Some.field-0-is at c.in-Going-Some.ensures.answer in
-    λ z r b s. round-gets o u v w x y t i.claims d e.ran e.only c.args.done z c.stop.ensures.position i.full r b c.in-Going-Some.cache c.nothing.result c.nothing.ensures k
+    λ z r b s. round-gets o u v w x y t once i.claims d e.ran e.only c.args.done z c.stop.ensures.position i.full r b c.in-Going-Some.cache c.nothing.result c.nothing.ensures k
 
 pub returns-in-Going-None-clause-round : goal.returns-in-Going-None-clause-round
 returns-in-Going-None-clause-round g c =
@@ -77,8 +83,9 @@ returns-in-Going-None-clause-round g c =
     let y : View = view_of c.go_on.new.seat in
     let o = c.claim_in_stop-cache.result in
     let t = c.stop.ensures.tries in
+    let once = c.stop.ensures.raises ∙ ap (λ (b : Bool). if b then 1 else 0) c.if-not-stop.false in
     let i = c.claim_in_stop-cache.ensures in
     let d = c.resume.ensures.step in
     let e = c.go_on.ensures in
     let k = rw c.in-Going-None.field-0-is at c.in-Going-None.ensures.answer in
-    round-none o u v w x y t i.claims d e.ran e.only c.args.done c.args.heap.now.shape c.stop.ensures.position c.requires.seat.0.1 c.if-not-stop.ensures.yours.raised i.fills i.full k e.seat.1
+    round-none o u v w x y t once i.claims d e.ran e.only c.args.done c.args.heap.now.shape c.stop.ensures.position c.requires.seat.0.1 c.if-not-stop.ensures.yours.raised i.fills i.full i.missed k e.seat.1
