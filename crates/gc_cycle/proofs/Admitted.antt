@@ -266,8 +266,7 @@ trace-stops : (s : Stopped) (k before quota : ℕ) (r : Traced) (v w : View) →
 trace-stops stops.Quota k before quota r v w e q m t n = let a = t.all.0 e in omega (arith, a, q)
 trace-stops stops.NoWork k before quota r v w e q m t n =
     (λ f. let g : r.stopped ≡ stops.Quota = t.all.1 (omega (arith, f, q)) in let x : stops.NoWork ≡ stops.Quota = sym e ∙ g in absurd (cc x), traced-idle v.shape (events v w) (begins v) n (t.no_work e))
-trace-stops stops.NoPacket k before quota r v w e q m t n =
-    (λ f. let g : r.stopped ≡ stops.Quota = t.all.1 (omega (arith, f, q)) in let x : stops.NoPacket ≡ stops.Quota = sym e ∙ g in absurd (cc x), t.no_packet e)
+trace-stops stops.NoPacket k before quota r v w e q m t n = absurd (t.packet e)
 
 -- a card was cleaned, and then the helper traced
 pub cleaned-on : (quota card k n : ℕ) (before : Helped) (r : Traced) (v w x : View) → Helps v → HasTraced v w → HasTraced w x → rescanned_in v (events v w) ≡ n → some_event (clears_card card) (events v w) ≡ true → n ≤ card_cells → never pops (events v w) ≡ true → never draws (events v w) ≡ true → EndsTrace k r w x → r.done ≤ k → before.traced + k ≡ quota → rescanned_in w (events w x) ≡ 0 → never draws_or_clears (events w x) ≡ true → CleansOn quota card before (record { traced = before.traced + r.done; rescanned = before.rescanned + n; swept = before.swept; ended = end_as r.stopped }) v x

@@ -138,8 +138,7 @@ pub traced-stops : (s : Stopped) (k before quota : ℕ) (r : Traced) (v w : View
 traced-stops Quota k before quota r v w e q t n = let a = t.all.0 e in omega (arith, a, q)
 traced-stops NoWork k before quota r v w e q t n =
     (λ f. let g : r.stopped ≡ Quota = t.all.1 (omega (arith, f, q)) in let x : NoWork ≡ Quota = sym e ∙ g in absurd (cc x), quiet-moment v.shape reads_root (finds_no_work v.shape) (events v w) (begins v) n (t.no_work e))
-traced-stops NoPacket k before quota r v w e q t n =
-    (λ f. let g : r.stopped ≡ Quota = t.all.1 (omega (arith, f, q)) in let x : NoPacket ≡ Quota = sym e ∙ g in absurd (cc x), quiet-moment v.shape reads_root (finds_no_room v.shape) (events v w) (begins v) n (t.no_packet e))
+traced-stops NoPacket k before quota r v w e q t n = absurd (t.packet e)
 
 -- why nothing was traced
 pub none-stops : (quota : ℕ) (v w : View) → finds_no_packet v.shape (begins v) (events v w) ≡ true → never reads_root (events v w) ≡ true → StopsTracing (stop_of quota) quota 0 v w

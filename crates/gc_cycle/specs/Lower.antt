@@ -1,5 +1,5 @@
 -- What the calls of the crates below promise, in the words of this one.
-use Rattle.std.specs.Prelude.{◌==◌, ℕ, ◌≡◌, ◌<◌, Bool, true, false, Option, Some, None, unwrap_or, IsTrue}
+use Rattle.std.specs.Prelude.{◌==◌, ℕ, ◌≡◌, ◌≢◌, ◌<◌, Bool, true, false, Option, Some, None, unwrap_or, IsTrue}
 use Rattle.mark_core.specs.Numbers.{block_counter, card_counter}
 use Rattle.mark_core.specs.Layout.{card_count}
 use Rattle.mark_core.specs.Places.{the_next_block}
@@ -16,7 +16,7 @@ use Rattle.tracer.specs.declared.traced.Traced.{Traced}
 use Rattle.gc_table.specs.Log.{events, Only}
 use Rattle.gc_table.specs.Running.{Ran}
 use Rattle.gc_cycle.specs.Events.{never}
-use Rattle.gc_cycle.specs.Moments.{at_some_moment, begins, finds_no_packet, finds_no_room, finds_no_work}
+use Rattle.gc_cycle.specs.Moments.{at_some_moment, begins, finds_no_packet, finds_no_work}
 use Rattle.packet_pools.specs.Seeking.{some_event}
 use Rattle.gc_cycle.specs.Roots.{roots_scanned}
 use Rattle.gc_cycle.specs.Sorts.{gives_card, pops, reads_root, sees_last_card}
@@ -76,7 +76,8 @@ pub record EndsTrace (quota : ℕ) (r : Traced) (v w : View) : Type 0 where
   pub done : count_of pops (events v w) ≡ r.done
   pub all : (r.stopped ≡ Quota → r.done ≡ quota) × (r.done ≡ quota → r.stopped ≡ Quota)
   pub no_work : r.stopped ≡ NoWork → IsTrue (at_some_moment v.shape (finds_no_work v.shape) (begins v) (events v w))
-  pub no_packet : r.stopped ≡ NoPacket → IsTrue (at_some_moment v.shape (finds_no_room v.shape) (begins v) (events v w))
+  -- never for want of a packet with room, since what finds none is left to its card
+  pub packet : r.stopped ≢ NoPacket
 
 -- the number below which the counter of blocks won't fall, as the seat knows it
 abbrev pub block_floor : View → ℕ

@@ -14,6 +14,7 @@ ghost use Rattle.gc_cycle.specs.Drained.{IsDrained, IsRooted};
 ghost use Rattle.gc_cycle.specs.Finishing.{IsAloneIn, IsMove, IsOpen, IsOpenPart, IsPart, most};
 ghost use Rattle.gc_cycle.specs.Helping.{rescanned_in};
 ghost use Rattle.gc_cycle.specs.Sorts.{opens};
+ghost use Rattle.gc_cycle.specs.Turns.{DrainsFor, round_quota};
 
 use crate::lower::{
     clean_dirty, close_help, is_drained, open_help, recycle_deferred, scan_roots, see_to_roots,
@@ -48,6 +49,7 @@ fn drain_round(heap: &Heap, seat: &mut HeapSeat) -> u32
     ensures part { IsPart Drain (view_of seat.old) (view_of seat.new) }
     ensures rooted { IsRooted (view_of seat.old) → IsRooted (view_of seat.new) }
     ensures rescanned { rescanned_in (view_of seat.old) (events (view_of seat.old) (view_of seat.new)) ≡ result }
+    ensures worked { DrainsFor round_quota (view_of seat.old) (view_of seat.new) }
 {
     recycle_deferred(heap, seat);
     trace(heap, seat, ROUND);
@@ -75,6 +77,7 @@ pub(crate) fn drain_together<R: Wait>(rt: &R, heap: &Heap, seat: &mut HeapSeat) 
     ensures part { IsPart Drain (view_of seat.old) (view_of seat.new) }
     ensures opened { IsTrue (some_event opens (events (view_of seat.old) (view_of seat.new))) }
     ensures rescanned { rescanned_in (view_of seat.old) (events (view_of seat.old) (view_of seat.new)) ≡ result }
+    ensures worked { DrainsFor round_quota (view_of seat.old) (view_of seat.new) }
 {
     scan_all_roots(heap, seat);
     open_help(heap, seat);
@@ -124,6 +127,7 @@ fn help_drain(heap: &Heap, seat: &mut HeapSeat) -> u32
     ensures seat { Sits heap.now seat.new }
     ensures open { IsOpenPart Drain (view_of seat.old) (view_of seat.new) }
     ensures rescanned { rescanned_in (view_of seat.old) (events (view_of seat.old) (view_of seat.new)) ≡ result }
+    ensures worked { DrainsFor round_quota (view_of seat.old) (view_of seat.new) }
 {
     recycle_deferred(heap, seat);
     trace(heap, seat, ROUND);

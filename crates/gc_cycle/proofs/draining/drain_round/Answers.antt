@@ -3,6 +3,8 @@ use Rattle.gc_table.specs.declared.view.View.{View}
 use Rattle.mark_core.specs.declared.kinds.Phase.TheVariants.{Drain}
 use Rattle.gc_cycle.proofs.Parts.{part-join}
 use Rattle.gc_cycle.proofs.Traced.{alone-traces, rescans-last, traced-part}
+use Rattle.gc_cycle.specs.Turns.{round_quota}
+use Rattle.gc_cycle.proofs.Turns.{traced-within}
 use Rattle.gc_cycle.proofs.draining.drain_round.Goals as goal
 
 pub recycle_deferred-requires-clause-seat : goal.recycle_deferred-requires-clause-seat
@@ -37,3 +39,8 @@ pub returns-clause-rescanned : goal.returns-clause-rescanned
 returns-clause-rescanned c =
     rescans-last (view_of c.args.seat.now) (view_of c.recycle_deferred.new.seat) (view_of c.trace.new.seat) (view_of c.clean_dirty.new.seat) c.clean_dirty.result
     c.recycle_deferred.ensures.traced.ran c.trace.ensures.traced.ran c.clean_dirty.ensures.traced.ran c.recycle_deferred.ensures.rescanned c.trace.ensures.rescanned c.clean_dirty.ensures.rescanned
+
+pub returns-clause-worked : goal.returns-clause-worked
+returns-clause-worked c =
+    traced-within round_quota c.trace.result (view_of c.args.seat.now) (view_of c.recycle_deferred.new.seat) (view_of c.trace.new.seat) (view_of c.clean_dirty.new.seat)
+    c.recycle_deferred.ensures.traced.ran c.trace.ensures.traced.ran c.clean_dirty.ensures.traced.ran c.trace.ensures.ends

@@ -19,6 +19,8 @@ use Rattle.gc_cycle.proofs.Completing.{total-run}
 use Rattle.gc_cycle.proofs.Opened.{closed, open-event, open-part, open-ran, open-total, opened}
 use Rattle.gc_cycle.proofs.Parts.{part-join}
 use Rattle.gc_cycle.proofs.Unopened.{openable}
+use Rattle.gc_cycle.specs.Turns.{round_quota}
+use Rattle.gc_cycle.proofs.Turns.{drained-within}
 use Rattle.gc_cycle.proofs.draining.drain_together.Goals as goal
 
 closes-none : (s : SeatState) (step : Step) (n : ℕ) → closes step ≡ true → rescans s step n ≡ 0
@@ -71,3 +73,13 @@ returns-clause-rescanned g c =
 
 pub open_help-requires-clause-openable : goal.open_help-requires-clause-openable
 open_help-requires-clause-openable g c = openable Drain (view_of c.scan_all_roots.new.seat) c.scan_all_roots.new.seat.possible c.scan_all_roots.ensures.part.alone refl
+
+pub returns-clause-worked : goal.returns-clause-worked
+returns-clause-worked g c =
+    let v : View = view_of c.args.seat.now in
+    let w : View = view_of c.scan_all_roots.new.seat in
+    let x : View = view_of c.open_help.new.seat in
+    let y : View = view_of c.help_drain-rescanned.new.seat in
+    let z : View = view_of c.close_help.new.seat in
+    let before : Ran v x = ran-join v w x c.scan_all_roots.ensures.part.ran (open-ran w x c.open_help.ensures.step) in
+    drained-within round_quota v x y z before c.help_drain-rescanned.ensures.open.ran c.close_help.ensures.ran c.help_drain-rescanned.ensures.worked

@@ -36,14 +36,14 @@ ends quota r v w s t =
       done = t.done;
       all = (λ h. q.1, λ h. q.0);
       no_work = λ h. absurd (true≢false (sym (ap is_quota q.0) ∙ ap is_quota h));
-      no_packet = λ h. absurd (true≢false (sym (ap is_quota q.0) ∙ ap is_quota h));
+      packet = λ h. absurd (true≢false (sym (ap is_quota q.0) ∙ ap is_quota h));
     })
     (λ (n : (r.stopped ≡ NoWork) × (r.done < quota) × FoundNoWork v w).
     record {
       done = t.done;
       all = (λ h. absurd (false≢true (sym (ap is_quota n.0) ∙ ap is_quota h)), λ h. let low = n.1 in absurd (omega (arith, low, h)));
       no_work = λ h. n.2;
-      no_packet = λ h. absurd (false≢true (sym (ap is_none n.0) ∙ ap is_none h));
+      packet = λ h. absurd (false≢true (sym (ap is_none n.0) ∙ ap is_none h));
     })
     s
 

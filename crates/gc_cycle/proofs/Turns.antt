@@ -1,0 +1,46 @@
+-- How much is done at a time, put together out of calls.
+use Rattle.std.proofs.Common.{ℕ, ◌≡◌, arith, refl, subst, true, ⊎_elim}
+use Rattle.std.specs.Prelude.{nat_le}
+use Rattle.std.proofs.lemmas.Bool.{le-leb, leb-true, or_cases, or_left, or_right}
+use Rattle.mark_core.specs.declared.kinds.Shape.{Shape}
+use Rattle.gc_table.specs.Log.{events}
+use Rattle.gc_table.specs.Running.{Ran}
+use Rattle.gc_table.specs.declared.view.View.{View}
+use Rattle.gc_table.proofs.Running.{ran-join, ran-shape}
+use Rattle.packet_pools.specs.Counts.{count_of}
+use Rattle.tracer.specs.declared.traced.Stopped.{Stopped}
+use Rattle.tracer.specs.declared.traced.Stopped.TheVariants.{NoPacket, NoWork, Quota}
+use Rattle.tracer.specs.declared.traced.Traced.{Traced}
+use Rattle.gc_cycle.specs.Lower.{EndsTrace}
+use Rattle.gc_cycle.specs.Moments.{at_some_moment, begins, finds_no_work}
+use Rattle.gc_cycle.specs.Sorts.{pops}
+use Rattle.gc_cycle.specs.Turns.{DrainsFor}
+use Rattle.gc_cycle.proofs.Admitted.{count-run}
+use Rattle.gc_cycle.proofs.Payment.{earlier-moment, later-moment}
+use Rattle.gc_cycle.proofs.Searched.{work-longer, work-widens}
+
+-- a trace, by how it stopped
+pub traced-for : (s : Stopped) (quota : ℕ) (r : Traced) (v w : View) → r.stopped ≡ s → EndsTrace quota r v w → DrainsFor quota v w
+traced-for Quota quota r v w e t = let all = t.all.0 e in let done = t.done in or_left _ _ (le-leb quota (count_of pops (events v w)) (omega (arith, all, done)))
+traced-for NoWork quota r v w e t = or_right _ _ (t.no_work e)
+traced-for NoPacket quota r v w e t = absurd (t.packet e)
+
+-- it is so of all calls where it is so of one of them
+pub drained-within : (quota : ℕ) (u v w x : View) → Ran u v → Ran v w → Ran w x → DrainsFor quota v w → DrainsFor quota u x
+drained-within quota u v w x a b d h =
+    ⊎_elim
+    (λ (k : nat_le quota (count_of pops (events v w)) ≡ true).
+    let some = leb-true quota (count_of pops (events v w)) k in
+    let first = count-run pops u v x a (ran-join v w x b d) in
+    let second = count-run pops v w x b d in
+    or_left _ _ (le-leb quota (count_of pops (events u x)) (omega (arith, some, first, second))))
+    (λ (k : at_some_moment v.shape (finds_no_work v.shape) (begins v) (events v w) ≡ true).
+    or_right _ _
+    (later-moment (finds_no_work u.shape) (work-widens u.shape) u v x a (ran-join v w x b d)
+    (subst (λ (sh : Shape). at_some_moment v.shape (finds_no_work sh) (begins v) (events v x) ≡ true) (ran-shape u v a)
+    (earlier-moment (finds_no_work v.shape) v w x (work-longer v.shape (events w x)) b d k))))
+    (or_cases (nat_le quota (count_of pops (events v w))) _ h)
+
+-- a trace among other calls
+pub traced-within : (quota : ℕ) (r : Traced) (u v w x : View) → Ran u v → Ran v w → Ran w x → EndsTrace quota r v w → DrainsFor quota u x
+traced-within quota r u v w x a b d t = drained-within quota u v w x a b d (traced-for r.stopped quota r v w refl t)
