@@ -1,15 +1,48 @@
--- How much is done at a time: in a round of the drain.
-use Rattle.std.specs.Prelude.{ℕ, ◌||◌, nat_le, IsTrue}
+-- How much is done at a time: in a round of the drain, and in a turn of a seat that waits and helps.
+use Rattle.std.specs.Prelude.{ℕ, ◌||◌, ◌⊎◌, nat_le, IsTrue}
+use Rattle.mark_core.specs.Seats.{saw}
+use Rattle.mark_core.specs.declared.kinds.Phase.TheVariants.{Drain, Sweep}
+use Rattle.mark_core.specs.declared.kinds.Step.TheVariants.{LeaveHelpStep}
 use Rattle.gc_table.specs.Log.{events}
+use Rattle.gc_table.specs.Running.{Ran}
+use Rattle.gc_table.specs.Seats.{Took}
 use Rattle.gc_table.specs.declared.view.View.{View}
 use Rattle.packet_pools.specs.Counts.{count_of}
+use Rattle.stop_world.specs.Gates.{Declines, Joins}
+use Rattle.gc_cycle.specs.declared.counts.Helped.{Helped}
+use Rattle.gc_cycle.specs.Events.{never}
+use Rattle.gc_cycle.specs.Helping.{HelpsAs}
 use Rattle.gc_cycle.specs.Moments.{at_some_moment, begins, finds_no_work}
-use Rattle.gc_cycle.specs.Sorts.{pops}
+use Rattle.gc_cycle.specs.Sorts.{joins, pops}
 
 -- how many cells a round of the drain pops, where there are as many
 abbrev pub round_quota : ℕ
 round_quota = 65536
 
+-- how many cells a seat that waits pops in a turn as a helper, where there are as many
+abbrev pub turn_quota : ℕ
+turn_quota = 1024
+
 -- so many cells were popped, or at some moment nothing was left in hand and there was no packet to read from
 abbrev pub DrainsFor : ℕ → View → View → Type 0
 DrainsFor quota v w = IsTrue (nat_le quota (count_of pops (events v w)) || at_some_moment v.shape (finds_no_work v.shape) (begins v) (events v w))
+
+-- where the phase was read as Drain or Sweep, it helped: in a drain until so many objects were traced, or no work or no packet was found, and in a sweep until no block was left
+abbrev pub HelpsFor : ℕ → View → View → Type 0
+HelpsFor quota v w = IsTrue (saw v.state.phase_seen Drain || saw v.state.phase_seen Sweep) → (helped : Helped) × HelpsAs quota helped v (events v w)
+
+-- a turn: the seat was let in among the helpers, helped, and left them
+pub record TakesTurn (quota : ℕ) (v w : View) : Type 0 where
+  pub joined : View
+  pub helped : View
+  pub enters : Ran v joined
+  pub let_in : Joins v joined
+  pub ran : Ran joined helped
+  pub stays : IsTrue (never joins (events joined helped))
+  pub helps : HelpsFor quota joined helped
+  pub leaves : Took LeaveHelpStep helped w
+
+-- help was closed, and the seat left at once; or it took a turn
+pub record HelpsOnce (quota : ℕ) (v w : View) : Type 0 where
+  pub ran : Ran v w
+  pub once : Declines v w ⊎ TakesTurn quota v w

@@ -12,7 +12,7 @@ ghost use Rattle.gc_cycle.specs.Draining.{CleansOn, EndsAs, HelpsOn, SweepsOn, e
 ghost use Rattle.gc_cycle.specs.Events.{never};
 ghost use Rattle.gc_cycle.specs.Helping.{HelpsAs};
 ghost use Rattle.gc_cycle.specs.Mutating.{stays_calm};
-ghost use Rattle.gc_cycle.specs.Sorts.{leaves};
+ghost use Rattle.gc_cycle.specs.Sorts.{joins, leaves};
 ghost use Rattle.gc_cycle.specs.Standing.{Helps, KeepsSeat};
 
 use crate::counts::{HelpEnd, Helped};
@@ -33,6 +33,7 @@ pub fn help(heap: &Heap, seat: &mut HeapSeat, quota: u32) -> Helped
     ensures not_full { IsTrue (never_fills (events (view_of seat.old) (view_of seat.new))) }
     ensures only { Only stays_calm (view_of seat.old) (view_of seat.new) }
     ensures inside { IsTrue (never leaves (events (view_of seat.old) (view_of seat.new))) }
+    ensures stays { IsTrue (never joins (events (view_of seat.old) (view_of seat.new))) }
     ensures phase { (view_of seat.new).state.phase_seen ≡ (view_of seat.old).state.phase_seen }
     ensures keeps { KeepsSeat (view_of seat.old) (view_of seat.new) }
     ensures own { (view_of seat.new).own ≡ (view_of seat.old).own }

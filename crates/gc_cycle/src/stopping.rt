@@ -15,6 +15,7 @@ ghost use Rattle.gc_cycle.specs.Polling.{offered_help, saw_resumed};
 ghost use Rattle.gc_cycle.specs.Sorts.{joins, leaves, raises_flag};
 ghost use Rattle.gc_cycle.specs.Sparing.{spares_part};
 ghost use Rattle.gc_cycle.specs.Standing.{IsAdmitted, IsOut, KeepsSeat, KeepsSection, Mutates};
+ghost use Rattle.gc_cycle.specs.Turns.{HelpsFor, HelpsOnce, turn_quota};
 
 use crate::helping::help;
 use crate::lower::{await_stopped, enter, join_help, leave, leave_help, poll, raise};
@@ -38,6 +39,8 @@ fn help_joined(heap: &Heap, seat: &mut HeapSeat)
     ensures out { GoesOut (view_of seat.old) (view_of seat.new) }
     ensures own { (view_of seat.new).own ≡ (view_of seat.old).own }
     ensures inside { IsTrue (never leaves (events (view_of seat.old) (view_of seat.new))) }
+    ensures stays { IsTrue (never joins (events (view_of seat.old) (view_of seat.new))) }
+    ensures helps { HelpsFor turn_quota (view_of seat.old) (view_of seat.new) }
 {
     match seat.state().phase_seen {
         Some(Phase::Drain) => {
@@ -58,6 +61,7 @@ fn help_once(heap: &Heap, seat: &mut HeapSeat)
     ensures own { (view_of seat.new).own ≡ (view_of seat.old).own }
     ensures offered { IsTrue (some_event joins (events (view_of seat.old) (view_of seat.new))) }
     ensures inside { IsTrue (never leaves (events (view_of seat.old) (view_of seat.new))) }
+    ensures helps { HelpsOnce turn_quota (view_of seat.old) (view_of seat.new) }
 {
     if join_help(heap, seat) {
         help_joined(heap, seat);

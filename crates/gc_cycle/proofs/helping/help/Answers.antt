@@ -6,7 +6,7 @@ use Rattle.mark_core.specs.Seats.{saw}
 use Rattle.mark_core.specs.declared.kinds.Phase.{Phase}
 use Rattle.mark_core.specs.declared.kinds.Phase.TheVariants.{Drain, Sweep}
 use Rattle.mark_core.specs.declared.kinds.Step.{Step}
-use Rattle.mark_core.specs.declared.kinds.Step.TheVariants.{AddStat, ClaimBlock, ClearMarks, LeaveStep, NextBlock, NextSeason, Pop, RaiseStep, ReadAlloc, ReadBlockMarks, ReadCat, ReadField, ReadOwn, ReadSeason, ReadStat, StoreAlloc, StoreField, StoreNew, StorePhase, StoreRoot, StoreValue}
+use Rattle.mark_core.specs.declared.kinds.Step.TheVariants.{AddStat, ClaimBlock, ClearMarks, JoinHelpStep, LeaveStep, NextBlock, NextSeason, Pop, RaiseStep, ReadAlloc, ReadBlockMarks, ReadCat, ReadField, ReadOwn, ReadSeason, ReadStat, StoreAlloc, StoreField, StoreNew, StorePhase, StoreRoot, StoreValue}
 use Rattle.mark_core.specs.declared.seat.SeatState.{SeatState}
 use Rattle.gc_table.specs.Log.{events}
 use Rattle.gc_table.specs.Running.{changes_section}
@@ -24,7 +24,7 @@ use Rattle.gc_cycle.specs.Helping.{DrainsTo, HelpsAs}
 use Rattle.gc_cycle.specs.Lower.{sweeps_next, traces_cells}
 use Rattle.gc_cycle.specs.Moments.{begins}
 use Rattle.gc_cycle.specs.Mutating.{GoesOut, stays_calm}
-use Rattle.gc_cycle.specs.Sorts.{gets_block, leaves, pops}
+use Rattle.gc_cycle.specs.Sorts.{gets_block, joins, leaves, pops}
 use Rattle.gc_cycle.proofs.Admitted.{count-none, traces-kept}
 use Rattle.gc_cycle.proofs.Goings.{goes-out}
 use Rattle.gc_cycle.proofs.Sequences.{none-of-steps, total-none}
@@ -51,6 +51,10 @@ sweeps-kept step e = absurd (false≢true e)
 sweeps-inside : (step : Step) (n : ℕ) → sweeps_next step ≡ true → leaves step n ≡ false
 sweeps-inside LeaveStep n e = absurd (false≢true e)
 sweeps-inside step n e = refl
+
+sweeps-unjoined : (step : Step) (n : ℕ) → sweeps_next step ≡ true → joins step n ≡ false
+sweeps-unjoined JoinHelpStep n e = absurd (false≢true e)
+sweeps-unjoined step n e = refl
 
 sweeps-unpopped : (step : Step) (n : ℕ) → sweeps_next step ≡ true → pops step n ≡ false
 sweeps-unpopped (Pop p) n e = absurd (false≢true e)
@@ -79,6 +83,10 @@ traces-calm step e = refl
 traces-inside : (step : Step) (n : ℕ) → traces_cells step ≡ true → leaves step n ≡ false
 traces-inside LeaveStep n e = absurd (false≢true e)
 traces-inside step n e = refl
+
+traces-unjoined : (step : Step) (n : ℕ) → traces_cells step ≡ true → joins step n ≡ false
+traces-unjoined JoinHelpStep n e = absurd (false≢true e)
+traces-unjoined step n e = refl
 
 traces-unswept : (blocks : ℕ) (step : Step) (n : ℕ) → traces_cells step ≡ true → gets_block blocks step n ≡ false
 traces-unswept blocks NextBlock n e = absurd (false≢true e)
@@ -143,6 +151,7 @@ returns-then-sees_sweep c =
       not_full = o.0.not_full;
       only = o.0.only;
       inside = o.1;
+      stays = ap not (none-of-steps sweeps_next joins sweeps-unjoined (events v w) s.only);
       phase = s.phase;
       keeps = o.0.seat;
       own = o.2;
@@ -164,6 +173,7 @@ returns c =
       not_full = o.0.not_full;
       only = o.0.only;
       inside = o.1;
+      stays = ap not (none-of-steps traces_cells joins traces-unjoined (events v w) h.drained.only);
       phase = h.drained.phase;
       keeps = o.0.seat;
       own = o.2;

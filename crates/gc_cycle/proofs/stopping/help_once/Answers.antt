@@ -1,4 +1,4 @@
-use Rattle.std.proofs.Common.{ap, ◌∙◌}
+use Rattle.std.proofs.Common.{ap, ◌∙◌, inl, inr}
 use Rattle.gc_table.specs.Seats.{view_of}
 use Rattle.gc_table.specs.declared.view.View.{View}
 use Rattle.packet_pools.specs.Seeking.{some_event}
@@ -80,3 +80,18 @@ returns-then-join_help-clause-inside c =
     ∙ stays-join (events v w) (events w y) (ap (never leaves) c.if-join_help.ensures.joins.events)
     (ap (never leaves) (ran-events w x y c.help_joined.ensures.out.ran c.leave_help.ensures.ran)
     ∙ stays-join (events w x) (events x y) c.help_joined.ensures.inside (ap (never leaves) (events-after x y LeaveHelpStep t.0 t.1.0)))
+
+pub returns-then-join_help-clause-helps : goal.returns-then-join_help-clause-helps
+returns-then-join_help-clause-helps c =
+    let v : View = view_of c.args.seat.now in
+    let w : View = view_of c.join_help.new.seat in
+    let x : View = view_of c.help_joined.new.seat in
+    let y : View = view_of c.leave_help.new.seat in
+    let h = c.help_joined.ensures in
+    record {
+      ran = ran-join v w y c.join_help.ensures.ran (ran-join w x y h.out.ran c.leave_help.ensures.ran);
+      once = inr (record { joined = w; helped = x; enters = c.join_help.ensures.ran; let_in = c.if-join_help.ensures.joins; ran = h.out.ran; stays = h.stays; helps = h.helps; leaves = c.leave_help.ensures.step });
+    }
+
+pub returns-else-join_help-clause-helps : goal.returns-else-join_help-clause-helps
+returns-else-join_help-clause-helps c = record { ran = c.join_help.ensures.ran; once = inl c.if-join_help.ensures.declines }
