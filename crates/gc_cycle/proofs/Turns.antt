@@ -1,21 +1,25 @@
 -- How much is done at a time, put together out of calls.
-use Rattle.std.proofs.Common.{ℕ, ◌≡◌, arith, refl, subst, true, ⊎_elim}
+use Rattle.std.proofs.Common.{ℕ, ◌≡◌, List, [], ◌∷◌, arith, refl, ap, ◌∙◌, subst, true, ⊎_elim}
 use Rattle.std.specs.Prelude.{nat_le}
 use Rattle.std.proofs.lemmas.Bool.{le-leb, leb-true, or_cases, or_left, or_right}
 use Rattle.mark_core.specs.declared.kinds.Shape.{Shape}
+use Rattle.mark_core.specs.declared.kinds.Step.TheVariants.{Observe}
 use Rattle.gc_table.specs.Log.{events}
 use Rattle.gc_table.specs.Running.{Ran}
+use Rattle.gc_table.specs.Taking.{after}
 use Rattle.gc_table.specs.declared.view.View.{View}
-use Rattle.gc_table.proofs.Running.{ran-join, ran-shape}
+use Rattle.gc_table.proofs.Log.{events-after, events-none}
+use Rattle.gc_table.proofs.Running.{ran-events, ran-join, ran-refl, ran-shape}
 use Rattle.packet_pools.specs.Counts.{count_of}
 use Rattle.tracer.specs.declared.traced.Stopped.{Stopped}
 use Rattle.tracer.specs.declared.traced.Stopped.TheVariants.{NoPacket, NoWork, Quota}
 use Rattle.tracer.specs.declared.traced.Traced.{Traced}
+use Rattle.gc_cycle.specs.Events.{never}
 use Rattle.gc_cycle.specs.Lower.{EndsTrace}
 use Rattle.gc_cycle.specs.Moments.{at_some_moment, begins, finds_no_work}
-use Rattle.gc_cycle.specs.Sorts.{pops}
-use Rattle.gc_cycle.specs.Turns.{DrainsFor}
-use Rattle.gc_cycle.proofs.Admitted.{count-run}
+use Rattle.gc_cycle.specs.Sorts.{joins, pops}
+use Rattle.gc_cycle.specs.Turns.{DrainsFor, HelpsBetween, HelpsInTurns, HelpsOnce, StaysApart, turn_quota}
+use Rattle.gc_cycle.proofs.Admitted.{count-run, never-join}
 use Rattle.gc_cycle.proofs.Payment.{earlier-moment, later-moment}
 use Rattle.gc_cycle.proofs.Searched.{work-longer, work-widens}
 
@@ -44,3 +48,29 @@ drained-within quota u v w x a b d h =
 -- a trace among other calls
 pub traced-within : (quota : ℕ) (r : Traced) (u v w x : View) → Ran u v → Ran v w → Ran w x → EndsTrace quota r v w → DrainsFor quota u x
 traced-within quota r u v w x a b d t = drained-within quota u v w x a b d (traced-for r.stopped quota r v w refl t)
+
+-- a seat that does nothing joins nobody
+pub apart-none : (v : View) → StaysApart v v
+apart-none v = record { ran = ran-refl v; apart = ap (never joins) (events-none v) }
+
+pub apart-join : (u v w : View) → StaysApart u v → StaysApart v w → StaysApart u w
+apart-join u v w a b = record { ran = ran-join u v w a.ran b.ran; apart = ap (never joins) (ran-events u v w a.ran b.ran) ∙ never-join joins (events u v) (events v w) a.apart b.apart }
+
+-- nor does one that looks whether a stop is under way
+pub apart-look : (v w : View) (n : ℕ) → Ran v w → w ≡ after Observe n v → StaysApart v w
+apart-look v w n r e = record { ran = r; apart = ap (never joins) (events-after v w Observe n e) }
+
+-- the turns of one call, and then those of another
+between-join : (quota : ℕ) (ts ss : List (View × View)) (u v w : View) → HelpsBetween quota ts u v → HelpsBetween quota ss v w → (rs : List (View × View)) × HelpsBetween quota rs u w
+between-join quota [] [] u v w a b = ([], apart-join u v w a b)
+between-join quota [] (s ∷ ss) u v w a b = (s ∷ ss, (apart-join u v s.0 a b.0, b.1, b.2))
+between-join quota (t ∷ ts) ss u v w a b = let r = between-join quota ts ss t.1 v w a.2 b in (t ∷ r.0, (a.0, a.1, r.1))
+
+pub turns-join : (u v w : View) → HelpsInTurns u v → HelpsInTurns v w → HelpsInTurns u w
+turns-join u v w a b = between-join turn_quota a.0 b.0 u v w a.1 b.1
+
+pub turns-none : (v w : View) → StaysApart v w → HelpsInTurns v w
+turns-none v w a = ([], a)
+
+pub turns-once : (v w : View) → HelpsOnce turn_quota v w → HelpsInTurns v w
+turns-once v w h = ((v, w) ∷ [], (apart-none v, h, apart-none w))

@@ -1,5 +1,5 @@
 -- How much is done at a time: in a round of the drain, and in a turn of a seat that waits and helps.
-use Rattle.std.specs.Prelude.{ℕ, ◌||◌, ◌⊎◌, nat_le, IsTrue}
+use Rattle.std.specs.Prelude.{ℕ, ◌||◌, ◌⊎◌, List, [], ◌∷◌, nat_le, IsTrue}
 use Rattle.mark_core.specs.Seats.{saw}
 use Rattle.mark_core.specs.declared.kinds.Phase.TheVariants.{Drain, Sweep}
 use Rattle.mark_core.specs.declared.kinds.Step.TheVariants.{LeaveHelpStep}
@@ -46,3 +46,17 @@ pub record TakesTurn (quota : ℕ) (v w : View) : Type 0 where
 pub record HelpsOnce (quota : ℕ) (v w : View) : Type 0 where
   pub ran : Ran v w
   pub once : Declines v w ⊎ TakesTurn quota v w
+
+-- the seat didn't try to join the helpers
+pub record StaysApart (v w : View) : Type 0 where
+  pub ran : Ran v w
+  pub apart : IsTrue (never joins (events v w))
+
+-- it tried so once between the two views of each pair, and else never
+abbrev pub HelpsBetween : ℕ → List (View × View) → View → View → Type 0
+HelpsBetween quota [] v w = StaysApart v w
+HelpsBetween quota (turn ∷ turns) v w = StaysApart v turn.0 × HelpsOnce quota turn.0 turn.1 × HelpsBetween quota turns turn.1 w
+
+-- each time that the seat tried to join the helpers help was closed, or it took a turn
+abbrev pub HelpsInTurns : View → View → Type 0
+HelpsInTurns v w = (turns : List (View × View)) × HelpsBetween turn_quota turns v w

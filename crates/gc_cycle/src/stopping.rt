@@ -15,7 +15,7 @@ ghost use Rattle.gc_cycle.specs.Polling.{offered_help, saw_resumed};
 ghost use Rattle.gc_cycle.specs.Sorts.{joins, leaves, raises_flag};
 ghost use Rattle.gc_cycle.specs.Sparing.{spares_part};
 ghost use Rattle.gc_cycle.specs.Standing.{IsAdmitted, IsOut, KeepsSeat, KeepsSection, Mutates};
-ghost use Rattle.gc_cycle.specs.Turns.{HelpsFor, HelpsOnce, turn_quota};
+ghost use Rattle.gc_cycle.specs.Turns.{HelpsFor, HelpsInTurns, HelpsOnce, turn_quota};
 
 use crate::helping::help;
 use crate::lower::{await_stopped, enter, join_help, leave, leave_help, poll, raise};
@@ -76,6 +76,7 @@ fn pause(heap: &Heap, seat: &mut HeapSeat)
     ensures out { GoesOut (view_of seat.old) (view_of seat.new) }
     ensures own { (view_of seat.new).own ≡ (view_of seat.old).own }
     ensures inside { IsTrue (never leaves (events (view_of seat.old) (view_of seat.new))) }
+    ensures apart { IsTrue (never joins (events (view_of seat.old) (view_of seat.new))) }
 {
     for _ in 0..PAUSE {
         if !poll(heap, seat) {
@@ -97,6 +98,7 @@ pub fn await_resumed_helping<R: Wait>(rt: &R, heap: &Heap, seat: &mut HeapSeat)
     ensures keeps { KeepsSeat (view_of seat.old) (view_of seat.new) }
     ensures own { (view_of seat.new).own ≡ (view_of seat.old).own }
     ensures inside { IsTrue (never leaves (events (view_of seat.old) (view_of seat.new))) }
+    ensures helps { HelpsInTurns (view_of seat.old) (view_of seat.new) }
 {
     for _ in rt.forever() {
         if !poll(heap, seat) {
@@ -132,6 +134,7 @@ pub fn go_in<R: Wait>(rt: &R, heap: &Heap, seat: &mut HeapSeat)
     ensures entered { HasEntered (view_of seat.old) (view_of seat.new) }
     ensures waits { IsTrue (waits_helping (events (view_of seat.old) (view_of seat.new))) }
     ensures offered { IsTrue (offered_help (events (view_of seat.old) (view_of seat.new))) }
+    ensures helps { HelpsInTurns (view_of seat.old) (view_of seat.new) }
     ensures spares { Only spares_part (view_of seat.old) (view_of seat.new) }
 {
     for _ in rt.forever() {

@@ -11,6 +11,7 @@ use Rattle.gc_cycle.specs.Events.{never}
 use Rattle.gc_cycle.specs.Sorts.{joins, leaves}
 use Rattle.gc_cycle.proofs.Waits.{stays-join, stays-look}
 use Rattle.gc_cycle.proofs.Goings.{offered-last, out-join, polled-out, resumed-last}
+use Rattle.gc_cycle.proofs.Turns.{apart-look, turns-join, turns-none, turns-once}
 use Rattle.gc_cycle.proofs.stopping.await_resumed_helping.Goals as goal
 
 pub loop-preserved : goal.loop-preserved
@@ -43,6 +44,9 @@ loop-preserved g c =
           inr
           (ap (some_event joins) (ran-events u w y (out-join u v w i.goes p.0).ran to_y.ran)
           ∙ some-right joins (events u w) (events w y) (ap (some_event joins) helped ∙ some-left joins (events w x) (events x y) h.offered));
+      helps =
+          turns-join u v y i.helps
+          (turns-join v w y (turns-none v w (apart-look v w t.0 c.poll.ensures.ran t.1)) (turns-join w x y (turns-once w x h.helps) (turns-none x y (record { ran = q.out.ran; apart = q.apart }))));
     }
 
 pub returns-then-not-poll-clause-ran : goal.returns-then-not-poll-clause-ran
@@ -84,3 +88,10 @@ pub returns-then-not-poll-clause-inside : goal.returns-then-not-poll-clause-insi
 returns-then-not-poll-clause-inside g c =
     let t = c.poll.ensures.step in
     stays-look (view_of c.args.seat.now) (view_of c.loop.seat) (view_of c.poll.new.seat) t.0 c.loop.invariant.goes.ran c.poll.ensures.ran t.1 c.loop.invariant.inside
+
+pub returns-then-not-poll-clause-helps : goal.returns-then-not-poll-clause-helps
+returns-then-not-poll-clause-helps g c =
+    let v : View = view_of c.loop.seat in
+    let w : View = view_of c.poll.new.seat in
+    let t = c.poll.ensures.step in
+    turns-join (view_of c.args.seat.now) v w c.loop.invariant.helps (turns-none v w (apart-look v w t.0 c.poll.ensures.ran t.1))

@@ -9,7 +9,7 @@ use Rattle.gc_cycle.specs.Answering.{waits_helping}
 use Rattle.gc_cycle.specs.Events.{never}
 use Rattle.gc_cycle.specs.Mutating.{stays_calm}
 use Rattle.gc_cycle.specs.Polling.{offered_help}
-use Rattle.gc_cycle.specs.Sorts.{leaves}
+use Rattle.gc_cycle.specs.Sorts.{joins, leaves}
 use Rattle.gc_cycle.specs.Sparing.{spares_part}
 use Rattle.gc_cycle.proofs.Collected.{calm-spares}
 use Rattle.gc_cycle.proofs.Waits.{entered-waits, offered-join, turned-waits}
@@ -17,6 +17,7 @@ use Rattle.std.specs.Prelude.{is_some}
 use Rattle.gc_table.specs.Seats.{view_of}
 use Rattle.gc_table.specs.declared.view.View.{View}
 use Rattle.gc_cycle.proofs.Goings.{enters-in, goes-out, out-join, out-none, turns-out}
+use Rattle.gc_cycle.proofs.Turns.{apart-none, turns-join, turns-none}
 use Rattle.gc_cycle.proofs.stopping.go_in.Goals as goal
 
 goes-waiting : (u v w x : View) (n m : ℕ) → Ran u v → Ran v w → Ran w x → events w x ≡ event EnterStep n ∷ event LeaveStep m ∷ [] → ((ys : List Entry) → waits_helping ys ≡ true → offered_help ys ≡ true → waits_helping (events u v ++ ys) ≡ true) → never leaves (events v w) ≡ true → offered_help (events v w) ≡ true → (ys : List Entry) → waits_helping ys ≡ true → offered_help ys ≡ true → waits_helping (events u x ++ ys) ≡ true
@@ -41,6 +42,7 @@ loop-init g c =
       own = refl;
       waits = λ ys p q. ap (λ es. waits_helping (es ++ ys)) (events-none u) ∙ p;
       offered = ap offered_help (events-none u);
+      helps = turns-none u u (apart-none u);
     }
 
 pub loop-preserved : goal.loop-preserved
@@ -65,6 +67,7 @@ loop-preserved g c =
           ap offered_help (ran-events u v x i.goes.ran (ran-join v w x a.ran c.enter.ensures.ran))
           ∙ offered-join (events u v) (events v x) i.offered
           (ap offered_help (ran-events v w x a.ran c.enter.ensures.ran ∙ ap (λ es. events v w ++ es) b.events) ∙ (turned-waits (events v w) b.word b.left [] a.inside a.offered refl refl).1);
+      helps = turns-join u v x i.helps (turns-join v w x a.helps (turns-none w x (record { ran = c.enter.ensures.ran; apart = ap (never joins) b.events })));
     }
 
 pub returns-then-enter-clause-seat : goal.returns-then-enter-clause-seat
@@ -127,3 +130,11 @@ returns-then-enter-clause-spares g c =
     let here : is_some w.state.section ≡ true = ap (λ o. is_some o) (a.keeps.section ∙ i.goes.seat.section) ∙ c.requires.section in
     let t = enters-in w x a.seat.1 here c.enter.ensures.ran c.if-enter.ensures.enters in
     only-more stays_calm spares_part calm-spares u x (out-join u v x i.goes (out-join v w x (goes-out v w a.ran a.only) t.1)).only
+
+pub returns-then-enter-clause-helps : goal.returns-then-enter-clause-helps
+returns-then-enter-clause-helps g c =
+    let v : View = view_of c.loop.seat in
+    let w : View = view_of c.await_resumed_helping.new.seat in
+    let x : View = view_of c.enter.new.seat in
+    turns-join (view_of c.args.seat.now) v x c.loop.invariant.helps
+    (turns-join v w x c.await_resumed_helping.ensures.helps (turns-none w x (record { ran = c.enter.ensures.ran; apart = ap (never joins) c.if-enter.ensures.enters.events })))

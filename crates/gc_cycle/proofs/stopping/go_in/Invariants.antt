@@ -6,6 +6,7 @@ use Rattle.gc_cycle.specs.Answering.{waits_helping}
 use Rattle.gc_cycle.specs.Polling.{offered_help}
 use Rattle.gc_cycle.specs.Mutating.{GoesOut}
 use Rattle.gc_cycle.specs.Standing.{IsOut}
+use Rattle.gc_cycle.specs.Turns.{HelpsInTurns}
 use Rattle.gc_cycle.proofs.stopping.go_in.Given as goal
 
 abbrev pub invariant-loop : goal.invariant-loop
@@ -18,4 +19,5 @@ invariant-loop g l = record {
   own : (view_of l.seat).own ≡ (view_of l.fn.seat).own;
   waits : (ys : List Entry) → waits_helping ys ≡ true → offered_help ys ≡ true → waits_helping (events (view_of l.fn.seat) (view_of l.seat) ++ ys) ≡ true;
   offered : offered_help (events (view_of l.fn.seat) (view_of l.seat)) ≡ true;
+  helps : HelpsInTurns (view_of l.fn.seat) (view_of l.seat);
 }

@@ -3,7 +3,7 @@ use Rattle.gc_table.specs.Log.{events}
 use Rattle.gc_table.specs.Seats.{Sits, view_of}
 use Rattle.gc_cycle.specs.Events.{never}
 use Rattle.gc_cycle.specs.Mutating.{GoesOut}
-use Rattle.gc_cycle.specs.Sorts.{leaves}
+use Rattle.gc_cycle.specs.Sorts.{joins, leaves}
 use Rattle.gc_cycle.specs.Standing.{IsOut}
 use Rattle.gc_cycle.proofs.stopping.pause.Given as goal
 
@@ -14,4 +14,5 @@ invariant-loop l = record {
   goes : GoesOut (view_of l.fn.seat) (view_of l.seat);
   own : (view_of l.seat).own ≡ (view_of l.fn.seat).own;
   inside : never leaves (events (view_of l.fn.seat) (view_of l.seat)) ≡ true;
+  apart : never joins (events (view_of l.fn.seat) (view_of l.seat)) ≡ true;
 }
