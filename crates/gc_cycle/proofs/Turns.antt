@@ -13,15 +13,19 @@ use Rattle.gc_table.proofs.Running.{ran-events, ran-join, ran-refl, ran-shape}
 use Rattle.packet_pools.specs.Counts.{count_of}
 use Rattle.tracer.specs.declared.traced.Stopped.{Stopped}
 use Rattle.tracer.specs.declared.traced.Stopped.TheVariants.{NoPacket, NoWork, Quota}
+use Rattle.tracer.specs.declared.traced.RootScan.{RootScan}
+use Rattle.tracer.specs.declared.traced.RootScan.TheVariants as roots
 use Rattle.tracer.specs.declared.traced.Traced.{Traced}
 use Rattle.gc_cycle.specs.Events.{never}
-use Rattle.gc_cycle.specs.Lower.{EndsTrace}
-use Rattle.gc_cycle.specs.Moments.{at_some_moment, begins, finds_no_work}
+use Rattle.gc_cycle.specs.Lower.{EndsTrace, ScansRoots}
+use Rattle.gc_cycle.specs.Moments.{at_some_moment, begins, finds_no_packet, finds_no_work}
+use Rattle.gc_cycle.specs.Roots.{roots_scanned}
 use Rattle.gc_cycle.specs.Sorts.{joins, pops}
-use Rattle.gc_cycle.specs.Turns.{DrainsFor, HelpsBetween, HelpsInTurns, HelpsOnce, StaysApart, turn_quota}
+use Rattle.gc_cycle.specs.Turns.{DrainsFor, HelpsBetween, HelpsInTurns, HelpsOnce, SeesToRoots, StaysApart, turn_quota}
 use Rattle.gc_cycle.proofs.Admitted.{count-run, never-join}
-use Rattle.gc_cycle.proofs.Payment.{earlier-moment, later-moment}
+use Rattle.gc_cycle.proofs.Payment.{earlier-moment, later-moment, packet-longer, packet-widens, roots-left, roots-right}
 use Rattle.gc_cycle.proofs.Searched.{work-longer, work-widens}
+use Rattle.gc_cycle.proofs.Sequences.{this-moment}
 
 -- a trace, by how it stopped
 pub traced-for : (s : Stopped) (quota : ℕ) (r : Traced) (v w : View) → r.stopped ≡ s → EndsTrace quota r v w → DrainsFor quota v w
@@ -48,6 +52,30 @@ drained-within quota u v w x a b d h =
 -- a trace among other calls
 pub traced-within : (quota : ℕ) (r : Traced) (u v w x : View) → Ran u v → Ran v w → Ran w x → EndsTrace quota r v w → DrainsFor quota u x
 traced-within quota r u v w x a b d t = drained-within quota u v w x a b d (traced-for r.stopped quota r v w refl t)
+
+-- a scan of a section's roots, by its answer
+pub roots-scanned : (section : ℕ) (r : RootScan) (v w : View) → ScansRoots section r v w → SeesToRoots section v w
+roots-scanned section (roots.Done marked) v w s = or_left _ _ s
+roots-scanned section roots.NoPacket v w s = or_right (roots_scanned section (events v w)) _ (this-moment v.shape (finds_no_packet v.shape) (events v w) (begins v) s.0)
+
+-- it is so of two calls where it is so of the first
+pub roots-earlier : (section : ℕ) (u v w : View) → Ran u v → Ran v w → SeesToRoots section u v → SeesToRoots section u w
+roots-earlier section u v w a b h =
+    ⊎_elim
+    (λ (k : roots_scanned section (events u v) ≡ true). or_left _ _ (ap (roots_scanned section) (ran-events u v w a b) ∙ roots-left section (events u v) (events v w) k))
+    (λ (k : at_some_moment u.shape (finds_no_packet u.shape) (begins u) (events u v) ≡ true).
+    or_right (roots_scanned section (events u w)) _ (earlier-moment (finds_no_packet u.shape) u v w (packet-longer u.shape (events v w)) a b k))
+    (or_cases (roots_scanned section (events u v)) _ h)
+
+-- or of the second
+pub roots-later : (section : ℕ) (u v w : View) → Ran u v → Ran v w → SeesToRoots section v w → SeesToRoots section u w
+roots-later section u v w a b h =
+    ⊎_elim
+    (λ (k : roots_scanned section (events v w) ≡ true). or_left _ _ (ap (roots_scanned section) (ran-events u v w a b) ∙ roots-right section (events u v) (events v w) k))
+    (λ (k : at_some_moment v.shape (finds_no_packet v.shape) (begins v) (events v w) ≡ true).
+    or_right (roots_scanned section (events u w)) _
+    (later-moment (finds_no_packet u.shape) (packet-widens u.shape) u v w a b (subst (λ (sh : Shape). at_some_moment v.shape (finds_no_packet sh) (begins v) (events v w) ≡ true) (ran-shape u v a) k)))
+    (or_cases (roots_scanned section (events v w)) _ h)
 
 -- a seat that does nothing joins nobody
 pub apart-none : (v : View) → StaysApart v v

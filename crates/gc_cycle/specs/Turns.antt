@@ -12,7 +12,8 @@ use Rattle.stop_world.specs.Gates.{Declines, Joins}
 use Rattle.gc_cycle.specs.declared.counts.Helped.{Helped}
 use Rattle.gc_cycle.specs.Events.{never}
 use Rattle.gc_cycle.specs.Helping.{HelpsAs}
-use Rattle.gc_cycle.specs.Moments.{at_some_moment, begins, finds_no_work}
+use Rattle.gc_cycle.specs.Moments.{at_some_moment, begins, finds_no_packet, finds_no_work}
+use Rattle.gc_cycle.specs.Roots.{roots_scanned}
 use Rattle.gc_cycle.specs.Sorts.{joins, pops}
 
 -- how many cells a round of the drain pops, where there are as many
@@ -26,6 +27,10 @@ turn_quota = 1024
 -- so many cells were popped, or at some moment nothing was left in hand and there was no packet to read from
 abbrev pub DrainsFor : ℕ → View → View → Type 0
 DrainsFor quota v w = IsTrue (nat_le quota (count_of pops (events v w)) || at_some_moment v.shape (finds_no_work v.shape) (begins v) (events v w))
+
+-- each variable of the section was seen to, or at some moment no packet could be taken
+abbrev pub SeesToRoots : ℕ → View → View → Type 0
+SeesToRoots section v w = IsTrue (roots_scanned section (events v w) || at_some_moment v.shape (finds_no_packet v.shape) (begins v) (events v w))
 
 -- where the phase was read as Drain or Sweep, it helped: in a drain until so many objects were traced, or no work or no packet was found, and in a sweep until no block was left
 abbrev pub HelpsFor : ℕ → View → View → Type 0

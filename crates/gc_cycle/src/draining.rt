@@ -1,5 +1,5 @@
 //! The drain: what the mutators left is marked, first with the helpers and then alone.
-ghost use Rattle.std.specs.Prelude.{ℕ, ◌≡◌, ◌+◌, ◌⊎◌, [], ◌∷◌, min, IsTrue};
+ghost use Rattle.std.specs.Prelude.{ℕ, ◌≡◌, ◌<◌, ◌+◌, ◌⊎◌, [], ◌∷◌, min, IsTrue};
 ghost use Rattle.mark_core.specs.Numbers.{card_counter};
 ghost use Rattle.mark_core.specs.Places.{the_next_card};
 ghost use Rattle.mark_core.specs.Seats.{phase_number};
@@ -14,7 +14,7 @@ ghost use Rattle.gc_cycle.specs.Drained.{IsDrained, IsRooted};
 ghost use Rattle.gc_cycle.specs.Finishing.{IsAloneIn, IsMove, IsOpen, IsOpenPart, IsPart, most};
 ghost use Rattle.gc_cycle.specs.Helping.{rescanned_in};
 ghost use Rattle.gc_cycle.specs.Sorts.{opens};
-ghost use Rattle.gc_cycle.specs.Turns.{DrainsFor, round_quota};
+ghost use Rattle.gc_cycle.specs.Turns.{DrainsFor, SeesToRoots, round_quota};
 
 use crate::lower::{
     clean_dirty, close_help, is_drained, open_help, recycle_deferred, scan_roots, see_to_roots,
@@ -41,7 +41,7 @@ pub(crate) fn begin_drain(heap: &Heap, seat: &mut HeapSeat)
     heap.reset(seat, CARD_COUNTER);
 }
 
-/// One round: what was put off, all sections' roots, all packets, and all cards. How many objects were scanned again.
+/// One round: what was put off, all packets, and all cards. How many objects were scanned again.
 fn drain_round(heap: &Heap, seat: &mut HeapSeat) -> u32
     requires seat { Sits heap.now seat.old }
     requires alone { IsAloneIn Drain (view_of seat.old) }
@@ -63,6 +63,7 @@ fn scan_all_roots(heap: &Heap, seat: &mut HeapSeat)
     ensures seat { Sits heap.now seat.new }
     ensures part { IsPart Drain (view_of seat.old) (view_of seat.new) }
     ensures rescanned { rescanned_in (view_of seat.old) (events (view_of seat.old) (view_of seat.new)) ≡ 0 }
+    ensures roots { (section : ℕ) → section < heap.now.shape.sections → SeesToRoots section (view_of seat.old) (view_of seat.new) }
 {
     for section in 0..heap.shape().sections {
         scan_roots(heap, seat, section);
@@ -75,6 +76,7 @@ pub(crate) fn drain_together<R: Wait>(rt: &R, heap: &Heap, seat: &mut HeapSeat) 
     requires alone { IsAloneIn Drain (view_of seat.old) }
     ensures seat { Sits heap.now seat.new }
     ensures part { IsPart Drain (view_of seat.old) (view_of seat.new) }
+    ensures roots { (section : ℕ) → section < heap.now.shape.sections → SeesToRoots section (view_of seat.old) (view_of seat.new) }
     ensures opened { IsTrue (some_event opens (events (view_of seat.old) (view_of seat.new))) }
     ensures rescanned { rescanned_in (view_of seat.old) (events (view_of seat.old) (view_of seat.new)) ≡ result }
     ensures worked { DrainsFor round_quota (view_of seat.old) (view_of seat.new) }

@@ -20,7 +20,7 @@ use Rattle.gc_cycle.proofs.Opened.{closed, open-event, open-part, open-ran, open
 use Rattle.gc_cycle.proofs.Parts.{part-join}
 use Rattle.gc_cycle.proofs.Unopened.{openable}
 use Rattle.gc_cycle.specs.Turns.{round_quota}
-use Rattle.gc_cycle.proofs.Turns.{drained-within}
+use Rattle.gc_cycle.proofs.Turns.{drained-within, roots-earlier}
 use Rattle.gc_cycle.proofs.draining.drain_together.Goals as goal
 
 closes-none : (s : SeatState) (step : Step) (n : ℕ) → closes step ≡ true → rescans s step n ≡ 0
@@ -83,3 +83,12 @@ returns-clause-worked g c =
     let z : View = view_of c.close_help.new.seat in
     let before : Ran v x = ran-join v w x c.scan_all_roots.ensures.part.ran (open-ran w x c.open_help.ensures.step) in
     drained-within round_quota v x y z before c.help_drain-rescanned.ensures.open.ran c.close_help.ensures.ran c.help_drain-rescanned.ensures.worked
+
+pub returns-clause-roots : goal.returns-clause-roots
+returns-clause-roots g c = λ s l.
+    let w : View = view_of c.scan_all_roots.new.seat in
+    let x : View = view_of c.open_help.new.seat in
+    let y : View = view_of c.help_drain-rescanned.new.seat in
+    let z : View = view_of c.close_help.new.seat in
+    let later : Ran w z = ran-join w x z (open-ran w x c.open_help.ensures.step) (ran-join x y z c.help_drain-rescanned.ensures.open.ran c.close_help.ensures.ran) in
+    roots-earlier s (view_of c.args.seat.now) w z c.scan_all_roots.ensures.part.ran later (c.scan_all_roots.ensures.roots s l)
