@@ -9,17 +9,21 @@ use Rattle.gc_table.specs.declared.view.View.{View}
 use Rattle.gc_table.proofs.Log.{events-after, only-after}
 use Rattle.gc_table.proofs.Running.{ran-took}
 use Rattle.gc_cycle.specs.Cycles.{never_fills}
+use Rattle.gc_cycle.specs.Events.{never}
 use Rattle.gc_cycle.specs.Mutating.{HasEntered}
+use Rattle.gc_cycle.specs.Sorts.{raises_flag}
 use Rattle.mark_core.specs.Numbers.{done_count}
 use Rattle.gc_cycle.specs.Sparing.{spares_part}
 use Rattle.gc_cycle.specs.Standing.{IsOut, Mutates}
 use Rattle.gc_cycle.proofs.Goings.{mutator-nothing}
-use Rattle.gc_table.specs.Log.{Only}
+use Rattle.gc_table.specs.Log.{Only, events}
 use Rattle.play_end.specs.Done.{IsStill}
 use Rattle.stop_world.proofs.Standing.{active-counted, strong, unless}
+use Rattle.warehouse.specs.Commands.{Leaves}
 use Rattle.warehouse.specs.Ending.{CountsAbsent}
 use Rattle.warehouse.specs.Turns.{KeepsPart}
 use Rattle.warehouse.proofs.Counting.{spares-seasons}
+use Rattle.warehouse.proofs.Leavings.{leaves-calm, leaves-counted, leaves-join}
 use Rattle.warehouse.proofs.Seasons.{keeps-join, spared-keeps}
 
 -- the seat entered (v), and counted the part (w)
@@ -56,9 +60,13 @@ module _ (u v w : View) (entered : HasEntered u v) (spares : Only spares_part u 
     counts-absent =
         let gone = only-after spares_part w x LeaveStep leave.0 refl leave.1.0 in
         let left = ran-took w x LeaveStep refl leave in
+        let calm : never raises_flag (events w x) ≡ true = ap (λ (es : List Entry). never raises_flag es) (events-after w x LeaveStep leave.0 leave.1.0) in
+        let entering : Leaves 0 u v = leaves-calm u v entered.out.ran spares entered.out.calm in
+        let counting : Leaves 1 v x = leaves-join 1 0 1 v w x (leaves-counted v w count) (leaves-calm w x left gone calm) refl in
         record {
           keeps =
               keeps-join u v x (spared-keeps u v entered.out.ran spares entered.position)
               (keeps-join v w x count_keeps (spared-keeps w x left gone (ap (λ (y : View). y.own.position) leave.1.0)));
+          counted = (leaves-join 0 1 1 u v x entering counting refl).counted;
           seasons = spares-seasons w x left gone ∙ (ap (λ (y : View). y.own.seasons) count.1.0 ∙ spares-seasons u v entered.out.ran spares);
         }

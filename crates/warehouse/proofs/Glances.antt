@@ -1,6 +1,7 @@
 -- A mutator polls and reads the phase, and so sees whether it may go on at once.
-use Rattle.std.proofs.Common.{ℕ, ◌≡◌, ◌∙◌, ◌++◌, List, refl, ap, false}
+use Rattle.std.proofs.Common.{ℕ, ◌≡◌, ◌∙◌, ◌++◌, List, refl, ap, true, false, inl, inr}
 use Rattle.std.specs.Prelude.{Some}
+use Rattle.std.proofs.lemmas.Bool.{or_left}
 use Rattle.mark_core.specs.Bits.{has_flag}
 use Rattle.mark_core.specs.Seats.{phase_of, saw}
 use Rattle.mark_core.specs.declared.kinds.Phase.TheVariants.{Full}
@@ -13,16 +14,16 @@ use Rattle.gc_table.specs.declared.view.View.{View}
 use Rattle.gc_table.proofs.Log.{events-after, only-after}
 use Rattle.gc_table.proofs.Running.{ran-events, ran-found, ran-refl}
 use Rattle.packet_pools.specs.Seeking.{some_event}
-use Rattle.packet_pools.proofs.Searches.{some-left}
+use Rattle.packet_pools.proofs.Searches.{some-left, some-right}
 use Rattle.gc_cycle.specs.Answering.{GoesOn, TellsFull}
 use Rattle.gc_cycle.specs.Mutating.{stays_calm, tries_stopping}
-use Rattle.gc_cycle.specs.Polling.{poll_found_stop}
-use Rattle.gc_cycle.specs.Sorts.{polls}
+use Rattle.gc_cycle.specs.Polling.{poll_found_stop, saw_full}
+use Rattle.gc_cycle.specs.Sorts.{polls, reads_phase}
 use Rattle.gc_cycle.specs.Standing.{Mutates}
 use Rattle.gc_cycle.proofs.Answered.{polled-mutates}
 use Rattle.gc_cycle.proofs.Fulls.{goes-on, mutates-still, tells-more, tells-none}
 use Rattle.gc_cycle.proofs.Goings.{goes-out, out-join}
-use Rattle.warehouse.specs.Playing.{Glances}
+use Rattle.warehouse.specs.Playing.{Glances, IsHindered}
 
 module _ (n : ℕ) (u v : View) (polled : Found Observe n u v) (mutates : Mutates u) where
   poll_ran : Ran u v
@@ -38,6 +39,10 @@ module _ (n : ℕ) (u v : View) (polled : Found Observe n u v) (mutates : Mutate
         polled = ap (some_event polls) (events-after u v Observe n polled.0);
         cache = ap (λ (x : View). x.state.cache) polled.0;
       }
+
+  -- it found a stop
+  pub poll-hindered : has_flag n ≡ true → IsHindered u v
+  poll-hindered stop = inl (ap poll_found_stop (events-after u v Observe n polled.0) ∙ stop)
 
   -- the phase after it
   module _ (m : ℕ) (w : View) (read : Found ReadPhase m v w) where
@@ -58,6 +63,12 @@ module _ (n : ℕ) (u v : View) (polled : Found Observe n u v) (mutates : Mutate
     -- the poll found what it found
     pub glance-free : has_flag n ≡ false → poll_found_stop (events u w) ≡ false
     glance-free none = ap poll_found_stop (ran-events u v w poll_ran read_ran ∙ ap (λ (es : List Entry). es ++ events v w) (events-after u v Observe n polled.0)) ∙ none
+
+    -- where it was Full, the mutator is hindered
+    pub glance-full : saw (Some (phase_of m)) Full ≡ true → IsHindered u w
+    glance-full full =
+        let last : saw_full (events v w) ≡ true = ap saw_full (events-after v w ReadPhase m read.0) ∙ or_left (saw (Some (phase_of m)) Full) false full in
+        inr (ap saw_full (ran-events u v w poll_ran read_ran) ∙ some-right (reads_phase Full) (events u v) (events v w) last)
 
     -- where it wasn't Full, the mutator goes on
     pub glance-goes : saw (Some (phase_of m)) Full ≡ false → GoesOn u w

@@ -1,5 +1,5 @@
 -- A mutator that plays a part: what it has between its commands, and what it says at the end.
-use Rattle.std.specs.Prelude.{ℕ, ◌≡◌, ◌⊎◌, ◌+◌, ◌-◌, ◌<◌, ◌≤◌, ◌==◌, ◌&&◌, not, List, [], length, map, take, drop, count_by, slice_index_or, Bool, true, false, Option, Some, None, IsTrue, IsFalse, vec_capacity}
+use Rattle.std.specs.Prelude.{ℕ, ◌≡◌, ◌≢◌, ◌⊎◌, ◌+◌, ◌-◌, ◌<◌, ◌≤◌, ◌==◌, ◌&&◌, not, List, [], length, map, take, drop, count_by, slice_index_or, Bool, true, false, Option, Some, None, IsTrue, IsFalse, vec_capacity}
 use Rattle.std.specs.Int.Count.{ones}
 use Rattle.mark_core.specs.declared.kinds.Step.{Step}
 use Rattle.mark_core.specs.declared.kinds.Step.TheVariants.{AddStat, ReadSeason}
@@ -32,6 +32,7 @@ use Rattle.gc_cycle.specs.Cycles.{never_fills}
 use Rattle.gc_cycle.specs.Events.{never}
 use Rattle.gc_cycle.specs.Mutating.{GoesOut}
 use Rattle.gc_cycle.specs.PartEvents.{PlaysCommands, StopsAtFull, polled_last}
+use Rattle.gc_cycle.specs.Polling.{poll_found_stop, saw_full}
 use Rattle.gc_cycle.specs.Sorts.{ends_cycle, polls}
 use Rattle.gc_cycle.specs.Standing.{IsOut, Mutates}
 use Rattle.gc_cycle.specs.Stops.{stops_without_cause}
@@ -99,6 +100,14 @@ Waits v w = (season : ℕ) → Acts season 0 0 0 v w
 abbrev pub LooksAtSeason : View → View → Type 0
 LooksAtSeason v w = (w ≡ v) ⊎ ((n : ℕ) × Found ReadSeason n v w)
 
+-- the season that the seat has seen is another than this
+abbrev pub SeesOther : ℕ → View → Type 0
+SeesOther turn v = (season : ℕ) × (v.state.season_seen ≡ Some season) × (season ≢ turn)
+
+-- the first poll found a stop under way, or the phase was read as Full
+abbrev pub IsHindered : View → View → Type 0
+IsHindered v w = IsTrue (poll_found_stop (events v w)) ⊎ IsTrue (saw_full (events v w))
+
 -- the mutator polled, and at most read the phase: it has the cache that it had
 pub record Glances (v w : View) : Type 0 where
   pub out : GoesOut v w
@@ -128,6 +137,11 @@ pub record FindsFull (done : ℕ) (v w : View) : Type 0 where
 abbrev pub HasFree : Option Cache → Type 0
 HasFree None = ⊥
 HasFree (Some h) = 0 < ones h.cells
+
+-- there is no cache, or it has no free cell
+abbrev pub HasNoFree : Option Cache → Type 0
+HasNoFree None = Unit {0}
+HasNoFree (Some h) = ones h.cells ≡ 0
 
 -- a mutator inside a part: active, with this cache
 pub record IsPlaying (h : Heap) (p : Parts) (kept : Option Cache) (m : Mutator) : Type 0 where

@@ -1,5 +1,5 @@
 //! One command of a part.
-ghost use Rattle.std.specs.Prelude.{◌≡◌, ◌+◌, ◌<◌, ◌≤◌, ◌++◌, [], ◌∷◌, if◌then◌else◌, is_some, length, map, IsTrue, None, vec_capacity};
+ghost use Rattle.std.specs.Prelude.{◌≡◌, ◌+◌, ◌<◌, ◌≤◌, ◌⊎◌, ◌++◌, [], ◌∷◌, if◌then◌else◌, is_some, length, map, IsTrue, IsFalse, None, vec_capacity};
 ghost use Rattle.std.specs.Bool.{OnFalse, OnTrue};
 ghost use Rattle.plain_heap.specs.PlainRun.{with_label};
 ghost use Rattle.plain_heap.specs.Sections.{makes_object};
@@ -7,7 +7,7 @@ ghost use Rattle.plain_heap.specs.declared.operation.Op.TheVariants as ops;
 ghost use Rattle.play_report.specs.Report.{printed_of};
 ghost use Rattle.gc_script.specs.Shown.{execution_of};
 ghost use Rattle.warehouse.specs.Commands.{DoesOne, IsAt, IsNextOf, IsTurn, MayDo, PlaysOne, StopsBefore, is_other};
-ghost use Rattle.warehouse.specs.Playing.{HasFree, IsPlaying};
+ghost use Rattle.warehouse.specs.Playing.{HasFree, HasNoFree, IsPlaying};
 
 use crate::gate::Gate;
 use crate::mutator::Mutator;
@@ -193,6 +193,7 @@ fn come_late<'a, R: Wait>(
 fn may_begin(ready: bool, command: &Command<'_>, cache: &Option<Cache>) -> bool
     ensures ready { IsTrue result → IsTrue ready }
     ensures free { IsTrue result → IsTrue (makes_object (execution_of command.now).op) → HasFree cache.now }
+    ensures late { OnFalse result (IsFalse ready ⊎ (IsTrue (makes_object (execution_of command.now).op) × HasNoFree cache.now)) }
 {
     ready && (!makes(command.op) || has_free(cache))
 }

@@ -1,5 +1,5 @@
 //! A mutator comes into its turn, with a cache where it needs one.
-ghost use Rattle.std.specs.Prelude.{◌≡◌, Some, None, IsTrue, IsFalse};
+ghost use Rattle.std.specs.Prelude.{◌≡◌, ◌⊎◌, Some, None, IsTrue, IsFalse};
 ghost use Rattle.std.specs.Bool.{OnFalse, OnTrue};
 ghost use Rattle.mark_core.specs.Seats.{has_turn, saw};
 ghost use Rattle.mark_core.specs.declared.kinds.Phase.TheVariants.{Full};
@@ -7,7 +7,7 @@ ghost use Rattle.gc_table.specs.Log.{Only, events};
 ghost use Rattle.gc_table.specs.Running.{Ran};
 ghost use Rattle.gc_table.specs.Seats.{Sits, view_of};
 ghost use Rattle.gc_cycle.specs.Answering.{GoesOn, HasCache};
-ghost use Rattle.warehouse.specs.Playing.{FindsFull, GetsReady, Glances, HasFree, IsCounted, LooksAtSeason, Stays, Waits};
+ghost use Rattle.warehouse.specs.Playing.{FindsFull, GetsReady, Glances, HasFree, HasNoFree, IsCounted, IsHindered, LooksAtSeason, SeesOther, Stays, Waits};
 ghost use Rattle.gc_cycle.specs.Events.{never};
 ghost use Rattle.gc_cycle.specs.Polling.{poll_found_stop};
 ghost use Rattle.gc_cycle.specs.Sorts.{raises_flag};
@@ -54,6 +54,7 @@ fn is_turn(heap: &Heap, seat: &mut HeapSeat, turn: u64) -> bool
     ensures seat { Sits heap.now seat.new }
     ensures looks { LooksAtSeason (view_of seat.old) (view_of seat.new) }
     ensures turn { IsTrue result → (view_of seat.new).state.season_seen ≡ Some turn }
+    ensures other { OnFalse result (SeesOther turn (view_of seat.new)) }
 {
     match seat.state().season_seen {
         Some(season) => season == turn,
@@ -61,12 +62,20 @@ fn is_turn(heap: &Heap, seat: &mut HeapSeat, turn: u64) -> bool
     }
 }
 
-/// Leaves, and enters again.
+/// Leaves, and enters again: only where the season is another than this turn.
 #[cold]
 #[inline(never)]
-fn go_round<R: Wait>(rt: &R, heap: &Heap, seat: &mut HeapSeat, cache: &mut Option<Cache>, done: u32)
+fn go_round<R: Wait>(
+    rt: &R,
+    heap: &Heap,
+    seat: &mut HeapSeat,
+    cache: &mut Option<Cache>,
+    _turn: u64,
+    done: u32,
+)
     requires seat { Sits heap.now seat.old × Mutates (view_of seat.old) }
     requires cache { HasCache cache.old (view_of seat.old) }
+    requires other { SeesOther _turn (view_of seat.old) }
     ensures seat { Sits heap.now seat.new × Mutates (view_of seat.new) }
     ensures cache { (view_of seat.new).state.cache ≡ None }
     ensures none { cache.new ≡ None }
@@ -96,6 +105,7 @@ fn sees_clear(heap: &Heap, seat: &mut HeapSeat) -> bool
     ensures glances { Glances (view_of seat.old) (view_of seat.new) }
     ensures free { IsTrue result → IsFalse (poll_found_stop (events (view_of seat.old) (view_of seat.new))) }
     ensures clear { IsTrue result → GoesOn (view_of seat.old) (view_of seat.new) }
+    ensures hindered { OnFalse result (IsHindered (view_of seat.old) (view_of seat.new)) }
 {
     if poll(heap, seat) {
         return false;
@@ -114,6 +124,7 @@ pub(crate) fn is_ready(heap: &Heap, seat: &mut HeapSeat, _cache: &Option<Cache>,
     ensures seat { Sits heap.now seat.new × Mutates (view_of seat.new) }
     ensures cache { HasCache _cache.now (view_of seat.new) }
     ensures ready { IsTrue result → GetsReady turn _cache.now (view_of seat.old) (view_of seat.new) }
+    ensures late { OnFalse result (IsHindered (view_of seat.old) (view_of seat.new) ⊎ SeesOther turn (view_of seat.new)) }
     ensures stays { Stays (view_of seat.old) (view_of seat.new) }
     ensures waits { Waits (view_of seat.old) (view_of seat.new) }
 {
@@ -149,19 +160,29 @@ pub(crate) fn await_turn<R: Wait>(
         if is_turn(heap, seat, turn) {
             return true;
         }
-        go_round(rt, heap, seat, cache, done);
+        go_round(rt, heap, seat, cache, turn, done);
     }
     unreachable!()
 }
 
 /// Whether a cell can be made in the cache.
 pub(crate) fn has_free(cache: &Option<Cache>) -> bool
-    ensures { IsTrue result → HasFree cache.now }
+    ensures free { IsTrue result → HasFree cache.now }
+    ensures none { OnFalse result (HasNoFree cache.now) }
 {
     match cache {
         Some(cache) => cache.free() != 0,
         None => false,
     }
+}
+
+/// Takes out a cache in which no cell can be made, if there is one.
+fn take_empty(cache: &mut Option<Cache>) -> Option<Cache>
+    requires { HasNoFree cache.old }
+    ensures value { result ≡ cache.old }
+    ensures after { cache.new ≡ None }
+{
+    cache.take()
 }
 
 /// Keeps a cache where there was none.
@@ -196,7 +217,7 @@ pub(crate) fn await_cell<R: Wait>(
         if has_free(cache) {
             return true;
         }
-        retire_some(heap, seat, cache.take());
+        retire_some(heap, seat, take_empty(cache));
         match refill(rt, heap, seat, done) {
             Refill::Full => return false,
             Refill::Cache(next, _) => keep(cache, next),

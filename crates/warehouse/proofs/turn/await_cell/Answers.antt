@@ -48,17 +48,17 @@ pub returns-then-has_free-clause-ready : goal.returns-then-has_free-clause-ready
 returns-then-has_free-clause-ready g c =
     let i = c.loop.invariant in (
       ready-after c.args.turn c.await_turn.new.cache (view_of c.args.seat.now) (view_of c.loop.seat) (view_of c.await_turn.new.seat) i.stays i.waits c.if-not-await_turn.ensures.ready,
-      c.has_free.ensures c.if-has_free.true,
+      c.has_free.ensures.free c.if-has_free.true,
     )
 
 pub retire_some-requires-clause-seat : goal.retire_some-requires-clause-seat
 retire_some-requires-clause-seat g c = (c.await_turn.ensures.seat, c.if-not-await_turn.ensures.ready.mutates)
 
 pub retire_some-requires-clause-cache : goal.retire_some-requires-clause-cache
-retire_some-requires-clause-cache g c = subst (λ o. HasCache o (view_of c.await_turn.new.seat)) (sym c.take.ensures.value) c.if-not-await_turn.ensures.ready.cached
+retire_some-requires-clause-cache g c = subst (λ o. HasCache o (view_of c.await_turn.new.seat)) (sym c.take_empty.ensures.value) c.if-not-await_turn.ensures.ready.cached
 
 pub keep-requires : goal.keep-requires
-keep-requires g c = c.take.ensures.after
+keep-requires g c = c.take_empty.ensures.after
 
 pub loop-preserved : goal.loop-preserved
 loop-preserved g c =
@@ -97,5 +97,5 @@ returns-in-Full-clause-full g c =
       finds-after c.args.done u x y (stays-join u v x i.stays (stays-join v w x k.stays r.stays))
           (waits-join u v x i.waits (waits-join v w x (ready-waits c.args.turn c.await_turn.new.cache v w k) (waits-calm w x r.ran r.spares r.calm))) f.keeps.0 f.keeps.1 (waits-caused x y f.ran f.only cause)
           c.in-Full.ensures.refills c.in-Full.ensures.spares,
-      c.take.ensures.after,
+      c.take_empty.ensures.after,
     )

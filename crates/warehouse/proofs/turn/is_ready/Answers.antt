@@ -1,3 +1,5 @@
+use Rattle.std.proofs.Common.{inl, inr}
+use Rattle.std.proofs.lemmas.Bool.{OnFalse_at, OnFalse_from}
 use Rattle.gc_table.specs.Seats.{view_of}
 use Rattle.gc_table.specs.declared.view.View.{View}
 use Rattle.gc_table.proofs.Log.{only-more}
@@ -60,3 +62,9 @@ returns-clause-waits c =
     let x : View = view_of c.is_turn.new.seat in
     let o = c.sees_clear.ensures.glances.out in
     waits-join v w x (waits-calm v w o.ran (only-more stays_calm spares_part calm-spares v w o.only) o.calm) (looks-waits w x c.is_turn.ensures.looks)
+
+pub returns-then-not-sees_clear-clause-late : goal.returns-then-not-sees_clear-clause-late
+returns-then-not-sees_clear-clause-late c = inl c.if-not-sees_clear.ensures.hindered
+
+pub returns-clause-late : goal.returns-clause-late
+returns-clause-late c = OnFalse_from c.is_turn.result _ (λ no. inr (OnFalse_at no c.is_turn.ensures.other))
