@@ -1,7 +1,7 @@
 -- The events of a tracer, turn by turn.
-use Rattle.std.proofs.Common.{ℕ, ◌≡◌, ◌≤◌, ◌⊎◌, ⊎_elim, inl, inr, List, [], ◌∷◌, ◌++◌, refl, sym, ap, ◌∙◌, subst, arith, append_assoc, Bool, true, false, not, cond, ◌||◌, Some}
-use Rattle.std.specs.Prelude.{IsTrue}
-use Rattle.std.proofs.lemmas.Bool.{true≢false, and_parts}
+use Rattle.std.proofs.Common.{ℕ, ◌≡◌, ◌<◌, ◌≤◌, ◌⊎◌, ⊎_elim, inl, inr, List, [], ◌∷◌, ◌++◌, refl, sym, ap, ◌∙◌, subst, arith, append_assoc, Bool, true, false, not, cond, ◌&&◌, ◌||◌, Some}
+use Rattle.std.specs.Prelude.{IsTrue, IsFalse, nat_le}
+use Rattle.std.proofs.lemmas.Bool.{true≢false, and_parts, and_left, not_from_true, or_from, or_left, le-leb, lt-leb}
 use Rattle.mark_core.specs.Bits.{has_flag}
 use Rattle.mark_core.specs.Seats.{phase_of, saw}
 use Rattle.mark_core.specs.declared.kinds.Phase.{Phase}
@@ -16,7 +16,7 @@ use Rattle.gc_table.proofs.Log.{events-join, grows-join}
 use Rattle.packet_pools.specs.Counts.{SomeStretch}
 use Rattle.packet_pools.specs.Seeking.{NoInput, NoOutput, some_event}
 use Rattle.tracer.specs.Tally.{pops}
-use Rattle.gc_play.specs.Turns.{Turn, entry, leaves_done, reads_done, lead, turns_of, sees_full, leaves, inside, Traces, Pays, IsTurn, IsLast, AreTurns, AllTurns, HasTraced, IsQuiet, IsOneTurn, TracesInside, IsRound}
+use Rattle.gc_play.specs.Turns.{Turn, entry, leaves_done, reads_done, lead, turns_of, sees_full, enters_full, leaves, inside, Traces, Pays, IsTurn, AreTurns, AllTurns, HasTraced, IsQuiet, IsOne, IsOneTurn, SeesPhase, TracesInside, IsRound}
 
 tail : List Entry → List Entry
 tail [] = []
@@ -98,48 +98,53 @@ module _ (sh : Shape) (until : ℕ) where
         turn = record { found = n; rest = [] };
         first = refl;
         only = refl;
-        is = record { enters = λ low. absurd (omega (arith, high, low)); pays = λ low. absurd (omega (arith, high, low)) };
-        ends = λ _. inl high;
+        is = record { enters = λ low. absurd (omega (arith, high, low)); pays = λ low. absurd (omega (arith, high, low)); ends = sym (or_left (nat_le until n) false (le-leb until n high)) };
       }
 
   -- it found a flag, and waited
-  pub one-waits : (n a b : ℕ) (es : List Entry) → IsTrue (has_flag a) → IsQuiet es → IsOneTurn sh until false (entry (ReadStat 6) n ∷ entry EnterStep a ∷ entry LeaveStep b ∷ es)
-  one-waits n a b es flag q =
+  pub one-waits : (n a b : ℕ) (es : List Entry) → n < until → IsTrue (has_flag a) → IsQuiet es → IsOneTurn sh until false (entry (ReadStat 6) n ∷ entry EnterStep a ∷ entry LeaveStep b ∷ es)
+  one-waits n a b es left flag q =
       let rest : List Entry = entry EnterStep a ∷ entry LeaveStep b ∷ es in
       record {
         turn = record { found = n; rest = rest };
         first = refl;
         only = turn-of n rest (quiet-join (entry EnterStep a ∷ []) (entry LeaveStep b ∷ es) (quiet-one EnterStep a refl) (quiet-join (entry LeaveStep b ∷ []) es (quiet-one LeaveStep b refl) q));
-        is = record { enters = λ _ e. absurd (true≢false (sym flag ∙ e)); pays = λ _ e. absurd (true≢false (sym flag ∙ e)) };
-        ends = λ e. absurd (true≢false (sym e));
+        is =
+            record {
+              enters = λ _ e. absurd (true≢false (sym flag ∙ e));
+              pays = λ _ e. absurd (true≢false (sym flag ∙ e));
+              ends = sym (or_from (nat_le until n) (enters_full rest) (lt-leb until n left) (and_left (not (has_flag a)) (sees_full es) (not_from_true (has_flag a) flag)));
+            };
       }
 
   -- it entered
-  pub one-goes : (n a : ℕ) (full : Bool) (es : List Entry) → IsRound sh full es → IsOneTurn sh until full (entry (ReadStat 6) n ∷ entry EnterStep a ∷ es)
-  one-goes n a full es r =
+  pub one-goes : (n a : ℕ) (full : Bool) (es : List Entry) → n < until → IsFalse (has_flag a) → IsRound sh full es → IsOneTurn sh until full (entry (ReadStat 6) n ∷ entry EnterStep a ∷ es)
+  one-goes n a full es left free r =
       let rest : List Entry = entry EnterStep a ∷ es in
-      let t : Turn = record { found = n; rest = rest } in
-      let is : IsTurn sh until t = record { enters = λ _ _. r.sees; pays = λ _ _. r.pays } in
       record {
-        turn = t;
+        turn = record { found = n; rest = rest };
         first = refl;
         only = turn-of n rest (quiet-join (entry EnterStep a ∷ []) es (quiet-one EnterStep a refl) r.quiet);
-        is = is;
-        ends = λ f. inr (is, r.ends f);
+        is =
+            record {
+              enters = λ _ _. r.sees;
+              pays = λ _ _. r.pays;
+              ends = r.ends ∙ sym (ap (λ (b : Bool). b || (not (has_flag a) && sees_full es)) (lt-leb until n left) ∙ ap (λ (b : Bool). not b && sees_full es) free);
+            };
       }
 
-  all-more : (ts : List Turn) (t : Turn) → AllTurns sh until ts → IsTurn sh until t → AllTurns sh until (ts ++ t ∷ [])
+  all-more : (ts : List Turn) (t : Turn) → AllTurns sh until ts → IsTurn sh until false t → AllTurns sh until (ts ++ t ∷ [])
   all-more [] t a b = (b, tt)
   all-more (u ∷ us) t a b = (a.0, all-more us t a.1 b)
 
-  are-last : (ts : List Turn) (t : Turn) → AllTurns sh until ts → IsLast sh until t → AreTurns sh until (ts ++ t ∷ [])
+  are-last : (ts : List Turn) (t : Turn) → AllTurns sh until ts → IsTurn sh until true t → AreTurns sh until (ts ++ t ∷ [])
   are-last [] t a b = b
   are-last (u ∷ []) t a b = (a.0, b)
   are-last (u ∷ v ∷ vs) t a b = (a.0, are-last (v ∷ vs) t a.1 b)
 
   -- one turn more
-  pub turn-more : (xs ys : List Entry) (last : Bool) → IsOneTurn sh until last ys → lead xs ≡ [] → AllTurns sh until (turns_of xs) → (lead (xs ++ ys) ≡ []) × AllTurns sh until (turns_of (xs ++ ys))
-  turn-more xs ys last o f a = (
+  pub turn-more : (xs ys : List Entry) → IsOneTurn sh until false ys → lead xs ≡ [] → AllTurns sh until (turns_of xs) → (lead (xs ++ ys) ≡ []) × AllTurns sh until (turns_of (xs ++ ys))
+  turn-more xs ys o f a = (
     lead-more xs ys o.first ∙ f,
     subst (AllTurns sh until) (sym (turns-more xs ys o.first ∙ ap (λ l. turns_of xs ++ l) o.only)) (all-more (turns_of xs) o.turn a o.is),
   )
@@ -149,7 +154,7 @@ module _ (sh : Shape) (until : ℕ) where
   turn-last xs ys o f a =
       record {
         first = lead-more xs ys o.first ∙ f;
-        turns = subst (AreTurns sh until) (sym (turns-more xs ys o.first ∙ ap (λ l. turns_of xs ++ l) o.only)) (are-last (turns_of xs) o.turn a (o.ends refl));
+        turns = subst (AreTurns sh until) (sym (turns-more xs ys o.first ∙ ap (λ l. turns_of xs ++ l) o.only)) (are-last (turns_of xs) o.turn a o.is);
       }
 
 first-more : (b x y : Bool) → (x ≡ true → y ≡ true) → (b || x) ≡ true → (b || y) ≡ true
@@ -184,6 +189,15 @@ saw-marking Sweep e = absurd (true≢false (sym e))
 saw-marking Clear e = absurd (true≢false (sym e))
 saw-marking Full e = absurd (true≢false (sym e))
 
+-- a phase that isn't Full isn't read as Full
+pub saw-other : (p : Phase) → (p ≡ Full → ⊥) → saw (Some p) Full ≡ false
+saw-other Idle f = refl
+saw-other Marking f = refl
+saw-other Drain f = refl
+saw-other Sweep f = refl
+saw-other Clear f = refl
+saw-other Full f = absurd (f refl)
+
 is-marking : (p : Phase) → (p ≡ Marking) ⊎ (p ≡ Marking → ⊥)
 is-marking Idle = inr (λ e. absurd (cc))
 is-marking Marking = inl refl
@@ -196,7 +210,7 @@ pays-after : (n : ℕ) (es : List Entry) → Pays es → Pays (entry ReadPhase n
 pays-after n es p low = let e = p (omega (arith, low)) in e ∙ ap (λ k. k ∷ []) (omega arith)
 
 -- from where it entered to where it left
-pub round-of : (sh : Shape) (p : Phase) (n m : ℕ) (es : List Entry) (full : Bool) → p ≡ phase_of n → (p ≡ Marking → TracesInside sh es) → ((p ≡ Marking → ⊥) → es ≡ []) → (IsTrue full → p ≡ Full) → IsRound sh full (entry ReadPhase n ∷ (es ++ entry LeaveStep m ∷ []))
+round-of : (sh : Shape) (p : Phase) (n m : ℕ) (es : List Entry) (full : Bool) → p ≡ phase_of n → (p ≡ Marking → TracesInside sh es) → ((p ≡ Marking → ⊥) → es ≡ []) → full ≡ saw (Some p) Full → IsRound sh full (entry ReadPhase n ∷ (es ++ entry LeaveStep m ∷ []))
 round-of sh p n m es full e marking other f =
     record {
       sees = λ h. traces-more sh es (entry LeaveStep m ∷ []) (marking (e ∙ saw-marking (phase_of n) h)).traces;
@@ -208,9 +222,15 @@ round-of sh p n m es full e marking other f =
       quiet =
           quiet-join (entry ReadPhase n ∷ []) (es ++ entry LeaveStep m ∷ []) (quiet-one ReadPhase n refl)
           (quiet-join es (entry LeaveStep m ∷ []) (⊎_elim (λ (q : p ≡ Marking). (marking q).quiet) (λ (q : p ≡ Marking → ⊥). subst IsQuiet (sym (other q)) quiet-none) (is-marking p)) (quiet-one LeaveStep m refl));
-      ends = λ t. ap (λ (x : Phase). saw (Some x) Full || some_event sees_full (es ++ entry LeaveStep m ∷ [])) (sym e ∙ f t);
+      ends = f ∙ ap (λ (x : Phase). saw (Some x) Full) e;
     }
 
 -- the events of three calls, one after another
 pub events-three : (a b c d : View) → Grows a b → Grows b c → Grows c d → events a d ≡ events a b ++ (events b c ++ events c d)
 events-three a b c d f g h = events-join a b d f (grows-join b c d g h) ∙ ap (λ l. events a b ++ l) (events-join b c d g h)
+
+-- the same round, call by call: the phase is read, then what follows from it, and the seat leaves
+pub round-join : (sh : Shape) (p : Phase) (full : Bool) (a b c d : View) → Grows a b → Grows b c → Grows c d → SeesPhase p (events a b) → (p ≡ Marking → TracesInside sh (events b c)) → ((p ≡ Marking → ⊥) → events b c ≡ []) → IsOne LeaveStep (events c d) → full ≡ saw (Some p) Full → IsRound sh full (events a d)
+round-join sh p full a b c d f g h sees marking other left e =
+    subst (IsRound sh full) (sym (events-three a b c d f g h ∙ (λ y. sees.2 y ++ (events b c ++ left.1 y))))
+    (round-of sh p sees.0 left.0 (events b c) full sees.1 marking other e)

@@ -1,5 +1,5 @@
 -- The turns of a tracer, by its events: what comes after each read of the number of parts that were played.
-use Rattle.std.specs.Prelude.{ℕ, ◌≡◌, ◌⊎◌, ◌<◌, ◌≤◌, ◌==◌, if◌then◌else◌, List, [], ◌∷◌, ◌++◌, not, Bool, true, false, Some, IsTrue, IsFalse}
+use Rattle.std.specs.Prelude.{ℕ, ◌≡◌, ◌⊎◌, ◌<◌, ◌==◌, ◌&&◌, ◌||◌, if◌then◌else◌, List, [], ◌∷◌, ◌++◌, not, nat_le, Bool, true, false, Some, IsTrue, IsFalse}
 use Rattle.mark_core.specs.Numbers.{done_count, traced_count}
 use Rattle.mark_core.specs.Bits.{has_flag}
 use Rattle.mark_core.specs.Seats.{phase_of, saw}
@@ -42,10 +42,29 @@ abbrev pub turns_of : List Entry → List Turn
 turns_of [] = []
 turns_of (e ∷ es) = if reads_done e.step then record { found = e.found; rest = lead es } ∷ turns_of es else turns_of es
 
--- the phase was read as Full
-abbrev pub sees_full : Step → ℕ → Bool
-sees_full ReadPhase found = saw (Some (phase_of found)) Full
-sees_full step found = false
+-- the seat tries to enter
+abbrev pub tries_enter : Step → Bool
+tries_enter EnterStep = true
+tries_enter step = false
+
+-- a read of the phase
+abbrev pub reads_phase : Step → Bool
+reads_phase ReadPhase = true
+reads_phase step = false
+
+-- the first phase that is read is Full
+abbrev pub sees_full : List Entry → Bool
+sees_full [] = false
+sees_full (e ∷ es) = if reads_phase e.step then saw (Some (phase_of e.found)) Full else sees_full es
+
+-- the seat tries to enter, finds no flag, and then reads the phase as Full
+abbrev pub enters_full : List Entry → Bool
+enters_full [] = false
+enters_full (e ∷ es) = if tries_enter e.step then not (has_flag e.found) && sees_full es else enters_full es
+
+-- after this turn nothing more is to be traced: all parts were played, or the heap is full
+abbrev pub is_last : ℕ → Turn → Bool
+is_last until t = nat_le until t.found || enters_full t.rest
 
 abbrev pub leaves : Step → Bool
 leaves LeaveStep = true
@@ -91,25 +110,22 @@ Traces sh es = IsTrue (some_event pops es) ⊎ SomeStretch (NoInput sh) es ⊎ S
 abbrev pub Pays : List Entry → Type 0
 Pays es = 0 < count_of pops es → amounts es ≡ count_of pops es ∷ []
 
--- a turn in which parts were left to play
-pub record IsTurn (sh : Shape) (until : ℕ) (t : Turn) : Type 0 where
+-- what a turn does while parts are left to play, and whether it is the last
+pub record IsTurn (sh : Shape) (until : ℕ) (last : Bool) (t : Turn) : Type 0 where
   pub enters : t.found < until → EntersThen (SeesThen (Traces sh)) t.rest
   pub pays : t.found < until → EntersThen (λ es. Pays (inside es)) t.rest
-
--- the last turn: all parts were played, or the heap is full
-abbrev pub IsLast : Shape → ℕ → Turn → Type 0
-IsLast sh until t = (until ≤ t.found) ⊎ (IsTurn sh until t × IsTrue (some_event sees_full t.rest))
+  pub ends : last ≡ is_last until t
 
 abbrev pub then_turns : Shape → ℕ → Turn → List Turn → Type 0 → Type 0
-then_turns sh until t [] rest = IsLast sh until t
-then_turns sh until t (u ∷ us) rest = IsTurn sh until t × rest
+then_turns sh until t [] rest = IsTurn sh until true t
+then_turns sh until t (u ∷ us) rest = IsTurn sh until false t × rest
 
--- turns, and the last one
+-- turns, of which the last in the list is the last, and no other
 abbrev pub AreTurns : Shape → ℕ → List Turn → Type 0
 AreTurns sh until [] = ⊥
 AreTurns sh until (t ∷ ts) = then_turns sh until t ts (AreTurns sh until ts)
 
--- a tracer ran until so many parts were played, or the heap was full
+-- a tracer ran until it read that so many parts were played, or that the heap was full, and no longer
 pub record HasTraced (sh : Shape) (until : ℕ) (es : List Entry) : Type 0 where
   pub first : lead es ≡ []
   pub turns : AreTurns sh until (turns_of es)
@@ -117,7 +133,7 @@ pub record HasTraced (sh : Shape) (until : ℕ) (es : List Entry) : Type 0 where
 -- turns, none of them the last
 abbrev pub AllTurns : Shape → ℕ → List Turn → Type 0
 AllTurns sh until [] = Unit {0}
-AllTurns sh until (t ∷ ts) = IsTurn sh until t × AllTurns sh until ts
+AllTurns sh until (t ∷ ts) = IsTurn sh until false t × AllTurns sh until ts
 
 -- no read of the number of parts
 pub record IsQuiet (es : List Entry) : Type 0 where
@@ -132,9 +148,9 @@ IsOne step es = (n : ℕ) × (es ≡ entry step n ∷ [])
 abbrev pub SeesPhase : Phase → List Entry → Type 0
 SeesPhase p es = (n : ℕ) × (p ≡ phase_of n) × (es ≡ entry ReadPhase n ∷ [])
 
--- the seat entered; or it found a flag, and left
+-- the seat found no flag, and entered; or it found one, and left
 abbrev pub Enters : Bool → List Entry → Type 0
-Enters true es = (n : ℕ) × (es ≡ entry EnterStep n ∷ [])
+Enters true es = (n : ℕ) × IsFalse (has_flag n) × (es ≡ entry EnterStep n ∷ [])
 Enters false es = (n : ℕ) × (m : ℕ) × IsTrue (has_flag n) × (es ≡ entry EnterStep n ∷ entry LeaveStep m ∷ [])
 
 -- one turn, and whether it is the last
@@ -142,8 +158,7 @@ pub record IsOneTurn (sh : Shape) (until : ℕ) (last : Bool) (es : List Entry) 
   pub turn : Turn
   pub first : lead es ≡ []
   pub only : turns_of es ≡ turn ∷ []
-  pub is : IsTurn sh until turn
-  pub ends : IsTrue last → IsLast sh until turn
+  pub is : IsTurn sh until last turn
 
 -- what a seat does inside after it saw that marking is under way
 pub record TracesInside (sh : Shape) (es : List Entry) : Type 0 where
@@ -157,4 +172,4 @@ pub record IsRound (sh : Shape) (full : Bool) (es : List Entry) : Type 0 where
   pub sees : SeesThen (Traces sh) es
   pub pays : Pays (inside es)
   pub quiet : IsQuiet es
-  pub ends : IsTrue full → IsTrue (some_event sees_full es)
+  pub ends : full ≡ sees_full es

@@ -25,6 +25,15 @@ returns-then-enter_step-clause-inside c =
 pub returns-then-enter_step-clause-stays : goal.returns-then-enter_step-clause-stays
 returns-then-enter_step-clause-stays c = stays-enter (view_of c.args.seat.now) (view_of c.enter_step.new.seat) c.enter_step.ensures.view.0 c.enter_step.ensures.view.1
 
+pub returns-then-enter_step-clause-events : goal.returns-then-enter_step-clause-events
+returns-then-enter_step-clause-events c =
+    let v = c.enter_step.ensures.view in
+    (v.0, from_won (has_flag v.0) (sym v.3 ∙ c.if-enter_step.true), events-after (view_of c.args.seat.now) (view_of c.enter_step.new.seat) EnterStep v.0 v.1)
+  where
+    from_won : (x : Bool) → not x ≡ true → x ≡ false
+    from_won true e = sym e
+    from_won false e = refl
+
 pub leave_step-requires-clause-may : goal.leave_step-requires-clause-may
 leave_step-requires-clause-may c =
     let v = c.enter_step.ensures.view in
