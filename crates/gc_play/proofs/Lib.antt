@@ -13,3 +13,4 @@ pub mod Logs
 pub mod Lending
 pub mod Tending
 pub mod Rounds
+pub mod Seasons

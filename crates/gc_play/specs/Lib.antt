@@ -1,5 +1,6 @@
 pub mod Standing
 pub mod Stays
+pub mod Traced
 pub mod Dealing
 pub mod Crews
 pub mod Options

@@ -29,7 +29,8 @@
 //! # What is where
 //!
 //! - `workers`: the warehouses, dealt out among the threads that play them, and one season of them.
-//! - `tracers`: the seats that trace beside them, turn by turn; `specs/Turns.antt` says by their events what a turn does.
+//! - `tracers`: the seats that trace beside them, turn by turn; `specs/Turns.antt` says by their events what a turn does and
+//!   which is the last, and `specs/Traced.antt` that each seat traces so in each season until its parts were played.
 //!   `entering`: how such a seat goes in and out. `marking`: what it does inside while marking is under way.
 //! - `season`: all threads of a season, and the stops between two turns.
 //! - `crew`: all seats, dealt out at the start. `gathering`: the same at the end.

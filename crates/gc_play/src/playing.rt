@@ -6,6 +6,7 @@ ghost use Rattle.play_contract.specs.Playing.{AreInRange, PlayAnswers};
 ghost use Rattle.gc_play.specs.declared.season.Ended.TheVariants as ends;
 ghost use Rattle.gc_play.specs.Crews.{IsCrew, IsLeft, IsMade, IsNew, Numbered, PlayEnds, AreSaid, KnowsEnd, SettlesEnd};
 ghost use Rattle.gc_play.specs.Options.{FinalAnswers, IsPlayable, shape_for};
+ghost use Rattle.gc_play.specs.Traced.{PlayTraced};
 
 use crate::crew::{Crew, muster};
 use crate::gathering::put_away;
@@ -91,6 +92,7 @@ fn play_seasons<'a, R: Threads + Wait + Sync, G: Gate + Sync>(
     ensures ends { PlayEnds result.0 heap.now script.now.sections workers result.1 crew.new }
     ensures season { 1 ≤ result.1 }
     ensures all { result.0 ≡ ends.Done → result.1 ≡ seasons script.now.sections }
+    ensures traced { PlayTraced result.0 heap.now script.now.sections result.1 crew.old.tracers.items crew.new.tracers.items }
 {
     let sections = count_sections(script);
     let all = script.seasons();

@@ -3,7 +3,7 @@ ghost use Rattle.std.specs.Prelude.{◌≡◌, ◌+◌, ◌-◌, ◌*◌, ◌<�
 ghost use Rattle.gc_play.specs.Crews.{AreTracers, CatalogueAt, CatalogueEnds, CatalogueStarts, CrewEnds, IsAnyTracer, IsCrew, PlaySettles, TurnEnds, TurnMoves};
 ghost use Rattle.gc_play.specs.Dealing.{EachOne, SameShares, ShareEnds, StandsAt};
 ghost use Rattle.gc_play.specs.Options.{IsPlayable};
-ghost use Rattle.gc_play.specs.Stays.{AreKept};
+ghost use Rattle.gc_play.specs.Traced.{AllTracedUntil, SeasonTraced, parts_by};
 
 use crate::crew::{Catalogue, Crew};
 use crate::tracers::run_tracers;
@@ -38,18 +38,19 @@ fn run_threads<'a, R: Threads + Wait + Sync, G: Gate + Sync>(
     gate: &G,
 )
     requires season { 1 ≤ season }
+    requires until { until ≡ parts_by script.now.sections season }
     requires before { EachOne (StandsAt heap.now script.now.sections (season - 1)) workers.old.items }
     requires going { All (λ x. x.full ≡ false) workers.old.items }
     requires tracers { All (IsAnyTracer heap.now) tracers.old.items }
     ensures ends { All (λ x. ShareEnds x.full heap.now script.now.sections season x.mutators.items) workers.new.items }
     ensures same { SameShares workers.old.items workers.new.items }
-    ensures kept { AreKept heap.now tracers.old.items tracers.new.items }
+    ensures traced { AllTracedUntil heap.now (parts_by script.now.sections season) tracers.old.items tracers.new.items }
 {
     join_mut(
         rt,
         &mut ||
             requires { All (IsAnyTracer heap.now) tracers.now.items }
-            ensures { AreKept heap.entry.now tracers.entry.now.items tracers.exit.now.items }
+            ensures { AllTracedUntil heap.entry.now until tracers.entry.now.items tracers.exit.now.items }
         { run_tracers(rt, heap, tracers, until, gate) },
         &mut ||
             requires { (1 ≤ season) × EachOne (StandsAt heap.now script.now.sections (season - 1)) workers.now.items × All (λ x. x.full ≡ false) workers.now.items }
@@ -70,12 +71,14 @@ fn play_turn<'a, R: Threads + Wait + Sync, G: Gate + Sync>(
     gate: &G,
 ) -> Played
     requires season { 1 ≤ season }
+    requires until { until ≡ parts_by script.now.sections season }
     requires before { EachOne (StandsAt heap.now script.now.sections (season - 1)) workers.old.items }
     requires going { All (λ x. x.full ≡ false) workers.old.items }
     requires tracers { AreTracers heap.now script.now.sections tracers.old.items }
     ensures ends { TurnEnds result heap.now script.now.sections season workers.new.items }
     ensures same { SameShares workers.old.items workers.new.items }
     ensures tracers { AreTracers heap.now script.now.sections tracers.new.items }
+    ensures traced { AllTracedUntil heap.now (parts_by script.now.sections season) tracers.old.items tracers.new.items }
 {
     run_threads(rt, heap, script, workers, tracers, season, until, gate);
     if any_full(workers.as_slice()) {
@@ -180,9 +183,11 @@ pub(crate) fn play_season<'a, R: Threads + Wait + Sync, G: Gate + Sync>(
     gate: &G,
 ) -> Ended
     requires season { (1 ≤ season) × (season ≤ 64) }
+    requires until { until ≡ parts_by script.now.sections season }
     requires script { IsPlayable script.now.sections }
     requires before { IsCrew heap.now script.now.sections _workers (season - 1) (2 * (season - 1) - 1) crew.old }
-    ensures { CrewEnds result heap.now script.now.sections _workers season crew.new }
+    ensures ends { CrewEnds result heap.now script.now.sections _workers season crew.new }
+    ensures traced { SeasonTraced result heap.now script.now.sections season crew.old.tracers.items crew.new.tracers.items }
 {
     if let Played::Full = begin_season(rt, heap, script, &mut crew.catalogue, season) {
         return Ended::First;

@@ -7,7 +7,8 @@ ghost use Rattle.mark_core.specs.Numbers.{done_count};
 ghost use Rattle.mark_core.specs.declared.kinds.Phase.TheVariants.{Marking};
 ghost use Rattle.mark_core.specs.declared.kinds.Step.TheVariants.{ReadStat};
 ghost use Rattle.gc_table.specs.Log.{events};
-ghost use Rattle.gc_play.specs.Stays.{AreKept, IsKept, Stays};
+ghost use Rattle.gc_play.specs.Stays.{IsKept, Stays};
+ghost use Rattle.gc_play.specs.Traced.{AllTracedUntil, TracedUntil};
 ghost use Rattle.gc_play.specs.Turns.{HasTraced, IsOne, IsOneTurn, IsQuiet, IsRound, TracesInside, entry};
 
 use crate::entering::{enter, leave, see_phase};
@@ -132,7 +133,7 @@ pub(crate) fn run_tracers<R: Threads + Wait + Sync, G: Gate + Sync>(
     gate: &G,
 )
     requires { All (IsAnyTracer heap.now) tracers.old.items }
-    ensures { AreKept heap.now tracers.old.items tracers.new.items }
+    ensures { AllTracedUntil heap.now until tracers.old.items tracers.new.items }
 {
     let threads = tracers.len();
     if threads == 0 {
@@ -144,7 +145,7 @@ pub(crate) fn run_tracers<R: Threads + Wait + Sync, G: Gate + Sync>(
         threads,
         &|_, seat: &mut HeapSeat|
             requires { IsAnyTracer heap.now seat.now }
-            ensures { IsKept heap.entry.now seat.entry.now seat.exit.now }
+            ensures { TracedUntil heap.entry.now until seat.entry.now seat.exit.now }
         { run_tracer(rt, heap, seat, until, gate) },
     );
 }

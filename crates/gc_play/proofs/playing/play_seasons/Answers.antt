@@ -2,6 +2,7 @@ use Rattle.std.proofs.Common.{◌≡◌, ◌-◌, ◌*◌, inl, inr, subst, arit
 use Rattle.gc_play.specs.Crews.{CatalogueAt, PlaySettles}
 use Rattle.gc_play.specs.Dealing.{EachOne, StandsAt}
 use Rattle.gc_play.proofs.Counting.{some-season}
+use Rattle.gc_play.proofs.Seasons.{seasons-more, play-traced}
 use Rattle.gc_play.proofs.playing.play_seasons.Goals as goal
 
 pub settle-requires-clause-parts : goal.settle-requires-clause-parts
@@ -10,13 +11,13 @@ settle-requires-clause-parts g c κs within = (omega (arith, some-season c.args.
 pub settle-requires-clause-at : goal.settle-requires-clause-at
 settle-requires-clause-at g c κs within =
     let all : c.loop-before.before ≡ c.seasons-all.result = omega (arith, c.loop-before-test.false, c.loop-before.auto.before-end) in
-    subst (λ n. CatalogueAt c.args.heap.now c.args.script.now.sections n (2 * n - 1) c.loop-before.crew.catalogue) all c.loop-before.invariant.catalogue
+    subst (λ n. CatalogueAt c.args.heap.now c.args.script.now.sections n (2 * n - 1) c.loop-before.crew.catalogue) all c.loop-before.invariant.crew.catalogue
 
 pub returns-in-Done-settle-clause-ends : goal.returns-in-Done-settle-clause-ends
 returns-in-Done-settle-clause-ends g c =
     let h = c.args.heap.now in
     let s = c.args.script.now.sections in
-    let i = c.loop-before.invariant in
+    let i = c.loop-before.invariant.crew in
     let all : c.loop-before.before ≡ c.seasons-all.result = omega (arith, c.loop-before-test.false, c.loop-before.auto.before-end) in
     let e = subst (λ r. PlaySettles r h s c.seasons-all.result c.settle.new.catalogue) c.in-Done-settle.is c.settle.ensures in
     (record { catalogue = e.0; dealt = i.dealt; played = subst (λ n. EachOne (StandsAt h s n) c.loop-before.crew.workers.items) all i.played; going = i.going; tracers = i.tracers }, e.1)
@@ -28,7 +29,7 @@ pub returns-in-Full-clause-ends : goal.returns-in-Full-clause-ends
 returns-in-Full-clause-ends g c =
     let h = c.args.heap.now in
     let s = c.args.script.now.sections in
-    let i = c.loop-before.invariant in
+    let i = c.loop-before.invariant.crew in
     let all : c.loop-before.before ≡ c.seasons-all.result = omega (arith, c.loop-before-test.false, c.loop-before.auto.before-end) in
     let e = subst (λ r. PlaySettles r h s c.seasons-all.result c.settle.new.catalogue) c.in-Full.is c.settle.ensures in
     let played : EachOne (StandsAt h s c.seasons-all.result) c.loop-before.crew.workers.items = subst (λ n. EachOne (StandsAt h s n) c.loop-before.crew.workers.items) all i.played in
@@ -43,3 +44,16 @@ returns-in-Full-clause-ends g c =
 
 pub returns-in-Full-clause-season : goal.returns-in-Full-clause-season
 returns-in-Full-clause-season g c = omega (arith, some-season c.args.script.now.sections, c.seasons-all.ensures.same)
+
+pub loop-before-preserved : goal.loop-before-preserved
+loop-before-preserved g c =
+    let i = c.loop-before.invariant in
+    record {
+      crew = c.in-Done.ensures.ends;
+      traced = seasons-more c.args.heap.now c.args.script.now.sections c.loop-before.before c.args.crew.now.tracers.items c.loop-before.crew.tracers.items c.play_season.new.crew.tracers.items i.traced c.in-Done.ensures.traced;
+    }
+
+pub returns-in_default-clause-traced : goal.returns-in_default-clause-traced
+returns-in_default-clause-traced g c =
+    let i = c.loop-before.invariant in
+    play-traced c.args.heap.now c.args.script.now.sections c.loop-before.before c.args.crew.now.tracers.items c.loop-before.crew.tracers.items c.play_season.new.crew.tracers.items i.traced c.play_season.result c.play_season.ensures.traced
