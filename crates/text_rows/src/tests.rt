@@ -5,6 +5,7 @@
 //! - `batches`: batches of scripts, and runners that play beside each other.
 //! - `dumps`, `censuses`: dumps of a heap, and what is counted of them.
 mod batches;
+mod cases;
 mod censuses;
 mod dumps;
 mod generated;

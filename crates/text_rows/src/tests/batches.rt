@@ -1,4 +1,5 @@
 //! Batches and their faults, and runners that play beside each other.
+use super::cases::{Kind, all_hold};
 use job_pool::{Player, Text, read_batch, run_jobs};
 use std::alloc::Global;
 use std::sync::Wait;
@@ -132,70 +133,77 @@ fn a_batch_without_jobs_has_no_results(rt: HostRuntime) -> Result<(), Fail> {
     Ok(())
 }
 
-/// What reading says, in a few words.
-fn said(rt: &HostRuntime, source: &[u8]) -> Result<String, Fail> {
-    Ok(match read_batch(rt.alloc(), source) {
-        Ok(batch) => format!(in rt.alloc(); "{} jobs", batch.jobs().len())?,
-        Err(e) => format!(in rt.alloc(); "{e:?}")?,
-    })
-}
-
-#[test]
-fn jobs_are_read_in_order(rt: HostRuntime) -> Result<(), Fail> {
-    let text = b"gcbatch 1\njob 3\nabcjob 0\njob 007\ngcjob 9";
-    let Ok(batch) = read_batch(rt.alloc(), text) else {
-        return Err(Fail::from("a batch is refused"));
+/// The jobs of a batch in order, or its fault.
+pub fn said(alloc: Global, source: &[u8]) -> Result<String, Fail> {
+    let batch = match read_batch(alloc, source) {
+        Ok(batch) => batch,
+        Err(e) => return Ok(format!(in alloc; "{e:?}")?),
     };
-    let jobs = batch.jobs();
-    assert_eq!(rt; jobs.len(), 3);
-    assert_eq!(rt; jobs[0], b"abc".as_slice());
-    assert_eq!(rt; jobs[1], b"".as_slice());
-    assert_eq!(rt; jobs[2], b"gcjob 9".as_slice());
-    Ok(())
+    let mut text = format!(in alloc; "{} jobs:", batch.jobs().len())?;
+    for job in batch.jobs() {
+        text.push_str(" [")?;
+        text.push_str(str::from_utf8(job)?)?;
+        text.push(']')?;
+    }
+    Ok(text)
 }
 
-/// Batches, one a piece of the text, each with what is said of it behind the last `>`.
-const SAID: &str = "gcbatch 1
->0 jobs|gcbatch 1
+/// Batches, and the jobs of each, or its fault.
+const BATCHES: &str = "$ gcbatch 1
+=> 0 jobs:
+$ gcbatch 1
 job 5
 abc
->CutJob { job: 0 }|gcbatch 1>BadBatch { offset: 0 }|gcbatch 1
-job \n>BadBatch { offset: 10 }|gcbatch 1
+=> CutJob { job: 0 }
+$ gcbatch 1=> BadBatch { offset: 0 }
+$ gcbatch 1
+job \n=> BadBatch { offset: 10 }
+$ gcbatch 1
 job  5
-abcde>BadBatch { offset: 10 }|gcbatch 1
-job 5>BadBatch { offset: 10 }|gcbatch 1
+abcde=> BadBatch { offset: 10 }
+$ gcbatch 1
+job 5=> BadBatch { offset: 10 }
+$ gcbatch 1
 job 16777217
->BadBatch { offset: 10 }|gcbatch 1
+=> BadBatch { offset: 10 }
+$ gcbatch 1
 job 16777216
->CutJob { job: 0 }|gcbatch 1
+=> CutJob { job: 0 }
+$ gcbatch 1
 job 99999999999999999999999
->BadBatch { offset: 10 }";
+=> BadBatch { offset: 10 }
+$ gcbatch 1
+job 3
+abcjob 0
+job 007
+gcjob 9=> 3 jobs: [abc] [] [gcjob 9]";
 
 #[test]
-fn faults_of_batches_are_told(rt: HostRuntime) -> Result<(), Fail> {
-    for row in SAID.split('|') {
-        let (source, told) = row.split_once('>').ok_or("row")?;
-        let found = said(&rt, source.as_bytes())?;
-        assert_eq!(rt; found.as_str(), told, "{source}");
+fn batches_are_read(rt: HostRuntime) -> Result<(), Fail> {
+    all_hold(&rt, Kind::Batch, BATCHES)
+}
+
+/// What is said of a batch with so many jobs of no bytes, and what comes behind them.
+pub fn said_of_many(alloc: Global, told: &str) -> Result<String, Fail> {
+    let (count, rest) = told.split_once(' ').ok_or("count")?;
+    let mut batch = String::new(alloc);
+    batch.push_str("gcbatch 1\n")?;
+    for _ in 0..count.parse::<u32>()? {
+        batch.push_str("job 0\n")?;
     }
-    Ok(())
+    batch.push_str(rest)?;
+    said(alloc, batch.as_bytes())
 }
 
 /// 64 jobs are read, and the fault of one more is told where it begins, whatever comes behind.
+const LONG: &str =
+    "$ 64 => 64 jobs: [] [] [] [] [] [] [] [] [] [] [] [] [] [] [] [] [] [] [] [] [] [] [] [] [] [] [] [] [] [] [] [] [] [] [] [] [] [] [] [] [] [] [] [] [] [] [] [] [] [] [] [] [] [] [] [] [] [] [] [] [] [] [] []
+$ 64 job 5
+=> TooManyJobs { offset: 394 }
+$ 64 job 5
+job=> TooManyJobs { offset: 394 }";
+
 #[test]
 fn a_batch_has_at_most_64_jobs(rt: HostRuntime) -> Result<(), Fail> {
-    let mut long = Vec::new(rt.alloc());
-    long.extend_from_slice(b"gcbatch 1\n")?;
-    for _ in 0..64u32 {
-        long.extend_from_slice(b"job 0\n")?;
-    }
-    assert_eq!(rt; said(&rt, long.as_slice())?.as_str(), "64 jobs");
-    for more in [b"job 5\n".as_slice(), b"job".as_slice()] {
-        long.extend_from_slice(more)?;
-        assert_eq!(rt;
-            said(&rt, long.as_slice())?.as_str(),
-            "TooManyJobs { offset: 394 }"
-        );
-    }
-    Ok(())
+    all_hold(&rt, Kind::Long, LONG)
 }

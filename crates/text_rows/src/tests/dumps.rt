@@ -1,4 +1,5 @@
 //! The dump of one object, read, written, cut, overlong and with faults. It is written out byte by byte.
+use super::cases::{Kind, all_hold};
 use heap_dump::{DumpError, FinalHeap, FinalRecord, read_dump, write_dump};
 use plain_heap::OutOfMemory;
 use play_report::MemorySink;
@@ -82,40 +83,6 @@ fn reads_one_object(rt: HostRuntime) {
 }
 
 #[test]
-fn finds_the_first_fault(rt: HostRuntime) {
-    let mut bytes = row();
-    assert_eq!(rt;
-        read_dump(front(&bytes, 303)).err(),
-        Some(DumpError::Cut { needed: 304 })
-    );
-    assert_eq!(rt; read_dump(&bytes).err(), Some(DumpError::TooMuch));
-    assert_eq!(rt;
-        read_dump(front(&bytes, 19)).err(),
-        Some(DumpError::Cut { needed: 20 })
-    );
-    bytes[151] = 2;
-    assert_eq!(rt;
-        read_dump(front(&bytes, 304)).err(),
-        Some(DumpError::BadRoot { index: 32 })
-    );
-    bytes[303] = 2;
-    assert_eq!(rt;
-        read_dump(front(&bytes, 304)).err(),
-        Some(DumpError::BadRoot { index: 32 })
-    );
-    bytes[151] = 0;
-    assert_eq!(rt;
-        read_dump(front(&bytes, 304)).err(),
-        Some(DumpError::BadRef { k: 0, field: 3 })
-    );
-    bytes[279] = 2;
-    assert_eq!(rt;
-        read_dump(front(&bytes, 304)).err(),
-        Some(DumpError::BadRecord { k: 0 })
-    );
-}
-
-#[test]
 fn writes_one_object(rt: HostRuntime) -> Result<(), Fail> {
     let Ok(sink) = written(rt.alloc()) else {
         return Err(Fail::from("no memory"));
@@ -136,84 +103,110 @@ fn each_cut_is_told(rt: HostRuntime) {
     }
 }
 
-/// The fault of the dump of one object in which the byte at this place is another.
-fn changed(at: usize, to: u8) -> Option<DumpError> {
-    let mut bytes = row();
-    change(&mut bytes, at, to);
-    read_dump(front(&bytes, 304)).err()
+/// Changes the bytes that are told, each by its place and what it is to be.
+fn change(bytes: &mut [u8; 305], changes: &str) -> Result<(), Fail> {
+    for told in changes.split_whitespace() {
+        let (at, to) = told.split_once('=').ok_or("change")?;
+        *bytes.get_mut(at.parse::<usize>()?).ok_or("place")? = to.parse::<u8>()?;
+    }
+    Ok(())
 }
+
+/// How many bytes there are of the dump of one object, which of them are changed, and the fault that is told.
+#[derive(Clone, Copy)]
+struct Faulty<'a> {
+    length: usize,
+    changes: &'a str,
+    fault: &'a str,
+}
+
+fn faulty_of(line: &str) -> Result<Faulty<'_>, Fail> {
+    let (dump, fault) = line.split_once(" => ").ok_or("line")?;
+    let (length, changes) = dump.split_once(' ').unwrap_or((dump, ""));
+    Ok(Faulty {
+        length: length.parse::<usize>()?,
+        changes,
+        fault,
+    })
+}
+
+/// The fault of so many of these bytes.
+fn fault_of(alloc: Global, bytes: &[u8], length: usize) -> Result<String, Fail> {
+    Ok(match read_dump(front(bytes, length)) {
+        Ok(_) => format!(in alloc; "none")?,
+        Err(e) => format!(in alloc; "{e:?}")?,
+    })
+}
+
+/// The fault of the dump of one object that has this length and these changes.
+pub fn first_fault(alloc: Global, told: &str) -> Result<String, Fail> {
+    let (length, changes) = told.trim().split_once(' ').unwrap_or((told.trim(), ""));
+    let mut bytes = row();
+    change(&mut bytes, changes)?;
+    fault_of(alloc, &bytes, length.parse::<usize>()?)
+}
+
+/// Dumps with faults. 16 fields and 33 sections are in range, and want more bytes: 20 + 128 * 2 + 76, and 20 + 128 * 33 + 28.
+const FAULTS: &str = "$ 303 => Cut { needed: 304 }
+$ 305 => TooMuch
+$ 19 => Cut { needed: 20 }
+$ 304 151=2 => BadRoot { index: 32 }
+$ 304 151=2 303=2 => BadRoot { index: 32 }
+$ 304 303=2 => BadRef { k: 0, field: 3 }
+$ 304 303=2 279=2 => BadRecord { k: 0 }
+$ 304 7=50 => BadMagic
+$ 304 11=0 => BadShape
+$ 304 11=17 => BadShape
+$ 304 15=0 => BadShape
+$ 304 15=34 => BadShape
+$ 304 17=1 => BadShape
+$ 304 11=16 => Cut { needed: 352 }
+$ 304 15=33 => Cut { needed: 4272 }
+$ 304 291=2 303=2 => BadRef { k: 0, field: 0 }
+$ 304 291=2 303=2 155=2 151=2 => BadRoot { index: 32 }";
 
 #[test]
-fn sizes_past_their_limits_are_told(rt: HostRuntime) {
-    assert_eq!(rt; changed(7, b'2'), Some(DumpError::BadMagic));
-    assert_eq!(rt; changed(11, 0), Some(DumpError::BadShape));
-    assert_eq!(rt; changed(11, 17), Some(DumpError::BadShape));
-    assert_eq!(rt; changed(15, 0), Some(DumpError::BadShape));
-    assert_eq!(rt; changed(15, 34), Some(DumpError::BadShape));
-    assert_eq!(rt; changed(17, 1), Some(DumpError::BadShape));
-    // 16 fields and 33 sections are in range, and want more bytes: 20 + 128 * 2 + 76, and 20 + 128 * 33 + 28.
-    assert_eq!(rt; changed(11, 16), Some(DumpError::Cut { needed: 352 }));
-    assert_eq!(rt; changed(15, 33), Some(DumpError::Cut { needed: 4272 }));
+fn the_first_fault_is_told(rt: HostRuntime) -> Result<(), Fail> {
+    all_hold(&rt, Kind::Dump, FAULTS)
 }
 
-/// Faults in the order in which they are told: how many bytes there are, the byte that is changed, to what, and the fault.
-const FAULTS: [(usize, usize, u8, DumpError); 8] = [
-    (19, 304, 0, DumpError::Cut { needed: 20 }),
-    (304, 7, b'2', DumpError::BadMagic),
-    (304, 11, 0, DumpError::BadShape),
-    (303, 304, 0, DumpError::Cut { needed: 304 }),
-    (305, 304, 0, DumpError::TooMuch),
-    (304, 279, 2, DumpError::BadRecord { k: 0 }),
-    (304, 151, 2, DumpError::BadRoot { index: 32 }),
-    (304, 303, 2, DumpError::BadRef { k: 0, field: 3 }),
-];
-
-fn change(bytes: &mut [u8; 305], at: usize, to: u8) {
-    if at < bytes.len() {
-        bytes[at] = to;
-    }
-}
+/// Faults in the order in which they are told.
+const ORDER: &str = "19 => Cut { needed: 20 }
+304 7=50 => BadMagic
+304 11=0 => BadShape
+303 => Cut { needed: 304 }
+305 => TooMuch
+304 279=2 => BadRecord { k: 0 }
+304 151=2 => BadRoot { index: 32 }
+304 303=2 => BadRef { k: 0, field: 3 }";
 
 /// The fault of the dump of one object with both of these faults; a cut comes before further bytes.
-fn both(
-    one: &(usize, usize, u8, DumpError),
-    other: &(usize, usize, u8, DumpError),
-) -> Option<DumpError> {
+fn both(alloc: Global, one: &Faulty<'_>, other: &Faulty<'_>) -> Result<String, Fail> {
     let mut bytes = row();
-    change(&mut bytes, one.1, one.2);
-    change(&mut bytes, other.1, other.2);
-    let least = one.0.min(other.0);
+    change(&mut bytes, one.changes)?;
+    change(&mut bytes, other.changes)?;
+    let least = one.length.min(other.length);
     let length = if least < 304 {
         least
     } else {
-        one.0.max(other.0)
+        one.length.max(other.length)
     };
-    read_dump(front(&bytes, length)).err()
+    fault_of(alloc, &bytes, length)
 }
 
 #[test]
-fn of_two_faults_the_first_is_told(rt: HostRuntime) {
-    for (i, first) in FAULTS.iter().enumerate() {
-        for second in FAULTS.iter().skip(i) {
-            assert_eq!(rt; both(first, second), Some(first.3), "{first:?}, {second:?}");
-            assert_eq!(rt; both(second, first), Some(first.3), "{first:?}, {second:?}");
+fn of_two_faults_the_first_is_told(rt: HostRuntime) -> Result<(), Fail> {
+    for (i, line) in ORDER.lines().enumerate() {
+        let first = faulty_of(line)?;
+        for other in ORDER.lines().skip(i) {
+            let second = faulty_of(other)?;
+            let told = both(rt.alloc(), &first, &second)?;
+            let turned = both(rt.alloc(), &second, &first)?;
+            assert!(rt;
+                told.as_str() == first.fault && turned.as_str() == first.fault,
+                "{line}, {other}"
+            );
         }
     }
-}
-
-#[test]
-fn of_two_references_the_first_is_told(rt: HostRuntime) {
-    let mut bytes = row();
-    bytes[291] = 2;
-    bytes[303] = 2;
-    assert_eq!(rt;
-        read_dump(front(&bytes, 304)).err(),
-        Some(DumpError::BadRef { k: 0, field: 0 })
-    );
-    bytes[155] = 2;
-    bytes[151] = 2;
-    assert_eq!(rt;
-        read_dump(front(&bytes, 304)).err(),
-        Some(DumpError::BadRoot { index: 32 })
-    );
+    Ok(())
 }

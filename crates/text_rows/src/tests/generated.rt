@@ -1,32 +1,37 @@
 //! Lines that are known: of number 1 the first draw is 908,834,774.
+use super::cases::{Kind, all_hold};
 use load_gen::generate;
-use std::process::Abort;
+use std::alloc::Global;
 use std::test::Fail;
 
-/// A size, a line counted from 0, and that line of the script of number 1.
-const ROWS: [(u32, usize, &str); 9] = [
-    (1, 0, "gcscript 1"),
-    (1, 1, "warehouse"),
-    (1, 2, "nil a"),
-    (1, 3, "warehouse"),
-    (9, 9, "nil h"),
-    (9, 10, "set c 3 h"),
-    (20000, 10, "set c 3 h"),
-    (72, 66, "nil a"),
-    (72, 74, "warehouse"),
-];
+/// The line with that number, counted from 0, of the script of number 1 and that size.
+pub fn line_of(alloc: Global, told: &str) -> Result<String, Fail> {
+    let (size, line) = told.trim().split_once(' ').ok_or("size")?;
+    let size = size.parse::<u32>()?;
+    if size < 1 || 20000 < size {
+        return Err(Fail::from("size"));
+    }
+    let script = generate(alloc, 1, size)?;
+    let line = script.as_str().lines().nth(line.parse::<usize>()?);
+    Ok(line.ok_or("line")?.to_string(alloc)?)
+}
+
+/// A size, and a line.
+const LINES: &str = "$ 1 0 => gcscript 1
+$ 1 1 => warehouse
+$ 1 2 => nil a
+$ 1 3 => warehouse
+$ 9 9 => nil h
+$ 9 10 => set c 3 h
+$ 20000 10 => set c 3 h
+$ 72 66 => nil a
+$ 72 74 => warehouse";
 
 const EIGHT: &str = "warehouse\nnil a\nnil b\nnil c\nnil d\nnil e\nnil f\nnil g\nnil h\n";
 
 #[test]
 fn known_lines(rt: HostRuntime) -> Result<(), Fail> {
-    for (size, line, expected) in ROWS {
-        if let 1..=20000 = size {
-            let text = generate(rt.alloc(), 1, size)?;
-            assert!(rt; text.as_str().lines().nth(line) == Some(expected));
-        }
-    }
-    Ok(())
+    all_hold(&rt, Kind::Generated, LINES)
 }
 
 #[test]

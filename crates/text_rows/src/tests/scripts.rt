@@ -1,4 +1,5 @@
 //! Small sources, with answers worked out by hand.
+use super::cases::{Kind, all_hold};
 use gc_script::{Commands, convert, read};
 use std::alloc::Global;
 use std::test::Fail;
@@ -49,45 +50,54 @@ fn reads_sections(rt: HostRuntime) {
 }
 
 /// The name of a source's fault.
-fn fault_of(alloc: Global, source: &[u8]) -> Result<String, Fail> {
+pub fn fault_of(alloc: Global, source: &[u8]) -> Result<String, Fail> {
     match read(alloc, source) {
         Ok(_) => Ok(format!(in alloc; "none")?),
         Err(e) => Ok(format!(in alloc; "{e:?}")?),
     }
 }
 
+/// Sources, and the name of the fault of each.
+const FAULTS: &str = "$ => BadHeader
+$ gcscript 2
+
+=> BadHeader
+$ gcscript 1
+warehouse
+say a x
+=> UnknownName { line: 3 }
+$ gcscript 1
+catalogue
+new a 1
+warehouse
+cat x b
+=> UnknownName { line: 5 }
+$ gcscript 1
+warehouse
+repeat 2
+nil x
+catalogue
+=> RepeatOpen { line: 3 }
+$ gcscript 1
+warehouse
+nil x
+get x x 4
+=> NumberTooLarge { line: 4 }
+$ gcscript 1
+warehouse
+repeat 2000000
+nil x
+end
+nil x
+=> TooManyCommands
+$ gcscript 1
+warehouse
+nil x
+=> none";
+
 #[test]
 fn tells_faults(rt: HostRuntime) -> Result<(), Fail> {
-    let rows: [(&[u8], &str); 8] = [
-        (b"", "BadHeader"),
-        (b"gcscript 2\n\n", "BadHeader"),
-        (
-            b"gcscript 1\nwarehouse\nsay a x\n",
-            "UnknownName { line: 3 }",
-        ),
-        (
-            b"gcscript 1\ncatalogue\nnew a 1\nwarehouse\ncat x b\n",
-            "UnknownName { line: 5 }",
-        ),
-        (
-            b"gcscript 1\nwarehouse\nrepeat 2\nnil x\ncatalogue\n",
-            "RepeatOpen { line: 3 }",
-        ),
-        (
-            b"gcscript 1\nwarehouse\nnil x\nget x x 4\n",
-            "NumberTooLarge { line: 4 }",
-        ),
-        (
-            b"gcscript 1\nwarehouse\nrepeat 2000000\nnil x\nend\nnil x\n",
-            "TooManyCommands",
-        ),
-        (b"gcscript 1\nwarehouse\nnil x\n", "none"),
-    ];
-    for (source, name) in rows {
-        let told = fault_of(rt.alloc(), source)?;
-        assert_eq!(rt; told.as_str(), name);
-    }
-    Ok(())
+    all_hold(&rt, Kind::Script, FAULTS)
 }
 
 #[test]

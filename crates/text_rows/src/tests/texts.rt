@@ -3,6 +3,7 @@ ghost use Rattle.std.specs.Prelude.{◌≡◌, ◌<◌, ◌^◌, IfOk, map, leng
 ghost use Rattle.play_report.specs.Report.{outcome_of};
 ghost use Rattle.play_report.specs.Text.{placed_count, printed_count};
 
+use super::cases::{Kind, all_hold};
 use gc_script::ScriptError;
 use plain_heap::Line;
 use play_report::{
@@ -10,13 +11,8 @@ use play_report::{
     write_full, write_load, write_report, write_usage,
 };
 use std::alloc::{AllocError, Global};
+use std::str::SplitWhitespace;
 use std::test::Fail;
-
-const ENDS: &str =
-    "warehouse 1\na 5\nb nil\ndropped 1\nwarehouse 2\nsum 3 21\ndropped 0\nsurvivors 2\n1 0 5\n2 10 4294967295\n";
-
-const PLACED: &str =
-    "warehouse 1\na 5\nb nil\ndropped 1\nwarehouse 2\nsum 3 21\ndropped 0\nsurvivors 2\n1 0 5\n2 10 4294967295\nplaced 3\n0 0 63\n2 0 0\n2 1 17\n";
 
 fn part<'a>(
     alloc: Global,
@@ -73,119 +69,196 @@ fn report(alloc: Global) -> Result<Report<'static>, AllocError>
     })
 }
 
-#[test]
-fn a_report_is_written_line_by_line(rt: HostRuntime) -> Result<(), Fail> {
-    let report = report(rt.alloc())?;
-    let rows = [
-        (false, 200, 200, 0, Ok(()), ENDS),
-        (true, 200, 200, 0, Ok(()), PLACED),
-        (true, 200, 1, 0, Ok(()), PLACED),
-        (true, 200, 200, 1, Err(Failed), ""),
-        (true, 200, 200, 2, Err(Failed), "warehouse 1\n"),
-        (
-            true,
-            200,
-            200,
-            5,
-            Err(Failed),
-            "warehouse 1\na 5\nb nil\ndropped 1\n",
-        ),
-        (true, 200, 5, 3, Err(Failed), "warehouse "),
-        (true, 20, 200, 0, Err(Failed), "warehouse 1\na 5\nb ni"),
-    ];
-    for (place, room, per_call, failing, answer, text) in rows {
-        assert!(rt; per_call > 0);
-        let mut sink = MemorySink::make(rt.alloc(), room, per_call, &[failing])?;
-        assert_eq!(rt; write_report(&report, place, &mut sink), answer);
-        assert_eq!(rt; sink.bytes(), text.as_bytes());
-    }
-    let mut count = CountSink::make();
-    assert_eq!(rt; write_report(&report, true, &mut count), Ok(()));
-    assert_eq!(rt; count.count(), 126);
-    Ok(())
+/// Texts. Behind a `$ ` stand which it is, the room of the sink, how much it takes in a call, the call that fails, and whether all is done; in the
+/// next lines stands what the sink has. `ends` and `placed` are the report, without places and with them, and `load` its five lines: 4,294,967,295 and 5 survive.
+const TEXTS: &str = "$ ends 200 200 0 done
+warehouse 1
+a 5
+b nil
+dropped 1
+warehouse 2
+sum 3 21
+dropped 0
+survivors 2
+1 0 5
+2 10 4294967295
+$ placed 200 200 0 done
+warehouse 1
+a 5
+b nil
+dropped 1
+warehouse 2
+sum 3 21
+dropped 0
+survivors 2
+1 0 5
+2 10 4294967295
+placed 3
+0 0 63
+2 0 0
+2 1 17
+$ placed 200 1 0 done
+warehouse 1
+a 5
+b nil
+dropped 1
+warehouse 2
+sum 3 21
+dropped 0
+survivors 2
+1 0 5
+2 10 4294967295
+placed 3
+0 0 63
+2 0 0
+2 1 17
+$ placed 200 200 1 failed
+$ placed 200 200 2 failed
+warehouse 1
+$ placed 200 200 5 failed
+warehouse 1
+a 5
+b nil
+dropped 1
+$ placed 200 5 3 failed
+warehouse\x20$ placed 20 200 0 failed
+warehouse 1
+a 5
+b ni$ load 200 200 0 done
+commands 7
+objects 3
+lines 3
+survivors 2
+total 4294967300
+$ load 200 200 1 failed
+$ load 200 200 5 failed
+commands 7
+objects 3
+lines 3
+survivors 2
+$ full 100 7 0 done
+full section 2
+position 0 0
+position 1 3
+position 2 12
+$ usage 100 100 0 done
+usage: gcplay command [options]
+";
+
+fn number(word: Option<&str>) -> Result<usize, Fail> {
+    Ok(word.ok_or("number")?.parse::<usize>()?)
 }
 
-/// 4,294,967,295 and 5 survive.
-#[test]
-fn five_lines_are_written(rt: HostRuntime) -> Result<(), Fail> {
-    let report = report(rt.alloc())?;
-    let rows = [
-        (
-            0,
-            Ok(()),
-            "commands 7\nobjects 3\nlines 3\nsurvivors 2\ntotal 4294967300\n",
-        ),
-        (1, Err(Failed), ""),
-        (
-            5,
-            Err(Failed),
-            "commands 7\nobjects 3\nlines 3\nsurvivors 2\n",
-        ),
-    ];
-    for (failing, answer, text) in rows {
-        let mut sink = MemorySink::make(rt.alloc(), 200, 200, &[failing])?;
-        assert_eq!(rt; write_load(&report, 7, &mut sink), answer);
-        assert_eq!(rt; sink.bytes(), text.as_bytes());
+/// A sink with that room, which takes so much in a call, and of which that call fails.
+fn sink_of(alloc: Global, words: &mut SplitWhitespace<'_>) -> Result<MemorySink, Fail> {
+    let room = number(words.next())?;
+    let per_call = number(words.next())?;
+    let failing = words.next().ok_or("call")?.parse::<u32>()?;
+    if per_call == 0 {
+        return Err(Fail::from("a sink that takes nothing"));
     }
-    Ok(())
+    Ok(MemorySink::make(alloc, room, per_call, &[failing])?)
+}
+
+/// Writes the text of this form.
+fn write(
+    form: &str,
+    report: &Report<'_>,
+    positions: &Positions,
+    sink: &mut MemorySink,
+) -> Result<(), Failed>
+    requires places { placed_count (map outcome_of report.now.parts.items) < 2 ^ 32 }
+    requires said { printed_count (map outcome_of report.now.parts.items) < 2 ^ 64 }
+    requires survivors { length report.now.survivors.items < 2 ^ 32 }
+{
+    match form {
+        "load" => write_load(report, 7, sink),
+        "full" => write_full(positions, sink),
+        "usage" => write_usage(sink),
+        _ => write_report(report, form == "placed", sink),
+    }
 }
 
 #[test]
-fn positions_and_usage_are_written(rt: HostRuntime) -> Result<(), Fail> {
+fn texts_are_written_line_by_line(rt: HostRuntime) -> Result<(), Fail> {
+    let report = report(rt.alloc())?;
     let positions = Positions {
         section: 2,
         done: Vec::from_slice(rt.alloc(), &[0, 3, 12])?,
     };
-    let mut full = MemorySink::make(rt.alloc(), 100, 7, &[])?;
-    assert_eq!(rt; write_full(&positions, &mut full), Ok(()));
-    let text = b"full section 2\nposition 0 0\nposition 1 3\nposition 2 12\n";
-    assert_eq!(rt; full.bytes(), text.as_slice());
-    let mut usage = MemorySink::make(rt.alloc(), 100, 100, &[])?;
-    assert_eq!(rt; write_usage(&mut usage), Ok(()));
-    assert_eq!(rt;
-        usage.bytes(),
-        b"usage: gcplay command [options]\n".as_slice()
-    );
+    for told in TEXTS.split("$ ").skip(1) {
+        let (how, text) = told.split_once('\n').ok_or("how")?;
+        let mut words = how.split_whitespace();
+        let form = words.next().ok_or("form")?;
+        let mut sink = sink_of(rt.alloc(), &mut words)?;
+        let is_done = write(form, &report, &positions, &mut sink).is_ok();
+        let should = words.next() == Some("done");
+        assert!(rt;
+            is_done == should && sink.bytes() == text.as_bytes(),
+            "{told}"
+        );
+    }
     Ok(())
 }
 
 #[test]
-fn faults_are_written(rt: HostRuntime) -> Result<(), Fail> {
-    let rows = [
-        (ScriptError::NotAscii { offset: 7 }, "1 NotAscii offset 7\n"),
-        (ScriptError::BadHeader, "2 BadHeader\n"),
-        (ScriptError::BadLine { line: 2 }, "3 BadLine line 2\n"),
-        (
-            ScriptError::UnknownName { line: 3 },
-            "4 UnknownName line 3\n",
-        ),
-        (
-            ScriptError::TooManyNames { line: 4 },
-            "5 TooManyNames line 4\n",
-        ),
-        (
-            ScriptError::NumberTooLarge { line: 5 },
-            "6 NumberTooLarge line 5\n",
-        ),
-        (ScriptError::RepeatOpen { line: 6 }, "7 RepeatOpen line 6\n"),
-        (
-            ScriptError::TooManySections { line: 10 },
-            "8 TooManySections line 10\n",
-        ),
-        (ScriptError::TooManyCommands, "9 TooManyCommands\n"),
-        (ScriptError::TooManyLines, "10 TooManyLines\n"),
-        (ScriptError::TooLong, "11 TooLong\n"),
-        (ScriptError::ConvertedTooLong, "14 ConvertedTooLong\n"),
-        (
-            ScriptError::TooManySeasons { line: 9 },
-            "15 TooManySeasons line 9\n",
-        ),
-    ];
-    for (fault, text) in rows {
-        assert!(rt; !matches!(fault, ScriptError::OutOfMemory));
-        let mut sink = MemorySink::make(rt.alloc(), 100, 100, &[])?;
-        assert_eq!(rt; write_fault(&fault, &mut sink), Ok(()));
-        assert_eq!(rt; sink.bytes(), text.as_bytes());
-    }
+fn bytes_are_counted(rt: HostRuntime) -> Result<(), Fail> {
+    let report = report(rt.alloc())?;
+    let mut count = CountSink::make();
+    let is_done = write_report(&report, true, &mut count).is_ok();
+    assert!(rt; is_done && count.count() == 126);
     Ok(())
+}
+
+/// The fault of that name.
+fn fault_of(name: &str, place: u32) -> Option<ScriptError> {
+    match name {
+        "NotAscii" => Some(ScriptError::NotAscii { offset: place }),
+        "BadHeader" => Some(ScriptError::BadHeader),
+        "BadLine" => Some(ScriptError::BadLine { line: place }),
+        "UnknownName" => Some(ScriptError::UnknownName { line: place }),
+        "TooManyNames" => Some(ScriptError::TooManyNames { line: place }),
+        "NumberTooLarge" => Some(ScriptError::NumberTooLarge { line: place }),
+        "RepeatOpen" => Some(ScriptError::RepeatOpen { line: place }),
+        "TooManySections" => Some(ScriptError::TooManySections { line: place }),
+        "TooManyCommands" => Some(ScriptError::TooManyCommands),
+        "TooManyLines" => Some(ScriptError::TooManyLines),
+        "TooLong" => Some(ScriptError::TooLong),
+        "ConvertedTooLong" => Some(ScriptError::ConvertedTooLong),
+        "TooManySeasons" => Some(ScriptError::TooManySeasons { line: place }),
+        _ => None,
+    }
+}
+
+/// The line that is written of the fault with that name and place.
+pub fn fault_text(alloc: Global, told: &str) -> Result<String, Fail> {
+    let (name, place) = told.trim().split_once(' ').ok_or("place")?;
+    let fault = fault_of(name, place.parse::<u32>()?).ok_or("name")?;
+    if matches!(fault, ScriptError::OutOfMemory) {
+        return Err(Fail::from("no text"));
+    }
+    let mut sink = MemorySink::make(alloc, 100, 100, &[])?;
+    write_fault(&fault, &mut sink).ok().ok_or("sink")?;
+    let line = str::from_utf8(sink.bytes())?.strip_suffix('\n');
+    Ok(line.ok_or("line")?.to_string(alloc)?)
+}
+
+/// Faults of scripts and their places, of those that have one.
+const FAULTS: &str = "$ NotAscii 7 => 1 NotAscii offset 7
+$ BadHeader 0 => 2 BadHeader
+$ BadLine 2 => 3 BadLine line 2
+$ UnknownName 3 => 4 UnknownName line 3
+$ TooManyNames 4 => 5 TooManyNames line 4
+$ NumberTooLarge 5 => 6 NumberTooLarge line 5
+$ RepeatOpen 6 => 7 RepeatOpen line 6
+$ TooManySections 10 => 8 TooManySections line 10
+$ TooManyCommands 0 => 9 TooManyCommands
+$ TooManyLines 0 => 10 TooManyLines
+$ TooLong 0 => 11 TooLong
+$ ConvertedTooLong 0 => 14 ConvertedTooLong
+$ TooManySeasons 9 => 15 TooManySeasons line 9";
+
+#[test]
+fn faults_are_written(rt: HostRuntime) -> Result<(), Fail> {
+    all_hold(&rt, Kind::Fault, FAULTS)
 }

@@ -1,19 +1,24 @@
-//! Word lists and what they ask for, worked by hand.
+//! Words and what they ask for, worked by hand. In a case a `|` stands behind each word.
 //!
 //! - `taken`: each command, each option at the ends of its range, in both forms and in any order.
 //! - `refused`: what is no command, no option or no value, and what is there too often or not at all.
 //! - `numbers`: values of any length.
-mod numbers;
+pub mod numbers;
 mod refused;
 mod taken;
 
-use command_words::{Asked, command_of};
-use std::alloc::{AllocError, Global};
+use command_words::command_of;
+use std::alloc::Global;
+use std::test::Fail;
 
-fn asked_by(alloc: Global, words: &[&str]) -> Result<Option<Asked>, AllocError> {
-    let mut list = Vec::new(alloc);
-    for word in words {
-        list.push(word.to_string(alloc)?)?;
+/// What these words ask for.
+pub fn asked_by(alloc: Global, told: &str) -> Result<String, Fail> {
+    let mut words = Vec::new(alloc);
+    if let Some((all, _)) = told.rsplit_once('|') {
+        for word in all.split('|') {
+            words.push(word.to_string(alloc)?)?;
+        }
     }
-    command_of(alloc, list.as_slice())
+    let asked = command_of(alloc, words.as_slice())?;
+    Ok(format!(in alloc; "{asked:?}")?)
 }

@@ -1,6 +1,6 @@
 //! Values of any length: leading zeros are allowed, and a number past the range is refused however long it is.
 use super::asked_by;
-use command_words::Asked;
+use crate::tests::cases::{Kind, all_hold};
 use std::alloc::{AllocError, Global};
 use std::test::Fail;
 
@@ -14,22 +14,24 @@ fn with_zeros(alloc: Global, zeros: usize, digits: &str) -> Result<String, Alloc
     Ok(number)
 }
 
+/// What is asked for with the number that has so many zeros, and the digits behind them.
+pub fn asked_with(alloc: Global, told: &str) -> Result<String, Fail> {
+    let (zeros, digits) = told.trim().split_once(' ').ok_or("number")?;
+    let number = with_zeros(alloc, zeros.parse::<usize>()?, digits)?;
+    let words = format!(in alloc; "gen|--size|1|--number|{number}|")?;
+    asked_by(alloc, words.as_str())
+}
+
+/// The last three are 2^64, 2^64 + 7 and 2^128.
+const NUMBERS: &str = "$ 40 7 => Some(Gen(7, 1))
+$ 5000 7 => Some(Gen(7, 1))
+$ 5000 4294967295 => Some(Gen(4294967295, 1))
+$ 5000 4294967296 => None
+$ 0 18446744073709551616 => None
+$ 0 18446744073709551623 => None
+$ 40 340282366920938463463374607431768211456 => None";
+
 #[test]
 fn reads_numbers_of_any_length(rt: HostRuntime) -> Result<(), Fail> {
-    let cases: [(usize, &str, Option<Asked>); 7] = [
-        (40, "7", Some(Asked::Gen(7, 1))),
-        (5_000, "7", Some(Asked::Gen(7, 1))),
-        (5_000, "4294967295", Some(Asked::Gen(4_294_967_295, 1))),
-        (5_000, "4294967296", None),
-        // 2^64, 2^64 + 7 and 2^128
-        (0, "18446744073709551616", None),
-        (0, "18446744073709551623", None),
-        (40, "340282366920938463463374607431768211456", None),
-    ];
-    for (zeros, digits, asked) in cases {
-        let number = with_zeros(rt.alloc(), zeros, digits)?;
-        let words = ["gen", "--size", "1", "--number", number.as_str()];
-        assert_eq!(rt; asked_by(rt.alloc(), words.as_slice())?, asked);
-    }
-    Ok(())
+    all_hold(&rt, Kind::Number, NUMBERS)
 }

@@ -1,0 +1,67 @@
+//! Cases, written down as texts, and the loop that reads them.
+//!
+//! A case is `$ `, what is read, `=> `, and up to the end of the line what it comes to:
+//!
+//! ```text
+//! $ run|--cells|64| => None
+//! $ gcbatch 1
+//! job 5
+//! abc
+//! => CutJob { job: 0 }
+//! ```
+use super::batches::{said, said_of_many};
+use super::dumps::first_fault;
+use super::generated::line_of;
+use super::scripts::fault_of;
+use super::texts::fault_text;
+use super::words::asked_by;
+use super::words::numbers::asked_with;
+use std::alloc::Global;
+use std::process::Abort;
+use std::test::Fail;
+
+/// What is read.
+#[derive(Clone, Copy)]
+pub enum Kind {
+    /// Words of the command line.
+    Words,
+    /// A number of zeros, and digits behind them.
+    Number,
+    /// A script.
+    Script,
+    /// The size of a generated script, and a line of it.
+    Generated,
+    /// The name of a fault of scripts, and its place.
+    Fault,
+    /// A batch.
+    Batch,
+    /// A number of jobs of no bytes, and what comes behind them.
+    Long,
+    /// The length of the dump of one object, and its bytes that are changed.
+    Dump,
+}
+
+/// What that comes to.
+fn found(alloc: Global, kind: Kind, read: &str) -> Result<String, Fail> {
+    match kind {
+        Kind::Words => asked_by(alloc, read),
+        Kind::Number => asked_with(alloc, read),
+        Kind::Script => fault_of(alloc, read.as_bytes()),
+        Kind::Generated => line_of(alloc, read),
+        Kind::Fault => fault_text(alloc, read),
+        Kind::Batch => said(alloc, read.as_bytes()),
+        Kind::Long => said_of_many(alloc, read),
+        Kind::Dump => first_fault(alloc, read),
+    }
+}
+
+/// Fails where one of the cases doesn't come to what is told of it.
+pub fn all_hold<R: Abort + AllocGlobal>(rt: &R, kind: Kind, cases: &str) -> Result<(), Fail> {
+    for case in cases.split("$ ").skip(1) {
+        let (read, rest) = case.split_once("=> ").ok_or("case")?;
+        let told = rest.lines().next().unwrap_or("");
+        let found = found(rt.alloc(), kind, read)?;
+        assert_eq!(rt; found.as_str(), told, "{read}");
+    }
+    Ok(())
+}
