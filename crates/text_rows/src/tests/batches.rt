@@ -1,4 +1,6 @@
 //! Batches and their faults, and runners that play beside each other.
+ghost use Rattle.std.specs.Prelude.{◌≤◌};
+
 use super::cases::{Kind, all_hold};
 use job_pool::{Player, Text, read_batch, run_jobs};
 use std::alloc::Global;
@@ -52,26 +54,37 @@ impl Holding {
     }
 }
 
+/// How many results there are of the batch, and how many of them are of the job whose turn it is, and its own script.
+fn echoed<P: Player + Sync, R: AllocGlobal + Threads + Wait + Sync>(
+    rt: &R,
+    source: &[u8],
+    runners: u32,
+    player: &P,
+) -> Result<(usize, usize), Fail>
+    requires { (1 ≤ runners) × (runners ≤ 8) }
+{
+    let batch = read_batch(rt.alloc(), source).ok().ok_or("batch")?;
+    let done = run_jobs(rt, rt.alloc(), &batch, runners, player)
+        .ok()
+        .ok_or("memory")?;
+    let mut echoed = 0usize;
+    for (j, result) in done.iter().enumerate() {
+        let script = batch.jobs().get(j).copied();
+        if result.job as usize == j && result.status == 0 && script == Some(result.text.bytes()) {
+            echoed = echoed.saturating_add(1);
+        }
+    }
+    Ok((done.len(), echoed))
+}
+
 #[test]
 fn runners_play_beside_each_other(rt: HostRuntime) -> Result<(), Fail> {
     let player = Holding {
         played: AtomicU64::new(0),
         late: AtomicU64::new(0),
     };
-    let Ok(batch) = read_batch(rt.alloc(), b"gcbatch 1\njob 1\n0job 1\n1job 0\n") else {
-        return Err(Fail::from("a batch is refused"));
-    };
-    let Ok(done) = run_jobs(&rt, rt.alloc(), &batch, 2, &player) else {
-        return Err(Fail::from("no memory"));
-    };
-    assert_eq!(rt; player.late.load(Ordering::SeqCst), 0);
-    assert_eq!(rt; done.len(), 3);
-    for (j, d) in done.iter().enumerate() {
-        assert_eq!(rt; d.job as usize, j);
-        assert_eq!(rt; d.status, 0);
-    }
-    assert_eq!(rt; done[0].text.bytes(), b"0".as_slice());
-    assert_eq!(rt; done[1].text.bytes(), b"1".as_slice());
+    let echoed = echoed(&rt, b"gcbatch 1\njob 1\n0job 1\n1job 0\n", 2, &player)?;
+    assert!(rt; player.late.load(Ordering::SeqCst) == 0 && echoed == (3, 3));
     Ok(())
 }
 
@@ -99,37 +112,23 @@ impl Player for Echo {
 }
 
 #[test]
-fn one_two_and_eight_runners_answer_alike(rt: HostRuntime) -> Result<(), Fail> {
-    let mut source = Vec::new(rt.alloc());
-    source.extend_from_slice(b"gcbatch 1\n")?;
+fn one_to_eight_runners_answer_alike(rt: HostRuntime) -> Result<(), Fail> {
+    let mut source = String::new(rt.alloc());
+    source.push_str("gcbatch 1\n")?;
     for _ in 0..32u32 {
-        source.extend_from_slice(b"job 2\nabjob 3\ncde")?;
+        source.push_str("job 2\nabjob 3\ncde")?;
     }
-    let Ok(batch) = read_batch(rt.alloc(), source.as_slice()) else {
-        return Err(Fail::from("a batch is refused"));
-    };
-    for runners in [1, 2, 8] {
-        let Ok(done) = run_jobs(&rt, rt.alloc(), &batch, runners, &Echo) else {
-            return Err(Fail::from("no memory"));
-        };
-        assert_eq!(rt; done.len(), 64);
-        for (j, d) in done.iter().enumerate() {
-            assert_eq!(rt; d.job as usize, j);
-            assert_eq!(rt; d.text.bytes(), batch.jobs()[j]);
-        }
+    for runners in 1..=8 {
+        let echoed = echoed(&rt, source.as_bytes(), runners, &Echo)?;
+        assert!(rt; echoed == (64, 64), "{runners}");
     }
     Ok(())
 }
 
 #[test]
 fn a_batch_without_jobs_has_no_results(rt: HostRuntime) -> Result<(), Fail> {
-    let Ok(batch) = read_batch(rt.alloc(), b"gcbatch 1\n") else {
-        return Err(Fail::from("a batch is refused"));
-    };
-    let Ok(done) = run_jobs(&rt, rt.alloc(), &batch, 8, &Echo) else {
-        return Err(Fail::from("no memory"));
-    };
-    assert_eq!(rt; done.len(), 0);
+    let echoed = echoed(&rt, b"gcbatch 1\n", 8, &Echo)?;
+    assert!(rt; echoed == (0, 0));
     Ok(())
 }
 
