@@ -1,0 +1,184 @@
+"""Tries wrong bodies: python3 tests/wrong_bodies.py [CRATE..], or of all crates that have some.
+
+A wrong body is a change to one function that its contract has to refuse. Those of a crate stand in tests/bodies/CRATE.txt, a few lines each, with an
+empty line between two:
+
+    searches to the end alone
+    function: alloc_cache::searching::claim_among
+    file: src/searching.rt
+    old: the text of one line, which stands in that function once
+    new: what stands there in its place
+
+More lines old and new may follow. A line `free: REASON` says that the body is right too, or free on purpose. All are put into a copy of the crate, at
+most one a function at a time, and `rt check` tells which functions it still proves. The status is 1 where a body got through that isn't free, or where
+one couldn't be judged. The crates below are best proved before (`rt check CRATE`): what they left is copied.
+"""
+import os
+import re
+import shutil
+import subprocess
+import sys
+import tempfile
+
+TOP = os.path.dirname(os.path.dirname(os.path.abspath(__file__)))
+BODIES = os.path.join(TOP, "tests", "bodies")
+
+
+class Body:
+    """One wrong body: what it does, of which function, and what it changes."""
+
+    def __init__(self, lines):
+        self.what, self.function, self.free, self.changes = lines[0], "", "", []
+        file = old = ""
+        for line in lines[1:]:
+            word, _, text = line.partition(": ")
+            if word == "function":
+                self.function = text
+            elif word == "free":
+                self.free = text
+            elif word == "file":
+                file = text
+            elif word == "old":
+                old = text
+            elif word == "new":
+                self.changes.append((file, old, text))
+            else:
+                sys.exit(f"{self.what}: {line}")
+
+    def places_in(self, text, old):
+        """Where this text stands below the head of a function of that name."""
+        name = self.function.split("::")[-1]
+        ends = [it.end() for it in re.finditer(re.escape(old), text)]
+        return [end - len(old) for end in ends if re.findall(r"\bfn (\w+)", text[:end])[-1:] == [name]]
+
+    def texts(self, folder):
+        """The files that it changes, with the change, or None where an old text doesn't stand in its function once."""
+        texts = {}
+        for file, old, new in self.changes:
+            if file not in texts:
+                with open(os.path.join(folder, file), encoding="utf-8") as it:
+                    texts[file] = it.read()
+            places = self.places_in(texts[file], old)
+            if len(places) != 1:
+                return None
+            texts[file] = texts[file][: places[0]] + new + texts[file][places[0] + len(old) :]
+        return texts
+
+
+def read_bodies(crate):
+    with open(os.path.join(BODIES, f"{crate}.txt"), encoding="utf-8") as it:
+        blocks = it.read().strip().split("\n\n")
+    return [Body(block.split("\n")) for block in blocks]
+
+
+def crates_below(crate):
+    """The crate and those of this repository that it stands on, and these stand on."""
+    with open(os.path.join(TOP, "crates.txt"), encoding="utf-8") as it:
+        named = {name: below.split() for name, below in (line.strip().split(":", 1) for line in it if ":" in line)}
+    found, left = [], [crate]
+    while left:
+        name = left.pop()
+        if name in named and name not in found:
+            found.append(name)
+            left += named[name]
+    return [name for name in named if name in found]
+
+
+def copy_crates(crate, to):
+    """Copies the crates with what checks left of them."""
+    for file in ("HANDLES", "crates.txt"):
+        shutil.copy(os.path.join(TOP, file), to)
+    names = crates_below(crate)
+    with open(os.path.join(to, "crates.txt"), encoding="utf-8") as it:
+        lines = [line for line in it if line.split(":")[0] in names]
+    with open(os.path.join(to, "crates.txt"), "w", encoding="utf-8") as it:
+        it.writelines(lines)
+    for name in names:
+        # (of those below what was built is enough)
+        left = shutil.ignore_patterns("must-fail", *(["incremental"] if name != crate else []))
+        shutil.copytree(os.path.join(TOP, "crates", name), os.path.join(to, "crates", name), symlinks=True, ignore=left)
+
+
+def check(folder):
+    """What a check of the crate in this folder prints."""
+    ran = subprocess.run(["rt", "check", "--jobs", "1"], cwd=folder, stdout=subprocess.PIPE, stderr=subprocess.STDOUT, text=True, errors="replace")
+    return ran.stdout
+
+
+def apply_some(bodies, folder):
+    """Puts in as many as go together, at most one a function. Which those are, and which are left."""
+    done, left = [], []
+    for body in bodies:
+        texts = None if body.function in [it.function for it in done] else body.texts(folder)
+        if texts is None:
+            left.append(body)
+            continue
+        for file, text in texts.items():
+            with open(os.path.join(folder, file), "w", encoding="utf-8") as it:
+                it.write(text)
+        done.append(body)
+    return done, left
+
+
+def reasons_of(body, said):
+    """The goals of the function that weren't proved, and whether a name alone was missing."""
+    path = body.function.split("::", 1)[1].replace("::", "/")
+    line = next((it for it in said if it.startswith(f"fn {body.function}: ")), "")
+    goals = re.findall(r"`([^`]+)`", line.partition("did not prove")[2].partition("; it calls")[0])
+    names = False
+    for it in said:
+        found = re.match(rf"\./proofs/{re.escape(path)}/\S+ error: (?:`([^`]+)`)?(.*)", it)
+        if found and re.search(r"has no field|is not in scope|has no `|was not admitted", it):
+            names = True
+        elif found and found[1]:
+            goals.append(found[1])
+    return list(dict.fromkeys(goals)), names
+
+
+def judge(body, said):
+    """What became of a body: refused, with the goals; proved; or unknown."""
+    line = next((it for it in said if it.startswith(f"fn {body.function}: ")), "")
+    if line.partition(": ")[2].startswith("proved"):
+        return "free" if body.free else "PROVED", body.free
+    if not line:
+        return "UNKNOWN", "no function of that name, or no check"
+    goals, names = reasons_of(body, said)
+    if goals:
+        return "refused", ", ".join(goals)
+    if names:
+        return "refused", "by names alone"
+    if re.search("which (is|are) not proved", line) and "did not prove" not in line:
+        return "again", ""
+    return "refused", line.partition(": ")[2]
+
+
+def try_some(crate, bodies):
+    """Tries as many bodies as go together. What became of each of these, and those that are left."""
+    with tempfile.TemporaryDirectory() as copy:
+        copy_crates(crate, copy)
+        folder = os.path.join(copy, "crates", crate)
+        for body in bodies:
+            if body.texts(folder) is None:
+                sys.exit(f"{crate}, {body.what}: an old text doesn't stand once in {body.function}")
+        done, left = apply_some(bodies, folder)
+        said = check(folder).split("\n")
+    return [(body, *judge(body, said)) for body in done], left
+
+
+def try_crate(crate):
+    """Tries all bodies of a crate, and prints what became of each. How many weren't refused."""
+    left, wrong = read_bodies(crate), 0
+    while left:
+        judged, left = try_some(crate, left)
+        for body, came, why in judged:
+            if came == "again" and len(judged) > 1:
+                left.append(body)
+                continue
+            print(f"{crate}: {came}: {body.what} ({body.function}): {why}", flush=True)
+            wrong += came not in ("refused", "free")
+    return wrong
+
+
+if __name__ == "__main__":
+    crates = sys.argv[1:] or sorted(it[:-4] for it in os.listdir(BODIES))
+    sys.exit(1 if sum(try_crate(it) for it in crates) else 0)
