@@ -11,7 +11,7 @@ empty line between two:
 
 More lines old and new may follow. A line `free: REASON` says that the body is right too, or free on purpose. All are put into a copy of the crate, at
 most one a function at a time, and `rt check` tells which functions it still proves. The status is 1 where a body got through that isn't free, or where
-one couldn't be judged. The crates below are best proved before (`rt check CRATE`): what they left is copied.
+one couldn't be judged. The crate and those below are best proved before, by `rt check` in the crate's folder: what that left is copied.
 """
 import os
 import re
