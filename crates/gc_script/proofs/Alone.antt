@@ -1,8 +1,8 @@
 -- The catalogue of a script without a fault lends nothing: it reads no variable of a catalogue.
-use Rattle.std.proofs.Common.{◌≡◌, ℕ, zero, suc, List, [], ◌∷◌, ◌++◌, refl, Bool, true, false, subst}
+use Rattle.std.proofs.Common.{◌≡◌, ℕ, List, [], ◌∷◌, refl, true, subst}
 use Rattle.std.proofs.lemmas.Bool.{false≢true}
 use Rattle.std.proofs.lemmas.List.Elements.{All-append, All-nil, All-push}
-use Rattle.std.specs.Prelude.{Option, Some, None, is_some, unwrap_or, IsFalse}
+use Rattle.std.specs.Prelude.{Option, Some, is_some, unwrap_or, IsFalse}
 use Rattle.std.specs.Option.{option_or}
 use Rattle.std.specs.List.{All}
 use Rattle.plain_heap.specs.Sections.{Execution}

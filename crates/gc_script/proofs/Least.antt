@@ -1,8 +1,8 @@
 -- An object of a script without a fault has one field at least.
-use Rattle.std.proofs.Common.{◌≡◌, ℕ, ◌≤◌, List, [], ◌∷◌, sym, subst, cond, Bool, true, false, arith}
+use Rattle.std.proofs.Common.{◌≡◌, ℕ, ◌≤◌, List, [], ◌∷◌, subst, cond, Bool, true, false, arith}
 use Rattle.std.proofs.lemmas.Bool.Decides.{nat_tests}
 use Rattle.std.proofs.lemmas.Option.{same_Some}
-use Rattle.std.specs.Prelude.{Option, Some, None, is_none, ◌&&◌, ◌==◌, not}
+use Rattle.std.specs.Prelude.{Some, is_none, ◌&&◌, ◌==◌, not}
 use Rattle.gc_script.specs.Statement.{Statement, Blank, Fields, Catalogue, Warehouse, Season, Repeat, End, Command, Wrong}
 use Rattle.gc_script.specs.Earlier.{known_fields, stated_fields}
 use Rattle.gc_script.specs.Context.{AreClear}

@@ -129,12 +129,12 @@ text_allowed bytes n h =
     let added : length added_lines ≤ position_or_len (λ b. not (is_allowed b)) added_lines = lit≤ tt in
     none_from _ _ (joined_fails (λ b. not (is_allowed b)) added_lines (drop n bytes) added (dropped_fails (λ b. not (is_allowed b)) bytes n (none_is _ _ h)))
 
-text_ok : (bytes : List ℕ) (s : Script) (b : Bool) (o : Option ℕ) → cond b (Err TooLong) (of_text o bytes) ≡ Ok s → (o ≡ None) × (of_lines (map words (lines bytes)) ≡ Ok s)
+pub text_ok : (bytes : List ℕ) (s : Script) (b : Bool) (o : Option ℕ) → cond b (Err TooLong) (of_text o bytes) ≡ Ok s → (o ≡ None) × (of_lines (map words (lines bytes)) ≡ Ok s)
 text_ok bytes s true o h = cc
 text_ok bytes s false None h = (refl, h)
 text_ok bytes s false (Some offset) h = cc
 
-version_ok : (v : Option ℕ) (others : List (List (List ℕ))) (s : Script) → of_version v others ≡ Ok s → (n : ℕ) × (v ≡ Some n) × (body n (map statement others) ≡ Ok s)
+pub version_ok : (v : Option ℕ) (others : List (List (List ℕ))) (s : Script) → of_version v others ≡ Ok s → (n : ℕ) × (v ≡ Some n) × (body n (map statement others) ≡ Ok s)
 version_ok None others s h = cc
 version_ok (Some n) others s h = (n, refl, h)
 

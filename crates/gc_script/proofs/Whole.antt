@@ -20,7 +20,7 @@ use Rattle.gc_script.specs.declared.progress.Progress.{Progress}
 use Rattle.gc_script.proofs.History.{executed_outside}
 use Rattle.gc_script.proofs.Totals.{Agree, total_is, sections_total}
 use Rattle.gc_script.proofs.Ranges.{AllFit, Fits, AreRanged, ranged, sane, fit_push, fit_catalogue, fit_warehouses}
-use Rattle.gc_script.proofs.Alone.{alone, alone-end}
+use Rattle.gc_script.proofs.Alone.{alone-end}
 use Rattle.gc_script.proofs.Least.{least}
 use Rattle.gc_script.proofs.Seasons.{all_few, few_warehouses_all}
 
