@@ -1,6 +1,10 @@
 //! A cache in a mutator's hand.
-ghost use Rattle.std.specs.Prelude.{◌≡◌};
+ghost use Rattle.std.specs.Prelude.{◌≡◌, None, IfNone, IfSome, IsTrue};
 ghost use Rattle.std.specs.Int.Count.{ones};
+ghost use Rattle.gc_table.specs.Seats.{view_of};
+ghost use Rattle.alloc_cache.specs.Caching.{IsCached, is_whole};
+
+use gc_table::HeapSeat;
 
 /// A block that the seat claimed, and its free cells. It can't be dropped: [`retire`](crate::retire) spends it.
 pub struct Cache {
@@ -23,4 +27,25 @@ impl Cache {
     {
         self.cells.count_ones()
     }
+}
+
+/// The cache that the seat's record has, for a caller that kept none of its own between two calls. It is the seat's as any is: once it is given up, no
+/// other of the same block can be spent.
+pub fn cache_of(seat: &HeapSeat) -> Option<Cache>
+    requires whole { IsTrue (is_whole (view_of seat.now).state.cache) }
+    ensures some { IfSome result (λ h. IsCached h (view_of seat.now)) }
+    ensures none { IfNone result ((view_of seat.now).state.cache ≡ None) }
+{
+    match seat.state().cache {
+        Some(c) => Some(Cache {
+            block: c.block,
+            cells: c.free,
+        }),
+        None => None,
+    }
+}
+
+/// Lets a cache go that stays the seat's: the seat's record has it, and [`cache_of`] gives it again.
+pub fn leave_with_seat(cache: Cache) {
+    let Cache { block: _, cells: _ } = cache;
 }

@@ -35,7 +35,7 @@ mod claiming;
 mod making;
 mod retiring;
 
-pub use cache::Cache;
+pub use cache::{Cache, cache_of, leave_with_seat};
 pub use claiming::claim;
 pub use making::new_cell;
 pub use retiring::{publish, retire};

@@ -40,7 +40,7 @@ fn fill(heap: &Heap, seat: &mut HeapSeat, cell: Cell, id: Identity, value: u32)
     requires turn { IsTrue (may_mutate (view_of seat.old).state) }
     requires cell { IsTrue (free_in (view_of seat.old).state.cache cell) }
     requires whole { IsFalse (has_making (view_of seat.old).state.cache) }
-    requires identity { ((view_of seat.old).state.section ≡ Some id.section) × (id.number ≡ (view_of seat.old).state.made) × (id.number < 2000000) }
+    requires identity { ((view_of seat.old).state.section ≡ Some id.section) × (id.number ≡ (view_of seat.old).state.made) × (id.number < heap.now.shape.objects) }
     requires counted { length (view_of seat.old).own.meaning.heap.objects ≡ (view_of seat.old).state.made }
     ensures seat { Sits heap.now seat.new }
     ensures ran { Ran (view_of seat.old) (view_of seat.new) }
@@ -62,7 +62,7 @@ fn without_cell(cells: u64, i: u32) -> u64
 
 /// Makes an unpublished cell with this identity and value and nil references.
 ///
-/// The seat has its section's turn. `id` is that section, with the number of cells that the seat has made, which is below 2,000,000; each of these has
+/// The seat has its section's turn. `id` is that section, with the number of cells that the seat has made, which is below what the shape lets a section make; each of these has
 /// its object, so a cell is stored in a variable before the next one is made. None comes exactly where no cell of the cache is free, and nothing
 /// changes then.
 pub fn new_cell(
@@ -75,7 +75,7 @@ pub fn new_cell(
     requires seat { Sits heap.now seat.old }
     requires cache { IsCached cache.old (view_of seat.old) }
     requires turn { IsTrue (may_mutate (view_of seat.old).state) }
-    requires identity { ((view_of seat.old).state.section ≡ Some id.section) × (id.number ≡ (view_of seat.old).state.made) × (id.number < 2000000) }
+    requires identity { ((view_of seat.old).state.section ≡ Some id.section) × (id.number ≡ (view_of seat.old).state.made) × (id.number < heap.now.shape.objects) }
     requires counted { length (view_of seat.old).own.meaning.heap.objects ≡ (view_of seat.old).state.made }
     ensures seat { Sits heap.now seat.new }
     ensures ran { Ran (view_of seat.old) (view_of seat.new) }

@@ -47,7 +47,7 @@ impl Size {
 
 /// Eight packets of 64 entries, one section, and objects of four fields.
 fn shape_of(cells: u32) -> Shape
-    requires { IsShape (record { cells = cells; packets = 8; entries = 64; sections = 1; fields = 4 }) }
+    requires { IsShape (record { cells = cells; packets = 8; entries = 64; sections = 1; fields = 4; objects = 2000000 }) }
     ensures { IsShape result }
 {
     Shape {
@@ -56,6 +56,7 @@ fn shape_of(cells: u32) -> Shape
         entries: 64,
         sections: 1,
         fields: 4,
+        objects: 2_000_000,
     }
 }
 

@@ -18,6 +18,7 @@ const SIZES: Shape = Shape {
     entries: 64,
     sections: 1,
     fields: 4,
+    objects: 2_000_000,
 };
 
 /// A heap in which nothing has happened, and its seat, which is the catalogue's.

@@ -10,7 +10,7 @@ use Rattle.gc_table.specs.Seats.{Sits, view_of}
 
 -- 64 blocks of 64 cells, and objects of two fields
 abbrev pub sizes : Shape
-sizes = record { cells = 4096; packets = 2; entries = 2; sections = 1; fields = 2 }
+sizes = record { cells = 4096; packets = 2; entries = 2; sections = 1; fields = 2; objects = 2000000 }
 
 -- the heap has these sizes, and the seat is one of its seats, with this record
 abbrev pub At : Heap → SeatState → HeapSeat → Type 0

@@ -16,6 +16,7 @@ const SIZES: Shape = Shape {
     entries: 2,
     sections: 1,
     fields: 2,
+    objects: 2_000_000,
 };
 
 /// A heap in which nothing has happened, and its seat.

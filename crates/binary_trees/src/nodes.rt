@@ -19,7 +19,7 @@ pub fn make(heap: &Heap, seat: &mut HeapSeat, cache: &mut Cache, v: u8)
     requires plays { Plays heap.now seat.old }
     requires cache { IsCached cache.old (view_of seat.old) }
     requires free { 0 < ones cache.old.cells }
-    requires room { (view_of seat.old).state.made < 2000000 }
+    requires room { (view_of seat.old).state.made < heap.now.shape.objects }
     requires range { v < 32 }
     ensures plays { Plays heap.now seat.new }
     ensures cache { IsCached cache.new (view_of seat.new) }

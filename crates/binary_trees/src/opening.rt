@@ -32,6 +32,7 @@ fn shape_of(asked: &Asked) -> Shape
         entries: 32,
         sections: 1 + asked.workers,
         fields: 2,
+        objects: u32::MAX,
     }
 }
 

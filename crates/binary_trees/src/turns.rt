@@ -17,15 +17,12 @@ use std::sync::Wait;
 pub enum Halt {
     /// Every cell of the heap is reachable.
     Full,
-    /// Its section has made 2,000,000 objects, which are all that have numbers.
+    /// Its section has made all objects that have numbers.
     Spent,
 }
 
 /// The season in which the workers play.
 const TURN: u64 = 1;
-
-/// How many objects a section makes at most.
-const OBJECTS: u32 = 2_000_000;
 
 /// Gives a cache up, if there is one.
 pub fn retire_some(heap: &Heap, seat: &mut HeapSeat, cache: Option<Cache>)
@@ -130,7 +127,7 @@ pub fn come_to<R: Wait>(
     requires cache { HasCache cache (view_of seat.old) }
     ensures ok { IfOk result (λ free. Plays heap.now seat.new × IsCached free (view_of seat.new)) }
     ensures free { IfOk result (λ free. 0 < ones free.cells) }
-    ensures room { IfOk result (λ _. (view_of seat.new).state.made < 2000000) }
+    ensures room { IfOk result (λ _. (view_of seat.new).state.made < heap.now.shape.objects) }
     ensures err { IfErr result (λ _. Halts heap.now seat.new) }
     ensures same { heap_of seat.new ≡ heap_of seat.old }
 {
@@ -139,7 +136,7 @@ pub fn come_to<R: Wait>(
         match pass(rt, heap, seat, cache) {
             Err(halt) => return Err(halt),
             Ok(kept) => {
-                if seat.state().made >= OBJECTS {
+                if seat.state().made >= heap.shape().objects {
                     retire_some(heap, seat, kept);
                     return Err(Halt::Spent);
                 }

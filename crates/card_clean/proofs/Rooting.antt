@@ -36,7 +36,7 @@ may-read_root v section u h t there low held work c k w a = (
 )
 
 -- a root word is nil or names a cell that exists
-root-small : (v : View) (n section u : ℕ) → section < v.shape.sections → u < 32 → Finds (ReadRoot section u) n v → n ≤ 65536
+root-small : (v : View) (n section u : ℕ) → section < v.shape.sections → u < 32 → Finds (ReadRoot section u) n v → n ≤ 16777216
 root-small v n section u there low f =
     let sh : Shape = f.state.core.shape in
     let ws : List ℕ = f.state.core.words in

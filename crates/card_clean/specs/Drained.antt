@@ -54,3 +54,7 @@ abbrev pub FindsWork : Shape → List Entry → Type 0
 FindsWork sh es =
     ((card : ℕ) × (card < card_count sh) × (es ≡ looks_dirty 0 card))
     ⊎ ((n : ℕ) × (n ≢ 64 + sh.packets) × (es ≡ looks_clean 0 (card_count sh) ++ event ReadCount n ∷ []))
+
+-- no dirty card was found, and after that the count of empty packets was that of all
+abbrev pub FindsNone : Shape → List Entry → Type 0
+FindsNone sh es = es ≡ looks_clean 0 (card_count sh) ++ event ReadCount (64 + sh.packets) ∷ []

@@ -8,7 +8,7 @@ ghost use Rattle.mark_core.specs.Seats.{work_in_hand};
 ghost use Rattle.gc_table.specs.Seats.{Sits, view_of};
 ghost use Rattle.gc_table.specs.Log.{events};
 ghost use Rattle.packet_pools.specs.OnlyTraced.{OnlyTraced};
-ghost use Rattle.card_clean.specs.Drained.{FindsWork, IsDrained, IsRooted};
+ghost use Rattle.card_clean.specs.Drained.{FindsNone, FindsWork, IsDrained, IsRooted};
 ghost use Rattle.card_clean.specs.Leaving.{rescanned_in};
 
 use crate::dirty_cards::first_dirty;
@@ -26,6 +26,7 @@ pub fn is_drained(heap: &Heap, seat: &mut HeapSeat) -> bool
     ensures state { (view_of seat.new).state ≡ (view_of seat.old).state }
     ensures rooted { IsRooted (view_of seat.new) }
     ensures drained { IsTrue result → IsDrained (view_of seat.new) }
+    ensures over { IsTrue result → FindsNone heap.now.shape (events (view_of seat.old) (view_of seat.new)) }
     ensures undrained { IsFalse result → FindsWork heap.now.shape (events (view_of seat.old) (view_of seat.new)) }
     ensures left { rescanned_in (view_of seat.old) (events (view_of seat.old) (view_of seat.new)) ≡ 0 }
 {

@@ -19,7 +19,7 @@ use packet_pools::{give, take_output};
 
 /// Cleans a card as [`clean_card`](crate::clean_card) does, with a packet that it takes for it and gives back. The seat holds at most two packets.
 ///
-/// None comes only where each packet was seen outside the pools of packets with room, was lost to another seat, or was taken and found full, in this
+/// None comes only where each packet was seen outside each pool of packets with room or lost to another seat there, or was taken and found full, in this
 /// call. Then the card wasn't touched.
 pub fn clean_one(heap: &Heap, seat: &mut HeapSeat, card: u32) -> Option<Cleaned>
     requires seat { IsTracer heap.now seat.old }

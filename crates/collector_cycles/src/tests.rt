@@ -20,6 +20,7 @@ const SMALL: Shape = Shape {
     entries: 2,
     sections: 2,
     fields: 4,
+    objects: 2_000_000,
 };
 
 /// Ten blocks, and 64 packets of 32 entries.
@@ -29,6 +30,7 @@ const LARGE: Shape = Shape {
     entries: 32,
     sections: 2,
     fields: 4,
+    objects: 2_000_000,
 };
 
 /// The same with one warehouse more.
@@ -38,6 +40,7 @@ const THREE: Shape = Shape {
     entries: 32,
     sections: 3,
     fields: 4,
+    objects: 2_000_000,
 };
 
 /// 256 blocks, and 64 packets of two entries, so that packets are given back soon.
@@ -47,4 +50,5 @@ const BROAD: Shape = Shape {
     entries: 2,
     sections: 2,
     fields: 4,
+    objects: 2_000_000,
 };

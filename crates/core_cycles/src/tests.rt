@@ -18,6 +18,7 @@ const SMALL: Shape = Shape {
     entries: 2,
     sections: 2,
     fields: 4,
+    objects: 2_000_000,
 };
 
 /// One packet more than fit into a word of a pool.
@@ -27,6 +28,7 @@ const WIDE: Shape = Shape {
     entries: 2,
     sections: 2,
     fields: 4,
+    objects: 2_000_000,
 };
 
 const DONE: Result<(), (usize, Rule)> = Ok(());
@@ -135,6 +137,41 @@ fn leaves(
     }
 }
 
+/// The state after these events, where all are allowed.
+fn state_after(alloc: Global, first: &[Event], next: &[Event]) -> Option<CoreState> {
+    match CoreState::start(alloc, SMALL, 2) {
+        Err(_) => None,
+        Ok(mut core) => {
+            if core.run(first) == DONE && core.run(next) == DONE {
+                Some(core)
+            } else {
+                None
+            }
+        }
+    }
+}
+
+/// Seat 1 runs, and knows of no stop.
+fn is_active(core: &CoreState) -> bool {
+    match core.seat(1) {
+        None => false,
+        Some(s) => s.active && !s.knows,
+    }
+}
+
+/// Seat 1 scans cell 0 from its second field on, and has no other cell in hand.
+fn scans_on(core: &CoreState) -> bool {
+    match core.seat(1) {
+        None => false,
+        Some(s) => {
+            s.scan == Some((Cell::make(0), 1))
+                && s.value.is_none()
+                && s.popped.is_none()
+                && s.fresh.is_none()
+        }
+    }
+}
+
 fn refusal(kind: u8, part: u8) -> Result<(), (usize, Rule)> {
     Err((0, Rule { kind, part }))
 }
@@ -189,6 +226,11 @@ fn phases(rt: HostRuntime) {
     // a whole cycle ends in Idle, with the one block handed out
     assert!(rt; leaves(alloc, SMALL, &stopped(), &swept(), DONE, 1, 0));
     assert!(rt; leaves(alloc, SMALL, &stopped(), &swept(), DONE, 4, 1));
+    // and the seat that ended it is active again
+    match state_after(alloc, &stopped(), &swept()) {
+        None => assert!(rt; false),
+        Some(core) => assert!(rt; is_active(&core)),
+    }
 }
 
 #[test]
@@ -210,6 +252,11 @@ fn cells_in_hand(rt: HostRuntime) {
     assert!(rt; leaves(alloc, SMALL, &popped(), &leave, refusal(26, 2), 0, 1));
     // pushed back, published and popped again, it is scanned
     assert!(rt; leaves(alloc, SMALL, &popped(), &published, DONE, 78, 1));
+    // the scan stands before the second field, and as the first is nil no other cell is in hand
+    match state_after(alloc, &popped(), &published) {
+        None => assert!(rt; false),
+        Some(core) => assert!(rt; scans_on(&core)),
+    }
 }
 
 #[test]

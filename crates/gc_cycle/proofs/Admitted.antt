@@ -1,7 +1,7 @@
 -- What an admitted helper does of a drain and of a sweep.
 use Rattle.std.proofs.Common.{ℕ, ◌≡◌, ◌≤◌, ◌+◌, zero-add, List, [], ◌∷◌, ◌++◌, arith, refl, sym, ap, ◌∙◌, subst, Bool, true, false, not, ◌&&◌, ◌||◌, Some, None, Option, ⊎_elim}
 use Rattle.std.specs.Prelude.{◌==◌, if◌then◌else◌, is_none, nat_lt, unwrap_or}
-use Rattle.std.specs.List.{list_all, list_any, range_with_len}
+use Rattle.std.specs.List.{list_all, list_any}
 use Rattle.std.proofs.lemmas.Bool.{and_from, and_parts, cases_Bool, false≢true, not-true, or_cases, or_from, or_left, or_parts, or_right, true≢false}
 use Rattle.mark_core.specs.Cards.{card_cells}
 use Rattle.mark_core.specs.Effects.{place, seat_after}
@@ -24,11 +24,12 @@ use Rattle.gc_table.specs.Running.{AtLeast, changes_section, IsSeen, Ran}
 use Rattle.gc_table.proofs.Noticing.{floor-elsewhere, floor-here, found-above}
 use Rattle.gc_table.proofs.Running.{ran-events, ran-join, ran-only, ran-shape, run-keeps}
 use Rattle.packet_pools.specs.Counts.{count_of}
-use Rattle.packet_pools.specs.Seeking.{moves_packet, seen_outside_all, some_event, was_lost, shows_outside, loses}
+use Rattle.packet_pools.specs.Seeking.{moves_packet, no_input, some_event}
+use Rattle.packet_pools.proofs.AllMissed.{no-input-left}
 use Rattle.packet_pools.proofs.Counting.{count-join}
-use Rattle.packet_pools.proofs.Searches.{before-left, some-left}
+use Rattle.packet_pools.proofs.Searches.{some-left}
 use Rattle.tracer.specs.Deferral.{waits_on}
-use Rattle.tracer.specs.Moments.{deferring_after, front, is_spent_slot, no_input, nothing_left}
+use Rattle.tracer.specs.Moments.{deferring_after, front, is_spent_slot, nothing_left}
 use Rattle.tracer.proofs.Moments.{moment_of, moment-waits}
 use Rattle.gc_cycle.specs.Events.{never, not_followed, Sort}
 use Rattle.gc_cycle.specs.Helping.{meets_card, meets_cards, rescanned_in}
@@ -132,25 +133,11 @@ front-longer f (e ∷ es) ys = either (f e.step) (front-longer f es ys)
     either true k = (k.0, ap (λ xs. e ∷ xs) k.1)
     either false k = ([], refl)
 
-missed-longer : (xs zs : List Entry) (p : ℕ) → (seen_outside_all (2 ∷ 1 ∷ []) p xs || was_lost p xs) ≡ true → (seen_outside_all (2 ∷ 1 ∷ []) p (xs ++ zs) || was_lost p (xs ++ zs)) ≡ true
-missed-longer xs zs p e =
-    ⊎_elim
-    (λ (a : seen_outside_all (2 ∷ 1 ∷ []) p xs ≡ true).
-    let b = and_parts _ _ a in
-    let c = and_parts _ true b.1 in
-    or_left _ (was_lost p (xs ++ zs)) (and_from _ _ (before-left p (shows_outside 2 p) xs zs b.0) (and_from _ true (before-left p (shows_outside 1 p) xs zs c.0) refl)))
-    (λ (a : was_lost p xs ≡ true). or_right (seen_outside_all (2 ∷ 1 ∷ []) p (xs ++ zs)) _ (before-left p (loses p) xs zs a))
-    (or_cases (seen_outside_all (2 ∷ 1 ∷ []) p xs) (was_lost p xs) e)
-
-input-longer : (xs zs : List Entry) (ps : List ℕ) → list_all (λ p. seen_outside_all (2 ∷ 1 ∷ []) p xs || was_lost p xs) ps ≡ true → list_all (λ p. seen_outside_all (2 ∷ 1 ∷ []) p (xs ++ zs) || was_lost p (xs ++ zs)) ps ≡ true
-input-longer xs zs [] e = refl
-input-longer xs zs (p ∷ ps) e = let k = and_parts _ (list_all (λ q. seen_outside_all (2 ∷ 1 ∷ []) q xs || was_lost q xs) ps) e in and_from _ _ (missed-longer xs zs p k.0) (input-longer xs zs ps k.1)
-
 pub work-longer : (sh : Shape) (ys : List Entry) (m : Moment) (es : List Entry) → finds_no_work sh m es ≡ true → finds_no_work sh m (es ++ ys) ≡ true
 work-longer sh ys m es e =
     let a = and_parts (nothing_left sh m) _ e in
     let z = front-longer (moves_packet (2 ∷ 1 ∷ [])) es ys in
-    and_from (nothing_left sh m) _ a.0 (ap (no_input sh) z.1 ∙ input-longer (front (moves_packet (2 ∷ 1 ∷ [])) es) z.0 (range_with_len 0 sh.packets) a.1)
+    and_from (nothing_left sh m) _ a.0 (ap (no_input sh) z.1 ∙ no-input-left sh (front (moves_packet (2 ∷ 1 ∷ [])) es) z.0 a.1)
 
 pub never-join : (f : Sort) (xs ys : List Entry) → never f xs ≡ true → never f ys ≡ true → never f (xs ++ ys) ≡ true
 never-join f xs ys a b = ap not (some-none f xs ys (not-true _ a) (not-true _ b))

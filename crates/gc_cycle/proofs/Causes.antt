@@ -11,6 +11,8 @@ use Rattle.mark_core.specs.declared.kinds.Step.{Step}
 use Rattle.gc_table.specs.Log.{all_steps}
 use Rattle.gc_table.specs.declared.view.Entry.{Entry}
 use Rattle.packet_pools.specs.Seeking.{some_event}
+pub use Rattle.packet_pools.proofs.Orders.{after-earlier, after-join, after-none}
+use Rattle.packet_pools.proofs.AllMissed.{all-more}
 use Rattle.packet_pools.proofs.Searches.{some-left, some-right}
 use Rattle.alloc_cache.specs.Claiming.{finds_claimed, full_first, gets_block, NoBlock, seeks_block, seen_taken}
 use Rattle.gc_cycle.specs.Cycles.{collects, fills_with_cause, may_fill, sees_all_full}
@@ -18,41 +20,14 @@ use Rattle.gc_cycle.specs.Events.{each_after, followed, front, since_last, Sort}
 use Rattle.gc_cycle.specs.Sorts.{begins_exactly, ends_cycle, moves_to, names, raises_flag, reads_phase, sees_all_empty, sees_last_card}
 use Rattle.gc_cycle.specs.Stops.{claim_failed, marking_done, may_stop, no_block, stops_with_cause}
 use Rattle.gc_cycle.proofs.Finishes.{since-later}
-use Rattle.gc_cycle.proofs.Searched.{all-more, front-more}
+use Rattle.gc_cycle.proofs.Searched.{front-more}
 use Rattle.gc_cycle.proofs.Sequences.{followed-later, some-none}
-
--- no event is like it
-pub after-none : (test : List Entry → Bool) (f : Sort) (earlier es : List Entry) → some_event f es ≡ false → each_after test f earlier es ≡ true
-after-none test f earlier [] n = refl
-after-none test f earlier (e ∷ es) n =
-    let p = or_parts (f e.step e.found) (some_event f es) n in
-    and_from (not (f e.step e.found) || test earlier) _ (or_left (not (f e.step e.found)) (test earlier) (ap not p.0)) (after-none test f (earlier ++ e ∷ []) es p.1)
 
 -- what gives cause at each moment
 pub after-always : (test : List Entry → Bool) (f : Sort) → ((es fs : List Entry) → test es ≡ true → test (es ++ fs) ≡ true) → (earlier es : List Entry) → test earlier ≡ true → each_after test f earlier es ≡ true
 after-always test f more earlier [] t = refl
 after-always test f more earlier (e ∷ es) t =
     and_from (not (f e.step e.found) || test earlier) _ (or_right (not (f e.step e.found)) (test earlier) t) (after-always test f more (earlier ++ e ∷ []) es (more earlier (e ∷ []) t))
-
--- the events of two calls
-pub after-join : (test : List Entry → Bool) (f : Sort) (earlier xs ys : List Entry) → each_after test f earlier xs ≡ true → each_after test f (earlier ++ xs) ys ≡ true → each_after test f earlier (xs ++ ys) ≡ true
-after-join test f earlier [] ys a b = subst (λ es. each_after test f es ys ≡ true) (append-nil earlier) b
-after-join test f earlier (x ∷ xs) ys a b =
-    let p = and_parts (not (f x.step x.found) || test earlier) (each_after test f (earlier ++ x ∷ []) xs) a in
-    and_from (not (f x.step x.found) || test earlier) _ p.0
-    (after-join test f (earlier ++ x ∷ []) xs ys p.1 (subst (λ es. each_after test f es ys ≡ true) (sym (append_assoc earlier (x ∷ []) xs)) b))
-
--- a cause by what a later call did, seen from the whole
-pub after-earlier : (small large : List Entry → Bool) (f : Sort) (earlier : List Entry) → ((es : List Entry) → small es ≡ true → large (earlier ++ es) ≡ true) → (xs ys : List Entry) → each_after small f xs ys ≡ true → each_after large f (earlier ++ xs) ys ≡ true
-after-earlier small large f earlier more xs [] a = refl
-after-earlier small large f earlier more xs (y ∷ ys) a =
-    let p = and_parts (not (f y.step y.found) || small xs) (each_after small f (xs ++ y ∷ []) ys) a in
-    and_from (not (f y.step y.found) || large (earlier ++ xs)) _
-    (⊎_elim
-    (λ (n : not (f y.step y.found) ≡ true). or_left (not (f y.step y.found)) (large (earlier ++ xs)) n)
-    (λ (t : small xs ≡ true). or_right (not (f y.step y.found)) (large (earlier ++ xs)) (more xs t))
-    (or_cases (not (f y.step y.found)) (small xs) p.0))
-    (subst (λ es. each_after large f es ys ≡ true) (sym (append_assoc earlier xs (y ∷ []))) (after-earlier small large f earlier more (xs ++ y ∷ []) ys p.1))
 
 -- causes to stop
 

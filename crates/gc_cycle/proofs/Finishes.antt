@@ -24,6 +24,7 @@ use Rattle.gc_table.specs.Running.{Ran}
 use Rattle.gc_table.proofs.Running.{ran-events, ran-join, ran-only, ran-shape}
 use Rattle.stop_world.proofs.Phases.{phase-is}
 use Rattle.gc_cycle.specs.Cycles.{collects_exactly, ends_exactly, lets_help, opens_in_sweep}
+use Rattle.gc_cycle.specs.DrainRounds.{DrainsBefore}
 use Rattle.gc_cycle.specs.Ending.{InEach, IsExact}
 use Rattle.gc_cycle.specs.Events.{Sort, followed, never, since_last}
 use Rattle.gc_cycle.specs.Finishing.{BeginsExactly, Completes, finishes, IsAloneIn, stays}
@@ -177,5 +178,24 @@ begins-later u v w r o n b =
       all = ran-events u v w r b.ran ∙ (ap (λ es. events u v ++ es) b.all ∙ sym (append_assoc (events u v) b.before (b.move ∷ b.rest)));
       begins = b.begins;
       stayed = b.stayed;
+      fresh = b.fresh;
       not_full = never-both tells_full (events u v) b.before n b.not_full;
+    }
+
+-- since a drain began exactly only the counter of cards was set
+pub exact-fresh : (v w : View) (b : BeginsExactly v w) → since_last (moves_to Drain) (events v w) ≡ event (Reset 0) 0 ∷ []
+exact-fresh v w b =
+    ap (since_last (moves_to Drain)) b.all
+    ∙ (since-this (moves_to Drain) b.before b.move b.rest (exact-moves b.move.step b.move.found b.begins) (none-of-steps stays (moves_to Drain) (no-move Drain) b.rest b.stayed) ∙ b.fresh)
+
+-- the drain before it is so of a longer call
+pub before-more : (u v w : View) → DrainsBefore u v → Ran v w → DrainsBefore u w
+before-more u v w d r =
+    record {
+      begun = d.begun;
+      drained = d.drained;
+      begins = d.begins;
+      alone = d.alone;
+      after = ran-join d.drained v w d.after r;
+      clears = (d.clears.0 ++ events v w, ran-events d.drained v w d.after r ∙ ap (λ es. es ++ events v w) d.clears.1);
     }

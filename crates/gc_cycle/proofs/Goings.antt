@@ -333,12 +333,10 @@ theirs-up false e = absurd (true≢false (ap is_theirs e))
     is_theirs Yours = false
     is_theirs Theirs = true
 
-pub out-unaware : (v w : View) (n : ℕ) → IsOut v → w ≡ after RaiseStep n v → Finds RaiseStep n v → (w.state.knows ≡ false) × (w.state.alone ≡ false)
+pub out-unaware : (v w : View) (n : ℕ) → IsOut v → w ≡ after RaiseStep n v → Finds RaiseStep n v → w.state.knows ≡ false
 out-unaware v w n o e f =
     let rules = strong f.state f.index v f.whole f.agrees in
-    let knows : v.state.knows ≡ false = unless v.state.knows v.state.raised (λ h. rules.knows_is_raised h) (bare-parts v.state o.bare).1 in
-    let alone : v.state.alone ≡ false = unless v.state.alone v.state.knows (λ h. rules.alone_knows h) knows in
-    (ap (λ (x : View). x.state.knows) e ∙ knows, ap (λ (x : View). x.state.alone) e ∙ alone)
+    ap (λ (x : View). x.state.knows) e ∙ unless v.state.knows v.state.raised (λ h. rules.knows_is_raised h) (bare-parts v.state o.bare).1
 
 raise-seen : (v : View) (n : ℕ) → Finds RaiseStep n v → IsSeen RaiseStep n v
 raise-seen v n f = record { found = λ e. f; stored = λ e. absurd (false≢true e) }

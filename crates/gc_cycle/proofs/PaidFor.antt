@@ -5,7 +5,7 @@ use Rattle.std.proofs.lemmas.Bool.{and_parts, cases_Bool, false≢true, leb-fals
 use Rattle.mark_core.specs.Cells.{or_else}
 use Rattle.mark_core.specs.declared.kinds.Shape.{Shape}
 use Rattle.mark_core.specs.declared.kinds.Step.{Step}
-use Rattle.mark_core.specs.declared.kinds.Step.TheVariants.{AddStat, ClaimBlock, Pop, ReadStat}
+use Rattle.mark_core.specs.declared.kinds.Step.TheVariants.{AddStat, ClaimBlock, Pop, ReadStat, Reset}
 use Rattle.mark_core.specs.declared.seat.SeatState.{SeatState}
 use Rattle.gc_table.specs.Log.{all_steps, events, Only}
 use Rattle.gc_table.specs.PlainSteps.{own_section}
@@ -31,6 +31,7 @@ use Rattle.gc_cycle.specs.Payment.{HasPaid, is_out_of_room, is_out_of_work, Mark
 use Rattle.gc_cycle.specs.Roots.{roots_scanned}
 use Rattle.gc_cycle.specs.Sorts.{claims, pops, raises_traced, reads_pace, reads_root}
 use Rattle.gc_cycle.specs.Standing.{is_at_rest, Mutates}
+use Rattle.gc_cycle.specs.Statistics.{changes, numbers_changed, tells}
 use Rattle.gc_cycle.proofs.Admitted.{count-none, count-run, never-join, traces-kept}
 use Rattle.gc_cycle.proofs.Payment.{earlier-moment, later-moment, moment-map, mutates-on, packet-longer, packet-widens, quiet-moment, roots-left, roots-right, stops-later, stops-longer}
 use Rattle.gc_cycle.proofs.Untaken.{Spares, untaken}
@@ -43,6 +44,16 @@ trace-pays : (step : Step) → traces_cells step ≡ true → pays_cells step �
 trace-pays (AddStat which by down) e = absurd (false≢true e)
 trace-pays (ReadStat which) e = ap (λ n. not (n == 6)) (eqb-true which 0 e)
 trace-pays step e = e
+
+number-unchanged : (step : Step) (n : ℕ) → reads_number step ≡ true → changes step n ≡ []
+number-unchanged (AddStat which by down) n e = absurd (false≢true e)
+number-unchanged (Reset which) n e = absurd (false≢true e)
+number-unchanged step n e = refl
+
+trace-unchanged : (step : Step) (n : ℕ) → traces_cells step ≡ true → changes step n ≡ []
+trace-unchanged (AddStat which by down) n e = absurd (false≢true e)
+trace-unchanged (Reset which) n e = absurd (false≢true e)
+trace-unchanged step n e = refl
 
 -- what these steps don't do
 pub pays-unclaimed : Spares pays_cells claims
@@ -142,6 +153,14 @@ module _ (cells quota : ℕ) (p : Paid) (u v w x : View) (m : Mutates u) (r : Ra
       ran-only pays_cells u v x r tail (only-more reads_number pays_cells number-pays u v o)
       (ran-only pays_cells v w x k.traced.ran last (only-more traces_cells pays_cells trace-pays v w k.traced.only) (only-after pays_cells w x (AddStat 4 p.done false) t.0 refl t.1.0))
 
+  changed : numbers_changed (events u x) ≡ tells p.done ∷ []
+  changed =
+      ap numbers_changed all
+      ∙ (picked-join changes (events u v) (events v w ++ events w x)
+      ∙ ((λ i. picked-none reads_number changes number-unchanged (events u v) o i ++ numbers_changed (events v w ++ events w x))
+      ∙ (picked-join changes (events v w) (events w x)
+      ∙ ((λ i. picked-none traces_cells changes trace-unchanged (events v w) k.traced.only i ++ numbers_changed (events w x)) ∙ ap numbers_changed told))))
+
   unclaimed : never claims (events u x) ≡ true
   unclaimed = untaken pays_cells claims pays-unclaimed (events u x) only
 
@@ -206,6 +225,7 @@ module _ (cells quota : ℕ) (p : Paid) (u v w x : View) (m : Mutates u) (r : Ra
         done = counted;
         stopped = stops-as p.stopped p.quota p.done u x unclaimed stops;
         told = raised;
+        changed = record { ran = ran-join u v x r tail; all = changed };
       }
 
 -- the section stays

@@ -16,7 +16,8 @@ use Rattle.gc_table.specs.declared.view.Entry.{Entry}
 use Rattle.gc_table.specs.declared.view.View.{View}
 use Rattle.gc_table.proofs.Running.{ran-events, ran-join, ran-only, ran-shape}
 use Rattle.packet_pools.specs.Seeking.{moves_packet, some_event}
-use Rattle.tracer.specs.Moments.{finds_none_to_fill, finds_none_to_read, front, no_input, no_output}
+use Rattle.packet_pools.specs.Seeking.{no_input, no_output}
+use Rattle.tracer.specs.Moments.{finds_none_to_fill, finds_none_to_read, front}
 use Rattle.tracer.specs.declared.traced.Stopped.{Stopped}
 use Rattle.tracer.specs.declared.traced.Stopped.TheVariants.{Quota, NoWork, NoPacket}
 use Rattle.tracer.specs.declared.traced.Traced.{Traced}
@@ -30,7 +31,8 @@ use Rattle.gc_cycle.specs.Roots.{root_marked, roots_scanned}
 use Rattle.gc_cycle.specs.Sorts.{pops, reads_pace, reads_root}
 use Rattle.gc_cycle.specs.Standing.{Mutates}
 use Rattle.gc_cycle.proofs.Admitted.{count-none, count-run, late, longer, never-join}
-use Rattle.gc_cycle.proofs.Searched.{all-more, both-widen, front-more, input-more, moment-wider, output-more, room-longer, room-widens, Widens, work-longer, work-widens}
+use Rattle.packet_pools.proofs.AllMissed.{all-more, no-input-left, no-output-left}
+use Rattle.gc_cycle.proofs.Searched.{both-widen, front-more, moment-wider, room-longer, room-widens, Widens, work-longer, work-widens}
 use Rattle.gc_cycle.proofs.Sequences.{this-moment}
 
 -- a moment of a later call is one of both
@@ -81,13 +83,13 @@ fill-longer : (sh : Shape) (ys : List Entry) (m : Moment) (xs : List Entry) → 
 fill-longer sh ys m xs h =
     let q = and_parts (not (holds_any m.state.held)) (no_output sh (front (moves_packet (0 ∷ 1 ∷ 2 ∷ [])) xs)) h in
     let f = front-more (moves_packet (0 ∷ 1 ∷ 2 ∷ [])) xs ys in
-    and_from _ _ q.0 (ap (no_output sh) f.1 ∙ output-more sh (front (moves_packet (0 ∷ 1 ∷ 2 ∷ [])) xs) f.0 q.1)
+    and_from _ _ q.0 (ap (no_output sh) f.1 ∙ no-output-left sh (front (moves_packet (0 ∷ 1 ∷ 2 ∷ [])) xs) f.0 q.1)
 
 read-longer : (sh : Shape) (ys : List Entry) (m : Moment) (xs : List Entry) → finds_none_to_read sh m xs ≡ true → finds_none_to_read sh m (xs ++ ys) ≡ true
 read-longer sh ys m xs h =
     let q = and_parts (not (holds_any m.state.held)) (no_input sh (front (moves_packet (2 ∷ 1 ∷ [])) xs)) h in
     let f = front-more (moves_packet (2 ∷ 1 ∷ [])) xs ys in
-    and_from _ _ q.0 (ap (no_input sh) f.1 ∙ input-more sh (front (moves_packet (2 ∷ 1 ∷ [])) xs) f.0 q.1)
+    and_from _ _ q.0 (ap (no_input sh) f.1 ∙ no-input-left sh (front (moves_packet (2 ∷ 1 ∷ [])) xs) f.0 q.1)
 
 pub packet-longer : (sh : Shape) (ys : List Entry) (m : Moment) (xs : List Entry) → finds_no_packet sh m xs ≡ true → finds_no_packet sh m (xs ++ ys) ≡ true
 packet-longer sh ys m xs h =

@@ -225,15 +225,20 @@ module _ (h : Cache) (done : ℕ) (u v w x : View) (n : ℕ) (k : HasClaimed h d
       }
 
   -- while none was
-  pays-idle : (p : Paid) → IsFree p → n ≡ 0 → PaysInIdle p (events u x)
-  pays-idle p free e =
+  pays-idle : (p : Paid) → IsFree p → n ≡ 0 → events w x ≡ [] → PaysInIdle p (events u x)
+  pays-idle p free e none =
       record {
         outside = outside;
         read = ap (some_event (reads_phase Idle)) since ∙ or_left (saw (Some (phase_of n)) Idle) _ (ap (λ m. saw (Some (phase_of m)) Idle) e);
+        unmarked = ap (never (reads_phase Marking)) alone ∙ ap (λ m. not (saw (Some (phase_of m)) Marking || false)) e;
+        untold = ap (picked raises_traced) alone;
         free = free;
         cause = or_left (was_not_due (before_last claims (events u x))) (some_event raises_flag (events u x)) (ap was_not_due ahead ∙ due);
       }
     where
+      alone : since_claim (events u x) ≡ first
+      alone = since ∙ ap (λ es. first ++ es) none
+
       other : (m : ℕ) → Known v the_phase (1 + m) → ⊥
       other m t = let is : n ≡ 1 + m = found-noted v ReadPhase n (1 + m) the_phase f.1 refl t.0 in absurd (omega (arith, is, e))
 
@@ -247,8 +252,8 @@ module _ (h : Cache) (done : ℕ) (u v w x : View) (n : ℕ) (k : HasClaimed h d
   pub gets-paid : (p : Paid) → Mutates v → IsCached h v → HasPaid (ones h.cells) p w x → phase_of n ≡ Marking → GetsCache h p done u x
   gets-paid p m cached q e = gets-cache p m cached q.mutates q.cache q.seen (ap (λ z. saw (Some z) Full) e) (in_marking (pays-marking p q e))
 
-  pub gets-free : (p : Paid) → Mutates v → IsCached h v → IsFree p → n ≡ 0 → Mutates x → x.state.cache ≡ w.state.cache → x.state.phase_seen ≡ w.state.phase_seen → GetsCache h p done u x
-  gets-free p m cached free e now kept seen = gets-cache p m cached now kept seen (ap (λ i. saw (Some (phase_of i)) Full) e) (in_idle (pays-idle p free e))
+  pub gets-free : (p : Paid) → Mutates v → IsCached h v → IsFree p → n ≡ 0 → events w x ≡ [] → Mutates x → x.state.cache ≡ w.state.cache → x.state.phase_seen ≡ w.state.phase_seen → GetsCache h p done u x
+  gets-free p m cached free e none now kept seen = gets-cache p m cached now kept seen (ap (λ i. saw (Some (phase_of i)) Full) e) (in_idle (pays-idle p free e none))
 
 -- it looked at the phase, and paid
 pub looked-ran : (v w x : View) (n : ℕ) → Found ReadPhase n v w → Ran w x → Ran v x

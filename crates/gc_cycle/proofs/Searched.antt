@@ -1,7 +1,7 @@
 -- A search in vain within one call, seen from a call that made it: among more events, and with more packets that were filled to be put off.
 use Rattle.std.proofs.Common.{ℕ, ◌≡◌, List, [], ◌∷◌, ◌++◌, refl, sym, ap, ◌∙◌, subst, cond, Bool, true, false, not, Some, None, ⊎_elim, eqb, eqb-true, eq-eqb}
-use Rattle.std.specs.Prelude.{◌&&◌, ◌||◌, ◌==◌, if◌then◌else◌}
-use Rattle.std.specs.List.{list_all, list_any, range_with_len}
+use Rattle.std.specs.Prelude.{◌&&◌, ◌==◌, if◌then◌else◌}
+use Rattle.std.specs.List.{list_all, list_any}
 use Rattle.std.proofs.lemmas.Bool.{and_from, and_parts, cases_Bool, false≢true, or_cases, or_left, or_right, true≢false}
 use Rattle.mark_core.specs.Effects.{seat_after}
 use Rattle.mark_core.specs.Held.{Slot, Slots}
@@ -11,10 +11,10 @@ use Rattle.mark_core.specs.declared.kinds.Step.{Step}
 use Rattle.mark_core.specs.declared.kinds.Step.TheVariants.{Give, Push}
 use Rattle.mark_core.specs.declared.seat.SeatState.{SeatState}
 use Rattle.gc_table.specs.declared.view.Entry.{Entry}
-use Rattle.packet_pools.specs.Seeking.{loses, moves_packet, seen_outside_all, shows_outside, was_full, was_lost}
-use Rattle.packet_pools.proofs.Searches.{before-left, full-left}
+use Rattle.packet_pools.specs.Seeking.{moves_packet, no_input, no_output}
+use Rattle.packet_pools.proofs.AllMissed.{no-input-left, no-output-left}
 use Rattle.tracer.specs.Deferral.{puts_off}
-use Rattle.tracer.specs.Moments.{after_moment, at_some_moment, deferring_after, finds_no_work, front, is_spent_slot, Moment, no_input, no_output, nothing_left, without}
+use Rattle.tracer.specs.Moments.{after_moment, at_some_moment, deferring_after, finds_no_work, front, is_spent_slot, Moment, nothing_left, without}
 use Rattle.gc_cycle.specs.Moments.{finds_no_room, holds_one}
 
 -- the front of more events begins with that of the first
@@ -25,36 +25,6 @@ front-more P (x ∷ xs) ys = by_test (P x.step) (front-more P xs ys)
     by_test : (b : Bool) → (zs : List Entry) × (front P (xs ++ ys) ≡ front P xs ++ zs) → (zs : List Entry) × ((if b then x ∷ front P (xs ++ ys) else []) ≡ (if b then x ∷ front P xs else []) ++ zs)
     by_test true r = (r.0, ap (λ l. x ∷ l) r.1)
     by_test false r = ([], refl)
-
-pub all-more : (f g : ℕ → Bool) → ((p : ℕ) → f p ≡ true → g p ≡ true) → (ps : List ℕ) → list_all f ps ≡ true → list_all g ps ≡ true
-all-more f g h [] a = refl
-all-more f g h (p ∷ ps) a = let q = and_parts (f p) (list_all f ps) a in and_from _ _ (h p q.0) (all-more f g h ps q.1)
-
-outside-more : (qs : List ℕ) (p : ℕ) (xs ys : List Entry) → seen_outside_all qs p xs ≡ true → seen_outside_all qs p (xs ++ ys) ≡ true
-outside-more [] p xs ys s = refl
-outside-more (q ∷ qs) p xs ys s = let h = and_parts _ (seen_outside_all qs p xs) s in and_from _ _ (before-left p (shows_outside q p) xs ys h.0) (outside-more qs p xs ys h.1)
-
-either-more : (qs : List ℕ) (p : ℕ) (xs ys : List Entry) → (seen_outside_all qs p xs || was_lost p xs) ≡ true → (seen_outside_all qs p (xs ++ ys) || was_lost p (xs ++ ys)) ≡ true
-either-more qs p xs ys e =
-    ⊎_elim
-    (λ (a : seen_outside_all qs p xs ≡ true). or_left _ _ (outside-more qs p xs ys a))
-    (λ (b : was_lost p xs ≡ true). or_right _ _ (before-left p (loses p) xs ys b))
-    (or_cases _ _ e)
-
-pub input-more : (sh : Shape) (xs ys : List Entry) → no_input sh xs ≡ true → no_input sh (xs ++ ys) ≡ true
-input-more sh xs ys n =
-    all-more (λ p. seen_outside_all (2 ∷ 1 ∷ []) p xs || was_lost p xs) (λ p. seen_outside_all (2 ∷ 1 ∷ []) p (xs ++ ys) || was_lost p (xs ++ ys)) (λ p e. either-more (2 ∷ 1 ∷ []) p xs ys e) (range_with_len 0 sh.packets) n
-
-pub output-more : (sh : Shape) (xs ys : List Entry) → no_output sh xs ≡ true → no_output sh (xs ++ ys) ≡ true
-output-more sh xs ys n =
-    all-more (λ p. seen_outside_all (0 ∷ 1 ∷ 2 ∷ []) p xs || was_lost p xs || was_full sh.entries p xs) (λ p. seen_outside_all (0 ∷ 1 ∷ 2 ∷ []) p (xs ++ ys) || was_lost p (xs ++ ys) || was_full sh.entries p (xs ++ ys)) each (range_with_len 0 sh.packets) n
-  where
-    each : (p : ℕ) → (seen_outside_all (0 ∷ 1 ∷ 2 ∷ []) p xs || was_lost p xs || was_full sh.entries p xs) ≡ true → (seen_outside_all (0 ∷ 1 ∷ 2 ∷ []) p (xs ++ ys) || was_lost p (xs ++ ys) || was_full sh.entries p (xs ++ ys)) ≡ true
-    each p e =
-        ⊎_elim
-        (λ (a : (seen_outside_all (0 ∷ 1 ∷ 2 ∷ []) p xs || was_lost p xs) ≡ true). or_left _ _ (either-more (0 ∷ 1 ∷ 2 ∷ []) p xs ys a))
-        (λ (b : was_full sh.entries p xs ≡ true). or_right _ _ (full-left sh.entries p xs ys b))
-        (or_cases _ _ e)
 
 -- each packet of the one list is in the other
 abbrev pub AreAmong : List ℕ → List ℕ → Type 0
@@ -165,10 +135,10 @@ pub work-longer : (sh : Shape) (ys : List Entry) (m : Moment) (xs : List Entry) 
 work-longer sh ys m xs h =
     let q = and_parts (nothing_left sh m) (no_input sh (front (moves_packet (2 ∷ 1 ∷ [])) xs)) h in
     let f = front-more (moves_packet (2 ∷ 1 ∷ [])) xs ys in
-    and_from _ _ q.0 (ap (no_input sh) f.1 ∙ input-more sh (front (moves_packet (2 ∷ 1 ∷ [])) xs) f.0 q.1)
+    and_from _ _ q.0 (ap (no_input sh) f.1 ∙ no-input-left sh (front (moves_packet (2 ∷ 1 ∷ [])) xs) f.0 q.1)
 
 pub room-longer : (sh : Shape) (ys : List Entry) (m : Moment) (xs : List Entry) → finds_no_room sh m xs ≡ true → finds_no_room sh m (xs ++ ys) ≡ true
 room-longer sh ys m xs h =
     let q = and_parts (holds_one m.state.held) (no_output sh (front (moves_packet (0 ∷ 1 ∷ 2 ∷ [])) xs)) h in
     let f = front-more (moves_packet (0 ∷ 1 ∷ 2 ∷ [])) xs ys in
-    and_from _ _ q.0 (ap (no_output sh) f.1 ∙ output-more sh (front (moves_packet (0 ∷ 1 ∷ 2 ∷ [])) xs) f.0 q.1)
+    and_from _ _ q.0 (ap (no_output sh) f.1 ∙ no-output-left sh (front (moves_packet (0 ∷ 1 ∷ 2 ∷ [])) xs) f.0 q.1)

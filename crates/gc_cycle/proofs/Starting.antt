@@ -2,7 +2,7 @@
 use Rattle.std.proofs.Common.{ℕ, ◌≡◌, [], ◌∷◌, ◌++◌, refl, sym, ap, ◌∙◌, subst, true, not, ◌⊎◌, ⊎_elim, arith, inl, inr}
 use Rattle.std.proofs.lemmas.Bool.{true≢false}
 use Rattle.mark_core.specs.Places.{the_phase}
-use Rattle.mark_core.specs.Seats.{phase_number, phase_of}
+use Rattle.mark_core.specs.Seats.{is_the, phase_number, phase_of}
 use Rattle.mark_core.specs.declared.kinds.Phase.{Phase}
 use Rattle.mark_core.specs.declared.kinds.Phase.TheVariants.{Idle, Marking, Drain}
 use Rattle.mark_core.specs.declared.kinds.Step.TheVariants.{ReadPhase, Reset, StorePhase}
@@ -37,7 +37,7 @@ found-phase p v w n f a = found-noted v ReadPhase n (phase_number p) the_phase f
 -- a drain that begins where no cycle is under way
 pub idle-begins : (v w : View) → Ran v w → events v w ≡ event (StorePhase Drain) 0 ∷ event (Reset 0) 0 ∷ [] → IsAloneIn Drain w → w.state.exact ≡ true → BeginsExactly v w
 idle-begins v w r e a x =
-    record { ran = r; only = ap (all_steps finishes) e; alone = a; exact = x; before = []; rest = event (Reset 0) 0 ∷ []; move = event (StorePhase Drain) 0; all = e; begins = refl; stayed = refl; not_full = refl }
+    record { ran = r; only = ap (all_steps finishes) e; alone = a; exact = x; before = []; rest = event (Reset 0) 0 ∷ []; move = event (StorePhase Drain) 0; all = e; begins = refl; stayed = refl; fresh = refl; not_full = refl }
 
 pub look-event : (v w : View) (t : Took ReadPhase v w) → events v w ≡ event ReadPhase t.0 ∷ []
 look-event v w t = events-after v w ReadPhase t.0 t.1.0
@@ -85,3 +85,7 @@ look-finishes v w t = ap (all_steps finishes) (look-event v w t)
 
 pub look-drain-finishes : (v w x : View) (n : ℕ) (t : Took ReadPhase v w) → Ran w x → events w x ≡ event (StorePhase Drain) n ∷ event (Reset 0) 0 ∷ [] → Only finishes v x
 look-drain-finishes v w x n t r e = ap (all_steps finishes) (look-drain-events v w x n t r e)
+
+-- the phase in which a seat is alone is one
+pub idle-or-marking : (v : View) → IsAloneIn Idle v → IsAloneIn Marking v → ⊥
+idle-or-marking v a b = true≢false (ap (λ o. is_the o 0) (sym a.alone.phase ∙ b.alone.phase))

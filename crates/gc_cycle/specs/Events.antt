@@ -1,8 +1,9 @@
 -- Tests over the events of a call, in their order.
-use Rattle.std.specs.Prelude.{ℕ, ◌&&◌, ◌||◌, ◌==◌, not, if◌then◌else◌, List, [], ◌∷◌, ◌++◌, Bool, true, false}
+use Rattle.std.specs.Prelude.{ℕ, ◌&&◌, ◌||◌, ◌==◌, not, if◌then◌else◌, List, [], ◌∷◌, Bool, true, false}
 use Rattle.mark_core.specs.declared.kinds.Step.{Step}
 use Rattle.gc_table.specs.declared.view.Entry.{Entry}
 use Rattle.packet_pools.specs.Seeking.{some_event}
+pub use Rattle.packet_pools.specs.Orders.{each_after}
 pub use Rattle.tracer.specs.Moments.{front}
 
 -- what an event did, by its step and the word that it found
@@ -43,11 +44,6 @@ first_is f g (e ∷ es) = if f e.step e.found then g e.step e.found else first_i
 abbrev pub last_is : Sort → Sort → List Entry → Bool
 last_is f g [] = false
 last_is f g (e ∷ es) = if some_event f es then last_is f g es else f e.step e.found && g e.step e.found
-
--- the events of the call before each one like f meet this test; `earlier` are those that came before the list
-abbrev pub each_after : (List Entry → Bool) → Sort → List Entry → List Entry → Bool
-each_after test f earlier [] = true
-each_after test f earlier (e ∷ es) = (not (f e.step e.found) || test earlier) && each_after test f (earlier ++ e ∷ []) es
 
 -- the events of the call after each one like f meet this test
 abbrev pub each_before : (List Entry → Bool) → Sort → List Entry → Bool

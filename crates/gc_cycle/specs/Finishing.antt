@@ -1,13 +1,14 @@
 -- The parts of a stop that ends a cycle.
 use Rattle.std.specs.Prelude.{ℕ, ◌≡◌, ◌<◌, ◌+◌, ◌++◌, zero, suc, [], ◌∷◌, List, Bool, true, false, unwrap_or, Some, IsTrue}
 use Rattle.std.specs.Int.Count.{ones}
+use Rattle.mark_core.specs.Numbers.{card_counter}
 use Rattle.mark_core.specs.Places.{alloc_at, the_phase}
 use Rattle.mark_core.specs.Seats.{phase_number, saw}
 use Rattle.mark_core.specs.WorldSteps.{has_nothing}
 use Rattle.mark_core.specs.declared.kinds.Phase.{Phase}
 use Rattle.mark_core.specs.declared.kinds.Phase.TheVariants.{Drain, Sweep, Idle}
 use Rattle.mark_core.specs.declared.kinds.Step.{Step}
-use Rattle.mark_core.specs.declared.kinds.Step.TheVariants.{DropStep, JoinHelpStep, LeaveHelpStep, RaiseStep, ReadField, ReadPhase, StoreAlloc, StorePhase, StorePosition}
+use Rattle.mark_core.specs.declared.kinds.Step.TheVariants.{DropStep, JoinHelpStep, LeaveHelpStep, RaiseStep, ReadField, ReadPhase, Reset, StoreAlloc, StorePhase, StorePosition}
 use Rattle.gc_table.specs.Notes.{look}
 use Rattle.gc_table.specs.declared.view.Entry.{Entry}
 use Rattle.gc_table.specs.declared.view.View.{View}
@@ -110,6 +111,7 @@ pub record BeginsExactly (v w : View) : Type 0 where
   pub all : events v w ≡ before ++ (move ∷ rest)
   pub begins : IsTrue (begins_exactly move.step move.found)
   pub stayed : IsTrue (all_steps stays rest)
+  pub fresh : rest ≡ event (Reset card_counter) 0 ∷ []
   pub not_full : IsTrue (never tells_full before)
 
 -- the greatest number that is counted

@@ -8,9 +8,9 @@ use Rattle.mark_core.specs.declared.seat.SeatState.{SeatState}
 use Rattle.gc_table.specs.declared.view.Entry.{Entry}
 use Rattle.gc_table.specs.declared.view.View.{View}
 use Rattle.gc_table.specs.Taking.{after}
-use Rattle.packet_pools.specs.Seeking.{moves_packet}
+use Rattle.packet_pools.specs.Seeking.{moves_packet, no_output}
 pub use Rattle.tracer.specs.Moments.{Moment, after_moment, at_some_moment, begins, finds_no_packet, finds_no_work}
-use Rattle.tracer.specs.Moments.{front, no_output}
+use Rattle.tracer.specs.Moments.{front}
 
 -- the sum of these numbers of the events, each by the seat's record just before
 abbrev pub total_of : (SeatState → Step → ℕ → ℕ) → View → List Entry → ℕ

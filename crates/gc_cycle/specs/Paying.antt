@@ -62,12 +62,17 @@ IsFree paid = (paid.quota ≡ 0) × (paid.done ≡ 0) × (paid.stopped ≡ Quota
 pub record PaysInIdle (paid : Paid) (es : List Entry) : Type 0 where
   pub outside : IsFalse (claimed_in_stop es)
   pub read : IsTrue (some_event (reads_phase Idle) (since_claim es))
+  -- nor was one under way at any look since then
+  pub unmarked : IsTrue (never (reads_phase Marking) (since_claim es))
+  -- and no number of traced cells was told
+  pub untold : picked raises_traced (since_claim es) ≡ []
   pub free : IsFree paid
   pub cause : IsTrue (was_not_due (before_last claims es) || some_event raises_flag es)
 
 -- the block was claimed in a stop of the call
 pub record PaysInStop (paid : Paid) (es : List Entry) : Type 0 where
   pub inside : IsTrue (claimed_in_stop es)
+  pub untold : picked raises_traced (since_claim es) ≡ []
   pub free : IsFree paid
 
 -- one of the three

@@ -22,6 +22,7 @@ use Rattle.gc_cycle.specs.Roots.{roots_scanned}
 use Rattle.gc_cycle.specs.Sorts.{claims, pops, raises_traced, reads_pace, reads_root}
 use Rattle.mark_core.specs.Numbers.{done_count, traced_count}
 use Rattle.gc_cycle.specs.Standing.{Mutates}
+use Rattle.gc_cycle.specs.Statistics.{ChangesBy, tells}
 
 -- a step of the increment: of tracing, or it reads a number that isn't that of the parts that were played, or it tells how much was traced
 abbrev pub pays_cells : Step → Bool
@@ -93,3 +94,4 @@ pub record HasPaid (cells : ℕ) (paid : Paid) (v w : View) : Type 0 where
   pub done : count_of pops (events v w) ≡ paid.done
   pub stopped : StopsAs paid.stopped v.shape paid.quota paid.done (begins v) (events v w)
   pub told : picked raises_traced (events v w) ≡ paid.done ∷ []
+  pub changed : ChangesBy (tells paid.done ∷ []) v w

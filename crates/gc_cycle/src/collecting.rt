@@ -1,5 +1,5 @@
 //! Safe points, and collections that a mutator asks for.
-ghost use Rattle.std.specs.Prelude.{◌≡◌, ◌≢◌, ◌≤◌, ◌⊎◌, None, Some, IfNone, IfSome, IsTrue};
+ghost use Rattle.std.specs.Prelude.{[], ◌≡◌, ◌≢◌, ◌≤◌, ◌⊎◌, None, Some, IfNone, IfSome, IsTrue};
 ghost use Rattle.std.specs.Bool.{OnFalse, OnTrue};
 ghost use Rattle.mark_core.specs.declared.kinds.Phase.TheVariants.{Full};
 ghost use Rattle.mark_core.specs.declared.kinds.Step.TheVariants.{ReadPhase};
@@ -18,6 +18,7 @@ ghost use Rattle.gc_cycle.specs.Polling.{saw_full};
 ghost use Rattle.gc_cycle.specs.Sorts.{polls, raises_flag};
 ghost use Rattle.gc_cycle.specs.Sparing.{KnowsAnswer, spares_part};
 ghost use Rattle.gc_cycle.specs.Standing.{KeepsSeat, KeepsSection, Mutates};
+ghost use Rattle.gc_cycle.specs.Statistics.{ChangesBy, ChangesNumbers, GivesUp, cache_of};
 ghost use Rattle.gc_cycle.specs.declared.counts.Safe.TheVariants as safes;
 
 use crate::counts::Safe;
@@ -42,6 +43,7 @@ pub fn collect<R: Wait>(rt: &R, heap: &Heap, seat: &mut HeapSeat, done: u32) -> 
     ensures not_full { IsTrue (never_fills (events (view_of seat.old) (view_of seat.new))) }
     ensures keeps { KeepsSeat (view_of seat.old) (view_of seat.new) × KeepsSection (view_of seat.old) (view_of seat.new) }
     ensures spares { Only spares_part (view_of seat.old) (view_of seat.new) }
+    ensures numbers { ChangesNumbers [] (view_of seat.old) (view_of seat.new) }
     ensures known { KnowsAnswer result (view_of seat.new) }
 {
     for _ in rt.forever() {
@@ -62,6 +64,7 @@ fn collect_once<R: Wait>(rt: &R, heap: &Heap, seat: &mut HeapSeat, done: u32) ->
     ensures some { IfSome result (λ safe. (u : View) → Ran u (view_of seat.old) → TellsFull u (view_of seat.old) → CollectsTo safe done u (view_of seat.new)) }
     ensures once { count_of raises_flag (events (view_of seat.old) (view_of seat.new)) ≤ 1 }
     ensures only { Only spares_section (view_of seat.old) (view_of seat.new) }
+    ensures numbers { ChangesNumbers [] (view_of seat.old) (view_of seat.new) }
     ensures known { IfSome result (λ safe. KnowsAnswer safe (view_of seat.new)) }
 {
     if ends_full(heap, seat, done) {
@@ -83,6 +86,7 @@ fn collect_in_stop<R: Wait>(rt: &R, heap: &Heap, seat: &mut HeapSeat)
     requires stopped { HoldsWorld (view_of seat.old) }
     ensures seat { Sits heap.now seat.new × Mutates (view_of seat.new) }
     ensures ends { EndsStop (view_of seat.old) (view_of seat.new) }
+    ensures numbers { ChangesNumbers [] (view_of seat.old) (view_of seat.new) }
 {
     if has_seen_full(seat) {
         resume(heap, seat);
@@ -123,6 +127,7 @@ pub fn safe_point<R: Wait>(
     ensures not_full { IsTrue (never_fills (events (view_of seat.old) (view_of seat.new))) }
     ensures keeps { KeepsSeat (view_of seat.old) (view_of seat.new) × KeepsSection (view_of seat.old) (view_of seat.new) }
     ensures spares { Only spares_part (view_of seat.old) (view_of seat.new) }
+    ensures numbers { GivesUp cache (cache_of result) (view_of seat.old) (view_of seat.new) }
     ensures known { KnowsAnswer result (view_of seat.new) }
 {
     let mut cache = cache;
@@ -155,6 +160,7 @@ pub fn pass_safe_point<R: Wait>(
     ensures not_full { IsTrue (never_fills (events (view_of seat.old) (view_of seat.new))) }
     ensures keeps { KeepsSeat (view_of seat.old) (view_of seat.new) × KeepsSection (view_of seat.old) (view_of seat.new) }
     ensures spares { Only spares_part (view_of seat.old) (view_of seat.new) }
+    ensures numbers { GivesUp cache.old cache.new (view_of seat.old) (view_of seat.new) }
 {
     give_way(rt, heap, seat, cache, done);
     goes_on(heap, seat, cache, done)
@@ -167,6 +173,7 @@ fn give_way<R: Wait>(rt: &R, heap: &Heap, seat: &mut HeapSeat, cache: &mut Optio
     requires cache { HasCache cache.old (view_of seat.old) }
     ensures seat { Sits heap.now seat.new × Mutates (view_of seat.new) }
     ensures gives { GivesWay cache.old cache.new done (view_of seat.old) (view_of seat.new) }
+    ensures numbers { GivesUp cache.old cache.new (view_of seat.old) (view_of seat.new) }
 {
     if !poll(heap, seat) {
         return;
@@ -183,6 +190,7 @@ pub(crate) fn go_on(heap: &Heap, seat: &mut HeapSeat, cache: Option<Cache>, done
     ensures seat { Sits heap.now seat.new × Mutates (view_of seat.new) }
     ensures ran { Ran (view_of seat.old) (view_of seat.new) }
     ensures only { Only answers (view_of seat.old) (view_of seat.new) }
+    ensures numbers { GivesUp cache (cache_of result) (view_of seat.old) (view_of seat.new) }
     ensures answer { AnswersTo result cache done (view_of seat.old) (view_of seat.new) }
 {
     let mut cache = cache;
@@ -201,6 +209,7 @@ fn goes_on(heap: &Heap, seat: &mut HeapSeat, cache: &mut Option<Cache>, done: u3
     ensures seat { Sits heap.now seat.new × Mutates (view_of seat.new) }
     ensures ran { Ran (view_of seat.old) (view_of seat.new) }
     ensures only { Only answers (view_of seat.old) (view_of seat.new) }
+    ensures numbers { GivesUp cache.old cache.new (view_of seat.old) (view_of seat.new) }
     ensures going { OnTrue result (AnswersTo (safes.Going cache.new) cache.old done (view_of seat.old) (view_of seat.new)) }
     ensures full { OnFalse result (AnswersTo safes.Full cache.old done (view_of seat.old) (view_of seat.new) × (cache.new ≡ None)) }
 {
@@ -229,6 +238,7 @@ pub(crate) fn ends_full(heap: &Heap, seat: &mut HeapSeat, done: u32) -> bool
     ensures seat { Sits heap.now seat.new × Mutates (view_of seat.new) }
     ensures ran { Ran (view_of seat.old) (view_of seat.new) }
     ensures only { Only answers (view_of seat.old) (view_of seat.new) }
+    ensures numbers { ChangesBy [] (view_of seat.old) (view_of seat.new) }
     ensures full { OnTrue result (EndsFull done (view_of seat.old) (view_of seat.new) × KnowsFull (view_of seat.new)) }
     ensures going { OnFalse result (KeepsOn None None (view_of seat.old) (view_of seat.new)) }
 {
@@ -265,6 +275,7 @@ fn retire_some(heap: &Heap, seat: &mut HeapSeat, cache: &mut Option<Cache>)
     ensures none { cache.new ≡ None }
     ensures ran { Ran (view_of seat.old) (view_of seat.new) }
     ensures only { Only retires (view_of seat.old) (view_of seat.new) }
+    ensures numbers { GivesUp cache.old cache.new (view_of seat.old) (view_of seat.new) }
     ensures seen { (view_of seat.new).state.phase_seen ≡ (view_of seat.old).state.phase_seen }
     ensures own { (view_of seat.new).own ≡ (view_of seat.old).own }
 {

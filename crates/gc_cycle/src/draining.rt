@@ -10,6 +10,7 @@ ghost use Rattle.gc_table.specs.Seats.{Sits, view_of};
 ghost use Rattle.packet_pools.specs.Seeking.{some_event};
 ghost use Rattle.gc_table.specs.Log.{event, events};
 ghost use Rattle.gc_table.specs.Running.{Ran};
+ghost use Rattle.gc_cycle.specs.DrainRounds.{DrainsAlone, DrainsTogether};
 ghost use Rattle.gc_cycle.specs.Drained.{IsDrained, IsRooted};
 ghost use Rattle.gc_cycle.specs.Finishing.{IsAloneIn, IsMove, IsOpen, IsOpenPart, IsPart, most};
 ghost use Rattle.gc_cycle.specs.Helping.{rescanned_in};
@@ -75,11 +76,8 @@ pub(crate) fn drain_together<R: Wait>(rt: &R, heap: &Heap, seat: &mut HeapSeat) 
     requires seat { Sits heap.now seat.old }
     requires alone { IsAloneIn Drain (view_of seat.old) }
     ensures seat { Sits heap.now seat.new }
-    ensures part { IsPart Drain (view_of seat.old) (view_of seat.new) }
-    ensures roots { (section : ℕ) → section < heap.now.shape.sections → SeesToRoots section (view_of seat.old) (view_of seat.new) }
-    ensures opened { IsTrue (some_event opens (events (view_of seat.old) (view_of seat.new))) }
+    ensures drains { DrainsTogether (view_of seat.old) (view_of seat.new) }
     ensures rescanned { rescanned_in (view_of seat.old) (events (view_of seat.old) (view_of seat.new)) ≡ result }
-    ensures worked { DrainsFor round_quota (view_of seat.old) (view_of seat.new) }
 {
     scan_all_roots(heap, seat);
     open_help(heap, seat);
@@ -96,8 +94,7 @@ pub(crate) fn drain_alone<R: Wait>(rt: &R, heap: &Heap, seat: &mut HeapSeat) -> 
     requires seat { Sits heap.now seat.old }
     requires alone { IsAloneIn Drain (view_of seat.old) }
     ensures seat { Sits heap.now seat.new }
-    ensures part { IsPart Drain (view_of seat.old) (view_of seat.new) }
-    ensures drained { IsDrained (view_of seat.new) }
+    ensures drains { DrainsAlone (view_of seat.old) (view_of seat.new) }
     ensures rescanned { result ≡ min (rescanned_in (view_of seat.old) (events (view_of seat.old) (view_of seat.new))) most }
 {
     heap.reset(seat, BLOCK_COUNTER);

@@ -7,6 +7,7 @@ ghost use Rattle.gc_table.specs.Seats.{Sits, Took, view_of};
 ghost use Rattle.gc_table.specs.Log.{Only, events};
 ghost use Rattle.gc_table.specs.Running.{Ran};
 ghost use Rattle.gc_cycle.specs.Cycles.{collects_exactly, lets_help, never_fills};
+ghost use Rattle.gc_cycle.specs.DrainRounds.{DrainsBefore, DrainsToSweep, HasDrained};
 ghost use Rattle.gc_cycle.specs.Ending.{InEach, IsCycleEnd, IsExact};
 ghost use Rattle.gc_cycle.specs.Finishing.{BeginsExactly, Completes, IsAloneIn, finishes, most};
 ghost use Rattle.gc_cycle.specs.Helping.{freed_in, rescanned_in};
@@ -32,6 +33,7 @@ fn complete<R: Wait>(rt: &R, heap: &Heap, seat: &mut HeapSeat, before: u32) -> C
     requires alone { IsAloneIn Drain (view_of seat.old) }
     ensures seat { Sits heap.now seat.new }
     ensures completes { Completes (view_of seat.old) (view_of seat.new) }
+    ensures drains { DrainsToSweep (view_of seat.old) (view_of seat.new) }
     ensures end { InEach (IsCycleEnd result) (view_of seat.new) }
     ensures rescanned { result.rescanned ≡ min (before + rescanned_in (view_of seat.old) (events (view_of seat.old) (view_of seat.new))) most }
     ensures freed { result.freed ≡ freed_in (view_of seat.old) (events (view_of seat.old) (view_of seat.new)) }
@@ -65,6 +67,7 @@ fn begin_exactly<R: Wait>(rt: &R, heap: &Heap, seat: &mut HeapSeat) -> u32
     requires alone { IsAloneIn Idle (view_of seat.old) ⊎ IsAloneIn Marking (view_of seat.old) }
     ensures seat { Sits heap.now seat.new }
     ensures begun { BeginsExactly (view_of seat.old) (view_of seat.new) }
+    ensures first { IsAloneIn Marking (view_of seat.old) → DrainsBefore (view_of seat.old) (view_of seat.new) }
     ensures rescanned { result ≡ min (rescanned_in (view_of seat.old) (events (view_of seat.old) (view_of seat.new))) most }
     ensures freed { freed_in (view_of seat.old) (events (view_of seat.old) (view_of seat.new)) ≡ 0 }
 {
@@ -91,6 +94,7 @@ pub fn finish_cycle<R: Wait>(rt: &R, heap: &Heap, seat: &mut HeapSeat) -> Counts
     ensures position { (view_of seat.new).own.position ≡ (view_of seat.old).own.position }
     ensures spares { Only spares_part (view_of seat.old) (view_of seat.new) }
     ensures alone { IsAloneIn Idle (view_of seat.new) }
+    ensures drains { HasDrained (view_of seat.old) (view_of seat.new) }
     ensures help { IsTrue (lets_help (events (view_of seat.old) (view_of seat.new))) }
     ensures not_full { IsTrue (never_fills (events (view_of seat.old) (view_of seat.new))) }
     ensures calm { IsTrue (never raises_flag (events (view_of seat.old) (view_of seat.new))) }
@@ -117,6 +121,8 @@ pub fn precise<R: Wait>(rt: &R, heap: &Heap, seat: &mut HeapSeat) -> Counts
     ensures position { (view_of seat.new).own.position ≡ (view_of seat.old).own.position }
     ensures spares { Only spares_part (view_of seat.old) (view_of seat.new) }
     ensures alone { IsAloneIn Idle (view_of seat.new) × IsTrue (view_of seat.new).state.exact }
+    ensures drains { HasDrained (view_of seat.old) (view_of seat.new) }
+    ensures first { IsAloneIn Marking (view_of seat.old) → DrainsBefore (view_of seat.old) (view_of seat.new) }
     ensures collects { IsTrue (collects_exactly heap.now.shape (begins (view_of seat.old)) (events (view_of seat.old) (view_of seat.new))) }
     ensures help { IsTrue (lets_help (events (view_of seat.old) (view_of seat.new))) }
     ensures not_full { IsTrue (never_fills (events (view_of seat.old) (view_of seat.new))) }

@@ -14,6 +14,7 @@ ghost use Rattle.gc_cycle.specs.Helping.{HelpsAs};
 ghost use Rattle.gc_cycle.specs.Mutating.{stays_calm};
 ghost use Rattle.gc_cycle.specs.Sorts.{joins, leaves};
 ghost use Rattle.gc_cycle.specs.Standing.{Helps, KeepsSeat};
+ghost use Rattle.gc_cycle.specs.Statistics.{leaves_numbers};
 
 use crate::counts::{HelpEnd, Helped};
 use crate::lower::{clean, next_card, sweep_next, trace};
@@ -26,12 +27,12 @@ use tracer::Stopped;
 /// It ends by itself: the numbers that the pass over the cards and the sweep give out never fall while the seat is admitted.
 pub fn help(heap: &Heap, seat: &mut HeapSeat, quota: u32) -> Helped
     requires seat { Sits heap.now seat.old × Helps (view_of seat.old) }
-    requires quota { 16 * quota < 4294967296 }
     ensures seat { Sits heap.now seat.new × Helps (view_of seat.new) }
     ensures ran { Ran (view_of seat.old) (view_of seat.new) }
     ensures helps { HelpsAs quota result (view_of seat.old) (events (view_of seat.old) (view_of seat.new)) }
     ensures not_full { IsTrue (never_fills (events (view_of seat.old) (view_of seat.new))) }
     ensures only { Only stays_calm (view_of seat.old) (view_of seat.new) }
+    ensures numbers { Only leaves_numbers (view_of seat.old) (view_of seat.new) }
     ensures inside { IsTrue (never leaves (events (view_of seat.old) (view_of seat.new))) }
     ensures stays { IsTrue (never joins (events (view_of seat.old) (view_of seat.new))) }
     ensures phase { (view_of seat.new).state.phase_seen ≡ (view_of seat.old).state.phase_seen }
@@ -80,7 +81,6 @@ fn help_sweep(heap: &Heap, seat: &mut HeapSeat) -> Helped
 fn help_drain(heap: &Heap, seat: &mut HeapSeat, quota: u32) -> Helped
     requires seat { Sits heap.now seat.old × Helps (view_of seat.old) }
     requires drain { (view_of seat.old).state.phase_seen ≡ Some Drain }
-    requires quota { 16 * quota < 4294967296 }
     ensures seat { Sits heap.now seat.new }
     ensures helps { HelpsOn quota result (view_of seat.old) (view_of seat.new) }
     ensures ends { EndsAs result (view_of seat.old) (view_of seat.new) }
@@ -106,7 +106,7 @@ fn clean_on(heap: &Heap, seat: &mut HeapSeat, quota: u32, card: u32, before: Hel
     requires seat { Sits heap.now seat.old × Helps (view_of seat.old) }
     requires drain { (view_of seat.old).state.phase_seen ≡ Some Drain }
     requires card { card < card_count heap.now.shape }
-    requires quota { (before.traced ≤ quota) × (before.traced ≢ quota) × (16 * quota < 4294967296) }
+    requires quota { (before.traced ≤ quota) × (before.traced ≢ quota) }
     requires room { before.rescanned + card_cells < 4294967296 }
     ensures seat { Sits heap.now seat.new }
     ensures cleans { CleansOn quota card before result (view_of seat.old) (view_of seat.new) }

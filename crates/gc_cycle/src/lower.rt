@@ -13,6 +13,7 @@ ghost use Rattle.gc_table.specs.declared.view.Entry.{Entry};
 ghost use Rattle.packet_pools.specs.Counts.{count_of};
 ghost use Rattle.packet_pools.specs.Seeking.{some_event};
 ghost use Rattle.packet_pools.specs.Tracing.{traces};
+ghost use Rattle.card_clean.specs.Drained.{FindsNone, FindsWork};
 ghost use Rattle.card_clean.specs.Passing.{card_floor};
 ghost use Rattle.gc_cycle.specs.Drained.{IsDrained, IsRooted};
 ghost use Rattle.gc_cycle.specs.Events.{never};
@@ -35,7 +36,6 @@ use tracer::{RootScan, Traced};
 pub(crate) fn trace(heap: &Heap, seat: &mut HeapSeat, quota: u32) -> Traced
     requires seat { Sits heap.now seat.old × IsTrue (traces (view_of seat.old)) }
     requires rest { IsTrue (is_at_rest heap.now.shape (view_of seat.old).state) }
-    requires quota { 16 * quota < 4294967296 }
     ensures seat { Sits heap.now seat.new }
     ensures traced { HasTraced (view_of seat.old) (view_of seat.new) }
     ensures ends { EndsTrace quota result (view_of seat.old) (view_of seat.new) }
@@ -97,6 +97,8 @@ pub(crate) fn is_drained(heap: &Heap, seat: &mut HeapSeat) -> bool
     ensures traced { HasTraced (view_of seat.old) (view_of seat.new) }
     ensures rescanned { rescanned_in (view_of seat.old) (events (view_of seat.old) (view_of seat.new)) ≡ 0 }
     ensures drained { IsTrue result → IsDrained (view_of seat.new) }
+    ensures over { IsTrue result → FindsNone heap.now.shape (events (view_of seat.old) (view_of seat.new)) }
+    ensures undrained { IsFalse result → FindsWork heap.now.shape (events (view_of seat.old) (view_of seat.new)) }
 {
     card_clean::is_drained(heap, seat)
 }

@@ -49,7 +49,6 @@ fn quota_now(heap: &Heap, seat: &mut HeapSeat, cells: u32) -> u32
     ensures only { Only reads_number (view_of seat.old) (view_of seat.new) }
     ensures state { (view_of seat.new).state ≡ (view_of seat.old).state }
     ensures quota { quota_seen cells (events (view_of seat.old) (view_of seat.new)) ≡ Some result }
-    ensures bound { result ≤ 1024 }
 {
     let last = read_statistic(heap, seat, LAST);
     let rescanned = read_statistic(heap, seat, RESCANNED);
@@ -62,7 +61,6 @@ fn quota_now(heap: &Heap, seat: &mut HeapSeat, cells: u32) -> u32
 fn mark_and_trace(heap: &Heap, seat: &mut HeapSeat, quota: u32) -> Paid
     requires seat { Sits heap.now seat.old × Mutates (view_of seat.old) }
     requires marking { (view_of seat.old).state.phase_seen ≡ Some Marking }
-    requires quota { quota ≤ 1024 }
     ensures seat { Sits heap.now seat.new }
     ensures pays { MarksAndTraces (own_section (view_of seat.old).state) quota result (view_of seat.old) (view_of seat.new) }
 {
@@ -92,7 +90,6 @@ fn stopped_at(quota: u32) -> Stopped
 fn pay_quota(heap: &Heap, seat: &mut HeapSeat, quota: u32) -> Paid
     requires seat { Sits heap.now seat.old × Mutates (view_of seat.old) }
     requires marking { (view_of seat.old).state.phase_seen ≡ Some Marking }
-    requires quota { quota ≤ 1024 }
     ensures seat { Sits heap.now seat.new }
     ensures traces { TracesOn quota 0 result (view_of seat.old) (view_of seat.new) }
 {
@@ -107,7 +104,6 @@ fn pay_quota(heap: &Heap, seat: &mut HeapSeat, quota: u32) -> Paid
 fn trace_and_clean(heap: &Heap, seat: &mut HeapSeat, quota: u32) -> Paid
     requires seat { Sits heap.now seat.old × Mutates (view_of seat.old) }
     requires marking { (view_of seat.old).state.phase_seen ≡ Some Marking }
-    requires quota { quota ≤ 1024 }
     ensures seat { Sits heap.now seat.new }
     ensures traces { TracesOn quota 0 result (view_of seat.old) (view_of seat.new) }
 {
@@ -133,7 +129,7 @@ fn trace_and_clean(heap: &Heap, seat: &mut HeapSeat, quota: u32) -> Paid
 fn clean_next(heap: &Heap, seat: &mut HeapSeat, before: Paid) -> Option<Paid>
     requires seat { Sits heap.now seat.old × Mutates (view_of seat.old) }
     requires marking { (view_of seat.old).state.phase_seen ≡ Some Marking }
-    requires quota { (before.done ≤ before.quota) × (before.quota ≤ 1024) }
+    requires quota { before.done ≤ before.quota }
     ensures seat { Sits heap.now seat.new }
     ensures some { IfSome result (λ paid. TracesOn before.quota before.done paid (view_of seat.old) (view_of seat.new)) }
     ensures none { IfNone result (TracesNone (view_of seat.old) (view_of seat.new)) }

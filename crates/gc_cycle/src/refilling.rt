@@ -21,6 +21,7 @@ ghost use Rattle.gc_cycle.specs.Refilling.{ClaimsAlone, HasClaimed, HasMissed, I
 ghost use Rattle.gc_cycle.specs.Sorts.{moves_to};
 ghost use Rattle.gc_cycle.specs.Sparing.{SparesRefill, fills_part};
 ghost use Rattle.gc_cycle.specs.Standing.{KeepsSeat, KeepsSection, Mutates};
+ghost use Rattle.gc_cycle.specs.Statistics.{ChangesBy, ChangesNumbers, PaysNumbers, RefillsNumbers, RoundNumbers, leaves_numbers, taken};
 ghost use Rattle.gc_cycle.specs.Stops.{stops_again_with_cause, stops_with_cause};
 
 use crate::collecting::{ends_full, go_on};
@@ -66,6 +67,7 @@ pub fn refill<R: Wait>(rt: &R, heap: &Heap, seat: &mut HeapSeat, done: u32) -> R
     ensures fills { IsTrue (fills_with_cause heap.now.shape (events (view_of seat.old) (view_of seat.new))) }
     ensures keeps { KeepsSeat (view_of seat.old) (view_of seat.new) × KeepsSection (view_of seat.old) (view_of seat.new) }
     ensures only { Only fills_part (view_of seat.old) (view_of seat.new) }
+    ensures numbers { RefillsNumbers result (view_of seat.old) (view_of seat.new) }
     ensures spares { SparesRefill result (view_of seat.old) (view_of seat.new) }
 {
     for _ in rt.forever() {
@@ -82,6 +84,7 @@ fn refill_once<R: Wait>(rt: &R, heap: &Heap, seat: &mut HeapSeat, done: u32) -> 
     requires cache { (view_of seat.old).state.cache ≡ None }
     ensures seat { Sits heap.now seat.new }
     ensures round { IsRound result done (view_of seat.old) (view_of seat.new) }
+    ensures numbers { RoundNumbers result (view_of seat.old) (view_of seat.new) }
     ensures stops { IsTrue (stops_with_cause heap.now.shape (events (view_of seat.old) (view_of seat.new))) }
     ensures some { IfSome result (λ r. (u : View) → Ran u (view_of seat.old) → TellsFull u (view_of seat.old) → StoredAt done u (view_of seat.old) → RefillsTo r done u (view_of seat.new)) }
 {
@@ -101,6 +104,7 @@ fn sees_to_cycle(heap: &Heap, seat: &mut HeapSeat) -> bool
     ensures seat { Sits heap.now seat.new × Mutates (view_of seat.new) }
     ensures ran { Ran (view_of seat.old) (view_of seat.new) }
     ensures only { Only prepares (view_of seat.old) (view_of seat.new) }
+    ensures numbers { ChangesBy [] (view_of seat.old) (view_of seat.new) }
     ensures cache { (view_of seat.new).state.cache ≡ (view_of seat.old).state.cache }
     ensures done { OnTrue result (((view_of seat.old).state.phase_seen ≡ Some Marking) × SeesEnd heap.now.shape (events (view_of seat.old) (view_of seat.new))) }
     ensures paced { OnFalse result (IsPaced (events (view_of seat.old) (view_of seat.new)) (view_of seat.new)) }
@@ -128,6 +132,7 @@ fn claim_or_stop<R: Wait>(rt: &R, heap: &Heap, seat: &mut HeapSeat, done: u32) -
     requires cache { (view_of seat.old).state.cache ≡ None }
     ensures seat { Sits heap.now seat.new }
     ensures round { IsRound result done (view_of seat.old) (view_of seat.new) }
+    ensures numbers { RoundNumbers result (view_of seat.old) (view_of seat.new) }
     ensures stops { IsTrue (stops_with_cause heap.now.shape (events (view_of seat.old) (view_of seat.new))) }
     ensures some { IfSome result (λ r. (u : View) → Ran u (view_of seat.old) → TellsFull u (view_of seat.old) → StoredAt done u (view_of seat.old) → IsPaced (events u (view_of seat.old)) (view_of seat.old) → RefillsTo r done u (view_of seat.new)) }
 {
@@ -160,6 +165,7 @@ fn pay_for(heap: &Heap, seat: &mut HeapSeat, cache: Cache, done: u32) -> Refill
     ensures seat { Sits heap.now seat.new }
     ensures ran { Ran (view_of seat.old) (view_of seat.new) }
     ensures only { Only stays_calm (view_of seat.old) (view_of seat.new) }
+    ensures numbers { PaysNumbers cache result (view_of seat.old) (view_of seat.new) }
     ensures known { SparesRefill result (view_of seat.old) (view_of seat.new) }
     ensures refills { (u : View) → HasClaimed cache done u (view_of seat.old) → RefillsTo result done u (view_of seat.new) }
 {
@@ -183,6 +189,7 @@ fn refill_in_stop<R: Wait>(rt: &R, heap: &Heap, seat: &mut HeapSeat, done: u32) 
     requires cache { (view_of seat.old).state.cache ≡ None }
     ensures seat { Sits heap.now seat.new }
     ensures round { IsRound result done (view_of seat.old) (view_of seat.new) }
+    ensures numbers { RoundNumbers result (view_of seat.old) (view_of seat.new) }
     ensures some { IfSome result (λ r. (u : View) → Ran u (view_of seat.old) → TellsFull u (view_of seat.old) → StoredAt done u (view_of seat.old) → RefillsTo r done u (view_of seat.new)) }
 {
     if !stop(rt, heap, seat, done) {
@@ -203,6 +210,7 @@ fn claim_in_stop<R: Wait>(rt: &R, heap: &Heap, seat: &mut HeapSeat) -> Option<Ca
     requires stopped { HoldsWorld (view_of seat.old) }
     ensures seat { Sits heap.now seat.new }
     ensures claims { ClaimsAlone result (view_of seat.old) (view_of seat.new) }
+    ensures numbers { ChangesNumbers (taken result) (view_of seat.old) (view_of seat.new) }
     ensures full { KnowsFull (view_of seat.old) → KnowsFull (view_of seat.new) }
     ensures missed { HasMissed heap.now.shape result (events (view_of seat.old) (view_of seat.new)) (view_of seat.new) }
     ensures fills { IsTrue (each_after (may_fill heap.now.shape) (moves_to Full) [] (events (view_of seat.old) (view_of seat.new))) }
@@ -226,6 +234,7 @@ fn claim_or_collect<R: Wait>(rt: &R, heap: &Heap, seat: &mut HeapSeat) -> Option
     requires alone { IsAloneIn Idle (view_of seat.old) × RestsAlone (view_of seat.old) }
     ensures seat { Sits heap.now seat.new }
     ensures claims { ClaimsAlone result (view_of seat.old) (view_of seat.new) }
+    ensures numbers { ChangesNumbers (taken result) (view_of seat.old) (view_of seat.new) }
     ensures missed { HasMissed heap.now.shape result (events (view_of seat.old) (view_of seat.new)) (view_of seat.new) }
     ensures fills { IsTrue (each_after (may_fill heap.now.shape) (moves_to Full) [] (events (view_of seat.old) (view_of seat.new))) }
 {
@@ -243,6 +252,7 @@ fn claim_or_fill(heap: &Heap, seat: &mut HeapSeat) -> Option<Cache>
     requires exact { IsTrue (view_of seat.old).state.exact }
     ensures seat { Sits heap.now seat.new }
     ensures claims { ClaimsAlone result (view_of seat.old) (view_of seat.new) }
+    ensures numbers { ChangesNumbers (taken result) (view_of seat.old) (view_of seat.new) }
     ensures missed { (before : List Entry) → IsTrue (collects before) → HasMissed heap.now.shape result (before ++ events (view_of seat.old) (view_of seat.new)) (view_of seat.new) }
     ensures fills { (before : List Entry) → IsTrue (collects before) → IsTrue (each_after (may_fill heap.now.shape) (moves_to Full) before (events (view_of seat.old) (view_of seat.new))) }
 {
@@ -260,6 +270,7 @@ fn all_allocated(heap: &Heap, seat: &mut HeapSeat) -> bool
     requires alone { IsAloneIn Idle (view_of seat.old) }
     ensures seat { Sits heap.now seat.new }
     ensures part { IsPart Idle (view_of seat.old) (view_of seat.new) }
+    ensures numbers { Only leaves_numbers (view_of seat.old) (view_of seat.new) }
     ensures full { IsTrue result → SeesFull heap.now.shape (view_of seat.old) (view_of seat.new) }
     ensures free { OnFalse result (IsTrue (sees_free_cell heap.now.shape (events (view_of seat.old) (view_of seat.new)))) }
 {

@@ -15,6 +15,7 @@ ghost use Rattle.gc_cycle.specs.Polling.{offered_help, saw_resumed};
 ghost use Rattle.gc_cycle.specs.Sorts.{joins, leaves, raises_flag};
 ghost use Rattle.gc_cycle.specs.Sparing.{spares_part};
 ghost use Rattle.gc_cycle.specs.Standing.{IsAdmitted, IsOut, KeepsSeat, KeepsSection, Mutates};
+ghost use Rattle.gc_cycle.specs.Statistics.{leaves_numbers};
 ghost use Rattle.gc_cycle.specs.Turns.{HelpsFor, HelpsInTurns, HelpsOnce, turn_quota};
 
 use crate::helping::help;
@@ -38,6 +39,7 @@ fn help_joined(heap: &Heap, seat: &mut HeapSeat)
     ensures seat { Sits heap.now seat.new × IsAdmitted (view_of seat.new) }
     ensures out { GoesOut (view_of seat.old) (view_of seat.new) }
     ensures own { (view_of seat.new).own ≡ (view_of seat.old).own }
+    ensures numbers { Only leaves_numbers (view_of seat.old) (view_of seat.new) }
     ensures inside { IsTrue (never leaves (events (view_of seat.old) (view_of seat.new))) }
     ensures stays { IsTrue (never joins (events (view_of seat.old) (view_of seat.new))) }
     ensures helps { HelpsFor turn_quota (view_of seat.old) (view_of seat.new) }
@@ -59,6 +61,7 @@ fn help_once(heap: &Heap, seat: &mut HeapSeat)
     ensures seat { Sits heap.now seat.new × IsOut (view_of seat.new) }
     ensures out { GoesOut (view_of seat.old) (view_of seat.new) }
     ensures own { (view_of seat.new).own ≡ (view_of seat.old).own }
+    ensures numbers { Only leaves_numbers (view_of seat.old) (view_of seat.new) }
     ensures offered { IsTrue (some_event joins (events (view_of seat.old) (view_of seat.new))) }
     ensures inside { IsTrue (never leaves (events (view_of seat.old) (view_of seat.new))) }
     ensures helps { HelpsOnce turn_quota (view_of seat.old) (view_of seat.new) }
@@ -75,6 +78,7 @@ fn pause(heap: &Heap, seat: &mut HeapSeat)
     ensures seat { Sits heap.now seat.new × IsOut (view_of seat.new) }
     ensures out { GoesOut (view_of seat.old) (view_of seat.new) }
     ensures own { (view_of seat.new).own ≡ (view_of seat.old).own }
+    ensures numbers { Only leaves_numbers (view_of seat.old) (view_of seat.new) }
     ensures inside { IsTrue (never leaves (events (view_of seat.old) (view_of seat.new))) }
     ensures apart { IsTrue (never joins (events (view_of seat.old) (view_of seat.new))) }
 {
@@ -94,6 +98,7 @@ pub fn await_resumed_helping<R: Wait>(rt: &R, heap: &Heap, seat: &mut HeapSeat)
     ensures resumed { IsTrue (saw_resumed (events (view_of seat.old) (view_of seat.new))) }
     ensures offered { IsTrue (offered_help (events (view_of seat.old) (view_of seat.new))) }
     ensures only { Only stays_calm (view_of seat.old) (view_of seat.new) }
+    ensures numbers { Only leaves_numbers (view_of seat.old) (view_of seat.new) }
     ensures not_full { IsTrue (never_fills (events (view_of seat.old) (view_of seat.new))) }
     ensures keeps { KeepsSeat (view_of seat.old) (view_of seat.new) }
     ensures own { (view_of seat.new).own ≡ (view_of seat.old).own }
@@ -120,6 +125,7 @@ pub fn go_out(heap: &Heap, seat: &mut HeapSeat, done: u32)
     ensures position { (view_of seat.new).own.position ≡ done }
     ensures left { (n : ℕ) × (events (view_of seat.old) (view_of seat.new) ≡ event (StorePosition done) done ∷ event LeaveStep n ∷ []) }
     ensures spares { Only spares_part (view_of seat.old) (view_of seat.new) }
+    ensures numbers { Only leaves_numbers (view_of seat.old) (view_of seat.new) }
 {
     heap.store_position(seat, done);
     leave(heap, seat);
@@ -136,6 +142,7 @@ pub fn go_in<R: Wait>(rt: &R, heap: &Heap, seat: &mut HeapSeat)
     ensures offered { IsTrue (offered_help (events (view_of seat.old) (view_of seat.new))) }
     ensures helps { HelpsInTurns (view_of seat.old) (view_of seat.new) }
     ensures spares { Only spares_part (view_of seat.old) (view_of seat.new) }
+    ensures numbers { Only leaves_numbers (view_of seat.old) (view_of seat.new) }
 {
     for _ in rt.forever() {
         await_resumed_helping(rt, heap, seat);
@@ -157,6 +164,7 @@ pub(crate) fn stop<R: Wait>(rt: &R, heap: &Heap, seat: &mut HeapSeat, done: u32)
     ensures theirs { OnFalse result (Mutates (view_of seat.new)) }
     ensures position { (view_of seat.new).own.position ≡ done }
     ensures raises { count_of raises_flag (events (view_of seat.old) (view_of seat.new)) ≡ (if result then 1 else 0) }
+    ensures numbers { Only leaves_numbers (view_of seat.old) (view_of seat.new) }
 {
     go_out(heap, seat, done);
     match raise(heap, seat) {

@@ -11,6 +11,8 @@ use Rattle.gc_table.specs.declared.seat.Heap.{Heap}
 use Rattle.gc_table.specs.declared.seat.HeapSeat.{HeapSeat}
 use Rattle.gc_table.specs.declared.view.Place.{Place}
 use Rattle.gc_table.specs.declared.view.View.{View}
+use Rattle.gc_table.proofs.Running.{ran-shape}
+use Rattle.mark_core.specs.declared.kinds.Shape.{Shape}
 use Rattle.play_end.specs.Done.{HasPlayed}
 use Rattle.play_end.specs.declared.played.Played.{Played}
 use Rattle.play_end.specs.declared.played.Played.TheVariants.{Done, Full}
@@ -101,7 +103,7 @@ module _ (h : Heap) (s : Sections) (z : ℕ) where
               played = p;
             };
         counted = ap (λ (g : PlainHeap). length g.objects) l.keeps.still.heap ∙ (q.counted ∙ sym l.keeps.made);
-        room = record { said = q.room.said; places = q.room.places; count = q.room.count; made = omega (arith, q.room.made, l.keeps.made); dropped = q.room.dropped };
+        room = record { said = q.room.said; places = q.room.places; count = q.room.count; made = omega (arith, q.room.made, l.keeps.made, ap (λ (sh : Shape). sh.objects) (ran-shape (view_of m.seat) (view_of y) l.keeps.ran)); dropped = q.room.dropped };
       }
 
   pub player-left : (m n : Mutator) → n ≡ record m { seat = n.seat } → Leaves h m.seat n.seat → PlayedTo h s 0 z m → PlayedTo h s 0 z n

@@ -14,3 +14,4 @@ pub mod Lending
 pub mod Tending
 pub mod Rounds
 pub mod Seasons
+pub mod Outside

@@ -1,22 +1,32 @@
 -- The events of a tracer, turn by turn.
-use Rattle.std.proofs.Common.{ℕ, ◌≡◌, ◌<◌, ◌≤◌, ◌⊎◌, ⊎_elim, inl, inr, List, [], ◌∷◌, ◌++◌, refl, sym, ap, ◌∙◌, subst, arith, append_assoc, Bool, true, false, not, cond, ◌&&◌, ◌||◌, Some}
+use Rattle.std.proofs.Common.{ℕ, ◌≡◌, ◌<◌, ◌≤◌, ◌⊎◌, ⊎_elim, inl, inr, List, [], ◌∷◌, ◌++◌, refl, sym, ap, ◌∙◌, subst, arith, Bool, true, false, not, cond, ◌&&◌, ◌||◌, Some}
 use Rattle.std.specs.Prelude.{IsTrue, IsFalse, nat_le}
-use Rattle.std.proofs.lemmas.Bool.{true≢false, and_parts, and_left, not_from_true, or_from, or_left, le-leb, lt-leb}
+use Rattle.std.proofs.lemmas.List.{append-nil}
+use Rattle.std.proofs.lemmas.Bool.{true≢false, false≢true, and_parts, and_from, and_left, not_from_true, or_cases, or_from, or_left, or_parts, or_right, le-leb, lt-leb}
 use Rattle.mark_core.specs.Bits.{has_flag}
+use Rattle.mark_core.specs.Effects.{seat_after}
 use Rattle.mark_core.specs.Seats.{phase_of, saw}
 use Rattle.mark_core.specs.declared.kinds.Phase.{Phase}
 use Rattle.mark_core.specs.declared.kinds.Phase.TheVariants.{Idle, Marking, Drain, Sweep, Clear, Full}
 use Rattle.mark_core.specs.declared.kinds.Shape.{Shape}
 use Rattle.mark_core.specs.declared.kinds.Step.{Step}
 use Rattle.mark_core.specs.declared.kinds.Step.TheVariants.{ReadPhase, EnterStep, LeaveStep, ReadStat}
+use Rattle.mark_core.specs.declared.seat.SeatState.{SeatState}
 use Rattle.gc_table.specs.declared.view.Entry.{Entry}
 use Rattle.gc_table.specs.declared.view.View.{View}
-use Rattle.gc_table.specs.Log.{all_steps, events, Grows}
-use Rattle.gc_table.proofs.Log.{events-join, grows-join}
-use Rattle.packet_pools.specs.Counts.{SomeStretch}
-use Rattle.packet_pools.specs.Seeking.{NoInput, NoOutput, some_event}
+use Rattle.gc_table.specs.Log.{all_steps, events}
+use Rattle.gc_table.specs.Running.{Ran, after_all}
+use Rattle.gc_table.specs.Taking.{after}
+use Rattle.gc_table.proofs.Running.{ran-events, ran-join}
+use Rattle.packet_pools.specs.Seeking.{some_event}
+use Rattle.packet_pools.proofs.Searches.{some-left}
+use Rattle.tracer.specs.Moments.{at_some_moment, finds_no_work}
 use Rattle.tracer.specs.Tally.{pops}
-use Rattle.gc_play.specs.Turns.{Turn, entry, leaves_done, reads_done, lead, turns_of, sees_full, enters_full, leaves, inside, Traces, Pays, IsTurn, AreTurns, AllTurns, HasTraced, IsQuiet, IsOne, IsOneTurn, SeesPhase, TracesInside, IsRound}
+use Rattle.gc_cycle.specs.Sorts.{enters, enters_freely, looks_at_phase}
+use Rattle.gc_cycle.specs.Sorts.{reads_phase as sees_phase}
+use Rattle.gc_cycle.proofs.Admitted.{never-join}
+use Rattle.gc_cycle.proofs.Searched.{moment-longer, work-longer}
+use Rattle.gc_play.specs.Turns.{Turn, entry, leaves_done, reads_done, lead, turns_of, state_after, sees_full, enters_full, leaves, inside, traces_on, traces_where_marking, visits, each_visit, payment, Pays, EachPays, IsTurn, AreTurns, AllTurns, HasTraced, IsQuiet, Waits, IsOne, IsOneTurn, SeesPhase, TracesInside, IsRound}
 
 tail : List Entry → List Entry
 tail [] = []
@@ -33,102 +43,121 @@ quiet-lead (x ∷ xs) ys e =
     let q = kept-head (reads_done x.step) x xs (lead xs) e in
     ap (λ (b : Bool). cond b [] (x ∷ lead (xs ++ ys))) q.0 ∙ ap (λ l. x ∷ l) (quiet-lead xs ys q.1)
 
-quiet-turns : (xs ys : List Entry) → lead xs ≡ xs → turns_of (xs ++ ys) ≡ turns_of ys
-quiet-turns [] ys e = refl
-quiet-turns (x ∷ xs) ys e =
+quiet-turns : (sh : Shape) (s : SeatState) (xs ys : List Entry) → lead xs ≡ xs → turns_of sh s (xs ++ ys) ≡ turns_of sh (state_after sh s xs) ys
+quiet-turns sh s [] ys e = refl
+quiet-turns sh s (x ∷ xs) ys e =
     let q = kept-head (reads_done x.step) x xs (lead xs) e in
-    let t : Turn = record { found = x.found; rest = lead (xs ++ ys) } in
-    ap (λ (b : Bool). cond b (t ∷ turns_of (xs ++ ys)) (turns_of (xs ++ ys))) q.0 ∙ quiet-turns xs ys q.1
-
-pub quiet-none : IsQuiet []
-quiet-none = record { lead_is = refl; turnless = refl }
+    let u : SeatState = seat_after sh s x.step x.found in
+    let t : Turn = record { found = x.found; state = u; rest = lead (xs ++ ys) } in
+    ap (λ (b : Bool). cond b (t ∷ turns_of sh u (xs ++ ys)) (turns_of sh u (xs ++ ys))) q.0 ∙ quiet-turns sh u xs ys q.1
 
 pub quiet-join : (xs ys : List Entry) → IsQuiet xs → IsQuiet ys → IsQuiet (xs ++ ys)
-quiet-join xs ys a b = record { lead_is = quiet-lead xs ys a.lead_is ∙ ap (λ l. xs ++ l) b.lead_is; turnless = quiet-turns xs ys a.lead_is ∙ b.turnless }
+quiet-join xs ys a b = quiet-lead xs ys a ∙ ap (λ l. xs ++ l) b
 
 pub quiet-one : (step : Step) (n : ℕ) → reads_done step ≡ false → IsQuiet (entry step n ∷ [])
-quiet-one step n e =
-    record {
-      lead_is = ap (λ (b : Bool). cond b [] (entry step n ∷ [])) e;
-      turnless = ap (λ (b : Bool). cond b (record { found = n; rest = [] } ∷ []) []) e;
-    }
+quiet-one step n e = ap (λ (b : Bool). cond b [] (entry step n ∷ [])) e
+
+not-true : (b : Bool) → not b ≡ true → b ≡ false
+not-true true e = sym e
+not-true false e = refl
 
 -- events that read no number of parts
 pub quiet-only : (es : List Entry) → IsTrue (all_steps leaves_done es) → IsQuiet es
-quiet-only [] o = quiet-none
+quiet-only [] o = refl
 quiet-only (e ∷ es) o =
     let p = and_parts (leaves_done e.step) (all_steps leaves_done es) o in
-    let q = quiet-only es p.1 in
-    let no : reads_done e.step ≡ false = not-true (reads_done e.step) p.0 in
-    record {
-      lead_is = ap (λ b. cond b [] (e ∷ lead es)) no ∙ ap (λ l. e ∷ l) q.lead_is;
-      turnless = ap (λ b. cond b (record { found = e.found; rest = lead es } ∷ turns_of es) (turns_of es)) no ∙ q.turnless;
-    }
-  where
-    not-true : (b : Bool) → not b ≡ true → b ≡ false
-    not-true true e = sym e
-    not-true false e = refl
+    ap (λ b. cond b [] (e ∷ lead es)) (not-true (reads_done e.step) p.0) ∙ ap (λ l. e ∷ l) (quiet-only es p.1)
+
+pub waits-join : (xs ys : List Entry) → Waits xs → Waits ys → Waits (xs ++ ys)
+waits-join xs ys a b = record { quiet = quiet-join xs ys a.quiet b.quiet; outside = never-join enters xs ys a.outside b.outside }
+
+-- a step that isn't an entry is none without a stop
+freely : (step : Step) (n : ℕ) → enters step n ≡ false → enters_freely step n ≡ false
+freely EnterStep n o = absurd (true≢false o)
+freely step n o = refl
+
+-- a seat that doesn't enter makes no visit, and owes nothing
+visits-none : (sh : Shape) (es : List Entry) (s : SeatState) → some_event enters es ≡ false → each_visit sh s es ≡ true
+visits-none sh [] s o = refl
+visits-none sh (e ∷ es) s o =
+    let p = or_parts (enters e.step e.found) (some_event enters es) o in
+    and_from _ _ (or_left _ _ (ap not (freely e.step e.found p.0))) (visits-none sh es (seat_after sh s e.step e.found) p.1)
+
+pays-none : (es : List Entry) → some_event enters es ≡ false → EachPays es
+pays-none [] o = tt
+pays-none (e ∷ es) o =
+    let p = or_parts (enters e.step e.found) (some_event enters es) o in (λ f. absurd (true≢false (sym f ∙ freely e.step e.found p.0)), pays-none es p.1)
 
 pub lead-more : (xs ys : List Entry) → lead ys ≡ [] → lead (xs ++ ys) ≡ lead xs
 lead-more [] ys e = e
 lead-more (x ∷ xs) ys e = ap (λ l. cond (reads_done x.step) [] (x ∷ l)) (lead-more xs ys e)
 
-by-read : (b : Bool) (n : ℕ) (xs ys : List Entry) (ts us : List Turn) → xs ≡ ys → ts ≡ us → cond b (record { found = n; rest = xs } ∷ ts) ts ≡ cond b (record { found = n; rest = ys } ∷ us) us
-by-read true n xs ys ts us e f = ap (λ l. record { found = n; rest = l } ∷ ts) e ∙ ap (λ l. record { found = n; rest = ys } ∷ l) f
-by-read false n xs ys ts us e f = f
+by-read : (b : Bool) (n : ℕ) (s : SeatState) (xs ys : List Entry) (ts us : List Turn) → xs ≡ ys → ts ≡ us → cond b (record { found = n; state = s; rest = xs } ∷ ts) ts ≡ cond b (record { found = n; state = s; rest = ys } ∷ us) us
+by-read true n s xs ys ts us e f = ap (λ l. record { found = n; state = s; rest = l } ∷ ts) e ∙ ap (λ l. record { found = n; state = s; rest = ys } ∷ l) f
+by-read false n s xs ys ts us e f = f
 
 cond-append : (b : Bool) (t : Turn) (ts us : List Turn) → cond b (t ∷ (ts ++ us)) (ts ++ us) ≡ cond b (t ∷ ts) ts ++ us
 cond-append true t ts us = refl
 cond-append false t ts us = refl
 
-pub turns-more : (xs ys : List Entry) → lead ys ≡ [] → turns_of (xs ++ ys) ≡ turns_of xs ++ turns_of ys
-turns-more [] ys e = refl
-turns-more (x ∷ xs) ys e =
-    by-read (reads_done x.step) x.found (lead (xs ++ ys)) (lead xs) (turns_of (xs ++ ys)) (turns_of xs ++ turns_of ys) (lead-more xs ys e) (turns-more xs ys e)
-    ∙ cond-append (reads_done x.step) (record { found = x.found; rest = lead xs }) (turns_of xs) (turns_of ys)
+pub turns-more : (sh : Shape) (s : SeatState) (xs ys : List Entry) → lead ys ≡ [] → turns_of sh s (xs ++ ys) ≡ turns_of sh s xs ++ turns_of sh (state_after sh s xs) ys
+turns-more sh s [] ys e = refl
+turns-more sh s (x ∷ xs) ys e =
+    let u : SeatState = seat_after sh s x.step x.found in
+    by-read (reads_done x.step) x.found u (lead (xs ++ ys)) (lead xs) (turns_of sh u (xs ++ ys)) (turns_of sh u xs ++ turns_of sh (state_after sh u xs) ys) (lead-more xs ys e) (turns-more sh u xs ys e)
+    ∙ cond-append (reads_done x.step) (record { found = x.found; state = u; rest = lead xs }) (turns_of sh u xs) (turns_of sh (state_after sh u xs) ys)
 
-turn-of : (n : ℕ) (rest : List Entry) → IsQuiet rest → turns_of (entry (ReadStat 6) n ∷ rest) ≡ record { found = n; rest = rest } ∷ []
-turn-of n rest q = ap (λ l. record { found = n; rest = l } ∷ turns_of rest) q.lead_is ∙ ap (λ ts. record { found = n; rest = rest } ∷ ts) q.turnless
+-- a read of that number, and what it leads to
+turn-of : (sh : Shape) (s : SeatState) (n : ℕ) (rest : List Entry) → IsQuiet rest → turns_of sh s (entry (ReadStat 6) n ∷ rest) ≡ record { found = n; state = seat_after sh s (ReadStat 6) n; rest = rest } ∷ []
+turn-of sh s n rest q =
+    let u : SeatState = seat_after sh s (ReadStat 6) n in
+    ap (λ l. record { found = n; state = u; rest = l } ∷ turns_of sh u rest) q
+    ∙ ap (λ ts. record { found = n; state = u; rest = rest } ∷ ts) (ap (turns_of sh u) (sym (append-nil rest)) ∙ quiet-turns sh u rest [] q)
 
-module _ (sh : Shape) (until : ℕ) where
+module _ (sh : Shape) (until : ℕ) (s : SeatState) where
   -- all parts were played
-  pub one-done : (n : ℕ) → until ≤ n → IsOneTurn sh until true (entry (ReadStat 6) n ∷ [])
+  pub one-done : (n : ℕ) → until ≤ n → IsOneTurn sh until true s (entry (ReadStat 6) n ∷ [])
   one-done n high =
       record {
-        turn = record { found = n; rest = [] };
+        turn = record { found = n; state = seat_after sh s (ReadStat 6) n; rest = [] };
         first = refl;
         only = refl;
-        is = record { enters = λ low. absurd (omega (arith, high, low)); pays = λ low. absurd (omega (arith, high, low)); ends = sym (or_left (nat_le until n) false (le-leb until n high)) };
+        is = record { tries = λ low. absurd (omega (arith, high, low)); traces = refl; pays = tt; ends = sym (or_left (nat_le until n) false (le-leb until n high)) };
       }
 
   -- it found a flag, and waited
-  pub one-waits : (n a b : ℕ) (es : List Entry) → n < until → IsTrue (has_flag a) → IsQuiet es → IsOneTurn sh until false (entry (ReadStat 6) n ∷ entry EnterStep a ∷ entry LeaveStep b ∷ es)
-  one-waits n a b es left flag q =
+  pub one-waits : (n a b : ℕ) (es : List Entry) → n < until → IsTrue (has_flag a) → Waits es → IsOneTurn sh until false s (entry (ReadStat 6) n ∷ entry EnterStep a ∷ entry LeaveStep b ∷ es)
+  one-waits n a b es left flag w =
       let rest : List Entry = entry EnterStep a ∷ entry LeaveStep b ∷ es in
+      let u : SeatState = seat_after sh s (ReadStat 6) n in
+      let none : some_event enters es ≡ false = not-true (some_event enters es) w.outside in
       record {
-        turn = record { found = n; rest = rest };
+        turn = record { found = n; state = u; rest = rest };
         first = refl;
-        only = turn-of n rest (quiet-join (entry EnterStep a ∷ []) (entry LeaveStep b ∷ es) (quiet-one EnterStep a refl) (quiet-join (entry LeaveStep b ∷ []) es (quiet-one LeaveStep b refl) q));
+        only = turn-of sh s n rest (quiet-join (entry EnterStep a ∷ []) (entry LeaveStep b ∷ es) (quiet-one EnterStep a refl) (quiet-join (entry LeaveStep b ∷ []) es (quiet-one LeaveStep b refl) w.quiet));
         is =
             record {
-              enters = λ _ e. absurd (true≢false (sym flag ∙ e));
-              pays = λ _ e. absurd (true≢false (sym flag ∙ e));
+              tries = λ _. refl;
+              traces = and_from _ _ (or_left _ _ (ap (λ x. not (not x)) flag)) (visits-none sh es _ none);
+              pays = (λ free. absurd (true≢false (sym free ∙ ap not flag)), ((λ leave. absurd (false≢true leave)), pays-none es none));
               ends = sym (or_from (nat_le until n) (enters_full rest) (lt-leb until n left) (and_left (not (has_flag a)) (sees_full es) (not_from_true (has_flag a) flag)));
             };
       }
 
   -- it entered
-  pub one-goes : (n a : ℕ) (full : Bool) (es : List Entry) → n < until → IsFalse (has_flag a) → IsRound sh full es → IsOneTurn sh until full (entry (ReadStat 6) n ∷ entry EnterStep a ∷ es)
+  pub one-goes : (n a : ℕ) (full : Bool) (es : List Entry) → n < until → IsFalse (has_flag a) → IsRound sh full (seat_after sh (seat_after sh s (ReadStat 6) n) EnterStep a) es → IsOneTurn sh until full s (entry (ReadStat 6) n ∷ entry EnterStep a ∷ es)
   one-goes n a full es left free r =
       let rest : List Entry = entry EnterStep a ∷ es in
+      let none : some_event enters es ≡ false = not-true (some_event enters es) r.waits.outside in
       record {
-        turn = record { found = n; rest = rest };
+        turn = record { found = n; state = seat_after sh s (ReadStat 6) n; rest = rest };
         first = refl;
-        only = turn-of n rest (quiet-join (entry EnterStep a ∷ []) es (quiet-one EnterStep a refl) r.quiet);
+        only = turn-of sh s n rest (quiet-join (entry EnterStep a ∷ []) es (quiet-one EnterStep a refl) r.waits.quiet);
         is =
             record {
-              enters = λ _ _. r.sees;
-              pays = λ _ _. r.pays;
+              tries = λ _. refl;
+              traces = and_from _ _ (or_right _ _ r.sees) (visits-none sh es _ none);
+              pays = (λ _. r.pays, pays-none es none);
               ends = r.ends ∙ sym (ap (λ (b : Bool). b || (not (has_flag a) && sees_full es)) (lt-leb until n left) ∙ ap (λ (b : Bool). not b && sees_full es) free);
             };
       }
@@ -143,37 +172,44 @@ module _ (sh : Shape) (until : ℕ) where
   are-last (u ∷ v ∷ vs) t a b = (a.0, are-last (v ∷ vs) t a.1 b)
 
   -- one turn more
-  pub turn-more : (xs ys : List Entry) → IsOneTurn sh until false ys → lead xs ≡ [] → AllTurns sh until (turns_of xs) → (lead (xs ++ ys) ≡ []) × AllTurns sh until (turns_of (xs ++ ys))
+  pub turn-more : (xs ys : List Entry) → IsOneTurn sh until false (state_after sh s xs) ys → lead xs ≡ [] → AllTurns sh until (turns_of sh s xs) → (lead (xs ++ ys) ≡ []) × AllTurns sh until (turns_of sh s (xs ++ ys))
   turn-more xs ys o f a = (
     lead-more xs ys o.first ∙ f,
-    subst (AllTurns sh until) (sym (turns-more xs ys o.first ∙ ap (λ l. turns_of xs ++ l) o.only)) (all-more (turns_of xs) o.turn a o.is),
+    subst (AllTurns sh until) (sym (turns-more sh s xs ys o.first ∙ ap (λ l. turns_of sh s xs ++ l) o.only)) (all-more (turns_of sh s xs) o.turn a o.is),
   )
 
   -- the last one
-  pub turn-last : (xs ys : List Entry) → IsOneTurn sh until true ys → lead xs ≡ [] → AllTurns sh until (turns_of xs) → HasTraced sh until (xs ++ ys)
+  pub turn-last : (xs ys : List Entry) → IsOneTurn sh until true (state_after sh s xs) ys → lead xs ≡ [] → AllTurns sh until (turns_of sh s xs) → HasTraced sh until s (xs ++ ys)
   turn-last xs ys o f a =
       record {
         first = lead-more xs ys o.first ∙ f;
-        turns = subst (AreTurns sh until) (sym (turns-more xs ys o.first ∙ ap (λ l. turns_of xs ++ l) o.only)) (are-last (turns_of xs) o.turn a o.is);
+        turns = subst (AreTurns sh until) (sym (turns-more sh s xs ys o.first ∙ ap (λ l. turns_of sh s xs ++ l) o.only)) (are-last (turns_of sh s xs) o.turn a o.is);
       }
 
-first-more : (b x y : Bool) → (x ≡ true → y ≡ true) → (b || x) ≡ true → (b || y) ≡ true
-first-more true x y h e = refl
-first-more false x y h e = h e
+-- the record after a call's steps
+state-all : (es : List Entry) (v : View) → state_after v.shape v.state es ≡ (after_all es v).state
+state-all [] v = refl
+state-all (e ∷ es) v = state-all es (after e.step e.found v)
 
-some-more : (f : Step → ℕ → Bool) (xs ys : List Entry) → some_event f xs ≡ true → some_event f (xs ++ ys) ≡ true
-some-more f [] ys e = absurd (true≢false (sym e))
-some-more f (x ∷ xs) ys e = first-more (f x.step x.found) (some_event f xs) (some_event f (xs ++ ys)) (some-more f xs ys) e
+pub ran-state : (v w : View) → Ran v w → state_after v.shape v.state (events v w) ≡ w.state
+ran-state v w r = state-all (events v w) v ∙ ap (λ (x : View). x.state) (sym r.steps)
 
-stretch-more : (P : List Entry → Type 0) (xs ys : List Entry) → SomeStretch P xs → SomeStretch P (xs ++ ys)
-stretch-more P xs ys s = (s.0, s.1, s.2 ++ ys, ap (λ l. l ++ ys) s.3 ∙ (append_assoc s.0 (s.1 ++ s.2) ys ∙ ap (λ l. s.0 ++ l) (append_assoc s.1 s.2 ys)), s.4)
+-- the same in a heap of these sizes
+pub ran-state-in : (sh : Shape) (v w : View) → v.shape ≡ sh → Ran v w → state_after sh v.state (events v w) ≡ w.state
+ran-state-in sh v w e r = ap (λ (x : Shape). state_after x v.state (events v w)) (sym e) ∙ ran-state v w r
 
-pub traces-more : (sh : Shape) (xs ys : List Entry) → Traces sh xs → Traces sh (xs ++ ys)
-traces-more sh xs ys t =
+-- a turn after others, of the record that those left
+pub turn-after : (sh : Shape) (until : ℕ) (last : Bool) (a b d : View) → a.shape ≡ sh → Ran a b → IsOneTurn sh until last b.state (events b d) → IsOneTurn sh until last (state_after sh a.state (events a b)) (events b d)
+turn-after sh until last a b d e r o = subst (λ (s : SeatState). IsOneTurn sh until last s (events b d)) (sym (ran-state-in sh a b e r)) o
+
+-- what a trace says, more events say too
+pub traces-more : (sh : Shape) (s : SeatState) (xs ys : List Entry) → traces_on sh s xs ≡ true → traces_on sh s (xs ++ ys) ≡ true
+traces-more sh s xs ys t =
     ⊎_elim
-    (λ (p : IsTrue (some_event pops xs)). inl (some-more pops xs ys p))
-    (λ u. ⊎_elim (λ (s : SomeStretch (NoInput sh) xs). inr (inl (stretch-more (NoInput sh) xs ys s))) (λ (s : SomeStretch (NoOutput sh) xs). inr (inr (stretch-more (NoOutput sh) xs ys s))) u)
-    t
+    (λ (p : some_event pops xs ≡ true). or_left (some_event pops (xs ++ ys)) _ (some-left pops xs ys p))
+    (λ (n : at_some_moment sh (finds_no_work sh) (record { state = s; deferring = [] }) xs ≡ true).
+    or_right (some_event pops (xs ++ ys)) _ (moment-longer sh (finds_no_work sh) ys (work-longer sh ys) xs (record { state = s; deferring = [] }) n))
+    (or_cases (some_event pops xs) _ t)
 
 inside-leave : (xs : List Entry) (n : ℕ) → inside xs ≡ xs → inside (xs ++ entry LeaveStep n ∷ []) ≡ xs
 inside-leave [] n e = refl
@@ -181,13 +217,13 @@ inside-leave (x ∷ xs) n e =
     let q = kept-head (leaves x.step) x xs (inside xs) e in
     ap (λ (b : Bool). cond b [] (x ∷ inside (xs ++ entry LeaveStep n ∷ []))) q.0 ∙ ap (λ l. x ∷ l) (inside-leave xs n q.1)
 
-saw-marking : (p : Phase) → saw (Some p) Marking ≡ true → p ≡ Marking
-saw-marking Idle e = absurd (true≢false (sym e))
-saw-marking Marking e = refl
-saw-marking Drain e = absurd (true≢false (sym e))
-saw-marking Sweep e = absurd (true≢false (sym e))
-saw-marking Clear e = absurd (true≢false (sym e))
-saw-marking Full e = absurd (true≢false (sym e))
+unmarking : (p : Phase) → (p ≡ Marking → ⊥) → saw (Some p) Marking ≡ false
+unmarking Idle f = refl
+unmarking Marking f = absurd (f refl)
+unmarking Drain f = refl
+unmarking Sweep f = refl
+unmarking Clear f = refl
+unmarking Full f = refl
 
 -- a phase that isn't Full isn't read as Full
 pub saw-other : (p : Phase) → (p ≡ Full → ⊥) → saw (Some p) Full ≡ false
@@ -207,30 +243,60 @@ is-marking Clear = inr (λ e. absurd (cc))
 is-marking Full = inr (λ e. absurd (cc))
 
 pays-after : (n : ℕ) (es : List Entry) → Pays es → Pays (entry ReadPhase n ∷ es)
-pays-after n es p low = let e = p (omega (arith, low)) in e ∙ ap (λ k. k ∷ []) (omega arith)
+pays-after n es p = p ∙ ap payment (omega arith)
+
+-- where no phase is read, no trace is asked
+blind-traces : (sh : Shape) (es : List Entry) (s : SeatState) → some_event looks_at_phase es ≡ false → traces_where_marking sh s es ≡ true
+blind-traces sh [] s o = refl
+blind-traces sh (e ∷ es) s o =
+    let p = or_parts (looks_at_phase e.step e.found) (some_event looks_at_phase es) o in
+    and_from _ _ (or_left _ _ (ap not (unread e.step e.found p.0))) (blind-traces sh es (seat_after sh s e.step e.found) p.1)
+  where
+    unread : (step : Step) (n : ℕ) → looks_at_phase step n ≡ false → sees_phase Marking step n ≡ false
+    unread ReadPhase n o = absurd (true≢false o)
+    unread step n o = refl
 
 -- from where it entered to where it left
-round-of : (sh : Shape) (p : Phase) (n m : ℕ) (es : List Entry) (full : Bool) → p ≡ phase_of n → (p ≡ Marking → TracesInside sh es) → ((p ≡ Marking → ⊥) → es ≡ []) → full ≡ saw (Some p) Full → IsRound sh full (entry ReadPhase n ∷ (es ++ entry LeaveStep m ∷ []))
-round-of sh p n m es full e marking other f =
-    record {
-      sees = λ h. traces-more sh es (entry LeaveStep m ∷ []) (marking (e ∙ saw-marking (phase_of n) h)).traces;
-      pays =
-          ⊎_elim
-          (λ (q : p ≡ Marking). subst (λ l. Pays (entry ReadPhase n ∷ l)) (sym (inside-leave es m (marking q).stays_in)) (pays-after n es (marking q).pays))
-          (λ (q : p ≡ Marking → ⊥). subst (λ l. Pays (entry ReadPhase n ∷ inside (l ++ entry LeaveStep m ∷ []))) (sym (other q)) (λ low. absurd (omega (arith, low))))
-          (is-marking p);
-      quiet =
-          quiet-join (entry ReadPhase n ∷ []) (es ++ entry LeaveStep m ∷ []) (quiet-one ReadPhase n refl)
-          (quiet-join es (entry LeaveStep m ∷ []) (⊎_elim (λ (q : p ≡ Marking). (marking q).quiet) (λ (q : p ≡ Marking → ⊥). subst IsQuiet (sym (other q)) quiet-none) (is-marking p)) (quiet-one LeaveStep m refl));
-      ends = f ∙ ap (λ (x : Phase). saw (Some x) Full) e;
-    }
+round-of : (sh : Shape) (p : Phase) (s : SeatState) (n m : ℕ) (es : List Entry) (full : Bool) → p ≡ phase_of n → (p ≡ Marking → TracesInside sh (seat_after sh s ReadPhase n) es) → ((p ≡ Marking → ⊥) → es ≡ []) → full ≡ saw (Some p) Full
+    → IsRound sh full s (entry ReadPhase n ∷ (es ++ entry LeaveStep m ∷ []))
+round-of sh p s n m es full e marking other f = ⊎_elim in_marking in_other (is-marking p)
+  where
+    ends : full ≡ saw (Some (phase_of n)) Full
+    ends = f ∙ ap (λ (x : Phase). saw (Some x) Full) e
+
+    in_marking : p ≡ Marking → IsRound sh full s (entry ReadPhase n ∷ (es ++ entry LeaveStep m ∷ []))
+    in_marking q =
+        let t = marking q in
+        let left : inside (es ++ entry LeaveStep m ∷ []) ≡ es = inside-leave es m t.stays_in in
+        record {
+          sees =
+              subst (λ l. visits sh s (entry ReadPhase n ∷ l) ≡ true) (sym left)
+              (and_from _ _ (or_right (not (sees_phase Marking ReadPhase n)) _ t.traces) (blind-traces sh es (seat_after sh s ReadPhase n) (not-true (some_event looks_at_phase es) t.blind)));
+          pays = subst (λ l. Pays (entry ReadPhase n ∷ l)) (sym left) (pays-after n es t.pays);
+          waits =
+              waits-join (entry ReadPhase n ∷ []) (es ++ entry LeaveStep m ∷ []) (record { quiet = quiet-one ReadPhase n refl; outside = refl })
+              (waits-join es (entry LeaveStep m ∷ []) t.waits (record { quiet = quiet-one LeaveStep m refl; outside = refl }));
+          ends = ends;
+        }
+
+    in_other : (p ≡ Marking → ⊥) → IsRound sh full s (entry ReadPhase n ∷ (es ++ entry LeaveStep m ∷ []))
+    in_other q =
+        subst (λ l. IsRound sh full s (entry ReadPhase n ∷ (l ++ entry LeaveStep m ∷ []))) (sym (other q))
+        (record {
+          sees = and_from _ _ (or_left (not (sees_phase Marking ReadPhase n)) _ (ap not (unmarking (phase_of n) (λ k. q (e ∙ k))))) refl;
+          pays = refl;
+          waits = record { quiet = refl; outside = refl };
+          ends = ends;
+        })
 
 -- the events of three calls, one after another
-pub events-three : (a b c d : View) → Grows a b → Grows b c → Grows c d → events a d ≡ events a b ++ (events b c ++ events c d)
-events-three a b c d f g h = events-join a b d f (grows-join b c d g h) ∙ ap (λ l. events a b ++ l) (events-join b c d g h)
+pub events-three : (a b c d : View) → Ran a b → Ran b c → Ran c d → events a d ≡ events a b ++ (events b c ++ events c d)
+events-three a b c d f g h = ran-events a b d f (ran-join b c d g h) ∙ ap (λ l. events a b ++ l) (ran-events b c d g h)
 
 -- the same round, call by call: the phase is read, then what follows from it, and the seat leaves
-pub round-join : (sh : Shape) (p : Phase) (full : Bool) (a b c d : View) → Grows a b → Grows b c → Grows c d → SeesPhase p (events a b) → (p ≡ Marking → TracesInside sh (events b c)) → ((p ≡ Marking → ⊥) → events b c ≡ []) → IsOne LeaveStep (events c d) → full ≡ saw (Some p) Full → IsRound sh full (events a d)
-round-join sh p full a b c d f g h sees marking other left e =
-    subst (IsRound sh full) (sym (events-three a b c d f g h ∙ (λ y. sees.2 y ++ (events b c ++ left.1 y))))
-    (round-of sh p sees.0 left.0 (events b c) full sees.1 marking other e)
+pub round-join : (sh : Shape) (p : Phase) (full : Bool) (a b c d : View) → a.shape ≡ sh → Ran a b → Ran b c → Ran c d → SeesPhase p (events a b) → (p ≡ Marking → TracesInside sh b.state (events b c)) → ((p ≡ Marking → ⊥) → events b c ≡ [])
+    → IsOne LeaveStep (events c d) → full ≡ saw (Some p) Full → IsRound sh full a.state (events a d)
+round-join sh p full a b c d shape f g h sees marking other left e =
+    let read : b.state ≡ seat_after sh a.state ReadPhase sees.0 = sym (ran-state-in sh a b shape f) ∙ ap (state_after sh a.state) sees.2 in
+    subst (IsRound sh full a.state) (sym (events-three a b c d f g h ∙ (λ y. sees.2 y ++ (events b c ++ left.1 y))))
+    (round-of sh p a.state sees.0 left.0 (events b c) full sees.1 (λ q. subst (λ (s : SeatState). TracesInside sh s (events b c)) read (marking q)) other e)

@@ -1,11 +1,26 @@
 -- What tracers did, season by season.
-use Rattle.std.proofs.Common.{ℕ, ◌≡◌, ◌+◌, ◌-◌, List, sym, subst, inl, inr, ⊎_elim, arith, add-one}
+use Rattle.std.proofs.Common.{ℕ, zero, suc, ◌≡◌, ◌+◌, ◌-◌, ◌<◌, ◌≤◌, List, [], ◌∷◌, ◌++◌, length, get_or, drop, refl, sym, ap, ◌∙◌, subst, inl, inr, ⊎_elim, arith, add-one, length-append, Some}
+use Rattle.std.specs.Prelude.{slice_get}
+use Rattle.std.proofs.lemmas.Option.{get_or_from_slice_get, slice_get_within}
+use Rattle.mark_core.specs.Start.{start_seat}
+use Rattle.mark_core.specs.declared.kinds.Shape.{Shape}
+use Rattle.mark_core.specs.declared.seat.SeatState.{SeatState}
+use Rattle.gc_table.specs.Log.{events}
+use Rattle.gc_table.specs.Running.{Ran}
+use Rattle.gc_table.specs.Seats.{view_of}
+use Rattle.gc_table.specs.declared.view.Entry.{Entry}
+use Rattle.gc_table.specs.declared.view.View.{View}
+use Rattle.gc_table.proofs.Log.{events-none}
+use Rattle.gc_table.proofs.Running.{ran-events, ran-join, ran-refl}
 use Rattle.plain_heap.specs.Sections.{Sections}
 use Rattle.gc_table.specs.declared.seat.Heap.{Heap}
 use Rattle.gc_table.specs.declared.seat.HeapSeat.{HeapSeat}
 use Rattle.gc_play.specs.declared.season.Ended.{Ended}
 use Rattle.gc_play.specs.declared.season.Ended.TheVariants.{Done, First, Later}
-use Rattle.gc_play.specs.Traced.{AllTracedUntil, SeasonTraced, SeasonsTraced, PlayTraced, parts_by}
+use Rattle.gc_play.specs.Crews.{AreAfter, IsNew, Numbered}
+use Rattle.gc_play.specs.Traced.{AllTracedUntil, EndTraced, SeasonTraced, SeasonsTraced, PlayTraced, TracedSeasons, TracersRan, parts_by}
+use Rattle.gc_play.specs.Turns.{HasTraced}
+use Rattle.gc_play.proofs.Rounds.{ran-state-in}
 
 module _ (h : Heap) (s : Sections) (z : ℕ) (xs zs ys : List HeapSeat) (before : SeasonsTraced h s z xs zs) where
   -- one season more
@@ -21,3 +36,75 @@ module _ (h : Heap) (s : Sections) (z : ℕ) (xs zs ys : List HeapSeat) (before 
   play-traced Done t = seasons-more t
   play-traced First t = seasons-same t
   play-traced Later t = ⊎_elim (λ (e : ys ≡ zs). inl (seasons-same e)) (λ (a : AllTracedUntil h (parts_by s (z + 1)) zs ys). inr (seasons-more a)) t
+
+-- what one of them did in those seasons
+pub record OneTraced (h : Heap) (s : Sections) (z : ℕ) (x y : View) : Type 0 where
+  pub ran : Ran x y
+  pub seasons : TracedSeasons h.shape s z x.state (events x y)
+
+module _ (h : Heap) (s : Sections) (xs : List HeapSeat) (i : ℕ) (d : HeapSeat) (below : i < length xs) (shape : (view_of (get_or xs i d)).shape ≡ h.shape) where
+  abbrev first : View
+  first = view_of (get_or xs i d)
+
+  one-traced : (z : ℕ) (ys : List HeapSeat) → SeasonsTraced h s z xs ys → (length ys ≡ length xs) × OneTraced h s z first (view_of (get_or ys i d))
+  one-traced zero ys same = (ap length same, subst (λ (l : List HeapSeat). OneTraced h s 0 first (view_of (get_or l i d))) (sym same) (record { ran = ran-refl first; seasons = events-none first }))
+  one-traced (suc z) ys (zs, before, last) =
+      let was = one-traced z zs before in
+      let middle : View = view_of (get_or zs i d) in
+      let end : View = view_of (get_or ys i d) in
+      let one = last.each i d (omega (arith, below, was.0)) in
+      let state = ran-state-in h.shape first middle shape was.1.ran in (
+        last.count ∙ was.0,
+        record {
+          ran = ran-join first middle end was.1.ran one.kept.stays.ran;
+          seasons = (
+            events first middle,
+            events middle end,
+            ran-events first middle end was.1.ran one.kept.stays.ran,
+            was.1.seasons,
+            subst (λ (t : SeatState). HasTraced h.shape (parts_by s (suc z)) t (events middle end)) (sym state) one.traced,
+          );
+        },
+      )
+
+get-after : (fs xs : List HeapSeat) (j : ℕ) (d : HeapSeat) → get_or (fs ++ xs) (length fs + j) d ≡ get_or xs j d
+get-after [] xs j d = ap (λ n. get_or xs n d) (let e : 0 + j ≡ j = omega arith in e)
+get-after (f ∷ fs) xs j d = ap (λ n. get_or (f ∷ (fs ++ xs)) n d) (let e : suc (length fs) + j ≡ suc (length fs + j) = omega arith in e) ∙ get-after fs xs j d
+
+module _ (h : Heap) (s : Sections) (tracers : ℕ) (xs ys seats : List HeapSeat) (new : Numbered (IsNew h s) (1 + length s.warehouses) xs) (count : length xs ≡ tracers) (after : AreAfter (1 + length s.warehouses) ys seats) where
+  -- of tracers that were new at first
+  tracers-ran : (z : ℕ) → length ys ≡ length xs → ((j : ℕ) (d : HeapSeat) → j < length xs → OneTraced h s z (view_of (get_or xs j d)) (view_of (get_or ys j d))) → TracersRan s h.shape tracers z seats
+  tracers-ran z long each =
+      let before : List HeapSeat = after.0 in
+      let front : length before ≡ 1 + length s.warehouses = after.1 in
+      let all : length seats ≡ length before + length ys = ap length after.2 ∙ length-append before ys in
+      record {
+        count = omega (arith, all, front, long, count);
+        each =
+            λ i x at low.
+            let j : ℕ = i - (1 + length s.warehouses) in
+            let there : i ≡ length before + j = omega (arith, front, low) in
+            let below : j < length xs = omega (arith, slice_get_within seats i x at, all, front, low, long) in
+            let is : get_or ys j x ≡ x =
+            sym (get-after before ys j x) ∙ (ap (λ n. get_or (before ++ ys) n x) (sym there) ∙ (ap (λ (l : List HeapSeat). get_or l i x) (sym after.2) ∙ get_or_from_slice_get seats i x x at)) in
+            let was : View = view_of (get_or xs j x) in
+            let fresh = (new j x below).fresh in
+            let number : 1 + length s.warehouses + j ≡ i = omega (arith, low) in
+            let state : was.state ≡ start_seat h.shape i = fresh.state ∙ ap (start_seat h.shape) number in
+            let log : events was (view_of x) ≡ (view_of x).log = ap (λ (l : List Entry). drop (length l) (view_of x).log) fresh.log in
+            let did : TracedSeasons h.shape s z was.state (events was (view_of x)) = (subst (λ (y : HeapSeat). OneTraced h s z was (view_of y)) is (each j x below)).seasons in
+            subst (λ (t : SeatState). TracedSeasons h.shape s z t (view_of x).log) state (subst (TracedSeasons h.shape s z was.state) log did);
+      }
+
+  -- seasons by the lists of seats
+  seasons-ran : (z : ℕ) → SeasonsTraced h s z xs ys → TracersRan s h.shape tracers z seats
+  seasons-ran z t = tracers-ran z (same-length z ys t) (λ j d below. (one-traced h s xs j d below (new j d below).fresh.shape z ys t).1)
+    where
+      same-length : (n : ℕ) (zs : List HeapSeat) → SeasonsTraced h s n xs zs → length zs ≡ length xs
+      same-length zero zs same = ap length same
+      same-length (suc n) zs (us, before, last) = last.count ∙ same-length n us before
+
+  pub end-traced : (r : Ended) (z : ℕ) → PlayTraced r h s z xs ys → EndTraced r s h.shape tracers z seats
+  end-traced Done z t = seasons-ran z t
+  end-traced First z t = seasons-ran (z - 1) t
+  end-traced Later z t = ⊎_elim (λ (e : SeasonsTraced h s (z - 1) xs ys). inl (seasons-ran (z - 1) e)) (λ (e : SeasonsTraced h s z xs ys). inr (seasons-ran z e)) t

@@ -80,6 +80,10 @@ module _ (h : Heap) (s : Sections) (n : ℕ) (x : HeapSeat) (new : IsNew h s n x
   pub new-made : (view_of x).state.made ≡ 0
   new-made = ap (λ (y : SeatState). y.made) new.fresh.state
 
+  -- there is room for all that a script may make
+  pub new-objects : 2000000 ≤ (view_of x).shape.objects
+  new-objects = omega (arith, ap (λ (y : Shape). y.objects) new.fresh.shape, new.objects)
+
   pub new-stands : (m : Mutator) → m.seat ≡ x → 1 ≤ n → n ≤ length s.warehouses → m.said.items ≡ [] → m.places.items ≡ [] → m.dropped ≡ 0 → m.count ≡ 0 → HasRoom (joined (parts_of s n)) m → StandsAt h s 0 m
   new-stands m same first last said places dropped count room =
       let num : number_of m ≡ n = new-number m same in

@@ -5,11 +5,15 @@ use Rattle.std.proofs.lemmas.Bool.{and_parts, and_from}
 use Rattle.mark_core.specs.Seats.{work_in_hand, empty_handed, is_bare}
 use Rattle.mark_core.specs.WorldSteps.{has_nothing}
 use Rattle.mark_core.specs.declared.kinds.Shape.{Shape}
-use Rattle.mark_core.specs.declared.kinds.Step.TheVariants.{EnterStep, LeaveStep, ReadPhase, Observe, ReadStat}
+use Rattle.mark_core.specs.Effects.{seat_after}
+use Rattle.mark_core.specs.declared.kinds.Step.{Step}
+use Rattle.mark_core.specs.declared.kinds.Step.TheVariants.{AddStat, EnterStep, LeaveStep, ReadPhase, ReadStat}
 use Rattle.mark_core.specs.declared.seat.SeatState.{SeatState}
 use Rattle.gc_table.specs.declared.view.View.{View}
 use Rattle.gc_table.specs.Taking.{after, May}
-use Rattle.gc_table.proofs.Log.{grows-refl, grows-join, grows-after}
+use Rattle.gc_table.specs.Running.{is_store}
+use Rattle.gc_table.specs.Seats.{Found}
+use Rattle.gc_table.proofs.Running.{ran-found, ran-join, ran-number, ran-plan, ran-refl, ran-section, ran-shape}
 use Rattle.gc_play.specs.Stays.{Stays}
 
 -- a seat with nothing in hand may leave
@@ -39,7 +43,7 @@ pub bare-from : (s : SeatState) → s.counted ≡ false → s.raised ≡ false �
 bare-from s a b c = and_from (not s.counted && not s.raised) (not s.helping) (and_from (not s.counted) (not s.raised) (ap not a) (ap not b)) (ap not c)
 
 pub stays-refl : (v : View) → Stays v v
-stays-refl v = record { shape = refl; number = refl; section = refl; plan_is = refl; own = refl; idle = refl; log = grows-refl v }
+stays-refl v = record { shape = refl; number = refl; section = refl; plan_is = refl; own = refl; idle = refl; ran = ran-refl v }
 
 pub stays-join : (u v w : View) → Stays u v → Stays v w → Stays u w
 stays-join u v w a b =
@@ -50,20 +54,34 @@ stays-join u v w a b =
       plan_is = b.plan_is ∙ a.plan_is;
       own = b.own ∙ a.own;
       idle = b.idle ∙ a.idle;
-      log = grows-join u v w a.log b.log;
+      ran = ran-join u v w a.ran b.ran;
     }
 
-pub stays-enter : (v w : View) (n : ℕ) → w ≡ after EnterStep n v → Stays v w
-stays-enter v w n e = subst (Stays v) (sym e) (record { shape = refl; number = refl; section = refl; plan_is = refl; own = refl; idle = refl; log = grows-after v EnterStep n })
+-- a step that changes nothing of the section, and leaves in hand what was there
+stays-step : (v w : View) (step : Step) (n : ℕ) → is_store step ≡ false → (after step n v).own ≡ v.own → has_nothing v.shape (seat_after v.shape v.state step n) ≡ has_nothing v.shape v.state → Found step n v w → Stays v w
+stays-step v w step n k own idle f =
+    let r = ran-found v w step n k f in
+    record {
+      shape = ran-shape v w r;
+      number = ran-number v w r;
+      section = ran-section v w r;
+      plan_is = ran-plan v w r;
+      own = ap (λ (x : View). x.own) f.0 ∙ own;
+      idle = ap (λ (x : View). has_nothing x.shape x.state) f.0 ∙ idle;
+      ran = r;
+    }
 
-pub stays-leave : (v w : View) (n : ℕ) → w ≡ after LeaveStep n v → Stays v w
-stays-leave v w n e = subst (Stays v) (sym e) (record { shape = refl; number = refl; section = refl; plan_is = refl; own = refl; idle = refl; log = grows-after v LeaveStep n })
+pub stays-enter : (v w : View) (n : ℕ) → Found EnterStep n v w → Stays v w
+stays-enter v w n f = stays-step v w EnterStep n refl refl refl f
 
-pub stays-observe : (v w : View) (n : ℕ) → w ≡ after Observe n v → Stays v w
-stays-observe v w n e = subst (Stays v) (sym e) (record { shape = refl; number = refl; section = refl; plan_is = refl; own = refl; idle = refl; log = grows-after v Observe n })
+pub stays-leave : (v w : View) (n : ℕ) → Found LeaveStep n v w → Stays v w
+stays-leave v w n f = stays-step v w LeaveStep n refl refl refl f
 
-pub stays-read_phase : (v w : View) (n : ℕ) → w ≡ after ReadPhase n v → Stays v w
-stays-read_phase v w n e = subst (Stays v) (sym e) (record { shape = refl; number = refl; section = refl; plan_is = refl; own = refl; idle = refl; log = grows-after v ReadPhase n })
+pub stays-read_phase : (v w : View) (n : ℕ) → Found ReadPhase n v w → Stays v w
+stays-read_phase v w n f = stays-step v w ReadPhase n refl refl refl f
 
-pub stays-read_stat : (v w : View) (which n : ℕ) → w ≡ after (ReadStat which) n v → Stays v w
-stays-read_stat v w which n e = subst (Stays v) (sym e) (record { shape = refl; number = refl; section = refl; plan_is = refl; own = refl; idle = refl; log = grows-after v (ReadStat which) n })
+pub stays-read_stat : (v w : View) (which n : ℕ) → Found (ReadStat which) n v w → Stays v w
+stays-read_stat v w which n f = stays-step v w (ReadStat which) n refl refl refl f
+
+pub stays-add_stat : (v w : View) (which by n : ℕ) (down : Bool) → Found (AddStat which by down) n v w → Stays v w
+stays-add_stat v w which by n down f = stays-step v w (AddStat which by down) n refl refl refl f

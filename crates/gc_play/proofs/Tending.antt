@@ -1,18 +1,17 @@
 -- A seat that traces stays what it is, and what it did inside.
 use Rattle.std.proofs.Common.{ℕ, zero, suc, ◌≡◌, ◌<◌, ◌≤◌, ◌+◌, ◌⊎◌, ⊎_elim, inl, inr, List, [], ◌∷◌, ◌++◌, length, refl, sym, ap, ◌∙◌, subst, arith, Bool, true, false, not, cond, ◌&&◌, ◌||◌, Some, None, Option}
 use Rattle.std.specs.Prelude.{is_none, is_some, ◌==◌}
-use Rattle.std.specs.List.{list_all, range_with_len}
 use Rattle.std.proofs.Math.Logic.{∥∥₁_elim}
 use Rattle.std.proofs.Props.{props}
 use Rattle.std.proofs.lemmas.List.{append-nil}
-use Rattle.std.proofs.lemmas.Bool.{true≢false, and_parts, and_from, or_cases, or_left, or_parts, not_from_false, cases_lt}
+use Rattle.std.proofs.lemmas.Bool.{true≢false, and_parts, and_from, or_left, or_parts, not_from_false, ne_eqb}
 use Rattle.mark_core.specs.Held.{Slot, Slots, holds_any}
 use Rattle.mark_core.specs.Seats.{empty_handed, saw, work_in_hand}
 use Rattle.mark_core.specs.WorldSteps.{has_nothing}
 use Rattle.mark_core.specs.declared.kinds.Phase.TheVariants.{Marking}
 use Rattle.mark_core.specs.declared.kinds.Shape.{Shape}
 use Rattle.mark_core.specs.declared.kinds.Step.{Step}
-use Rattle.mark_core.specs.declared.kinds.Step.TheVariants.{AddStat, ClearCard, DirtyCard, LeaveStep, NextOfCards, Pop, ReadStat}
+use Rattle.mark_core.specs.declared.kinds.Step.TheVariants.{AddStat, ClearCard, DirtyCard, EnterStep, LeaveStep, NextOfCards, Pop, ReadPhase, ReadStat}
 use Rattle.mark_core.specs.declared.seat.SeatState.{SeatState}
 use Rattle.gc_table.specs.Log.{Only, all_steps, event, events}
 use Rattle.gc_table.specs.Rule.{IsPossible}
@@ -22,23 +21,24 @@ use Rattle.gc_table.specs.declared.seat.Heap.{Heap}
 use Rattle.gc_table.specs.declared.seat.HeapSeat.{HeapSeat}
 use Rattle.gc_table.specs.declared.view.Entry.{Entry}
 use Rattle.gc_table.specs.declared.view.View.{View}
-use Rattle.gc_table.proofs.Log.{events-join, events-none, only-join, only-more, only-none}
-use Rattle.gc_table.proofs.Running.{own-kept, ran-grows, ran-number, ran-plan, ran-section, ran-shape}
-use Rattle.packet_pools.specs.Counts.{SomeStretch, count_of, only_scans, scans_object}
+use Rattle.gc_table.proofs.Log.{events-none, only-more, only-none}
+use Rattle.gc_table.proofs.Running.{own-kept, ran-events, ran-number, ran-only, ran-plan, ran-section, ran-shape}
+use Rattle.packet_pools.specs.Counts.{count_of, only_scans, scans_object}
 use Rattle.packet_pools.specs.OnlyTraced.{OnlyTracedBy, rest_of, traces_cells}
-use Rattle.packet_pools.specs.Seeking.{NoInput, moves_packet, only_moves, some_event}
+use Rattle.packet_pools.specs.Seeking.{moves_packet, only_moves, some_event}
 use Rattle.packet_pools.specs.Tracing.{Traces as MayTrace}
-use Rattle.packet_pools.proofs.Counting.{count-join, stretch-right}
+use Rattle.packet_pools.proofs.Counting.{count-join}
 use Rattle.card_clean.specs.Cleaning.{Cleans, CleansOne}
 use Rattle.card_clean.specs.Passing.{DrawsCard, draws_card}
 use Rattle.card_clean.specs.declared.cleaned.Cleaned.{Cleaned}
 use Rattle.tracer.specs.Hands.{IsIdle, no_packets}
-use Rattle.tracer.specs.Moments.{Moment, after_moment, at_some_moment, finds_no_work, front, no_input, nothing_left}
 use Rattle.tracer.specs.Tally.{pops}
 use Rattle.gc_play.specs.Stays.{Stays}
 use Rattle.gc_play.specs.Tending.{Marks, Tended, tends}
-use Rattle.gc_play.specs.Turns.{Traces, TracesInside, added, amounts, entry, inside, leaves, leaves_done}
-use Rattle.gc_play.proofs.Rounds.{quiet-join, quiet-one, quiet-only, traces-more}
+use Rattle.gc_cycle.specs.Sorts.{enters, looks_at_phase}
+use Rattle.gc_cycle.proofs.Sequences.{none-of-steps, some-none}
+use Rattle.gc_play.specs.Turns.{TracesInside, Waits, changed, changes, entry, inside, leaves, leaves_done, payment, traces_on}
+use Rattle.gc_play.proofs.Rounds.{quiet-one, quiet-only, traces-more, waits-join}
 use Rattle.gc_play.proofs.Steps.{stays-join, stays-refl}
 
 unless : (b : Bool) → not b ≡ true → b ≡ false
@@ -169,7 +169,7 @@ marks-on h x y m r own same sits t held work owes =
         plan_is = ran-plan v w r;
         own = own;
         idle = ap (λ (sh : Shape). has_nothing sh w.state) sits.1 ∙ (idle ∙ (sym m.goes.idle ∙ ap (λ (sh : Shape). has_nothing sh v.state) (sym m.goes.sits.1)));
-        log = ran-grows v w r;
+        ran = r;
       },
     )
 
@@ -190,7 +190,9 @@ marks-cleaned h x y m k sits t held work owes =
 
 -- a step of tracing is one that a tracer may take inside
 traces-tend : (step : Step) → traces_cells step ≡ true → tends step ≡ true
+traces-tend EnterStep e = e
 traces-tend LeaveStep e = e
+traces-tend ReadPhase e = e
 traces-tend (ReadStat which) e = absurd (true≢false (sym e))
 traces-tend (AddStat which by down) e = e
 traces-tend step e = refl
@@ -205,8 +207,8 @@ pub tended-join : (m n k : ℕ) (u v w : View) → m + n ≡ k → Tended m u v 
 tended-join m n k u v w e a b =
     record {
       stays = stays-join u v w a.stays b.stays;
-      only = only-join tends u v w a.stays.log b.stays.log a.only b.only;
-      done = ap (count_of pops) (events-join u v w a.stays.log b.stays.log) ∙ (count-join pops (events u v) (events v w) ∙ ((λ i. a.done i + b.done i) ∙ e));
+      only = ran-only tends u v w a.stays.ran b.stays.ran a.only b.only;
+      done = ap (count_of pops) (ran-events u v w a.stays.ran b.stays.ran) ∙ (count-join pops (events u v) (events v w) ∙ ((λ i. a.done i + b.done i) ∙ e));
     }
 
 -- a move of packets pops nothing
@@ -272,44 +274,6 @@ some-counted f (x ∷ xs) low = of (f x.step x.found) (some_event f xs) (count_o
     of true later n h l = refl
     of false later n h l = h (omega (arith, l))
 
--- the events after the front
-back : (Step → Bool) → List Entry → List Entry
-back f [] = []
-back f (e ∷ es) = cond (f e.step) (back f es) (e ∷ es)
-
-front-back : (f : Step → Bool) (es : List Entry) → es ≡ front f es ++ back f es
-unfolding back
-front-back f [] = refl
-front-back f (e ∷ es) = of (f e.step) (front f es) (back f es) (front-back f es)
-  where
-    of : (b : Bool) (xs ys : List Entry) → es ≡ xs ++ ys → e ∷ es ≡ cond b (e ∷ xs) [] ++ cond b ys (e ∷ es)
-    of true xs ys h = ap (λ l. e ∷ l) h
-    of false xs ys h = refl
-
-all-at : (f : ℕ → Bool) (a n : ℕ) → list_all f (range_with_len a n) ≡ true → (p : ℕ) → a ≤ p → p < a + n → f p ≡ true
-all-at f a zero h p low high = absurd (omega (arith, low, high))
-all-at f a (suc n) h p low high =
-    let q = and_parts (f a) (list_all f (range_with_len (a + 1) n)) h in
-    ⊎_elim
-    (λ (l : a < p). all-at f (a + 1) n q.1 p (omega (arith, l)) (omega (arith, high)))
-    (λ (l : p ≤ a). subst (λ k. f k ≡ true) (let same : a ≡ p = omega (arith, l, low) in same) q.0)
-    (cases_lt a p)
-
--- a search in vain is among the events
-search-here : (sh : Shape) (m : Moment) (es : List Entry) → finds_no_work sh m es ≡ true → SomeStretch (NoInput sh) es
-search-here sh m es e =
-    let f = moves_packet (2 ∷ 1 ∷ []) in
-    let q = and_parts (nothing_left sh m) (no_input sh (front f es)) e in
-    ([], front f es, back f es, front-back f es, λ p below. all-at _ 0 sh.packets q.1 p (omega arith) (omega (arith, below)))
-
-pub some-search : (sh : Shape) (m : Moment) (es : List Entry) → at_some_moment sh (finds_no_work sh) m es ≡ true → SomeStretch (NoInput sh) es
-some-search sh m [] e = search-here sh m [] e
-some-search sh m (x ∷ xs) e =
-    ⊎_elim
-    (λ (h : finds_no_work sh m (x ∷ xs) ≡ true). search-here sh m (x ∷ xs) h)
-    (λ (h : at_some_moment sh (finds_no_work sh) (after_moment sh m x) xs ≡ true). stretch-right (NoInput sh) (x ∷ []) xs (some-search sh (after_moment sh m x) xs h))
-    (or_cases _ _ e)
-
 -- what such a step doesn't do
 tend-leaves : (step : Step) → tends step ≡ true → leaves step ≡ false
 tend-leaves LeaveStep e = sym e
@@ -319,13 +283,17 @@ tend-done : (step : Step) → tends step ≡ true → leaves_done step ≡ true
 tend-done (ReadStat which) e = e
 tend-done step e = refl
 
-tend-adds : (step : Step) → tends step ≡ true → added step ≡ []
-tend-adds (AddStat which by down) e = absurd (true≢false (sym e))
-tend-adds step e = refl
+tend-changes : (step : Step) → tends step ≡ true → changed step ≡ []
+tend-changes (AddStat which by down) e = absurd (true≢false (sym e))
+tend-changes step e = refl
 
-all-done : (es : List Entry) → all_steps tends es ≡ true → all_steps leaves_done es ≡ true
-all-done [] o = refl
-all-done (e ∷ es) o = let p = and_parts (tends e.step) (all_steps tends es) o in and_from _ _ (tend-done e.step p.0) (all-done es p.1)
+tend-looks : (step : Step) (n : ℕ) → tends step ≡ true → looks_at_phase step n ≡ false
+tend-looks ReadPhase n e = sym e
+tend-looks step n e = refl
+
+tend-enters : (step : Step) (n : ℕ) → tends step ≡ true → enters step n ≡ false
+tend-enters EnterStep n e = sym e
+tend-enters step n e = refl
 
 -- the seat doesn't leave before what comes after such steps
 tend-inside : (es fs : List Entry) → all_steps tends es ≡ true → inside fs ≡ fs → inside (es ++ fs) ≡ es ++ fs
@@ -334,31 +302,49 @@ tend-inside (e ∷ es) fs o f =
     let p = and_parts (tends e.step) (all_steps tends es) o in
     ap (λ (b : Bool). cond b [] (e ∷ inside (es ++ fs))) (tend-leaves e.step p.0) ∙ ap (λ l. e ∷ l) (tend-inside es fs p.1 f)
 
-tend-amounts : (es fs : List Entry) → all_steps tends es ≡ true → amounts (es ++ fs) ≡ amounts fs
-tend-amounts [] fs o = refl
-tend-amounts (e ∷ es) fs o =
+-- no number is changed before what comes after such steps
+none-changed : (es fs : List Entry) → all_steps tends es ≡ true → changes (es ++ fs) ≡ changes fs
+none-changed [] fs o = refl
+none-changed (e ∷ es) fs o =
     let p = and_parts (tends e.step) (all_steps tends es) o in
-    ap (λ l. l ++ amounts (es ++ fs)) (tend-adds e.step p.0) ∙ tend-amounts es fs p.1
+    ap (λ l. l ++ changes (es ++ fs)) (tend-changes e.step p.0) ∙ none-changed es fs p.1
+
+all-done : (es : List Entry) → all_steps tends es ≡ true → all_steps leaves_done es ≡ true
+all-done [] o = refl
+all-done (e ∷ es) o = let p = and_parts (tends e.step) (all_steps tends es) o in and_from _ _ (tend-done e.step p.0) (all-done es p.1)
+
+tend-waits : (es : List Entry) → all_steps tends es ≡ true → Waits es
+tend-waits es o = record { quiet = quiet-only es (all-done es o); outside = ap not (none-of-steps tends enters tend-enters es o) }
+
+tend-blind : (es : List Entry) → all_steps tends es ≡ true → some_event looks_at_phase es ≡ false
+tend-blind es o = none-of-steps tends looks_at_phase tend-looks es o
+
+-- what is to be told where something was popped
+payment-some : (n : ℕ) → 0 < n → payment n ≡ (4, n, false) ∷ []
+payment-some n low = ap (λ b. cond b [] ((4, n, false) ∷ [])) (ne_eqb n 0 (λ z. omega (arith, z, low)))
 
 -- nothing was popped
-pub inside-idle : (sh : Shape) (n : ℕ) (es : List Entry) → n ≤ 0 → all_steps tends es ≡ true → count_of pops es ≡ n → Traces sh es → TracesInside sh es
-inside-idle sh n es none o count t =
+pub inside-idle : (sh : Shape) (s : SeatState) (n : ℕ) (es : List Entry) → n ≤ 0 → all_steps tends es ≡ true → count_of pops es ≡ n → traces_on sh s es ≡ true → TracesInside sh s es
+inside-idle sh s n es none o count t =
     let nil : (es ++ []) ≡ es = append-nil es in
+    let zero_is : count_of pops es ≡ 0 = omega (arith, count, none) in
     record {
       traces = t;
-      pays = λ low. absurd (omega (arith, low, count, none));
+      pays = ap changes (sym nil) ∙ (none-changed es [] o ∙ ap payment (sym zero_is));
       stays_in = ap inside (sym nil) ∙ (tend-inside es [] o refl ∙ nil);
-      quiet = quiet-only es (all-done es o);
+      blind = ap not (tend-blind es o);
+      waits = tend-waits es o;
     }
 
--- what was popped was added
-pub inside-counted : (sh : Shape) (n m : ℕ) (es : List Entry) → all_steps tends es ≡ true → count_of pops es ≡ n → Traces sh es → TracesInside sh (es ++ entry (AddStat 4 n false) m ∷ [])
-inside-counted sh n m es o count t =
+-- what was popped was told
+pub inside-counted : (sh : Shape) (s : SeatState) (n m : ℕ) (es : List Entry) → 0 < n → all_steps tends es ≡ true → count_of pops es ≡ n → traces_on sh s es ≡ true → TracesInside sh s (es ++ entry (AddStat 4 n false) m ∷ [])
+inside-counted sh s n m es low o count t =
     let last : List Entry = entry (AddStat 4 n false) m ∷ [] in
     let all : count_of pops (es ++ last) ≡ n = count-join pops es last ∙ omega (arith, count) in
     record {
-      traces = traces-more sh es last t;
-      pays = λ low. tend-amounts es last o ∙ ap (λ k. k ∷ []) (sym all);
+      traces = traces-more sh s es last t;
+      pays = none-changed es last o ∙ (sym (payment-some n low) ∙ ap payment (sym all));
       stays_in = tend-inside es last o refl;
-      quiet = quiet-join es last (quiet-only es (all-done es o)) (quiet-one (AddStat 4 n false) m refl);
+      blind = ap not (some-none looks_at_phase es last (tend-blind es o) refl);
+      waits = waits-join es last (tend-waits es o) (record { quiet = quiet-one (AddStat 4 n false) m refl; outside = refl });
     }

@@ -1,5 +1,5 @@
 -- All seats of a play, in the hands of those that play.
-use Rattle.std.specs.Prelude.{ℕ, zero, suc, ◌≡◌, ◌+◌, ◌-◌, ◌*◌, ◌<◌, ◌≤◌, ◌⊎◌, List, [], length, map, All, false, None, Some, IsNone, IsTrue, slice_index_or}
+use Rattle.std.specs.Prelude.{ℕ, zero, suc, ◌≡◌, ◌+◌, ◌-◌, ◌*◌, ◌<◌, ◌≤◌, ◌⊎◌, List, [], ◌++◌, length, map, All, false, None, Some, IsNone, IsTrue, slice_index_or}
 use Rattle.plain_heap.specs.Sections.{Sections, end_of}
 use Rattle.plain_heap.specs.PlainRun.{plan_of}
 use Rattle.play_report.specs.Report.{printed_of}
@@ -34,6 +34,7 @@ pub record IsNew (h : Heap) (s : Sections) (n : ℕ) (x : HeapSeat) : Type 0 whe
   pub fresh : IsFresh h.shape (plan_of s) n (view_of x)
   pub sections : h.shape.sections ≡ 1 + length s.warehouses
   pub fields : h.shape.fields ≡ s.fields
+  pub objects : h.shape.objects ≡ 2000000
 
 -- a heap that was made for a script, with all its seats
 pub record IsMade (s : Sections) (h : Heap) (xs : List HeapSeat) : Type 0 where
@@ -97,6 +98,10 @@ PlaySettles ends.Full h s z c = CatalogueWaits h s z c × KnowsFull (view_of (se
 -- the tracers' seats come after those of the sections
 abbrev pub AreTracers : Heap → Sections → List HeapSeat → Type 0
 AreTracers h s xs = Numbered (IsTracer h) (1 + length s.warehouses) xs
+
+-- the first stand in the others, after so many more
+abbrev pub AreAfter : ℕ → List HeapSeat → List HeapSeat → Type 0
+AreAfter n xs ys = (before : List HeapSeat) × (length before ≡ n) × (ys ≡ before ++ xs)
 
 -- a seat at rest without a section
 pub record IsAnyTracer (h : Heap) (x : HeapSeat) : Type 0 where

@@ -6,3 +6,4 @@ pub mod Crews
 pub mod Options
 pub mod Turns
 pub mod Tending
+pub mod Answers

@@ -4,7 +4,7 @@ use Rattle.mark_core.specs.Numbers.{done_count}
 use Rattle.mark_core.specs.Seats.{saw}
 use Rattle.mark_core.specs.declared.kinds.Phase.TheVariants.{Marking}
 use Rattle.mark_core.specs.declared.kinds.Step.{Step}
-use Rattle.mark_core.specs.declared.kinds.Step.TheVariants.{AddStat, LeaveStep, ReadStat}
+use Rattle.mark_core.specs.declared.kinds.Step.TheVariants.{AddStat, EnterStep, LeaveStep, ReadPhase, ReadStat}
 use Rattle.gc_table.specs.Log.{Only, events}
 use Rattle.gc_table.specs.Seats.{view_of}
 use Rattle.gc_table.specs.declared.seat.Heap.{Heap}
@@ -20,9 +20,11 @@ pub record Marks (h : Heap) (x : HeapSeat) : Type 0 where
   pub goes : Goes h x
   pub marking : IsTrue (saw (view_of x).state.phase_seen Marking)
 
--- the step neither leaves, nor reads how many parts were played, nor adds to a number
+-- the step neither enters nor leaves, reads neither the phase nor how many parts were played, and adds to no number
 abbrev pub tends : Step → Bool
+tends EnterStep = false
 tends LeaveStep = false
+tends ReadPhase = false
 tends (ReadStat which) = not (which == done_count)
 tends (AddStat which by down) = false
 tends step = true

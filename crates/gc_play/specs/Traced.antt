@@ -1,5 +1,9 @@
 -- What the tracers did while seasons were played.
-use Rattle.std.specs.Prelude.{ℕ, zero, suc, ◌≡◌, ◌+◌, ◌-◌, ◌*◌, ◌<◌, ◌⊎◌, List, length, slice_index_or}
+use Rattle.std.specs.Prelude.{ℕ, zero, suc, ◌≡◌, ◌+◌, ◌-◌, ◌*◌, ◌<◌, ◌≤◌, ◌⊎◌, List, [], ◌++◌, length, Some, slice_get, slice_index_or}
+use Rattle.mark_core.specs.Start.{start_seat}
+use Rattle.mark_core.specs.declared.kinds.Shape.{Shape}
+use Rattle.mark_core.specs.declared.seat.SeatState.{SeatState}
+use Rattle.gc_table.specs.declared.view.Entry.{Entry}
 use Rattle.plain_heap.specs.Sections.{Sections}
 use Rattle.gc_table.specs.Log.{events}
 use Rattle.gc_table.specs.Seats.{view_of}
@@ -8,7 +12,7 @@ use Rattle.gc_table.specs.declared.seat.HeapSeat.{HeapSeat}
 use Rattle.gc_play.specs.declared.season.Ended.{Ended}
 use Rattle.gc_play.specs.declared.season.Ended.TheVariants as plays
 use Rattle.gc_play.specs.Stays.{IsKept}
-use Rattle.gc_play.specs.Turns.{HasTraced}
+use Rattle.gc_play.specs.Turns.{HasTraced, state_after}
 
 -- how many parts were played at the end of season z: one a section and season
 abbrev pub parts_by : Sections → ℕ → ℕ
@@ -17,7 +21,7 @@ parts_by s z = z * (1 + length s.warehouses)
 -- the same seat, at rest, after it traced until so many parts were played or the heap was full
 pub record TracedUntil (h : Heap) (until : ℕ) (x y : HeapSeat) : Type 0 where
   pub kept : IsKept h x y
-  pub traced : HasTraced h.shape until (events (view_of x) (view_of y))
+  pub traced : HasTraced h.shape until (view_of x).state (events (view_of x) (view_of y))
 
 -- so did each of these
 pub record AllTracedUntil (h : Heap) (until : ℕ) (xs ys : List HeapSeat) : Type 0 where
@@ -35,8 +39,25 @@ abbrev pub SeasonsTraced : Heap → Sections → ℕ → List HeapSeat → List 
 SeasonsTraced h s zero xs ys = ys ≡ xs
 SeasonsTraced h s (suc z) xs ys = (zs : List HeapSeat) × SeasonsTraced h s z xs zs × AllTracedUntil h (parts_by s (suc z)) zs ys
 
+-- season by season, what a seat did that had this record at first: it traced in each of the first z seasons until its parts were played, and did nothing else
+abbrev pub TracedSeasons : Shape → Sections → ℕ → SeatState → List Entry → Type 0
+TracedSeasons sh s zero t es = es ≡ []
+TracedSeasons sh s (suc z) t es =
+    (before : List Entry) × (season : List Entry) × (es ≡ before ++ season) × TracedSeasons sh s z t before × HasTraced sh (parts_by s (suc z)) (state_after sh t before) season
+
+-- beside the seats of the sections there are so many of tracers, and each traced so from the start of the heap on
+pub record TracersRan (s : Sections) (sh : Shape) (tracers z : ℕ) (seats : List HeapSeat) : Type 0 where
+  pub count : length seats ≡ 1 + length s.warehouses + tracers
+  pub each : (i : ℕ) (x : HeapSeat) → slice_get seats i ≡ Some x → 1 + length s.warehouses ≤ i → TracedSeasons sh s z (start_seat sh i) (view_of x).log
+
 -- what they did in a play that ended in season z
 abbrev pub PlayTraced : Ended → Heap → Sections → ℕ → List HeapSeat → List HeapSeat → Type 0
 PlayTraced plays.Done h s z xs ys = SeasonsTraced h s z xs ys
 PlayTraced plays.First h s z xs ys = SeasonsTraced h s (z - 1) xs ys
 PlayTraced plays.Later h s z xs ys = SeasonsTraced h s (z - 1) xs ys ⊎ SeasonsTraced h s z xs ys
+
+-- so they did, by the seats at the end of a play
+abbrev pub EndTraced : Ended → Sections → Shape → ℕ → ℕ → List HeapSeat → Type 0
+EndTraced plays.Done s sh tracers z seats = TracersRan s sh tracers z seats
+EndTraced plays.First s sh tracers z seats = TracersRan s sh tracers (z - 1) seats
+EndTraced plays.Later s sh tracers z seats = TracersRan s sh tracers (z - 1) seats ⊎ TracersRan s sh tracers z seats

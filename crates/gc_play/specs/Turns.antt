@@ -1,18 +1,24 @@
 -- The turns of a tracer, by its events: what comes after each read of the number of parts that were played.
-use Rattle.std.specs.Prelude.{ℕ, ◌≡◌, ◌⊎◌, ◌<◌, ◌==◌, ◌&&◌, ◌||◌, if◌then◌else◌, List, [], ◌∷◌, ◌++◌, not, nat_le, Bool, true, false, Some, IsTrue, IsFalse}
+use Rattle.std.specs.Prelude.{ℕ, ◌≡◌, ◌<◌, ◌==◌, ◌&&◌, ◌||◌, if◌then◌else◌, List, [], ◌∷◌, ◌++◌, not, nat_le, Bool, true, false, Some, IsTrue, IsFalse}
 use Rattle.mark_core.specs.Numbers.{done_count, traced_count}
 use Rattle.mark_core.specs.Bits.{has_flag}
+use Rattle.mark_core.specs.Effects.{seat_after}
 use Rattle.mark_core.specs.Seats.{phase_of, saw}
 use Rattle.mark_core.specs.declared.kinds.Phase.{Phase}
 use Rattle.mark_core.specs.declared.kinds.Phase.TheVariants.{Marking, Full}
 use Rattle.mark_core.specs.declared.kinds.Shape.{Shape}
 use Rattle.mark_core.specs.declared.kinds.Step.{Step}
 use Rattle.mark_core.specs.declared.kinds.Step.TheVariants.{ReadPhase, EnterStep, LeaveStep, AddStat, ReadStat}
+use Rattle.mark_core.specs.declared.seat.SeatState.{SeatState}
 use Rattle.gc_table.specs.Taking.{won}
 use Rattle.gc_table.specs.declared.view.Entry.{Entry}
-use Rattle.packet_pools.specs.Counts.{SomeStretch, count_of}
-use Rattle.packet_pools.specs.Seeking.{NoInput, NoOutput, some_event}
+use Rattle.packet_pools.specs.Counts.{count_of}
+use Rattle.packet_pools.specs.Seeking.{some_event}
+use Rattle.tracer.specs.Moments.{at_some_moment, finds_no_work}
 use Rattle.tracer.specs.Tally.{pops}
+use Rattle.gc_cycle.specs.Events.{never}
+use Rattle.gc_cycle.specs.Sorts.{enters, enters_freely, looks_at_phase}
+use Rattle.gc_cycle.specs.Sorts.{reads_phase as sees_phase}
 
 -- the event of a step that found this word
 abbrev pub entry : Step → ℕ → Entry
@@ -27,9 +33,15 @@ reads_done step = false
 abbrev pub leaves_done : Step → Bool
 leaves_done step = not (reads_done step)
 
--- a read of that number, and what came after it
+-- the record after these events
+abbrev pub state_after : Shape → SeatState → List Entry → SeatState
+state_after sh s [] = s
+state_after sh s (e ∷ es) = state_after sh (seat_after sh s e.step e.found) es
+
+-- a read of that number, the seat's record then, and what came after it
 pub record Turn : Type 0 where
   pub found : ℕ
+  pub state : SeatState
   pub rest : List Entry
 
 -- the events before the first such read
@@ -37,10 +49,12 @@ abbrev pub lead : List Entry → List Entry
 lead [] = []
 lead (e ∷ es) = if reads_done e.step then [] else e ∷ lead es
 
--- all such reads
-abbrev pub turns_of : List Entry → List Turn
-turns_of [] = []
-turns_of (e ∷ es) = if reads_done e.step then record { found = e.found; rest = lead es } ∷ turns_of es else turns_of es
+-- all such reads, of a seat with this record
+abbrev pub turns_of : Shape → SeatState → List Entry → List Turn
+turns_of sh s [] = []
+turns_of sh s (e ∷ es) =
+    let t = seat_after sh s e.step e.found in
+    if reads_done e.step then record { found = e.found; state = t; rest = lead es } ∷ turns_of sh t es else turns_of sh t es
 
 -- the seat tries to enter
 abbrev pub tries_enter : Step → Bool
@@ -75,45 +89,57 @@ abbrev pub inside : List Entry → List Entry
 inside [] = []
 inside (e ∷ es) = if leaves e.step then [] else e ∷ inside es
 
--- what was added to the number of traced cells
-abbrev pub added : Step → List ℕ
-added (AddStat which by down) = if which == traced_count then by ∷ [] else []
-added step = []
+-- a cell was popped, or nothing was left in hand and there was no packet to read from
+abbrev pub traces_on : Shape → SeatState → List Entry → Bool
+traces_on sh s es = some_event pops es || at_some_moment sh (finds_no_work sh) (record { state = s; deferring = [] }) es
 
-abbrev pub amounts : List Entry → List ℕ
-amounts [] = []
-amounts (e ∷ es) = added e.step ++ amounts es
+-- each time that the phase was read as Marking, it traced from there on
+abbrev pub traces_where_marking : Shape → SeatState → List Entry → Bool
+traces_where_marking sh s [] = true
+traces_where_marking sh s (e ∷ es) =
+    let t = seat_after sh s e.step e.found in (not (sees_phase Marking e.step e.found) || traces_on sh t es) && traces_where_marking sh t es
 
-abbrev pub on_enter : Step → Type 0 → Type 0 → Type 0
-on_enter EnterStep here later = here
-on_enter step here later = later
+-- what the seat does from where it entered to where it leaves: it reads the phase, and in Marking it traces
+abbrev pub visits : Shape → SeatState → List Entry → Bool
+visits sh s es = some_event looks_at_phase es && traces_where_marking sh s es
 
--- the seat tries to enter, and where it finds no flag, P holds of what comes after
-abbrev pub EntersThen : (List Entry → Type 0) → List Entry → Type 0
-EntersThen P [] = ⊥
-EntersThen P (e ∷ es) = on_enter e.step (IsFalse (has_flag e.found) → P es) (EntersThen P es)
+-- so it does each time that it enters while no stop is under way
+abbrev pub each_visit : Shape → SeatState → List Entry → Bool
+each_visit sh s [] = true
+each_visit sh s (e ∷ es) =
+    let t = seat_after sh s e.step e.found in (not (enters_freely e.step e.found) || visits sh t (inside es)) && each_visit sh t es
 
-abbrev pub on_phase : Step → Type 0 → Type 0 → Type 0
-on_phase ReadPhase here later = here
-on_phase step here later = later
+-- a number of the cycle that was changed, by how much, and whether it was lowered
+abbrev pub Change : Type 0
+Change = ℕ × ℕ × Bool
 
--- the seat reads the phase, and where it is Marking, P holds of what comes after
-abbrev pub SeesThen : (List Entry → Type 0) → List Entry → Type 0
-SeesThen P [] = ⊥
-SeesThen P (e ∷ es) = on_phase e.step (IsTrue (saw (Some (phase_of e.found)) Marking) → P es) (SeesThen P es)
+abbrev pub changed : Step → List Change
+changed (AddStat which by down) = (which, by, down) ∷ []
+changed step = []
 
--- a cell was popped, or there was none to pop, or no packet for what is marked
-abbrev pub Traces : Shape → List Entry → Type 0
-Traces sh es = IsTrue (some_event pops es) ⊎ SomeStretch (NoInput sh) es ⊎ SomeStretch (NoOutput sh) es
+-- all such changes
+abbrev pub changes : List Entry → List Change
+changes [] = []
+changes (e ∷ es) = changed e.step ++ changes es
 
--- what was popped was counted, by one step
+-- the number of traced cells is raised by so many
+abbrev pub payment : ℕ → List Change
+payment n = if n == 0 then [] else (traced_count, n, false) ∷ []
+
+-- what was popped was told by one step, and no other number was changed
 abbrev pub Pays : List Entry → Type 0
-Pays es = 0 < count_of pops es → amounts es ≡ count_of pops es ∷ []
+Pays es = changes es ≡ payment (count_of pops es)
 
--- what a turn does while parts are left to play, and whether it is the last
+-- so it is each time that the seat enters while no stop is under way, up to where it leaves
+abbrev pub EachPays : List Entry → Type 0
+EachPays [] = Unit {0}
+EachPays (e ∷ es) = (IsTrue (enters_freely e.step e.found) → Pays (inside es)) × EachPays es
+
+-- what a turn does, and whether it is the last: while parts are left to play the seat tries to enter
 pub record IsTurn (sh : Shape) (until : ℕ) (last : Bool) (t : Turn) : Type 0 where
-  pub enters : t.found < until → EntersThen (SeesThen (Traces sh)) t.rest
-  pub pays : t.found < until → EntersThen (λ es. Pays (inside es)) t.rest
+  pub tries : t.found < until → IsTrue (some_event enters t.rest)
+  pub traces : IsTrue (each_visit sh t.state t.rest)
+  pub pays : EachPays t.rest
   pub ends : last ≡ is_last until t
 
 abbrev pub then_turns : Shape → ℕ → Turn → List Turn → Type 0 → Type 0
@@ -125,10 +151,10 @@ abbrev pub AreTurns : Shape → ℕ → List Turn → Type 0
 AreTurns sh until [] = ⊥
 AreTurns sh until (t ∷ ts) = then_turns sh until t ts (AreTurns sh until ts)
 
--- a tracer ran until it read that so many parts were played, or that the heap was full, and no longer
-pub record HasTraced (sh : Shape) (until : ℕ) (es : List Entry) : Type 0 where
+-- a tracer, with this record at first, ran until it read that so many parts were played, or that the heap was full, and no longer
+pub record HasTraced (sh : Shape) (until : ℕ) (s : SeatState) (es : List Entry) : Type 0 where
   pub first : lead es ≡ []
-  pub turns : AreTurns sh until (turns_of es)
+  pub turns : AreTurns sh until (turns_of sh s es)
 
 -- turns, none of them the last
 abbrev pub AllTurns : Shape → ℕ → List Turn → Type 0
@@ -136,9 +162,13 @@ AllTurns sh until [] = Unit {0}
 AllTurns sh until (t ∷ ts) = IsTurn sh until false t × AllTurns sh until ts
 
 -- no read of the number of parts
-pub record IsQuiet (es : List Entry) : Type 0 where
-  pub lead_is : lead es ≡ es
-  pub turnless : turns_of es ≡ []
+abbrev pub IsQuiet : List Entry → Type 0
+IsQuiet es = lead es ≡ es
+
+-- nor did the seat try to enter
+pub record Waits (es : List Entry) : Type 0 where
+  pub quiet : IsQuiet es
+  pub outside : IsTrue (never enters es)
 
 -- one step
 abbrev pub IsOne : Step → List Entry → Type 0
@@ -153,23 +183,24 @@ abbrev pub Enters : Bool → List Entry → Type 0
 Enters true es = (n : ℕ) × IsFalse (has_flag n) × (es ≡ entry EnterStep n ∷ [])
 Enters false es = (n : ℕ) × (m : ℕ) × IsTrue (has_flag n) × (es ≡ entry EnterStep n ∷ entry LeaveStep m ∷ [])
 
--- one turn, and whether it is the last
-pub record IsOneTurn (sh : Shape) (until : ℕ) (last : Bool) (es : List Entry) : Type 0 where
+-- one turn of a seat with this record, and whether it is the last
+pub record IsOneTurn (sh : Shape) (until : ℕ) (last : Bool) (s : SeatState) (es : List Entry) : Type 0 where
   pub turn : Turn
   pub first : lead es ≡ []
-  pub only : turns_of es ≡ turn ∷ []
+  pub only : turns_of sh s es ≡ turn ∷ []
   pub is : IsTurn sh until last turn
 
--- what a seat does inside after it saw that marking is under way
-pub record TracesInside (sh : Shape) (es : List Entry) : Type 0 where
-  pub traces : Traces sh es
+-- what a seat with this record does inside after it saw that marking is under way: it neither leaves, enters nor reads the phase
+pub record TracesInside (sh : Shape) (s : SeatState) (es : List Entry) : Type 0 where
+  pub traces : IsTrue (traces_on sh s es)
   pub pays : Pays es
   pub stays_in : inside es ≡ es
-  pub quiet : IsQuiet es
+  pub blind : IsTrue (never looks_at_phase es)
+  pub waits : Waits es
 
--- what a seat does from where it entered to where it left, and whether it saw that the heap is full
-pub record IsRound (sh : Shape) (full : Bool) (es : List Entry) : Type 0 where
-  pub sees : SeesThen (Traces sh) es
+-- what a seat that entered does up to where it leaves, and whether it saw that the heap is full
+pub record IsRound (sh : Shape) (full : Bool) (s : SeatState) (es : List Entry) : Type 0 where
+  pub sees : IsTrue (visits sh s (inside es))
   pub pays : Pays (inside es)
-  pub quiet : IsQuiet es
+  pub waits : Waits es
   pub ends : full ≡ sees_full es

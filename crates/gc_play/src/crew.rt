@@ -133,6 +133,7 @@ pub(crate) fn muster<'a>(
     requires enough { 1 + length script.now.sections.warehouses ≤ vec_len seats }
     ensures crew { IfOk result (IsCrew heap.now script.now.sections workers 0 0) }
     ensures tracers { IfOk result (λ c. vec_len c.tracers + (1 + length script.now.sections.warehouses) ≡ vec_len seats) }
+    ensures new { IfOk result (λ c. Numbered (IsNew heap.now script.now.sections) (1 + length script.now.sections.warehouses) c.tracers.items) }
 {
     let catalogue = match make_catalogue(alloc, heap, script, seats.remove(0)) {
         Ok(catalogue) => catalogue,

@@ -2,7 +2,7 @@
 ghost use Rattle.std.specs.Prelude.{◌≡◌, ◌+◌, ◌<◌, ◌≤◌, ◌⊎◌, [], ◌∷◌, IfOk, OnOk, length, vec_len};
 ghost use Rattle.gc_table.specs.Rule.{KnowsFull};
 ghost use Rattle.gc_table.specs.Seats.{view_of};
-ghost use Rattle.gc_play.specs.Crews.{AreSaid, AreTracers, EndsAt, HandsOver, IsLeft, KnowsEnd, Numbered, PlayEnds, SettlesEnd, SomeKnows, SomeSeatKnows};
+ghost use Rattle.gc_play.specs.Crews.{AreAfter, AreSaid, AreTracers, EndsAt, HandsOver, IsLeft, KnowsEnd, Numbered, PlayEnds, SettlesEnd, SomeKnows, SomeSeatKnows};
 ghost use Rattle.gc_play.specs.Dealing.{EachOne, IsDealt, number_of};
 
 use crate::crew::{Catalogue, Crew};
@@ -87,6 +87,7 @@ pub(crate) fn gather<'a>(
     requires parts { parts.old.items ≡ [] }
     ensures seats { OnOk result (Numbered (IsLeft ended heap.now script.now.sections season) 1 seats.new.items) }
     ensures count { OnOk result (vec_len seats.new ≡ vec_len seats.old + length script.now.sections.warehouses) }
+    ensures tracers { OnOk result (AreAfter (length script.now.sections.warehouses) seats.old.items seats.new.items) }
     ensures parts { OnOk result (length parts.new.items ≡ length script.now.sections.warehouses) }
     ensures said { OnOk result (AreSaid ended script.now.sections season 1 seats.new.items parts.new.items) }
     ensures knows { OnOk result (SomeKnows workers.old.items → SomeSeatKnows seats.new.items) }
@@ -138,6 +139,7 @@ pub(crate) fn put_away<'a>(
     ensures said { IfOk result (λ r. AreSaid ended script.now.sections season 0 r.0.items r.1.items) }
     ensures knows { IfOk result (λ r. KnowsEnd ended r.0.items) }
     ensures settles { IfOk result (λ r. SettlesEnd ended r.0.items) }
+    ensures tracers { IfOk result (λ r. AreAfter (1 + length script.now.sections.warehouses) crew.entry.tracers.items r.0.items) }
 {
     let Crew {
         catalogue,

@@ -30,7 +30,8 @@
 //!
 //! - `workers`: the warehouses, dealt out among the threads that play them, and one season of them.
 //! - `tracers`: the seats that trace beside them, turn by turn; `specs/Turns.antt` says by their events what a turn does and
-//!   which is the last, and `specs/Traced.antt` that each seat traces so in each season until its parts were played.
+//!   which is the last, and `specs/Traced.antt` that each seat traces so in each season until its parts were played;
+//!   `specs/Answers.antt` says what a play answers, and what its heap was when it was closed.
 //!   `entering`: how such a seat goes in and out. `marking`: what it does inside while marking is under way.
 //! - `season`: all threads of a season, and the stops between two turns.
 //! - `crew`: all seats, dealt out at the start. `gathering`: the same at the end.
@@ -49,6 +50,7 @@ mod tracers;
 mod workers;
 
 pub use gate::OpenGate;
+pub use play_contract::{Options, PlayError};
 pub use playing::{play, play_final};
 pub use tracers::run_tracer;
 pub use warehouse::Gate;

@@ -1,7 +1,7 @@
 //! What a tracer does inside while marking is under way: a few objects, and where there are none, a few cards.
 //!
 //! Each turn is short, since a stop waits until it has ended.
-ghost use Rattle.std.specs.Prelude.{◌<◌, false, IfSome};
+ghost use Rattle.std.specs.Prelude.{◌<◌, false, IfSome, IsTrue};
 ghost use Rattle.mark_core.specs.Numbers.{traced_count};
 ghost use Rattle.mark_core.specs.Layout.{card_count};
 ghost use Rattle.mark_core.specs.declared.kinds.Step.TheVariants.{AddStat};
@@ -10,7 +10,7 @@ ghost use Rattle.gc_table.specs.Seats.{view_of};
 ghost use Rattle.gc_play.specs.Standing.{Goes};
 ghost use Rattle.gc_play.specs.Stays.{Stays};
 ghost use Rattle.gc_play.specs.Tending.{Marks, Tended};
-ghost use Rattle.gc_play.specs.Turns.{IsOne, Traces, TracesInside};
+ghost use Rattle.gc_play.specs.Turns.{IsOne, TracesInside, traces_on};
 
 use card_clean::{clean_one, next_card};
 use gc_table::{Heap, HeapSeat};
@@ -28,7 +28,7 @@ fn trace_objects(heap: &Heap, seat: &mut HeapSeat) -> Traced
     requires { Marks heap.now seat.old }
     ensures seat { Marks heap.now seat.new }
     ensures tended { Tended result.done (view_of seat.old) (view_of seat.new) }
-    ensures traces { Traces heap.now.shape (events (view_of seat.old) (view_of seat.new)) }
+    ensures traces { IsTrue (traces_on heap.now.shape (view_of seat.old).state (events (view_of seat.old) (view_of seat.new))) }
 {
     trace(heap, seat, OBJECTS)
 }
@@ -116,7 +116,7 @@ fn tend(heap: &Heap, seat: &mut HeapSeat) -> u32
     requires { Marks heap.now seat.old }
     ensures seat { Marks heap.now seat.new }
     ensures tended { Tended result (view_of seat.old) (view_of seat.new) }
-    ensures traces { Traces heap.now.shape (events (view_of seat.old) (view_of seat.new)) }
+    ensures traces { IsTrue (traces_on heap.now.shape (view_of seat.old).state (events (view_of seat.old) (view_of seat.new))) }
 {
     let traced = trace_objects(heap, seat);
     clean_after(heap, seat, traced.stopped);
@@ -129,7 +129,7 @@ pub(crate) fn trace_inside(heap: &Heap, seat: &mut HeapSeat)
     requires { Marks heap.now seat.old }
     ensures seat { Goes heap.now seat.new }
     ensures stays { Stays (view_of seat.old) (view_of seat.new) }
-    ensures traces { TracesInside heap.now.shape (events (view_of seat.old) (view_of seat.new)) }
+    ensures traces { TracesInside heap.now.shape (view_of seat.old).state (events (view_of seat.old) (view_of seat.new)) }
 {
     let traced = tend(heap, seat);
     if traced > 0 {

@@ -5,8 +5,9 @@ ghost use Rattle.mark_core.specs.Shapes.{IsShape};
 ghost use Rattle.play_contract.specs.Playing.{AreInRange, PlayAnswers};
 ghost use Rattle.gc_play.specs.declared.season.Ended.TheVariants as ends;
 ghost use Rattle.gc_play.specs.Crews.{IsCrew, IsLeft, IsMade, IsNew, Numbered, PlayEnds, AreSaid, KnowsEnd, SettlesEnd};
-ghost use Rattle.gc_play.specs.Options.{FinalAnswers, IsPlayable, shape_for};
-ghost use Rattle.gc_play.specs.Traced.{PlayTraced};
+ghost use Rattle.gc_play.specs.Answers.{EndsIn, FinalAnswers, FinalEnds};
+ghost use Rattle.gc_play.specs.Options.{IsPlayable, shape_for};
+ghost use Rattle.gc_play.specs.Traced.{EndTraced, PlayTraced};
 
 use crate::crew::{Crew, muster};
 use crate::gathering::put_away;
@@ -46,6 +47,7 @@ fn shape_of(script: &Script<'_>, options: &Options) -> Shape
         entries: options.entries,
         sections: count_sections(script),
         fields: script.fields(),
+        objects: 2_000_000,
     }
 }
 
@@ -119,6 +121,7 @@ fn close<'a>(
     parts: Vec<Part<'a>>,
     ended: Ended,
     _season: u32,
+    _tracers: u32,
 ) -> Result<(Report<'a>, Words), PlayError>
     requires made { IsMade script.now.sections heap seats.items }
     requires season { 1 ≤ _season }
@@ -128,7 +131,9 @@ fn close<'a>(
     requires said { AreSaid ended script.now.sections _season 0 seats.items parts.items }
     requires knows { KnowsEnd ended seats.items }
     requires settles { SettlesEnd ended seats.items }
-    ensures { FinalAnswers result script.now.sections heap.shape }
+    requires traced { EndTraced ended script.now.sections heap.shape _tracers _season seats.items }
+    ensures answers { FinalAnswers result script.now.sections heap.shape.cells }
+    ensures ends { FinalEnds result script.now.sections heap.shape _tracers }
 {
     match ended {
         Ended::Done => match close_played(alloc, script, heap, seats, parts) {
@@ -153,6 +158,7 @@ fn prepare<'a>(
     ensures shape { IfOk result (λ r. r.0.shape ≡ shape_for options.now script.now.sections) }
     ensures crew { IfOk result (λ r. IsCrew r.0 script.now.sections options.now.workers 0 0 r.1) }
     ensures parts { IfOk result (λ r. r.2.items ≡ []) }
+    ensures tracers { IfOk result (λ r. (vec_len r.1.tracers ≡ options.now.tracers) × Numbered (IsNew r.0 script.now.sections) (1 + length script.now.sections.warehouses) r.1.tracers.items) }
 {
     let (heap, seats) = match make_heap(alloc, script, options) {
         Ok(made) => made,
@@ -177,7 +183,8 @@ pub fn play_final<'a, R: Threads + Wait + Sync, G: Gate + Sync>(
     gate: &G,
 ) -> Result<(Report<'a>, Words), PlayError>
     requires { AreInRange options.now }
-    ensures { FinalAnswers result script.now.sections (shape_for options.now script.now.sections) }
+    ensures answers { FinalAnswers result script.now.sections options.now.cells }
+    ensures ends { FinalEnds result script.now.sections (shape_for options.now script.now.sections) options.now.tracers }
 {
     see_script(script);
     let (heap, mut crew, parts) = match prepare(alloc, script, options) {
@@ -198,7 +205,16 @@ pub fn play_final<'a, R: Threads + Wait + Sync, G: Gate + Sync>(
         Ok(left) => left,
         Err(_) => return Err(PlayError::OutOfMemory),
     };
-    close(alloc, script, heap, seats, parts, ended, season)
+    close(
+        alloc,
+        script,
+        heap,
+        seats,
+        parts,
+        ended,
+        season,
+        options.tracers,
+    )
 }
 
 /// Plays a script over a heap of `options.cells` cells, on `options.workers` threads with `options.tracers` beside them: each
@@ -215,7 +231,8 @@ pub fn play<'a, R: Threads + Wait + Sync, G: Gate + Sync>(
     gate: &G,
 ) -> Result<Report<'a>, PlayError>
     requires { AreInRange options.now }
-    ensures { PlayAnswers result script.now.sections options.now.cells }
+    ensures answers { PlayAnswers result script.now.sections options.now.cells }
+    ensures ends { EndsIn result script.now.sections (shape_for options.now script.now.sections) options.now.tracers }
 {
     match play_final(rt, alloc, script, options, gate) {
         Ok((report, _)) => Ok(report),

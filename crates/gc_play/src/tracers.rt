@@ -9,7 +9,7 @@ ghost use Rattle.mark_core.specs.declared.kinds.Step.TheVariants.{ReadStat};
 ghost use Rattle.gc_table.specs.Log.{events};
 ghost use Rattle.gc_play.specs.Stays.{IsKept, Stays};
 ghost use Rattle.gc_play.specs.Traced.{AllTracedUntil, TracedUntil};
-ghost use Rattle.gc_play.specs.Turns.{HasTraced, IsOne, IsOneTurn, IsQuiet, IsRound, TracesInside, entry};
+ghost use Rattle.gc_play.specs.Turns.{HasTraced, IsOne, IsOneTurn, IsRound, TracesInside, Waits, entry};
 
 use crate::entering::{enter, leave, see_phase};
 use crate::marking::trace_inside;
@@ -19,6 +19,7 @@ use mark_core::{DONE, Phase};
 use std::sync::Wait;
 use std::thread;
 use std::thread::{Threads, yield_now};
+use std::time::Duration;
 use warehouse::Gate;
 
 /// Waits until no stop is under way, and helps until then.
@@ -26,7 +27,7 @@ fn await_resumed<R: Wait>(rt: &R, heap: &Heap, seat: &mut HeapSeat)
     requires { Rests heap.now seat.old }
     ensures seat { Rests heap.now seat.new }
     ensures stays { Stays (view_of seat.old) (view_of seat.new) }
-    ensures quiet { IsQuiet (events (view_of seat.old) (view_of seat.new)) }
+    ensures waits { Waits (events (view_of seat.old) (view_of seat.new)) }
 {
     await_resumed_helping(rt, heap, seat);
 }
@@ -47,7 +48,7 @@ fn trace_if(heap: &Heap, seat: &mut HeapSeat, phase: Phase)
     requires seen { (view_of seat.old).state.phase_seen ≡ Some phase }
     ensures seat { Goes heap.now seat.new }
     ensures stays { Stays (view_of seat.old) (view_of seat.new) }
-    ensures marking { phase ≡ Marking → TracesInside heap.now.shape (events (view_of seat.old) (view_of seat.new)) }
+    ensures marking { phase ≡ Marking → TracesInside heap.now.shape (view_of seat.old).state (events (view_of seat.old) (view_of seat.new)) }
     ensures other { (phase ≡ Marking → ⊥) → events (view_of seat.old) (view_of seat.new) ≡ [] }
 {
     if let Phase::Marking = phase {
@@ -61,7 +62,7 @@ fn go_round<G: Gate>(heap: &Heap, seat: &mut HeapSeat, gate: &G) -> bool
     requires section { (view_of seat.old).state.section ≡ None }
     ensures seat { Rests heap.now seat.new }
     ensures stays { Stays (view_of seat.old) (view_of seat.new) }
-    ensures round { IsRound heap.now.shape result (events (view_of seat.old) (view_of seat.new)) }
+    ensures round { IsRound heap.now.shape result (view_of seat.old).state (events (view_of seat.old) (view_of seat.new)) }
 {
     let phase = see_phase(heap, seat);
     gate.turn(seat);
@@ -81,7 +82,7 @@ fn take_turn<R: Threads + Wait + Sync, G: Gate>(
     requires { IsAnyTracer heap.now seat.old }
     ensures seat { Rests heap.now seat.new }
     ensures stays { Stays (view_of seat.old) (view_of seat.new) }
-    ensures turn { IsOneTurn heap.now.shape until result (events (view_of seat.old) (view_of seat.new)) }
+    ensures turn { IsOneTurn heap.now.shape until result (view_of seat.old).state (events (view_of seat.old) (view_of seat.new)) }
 {
     if see_done(heap, seat) >= u64::from(until) {
         return true;
@@ -96,11 +97,15 @@ fn take_turn<R: Threads + Wait + Sync, G: Gate>(
 /// How often a tracer yields between two turns. A turn changes the word of the world, which each mutator reads at each command.
 const YIELDS: u32 = 64;
 
-/// Lets others run.
-fn rest() {
+/// How long a tracer sleeps at most where no cycle marks, in microseconds. It is woken where one begins, and where a part was played.
+const SLEEP: u64 = 2_000;
+
+/// Lets others run, and sleeps while no cycle marks.
+fn rest<R: Wait>(rt: &R, heap: &Heap) {
     for _ in 0..YIELDS {
         yield_now();
     }
+    heap.rest(rt, Duration::from_micros(SLEEP));
 }
 
 /// Traces beside the mutators, turn by turn, until so many parts were played or the heap is full.
@@ -113,13 +118,13 @@ pub fn run_tracer<R: Threads + Wait + Sync, G: Gate>(
 )
     requires { IsAnyTracer heap.now seat.old }
     ensures kept { IsKept heap.now seat.old seat.new }
-    ensures turns { HasTraced heap.now.shape until (events (view_of seat.old) (view_of seat.new)) }
+    ensures turns { HasTraced heap.now.shape until (view_of seat.old).state (events (view_of seat.old) (view_of seat.new)) }
 {
     for _ in rt.forever() {
         if take_turn(rt, heap, seat, until, gate) {
             return;
         }
-        rest();
+        rest(rt, heap);
     }
     unreachable!()
 }

@@ -19,6 +19,7 @@ use Rattle.mark_core.specs.Steps.{Core, after_of, after_event}
 use Rattle.mark_core.specs.Laws.{IsCore}
 use Rattle.mark_core.proofs.Notes.NotesBeside.{sits, of-sits}
 use Rattle.mark_core.proofs.World.WorldReading.{at-standing}
+use Rattle.mark_core.specs.declared.kinds.Event.{Event}
 use Rattle.mark_core.specs.declared.kinds.Shape.{Shape}
 use Rattle.mark_core.specs.declared.kinds.Step.TheVariants.{Join}
 use Rattle.mark_core.specs.declared.seat.SeatState.{SeatState}
@@ -33,8 +34,11 @@ use Rattle.gc_table.specs.Rule.{records_from, table_state, IsState, HasJoined, A
 use Rattle.gc_table.proofs.Asking.{own-number}
 use Rattle.gc_table.proofs.Joining.{both-noted}
 use Rattle.gc_table.proofs.Opening.{none-in, record-at, still-sections, zero-plus}
-use Rattle.gc_table.proofs.Records.{record-live, records-set, found-here, found-else}
-use Rattle.gc_table.proofs.StateSteps.{Goes, event, sections-left}
+use Rattle.gc_table.specs.Past.{IsLogOf, IsLogged, log_of}
+use Rattle.gc_table.specs.declared.view.Entry.{Entry}
+use Rattle.gc_table.proofs.Past.{led-on, log-still}
+use Rattle.gc_table.proofs.Records.{record-live, records-length, records-set, found-here, found-else}
+use Rattle.gc_table.proofs.StateSteps.{Goes, event, may-happen, sections-left}
 use Rattle.gc_table.proofs.StateKept.{whole-kept}
 
 unset : (b : Bool) → not b ≡ true → b ≡ false
@@ -106,6 +110,24 @@ joins sh plan id v other w live bare live' bare' second s o me apart there' =
     let left : TableState = table_state sh plan o.sections (record { words = s.words; homes = s.homes; views = vs }) in
     let joined : (u : View) → HasJoined x u → HasJoined left u = λ u h k y i. let q = h k y i in (q.0, gone k q.1) in
     let core : after_event c (event id (Join other)) ≡ record { shape = sh; words = s.words; seats = records_from sh 0 vs } = after ∙ (λ y. record { shape = sh; words = words y; seats = sym seats y }) in
+    let past : List Event = o.past ++ event id (Join other) ∷ [] in
+    let silent : (k : ℕ) → log_of sh past k ≡ log_of sh o.past k = λ k. log-still sh o.past c (event id (Join other)) k o.led refl in
+    let still : (k : ℕ) (l : List Entry) → IsLogOf sh o.past c k l → IsLogOf sh past left.core k l = λ k l q. (q.0 ∙ sym (silent k), gone k q.1) in
+    let mine : IsLogged sh o.past c id v = o.logged id v me live in
+    let theirs : IsLogged sh o.past c other w = o.logged other w there live' in
+    let ended : slice_get left.core.seats other ≡ Some (spent_seat sh other) = ap (λ xs. slice_get xs other) seats ∙ found-here (set c.seats id v.state) other w.state (spent_seat sh other) (found-else c.seats id other v.state apart ∙ b.seat) in
+    let number' : w.state.number ≡ other = (o.whole.core.formed.seats other w.state b.seat).number in
+    let both_logs : (k : ℕ) (l : List Entry) → Contains both.logs (k, l) → IsLogOf sh past left.core k l = λ k l i.
+    ⊎_elim
+    (λ (i : Contains v.logs (k, l)). still k l (mine.logs k l i))
+    (λ (i : Contains ((w.state.number, w.log) ∷ w.logs) (k, l)).
+    ⊎_elim
+    (λ (i : Contains ((w.state.number, w.log) ∷ []) (k, l)).
+    let e : (w.state.number, w.log) ≡ (k, l) = one_in (w.state.number, w.log) (k, l) i in
+    subst (λ (z : ℕ × List Entry). IsLogOf sh past left.core z.0 z.1) ((λ y. (sym number' y, w.log)) ∙ e) (theirs.log ∙ sym (silent other), ended))
+    (λ (i : Contains w.logs (k, l)). still k l (theirs.logs k l i))
+    (Contains-append_cases ((w.state.number, w.log) ∷ []) w.logs (k, l) i))
+    (Contains-append_cases v.logs ((w.state.number, w.log) ∷ w.logs) (k, l) i) in
     record {
       sections = o.sections;
       whole = subst IsState (λ y. record { core = core y; plan = plan; sections = sections y }) (whole-kept x id v.state (Join other) g);
@@ -132,6 +154,17 @@ joins sh plan id v other w live bare live' bare' second s o me apart there' =
           (λ (q : (j ≢ id) × (get_elem? s.views j ≡ some u)). let z = o.each j u q.1 l in record { shape = z.shape; seat = seat; noted = z.noted; floored = z.floored; fetched = z.fetched; stopped = z.stopped; plan = z.plan; own = z.own; joined = joined u z.joined })
           (at_set s.views id j both u p.1))
           (at_set (set s.views id both) other j nobody u h);
+      past = past;
+      led = led-on sh o.past c left.core (event id (Join other)) o.led tt (may-happen x id v.state (Join other) g) core;
+      logged = λ j u h l.
+          ⊎_elim
+          (λ (p : (j ≡ other) × (nobody ≡ u)). absurd (true≢false (ap (λ (y : View). y.state.spent) p.1 ∙ l)))
+          (λ (p : (j ≢ other) × (get_elem? (set s.views id both) j ≡ some u)).
+          ⊎_elim
+          (λ (q : (j ≡ id) × (both ≡ u)). subst (λ (z : ℕ × View). IsLogged sh past left.core z.0 z.1) (λ y. (sym q.0 y, q.1 y)) (record { log = mine.log ∙ sym (silent id); logs = both_logs }))
+          (λ (q : (j ≢ id) × (get_elem? s.views j ≡ some u)). let b = o.logged j u q.1 l in record { log = b.log ∙ sym (silent j); logs = λ k m i. still k m (b.logs k m i) })
+          (at_set s.views id j both u p.1))
+          (at_set (set s.views id both) other j nobody u h);
       opened = λ u h.
           let long : length vs ≡ length s.views = length-set (set s.views id both) other nobody ∙ length-set s.views id both in
           ⊎_elim
@@ -146,4 +179,20 @@ joins sh plan id v other w live bare live' bare' second s o me apart there' =
 
 -- the words in the end, and what the last seat's view says of all sections
 pub closes : (sh : Shape) (plan : List (List Op)) (id : ℕ) (v : View) (ws : List ℕ) (xs : List (Unit {0})) → IsFalse v.state.spent → Final (Seen (Holds sh plan) id v) ws xs → IsFinal v ws
-closes sh plan id v ws xs live f = record { state = table_state sh plan f.1.0.sections f.0; whole = f.1.0.whole; words = f.2; index = id; agrees = f.1.0.each id v f.1.1 live }
+closes sh plan id v ws xs live f =
+    let s = f.0 in
+    let o = f.1.0 in
+    let agrees = o.each id v f.1.1 live in
+    record {
+      state = table_state sh plan o.sections s;
+      whole = o.whole;
+      words = f.2;
+      index = id;
+      agrees = agrees;
+      past = o.past;
+      led = o.led;
+      logged = o.logged id v f.1.1 live;
+      opened = λ zero_is.
+          let first : id ≡ 0 = sym ((o.whole.core.formed.seats id v.state agrees.seat).number) ∙ zero_is in
+          o.opened v (ap (get_elem? s.views) (sym first) ∙ f.1.1) ∙ sym (records-length sh 0 s.views);
+    }

@@ -7,7 +7,10 @@ use Rattle.mark_core.specs.Layout.{region_sizes, total_words}
 use Rattle.mark_core.specs.Start.{spent_seat}
 use Rattle.mark_core.specs.declared.kinds.Shape.{Shape}
 use Rattle.mark_core.specs.declared.seat.SeatState.{SeatState}
-use Rattle.gc_table.specs.Rule.{IsPossible, IsFinal, HasSection, KnowsFull}
+use Rattle.gc_table.specs.Rule.{IsPossible, IsFinal, HasLog, HasSection, KnowsFull}
+use Rattle.gc_table.specs.Past.{LeadTo, log_of}
+use Rattle.gc_table.specs.declared.view.Entry.{Entry}
+use Rattle.gc_table.proofs.Past.{log-none}
 use Rattle.std.proofs.lemmas.List.{get_or-take}
 use Rattle.mark_core.specs.Notes.{word_at}
 use Rattle.mark_core.specs.Places.{the_phase}
@@ -39,10 +42,13 @@ AreGiven sh seats = (i : ℕ) (s : HeapSeat) → slice_get seats i ≡ Some s �
 
 -- the view is the first seat's, with all sections
 abbrev pub IsFirst : List HeapSeat → View → Type 0
-IsFirst seats v = (s : HeapSeat) → slice_get seats 0 ≡ Some s → (v.state ≡ (view_of s).state) × (v.plan ≡ (view_of s).plan)
+IsFirst seats v = (s : HeapSeat) → slice_get seats 0 ≡ Some s → (v.state ≡ (view_of s).state) × (v.plan ≡ (view_of s).plan) × (v.opened ≡ (view_of s).opened)
 
 abbrev pub HasAll : List HeapSeat → View → Type 0
 HasAll seats v = (i : ℕ) (s : HeapSeat) (k : ℕ) → slice_get seats i ≡ Some s → (view_of s).state.section ≡ Some k → HasSection v k (view_of s).own
+
+abbrev pub HasLogs : List HeapSeat → View → Type 0
+HasLogs seats v = (i : ℕ) (s : HeapSeat) → slice_get seats i ≡ Some s → HasLog v i (view_of s).log
 
 abbrev pub TellsFull : List HeapSeat → View → Type 0
 TellsFull seats v = (i : ℕ) (s : HeapSeat) → slice_get seats i ≡ Some s → KnowsFull (view_of s) → KnowsFull v
@@ -69,6 +75,16 @@ section_left v ws f k x h =
     (λ (i : Contains v.joined (k, x)). (f.agrees.joined k x i).0)
     h
 
+-- a log is its seat's part of what has happened
+log_left : (v : View) (ws : List ℕ) (f : IsFinal v ws) (i : ℕ) (l : List Entry) → HasLog v i l → l ≡ log_of f.state.core.shape f.past i
+log_left v ws f i l h =
+    ⊎_elim
+    (λ (o : (v.state.number ≡ i) × (v.log ≡ l)).
+    let at : f.index ≡ i = sym ((f.whole.core.formed.seats f.index v.state f.agrees.seat).number) ∙ o.0 in
+    sym o.1 ∙ (f.logged.log ∙ ap (log_of f.state.core.shape f.past) at))
+    (λ (h : Contains v.logs (i, l)). (f.logged.logs i l h).0)
+    h
+
 -- a record with a section is spent, or that of the last seat
 at_rest : (seats : List HeapSeat) (v : View) (ws : List ℕ) (f : IsFinal v ws) (k : ℕ) (x : SectionState) (r : SeatState) → ((s : HeapSeat) × (slice_get seats 0 ≡ Some s) × (v.state ≡ (view_of s).state) × IsOutside (view_of s)) → slice_get f.state.core.seats k ≡ Some r → HasSection v k x
     → IsResting seats r
@@ -82,8 +98,8 @@ at_rest seats v ws f k x r z got h =
     (λ (i : Contains v.joined (k, x)). inl (ap (λ (t : SeatState). t.spent) (same-got c.seats k r (spent_seat c.shape k) got (f.agrees.joined k x i).1)))
     h
 
-pub ends : (sh : Shape) (seats : List HeapSeat) (v : View) (ws : List ℕ) (w : Words) → 0 < length seats → AreGiven sh seats → v.shape ≡ sh → IsFirst seats v → HasAll seats v → TellsFull seats v → IsFinal v ws → AreWords sh ws w → IsEnd sh seats w
-ends sh seats v ws w some given shaped first all tells f words =
+pub ends : (sh : Shape) (seats : List HeapSeat) (v : View) (ws : List ℕ) (w : Words) → 0 < length seats → AreGiven sh seats → v.shape ≡ sh → IsFirst seats v → HasAll seats v → HasLogs seats v → TellsFull seats v → IsFinal v ws → AreWords sh ws w → IsEnd sh seats w
+ends sh seats v ws w some given shaped first all logs tells f words =
     let c = f.state.core in
     let same : c.shape ≡ sh = final-shape sh v ws f shaped in
     record {
@@ -94,6 +110,12 @@ ends sh seats v ws w some given shaped first all tells f words =
       words = subst (λ (xs : List ℕ). AreWords sh xs w) (sym f.words) words;
       full = λ i s h k. found_full sh v ws w f same (subst (λ (xs : List ℕ). AreWords sh xs w) (sym f.words) words) (tells i s h k);
       sections = λ i s k h e. section_left v ws f k (view_of s).own (all i s k h e);
+      past = f.past;
+      led = subst (λ (x : Shape). LeadTo x f.past c) same f.led;
+      logs = λ i s h. log_left v ws f i (view_of s).log (logs i s h) ∙ ap (λ (x : Shape). log_of x f.past i) same;
+      theirs = λ s h count i far.
+          let number : v.state.number ≡ 0 = ap (λ (r : SeatState). r.number) (first s h).0 ∙ (given 0 s h).1 in
+          log-none sh f.past c i (subst (λ (x : Shape). LeadTo x f.past c) same f.led) (omega (arith, far, sym (f.opened number), (first s h).2, count));
       resting = λ j r k l got e.
           let seat = some-at seats j l in
           let s : HeapSeat = seat.0 in

@@ -7,8 +7,8 @@ use Rattle.std.proofs.Props.{props}
 use Rattle.mark_core.specs.Layout.{words_of, address, region_sizes, total_words}
 use Rattle.mark_core.specs.Effects.{place, written, seat_after}
 use Rattle.mark_core.specs.Steps.{Core}
-use Rattle.mark_core.specs.Room.{HasRoom}
-use Rattle.mark_core.proofs.Doing.{has-room}
+use Rattle.mark_core.specs.Room.{HasNumber, HasRoom}
+use Rattle.mark_core.proofs.Doing.{has-number, has-room}
 use Rattle.mark_core.proofs.Blocks.BlocksTaken.{in-place}
 use Rattle.mark_core.proofs.Ranges.{IsPlace}
 use Rattle.mark_core.proofs.Regions.{address-lt-total}
@@ -34,7 +34,12 @@ takes_within v step p may =
 takes_room : (v : View) (step : Step) → IsPossible v → May step v → HasRoom v.state step
 takes_room v step p may =
     let c : Core = p.state.core in
-    has-room c.shape (words_of c.shape c.words) c.seats v.state step p.whole.core.formed.shaped (p.whole.core.formed.seats p.index v.state p.agrees.seat).made (may p.state p.index p.whole p.agrees)
+    has-room c.shape (words_of c.shape c.words) c.seats v.state step p.whole.core.formed.shaped (may p.state p.index p.whole p.agrees)
+
+takes_number : (v : View) (step : Step) → IsPossible v → May step v → HasNumber v.shape v.state step
+takes_number v step p may =
+    let c : Core = p.state.core in
+    subst (λ (sh : Shape). HasNumber sh v.state step) (sym p.agrees.shape) (has-number c.shape (words_of c.shape c.words) c.seats v.state step p.whole.core.formed.shaped (may p.state p.index p.whole p.agrees))
 
 room-prop : (s : SeatState) (step : Step) → IsProp (HasRoom s step)
 room-prop s (Push p c) = Prim.hlevel props
@@ -42,6 +47,10 @@ room-prop s (ReadField c i) = Prim.hlevel props
 room-prop s (StoreRoot v r) = Prim.hlevel props
 room-prop s (StoreNew c part word) = Prim.hlevel props
 room-prop s step = Prim.hlevel props
+
+number-prop : (sh : Shape) (s : SeatState) (step : Step) → IsProp (HasNumber sh s step)
+number-prop sh s (StoreNew c part word) = Prim.hlevel props
+number-prop sh s step = Prim.hlevel props
 
 pub possible-live : (v : View) → ∥ IsPossible v ∥₁ → IsFalse v.state.spent
 possible-live v h = ∥∥₁_elim h (Bool-set _ _) (λ p. p.live)
@@ -68,6 +77,10 @@ may-take h s step word is sits may own asked =
 
 pub step-room : (s : SeatState) (v : View) (step : Step) → s ≡ v.state → ∥ IsPossible v ∥₁ → May step v → HasRoom s step
 step-room s v step same h may = subst (λ (x : SeatState). HasRoom x step) (sym same) (takes-room v step h may)
+
+pub step-number : (sh : Shape) (s : SeatState) (v : View) (step : Step) → s ≡ v.state → v.shape ≡ sh → ∥ IsPossible v ∥₁ → May step v → HasNumber sh s step
+step-number sh s v step same shaped h may =
+    subst (λ (x : Shape). HasNumber x s step) shaped (subst (λ (x : SeatState). HasNumber v.shape x step) (sym same) (∥∥₁_elim h (number-prop v.shape v.state step) (λ p. takes_number v step p may)))
 
 -- a store's record and word, by what the step makes of the word 0
 pub stored-word : (sh : Shape) (s : SeatState) (v : View) (step : Step) (new n : ℕ) → new ≡ written sh s step 0 → s ≡ v.state → v.shape ≡ sh → IsBlind step v → written v.shape v.state step n ≡ new

@@ -1,28 +1,19 @@
--- A seat that takes in another has its section, and keeps those that it had; and its view is possible, as it learns where it reads a word, whatever it finds.
-use Rattle.std.proofs.Common.{ℕ, zero, suc, ◌≡◌, ◌<◌, ◌+◌, ◌++◌, ◌∷◌, [], ◌⊎◌, inl, inr, ⊎_elim, List, length, Option, Some, None, arith, refl, sym, ap, subst, ◌∙◌, Bool, true, false, ◌&&◌, ◌||◌, cond, eqb}
-use Rattle.std.specs.Prelude.{slice_index, slice_get, IsFalse, Contains}
+-- A seat that takes in another has its section and its log, and keeps those that it had.
+use Rattle.std.proofs.Common.{ℕ, zero, suc, ◌≡◌, ◌<◌, ◌+◌, ◌++◌, ◌∷◌, [], ◌⊎◌, inl, inr, ⊎_elim, List, length, Option, Some, None, arith, refl, ap, subst, ◌∙◌, Bool, true, false, ◌&&◌, ◌||◌, cond, eqb}
+use Rattle.std.specs.Prelude.{slice_get, Contains}
 use Rattle.std.proofs.lemmas.List.Elements.{Contains-append_left, Contains-append_right}
+use Rattle.gc_table.specs.declared.view.Entry.{Entry}
 use Rattle.gc_table.specs.declared.view.SectionState.{SectionState}
-use Rattle.std.proofs.lemmas.List.{set-get_or}
 use Rattle.std.proofs.lemmas.Bool.{eqb-true}
 use Rattle.std.proofs.lemmas.Option.{same_Some}
-use Rattle.atomic_table.specs.Table.{Me, stepped, keeps, Allows}
-use Rattle.atomic_table.proofs.Lists.{set_again}
-use Rattle.plain_heap.specs.declared.operation.Op.{Op}
-use Rattle.mark_core.specs.declared.kinds.Shape.{Shape}
 use Rattle.gc_table.specs.declared.view.View.{View}
 use Rattle.mark_core.specs.Notes.{same_place, word_at, steady}
 use Rattle.mark_core.specs.Places.{the_phase}
 use Rattle.mark_core.specs.Steps.{Core}
 use Rattle.mark_core.specs.declared.seat.SeatState.{SeatState}
 use Rattle.gc_table.specs.Notes.{Notes, look}
-use Rattle.gc_table.specs.Rule.{table_state, own_entry, takes_in, told_full, KnowsFull, Noted, Holds, IsPossible}
+use Rattle.gc_table.specs.Rule.{own_entry, takes_in, told_full, KnowsFull, Noted}
 use Rattle.gc_table.proofs.Noting.{place-same}
-
-pub looks : (sh : Shape) (plan : List (List Op)) (slots id : ℕ) (m : Me (Unit {0}) View) (i : ℕ) → IsFalse m.0.state.spent → Allows (Holds sh plan) slots id m i (λ n. n) (λ found n. (n ≡ m) × IsPossible n.0)
-looks sh plan slots id m i live s o sized me fits =
-    let same : stepped s i (slice_index s.words i) id m.1 m.0 keeps ≡ s = λ y. record { words = set-get_or s.words i 0 y; homes = s.homes; views = set_again s.views id m.0 me y } in
-    (m.0, keeps, tt, subst (Holds sh plan) (sym same) o, (refl, record { state = table_state sh plan o.sections s; index = id; whole = o.whole; agrees = o.each id m.0 me live; live = live }))
 
 own_in : (o : Option ℕ) (x : SectionState) (k : ℕ) → o ≡ Some k → Contains (own_entry o x) (k, x)
 own_in None x k e = absurd (cc)
@@ -34,6 +25,13 @@ takes-own v w k e = Contains-append_right v.joined (own_entry w.state.section w.
 
 pub takes-more : (v w : View) (p : ℕ × SectionState) → Contains v.joined p → Contains (takes_in v w).joined p
 takes-more v w p h = Contains-append_left v.joined (own_entry w.state.section w.own ++ w.joined) p h
+
+-- the log of the seat that is taken in, and those that were there before
+pub takes-log : (v w : View) → Contains (takes_in v w).logs (w.state.number, w.log)
+takes-log v w = Contains-append_right v.logs ((w.state.number, w.log) ∷ w.logs) (w.state.number, w.log) (0, omega arith, refl)
+
+pub keeps-logs : (v w : View) (p : ℕ × List Entry) → Contains v.logs p → Contains (takes_in v w).logs p
+keeps-logs v w p h = Contains-append_left v.logs ((w.state.number, w.log) ∷ w.logs) p h
 
 -- that the heap is full may always be noted
 full_stays : (a k d t : Bool) → (a || (k || d || (t && false) || true)) ≡ true

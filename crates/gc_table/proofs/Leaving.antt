@@ -58,7 +58,7 @@ pub spent-stays : (sh : Shape) (s : SeatState) (step : Step) (n : ℕ) → (seat
 spent-stays sh s Reserve n = refl
 spent-stays sh s step n = refl
 
-own-fits : (step : Step) → IsOwn step → NumbersFit step
+pub own-fits : (step : Step) → IsOwn step → NumbersFit step
 own-fits Split h = absurd h
 own-fits (Join other) h = absurd h
 own-fits step h = h

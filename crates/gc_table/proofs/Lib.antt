@@ -11,6 +11,8 @@ pub mod Fetching
 pub mod Unmoved
 pub mod Noting
 pub mod Opening
+pub mod Past
+pub mod Ran
 pub mod Records
 pub mod Trying
 pub mod StandsAgree
@@ -58,6 +60,9 @@ pub mod StateStands
 pub mod StatePlain
 pub mod StateReads
 mod Rows
+pub mod PastRows
+pub mod OneSeat
+mod OneSeatRows
 pub mod Log
 pub mod Running
 pub mod Noticing

@@ -13,8 +13,9 @@ use Rattle.mark_core.specs.Layout.{address}
 use Rattle.mark_core.specs.Shapes.{IsShape}
 use Rattle.mark_core.specs.Places.{the_world}
 use Rattle.mark_core.specs.Start.{start_seat, start_words}
-use Rattle.mark_core.specs.Steps.{Core, AllTrue, after_of, after_event}
+use Rattle.mark_core.specs.Steps.{Core, AllTrue, after_of, after_event, start_core}
 use Rattle.mark_core.specs.WorldSteps.{split_parts}
+use Rattle.mark_core.specs.declared.kinds.Event.{Event}
 use Rattle.mark_core.specs.declared.kinds.Shape.{Shape}
 use Rattle.mark_core.specs.declared.kinds.Step.TheVariants.{Split}
 use Rattle.mark_core.specs.declared.seat.SeatState.{SeatState}
@@ -32,7 +33,9 @@ use Rattle.gc_table.specs.TableState.{TableState, no_section, section_at, with_s
 use Rattle.gc_table.specs.Rule.{record_of, records_from, table_state, IsState, HasJoined, Agrees, Holds, IsPossible, newcomer, opens, opened_by}
 use Rattle.gc_table.proofs.Allowed.{St}
 use Rattle.gc_table.proofs.Records.{record-live, records-get, records-set, records-snoc, records-length, got-longer}
-use Rattle.gc_table.proofs.StateSteps.{Goes, event, sections-left}
+use Rattle.gc_table.specs.Past.{log_of, IsLogged}
+use Rattle.gc_table.proofs.Past.{led-on, log-none, log-still}
+use Rattle.gc_table.proofs.StateSteps.{Goes, event, may-happen, sections-left}
 use Rattle.gc_table.proofs.StateKept.{whole-kept}
 use Rattle.gc_table.proofs.StateStart.{whole-starts}
 
@@ -123,6 +126,13 @@ starts sh plan ws z is =
           (λ (e : (i ≡ 0) × (newcomer sh plan 0 ≡ v)). subst (λ (x : ℕ × View). Agrees (start_state sh plan 1) x.0 x.1) (λ y. (sym e.0 y, e.1 y)) first.agrees)
           (at-end [] (newcomer sh plan 0) v i h);
       opened = λ v h. ap (λ (u : View). u.opened) (sym (some-injective (newcomer sh plan 0) v h));
+      past = [];
+      led = record { allowed = refl; fit = λ k e there. absurd (omega (arith, there)); leads = refl };
+      logged = λ i v h l.
+          ⊎_elim
+          (λ (e : get_elem? [] i ≡ some v). absurd (some-ne-none v (sym e)))
+          (λ (e : (i ≡ 0) × (newcomer sh plan 0 ≡ v)). subst (λ (u : View). IsLogged sh [] (start_core sh 1) i u) e.1 (record { log = refl; logs = λ k m there. absurd (none-in (k, m) there) }))
+          (at-end [] (newcomer sh plan 0) v i h);
     })
 
 -- a step that leaves each section
@@ -130,24 +140,32 @@ pub still-sections : (o : Option ℕ) (xs : List SectionState) → with_section 
 still-sections None xs = refl
 still-sections (Some w) xs = set-get_or xs w no_section
 
--- the state after a split
-split_left : (sh : Shape) (plan : List (List Op)) (s : St) (v : View) (o : Holds sh plan s) → get_elem? s.views 0 ≡ some v → v.state ≡ start_seat sh 0 → length s.views < 41
-    → IsState (record { core = record { shape = sh; words = s.words; seats = set (records_from sh 0 s.views) 0 v.state ++ start_seat sh (length s.views) ∷ [] }; plan = plan; sections = o.sections })
-split_left sh plan s v o me first few =
-    let x : TableState = table_state sh plan o.sections s in
-    let c : Core = x.core in
-    let live : IsFalse v.state.spent = ap (λ (t : SeatState). t.spent) first in
-    let got : slice_get c.seats 0 ≡ Some v.state = record-at sh s.views 0 v me live in
-    let room : nat_lt (length c.seats) 41 ≡ true = lt-ltb (length c.seats) 41 (omega (arith, records-length sh 0 s.views, few)) in
-    let ok : AllTrue (split_parts sh c.seats v.state) = subst (λ (t : SeatState). AllTrue (split_parts sh c.seats t)) (sym first) (room, tt) in
-    let g : Goes x 0 v.state Split = record { whole = o.whole; got = got; live = live; ok = ok; fits = tt; asks = tt } in
-    let after : after_event c (event 0 Split) ≡ after_of c 0 (Some v.state) Split = ap (λ p. after_of c 0 p Split) got in
-    let sections : (state_after x (event 0 Split)).sections ≡ o.sections = sections-left x 0 v.state Split g ∙ still-sections v.state.section o.sections in
-    let words : set s.words (address sh the_world) (slice_index s.words (address sh the_world)) ≡ s.words = set-get_or s.words (address sh the_world) 0 in
-    let long : length (set c.seats 0 v.state) ≡ length s.views = length-set c.seats 0 v.state ∙ records-length sh 0 s.views in
-    let core : after_event c (event 0 Split) ≡ record { shape = sh; words = s.words; seats = set c.seats 0 v.state ++ start_seat sh (length s.views) ∷ [] } =
-    after ∙ (λ y. record { shape = sh; words = words y; seats = set c.seats 0 v.state ++ start_seat sh (long y) ∷ [] }) in
-    subst IsState (λ y. record { core = core y; plan = plan; sections = sections y }) (whole-kept x 0 v.state Split g)
+-- the state that a split leaves
+abbrev split_core : Shape → St → View → Core
+split_core sh s v = record { shape = sh; words = s.words; seats = set (records_from sh 0 s.views) 0 v.state ++ start_seat sh (length s.views) ∷ [] }
+
+module _ (sh : Shape) (plan : List (List Op)) (s : St) (v : View) (o : Holds sh plan s) (me : get_elem? s.views 0 ≡ some v) (first : v.state ≡ start_seat sh 0) (few : length s.views < 41) where
+  abbrev x : TableState
+  x = table_state sh plan o.sections s
+
+  split_got : slice_get x.core.seats 0 ≡ Some v.state
+  split_got = record-at sh s.views 0 v me (ap (λ (t : SeatState). t.spent) first)
+
+  split_goes : Goes x 0 v.state Split
+  split_goes =
+      let room : nat_lt (length x.core.seats) 41 ≡ true = lt-ltb (length x.core.seats) 41 (omega (arith, records-length sh 0 s.views, few)) in
+      record { whole = o.whole; got = split_got; live = ap (λ (t : SeatState). t.spent) first; ok = subst (λ (t : SeatState). AllTrue (split_parts sh x.core.seats t)) (sym first) (room, tt); fits = tt; asks = tt }
+
+  split_leaves : after_event x.core (event 0 Split) ≡ split_core sh s v
+  split_leaves =
+      let words : set s.words (address sh the_world) (slice_index s.words (address sh the_world)) ≡ s.words = set-get_or s.words (address sh the_world) 0 in
+      let long : length (set x.core.seats 0 v.state) ≡ length s.views = length-set x.core.seats 0 v.state ∙ records-length sh 0 s.views in
+      ap (λ p. after_of x.core 0 p Split) split_got ∙ (λ y. record { shape = sh; words = words y; seats = set x.core.seats 0 v.state ++ start_seat sh (long y) ∷ [] })
+
+  split_left : IsState (record { core = split_core sh s v; plan = plan; sections = o.sections })
+  split_left =
+      let sections : (state_after x (event 0 Split)).sections ≡ o.sections = sections-left x 0 v.state Split split_goes ∙ still-sections v.state.section o.sections in
+      subst IsState (λ y. record { core = split_leaves y; plan = plan; sections = sections y }) (whole-kept x 0 v.state Split split_goes)
 
 -- the records after a split are those before it and one more
 longer : (xs : List SeatState) (s t u : SeatState) (w : ℕ) → slice_get xs 0 ≡ Some s → slice_get xs w ≡ Some u → slice_get (set xs 0 s ++ t ∷ []) w ≡ Some u
@@ -159,7 +177,7 @@ longer xs s t u w first h = got-longer (set xs 0 s) t u w (ap (λ l. slice_get l
 
 -- the first seat may make another, while it has nothing but its number
 pub splits : (sh : Shape) (plan : List (List Op)) (id : ℕ) (v : View) → v.shape ≡ sh → v.plan ≡ plan → v.state ≡ start_seat sh 0 → v.opened < 41 → Splits (Holds sh plan) id v (opens v) (opened_by v)
-splits sh plan id v shaped planned first few s o me =
+splits sh plan id v shaped planned first opened s o me =
     let x : TableState = table_state sh plan o.sections s in
     let live : IsFalse v.state.spent = ap (λ (t : SeatState). t.spent) first in
     let a : Agrees x id v = o.each id v me live in
@@ -174,11 +192,37 @@ splits sh plan id v shaped planned first few s o me =
     records-snoc sh 0 vs new
     ∙ (ap (λ xs. xs ++ record_of sh (0 + length vs) new ∷ []) (records-set sh 0 s.views id (opens v) ∙ (ap (set (records_from sh 0 s.views) id) (record-live sh (0 + id) (opens v) live) ∙ ap (λ (i : ℕ). set (records_from sh 0 s.views) i v.state) nil))
     ∙ (λ y. set (records_from sh 0 s.views) 0 v.state ++ start_seat (shaped y) (all y) ∷ [])) in
+    let few : n < 41 = omega (arith, all, opened) in
+    let left : Core = record { shape = sh; words = s.words; seats = records_from sh 0 (vs ++ new ∷ []) } in
+    let is : split_core sh s v ≡ left = λ y. record { shape = sh; words = s.words; seats = sym seats y } in
+    let past : List Event = o.past ++ event 0 Split ∷ [] in
+    let silent : (k : ℕ) → log_of sh past k ≡ log_of sh o.past k = λ k. log-still sh o.past x.core (event 0 Split) k o.led refl in
+    let still : (u : View) (k : ℕ) → IsLogged sh o.past x.core k u → IsLogged sh past left k u = λ u k b.
+    record {
+      log = b.log ∙ sym (silent k);
+      logs = λ w l i. let q = b.logs w l i in (q.0 ∙ sym (silent w), ap (λ xs. slice_get xs w) seats ∙ longer (records_from sh 0 s.views) v.state (start_seat sh n) (spent_seat sh w) w (record-at sh s.views 0 v here live) q.1);
+    } in
     let joined : (u : View) → HasJoined x u → HasJoined (table_state sh plan o.sections (record { words = s.words; homes = s.homes; views = vs ++ new ∷ [] })) u = λ u h w y i.
     let q = h w y i in (q.0, ap (λ xs. slice_get xs w) seats ∙ longer (records_from sh 0 s.views) v.state (start_seat sh n) (spent_seat sh w) w (record-at sh s.views 0 v here live) q.1) in
     record {
       sections = o.sections;
-      whole = subst IsState (λ y. record { core = record { shape = sh; words = s.words; seats = sym seats y }; plan = plan; sections = o.sections }) (split_left sh plan s v o here first (omega (arith, all, few)));
+      whole = subst IsState (λ y. record { core = record { shape = sh; words = s.words; seats = sym seats y }; plan = plan; sections = o.sections }) (split_left sh plan s v o here first few);
+      past = past;
+      led = led-on sh o.past x.core left (event 0 Split) o.led tt (may-happen x 0 v.state Split (split_goes sh plan s v o here first few)) (split_leaves sh plan s v o here first few ∙ is);
+      logged = λ j u h l.
+          ⊎_elim
+          (λ (g : get_elem? vs j ≡ some u).
+          ⊎_elim
+          (λ (p : (j ≡ id) × (opens v ≡ u)).
+          let b = o.logged id v me live in
+          subst (λ (z : ℕ × View). IsLogged sh past left z.0 z.1) (λ y. (sym p.0 y, p.1 y)) (still (opens v) id (record { log = b.log; logs = b.logs })))
+          (λ (p : (j ≢ id) × (get_elem? s.views j ≡ some u)). still u j (o.logged j u p.1 l))
+          (at_set s.views id j (opens v) u g))
+          (λ (p : (j ≡ length vs) × (new ≡ u)). subst (λ (z : View). IsLogged sh past left j z) p.1 (record {
+            log = sym (silent j ∙ log-none sh o.past x.core j o.led (omega (arith, p.0, long, records-length sh 0 s.views)));
+            logs = λ k m i. absurd (none-in (k, m) i);
+          }))
+          (at-end vs new u j h);
       each = λ j u h l.
           let seat = record-at sh (vs ++ new ∷ []) j u h l in
           ⊎_elim

@@ -62,7 +62,7 @@ new_identity sh s part word h e =
     let a : nat_lt part sh.fields ≡ false = le-ltb part sh.fields (omega (arith, h)) in
     let b : eqb part sh.fields ≡ false = ne_eqb part sh.fields (λ i. omega (arith, h, i)) in
     let f = rw (a, b) at e in
-    eqb-true word (unwrap_or s.section 0 * flag + s.made) (and_parts (is_some s.section && nat_lt s.made 2000000) (eqb word (unwrap_or s.section 0 * flag + s.made)) f).1
+    eqb-true word (unwrap_or s.section 0 * flag + s.made) (and_parts (is_some s.section && nat_lt s.made sh.objects) (eqb word (unwrap_or s.section 0 * flag + s.made)) f).1
 
 last_part : (x : TableState) (i : ℕ) (s : SeatState) (c part word : ℕ) → Goes x i s (StoreNew c part word) → x.core.shape.fields < part → NewPlaced x i s c part word false false false true
 last_part x i s c part word g h =

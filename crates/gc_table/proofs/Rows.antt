@@ -13,6 +13,9 @@ use Rattle.plain_heap.specs.declared.operation.Op.{Op}
 use Rattle.plain_heap.specs.declared.operation.Op.TheVariants.{New, Set, Put, Get, Collect}
 use Rattle.plain_heap.specs.PlainHeap.{Heap, empty_heap}
 use Rattle.plain_heap.specs.PlainRun.{heap_from}
+use Rattle.mark_core.specs.Places.{the_phase, the_next_card}
+use Rattle.gc_table.specs.Rule.{newcomer}
+use Rattle.gc_table.specs.Seats.{IsFresh}
 use Rattle.gc_table.specs.StandsFor.{start_meanings}
 use Rattle.gc_table.specs.declared.view.Meaning.{Meaning}
 use Rattle.gc_table.specs.PlainSteps.{meaning_of, meanings_after, AsksIn}
@@ -33,8 +36,8 @@ abbrev run_both : List (Event × Op) → Both → Both
 run_both [] b = b
 run_both (x ∷ xs) b = run_both xs (after_of (slice_get b.0.seats x.0.seat) x.0 x.1 b)
 
-abbrev small : Shape
-small = record { cells = 64; packets = 2; entries = 2; sections = 2; fields = 1 }
+abbrev pub small : Shape
+small = record { cells = 64; packets = 2; entries = 2; sections = 2; fields = 1; objects = 2000000 }
 
 abbrev begin : Both
 begin = (start_core small 2, start_meanings small)
@@ -82,3 +85,14 @@ asks_new = ((Idle, refl, idle_goes_on), (refl, refl, refl, refl))
 -- what the register got is the reference to the object itself
 followed_is : (meaning_of (run_both (by 0 (StoreRoot 3 1) (New 3 7) ∷ by 0 (StoreField 3 0 (Some 3)) (Set 3 0 3) ∷ by 0 (ReadOwn 0 0) Collect ∷ []) (run_both making begin)).1 0).got ≡ Own 0
 followed_is = refl
+
+-- a newcomer has noted nothing
+fresh_newcomer : IsFresh small [] 1 (newcomer small [] 1)
+fresh_newcomer = record { shape = refl; state = refl; log = refl; known = refl; floors = refl; plan_is = refl; own = refl; joined = refl; logs = refl }
+
+-- and a view with a note, or with a floor, is no newcomer's, even where the word says what was noted
+fresh_noted : IsFresh small [] 1 (record (newcomer small [] 1) { known = (the_phase, Some 0) ∷ [] }) → ⊥
+fresh_noted k = let e : (the_phase, Some 0) ∷ [] ≡ [] = k.known in cc
+
+fresh_floored : IsFresh small [] 1 (record (newcomer small [] 1) { floors = (the_next_card, Some 0) ∷ [] }) → ⊥
+fresh_floored k = let e : (the_next_card, Some 0) ∷ [] ≡ [] = k.floors in cc

@@ -88,8 +88,8 @@ made-moves c i s x part word ms k st a free next room here last identity = recor
     now : slice_index ids x ≡ word
     now = get_or-set_same w.identities x word 0 (omega (arith, here, ids_length c k.core))
 
-    few : s.made ≤ 2000000
-    few = (seat-formed c i s step k).made
+    few : s.made < flag
+    few = omega (arith, (seat-formed c i s step k).made, k.core.formed.shaped.objects)
 
     used_other : (y : ℕ) → Used c y ≡ true → y ≢ x
     used_other y u e = true≢false (sym u ∙ ap (Used c) e ∙ free-not-used c i s step x k free)

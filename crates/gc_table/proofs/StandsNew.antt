@@ -149,7 +149,7 @@ store-new c i s x part word op ms k st asks = subst (λ (o : ℕ). StandsIn c.sh
     fits : part ≡ c.shape.fields → word < flag
     fits e =
         let low : nat_lt part c.shape.fields ≡ false = not_below_same part c.shape.fields e in
-        ltb-true word flag (value_fits (nat_lt part c.shape.fields) (eqb part c.shape.fields) (eqb word 0) (nat_lt word flag) (is_some s.section && nat_lt s.made 2000000 && eqb word (unwrap_or s.section 0 * flag + s.made)) low (eq-eqb part c.shape.fields e) k.ok.1.1.0)
+        ltb-true word flag (value_fits (nat_lt part c.shape.fields) (eqb part c.shape.fields) (eqb word 0) (nat_lt word flag) (is_some s.section && nat_lt s.made c.shape.objects && eqb word (unwrap_or s.section 0 * flag + s.made)) low (eq-eqb part c.shape.fields e) k.ok.1.1.0)
 
     makes_part : MakesPart c i s x part word ms
     makes_part = record {
@@ -166,5 +166,5 @@ store-new c i s x part word op ms k st asks = subst (λ (o : ℕ). StandsIn c.sh
     identity : c.shape.fields < part → word ≡ i * flag + s.made
     identity h =
         let low : nat_lt part c.shape.fields ≡ false = not_below part c.shape.fields h in
-        let fits = last_fits (nat_lt part c.shape.fields) (eqb part c.shape.fields) (eqb word 0) (nat_lt word flag) (is_some s.section && nat_lt s.made 2000000 && eqb word (unwrap_or s.section 0 * flag + s.made)) low (ne_eqb part c.shape.fields (λ z. omega (arith, z, h))) k.ok.1.1.0 in
-        eqb-true word (unwrap_or s.section 0 * flag + s.made) (and_parts (is_some s.section && nat_lt s.made 2000000) (eqb word (unwrap_or s.section 0 * flag + s.made)) fits).1 ∙ ap (λ (o : ℕ). o * flag + s.made) a.own
+        let fits = last_fits (nat_lt part c.shape.fields) (eqb part c.shape.fields) (eqb word 0) (nat_lt word flag) (is_some s.section && nat_lt s.made c.shape.objects && eqb word (unwrap_or s.section 0 * flag + s.made)) low (ne_eqb part c.shape.fields (λ z. omega (arith, z, h))) k.ok.1.1.0 in
+        eqb-true word (unwrap_or s.section 0 * flag + s.made) (and_parts (is_some s.section && nat_lt s.made c.shape.objects) (eqb word (unwrap_or s.section 0 * flag + s.made)) fits).1 ∙ ap (λ (o : ℕ). o * flag + s.made) a.own

@@ -218,8 +218,8 @@ assigns_new c i s v r ms k st a last room = record {
     identity : (slice_index w.identities (r - 1) + 1 ≡ i * flag + s.made) × (0 < s.made)
     identity = subst (λ (o : Option ℕ). IfSome o (λ x. (slice_index w.identities x + 1 ≡ i * flag + s.made) × (0 < s.made))) (last-is (last_made s.cache) (r - 1) parts.1) mine.last
 
-    few : s.made ≤ 2000000
-    few = (seat-formed c i s (StoreRoot v r) k).made
+    few : s.made < flag
+    few = omega (arith, (seat-formed c i s (StoreRoot v r) k).made, k.core.formed.shaped.objects)
 
     section : section_of w.identities (r - 1) ≡ i
     section = omega (arith, identity.0, identity.1, few)

@@ -1,14 +1,18 @@
 -- What a closed heap hands out.
-use Rattle.std.specs.Prelude.{ℕ, ◌≡◌, ◌⊎◌, ◌<◌, List, length, slice_get, Some, IsTrue}
+use Rattle.std.specs.Prelude.{ℕ, ◌≡◌, ◌⊎◌, ◌<◌, ◌≤◌, List, [], length, slice_get, Some, IsTrue, IsFalse}
 use Rattle.mark_core.specs.Bits.{reference_in}
 use Rattle.mark_core.specs.Layout.{words_of}
 use Rattle.mark_core.specs.Seats.{phase_of}
+use Rattle.mark_core.specs.declared.kinds.Event.{Event}
 use Rattle.mark_core.specs.declared.kinds.Shape.{Shape}
 use Rattle.mark_core.specs.declared.kinds.Phase.TheVariants.{Full}
 use Rattle.mark_core.specs.declared.seat.SeatState.{SeatState}
 use Rattle.gc_table.specs.TableState.{TableState}
 use Rattle.gc_table.specs.Rule.{IsState, KnowsFull}
 use Rattle.gc_table.specs.Seats.{view_of, IsOutside}
+use Rattle.gc_table.specs.Operations.{Token}
+use Rattle.gc_table.specs.Past.{LeadTo, log_of}
+use Rattle.gc_table.specs.declared.seat.Heap.{Heap}
 use Rattle.gc_table.specs.declared.seat.HeapSeat.{HeapSeat}
 use Rattle.gc_table.specs.declared.words.Words.{Words}
 
@@ -22,6 +26,13 @@ pub record AreWords (sh : Shape) (ws : List ℕ) (w : Words) : Type 0 where
   pub phase : w.phase ≡ phase_of (words_of sh ws).phase
   pub named : w.named ≡ reference_in (words_of sh ws).named
   pub roots : w.roots.items ≡ (words_of sh ws).roots
+
+-- what is left of a seat of the heap that is outside, while others are joined into it
+pub record IsLeft (h : Heap) (t : Token) : Type 0 where
+  pub table : t.table_id ≡ h.table.shared.table_id
+  pub shape : t.me.0.shape ≡ h.shape
+  pub live : IsFalse t.me.0.state.spent
+  pub outside : IsOutside t.me.0
 
 -- the record is that of a seat that was joined into the first, or the first seat's, which is outside the world, its stop and its help
 abbrev pub IsResting : List HeapSeat → SeatState → Type 0
@@ -39,3 +50,9 @@ pub record IsEnd (sh : Shape) (seats : List HeapSeat) (w : Words) : Type 0 where
   pub full : (i : ℕ) (s : HeapSeat) → slice_get seats i ≡ Some s → KnowsFull (view_of s) → w.phase ≡ Full
   -- no seat with a section is at work, of those that were handed in
   pub resting : (j : ℕ) (r : SeatState) (k : ℕ) → j < length seats → slice_get state.core.seats j ≡ Some r → r.section ≡ Some k → IsResting seats r
+  -- these events led from the start to the words in the end, and the log of each seat is its part of them
+  pub past : List Event
+  pub led : LeadTo sh past state.core
+  pub logs : (i : ℕ) (s : HeapSeat) → slice_get seats i ≡ Some s → (view_of s).log ≡ log_of sh past i
+  -- nobody else took part, where all seats were handed in
+  pub theirs : (s : HeapSeat) → slice_get seats 0 ≡ Some s → (view_of s).opened ≡ length seats → (i : ℕ) → length seats ≤ i → log_of sh past i ≡ []

@@ -1,7 +1,7 @@
 -- What is claimed of the plain heaps for which the words stand, as statements for proofs to meet.
-use Rattle.std.specs.Prelude.{ℕ, ◌≤◌, ◌≡◌, List, None, Some, IsTrue, slice_get, slice_set}
+use Rattle.std.specs.Prelude.{ℕ, ◌≤◌, ◌≡◌, List, [], None, Some, IsTrue, length, slice_get, slice_set, take}
 use Rattle.mark_core.specs.Shapes.{IsShape}
-use Rattle.mark_core.specs.Steps.{Core, failing_part, after_event, start_core}
+use Rattle.mark_core.specs.Steps.{Core, failing_part, after_event, first_refused, run_of, start_core}
 use Rattle.mark_core.specs.Layout.{words_of}
 use Rattle.mark_core.specs.Views.{makers}
 use Rattle.mark_core.specs.Cells.{in_use}
@@ -19,6 +19,11 @@ use Rattle.plain_heap.specs.Paths.{Name, IsReachable}
 use Rattle.gc_table.specs.StandsFor.{StandsFor, HoldsObject, IsNext, heaps_of, name_at, object_count, start_meanings}
 use Rattle.gc_table.specs.declared.view.Meaning.{Meaning}
 use Rattle.plain_heap.specs.PlainStep.{IsInRange}
+use Rattle.gc_table.specs.Ends.{AreWords, IsEnd}
+use Rattle.gc_table.specs.Past.{log_of}
+use Rattle.gc_table.specs.Seats.{view_of}
+use Rattle.gc_table.specs.declared.seat.HeapSeat.{HeapSeat}
+use Rattle.gc_table.specs.declared.words.Words.{Words}
 use Rattle.gc_table.specs.PlainSteps.{meaning_after, meanings_after, seen_in, AsksIn, changes_heap}
 
 -- the state in which nothing has happened meets the rule
@@ -74,3 +79,17 @@ abbrev pub ReachableCellsHaveObjects : Type 0
 ReachableCellsHaveObjects =
     (c : Core) (ms : List Meaning) → IsCore c → StandsFor c ms → (x : ℕ) → IsReachableIn c x
     → IsCellOfObject c ms (name_at (words_of c.shape c.words).identities x) x × IsReachable (heaps_of ms) (name_at (words_of c.shape c.words).identities x)
+
+-- these events are one interleaving of what the seats did: a run of the core from the start, on which each state is sound, and which ends in these words
+pub record IsRunOf (sh : Shape) (seats : List HeapSeat) (w : Words) (es : List Event) : Type 0 where
+  pub allowed : first_refused 0 es (start_core sh 1) ≡ None
+  -- the log of each seat is its part of the run, each step with the word that it found there, or stored
+  pub parts : (i : ℕ) (s : HeapSeat) → slice_get seats i ≡ Some s → (view_of s).log ≡ log_of sh es i
+  -- and where all seats of the heap are among these, nobody else has a part
+  pub no_others : (s : HeapSeat) → slice_get seats 0 ≡ Some s → (view_of s).opened ≡ length seats → (i : ℕ) → length seats ≤ i → log_of sh es i ≡ []
+  pub sound : (n : ℕ) → IsCore (run_of (take n es) (start_core sh 1))
+  pub ends : AreWords sh (run_of es (start_core sh 1)).words w
+
+-- whatever threads did with the seats of a heap that was closed, there is such a run
+abbrev pub ClosedHeapsRan : Type 0
+ClosedHeapsRan = (sh : Shape) (seats : List HeapSeat) (w : Words) → IsEnd sh seats w → (es : List Event) × IsRunOf sh seats w es

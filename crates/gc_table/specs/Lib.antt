@@ -1,6 +1,8 @@
 pub mod Notes
 pub mod Fetching
 pub mod Stopping
+pub mod Entries
+pub mod Past
 pub mod Rule
 pub mod Taking
 pub mod Operations

@@ -1,9 +1,9 @@
 -- The steps that a call took, by what it added to the log of its seat.
-use Rattle.std.specs.Prelude.{ℕ, ◌≡◌, ◌&&◌, List, [], ◌∷◌, ◌++◌, length, drop, map, Bool, true, IsTrue}
+use Rattle.std.specs.Prelude.{◌≡◌, ◌&&◌, List, [], ◌∷◌, ◌++◌, length, drop, map, Bool, true, IsTrue}
 use Rattle.mark_core.specs.declared.kinds.Step.{Step}
 use Rattle.gc_table.specs.declared.view.Entry.{Entry}
 use Rattle.gc_table.specs.declared.view.View.{View}
-use Rattle.gc_table.specs.Taking.{won}
+pub use Rattle.gc_table.specs.Entries.{event}
 
 -- what was added to the log of a seat
 abbrev pub events : View → View → List Entry
@@ -12,10 +12,6 @@ events v w = drop (length v.log) w.log
 -- the log grew
 abbrev pub Grows : View → View → Type 0
 Grows v w = (more : List Entry) × (w.log ≡ v.log ++ more)
-
--- the event of a step that found n
-abbrev pub event : Step → ℕ → Entry
-event step n = record { step = step; found = n; won = won step n }
 
 -- the steps of these events
 abbrev pub steps_of : List Entry → List Step

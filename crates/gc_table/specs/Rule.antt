@@ -9,6 +9,7 @@ use Rattle.mark_core.specs.Laws.{IsCore}
 use Rattle.mark_core.specs.Swept.{IsSweptCore}
 use Rattle.mark_core.specs.Notes.{word_at, steady, keeps_bound}
 use Rattle.plain_heap.specs.declared.operation.Op.{Op}
+use Rattle.mark_core.specs.declared.kinds.Event.{Event}
 use Rattle.mark_core.specs.declared.kinds.Shape.{Shape}
 use Rattle.mark_core.specs.declared.seat.SeatState.{SeatState}
 use Rattle.gc_table.specs.declared.view.View.{View}
@@ -21,6 +22,8 @@ use Rattle.gc_table.specs.StandsFor.{StandsFor}
 use Rattle.gc_table.specs.Sections.{start_section}
 use Rattle.gc_table.specs.TableState.{TableState, meanings_of}
 use Rattle.gc_table.specs.Told.{IsTold}
+use Rattle.gc_table.specs.Past.{LeadTo, IsLogged}
+use Rattle.gc_table.specs.declared.view.Entry.{Entry}
 
 -- the record of seat k, where a seat that was joined into another has that of a spent seat
 abbrev pub record_of : Shape → ℕ → View → SeatState
@@ -78,6 +81,10 @@ pub record Holds (sh : Shape) (plan : List (List Op)) (s : State (Unit {0}) View
   pub each : (i : ℕ) (v : View) → get_elem? s.views i ≡ some v → IsFalse v.state.spent → Agrees (table_state sh plan sections s) i v
   -- the first seat makes the others
   pub opened : (v : View) → get_elem? s.views 0 ≡ some v → v.opened ≡ length s.views
+  -- these events led from the start to the words and records that are there, and each log is its seat's part of them
+  pub past : List Event
+  pub led : LeadTo sh past (core_of sh s)
+  pub logged : (i : ℕ) (v : View) → get_elem? s.views i ≡ some v → IsFalse v.state.spent → IsLogged sh past (core_of sh s) i v
 
 -- some state that meets the rule agrees with the view
 pub record IsPossible (v : View) : Type 0 where
@@ -90,7 +97,7 @@ pub record IsPossible (v : View) : Type 0 where
 -- a seat that has done nothing
 abbrev pub newcomer : Shape → List (List Op) → ℕ → View
 newcomer sh plan k =
-    record { shape = sh; state = start_seat sh k; log = []; known = []; floors = []; opened = 1; plan = plan; own = start_section sh k; joined = [] }
+    record { shape = sh; state = start_seat sh k; log = []; known = []; floors = []; opened = 1; plan = plan; own = start_section sh k; joined = []; logs = [] }
 
 -- the first seat makes another
 abbrev pub opens : View → View
@@ -113,13 +120,18 @@ abbrev pub told_full : Option ℕ → Notes → Notes
 told_full None notes = notes
 told_full (Some n) notes = if n == 5 then (the_phase, Some 5) ∷ notes else notes
 
--- a seat takes in another: it keeps what the other's section has come to, the sections that the other took in, and that the heap was found full
+-- a seat takes in another: it keeps what the other's section has come to, its log, the sections and logs that the other took in, and that the heap was found full
 abbrev pub takes_in : View → View → View
-takes_in v w = record v { known = told_full (look the_phase w.known) v.known; joined = v.joined ++ (own_entry w.state.section w.own ++ w.joined) }
+takes_in v w =
+    record v {
+      known = told_full (look the_phase w.known) v.known;
+      joined = v.joined ++ (own_entry w.state.section w.own ++ w.joined);
+      logs = v.logs ++ (w.state.number, w.log) ∷ w.logs;
+    }
 
 -- no sizes
 abbrev pub no_shape : Shape
-no_shape = record { cells = 0; packets = 0; entries = 0; sections = 0; fields = 0 }
+no_shape = record { cells = 0; packets = 0; entries = 0; sections = 0; fields = 0; objects = 0 }
 
 -- what is left of a seat that was joined into another
 abbrev pub nobody : View
@@ -129,10 +141,19 @@ nobody = record (newcomer no_shape [] 0) { state = spent_seat no_shape 0 }
 abbrev pub HasSection : View → ℕ → SectionState → Type 0
 HasSection v w x = ((v.state.section ≡ Some w) × (v.own ≡ x)) ⊎ Contains v.joined (w, x)
 
--- the words are those of a state that meets the rule, and the last seat's view has all sections as they are
+-- the view has this log of seat i, which is its seat or one that it took in
+abbrev pub HasLog : View → ℕ → List Entry → Type 0
+HasLog v i l = ((v.state.number ≡ i) × (v.log ≡ l)) ⊎ Contains v.logs (i, l)
+
+-- the words are those of a state that meets the rule, and the last seat's view has all sections and logs as they are
 pub record IsFinal (v : View) (ws : List ℕ) : Type 0 where
   pub state : TableState
   pub whole : IsState state
   pub words : state.core.words ≡ ws
   pub index : ℕ
   pub agrees : Agrees state index v
+  pub past : List Event
+  pub led : LeadTo state.core.shape past state.core
+  pub logged : IsLogged state.core.shape past state.core index v
+  -- the first seat knows how many there are
+  pub opened : v.state.number ≡ 0 → v.opened ≡ length state.core.seats

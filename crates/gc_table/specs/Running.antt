@@ -6,30 +6,13 @@ use Rattle.mark_core.specs.Places.{the_phase}
 use Rattle.mark_core.specs.Seats.{phase_number}
 use Rattle.mark_core.specs.declared.kinds.Phase.{Phase}
 use Rattle.mark_core.specs.declared.kinds.Step.{Step}
-use Rattle.mark_core.specs.declared.kinds.Step.TheVariants.{Push, DirtyCard, StoreField, StoreValue, StoreRoot, ReleaseBlock, StoreNew, StoreAlloc, ClearMarks, WipeCard, StorePosition, StoreNamed, Reset, StoreLength, OpenStep, DropStep, StorePhase, ReadOwn, ReadCat, NextSeason}
+use Rattle.mark_core.specs.declared.kinds.Step.TheVariants.{StoreField, StoreValue, StoreRoot, StoreNew, StorePosition, OpenStep, DropStep, StorePhase, ReadOwn, ReadCat, NextSeason}
 use Rattle.gc_table.specs.declared.view.Entry.{Entry}
 use Rattle.gc_table.specs.declared.view.View.{View}
+pub use Rattle.gc_table.specs.Entries.{is_store}
 use Rattle.gc_table.specs.Notes.{look}
 use Rattle.gc_table.specs.Log.{events}
 use Rattle.gc_table.specs.Taking.{after, Finds}
-
--- the step stores its word, whatever was there
-abbrev pub is_store : Step → Bool
-is_store (Push p c) = true
-is_store (DirtyCard card) = true
-is_store (StoreField v i w) = true
-is_store (StoreValue v n) = true
-is_store (StoreRoot v r) = true
-is_store ReleaseBlock = true
-is_store (StoreNew c part word) = true
-is_store StoreAlloc = true
-is_store ClearMarks = true
-is_store (WipeCard card) = true
-is_store (StorePosition done) = true
-is_store StoreNamed = true
-is_store (Reset which) = true
-is_store (StoreLength p) = true
-is_store step = false
 
 -- the word of the event is what the step found, or what it stored
 pub record IsSeen (step : Step) (n : ℕ) (v : View) : Type 0 where

@@ -43,9 +43,12 @@ pub record IsFresh (sh : Shape) (plan : List (List Op)) (i : ℕ) (v : View) : T
   pub shape : v.shape ≡ sh
   pub state : v.state ≡ start_seat sh i
   pub log : v.log ≡ []
+  pub known : v.known ≡ []
+  pub floors : v.floors ≡ []
   pub plan_is : v.plan ≡ plan
   pub own : v.own ≡ start_section sh i
   pub joined : v.joined ≡ []
+  pub logs : v.logs ≡ []
 
 -- the seat is outside the world, its stop and its help
 abbrev pub IsOutside : View → Type 0

@@ -1,49 +1,29 @@
 -- When a seat may take a step, and its view afterwards.
-use Rattle.std.specs.Prelude.{ℕ, ◌≡◌, ◌%◌, [], ◌∷◌, ◌++◌, Bool, true, not, ◌==◌}
-use Rattle.mark_core.specs.Bits.{has_bit, has_flag}
+use Rattle.std.specs.Prelude.{ℕ, ◌≡◌, [], ◌∷◌, ◌++◌}
 use Rattle.mark_core.specs.Layout.{words_of}
 use Rattle.mark_core.specs.Parts.{parts}
 use Rattle.mark_core.specs.Effects.{place, written, seat_after}
-use Rattle.mark_core.specs.Seats.{is_phase}
 use Rattle.mark_core.specs.Steps.{AllTrue}
 use Rattle.mark_core.specs.Places.{the_named}
 use Rattle.mark_core.specs.Laws.{NumbersFit}
 use Rattle.mark_core.specs.Notes.{word_at, steady, keeps_bound}
-use Rattle.mark_core.specs.declared.kinds.Phase.{Phase}
-use Rattle.mark_core.specs.declared.kinds.Phase.TheVariants.{Idle, Marking}
 use Rattle.mark_core.specs.declared.kinds.Step.{Step}
-use Rattle.mark_core.specs.declared.kinds.Step.TheVariants.{Take, SetMark, ClearCard, ReadCard, ClaimBlock, EnterStep, RaiseStep, StorePhase, JoinHelpStep, Split, Join}
+use Rattle.mark_core.specs.declared.kinds.Step.TheVariants.{Split, Join}
 use Rattle.gc_table.specs.declared.view.View.{View}
+pub use Rattle.gc_table.specs.Entries.{moves_from, won}
+use Rattle.gc_table.specs.Entries.{event}
 use Rattle.gc_table.specs.Notes.{look, noting}
 use Rattle.gc_table.specs.Sections.{section_after, AskedOf}
 use Rattle.gc_table.specs.Reads.{Reads}
 use Rattle.gc_table.specs.TableState.{TableState}
 use Rattle.gc_table.specs.Rule.{IsState, Agrees}
 
--- a move of the phase takes place, where this phase is found
-abbrev pub moves_from : ℕ → Phase → Bool
-moves_from n Marking = is_phase n Idle
-moves_from n to = true
-
--- the step got what it tried to get, where it found this word
-abbrev pub won : Step → ℕ → Bool
-won (Take q p) n = has_bit n (p % 64)
-won (SetMark c) n = not (has_bit n (c % 64))
-won (ClearCard card) n = n == 1
-won (ReadCard card) n = n == 1
-won (ClaimBlock b) n = n == 0
-won EnterStep n = not (has_flag n)
-won RaiseStep n = not (has_flag n)
-won JoinHelpStep n = has_flag n
-won (StorePhase to) n = moves_from n to
-won step n = true
-
 -- the view after a step that found n
 abbrev pub after : Step → ℕ → View → View
 after step n v =
     record v {
       state = seat_after v.shape v.state step n;
-      log = v.log ++ record { step = step; found = n; won = won step n } ∷ [];
+      log = v.log ++ event step n ∷ [];
       known = noting (steady (seat_after v.shape v.state step n)) (place v.shape v.state step) (written v.shape v.state step n) v.known;
       floors = noting (λ at m. keeps_bound (seat_after v.shape v.state step n) at) (place v.shape v.state step) (written v.shape v.state step n) v.floors;
       own = section_after v.shape v.plan v.state step v.own;

@@ -2,8 +2,8 @@
 ghost use Rattle.std.specs.Prelude.{◌≡◌, ◌≢◌, ℕ, ◌+◌, ◌<◌, ◌≤◌, [], slice_get, Some, IfOk, vec_len, vec_capacity};
 ghost use Rattle.mark_core.specs.Shapes.{IsShape};
 ghost use Rattle.mark_core.specs.Start.{start_seat as start_seat_of};
-ghost use Rattle.gc_table.specs.Ends.{IsEnd};
-ghost use Rattle.gc_table.specs.Rule.{newcomer, opens, opened_by, takes_in, nobody, HasSection, IsFinal, IsPossible, KnowsFull};
+ghost use Rattle.gc_table.specs.Ends.{IsEnd, IsLeft};
+ghost use Rattle.gc_table.specs.Rule.{newcomer, opens, opened_by, takes_in, nobody, HasLog, HasSection, IsFinal, KnowsFull};
 ghost use Rattle.gc_table.specs.Seats.{Sits, view_of, IsFresh, IsOutside};
 
 use crate::plan::{PlanTag, tag_of};
@@ -11,7 +11,7 @@ use crate::rule::{Key, Rule};
 use crate::seat::{Heap, HeapSeat};
 use crate::view::View;
 use crate::words::{Words, words_of};
-use atomic_table::{Join, Play, Split, Table};
+use atomic_table::{Join, Seat, Split, Table};
 use mark_core::{Bases, SeatState, Shape, start_seat, start_words};
 use plain_heap::{OutOfMemory, Plan};
 use std::alloc::{AllocError, Global};
@@ -32,13 +32,6 @@ impl Join<View> for TakesIn {
     ghost both = { takes_in };
 
     ghost spent = { nobody };
-}
-
-/// A seat reads a word, whatever it is, and nothing changes.
-pub struct Looks;
-
-impl Play<(), View> for Looks {
-    ghost then = { λ st m found n. (n ≡ m) × IsPossible n.0 };
 }
 
 impl Heap {
@@ -91,7 +84,7 @@ impl Heap {
         plan: PlanTag,
     ) -> Result<(Heap, Vec<HeapSeat>), AllocError>
         requires { IsShape shape × (1 ≤ seats) × (seats ≤ 41) }
-        ensures { IfOk result (λ r. (r.0.shape ≡ shape) × (vec_len r.1 ≡ seats) × ((i : ℕ) (s : HeapSeat) → slice_get r.1.items i ≡ Some s → Sits r.0 s × IsFresh shape plan.parts i (view_of s))) }
+        ensures { IfOk result (λ r. (r.0.shape ≡ shape) × (vec_len r.1 ≡ seats) × ((i : ℕ) (s : HeapSeat) → slice_get r.1.items i ≡ Some s → Sits r.0 s × IsFresh shape plan.parts i (view_of s)) × ((s : HeapSeat) → slice_get r.1.items 0 ≡ Some s → (view_of s).opened ≡ seats)) }
     {
         let (heap, mut first) = Heap::first(alloc, shape, plan)?;
         let mut all = Vec::with_capacity(alloc, seats as usize)?;
@@ -112,7 +105,7 @@ impl Heap {
         plan: &P,
     ) -> Result<(Heap, Vec<HeapSeat>), OutOfMemory>
         requires { IsShape shape × (1 ≤ seats) × (seats ≤ 41) }
-        ensures { IfOk result (λ r. (r.0.shape ≡ shape) × (vec_len r.1 ≡ seats) × ((i : ℕ) (s : HeapSeat) → slice_get r.1.items i ≡ Some s → Sits r.0 s × IsFresh shape (P.plan plan.now) i (view_of s))) }
+        ensures { IfOk result (λ r. (r.0.shape ≡ shape) × (vec_len r.1 ≡ seats) × ((i : ℕ) (s : HeapSeat) → slice_get r.1.items i ≡ Some s → Sits r.0 s × IsFresh shape (P.plan plan.now) i (view_of s)) × ((s : HeapSeat) → slice_get r.1.items 0 ≡ Some s → (view_of s).opened ≡ seats)) }
     {
         match Heap::create_all(alloc, shape, seats, tag_of(plan)) {
             Ok(made) => Ok(made),
@@ -120,55 +113,52 @@ impl Heap {
         }
     }
 
-    fn absorb(&self, first: &mut HeapSeat, other: HeapSeat)
-        requires first { Sits self.now first.old × IsOutside (view_of first.old) }
+    fn absorb(&self, first: &mut Seat<(), View>, other: HeapSeat)
+        requires first { IsLeft self.now first.old }
         requires other { Sits self.now other × IsOutside (view_of other) × ((view_of other).state.number ≢ 0) }
-        ensures { Sits self.now first.new × (view_of first.new ≡ takes_in (view_of first.old) (view_of other)) }
+        ensures left { IsLeft self.now first.new }
+        ensures both { first.new.me.0 ≡ takes_in first.old.me.0 (view_of other) }
     {
         let HeapSeat {
             state: _,
             token,
             hint: _,
         } = other;
-        self.table
-            .shared
-            .join_seat::<TakesIn>(&mut first.token, token);
-        // A join tells nothing of the table, and a read does.
-        self.table.shared.load::<Looks>(&mut first.token, 0);
+        self.table.shared.join_seat::<TakesIn>(first, token);
     }
 
-    fn join_all(&self, mut seats: Vec<HeapSeat>) -> HeapSeat
+    fn join_all(&self, mut seats: Vec<HeapSeat>) -> Seat<(), View>
         requires some { 0 < vec_len seats }
         requires seats { (i : ℕ) (s : HeapSeat) → slice_get seats.items i ≡ Some s → Sits self.now s × ((view_of s).state.number ≡ i) × IsOutside (view_of s) }
-        ensures seat { Sits self.now result }
-        ensures first { (s : HeapSeat) → slice_get seats.items 0 ≡ Some s → ((view_of result).state ≡ (view_of s).state) × ((view_of result).plan ≡ (view_of s).plan) }
-        ensures sections { (i : ℕ) (s : HeapSeat) (w : ℕ) → slice_get seats.items i ≡ Some s → (view_of s).state.section ≡ Some w → HasSection (view_of result) w (view_of s).own }
-        ensures full { (i : ℕ) (s : HeapSeat) → slice_get seats.items i ≡ Some s → KnowsFull (view_of s) → KnowsFull (view_of result) }
+        ensures left { IsLeft self.now result }
+        ensures first { (s : HeapSeat) → slice_get seats.items 0 ≡ Some s → (result.me.0.state ≡ (view_of s).state) × (result.me.0.plan ≡ (view_of s).plan) × (result.me.0.opened ≡ (view_of s).opened) }
+        ensures sections { (i : ℕ) (s : HeapSeat) (w : ℕ) → slice_get seats.items i ≡ Some s → (view_of s).state.section ≡ Some w → HasSection result.me.0 w (view_of s).own }
+        ensures logs { (i : ℕ) (s : HeapSeat) → slice_get seats.items i ≡ Some s → HasLog result.me.0 i (view_of s).log }
+        ensures full { (i : ℕ) (s : HeapSeat) → slice_get seats.items i ≡ Some s → KnowsFull (view_of s) → KnowsFull result.me.0 }
     {
-        let mut first = seats.remove(0);
+        let HeapSeat {
+            state: _,
+            token: mut first,
+            hint: _,
+        } = seats.remove(0);
         while let Some(seat) = seats.pop() {
             self.absorb(&mut first, seat);
         }
         first
     }
 
-    fn close_with(self, mut words: Vec<u64>, first: HeapSeat) -> Vec<u64>
-        requires seat { Sits self first }
+    fn close_with(self, mut words: Vec<u64>, first: Seat<(), View>) -> Vec<u64>
+        requires left { IsLeft self first }
         requires room { (words.items ≡ []) × (self.table.shared.table_id.words ≤ vec_capacity words) }
-        ensures { IsFinal (view_of first) result.items }
+        ensures { IsFinal first.me.0 result.items }
     {
-        let HeapSeat {
-            state: _,
-            token,
-            hint: _,
-        } = first;
         let Heap {
             table,
             shape: _,
             bases: _,
         } = self;
         let count = table.word_count();
-        let closed = table.close_with(token);
+        let closed = table.close_with(first);
         for i in 0..count {
             words.push_reserved(closed.word(i));
         }
@@ -190,7 +180,8 @@ impl Heap {
 
     /// Joins all seats, and gives the words that say what lies where. The seats are all the heap's, in order, and each is
     /// outside the world, its stop and its help. Contracts are told what the words mean: each section's plain heap, the
-    /// places of its objects and its position, as its seat left them. Where memory ran out the heap and the seats are gone.
+    /// places of its objects and its position, as its seat left them; and that they are the end of one run of the core, of which
+    /// the log of each seat is its part. Where memory ran out the heap and the seats are gone.
     pub fn close(self, alloc: Global, seats: Vec<HeapSeat>) -> Result<Words, OutOfMemory>
         requires some { 0 < vec_len seats }
         requires seats { (i : ℕ) (s : HeapSeat) → slice_get seats.items i ≡ Some s → Sits self s × ((view_of s).state.number ≡ i) × IsOutside (view_of s) }

@@ -1,5 +1,5 @@
 // What holds of the words and of the plain heaps for which they stand, over every state and event: each law is the contract of a function that does nothing.
-ghost use Rattle.gc_table.specs.Laws.{StartMeetsRule, EventsKeepRule, StartStands, EventsKeepStands, PlainStepsAreInRange, OneMeaningChanges, OneCellIsNext, ReachableObjectsHaveCells, ReachableCellsHaveObjects};
+ghost use Rattle.gc_table.specs.Laws.{StartMeetsRule, EventsKeepRule, StartStands, EventsKeepStands, PlainStepsAreInRange, OneMeaningChanges, OneCellIsNext, ReachableObjectsHaveCells, ReachableCellsHaveObjects, ClosedHeapsRan};
 
 /// The state in which nothing has happened meets the rule of the table, whatever the plan.
 pub fn rule_starts()
@@ -45,4 +45,11 @@ pub fn reachable_objects_have_cells()
 /// A reachable cell has the words of an object, and this object is reachable: never is it a cell whose object is still to come.
 pub fn reachable_cells_have_objects()
     ensures { ReachableCellsHaveObjects }
+{}
+
+/// What the seats of a closed heap did, each by its log, is one run of the core in some order, from the state in which the first seat alone
+/// has done nothing: each event is allowed in its turn, each step found or stored the word that its entry tells, every state on the way is
+/// sound, and the words in the end are those that `close` gave.
+pub fn closed_heaps_ran()
+    ensures { ClosedHeapsRan }
 {}

@@ -19,7 +19,7 @@
 //! - its own section ([`view::SectionState`]): the plain heap for which the section's words stand, where each object was
 //!   made, all plain steps with their seasons, the position stored last, and what the seat did at the ends of cycles;
 //! - the plan: what the catalogue's seat is going to do, part by part. It is given when the heap is made and stays;
-//! - the sections of the seats that were joined into this one.
+//! - the sections and the logs of the seats that were joined into this one.
 //!
 //! A note ends with the record that keeps it. `mark_core`'s `Notes` says which record keeps which word.
 //!
@@ -36,6 +36,12 @@
 //!   is stored any more, and the section that is named found it full. After an exact cycle in the catalogue's turn each
 //!   cell in use is reachable until the catalogue's seat stores again.
 //! - Each view agrees with that state: its record, notes, floors, plan and sections are the state's.
+//!
+//! And it holds the history (`specs/Past.antt`): the events of all seats in one order, each allowed in its turn, which lead
+//! from the start to the words and records that are there. The log of each seat is its part of them, each entry with the
+//! word that its step found there, or that a store stored. So a word moves by no step that isn't in a log, and a log tells
+//! no word that wasn't there. The start is a single seat that has done nothing; it makes the others (`Split`), and takes
+//! them in at the end (`Join`).
 //!
 //! # Steps
 //!
@@ -69,13 +75,13 @@
 //!
 //! `seat` has the heap and its seats. `ends` makes a heap with all its seats, and closes it with all of them: the
 //! words in the end, which `words` copies out, are those of a state that meets the rule, in which each section is as
-//! its seat left it (`IsEnd` in `specs/Ends.antt`). `packets`, `tracing`, `mutator`, `world` and `sweep` have the
-//! steps, and `masks` the bits that they set and clear. `stepping` and `operations` have what the steps rest on, two
-//! functions for each operation of the table, and `rule` what the table is told: `specs/Operations.antt` says once
-//! what all operations ask and promise. `view` has what contracts say that a seat knows, and `plan` what they say of
-//! the catalogue's plan; no value of a view is made, and a plan's tag has no bytes. `laws` has the theorems of this
-//! crate, each as the contract of a function that does nothing. In `proofs/`, `StateKept` shows once for all kinds of
-//! step that the rule is kept, each part of it in files of its own.
+//! its seat left it, and the end of a run of which each log is a part (`IsEnd` in `specs/Ends.antt`). `packets`,
+//! `tracing`, `mutator`, `world` and `sweep` have the steps, and `masks` the bits that they set and clear. `stepping` and
+//! `operations` have what the steps rest on, two functions for each operation of the table, and `rule` what the table is
+//! told: `specs/Operations.antt` says once what all operations ask and promise. `view` has what contracts say that a seat
+//! knows, and `plan` what they say of the catalogue's plan; no value of a view is made, and a plan's tag has no bytes.
+//! `laws` has the theorems of this crate, each as the contract of a function that does nothing. In `proofs/`, `StateKept`
+//! shows once for all kinds of step that the rule is kept, each part of it in files of its own.
 #![tactic(auto)]
 
 pub mod ends;
@@ -85,6 +91,7 @@ pub mod mutator;
 mod operations;
 pub mod packets;
 mod plan;
+pub mod resting;
 mod rule;
 pub mod seat;
 mod stepping;
@@ -95,8 +102,9 @@ pub mod words;
 pub mod world;
 
 pub use laws::{
-    one_cell_is_next, one_meaning_changes, plain_steps_are_in_range, reachable_cells_have_objects,
-    reachable_objects_have_cells, rule_is_kept, rule_starts, stands_is_kept, stands_starts,
+    closed_heaps_ran, one_cell_is_next, one_meaning_changes, plain_steps_are_in_range,
+    reachable_cells_have_objects, reachable_objects_have_cells, rule_is_kept, rule_starts,
+    stands_is_kept, stands_starts,
 };
 pub use seat::{Heap, HeapSeat};
 pub use words::Words;

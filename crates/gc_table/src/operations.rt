@@ -3,8 +3,9 @@
 //!
 //! All of them ask the same, that their seat may take the step at this word (`MayTake`), and promise the same, that
 //! it has taken it (`HasTaken`); they differ in what they make of the word.
-ghost use Rattle.std.specs.Prelude.{◌≡◌, ◌+◌, ◌-◌, ◌%◌, ◌^◌, ◌==◌, bit_or, bit_and};
+ghost use Rattle.std.specs.Prelude.{◌≡◌, ◌+◌, ◌-◌, ◌%◌, ◌^◌, ◌==◌, IsFalse, IsTrue, bit_or, bit_and};
 ghost use prog.Atomic.{either};
+ghost use Rattle.gc_table.specs.Entries.{is_store};
 ghost use Rattle.gc_table.specs.Operations.{HasTaken, MayTake, Writes};
 ghost use Rattle.gc_table.specs.Taking.{Finds, IsBlind};
 
@@ -25,6 +26,7 @@ impl Heap {
         requires step { _step ≡ T.step }
         requires take { MayTake self.now token.old word T.step }
         requires kind { Writes T.step (λ n. n) token.old.me.0 }
+        requires told { IsFalse (is_store T.step) }
         ensures taken { HasTaken T.step result token.old token.new }
         ensures finds { Finds T.step result token.old.me.0 }
     {
@@ -42,6 +44,7 @@ impl Heap {
         requires step { _step ≡ T.step }
         requires take { MayTake self.now token.old word T.step }
         requires kind { Writes T.step (λ _. new) token.old.me.0 }
+        requires told { IsFalse (is_store T.step) }
         ensures taken { HasTaken T.step result token.old token.new }
         ensures finds { Finds T.step result token.old.me.0 }
     {
@@ -59,6 +62,7 @@ impl Heap {
         requires step { _step ≡ T.step }
         requires take { MayTake self.now token.old word T.step }
         requires kind { Writes T.step (λ n. (n + by) % 2 ^ 64) token.old.me.0 }
+        requires told { IsFalse (is_store T.step) }
         ensures taken { HasTaken T.step result token.old token.new }
         ensures finds { Finds T.step result token.old.me.0 }
     {
@@ -76,6 +80,7 @@ impl Heap {
         requires step { _step ≡ T.step }
         requires take { MayTake self.now token.old word T.step }
         requires kind { Writes T.step (λ n. (n + (2 ^ 64 - by)) % 2 ^ 64) token.old.me.0 }
+        requires told { IsFalse (is_store T.step) }
         ensures taken { HasTaken T.step result token.old token.new }
         ensures finds { Finds T.step result token.old.me.0 }
     {
@@ -93,6 +98,7 @@ impl Heap {
         requires step { _step ≡ T.step }
         requires take { MayTake self.now token.old word T.step }
         requires kind { Writes T.step (λ n. bit_and n by) token.old.me.0 }
+        requires told { IsFalse (is_store T.step) }
         ensures taken { HasTaken T.step result token.old token.new }
         ensures finds { Finds T.step result token.old.me.0 }
     {
@@ -110,6 +116,7 @@ impl Heap {
         requires step { _step ≡ T.step }
         requires take { MayTake self.now token.old word T.step }
         requires kind { Writes T.step (λ n. bit_or n by) token.old.me.0 }
+        requires told { IsFalse (is_store T.step) }
         ensures taken { HasTaken T.step result token.old token.new }
         ensures finds { Finds T.step result token.old.me.0 }
     {
@@ -128,6 +135,7 @@ impl Heap {
         requires step { _step ≡ T.step }
         requires take { MayTake self.now token.old word T.step }
         requires kind { Writes T.step (λ n. either (n == old) new n) token.old.me.0 }
+        requires told { IsFalse (is_store T.step) }
         ensures taken { HasTaken T.step result token.old token.new }
         ensures finds { Finds T.step result token.old.me.0 }
     {
@@ -148,6 +156,7 @@ impl Heap {
         requires take { MayTake self.now token.old word T.step }
         requires kind { Writes T.step (λ _. new) token.old.me.0 }
         requires blind { IsBlind T.step token.old.me.0 }
+        requires told { IsTrue (is_store T.step) }
         ensures taken { HasTaken T.step new token.old token.new }
     {
         self.table.shared.store::<AtStored<T>>(token, word, new)

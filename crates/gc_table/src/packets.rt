@@ -1,13 +1,13 @@
 //! The steps on packets. The pools are 0 empty, 1 low, 2 high, 3 deferred.
 ghost use Rattle.std.specs.Prelude.{◌≡◌};
-ghost use Rattle.mark_core.specs.Bits.{cell_of as cell_of_word, reference_in as reference_in_word};
+ghost use Rattle.mark_core.specs.Bits.{cell_of as cell_of_word};
 ghost use Rattle.mark_core.specs.Held.{length_in_hand};
 ghost use Rattle.gc_table.specs.Seats.{Answered, Found, Sits, Stored, Took, view_of};
 ghost use Rattle.gc_table.specs.Taking.{May, won};
 
 use crate::masks::{all_but, bit};
 use crate::seat::{Heap, HeapSeat};
-use mark_core::{Cell, Step, cell_of, has_bit, pop_at, push_at, reference_in};
+use mark_core::{Cell, Step, cell_of, has_bit, pop_at, push_at};
 use std::marker::Brand;
 
 impl Heap {
@@ -136,13 +136,13 @@ impl Heap {
         self.store_step(seat, Step::StoreLength { p });
     }
 
-    /// The length of packet p, from its head.
-    pub fn read_length(&self, seat: &mut HeapSeat, p: u32) -> u32
+    /// The length of packet p, as the word of its head has it.
+    pub fn read_length(&self, seat: &mut HeapSeat, p: u32) -> u64
         requires seat { Sits self.now seat.old }
         requires may { May (Step.ReadLength p) (view_of seat.old) }
         ensures seat { Sits self.now seat.new }
-        ensures view { Answered (Step.ReadLength p) (λ n. result ≡ reference_in_word n) (view_of seat.old) (view_of seat.new) }
+        ensures view { Found (Step.ReadLength p) result (view_of seat.old) (view_of seat.new) }
     {
-        reference_in(self.load_step(seat, Step::ReadLength { p }))
+        self.load_step(seat, Step::ReadLength { p })
     }
 }

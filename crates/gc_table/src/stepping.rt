@@ -1,10 +1,11 @@
 //! One step of each kind of operation: the operation of the table, and the seat's record after it.
 //!
 //! Each hands its step to the operation below it, which is told at `Brand` which step it is (see `PicksStep`).
-ghost use Rattle.std.specs.Prelude.{◌≡◌, ◌+◌, ◌-◌, ◌%◌, ◌^◌, ◌==◌, bit_or, bit_and};
+ghost use Rattle.std.specs.Prelude.{◌≡◌, ◌+◌, ◌-◌, ◌%◌, ◌^◌, ◌==◌, IsFalse, IsTrue, bit_or, bit_and};
 ghost use prog.Atomic.{either};
 ghost use Rattle.mark_core.specs.Effects.{place, written};
 ghost use Rattle.mark_core.specs.Layout.{address as address_of};
+ghost use Rattle.gc_table.specs.Entries.{is_store};
 ghost use Rattle.gc_table.specs.Operations.{Writes};
 ghost use Rattle.gc_table.specs.Seats.{Found, Sits, Stored, view_of};
 ghost use Rattle.gc_table.specs.Taking.{Asked, IsBlind, IsOwn, May};
@@ -30,6 +31,7 @@ impl Heap {
         requires own { IsOwn step }
         requires asked { Asked step (view_of seat.old) }
         requires kind { Writes step (λ n. n) (view_of seat.old) }
+        requires told { IsFalse (is_store step) }
         ensures seat { Sits self.now seat.new }
         ensures view { Found step result (view_of seat.old) (view_of seat.new) }
     {
@@ -47,6 +49,7 @@ impl Heap {
         requires own { IsOwn step }
         requires asked { Asked step (view_of seat.old) }
         requires kind { Writes step (λ _. new) (view_of seat.old) }
+        requires told { IsFalse (is_store step) }
         ensures seat { Sits self.now seat.new }
         ensures view { Found step result (view_of seat.old) (view_of seat.new) }
     {
@@ -64,6 +67,7 @@ impl Heap {
         requires own { IsOwn step }
         requires asked { Asked step (view_of seat.old) }
         requires kind { Writes step (λ n. (n + by) % 2 ^ 64) (view_of seat.old) }
+        requires told { IsFalse (is_store step) }
         ensures seat { Sits self.now seat.new }
         ensures view { Found step result (view_of seat.old) (view_of seat.new) }
     {
@@ -81,6 +85,7 @@ impl Heap {
         requires own { IsOwn step }
         requires asked { Asked step (view_of seat.old) }
         requires kind { Writes step (λ n. (n + (2 ^ 64 - by)) % 2 ^ 64) (view_of seat.old) }
+        requires told { IsFalse (is_store step) }
         ensures seat { Sits self.now seat.new }
         ensures view { Found step result (view_of seat.old) (view_of seat.new) }
     {
@@ -98,6 +103,7 @@ impl Heap {
         requires own { IsOwn step }
         requires asked { Asked step (view_of seat.old) }
         requires kind { Writes step (λ n. bit_and n by) (view_of seat.old) }
+        requires told { IsFalse (is_store step) }
         ensures seat { Sits self.now seat.new }
         ensures view { Found step result (view_of seat.old) (view_of seat.new) }
     {
@@ -115,6 +121,7 @@ impl Heap {
         requires own { IsOwn step }
         requires asked { Asked step (view_of seat.old) }
         requires kind { Writes step (λ n. bit_or n by) (view_of seat.old) }
+        requires told { IsFalse (is_store step) }
         ensures seat { Sits self.now seat.new }
         ensures view { Found step result (view_of seat.old) (view_of seat.new) }
     {
@@ -138,6 +145,7 @@ impl Heap {
         requires own { IsOwn step }
         requires asked { Asked step (view_of seat.old) }
         requires kind { Writes step (λ n. either (n == old) new n) (view_of seat.old) }
+        requires told { IsFalse (is_store step) }
         ensures seat { Sits self.now seat.new }
         ensures view { Found step result (view_of seat.old) (view_of seat.new) }
     {
@@ -155,6 +163,7 @@ impl Heap {
         requires own { IsOwn step }
         requires asked { Asked step (view_of seat.old) }
         requires blind { IsBlind step (view_of seat.old) }
+        requires told { IsTrue (is_store step) }
         ensures seat { Sits self.now seat.new }
         ensures view { Stored step (view_of seat.old) (view_of seat.new) }
         ensures word { result ≡ written (view_of seat.old).shape (view_of seat.old).state step 0 }

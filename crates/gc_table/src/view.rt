@@ -81,4 +81,6 @@ pub struct View {
     pub own: SectionState,
     /// The same of the sections of the seats that were joined into this one.
     pub joined: LinkedList<(u32, SectionState)>,
+    /// The logs of the seats that were joined into this one, by their numbers.
+    pub logs: LinkedList<(u32, LinkedList<Entry>)>,
 }

@@ -15,10 +15,13 @@
 //! what was drawn. Whoever has all eight parts and finds nobody in line knows that each number was drawn once; so the results, sorted by their
 //! jobs, are those of job 0, 1, 2 and so on.
 //!
+//! A draw makes a [`Turn`], and a play spends it. Nothing else makes one and nothing copies it, so no number that was drawn is played twice. This
+//! the types say, and no clause: a body that plays a job twice does not compile.
+//!
 //! # Where what is
 //!
 //! `batch` and `reader` have the batch and its faults, in their order; what bytes are a batch is a function of them, `batch` in `specs/Batch.antt`.
-//! `draws` has the line of numbers and its rule, `run` the runners, `player` who plays a job, and `text` and `done` what a job answers. Each runner
+//! `draws` has the line of numbers and its rule, `turn` the draw and the right to play that it makes, `run` the runners, `player` who plays a job, and `text` and `done` what a job answers. Each runner
 //! keeps its own results on a cache line of its own (`CachePadded`), of which nothing is claimed.
 #![tactic(auto)]
 
@@ -30,6 +33,7 @@ mod player;
 mod reader;
 mod run;
 mod text;
+mod turn;
 
 pub use batch::Batch;
 pub use done::JobDone;
@@ -38,3 +42,4 @@ pub use player::Player;
 pub use reader::read_batch;
 pub use run::run_jobs;
 pub use text::Text;
+pub use turn::Turn;

@@ -7,8 +7,9 @@ ghost use Rattle.job_pool.specs.Jobs.{IsPlayed, ArePlayed, numbers};
 
 use crate::batch::Batch;
 use crate::done::JobDone;
-use crate::draws::{Another, Back, Draw, Drawer, Line, Put};
+use crate::draws::{Another, Back, Drawer, Line, Put};
 use crate::player::Player;
+use crate::turn::{Turn, draw};
 use crossbeam_utils::CachePadded;
 use plain_heap::OutOfMemory;
 use std::alloc::Global;
@@ -16,18 +17,19 @@ use std::sync::Wait;
 use std::thread;
 use std::thread::Threads;
 
-/// Plays one job.
+/// Plays the job whose turn it is.
 fn play_one<P: Player, R: Threads + Wait + Sync>(
     rt: &R,
     alloc: Global,
     jobs: &[&[u8]],
     player: &P,
-    job: u32,
+    turn: Turn,
 ) -> JobDone
-    requires { job < length jobs.now }
-    ensures { (result.job ≡ job) × IsPlayed (P.fits player.now) (map (λ s. s.now) jobs.now) result }
+    requires { turn < length jobs.now }
+    ensures { (result.job ≡ turn) × IsPlayed (P.fits player.now) (map (λ s. s.now) jobs.now) result }
 {
-    let (status, text) = player.play_job(rt, alloc, jobs[job as usize]);
+    let job = turn.job();
+    let (status, text) = player.play_job(rt, alloc, turn, jobs[job as usize]);
     JobDone { job, status, text }
 }
 
@@ -49,10 +51,10 @@ fn draw_jobs<P: Player, R: Threads + Wait + Sync>(
 {
     let mut mine = CachePadded::new(done);
     for _ in rt.forever() {
-        let Some(job) = line.pop_as::<Draw, R>(rt, &mut me) else {
+        let Some(turn) = draw(rt, line, &mut me) else {
             return Ok((me, mine.into_inner()));
         };
-        match mine.push(play_one(rt, alloc, jobs, player, job)) {
+        match mine.push(play_one(rt, alloc, jobs, player, turn)) {
             Ok(()) => {}
             Err(_) => return Err(OutOfMemory),
         }

@@ -1,13 +1,15 @@
 -- The rule of the core, part by part: each event that is allowed keeps it, and the state in which nothing has happened meets it.
-use Rattle.std.proofs.Common.{◌≡◌, List, get_or, sym, subst, None}
+use Rattle.std.proofs.Common.{ℕ, ◌≡◌, List, [], ◌∷◌, get_or, refl, sym, subst, Option, None, Some}
+use Rattle.std.specs.Prelude.{is_none, if◌then◌else◌}
 use Rattle.std.specs.List.{All}
 use Rattle.std.proofs.lemmas.Bool.{false≢true}
+use Rattle.std.proofs.lemmas.List.Elements.{All-head, All-tail}
 use Rattle.mark_core.specs.Layout.{Words, words_of}
 use Rattle.mark_core.specs.WorldRules.{Season}
 use Rattle.mark_core.specs.Start.{start_words, start_seats}
 use Rattle.mark_core.specs.Strong.{IsStrongSeat}
-use Rattle.mark_core.specs.Steps.{Core, failing_part, after_event, start_core}
-use Rattle.mark_core.specs.Laws.{IsCore, StartIsCore, EventsKeepCore, ArePacketsSound}
+use Rattle.mark_core.specs.Steps.{Core, failing_part, after_event, start_core, run_of}
+use Rattle.mark_core.specs.Laws.{IsCore, StartIsCore, EventsKeepCore, RunsAreSound, NumbersFit, AllNumbersFit, ArePacketsSound}
 use Rattle.mark_core.proofs.Blocks.BlocksKept.{BlocksSound, blocks-kept_by}
 use Rattle.mark_core.proofs.Blocks.BlocksStart.{blocks-starts}
 use Rattle.mark_core.proofs.Caches.CachesFacts.{SeatFacts, facts-kept_by, facts-starts}
@@ -72,7 +74,7 @@ core-kept c e k n f =
     let w : Words = words_of d.shape d.words in
     let world : WorldSound d.shape w d.seats = world-kept_by c e k f in
     let blocks : BlocksSound w d.seats = blocks-kept_by c e k f in
-    let packets : ArePacketsSound d = packets-kept c e k.formed k.sound.references.seats_in_use (record { pools = k.sound.pools; counts = k.sound.counts }) f in
+    let packets : ArePacketsSound d = packets-kept c e k.formed (λ _. k.sound.references.seats_in_use) (record { pools = k.sound.pools; counts = k.sound.counts }) f in
     record {
       formed = formed-kept_by c e k n f;
       sound =
@@ -132,3 +134,17 @@ core-starts sh n z some few =
             one_block_one_seat = blocks.one_block_one_seat;
           };
     }
+
+-- a run from a state that meets the rule, by whether its first event is allowed
+run_by : (e : Event) (es : List Event) (c : Core) → IsCore c → NumbersFit e.step → ((d : Core) → IsCore d → IsCore (run_of es d)) → (o : Option ℕ) → failing_part c e ≡ o → IsCore (if is_none o then run_of es (after_event c e) else c)
+run_by e es c k n later None f = later (after_event c e) (core-kept c e k n f)
+run_by e es c k n later (Some part) f = k
+
+run_from : (es : List Event) (c : Core) → IsCore c → AllNumbersFit es → IsCore (run_of es c)
+run_from [] c k fit = k
+run_from (e ∷ es) c k fit =
+    run_by e es c k (All-head (λ (x : Event). NumbersFit x.step) e es fit) (λ d h. run_from es d h (All-tail (λ (x : Event). NumbersFit x.step) e es fit)) (failing_part c e) refl
+
+-- every run from the start meets the rule
+pub runs-sound : RunsAreSound
+runs-sound sh n events z some few fit = run_from events (start_core sh n) (core-starts sh n z some few) fit

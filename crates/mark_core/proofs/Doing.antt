@@ -12,7 +12,7 @@ use Rattle.mark_core.specs.Seats.{may_mutate, cache_block}
 use Rattle.mark_core.specs.ColourSteps.{may_read_field}
 use Rattle.mark_core.specs.Parts.{parts}
 use Rattle.mark_core.specs.Effects.{place, written, seat_after}
-use Rattle.mark_core.specs.Room.{HasRoom}
+use Rattle.mark_core.specs.Room.{HasNumber, HasRoom}
 use Rattle.mark_core.specs.Bounds.{CacheFits, SeatBounds, IsBounded}
 use Rattle.mark_core.specs.Steps.{Core, first_false, AllTrue, failing_of, failing_part, others_after, after_of, after_event}
 use Rattle.mark_core.specs.Laws.{NumbersFit}
@@ -21,7 +21,7 @@ use Rattle.mark_core.proofs.Locals.{local-kept}
 use Rattle.mark_core.proofs.Ranges.{InRange, IsPlace, placed, block-below}
 use Rattle.mark_core.proofs.Regions.{address-lt-total}
 use Rattle.mark_core.proofs.SlotBounds.{length-fits}
-use Rattle.mark_core.proofs.SeatBoundsKept.{variable-fits, seat-bounds, start-bounds, spent-bounds}
+use Rattle.mark_core.proofs.SeatBoundsKept.{fits-made, variable-fits, seat-bounds, start-bounds, spent-bounds}
 use Rattle.mark_core.proofs.WordBoundsKept.{finds, word-bounds}
 use Rattle.mark_core.specs.declared.kinds.Shape.{Shape}
 use Rattle.mark_core.specs.declared.kinds.Event.{Event}
@@ -31,12 +31,17 @@ use Rattle.mark_core.specs.declared.seat.SeatState.{SeatState}
 use Rattle.mark_core.specs.declared.seat.CacheState.{CacheState}
 
 -- a step that is allowed has room for what it counts
-pub has-room : (sh : Shape) (w : Words) (seats : List SeatState) (s : SeatState) (step : Step) → IsShape sh → s.made ≤ 2000000 → AllTrue (parts sh w seats s step) → HasRoom s step
-has-room sh w seats s (Push p c) k m ok = let a : length_in_hand s.held p < sh.entries = ltb-true (length_in_hand s.held p) sh.entries (and_parts (has_length s.held p) (nat_lt (length_in_hand s.held p) sh.entries) ok.1.0).1 in omega (arith, a, k.entries)
-has-room sh w seats s (ReadField c i) k m ok = let a : i < sh.fields = ltb-true i sh.fields (and_parts (nat_lt c sh.cells) (nat_lt i sh.fields) (and_parts (nat_lt c sh.cells && nat_lt i sh.fields) (may_read_field sh s c i) ok.0).0).1 in omega (arith, a, k.fields)
-has-room sh w seats s (StoreRoot v r) k m ok = ltb-true v 32 (and_parts _ _ ok.0).0
-has-room sh w seats s (StoreNew c part word) k m ok = let a : part ≤ sh.fields + 1 = leb-true part (sh.fields + 1) (and_parts (nat_lt c sh.cells) (nat_le part (sh.fields + 1)) (and_parts (nat_lt c sh.cells && nat_le part (sh.fields + 1)) (may_mutate s) ok.0).0).1 in (omega (arith, a, k.fields), omega (arith, m))
-has-room sh w seats s step k m ok = tt
+pub has-room : (sh : Shape) (w : Words) (seats : List SeatState) (s : SeatState) (step : Step) → IsShape sh → AllTrue (parts sh w seats s step) → HasRoom s step
+has-room sh w seats s (Push p c) k ok = let a : length_in_hand s.held p < sh.entries = ltb-true (length_in_hand s.held p) sh.entries (and_parts (has_length s.held p) (nat_lt (length_in_hand s.held p) sh.entries) ok.1.0).1 in omega (arith, a, k.entries)
+has-room sh w seats s (ReadField c i) k ok = let a : i < sh.fields = ltb-true i sh.fields (and_parts (nat_lt c sh.cells) (nat_lt i sh.fields) (and_parts (nat_lt c sh.cells && nat_lt i sh.fields) (may_read_field sh s c i) ok.0).0).1 in omega (arith, a, k.fields)
+has-room sh w seats s (StoreRoot v r) k ok = ltb-true v 32 (and_parts _ _ ok.0).0
+has-room sh w seats s (StoreNew c part word) k ok = let a : part ≤ sh.fields + 1 = leb-true part (sh.fields + 1) (and_parts (nat_lt c sh.cells) (nat_le part (sh.fields + 1)) (and_parts (nat_lt c sh.cells && nat_le part (sh.fields + 1)) (may_mutate s) ok.0).0).1 in omega (arith, a, k.fields)
+has-room sh w seats s step k ok = tt
+
+-- and a number for the object that it finishes
+pub has-number : (sh : Shape) (w : Words) (seats : List SeatState) (s : SeatState) (step : Step) → IsShape sh → AllTrue (parts sh w seats s step) → HasNumber sh s step
+has-number sh w seats s (StoreNew c part word) k ok = λ h. omega (arith, k.objects, fits-made sh s part word h ok.1.1.0)
+has-number sh w seats s step k ok = tt
 
 -- a split that is allowed finds fewer than all seats
 split_room : (sh : Shape) (w : Words) (seats : List SeatState) (s : SeatState) (step : Step) → AllTrue (parts sh w seats s step) → step ≡ Split → length seats < 41
@@ -68,6 +73,7 @@ pub record Ready (c : Core) (e : Event) (s : SeatState) : Type 0 where
   pub seat : e.seat < length c.seats
   pub within : address c.shape (place c.shape s e.step) < length c.words
   pub room : HasRoom s e.step
+  pub number : HasNumber c.shape s e.step
   pub split : e.step ≡ Split → length c.seats < 41
   pub after : after_event c e ≡ after_of c e.seat (Some s) e.step
   pub bounded : IsBounded (after_of c e.seat (Some s) e.step)
@@ -97,7 +103,8 @@ ready c e s k f is =
     record {
       seat = hi;
       within = rw k.word_count (address-lt-total (region_sizes c.shape) (place c.shape s e.step).0 (place c.shape s e.step).1 at);
-      room = has-room c.shape w c.seats s e.step k.shaped b.made ok;
+      room = has-room c.shape w c.seats s e.step k.shaped ok;
+      number = has-number c.shape w c.seats s e.step k.shaped ok;
       split = split_room c.shape w c.seats s e.step ok;
       after = ap (λ o. after_of c e.seat o e.step) got;
       bounded = record {

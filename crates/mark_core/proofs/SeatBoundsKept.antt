@@ -163,19 +163,19 @@ block-after sh s ClearMarks old k = tt
 block-after sh s step old k = k
 
 -- the last part of a new cell counts one more, below the most that a seat may make
-fits_made : (sh : Shape) (s : SeatState) (part word : ℕ) → sh.fields < part → fits_part sh s part word ≡ true → s.made < 2000000
-fits_made sh s part word h e =
+pub fits-made : (sh : Shape) (s : SeatState) (part word : ℕ) → sh.fields < part → fits_part sh s part word ≡ true → s.made < sh.objects
+fits-made sh s part word h e =
     let a : nat_lt part sh.fields ≡ false = le-ltb part sh.fields (omega (arith, h)) in
     let b : eqb part sh.fields ≡ false = ne_eqb part sh.fields (λ i. omega (arith, h, i)) in
     let f = rw (a, b) at e in
-    ltb-true s.made 2000000 (and_parts _ _ (and_parts _ _ f).0).1
+    ltb-true s.made sh.objects (and_parts _ _ (and_parts _ _ f).0).1
 
-next_made : (b : Bool) (n : ℕ) → n ≤ 2000000 → (b ≡ false → n < 2000000) → cond b n (n + 1) ≤ 2000000
-next_made true n m h = m
-next_made false n m h = omega (arith, h refl)
+next_made : (b : Bool) (n m : ℕ) → n ≤ m → (b ≡ false → n < m) → cond b n (n + 1) ≤ m
+next_made true n m l h = l
+next_made false n m l h = omega (arith, h refl)
 
-pub made-after : (sh : Shape) (w : Words) (seats : List SeatState) (s : SeatState) (step : Step) (old : ℕ) → s.made ≤ 2000000 → AllTrue (parts sh w seats s step) → (seat_after sh s step old).made ≤ 2000000
-made-after sh w seats s (StoreNew c part word) old m ok = next_made (nat_le part sh.fields) s.made m (λ e. fits_made sh s part word (leb-false part sh.fields e) ok.1.1.0)
+pub made-after : (sh : Shape) (w : Words) (seats : List SeatState) (s : SeatState) (step : Step) (old : ℕ) → s.made ≤ sh.objects → AllTrue (parts sh w seats s step) → (seat_after sh s step old).made ≤ sh.objects
+made-after sh w seats s (StoreNew c part word) old m ok = next_made (nat_le part sh.fields) s.made sh.objects m (λ e. fits-made sh s part word (leb-false part sh.fields e) ok.1.1.0)
 made-after sh w seats s step old m ok = m
 
 pub seat-bounds : (sh : Shape) (w : Words) (seats : List SeatState) (s : SeatState) (step : Step) (old : ℕ) → SeatBounds sh s → AllTrue (parts sh w seats s step) → Finds sh step old → SeatBounds sh (seat_after sh s step old)

@@ -36,7 +36,7 @@ pub record SeatBounds (sh : Shape) (s : SeatState) : Type 0 where
   pub got : IsReference sh s.got
   pub cache : IfSome s.cache (CacheFits sh)
   pub block : IfSome s.block (λ (x : BlockState). x.block < block_count sh)
-  pub made : s.made ≤ 2000000
+  pub made : s.made ≤ sh.objects
 
 -- the sizes are within their limits, all words and at most 41 seats are there, and what they hold is in range
 pub record IsBounded (c : Core) : Type 0 where

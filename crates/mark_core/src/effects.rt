@@ -2,7 +2,7 @@
 ghost use Rattle.std.specs.Prelude.{◌≡◌};
 ghost use Rattle.mark_core.specs.Effects.{written, seat_after};
 ghost use Rattle.mark_core.specs.Passes.{pass_of as pass_of_step};
-ghost use Rattle.mark_core.specs.Room.{HasRoom};
+ghost use Rattle.mark_core.specs.Room.{HasNumber, HasRoom};
 ghost use Rattle.mark_core.specs.declared.kinds.Shape.{Shape};
 
 use crate::kinds::{Shape, Step};
@@ -13,7 +13,8 @@ use crate::steps::{colour, help, making, mutator, packets, phase, season, sweep,
 /// Changes the seat's record, and answers what its word becomes, where the word was `old`.
 #[inline(always)]
 pub fn act(shape: &Shape, s: &mut SeatState, step: &Step, old: u64) -> u64
-    requires { HasRoom s.old step.now }
+    requires room { HasRoom s.old step.now }
+    requires number { HasNumber shape.now s.old step.now }
     ensures word { result ≡ written shape.now s.old step.now old }
     ensures seat { s.new ≡ seat_after shape.now s.old step.now old }
 {
@@ -92,6 +93,7 @@ fn of_mutator(s: &mut SeatState, step: &Step, old: u64) -> u64
 fn of_making(shape: &Shape, s: &mut SeatState, step: &Step, old: u64) -> u64
     requires pass { pass_of_step step.now ≡ Pass.Making }
     requires room { HasRoom s.old step.now }
+    requires number { HasNumber shape.now s.old step.now }
     ensures word { result ≡ written shape.now s.old step.now old }
     ensures seat { s.new ≡ seat_after shape.now s.old step.now old }
 {

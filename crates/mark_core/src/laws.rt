@@ -1,5 +1,5 @@
 // What holds of every state of the core and of every event: each law is the contract of a function that does nothing.
-ghost use Rattle.mark_core.specs.Laws.{StartIsCore, EventsKeepCore, StartMeetsPackets, EventsKeepPackets, CountShowsQuiet, ClosedMarksAll, FullIsReachable, ReachableStay, StartIsSwept, EventsKeepSwept, EventsKeepNotes, EventsKeepBounds};
+ghost use Rattle.mark_core.specs.Laws.{StartIsCore, EventsKeepCore, RunsAreSound, StartMeetsPackets, EventsKeepPackets, CountShowsQuiet, ClosedMarksAll, FullIsReachable, ReachableStay, StartIsSwept, EventsKeepSwept, EventsKeepNotes, EventsKeepBounds};
 
 /// The state in which nothing has happened is sound: over all shapes and any number of seats.
 pub fn start_is_core()
@@ -12,6 +12,12 @@ pub fn events_keep_core()
     ensures { EventsKeepCore }
 {}
 
+/// Every run is sound: for every legal shape, 1 to 41 seats and every list of events whose numbers fit words, the state that [`crate::CoreState::run`] leaves
+/// after starting is sound. Each front of a list is a list, so it is sound at each moment on the way.
+pub fn runs_are_sound()
+    ensures { RunsAreSound }
+{}
+
 /// In the state in which nothing has happened every packet is in the empty pool, and the count says so: over all shapes and any number of seats.
 pub fn packets_start()
     ensures { StartMeetsPackets }
@@ -19,7 +25,7 @@ pub fn packets_start()
 
 /// Each event that is allowed keeps the rules of packets: a packet is in one pool or in one hand, a pool holds packets of its lengths,
 /// the count of empty packets is exact once reservations and credits are added, and no seat has work in hand without a packet.
-/// It asks that words and records are in range, and that what seats name is in use.
+/// It asks that words and records are in range, and for a store in an object that what seats name is in use.
 pub fn packets_are_kept()
     ensures { EventsKeepPackets }
 {}

@@ -4,6 +4,7 @@ mod cleaning;
 mod mutators;
 mod objects;
 mod opening;
+mod orders;
 mod packets;
 mod pools;
 mod seasons;
@@ -22,6 +23,7 @@ const SMALL: Shape = Shape {
     entries: 2,
     sections: 2,
     fields: 4,
+    objects: 2_000_000,
 };
 
 /// The same with four packets.
@@ -31,4 +33,15 @@ const FOUR: Shape = Shape {
     entries: 2,
     sections: 2,
     fields: 4,
+    objects: 2_000_000,
+};
+
+/// One block, and two packets of four entries.
+const DEEP: Shape = Shape {
+    cells: 64,
+    packets: 2,
+    entries: 4,
+    sections: 2,
+    fields: 4,
+    objects: 2_000_000,
 };

@@ -1,15 +1,18 @@
 -- What the events of a scan count, as more events come.
-use Rattle.std.proofs.Common.{ℕ, ◌≡◌, ◌<◌, ◌≤◌, ◌+◌, List, [], ◌∷◌, ◌++◌, arith, refl, sym, ap, ◌∙◌, ◌%◌, subst, Bool, true, false, not, cond, ◌⊎◌, inl, inr, ⊎_elim, append_assoc}
-use Rattle.std.proofs.lemmas.Bool.{and_parts, and_from, false≢true, cases_lt}
+use Rattle.std.proofs.Common.{ℕ, ◌≡◌, ◌+◌, List, [], ◌∷◌, ◌++◌, arith, refl, sym, ap, ◌∙◌, ◌%◌, subst, Bool, true, false, not, cond, append_assoc}
+use Rattle.std.proofs.lemmas.Bool.{and_parts, and_from, false≢true, or_from}
+use Rattle.std.proofs.lemmas.List.{append-nil}
 use Rattle.mark_core.specs.Bits.{has_bit}
 use Rattle.mark_core.specs.declared.kinds.Shape.{Shape}
 use Rattle.mark_core.specs.declared.kinds.Step.{Step}
 use Rattle.mark_core.specs.declared.kinds.Step.TheVariants.{Push, ReadField, SetMark, DirtyCard, Give, Credit, StoreLength}
 use Rattle.gc_table.specs.declared.view.Entry.{Entry}
 use Rattle.gc_table.specs.Log.{steps_of}
-use Rattle.packet_pools.specs.Seeking.{moves_packet, only_moves, NoOutput}
-use Rattle.packet_pools.specs.Counts.{marks_white, pushes, dirties, scans_object, count_of, only_scans, SomeStretch, Counts}
+use Rattle.packet_pools.specs.Seeking.{moves_packet, only_moves, NoOutput, some_event}
+use Rattle.packet_pools.specs.Counts.{marks_white, pushes, dirties, dirties_after_search, scans_object, searches_in_vain, count_of, only_scans, SomeStretch, Counts}
+use Rattle.packet_pools.specs.Orders.{each_after, some_end}
 use Rattle.gc_table.proofs.Log.{entry_of}
+use Rattle.packet_pools.proofs.Orders.{after-earlier, after-join, after-none, end-more, end-whole}
 use Rattle.packet_pools.proofs.Searches.{moves-steps, all_move}
 
 pub count-join : (f : Step → ℕ → Bool) (xs ys : List Entry) → count_of f (xs ++ ys) ≡ count_of f xs + count_of f ys
@@ -26,8 +29,25 @@ stretch-left P xs ys s = (s.0, s.1, s.2 ++ ys, ap (λ l. l ++ ys) s.3 ∙ (appen
 pub stretch-right : (P : List Entry → Type 0) (xs ys : List Entry) → SomeStretch P ys → SomeStretch P (xs ++ ys)
 stretch-right P xs ys s = (xs ++ s.0, s.1, s.2, ap (λ l. xs ++ l) s.3 ∙ sym (append_assoc xs s.0 (s.1 ++ s.2)), s.4)
 
-pub either-some : (m n : ℕ) → 0 < m + n → (0 < m) ⊎ (0 < n)
-either-some m n l = ⊎_elim (λ (h : 0 < m). inl h) (λ (h : m ≤ 0). inr (omega (arith, l, h))) (cases_lt 0 m)
+-- cards that were dirtied after searches in two calls
+pub searched-join : (sh : Shape) (xs ys es : List Entry) → es ≡ xs ++ ys → dirties_after_search sh xs ≡ true → dirties_after_search sh ys ≡ true → dirties_after_search sh es ≡ true
+searched-join sh xs ys es all a b =
+    ap (dirties_after_search sh) all
+    ∙ after-join test dirties [] xs ys a (subst (λ (zs : List Entry). each_after test dirties zs ys ≡ true) (append-nil xs) (after-earlier test test dirties xs (end-more (searches_in_vain sh) xs) [] ys b))
+  where
+    test : List Entry → Bool
+    test = some_end (searches_in_vain sh)
+
+-- no card was dirtied
+pub searched-none : (sh : Shape) (es : List Entry) → some_event dirties es ≡ false → dirties_after_search sh es ≡ true
+searched-none sh es n = after-none (some_end (searches_in_vain sh)) dirties [] es n
+
+-- a card that was dirtied right after a search in vain
+pub searched-one : (sh : Shape) (card n : ℕ) (xs es : List Entry) → es ≡ xs ++ entry_of (DirtyCard card) n ∷ [] → some_event dirties xs ≡ false → NoOutput sh xs → only_moves (0 ∷ 1 ∷ 2 ∷ []) xs ≡ true → dirties_after_search sh es ≡ true
+searched-one sh card n xs es all quiet none moves =
+    ap (dirties_after_search sh) all
+    ∙ after-join (some_end (searches_in_vain sh)) dirties [] xs (entry_of (DirtyCard card) n ∷ []) (searched-none sh xs quiet)
+    (and_from _ _ (end-whole (searches_in_vain sh) xs (and_from _ _ none moves)) refl)
 
 -- one part of a scan after another
 pub counts-join : (sh : Shape) (a b s k l r m n t : ℕ) (xs ys es : List Entry) → es ≡ xs ++ ys → a + b ≡ s → k + l ≡ r → m + n ≡ t → Counts sh a k m xs → Counts sh b l n ys → Counts sh s r t es
@@ -36,15 +56,12 @@ counts-join sh a b s k l r m n t xs ys es all white kept lost f g =
       marked = ap (count_of marks_white) all ∙ (count-join marks_white xs ys ∙ ((λ i. f.marked i + g.marked i) ∙ white));
       pushed = ap (count_of pushes) all ∙ (count-join pushes xs ys ∙ ((λ i. f.pushed i + g.pushed i) ∙ kept));
       overflowed = ap (count_of dirties) all ∙ (count-join dirties xs ys ∙ ((λ i. f.overflowed i + g.overflowed i) ∙ lost));
-      cause =
-          λ h.
-          subst (SomeStretch (NoOutput sh)) (sym all)
-          (⊎_elim (λ e. stretch-left (NoOutput sh) xs ys (f.cause e)) (λ e. stretch-right (NoOutput sh) xs ys (g.cause e)) (either-some m n (subst (λ x. 0 < x) (sym lost) h)));
+      cause = searched-join sh xs ys es all f.cause g.cause;
       scans = ap only_scans all ∙ scans-join xs ys f.scans g.scans;
     }
 
 pub counts-none : (sh : Shape) → Counts sh 0 0 0 []
-counts-none sh = record { marked = refl; pushed = refl; overflowed = refl; cause = λ l. absurd (omega (arith, l)); scans = refl }
+counts-none sh = record { marked = refl; pushed = refl; overflowed = refl; cause = refl; scans = refl }
 
 -- a step that moves a packet is none that counts
 idle : (step : Step) (found : ℕ) → moves_packet (0 ∷ 1 ∷ 2 ∷ []) step ≡ true → (marks_white step found ≡ false) × (pushes step found ≡ false) × (dirties step found ≡ false) × (scans_object step ≡ true)
@@ -53,6 +70,11 @@ idle (DirtyCard card) found m = absurd (false≢true m)
 idle (Push p cell) found m = absurd (false≢true m)
 idle (ReadField c i) found m = absurd (false≢true m)
 idle step found m = (refl, refl, refl, m)
+
+-- steps that move packets dirty no card
+pub quiet : (es : List Entry) → only_moves (0 ∷ 1 ∷ 2 ∷ []) es ≡ true → some_event dirties es ≡ false
+quiet [] m = refl
+quiet (e ∷ es) m = let h = and_parts (moves_packet (0 ∷ 1 ∷ 2 ∷ []) e.step) (only_moves (0 ∷ 1 ∷ 2 ∷ []) es) m in or_from _ _ (idle e.step e.found h.0).2 (quiet es h.1)
 
 pub counts-moves : (sh : Shape) (es : List Entry) → only_moves (0 ∷ 1 ∷ 2 ∷ []) es ≡ true → Counts sh 0 0 0 es
 counts-moves sh [] m = counts-none sh
@@ -64,7 +86,7 @@ counts-moves sh (e ∷ es) m =
       marked = (λ i. cond (k.0 i) 1 0 + r.marked i);
       pushed = (λ i. cond (k.1 i) 1 0 + r.pushed i);
       overflowed = (λ i. cond (k.2 i) 1 0 + r.overflowed i);
-      cause = λ l. absurd (omega (arith, l));
+      cause = searched-none sh (e ∷ es) (or_from _ _ k.2 (quiet es h.1));
       scans = and_from _ _ k.3 r.scans;
     }
 
@@ -78,29 +100,30 @@ given-moves qs p b es e = moves-steps qs es ∙ (ap (all_move qs) e ∙ moving b
 
 -- a cell that was pushed
 pub counts-push : (sh : Shape) (p c n : ℕ) → Counts sh 0 1 0 (entry_of (Push p c) n ∷ [])
-counts-push sh p c n = record { marked = refl; pushed = refl; overflowed = refl; cause = λ l. absurd (omega (arith, l)); scans = refl }
+counts-push sh p c n = record { marked = refl; pushed = refl; overflowed = refl; cause = refl; scans = refl }
 
 -- a field that was read
 pub counts-read : (sh : Shape) (c i n : ℕ) → Counts sh 0 0 0 (entry_of (ReadField c i) n ∷ [])
-counts-read sh c i n = record { marked = refl; pushed = refl; overflowed = refl; cause = λ l. absurd (omega (arith, l)); scans = refl }
+counts-read sh c i n = record { marked = refl; pushed = refl; overflowed = refl; cause = refl; scans = refl }
 
 -- a cell that was tried
 pub counts-mark : (sh : Shape) (c n : ℕ) (b : Bool) → has_bit n (c % 64) ≡ b → Counts sh (cond b 0 1) 0 0 (entry_of (SetMark c) n ∷ [])
 counts-mark sh c n b e =
-    record { marked = ap (λ d. cond (not d) 1 0 + 0) e ∙ either b; pushed = refl; overflowed = refl; cause = λ l. absurd (omega (arith, l)); scans = refl }
+    record { marked = ap (λ d. cond (not d) 1 0 + 0) e ∙ either b; pushed = refl; overflowed = refl; cause = refl; scans = refl }
   where
     either : (d : Bool) → cond (not d) 1 0 + 0 ≡ cond d 0 1
     either true = refl
     either false = refl
 
 -- a cell that found no packet, after a search that found none
-pub counts-lost : (sh : Shape) (card n : ℕ) (xs es : List Entry) → es ≡ xs ++ (entry_of (DirtyCard card) n ∷ []) → NoOutput sh xs → Counts sh 0 0 0 xs → Counts sh 0 0 1 es
-counts-lost sh card n xs es all none c =
+pub counts-lost : (sh : Shape) (card n : ℕ) (xs es : List Entry) → es ≡ xs ++ (entry_of (DirtyCard card) n ∷ []) → NoOutput sh xs → only_moves (0 ∷ 1 ∷ 2 ∷ []) xs ≡ true → Counts sh 0 0 1 es
+counts-lost sh card n xs es all none moves =
+    let c = counts-moves sh xs moves in
     let one : List Entry = entry_of (DirtyCard card) n ∷ [] in
     record {
       marked = ap (count_of marks_white) all ∙ (count-join marks_white xs one ∙ (λ i. c.marked i + 0));
       pushed = ap (count_of pushes) all ∙ (count-join pushes xs one ∙ (λ i. c.pushed i + 0));
       overflowed = ap (count_of dirties) all ∙ (count-join dirties xs one ∙ (λ i. c.overflowed i + 1));
-      cause = λ l. ([], xs, one, all, none);
+      cause = searched-one sh card n xs es all (quiet xs moves) none moves;
       scans = ap only_scans all ∙ scans-join xs one c.scans refl;
     }

@@ -2,6 +2,8 @@ pub mod Keeping
 pub mod TracedSteps
 pub mod Conditions
 pub mod Searches
+pub mod AllMissed
+pub mod Orders
 pub mod InHand
 pub mod Doing
 pub mod TakenOne
@@ -20,3 +22,4 @@ pub mod Pushed
 pub mod Rounds
 pub mod Reading
 pub mod Marked
+pub mod SearchRows

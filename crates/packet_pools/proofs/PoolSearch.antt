@@ -1,6 +1,6 @@
 -- One pool is searched after another.
 use Rattle.std.proofs.Common.{ℕ, ◌≡◌, ◌<◌, ◌*◌, List, [], ◌∷◌, ◌++◌, arith, refl, sym, ap, ◌∙◌, subst, ⊎_elim, inl, inr, Bool, true, false, ◌&&◌, ◌||◌}
-use Rattle.std.proofs.lemmas.Bool.{false≢true, true≢false, or_left, or_right, or_cases}
+use Rattle.std.proofs.lemmas.Bool.{and_from, true≢false}
 use Rattle.mark_core.specs.Layout.{pool_words}
 use Rattle.mark_core.specs.Held.{holds}
 use Rattle.mark_core.specs.declared.kinds.Shape.{Shape}
@@ -11,39 +11,30 @@ use Rattle.packet_pools.specs.declared.held.Held.{Held}
 use Rattle.packet_pools.specs.OnlyTraced.{OnlyTraced}
 use Rattle.gc_table.specs.Log.{events}
 use Rattle.packet_pools.specs.Hands.{with_packet}
-use Rattle.packet_pools.specs.Seeking.{gets, gets_from, loses, shows_outside, seen_outside, was_lost, was_full, was_got, AllMissed, only_moves}
+use Rattle.packet_pools.specs.Seeking.{all_missed, gets, gets_from, was_missed, was_missed_in, was_full, was_got, only_moves}
 use Rattle.packet_pools.specs.Gains.{ComesFrom, Takes, Gains, Misses}
 use Rattle.gc_table.proofs.Log.{events-join}
-use Rattle.packet_pools.proofs.Searches.{before-left, before-right, missed-left, missed-right, none-got, some-parts, some-right, first-pool, moves-join, next-pools}
+use Rattle.packet_pools.proofs.AllMissed.{all-missed-left, all-missed-right, all-range}
+use Rattle.packet_pools.proofs.Searches.{missed-left, missed-right, none-got, some-parts, some-right, first-pool, moves-join, next-pools}
 
 pub below-words : (sh : Shape) (p : ℕ) → p < sh.packets → p < 64 * pool_words sh
 below-words sh p l = omega (arith, l)
 
-without-room : (a b f : Bool) → (a || b || (false && f)) ≡ true → (a || b) ≡ true
-without-room true b f e = refl
-without-room false true f e = refl
-without-room false false f e = e
+without-room : (a f : Bool) → (a || (false && f)) ≡ true → a ≡ true
+without-room true f e = refl
+without-room false f e = e
 
 -- a whole pool without a packet
-pub all-missed : (sh : Shape) (q : ℕ) (es : List Entry) → Misses sh q false 0 (64 * pool_words sh) es → AllMissed sh q es
-all-missed sh q es m p l = without-room (seen_outside q p es) (was_lost p es) (was_full sh.entries p es) (m.all p (omega arith) (below-words sh p l) l)
+pub pool-missed : (sh : Shape) (q : ℕ) (es : List Entry) → Misses sh q false 0 (64 * pool_words sh) es → (p : ℕ) → p < sh.packets → was_missed q p es ≡ true
+pool-missed sh q es m p l = without-room (was_missed q p es) (was_full sh.entries p es) (m.all p (omega arith) (below-words sh p l) l)
 
-either-left : (q p : ℕ) (xs ys : List Entry) → (seen_outside q p xs || was_lost p xs) ≡ true → (seen_outside q p (xs ++ ys) || was_lost p (xs ++ ys)) ≡ true
-either-left q p xs ys e = ⊎_elim (λ a. or_left _ _ (before-left p (shows_outside q p) xs ys a)) (λ b. or_right (seen_outside q p (xs ++ ys)) _ (before-left p (loses p) xs ys b)) (or_cases (seen_outside q p xs) (was_lost p xs) e)
-
-either-right : (q p : ℕ) (xs ys : List Entry) → was_got p xs ≡ false → (seen_outside q p ys || was_lost p ys) ≡ true → (seen_outside q p (xs ++ ys) || was_lost p (xs ++ ys)) ≡ true
-either-right q p xs ys n e = ⊎_elim (λ a. or_left _ _ (before-right p (shows_outside q p) xs ys n a)) (λ b. or_right (seen_outside q p (xs ++ ys)) _ (before-right p (loses p) xs ys n b)) (or_cases (seen_outside q p ys) (was_lost p ys) e)
-
-pub all-left : (sh : Shape) (q : ℕ) (xs ys : List Entry) → AllMissed sh q xs → AllMissed sh q (xs ++ ys)
-all-left sh q xs ys m p l = either-left q p xs ys (m p l)
-
-pub all-right : (sh : Shape) (q : ℕ) (xs ys : List Entry) → ((p : ℕ) → was_got p xs ≡ false) → AllMissed sh q ys → AllMissed sh q (xs ++ ys)
-all-right sh q xs ys n m p l = either-right q p xs ys (n p) (m p l)
+pub all-missed : (sh : Shape) (q : ℕ) (es : List Entry) → Misses sh q false 0 (64 * pool_words sh) es → all_missed sh (q ∷ []) es ≡ true
+all-missed sh q es m = all-range (λ p. was_missed_in (q ∷ []) p es) 0 sh.packets (λ p l. and_from _ _ (pool-missed sh q es m p (omega (arith, l))) refl)
 
 -- where a packet came from, with events before it that got none
 comes-right : (sh : Shape) (qs : List ℕ) (h : Held) (xs ys : List Entry) → ((p : ℕ) → was_got p xs ≡ false) → ComesFrom sh qs h ys → ComesFrom sh qs h (xs ++ ys)
 comes-right sh [] h xs ys n c = c
-comes-right sh (q ∷ qs) h xs ys n c = ⊎_elim (λ a. inl (a.0, some-right (gets_from q h.packet) xs ys a.1)) (λ b. inr (all-right sh q xs ys n b.0, comes-right sh qs h xs ys n b.1)) c
+comes-right sh (q ∷ qs) h xs ys n c = ⊎_elim (λ a. inl (a.0, some-right (gets_from q h.packet) xs ys a.1)) (λ b. inr (all-missed-right sh (q ∷ []) xs ys n b.0, comes-right sh qs h xs ys n b.1)) c
 
 -- a packet of the first pool
 pub takes-first : (q : ℕ) (qs : List ℕ) (room : Bool) (h : Held) (v w : View) → v.state.reserved ≡ false → Gains q room h v w → Takes (q ∷ qs) h v w
@@ -61,13 +52,13 @@ pub takes-next : (sh : Shape) (q : ℕ) (qs : List ℕ) (h : Held) (v u w : View
 takes-next sh q qs h v u w shape a b e m t =
     let es = events-join v u w a.log b.log in
     let none : (p : ℕ) → was_got p (events v u) ≡ false = λ p. none-got sh q 0 (64 * pool_words sh) p (events v u) m in
-    let missed : AllMissed v.shape q (events v u) = subst (λ (s : Shape). AllMissed s q (events v u)) (sym shape) (all-missed sh q (events v u) m) in
+    let missed : all_missed v.shape (q ∷ []) (events v u) ≡ true = subst (λ (s : Shape). all_missed s (q ∷ []) (events v u) ≡ true) (sym shape) (all-missed sh q (events v u) m) in
     record {
       unheld = ap (λ (s : SeatState). holds s.held h.packet) (sym e) ∙ t.unheld;
       held = t.held;
       state = t.state ∙ ap (λ (s : SeatState). record s { held = with_packet s.held h.packet h.length }) e;
       from = inr (
-        subst (AllMissed v.shape q) (sym es) (all-left v.shape q (events v u) (events u w) missed),
+        ap (all_missed v.shape (q ∷ [])) es ∙ all-missed-left v.shape (q ∷ []) (events v u) (events u w) missed,
         subst (ComesFrom v.shape qs h) (sym es) (comes-right v.shape qs h (events v u) (events u w) none (subst (λ (s : Shape). ComesFrom s qs h (events u w)) a.shape t.from)),
       );
       moves = ap (only_moves (q ∷ qs)) es ∙ moves-join (q ∷ qs) (events v u) (events u w) (first-pool q qs (events v u) m.moves) (next-pools q qs (events u w) t.moves);
@@ -86,24 +77,3 @@ misses-within sh q room lo hi xs es ys nx ny mx my m =
           (some-parts (gets p) xs (es ++ ys) e);
       moves = moves-join (q ∷ []) xs (es ++ ys) mx (moves-join (q ∷ []) es ys m.moves my);
     }
-
--- none in two pools
-pub two-pools : (a b l : Bool) → (a || l) ≡ true → (b || l) ≡ true → ((a && (b && true)) || l) ≡ true
-two-pools a b true x y = or_right _ true refl
-two-pools true true false x y = refl
-two-pools true false false x y = y
-two-pools false b false x y = absurd (false≢true x)
-
--- none in one
-pub one-pool : (a l : Bool) → (a || l) ≡ true → ((a && true) || l) ≡ true
-one-pool true l e = refl
-one-pool false l e = e
-
--- none in three, or no room
-pub three-pools : (a b c l f : Bool) → (a || l) ≡ true → (b || l) ≡ true → (c || l || (true && f)) ≡ true → ((a && (b && (c && true))) || l || f) ≡ true
-three-pools a b c true f x y z = or_left _ f (or_right _ true refl)
-three-pools a b c false true x y z = or_right _ true refl
-three-pools true true true false false x y z = refl
-three-pools true true false false false x y z = z
-three-pools true false c false false x y z = absurd (false≢true y)
-three-pools false b c false false x y z = absurd (false≢true x)

@@ -1,5 +1,5 @@
 -- What a seat has in hand after each step of a scan.
-use Rattle.std.proofs.Common.{ℕ, ◌≡◌, ◌≤◌, ◌+◌, ◌/◌, ◌%◌, ◌⊎◌, inl, inr, arith, refl, sym, ap, ◌∙◌, subst, Bool, true, false, cond, Some, None, Option, eq-eqb}
+use Rattle.std.proofs.Common.{ℕ, ◌≡◌, ◌≤◌, ◌+◌, ◌%◌, ◌⊎◌, inl, inr, arith, refl, sym, ap, ◌∙◌, subst, Bool, true, false, cond, Some, None, Option, eq-eqb}
 use Rattle.mark_core.specs.Bits.{has_bit}
 use Rattle.mark_core.specs.Held.{has_free_slot, drop_packet}
 use Rattle.mark_core.specs.Seats.{is_the}

@@ -6,7 +6,7 @@ use Rattle.mark_core.specs.declared.kinds.Step.TheVariants.{Reserve, Take, Give,
 use Rattle.mark_core.specs.declared.kinds.Shape.{Shape}
 use Rattle.gc_table.specs.declared.view.Entry.{Entry}
 use Rattle.gc_table.specs.Log.{steps_of}
-use Rattle.packet_pools.specs.Seeking.{gets, shows_outside, loses, some_event, before_got, was_full, was_got, reads_full, gets_from, in_pools, moves_packet, only_moves}
+use Rattle.packet_pools.specs.Seeking.{gets, shows_outside, loses, some_event, before_got, was_full, was_got, was_missed, reads_full, gets_from, in_pools, moves_packet, only_moves}
 use Rattle.packet_pools.specs.Gains.{missed, Misses}
 
 pub some-left : (f : Step → ℕ → Bool) (xs ys : List Entry) → some_event f xs ≡ true → some_event f (xs ++ ys) ≡ true
@@ -47,23 +47,26 @@ pub full-right : (entries p : ℕ) (xs ys : List Entry) → was_full entries p y
 full-right entries p [] ys h = h
 full-right entries p (x ∷ xs) ys h = or_right (gets_from 2 p x.step x.found && some_event (reads_full entries p) (xs ++ ys)) _ (full-right entries p xs ys h)
 
--- one of three
-three : (a b c a' b' c' : Bool) → (a ≡ true → a' ≡ true) → (b ≡ true → b' ≡ true) → (c ≡ true → c' ≡ true) → (a || b || c) ≡ true → (a' || b' || c') ≡ true
-three a b c a' b' c' f g h e =
-    ⊎_elim
-    (λ x. ⊎_elim (λ y. or_left _ c' (or_left _ b' (f y))) (λ y. or_left _ c' (or_right a' _ (g y))) (or_cases a b x))
-    (λ x. or_right (a' || b') _ (h x))
-    (or_cases (a || b) c e)
+-- one of two
+pub either-way : (a b a' b' : Bool) → (a ≡ true → a' ≡ true) → (b ≡ true → b' ≡ true) → (a || b) ≡ true → (a' || b') ≡ true
+either-way a b a' b' f g e = ⊎_elim (λ x. or_left _ b' (f x)) (λ x. or_right a' _ (g x)) (or_cases a b e)
+
+-- a packet that couldn't be had out of a pool, with events after and before
+pub was-missed-left : (q p : ℕ) (xs ys : List Entry) → was_missed q p xs ≡ true → was_missed q p (xs ++ ys) ≡ true
+was-missed-left q p xs ys h = either-way _ _ _ _ (before-left p (shows_outside q p) xs ys) (before-left p (loses q p) xs ys) h
+
+pub was-missed-right : (q p : ℕ) (xs ys : List Entry) → was_got p xs ≡ false → was_missed q p ys ≡ true → was_missed q p (xs ++ ys) ≡ true
+was-missed-right q p xs ys n h = either-way _ _ _ _ (before-right p (shows_outside q p) xs ys n) (before-right p (loses q p) xs ys n) h
 
 pub missed-left : (entries q : ℕ) (room : Bool) (p : ℕ) (xs ys : List Entry) → missed entries q room p xs ≡ true → missed entries q room p (xs ++ ys) ≡ true
 missed-left entries q room p xs ys h =
-    three _ _ _ _ _ _ (before-left p (shows_outside q p) xs ys) (before-left p (loses p) xs ys)
+    either-way _ _ _ _ (was-missed-left q p xs ys)
     (λ e. let b = and_parts room (was_full entries p xs) e in and_from _ _ b.0 (full-left entries p xs ys b.1))
     h
 
 pub missed-right : (entries q : ℕ) (room : Bool) (p : ℕ) (xs ys : List Entry) → was_got p xs ≡ false → missed entries q room p ys ≡ true → missed entries q room p (xs ++ ys) ≡ true
 missed-right entries q room p xs ys n h =
-    three _ _ _ _ _ _ (before-right p (shows_outside q p) xs ys n) (before-right p (loses p) xs ys n)
+    either-way _ _ _ _ (was-missed-right q p xs ys n)
     (λ e. let b = and_parts room (was_full entries p ys) e in and_from _ _ b.0 (full-right entries p xs ys b.1))
     h
 

@@ -52,7 +52,7 @@ lost-misses sh q room p n e =
           λ x l h there.
           let is : p ≡ x = omega (arith, l, h) in
           subst (λ y. IsTrue (missed sh.entries q room y (entry_of (Take q p) n ∷ []))) is
-          (or_left _ _ (or_right _ _ (or_left (loses p (Take q p) n) _ (and_from _ _ (eq-eqb p p refl) (not_from_false _ e)))));
+          (or_left _ _ (or_right _ _ (or_left (loses q p (Take q p) n) _ (and_from _ _ (and_from _ _ (eq-eqb q q refl) (eq-eqb p p refl)) (not_from_false _ e)))));
       got =
           λ x g.
           absurd

@@ -3,13 +3,12 @@ use Rattle.std.proofs.Common.{ℕ, ◌≡◌, ◌/◌, ◌%◌, ◌^◌, ◌∷�
 use Rattle.std.specs.Prelude.{◌||◌}
 use Rattle.std.proofs.lemmas.Bool.{cases_Bool, and_parts, and_from, true≢false, false≢true, false_from_ne_true}
 use Rattle.mark_core.specs.Effects.{place, written, seat_after}
-use Rattle.mark_core.specs.Notes.{same_place, steady, keeps_bound, keeps_single, is_counter, word_at}
+use Rattle.mark_core.specs.Notes.{same_place, steady, keeps_bound, keeps_single, is_counter}
 use Rattle.mark_core.specs.Bits.{has_bit, with_bit}
 use Rattle.mark_core.specs.Places.{mark_at}
 use Rattle.mark_core.specs.declared.kinds.Step.TheVariants.{SetMark}
 use Rattle.mark_core.proofs.CellBits.{bit-more, with_same}
 use Rattle.mark_core.specs.declared.kinds.Step.{Step}
-use Rattle.mark_core.specs.declared.kinds.Shape.{Shape}
 use Rattle.mark_core.specs.declared.seat.SeatState.{SeatState}
 use Rattle.gc_table.specs.declared.view.View.{View}
 use Rattle.gc_table.specs.Sections.{section_after}

@@ -1,11 +1,12 @@
 -- What the events of a scan count.
-use Rattle.std.specs.Prelude.{ℕ, ◌≡◌, ◌<◌, ◌+◌, ◌-◌, ◌%◌, ◌&&◌, not, if◌then◌else◌, List, [], ◌∷◌, ◌++◌, Bool, true, false, IsTrue}
+use Rattle.std.specs.Prelude.{ℕ, ◌≡◌, ◌+◌, ◌-◌, ◌%◌, ◌&&◌, not, if◌then◌else◌, List, [], ◌∷◌, ◌++◌, Bool, true, false, IsTrue}
 use Rattle.mark_core.specs.Bits.{has_bit}
 use Rattle.mark_core.specs.declared.kinds.Shape.{Shape}
 use Rattle.mark_core.specs.declared.kinds.Step.{Step}
 use Rattle.mark_core.specs.declared.kinds.Step.TheVariants.{Push, ReadField, SetMark, DirtyCard}
 use Rattle.gc_table.specs.declared.view.Entry.{Entry}
-use Rattle.packet_pools.specs.Seeking.{moves_packet, NoOutput}
+use Rattle.packet_pools.specs.Seeking.{moves_packet, no_output, only_moves}
+use Rattle.packet_pools.specs.Orders.{each_after, some_end}
 use Rattle.packet_pools.specs.declared.scanned.Scanned.{Scanned}
 
 -- a cell was marked that was white
@@ -45,12 +46,20 @@ only_scans (e ∷ es) = scans_object e.step && only_scans es
 abbrev pub SomeStretch : (List Entry → Type 0) → List Entry → Type 0
 SomeStretch P es = (before stretch rest : List Entry) × (es ≡ before ++ (stretch ++ rest)) × P stretch
 
--- so many white cells were marked; so many went into packets, and so many found no packet with room, since there was none
+-- a search for a packet with room that found none
+abbrev pub searches_in_vain : Shape → List Entry → Bool
+searches_in_vain sh es = no_output sh es && only_moves (0 ∷ 1 ∷ 2 ∷ []) es
+
+-- each card that was dirtied was so right after such a search
+abbrev pub dirties_after_search : Shape → List Entry → Bool
+dirties_after_search sh es = each_after (some_end (searches_in_vain sh)) dirties [] es
+
+-- so many white cells were marked; so many went into packets, and so many found no packet with room, each after a search of its own
 pub record Counts (sh : Shape) (white kept lost : ℕ) (es : List Entry) : Type 0 where
   pub marked : count_of marks_white es ≡ white
   pub pushed : count_of pushes es ≡ kept
   pub overflowed : count_of dirties es ≡ lost
-  pub cause : 0 < lost → SomeStretch (NoOutput sh) es
+  pub cause : IsTrue (dirties_after_search sh es)
   pub scans : IsTrue (only_scans es)
 
 -- what a scan answers is what its events count

@@ -9,12 +9,12 @@ use Rattle.packet_pools.specs.declared.held.Held.{Held}
 use Rattle.gc_table.specs.Log.{events}
 use Rattle.packet_pools.specs.Tracing.{traces}
 use Rattle.packet_pools.specs.Hands.{IsHeld, with_packet}
-use Rattle.packet_pools.specs.Seeking.{seen_outside, was_lost, was_full, was_got, was_got_from, AllMissed, only_moves}
+use Rattle.packet_pools.specs.Seeking.{was_missed, was_full, was_got, was_got_from, all_missed, only_moves}
 
 -- the packet came from the first of these pools that had one to take
 abbrev pub ComesFrom : Shape → List ℕ → Held → List Entry → Type 0
 ComesFrom sh [] h es = ⊥
-ComesFrom sh (q ∷ qs) h es = (IsTrue (is_in_range sh q h.length) × IsTrue (was_got_from q h.packet es)) ⊎ (AllMissed sh q es × ComesFrom sh qs h es)
+ComesFrom sh (q ∷ qs) h es = (IsTrue (is_in_range sh q h.length) × IsTrue (was_got_from q h.packet es)) ⊎ (IsTrue (all_missed sh (q ∷ []) es) × ComesFrom sh qs h es)
 
 -- the seat took a packet that it hadn't, out of the first of these pools that had one, and nothing else of its record changed
 pub record Takes (qs : List ℕ) (h : Held) (v w : View) : Type 0 where
@@ -44,7 +44,7 @@ pub record Gains (q : ℕ) (room : Bool) (h : Held) (v w : View) : Type 0 where
 
 -- packet p couldn't be taken out of pool q, or had no room where it should
 abbrev pub missed : ℕ → ℕ → Bool → ℕ → List Entry → Bool
-missed entries q room p es = seen_outside q p es || was_lost p es || (room && was_full entries p es)
+missed entries q room p es = was_missed q p es || (room && was_full entries p es)
 
 -- so it is for the packets from lo on and below hi, and no others were taken
 pub record Misses (sh : Shape) (q : ℕ) (room : Bool) (lo hi : ℕ) (es : List Entry) : Type 0 where

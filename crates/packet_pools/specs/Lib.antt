@@ -6,5 +6,6 @@ pub mod Quiet
 pub mod Seeking
 pub mod Gains
 pub mod Scanning
+pub mod Orders
 pub mod Counts
 pub mod Fields

@@ -1,7 +1,7 @@
 -- What the events of a call say of the packets that it looked for.
 use Rattle.std.specs.Prelude.{ℕ, ◌/◌, ◌%◌, ◌==◌, ◌&&◌, ◌||◌, not, List, [], ◌∷◌, Bool, true, false, nat_le, IsTrue}
+use Rattle.std.specs.List.{list_all, range_with_len}
 use Rattle.mark_core.specs.Bits.{has_bit, reference_in}
-use Rattle.mark_core.specs.Shapes.{EachPacket}
 use Rattle.mark_core.specs.declared.kinds.Shape.{Shape}
 use Rattle.mark_core.specs.declared.kinds.Step.{Step}
 use Rattle.mark_core.specs.declared.kinds.Step.TheVariants.{Reserve, Take, Give, Credit, Look, StoreLength, ReadLength}
@@ -12,10 +12,10 @@ abbrev pub shows_outside : ℕ → ℕ → Step → ℕ → Bool
 shows_outside q p (Look pool g) found = (pool == q) && (g == p / 64) && not (has_bit found (p % 64))
 shows_outside q p step found = false
 
--- a take of packet p that found its bit clear: another seat was first
-abbrev pub loses : ℕ → Step → ℕ → Bool
-loses p (Take pool packet) found = (packet == p) && not (has_bit found (p % 64))
-loses p step found = false
+-- a take of packet p out of pool q that found its bit clear: another seat was first
+abbrev pub loses : ℕ → ℕ → Step → ℕ → Bool
+loses q p (Take pool packet) found = (pool == q) && (packet == p) && not (has_bit found (p % 64))
+loses q p step found = false
 
 -- a take of packet p out of pool q that got it
 abbrev pub gets_from : ℕ → ℕ → Step → ℕ → Bool
@@ -46,9 +46,13 @@ before_got p f (e ∷ es) = f e.step e.found || (not (gets p e.step e.found) && 
 abbrev pub seen_outside : ℕ → ℕ → List Entry → Bool
 seen_outside q p es = before_got p (shows_outside q p) es
 
--- packet p was lost to another seat's step
-abbrev pub was_lost : ℕ → List Entry → Bool
-was_lost p es = before_got p (loses p) es
+-- packet p was lost to another seat's step in pool q
+abbrev pub was_lost : ℕ → ℕ → List Entry → Bool
+was_lost q p es = before_got p (loses q p) es
+
+-- packet p couldn't be had out of pool q: it was seen outside, or lost there
+abbrev pub was_missed : ℕ → ℕ → List Entry → Bool
+was_missed q p es = seen_outside q p es || was_lost q p es
 
 -- packet p was taken out of the high pool, and read as full
 abbrev pub was_full : ℕ → ℕ → List Entry → Bool
@@ -63,14 +67,18 @@ was_got_from q p es = some_event (gets_from q p) es
 abbrev pub was_got : ℕ → List Entry → Bool
 was_got p es = some_event (gets p) es
 
--- packet p was seen outside each of these pools
-abbrev pub seen_outside_all : List ℕ → ℕ → List Entry → Bool
-seen_outside_all [] p es = true
-seen_outside_all (q ∷ qs) p es = seen_outside q p es && seen_outside_all qs p es
+-- packet p couldn't be had out of any of these pools
+abbrev pub was_missed_in : List ℕ → ℕ → List Entry → Bool
+was_missed_in [] p es = true
+was_missed_in (q ∷ qs) p es = was_missed q p es && was_missed_in qs p es
 
--- each packet was seen outside pool q, or lost
-abbrev pub AllMissed : Shape → ℕ → List Entry → Type 0
-AllMissed sh q es = EachPacket sh (λ p. IsTrue (seen_outside q p es || was_lost p es))
+-- packet p couldn't be had with room: not out of the empty and the low pool, and out of the high one not at all or full
+abbrev pub was_roomless : ℕ → ℕ → List Entry → Bool
+was_roomless entries p es = was_missed_in (0 ∷ 1 ∷ []) p es && (was_missed 2 p es || was_full entries p es)
+
+-- no packet could be had out of any of these pools
+abbrev pub all_missed : Shape → List ℕ → List Entry → Bool
+all_missed sh qs es = list_all (λ p. was_missed_in qs p es) (range_with_len 0 sh.packets)
 
 -- pool q is one of these
 abbrev pub in_pools : ℕ → List ℕ → Bool
@@ -93,14 +101,22 @@ abbrev pub only_moves : List ℕ → List Entry → Bool
 only_moves qs [] = true
 only_moves qs (e ∷ es) = moves_packet qs e.step && only_moves qs es
 
--- no packet to read from
+-- no packet to read from could be had
+abbrev pub no_input : Shape → List Entry → Bool
+no_input sh es = all_missed sh (2 ∷ 1 ∷ []) es
+
+-- that this was so
 abbrev pub NoInput : Shape → List Entry → Type 0
-NoInput sh es = EachPacket sh (λ p. IsTrue (seen_outside_all (2 ∷ 1 ∷ []) p es || was_lost p es))
+NoInput sh es = IsTrue (no_input sh es)
 
--- no packet that was put off
+-- no packet that was put off could be had
 abbrev pub NoDeferred : Shape → List Entry → Type 0
-NoDeferred sh es = EachPacket sh (λ p. IsTrue (seen_outside_all (3 ∷ []) p es || was_lost p es))
+NoDeferred sh es = IsTrue (all_missed sh (3 ∷ []) es)
 
--- no packet with room
+-- no packet with room could be had
+abbrev pub no_output : Shape → List Entry → Bool
+no_output sh es = list_all (λ p. was_roomless sh.entries p es) (range_with_len 0 sh.packets)
+
+-- that this was so
 abbrev pub NoOutput : Shape → List Entry → Type 0
-NoOutput sh es = EachPacket sh (λ p. IsTrue (seen_outside_all (0 ∷ 1 ∷ 2 ∷ []) p es || was_lost p es || was_full sh.entries p es))
+NoOutput sh es = IsTrue (no_output sh es)

@@ -10,6 +10,7 @@ ghost use Rattle.packet_pools.specs.Seeking.{was_lost};
 ghost use Rattle.packet_pools.specs.Gains.{Gains};
 
 use crate::held::Held;
+use crate::lengths::read_length;
 use gc_table::{Heap, HeapSeat};
 use mark_core::DEFERRED_POOL;
 
@@ -21,11 +22,11 @@ pub fn take_deferred_at(heap: &Heap, seat: &mut HeapSeat, p: u32) -> Option<Held
     ensures seat { IsTracer heap.now seat.new }
     ensures later { OnlyTraced (view_of seat.old) (view_of seat.new) }
     ensures some { IfSome result (λ h. Gains 3 false h (view_of seat.old) (view_of seat.new) × (h.packet ≡ p) × (steps_of (events (view_of seat.old) (view_of seat.new)) ≡ Take 3 p ∷ ReadLength p ∷ [])) }
-    ensures none { IfNone result (((view_of seat.new).state ≡ (view_of seat.old).state) × IsTrue (was_lost p (events (view_of seat.old) (view_of seat.new))) × (steps_of (events (view_of seat.old) (view_of seat.new)) ≡ Take 3 p ∷ [])) }
+    ensures none { IfNone result (((view_of seat.new).state ≡ (view_of seat.old).state) × IsTrue (was_lost 3 p (events (view_of seat.old) (view_of seat.new))) × (steps_of (events (view_of seat.old) (view_of seat.new)) ≡ Take 3 p ∷ [])) }
 {
     if !heap.take(seat, DEFERRED_POOL, p) {
         return None;
     }
-    let length = heap.read_length(seat, p);
+    let length = read_length(heap, seat, p);
     Some(Held { packet: p, length })
 }

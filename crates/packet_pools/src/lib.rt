@@ -34,8 +34,9 @@
 //! # What the calls promise
 //!
 //! Each call says what became of the seat's record, and of its log: which steps it took, and what they found. An
-//! answer of None is a statement on the events of that one call (`specs/Seeking.antt`): each packet was seen outside
-//! the pools, or was lost to another seat's step, or (for [`take_output`]) was taken and found full. `OnlyTraced`
+//! answer of None is a statement on the events of that one call (`specs/Seeking.antt`): in each pool that was asked each
+//! packet was missed, because it was seen outside or was lost to another seat's step there, or (for [`take_output`],
+//! out of the high pool) was taken and found full. `OnlyTraced`
 //! (`specs/OnlyTraced.antt`) says that the call is its steps and nothing else (`Ran`), that all of them are steps of
 //! tracing, and so what no call of this crate changes: all of the record that isn't about packets and cells in hand,
 //! and the notes and floors of all words but those that tracing writes. A scan says besides which fields it read,
@@ -54,6 +55,7 @@ mod deferred;
 mod entries;
 mod giving;
 mod held;
+mod lengths;
 mod marking;
 mod quiet;
 mod room;

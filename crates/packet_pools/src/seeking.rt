@@ -11,6 +11,7 @@ ghost use Rattle.packet_pools.specs.Gains.{FindsNone, Gains, Seeks, missed};
 
 use crate::giving::give;
 use crate::held::Held;
+use crate::lengths::read_length;
 use gc_table::{Heap, HeapSeat};
 use mark_core::has_bit;
 
@@ -27,7 +28,7 @@ fn take_packet(heap: &Heap, seat: &mut HeapSeat, q: u8, p: u32, room: bool) -> O
     if !heap.take(seat, q, p) {
         return None;
     }
-    let length = heap.read_length(seat, p);
+    let length = read_length(heap, seat, p);
     let held = Held { packet: p, length };
     if room && length == heap.shape().entries {
         give(heap, seat, held, false);

@@ -14,7 +14,7 @@ use gc_table::{Heap, HeapSeat};
 use mark_core::{DEFERRED_POOL, EMPTY_POOL, HIGH_POOL, LOW_POOL};
 
 /// Takes a packet with cells to trace: one of the fuller ones, else one of the others. The seat holds at most three.
-/// None comes only where each packet was seen outside these pools, or was lost to another seat, in this call.
+/// None comes only where each packet was seen outside each of these pools, or lost to another seat there, in this call.
 pub fn take_input(heap: &Heap, seat: &mut HeapSeat) -> Option<Held>
     requires seat { IsTracer heap.now seat.old }
     requires free { IsTrue (has_free_slot (view_of seat.old).state.held) }
@@ -30,7 +30,7 @@ pub fn take_input(heap: &Heap, seat: &mut HeapSeat) -> Option<Held>
 }
 
 /// Takes a packet with cells that were put off. The seat holds at most three.
-/// None comes only where each packet was seen outside the deferred pool, or was lost to another seat, in this call.
+/// None comes only where each packet was seen outside the deferred pool, or lost to another seat there, in this call.
 pub fn take_deferred(heap: &Heap, seat: &mut HeapSeat) -> Option<Held>
     requires seat { IsTracer heap.now seat.old }
     requires free { IsTrue (has_free_slot (view_of seat.old).state.held) }
@@ -63,8 +63,8 @@ fn take_empty(heap: &Heap, seat: &mut HeapSeat) -> Option<Held>
 }
 
 /// Takes a packet with room: an empty one, else one of the low ones, else one of the fuller ones. The seat holds at
-/// most three. None comes only where each packet was seen outside these pools, was lost to another seat, or was taken
-/// and found full, in this call.
+/// most three. None comes only where each packet was seen outside each of these pools or lost to another seat there, or
+/// was taken out of the last one and found full, in this call.
 pub fn take_output(heap: &Heap, seat: &mut HeapSeat) -> Option<Held>
     requires seat { IsTracer heap.now seat.old }
     requires free { IsTrue (has_free_slot (view_of seat.old).state.held) }

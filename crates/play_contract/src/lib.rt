@@ -10,12 +10,12 @@
 //!   the objects that are reachable at the end, and for each object a cell in which no object lay that was reachable when it was
 //!   made. `Full` has positions at which the reachable objects fill all cells, so that a `new` there can find none.
 //!
-//! A play is a function with this contract, where a gate looks on while sections are played and changes nothing:
+//! A play is a function with this contract, which may say more, where a gate looks on while sections are played and changes nothing:
 //!
 //!     pub fn play<'a, R: Threads + Wait + Sync, G: Gate + Sync>(rt: &R, alloc: Global, script: &Script<'a>, options: &Options, gate: &G)
 //!         -> Result<Report<'a>, PlayError>
 //!         requires { AreInRange options.now }
-//!         ensures { PlayAnswers result script.now.sections options.now.cells }
+//!         ensures answers { PlayAnswers result script.now.sections options.now.cells }
 //!
 //! Two plays of one script answer the same but for places, whatever their cells and threads: [`one_report`] says so of reports, [`one_text`]
 //! of what is written.

@@ -176,7 +176,7 @@ module _ (s : Sections) (r : Report) (w : Words) (e : IsEndOf s r w) where
 
   pub are-placed : ArePlaced r (length w.idents.items)
   are-placed = record {
-    few = omega (arith, few-images (cell_in r) r.survivors.items (length w.idents.items) (record { section = 0; number = 0; value = 0 }) below places-apart, ident-count s e.shape e.seats w e.closed, ap (λ (h : Shape). h.cells) e.closed.end.shape, e.closed.end.whole.core.formed.shaped.cells);
+    few = omega (arith, few-images (cell_in r) r.survivors.items (length w.idents.items) (record { section = 0; number = 0; value = 0 }) below places-apart, ident-count s e.shape e.seats w e.closed, ap (λ (h : Shape). h.cells) e.closed.end.shape, e.few);
     each = λ j y at. record { section = survivor-section j y at; number = survivor-number j y at; cell = below j y at };
     apart = places-apart;
   }

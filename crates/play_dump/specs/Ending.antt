@@ -1,5 +1,5 @@
 -- What a play leaves at its end.
-use Rattle.std.specs.Prelude.{List}
+use Rattle.std.specs.Prelude.{◌≤◌, List}
 use Rattle.mark_core.specs.declared.kinds.Shape.{Shape}
 use Rattle.plain_heap.specs.Sections.{Sections}
 use Rattle.gc_table.specs.declared.seat.HeapSeat.{HeapSeat}
@@ -12,6 +12,8 @@ use Rattle.play_end.specs.Reported.{AreParts}
 -- the report of a play in which each section played all its parts, and the words of its heap, which was then closed
 pub record IsEndOf (s : Sections) (r : Report) (w : Words) : Type 0 where
   pub shape : Shape
+  -- a dump has no more records than this
+  pub few : shape.cells ≤ 65536
   pub seats : List HeapSeat
   pub closed : IsClosed s shape.cells shape seats w
   pub played : PlayedAll s seats

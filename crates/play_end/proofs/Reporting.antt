@@ -28,7 +28,7 @@ use Rattle.play_end.specs.Done.{HasSaid}
 use Rattle.play_end.specs.Ended.{AreInRange}
 use Rattle.play_end.specs.Closed.{IsClosed, PlayedAll, ArePlacesOf, EndsWell, SeatsStopped, EndsFull}
 use Rattle.play_contract.specs.Playing.{places_of, IsReport}
-use Rattle.play_end.specs.Reported.{AreParts, ListsWords, IsShort}
+use Rattle.play_end.specs.Reported.{AreHeld, AreParts, ListsWords, IsShort}
 use Rattle.play_end.proofs.EndClosed.{some-seat, ends-well, ends-full}
 
 -- what a section said, dropped and placed
@@ -109,6 +109,20 @@ part-had s seats r k a seated below =
 part-field : {X : Type 0} (f : Part → X) (parts : List Part) (k : ℕ) (p : Part) (d : X) → slice_get parts k ≡ Some p → get_or (map f parts) k d ≡ f p
 part-field f parts k p d at = get_or-map f parts k p d (slice_get_within parts k p at) ∙ ap f (get_or_from_slice_get parts k p p at)
 
+-- the places in a report are those of the seats
+reported-places : (s : Sections) (seats : List HeapSeat) (r : Report) → AreParts s seats r.parts.items → length (section_numbers s) ≤ length seats → ArePlacesOf s seats (places_of r)
+reported-places s seats r parts seated = record {
+  sections = length-map r.parts.items placed_of ∙ parts.sections;
+  each = λ i seat at below.
+      let had = part-had s seats r i parts seated (omega (arith, below, parts.sections)) in
+      part-field placed_of r.parts.items i had.0 [] had.2 ∙ (parts.each i had.0 seat had.2 at).cells_are;
+}
+
+-- a survivor lies where its place says
+pub are-held : (s : Sections) (cells : ℕ) (sh : Shape) (seats : List HeapSeat) (w : Words) (r : Report) → AreInRange s → IsClosed s cells sh seats w → PlayedAll s seats → AreParts s seats r.parts.items → AreHeld s w r
+are-held s cells sh seats w r range k played parts =
+    λ name cell reached lies. (ends-well s cells sh seats w range k played).held (places_of r) name cell (reported-places s seats r parts k.made.seated) reached lies
+
 pub reports : (s : Sections) (cells : ℕ) (sh : Shape) (seats : List HeapSeat) (w : Words) (r : Report) → IsShort s → AreInRange s → IsClosed s cells sh seats w → PlayedAll s seats → AreParts s seats r.parts.items → ListsWords cells w r → IsReport s cells r
 reports s cells sh seats w r short range k played parts lists = record {
   outcomes = outcomes_are;
@@ -124,12 +138,7 @@ reports s cells sh seats w r short range k played parts lists = record {
     inside i below = omega (arith, below, parts.sections)
 
     are_places : ArePlacesOf s seats (places_of r)
-    are_places = record {
-      sections = length-map r.parts.items placed_of ∙ parts.sections;
-      each = λ i seat at below.
-          let had = part-had s seats r i parts k.made.seated (omega (arith, below, parts.sections)) in
-          part-field placed_of r.parts.items i had.0 [] had.2 ∙ (parts.each i had.0 seat had.2 at).cells_are;
-    }
+    are_places = reported-places s seats r parts k.made.seated
 
     placed : IsPlaced s cells (places_of r)
     placed = well.placed (places_of r) are_places

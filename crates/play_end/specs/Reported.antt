@@ -7,6 +7,13 @@ use Rattle.play_report.specs.declared.report.Report.{Report}
 use Rattle.gc_table.specs.declared.seat.HeapSeat.{HeapSeat}
 use Rattle.gc_table.specs.declared.words.Words.{Words}
 use Rattle.gc_table.specs.Seats.{view_of}
+use Rattle.mark_core.specs.Bits.{reference_in}
+use Rattle.plain_heap.specs.PlainRun.{last_heaps}
+use Rattle.plain_heap.specs.Paths.{Name, IsReachable}
+use Rattle.plain_heap.specs.Placement.{LiesIn}
+use Rattle.play_report.specs.declared.report.Positions.{Positions}
+use Rattle.play_contract.specs.Playing.{places_of}
+use Rattle.play_end.specs.Closed.{HoldsObject}
 use Rattle.play_end.specs.Done.{HasSaid}
 use Rattle.play_end.specs.Ended.{AreListed}
 
@@ -19,6 +26,15 @@ pub record AreParts (s : Sections) (seats : List HeapSeat) (parts : List Part) :
 -- its survivors are what the words list
 abbrev pub ListsWords : ℕ → Words → Report → Type 0
 ListsWords cells w r = AreListed cells w.idents.items w.values.items w.alloc.items (map survivor_of r.survivors.items)
+
+-- the place that the report has of a survivor is the cell that holds it, by the words
+abbrev pub AreHeld : Sections → Words → Report → Type 0
+AreHeld s w r = (name : Name) (cell : ℕ) → IsReachable (last_heaps s) name → LiesIn (places_of r) name cell → HoldsObject w cell name
+
+-- these are the stored positions, and the section that is named, by the words
+pub record AreStored (w : Words) (p : Positions) : Type 0 where
+  pub section : p.section ≡ w.named
+  pub done : p.done.items ≡ map reference_in w.positions.items
 
 -- few commands in all, as in each script that is read
 abbrev pub IsShort : Sections → Type 0

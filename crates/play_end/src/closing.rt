@@ -8,7 +8,8 @@ ghost use Rattle.plain_heap.specs.Placement.{IsFilled};
 ghost use Rattle.play_end.specs.Closed.{AreSeated, PlayedAll, SeatsStopped};
 ghost use Rattle.play_contract.specs.Playing.{IsReport};
 ghost use Rattle.gc_table.specs.Ends.{IsEnd};
-ghost use Rattle.play_end.specs.Reported.{AreParts};
+ghost use Rattle.gc_table.specs.declared.words.Words.{Words};
+ghost use Rattle.play_end.specs.Reported.{AreHeld, AreParts, AreStored};
 
 use crate::limits::{see_limits, see_ranges};
 use crate::survivors::survivors_of;
@@ -38,6 +39,7 @@ pub fn close_played<'a>(
     requires parts { AreParts script.now.sections seats.items parts.items }
     ensures report { IfOk result (λ r. IsReport script.now.sections heap.shape.cells r.0) }
     ensures words { IfOk result (λ r. IsEnd heap.shape seats.items r.1) }
+    ensures held { IfOk result (λ r. AreHeld script.now.sections r.1 r.0) }
     ensures parts { IfOk result (λ r. AreParts script.now.sections seats.items r.0.parts.items) }
 {
     see_limits(script);
@@ -77,7 +79,8 @@ pub fn close_full(
     requires made { AreSeated script.now.sections heap.shape.cells heap.shape seats.items }
     requires stopped { (z : ℕ) × SeatsStopped script.now.sections z seats.items }
     requires full { (i : ℕ) × (s : HeapSeat) × (slice_get seats.items i ≡ Some s) × KnowsFull (view_of s) }
-    ensures { IfOk result (λ p. IsFilled script.now.sections heap.shape.cells p.section p.done.items) }
+    ensures filled { IfOk result (λ p. IsFilled script.now.sections heap.shape.cells p.section p.done.items) }
+    ensures words { IfOk result (λ p. (w : Words) × IsEnd heap.shape seats.items w × AreStored w p) }
 {
     see_limits(script);
     let words = match heap.close(alloc, seats) {

@@ -26,3 +26,9 @@ pub record Store : Type 0 where
   pub failing : List ℕ
   pub calls : ℕ
   pub faults : ℕ
+
+-- a sink that gathers: all bytes that it has taken, those that the sink behind it has, and how often that has failed
+pub record Gathering : Type 0 where
+  pub bytes : Option (List ℕ)
+  pub handed : Option (List ℕ)
+  pub faults : ℕ

@@ -13,6 +13,7 @@ use Rattle.gc_script.specs.Shown.{fault_of}
 use Rattle.gc_script.specs.declared.script.ScriptError.{ScriptError}
 use Rattle.play_report.specs.Report.{Outcome}
 
+-- what is printed: nil, a value, or a count and a sum
 abbrev pub line_text : Line → List ℕ
 line_text lines.Nil = codes "nil"
 line_text (lines.Value value) = decimal value
@@ -30,6 +31,7 @@ named_text word n = word ++ decimal n ++ codes "\n"
 unfoldable pub pair_text : List ℕ → ℕ → ℕ → List ℕ
 pair_text word a b = word ++ decimal a ++ codes " " ++ decimal b ++ codes "\n"
 
+-- three numbers
 unfoldable pub triple_text : ℕ → ℕ → ℕ → List ℕ
 triple_text a b c = decimal a ++ codes " " ++ decimal b ++ codes " " ++ decimal c ++ codes "\n"
 
@@ -51,9 +53,11 @@ abbrev pub warehouses_text : List Outcome → List ℕ
 warehouses_text [] = []
 warehouses_text (catalogue ∷ warehouses) = outcomes_text 1 warehouses
 
+-- a survivor: its section, its number and its value
 abbrev pub survivor_text : Survivor → List ℕ
 survivor_text s = triple_text s.section s.number s.value
 
+-- how many survivors there are, and each
 abbrev pub survivors_text : List Survivor → List ℕ
 survivors_text survivors = named_text (codes "survivors ") (length survivors) ++ flat_map survivor_text survivors
 
@@ -69,6 +73,7 @@ places_text os = numbered (λ w o. cells_text w o.places) 0 os
 abbrev pub placed_count : List Outcome → ℕ
 placed_count os = sum_by (λ o. length o.places) os
 
+-- how many objects were ever made, and their cells
 abbrev pub placed_text : List Outcome → List ℕ
 placed_text os = named_text (codes "placed ") (placed_count os) ++ places_text os
 
@@ -80,6 +85,7 @@ report_text os survivors place = warehouses_text os ++ survivors_text survivors 
 abbrev pub outcome : Sections → List (List ℕ) → ℕ → Outcome
 outcome s places w = record { said = transcript s w; dropped = (last_heap s w).dropped; places = cells_of places w }
 
+-- how each section ends
 abbrev pub outcomes : Sections → List (List ℕ) → List Outcome
 outcomes s places = map (outcome s places) (section_numbers s)
 

@@ -5,6 +5,7 @@
 //! - `converts`, `batches`: the commands `convert` and `batch`. `others`: those that play nothing, and words that ask for nothing.
 //! - `faults`, `edges`: scripts with a fault, and scripts at the limits of the language. `cuts`: a script cut short.
 //! - `disturbed`: each command (`commands`) under reads and writes that fail, come in parts or have no room.
+//! - `sources`: other sources and sinks. `shared`: one heap that eight warehouses share, through `play` and `write_report`.
 //! - `narrow`, `extremes`: heaps that are as narrow as may be, and options that change nothing.
 //! - `dumped`: the commands `dump`, `undump`, `census` and `load` beside heaps that forget nothing (`graph`).
 //! - `beside`: gates that hold sections until other threads came so far. `signal`: what such a gate waits for.
@@ -29,7 +30,9 @@ mod narrow;
 mod others;
 mod placed;
 mod played;
+mod shared;
 mod signal;
+mod sources;
 mod told;
 
 use gc_play::OpenGate;

@@ -11,8 +11,8 @@ use Rattle.job_pool.specs.declared.done.JobDone.{JobDone}
 use Rattle.job_pool.specs.declared.fault.BatchError.{BatchError}
 use Rattle.job_pool.specs.declared.fault.BatchError.TheVariants as errors
 use Rattle.command_words.specs.Words.{Options}
-use Rattle.play_words.specs.Answers.{FitsJob, IsRunAnswer}
-use Rattle.play_words.specs.Batching.{BatchesTo, IsBatchAnswer, IsBatchFault, batch_error_text, text_of_fault, job_line, job_text}
+use Rattle.play_words.specs.Batching.{FitsJob, BatchesTo, IsBatchAnswer, IsBatchFault, batch_error_text, text_of_fault, job_line, job_text}
+use Rattle.play_words.specs.RunAnswers.{IsRunAnswer}
 use Rattle.play_words.specs.Ending.{TextEnds, code_of}
 use Rattle.play_words.specs.Roomy.{IsOf, AreFew}
 use Rattle.play_words.specs.declared.status.Status.{Status}

@@ -11,7 +11,8 @@ use Rattle.gc_script.specs.Script.{Script, script}
 use Rattle.load_gen.specs.Generated.{generated}
 use Rattle.play_report.specs.Text.{report_text, outcomes, fault_text, load_text, IsReportText}
 use Rattle.command_words.specs.Words.{Options}
-use Rattle.play_words.specs.Answers.{IsRunAnswer, RunsTo, IsLoadAnswer, LoadsTo}
+use Rattle.play_words.specs.RunAnswers.{IsRunAnswer, RunsTo}
+use Rattle.play_words.specs.Loading.{IsLoadAnswer, LoadsTo}
 
 abbrev pub sections_in : Result Script Fault → Sections
 sections_in (Ok s) = s.sections

@@ -1,5 +1,5 @@
 -- Dumps that are too long, of which only a part was read.
-use Rattle.std.proofs.Common.{◌≡◌, ◌≤◌, ◌<◌, ◌+◌, ◌*◌, ◌⊎◌, ◌&&◌, ℕ, List, [], ◌∷◌, ◌++◌, length, refl, sym, ap, ap₂, ◌∙◌, subst, inl, inr, arith, Bool, true, false, not, cond, nat_lt, nat_le, length-append}
+use Rattle.std.proofs.Common.{◌≡◌, ◌≤◌, ◌<◌, ◌+◌, ◌*◌, ℕ, List, ◌∷◌, ◌++◌, length, refl, sym, ap, ap₂, ◌∙◌, subst, arith, Bool, true, false, not, cond, nat_lt, length-append}
 use Rattle.std.proofs.lemmas.Bool.Decides.{nat_tests}
 use Rattle.std.proofs.lemmas.Nat.{mul-le}
 use Rattle.std.specs.Prelude.{Option, Some, None, nat_eq}
@@ -10,7 +10,7 @@ use Rattle.heap_dump.specs.Reading.{fault_of, frame_fault, has_shape, heap_fault
 use Rattle.heap_dump.specs.Spelling.{magic, stated_length}
 use Rattle.heap_dump.specs.declared.fault.DumpError.{DumpError}
 use Rattle.heap_dump.specs.declared.fault.DumpError.TheVariants.{BadMagic, BadShape, TooMuch, Cut}
-use Rattle.play_words.specs.Dumping.{OfDump}
+use Rattle.play_words.specs.DumpReading.{OfDump}
 
 -- the head of what was taken is that of the whole
 pub record HasHead (xs ys : List ℕ) : Type 0 where

@@ -9,7 +9,8 @@ use Rattle.gc_script.specs.Finished.{is_refused}
 use Rattle.gc_script.specs.declared.script.ScriptError.{ScriptError}
 use Rattle.gc_script.specs.declared.script.ScriptError.TheVariants as errors
 use Rattle.play_report.specs.Text.{error_text, text_of_fault}
-use Rattle.play_words.specs.Answers.{RunsTo, ConvertsTo}
+use Rattle.play_words.specs.RunAnswers.{RunsTo}
+use Rattle.play_words.specs.Converting.{ConvertsTo}
 use Rattle.play_words.specs.Ending.{IsFaultAnswer}
 use Rattle.command_words.specs.Words.{Options}
 

@@ -3,7 +3,7 @@ use Rattle.std.proofs.Common.{refl, codes, false}
 use Rattle.std.specs.Fmt.{digits}
 use Rattle.play_report.specs.Text.{named_text}
 use Rattle.command_words.specs.Words.{Options}
-use Rattle.play_words.specs.Answers.{IsLoadAnswer}
+use Rattle.play_words.specs.Loading.{IsLoadAnswer}
 use Rattle.play_words.proofs.Computed.{loaded}
 
 abbrev usual : Options

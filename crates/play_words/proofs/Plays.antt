@@ -8,7 +8,8 @@ use Rattle.play_report.specs.Text.{report_text, full_text, brief_text, IsFullTex
 use Rattle.plain_heap.specs.Sections.{Sections, executed_total}
 use Rattle.play_report.specs.declared.report.Report.{Report}
 use Rattle.play_report.specs.declared.report.Positions.{Positions}
-use Rattle.play_words.specs.Answers.{PlaysTo, LoadsTo}
+use Rattle.play_words.specs.RunAnswers.{PlaysTo}
+use Rattle.play_words.specs.Loading.{LoadsTo}
 use Rattle.play_contract.specs.Playing.{IsReport, PlayAnswers, places_of}
 use Rattle.play_contract.specs.declared.error.PlayError.{PlayError}
 use Rattle.play_contract.specs.declared.error.PlayError.TheVariants as errors

@@ -7,7 +7,9 @@ use Rattle.gc_script.specs.Convert.{Conversion, convert}
 use Rattle.load_gen.specs.Generated.{generated}
 use Rattle.play_report.specs.Text.{usage_text}
 use Rattle.command_words.specs.Words.{Options, Command, Run, Gen, Load, Convert, Schedule, Dump, Undump, Census, Batch}
-use Rattle.play_words.specs.Answers.{RunsTo, LoadsTo, ConvertsTo}
+use Rattle.play_words.specs.RunAnswers.{RunsTo}
+use Rattle.play_words.specs.Loading.{LoadsTo}
+use Rattle.play_words.specs.Converting.{ConvertsTo}
 use Rattle.job_pool.specs.Batch.{Fault as BatchFault, batch}
 use Rattle.play_words.specs.Batching.{BatchesTo}
 use Rattle.heap_dump.specs.Final.{Heap}
@@ -19,8 +21,12 @@ use Rattle.schedule_check.specs.Verdicts.{verdict}
 use Rattle.schedule_check.specs.Telling.{status_as, status_of, verdict_status}
 use Rattle.schedule_check.specs.declared.verdict.Verdict.{Verdict}
 use Rattle.schedule_check.specs.declared.verdict.Verdict.TheVariants as verdicts
-use Rattle.play_words.specs.Dumping.{DumpsTo, OfDump, IsUndumpText, IsCensusText}
-use Rattle.play_words.specs.Promise.{IsAnswer, EndsWith, RunsWith, ConvertsWith, BatchesWith, DumpsWith}
+use Rattle.play_words.specs.Dumping.{DumpsTo}
+use Rattle.play_words.specs.DumpReading.{OfDump}
+use Rattle.play_words.specs.Undumping.{IsUndumpText}
+use Rattle.play_words.specs.Counting.{IsCensusText}
+use Rattle.play_words.specs.Answers.{IsAnswer}
+use Rattle.play_words.specs.Statuses.{EndsWith, RunsWith, ConvertsWith, BatchesWith, DumpsWith}
 
 runs_with : (o : Options) (r : Result Script Fault) (status : ℕ) (text : List ℕ) → RunsTo o r status text → RunsWith r status
 runs_with o (Err fault) status text a = a.0

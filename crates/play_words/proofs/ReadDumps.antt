@@ -1,11 +1,11 @@
 -- What is read of a dump, and what a play's end answers.
 use Rattle.std.proofs.Common.{◌≡◌, ℕ, List, refl, sym, subst, inl, inr}
-use Rattle.std.specs.Prelude.{Option, Some, None, Result, Ok, Err}
+use Rattle.std.specs.Prelude.{Option, Some, None, Result, Err}
 use Rattle.gc_script.specs.Script.{Script}
 use Rattle.gc_script.specs.Faults.{Fault}
 use Rattle.gc_script.specs.Finished.{is_refused}
 use Rattle.plain_heap.specs.Placement.{IsFilled}
-use Rattle.play_report.specs.Text.{full_text, IsFullText}
+use Rattle.play_report.specs.Text.{full_text}
 use Rattle.play_report.specs.declared.report.Positions.{Positions}
 use Rattle.play_contract.specs.Playing.{PlayAnswers}
 use Rattle.play_contract.specs.declared.error.PlayError.{PlayError}
@@ -17,7 +17,9 @@ use Rattle.heap_dump.specs.Text.{dump_fault_text}
 use Rattle.heap_dump.specs.declared.fault.DumpError.{DumpError}
 use Rattle.play_dump.specs.Final.{IsFinalHeap}
 use Rattle.command_words.specs.Words.{Options}
-use Rattle.play_words.specs.Dumping.{DumpsTo, EndsIn, IsEndAnswer, IsCensusAnswer, IsCensusText, IsCountOf, OfDump}
+use Rattle.play_words.specs.Dumping.{DumpsTo, EndsIn, IsEndAnswer}
+use Rattle.play_words.specs.Counting.{IsCensusAnswer, IsCensusText, IsCountOf}
+use Rattle.play_words.specs.DumpReading.{OfDump}
 use Rattle.play_words.specs.Ending.{IsFaultAnswer}
 
 -- bytes with a fault are told so

@@ -12,9 +12,10 @@ use Rattle.load_gen.proofs.FewObjects.{generated_few}
 use Rattle.load_gen.proofs.Whole.{generated_script}
 use Rattle.play_report.specs.Text.{IsFullText}
 use Rattle.command_words.specs.Words.{Options, Command, Run, Gen, Load, Convert, Schedule, Dump, Undump, Census, Batch}
-use Rattle.play_words.specs.Answers.{RunsTo, LoadsTo}
+use Rattle.play_words.specs.RunAnswers.{RunsTo}
+use Rattle.play_words.specs.Loading.{LoadsTo}
 use Rattle.play_words.specs.Dumping.{DumpsTo}
-use Rattle.play_words.specs.Promise.{IsAnswer}
+use Rattle.play_words.specs.Answers.{IsAnswer}
 use Rattle.play_words.specs.Roomy.{PlaysIn, AreFew}
 use Rattle.play_words.proofs.Bounding.{few-never-fill}
 

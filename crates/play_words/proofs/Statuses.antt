@@ -1,14 +1,15 @@
 -- The program's status, by how its command ended.
-use Rattle.std.proofs.Common.{◌≡◌, ◌≤◌, ◌<◌, ◌-◌, ◌^◌, ◌⊎◌, ℕ, List, refl, sym, subst, inl, inr, arith}
+use Rattle.std.proofs.Common.{◌≡◌, ◌<◌, ◌-◌, ◌^◌, ◌⊎◌, ℕ, List, refl, sym, ◌∙◌, subst, inl, inr, arith}
 use Rattle.std.specs.Prelude.{Option, Some, None, IfSome}
 use Rattle.play_report.specs.Causes.{Rose}
 use Rattle.schedule_check.specs.Telling.{status_of}
 use Rattle.command_words.specs.Words.{Command, Schedule}
-use Rattle.play_words.specs.Promise.{IsAnswer, EndsWith}
-use Rattle.play_words.specs.Ending.{HasItsText, code_of, CommandEnds, WritesSome}
+use Rattle.play_words.specs.Answers.{IsAnswer}
+use Rattle.play_words.specs.Promise.{HasItsText, WritesSome, WritesFront, Wrote}
+use Rattle.play_words.specs.Ending.{code_of, CommandEnds}
 use Rattle.play_words.specs.declared.status.Status.{Status}
 use Rattle.play_words.specs.declared.status.Status.TheVariants as ends
-use Rattle.play_words.proofs.Promised.{ends_with, refusal_is_schedule, usage_is_refusal}
+use Rattle.play_words.proofs.Promised.{refusal_is_schedule, usage_is_refusal}
 
 not_risen : (before now : ℕ) → before < 2 ^ 64 - 1 → now ≡ before → Rose before now → ⊥
 not_risen before now small same (least, rose) = grind (arith, rose)
@@ -33,7 +34,26 @@ module _ (reads reads_now : ℕ) (old new : Option (List ℕ)) (before now : ℕ
   text_written A status n is h =
       subst (λ (k : ℕ). HasItsText k → WritesSome old new (A k)) (sym is) (written_at A status h)
 
+  front_at : (A : ℕ → List ℕ → Type 0) (status : Status) → CommandEnds A status reads reads_now old new before now → code_of status ≡ 5 → WritesFront old new (λ text. (s : ℕ) × A s text)
+  front_at A ends.Done h e = absurd (omega (arith, e))
+  front_at A ends.Usage h e = absurd (omega (arith, e))
+  front_at A ends.InputFault h e = absurd (omega (arith, e))
+  front_at A ends.Full h e = absurd (omega (arith, e))
+  front_at A ends.ReadFault h e = absurd (omega (arith, e))
+  front_at A ends.WriteFault h e = h.0.0
+  front_at A ends.Memory h e = absurd (omega (arith, e))
+  front_at A ends.Refused h e = absurd (omega (arith, e))
+
+  -- a text of the status was written, or a front of one
+  pub wrote : (A : ℕ → List ℕ → Type 0) (status : Status) (n : ℕ) → n ≡ code_of status → CommandEnds A status reads reads_now old new before now → Wrote A n old new
+  wrote A status n is h = record { whole = text_written A status n is h; front = λ five. front_at A status h (sym is ∙ five) }
+
   module _ (asked : Option Command) (left : Option (List ℕ)) where
+    -- of the command that was asked for
+    pub wrote_as : (status : Status) (n : ℕ) → n ≡ code_of status → CommandEnds (IsAnswer asked left) status reads reads_now old new before now
+        → (other : Option Command) → asked ≡ other → Wrote (IsAnswer other left) n old new
+    wrote_as status n is h other same = subst (λ (a : Option Command). Wrote (IsAnswer a left) n old new) same (wrote (IsAnswer asked left) status n is h)
+
     -- the status 1 comes to words that ask for nothing
     pub usage_comes : (status : Status) (n : ℕ) → n ≡ code_of status → CommandEnds (IsAnswer asked left) status reads reads_now old new before now → n ≡ 1 → asked ≡ None
     usage_comes status n is h one =
@@ -48,16 +68,16 @@ module _ (reads reads_now : ℕ) (old new : Option (List ℕ)) (before now : ℕ
         refusal_is_schedule asked left some.0 some.1
 
     module _ (reads_small : reads < 2 ^ 64 - 1) (writes_small : before < 2 ^ 64 - 1) (reads_same : reads_now ≡ reads) (writes_same : now ≡ before) where
-      complete_at : (status : Status) → CommandEnds (IsAnswer asked left) status reads reads_now old new before now → (code_of status ≡ 6) ⊎ EndsWith asked left (code_of status)
-      complete_at ends.Done h = inr (ends_with asked left 0 h.0.0.0 h.0.0.1)
-      complete_at ends.Usage h = inr (ends_with asked left 1 h.0.0.0 h.0.0.1)
-      complete_at ends.InputFault h = inr (ends_with asked left 2 h.0.0.0 h.0.0.1)
-      complete_at ends.Full h = inr (ends_with asked left 3 h.0.0.0 h.0.0.1)
+      complete_at : (status : Status) → CommandEnds (IsAnswer asked left) status reads reads_now old new before now → (code_of status ≡ 6) ⊎ HasItsText (code_of status)
+      complete_at ends.Done h = inr (inl (omega arith))
+      complete_at ends.Usage h = inr (inl (omega arith))
+      complete_at ends.InputFault h = inr (inl (omega arith))
+      complete_at ends.Full h = inr (inl (omega arith))
       complete_at ends.ReadFault h = absurd (not_risen reads reads_now reads_small reads_same h.2)
       complete_at ends.WriteFault h = absurd (not_risen before now writes_small writes_same h.0.1)
       complete_at ends.Memory h = inl refl
-      complete_at ends.Refused h = inr (ends_with asked left 7 h.0.0.0 h.0.0.1)
+      complete_at ends.Refused h = inr (inr refl)
 
       -- where nothing failed
-      pub complete : (status : Status) (n : ℕ) → n ≡ code_of status → CommandEnds (IsAnswer asked left) status reads reads_now old new before now → (n ≡ 6) ⊎ EndsWith asked left n
-      complete status n is h = subst (λ (k : ℕ). (k ≡ 6) ⊎ EndsWith asked left k) (sym is) (complete_at status h)
+      pub complete : (status : Status) (n : ℕ) → n ≡ code_of status → CommandEnds (IsAnswer asked left) status reads reads_now old new before now → (n ≡ 6) ⊎ HasItsText n
+      complete status n is h = subst (λ (k : ℕ). (k ≡ 6) ⊎ HasItsText k) (sym is) (complete_at status h)

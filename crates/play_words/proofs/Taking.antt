@@ -10,9 +10,13 @@ use Rattle.gc_script.specs.ScriptText.{first_foreign}
 use Rattle.gc_script.specs.Convert.{Conversion, convert, converted}
 use Rattle.job_pool.specs.Batch as batches
 use Rattle.job_pool.specs.Batch.{batch, begins, jobs_from}
-use Rattle.play_words.specs.Answers.{IsRunAnswer, IsConvertAnswer, RunsTo, ConvertsTo}
+use Rattle.play_words.specs.RunAnswers.{IsRunAnswer, RunsTo}
+use Rattle.play_words.specs.Converting.{IsConvertAnswer, ConvertsTo}
 use Rattle.play_words.specs.Batching.{IsBatchAnswer, BatchesTo}
-use Rattle.play_words.specs.Dumping.{IsDumpAnswer, IsUndumpAnswer, IsCensusAnswer, DumpsTo, OfDump, IsUndumpText, IsCensusText}
+use Rattle.play_words.specs.Dumping.{IsDumpAnswer, DumpsTo}
+use Rattle.play_words.specs.Undumping.{IsUndumpAnswer, IsUndumpText}
+use Rattle.play_words.specs.Counting.{IsCensusAnswer, IsCensusText}
+use Rattle.play_words.specs.DumpReading.{OfDump}
 use Rattle.heap_dump.specs.Final.{Heap}
 use Rattle.heap_dump.specs.Reading.{fault_of}
 use Rattle.schedule_check.specs.Faults as schedules
@@ -21,7 +25,7 @@ use Rattle.schedule_check.specs.Telling.{IsToldAs, IsAnswer as IsScheduleAnswer}
 use Rattle.play_words.proofs.Dumped.{long_answer}
 use Rattle.play_words.specs.Ending.{TextEnds, CommandEnds}
 use Rattle.play_words.specs.Promise.{OfSource}
-use Rattle.play_words.specs.Reading.{IsSpent}
+use Rattle.play_words.specs.Reading.{IsSpent, TakesAtMost}
 use Rattle.command_words.specs.Words.{Options}
 use Rattle.play_words.specs.declared.status.Status.{Status}
 use Rattle.play_words.proofs.Ends.{other_ends, command_ends}
@@ -114,17 +118,17 @@ module _ (enough : ℕ) where
 
   -- a command whose source was read ends as what was taken does
   pub source_ends : (A : List ℕ → ℕ → List ℕ → Type 0) (status : Status) (left left_now : Option (List ℕ)) (taken bytes : List ℕ) (reads reads_now : ℕ) (old new : Option (List ℕ)) (before now : ℕ)
-      → IsOfWhole enough A → Consumes left left_now taken × (IsAtEnd left_now ⊎ (enough ≤ length taken)) × (reads_now ≡ reads) → bytes ≡ taken
+      → IsOfWhole enough A → Consumes left left_now taken × (IsAtEnd left_now ⊎ (enough ≤ length taken)) × (length taken ≤ enough) × (reads_now ≡ reads) → bytes ≡ taken
       → TextEnds (A bytes) status old new before now → CommandEnds (OfSource A left) status reads reads_now old new before now
-  source_ends A status left left_now taken bytes reads reads_now old new before now whole (consumed, decided, same) is h =
+  source_ends A status left left_now taken bytes reads reads_now old new before now whole (consumed, decided, few, same) is h =
       command_ends (OfSource A left) status reads reads_now old new before now same
       (other_ends (A taken) (OfSource A left) status old new before now (of_source A left left_now taken whole consumed decided)
       (subst (λ (l : List ℕ). TextEnds (A l) status old new before now) is h))
 
-  is_spent : (bytes taken rest : List ℕ) → Takes enough bytes taken rest → IsSpent enough bytes (Some rest)
-  is_spent bytes taken rest t = record {
+  is_spent : (bytes taken rest : List ℕ) → Takes enough bytes taken rest → length taken ≤ enough → IsSpent enough bytes (Some rest)
+  is_spent bytes taken rest t few = record {
     short = λ short. ap Some (none short t.enough_taken);
-    long = λ long. (taken, rest, t.whole, decided long t.enough_taken, refl);
+    long = λ long. (taken, rest, t.whole, omega (arith, few, decided long t.enough_taken), refl);
   }
     where
       none : length bytes < enough → (rest ≡ []) ⊎ (enough ≤ length taken) → rest ≡ []
@@ -136,8 +140,14 @@ module _ (enough : ℕ) where
       decided long (inr many) = many
 
   -- a source that was read is spent
-  pub source_spent : (left left_now : Option (List ℕ)) (taken : List ℕ) → Consumes left left_now taken → IsAtEnd left_now ⊎ (enough ≤ length taken) → IfSome left (λ bytes. IsSpent enough bytes left_now)
-  source_spent None left_now taken consumed decided = tt
-  source_spent (Some bytes) left_now taken consumed decided =
+  pub source_spent : (left left_now : Option (List ℕ)) (taken : List ℕ) {reads reads_now : ℕ}
+      → Consumes left left_now taken × (IsAtEnd left_now ⊎ (enough ≤ length taken)) × (length taken ≤ enough) × (reads_now ≡ reads) → IfSome left (λ bytes. IsSpent enough bytes left_now)
+  source_spent None left_now taken read = tt
+  source_spent (Some bytes) left_now taken (consumed, decided, few, same) =
       let t = takes bytes taken left_now consumed decided in
-      subst (λ (o : Option (List ℕ)). IsSpent enough bytes o) (sym t.1) (is_spent bytes taken t.0 t.2)
+      subst (λ (o : Option (List ℕ)). IsSpent enough bytes o) (sym t.1) (is_spent bytes taken t.0 t.2 few)
+
+  -- no byte is taken where the source is left alone
+  pub takes_none : (left : Option (List ℕ)) → TakesAtMost enough left left
+  takes_none None = ([], tt, omega arith)
+  takes_none (Some bytes) = ([], refl, omega arith)

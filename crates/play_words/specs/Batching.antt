@@ -1,5 +1,5 @@
 -- What may be written of a batch.
-use Rattle.std.specs.Prelude.{ℕ, ◌≡◌, List, [], ◌++◌, length, codes, decimal, slice_get, Option, Some, None, Result, Ok, Err}
+use Rattle.std.specs.Prelude.{ℕ, ◌≡◌, ◌⊎◌, List, [], ◌++◌, length, codes, decimal, slice_get, Option, Some, None, Result, Ok, Err}
 use Rattle.std.specs.List.{flat_map}
 use Rattle.plain_heap.specs.Sections.{Sections}
 use Rattle.play_report.specs.Text.{named_text}
@@ -9,13 +9,18 @@ use Rattle.job_pool.specs.Jobs.{ArePlayed}
 use Rattle.job_pool.specs.declared.done.JobDone.{JobDone}
 use Rattle.job_pool.specs.declared.fault.BatchError.{BatchError}
 use Rattle.command_words.specs.Words.{Options}
-use Rattle.play_words.specs.Answers.{FitsJob}
+use Rattle.play_words.specs.RunAnswers.{IsRunAnswer}
 use Rattle.play_words.specs.Roomy.{IsOf, AreFew}
+
+-- a job of a batch fits its script; want of memory has no text
+abbrev pub FitsJob : Options → List ℕ → ℕ → List ℕ → Type 0
+FitsJob o bytes status text = IsRunAnswer o bytes status text ⊎ ((status ≡ 6) × (text ≡ []))
 
 -- the line in front of a job's text
 unfoldable pub job_line : ℕ → ℕ → ℕ → List ℕ
 job_line job status bytes = codes "job " ++ decimal job ++ codes " status " ++ decimal status ++ codes " bytes " ++ decimal bytes ++ codes "\n"
 
+-- the line, and the text
 abbrev pub job_text : JobDone → List ℕ
 job_text d = job_line d.job d.status (length d.text) ++ d.text
 
@@ -27,6 +32,7 @@ pub record IsBatchText (o : Options) (jobs : List (List ℕ)) (text : List ℕ) 
       → (s : Sections) → IsOf script s → AreFew s o.cells
   pub written : text ≡ flat_map job_text done
 
+-- the text of a batch's fault
 abbrev pub batch_fault_text : Fault → List ℕ
 batch_fault_text (faults.BadBatch offset) = named_text (codes "41 BadBatch offset ") offset
 batch_fault_text (faults.CutJob job) = named_text (codes "42 CutJob job ") job
@@ -47,10 +53,11 @@ text_of_fault (Some fault) = batch_fault_text fault
 abbrev pub batch_error_text : BatchError → List ℕ
 batch_error_text error = text_of_fault (fault_of error)
 
--- `batch`, of these bytes: a fault has status 2
+-- the jobs are played, and a fault has status 2
 abbrev pub BatchesTo : Options → Result (List (List ℕ)) Fault → ℕ → List ℕ → Type 0
 BatchesTo o (Err fault) status text = (status ≡ 2) × (text ≡ batch_fault_text fault)
 BatchesTo o (Ok jobs) status text = (status ≡ 0) × IsBatchText o jobs text
 
+-- `batch`, of these bytes
 abbrev pub IsBatchAnswer : Options → List ℕ → ℕ → List ℕ → Type 0
 IsBatchAnswer o bytes status text = BatchesTo o (batch bytes) status text

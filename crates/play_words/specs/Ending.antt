@@ -1,12 +1,14 @@
 -- How the program ends, and why.
-use Rattle.std.specs.Prelude.{ℕ, ◌≡◌, ◌≤◌, ◌⊎◌, List, Option, Some, None, Result, Ok, Err}
-use Rattle.std.specs.Io.KnownBytes.{Appends, Keeps}
+use Rattle.std.specs.Prelude.{ℕ, ◌≡◌, List, Option, Some, None, Result, Ok, Err}
+use Rattle.std.specs.Io.KnownBytes.{Keeps}
 use Rattle.gc_script.specs.Faults.{Fault}
-use Rattle.play_report.specs.Causes.{Rose, Grows}
+use Rattle.play_report.specs.Causes.{Rose}
 use Rattle.play_report.specs.Text.{fault_text}
+use Rattle.play_words.specs.Promise.{WritesSome, WritesFront}
 use Rattle.play_words.specs.declared.status.Status.{Status}
 use Rattle.play_words.specs.declared.status.Status.TheVariants as ends
 
+-- the number of a status
 abbrev pub code_of : Status → ℕ
 code_of ends.Done = 0
 code_of ends.Usage = 1
@@ -17,22 +19,10 @@ code_of ends.WriteFault = 5
 code_of ends.Memory = 6
 code_of ends.Refused = 7
 
--- the statuses with which a whole text is written
-abbrev pub HasItsText : ℕ → Type 0
-HasItsText status = (status ≤ 3) ⊎ (status ≡ 7)
-
 -- the status after a text was handed to the sink
 abbrev pub after : {T E : Type 0} → Status → Result T E → Status
 after status (Ok u) = status
 after status (Err e) = ends.WriteFault
-
--- some text was written, for which P holds
-abbrev pub WritesSome : Option (List ℕ) → Option (List ℕ) → (List ℕ → Type 0) → Type 0
-WritesSome old new P = (text : List ℕ) × P text × Appends old new text
-
--- a front of some text was written, for which P holds
-abbrev pub WritesFront : Option (List ℕ) → Option (List ℕ) → (List ℕ → Type 0) → Type 0
-WritesFront old new P = (text : List ℕ) × P text × Grows old new text
 
 -- how a command ends that has all its input, where `Answers` says which texts a status may have: such a text was written,
 -- or a front of one and the sink failed, or memory ran out and nothing was written

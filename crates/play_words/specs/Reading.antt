@@ -5,13 +5,17 @@ use Rattle.play_report.specs.Causes.{Rose}
 use Rattle.play_words.specs.declared.source.Unread.{Unread}
 use Rattle.play_words.specs.declared.source.Unread.TheVariants as unread
 
--- these bytes were taken: all there are, or as many as decide
+-- at most so many bytes were taken
+abbrev pub TakesAtMost : ℕ → Option (List ℕ) → Option (List ℕ) → Type 0
+TakesAtMost most old new = (taken : List ℕ) × Consumes old new taken × (length taken ≤ most)
+
+-- these bytes were taken: all there are, or as many as decide and no more
 abbrev pub Reads : {Z : Type 0} → ℕ → Result (Vec ℕ Z) Unread → Option (List ℕ) → Option (List ℕ) → ℕ → ℕ → Type 0
-Reads enough (Ok bytes) old new before now = Consumes old new bytes.items × (IsAtEnd new ⊎ (enough ≤ length bytes.items)) × (now ≡ before)
+Reads enough (Ok bytes) old new before now = Consumes old new bytes.items × (IsAtEnd new ⊎ (enough ≤ length bytes.items)) × (length bytes.items ≤ enough) × (now ≡ before)
 Reads enough (Err unread.Failed) old new before now = Rose before now
 Reads enough (Err unread.Memory) old new before now = now ≡ before
 
--- where the bytes are fewer than decide nothing is left of them, and else as many as decide were taken
+-- where the bytes are fewer than decide nothing is left of them, and else just as many as decide were taken
 pub record IsSpent (enough : ℕ) (bytes : List ℕ) (left : Option (List ℕ)) : Type 0 where
   pub short : length bytes < enough → left ≡ Some []
-  pub long : enough ≤ length bytes → (taken : List ℕ) × (rest : List ℕ) × (bytes ≡ taken ++ rest) × (enough ≤ length taken) × (left ≡ Some rest)
+  pub long : enough ≤ length bytes → (taken : List ℕ) × (rest : List ℕ) × (bytes ≡ taken ++ rest) × (length taken ≡ enough) × (left ≡ Some rest)

@@ -12,9 +12,10 @@
 //! the fault's text. How each ends is `CommandEnds` in `specs/Ending.antt`, for the texts that `specs/Answers.antt` allows it.
 ghost use Rattle.std.specs.Prelude.{◌≡◌, ◌≤◌, IfSome, Some, true, false};
 ghost use Rattle.command_words.specs.Commands.{IsInRange, command_of};
-ghost use Rattle.play_words.specs.Ending.{CommandEnds, HasItsText, code_of};
-ghost use Rattle.play_words.specs.Promise.{IsAnswer, enough_for, reads_source};
-ghost use Rattle.play_words.specs.Reading.{IsSpent};
+ghost use Rattle.play_words.specs.Ending.{CommandEnds, code_of};
+ghost use Rattle.play_words.specs.Promise.{HasItsText, enough_for, reads_source};
+ghost use Rattle.play_words.specs.Answers.{IsAnswer};
+ghost use Rattle.play_words.specs.Reading.{IsSpent, TakesAtMost};
 
 mod batch;
 mod census;
@@ -58,6 +59,7 @@ pub fn do_command<R: Threads + Wait + Sync, S: Source, K: Sink, G: Gate + Sync>(
         (S.faults source.old) (S.faults source.new) (K.written sink.old) (K.written sink.new) (K.faults sink.old) (K.faults sink.new) }
     ensures spent { reads_source (Some (command_of asked)) ≡ true → HasItsText (code_of result)
         → IfSome (S.left source.old) (λ bytes. IsSpent (enough_for (Some (command_of asked))) bytes (S.left source.new)) }
+    ensures most { TakesAtMost (enough_for (Some (command_of asked))) (S.left source.old) (S.left source.new) }
     ensures untouched { reads_source (Some (command_of asked)) ≡ false → source.new ≡ source.old }
 {
     match asked {

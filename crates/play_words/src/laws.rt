@@ -1,4 +1,5 @@
 // Laws over what `play_words` promises: each is the contract of a function that does nothing.
+ghost use Rattle.play_words.specs.Following.{AnswersFollow, StatusesFollow};
 ghost use Rattle.play_words.specs.Laws.{DumpsAlike, LoadsAlike, RunsAlike};
 
 /// Two runs of one script that are done, without `--place`, write the same bytes, whatever their cells, workers, tracers, packets and entries.
@@ -14,4 +15,14 @@ pub fn dumps_alike()
 /// So do two loads with the same numbers.
 pub fn loads_alike()
     ensures { LoadsAlike }
+{}
+
+/// What is written answers what the words ask for, by one relation for all commands: it follows from their clauses.
+pub fn answers_follow()
+    ensures { AnswersFollow }
+{}
+
+/// And a whole text has one of the statuses that its command may have where nothing fails.
+pub fn statuses_follow()
+    ensures { StatusesFollow }
 {}

@@ -4,18 +4,21 @@
 //! - `program`: `play_words`, all of it; its contract is what the program promises.
 //! - `commands`: what each command does with its input, its options and the sink.
 //! - `laws`: what follows from that contract for any two runs of one script.
-//! - `source`: reads all of a source. `status`: how the program ends.
+//! - `source`: reads all of a source. `lines`: writes a text line by line. `status`: how the program ends.
 //!
-//! The words are read by the crate `command_words`. A script is played by one function, `play` of the crate `gc_play`, of which
-//! the commands know no more than `PlayAnswers` of `play_contract`. The program itself, `gcplay`, hands in its words, its
+//! The words are read by the crate `command_words`. A script is played by `play` of the crate `gc_play`, of which the commands
+//! know no more than `PlayAnswers` of `play_contract`, and for a dump by `play_final`, of which they know `FinalAnswers` besides. The program itself, `gcplay`, hands in its words, its
 //! standard input and its standard output.
 #![tactic(auto)]
 
 mod commands;
 mod laws;
+mod lines;
 mod program;
+mod settling;
 mod source;
 mod status;
 
-pub use laws::{dumps_alike, loads_alike, runs_alike};
+pub use laws::{answers_follow, dumps_alike, loads_alike, runs_alike, statuses_follow};
 pub use program::play_words;
+pub use settling::settle;

@@ -1,14 +1,25 @@
 //! All that the program does: the words, the command that they ask for, the status.
 //!
-//! What may be written for what the words ask for is `IsAnswer` in `specs/Promise.antt`, by the status.
+//! What each command writes is a clause of its own, by a definition of its own: `specs/Running.antt` for `run`, and so on; what all share is in
+//! `specs/Promise.antt`. `docs/HEADLINE.md` walks through the clause of `run`.
 ghost use Rattle.std.specs.Prelude.{ℕ, ◌≡◌, ◌≢◌, ◌<◌, ◌≤◌, ◌-◌, ◌^◌, ◌⊎◌, ◌∷◌, [], map, Contains, IfSome, Some, None, true, false};
 ghost use Rattle.std.specs.String.{string_bytes};
 ghost use Rattle.std.specs.Io.KnownBytes.{Keeps};
-ghost use Rattle.command_words.specs.Words.{Load, Options, Schedule};
-ghost use Rattle.schedule_check.specs.Telling.{status_of};
-ghost use Rattle.play_words.specs.Ending.{CommandEnds, HasItsText, WritesSome, WritesFront, code_of};
-ghost use Rattle.play_words.specs.Promise.{EndsWith, IsAnswer, MayBeText, enough_for, reads_source, wanted};
-ghost use Rattle.play_words.specs.Reading.{IsSpent};
+ghost use Rattle.command_words.specs.Words.{Batch, Census, Convert, Dump, Gen, Load, Options, Run, Schedule, Undump};
+ghost use Rattle.schedule_check.specs.Telling.{IsAnswer as IsScheduleAnswer, status_of};
+ghost use Rattle.play_words.specs.Ending.{CommandEnds, code_of};
+ghost use Rattle.play_words.specs.Promise.{FromSource, HasItsText, OfSource, Wrote, WritesSome, enough_for, reads_source, wanted};
+ghost use Rattle.play_words.specs.Answers.{IsAnswer, IsUsageAnswer};
+ghost use Rattle.play_words.specs.Batching.{IsBatchAnswer};
+ghost use Rattle.play_words.specs.Converting.{IsConvertAnswer};
+ghost use Rattle.play_words.specs.Counting.{IsCensusAnswer};
+ghost use Rattle.play_words.specs.Dumping.{IsDumpAnswer};
+ghost use Rattle.play_words.specs.Generating.{IsGenAnswer};
+ghost use Rattle.play_words.specs.Loading.{IsLoadAnswer};
+ghost use Rattle.play_words.specs.RunAnswers.{IsRunAnswer};
+ghost use Rattle.play_words.specs.Running.{IsRunFull, IsRunText};
+ghost use Rattle.play_words.specs.Undumping.{IsUndumpAnswer};
+ghost use Rattle.play_words.specs.Reading.{IsSpent, TakesAtMost};
 ghost use Rattle.play_words.specs.Roomy.{AreFew, PlaysIn};
 ghost use Rattle.plain_heap.specs.Sections.{Sections};
 
@@ -34,6 +45,7 @@ fn do_words<R: Threads + Wait + Sync, S: Source, K: Sink, G: Gate + Sync>(
         (S.faults source.old) (S.faults source.new) (K.written sink.old) (K.written sink.new) (K.faults sink.old) (K.faults sink.new) }
     ensures spent { reads_source (wanted (map string_bytes words.now)) ≡ true → HasItsText (code_of result)
         → IfSome (S.left source.old) (λ bytes. IsSpent (enough_for (wanted (map string_bytes words.now))) bytes (S.left source.new)) }
+    ensures most { TakesAtMost (enough_for (wanted (map string_bytes words.now))) (S.left source.old) (S.left source.new) }
     ensures untouched { reads_source (wanted (map string_bytes words.now)) ≡ false → source.new ≡ source.old }
 {
     match command_of(alloc, words) {
@@ -75,38 +87,67 @@ pub fn play_words<R: Threads + Wait + Sync, S: Source, K: Sink, G: Gate + Sync>(
 
     ensures statuses { Contains (0 ∷ 1 ∷ 2 ∷ 3 ∷ 4 ∷ 5 ∷ 6 ∷ 7 ∷ []) result }
 
-    // What is written with the statuses 0 to 3, and with 7, answers what the words ask for.
-    ensures written { HasItsText result → WritesSome (K.written sink.old) (K.written sink.new) (IsAnswer (wanted (map string_bytes words.now)) (S.left source.old) result) }
-    // Nothing is left in the source, or it was too long and more was taken than the command's input may have.
-    ensures spent { reads_source (wanted (map string_bytes words.now)) ≡ true → HasItsText result → IfSome (S.left source.old) (λ bytes. IsSpent (enough_for (wanted (map string_bytes words.now))) bytes (S.left source.new)) }
+    // `run`, done: of what the script means, each transcript, then exactly the objects that are reachable at the end,
+    // and where it is asked for, a legal cell of each object.
+    ensures run { (o : Options) → wanted (map string_bytes words.now) ≡ Some (Run o) → result ≡ 0
+        → WritesSome (K.written sink.old) (K.written sink.new) (FromSource (IsRunText o) (S.left source.old)) }
+    // `run`, full: a section that wants a new object, and positions at which the reachable objects fill all cells.
+    ensures run_full { (o : Options) → wanted (map string_bytes words.now) ≡ Some (Run o) → result ≡ 3
+        → WritesSome (K.written sink.old) (K.written sink.new) (FromSource (IsRunFull o) (S.left source.old)) }
+    // `run`, with any status: what was played is a script without a fault, and the first fault of any other text is written.
+    ensures run_or_fault { (o : Options) → wanted (map string_bytes words.now) ≡ Some (Run o)
+        → Wrote (OfSource (IsRunAnswer o) (S.left source.old)) result (K.written sink.old) (K.written sink.new) }
+
+    // The other commands: `load` in five lines, the script of `gen`, the conversion of `convert`, the verdict of `schedule`, the heap at the end
+    // of `dump`, its records of `undump`, their counts of `census`, and of `batch` the results of each job in order.
+    ensures load { (o : Options) (number size : ℕ) → wanted (map string_bytes words.now) ≡ Some (Load o number size)
+        → Wrote (IsLoadAnswer o number size) result (K.written sink.old) (K.written sink.new) }
+    ensures generate { (number size : ℕ) → wanted (map string_bytes words.now) ≡ Some (Gen number size)
+        → Wrote (IsGenAnswer number size) result (K.written sink.old) (K.written sink.new) }
+    ensures convert { wanted (map string_bytes words.now) ≡ Some Convert
+        → Wrote (OfSource IsConvertAnswer (S.left source.old)) result (K.written sink.old) (K.written sink.new) }
+    ensures schedule { wanted (map string_bytes words.now) ≡ Some Schedule
+        → Wrote (OfSource IsScheduleAnswer (S.left source.old)) result (K.written sink.old) (K.written sink.new) }
+    ensures dump { (o : Options) → wanted (map string_bytes words.now) ≡ Some (Dump o)
+        → Wrote (OfSource (IsDumpAnswer o) (S.left source.old)) result (K.written sink.old) (K.written sink.new) }
+    ensures undump { wanted (map string_bytes words.now) ≡ Some Undump
+        → Wrote (OfSource IsUndumpAnswer (S.left source.old)) result (K.written sink.old) (K.written sink.new) }
+    ensures census { wanted (map string_bytes words.now) ≡ Some Census
+        → Wrote (OfSource IsCensusAnswer (S.left source.old)) result (K.written sink.old) (K.written sink.new) }
+    ensures batch { (o : Options) (runners : ℕ) → wanted (map string_bytes words.now) ≡ Some (Batch o runners)
+        → Wrote (OfSource (IsBatchAnswer o) (S.left source.old)) result (K.written sink.old) (K.written sink.new) }
+
+    // The words are refused exactly where they ask for nothing, and are told the usage.
+    ensures usage { wanted (map string_bytes words.now) ≡ None → Wrote IsUsageAnswer result (K.written sink.old) (K.written sink.new) }
+    ensures refused { wanted (map string_bytes words.now) ≡ None → (result ≡ 1) ⊎ (result ≡ 5) ⊎ (result ≡ 6) }
+    ensures asked { result ≡ 1 → wanted (map string_bytes words.now) ≡ None }
+
+    // Where no count of faults rises, one of these texts is written whole, unless memory runs out.
+    ensures complete { S.faults source.new ≡ S.faults source.old → K.faults sink.new ≡ K.faults sink.old → (result ≡ 6) ⊎ HasItsText result }
+
+    // Nothing is left in the source, or it was too long and just one byte more was taken than the command's input may have.
+    ensures spent { reads_source (wanted (map string_bytes words.now)) ≡ true → HasItsText result
+        → IfSome (S.left source.old) (λ bytes. IsSpent (enough_for (wanted (map string_bytes words.now))) bytes (S.left source.new)) }
+    // Never more than one byte past the longest input of the command is taken, whatever the status.
+    ensures most { TakesAtMost (enough_for (wanted (map string_bytes words.now))) (S.left source.old) (S.left source.new) }
     // `gen`, `load` and words that ask for nothing leave the source as it was.
     ensures untouched { reads_source (wanted (map string_bytes words.now)) ≡ false → source.new ≡ source.old }
-
-    // 7 comes only to `schedule`, of a source that is a refused schedule. That it comes to each of these is part of `complete`.
-    ensures refuses { result ≡ 7 → (wanted (map string_bytes words.now) ≡ Some Schedule) × IfSome (S.left source.old) (λ bytes. status_of bytes ≡ 7) }
-
-    // The words are refused exactly where they ask for nothing.
-    ensures usage { result ≡ 1 → wanted (map string_bytes words.now) ≡ None }
-    ensures refused { wanted (map string_bytes words.now) ≡ None → (result ≡ 1) ⊎ (result ≡ 5) ⊎ (result ≡ 6) }
 
     // A fault of reading comes only where the source's count rose, and then nothing else comes but want of memory; nothing is written.
     ensures read_fault { result ≡ 4 → S.faults source.old < S.faults source.new }
     ensures read_rose { S.faults source.old < S.faults source.new → (result ≡ 4) ⊎ (result ≡ 6) }
     ensures silent { (result ≡ 4) ⊎ (result ≡ 6) → Keeps (K.written sink.old) (K.written sink.new) }
 
-    // A fault of writing comes exactly where the sink's count rose, and a front of an answer is written.
+    // A fault of writing comes exactly where the sink's count rose.
     ensures write_fault { result ≡ 5 → K.faults sink.old < K.faults sink.new }
     ensures write_rose { K.faults sink.old < K.faults sink.new → result ≡ 5 }
-    ensures front { result ≡ 5 → WritesFront (K.written sink.old) (K.written sink.new) (MayBeText (wanted (map string_bytes words.now)) (S.left source.old)) }
-
-    // Where no count rises, each command is done or tells its cause, unless memory runs out.
-    ensures complete { S.faults source.new ≡ S.faults source.old → K.faults sink.new ≡ K.faults sink.old
-        → (result ≡ 6) ⊎ EndsWith (wanted (map string_bytes words.now)) (S.left source.old) result }
 
     // 3 doesn't come where the cells are more than what may be reachable at once.
     ensures roomy { result ≡ 3 → (s : Sections) (cells : ℕ) → PlaysIn (wanted (map string_bytes words.now)) (S.left source.old) s cells → AreFew s cells }
     // So it never comes to `load` with 256 cells or more.
-    ensures load_fits { (options : Options) (number size : ℕ) → wanted (map string_bytes words.now) ≡ Some (Load options number size) → 256 ≤ options.cells → result ≢ 3 }
+    ensures load_fits { (o : Options) (number size : ℕ) → wanted (map string_bytes words.now) ≡ Some (Load o number size) → 256 ≤ o.cells → result ≢ 3 }
+    // 7 comes only to `schedule`, of a source that is a refused schedule.
+    ensures refuses { result ≡ 7 → (wanted (map string_bytes words.now) ≡ Some Schedule) × IfSome (S.left source.old) (λ bytes. status_of bytes ≡ 7) }
 {
     do_words(rt, alloc, words, source, sink, gate).code()
 }

@@ -1,5 +1,5 @@
 //! Reads all of a source.
-ghost use Rattle.play_words.specs.Reading.{Reads};
+ghost use Rattle.play_words.specs.Reading.{Reads, TakesAtMost};
 
 use play_report::Source;
 use std::alloc::Global;
@@ -23,28 +23,28 @@ pub const DUMP: usize = 4_984_981;
 /// One byte more than the longest batch.
 pub const BATCH: usize = 16_777_217;
 
-/// Takes bytes until there are no more, or `enough` of them, which is more than the input may have.
+/// Takes bytes until there are no more, or `enough` of them, which is more than the input may have. It never takes more.
 pub fn read_source<S: Source>(
     alloc: Global,
     source: &mut S,
     enough: usize,
 ) -> Result<Vec<u8>, Unread>
-    ensures { Reads enough result (S.left source.old) (S.left source.new) (S.faults source.old) (S.faults source.new) }
+    ensures reads { Reads enough result (S.left source.old) (S.left source.new) (S.faults source.old) (S.faults source.new) }
+    ensures most { TakesAtMost enough (S.left source.old) (S.left source.new) }
 {
     let mut bytes = Vec::new(alloc);
     let mut buf = [0u8; 4096];
-    for _turn in 0..enough {
-        match source.read(&mut buf) {
+    while bytes.len() < enough {
+        let room = (enough - bytes.len()).min(4096);
+        let piece = &mut buf[..room];
+        match source.read(piece) {
             Err(_) => return Err(Unread::Failed),
             Ok(n) => {
                 if n == 0 {
                     return Ok(bytes);
                 }
-                if bytes.extend_from_slice(&buf[..n]).is_err() {
+                if bytes.extend_from_slice(&piece[..n]).is_err() {
                     return Err(Unread::Memory);
-                }
-                if bytes.len() >= enough {
-                    return Ok(bytes);
                 }
             }
         }

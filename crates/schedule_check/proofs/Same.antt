@@ -9,7 +9,7 @@ use Rattle.schedule_check.specs.Faults.{Fault, TooManyEvents}
 use Rattle.std.specs.Str.{bytes_eq}
 use Rattle.schedule_check.specs.Forms.{number}
 use Rattle.schedule_check.specs.Table.{all_three, triple}
-use Rattle.schedule_check.specs.Schedule.{Schedule, plain, sized, is_in_limits, is_skipped, shape_line, event_line, events_from, with_event, put_first, with_events, of_shape, body}
+use Rattle.schedule_check.specs.Schedule.{Schedule, plain, sized, objects_in_schedule, is_in_limits, is_skipped, shape_line, event_line, events_from, with_event, put_first, with_events, of_shape, body}
 use Rattle.schedule_check.specs.Reading.{reading, and_then, after_words, with_more, begun}
 
 -- the schedule with these events more
@@ -75,7 +75,7 @@ sized_plain : (x y : Option (ℕ × ℕ × ℕ)) → IsPlain (sized x y)
 sized_plain None y = tt
 sized_plain (Some x) None = tt
 sized_plain (Some x) (Some y) =
-    limits_plain (record { cells = x.0; packets = x.1; entries = x.2; sections = y.0; fields = y.1 }) y.2 (is_in_limits (record { cells = x.0; packets = x.1; entries = x.2; sections = y.0; fields = y.1 }) y.2)
+    limits_plain (record { cells = x.0; packets = x.1; entries = x.2; sections = y.0; fields = y.1; objects = objects_in_schedule }) y.2 (is_in_limits (record { cells = x.0; packets = x.1; entries = x.2; sections = y.0; fields = y.1; objects = objects_in_schedule }) y.2)
 
 shape_test : (x y : Option (ℕ × ℕ × ℕ)) (b : Bool) → IsPlain (cond b (sized x y) None)
 shape_test x y true = sized_plain x y

@@ -5,7 +5,7 @@ use Rattle.std.specs.Prelude.{None}
 use Rattle.mark_core.specs.Shapes.{IsShape}
 use Rattle.mark_core.specs.declared.kinds.Shape.{Shape}
 use Rattle.schedule_check.specs.declared.line.Line.{Line}
-use Rattle.schedule_check.specs.Schedule.{event_line, shape_line, is_in_limits}
+use Rattle.schedule_check.specs.Schedule.{event_line, shape_line, is_in_limits, objects_in_schedule}
 use Rattle.schedule_check.specs.Shown.{IsLegal}
 
 abbrev now : List (Bor (List ℕ)) → List (List ℕ)
@@ -23,8 +23,8 @@ short_shape (x ∷ y ∷ []) h = refl
 short_shape (x ∷ y ∷ z ∷ []) h = refl
 short_shape (x ∷ y ∷ z ∷ u ∷ xs) h = grind (arith)
 
-limits : (s : Shape) (n : ℕ) → is_in_limits s n ≡ true → IsShape s × (1 ≤ n) × (n ≤ 41)
-limits s n h = (
+limits : (s : Shape) (n : ℕ) → is_in_limits s n ≡ true → s.objects ≡ objects_in_schedule → IsShape s × (1 ≤ n) × (n ≤ 41)
+limits s n h o = (
   record {
     cells = (grind (arith, nat_tests), grind (arith, nat_tests));
     whole_blocks = grind (arith, nat_tests);
@@ -32,11 +32,12 @@ limits s n h = (
     entries = (grind (arith, nat_tests), grind (arith, nat_tests));
     sections = (grind (arith, nat_tests), grind (arith, nat_tests));
     fields = (grind (arith, nat_tests), grind (arith, nat_tests));
+    objects = (omega (arith, o), omega (arith, o));
   },
   grind (arith, nat_tests),
   grind (arith, nat_tests),
 )
 
-pub legal : (s : Shape) (n : ℕ) (es : List Line) → is_in_limits s n ≡ true → es ≡ [] → IsLegal (record { shape = s; seats = n; events = es })
-legal s n [] h e = record { shape = (limits s n h).0; seats = ((limits s n h).1, (limits s n h).2); few = omega arith }
-legal s n (x ∷ es) h e = cc
+pub legal : (s : Shape) (n : ℕ) (es : List Line) → is_in_limits s n ≡ true → s.objects ≡ objects_in_schedule → es ≡ [] → IsLegal (record { shape = s; seats = n; events = es })
+legal s n [] h o e = let l = limits s n h o in record { shape = l.0; seats = (l.1, l.2); few = omega arith }
+legal s n (x ∷ es) h o e = cc

@@ -75,7 +75,7 @@ fn seats_that_do_not_exist_are_refused_at_part_0(rt: HostRuntime) {
 fn a_sink_that_fails_is_told(rt: HostRuntime) {
     let alloc = rt.alloc();
     let Ok(mut sink) = MemorySink::make(alloc, 128, 7, &[3]) else {
-        return;
+        panic!(rt; "memory")
     };
     assert!(rt; tell_schedule(alloc, STARTED, &mut sink) == Err(Untold::Failed));
     // Two calls went well: 7 bytes of the first line, and its other 4.

@@ -18,6 +18,7 @@ const SMALL: Shape = Shape {
     entries: 2,
     sections: 2,
     fields: 4,
+    objects: 2_000_000,
 };
 
 // So many words, all 0.

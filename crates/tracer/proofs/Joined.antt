@@ -1,5 +1,5 @@
 -- One part of a trace after another.
-use Rattle.std.proofs.Common.{ℕ, ◌≡◌, ◌<◌, ◌+◌, List, ◌++◌, sym, ap, ◌∙◌, subst, Option, ⊎_elim}
+use Rattle.std.proofs.Common.{ℕ, ◌≡◌, ◌+◌, List, ◌++◌, sym, ap, ◌∙◌, Option}
 use Rattle.mark_core.specs.Seats.{is_the}
 use Rattle.mark_core.specs.declared.kinds.Shape.{Shape}
 use Rattle.gc_table.specs.declared.view.Entry.{Entry}
@@ -7,10 +7,10 @@ use Rattle.gc_table.specs.declared.view.View.{View}
 use Rattle.gc_table.specs.Running.{after_all}
 use Rattle.packet_pools.specs.OnlyTraced.{OnlyTraced}
 use Rattle.gc_table.specs.Log.{events}
-use Rattle.packet_pools.specs.Seeking.{gets_from, NoOutput, was_got_from}
-use Rattle.packet_pools.specs.Counts.{count_of, dirties, SomeStretch}
+use Rattle.packet_pools.specs.Seeking.{gets_from, was_got_from}
+use Rattle.packet_pools.specs.Counts.{count_of, dirties}
 use Rattle.gc_table.proofs.Log.{events-join}
-use Rattle.packet_pools.proofs.Counting.{count-join, either-some, stretch-left, stretch-right}
+use Rattle.packet_pools.proofs.Counting.{count-join, searched-join}
 use Rattle.tracer.specs.Deferral.{waits, pops_waiting, puts_off}
 use Rattle.tracer.specs.Tally.{pops, count_by, only_traces}
 use Rattle.tracer.specs.Parts.{Did, Part}
@@ -39,10 +39,7 @@ module _ (o q r : Option ℕ) (d e f g l m x y z : ℕ) (u v : View) (xs ys es :
   part-join sh a b =
       record {
         did = did-join a.did b.did;
-        cause =
-            λ h.
-            subst (SomeStretch (NoOutput sh)) (sym all)
-            (⊎_elim (λ k. stretch-left (NoOutput sh) xs ys (a.cause k)) (λ k. stretch-right (NoOutput sh) xs ys (b.cause k)) (either-some l m (subst (λ n. 0 < n) (sym lz) h)));
+        cause = searched-join sh xs ys es all a.cause b.cause;
       }
 
 -- one call after another

@@ -11,3 +11,4 @@ pub mod Whole
 pub mod RootScans
 pub mod Recycled
 pub mod Ending
+pub mod TraceRows

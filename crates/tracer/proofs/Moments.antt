@@ -1,7 +1,7 @@
 -- A search in vain at some moment of a call, told by the events of the call.
-use Rattle.std.proofs.Common.{ℕ, ◌≡◌, ◌<◌, ◌+◌, List, [], ◌∷◌, ◌++◌, length, refl, sym, ap, ◌∙◌, arith, cond, Bool, true, false, not, Some, None, Option, zero, suc, eqb, eqb-true, eq-eqb, ⊎_elim, slice_index_or}
+use Rattle.std.proofs.Common.{ℕ, ◌≡◌, ◌<◌, List, [], ◌∷◌, ◌++◌, length, refl, sym, ap, ◌∙◌, arith, cond, Bool, true, false, not, Some, None, Option, suc, eqb, eqb-true, eq-eqb, ⊎_elim, slice_index_or}
 use Rattle.std.specs.Prelude.{◌&&◌, ◌||◌, ◌==◌}
-use Rattle.std.specs.List.{list_all, list_any, range_with_len, AllPairs}
+use Rattle.std.specs.List.{list_all, list_any, AllPairs}
 use Rattle.std.proofs.lemmas.Bool.{and_from, and_parts, cases_Bool, false≢true, or_cases, or_from, or_left, or_right}
 use Rattle.mark_core.specs.Held.{Slot, Slots, holds, known_length, slot_of}
 use Rattle.mark_core.specs.WellFormed.{IsApart}
@@ -13,10 +13,10 @@ use Rattle.gc_table.specs.declared.view.Entry.{Entry}
 use Rattle.gc_table.specs.declared.view.View.{View}
 use Rattle.gc_table.specs.Running.{after_all}
 use Rattle.gc_table.specs.Taking.{after}
-use Rattle.packet_pools.specs.Seeking.{loses, moves_packet, NoInput, NoOutput, only_moves, seen_outside_all, shows_outside, was_full, was_lost}
-use Rattle.packet_pools.proofs.Searches.{before-left, full-left}
+use Rattle.packet_pools.specs.Seeking.{moves_packet, no_input, no_output, NoInput, NoOutput, only_moves}
+use Rattle.packet_pools.proofs.AllMissed.{all-missed-left, no-output-left}
 use Rattle.tracer.specs.Deferral.{puts_off, waits, waits_on}
-use Rattle.tracer.specs.Moments.{Moment, after_moment, at_some_moment, deferring_after, front, is_spent_slot, no_input, no_output, without}
+use Rattle.tracer.specs.Moments.{Moment, after_moment, at_some_moment, deferring_after, front, is_spent_slot, without}
 
 -- the moment after these events
 abbrev pub moment-after : Shape → Moment → List Entry → Moment
@@ -101,40 +101,13 @@ front-keeps qs (x ∷ xs) ys m =
     let h = and_parts (moves_packet qs x.step) (only_moves qs xs) m in
     ap (λ b. cond b (x ∷ front (moves_packet qs) (xs ++ ys)) []) h.0 ∙ ap (λ l. x ∷ l) (front-keeps qs xs ys h.1)
 
-all-range : (f : ℕ → Bool) (a n : ℕ) → ((p : ℕ) → p < a + n → f p ≡ true) → list_all f (range_with_len a n) ≡ true
-all-range f a zero h = refl
-all-range f a (suc n) h = and_from _ _ (h a (omega arith)) (all-range f (a + 1) n (λ p l. h p (omega (arith, l))))
-
-outside-left : (qs : List ℕ) (p : ℕ) (xs ys : List Entry) → seen_outside_all qs p xs ≡ true → seen_outside_all qs p (xs ++ ys) ≡ true
-outside-left [] p xs ys s = refl
-outside-left (q ∷ qs) p xs ys s = let h = and_parts _ (seen_outside_all qs p xs) s in and_from _ _ (before-left p (shows_outside q p) xs ys h.0) (outside-left qs p xs ys h.1)
-
-either-left : (qs : List ℕ) (p : ℕ) (xs ys : List Entry) → (seen_outside_all qs p xs || was_lost p xs) ≡ true → (seen_outside_all qs p (xs ++ ys) || was_lost p (xs ++ ys)) ≡ true
-either-left qs p xs ys e =
-    ⊎_elim
-    (λ (a : seen_outside_all qs p xs ≡ true). or_left _ _ (outside-left qs p xs ys a))
-    (λ (b : was_lost p xs ≡ true). or_right _ _ (before-left p (loses p) xs ys b))
-    (or_cases _ _ e)
-
 -- the search in vain for a packet to read from is told by the steps that follow
 pub input-front : (sh : Shape) (xs ys : List Entry) → NoInput sh xs → only_moves (2 ∷ 1 ∷ []) xs ≡ true → no_input sh (front (moves_packet (2 ∷ 1 ∷ [])) (xs ++ ys)) ≡ true
-input-front sh xs ys none m =
-    ap (no_input sh) (front-keeps (2 ∷ 1 ∷ []) xs ys m)
-    ∙ all-range _ 0 sh.packets (λ p l. either-left (2 ∷ 1 ∷ []) p xs (front (moves_packet (2 ∷ 1 ∷ [])) ys) (none p (omega (arith, l))))
+input-front sh xs ys none m = ap (no_input sh) (front-keeps (2 ∷ 1 ∷ []) xs ys m) ∙ all-missed-left sh (2 ∷ 1 ∷ []) xs (front (moves_packet (2 ∷ 1 ∷ [])) ys) none
 
 -- and so is that for one with room
 pub output-front : (sh : Shape) (xs ys : List Entry) → NoOutput sh xs → only_moves (0 ∷ 1 ∷ 2 ∷ []) xs ≡ true → no_output sh (front (moves_packet (0 ∷ 1 ∷ 2 ∷ [])) (xs ++ ys)) ≡ true
-output-front sh xs ys none m = ap (no_output sh) (front-keeps (0 ∷ 1 ∷ 2 ∷ []) xs ys m) ∙ all-range _ 0 sh.packets (λ p l. each p (none p (omega (arith, l))))
-  where
-    more : List Entry
-    more = front (moves_packet (0 ∷ 1 ∷ 2 ∷ [])) ys
-
-    each : (p : ℕ) → (seen_outside_all (0 ∷ 1 ∷ 2 ∷ []) p xs || was_lost p xs || was_full sh.entries p xs) ≡ true → (seen_outside_all (0 ∷ 1 ∷ 2 ∷ []) p (xs ++ more) || was_lost p (xs ++ more) || was_full sh.entries p (xs ++ more)) ≡ true
-    each p e =
-        ⊎_elim
-        (λ (a : (seen_outside_all (0 ∷ 1 ∷ 2 ∷ []) p xs || was_lost p xs) ≡ true). or_left _ _ (either-left (0 ∷ 1 ∷ 2 ∷ []) p xs more a))
-        (λ (b : was_full sh.entries p xs ≡ true). or_right _ _ (full-left sh.entries p xs more b))
-        (or_cases _ _ e)
+output-front sh xs ys none m = ap (no_output sh) (front-keeps (0 ∷ 1 ∷ 2 ∷ []) xs ys m) ∙ no-output-left sh xs (front (moves_packet (0 ∷ 1 ∷ 2 ∷ [])) ys) none
 
 -- no other slot holds the packet of the first
 head-alone : (x : ℕ) (l : Option ℕ) (b : Bool) (hs : Slots) → AllPairs IsApart (Some (x, l, b) ∷ hs) → holds hs x ≡ false

@@ -12,10 +12,10 @@ use Rattle.gc_table.specs.declared.view.View.{View}
 use Rattle.gc_table.specs.Taking.{after}
 use Rattle.packet_pools.specs.OnlyTraced.{OnlyTraced}
 use Rattle.gc_table.specs.Log.{events, steps_of}
-use Rattle.packet_pools.specs.Seeking.{only_moves, NoOutput}
+use Rattle.packet_pools.specs.Seeking.{only_moves, NoOutput, some_event}
 use Rattle.packet_pools.specs.Counts.{count_of, dirties}
 use Rattle.gc_table.proofs.Log.{entry_of, events-after, events-join}
-use Rattle.packet_pools.proofs.Counting.{given-moves}
+use Rattle.packet_pools.proofs.Counting.{given-moves, quiet, searched-none, searched-one}
 use Rattle.tracer.specs.Deferral.{waits, waits_on}
 use Rattle.tracer.specs.Parts.{Did, Part}
 use Rattle.tracer.proofs.Calm.{AllCalm, IsCalm, and-false, calm-got, calm-off, calm-popped, calm-pops, calm-traces}
@@ -48,14 +48,14 @@ part-pop sh o p n v w e f =
             dirtied = refl;
             steps = refl;
           };
-      cause = λ l. absurd (omega (arith, l));
+      cause = refl;
     })
 
 -- its allocation bit was read
 pub part-alloc : (sh : Shape) (o : Option ℕ) (b n : ℕ) (v w : View) → w ≡ after (ReadAlloc b) n v → Part sh o o 0 0 0 v (events v w)
 part-alloc sh o b n v w e =
     subst (Part sh o o 0 0 0 v) (sym (events-after v w (ReadAlloc b) n e))
-    (record { did = did-quiet o 0 v (entry_of (ReadAlloc b) n ∷ []) (calm, tt) (λ p x. refl, tt) refl; cause = λ l. absurd (omega (arith, l)) })
+    (record { did = did-quiet o 0 v (entry_of (ReadAlloc b) n ∷ []) (calm, tt) (λ p x. refl, tt) refl; cause = refl })
   where
     calm : IsCalm v.state (ReadAlloc b) n
     calm = record { from = λ p. refl; pop = refl; off = refl; got = λ p. refl; trace = refl }
@@ -89,7 +89,7 @@ part-push sh o q c n v w e f either =
             dirtied = refl;
             steps = refl;
           };
-      cause = λ l. absurd (omega (arith, l));
+      cause = refl;
     })
 
 -- a card was dirtied after a search that found no packet with room
@@ -101,7 +101,7 @@ part-spill sh o card n u v w a b m none e =
       did =
           did-join o o o 0 0 0 0 0 1 0 0 1 u v (events u v) (events v w) (events u w) (events-join u v w a.log b.log) a.ran.steps refl refl refl (part-moves sh o u (events u v) m).did
           (subst (Did o o 0 0 1 v) (sym last) (did-quiet o 1 v one (calm, tt) (λ p x. refl, tt) refl));
-      cause = λ l. ([], events u v, one, events-join u v w a.log b.log ∙ ap (λ (es : List Entry). events u v ++ es) last, none);
+      cause = searched-one sh card n (events u v) (events u w) (events-join u v w a.log b.log ∙ ap (λ (es : List Entry). events u v ++ es) last) (quiet (events u v) m) none m;
     }
   where
     calm : IsCalm v.state (DirtyCard card) n
@@ -163,6 +163,10 @@ no-dirty (e ∷ es) g =
     let h = and_parts (gives_back e.step) (all_give (steps_of es)) g in
     λ i. cond (clean e.step e.found h.0 i) 1 0 + no-dirty es h.1 i
 
+no-dirt : (es : List Entry) → all_give (steps_of es) ≡ true → some_event dirties es ≡ false
+no-dirt [] g = refl
+no-dirt (e ∷ es) g = let h = and_parts (gives_back e.step) (all_give (steps_of es)) g in or_from _ _ (clean e.step e.found h.0) (no-dirt es h.1)
+
 -- a packet was given as deferred, and waits no more
 pub part-put_off : (sh : Shape) (p : ℕ) (c : Bool) (v : View) (es : List Entry) → steps_of es ≡ StoreLength p ∷ Give p true ∷ (cond c (Credit ∷ []) []) → Part sh (Some p) None 0 0 0 v es
 part-put_off sh p c v es e =
@@ -178,7 +182,7 @@ part-put_off sh p c v es e =
             dirtied = no-dirty es (ap all_give e ∙ giving c);
             steps = calm-traces v es calm;
           };
-      cause = λ l. absurd (omega (arith, l));
+      cause = searched-none sh es (no-dirt es (ap all_give e ∙ giving c));
     }
   where
     giving : (b : Bool) → all_give (StoreLength p ∷ Give p true ∷ (cond b (Credit ∷ []) [])) ≡ true

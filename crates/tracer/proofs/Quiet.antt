@@ -44,7 +44,7 @@ moves-still v (e ∷ es) m = let h = and_parts (moves_packet (0 ∷ 1 ∷ 2 ∷ 
 
 -- packets were taken, or given back
 pub part-moves : (sh : Shape) (o : Option ℕ) (v : View) (es : List Entry) → only_moves (0 ∷ 1 ∷ 2 ∷ []) es ≡ true → Part sh o o 0 0 0 v es
-part-moves sh o v es m = record { did = did-quiet o 0 v es (moves-calm v es m) (moves-still v es m) (counts-moves sh es m).overflowed; cause = λ l. absurd (omega (arith, l)) }
+part-moves sh o v es m = record { did = did-quiet o 0 v es (moves-calm v es m) (moves-still v es m) (counts-moves sh es m).overflowed; cause = (counts-moves sh es m).cause }
 
 -- with no popped cell in hand it is a fresh one that is pushed
 fresh-pushed : (s : SeatState) (c : ℕ) → s.popped ≡ None → may_push s c ≡ true → is_the s.fresh c ≡ true

@@ -10,11 +10,11 @@ use Rattle.mark_core.specs.declared.kinds.Step.{Step}
 use Rattle.mark_core.specs.declared.kinds.Step.TheVariants.{Credit, Give, Look, ReadLength, StoreLength, Take}
 use Rattle.gc_table.specs.declared.view.Entry.{Entry}
 use Rattle.gc_table.specs.Log.{steps_of}
-use Rattle.packet_pools.specs.Seeking.{gets, gets_from, loses, only_moves, shows_outside, some_event, was_got, was_got_from}
+use Rattle.packet_pools.specs.Seeking.{gets, gets_from, only_moves, shows_outside, some_event, was_got, was_got_from}
 use Rattle.packet_pools.specs.Counts.{count_of}
 use Rattle.packet_pools.proofs.Counting.{count-join}
 use Rattle.gc_table.proofs.Log.{entry_of}
-use Rattle.packet_pools.proofs.Searches.{all_move, before-left, before-right, moves-join, moves-steps, some-left, some-parts, some-right}
+use Rattle.packet_pools.proofs.Searches.{all_move, either-way, moves-join, moves-steps, some-left, some-parts, some-right, was-missed-left, was-missed-right}
 use Rattle.gc_table.specs.declared.view.View.{View}
 use Rattle.tracer.specs.Hands.{IsIdle}
 use Rattle.tracer.specs.Recycling.{gives, gives_to, is_settled, Recycles, was_moved}
@@ -40,18 +40,11 @@ moved-both p (x ∷ xs) ys g h =
     (λ e. or_right (gets_from 3 p x.step x.found && some_event (gives_to p) (xs ++ ys)) _ (moved-both p xs ys e h))
     (or_cases (gets_from 3 p x.step x.found) (was_got_from 3 p xs) g)
 
-three : (a b c a' b' c' : Bool) → (a ≡ true → a' ≡ true) → (b ≡ true → b' ≡ true) → (c ≡ true → c' ≡ true) → (a || b || c) ≡ true → (a' || b' || c') ≡ true
-three a b c a' b' c' f g h e =
-    ⊎_elim
-    (λ x. ⊎_elim (λ y. or_left _ c' (or_left _ b' (f y))) (λ y. or_left _ c' (or_right a' _ (g y))) (or_cases a b x))
-    (λ x. or_right (a' || b') _ (h x))
-    (or_cases (a || b) c e)
-
 settled-left : (p : ℕ) (xs ys : List Entry) → is_settled p xs ≡ true → is_settled p (xs ++ ys) ≡ true
-settled-left p xs ys h = three _ _ _ _ _ _ (before-left p (shows_outside 3 p) xs ys) (before-left p (loses p) xs ys) (moved-left p xs ys) h
+settled-left p xs ys h = either-way _ _ _ _ (was-missed-left 3 p xs ys) (moved-left p xs ys) h
 
 pub settled-right : (p : ℕ) (xs ys : List Entry) → was_got p xs ≡ false → is_settled p ys ≡ true → is_settled p (xs ++ ys) ≡ true
-settled-right p xs ys n h = three _ _ _ _ _ _ (before-right p (shows_outside 3 p) xs ys n) (before-right p (loses p) xs ys n) (moved-right p xs ys) h
+settled-right p xs ys n h = either-way _ _ _ _ (was-missed-right 3 p xs ys n) (moved-right p xs ys) h
 
 pub recycles-none : Recycles 0 0 0 []
 recycles-none = record { all = λ p a b. absurd (omega (arith, b)); got = λ p g. absurd (false≢true g); once = λ p. omega arith; none = λ p o. refl; count = refl; moves = refl }

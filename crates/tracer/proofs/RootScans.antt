@@ -21,11 +21,11 @@ use Rattle.packet_pools.specs.OnlyTraced.{OnlyTraced}
 use Rattle.gc_table.specs.Log.{events}
 use Rattle.packet_pools.specs.Tracing.{traces}
 use Rattle.packet_pools.specs.Scanning.{InHand, Pushes}
-use Rattle.packet_pools.specs.Seeking.{NoOutput, only_moves, some_event}
-use Rattle.packet_pools.specs.Counts.{count_of, Counts, dirties, marks_white, only_scans, scans_object, SomeStretch}
+use Rattle.packet_pools.specs.Seeking.{only_moves, some_event}
+use Rattle.packet_pools.specs.Counts.{count_of, Counts, dirties, dirties_after_search, marks_white, only_scans, scans_object}
 use Rattle.packet_pools.specs.Fields.{Asks, cells_asked, picked}
 use Rattle.packet_pools.proofs.Conditions.{may-trace}
-use Rattle.packet_pools.proofs.Counting.{count-join, counts-moves, either-some, stretch-left, stretch-right}
+use Rattle.packet_pools.proofs.Counting.{count-join, counts-moves, searched-join}
 use Rattle.packet_pools.proofs.InHand.{known-held}
 use Rattle.gc_table.proofs.Log.{entry_of}
 use Rattle.packet_pools.proofs.Reading.{asks-moves, fields-next, picked-join}
@@ -67,7 +67,7 @@ root-nil sh s v n es all e =
       asked = ap (picked cells_asked) all ∙ sym (ap (picked cells_rooted) all ∙ ap (λ (m : ℕ). cond (m == 0) [] (cell_of m ∷ []) ++ []) e);
       marked = ap (count_of marks_white) all;
       dirtied = ap (count_of dirties) all;
-      cause = λ l. absurd (omega (arith, l));
+      cause = ap (dirties_after_search sh) all;
       steps = ap only_roots all;
     }
 
@@ -81,7 +81,7 @@ root-cell sh s v n white kept lost ys es all e a c =
       asked = ap (picked cells_asked) all ∙ (a.asked ∙ sym (ap (picked cells_rooted) all ∙ (λ j. cond (e j) [] (cell_of n ∷ []) ++ u.named j)));
       marked = ap (count_of marks_white) all ∙ (zero-plus (count_of marks_white ys) ∙ c.marked);
       dirtied = ap (count_of dirties) all ∙ (zero-plus (count_of dirties ys) ∙ c.overflowed);
-      cause = λ l. subst (SomeStretch (NoOutput sh)) (sym all) (stretch-right (NoOutput sh) one ys (c.cause l));
+      cause = searched-join sh one ys es all refl c.cause;
       steps = ap only_roots all ∙ u.steps;
     }
   where
@@ -101,10 +101,7 @@ roots-join sh fs gs a b c k l m xs ys es all ab kl f g =
           ∙ (picked-join cells_asked xs ys ∙ ((λ i. f.asked i ++ g.asked i) ∙ sym (ap (picked cells_rooted) all ∙ picked-join cells_rooted xs ys)));
       marked = ap (count_of marks_white) all ∙ (count-join marks_white xs ys ∙ ((λ i. f.marked i + g.marked i) ∙ ab));
       dirtied = ap (count_of dirties) all ∙ (count-join dirties xs ys ∙ ((λ i. f.dirtied i + g.dirtied i) ∙ kl));
-      cause =
-          λ h.
-          subst (SomeStretch (NoOutput sh)) (sym all)
-          (⊎_elim (λ e. stretch-left (NoOutput sh) xs ys (f.cause e)) (λ e. stretch-right (NoOutput sh) xs ys (g.cause e)) (either-some k l (subst (λ x. 0 < x) (sym kl) h)));
+      cause = searched-join sh xs ys es all f.cause g.cause;
       steps = ap only_roots all ∙ roots-append xs ys f.steps g.steps;
     }
 

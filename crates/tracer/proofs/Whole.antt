@@ -23,8 +23,8 @@ use Rattle.packet_pools.specs.Keeping.{all_keep, keeps_cells}
 use Rattle.packet_pools.specs.OnlyTraced.{OnlyTraced}
 use Rattle.gc_table.specs.Log.{events}
 use Rattle.packet_pools.specs.Tracing.{Traces}
-use Rattle.packet_pools.specs.Seeking.{NoInput, NoOutput, only_moves}
-use Rattle.packet_pools.specs.Counts.{count_of, dirties, SomeStretch}
+use Rattle.packet_pools.specs.Seeking.{NoInput, only_moves}
+use Rattle.packet_pools.specs.Counts.{count_of, dirties, dirties_after_search}
 use Rattle.gc_table.proofs.Log.{events-join, grows-join}
 use Rattle.gc_table.proofs.Running.{after-join}
 use Rattle.tracer.specs.declared.packets.Packets.{Packets}
@@ -59,7 +59,7 @@ module _ (sh : Shape) (d f l : ℕ) (v w : View) (shape : v.shape ≡ sh) (later
         overflowed = spill-all v (events v w) (later.cells refl) ∙ p.did.dirtied;
         dirtied = p.did.dirtied;
         steps = p.did.steps;
-        cause = subst (λ s. 0 < l → SomeStretch (NoOutput s) (events v w)) (sym shape) p.cause;
+        cause = subst (λ s. dirties_after_search s (events v w) ≡ true) (sym shape) p.cause;
       }
 
   pub puts-off : PutsOff v w

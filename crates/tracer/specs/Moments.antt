@@ -1,6 +1,6 @@
 -- The moments of a call: what the seat has in hand then, and what it does from then on. A search for a packet is told by the steps that follow.
 use Rattle.std.specs.Prelude.{ℕ, ◌==◌, ◌&&◌, ◌||◌, not, if◌then◌else◌, List, [], ◌∷◌, Bool, true, Some, None}
-use Rattle.std.specs.List.{list_all, list_any, range_with_len}
+use Rattle.std.specs.List.{list_all, list_any}
 use Rattle.mark_core.specs.Effects.{seat_after}
 use Rattle.mark_core.specs.Held.{Slot, holds_any}
 use Rattle.mark_core.specs.Seats.{work_in_hand}
@@ -10,7 +10,7 @@ use Rattle.mark_core.specs.declared.kinds.Step.TheVariants.{Push, Give}
 use Rattle.mark_core.specs.declared.seat.SeatState.{SeatState}
 use Rattle.gc_table.specs.declared.view.Entry.{Entry}
 use Rattle.gc_table.specs.declared.view.View.{View}
-use Rattle.packet_pools.specs.Seeking.{moves_packet, seen_outside_all, was_full, was_lost}
+use Rattle.packet_pools.specs.Seeking.{moves_packet, no_input, no_output}
 use Rattle.tracer.specs.Deferral.{puts_off}
 
 -- the seat's record, and the packets with cells that wait to be put off
@@ -56,14 +56,6 @@ is_spent_slot ps (Some (p, Some n, stored)) = (n == 0) || list_any (λ x. x == p
 -- no work in hand, and no packet in hand with a cell but those that are filled to be put off
 abbrev pub nothing_left : Shape → Moment → Bool
 nothing_left sh m = not (work_in_hand sh.fields m.state) && list_all (is_spent_slot m.deferring) m.state.held
-
--- each packet was seen outside the pools to read from, or was lost to another seat
-abbrev pub no_input : Shape → List Entry → Bool
-no_input sh es = list_all (λ p. seen_outside_all (2 ∷ 1 ∷ []) p es || was_lost p es) (range_with_len 0 sh.packets)
-
--- each packet was seen outside the pools with room, or was lost, or was taken and found full
-abbrev pub no_output : Shape → List Entry → Bool
-no_output sh es = list_all (λ p. seen_outside_all (0 ∷ 1 ∷ 2 ∷ []) p es || was_lost p es || was_full sh.entries p es) (range_with_len 0 sh.packets)
 
 -- here nothing is left in hand, and the steps that follow look for a packet to read from and find none
 abbrev pub finds_no_work : Shape → Moment → List Entry → Bool

@@ -1,11 +1,11 @@
 -- What some of a trace's events did, and what is in hand between two steps.
-use Rattle.std.specs.Prelude.{ℕ, ◌≡◌, ◌<◌, List, [], ◌∷◌, ◌++◌, Bool, Option, Some, None, IsTrue, IsFalse}
+use Rattle.std.specs.Prelude.{ℕ, ◌≡◌, List, [], ◌∷◌, ◌++◌, Bool, Option, Some, None, IsTrue, IsFalse}
 use Rattle.mark_core.specs.Seats.{is_the, work_in_hand}
 use Rattle.mark_core.specs.declared.kinds.Shape.{Shape}
 use Rattle.gc_table.specs.declared.view.Entry.{Entry}
 use Rattle.gc_table.specs.declared.view.View.{View}
-use Rattle.packet_pools.specs.Seeking.{NoInput, NoOutput, only_moves, was_got_from}
-use Rattle.packet_pools.specs.Counts.{count_of, dirties, SomeStretch}
+use Rattle.packet_pools.specs.Seeking.{NoInput, only_moves, was_got_from}
+use Rattle.packet_pools.specs.Counts.{count_of, dirties, dirties_after_search}
 use Rattle.gc_table.specs.Log.{events}
 use Rattle.gc_table.specs.Running.{after_all}
 use Rattle.tracer.specs.declared.packets.Packets.{Packets}
@@ -23,10 +23,10 @@ pub record Did (o q : Option ℕ) (popped put_off lost : ℕ) (v : View) (es : L
   pub dirtied : count_of dirties es ≡ lost
   pub steps : IsTrue (only_traces es)
 
--- the same, where a card was dirtied only after no packet with room was found
+-- the same, where each card was dirtied right after a search that found no packet with room
 pub record Part (sh : Shape) (o q : Option ℕ) (popped put_off lost : ℕ) (v : View) (es : List Entry) : Type 0 where
   pub did : Did o q popped put_off lost v es
-  pub cause : 0 < lost → SomeStretch (NoOutput sh) es
+  pub cause : IsTrue (dirties_after_search sh es)
 
 -- this cell was popped, and is all that is in hand
 pub record HasPopped (cell : ℕ) (seen : Bool) (v : View) : Type 0 where

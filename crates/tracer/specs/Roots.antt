@@ -1,5 +1,5 @@
 -- What a scan of a section's roots did.
-use Rattle.std.specs.Prelude.{ℕ, ◌≡◌, ◌<◌, ◌≤◌, ◌/◌, ◌%◌, ◌==◌, ◌&&◌, ◌||◌, if◌then◌else◌, List, [], ◌∷◌, map, Bool, true, false, IsTrue}
+use Rattle.std.specs.Prelude.{ℕ, ◌≡◌, ◌≤◌, ◌/◌, ◌%◌, ◌==◌, ◌&&◌, ◌||◌, if◌then◌else◌, List, [], ◌∷◌, map, Bool, true, false, IsTrue}
 use Rattle.std.specs.List.{list_all, range_with_len}
 use Rattle.mark_core.specs.Bits.{cell_of, has_bit}
 use Rattle.mark_core.specs.declared.kinds.Shape.{Shape}
@@ -8,8 +8,8 @@ use Rattle.mark_core.specs.declared.kinds.Step.TheVariants.{ReadMarks, ReadRoot,
 use Rattle.gc_table.specs.declared.view.Entry.{Entry}
 use Rattle.gc_table.specs.declared.view.View.{View}
 use Rattle.gc_table.specs.Log.{events}
-use Rattle.packet_pools.specs.Seeking.{NoOutput, some_event}
-use Rattle.packet_pools.specs.Counts.{count_of, dirties, marks_white, scans_object, SomeStretch}
+use Rattle.packet_pools.specs.Seeking.{some_event}
+use Rattle.packet_pools.specs.Counts.{count_of, dirties, dirties_after_search, marks_white, scans_object}
 use Rattle.packet_pools.specs.Fields.{cells_asked, picked}
 use Rattle.tracer.specs.Causes.{FoundNoPacket}
 use Rattle.tracer.specs.declared.traced.RootScan.{RootScan}
@@ -35,13 +35,13 @@ abbrev pub only_roots : List Entry → Bool
 only_roots [] = true
 only_roots (e ∷ es) = scans_roots e.step && only_roots es
 
--- these roots were read, and each cell that they name was to be marked, in order: so many were white, and so many of these are left to their cards, since no packet had room
+-- these roots were read, and each cell that they name was to be marked, in order: so many were white, and so many of these are left to their cards, each right after a search that found no packet with room
 pub record Follows (sh : Shape) (roots : List (ℕ × ℕ)) (white lost : ℕ) (es : List Entry) : Type 0 where
   pub read : picked roots_read es ≡ roots
   pub asked : picked cells_asked es ≡ picked cells_rooted es
   pub marked : count_of marks_white es ≡ white
   pub dirtied : count_of dirties es ≡ lost
-  pub cause : 0 < lost → SomeStretch (NoOutput sh) es
+  pub cause : IsTrue (dirties_after_search sh es)
   pub steps : IsTrue (only_roots es)
 
 -- the first n roots of a section

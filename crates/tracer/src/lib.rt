@@ -27,7 +27,7 @@
 //!
 //! [`Traced`]`.done` counts each object that was popped, whether it was scanned, put off or left to its card, and a trace pops at most its quota: this is why
 //! it returns. [`Stopped::NoWork`] says that at some moment of the call nothing was left in hand, and that the steps that followed were a search of
-//! the pools in which each packet was seen elsewhere or lost to another seat (`specs/Moments.antt`, `specs/Causes.antt`). It doesn't say that no
+//! the pools in each of which each packet was seen elsewhere or lost to another seat (`specs/Moments.antt`, `specs/Causes.antt`). It doesn't say that no
 //! packet had a cell at any one moment: others may give packets back meanwhile. That tracing is done is told by `all_empty` of `packet_pools`.
 //!
 //! Counts are counts of events (`specs/Tally.antt`), and what was put off is given as deferred before a cell is popped out of that packet again

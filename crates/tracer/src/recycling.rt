@@ -85,7 +85,7 @@ fn recycle_words(heap: &Heap, seat: &mut HeapSeat) -> u32
 }
 
 /// Moves the packets that were put off to the pools of their lengths, where tracers find them: how many it moved, each at most once. The seat may trace,
-/// and holds no packet. Each packet was moved, or was seen outside the deferred pool or lost to another seat in this call.
+/// and holds no packet. Each packet was moved, or was seen outside the deferred pool or lost to another seat there in this call.
 /// Cells that still aren't published are put off again when they are popped, so a caller publishes first, or waits for others to.
 pub fn recycle_deferred(heap: &Heap, seat: &mut HeapSeat) -> u32
     requires seat { IsTracer heap.now seat.old }

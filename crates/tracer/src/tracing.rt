@@ -73,7 +73,6 @@ fn trace_all(heap: &Heap, seat: &mut HeapSeat, packets: &mut Packets, quota: u32
     requires seat { IsTracer heap.now seat.old }
     requires packets { Carries (packets_of packets.old) (view_of seat.old) × HasRoom heap.now.shape packets.old.deferred }
     requires idle { IsFalse (work_in_hand heap.now.shape.fields (view_of seat.old).state) × ((view_of seat.old).state.block ≡ None) }
-    requires quota { 16 * quota < 4294967296 }
     ensures seat { IsTracer heap.now seat.new }
     ensures later { OnlyTraced (view_of seat.old) (view_of seat.new) }
     ensures packets { Carries (packets_of packets.new) (view_of seat.new) × HasRoom heap.now.shape packets.new.deferred }
@@ -90,7 +89,7 @@ fn trace_all(heap: &Heap, seat: &mut HeapSeat, packets: &mut Packets, quota: u32
         let passed = trace_cell(heap, seat, packets, cell);
         traced.done += 1;
         traced.deferred += passed.deferred;
-        traced.overflowed += passed.overflowed;
+        traced.overflowed += u64::from(passed.overflowed);
     }
     traced
 }
@@ -141,11 +140,9 @@ fn finish(heap: &Heap, seat: &mut HeapSeat, packets: Packets)
 /// `done` counts the objects that were popped, `deferred` those of them that weren't published yet and went into a deferred packet, and `overflowed` the cells that
 /// found no packet with room, so that their cards are dirty. Quota is answered exactly where `done` is the quota. NoWork comes only where no packet with a cell was
 /// found while nothing was left in hand. NoPacket never comes: where only one packet is to be had, the seat pops out of it and pushes into it.
-/// 16 times the quota fits a `u32`, since each object has at most 16 fields.
 pub fn trace(heap: &Heap, seat: &mut HeapSeat, quota: u32) -> Traced
     requires seat { IsTracer heap.now seat.old }
     requires idle { IsIdle (view_of seat.old) }
-    requires quota { 16 * quota < 4294967296 }
     ensures seat { IsTracer heap.now seat.new }
     ensures later { OnlyTraced (view_of seat.old) (view_of seat.new) }
     ensures idle { IsIdle (view_of seat.new) }

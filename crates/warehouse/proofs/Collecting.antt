@@ -36,6 +36,7 @@ use Rattle.warehouse.proofs.Coming.{moved, says-moved}
 use Rattle.warehouse.proofs.Fulls.{counted-kept}
 use Rattle.warehouse.proofs.Makings.{printed-later}
 use Rattle.warehouse.proofs.Others.{made-later}
+use Rattle.mark_core.specs.declared.kinds.Shape.{Shape}
 use Rattle.warehouse.proofs.Sparings.{stays-join, stays-spared}
 
 append_none : {X : Type 0} (xs : List X) → xs ≡ xs ++ []
@@ -97,7 +98,7 @@ module _
               said = omega (arith, r.said, printed-later e later);
               places = omega (arith, r.places, made-later e later);
               count = omega (arith, r.count);
-              made = omega (arith, r.made, made-later e later, both_stay.made);
+              made = omega (arith, r.made, made-later e later, both_stay.made, ap (λ (sh : Shape). sh.objects) both_stay.shape);
               dropped = omega (arith, r.dropped);
             };
         acts = λ season read.

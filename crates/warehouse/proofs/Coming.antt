@@ -30,6 +30,7 @@ use Rattle.warehouse.proofs.Commanding.{stays-of}
 use Rattle.warehouse.proofs.Fulls.{counted-kept}
 use Rattle.warehouse.proofs.Leaving.{within-still}
 use Rattle.warehouse.proofs.Readying.{polled-right}
+use Rattle.mark_core.specs.declared.kinds.Shape.{Shape}
 use Rattle.warehouse.proofs.Sparings.{stays-join}
 
 -- the season word of a section's turn
@@ -45,8 +46,8 @@ moved m s = record m { seat = s }
 pub says-moved : (m : Mutator) (s : HeapSeat) → SaysSame (player_of m) (player_of (moved m s))
 says-moved m s = record { count = refl; said = refl; dropped = refl; cells = refl }
 
-pub room-moved : (m : Mutator) (s : HeapSeat) → (view_of s).state.made ≡ (view_of m.seat).state.made → (left : List Execution) → HasRoom left m → HasRoom left (moved m s)
-room-moved m s made left r = record { said = r.said; places = r.places; count = r.count; made = omega (arith, r.made, made); dropped = r.dropped }
+pub room-moved : (m : Mutator) (s : HeapSeat) → Stays (view_of m.seat) (view_of s) → (left : List Execution) → HasRoom left m → HasRoom left (moved m s)
+room-moved m s stays left r = record { said = r.said; places = r.places; count = r.count; made = omega (arith, r.made, stays.made, ap (λ (sh : Shape). sh.objects) stays.shape); dropped = r.dropped }
 
 pub next-moved : (p : Parts) (turn : ℕ) (e : Execution) (m : Mutator) (s : HeapSeat) → Ran (view_of m.seat) (view_of s) → Stays (view_of m.seat) (view_of s) → IsNextOf p turn e m → IsNextOf p turn e (moved m s)
 next-moved p turn e m s ran stays n =
@@ -59,7 +60,7 @@ next-moved p turn e m s ran stays n =
       range = n.range;
       lends_is = n.lends_is;
       later = n.later;
-      room = room-moved m s stays.made (e ∷ n.later) n.room;
+      room = room-moved m s stays (e ∷ n.later) n.room;
     }
 
 -- the log of its seat ends with what the call added
@@ -92,7 +93,7 @@ module _ (h : Heap) (p : Parts) (turn : ℕ) (e : Execution) (m : Mutator) (s : 
         acts = k.acts;
         may = record { turn = turn; in_turn = k.turn_is; next = still };
         season = k.turn_is.season;
-        room = room-moved m s k.stays.made;
+        room = room-moved m s k.stays;
         pass = pass-moved p turn e kept m s ran k still;
         free = free;
       }
@@ -145,7 +146,7 @@ module _ (h : Heap) (p : Parts) (turn : ℕ) (e : Execution) (m : Mutator) (s : 
         acts = λ season. acts-join season 0 0 0 1 0 0 1 0 0 (view_of m.seat) (view_of s) (view_of y.seat) (waits season) (k.acts season) (omega arith) (omega arith) (omega arith);
         may = k.may;
         season = k.season;
-        room = λ left r. k.room left (room-moved m s stays.made left r);
+        room = λ left r. k.room left (room-moved m s stays left r);
         pass = k.pass;
         free = k.free;
       }

@@ -72,7 +72,7 @@ module _ (v w : View) (took : Took (AddStat done_count 1 false) v w) where
   counted-ran = ran-took v w (AddStat done_count 1 false) refl took
 
   pub counted-stays : Stays v w
-  counted-stays = subst (Stays v) (sym took.1.0) (record { still = record { heap = refl; turns = refl; places = refl; full = refl }; made = refl })
+  counted-stays = subst (Stays v) (sym took.1.0) (record { still = record { heap = refl; turns = refl; places = refl; full = refl }; made = refl; shape = refl })
 
   pub leaves-counted : Leaves 1 v w
   leaves-counted =

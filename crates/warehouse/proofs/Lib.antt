@@ -22,6 +22,6 @@ pub mod Stopping
 pub mod Turned
 pub mod Settling
 pub mod Absent
-pub mod Played
+pub mod CommandEnds
 pub mod Sparings
 pub mod Glances

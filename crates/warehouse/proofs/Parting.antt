@@ -93,7 +93,7 @@ module _
   begins-may =
       record {
         lends_is = may.lends_is;
-        room = room-moved x s stays.made (joined (drop (z - 1) p.parts)) may.room;
+        room = room-moved x s stays (joined (drop (z - 1) p.parts)) may.room;
         season = may.season;
         sections = may.sections;
         of = of-stays may.sections p (view_of x.seat) (view_of s) of may.of;
@@ -132,6 +132,7 @@ module _
           room = λ is. leaves.room (joined (drop z p.parts))
               (all.room (joined (drop z p.parts)) (subst (λ es. HasRoom es (moved x s)) (part-then p z may.season) begins-may.room));
           plays = done_plays;
+          position = leaves.position;
           tells =
               record {
                 plays = record { polled = omega (arith, t.polled, done_count); collected = t.collected; stopped = t.stopped };
@@ -192,6 +193,7 @@ module _
           counted = counted-kept (view_of y.seat) (view_of w.seat) leaves.stays.still.heap leaves.stays.made k.stops.playing.counted;
           room = λ is. absurd (not_done is);
           plays = full_plays;
+          position = leaves.position;
           tells =
               record {
                 stops =

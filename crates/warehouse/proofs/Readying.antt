@@ -96,7 +96,7 @@ module _ (n : ℕ) (w x : View) (found : Found ReadSeason n w x) where
   season_mutates m = subst Mutates (sym found.0) (record { active = m.active; unhelping = m.unhelping; section = m.section; rest = m.rest })
 
   season_stays : Stays w x
-  season_stays = subst (Stays w) (sym found.0) (record { still = record { heap = refl; turns = refl; places = refl; full = refl }; made = refl })
+  season_stays = subst (Stays w) (sym found.0) (record { still = record { heap = refl; turns = refl; places = refl; full = refl }; made = refl; shape = refl })
 
   season_waits : Waits w x
   season_waits season =

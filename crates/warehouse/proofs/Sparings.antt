@@ -9,7 +9,7 @@ use Rattle.gc_table.specs.declared.view.View.{View}
 use Rattle.gc_table.specs.Log.{Only, events}
 use Rattle.gc_table.specs.Running.{Ran}
 use Rattle.gc_table.proofs.Log.{events-none, only-more, only-none}
-use Rattle.gc_table.proofs.Running.{ran-refl}
+use Rattle.gc_table.proofs.Running.{ran-refl, ran-shape}
 use Rattle.packet_pools.specs.Seeking.{some_event}
 use Rattle.play_end.specs.Playing.{leaves_play}
 use Rattle.play_end.proofs.Runs.{still-run}
@@ -32,13 +32,14 @@ spares-leaves fields (StorePhase to) b = b
 spares-leaves fields step b = refl
 
 pub stays-spared : (v w : View) → Ran v w → Only spares_part v w → KeepsSeat v w → Stays v w
-stays-spared v w ran only keeps = record { still = still-run v w ran (only-more spares_part (leaves_play v.shape.fields) (spares-leaves v.shape.fields) v w only); made = keeps.made }
+stays-spared v w ran only keeps = record { still = still-run v w ran (only-more spares_part (leaves_play v.shape.fields) (spares-leaves v.shape.fields) v w only); made = keeps.made; shape = ran-shape v w ran }
 
 pub stays-join : (u v w : View) → Stays u v → Stays v w → Stays u w
 stays-join u v w a b =
     record {
       still = record { heap = b.still.heap ∙ a.still.heap; turns = b.still.turns ∙ a.still.turns; places = b.still.places ∙ a.still.places; full = b.still.full ∙ a.still.full };
       made = b.made ∙ a.made;
+      shape = b.shape ∙ a.shape;
     }
 
 or_none : (a b : Bool) → not (a || b) ≡ true → (a ≡ false) × (not b ≡ true)
@@ -79,7 +80,7 @@ pub waits-calm : (v w : View) → Ran v w → Only spares_part v w → never rai
 waits-calm v w ran only b = λ season. acts-calm season v w ran only b
 
 pub stays-none : (v : View) → Stays v v
-stays-none v = record { still = record { heap = refl; turns = refl; places = refl; full = refl }; made = refl }
+stays-none v = record { still = record { heap = refl; turns = refl; places = refl; full = refl }; made = refl; shape = refl }
 
 pub waits-none : (v : View) → Waits v v
 waits-none v = waits-calm v v (ran-refl v) (only-none spares_part v) (ap (λ (es : List Entry). never raises_flag es) (events-none v))

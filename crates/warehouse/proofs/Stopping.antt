@@ -260,13 +260,11 @@ module _ (n : ℕ) (v w : View) (out : IsOut v) (found : Found RaiseStep n v w) 
   raise_keeps : KeepsPart v w
   raise_keeps = spared-keeps v w raise_ran raise_only (ap (λ (x : View). x.own.position) found.0)
 
-  pub raise-unaware : (w.state.knows ≡ false) × (w.state.alone ≡ false)
+  pub raise-unaware : w.state.knows ≡ false
   raise-unaware =
       let f = found.1 in
       let rules = strong f.state f.index v f.whole f.agrees in
-      let knows : v.state.knows ≡ false = unless v.state.knows v.state.raised (λ h. rules.knows_is_raised h) (bare-parts v.state out.bare).1 in
-      let alone : v.state.alone ≡ false = unless v.state.alone v.state.knows (λ h. rules.alone_knows h) knows in
-      (ap (λ (x : View). x.state.knows) found.0 ∙ knows, ap (λ (x : View). x.state.alone) found.0 ∙ alone)
+      ap (λ (x : View). x.state.knows) found.0 ∙ unless v.state.knows v.state.raised (λ h. rules.knows_is_raised h) (bare-parts v.state out.bare).1
 
   -- by another seat: it waits
   pub theirs-out : Theirs ≡ (if has_flag n then Theirs else Yours) → IsOut w

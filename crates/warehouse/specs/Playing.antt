@@ -1,5 +1,5 @@
 -- A mutator that plays a part: what it has between its commands, and what it says at the end.
-use Rattle.std.specs.Prelude.{ℕ, ◌≡◌, ◌≢◌, ◌⊎◌, ◌+◌, ◌-◌, ◌<◌, ◌≤◌, ◌==◌, ◌&&◌, not, List, [], length, map, take, drop, count_by, slice_index_or, Bool, true, false, Option, Some, None, IsTrue, IsFalse, vec_capacity}
+use Rattle.std.specs.Prelude.{ℕ, ◌≡◌, ◌≢◌, ◌⊎◌, ◌+◌, ◌-◌, ◌<◌, ◌≤◌, ◌==◌, ◌&&◌, not, List, [], length, map, take, drop, count_by, slice_index_or, Bool, true, false, Option, Some, None, is_some, IsTrue, IsFalse, vec_capacity}
 use Rattle.std.specs.Int.Count.{ones}
 use Rattle.mark_core.specs.declared.kinds.Step.{Step}
 use Rattle.mark_core.specs.declared.kinds.Step.TheVariants.{AddStat, ReadSeason}
@@ -49,7 +49,7 @@ pub record HasRoom (left : List Execution) (m : Mutator) : Type 0 where
   pub said : length m.said.items + printed_by left ≤ vec_capacity m.said
   pub places : length m.places.items + made_by left ≤ vec_capacity m.places
   pub count : m.count + length left ≤ 2000000
-  pub made : (view_of m.seat).state.made + made_by left ≤ 2000000
+  pub made : (view_of m.seat).state.made + made_by left ≤ (view_of m.seat).shape.objects
   pub dropped : m.dropped ≤ m.count
 
 -- the command collects
@@ -91,6 +91,7 @@ pub record Acts (season commands collects stops : ℕ) (v w : View) : Type 0 whe
 pub record Stays (v w : View) : Type 0 where
   pub still : IsStill v.own w.own
   pub made : w.state.made ≡ v.state.made
+  pub shape : w.shape ≡ v.shape
 
 -- nothing was done that a part tells of
 abbrev pub Waits : View → View → Type 0
@@ -195,6 +196,8 @@ pub record IsPart (played : Played) (h : Heap) (p : Parts) (z : ℕ) (x y : Muta
   pub seasons : (view_of y.seat).own.seasons ≡ (view_of x.seat).own.seasons
   pub room : played ≡ plays.Done → HasRoom (joined (drop z p.parts)) y
   pub plays : PlaysPart played p z (player_of x) (player_of y)
+  -- however it ended, the section stands at as many commands as the mutator counted
+  pub position : (view_of y.seat).own.position ≡ y.count
   pub tells : PartTells played p z (y.count - x.count) (view_of x.seat) (view_of y.seat)
 
 -- when a gate may be passed: the seat is active and the section's, its plain heap is that of any script with this section after so many commands, and of the seat's stores and polls the last is a poll
@@ -206,7 +209,8 @@ pub record MayPass (s : HeapSeat) (p : Parts) (command : ℕ) : Type 0 where
   pub heap : AreAlike (view_of s).own.meaning.heap (plain sections p.number command)
   pub polled : IsTrue (polled_last (view_of s).log)
 
--- when a gate may be told of a tracer's turn
+-- when a gate may be told of a tracer's turn: the seat is active, has no section, and has read the phase
 pub record MayTurn (s : HeapSeat) : Type 0 where
   pub active : IsTrue (view_of s).state.active
   pub section : (view_of s).state.section ≡ None
+  pub phase : IsTrue (is_some (view_of s).state.phase_seen)

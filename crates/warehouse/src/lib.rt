@@ -24,4 +24,5 @@ mod turn;
 pub use gate::Gate;
 pub use mutator::Mutator;
 pub use part::{play_absent, play_part};
+pub use play_end::Played;
 pub use season::{end_play, turn_season};

@@ -44,7 +44,7 @@ impl<'a> Mutator<'a> {
         section: &Section<'a>,
     ) -> Result<Mutator<'a>, (HeapSeat, OutOfMemory)>
         ensures made { IfOk result (λ m. (m.seat ≡ seat) × (m.said.items ≡ []) × (m.places.items ≡ []) × (m.dropped ≡ 0) × (m.count ≡ 0)) }
-        ensures room { (view_of seat).state.made ≡ 0 → IfOk result (λ m. HasRoom (joined section.now.parts) m) }
+        ensures room { (view_of seat).state.made ≡ 0 → 2000000 ≤ (view_of seat).shape.objects → IfOk result (λ m. HasRoom (joined section.now.parts) m) }
         ensures refused { IfErr result (λ e. e.0 ≡ seat) }
     {
         see_few(section);

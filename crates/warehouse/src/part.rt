@@ -66,6 +66,7 @@ fn end_part<'a, R: Wait>(
 {
     retire_some(heap, &mut mutator.seat, cache);
     heap.add_stat(&mut mutator.seat, DONE, 1, false);
+    heap.wake_resting();
     go_out(heap, &mut mutator.seat, mutator.count);
 }
 
@@ -103,5 +104,6 @@ pub fn play_absent<R: Wait>(rt: &R, heap: &Heap, seat: &mut HeapSeat)
 {
     go_in(rt, heap, seat);
     heap.add_stat(seat, DONE, 1, false);
+    heap.wake_resting();
     leave(heap, seat);
 }

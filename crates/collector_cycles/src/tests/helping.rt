@@ -24,7 +24,6 @@ use stop_world::{await_stopped, close_help, join_help, leave, leave_help, open_h
 
 /// What a seat did that was let in to help: nothing where help was closed.
 pub fn helps(heap: &Heap, seat: &mut HeapSeat, quota: u32) -> Option<Helped>
-    requires quota { 16 * quota < 4294967296 }
     requires seat { Sits heap.now seat.old }
     ensures { Sits heap.now seat.new }
 {

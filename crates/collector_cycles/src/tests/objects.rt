@@ -42,7 +42,7 @@ pub fn make(heap: &Heap, seat: &mut HeapSeat, cache: &mut Cache, v: u8, n: u32) 
     requires fills { Fills heap.now seat.old cache.old }
     ensures { Fills heap.now seat.new cache.new }
 {
-    seat.state().made < 2_000_000 && create(heap, seat, cache, v, n).is_some()
+    seat.state().made < heap.shape().objects && create(heap, seat, cache, v, n).is_some()
 }
 
 /// Stores variable w in field 0 of variable v's object.

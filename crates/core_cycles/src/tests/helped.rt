@@ -14,6 +14,7 @@ const TWO_BLOCKS: Shape = Shape {
     entries: 2,
     sections: 2,
     fields: 1,
+    objects: 2_000_000,
 };
 
 /// There are two words of owners, at 77, before those of allocation bits; two of mark bits and eight cards follow, and

@@ -44,17 +44,17 @@ abbrev maker_after : Maker → ℕ → ℕ → Bool → Maker
 maker_after m c part z = record m { cache = cond z (with_making m.cache c (part + 1)) (with_made m.cache c); made = cond z m.made (m.made + 1) }
 
 -- what fits the last part
-abbrev fits_last : Maker → ℕ → Bool
-fits_last m word = is_some m.section && nat_lt m.made 2000000 && eqb word (unwrap_or m.section 0 * flag + m.made)
+abbrev fits_last : Shape → Maker → ℕ → Bool
+fits_last sh m word = is_some m.section && nat_lt m.made sh.objects && eqb word (unwrap_or m.section 0 * flag + m.made)
 
 -- the last part of a new cell
-last_stored : (sh : Shape) (w : Words) (ms : List Maker) (i c part word : ℕ) (m : Maker) → Storing sh w.owners w.allocs w.identities w.fields ms i c part m → m.spent ≡ false → fits_last m word ≡ true → CachesOf sh (put_word (9, c) word w) (set ms i (maker_after m c part false))
+last_stored : (sh : Shape) (w : Words) (ms : List Maker) (i c part word : ℕ) (m : Maker) → Storing sh w.owners w.allocs w.identities w.fields ms i c part m → m.spent ≡ false → fits_last sh m word ≡ true → CachesOf sh (put_word (9, c) word w) (set ms i (maker_after m c part false))
 last_stored sh w ms i c part word m k live e =
-    let a = and_parts (is_some m.section && nat_lt m.made 2000000) (eqb word (unwrap_or m.section 0 * flag + m.made)) e in
-    let b = and_parts (is_some m.section) (nat_lt m.made 2000000) a.0 in
+    let a = and_parts (is_some m.section && nat_lt m.made sh.objects) (eqb word (unwrap_or m.section 0 * flag + m.made)) e in
+    let b = and_parts (is_some m.section) (nat_lt m.made sh.objects) a.0 in
     let section : m.section ≡ Some i = own_section i (nat_lt i sh.sections) m.section (k.rule.sections i m k.seat) b.0 in
     let identity : word ≡ i * flag + m.made = eqb-true _ _ a.1 ∙ ap (λ o. unwrap_or o 0 * flag + m.made) section in
-    made-kept sh w.owners w.allocs w.identities w.fields ms i c part word m k live section identity (omega (arith, ltb-true m.made 2000000 b.1))
+    made-kept sh w.owners w.allocs w.identities w.fields ms i c part word m k live section identity (omega (arith, ltb-true m.made sh.objects b.1))
     (λ j x z g f. section-seat sh.sections j z (nat_lt j sh.sections) (ap (λ o. is_the o z) (sym (k.rule.sections j x g)) ∙ f))
 
 -- a field of a new cell, which is nil
@@ -70,7 +70,7 @@ value_stored sh w ms i c part word m k e = part-kept sh w.owners w.allocs w.iden
 
 -- 23: a part of a new cell
 part_stored : (sh : Shape) (w : Words) (ms : List Maker) (i c part word : ℕ) (m : Maker) → Storing sh w.owners w.allocs w.identities w.fields ms i c part m → m.spent ≡ false
-    → cond (nat_lt part sh.fields) (eqb word 0) (cond (eqb part sh.fields) (nat_lt word flag) (fits_last m word)) ≡ true → CachesOf sh (put_word (part_at sh c part) word w) (set ms i (maker_after m c part (nat_le part sh.fields)))
+    → cond (nat_lt part sh.fields) (eqb word 0) (cond (eqb part sh.fields) (nat_lt word flag) (fits_last sh m word)) ≡ true → CachesOf sh (put_word (part_at sh c part) word w) (set ms i (maker_after m c part (nat_le part sh.fields)))
 part_stored sh w ms i c part word m k live e =
     let P : ℕ × ℕ → Bool → Type 0 = λ at z. CachesOf sh (put_word at word w) (set ms i (maker_after m c part z)) in
     either (λ at. P at (nat_le part sh.fields)) (nat_lt part sh.fields) _ _
@@ -85,7 +85,7 @@ part_stored sh w ms i c part word m k live e =
     subst (P (10, c)) (sym z) (value_stored sh w ms i c part word m k (omega (arith, eqb-true part sh.fields g))))
     (λ g.
     let z : nat_le part sh.fields ≡ false = lt-leb part sh.fields (omega (arith, ltb-false part sh.fields f, λ (h : part ≡ sh.fields). eqb-false part sh.fields g h)) in
-    let last : fits_last m word ≡ true = rw (f, g) at e in
+    let last : fits_last sh m word ≡ true = rw (f, g) at e in
     subst (P (9, c)) (sym z) (last_stored sh w ms i c part word m k live last)))
 
 pub store_new-at : (c : Core) (i x part word : ℕ) (s : SeatState) → IsCore c → slice_get c.seats i ≡ Some s → s.spent ≡ false → AllTrue (parts c.shape (words_of c.shape c.words) c.seats s (StoreNew x part word))
@@ -95,7 +95,7 @@ store_new-at c i x part word s k g live ok =
     part_stored c.shape (words_of c.shape c.words) (makers c.seats) i x part word (maker_of s) (record { rule = caching c k; seat = maker-at c.seats i s g; cell = hx; next = ok.1.0 }) live ok.1.1.0
 
 -- a reference that isn't nil names a cell in use
-named_used : (sh : Shape) (p : ℕ → Bool) (r : ℕ) → r ≤ sh.cells → sh.cells ≤ 65536 → not (eqb r 0) ≡ true → nil_or p r ≡ true → p (cell_of r) ≡ true
+named_used : (sh : Shape) (p : ℕ → Bool) (r : ℕ) → r ≤ sh.cells → sh.cells ≤ 16777216 → not (eqb r 0) ≡ true → nil_or p r ≡ true → p (cell_of r) ≡ true
 named_used sh p r h few e f =
     let some : r ≡ 0 → ⊥ = eqb-false r 0 (not-true _ e) in
     let same : r - 1 ≡ cell_of r = omega (arith, h, few, some) in

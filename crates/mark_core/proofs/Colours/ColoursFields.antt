@@ -139,7 +139,7 @@ read-after c i s step x j P a h stays loads e =
     e)
 
 -- the field that is loaded is nil, or goes to the value in hand
-named_value : (word : ℕ) (b : Bool) → b ≡ false → word - 1 < 65536 → is_the (cond b None (Some (cell_of word))) (word - 1) ≡ true
+named_value : (word : ℕ) (b : Bool) → b ≡ false → word - 1 < 16777216 → is_the (cond b None (Some (cell_of word))) (word - 1) ≡ true
 named_value word true e h = absurd (true≢false e)
 named_value word false e h = eq-eqb (cell_of word) (word - 1) (omega (arith, h))
 

@@ -61,7 +61,7 @@ queued-new c i s p y k g ok h =
     (p, n, h, omega (arith, u.after), get_or-set_same w.entries (p * c.shape.entries + n) (y + 1) 0 u.place)
 
 -- 6: the last entry is popped, and the others stay
-pub queued-popped : (c : Core) (i : ℕ) (s : SeatState) (p x : ℕ) → IsCore c → slice_get c.seats i ≡ Some s → AllTrue (parts c.shape (words_of c.shape c.words) c.seats s (Pop p)) → x < 65536 → QueuedNow c x
+pub queued-popped : (c : Core) (i : ℕ) (s : SeatState) (p x : ℕ) → IsCore c → slice_get c.seats i ≡ Some s → AllTrue (parts c.shape (words_of c.shape c.words) c.seats s (Pop p)) → x < 16777216 → QueuedNow c x
     → (QueuedAfter c i s (Pop p) x) ⊎ (cell_of (found c s (Pop p)) ≡ x)
 queued-popped c i s p x k g ok h a =
     let w : Words = words_of c.shape c.words in

@@ -95,7 +95,7 @@ pushed_waits c i s p y x a =
     cleaned
 
 -- 6: a cell is popped
-popped_waits : (c : Core) (i : ℕ) (s : SeatState) (p x : ℕ) → Taken c i s (Pop p) → x < 65536 → WaitsNow c x → WaitsAfter c i s (Pop p) x
+popped_waits : (c : Core) (i : ℕ) (s : SeatState) (p x : ℕ) → Taken c i s (Pop p) → x < 16777216 → WaitsNow c x → WaitsAfter c i s (Pop p) x
 popped_waits c i s p x a h =
     let step : Step = Pop p in
     let idle : work_in_hand c.shape.fields s ≡ false = not-true _ a.ok.1.1.0 in
@@ -266,7 +266,7 @@ wiper_phase c i s k g e =
     (or_cases (may_sweep phase s) (may_clear phase s) e)
 
 -- the cell waits after the step, or is scanned by the seat and published
-pub waiting-after : (c : Core) (i : ℕ) (s : SeatState) (step : Step) (x : ℕ) (P : Type 0) → Taken c i s step → IsTrue (is_tracing (words_left c s step).phase) → x < 65536 → cell_bit (words_of c.shape c.words).marks x ≡ true → (WaitsAfter c i s step x → P)
+pub waiting-after : (c : Core) (i : ℕ) (s : SeatState) (step : Step) (x : ℕ) (P : Type 0) → Taken c i s step → IsTrue (is_tracing (words_left c s step).phase) → x < 16777216 → cell_bit (words_of c.shape c.words).marks x ≡ true → (WaitsAfter c i s step x → P)
     → (cell_bit (words_of c.shape c.words).allocs x ≡ true → Leaves c s step x → P) → WaitsNow c x → P
 waiting-after c i s (Push p y) x P a t h m done out k = done (pushed_waits c i s p y x a k)
 waiting-after c i s (Pop p) x P a t h m done out k = done (popped_waits c i s p x a h k)

@@ -95,7 +95,7 @@ marks-reached c i s (Reset which) t p a own = rw (marks-kept c.shape s (Reset wh
 marks-reached c i s step t p a own = rw (heap-left c i s step t refl).marks a
 
 -- a reference to a cell in use is small, where all cells in use are published
-small_reference : (c : Core) (r : ℕ) → IsCore c → NoneUsed c.seats → nil_or (in_use (words_of c.shape c.words).allocs (makers c.seats)) r ≡ true → r ≤ 65536
+small_reference : (c : Core) (r : ℕ) → IsCore c → NoneUsed c.seats → nil_or (in_use (words_of c.shape c.words).allocs (makers c.seats)) r ≡ true → r ≤ 16777216
 small_reference c r k none e =
     let w : Words = words_of c.shape c.words in
     let long = region-length (region_sizes c.shape) 4 c.words (omega (arith, k.formed.words)) in
@@ -111,7 +111,7 @@ root_value c i s section v t none =
     let here : found c s (ReadRoot section v) ≡ get_or w.roots k 0 = words-get (region_sizes c.shape) 2 c.words k 0 at in
     let long : length w.roots ≡ c.shape.sections * 32 = region-length (region_sizes c.shape) 2 c.words (omega (arith, t.core.formed.words)) in
     let h : k < length w.roots = rw long at in
-    let small : get_or w.roots k 0 ≤ 65536 = small_reference c (get_or w.roots k 0) t.core none (t.core.sound.references.roots_in_use k 0 h) in
+    let small : get_or w.roots k 0 ≤ 16777216 = small_reference c (get_or w.roots k 0) t.core none (t.core.sound.references.roots_in_use k 0 h) in
     named-cell (found c s (ReadRoot section v)) (Reached c) (omega (arith, here, small)) (λ x e. reach-root c.shape w.roots w.fields k x h (sym here ∙ e))
 
 scan_there : (fields : ℕ) (o : Option (ℕ × ℕ)) (x i : ℕ) (P : ℕ → Type 0) → scans o x i ≡ true → i < fields → (IsTrue (scan_left fields o) → IfSome o (λ z. P z.0)) → P x

@@ -50,7 +50,7 @@ KeepsBits x = IsFalse x.stored → IfSome x.alloc_word IsWord
 pub record Writer (sh : Shape) (s : SeatState) : Type 0 where
   pub range : InRange sh s
   pub number : s.number < 41
-  pub made : s.made ≤ 2000000
+  pub made : s.made ≤ sh.objects
   pub references : (r : ℕ) → has_reference s r ≡ true → r ≤ sh.cells
   pub cache : IfSome s.cache (IsCache sh)
   pub block : IfSome s.block KeepsBits
@@ -68,15 +68,15 @@ variable_fits : (sh : Shape) (s : SeatState) (o : Option ℕ) → InRange sh s �
 variable_fits sh s None k = omega arith
 variable_fits sh s (Some v) k = omega (arith, k.shaped.cells, k.env v)
 
-identity_fits : (sh : Shape) (section made word : ℕ) → IsShape sh → section < sh.sections → made ≤ 2000000 → word ≡ section * flag + made → IsWord word
-identity_fits sh section made word k h m e = omega (arith, k.sections, h, m, e)
+identity_fits : (sh : Shape) (section made word : ℕ) → IsShape sh → section < sh.sections → made ≤ sh.objects → word ≡ section * flag + made → IsWord word
+identity_fits sh section made word k h m e = omega (arith, k.sections, k.objects, h, m, e)
 
 -- a word of a new cell
-new_fits : (sh : Shape) (s : SeatState) (a b : Bool) (word : ℕ) → Writer sh s → cond a (eqb word 0) (cond b (nat_lt word flag) (is_some s.section && nat_lt s.made 2000000 && eqb word (unwrap_or s.section 0 * flag + s.made))) ≡ true → IsWord word
+new_fits : (sh : Shape) (s : SeatState) (a b : Bool) (word : ℕ) → Writer sh s → cond a (eqb word 0) (cond b (nat_lt word flag) (is_some s.section && nat_lt s.made sh.objects && eqb word (unwrap_or s.section 0 * flag + s.made))) ≡ true → IsWord word
 new_fits sh s true b word k e = omega (arith, eqb-true word 0 e)
 new_fits sh s false true word k e = omega (arith, ltb-true word flag e)
 new_fits sh s false false word k e =
-    identity_fits sh (unwrap_or s.section 0) s.made word k.range.shaped k.range.section k.made (eqb-true word (unwrap_or s.section 0 * flag + s.made) (and_parts (is_some s.section && nat_lt s.made 2000000) (eqb word (unwrap_or s.section 0 * flag + s.made)) e).1)
+    identity_fits sh (unwrap_or s.section 0) s.made word k.range.shaped k.range.section k.made (eqb-true word (unwrap_or s.section 0 * flag + s.made) (and_parts (is_some s.section && nat_lt s.made sh.objects) (eqb word (unwrap_or s.section 0 * flag + s.made)) e).1)
 
 used_fits : (sh : Shape) (o : Option CacheState) → IfSome o (IsCache sh) → IsWord (used_bits o)
 used_fits sh None k = omega arith

@@ -35,7 +35,7 @@ use Rattle.mark_core.specs.declared.kinds.Step.TheVariants.{Push, Pop, ReadAlloc
 use Rattle.mark_core.specs.declared.seat.SeatState.{SeatState}
 
 -- 6: the entry that is popped is marked
-named_cell : (m : ℕ → Bool) (word : ℕ) → ((x : ℕ) → m x ≡ true → x < 65536) → m (word - 1) ≡ true → m (cell_of word) ≡ true
+named_cell : (m : ℕ → Bool) (word : ℕ) → ((x : ℕ) → m x ≡ true → x < 16777216) → m (word - 1) ≡ true → m (cell_of word) ≡ true
 named_cell m word f e = let same : cell_of word ≡ word - 1 = omega (arith, f (word - 1) e) in ap m same ∙ e
 
 popped_marked : (c : Core) (i : ℕ) (s : SeatState) (p : ℕ) → IsCore c → slice_get c.seats i ≡ Some s → AllTrue (parts c.shape (words_of c.shape c.words) c.seats s (Pop p)) → cell_bit (words_of c.shape c.words).marks (cell_of (found c s (Pop p))) ≡ true
@@ -46,7 +46,7 @@ popped_marked c i s p k g ok =
     let o = pops-off c i s p k g ok in
     let there = entries-now c k p o.packet (n - 1) (omega (arith, o.before, o.some)) in
     let long : length w.marks ≡ block_count sh = region-length (region_sizes sh) 5 c.words (omega (arith, k.formed.words)) in
-    let near : (x : ℕ) → cell_bit w.marks x ≡ true → x < 65536 = λ x e. omega (arith, bit-below sh w.marks x k.formed.shaped long e, k.formed.shaped.cells.1) in
+    let near : (x : ℕ) → cell_bit w.marks x ≡ true → x < 16777216 = λ x e. omega (arith, bit-below sh w.marks x k.formed.shaped long e, k.formed.shaped.cells.1) in
     rw o.word (named_cell (cell_bit w.marks) (entry sh w.entries p (n - 1)) near (and_parts _ _ there).1)
 
 -- the cells that come into hand are marked
@@ -79,12 +79,12 @@ comes-published c i s (ReadAlloc b) k g ok =
 comes-published c i s step k g ok = tt
 
 -- a word that is nil or goes to a cell in use names such a cell, where it names one
-named : (u : ℕ → Bool) (word : ℕ) (b : Bool) → ((x : ℕ) → u x ≡ true → x < 65536) → (b || u (word - 1)) ≡ true → IfSome (cond b None (Some (cell_of word))) (λ x. IsTrue (u x))
+named : (u : ℕ → Bool) (word : ℕ) (b : Bool) → ((x : ℕ) → u x ≡ true → x < 16777216) → (b || u (word - 1)) ≡ true → IfSome (cond b None (Some (cell_of word))) (λ x. IsTrue (u x))
 named u word true f e = tt
 named u word false f e = named_cell u word f e
 
 -- cells in use exist
-pub use-below : (c : Core) → IsCore c → (x : ℕ) → in_use (words_of c.shape c.words).allocs (makers c.seats) x ≡ true → x < 65536
+pub use-below : (c : Core) → IsCore c → (x : ℕ) → in_use (words_of c.shape c.words).allocs (makers c.seats) x ≡ true → x < 16777216
 use-below c k x e =
     let sh : Shape = c.shape in
     let w : Words = words_of sh c.words in

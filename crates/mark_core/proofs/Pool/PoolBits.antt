@@ -1,11 +1,12 @@
 -- One bit of a pool's word: what setting or clearing it does to the pools.
-use Rattle.std.proofs.Common.{ℕ, ◌≡◌, ◌≢◌, ◌+◌, ◌*◌, ◌/◌, ◌%◌, ◌<◌, suc, zero, List, set, get_or, length, arith, refl, ap, Bool, true, false, ⊎_elim}
+use Rattle.std.proofs.Common.{ℕ, ◌≡◌, ◌≢◌, ◌+◌, ◌*◌, ◌/◌, ◌%◌, ◌<◌, ◌≤◌, ◌∙◌, suc, zero, List, set, get_or, length, arith, refl, ap, Bool, true, false, ⊎_elim}
 use Rattle.std.proofs.lemmas.Nat.{mul-add-lt}
 use Rattle.std.proofs.lemmas.List.{get_or-set_same, get_or-set_other}
 use Rattle.std.proofs.lemmas.Bool.{cases_eq, cases_order}
 use Rattle.mark_core.specs.Layout.{pool_words}
 use Rattle.mark_core.specs.Bits.{has_bit, with_bit, without_bit}
 use Rattle.mark_core.specs.Cells.{in_pool, pool_count, empty_packets}
+use Rattle.mark_core.specs.PacketRules.{NoStrays}
 use Rattle.mark_core.proofs.Count.CountTests.{bit, bit-zero}
 use Rattle.mark_core.proofs.Count.CountRange.{count-but-one}
 use Rattle.mark_core.proofs.CellBits.{with_same, with_other, without_same, without_other, same-index}
@@ -20,28 +21,43 @@ same_place w q r a b ha hb e =
     (λ u. absurd (⊎_elim (λ (h : q < r). grind (arith, mul-add-lt q w a r)) (λ (h : r < q). grind (arith, mul-add-lt r w b q)) u))
     (cases_order q r)
 
+-- the bits past the packets are the same
+abbrev pub SamePast : Shape → List ℕ → List ℕ → Type 0
+SamePast sh pools pools' = (q p : ℕ) → sh.packets ≤ p → p < 64 * pool_words sh → in_pool sh pools' q p ≡ in_pool sh pools q p
+
+pub strays-kept : (sh : Shape) (pools pools' : List ℕ) → SamePast sh pools pools' → NoStrays sh pools → NoStrays sh pools'
+strays-kept sh pools pools' same k q p h n l = same q p n l ∙ k q p h n l
+
 -- what is in the pools differs at packet p of pool q at most, which is there as b says
 pub record OneBit (sh : Shape) (pools pools' : List ℕ) (q p : ℕ) (b : Bool) : Type 0 where
   pub here : in_pool sh pools' q p ≡ b
+  pub past : SamePast sh pools pools'
   pub there : (r x : ℕ) → x < sh.packets → (r ≡ q → x ≡ p → ⊥) → in_pool sh pools' r x ≡ in_pool sh pools r x
+
+-- a bit of another place
+bit_elsewhere : (sh : Shape) (pools : List ℕ) (q p v : ℕ) → q * pool_words sh + p / 64 < length pools → p / 64 < pool_words sh
+    → ((k : ℕ) → k < 64 → k ≢ p % 64 → has_bit v k ≡ has_bit (get_or pools (q * pool_words sh + p / 64) 0) k)
+    → (r x : ℕ) → x / 64 < pool_words sh → (r ≡ q → x ≡ p → ⊥) → in_pool sh (set pools (q * pool_words sh + p / 64) v) r x ≡ in_pool sh pools r x
+bit_elsewhere sh pools q p v l h others r x hx n =
+    let i : ℕ = q * pool_words sh + p / 64 in
+    let j : ℕ = r * pool_words sh + x / 64 in
+    ⊎_elim
+    (λ (e : j ≡ i).
+    let s = same_place (pool_words sh) r q (x / 64) (p / 64) hx h e in
+    let far : x % 64 ≢ p % 64 = λ f. n s.0 (same-index x p s.1 f) in
+    rw e (rw get_or-set_same (others (x % 64) (omega arith) far)))
+    (λ (d : j ≡ i → ⊥). ap (λ w. has_bit w (x % 64)) (get_or-set_other pools i j v 0 d))
+    (cases_eq j i)
 
 one_bit : (sh : Shape) (pools : List ℕ) (q p v : ℕ) → q * pool_words sh + p / 64 < length pools → p < sh.packets
     → ((k : ℕ) → k < 64 → k ≢ p % 64 → has_bit v k ≡ has_bit (get_or pools (q * pool_words sh + p / 64) 0) k)
     → OneBit sh pools (set pools (q * pool_words sh + p / 64) v) q p (has_bit v (p % 64))
 one_bit sh pools q p v l h others =
-    let i : ℕ = q * pool_words sh + p / 64 in
+    let elsewhere = bit_elsewhere sh pools q p v l (word-below sh p h) others in
     record {
       here = rw get_or-set_same refl;
-      there =
-          λ r x hx n.
-          let j : ℕ = r * pool_words sh + x / 64 in
-          ⊎_elim
-          (λ (e : j ≡ i).
-          let s = same_place (pool_words sh) r q (x / 64) (p / 64) (word-below sh x hx) (word-below sh p h) e in
-          let far : x % 64 ≢ p % 64 = λ f. n s.0 (same-index x p s.1 f) in
-          rw e (rw get_or-set_same (others (x % 64) (omega arith) far)))
-          (λ (d : j ≡ i → ⊥). ap (λ w. has_bit w (x % 64)) (get_or-set_other pools i j v 0 d))
-          (cases_eq j i);
+      past = λ r x n hx. elsewhere r x (omega (arith, hx)) (λ e f. omega (arith, h, n, f));
+      there = λ r x hx n. elsewhere r x (word-below sh x hx) n;
     }
 
 -- packet p is put into pool q

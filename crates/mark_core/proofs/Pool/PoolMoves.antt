@@ -67,7 +67,7 @@ pub pools-take : (sh : Shape) (heads pools pools' : List ℕ) (hss : List Slots)
 pools-take sh heads pools pools' hss i q p hs k hq o e n f =
     let gs : Slots = put_packet hs p in
     let gss : List Slots = set hss i gs in
-    pools-but-one sh heads heads pools pools' hss i p hs gs k.rule k.seat k.is (others_inside sh pools pools' q p false o) (λ x d. refl) (λ x d. put-other hs p x d)
+    pools-but-one sh heads heads pools pools' hss i p hs gs k.rule k.seat k.is o.past (others_inside sh pools pools' q p false o) (λ x d. refl) (λ x d. put-other hs p x d)
     (λ hp.
     let was = in_one_pool sh heads pools pools' hss q p false k.rule hq hp o e in
     let long : i < length gss = rw length-set k.seat in
@@ -92,7 +92,7 @@ same-inside sh pools pools' q p o e r x h =
 -- a pool's word that is written back as it was
 pub pools-untaken : (sh : Shape) (heads pools pools' : List ℕ) (hss : List Slots) (i q p : ℕ) (hs : Slots) → Holding sh heads pools hss i hs → OneBit sh pools pools' q p false → in_pool sh pools q p ≡ false → Pools sh heads pools' (set hss i hs)
 pools-untaken sh heads pools pools' hss i q p hs k o e =
-    pools-still sh heads heads pools pools' hss (set hss i hs) k.rule
+    pools-still sh heads heads pools pools' hss (set hss i hs) k.rule o.past
     (λ x h.
     let s = same-hands hss i x hs hs k.seat k.is (same-in-hand hs x) in
     record { inside = λ r. same-inside sh pools pools' q p o e r x h; head = refl; holders = s.0; known = s.1 })
@@ -112,7 +112,7 @@ pools-give sh heads pools pools' hss i p n d hs k o h head l deferred =
     let gs : Slots = drop_packet hs p in
     let gss : List Slots = set hss i gs in
     let q : ℕ = pool_for sh n d in
-    pools-but-one sh heads heads pools pools' hss i p hs gs k.rule k.seat k.is (others_inside sh pools pools' q p true o) (λ x e. refl) (λ x e. drop-other hs p x e)
+    pools-but-one sh heads heads pools pools' hss i p hs gs k.rule k.seat k.is o.past (others_inside sh pools pools' q p true o) (λ x e. refl) (λ x e. drop-other hs p x e)
     (λ hp.
     let was = held-alone sh heads pools hss i p hs k hp h in
     let now : holder_count gss p ≡ 0 = omega (arith, holders-set hss i p hs gs k.seat k.is, was.1, ap bit h, ap bit (holds-drop_same hs p)) in
@@ -134,7 +134,7 @@ pub pools-length : (sh : Shape) (heads heads' pools : List ℕ) (hss : List Slot
 pools-length sh heads heads' pools hss i p n b hs k others h l =
     let gs : Slots = set_length hs p n b in
     let gss : List Slots = set hss i gs in
-    pools-but-one sh heads heads' pools pools hss i p hs gs k.rule k.seat k.is (λ q x hx d. refl) others (λ x d. set-other hs p n b x d)
+    pools-but-one sh heads heads' pools pools hss i p hs gs k.rule k.seat k.is (λ q x d l. refl) (λ q x hx d. refl) others (λ x d. set-other hs p n b x d)
     (λ hp.
     let was = held-alone sh heads pools hss i p hs k hp h in
     let long : i < length gss = rw length-set k.seat in

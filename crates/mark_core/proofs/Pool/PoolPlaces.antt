@@ -5,8 +5,9 @@ use Rattle.std.proofs.lemmas.Bool.{cases_eq}
 use Rattle.mark_core.specs.Shapes.{EachPacket}
 use Rattle.mark_core.specs.Held.{Slots, known_length}
 use Rattle.mark_core.specs.Cells.{in_pool, pool_count, holder_count, packet_length, length_among}
-use Rattle.mark_core.specs.PacketRules.{Pools}
+use Rattle.mark_core.specs.PacketRules.{NoStrays, Pools}
 use Rattle.mark_core.proofs.Count.CountTests.{bit}
+use Rattle.mark_core.proofs.Pool.PoolBits.{SamePast, strays-kept}
 use Rattle.mark_core.proofs.Pool.PoolSlots.{SameInHand}
 use Rattle.mark_core.proofs.Pool.PoolHolders.{holders-set, among-set}
 use Rattle.mark_core.specs.declared.kinds.Shape.{Shape}
@@ -31,14 +32,15 @@ placed_in sh heads pools hss k p h =
       room = k.rooms p h;
     }
 
-pools_from : (sh : Shape) (heads pools : List ℕ) (hss : List Slots) → EachPacket sh (IsPlaced sh heads pools hss) → Pools sh heads pools hss
-pools_from sh heads pools hss k =
+pools_from : (sh : Shape) (heads pools : List ℕ) (hss : List Slots) → EachPacket sh (IsPlaced sh heads pools hss) → NoStrays sh pools → Pools sh heads pools hss
+pools_from sh heads pools hss k strays =
     record {
       one_place = λ p h. (k p h).one_place;
       empty_pool = λ p h. (k p h).empty_pool;
       low_pool = λ p h. (k p h).low_pool;
       high_pool = λ p h. (k p h).high_pool;
       deferred_pool = λ p h. (k p h).deferred_pool;
+      no_strays = strays;
       rooms = λ p h. (k p h).room;
     }
 
@@ -71,9 +73,9 @@ same-hands hss i p hs gs l is s = (
 
 -- the rule is kept where it is kept for the one packet that a step of seat i is about
 pub pools-but-one : (sh : Shape) (heads heads' pools pools' : List ℕ) (hss : List Slots) (i p : ℕ) (hs gs : Slots) → Pools sh heads pools hss → i < length hss → get_or hss i hs ≡ hs
-    → ((q x : ℕ) → x < sh.packets → x ≢ p → in_pool sh pools' q x ≡ in_pool sh pools q x) → ((x : ℕ) → x ≢ p → slice_index heads' x ≡ slice_index heads x) → ((x : ℕ) → x ≢ p → SameInHand hs gs x)
+    → SamePast sh pools pools' → ((q x : ℕ) → x < sh.packets → x ≢ p → in_pool sh pools' q x ≡ in_pool sh pools q x) → ((x : ℕ) → x ≢ p → slice_index heads' x ≡ slice_index heads x) → ((x : ℕ) → x ≢ p → SameInHand hs gs x)
     → (p < sh.packets → IsPlaced sh heads' pools' (set hss i gs) p) → Pools sh heads' pools' (set hss i gs)
-pools-but-one sh heads heads' pools pools' hss i p hs gs k l is inside head hand here =
+pools-but-one sh heads heads' pools pools' hss i p hs gs k l is past inside head hand here =
     pools_from sh heads' pools' (set hss i gs)
     (λ x h.
     ⊎_elim
@@ -82,7 +84,9 @@ pools-but-one sh heads heads' pools pools' hss i p hs gs k l is inside head hand
     let s = same-hands hss i x hs gs l is (hand x n) in
     placed_same sh heads heads' pools pools' hss (set hss i gs) x (record { inside = λ q. inside q x h n; head = head x n; holders = s.0; known = s.1 }) (placed_in sh heads pools hss k x h))
     (cases_eq x p))
+    (strays-kept sh pools pools' past k.no_strays)
 
 -- the rule is kept where each packet is where it was
-pub pools-still : (sh : Shape) (heads heads' pools pools' : List ℕ) (hss gss : List Slots) → Pools sh heads pools hss → EachPacket sh (SamePlace sh heads heads' pools pools' hss gss) → Pools sh heads' pools' gss
-pools-still sh heads heads' pools pools' hss gss k s = pools_from sh heads' pools' gss (λ x h. placed_same sh heads heads' pools pools' hss gss x (s x h) (placed_in sh heads pools hss k x h))
+pub pools-still : (sh : Shape) (heads heads' pools pools' : List ℕ) (hss gss : List Slots) → Pools sh heads pools hss → SamePast sh pools pools' → EachPacket sh (SamePlace sh heads heads' pools pools' hss gss) → Pools sh heads' pools' gss
+pools-still sh heads heads' pools pools' hss gss k past s =
+    pools_from sh heads' pools' gss (λ x h. placed_same sh heads heads' pools pools' hss gss x (s x h) (placed_in sh heads pools hss k x h)) (strays-kept sh pools pools' past k.no_strays)

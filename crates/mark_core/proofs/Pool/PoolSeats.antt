@@ -42,7 +42,7 @@ sound-split sh w seats k p =
     record {
       pools =
           subst (Pools sh w.heads w.pools) (sym (map_push (λ (x : SeatState). x.held) seats new))
-          (pools-still sh w.heads w.heads w.pools w.pools (hands seats) (hands seats ++ nothing ∷ []) p.pools
+          (pools-still sh w.heads w.heads w.pools w.pools (hands seats) (hands seats ++ nothing ∷ []) p.pools (λ q x d l. refl)
           (λ x h. record { inside = λ q. refl; head = refl; holders = omega (arith, holders-push (hands seats) nothing x); known = among-push (hands seats) nothing x refl }));
       counts =
           record {
@@ -76,7 +76,7 @@ ended sh w seats i s a e =
     let c : s.credit ≡ false = not-true _ credit.1 in
     let k = holding sh w seats i s a in
     sound-moved sh w w seats i s (spent_seat sh i) a
-    (pools-still sh w.heads w.heads w.pools w.pools (hands seats) (set (hands seats) i nothing) k.rule
+    (pools-still sh w.heads w.heads w.pools w.pools (hands seats) (set (hands seats) i nothing) k.rule (λ q x d l. refl)
     (λ x h. let m = same-hands (hands seats) i x s.held nothing k.seat k.is (same_nothing s.held x none) in record { inside = λ q. refl; head = refl; holders = m.0; known = m.1 }))
     (record { counted = rw (r, c) refl; one_debt = refl; heads_agree = λ x h f. absurd (false≢true f); work_holds = λ f. absurd (false≢true f) })
     (λ j d n l. a.packets.counts.heads_agree j d l)

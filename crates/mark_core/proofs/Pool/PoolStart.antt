@@ -2,8 +2,8 @@
 use Rattle.std.proofs.Common.{ℕ, ◌≡◌, ◌+◌, ◌-◌, ◌*◌, ◌/◌, ◌%◌, ◌<◌, ◌≤◌, zero, suc, List, [], ◌∷◌, ◌++◌, ◌&&◌, append_assoc, replicate, get_or, length, arith, refl, sym, ap, ◌∙◌, Bool, true, false, min}
 use Rattle.std.specs.Prelude.{IsTrue, IsFalse, slice_index}
 use Rattle.std.specs.List.{All, count_by, range_with_len}
-use Rattle.std.proofs.lemmas.Bool.{true≢false, false≢true, eq-eqb}
-use Rattle.std.proofs.lemmas.Nat.Bits.{bit_at_ones}
+use Rattle.std.proofs.lemmas.Bool.{true≢false, false≢true, eq-eqb, ne_eqb}
+use Rattle.std.proofs.lemmas.Nat.Bits.{bit_at_ones, bit_at_ones_above}
 use Rattle.std.proofs.lemmas.List.{get_or-append_right, get_or_append_left, get_or-replicate, length-replicate}
 use Rattle.std.proofs.lemmas.List.Elements.{All-map}
 use Rattle.std.proofs.lemmas.List.FromFn.{length-map-range_with_len, get_or-map-range_with_len}
@@ -15,7 +15,7 @@ use Rattle.mark_core.specs.Seats.{work_in_hand}
 use Rattle.mark_core.specs.Views.{hands}
 use Rattle.mark_core.specs.Cells.{in_pool, pool_count, holder_count, empty_packets}
 use Rattle.mark_core.specs.Start.{start_seat, start_seats, start_words, full_pool, packet_bits}
-use Rattle.mark_core.specs.PacketRules.{HeadsAgree, has_reservation, has_credit}
+use Rattle.mark_core.specs.PacketRules.{HeadsAgree, NoStrays, has_reservation, has_credit}
 use Rattle.mark_core.specs.Laws.{StartMeetsPackets}
 use Rattle.mark_core.proofs.Regions.{words-get}
 use Rattle.mark_core.proofs.Count.CountTests.{bit}
@@ -72,28 +72,42 @@ pool_word sh k h =
 own_bit : (n p : ℕ) → p < n → has_bit (packet_bits n (p / 64)) (p % 64) ≡ true
 own_bit n p h = eq-eqb _ _ (bit_at_ones (min 64 (n - 64 * (p / 64))) (p % 64) (omega (arith, h)))
 
+-- the word of the empty pool in which the packet's bit stands
+own_word : (sh : Shape) (p : ℕ) → p / 64 < pool_words sh → slice_index (words_of sh (start_words sh)).pools (0 * pool_words sh + p / 64) ≡ packet_bits sh.packets (p / 64)
+own_word sh p h =
+    let g : ℕ = 0 * pool_words sh + p / 64 in
+    let below : g < pool_words sh = omega (arith, h) in
+    let long : length (full_pool sh) ≡ pool_words sh = length-map-range_with_len (packet_bits sh.packets) 0 (pool_words sh) in
+    pool_word sh g (omega (arith, below))
+    ∙ (get_or_append_left (full_pool sh) (tail_words sh) 0 g (omega (arith, long, below)) ∙ get_or-map-range_with_len (packet_bits sh.packets) 0 (pool_words sh) g (p / 64) 0 below (omega arith))
+
 -- each packet is in the empty pool
 starts_in : (sh : Shape) (p : ℕ) → p < sh.packets → in_pool sh (words_of sh (start_words sh)).pools 0 p ≡ true
-starts_in sh p h =
-    let g : ℕ = 0 * pool_words sh + p / 64 in
-    let below : g < pool_words sh = omega (arith, word-below sh p h) in
-    let long : length (full_pool sh) ≡ pool_words sh = length-map-range_with_len (packet_bits sh.packets) 0 (pool_words sh) in
-    let word : slice_index (words_of sh (start_words sh)).pools g ≡ packet_bits sh.packets (p / 64) =
-    pool_word sh g (omega (arith, below))
-    ∙ (get_or_append_left (full_pool sh) (tail_words sh) 0 g (omega (arith, long, below)) ∙ get_or-map-range_with_len (packet_bits sh.packets) 0 (pool_words sh) g (p / 64) 0 below (omega arith)) in
-    ap (λ (w : ℕ). has_bit w (p % 64)) word ∙ own_bit sh.packets p h
+starts_in sh p h = ap (λ (w : ℕ). has_bit w (p % 64)) (own_word sh p (word-below sh p h)) ∙ own_bit sh.packets p h
 
--- and in no other
-starts_out : (sh : Shape) (q p : ℕ) → 0 < q → q < 4 → p < sh.packets → in_pool sh (words_of sh (start_words sh)).pools q p ≡ false
-starts_out sh q p hq h4 h =
+-- and the word has no bit past the packets
+past_bit : (n p : ℕ) → n ≤ p → has_bit (packet_bits n (p / 64)) (p % 64) ≡ false
+past_bit n p h = ne_eqb _ _ (λ e. omega (arith, bit_at_ones_above (min 64 (n - 64 * (p / 64))) (p % 64) (omega (arith, h)), e))
+
+-- a packet whose bit the words have is in no other pool
+out_by : (sh : Shape) (q p : ℕ) → 0 < q → q < 4 → p / 64 < pool_words sh → in_pool sh (words_of sh (start_words sh)).pools q p ≡ false
+out_by sh q p hq h4 h =
     let w : ℕ = pool_words sh in
     let g : ℕ = q * w + p / 64 in
     let first : w ≤ g = grind arith in
-    let last : g < 4 * w = in-row q 4 w (p / 64) h4 (word-below sh p h) in
+    let last : g < 4 * w = in-row q 4 w (p / 64) h4 h in
     let long : length (full_pool sh) ≡ w = length-map-range_with_len (packet_bits sh.packets) 0 w in
     let word : slice_index (words_of sh (start_words sh)).pools g ≡ 0 =
     pool_word sh g last ∙ (get_or-append_right (full_pool sh) (tail_words sh) w g 0 long first ∙ get_or-replicate (3 * w + 2) (g - w) 0 0 (omega (arith, first, last))) in
     ap (λ (v : ℕ). has_bit v (p % 64)) word ∙ no-bit (p % 64)
+
+starts_out : (sh : Shape) (q p : ℕ) → 0 < q → q < 4 → p < sh.packets → in_pool sh (words_of sh (start_words sh)).pools q p ≡ false
+starts_out sh q p hq h4 h = out_by sh q p hq h4 (word-below sh p h)
+
+-- no pool has a packet that doesn't exist
+starts_past : (sh : Shape) → NoStrays sh (words_of sh (start_words sh)).pools
+starts_past sh zero p h4 n l = ap (λ (w : ℕ). has_bit w (p % 64)) (own_word sh p (omega (arith, l))) ∙ past_bit sh.packets p n
+starts_past sh (suc q) p h4 n l = out_by sh (suc q) p (omega arith) h4 (omega (arith, l))
 
 starts_once : (sh : Shape) (p : ℕ) → p < sh.packets → pool_count sh (words_of sh (start_words sh)).pools p ≡ 1
 starts_once sh p h =
@@ -123,6 +137,7 @@ start sh n z =
             empty_pool = λ p h e. no-head sh p h;
             low_pool = λ p h. never_in _ _ (starts_out sh 1 p (omega arith) (omega arith) h);
             high_pool = λ p h. never_in _ _ (starts_out sh 2 p (omega arith) (omega arith) h);
+            no_strays = starts_past sh;
             deferred_pool = λ p h. never_in _ _ (starts_out sh 3 p (omega arith) (omega arith) h);
             rooms = λ p h. rw (among-unheld (hands seats) p (nobody sh n p)) (omega (arith, no-head sh p h));
           };

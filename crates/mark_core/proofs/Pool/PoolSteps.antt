@@ -67,7 +67,7 @@ pub sound-still : (sh : Shape) (w w' : Words) (seats : List SeatState) (i : ℕ)
 sound-still sh w w' seats i s t a m =
     let k = holding sh w seats i s a in
     let rule : Pools sh w.heads w.pools (set (hands seats) i s.held) =
-    pools-still sh w.heads w.heads w.pools w.pools (hands seats) (set (hands seats) i s.held) k.rule
+    pools-still sh w.heads w.heads w.pools w.pools (hands seats) (set (hands seats) i s.held) k.rule (λ q x d l. refl)
     (λ x h. let e = same-hands (hands seats) i x s.held s.held k.seat k.is (same-in-hand s.held x) in record { inside = λ q. refl; head = refl; holders = e.0; known = e.1 }) in
     sound-moved sh w w' seats i s t a (rw (m.heads, m.pools, m.held) rule)
     (record {

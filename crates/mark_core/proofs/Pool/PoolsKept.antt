@@ -16,7 +16,7 @@ use Rattle.mark_core.specs.Laws.{PacketsSound, ArePacketsSound, EventsKeepPacket
 use Rattle.mark_core.proofs.Regions.{words-get}
 use Rattle.mark_core.proofs.Places.{region-length}
 use Rattle.mark_core.proofs.Acting.{Acted, acted, found, words_left}
-use Rattle.mark_core.proofs.Core.{in_range_from}
+use Rattle.mark_core.proofs.Core.{reaches_from}
 use Rattle.mark_core.proofs.Pool.PoolSteps.{At, work-holds}
 use Rattle.mark_core.proofs.Pool.PoolTake.{sound-take}
 use Rattle.mark_core.proofs.Pool.PoolGive.{sound-give}
@@ -127,7 +127,7 @@ shape-kept c e = shape_of c e.seat (slice_get c.seats e.seat) e.step
 -- each event that is allowed keeps the rules of packets
 pub packets-kept : EventsKeepPackets
 packets-kept c e k names p f =
-    let r : (s : SeatState) × Acted c e s = acted c e k.words (λ s g. in_range_from c e.seat s k names p.pools g) f in
+    let r : (s : SeatState) × Acted c e s = acted c e k.words (λ s g. reaches_from c e.seat s e.step k names p.pools g) f in
     let a : Acted c e r.0 = r.1 in
     let s : SeatState = r.0 in
     let w : Words = words_left c s e.step in

@@ -94,7 +94,7 @@ new_at c i s y part word k p x h u j l =
     let after : List ℕ → Type 0 = λ fs. nil_or (UsedAfter c i s step) (field c.shape fs x j) ≡ true in
     ⊎_elim
     (λ (b : nat_lt part c.shape.fields ≡ true).
-    let zero : word ≡ 0 = eqb-true word 0 (subst (λ (t : Bool). cond t (eqb word 0) (cond (eqb part c.shape.fields) (nat_lt word 4294967296) (is_some s.section && nat_lt s.made 2000000 && eqb word (unwrap_or s.section 0 * 4294967296 + s.made))) ≡ true) b k.ok.1.1.0) in
+    let zero : word ≡ 0 = eqb-true word 0 (subst (λ (t : Bool). cond t (eqb word 0) (cond (eqb part c.shape.fields) (nat_lt word 4294967296) (is_some s.section && nat_lt s.made c.shape.objects && eqb word (unwrap_or s.section 0 * 4294967296 + s.made))) ≡ true) b k.ok.1.1.0) in
     let before : Used c x ≡ true = no_made c i s step x k (λ m. omega (arith, m.1, ltb-true part c.shape.fields b)) u in
     subst after (sym (made_field c s y part word b))
     (field-set w.fields (y * c.shape.fields + part) (x * c.shape.fields + j) word (UsedAfter c i s step) (rw zero refl) (old_field c i s step x j k refl p h before l)))

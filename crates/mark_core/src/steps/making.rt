@@ -124,7 +124,7 @@ fn fits_part(shape: &Shape, s: &SeatState, part: u8, word: u64) -> bool
         word < bits::FLAG
     } else {
         s.section.is_some()
-            && s.made < 2_000_000
+            && s.made < shape.objects
             && word == identity_of(s.section.unwrap_or(0), s.made)
     }
 }
@@ -167,7 +167,7 @@ pub fn check_store_new(shape: &Shape, s: &SeatState, c: Cell, part: u8, word: u6
 #[inline(always)]
 pub fn store_new(shape: &Shape, s: &mut SeatState, c: Cell, part: u8, word: u64) -> u64
     requires part_counts { part < 255 }
-    requires made_counts { s.old.made < 4294967295 }
+    requires made_counts { shape.now.fields < part → s.old.made < 4294967295 }
     ensures word { result ≡ word }
     ensures seat { s.new ≡ record s.old { cache = if nat_le part shape.now.fields then with_making_of s.old.cache c (part + 1) else with_made_of s.old.cache c; made = if nat_le part shape.now.fields then s.old.made else s.old.made + 1 } }
 {

@@ -13,6 +13,7 @@ use super::opening::{next_seat, open};
 use super::seasons::begin;
 use alloc_cache::{Cache, retire};
 use gc_table::{Heap, HeapSeat};
+use packet_pools::{give, take_deferred};
 use tracer::{RootScan, Stopped, Traced, recycle_deferred, scan_roots, trace};
 
 type Slots = [Option<(u32, Option<u32>, bool)>; 4];
@@ -56,7 +57,7 @@ pub fn traces(heap: &Heap, seat: &mut HeapSeat, cache: &Cache, quota: u32) -> Op
     requires { Fills heap.now seat.old cache.now }
     ensures { Fills heap.now seat.new cache.now }
 {
-    if !is_idle(seat) || quota > 1_000 {
+    if !is_idle(seat) {
         return None;
     }
     Some(trace(heap, seat, quota))
@@ -71,6 +72,20 @@ pub fn recycles(heap: &Heap, seat: &mut HeapSeat, cache: &Cache) -> Option<u32>
         return None;
     }
     Some(recycle_deferred(heap, seat))
+}
+
+/// The number and the length of the packet that was put off. It goes back to where it was.
+fn finds_deferred(heap: &Heap, seat: &mut HeapSeat, cache: &Cache) -> Option<(u32, u32)>
+    requires { Fills heap.now seat.old cache.now }
+    ensures { Fills heap.now seat.new cache.now }
+{
+    if !is_idle(seat) {
+        return None;
+    }
+    let held = take_deferred(heap, seat)?;
+    let found = (held.packet(), held.length());
+    give(heap, seat, held, true);
+    Some(found)
 }
 
 fn done(done: u32, deferred: u32, stopped: Stopped) -> Option<Traced> {
@@ -100,11 +115,15 @@ fn puts_off(heap: &Heap, seat: &mut HeapSeat, cache: &mut Cache) -> bool
 {
     let scanned = scans(heap, seat, cache);
     let first = traces(heap, seat, cache, 10);
+    let found = finds_deferred(heap, seat, cache);
+    let again = finds_deferred(heap, seat, cache);
     publish(heap, seat, cache);
     let recycled = recycles(heap, seat, cache);
     let second = traces(heap, seat, cache, 10);
     scanned == Some(RootScan::Done { marked: 1 })
         && first == done(1, 1, Stopped::NoWork)
+        && found.is_some_and(|(packet, length)| packet < heap.shape().packets && length == 1)
+        && again == found
         && recycled == Some(1)
         && second == done(3, 0, Stopped::NoWork)
 }

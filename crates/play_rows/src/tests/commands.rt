@@ -1,6 +1,6 @@
 //! A small input of each command, and of each fault.
 
-/// The size of each piece stands behind the status, where the sink isn't handed one line a piece.
+/// The size of each piece stands behind the status of a dump, whose bytes are no lines.
 pub const COMMANDS: &str = "$ run --cells=64 --workers=1 --tracers=0 --packets=2 --entries=2
 gcscript 1
 warehouse
@@ -91,7 +91,7 @@ warehouse
 new x 5
 say a x
 job 0
-=> 0 in 24 44 24 12
+=> 0
 job 0 status 0 bytes 44
 warehouse 1
 a 5
@@ -112,7 +112,7 @@ gcscript 1
 warehouse
 new x 5
 say a x
-=> 0 in 20 26
+=> 0
 gcscript 2
 fields 4
 warehouse
@@ -121,7 +121,7 @@ say a x
 $ convert
 gcscript 2
 fields 9
-=> 0 in 20
+=> 0
 gcscript 2
 fields 9
 $ gen --number 1 --size 1
@@ -129,7 +129,7 @@ gcscript 1
 warehouse
 new x 5
 say a x
-=> 0 in 75
+=> 0
 gcscript 1
 warehouse
 nil a

@@ -76,6 +76,10 @@ gcscript 1
 14 ConvertedTooLong
 $ convert
 gcscript 1
+#{1048564*a}=> 2
+14 ConvertedTooLong
+$ convert
+gcscript 1
 #{1048565*a}=> 2
 11 TooLong
 ";

@@ -4,7 +4,7 @@ use std::sync::atomic::Ordering::SeqCst;
 use std::thread::yield_now;
 
 /// How many times a thread looks before it gives up.
-const LOOKS: u32 = 10_000_000;
+const LOOKS: u32 = 1_000_000_000;
 
 /// Comes when it was told often enough. When one thread gave it up, no other waits for it any more.
 #[derive(Drop)]

@@ -6,9 +6,9 @@ ghost use Rattle.job_pool.specs.Batch.{fault_of};
 ghost use Rattle.command_words.specs.Commands.{options_of};
 ghost use Rattle.play_contract.specs.Playing.{AreInRange};
 ghost use Rattle.play_words.specs.Batching.{IsBatchAnswer, IsBatchFault, BatchesTo};
-ghost use Rattle.play_words.specs.Ending.{CommandEnds, HasItsText, TextEnds, code_of};
-ghost use Rattle.play_words.specs.Promise.{OfSource};
-ghost use Rattle.play_words.specs.Reading.{IsSpent};
+ghost use Rattle.play_words.specs.Ending.{CommandEnds, TextEnds, code_of};
+ghost use Rattle.play_words.specs.Promise.{HasItsText, OfSource};
+ghost use Rattle.play_words.specs.Reading.{IsSpent, TakesAtMost};
 
 mod player;
 mod text;
@@ -89,6 +89,7 @@ pub fn play_batch<R: Threads + Wait + Sync, S: Source, K: Sink>(
     ensures ends { CommandEnds (OfSource (IsBatchAnswer (options_of options.now)) (S.left source.old)) result
         (S.faults source.old) (S.faults source.new) (K.written sink.old) (K.written sink.new) (K.faults sink.old) (K.faults sink.new) }
     ensures spent { HasItsText (code_of result) → IfSome (S.left source.old) (λ bytes. IsSpent 16777217 bytes (S.left source.new)) }
+    ensures most { TakesAtMost 16777217 (S.left source.old) (S.left source.new) }
 {
     match read_source(alloc, source, BATCH) {
         Err(Unread::Memory) => Status::Memory,

@@ -3,16 +3,17 @@ ghost use Rattle.std.specs.Prelude.{◌≡◌, ◌≤◌, [], IfSome, if◌then�
 ghost use Rattle.gc_script.specs.Convert.{added_lines, converted_text};
 ghost use Rattle.gc_script.specs.Converting.{conversion_of};
 ghost use Rattle.play_report.specs.Causes.{Writes};
-ghost use Rattle.play_words.specs.Answers.{IsConvertAnswer};
-ghost use Rattle.play_words.specs.Ending.{CommandEnds, HasItsText, TextEnds, code_of};
-ghost use Rattle.play_words.specs.Promise.{OfSource};
-ghost use Rattle.play_words.specs.Reading.{IsSpent};
+ghost use Rattle.play_words.specs.Converting.{IsConvertAnswer};
+ghost use Rattle.play_words.specs.Ending.{CommandEnds, TextEnds, code_of};
+ghost use Rattle.play_words.specs.Promise.{HasItsText, OfSource};
+ghost use Rattle.play_words.specs.Reading.{IsSpent, TakesAtMost};
 
 use crate::commands::fault::tell_fault;
+use crate::lines::write_lines;
 use crate::source::{SCRIPT, Unread, read_source};
 use crate::status::Status;
 use gc_script::{Converted, ScriptError, convert};
-use play_report::{Failed, Sink, Source, write_all};
+use play_report::{Failed, Sink, Source};
 use std::alloc::Global;
 
 fn write_added<K: Sink>(added: bool, sink: &mut K) -> Result<(), Failed>
@@ -20,19 +21,19 @@ fn write_added<K: Sink>(added: bool, sink: &mut K) -> Result<(), Failed>
         (if added then added_lines else []) }
 {
     if added {
-        write_all(sink, b"gcscript 2\nfields 4\n")
+        write_lines(sink, b"gcscript 2\nfields 4\n")
     } else {
         Ok(())
     }
 }
 
-/// Writes a conversion: the lines that are added, and the rest as it stands.
+/// Writes a conversion line by line: the lines that are added, and the rest as it stands.
 fn write_converted<K: Sink>(converted: &Converted<'_>, sink: &mut K) -> Result<(), Failed>
     ensures { Writes result (K.written sink.old) (K.written sink.new) (K.faults sink.old) (K.faults sink.new)
         (converted_text (conversion_of converted.now)) }
 {
     match write_added(converted.added, sink) {
-        Ok(()) => write_all(sink, converted.rest),
+        Ok(()) => write_lines(sink, converted.rest),
         Err(e) => Err(e),
     }
 }
@@ -54,6 +55,7 @@ pub fn convert_source<S: Source, K: Sink>(alloc: Global, source: &mut S, sink: &
     ensures ends { CommandEnds (OfSource IsConvertAnswer (S.left source.old)) result
         (S.faults source.old) (S.faults source.new) (K.written sink.old) (K.written sink.new) (K.faults sink.old) (K.faults sink.new) }
     ensures spent { HasItsText (code_of result) → IfSome (S.left source.old) (λ bytes. IsSpent 1048577 bytes (S.left source.new)) }
+    ensures most { TakesAtMost 1048577 (S.left source.old) (S.left source.new) }
 {
     match read_source(alloc, source, SCRIPT) {
         Err(Unread::Memory) => Status::Memory,

@@ -1,14 +1,15 @@
 //! The command `gen`: writes a generated script.
 ghost use Rattle.std.specs.Prelude.{◌≤◌};
-ghost use Rattle.play_words.specs.Answers.{IsGenAnswer};
+ghost use Rattle.play_words.specs.Generating.{IsGenAnswer};
 ghost use Rattle.play_words.specs.Ending.{TextEnds};
 
+use crate::lines::write_lines;
 use crate::status::Status;
 use load_gen::generate;
-use play_report::{Sink, write_all};
+use play_report::Sink;
 use std::alloc::Global;
 
-/// Writes the generated script of this number, with so many lines a warehouse, as one piece.
+/// Writes the generated script of this number, with so many lines a warehouse, each line as one piece.
 pub fn write_generated<K: Sink>(alloc: Global, number: u32, size: u32, sink: &mut K) -> Status
     requires least { 1 ≤ size }
     requires most { size ≤ 20000 }
@@ -17,6 +18,6 @@ pub fn write_generated<K: Sink>(alloc: Global, number: u32, size: u32, sink: &mu
 {
     match generate(alloc, number, size) {
         Err(_) => Status::Memory,
-        Ok(text) => Status::Done.after(write_all(sink, text.as_bytes())),
+        Ok(text) => Status::Done.after(write_lines(sink, text.as_bytes())),
     }
 }

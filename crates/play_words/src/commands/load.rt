@@ -2,7 +2,7 @@
 ghost use Rattle.std.specs.Prelude.{◌≤◌, Ok, length};
 ghost use Rattle.gc_script.specs.Script.{script as meaning};
 ghost use Rattle.load_gen.specs.FourWarehouses.{HasFourWarehouses};
-ghost use Rattle.play_words.specs.Answers.{IsLoadAnswer, LoadsTo};
+ghost use Rattle.play_words.specs.Loading.{IsLoadAnswer, LoadsTo};
 ghost use Rattle.command_words.specs.Commands.{options_of};
 ghost use Rattle.play_words.specs.Ending.{TextEnds};
 ghost use Rattle.play_contract.specs.Playing.{AreInRange};

@@ -1,11 +1,11 @@
 //! The command `run`: plays the script of the source.
 ghost use Rattle.std.specs.Prelude.{◌≡◌, ◌≤◌, IfSome};
-ghost use Rattle.play_words.specs.Answers.{IsRunAnswer, PlaysTo};
+ghost use Rattle.play_words.specs.RunAnswers.{IsRunAnswer, PlaysTo};
 ghost use Rattle.command_words.specs.Commands.{options_of};
-ghost use Rattle.play_words.specs.Ending.{CommandEnds, HasItsText, TextEnds, code_of};
+ghost use Rattle.play_words.specs.Ending.{CommandEnds, TextEnds, code_of};
+ghost use Rattle.play_words.specs.Promise.{HasItsText, OfSource};
 ghost use Rattle.play_contract.specs.Playing.{AreInRange};
-ghost use Rattle.play_words.specs.Promise.{OfSource};
-ghost use Rattle.play_words.specs.Reading.{IsSpent};
+ghost use Rattle.play_words.specs.Reading.{IsSpent, TakesAtMost};
 
 use crate::commands::fault::tell_fault;
 use crate::source::{SCRIPT, Unread, read_source};
@@ -71,6 +71,7 @@ pub fn play_source<R: Threads + Wait + Sync, S: Source, K: Sink, G: Gate + Sync>
     ensures ends { CommandEnds (OfSource (IsRunAnswer (options_of options.now)) (S.left source.old)) result
         (S.faults source.old) (S.faults source.new) (K.written sink.old) (K.written sink.new) (K.faults sink.old) (K.faults sink.new) }
     ensures spent { HasItsText (code_of result) → IfSome (S.left source.old) (λ bytes. IsSpent 1048577 bytes (S.left source.new)) }
+    ensures most { TakesAtMost 1048577 (S.left source.old) (S.left source.new) }
 {
     match read_source(alloc, source, SCRIPT) {
         Err(Unread::Memory) => Status::Memory,

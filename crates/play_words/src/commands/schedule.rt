@@ -1,9 +1,9 @@
 //! The command `schedule`: checks the schedule of the source.
 ghost use Rattle.std.specs.Prelude.{◌≤◌, IfSome};
 ghost use Rattle.schedule_check.specs.Telling.{IsAnswer as IsScheduleAnswer};
-ghost use Rattle.play_words.specs.Ending.{CommandEnds, HasItsText, TextEnds, code_of};
-ghost use Rattle.play_words.specs.Promise.{OfSource};
-ghost use Rattle.play_words.specs.Reading.{IsSpent};
+ghost use Rattle.play_words.specs.Ending.{CommandEnds, TextEnds, code_of};
+ghost use Rattle.play_words.specs.Promise.{HasItsText, OfSource};
+ghost use Rattle.play_words.specs.Reading.{IsSpent, TakesAtMost};
 
 use crate::source::{SCHEDULE, Unread, read_source};
 use crate::status::Status;
@@ -30,6 +30,7 @@ pub fn check_source<S: Source, K: Sink>(alloc: Global, source: &mut S, sink: &mu
     ensures ends { CommandEnds (OfSource IsScheduleAnswer (S.left source.old)) result
         (S.faults source.old) (S.faults source.new) (K.written sink.old) (K.written sink.new) (K.faults sink.old) (K.faults sink.new) }
     ensures spent { HasItsText (code_of result) → IfSome (S.left source.old) (λ bytes. IsSpent 4194305 bytes (S.left source.new)) }
+    ensures most { TakesAtMost 4194305 (S.left source.old) (S.left source.new) }
 {
     match read_source(alloc, source, SCHEDULE) {
         Err(Unread::Memory) => Status::Memory,

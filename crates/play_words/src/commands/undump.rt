@@ -1,9 +1,9 @@
 //! The command `undump`: writes the records of the source's dump.
 ghost use Rattle.std.specs.Prelude.{◌≤◌, IfSome};
-ghost use Rattle.play_words.specs.Dumping.{IsUndumpAnswer};
-ghost use Rattle.play_words.specs.Ending.{CommandEnds, HasItsText, TextEnds, code_of};
-ghost use Rattle.play_words.specs.Promise.{OfSource};
-ghost use Rattle.play_words.specs.Reading.{IsSpent};
+ghost use Rattle.play_words.specs.Undumping.{IsUndumpAnswer};
+ghost use Rattle.play_words.specs.Ending.{CommandEnds, TextEnds, code_of};
+ghost use Rattle.play_words.specs.Promise.{HasItsText, OfSource};
+ghost use Rattle.play_words.specs.Reading.{IsSpent, TakesAtMost};
 
 use crate::source::{DUMP, Unread, read_source};
 use crate::status::Status;
@@ -27,6 +27,7 @@ pub fn undump_source<S: Source, K: Sink>(alloc: Global, source: &mut S, sink: &m
     ensures ends { CommandEnds (OfSource IsUndumpAnswer (S.left source.old)) result
         (S.faults source.old) (S.faults source.new) (K.written sink.old) (K.written sink.new) (K.faults sink.old) (K.faults sink.new) }
     ensures spent { HasItsText (code_of result) → IfSome (S.left source.old) (λ bytes. IsSpent 4984981 bytes (S.left source.new)) }
+    ensures most { TakesAtMost 4984981 (S.left source.old) (S.left source.new) }
 {
     match read_source(alloc, source, DUMP) {
         Err(Unread::Memory) => Status::Memory,

@@ -9,6 +9,7 @@ const SHAPE: Shape = Shape {
     entries: 2,
     sections: 2,
     fields: 4,
+    objects: 2_000_000,
 };
 
 /// A step, and its words.

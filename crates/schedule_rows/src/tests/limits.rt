@@ -62,7 +62,7 @@ fn events(alloc: Global, count: u32) -> Result<Vec<u8>, AllocError> {
 fn events_up_to_100000_are_read(rt: HostRuntime) {
     let alloc = rt.alloc();
     let Ok(source) = events(alloc, 100_000) else {
-        return;
+        panic!(rt; "memory")
     };
     match read_schedule(alloc, source.as_slice()) {
         Err(_) => assert!(rt; false),
@@ -79,7 +79,7 @@ fn events_up_to_100000_are_read(rt: HostRuntime) {
 fn event_100001_is_too_many(rt: HostRuntime) {
     let alloc = rt.alloc();
     let Ok(source) = events(alloc, 100_001) else {
-        return;
+        panic!(rt; "memory")
     };
     let line = 100_003;
     assert!(rt; fault(alloc, source.as_slice()) == Some(ScheduleFault::TooManyEvents { line }));
@@ -97,7 +97,7 @@ fn long(alloc: Global, length: usize) -> Result<Vec<u8>, AllocError> {
 fn sources_of_4194304_bytes_are_read(rt: HostRuntime) {
     let alloc = rt.alloc();
     let (Ok(most), Ok(more)) = (long(alloc, 4_194_304), long(alloc, 4_194_305)) else {
-        return;
+        panic!(rt; "memory")
     };
     assert!(rt; fault(alloc, most.as_slice()).is_none());
     assert!(rt; fault(alloc, more.as_slice()) == Some(ScheduleFault::TooLong));

@@ -61,7 +61,7 @@ fn fits_part(shape: &Shape, seat: &HeapSeat, part: u8, word: u64) -> bool
         word < FLAG
     } else {
         s.section.is_some()
-            && s.made < 2_000_000
+            && s.made < shape.objects
             && word == identity_of(s.section.unwrap_or(0), s.made)
     }
 }

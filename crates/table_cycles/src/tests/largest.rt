@@ -12,6 +12,7 @@ fn words_of_largest(alloc: Global) -> Option<Words> {
         entries: 512,
         sections: 33,
         fields: 16,
+        objects: 2_000_000,
     };
     let Ok((heap, seats)) = Heap::create(alloc, shape, 41, &NoPlan) else {
         return None;

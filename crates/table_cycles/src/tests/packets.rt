@@ -15,6 +15,7 @@ const WIDE: Shape = Shape {
     entries: 2,
     sections: 2,
     fields: 4,
+    objects: 2_000_000,
 };
 
 /// The second word of the empty pool.

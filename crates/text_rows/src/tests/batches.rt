@@ -2,7 +2,7 @@
 ghost use Rattle.std.specs.Prelude.{◌≤◌};
 
 use super::cases::{Kind, all_hold};
-use job_pool::{Player, Text, read_batch, run_jobs};
+use job_pool::{Player, Text, Turn, read_batch, run_jobs};
 use std::alloc::Global;
 use std::sync::Wait;
 use std::sync::atomic::{AtomicU64, Ordering};
@@ -27,6 +27,7 @@ impl Player for Holding {
         &self,
         _rt: &R,
         alloc: Global,
+        _turn: Turn,
         script: &[u8],
     ) -> (u8, Text) {
         if script == [b'0'].as_slice() {
@@ -101,6 +102,7 @@ impl Player for Echo {
         &self,
         _rt: &R,
         alloc: Global,
+        _turn: Turn,
         script: &[u8],
     ) -> (u8, Text) {
         let mut text = Text::make(alloc);
@@ -121,6 +123,52 @@ fn one_to_eight_runners_answer_alike(rt: HostRuntime) -> Result<(), Fail> {
     for runners in 1..=8 {
         let echoed = echoed(&rt, source.as_bytes(), runners, &Echo)?;
         assert!(rt; echoed == (64, 64), "{runners}");
+    }
+    Ok(())
+}
+
+/// Answers as `Echo` does, and counts how often the jobs were played, and adds up their numbers.
+#[derive(Drop)]
+struct Counting {
+    plays: AtomicU64,
+    numbers: AtomicU64,
+}
+
+impl Player for Counting {
+    ghost use Rattle.std.specs.Prelude.{◌≡◌, ◌⊎◌, []};
+
+    ghost fits = { λ player script status text. ((status ≡ 0) × (text ≡ script)) ⊎ ((status ≡ 6) × (text ≡ [])) };
+
+    fn play_job<R: Threads + Wait + Sync>(
+        &self,
+        rt: &R,
+        alloc: Global,
+        turn: Turn,
+        script: &[u8],
+    ) -> (u8, Text) {
+        self.plays.fetch_add(1, Ordering::SeqCst);
+        self.numbers
+            .fetch_add(u64::from(turn.job()), Ordering::SeqCst);
+        Echo.play_job(rt, alloc, turn, script)
+    }
+}
+
+#[test]
+fn each_job_is_played_once(rt: HostRuntime) -> Result<(), Fail> {
+    for runners in 1..=8 {
+        let player = Counting {
+            plays: AtomicU64::new(0),
+            numbers: AtomicU64::new(0),
+        };
+        let echoed = echoed(
+            &rt,
+            b"gcbatch 1\njob 1\najob 1\nbjob 0\njob 1\ncjob 1\nd",
+            runners,
+            &player,
+        )?;
+        assert!(rt; echoed == (5, 5), "{runners}");
+        assert!(rt; player.plays.load(Ordering::SeqCst) == 5, "{runners}");
+        assert!(rt; player.numbers.load(Ordering::SeqCst) == 10, "{runners}");
     }
     Ok(())
 }

@@ -41,3 +41,11 @@ fn eight_lines(rt: HostRuntime) -> Result<(), Fail> {
     assert!(rt; text.as_str() == expected.as_str());
     Ok(())
 }
+
+#[test]
+fn forty_lines(rt: HostRuntime) -> Result<(), Fail> {
+    let text = generate(rt.alloc(), 1, 9)?;
+    // the header, and four times a line `warehouse` and nine lines
+    assert!(rt; text.as_str().lines().count() == 41);
+    Ok(())
+}

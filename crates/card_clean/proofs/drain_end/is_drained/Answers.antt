@@ -1,4 +1,4 @@
-use Rattle.std.proofs.Common.{◌≡◌, ◌+◌, ◌++◌, arith, refl, sym, ap, ◌∙◌, subst, true, Some, eqb-true, eq-eqb, inl, inr}
+use Rattle.std.proofs.Common.{◌≡◌, ◌+◌, [], ◌∷◌, ◌++◌, arith, refl, sym, ap, ◌∙◌, subst, true, Some, eqb-true, eq-eqb, inl, inr}
 use Rattle.std.proofs.lemmas.Bool.{true≢false}
 use Rattle.mark_core.specs.Layout.{card_count}
 use Rattle.mark_core.specs.Places.{the_empty_count}
@@ -9,12 +9,12 @@ use Rattle.mark_core.specs.declared.seat.SeatState.{SeatState}
 use Rattle.gc_table.specs.declared.view.View.{View}
 use Rattle.gc_table.specs.Notes.{look}
 use Rattle.gc_table.specs.Seats.{view_of}
-use Rattle.gc_table.specs.Log.{events}
+use Rattle.gc_table.specs.Log.{event, events}
 use Rattle.gc_table.proofs.Log.{events-after, events-join}
 use Rattle.packet_pools.proofs.TracedSteps.{later-join}
 use Rattle.card_clean.specs.Drained.{AreNotedClean}
 use Rattle.card_clean.specs.Leaving.{rescanned_in}
-use Rattle.card_clean.specs.Looking.{KeepsAllNotes}
+use Rattle.card_clean.specs.Looking.{KeepsAllNotes, looks_clean}
 use Rattle.card_clean.proofs.CardLooks.{clean-kept, count-noted, rescanned-clean, rescanned-dirty}
 use Rattle.card_clean.proofs.Staying.{rooted-stays}
 use Rattle.card_clean.proofs.Leavings.{rescanned-join}
@@ -86,3 +86,13 @@ returns-in-None-clause-undrained c some =
       λ all. true≢false (sym (eq-eqb _ _ all) ∙ (sym n.3 ∙ some)),
       events-join v w x c.first_dirty.ensures.later.log c.all_empty.ensures.later.log ∙ (λ i. c.in-None.ensures.clean i ++ events-after w x ReadCount n.0 n.1 i),
     )
+
+pub returns-in-None-clause-over : goal.returns-in-None-clause-over
+returns-in-None-clause-over c full =
+    let v : View = view_of c.args.seat.now in
+    let w : View = view_of c.first_dirty.new.seat in
+    let x : View = view_of c.all_empty.new.seat in
+    let n = c.all_empty.ensures.count in
+    let all : n.0 ≡ 64 + c.args.heap.now.shape.packets = eqb-true _ _ (sym n.3 ∙ full) in
+    events-join v w x c.first_dirty.ensures.later.log c.all_empty.ensures.later.log
+    ∙ ((λ i. c.in-None.ensures.clean i ++ events-after w x ReadCount n.0 n.1 i) ∙ ap (λ k. looks_clean 0 (card_count c.args.heap.now.shape) ++ event ReadCount k ∷ []) all)

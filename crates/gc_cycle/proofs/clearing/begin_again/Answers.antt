@@ -51,6 +51,7 @@ returns-clause-begun c =
       all = move-events Clear Drain 0 v w x m c.reset.ensures.view;
       begins = refl;
       stayed = refl;
+      fresh = refl;
       not_full = refl;
     }
 

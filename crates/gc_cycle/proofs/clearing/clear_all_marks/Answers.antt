@@ -1,8 +1,9 @@
-use Rattle.std.proofs.Common.{refl, ap, ◌∙◌, arith, not}
+use Rattle.std.proofs.Common.{[], ◌∷◌, ◌++◌, refl, ap, ◌∙◌, arith, not}
 use Rattle.mark_core.specs.declared.kinds.Phase.TheVariants.{Clear, Drain}
+use Rattle.mark_core.specs.declared.kinds.Step.TheVariants.{StorePhase}
 use Rattle.gc_table.specs.Seats.{view_of}
 use Rattle.gc_table.specs.declared.view.View.{View}
-use Rattle.gc_table.specs.Log.{events}
+use Rattle.gc_table.specs.Log.{event, events}
 use Rattle.gc_table.proofs.Running.{ran-events, ran-join, ran-only}
 use Rattle.gc_cycle.specs.Events.{never}
 use Rattle.gc_cycle.specs.Finishing.{finishes}
@@ -58,3 +59,13 @@ returns-clause-freed g c =
     let two = none-in frees Clear (frees-none Clear refl) w x p in
     let three = c.begin_again.ensures.freed in
     omega (arith, all, later, one, two, three)
+
+pub returns-clause-clears : goal.returns-clause-clears
+returns-clause-clears g c =
+    let v : View = view_of c.args.seat.now in
+    let w : View = view_of c.begin_clear.new.seat in
+    let x : View = view_of c.clear_rest.new.seat in
+    let y : View = view_of c.begin_again.new.seat in
+    let m = c.begin_clear.ensures.moved in
+    let rest = ran-join w x y c.clear_rest.ensures.part.ran c.begin_again.ensures.begun.ran in
+    (events w y, ran-events v w y m.ran rest ∙ ap (λ es. es ++ events w y) (m.events_are ∙ ap (λ n. event (StorePhase Clear) n ∷ []) m.from_is))

@@ -1,4 +1,4 @@
-use Rattle.std.proofs.Common.{◌∙◌, arith, ap}
+use Rattle.std.proofs.Common.{◌∙◌, arith, ap, []}
 use Rattle.gc_table.specs.Log.{events}
 use Rattle.gc_table.specs.Seats.{view_of}
 use Rattle.gc_table.specs.declared.view.View.{View}
@@ -12,6 +12,7 @@ use Rattle.gc_cycle.specs.Sorts.{raises_flag}
 use Rattle.gc_cycle.proofs.Collected.{section-kept, tries-spare}
 use Rattle.gc_cycle.proofs.Fulls.{tells-more, tells-none}
 use Rattle.gc_cycle.proofs.Goings.{count-calls}
+use Rattle.gc_cycle.proofs.Changes.{by-none, numbers-join, numbers-one}
 use Rattle.gc_cycle.proofs.collecting.collect.Goals as goal
 
 pub loop-init : goal.loop-init
@@ -26,6 +27,7 @@ loop-init g c =
       ran = ran-refl u;
       only = only-none tries_stopping u;
       calm = ap (count_of raises_flag) (events-none u);
+      numbers = numbers-one [] u u (by-none u);
       tells = tells-none u;
     }
 
@@ -46,6 +48,7 @@ loop-preserved g c =
       ran = ran-join u v w i.ran e.ran;
       only = ran-only tries_stopping u v w i.ran e.ran i.only n.only;
       calm = count-calls u v w 0 0 i.ran e.ran i.calm n.calm;
+      numbers = numbers-join [] u v w i.numbers e.numbers;
       tells = tells-more u v w i.ran e.ran n.only i.tells;
     }
 
@@ -97,3 +100,7 @@ returns-in-Some-collect_once-clause-spares g c =
     let e = c.collect_once.ensures in
     let k = section-kept u w (ran-join u v w i.ran e.ran) (ran-only spares_section u v w i.ran e.ran (tries-spare u v i.only) e.only) in
     k.3
+
+pub returns-in-Some-collect_once-clause-numbers : goal.returns-in-Some-collect_once-clause-numbers
+returns-in-Some-collect_once-clause-numbers g c =
+    numbers-join [] (view_of c.args.seat.now) (view_of c.loop.seat) (view_of c.collect_once.new.seat) c.loop.invariant.numbers c.collect_once.ensures.numbers

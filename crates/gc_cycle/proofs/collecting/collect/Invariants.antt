@@ -1,4 +1,4 @@
-use Rattle.std.proofs.Common.{◌≡◌, None}
+use Rattle.std.proofs.Common.{[], ◌≡◌, None}
 use Rattle.gc_table.specs.Log.{Only, events}
 use Rattle.gc_table.specs.Running.{Ran}
 use Rattle.gc_table.specs.Seats.{Sits, view_of}
@@ -7,6 +7,7 @@ use Rattle.gc_cycle.specs.Answering.{TellsFull}
 use Rattle.gc_cycle.specs.Mutating.{tries_stopping}
 use Rattle.gc_cycle.specs.Sorts.{raises_flag}
 use Rattle.gc_cycle.specs.Standing.{Mutates}
+use Rattle.gc_cycle.specs.Statistics.{ChangesNumbers}
 use Rattle.gc_cycle.proofs.collecting.collect.Given as goal
 
 abbrev pub invariant-loop : goal.invariant-loop
@@ -19,5 +20,6 @@ invariant-loop g l = record {
   ran : Ran (view_of l.fn.seat) (view_of l.seat);
   only : Only tries_stopping (view_of l.fn.seat) (view_of l.seat);
   calm : count_of raises_flag (events (view_of l.fn.seat) (view_of l.seat)) ≡ 0;
+  numbers : ChangesNumbers [] (view_of l.fn.seat) (view_of l.seat);
   tells : TellsFull (view_of l.fn.seat) (view_of l.seat);
 }

@@ -1,11 +1,14 @@
 use Rattle.gc_table.specs.Seats.{view_of}
 use Rattle.gc_table.specs.declared.view.View.{View}
-use Rattle.std.proofs.Common.{refl}
+use Rattle.std.proofs.Common.{refl, []}
 use Rattle.gc_cycle.proofs.Collected.{ends-at_full, ends-collected, full-alone, exactly-collects, holds-phase, resumed-mutates}
 use Rattle.gc_cycle.proofs.Goings.{is-done}
 use Rattle.gc_cycle.specs.Moments.{begins}
 use Rattle.gc_table.specs.Log.{events}
 use Rattle.mark_core.specs.declared.kinds.Phase.TheVariants.{Full, Idle}
+use Rattle.mark_core.specs.declared.kinds.Step.TheVariants.{DropStep}
+use Rattle.gc_cycle.proofs.Changes.{changes-after, numbers-after, numbers-one}
+use Rattle.gc_cycle.specs.Statistics.{EndsCycle}
 use Rattle.gc_cycle.proofs.collecting.collect_in_stop.Goals as goal
 
 pub resume-requires-clause-alone : goal.resume-requires-clause-alone
@@ -43,3 +46,20 @@ returns-clause-ends g c =
     let w : View = view_of c.precise.new.seat in
     let p = c.precise.ensures in
     (ends-collected v w (view_of c.resume-2.new.seat) c.requires.stopped (holds-phase v c.requires.stopped c.if-has_seen_full.ensures.other).1 p.ran p.only p.spares p.calm p.going (exactly-collects c.args.heap.now.shape (begins v) (events v w) p.collects) p.alone.0.rest c.resume-2.ensures.ran c.resume-2.ensures.step).1
+
+pub returns-then-has_seen_full-clause-numbers : goal.returns-then-has_seen_full-clause-numbers
+returns-then-has_seen_full-clause-numbers g c =
+    let v : View = view_of c.args.seat.now in
+    let w : View = view_of c.resume.new.seat in
+    let t = c.resume.ensures.step in
+    numbers-one [] v w (changes-after v w DropStep t.0 refl c.resume.ensures.ran t.1.0)
+
+pub returns-clause-numbers : goal.returns-clause-numbers
+returns-clause-numbers g c =
+    let v : View = view_of c.args.seat.now in
+    let w : View = view_of c.precise.new.seat in
+    let x : View = view_of c.resume-2.new.seat in
+    let p = c.precise.ensures in
+    let t = c.resume-2.ensures.step in
+    let e : EndsCycle v w = record { ran = p.ran; only = p.only; alone = c.requires.stopped.rest; idle = p.alone.0; drains = p.drains; help = p.help; counts = c.precise.result; end = p.end; rescanned = p.rescanned; freed = p.freed } in
+    numbers-after [] v w x e (numbers-one [] w x (changes-after w x DropStep t.0 refl c.resume-2.ensures.ran t.1.0))

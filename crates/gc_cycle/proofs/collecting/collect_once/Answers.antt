@@ -1,4 +1,4 @@
-use Rattle.std.proofs.Common.{◌∙◌, ap, Bool}
+use Rattle.std.proofs.Common.{◌∙◌, ap, Bool, []}
 use Rattle.std.specs.Prelude.{if◌then◌else◌}
 use Rattle.gc_table.specs.Seats.{view_of}
 use Rattle.gc_table.specs.Log.{events}
@@ -8,6 +8,7 @@ use Rattle.packet_pools.specs.Counts.{count_of}
 use Rattle.gc_cycle.specs.Sorts.{raises_flag}
 use Rattle.gc_cycle.proofs.Answered.{full-later}
 use Rattle.gc_cycle.proofs.Collected.{answers-section, answers-uncounted, goes-collected, held, none-raised, stopped, tells-tried, tried}
+use Rattle.gc_cycle.proofs.Changes.{by-join, numbers-collected, numbers-one, only-changes}
 use Rattle.gc_cycle.proofs.collecting.collect_once.Goals as goal
 
 pub collect_in_stop-requires-clause-stopped : goal.collect_in_stop-requires-clause-stopped
@@ -183,3 +184,26 @@ returns-clause-some g c =
     let l = c.ends_full-2.ensures in
     let d = stopped u v w x y e.ran e.only t.tries (t.raises ∙ ap (λ (b : Bool). if b then 1 else 0) c.if-not-stop.false) i.ends l.ran l.only in
     λ z r k. let b = tells-tried z u v w r k e.ran e.only t.tries in goes-collected c.args.done z w x y b.0 b.1 t.position i.ends.ran l.ran i.ends c.if-ends_full-2.ensures.going
+
+pub returns-then-ends_full-clause-numbers : goal.returns-then-ends_full-clause-numbers
+returns-then-ends_full-clause-numbers g c = numbers-one [] (view_of c.args.seat.now) (view_of c.ends_full.new.seat) c.ends_full.ensures.numbers
+
+pub returns-then-not-stop-clause-numbers : goal.returns-then-not-stop-clause-numbers
+returns-then-not-stop-clause-numbers g c =
+    let u : View = view_of c.args.seat.now in
+    let v : View = view_of c.ends_full.new.seat in
+    let w : View = view_of c.stop.new.seat in
+    let t = c.stop.ensures in
+    numbers-one [] u w (by-join [] [] u v w c.ends_full.ensures.numbers (only-changes (view_of c.ends_full.new.seat) (view_of c.stop.new.seat) t.tries.ran t.numbers))
+
+pub returns-then-ends_full-2-clause-numbers : goal.returns-then-ends_full-2-clause-numbers
+returns-then-ends_full-2-clause-numbers g c =
+    let t = c.stop.ensures in
+    numbers-collected (view_of c.args.seat.now) (view_of c.ends_full.new.seat) (view_of c.stop.new.seat) (view_of c.collect_in_stop.new.seat) (view_of c.ends_full-2.new.seat)
+    c.ends_full.ensures.numbers (only-changes (view_of c.ends_full.new.seat) (view_of c.stop.new.seat) t.tries.ran t.numbers) c.collect_in_stop.ensures.numbers c.ends_full-2.ensures.numbers
+
+pub returns-clause-numbers : goal.returns-clause-numbers
+returns-clause-numbers g c =
+    let t = c.stop.ensures in
+    numbers-collected (view_of c.args.seat.now) (view_of c.ends_full.new.seat) (view_of c.stop.new.seat) (view_of c.collect_in_stop.new.seat) (view_of c.ends_full-2.new.seat)
+    c.ends_full.ensures.numbers (only-changes (view_of c.ends_full.new.seat) (view_of c.stop.new.seat) t.tries.ran t.numbers) c.collect_in_stop.ensures.numbers c.ends_full-2.ensures.numbers

@@ -1,11 +1,12 @@
-use Rattle.std.proofs.Common.{◌∙◌, None, refl, ap}
-use Rattle.mark_core.specs.declared.kinds.Step.TheVariants.{ReadPhase}
+use Rattle.std.proofs.Common.{◌∙◌, None, refl, ap, []}
+use Rattle.mark_core.specs.declared.kinds.Step.TheVariants.{ReadPhase, StorePosition}
 use Rattle.gc_table.specs.Seats.{view_of}
 use Rattle.gc_table.specs.declared.view.View.{View}
 use Rattle.gc_table.proofs.Log.{only-none}
-use Rattle.gc_table.proofs.Running.{ran-refl, ran-took}
+use Rattle.gc_table.proofs.Running.{ran-refl, ran-took, ran-stored}
 use Rattle.gc_cycle.specs.Answering.{retires}
 use Rattle.gc_cycle.proofs.Answered.{cached-still, ends-full}
+use Rattle.gc_cycle.proofs.Changes.{by-join, changes-after}
 use Rattle.gc_cycle.proofs.collecting.ends_full.Goals as goal
 
 pub returns-then-not-finds_full-clause-ran : goal.returns-then-not-finds_full-clause-ran
@@ -34,3 +35,20 @@ returns-clause-full c =
     let f = c.if-not-finds_full.ensures.full in
     let e = ends-full v w w (view_of c.store_position.new.seat) c.args.done t f.1 f.0 (ran-refl w) (only-none retires w) c.finds_full.ensures.seat.1 (ap (λ (x : View). x.state.cache) t.1.0 ∙ c.requires.cache) refl c.store_position.ensures.view in
     (e.2, e.3)
+
+pub returns-then-not-finds_full-clause-numbers : goal.returns-then-not-finds_full-clause-numbers
+returns-then-not-finds_full-clause-numbers c =
+    let v : View = view_of c.args.seat.now in
+    let w : View = view_of c.finds_full.new.seat in
+    let t = c.finds_full.ensures.read in
+    changes-after v w ReadPhase t.0 refl (ran-took v w ReadPhase refl t) t.1.0
+
+pub returns-clause-numbers : goal.returns-clause-numbers
+returns-clause-numbers c =
+    let v : View = view_of c.args.seat.now in
+    let w : View = view_of c.finds_full.new.seat in
+    let x : View = view_of c.store_position.new.seat in
+    let t = c.finds_full.ensures.read in
+    let s = c.store_position.ensures.view in
+    by-join [] [] v w x (changes-after v w ReadPhase t.0 refl (ran-took v w ReadPhase refl t) t.1.0)
+    (changes-after w x (StorePosition c.args.done) c.args.done refl (ran-stored w x (StorePosition c.args.done) refl s) s)

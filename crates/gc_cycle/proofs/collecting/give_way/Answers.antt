@@ -1,8 +1,13 @@
-use Rattle.std.proofs.Common.{◌∙◌, sym, ap, subst, is_some}
+use Rattle.std.proofs.Common.{◌∙◌, sym, ap, subst, is_some, refl, []}
 use Rattle.gc_table.specs.Seats.{view_of}
 use Rattle.gc_table.specs.declared.view.View.{View}
 use Rattle.gc_cycle.specs.Answering.{GivesWay}
 use Rattle.gc_cycle.proofs.Answered.{cached-still, gave-way, kept-way, polled-mutates}
+use Rattle.gc_table.proofs.Log.{events-after}
+use Rattle.gc_cycle.specs.Events.{never}
+use Rattle.gc_cycle.specs.Sorts.{claims}
+use Rattle.mark_core.specs.declared.kinds.Step.TheVariants.{Observe}
+use Rattle.gc_cycle.proofs.Changes.{by-join, changes-after, gives-join, keeps-up, only-changes}
 use Rattle.gc_cycle.proofs.collecting.give_way.Goals as goal
 
 pub returns-then-not-poll-clause-seat : goal.returns-then-not-poll-clause-seat
@@ -34,3 +39,26 @@ returns-clause-gives g c =
     let i = c.go_in.ensures in
     subst (λ kept. GivesWay c.args.cache.now kept c.args.done (view_of c.args.seat.now) (view_of c.go_in.new.seat)) (sym r.none)
     (gave-way (view_of c.args.seat.now) (view_of c.poll.new.seat) (view_of c.retire_some.new.seat) (view_of c.go_out.new.seat) (view_of c.go_in.new.seat) c.args.cache.now c.args.done t.0 o.left.0 c.poll.ensures.ran t.1 (sym t.3 ∙ c.if-not-poll.false) r.ran r.only o.out o.left.1 o.position i.entered i.waits i.offered)
+
+pub returns-then-not-poll-clause-numbers : goal.returns-then-not-poll-clause-numbers
+returns-then-not-poll-clause-numbers g c =
+    let v : View = view_of c.args.seat.now in
+    let w : View = view_of c.poll.new.seat in
+    let t = c.poll.ensures.step in
+    keeps-up c.args.cache.now v w (changes-after v w Observe t.0 refl c.poll.ensures.ran t.1)
+
+pub returns-clause-numbers : goal.returns-clause-numbers
+returns-clause-numbers g c =
+    let u : View = view_of c.args.seat.now in
+    let v : View = view_of c.poll.new.seat in
+    let w : View = view_of c.retire_some.new.seat in
+    let x : View = view_of c.go_out.new.seat in
+    let y : View = view_of c.go_in.new.seat in
+    let t = c.poll.ensures.step in
+    let o = c.go_out.ensures in
+    let i = c.go_in.ensures in
+    let old = c.args.cache.now in
+    let new = c.retire_some.new.cache in
+    gives-join old old new u v y (keeps-up old u v (changes-after u v Observe t.0 refl c.poll.ensures.ran t.1))
+    (gives-join old new new v w y c.retire_some.ensures.numbers
+    (keeps-up new w y (by-join [] [] w x y (only-changes w x o.out.ran o.numbers) (only-changes x y i.entered.out.ran i.numbers))))

@@ -1,9 +1,13 @@
 use Rattle.std.proofs.Common.{refl, ap}
-use Rattle.mark_core.specs.declared.kinds.Step.TheVariants.{ReadPhase}
+use Rattle.mark_core.specs.declared.kinds.Step.TheVariants.{ReadPhase, StorePosition}
 use Rattle.gc_table.specs.Seats.{view_of}
 use Rattle.gc_table.specs.declared.view.View.{View}
-use Rattle.gc_table.proofs.Running.{ran-took}
+use Rattle.gc_table.proofs.Running.{ran-took, ran-stored}
 use Rattle.gc_cycle.proofs.Answered.{cached-still, ends-full}
+use Rattle.gc_table.proofs.Log.{events-after}
+use Rattle.gc_cycle.specs.Events.{never}
+use Rattle.gc_cycle.specs.Sorts.{claims}
+use Rattle.gc_cycle.proofs.Changes.{changes-after, gives-join, keeps-up}
 use Rattle.gc_cycle.proofs.collecting.goes_on.Goals as goal
 
 pub returns-then-not-finds_full-clause-ran : goal.returns-then-not-finds_full-clause-ran
@@ -40,3 +44,24 @@ returns-clause-full c =
     let r = c.retire_some.ensures in
     let e = ends-full (view_of c.args.seat.now) (view_of c.finds_full.new.seat) (view_of c.retire_some.new.seat) (view_of c.store_position.new.seat) c.args.done c.finds_full.ensures.read f.1 f.0 r.ran r.only r.seat.1 r.cache r.seen c.store_position.ensures.view in
     ((e.2, e.3), r.none)
+
+pub returns-then-not-finds_full-clause-numbers : goal.returns-then-not-finds_full-clause-numbers
+returns-then-not-finds_full-clause-numbers c =
+    let v : View = view_of c.args.seat.now in
+    let w : View = view_of c.finds_full.new.seat in
+    let t = c.finds_full.ensures.read in
+    keeps-up c.args.cache.now v w (changes-after v w ReadPhase t.0 refl (ran-took v w ReadPhase refl t) t.1.0)
+
+pub returns-clause-numbers : goal.returns-clause-numbers
+returns-clause-numbers c =
+    let v : View = view_of c.args.seat.now in
+    let w : View = view_of c.finds_full.new.seat in
+    let x : View = view_of c.retire_some.new.seat in
+    let y : View = view_of c.store_position.new.seat in
+    let t = c.finds_full.ensures.read in
+    let s = c.store_position.ensures.view in
+    let done = c.args.done in
+    let old = c.args.cache.now in
+    let new = c.retire_some.new.cache in
+    gives-join old old new v w y (keeps-up old v w (changes-after v w ReadPhase t.0 refl (ran-took v w ReadPhase refl t) t.1.0))
+    (gives-join old new new w x y c.retire_some.ensures.numbers (keeps-up new x y (changes-after x y (StorePosition done) done refl (ran-stored x y (StorePosition done) refl s) s)))

@@ -2,9 +2,23 @@ use Rattle.gc_table.specs.Seats.{view_of}
 use Rattle.gc_table.specs.declared.view.View.{View}
 use Rattle.mark_core.specs.MutatorSteps.{used_bits}
 use Rattle.gc_cycle.proofs.Retired.{retired-only}
+use Rattle.std.proofs.Common.{sym, ◌∙◌, subst, None}
+use Rattle.alloc_cache.specs.declared.cache.Cache.{Cache}
+use Rattle.gc_cycle.proofs.Numbers.{retire-up}
+use Rattle.gc_cycle.specs.Statistics.{GivesUp}
+use Rattle.gc_cycle.proofs.Changes.{by-none, keeps-up}
 use Rattle.gc_cycle.proofs.collecting.retire_some.Goals as goal
 
 pub returns-in-Some-clause-only : goal.returns-in-Some-clause-only
 returns-in-Some-clause-only c =
     let v : View = view_of c.args.seat.now in
     retired-only v (view_of c.retire.new.seat) c.in-Some.cache (used_bits v.state.cache) c.retire.ensures.steps
+
+pub returns-in-Some-clause-numbers : goal.returns-in-Some-clause-numbers
+returns-in-Some-clause-numbers c =
+    let v : View = view_of c.args.seat.now in
+    let w : View = view_of c.retire.new.seat in
+    let e = c.retire.ensures in
+    let h : Cache = c.in-Some.cache in
+    subst (λ k. GivesUp c.args.cache.now k v w) (sym c.take.ensures.after)
+    (subst (λ o. GivesUp o None v w) (sym (sym c.take.ensures.value ∙ c.in-Some.is)) (retire-up h (used_bits v.state.cache) v w e.ran e.steps))

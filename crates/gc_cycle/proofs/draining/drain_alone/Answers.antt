@@ -12,6 +12,7 @@ use Rattle.gc_cycle.specs.Finishing.{IsAloneIn}
 use Rattle.gc_cycle.specs.Helping.{rescanned_in}
 use Rattle.card_clean.specs.Leaving.{rescans}
 use Rattle.gc_cycle.proofs.Completing.{total-run}
+use Rattle.gc_cycle.proofs.DrainRounds.{begins-rounds, drains-alone, goes-on, goes-round}
 use Rattle.gc_cycle.proofs.Moving.{may-reset_drain}
 use Rattle.gc_cycle.proofs.Parts.{only-reset, part-join, part-reset}
 use Rattle.gc_cycle.proofs.Traced.{rescans-none, traced-part}
@@ -38,7 +39,7 @@ loop-init g c =
     let p = part-reset Drain 1 v w c.reset.ensures.view c.requires.alone in
     let q = c.see_to_roots.ensures.part in
     let none = rescans-none v w x p.ran q.ran (ap (rescanned_in v) (only-reset 1 v w c.reset.ensures.view)) c.see_to_roots.ensures.rescanned in
-    record { next = tt; finite = tt; sits = c.see_to_roots.ensures.seat.0; part = part-join Drain v w x p q; rooted = c.see_to_roots.ensures.seat.1; count = omega (arith, none) }
+    record { next = tt; finite = tt; sits = c.see_to_roots.ensures.seat.0; part = part-join Drain v w x p q; rooted = c.see_to_roots.ensures.seat.1; draining = begins-rounds v x (part-join Drain v w x p q) c.see_to_roots.ensures.seat.1; count = omega (arith, none) }
 
 pub drain_round-requires-clause-alone : goal.drain_round-requires-clause-alone
 drain_round-requires-clause-alone g c =
@@ -65,15 +66,19 @@ loop-preserved g c =
       sits = c.drain_round.ensures.seat;
       part = part-join Drain v w y i.part (part-join Drain w x y p q);
       rooted = c.drain_round.ensures.rooted c.is_drained.ensures.seat.1;
+      draining = goes-on v w y i.draining (goes-round c.args.heap.now.shape w x y i.sits.1 p.ran (c.is_drained.ensures.undrained c.if-is_drained.false) q.ran c.drain_round.ensures.worked);
       count = omega (arith, all, last, none, some, sum, before);
     }
 
-pub returns-then-is_drained-clause-part : goal.returns-then-is_drained-clause-part
-returns-then-is_drained-clause-part g c =
+pub returns-then-is_drained-clause-drains : goal.returns-then-is_drained-clause-drains
+returns-then-is_drained-clause-drains g c =
+    let v : View = view_of c.args.seat.now in
     let w : View = view_of c.loop.seat in
     let x : View = view_of c.is_drained.new.seat in
     let i = c.loop.invariant in
-    part-join Drain (view_of c.args.seat.now) w x i.part (traced-part w x i.part.alone c.is_drained.ensures.traced)
+    let e = c.is_drained.ensures in
+    let p = traced-part w x i.part.alone e.traced in
+    drains-alone c.args.heap.now.shape v w x i.draining i.sits.1 p.ran (e.over c.if-is_drained.true) (part-join Drain v w x i.part p) (e.drained c.if-is_drained.true)
 
 pub returns-then-is_drained-clause-rescanned : goal.returns-then-is_drained-clause-rescanned
 returns-then-is_drained-clause-rescanned g c =

@@ -1,6 +1,7 @@
-use Rattle.std.proofs.Common.{ℕ, ◌≡◌, refl, ap, ◌∙◌, arith, true}
+use Rattle.std.proofs.Common.{ℕ, ◌≡◌, ◌<◌, refl, ap, ◌∙◌, arith, subst, true}
 use Rattle.std.proofs.lemmas.Bool.{false≢true}
 use Rattle.mark_core.specs.declared.kinds.Phase.TheVariants.{Drain}
+use Rattle.mark_core.specs.declared.kinds.Shape.{Shape}
 use Rattle.mark_core.specs.declared.kinds.Step.{Step}
 use Rattle.mark_core.specs.declared.kinds.Step.TheVariants.{CloseStep, SeeHelp}
 use Rattle.mark_core.specs.declared.seat.SeatState.{SeatState}
@@ -34,28 +35,6 @@ help_drain-rescanned-requires-clause-open g c =
     let a = c.scan_all_roots.ensures.part.alone in
     opened Drain w (view_of c.open_help.new.seat) a c.open_help.ensures.step (c.open_help.ensures.phase Drain (alone-phase Drain w a.alone))
 
-pub returns-clause-part : goal.returns-clause-part
-returns-clause-part g c =
-    let v : View = view_of c.args.seat.now in
-    let w : View = view_of c.scan_all_roots.new.seat in
-    let x : View = view_of c.open_help.new.seat in
-    let y : View = view_of c.help_drain-rescanned.new.seat in
-    let z : View = view_of c.close_help.new.seat in
-    let o = c.help_drain-rescanned.ensures.open in
-    let q = c.close_help.ensures in
-    part-join Drain v w z c.scan_all_roots.ensures.part (open-part Drain w x y z c.open_help.ensures.step o.ran o.only q.ran q.only (closed Drain y z o.still q.ran q.state q.phase))
-
-pub returns-clause-opened : goal.returns-clause-opened
-returns-clause-opened g c =
-    let v : View = view_of c.args.seat.now in
-    let w : View = view_of c.scan_all_roots.new.seat in
-    let x : View = view_of c.open_help.new.seat in
-    let y : View = view_of c.help_drain-rescanned.new.seat in
-    let z : View = view_of c.close_help.new.seat in
-    let later : Ran x z = ran-join x y z c.help_drain-rescanned.ensures.open.ran c.close_help.ensures.ran in
-    ap (some_event opens) (ran-events v w z c.scan_all_roots.ensures.part.ran (ran-join w x z (open-ran w x c.open_help.ensures.step) later))
-    ∙ some-right opens (events v w) (events w z) (open-event w x z c.open_help.ensures.step later)
-
 pub returns-clause-rescanned : goal.returns-clause-rescanned
 returns-clause-rescanned g c =
     let v : View = view_of c.args.seat.now in
@@ -74,21 +53,24 @@ returns-clause-rescanned g c =
 pub open_help-requires-clause-openable : goal.open_help-requires-clause-openable
 open_help-requires-clause-openable g c = openable Drain (view_of c.scan_all_roots.new.seat) c.scan_all_roots.new.seat.possible c.scan_all_roots.ensures.part.alone refl
 
-pub returns-clause-worked : goal.returns-clause-worked
-returns-clause-worked g c =
+pub returns-clause-drains : goal.returns-clause-drains
+returns-clause-drains g c =
     let v : View = view_of c.args.seat.now in
     let w : View = view_of c.scan_all_roots.new.seat in
     let x : View = view_of c.open_help.new.seat in
     let y : View = view_of c.help_drain-rescanned.new.seat in
     let z : View = view_of c.close_help.new.seat in
-    let before : Ran v x = ran-join v w x c.scan_all_roots.ensures.part.ran (open-ran w x c.open_help.ensures.step) in
-    drained-within round_quota v x y z before c.help_drain-rescanned.ensures.open.ran c.close_help.ensures.ran c.help_drain-rescanned.ensures.worked
-
-pub returns-clause-roots : goal.returns-clause-roots
-returns-clause-roots g c = λ s l.
-    let w : View = view_of c.scan_all_roots.new.seat in
-    let x : View = view_of c.open_help.new.seat in
-    let y : View = view_of c.help_drain-rescanned.new.seat in
-    let z : View = view_of c.close_help.new.seat in
-    let later : Ran w z = ran-join w x z (open-ran w x c.open_help.ensures.step) (ran-join x y z c.help_drain-rescanned.ensures.open.ran c.close_help.ensures.ran) in
-    roots-earlier s (view_of c.args.seat.now) w z c.scan_all_roots.ensures.part.ran later (c.scan_all_roots.ensures.roots s l)
+    let scanned = c.scan_all_roots.ensures in
+    let o = c.help_drain-rescanned.ensures.open in
+    let q = c.close_help.ensures in
+    let opening : Ran w x = open-ran w x c.open_help.ensures.step in
+    let later : Ran x z = ran-join x y z o.ran q.ran in
+    let rest : Ran w z = ran-join w x z opening later in
+    record {
+      part = part-join Drain v w z scanned.part (open-part Drain w x y z c.open_help.ensures.step o.ran o.only q.ran q.only (closed Drain y z o.still q.ran q.state q.phase));
+      roots = λ s l. roots-earlier s v w z scanned.part.ran rest (scanned.roots s (subst (λ (sh : Shape). s < sh.sections) c.requires.seat.1 l));
+      opened =
+          ap (some_event opens) (ran-events v w z scanned.part.ran rest)
+          ∙ some-right opens (events v w) (events w z) (open-event w x z c.open_help.ensures.step later);
+      worked = drained-within round_quota v x y z (ran-join v w x scanned.part.ran opening) o.ran q.ran c.help_drain-rescanned.ensures.worked;
+    }

@@ -7,10 +7,12 @@ use Rattle.gc_cycle.specs.Helping.{freed_in, rescanned_in}
 use Rattle.card_clean.specs.Leaving.{rescans}
 use Rattle.sweeper.specs.Freeing.{frees}
 use Rattle.gc_cycle.proofs.Completing.{frees-none, none-in, total-run}
+use Rattle.gc_cycle.specs.Events.{since_last}
 use Rattle.gc_cycle.specs.Finishing.{finishes}
+use Rattle.gc_cycle.specs.Sorts.{moves_to}
 use Rattle.gc_cycle.proofs.Parts.{part-finishes}
 use Rattle.gc_cycle.proofs.Finishes.{begins-later}
-use Rattle.gc_cycle.proofs.Starting.{drain-no-full, either-untold, idle-begins, look-drain-events, look-drain-finishes, look-finishes, look-ran, marking-ran}
+use Rattle.gc_cycle.proofs.Starting.{drain-no-full, either-untold, idle-begins, look-drain-events, look-drain-finishes, look-finishes, look-ran, looked, idle-or-marking, marking-ran}
 use Rattle.gc_cycle.proofs.finishing.begin_exactly.Goals as goal
 
 pub returns-then-idle-clause-begun : goal.returns-then-idle-clause-begun
@@ -49,7 +51,7 @@ returns-clause-begun g c =
     let z : View = view_of c.clear_all_marks.new.seat in
     let t = c.finds_idle-idle.ensures.read in
     let b = c.begin_drain.ensures in
-    let p = c.drain_alone-rescanned.ensures.part in
+    let p = c.drain_alone-rescanned.ensures.drains.part in
     begins-later v y z (ran-join v x y (marking-ran v w x t b.ran) p.ran)
     (ran-only finishes v x y (marking-ran v w x t b.ran) p.ran (look-drain-finishes v w x 1 t b.ran (b.events Marking c.if-idle.ensures.marking)) (part-finishes Drain x y p))
     (drain-no-full v w x y 1 t b.ran (either-untold v w t c.requires.alone) (b.events Marking c.if-idle.ensures.marking) p) c.clear_all_marks.ensures.begun
@@ -63,7 +65,7 @@ returns-clause-rescanned g c =
     let z : View = view_of c.clear_all_marks.new.seat in
     let t = c.finds_idle-idle.ensures.read in
     let b = c.begin_drain.ensures in
-    let p = c.drain_alone-rescanned.ensures.part in
+    let p = c.drain_alone-rescanned.ensures.drains.part in
     let q = c.clear_all_marks.ensures.begun in
     let all = total-run rescans v x z (marking-ran v w x t b.ran) (ran-join x y z p.ran q.ran) in
     let later = total-run rescans x y z p.ran q.ran in
@@ -81,7 +83,7 @@ returns-clause-freed g c =
     let z : View = view_of c.clear_all_marks.new.seat in
     let t = c.finds_idle-idle.ensures.read in
     let b = c.begin_drain.ensures in
-    let p = c.drain_alone-rescanned.ensures.part in
+    let p = c.drain_alone-rescanned.ensures.drains.part in
     let q = c.clear_all_marks.ensures.begun in
     let all = total-run frees v x z (marking-ran v w x t b.ran) (ran-join x y z p.ran q.ran) in
     let later = total-run frees x y z p.ran q.ran in
@@ -89,3 +91,26 @@ returns-clause-freed g c =
     let two = none-in frees Drain (frees-none Drain refl) x y p in
     let three = c.clear_all_marks.ensures.freed in
     omega (arith, all, later, one, two, three)
+
+pub returns-then-idle-clause-first : goal.returns-then-idle-clause-first
+returns-then-idle-clause-first g c a =
+    let v : View = view_of c.args.seat.now in
+    let w : View = view_of c.finds_idle-idle.new.seat in
+    let t = c.finds_idle-idle.ensures.read in
+    absurd (idle-or-marking w c.if-idle.ensures.idle (looked Marking v w t.0 t.1 a))
+
+pub returns-clause-first : goal.returns-clause-first
+returns-clause-first g c a =
+    let v : View = view_of c.args.seat.now in
+    let w : View = view_of c.finds_idle-idle.new.seat in
+    let x : View = view_of c.begin_drain.new.seat in
+    let t = c.finds_idle-idle.ensures.read in
+    let b = c.begin_drain.ensures in
+    record {
+      begun = x;
+      drained = view_of c.drain_alone-rescanned.new.seat;
+      begins = (marking-ran v w x t b.ran, ap (since_last (moves_to Drain)) (look-drain-events v w x 1 t b.ran (b.events Marking c.if-idle.ensures.marking)));
+      alone = c.drain_alone-rescanned.ensures.drains;
+      after = c.clear_all_marks.ensures.begun.ran;
+      clears = c.clear_all_marks.ensures.clears;
+    }

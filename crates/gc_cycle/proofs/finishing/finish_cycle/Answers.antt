@@ -1,10 +1,12 @@
 use Rattle.std.proofs.Common.{refl, sym, ap, ◌∙◌, arith}
-use Rattle.mark_core.specs.declared.kinds.Phase.TheVariants.{Marking}
+use Rattle.mark_core.specs.declared.kinds.Phase.TheVariants.{Drain, Marking}
 use Rattle.gc_table.specs.Seats.{view_of}
 use Rattle.gc_table.specs.declared.view.View.{View}
 use Rattle.gc_table.specs.Log.{all_steps, events}
 use Rattle.gc_table.proofs.Running.{ran-join, ran-only}
+use Rattle.gc_cycle.specs.Events.{since_last}
 use Rattle.gc_cycle.specs.Finishing.{finishes}
+use Rattle.gc_cycle.specs.Sorts.{moves_to}
 use Rattle.card_clean.specs.Leaving.{rescans}
 use Rattle.sweeper.specs.Freeing.{frees}
 use Rattle.gc_cycle.proofs.Finishes.{cycle-help, cycle-not-full, cycle-total}
@@ -55,3 +57,8 @@ returns-clause-position g c = finish-position (view_of c.args.seat.now) (view_of
 
 pub returns-clause-spares : goal.returns-clause-spares
 returns-clause-spares g c = finish-spares (view_of c.args.seat.now) (view_of c.complete.new.seat) (returns-clause-only g c) (returns-clause-not_full g c)
+
+pub returns-clause-drains : goal.returns-clause-drains
+returns-clause-drains g c =
+    let b = c.begin_drain.ensures in
+    record { begun = view_of c.begin_drain.new.seat; begins = (b.ran, ap (since_last (moves_to Drain)) (b.events Marking c.requires.alone)); drains = c.complete.ensures.drains }

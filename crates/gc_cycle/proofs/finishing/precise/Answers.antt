@@ -10,7 +10,7 @@ use Rattle.gc_cycle.specs.Moments.{begins}
 use Rattle.gc_table.proofs.Running.{ran-only}
 use Rattle.gc_cycle.specs.Finishing.{finishes}
 use Rattle.gc_cycle.proofs.Completing.{total-run}
-use Rattle.gc_cycle.proofs.Finishes.{exact-collects, exact-end, exact-help, exact-not-full, exact-ran}
+use Rattle.gc_cycle.proofs.Finishes.{before-more, exact-collects, exact-end, exact-fresh, exact-help, exact-not-full, exact-ran}
 use Rattle.gc_cycle.proofs.Spared.{finish-calm, finish-keeps, finish-position, finish-spares, untold-fills, untold-sees}
 use Rattle.gc_cycle.proofs.finishing.precise.Goals as goal
 
@@ -67,3 +67,11 @@ returns-clause-position g c = finish-position (view_of c.args.seat.now) (view_of
 
 pub returns-clause-spares : goal.returns-clause-spares
 returns-clause-spares g c = finish-spares (view_of c.args.seat.now) (view_of c.complete.new.seat) (returns-clause-only g c) (returns-clause-not_full g c)
+
+pub returns-clause-drains : goal.returns-clause-drains
+returns-clause-drains g c =
+    let b = c.begin_exactly-first.ensures.begun in
+    record { begun = view_of c.begin_exactly-first.new.seat; begins = (b.ran, exact-fresh (view_of c.args.seat.now) (view_of c.begin_exactly-first.new.seat) b); drains = c.complete.ensures.drains }
+
+pub returns-clause-first : goal.returns-clause-first
+returns-clause-first g c a = before-more (view_of c.args.seat.now) (view_of c.begin_exactly-first.new.seat) (view_of c.complete.new.seat) (c.begin_exactly-first.ensures.first a) c.complete.ensures.completes.ran

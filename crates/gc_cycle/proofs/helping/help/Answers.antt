@@ -27,6 +27,8 @@ use Rattle.gc_cycle.specs.Mutating.{GoesOut, stays_calm}
 use Rattle.gc_cycle.specs.Sorts.{gets_block, joins, leaves, pops}
 use Rattle.gc_cycle.proofs.Admitted.{count-none, traces-kept}
 use Rattle.gc_cycle.proofs.Goings.{goes-out}
+use Rattle.gc_cycle.specs.Statistics.{leaves_numbers}
+use Rattle.gc_cycle.proofs.Leaving.{sweeps-leave, traces-leave}
 use Rattle.gc_cycle.proofs.Sequences.{none-of-steps, total-none}
 use Rattle.gc_cycle.proofs.helping.help.Goals as goal
 
@@ -150,6 +152,7 @@ returns-then-sees_sweep c =
       helps = swept-as c.args.quota c.help_sweep.result v w c.if-sees_sweep.ensures.sweep s;
       not_full = o.0.not_full;
       only = o.0.only;
+      numbers = only-more sweeps_next leaves_numbers sweeps-leave v w s.only;
       inside = o.1;
       stays = ap not (none-of-steps sweeps_next joins sweeps-unjoined (events v w) s.only);
       phase = s.phase;
@@ -172,6 +175,7 @@ returns c =
       helps = drained-as c.args.quota c.help_drain.result v w (drain-of v.state.phase_seen c.requires.seat.1.phase c.if-sees_sweep.ensures.other) h c.help_drain.ensures.ends;
       not_full = o.0.not_full;
       only = o.0.only;
+      numbers = only-more traces_cells leaves_numbers traces-leave v w h.drained.only;
       inside = o.1;
       stays = ap not (none-of-steps traces_cells joins traces-unjoined (events v w) h.drained.only);
       phase = h.drained.phase;

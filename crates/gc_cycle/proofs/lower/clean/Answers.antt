@@ -1,4 +1,4 @@
-use Rattle.std.proofs.Common.{ℕ, ◌≡◌, ◌/◌, List, [], ◌∷◌, ◌++◌, append-nil, refl, sym, ap, ◌∙◌, subst, Bool, true, false, not, ⊎_elim, eq-eqb, ◌⊎◌}
+use Rattle.std.proofs.Common.{ℕ, ◌≡◌, List, [], ◌∷◌, ◌++◌, append-nil, refl, sym, ap, ◌∙◌, subst, Bool, true, false, not, ⊎_elim, eq-eqb, ◌⊎◌}
 use Rattle.std.specs.Prelude.{if◌then◌else◌}
 use Rattle.std.proofs.lemmas.Bool.{and_from, false≢true, not-true, or_from, or_left}
 use Rattle.mark_core.specs.Seats.{work_in_hand}
@@ -11,10 +11,10 @@ use Rattle.gc_table.specs.declared.view.Entry.{Entry}
 use Rattle.gc_table.specs.declared.view.View.{View}
 use Rattle.packet_pools.specs.Counts.{scans_object}
 use Rattle.packet_pools.specs.OnlyTraced.{OnlyCleaned, traces_cells}
-use Rattle.packet_pools.specs.Seeking.{moves_packet, NoOutput, only_moves, some_event}
+use Rattle.packet_pools.specs.Seeking.{moves_packet, no_output, NoOutput, only_moves, some_event}
 use Rattle.packet_pools.specs.Tracing.{Traces}
 use Rattle.packet_pools.proofs.Searches.{some-left, some-right}
-use Rattle.tracer.specs.Moments.{front, no_output}
+use Rattle.tracer.specs.Moments.{front}
 use Rattle.tracer.proofs.Moments.{output-front}
 use Rattle.card_clean.specs.Cleaning.{CleansOne, FoundClean, FoundDirty}
 use Rattle.card_clean.specs.declared.cleaned.Cleaned.{Cleaned}

@@ -27,7 +27,7 @@ returns-clause-some c =
     let e = c.in_ok-clean.ensures in
     let t = c.trace-more.ensures in
     let b = c.args.before in
-    let low = c.requires.quota.0 in
+    let low = c.requires.quota in
     none-traces b.quota b.done (record { quota = b.quota; done = b.done + c.trace-more.result.done; stopped = c.trace-more.result.stopped }) v x y
     (none-join v w x (record { traced = n.traced; unpopped = n.unpopped; unread = n.unread; unrooted = n.unrooted }) (record { traced = e.traced; unpopped = e.unpopped; unread = e.unread; unrooted = e.unrooted }))
     (traces-on b.quota (b.quota - b.done) b.done c.trace-more.result x y t.traced t.ends t.most (omega (arith, low)) t.unread t.unrooted)

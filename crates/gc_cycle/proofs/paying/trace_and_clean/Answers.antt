@@ -32,8 +32,7 @@ clean_next-requires-clause-quota c =
     let t = c.loop-card.invariant.traces in
     let q = t.quota_is in
     let m = t.most in
-    let few = c.requires.quota in
-    (omega (arith, q, m), omega (arith, q, few))
+    omega (arith, q, m)
 
 pub returns-in_default-clean_next-clause-traces : goal.returns-in_default-clean_next-clause-traces
 returns-in_default-clean_next-clause-traces c =

@@ -10,13 +10,14 @@ use Rattle.gc_table.specs.Log.{events}
 use Rattle.gc_table.specs.Running.{Known}
 use Rattle.gc_table.specs.Seats.{view_of}
 use Rattle.gc_table.specs.declared.view.View.{View}
-use Rattle.gc_table.proofs.Log.{events-after}
-use Rattle.gc_table.proofs.Running.{ran-events}
+use Rattle.gc_table.proofs.Log.{events-after, only-after}
+use Rattle.gc_table.proofs.Running.{ran-events, ran-only}
 use Rattle.packet_pools.specs.Seeking.{some_event}
 use Rattle.packet_pools.proofs.Searches.{some-left, some-right}
 use Rattle.gc_cycle.specs.Sorts.{reads_all_ones, reads_free_cell}
 use Rattle.gc_cycle.proofs.Parts.{part-join}
 use Rattle.gc_cycle.proofs.Sets.{part-read, read-here, read-kept}
+use Rattle.gc_cycle.specs.Statistics.{leaves_numbers}
 use Rattle.gc_cycle.proofs.refilling.all_allocated.Goals as goal
 
 pub loop-b-preserved : goal.loop-b-preserved
@@ -33,6 +34,7 @@ loop-b-preserved c =
     let es = ran-events u v w i.part.ran p.ran in
     record {
       sits = c.read_alloc.ensures.seat;
+      numbers = ran-only leaves_numbers u v w i.part.ran p.ran i.numbers (only-after leaves_numbers v w (ReadAlloc b) n refl f.0);
       part = part-join Idle u v w i.part p;
       seen =
           below_more _ _ (λ k l. ap (some_event (reads_all_ones k)) es ∙ some-left (reads_all_ones k) (events u v) (events v w) (i.seen k l))
@@ -74,3 +76,12 @@ returns-clause-full c = λ h.
     let far = c.loop-b-test.false in
     let all = ap (λ (s : Shape). block_count s) c.shape-b-end.ensures in
     record { seen = λ k l. c.loop-b.invariant.seen k (omega (arith, far, all, l)); noted = λ k l. (c.loop-b.invariant.noted k (omega (arith, far, all, l))).0 }
+
+pub returns-then-read_alloc-clause-numbers : goal.returns-then-read_alloc-clause-numbers
+returns-then-read_alloc-clause-numbers c =
+    let u : View = view_of c.args.seat.now in
+    let v : View = view_of c.loop-b.seat in
+    let w : View = view_of c.read_alloc.new.seat in
+    let i = c.loop-b.invariant in
+    let f = c.read_alloc.ensures.view in
+    ran-only leaves_numbers u v w i.part.ran (part-read v w c.loop-b.b c.read_alloc.result f i.part.alone).ran i.numbers (only-after leaves_numbers v w (ReadAlloc c.loop-b.b) c.read_alloc.result refl f.0)

@@ -1,4 +1,4 @@
-use Rattle.std.proofs.Common.{refl, sym, ap, ◌∙◌, subst, Some, inr}
+use Rattle.std.proofs.Common.{refl, sym, ap, ◌∙◌, subst, Some, inr, []}
 use Rattle.mark_core.specs.declared.kinds.Shape.{Shape}
 use Rattle.mark_core.specs.declared.seat.SeatState.{SeatState}
 use Rattle.gc_table.specs.Log.{events}
@@ -10,6 +10,8 @@ use Rattle.gc_cycle.proofs.Again.{none-later}
 use Rattle.gc_cycle.specs.Moments.{begins}
 use Rattle.gc_cycle.proofs.Collected.{exactly-collects, full-alone}
 use Rattle.gc_cycle.proofs.InStop.{claims-later, claims-none, fills-caused, fills-own, quiet-finish, rests-held, rests-later}
+use Rattle.gc_cycle.proofs.Changes.{by-none, numbers-after, numbers-one}
+use Rattle.gc_cycle.specs.Statistics.{EndsCycle, taken}
 use Rattle.gc_cycle.proofs.refilling.claim_in_stop.Goals as goal
 
 pub claim_or_collect-requires-clause-alone : goal.claim_or_collect-requires-clause-alone
@@ -82,3 +84,22 @@ returns-in_default-clause-fills g c =
     let f = c.claim_or_fill.ensures in
     fills-caused c.args.heap.now.shape u v (view_of c.claim_or_fill.new.seat) (quiet-finish u v p.ran p.only p.spares p.going) f.claims.ran
     (f.fills (events u v) (exactly-collects c.args.heap.now.shape (begins u) (events u v) p.collects))
+
+pub returns-in-Some-Full-clause-numbers : goal.returns-in-Some-Full-clause-numbers
+returns-in-Some-Full-clause-numbers g c = let v : View = view_of c.args.seat.now in numbers-one [] v v (by-none v)
+
+pub returns-in-Some-Marking-clause-numbers : goal.returns-in-Some-Marking-clause-numbers
+returns-in-Some-Marking-clause-numbers g c =
+    let u : View = view_of c.args.seat.now in
+    let v : View = view_of c.finish_cycle.new.seat in
+    let p = c.finish_cycle.ensures in
+    let e : EndsCycle u v = record { ran = p.ran; only = p.only; alone = c.requires.stopped.rest; idle = p.alone; drains = p.drains; help = p.help; counts = c.finish_cycle.result; end = p.end; rescanned = p.rescanned; freed = p.freed } in
+    numbers-after (taken c.claim_or_collect.result) u v (view_of c.claim_or_collect.new.seat) e c.claim_or_collect.ensures.numbers
+
+pub returns-in_default-clause-numbers : goal.returns-in_default-clause-numbers
+returns-in_default-clause-numbers g c =
+    let u : View = view_of c.args.seat.now in
+    let v : View = view_of c.precise.new.seat in
+    let p = c.precise.ensures in
+    let e : EndsCycle u v = record { ran = p.ran; only = p.only; alone = c.requires.stopped.rest; idle = p.alone.0; drains = p.drains; help = p.help; counts = c.precise.result; end = p.end; rescanned = p.rescanned; freed = p.freed } in
+    numbers-after (taken c.claim_or_fill.result) u v (view_of c.claim_or_fill.new.seat) e c.claim_or_fill.ensures.numbers

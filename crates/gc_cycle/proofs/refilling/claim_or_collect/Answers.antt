@@ -13,6 +13,11 @@ use Rattle.gc_cycle.specs.Sorts.{begins_exactly, ends_cycle}
 use Rattle.gc_cycle.proofs.Collected.{exactly-collects}
 use Rattle.gc_cycle.proofs.InStop.{alone-same, claims-alone, claims-later, fills-caused, quiet-claim, quiet-finish, quiet-join, rests-later, unfills}
 use Rattle.gc_cycle.proofs.Sequences.{followed-later}
+use Rattle.alloc_cache.specs.Claiming.{seeks_block}
+use Rattle.gc_table.proofs.Log.{only-more}
+use Rattle.gc_cycle.proofs.Changes.{numbers-after, numbers-join, numbers-one}
+use Rattle.gc_cycle.specs.Statistics.{EndsCycle, taken}
+use Rattle.gc_cycle.proofs.Numbers.{claim-by, seeks-by}
 use Rattle.gc_cycle.proofs.refilling.claim_or_collect.Goals as goal
 
 collected-after : (sh : Shape) (u v w : View) → Ran u v → Ran v w → collects_exactly sh (begins v) (events v w) ≡ true → collects (events u w) ≡ true
@@ -67,3 +72,21 @@ returns-clause-fills g c =
     fills-caused sh u w (view_of c.claim_or_fill.new.seat)
     (quiet-join u v w (quiet-claim None sh u v c.claim.ensures.ran tt c.in_default.ensures.none) (quiet-finish v w p.ran p.only p.spares p.going))
     f.claims.ran (f.fills (events u w) (collected-after sh u v w c.claim.ensures.ran p.ran p.collects))
+
+pub returns-in-Some-clause-numbers : goal.returns-in-Some-clause-numbers
+returns-in-Some-clause-numbers g c =
+    let u : View = view_of c.args.seat.now in
+    let v : View = view_of c.claim.new.seat in
+    numbers-one (taken (Some c.in-Some.cache)) u v (claim-by c.in-Some.cache u v c.claim.ensures.ran c.in-Some.ensures.some)
+
+pub returns-clause-numbers : goal.returns-clause-numbers
+returns-clause-numbers g c =
+    let u : View = view_of c.args.seat.now in
+    let v : View = view_of c.claim.new.seat in
+    let w : View = view_of c.precise.new.seat in
+    let x : View = view_of c.claim_or_fill.new.seat in
+    let n = c.in_default.ensures.none in
+    let p = c.precise.ensures in
+    let alone = (alone-same u v n.0 c.claim.ensures.ran n.3 c.requires.alone.0).rest in
+    let e : EndsCycle v w = record { ran = p.ran; only = p.only; alone = alone; idle = p.alone.0; drains = p.drains; help = p.help; counts = c.precise.result; end = p.end; rescanned = p.rescanned; freed = p.freed } in
+    numbers-join (taken c.claim_or_fill.result) u v x (numbers-one [] u v (seeks-by u v c.claim.ensures.ran n.3)) (numbers-after (taken c.claim_or_fill.result) v w x e c.claim_or_fill.ensures.numbers)

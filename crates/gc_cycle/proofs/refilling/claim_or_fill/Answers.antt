@@ -1,16 +1,24 @@
-use Rattle.std.proofs.Common.{◌<◌, refl, ap, ◌∙◌, subst, inr}
-use Rattle.std.specs.Prelude.{is_some}
+use Rattle.std.proofs.Common.{◌<◌, refl, ap, ◌∙◌, subst, inr, Option, Some, None, []}
+use Rattle.std.specs.Prelude.{is_some, IfNone}
 use Rattle.mark_core.specs.Layout.{block_count}
-use Rattle.mark_core.specs.declared.kinds.Phase.TheVariants.{Idle}
+use Rattle.mark_core.specs.declared.kinds.Phase.TheVariants.{Idle, Full}
 use Rattle.mark_core.specs.declared.kinds.Shape.{Shape}
 use Rattle.gc_table.specs.Seats.{view_of}
 use Rattle.gc_table.specs.declared.view.View.{View}
-use Rattle.gc_table.proofs.Running.{ran-section}
+use Rattle.gc_table.proofs.Running.{ran-section, ran-stored, ran-found}
 use Rattle.gc_cycle.proofs.Completing.{part-exact}
 use Rattle.gc_cycle.proofs.Filling.{full-claims, full-fills, full-told, looked-missed, may-fill, may-name, named-asked, named-kept, named-part}
-use Rattle.gc_cycle.proofs.InStop.{claims-alone, claims-later, may-claim, quiet-claim, quiet-join, quiet-part, rests-later, unfills}
+use Rattle.gc_cycle.proofs.InStop.{claims-alone, claims-later, may-claim, quiet-claim, quiet-join, quiet-part, rests-later, unfills, ClaimsNone}
 use Rattle.gc_cycle.proofs.Parts.{part-finishes}
 use Rattle.gc_cycle.proofs.Rounds.{some-blocks}
+use Rattle.alloc_cache.specs.Claiming.{seeks_block}
+use Rattle.mark_core.specs.declared.kinds.Step.TheVariants.{StoreNamed, StorePhase}
+use Rattle.mark_core.specs.Effects.{written}
+use Rattle.gc_table.specs.Log.{Only}
+use Rattle.alloc_cache.specs.declared.cache.Cache.{Cache}
+use Rattle.gc_cycle.proofs.Changes.{by-join, changes-after, numbers-one, only-changes}
+use Rattle.gc_cycle.specs.Statistics.{taken}
+use Rattle.gc_cycle.proofs.Numbers.{claim-any}
 use Rattle.gc_cycle.proofs.refilling.claim_or_fill.Goals as goal
 
 pub store_named-requires-clause-may : goal.store_named-requires-clause-may
@@ -83,3 +91,30 @@ returns-clause-fills c = λ before h.
     let w : View = view_of c.claim.new.seat in
     let e = c.claim.ensures in
     unfills c.args.heap.now.shape before u w (quiet-join u v w (quiet-part Idle u v c.all_allocated.ensures.part) (quiet-claim c.claim.result c.args.heap.now.shape v w e.ran e.some e.none)).spares
+
+none-only : (sh : Shape) (o : Option Cache) (v w : View) → IfNone o (ClaimsNone sh v w) → IfNone o (Only seeks_block v w)
+none-only sh None v w n = n.3
+none-only sh (Some h) v w n = tt
+
+pub returns-then-all_allocated-clause-numbers : goal.returns-then-all_allocated-clause-numbers
+returns-then-all_allocated-clause-numbers c =
+    let u : View = view_of c.args.seat.now in
+    let v : View = view_of c.all_allocated.new.seat in
+    let w : View = view_of c.store_named.new.seat in
+    let x : View = view_of c.store_phase.new.seat in
+    let a = c.all_allocated.ensures in
+    let s = c.store_named.ensures.view in
+    let t = c.store_phase.ensures.view in
+    let named = changes-after v w StoreNamed (written v.shape v.state StoreNamed 0) refl (ran-stored v w StoreNamed refl s) s in
+    let full = changes-after w x (StorePhase Full) t.0 refl (ran-found w x (StorePhase Full) t.0 refl (t.1, t.2)) t.1 in
+    numbers-one [] u x (by-join [] [] u v x (only-changes u v a.part.ran a.numbers) (by-join [] [] v w x named full))
+
+pub returns-clause-numbers : goal.returns-clause-numbers
+returns-clause-numbers c =
+    let u : View = view_of c.args.seat.now in
+    let v : View = view_of c.all_allocated.new.seat in
+    let w : View = view_of c.claim.new.seat in
+    let a = c.all_allocated.ensures in
+    let e = c.claim.ensures in
+    let o = c.claim.result in
+    numbers-one (taken o) u w (by-join [] (taken o) u v w (only-changes u v a.part.ran a.numbers) (claim-any o v w e.ran e.some (none-only c.args.heap.now.shape o v w e.none)))

@@ -11,6 +11,8 @@ use Rattle.gc_cycle.proofs.Paced.{seeks-prepare}
 use Rattle.gc_cycle.proofs.Positions.{stored-more}
 use Rattle.gc_cycle.proofs.Claimed.{claims-cached, claims-claimed, claims-only}
 use Rattle.gc_cycle.proofs.Rounds.{calm-stops, leads-caused, leads-prepared, leads-stops, later-some, round-calm, round-later, searched-stops, some-blocks}
+use Rattle.gc_cycle.proofs.RoundNumbers.{claims-refill, leaves-first}
+use Rattle.gc_cycle.proofs.Numbers.{seeks-by}
 use Rattle.gc_cycle.proofs.refilling.claim_or_stop.Goals as goal
 
 pub returns-in-None-clause-round : goal.returns-in-None-clause-round
@@ -60,3 +62,13 @@ returns-in-Some-clause-some g c =
 
 pub pay_for-requires-clause-cache : goal.pay_for-requires-clause-cache
 pay_for-requires-clause-cache g c = claims-cached c.in-Some.cache (view_of c.args.seat.now) (view_of c.claim.new.seat) c.in-Some.ensures.some
+
+pub returns-in-None-clause-numbers : goal.returns-in-None-clause-numbers
+returns-in-None-clause-numbers g c =
+    let v : View = view_of c.args.seat.now in
+    let x : View = view_of c.claim.new.seat in
+    leaves-first c.refill_in_stop.result v x (view_of c.refill_in_stop.new.seat) (seeks-by v x c.claim.ensures.ran c.in-None.ensures.none.3) c.refill_in_stop.ensures.numbers
+
+pub returns-in-Some-clause-numbers : goal.returns-in-Some-clause-numbers
+returns-in-Some-clause-numbers g c =
+    claims-refill c.pay_for.result c.in-Some.cache (view_of c.args.seat.now) (view_of c.claim.new.seat) (view_of c.pay_for.new.seat) c.claim.ensures.ran c.in-Some.ensures.some c.pay_for.ensures.numbers

@@ -1,8 +1,8 @@
-use Rattle.std.proofs.Common.{◌∙◌, refl, subst, sym}
+use Rattle.std.proofs.Common.{◌∙◌, [], ◌∷◌, inl, inr, refl, subst, sym}
 use Rattle.gc_table.specs.Seats.{view_of}
 use Rattle.gc_table.specs.declared.view.View.{View}
-use Rattle.gc_table.proofs.Log.{only-more, only-none}
-use Rattle.gc_table.proofs.Running.{ran-refl}
+use Rattle.gc_table.proofs.Log.{events-none, only-more, only-none}
+use Rattle.gc_table.proofs.Running.{ran-refl, ran-stored, ran-found}
 use Rattle.gc_cycle.specs.Answering.{answers}
 use Rattle.gc_cycle.specs.Mutating.{stays_calm}
 use Rattle.gc_cycle.specs.Payment.{HasPaid, pays_cells}
@@ -12,6 +12,11 @@ use Rattle.gc_cycle.proofs.Collected.{calm-spares}
 use Rattle.gc_cycle.proofs.Fulls.{mutates-still}
 use Rattle.gc_cycle.proofs.Refilled.{gets-free, gets-paid, gives-up, looked-calm, looked-ran, read-idle}
 use Rattle.gc_cycle.proofs.Retired.{owes-none}
+use Rattle.mark_core.specs.declared.kinds.Step.TheVariants.{StorePosition, ReadPhase}
+use Rattle.gc_cycle.proofs.Changes.{by-join, changes-after}
+use Rattle.gc_cycle.proofs.Numbers.{retire-by}
+use Rattle.gc_cycle.specs.Statistics.{gives_back}
+use Rattle.mark_core.specs.MutatorSteps.{used_bits}
 use Rattle.gc_cycle.proofs.refilling.pay_for.Goals as goal
 
 pub retire-requires-clause-owes : goal.retire-requires-clause-owes
@@ -23,6 +28,8 @@ retire-requires-clause-owes c =
 pub returns-in-Full : goal.returns-in-Full
 returns-in-Full c =
     let v : View = view_of c.args.seat.now in
+    let w : View = view_of c.read_phase.new.seat in
+    let x : View = view_of c.retire.new.seat in
     let y : View = view_of c.store_position.new.seat in
     let t = c.read_phase.ensures.view in
     let e = c.retire.ensures in
@@ -31,6 +38,10 @@ returns-in-Full c =
       seat = c.store_position.ensures.seat;
       ran = g.0;
       only = only-more answers stays_calm answers-calm v y g.1;
+      numbers =
+          by-join [] (gives_back c.args.cache ∷ []) v w y (changes-after v w ReadPhase t.0 refl (ran-found v w ReadPhase t.0 refl (t.1, t.2)) t.1)
+          (by-join (gives_back c.args.cache ∷ []) [] w x y (retire-by c.args.cache (used_bits w.state.cache) w x e.ran e.steps)
+          (changes-after x y (StorePosition c.args.done) c.args.done refl (ran-stored x y (StorePosition c.args.done) refl c.store_position.ensures.view) c.store_position.ensures.view));
       known = g.3;
       refills = λ u k. full-later c.args.done u v y k.ran g.0 g.2;
     }
@@ -47,6 +58,7 @@ returns-in-Marking c =
       seat = c.pay-paid.ensures.seat;
       ran = looked-ran v w x t.0 (t.1, t.2) q.ran;
       only = calm;
+      numbers = (refl, inr (by-join [] _ v w x (changes-after v w ReadPhase t.0 refl (ran-found v w ReadPhase t.0 refl (t.1, t.2)) t.1) q.changed));
       known = only-more stays_calm spares_part calm-spares v x calm;
       refills = λ u k. gets-paid c.args.cache c.args.done u v w x t.0 k (t.1, t.2) q.ran q.only c.pay-paid.result c.requires.seat.1 c.requires.cache q (sym t.3 ∙ c.in-Marking.is);
     }
@@ -63,6 +75,7 @@ returns-in_default c =
       seat = c.read_phase.ensures.seat;
       ran = looked-ran v w w t.0 (t.1, t.2) (ran-refl w);
       only = calm;
+      numbers = (refl, inl (changes-after v w ReadPhase t.0 refl (ran-found v w ReadPhase t.0 refl (t.1, t.2)) t.1));
       known = only-more stays_calm spares_part calm-spares v w calm;
-      refills = λ u k. gets-free c.args.cache c.args.done u v w w t.0 k (t.1, t.2) (ran-refl w) (only-none pays_cells w) c.nothing.result m c.requires.cache c.nothing.ensures idle (mutates-still v w t.0 (t.1, t.2) m) refl refl;
+      refills = λ u k. gets-free c.args.cache c.args.done u v w w t.0 k (t.1, t.2) (ran-refl w) (only-none pays_cells w) c.nothing.result m c.requires.cache c.nothing.ensures idle (events-none w) (mutates-still v w t.0 (t.1, t.2) m) refl refl;
     }

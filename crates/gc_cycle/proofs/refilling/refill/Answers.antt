@@ -4,20 +4,22 @@ use Rattle.mark_core.specs.declared.kinds.Shape.{Shape}
 use Rattle.gc_table.specs.Log.{events}
 use Rattle.gc_cycle.specs.Cycles.{fills_with_cause}
 use Rattle.gc_cycle.specs.Stops.{stops_again_with_cause, stops_with_cause}
-use Rattle.std.proofs.Common.{sym, subst, true, ◌≡◌}
+use Rattle.std.proofs.Common.{sym, subst, true, ◌≡◌, []}
 use Rattle.gc_table.proofs.Running.{ran-refl}
 use Rattle.gc_cycle.proofs.Fulls.{tells-none}
 use Rattle.gc_cycle.proofs.Tried.{ends-round, tried-more, tried-none}
+use Rattle.gc_cycle.proofs.RoundNumbers.{refills-later}
+use Rattle.gc_cycle.proofs.Changes.{by-none, numbers-join, numbers-one}
 use Rattle.gc_cycle.proofs.refilling.refill.Goals as goal
 
 pub loop-init : goal.loop-init
-loop-init g c = record { next = tt; finite = tt; sits = c.requires.seat.0; tried = tried-none c.args.done (view_of c.args.seat.now) c.requires.seat.1 c.requires.cache }
+loop-init g c = record { next = tt; finite = tt; sits = c.requires.seat.0; numbers = numbers-one [] (view_of c.args.seat.now) (view_of c.args.seat.now) (by-none (view_of c.args.seat.now)); tried = tried-none c.args.done (view_of c.args.seat.now) c.requires.seat.1 c.requires.cache }
 
 pub loop-preserved : goal.loop-preserved
 loop-preserved g c =
     let i = c.loop.invariant in
     let e = c.refill_once.ensures in
-    record { next = tt; finite = tt; sits = e.seat; tried = tried-more c.args.done (view_of c.args.seat.now) (view_of c.loop.seat) (view_of c.refill_once.new.seat) i.tried c.in_default.ensures.round (subst (λ (sh : Shape). stops_with_cause sh (events (view_of c.loop.seat) (view_of c.refill_once.new.seat)) ≡ true) (sym i.sits.1) e.stops) }
+    record { next = tt; finite = tt; sits = e.seat; numbers = numbers-join [] (view_of c.args.seat.now) (view_of c.loop.seat) (view_of c.refill_once.new.seat) i.numbers c.in_default.ensures.numbers; tried = tried-more c.args.done (view_of c.args.seat.now) (view_of c.loop.seat) (view_of c.refill_once.new.seat) i.tried c.in_default.ensures.round (subst (λ (sh : Shape). stops_with_cause sh (events (view_of c.loop.seat) (view_of c.refill_once.new.seat)) ≡ true) (sym i.sits.1) e.stops) }
 
 pub returns-in-Some-refill_once-clause-ran : goal.returns-in-Some-refill_once-clause-ran
 returns-in-Some-refill_once-clause-ran g c =
@@ -87,3 +89,7 @@ returns-in-Some-refill_once-clause-refills g c =
     let u : View = view_of c.args.seat.now in
     let t = c.loop.invariant.tried in
     c.in-Some-refill_once.ensures.some u t.ran (t.tells u (ran-refl u) (tells-none u)) t.position
+
+pub returns-in-Some-refill_once-clause-numbers : goal.returns-in-Some-refill_once-clause-numbers
+returns-in-Some-refill_once-clause-numbers g c =
+    refills-later _ (view_of c.args.seat.now) (view_of c.loop.seat) (view_of c.refill_once.new.seat) c.loop.invariant.numbers c.in-Some-refill_once.ensures.numbers

@@ -1,4 +1,6 @@
+use Rattle.std.proofs.Common.{[]}
 use Rattle.gc_table.specs.Seats.{Sits, view_of}
+use Rattle.gc_cycle.specs.Statistics.{ChangesNumbers}
 use Rattle.gc_cycle.proofs.Tried.{HasTried}
 use Rattle.gc_cycle.proofs.refilling.refill.Given as goal
 
@@ -7,5 +9,6 @@ invariant-loop g l = record {
   next : (goal.iterator-loop g).can_next l.iterator';
   finite : (goal.iterator-loop g).is_finite l.iterator';
   sits : Sits l.heap l.seat;
+  numbers : ChangesNumbers [] (view_of l.fn.seat) (view_of l.seat);
   tried : HasTried l.fn.done (view_of l.fn.seat) (view_of l.seat);
 }

@@ -1,9 +1,12 @@
-use Rattle.std.proofs.Common.{◌∙◌, ap, Bool}
+use Rattle.std.proofs.Common.{◌∙◌, ap, Bool, []}
 use Rattle.std.specs.Prelude.{if◌then◌else◌}
 use Rattle.gc_table.specs.Seats.{view_of}
 use Rattle.gc_table.specs.declared.view.View.{View}
 use Rattle.gc_cycle.proofs.AfterStop.{done-resuming, round-cache, round-full, round-gets, round-none, round-theirs, to-drop}
 use Rattle.gc_cycle.proofs.Answered.{full-later}
+use Rattle.gc_cycle.proofs.Changes.{numbers-one, only-changes}
+use Rattle.gc_cycle.specs.Statistics.{taken}
+use Rattle.gc_cycle.proofs.RoundNumbers.{stop-full, stop-none, stop-some, stop-takes}
 use Rattle.gc_cycle.proofs.refilling.refill_in_stop.Goals as goal
 
 pub returns-then-not-stop-clause-round : goal.returns-then-not-stop-clause-round
@@ -89,3 +92,38 @@ returns-in-Going-None-clause-round g c =
     let e = c.go_on.ensures in
     let k = rw c.in-Going-None.field-0-is at c.in-Going-None.ensures.answer in
     round-none o u v w x y t once i.claims d e.ran e.only c.args.done c.args.heap.now.shape c.stop.ensures.position c.requires.seat.0.1 c.if-not-stop.ensures.yours.raised i.fills i.full i.missed k e.seat.1
+
+pub returns-then-not-stop-clause-numbers : goal.returns-then-not-stop-clause-numbers
+returns-then-not-stop-clause-numbers g c =
+    let u : View = view_of c.args.seat.now in
+    let v : View = view_of c.stop.new.seat in
+    numbers-one [] u v (only-changes u v c.stop.ensures.tries.ran c.stop.ensures.numbers)
+
+pub returns-in-Full-clause-numbers : goal.returns-in-Full-clause-numbers
+returns-in-Full-clause-numbers g c =
+    let u : View = view_of c.args.seat.now in
+    let v : View = view_of c.stop.new.seat in
+    let x : View = view_of c.resume.new.seat in
+    let o = c.claim_in_stop-cache.result in
+    let k = stop-takes (taken o) u v (view_of c.claim_in_stop-cache.new.seat) x (only-changes u v c.stop.ensures.tries.ran c.stop.ensures.numbers) c.claim_in_stop-cache.ensures.numbers c.resume.ensures.ran c.resume.ensures.step in
+    stop-full o u x (view_of c.go_on.new.seat) k c.in-Full.ensures.numbers
+
+pub returns-in-Going-Some-clause-numbers : goal.returns-in-Going-Some-clause-numbers
+returns-in-Going-Some-clause-numbers g c =
+    let u : View = view_of c.args.seat.now in
+    let v : View = view_of c.stop.new.seat in
+    let x : View = view_of c.resume.new.seat in
+    let o = c.claim_in_stop-cache.result in
+    let k = stop-takes (taken o) u v (view_of c.claim_in_stop-cache.new.seat) x (only-changes u v c.stop.ensures.tries.ran c.stop.ensures.numbers) c.claim_in_stop-cache.ensures.numbers c.resume.ensures.ran c.resume.ensures.step in
+    let going = rw c.in-Going-Some.field-0-is at c.in-Going-Some.ensures.answer in
+    stop-some o c.in-Going-Some.cache c.nothing.result u x (view_of c.go_on.new.seat) going.same k going.looked
+
+pub returns-in-Going-None-clause-numbers : goal.returns-in-Going-None-clause-numbers
+returns-in-Going-None-clause-numbers g c =
+    let u : View = view_of c.args.seat.now in
+    let v : View = view_of c.stop.new.seat in
+    let x : View = view_of c.resume.new.seat in
+    let o = c.claim_in_stop-cache.result in
+    let k = stop-takes (taken o) u v (view_of c.claim_in_stop-cache.new.seat) x (only-changes u v c.stop.ensures.tries.ran c.stop.ensures.numbers) c.claim_in_stop-cache.ensures.numbers c.resume.ensures.ran c.resume.ensures.step in
+    let going = rw c.in-Going-None.field-0-is at c.in-Going-None.ensures.answer in
+    stop-none o u x (view_of c.go_on.new.seat) going.same k going.looked

@@ -7,6 +7,9 @@ use Rattle.gc_table.proofs.Log.{only-more}
 use Rattle.gc_cycle.proofs.Answered.{answers-calm, full-later}
 use Rattle.gc_cycle.proofs.Positions.{stored-more}
 use Rattle.gc_cycle.proofs.Rounds.{calm-stops, later-some, leads-caused, leads-join, leads-looked, leads-prepared, leads-stops, looked-seen, marked-stops, marking-known, paced-after, round-calm, round-later}
+use Rattle.gc_cycle.proofs.RoundNumbers.{leaves-first, leaves-full}
+use Rattle.gc_cycle.proofs.Changes.{by-join}
+use Rattle.std.proofs.Common.{[]}
 use Rattle.gc_cycle.proofs.refilling.refill_once.Goals as goal
 
 pub returns-then-ends_full-clause-round : goal.returns-then-ends_full-clause-round
@@ -86,3 +89,20 @@ returns-clause-some g c =
     let a = leads-looked v w c.if-ends_full.ensures.going in
     let l = leads-join v w x a (leads-prepared w x s.ran s.only) in
     later-some c.claim_or_stop.result (λ r f u q t k. f u (ran-join u v x q l.ran) (l.tells u q t) (stored-more c.args.done u v x q l.ran l.inside k) (paced-after u w x (ran-join u v w q a.ran) s.ran c.if-sees_to_cycle.ensures.paced)) c.claim_or_stop.ensures.some
+
+pub returns-then-ends_full-clause-numbers : goal.returns-then-ends_full-clause-numbers
+returns-then-ends_full-clause-numbers g c = leaves-full (view_of c.args.seat.now) (view_of c.ends_full.new.seat) c.ends_full.ensures.numbers
+
+pub returns-then-sees_to_cycle-clause-numbers : goal.returns-then-sees_to_cycle-clause-numbers
+returns-then-sees_to_cycle-clause-numbers g c =
+    let v : View = view_of c.args.seat.now in
+    let w : View = view_of c.ends_full.new.seat in
+    let x : View = view_of c.sees_to_cycle.new.seat in
+    leaves-first c.refill_in_stop.result v x (view_of c.refill_in_stop.new.seat) (by-join [] [] v w x c.ends_full.ensures.numbers c.sees_to_cycle.ensures.numbers) c.refill_in_stop.ensures.numbers
+
+pub returns-clause-numbers : goal.returns-clause-numbers
+returns-clause-numbers g c =
+    let v : View = view_of c.args.seat.now in
+    let w : View = view_of c.ends_full.new.seat in
+    let x : View = view_of c.sees_to_cycle.new.seat in
+    leaves-first c.claim_or_stop.result v x (view_of c.claim_or_stop.new.seat) (by-join [] [] v w x c.ends_full.ensures.numbers c.sees_to_cycle.ensures.numbers) c.claim_or_stop.ensures.numbers

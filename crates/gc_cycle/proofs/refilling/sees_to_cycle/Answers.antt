@@ -6,6 +6,9 @@ use Rattle.gc_cycle.specs.Pacing.{kicks}
 use Rattle.gc_cycle.specs.Refilling.{looks_for_end, prepares}
 use Rattle.gc_cycle.proofs.Paced.{cycle-kept, kicked-paced, kicks-prepare, looks-prepare}
 use Rattle.gc_cycle.proofs.Rounds.{on-false}
+use Rattle.gc_cycle.proofs.Leaving.{kicks-leave, looks-leave}
+use Rattle.gc_cycle.proofs.Changes.{only-changes}
+use Rattle.gc_cycle.specs.Statistics.{leaves_numbers}
 use Rattle.gc_cycle.proofs.refilling.sees_to_cycle.Goals as goal
 
 pub returns-then-has_seen_marking-clause-only : goal.returns-then-has_seen_marking-clause-only
@@ -23,3 +26,12 @@ returns-clause-only c = only-more kicks prepares kicks-prepare (view_of c.args.s
 
 pub returns-clause-paced : goal.returns-clause-paced
 returns-clause-paced c = let k = c.kick_off.ensures in kicked-paced c.kick_off.result (view_of c.args.seat.now) (view_of c.kick_off.new.seat) k.ran k.only c.requires.seat.1.active k.begins
+
+pub returns-then-has_seen_marking-clause-numbers : goal.returns-then-has_seen_marking-clause-numbers
+returns-then-has_seen_marking-clause-numbers c =
+    let m = c.marking_is_done.ensures in
+    only-changes (view_of c.args.seat.now) (view_of c.marking_is_done.new.seat) m.ran (only-more looks_for_end leaves_numbers looks-leave (view_of c.args.seat.now) (view_of c.marking_is_done.new.seat) m.only)
+
+pub returns-clause-numbers : goal.returns-clause-numbers
+returns-clause-numbers c =
+    let k = c.kick_off.ensures in only-changes (view_of c.args.seat.now) (view_of c.kick_off.new.seat) k.ran (only-more kicks leaves_numbers kicks-leave (view_of c.args.seat.now) (view_of c.kick_off.new.seat) k.only)

@@ -1,17 +1,18 @@
-use Rattle.std.proofs.Common.{◌++◌, sym, ap, ◌∙◌, inr}
+use Rattle.std.proofs.Common.{◌++◌, sym, ap, ◌∙◌, inr, refl}
 use Rattle.mark_core.specs.declared.kinds.Step.TheVariants.{Observe}
 use Rattle.gc_table.specs.Seats.{view_of}
 use Rattle.gc_table.specs.declared.view.View.{View}
 use Rattle.packet_pools.specs.Seeking.{some_event}
 use Rattle.packet_pools.proofs.Searches.{some-left, some-right}
 use Rattle.gc_table.specs.Log.{events}
-use Rattle.gc_table.proofs.Log.{events-after}
-use Rattle.gc_table.proofs.Running.{ran-events, ran-join}
+use Rattle.gc_table.proofs.Log.{events-after, only-after}
+use Rattle.gc_table.proofs.Running.{ran-events, ran-join, ran-only}
 use Rattle.gc_cycle.specs.Events.{never}
 use Rattle.gc_cycle.specs.Sorts.{joins, leaves}
 use Rattle.gc_cycle.proofs.Waits.{stays-join, stays-look}
 use Rattle.gc_cycle.proofs.Goings.{offered-last, out-join, polled-out, resumed-last}
 use Rattle.gc_cycle.proofs.Turns.{apart-look, turns-join, turns-none, turns-once}
+use Rattle.gc_cycle.specs.Statistics.{leaves_numbers}
 use Rattle.gc_cycle.proofs.stopping.await_resumed_helping.Goals as goal
 
 pub loop-preserved : goal.loop-preserved
@@ -44,6 +45,9 @@ loop-preserved g c =
           inr
           (ap (some_event joins) (ran-events u w y (out-join u v w i.goes p.0).ran to_y.ran)
           ∙ some-right joins (events u w) (events w y) (ap (some_event joins) helped ∙ some-left joins (events w x) (events x y) h.offered));
+      numbers =
+          ran-only leaves_numbers u v y i.goes.ran from_v.ran i.numbers
+          (ran-only leaves_numbers v w y c.poll.ensures.ran to_y.ran (only-after leaves_numbers v w Observe t.0 refl t.1) (ran-only leaves_numbers w x y h.out.ran q.out.ran h.numbers q.numbers));
       helps =
           turns-join u v y i.helps
           (turns-join v w y (turns-none v w (apart-look v w t.0 c.poll.ensures.ran t.1)) (turns-join w x y (turns-once w x h.helps) (turns-none x y (record { ran = q.out.ran; apart = q.apart }))));
@@ -95,3 +99,11 @@ returns-then-not-poll-clause-helps g c =
     let w : View = view_of c.poll.new.seat in
     let t = c.poll.ensures.step in
     turns-join (view_of c.args.seat.now) v w c.loop.invariant.helps (turns-none v w (apart-look v w t.0 c.poll.ensures.ran t.1))
+
+pub returns-then-not-poll-clause-numbers : goal.returns-then-not-poll-clause-numbers
+returns-then-not-poll-clause-numbers g c =
+    let v : View = view_of c.loop.seat in
+    let w : View = view_of c.poll.new.seat in
+    let i = c.loop.invariant in
+    let t = c.poll.ensures.step in
+    ran-only leaves_numbers (view_of c.args.seat.now) v w i.goes.ran c.poll.ensures.ran i.numbers (only-after leaves_numbers v w Observe t.0 refl t.1)

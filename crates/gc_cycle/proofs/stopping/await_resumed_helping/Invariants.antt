@@ -2,9 +2,10 @@ use Rattle.gc_table.specs.Seats.{Sits, view_of}
 use Rattle.std.proofs.Common.{◌≡◌, true}
 use Rattle.gc_cycle.specs.Events.{never}
 use Rattle.gc_cycle.specs.Sorts.{leaves}
-use Rattle.gc_table.specs.Log.{events}
+use Rattle.gc_table.specs.Log.{events, Only}
 use Rattle.gc_cycle.specs.Mutating.{GoesOut}
 use Rattle.gc_cycle.specs.Standing.{IsOut}
+use Rattle.gc_cycle.specs.Statistics.{leaves_numbers}
 use Rattle.gc_cycle.specs.Turns.{HelpsInTurns}
 use Rattle.gc_cycle.proofs.Goings.{Offered}
 use Rattle.gc_cycle.proofs.stopping.await_resumed_helping.Given as goal
@@ -19,5 +20,6 @@ invariant-loop g l = record {
   own : (view_of l.seat).own ≡ (view_of l.fn.seat).own;
   offered : Offered (events (view_of l.fn.seat) (view_of l.seat));
   inside : never leaves (events (view_of l.fn.seat) (view_of l.seat)) ≡ true;
+  numbers : Only leaves_numbers (view_of l.fn.seat) (view_of l.seat);
   helps : HelpsInTurns (view_of l.fn.seat) (view_of l.seat);
 }

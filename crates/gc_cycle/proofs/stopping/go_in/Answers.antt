@@ -1,10 +1,10 @@
 use Rattle.std.proofs.Common.{ℕ, ◌≡◌, List, [], ◌∷◌, ◌++◌, append_assoc, refl, ap, ◌∙◌, true}
 use Rattle.mark_core.specs.declared.kinds.Step.TheVariants.{EnterStep, LeaveStep}
-use Rattle.gc_table.specs.Log.{event, events}
+use Rattle.gc_table.specs.Log.{event, events, all_steps}
 use Rattle.gc_table.specs.Running.{Ran}
 use Rattle.gc_table.specs.declared.view.Entry.{Entry}
-use Rattle.gc_table.proofs.Log.{events-none, only-more}
-use Rattle.gc_table.proofs.Running.{ran-events, ran-join}
+use Rattle.gc_table.proofs.Log.{events-none, only-more, only-none}
+use Rattle.gc_table.proofs.Running.{ran-events, ran-join, ran-only}
 use Rattle.gc_cycle.specs.Answering.{waits_helping}
 use Rattle.gc_cycle.specs.Events.{never}
 use Rattle.gc_cycle.specs.Mutating.{stays_calm}
@@ -18,6 +18,7 @@ use Rattle.gc_table.specs.Seats.{view_of}
 use Rattle.gc_table.specs.declared.view.View.{View}
 use Rattle.gc_cycle.proofs.Goings.{enters-in, goes-out, out-join, out-none, turns-out}
 use Rattle.gc_cycle.proofs.Turns.{apart-none, turns-join, turns-none}
+use Rattle.gc_cycle.specs.Statistics.{leaves_numbers}
 use Rattle.gc_cycle.proofs.stopping.go_in.Goals as goal
 
 goes-waiting : (u v w x : View) (n m : ℕ) → Ran u v → Ran v w → Ran w x → events w x ≡ event EnterStep n ∷ event LeaveStep m ∷ [] → ((ys : List Entry) → waits_helping ys ≡ true → offered_help ys ≡ true → waits_helping (events u v ++ ys) ≡ true) → never leaves (events v w) ≡ true → offered_help (events v w) ≡ true → (ys : List Entry) → waits_helping ys ≡ true → offered_help ys ≡ true → waits_helping (events u x ++ ys) ≡ true
@@ -42,6 +43,7 @@ loop-init g c =
       own = refl;
       waits = λ ys p q. ap (λ es. waits_helping (es ++ ys)) (events-none u) ∙ p;
       offered = ap offered_help (events-none u);
+      numbers = only-none leaves_numbers u;
       helps = turns-none u u (apart-none u);
     }
 
@@ -67,6 +69,7 @@ loop-preserved g c =
           ap offered_help (ran-events u v x i.goes.ran (ran-join v w x a.ran c.enter.ensures.ran))
           ∙ offered-join (events u v) (events v x) i.offered
           (ap offered_help (ran-events v w x a.ran c.enter.ensures.ran ∙ ap (λ es. events v w ++ es) b.events) ∙ (turned-waits (events v w) b.word b.left [] a.inside a.offered refl refl).1);
+      numbers = ran-only leaves_numbers u v x i.goes.ran (ran-join v w x a.ran c.enter.ensures.ran) i.numbers (ran-only leaves_numbers v w x a.ran c.enter.ensures.ran a.numbers (ap (all_steps leaves_numbers) b.events));
       helps = turns-join u v x i.helps (turns-join v w x a.helps (turns-none w x (record { ran = c.enter.ensures.ran; apart = ap (never joins) b.events })));
     }
 
@@ -138,3 +141,14 @@ returns-then-enter-clause-helps g c =
     let x : View = view_of c.enter.new.seat in
     turns-join (view_of c.args.seat.now) v x c.loop.invariant.helps
     (turns-join v w x c.await_resumed_helping.ensures.helps (turns-none w x (record { ran = c.enter.ensures.ran; apart = ap (never joins) c.if-enter.ensures.enters.events })))
+
+pub returns-then-enter-clause-numbers : goal.returns-then-enter-clause-numbers
+returns-then-enter-clause-numbers g c =
+    let u : View = view_of c.args.seat.now in
+    let v : View = view_of c.loop.seat in
+    let w : View = view_of c.await_resumed_helping.new.seat in
+    let x : View = view_of c.enter.new.seat in
+    let i = c.loop.invariant in
+    let a = c.await_resumed_helping.ensures in
+    ran-only leaves_numbers u v x i.goes.ran (ran-join v w x a.ran c.enter.ensures.ran) i.numbers
+    (ran-only leaves_numbers v w x a.ran c.enter.ensures.ran a.numbers (ap (all_steps leaves_numbers) c.if-enter.ensures.enters.events))

@@ -1,11 +1,12 @@
 use Rattle.gc_table.specs.Seats.{Sits, view_of}
 use Rattle.std.proofs.Common.{◌≡◌, ◌++◌, List, true}
-use Rattle.gc_table.specs.Log.{events}
+use Rattle.gc_table.specs.Log.{events, Only}
 use Rattle.gc_table.specs.declared.view.Entry.{Entry}
 use Rattle.gc_cycle.specs.Answering.{waits_helping}
 use Rattle.gc_cycle.specs.Polling.{offered_help}
 use Rattle.gc_cycle.specs.Mutating.{GoesOut}
 use Rattle.gc_cycle.specs.Standing.{IsOut}
+use Rattle.gc_cycle.specs.Statistics.{leaves_numbers}
 use Rattle.gc_cycle.specs.Turns.{HelpsInTurns}
 use Rattle.gc_cycle.proofs.stopping.go_in.Given as goal
 
@@ -19,5 +20,6 @@ invariant-loop g l = record {
   own : (view_of l.seat).own ≡ (view_of l.fn.seat).own;
   waits : (ys : List Entry) → waits_helping ys ≡ true → offered_help ys ≡ true → waits_helping (events (view_of l.fn.seat) (view_of l.seat) ++ ys) ≡ true;
   offered : offered_help (events (view_of l.fn.seat) (view_of l.seat)) ≡ true;
+  numbers : Only leaves_numbers (view_of l.fn.seat) (view_of l.seat);
   helps : HelpsInTurns (view_of l.fn.seat) (view_of l.seat);
 }

@@ -1,12 +1,13 @@
 use Rattle.std.proofs.Common.{refl, ap, ◌∙◌, ◌++◌, ◌∷◌}
 use Rattle.mark_core.specs.declared.kinds.Step.TheVariants.{LeaveStep, StorePosition}
-use Rattle.gc_table.specs.Log.{event, events}
+use Rattle.gc_table.specs.Log.{event, events, all_steps}
 use Rattle.gc_table.proofs.Log.{events-after}
 use Rattle.gc_table.proofs.Running.{ran-events, ran-stored}
 use Rattle.gc_table.specs.Seats.{view_of}
 use Rattle.gc_table.specs.declared.view.View.{View}
 use Rattle.mark_core.specs.WorldSteps.{has_nothing}
 use Rattle.gc_cycle.proofs.Goings.{free-to-leave, left-out, may-position, mutator-nothing}
+use Rattle.gc_cycle.specs.Statistics.{leaves_numbers}
 use Rattle.gc_cycle.proofs.stopping.go_out.Goals as goal
 
 pub store_position-requires-clause-may : goal.store_position-requires-clause-may
@@ -36,3 +37,6 @@ returns-clause-left c =
     let s = c.store_position.ensures.view in
     let t = c.leave.ensures.step in
     (t.0, ran-events u v w (ran-stored u v (StorePosition c.args.done) refl s) c.leave.ensures.ran ∙ (ap (λ es. es ++ events v w) (events-after u v (StorePosition c.args.done) c.args.done s) ∙ ap (λ es. event (StorePosition c.args.done) c.args.done ∷ es) (events-after v w LeaveStep t.0 t.1.0)))
+
+pub returns-clause-numbers : goal.returns-clause-numbers
+returns-clause-numbers c = ap (all_steps leaves_numbers) (returns-clause-left c).1

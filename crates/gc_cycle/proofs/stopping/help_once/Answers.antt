@@ -1,16 +1,17 @@
-use Rattle.std.proofs.Common.{ap, ◌∙◌, inl, inr}
+use Rattle.std.proofs.Common.{ap, ◌∙◌, inl, inr, refl}
 use Rattle.gc_table.specs.Seats.{view_of}
 use Rattle.gc_table.specs.declared.view.View.{View}
 use Rattle.packet_pools.specs.Seeking.{some_event}
 use Rattle.packet_pools.proofs.Searches.{some-left}
-use Rattle.gc_table.specs.Log.{events}
-use Rattle.gc_table.proofs.Running.{ran-events, ran-join}
+use Rattle.gc_table.specs.Log.{events, all_steps}
+use Rattle.gc_table.proofs.Running.{ran-events, ran-join, ran-only}
 use Rattle.mark_core.specs.declared.kinds.Step.TheVariants.{LeaveHelpStep}
-use Rattle.gc_table.proofs.Log.{events-after}
+use Rattle.gc_table.proofs.Log.{events-after, only-after}
 use Rattle.gc_cycle.specs.Events.{never}
 use Rattle.gc_cycle.specs.Sorts.{joins, leaves}
 use Rattle.gc_cycle.proofs.Waits.{stays-join}
 use Rattle.gc_cycle.proofs.Goings.{declines-out, is-done, joins-out, leaves-help, out-join}
+use Rattle.gc_cycle.specs.Statistics.{leaves_numbers}
 use Rattle.gc_cycle.proofs.stopping.help_once.Goals as goal
 
 pub leave_help-requires-clause-admitted : goal.leave_help-requires-clause-admitted
@@ -95,3 +96,17 @@ returns-then-join_help-clause-helps c =
 
 pub returns-else-join_help-clause-helps : goal.returns-else-join_help-clause-helps
 returns-else-join_help-clause-helps c = record { ran = c.join_help.ensures.ran; once = inl c.if-join_help.ensures.declines }
+
+pub returns-then-join_help-clause-numbers : goal.returns-then-join_help-clause-numbers
+returns-then-join_help-clause-numbers c =
+    let v : View = view_of c.args.seat.now in
+    let w : View = view_of c.join_help.new.seat in
+    let x : View = view_of c.help_joined.new.seat in
+    let y : View = view_of c.leave_help.new.seat in
+    let h = c.help_joined.ensures in
+    let t = c.leave_help.ensures.step in
+    ran-only leaves_numbers v w y c.join_help.ensures.ran (ran-join w x y h.out.ran c.leave_help.ensures.ran) (ap (all_steps leaves_numbers) c.if-join_help.ensures.joins.events)
+    (ran-only leaves_numbers w x y h.out.ran c.leave_help.ensures.ran h.numbers (only-after leaves_numbers x y LeaveHelpStep t.0 refl t.1.0))
+
+pub returns-else-join_help-clause-numbers : goal.returns-else-join_help-clause-numbers
+returns-else-join_help-clause-numbers c = ap (all_steps leaves_numbers) c.if-join_help.ensures.declines.events

@@ -1,18 +1,21 @@
 use Rattle.std.proofs.Common.{refl, ap, ◌∙◌}
 use Rattle.gc_table.specs.Seats.{view_of}
 use Rattle.gc_table.specs.declared.view.View.{View}
-use Rattle.gc_table.proofs.Log.{events-none}
+use Rattle.gc_table.proofs.Log.{events-none, only-after, only-none}
 use Rattle.gc_cycle.specs.Events.{never}
 use Rattle.gc_cycle.specs.Sorts.{joins, leaves}
 use Rattle.gc_cycle.proofs.Goings.{looked-out, out-join, out-none, polled-out}
 use Rattle.gc_cycle.proofs.Waits.{stays-look}
 use Rattle.gc_cycle.proofs.Turns.{apart-join, apart-look}
+use Rattle.gc_cycle.specs.Statistics.{leaves_numbers}
+use Rattle.gc_table.proofs.Running.{ran-only}
+use Rattle.mark_core.specs.declared.kinds.Step.TheVariants.{Observe}
 use Rattle.gc_cycle.proofs.stopping.pause.Goals as goal
 
 pub loop-init : goal.loop-init
 loop-init c =
     let v : View = view_of c.args.seat.now in
-    record { sits = c.requires.seat.0; out = c.requires.seat.1; goes = out-none v; own = refl; inside = ap (never leaves) (events-none v); apart = ap (never joins) (events-none v) }
+    record { sits = c.requires.seat.0; out = c.requires.seat.1; goes = out-none v; own = refl; inside = ap (never leaves) (events-none v); numbers = only-none leaves_numbers v; apart = ap (never joins) (events-none v) }
 
 pub loop-preserved : goal.loop-preserved
 loop-preserved c =
@@ -28,6 +31,7 @@ loop-preserved c =
       goes = out-join u v w i.goes p.0;
       own = p.1 ∙ i.own;
       inside = stays-look u v w t.0 i.goes.ran c.poll.ensures.ran t.1 i.inside;
+      numbers = ran-only leaves_numbers u v w i.goes.ran c.poll.ensures.ran i.numbers (only-after leaves_numbers v w Observe t.0 refl t.1);
       apart = (apart-join u v w (record { ran = i.goes.ran; apart = i.apart }) (apart-look v w t.0 c.poll.ensures.ran t.1)).apart;
     }
 
@@ -58,3 +62,11 @@ returns-then-not-poll-clause-apart c =
     let i = c.loop.invariant in
     let t = c.poll.ensures.step in
     (apart-join (view_of c.args.seat.now) v w (record { ran = i.goes.ran; apart = i.apart }) (apart-look v w t.0 c.poll.ensures.ran t.1)).apart
+
+pub returns-then-not-poll-clause-numbers : goal.returns-then-not-poll-clause-numbers
+returns-then-not-poll-clause-numbers c =
+    let v : View = view_of c.loop.seat in
+    let w : View = view_of c.poll.new.seat in
+    let i = c.loop.invariant in
+    let t = c.poll.ensures.step in
+    ran-only leaves_numbers (view_of c.args.seat.now) v w i.goes.ran c.poll.ensures.ran i.numbers (only-after leaves_numbers v w Observe t.0 refl t.1)

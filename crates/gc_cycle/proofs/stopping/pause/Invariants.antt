@@ -1,10 +1,11 @@
 use Rattle.std.proofs.Common.{◌≡◌, true}
-use Rattle.gc_table.specs.Log.{events}
+use Rattle.gc_table.specs.Log.{events, Only}
 use Rattle.gc_table.specs.Seats.{Sits, view_of}
 use Rattle.gc_cycle.specs.Events.{never}
 use Rattle.gc_cycle.specs.Mutating.{GoesOut}
 use Rattle.gc_cycle.specs.Sorts.{joins, leaves}
 use Rattle.gc_cycle.specs.Standing.{IsOut}
+use Rattle.gc_cycle.specs.Statistics.{leaves_numbers}
 use Rattle.gc_cycle.proofs.stopping.pause.Given as goal
 
 abbrev pub invariant-loop : goal.invariant-loop
@@ -14,5 +15,6 @@ invariant-loop l = record {
   goes : GoesOut (view_of l.fn.seat) (view_of l.seat);
   own : (view_of l.seat).own ≡ (view_of l.fn.seat).own;
   inside : never leaves (events (view_of l.fn.seat) (view_of l.seat)) ≡ true;
+  numbers : Only leaves_numbers (view_of l.fn.seat) (view_of l.seat);
   apart : never joins (events (view_of l.fn.seat) (view_of l.seat)) ≡ true;
 }

@@ -1,4 +1,4 @@
-use Rattle.std.proofs.Common.{ap, ◌∙◌, not}
+use Rattle.std.proofs.Common.{ap, ◌∙◌, not, refl}
 use Rattle.mark_core.specs.Bits.{has_flag}
 use Rattle.mark_core.specs.WorldSteps.{has_nothing}
 use Rattle.mark_core.specs.declared.kinds.Shape.{Shape}
@@ -8,12 +8,15 @@ use Rattle.gc_table.specs.declared.view.View.{View}
 use Rattle.packet_pools.specs.Seeking.{some_event}
 use Rattle.packet_pools.proofs.Searches.{some-left, some-right}
 use Rattle.gc_table.specs.Log.{events}
-use Rattle.gc_table.proofs.Log.{only-more}
+use Rattle.gc_table.proofs.Log.{only-more, only-after}
 use Rattle.gc_table.proofs.Running.{ran-events, ran-join, ran-only, ran-shape}
 use Rattle.stop_world.specs.Waiting.{watches}
 use Rattle.gc_cycle.specs.Mutating.{stays_calm, tries_stopping}
 use Rattle.gc_cycle.specs.Sorts.{raises_flag}
 use Rattle.gc_cycle.proofs.Goings.{bare-parts, calm-count, calm-tries, count-calls, mutators-left, no-cache, out-unaware, raised-event, raised-never, raised-once, raised-only, theirs-out, tries, watches-own, watches-try, yours-free}
+use Rattle.gc_cycle.specs.Statistics.{leaves_numbers}
+use Rattle.gc_cycle.proofs.Leaving.{watches-leave}
+use Rattle.mark_core.specs.declared.kinds.Step.TheVariants.{RaiseStep}
 use Rattle.gc_cycle.proofs.stopping.stop.Goals as goal
 
 pub await_stopped-requires-clause-unaware : goal.await_stopped-requires-clause-unaware
@@ -117,3 +120,27 @@ returns-in-Theirs-clause-raises g c =
     let e = c.go_in.ensures.entered in
     count-calls u v x 0 0 o.ran (ran-join v w x c.raise.ensures.ran e.out.ran) (calm-count (events u v) o.calm)
     (count-calls v w x 0 0 c.raise.ensures.ran e.out.ran (raised-never v w t.0 t.1 t.3) (calm-count (events w x) e.out.calm))
+
+pub returns-in-Yours-clause-numbers : goal.returns-in-Yours-clause-numbers
+returns-in-Yours-clause-numbers g c =
+    let u : View = view_of c.args.seat.now in
+    let v : View = view_of c.go_out.new.seat in
+    let w : View = view_of c.raise.new.seat in
+    let x : View = view_of c.await_stopped.new.seat in
+    let o = c.go_out.ensures in
+    let t = c.raise.ensures.step in
+    let a = c.await_stopped.ensures in
+    ran-only leaves_numbers u v x o.out.ran (ran-join v w x c.raise.ensures.ran a.ran) o.numbers
+    (ran-only leaves_numbers v w x c.raise.ensures.ran a.ran (only-after leaves_numbers v w RaiseStep t.0 refl t.1) (only-more watches leaves_numbers watches-leave w x a.only))
+
+pub returns-in-Theirs-clause-numbers : goal.returns-in-Theirs-clause-numbers
+returns-in-Theirs-clause-numbers g c =
+    let u : View = view_of c.args.seat.now in
+    let v : View = view_of c.go_out.new.seat in
+    let w : View = view_of c.raise.new.seat in
+    let x : View = view_of c.go_in.new.seat in
+    let o = c.go_out.ensures in
+    let t = c.raise.ensures.step in
+    let e = c.go_in.ensures in
+    ran-only leaves_numbers u v x o.out.ran (ran-join v w x c.raise.ensures.ran e.entered.out.ran) o.numbers
+    (ran-only leaves_numbers v w x c.raise.ensures.ran e.entered.out.ran (only-after leaves_numbers v w RaiseStep t.0 refl t.1) e.numbers)

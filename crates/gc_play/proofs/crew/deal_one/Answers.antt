@@ -9,7 +9,7 @@ use Rattle.gc_play.specs.declared.workers.Worker.{Worker}
 use Rattle.gc_play.specs.Dealing.{StandsAt, number_of, numbers_of}
 use Rattle.gc_play.proofs.Dealt.{dealt-at, turn-low}
 use Rattle.gc_play.proofs.Parts.{counted-long, counted-at}
-use Rattle.gc_play.proofs.Starting.{new-number, new-made, new-stands}
+use Rattle.gc_play.proofs.Starting.{new-number, new-made, new-objects, new-stands}
 use Rattle.gc_play.proofs.crew.deal_one.Goals as goal
 
 pub bounds-warehouses-at : goal.bounds-warehouses-at
@@ -36,7 +36,7 @@ room-of : (c : goal.In-Ok-push) → HasRoom (joined (parts_of c.args.script.now.
 room-of c =
     let s = c.args.script.now.sections in
     let place : c.index-warehouses-at.result ≡ section_of s (c.args.at + 1) = c.index-warehouses-at.is ∙ (ap (λ l. get_or l c.args.at c.index-warehouses-at.result) c.warehouses.ensures.same ∙ (counted-at s 1 (length s.warehouses) c.args.at c.index-warehouses-at.result c.requires.at ∙ ap (section_of s) (let k : 1 + c.args.at ≡ c.args.at + 1 = omega arith in k))) in
-    subst (λ (p : Parts). HasRoom (joined p.parts) c.in-Ok.mutator) place (c.in-Ok.ensures.room (new-made c.args._heap.now s (c.args.at + 1) c.args.seat c.requires.seat))
+    subst (λ (p : Parts). HasRoom (joined p.parts) c.in-Ok.mutator) place (c.in-Ok.ensures.room (new-made c.args._heap.now s (c.args.at + 1) c.args.seat c.requires.seat) (new-objects c.args._heap.now s (c.args.at + 1) c.args.seat c.requires.seat))
 
 pub returns-in-Ok-push-clause-played : goal.returns-in-Ok-push-clause-played
 returns-in-Ok-push-clause-played c =

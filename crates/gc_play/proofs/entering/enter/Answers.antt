@@ -1,7 +1,8 @@
 use Rattle.std.proofs.Common.{refl, ap, sym, ◌∙◌, ◌≡◌, ◌++◌, Bool, true, false, not}
 use Rattle.mark_core.specs.Bits.{has_flag}
 use Rattle.mark_core.specs.declared.kinds.Step.TheVariants.{EnterStep, LeaveStep}
-use Rattle.gc_table.proofs.Log.{events-after, events-join}
+use Rattle.gc_table.proofs.Log.{events-after}
+use Rattle.gc_table.proofs.Running.{ran-events}
 use Rattle.mark_core.specs.WorldSteps.{has_nothing}
 use Rattle.gc_table.specs.Seats.{view_of}
 use Rattle.gc_table.specs.declared.view.View.{View}
@@ -23,7 +24,7 @@ returns-then-enter_step-clause-inside c =
     }
 
 pub returns-then-enter_step-clause-stays : goal.returns-then-enter_step-clause-stays
-returns-then-enter_step-clause-stays c = stays-enter (view_of c.args.seat.now) (view_of c.enter_step.new.seat) c.enter_step.ensures.view.0 c.enter_step.ensures.view.1
+returns-then-enter_step-clause-stays c = stays-enter (view_of c.args.seat.now) (view_of c.enter_step.new.seat) c.enter_step.ensures.view.0 (c.enter_step.ensures.view.1, c.enter_step.ensures.view.2)
 
 pub returns-then-enter_step-clause-events : goal.returns-then-enter_step-clause-events
 returns-then-enter_step-clause-events c =
@@ -40,7 +41,7 @@ leave_step-requires-clause-may c =
     may-leave (view_of c.enter_step.new.seat) (ap (λ (x : View). x.state.counted) v.1) (ap (λ (x : View). has_nothing x.shape x.state) v.1 ∙ (ap (λ sh. has_nothing sh (view_of c.args.seat.now).state) c.requires.sits.1 ∙ c.requires.idle))
 
 pub returns-clause-stays : goal.returns-clause-stays
-returns-clause-stays c = stays-join (view_of c.args.seat.now) (view_of c.enter_step.new.seat) (view_of c.leave_step.new.seat) (stays-enter (view_of c.args.seat.now) (view_of c.enter_step.new.seat) c.enter_step.ensures.view.0 c.enter_step.ensures.view.1) (stays-leave (view_of c.enter_step.new.seat) (view_of c.leave_step.new.seat) c.leave_step.ensures.view.0 c.leave_step.ensures.view.1.0)
+returns-clause-stays c = stays-join (view_of c.args.seat.now) (view_of c.enter_step.new.seat) (view_of c.leave_step.new.seat) (stays-enter (view_of c.args.seat.now) (view_of c.enter_step.new.seat) c.enter_step.ensures.view.0 (c.enter_step.ensures.view.1, c.enter_step.ensures.view.2)) (stays-leave (view_of c.enter_step.new.seat) (view_of c.leave_step.new.seat) c.leave_step.ensures.view.0 c.leave_step.ensures.view.1)
 
 pub returns-clause-outside : goal.returns-clause-outside
 returns-clause-outside c =
@@ -61,7 +62,7 @@ returns-clause-events c =
     let a : View = view_of c.args.seat.now in
     let b : View = view_of c.enter_step.new.seat in
     let d : View = view_of c.leave_step.new.seat in
-    (v.0, u.0, from_not (has_flag v.0) (sym v.3 ∙ c.if-enter_step.false), events-join a b d (stays-enter a b v.0 v.1).log (stays-leave b d u.0 u.1.0).log ∙ (λ y. events-after a b EnterStep v.0 v.1 y ++ events-after b d LeaveStep u.0 u.1.0 y))
+    (v.0, u.0, from_not (has_flag v.0) (sym v.3 ∙ c.if-enter_step.false), ran-events a b d (stays-enter a b v.0 (v.1, v.2)).ran (stays-leave b d u.0 u.1).ran ∙ (λ y. events-after a b EnterStep v.0 v.1 y ++ events-after b d LeaveStep u.0 u.1.0 y))
   where
     from_not : (x : Bool) → not x ≡ false → x ≡ true
     from_not true e = refl

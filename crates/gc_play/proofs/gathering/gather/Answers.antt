@@ -5,9 +5,9 @@ use Rattle.gc_table.specs.Rule.{KnowsFull}
 use Rattle.gc_table.specs.Seats.{view_of}
 use Rattle.gc_table.specs.declared.seat.HeapSeat.{HeapSeat}
 use Rattle.warehouse.specs.declared.mutator.Mutator.{Mutator}
-use Rattle.gc_play.specs.Crews.{AreSaid, IsLeft, Numbered, Says, SomeKnows, SomeSeatKnows}
+use Rattle.gc_play.specs.Crews.{AreAfter, AreSaid, IsLeft, Numbered, Says, SomeKnows, SomeSeatKnows}
 use Rattle.gc_play.specs.Dealing.{IsDealt, number_of}
-use Rattle.gc_play.proofs.Counting.{warehouse-count, numbered-front}
+use Rattle.gc_play.proofs.Counting.{one-before, warehouse-count, numbered-front}
 use Rattle.gc_play.proofs.Handing.{some-ahead, some-first, none-left}
 use Rattle.gc_play.proofs.Leaving.{said-front, warehouse-left, warehouse-says}
 use Rattle.gc_play.proofs.gathering.gather.Goals as goal
@@ -52,6 +52,7 @@ loop-taken-preserved c =
           (numbered-front P (1 + n) x c.loop-taken.seats.items (subst (λ k. P k x) front (warehouse-left c.args.ended h s z n m x c.requires.season f.0 num t.one))
           (subst (λ k. Numbered P k c.loop-taken.seats.items) (let e : 1 + (wh - taken) ≡ 1 + n + 1 = omega (arith, few) in e) i.seats));
       count = omega (arith, ap length o.seats, c.hand_over.new.seats.ok, c.loop-taken.seats.ok, i.count);
+      tracers = one-before x taken c.args.seats.now.items c.loop-taken.seats.items c.hand_over.new.seats.items i.tracers o.seats;
       parts = omega (arith, ap length o.parts, i.parts);
       said =
           subst (λ xs. AreSaid c.args.ended s z (1 + n) xs c.hand_over.new.parts.items) (sym o.seats)
@@ -79,6 +80,9 @@ none-more c = omega (arith, all-taken c)
 
 pub returns-clause-seats : goal.returns-clause-seats
 returns-clause-seats c = subst (λ k. Numbered (IsLeft c.args.ended c.args.heap.now c.args.script.now.sections c.args.season) (1 + k) c.loop-taken.seats.items) (none-more c) c.loop-taken.invariant.seats
+
+pub returns-clause-tracers : goal.returns-clause-tracers
+returns-clause-tracers c = subst (λ n. AreAfter n c.args.seats.now.items c.loop-taken.seats.items) (all-taken c) c.loop-taken.invariant.tracers
 
 pub returns-clause-count : goal.returns-clause-count
 returns-clause-count c = omega (arith, all-taken c, c.loop-taken.invariant.count)

@@ -1,8 +1,8 @@
-use Rattle.std.proofs.Common.{ℕ, ◌∷◌, sym, subst}
+use Rattle.std.proofs.Common.{ℕ, ◌∷◌, length, sym, subst, add_comm}
 use Rattle.play_report.specs.declared.report.Part.{Part}
 use Rattle.gc_table.specs.declared.seat.HeapSeat.{HeapSeat}
-use Rattle.gc_play.specs.Crews.{AreSaid, IsLeft, KnowsEnd, Numbered, SettlesEnd}
-use Rattle.gc_play.proofs.Counting.{numbered-front}
+use Rattle.gc_play.specs.Crews.{AreAfter, AreSaid, IsLeft, KnowsEnd, Numbered, SettlesEnd}
+use Rattle.gc_play.proofs.Counting.{numbered-front, one-before}
 use Rattle.gc_play.proofs.Leaving.{catalogue-left, catalogue-says, crew-knows, crew-settles, handed-seat, said-front}
 use Rattle.gc_play.proofs.gathering.put_away.Goals as goal
 
@@ -42,3 +42,9 @@ returns-in-Ok-hand_over-clause-settles c =
     let x : HeapSeat = c.hand_catalogue-first.result.0 in
     subst (SettlesEnd c.args.ended) (sym c.in-Ok-hand_over.ensures.seats)
     (crew-settles c.args.ended c.args.heap.now c.args.script.now.sections c.args._workers c.args.season c.args.crew x c.gather.new.seats.items (handed-seat c.args.crew.catalogue c.hand_catalogue-first.result.0 c.hand_catalogue-first.result.1.items c.hand_catalogue-first.result.2.items c.hand_catalogue-first.result.3 c.hand_catalogue-first.ensures) c.requires.crew)
+
+pub returns-in-Ok-hand_over-clause-tracers : goal.returns-in-Ok-hand_over-clause-tracers
+returns-in-Ok-hand_over-clause-tracers c =
+    let n = length c.args.script.now.sections.warehouses in
+    subst (λ k. AreAfter k c.args.crew.tracers.items c.hand_over.new.seats.items) (add_comm n 1)
+    (one-before c.hand_catalogue-first.result.0 n c.args.crew.tracers.items c.gather.new.seats.items c.hand_over.new.seats.items c.in-Ok.ensures.tracers c.in-Ok-hand_over.ensures.seats)

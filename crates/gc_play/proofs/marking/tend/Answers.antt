@@ -1,8 +1,8 @@
-use Rattle.std.proofs.Common.{refl, sym, ◌++◌, subst, arith}
+use Rattle.std.proofs.Common.{◌≡◌, refl, sym, ◌++◌, subst, arith, true}
 use Rattle.gc_table.specs.Log.{events}
 use Rattle.gc_table.specs.Seats.{view_of}
 use Rattle.gc_table.specs.declared.view.View.{View}
-use Rattle.gc_play.specs.Turns.{Traces}
+use Rattle.gc_play.specs.Turns.{traces_on}
 use Rattle.gc_play.proofs.Rounds.{events-three, traces-more}
 use Rattle.gc_play.proofs.Tending.{tended-join}
 use Rattle.gc_play.proofs.marking.tend.Goals as goal
@@ -22,5 +22,6 @@ returns-clause-traces c =
     let b : View = view_of c.trace_objects-traced.new.seat in
     let d : View = view_of c.clean_after.new.seat in
     let f : View = view_of c.recycle.new.seat in
-    subst (Traces c.args.heap.now.shape) (sym (events-three a b d f c.trace_objects-traced.ensures.tended.stays.log c.clean_after.ensures.tended.stays.log c.recycle.ensures.tended.stays.log))
-    (traces-more c.args.heap.now.shape (events a b) (events b d ++ events d f) c.trace_objects-traced.ensures.traces)
+    let sh = c.args.heap.now.shape in
+    subst (λ l. traces_on sh a.state l ≡ true) (sym (events-three a b d f c.trace_objects-traced.ensures.tended.stays.ran c.clean_after.ensures.tended.stays.ran c.recycle.ensures.tended.stays.ran))
+    (traces-more sh a.state (events a b) (events b d ++ events d f) c.trace_objects-traced.ensures.traces)

@@ -1,4 +1,5 @@
-use Rattle.std.proofs.Common.{◌≡◌, ◌<◌, ⊎_elim, inl, inr, arith, sym, ap, ◌∙◌, subst}
+use Rattle.std.proofs.Common.{◌≡◌, ◌<◌, ⊎_elim, arith, sym, ap, ◌∙◌, subst, true}
+use Rattle.std.proofs.lemmas.Bool.{or_left, or_right}
 use Rattle.std.specs.Prelude.{is_none}
 use Rattle.mark_core.specs.Held.{holds_any}
 use Rattle.mark_core.specs.Seats.{work_in_hand}
@@ -7,13 +8,13 @@ use Rattle.gc_table.specs.Log.{events}
 use Rattle.gc_table.specs.Seats.{view_of}
 use Rattle.gc_table.specs.declared.view.View.{View}
 use Rattle.tracer.specs.Causes.{FoundNoWork}
-use Rattle.tracer.specs.Moments.{begins}
+use Rattle.packet_pools.specs.Seeking.{some_event}
 use Rattle.tracer.specs.Tally.{pops}
 use Rattle.tracer.specs.declared.traced.Stopped.TheVariants.{NoWork, Quota}
 use Rattle.gc_play.specs.Stays.{Stays}
 use Rattle.gc_play.specs.Tending.{Marks}
-use Rattle.gc_play.specs.Turns.{Traces}
-use Rattle.gc_play.proofs.Tending.{empty-of, goes-idle, is-none, marks-later, marks-trace, some-counted, some-search, tends-later}
+use Rattle.gc_play.specs.Turns.{traces_on}
+use Rattle.gc_play.proofs.Tending.{empty-of, goes-idle, is-none, marks-later, marks-trace, some-counted, tends-later}
 use Rattle.gc_play.proofs.marking.trace_objects.Goals as goal
 
 pub trace-requires-clause-seat : goal.trace-requires-clause-seat
@@ -44,7 +45,7 @@ returns-clause-traces c =
     let w : View = view_of c.trace.new.seat in
     let t = c.trace.ensures.tally.done in
     ⊎_elim
-    (λ (q : (c.trace.result.stopped ≡ Quota) × (c.trace.result.done ≡ 64)). inl (some-counted pops (events v w) (let d = q.1 in omega (arith, t, d))))
+    (λ (q : (c.trace.result.stopped ≡ Quota) × (c.trace.result.done ≡ 64)). or_left (some_event pops (events v w)) _ (some-counted pops (events v w) (let d = q.1 in omega (arith, t, d))))
     (λ (n : (c.trace.result.stopped ≡ NoWork) × (c.trace.result.done < 64) × FoundNoWork v w).
-    subst (λ (sh : Shape). Traces sh (events v w)) c.requires.goes.sits.1 (inr (inl (some-search v.shape (begins v) (events v w) n.2))))
+    subst (λ (sh : Shape). traces_on sh v.state (events v w) ≡ true) c.requires.goes.sits.1 (or_right (some_event pops (events v w)) _ n.2))
     c.trace.ensures.stopped

@@ -1,6 +1,11 @@
-use Rattle.std.proofs.Common.{subst, arith}
-use Rattle.gc_play.specs.declared.season.Ended.TheVariants.{Done}
+use Rattle.std.proofs.Common.{ℕ, ◌≢◌, ◌-◌, ◌⊎◌, inl, List, refl, subst, arith}
+use Rattle.mark_core.specs.declared.kinds.Shape.{Shape}
+use Rattle.plain_heap.specs.Sections.{Sections}
+use Rattle.gc_table.specs.declared.seat.HeapSeat.{HeapSeat}
+use Rattle.gc_play.specs.declared.season.Ended.{Ended}
+use Rattle.gc_play.specs.declared.season.Ended.TheVariants.{Done, First, Later}
 use Rattle.gc_play.specs.Crews.{AreSaid, IsLeft, Numbered, SettlesEnd}
+use Rattle.gc_play.specs.Traced.{EndTraced, TracersRan}
 use Rattle.gc_play.proofs.Ending.{all-played, are-parts, are-ready, are-seated, have-stopped, some-knows}
 use Rattle.gc_play.proofs.playing.close.Goals as goal
 
@@ -23,21 +28,25 @@ close_played-requires-clause-parts c =
     let xs = c.args.seats.items in
     are-parts h s z xs c.requires.made c.args.parts.items (c.requires.all c.in-Done.is) c.requires.parts (subst (λ r. AreSaid r s z 0 xs c.args.parts.items) c.in-Done.is c.requires.said)
 
-pub returns-in-Ok : goal.returns-in-Ok
-returns-in-Ok c =
+pub returns-in-Ok-clause-answers : goal.returns-in-Ok-clause-answers
+returns-in-Ok-clause-answers c = c.in-Ok.ensures.report
+
+pub returns-in-Ok-clause-ends : goal.returns-in-Ok-clause-ends
+returns-in-Ok-clause-ends c =
     let h = c.args.heap in
     let s = c.args.script.now.sections in
     let z = c.args._season in
     let xs = c.args.seats.items in
-    let left : Numbered (IsLeft Done h s z) 0 xs = subst (λ r. Numbered (IsLeft r h s z) 0 xs) c.in-Done.is c.requires.left in (
-      c.in-Ok.ensures.report,
-      (
-        xs,
-        record { end = c.in-Ok.ensures.words; made = are-seated Done h s z xs c.requires.made left },
-        all-played h s z xs c.requires.made left (c.requires.all c.in-Done.is) (subst (λ r. SettlesEnd r xs) c.in-Done.is c.requires.settles),
-        c.in-Ok.ensures.parts,
-      ),
-    )
+    let all = c.requires.all c.in-Done.is in
+    let left : Numbered (IsLeft Done h s z) 0 xs = subst (λ r. Numbered (IsLeft r h s z) 0 xs) c.in-Done.is c.requires.left in
+    record {
+      seats = xs;
+      closed = record { end = c.in-Ok.ensures.words; made = are-seated Done h s z xs c.requires.made left };
+      played = all-played h s z xs c.requires.made left all (subst (λ r. SettlesEnd r xs) c.in-Done.is c.requires.settles);
+      parts = c.in-Ok.ensures.parts;
+      held = c.in-Ok.ensures.held;
+      traced = subst (λ n. TracersRan s h.shape c.args._tracers n xs) all (subst (λ r. EndTraced r s h.shape c.args._tracers z xs) c.in-Done.is c.requires.traced);
+    }
 
 pub close_full-requires : goal.close_full-requires
 close_full-requires c =
@@ -52,4 +61,28 @@ close_full-requires c =
       made = are-seated r h s z xs c.requires.made c.requires.left;
       stopped = (z, have-stopped h s z xs c.requires.made r c.in_default.not-Done c.requires.season c.requires.left);
       full = some-knows h s z xs c.requires.made r c.in_default.not-Done c.requires.knows;
+    }
+
+-- the tracers of a play that came to no end
+stopped-traced : (r : Ended) (s : Sections) (sh : Shape) (tracers z : ℕ) (xs : List HeapSeat) → r ≢ Done → EndTraced r s sh tracers z xs → TracersRan s sh tracers (z - 1) xs ⊎ TracersRan s sh tracers z xs
+stopped-traced Done s sh tracers z xs n t = absurd (n refl)
+stopped-traced First s sh tracers z xs n t = inl t
+stopped-traced Later s sh tracers z xs n t = t
+
+pub returns-in-Ok-close_full-clause-ends : goal.returns-in-Ok-close_full-clause-ends
+returns-in-Ok-close_full-clause-ends c =
+    let h = c.args.heap in
+    let s = c.args.script.now.sections in
+    let z = c.args._season in
+    let xs = c.args.seats.items in
+    let r = c.args.ended in
+    let w = c.in-Ok-close_full.ensures.words in
+    record {
+      season = z;
+      words = w.0;
+      seats = xs;
+      closed = record { end = w.1; made = are-seated r h s z xs c.requires.made c.requires.left };
+      stopped = have-stopped h s z xs c.requires.made r c.in_default.not-Done c.requires.season c.requires.left;
+      stored = w.2;
+      traced = stopped-traced r s h.shape c.args._tracers z xs c.in_default.not-Done c.requires.traced;
     }

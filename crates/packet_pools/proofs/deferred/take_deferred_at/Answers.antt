@@ -1,16 +1,13 @@
-use Rattle.std.proofs.Common.{ℕ, ◌≡◌, ◌<◌, ◌%◌, [], ◌∷◌, List, refl, sym, ap, ◌∙◌, subst, arith, Bool, true, false, eq-eqb}
+use Rattle.std.proofs.Common.{ℕ, ◌≡◌, ◌<◌, ◌%◌, refl, sym, ap, ◌∙◌, subst, arith, true, false, eq-eqb}
 use Rattle.std.specs.Prelude.{IsTrue}
 use Rattle.std.proofs.lemmas.Bool.{and_from, not_from_false, or_left, true≢false}
 use Rattle.mark_core.specs.Bits.{has_bit}
 use Rattle.mark_core.specs.Held.{has_free_slot}
 use Rattle.mark_core.specs.declared.kinds.Shape.{Shape}
-use Rattle.mark_core.specs.declared.kinds.Step.{Step}
-use Rattle.mark_core.specs.declared.kinds.Step.TheVariants.{ReadLength, Take}
-use Rattle.mark_core.specs.declared.seat.SeatState.{SeatState}
-use Rattle.gc_table.specs.declared.view.Entry.{Entry}
+use Rattle.mark_core.specs.declared.kinds.Step.TheVariants.{Take}
 use Rattle.gc_table.specs.declared.view.View.{View}
 use Rattle.gc_table.specs.Seats.{view_of}
-use Rattle.gc_table.specs.Log.{events, steps_of}
+use Rattle.gc_table.specs.Log.{steps_of}
 use Rattle.packet_pools.specs.Gains.{Seeks}
 use Rattle.packet_pools.specs.Seeking.{loses, was_lost}
 use Rattle.packet_pools.specs.Tracing.{Traces}
@@ -55,7 +52,7 @@ returns-then-not-take-clause-none c =
     let es = events-after v w (Take 3 p) t.0 t.1 in
     let lost : has_bit t.0 (p % 64) ≡ false = sym t.3 ∙ c.if-not-take.true in (
       ap (λ (x : View). x.state) t.1 ∙ lost-state v.shape v.state 3 p t.0 lost,
-      ap (was_lost p) es ∙ or_left (loses p (Take 3 p) t.0) _ (and_from _ _ (eq-eqb p p refl) (not_from_false _ lost)),
+      ap (was_lost 3 p) es ∙ or_left (loses 3 p (Take 3 p) t.0) _ (and_from _ _ (eq-eqb p p refl) (not_from_false _ lost)),
       ap steps_of es,
     )
 

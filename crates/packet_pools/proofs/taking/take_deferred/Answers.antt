@@ -5,9 +5,9 @@ use Rattle.mark_core.specs.declared.kinds.Shape.{Shape}
 use Rattle.gc_table.specs.declared.view.View.{View}
 use Rattle.gc_table.specs.Seats.{view_of}
 use Rattle.gc_table.specs.Log.{events}
-use Rattle.packet_pools.specs.Seeking.{NoDeferred, seen_outside, was_lost, only_moves}
+use Rattle.packet_pools.specs.Seeking.{NoDeferred, only_moves}
 use Rattle.packet_pools.specs.Gains.{Misses}
-use Rattle.packet_pools.proofs.PoolSearch.{all-missed, one-pool}
+use Rattle.packet_pools.proofs.PoolSearch.{all-missed}
 use Rattle.packet_pools.proofs.Choices.{if-none, traces-either}
 use Rattle.packet_pools.proofs.taking.take_deferred.Goals as goal
 
@@ -22,5 +22,5 @@ returns-clause-none c =
     let v : View = view_of c.args.seat.now in
     let w : View = view_of c.take_any.new.seat in
     if-none c.take_any.result ((w.state ≡ v.state) × Misses sh 3 false 0 (64 * pool_words sh) (events v w)) ((w.state ≡ v.state) × NoDeferred sh (events v w) × IsTrue (only_moves (3 ∷ []) (events v w)))
-    (λ n. (n.0, λ p l. one-pool (seen_outside 3 p (events v w)) (was_lost p (events v w)) (all-missed sh 3 (events v w) n.1 p l), n.1.moves))
+    (λ n. (n.0, all-missed sh 3 (events v w) n.1, n.1.moves))
     c.take_any.ensures.none

@@ -1,6 +1,6 @@
 use Rattle.std.specs.Prelude.{IsTrue, nat_le}
 use Rattle.gc_table.specs.Fetching.{is_in_range}
-use Rattle.std.proofs.lemmas.Bool.{and_parts, leb-true}
+use Rattle.std.proofs.lemmas.Bool.{and_from, and_parts, leb-true}
 use Rattle.std.proofs.Common.{ℕ, true, ◌≡◌, ◌≤◌, ◌<◌, ◌*◌, ◌++◌, [], ◌∷◌, refl, sym, ap, ◌∙◌, subst, arith, false}
 use Rattle.mark_core.specs.Layout.{pool_words}
 use Rattle.mark_core.specs.declared.kinds.Shape.{Shape}
@@ -8,12 +8,13 @@ use Rattle.mark_core.specs.declared.seat.SeatState.{SeatState}
 use Rattle.gc_table.specs.declared.view.View.{View}
 use Rattle.gc_table.specs.Seats.{view_of}
 use Rattle.gc_table.specs.Log.{events}
-use Rattle.packet_pools.specs.Seeking.{NoInput, seen_outside, was_lost, was_got, only_moves}
+use Rattle.packet_pools.specs.Seeking.{NoInput, was_missed_in, was_got, only_moves}
 use Rattle.packet_pools.specs.Gains.{Gains, Misses, Takes}
 use Rattle.gc_table.proofs.Log.{events-join}
 use Rattle.packet_pools.proofs.TracedSteps.{later-join}
-use Rattle.packet_pools.proofs.Searches.{none-got, first-pool, moves-join, next-pools}
-use Rattle.packet_pools.proofs.PoolSearch.{all-missed, all-left, all-right, takes-first, takes-next, two-pools}
+use Rattle.packet_pools.proofs.AllMissed.{all-range}
+use Rattle.packet_pools.proofs.Searches.{none-got, first-pool, moves-join, next-pools, was-missed-left, was-missed-right}
+use Rattle.packet_pools.proofs.PoolSearch.{pool-missed, takes-first, takes-next}
 use Rattle.packet_pools.proofs.Choices.{if-some, if-none, seeks-from, traces-same, traces-gained, traces-either, low-some}
 use Rattle.packet_pools.proofs.taking.take_input.Goals as goal
 
@@ -66,7 +67,11 @@ returns-in-None-clause-none c =
     (λ n. (
       n.0 ∙ e.none.0,
       subst (NoInput sh) (sym (events-join v u w e.later.log f.later.log))
-          (λ p l. two-pools (seen_outside 2 p (events v u ++ events u w)) (seen_outside 1 p (events v u ++ events u w)) (was_lost p (events v u ++ events u w)) (all-left sh 2 (events v u) (events u w) (all-missed sh 2 (events v u) e.none.1) p l) (all-right sh 1 (events v u) (events u w) got (all-missed sh 1 (events u w) n.1) p l)),
+          (all-range (λ p. was_missed_in (2 ∷ 1 ∷ []) p (events v u ++ events u w)) 0 sh.packets
+          (λ p l.
+          let low : p < sh.packets = omega (arith, l) in
+          and_from _ _ (was-missed-left 2 p (events v u) (events u w) (pool-missed sh 2 (events v u) e.none.1 p low))
+          (and_from _ _ (was-missed-right 1 p (events v u) (events u w) (got p) (pool-missed sh 1 (events u w) n.1 p low)) refl))),
       ap (only_moves (2 ∷ 1 ∷ [])) (events-join v u w e.later.log f.later.log) ∙ moves-join (2 ∷ 1 ∷ []) (events v u) (events u w) (first-pool 2 (1 ∷ []) (events v u) e.none.1.moves) (next-pools 2 (1 ∷ []) (events u w) n.1.moves),
     ))
     f.none

@@ -9,12 +9,14 @@ use Rattle.gc_table.specs.declared.view.View.{View}
 use Rattle.gc_table.specs.Seats.{view_of}
 use Rattle.packet_pools.specs.declared.held.Held.{Held}
 use Rattle.gc_table.specs.Log.{events}
-use Rattle.packet_pools.specs.Seeking.{NoOutput, seen_outside, was_full, was_got, was_got_from, was_lost, only_moves}
+use Rattle.packet_pools.specs.Seeking.{NoOutput, was_got, was_got_from, was_roomless, only_moves}
 use Rattle.packet_pools.specs.Gains.{ComesFrom, Gains, Misses, Takes}
 use Rattle.gc_table.proofs.Log.{events-join}
 use Rattle.packet_pools.proofs.TracedSteps.{later-join}
-use Rattle.packet_pools.proofs.Searches.{missed-right, none-got, first-pool, moves-join, next-pools}
-use Rattle.packet_pools.proofs.PoolSearch.{all-missed, all-left, all-right, below-words, takes-first, takes-next, three-pools}
+use Rattle.std.proofs.lemmas.Bool.{and_from}
+use Rattle.packet_pools.proofs.AllMissed.{all-range}
+use Rattle.packet_pools.proofs.Searches.{missed-right, none-got, first-pool, moves-join, next-pools, was-missed-left, was-missed-right}
+use Rattle.packet_pools.proofs.PoolSearch.{below-words, pool-missed, takes-first, takes-next}
 use Rattle.packet_pools.proofs.Choices.{if-some, if-none, seeks-from, traces-same, traces-gained, traces-either, low-room}
 use Rattle.packet_pools.proofs.taking.take_output.Goals as goal
 
@@ -111,12 +113,13 @@ returns-clause-none c =
     (λ n. (
       n.0 ∙ (f.none.0 ∙ e.none.0),
       subst (NoOutput sh) (sym es)
+          (all-range (λ p. was_roomless sh.entries p (xs ++ (ys ++ zs))) 0 sh.packets
           (λ p l.
-          let all : List Entry = xs ++ (ys ++ zs) in
-          three-pools (seen_outside 0 p all) (seen_outside 1 p all) (seen_outside 2 p all) (was_lost p all) (was_full sh.entries p all)
-          (all-left sh 0 xs (ys ++ zs) (all-missed sh 0 xs e.none.1) p l)
-          (all-right sh 1 xs (ys ++ zs) no_x (all-left sh 1 ys zs (all-missed sh 1 ys f.none.1)) p l)
-          (missed-right sh.entries 2 true p xs (ys ++ zs) (no_x p) (missed-right sh.entries 2 true p ys zs (no_y p) (n.1.all p (omega arith) (below-words sh p l) l)))),
+          let low : p < sh.packets = omega (arith, l) in
+          and_from _ _
+          (and_from _ _ (was-missed-left 0 p xs (ys ++ zs) (pool-missed sh 0 xs e.none.1 p low))
+          (and_from _ _ (was-missed-right 1 p xs (ys ++ zs) (no_x p) (was-missed-left 1 p ys zs (pool-missed sh 1 ys f.none.1 p low))) refl))
+          (missed-right sh.entries 2 true p xs (ys ++ zs) (no_x p) (missed-right sh.entries 2 true p ys zs (no_y p) (n.1.all p (omega arith) (below-words sh p low) low))))),
       ap (only_moves qs) es ∙ moves-join qs xs (ys ++ zs) (first-pool 0 (1 ∷ 2 ∷ []) xs e.none.1.moves) (moves-join qs ys zs (next-pools 0 (1 ∷ 2 ∷ []) ys (first-pool 1 (2 ∷ []) ys f.none.1.moves)) (next-pools 0 (1 ∷ 2 ∷ []) zs (next-pools 1 (2 ∷ []) zs n.1.moves))),
     ))
     g.none

@@ -4,7 +4,7 @@ ghost use Rattle.play_contract.specs.Playing.{AreInRange};
 use crate::commands::run::play_bytes;
 use crate::status::Status;
 use gc_play::OpenGate;
-use job_pool::{Player, Text};
+use job_pool::{Player, Text, Turn};
 use play_contract::Options;
 use play_report::{Failed, Sink};
 use std::alloc::Global;
@@ -45,7 +45,7 @@ pub struct ScriptPlayer {
 
 impl Player for ScriptPlayer {
     ghost use Rattle.command_words.specs.Commands.{options_of};
-    ghost use Rattle.play_words.specs.Answers.{FitsJob};
+    ghost use Rattle.play_words.specs.Batching.{FitsJob};
 
     ghost fits = { λ player script status text. FitsJob (options_of player.options) script status text };
 
@@ -54,6 +54,7 @@ impl Player for ScriptPlayer {
         &self,
         rt: &R,
         alloc: Global,
+        _turn: Turn,
         script: &[u8],
     ) -> (u8, Text) {
         let mut sink = TextSink {

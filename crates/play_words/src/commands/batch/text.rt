@@ -4,6 +4,7 @@ ghost use Rattle.std.specs.List.{flat_map};
 ghost use Rattle.play_report.specs.Causes.{Writes};
 ghost use Rattle.play_words.specs.Batching.{job_line, job_text, batch_error_text};
 
+use crate::lines::write_lines;
 use job_pool::{BatchError, JobDone};
 use play_report::{Failed, Sink, TextLine, write_all, write_named};
 
@@ -24,13 +25,13 @@ fn write_job_line<K: Sink>(job: u32, status: u8, bytes: usize, sink: &mut K) -> 
     line.write(sink)
 }
 
-/// A job's line, and its text as one piece.
+/// A job's line, and the lines of its text.
 fn write_job<K: Sink>(done: &JobDone, sink: &mut K) -> Result<(), Failed>
     ensures { Writes result (K.written sink.old) (K.written sink.new) (K.faults sink.old) (K.faults sink.new) (job_text done.now) }
 {
     let text = done.text.bytes();
     match write_job_line(done.job, done.status, text.len(), sink) {
-        Ok(()) => write_all(sink, text),
+        Ok(()) => write_lines(sink, text),
         Err(e) => Err(e),
     }
 }

@@ -90,8 +90,8 @@ loop-turn-preserved c =
       work = f.work;
       done = omega (arith, i.done);
       stopped = i.stopped;
-      most = (omega (arith, i.most.0, f.most.0), omega (arith, i.most.1, f.most.1));
+      most = (omega (arith, i.most.0, f.most.0), omega (arith, i.most.1, f.most.1, c.from.ensures));
       part =
-          part-then sh o q r c.loop-turn.traced.done 1 c.loop-turn.traced.deferred c.trace_cell-passed.result.deferred c.loop-turn.traced.overflowed c.trace_cell-passed.result.overflowed _ _ _ v w y i.later (later-join w x y e.later f.later) refl refl refl i.part
+          part-then sh o q r c.loop-turn.traced.done 1 c.loop-turn.traced.deferred c.trace_cell-passed.result.deferred c.loop-turn.traced.overflowed c.trace_cell-passed.result.overflowed _ _ _ v w y i.later (later-join w x y e.later f.later) refl refl (ap (λ n. c.loop-turn.traced.overflowed + n) (sym c.from.ensures)) i.part
           (part-then sh q q r 1 0 0 _ 0 _ 1 _ _ w x y e.later f.later refl (zero-plus _) (zero-plus _) e.some.1 last);
     }

@@ -10,6 +10,8 @@ use Rattle.warehouse.proofs.Others.{mutates-other, has-cache, acts-other, makes-
 use Rattle.std.specs.Prelude.{Option, unwrap_or, is_some}
 use Rattle.play_report.specs.Report.{printed_of}
 use Rattle.plain_heap.specs.PlainRun.{with_label}
+use Rattle.mark_core.specs.declared.kinds.Shape.{Shape}
+use Rattle.gc_table.proofs.Running.{ran-shape}
 use Rattle.mutator_ops.specs.Doing.{seen}
 
 pub command-done-requires-clause-warehouse : goal.command-done-requires-clause-warehouse
@@ -55,7 +57,7 @@ returns c =
             said = omega (arith, r.said, printed-more e later, c.say.ensures.count, c.say.ensures.room, printed);
             places = omega (arith, r.places, made-later e later);
             count = omega (arith, r.count);
-            made = omega (arith, r.made, made-later e later, ap (λ (s : SeatState). s.made) k.state);
+            made = omega (arith, r.made, made-later e later, ap (λ (s : SeatState). s.made) k.state, ap (λ (sh : Shape). sh.objects) (ran-shape v w k.ran));
             dropped = omega (arith, r.dropped, c.one_if.ensures, one-at-most c.command-done.result.dropped);
           };
       acts = acts-other e _ v w c.requires.op k;

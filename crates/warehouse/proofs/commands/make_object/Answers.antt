@@ -7,13 +7,15 @@ use Rattle.mutator_ops.specs.Creating.{Creates}
 use Rattle.warehouse.specs.Playing.{player_of}
 use Rattle.warehouse.proofs.commands.make_object.Goals as goal
 use Rattle.warehouse.proofs.Commanding.{command-new}
+use Rattle.mark_core.specs.declared.kinds.Shape.{Shape}
+use Rattle.gc_table.proofs.Running.{ran-shape}
 use Rattle.warehouse.proofs.Makings.{acts-new, made-new, mutates-new, printed-later}
 
 pub create-requires-clause-room : goal.create-requires-clause-room
 create-requires-clause-room c =
     let next = c.requires.may.next in
     let one : made_by (execution_of c.args.command.now ∷ next.later) ≡ 1 + made_by next.later = made-new (execution_of c.args.command.now) c.args.v c.args.n next.later c.requires.op in
-    omega (arith, next.room.made, one)
+    omega (arith, next.room.made, one, ap (λ (sh : Shape). sh.objects) c.requires.playing.sits.1)
 
 pub place-requires : goal.place-requires
 place-requires c =
@@ -49,7 +51,7 @@ returns c =
             said = omega (arith, r.said, printed-later e later);
             places = omega (arith, r.places, one, c.place.ensures.count, c.place.ensures.room);
             count = omega (arith, r.count);
-            made = omega (arith, r.made, one, ap (λ (s : SeatState). s.made) k.state);
+            made = omega (arith, r.made, one, ap (λ (s : SeatState). s.made) k.state, ap (λ (sh : Shape). sh.objects) (ran-shape v w k.ran));
             dropped = omega (arith, r.dropped);
           };
       acts = acts-new e c.args.v c.args.n cell v w c.requires.op k;

@@ -23,5 +23,5 @@ returns g c =
       says = says-moved m c.go_out.new.seat;
       position = o.position;
       leaves = leaves-join 0 1 1 u v x (leaves-calm u v r.ran r.spares r.calm) (leaves-join 1 0 1 v w x (leaves-counted v w c.add_stat.ensures.view) (leaves-calm w x o.out.ran o.spares o.out.calm) refl) refl;
-      room = room-moved m c.go_out.new.seat stays.made;
+      room = room-moved m c.go_out.new.seat stays;
     }

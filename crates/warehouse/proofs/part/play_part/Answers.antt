@@ -55,7 +55,7 @@ returns-in-Full g c =
       says = says-moved m t;
       position = o.position;
       leaves = leaves-calm w x o.out.ran o.spares o.out.calm;
-      room = room-moved m t stays.made;
+      room = room-moved m t stays;
     } in
     part-full c.args.heap.now c.args.section.now c.args.season c.args.mutator.now c.go_in.new.seat c.requires e.seat.0 e.seat.1 e.entered.cache (stays-spared u v e.entered.out.ran e.spares e.entered.out.seat) (waits-calm u v e.entered.out.ran e.spares e.entered.out.calm) e.entered.position m (moved m t) k
     out (full-left m.count o.left.0 w x o.out.ran o.left.1 k.stops.known)

@@ -1,8 +1,13 @@
-use Rattle.gc_table.proofs.Fitting.{may-take, step-room}
+use Rattle.gc_table.proofs.Fitting.{may-take, step-number, step-room}
 use Rattle.gc_table.proofs.seat.Heap.compare_exchange_step.Goals as goal
 
 pub compare_exchange_told-found-requires-clause-take : goal.compare_exchange_told-found-requires-clause-take
 compare_exchange_told-found-requires-clause-take c = let q = c.requires in may-take c.args.self.now c.args.seat.now c.args.step _ c.address-word.ensures q.seat q.may q.own q.asked
 
 pub act-requires : goal.act-requires
-act-requires c = let s = c.args.seat.now in step-room s.state (s.token.me.0) c.args.step s.agrees s.possible c.requires.may
+act-requires c =
+    let s = c.args.seat.now in
+    record {
+      room = step-room s.state (s.token.me.0) c.args.step s.agrees s.possible c.requires.may;
+      number = step-number c.args.self.now.shape s.state (s.token.me.0) c.args.step s.agrees c.requires.seat.1 s.possible c.requires.may;
+    }

@@ -1,9 +1,14 @@
 use Rattle.std.proofs.Common.{ap, sym, ◌∙◌}
-use Rattle.gc_table.proofs.Fitting.{may-take, step-room, stored-word, stored-view}
+use Rattle.gc_table.proofs.Fitting.{may-take, step-number, step-room, stored-word, stored-view}
 use Rattle.gc_table.proofs.seat.Heap.store_step.Goals as goal
 
 pub act-new-requires : goal.act-new-requires
-act-new-requires c = let s = c.args.seat.now in step-room s.state (s.token.me.0) c.args.step s.agrees s.possible c.requires.may
+act-new-requires c =
+    let s = c.args.seat.now in
+    record {
+      room = step-room s.state (s.token.me.0) c.args.step s.agrees s.possible c.requires.may;
+      number = step-number c.args.self.now.shape s.state (s.token.me.0) c.args.step s.agrees c.requires.seat.1 s.possible c.requires.may;
+    }
 
 pub store_told-requires-clause-take : goal.store_told-requires-clause-take
 store_told-requires-clause-take c = let q = c.requires in may-take c.args.self.now c.args.seat.now c.args.step _ c.address-word.ensures q.seat q.may q.own q.asked

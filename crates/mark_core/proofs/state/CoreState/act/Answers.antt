@@ -24,7 +24,7 @@ act-word-requires c =
     let core : Core = core_of c.self.inside.shape c.self.inside.words.items c.self.inside.seats.items in
     let P : Core → Type 0 = λ d. failing_part d c.args.event.now ≡ None in
     let r : Ready core c.args.event.now c.index.result.now = ready core c.args.event.now c.index.result.now c.self.invariant.0 (subst P (sym c.self.view_is) c.requires) c.index.ensures in
-    r.room
+    record { room = r.room; number = r.number }
 
 pub index_mut-requires : goal.index_mut-requires
 index_mut-requires c =

@@ -1,10 +1,10 @@
-use Rattle.play_words.specs.Dumping.{IsCensusAnswer}
+use Rattle.play_words.specs.Counting.{IsCensusAnswer}
 use Rattle.play_words.proofs.Taking.{source_ends, source_spent, census_of_whole}
 use Rattle.play_words.proofs.commands.census.census_source.Goals as goal
 
 pub returns-in-Ok-clause-ends : goal.returns-in-Ok-clause-ends
 returns-in-Ok-clause-ends g c =
-    source_ends 4984981 IsCensusAnswer _ _ _ c.in-Ok.bytes.items c.as_slice.result.now _ _ _ _ _ _ census_of_whole c.in-Ok.ensures c.as_slice.ensures.value c.census_bytes.ensures
+    source_ends 4984981 IsCensusAnswer _ _ _ c.in-Ok.bytes.items c.as_slice.result.now _ _ _ _ _ _ census_of_whole c.in-Ok.ensures.reads c.as_slice.ensures.value c.census_bytes.ensures
 
 pub returns-in-Ok-clause-spent : goal.returns-in-Ok-clause-spent
-returns-in-Ok-clause-spent g c l = source_spent 4984981 _ _ c.in-Ok.bytes.items c.in-Ok.ensures.0 c.in-Ok.ensures.1
+returns-in-Ok-clause-spent g c l = source_spent 4984981 _ _ c.in-Ok.bytes.items c.in-Ok.ensures.reads

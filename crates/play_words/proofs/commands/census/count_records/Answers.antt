@@ -1,6 +1,6 @@
 use Rattle.std.proofs.Common.{refl}
 use Rattle.heap_dump.specs.Reading.{heap_of}
-use Rattle.play_words.specs.Dumping.{IsCountOf}
+use Rattle.play_words.specs.Counting.{IsCountOf}
 use Rattle.play_words.proofs.Ends.{text_ends}
 use Rattle.play_words.proofs.commands.census.count_records.Goals as goal
 

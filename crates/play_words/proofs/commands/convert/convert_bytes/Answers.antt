@@ -1,7 +1,7 @@
 use Rattle.gc_script.specs.Convert.{convert}
 use Rattle.gc_script.specs.Converting.{conversion_of}
 use Rattle.gc_script.specs.Shown.{fault_of}
-use Rattle.play_words.specs.Answers.{IsConvertAnswer}
+use Rattle.play_words.specs.Converting.{IsConvertAnswer}
 use Rattle.play_words.specs.Ending.{IsFaultAnswer}
 use Rattle.play_words.proofs.Ends.{text_ends, other_ends}
 use Rattle.play_words.proofs.Faulted.{conversion_fault, conversion_done}

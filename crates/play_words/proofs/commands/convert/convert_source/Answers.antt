@@ -1,10 +1,10 @@
-use Rattle.play_words.specs.Answers.{IsConvertAnswer}
+use Rattle.play_words.specs.Converting.{IsConvertAnswer}
 use Rattle.play_words.proofs.Taking.{source_ends, source_spent, conversion_of_whole}
 use Rattle.play_words.proofs.commands.convert.convert_source.Goals as goal
 
 pub returns-in-Ok-clause-ends : goal.returns-in-Ok-clause-ends
 returns-in-Ok-clause-ends g c =
-    source_ends 1048577 IsConvertAnswer _ _ _ c.in-Ok.bytes.items c.as_slice.result.now _ _ _ _ _ _ conversion_of_whole c.in-Ok.ensures c.as_slice.ensures.value c.convert_bytes.ensures
+    source_ends 1048577 IsConvertAnswer _ _ _ c.in-Ok.bytes.items c.as_slice.result.now _ _ _ _ _ _ conversion_of_whole c.in-Ok.ensures.reads c.as_slice.ensures.value c.convert_bytes.ensures
 
 pub returns-in-Ok-clause-spent : goal.returns-in-Ok-clause-spent
-returns-in-Ok-clause-spent g c l = source_spent 1048577 _ _ c.in-Ok.bytes.items c.in-Ok.ensures.0 c.in-Ok.ensures.1
+returns-in-Ok-clause-spent g c l = source_spent 1048577 _ _ c.in-Ok.bytes.items c.in-Ok.ensures.reads

@@ -2,7 +2,7 @@ use Rattle.play_report.proofs.Writing.{then_writes, stops_writes}
 use Rattle.play_words.proofs.commands.convert.write_converted.Goals as goal
 
 pub returns-in-Ok : goal.returns-in-Ok
-returns-in-Ok g c = then_writes _ _ _ _ _ _ _ _ _ c.in-Ok.ensures.0 c.in-Ok.ensures.1 c.write_all.ensures
+returns-in-Ok g c = then_writes _ _ _ _ _ _ _ _ _ c.in-Ok.ensures.0 c.in-Ok.ensures.1 c.write_lines.ensures
 
 pub returns-in-Err : goal.returns-in-Err
 returns-in-Err g c = stops_writes _ _ _ _ _ _ c.in-Err.ensures

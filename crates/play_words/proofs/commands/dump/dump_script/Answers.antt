@@ -6,8 +6,8 @@ use Rattle.play_words.proofs.commands.dump.dump_script.Goals as goal
 
 pub write_end-requires : goal.write_end-requires
 write_end-requires g c =
-    let f = c.in-Ok.ensures in
-    record { shape = _; seats = f.1.0; closed = f.1.1; played = f.1.2; parts = f.1.3; report = f.0 }
+    let e = c.in-Ok.ensures.ends in
+    record { shape = _; few = c.requires.cells.1; seats = e.seats; closed = e.closed; played = e.played; parts = e.parts; report = c.in-Ok.ensures.answers }
 
 pub returns-in-Ok : goal.returns-in-Ok
 returns-in-Ok g c =

@@ -1,5 +1,5 @@
 use Rattle.gc_script.specs.Script.{script}
-use Rattle.play_words.specs.Answers.{LoadsTo}
+use Rattle.play_words.specs.Loading.{LoadsTo}
 use Rattle.command_words.specs.Commands.{options_of}
 use Rattle.play_words.proofs.Ends.{read_ends}
 use Rattle.play_words.proofs.commands.load.load_bytes.Goals as goal

@@ -1,6 +1,6 @@
 use Rattle.gc_script.specs.Script.{script}
 use Rattle.gc_script.specs.Shown.{fault_of}
-use Rattle.play_words.specs.Answers.{IsRunAnswer, RunsTo}
+use Rattle.play_words.specs.RunAnswers.{IsRunAnswer, RunsTo}
 use Rattle.command_words.specs.Commands.{options_of}
 use Rattle.play_words.specs.Ending.{IsFaultAnswer}
 use Rattle.play_words.proofs.Ends.{other_ends, read_ends}

@@ -4,7 +4,7 @@ use Rattle.play_words.proofs.commands.schedule.check_source.Goals as goal
 
 pub returns-in-Ok-clause-ends : goal.returns-in-Ok-clause-ends
 returns-in-Ok-clause-ends g c =
-    source_ends 4194305 IsScheduleAnswer _ _ _ c.in-Ok.bytes.items c.as_slice.result.now _ _ _ _ _ _ schedule_of_whole c.in-Ok.ensures c.as_slice.ensures.value c.check_bytes.ensures
+    source_ends 4194305 IsScheduleAnswer _ _ _ c.in-Ok.bytes.items c.as_slice.result.now _ _ _ _ _ _ schedule_of_whole c.in-Ok.ensures.reads c.as_slice.ensures.value c.check_bytes.ensures
 
 pub returns-in-Ok-clause-spent : goal.returns-in-Ok-clause-spent
-returns-in-Ok-clause-spent g c l = source_spent 4194305 _ _ c.in-Ok.bytes.items c.in-Ok.ensures.0 c.in-Ok.ensures.1
+returns-in-Ok-clause-spent g c l = source_spent 4194305 _ _ c.in-Ok.bytes.items c.in-Ok.ensures.reads

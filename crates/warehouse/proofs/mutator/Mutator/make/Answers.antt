@@ -5,7 +5,7 @@ use Rattle.warehouse.proofs.Lists.{made-most}
 use Rattle.warehouse.proofs.mutator.Mutator.make.Goals as goal
 
 pub returns-in-Ok-with_capacity-clause-room : goal.returns-in-Ok-with_capacity-clause-room
-returns-in-Ok-with_capacity-clause-room c = λ none.
+returns-in-Ok-with_capacity-clause-room c = λ none objects.
     let all : List Execution = joined c.args.section.now.parts in
     let most : made_by all ≤ length all = made-most all in
     let said : length c.in-Ok.said.items ≡ 0 = ap (λ xs. length xs) c.in-Ok.ensures.items in
@@ -14,6 +14,6 @@ returns-in-Ok-with_capacity-clause-room c = λ none.
       said = omega (arith, said, c.in-Ok.ensures.capacity, c.printed.ensures);
       places = omega (arith, places, c.in-Ok-with_capacity.ensures.capacity, c.made.ensures);
       count = omega (arith, c.see_few.ensures);
-      made = omega (arith, none, most, c.see_few.ensures);
+      made = omega (arith, none, most, objects, c.see_few.ensures);
       dropped = omega arith;
     }

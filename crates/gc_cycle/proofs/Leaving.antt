@@ -1,0 +1,41 @@
+-- Steps that change no statistic.
+use Rattle.std.proofs.Common.{ℕ, ◌≡◌, [], ◌∷◌, refl, true, false}
+use Rattle.std.proofs.lemmas.Bool.{false≢true}
+use Rattle.mark_core.specs.declared.kinds.Phase.TheVariants.{Marking}
+use Rattle.mark_core.specs.declared.kinds.Step.{Step}
+use Rattle.mark_core.specs.declared.kinds.Step.TheVariants.{AddStat, Reset, StorePhase}
+use Rattle.gc_table.specs.Log.{Only}
+use Rattle.gc_table.specs.Running.{Ran}
+use Rattle.gc_table.specs.Taking.{after}
+use Rattle.gc_table.specs.declared.view.View.{View}
+use Rattle.gc_table.proofs.Log.{only-after}
+use Rattle.stop_world.specs.Waiting.{watches}
+use Rattle.gc_cycle.specs.Lower.{sweeps_next, traces_cells}
+use Rattle.gc_cycle.specs.Pacing.{kicks}
+use Rattle.gc_cycle.specs.Refilling.{looks_for_end}
+use Rattle.gc_cycle.specs.Statistics.{leaves_numbers}
+
+pub traces-leave : (step : Step) → traces_cells step ≡ true → leaves_numbers step ≡ true
+traces-leave (AddStat which by down) e = absurd (false≢true e)
+traces-leave (Reset which) e = absurd (false≢true e)
+traces-leave step e = refl
+
+pub sweeps-leave : (step : Step) → sweeps_next step ≡ true → leaves_numbers step ≡ true
+sweeps-leave (AddStat which by down) e = absurd (false≢true e)
+sweeps-leave (Reset which) e = absurd (false≢true e)
+sweeps-leave step e = refl
+
+pub watches-leave : (step : Step) → watches step ≡ true → leaves_numbers step ≡ true
+watches-leave (AddStat which by down) e = absurd (false≢true e)
+watches-leave (Reset which) e = absurd (false≢true e)
+watches-leave step e = refl
+
+pub kicks-leave : (step : Step) → kicks step ≡ true → leaves_numbers step ≡ true
+kicks-leave (AddStat which by down) e = absurd (false≢true e)
+kicks-leave (Reset which) e = absurd (false≢true e)
+kicks-leave step e = refl
+
+pub looks-leave : (step : Step) → looks_for_end step ≡ true → leaves_numbers step ≡ true
+looks-leave (AddStat which by down) e = absurd (false≢true e)
+looks-leave (Reset which) e = absurd (false≢true e)
+looks-leave step e = refl

@@ -1,0 +1,81 @@
+-- How a drain goes: the roots are seen to, and it goes in rounds, each of which works.
+use Rattle.std.specs.Prelude.{ℕ, ◌≡◌, ◌<◌, List, [], ◌∷◌, IsTrue}
+use Rattle.mark_core.specs.Numbers.{card_counter}
+use Rattle.mark_core.specs.Seats.{phase_number}
+use Rattle.mark_core.specs.declared.kinds.Phase.{Phase}
+use Rattle.mark_core.specs.declared.kinds.Phase.TheVariants.{Clear, Drain, Sweep}
+use Rattle.mark_core.specs.declared.kinds.Step.TheVariants.{Reset, StorePhase}
+use Rattle.gc_table.specs.Log.{event, events}
+use Rattle.gc_table.specs.Running.{Ran}
+use Rattle.gc_table.specs.declared.view.Entry.{Entry}
+use Rattle.gc_table.specs.declared.view.View.{View}
+use Rattle.packet_pools.specs.Seeking.{some_event}
+use Rattle.card_clean.specs.Drained.{FindsNone, FindsWork}
+use Rattle.gc_cycle.specs.Drained.{IsDrained, IsRooted}
+use Rattle.gc_cycle.specs.Events.{never, since_last}
+use Rattle.gc_cycle.specs.Finishing.{IsPart}
+use Rattle.gc_cycle.specs.Sorts.{moves_to, opens}
+use Rattle.gc_cycle.specs.Turns.{DrainsFor, SeesToRoots, round_quota}
+
+-- a look at the cards and at the count of packets found something left; and after it a round was made, in which so many cells were popped, or at some moment nothing was left in hand and there was no packet to read from
+pub record GoesRound (v w : View) : Type 0 where
+  pub looked : View
+  pub looks : Ran v looked
+  pub left : FindsWork v.shape (events v looked)
+  pub ran : Ran looked w
+  pub worked : DrainsFor round_quota looked w
+
+-- such rounds and nothing else, each up to the next of these views, and at last a look that found each card clean and all packets empty
+abbrev pub GoesInRounds : List View → View → View → Type 0
+GoesInRounds [] v w = Ran v w × FindsNone v.shape (events v w)
+GoesInRounds (x ∷ xs) v w = GoesRound v x × GoesInRounds xs x w
+
+-- a drain by the seat alone: it saw to the roots until each was nil or marked, and went in rounds until nothing was left
+pub record DrainsAlone (v w : View) : Type 0 where
+  pub rooted : View
+  pub first : IsPart Drain v rooted
+  pub roots : IsRooted rooted
+  pub rounds : List View
+  pub goes : GoesInRounds rounds rooted w
+  pub part : IsPart Drain v w
+  pub drained : IsDrained w
+
+-- a drain with helpers: the roots of all sections were seen to as far as packets could be had, helpers were let in, and the seat made a round
+pub record DrainsTogether (v w : View) : Type 0 where
+  pub part : IsPart Drain v w
+  pub roots : (section : ℕ) → section < v.shape.sections → SeesToRoots section v w
+  pub opened : IsTrue (some_event opens (events v w))
+  pub worked : DrainsFor round_quota v w
+
+-- the first step moved the phase from Drain to this one
+abbrev pub LeavesDrain : Phase → View → View → Type 0
+LeavesDrain to v w = (rest : List Entry) × (events v w ≡ event (StorePhase to) (phase_number Drain) ∷ rest)
+
+-- a drain began: since the phase moved to Drain only the counter of cards was set
+abbrev pub BeginsDrain : View → View → Type 0
+BeginsDrain v w = Ran v w × (since_last (moves_to Drain) (events v w) ≡ event (Reset card_counter) 0 ∷ [])
+
+-- from a drain that had begun: it went on with helpers and then alone, until nothing was left, and only then the phase moved to Sweep
+pub record DrainsToSweep (v w : View) : Type 0 where
+  pub shared : View
+  pub drained : View
+  pub together : DrainsTogether v shared
+  pub alone : DrainsAlone shared drained
+  pub after : Ran drained w
+  pub sweeps : LeavesDrain Sweep drained w
+  pub last : IsTrue (never (moves_to Drain) (events drained w))
+
+-- the last drain of a call
+pub record HasDrained (v w : View) : Type 0 where
+  pub begun : View
+  pub begins : BeginsDrain v begun
+  pub drains : DrainsToSweep begun w
+
+-- a drain before it: what was left was marked by the seat alone, and only then the phase moved to Clear
+pub record DrainsBefore (v w : View) : Type 0 where
+  pub begun : View
+  pub drained : View
+  pub begins : BeginsDrain v begun
+  pub alone : DrainsAlone begun drained
+  pub after : Ran drained w
+  pub clears : LeavesDrain Clear drained w

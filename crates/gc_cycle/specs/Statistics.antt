@@ -1,0 +1,115 @@
+-- What a call does to the statistics that pace a cycle: the cells marked last, those scanned again, the traced ones, and the free ones.
+use Rattle.std.specs.Prelude.{ℕ, ◌≡◌, ◌⊎◌, min, List, [], ◌∷◌, Bool, true, false, Option, Some, None, IsTrue}
+use Rattle.std.specs.Int.Count.{ones}
+use Rattle.mark_core.specs.Numbers.{free_count, traced_count}
+use Rattle.mark_core.specs.declared.kinds.Phase.TheVariants.{Idle}
+use Rattle.mark_core.specs.declared.kinds.Step.{Step}
+use Rattle.mark_core.specs.declared.kinds.Step.TheVariants.{AddStat, Reset}
+use Rattle.gc_table.specs.Log.{Only, events}
+use Rattle.gc_table.specs.Running.{Ran}
+use Rattle.gc_table.specs.declared.view.Entry.{Entry}
+use Rattle.gc_table.specs.declared.view.View.{View}
+use Rattle.packet_pools.specs.Fields.{picked}
+use Rattle.alloc_cache.specs.declared.cache.Cache.{Cache}
+use Rattle.gc_cycle.specs.Cycles.{lets_help}
+use Rattle.gc_cycle.specs.DrainRounds.{HasDrained}
+use Rattle.gc_cycle.specs.Ending.{InEach, IsCycleEnd}
+use Rattle.gc_cycle.specs.Finishing.{IsAloneIn, finishes, most}
+use Rattle.gc_cycle.specs.Helping.{freed_in, rescanned_in}
+use Rattle.gc_cycle.specs.Standing.{IsAlone}
+use Rattle.gc_cycle.specs.declared.counts.Counts.{Counts}
+use Rattle.gc_cycle.specs.declared.counts.Refill.{Refill}
+use Rattle.gc_cycle.specs.declared.counts.Refill.TheVariants as refills
+use Rattle.gc_cycle.specs.declared.counts.Safe.{Safe}
+use Rattle.gc_cycle.specs.declared.counts.Safe.TheVariants as safes
+
+-- the step neither adds to a statistic, nor takes from it, nor sets one or a counter to 0
+abbrev pub leaves_numbers : Step → Bool
+leaves_numbers (AddStat which by down) = false
+leaves_numbers (Reset which) = false
+leaves_numbers step = true
+
+-- the step, where it does
+abbrev pub changes : Step → ℕ → List Step
+changes (AddStat which by down) found = AddStat which by down ∷ []
+changes (Reset which) found = Reset which ∷ []
+changes step found = []
+
+-- all steps among these events that do, in their order
+abbrev pub numbers_changed : List Entry → List Step
+numbers_changed es = picked changes es
+
+-- the call changed the numbers by these steps, and by no other
+pub record ChangesBy (steps : List Step) (v w : View) : Type 0 where
+  pub ran : Ran v w
+  pub all : numbers_changed (events v w) ≡ steps
+
+-- the free cells of a block that was claimed are taken off
+abbrev pub takes_off : Cache → Step
+takes_off h = AddStat free_count (ones h.cells) true
+
+-- those that are left in a cache are counted again
+abbrev pub gives_back : Cache → Step
+gives_back h = AddStat free_count (ones h.cells) false
+
+-- it is told that so many cells were traced
+abbrev pub tells : ℕ → Step
+tells n = AddStat traced_count n false
+
+-- a cycle ended, by all that `finish_cycle` and `precise` promise of it alike: alone in a stop the seat drained and swept, let helpers in, and set the numbers to those of this cycle
+pub record EndsCycle (v w : View) : Type 0 where
+  pub ran : Ran v w
+  pub only : Only finishes v w
+  pub alone : IsAlone v
+  pub idle : IsAloneIn Idle w
+  pub drains : HasDrained v w
+  pub help : IsTrue (lets_help (events v w))
+  pub counts : Counts
+  pub end : InEach (IsCycleEnd counts) w
+  pub rescanned : counts.rescanned ≡ min (rescanned_in v (events v w)) most
+  pub freed : counts.freed ≡ freed_in v (events v w)
+
+-- a cycle ended between the two views of each pair; up to the last of them nothing else changed the numbers, and after it these steps did, and no other
+abbrev pub BetweenCycles : List Step → List (View × View) → View → View → Type 0
+BetweenCycles steps [] v w = ChangesBy steps v w
+BetweenCycles steps (end ∷ ends) v w = ChangesBy [] v end.0 × EndsCycle end.0 end.1 × BetweenCycles steps ends end.1 w
+
+-- what the cycles that ended in the call set stays, but for these steps after the last of them
+abbrev pub ChangesNumbers : List Step → View → View → Type 0
+ChangesNumbers steps v w = (ends : List (View × View)) × BetweenCycles steps ends v w
+
+-- with a cache: its free cells were taken off, and it may have been told how many cells were traced for it. With Full: nothing was changed, or a block was claimed and given up
+abbrev pub RefillsNumbers : Refill → View → View → Type 0
+RefillsNumbers (refills.Cache h paid) v w = ChangesNumbers (takes_off h ∷ []) v w ⊎ ChangesNumbers (takes_off h ∷ tells paid.done ∷ []) v w
+RefillsNumbers refills.Full v w = ChangesNumbers [] v w ⊎ ((h : Cache) × ChangesNumbers (takes_off h ∷ gives_back h ∷ []) v w)
+
+-- the same of a round, which may have no answer
+abbrev pub RoundNumbers : Option Refill → View → View → Type 0
+RoundNumbers None v w = ChangesNumbers [] v w
+RoundNumbers (Some r) v w = RefillsNumbers r v w
+
+-- what a search for a block takes off
+abbrev pub taken : Option Cache → List Step
+taken None = []
+taken (Some h) = takes_off h ∷ []
+
+-- the answer of a mutator that has claimed this cache: it may have told what it traced for it, or it gave it up
+abbrev pub PaysNumbers : Cache → Refill → View → View → Type 0
+PaysNumbers h (refills.Cache k paid) v w = (k ≡ h) × (ChangesBy [] v w ⊎ ChangesBy (tells paid.done ∷ []) v w)
+PaysNumbers h refills.Full v w = ChangesBy (gives_back h ∷ []) v w
+
+-- what is changed where a mutator was handed the first and has the second afterwards
+abbrev pub given_up : Option Cache → Option Cache → List Step
+given_up None kept = []
+given_up (Some h) None = gives_back h ∷ []
+given_up (Some h) (Some k) = []
+
+-- the mutator kept its cache, or gave it up and counted its free cells again
+pub record GivesUp (handed kept : Option Cache) (v w : View) : Type 0 where
+  pub changed : ChangesBy (given_up handed kept) v w
+  pub same : (kept ≡ handed) ⊎ (kept ≡ None)
+
+-- the cache that comes with an answer
+abbrev pub cache_of : Safe → Option Cache
+cache_of (safes.Going kept) = kept
+cache_of safes.Full = None

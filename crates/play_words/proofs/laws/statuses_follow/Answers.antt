@@ -1,0 +1,5 @@
+use Rattle.play_words.proofs.Following.{statuses-follow}
+use Rattle.play_words.proofs.laws.statuses_follow.Goals as goal
+
+pub returns : goal.returns
+returns c = statuses-follow

@@ -1,0 +1,40 @@
+//! Writes a text line by line.
+ghost use Rattle.std.specs.Prelude.{◌≡◌, ◌==◌, ◌<◌, ◌≤◌, length, position};
+ghost use Rattle.play_report.specs.Causes.{Writes};
+ghost use Rattle.play_words.specs.Lines.{first_line};
+
+use play_report::{Failed, Sink, write_all};
+
+/// Where the first line feed stands.
+fn line_feed(text: &[u8]) -> Option<usize>
+    ensures { result ≡ position (λ b. b == 10) text.now }
+{
+    text.iter().position(|b| *b == b'\n')
+}
+
+/// How many bytes the first line of a text has, with its line feed; a text without one is one line.
+fn first_line(text: &[u8]) -> usize
+    ensures is { result ≡ first_line text.now }
+    ensures within { result ≤ length text.now }
+    ensures some { 0 < length text.now → 0 < result }
+{
+    match line_feed(text) {
+        None => text.len(),
+        Some(k) => k + 1,
+    }
+}
+
+/// Hands a text to the sink, each line as one piece.
+pub fn write_lines<K: Sink>(sink: &mut K, text: &[u8]) -> Result<(), Failed>
+    ensures { Writes result (K.written sink.old) (K.written sink.new) (K.faults sink.old) (K.faults sink.new) text.now }
+{
+    let mut rest = text;
+    while !rest.is_empty() {
+        let (line, after) = rest.split_at(first_line(rest));
+        match write_all(sink, line) {
+            Ok(()) => rest = after,
+            Err(e) => return Err(e),
+        }
+    }
+    Ok(())
+}
