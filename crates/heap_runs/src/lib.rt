@@ -1,0 +1,20 @@
+//! What holds on whole runs of the core: laws over lists of events, each the contract of a function that does nothing.
+//!
+//! The laws of `mark_core` speak of one event and of a rule that every state keeps. Here they are put together, so that the statement
+//! has no rule in it: [`none_freed`] says of every interleaving that no reachable cell is freed, and
+//! [`threads_free_none`] that what threads do to a heap is such an interleaving. `docs/INTERLEAVINGS.md` walks through it.
+#![tactic(auto)]
+
+ghost use Rattle.heap_runs.specs.Runs.{NoneFreed};
+ghost use Rattle.heap_runs.specs.Threads.{ThreadsFreeNone};
+
+/// On each run of the core, whichever seats act and in whatever order, no event frees a cell that is reachable just before it.
+pub fn none_freed()
+    ensures { NoneFreed }
+{}
+
+/// Whatever threads did with the seats of a heap that was closed, it is one run of the core, and no event of it frees a cell that is reachable just
+/// before it.
+pub fn threads_free_none()
+    ensures { ThreadsFreeNone }
+{}
