@@ -1,0 +1,20 @@
+use Rattle.std.proofs.Common.{◌≡◌, ◌+◌, List, subst, arith}
+use Rattle.std.proofs.lemmas.Grind.{common_steps}
+use Rattle.std.specs.Arc.{arc_value}
+use Rattle.gc_table.specs.declared.seat.Heap.{Heap}
+use Rattle.gc_table.specs.declared.seat.HeapSeat.{HeapSeat}
+use Rattle.managed_heap.specs.Opening.{AreNew}
+use Rattle.managed_heap.proofs.dealing.deal_tracers.Goals as goal
+
+pub loop-at-preserved : goal.loop-at-preserved
+loop-at-preserved c =
+    let h : Heap = arc_value c.args.heap.now in
+    let i = c.loop-at.invariant in
+    let xs : List HeapSeat = c.next_seat-seat.new.seats.items in
+    let next : c.args.first + c.loop-at.at + 1 ≡ c.args.first + (c.loop-at.at + 1) = omega arith in
+    let rest = c.next_seat-seat.ensures.rest in
+    record {
+      new = subst (λ n. AreNew h n xs) next (subst (λ (g : Heap). AreNew g (c.args.first + c.loop-at.at + 1) xs) c.deref.ensures rest);
+      rest = omega (arith, i.rest, c.next_seat-seat.ensures.count);
+      count = grind (arith, common_steps);
+    }

@@ -1,0 +1,97 @@
+-- What a mutator's calls do, told over its plain heap.
+use Rattle.std.specs.Prelude.{ℕ, ◌≡◌, ◌≤◌, ◌<◌, length, None}
+use Rattle.std.specs.Arc.{arc_value}
+use Rattle.plain_heap.specs.declared.operation.Op.{Op}
+use Rattle.plain_heap.specs.PlainHeap.{Heap as PlainHeap}
+use Rattle.plain_heap.specs.PlainStep.{IsInRange}
+use Rattle.gc_table.specs.Rule.{KnowsFull}
+use Rattle.gc_table.specs.Seats.{view_of}
+use Rattle.managed_heap.specs.Plain.{Steps, value_in}
+use Rattle.managed_heap.specs.Standing.{plain_of}
+use Rattle.managed_heap.specs.declared.mutator.Mutator.{Mutator}
+use Rattle.managed_heap.specs.declared.mutator.Place.TheVariants.{Inside, Outside}
+use Rattle.managed_heap.specs.declared.refused.Refused.{Refused}
+use Rattle.managed_heap.specs.declared.refused.Refused.TheVariants as refusals
+
+-- the plain heap of a mutator: its objects by their numbers, and what each variable refers to
+abbrev pub heap_of : Mutator → PlainHeap
+heap_of m = plain_of m.seat
+
+-- how many references an object has
+abbrev pub fields_of : Mutator → ℕ
+fields_of m = (arc_value m.heap).shape.fields
+
+-- how many objects it makes at most
+abbrev pub objects_of : Mutator → ℕ
+objects_of m = (arc_value m.heap).shape.objects
+
+-- the heap was found full, for good
+abbrev pub IsFull : Mutator → Type 0
+IsFull m = KnowsFull (view_of m.seat)
+
+-- neither the objects nor the variables changed, and the mutator is of the same world
+pub record IsSame (x y : Mutator) : Type 0 where
+  pub heap : heap_of y ≡ heap_of x
+  pub world : arc_value y.heap ≡ arc_value x.heap
+
+-- one operation was done by a mutator inside the world, and nothing else
+pub record IsDone (op : Op) (x y : Mutator) : Type 0 where
+  pub range : IsInRange (fields_of x) op
+  pub was : x.place ≡ Inside
+  pub inside : y.place ≡ Inside
+  pub steps : Steps op (heap_of x) (heap_of y)
+  pub world : arc_value y.heap ≡ arc_value x.heap
+
+-- why an operation isn't done: a number is out of range, or the mutator is outside
+abbrev pub Refuses : Refused → Op → Mutator → Type 0
+Refuses refusals.OutOfRange op x = IsInRange (fields_of x) op → ⊥
+Refuses refusals.Outside op x = x.place ≡ Outside
+Refuses e op x = ⊥
+
+-- it wasn't done, and nothing changed
+pub record IsRefused (e : Refused) (op : Op) (x y : Mutator) : Type 0 where
+  pub why : Refuses e op x
+  pub same : IsSame x y
+  pub place : y.place ≡ x.place
+
+-- why none was made: besides, the heap is full, and the mutator outside, or it has made all objects that have numbers
+abbrev pub MakesNone : Refused → Op → Mutator → Mutator → Type 0
+MakesNone refusals.OutOfRange op x y = (IsInRange (fields_of x) op → ⊥) × (y.place ≡ x.place)
+MakesNone refusals.Outside op x y = (x.place ≡ Outside) × (y.place ≡ Outside)
+MakesNone refusals.Full op x y = IsFull y × (x.place ≡ Inside) × (y.place ≡ Outside)
+MakesNone refusals.Spent op x y = (objects_of x ≤ length (heap_of x).objects) × (x.place ≡ Inside) × (y.place ≡ Inside)
+MakesNone refusals.Nil op x y = ⊥
+
+-- it was inside the world and is, and nothing changed
+pub record HasPassed (x y : Mutator) : Type 0 where
+  pub was : x.place ≡ Inside
+  pub inside : y.place ≡ Inside
+  pub same : IsSame x y
+
+-- it was outside, or found the heap full and is outside now; nothing changed
+abbrev pub StaysOut : Refused → Mutator → Mutator → Type 0
+StaysOut refusals.Outside x y = (x.place ≡ Outside) × (y.place ≡ Outside) × IsSame x y
+StaysOut refusals.Full x y = IsFull y × (x.place ≡ Inside) × (y.place ≡ Outside) × IsSame x y
+StaysOut e x y = ⊥
+
+-- it entered, or was inside already; nothing changed
+pub record HasEntered (x y : Mutator) : Type 0 where
+  pub inside : y.place ≡ Inside
+  pub same : IsSame x y
+
+-- it didn't, since the heap is full; nothing changed
+abbrev pub CantEnter : Refused → Mutator → Mutator → Type 0
+CantEnter refusals.Full x y = IsFull y × (x.place ≡ Outside) × (y.place ≡ Outside) × IsSame x y
+CantEnter e x y = ⊥
+
+-- it is outside; nothing changed
+pub record HasLeft (x y : Mutator) : Type 0 where
+  pub outside : y.place ≡ Outside
+  pub same : IsSame x y
+
+-- why no value is read: besides, the variable refers to nothing
+abbrev pub ReadsNone : Refused → ℕ → Mutator → Type 0
+ReadsNone refusals.OutOfRange v x = v < 32 → ⊥
+ReadsNone refusals.Outside v x = x.place ≡ Outside
+ReadsNone refusals.Nil v x = (v < 32) × (x.place ≡ Inside) × (value_in (heap_of x) v ≡ None)
+ReadsNone e v x = ⊥

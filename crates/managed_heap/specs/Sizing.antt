@@ -1,0 +1,12 @@
+-- The sizes that a world may have.
+use Rattle.std.specs.Prelude.{◌≡◌, ◌%◌, ◌≤◌}
+use Rattle.managed_heap.specs.declared.sizes.Sizes.{Sizes}
+
+-- each size is in its range
+pub record Fits (s : Sizes) : Type 0 where
+  pub cells : (64 ≤ s.cells) × (s.cells ≤ 16777216) × (s.cells % 64 ≡ 0)
+  pub fields : (1 ≤ s.fields) × (s.fields ≤ 16)
+  pub mutators : (1 ≤ s.mutators) × (s.mutators ≤ 32)
+  pub tracers : s.tracers ≤ 8
+  pub packets : (2 ≤ s.packets) × (s.packets ≤ 1024)
+  pub entries : (2 ≤ s.entries) × (s.entries ≤ 512)

@@ -1,0 +1,240 @@
+//! What a mutator does.
+ghost use Rattle.std.specs.Prelude.{◌≡◌, ◌<◌, IfErr, IfOk, IsFalse, IsTrue, None, Some};
+ghost use Rattle.plain_heap.specs.PlainHeap.{variable};
+ghost use Rattle.plain_heap.specs.declared.object.Ref.TheVariants.{Nil};
+ghost use Rattle.plain_heap.specs.declared.operation.Op.TheVariants as ops;
+ghost use Rattle.managed_heap.specs.Calls.{CantEnter, HasEntered, HasLeft, HasPassed, IsDone, IsRefused, IsSame, MakesNone, ReadsNone, Refuses, StaysOut, heap_of};
+ghost use Rattle.managed_heap.specs.Plain.{value_in};
+
+use crate::gates::{collect_turn, enter_turn, leave_turn, pass_turn};
+use crate::mutator::{Mutator, Place};
+use crate::operations::{
+    copy_variable, forget_variable, get_field, make_object, put_value, read_value, refer_to_one,
+    refers_to_nothing, set_field,
+};
+use crate::refused::Refused;
+use std::sync::Wait;
+
+/// How many variables a mutator has.
+const VARIABLES: u8 = 32;
+
+impl Mutator {
+    /// Enters the world, as soon as no collection is under way. Meanwhile it helps to collect. Full comes where the heap is full.
+    pub fn enter<R: Wait>(&mut self, rt: &R) -> Result<(), Refused>
+        ensures entered { IfOk result (λ _. HasEntered self.old self.new) }
+        ensures refused { IfErr result (λ e. CantEnter e self.old self.new) }
+    {
+        match self.place {
+            Place::Inside => Ok(()),
+            Place::Outside => match enter_turn(rt, &self.heap, &mut self.seat) {
+                Ok(()) => {
+                    self.place = Place::Inside;
+                    Ok(())
+                }
+                Err(full) => Err(full),
+            },
+        }
+    }
+
+    /// Leaves the world, if it is inside. What its variables refer to is kept. It leaves before it waits for anything, since a collection waits for it.
+    pub fn leave(&mut self)
+        ensures left { HasLeft self.old self.new }
+    {
+        match self.place {
+            Place::Outside => {}
+            Place::Inside => {
+                leave_turn(&self.heap, &mut self.seat);
+                self.place = Place::Outside;
+            }
+        }
+    }
+
+    /// A safe point, which each loop has that runs long and makes nothing. Where a collection is under way the mutator helps until that has ended.
+    pub fn safe_point<R: Wait>(&mut self, rt: &R) -> Result<(), Refused>
+        ensures passed { IfOk result (λ _. HasPassed self.old self.new) }
+        ensures refused { IfErr result (λ e. StaysOut e self.old self.new) }
+    {
+        match self.place {
+            Place::Outside => Err(Refused::Outside),
+            Place::Inside => match pass_turn(rt, &self.heap, &mut self.seat) {
+                Ok(()) => Ok(()),
+                Err(full) => {
+                    self.place = Place::Outside;
+                    Err(full)
+                }
+            },
+        }
+    }
+
+    /// A precise collection: afterwards the cells in use are those of the objects that were reachable while the world stood still. It is a safe point too.
+    pub fn collect<R: Wait>(&mut self, rt: &R) -> Result<(), Refused>
+        ensures passed { IfOk result (λ _. HasPassed self.old self.new) }
+        ensures refused { IfErr result (λ e. StaysOut e self.old self.new) }
+    {
+        match self.place {
+            Place::Outside => Err(Refused::Outside),
+            Place::Inside => match collect_turn(rt, &self.heap, &mut self.seat) {
+                Ok(()) => Ok(()),
+                Err(full) => {
+                    self.place = Place::Outside;
+                    Err(full)
+                }
+            },
+        }
+    }
+
+    /// Makes an object with this value, whose references refer to nothing, and lets variable v refer to it. It is a safe point: where no cell is free the
+    /// mutator collects, or waits until another has collected.
+    pub fn make<R: Wait>(&mut self, rt: &R, v: u8, value: u32) -> Result<(), Refused>
+        ensures made { IfOk result (λ _. IsDone (ops.New v value) self.old self.new) }
+        ensures refused { IfErr result (λ e. MakesNone e (ops.New v value) self.old self.new × IsSame self.old self.new) }
+    {
+        if v >= VARIABLES {
+            return Err(Refused::OutOfRange);
+        }
+        match self.place {
+            Place::Outside => Err(Refused::Outside),
+            Place::Inside => match make_object(rt, &self.heap, &mut self.seat, v, value) {
+                Ok(()) => Ok(()),
+                Err(Refused::Full) => {
+                    self.place = Place::Outside;
+                    Err(Refused::Full)
+                }
+                Err(other) => Err(other),
+            },
+        }
+    }
+
+    /// Reference i of variable v's object becomes what variable w refers to. Nothing happens where v refers to nothing.
+    pub fn set(&mut self, v: u8, i: u8, w: u8) -> Result<(), Refused>
+        ensures done { IfOk result (λ _. IsDone (ops.Set v i w) self.old self.new) }
+        ensures refused { IfErr result (λ e. IsRefused e (ops.Set v i w) self.old self.new) }
+    {
+        if v >= VARIABLES || w >= VARIABLES || u32::from(i) >= self.heap.shape().fields {
+            return Err(Refused::OutOfRange);
+        }
+        match self.place {
+            Place::Outside => Err(Refused::Outside),
+            Place::Inside => {
+                set_field(&self.heap, &mut self.seat, v, i, w);
+                Ok(())
+            }
+        }
+    }
+
+    /// Variable w becomes what reference i of variable v's object refers to, or refers to nothing where v does.
+    pub fn get(&mut self, w: u8, v: u8, i: u8) -> Result<(), Refused>
+        ensures done { IfOk result (λ _. IsDone (ops.Get w v i) self.old self.new) }
+        ensures refused { IfErr result (λ e. IsRefused e (ops.Get w v i) self.old self.new) }
+    {
+        if w >= VARIABLES || v >= VARIABLES || u32::from(i) >= self.heap.shape().fields {
+            return Err(Refused::OutOfRange);
+        }
+        match self.place {
+            Place::Outside => Err(Refused::Outside),
+            Place::Inside => {
+                get_field(&self.heap, &mut self.seat, w, v, i);
+                Ok(())
+            }
+        }
+    }
+
+    /// Variable w becomes what variable v is.
+    pub fn copy(&mut self, w: u8, v: u8) -> Result<(), Refused>
+        ensures done { IfOk result (λ _. IsDone (ops.Let w v) self.old self.new) }
+        ensures refused { IfErr result (λ e. IsRefused e (ops.Let w v) self.old self.new) }
+    {
+        if w >= VARIABLES || v >= VARIABLES {
+            return Err(Refused::OutOfRange);
+        }
+        match self.place {
+            Place::Outside => Err(Refused::Outside),
+            Place::Inside => {
+                copy_variable(&self.heap, &mut self.seat, w, v);
+                Ok(())
+            }
+        }
+    }
+
+    /// Variable v refers to nothing any more. What only it reached is garbage from then on.
+    pub fn forget(&mut self, v: u8) -> Result<(), Refused>
+        ensures done { IfOk result (λ _. IsDone (ops.Nil v) self.old self.new) }
+        ensures refused { IfErr result (λ e. IsRefused e (ops.Nil v) self.old self.new) }
+    {
+        if v >= VARIABLES {
+            return Err(Refused::OutOfRange);
+        }
+        match self.place {
+            Place::Outside => Err(Refused::Outside),
+            Place::Inside => {
+                forget_variable(&self.heap, &mut self.seat, v);
+                Ok(())
+            }
+        }
+    }
+
+    /// The value of variable v's object becomes this one. Nothing happens where v refers to nothing.
+    pub fn put(&mut self, v: u8, value: u32) -> Result<(), Refused>
+        ensures done { IfOk result (λ _. IsDone (ops.Put v value) self.old self.new) }
+        ensures refused { IfErr result (λ e. IsRefused e (ops.Put v value) self.old self.new) }
+    {
+        if v >= VARIABLES {
+            return Err(Refused::OutOfRange);
+        }
+        match self.place {
+            Place::Outside => Err(Refused::Outside),
+            Place::Inside => {
+                put_value(&self.heap, &mut self.seat, v, value);
+                Ok(())
+            }
+        }
+    }
+
+    /// The value of variable v's object. Nil where it refers to nothing.
+    pub fn value(&mut self, v: u8) -> Result<u32, Refused>
+        ensures value { IfOk result (λ value. (value_in (heap_of self.old) v ≡ Some value) × (v < 32) × HasPassed self.old self.new) }
+        ensures refused { IfErr result (λ e. ReadsNone e v self.old × IsSame self.old self.new) }
+        ensures place { self.new.place ≡ self.old.place }
+    {
+        if v >= VARIABLES {
+            return Err(Refused::OutOfRange);
+        }
+        match self.place {
+            Place::Outside => Err(Refused::Outside),
+            Place::Inside => match read_value(&self.heap, &mut self.seat, v) {
+                Some(value) => Ok(value),
+                None => Err(Refused::Nil),
+            },
+        }
+    }
+
+    /// Whether variable v refers to nothing.
+    pub fn is_nil(&self, v: u8) -> Result<bool, Refused>
+        ensures nil { IfOk result (λ nil. IsTrue nil → variable (heap_of self.now) v ≡ Nil) }
+        ensures some { IfOk result (λ nil. IsFalse nil → variable (heap_of self.now) v ≡ Nil → ⊥) }
+        ensures refused { IfErr result (λ e. Refuses e (ops.Say v) self.now) }
+    {
+        if v >= VARIABLES {
+            return Err(Refused::OutOfRange);
+        }
+        match self.place {
+            Place::Outside => Err(Refused::Outside),
+            Place::Inside => Ok(refers_to_nothing(&self.heap, &self.seat, v)),
+        }
+    }
+
+    /// Whether variables v and w refer to one object, or both to nothing.
+    pub fn same(&self, v: u8, w: u8) -> Result<bool, Refused>
+        ensures one { IfOk result (λ one. IsTrue one → variable (heap_of self.now) v ≡ variable (heap_of self.now) w) }
+        ensures two { IfOk result (λ one. IsFalse one → variable (heap_of self.now) v ≡ variable (heap_of self.now) w → ⊥) }
+        ensures refused { IfErr result (λ e. Refuses e (ops.Let v w) self.now) }
+    {
+        if v >= VARIABLES || w >= VARIABLES {
+            return Err(Refused::OutOfRange);
+        }
+        match self.place {
+            Place::Outside => Err(Refused::Outside),
+            Place::Inside => Ok(refer_to_one(&self.heap, &self.seat, v, w)),
+        }
+    }
+}

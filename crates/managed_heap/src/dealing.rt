@@ -1,0 +1,134 @@
+//! The seats of a new heap are dealt out to mutators and tracers.
+ghost use Rattle.std.specs.Prelude.{◌≡◌, ◌+◌, ◌<◌, ◌≤◌, All, IfErr, IfOk, IsTrue, is_some, vec_len};
+ghost use Rattle.std.specs.Arc.{arc_value};
+ghost use Rattle.gc_table.specs.Seats.{view_of};
+ghost use Rattle.managed_heap.specs.Lending.{IsFresh, IsOpened};
+ghost use Rattle.managed_heap.specs.Opening.{AreNew, IsNew};
+ghost use Rattle.managed_heap.specs.Sizing.{Fits};
+ghost use Rattle.managed_heap.specs.Standing.{Rests};
+ghost use Rattle.managed_heap.specs.declared.refused.NotOpened.TheVariants.{OutOfMemory};
+
+use crate::background::Tracer;
+use crate::mutator::{Mutator, Place};
+use crate::opening::{next_seat, open, open_turn};
+use crate::refused::NotOpened;
+use crate::sizes::Sizes;
+use crate::world::World;
+use gc_table::{Heap, HeapSeat};
+use std::alloc::{AllocError, Global};
+use std::sync::Arc;
+
+/// A mutator that has done nothing.
+fn mutator_of(heap: &Arc<Heap, Global>, seat: HeapSeat, _k: u32) -> Result<Mutator, AllocError>
+    requires seat { IsNew (arc_value heap.now) _k seat }
+    requires section { (0 < _k) × (_k < (arc_value heap.now).shape.sections) }
+    ensures fresh { IfOk result (IsFresh (arc_value heap.now)) }
+{
+    Ok(Mutator {
+        heap: Arc::try_clone(heap)?,
+        seat,
+        place: Place::Outside,
+    })
+}
+
+/// A tracer that has done nothing.
+fn tracer_of(heap: &Arc<Heap, Global>, seat: HeapSeat, _k: u32) -> Result<Tracer, AllocError>
+    requires seat { IsNew (arc_value heap.now) _k seat }
+{
+    Ok(Tracer {
+        heap: Arc::try_clone(heap)?,
+        seat,
+    })
+}
+
+/// Deals so many seats out to mutators, one after the other.
+fn deal_mutators(
+    alloc: Global,
+    heap: &Arc<Heap, Global>,
+    mutators: u32,
+    seats: &mut Vec<HeapSeat>,
+) -> Result<Vec<Mutator>, AllocError>
+    requires new { AreNew (arc_value heap.now) 1 seats.old.items }
+    requires enough { mutators ≤ vec_len seats.old }
+    requires sections { ((arc_value heap.now).shape.sections ≡ 1 + mutators) × (mutators ≤ 32) }
+    ensures fresh { IfOk result (λ r. All (IsFresh (arc_value heap.now)) r.items) }
+    ensures count { IfOk result (λ r. vec_len r ≡ mutators) }
+    ensures rest { IfOk result (λ _. AreNew (arc_value heap.now) (1 + mutators) seats.new.items) }
+    ensures left { IfOk result (λ _. vec_len seats.new + mutators ≡ vec_len seats.old) }
+{
+    let mut all = Vec::new(alloc);
+    for at in 0..mutators {
+        let seat = next_seat(heap, seats, 1 + at);
+        let mutator = mutator_of(heap, seat, 1 + at)?;
+        all.push(mutator)?;
+    }
+    Ok(all)
+}
+
+/// Deals so many seats, which are those from `first` on, out to tracers.
+fn deal_tracers(
+    alloc: Global,
+    heap: &Arc<Heap, Global>,
+    first: u32,
+    tracers: u32,
+    seats: &mut Vec<HeapSeat>,
+) -> Result<Vec<Tracer>, AllocError>
+    requires new { AreNew (arc_value heap.now) first seats.old.items }
+    requires enough { tracers ≤ vec_len seats.old }
+    requires few { (first ≤ 33) × (tracers ≤ 8) }
+    ensures count { IfOk result (λ r. vec_len r ≡ tracers) }
+{
+    let mut all = Vec::new(alloc);
+    for at in 0..tracers {
+        let seat = next_seat(heap, seats, first + at);
+        all.push(tracer_of(heap, seat, first + at)?)?;
+    }
+    Ok(all)
+}
+
+/// A world over this heap.
+fn share(
+    alloc: Global,
+    heap: Heap,
+    zero: HeapSeat,
+    seats: &mut Vec<HeapSeat>,
+    sizes: Sizes,
+) -> Result<World, AllocError>
+    requires fits { Fits sizes }
+    requires zero { Rests heap zero × IsTrue (is_some (view_of zero).state.section) }
+    requires new { AreNew heap 1 seats.old.items }
+    requires count { vec_len seats.old ≡ sizes.mutators + sizes.tracers }
+    requires shape { (heap.shape.fields ≡ sizes.fields) × (heap.shape.sections ≡ 1 + sizes.mutators) × (heap.shape.objects ≡ 4294967295) }
+    ensures opened { IfOk result (λ w. IsOpened sizes w) }
+{
+    let heap = Arc::new(alloc, heap)?;
+    let mutators = deal_mutators(alloc, &heap, sizes.mutators, seats)?;
+    let tracers = deal_tracers(alloc, &heap, 1 + sizes.mutators, sizes.tracers, seats)?;
+    Ok(World {
+        heap,
+        zero,
+        mutators,
+        tracers,
+        sizes,
+    })
+}
+
+/// A world of these sizes, which fit.
+pub fn open_fitting(alloc: Global, sizes: Sizes) -> Result<World, NotOpened>
+    requires fits { Fits sizes }
+    ensures opened { IfOk result (λ w. IsOpened sizes w) }
+    ensures refused { IfErr result (λ e. e ≡ OutOfMemory) }
+{
+    let (heap, mut seats) = match open(alloc, &sizes) {
+        Ok(made) => made,
+        Err(_) => return Err(NotOpened::OutOfMemory),
+    };
+    let mut zero = next_seat(&heap, &mut seats, 0);
+    if !open_turn(&heap, &mut zero) {
+        return Err(NotOpened::OutOfMemory);
+    }
+    match share(alloc, heap, zero, &mut seats, sizes) {
+        Ok(world) => Ok(world),
+        Err(_) => Err(NotOpened::OutOfMemory),
+    }
+}

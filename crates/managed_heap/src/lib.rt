@@ -1,0 +1,62 @@
+//! A heap that collects its own garbage, for a runtime to stand on.
+//!
+//! A [`World`] is a heap that threads share. A thread acts on it through a [`Mutator`]: it makes objects, stores references in them, follows and forgets
+//! them. A [`Tracer`] marks beside the mutators, where a processor is free for it. Each of them owns what the collector asks of it, and keeps the facts
+//! that the crates below ask for inside its type. So each call here is total: it asks its caller for no proof, and answers what happened.
+//!
+//!     let mut world = World::open(alloc, Sizes::of_cells(4096).fields(2).mutators(2))?;
+//!     let mut m = world.mutator()?;
+//!     m.enter(&rt)?;
+//!     m.make(&rt, 0, 7)?;      // variable 0 refers to a new object with value 7
+//!     m.set(0, 1, 0)?;         // its field 1 refers to itself
+//!     m.leave();
+//!
+//! # Objects and variables
+//!
+//! An object has a value of 32 bits and as many references as the world's sizes say, 1 to 16. A mutator has 32 *variables*, 0 to 31. They are its roots:
+//! what can be reached from them is kept, and all else is garbage. No call hands out a reference, so none can be missed by the collector. Each mutator
+//! has objects of its own, which no other mutator reads or changes.
+//!
+//! # What a mutator is told
+//!
+//! What a call does is told over a *plain heap*, which forgets nothing: its objects by their numbers, and what each variable refers to
+//! ([`heap_of`](specs/Standing.antt)). `set` is one operation of it, as are `make`, `get`, `put`, `copy` and `forget`; a safe point, a collection, entering and leaving
+//! change nothing of it. So a program is proved against a heap without a collector.
+//!
+//! # Inside and outside
+//!
+//! A mutator is *inside* the world or *outside* it. Objects are made, read and changed inside. A collection stops the world, for which it waits until each
+//! mutator that is inside comes to a safe point or leaves. So a loop that runs long has a safe point (`make` is one), and a thread that waits for anything, as input or
+//! another thread, leaves first. What it refers to is kept while it is outside.
+//!
+//! # What is final
+//!
+//! Where a precise collection leaves no cell free the heap is *full*, for good: each mutator is told by [`Refused::Full`], and is outside then. A mutator
+//! that has made 4,294,967,295 objects is *spent* ([`Refused::Spent`]): it can do all but make another.
+//!
+//! # Where what is
+//!
+//! `sizes` has the sizes, `refused` why a call did nothing, `world` the heap with those of its mutators and tracers that nobody has, `lending` how they are
+//! taken and given back, `mutator` and `background` the types, `calls` what a mutator does. Below them `opening` makes a heap, `turns` comes to a
+//! mutator's turn and to a free cell, `operations` does one operation, `gates` goes in and out, and `marking` is a tracer's turn.
+#![tactic(auto)]
+
+mod background;
+mod calls;
+mod dealing;
+mod gates;
+mod lending;
+mod marking;
+mod mutator;
+mod opening;
+mod operations;
+mod refused;
+mod sizes;
+mod turns;
+mod world;
+
+pub use background::{Tracer, Turn};
+pub use mutator::Mutator;
+pub use refused::{NotOpened, Refused};
+pub use sizes::Sizes;
+pub use world::{Statistics, World};

@@ -1,0 +1,29 @@
+//! A mutator in the hand of one thread.
+ghost use Rattle.std.specs.Arc.{arc_value};
+ghost use Rattle.std.specs.Prelude.{◌≡◌};
+ghost use Rattle.managed_heap.specs.Standing.{IsAtTurn, Waits};
+ghost use Rattle.managed_heap.specs.declared.mutator.Place.TheVariants as places;
+
+use gc_table::{Heap, HeapSeat};
+use std::alloc::Global;
+use std::sync::Arc;
+
+/// Where a mutator stands.
+#[derive(Clone, Copy, Debug, PartialEq, Eq, Drop)]
+pub enum Place {
+    /// Outside the world: a stop doesn't wait for it.
+    Outside,
+    /// In the world, at its turn.
+    Inside,
+}
+
+/// What one thread does objects with: 32 variables, 0 to 31, which are its roots, and the objects that can be reached from them. It begins outside the
+/// world. Before it is let go it is to leave, or to be given back: a stop waits for each mutator that is inside.
+#[derive(Drop)]
+pub struct Mutator {
+    pub(crate) heap: Arc<Heap, Global>,
+    pub(crate) seat: HeapSeat,
+    pub(crate) place: Place,
+    ghost outside: { place ≡ places.Outside → Waits (arc_value heap) seat },
+    ghost inside: { place ≡ places.Inside → IsAtTurn (arc_value heap) seat },
+}

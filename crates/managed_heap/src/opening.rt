@@ -1,0 +1,120 @@
+//! A heap with its seats, and the mutators' turn. Nothing waits: in a new heap nobody is inside.
+ghost use Rattle.std.specs.Prelude.{◌≡◌, ◌+◌, ◌<◌, IfOk, IsFalse, IsTrue, vec_len};
+ghost use Rattle.std.specs.Bool.{OnTrue};
+ghost use Rattle.mark_core.specs.Shapes.{IsShape};
+ghost use Rattle.mark_core.specs.declared.kinds.Phase.TheVariants.{Idle};
+ghost use Rattle.gc_table.specs.Running.{Alone};
+ghost use Rattle.gc_table.specs.Seats.{view_of};
+ghost use Rattle.gc_table.specs.Stopping.{has_moved};
+ghost use Rattle.gc_table.specs.Trials.{At, resting};
+ghost use Rattle.managed_heap.specs.Sizing.{Fits};
+ghost use Rattle.managed_heap.specs.Opening.{AreNew, IsNew, Keeps, Opens, flagged, stopped};
+
+use crate::refused::NotOpened;
+use crate::sizes::Sizes;
+use gc_table::{Heap, HeapSeat};
+use mark_core::{Phase, Shape};
+use plain_heap::NoPlan;
+use std::alloc::Global;
+use stop_world::{Raised, leave, raise, resume};
+
+/// The sizes of the heap: a section for each mutator besides section 0, which is the catalogue's and has nothing to do.
+fn shape_of(sizes: &Sizes) -> Shape
+    requires fits { Fits sizes.now }
+    ensures shape { IsShape result }
+    ensures fields { result.fields ≡ sizes.now.fields }
+    ensures objects { result.objects ≡ 4294967295 }
+    ensures sections { result.sections ≡ 1 + sizes.now.mutators }
+{
+    Shape {
+        cells: sizes.cells,
+        packets: sizes.packets,
+        entries: sizes.entries,
+        sections: 1 + sizes.mutators,
+        fields: sizes.fields,
+        objects: u32::MAX,
+    }
+}
+
+/// The heap, with a seat for each section and each tracer. Nothing takes memory for objects later: they lie in its cells.
+pub fn open(alloc: Global, sizes: &Sizes) -> Result<(Heap, Vec<HeapSeat>), NotOpened>
+    requires fits { Fits sizes.now }
+    ensures fields { IfOk result (λ r. r.0.shape.fields ≡ sizes.now.fields) }
+    ensures objects { IfOk result (λ r. r.0.shape.objects ≡ 4294967295) }
+    ensures sections { IfOk result (λ r. r.0.shape.sections ≡ 1 + sizes.now.mutators) }
+    ensures count { IfOk result (λ r. vec_len r.1 ≡ 1 + sizes.now.mutators + sizes.now.tracers) }
+    ensures seats { IfOk result (λ r. AreNew r.0 0 r.1.items) }
+{
+    let shape = shape_of(sizes);
+    match Heap::create(alloc, shape, shape.sections + sizes.tracers, &NoPlan) {
+        Ok(made) => Ok(made),
+        Err(_) => Err(NotOpened::OutOfMemory),
+    }
+}
+
+/// The first of the seats that are left, which is seat k.
+pub fn next_seat(heap: &Heap, seats: &mut Vec<HeapSeat>, _k: u32) -> HeapSeat
+    requires some { 0 < vec_len seats.old }
+    requires new { AreNew heap.now _k seats.old.items }
+    ensures seat { IsNew heap.now _k result }
+    ensures rest { AreNew heap.now (_k + 1) seats.new.items }
+    ensures count { vec_len seats.new + 1 ≡ vec_len seats.old }
+{
+    seats.remove(0)
+}
+
+/// Raises the flag that stops the world: true where it is the seat's own.
+fn raises(heap: &Heap, seat: &mut HeapSeat) -> bool
+    requires { At heap.now resting 0 seat.old }
+    ensures raised { OnTrue result (At heap.now flagged 0 seat.new × IsFalse (has_moved (view_of seat.new).log)) }
+    ensures keeps { Keeps (view_of seat.old) (view_of seat.new) }
+{
+    match raise(heap, seat) {
+        Raised::Yours => true,
+        Raised::Theirs => false,
+    }
+}
+
+/// Whether the world has stopped with no cycle under way, as it is found at once.
+fn stops_now(heap: &Heap, seat: &mut HeapSeat) -> bool
+    requires { At heap.now flagged 0 seat.old × IsFalse (has_moved (view_of seat.old).log) }
+    ensures stopped { OnTrue result (At heap.now stopped 0 seat.new × Alone Idle (view_of seat.new)) }
+    ensures keeps { Keeps (view_of seat.old) (view_of seat.new) }
+{
+    heap.observe(seat);
+    match heap.read_phase(seat) {
+        Phase::Idle => seat.state().knows,
+        _ => false,
+    }
+}
+
+/// Section 0 ends its turn.
+fn turn(heap: &Heap, seat: &mut HeapSeat)
+    requires { Opens heap.now stopped seat.old × (0 < heap.now.shape.sections) × Alone Idle (view_of seat.old) }
+    ensures { At heap.now stopped 0 seat.new × Alone Idle (view_of seat.new) }
+{
+    heap.next_season(seat);
+}
+
+/// The world goes on, and the seat is outside.
+fn goes_on(heap: &Heap, seat: &mut HeapSeat)
+    requires { At heap.now stopped 0 seat.old × Alone Idle (view_of seat.old) }
+    ensures { At heap.now resting 0 seat.new }
+{
+    resume(heap, seat);
+    leave(heap, seat);
+}
+
+/// Opens the mutators' turn with the seat of section 0, which has nothing to do in its own. False where another seat stops the world or a cycle is under
+/// way, which is not so in a new heap.
+pub fn open_turn(heap: &Heap, seat: &mut HeapSeat) -> bool
+    requires { Opens heap.now resting seat.old × (0 < heap.now.shape.sections) }
+    ensures { OnTrue result (At heap.now resting 0 seat.new) }
+{
+    if !raises(heap, seat) || !stops_now(heap, seat) {
+        return false;
+    }
+    turn(heap, seat);
+    goes_on(heap, seat);
+    true
+}

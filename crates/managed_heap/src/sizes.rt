@@ -1,0 +1,73 @@
+//! The sizes of a world.
+ghost use Rattle.std.specs.Bool.{OnFalse, OnTrue};
+ghost use Rattle.managed_heap.specs.Sizing.{Fits};
+
+/// The sizes of a world, which [`World::open`](crate::World::open) tests. All memory is taken when it opens.
+#[derive(Clone, Copy, Debug, PartialEq, Eq, Drop)]
+pub struct Sizes {
+    pub(crate) cells: u32,
+    pub(crate) fields: u32,
+    pub(crate) mutators: u32,
+    pub(crate) tracers: u32,
+    pub(crate) packets: u32,
+    pub(crate) entries: u32,
+}
+
+impl Sizes {
+    /// A heap of so many cells, 64 to 16,777,216, a multiple of 64. Each cell holds one object. Objects have two references, and there is one mutator and no
+    /// tracer, unless other numbers are given. Twice as many cells as objects are reachable at once are ample.
+    pub fn of_cells(cells: u32) -> Sizes {
+        Sizes {
+            cells,
+            fields: 2,
+            mutators: 1,
+            tracers: 0,
+            packets: 64,
+            entries: 32,
+        }
+    }
+
+    /// With so many references in each object, 1 to 16. Each takes a word in every cell.
+    pub fn fields(self, fields: u32) -> Sizes {
+        Sizes { fields, ..self }
+    }
+
+    /// With so many mutators, 1 to 32. Each is for one thread at a time.
+    pub fn mutators(self, mutators: u32) -> Sizes {
+        Sizes { mutators, ..self }
+    }
+
+    /// With so many tracers, 0 to 8. A tracer helps where a processor is free for it: without any, mutators trace as they make objects.
+    pub fn tracers(self, tracers: u32) -> Sizes {
+        Sizes { tracers, ..self }
+    }
+
+    /// With so many packets, 2 to 1,024, each with room for so many cells, 2 to 512, that wait to be scanned. Where more wait, cards take the place of
+    /// packets: too few cost time and nothing else.
+    pub fn packets(self, packets: u32, entries: u32) -> Sizes {
+        Sizes {
+            packets,
+            entries,
+            ..self
+        }
+    }
+
+    /// Whether each is in its range.
+    pub fn fit(&self) -> bool
+        ensures fits { OnTrue result (Fits self.now) }
+        ensures unfit { OnFalse result (Fits self.now → ⊥) }
+    {
+        64 <= self.cells
+            && self.cells <= 16_777_216
+            && self.cells % 64 == 0
+            && 1 <= self.fields
+            && self.fields <= 16
+            && 1 <= self.mutators
+            && self.mutators <= 32
+            && self.tracers <= 8
+            && 2 <= self.packets
+            && self.packets <= 1024
+            && 2 <= self.entries
+            && self.entries <= 512
+    }
+}

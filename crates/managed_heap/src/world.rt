@@ -1,0 +1,36 @@
+//! A heap that threads share, with those of its mutators and tracers that nobody has.
+ghost use Rattle.std.specs.Arc.{arc_value};
+ghost use Rattle.std.specs.Prelude.{IsTrue, is_some};
+ghost use Rattle.gc_table.specs.Seats.{view_of};
+ghost use Rattle.managed_heap.specs.Standing.{Rests};
+
+use crate::background::Tracer;
+use crate::mutator::Mutator;
+use crate::sizes::Sizes;
+use gc_table::{Heap, HeapSeat};
+use std::alloc::Global;
+use std::sync::Arc;
+
+/// Numbers of a world, each as it was read.
+#[derive(Clone, Copy, Debug, PartialEq, Eq, Drop)]
+pub struct Statistics {
+    /// How many cells there are.
+    pub cells: u32,
+    /// How many cells are free in blocks that no mutator has claimed.
+    pub free: u64,
+    /// How many cells the last cycle marked.
+    pub marked: u64,
+}
+
+/// A heap that threads share. It has those of its mutators and tracers that nobody has taken. The heap is freed when the world is closed.
+#[derive(Drop)]
+pub struct World {
+    pub(crate) heap: Arc<Heap, Global>,
+    /// The seat of section 0, which has nothing to do with objects: it reads and tells.
+    pub(crate) zero: HeapSeat,
+    pub(crate) mutators: Vec<Mutator>,
+    pub(crate) tracers: Vec<Tracer>,
+    pub(crate) sizes: Sizes,
+    ghost rests: { Rests (arc_value heap) zero },
+    ghost section: { IsTrue (is_some (view_of zero).state.section) },
+}
