@@ -1,0 +1,163 @@
+#!/usr/bin/env python3
+"""Draws the tables of bench/README.md and docs/PERFORMANCE.md as pictures under docs/figures.
+
+From the top of the repository: python3 bench/figures.py writes the pictures, and python3 bench/figures.py --check
+says whether those that are there are the ones that it would write. It needs Python's own library alone.
+"""
+import html
+import pathlib
+import re
+import sys
+
+TOP = pathlib.Path(__file__).resolve().parent.parent
+COLOURS = ["#0072b2", "#d55e00", "#009e73", "#cc79a7", "#e69f00", "#56b4e9"]
+WIDTH, HEIGHT = 640, 340
+LEFT, RIGHT, HEAD, FOOT = 64, 16, 48, 64
+
+
+def tables(name):
+    """The tables of a document: for each its header's cells, and its rows as lists of cells."""
+    found, rows = [], []
+    for line in (TOP / name).read_text().splitlines() + [""]:
+        if line.startswith("|"):
+            rows.append([cell.strip() for cell in line.strip().strip("|").split("|")])
+        elif rows:
+            found.append((rows[0], rows[2:]))
+            rows = []
+    return found
+
+
+def table(name, *columns):
+    """The rows of the one table of a document whose header has all these cells."""
+    fitting = [t for t in tables(name) if all(c in t[0] for c in columns)]
+    if len(fitting) != 1:
+        sys.exit(f"figures: {name} has {len(fitting)} tables with the columns {', '.join(columns)}")
+    return fitting[0]
+
+
+def number(cell):
+    """The first number of a cell."""
+    return float(re.search(r"-?\d[\d,]*(\.\d+)?", cell).group().replace(",", ""))
+
+
+def series(name, label, columns):
+    """What a table has in these columns, each with the labels of its rows."""
+    header, rows = table(name, label, *columns)
+    at = header.index(label)
+    labels = [row[at].split(":")[0].strip("`") for row in rows]
+    return labels, [(c, [number(row[header.index(c)]) for row in rows]) for c in columns]
+
+
+def text(x, y, words, anchor="middle", size=12, turn=""):
+    return f'<text x="{x:.1f}" y="{y:.1f}" text-anchor="{anchor}" font-size="{size}"{turn}>{html.escape(words)}</text>'
+
+
+def top_of(most):
+    """A round number that is no less, and the step of the lines below it."""
+    for step in (0.1, 0.2, 0.5, 1, 2, 5, 10, 20, 50, 100, 200, 500, 1000):
+        if most <= 6 * step:
+            lines = -(-most // step)
+            return lines * step, step
+    return most, most / 5
+
+
+def frame(title, unit, most):
+    """The title, the lines with their numbers, and where a value stands."""
+    top, step = top_of(most)
+    height = HEIGHT - HEAD - FOOT
+    place = lambda value: HEAD + height * (1 - value / top)
+    parts = [text(WIDTH / 2, 22, title, size=15), text(16, HEAD + height / 2, unit, turn=f' transform="rotate(-90 16 {HEAD + height / 2:.1f})"')]
+    for k in range(int(round(top / step)) + 1):
+        y = place(k * step)
+        parts.append(f'<line x1="{LEFT}" y1="{y:.1f}" x2="{WIDTH - RIGHT}" y2="{y:.1f}" stroke="#dddddd"/>')
+        parts.append(text(LEFT - 6, y + 4, f"{k * step:g}", "end"))
+    return parts, place
+
+
+def legend(names):
+    parts, x = [], LEFT
+    for k, name in enumerate(names):
+        parts.append(f'<rect x="{x}" y="{HEIGHT - 22}" width="12" height="12" fill="{COLOURS[k]}"/>')
+        parts.append(text(x + 18, HEIGHT - 12, name.replace("`", ""), "start"))
+        x += 34 + 7 * len(name)
+    return parts
+
+
+def slots(count):
+    """The middle of each place along the foot, and how wide a place is."""
+    wide = (WIDTH - LEFT - RIGHT) / count
+    return [LEFT + wide * (k + 0.5) for k in range(count)], wide
+
+
+def bars(title, unit, labels, lines):
+    parts, place = frame(title, unit, max(v for _, values in lines for v in values))
+    middles, wide = slots(len(labels))
+    bar = wide * 0.7 / len(lines)
+    for k, (_, values) in enumerate(lines):
+        for middle, value in zip(middles, values):
+            x = middle + bar * (k - len(lines) / 2)
+            parts.append(f'<rect x="{x:.1f}" y="{place(value):.1f}" width="{bar - 2:.1f}" height="{HEIGHT - FOOT - place(value):.1f}" fill="{COLOURS[k]}"/>')
+            parts.append(text(x + bar / 2 - 1, place(value) - 4, f"{value:g}", size=10))
+    return finish(parts, middles, labels, [name for name, _ in lines])
+
+
+def curves(title, unit, labels, lines):
+    parts, place = frame(title, unit, max(v for _, values in lines for v in values))
+    middles, _ = slots(len(labels))
+    for k, (_, values) in enumerate(lines):
+        points = [(x, place(v)) for x, v in zip(middles, values)]
+        path = " ".join(f"{x:.1f},{y:.1f}" for x, y in points)
+        parts.append(f'<polyline points="{path}" fill="none" stroke="{COLOURS[k]}" stroke-width="2"/>')
+        for x, y in points:
+            parts.append(f'<circle cx="{x:.1f}" cy="{y:.1f}" r="3.5" fill="{COLOURS[k]}"/>')
+    return finish(parts, middles, labels, [name for name, _ in lines])
+
+
+def finish(parts, middles, labels, names):
+    for x, label in zip(middles, labels):
+        parts.append(text(x, HEIGHT - FOOT + 16, label))
+    parts += legend(names)
+    style = 'font-family="sans-serif" fill="#222222"'
+    head = f'<svg xmlns="http://www.w3.org/2000/svg" width="{WIDTH}" height="{HEIGHT}" viewBox="0 0 {WIDTH} {HEIGHT}" {style}>'
+    ground = f'<rect width="{WIDTH}" height="{HEIGHT}" fill="#ffffff"/>'
+    return "\n".join([head, ground] + parts + ["</svg>", ""])
+
+
+def to_floor():
+    labels, lines = series("bench/README.md", "Script", ["gcplay to the floor"])
+    return bars("Processor time beside the same steps in C++, one worker", "times the floor", labels, lines)
+
+
+def speed_up():
+    """How many times as fast as one worker."""
+    labels, lines = series("docs/PERFORMANCE.md", "Workers", ["gcplay, clock", "Floor, clock"])
+    lines = [(name, [values[0] / v for v in values]) for name, values in lines]
+    return curves("orders: speed-up by workers, by the clock", "times one worker", labels, lines)
+
+
+def tracers():
+    labels, lines = series("docs/PERFORMANCE.md", "Tracers", ["processor, `orders`", "clock, `orders`", "processor, `live`", "clock, `live`"])
+    return curves("What tracers cost, four workers", "milliseconds", labels, lines)
+
+
+FIGURES = {"to_floor": to_floor, "speed_up": speed_up, "tracers": tracers}
+
+
+def main():
+    check = sys.argv[1:] == ["--check"]
+    stale = []
+    for name, draw in FIGURES.items():
+        path = TOP / "docs" / "figures" / f"{name}.svg"
+        picture = draw()
+        if check:
+            if not path.is_file() or path.read_text() != picture:
+                stale.append(path.name)
+        else:
+            path.parent.mkdir(exist_ok=True)
+            path.write_text(picture)
+    if stale:
+        sys.exit("figures: not those of the tables: " + ", ".join(stale))
+
+
+if __name__ == "__main__":
+    main()
