@@ -1,6 +1,6 @@
 #!/bin/sh
-# Compares the documents with the repository: the picture of the crates with crates.txt, the names in backquotes with the sources, and the code of
-# docs/EMBEDDING.md with the program that it is taken from.
+# Compares the documents with the repository: the picture of the crates with crates.txt, the names in backquotes with the sources, the code of
+# docs/EMBEDDING.md with the programs that it is taken from, and the files that a page names with those that its clauses need.
 # From the top of the repository: sh docs/check.sh. It prints what differs, and nothing where all agrees.
 set -eu
 export LC_ALL=C
@@ -45,10 +45,13 @@ for text in README.md docs/*.md bench/README.md crates/*/README.md; do
     done
 done
 
-# Code on the page about embedding that isn't the program's, word for word.
-cat crates/binary_trees/src/*.rt >"$folder/program"
+# Code on the page about embedding that isn't that of a program over the collector, word for word.
+cat crates/binary_trees/src/*.rt crates/hash_table/src/*.rt >"$folder/program"
 awk '
 FNR == NR { program = program $0 "\n"; next }
 /^```rust$/ { block = ""; inside = 1; next }
-/^```$/ { if (inside && !index(program, block)) print "docs/EMBEDDING.md: what ends in line " FNR " is not in crates/binary_trees/src"; inside = 0; next }
+/^```$/ { if (inside && !index(program, block)) print "docs/EMBEDDING.md: what ends in line " FNR " is neither in crates/binary_trees/src nor in crates/hash_table/src"; inside = 0; next }
 inside { block = block $0 "\n" }' "$folder/program" docs/EMBEDDING.md
+
+# Pages that walk through the definitions of a clause.
+grep -l '^<!-- closure: ' docs/*.md | xargs python3 docs/closure.py

@@ -16,6 +16,8 @@ import schedules
 from cases import CHURN, FIRST, SEASONS, TANGLED, TWO, Run, example, runs
 from disturbed import BOUND, Disturbed, each
 
+# How many bytes the program gathers before it hands them on.
+GATHERED = 65_536
 PARTS = (1, 4, 4096)
 READS = (1, 10, 4096)
 
@@ -63,10 +65,21 @@ def reads_that_fail(judge, disturbed, run):
                 judge.take("no read is left to fail", run, same(run, answer) and not answer[2], (size, call, answer))
 
 
+def buffers(run):
+    """What the program hands on together: lines of up to 65,536 bytes, and what is left at its end."""
+    gathered = b""
+    for piece in run.pieces():
+        if gathered and len(gathered) + len(piece) > GATHERED:
+            yield gathered
+            gathered = b""
+        gathered += piece
+    yield gathered
+
+
 def writes_that_fail(judge, disturbed, run):
     """A write that fails, or takes nothing, gives the status 5 and a front of the text: what the writes before took."""
     for size in PARTS:
-        taken = [piece[i : i + size] for piece in run.pieces() for i in range(0, len(piece), size)]
+        taken = [buffer[i : i + size] for buffer in buffers(run) for i in range(0, len(buffer), size)]
         for call in range(1, len(taken) + 2):
             answer = disturbed.answer(run.words, run.source, write_bytes=size, write_fails=call, write_zero=call % 2)
             if call <= len(taken):
