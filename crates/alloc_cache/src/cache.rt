@@ -1,7 +1,7 @@
 //! A cache in a mutator's hand.
 ghost use Rattle.std.specs.Prelude.{◌≡◌, None, IfNone, IfSome, IsTrue};
 ghost use Rattle.std.specs.Int.Count.{ones};
-ghost use Rattle.gc_table.specs.Seats.{view_of};
+ghost use Rattle.gc_table.specs.Seats.{state_of, view_of};
 ghost use Rattle.alloc_cache.specs.Caching.{IsCached, is_whole};
 
 use gc_table::HeapSeat;
@@ -32,9 +32,9 @@ impl Cache {
 /// The cache that the seat's record has, for a caller that kept none of its own between two calls. It is the seat's as any is: once it is given up, no
 /// other of the same block can be spent.
 pub fn cache_of(seat: &HeapSeat) -> Option<Cache>
-    requires whole { IsTrue (is_whole (view_of seat.now).state.cache) }
+    requires whole { IsTrue (is_whole (state_of seat.now).cache) }
     ensures some { IfSome result (λ h. IsCached h (view_of seat.now)) }
-    ensures none { IfNone result ((view_of seat.now).state.cache ≡ None) }
+    ensures none { IfNone result ((state_of seat.now).cache ≡ None) }
 {
     match seat.state().cache {
         Some(c) => Some(Cache {

@@ -1,9 +1,9 @@
 //! A block with free cells is looked for.
 ghost use Rattle.std.specs.Prelude.{◌≡◌, ◌<◌, ◌≤◌, ◌+◌, IsTrue, IfSome, IfNone};
 ghost use Rattle.mark_core.specs.Layout.{block_count};
-ghost use Rattle.gc_table.specs.Seats.{Sits, view_of};
+ghost use Rattle.gc_table.specs.Seats.{Across, did, Sits, state_of, view_of};
 ghost use Rattle.alloc_cache.specs.Claiming.{Claims, MayClaim, Misses, NoBlock, seeks_block};
-ghost use Rattle.gc_table.specs.Log.{Only, events};
+ghost use Rattle.gc_table.specs.Log.{Only};
 ghost use Rattle.gc_table.specs.Running.{Ran};
 
 use crate::cache::Cache;
@@ -15,9 +15,9 @@ fn claim_block(heap: &Heap, seat: &mut HeapSeat, b: u32) -> Option<Cache>
     requires seat { Sits heap.now seat.old × MayClaim (view_of seat.old) }
     requires block { b < block_count heap.now.shape }
     ensures seat { Sits heap.now seat.new }
-    ensures ran { Ran (view_of seat.old) (view_of seat.new) }
-    ensures some { IfSome result (λ h. Claims h (view_of seat.old) (view_of seat.new)) }
-    ensures none { IfNone result (Misses b (b + 1) (view_of seat.old) (view_of seat.new)) }
+    ensures ran { Across Ran seat.old seat.new }
+    ensures some { IfSome result (λ h. Across (Claims h) seat.old seat.new) }
+    ensures none { IfNone result (Across (Misses b (b + 1)) seat.old seat.new) }
 {
     if !heap.claim_block(seat, b) {
         return None;
@@ -36,9 +36,9 @@ fn claim_among(heap: &Heap, seat: &mut HeapSeat, first: u32, end: u32) -> Option
     requires seat { Sits heap.now seat.old × MayClaim (view_of seat.old) }
     requires blocks { (first ≤ end) × (end ≤ block_count heap.now.shape) }
     ensures seat { Sits heap.now seat.new }
-    ensures ran { Ran (view_of seat.old) (view_of seat.new) }
-    ensures some { IfSome result (λ h. Claims h (view_of seat.old) (view_of seat.new)) }
-    ensures none { IfNone result (Misses first end (view_of seat.old) (view_of seat.new)) }
+    ensures ran { Across Ran seat.old seat.new }
+    ensures some { IfSome result (λ h. Across (Claims h) seat.old seat.new) }
+    ensures none { IfNone result (Across (Misses first end) seat.old seat.new) }
 {
     for b in first..end {
         if let Some(cache) = claim_block(heap, seat, b) {
@@ -52,9 +52,9 @@ fn claim_among(heap: &Heap, seat: &mut HeapSeat, first: u32, end: u32) -> Option
 fn claim_from(heap: &Heap, seat: &mut HeapSeat, first: u32) -> Option<Cache>
     requires seat { Sits heap.now seat.old × MayClaim (view_of seat.old) }
     ensures seat { Sits heap.now seat.new }
-    ensures ran { Ran (view_of seat.old) (view_of seat.new) }
-    ensures some { IfSome result (λ h. Claims h (view_of seat.old) (view_of seat.new)) }
-    ensures none { IfNone result (((view_of seat.new).state ≡ (view_of seat.old).state) × ((view_of seat.new).own ≡ (view_of seat.old).own) × NoBlock heap.now.shape (events (view_of seat.old) (view_of seat.new)) × Only seeks_block (view_of seat.old) (view_of seat.new)) }
+    ensures ran { Across Ran seat.old seat.new }
+    ensures some { IfSome result (λ h. Across (Claims h) seat.old seat.new) }
+    ensures none { IfNone result ((state_of seat.new ≡ state_of seat.old) × ((view_of seat.new).own ≡ (view_of seat.old).own) × NoBlock heap.now.shape (did seat.old seat.new) × Across (Only seeks_block) seat.old seat.new) }
 {
     let blocks = heap.shape().cells / 64;
     let first = first % blocks;
@@ -72,9 +72,9 @@ fn claim_from(heap: &Heap, seat: &mut HeapSeat, first: u32) -> Option<Cache>
 pub fn claim(heap: &Heap, seat: &mut HeapSeat) -> Option<Cache>
     requires seat { Sits heap.now seat.old × MayClaim (view_of seat.old) }
     ensures seat { Sits heap.now seat.new }
-    ensures ran { Ran (view_of seat.old) (view_of seat.new) }
-    ensures some { IfSome result (λ h. Claims h (view_of seat.old) (view_of seat.new)) }
-    ensures none { IfNone result (((view_of seat.new).state ≡ (view_of seat.old).state) × ((view_of seat.new).own ≡ (view_of seat.old).own) × NoBlock heap.now.shape (events (view_of seat.old) (view_of seat.new)) × Only seeks_block (view_of seat.old) (view_of seat.new)) }
+    ensures ran { Across Ran seat.old seat.new }
+    ensures some { IfSome result (λ h. Across (Claims h) seat.old seat.new) }
+    ensures none { IfNone result ((state_of seat.new ≡ state_of seat.old) × ((view_of seat.new).own ≡ (view_of seat.old).own) × NoBlock heap.now.shape (did seat.old seat.new) × Across (Only seeks_block) seat.old seat.new) }
 {
     let first = seat.hint();
     match claim_from(heap, seat, first) {

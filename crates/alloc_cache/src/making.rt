@@ -3,7 +3,7 @@ ghost use Rattle.std.specs.Prelude.{◌≡◌, ◌<◌, ◌%◌, length, Some, I
 ghost use Rattle.std.specs.Int.Count.{ones};
 ghost use Rattle.mark_core.specs.Bits.{without_bit};
 ghost use Rattle.mark_core.specs.Seats.{free_in, has_making, may_mutate};
-ghost use Rattle.gc_table.specs.Seats.{Sits, view_of};
+ghost use Rattle.gc_table.specs.Seats.{Across, Sits, state_of, view_of};
 ghost use Rattle.alloc_cache.specs.Caching.{IsCached};
 ghost use Rattle.alloc_cache.specs.Making.{Cleared, Makes, identity_word as identity_word_of};
 ghost use Rattle.gc_table.specs.Running.{Ran};
@@ -22,12 +22,12 @@ fn identity_word(id: Identity) -> u64
 /// Stores nil in each field of a free cell.
 fn clear_fields(heap: &Heap, seat: &mut HeapSeat, cell: Cell)
     requires seat { Sits heap.now seat.old }
-    requires turn { IsTrue (may_mutate (view_of seat.old).state) }
-    requires cell { IsTrue (free_in (view_of seat.old).state.cache cell) }
-    requires whole { IsFalse (has_making (view_of seat.old).state.cache) }
-    requires counted { length (view_of seat.old).own.meaning.heap.objects ≡ (view_of seat.old).state.made }
+    requires turn { IsTrue (may_mutate (state_of seat.old)) }
+    requires cell { IsTrue (free_in (state_of seat.old).cache cell) }
+    requires whole { IsFalse (has_making (state_of seat.old).cache) }
+    requires counted { length (view_of seat.old).own.meaning.heap.objects ≡ (state_of seat.old).made }
     ensures seat { Sits heap.now seat.new }
-    ensures cleared { Cleared cell heap.now.shape.fields (view_of seat.old) (view_of seat.new) }
+    ensures cleared { Across (Cleared cell heap.now.shape.fields) seat.old seat.new }
 {
     for i in 0..heap.shape().fields {
         heap.store_new(seat, cell, i as u8, 0);
@@ -37,14 +37,14 @@ fn clear_fields(heap: &Heap, seat: &mut HeapSeat, cell: Cell)
 /// Stores all words of a new cell in a free one.
 fn fill(heap: &Heap, seat: &mut HeapSeat, cell: Cell, id: Identity, value: u32)
     requires seat { Sits heap.now seat.old }
-    requires turn { IsTrue (may_mutate (view_of seat.old).state) }
-    requires cell { IsTrue (free_in (view_of seat.old).state.cache cell) }
-    requires whole { IsFalse (has_making (view_of seat.old).state.cache) }
-    requires identity { ((view_of seat.old).state.section ≡ Some id.section) × (id.number ≡ (view_of seat.old).state.made) × (id.number < heap.now.shape.objects) }
-    requires counted { length (view_of seat.old).own.meaning.heap.objects ≡ (view_of seat.old).state.made }
+    requires turn { IsTrue (may_mutate (state_of seat.old)) }
+    requires cell { IsTrue (free_in (state_of seat.old).cache cell) }
+    requires whole { IsFalse (has_making (state_of seat.old).cache) }
+    requires identity { ((state_of seat.old).section ≡ Some id.section) × (id.number ≡ (state_of seat.old).made) × (id.number < heap.now.shape.objects) }
+    requires counted { length (view_of seat.old).own.meaning.heap.objects ≡ (state_of seat.old).made }
     ensures seat { Sits heap.now seat.new }
-    ensures ran { Ran (view_of seat.old) (view_of seat.new) }
-    ensures makes { Makes cell value id (view_of seat.old) (view_of seat.new) }
+    ensures ran { Across Ran seat.old seat.new }
+    ensures makes { Across (Makes cell value id) seat.old seat.new }
 {
     let fields = heap.shape().fields as u8;
     clear_fields(heap, seat, cell);
@@ -74,13 +74,13 @@ pub fn new_cell(
 ) -> Option<Cell>
     requires seat { Sits heap.now seat.old }
     requires cache { IsCached cache.old (view_of seat.old) }
-    requires turn { IsTrue (may_mutate (view_of seat.old).state) }
-    requires identity { ((view_of seat.old).state.section ≡ Some id.section) × (id.number ≡ (view_of seat.old).state.made) × (id.number < heap.now.shape.objects) }
-    requires counted { length (view_of seat.old).own.meaning.heap.objects ≡ (view_of seat.old).state.made }
+    requires turn { IsTrue (may_mutate (state_of seat.old)) }
+    requires identity { ((state_of seat.old).section ≡ Some id.section) × (id.number ≡ (state_of seat.old).made) × (id.number < heap.now.shape.objects) }
+    requires counted { length (view_of seat.old).own.meaning.heap.objects ≡ (state_of seat.old).made }
     ensures seat { Sits heap.now seat.new }
-    ensures ran { Ran (view_of seat.old) (view_of seat.new) }
+    ensures ran { Across Ran seat.old seat.new }
     ensures cache { IsCached cache.new (view_of seat.new) }
-    ensures made { IfSome result (λ cell. (cell < heap.now.shape.cells) × IsTrue (free_in (view_of seat.old).state.cache cell) × (cache.new ≡ record cache.old { cells = without_bit cache.old.cells (cell % 64) }) × Makes cell value id (view_of seat.old) (view_of seat.new)) }
+    ensures made { IfSome result (λ cell. (cell < heap.now.shape.cells) × IsTrue (free_in (state_of seat.old).cache cell) × (cache.new ≡ record cache.old { cells = without_bit cache.old.cells (cell % 64) }) × Across (Makes cell value id) seat.old seat.new) }
     ensures none { IfNone result ((ones cache.old.cells ≡ 0) × (cache.new ≡ cache.old) × (view_of seat.new ≡ view_of seat.old)) }
 {
     if cache.cells == 0 {

@@ -4,7 +4,7 @@ ghost use Rattle.std.specs.Bool.{OnTrue};
 ghost use Rattle.mark_core.specs.Held.{holds_any as holds_any_packet};
 ghost use Rattle.mark_core.specs.Seats.{cleaning_left as cleaning_left_of, empty_handed as empty_handed_of, has_making as has_making_of, has_turn as has_turn_of, is_bare as is_bare_seat, may_mutate as may_mutate_of, scan_left as scan_left_of, work_in_hand as work_in_hand_of};
 ghost use Rattle.gc_table.specs.PlainSteps.{HasSeenPhase};
-ghost use Rattle.gc_table.specs.Seats.{Sits, view_of};
+ghost use Rattle.gc_table.specs.Seats.{Sits, state_of, view_of};
 ghost use Rattle.mutator_ops.specs.Ready.{IsReady};
 ghost use Rattle.stop_world.specs.Gates.{IsFreeToLeave};
 ghost use Rattle.gc_cycle.specs.Standing.{Mutates, is_at_rest as is_at_rest_of};
@@ -23,7 +23,7 @@ fn holds_any(held: Slots) -> bool
 
 /// The seat has neither a packet, nor a reservation, nor a credit.
 fn empty_handed(seat: &HeapSeat) -> bool
-    ensures { result ≡ empty_handed_of (view_of seat.now).state }
+    ensures { result ≡ empty_handed_of (state_of seat.now) }
 {
     let s = seat.state();
     !holds_any(s.held) && !s.reserved && !s.credit
@@ -49,7 +49,7 @@ fn cleaning_left(cleaning: Option<Cleaning>) -> bool
 
 /// The seat has a grey cell, or something that may lead to one.
 fn work_in_hand(fields: u32, seat: &HeapSeat) -> bool
-    ensures { result ≡ work_in_hand_of fields (view_of seat.now).state }
+    ensures { result ≡ work_in_hand_of fields (state_of seat.now) }
 {
     let s = seat.state();
     s.popped.is_some()
@@ -61,7 +61,7 @@ fn work_in_hand(fields: u32, seat: &HeapSeat) -> bool
 
 /// A cell is half made.
 fn has_making(seat: &HeapSeat) -> bool
-    ensures { result ≡ has_making_of (view_of seat.now).state.cache }
+    ensures { result ≡ has_making_of (state_of seat.now).cache }
 {
     match seat.state().cache {
         None => false,
@@ -80,7 +80,7 @@ fn has_turn(section: Option<u32>, season: Option<u64>) -> bool
 
 /// The seat is active in its section's turn.
 fn may_mutate(seat: &HeapSeat) -> bool
-    ensures { result ≡ may_mutate_of (view_of seat.now).state }
+    ensures { result ≡ may_mutate_of (state_of seat.now) }
 {
     let s = seat.state();
     s.active && has_turn(s.section, s.season_seen)
@@ -88,7 +88,7 @@ fn may_mutate(seat: &HeapSeat) -> bool
 
 /// The seat has read the phase, in which it may store.
 fn has_seen_phase(seat: &HeapSeat) -> bool
-    ensures { OnTrue result (HasSeenPhase (view_of seat.now).state) }
+    ensures { OnTrue result (HasSeenPhase (state_of seat.now)) }
 {
     match seat.state().phase_seen {
         Some(Phase::Idle) => true,
@@ -100,7 +100,7 @@ fn has_seen_phase(seat: &HeapSeat) -> bool
 /// The seat has nothing in hand, but perhaps a cache.
 fn is_at_rest(heap: &Heap, seat: &HeapSeat) -> bool
     requires { Sits heap.now seat.now }
-    ensures { result ≡ is_at_rest_of heap.now.shape (view_of seat.now).state }
+    ensures { result ≡ is_at_rest_of heap.now.shape (state_of seat.now) }
 {
     let s = seat.state();
     empty_handed(seat)
@@ -147,7 +147,7 @@ pub fn is_ready(heap: &Heap, seat: &HeapSeat) -> bool
 
 /// The seat is outside the world, its stop and its help.
 pub fn is_bare(seat: &HeapSeat) -> bool
-    ensures { result ≡ is_bare_seat (view_of seat.now).state }
+    ensures { result ≡ is_bare_seat (state_of seat.now) }
 {
     let s = seat.state();
     !s.counted && !s.raised && !s.helping

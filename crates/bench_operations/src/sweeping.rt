@@ -3,7 +3,7 @@ ghost use Rattle.std.specs.Prelude.{◌≡◌, None, IsTrue};
 ghost use Rattle.std.specs.Bool.{OnTrue};
 ghost use Rattle.mark_core.specs.declared.kinds.Phase.TheVariants.{Drain, Idle, Sweep};
 ghost use Rattle.gc_table.specs.Running.{Alone};
-ghost use Rattle.gc_table.specs.Seats.{Sits, view_of};
+ghost use Rattle.gc_table.specs.Seats.{Sits, state_of, view_of};
 ghost use Rattle.card_clean.specs.Drained.{IsBeforeSweep, IsDrained};
 
 use crate::checks::{is_bare, stands_alone};
@@ -18,7 +18,7 @@ use sweeper::{end_sweep, sweep_rest};
 /// Whether no cycle is under way.
 fn finds_idle(heap: &Heap, seat: &mut HeapSeat) -> bool
     requires seat { Sits heap.now seat.old }
-    requires alone { IsTrue (view_of seat.old).state.knows × IsTrue (view_of seat.old).state.alone }
+    requires alone { IsTrue (state_of seat.old).knows × IsTrue (state_of seat.old).alone }
     ensures seat { Sits heap.now seat.new }
     ensures alone { OnTrue result (Alone Idle (view_of seat.new)) }
 {
@@ -86,9 +86,9 @@ fn settle(heap: &Heap, seat: &mut HeapSeat) -> bool
 fn begin_sweep(heap: &Heap, seat: &mut HeapSeat)
     requires seat { Sits heap.now seat.old }
     requires drained { IsDrained (view_of seat.old) }
-    requires block { (view_of seat.old).state.block ≡ None }
+    requires block { (state_of seat.old).block ≡ None }
     ensures seat { Sits heap.now seat.new }
-    ensures alone { Alone Sweep (view_of seat.new) × ((view_of seat.new).state.block ≡ None) }
+    ensures alone { Alone Sweep (view_of seat.new) × ((state_of seat.new).block ≡ None) }
 {
     heap.store_phase(seat, Phase::Sweep);
 }
@@ -98,7 +98,7 @@ fn begin_sweep(heap: &Heap, seat: &mut HeapSeat)
 fn sweep_all(heap: &Heap, seat: &mut HeapSeat)
     requires seat { Sits heap.now seat.old }
     requires drained { IsDrained (view_of seat.old) }
-    requires block { (view_of seat.old).state.block ≡ None }
+    requires block { (state_of seat.old).block ≡ None }
     ensures seat { Sits heap.now seat.new }
     ensures alone { Alone Idle (view_of seat.new) }
 {

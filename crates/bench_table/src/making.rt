@@ -2,7 +2,7 @@
 ghost use Rattle.std.specs.Prelude.{◌≡◌, ◌<◌, ◌≤◌, ◌+◌, ◌*◌, IsTrue, is_none, is_some};
 ghost use Rattle.std.specs.Bool.{OnTrue, OnFalse};
 ghost use Rattle.mark_core.specs.Seats.{free_in, is_unread};
-ghost use Rattle.gc_table.specs.Seats.{Sits, view_of, IsOutside};
+ghost use Rattle.gc_table.specs.Seats.{IsOutside, Sits, state_of, view_of};
 ghost use Rattle.bench_table.specs.Making.{Makes, cache_of, made_by, objects_of};
 ghost use Rattle.bench_table.specs.Records.{At, entered};
 
@@ -121,7 +121,7 @@ fn fill_all(heap: &Heap, seat: &mut HeapSeat)
 
 fn leave(heap: &Heap, seat: &mut HeapSeat)
     requires { Makes heap.now seat.old × IsTrue (is_none (cache_of seat.old)) }
-    ensures { Sits heap.now seat.new × ((view_of seat.new).state.number ≡ 0) × IsOutside (view_of seat.new) }
+    ensures { Sits heap.now seat.new × ((state_of seat.new).number ≡ 0) × IsOutside (view_of seat.new) }
 {
     heap.leave_step(seat);
 }

@@ -1,6 +1,6 @@
 //! A heap with one seat, made and closed.
 ghost use Rattle.std.specs.Prelude.{◌≡◌, IfSome};
-ghost use Rattle.gc_table.specs.Seats.{Sits, view_of, IsOutside};
+ghost use Rattle.gc_table.specs.Seats.{IsOutside, Sits, state_of, view_of};
 ghost use Rattle.bench_table.specs.Making.{objects_of};
 ghost use Rattle.bench_table.specs.Records.{At, entered, resting};
 
@@ -46,7 +46,7 @@ pub fn open_entered(alloc: Global) -> Option<(Heap, HeapSeat)>
 
 /// Closes a heap with its seat, which is outside. False where memory ran out.
 pub fn close(alloc: Global, heap: Heap, seat: HeapSeat) -> bool
-    requires seat { Sits heap seat × ((view_of seat).state.number ≡ 0) }
+    requires seat { Sits heap seat × ((state_of seat).number ≡ 0) }
     requires outside { IsOutside (view_of seat) }
 {
     let Ok(mut seats) = Vec::with_capacity(alloc, 1) else {

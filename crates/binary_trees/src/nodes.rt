@@ -5,7 +5,7 @@ ghost use Rattle.std.specs.Int.Count.{ones};
 ghost use Rattle.plain_heap.specs.PlainHeap.{variable};
 ghost use Rattle.plain_heap.specs.declared.object.Ref.TheVariants.{Nil};
 ghost use Rattle.plain_heap.specs.declared.operation.Op.TheVariants as ops;
-ghost use Rattle.gc_table.specs.Seats.{view_of};
+ghost use Rattle.gc_table.specs.Seats.{state_of, view_of};
 ghost use Rattle.alloc_cache.specs.Caching.{IsCached};
 ghost use Rattle.binary_trees.specs.Standing.{Plays, heap_of, seen_of};
 ghost use Rattle.binary_trees.specs.Trees.{Steps};
@@ -19,7 +19,7 @@ pub fn make(heap: &Heap, seat: &mut HeapSeat, cache: &mut Cache, v: u8)
     requires plays { Plays heap.now seat.old }
     requires cache { IsCached cache.old (view_of seat.old) }
     requires free { 0 < ones cache.old.cells }
-    requires room { (view_of seat.old).state.made < heap.now.shape.objects }
+    requires room { (state_of seat.old).made < heap.now.shape.objects }
     requires range { v < 32 }
     ensures plays { Plays heap.now seat.new }
     ensures cache { IsCached cache.new (view_of seat.new) }
@@ -35,7 +35,7 @@ pub fn join(heap: &Heap, seat: &mut HeapSeat, v: u8, i: u8, w: u8)
     requires plays { Plays heap.now seat.old }
     requires range { (v < 32) × (i < 2) × (w < 32) }
     ensures plays { Plays heap.now seat.new }
-    ensures cache { (view_of seat.new).state.cache ≡ (view_of seat.old).state.cache }
+    ensures cache { (state_of seat.new).cache ≡ (state_of seat.old).cache }
     ensures steps { Steps (seen_of seat.old) (ops.Set v i w) (heap_of seat.old) (heap_of seat.new) }
 {
     set(heap, seat, v, i, w);
@@ -46,7 +46,7 @@ pub fn look(heap: &Heap, seat: &mut HeapSeat, w: u8, v: u8, i: u8)
     requires plays { Plays heap.now seat.old }
     requires range { (w < 32) × (v < 32) × (i < 2) }
     ensures plays { Plays heap.now seat.new }
-    ensures cache { (view_of seat.new).state.cache ≡ (view_of seat.old).state.cache }
+    ensures cache { (state_of seat.new).cache ≡ (state_of seat.old).cache }
     ensures seen { seen_of seat.new ≡ seen_of seat.old }
     ensures steps { Steps (seen_of seat.old) (ops.Get w v i) (heap_of seat.old) (heap_of seat.new) }
 {
@@ -56,7 +56,7 @@ pub fn look(heap: &Heap, seat: &mut HeapSeat, w: u8, v: u8, i: u8)
 /// The word of variable v: 0 where it refers to nothing.
 fn word_of(seat: &HeapSeat, v: u8) -> u32
     requires { v < 32 }
-    ensures { result ≡ slice_index (view_of seat.now).state.env v }
+    ensures { result ≡ slice_index (state_of seat.now).env v }
 {
     seat.state().env[v as usize]
 }
@@ -76,7 +76,7 @@ pub fn forget(heap: &Heap, seat: &mut HeapSeat, v: u8)
     requires plays { Plays heap.now seat.old }
     requires range { v < 32 }
     ensures plays { Plays heap.now seat.new }
-    ensures cache { (view_of seat.new).state.cache ≡ (view_of seat.old).state.cache }
+    ensures cache { (state_of seat.new).cache ≡ (state_of seat.old).cache }
     ensures steps { Steps (seen_of seat.old) (ops.Nil v) (heap_of seat.old) (heap_of seat.new) }
 {
     clear(heap, seat, v);

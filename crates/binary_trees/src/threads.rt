@@ -4,7 +4,7 @@ ghost use Rattle.binary_trees.specs.Counts.{IsInRange};
 ghost use Rattle.binary_trees.specs.Playing.{AllWait, HasPlayed, HavePlayed};
 ghost use Rattle.binary_trees.specs.Standing.{Keeps, Rests, Waits};
 ghost use Rattle.binary_trees.specs.Trees.{full};
-ghost use Rattle.gc_table.specs.Seats.{view_of};
+ghost use Rattle.gc_table.specs.Seats.{state_of};
 
 use crate::tracers::{DONE, run_tracer};
 use crate::turns::Halt;
@@ -122,7 +122,7 @@ fn work<R: Threads + Wait + Sync>(
 /// Tells the tracers that the work is done, by the seat of section 0.
 fn tell_done<R: Wait>(rt: &R, heap: &Heap, seat: &mut HeapSeat)
     requires rests { Rests heap.now seat.old }
-    requires section { IsTrue (is_some (view_of seat.old).state.section) }
+    requires section { IsTrue (is_some (state_of seat.old).section) }
     ensures { Rests heap.now seat.new }
 {
     go_in(rt, heap, seat);
@@ -161,7 +161,7 @@ fn work_to_end<R: Threads + Wait + Sync>(
     requires range { IsInRange asked.now }
     requires some { (0 < vec_len workers.old) × (vec_len workers.old ≡ asked.now.workers) }
     requires zero { Rests heap.now zero.old }
-    requires section { IsTrue (is_some (view_of zero.old).state.section) }
+    requires section { IsTrue (is_some (state_of zero.old).section) }
     requires waits { All (λ x. Waits heap.now x.seat) workers.old.items }
     ensures zero { Rests heap.now zero.new }
     ensures waits { All (λ x. Waits heap.now x.seat) workers.new.items }
@@ -184,7 +184,7 @@ pub fn run_threads<R: Threads + Wait + Sync>(
     requires range { IsInRange asked.now }
     requires some { (0 < vec_len workers.old) × (vec_len workers.old ≡ asked.now.workers) }
     requires zero { Rests heap.now zero.old }
-    requires section { IsTrue (is_some (view_of zero.old).state.section) }
+    requires section { IsTrue (is_some (state_of zero.old).section) }
     requires waits { All (λ x. Waits heap.now x.seat) workers.old.items }
     requires tracers { All (Rests heap.now) tracers.old.items }
     ensures zero { Rests heap.now zero.new }
@@ -198,7 +198,7 @@ pub fn run_threads<R: Threads + Wait + Sync>(
             ensures { All (Rests heap.entry.now) tracers.exit.now.items }
         { run_tracers(rt, heap, tracers) },
         &mut || -> Result<Alone, Halt>
-            requires { IsInRange asked.now × (0 < vec_len workers.now) × (vec_len workers.now ≡ asked.now.workers) × Rests heap.now zero.now × IsTrue (is_some (view_of zero.now).state.section) × All (λ x. Waits heap.now x.seat) workers.now.items }
+            requires { IsInRange asked.now × (0 < vec_len workers.now) × (vec_len workers.now ≡ asked.now.workers) × Rests heap.now zero.now × IsTrue (is_some (state_of zero.now).section) × All (λ x. Waits heap.now x.seat) workers.now.items }
             ensures { Rests heap.entry.now zero.exit.now × AllWait heap.entry.now workers.exit.now.items }
         { work_to_end(rt, heap, zero, workers, asked) },
     );

@@ -2,7 +2,7 @@
 ghost use Rattle.std.specs.Prelude.{◌≡◌, ◌<◌, IfSome, Some, IsTrue, IsFalse};
 ghost use Rattle.mark_core.specs.Layout.{card_count};
 ghost use Rattle.mark_core.specs.declared.kinds.Phase.TheVariants.{Marking};
-ghost use Rattle.gc_table.specs.Seats.{view_of};
+ghost use Rattle.gc_table.specs.Seats.{state_of};
 ghost use Rattle.binary_trees.specs.Standing.{Goes, Marks, Rests};
 
 use card_clean::{clean_one, next_card};
@@ -102,7 +102,7 @@ fn mark(heap: &Heap, seat: &mut HeapSeat)
 /// Marks, where marking is under way.
 fn mark_in(heap: &Heap, seat: &mut HeapSeat, phase: Phase)
     requires seat { Goes heap.now seat.old }
-    requires seen { (view_of seat.old).state.phase_seen ≡ Some phase }
+    requires seen { (state_of seat.old).phase_seen ≡ Some phase }
     ensures { Goes heap.now seat.new }
 {
     if let Phase::Marking = phase {
@@ -114,7 +114,7 @@ fn mark_in(heap: &Heap, seat: &mut HeapSeat, phase: Phase)
 fn see_phase(heap: &Heap, seat: &mut HeapSeat) -> Phase
     requires { Goes heap.now seat.old }
     ensures seat { Goes heap.now seat.new }
-    ensures seen { (view_of seat.new).state.phase_seen ≡ Some result }
+    ensures seen { (state_of seat.new).phase_seen ≡ Some result }
 {
     heap.read_phase(seat)
 }

@@ -2,7 +2,7 @@
 ghost use Rattle.std.specs.Prelude.{◌≡◌, ◌+◌, ◌*◌, ◌<◌, ◌≤◌, IfOk, IfErr};
 ghost use Rattle.std.specs.Int.Count.{ones};
 ghost use Rattle.plain_heap.specs.PlainHeap.{variable};
-ghost use Rattle.gc_table.specs.Seats.{view_of};
+ghost use Rattle.gc_table.specs.Seats.{state_of, view_of};
 ghost use Rattle.alloc_cache.specs.Caching.{IsCached};
 ghost use Rattle.gc_cycle.specs.Answering.{HasCache};
 ghost use Rattle.binary_trees.specs.Standing.{Halts, Plays, Works, heap_of, seen_of};
@@ -43,7 +43,7 @@ fn tie(heap: &Heap, seat: &mut HeapSeat, cache: &mut Cache, v: u8)
     requires plays { Plays heap.now seat.old }
     requires cache { IsCached cache.old (view_of seat.old) }
     requires free { 0 < ones cache.old.cells }
-    requires room { (view_of seat.old).state.made < heap.now.shape.objects }
+    requires room { (state_of seat.old).made < heap.now.shape.objects }
     requires fits { v + 2 < 32 }
     ensures plays { Plays heap.now seat.new }
     ensures cache { IsCached cache.new (view_of seat.new) }
@@ -111,7 +111,7 @@ fn count(heap: &Heap, seat: &mut HeapSeat, v: u8, steps: u8) -> u64
     requires plays { Plays heap.now seat.old }
     requires fits { v + steps < 32 }
     ensures plays { Plays heap.now seat.new }
-    ensures cache { (view_of seat.new).state.cache ≡ (view_of seat.old).state.cache }
+    ensures cache { (state_of seat.new).cache ≡ (state_of seat.old).cache }
     ensures seen { seen_of seat.new ≡ seen_of seat.old }
     ensures counts { result ≡ nodes (heap_of seat.old) (seen_of seat.old) steps (variable (heap_of seat.old) v) }
     ensures leaves { Leaves (v + 1) (heap_of seat.old) (heap_of seat.new) }
@@ -134,7 +134,7 @@ pub fn check(heap: &Heap, seat: &mut HeapSeat, v: u8, depth: u8) -> u64
     requires plays { Plays heap.now seat.old }
     requires fits { v + depth + 1 < 32 }
     ensures plays { Plays heap.now seat.new }
-    ensures cache { (view_of seat.new).state.cache ≡ (view_of seat.old).state.cache }
+    ensures cache { (state_of seat.new).cache ≡ (state_of seat.old).cache }
     ensures leaves { Leaves (v + 1) (heap_of seat.old) (heap_of seat.new) }
     ensures counts { IsTree (heap_of seat.old).objects depth (variable (heap_of seat.old) v) → result ≡ full depth }
 {
@@ -145,7 +145,7 @@ pub fn check(heap: &Heap, seat: &mut HeapSeat, v: u8, depth: u8) -> u64
 fn drop_from(heap: &Heap, seat: &mut HeapSeat, v: u8)
     requires plays { Plays heap.now seat.old }
     ensures plays { Plays heap.now seat.new }
-    ensures cache { (view_of seat.new).state.cache ≡ (view_of seat.old).state.cache }
+    ensures cache { (state_of seat.new).cache ≡ (state_of seat.old).cache }
     ensures leaves { Leaves v (heap_of seat.old) (heap_of seat.new) }
 {
     for w in v..32 {

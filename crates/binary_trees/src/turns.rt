@@ -1,7 +1,7 @@
 //! A mutator's safe point: in the workers' turn, with a cell to make an object in.
 ghost use Rattle.std.specs.Prelude.{◌≡◌, ◌<◌, ◌≢◌, Some, None, IfOk, IfErr, IsTrue};
 ghost use Rattle.std.specs.Int.Count.{ones};
-ghost use Rattle.gc_table.specs.Seats.{Sits, view_of};
+ghost use Rattle.gc_table.specs.Seats.{Across, Sits, state_of, view_of};
 ghost use Rattle.alloc_cache.specs.Caching.{IsCached};
 ghost use Rattle.gc_cycle.specs.Answering.{HasCache};
 ghost use Rattle.binary_trees.specs.Standing.{Halts, Plays, Works, heap_of};
@@ -40,8 +40,8 @@ pub fn retire_some(heap: &Heap, seat: &mut HeapSeat, cache: Option<Cache>)
 fn is_turn(heap: &Heap, seat: &mut HeapSeat) -> bool
     requires { Works heap.now seat.old }
     ensures seat { Sits heap.now seat.new }
-    ensures looks { LooksAtSeason (view_of seat.old) (view_of seat.new) }
-    ensures turn { IsTrue result → (view_of seat.new).state.season_seen ≡ Some 1 }
+    ensures looks { Across LooksAtSeason seat.old seat.new }
+    ensures turn { IsTrue result → (state_of seat.new).season_seen ≡ Some 1 }
 {
     match seat.state().season_seen {
         Some(season) => season == TURN,
@@ -127,7 +127,7 @@ pub fn come_to<R: Wait>(
     requires cache { HasCache cache (view_of seat.old) }
     ensures ok { IfOk result (λ free. Plays heap.now seat.new × IsCached free (view_of seat.new)) }
     ensures free { IfOk result (λ free. 0 < ones free.cells) }
-    ensures room { IfOk result (λ _. (view_of seat.new).state.made < heap.now.shape.objects) }
+    ensures room { IfOk result (λ _. (state_of seat.new).made < heap.now.shape.objects) }
     ensures err { IfErr result (λ _. Halts heap.now seat.new) }
     ensures same { heap_of seat.new ≡ heap_of seat.old }
 {

@@ -1,10 +1,10 @@
 //! A mutator's stores in objects.
 ghost use Rattle.std.specs.Prelude.{◌≡◌, ◌<◌, None};
 ghost use Rattle.mark_core.specs.declared.kinds.Step.TheVariants.{StoreField, StoreValue};
-ghost use Rattle.gc_table.specs.Seats.{Sits, Stored, view_of};
+ghost use Rattle.gc_table.specs.Seats.{Across, did, Sits, state_of, Stored, view_of};
 ghost use Rattle.gc_table.specs.Sections.{section_after};
 ghost use Rattle.card_clean.specs.Barrier.{HasOwn, IsStorable, MayStore, barrier_steps, field_stored, record_stored, value_stored};
-ghost use Rattle.gc_table.specs.Log.{events, steps_of};
+ghost use Rattle.gc_table.specs.Log.{steps_of};
 ghost use Rattle.gc_table.specs.Running.{Ran};
 
 use gc_table::{Heap, HeapSeat};
@@ -35,10 +35,10 @@ pub fn store_ref(heap: &Heap, seat: &mut HeapSeat, v: u8, field: u8, w: Option<u
     requires field { field < heap.now.shape.fields }
     requires stored { IsStorable (view_of seat.old) w }
     ensures seat { Sits heap.now seat.new × MayStore (view_of seat.new) }
-    ensures ran { Ran (view_of seat.old) (view_of seat.new) }
-    ensures steps { steps_of (events (view_of seat.old) (view_of seat.new)) ≡ barrier_steps (view_of seat.old).state v field w }
-    ensures state { (view_of seat.new).state ≡ record_stored (view_of seat.old).state v }
-    ensures own { (view_of seat.new).own ≡ section_after (view_of seat.old).shape (view_of seat.old).plan (view_of seat.old).state (StoreField v field w) (view_of seat.old).own }
+    ensures ran { Across Ran seat.old seat.new }
+    ensures steps { steps_of (did seat.old seat.new) ≡ barrier_steps (state_of seat.old) v field w }
+    ensures state { state_of seat.new ≡ record_stored (state_of seat.old) v }
+    ensures own { (view_of seat.new).own ≡ section_after (view_of seat.old).shape (view_of seat.old).plan (state_of seat.old) (StoreField v field w) (view_of seat.old).own }
     ensures plain { (view_of seat.new).own.meaning.heap ≡ field_stored (view_of seat.old).own.meaning.heap v field w }
 {
     heap.store_field(seat, v, field, w);
@@ -53,8 +53,8 @@ pub fn store_value(heap: &Heap, seat: &mut HeapSeat, v: u8, value: u32)
     requires seat { Sits heap.now seat.old × MayStore (view_of seat.old) }
     requires own { HasOwn (view_of seat.old) v }
     ensures seat { Sits heap.now seat.new × MayStore (view_of seat.new) }
-    ensures ran { Ran (view_of seat.old) (view_of seat.new) }
-    ensures view { Stored (StoreValue v value) (view_of seat.old) (view_of seat.new) }
+    ensures ran { Across Ran seat.old seat.new }
+    ensures view { Across (Stored (StoreValue v value)) seat.old seat.new }
     ensures plain { (view_of seat.new).own.meaning.heap ≡ value_stored (view_of seat.old).own.meaning.heap v value }
 {
     heap.store_value(seat, v, value);

@@ -3,7 +3,7 @@ ghost use Rattle.std.specs.Prelude.{◌≡◌, ◌<◌, ◌≤◌, ◌+◌, fals
 ghost use Rattle.mark_core.specs.Layout.{card_count};
 ghost use Rattle.gc_table.specs.Log.{Only};
 ghost use Rattle.gc_table.specs.Running.{Ran};
-ghost use Rattle.gc_table.specs.Seats.{view_of};
+ghost use Rattle.gc_table.specs.Seats.{Across, state_of, view_of};
 ghost use Rattle.packet_pools.specs.Tracing.{IsTracer};
 ghost use Rattle.card_clean.specs.Passing.{DrawsCard, card_floor, draws_card, keeps_floor};
 
@@ -18,12 +18,12 @@ use mark_core::{CARD_CELLS, CARD_COUNTER};
 pub fn next_card(heap: &Heap, seat: &mut HeapSeat) -> Option<u32>
     requires seat { IsTracer heap.now seat.old }
     ensures seat { IsTracer heap.now seat.new }
-    ensures ran { Ran (view_of seat.old) (view_of seat.new) }
-    ensures only { Only draws_card (view_of seat.old) (view_of seat.new) }
-    ensures draws { DrawsCard result (view_of seat.old) (view_of seat.new) }
-    ensures state { (view_of seat.new).state ≡ record (view_of seat.old).state { below_card = false } }
+    ensures ran { Across Ran seat.old seat.new }
+    ensures only { Across (Only draws_card) seat.old seat.new }
+    ensures draws { Across (DrawsCard result) seat.old seat.new }
+    ensures state { state_of seat.new ≡ record (state_of seat.old) { below_card = false } }
     ensures there { IfSome result (λ card. card < card_count heap.now.shape) }
-    ensures rises { IfSome result (λ card. IsTrue (keeps_floor (view_of seat.old).state) → (card_floor (view_of seat.old) ≤ card) × (card_floor (view_of seat.new) ≡ card + 1)) }
+    ensures rises { IfSome result (λ card. IsTrue (keeps_floor (state_of seat.old)) → (card_floor (view_of seat.old) ≤ card) × (card_floor (view_of seat.new) ≡ card + 1)) }
 {
     let end = u64::from(heap.shape().cells / CARD_CELLS);
     if heap.read_stat(seat, CARD_COUNTER) >= end {

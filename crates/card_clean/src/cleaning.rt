@@ -5,7 +5,7 @@ ghost use Rattle.mark_core.specs.Layout.{card_count};
 ghost use Rattle.mark_core.specs.Held.{has_free_slot};
 ghost use Rattle.mark_core.specs.Seats.{scan_left, work_in_hand};
 ghost use Rattle.mark_core.specs.declared.kinds.Step.TheVariants.{DirtyCard};
-ghost use Rattle.gc_table.specs.Seats.{view_of};
+ghost use Rattle.gc_table.specs.Seats.{Across, did, state_of, view_of};
 ghost use Rattle.packet_pools.specs.OnlyTraced.{OnlyTraced, OnlyCleaned};
 ghost use Rattle.gc_table.specs.Log.{events, event};
 ghost use Rattle.packet_pools.specs.Tracing.{IsTracer};
@@ -23,7 +23,7 @@ use packet_pools::Held;
 
 /// The cells that are left in the seat's cleaning, and whether its card must be dirtied again.
 fn what_is_left(seat: &HeapSeat) -> (u64, bool)
-    ensures { (result.0 ≡ left_word (view_of seat.now).state.cleaning) × (result.1 ≡ owes_card (view_of seat.now).state.cleaning) }
+    ensures { (result.0 ≡ left_word (state_of seat.now).cleaning) × (result.1 ≡ owes_card (state_of seat.now).cleaning) }
 {
     match seat.state().cleaning {
         None => (0, false),
@@ -35,11 +35,11 @@ fn what_is_left(seat: &HeapSeat) -> (u64, bool)
 fn read_block(heap: &Heap, seat: &mut HeapSeat, card: u32) -> (u64, bool)
     requires seat { IsTracer heap.now seat.old }
     requires card { card < card_count heap.now.shape }
-    requires hand { InHand None None (view_of seat.old).state }
-    requires cleared { (view_of seat.old).state.cleaning ≡ Some (just_cleared card) }
+    requires hand { InHand None None (state_of seat.old) }
+    requires cleared { (state_of seat.old).cleaning ≡ Some (just_cleared card) }
     ensures seat { IsTracer heap.now seat.new }
-    ensures later { OnlyTraced (view_of seat.old) (view_of seat.new) }
-    ensures learns { LearnsCells card result.0 result.1 (view_of seat.old) (view_of seat.new) }
+    ensures later { Across OnlyTraced seat.old seat.new }
+    ensures learns { Across (LearnsCells card result.0 result.1) seat.old seat.new }
 {
     heap.read_marks(seat, card / BLOCK_CARDS);
     heap.read_alloc(seat, card / BLOCK_CARDS);
@@ -57,14 +57,14 @@ fn is_dirty_again(owes: bool, overflowed: u32) -> bool
 fn redirty(heap: &Heap, seat: &mut HeapSeat, card: u32, redirtied: bool)
     requires seat { IsTracer heap.now seat.old }
     requires card { card < card_count heap.now.shape }
-    requires owes { OnlyOwes card heap.now.shape.fields (view_of seat.old).state }
-    requires told { IsTrue (owes_card (view_of seat.old).state.cleaning) → IsTrue redirtied }
+    requires owes { OnlyOwes card heap.now.shape.fields (state_of seat.old) }
+    requires told { IsTrue (owes_card (state_of seat.old).cleaning) → IsTrue redirtied }
     ensures seat { IsTracer heap.now seat.new }
-    ensures later { OnlyCleaned (view_of seat.old) (view_of seat.new) }
-    ensures held { (view_of seat.new).state.held ≡ (view_of seat.old).state.held }
-    ensures work { IsFalse (work_in_hand heap.now.shape.fields (view_of seat.new).state) }
-    ensures owed { ((view_of seat.new).state.owes ≡ (view_of seat.old).state.owes) ⊎ ((view_of seat.new).state.owes ≡ None) }
-    ensures events { events (view_of seat.old) (view_of seat.new) ≡ (if redirtied then event (DirtyCard card) 1 ∷ [] else []) }
+    ensures later { Across OnlyCleaned seat.old seat.new }
+    ensures held { (state_of seat.new).held ≡ (state_of seat.old).held }
+    ensures work { IsFalse (work_in_hand heap.now.shape.fields (state_of seat.new)) }
+    ensures owed { ((state_of seat.new).owes ≡ (state_of seat.old).owes) ⊎ ((state_of seat.new).owes ≡ None) }
+    ensures events { did seat.old seat.new ≡ (if redirtied then event (DirtyCard card) 1 ∷ [] else []) }
 {
     if redirtied {
         heap.dirty_card(seat, card);
@@ -75,18 +75,18 @@ fn redirty(heap: &Heap, seat: &mut HeapSeat, card: u32, redirtied: bool)
 fn rescan_card(heap: &Heap, seat: &mut HeapSeat, card: u32, out: &mut Held) -> Cleaned
     requires seat { IsTracer heap.now seat.old }
     requires card { card < card_count heap.now.shape }
-    requires out { IsHeld out.old (view_of seat.old) × IsTrue (has_free_slot (view_of seat.old).state.held) }
-    requires hand { InHand None None (view_of seat.old).state }
-    requires over { IsFalse (scan_left heap.now.shape.fields (view_of seat.old).state.scan) }
-    requires cleared { (view_of seat.old).state.cleaning ≡ Some (just_cleared card) }
+    requires out { IsHeld out.old (view_of seat.old) × IsTrue (has_free_slot (state_of seat.old).held) }
+    requires hand { InHand None None (state_of seat.old) }
+    requires over { IsFalse (scan_left heap.now.shape.fields (state_of seat.old).scan) }
+    requires cleared { (state_of seat.old).cleaning ≡ Some (just_cleared card) }
     ensures seat { IsTracer heap.now seat.new }
-    ensures later { OnlyCleaned (view_of seat.old) (view_of seat.new) }
-    ensures out { Fills out.old out.new (view_of seat.old) (view_of seat.new) }
-    ensures work { IsFalse (work_in_hand heap.now.shape.fields (view_of seat.new).state) }
-    ensures owes { ((view_of seat.new).state.owes ≡ (view_of seat.old).state.owes) ⊎ ((view_of seat.new).state.owes ≡ None) }
+    ensures later { Across OnlyCleaned seat.old seat.new }
+    ensures out { Across (Fills out.old out.new) seat.old seat.new }
+    ensures work { IsFalse (work_in_hand heap.now.shape.fields (state_of seat.new)) }
+    ensures owes { ((state_of seat.new).owes ≡ (state_of seat.old).owes) ⊎ ((state_of seat.new).owes ≡ None) }
     ensures most { result.rescanned ≤ card_cells }
-    ensures left { rescanned_in (view_of seat.old) (events (view_of seat.old) (view_of seat.new)) ≡ result.rescanned }
-    ensures rescans { RescansCard heap.now.shape card result (events (view_of seat.old) (view_of seat.new)) }
+    ensures left { rescanned_in (view_of seat.old) (did seat.old seat.new) ≡ result.rescanned }
+    ensures rescans { RescansCard heap.now.shape card result (did seat.old seat.new) }
 {
     let (left, owes) = read_block(heap, seat, card);
     let all = rescan_cells(heap, seat, out, card, left);
@@ -120,16 +120,16 @@ fn rescan_card(heap: &Heap, seat: &mut HeapSeat, card: u32, out: &mut Held) -> C
 pub fn clean_card(heap: &Heap, seat: &mut HeapSeat, card: u32, out: &mut Held) -> Cleaned
     requires seat { IsTracer heap.now seat.old }
     requires card { card < card_count heap.now.shape }
-    requires out { IsHeld out.old (view_of seat.old) × IsTrue (has_free_slot (view_of seat.old).state.held) }
-    requires work { IsFalse (work_in_hand heap.now.shape.fields (view_of seat.old).state) }
+    requires out { IsHeld out.old (view_of seat.old) × IsTrue (has_free_slot (state_of seat.old).held) }
+    requires work { IsFalse (work_in_hand heap.now.shape.fields (state_of seat.old)) }
     ensures seat { IsTracer heap.now seat.new }
-    ensures later { OnlyCleaned (view_of seat.old) (view_of seat.new) }
-    ensures out { Fills out.old out.new (view_of seat.old) (view_of seat.new) }
-    ensures work { IsFalse (work_in_hand heap.now.shape.fields (view_of seat.new).state) }
-    ensures owes { ((view_of seat.new).state.owes ≡ (view_of seat.old).state.owes) ⊎ ((view_of seat.new).state.owes ≡ None) }
+    ensures later { Across OnlyCleaned seat.old seat.new }
+    ensures out { Across (Fills out.old out.new) seat.old seat.new }
+    ensures work { IsFalse (work_in_hand heap.now.shape.fields (state_of seat.new)) }
+    ensures owes { ((state_of seat.new).owes ≡ (state_of seat.old).owes) ⊎ ((state_of seat.new).owes ≡ None) }
     ensures most { result.rescanned ≤ card_cells }
-    ensures left { rescanned_in (view_of seat.old) (events (view_of seat.old) (view_of seat.new)) ≡ result.rescanned }
-    ensures cleans { Cleans heap.now.shape card result (events (view_of seat.old) (view_of seat.new)) }
+    ensures left { rescanned_in (view_of seat.old) (did seat.old seat.new) ≡ result.rescanned }
+    ensures cleans { Cleans heap.now.shape card result (did seat.old seat.new) }
 {
     if !heap.clear_card(seat, card) {
         return Cleaned::nothing();

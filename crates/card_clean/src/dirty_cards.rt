@@ -4,9 +4,8 @@ ghost use Rattle.mark_core.specs.Cards.{card_cells};
 ghost use Rattle.mark_core.specs.Layout.{card_count};
 ghost use Rattle.mark_core.specs.Held.{has_free_slot};
 ghost use Rattle.mark_core.specs.Seats.{work_in_hand};
-ghost use Rattle.gc_table.specs.Seats.{Sits, view_of};
+ghost use Rattle.gc_table.specs.Seats.{Across, did, Sits, state_of, view_of};
 ghost use Rattle.packet_pools.specs.OnlyTraced.{OnlyTraced, OnlyCleaned};
-ghost use Rattle.gc_table.specs.Log.{events};
 ghost use Rattle.packet_pools.specs.Tracing.{IsTracer};
 ghost use Rattle.packet_pools.specs.Hands.{IsHeld};
 ghost use Rattle.packet_pools.specs.Scanning.{Fills};
@@ -26,12 +25,12 @@ use packet_pools::{Held, give};
 pub(crate) fn first_dirty(heap: &Heap, seat: &mut HeapSeat, from: u32) -> Option<u32>
     requires { Sits heap.now seat.old }
     ensures seat { Sits heap.now seat.new }
-    ensures later { OnlyTraced (view_of seat.old) (view_of seat.new) }
-    ensures state { (view_of seat.new).state ≡ (view_of seat.old).state }
-    ensures notes { KeepsAllNotes (view_of seat.old) (view_of seat.new) }
-    ensures dirty { IfSome result (λ card. (from ≤ card) × (card < card_count heap.now.shape) × (events (view_of seat.old) (view_of seat.new) ≡ looks_dirty from card)) }
-    ensures clean { IfNone result (events (view_of seat.old) (view_of seat.new) ≡ looks_clean from (card_count heap.now.shape)) }
-    ensures noted { IfNone result (IsTrue (view_of seat.old).state.alone → AreNotedClean from (card_count heap.now.shape) (view_of seat.new)) }
+    ensures later { Across OnlyTraced seat.old seat.new }
+    ensures state { state_of seat.new ≡ state_of seat.old }
+    ensures notes { Across KeepsAllNotes seat.old seat.new }
+    ensures dirty { IfSome result (λ card. (from ≤ card) × (card < card_count heap.now.shape) × (did seat.old seat.new ≡ looks_dirty from card)) }
+    ensures clean { IfNone result (did seat.old seat.new ≡ looks_clean from (card_count heap.now.shape)) }
+    ensures noted { IfNone result (IsTrue (state_of seat.old).alone → AreNotedClean from (card_count heap.now.shape) (view_of seat.new)) }
 {
     for card in from..heap.shape().cells / CARD_CELLS {
         if heap.read_card(seat, card) {
@@ -45,15 +44,15 @@ pub(crate) fn first_dirty(heap: &Heap, seat: &mut HeapSeat, from: u32) -> Option
 fn clean_where_dirty(heap: &Heap, seat: &mut HeapSeat, card: u32, out: &mut Held) -> u32
     requires seat { IsTracer heap.now seat.old }
     requires card { card < card_count heap.now.shape }
-    requires out { IsHeld out.old (view_of seat.old) × IsTrue (has_free_slot (view_of seat.old).state.held) }
-    requires work { IsFalse (work_in_hand heap.now.shape.fields (view_of seat.old).state) }
+    requires out { IsHeld out.old (view_of seat.old) × IsTrue (has_free_slot (state_of seat.old).held) }
+    requires work { IsFalse (work_in_hand heap.now.shape.fields (state_of seat.old)) }
     ensures seat { IsTracer heap.now seat.new }
-    ensures later { OnlyCleaned (view_of seat.old) (view_of seat.new) }
-    ensures out { Fills out.old out.new (view_of seat.old) (view_of seat.new) }
-    ensures work { IsFalse (work_in_hand heap.now.shape.fields (view_of seat.new).state) }
+    ensures later { Across OnlyCleaned seat.old seat.new }
+    ensures out { Across (Fills out.old out.new) seat.old seat.new }
+    ensures work { IsFalse (work_in_hand heap.now.shape.fields (state_of seat.new)) }
     ensures most { result ≤ card_cells }
-    ensures left { rescanned_in (view_of seat.old) (events (view_of seat.old) (view_of seat.new)) ≡ result }
-    ensures cleans { CleanedWhereDirty heap.now.shape card result (events (view_of seat.old) (view_of seat.new)) }
+    ensures left { rescanned_in (view_of seat.old) (did seat.old seat.new) ≡ result }
+    ensures cleans { CleanedWhereDirty heap.now.shape card result (did seat.old seat.new) }
 {
     if !heap.read_card(seat, card) {
         return 0;
@@ -65,15 +64,15 @@ fn clean_where_dirty(heap: &Heap, seat: &mut HeapSeat, card: u32, out: &mut Held
 /// Looks at each card from this one on, and cleans those that are dirty: how many cells were scanned again. A clean card costs one look.
 fn clean_from(heap: &Heap, seat: &mut HeapSeat, from: u32, out: &mut Held) -> u32
     requires seat { IsTracer heap.now seat.old }
-    requires out { IsHeld out.old (view_of seat.old) × IsTrue (has_free_slot (view_of seat.old).state.held) }
-    requires work { IsFalse (work_in_hand heap.now.shape.fields (view_of seat.old).state) }
+    requires out { IsHeld out.old (view_of seat.old) × IsTrue (has_free_slot (state_of seat.old).held) }
+    requires work { IsFalse (work_in_hand heap.now.shape.fields (state_of seat.old)) }
     ensures seat { IsTracer heap.now seat.new }
-    ensures later { OnlyCleaned (view_of seat.old) (view_of seat.new) }
-    ensures out { Fills out.old out.new (view_of seat.old) (view_of seat.new) }
-    ensures work { IsFalse (work_in_hand heap.now.shape.fields (view_of seat.new).state) }
+    ensures later { Across OnlyCleaned seat.old seat.new }
+    ensures out { Across (Fills out.old out.new) seat.old seat.new }
+    ensures work { IsFalse (work_in_hand heap.now.shape.fields (state_of seat.new)) }
     ensures most { result ≤ heap.now.shape.cells }
-    ensures left { rescanned_in (view_of seat.old) (events (view_of seat.old) (view_of seat.new)) ≡ result }
-    ensures cleans { CleanedFrom heap.now.shape from (card_count heap.now.shape - from) result (events (view_of seat.old) (view_of seat.new)) }
+    ensures left { rescanned_in (view_of seat.old) (did seat.old seat.new) ≡ result }
+    ensures cleans { CleanedFrom heap.now.shape from (card_count heap.now.shape - from) result (did seat.old seat.new) }
 {
     let mut rescanned = 0;
     for card in from..heap.shape().cells / CARD_CELLS {
@@ -88,14 +87,14 @@ fn clean_from(heap: &Heap, seat: &mut HeapSeat, from: u32, out: &mut Held) -> u3
 /// A card may be dirty again afterwards, as [`clean_card`](crate::clean_card) says, so that a further pass is due.
 pub fn clean_dirty(heap: &Heap, seat: &mut HeapSeat) -> u32
     requires seat { IsTracer heap.now seat.old }
-    requires free { 2 ≤ free_slots (view_of seat.old).state.held }
-    requires work { IsFalse (work_in_hand heap.now.shape.fields (view_of seat.old).state) }
+    requires free { 2 ≤ free_slots (state_of seat.old).held }
+    requires work { IsFalse (work_in_hand heap.now.shape.fields (state_of seat.old)) }
     ensures seat { IsTracer heap.now seat.new }
-    ensures later { OnlyCleaned (view_of seat.old) (view_of seat.new) }
-    ensures held { (view_of seat.new).state.held ≡ (view_of seat.old).state.held }
-    ensures work { IsFalse (work_in_hand heap.now.shape.fields (view_of seat.new).state) }
-    ensures left { rescanned_in (view_of seat.old) (events (view_of seat.old) (view_of seat.new)) ≡ result }
-    ensures cleans { CleansDirty heap.now.shape result (events (view_of seat.old) (view_of seat.new)) }
+    ensures later { Across OnlyCleaned seat.old seat.new }
+    ensures held { (state_of seat.new).held ≡ (state_of seat.old).held }
+    ensures work { IsFalse (work_in_hand heap.now.shape.fields (state_of seat.new)) }
+    ensures left { rescanned_in (view_of seat.old) (did seat.old seat.new) ≡ result }
+    ensures cleans { CleansDirty heap.now.shape result (did seat.old seat.new) }
 {
     let Some(card) = first_dirty(heap, seat, 0) else {
         return 0;

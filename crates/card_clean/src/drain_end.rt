@@ -5,8 +5,7 @@
 //! step between that dirties a card or takes a packet.
 ghost use Rattle.std.specs.Prelude.{◌≡◌, IsTrue, IsFalse};
 ghost use Rattle.mark_core.specs.Seats.{work_in_hand};
-ghost use Rattle.gc_table.specs.Seats.{Sits, view_of};
-ghost use Rattle.gc_table.specs.Log.{events};
+ghost use Rattle.gc_table.specs.Seats.{Across, did, Sits, state_of, view_of};
 ghost use Rattle.packet_pools.specs.OnlyTraced.{OnlyTraced};
 ghost use Rattle.card_clean.specs.Drained.{FindsNone, FindsWork, IsDrained, IsRooted};
 ghost use Rattle.card_clean.specs.Leaving.{rescanned_in};
@@ -20,15 +19,15 @@ use packet_pools::all_empty;
 pub fn is_drained(heap: &Heap, seat: &mut HeapSeat) -> bool
     requires seat { Sits heap.now seat.old }
     requires rooted { IsRooted (view_of seat.old) }
-    requires work { IsFalse (work_in_hand heap.now.shape.fields (view_of seat.old).state) }
+    requires work { IsFalse (work_in_hand heap.now.shape.fields (state_of seat.old)) }
     ensures seat { Sits heap.now seat.new }
-    ensures later { OnlyTraced (view_of seat.old) (view_of seat.new) }
-    ensures state { (view_of seat.new).state ≡ (view_of seat.old).state }
+    ensures later { Across OnlyTraced seat.old seat.new }
+    ensures state { state_of seat.new ≡ state_of seat.old }
     ensures rooted { IsRooted (view_of seat.new) }
     ensures drained { IsTrue result → IsDrained (view_of seat.new) }
-    ensures over { IsTrue result → FindsNone heap.now.shape (events (view_of seat.old) (view_of seat.new)) }
-    ensures undrained { IsFalse result → FindsWork heap.now.shape (events (view_of seat.old) (view_of seat.new)) }
-    ensures left { rescanned_in (view_of seat.old) (events (view_of seat.old) (view_of seat.new)) ≡ 0 }
+    ensures over { IsTrue result → FindsNone heap.now.shape (did seat.old seat.new) }
+    ensures undrained { IsFalse result → FindsWork heap.now.shape (did seat.old seat.new) }
+    ensures left { rescanned_in (view_of seat.old) (did seat.old seat.new) ≡ 0 }
 {
     match first_dirty(heap, seat, 0) {
         Some(_) => false,

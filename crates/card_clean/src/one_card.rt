@@ -3,8 +3,7 @@ ghost use Rattle.std.specs.Prelude.{◌≡◌, ◌<◌, ◌≤◌, ◌⊎◌, []
 ghost use Rattle.mark_core.specs.Cards.{card_cells};
 ghost use Rattle.mark_core.specs.Layout.{card_count};
 ghost use Rattle.mark_core.specs.Seats.{work_in_hand};
-ghost use Rattle.gc_table.specs.Seats.{view_of};
-ghost use Rattle.gc_table.specs.Log.{events};
+ghost use Rattle.gc_table.specs.Seats.{Across, did, state_of, view_of};
 ghost use Rattle.packet_pools.specs.Hands.{free_slots};
 ghost use Rattle.packet_pools.specs.OnlyTraced.{OnlyCleaned};
 ghost use Rattle.packet_pools.specs.Seeking.{NoOutput, only_moves};
@@ -24,15 +23,15 @@ use packet_pools::{give, take_output};
 pub fn clean_one(heap: &Heap, seat: &mut HeapSeat, card: u32) -> Option<Cleaned>
     requires seat { IsTracer heap.now seat.old }
     requires card { card < card_count heap.now.shape }
-    requires free { 2 ≤ free_slots (view_of seat.old).state.held }
-    requires work { IsFalse (work_in_hand heap.now.shape.fields (view_of seat.old).state) }
+    requires free { 2 ≤ free_slots (state_of seat.old).held }
+    requires work { IsFalse (work_in_hand heap.now.shape.fields (state_of seat.old)) }
     ensures seat { IsTracer heap.now seat.new }
-    ensures later { OnlyCleaned (view_of seat.old) (view_of seat.new) }
-    ensures held { (view_of seat.new).state.held ≡ (view_of seat.old).state.held }
-    ensures work { IsFalse (work_in_hand heap.now.shape.fields (view_of seat.new).state) }
-    ensures owes { ((view_of seat.new).state.owes ≡ (view_of seat.old).state.owes) ⊎ ((view_of seat.new).state.owes ≡ None) }
-    ensures some { IfSome result (λ r. CleansOne heap.now.shape card r (events (view_of seat.old) (view_of seat.new)) × (r.rescanned ≤ card_cells) × (rescanned_in (view_of seat.old) (events (view_of seat.old) (view_of seat.new)) ≡ r.rescanned)) }
-    ensures none { IfNone result (((view_of seat.new).state ≡ (view_of seat.old).state) × NoOutput heap.now.shape (events (view_of seat.old) (view_of seat.new)) × IsTrue (only_moves (0 ∷ 1 ∷ 2 ∷ []) (events (view_of seat.old) (view_of seat.new))) × (rescanned_in (view_of seat.old) (events (view_of seat.old) (view_of seat.new)) ≡ 0)) }
+    ensures later { Across OnlyCleaned seat.old seat.new }
+    ensures held { (state_of seat.new).held ≡ (state_of seat.old).held }
+    ensures work { IsFalse (work_in_hand heap.now.shape.fields (state_of seat.new)) }
+    ensures owes { ((state_of seat.new).owes ≡ (state_of seat.old).owes) ⊎ ((state_of seat.new).owes ≡ None) }
+    ensures some { IfSome result (λ r. CleansOne heap.now.shape card r (did seat.old seat.new) × (r.rescanned ≤ card_cells) × (rescanned_in (view_of seat.old) (did seat.old seat.new) ≡ r.rescanned)) }
+    ensures none { IfNone result ((state_of seat.new ≡ state_of seat.old) × NoOutput heap.now.shape (did seat.old seat.new) × IsTrue (only_moves (0 ∷ 1 ∷ 2 ∷ []) (did seat.old seat.new)) × (rescanned_in (view_of seat.old) (did seat.old seat.new) ≡ 0)) }
 {
     let Some(mut out) = take_output(heap, seat) else {
         return None;

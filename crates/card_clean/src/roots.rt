@@ -2,14 +2,13 @@
 ghost use Rattle.std.specs.Prelude.{◌≡◌, ◌<◌, ◌≤◌, ◌+◌, ◌*◌, ◌⊎◌, None, IsTrue, IsFalse};
 ghost use Rattle.mark_core.specs.Held.{has_free_slot};
 ghost use Rattle.mark_core.specs.Seats.{work_in_hand};
-ghost use Rattle.gc_table.specs.Seats.{view_of};
+ghost use Rattle.gc_table.specs.Seats.{Across, did, state_of, view_of};
 ghost use Rattle.packet_pools.specs.OnlyTraced.{OnlyTraced};
 ghost use Rattle.packet_pools.specs.Tracing.{IsTracer};
 ghost use Rattle.packet_pools.specs.Hands.{IsHeld};
 ghost use Rattle.packet_pools.specs.Scanning.{Fills};
 ghost use Rattle.card_clean.specs.Drained.{IsNotedRoot, IsBeforeSweep, IsRooted, RootsNoted, RootsTo};
 ghost use Rattle.packet_pools.specs.Hands.{free_slots};
-ghost use Rattle.gc_table.specs.Log.{events};
 ghost use Rattle.card_clean.specs.Leaving.{rescanned_in};
 ghost use Rattle.card_clean.specs.Taking.{NoPacket};
 
@@ -21,15 +20,15 @@ use packet_pools::{Held, give, mark_cell};
 /// Marks what variable v of a section refers to. A seat that is alone then knows that the root is seen to.
 fn mark_root(heap: &Heap, seat: &mut HeapSeat, out: &mut Held, section: u32, v: u8)
     requires seat { IsTracer heap.now seat.old }
-    requires out { IsHeld out.old (view_of seat.old) × IsTrue (has_free_slot (view_of seat.old).state.held) }
+    requires out { IsHeld out.old (view_of seat.old) × IsTrue (has_free_slot (state_of seat.old).held) }
     requires root { (section < heap.now.shape.sections) × (v < 32) }
-    requires work { IsFalse (work_in_hand heap.now.shape.fields (view_of seat.old).state) }
+    requires work { IsFalse (work_in_hand heap.now.shape.fields (state_of seat.old)) }
     ensures seat { IsTracer heap.now seat.new }
-    ensures later { OnlyTraced (view_of seat.old) (view_of seat.new) }
-    ensures out { Fills out.old out.new (view_of seat.old) (view_of seat.new) }
-    ensures work { IsFalse (work_in_hand heap.now.shape.fields (view_of seat.new).state) }
-    ensures left { rescanned_in (view_of seat.old) (events (view_of seat.old) (view_of seat.new)) ≡ 0 }
-    ensures noted { IsTrue (view_of seat.old).state.alone → IsNotedRoot (section * 32 + v) (view_of seat.new) }
+    ensures later { Across OnlyTraced seat.old seat.new }
+    ensures out { Across (Fills out.old out.new) seat.old seat.new }
+    ensures work { IsFalse (work_in_hand heap.now.shape.fields (state_of seat.new)) }
+    ensures left { rescanned_in (view_of seat.old) (did seat.old seat.new) ≡ 0 }
+    ensures noted { IsTrue (state_of seat.old).alone → IsNotedRoot (section * 32 + v) (view_of seat.new) }
 {
     let word = heap.read_root(seat, section, v);
     if word != 0 {
@@ -40,15 +39,15 @@ fn mark_root(heap: &Heap, seat: &mut HeapSeat, out: &mut Held, section: u32, v: 
 /// Marks what the variables of a section refer to. A seat that is alone then knows that these roots are seen to.
 fn mark_roots(heap: &Heap, seat: &mut HeapSeat, out: &mut Held, section: u32)
     requires seat { IsTracer heap.now seat.old }
-    requires out { IsHeld out.old (view_of seat.old) × IsTrue (has_free_slot (view_of seat.old).state.held) }
+    requires out { IsHeld out.old (view_of seat.old) × IsTrue (has_free_slot (state_of seat.old).held) }
     requires section { section < heap.now.shape.sections }
-    requires work { IsFalse (work_in_hand heap.now.shape.fields (view_of seat.old).state) }
+    requires work { IsFalse (work_in_hand heap.now.shape.fields (state_of seat.old)) }
     ensures seat { IsTracer heap.now seat.new }
-    ensures later { OnlyTraced (view_of seat.old) (view_of seat.new) }
-    ensures out { Fills out.old out.new (view_of seat.old) (view_of seat.new) }
-    ensures work { IsFalse (work_in_hand heap.now.shape.fields (view_of seat.new).state) }
-    ensures left { rescanned_in (view_of seat.old) (events (view_of seat.old) (view_of seat.new)) ≡ 0 }
-    ensures noted { IsTrue (view_of seat.old).state.alone → RootsNoted section 32 (view_of seat.new) }
+    ensures later { Across OnlyTraced seat.old seat.new }
+    ensures out { Across (Fills out.old out.new) seat.old seat.new }
+    ensures work { IsFalse (work_in_hand heap.now.shape.fields (state_of seat.new)) }
+    ensures left { rescanned_in (view_of seat.old) (did seat.old seat.new) ≡ 0 }
+    ensures noted { IsTrue (state_of seat.old).alone → RootsNoted section 32 (view_of seat.new) }
 {
     for v in 0..32 {
         mark_root(heap, seat, out, section, v);
@@ -63,14 +62,14 @@ fn mark_roots(heap: &Heap, seat: &mut HeapSeat, out: &mut Held, section: u32)
 pub fn see_to_roots(heap: &Heap, seat: &mut HeapSeat) -> bool
     requires seat { IsTracer heap.now seat.old }
     requires ready { IsBeforeSweep (view_of seat.old) }
-    requires free { 2 ≤ free_slots (view_of seat.old).state.held }
-    requires work { IsFalse (work_in_hand heap.now.shape.fields (view_of seat.old).state) }
+    requires free { 2 ≤ free_slots (state_of seat.old).held }
+    requires work { IsFalse (work_in_hand heap.now.shape.fields (state_of seat.old)) }
     ensures seat { IsTracer heap.now seat.new }
-    ensures later { OnlyTraced (view_of seat.old) (view_of seat.new) }
-    ensures held { (view_of seat.new).state.held ≡ (view_of seat.old).state.held }
-    ensures work { IsFalse (work_in_hand heap.now.shape.fields (view_of seat.new).state) }
-    ensures left { rescanned_in (view_of seat.old) (events (view_of seat.old) (view_of seat.new)) ≡ 0 }
-    ensures none { IsFalse result → ((view_of seat.new).state ≡ (view_of seat.old).state) × NoPacket heap.now.shape (events (view_of seat.old) (view_of seat.new)) }
+    ensures later { Across OnlyTraced seat.old seat.new }
+    ensures held { (state_of seat.new).held ≡ (state_of seat.old).held }
+    ensures work { IsFalse (work_in_hand heap.now.shape.fields (state_of seat.new)) }
+    ensures left { rescanned_in (view_of seat.old) (did seat.old seat.new) ≡ 0 }
+    ensures none { IsFalse result → (state_of seat.new ≡ state_of seat.old) × NoPacket heap.now.shape (did seat.old seat.new) }
     ensures rooted { IsTrue result → IsRooted (view_of seat.new) }
 {
     let Some(mut out) = take_some(heap, seat) else {
@@ -84,14 +83,14 @@ pub fn see_to_roots(heap: &Heap, seat: &mut HeapSeat) -> bool
 /// Marks what the variables of all sections refer to.
 fn mark_all(heap: &Heap, seat: &mut HeapSeat, out: &mut Held)
     requires seat { IsTracer heap.now seat.old }
-    requires out { IsHeld out.old (view_of seat.old) × IsTrue (has_free_slot (view_of seat.old).state.held) }
-    requires work { IsFalse (work_in_hand heap.now.shape.fields (view_of seat.old).state) }
+    requires out { IsHeld out.old (view_of seat.old) × IsTrue (has_free_slot (state_of seat.old).held) }
+    requires work { IsFalse (work_in_hand heap.now.shape.fields (state_of seat.old)) }
     ensures seat { IsTracer heap.now seat.new }
-    ensures later { OnlyTraced (view_of seat.old) (view_of seat.new) }
-    ensures out { Fills out.old out.new (view_of seat.old) (view_of seat.new) }
-    ensures work { IsFalse (work_in_hand heap.now.shape.fields (view_of seat.new).state) }
-    ensures left { rescanned_in (view_of seat.old) (events (view_of seat.old) (view_of seat.new)) ≡ 0 }
-    ensures noted { IsTrue (view_of seat.old).state.alone → RootsTo (heap.now.shape.sections * 32) (view_of seat.new) }
+    ensures later { Across OnlyTraced seat.old seat.new }
+    ensures out { Across (Fills out.old out.new) seat.old seat.new }
+    ensures work { IsFalse (work_in_hand heap.now.shape.fields (state_of seat.new)) }
+    ensures left { rescanned_in (view_of seat.old) (did seat.old seat.new) ≡ 0 }
+    ensures noted { IsTrue (state_of seat.old).alone → RootsTo (heap.now.shape.sections * 32) (view_of seat.new) }
 {
     for section in 0..heap.shape().sections {
         mark_roots(heap, seat, out, section);

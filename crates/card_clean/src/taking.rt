@@ -1,9 +1,8 @@
 //! A packet is taken for the cells that are marked.
 ghost use Rattle.std.specs.Prelude.{◌≡◌, [], ◌∷◌, IsTrue, IsFalse, IfSome, IfNone};
 ghost use Rattle.mark_core.specs.Held.{has_free_slot, holds};
-ghost use Rattle.gc_table.specs.Seats.{view_of};
+ghost use Rattle.gc_table.specs.Seats.{Across, did, state_of, view_of};
 ghost use Rattle.packet_pools.specs.OnlyTraced.{OnlyTraced};
-ghost use Rattle.gc_table.specs.Log.{events};
 ghost use Rattle.packet_pools.specs.Tracing.{IsTracer};
 ghost use Rattle.packet_pools.specs.Hands.{IsHeld, with_packet};
 ghost use Rattle.packet_pools.specs.Seeking.{only_moves};
@@ -15,12 +14,12 @@ use packet_pools::{Held, take_input, take_output};
 /// Takes a packet, with room where there is one.
 pub(crate) fn take_some(heap: &Heap, seat: &mut HeapSeat) -> Option<Held>
     requires seat { IsTracer heap.now seat.old }
-    requires free { IsTrue (has_free_slot (view_of seat.old).state.held) }
+    requires free { IsTrue (has_free_slot (state_of seat.old).held) }
     ensures seat { IsTracer heap.now seat.new }
-    ensures later { OnlyTraced (view_of seat.old) (view_of seat.new) }
-    ensures moves { IsTrue (only_moves (0 ∷ 1 ∷ 2 ∷ []) (events (view_of seat.old) (view_of seat.new))) }
-    ensures some { IfSome result (λ h. IsFalse (holds (view_of seat.old).state.held h.packet) × IsHeld h (view_of seat.new) × ((view_of seat.new).state ≡ record (view_of seat.old).state { held = with_packet (view_of seat.old).state.held h.packet h.length })) }
-    ensures none { IfNone result (((view_of seat.new).state ≡ (view_of seat.old).state) × NoPacket heap.now.shape (events (view_of seat.old) (view_of seat.new))) }
+    ensures later { Across OnlyTraced seat.old seat.new }
+    ensures moves { IsTrue (only_moves (0 ∷ 1 ∷ 2 ∷ []) (did seat.old seat.new)) }
+    ensures some { IfSome result (λ h. IsFalse (holds (state_of seat.old).held h.packet) × IsHeld h (view_of seat.new) × (state_of seat.new ≡ record (state_of seat.old) { held = with_packet (state_of seat.old).held h.packet h.length })) }
+    ensures none { IfNone result ((state_of seat.new ≡ state_of seat.old) × NoPacket heap.now.shape (did seat.old seat.new)) }
 {
     match take_output(heap, seat) {
         Some(held) => Some(held),

@@ -9,6 +9,9 @@ use Rattle.mark_core.specs.Start.{start_seat}
 use Rattle.mark_core.specs.declared.kinds.Shape.{Shape}
 use Rattle.mark_core.specs.Effects.{written}
 use Rattle.mark_core.specs.declared.kinds.Step.{Step}
+use Rattle.mark_core.specs.declared.seat.SeatState.{SeatState}
+use Rattle.gc_table.specs.Log.{events}
+use Rattle.gc_table.specs.declared.view.Entry.{Entry}
 use Rattle.gc_table.specs.Taking.{after, Finds}
 use Rattle.gc_table.specs.declared.view.View.{View}
 use Rattle.gc_table.specs.declared.seat.Heap.{Heap}
@@ -17,6 +20,18 @@ use Rattle.gc_table.specs.declared.seat.HeapSeat.{HeapSeat}
 -- what the seat knows
 abbrev pub view_of : HeapSeat → View
 view_of s = s.token.me.0
+
+-- the seat's record
+abbrev pub state_of : HeapSeat → SeatState
+state_of s = (view_of s).state
+
+-- what a call made of the seat, told by what the seat knew before it and knows after it
+abbrev pub Across : (View → View → Type 0) → HeapSeat → HeapSeat → Type 0
+Across R s t = R (view_of s) (view_of t)
+
+-- what the seat did from the one to the other
+abbrev pub did : HeapSeat → HeapSeat → List Entry
+did s t = events (view_of s) (view_of t)
 
 -- the seat is one of the heap's
 abbrev pub Sits : Heap → HeapSeat → Type 0

@@ -4,7 +4,7 @@ ghost use Rattle.mark_core.specs.Shapes.{IsShape};
 ghost use Rattle.mark_core.specs.Start.{start_seat as start_seat_of};
 ghost use Rattle.gc_table.specs.Ends.{IsEnd, IsLeft};
 ghost use Rattle.gc_table.specs.Rule.{newcomer, opens, opened_by, takes_in, nobody, HasLog, HasSection, IsFinal, KnowsFull};
-ghost use Rattle.gc_table.specs.Seats.{Sits, view_of, IsFresh, IsOutside};
+ghost use Rattle.gc_table.specs.Seats.{IsFresh, IsOutside, Sits, state_of, view_of};
 
 use crate::plan::{PlanTag, tag_of};
 use crate::rule::{Key, Rule};
@@ -63,7 +63,7 @@ impl Heap {
     }
 
     fn open_seat(&self, first: &mut HeapSeat, number: u32) -> HeapSeat
-        requires seat { Sits self.now first.old × ((view_of first.old).state ≡ start_seat_of self.now.shape 0) }
+        requires seat { Sits self.now first.old × (state_of first.old ≡ start_seat_of self.now.shape 0) }
         requires number { ((view_of first.old).opened ≡ number) × (number < 41) }
         requires plan { (view_of first.old).plan ≡ self.now.table.shared.key.plan.parts }
         ensures first { Sits self.now first.new × (view_of first.new ≡ opens (view_of first.old)) }
@@ -115,7 +115,7 @@ impl Heap {
 
     fn absorb(&self, first: &mut Seat<(), View>, other: HeapSeat)
         requires first { IsLeft self.now first.old }
-        requires other { Sits self.now other × IsOutside (view_of other) × ((view_of other).state.number ≢ 0) }
+        requires other { Sits self.now other × IsOutside (view_of other) × ((state_of other).number ≢ 0) }
         ensures left { IsLeft self.now first.new }
         ensures both { first.new.me.0 ≡ takes_in first.old.me.0 (view_of other) }
     {
@@ -129,10 +129,10 @@ impl Heap {
 
     fn join_all(&self, mut seats: Vec<HeapSeat>) -> Seat<(), View>
         requires some { 0 < vec_len seats }
-        requires seats { (i : ℕ) (s : HeapSeat) → slice_get seats.items i ≡ Some s → Sits self.now s × ((view_of s).state.number ≡ i) × IsOutside (view_of s) }
+        requires seats { (i : ℕ) (s : HeapSeat) → slice_get seats.items i ≡ Some s → Sits self.now s × ((state_of s).number ≡ i) × IsOutside (view_of s) }
         ensures left { IsLeft self.now result }
-        ensures first { (s : HeapSeat) → slice_get seats.items 0 ≡ Some s → (result.me.0.state ≡ (view_of s).state) × (result.me.0.plan ≡ (view_of s).plan) × (result.me.0.opened ≡ (view_of s).opened) }
-        ensures sections { (i : ℕ) (s : HeapSeat) (w : ℕ) → slice_get seats.items i ≡ Some s → (view_of s).state.section ≡ Some w → HasSection result.me.0 w (view_of s).own }
+        ensures first { (s : HeapSeat) → slice_get seats.items 0 ≡ Some s → (result.me.0.state ≡ state_of s) × (result.me.0.plan ≡ (view_of s).plan) × (result.me.0.opened ≡ (view_of s).opened) }
+        ensures sections { (i : ℕ) (s : HeapSeat) (w : ℕ) → slice_get seats.items i ≡ Some s → (state_of s).section ≡ Some w → HasSection result.me.0 w (view_of s).own }
         ensures logs { (i : ℕ) (s : HeapSeat) → slice_get seats.items i ≡ Some s → HasLog result.me.0 i (view_of s).log }
         ensures full { (i : ℕ) (s : HeapSeat) → slice_get seats.items i ≡ Some s → KnowsFull (view_of s) → KnowsFull result.me.0 }
     {
@@ -168,7 +168,7 @@ impl Heap {
 
     fn close_all(self, alloc: Global, seats: Vec<HeapSeat>) -> Result<Words, AllocError>
         requires some { 0 < vec_len seats }
-        requires seats { (i : ℕ) (s : HeapSeat) → slice_get seats.items i ≡ Some s → Sits self s × ((view_of s).state.number ≡ i) × IsOutside (view_of s) }
+        requires seats { (i : ℕ) (s : HeapSeat) → slice_get seats.items i ≡ Some s → Sits self s × ((state_of s).number ≡ i) × IsOutside (view_of s) }
         ensures { IfOk result (λ w. IsEnd self.shape seats.items w) }
     {
         let shape = self.shape;
@@ -184,7 +184,7 @@ impl Heap {
     /// the log of each seat is its part. Where memory ran out the heap and the seats are gone.
     pub fn close(self, alloc: Global, seats: Vec<HeapSeat>) -> Result<Words, OutOfMemory>
         requires some { 0 < vec_len seats }
-        requires seats { (i : ℕ) (s : HeapSeat) → slice_get seats.items i ≡ Some s → Sits self s × ((view_of s).state.number ≡ i) × IsOutside (view_of s) }
+        requires seats { (i : ℕ) (s : HeapSeat) → slice_get seats.items i ≡ Some s → Sits self s × ((state_of s).number ≡ i) × IsOutside (view_of s) }
         ensures { IfOk result (λ w. IsEnd self.shape seats.items w) }
     {
         match self.close_all(alloc, seats) {
@@ -217,14 +217,14 @@ impl HeapSeat {
 
     /// The seat's number.
     pub fn number(&self) -> u32
-        ensures { result ≡ (view_of self.now).state.number }
+        ensures { result ≡ (state_of self.now).number }
     {
         self.state.number
     }
 
     /// What the seat knows and has in hand.
     pub fn state(&self) -> &SeatState
-        ensures { result.now ≡ (view_of self.now).state }
+        ensures { result.now ≡ state_of self.now }
     {
         &self.state
     }

@@ -1,6 +1,6 @@
 //! The steps of a mutator on its objects, its variables and its block.
 ghost use Rattle.std.specs.Prelude.{◌≡◌};
-ghost use Rattle.gc_table.specs.Seats.{Answered, Found, IsPlainStep, Sits, Stored, view_of};
+ghost use Rattle.gc_table.specs.Seats.{Across, Answered, Found, IsPlainStep, Sits, Stored, view_of};
 ghost use Rattle.gc_table.specs.Taking.{Asked, May, won};
 
 use crate::seat::{Heap, HeapSeat};
@@ -12,7 +12,7 @@ impl Heap {
         requires seat { Sits self.now seat.old }
         requires may { May (Step.ReadOwn c i) (view_of seat.old) }
         ensures seat { Sits self.now seat.new }
-        ensures view { Found (Step.ReadOwn c i) result (view_of seat.old) (view_of seat.new) }
+        ensures view { Across (Found (Step.ReadOwn c i) result) seat.old seat.new }
     {
         self.load_step(seat, Step::ReadOwn { c, i })
     }
@@ -22,7 +22,7 @@ impl Heap {
         requires seat { Sits self.now seat.old }
         requires may { May (Step.ReadValue c) (view_of seat.old) }
         ensures seat { Sits self.now seat.new }
-        ensures view { Found (Step.ReadValue c) result (view_of seat.old) (view_of seat.new) }
+        ensures view { Across (Found (Step.ReadValue c) result) seat.old seat.new }
     {
         self.load_step(seat, Step::ReadValue { c })
     }
@@ -32,7 +32,7 @@ impl Heap {
         requires seat { Sits self.now seat.old }
         requires may { May (Step.ReadIdent c) (view_of seat.old) }
         ensures seat { Sits self.now seat.new }
-        ensures view { Found (Step.ReadIdent c) result (view_of seat.old) (view_of seat.new) }
+        ensures view { Across (Found (Step.ReadIdent c) result) seat.old seat.new }
     {
         self.load_step(seat, Step::ReadIdent { c })
     }
@@ -42,7 +42,7 @@ impl Heap {
         requires seat { Sits self.now seat.old }
         requires may { May (Step.ReadCat v) (view_of seat.old) }
         ensures seat { Sits self.now seat.new }
-        ensures view { Found (Step.ReadCat v) result (view_of seat.old) (view_of seat.new) }
+        ensures view { Across (Found (Step.ReadCat v) result) seat.old seat.new }
     {
         self.load_step(seat, Step::ReadCat { v })
     }
@@ -53,8 +53,8 @@ impl Heap {
         requires may { May (Step.StoreField v i w) (view_of seat.old) }
         requires asked { Asked (Step.StoreField v i w) (view_of seat.old) }
         ensures seat { Sits self.now seat.new }
-        ensures view { Stored (Step.StoreField v i w) (view_of seat.old) (view_of seat.new) }
-        ensures plain { IsPlainStep (Step.StoreField v i w) (view_of seat.old) (view_of seat.new) }
+        ensures view { Across (Stored (Step.StoreField v i w)) seat.old seat.new }
+        ensures plain { Across (IsPlainStep (Step.StoreField v i w)) seat.old seat.new }
     {
         self.store_step(seat, Step::StoreField { v, i, w });
     }
@@ -65,8 +65,8 @@ impl Heap {
         requires may { May (Step.StoreValue v n) (view_of seat.old) }
         requires asked { Asked (Step.StoreValue v n) (view_of seat.old) }
         ensures seat { Sits self.now seat.new }
-        ensures view { Stored (Step.StoreValue v n) (view_of seat.old) (view_of seat.new) }
-        ensures plain { IsPlainStep (Step.StoreValue v n) (view_of seat.old) (view_of seat.new) }
+        ensures view { Across (Stored (Step.StoreValue v n)) seat.old seat.new }
+        ensures plain { Across (IsPlainStep (Step.StoreValue v n)) seat.old seat.new }
     {
         self.store_step(seat, Step::StoreValue { v, n });
     }
@@ -77,8 +77,8 @@ impl Heap {
         requires may { May (Step.StoreRoot v r) (view_of seat.old) }
         requires asked { Asked (Step.StoreRoot v r) (view_of seat.old) }
         ensures seat { Sits self.now seat.new }
-        ensures view { Stored (Step.StoreRoot v r) (view_of seat.old) (view_of seat.new) }
-        ensures plain { IsPlainStep (Step.StoreRoot v r) (view_of seat.old) (view_of seat.new) }
+        ensures view { Across (Stored (Step.StoreRoot v r)) seat.old seat.new }
+        ensures plain { Across (IsPlainStep (Step.StoreRoot v r)) seat.old seat.new }
     {
         self.store_step(seat, Step::StoreRoot { v, r });
     }
@@ -88,7 +88,7 @@ impl Heap {
         requires seat { Sits self.now seat.old }
         requires may { May (Step.ClaimBlock b) (view_of seat.old) }
         ensures seat { Sits self.now seat.new }
-        ensures view { Answered (Step.ClaimBlock b) (λ n. result ≡ won (Step.ClaimBlock b) n) (view_of seat.old) (view_of seat.new) }
+        ensures view { Across (Answered (Step.ClaimBlock b) (λ n. result ≡ won (Step.ClaimBlock b) n)) seat.old seat.new }
     {
         let found = self.compare_exchange_step(
             seat,
@@ -104,7 +104,7 @@ impl Heap {
         requires seat { Sits self.now seat.old }
         requires may { May Step.ReleaseBlock (view_of seat.old) }
         ensures seat { Sits self.now seat.new }
-        ensures view { Stored Step.ReleaseBlock (view_of seat.old) (view_of seat.new) }
+        ensures view { Across (Stored Step.ReleaseBlock) seat.old seat.new }
     {
         self.store_step(seat, Step::ReleaseBlock);
     }
@@ -114,7 +114,7 @@ impl Heap {
         requires seat { Sits self.now seat.old }
         requires may { May Step.ReadFree (view_of seat.old) }
         ensures seat { Sits self.now seat.new }
-        ensures view { Found Step.ReadFree result (view_of seat.old) (view_of seat.new) }
+        ensures view { Across (Found Step.ReadFree result) seat.old seat.new }
     {
         self.load_step(seat, Step::ReadFree)
     }
@@ -125,7 +125,7 @@ impl Heap {
         requires may { May (Step.StoreNew c part word) (view_of seat.old) }
         requires asked { Asked (Step.StoreNew c part word) (view_of seat.old) }
         ensures seat { Sits self.now seat.new }
-        ensures view { Stored (Step.StoreNew c part word) (view_of seat.old) (view_of seat.new) }
+        ensures view { Across (Stored (Step.StoreNew c part word)) seat.old seat.new }
     {
         self.store_step(seat, Step::StoreNew { c, part, word });
     }
@@ -135,7 +135,7 @@ impl Heap {
         requires seat { Sits self.now seat.old }
         requires may { May Step.PublishCells (view_of seat.old) }
         ensures seat { Sits self.now seat.new }
-        ensures view { Found Step.PublishCells result (view_of seat.old) (view_of seat.new) }
+        ensures view { Across (Found Step.PublishCells result) seat.old seat.new }
     {
         self.fetch_or_step(seat, used_bits(seat.state.cache), Step::PublishCells)
     }

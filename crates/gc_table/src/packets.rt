@@ -2,7 +2,7 @@
 ghost use Rattle.std.specs.Prelude.{◌≡◌};
 ghost use Rattle.mark_core.specs.Bits.{cell_of as cell_of_word};
 ghost use Rattle.mark_core.specs.Held.{length_in_hand};
-ghost use Rattle.gc_table.specs.Seats.{Answered, Found, Sits, Stored, Took, view_of};
+ghost use Rattle.gc_table.specs.Seats.{Across, Answered, Found, Sits, state_of, Stored, Took, view_of};
 ghost use Rattle.gc_table.specs.Taking.{May, won};
 
 use crate::masks::{all_but, bit};
@@ -16,7 +16,7 @@ impl Heap {
         requires seat { Sits self.now seat.old }
         requires may { May Step.Reserve (view_of seat.old) }
         ensures seat { Sits self.now seat.new }
-        ensures view { Took Step.Reserve (view_of seat.old) (view_of seat.new) }
+        ensures view { Across (Took Step.Reserve) seat.old seat.new }
     {
         self.fetch_sub_step(seat, 1, Step::Reserve);
     }
@@ -26,7 +26,7 @@ impl Heap {
         requires seat { Sits self.now seat.old }
         requires may { May (Step.Take q p) (view_of seat.old) }
         ensures seat { Sits self.now seat.new }
-        ensures view { Answered (Step.Take q p) (λ n. result ≡ won (Step.Take q p) n) (view_of seat.old) (view_of seat.new) }
+        ensures view { Across (Answered (Step.Take q p) (λ n. result ≡ won (Step.Take q p) n)) seat.old seat.new }
     {
         let found = self.fetch_and_step(seat, all_but(p % 64), Step::Take { q, p });
         has_bit(found, p % 64)
@@ -37,7 +37,7 @@ impl Heap {
         requires seat { Sits self.now seat.old }
         requires may { May (Step.Give p deferred) (view_of seat.old) }
         ensures seat { Sits self.now seat.new }
-        ensures view { Took (Step.Give p deferred) (view_of seat.old) (view_of seat.new) }
+        ensures view { Across (Took (Step.Give p deferred)) seat.old seat.new }
     {
         self.fetch_or_step(seat, bit(p % 64), Step::Give { p, deferred });
     }
@@ -47,7 +47,7 @@ impl Heap {
         requires seat { Sits self.now seat.old }
         requires may { May Step.Credit (view_of seat.old) }
         ensures seat { Sits self.now seat.new }
-        ensures view { Took Step.Credit (view_of seat.old) (view_of seat.new) }
+        ensures view { Across (Took Step.Credit) seat.old seat.new }
     {
         self.fetch_add_step(seat, 1, Step::Credit);
     }
@@ -58,7 +58,7 @@ impl Heap {
         requires seat { Sits self.now seat.old }
         requires may { May (Step.Push p cell) (view_of seat.old) }
         ensures seat { Sits self.now seat.new }
-        ensures view { Stored (Step.Push p cell) (view_of seat.old) (view_of seat.new) }
+        ensures view { Across (Stored (Step.Push p cell)) seat.old seat.new }
     {
         self.store_step(seat, Step::Push { p, cell });
     }
@@ -69,9 +69,9 @@ impl Heap {
     pub fn push_at(&self, seat: &mut HeapSeat, p: u32, length: u32, cell: Cell)
         requires seat { Sits self.now seat.old }
         requires may { May (Step.Push p cell) (view_of seat.old) }
-        requires known { length ≡ length_in_hand (view_of seat.old).state.held p }
+        requires known { length ≡ length_in_hand (state_of seat.old).held p }
         ensures seat { Sits self.now seat.new }
-        ensures view { Stored (Step.Push p cell) (view_of seat.old) (view_of seat.new) }
+        ensures view { Across (Stored (Step.Push p cell)) seat.old seat.new }
     {
         let word = self.bases.entry_at(p, length);
         let new = u64::from(cell.number()) + 1;
@@ -85,7 +85,7 @@ impl Heap {
         requires seat { Sits self.now seat.old }
         requires may { May (Step.Pop p) (view_of seat.old) }
         ensures seat { Sits self.now seat.new }
-        ensures view { Answered (Step.Pop p) (λ n. result ≡ cell_of_word n) (view_of seat.old) (view_of seat.new) }
+        ensures view { Across (Answered (Step.Pop p) (λ n. result ≡ cell_of_word n)) seat.old seat.new }
     {
         cell_of(self.load_step(seat, Step::Pop { p }))
     }
@@ -96,9 +96,9 @@ impl Heap {
     pub fn pop_at(&self, seat: &mut HeapSeat, p: u32, length: u32) -> Cell
         requires seat { Sits self.now seat.old }
         requires may { May (Step.Pop p) (view_of seat.old) }
-        requires known { length ≡ length_in_hand (view_of seat.old).state.held p }
+        requires known { length ≡ length_in_hand (state_of seat.old).held p }
         ensures seat { Sits self.now seat.new }
-        ensures view { Answered (Step.Pop p) (λ n. result ≡ cell_of_word n) (view_of seat.old) (view_of seat.new) }
+        ensures view { Across (Answered (Step.Pop p) (λ n. result ≡ cell_of_word n)) seat.old seat.new }
     {
         let word = self.bases.entry_at(p, length.saturating_sub(1));
         let cell = cell_of(self.load_told::<Brand>(&mut seat.token, word, Step::Pop { p }));
@@ -111,7 +111,7 @@ impl Heap {
         requires seat { Sits self.now seat.old }
         requires may { May (Step.Look q g) (view_of seat.old) }
         ensures seat { Sits self.now seat.new }
-        ensures view { Found (Step.Look q g) result (view_of seat.old) (view_of seat.new) }
+        ensures view { Across (Found (Step.Look q g) result) seat.old seat.new }
     {
         self.load_step(seat, Step::Look { q, g })
     }
@@ -121,7 +121,7 @@ impl Heap {
         requires seat { Sits self.now seat.old }
         requires may { May Step.ReadCount (view_of seat.old) }
         ensures seat { Sits self.now seat.new }
-        ensures view { Found Step.ReadCount result (view_of seat.old) (view_of seat.new) }
+        ensures view { Across (Found Step.ReadCount result) seat.old seat.new }
     {
         self.load_step(seat, Step::ReadCount)
     }
@@ -131,7 +131,7 @@ impl Heap {
         requires seat { Sits self.now seat.old }
         requires may { May (Step.StoreLength p) (view_of seat.old) }
         ensures seat { Sits self.now seat.new }
-        ensures view { Stored (Step.StoreLength p) (view_of seat.old) (view_of seat.new) }
+        ensures view { Across (Stored (Step.StoreLength p)) seat.old seat.new }
     {
         self.store_step(seat, Step::StoreLength { p });
     }
@@ -141,7 +141,7 @@ impl Heap {
         requires seat { Sits self.now seat.old }
         requires may { May (Step.ReadLength p) (view_of seat.old) }
         ensures seat { Sits self.now seat.new }
-        ensures view { Found (Step.ReadLength p) result (view_of seat.old) (view_of seat.new) }
+        ensures view { Across (Found (Step.ReadLength p) result) seat.old seat.new }
     {
         self.load_step(seat, Step::ReadLength { p })
     }

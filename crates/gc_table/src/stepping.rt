@@ -7,7 +7,7 @@ ghost use Rattle.mark_core.specs.Effects.{place, written};
 ghost use Rattle.mark_core.specs.Layout.{address as address_of};
 ghost use Rattle.gc_table.specs.Entries.{is_store};
 ghost use Rattle.gc_table.specs.Operations.{Writes};
-ghost use Rattle.gc_table.specs.Seats.{Found, Sits, Stored, view_of};
+ghost use Rattle.gc_table.specs.Seats.{Across, Found, Sits, state_of, Stored, view_of};
 ghost use Rattle.gc_table.specs.Taking.{Asked, IsBlind, IsOwn, May};
 
 use crate::seat::{Heap, HeapSeat};
@@ -33,7 +33,7 @@ impl Heap {
         requires kind { Writes step (λ n. n) (view_of seat.old) }
         requires told { IsFalse (is_store step) }
         ensures seat { Sits self.now seat.new }
-        ensures view { Found step result (view_of seat.old) (view_of seat.new) }
+        ensures view { Across (Found step result) seat.old seat.new }
     {
         let word = self.address(&seat.state, &step);
         let found = self.load_told::<Brand>(&mut seat.token, word, step);
@@ -51,7 +51,7 @@ impl Heap {
         requires kind { Writes step (λ _. new) (view_of seat.old) }
         requires told { IsFalse (is_store step) }
         ensures seat { Sits self.now seat.new }
-        ensures view { Found step result (view_of seat.old) (view_of seat.new) }
+        ensures view { Across (Found step result) seat.old seat.new }
     {
         let word = self.address(&seat.state, &step);
         let found = self.swap_told::<Brand>(&mut seat.token, word, new, step);
@@ -69,7 +69,7 @@ impl Heap {
         requires kind { Writes step (λ n. (n + by) % 2 ^ 64) (view_of seat.old) }
         requires told { IsFalse (is_store step) }
         ensures seat { Sits self.now seat.new }
-        ensures view { Found step result (view_of seat.old) (view_of seat.new) }
+        ensures view { Across (Found step result) seat.old seat.new }
     {
         let word = self.address(&seat.state, &step);
         let found = self.fetch_add_told::<Brand>(&mut seat.token, word, by, step);
@@ -87,7 +87,7 @@ impl Heap {
         requires kind { Writes step (λ n. (n + (2 ^ 64 - by)) % 2 ^ 64) (view_of seat.old) }
         requires told { IsFalse (is_store step) }
         ensures seat { Sits self.now seat.new }
-        ensures view { Found step result (view_of seat.old) (view_of seat.new) }
+        ensures view { Across (Found step result) seat.old seat.new }
     {
         let word = self.address(&seat.state, &step);
         let found = self.fetch_sub_told::<Brand>(&mut seat.token, word, by, step);
@@ -105,7 +105,7 @@ impl Heap {
         requires kind { Writes step (λ n. bit_and n by) (view_of seat.old) }
         requires told { IsFalse (is_store step) }
         ensures seat { Sits self.now seat.new }
-        ensures view { Found step result (view_of seat.old) (view_of seat.new) }
+        ensures view { Across (Found step result) seat.old seat.new }
     {
         let word = self.address(&seat.state, &step);
         let found = self.fetch_and_told::<Brand>(&mut seat.token, word, by, step);
@@ -123,7 +123,7 @@ impl Heap {
         requires kind { Writes step (λ n. bit_or n by) (view_of seat.old) }
         requires told { IsFalse (is_store step) }
         ensures seat { Sits self.now seat.new }
-        ensures view { Found step result (view_of seat.old) (view_of seat.new) }
+        ensures view { Across (Found step result) seat.old seat.new }
     {
         let word = self.address(&seat.state, &step);
         let found = self.fetch_or_told::<Brand>(&mut seat.token, word, by, step);
@@ -147,7 +147,7 @@ impl Heap {
         requires kind { Writes step (λ n. either (n == old) new n) (view_of seat.old) }
         requires told { IsFalse (is_store step) }
         ensures seat { Sits self.now seat.new }
-        ensures view { Found step result (view_of seat.old) (view_of seat.new) }
+        ensures view { Across (Found step result) seat.old seat.new }
     {
         let word = self.address(&seat.state, &step);
         let found = self.compare_exchange_told::<Brand>(&mut seat.token, word, old, new, step);
@@ -165,8 +165,8 @@ impl Heap {
         requires blind { IsBlind step (view_of seat.old) }
         requires told { IsTrue (is_store step) }
         ensures seat { Sits self.now seat.new }
-        ensures view { Stored step (view_of seat.old) (view_of seat.new) }
-        ensures word { result ≡ written (view_of seat.old).shape (view_of seat.old).state step 0 }
+        ensures view { Across (Stored step) seat.old seat.new }
+        ensures word { result ≡ written (view_of seat.old).shape (state_of seat.old) step 0 }
     {
         let word = self.address(&seat.state, &step);
         let new = act(&self.shape, &mut seat.state, &step, 0);

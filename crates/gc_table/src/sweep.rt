@@ -1,7 +1,7 @@
 //! The steps of the sweep and of the counters.
 ghost use Rattle.std.specs.Prelude.{◌≡◌};
 ghost use Rattle.mark_core.specs.SweepSteps.{survivors};
-ghost use Rattle.gc_table.specs.Seats.{Found, Sits, Stored, Took, view_of};
+ghost use Rattle.gc_table.specs.Seats.{Across, Found, Sits, state_of, Stored, Took, view_of};
 ghost use Rattle.gc_table.specs.Taking.{May};
 
 use crate::seat::{Heap, HeapSeat};
@@ -13,7 +13,7 @@ impl Heap {
         requires seat { Sits self.now seat.old }
         requires may { May Step.NextBlock (view_of seat.old) }
         ensures seat { Sits self.now seat.new }
-        ensures view { Found Step.NextBlock result (view_of seat.old) (view_of seat.new) }
+        ensures view { Across (Found Step.NextBlock result) seat.old seat.new }
     {
         self.fetch_add_step(seat, 1, Step::NextBlock)
     }
@@ -23,7 +23,7 @@ impl Heap {
         requires seat { Sits self.now seat.old }
         requires may { May Step.NextOfCards (view_of seat.old) }
         ensures seat { Sits self.now seat.new }
-        ensures view { Found Step.NextOfCards result (view_of seat.old) (view_of seat.new) }
+        ensures view { Across (Found Step.NextOfCards result) seat.old seat.new }
     {
         self.fetch_add_step(seat, 1, Step::NextOfCards)
     }
@@ -33,7 +33,7 @@ impl Heap {
         requires seat { Sits self.now seat.old }
         requires may { May Step.ReadBlockMarks (view_of seat.old) }
         ensures seat { Sits self.now seat.new }
-        ensures view { Found Step.ReadBlockMarks result (view_of seat.old) (view_of seat.new) }
+        ensures view { Across (Found Step.ReadBlockMarks result) seat.old seat.new }
     {
         self.load_step(seat, Step::ReadBlockMarks)
     }
@@ -43,8 +43,8 @@ impl Heap {
         requires seat { Sits self.now seat.old }
         requires may { May Step.StoreAlloc (view_of seat.old) }
         ensures seat { Sits self.now seat.new }
-        ensures view { Stored Step.StoreAlloc (view_of seat.old) (view_of seat.new) }
-        ensures word { result ≡ survivors (view_of seat.old).state.block }
+        ensures view { Across (Stored Step.StoreAlloc) seat.old seat.new }
+        ensures word { result ≡ survivors (state_of seat.old).block }
     {
         self.store_step(seat, Step::StoreAlloc)
     }
@@ -54,7 +54,7 @@ impl Heap {
         requires seat { Sits self.now seat.old }
         requires may { May Step.ClearMarks (view_of seat.old) }
         ensures seat { Sits self.now seat.new }
-        ensures view { Stored Step.ClearMarks (view_of seat.old) (view_of seat.new) }
+        ensures view { Across (Stored Step.ClearMarks) seat.old seat.new }
     {
         self.store_step(seat, Step::ClearMarks);
     }
@@ -64,7 +64,7 @@ impl Heap {
         requires seat { Sits self.now seat.old }
         requires may { May (Step.WipeCard card) (view_of seat.old) }
         ensures seat { Sits self.now seat.new }
-        ensures view { Stored (Step.WipeCard card) (view_of seat.old) (view_of seat.new) }
+        ensures view { Across (Stored (Step.WipeCard card)) seat.old seat.new }
     {
         self.store_step(seat, Step::WipeCard { card });
     }
@@ -74,7 +74,7 @@ impl Heap {
         requires seat { Sits self.now seat.old }
         requires may { May (Step.StorePosition done) (view_of seat.old) }
         ensures seat { Sits self.now seat.new }
-        ensures view { Stored (Step.StorePosition done) (view_of seat.old) (view_of seat.new) }
+        ensures view { Across (Stored (Step.StorePosition done)) seat.old seat.new }
     {
         self.store_step(seat, Step::StorePosition { done });
     }
@@ -84,7 +84,7 @@ impl Heap {
         requires seat { Sits self.now seat.old }
         requires may { May Step.StoreNamed (view_of seat.old) }
         ensures seat { Sits self.now seat.new }
-        ensures view { Stored Step.StoreNamed (view_of seat.old) (view_of seat.new) }
+        ensures view { Across (Stored Step.StoreNamed) seat.old seat.new }
     {
         self.store_step(seat, Step::StoreNamed);
     }
@@ -94,7 +94,7 @@ impl Heap {
         requires seat { Sits self.now seat.old }
         requires may { May (Step.Reset which) (view_of seat.old) }
         ensures seat { Sits self.now seat.new }
-        ensures view { Stored (Step.Reset which) (view_of seat.old) (view_of seat.new) }
+        ensures view { Across (Stored (Step.Reset which)) seat.old seat.new }
     {
         self.store_step(seat, Step::Reset { which });
     }
@@ -104,7 +104,7 @@ impl Heap {
         requires seat { Sits self.now seat.old }
         requires may { May (Step.ReadStat which) (view_of seat.old) }
         ensures seat { Sits self.now seat.new }
-        ensures view { Found (Step.ReadStat which) result (view_of seat.old) (view_of seat.new) }
+        ensures view { Across (Found (Step.ReadStat which) result) seat.old seat.new }
     {
         self.load_step(seat, Step::ReadStat { which })
     }
@@ -114,7 +114,7 @@ impl Heap {
         requires seat { Sits self.now seat.old }
         requires may { May (Step.AddStat which by down) (view_of seat.old) }
         ensures seat { Sits self.now seat.new }
-        ensures view { Took (Step.AddStat which by down) (view_of seat.old) (view_of seat.new) }
+        ensures view { Across (Took (Step.AddStat which by down)) seat.old seat.new }
     {
         if down {
             self.fetch_sub_step(seat, u64::from(by), Step::AddStat { which, by, down });

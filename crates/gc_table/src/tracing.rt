@@ -1,7 +1,7 @@
 //! The steps of tracing and of cleaning cards.
 ghost use Rattle.std.specs.Prelude.{◌≡◌};
 ghost use Rattle.mark_core.specs.Seats.{phase_of as phase_of_word};
-ghost use Rattle.gc_table.specs.Seats.{Answered, Found, Sits, Stored, view_of};
+ghost use Rattle.gc_table.specs.Seats.{Across, Answered, Found, Sits, Stored, view_of};
 ghost use Rattle.gc_table.specs.Taking.{May, won};
 
 use crate::masks::bit;
@@ -14,7 +14,7 @@ impl Heap {
         requires seat { Sits self.now seat.old }
         requires may { May (Step.ReadAlloc b) (view_of seat.old) }
         ensures seat { Sits self.now seat.new }
-        ensures view { Found (Step.ReadAlloc b) result (view_of seat.old) (view_of seat.new) }
+        ensures view { Across (Found (Step.ReadAlloc b) result) seat.old seat.new }
     {
         self.load_step(seat, Step::ReadAlloc { b })
     }
@@ -24,7 +24,7 @@ impl Heap {
         requires seat { Sits self.now seat.old }
         requires may { May (Step.ReadField c i) (view_of seat.old) }
         ensures seat { Sits self.now seat.new }
-        ensures view { Found (Step.ReadField c i) result (view_of seat.old) (view_of seat.new) }
+        ensures view { Across (Found (Step.ReadField c i) result) seat.old seat.new }
     {
         self.load_step(seat, Step::ReadField { c, i })
     }
@@ -34,7 +34,7 @@ impl Heap {
         requires seat { Sits self.now seat.old }
         requires may { May (Step.ReadRoot section v) (view_of seat.old) }
         ensures seat { Sits self.now seat.new }
-        ensures view { Found (Step.ReadRoot section v) result (view_of seat.old) (view_of seat.new) }
+        ensures view { Across (Found (Step.ReadRoot section v) result) seat.old seat.new }
     {
         self.load_step(seat, Step::ReadRoot { section, v })
     }
@@ -44,7 +44,7 @@ impl Heap {
         requires seat { Sits self.now seat.old }
         requires may { May (Step.SetMark c) (view_of seat.old) }
         ensures seat { Sits self.now seat.new }
-        ensures view { Answered (Step.SetMark c) (λ n. result ≡ won (Step.SetMark c) n) (view_of seat.old) (view_of seat.new) }
+        ensures view { Across (Answered (Step.SetMark c) (λ n. result ≡ won (Step.SetMark c) n)) seat.old seat.new }
     {
         let found = self.fetch_or_step(seat, bit(c.number() % 64), Step::SetMark { c });
         !has_bit(found, c.number() % 64)
@@ -55,7 +55,7 @@ impl Heap {
         requires seat { Sits self.now seat.old }
         requires may { May (Step.DirtyCard card) (view_of seat.old) }
         ensures seat { Sits self.now seat.new }
-        ensures view { Stored (Step.DirtyCard card) (view_of seat.old) (view_of seat.new) }
+        ensures view { Across (Stored (Step.DirtyCard card)) seat.old seat.new }
     {
         self.store_step(seat, Step::DirtyCard { card });
     }
@@ -65,7 +65,7 @@ impl Heap {
         requires seat { Sits self.now seat.old }
         requires may { May (Step.ClearCard card) (view_of seat.old) }
         ensures seat { Sits self.now seat.new }
-        ensures view { Answered (Step.ClearCard card) (λ n. result ≡ won (Step.ClearCard card) n) (view_of seat.old) (view_of seat.new) }
+        ensures view { Across (Answered (Step.ClearCard card) (λ n. result ≡ won (Step.ClearCard card) n)) seat.old seat.new }
     {
         let found = self.swap_step(seat, 0, Step::ClearCard { card });
         found == 1
@@ -76,7 +76,7 @@ impl Heap {
         requires seat { Sits self.now seat.old }
         requires may { May (Step.ReadMarks b) (view_of seat.old) }
         ensures seat { Sits self.now seat.new }
-        ensures view { Found (Step.ReadMarks b) result (view_of seat.old) (view_of seat.new) }
+        ensures view { Across (Found (Step.ReadMarks b) result) seat.old seat.new }
     {
         self.load_step(seat, Step::ReadMarks { b })
     }
@@ -86,7 +86,7 @@ impl Heap {
         requires seat { Sits self.now seat.old }
         requires may { May (Step.ReadCard card) (view_of seat.old) }
         ensures seat { Sits self.now seat.new }
-        ensures view { Answered (Step.ReadCard card) (λ n. result ≡ won (Step.ReadCard card) n) (view_of seat.old) (view_of seat.new) }
+        ensures view { Across (Answered (Step.ReadCard card) (λ n. result ≡ won (Step.ReadCard card) n)) seat.old seat.new }
     {
         let found = self.load_step(seat, Step::ReadCard { card });
         found == 1
@@ -97,7 +97,7 @@ impl Heap {
         requires seat { Sits self.now seat.old }
         requires may { May Step.ReadPhase (view_of seat.old) }
         ensures seat { Sits self.now seat.new }
-        ensures view { Answered Step.ReadPhase (λ n. result ≡ phase_of_word n) (view_of seat.old) (view_of seat.new) }
+        ensures view { Across (Answered Step.ReadPhase (λ n. result ≡ phase_of_word n)) seat.old seat.new }
     {
         phase_of(self.load_step(seat, Step::ReadPhase))
     }

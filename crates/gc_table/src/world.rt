@@ -1,6 +1,6 @@
 //! The steps that stop and resume the world, admit helpers and turn the season.
 ghost use Rattle.std.specs.Prelude.{◌≡◌};
-ghost use Rattle.gc_table.specs.Seats.{Answered, Found, Sits, Took, view_of};
+ghost use Rattle.gc_table.specs.Seats.{Across, Answered, Found, Sits, Took, view_of};
 ghost use Rattle.gc_table.specs.Taking.{Asked, May, won};
 
 use crate::masks::FLAG;
@@ -13,7 +13,7 @@ impl Heap {
         requires seat { Sits self.now seat.old }
         requires may { May Step.EnterStep (view_of seat.old) }
         ensures seat { Sits self.now seat.new }
-        ensures view { Answered Step.EnterStep (λ n. result ≡ won Step.EnterStep n) (view_of seat.old) (view_of seat.new) }
+        ensures view { Across (Answered Step.EnterStep (λ n. result ≡ won Step.EnterStep n)) seat.old seat.new }
     {
         let found = self.fetch_add_step(seat, 1, Step::EnterStep);
         !has_flag(found)
@@ -24,7 +24,7 @@ impl Heap {
         requires seat { Sits self.now seat.old }
         requires may { May Step.LeaveStep (view_of seat.old) }
         ensures seat { Sits self.now seat.new }
-        ensures view { Took Step.LeaveStep (view_of seat.old) (view_of seat.new) }
+        ensures view { Across (Took Step.LeaveStep) seat.old seat.new }
     {
         self.fetch_sub_step(seat, 1, Step::LeaveStep);
     }
@@ -34,7 +34,7 @@ impl Heap {
         requires seat { Sits self.now seat.old }
         requires may { May Step.RaiseStep (view_of seat.old) }
         ensures seat { Sits self.now seat.new }
-        ensures view { Answered Step.RaiseStep (λ n. result ≡ won Step.RaiseStep n) (view_of seat.old) (view_of seat.new) }
+        ensures view { Across (Answered Step.RaiseStep (λ n. result ≡ won Step.RaiseStep n)) seat.old seat.new }
     {
         let found = self.fetch_or_step(seat, FLAG, Step::RaiseStep);
         !has_flag(found)
@@ -45,7 +45,7 @@ impl Heap {
         requires seat { Sits self.now seat.old }
         requires may { May Step.Observe (view_of seat.old) }
         ensures seat { Sits self.now seat.new }
-        ensures view { Found Step.Observe result (view_of seat.old) (view_of seat.new) }
+        ensures view { Across (Found Step.Observe result) seat.old seat.new }
     {
         self.load_step(seat, Step::Observe)
     }
@@ -55,7 +55,7 @@ impl Heap {
         requires seat { Sits self.now seat.old }
         requires may { May Step.DropStep (view_of seat.old) }
         ensures seat { Sits self.now seat.new }
-        ensures view { Took Step.DropStep (view_of seat.old) (view_of seat.new) }
+        ensures view { Across (Took Step.DropStep) seat.old seat.new }
     {
         self.fetch_sub_step(seat, FLAG - 1, Step::DropStep);
     }
@@ -65,7 +65,7 @@ impl Heap {
         requires seat { Sits self.now seat.old }
         requires may { May Step.OpenStep (view_of seat.old) }
         ensures seat { Sits self.now seat.new }
-        ensures view { Took Step.OpenStep (view_of seat.old) (view_of seat.new) }
+        ensures view { Across (Took Step.OpenStep) seat.old seat.new }
     {
         self.fetch_or_step(seat, FLAG, Step::OpenStep);
     }
@@ -75,7 +75,7 @@ impl Heap {
         requires seat { Sits self.now seat.old }
         requires may { May Step.JoinHelpStep (view_of seat.old) }
         ensures seat { Sits self.now seat.new }
-        ensures view { Answered Step.JoinHelpStep (λ n. result ≡ won Step.JoinHelpStep n) (view_of seat.old) (view_of seat.new) }
+        ensures view { Across (Answered Step.JoinHelpStep (λ n. result ≡ won Step.JoinHelpStep n)) seat.old seat.new }
     {
         let found = self.fetch_add_step(seat, 1, Step::JoinHelpStep);
         has_flag(found)
@@ -86,7 +86,7 @@ impl Heap {
         requires seat { Sits self.now seat.old }
         requires may { May Step.LeaveHelpStep (view_of seat.old) }
         ensures seat { Sits self.now seat.new }
-        ensures view { Took Step.LeaveHelpStep (view_of seat.old) (view_of seat.new) }
+        ensures view { Across (Took Step.LeaveHelpStep) seat.old seat.new }
     {
         self.fetch_sub_step(seat, 1, Step::LeaveHelpStep);
     }
@@ -96,7 +96,7 @@ impl Heap {
         requires seat { Sits self.now seat.old }
         requires may { May Step.CloseStep (view_of seat.old) }
         ensures seat { Sits self.now seat.new }
-        ensures view { Took Step.CloseStep (view_of seat.old) (view_of seat.new) }
+        ensures view { Across (Took Step.CloseStep) seat.old seat.new }
     {
         self.fetch_sub_step(seat, FLAG, Step::CloseStep);
     }
@@ -106,7 +106,7 @@ impl Heap {
         requires seat { Sits self.now seat.old }
         requires may { May Step.SeeHelp (view_of seat.old) }
         ensures seat { Sits self.now seat.new }
-        ensures view { Found Step.SeeHelp result (view_of seat.old) (view_of seat.new) }
+        ensures view { Across (Found Step.SeeHelp result) seat.old seat.new }
     {
         self.load_step(seat, Step::SeeHelp)
     }
@@ -116,7 +116,7 @@ impl Heap {
         requires seat { Sits self.now seat.old }
         requires may { May Step.ReadSeason (view_of seat.old) }
         ensures seat { Sits self.now seat.new }
-        ensures view { Found Step.ReadSeason result (view_of seat.old) (view_of seat.new) }
+        ensures view { Across (Found Step.ReadSeason result) seat.old seat.new }
     {
         self.load_step(seat, Step::ReadSeason)
     }
@@ -127,7 +127,7 @@ impl Heap {
         requires may { May Step.NextSeason (view_of seat.old) }
         requires asked { Asked Step.NextSeason (view_of seat.old) }
         ensures seat { Sits self.now seat.new }
-        ensures view { Took Step.NextSeason (view_of seat.old) (view_of seat.new) }
+        ensures view { Across (Took Step.NextSeason) seat.old seat.new }
     {
         self.fetch_add_step(seat, 1, Step::NextSeason);
     }
@@ -138,7 +138,7 @@ impl Heap {
         requires may { May (Step.StorePhase to) (view_of seat.old) }
         requires asked { Asked (Step.StorePhase to) (view_of seat.old) }
         ensures seat { Sits self.now seat.new }
-        ensures view { Answered (Step.StorePhase to) (λ n. result ≡ won (Step.StorePhase to) n) (view_of seat.old) (view_of seat.new) }
+        ensures view { Across (Answered (Step.StorePhase to) (λ n. result ≡ won (Step.StorePhase to) n)) seat.old seat.new }
     {
         match to {
             Phase::Marking => {

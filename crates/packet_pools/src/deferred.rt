@@ -2,9 +2,9 @@
 ghost use Rattle.std.specs.Prelude.{◌≡◌, ◌<◌, [], ◌∷◌, false, IsTrue, IsFalse, IfSome, IfNone};
 ghost use Rattle.mark_core.specs.Held.{has_free_slot, holds};
 ghost use Rattle.mark_core.specs.declared.kinds.Step.TheVariants.{ReadLength, Take};
-ghost use Rattle.gc_table.specs.Seats.{view_of};
+ghost use Rattle.gc_table.specs.Seats.{Across, did, state_of};
 ghost use Rattle.packet_pools.specs.OnlyTraced.{OnlyTraced};
-ghost use Rattle.gc_table.specs.Log.{events, steps_of};
+ghost use Rattle.gc_table.specs.Log.{steps_of};
 ghost use Rattle.packet_pools.specs.Tracing.{IsTracer};
 ghost use Rattle.packet_pools.specs.Seeking.{was_lost};
 ghost use Rattle.packet_pools.specs.Gains.{Gains};
@@ -17,12 +17,12 @@ use mark_core::DEFERRED_POOL;
 /// Takes packet p out of the deferred pool, unless another seat is first. The seat holds at most three.
 pub fn take_deferred_at(heap: &Heap, seat: &mut HeapSeat, p: u32) -> Option<Held>
     requires seat { IsTracer heap.now seat.old }
-    requires free { IsTrue (has_free_slot (view_of seat.old).state.held) }
-    requires packet { (p < heap.now.shape.packets) × IsFalse (holds (view_of seat.old).state.held p) }
+    requires free { IsTrue (has_free_slot (state_of seat.old).held) }
+    requires packet { (p < heap.now.shape.packets) × IsFalse (holds (state_of seat.old).held p) }
     ensures seat { IsTracer heap.now seat.new }
-    ensures later { OnlyTraced (view_of seat.old) (view_of seat.new) }
-    ensures some { IfSome result (λ h. Gains 3 false h (view_of seat.old) (view_of seat.new) × (h.packet ≡ p) × (steps_of (events (view_of seat.old) (view_of seat.new)) ≡ Take 3 p ∷ ReadLength p ∷ [])) }
-    ensures none { IfNone result (((view_of seat.new).state ≡ (view_of seat.old).state) × IsTrue (was_lost 3 p (events (view_of seat.old) (view_of seat.new))) × (steps_of (events (view_of seat.old) (view_of seat.new)) ≡ Take 3 p ∷ [])) }
+    ensures later { Across OnlyTraced seat.old seat.new }
+    ensures some { IfSome result (λ h. Across (Gains 3 false h) seat.old seat.new × (h.packet ≡ p) × (steps_of (did seat.old seat.new) ≡ Take 3 p ∷ ReadLength p ∷ [])) }
+    ensures none { IfNone result ((state_of seat.new ≡ state_of seat.old) × IsTrue (was_lost 3 p (did seat.old seat.new)) × (steps_of (did seat.old seat.new) ≡ Take 3 p ∷ [])) }
 {
     if !heap.take(seat, DEFERRED_POOL, p) {
         return None;

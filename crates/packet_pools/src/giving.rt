@@ -3,9 +3,9 @@ ghost use Rattle.std.specs.Prelude.{◌≡◌, ◌<◌, ◌==◌, [], ◌∷◌,
 ghost use Rattle.mark_core.specs.Held.{drop_packet, holds_another};
 ghost use Rattle.mark_core.specs.Seats.{work_in_hand};
 ghost use Rattle.mark_core.specs.declared.kinds.Step.TheVariants.{Credit, Give, StoreLength};
-ghost use Rattle.gc_table.specs.Seats.{view_of};
+ghost use Rattle.gc_table.specs.Seats.{Across, did, state_of, view_of};
 ghost use Rattle.packet_pools.specs.OnlyTraced.{OnlyTraced};
-ghost use Rattle.gc_table.specs.Log.{events, steps_of};
+ghost use Rattle.gc_table.specs.Log.{steps_of};
 ghost use Rattle.packet_pools.specs.Tracing.{IsTracer};
 ghost use Rattle.packet_pools.specs.Hands.{IsHeld};
 
@@ -18,11 +18,11 @@ pub fn give(heap: &Heap, seat: &mut HeapSeat, held: Held, deferred: bool)
     requires seat { IsTracer heap.now seat.old }
     requires held { IsHeld held (view_of seat.old) }
     requires deferred { IsTrue deferred → 0 < held.length }
-    requires work { IsTrue (work_in_hand heap.now.shape.fields (view_of seat.old).state) → IsTrue (holds_another (view_of seat.old).state.held held.packet) }
+    requires work { IsTrue (work_in_hand heap.now.shape.fields (state_of seat.old)) → IsTrue (holds_another (state_of seat.old).held held.packet) }
     ensures seat { IsTracer heap.now seat.new }
-    ensures later { OnlyTraced (view_of seat.old) (view_of seat.new) }
-    ensures state { (view_of seat.new).state ≡ record (view_of seat.old).state { held = drop_packet (view_of seat.old).state.held held.packet } }
-    ensures steps { steps_of (events (view_of seat.old) (view_of seat.new)) ≡ StoreLength held.packet ∷ Give held.packet deferred ∷ (if held.length == 0 then Credit ∷ [] else []) }
+    ensures later { Across OnlyTraced seat.old seat.new }
+    ensures state { state_of seat.new ≡ record (state_of seat.old) { held = drop_packet (state_of seat.old).held held.packet } }
+    ensures steps { steps_of (did seat.old seat.new) ≡ StoreLength held.packet ∷ Give held.packet deferred ∷ (if held.length == 0 then Credit ∷ [] else []) }
 {
     let Held { packet, length } = held;
     heap.store_length(seat, packet);

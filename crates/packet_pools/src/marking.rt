@@ -1,9 +1,8 @@
 //! A cell that was loaded is marked, and goes into a packet.
 ghost use Rattle.std.specs.Prelude.{◌≡◌, ◌≤◌, [], ◌∷◌, if◌then◌else◌, Some, None, IsTrue};
 ghost use Rattle.mark_core.specs.Held.{has_free_slot};
-ghost use Rattle.gc_table.specs.Seats.{view_of};
+ghost use Rattle.gc_table.specs.Seats.{Across, did, state_of, view_of};
 ghost use Rattle.packet_pools.specs.OnlyTraced.{OnlyTraced, IsNotedMarked};
-ghost use Rattle.gc_table.specs.Log.{events};
 ghost use Rattle.packet_pools.specs.Tracing.{IsTracer};
 ghost use Rattle.packet_pools.specs.Hands.{IsHeld};
 ghost use Rattle.packet_pools.specs.Scanning.{InHand, Pushes};
@@ -21,13 +20,13 @@ use mark_core::{Cell, card_of};
 #[inline(always)]
 fn push_marked(heap: &Heap, seat: &mut HeapSeat, out: &mut Held, cell: Cell) -> bool
     requires seat { IsTracer heap.now seat.old }
-    requires out { IsHeld out.old (view_of seat.old) × IsTrue (has_free_slot (view_of seat.old).state.held) }
-    requires hand { InHand None (Some cell) (view_of seat.old).state }
+    requires out { IsHeld out.old (view_of seat.old) × IsTrue (has_free_slot (state_of seat.old).held) }
+    requires hand { InHand None (Some cell) (state_of seat.old) }
     ensures seat { IsTracer heap.now seat.new }
-    ensures later { OnlyTraced (view_of seat.old) (view_of seat.new) }
-    ensures pushes { Pushes out.old out.new (view_of seat.old).state.scan (view_of seat.old).state.cleaning (view_of seat.old) (view_of seat.new) }
-    ensures counts { Counts heap.now.shape 0 (if result then 0 else 1) (if result then 1 else 0) (events (view_of seat.old) (view_of seat.new)) }
-    ensures asks { Asks [] (events (view_of seat.old) (view_of seat.new)) }
+    ensures later { Across OnlyTraced seat.old seat.new }
+    ensures pushes { Across (Pushes out.old out.new (state_of seat.old).scan (state_of seat.old).cleaning) seat.old seat.new }
+    ensures counts { Counts heap.now.shape 0 (if result then 0 else 1) (if result then 1 else 0) (did seat.old seat.new) }
+    ensures asks { Asks [] (did seat.old seat.new) }
 {
     make_room(heap, seat, out);
     match push(heap, seat, out, cell) {
@@ -44,15 +43,15 @@ fn push_marked(heap: &Heap, seat: &mut HeapSeat, out: &mut Held, cell: Cell) -> 
 #[inline(always)]
 pub fn mark_cell(heap: &Heap, seat: &mut HeapSeat, out: &mut Held, cell: Cell) -> Scanned
     requires seat { IsTracer heap.now seat.old }
-    requires out { IsHeld out.old (view_of seat.old) × IsTrue (has_free_slot (view_of seat.old).state.held) }
-    requires hand { InHand (Some cell) None (view_of seat.old).state }
+    requires out { IsHeld out.old (view_of seat.old) × IsTrue (has_free_slot (state_of seat.old).held) }
+    requires hand { InHand (Some cell) None (state_of seat.old) }
     ensures seat { IsTracer heap.now seat.new }
-    ensures later { OnlyTraced (view_of seat.old) (view_of seat.new) }
-    ensures pushes { Pushes out.old out.new (view_of seat.old).state.scan (view_of seat.old).state.cleaning (view_of seat.old) (view_of seat.new) }
+    ensures later { Across OnlyTraced seat.old seat.new }
+    ensures pushes { Across (Pushes out.old out.new (state_of seat.old).scan (state_of seat.old).cleaning) seat.old seat.new }
     ensures most { (result.overflowed ≤ result.marked) × (result.marked ≤ 1) }
-    ensures counts { CountsScanned heap.now.shape result (events (view_of seat.old) (view_of seat.new)) }
-    ensures asks { Asks (cell ∷ []) (events (view_of seat.old) (view_of seat.new)) }
-    ensures noted { IsTrue (view_of seat.old).state.alone → IsNotedMarked (view_of seat.new) cell }
+    ensures counts { CountsScanned heap.now.shape result (did seat.old seat.new) }
+    ensures asks { Asks (cell ∷ []) (did seat.old seat.new) }
+    ensures noted { IsTrue (state_of seat.old).alone → IsNotedMarked (view_of seat.new) cell }
 {
     if !heap.set_mark(seat, cell) {
         return Scanned::none();

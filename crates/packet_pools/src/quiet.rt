@@ -1,7 +1,7 @@
 //! Whether there is anything left to trace.
 ghost use Rattle.std.specs.Prelude.{◌≡◌, ◌+◌, ◌==◌, IsTrue};
 ghost use Rattle.mark_core.specs.declared.kinds.Step.TheVariants.{ReadCount};
-ghost use Rattle.gc_table.specs.Seats.{Answered, Sits, view_of};
+ghost use Rattle.gc_table.specs.Seats.{Across, Answered, Sits, state_of};
 ghost use Rattle.packet_pools.specs.OnlyTraced.{OnlyTraced};
 ghost use Rattle.packet_pools.specs.Quiet.{IsQuietAt};
 
@@ -12,9 +12,9 @@ use gc_table::{Heap, HeapSeat};
 pub fn all_empty(heap: &Heap, seat: &mut HeapSeat) -> bool
     requires { Sits heap.now seat.old }
     ensures seat { Sits heap.now seat.new }
-    ensures later { OnlyTraced (view_of seat.old) (view_of seat.new) }
-    ensures state { (view_of seat.new).state ≡ (view_of seat.old).state }
-    ensures count { Answered ReadCount (λ n. result ≡ (n == 64 + heap.now.shape.packets)) (view_of seat.old) (view_of seat.new) }
+    ensures later { Across OnlyTraced seat.old seat.new }
+    ensures state { state_of seat.new ≡ state_of seat.old }
+    ensures count { Across (Answered ReadCount (λ n. result ≡ (n == 64 + heap.now.shape.packets))) seat.old seat.new }
     ensures quiet { IsTrue result → IsQuietAt heap.now.shape (64 + heap.now.shape.packets) }
 {
     heap.read_count(seat) == 64 + u64::from(heap.shape().packets)

@@ -1,9 +1,8 @@
 //! A full packet is changed for one with room.
 ghost use Rattle.std.specs.Prelude.{◌≡◌, [], ◌∷◌, ◌<◌, ◌≢◌, IsTrue};
 ghost use Rattle.mark_core.specs.Held.{drop_packet, has_free_slot};
-ghost use Rattle.gc_table.specs.Seats.{view_of};
+ghost use Rattle.gc_table.specs.Seats.{Across, did, state_of, view_of};
 ghost use Rattle.packet_pools.specs.OnlyTraced.{OnlyTraced};
-ghost use Rattle.gc_table.specs.Log.{events};
 ghost use Rattle.packet_pools.specs.Tracing.{IsTracer};
 ghost use Rattle.packet_pools.specs.Hands.{IsHeld};
 ghost use Rattle.packet_pools.specs.Seeking.{NoOutput, only_moves};
@@ -21,10 +20,10 @@ fn change(heap: &Heap, seat: &mut HeapSeat, out: &mut Held, other: Held)
     requires out { IsHeld out.old (view_of seat.old) }
     requires other { IsHeld other (view_of seat.old) × (other.packet ≢ out.old.packet) }
     ensures seat { IsTracer heap.now seat.new }
-    ensures later { OnlyTraced (view_of seat.old) (view_of seat.new) }
+    ensures later { Across OnlyTraced seat.old seat.new }
     ensures out { out.new ≡ other }
-    ensures state { (view_of seat.new).state ≡ record (view_of seat.old).state { held = drop_packet (view_of seat.old).state.held out.old.packet } }
-    ensures moves { IsTrue (only_moves (0 ∷ 1 ∷ 2 ∷ []) (events (view_of seat.old) (view_of seat.new))) }
+    ensures state { state_of seat.new ≡ record (state_of seat.old) { held = drop_packet (state_of seat.old).held out.old.packet } }
+    ensures moves { IsTrue (only_moves (0 ∷ 1 ∷ 2 ∷ []) (did seat.old seat.new)) }
 {
     let full = mem::replace(out, other);
     give(heap, seat, full, false);
@@ -34,13 +33,13 @@ fn change(heap: &Heap, seat: &mut HeapSeat, out: &mut Held, other: Held)
 #[inline(never)]
 fn change_full(heap: &Heap, seat: &mut HeapSeat, out: &mut Held)
     requires seat { IsTracer heap.now seat.old }
-    requires out { IsHeld out.old (view_of seat.old) × IsTrue (has_free_slot (view_of seat.old).state.held) }
+    requires out { IsHeld out.old (view_of seat.old) × IsTrue (has_free_slot (state_of seat.old).held) }
     ensures seat { IsTracer heap.now seat.new }
-    ensures later { OnlyTraced (view_of seat.old) (view_of seat.new) }
-    ensures out { Fills out.old out.new (view_of seat.old) (view_of seat.new) }
-    ensures state { (view_of seat.new).state ≡ record (view_of seat.old).state { held = (view_of seat.new).state.held } }
-    ensures moves { IsTrue (only_moves (0 ∷ 1 ∷ 2 ∷ []) (events (view_of seat.old) (view_of seat.new))) }
-    ensures full { out.new.length ≡ heap.now.shape.entries → NoOutput heap.now.shape (events (view_of seat.old) (view_of seat.new)) }
+    ensures later { Across OnlyTraced seat.old seat.new }
+    ensures out { Across (Fills out.old out.new) seat.old seat.new }
+    ensures state { state_of seat.new ≡ record (state_of seat.old) { held = (state_of seat.new).held } }
+    ensures moves { IsTrue (only_moves (0 ∷ 1 ∷ 2 ∷ []) (did seat.old seat.new)) }
+    ensures full { out.new.length ≡ heap.now.shape.entries → NoOutput heap.now.shape (did seat.old seat.new) }
 {
     if let Some(other) = take_output(heap, seat) {
         change(heap, seat, out, other);
@@ -51,13 +50,13 @@ fn change_full(heap: &Heap, seat: &mut HeapSeat, out: &mut Held)
 #[inline(always)]
 pub(crate) fn make_room(heap: &Heap, seat: &mut HeapSeat, out: &mut Held)
     requires seat { IsTracer heap.now seat.old }
-    requires out { IsHeld out.old (view_of seat.old) × IsTrue (has_free_slot (view_of seat.old).state.held) }
+    requires out { IsHeld out.old (view_of seat.old) × IsTrue (has_free_slot (state_of seat.old).held) }
     ensures seat { IsTracer heap.now seat.new }
-    ensures later { OnlyTraced (view_of seat.old) (view_of seat.new) }
-    ensures out { Fills out.old out.new (view_of seat.old) (view_of seat.new) }
-    ensures state { (view_of seat.new).state ≡ record (view_of seat.old).state { held = (view_of seat.new).state.held } }
-    ensures moves { IsTrue (only_moves (0 ∷ 1 ∷ 2 ∷ []) (events (view_of seat.old) (view_of seat.new))) }
-    ensures full { out.new.length ≡ heap.now.shape.entries → NoOutput heap.now.shape (events (view_of seat.old) (view_of seat.new)) }
+    ensures later { Across OnlyTraced seat.old seat.new }
+    ensures out { Across (Fills out.old out.new) seat.old seat.new }
+    ensures state { state_of seat.new ≡ record (state_of seat.old) { held = (state_of seat.new).held } }
+    ensures moves { IsTrue (only_moves (0 ∷ 1 ∷ 2 ∷ []) (did seat.old seat.new)) }
+    ensures full { out.new.length ≡ heap.now.shape.entries → NoOutput heap.now.shape (did seat.old seat.new) }
 {
     if out.length == heap.shape().entries {
         change_full(heap, seat, out);

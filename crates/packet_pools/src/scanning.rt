@@ -3,9 +3,8 @@ ghost use Rattle.std.specs.Prelude.{◌≡◌, ◌<◌, ◌≤◌, ◌+◌, ◌-
 ghost use Rattle.mark_core.specs.ColourSteps.{may_read_field, without_cell};
 ghost use Rattle.mark_core.specs.Held.{has_free_slot};
 ghost use Rattle.mark_core.specs.Seats.{cleaning_left, may_scan, scan_left, work_in_hand};
-ghost use Rattle.gc_table.specs.Seats.{view_of};
+ghost use Rattle.gc_table.specs.Seats.{Across, did, state_of, view_of};
 ghost use Rattle.packet_pools.specs.OnlyTraced.{OnlyTraced};
-ghost use Rattle.gc_table.specs.Log.{events};
 ghost use Rattle.packet_pools.specs.Tracing.{IsTracer};
 ghost use Rattle.packet_pools.specs.Hands.{IsHeld};
 ghost use Rattle.packet_pools.specs.Scanning.{InHand, Pushes, scan_end, cleaning_end};
@@ -22,15 +21,15 @@ use mark_core::{Cell, cell_of};
 #[inline(always)]
 fn scan_field(heap: &Heap, seat: &mut HeapSeat, out: &mut Held, cell: Cell, i: u8) -> Scanned
     requires seat { IsTracer heap.now seat.old }
-    requires out { IsHeld out.old (view_of seat.old) × IsTrue (has_free_slot (view_of seat.old).state.held) }
-    requires hand { InHand None None (view_of seat.old).state }
-    requires field { (i < heap.now.shape.fields) × IsTrue (may_read_field heap.now.shape (view_of seat.old).state cell i) }
+    requires out { IsHeld out.old (view_of seat.old) × IsTrue (has_free_slot (state_of seat.old).held) }
+    requires hand { InHand None None (state_of seat.old) }
+    requires field { (i < heap.now.shape.fields) × IsTrue (may_read_field heap.now.shape (state_of seat.old) cell i) }
     ensures seat { IsTracer heap.now seat.new }
-    ensures later { OnlyTraced (view_of seat.old) (view_of seat.new) }
-    ensures pushes { Pushes out.old out.new (Some (cell, i + 1)) (without_cell (view_of seat.old).state.cleaning cell) (view_of seat.old) (view_of seat.new) }
+    ensures later { Across OnlyTraced seat.old seat.new }
+    ensures pushes { Across (Pushes out.old out.new (Some (cell, i + 1)) (without_cell (state_of seat.old).cleaning cell)) seat.old seat.new }
     ensures most { (result.overflowed ≤ result.marked) × (result.marked ≤ 1) }
-    ensures counts { CountsScanned heap.now.shape result (events (view_of seat.old) (view_of seat.new)) }
-    ensures follows { Follows ((cell, i) ∷ []) (events (view_of seat.old) (view_of seat.new)) }
+    ensures counts { CountsScanned heap.now.shape result (did seat.old seat.new) }
+    ensures follows { Follows ((cell, i) ∷ []) (did seat.old seat.new) }
 {
     let word = heap.read_field(seat, cell, i);
     if word == 0 {
@@ -43,15 +42,15 @@ fn scan_field(heap: &Heap, seat: &mut HeapSeat, out: &mut Held, cell: Cell, i: u
 #[inline(always)]
 fn scan_fields(heap: &Heap, seat: &mut HeapSeat, out: &mut Held, cell: Cell, next: u8) -> Scanned
     requires seat { IsTracer heap.now seat.old }
-    requires out { IsHeld out.old (view_of seat.old) × IsTrue (has_free_slot (view_of seat.old).state.held) }
-    requires hand { InHand None None (view_of seat.old).state }
-    requires scan { (view_of seat.old).state.scan ≡ Some (cell, next) }
+    requires out { IsHeld out.old (view_of seat.old) × IsTrue (has_free_slot (state_of seat.old).held) }
+    requires hand { InHand None None (state_of seat.old) }
+    requires scan { (state_of seat.old).scan ≡ Some (cell, next) }
     ensures seat { IsTracer heap.now seat.new }
-    ensures later { OnlyTraced (view_of seat.old) (view_of seat.new) }
-    ensures pushes { Pushes out.old out.new (scan_end heap.now.shape.fields (Some (cell, next))) (cleaning_end heap.now.shape.fields (Some (cell, next)) (view_of seat.old).state.cleaning) (view_of seat.old) (view_of seat.new) }
+    ensures later { Across OnlyTraced seat.old seat.new }
+    ensures pushes { Across (Pushes out.old out.new (scan_end heap.now.shape.fields (Some (cell, next))) (cleaning_end heap.now.shape.fields (Some (cell, next)) (state_of seat.old).cleaning)) seat.old seat.new }
     ensures most { (result.overflowed ≤ result.marked) × (result.marked ≤ heap.now.shape.fields - next) }
-    ensures counts { CountsScanned heap.now.shape result (events (view_of seat.old) (view_of seat.new)) }
-    ensures follows { Follows (fields_from cell next (heap.now.shape.fields - next)) (events (view_of seat.old) (view_of seat.new)) }
+    ensures counts { CountsScanned heap.now.shape result (did seat.old seat.new) }
+    ensures follows { Follows (fields_from cell next (heap.now.shape.fields - next)) (did seat.old seat.new) }
 {
     let mut scanned = Scanned::none();
     for i in next..heap.shape().fields as u8 {
@@ -70,15 +69,15 @@ fn scan_fields(heap: &Heap, seat: &mut HeapSeat, out: &mut Held, cell: Cell, nex
 #[inline(always)]
 pub fn scan_cell(heap: &Heap, seat: &mut HeapSeat, out: &mut Held) -> Scanned
     requires seat { IsTracer heap.now seat.old }
-    requires out { IsHeld out.old (view_of seat.old) × IsTrue (has_free_slot (view_of seat.old).state.held) }
-    requires hand { InHand None None (view_of seat.old).state }
+    requires out { IsHeld out.old (view_of seat.old) × IsTrue (has_free_slot (state_of seat.old).held) }
+    requires hand { InHand None None (state_of seat.old) }
     ensures seat { IsTracer heap.now seat.new }
-    ensures later { OnlyTraced (view_of seat.old) (view_of seat.new) }
-    ensures pushes { Pushes out.old out.new (scan_end heap.now.shape.fields (view_of seat.old).state.scan) (cleaning_end heap.now.shape.fields (view_of seat.old).state.scan (view_of seat.old).state.cleaning) (view_of seat.old) (view_of seat.new) }
-    ensures work { IsFalse (cleaning_left (view_of seat.old).state.cleaning) → IsFalse (work_in_hand heap.now.shape.fields (view_of seat.new).state) }
+    ensures later { Across OnlyTraced seat.old seat.new }
+    ensures pushes { Across (Pushes out.old out.new (scan_end heap.now.shape.fields (state_of seat.old).scan) (cleaning_end heap.now.shape.fields (state_of seat.old).scan (state_of seat.old).cleaning)) seat.old seat.new }
+    ensures work { IsFalse (cleaning_left (state_of seat.old).cleaning) → IsFalse (work_in_hand heap.now.shape.fields (state_of seat.new)) }
     ensures most { (result.overflowed ≤ result.marked) × (result.marked ≤ heap.now.shape.fields) }
-    ensures counts { CountsScanned heap.now.shape result (events (view_of seat.old) (view_of seat.new)) }
-    ensures follows { Follows (fields_left heap.now.shape.fields (view_of seat.old).state.scan) (events (view_of seat.old) (view_of seat.new)) }
+    ensures counts { CountsScanned heap.now.shape result (did seat.old seat.new) }
+    ensures follows { Follows (fields_left heap.now.shape.fields (state_of seat.old).scan) (did seat.old seat.new) }
 {
     match seat.state().scan {
         None => Scanned::none(),
@@ -90,16 +89,16 @@ pub fn scan_cell(heap: &Heap, seat: &mut HeapSeat, out: &mut Held) -> Scanned
 #[inline(always)]
 pub fn scan_whole(heap: &Heap, seat: &mut HeapSeat, out: &mut Held, cell: Cell) -> Scanned
     requires seat { IsTracer heap.now seat.old }
-    requires out { IsHeld out.old (view_of seat.old) × IsTrue (has_free_slot (view_of seat.old).state.held) }
-    requires hand { InHand None None (view_of seat.old).state }
-    requires scan { (view_of seat.old).state.scan ≡ Some (cell, 0) }
+    requires out { IsHeld out.old (view_of seat.old) × IsTrue (has_free_slot (state_of seat.old).held) }
+    requires hand { InHand None None (state_of seat.old) }
+    requires scan { (state_of seat.old).scan ≡ Some (cell, 0) }
     ensures seat { IsTracer heap.now seat.new }
-    ensures later { OnlyTraced (view_of seat.old) (view_of seat.new) }
-    ensures pushes { Pushes out.old out.new (scan_end heap.now.shape.fields (view_of seat.old).state.scan) (cleaning_end heap.now.shape.fields (view_of seat.old).state.scan (view_of seat.old).state.cleaning) (view_of seat.old) (view_of seat.new) }
-    ensures work { IsFalse (cleaning_left (view_of seat.old).state.cleaning) → IsFalse (work_in_hand heap.now.shape.fields (view_of seat.new).state) }
+    ensures later { Across OnlyTraced seat.old seat.new }
+    ensures pushes { Across (Pushes out.old out.new (scan_end heap.now.shape.fields (state_of seat.old).scan) (cleaning_end heap.now.shape.fields (state_of seat.old).scan (state_of seat.old).cleaning)) seat.old seat.new }
+    ensures work { IsFalse (cleaning_left (state_of seat.old).cleaning) → IsFalse (work_in_hand heap.now.shape.fields (state_of seat.new)) }
     ensures most { (result.overflowed ≤ result.marked) × (result.marked ≤ heap.now.shape.fields) }
-    ensures counts { CountsScanned heap.now.shape result (events (view_of seat.old) (view_of seat.new)) }
-    ensures follows { Follows (fields_left heap.now.shape.fields (view_of seat.old).state.scan) (events (view_of seat.old) (view_of seat.new)) }
+    ensures counts { CountsScanned heap.now.shape result (did seat.old seat.new) }
+    ensures follows { Follows (fields_left heap.now.shape.fields (state_of seat.old).scan) (did seat.old seat.new) }
 {
     scan_fields(heap, seat, out, cell, 0)
 }
@@ -107,15 +106,15 @@ pub fn scan_whole(heap: &Heap, seat: &mut HeapSeat, out: &mut Held, cell: Cell) 
 /// Scans a cell that is left in the seat's cleaning, in the same way.
 pub fn scan_again(heap: &Heap, seat: &mut HeapSeat, out: &mut Held, cell: Cell) -> Scanned
     requires seat { IsTracer heap.now seat.old }
-    requires out { IsHeld out.old (view_of seat.old) × IsTrue (has_free_slot (view_of seat.old).state.held) }
-    requires hand { InHand None None (view_of seat.old).state }
-    requires left { IsTrue (may_scan (view_of seat.old).state.cleaning cell) × IsFalse (scan_left heap.now.shape.fields (view_of seat.old).state.scan) }
+    requires out { IsHeld out.old (view_of seat.old) × IsTrue (has_free_slot (state_of seat.old).held) }
+    requires hand { InHand None None (state_of seat.old) }
+    requires left { IsTrue (may_scan (state_of seat.old).cleaning cell) × IsFalse (scan_left heap.now.shape.fields (state_of seat.old).scan) }
     ensures seat { IsTracer heap.now seat.new }
-    ensures later { OnlyTraced (view_of seat.old) (view_of seat.new) }
-    ensures pushes { Pushes out.old out.new (Some (cell, heap.now.shape.fields)) (without_cell (view_of seat.old).state.cleaning cell) (view_of seat.old) (view_of seat.new) }
+    ensures later { Across OnlyTraced seat.old seat.new }
+    ensures pushes { Across (Pushes out.old out.new (Some (cell, heap.now.shape.fields)) (without_cell (state_of seat.old).cleaning cell)) seat.old seat.new }
     ensures most { (result.overflowed ≤ result.marked) × (result.marked ≤ heap.now.shape.fields) }
-    ensures counts { CountsScanned heap.now.shape result (events (view_of seat.old) (view_of seat.new)) }
-    ensures follows { Follows (fields_from cell 0 heap.now.shape.fields) (events (view_of seat.old) (view_of seat.new)) }
+    ensures counts { CountsScanned heap.now.shape result (did seat.old seat.new) }
+    ensures follows { Follows (fields_from cell 0 heap.now.shape.fields) (did seat.old seat.new) }
 {
     let first = scan_field(heap, seat, out, cell, 0);
     let rest = scan_fields(heap, seat, out, cell, 1);

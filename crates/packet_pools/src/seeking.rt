@@ -3,9 +3,8 @@ ghost use Rattle.std.specs.Prelude.{ℕ, ◌≡◌, [], ◌∷◌, ◌<◌, ◌+
 ghost use Rattle.mark_core.specs.Bits.{has_bit as has_bit_of};
 ghost use Rattle.mark_core.specs.Held.{holds};
 ghost use Rattle.mark_core.specs.Layout.{pool_words};
-ghost use Rattle.gc_table.specs.Seats.{Sits, view_of};
+ghost use Rattle.gc_table.specs.Seats.{Across, did, Sits, state_of, view_of};
 ghost use Rattle.packet_pools.specs.OnlyTraced.{OnlyTraced};
-ghost use Rattle.gc_table.specs.Log.{events};
 ghost use Rattle.packet_pools.specs.Seeking.{only_moves, was_got};
 ghost use Rattle.packet_pools.specs.Gains.{FindsNone, Gains, Seeks, missed};
 
@@ -18,12 +17,12 @@ use mark_core::has_bit;
 /// Takes packet p out of pool q, unless another seat is first. Where it should have room and has none, it goes back.
 fn take_packet(heap: &Heap, seat: &mut HeapSeat, q: u8, p: u32, room: bool) -> Option<Held>
     requires seat { Sits heap.now seat.old × Seeks q (view_of seat.old) }
-    requires packet { (p < heap.now.shape.packets) × IsFalse (holds (view_of seat.old).state.held p) }
+    requires packet { (p < heap.now.shape.packets) × IsFalse (holds (state_of seat.old).held p) }
     requires high { IsTrue room → q ≡ 2 }
     ensures seat { Sits heap.now seat.new }
-    ensures later { OnlyTraced (view_of seat.old) (view_of seat.new) }
-    ensures some { IfSome result (λ h. Gains q room h (view_of seat.old) (view_of seat.new)) }
-    ensures none { IfNone result (FindsNone heap.now.shape q room p (p + 1) (view_of seat.old) (view_of seat.new)) }
+    ensures later { Across OnlyTraced seat.old seat.new }
+    ensures some { IfSome result (λ h. Across (Gains q room h) seat.old seat.new) }
+    ensures none { IfNone result (Across (FindsNone heap.now.shape q room p (p + 1)) seat.old seat.new) }
 {
     if !heap.take(seat, q, p) {
         return None;
@@ -47,12 +46,12 @@ fn take_shown(
     room: bool,
 ) -> Option<Held>
     requires seat { Sits heap.now seat.old × Seeks q (view_of seat.old) }
-    requires shown { p < heap.now.shape.packets → IsTrue (has_bit_of word (p % 64)) → IsFalse (holds (view_of seat.old).state.held p) }
+    requires shown { p < heap.now.shape.packets → IsTrue (has_bit_of word (p % 64)) → IsFalse (holds (state_of seat.old).held p) }
     requires high { IsTrue room → q ≡ 2 }
     ensures seat { Sits heap.now seat.new }
-    ensures later { OnlyTraced (view_of seat.old) (view_of seat.new) }
-    ensures some { IfSome result (λ h. Gains q room h (view_of seat.old) (view_of seat.new)) }
-    ensures none { IfNone result (((view_of seat.new).state ≡ (view_of seat.old).state) × ((x : ℕ) → IsTrue (was_got x (events (view_of seat.old) (view_of seat.new))) → IsTrue room × (x < p + 1)) × (p < heap.now.shape.packets → IsTrue (has_bit_of word (p % 64)) → IsTrue (missed heap.now.shape.entries q room p (events (view_of seat.old) (view_of seat.new)))) × IsTrue (only_moves (q ∷ []) (events (view_of seat.old) (view_of seat.new)))) }
+    ensures later { Across OnlyTraced seat.old seat.new }
+    ensures some { IfSome result (λ h. Across (Gains q room h) seat.old seat.new) }
+    ensures none { IfNone result ((state_of seat.new ≡ state_of seat.old) × ((x : ℕ) → IsTrue (was_got x (did seat.old seat.new)) → IsTrue room × (x < p + 1)) × (p < heap.now.shape.packets → IsTrue (has_bit_of word (p % 64)) → IsTrue (missed heap.now.shape.entries q room p (did seat.old seat.new))) × IsTrue (only_moves (q ∷ []) (did seat.old seat.new))) }
 {
     if p < heap.shape().packets && has_bit(word, p % 64) {
         take_packet(heap, seat, q, p, room)
@@ -67,9 +66,9 @@ fn take_in_word(heap: &Heap, seat: &mut HeapSeat, q: u8, g: u32, room: bool) -> 
     requires word { g < pool_words heap.now.shape }
     requires high { IsTrue room → q ≡ 2 }
     ensures seat { Sits heap.now seat.new }
-    ensures later { OnlyTraced (view_of seat.old) (view_of seat.new) }
-    ensures some { IfSome result (λ h. Gains q room h (view_of seat.old) (view_of seat.new)) }
-    ensures none { IfNone result (FindsNone heap.now.shape q room (64 * g) (64 * g + 64) (view_of seat.old) (view_of seat.new)) }
+    ensures later { Across OnlyTraced seat.old seat.new }
+    ensures some { IfSome result (λ h. Across (Gains q room h) seat.old seat.new) }
+    ensures none { IfNone result (Across (FindsNone heap.now.shape q room (64 * g) (64 * g + 64)) seat.old seat.new) }
 {
     let word = heap.look(seat, q, g);
     for p in 64 * g + word.trailing_zeros()..64 * g + 64 {
@@ -86,9 +85,9 @@ pub(crate) fn take_any(heap: &Heap, seat: &mut HeapSeat, q: u8, room: bool) -> O
     requires seat { Sits heap.now seat.old × Seeks q (view_of seat.old) }
     requires high { IsTrue room → q ≡ 2 }
     ensures seat { Sits heap.now seat.new }
-    ensures later { OnlyTraced (view_of seat.old) (view_of seat.new) }
-    ensures some { IfSome result (λ h. Gains q room h (view_of seat.old) (view_of seat.new)) }
-    ensures none { IfNone result (FindsNone heap.now.shape q room 0 (64 * pool_words heap.now.shape) (view_of seat.old) (view_of seat.new)) }
+    ensures later { Across OnlyTraced seat.old seat.new }
+    ensures some { IfSome result (λ h. Across (Gains q room h) seat.old seat.new) }
+    ensures none { IfNone result (Across (FindsNone heap.now.shape q room 0 (64 * pool_words heap.now.shape)) seat.old seat.new) }
 {
     for g in 0..heap.shape().packets.div_ceil(64) {
         if let Some(held) = take_in_word(heap, seat, q, g, room) {

@@ -2,7 +2,7 @@
 ghost use Rattle.std.specs.Prelude.{◌<◌, ◌*◌, [], ◌∷◌, false, IsTrue, IfSome, IfNone};
 ghost use Rattle.mark_core.specs.Held.{has_free_slot};
 ghost use Rattle.mark_core.specs.Layout.{pool_words};
-ghost use Rattle.gc_table.specs.Seats.{view_of};
+ghost use Rattle.gc_table.specs.Seats.{Across, state_of};
 ghost use Rattle.packet_pools.specs.OnlyTraced.{OnlyTraced};
 ghost use Rattle.packet_pools.specs.Tracing.{IsTracer};
 ghost use Rattle.packet_pools.specs.Seeking.{NoDeferred, NoInput, NoOutput};
@@ -17,11 +17,11 @@ use mark_core::{DEFERRED_POOL, EMPTY_POOL, HIGH_POOL, LOW_POOL};
 /// None comes only where each packet was seen outside each of these pools, or lost to another seat there, in this call.
 pub fn take_input(heap: &Heap, seat: &mut HeapSeat) -> Option<Held>
     requires seat { IsTracer heap.now seat.old }
-    requires free { IsTrue (has_free_slot (view_of seat.old).state.held) }
+    requires free { IsTrue (has_free_slot (state_of seat.old).held) }
     ensures seat { IsTracer heap.now seat.new }
-    ensures later { OnlyTraced (view_of seat.old) (view_of seat.new) }
-    ensures some { IfSome result (λ h. Takes (2 ∷ 1 ∷ []) h (view_of seat.old) (view_of seat.new) × (0 < h.length)) }
-    ensures none { IfNone result (TakesNone (NoInput heap.now.shape) (2 ∷ 1 ∷ []) (view_of seat.old) (view_of seat.new)) }
+    ensures later { Across OnlyTraced seat.old seat.new }
+    ensures some { IfSome result (λ h. Across (Takes (2 ∷ 1 ∷ []) h) seat.old seat.new × (0 < h.length)) }
+    ensures none { IfNone result (Across (TakesNone (NoInput heap.now.shape) (2 ∷ 1 ∷ [])) seat.old seat.new) }
 {
     match take_any(heap, seat, HIGH_POOL, false) {
         Some(held) => Some(held),
@@ -33,11 +33,11 @@ pub fn take_input(heap: &Heap, seat: &mut HeapSeat) -> Option<Held>
 /// None comes only where each packet was seen outside the deferred pool, or lost to another seat there, in this call.
 pub fn take_deferred(heap: &Heap, seat: &mut HeapSeat) -> Option<Held>
     requires seat { IsTracer heap.now seat.old }
-    requires free { IsTrue (has_free_slot (view_of seat.old).state.held) }
+    requires free { IsTrue (has_free_slot (state_of seat.old).held) }
     ensures seat { IsTracer heap.now seat.new }
-    ensures later { OnlyTraced (view_of seat.old) (view_of seat.new) }
-    ensures some { IfSome result (λ h. Takes (3 ∷ []) h (view_of seat.old) (view_of seat.new) × (0 < h.length)) }
-    ensures none { IfNone result (TakesNone (NoDeferred heap.now.shape) (3 ∷ []) (view_of seat.old) (view_of seat.new)) }
+    ensures later { Across OnlyTraced seat.old seat.new }
+    ensures some { IfSome result (λ h. Across (Takes (3 ∷ []) h) seat.old seat.new × (0 < h.length)) }
+    ensures none { IfNone result (Across (TakesNone (NoDeferred heap.now.shape) (3 ∷ [])) seat.old seat.new) }
 {
     take_any(heap, seat, DEFERRED_POOL, false)
 }
@@ -46,11 +46,11 @@ pub fn take_deferred(heap: &Heap, seat: &mut HeapSeat) -> Option<Held>
 /// found.
 fn take_empty(heap: &Heap, seat: &mut HeapSeat) -> Option<Held>
     requires seat { IsTracer heap.now seat.old }
-    requires free { IsTrue (has_free_slot (view_of seat.old).state.held) }
+    requires free { IsTrue (has_free_slot (state_of seat.old).held) }
     ensures seat { IsTracer heap.now seat.new }
-    ensures later { OnlyTraced (view_of seat.old) (view_of seat.new) }
-    ensures some { IfSome result (λ h. Takes (0 ∷ []) h (view_of seat.old) (view_of seat.new)) }
-    ensures none { IfNone result (FindsNone heap.now.shape 0 false 0 (64 * pool_words heap.now.shape) (view_of seat.old) (view_of seat.new)) }
+    ensures later { Across OnlyTraced seat.old seat.new }
+    ensures some { IfSome result (λ h. Across (Takes (0 ∷ []) h) seat.old seat.new) }
+    ensures none { IfNone result (Across (FindsNone heap.now.shape 0 false 0 (64 * pool_words heap.now.shape)) seat.old seat.new) }
 {
     heap.reserve(seat);
     match take_any(heap, seat, EMPTY_POOL, false) {
@@ -67,11 +67,11 @@ fn take_empty(heap: &Heap, seat: &mut HeapSeat) -> Option<Held>
 /// was taken out of the last one and found full, in this call.
 pub fn take_output(heap: &Heap, seat: &mut HeapSeat) -> Option<Held>
     requires seat { IsTracer heap.now seat.old }
-    requires free { IsTrue (has_free_slot (view_of seat.old).state.held) }
+    requires free { IsTrue (has_free_slot (state_of seat.old).held) }
     ensures seat { IsTracer heap.now seat.new }
-    ensures later { OnlyTraced (view_of seat.old) (view_of seat.new) }
-    ensures some { IfSome result (λ h. Takes (0 ∷ 1 ∷ 2 ∷ []) h (view_of seat.old) (view_of seat.new) × (h.length < heap.now.shape.entries)) }
-    ensures none { IfNone result (TakesNone (NoOutput heap.now.shape) (0 ∷ 1 ∷ 2 ∷ []) (view_of seat.old) (view_of seat.new)) }
+    ensures later { Across OnlyTraced seat.old seat.new }
+    ensures some { IfSome result (λ h. Across (Takes (0 ∷ 1 ∷ 2 ∷ []) h) seat.old seat.new × (h.length < heap.now.shape.entries)) }
+    ensures none { IfNone result (Across (TakesNone (NoOutput heap.now.shape) (0 ∷ 1 ∷ 2 ∷ [])) seat.old seat.new) }
 {
     if let Some(held) = take_empty(heap, seat) {
         return Some(held);

@@ -3,7 +3,7 @@ ghost use Rattle.std.specs.Prelude.{◌≡◌, ℕ, ◌<◌, IfOk, Some, slice_g
 ghost use Rattle.mark_core.specs.Bits.{reference_in};
 ghost use Rattle.gc_table.specs.declared.seat.HeapSeat.{HeapSeat};
 ghost use Rattle.gc_table.specs.Rule.{KnowsFull};
-ghost use Rattle.gc_table.specs.Seats.{Sits, view_of, IsOutside};
+ghost use Rattle.gc_table.specs.Seats.{IsOutside, Sits, state_of, view_of};
 ghost use Rattle.plain_heap.specs.Placement.{IsFilled};
 ghost use Rattle.play_end.specs.Closed.{AreSeated, PlayedAll, SeatsStopped};
 ghost use Rattle.play_contract.specs.Playing.{IsReport};
@@ -33,7 +33,7 @@ pub fn close_played<'a>(
     parts: Vec<Part<'a>>,
 ) -> Result<(Report<'a>, Words), OutOfMemory>
     requires some { 0 < vec_len seats }
-    requires seats { (i : ℕ) (s : HeapSeat) → slice_get seats.items i ≡ Some s → Sits heap s × ((view_of s).state.number ≡ i) × IsOutside (view_of s) }
+    requires seats { (i : ℕ) (s : HeapSeat) → slice_get seats.items i ≡ Some s → Sits heap s × ((state_of s).number ≡ i) × IsOutside (view_of s) }
     requires made { AreSeated script.now.sections heap.shape.cells heap.shape seats.items }
     requires played { PlayedAll script.now.sections seats.items }
     requires parts { AreParts script.now.sections seats.items parts.items }
@@ -75,7 +75,7 @@ pub fn close_full(
     seats: Vec<HeapSeat>,
 ) -> Result<Positions, OutOfMemory>
     requires some { 0 < vec_len seats }
-    requires seats { (i : ℕ) (s : HeapSeat) → slice_get seats.items i ≡ Some s → Sits heap s × ((view_of s).state.number ≡ i) × IsOutside (view_of s) }
+    requires seats { (i : ℕ) (s : HeapSeat) → slice_get seats.items i ≡ Some s → Sits heap s × ((state_of s).number ≡ i) × IsOutside (view_of s) }
     requires made { AreSeated script.now.sections heap.shape.cells heap.shape seats.items }
     requires stopped { (z : ℕ) × SeatsStopped script.now.sections z seats.items }
     requires full { (i : ℕ) × (s : HeapSeat) × (slice_get seats.items i ≡ Some s) × KnowsFull (view_of s) }

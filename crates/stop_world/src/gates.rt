@@ -5,7 +5,7 @@ ghost use Rattle.mark_core.specs.Bits.{has_flag};
 ghost use Rattle.mark_core.specs.Seats.{is_bare, phase_number};
 ghost use Rattle.mark_core.specs.WorldRules.{is_resting};
 ghost use Rattle.mark_core.specs.declared.kinds.Phase.{Phase};
-ghost use Rattle.gc_table.specs.Seats.{Answered, Sits, Took, view_of};
+ghost use Rattle.gc_table.specs.Seats.{Across, Answered, Sits, state_of, Took, view_of};
 ghost use Rattle.gc_table.specs.Running.{Alone, Ran};
 ghost use Rattle.gc_table.specs.Stopping.{has_moved};
 ghost use Rattle.stop_world.specs.Gates.{Enters, IsDone, IsFreeToLeave, TurnsBack};
@@ -25,11 +25,11 @@ pub enum Raised {
 /// Enters the running world: true where the seat is now active. False exactly where a stop is under way: then the seat has left again.
 pub fn enter(heap: &Heap, seat: &mut HeapSeat) -> bool
     requires seat { Sits heap.now seat.old }
-    requires bare { IsTrue (is_bare (view_of seat.old).state) }
+    requires bare { IsTrue (is_bare (state_of seat.old)) }
     ensures seat { Sits heap.now seat.new }
-    ensures ran { Ran (view_of seat.old) (view_of seat.new) }
-    ensures enters { OnTrue result (Enters (view_of seat.old) (view_of seat.new)) }
-    ensures turns { OnFalse result (TurnsBack (view_of seat.old) (view_of seat.new)) }
+    ensures ran { Across Ran seat.old seat.new }
+    ensures enters { OnTrue result (Across Enters seat.old seat.new) }
+    ensures turns { OnFalse result (Across TurnsBack seat.old seat.new) }
 {
     if heap.enter_step(seat) {
         return true;
@@ -41,11 +41,11 @@ pub fn enter(heap: &Heap, seat: &mut HeapSeat) -> bool
 /// Leaves the running world. The seat has given back its packets and its cache, and has nothing in hand.
 pub fn leave(heap: &Heap, seat: &mut HeapSeat)
     requires seat { Sits heap.now seat.old }
-    requires active { IsTrue (view_of seat.old).state.active }
+    requires active { IsTrue (state_of seat.old).active }
     requires free { IsFreeToLeave (view_of seat.old) }
     ensures seat { Sits heap.now seat.new }
-    ensures ran { Ran (view_of seat.old) (view_of seat.new) }
-    ensures step { Took Step.LeaveStep (view_of seat.old) (view_of seat.new) }
+    ensures ran { Across Ran seat.old seat.new }
+    ensures step { Across (Took Step.LeaveStep) seat.old seat.new }
 {
     heap.leave_step(seat);
 }
@@ -54,9 +54,9 @@ pub fn leave(heap: &Heap, seat: &mut HeapSeat)
 pub fn poll(heap: &Heap, seat: &mut HeapSeat) -> bool
     requires seat { Sits heap.now seat.old }
     ensures seat { Sits heap.now seat.new }
-    ensures ran { Ran (view_of seat.old) (view_of seat.new) }
-    ensures step { Answered Step.Observe (λ n. result ≡ has_flag n) (view_of seat.old) (view_of seat.new) }
-    ensures state { IsFalse (view_of seat.old).state.raised → (view_of seat.new).state ≡ (view_of seat.old).state }
+    ensures ran { Across Ran seat.old seat.new }
+    ensures step { Across (Answered Step.Observe (λ n. result ≡ has_flag n)) seat.old seat.new }
+    ensures state { IsFalse (state_of seat.old).raised → state_of seat.new ≡ state_of seat.old }
 {
     flag_of(heap.observe(seat))
 }
@@ -64,10 +64,10 @@ pub fn poll(heap: &Heap, seat: &mut HeapSeat) -> bool
 /// Raises the flag that stops the world: Theirs exactly where another seat's flag was up. The seat is outside the world and its help.
 pub fn raise(heap: &Heap, seat: &mut HeapSeat) -> Raised
     requires seat { Sits heap.now seat.old }
-    requires bare { IsTrue (is_bare (view_of seat.old).state) }
+    requires bare { IsTrue (is_bare (state_of seat.old)) }
     ensures seat { Sits heap.now seat.new }
-    ensures ran { Ran (view_of seat.old) (view_of seat.new) }
-    ensures step { Answered Step.RaiseStep (λ n. result ≡ (if has_flag n then Raised.Theirs else Raised.Yours)) (view_of seat.old) (view_of seat.new) }
+    ensures ran { Across Ran seat.old seat.new }
+    ensures step { Across (Answered Step.RaiseStep (λ n. result ≡ (if has_flag n then Raised.Theirs else Raised.Yours))) seat.old seat.new }
     ensures unmoved { IsFalse (has_moved (view_of seat.new).log) }
 {
     if heap.raise_step(seat) {
@@ -83,8 +83,8 @@ pub fn resume(heap: &Heap, seat: &mut HeapSeat)
     requires alone { (p : Phase) × IsTrue (is_resting (phase_number p)) × Alone p (view_of seat.old) }
     requires done { IsDone (view_of seat.old) }
     ensures seat { Sits heap.now seat.new }
-    ensures ran { Ran (view_of seat.old) (view_of seat.new) }
-    ensures step { Took Step.DropStep (view_of seat.old) (view_of seat.new) }
+    ensures ran { Across Ran seat.old seat.new }
+    ensures step { Across (Took Step.DropStep) seat.old seat.new }
 {
     heap.drop_step(seat);
 }

@@ -1,8 +1,7 @@
 //! What was put off is traced again.
 ghost use Rattle.std.specs.Prelude.{◌≡◌, ◌<◌, ◌≤◌, ◌+◌, ◌*◌, ◌/◌, if◌then◌else◌};
-ghost use Rattle.gc_table.specs.Seats.{view_of};
+ghost use Rattle.gc_table.specs.Seats.{Across, did, state_of, view_of};
 ghost use Rattle.packet_pools.specs.OnlyTraced.{OnlyTraced};
-ghost use Rattle.gc_table.specs.Log.{events};
 ghost use Rattle.packet_pools.specs.Tracing.{IsTracer};
 ghost use Rattle.tracer.specs.Hands.{IsIdle};
 ghost use Rattle.tracer.specs.Recycling.{Recycled, Recycles};
@@ -17,9 +16,9 @@ fn recycle(heap: &Heap, seat: &mut HeapSeat, p: u32) -> bool
     requires idle { IsIdle (view_of seat.old) }
     requires packet { p < heap.now.shape.packets }
     ensures seat { IsTracer heap.now seat.new }
-    ensures later { OnlyTraced (view_of seat.old) (view_of seat.new) }
-    ensures state { (view_of seat.new).state ≡ (view_of seat.old).state }
-    ensures recycles { Recycles p (p + 1) (if result then 1 else 0) (events (view_of seat.old) (view_of seat.new)) }
+    ensures later { Across OnlyTraced seat.old seat.new }
+    ensures state { state_of seat.new ≡ state_of seat.old }
+    ensures recycles { Recycles p (p + 1) (if result then 1 else 0) (did seat.old seat.new) }
 {
     let word = heap.look(seat, DEFERRED_POOL, p / 64);
     if !has_bit(word, p % 64) {
@@ -38,10 +37,10 @@ fn recycle_between(heap: &Heap, seat: &mut HeapSeat, first: u32, end: u32) -> u3
     requires idle { IsIdle (view_of seat.old) }
     requires packets { (first ≤ end) × (end ≤ heap.now.shape.packets) }
     ensures seat { IsTracer heap.now seat.new }
-    ensures later { OnlyTraced (view_of seat.old) (view_of seat.new) }
-    ensures state { (view_of seat.new).state ≡ (view_of seat.old).state }
+    ensures later { Across OnlyTraced seat.old seat.new }
+    ensures state { state_of seat.new ≡ state_of seat.old }
     ensures most { result + first ≤ end }
-    ensures recycles { Recycles first end result (events (view_of seat.old) (view_of seat.new)) }
+    ensures recycles { Recycles first end result (did seat.old seat.new) }
 {
     let mut moved = 0;
     for p in first..end {
@@ -56,10 +55,10 @@ fn recycle_in_word(heap: &Heap, seat: &mut HeapSeat, g: u32, end: u32) -> u32
     requires idle { IsIdle (view_of seat.old) }
     requires packets { (64 * g < end) × (end ≤ 64 * g + 64) × (end ≤ heap.now.shape.packets) }
     ensures seat { IsTracer heap.now seat.new }
-    ensures later { OnlyTraced (view_of seat.old) (view_of seat.new) }
-    ensures state { (view_of seat.new).state ≡ (view_of seat.old).state }
+    ensures later { Across OnlyTraced seat.old seat.new }
+    ensures state { state_of seat.new ≡ state_of seat.old }
     ensures most { result + 64 * g ≤ end }
-    ensures recycles { Recycles (64 * g) end result (events (view_of seat.old) (view_of seat.new)) }
+    ensures recycles { Recycles (64 * g) end result (did seat.old seat.new) }
 {
     if heap.look(seat, DEFERRED_POOL, g) == 0 {
         return 0;
@@ -72,10 +71,10 @@ fn recycle_words(heap: &Heap, seat: &mut HeapSeat) -> u32
     requires seat { IsTracer heap.now seat.old }
     requires idle { IsIdle (view_of seat.old) }
     ensures seat { IsTracer heap.now seat.new }
-    ensures later { OnlyTraced (view_of seat.old) (view_of seat.new) }
-    ensures state { (view_of seat.new).state ≡ (view_of seat.old).state }
+    ensures later { Across OnlyTraced seat.old seat.new }
+    ensures state { state_of seat.new ≡ state_of seat.old }
     ensures most { result ≤ 64 * (heap.now.shape.packets / 64) }
-    ensures recycles { Recycles 0 (64 * (heap.now.shape.packets / 64)) result (events (view_of seat.old) (view_of seat.new)) }
+    ensures recycles { Recycles 0 (64 * (heap.now.shape.packets / 64)) result (did seat.old seat.new) }
 {
     let mut moved = 0;
     for g in 0..heap.shape().packets / 64 {
@@ -91,9 +90,9 @@ pub fn recycle_deferred(heap: &Heap, seat: &mut HeapSeat) -> u32
     requires seat { IsTracer heap.now seat.old }
     requires idle { IsIdle (view_of seat.old) }
     ensures seat { IsTracer heap.now seat.new }
-    ensures later { OnlyTraced (view_of seat.old) (view_of seat.new) }
-    ensures state { (view_of seat.new).state ≡ (view_of seat.old).state }
-    ensures recycled { Recycled heap.now.shape result (events (view_of seat.old) (view_of seat.new)) }
+    ensures later { Across OnlyTraced seat.old seat.new }
+    ensures state { state_of seat.new ≡ state_of seat.old }
+    ensures recycled { Recycled heap.now.shape result (did seat.old seat.new) }
 {
     let moved = recycle_words(heap, seat);
     let packets = heap.shape().packets;

@@ -1,9 +1,8 @@
 //! The roots of a section are scanned.
 ghost use Rattle.std.specs.Prelude.{ℕ, ◌≡◌, ◌<◌, ◌≤◌, [], ◌∷◌, Some, None, IsTrue, IsFalse, IfSome, IfNone};
 ghost use Rattle.mark_core.specs.Seats.{work_in_hand};
-ghost use Rattle.gc_table.specs.Seats.{view_of};
+ghost use Rattle.gc_table.specs.Seats.{Across, did, state_of, view_of};
 ghost use Rattle.packet_pools.specs.OnlyTraced.{OnlyTraced};
-ghost use Rattle.gc_table.specs.Log.{events};
 ghost use Rattle.packet_pools.specs.Seeking.{only_moves};
 ghost use Rattle.packet_pools.specs.Tracing.{IsTracer};
 ghost use Rattle.tracer.specs.Causes.{FoundNoPacket};
@@ -23,11 +22,11 @@ fn take_either(heap: &Heap, seat: &mut HeapSeat) -> Option<Held>
     requires seat { IsTracer heap.now seat.old }
     requires idle { IsIdle (view_of seat.old) }
     ensures seat { IsTracer heap.now seat.new }
-    ensures later { OnlyTraced (view_of seat.old) (view_of seat.new) }
-    ensures work { IsFalse (work_in_hand heap.now.shape.fields (view_of seat.new).state) }
-    ensures moves { IsTrue (only_moves (0 ∷ 1 ∷ 2 ∷ []) (events (view_of seat.old) (view_of seat.new))) }
+    ensures later { Across OnlyTraced seat.old seat.new }
+    ensures work { IsFalse (work_in_hand heap.now.shape.fields (state_of seat.new)) }
+    ensures moves { IsTrue (only_moves (0 ∷ 1 ∷ 2 ∷ []) (did seat.old seat.new)) }
     ensures some { IfSome result (λ h. Carries (h ∷ []) (view_of seat.new)) }
-    ensures none { IfNone result (((view_of seat.new).state ≡ (view_of seat.old).state) × FoundNoPacket (view_of seat.old) (view_of seat.new)) }
+    ensures none { IfNone result ((state_of seat.new ≡ state_of seat.old) × Across FoundNoPacket seat.old seat.new) }
 {
     match take_output(heap, seat) {
         Some(held) => Some(held),
@@ -45,15 +44,15 @@ fn scan_root(
 ) -> Scanned
     requires seat { IsTracer heap.now seat.old }
     requires out { Carries (out.old ∷ []) (view_of seat.old) }
-    requires work { IsFalse (work_in_hand heap.now.shape.fields (view_of seat.old).state) }
+    requires work { IsFalse (work_in_hand heap.now.shape.fields (state_of seat.old)) }
     requires root { (section < heap.now.shape.sections) × (variable < 32) }
     ensures seat { IsTracer heap.now seat.new }
-    ensures later { OnlyTraced (view_of seat.old) (view_of seat.new) }
+    ensures later { Across OnlyTraced seat.old seat.new }
     ensures out { Carries (out.new ∷ []) (view_of seat.new) }
-    ensures work { IsFalse (work_in_hand heap.now.shape.fields (view_of seat.new).state) }
+    ensures work { IsFalse (work_in_hand heap.now.shape.fields (state_of seat.new)) }
     ensures most { (result.overflowed ≤ result.marked) × (result.marked ≤ 1) }
-    ensures follows { Follows heap.now.shape ((section, variable) ∷ []) result.marked result.overflowed (events (view_of seat.old) (view_of seat.new)) }
-    ensures seen { IsTrue (root_marked section variable (events (view_of seat.old) (view_of seat.new))) }
+    ensures follows { Follows heap.now.shape ((section, variable) ∷ []) result.marked result.overflowed (did seat.old seat.new) }
+    ensures seen { IsTrue (root_marked section variable (did seat.old seat.new)) }
 {
     let word = heap.read_root(seat, section, variable);
     if word == 0 {
@@ -75,11 +74,11 @@ pub fn scan_roots(heap: &Heap, seat: &mut HeapSeat, section: u32) -> RootScan
     requires idle { IsIdle (view_of seat.old) }
     requires section { section < heap.now.shape.sections }
     ensures seat { IsTracer heap.now seat.new }
-    ensures later { OnlyTraced (view_of seat.old) (view_of seat.new) }
+    ensures later { Across OnlyTraced seat.old seat.new }
     ensures idle { IsIdle (view_of seat.new) }
-    ensures state { KeepsRecord (view_of seat.old) (view_of seat.new) }
-    ensures scanned { RootsScanned section result (view_of seat.old) (view_of seat.new) }
-    ensures seen { SeesRoots section result (events (view_of seat.old) (view_of seat.new)) }
+    ensures state { Across KeepsRecord seat.old seat.new }
+    ensures scanned { Across (RootsScanned section result) seat.old seat.new }
+    ensures seen { SeesRoots section result (did seat.old seat.new) }
 {
     let Some(mut out) = take_either(heap, seat) else {
         return RootScan::NoPacket;

@@ -1,9 +1,8 @@
 //! The loop of a tracer.
 ghost use Rattle.std.specs.Prelude.{ℕ, ◌≡◌, ◌≢◌, ◌<◌, ◌≤◌, ◌+◌, ◌*◌, ◌⊎◌, [], ◌∷◌, Option, Some, None, false, IsTrue, IsFalse, IfSome, IfNone};
 ghost use Rattle.mark_core.specs.Seats.{cleaning_left, work_in_hand};
-ghost use Rattle.gc_table.specs.Seats.{view_of};
+ghost use Rattle.gc_table.specs.Seats.{Across, did, state_of, view_of};
 ghost use Rattle.packet_pools.specs.OnlyTraced.{OnlyTraced};
-ghost use Rattle.gc_table.specs.Log.{events};
 ghost use Rattle.packet_pools.specs.Tracing.{IsTracer};
 ghost use Rattle.packet_pools.specs.Scanning.{InHand};
 ghost use Rattle.packet_pools.specs.Seeking.{NoInput, only_moves};
@@ -26,14 +25,14 @@ use packet_pools::{Scanned, give, scan_whole, take_input, take_output};
 fn scan(heap: &Heap, seat: &mut HeapSeat, packets: &mut Packets, cell: Cell) -> Scanned
     requires seat { IsTracer heap.now seat.old }
     requires packets { Carries (packets_of packets.old) (view_of seat.old) }
-    requires hand { InHand None None (view_of seat.old).state × IsFalse (cleaning_left (view_of seat.old).state.cleaning) }
-    requires scan { (view_of seat.old).state.scan ≡ Some (cell, 0) }
+    requires hand { InHand None None (state_of seat.old) × IsFalse (cleaning_left (state_of seat.old).cleaning) }
+    requires scan { (state_of seat.old).scan ≡ Some (cell, 0) }
     ensures seat { IsTracer heap.now seat.new }
-    ensures later { OnlyTraced (view_of seat.old) (view_of seat.new) }
+    ensures later { Across OnlyTraced seat.old seat.new }
     ensures packets { Carries (packets_of packets.new) (view_of seat.new) × (packets.new.deferred ≡ packets.old.deferred) }
-    ensures work { IsFalse (work_in_hand heap.now.shape.fields (view_of seat.new).state) }
+    ensures work { IsFalse (work_in_hand heap.now.shape.fields (state_of seat.new)) }
     ensures most { (result.overflowed ≤ result.marked) × (result.marked ≤ heap.now.shape.fields) }
-    ensures part { (o : Option ℕ) → Part heap.now.shape o o 0 0 result.overflowed (view_of seat.old) (events (view_of seat.old) (view_of seat.new)) }
+    ensures part { (o : Option ℕ) → Part heap.now.shape o o 0 0 result.overflowed (view_of seat.old) (did seat.old seat.new) }
 {
     match &mut packets.output {
         Some(output) => scan_whole(heap, seat, output, cell),
@@ -47,11 +46,11 @@ fn trace_cell(heap: &Heap, seat: &mut HeapSeat, packets: &mut Packets, cell: Cel
     requires packets { Carries (packets_of packets.old) (view_of seat.old) × HasRoom heap.now.shape packets.old.deferred }
     requires cell { HasPopped cell false (view_of seat.old) }
     ensures seat { IsTracer heap.now seat.new }
-    ensures later { OnlyTraced (view_of seat.old) (view_of seat.new) }
+    ensures later { Across OnlyTraced seat.old seat.new }
     ensures packets { Carries (packets_of packets.new) (view_of seat.new) × HasRoom heap.now.shape packets.new.deferred }
-    ensures work { IsFalse (work_in_hand heap.now.shape.fields (view_of seat.new).state) }
+    ensures work { IsFalse (work_in_hand heap.now.shape.fields (state_of seat.new)) }
     ensures most { (result.deferred ≤ 1) × (result.overflowed ≤ 16) }
-    ensures part { Part heap.now.shape (packet_of packets.old.deferred) (packet_of packets.new.deferred) 0 result.deferred result.overflowed (view_of seat.old) (events (view_of seat.old) (view_of seat.new)) }
+    ensures part { Part heap.now.shape (packet_of packets.old.deferred) (packet_of packets.new.deferred) 0 result.deferred result.overflowed (view_of seat.old) (did seat.old seat.new) }
 {
     let word = heap.read_alloc(seat, cell.number() / 64);
     if has_bit(word, cell.number() % 64) {
@@ -72,13 +71,13 @@ fn trace_cell(heap: &Heap, seat: &mut HeapSeat, packets: &mut Packets, cell: Cel
 fn trace_all(heap: &Heap, seat: &mut HeapSeat, packets: &mut Packets, quota: u32) -> Traced
     requires seat { IsTracer heap.now seat.old }
     requires packets { Carries (packets_of packets.old) (view_of seat.old) × HasRoom heap.now.shape packets.old.deferred }
-    requires idle { IsFalse (work_in_hand heap.now.shape.fields (view_of seat.old).state) × ((view_of seat.old).state.block ≡ None) }
+    requires idle { IsFalse (work_in_hand heap.now.shape.fields (state_of seat.old)) × ((state_of seat.old).block ≡ None) }
     ensures seat { IsTracer heap.now seat.new }
-    ensures later { OnlyTraced (view_of seat.old) (view_of seat.new) }
+    ensures later { Across OnlyTraced seat.old seat.new }
     ensures packets { Carries (packets_of packets.new) (view_of seat.new) × HasRoom heap.now.shape packets.new.deferred }
-    ensures work { IsFalse (work_in_hand heap.now.shape.fields (view_of seat.new).state) }
-    ensures part { Part heap.now.shape (packet_of packets.old.deferred) (packet_of packets.new.deferred) result.done result.deferred result.overflowed (view_of seat.old) (events (view_of seat.old) (view_of seat.new)) }
-    ensures stopped { ((result.stopped ≡ Stopped.Quota) × (result.done ≡ quota)) ⊎ ((result.stopped ≡ Stopped.NoWork) × (result.done < quota) × Ended heap.now.shape packets.new (view_of seat.old) (view_of seat.new)) }
+    ensures work { IsFalse (work_in_hand heap.now.shape.fields (state_of seat.new)) }
+    ensures part { Part heap.now.shape (packet_of packets.old.deferred) (packet_of packets.new.deferred) result.done result.deferred result.overflowed (view_of seat.old) (did seat.old seat.new) }
+    ensures stopped { ((result.stopped ≡ Stopped.Quota) × (result.done ≡ quota)) ⊎ ((result.stopped ≡ Stopped.NoWork) × (result.done < quota) × Across (Ended heap.now.shape packets.new) seat.old seat.new) }
 {
     let mut traced = Traced::started();
     for _turn in 0..quota {
@@ -99,11 +98,11 @@ fn begin(heap: &Heap, seat: &mut HeapSeat) -> Option<Packets>
     requires seat { IsTracer heap.now seat.old }
     requires idle { IsIdle (view_of seat.old) }
     ensures seat { IsTracer heap.now seat.new }
-    ensures later { OnlyTraced (view_of seat.old) (view_of seat.new) }
-    ensures idle { IsFalse (work_in_hand heap.now.shape.fields (view_of seat.new).state) × ((view_of seat.new).state.block ≡ None) }
-    ensures part { Part heap.now.shape None None 0 0 0 (view_of seat.old) (events (view_of seat.old) (view_of seat.new)) }
+    ensures later { Across OnlyTraced seat.old seat.new }
+    ensures idle { IsFalse (work_in_hand heap.now.shape.fields (state_of seat.new)) × ((state_of seat.new).block ≡ None) }
+    ensures part { Part heap.now.shape None None 0 0 0 (view_of seat.old) (did seat.old seat.new) }
     ensures some { IfSome result (λ x. Carries (packets_of x) (view_of seat.new) × (x.deferred ≡ None)) }
-    ensures none { IfNone result (((view_of seat.new).state ≡ (view_of seat.old).state) × NoInput heap.now.shape (events (view_of seat.old) (view_of seat.new)) × IsTrue (only_moves (2 ∷ 1 ∷ []) (events (view_of seat.old) (view_of seat.new)))) }
+    ensures none { IfNone result ((state_of seat.new ≡ state_of seat.old) × NoInput heap.now.shape (did seat.old seat.new) × IsTrue (only_moves (2 ∷ 1 ∷ []) (did seat.old seat.new))) }
 {
     let input = take_input(heap, seat)?;
     let output = take_output(heap, seat);
@@ -118,12 +117,12 @@ fn begin(heap: &Heap, seat: &mut HeapSeat) -> Option<Packets>
 fn finish(heap: &Heap, seat: &mut HeapSeat, packets: Packets)
     requires seat { IsTracer heap.now seat.old }
     requires packets { Carries (packets_of packets) (view_of seat.old) × HasRoom heap.now.shape packets.deferred }
-    requires work { IsFalse (work_in_hand heap.now.shape.fields (view_of seat.old).state) }
+    requires work { IsFalse (work_in_hand heap.now.shape.fields (state_of seat.old)) }
     ensures seat { IsTracer heap.now seat.new }
-    ensures later { OnlyTraced (view_of seat.old) (view_of seat.new) }
-    ensures held { (view_of seat.new).state.held ≡ no_packets }
-    ensures work { IsFalse (work_in_hand heap.now.shape.fields (view_of seat.new).state) }
-    ensures part { Part heap.now.shape (packet_of packets.deferred) None 0 0 0 (view_of seat.old) (events (view_of seat.old) (view_of seat.new)) }
+    ensures later { Across OnlyTraced seat.old seat.new }
+    ensures held { (state_of seat.new).held ≡ no_packets }
+    ensures work { IsFalse (work_in_hand heap.now.shape.fields (state_of seat.new)) }
+    ensures part { Part heap.now.shape (packet_of packets.deferred) None 0 0 0 (view_of seat.old) (did seat.old seat.new) }
 {
     let Packets {
         input,
@@ -144,13 +143,13 @@ pub fn trace(heap: &Heap, seat: &mut HeapSeat, quota: u32) -> Traced
     requires seat { IsTracer heap.now seat.old }
     requires idle { IsIdle (view_of seat.old) }
     ensures seat { IsTracer heap.now seat.new }
-    ensures later { OnlyTraced (view_of seat.old) (view_of seat.new) }
+    ensures later { Across OnlyTraced seat.old seat.new }
     ensures idle { IsIdle (view_of seat.new) }
-    ensures state { KeepsRecord (view_of seat.old) (view_of seat.new) }
-    ensures stopped { ((result.stopped ≡ Stopped.Quota) × (result.done ≡ quota)) ⊎ ((result.stopped ≡ Stopped.NoWork) × (result.done < quota) × FoundNoWork (view_of seat.old) (view_of seat.new)) }
-    ensures tally { Tally result.done result.deferred result.overflowed (view_of seat.old) (view_of seat.new) }
-    ensures deferral { PutsOff (view_of seat.old) (view_of seat.new) }
-    ensures ends { IsTrue (all_end_well (view_of seat.old) (events (view_of seat.old) (view_of seat.new))) }
+    ensures state { Across KeepsRecord seat.old seat.new }
+    ensures stopped { ((result.stopped ≡ Stopped.Quota) × (result.done ≡ quota)) ⊎ ((result.stopped ≡ Stopped.NoWork) × (result.done < quota) × Across FoundNoWork seat.old seat.new) }
+    ensures tally { Across (Tally result.done result.deferred result.overflowed) seat.old seat.new }
+    ensures deferral { Across PutsOff seat.old seat.new }
+    ensures ends { IsTrue (all_end_well (view_of seat.old) (did seat.old seat.new)) }
 {
     if quota == 0 {
         return Traced::started();

@@ -1,6 +1,6 @@
 //! A section's seat, with what its player has.
 ghost use Rattle.std.specs.Prelude.{◌≡◌, ◌≤◌, [], length, IfOk, IfErr};
-ghost use Rattle.gc_table.specs.Seats.{Sits, view_of};
+ghost use Rattle.gc_table.specs.Seats.{Sits, state_of, view_of};
 ghost use Rattle.plain_heap.specs.Sections.{joined};
 ghost use Rattle.warehouse.specs.Playing.{HasRoom};
 ghost use Rattle.gc_cycle.specs.Standing.{IsOut};
@@ -44,7 +44,7 @@ impl<'a> Mutator<'a> {
         section: &Section<'a>,
     ) -> Result<Mutator<'a>, (HeapSeat, OutOfMemory)>
         ensures made { IfOk result (λ m. (m.seat ≡ seat) × (m.said.items ≡ []) × (m.places.items ≡ []) × (m.dropped ≡ 0) × (m.count ≡ 0)) }
-        ensures room { (view_of seat).state.made ≡ 0 → 2000000 ≤ (view_of seat).shape.objects → IfOk result (λ m. HasRoom (joined section.now.parts) m) }
+        ensures room { (state_of seat).made ≡ 0 → 2000000 ≤ (view_of seat).shape.objects → IfOk result (λ m. HasRoom (joined section.now.parts) m) }
         ensures refused { IfErr result (λ e. e.0 ≡ seat) }
     {
         see_few(section);

@@ -1,6 +1,6 @@
 //! One part of a section.
 ghost use Rattle.std.specs.Prelude.{◌≡◌, ◌≤◌, None, is_some, IsTrue};
-ghost use Rattle.gc_table.specs.Seats.{Sits, view_of};
+ghost use Rattle.gc_table.specs.Seats.{Across, Sits, state_of, view_of};
 ghost use Rattle.gc_cycle.specs.Standing.{IsOut};
 ghost use Rattle.play_end.specs.Done.{turn_word};
 ghost use Rattle.warehouse.specs.Commands.{AllEnds, CountsPart, MayPlayPart};
@@ -98,9 +98,9 @@ pub fn play_part<'a, R: Wait, G: Gate>(
 /// Counts the part of a section that has no commands: its seat enters, counts the part and leaves.
 pub fn play_absent<R: Wait>(rt: &R, heap: &Heap, seat: &mut HeapSeat)
     requires seat { Sits heap.now seat.old × IsOut (view_of seat.old) }
-    requires section { IsTrue (is_some (view_of seat.old).state.section) }
+    requires section { IsTrue (is_some (state_of seat.old).section) }
     ensures seat { Sits heap.now seat.new × IsOut (view_of seat.new) }
-    ensures counts { CountsAbsent (view_of seat.old) (view_of seat.new) }
+    ensures counts { Across CountsAbsent seat.old seat.new }
 {
     go_in(rt, heap, seat);
     heap.add_stat(seat, DONE, 1, false);

@@ -5,7 +5,7 @@ ghost use Rattle.mark_core.specs.WorldRules.{is_resting};
 ghost use Rattle.mark_core.specs.declared.kinds.Phase.{Phase};
 ghost use Rattle.gc_table.specs.Running.{Alone};
 ghost use Rattle.mark_core.specs.WorldSteps.{has_nothing};
-ghost use Rattle.gc_table.specs.Seats.{Sits, view_of};
+ghost use Rattle.gc_table.specs.Seats.{Across, Sits, state_of, view_of};
 ghost use Rattle.stop_world.specs.Waiting.{HasStopped};
 ghost use Rattle.gc_cycle.specs.Standing.{IsAlone, IsOut};
 ghost use Rattle.warehouse.specs.Ending.{PlaySettles};
@@ -22,7 +22,7 @@ use stop_world::{Raised, await_stopped, leave, raise, resume};
 fn stop_at_last<R: Wait>(rt: &R, heap: &Heap, seat: &mut HeapSeat)
     requires seat { Sits heap.now seat.old × IsOut (view_of seat.old) }
     ensures seat { Sits heap.now seat.new }
-    ensures stops { StopsAt (view_of seat.old) (view_of seat.new) }
+    ensures stops { Across StopsAt seat.old seat.new }
 {
     for _ in rt.forever() {
         match raise(heap, seat) {
@@ -40,9 +40,9 @@ fn stop_at_last<R: Wait>(rt: &R, heap: &Heap, seat: &mut HeapSeat)
 fn end_cycle<R: Wait>(rt: &R, heap: &Heap, seat: &mut HeapSeat) -> bool
     requires seat { Sits heap.now seat.old }
     requires stopped { HasStopped (view_of seat.old) }
-    requires rest { IsTrue (has_nothing (view_of seat.old).shape (view_of seat.old).state) }
+    requires rest { IsTrue (has_nothing (view_of seat.old).shape (state_of seat.old)) }
     ensures seat { Sits heap.now seat.new }
-    ensures ends { EndsCycle result (view_of seat.old) (view_of seat.new) }
+    ensures ends { Across (EndsCycle result) seat.old seat.new }
     ensures alone { AloneAt result (view_of seat.new) }
 {
     match heap.read_phase(seat) {
@@ -59,10 +59,10 @@ fn end_cycle<R: Wait>(rt: &R, heap: &Heap, seat: &mut HeapSeat) -> bool
 fn leave_stop(heap: &Heap, seat: &mut HeapSeat)
     requires seat { Sits heap.now seat.old }
     requires rest { IsAlone (view_of seat.old) }
-    requires unhelping { IsFalse (view_of seat.old).state.helping }
+    requires unhelping { IsFalse (state_of seat.old).helping }
     requires alone { (p : Phase) × IsTrue (is_resting (phase_number p)) × Alone p (view_of seat.old) }
     ensures seat { Sits heap.now seat.new × IsOut (view_of seat.new) }
-    ensures leaves { LeavesStop (view_of seat.old) (view_of seat.new) }
+    ensures leaves { Across LeavesStop seat.old seat.new }
 {
     resume(heap, seat);
     leave(heap, seat);
@@ -74,7 +74,7 @@ fn end_turn<R: Wait>(rt: &R, heap: &Heap, seat: &mut HeapSeat) -> Played
     requires seat { Sits heap.now seat.old × IsOut (view_of seat.old) }
     requires turn { MayTurnSeason (view_of seat.old) }
     ensures seat { Sits heap.now seat.new }
-    ensures ends { EndsTurn result (view_of seat.old) (view_of seat.new) }
+    ensures ends { Across (EndsTurn result) seat.old seat.new }
 {
     stop_at_last(rt, heap, seat);
     if end_cycle(rt, heap, seat) {
@@ -89,8 +89,8 @@ pub fn turn_season<R: Wait>(rt: &R, heap: &Heap, seat: &mut HeapSeat) -> Played
     requires seat { Sits heap.now seat.old × IsOut (view_of seat.old) }
     requires turn { MayTurnSeason (view_of seat.old) }
     ensures seat { Sits heap.now seat.new × IsOut (view_of seat.new) }
-    ensures keeps { KeepsPart (view_of seat.old) (view_of seat.new) }
-    ensures ends { TurnEnds result (view_of seat.old) (view_of seat.new) }
+    ensures keeps { Across KeepsPart seat.old seat.new }
+    ensures ends { Across (TurnEnds result) seat.old seat.new }
 {
     let played = end_turn(rt, heap, seat);
     leave_stop(heap, seat);
@@ -102,9 +102,9 @@ pub fn end_play<R: Wait>(rt: &R, heap: &Heap, seat: &mut HeapSeat) -> Played
     requires seat { Sits heap.now seat.old × IsOut (view_of seat.old) }
     requires turn { MayTurnSeason (view_of seat.old) }
     ensures seat { Sits heap.now seat.new × IsOut (view_of seat.new) }
-    ensures keeps { KeepsPart (view_of seat.old) (view_of seat.new) }
-    ensures ends { TurnEnds result (view_of seat.old) (view_of seat.new) }
-    ensures settles { PlaySettles result (view_of seat.old) (view_of seat.new) }
+    ensures keeps { Across KeepsPart seat.old seat.new }
+    ensures ends { Across (TurnEnds result) seat.old seat.new }
+    ensures settles { Across (PlaySettles result) seat.old seat.new }
 {
     match end_turn(rt, heap, seat) {
         Played::Full => {

@@ -3,9 +3,9 @@ ghost use Rattle.std.specs.Prelude.{◌≡◌, ◌⊎◌, Some, None, IsTrue, Is
 ghost use Rattle.std.specs.Bool.{OnFalse, OnTrue};
 ghost use Rattle.mark_core.specs.Seats.{has_turn, saw};
 ghost use Rattle.mark_core.specs.declared.kinds.Phase.TheVariants.{Full};
-ghost use Rattle.gc_table.specs.Log.{Only, events};
+ghost use Rattle.gc_table.specs.Log.{Only};
 ghost use Rattle.gc_table.specs.Running.{Ran};
-ghost use Rattle.gc_table.specs.Seats.{Sits, view_of};
+ghost use Rattle.gc_table.specs.Seats.{Across, did, Sits, state_of, view_of};
 ghost use Rattle.gc_cycle.specs.Answering.{GoesOn, HasCache};
 ghost use Rattle.warehouse.specs.Playing.{FindsFull, GetsReady, Glances, HasFree, HasNoFree, IsCounted, IsHindered, LooksAtSeason, SeesOther, Stays, Waits};
 ghost use Rattle.gc_cycle.specs.Events.{never};
@@ -26,11 +26,11 @@ pub(crate) fn retire_some(heap: &Heap, seat: &mut HeapSeat, cache: Option<Cache>
     requires seat { Sits heap.now seat.old × Mutates (view_of seat.old) }
     requires cache { HasCache cache (view_of seat.old) }
     ensures seat { Sits heap.now seat.new × Mutates (view_of seat.new) }
-    ensures cache { (view_of seat.new).state.cache ≡ None }
-    ensures ran { Ran (view_of seat.old) (view_of seat.new) }
-    ensures spares { Only spares_part (view_of seat.old) (view_of seat.new) }
-    ensures calm { IsTrue (never raises_flag (events (view_of seat.old) (view_of seat.new))) }
-    ensures stays { Stays (view_of seat.old) (view_of seat.new) }
+    ensures cache { (state_of seat.new).cache ≡ None }
+    ensures ran { Across Ran seat.old seat.new }
+    ensures spares { Across (Only spares_part) seat.old seat.new }
+    ensures calm { IsTrue (never raises_flag (did seat.old seat.new)) }
+    ensures stays { Across Stays seat.old seat.new }
 {
     if let Some(cache) = cache {
         retire(heap, seat, cache);
@@ -52,8 +52,8 @@ pub(crate) fn spend_none(cache: Option<Cache>)
 fn is_turn(heap: &Heap, seat: &mut HeapSeat, turn: u64) -> bool
     requires seat { Sits heap.now seat.old × Mutates (view_of seat.old) }
     ensures seat { Sits heap.now seat.new }
-    ensures looks { LooksAtSeason (view_of seat.old) (view_of seat.new) }
-    ensures turn { IsTrue result → (view_of seat.new).state.season_seen ≡ Some turn }
+    ensures looks { Across LooksAtSeason seat.old seat.new }
+    ensures turn { IsTrue result → (state_of seat.new).season_seen ≡ Some turn }
     ensures other { OnFalse result (SeesOther turn (view_of seat.new)) }
 {
     match seat.state().season_seen {
@@ -77,10 +77,10 @@ fn go_round<R: Wait>(
     requires cache { HasCache cache.old (view_of seat.old) }
     requires other { SeesOther _turn (view_of seat.old) }
     ensures seat { Sits heap.now seat.new × Mutates (view_of seat.new) }
-    ensures cache { (view_of seat.new).state.cache ≡ None }
+    ensures cache { (state_of seat.new).cache ≡ None }
     ensures none { cache.new ≡ None }
-    ensures stays { Stays (view_of seat.old) (view_of seat.new) }
-    ensures acts { Waits (view_of seat.old) (view_of seat.new) }
+    ensures stays { Across Stays seat.old seat.new }
+    ensures acts { Across Waits seat.old seat.new }
 {
     retire_some(heap, seat, cache.take());
     go_out(heap, seat, done);
@@ -102,10 +102,10 @@ fn is_full(phase: Phase) -> bool
 fn sees_clear(heap: &Heap, seat: &mut HeapSeat) -> bool
     requires seat { Sits heap.now seat.old × Mutates (view_of seat.old) }
     ensures seat { Sits heap.now seat.new × Mutates (view_of seat.new) }
-    ensures glances { Glances (view_of seat.old) (view_of seat.new) }
-    ensures free { IsTrue result → IsFalse (poll_found_stop (events (view_of seat.old) (view_of seat.new))) }
-    ensures clear { IsTrue result → GoesOn (view_of seat.old) (view_of seat.new) }
-    ensures hindered { OnFalse result (IsHindered (view_of seat.old) (view_of seat.new)) }
+    ensures glances { Across Glances seat.old seat.new }
+    ensures free { IsTrue result → IsFalse (poll_found_stop (did seat.old seat.new)) }
+    ensures clear { IsTrue result → Across GoesOn seat.old seat.new }
+    ensures hindered { OnFalse result (Across IsHindered seat.old seat.new) }
 {
     if poll(heap, seat) {
         return false;
@@ -120,13 +120,13 @@ pub(crate) fn is_ready(heap: &Heap, seat: &mut HeapSeat, _cache: &Option<Cache>,
     requires seat { Sits heap.now seat.old × Mutates (view_of seat.old) }
     requires cache { HasCache _cache.now (view_of seat.old) }
     requires counted { IsCounted (view_of seat.old) }
-    requires turn { IsTrue (has_turn (view_of seat.old).state.section (Some turn)) }
+    requires turn { IsTrue (has_turn (state_of seat.old).section (Some turn)) }
     ensures seat { Sits heap.now seat.new × Mutates (view_of seat.new) }
     ensures cache { HasCache _cache.now (view_of seat.new) }
-    ensures ready { IsTrue result → GetsReady turn _cache.now (view_of seat.old) (view_of seat.new) }
-    ensures late { OnFalse result (IsHindered (view_of seat.old) (view_of seat.new) ⊎ SeesOther turn (view_of seat.new)) }
-    ensures stays { Stays (view_of seat.old) (view_of seat.new) }
-    ensures waits { Waits (view_of seat.old) (view_of seat.new) }
+    ensures ready { IsTrue result → Across (GetsReady turn _cache.now) seat.old seat.new }
+    ensures late { OnFalse result (Across IsHindered seat.old seat.new ⊎ SeesOther turn (view_of seat.new)) }
+    ensures stays { Across Stays seat.old seat.new }
+    ensures waits { Across Waits seat.old seat.new }
 {
     if !sees_clear(heap, seat) {
         return false;
@@ -147,10 +147,10 @@ pub(crate) fn await_turn<R: Wait>(
     requires seat { Sits heap.now seat.old × Mutates (view_of seat.old) }
     requires cache { HasCache cache.old (view_of seat.old) }
     requires counted { IsCounted (view_of seat.old) }
-    requires turn { IsTrue (has_turn (view_of seat.old).state.section (Some turn)) }
+    requires turn { IsTrue (has_turn (state_of seat.old).section (Some turn)) }
     ensures seat { Sits heap.now seat.new }
-    ensures ready { OnTrue result (GetsReady turn cache.new (view_of seat.old) (view_of seat.new)) }
-    ensures full { OnFalse result (FindsFull done (view_of seat.old) (view_of seat.new) × (cache.new ≡ None)) }
+    ensures ready { OnTrue result (Across (GetsReady turn cache.new) seat.old seat.new) }
+    ensures full { OnFalse result (Across (FindsFull done) seat.old seat.new × (cache.new ≡ None)) }
     ensures unfilled { (view_of seat.new).own.full ≡ (view_of seat.old).own.full }
 {
     for _ in rt.forever() {
@@ -205,10 +205,10 @@ pub(crate) fn await_cell<R: Wait>(
     requires seat { Sits heap.now seat.old × Mutates (view_of seat.old) }
     requires cache { HasCache cache.old (view_of seat.old) }
     requires counted { IsCounted (view_of seat.old) }
-    requires turn { IsTrue (has_turn (view_of seat.old).state.section (Some turn)) }
+    requires turn { IsTrue (has_turn (state_of seat.old).section (Some turn)) }
     ensures seat { Sits heap.now seat.new }
-    ensures ready { OnTrue result (GetsReady turn cache.new (view_of seat.old) (view_of seat.new) × HasFree cache.new) }
-    ensures full { OnFalse result (FindsFull done (view_of seat.old) (view_of seat.new) × (cache.new ≡ None)) }
+    ensures ready { OnTrue result (Across (GetsReady turn cache.new) seat.old seat.new × HasFree cache.new) }
+    ensures full { OnFalse result (Across (FindsFull done) seat.old seat.new × (cache.new ≡ None)) }
 {
     for _ in rt.forever() {
         if !await_turn(rt, heap, seat, cache, turn, done) {

@@ -1,7 +1,7 @@
 //! The commands of a mutator on objects that it made, and what they print.
 ghost use Rattle.std.specs.Prelude.{◌≢◌, ◌<◌, Some};
 ghost use Rattle.std.specs.Bool.{OnTrue};
-ghost use Rattle.gc_table.specs.Seats.{view_of};
+ghost use Rattle.gc_table.specs.Seats.{state_of};
 ghost use Rattle.operation_cycles.specs.Seats.{Mutates};
 
 use super::SMALL;
@@ -14,7 +14,7 @@ use plain_heap::{Line, Op};
 
 /// Whether the seat is a warehouse's.
 fn is_warehouse(seat: &HeapSeat) -> bool
-    ensures { OnTrue result ((view_of seat.now).state.section ≢ Some 0) }
+    ensures { OnTrue result ((state_of seat.now).section ≢ Some 0) }
 {
     match seat.state().section {
         Some(section) => section != 0,
@@ -50,7 +50,7 @@ fn stores_by_another_way(heap: &Heap, seat: &mut HeapSeat) -> bool
 
 /// A walk visits both objects, or as many as it may, and a variable of the catalogue that is nil is nil here.
 fn reads(heap: &Heap, seat: &mut HeapSeat) -> [Line; 4]
-    requires { Mutates heap.now seat.old × (0 < heap.now.shape.fields) × ((view_of seat.old).state.section ≢ Some 0) }
+    requires { Mutates heap.now seat.old × (0 < heap.now.shape.fields) × ((state_of seat.old).section ≢ Some 0) }
 {
     let whole = sum(heap, seat, 0, 0, 5);
     let part = sum(heap, seat, 0, 0, 1);

@@ -3,7 +3,7 @@ ghost use Rattle.std.specs.Prelude.{◌<◌, None, Some, IsFalse, IsTrue};
 ghost use Rattle.std.specs.Bool.{OnTrue};
 ghost use Rattle.mark_core.specs.Held.{has_free_slot};
 ghost use Rattle.mark_core.specs.Seats.{work_in_hand};
-ghost use Rattle.gc_table.specs.Seats.{view_of};
+ghost use Rattle.gc_table.specs.Seats.{Across, state_of, view_of};
 ghost use Rattle.packet_pools.specs.Hands.{IsHeld};
 ghost use Rattle.packet_pools.specs.Scanning.{InHand, Pushes};
 ghost use Rattle.packet_pools.specs.Tracing.{IsTracer};
@@ -38,10 +38,10 @@ fn fills_packet(heap: &Heap, seat: &mut HeapSeat) -> bool
 /// Pushes the object that was marked. Where the packet is full its card is dirtied, and the answer is true.
 fn pushes(heap: &Heap, seat: &mut HeapSeat, held: &mut Held, cell: Cell) -> bool
     requires seat { IsTracer heap.now seat.old }
-    requires held { IsHeld held.old (view_of seat.old) × IsTrue (has_free_slot (view_of seat.old).state.held) }
-    requires hand { InHand None (Some cell) (view_of seat.old).state }
+    requires held { IsHeld held.old (view_of seat.old) × IsTrue (has_free_slot (state_of seat.old).held) }
+    requires hand { InHand None (Some cell) (state_of seat.old) }
     ensures seat { IsTracer heap.now seat.new }
-    ensures pushes { Pushes held.old held.new (view_of seat.old).state.scan (view_of seat.old).state.cleaning (view_of seat.old) (view_of seat.new) }
+    ensures pushes { Across (Pushes held.old held.new (state_of seat.old).scan (state_of seat.old).cleaning) seat.old seat.new }
 {
     match push(heap, seat, held, cell) {
         Ok(()) => false,
@@ -55,10 +55,10 @@ fn pushes(heap: &Heap, seat: &mut HeapSeat, held: &mut Held, cell: Cell) -> bool
 /// Marks the object that was loaded, and pushes it where it was white.
 fn marks(heap: &Heap, seat: &mut HeapSeat, held: &mut Held, cell: Cell) -> bool
     requires seat { IsTracer heap.now seat.old }
-    requires held { IsHeld held.old (view_of seat.old) × IsTrue (has_free_slot (view_of seat.old).state.held) }
-    requires hand { InHand (Some cell) None (view_of seat.old).state }
+    requires held { IsHeld held.old (view_of seat.old) × IsTrue (has_free_slot (state_of seat.old).held) }
+    requires hand { InHand (Some cell) None (state_of seat.old) }
     ensures seat { IsTracer heap.now seat.new }
-    ensures pushes { Pushes held.old held.new (view_of seat.old).state.scan (view_of seat.old).state.cleaning (view_of seat.old) (view_of seat.new) }
+    ensures pushes { Across (Pushes held.old held.new (state_of seat.old).scan (state_of seat.old).cleaning) seat.old seat.new }
 {
     if !heap.set_mark(seat, cell) {
         return false;
@@ -69,12 +69,12 @@ fn marks(heap: &Heap, seat: &mut HeapSeat, held: &mut Held, cell: Cell) -> bool
 /// Marks the object of variable 3: whether it was white, and found the packet full.
 fn overfills(heap: &Heap, seat: &mut HeapSeat, held: &mut Held) -> bool
     requires seat { IsTracer heap.now seat.old }
-    requires held { IsHeld held.old (view_of seat.old) × IsTrue (has_free_slot (view_of seat.old).state.held) }
+    requires held { IsHeld held.old (view_of seat.old) × IsTrue (has_free_slot (state_of seat.old).held) }
     requires section { 1 < heap.now.shape.sections }
-    requires work { IsFalse (work_in_hand heap.now.shape.fields (view_of seat.old).state) }
+    requires work { IsFalse (work_in_hand heap.now.shape.fields (state_of seat.old)) }
     ensures seat { IsTracer heap.now seat.new }
     ensures held { IsHeld held.new (view_of seat.new) }
-    ensures work { IsFalse (work_in_hand heap.now.shape.fields (view_of seat.new).state) }
+    ensures work { IsFalse (work_in_hand heap.now.shape.fields (state_of seat.new)) }
 {
     let word = heap.read_root(seat, 1, 3);
     if word == 0 {

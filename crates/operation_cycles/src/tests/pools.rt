@@ -3,7 +3,7 @@ ghost use Rattle.std.specs.Prelude.{◌≡◌, IsTrue, IsFalse};
 ghost use Rattle.std.specs.Bool.{OnTrue};
 ghost use Rattle.mark_core.specs.Held.{has_free_slot};
 ghost use Rattle.mark_core.specs.Seats.{work_in_hand};
-ghost use Rattle.gc_table.specs.Seats.{view_of};
+ghost use Rattle.gc_table.specs.Seats.{state_of, view_of};
 ghost use Rattle.gc_table.specs.Trials.{At, inside, resting};
 ghost use Rattle.packet_pools.specs.Tracing.{IsTracer};
 
@@ -45,11 +45,11 @@ fn one_packet(heap: &Heap, seat: &mut HeapSeat, k: u32) -> Option<(u32, bool, bo
 /// Takes a packet with room and gives it back. False where none was found.
 fn exchange(heap: &Heap, seat: &mut HeapSeat) -> bool
     requires seat { IsTracer heap.now seat.old }
-    requires free { IsTrue (has_free_slot (view_of seat.old).state.held) }
-    requires idle { IsFalse (work_in_hand heap.now.shape.fields (view_of seat.old).state) }
+    requires free { IsTrue (has_free_slot (state_of seat.old).held) }
+    requires idle { IsFalse (work_in_hand heap.now.shape.fields (state_of seat.old)) }
     ensures seat { IsTracer heap.now seat.new }
     ensures shape { (view_of seat.new).shape ≡ (view_of seat.old).shape }
-    ensures state { (view_of seat.new).state ≡ (view_of seat.old).state }
+    ensures state { state_of seat.new ≡ state_of seat.old }
 {
     match take_output(heap, seat) {
         Some(held) => {

@@ -3,7 +3,7 @@ ghost use Rattle.std.specs.Prelude.{IsTrue};
 ghost use Rattle.mark_core.specs.Seats.{is_bare};
 ghost use Rattle.mark_core.specs.declared.kinds.Phase.TheVariants.{Idle};
 ghost use Rattle.gc_table.specs.Running.{Alone};
-ghost use Rattle.gc_table.specs.Seats.{Sits, view_of};
+ghost use Rattle.gc_table.specs.Seats.{Sits, state_of, view_of};
 ghost use Rattle.gc_table.specs.Trials.{At, resting};
 ghost use Rattle.operation_cycles.specs.Seats.{stopped};
 ghost use Rattle.stop_world.specs.Gates.{IsOpenable};
@@ -20,14 +20,14 @@ use stop_world::{
 
 /// What becomes of the flag when a seat finds it free.
 fn raises(heap: &Heap, seat: &mut HeapSeat) -> bool
-    requires { Sits heap.now seat.old × IsTrue (is_bare (view_of seat.old).state) }
+    requires { Sits heap.now seat.old × IsTrue (is_bare (state_of seat.old)) }
 {
     matches!(raise(heap, seat), Raised::Yours)
 }
 
 /// Whether a seat enters; if not, whether it sees a stop, and may raise the flag itself.
 fn finds_stop(heap: &Heap, seat: &mut HeapSeat) -> Option<(bool, bool)>
-    requires { Sits heap.now seat.old × IsTrue (is_bare (view_of seat.old).state) }
+    requires { Sits heap.now seat.old × IsTrue (is_bare (state_of seat.old)) }
 {
     if enter(heap, seat) {
         return None;

@@ -3,7 +3,7 @@ ghost use Rattle.std.specs.Prelude.{◌<◌};
 ghost use Rattle.std.specs.Bool.{OnTrue};
 ghost use Rattle.mark_core.specs.declared.kinds.Phase.TheVariants.{Clear, Idle, Sweep};
 ghost use Rattle.gc_table.specs.Running.{Alone};
-ghost use Rattle.gc_table.specs.Seats.{Sits, view_of};
+ghost use Rattle.gc_table.specs.Seats.{Sits, state_of, view_of};
 ghost use Rattle.gc_table.specs.Trials.{resting};
 ghost use Rattle.card_clean.specs.Drained.{IsBeforeSweep, IsDrained};
 ghost use Rattle.sweeper.specs.Sweepers.{Clears, Sweeps};
@@ -30,7 +30,7 @@ fn drains(heap: &Heap, seat: &mut HeapSeat)
 
 /// Whether the seat has nothing in its hands.
 fn has_nothing(seat: &HeapSeat) -> bool
-    ensures { OnTrue result (Bare (view_of seat.now).state) }
+    ensures { OnTrue result (Bare (state_of seat.now)) }
 {
     let s = seat.state();
     are_bare(s.held)

@@ -3,7 +3,7 @@ ghost use Rattle.std.specs.Prelude.{◌≡◌, ◌&&◌};
 ghost use Rattle.std.specs.Bool.{OnTrue};
 ghost use Rattle.mark_core.specs.Seats.{saw};
 ghost use Rattle.mark_core.specs.declared.kinds.Phase.TheVariants.{Marking};
-ghost use Rattle.gc_table.specs.Seats.{view_of};
+ghost use Rattle.gc_table.specs.Seats.{state_of};
 ghost use Rattle.operation_cycles.specs.Seats.{Fills, Mutates, MayTrace};
 ghost use Rattle.tracer.specs.Hands.{no_packets};
 
@@ -28,14 +28,14 @@ pub fn are_bare(held: Slots) -> bool
 
 /// The seat is active, and has read that marking is under way.
 fn is_marking(seat: &HeapSeat) -> bool
-    ensures { result ≡ ((view_of seat.now).state.active && saw (view_of seat.now).state.phase_seen Marking) }
+    ensures { result ≡ ((state_of seat.now).active && saw (state_of seat.now).phase_seen Marking) }
 {
     seat.state().is_marking()
 }
 
 /// Whether the seat marks as a mutator, and holds no packet and no block to sweep.
 pub fn is_idle(seat: &HeapSeat) -> bool
-    ensures { OnTrue result (MayTrace (view_of seat.now).state) }
+    ensures { OnTrue result (MayTrace (state_of seat.now)) }
 {
     let s = seat.state();
     is_marking(seat) && (!s.reserved && !s.credit) && are_bare(s.held) && s.block.is_none()

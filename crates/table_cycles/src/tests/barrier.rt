@@ -1,7 +1,7 @@
 //! A mutator stores a reference in an object, and then dirties the object's card, unless nobody else can know the object.
 ghost use Rattle.std.specs.Prelude.{◌≡◌, is_none, true};
 ghost use Rattle.std.specs.Bool.{OnTrue};
-ghost use Rattle.gc_table.specs.Seats.{view_of};
+ghost use Rattle.gc_table.specs.Seats.{state_of};
 ghost use Rattle.table_cycles.specs.Owned.{HasOwn, may_link as may_link_of};
 ghost use Rattle.table_cycles.specs.Ready.{Ready, IsBlank};
 
@@ -18,7 +18,7 @@ use mark_core::{CARD_CELLS, Phase, Shape};
 use std::alloc::Global;
 
 fn may_link(shape: &Shape, seat: &HeapSeat, v: u8, i: u8, w: u8) -> bool
-    ensures { result ≡ may_link_of shape.now (view_of seat.now).state v i w }
+    ensures { result ≡ may_link_of shape.now (state_of seat.now) v i w }
 {
     let s = seat.state();
     (v < 32 && u32::from(i) < shape.fields && w < 32 && may_mutate(seat))
@@ -41,7 +41,7 @@ fn link(heap: &Heap, seat: &mut HeapSeat, i: u8, w: u8) -> bool
 
 /// The card that the seat owes.
 fn owed(seat: &HeapSeat) -> Option<u32>
-    ensures { result ≡ (view_of seat.now).state.owes }
+    ensures { result ≡ (state_of seat.now).owes }
 {
     seat.state().owes
 }
@@ -50,7 +50,7 @@ fn owed(seat: &HeapSeat) -> Option<u32>
 fn dirty_owed(heap: &Heap, seat: &mut HeapSeat) -> bool
     requires { Ready heap.now seat.old × HasOwn seat.old 0 }
     ensures ready { Ready heap.now seat.new × HasOwn seat.new 0 }
-    ensures paid { OnTrue result (is_none (view_of seat.new).state.owes ≡ true) }
+    ensures paid { OnTrue result (is_none (state_of seat.new).owes ≡ true) }
 {
     let Some(card) = owed(seat) else {
         return false;
@@ -79,7 +79,7 @@ fn is_dirty(heap: &Heap, seat: &mut HeapSeat) -> Option<bool>
 fn store(heap: &Heap, seat: &mut HeapSeat, i: u8, w: u8) -> bool
     requires { Ready heap.now seat.old × HasOwn seat.old 0 }
     ensures ready { Ready heap.now seat.new × HasOwn seat.new 0 }
-    ensures paid { OnTrue result (is_none (view_of seat.new).state.owes ≡ true) }
+    ensures paid { OnTrue result (is_none (state_of seat.new).owes ≡ true) }
 {
     link(heap, seat, i, w) && dirty_owed(heap, seat)
 }

@@ -3,7 +3,7 @@ ghost use Rattle.std.specs.Prelude.{◌≡◌, ◌≤◌, ◌+◌, ◌*◌};
 ghost use Rattle.std.specs.Bool.{OnTrue};
 ghost use Rattle.mark_core.specs.MutatorSteps.{is_next_part, fits_part as fits_part_of, names_last as names_last_of};
 ghost use Rattle.mark_core.specs.Seats.{free_in, makes as makes_part};
-ghost use Rattle.gc_table.specs.Seats.{view_of};
+ghost use Rattle.gc_table.specs.Seats.{state_of};
 ghost use Rattle.table_cycles.specs.Owned.{HasOwn};
 ghost use Rattle.table_cycles.specs.Ready.{Ready, Unnamed, may_store_new, may_name as may_name_of};
 
@@ -15,7 +15,7 @@ use mark_core::{Cell, Shape, has_bit};
 const FLAG: u64 = 4_294_967_296;
 
 fn is_free(seat: &HeapSeat, c: Cell) -> bool
-    ensures { result ≡ free_in (view_of seat.now).state.cache c }
+    ensures { result ≡ free_in (state_of seat.now).cache c }
 {
     match seat.state().cache {
         None => false,
@@ -24,7 +24,7 @@ fn is_free(seat: &HeapSeat, c: Cell) -> bool
 }
 
 fn makes(seat: &HeapSeat, c: Cell, part: u8) -> bool
-    ensures { result ≡ makes_part (view_of seat.now).state.cache c part }
+    ensures { result ≡ makes_part (state_of seat.now).cache c part }
 {
     match seat.state().cache {
         None => false,
@@ -36,7 +36,7 @@ fn makes(seat: &HeapSeat, c: Cell, part: u8) -> bool
 }
 
 fn is_next(seat: &HeapSeat, c: Cell, part: u8) -> bool
-    ensures { result ≡ is_next_part (view_of seat.now).state c part }
+    ensures { result ≡ is_next_part (state_of seat.now) c part }
 {
     if part == 0 {
         is_free(seat, c) && !has_making(seat)
@@ -52,7 +52,7 @@ fn identity_of(section: u32, number: u32) -> u64
 }
 
 fn fits_part(shape: &Shape, seat: &HeapSeat, part: u8, word: u64) -> bool
-    ensures { result ≡ fits_part_of shape.now (view_of seat.now).state part word }
+    ensures { result ≡ fits_part_of shape.now (state_of seat.now) part word }
 {
     let s = seat.state();
     if u32::from(part) < shape.fields {
@@ -68,7 +68,7 @@ fn fits_part(shape: &Shape, seat: &HeapSeat, part: u8, word: u64) -> bool
 
 fn may_store(shape: &Shape, seat: &HeapSeat, c: Cell, part: u8, word: u64) -> bool
     requires { shape.now.fields ≤ 16 }
-    ensures { result ≡ may_store_new shape.now (view_of seat.now).state c part word }
+    ensures { result ≡ may_store_new shape.now (state_of seat.now) c part word }
 {
     (c.number() < shape.cells && u32::from(part) <= shape.fields + 1 && may_mutate(seat))
         && is_next(seat, c, part)
@@ -104,7 +104,7 @@ fn store_identity(heap: &Heap, seat: &mut HeapSeat, c: Cell, part: u8, word: u64
 }
 
 fn names_last(seat: &HeapSeat, r: u64) -> bool
-    ensures { result ≡ names_last_of (view_of seat.now).state.cache r }
+    ensures { result ≡ names_last_of (state_of seat.now).cache r }
 {
     match seat.state().cache {
         None => false,
@@ -116,7 +116,7 @@ fn names_last(seat: &HeapSeat, r: u64) -> bool
 }
 
 fn may_name(seat: &HeapSeat, v: u8, r: u64) -> bool
-    ensures { result ≡ may_name_of (view_of seat.now).state v r }
+    ensures { result ≡ may_name_of (state_of seat.now) v r }
 {
     (v < 32 && may_mutate(seat))
         && names_last(seat, r)

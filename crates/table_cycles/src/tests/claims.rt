@@ -1,7 +1,7 @@
 //! Blocks are claimed, each by one seat at a time.
 ghost use Rattle.std.specs.Prelude.{◌≡◌};
 ghost use Rattle.mark_core.specs.Seats.{is_unread as is_unread_cache, has_used as has_used_cell, has_making as has_making_cell};
-ghost use Rattle.gc_table.specs.Seats.{view_of};
+ghost use Rattle.gc_table.specs.Seats.{state_of};
 ghost use Rattle.table_cycles.specs.Ready.{Ready, IsBlank};
 
 use super::checks::is_running;
@@ -30,7 +30,7 @@ pub fn claim(heap: &Heap, seat: &mut HeapSeat) -> Option<bool>
 }
 
 fn is_unread(seat: &HeapSeat) -> bool
-    ensures { result ≡ is_unread_cache (view_of seat.now).state.cache }
+    ensures { result ≡ is_unread_cache (state_of seat.now).cache }
 {
     match seat.state().cache {
         None => false,
@@ -51,7 +51,7 @@ pub fn read_free(heap: &Heap, seat: &mut HeapSeat) -> Option<u64>
 }
 
 fn has_used(seat: &HeapSeat) -> bool
-    ensures { result ≡ has_used_cell (view_of seat.now).state.cache }
+    ensures { result ≡ has_used_cell (state_of seat.now).cache }
 {
     match seat.state().cache {
         None => false,
@@ -60,7 +60,7 @@ fn has_used(seat: &HeapSeat) -> bool
 }
 
 pub fn has_making(seat: &HeapSeat) -> bool
-    ensures { result ≡ has_making_cell (view_of seat.now).state.cache }
+    ensures { result ≡ has_making_cell (state_of seat.now).cache }
 {
     match seat.state().cache {
         None => false,
