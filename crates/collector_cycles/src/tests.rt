@@ -9,6 +9,7 @@ mod paying;
 mod quotas;
 mod seasons;
 mod sharing;
+mod stepping;
 mod threads;
 
 use mark_core::Shape;

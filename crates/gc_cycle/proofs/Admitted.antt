@@ -48,6 +48,7 @@ use Rattle.gc_cycle.specs.Sorts.{clears, clears_card, draws, draws_or_clears, po
 use Rattle.gc_cycle.proofs.Goings.{no-cache}
 use Rattle.gc_cycle.specs.Standing.{Helps}
 use Rattle.gc_cycle.proofs.Sequences.{moments, moments-state, some-moment-later, some-none, this-moment}
+use Rattle.gc_cycle.proofs.Searched.{work-longer}
 use Rattle.gc_cycle.proofs.Traced.{rest-nothing}
 use Rattle.gc_cycle.proofs.Completing.{total-run}
 
@@ -125,20 +126,6 @@ pub room-grows : (sh : Shape) → Grows (finds_no_room sh)
 room-grows sh s ps qs es h e = e
 
 -- a search is told by more events too
-front-longer : (f : Step → Bool) (es ys : List Entry) → (zs : List Entry) × (front f (es ++ ys) ≡ front f es ++ zs)
-front-longer f [] ys = (front f ys, refl)
-front-longer f (e ∷ es) ys = either (f e.step) (front-longer f es ys)
-  where
-    either : (b : Bool) → ((zs : List Entry) × (front f (es ++ ys) ≡ front f es ++ zs)) → (zs : List Entry) × ((if b then e ∷ front f (es ++ ys) else []) ≡ (if b then e ∷ front f es else []) ++ zs)
-    either true k = (k.0, ap (λ xs. e ∷ xs) k.1)
-    either false k = ([], refl)
-
-pub work-longer : (sh : Shape) (ys : List Entry) (m : Moment) (es : List Entry) → finds_no_work sh m es ≡ true → finds_no_work sh m (es ++ ys) ≡ true
-work-longer sh ys m es e =
-    let a = and_parts (nothing_left sh m) _ e in
-    let z = front-longer (moves_packet (2 ∷ 1 ∷ [])) es ys in
-    and_from (nothing_left sh m) _ a.0 (ap (no_input sh) z.1 ∙ no-input-left sh (front (moves_packet (2 ∷ 1 ∷ [])) es) z.0 a.1)
-
 pub never-join : (f : Sort) (xs ys : List Entry) → never f xs ≡ true → never f ys ≡ true → never f (xs ++ ys) ≡ true
 never-join f xs ys a b = ap not (some-none f xs ys (not-true _ a) (not-true _ b))
 

@@ -18,7 +18,7 @@ use Rattle.gc_cycle.specs.Sorts.{joins, pops}
 
 -- how many cells a round of the drain pops, where there are as many
 abbrev pub round_quota : ℕ
-round_quota = 65536
+round_quota = 4294967295
 
 -- how many cells a seat that waits pops in a turn as a helper, where there are as many
 abbrev pub turn_quota : ℕ

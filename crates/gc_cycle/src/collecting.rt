@@ -7,9 +7,9 @@ ghost use Rattle.gc_table.specs.declared.view.View.{View};
 ghost use Rattle.gc_table.specs.Rule.{KnowsFull};
 ghost use Rattle.packet_pools.specs.Counts.{count_of};
 ghost use Rattle.gc_cycle.specs.Events.{never};
-ghost use Rattle.gc_table.specs.Seats.{Sits, Took, view_of};
+ghost use Rattle.gc_table.specs.Seats.{Across, did, Sits, state_of, Took, view_of};
 ghost use Rattle.packet_pools.specs.Seeking.{some_event};
-ghost use Rattle.gc_table.specs.Log.{Only, events};
+ghost use Rattle.gc_table.specs.Log.{Only};
 ghost use Rattle.gc_table.specs.Running.{Ran};
 ghost use Rattle.gc_cycle.specs.Answering.{AnswersTo, CollectsTo, EndsFull, GivesWay, GoesOn, HasCache, KeepsOn, SafeTo, TellsFull, answers, retires, waits_helping};
 ghost use Rattle.gc_cycle.specs.Collecting.{EndsStop, HoldsWorld, TriesAgain, spares_section};
@@ -35,15 +35,15 @@ use std::sync::Wait;
 /// `done` is how many commands the mutator has done. It has no cache. Full comes exactly where it read that the heap is full.
 pub fn collect<R: Wait>(rt: &R, heap: &Heap, seat: &mut HeapSeat, done: u32) -> Safe
     requires seat { Sits heap.now seat.old × Mutates (view_of seat.old) }
-    requires cache { (view_of seat.old).state.cache ≡ None }
+    requires cache { (state_of seat.old).cache ≡ None }
     ensures seat { Sits heap.now seat.new }
-    ensures ran { Ran (view_of seat.old) (view_of seat.new) }
-    ensures collects { CollectsTo result done (view_of seat.old) (view_of seat.new) }
-    ensures once { count_of raises_flag (events (view_of seat.old) (view_of seat.new)) ≤ 1 }
-    ensures not_full { IsTrue (never_fills (events (view_of seat.old) (view_of seat.new))) }
-    ensures keeps { KeepsSeat (view_of seat.old) (view_of seat.new) × KeepsSection (view_of seat.old) (view_of seat.new) }
-    ensures spares { Only spares_part (view_of seat.old) (view_of seat.new) }
-    ensures numbers { ChangesNumbers [] (view_of seat.old) (view_of seat.new) }
+    ensures ran { Across Ran seat.old seat.new }
+    ensures collects { Across (CollectsTo result done) seat.old seat.new }
+    ensures once { count_of raises_flag (did seat.old seat.new) ≤ 1 }
+    ensures not_full { IsTrue (never_fills (did seat.old seat.new)) }
+    ensures keeps { Across KeepsSeat seat.old seat.new × Across KeepsSection seat.old seat.new }
+    ensures spares { Across (Only spares_part) seat.old seat.new }
+    ensures numbers { Across (ChangesNumbers []) seat.old seat.new }
     ensures known { KnowsAnswer result (view_of seat.new) }
 {
     for _ in rt.forever() {
@@ -57,14 +57,14 @@ pub fn collect<R: Wait>(rt: &R, heap: &Heap, seat: &mut HeapSeat, done: u32) -> 
 /// One try, which ends without an answer where another seat's stop came first.
 fn collect_once<R: Wait>(rt: &R, heap: &Heap, seat: &mut HeapSeat, done: u32) -> Option<Safe>
     requires seat { Sits heap.now seat.old × Mutates (view_of seat.old) }
-    requires cache { (view_of seat.old).state.cache ≡ None }
+    requires cache { (state_of seat.old).cache ≡ None }
     ensures seat { Sits heap.now seat.new }
-    ensures ran { Ran (view_of seat.old) (view_of seat.new) }
-    ensures none { IfNone result (TriesAgain done (view_of seat.old) (view_of seat.new)) }
+    ensures ran { Across Ran seat.old seat.new }
+    ensures none { IfNone result (Across (TriesAgain done) seat.old seat.new) }
     ensures some { IfSome result (λ safe. (u : View) → Ran u (view_of seat.old) → TellsFull u (view_of seat.old) → CollectsTo safe done u (view_of seat.new)) }
-    ensures once { count_of raises_flag (events (view_of seat.old) (view_of seat.new)) ≤ 1 }
-    ensures only { Only spares_section (view_of seat.old) (view_of seat.new) }
-    ensures numbers { ChangesNumbers [] (view_of seat.old) (view_of seat.new) }
+    ensures once { count_of raises_flag (did seat.old seat.new) ≤ 1 }
+    ensures only { Across (Only spares_section) seat.old seat.new }
+    ensures numbers { Across (ChangesNumbers []) seat.old seat.new }
     ensures known { IfSome result (λ safe. KnowsAnswer safe (view_of seat.new)) }
 {
     if ends_full(heap, seat, done) {
@@ -85,8 +85,8 @@ fn collect_in_stop<R: Wait>(rt: &R, heap: &Heap, seat: &mut HeapSeat)
     requires seat { Sits heap.now seat.old }
     requires stopped { HoldsWorld (view_of seat.old) }
     ensures seat { Sits heap.now seat.new × Mutates (view_of seat.new) }
-    ensures ends { EndsStop (view_of seat.old) (view_of seat.new) }
-    ensures numbers { ChangesNumbers [] (view_of seat.old) (view_of seat.new) }
+    ensures ends { Across EndsStop seat.old seat.new }
+    ensures numbers { Across (ChangesNumbers []) seat.old seat.new }
 {
     if has_seen_full(seat) {
         resume(heap, seat);
@@ -97,9 +97,9 @@ fn collect_in_stop<R: Wait>(rt: &R, heap: &Heap, seat: &mut HeapSeat)
 }
 
 /// Whether the seat has read the phase last as Full.
-fn has_seen_full(seat: &HeapSeat) -> bool
-    ensures seen { OnTrue result ((view_of seat.now).state.phase_seen ≡ Some Full) }
-    ensures other { OnFalse result ((view_of seat.now).state.phase_seen ≢ Some Full) }
+pub(crate) fn has_seen_full(seat: &HeapSeat) -> bool
+    ensures seen { OnTrue result ((state_of seat.now).phase_seen ≡ Some Full) }
+    ensures other { OnFalse result ((state_of seat.now).phase_seen ≢ Some Full) }
 {
     match seat.state().phase_seen {
         Some(Phase::Full) => true,
@@ -119,15 +119,15 @@ pub fn safe_point<R: Wait>(
     requires seat { Sits heap.now seat.old × Mutates (view_of seat.old) }
     requires cache { HasCache cache (view_of seat.old) }
     ensures seat { Sits heap.now seat.new }
-    ensures ran { Ran (view_of seat.old) (view_of seat.new) }
-    ensures safe { SafeTo result cache done (view_of seat.old) (view_of seat.new) }
-    ensures polled { IsTrue (some_event polls (events (view_of seat.old) (view_of seat.new))) }
-    ensures calm { IsTrue (never raises_flag (events (view_of seat.old) (view_of seat.new))) }
-    ensures helping { IsTrue (waits_helping (events (view_of seat.old) (view_of seat.new))) }
-    ensures not_full { IsTrue (never_fills (events (view_of seat.old) (view_of seat.new))) }
-    ensures keeps { KeepsSeat (view_of seat.old) (view_of seat.new) × KeepsSection (view_of seat.old) (view_of seat.new) }
-    ensures spares { Only spares_part (view_of seat.old) (view_of seat.new) }
-    ensures numbers { GivesUp cache (cache_of result) (view_of seat.old) (view_of seat.new) }
+    ensures ran { Across Ran seat.old seat.new }
+    ensures safe { Across (SafeTo result cache done) seat.old seat.new }
+    ensures polled { IsTrue (some_event polls (did seat.old seat.new)) }
+    ensures calm { IsTrue (never raises_flag (did seat.old seat.new)) }
+    ensures helping { IsTrue (waits_helping (did seat.old seat.new)) }
+    ensures not_full { IsTrue (never_fills (did seat.old seat.new)) }
+    ensures keeps { Across KeepsSeat seat.old seat.new × Across KeepsSection seat.old seat.new }
+    ensures spares { Across (Only spares_part) seat.old seat.new }
+    ensures numbers { Across (GivesUp cache (cache_of result)) seat.old seat.new }
     ensures known { KnowsAnswer result (view_of seat.new) }
 {
     let mut cache = cache;
@@ -151,16 +151,16 @@ pub fn pass_safe_point<R: Wait>(
     requires seat { Sits heap.now seat.old × Mutates (view_of seat.old) }
     requires cache { HasCache cache.old (view_of seat.old) }
     ensures seat { Sits heap.now seat.new }
-    ensures ran { Ran (view_of seat.old) (view_of seat.new) }
-    ensures going { OnTrue result (SafeTo (safes.Going cache.new) cache.old done (view_of seat.old) (view_of seat.new)) }
-    ensures full { OnFalse result (SafeTo safes.Full cache.old done (view_of seat.old) (view_of seat.new) × KnowsFull (view_of seat.new) × (cache.new ≡ None)) }
-    ensures polled { IsTrue (some_event polls (events (view_of seat.old) (view_of seat.new))) }
-    ensures calm { IsTrue (never raises_flag (events (view_of seat.old) (view_of seat.new))) }
-    ensures helping { IsTrue (waits_helping (events (view_of seat.old) (view_of seat.new))) }
-    ensures not_full { IsTrue (never_fills (events (view_of seat.old) (view_of seat.new))) }
-    ensures keeps { KeepsSeat (view_of seat.old) (view_of seat.new) × KeepsSection (view_of seat.old) (view_of seat.new) }
-    ensures spares { Only spares_part (view_of seat.old) (view_of seat.new) }
-    ensures numbers { GivesUp cache.old cache.new (view_of seat.old) (view_of seat.new) }
+    ensures ran { Across Ran seat.old seat.new }
+    ensures going { OnTrue result (Across (SafeTo (safes.Going cache.new) cache.old done) seat.old seat.new) }
+    ensures full { OnFalse result (Across (SafeTo safes.Full cache.old done) seat.old seat.new × KnowsFull (view_of seat.new) × (cache.new ≡ None)) }
+    ensures polled { IsTrue (some_event polls (did seat.old seat.new)) }
+    ensures calm { IsTrue (never raises_flag (did seat.old seat.new)) }
+    ensures helping { IsTrue (waits_helping (did seat.old seat.new)) }
+    ensures not_full { IsTrue (never_fills (did seat.old seat.new)) }
+    ensures keeps { Across KeepsSeat seat.old seat.new × Across KeepsSection seat.old seat.new }
+    ensures spares { Across (Only spares_part) seat.old seat.new }
+    ensures numbers { Across (GivesUp cache.old cache.new) seat.old seat.new }
 {
     give_way(rt, heap, seat, cache, done);
     goes_on(heap, seat, cache, done)
@@ -172,8 +172,8 @@ fn give_way<R: Wait>(rt: &R, heap: &Heap, seat: &mut HeapSeat, cache: &mut Optio
     requires seat { Sits heap.now seat.old × Mutates (view_of seat.old) }
     requires cache { HasCache cache.old (view_of seat.old) }
     ensures seat { Sits heap.now seat.new × Mutates (view_of seat.new) }
-    ensures gives { GivesWay cache.old cache.new done (view_of seat.old) (view_of seat.new) }
-    ensures numbers { GivesUp cache.old cache.new (view_of seat.old) (view_of seat.new) }
+    ensures gives { Across (GivesWay cache.old cache.new done) seat.old seat.new }
+    ensures numbers { Across (GivesUp cache.old cache.new) seat.old seat.new }
 {
     if !poll(heap, seat) {
         return;
@@ -188,10 +188,10 @@ pub(crate) fn go_on(heap: &Heap, seat: &mut HeapSeat, cache: Option<Cache>, done
     requires seat { Sits heap.now seat.old × Mutates (view_of seat.old) }
     requires cache { HasCache cache (view_of seat.old) }
     ensures seat { Sits heap.now seat.new × Mutates (view_of seat.new) }
-    ensures ran { Ran (view_of seat.old) (view_of seat.new) }
-    ensures only { Only answers (view_of seat.old) (view_of seat.new) }
-    ensures numbers { GivesUp cache (cache_of result) (view_of seat.old) (view_of seat.new) }
-    ensures answer { AnswersTo result cache done (view_of seat.old) (view_of seat.new) }
+    ensures ran { Across Ran seat.old seat.new }
+    ensures only { Across (Only answers) seat.old seat.new }
+    ensures numbers { Across (GivesUp cache (cache_of result)) seat.old seat.new }
+    ensures answer { Across (AnswersTo result cache done) seat.old seat.new }
 {
     let mut cache = cache;
     if goes_on(heap, seat, &mut cache, done) {
@@ -203,15 +203,20 @@ pub(crate) fn go_on(heap: &Heap, seat: &mut HeapSeat, cache: Option<Cache>, done
 
 /// The same with the cache lent. Where the mutator doesn't go on, it has none.
 #[inline(always)]
-fn goes_on(heap: &Heap, seat: &mut HeapSeat, cache: &mut Option<Cache>, done: u32) -> bool
+pub(crate) fn goes_on(
+    heap: &Heap,
+    seat: &mut HeapSeat,
+    cache: &mut Option<Cache>,
+    done: u32,
+) -> bool
     requires seat { Sits heap.now seat.old × Mutates (view_of seat.old) }
     requires cache { HasCache cache.old (view_of seat.old) }
     ensures seat { Sits heap.now seat.new × Mutates (view_of seat.new) }
-    ensures ran { Ran (view_of seat.old) (view_of seat.new) }
-    ensures only { Only answers (view_of seat.old) (view_of seat.new) }
-    ensures numbers { GivesUp cache.old cache.new (view_of seat.old) (view_of seat.new) }
-    ensures going { OnTrue result (AnswersTo (safes.Going cache.new) cache.old done (view_of seat.old) (view_of seat.new)) }
-    ensures full { OnFalse result (AnswersTo safes.Full cache.old done (view_of seat.old) (view_of seat.new) × (cache.new ≡ None)) }
+    ensures ran { Across Ran seat.old seat.new }
+    ensures only { Across (Only answers) seat.old seat.new }
+    ensures numbers { Across (GivesUp cache.old cache.new) seat.old seat.new }
+    ensures going { OnTrue result (Across (AnswersTo (safes.Going cache.new) cache.old done) seat.old seat.new) }
+    ensures full { OnFalse result (Across (AnswersTo safes.Full cache.old done) seat.old seat.new × (cache.new ≡ None)) }
 {
     if !finds_full(heap, seat) {
         return true;
@@ -234,13 +239,13 @@ fn spend_none(cache: Option<Cache>)
 /// Whether the heap is full, as a mutator without a cache reads it. Where it is, the mutator stores its position.
 pub(crate) fn ends_full(heap: &Heap, seat: &mut HeapSeat, done: u32) -> bool
     requires seat { Sits heap.now seat.old × Mutates (view_of seat.old) }
-    requires cache { (view_of seat.old).state.cache ≡ None }
+    requires cache { (state_of seat.old).cache ≡ None }
     ensures seat { Sits heap.now seat.new × Mutates (view_of seat.new) }
-    ensures ran { Ran (view_of seat.old) (view_of seat.new) }
-    ensures only { Only answers (view_of seat.old) (view_of seat.new) }
-    ensures numbers { ChangesBy [] (view_of seat.old) (view_of seat.new) }
-    ensures full { OnTrue result (EndsFull done (view_of seat.old) (view_of seat.new) × KnowsFull (view_of seat.new)) }
-    ensures going { OnFalse result (KeepsOn None None (view_of seat.old) (view_of seat.new)) }
+    ensures ran { Across Ran seat.old seat.new }
+    ensures only { Across (Only answers) seat.old seat.new }
+    ensures numbers { Across (ChangesBy []) seat.old seat.new }
+    ensures full { OnTrue result (Across (EndsFull done) seat.old seat.new × KnowsFull (view_of seat.new)) }
+    ensures going { OnFalse result (Across (KeepsOn None None) seat.old seat.new) }
 {
     if !finds_full(heap, seat) {
         return false;
@@ -251,11 +256,11 @@ pub(crate) fn ends_full(heap: &Heap, seat: &mut HeapSeat, done: u32) -> bool
 
 /// Whether the heap is full, as a mutator reads it. Where it isn't, the mutator goes on after whatever it did before.
 #[inline(always)]
-fn finds_full(heap: &Heap, seat: &mut HeapSeat) -> bool
+pub(crate) fn finds_full(heap: &Heap, seat: &mut HeapSeat) -> bool
     requires seat { Sits heap.now seat.old × Mutates (view_of seat.old) }
     ensures seat { Sits heap.now seat.new × Mutates (view_of seat.new) }
-    ensures read { Took ReadPhase (view_of seat.old) (view_of seat.new) }
-    ensures full { OnTrue result (((view_of seat.new).state.phase_seen ≡ Some Full) × IsTrue (saw_full (events (view_of seat.old) (view_of seat.new)))) }
+    ensures read { Across (Took ReadPhase) seat.old seat.new }
+    ensures full { OnTrue result (((state_of seat.new).phase_seen ≡ Some Full) × IsTrue (saw_full (did seat.old seat.new))) }
     ensures going { OnFalse result ((u : View) → Ran u (view_of seat.old) → TellsFull u (view_of seat.old) → GoesOn u (view_of seat.new)) }
 {
     match heap.read_phase(seat) {
@@ -267,16 +272,16 @@ fn finds_full(heap: &Heap, seat: &mut HeapSeat) -> bool
 /// Gives a cache up, if there is one.
 #[cold]
 #[inline(never)]
-fn retire_some(heap: &Heap, seat: &mut HeapSeat, cache: &mut Option<Cache>)
+pub(crate) fn retire_some(heap: &Heap, seat: &mut HeapSeat, cache: &mut Option<Cache>)
     requires seat { Sits heap.now seat.old × Mutates (view_of seat.old) }
     requires cache { HasCache cache.old (view_of seat.old) }
     ensures seat { Sits heap.now seat.new × Mutates (view_of seat.new) }
-    ensures cache { (view_of seat.new).state.cache ≡ None }
+    ensures cache { (state_of seat.new).cache ≡ None }
     ensures none { cache.new ≡ None }
-    ensures ran { Ran (view_of seat.old) (view_of seat.new) }
-    ensures only { Only retires (view_of seat.old) (view_of seat.new) }
-    ensures numbers { GivesUp cache.old cache.new (view_of seat.old) (view_of seat.new) }
-    ensures seen { (view_of seat.new).state.phase_seen ≡ (view_of seat.old).state.phase_seen }
+    ensures ran { Across Ran seat.old seat.new }
+    ensures only { Across (Only retires) seat.old seat.new }
+    ensures numbers { Across (GivesUp cache.old cache.new) seat.old seat.new }
+    ensures seen { (state_of seat.new).phase_seen ≡ (state_of seat.old).phase_seen }
     ensures own { (view_of seat.new).own ≡ (view_of seat.old).own }
 {
     if let Some(cache) = cache.take() {

@@ -6,7 +6,7 @@ ghost use Rattle.mark_core.specs.Seats.{phase_number};
 ghost use Rattle.mark_core.specs.declared.kinds.Phase.{Phase};
 ghost use Rattle.mark_core.specs.declared.kinds.Phase.TheVariants.{Idle, Marking, Drain, Sweep};
 ghost use Rattle.mark_core.specs.declared.kinds.Step.TheVariants.{Reset, StorePhase};
-ghost use Rattle.gc_table.specs.Seats.{Sits, view_of};
+ghost use Rattle.gc_table.specs.Seats.{Across, did, Sits, state_of, view_of};
 ghost use Rattle.packet_pools.specs.Seeking.{some_event};
 ghost use Rattle.gc_table.specs.Log.{event, events};
 ghost use Rattle.gc_table.specs.Running.{Ran};
@@ -15,6 +15,7 @@ ghost use Rattle.gc_cycle.specs.Drained.{IsDrained, IsRooted};
 ghost use Rattle.gc_cycle.specs.Finishing.{IsAloneIn, IsMove, IsOpen, IsOpenPart, IsPart, most};
 ghost use Rattle.gc_cycle.specs.Helping.{rescanned_in};
 ghost use Rattle.gc_cycle.specs.Sorts.{opens};
+ghost use Rattle.gc_cycle.specs.Stepping.{CleansLast};
 ghost use Rattle.gc_cycle.specs.Turns.{DrainsFor, SeesToRoots, round_quota};
 
 use crate::lower::{
@@ -25,35 +26,37 @@ use gc_table::{Heap, HeapSeat};
 use mark_core::{BLOCK_COUNTER, CARD_COUNTER, Phase as CyclePhase};
 use std::sync::Wait;
 
-/// How many objects a round of the drain pops at most.
-const ROUND: u32 = 65_536;
+/// How many objects a round of the drain pops at most: all that there are. A round passes over all cards at its end, so it would cost too much to make one before
+/// there is nothing left to trace.
+const ROUND: u32 = u32::MAX;
 
 /// Begins the drain. The pass over all cards begins again.
 pub(crate) fn begin_drain(heap: &Heap, seat: &mut HeapSeat)
     requires seat { Sits heap.now seat.old }
     requires alone { IsAloneIn Idle (view_of seat.old) ⊎ IsAloneIn Marking (view_of seat.old) }
     ensures seat { Sits heap.now seat.new }
-    ensures ran { Ran (view_of seat.old) (view_of seat.new) }
+    ensures ran { Across Ran seat.old seat.new }
     ensures alone { IsAloneIn Drain (view_of seat.new) }
-    ensures events { (p : Phase) → IsAloneIn p (view_of seat.old) → events (view_of seat.old) (view_of seat.new) ≡ event (StorePhase Drain) (phase_number p) ∷ event (Reset card_counter) 0 ∷ [] }
-    ensures exact { IsAloneIn Idle (view_of seat.old) → IsTrue (view_of seat.new).state.exact }
+    ensures events { (p : Phase) → IsAloneIn p (view_of seat.old) → did seat.old seat.new ≡ event (StorePhase Drain) (phase_number p) ∷ event (Reset card_counter) 0 ∷ [] }
+    ensures exact { IsAloneIn Idle (view_of seat.old) → IsTrue (state_of seat.new).exact }
 {
     heap.store_phase(seat, CyclePhase::Drain);
     heap.reset(seat, CARD_COUNTER);
 }
 
-/// One round: what was put off, all packets, and all cards. How many objects were scanned again.
-fn drain_round(heap: &Heap, seat: &mut HeapSeat) -> u32
+/// One round: what was put off, so many objects of the packets, and all cards. How many objects were scanned again.
+pub(crate) fn drain_round(heap: &Heap, seat: &mut HeapSeat, quota: u32) -> u32
     requires seat { Sits heap.now seat.old }
     requires alone { IsAloneIn Drain (view_of seat.old) }
     ensures seat { Sits heap.now seat.new }
-    ensures part { IsPart Drain (view_of seat.old) (view_of seat.new) }
+    ensures part { Across (IsPart Drain) seat.old seat.new }
     ensures rooted { IsRooted (view_of seat.old) → IsRooted (view_of seat.new) }
-    ensures rescanned { rescanned_in (view_of seat.old) (events (view_of seat.old) (view_of seat.new)) ≡ result }
-    ensures worked { DrainsFor round_quota (view_of seat.old) (view_of seat.new) }
+    ensures rescanned { rescanned_in (view_of seat.old) (did seat.old seat.new) ≡ result }
+    ensures worked { Across (DrainsFor quota) seat.old seat.new }
+    ensures cleans { Across CleansLast seat.old seat.new }
 {
     recycle_deferred(heap, seat);
-    trace(heap, seat, ROUND);
+    trace(heap, seat, quota);
     clean_dirty(heap, seat)
 }
 
@@ -62,9 +65,9 @@ fn scan_all_roots(heap: &Heap, seat: &mut HeapSeat)
     requires seat { Sits heap.now seat.old }
     requires alone { IsAloneIn Drain (view_of seat.old) }
     ensures seat { Sits heap.now seat.new }
-    ensures part { IsPart Drain (view_of seat.old) (view_of seat.new) }
-    ensures rescanned { rescanned_in (view_of seat.old) (events (view_of seat.old) (view_of seat.new)) ≡ 0 }
-    ensures roots { (section : ℕ) → section < heap.now.shape.sections → SeesToRoots section (view_of seat.old) (view_of seat.new) }
+    ensures part { Across (IsPart Drain) seat.old seat.new }
+    ensures rescanned { rescanned_in (view_of seat.old) (did seat.old seat.new) ≡ 0 }
+    ensures roots { (section : ℕ) → section < heap.now.shape.sections → Across (SeesToRoots section) seat.old seat.new }
 {
     for section in 0..heap.shape().sections {
         scan_roots(heap, seat, section);
@@ -76,8 +79,8 @@ pub(crate) fn drain_together<R: Wait>(rt: &R, heap: &Heap, seat: &mut HeapSeat) 
     requires seat { Sits heap.now seat.old }
     requires alone { IsAloneIn Drain (view_of seat.old) }
     ensures seat { Sits heap.now seat.new }
-    ensures drains { DrainsTogether (view_of seat.old) (view_of seat.new) }
-    ensures rescanned { rescanned_in (view_of seat.old) (events (view_of seat.old) (view_of seat.new)) ≡ result }
+    ensures drains { Across DrainsTogether seat.old seat.new }
+    ensures rescanned { rescanned_in (view_of seat.old) (did seat.old seat.new) ≡ result }
 {
     scan_all_roots(heap, seat);
     open_help(heap, seat);
@@ -94,8 +97,8 @@ pub(crate) fn drain_alone<R: Wait>(rt: &R, heap: &Heap, seat: &mut HeapSeat) -> 
     requires seat { Sits heap.now seat.old }
     requires alone { IsAloneIn Drain (view_of seat.old) }
     ensures seat { Sits heap.now seat.new }
-    ensures drains { DrainsAlone (view_of seat.old) (view_of seat.new) }
-    ensures rescanned { result ≡ min (rescanned_in (view_of seat.old) (events (view_of seat.old) (view_of seat.new))) most }
+    ensures drains { Across DrainsAlone seat.old seat.new }
+    ensures rescanned { result ≡ min (rescanned_in (view_of seat.old) (did seat.old seat.new)) most }
 {
     heap.reset(seat, BLOCK_COUNTER);
     see_to_roots(rt, heap, seat);
@@ -104,7 +107,7 @@ pub(crate) fn drain_alone<R: Wait>(rt: &R, heap: &Heap, seat: &mut HeapSeat) -> 
         if is_drained(heap, seat) {
             return rescanned;
         }
-        rescanned = rescanned.saturating_add(drain_round(heap, seat));
+        rescanned = rescanned.saturating_add(drain_round(heap, seat, ROUND));
     }
     unreachable!()
 }
@@ -114,7 +117,7 @@ pub(crate) fn begin_sweep(heap: &Heap, seat: &mut HeapSeat)
     requires seat { Sits heap.now seat.old }
     requires drained { IsDrained (view_of seat.old) }
     ensures seat { Sits heap.now seat.new }
-    ensures moved { IsMove Drain Sweep (view_of seat.old) (view_of seat.new) }
+    ensures moved { Across (IsMove Drain Sweep) seat.old seat.new }
 {
     heap.store_phase(seat, CyclePhase::Sweep);
 }
@@ -124,9 +127,9 @@ fn help_drain(heap: &Heap, seat: &mut HeapSeat) -> u32
     requires seat { Sits heap.now seat.old }
     requires open { IsOpen Drain (view_of seat.old) }
     ensures seat { Sits heap.now seat.new }
-    ensures open { IsOpenPart Drain (view_of seat.old) (view_of seat.new) }
-    ensures rescanned { rescanned_in (view_of seat.old) (events (view_of seat.old) (view_of seat.new)) ≡ result }
-    ensures worked { DrainsFor round_quota (view_of seat.old) (view_of seat.new) }
+    ensures open { Across (IsOpenPart Drain) seat.old seat.new }
+    ensures rescanned { rescanned_in (view_of seat.old) (did seat.old seat.new) ≡ result }
+    ensures worked { Across (DrainsFor round_quota) seat.old seat.new }
 {
     recycle_deferred(heap, seat);
     trace(heap, seat, ROUND);

@@ -3,8 +3,8 @@ ghost use Rattle.std.specs.Prelude.{◌≡◌, ◌+◌, ◌⊎◌, min, IsTrue, 
 ghost use Rattle.mark_core.specs.declared.kinds.Phase.TheVariants.{Idle, Marking, Drain};
 ghost use Rattle.std.specs.Bool.{OnTrue, OnFalse};
 ghost use Rattle.mark_core.specs.declared.kinds.Step.TheVariants.{ReadPhase};
-ghost use Rattle.gc_table.specs.Seats.{Sits, Took, view_of};
-ghost use Rattle.gc_table.specs.Log.{Only, events};
+ghost use Rattle.gc_table.specs.Seats.{Across, did, Sits, state_of, Took, view_of};
+ghost use Rattle.gc_table.specs.Log.{Only};
 ghost use Rattle.gc_table.specs.Running.{Ran};
 ghost use Rattle.gc_cycle.specs.Cycles.{collects_exactly, lets_help, never_fills};
 ghost use Rattle.gc_cycle.specs.DrainRounds.{DrainsBefore, DrainsToSweep, HasDrained};
@@ -32,11 +32,11 @@ fn complete<R: Wait>(rt: &R, heap: &Heap, seat: &mut HeapSeat, before: u32) -> C
     requires seat { Sits heap.now seat.old }
     requires alone { IsAloneIn Drain (view_of seat.old) }
     ensures seat { Sits heap.now seat.new }
-    ensures completes { Completes (view_of seat.old) (view_of seat.new) }
-    ensures drains { DrainsToSweep (view_of seat.old) (view_of seat.new) }
+    ensures completes { Across Completes seat.old seat.new }
+    ensures drains { Across DrainsToSweep seat.old seat.new }
     ensures end { InEach (IsCycleEnd result) (view_of seat.new) }
-    ensures rescanned { result.rescanned ≡ min (before + rescanned_in (view_of seat.old) (events (view_of seat.old) (view_of seat.new))) most }
-    ensures freed { result.freed ≡ freed_in (view_of seat.old) (events (view_of seat.old) (view_of seat.new)) }
+    ensures rescanned { result.rescanned ≡ min (before + rescanned_in (view_of seat.old) (did seat.old seat.new)) most }
+    ensures freed { result.freed ≡ freed_in (view_of seat.old) (did seat.old seat.new) }
 {
     let together = before.saturating_add(drain_together(rt, heap, seat));
     let rescanned = together.saturating_add(drain_alone(rt, heap, seat));
@@ -51,7 +51,7 @@ fn finds_idle(heap: &Heap, seat: &mut HeapSeat) -> bool
     requires seat { Sits heap.now seat.old }
     requires alone { IsAloneIn Idle (view_of seat.old) ⊎ IsAloneIn Marking (view_of seat.old) }
     ensures seat { Sits heap.now seat.new }
-    ensures read { Took ReadPhase (view_of seat.old) (view_of seat.new) }
+    ensures read { Across (Took ReadPhase) seat.old seat.new }
     ensures idle { OnTrue result (IsAloneIn Idle (view_of seat.new)) }
     ensures marking { OnFalse result (IsAloneIn Marking (view_of seat.new)) }
 {
@@ -66,10 +66,10 @@ fn begin_exactly<R: Wait>(rt: &R, heap: &Heap, seat: &mut HeapSeat) -> u32
     requires seat { Sits heap.now seat.old }
     requires alone { IsAloneIn Idle (view_of seat.old) ⊎ IsAloneIn Marking (view_of seat.old) }
     ensures seat { Sits heap.now seat.new }
-    ensures begun { BeginsExactly (view_of seat.old) (view_of seat.new) }
-    ensures first { IsAloneIn Marking (view_of seat.old) → DrainsBefore (view_of seat.old) (view_of seat.new) }
-    ensures rescanned { result ≡ min (rescanned_in (view_of seat.old) (events (view_of seat.old) (view_of seat.new))) most }
-    ensures freed { freed_in (view_of seat.old) (events (view_of seat.old) (view_of seat.new)) ≡ 0 }
+    ensures begun { Across BeginsExactly seat.old seat.new }
+    ensures first { IsAloneIn Marking (view_of seat.old) → Across DrainsBefore seat.old seat.new }
+    ensures rescanned { result ≡ min (rescanned_in (view_of seat.old) (did seat.old seat.new)) most }
+    ensures freed { freed_in (view_of seat.old) (did seat.old seat.new) ≡ 0 }
 {
     let idle = finds_idle(heap, seat);
     begin_drain(heap, seat);
@@ -87,21 +87,26 @@ fn begin_exactly<R: Wait>(rt: &R, heap: &Heap, seat: &mut HeapSeat) -> u32
 pub fn finish_cycle<R: Wait>(rt: &R, heap: &Heap, seat: &mut HeapSeat) -> Counts
     requires seat { Sits heap.now seat.old }
     requires alone { IsAloneIn Marking (view_of seat.old) }
+    // what the seat is afterwards
     ensures seat { Sits heap.now seat.new }
-    ensures ran { Ran (view_of seat.old) (view_of seat.new) }
-    ensures only { Only finishes (view_of seat.old) (view_of seat.new) }
-    ensures keeps { KeepsSeat (view_of seat.old) (view_of seat.new) × KeepsSection (view_of seat.old) (view_of seat.new) }
-    ensures position { (view_of seat.new).own.position ≡ (view_of seat.old).own.position }
-    ensures spares { Only spares_part (view_of seat.old) (view_of seat.new) }
     ensures alone { IsAloneIn Idle (view_of seat.new) }
-    ensures drains { HasDrained (view_of seat.old) (view_of seat.new) }
-    ensures help { IsTrue (lets_help (events (view_of seat.old) (view_of seat.new))) }
-    ensures not_full { IsTrue (never_fills (events (view_of seat.old) (view_of seat.new))) }
-    ensures calm { IsTrue (never raises_flag (events (view_of seat.old) (view_of seat.new))) }
-    ensures going { IsFalse (saw_full (events (view_of seat.old) (view_of seat.new))) }
+    ensures keeps { Across KeepsSeat seat.old seat.new × Across KeepsSection seat.old seat.new }
+    ensures position { (view_of seat.new).own.position ≡ (view_of seat.old).own.position }
+    // what the call did
+    ensures ran { Across Ran seat.old seat.new }
+    ensures only { Across (Only finishes) seat.old seat.new }
+    ensures drains { Across HasDrained seat.old seat.new }
+    ensures help { IsTrue (lets_help (did seat.old seat.new)) }
+    // what it never did
+    ensures spares { Across (Only spares_part) seat.old seat.new }
+    ensures not_full { IsTrue (never_fills (did seat.old seat.new)) }
+    ensures calm { IsTrue (never raises_flag (did seat.old seat.new)) }
+    ensures going { IsFalse (saw_full (did seat.old seat.new)) }
+    // what the cells are
     ensures end { InEach (IsCycleEnd result) (view_of seat.new) }
-    ensures rescanned { result.rescanned ≡ min (rescanned_in (view_of seat.old) (events (view_of seat.old) (view_of seat.new))) most }
-    ensures freed { result.freed ≡ freed_in (view_of seat.old) (events (view_of seat.old) (view_of seat.new)) }
+    // the counts
+    ensures rescanned { result.rescanned ≡ min (rescanned_in (view_of seat.old) (did seat.old seat.new)) most }
+    ensures freed { result.freed ≡ freed_in (view_of seat.old) (did seat.old seat.new) }
 {
     begin_drain(heap, seat);
     complete(rt, heap, seat, 0)
@@ -114,24 +119,29 @@ pub fn finish_cycle<R: Wait>(rt: &R, heap: &Heap, seat: &mut HeapSeat) -> Counts
 pub fn precise<R: Wait>(rt: &R, heap: &Heap, seat: &mut HeapSeat) -> Counts
     requires seat { Sits heap.now seat.old }
     requires alone { IsAloneIn Idle (view_of seat.old) ⊎ IsAloneIn Marking (view_of seat.old) }
+    // what the seat is afterwards
     ensures seat { Sits heap.now seat.new }
-    ensures ran { Ran (view_of seat.old) (view_of seat.new) }
-    ensures only { Only finishes (view_of seat.old) (view_of seat.new) }
-    ensures keeps { KeepsSeat (view_of seat.old) (view_of seat.new) × KeepsSection (view_of seat.old) (view_of seat.new) }
+    ensures alone { IsAloneIn Idle (view_of seat.new) × IsTrue (state_of seat.new).exact }
+    ensures keeps { Across KeepsSeat seat.old seat.new × Across KeepsSection seat.old seat.new }
     ensures position { (view_of seat.new).own.position ≡ (view_of seat.old).own.position }
-    ensures spares { Only spares_part (view_of seat.old) (view_of seat.new) }
-    ensures alone { IsAloneIn Idle (view_of seat.new) × IsTrue (view_of seat.new).state.exact }
-    ensures drains { HasDrained (view_of seat.old) (view_of seat.new) }
-    ensures first { IsAloneIn Marking (view_of seat.old) → DrainsBefore (view_of seat.old) (view_of seat.new) }
-    ensures collects { IsTrue (collects_exactly heap.now.shape (begins (view_of seat.old)) (events (view_of seat.old) (view_of seat.new))) }
-    ensures help { IsTrue (lets_help (events (view_of seat.old) (view_of seat.new))) }
-    ensures not_full { IsTrue (never_fills (events (view_of seat.old) (view_of seat.new))) }
-    ensures calm { IsTrue (never raises_flag (events (view_of seat.old) (view_of seat.new))) }
-    ensures going { IsFalse (saw_full (events (view_of seat.old) (view_of seat.new))) }
+    // what the call did
+    ensures ran { Across Ran seat.old seat.new }
+    ensures only { Across (Only finishes) seat.old seat.new }
+    ensures drains { Across HasDrained seat.old seat.new }
+    ensures first { IsAloneIn Marking (view_of seat.old) → Across DrainsBefore seat.old seat.new }
+    ensures collects { IsTrue (collects_exactly heap.now.shape (begins (view_of seat.old)) (did seat.old seat.new)) }
+    ensures help { IsTrue (lets_help (did seat.old seat.new)) }
+    // what it never did
+    ensures spares { Across (Only spares_part) seat.old seat.new }
+    ensures not_full { IsTrue (never_fills (did seat.old seat.new)) }
+    ensures calm { IsTrue (never raises_flag (did seat.old seat.new)) }
+    ensures going { IsFalse (saw_full (did seat.old seat.new)) }
+    // what the cells are
     ensures end { InEach (IsCycleEnd result) (view_of seat.new) }
     ensures exact { InEach IsExact (view_of seat.new) }
-    ensures rescanned { result.rescanned ≡ min (rescanned_in (view_of seat.old) (events (view_of seat.old) (view_of seat.new))) most }
-    ensures freed { result.freed ≡ freed_in (view_of seat.old) (events (view_of seat.old) (view_of seat.new)) }
+    // the counts
+    ensures rescanned { result.rescanned ≡ min (rescanned_in (view_of seat.old) (did seat.old seat.new)) most }
+    ensures freed { result.freed ≡ freed_in (view_of seat.old) (did seat.old seat.new) }
 {
     let first = begin_exactly(rt, heap, seat);
     complete(rt, heap, seat, first)

@@ -4,8 +4,8 @@ ghost use Rattle.std.specs.Bool.{OnFalse, OnTrue};
 ghost use Rattle.mark_core.specs.Cards.{card_cells};
 ghost use Rattle.mark_core.specs.Layout.{card_count};
 ghost use Rattle.mark_core.specs.declared.kinds.Phase.TheVariants.{Drain, Sweep};
-ghost use Rattle.gc_table.specs.Seats.{Sits, view_of};
-ghost use Rattle.gc_table.specs.Log.{Only, events};
+ghost use Rattle.gc_table.specs.Seats.{Across, did, Sits, state_of, view_of};
+ghost use Rattle.gc_table.specs.Log.{Only};
 ghost use Rattle.gc_table.specs.Running.{Ran};
 ghost use Rattle.gc_cycle.specs.Cycles.{never_fills};
 ghost use Rattle.gc_cycle.specs.Draining.{CleansOn, EndsAs, HelpsOn, SweepsOn, end_as};
@@ -28,15 +28,15 @@ use tracer::Stopped;
 pub fn help(heap: &Heap, seat: &mut HeapSeat, quota: u32) -> Helped
     requires seat { Sits heap.now seat.old × Helps (view_of seat.old) }
     ensures seat { Sits heap.now seat.new × Helps (view_of seat.new) }
-    ensures ran { Ran (view_of seat.old) (view_of seat.new) }
-    ensures helps { HelpsAs quota result (view_of seat.old) (events (view_of seat.old) (view_of seat.new)) }
-    ensures not_full { IsTrue (never_fills (events (view_of seat.old) (view_of seat.new))) }
-    ensures only { Only stays_calm (view_of seat.old) (view_of seat.new) }
-    ensures numbers { Only leaves_numbers (view_of seat.old) (view_of seat.new) }
-    ensures inside { IsTrue (never leaves (events (view_of seat.old) (view_of seat.new))) }
-    ensures stays { IsTrue (never joins (events (view_of seat.old) (view_of seat.new))) }
-    ensures phase { (view_of seat.new).state.phase_seen ≡ (view_of seat.old).state.phase_seen }
-    ensures keeps { KeepsSeat (view_of seat.old) (view_of seat.new) }
+    ensures ran { Across Ran seat.old seat.new }
+    ensures helps { HelpsAs quota result (view_of seat.old) (did seat.old seat.new) }
+    ensures not_full { IsTrue (never_fills (did seat.old seat.new)) }
+    ensures only { Across (Only stays_calm) seat.old seat.new }
+    ensures numbers { Across (Only leaves_numbers) seat.old seat.new }
+    ensures inside { IsTrue (never leaves (did seat.old seat.new)) }
+    ensures stays { IsTrue (never joins (did seat.old seat.new)) }
+    ensures phase { (state_of seat.new).phase_seen ≡ (state_of seat.old).phase_seen }
+    ensures keeps { Across KeepsSeat seat.old seat.new }
     ensures own { (view_of seat.new).own ≡ (view_of seat.old).own }
 {
     if sees_sweep(seat) {
@@ -47,8 +47,8 @@ pub fn help(heap: &Heap, seat: &mut HeapSeat, quota: u32) -> Helped
 
 /// Whether the seat has read the phase last as Sweep.
 fn sees_sweep(seat: &HeapSeat) -> bool
-    ensures sweep { OnTrue result ((view_of seat.now).state.phase_seen ≡ Some Sweep) }
-    ensures other { OnFalse result ((view_of seat.now).state.phase_seen ≢ Some Sweep) }
+    ensures sweep { OnTrue result ((state_of seat.now).phase_seen ≡ Some Sweep) }
+    ensures other { OnFalse result ((state_of seat.now).phase_seen ≢ Some Sweep) }
 {
     match seat.state().phase_seen {
         Some(Phase::Sweep) => true,
@@ -59,9 +59,9 @@ fn sees_sweep(seat: &HeapSeat) -> bool
 /// Sweeps until no block is left.
 fn help_sweep(heap: &Heap, seat: &mut HeapSeat) -> Helped
     requires seat { Sits heap.now seat.old × Helps (view_of seat.old) }
-    requires sweep { (view_of seat.old).state.phase_seen ≡ Some Sweep }
+    requires sweep { (state_of seat.old).phase_seen ≡ Some Sweep }
     ensures seat { Sits heap.now seat.new }
-    ensures swept { SweepsOn result (view_of seat.old) (view_of seat.new) }
+    ensures swept { Across (SweepsOn result) seat.old seat.new }
 {
     let mut swept = 0;
     while let Some(_) = sweep_next(heap, seat) {
@@ -80,10 +80,10 @@ fn help_sweep(heap: &Heap, seat: &mut HeapSeat) -> Helped
 /// It looks for packets again after each card, since cleaning fills packets.
 fn help_drain(heap: &Heap, seat: &mut HeapSeat, quota: u32) -> Helped
     requires seat { Sits heap.now seat.old × Helps (view_of seat.old) }
-    requires drain { (view_of seat.old).state.phase_seen ≡ Some Drain }
+    requires drain { (state_of seat.old).phase_seen ≡ Some Drain }
     ensures seat { Sits heap.now seat.new }
-    ensures helps { HelpsOn quota result (view_of seat.old) (view_of seat.new) }
-    ensures ends { EndsAs result (view_of seat.old) (view_of seat.new) }
+    ensures helps { Across (HelpsOn quota result) seat.old seat.new }
+    ensures ends { Across (EndsAs result) seat.old seat.new }
 {
     let first = trace(heap, seat, quota);
     let mut helped = Helped {
@@ -104,12 +104,12 @@ fn help_drain(heap: &Heap, seat: &mut HeapSeat, quota: u32) -> Helped
 /// Cleans a card and traces on, after what was done before.
 fn clean_on(heap: &Heap, seat: &mut HeapSeat, quota: u32, card: u32, before: Helped) -> Helped
     requires seat { Sits heap.now seat.old × Helps (view_of seat.old) }
-    requires drain { (view_of seat.old).state.phase_seen ≡ Some Drain }
+    requires drain { (state_of seat.old).phase_seen ≡ Some Drain }
     requires card { card < card_count heap.now.shape }
     requires quota { (before.traced ≤ quota) × (before.traced ≢ quota) }
     requires room { before.rescanned + card_cells < 4294967296 }
     ensures seat { Sits heap.now seat.new }
-    ensures cleans { CleansOn quota card before result (view_of seat.old) (view_of seat.new) }
+    ensures cleans { Across (CleansOn quota card before result) seat.old seat.new }
 {
     let Some(rescanned) = clean(heap, seat, card) else {
         return Helped {

@@ -5,14 +5,15 @@ ghost use Rattle.mark_core.specs.Layout.{block_count, card_count};
 ghost use Rattle.mark_core.specs.Places.{the_next_block, the_phase};
 ghost use Rattle.mark_core.specs.Seats.{cleaning_left, is_the, saw};
 ghost use Rattle.mark_core.specs.declared.kinds.Phase.TheVariants.{Clear, Drain, Sweep};
-ghost use Rattle.gc_table.specs.Log.{Only, events};
+ghost use Rattle.gc_table.specs.Log.{Only};
 ghost use Rattle.gc_table.specs.Notes.{look};
 ghost use Rattle.gc_table.specs.Running.{Known, Ran};
-ghost use Rattle.gc_table.specs.Seats.{Sits, view_of};
+ghost use Rattle.gc_table.specs.Seats.{Across, did, Sits, state_of, view_of};
 ghost use Rattle.gc_table.specs.declared.view.Entry.{Entry};
 ghost use Rattle.packet_pools.specs.Counts.{count_of};
 ghost use Rattle.packet_pools.specs.Seeking.{some_event};
 ghost use Rattle.packet_pools.specs.Tracing.{traces};
+ghost use Rattle.card_clean.specs.DirtyCards.{CleansDirty};
 ghost use Rattle.card_clean.specs.Drained.{FindsNone, FindsWork};
 ghost use Rattle.card_clean.specs.Passing.{card_floor};
 ghost use Rattle.gc_cycle.specs.Drained.{IsDrained, IsRooted};
@@ -23,6 +24,7 @@ ghost use Rattle.gc_cycle.specs.Lower.{DrawsCard, EndsTrace, HasTraced, ScansRoo
 ghost use Rattle.gc_cycle.specs.Moments.{at_some_moment, begins, finds_no_room};
 ghost use Rattle.gc_cycle.specs.Sorts.{clears, clears_card, draws, draws_or_clears, gets_block, pops, reads_pace, reads_root, sees_last_block};
 ghost use Rattle.gc_cycle.specs.Standing.{is_at_rest};
+ghost use Rattle.gc_cycle.specs.Stepping.{LacksPacket};
 
 pub(crate) use alloc_cache::{claim, retire};
 use gc_table::{Heap, HeapSeat};
@@ -35,15 +37,15 @@ use tracer::{RootScan, Traced};
 /// Traces at most so many objects.
 pub(crate) fn trace(heap: &Heap, seat: &mut HeapSeat, quota: u32) -> Traced
     requires seat { Sits heap.now seat.old × IsTrue (traces (view_of seat.old)) }
-    requires rest { IsTrue (is_at_rest heap.now.shape (view_of seat.old).state) }
+    requires rest { IsTrue (is_at_rest heap.now.shape (state_of seat.old)) }
     ensures seat { Sits heap.now seat.new }
-    ensures traced { HasTraced (view_of seat.old) (view_of seat.new) }
-    ensures ends { EndsTrace quota result (view_of seat.old) (view_of seat.new) }
+    ensures traced { Across HasTraced seat.old seat.new }
+    ensures ends { Across (EndsTrace quota result) seat.old seat.new }
     ensures most { result.done ≤ quota }
-    ensures rescanned { rescanned_in (view_of seat.old) (events (view_of seat.old) (view_of seat.new)) ≡ 0 }
-    ensures uncleaned { IsTrue (never draws_or_clears (events (view_of seat.old) (view_of seat.new))) }
-    ensures unrooted { IsTrue (never reads_root (events (view_of seat.old) (view_of seat.new))) }
-    ensures unread { IsTrue (never reads_pace (events (view_of seat.old) (view_of seat.new))) }
+    ensures rescanned { rescanned_in (view_of seat.old) (did seat.old seat.new) ≡ 0 }
+    ensures uncleaned { IsTrue (never draws_or_clears (did seat.old seat.new)) }
+    ensures unrooted { IsTrue (never reads_root (did seat.old seat.new)) }
+    ensures unread { IsTrue (never reads_pace (did seat.old seat.new)) }
 {
     tracer::trace(heap, seat, quota)
 }
@@ -51,14 +53,14 @@ pub(crate) fn trace(heap: &Heap, seat: &mut HeapSeat, quota: u32) -> Traced
 /// Takes the packets that were put off back into their pools.
 pub(crate) fn recycle_deferred(heap: &Heap, seat: &mut HeapSeat) -> u32
     requires seat { Sits heap.now seat.old × IsTrue (traces (view_of seat.old)) }
-    requires rest { IsTrue (is_at_rest heap.now.shape (view_of seat.old).state) }
+    requires rest { IsTrue (is_at_rest heap.now.shape (state_of seat.old)) }
     ensures seat { Sits heap.now seat.new }
-    ensures traced { HasTraced (view_of seat.old) (view_of seat.new) }
-    ensures rescanned { rescanned_in (view_of seat.old) (events (view_of seat.old) (view_of seat.new)) ≡ 0 }
-    ensures uncleaned { IsTrue (never draws_or_clears (events (view_of seat.old) (view_of seat.new))) }
-    ensures unpopped { IsTrue (never pops (events (view_of seat.old) (view_of seat.new))) }
-    ensures unrooted { IsTrue (never reads_root (events (view_of seat.old) (view_of seat.new))) }
-    ensures unread { IsTrue (never reads_pace (events (view_of seat.old) (view_of seat.new))) }
+    ensures traced { Across HasTraced seat.old seat.new }
+    ensures rescanned { rescanned_in (view_of seat.old) (did seat.old seat.new) ≡ 0 }
+    ensures uncleaned { IsTrue (never draws_or_clears (did seat.old seat.new)) }
+    ensures unpopped { IsTrue (never pops (did seat.old seat.new)) }
+    ensures unrooted { IsTrue (never reads_root (did seat.old seat.new)) }
+    ensures unread { IsTrue (never reads_pace (did seat.old seat.new)) }
 {
     tracer::recycle_deferred(heap, seat)
 }
@@ -66,15 +68,15 @@ pub(crate) fn recycle_deferred(heap: &Heap, seat: &mut HeapSeat) -> u32
 /// Scans the roots of a section.
 pub(crate) fn scan_roots(heap: &Heap, seat: &mut HeapSeat, section: u32) -> RootScan
     requires seat { Sits heap.now seat.old × IsTrue (traces (view_of seat.old)) }
-    requires rest { IsTrue (is_at_rest heap.now.shape (view_of seat.old).state) }
+    requires rest { IsTrue (is_at_rest heap.now.shape (state_of seat.old)) }
     requires section { section < heap.now.shape.sections }
     ensures seat { Sits heap.now seat.new }
-    ensures traced { HasTraced (view_of seat.old) (view_of seat.new) }
-    ensures rescanned { rescanned_in (view_of seat.old) (events (view_of seat.old) (view_of seat.new)) ≡ 0 }
-    ensures uncleaned { IsTrue (never draws_or_clears (events (view_of seat.old) (view_of seat.new))) }
-    ensures unpopped { IsTrue (never pops (events (view_of seat.old) (view_of seat.new))) }
-    ensures unread { IsTrue (never reads_pace (events (view_of seat.old) (view_of seat.new))) }
-    ensures scans { ScansRoots section result (view_of seat.old) (view_of seat.new) }
+    ensures traced { Across HasTraced seat.old seat.new }
+    ensures rescanned { rescanned_in (view_of seat.old) (did seat.old seat.new) ≡ 0 }
+    ensures uncleaned { IsTrue (never draws_or_clears (did seat.old seat.new)) }
+    ensures unpopped { IsTrue (never pops (did seat.old seat.new)) }
+    ensures unread { IsTrue (never reads_pace (did seat.old seat.new)) }
+    ensures scans { Across (ScansRoots section result) seat.old seat.new }
 {
     tracer::scan_roots(heap, seat, section)
 }
@@ -82,10 +84,11 @@ pub(crate) fn scan_roots(heap: &Heap, seat: &mut HeapSeat, section: u32) -> Root
 /// Cleans every dirty card, for a seat that is alone: how many objects were scanned again.
 pub(crate) fn clean_dirty(heap: &Heap, seat: &mut HeapSeat) -> u32
     requires seat { Sits heap.now seat.old × IsTrue (traces (view_of seat.old)) }
-    requires rest { IsTrue (is_at_rest heap.now.shape (view_of seat.old).state) }
+    requires rest { IsTrue (is_at_rest heap.now.shape (state_of seat.old)) }
     ensures seat { Sits heap.now seat.new }
-    ensures traced { HasTraced (view_of seat.old) (view_of seat.new) }
-    ensures rescanned { rescanned_in (view_of seat.old) (events (view_of seat.old) (view_of seat.new)) ≡ result }
+    ensures traced { Across HasTraced seat.old seat.new }
+    ensures rescanned { rescanned_in (view_of seat.old) (did seat.old seat.new) ≡ result }
+    ensures cleans { CleansDirty heap.now.shape result (did seat.old seat.new) }
 {
     card_clean::clean_dirty(heap, seat)
 }
@@ -94,25 +97,26 @@ pub(crate) fn clean_dirty(heap: &Heap, seat: &mut HeapSeat) -> u32
 pub(crate) fn is_drained(heap: &Heap, seat: &mut HeapSeat) -> bool
     requires seat { Sits heap.now seat.old × IsRooted (view_of seat.old) }
     ensures seat { Sits heap.now seat.new × IsRooted (view_of seat.new) }
-    ensures traced { HasTraced (view_of seat.old) (view_of seat.new) }
-    ensures rescanned { rescanned_in (view_of seat.old) (events (view_of seat.old) (view_of seat.new)) ≡ 0 }
+    ensures traced { Across HasTraced seat.old seat.new }
+    ensures rescanned { rescanned_in (view_of seat.old) (did seat.old seat.new) ≡ 0 }
     ensures drained { IsTrue result → IsDrained (view_of seat.new) }
-    ensures over { IsTrue result → FindsNone heap.now.shape (events (view_of seat.old) (view_of seat.new)) }
-    ensures undrained { IsFalse result → FindsWork heap.now.shape (events (view_of seat.old) (view_of seat.new)) }
+    ensures over { IsTrue result → FindsNone heap.now.shape (did seat.old seat.new) }
+    ensures undrained { IsFalse result → FindsWork heap.now.shape (did seat.old seat.new) }
 {
     card_clean::is_drained(heap, seat)
 }
 
 /// Marks what the roots of all sections refer to, where a packet can be had for it. Where none can, what was put off is brought back, which is all
 /// that can keep packets from a seat that is alone.
-fn sees_to_roots(heap: &Heap, seat: &mut HeapSeat) -> bool
+pub(crate) fn sees_to_roots(heap: &Heap, seat: &mut HeapSeat) -> bool
     requires seat { Sits heap.now seat.old }
     requires alone { IsAloneIn Drain (view_of seat.old) × (look the_next_block (view_of seat.old).known ≡ Some 0) }
     ensures seat { Sits heap.now seat.new }
-    ensures part { IsPart Drain (view_of seat.old) (view_of seat.new) }
+    ensures part { Across (IsPart Drain) seat.old seat.new }
     ensures next { look the_next_block (view_of seat.new).known ≡ Some 0 }
-    ensures rescanned { rescanned_in (view_of seat.old) (events (view_of seat.old) (view_of seat.new)) ≡ 0 }
+    ensures rescanned { rescanned_in (view_of seat.old) (did seat.old seat.new) ≡ 0 }
     ensures rooted { IsTrue result → IsRooted (view_of seat.new) }
+    ensures lacks { IsFalse result → Across LacksPacket seat.old seat.new }
 {
     if card_clean::see_to_roots(heap, seat) {
         return true;
@@ -128,8 +132,8 @@ pub(crate) fn see_to_roots<R: Wait>(rt: &R, heap: &Heap, seat: &mut HeapSeat)
     requires seat { Sits heap.now seat.old }
     requires alone { IsAloneIn Drain (view_of seat.old) × (look the_next_block (view_of seat.old).known ≡ Some 0) }
     ensures seat { Sits heap.now seat.new × IsRooted (view_of seat.new) }
-    ensures part { IsPart Drain (view_of seat.old) (view_of seat.new) }
-    ensures rescanned { rescanned_in (view_of seat.old) (events (view_of seat.old) (view_of seat.new)) ≡ 0 }
+    ensures part { Across (IsPart Drain) seat.old seat.new }
+    ensures rescanned { rescanned_in (view_of seat.old) (did seat.old seat.new) ≡ 0 }
 {
     for _ in rt.forever() {
         if sees_to_roots(heap, seat) {
@@ -142,21 +146,21 @@ pub(crate) fn see_to_roots<R: Wait>(rt: &R, heap: &Heap, seat: &mut HeapSeat)
 /// The next card of the pass, or none where the counter was at its end.
 pub(crate) fn next_card(heap: &Heap, seat: &mut HeapSeat) -> Option<u32>
     requires seat { Sits heap.now seat.old × IsTrue (traces (view_of seat.old)) }
-    requires rest { IsTrue (is_at_rest heap.now.shape (view_of seat.old).state) }
+    requires rest { IsTrue (is_at_rest heap.now.shape (state_of seat.old)) }
     ensures seat { Sits heap.now seat.new }
-    ensures ran { Ran (view_of seat.old) (view_of seat.new) }
-    ensures only { Only traces_cells (view_of seat.old) (view_of seat.new) }
-    ensures traced { HasTraced (view_of seat.old) (view_of seat.new) }
-    ensures state { (view_of seat.new).state ≡ record (view_of seat.old).state { below_card = false } }
-    ensures draws { DrawsCard result (view_of seat.old) (view_of seat.new) }
-    ensures rises { IfSome result (λ card. IsTrue (view_of seat.old).state.admitted → (card_floor (view_of seat.old) ≤ card) × (card_floor (view_of seat.new) ≡ card + 1)) }
-    ensures met { IfSome result (λ card. (later : List Entry) → IsTrue (some_event (clears_card card) later) → IsTrue (meets_cards (card_count heap.now.shape) later) → IsTrue (meets_cards (card_count heap.now.shape) (events (view_of seat.old) (view_of seat.new) ++ later))) }
-    ensures over { IfNone result (IsTrue (meets_cards (card_count heap.now.shape) (events (view_of seat.old) (view_of seat.new)))) }
-    ensures rescanned { rescanned_in (view_of seat.old) (events (view_of seat.old) (view_of seat.new)) ≡ 0 }
-    ensures uncleared { IsTrue (never clears (events (view_of seat.old) (view_of seat.new))) }
-    ensures unpopped { IsTrue (never pops (events (view_of seat.old) (view_of seat.new))) }
-    ensures unrooted { IsTrue (never reads_root (events (view_of seat.old) (view_of seat.new))) }
-    ensures unread { IsTrue (never reads_pace (events (view_of seat.old) (view_of seat.new))) }
+    ensures ran { Across Ran seat.old seat.new }
+    ensures only { Across (Only traces_cells) seat.old seat.new }
+    ensures traced { Across HasTraced seat.old seat.new }
+    ensures state { state_of seat.new ≡ record (state_of seat.old) { below_card = false } }
+    ensures draws { Across (DrawsCard result) seat.old seat.new }
+    ensures rises { IfSome result (λ card. IsTrue (state_of seat.old).admitted → (card_floor (view_of seat.old) ≤ card) × (card_floor (view_of seat.new) ≡ card + 1)) }
+    ensures met { IfSome result (λ card. (later : List Entry) → IsTrue (some_event (clears_card card) later) → IsTrue (meets_cards (card_count heap.now.shape) later) → IsTrue (meets_cards (card_count heap.now.shape) (did seat.old seat.new ++ later))) }
+    ensures over { IfNone result (IsTrue (meets_cards (card_count heap.now.shape) (did seat.old seat.new))) }
+    ensures rescanned { rescanned_in (view_of seat.old) (did seat.old seat.new) ≡ 0 }
+    ensures uncleared { IsTrue (never clears (did seat.old seat.new)) }
+    ensures unpopped { IsTrue (never pops (did seat.old seat.new)) }
+    ensures unrooted { IsTrue (never reads_root (did seat.old seat.new)) }
+    ensures unread { IsTrue (never reads_pace (did seat.old seat.new)) }
 {
     card_clean::next_card(heap, seat)
 }
@@ -164,18 +168,18 @@ pub(crate) fn next_card(heap: &Heap, seat: &mut HeapSeat) -> Option<u32>
 /// Cleans a card with a packet of its own: how many objects were scanned again, or none where no packet could be had.
 pub(crate) fn clean(heap: &Heap, seat: &mut HeapSeat, card: u32) -> Option<u32>
     requires seat { Sits heap.now seat.old × IsTrue (traces (view_of seat.old)) }
-    requires rest { IsTrue (is_at_rest heap.now.shape (view_of seat.old).state) }
+    requires rest { IsTrue (is_at_rest heap.now.shape (state_of seat.old)) }
     requires card { card < card_count heap.now.shape }
     ensures seat { Sits heap.now seat.new }
-    ensures traced { HasTraced (view_of seat.old) (view_of seat.new) }
-    ensures some { IfSome result (λ n. (rescanned_in (view_of seat.old) (events (view_of seat.old) (view_of seat.new)) ≡ n) × IsTrue (some_event (clears_card card) (events (view_of seat.old) (view_of seat.new)))) }
+    ensures traced { Across HasTraced seat.old seat.new }
+    ensures some { IfSome result (λ n. (rescanned_in (view_of seat.old) (did seat.old seat.new) ≡ n) × IsTrue (some_event (clears_card card) (did seat.old seat.new))) }
     ensures most { IfSome result (λ n. n ≤ card_cells) }
-    ensures left { IfNone result (rescanned_in (view_of seat.old) (events (view_of seat.old) (view_of seat.new)) ≡ 0) }
-    ensures none { IfNone result (IsTrue (at_some_moment heap.now.shape (finds_no_room heap.now.shape) (begins (view_of seat.old)) (events (view_of seat.old) (view_of seat.new)))) }
-    ensures unpopped { IsTrue (never pops (events (view_of seat.old) (view_of seat.new))) }
-    ensures unrooted { IsTrue (never reads_root (events (view_of seat.old) (view_of seat.new))) }
-    ensures undrawn { IsTrue (never draws (events (view_of seat.old) (view_of seat.new))) }
-    ensures unread { IsTrue (never reads_pace (events (view_of seat.old) (view_of seat.new))) }
+    ensures left { IfNone result (rescanned_in (view_of seat.old) (did seat.old seat.new) ≡ 0) }
+    ensures none { IfNone result (IsTrue (at_some_moment heap.now.shape (finds_no_room heap.now.shape) (begins (view_of seat.old)) (did seat.old seat.new))) }
+    ensures unpopped { IsTrue (never pops (did seat.old seat.new)) }
+    ensures unrooted { IsTrue (never reads_root (did seat.old seat.new)) }
+    ensures undrawn { IsTrue (never draws (did seat.old seat.new)) }
+    ensures unread { IsTrue (never reads_pace (did seat.old seat.new)) }
 {
     match card_clean::clean_one(heap, seat, card) {
         Some(cleaned) => Some(cleaned.rescanned),
@@ -188,9 +192,9 @@ pub(crate) fn clear_rest(heap: &Heap, seat: &mut HeapSeat)
     requires seat { Sits heap.now seat.old }
     requires alone { IsAloneIn Clear (view_of seat.old) }
     ensures seat { Sits heap.now seat.new }
-    ensures part { IsPart Clear (view_of seat.old) (view_of seat.new) }
+    ensures part { Across (IsPart Clear) seat.old seat.new }
     ensures end { block_count heap.now.shape ≤ block_floor (view_of seat.new) }
-    ensures rescanned { rescanned_in (view_of seat.old) (events (view_of seat.old) (view_of seat.new)) ≡ 0 }
+    ensures rescanned { rescanned_in (view_of seat.old) (did seat.old seat.new) ≡ 0 }
 {
     sweeper::clear_rest(heap, seat);
 }
@@ -198,14 +202,14 @@ pub(crate) fn clear_rest(heap: &Heap, seat: &mut HeapSeat)
 /// Sweeps every block that is left: how many cells were freed.
 pub(crate) fn sweep_rest(heap: &Heap, seat: &mut HeapSeat) -> u32
     requires seat { Sits heap.now seat.old }
-    requires sweeps { IsTrue (view_of seat.old).state.knows × Known (view_of seat.old) the_phase 3 × ((view_of seat.old).state.block ≡ None) }
+    requires sweeps { IsTrue (state_of seat.old).knows × Known (view_of seat.old) the_phase 3 × ((state_of seat.old).block ≡ None) }
     ensures seat { Sits heap.now seat.new }
-    ensures ran { Ran (view_of seat.old) (view_of seat.new) }
-    ensures only { Only sweeps_blocks (view_of seat.old) (view_of seat.new) }
-    ensures state { (view_of seat.new).state ≡ record (view_of seat.old).state { below_block = (view_of seat.new).state.below_block; cleaning = (view_of seat.new).state.cleaning } }
-    ensures left { IsFalse (cleaning_left (view_of seat.old).state.cleaning) → IsFalse (cleaning_left (view_of seat.new).state.cleaning) }
+    ensures ran { Across Ran seat.old seat.new }
+    ensures only { Across (Only sweeps_blocks) seat.old seat.new }
+    ensures state { state_of seat.new ≡ record (state_of seat.old) { below_block = (state_of seat.new).below_block; cleaning = (state_of seat.new).cleaning } }
+    ensures left { IsFalse (cleaning_left (state_of seat.old).cleaning) → IsFalse (cleaning_left (state_of seat.new).cleaning) }
     ensures end { block_count heap.now.shape ≤ block_floor (view_of seat.new) }
-    ensures freed { freed_in (view_of seat.old) (events (view_of seat.old) (view_of seat.new)) ≡ result }
+    ensures freed { freed_in (view_of seat.old) (did seat.old seat.new) ≡ result }
 {
     sweeper::sweep_rest(heap, seat)
 }
@@ -213,15 +217,16 @@ pub(crate) fn sweep_rest(heap: &Heap, seat: &mut HeapSeat) -> u32
 /// Sweeps the next block: how many of its cells were freed. None where no block is left.
 pub(crate) fn sweep_next(heap: &Heap, seat: &mut HeapSeat) -> Option<u32>
     requires seat { Sits heap.now seat.old }
-    requires sweeps { IsTrue ((view_of seat.old).state.knows && is_the (look the_phase (view_of seat.old).known) 3) ⊎ IsTrue ((view_of seat.old).state.admitted && saw (view_of seat.old).state.phase_seen Sweep) }
-    requires block { (view_of seat.old).state.block ≡ None }
+    requires sweeps { IsTrue ((state_of seat.old).knows && is_the (look the_phase (view_of seat.old).known) 3) ⊎ IsTrue ((state_of seat.old).admitted && saw (state_of seat.old).phase_seen Sweep) }
+    requires block { (state_of seat.old).block ≡ None }
     ensures seat { Sits heap.now seat.new }
-    ensures ran { Ran (view_of seat.old) (view_of seat.new) }
-    ensures only { Only sweeps_next (view_of seat.old) (view_of seat.new) }
-    ensures state { (view_of seat.new).state ≡ record (view_of seat.old).state { below_block = (view_of seat.new).state.below_block; cleaning = (view_of seat.new).state.cleaning } }
-    ensures left { IsFalse (cleaning_left (view_of seat.old).state.cleaning) → IsFalse (cleaning_left (view_of seat.new).state.cleaning) }
-    ensures some { IfSome result (λ n. (freed_in (view_of seat.old) (events (view_of seat.old) (view_of seat.new)) ≡ n) × (block_floor (view_of seat.old) < block_floor (view_of seat.new)) × (block_floor (view_of seat.old) < block_count heap.now.shape) × (count_of (gets_block (block_count heap.now.shape)) (events (view_of seat.old) (view_of seat.new)) ≡ 1)) }
-    ensures none { IfNone result (IsTrue (some_event (sees_last_block (block_count heap.now.shape)) (events (view_of seat.old) (view_of seat.new))) × (block_count heap.now.shape ≤ block_floor (view_of seat.new)) × (count_of (gets_block (block_count heap.now.shape)) (events (view_of seat.old) (view_of seat.new)) ≡ 0)) }
+    ensures ran { Across Ran seat.old seat.new }
+    ensures only { Across (Only sweeps_next) seat.old seat.new }
+    ensures state { state_of seat.new ≡ record (state_of seat.old) { below_block = (state_of seat.new).below_block; cleaning = (state_of seat.new).cleaning } }
+    ensures left { IsFalse (cleaning_left (state_of seat.old).cleaning) → IsFalse (cleaning_left (state_of seat.new).cleaning) }
+    ensures some { IfSome result (λ n. (freed_in (view_of seat.old) (did seat.old seat.new) ≡ n) × (block_floor (view_of seat.old) < block_floor (view_of seat.new)) × (block_floor (view_of seat.old) < block_count heap.now.shape) × (count_of (gets_block (block_count heap.now.shape)) (did seat.old seat.new) ≡ 1)) }
+    ensures none { IfNone result (IsTrue (some_event (sees_last_block (block_count heap.now.shape)) (did seat.old seat.new)) × (block_count heap.now.shape ≤ block_floor (view_of seat.new)) × (count_of (gets_block (block_count heap.now.shape)) (did seat.old seat.new) ≡ 0)) }
+    ensures unfreed { IfNone result (freed_in (view_of seat.old) (did seat.old seat.new) ≡ 0) }
 {
     match sweeper::sweep_next(heap, seat) {
         Some(swept) => Some(swept.freed),

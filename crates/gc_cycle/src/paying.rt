@@ -3,12 +3,13 @@
 //! It marks the roots of its own section and traces a quota of objects, which is larger the fewer cells are free. So marking keeps pace with allocation: Barabash
 //! and others, *A parallel, incremental, mostly concurrent garbage collector for servers*, 2005. Where it finds no packet to trace from it cleans cards, which
 //! fills packets again, and at last it brings back what was put off.
-ghost use Rattle.std.specs.Prelude.{◌≡◌, ◌≤◌, Some, IfSome, IfNone};
+ghost use Rattle.std.specs.Prelude.{◌≡◌, ◌<◌, ◌≤◌, Some, IfSome, IfNone};
+ghost use Rattle.mark_core.specs.Layout.{card_count};
 ghost use Rattle.mark_core.specs.declared.kinds.Phase.TheVariants.{Marking};
-ghost use Rattle.gc_table.specs.Log.{Only, events};
+ghost use Rattle.gc_table.specs.Log.{Only};
 ghost use Rattle.gc_table.specs.PlainSteps.{own_section};
 ghost use Rattle.gc_table.specs.Running.{Ran};
-ghost use Rattle.gc_table.specs.Seats.{Sits, view_of};
+ghost use Rattle.gc_table.specs.Seats.{Across, did, Sits, state_of, view_of};
 ghost use Rattle.gc_cycle.specs.Payment.{HasPaid, MarksAndTraces, TracesNone, TracesOn, reads_number, stop_of};
 ghost use Rattle.gc_cycle.specs.Pacing.{quota_seen};
 ghost use Rattle.gc_cycle.specs.Standing.{Mutates};
@@ -28,10 +29,10 @@ use tracer::{RootScan, Stopped};
 /// nothing was left in hand, and NoPacket only where none with room was found. Where no packet could be taken at all, neither roots nor objects were marked.
 pub(crate) fn pay(heap: &Heap, seat: &mut HeapSeat, cells: u32) -> Paid
     requires seat { Sits heap.now seat.old × Mutates (view_of seat.old) }
-    requires marking { (view_of seat.old).state.phase_seen ≡ Some Marking }
+    requires marking { (state_of seat.old).phase_seen ≡ Some Marking }
     requires cells { cells ≤ 64 }
     ensures seat { Sits heap.now seat.new }
-    ensures paid { HasPaid cells result (view_of seat.old) (view_of seat.new) }
+    ensures paid { Across (HasPaid cells result) seat.old seat.new }
     ensures own { (view_of seat.new).own ≡ (view_of seat.old).own }
 {
     let quota = quota_now(heap, seat, cells);
@@ -45,10 +46,10 @@ fn quota_now(heap: &Heap, seat: &mut HeapSeat, cells: u32) -> u32
     requires seat { Sits heap.now seat.old }
     requires cells { cells ≤ 64 }
     ensures seat { Sits heap.now seat.new }
-    ensures ran { Ran (view_of seat.old) (view_of seat.new) }
-    ensures only { Only reads_number (view_of seat.old) (view_of seat.new) }
-    ensures state { (view_of seat.new).state ≡ (view_of seat.old).state }
-    ensures quota { quota_seen cells (events (view_of seat.old) (view_of seat.new)) ≡ Some result }
+    ensures ran { Across Ran seat.old seat.new }
+    ensures only { Across (Only reads_number) seat.old seat.new }
+    ensures state { state_of seat.new ≡ state_of seat.old }
+    ensures quota { quota_seen cells (did seat.old seat.new) ≡ Some result }
 {
     let last = read_statistic(heap, seat, LAST);
     let rescanned = read_statistic(heap, seat, RESCANNED);
@@ -60,9 +61,9 @@ fn quota_now(heap: &Heap, seat: &mut HeapSeat, cells: u32) -> u32
 /// Marks the roots of the seat's section, and traces a quota. Where no packet can be taken, nothing is done.
 fn mark_and_trace(heap: &Heap, seat: &mut HeapSeat, quota: u32) -> Paid
     requires seat { Sits heap.now seat.old × Mutates (view_of seat.old) }
-    requires marking { (view_of seat.old).state.phase_seen ≡ Some Marking }
+    requires marking { (state_of seat.old).phase_seen ≡ Some Marking }
     ensures seat { Sits heap.now seat.new }
-    ensures pays { MarksAndTraces (own_section (view_of seat.old).state) quota result (view_of seat.old) (view_of seat.new) }
+    ensures pays { Across (MarksAndTraces (own_section (state_of seat.old)) quota result) seat.old seat.new }
 {
     let section = seat.state().section.unwrap_or(0);
     match scan_roots(heap, seat, section) {
@@ -89,9 +90,9 @@ fn stopped_at(quota: u32) -> Stopped
 /// Traces a quota. Where there is no packet to trace from in the end, what was put off is brought back.
 fn pay_quota(heap: &Heap, seat: &mut HeapSeat, quota: u32) -> Paid
     requires seat { Sits heap.now seat.old × Mutates (view_of seat.old) }
-    requires marking { (view_of seat.old).state.phase_seen ≡ Some Marking }
+    requires marking { (state_of seat.old).phase_seen ≡ Some Marking }
     ensures seat { Sits heap.now seat.new }
-    ensures traces { TracesOn quota 0 result (view_of seat.old) (view_of seat.new) }
+    ensures traces { Across (TracesOn quota 0 result) seat.old seat.new }
 {
     let paid = trace_and_clean(heap, seat, quota);
     if let Stopped::NoWork = paid.stopped {
@@ -103,9 +104,9 @@ fn pay_quota(heap: &Heap, seat: &mut HeapSeat, quota: u32) -> Paid
 /// Traces a quota. Where there is no packet to trace from, cards are cleaned until there is one: each at most once, since the counter of cards may be reset meanwhile.
 fn trace_and_clean(heap: &Heap, seat: &mut HeapSeat, quota: u32) -> Paid
     requires seat { Sits heap.now seat.old × Mutates (view_of seat.old) }
-    requires marking { (view_of seat.old).state.phase_seen ≡ Some Marking }
+    requires marking { (state_of seat.old).phase_seen ≡ Some Marking }
     ensures seat { Sits heap.now seat.new }
-    ensures traces { TracesOn quota 0 result (view_of seat.old) (view_of seat.new) }
+    ensures traces { Across (TracesOn quota 0 result) seat.old seat.new }
 {
     let first = trace(heap, seat, quota);
     let mut paid = Paid {
@@ -125,16 +126,45 @@ fn trace_and_clean(heap: &Heap, seat: &mut HeapSeat, quota: u32) -> Paid
     paid
 }
 
-/// Cleans the next card and traces on, after what was paid before. None where no card is left, or no packet to clean it with.
+/// Whether a card is dirty: one look, and no packet.
+fn is_dirty(heap: &Heap, seat: &mut HeapSeat, card: u32) -> bool
+    requires seat { Sits heap.now seat.old × Mutates (view_of seat.old) }
+    requires card { card < card_count heap.now.shape }
+    ensures seat { Sits heap.now seat.new }
+    ensures none { Across TracesNone seat.old seat.new }
+{
+    heap.read_card(seat, card)
+}
+
+/// The next card of the pass that is found dirty: those before it cost one look each, and no packet. None where no card is left.
+fn next_dirty(heap: &Heap, seat: &mut HeapSeat) -> Option<u32>
+    requires seat { Sits heap.now seat.old × Mutates (view_of seat.old) }
+    requires marking { (state_of seat.old).phase_seen ≡ Some Marking }
+    ensures seat { Sits heap.now seat.new }
+    ensures none { Across TracesNone seat.old seat.new }
+    ensures there { IfSome result (λ card. card < card_count heap.now.shape) }
+{
+    for _card in 0..heap.shape().cells / CARD_CELLS {
+        let Some(card) = next_card(heap, seat) else {
+            return None;
+        };
+        if is_dirty(heap, seat, card) {
+            return Some(card);
+        }
+    }
+    None
+}
+
+/// Cleans the next dirty card and traces on, after what was paid before. None where no card is left, or no packet to clean it with.
 fn clean_next(heap: &Heap, seat: &mut HeapSeat, before: Paid) -> Option<Paid>
     requires seat { Sits heap.now seat.old × Mutates (view_of seat.old) }
-    requires marking { (view_of seat.old).state.phase_seen ≡ Some Marking }
+    requires marking { (state_of seat.old).phase_seen ≡ Some Marking }
     requires quota { before.done ≤ before.quota }
     ensures seat { Sits heap.now seat.new }
-    ensures some { IfSome result (λ paid. TracesOn before.quota before.done paid (view_of seat.old) (view_of seat.new)) }
-    ensures none { IfNone result (TracesNone (view_of seat.old) (view_of seat.new)) }
+    ensures some { IfSome result (λ paid. Across (TracesOn before.quota before.done paid) seat.old seat.new) }
+    ensures none { IfNone result (Across TracesNone seat.old seat.new) }
 {
-    let card = next_card(heap, seat)?;
+    let card = next_dirty(heap, seat)?;
     clean(heap, seat, card)?;
     let more = trace(heap, seat, before.quota - before.done);
     Some(Paid {

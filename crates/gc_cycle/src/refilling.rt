@@ -6,7 +6,7 @@ ghost use Rattle.mark_core.specs.declared.kinds.Phase.TheVariants.{Full, Idle, M
 ghost use Rattle.gc_table.specs.Log.{Only, events};
 ghost use Rattle.gc_table.specs.Rule.{KnowsFull};
 ghost use Rattle.gc_table.specs.Running.{Known, Ran};
-ghost use Rattle.gc_table.specs.Seats.{Sits, view_of};
+ghost use Rattle.gc_table.specs.Seats.{Across, did, Sits, state_of, view_of};
 ghost use Rattle.gc_table.specs.declared.view.Entry.{Entry};
 ghost use Rattle.gc_table.specs.declared.view.View.{View};
 ghost use Rattle.alloc_cache.specs.Caching.{IsCached};
@@ -15,6 +15,7 @@ ghost use Rattle.gc_cycle.specs.Collecting.{HoldsWorld};
 ghost use Rattle.gc_cycle.specs.Cycles.{collects, fills_with_cause, may_fill, sees_free_cell};
 ghost use Rattle.gc_cycle.specs.Events.{each_after};
 ghost use Rattle.gc_cycle.specs.Finishing.{IsAloneIn, IsPart};
+ghost use Rattle.gc_cycle.specs.InStops.{begins_none};
 ghost use Rattle.gc_cycle.specs.Mutating.{stays_calm};
 ghost use Rattle.gc_cycle.specs.Paying.{IsFree};
 ghost use Rattle.gc_cycle.specs.Refilling.{ClaimsAlone, HasClaimed, HasMissed, IsPaced, IsRound, RestsAlone, SeesEnd, SeesFull, looks_for_end, prepares};
@@ -31,6 +32,7 @@ use crate::lower::{claim, resume, retire};
 use crate::pace::kick_off;
 use crate::paying::pay;
 use crate::stopping::stop;
+use crate::watching::{Unwatched, Watch};
 use alloc_cache::Cache;
 use gc_table::{Heap, HeapSeat};
 use mark_core::{CARD_CELLS, CARD_COUNTER, Phase};
@@ -40,7 +42,7 @@ use tracer::Stopped;
 
 impl Paid {
     /// Nothing was owed.
-    fn nothing() -> Paid
+    pub(crate) fn nothing() -> Paid
         ensures { IsFree result }
     {
         Paid {
@@ -58,20 +60,44 @@ impl Paid {
 /// where the phase says so; this call says it only after a precise collection in its own stop that left no cell free.
 pub fn refill<R: Wait>(rt: &R, heap: &Heap, seat: &mut HeapSeat, done: u32) -> Refill
     requires seat { Sits heap.now seat.old × Mutates (view_of seat.old) }
-    requires cache { (view_of seat.old).state.cache ≡ None }
+    requires cache { (state_of seat.old).cache ≡ None }
     ensures seat { Sits heap.now seat.new }
-    ensures ran { Ran (view_of seat.old) (view_of seat.new) }
-    ensures refills { RefillsTo result done (view_of seat.old) (view_of seat.new) }
-    ensures stops { IsTrue (stops_with_cause heap.now.shape (events (view_of seat.old) (view_of seat.new))) }
-    ensures again { IsTrue (stops_again_with_cause heap.now.shape (events (view_of seat.old) (view_of seat.new))) }
-    ensures fills { IsTrue (fills_with_cause heap.now.shape (events (view_of seat.old) (view_of seat.new))) }
-    ensures keeps { KeepsSeat (view_of seat.old) (view_of seat.new) × KeepsSection (view_of seat.old) (view_of seat.new) }
-    ensures only { Only fills_part (view_of seat.old) (view_of seat.new) }
-    ensures numbers { RefillsNumbers result (view_of seat.old) (view_of seat.new) }
-    ensures spares { SparesRefill result (view_of seat.old) (view_of seat.new) }
+    ensures ran { Across Ran seat.old seat.new }
+    ensures refills { Across (RefillsTo result done) seat.old seat.new }
+    ensures stops { IsTrue (stops_with_cause heap.now.shape (did seat.old seat.new)) }
+    ensures again { IsTrue (stops_again_with_cause heap.now.shape (did seat.old seat.new)) }
+    ensures fills { IsTrue (fills_with_cause heap.now.shape (did seat.old seat.new)) }
+    ensures keeps { Across KeepsSeat seat.old seat.new × Across KeepsSection seat.old seat.new }
+    ensures only { Across (Only fills_part) seat.old seat.new }
+    ensures numbers { Across (RefillsNumbers result) seat.old seat.new }
+    ensures spares { Across (SparesRefill result) seat.old seat.new }
+{
+    refill_watched(rt, heap, seat, done, &mut Unwatched)
+}
+
+/// The same, and `watch` is told of each stop that the call makes.
+pub fn refill_watched<R: Wait, W: Watch>(
+    rt: &R,
+    heap: &Heap,
+    seat: &mut HeapSeat,
+    done: u32,
+    watch: &mut W,
+) -> Refill
+    requires seat { Sits heap.now seat.old × Mutates (view_of seat.old) }
+    requires cache { (state_of seat.old).cache ≡ None }
+    ensures seat { Sits heap.now seat.new }
+    ensures ran { Across Ran seat.old seat.new }
+    ensures refills { Across (RefillsTo result done) seat.old seat.new }
+    ensures stops { IsTrue (stops_with_cause heap.now.shape (did seat.old seat.new)) }
+    ensures again { IsTrue (stops_again_with_cause heap.now.shape (did seat.old seat.new)) }
+    ensures fills { IsTrue (fills_with_cause heap.now.shape (did seat.old seat.new)) }
+    ensures keeps { Across KeepsSeat seat.old seat.new × Across KeepsSection seat.old seat.new }
+    ensures only { Across (Only fills_part) seat.old seat.new }
+    ensures numbers { Across (RefillsNumbers result) seat.old seat.new }
+    ensures spares { Across (SparesRefill result) seat.old seat.new }
 {
     for _ in rt.forever() {
-        if let Some(refill) = refill_once(rt, heap, seat, done) {
+        if let Some(refill) = refill_once(rt, heap, seat, done, watch) {
             return refill;
         }
     }
@@ -79,35 +105,41 @@ pub fn refill<R: Wait>(rt: &R, heap: &Heap, seat: &mut HeapSeat, done: u32) -> R
 }
 
 /// One round, which ends without an answer where another seat's stop came first.
-fn refill_once<R: Wait>(rt: &R, heap: &Heap, seat: &mut HeapSeat, done: u32) -> Option<Refill>
+fn refill_once<R: Wait, W: Watch>(
+    rt: &R,
+    heap: &Heap,
+    seat: &mut HeapSeat,
+    done: u32,
+    watch: &mut W,
+) -> Option<Refill>
     requires seat { Sits heap.now seat.old × Mutates (view_of seat.old) }
-    requires cache { (view_of seat.old).state.cache ≡ None }
+    requires cache { (state_of seat.old).cache ≡ None }
     ensures seat { Sits heap.now seat.new }
-    ensures round { IsRound result done (view_of seat.old) (view_of seat.new) }
-    ensures numbers { RoundNumbers result (view_of seat.old) (view_of seat.new) }
-    ensures stops { IsTrue (stops_with_cause heap.now.shape (events (view_of seat.old) (view_of seat.new))) }
+    ensures round { Across (IsRound result done) seat.old seat.new }
+    ensures numbers { Across (RoundNumbers result) seat.old seat.new }
+    ensures stops { IsTrue (stops_with_cause heap.now.shape (did seat.old seat.new)) }
     ensures some { IfSome result (λ r. (u : View) → Ran u (view_of seat.old) → TellsFull u (view_of seat.old) → StoredAt done u (view_of seat.old) → RefillsTo r done u (view_of seat.new)) }
 {
     if ends_full(heap, seat, done) {
         return Some(Refill::Full);
     }
     if sees_to_cycle(heap, seat) {
-        return refill_in_stop(rt, heap, seat, done);
+        return refill_in_stop(rt, heap, seat, done, watch);
     }
-    claim_or_stop(rt, heap, seat, done)
+    claim_or_stop(rt, heap, seat, done, watch)
 }
 
 /// Begins a cycle, where the phase was read as Idle and one is due. Whether the cycle under way is done with marking.
 fn sees_to_cycle(heap: &Heap, seat: &mut HeapSeat) -> bool
     requires seat { Sits heap.now seat.old × Mutates (view_of seat.old) }
-    requires marking { (view_of seat.old).state.phase_seen ≡ Some Marking → Known (view_of seat.old) the_phase 1 }
+    requires marking { (state_of seat.old).phase_seen ≡ Some Marking → Known (view_of seat.old) the_phase 1 }
     ensures seat { Sits heap.now seat.new × Mutates (view_of seat.new) }
-    ensures ran { Ran (view_of seat.old) (view_of seat.new) }
-    ensures only { Only prepares (view_of seat.old) (view_of seat.new) }
-    ensures numbers { ChangesBy [] (view_of seat.old) (view_of seat.new) }
-    ensures cache { (view_of seat.new).state.cache ≡ (view_of seat.old).state.cache }
-    ensures done { OnTrue result (((view_of seat.old).state.phase_seen ≡ Some Marking) × SeesEnd heap.now.shape (events (view_of seat.old) (view_of seat.new))) }
-    ensures paced { OnFalse result (IsPaced (events (view_of seat.old) (view_of seat.new)) (view_of seat.new)) }
+    ensures ran { Across Ran seat.old seat.new }
+    ensures only { Across (Only prepares) seat.old seat.new }
+    ensures numbers { Across (ChangesBy []) seat.old seat.new }
+    ensures cache { (state_of seat.new).cache ≡ (state_of seat.old).cache }
+    ensures done { OnTrue result (((state_of seat.old).phase_seen ≡ Some Marking) × SeesEnd heap.now.shape (did seat.old seat.new)) }
+    ensures paced { OnFalse result (IsPaced (did seat.old seat.new) (view_of seat.new)) }
 {
     if has_seen_marking(seat) {
         return marking_is_done(heap, seat);
@@ -117,8 +149,8 @@ fn sees_to_cycle(heap: &Heap, seat: &mut HeapSeat) -> bool
 }
 
 /// Whether the seat has read the phase last as Marking.
-fn has_seen_marking(seat: &HeapSeat) -> bool
-    ensures seen { OnTrue result ((view_of seat.now).state.phase_seen ≡ Some Marking) }
+pub(crate) fn has_seen_marking(seat: &HeapSeat) -> bool
+    ensures seen { OnTrue result ((state_of seat.now).phase_seen ≡ Some Marking) }
 {
     match seat.state().phase_seen {
         Some(Phase::Marking) => true,
@@ -127,29 +159,46 @@ fn has_seen_marking(seat: &HeapSeat) -> bool
 }
 
 /// A cache where a block can be claimed, and what is paid for it. Where none can, the mutator stops the world.
-fn claim_or_stop<R: Wait>(rt: &R, heap: &Heap, seat: &mut HeapSeat, done: u32) -> Option<Refill>
+fn claim_or_stop<R: Wait, W: Watch>(
+    rt: &R,
+    heap: &Heap,
+    seat: &mut HeapSeat,
+    done: u32,
+    watch: &mut W,
+) -> Option<Refill>
     requires seat { Sits heap.now seat.old × Mutates (view_of seat.old) }
-    requires cache { (view_of seat.old).state.cache ≡ None }
+    requires cache { (state_of seat.old).cache ≡ None }
     ensures seat { Sits heap.now seat.new }
-    ensures round { IsRound result done (view_of seat.old) (view_of seat.new) }
-    ensures numbers { RoundNumbers result (view_of seat.old) (view_of seat.new) }
-    ensures stops { IsTrue (stops_with_cause heap.now.shape (events (view_of seat.old) (view_of seat.new))) }
+    ensures round { Across (IsRound result done) seat.old seat.new }
+    ensures numbers { Across (RoundNumbers result) seat.old seat.new }
+    ensures stops { IsTrue (stops_with_cause heap.now.shape (did seat.old seat.new)) }
     ensures some { IfSome result (λ r. (u : View) → Ran u (view_of seat.old) → TellsFull u (view_of seat.old) → StoredAt done u (view_of seat.old) → IsPaced (events u (view_of seat.old)) (view_of seat.old) → RefillsTo r done u (view_of seat.new)) }
 {
     match claim(heap, seat) {
-        None => refill_in_stop(rt, heap, seat, done),
-        Some(cache) => Some(pay_for(heap, seat, cache, done)),
+        None => refill_in_stop(rt, heap, seat, done, watch),
+        Some(cache) => {
+            let refill = pay_for(heap, seat, cache, done);
+            tell_paid(&refill, watch);
+            Some(refill)
+        }
+    }
+}
+
+/// Tells what was paid for a cache.
+fn tell_paid<W: Watch>(refill: &Refill, watch: &mut W) {
+    if let Refill::Cache(_, paid) = refill {
+        watch.pays(*paid);
     }
 }
 
 /// Whether the pass over the cards has ended and all packets are empty. Then marking is done, but for what mutators still do.
-fn marking_is_done(heap: &Heap, seat: &mut HeapSeat) -> bool
+pub(crate) fn marking_is_done(heap: &Heap, seat: &mut HeapSeat) -> bool
     requires seat { Sits heap.now seat.old × Mutates (view_of seat.old) }
     ensures seat { Sits heap.now seat.new × Mutates (view_of seat.new) }
-    ensures ran { Ran (view_of seat.old) (view_of seat.new) }
-    ensures only { Only looks_for_end (view_of seat.old) (view_of seat.new) }
-    ensures cache { (view_of seat.new).state.cache ≡ (view_of seat.old).state.cache }
-    ensures done { IsTrue result → SeesEnd heap.now.shape (events (view_of seat.old) (view_of seat.new)) }
+    ensures ran { Across Ran seat.old seat.new }
+    ensures only { Across (Only looks_for_end) seat.old seat.new }
+    ensures cache { (state_of seat.new).cache ≡ (state_of seat.old).cache }
+    ensures done { IsTrue result → SeesEnd heap.now.shape (did seat.old seat.new) }
 {
     let seen = heap.read_stat(seat, CARD_COUNTER);
     if seen < u64::from(heap.shape().cells / CARD_CELLS) {
@@ -159,14 +208,14 @@ fn marking_is_done(heap: &Heap, seat: &mut HeapSeat) -> bool
 }
 
 /// What is paid for a cache, by the phase after its claim. Where the heap is full by then, the cache is given up.
-fn pay_for(heap: &Heap, seat: &mut HeapSeat, cache: Cache, done: u32) -> Refill
+pub(crate) fn pay_for(heap: &Heap, seat: &mut HeapSeat, cache: Cache, done: u32) -> Refill
     requires seat { Sits heap.now seat.old × Mutates (view_of seat.old) }
     requires cache { IsCached cache (view_of seat.old) }
     ensures seat { Sits heap.now seat.new }
-    ensures ran { Ran (view_of seat.old) (view_of seat.new) }
-    ensures only { Only stays_calm (view_of seat.old) (view_of seat.new) }
-    ensures numbers { PaysNumbers cache result (view_of seat.old) (view_of seat.new) }
-    ensures known { SparesRefill result (view_of seat.old) (view_of seat.new) }
+    ensures ran { Across Ran seat.old seat.new }
+    ensures only { Across (Only stays_calm) seat.old seat.new }
+    ensures numbers { Across (PaysNumbers cache result) seat.old seat.new }
+    ensures known { Across (SparesRefill result) seat.old seat.new }
     ensures refills { (u : View) → HasClaimed cache done u (view_of seat.old) → RefillsTo result done u (view_of seat.new) }
 {
     match heap.read_phase(seat) {
@@ -184,19 +233,28 @@ fn pay_for(heap: &Heap, seat: &mut HeapSeat, cache: Cache, done: u32) -> Refill
 }
 
 /// The same in a stop of its own. Where another seat's flag is up it waits, and has no answer.
-fn refill_in_stop<R: Wait>(rt: &R, heap: &Heap, seat: &mut HeapSeat, done: u32) -> Option<Refill>
+pub(crate) fn refill_in_stop<R: Wait, W: Watch>(
+    rt: &R,
+    heap: &Heap,
+    seat: &mut HeapSeat,
+    done: u32,
+    watch: &mut W,
+) -> Option<Refill>
     requires seat { Sits heap.now seat.old × Mutates (view_of seat.old) }
-    requires cache { (view_of seat.old).state.cache ≡ None }
+    requires cache { (state_of seat.old).cache ≡ None }
     ensures seat { Sits heap.now seat.new }
-    ensures round { IsRound result done (view_of seat.old) (view_of seat.new) }
-    ensures numbers { RoundNumbers result (view_of seat.old) (view_of seat.new) }
+    ensures round { Across (IsRound result done) seat.old seat.new }
+    ensures numbers { Across (RoundNumbers result) seat.old seat.new }
     ensures some { IfSome result (λ r. (u : View) → Ran u (view_of seat.old) → TellsFull u (view_of seat.old) → StoredAt done u (view_of seat.old) → RefillsTo r done u (view_of seat.new)) }
+    ensures unbegun { IsTrue (begins_none (did seat.old seat.new)) }
 {
+    watch.asks();
     if !stop(rt, heap, seat, done) {
         return None;
     }
-    let cache = claim_in_stop(rt, heap, seat);
+    let cache = claim_in_stop(rt, heap, seat, watch);
     resume(heap, seat);
+    watch.resumes();
     match go_on(heap, seat, cache, done) {
         Safe::Full => Some(Refill::Full),
         Safe::Going(Some(cache)) => Some(Refill::Cache(cache, Paid::nothing())),
@@ -205,43 +263,53 @@ fn refill_in_stop<R: Wait>(rt: &R, heap: &Heap, seat: &mut HeapSeat, done: u32) 
 }
 
 /// Ends the cycle that is marking, or collects precisely, and claims a block. There is none where the heap is full.
-fn claim_in_stop<R: Wait>(rt: &R, heap: &Heap, seat: &mut HeapSeat) -> Option<Cache>
+fn claim_in_stop<R: Wait, W: Watch>(
+    rt: &R,
+    heap: &Heap,
+    seat: &mut HeapSeat,
+    watch: &mut W,
+) -> Option<Cache>
     requires seat { Sits heap.now seat.old }
     requires stopped { HoldsWorld (view_of seat.old) }
     ensures seat { Sits heap.now seat.new }
-    ensures claims { ClaimsAlone result (view_of seat.old) (view_of seat.new) }
-    ensures numbers { ChangesNumbers (taken result) (view_of seat.old) (view_of seat.new) }
+    ensures claims { Across (ClaimsAlone result) seat.old seat.new }
+    ensures numbers { Across (ChangesNumbers (taken result)) seat.old seat.new }
     ensures full { KnowsFull (view_of seat.old) → KnowsFull (view_of seat.new) }
-    ensures missed { HasMissed heap.now.shape result (events (view_of seat.old) (view_of seat.new)) (view_of seat.new) }
-    ensures fills { IsTrue (each_after (may_fill heap.now.shape) (moves_to Full) [] (events (view_of seat.old) (view_of seat.new))) }
+    ensures missed { HasMissed heap.now.shape result (did seat.old seat.new) (view_of seat.new) }
+    ensures fills { IsTrue (each_after (may_fill heap.now.shape) (moves_to Full) [] (did seat.old seat.new)) }
 {
     match seat.state().phase_seen {
         Some(Phase::Full) => None,
         Some(Phase::Marking) => {
-            finish_cycle(rt, heap, seat);
-            claim_or_collect(rt, heap, seat)
+            watch.finishes(finish_cycle(rt, heap, seat));
+            claim_or_collect(rt, heap, seat, watch)
         }
         _ => {
-            precise(rt, heap, seat);
+            watch.collects(precise(rt, heap, seat));
             claim_or_fill(heap, seat)
         }
     }
 }
 
 /// A cache after an ordinary cycle, or else after a precise collection.
-fn claim_or_collect<R: Wait>(rt: &R, heap: &Heap, seat: &mut HeapSeat) -> Option<Cache>
+fn claim_or_collect<R: Wait, W: Watch>(
+    rt: &R,
+    heap: &Heap,
+    seat: &mut HeapSeat,
+    watch: &mut W,
+) -> Option<Cache>
     requires seat { Sits heap.now seat.old }
     requires alone { IsAloneIn Idle (view_of seat.old) × RestsAlone (view_of seat.old) }
     ensures seat { Sits heap.now seat.new }
-    ensures claims { ClaimsAlone result (view_of seat.old) (view_of seat.new) }
-    ensures numbers { ChangesNumbers (taken result) (view_of seat.old) (view_of seat.new) }
-    ensures missed { HasMissed heap.now.shape result (events (view_of seat.old) (view_of seat.new)) (view_of seat.new) }
-    ensures fills { IsTrue (each_after (may_fill heap.now.shape) (moves_to Full) [] (events (view_of seat.old) (view_of seat.new))) }
+    ensures claims { Across (ClaimsAlone result) seat.old seat.new }
+    ensures numbers { Across (ChangesNumbers (taken result)) seat.old seat.new }
+    ensures missed { HasMissed heap.now.shape result (did seat.old seat.new) (view_of seat.new) }
+    ensures fills { IsTrue (each_after (may_fill heap.now.shape) (moves_to Full) [] (did seat.old seat.new)) }
 {
     if let Some(cache) = claim(heap, seat) {
         return Some(cache);
     }
-    precise(rt, heap, seat);
+    watch.collects(precise(rt, heap, seat));
     claim_or_fill(heap, seat)
 }
 
@@ -249,12 +317,12 @@ fn claim_or_collect<R: Wait>(rt: &R, heap: &Heap, seat: &mut HeapSeat) -> Option
 fn claim_or_fill(heap: &Heap, seat: &mut HeapSeat) -> Option<Cache>
     requires seat { Sits heap.now seat.old }
     requires alone { IsAloneIn Idle (view_of seat.old) × RestsAlone (view_of seat.old) }
-    requires exact { IsTrue (view_of seat.old).state.exact }
+    requires exact { IsTrue (state_of seat.old).exact }
     ensures seat { Sits heap.now seat.new }
-    ensures claims { ClaimsAlone result (view_of seat.old) (view_of seat.new) }
-    ensures numbers { ChangesNumbers (taken result) (view_of seat.old) (view_of seat.new) }
-    ensures missed { (before : List Entry) → IsTrue (collects before) → HasMissed heap.now.shape result (before ++ events (view_of seat.old) (view_of seat.new)) (view_of seat.new) }
-    ensures fills { (before : List Entry) → IsTrue (collects before) → IsTrue (each_after (may_fill heap.now.shape) (moves_to Full) before (events (view_of seat.old) (view_of seat.new))) }
+    ensures claims { Across (ClaimsAlone result) seat.old seat.new }
+    ensures numbers { Across (ChangesNumbers (taken result)) seat.old seat.new }
+    ensures missed { (before : List Entry) → IsTrue (collects before) → HasMissed heap.now.shape result (before ++ did seat.old seat.new) (view_of seat.new) }
+    ensures fills { (before : List Entry) → IsTrue (collects before) → IsTrue (each_after (may_fill heap.now.shape) (moves_to Full) before (did seat.old seat.new)) }
 {
     if all_allocated(heap, seat) {
         heap.store_named(seat);
@@ -269,10 +337,10 @@ fn all_allocated(heap: &Heap, seat: &mut HeapSeat) -> bool
     requires seat { Sits heap.now seat.old }
     requires alone { IsAloneIn Idle (view_of seat.old) }
     ensures seat { Sits heap.now seat.new }
-    ensures part { IsPart Idle (view_of seat.old) (view_of seat.new) }
-    ensures numbers { Only leaves_numbers (view_of seat.old) (view_of seat.new) }
-    ensures full { IsTrue result → SeesFull heap.now.shape (view_of seat.old) (view_of seat.new) }
-    ensures free { OnFalse result (IsTrue (sees_free_cell heap.now.shape (events (view_of seat.old) (view_of seat.new)))) }
+    ensures part { Across (IsPart Idle) seat.old seat.new }
+    ensures numbers { Across (Only leaves_numbers) seat.old seat.new }
+    ensures full { IsTrue result → Across (SeesFull heap.now.shape) seat.old seat.new }
+    ensures free { OnFalse result (IsTrue (sees_free_cell heap.now.shape (did seat.old seat.new))) }
 {
     for b in 0..heap.shape().cells / 64 {
         if heap.read_alloc(seat, b) != u64::MAX {

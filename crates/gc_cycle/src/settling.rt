@@ -4,7 +4,7 @@ ghost use Rattle.mark_core.specs.Numbers.{free_count, last_count, traced_count};
 ghost use Rattle.mark_core.specs.Layout.{block_count};
 ghost use Rattle.mark_core.specs.Places.{counter_at};
 ghost use Rattle.mark_core.specs.declared.kinds.Phase.TheVariants.{Idle};
-ghost use Rattle.gc_table.specs.Seats.{Sits, view_of};
+ghost use Rattle.gc_table.specs.Seats.{Across, Sits, view_of};
 ghost use Rattle.gc_table.specs.Running.{Known};
 ghost use Rattle.gc_cycle.specs.Ending.{InEach, IsCycleEnd};
 ghost use Rattle.gc_cycle.specs.Finishing.{AllocsNoted, IsAloneIn, IsPart, ones_noted};
@@ -19,7 +19,7 @@ fn count_published(heap: &Heap, seat: &mut HeapSeat) -> u32
     requires seat { Sits heap.now seat.old }
     requires alone { IsAloneIn Idle (view_of seat.old) }
     ensures seat { Sits heap.now seat.new }
-    ensures part { IsPart Idle (view_of seat.old) (view_of seat.new) }
+    ensures part { Across (IsPart Idle) seat.old seat.new }
     ensures noted { AllocsNoted (block_count heap.now.shape) (view_of seat.new) }
     ensures count { result ≡ ones_noted (block_count heap.now.shape) (view_of seat.new) }
     ensures bound { result ≤ heap.now.shape.cells }
@@ -37,7 +37,7 @@ fn set_statistic(heap: &Heap, seat: &mut HeapSeat, which: u8, number: u32)
     requires alone { IsAloneIn Idle (view_of seat.old) }
     requires which { (last_count ≤ which) × (which ≤ traced_count) }
     ensures seat { Sits heap.now seat.new }
-    ensures sets { Sets which number (view_of seat.old) (view_of seat.new) }
+    ensures sets { Across (Sets which number) seat.old seat.new }
 {
     heap.reset(seat, which);
     heap.add_stat(seat, which, number, false);
@@ -49,7 +49,7 @@ fn clear_statistic(heap: &Heap, seat: &mut HeapSeat, which: u8)
     requires alone { IsAloneIn Idle (view_of seat.old) }
     requires which { which ≤ traced_count }
     ensures seat { Sits heap.now seat.new }
-    ensures sets { Sets which 0 (view_of seat.old) (view_of seat.new) }
+    ensures sets { Across (Sets which 0) seat.old seat.new }
 {
     heap.reset(seat, which);
 }
@@ -60,7 +60,7 @@ fn raise_free(heap: &Heap, seat: &mut HeapSeat, from: u64, to: u64)
     requires alone { IsAloneIn Idle (view_of seat.old) }
     requires from { Known (view_of seat.old) (counter_at free_count) from }
     ensures seat { Sits heap.now seat.new }
-    ensures sets { Sets free_count to (view_of seat.old) (view_of seat.new) }
+    ensures sets { Across (Sets free_count to) seat.old seat.new }
 {
     let much = to.wrapping_sub(from);
     for _step in 0..much / 4_294_967_295 {
@@ -74,7 +74,7 @@ fn set_free(heap: &Heap, seat: &mut HeapSeat, number: u32)
     requires seat { Sits heap.now seat.old }
     requires alone { IsAloneIn Idle (view_of seat.old) }
     ensures seat { Sits heap.now seat.new }
-    ensures sets { Sets free_count number (view_of seat.old) (view_of seat.new) }
+    ensures sets { Across (Sets free_count number) seat.old seat.new }
 {
     let from = heap.read_stat(seat, FREE);
     let above = from.wrapping_sub(u64::from(number));
@@ -90,7 +90,7 @@ pub(crate) fn settle(heap: &Heap, seat: &mut HeapSeat, rescanned: u32, freed: u3
     requires seat { Sits heap.now seat.old }
     requires alone { IsAloneIn Idle (view_of seat.old) }
     ensures seat { Sits heap.now seat.new }
-    ensures part { IsPart Idle (view_of seat.old) (view_of seat.new) }
+    ensures part { Across (IsPart Idle) seat.old seat.new }
     ensures counts { (result.rescanned ≡ rescanned) × (result.freed ≡ freed) }
     ensures end { InEach (IsCycleEnd result) (view_of seat.new) }
 {

@@ -1,11 +1,11 @@
 //! A mutator stops the world, and waits for the stop of another.
 ghost use Rattle.std.specs.Prelude.{ℕ, ◌≡◌, ◌∷◌, [], if◌then◌else◌, None, is_some, IsTrue};
 ghost use Rattle.std.specs.Bool.{OnTrue, OnFalse};
-ghost use Rattle.gc_table.specs.Seats.{Sits, view_of};
+ghost use Rattle.gc_table.specs.Seats.{Across, did, Sits, state_of, view_of};
 ghost use Rattle.packet_pools.specs.Seeking.{some_event};
 ghost use Rattle.mark_core.specs.declared.kinds.Step.TheVariants.{LeaveStep, StorePosition};
 ghost use Rattle.packet_pools.specs.Counts.{count_of};
-ghost use Rattle.gc_table.specs.Log.{Only, event, events};
+ghost use Rattle.gc_table.specs.Log.{event, Only};
 ghost use Rattle.gc_table.specs.Running.{Ran};
 ghost use Rattle.gc_cycle.specs.Answering.{waits_helping};
 ghost use Rattle.gc_cycle.specs.Cycles.{never_fills};
@@ -37,12 +37,12 @@ const PAUSE: u32 = 512;
 fn help_joined(heap: &Heap, seat: &mut HeapSeat)
     requires seat { Sits heap.now seat.old × IsAdmitted (view_of seat.old) }
     ensures seat { Sits heap.now seat.new × IsAdmitted (view_of seat.new) }
-    ensures out { GoesOut (view_of seat.old) (view_of seat.new) }
+    ensures out { Across GoesOut seat.old seat.new }
     ensures own { (view_of seat.new).own ≡ (view_of seat.old).own }
-    ensures numbers { Only leaves_numbers (view_of seat.old) (view_of seat.new) }
-    ensures inside { IsTrue (never leaves (events (view_of seat.old) (view_of seat.new))) }
-    ensures stays { IsTrue (never joins (events (view_of seat.old) (view_of seat.new))) }
-    ensures helps { HelpsFor turn_quota (view_of seat.old) (view_of seat.new) }
+    ensures numbers { Across (Only leaves_numbers) seat.old seat.new }
+    ensures inside { IsTrue (never leaves (did seat.old seat.new)) }
+    ensures stays { IsTrue (never joins (did seat.old seat.new)) }
+    ensures helps { Across (HelpsFor turn_quota) seat.old seat.new }
 {
     match seat.state().phase_seen {
         Some(Phase::Drain) => {
@@ -59,12 +59,12 @@ fn help_joined(heap: &Heap, seat: &mut HeapSeat)
 fn help_once(heap: &Heap, seat: &mut HeapSeat)
     requires seat { Sits heap.now seat.old × IsOut (view_of seat.old) }
     ensures seat { Sits heap.now seat.new × IsOut (view_of seat.new) }
-    ensures out { GoesOut (view_of seat.old) (view_of seat.new) }
+    ensures out { Across GoesOut seat.old seat.new }
     ensures own { (view_of seat.new).own ≡ (view_of seat.old).own }
-    ensures numbers { Only leaves_numbers (view_of seat.old) (view_of seat.new) }
-    ensures offered { IsTrue (some_event joins (events (view_of seat.old) (view_of seat.new))) }
-    ensures inside { IsTrue (never leaves (events (view_of seat.old) (view_of seat.new))) }
-    ensures helps { HelpsOnce turn_quota (view_of seat.old) (view_of seat.new) }
+    ensures numbers { Across (Only leaves_numbers) seat.old seat.new }
+    ensures offered { IsTrue (some_event joins (did seat.old seat.new)) }
+    ensures inside { IsTrue (never leaves (did seat.old seat.new)) }
+    ensures helps { Across (HelpsOnce turn_quota) seat.old seat.new }
 {
     if join_help(heap, seat) {
         help_joined(heap, seat);
@@ -76,11 +76,11 @@ fn help_once(heap: &Heap, seat: &mut HeapSeat)
 fn pause(heap: &Heap, seat: &mut HeapSeat)
     requires seat { Sits heap.now seat.old × IsOut (view_of seat.old) }
     ensures seat { Sits heap.now seat.new × IsOut (view_of seat.new) }
-    ensures out { GoesOut (view_of seat.old) (view_of seat.new) }
+    ensures out { Across GoesOut seat.old seat.new }
     ensures own { (view_of seat.new).own ≡ (view_of seat.old).own }
-    ensures numbers { Only leaves_numbers (view_of seat.old) (view_of seat.new) }
-    ensures inside { IsTrue (never leaves (events (view_of seat.old) (view_of seat.new))) }
-    ensures apart { IsTrue (never joins (events (view_of seat.old) (view_of seat.new))) }
+    ensures numbers { Across (Only leaves_numbers) seat.old seat.new }
+    ensures inside { IsTrue (never leaves (did seat.old seat.new)) }
+    ensures apart { IsTrue (never joins (did seat.old seat.new)) }
 {
     for _ in 0..PAUSE {
         if !poll(heap, seat) {
@@ -94,16 +94,16 @@ fn pause(heap: &Heap, seat: &mut HeapSeat)
 pub fn await_resumed_helping<R: Wait>(rt: &R, heap: &Heap, seat: &mut HeapSeat)
     requires seat { Sits heap.now seat.old × IsOut (view_of seat.old) }
     ensures seat { Sits heap.now seat.new × IsOut (view_of seat.new) }
-    ensures ran { Ran (view_of seat.old) (view_of seat.new) }
-    ensures resumed { IsTrue (saw_resumed (events (view_of seat.old) (view_of seat.new))) }
-    ensures offered { IsTrue (offered_help (events (view_of seat.old) (view_of seat.new))) }
-    ensures only { Only stays_calm (view_of seat.old) (view_of seat.new) }
-    ensures numbers { Only leaves_numbers (view_of seat.old) (view_of seat.new) }
-    ensures not_full { IsTrue (never_fills (events (view_of seat.old) (view_of seat.new))) }
-    ensures keeps { KeepsSeat (view_of seat.old) (view_of seat.new) }
+    ensures ran { Across Ran seat.old seat.new }
+    ensures resumed { IsTrue (saw_resumed (did seat.old seat.new)) }
+    ensures offered { IsTrue (offered_help (did seat.old seat.new)) }
+    ensures only { Across (Only stays_calm) seat.old seat.new }
+    ensures numbers { Across (Only leaves_numbers) seat.old seat.new }
+    ensures not_full { IsTrue (never_fills (did seat.old seat.new)) }
+    ensures keeps { Across KeepsSeat seat.old seat.new }
     ensures own { (view_of seat.new).own ≡ (view_of seat.old).own }
-    ensures inside { IsTrue (never leaves (events (view_of seat.old) (view_of seat.new))) }
-    ensures helps { HelpsInTurns (view_of seat.old) (view_of seat.new) }
+    ensures inside { IsTrue (never leaves (did seat.old seat.new)) }
+    ensures helps { Across HelpsInTurns seat.old seat.new }
 {
     for _ in rt.forever() {
         if !poll(heap, seat) {
@@ -119,13 +119,13 @@ pub fn await_resumed_helping<R: Wait>(rt: &R, heap: &Heap, seat: &mut HeapSeat)
 #[inline(never)]
 pub fn go_out(heap: &Heap, seat: &mut HeapSeat, done: u32)
     requires seat { Sits heap.now seat.old × Mutates (view_of seat.old) }
-    requires cache { (view_of seat.old).state.cache ≡ None }
+    requires cache { (state_of seat.old).cache ≡ None }
     ensures seat { Sits heap.now seat.new × IsOut (view_of seat.new) }
-    ensures out { GoesOut (view_of seat.old) (view_of seat.new) }
+    ensures out { Across GoesOut seat.old seat.new }
     ensures position { (view_of seat.new).own.position ≡ done }
-    ensures left { (n : ℕ) × (events (view_of seat.old) (view_of seat.new) ≡ event (StorePosition done) done ∷ event LeaveStep n ∷ []) }
-    ensures spares { Only spares_part (view_of seat.old) (view_of seat.new) }
-    ensures numbers { Only leaves_numbers (view_of seat.old) (view_of seat.new) }
+    ensures left { (n : ℕ) × (did seat.old seat.new ≡ event (StorePosition done) done ∷ event LeaveStep n ∷ []) }
+    ensures spares { Across (Only spares_part) seat.old seat.new }
+    ensures numbers { Across (Only leaves_numbers) seat.old seat.new }
 {
     heap.store_position(seat, done);
     leave(heap, seat);
@@ -135,14 +135,14 @@ pub fn go_out(heap: &Heap, seat: &mut HeapSeat, done: u32)
 #[inline(never)]
 pub fn go_in<R: Wait>(rt: &R, heap: &Heap, seat: &mut HeapSeat)
     requires seat { Sits heap.now seat.old × IsOut (view_of seat.old) }
-    requires section { IsTrue (is_some (view_of seat.old).state.section) }
+    requires section { IsTrue (is_some (state_of seat.old).section) }
     ensures seat { Sits heap.now seat.new × Mutates (view_of seat.new) }
-    ensures entered { HasEntered (view_of seat.old) (view_of seat.new) }
-    ensures waits { IsTrue (waits_helping (events (view_of seat.old) (view_of seat.new))) }
-    ensures offered { IsTrue (offered_help (events (view_of seat.old) (view_of seat.new))) }
-    ensures helps { HelpsInTurns (view_of seat.old) (view_of seat.new) }
-    ensures spares { Only spares_part (view_of seat.old) (view_of seat.new) }
-    ensures numbers { Only leaves_numbers (view_of seat.old) (view_of seat.new) }
+    ensures entered { Across HasEntered seat.old seat.new }
+    ensures waits { IsTrue (waits_helping (did seat.old seat.new)) }
+    ensures offered { IsTrue (offered_help (did seat.old seat.new)) }
+    ensures helps { Across HelpsInTurns seat.old seat.new }
+    ensures spares { Across (Only spares_part) seat.old seat.new }
+    ensures numbers { Across (Only leaves_numbers) seat.old seat.new }
 {
     for _ in rt.forever() {
         await_resumed_helping(rt, heap, seat);
@@ -157,14 +157,14 @@ pub fn go_in<R: Wait>(rt: &R, heap: &Heap, seat: &mut HeapSeat)
 /// waits until that stop has ended, and enters again.
 pub(crate) fn stop<R: Wait>(rt: &R, heap: &Heap, seat: &mut HeapSeat, done: u32) -> bool
     requires seat { Sits heap.now seat.old × Mutates (view_of seat.old) }
-    requires cache { (view_of seat.old).state.cache ≡ None }
+    requires cache { (state_of seat.old).cache ≡ None }
     ensures seat { Sits heap.now seat.new }
-    ensures tries { TriesToStop (view_of seat.old) (view_of seat.new) }
-    ensures yours { OnTrue result (StopsWorld (view_of seat.old) (view_of seat.new)) }
+    ensures tries { Across TriesToStop seat.old seat.new }
+    ensures yours { OnTrue result (Across StopsWorld seat.old seat.new) }
     ensures theirs { OnFalse result (Mutates (view_of seat.new)) }
     ensures position { (view_of seat.new).own.position ≡ done }
-    ensures raises { count_of raises_flag (events (view_of seat.old) (view_of seat.new)) ≡ (if result then 1 else 0) }
-    ensures numbers { Only leaves_numbers (view_of seat.old) (view_of seat.new) }
+    ensures raises { count_of raises_flag (did seat.old seat.new) ≡ (if result then 1 else 0) }
+    ensures numbers { Across (Only leaves_numbers) seat.old seat.new }
 {
     go_out(heap, seat, done);
     match raise(heap, seat) {

@@ -5,7 +5,7 @@ ghost use Rattle.mark_core.specs.Seats.{empty_handed as empty_handed_of, has_mak
 ghost use Rattle.mark_core.specs.WorldSteps.{has_nothing as has_nothing_of};
 ghost use Rattle.mark_core.specs.declared.kinds.Phase.TheVariants.{Marking};
 ghost use Rattle.gc_table.specs.PlainSteps.{HasSeenPhase};
-ghost use Rattle.gc_table.specs.Seats.{Sits, view_of};
+ghost use Rattle.gc_table.specs.Seats.{Sits, state_of, view_of};
 ghost use Rattle.packet_pools.specs.Tracing.{Traces};
 ghost use Rattle.tracer.specs.Hands.{IsIdle, no_packets};
 ghost use Rattle.mutator_ops.specs.Ready.{IsReady};
@@ -20,35 +20,35 @@ type Slots = [Option<(u32, Option<u32>, bool)>; 4];
 
 /// The seat has neither a packet, nor a reservation, nor a credit.
 fn empty_handed(seat: &HeapSeat) -> bool
-    ensures { result ≡ empty_handed_of (view_of seat.now).state }
+    ensures { result ≡ empty_handed_of (state_of seat.now) }
 {
     seat.state().empty_handed()
 }
 
 /// The seat has a grey cell, or something that may lead to one.
 fn work_in_hand(fields: u32, seat: &HeapSeat) -> bool
-    ensures { result ≡ work_in_hand_of fields (view_of seat.now).state }
+    ensures { result ≡ work_in_hand_of fields (state_of seat.now) }
 {
     seat.state().work_in_hand(fields)
 }
 
 /// A cell is half made.
 fn has_making(seat: &HeapSeat) -> bool
-    ensures { result ≡ has_making_of (view_of seat.now).state.cache }
+    ensures { result ≡ has_making_of (state_of seat.now).cache }
 {
     seat.state().has_making()
 }
 
 /// The seat is active in its section's turn.
 fn may_mutate(seat: &HeapSeat) -> bool
-    ensures { result ≡ may_mutate_of (view_of seat.now).state }
+    ensures { result ≡ may_mutate_of (state_of seat.now) }
 {
     seat.state().may_mutate()
 }
 
 /// The seat has read the phase, in which it may store.
 fn has_seen_phase(seat: &HeapSeat) -> bool
-    ensures { OnTrue result (HasSeenPhase (view_of seat.now).state) }
+    ensures { OnTrue result (HasSeenPhase (state_of seat.now)) }
 {
     match seat.state().phase_seen {
         Some(Phase::Idle) => true,
@@ -60,7 +60,7 @@ fn has_seen_phase(seat: &HeapSeat) -> bool
 /// The seat has nothing in hand, but perhaps a cache.
 fn is_at_rest(heap: &Heap, seat: &HeapSeat) -> bool
     requires { Sits heap.now seat.now }
-    ensures { result ≡ is_at_rest_of heap.now.shape (view_of seat.now).state }
+    ensures { result ≡ is_at_rest_of heap.now.shape (state_of seat.now) }
 {
     let s = seat.state();
     empty_handed(seat)
@@ -74,7 +74,7 @@ fn is_at_rest(heap: &Heap, seat: &HeapSeat) -> bool
 /// The seat has nothing in hand.
 fn has_nothing(heap: &Heap, seat: &HeapSeat) -> bool
     requires { Sits heap.now seat.now }
-    ensures { result ≡ has_nothing_of heap.now.shape (view_of seat.now).state }
+    ensures { result ≡ has_nothing_of heap.now.shape (state_of seat.now) }
 {
     let s = seat.state();
     empty_handed(seat)
@@ -108,7 +108,7 @@ pub fn is_ready(heap: &Heap, seat: &HeapSeat) -> bool
 
 /// The seat is outside the world, its stop and its help.
 pub fn is_bare(seat: &HeapSeat) -> bool
-    ensures { result ≡ is_bare_seat (view_of seat.now).state }
+    ensures { result ≡ is_bare_seat (state_of seat.now) }
 {
     seat.state().is_bare()
 }
@@ -145,7 +145,7 @@ fn are_bare(held: Slots) -> bool
 
 /// The seat is active, and has read that marking is under way.
 fn is_marking(seat: &HeapSeat) -> bool
-    ensures { result ≡ ((view_of seat.now).state.active && saw (view_of seat.now).state.phase_seen Marking) }
+    ensures { result ≡ ((state_of seat.now).active && saw (state_of seat.now).phase_seen Marking) }
 {
     seat.state().is_marking()
 }
@@ -165,7 +165,7 @@ pub fn may_trace(heap: &Heap, seat: &HeapSeat) -> bool
 
 /// The seat holds no packet, and has nothing to trace or to clean.
 pub fn holds_nothing(seat: &HeapSeat) -> bool
-    ensures { OnTrue result (Bare (view_of seat.now).state) }
+    ensures { OnTrue result (Bare (state_of seat.now)) }
 {
     let s = seat.state();
     are_bare(s.held)

@@ -122,7 +122,7 @@ fn fills_up<R: Wait>(rt: &R, heap: &Heap, seat: &mut HeapSeat) -> Option<(Phase,
 }
 
 /// Makes two objects that refer to each other, which no variable names.
-fn make_ring(heap: &Heap, seat: &mut HeapSeat) -> bool
+pub fn make_ring(heap: &Heap, seat: &mut HeapSeat) -> bool
     requires { Carries heap.now seat.old }
     ensures { Carries heap.now seat.new }
 {

@@ -4,7 +4,7 @@ ghost use Rattle.std.specs.Bool.{OnTrue};
 ghost use Rattle.mark_core.specs.Places.{the_phase};
 ghost use Rattle.mark_core.specs.declared.kinds.Phase.TheVariants.{Drain, Marking, Sweep};
 ghost use Rattle.gc_table.specs.Running.{Alone, Known};
-ghost use Rattle.gc_table.specs.Seats.{Sits, view_of};
+ghost use Rattle.gc_table.specs.Seats.{did, Sits, state_of, view_of};
 ghost use Rattle.gc_table.specs.Stopping.{has_moved};
 ghost use Rattle.gc_table.specs.Trials.{At, resting};
 ghost use Rattle.card_clean.specs.Drained.{IsBeforeSweep, IsDrained, IsRooted};
@@ -77,7 +77,7 @@ fn drains(heap: &Heap, seat: &mut HeapSeat)
 /// Lets others help in the drain.
 fn opens(heap: &Heap, seat: &mut HeapSeat)
     requires seat { Sits heap.now seat.old × Alone Drain (view_of seat.old) }
-    requires closed { IsFalse (view_of seat.old).state.opened }
+    requires closed { IsFalse (state_of seat.old).opened }
     ensures { Sits heap.now seat.new × Known (view_of seat.new) the_phase 2 }
 {
     open_help(heap, seat);
@@ -107,7 +107,7 @@ fn opens_drain(heap: &Heap, seat: &mut HeapSeat) -> bool
 /// Closes the drain to others. No block was handed out in it.
 fn closes<R: Wait>(rt: &R, heap: &Heap, seat: &mut HeapSeat)
     requires seat { Sits heap.now seat.old × Known (view_of seat.old) the_phase 2 }
-    requires opened { IsTrue (view_of seat.old).state.opened }
+    requires opened { IsTrue (state_of seat.old).opened }
     ensures { Sits heap.now seat.new × Alone Drain (view_of seat.new) }
 {
     close_help(rt, heap, seat);
@@ -139,7 +139,7 @@ fn begins_sweep(heap: &Heap, seat: &mut HeapSeat)
 /// Lets others help in the sweep.
 fn opens_blocks(heap: &Heap, seat: &mut HeapSeat)
     requires seat { Sits heap.now seat.old × Alone Sweep (view_of seat.old) }
-    requires closed { IsFalse (view_of seat.old).state.opened }
+    requires closed { IsFalse (state_of seat.old).opened }
 {
     open_help(heap, seat);
 }

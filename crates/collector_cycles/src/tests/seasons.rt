@@ -3,7 +3,7 @@ ghost use Rattle.std.specs.Prelude.{◌<◌, IsFalse, IsTrue};
 ghost use Rattle.std.specs.Bool.{OnTrue};
 ghost use Rattle.mark_core.specs.declared.kinds.Phase.TheVariants.{Idle};
 ghost use Rattle.gc_table.specs.Running.{Alone};
-ghost use Rattle.gc_table.specs.Seats.{view_of};
+ghost use Rattle.gc_table.specs.Seats.{Across, state_of, view_of};
 ghost use Rattle.gc_table.specs.Stopping.{has_moved};
 ghost use Rattle.gc_table.specs.Trials.{At, entered, resting};
 ghost use Rattle.collector_cycles.specs.Seats.{Carries, Keeps, New, flagged, playing, stopped, waiting};
@@ -17,7 +17,7 @@ use stop_world::{Raised, await_stopped, leave, raise, resume};
 pub fn raises_own(heap: &Heap, seat: &mut HeapSeat, k: u32) -> bool
     requires { At heap.now resting k seat.old }
     ensures raised { OnTrue result (At heap.now flagged k seat.new × IsFalse (has_moved (view_of seat.new).log)) }
-    ensures keeps { Keeps (view_of seat.old) (view_of seat.new) }
+    ensures keeps { Across Keeps seat.old seat.new }
 {
     match raise(heap, seat) {
         Raised::Yours => true,
@@ -29,7 +29,7 @@ pub fn raises_own(heap: &Heap, seat: &mut HeapSeat, k: u32) -> bool
 pub fn stops_idle<R: Wait>(rt: &R, heap: &Heap, seat: &mut HeapSeat, k: u32) -> bool
     requires { At heap.now flagged k seat.old × IsFalse (has_moved (view_of seat.old).log) }
     ensures stopped { OnTrue result (At heap.now stopped k seat.new × Alone Idle (view_of seat.new)) }
-    ensures keeps { Keeps (view_of seat.old) (view_of seat.new) }
+    ensures keeps { Across Keeps seat.old seat.new }
 {
     await_stopped(rt, heap, seat);
     match seat.state().phase_seen {
@@ -72,7 +72,7 @@ pub fn next_turn<R: Wait>(rt: &R, heap: &Heap, seat: &mut HeapSeat) -> bool
 pub fn enters(heap: &Heap, seat: &mut HeapSeat, k: u32) -> bool
     requires { At heap.now resting k seat.old }
     ensures entered { OnTrue result (At heap.now entered k seat.new) }
-    ensures keeps { Keeps (view_of seat.old) (view_of seat.new) }
+    ensures keeps { Across Keeps seat.old seat.new }
 {
     heap.enter_step(seat)
 }
@@ -81,7 +81,7 @@ pub fn enters(heap: &Heap, seat: &mut HeapSeat, k: u32) -> bool
 fn sees_idle(heap: &Heap, seat: &mut HeapSeat, k: u32) -> bool
     requires { At heap.now entered k seat.old }
     ensures sees { OnTrue result (At heap.now waiting k seat.new) }
-    ensures keeps { Keeps (view_of seat.old) (view_of seat.new) }
+    ensures keeps { Across Keeps seat.old seat.new }
 {
     match heap.read_phase(seat) {
         Phase::Idle => true,
@@ -93,7 +93,7 @@ fn sees_idle(heap: &Heap, seat: &mut HeapSeat, k: u32) -> bool
 fn sees_turn(heap: &Heap, seat: &mut HeapSeat, k: u32) -> bool
     requires { At heap.now waiting k seat.old }
     ensures sees { OnTrue result (At heap.now playing k seat.new) }
-    ensures keeps { Keeps (view_of seat.old) (view_of seat.new) }
+    ensures keeps { Across Keeps seat.old seat.new }
 {
     heap.read_season(seat) == 1
 }
@@ -118,7 +118,7 @@ pub fn begin<R: Wait>(rt: &R, heap: &Heap, zero: &mut HeapSeat, one: &mut HeapSe
 /// Tries to begin a cycle.
 fn try_marking(heap: &Heap, seat: &mut HeapSeat)
     requires seat { Carries heap.now seat.old }
-    requires active { IsTrue (view_of seat.old).state.active }
+    requires active { IsTrue (state_of seat.old).active }
     ensures { Carries heap.now seat.new }
 {
     heap.store_phase(seat, Phase::Marking);

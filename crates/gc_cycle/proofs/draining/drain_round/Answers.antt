@@ -1,9 +1,13 @@
+use Rattle.std.proofs.Common.{subst, sym}
+use Rattle.mark_core.specs.declared.kinds.Shape.{Shape}
+use Rattle.gc_table.specs.Log.{events}
+use Rattle.gc_table.proofs.Running.{ran-join}
+use Rattle.card_clean.specs.DirtyCards.{CleansDirty}
 use Rattle.gc_table.specs.Seats.{view_of}
 use Rattle.gc_table.specs.declared.view.View.{View}
 use Rattle.mark_core.specs.declared.kinds.Phase.TheVariants.{Drain}
 use Rattle.gc_cycle.proofs.Parts.{part-join}
 use Rattle.gc_cycle.proofs.Traced.{alone-traces, rescans-last, traced-part}
-use Rattle.gc_cycle.specs.Turns.{round_quota}
 use Rattle.gc_cycle.proofs.Turns.{traced-within}
 use Rattle.gc_cycle.proofs.draining.drain_round.Goals as goal
 
@@ -42,5 +46,19 @@ returns-clause-rescanned c =
 
 pub returns-clause-worked : goal.returns-clause-worked
 returns-clause-worked c =
-    traced-within round_quota c.trace.result (view_of c.args.seat.now) (view_of c.recycle_deferred.new.seat) (view_of c.trace.new.seat) (view_of c.clean_dirty.new.seat)
+    traced-within c.args.quota c.trace.result (view_of c.args.seat.now) (view_of c.recycle_deferred.new.seat) (view_of c.trace.new.seat) (view_of c.clean_dirty.new.seat)
     c.recycle_deferred.ensures.traced.ran c.trace.ensures.traced.ran c.clean_dirty.ensures.traced.ran c.trace.ensures.ends
+
+pub returns-clause-cleans : goal.returns-clause-cleans
+returns-clause-cleans c =
+    let v : View = view_of c.args.seat.now in
+    let w : View = view_of c.recycle_deferred.new.seat in
+    let x : View = view_of c.trace.new.seat in
+    let y : View = view_of c.clean_dirty.new.seat in
+    record {
+      traced = x;
+      first = ran-join v w x c.recycle_deferred.ensures.traced.ran c.trace.ensures.traced.ran;
+      last = c.clean_dirty.ensures.traced.ran;
+      count = c.clean_dirty.result;
+      cleans = subst (λ (sh : Shape). CleansDirty sh c.clean_dirty.result (events x y)) (sym c.requires.seat.1) c.clean_dirty.ensures.cleans;
+    }

@@ -1,4 +1,4 @@
-use Rattle.std.proofs.Common.{◌≡◌, ◌∷◌, [], sym, ap, ◌∙◌, true, false}
+use Rattle.std.proofs.Common.{◌≡◌, ◌∷◌, [], sym, ap, ◌∙◌, subst, true, false}
 use Rattle.std.proofs.lemmas.Bool.{not-true}
 use Rattle.mark_core.specs.Seats.{work_in_hand}
 use Rattle.mark_core.specs.declared.kinds.Phase.TheVariants.{Drain}
@@ -8,6 +8,7 @@ use Rattle.gc_table.specs.Seats.{view_of}
 use Rattle.gc_table.specs.declared.view.View.{View}
 use Rattle.packet_pools.specs.OnlyTraced.{OnlyTraced}
 use Rattle.packet_pools.specs.Tracing.{Traces}
+use Rattle.card_clean.specs.Taking.{NoPacket}
 use Rattle.card_clean.proofs.Staying.{ready-stays}
 use Rattle.gc_cycle.specs.Finishing.{IsAloneIn}
 use Rattle.gc_cycle.specs.Lower.{HasTraced}
@@ -101,3 +102,16 @@ returns-clause-rescanned c =
     let e = c.see_to_roots.ensures in
     let r = c.recycle_deferred.ensures in
     rescans-none v w x e.later.ran r.later.ran (rescanned-same (events v w) v ∙ e.left) (moves-quiet (3 ∷ []) (events w x) w r.recycled.moves)
+
+pub returns-clause-lacks : goal.returns-clause-lacks
+returns-clause-lacks c t =
+    let v : View = view_of c.args.seat.now in
+    let e = c.see_to_roots.ensures in
+    let r = c.recycle_deferred.ensures in
+    record {
+      looked = view_of c.see_to_roots.new.seat;
+      looks = e.later.ran;
+      lacks = subst (λ (sh : Shape). NoPacket sh (events v (view_of c.see_to_roots.new.seat))) (sym c.requires.seat.1) (e.none c.if-see_to_roots.false).1;
+      ran = r.later.ran;
+      brings = r.recycled.moves;
+    }

@@ -13,6 +13,7 @@ use Rattle.gc_table.specs.declared.view.View.{View}
 use Rattle.packet_pools.specs.Counts.{count_of}
 use Rattle.packet_pools.specs.Seeking.{some_event}
 use Rattle.sweeper.specs.Blocks.{Ended, drawn, swept_events}
+use Rattle.gc_cycle.specs.Helping.{freed_in}
 use Rattle.gc_cycle.specs.Lower.{block_floor, sweeps_next}
 use Rattle.gc_cycle.specs.Sorts.{gets_block, sees_last_block}
 use Rattle.gc_cycle.proofs.Swept.{cleaning-done, floor-above, floor-low, floor-rises, freed-same}
@@ -98,3 +99,13 @@ returns-in-None-clause-none c =
       subst (λ (sh : Shape). block_count sh ≤ block_floor w) shape (floor-above (block_count v.shape) w e.above),
       got-none (block_count c.args.heap.now.shape) v w e (subst (λ (sh : Shape). block_count sh ≤ e.number) shape e.end),
     )
+
+pub returns-in-None-clause-unfreed : goal.returns-in-None-clause-unfreed
+returns-in-None-clause-unfreed c =
+    let v : View = view_of c.args.seat.now in
+    let w : View = view_of c.sweep_next.new.seat in
+    let e = c.in-None.ensures.none in
+    ⊎_elim
+    (λ (x : events v w ≡ event (ReadStat 1) e.number ∷ []). ap (freed_in v) x)
+    (λ (x : (seen : ℕ) × (events v w ≡ drawn seen e.number)). ap (freed_in v) x.1)
+    e.events

@@ -41,16 +41,16 @@ pub returns-in-Some-clause-round : goal.returns-in-Some-clause-round
 returns-in-Some-clause-round g c =
     let v : View = view_of c.args.seat.now in
     let x : View = view_of c.claim.new.seat in
-    let w : View = view_of c.pay_for.new.seat in
-    let p = c.pay_for.ensures in
-    round-later c.args.done v x w (Some c.pay_for.result) (leads-prepared v x c.claim.ensures.ran (claims-only c.in-Some.cache v x c.in-Some.ensures.some)) (round-calm c.args.done x w c.pay_for.result p.ran p.only p.known)
+    let w : View = view_of c.pay_for-refill.new.seat in
+    let p = c.pay_for-refill.ensures in
+    round-later c.args.done v x w (Some c.pay_for-refill.result) (leads-prepared v x c.claim.ensures.ran (claims-only c.in-Some.cache v x c.in-Some.ensures.some)) (round-calm c.args.done x w c.pay_for-refill.result p.ran p.only p.known)
 
 pub returns-in-Some-clause-stops : goal.returns-in-Some-clause-stops
 returns-in-Some-clause-stops g c =
     let v : View = view_of c.args.seat.now in
     let x : View = view_of c.claim.new.seat in
-    let w : View = view_of c.pay_for.new.seat in
-    let p = c.pay_for.ensures in
+    let w : View = view_of c.pay_for-refill.new.seat in
+    let p = c.pay_for-refill.ensures in
     let sh : Shape = c.args.heap.now.shape in
     leads-stops sh v x w (leads-prepared v x c.claim.ensures.ran (claims-only c.in-Some.cache v x c.in-Some.ensures.some)) p.ran (calm-stops sh x w p.only)
 
@@ -58,10 +58,10 @@ pub returns-in-Some-clause-some : goal.returns-in-Some-clause-some
 returns-in-Some-clause-some g c =
     let v : View = view_of c.args.seat.now in
     let x : View = view_of c.claim.new.seat in
-    λ u q t k p. c.pay_for.ensures.refills u (claims-claimed c.in-Some.cache c.args.done u v x c.requires.seat.1.active q t k p c.claim.ensures.ran c.in-Some.ensures.some)
+    λ u q t k p. c.pay_for-refill.ensures.refills u (claims-claimed c.in-Some.cache c.args.done u v x c.requires.seat.1.active q t k p c.claim.ensures.ran c.in-Some.ensures.some)
 
-pub pay_for-requires-clause-cache : goal.pay_for-requires-clause-cache
-pay_for-requires-clause-cache g c = claims-cached c.in-Some.cache (view_of c.args.seat.now) (view_of c.claim.new.seat) c.in-Some.ensures.some
+pub pay_for-refill-requires-clause-cache : goal.pay_for-refill-requires-clause-cache
+pay_for-refill-requires-clause-cache g c = claims-cached c.in-Some.cache (view_of c.args.seat.now) (view_of c.claim.new.seat) c.in-Some.ensures.some
 
 pub returns-in-None-clause-numbers : goal.returns-in-None-clause-numbers
 returns-in-None-clause-numbers g c =
@@ -71,4 +71,4 @@ returns-in-None-clause-numbers g c =
 
 pub returns-in-Some-clause-numbers : goal.returns-in-Some-clause-numbers
 returns-in-Some-clause-numbers g c =
-    claims-refill c.pay_for.result c.in-Some.cache (view_of c.args.seat.now) (view_of c.claim.new.seat) (view_of c.pay_for.new.seat) c.claim.ensures.ran c.in-Some.ensures.some c.pay_for.ensures.numbers
+    claims-refill c.pay_for-refill.result c.in-Some.cache (view_of c.args.seat.now) (view_of c.claim.new.seat) (view_of c.pay_for-refill.new.seat) c.claim.ensures.ran c.in-Some.ensures.some c.pay_for-refill.ensures.numbers

@@ -4,6 +4,8 @@ use Rattle.gc_table.specs.Seats.{view_of}
 use Rattle.gc_table.specs.declared.view.View.{View}
 use Rattle.gc_cycle.proofs.AfterStop.{done-resuming, round-cache, round-full, round-gets, round-none, round-theirs, to-drop}
 use Rattle.gc_cycle.proofs.Answered.{full-later}
+use Rattle.gc_table.proofs.Running.{ran-join}
+use Rattle.gc_cycle.proofs.InStops.{unbegun-stop, unbegun-tries}
 use Rattle.gc_cycle.proofs.Changes.{numbers-one, only-changes}
 use Rattle.gc_cycle.specs.Statistics.{taken}
 use Rattle.gc_cycle.proofs.RoundNumbers.{stop-full, stop-none, stop-some, stop-takes}
@@ -127,3 +129,36 @@ returns-in-Going-None-clause-numbers g c =
     let k = stop-takes (taken o) u v (view_of c.claim_in_stop-cache.new.seat) x (only-changes u v c.stop.ensures.tries.ran c.stop.ensures.numbers) c.claim_in_stop-cache.ensures.numbers c.resume.ensures.ran c.resume.ensures.step in
     let going = rw c.in-Going-None.field-0-is at c.in-Going-None.ensures.answer in
     stop-none o u x (view_of c.go_on.new.seat) going.same k going.looked
+
+pub returns-then-not-stop-clause-unbegun : goal.returns-then-not-stop-clause-unbegun
+returns-then-not-stop-clause-unbegun g c = unbegun-tries (view_of c.args.seat.now) (view_of c.stop.new.seat) c.stop.ensures.tries.only
+
+pub returns-in-Full-clause-unbegun : goal.returns-in-Full-clause-unbegun
+returns-in-Full-clause-unbegun g c =
+    let u : View = view_of c.args.seat.now in
+    let v : View = view_of c.stop.new.seat in
+    let w : View = view_of c.claim_in_stop-cache.new.seat in
+    let x : View = view_of c.resume.new.seat in
+    let y : View = view_of c.go_on.new.seat in
+    let t = c.stop.ensures.tries in
+    unbegun-stop u v y t.ran (ran-join v w y c.claim_in_stop-cache.ensures.claims.ran (ran-join w x y c.resume.ensures.ran c.go_on.ensures.ran)) t.only c.if-not-stop.ensures.yours.raised
+
+pub returns-in-Going-Some-clause-unbegun : goal.returns-in-Going-Some-clause-unbegun
+returns-in-Going-Some-clause-unbegun g c =
+    let u : View = view_of c.args.seat.now in
+    let v : View = view_of c.stop.new.seat in
+    let w : View = view_of c.claim_in_stop-cache.new.seat in
+    let x : View = view_of c.resume.new.seat in
+    let y : View = view_of c.go_on.new.seat in
+    let t = c.stop.ensures.tries in
+    unbegun-stop u v y t.ran (ran-join v w y c.claim_in_stop-cache.ensures.claims.ran (ran-join w x y c.resume.ensures.ran c.go_on.ensures.ran)) t.only c.if-not-stop.ensures.yours.raised
+
+pub returns-in-Going-None-clause-unbegun : goal.returns-in-Going-None-clause-unbegun
+returns-in-Going-None-clause-unbegun g c =
+    let u : View = view_of c.args.seat.now in
+    let v : View = view_of c.stop.new.seat in
+    let w : View = view_of c.claim_in_stop-cache.new.seat in
+    let x : View = view_of c.resume.new.seat in
+    let y : View = view_of c.go_on.new.seat in
+    let t = c.stop.ensures.tries in
+    unbegun-stop u v y t.ran (ran-join v w y c.claim_in_stop-cache.ensures.claims.ran (ran-join w x y c.resume.ensures.ran c.go_on.ensures.ran)) t.only c.if-not-stop.ensures.yours.raised

@@ -10,7 +10,7 @@ use Rattle.gc_cycle.proofs.Fulls.{tells-none}
 use Rattle.gc_cycle.proofs.Tried.{ends-round, tried-more, tried-none}
 use Rattle.gc_cycle.proofs.RoundNumbers.{refills-later}
 use Rattle.gc_cycle.proofs.Changes.{by-none, numbers-join, numbers-one}
-use Rattle.gc_cycle.proofs.refilling.refill.Goals as goal
+use Rattle.gc_cycle.proofs.refilling.refill_watched.Goals as goal
 
 pub loop-init : goal.loop-init
 loop-init g c = record { next = tt; finite = tt; sits = c.requires.seat.0; numbers = numbers-one [] (view_of c.args.seat.now) (view_of c.args.seat.now) (by-none (view_of c.args.seat.now)); tried = tried-none c.args.done (view_of c.args.seat.now) c.requires.seat.1 c.requires.cache }

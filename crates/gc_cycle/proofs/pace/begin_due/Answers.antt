@@ -13,7 +13,7 @@ use Rattle.gc_table.proofs.Log.{events-after}
 use Rattle.gc_table.proofs.Running.{ran-answered, ran-events, ran-join}
 use Rattle.gc_cycle.specs.Pacing.{KicksOff, statistic}
 use Rattle.gc_cycle.proofs.Kicking.{may-try, none-due, one-due, three, three-events, tried-state}
-use Rattle.gc_cycle.proofs.pace.kick_off.Goals as goal
+use Rattle.gc_cycle.proofs.pace.begin_due.Goals as goal
 
 pub returns-then-free-last-clause-ran : goal.returns-then-free-last-clause-ran
 returns-then-free-last-clause-ran c =
@@ -41,14 +41,14 @@ returns-then-free-last-clause-begins c =
     le-ltb _ _ (omega (arith, e, l, k, f)) in
     subst (KicksOff false) (sym all) (none-due p.read.0 q.read.0 r.read.0 few)
 
-pub store_phase-begun-requires-clause-may : goal.store_phase-begun-requires-clause-may
-store_phase-begun-requires-clause-may c =
+pub store_phase-requires-clause-may : goal.store_phase-requires-clause-may
+store_phase-requires-clause-may c =
     may-try (view_of c.read_statistic-free.new.seat)
     (ap (λ (s : SeatState). s.active) (c.read_statistic-free.ensures.state ∙ (c.read_statistic-rescanned.ensures.state ∙ c.read_statistic-last.ensures.state)) ∙ c.requires.active)
 
 pub returns-clause-state : goal.returns-clause-state
 returns-clause-state c =
-    tried-state (view_of c.read_statistic-free.new.seat) (view_of c.store_phase-begun.new.seat) c.store_phase-begun.ensures.view.0 c.store_phase-begun.ensures.view.1
+    tried-state (view_of c.read_statistic-free.new.seat) (view_of c.store_phase.new.seat) c.store_phase.ensures.view.0 c.store_phase.ensures.view.1
     ∙ (c.read_statistic-free.ensures.state ∙ (c.read_statistic-rescanned.ensures.state ∙ c.read_statistic-last.ensures.state))
 
 pub returns-clause-ran : goal.returns-clause-ran
@@ -57,10 +57,10 @@ returns-clause-ran c =
     let u : View = view_of c.read_statistic-last.new.seat in
     let w : View = view_of c.read_statistic-rescanned.new.seat in
     let x : View = view_of c.read_statistic-free.new.seat in
-    let y : View = view_of c.store_phase-begun.new.seat in
+    let y : View = view_of c.store_phase.new.seat in
     ran-join v x y
     (ran-join v u x c.read_statistic-last.ensures.ran (ran-join u w x c.read_statistic-rescanned.ensures.ran c.read_statistic-free.ensures.ran))
-    (ran-answered x y (StorePhase Marking) (λ n. c.store_phase-begun.result ≡ won (StorePhase Marking) n) refl c.store_phase-begun.ensures.view)
+    (ran-answered x y (StorePhase Marking) (λ n. c.store_phase.result ≡ won (StorePhase Marking) n) refl c.store_phase.ensures.view)
 
 pub returns-clause-begins : goal.returns-clause-begins
 returns-clause-begins c =
@@ -68,13 +68,13 @@ returns-clause-begins c =
     let u : View = view_of c.read_statistic-last.new.seat in
     let w : View = view_of c.read_statistic-rescanned.new.seat in
     let x : View = view_of c.read_statistic-free.new.seat in
-    let y : View = view_of c.store_phase-begun.new.seat in
+    let y : View = view_of c.store_phase.new.seat in
     let p = c.read_statistic-last.ensures in
     let q = c.read_statistic-rescanned.ensures in
     let r = c.read_statistic-free.ensures in
-    let t = c.store_phase-begun.ensures.view in
+    let t = c.store_phase.ensures.view in
     let first : Ran v x = ran-join v u x p.ran (ran-join u w x q.ran r.ran) in
-    let last : Ran x y = ran-answered x y (StorePhase Marking) (λ n. c.store_phase-begun.result ≡ won (StorePhase Marking) n) refl t in
+    let last : Ran x y = ran-answered x y (StorePhase Marking) (λ n. c.store_phase.result ≡ won (StorePhase Marking) n) refl t in
     let reads = three-events v u w x p.read.0 q.read.0 r.read.0 p.ran q.ran r.ran p.read.1 q.read.1 r.read.1 in
     let all = ran-events v x y first last ∙ (ap (λ es. es ++ events x y) reads ∙ ap (λ es. three p.read.0 q.read.0 r.read.0 ++ es) (events-after x y (StorePhase Marking) t.0 t.1)) in
     let due : nat_lt (8 * statistic r.read.0) (statistic p.read.0 + statistic q.read.0) ≡ true =
@@ -83,4 +83,4 @@ returns-clause-begins c =
     let k = q.read.3 in
     let f = r.read.3 in
     lt-ltb _ _ (omega (arith, e, l, k, f)) in
-    subst (KicksOff c.store_phase-begun.result) (sym all) (one-due p.read.0 q.read.0 r.read.0 t.0 c.store_phase-begun.result due t.3)
+    subst (KicksOff c.store_phase.result) (sym all) (one-due p.read.0 q.read.0 r.read.0 t.0 c.store_phase.result due t.3)

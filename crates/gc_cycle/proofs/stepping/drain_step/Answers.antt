@@ -1,0 +1,61 @@
+use Rattle.mark_core.specs.declared.kinds.Phase.TheVariants.{Drain}
+use Rattle.gc_table.specs.Seats.{view_of}
+use Rattle.gc_table.specs.declared.view.View.{View}
+use Rattle.gc_cycle.specs.Finishing.{IsAloneIn}
+use Rattle.gc_cycle.specs.Stepping.{Drains}
+use Rattle.gc_cycle.proofs.Exactly.{exact-part}
+use Rattle.gc_cycle.proofs.Parts.{part-join}
+use Rattle.gc_cycle.proofs.Stepped.{drains-of, makes-round, part-keeps, part-owner, rooted-back}
+use Rattle.gc_cycle.proofs.Traced.{traced-part}
+use Rattle.gc_cycle.proofs.stepping.drain_step.Goals as goal
+
+alone-of : (v : View) → Drains v → IsAloneIn Drain v
+alone-of v r = record { rest = r.rest; alone = r.drain }
+
+pub is_drained-requires : goal.is_drained-requires
+is_drained-requires c = record { seat = (c.requires.seat, rooted-back (view_of c.args.seat.now) c.requires.drains) }
+
+pub returns-then-is_drained-clause-part : goal.returns-then-is_drained-clause-part
+returns-then-is_drained-clause-part c =
+    let v : View = view_of c.args.seat.now in traced-part v (view_of c.is_drained.new.seat) (alone-of v c.requires.drains) c.is_drained.ensures.traced
+
+pub returns-then-is_drained-clause-keeps : goal.returns-then-is_drained-clause-keeps
+unfolding returns-then-is_drained-clause-part
+returns-then-is_drained-clause-keeps c = part-keeps Drain (view_of c.args.seat.now) (view_of c.is_drained.new.seat) (returns-then-is_drained-clause-part c)
+
+pub returns-then-is_drained-clause-exact : goal.returns-then-is_drained-clause-exact
+unfolding returns-then-is_drained-clause-part
+returns-then-is_drained-clause-exact c u k = exact-part Drain u (view_of c.args.seat.now) (view_of c.is_drained.new.seat) (returns-then-is_drained-clause-part c) k
+
+pub returns-then-is_drained-clause-drained : goal.returns-then-is_drained-clause-drained
+unfolding returns-then-is_drained-clause-part
+returns-then-is_drained-clause-drained c = (
+  record { owner = part-owner Drain (view_of c.args.seat.now) (view_of c.is_drained.new.seat) (returns-then-is_drained-clause-part c) c.requires.drains.owner; drained = c.is_drained.ensures.drained c.if-is_drained.true },
+  c.is_drained.ensures.over c.if-is_drained.true,
+)
+
+pub returns-clause-part : goal.returns-clause-part
+returns-clause-part c =
+    let v : View = view_of c.args.seat.now in
+    let w : View = view_of c.is_drained.new.seat in
+    part-join Drain v w (view_of c.drain_round.new.seat) (traced-part v w (alone-of v c.requires.drains) c.is_drained.ensures.traced) c.drain_round.ensures.part
+
+pub returns-clause-not_yet : goal.returns-clause-not_yet
+unfolding returns-clause-part
+returns-clause-not_yet c =
+    let v : View = view_of c.args.seat.now in
+    let w : View = view_of c.is_drained.new.seat in
+    let x : View = view_of c.drain_round.new.seat in
+    let e = c.is_drained.ensures in
+    let d = c.drain_round.ensures in (
+      drains-of x (part-owner Drain v x (returns-clause-part c) c.requires.drains.owner) (d.rooted e.seat.1),
+      makes-round c.args.most c.args.heap.now.shape v w x c.requires.seat.1 e.traced.ran (e.undrained c.if-is_drained.false) d.part.ran d.worked d.cleans,
+    )
+
+pub returns-clause-exact : goal.returns-clause-exact
+unfolding returns-clause-part
+returns-clause-exact c u k = exact-part Drain u (view_of c.args.seat.now) (view_of c.drain_round.new.seat) (returns-clause-part c) k
+
+pub returns-clause-keeps : goal.returns-clause-keeps
+unfolding returns-clause-part
+returns-clause-keeps c = part-keeps Drain (view_of c.args.seat.now) (view_of c.drain_round.new.seat) (returns-clause-part c)

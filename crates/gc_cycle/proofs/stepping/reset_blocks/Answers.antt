@@ -1,0 +1,16 @@
+use Rattle.std.proofs.Common.{refl}
+use Rattle.mark_core.specs.declared.kinds.Phase.TheVariants.{Drain}
+use Rattle.gc_table.specs.Seats.{view_of}
+use Rattle.gc_cycle.proofs.Moving.{may-reset_drain}
+use Rattle.gc_cycle.proofs.Parts.{part-reset}
+use Rattle.gc_cycle.proofs.Stepped.{reset-roots}
+use Rattle.gc_cycle.proofs.stepping.reset_blocks.Goals as goal
+
+pub reset-requires-clause-may : goal.reset-requires-clause-may
+reset-requires-clause-may c = may-reset_drain 1 (view_of c.args.seat.now) refl c.requires.alone
+
+pub returns-clause-part : goal.returns-clause-part
+returns-clause-part c = part-reset Drain 1 (view_of c.args.seat.now) (view_of c.reset.new.seat) c.reset.ensures.view c.requires.alone
+
+pub returns-clause-roots : goal.returns-clause-roots
+returns-clause-roots c = reset-roots (view_of c.args.seat.now) (view_of c.reset.new.seat) c.requires.owner c.requires.alone c.reset.ensures.view

@@ -1,0 +1,11 @@
+use Rattle.mark_core.specs.declared.kinds.Phase.TheVariants.{Sweep}
+use Rattle.gc_table.specs.Seats.{view_of}
+use Rattle.gc_table.specs.declared.view.View.{View}
+use Rattle.gc_cycle.proofs.Stepped.{swept-alone}
+use Rattle.gc_cycle.proofs.sweep_steps.sweep_alone.Goals as goal
+
+pub returns-clause-part : goal.returns-clause-part
+returns-clause-part c =
+    let w : View = view_of c.sweep_rest.new.seat in
+    let r = c.sweep_rest.ensures in
+    swept-alone (view_of c.args.seat.now) w c.requires.alone r.ran r.only w.state.below_block w.state.cleaning r.state r.left

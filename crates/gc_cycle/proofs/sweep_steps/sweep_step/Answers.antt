@@ -1,0 +1,100 @@
+use Rattle.std.proofs.Common.{◌≡◌, ap, arith, inl, refl}
+use Rattle.mark_core.specs.Layout.{block_count}
+use Rattle.mark_core.specs.declared.kinds.Phase.TheVariants.{Sweep}
+use Rattle.packet_pools.specs.Counts.{count_of}
+use Rattle.sweeper.specs.Freeing.{frees}
+use Rattle.gc_table.specs.Seats.{view_of}
+use Rattle.gc_table.specs.declared.view.View.{View}
+use Rattle.gc_table.proofs.Log.{events-none}
+use Rattle.gc_cycle.specs.Helping.{freed_in}
+use Rattle.gc_cycle.specs.Sorts.{gets_block}
+use Rattle.gc_cycle.proofs.Admitted.{count-run}
+use Rattle.gc_cycle.proofs.Completing.{total-run}
+use Rattle.gc_cycle.proofs.Exactly.{exact-part}
+use Rattle.gc_cycle.proofs.Parts.{part-join, part-none}
+use Rattle.gc_cycle.proofs.Stepped.{has-swept, may-sweep, next-alone, no-block, part-keeps, sweeps-on}
+use Rattle.gc_cycle.proofs.sweep_steps.sweep_step.Goals as goal
+
+pub loop-blocks-init : goal.loop-blocks-init
+loop-blocks-init c =
+    let v : View = view_of c.args.seat.now in
+    let none = ap (freed_in v) (events-none v) in
+    record {
+      sits = c.requires.seat;
+      part = part-none Sweep v c.requires.sweeps.alone;
+      count = ap (count_of (gets_block (block_count c.args.heap.now.shape))) (events-none v);
+      freed = omega (arith, none);
+    }
+
+pub sweep_next-requires-clause-sweeps : goal.sweep_next-requires-clause-sweeps
+sweep_next-requires-clause-sweeps c = inl (may-sweep (view_of c.loop-blocks.seat) c.loop-blocks.invariant.part.alone)
+
+pub sweep_next-requires-clause-block : goal.sweep_next-requires-clause-block
+sweep_next-requires-clause-block c = no-block (view_of c.loop-blocks.seat) c.loop-blocks.invariant.part.alone
+
+pub loop-blocks-preserved : goal.loop-blocks-preserved
+loop-blocks-preserved c =
+    let u : View = view_of c.args.seat.now in
+    let v : View = view_of c.loop-blocks.seat in
+    let w : View = view_of c.sweep_next.new.seat in
+    let i = c.loop-blocks.invariant in
+    let e = c.in-Some.ensures in
+    let p = next-alone v w i.part.alone e.ran e.only e.state e.left in
+    let counts = count-run (gets_block (block_count c.args.heap.now.shape)) u v w i.part.ran e.ran in
+    let one = e.some.3 in
+    let so_far = i.count in
+    let total = total-run frees u v w i.part.ran e.ran in
+    let more = e.some.0 in
+    let before = i.freed in
+    let sum = c.saturating_add-freed.ensures in
+    record {
+      sits = e.seat;
+      part = part-join Sweep u v w i.part p;
+      count = omega (arith, counts, one, so_far);
+      freed = omega (arith, total, more, before, sum);
+    }
+
+pub returns-in_default : goal.returns-in_default
+returns-in_default c =
+    let u : View = view_of c.args.seat.now in
+    let v : View = view_of c.loop-blocks.seat in
+    let w : View = view_of c.sweep_next.new.seat in
+    let i = c.loop-blocks.invariant in
+    let e = c.in_default.ensures in
+    let p = part-join Sweep u v w i.part (next-alone v w i.part.alone e.ran e.only e.state e.left) in
+    let counts = count-run (gets_block (block_count c.args.heap.now.shape)) u v w i.part.ran e.ran in
+    let none = e.none.2 in
+    let so_far = i.count in
+    let total = total-run frees u v w i.part.ran e.ran in
+    let unfreed = e.unfreed in
+    let before = i.freed in
+    let few = c.loop-blocks-test.true in
+    let s = sweeps-on u w c.requires.sweeps p in
+    record {
+      seat = e.seat;
+      part = p;
+      sweeps = s;
+      swept = λ _. has-swept c.args.heap.now.shape w e.seat.1 s e.none.1;
+      blocks = (omega (arith, few), omega (arith, counts, none, so_far));
+      freed = omega (arith, total, unfreed, before);
+      exact = λ x k. exact-part Sweep x u w p k;
+      keeps = part-keeps Sweep u w p;
+    }
+
+pub returns : goal.returns
+returns c =
+    let u : View = view_of c.args.seat.now in
+    let v : View = view_of c.loop-blocks.seat in
+    let i = c.loop-blocks.invariant in
+    let far = c.loop-blocks-test.false in
+    let count = i.count in
+    record {
+      seat = i.sits;
+      part = i.part;
+      sweeps = sweeps-on u v c.requires.sweeps i.part;
+      swept = λ n. absurd (n refl);
+      blocks = (omega arith, omega (arith, far, count));
+      freed = i.freed;
+      exact = λ x k. exact-part Sweep x u v i.part k;
+      keeps = part-keeps Sweep u v i.part;
+    }

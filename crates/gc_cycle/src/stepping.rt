@@ -1,0 +1,158 @@
+//! A collection in steps, none of which waits: each does a piece of it, and its caller comes again.
+//!
+//! The steps come in this order:
+//!
+//! 1. [`ask_to_stop`], until the flag is the seat's own (where another's is up, the seat is outside: [`try_enter`](crate::try_enter));
+//! 2. [`finds_stopped`], until it has;
+//! 3. [`begin_collection`], once;
+//! 4. [`root_step`], until the roots are seen to;
+//! 5. [`drain_step`], until all is marked;
+//! 6. where a cycle was marking and its dead are to go too, [`drain_again`], and 4 and 5 once more;
+//! 7. [`end_collection`](crate::end_collection), once: the seat runs again. Its work in smaller pieces is that of [`start_sweep`](crate::start_sweep),
+//!    [`sweep_step`](crate::sweep_step), until no block is left, and [`finish_collection`](crate::finish_collection).
+//!
+//! No helpers are let in, so the seat is alone from the moment that the world has stopped. Between two steps the world stays stopped, or is asked to,
+//! so a thread that doesn't come again holds up all others.
+//!
+//! A collection that began in Idle, or that drained again, is precise: the cells in use at its end are exactly the reachable ones. `IsExactSince` is handed
+//! from step to step, and [`end_collection`](crate::end_collection) says of all of them together what [`precise`](crate::precise) says of itself.
+ghost use Rattle.std.specs.Prelude.{◌≡◌, ◌≢◌, None, Some};
+ghost use Rattle.std.specs.Bool.{OnFalse, OnTrue};
+ghost use Rattle.mark_core.specs.declared.kinds.Phase.TheVariants.{Drain, Full, Idle};
+ghost use Rattle.gc_table.specs.Rule.{KnowsFull};
+ghost use Rattle.gc_table.specs.Running.{Ran};
+ghost use Rattle.gc_table.specs.Seats.{Across, did, Sits, state_of, view_of};
+ghost use Rattle.gc_table.specs.declared.view.View.{View};
+ghost use Rattle.card_clean.specs.Drained.{FindsNone};
+ghost use Rattle.gc_cycle.specs.Collecting.{HoldsWorld};
+ghost use Rattle.gc_cycle.specs.Finishing.{IsAloneIn, IsPart};
+ghost use Rattle.gc_cycle.specs.Standing.{IsOut, Mutates};
+ghost use Rattle.gc_cycle.specs.Stepping.{Asks, AsksOnce, Drains, FindsRunning, FindsStopped, HasDrained, IsExactSince, IsOwner, Keeps, LacksPacket, MakesRound, RunsAgain, SeesRoots};
+
+use crate::clearing::{begin_again, begin_clear};
+use crate::collecting::has_seen_full;
+use crate::draining::{begin_drain, drain_round};
+use crate::lower::{clear_rest, is_drained, raise, resume, sees_to_roots};
+use crate::stopping::go_out;
+use gc_table::{Heap, HeapSeat};
+use mark_core::BLOCK_COUNTER;
+use stop_world::Raised;
+
+/// Leaves the world with the position stored, and asks for a stop: true where the flag is the seat's own now. False comes exactly where another's was
+/// up, whose stop comes first; the seat is outside then.
+pub fn ask_to_stop(heap: &Heap, seat: &mut HeapSeat, done: u32) -> bool
+    requires seat { Sits heap.now seat.old × Mutates (view_of seat.old) }
+    requires cache { (state_of seat.old).cache ≡ None }
+    ensures seat { Sits heap.now seat.new }
+    ensures ran { Across Ran seat.old seat.new }
+    ensures asks { Across (AsksOnce done result) seat.old seat.new }
+    ensures yours { OnTrue result (Asks (view_of seat.new)) }
+    ensures theirs { OnFalse result (IsOut (view_of seat.new)) }
+    ensures position { (view_of seat.new).own.position ≡ done }
+    ensures keeps { Across Keeps seat.old seat.new }
+{
+    go_out(heap, seat, done);
+    match raise(heap, seat) {
+        Raised::Yours => true,
+        Raised::Theirs => false,
+    }
+}
+
+/// Whether the world has stopped, as one look finds it.
+pub fn finds_stopped(heap: &Heap, seat: &mut HeapSeat) -> bool
+    requires seat { Sits heap.now seat.old }
+    requires asks { Asks (view_of seat.old) }
+    ensures seat { Sits heap.now seat.new }
+    ensures ran { Across Ran seat.old seat.new }
+    ensures stopped { OnTrue result (HoldsWorld (view_of seat.new) × Across FindsStopped seat.old seat.new) }
+    ensures not_yet { OnFalse result (Asks (view_of seat.new) × Across FindsRunning seat.old seat.new) }
+    ensures keeps { Across Keeps seat.old seat.new }
+{
+    heap.observe(seat);
+    if !seat.state().knows {
+        return false;
+    }
+    heap.read_phase(seat);
+    true
+}
+
+/// The block counter is set, before the roots are seen to.
+fn reset_blocks(heap: &Heap, seat: &mut HeapSeat)
+    requires seat { Sits heap.now seat.old }
+    requires owner { IsOwner (view_of seat.old) }
+    requires alone { IsAloneIn Drain (view_of seat.old) }
+    ensures seat { Sits heap.now seat.new }
+    ensures part { Across (IsPart Drain) seat.old seat.new }
+    ensures roots { SeesRoots (view_of seat.new) }
+{
+    heap.reset(seat, BLOCK_COUNTER);
+}
+
+/// Begins the drain in a stopped world. False comes exactly where the heap is full: then the world goes on, and the seat runs.
+pub fn begin_collection(heap: &Heap, seat: &mut HeapSeat) -> bool
+    requires seat { Sits heap.now seat.old }
+    requires stopped { HoldsWorld (view_of seat.old) }
+    ensures seat { Sits heap.now seat.new }
+    ensures ran { Across Ran seat.old seat.new }
+    ensures begun { OnTrue result (SeesRoots (view_of seat.new) × ((state_of seat.old).phase_seen ≢ Some Full)) }
+    ensures exact { OnTrue result ((state_of seat.old).phase_seen ≡ Some Idle → (u : View) → Ran u (view_of seat.old) → IsExactSince u (view_of seat.new)) }
+    ensures full { OnFalse result (RunsAgain (view_of seat.new) × KnowsFull (view_of seat.new)) }
+    ensures keeps { Across Keeps seat.old seat.new }
+{
+    if has_seen_full(seat) {
+        resume(heap, seat);
+        return false;
+    }
+    begin_drain(heap, seat);
+    reset_blocks(heap, seat);
+    true
+}
+
+/// Marks what the roots refer to. False comes only where no packet could be had: those that were put off are back then, and it is to be called again.
+pub fn root_step(heap: &Heap, seat: &mut HeapSeat) -> bool
+    requires seat { Sits heap.now seat.old }
+    requires roots { SeesRoots (view_of seat.old) }
+    ensures seat { Sits heap.now seat.new }
+    ensures part { Across (IsPart Drain) seat.old seat.new }
+    ensures rooted { OnTrue result (Drains (view_of seat.new)) }
+    ensures not_yet { OnFalse result (SeesRoots (view_of seat.new) × Across LacksPacket seat.old seat.new) }
+    ensures exact { (u : View) → IsExactSince u (view_of seat.old) → IsExactSince u (view_of seat.new) }
+    ensures keeps { Across Keeps seat.old seat.new }
+{
+    sees_to_roots(heap, seat)
+}
+
+/// True where all is marked: no card was found dirty, and all packets empty. Else something was left, and a round was made: it popped `most` objects, or
+/// as many as there were, and cleaned each card that was dirty then. It is to be called again.
+pub fn drain_step(heap: &Heap, seat: &mut HeapSeat, most: u32) -> bool
+    requires seat { Sits heap.now seat.old }
+    requires drains { Drains (view_of seat.old) }
+    ensures seat { Sits heap.now seat.new }
+    ensures part { Across (IsPart Drain) seat.old seat.new }
+    ensures drained { OnTrue result (HasDrained (view_of seat.new) × FindsNone heap.now.shape (did seat.old seat.new)) }
+    ensures not_yet { OnFalse result (Drains (view_of seat.new) × Across (MakesRound most) seat.old seat.new) }
+    ensures exact { (u : View) → IsExactSince u (view_of seat.old) → IsExactSince u (view_of seat.new) }
+    ensures keeps { Across Keeps seat.old seat.new }
+{
+    if is_drained(heap, seat) {
+        return true;
+    }
+    drain_round(heap, seat, most);
+    false
+}
+
+/// Takes all marks away and begins the drain once more, so that only what is reachable now is marked.
+pub fn drain_again(heap: &Heap, seat: &mut HeapSeat)
+    requires seat { Sits heap.now seat.old }
+    requires drained { HasDrained (view_of seat.old) }
+    ensures seat { Sits heap.now seat.new }
+    ensures ran { Across Ran seat.old seat.new }
+    ensures roots { SeesRoots (view_of seat.new) }
+    ensures exact { (u : View) → Ran u (view_of seat.old) → IsExactSince u (view_of seat.new) }
+    ensures keeps { Across Keeps seat.old seat.new }
+{
+    begin_clear(heap, seat);
+    clear_rest(heap, seat);
+    begin_again(heap, seat);
+    reset_blocks(heap, seat);
+}

@@ -1,0 +1,119 @@
+//! The end of a collection in steps: the sweep, whole or in pieces of so many blocks, and the end of the cycle.
+ghost use Rattle.std.specs.Prelude.{◌≡◌, ◌≢◌, ◌≤◌, min, IsTrue};
+ghost use Rattle.mark_core.specs.Layout.{block_count};
+ghost use Rattle.mark_core.specs.declared.kinds.Phase.TheVariants.{Drain, Sweep};
+ghost use Rattle.gc_table.specs.Log.{events};
+ghost use Rattle.gc_table.specs.Running.{Ran};
+ghost use Rattle.gc_table.specs.Seats.{Across, did, Sits, view_of};
+ghost use Rattle.gc_table.specs.declared.view.View.{View};
+ghost use Rattle.packet_pools.specs.Counts.{count_of};
+ghost use Rattle.gc_cycle.specs.Cycles.{collects_exactly};
+ghost use Rattle.gc_cycle.specs.Finishing.{IsAloneIn, IsMove, IsPart, most as greatest};
+ghost use Rattle.gc_cycle.specs.Helping.{freed_in};
+ghost use Rattle.gc_cycle.specs.Lower.{block_floor};
+ghost use Rattle.gc_cycle.specs.Moments.{begins};
+ghost use Rattle.gc_cycle.specs.Sorts.{gets_block};
+ghost use Rattle.gc_cycle.specs.Stepping.{EndsCollection, HasDrained, HasSwept, IsExactSince, Keeps, RunsAgain, Sweeps};
+
+use crate::counts::Counts;
+use crate::draining::begin_sweep;
+use crate::lower::{resume, sweep_next, sweep_rest};
+use crate::settling::settle;
+use crate::sweeping::end_sweep;
+use gc_table::{Heap, HeapSeat};
+
+/// What a step of the sweep did.
+#[derive(Clone, Copy, Debug, PartialEq, Eq, Drop)]
+pub struct SweepStep {
+    /// How many blocks it swept. Where it is fewer than it was to sweep, none is left.
+    pub blocks: u32,
+    /// How many cells it freed.
+    pub freed: u32,
+}
+
+/// Begins the sweep, once all is marked.
+pub fn start_sweep(heap: &Heap, seat: &mut HeapSeat)
+    requires seat { Sits heap.now seat.old }
+    requires drained { HasDrained (view_of seat.old) }
+    ensures seat { Sits heap.now seat.new }
+    ensures moved { Across (IsMove Drain Sweep) seat.old seat.new }
+    ensures sweeps { Sweeps (view_of seat.new) }
+    ensures exact { (u : View) → IsExactSince u (view_of seat.old) → IsExactSince u (view_of seat.new) }
+    ensures keeps { Across Keeps seat.old seat.new }
+{
+    begin_sweep(heap, seat);
+}
+
+/// Sweeps at most so many blocks: fewer come exactly where none is left.
+pub fn sweep_step(heap: &Heap, seat: &mut HeapSeat, most: u32) -> SweepStep
+    requires seat { Sits heap.now seat.old }
+    requires sweeps { Sweeps (view_of seat.old) }
+    ensures seat { Sits heap.now seat.new }
+    ensures part { Across (IsPart Sweep) seat.old seat.new }
+    ensures sweeps { Sweeps (view_of seat.new) }
+    ensures swept { result.blocks ≢ most → HasSwept (view_of seat.new) }
+    ensures blocks { (result.blocks ≤ most) × (count_of (gets_block (block_count heap.now.shape)) (did seat.old seat.new) ≡ result.blocks) }
+    ensures freed { result.freed ≡ min (freed_in (view_of seat.old) (did seat.old seat.new)) greatest }
+    ensures exact { (u : View) → IsExactSince u (view_of seat.old) → IsExactSince u (view_of seat.new) }
+    ensures keeps { Across Keeps seat.old seat.new }
+{
+    let mut freed: u32 = 0;
+    for blocks in 0..most {
+        let Some(more) = sweep_next(heap, seat) else {
+            return SweepStep { blocks, freed };
+        };
+        freed = freed.saturating_add(more);
+    }
+    SweepStep {
+        blocks: most,
+        freed,
+    }
+}
+
+/// Ends the cycle once no block is left to sweep, and lets the world go on: the seat runs again. `freed` is how many cells it freed in all. The number of
+/// objects that were scanned again is set to 0 for the next cycle.
+pub fn finish_collection(heap: &Heap, seat: &mut HeapSeat, freed: u32) -> Counts
+    requires seat { Sits heap.now seat.old }
+    requires swept { HasSwept (view_of seat.old) }
+    ensures seat { Sits heap.now seat.new }
+    ensures ran { Across Ran seat.old seat.new }
+    ensures runs { RunsAgain (view_of seat.new) }
+    ensures ends { Across (EndsCollection result) seat.old seat.new }
+    ensures counts { (result.freed ≡ freed) × (result.rescanned ≡ 0) }
+    ensures collects { (u : View) → IsExactSince u (view_of seat.old) → IsTrue (collects_exactly heap.now.shape (begins u) (events u (view_of seat.new))) }
+    ensures keeps { Across Keeps seat.old seat.new }
+{
+    end_sweep(heap, seat);
+    let counts = settle(heap, seat, 0, freed);
+    resume(heap, seat);
+    counts
+}
+
+/// Sweeps every block, alone.
+fn sweep_alone(heap: &Heap, seat: &mut HeapSeat) -> u32
+    requires seat { Sits heap.now seat.old }
+    requires alone { IsAloneIn Sweep (view_of seat.old) }
+    ensures seat { Sits heap.now seat.new }
+    ensures part { Across (IsPart Sweep) seat.old seat.new }
+    ensures end { block_count heap.now.shape ≤ block_floor (view_of seat.new) }
+    ensures freed { freed_in (view_of seat.old) (did seat.old seat.new) ≡ result }
+{
+    sweep_rest(heap, seat)
+}
+
+/// Sweeps every block, ends the cycle, and lets the world go on: the seat runs again. The number of objects that were scanned again is set to 0 for the next
+/// cycle. The seat has read no phase since: before it stores it comes to a safe point.
+pub fn end_collection(heap: &Heap, seat: &mut HeapSeat) -> Counts
+    requires seat { Sits heap.now seat.old }
+    requires drained { HasDrained (view_of seat.old) }
+    ensures seat { Sits heap.now seat.new }
+    ensures ran { Across Ran seat.old seat.new }
+    ensures runs { RunsAgain (view_of seat.new) }
+    ensures ends { Across (EndsCollection result) seat.old seat.new }
+    ensures collects { (u : View) → IsExactSince u (view_of seat.old) → IsTrue (collects_exactly heap.now.shape (begins u) (events u (view_of seat.new))) }
+    ensures keeps { Across Keeps seat.old seat.new }
+{
+    start_sweep(heap, seat);
+    let freed = sweep_alone(heap, seat);
+    finish_collection(heap, seat, freed)
+}
