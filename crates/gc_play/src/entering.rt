@@ -2,7 +2,7 @@
 ghost use Rattle.std.specs.Prelude.{◌≡◌, IsTrue, IsFalse, Some};
 ghost use Rattle.mark_core.specs.declared.kinds.Step.TheVariants.{LeaveStep};
 ghost use Rattle.gc_table.specs.Log.{events};
-ghost use Rattle.gc_table.specs.Seats.{view_of};
+ghost use Rattle.gc_table.specs.Seats.{Across, did, state_of};
 ghost use Rattle.gc_play.specs.Standing.{Goes, Rests};
 ghost use Rattle.gc_play.specs.Stays.{Stays};
 ghost use Rattle.gc_play.specs.Turns.{Enters, IsOne, SeesPhase};
@@ -13,10 +13,10 @@ use mark_core::Phase;
 /// Enters the world: true where the seat is active. Else it is outside again.
 pub(crate) fn enter(heap: &Heap, seat: &mut HeapSeat) -> bool
     requires { Rests heap.now seat.old }
-    ensures stays { Stays (view_of seat.old) (view_of seat.new) }
+    ensures stays { Across Stays seat.old seat.new }
     ensures inside { IsTrue result → Goes heap.now seat.new }
     ensures outside { IsFalse result → Rests heap.now seat.new }
-    ensures events { Enters result (events (view_of seat.old) (view_of seat.new)) }
+    ensures events { Enters result (did seat.old seat.new) }
 {
     if heap.enter_step(seat) {
         return true;
@@ -29,8 +29,8 @@ pub(crate) fn enter(heap: &Heap, seat: &mut HeapSeat) -> bool
 pub(crate) fn leave(heap: &Heap, seat: &mut HeapSeat)
     requires { Goes heap.now seat.old }
     ensures seat { Rests heap.now seat.new }
-    ensures stays { Stays (view_of seat.old) (view_of seat.new) }
-    ensures events { IsOne LeaveStep (events (view_of seat.old) (view_of seat.new)) }
+    ensures stays { Across Stays seat.old seat.new }
+    ensures events { IsOne LeaveStep (did seat.old seat.new) }
 {
     heap.leave_step(seat);
 }
@@ -39,9 +39,9 @@ pub(crate) fn leave(heap: &Heap, seat: &mut HeapSeat)
 pub(crate) fn see_phase(heap: &Heap, seat: &mut HeapSeat) -> Phase
     requires { Goes heap.now seat.old }
     ensures seat { Goes heap.now seat.new }
-    ensures stays { Stays (view_of seat.old) (view_of seat.new) }
-    ensures seen { (view_of seat.new).state.phase_seen ≡ Some result }
-    ensures events { SeesPhase result (events (view_of seat.old) (view_of seat.new)) }
+    ensures stays { Across Stays seat.old seat.new }
+    ensures seen { (state_of seat.new).phase_seen ≡ Some result }
+    ensures events { SeesPhase result (did seat.old seat.new) }
 {
     heap.read_phase(seat)
 }

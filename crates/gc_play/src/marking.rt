@@ -6,7 +6,7 @@ ghost use Rattle.mark_core.specs.Numbers.{traced_count};
 ghost use Rattle.mark_core.specs.Layout.{card_count};
 ghost use Rattle.mark_core.specs.declared.kinds.Step.TheVariants.{AddStat};
 ghost use Rattle.gc_table.specs.Log.{events};
-ghost use Rattle.gc_table.specs.Seats.{view_of};
+ghost use Rattle.gc_table.specs.Seats.{Across, did, state_of};
 ghost use Rattle.gc_play.specs.Standing.{Goes};
 ghost use Rattle.gc_play.specs.Stays.{Stays};
 ghost use Rattle.gc_play.specs.Tending.{Marks, Tended};
@@ -20,15 +20,15 @@ use tracer::{Stopped, Traced, recycle_deferred, trace};
 /// How many objects a turn traces.
 const OBJECTS: u32 = 64;
 
-/// How many cards a turn cleans.
-const CARDS: u32 = 64;
+/// How many cards a turn passes. Most are clean, and a clean one costs one look.
+const CARDS: u32 = 1_024;
 
 /// Traces the objects of a turn.
 fn trace_objects(heap: &Heap, seat: &mut HeapSeat) -> Traced
     requires { Marks heap.now seat.old }
     ensures seat { Marks heap.now seat.new }
-    ensures tended { Tended result.done (view_of seat.old) (view_of seat.new) }
-    ensures traces { IsTrue (traces_on heap.now.shape (view_of seat.old).state (events (view_of seat.old) (view_of seat.new))) }
+    ensures tended { Across (Tended result.done) seat.old seat.new }
+    ensures traces { IsTrue (traces_on heap.now.shape (state_of seat.old) (did seat.old seat.new)) }
 {
     trace(heap, seat, OBJECTS)
 }
@@ -37,7 +37,7 @@ fn trace_objects(heap: &Heap, seat: &mut HeapSeat) -> Traced
 fn draw(heap: &Heap, seat: &mut HeapSeat) -> Option<u32>
     requires { Marks heap.now seat.old }
     ensures seat { Marks heap.now seat.new }
-    ensures tended { Tended 0 (view_of seat.old) (view_of seat.new) }
+    ensures tended { Across (Tended 0) seat.old seat.new }
     ensures there { IfSome result (λ card. card < card_count heap.now.shape) }
 {
     next_card(heap, seat)
@@ -48,7 +48,7 @@ fn clean(heap: &Heap, seat: &mut HeapSeat, card: u32) -> bool
     requires seat { Marks heap.now seat.old }
     requires card { card < card_count heap.now.shape }
     ensures seat { Marks heap.now seat.new }
-    ensures tended { Tended 0 (view_of seat.old) (view_of seat.new) }
+    ensures tended { Across (Tended 0) seat.old seat.new }
 {
     match clean_one(heap, seat, card) {
         Some(_) => true,
@@ -56,14 +56,37 @@ fn clean(heap: &Heap, seat: &mut HeapSeat, card: u32) -> bool
     }
 }
 
-/// Cleans the next card of the cycle's pass. False where no card is left, or no packet has room.
+/// Whether a card is dirty.
+fn is_dirty(heap: &Heap, seat: &mut HeapSeat, card: u32) -> bool
+    requires seat { Marks heap.now seat.old }
+    requires card { card < card_count heap.now.shape }
+    ensures seat { Marks heap.now seat.new }
+    ensures tended { Across (Tended 0) seat.old seat.new }
+{
+    heap.read_card(seat, card)
+}
+
+/// Looks at a card, and cleans it where it is dirty: a clean card costs one look and no packet. False where no packet has room.
+fn clean_where_dirty(heap: &Heap, seat: &mut HeapSeat, card: u32) -> bool
+    requires seat { Marks heap.now seat.old }
+    requires card { card < card_count heap.now.shape }
+    ensures seat { Marks heap.now seat.new }
+    ensures tended { Across (Tended 0) seat.old seat.new }
+{
+    if !is_dirty(heap, seat, card) {
+        return true;
+    }
+    clean(heap, seat, card)
+}
+
+/// Cleans the next card of the cycle's pass, where it is dirty. False where no card is left, or no packet has room.
 fn clean_next(heap: &Heap, seat: &mut HeapSeat) -> bool
     requires { Marks heap.now seat.old }
     ensures seat { Marks heap.now seat.new }
-    ensures tended { Tended 0 (view_of seat.old) (view_of seat.new) }
+    ensures tended { Across (Tended 0) seat.old seat.new }
 {
     match draw(heap, seat) {
-        Some(card) => clean(heap, seat, card),
+        Some(card) => clean_where_dirty(heap, seat, card),
         None => false,
     }
 }
@@ -72,7 +95,7 @@ fn clean_next(heap: &Heap, seat: &mut HeapSeat) -> bool
 fn clean_cards(heap: &Heap, seat: &mut HeapSeat)
     requires { Marks heap.now seat.old }
     ensures seat { Marks heap.now seat.new }
-    ensures tended { Tended 0 (view_of seat.old) (view_of seat.new) }
+    ensures tended { Across (Tended 0) seat.old seat.new }
 {
     for _ in 0..CARDS {
         if !clean_next(heap, seat) {
@@ -85,7 +108,7 @@ fn clean_cards(heap: &Heap, seat: &mut HeapSeat)
 fn clean_after(heap: &Heap, seat: &mut HeapSeat, stopped: Stopped)
     requires { Marks heap.now seat.old }
     ensures seat { Marks heap.now seat.new }
-    ensures tended { Tended 0 (view_of seat.old) (view_of seat.new) }
+    ensures tended { Across (Tended 0) seat.old seat.new }
 {
     if let Stopped::NoWork = stopped {
         clean_cards(heap, seat);
@@ -96,7 +119,7 @@ fn clean_after(heap: &Heap, seat: &mut HeapSeat, stopped: Stopped)
 fn recycle(heap: &Heap, seat: &mut HeapSeat)
     requires { Marks heap.now seat.old }
     ensures seat { Marks heap.now seat.new }
-    ensures tended { Tended 0 (view_of seat.old) (view_of seat.new) }
+    ensures tended { Across (Tended 0) seat.old seat.new }
 {
     recycle_deferred(heap, seat);
 }
@@ -105,8 +128,8 @@ fn recycle(heap: &Heap, seat: &mut HeapSeat)
 fn count_traced(heap: &Heap, seat: &mut HeapSeat, by: u32)
     requires { Goes heap.now seat.old }
     ensures seat { Goes heap.now seat.new }
-    ensures stays { Stays (view_of seat.old) (view_of seat.new) }
-    ensures events { IsOne (AddStat traced_count by false) (events (view_of seat.old) (view_of seat.new)) }
+    ensures stays { Across Stays seat.old seat.new }
+    ensures events { IsOne (AddStat traced_count by false) (did seat.old seat.new) }
 {
     heap.add_stat(seat, TRACED, by, false);
 }
@@ -115,8 +138,8 @@ fn count_traced(heap: &Heap, seat: &mut HeapSeat, by: u32)
 fn tend(heap: &Heap, seat: &mut HeapSeat) -> u32
     requires { Marks heap.now seat.old }
     ensures seat { Marks heap.now seat.new }
-    ensures tended { Tended result (view_of seat.old) (view_of seat.new) }
-    ensures traces { IsTrue (traces_on heap.now.shape (view_of seat.old).state (events (view_of seat.old) (view_of seat.new))) }
+    ensures tended { Across (Tended result) seat.old seat.new }
+    ensures traces { IsTrue (traces_on heap.now.shape (state_of seat.old) (did seat.old seat.new)) }
 {
     let traced = trace_objects(heap, seat);
     clean_after(heap, seat, traced.stopped);
@@ -128,8 +151,8 @@ fn tend(heap: &Heap, seat: &mut HeapSeat) -> u32
 pub(crate) fn trace_inside(heap: &Heap, seat: &mut HeapSeat)
     requires { Marks heap.now seat.old }
     ensures seat { Goes heap.now seat.new }
-    ensures stays { Stays (view_of seat.old) (view_of seat.new) }
-    ensures traces { TracesInside heap.now.shape (view_of seat.old).state (events (view_of seat.old) (view_of seat.new)) }
+    ensures stays { Across Stays seat.old seat.new }
+    ensures traces { TracesInside heap.now.shape (state_of seat.old) (did seat.old seat.new) }
 {
     let traced = tend(heap, seat);
     if traced > 0 {

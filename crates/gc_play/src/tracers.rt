@@ -1,6 +1,6 @@
 //! The seats that trace beside the mutators.
 ghost use Rattle.std.specs.Prelude.{◌≡◌, ◌∷◌, [], All, None, Some};
-ghost use Rattle.gc_table.specs.Seats.{view_of};
+ghost use Rattle.gc_table.specs.Seats.{Across, did, state_of};
 ghost use Rattle.gc_play.specs.Crews.{IsAnyTracer};
 ghost use Rattle.gc_play.specs.Standing.{Goes, Rests};
 ghost use Rattle.mark_core.specs.Numbers.{done_count};
@@ -26,8 +26,8 @@ use warehouse::Gate;
 fn await_resumed<R: Wait>(rt: &R, heap: &Heap, seat: &mut HeapSeat)
     requires { Rests heap.now seat.old }
     ensures seat { Rests heap.now seat.new }
-    ensures stays { Stays (view_of seat.old) (view_of seat.new) }
-    ensures waits { Waits (events (view_of seat.old) (view_of seat.new)) }
+    ensures stays { Across Stays seat.old seat.new }
+    ensures waits { Waits (did seat.old seat.new) }
 {
     await_resumed_helping(rt, heap, seat);
 }
@@ -36,8 +36,8 @@ fn await_resumed<R: Wait>(rt: &R, heap: &Heap, seat: &mut HeapSeat)
 fn see_done(heap: &Heap, seat: &mut HeapSeat) -> u64
     requires { Rests heap.now seat.old }
     ensures seat { Rests heap.now seat.new }
-    ensures stays { Stays (view_of seat.old) (view_of seat.new) }
-    ensures events { events (view_of seat.old) (view_of seat.new) ≡ entry (ReadStat done_count) result ∷ [] }
+    ensures stays { Across Stays seat.old seat.new }
+    ensures events { did seat.old seat.new ≡ entry (ReadStat done_count) result ∷ [] }
 {
     heap.read_stat(seat, DONE)
 }
@@ -45,11 +45,11 @@ fn see_done(heap: &Heap, seat: &mut HeapSeat) -> u64
 /// Traces, where marking is under way.
 fn trace_if(heap: &Heap, seat: &mut HeapSeat, phase: Phase)
     requires seat { Goes heap.now seat.old }
-    requires seen { (view_of seat.old).state.phase_seen ≡ Some phase }
+    requires seen { (state_of seat.old).phase_seen ≡ Some phase }
     ensures seat { Goes heap.now seat.new }
-    ensures stays { Stays (view_of seat.old) (view_of seat.new) }
-    ensures marking { phase ≡ Marking → TracesInside heap.now.shape (view_of seat.old).state (events (view_of seat.old) (view_of seat.new)) }
-    ensures other { (phase ≡ Marking → ⊥) → events (view_of seat.old) (view_of seat.new) ≡ [] }
+    ensures stays { Across Stays seat.old seat.new }
+    ensures marking { phase ≡ Marking → TracesInside heap.now.shape (state_of seat.old) (did seat.old seat.new) }
+    ensures other { (phase ≡ Marking → ⊥) → did seat.old seat.new ≡ [] }
 {
     if let Phase::Marking = phase {
         trace_inside(heap, seat);
@@ -59,10 +59,10 @@ fn trace_if(heap: &Heap, seat: &mut HeapSeat, phase: Phase)
 /// What a tracer does in the world. True where the heap is full.
 fn go_round<G: Gate>(heap: &Heap, seat: &mut HeapSeat, gate: &G) -> bool
     requires seat { Goes heap.now seat.old }
-    requires section { (view_of seat.old).state.section ≡ None }
+    requires section { (state_of seat.old).section ≡ None }
     ensures seat { Rests heap.now seat.new }
-    ensures stays { Stays (view_of seat.old) (view_of seat.new) }
-    ensures round { IsRound heap.now.shape result (view_of seat.old).state (events (view_of seat.old) (view_of seat.new)) }
+    ensures stays { Across Stays seat.old seat.new }
+    ensures round { IsRound heap.now.shape result (state_of seat.old) (did seat.old seat.new) }
 {
     let phase = see_phase(heap, seat);
     gate.turn(seat);
@@ -81,8 +81,8 @@ fn take_turn<R: Threads + Wait + Sync, G: Gate>(
 ) -> bool
     requires { IsAnyTracer heap.now seat.old }
     ensures seat { Rests heap.now seat.new }
-    ensures stays { Stays (view_of seat.old) (view_of seat.new) }
-    ensures turn { IsOneTurn heap.now.shape until result (view_of seat.old).state (events (view_of seat.old) (view_of seat.new)) }
+    ensures stays { Across Stays seat.old seat.new }
+    ensures turn { IsOneTurn heap.now.shape until result (state_of seat.old) (did seat.old seat.new) }
 {
     if see_done(heap, seat) >= u64::from(until) {
         return true;
@@ -118,7 +118,7 @@ pub fn run_tracer<R: Threads + Wait + Sync, G: Gate>(
 )
     requires { IsAnyTracer heap.now seat.old }
     ensures kept { IsKept heap.now seat.old seat.new }
-    ensures turns { HasTraced heap.now.shape until (view_of seat.old).state (events (view_of seat.old) (view_of seat.new)) }
+    ensures turns { HasTraced heap.now.shape until (state_of seat.old) (did seat.old seat.new) }
 {
     for _ in rt.forever() {
         if take_turn(rt, heap, seat, until, gate) {
