@@ -4,10 +4,12 @@ ghost use Rattle.std.specs.List.{position};
 ghost use Rattle.std.specs.Str.{bytes_eq};
 ghost use Rattle.gc_script.specs.Earlier.{place, has_name};
 
+use crate::text::is_same;
+
 fn position_of(names: &[&str], name: &str) -> Option<usize>
     ensures { result ≡ position (λ other. bytes_eq other.now name.now) names.now }
 {
-    names.iter().position(|other| *other == name)
+    names.iter().position(|other| is_same(other, name))
 }
 
 /// A name's place, or the next one where it is not there.

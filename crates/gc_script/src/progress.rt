@@ -9,10 +9,10 @@ ghost use Rattle.gc_script.specs.Content.{content_of, content_after, kept_shown}
 ghost use Rattle.gc_script.specs.Reading.{BodyAnswers};
 
 use crate::context::Context;
+use crate::cutting::words_of;
 use crate::kept::Kept;
 use crate::script::ScriptError;
 use crate::statement::{Statement, statement_of};
-use crate::text::words_of;
 use std::alloc::Global;
 
 /// What is kept of the lines so far.

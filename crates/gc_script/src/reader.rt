@@ -5,11 +5,12 @@ ghost use Rattle.gc_script.specs.Statement.{statement};
 ghost use Rattle.gc_script.specs.Script.{script, body, of_lines};
 ghost use Rattle.gc_script.specs.Finished.{ReadAnswers};
 
+use crate::cutting::words_of;
 use crate::finish::script_of;
 use crate::header::version;
 use crate::progress::read_lines;
 use crate::script::{Script, ScriptError};
-use crate::text::{lines_of, words_of};
+use crate::text::lines_of;
 use std::alloc::Global;
 
 const LONGEST: usize = 1_048_576;

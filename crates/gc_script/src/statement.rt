@@ -5,7 +5,7 @@ ghost use Rattle.gc_script.specs.Statement.{SumOf, Command, Statement as Said, s
 ghost use Rattle.gc_script.specs.Said.{said, capped, by_assigning, by_block};
 
 use crate::label::Label;
-use crate::text::{is_label, is_name, number_of};
+use crate::text::{is_label, is_name, is_same, number_of};
 
 /// A command with its names as they are written; numbers are at most `LARGE`.
 #[derive(Clone, Copy)]
@@ -226,15 +226,15 @@ fn alone<'a>(words: &[&'a str], statement: Statement<'a>) -> Statement<'a>
 fn by_block<'a>(keyword: &str, words: &[&'a str]) -> Statement<'a>
     ensures { said result ≡ capped (by_block keyword.now (map (λ w. w.now) words.now)) }
 {
-    if keyword == "say" {
+    if is_same(keyword, "say") {
         say_of(words)
-    } else if keyword == "sum" {
+    } else if is_same(keyword, "sum") {
         sum_of(words)
-    } else if keyword == "collect" {
+    } else if is_same(keyword, "collect") {
         alone(words, Statement::Command(Spoken::Collect))
-    } else if keyword == "repeat" {
+    } else if is_same(keyword, "repeat") {
         repeat_of(words)
-    } else if keyword == "end" {
+    } else if is_same(keyword, "end") {
         alone(words, Statement::End)
     } else {
         Statement::Wrong
@@ -244,19 +244,19 @@ fn by_block<'a>(keyword: &str, words: &[&'a str]) -> Statement<'a>
 fn by_assigning<'a>(keyword: &str, words: &[&'a str]) -> Statement<'a>
     ensures { said result ≡ capped (by_assigning keyword.now (map (λ w. w.now) words.now)) }
 {
-    if keyword == "new" {
+    if is_same(keyword, "new") {
         new_of(words)
-    } else if keyword == "let" {
+    } else if is_same(keyword, "let") {
         let_of(words)
-    } else if keyword == "nil" {
+    } else if is_same(keyword, "nil") {
         nil_of(words)
-    } else if keyword == "set" {
+    } else if is_same(keyword, "set") {
         set_of(words)
-    } else if keyword == "get" {
+    } else if is_same(keyword, "get") {
         get_of(words)
-    } else if keyword == "cat" {
+    } else if is_same(keyword, "cat") {
         cat_of(words)
-    } else if keyword == "put" {
+    } else if is_same(keyword, "put") {
         put_of(words)
     } else {
         by_block(keyword, words)
@@ -268,13 +268,13 @@ fn by_keyword<'a>(keyword: &str, words: &[&'a str]) -> Statement<'a>
 {
     if is_note(keyword) {
         Statement::Blank
-    } else if keyword == "fields" {
+    } else if is_same(keyword, "fields") {
         fields_of(words)
-    } else if keyword == "season" {
+    } else if is_same(keyword, "season") {
         alone(words, Statement::Season)
-    } else if keyword == "catalogue" {
+    } else if is_same(keyword, "catalogue") {
         alone(words, Statement::Catalogue)
-    } else if keyword == "warehouse" {
+    } else if is_same(keyword, "warehouse") {
         alone(words, Statement::Warehouse)
     } else {
         by_assigning(keyword, words)

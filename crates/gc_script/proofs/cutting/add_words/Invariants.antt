@@ -1,0 +1,11 @@
+use Rattle.std.proofs.Common.{◌≡◌, ◌++◌, map, length}
+use denote.Shadow.{shadow}
+use denote.Text.{Utf8}
+use Rattle.gc_script.specs.ScriptText.{words}
+use Rattle.gc_script.proofs.cutting.add_words.Given as goal
+
+abbrev pub invariant-line : goal.invariant-line
+invariant-line l = shadow (Utf8 l.rest) × (map (λ w. w.now) l.found.items ++ words l.rest ≡ map (λ w. w.now) l.initial.found.items ++ words l.initial.rest)
+
+abbrev pub decreases-line : goal.decreases-line
+decreases-line l = length l.rest
