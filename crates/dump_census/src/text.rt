@@ -1,6 +1,6 @@
 //! A census as a text that people read. Each line is one piece, and no call takes memory.
 ghost use Rattle.std.specs.Prelude.{◌++◌, codes, length, flat_map};
-ghost use Rattle.play_report.specs.Causes.{Writes};
+ghost use Rattle.play_report.specs.Causes.{WritesTo};
 ghost use Rattle.play_report.specs.Text.{named_text, numbered};
 ghost use Rattle.dump_census.specs.Text.{section_text, level_text, value_text, census_text};
 
@@ -8,8 +8,7 @@ use crate::counts::{Census, SectionCount, ValueCount};
 use play_report::{Failed, Sink, TextLine, write_named, write_pair};
 
 fn write_levels<K: Sink>(levels: &[u32], sink: &mut K) -> Result<(), Failed>
-    ensures { Writes result (K.written sink.old) (K.written sink.new) (K.faults sink.old) (K.faults sink.new)
-        (numbered level_text 0 levels.now) }
+    ensures { WritesTo K.written K.faults result sink.old sink.new (numbered level_text 0 levels.now) }
 {
     for (n, count) in levels.iter().enumerate() {
         match write_pair("level ", n as u64, *count as u64, sink) {
@@ -22,8 +21,7 @@ fn write_levels<K: Sink>(levels: &[u32], sink: &mut K) -> Result<(), Failed>
 
 #[tactic(auto, unfolding(crate::specs::Text::section_text))]
 fn write_section<K: Sink>(w: u64, section: &SectionCount, sink: &mut K) -> Result<(), Failed>
-    ensures { Writes result (K.written sink.old) (K.written sink.new) (K.faults sink.old) (K.faults sink.new)
-        (section_text w section.now) }
+    ensures { WritesTo K.written K.faults result sink.old sink.new (section_text w section.now) }
 {
     let mut line = TextLine::new();
     line.push("section ");
@@ -37,8 +35,7 @@ fn write_section<K: Sink>(w: u64, section: &SectionCount, sink: &mut K) -> Resul
 }
 
 fn write_sections<K: Sink>(sections: &[SectionCount], sink: &mut K) -> Result<(), Failed>
-    ensures { Writes result (K.written sink.old) (K.written sink.new) (K.faults sink.old) (K.faults sink.new)
-        (numbered section_text 0 sections.now) }
+    ensures { WritesTo K.written K.faults result sink.old sink.new (numbered section_text 0 sections.now) }
 {
     for (w, section) in sections.iter().enumerate() {
         match write_section(w as u64, section, sink) {
@@ -50,8 +47,7 @@ fn write_sections<K: Sink>(sections: &[SectionCount], sink: &mut K) -> Result<()
 }
 
 fn write_values<K: Sink>(values: &[ValueCount], sink: &mut K) -> Result<(), Failed>
-    ensures { Writes result (K.written sink.old) (K.written sink.new) (K.faults sink.old) (K.faults sink.new)
-        (flat_map value_text values.now) }
+    ensures { WritesTo K.written K.faults result sink.old sink.new (flat_map value_text values.now) }
 {
     for v in values {
         match write_pair("value ", v.value as u64, v.count as u64, sink) {
@@ -64,7 +60,7 @@ fn write_values<K: Sink>(values: &[ValueCount], sink: &mut K) -> Result<(), Fail
 
 /// The sections and the values.
 fn write_counts<K: Sink>(census: &Census, sink: &mut K) -> Result<(), Failed>
-    ensures { Writes result (K.written sink.old) (K.written sink.new) (K.faults sink.old) (K.faults sink.new)
+    ensures { WritesTo K.written K.faults result sink.old sink.new
         (numbered section_text 0 census.now.sections ++ flat_map value_text census.now.values) }
 {
     match write_sections(census.sections(), sink) {
@@ -75,7 +71,7 @@ fn write_counts<K: Sink>(census: &Census, sink: &mut K) -> Result<(), Failed>
 
 /// The records without a level, the sections and the values.
 fn write_rest<K: Sink>(census: &Census, sink: &mut K) -> Result<(), Failed>
-    ensures { Writes result (K.written sink.old) (K.written sink.new) (K.faults sink.old) (K.faults sink.new)
+    ensures { WritesTo K.written K.faults result sink.old sink.new
         (named_text (codes "unreached ") census.now.unreached ++ (numbered section_text 0 census.now.sections ++ flat_map value_text census.now.values)) }
 {
     match write_named("unreached ", census.unreached() as u64, sink) {
@@ -86,7 +82,7 @@ fn write_rest<K: Sink>(census: &Census, sink: &mut K) -> Result<(), Failed>
 
 /// All but the number of levels.
 fn write_after<K: Sink>(census: &Census, sink: &mut K) -> Result<(), Failed>
-    ensures { Writes result (K.written sink.old) (K.written sink.new) (K.faults sink.old) (K.faults sink.new)
+    ensures { WritesTo K.written K.faults result sink.old sink.new
         (numbered level_text 0 census.now.levels ++ (named_text (codes "unreached ") census.now.unreached
         ++ (numbered section_text 0 census.now.sections ++ flat_map value_text census.now.values))) }
 {
@@ -100,8 +96,7 @@ fn write_after<K: Sink>(census: &Census, sink: &mut K) -> Result<(), Failed>
 /// section, and a line `value v count` for each value, in order. Failed only where the sink's count of faults rose in this call,
 /// and a front of the text was then written.
 pub fn write_census<K: Sink>(census: &Census, sink: &mut K) -> Result<(), Failed>
-    ensures { Writes result (K.written sink.old) (K.written sink.new) (K.faults sink.old) (K.faults sink.new)
-        (census_text census.now) }
+    ensures { WritesTo K.written K.faults result sink.old sink.new (census_text census.now) }
 {
     match write_named("levels ", census.levels().len() as u64, sink) {
         Ok(()) => write_after(census, sink),

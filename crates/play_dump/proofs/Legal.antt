@@ -1,6 +1,7 @@
 -- A final heap has a dump.
 use Rattle.std.proofs.Common.{◌≡◌, ◌⊎◌, inl, inr, ℕ, zero, suc, ◌+◌, ◌-◌, ◌*◌, ◌/◌, ◌%◌, ◌<◌, ◌≤◌, ap, sym, ◌∙◌, subst, arith, List, length, map, get_or}
 use Rattle.std.specs.Prelude.{Some, slice_get, Contains}
+use Rattle.std.proofs.lemmas.Bool.{cases_lt}
 use Rattle.std.proofs.lemmas.List.{get_or-map, length-map}
 use Rattle.std.proofs.lemmas.Option.{slice_get-get_or}
 use Rattle.plain_heap.specs.declared.object.Ref.{Ref}
@@ -8,8 +9,9 @@ use Rattle.plain_heap.specs.declared.object.Ref.TheVariants as refs
 use Rattle.plain_heap.specs.declared.object.Object.{Object as PlainObject}
 use Rattle.plain_heap.specs.Sections.{Sections, section_numbers, executed_total}
 use Rattle.plain_heap.specs.PlainRun.{last_heap, last_heaps}
-use Rattle.plain_heap.specs.Paths.{Name, Names, IsReachable, Survivor, name_of, HasValue}
+use Rattle.plain_heap.specs.Paths.{Name, Names, ComesBefore, IsReachable, Survivor, name_of, HasValue}
 use Rattle.heap_dump.specs.Final.{Heap, Object, object, blank, IsWithin, RefersWithin, IsLegal}
+use Rattle.play_contract.proofs.InOrder.{never}
 use Rattle.play_contract.proofs.Members.{map-to}
 use Rattle.play_contract.proofs.SectionLists.{contains_got}
 use Rattle.play_dump.specs.Final.{name_in, survivor_in, IsNumberOf, IsFinalHeap}
@@ -62,6 +64,27 @@ module _ (s : Sections) (h : Heap) (f : IsFinalHeap s h) where
   name-at k d below =
       get_or-map name_of (map survivor_in h.records) k (survivor_in blank) d (omega (arith, below, length-map h.records survivor_in))
       ∙ ap name_of (get_or-map survivor_in h.records k blank (survivor_in blank) below)
+
+  -- no two records have one name
+  pub records-apart : (j k : ℕ) → j < length h.records → k < length h.records → name_in (object h j) ≡ name_in (object h k) → j ≡ k
+  records-apart j k in-j in-k one = of (cases_lt j k) (cases_lt k j)
+    where
+      d : Name
+      d = name_in blank
+
+      total : length (map name_of (map survivor_in h.records)) ≡ length h.records
+      total = length-map (map survivor_in h.records) name_of ∙ length-map h.records survivor_in
+
+      before : (i l : ℕ) → i < l → l < length h.records → i < length h.records → name_in (object h i) ≡ name_in (object h l) → ⊥
+      before i l less in-l in-i is =
+          never (name_in (object h l))
+          (subst (λ (n : Name). ComesBefore n (name_in (object h l))) (name-at i d in-i ∙ is)
+          (subst (λ (n : Name). ComesBefore (get_or (map name_of (map survivor_in h.records)) i d) n) (name-at l d in-l) (f.survivors.reachable.ordered i l d less (omega (arith, in-l, total)))))
+
+      of : (j < k) ⊎ (k ≤ j) → (k < j) ⊎ (j ≤ k) → j ≡ k
+      of (inl less) other = absurd (before j k less in-k in-j one)
+      of (inr less) (inl more) = absurd (before k j more in-j in-k (sym one))
+      of (inr less) (inr more) = omega arith
 
   pub legal : IsLimited s h → IsLegal h
   legal l = record {

@@ -8,3 +8,4 @@ pub mod Told
 pub mod Legal
 pub mod Made
 pub mod One
+pub mod Referring

@@ -22,7 +22,7 @@ use Rattle.play_dump.specs.Telling.{IsSurvivor, cell_in, AreNumbers, number_of, 
 use Rattle.play_dump.proofs.Legal.{legal}
 use Rattle.play_dump.proofs.Lists.{image-at}
 use Rattle.play_dump.proofs.Reached.{named, are-placed}
-use Rattle.play_dump.proofs.Told.{HasSurvivors, told-variable, told-field, value-fits, root-count, root-within}
+use Rattle.play_dump.proofs.Told.{HasSurvivors, told-variable, told-field, told-rest, value-fits, root-count, root-within}
 
 listed-same : (a b c d e f : ℕ) → a ≡ d → b ≡ e → c ≡ f → ◌≡◌ {A = Listed} (record { section = a; number = b; value = c }) (record { section = d; number = e; value = f })
 listed-same a b c d e f x y z = cc
@@ -67,7 +67,7 @@ module _ (s : Sections) (r : Report) (w : Words) (e : IsEndOf s r w) (numbers ro
           ap name_in (object-at k t.0 t.1) ∙ ap (λ (x : Listed). record { section = x.section; number = x.number }) (same-survivor k y t.0 here t.1)
 
   has-refs : (k : ℕ) → k < length (made s roots records).records → HasRefs s (made s roots records) k
-  has-refs k inside = record { count = ap (λ (o : Object). length o.refs) is ∙ length-take-le s.fields t.0.refs (omega (arith, few, told.refs.count)); each = each }
+  has-refs k inside = record { count = ap (λ (o : Object). length o.refs) is ∙ length-take-le s.fields t.0.refs (omega (arith, few, told.refs.count)); others = others; each = each }
     where
       h : Heap
       h = made s roots records
@@ -90,13 +90,18 @@ module _ (s : Sections) (r : Report) (w : Words) (e : IsEndOf s r w) (numbers ro
       name : name_in (object h k) ≡ named y.0
       name = held.each k y.0 y.1
 
+      own : (o : PlainObject) → slice_get (last_heap s (object h k).section).objects (object h k).number ≡ Some o → slice_get (last_heap s y.0.section).objects y.0.number ≡ Some o
+      own o there = ap (λ (x : Name). slice_get (last_heap s x.section).objects x.number) (sym name) ∙ there
+
+      others : (o : PlainObject) → slice_get (last_heap s (object h k).section).objects (object h k).number ≡ Some o → (i : ℕ) → s.fields ≤ i → slice_index_or o.refs i refs.Nil ≡ refs.Nil
+      others o there i late = told-rest s r w e k y.0 y.1 o (own o there) i late
+
       each : (o : PlainObject) → slice_get (last_heap s (object h k).section).objects (object h k).number ≡ Some o → (i : ℕ) → i < s.fields
           → IsNumberOf h (object h k).section (slice_index_or o.refs i refs.Nil) (get_or (object h k).refs i 0)
       each o there i low =
-          let own : slice_get (last_heap s y.0.section).objects y.0.number ≡ Some o = ap (λ (x : Name). slice_get (last_heap s x.section).objects x.number) (sym name) ∙ there in
           let value : get_or (object h k).refs i 0 ≡ number_of numbers (field_word w s.fields (cell_in r y.0) i) = ap (λ (x : Object). get_or x.refs i 0) is ∙ (get_or-take s.fields t.0.refs i 0 low ∙ told.refs.each i low) in
           subst (λ (section : ℕ). IsNumberOf h section (slice_index_or o.refs i refs.Nil) (get_or (object h k).refs i 0)) (sym (ap (λ (x : Name). x.section) name))
-          (subst (λ (m : ℕ). IsNumberOf h y.0.section (slice_index_or o.refs i refs.Nil) m) (sym value) (told-field s r w e numbers h n held k y.0 y.1 o own i low))
+          (subst (λ (m : ℕ). IsNumberOf h y.0.section (slice_index_or o.refs i refs.Nil) m) (sym value) (told-field s r w e numbers h n held k y.0 y.1 o (own o there) i low))
 
   root-at : (k : ℕ) → k < length w.roots.items → get_or roots k 0 ≡ number_of numbers (slice_index w.roots.items k)
   root-at k inside = ap (λ (l : List ℕ). get_or l k 0) rooted ∙ get_or-map (number_of numbers) w.roots.items k 0 0 inside

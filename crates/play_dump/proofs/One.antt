@@ -1,7 +1,6 @@
 -- A script has one final heap.
-use Rattle.std.proofs.Common.{◌≡◌, ◌⊎◌, inl, inr, ℕ, suc, ◌+◌, ◌-◌, ◌*◌, ◌/◌, ◌%◌, ◌<◌, ◌≤◌, refl, ap, sym, ◌∙◌, subst, arith, List, [], ◌∷◌, length, map, get_or}
-use Rattle.std.specs.Prelude.{Some, slice_get, slice_index_or, Contains}
-use Rattle.std.proofs.lemmas.Bool.{cases_lt}
+use Rattle.std.proofs.Common.{◌≡◌, inl, inr, ℕ, ◌+◌, ◌-◌, ◌*◌, ◌/◌, ◌%◌, ◌<◌, ◌≤◌, refl, ap, sym, ◌∙◌, subst, arith, List, [], ◌∷◌, length, map, get_or}
+use Rattle.std.specs.Prelude.{Some, slice_get, slice_index_or}
 use Rattle.std.proofs.lemmas.List.{ext_get_or, length-map}
 use Rattle.std.proofs.lemmas.Option.{same_Some}
 use Rattle.plain_heap.specs.declared.object.Ref.{Ref}
@@ -10,13 +9,13 @@ use Rattle.plain_heap.specs.declared.object.Object.{Object as PlainObject}
 use Rattle.plain_heap.specs.PlainHeap.{variable}
 use Rattle.plain_heap.specs.Sections.{Sections}
 use Rattle.plain_heap.specs.PlainRun.{last_heap}
-use Rattle.plain_heap.specs.Paths.{Name, Names, ComesBefore, IsOrdered, name_of}
+use Rattle.plain_heap.specs.Paths.{Name, Names, name_of}
 use Rattle.gc_table.proofs.StandsNamed.{names-one}
 use Rattle.heap_dump.specs.Final.{Object, Heap, object, blank}
-use Rattle.play_contract.proofs.InOrder.{never, same-names}
+use Rattle.play_contract.proofs.InOrder.{same-names}
 use Rattle.play_dump.specs.Final.{name_in, survivor_in, IsNumberOf, IsFinalHeap}
 use Rattle.play_dump.specs.Laws.{OneFinalHeap}
-use Rattle.play_dump.proofs.Legal.{record-value, record-object, name-at}
+use Rattle.play_dump.proofs.Legal.{record-value, record-object, records-apart, name-at}
 
 -- a reference has one number where no name stands twice
 number-one : (a b : Heap) (section : ℕ) (ref : Ref) (m n : ℕ) → IsNumberOf a section ref m → IsNumberOf b section ref n → length a.records ≡ length b.records
@@ -46,24 +45,7 @@ module _ (s : Sections) (a b : Heap) (f : IsFinalHeap s a) (g : IsFinalHeap s b)
       sym (name-at s a f k d (omega (arith, below, long))) ∙ (ap (λ (l : List Name). get_or l k d) names-same ∙ name-at s b g k d below)
 
   apart : (j k : ℕ) → j < length b.records → k < length b.records → name_in (object b j) ≡ name_in (object b k) → j ≡ k
-  apart j k in-j in-k one = of (cases_lt j k) (cases_lt k j)
-    where
-      d : Name
-      d = name_in blank
-
-      total : length (map name_of (map survivor_in b.records)) ≡ length b.records
-      total = length-map (map survivor_in b.records) name_of ∙ length-map b.records survivor_in
-
-      before : (i l : ℕ) → i < l → l < length b.records → i < length b.records → name_in (object b i) ≡ name_in (object b l) → ⊥
-      before i l less in-l in-i is =
-          never (name_in (object b l))
-          (subst (λ (n : Name). ComesBefore n (name_in (object b l))) (name-at s b g i d in-i ∙ is)
-          (subst (λ (n : Name). ComesBefore (get_or (map name_of (map survivor_in b.records)) i d) n) (name-at s b g l d in-l) (g.survivors.reachable.ordered i l d less (omega (arith, in-l, total)))))
-
-      of : (j < k) ⊎ (k ≤ j) → (k < j) ⊎ (j ≤ k) → j ≡ k
-      of (inl less) other = absurd (before j k less in-k in-j one)
-      of (inr less) (inl more) = absurd (before k j more in-j in-k (sym one))
-      of (inr less) (inr more) = omega arith
+  apart = records-apart s b g
 
   roots-same : a.roots ≡ b.roots
   roots-same = ext_get_or 0 a.roots b.roots (omega (arith, f.count, g.count, f.sections, g.sections)) each

@@ -155,6 +155,19 @@ module _ (s : Sections) (r : Report) (w : Words) (e : IsEndOf s r w) where
       (subst (λ (t : ℕ). WordAgrees ids (object_count (meanings_of x.sections)) (section_of ids (cell_in r y)) t (slice_index_or holds.object.refs i refs.Nil)) (field-is (cell_in r y) i) (holds.each_field i (omega (arith, few, field-shape))))))
       (λ c goes. field-reaches j y at i c few goes)
 
+  -- by no other field does it refer to anything
+  pub told-rest : (j : ℕ) (y : Survivor) → IsSurvivor r j y → (o : Object) → slice_get (last_heap s y.section).objects y.number ≡ Some o → (i : ℕ) → s.fields ≤ i
+      → slice_index_or o.refs i refs.Nil ≡ refs.Nil
+  told-rest j y at o there i late =
+      let x : TableState = end_state s r w e in
+      let cell = (survivor-cell s r w e j y at).0 in
+      let m : Meaning = cell.2.0 in
+      let holds = cell.2.2 in
+      let alike = last-alike s e.shape.cells x y.section m (stands s r w e) cell.2.1 in
+      let own : holds.object ≡ o =
+      same_Some holds.object o (sym holds.there ∙ (ap (λ (k : Name). slice_get m.heap.objects k.number) cell.1 ∙ (ap (λ (os : List Object). slice_get os y.number) (alike-objects m.heap (last_heap s y.section) alike) ∙ there))) in
+      subst (λ (p : Object). slice_index_or p.refs i refs.Nil ≡ refs.Nil) own (holds.rest i (omega (arith, late, field-shape)))
+
   -- its value fits
   pub value-fits : (j : ℕ) (y : Survivor) → IsSurvivor r j y → (o : Object) → slice_get (last_heap s y.section).objects y.number ≡ Some o → o.value < 4294967296
   value-fits j y at o there =

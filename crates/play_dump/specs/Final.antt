@@ -24,6 +24,9 @@ IsNumberOf h section ref n = ((ref ≡ refs.Nil) × (n ≡ 0)) ⊎ ((0 < n) × (
 -- record k has the references of its object
 pub record HasRefs (s : Sections) (h : Heap) (k : ℕ) : Type 0 where
   pub count : length (object h k).refs ≡ s.fields
+  -- all of them: by no other field does the object refer to anything
+  pub others : (o : PlainObject) → slice_get (last_heap s (object h k).section).objects (object h k).number ≡ Some o → (i : ℕ) → s.fields ≤ i
+      → slice_index_or o.refs i refs.Nil ≡ refs.Nil
   pub each : (o : PlainObject) → slice_get (last_heap s (object h k).section).objects (object h k).number ≡ Some o → (i : ℕ) → i < s.fields
       → IsNumberOf h (object h k).section (slice_index_or o.refs i refs.Nil) (get_or (object h k).refs i 0)
 

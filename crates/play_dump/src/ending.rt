@@ -1,6 +1,7 @@
 //! The heap that a dump tells, from what a play answers.
 ghost use Rattle.std.specs.Prelude.{◌≡◌, ◌+◌, ◌≤◌, IfOk, length};
 ghost use Rattle.plain_heap.specs.Sections.{section_numbers};
+ghost use Rattle.heap_dump.specs.Final.{IsLegal};
 ghost use Rattle.play_dump.specs.Ending.{IsEndOf};
 ghost use Rattle.play_dump.specs.Final.{IsFinalHeap};
 
@@ -33,7 +34,8 @@ pub fn final_heap(
     words: &Words,
 ) -> Result<FinalHeap, OutOfMemory>
     requires { IsEndOf script.now.sections report.now words.now }
-    ensures { IfOk result (IsFinalHeap script.now.sections) }
+    ensures heap { IfOk result (IsFinalHeap script.now.sections) }
+    ensures legal { IfOk result IsLegal }
 {
     let _seasons = script.seasons();
     let fields = script.fields();

@@ -1,6 +1,6 @@
 //! The texts of a faulty script and of words that are no command.
 ghost use Rattle.std.specs.Prelude.{◌≢◌};
-ghost use Rattle.play_report.specs.Causes.{Writes};
+ghost use Rattle.play_report.specs.Causes.{WritesTo};
 ghost use Rattle.play_report.specs.Text.{error_text, usage_text};
 
 use crate::line::write_named;
@@ -11,7 +11,7 @@ use gc_script::ScriptError;
 /// faults rose in this call, and a prefix of the text was then written. The line is one piece, and
 /// the rest of a piece that was taken in part is handed again. It takes no memory.
 pub fn write_usage<K: Sink>(sink: &mut K) -> Result<(), Failed>
-    ensures { Writes result (K.written sink.old) (K.written sink.new) (K.faults sink.old) (K.faults sink.new) usage_text }
+    ensures { WritesTo K.written K.faults result sink.old sink.new usage_text }
 {
     write_all(sink, b"usage: gcplay command [options]\n")
 }
@@ -22,7 +22,7 @@ pub fn write_usage<K: Sink>(sink: &mut K) -> Result<(), Failed>
 /// rest of a piece that was taken in part is handed again. It takes no memory.
 pub fn write_fault<K: Sink>(fault: &ScriptError, sink: &mut K) -> Result<(), Failed>
     requires { fault.now ≢ ScriptError.OutOfMemory }
-    ensures { Writes result (K.written sink.old) (K.written sink.new) (K.faults sink.old) (K.faults sink.new) (error_text fault.now) }
+    ensures { WritesTo K.written K.faults result sink.old sink.new (error_text fault.now) }
 {
     match fault {
         ScriptError::NotAscii { offset } => write_named("1 NotAscii offset ", *offset as u64, sink),

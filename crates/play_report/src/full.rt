@@ -1,5 +1,5 @@
 //! How far a play came that its cells were too few for.
-ghost use Rattle.play_report.specs.Causes.{Writes};
+ghost use Rattle.play_report.specs.Causes.{WritesTo};
 ghost use Rattle.play_report.specs.Text.{positions_text, full_text};
 
 use crate::line::{write_named, write_pair};
@@ -7,8 +7,7 @@ use crate::outside::{Failed, Sink};
 use crate::report::Positions;
 
 fn write_positions<K: Sink>(done: &[u32], sink: &mut K) -> Result<(), Failed>
-    ensures { Writes result (K.written sink.old) (K.written sink.new) (K.faults sink.old) (K.faults sink.new)
-        (positions_text done.now) }
+    ensures { WritesTo K.written K.faults result sink.old sink.new (positions_text done.now) }
 {
     for (section, count) in done.iter().enumerate() {
         match write_pair("position ", section as u64, *count as u64, sink) {
@@ -24,8 +23,7 @@ fn write_positions<K: Sink>(done: &[u32], sink: &mut K) -> Result<(), Failed>
 /// call, and a prefix of the text was then written. Each line is one piece, and the rest of a
 /// piece that was taken in part is handed again. It takes no memory.
 pub fn write_full<K: Sink>(positions: &Positions, sink: &mut K) -> Result<(), Failed>
-    ensures { Writes result (K.written sink.old) (K.written sink.new) (K.faults sink.old) (K.faults sink.new)
-        (full_text positions.now.section positions.now.done.items) }
+    ensures { WritesTo K.written K.faults result sink.old sink.new (full_text positions.now.section positions.now.done.items) }
 {
     match write_named("full section ", positions.section as u64, sink) {
         Ok(()) => write_positions(positions.done.as_slice(), sink),

@@ -1,6 +1,6 @@
 //! One line of text on the stack, which is handed to a sink as one piece.
 ghost use Rattle.std.specs.Prelude.{◌≡◌, ◌≤◌, ◌+◌, ◌++◌, [], length, decimal};
-ghost use Rattle.play_report.specs.Causes.{Writes};
+ghost use Rattle.play_report.specs.Causes.{WritesTo};
 ghost use Rattle.play_report.specs.Text.{named_text, pair_text, triple_text};
 
 use crate::outside::{Failed, Sink, write_all};
@@ -61,8 +61,7 @@ impl TextLine {
 
     /// Hands the line to the sink as one piece.
     pub fn write<K: Sink>(&self, sink: &mut K) -> Result<(), Failed>
-        ensures { Writes result (K.written sink.old) (K.written sink.new) (K.faults sink.old) (K.faults sink.new)
-            self.now }
+        ensures { WritesTo K.written K.faults result sink.old sink.new self.now }
     {
         write_all(sink, &self.bytes[..self.len])
     }
@@ -72,8 +71,7 @@ impl TextLine {
 #[tactic(auto, unfolding(crate::specs::Text::named_text))]
 pub fn write_named<K: Sink>(word: &str, n: u64, sink: &mut K) -> Result<(), Failed>
     requires { length word.now ≤ 32 }
-    ensures { Writes result (K.written sink.old) (K.written sink.new) (K.faults sink.old) (K.faults sink.new)
-        (named_text word.now n) }
+    ensures { WritesTo K.written K.faults result sink.old sink.new (named_text word.now n) }
 {
     let mut line = TextLine::new();
     line.push(word);
@@ -86,8 +84,7 @@ pub fn write_named<K: Sink>(word: &str, n: u64, sink: &mut K) -> Result<(), Fail
 #[tactic(auto, unfolding(crate::specs::Text::pair_text))]
 pub fn write_pair<K: Sink>(word: &str, a: u64, b: u64, sink: &mut K) -> Result<(), Failed>
     requires { length word.now ≤ 32 }
-    ensures { Writes result (K.written sink.old) (K.written sink.new) (K.faults sink.old) (K.faults sink.new)
-        (pair_text word.now a b) }
+    ensures { WritesTo K.written K.faults result sink.old sink.new (pair_text word.now a b) }
 {
     let mut line = TextLine::new();
     line.push(word);
@@ -101,8 +98,7 @@ pub fn write_pair<K: Sink>(word: &str, a: u64, b: u64, sink: &mut K) -> Result<(
 /// The line of three numbers.
 #[tactic(auto, unfolding(crate::specs::Text::triple_text))]
 pub fn write_triple<K: Sink>(a: u64, b: u64, c: u64, sink: &mut K) -> Result<(), Failed>
-    ensures { Writes result (K.written sink.old) (K.written sink.new) (K.faults sink.old) (K.faults sink.new)
-        (triple_text a b c) }
+    ensures { WritesTo K.written K.faults result sink.old sink.new (triple_text a b c) }
 {
     let mut line = TextLine::new();
     line.push_number(a);

@@ -1,6 +1,6 @@
 //! A play in five lines.
 ghost use Rattle.std.specs.Prelude.{◌≡◌, ◌<◌, ◌^◌, ◌++◌, length, map, sum_by};
-ghost use Rattle.play_report.specs.Causes.{Writes};
+ghost use Rattle.play_report.specs.Causes.{WritesTo};
 ghost use Rattle.play_report.specs.Report.{outcome_of, survivor_of};
 ghost use Rattle.play_report.specs.Text.{placed_count, printed_count, made_text, kept_text, brief_text};
 
@@ -30,8 +30,7 @@ fn add_values(survivors: &[Survivor]) -> u64
 fn write_made<K: Sink>(parts: &[Part<'_>], sink: &mut K) -> Result<(), Failed>
     requires objects { placed_count (map outcome_of parts.now) < 2 ^ 32 }
     requires lines { printed_count (map outcome_of parts.now) < 2 ^ 64 }
-    ensures { Writes result (K.written sink.old) (K.written sink.new) (K.faults sink.old) (K.faults sink.new)
-        (made_text (map outcome_of parts.now)) }
+    ensures { WritesTo K.written K.faults result sink.old sink.new (made_text (map outcome_of parts.now)) }
 {
     match write_named("objects ", count_places(parts), sink) {
         Ok(()) => write_named("lines ", count_lines(parts), sink),
@@ -41,8 +40,7 @@ fn write_made<K: Sink>(parts: &[Part<'_>], sink: &mut K) -> Result<(), Failed>
 
 fn write_kept<K: Sink>(survivors: &[Survivor], sink: &mut K) -> Result<(), Failed>
     requires { length survivors.now < 2 ^ 32 }
-    ensures { Writes result (K.written sink.old) (K.written sink.new) (K.faults sink.old) (K.faults sink.new)
-        (kept_text (map survivor_of survivors.now)) }
+    ensures { WritesTo K.written K.faults result sink.old sink.new (kept_text (map survivor_of survivors.now)) }
 {
     match write_named("survivors ", survivors.len() as u64, sink) {
         Ok(()) => write_named("total ", add_values(survivors), sink),
@@ -54,7 +52,7 @@ fn write_counts<K: Sink>(report: &Report<'_>, sink: &mut K) -> Result<(), Failed
     requires objects { placed_count (map outcome_of report.now.parts.items) < 2 ^ 32 }
     requires lines { printed_count (map outcome_of report.now.parts.items) < 2 ^ 64 }
     requires survivors { length report.now.survivors.items < 2 ^ 32 }
-    ensures { Writes result (K.written sink.old) (K.written sink.new) (K.faults sink.old) (K.faults sink.new)
+    ensures { WritesTo K.written K.faults result sink.old sink.new
         (made_text (map outcome_of report.now.parts.items) ++ kept_text (map survivor_of report.now.survivors.items)) }
 {
     match write_made(report.parts.as_slice(), sink) {
@@ -72,7 +70,7 @@ pub fn write_load<K: Sink>(report: &Report<'_>, commands: u64, sink: &mut K) -> 
     requires objects { placed_count (map outcome_of report.now.parts.items) < 2 ^ 32 }
     requires lines { printed_count (map outcome_of report.now.parts.items) < 2 ^ 64 }
     requires survivors { length report.now.survivors.items < 2 ^ 32 }
-    ensures { Writes result (K.written sink.old) (K.written sink.new) (K.faults sink.old) (K.faults sink.new)
+    ensures { WritesTo K.written K.faults result sink.old sink.new
         (brief_text commands (map outcome_of report.now.parts.items) (map survivor_of report.now.survivors.items)) }
 {
     match write_named("commands ", commands, sink) {

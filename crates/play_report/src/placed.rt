@@ -1,6 +1,6 @@
 //! Where the objects lay.
 ghost use Rattle.std.specs.Prelude.{◌≡◌, ◌<◌, ◌^◌, [], length, map, sum_by, if◌then◌else◌};
-ghost use Rattle.play_report.specs.Causes.{Writes};
+ghost use Rattle.play_report.specs.Causes.{WritesTo};
 ghost use Rattle.play_report.specs.Report.{outcome_of};
 ghost use Rattle.play_report.specs.Text.{numbered, cells_text, placed_count, placed_text};
 
@@ -17,8 +17,7 @@ pub fn count_places(parts: &[Part<'_>]) -> u64
 }
 
 fn write_cells<K: Sink>(section: u64, cells: &[u32], sink: &mut K) -> Result<(), Failed>
-    ensures { Writes result (K.written sink.old) (K.written sink.new) (K.faults sink.old) (K.faults sink.new)
-        (cells_text section cells.now) }
+    ensures { WritesTo K.written K.faults result sink.old sink.new (cells_text section cells.now) }
 {
     for (number, cell) in cells.iter().enumerate() {
         match write_triple(section, number as u64, *cell as u64, sink) {
@@ -30,8 +29,7 @@ fn write_cells<K: Sink>(section: u64, cells: &[u32], sink: &mut K) -> Result<(),
 }
 
 fn write_places<K: Sink>(parts: &[Part<'_>], sink: &mut K) -> Result<(), Failed>
-    ensures { Writes result (K.written sink.old) (K.written sink.new) (K.faults sink.old) (K.faults sink.new)
-        (numbered (λ w p. cells_text w p.places.items) 0 parts.now) }
+    ensures { WritesTo K.written K.faults result sink.old sink.new (numbered (λ w p. cells_text w p.places.items) 0 parts.now) }
 {
     for (section, part) in parts.iter().enumerate() {
         match write_cells(section as u64, part.places.as_slice(), sink) {
@@ -44,8 +42,7 @@ fn write_places<K: Sink>(parts: &[Part<'_>], sink: &mut K) -> Result<(), Failed>
 
 fn write_placed<K: Sink>(parts: &[Part<'_>], sink: &mut K) -> Result<(), Failed>
     requires { placed_count (map outcome_of parts.now) < 2 ^ 32 }
-    ensures { Writes result (K.written sink.old) (K.written sink.new) (K.faults sink.old) (K.faults sink.new)
-        (placed_text (map outcome_of parts.now)) }
+    ensures { WritesTo K.written K.faults result sink.old sink.new (placed_text (map outcome_of parts.now)) }
 {
     match write_named("placed ", count_places(parts), sink) {
         Ok(()) => write_places(parts, sink),
@@ -60,8 +57,7 @@ pub fn write_asked_places<K: Sink>(
     sink: &mut K,
 ) -> Result<(), Failed>
     requires { placed_count (map outcome_of parts.now) < 2 ^ 32 }
-    ensures { Writes result (K.written sink.old) (K.written sink.new) (K.faults sink.old) (K.faults sink.new)
-        (if asked then placed_text (map outcome_of parts.now) else []) }
+    ensures { WritesTo K.written K.faults result sink.old sink.new (if asked then placed_text (map outcome_of parts.now) else []) }
 {
     if asked {
         write_placed(parts, sink)

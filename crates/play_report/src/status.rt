@@ -1,6 +1,6 @@
 //! The text of a play that is done.
 ghost use Rattle.std.specs.Prelude.{◌≡◌, ◌<◌, ◌^◌, ◌++◌, map};
-ghost use Rattle.play_report.specs.Causes.{Writes};
+ghost use Rattle.play_report.specs.Causes.{WritesTo};
 ghost use Rattle.play_report.specs.Report.{outcome_of, survivor_of};
 ghost use Rattle.play_report.specs.Text.{warehouses_text, survivors_text, placed_count, report_text};
 
@@ -11,7 +11,7 @@ use crate::survivors::write_survivors;
 use crate::transcript::write_parts;
 
 fn write_ends<K: Sink>(report: &Report<'_>, sink: &mut K) -> Result<(), Failed>
-    ensures { Writes result (K.written sink.old) (K.written sink.new) (K.faults sink.old) (K.faults sink.new)
+    ensures { WritesTo K.written K.faults result sink.old sink.new
         (warehouses_text (map outcome_of report.now.parts.items) ++ survivors_text (map survivor_of report.now.survivors.items)) }
 {
     match write_parts(report.parts.as_slice(), sink) {
@@ -27,7 +27,7 @@ fn write_ends<K: Sink>(report: &Report<'_>, sink: &mut K) -> Result<(), Failed>
 /// piece that was taken in part is handed again. It takes no memory.
 pub fn write_report<K: Sink>(report: &Report<'_>, place: bool, sink: &mut K) -> Result<(), Failed>
     requires { placed_count (map outcome_of report.now.parts.items) < 2 ^ 32 }
-    ensures { Writes result (K.written sink.old) (K.written sink.new) (K.faults sink.old) (K.faults sink.new)
+    ensures { WritesTo K.written K.faults result sink.old sink.new
         (report_text (map outcome_of report.now.parts.items) (map survivor_of report.now.survivors.items) place) }
 {
     match write_ends(report, sink) {

@@ -1,7 +1,7 @@
 //! What the warehouses printed.
 ghost use Rattle.std.specs.Prelude.{◌≡◌, ◌≤◌, ◌++◌, length, map, codes};
 ghost use Rattle.std.specs.List.{flat_map};
-ghost use Rattle.play_report.specs.Causes.{Writes};
+ghost use Rattle.play_report.specs.Causes.{WritesTo};
 ghost use Rattle.play_report.specs.Report.{printed_of, outcome_of};
 ghost use Rattle.play_report.specs.Text.{printed_text, named_text, line_text, numbered, outcome_text, warehouses_text};
 
@@ -28,8 +28,7 @@ fn push_line(text: &mut TextLine, line: Line)
 
 #[tactic(auto, unfolding(crate::specs::Text::printed_text))]
 fn write_said<K: Sink>(said: &Said<'_>, sink: &mut K) -> Result<(), Failed>
-    ensures { Writes result (K.written sink.old) (K.written sink.new) (K.faults sink.old) (K.faults sink.new)
-        (printed_text (printed_of said.now)) }
+    ensures { WritesTo K.written K.faults result sink.old sink.new (printed_text (printed_of said.now)) }
 {
     let mut line = TextLine::new();
     line.push(said.label);
@@ -40,8 +39,7 @@ fn write_said<K: Sink>(said: &Said<'_>, sink: &mut K) -> Result<(), Failed>
 }
 
 fn write_said_lines<K: Sink>(said: &[Said<'_>], sink: &mut K) -> Result<(), Failed>
-    ensures { Writes result (K.written sink.old) (K.written sink.new) (K.faults sink.old) (K.faults sink.new)
-        (flat_map (λ s. printed_text (printed_of s)) said.now) }
+    ensures { WritesTo K.written K.faults result sink.old sink.new (flat_map (λ s. printed_text (printed_of s)) said.now) }
 {
     for line in said {
         match write_said(line, sink) {
@@ -53,7 +51,7 @@ fn write_said_lines<K: Sink>(said: &[Said<'_>], sink: &mut K) -> Result<(), Fail
 }
 
 fn write_end<K: Sink>(part: &Part<'_>, sink: &mut K) -> Result<(), Failed>
-    ensures { Writes result (K.written sink.old) (K.written sink.new) (K.faults sink.old) (K.faults sink.new)
+    ensures { WritesTo K.written K.faults result sink.old sink.new
         (flat_map (λ s. printed_text (printed_of s)) part.now.said.items ++ named_text (codes "dropped ") part.now.dropped) }
 {
     match write_said_lines(part.said.as_slice(), sink) {
@@ -63,8 +61,7 @@ fn write_end<K: Sink>(part: &Part<'_>, sink: &mut K) -> Result<(), Failed>
 }
 
 fn write_part<K: Sink>(number: u64, part: &Part<'_>, sink: &mut K) -> Result<(), Failed>
-    ensures { Writes result (K.written sink.old) (K.written sink.new) (K.faults sink.old) (K.faults sink.new)
-        (outcome_text number (outcome_of part.now)) }
+    ensures { WritesTo K.written K.faults result sink.old sink.new (outcome_text number (outcome_of part.now)) }
 {
     match write_named("warehouse ", number, sink) {
         Ok(()) => write_end(part, sink),
@@ -73,8 +70,7 @@ fn write_part<K: Sink>(number: u64, part: &Part<'_>, sink: &mut K) -> Result<(),
 }
 
 fn write_warehouses<K: Sink>(parts: &[Part<'_>], sink: &mut K) -> Result<(), Failed>
-    ensures { Writes result (K.written sink.old) (K.written sink.new) (K.faults sink.old) (K.faults sink.new)
-        (numbered (λ w p. outcome_text w (outcome_of p)) 1 parts.now) }
+    ensures { WritesTo K.written K.faults result sink.old sink.new (numbered (λ w p. outcome_text w (outcome_of p)) 1 parts.now) }
 {
     for (i, part) in parts.iter().enumerate() {
         match write_part(i as u64 + 1, part, sink) {
@@ -87,8 +83,7 @@ fn write_warehouses<K: Sink>(parts: &[Part<'_>], sink: &mut K) -> Result<(), Fai
 
 /// What each warehouse printed and dropped, in order; section 0, which comes first, prints nothing.
 pub fn write_parts<K: Sink>(parts: &[Part<'_>], sink: &mut K) -> Result<(), Failed>
-    ensures { Writes result (K.written sink.old) (K.written sink.new) (K.faults sink.old) (K.faults sink.new)
-        (warehouses_text (map outcome_of parts.now)) }
+    ensures { WritesTo K.written K.faults result sink.old sink.new (warehouses_text (map outcome_of parts.now)) }
 {
     match parts {
         [] => Ok(()),

@@ -10,7 +10,7 @@ use Rattle.play_report.specs.declared.report.Positions.{Positions}
 use Rattle.play_contract.specs.Playing.{PlayAnswers}
 use Rattle.play_contract.specs.declared.error.PlayError.{PlayError}
 use Rattle.play_contract.specs.declared.error.PlayError.TheVariants as errors
-use Rattle.heap_dump.specs.Final.{Heap}
+use Rattle.heap_dump.specs.Final.{Heap, IsLegal}
 use Rattle.heap_dump.specs.Reading.{fault_of, heap_of}
 use Rattle.heap_dump.specs.Spelling.{dump}
 use Rattle.heap_dump.specs.Text.{dump_fault_text}
@@ -37,8 +37,8 @@ count_answer bytes d is same status text a =
     subst (λ (o : Option DumpError). OfDump IsCensusText bytes o status text) is (a.0, subst (λ (l : List ℕ). IsCensusText (heap_of l) text) same a.1)
 
 -- the dump of the heap at the end answers a play that is done
-pub end_answer : (s : Script) (h : Heap) → IsFinalHeap s.sections h → IsEndAnswer s 0 (dump h)
-end_answer s h final = (refl, record { heap = h; final = final; written = refl })
+pub end_answer : (s : Script) (h : Heap) → IsFinalHeap s.sections h → IsLegal h → IsEndAnswer s 0 (dump h)
+end_answer s h final legal = (refl, record { heap = h; final = final; legal = legal; written = refl })
 
 pub dump_answer : (o : Options) (s : Script) (status : ℕ) (text : List ℕ) → IsEndAnswer s status text → EndsIn o s status text
 dump_answer o s status text a = inl a

@@ -4,7 +4,7 @@ use Rattle.plain_heap.specs.Sections.{Sections}
 use Rattle.gc_script.specs.Faults.{Fault}
 use Rattle.gc_script.specs.Script.{Script, script}
 use Rattle.play_report.specs.Text.{IsFullText, fault_text}
-use Rattle.heap_dump.specs.Final.{Heap}
+use Rattle.heap_dump.specs.Final.{Heap, IsLegal}
 use Rattle.heap_dump.specs.Spelling.{dump}
 use Rattle.play_dump.specs.Final.{IsFinalHeap}
 use Rattle.command_words.specs.Words.{Options}
@@ -13,6 +13,7 @@ use Rattle.command_words.specs.Words.{Options}
 pub record IsDumpText (s : Sections) (text : List ℕ) : Type 0 where
   pub heap : Heap
   pub final : IsFinalHeap s heap
+  pub legal : IsLegal heap
   pub written : text ≡ dump heap
 
 -- a script was played to its end

@@ -16,6 +16,7 @@ ghost use Rattle.play_words.specs.Ending.{CommandEnds, code_of};
 ghost use Rattle.play_words.specs.Promise.{HasItsText, enough_for, reads_source};
 ghost use Rattle.play_words.specs.Answers.{IsAnswer};
 ghost use Rattle.play_words.specs.Reading.{IsSpent, TakesAtMost};
+ghost use Rattle.play_report.specs.Causes.{AcrossSink};
 
 mod batch;
 mod census;
@@ -55,8 +56,8 @@ pub fn do_command<R: Threads + Wait + Sync, S: Source, K: Sink, G: Gate + Sync>(
     gate: &G,
 ) -> Status
     requires { IsInRange asked }
-    ensures ends { CommandEnds (IsAnswer (Some (command_of asked)) (S.left source.old)) result
-        (S.faults source.old) (S.faults source.new) (K.written sink.old) (K.written sink.new) (K.faults sink.old) (K.faults sink.new) }
+    ensures ends { AcrossSink K.written K.faults (CommandEnds (IsAnswer (Some (command_of asked)) (S.left source.old)) result
+        (S.faults source.old) (S.faults source.new)) sink.old sink.new }
     ensures spent { reads_source (Some (command_of asked)) ≡ true → HasItsText (code_of result)
         → IfSome (S.left source.old) (λ bytes. IsSpent (enough_for (Some (command_of asked))) bytes (S.left source.new)) }
     ensures most { TakesAtMost (enough_for (Some (command_of asked))) (S.left source.old) (S.left source.new) }

@@ -1,6 +1,6 @@
 // Laws over what `play_words` promises: each is the contract of a function that does nothing.
 ghost use Rattle.play_words.specs.Following.{AnswersFollow, StatusesFollow};
-ghost use Rattle.play_words.specs.Laws.{DumpsAlike, LoadsAlike, RunsAlike};
+ghost use Rattle.play_words.specs.Laws.{DumpsAlike, DumpsAreReached, FinalHeapsAreReached, LoadsAlike, RunsAlike};
 
 /// Two runs of one script that are done, without `--place`, write the same bytes, whatever their cells, workers, tracers, packets and entries.
 pub fn runs_alike()
@@ -15,6 +15,16 @@ pub fn dumps_alike()
 /// So do two loads with the same numbers.
 pub fn loads_alike()
     ensures { LoadsAlike }
+{}
+
+/// In the heap at the end of a play each record is reached from a variable.
+pub fn final_heaps_are_reached()
+    ensures { FinalHeapsAreReached }
+{}
+
+/// So `census` counts no record that isn't reached in what `dump` writes of a play that is done.
+pub fn dumps_are_reached()
+    ensures { DumpsAreReached }
 {}
 
 /// What is written answers what the words ask for, by one relation for all commands: it follows from their clauses.

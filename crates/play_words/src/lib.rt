@@ -19,6 +19,9 @@ mod settling;
 mod source;
 mod status;
 
-pub use laws::{answers_follow, dumps_alike, loads_alike, runs_alike, statuses_follow};
+pub use laws::{
+    answers_follow, dumps_alike, dumps_are_reached, final_heaps_are_reached, loads_alike,
+    runs_alike, statuses_follow,
+};
 pub use program::play_words;
 pub use settling::settle;

@@ -1,6 +1,6 @@
 //! Writes a text line by line.
 ghost use Rattle.std.specs.Prelude.{◌≡◌, ◌==◌, ◌<◌, ◌≤◌, length, position};
-ghost use Rattle.play_report.specs.Causes.{Writes};
+ghost use Rattle.play_report.specs.Causes.{WritesTo};
 ghost use Rattle.play_words.specs.Lines.{first_line};
 
 use play_report::{Failed, Sink, write_all};
@@ -26,7 +26,7 @@ fn first_line(text: &[u8]) -> usize
 
 /// Hands a text to the sink, each line as one piece.
 pub fn write_lines<K: Sink>(sink: &mut K, text: &[u8]) -> Result<(), Failed>
-    ensures { Writes result (K.written sink.old) (K.written sink.new) (K.faults sink.old) (K.faults sink.new) text.now }
+    ensures { WritesTo K.written K.faults result sink.old sink.new text.now }
 {
     let mut rest = text;
     while !rest.is_empty() {

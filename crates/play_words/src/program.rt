@@ -22,6 +22,7 @@ ghost use Rattle.play_words.specs.Undumping.{IsUndumpAnswer};
 ghost use Rattle.play_words.specs.Reading.{IsSpent, TakesAtMost};
 ghost use Rattle.play_words.specs.Roomy.{AreFew, PlaysIn};
 ghost use Rattle.plain_heap.specs.Sections.{Sections};
+ghost use Rattle.play_report.specs.Causes.{AcrossSink};
 
 use crate::commands::do_command;
 use crate::status::Status;
@@ -41,8 +42,8 @@ fn do_words<R: Threads + Wait + Sync, S: Source, K: Sink, G: Gate + Sync>(
     sink: &mut K,
     gate: &G,
 ) -> Status
-    ensures ends { CommandEnds (IsAnswer (wanted (map string_bytes words.now)) (S.left source.old)) result
-        (S.faults source.old) (S.faults source.new) (K.written sink.old) (K.written sink.new) (K.faults sink.old) (K.faults sink.new) }
+    ensures ends { AcrossSink K.written K.faults (CommandEnds (IsAnswer (wanted (map string_bytes words.now)) (S.left source.old)) result
+        (S.faults source.old) (S.faults source.new)) sink.old sink.new }
     ensures spent { reads_source (wanted (map string_bytes words.now)) ≡ true → HasItsText (code_of result)
         → IfSome (S.left source.old) (λ bytes. IsSpent (enough_for (wanted (map string_bytes words.now))) bytes (S.left source.new)) }
     ensures most { TakesAtMost (enough_for (wanted (map string_bytes words.now))) (S.left source.old) (S.left source.new) }

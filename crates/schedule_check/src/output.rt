@@ -1,6 +1,6 @@
 //! One line of text on the stack, which is handed to a sink as one piece.
 ghost use Rattle.std.specs.Prelude.{◌≡◌, ◌≤◌, ◌+◌, ◌++◌, [], length, decimal};
-ghost use Rattle.play_report.specs.Causes.{Writes};
+ghost use Rattle.play_report.specs.Causes.{WritesTo};
 ghost use Rattle.play_report.specs.Text.{named_text};
 ghost use Rattle.schedule_check.specs.Text.{refused_text};
 
@@ -60,8 +60,7 @@ impl TextLine {
     }
 
     fn write<K: Sink>(&self, sink: &mut K) -> Result<(), Failed>
-        ensures { Writes result (K.written sink.old) (K.written sink.new) (K.faults sink.old) (K.faults sink.new)
-            self.now }
+        ensures { WritesTo K.written K.faults result sink.old sink.new self.now }
     {
         write_all(sink, &self.bytes[..self.len])
     }
@@ -71,8 +70,7 @@ impl TextLine {
 #[tactic(auto, unfolding(play_report::specs::Text::named_text))]
 pub fn write_named<K: Sink>(word: &str, n: u64, sink: &mut K) -> Result<(), Failed>
     requires { length word.now ≤ 32 }
-    ensures { Writes result (K.written sink.old) (K.written sink.new) (K.faults sink.old) (K.faults sink.new)
-        (named_text word.now n) }
+    ensures { WritesTo K.written K.faults result sink.old sink.new (named_text word.now n) }
 {
     let mut line = TextLine::new();
     line.push(word);
@@ -84,8 +82,7 @@ pub fn write_named<K: Sink>(word: &str, n: u64, sink: &mut K) -> Result<(), Fail
 /// The line of an event that isn't allowed.
 #[tactic(auto, unfolding(crate::specs::Text::refused_text))]
 pub fn write_refused<K: Sink>(at: u32, rule: &Rule, sink: &mut K) -> Result<(), Failed>
-    ensures { Writes result (K.written sink.old) (K.written sink.new) (K.faults sink.old) (K.faults sink.new)
-        (refused_text at rule.now.kind rule.now.part) }
+    ensures { WritesTo K.written K.faults result sink.old sink.new (refused_text at rule.now.kind rule.now.part) }
 {
     let mut line = TextLine::new();
     line.push("refused line ");

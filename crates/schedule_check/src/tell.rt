@@ -1,6 +1,7 @@
 //! All that is done with a source: it is read, played, and its verdict or its fault written.
 ghost use Rattle.std.specs.Prelude.{◌≡◌, Ok};
 ghost use Rattle.schedule_check.specs.Telling.{verdict_status, code_of, finished_as, TellsAs, Tells};
+ghost use Rattle.play_report.specs.Causes.{AcrossSink};
 
 use crate::fault::ScheduleFault;
 use crate::judge::check;
@@ -51,8 +52,7 @@ fn told_of(verdict: &Verdict) -> Told
 }
 
 fn tell_verdict<K: Sink>(alloc: Global, schedule: &Schedule, sink: &mut K) -> Result<Told, Untold>
-    ensures { TellsAs (Ok schedule.now) result
-        (K.written sink.old) (K.written sink.new) (K.faults sink.old) (K.faults sink.new) }
+    ensures { AcrossSink K.written K.faults (TellsAs (Ok schedule.now) result) sink.old sink.new }
 {
     match check(alloc, schedule) {
         Err(_) => Err(Untold::OutOfMemory),
@@ -64,8 +64,7 @@ fn tell_verdict<K: Sink>(alloc: Global, schedule: &Schedule, sink: &mut K) -> Re
 /// text and the status (0 accepted, 2 faulty, 7 refused) are functions of the bytes, and the verdict says what is so: see
 /// [`crate::check`].
 pub fn tell_schedule<K: Sink>(alloc: Global, source: &[u8], sink: &mut K) -> Result<Told, Untold>
-    ensures { Tells source.now result
-        (K.written sink.old) (K.written sink.new) (K.faults sink.old) (K.faults sink.new) }
+    ensures { AcrossSink K.written K.faults (Tells source.now result) sink.old sink.new }
 {
     match read_schedule(alloc, source) {
         Err(ScheduleFault::OutOfMemory) => Err(Untold::OutOfMemory),

@@ -1,6 +1,6 @@
 //! Writes verdicts and faults.
 ghost use Rattle.std.specs.Prelude.{◌≢◌};
-ghost use Rattle.play_report.specs.Causes.{Writes};
+ghost use Rattle.play_report.specs.Causes.{WritesTo};
 ghost use Rattle.schedule_check.specs.Text.{closed_text, used_text, marking_text, words_text, end_text, accepted_text, verdict_text, error_text};
 
 use crate::fault::ScheduleFault;
@@ -10,8 +10,7 @@ use mark_core::{Phase, phase_number};
 use play_report::{Failed, Sink, write_all};
 
 fn write_closed<K: Sink>(closed: bool, sink: &mut K) -> Result<(), Failed>
-    ensures { Writes result (K.written sink.old) (K.written sink.new) (K.faults sink.old) (K.faults sink.new)
-        (closed_text closed) }
+    ensures { WritesTo K.written K.faults result sink.old sink.new (closed_text closed) }
 {
     if closed {
         write_all(sink, b"closed yes\n")
@@ -21,8 +20,7 @@ fn write_closed<K: Sink>(closed: bool, sink: &mut K) -> Result<(), Failed>
 }
 
 fn write_used<K: Sink>(used: u32, closed: bool, sink: &mut K) -> Result<(), Failed>
-    ensures { Writes result (K.written sink.old) (K.written sink.new) (K.faults sink.old) (K.faults sink.new)
-        (used_text used closed) }
+    ensures { WritesTo K.written K.faults result sink.old sink.new (used_text used closed) }
 {
     match write_named("used ", used as u64, sink) {
         Ok(()) => write_closed(closed, sink),
@@ -31,8 +29,7 @@ fn write_used<K: Sink>(used: u32, closed: bool, sink: &mut K) -> Result<(), Fail
 }
 
 fn write_marking<K: Sink>(marked: u32, used: u32, closed: bool, sink: &mut K) -> Result<(), Failed>
-    ensures { Writes result (K.written sink.old) (K.written sink.new) (K.faults sink.old) (K.faults sink.new)
-        (marking_text marked used closed) }
+    ensures { WritesTo K.written K.faults result sink.old sink.new (marking_text marked used closed) }
 {
     match write_named("marked ", marked as u64, sink) {
         Ok(()) => write_used(used, closed, sink),
@@ -42,8 +39,7 @@ fn write_marking<K: Sink>(marked: u32, used: u32, closed: bool, sink: &mut K) ->
 
 /// The phase by its number, and the word that counts empty packets.
 fn write_words<K: Sink>(phase: Phase, empty: u64, sink: &mut K) -> Result<(), Failed>
-    ensures { Writes result (K.written sink.old) (K.written sink.new) (K.faults sink.old) (K.faults sink.new)
-        (words_text phase empty) }
+    ensures { WritesTo K.written K.faults result sink.old sink.new (words_text phase empty) }
 {
     match write_named("phase ", phase_number(phase), sink) {
         Ok(()) => write_named("empty ", empty, sink),
@@ -59,8 +55,7 @@ fn write_end<K: Sink>(
     closed: bool,
     sink: &mut K,
 ) -> Result<(), Failed>
-    ensures { Writes result (K.written sink.old) (K.written sink.new) (K.faults sink.old) (K.faults sink.new)
-        (end_text phase empty marked used closed) }
+    ensures { WritesTo K.written K.faults result sink.old sink.new (end_text phase empty marked used closed) }
 {
     match write_words(phase, empty, sink) {
         Ok(()) => write_marking(marked, used, closed, sink),
@@ -77,8 +72,7 @@ fn write_accepted<K: Sink>(
     closed: bool,
     sink: &mut K,
 ) -> Result<(), Failed>
-    ensures { Writes result (K.written sink.old) (K.written sink.new) (K.faults sink.old) (K.faults sink.new)
-        (accepted_text events phase empty marked used closed) }
+    ensures { WritesTo K.written K.faults result sink.old sink.new (accepted_text events phase empty marked used closed) }
 {
     match write_named("accepted ", events as u64, sink) {
         Ok(()) => write_end(phase, empty, marked, used, closed, sink),
@@ -91,8 +85,7 @@ fn write_accepted<K: Sink>(
 /// only where the sink's count of faults rose in this call, and a front of the text was then written. Each line is one
 /// piece, and the rest of a piece that was taken in part is handed again. It takes no memory.
 pub fn write_verdict<K: Sink>(verdict: &Verdict, sink: &mut K) -> Result<(), Failed>
-    ensures { Writes result (K.written sink.old) (K.written sink.new) (K.faults sink.old) (K.faults sink.new)
-        (verdict_text verdict.now) }
+    ensures { WritesTo K.written K.faults result sink.old sink.new (verdict_text verdict.now) }
 {
     match verdict {
         Verdict::Accepted {
@@ -112,8 +105,7 @@ pub fn write_verdict<K: Sink>(verdict: &Verdict, sink: &mut K) -> Result<(), Fai
 /// line is one piece, and the rest of a piece that was taken in part is handed again. It takes no memory.
 pub fn write_schedule_fault<K: Sink>(fault: &ScheduleFault, sink: &mut K) -> Result<(), Failed>
     requires { fault.now ≢ ScheduleFault.OutOfMemory }
-    ensures { Writes result (K.written sink.old) (K.written sink.new) (K.faults sink.old) (K.faults sink.new)
-        (error_text fault.now) }
+    ensures { WritesTo K.written K.faults result sink.old sink.new (error_text fault.now) }
 {
     match fault {
         ScheduleFault::NotAscii { offset } => {

@@ -9,6 +9,7 @@ ghost use Rattle.play_words.specs.Batching.{IsBatchAnswer, IsBatchFault, Batches
 ghost use Rattle.play_words.specs.Ending.{CommandEnds, TextEnds, code_of};
 ghost use Rattle.play_words.specs.Promise.{HasItsText, OfSource};
 ghost use Rattle.play_words.specs.Reading.{IsSpent, TakesAtMost};
+ghost use Rattle.play_report.specs.Causes.{AcrossSink};
 
 mod player;
 mod text;
@@ -35,8 +36,7 @@ fn play_jobs<R: Threads + Wait + Sync, K: Sink>(
 ) -> Status
     requires range { AreInRange options.now }
     requires runners { (1 ≤ runners) × (runners ≤ 8) }
-    ensures { TextEnds (BatchesTo (options_of options.now) (Ok batch.now)) result
-        (K.written sink.old) (K.written sink.new) (K.faults sink.old) (K.faults sink.new) }
+    ensures { AcrossSink K.written K.faults (TextEnds (BatchesTo (options_of options.now) (Ok batch.now)) result) sink.old sink.new }
 {
     let player = ScriptPlayer { options: *options };
     match run_jobs(rt, alloc, batch, runners, &player) {
@@ -48,8 +48,7 @@ fn play_jobs<R: Threads + Wait + Sync, K: Sink>(
 /// Writes a fault; want of memory is none.
 fn tell_batch_fault<K: Sink>(fault: &BatchError, sink: &mut K) -> Status
     requires { fault.now ≢ BatchError.OutOfMemory }
-    ensures { TextEnds (IsBatchFault (fault_of fault.now)) result
-        (K.written sink.old) (K.written sink.new) (K.faults sink.old) (K.faults sink.new) }
+    ensures { AcrossSink K.written K.faults (TextEnds (IsBatchFault (fault_of fault.now)) result) sink.old sink.new }
 {
     Status::InputFault.after(write_batch_fault(fault, sink))
 }
@@ -65,8 +64,7 @@ fn batch_bytes<R: Threads + Wait + Sync, K: Sink>(
 ) -> Status
     requires range { AreInRange options.now }
     requires runners { (1 ≤ runners) × (runners ≤ 8) }
-    ensures { TextEnds (IsBatchAnswer (options_of options.now) bytes.now) result
-        (K.written sink.old) (K.written sink.new) (K.faults sink.old) (K.faults sink.new) }
+    ensures { AcrossSink K.written K.faults (TextEnds (IsBatchAnswer (options_of options.now) bytes.now) result) sink.old sink.new }
 {
     match read_batch(alloc, bytes) {
         Err(BatchError::OutOfMemory) => Status::Memory,
@@ -86,8 +84,8 @@ pub fn play_batch<R: Threads + Wait + Sync, S: Source, K: Sink>(
 ) -> Status
     requires range { AreInRange options.now }
     requires runners { (1 ≤ runners) × (runners ≤ 8) }
-    ensures ends { CommandEnds (OfSource (IsBatchAnswer (options_of options.now)) (S.left source.old)) result
-        (S.faults source.old) (S.faults source.new) (K.written sink.old) (K.written sink.new) (K.faults sink.old) (K.faults sink.new) }
+    ensures ends { AcrossSink K.written K.faults (CommandEnds (OfSource (IsBatchAnswer (options_of options.now)) (S.left source.old)) result
+        (S.faults source.old) (S.faults source.new)) sink.old sink.new }
     ensures spent { HasItsText (code_of result) → IfSome (S.left source.old) (λ bytes. IsSpent 16777217 bytes (S.left source.new)) }
     ensures most { TakesAtMost 16777217 (S.left source.old) (S.left source.new) }
 {

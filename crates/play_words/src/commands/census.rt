@@ -5,6 +5,7 @@ ghost use Rattle.play_words.specs.Counting.{IsCensusAnswer, IsCountOf};
 ghost use Rattle.play_words.specs.Ending.{CommandEnds, TextEnds, code_of};
 ghost use Rattle.play_words.specs.Promise.{HasItsText, OfSource};
 ghost use Rattle.play_words.specs.Reading.{IsSpent, TakesAtMost};
+ghost use Rattle.play_report.specs.Causes.{AcrossSink};
 
 use crate::source::{DUMP, Unread, read_source};
 use crate::status::Status;
@@ -21,8 +22,7 @@ fn count_records<R: Threads + Sync, K: Sink>(
     dump: &Dump<'_>,
     sink: &mut K,
 ) -> Status
-    ensures { TextEnds (IsCountOf (heap_of dump.now)) result
-        (K.written sink.old) (K.written sink.new) (K.faults sink.old) (K.faults sink.new) }
+    ensures { AcrossSink K.written K.faults (TextEnds (IsCountOf (heap_of dump.now)) result) sink.old sink.new }
 {
     match census(rt, alloc, dump) {
         Err(_) => Status::Memory,
@@ -37,8 +37,7 @@ fn census_bytes<R: Threads + Sync, K: Sink>(
     bytes: &[u8],
     sink: &mut K,
 ) -> Status
-    ensures { TextEnds (IsCensusAnswer bytes.now) result
-        (K.written sink.old) (K.written sink.new) (K.faults sink.old) (K.faults sink.new) }
+    ensures { AcrossSink K.written K.faults (TextEnds (IsCensusAnswer bytes.now) result) sink.old sink.new }
 {
     match read_dump(bytes) {
         Err(fault) => Status::InputFault.after(write_dump_fault(&fault, sink)),
@@ -53,8 +52,8 @@ pub fn census_source<R: Threads + Sync, S: Source, K: Sink>(
     source: &mut S,
     sink: &mut K,
 ) -> Status
-    ensures ends { CommandEnds (OfSource IsCensusAnswer (S.left source.old)) result
-        (S.faults source.old) (S.faults source.new) (K.written sink.old) (K.written sink.new) (K.faults sink.old) (K.faults sink.new) }
+    ensures ends { AcrossSink K.written K.faults (CommandEnds (OfSource IsCensusAnswer (S.left source.old)) result
+        (S.faults source.old) (S.faults source.new)) sink.old sink.new }
     ensures spent { HasItsText (code_of result) → IfSome (S.left source.old) (λ bytes. IsSpent 4984981 bytes (S.left source.new)) }
     ensures most { TakesAtMost 4984981 (S.left source.old) (S.left source.new) }
 {

@@ -2,7 +2,7 @@
 ghost use Rattle.std.specs.Prelude.{◌≡◌, ◌≤◌, [], IfSome, if◌then◌else◌};
 ghost use Rattle.gc_script.specs.Convert.{added_lines, converted_text};
 ghost use Rattle.gc_script.specs.Converting.{conversion_of};
-ghost use Rattle.play_report.specs.Causes.{Writes};
+ghost use Rattle.play_report.specs.Causes.{AcrossSink, WritesTo};
 ghost use Rattle.play_words.specs.Converting.{IsConvertAnswer};
 ghost use Rattle.play_words.specs.Ending.{CommandEnds, TextEnds, code_of};
 ghost use Rattle.play_words.specs.Promise.{HasItsText, OfSource};
@@ -17,8 +17,7 @@ use play_report::{Failed, Sink, Source};
 use std::alloc::Global;
 
 fn write_added<K: Sink>(added: bool, sink: &mut K) -> Result<(), Failed>
-    ensures { Writes result (K.written sink.old) (K.written sink.new) (K.faults sink.old) (K.faults sink.new)
-        (if added then added_lines else []) }
+    ensures { WritesTo K.written K.faults result sink.old sink.new (if added then added_lines else []) }
 {
     if added {
         write_lines(sink, b"gcscript 2\nfields 4\n")
@@ -29,8 +28,7 @@ fn write_added<K: Sink>(added: bool, sink: &mut K) -> Result<(), Failed>
 
 /// Writes a conversion line by line: the lines that are added, and the rest as it stands.
 fn write_converted<K: Sink>(converted: &Converted<'_>, sink: &mut K) -> Result<(), Failed>
-    ensures { Writes result (K.written sink.old) (K.written sink.new) (K.faults sink.old) (K.faults sink.new)
-        (converted_text (conversion_of converted.now)) }
+    ensures { WritesTo K.written K.faults result sink.old sink.new (converted_text (conversion_of converted.now)) }
 {
     match write_added(converted.added, sink) {
         Ok(()) => write_lines(sink, converted.rest),
@@ -40,8 +38,7 @@ fn write_converted<K: Sink>(converted: &Converted<'_>, sink: &mut K) -> Result<(
 
 /// Converts a script, and writes it or its fault.
 fn convert_bytes<K: Sink>(alloc: Global, bytes: &[u8], sink: &mut K) -> Status
-    ensures { TextEnds (IsConvertAnswer bytes.now) result
-        (K.written sink.old) (K.written sink.new) (K.faults sink.old) (K.faults sink.new) }
+    ensures { AcrossSink K.written K.faults (TextEnds (IsConvertAnswer bytes.now) result) sink.old sink.new }
 {
     match convert(alloc, bytes) {
         Err(ScriptError::OutOfMemory) => Status::Memory,
@@ -52,8 +49,8 @@ fn convert_bytes<K: Sink>(alloc: Global, bytes: &[u8], sink: &mut K) -> Status
 
 /// Converts the script of the source.
 pub fn convert_source<S: Source, K: Sink>(alloc: Global, source: &mut S, sink: &mut K) -> Status
-    ensures ends { CommandEnds (OfSource IsConvertAnswer (S.left source.old)) result
-        (S.faults source.old) (S.faults source.new) (K.written sink.old) (K.written sink.new) (K.faults sink.old) (K.faults sink.new) }
+    ensures ends { AcrossSink K.written K.faults (CommandEnds (OfSource IsConvertAnswer (S.left source.old)) result
+        (S.faults source.old) (S.faults source.new)) sink.old sink.new }
     ensures spent { HasItsText (code_of result) → IfSome (S.left source.old) (λ bytes. IsSpent 1048577 bytes (S.left source.new)) }
     ensures most { TakesAtMost 1048577 (S.left source.old) (S.left source.new) }
 {

@@ -7,6 +7,7 @@ ghost use Rattle.play_words.specs.Dumping.{EndsIn, IsDumpAnswer, IsEndAnswer};
 ghost use Rattle.play_words.specs.Ending.{CommandEnds, TextEnds, code_of};
 ghost use Rattle.play_words.specs.Promise.{HasItsText, OfSource};
 ghost use Rattle.play_words.specs.Reading.{IsSpent, TakesAtMost};
+ghost use Rattle.play_report.specs.Causes.{AcrossSink};
 
 use crate::commands::fault::tell_fault;
 use crate::source::{SCRIPT, Unread, read_source};
@@ -30,8 +31,7 @@ fn write_end<K: Sink>(
     sink: &mut K,
 ) -> Status
     requires { IsEndOf script.now.sections end.now.0 end.now.1 }
-    ensures { TextEnds (IsEndAnswer script.now) result
-        (K.written sink.old) (K.written sink.new) (K.faults sink.old) (K.faults sink.new) }
+    ensures { AcrossSink K.written K.faults (TextEnds (IsEndAnswer script.now) result) sink.old sink.new }
 {
     match final_heap(alloc, script, &end.0, &end.1) {
         Err(_) => Status::Memory,
@@ -47,8 +47,7 @@ fn write_error<K: Sink>(
     sink: &mut K,
 ) -> Status
     requires { PlayAnswers (Err error) _script.now.sections _options.now.cells }
-    ensures { TextEnds (EndsIn (options_of _options.now) _script.now) result
-        (K.written sink.old) (K.written sink.new) (K.faults sink.old) (K.faults sink.new) }
+    ensures { AcrossSink K.written K.faults (TextEnds (EndsIn (options_of _options.now) _script.now) result) sink.old sink.new }
 {
     match error {
         PlayError::OutOfMemory => Status::Memory,
@@ -66,8 +65,7 @@ fn dump_script<R: Threads + Wait + Sync, K: Sink, G: Gate + Sync>(
     gate: &G,
 ) -> Status
     requires { AreInRange options.now }
-    ensures { TextEnds (EndsIn (options_of options.now) script.now) result
-        (K.written sink.old) (K.written sink.new) (K.faults sink.old) (K.faults sink.new) }
+    ensures { AcrossSink K.written K.faults (TextEnds (EndsIn (options_of options.now) script.now) result) sink.old sink.new }
 {
     match play_final(rt, alloc, script, options, gate) {
         Err(error) => write_error(error, script, options, sink),
@@ -85,8 +83,7 @@ fn dump_bytes<R: Threads + Wait + Sync, K: Sink, G: Gate + Sync>(
     gate: &G,
 ) -> Status
     requires { AreInRange options.now }
-    ensures { TextEnds (IsDumpAnswer (options_of options.now) bytes.now) result
-        (K.written sink.old) (K.written sink.new) (K.faults sink.old) (K.faults sink.new) }
+    ensures { AcrossSink K.written K.faults (TextEnds (IsDumpAnswer (options_of options.now) bytes.now) result) sink.old sink.new }
 {
     match read(alloc, bytes) {
         Err(ScriptError::OutOfMemory) => Status::Memory,
@@ -105,8 +102,8 @@ pub fn dump_source<R: Threads + Wait + Sync, S: Source, K: Sink, G: Gate + Sync>
     gate: &G,
 ) -> Status
     requires { AreInRange options.now }
-    ensures ends { CommandEnds (OfSource (IsDumpAnswer (options_of options.now)) (S.left source.old)) result
-        (S.faults source.old) (S.faults source.new) (K.written sink.old) (K.written sink.new) (K.faults sink.old) (K.faults sink.new) }
+    ensures ends { AcrossSink K.written K.faults (CommandEnds (OfSource (IsDumpAnswer (options_of options.now)) (S.left source.old)) result
+        (S.faults source.old) (S.faults source.new)) sink.old sink.new }
     ensures spent { HasItsText (code_of result) → IfSome (S.left source.old) (λ bytes. IsSpent 1048577 bytes (S.left source.new)) }
     ensures most { TakesAtMost 1048577 (S.left source.old) (S.left source.new) }
 {

@@ -2,6 +2,7 @@
 ghost use Rattle.std.specs.Prelude.{◌≢◌};
 ghost use Rattle.gc_script.specs.Shown.{fault_of};
 ghost use Rattle.play_words.specs.Ending.{IsFaultAnswer, TextEnds};
+ghost use Rattle.play_report.specs.Causes.{AcrossSink};
 
 use crate::status::Status;
 use gc_script::ScriptError;
@@ -10,8 +11,7 @@ use play_report::{Sink, write_fault};
 /// Writes a fault; want of memory is none.
 pub fn tell_fault<K: Sink>(fault: &ScriptError, sink: &mut K) -> Status
     requires { fault.now ≢ ScriptError.OutOfMemory }
-    ensures { TextEnds (IsFaultAnswer (fault_of fault.now)) result
-        (K.written sink.old) (K.written sink.new) (K.faults sink.old) (K.faults sink.new) }
+    ensures { AcrossSink K.written K.faults (TextEnds (IsFaultAnswer (fault_of fault.now)) result) sink.old sink.new }
 {
     Status::InputFault.after(write_fault(fault, sink))
 }

@@ -2,6 +2,7 @@
 ghost use Rattle.std.specs.Prelude.{◌≤◌};
 ghost use Rattle.play_words.specs.Generating.{IsGenAnswer};
 ghost use Rattle.play_words.specs.Ending.{TextEnds};
+ghost use Rattle.play_report.specs.Causes.{AcrossSink};
 
 use crate::lines::write_lines;
 use crate::status::Status;
@@ -13,8 +14,7 @@ use std::alloc::Global;
 pub fn write_generated<K: Sink>(alloc: Global, number: u32, size: u32, sink: &mut K) -> Status
     requires least { 1 ≤ size }
     requires most { size ≤ 20000 }
-    ensures { TextEnds (IsGenAnswer number size) result
-        (K.written sink.old) (K.written sink.new) (K.faults sink.old) (K.faults sink.new) }
+    ensures { AcrossSink K.written K.faults (TextEnds (IsGenAnswer number size) result) sink.old sink.new }
 {
     match generate(alloc, number, size) {
         Err(_) => Status::Memory,

@@ -6,6 +6,7 @@ ghost use Rattle.play_words.specs.Loading.{IsLoadAnswer, LoadsTo};
 ghost use Rattle.command_words.specs.Commands.{options_of};
 ghost use Rattle.play_words.specs.Ending.{TextEnds};
 ghost use Rattle.play_contract.specs.Playing.{AreInRange};
+ghost use Rattle.play_report.specs.Causes.{AcrossSink};
 
 use crate::status::Status;
 use gc_play::{Gate, play};
@@ -28,8 +29,7 @@ fn load_script<R: Threads + Wait + Sync, K: Sink, G: Gate + Sync>(
 ) -> Status
     requires range { AreInRange options.now }
     requires few { length script.now.sections.warehouses ≤ 32 }
-    ensures { TextEnds (LoadsTo (options_of options.now) (Ok script.now)) result
-        (K.written sink.old) (K.written sink.new) (K.faults sink.old) (K.faults sink.new) }
+    ensures { AcrossSink K.written K.faults (TextEnds (LoadsTo (options_of options.now) (Ok script.now)) result) sink.old sink.new }
 {
     let commands = script.executed();
     match play(rt, alloc, script, options, gate) {
@@ -51,8 +51,7 @@ fn load_bytes<R: Threads + Wait + Sync, K: Sink, G: Gate + Sync>(
 ) -> Status
     requires range { AreInRange options.now }
     requires script { HasFourWarehouses size (meaning bytes.now) }
-    ensures { TextEnds (LoadsTo (options_of options.now) (meaning bytes.now)) result
-        (K.written sink.old) (K.written sink.new) (K.faults sink.old) (K.faults sink.new) }
+    ensures { AcrossSink K.written K.faults (TextEnds (LoadsTo (options_of options.now) (meaning bytes.now)) result) sink.old sink.new }
 {
     match read(alloc, bytes) {
         Err(_) => Status::Memory,
@@ -73,8 +72,7 @@ pub fn load_generated<R: Threads + Wait + Sync, K: Sink, G: Gate + Sync>(
     requires range { AreInRange options.now }
     requires least { 1 ≤ size }
     requires most { size ≤ 20000 }
-    ensures { TextEnds (IsLoadAnswer (options_of options.now) number size) result
-        (K.written sink.old) (K.written sink.new) (K.faults sink.old) (K.faults sink.new) }
+    ensures { AcrossSink K.written K.faults (TextEnds (IsLoadAnswer (options_of options.now) number size) result) sink.old sink.new }
 {
     match generate(alloc, number, size) {
         Err(_) => Status::Memory,

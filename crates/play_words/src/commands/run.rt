@@ -6,6 +6,7 @@ ghost use Rattle.play_words.specs.Ending.{CommandEnds, TextEnds, code_of};
 ghost use Rattle.play_words.specs.Promise.{HasItsText, OfSource};
 ghost use Rattle.play_contract.specs.Playing.{AreInRange};
 ghost use Rattle.play_words.specs.Reading.{IsSpent, TakesAtMost};
+ghost use Rattle.play_report.specs.Causes.{AcrossSink};
 
 use crate::commands::fault::tell_fault;
 use crate::source::{SCRIPT, Unread, read_source};
@@ -28,8 +29,7 @@ fn play_script<R: Threads + Wait + Sync, K: Sink, G: Gate + Sync>(
     gate: &G,
 ) -> Status
     requires { AreInRange options.now }
-    ensures { TextEnds (PlaysTo (options_of options.now) script.now) result
-        (K.written sink.old) (K.written sink.new) (K.faults sink.old) (K.faults sink.new) }
+    ensures { AcrossSink K.written K.faults (TextEnds (PlaysTo (options_of options.now) script.now) result) sink.old sink.new }
 {
     match play(rt, alloc, script, options, gate) {
         Err(PlayError::OutOfMemory) => Status::Memory,
@@ -48,8 +48,7 @@ pub fn play_bytes<R: Threads + Wait + Sync, K: Sink, G: Gate + Sync>(
     gate: &G,
 ) -> Status
     requires { AreInRange options.now }
-    ensures { TextEnds (IsRunAnswer (options_of options.now) bytes.now) result
-        (K.written sink.old) (K.written sink.new) (K.faults sink.old) (K.faults sink.new) }
+    ensures { AcrossSink K.written K.faults (TextEnds (IsRunAnswer (options_of options.now) bytes.now) result) sink.old sink.new }
 {
     match read(alloc, bytes) {
         Err(ScriptError::OutOfMemory) => Status::Memory,
@@ -68,8 +67,8 @@ pub fn play_source<R: Threads + Wait + Sync, S: Source, K: Sink, G: Gate + Sync>
     gate: &G,
 ) -> Status
     requires { AreInRange options.now }
-    ensures ends { CommandEnds (OfSource (IsRunAnswer (options_of options.now)) (S.left source.old)) result
-        (S.faults source.old) (S.faults source.new) (K.written sink.old) (K.written sink.new) (K.faults sink.old) (K.faults sink.new) }
+    ensures ends { AcrossSink K.written K.faults (CommandEnds (OfSource (IsRunAnswer (options_of options.now)) (S.left source.old)) result
+        (S.faults source.old) (S.faults source.new)) sink.old sink.new }
     ensures spent { HasItsText (code_of result) → IfSome (S.left source.old) (λ bytes. IsSpent 1048577 bytes (S.left source.new)) }
     ensures most { TakesAtMost 1048577 (S.left source.old) (S.left source.new) }
 {

@@ -4,6 +4,7 @@ ghost use Rattle.schedule_check.specs.Telling.{IsAnswer as IsScheduleAnswer};
 ghost use Rattle.play_words.specs.Ending.{CommandEnds, TextEnds, code_of};
 ghost use Rattle.play_words.specs.Promise.{HasItsText, OfSource};
 ghost use Rattle.play_words.specs.Reading.{IsSpent, TakesAtMost};
+ghost use Rattle.play_report.specs.Causes.{AcrossSink};
 
 use crate::source::{SCHEDULE, Unread, read_source};
 use crate::status::Status;
@@ -13,8 +14,7 @@ use std::alloc::Global;
 
 /// Writes the verdict on a schedule, or its fault.
 fn check_bytes<K: Sink>(alloc: Global, bytes: &[u8], sink: &mut K) -> Status
-    ensures { TextEnds (IsScheduleAnswer bytes.now) result
-        (K.written sink.old) (K.written sink.new) (K.faults sink.old) (K.faults sink.new) }
+    ensures { AcrossSink K.written K.faults (TextEnds (IsScheduleAnswer bytes.now) result) sink.old sink.new }
 {
     match tell_schedule(alloc, bytes, sink) {
         Ok(Told::Accepted) => Status::Done,
@@ -27,8 +27,8 @@ fn check_bytes<K: Sink>(alloc: Global, bytes: &[u8], sink: &mut K) -> Status
 
 /// Checks the schedule of the source.
 pub fn check_source<S: Source, K: Sink>(alloc: Global, source: &mut S, sink: &mut K) -> Status
-    ensures ends { CommandEnds (OfSource IsScheduleAnswer (S.left source.old)) result
-        (S.faults source.old) (S.faults source.new) (K.written sink.old) (K.written sink.new) (K.faults sink.old) (K.faults sink.new) }
+    ensures ends { AcrossSink K.written K.faults (CommandEnds (OfSource IsScheduleAnswer (S.left source.old)) result
+        (S.faults source.old) (S.faults source.new)) sink.old sink.new }
     ensures spent { HasItsText (code_of result) → IfSome (S.left source.old) (λ bytes. IsSpent 4194305 bytes (S.left source.new)) }
     ensures most { TakesAtMost 4194305 (S.left source.old) (S.left source.new) }
 {

@@ -4,6 +4,7 @@ ghost use Rattle.play_words.specs.Undumping.{IsUndumpAnswer};
 ghost use Rattle.play_words.specs.Ending.{CommandEnds, TextEnds, code_of};
 ghost use Rattle.play_words.specs.Promise.{HasItsText, OfSource};
 ghost use Rattle.play_words.specs.Reading.{IsSpent, TakesAtMost};
+ghost use Rattle.play_report.specs.Causes.{AcrossSink};
 
 use crate::source::{DUMP, Unread, read_source};
 use crate::status::Status;
@@ -13,8 +14,7 @@ use std::alloc::Global;
 
 /// Writes the records of a dump, or its fault.
 fn undump_bytes<K: Sink>(bytes: &[u8], sink: &mut K) -> Status
-    ensures { TextEnds (IsUndumpAnswer bytes.now) result
-        (K.written sink.old) (K.written sink.new) (K.faults sink.old) (K.faults sink.new) }
+    ensures { AcrossSink K.written K.faults (TextEnds (IsUndumpAnswer bytes.now) result) sink.old sink.new }
 {
     match read_dump(bytes) {
         Err(fault) => Status::InputFault.after(write_dump_fault(&fault, sink)),
@@ -24,8 +24,8 @@ fn undump_bytes<K: Sink>(bytes: &[u8], sink: &mut K) -> Status
 
 /// Writes the records of the source's dump.
 pub fn undump_source<S: Source, K: Sink>(alloc: Global, source: &mut S, sink: &mut K) -> Status
-    ensures ends { CommandEnds (OfSource IsUndumpAnswer (S.left source.old)) result
-        (S.faults source.old) (S.faults source.new) (K.written sink.old) (K.written sink.new) (K.faults sink.old) (K.faults sink.new) }
+    ensures ends { AcrossSink K.written K.faults (CommandEnds (OfSource IsUndumpAnswer (S.left source.old)) result
+        (S.faults source.old) (S.faults source.new)) sink.old sink.new }
     ensures spent { HasItsText (code_of result) → IfSome (S.left source.old) (λ bytes. IsSpent 4984981 bytes (S.left source.new)) }
     ensures most { TakesAtMost 4984981 (S.left source.old) (S.left source.new) }
 {

@@ -1,6 +1,6 @@
 use Rattle.std.proofs.Common.{◌≡◌, ◌∙◌, ap, sym, subst, arith, ℕ, length}
 use Rattle.std.proofs.lemmas.Result.{IfOk-weaker}
-use Rattle.heap_dump.specs.Final.{Heap}
+use Rattle.heap_dump.specs.Final.{Heap, IsLegal}
 use Rattle.heap_dump.specs.Told.{heap_told}
 use Rattle.play_dump.specs.Final.{IsFinalHeap}
 use Rattle.play_dump.specs.Telling.{ArePlaced, HasFields, cell_in}
@@ -52,8 +52,8 @@ make-requires-clause-rest c =
     (omega (arith, c.len.ensures, c.args.words.now.idents.ok)) c.fields-fields.ensures.same c.count_sections.ensures.same c.in-Ok.ensures c.deref.ensures.value c.deref-2.ensures.value c.in-Ok-tell_roots.ensures c.deref-4.ensures.value c.deref-3.ensures.value
     c.in-Ok-tell_survivors.ensures c.deref-5.ensures.value).rest
 
-pub returns : goal.returns
-returns c =
+pub returns-clause-heap : goal.returns-clause-heap
+returns-clause-heap c =
     let s = c.args.script.now.sections in
     let h : Heap = heap_told c.fields-fields.result c.count_sections.result c.deref-4.result.now c.deref-5.result.now in
     let made : IsFinalHeap s h =
@@ -63,3 +63,14 @@ returns c =
     (omega (arith, c.len.ensures, c.args.words.now.idents.ok)) c.fields-fields.ensures.same c.count_sections.ensures.same c.in-Ok.ensures c.deref.ensures.value c.deref-2.ensures.value c.in-Ok-tell_roots.ensures c.deref-4.ensures.value c.deref-3.ensures.value
     c.in-Ok-tell_survivors.ensures c.deref-5.ensures.value).final in
     IfOk-weaker c.make.result (λ x. x ≡ h) (IsFinalHeap s) (λ x is. subst (IsFinalHeap s) (sym is) made) c.make.ensures
+
+pub returns-clause-legal : goal.returns-clause-legal
+returns-clause-legal c =
+    let h : Heap = heap_told c.fields-fields.result c.count_sections.result c.deref-4.result.now c.deref-5.result.now in
+    let made : IsLegal h =
+    (is-made c.args.script.now.sections c.args.report.now c.args.words.now c.requires c.len.result c.fields-fields.result c.count_sections.result c.in-Ok.numbers.items c.deref.result.now c.deref-3.result.now c.deref-2.result.now c.in-Ok-tell_roots.roots.items
+    c.deref-4.result.now c.in-Ok-tell_survivors.records.items c.deref-5.result.now
+    (record { some = omega (arith, c.fields-fields.ensures); few = omega (arith, c.fields-fields.ensures); sections = omega (arith, c.count_sections.ensures); short = c.seasons-seasons.ensures.few })
+    (omega (arith, c.len.ensures, c.args.words.now.idents.ok)) c.fields-fields.ensures.same c.count_sections.ensures.same c.in-Ok.ensures c.deref.ensures.value c.deref-2.ensures.value c.in-Ok-tell_roots.ensures c.deref-4.ensures.value c.deref-3.ensures.value
+    c.in-Ok-tell_survivors.ensures c.deref-5.ensures.value).legal in
+    IfOk-weaker c.make.result (λ x. x ≡ h) IsLegal (λ x is. subst IsLegal (sym is) made) c.make.ensures

@@ -1,7 +1,7 @@
 //! What is written of a batch.
 ghost use Rattle.std.specs.Prelude.{◌≢◌};
 ghost use Rattle.std.specs.List.{flat_map};
-ghost use Rattle.play_report.specs.Causes.{Writes};
+ghost use Rattle.play_report.specs.Causes.{WritesTo};
 ghost use Rattle.play_words.specs.Batching.{job_line, job_text, batch_error_text};
 
 use crate::lines::write_lines;
@@ -11,8 +11,7 @@ use play_report::{Failed, Sink, TextLine, write_all, write_named};
 /// The line in front of a job's text: the job, its status, and how many bytes the text has.
 #[tactic(auto, unfolding(crate::specs::Batching::job_line))]
 fn write_job_line<K: Sink>(job: u32, status: u8, bytes: usize, sink: &mut K) -> Result<(), Failed>
-    ensures { Writes result (K.written sink.old) (K.written sink.new) (K.faults sink.old) (K.faults sink.new)
-        (job_line job status bytes) }
+    ensures { WritesTo K.written K.faults result sink.old sink.new (job_line job status bytes) }
 {
     let mut line = TextLine::new();
     line.push("job ");
@@ -27,7 +26,7 @@ fn write_job_line<K: Sink>(job: u32, status: u8, bytes: usize, sink: &mut K) -> 
 
 /// A job's line, and the lines of its text.
 fn write_job<K: Sink>(done: &JobDone, sink: &mut K) -> Result<(), Failed>
-    ensures { Writes result (K.written sink.old) (K.written sink.new) (K.faults sink.old) (K.faults sink.new) (job_text done.now) }
+    ensures { WritesTo K.written K.faults result sink.old sink.new (job_text done.now) }
 {
     let text = done.text.bytes();
     match write_job_line(done.job, done.status, text.len(), sink) {
@@ -38,8 +37,7 @@ fn write_job<K: Sink>(done: &JobDone, sink: &mut K) -> Result<(), Failed>
 
 /// The results of jobs, in the order given.
 pub fn write_jobs<K: Sink>(done: &[JobDone], sink: &mut K) -> Result<(), Failed>
-    ensures { Writes result (K.written sink.old) (K.written sink.new) (K.faults sink.old) (K.faults sink.new)
-        (flat_map job_text done.now) }
+    ensures { WritesTo K.written K.faults result sink.old sink.new (flat_map job_text done.now) }
 {
     for job in done {
         match write_job(job, sink) {
@@ -53,7 +51,7 @@ pub fn write_jobs<K: Sink>(done: &[JobDone], sink: &mut K) -> Result<(), Failed>
 /// The text of a batch's fault; want of memory is none.
 pub fn write_batch_fault<K: Sink>(fault: &BatchError, sink: &mut K) -> Result<(), Failed>
     requires { fault.now ≢ BatchError.OutOfMemory }
-    ensures { Writes result (K.written sink.old) (K.written sink.new) (K.faults sink.old) (K.faults sink.new) (batch_error_text fault.now) }
+    ensures { WritesTo K.written K.faults result sink.old sink.new (batch_error_text fault.now) }
 {
     match fault {
         BatchError::BadBatch { offset } => write_named("41 BadBatch offset ", *offset as u64, sink),

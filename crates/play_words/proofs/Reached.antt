@@ -1,0 +1,42 @@
+-- In the census of a play's dump each record is reached.
+use Rattle.std.proofs.Common.{◌≡◌, inl, inr, ℕ, subst, arith, List}
+use Rattle.std.specs.Prelude.{Option, Result, Ok, Err}
+use Rattle.plain_heap.specs.Sections.{Sections}
+use Rattle.plain_heap.specs.PlainRun.{last_heaps}
+use Rattle.gc_script.specs.Faults.{Fault}
+use Rattle.gc_script.specs.Script.{Script, script}
+use Rattle.heap_dump.specs.Final.{Heap}
+use Rattle.heap_dump.specs.Reading.{fault_of, heap_of}
+use Rattle.heap_dump.specs.Spelling.{dump}
+use Rattle.heap_dump.specs.declared.fault.DumpError.{DumpError}
+use Rattle.heap_dump.proofs.Again.{heap_again, no_fault_again}
+use Rattle.dump_census.specs.Surviving.{TellsSurvivors}
+use Rattle.dump_census.proofs.Reached.{survivors_reached}
+use Rattle.play_dump.specs.Final.{IsFinalHeap}
+use Rattle.play_dump.proofs.Referring.{held-there, refers-there}
+use Rattle.command_words.specs.Words.{Options}
+use Rattle.play_words.specs.Counting.{IsCensusAnswer, IsCensusText}
+use Rattle.play_words.specs.DumpReading.{OfDump}
+use Rattle.play_words.specs.Dumping.{DumpsTo, IsDumpText}
+use Rattle.play_words.specs.Laws.{CountsNoneUnreached, DumpsAreReached, FinalHeapsAreReached}
+
+tells-survivors : (s : Sections) (h : Heap) → IsFinalHeap s h → TellsSurvivors (last_heaps s) h
+tells-survivors s h f = record { survivors = f.survivors; variables = held-there s h f; fields = refers-there s h f }
+
+pub final-reached : FinalHeapsAreReached
+final-reached s h c f q = survivors_reached (last_heaps s) h c (tells-survivors s h f) q
+
+counted-whole : (s : Sections) (dumped counted : List ℕ) (status : ℕ) → IsDumpText s dumped → IsCensusAnswer dumped status counted → (status ≡ 0) × CountsNoneUnreached counted
+counted-whole s dumped counted status t a =
+    let again : OfDump IsCensusText (dump t.heap) (fault_of (dump t.heap)) status counted = subst (λ (l : List ℕ). OfDump IsCensusText l (fault_of l) status counted) t.written a in
+    let sound : (status ≡ 0) × IsCensusText (heap_of (dump t.heap)) counted = subst (λ (e : Option DumpError). OfDump IsCensusText (dump t.heap) e status counted) (no_fault_again t.heap t.legal) again in
+    let text : IsCensusText t.heap counted = subst (λ (h : Heap). IsCensusText h counted) (heap_again t.heap t.legal) sound.1 in
+    (sound.0, (text.counts, text.written, final-reached s t.heap text.counts t.final text.right))
+
+dumped-whole : (o : Options) (r : Result Script Fault) (dumped counted : List ℕ) (status : ℕ) → DumpsTo o r 0 dumped → IsCensusAnswer dumped status counted → (status ≡ 0) × CountsNoneUnreached counted
+dumped-whole o (Err fault) dumped counted status d a = absurd (omega (arith, d.0))
+dumped-whole o (Ok s) dumped counted status (inl d) a = counted-whole s.sections dumped counted status d.1 a
+dumped-whole o (Ok s) dumped counted status (inr d) a = absurd (omega (arith, d.0))
+
+pub dumps-reached : DumpsAreReached
+dumps-reached o bytes dumped counted status d a = dumped-whole o (script bytes) dumped counted status d a
