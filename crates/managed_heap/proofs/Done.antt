@@ -1,5 +1,5 @@
 -- An operation leaves the mutator at its turn, and is the one of the plain heap.
-use Rattle.std.proofs.Common.{ℕ, ◌≡◌, ◌+◌, ◌==◌, ◌&&◌, [], arith, ap, ◌∙◌, refl, sym, Bool, not, false, Option, None, Some}
+use Rattle.std.proofs.Common.{ℕ, ◌≡◌, ◌+◌, ◌==◌, ◌&&◌, [], length, arith, ap, ◌∙◌, refl, sym, Bool, not, false, Option, None, Some}
 use Rattle.std.specs.Prelude.{is_none, is_some}
 use Rattle.mark_core.specs.Seats.{empty_handed, has_making, has_turn, work_in_hand}
 use Rattle.mark_core.specs.declared.kinds.Shape.{Shape}
@@ -22,7 +22,8 @@ use Rattle.mutator_ops.specs.Doing.{Does, lends, seen, with_dropped}
 use Rattle.mutator_ops.specs.Ready.{IsReady}
 use Rattle.gc_cycle.specs.Standing.{is_at_rest}
 use Rattle.managed_heap.specs.Plain.{Steps, value_in, value_of_some}
-use Rattle.managed_heap.specs.Standing.{IsAtTurn, Plays}
+use Rattle.mutator_ops.proofs.Knowing.{variables-count}
+use Rattle.managed_heap.specs.Standing.{IsAtTurn, Plays, plain_of}
 use Rattle.managed_heap.proofs.Seats.{plays-turn, turn-plays}
 use Rattle.managed_heap.proofs.Uncatalogued.{after-none, object-none, objects_of, sees-none}
 
@@ -50,10 +51,16 @@ plays-does h op d x y p sits ready k =
     }
 
 -- what an operation makes of the plain heap
-pub steps-does : (op : Op) (d : ℕ) (v w : View) → v.plan ≡ [] → lends op ≡ false → Does op d v w → Steps op v.own.meaning.heap w.own.meaning.heap
-steps-does op d v w plan own k =
+pub turn-count : (h : Heap) (x : HeapSeat) → IsAtTurn h x → length (plain_of x).variables ≡ 32
+turn-count h x t = variables-count (view_of x) x.possible (turn-plays h x t).ready.stores.turn
+
+pub steps-does : (op : Op) (d : ℕ) (h : Heap) (x y : HeapSeat) → IsAtTurn h x → lends op ≡ false → Does op d (view_of x) (view_of y) → Steps op (plain_of x) (plain_of y)
+steps-does op d h s t turn own k =
+    let v : View = view_of s in
+    let w : View = view_of t in
     let x : PlainHeap = v.own.meaning.heap in
-    let e = k.heap x.dropped ∙ after-none x (seen v) (sees-none v plan) op own in record { objects = ap (λ (y : PlainHeap). y.objects) e; variables = ap (λ (y : PlainHeap). y.variables) e }
+    let e = k.heap x.dropped ∙ after-none x (seen v) (sees-none v turn.works.mutator.plan) op own in
+    record { objects = ap (λ (y : PlainHeap). y.objects) e; variables = ap (λ (y : PlainHeap). y.variables) e; count = turn-count h s turn }
 
 -- what changes nothing of the plain heap leaves it
 pub same-does : (op : Op) (v w : View) → ((x : PlainHeap) → heap_after x (seen v) op ≡ x) → Does op 0 v w → w.own.meaning.heap ≡ v.own.meaning.heap
@@ -93,8 +100,14 @@ plays-creates h u n cell x y p sits ready k =
       ready = ready;
     }
 
-pub steps-creates : (u n cell : ℕ) (v w : View) → Creates u n cell v w → Steps (ops.New u n) v.own.meaning.heap w.own.meaning.heap
-steps-creates u n cell v w k = let e = k.heap v.own.meaning.heap.dropped in record { objects = ap (λ (x : PlainHeap). x.objects) e; variables = ap (λ (x : PlainHeap). x.variables) e }
+pub steps-creates : (u n cell : ℕ) (h : Heap) (x y : HeapSeat) → Plays h x → Creates u n cell (view_of x) (view_of y) → Steps (ops.New u n) (plain_of x) (plain_of y)
+steps-creates u n cell h x y p k =
+    let e = k.heap (plain_of x).dropped in
+    record {
+      objects = ap (λ (z : PlainHeap). z.objects) e;
+      variables = ap (λ (z : PlainHeap). z.variables) e;
+      count = variables-count (view_of x) x.possible p.ready.stores.turn;
+    }
 
 -- an operation leaves the mutator at its turn
 pub turn-does : (h : Heap) (op : Op) (d : ℕ) (x y : HeapSeat) → IsAtTurn h x → Sits h y → IsReady (view_of y) → Does op d (view_of x) (view_of y) → IsAtTurn h y

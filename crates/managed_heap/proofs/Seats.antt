@@ -11,7 +11,7 @@ use Rattle.mark_core.specs.declared.kinds.Step.TheVariants.{ReadPhase, ReadSeaso
 use Rattle.mark_core.specs.declared.seat.SeatState.{SeatState}
 use Rattle.gc_table.specs.Log.{events}
 use Rattle.gc_table.specs.Running.{Ran}
-use Rattle.gc_table.proofs.Running.{ran-plan, ran-shape}
+use Rattle.gc_table.proofs.Running.{ran-found, ran-plan, ran-refl, ran-shape}
 use Rattle.alloc_cache.specs.Caching.{is_whole}
 use Rattle.gc_table.specs.PlainSteps.{HasSeenPhase}
 use Rattle.gc_table.specs.Seats.{Found, Sits, view_of}
@@ -103,6 +103,9 @@ looks-works h x y k sits looks =
       mutator = subst IsMutator (sym read.1.0) (record { plan = w.plan; section = w.section; counted = w.counted });
     })
     looks
+
+pub looks-ran : (v w : View) → LooksAtSeason v w → Ran v w
+looks-ran v w looks = ⊎_elim (λ (same : w ≡ v). subst (Ran v) (sym same) (ran-refl v)) (λ (read : (n : ℕ) × Found ReadSeason n v w). ran-found v w ReadSeason read.0 refl read.1) looks
 
 pub looks-cached : (kept : Option Cache) (v w : View) → HasCache kept v → LooksAtSeason v w → HasCache kept w
 looks-cached kept v w k looks =

@@ -1,11 +1,12 @@
 -- What a mutator's calls do, told over its plain heap.
-use Rattle.std.specs.Prelude.{ℕ, ◌≡◌, ◌≤◌, ◌<◌, length, None}
+use Rattle.std.specs.Prelude.{ℕ, ◌≡◌, ◌≤◌, ◌<◌, length, None, IsTrue}
 use Rattle.std.specs.Arc.{arc_value}
 use Rattle.plain_heap.specs.declared.operation.Op.{Op}
 use Rattle.plain_heap.specs.PlainHeap.{Heap as PlainHeap}
 use Rattle.plain_heap.specs.PlainStep.{IsInRange}
 use Rattle.gc_table.specs.Rule.{KnowsFull}
-use Rattle.gc_table.specs.Seats.{view_of}
+use Rattle.gc_table.specs.Seats.{did, view_of}
+use Rattle.gc_cycle.specs.Cycles.{collects}
 use Rattle.managed_heap.specs.Plain.{Steps, value_in}
 use Rattle.managed_heap.specs.Standing.{plain_of}
 use Rattle.managed_heap.specs.declared.mutator.Mutator.{Mutator}
@@ -33,6 +34,7 @@ IsFull m = KnowsFull (view_of m.seat)
 pub record IsSame (x y : Mutator) : Type 0 where
   pub heap : heap_of y ≡ heap_of x
   pub world : arc_value y.heap ≡ arc_value x.heap
+  pub name_is : y.name ≡ x.name
 
 -- one operation was done by a mutator inside the world, and nothing else
 pub record IsDone (op : Op) (x y : Mutator) : Type 0 where
@@ -41,6 +43,7 @@ pub record IsDone (op : Op) (x y : Mutator) : Type 0 where
   pub inside : y.place ≡ Inside
   pub steps : Steps op (heap_of x) (heap_of y)
   pub world : arc_value y.heap ≡ arc_value x.heap
+  pub name_is : y.name ≡ x.name
 
 -- why an operation isn't done: a number is out of range, or the mutator is outside
 abbrev pub Refuses : Refused → Op → Mutator → Type 0
@@ -67,6 +70,10 @@ pub record HasPassed (x y : Mutator) : Type 0 where
   pub was : x.place ≡ Inside
   pub inside : y.place ≡ Inside
   pub same : IsSame x y
+
+-- it collected: in a stop of its own a drain began in which no cell was marked, and after it the cycle ended
+abbrev pub HasCollected : Mutator → Mutator → Type 0
+HasCollected x y = IsTrue (collects (did x.seat y.seat))
 
 -- it was outside, or found the heap full and is outside now; nothing changed
 abbrev pub StaysOut : Refused → Mutator → Mutator → Type 0

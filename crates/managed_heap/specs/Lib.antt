@@ -1,8 +1,11 @@
 pub mod Calls
+pub mod Collecting
 pub mod Halting
 pub mod Lending
 pub mod Opening
 pub mod Plain
 pub mod Sizing
 pub mod Standing
+pub mod Stepping
+pub mod Tracing
 pub mod Turning

@@ -1,5 +1,5 @@
 -- What one operation makes of a plain heap, where there is no catalogue.
-use Rattle.std.specs.Prelude.{ℕ, ◌≡◌, Option, Some, None}
+use Rattle.std.specs.Prelude.{ℕ, ◌≡◌, length, Option, Some, None}
 use Rattle.plain_heap.specs.declared.object.Object.{Object}
 use Rattle.plain_heap.specs.declared.operation.Op.{Op}
 use Rattle.plain_heap.specs.PlainHeap.{Heap, variable}
@@ -9,6 +9,8 @@ use Rattle.plain_heap.specs.PlainStep.{heap_after, object_of}
 pub record Steps (op : Op) (x y : Heap) : Type 0 where
   pub objects : y.objects ≡ (heap_after x None op).objects
   pub variables : y.variables ≡ (heap_after x None op).variables
+  -- there are as many variables as a mutator has
+  pub count : length x.variables ≡ 32
 
 -- the value of an object, where there is one
 abbrev pub value_of_some : Option Object → Option ℕ

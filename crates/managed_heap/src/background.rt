@@ -1,12 +1,16 @@
 //! A tracer in the hand of one thread.
 ghost use Rattle.std.specs.Arc.{arc_value};
+ghost use Rattle.std.specs.Prelude.{◌≡◌};
+ghost use Rattle.gc_table.specs.Seats.{Across};
 ghost use Rattle.managed_heap.specs.Standing.{Rests};
+ghost use Rattle.managed_heap.specs.Tracing.{RunsTo, TakesTurn};
 
 use crate::marking::take_turn;
 use gc_table::{Heap, HeapSeat};
 use std::alloc::Global;
 use std::sync::{Arc, Wait};
 use std::thread::yield_now;
+use std::time::Duration;
 
 /// What a turn of a tracer came to.
 #[derive(Clone, Copy, Debug, PartialEq, Eq, Drop)]
@@ -22,32 +26,51 @@ pub enum Turn {
 /// How often a tracer yields between two turns. A turn changes the word of the world, which each mutator reads at each safe point.
 const YIELDS: u32 = 64;
 
+/// How long a tracer sleeps at most where no cycle marks, in microseconds. It is woken where one begins, and where the tracers are dismissed.
+const SLEEP: u64 = 2_000;
+
 /// What one thread marks with beside the mutators. It has no objects. Between two turns it is outside the world.
 #[derive(Drop)]
 pub struct Tracer {
     pub(crate) heap: Arc<Heap, Global>,
     pub(crate) seat: HeapSeat,
+    /// The name of the world that lends it.
+    pub(crate) name: u32,
+    /// How many objects it has traced beside the mutators.
+    pub(crate) traced: u64,
     ghost rests: { Rests (arc_value heap) seat },
 }
 
-/// Lets others run.
-fn rest() {
+/// Lets others run, and sleeps while no cycle marks.
+fn rest<R: Wait>(rt: &R, heap: &Heap) {
     for _ in 0..YIELDS {
         yield_now();
     }
+    heap.rest(rt, Duration::from_micros(SLEEP));
 }
 
 impl Tracer {
     /// One turn: it enters, traces and cleans a little where a cycle is marking, and leaves. Where a stop is under way it helps until that has ended.
-    pub fn trace_turn<R: Wait>(&mut self, rt: &R) -> Turn {
-        take_turn(rt, &self.heap, &mut self.seat)
+    pub fn trace_turn<R: Wait>(&mut self, rt: &R) -> Turn
+        ensures turn { Across (TakesTurn result) self.old.seat self.new.seat }
+        ensures world { (self.new.heap ≡ self.old.heap) × (self.new.name ≡ self.old.name) }
+    {
+        take_turn(rt, &self.heap, &mut self.seat, &mut self.traced)
     }
 
-    /// Marks turn by turn, until the world dismisses its tracers or the heap is full.
-    pub fn run<R: Wait>(&mut self, rt: &R) -> Turn {
+    /// How many objects it has traced beside the mutators. What it traced while it helped a stop isn't counted.
+    pub fn traced(&self) -> u64 {
+        self.traced
+    }
+
+    /// Marks turn by turn, until the world dismisses its tracers or the heap is full. Between two turns it lets others run, and sleeps while no cycle marks.
+    pub fn run<R: Wait>(&mut self, rt: &R) -> Turn
+        ensures runs { Across (RunsTo result) self.old.seat self.new.seat }
+        ensures world { (self.new.heap ≡ self.old.heap) × (self.new.name ≡ self.old.name) }
+    {
         for _ in rt.forever() {
             match self.trace_turn(rt) {
-                Turn::Going => rest(),
+                Turn::Going => rest(rt, &self.heap),
                 ended => return ended,
             }
         }

@@ -3,7 +3,7 @@ ghost use Rattle.std.specs.Prelude.{◌≡◌, ◌<◌, IfErr, IfOk, IsFalse, Is
 ghost use Rattle.plain_heap.specs.PlainHeap.{variable};
 ghost use Rattle.plain_heap.specs.declared.object.Ref.TheVariants.{Nil};
 ghost use Rattle.plain_heap.specs.declared.operation.Op.TheVariants as ops;
-ghost use Rattle.managed_heap.specs.Calls.{CantEnter, HasEntered, HasLeft, HasPassed, IsDone, IsRefused, IsSame, MakesNone, ReadsNone, Refuses, StaysOut, heap_of};
+ghost use Rattle.managed_heap.specs.Calls.{CantEnter, HasCollected, HasEntered, HasLeft, HasPassed, IsDone, IsRefused, IsSame, MakesNone, ReadsNone, Refuses, StaysOut, heap_of};
 ghost use Rattle.managed_heap.specs.Plain.{value_in};
 
 use crate::gates::{collect_turn, enter_turn, leave_turn, pass_turn};
@@ -13,6 +13,7 @@ use crate::operations::{
     refers_to_nothing, set_field,
 };
 use crate::refused::Refused;
+use gc_cycle::{Unwatched, Watch};
 use std::sync::Wait;
 
 /// How many variables a mutator has.
@@ -69,6 +70,7 @@ impl Mutator {
     /// A precise collection: afterwards the cells in use are those of the objects that were reachable while the world stood still. It is a safe point too.
     pub fn collect<R: Wait>(&mut self, rt: &R) -> Result<(), Refused>
         ensures passed { IfOk result (λ _. HasPassed self.old self.new) }
+        ensures collected { IfOk result (λ _. HasCollected self.old self.new) }
         ensures refused { IfErr result (λ e. StaysOut e self.old self.new) }
     {
         match self.place {
@@ -89,12 +91,34 @@ impl Mutator {
         ensures made { IfOk result (λ _. IsDone (ops.New v value) self.old self.new) }
         ensures refused { IfErr result (λ e. MakesNone e (ops.New v value) self.old self.new × IsSame self.old self.new) }
     {
+        self.make_watched(rt, v, value, &mut Unwatched)
+    }
+
+    /// The same, and `watch` is told of each stop that this mutator makes for it, and of what it traces.
+    pub fn make_watched<R: Wait, W: Watch>(
+        &mut self,
+        rt: &R,
+        v: u8,
+        value: u32,
+        watch: &mut W,
+    ) -> Result<(), Refused>
+        ensures made { IfOk result (λ _. IsDone (ops.New v value) self.old self.new) }
+        ensures refused { IfErr result (λ e. MakesNone e (ops.New v value) self.old self.new × IsSame self.old self.new) }
+    {
         if v >= VARIABLES {
             return Err(Refused::OutOfRange);
         }
         match self.place {
             Place::Outside => Err(Refused::Outside),
-            Place::Inside => match make_object(rt, &self.heap, &mut self.seat, v, value) {
+            Place::Inside => match make_object(
+                rt,
+                &self.heap,
+                &mut self.seat,
+                v,
+                value,
+                self.in_stops,
+                watch,
+            ) {
                 Ok(()) => Ok(()),
                 Err(Refused::Full) => {
                     self.place = Place::Outside;

@@ -1,7 +1,7 @@
 //! The seats of a new heap are dealt out to mutators and tracers.
 ghost use Rattle.std.specs.Prelude.{◌≡◌, ◌+◌, ◌<◌, ◌≤◌, All, IfErr, IfOk, IsTrue, is_some, vec_len};
 ghost use Rattle.std.specs.Arc.{arc_value};
-ghost use Rattle.gc_table.specs.Seats.{view_of};
+ghost use Rattle.gc_table.specs.Seats.{state_of};
 ghost use Rattle.managed_heap.specs.Lending.{IsFresh, IsOpened};
 ghost use Rattle.managed_heap.specs.Opening.{AreNew, IsNew};
 ghost use Rattle.managed_heap.specs.Sizing.{Fits};
@@ -19,25 +19,41 @@ use std::alloc::{AllocError, Global};
 use std::sync::Arc;
 
 /// A mutator that has done nothing.
-fn mutator_of(heap: &Arc<Heap, Global>, seat: HeapSeat, _k: u32) -> Result<Mutator, AllocError>
+fn mutator_of(
+    heap: &Arc<Heap, Global>,
+    seat: HeapSeat,
+    name: u32,
+    _k: u32,
+    in_stops: bool,
+) -> Result<Mutator, AllocError>
     requires seat { IsNew (arc_value heap.now) _k seat }
     requires section { (0 < _k) × (_k < (arc_value heap.now).shape.sections) }
-    ensures fresh { IfOk result (IsFresh (arc_value heap.now)) }
+    ensures fresh { IfOk result (IsFresh (arc_value heap.now) name) }
 {
     Ok(Mutator {
         heap: Arc::try_clone(heap)?,
         seat,
         place: Place::Outside,
+        name,
+        in_stops,
     })
 }
 
 /// A tracer that has done nothing.
-fn tracer_of(heap: &Arc<Heap, Global>, seat: HeapSeat, _k: u32) -> Result<Tracer, AllocError>
+fn tracer_of(
+    heap: &Arc<Heap, Global>,
+    seat: HeapSeat,
+    name: u32,
+    _k: u32,
+) -> Result<Tracer, AllocError>
     requires seat { IsNew (arc_value heap.now) _k seat }
+    ensures named { IfOk result (λ t. t.name ≡ name) }
 {
     Ok(Tracer {
         heap: Arc::try_clone(heap)?,
         seat,
+        name,
+        traced: 0,
     })
 }
 
@@ -46,12 +62,14 @@ fn deal_mutators(
     alloc: Global,
     heap: &Arc<Heap, Global>,
     mutators: u32,
+    name: u32,
+    in_stops: bool,
     seats: &mut Vec<HeapSeat>,
 ) -> Result<Vec<Mutator>, AllocError>
     requires new { AreNew (arc_value heap.now) 1 seats.old.items }
     requires enough { mutators ≤ vec_len seats.old }
     requires sections { ((arc_value heap.now).shape.sections ≡ 1 + mutators) × (mutators ≤ 32) }
-    ensures fresh { IfOk result (λ r. All (IsFresh (arc_value heap.now)) r.items) }
+    ensures fresh { IfOk result (λ r. All (IsFresh (arc_value heap.now) name) r.items) }
     ensures count { IfOk result (λ r. vec_len r ≡ mutators) }
     ensures rest { IfOk result (λ _. AreNew (arc_value heap.now) (1 + mutators) seats.new.items) }
     ensures left { IfOk result (λ _. vec_len seats.new + mutators ≡ vec_len seats.old) }
@@ -59,7 +77,7 @@ fn deal_mutators(
     let mut all = Vec::new(alloc);
     for at in 0..mutators {
         let seat = next_seat(heap, seats, 1 + at);
-        let mutator = mutator_of(heap, seat, 1 + at)?;
+        let mutator = mutator_of(heap, seat, name, 1 + at, in_stops)?;
         all.push(mutator)?;
     }
     Ok(all)
@@ -71,6 +89,7 @@ fn deal_tracers(
     heap: &Arc<Heap, Global>,
     first: u32,
     tracers: u32,
+    name: u32,
     seats: &mut Vec<HeapSeat>,
 ) -> Result<Vec<Tracer>, AllocError>
     requires new { AreNew (arc_value heap.now) first seats.old.items }
@@ -81,7 +100,7 @@ fn deal_tracers(
     let mut all = Vec::new(alloc);
     for at in 0..tracers {
         let seat = next_seat(heap, seats, first + at);
-        all.push(tracer_of(heap, seat, first + at)?)?;
+        all.push(tracer_of(heap, seat, name, first + at)?)?;
     }
     Ok(all)
 }
@@ -95,15 +114,16 @@ fn share(
     sizes: Sizes,
 ) -> Result<World, AllocError>
     requires fits { Fits sizes }
-    requires zero { Rests heap zero × IsTrue (is_some (view_of zero).state.section) }
+    requires zero { Rests heap zero × IsTrue (is_some (state_of zero).section) }
     requires new { AreNew heap 1 seats.old.items }
     requires count { vec_len seats.old ≡ sizes.mutators + sizes.tracers }
     requires shape { (heap.shape.fields ≡ sizes.fields) × (heap.shape.sections ≡ 1 + sizes.mutators) × (heap.shape.objects ≡ 4294967295) }
     ensures opened { IfOk result (λ w. IsOpened sizes w) }
 {
     let heap = Arc::new(alloc, heap)?;
-    let mutators = deal_mutators(alloc, &heap, sizes.mutators, seats)?;
-    let tracers = deal_tracers(alloc, &heap, 1 + sizes.mutators, sizes.tracers, seats)?;
+    let name = sizes.name;
+    let mutators = deal_mutators(alloc, &heap, sizes.mutators, name, sizes.in_stops, seats)?;
+    let tracers = deal_tracers(alloc, &heap, 1 + sizes.mutators, sizes.tracers, name, seats)?;
     Ok(World {
         heap,
         zero,

@@ -1,8 +1,10 @@
 //! A mutator goes into the world and out of it.
-ghost use Rattle.std.specs.Prelude.{◌≡◌, IfErr, IfOk};
+ghost use Rattle.std.specs.Prelude.{◌≡◌, IfErr, IfOk, IsTrue};
 ghost use Rattle.gc_cycle.specs.Answering.{HasCache};
+ghost use Rattle.gc_cycle.specs.Cycles.{collects};
 ghost use Rattle.gc_table.specs.Rule.{KnowsFull};
-ghost use Rattle.gc_table.specs.Seats.{view_of};
+ghost use Rattle.gc_table.specs.Running.{Ran};
+ghost use Rattle.gc_table.specs.Seats.{Across, did, view_of};
 ghost use Rattle.managed_heap.specs.Halting.{LeftFull};
 ghost use Rattle.managed_heap.specs.declared.refused.Refused.TheVariants as refusals;
 ghost use Rattle.managed_heap.specs.Standing.{Halts, IsAtTurn, Waits, Works, plain_of};
@@ -24,11 +26,12 @@ fn enter<R: Wait>(rt: &R, heap: &Heap, seat: &mut HeapSeat)
 }
 
 /// Leaves the world without a cache.
-fn leave(heap: &Heap, seat: &mut HeapSeat)
+pub fn leave(heap: &Heap, seat: &mut HeapSeat)
     requires halts { Halts heap.now seat.old }
     ensures waits { Waits heap.now seat.new }
     ensures same { plain_of seat.new ≡ plain_of seat.old }
     ensures full { KnowsFull (view_of seat.old) → KnowsFull (view_of seat.new) }
+    ensures ran { Across Ran seat.old seat.new }
 {
     let made = seat.state().made;
     go_out(heap, seat, made);
@@ -41,16 +44,18 @@ pub fn leave_full(heap: &Heap, seat: &mut HeapSeat) -> Refused
     ensures left { LeftFull result heap.now seat.new }
     ensures same { plain_of seat.new ≡ plain_of seat.old }
     ensures answer { result ≡ refusals.Full }
+    ensures ran { Across Ran seat.old seat.new }
 {
     leave(heap, seat);
     Refused::Full
 }
 
 /// Gives up the cache that the seat has, if there is one.
-fn park(heap: &Heap, seat: &mut HeapSeat)
+pub fn park(heap: &Heap, seat: &mut HeapSeat)
     requires turn { IsAtTurn heap.now seat.old }
     ensures halts { Halts heap.now seat.new }
     ensures same { plain_of seat.new ≡ plain_of seat.old }
+    ensures ran { Across Ran seat.old seat.new }
 {
     let cache = cache_of(seat);
     retire_some(heap, seat, cache);
@@ -78,6 +83,7 @@ fn come_to_turn<R: Wait>(
     ensures ok { IfOk result (λ _. IsAtTurn heap.now seat.new) }
     ensures err { IfErr result (λ e. LeftFull e heap.now seat.new) }
     ensures same { plain_of seat.new ≡ plain_of seat.old }
+    ensures ran { Across Ran seat.old seat.new }
 {
     match pass(rt, heap, seat, cache) {
         Ok(kept) => {
@@ -113,7 +119,7 @@ pub fn pass_turn<R: Wait>(rt: &R, heap: &Heap, seat: &mut HeapSeat) -> Result<()
 /// A precise collection at its turn, which ends in its turn.
 pub fn collect_turn<R: Wait>(rt: &R, heap: &Heap, seat: &mut HeapSeat) -> Result<(), Refused>
     requires turn { IsAtTurn heap.now seat.old }
-    ensures ok { IfOk result (λ _. IsAtTurn heap.now seat.new) }
+    ensures ok { IfOk result (λ _. IsAtTurn heap.now seat.new × IsTrue (collects (did seat.old seat.new))) }
     ensures err { IfErr result (λ e. LeftFull e heap.now seat.new) }
     ensures same { plain_of seat.new ≡ plain_of seat.old }
 {

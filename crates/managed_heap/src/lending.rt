@@ -1,8 +1,10 @@
 //! A world is opened and closed, and lends its mutators and tracers.
-ghost use Rattle.std.specs.Prelude.{◌≡◌, ◌++◌, [], ◌∷◌, IfErr, IfNone, IfOk, IfSome, IsTrue, OnOk, is_some};
+ghost use Rattle.std.specs.Prelude.{◌≡◌, ◌<◌, ◌++◌, [], ◌∷◌, IfErr, IfNone, IfOk, IfSome, IsTrue, OnOk, is_some, vec_len};
 ghost use Rattle.std.specs.Bool.{OnFalse, OnTrue};
 ghost use Rattle.std.specs.Arc.{arc_value};
-ghost use Rattle.gc_table.specs.Seats.{view_of};
+ghost use Rattle.mark_core.specs.Numbers.{named_number};
+ghost use Rattle.mark_core.specs.declared.kinds.Step.TheVariants.{ReadStat};
+ghost use Rattle.gc_table.specs.Seats.{Across, Found, state_of, view_of};
 ghost use Rattle.managed_heap.specs.Calls.{HasLeft};
 ghost use Rattle.managed_heap.specs.Lending.{AreAllBack, HasRead, IsBack, IsOpened, KeepsRest};
 ghost use Rattle.managed_heap.specs.Sizing.{Fits};
@@ -11,40 +13,35 @@ ghost use Rattle.managed_heap.specs.declared.refused.NotOpened.TheVariants.{OutO
 
 use crate::background::Tracer;
 use crate::dealing::open_fitting;
-use crate::marking::DISMISSED;
 use crate::mutator::Mutator;
 use crate::refused::NotOpened;
 use crate::sizes::Sizes;
 use crate::world::{Statistics, World};
 use gc_cycle::{go_in, go_out};
 use gc_table::{Heap, HeapSeat};
+use mark_core::{DONE, FREE, LAST, NAMED_SECTION};
 use std::alloc::Global;
 use std::sync::Wait;
 
-/// The statistic of the free cells.
-const FREE: u8 = 5;
-
-/// The statistic of the cells that the last cycle marked.
-const LAST: u8 = 2;
-
-/// Tells the tracers that they are dismissed.
+/// Tells the tracers that they are dismissed: the count of played parts, of which these worlds have no other use, is raised.
 fn tell_dismissed<R: Wait>(rt: &R, heap: &Heap, seat: &mut HeapSeat)
     requires rests { Rests heap.now seat.old }
-    requires section { IsTrue (is_some (view_of seat.old).state.section) }
+    requires section { IsTrue (is_some (state_of seat.old).section) }
     ensures rests { Rests heap.now seat.new }
-    ensures section { IsTrue (is_some (view_of seat.new).state.section) }
+    ensures section { IsTrue (is_some (state_of seat.new).section) }
 {
     go_in(rt, heap, seat);
-    heap.add_stat(seat, DISMISSED, 1, false);
+    heap.add_stat(seat, DONE, 1, false);
     go_out(heap, seat, 0);
+    heap.wake_resting();
 }
 
 /// Reads the numbers of the heap.
 fn read_statistics(heap: &Heap, seat: &mut HeapSeat) -> Statistics
     requires rests { Rests heap.now seat.old }
     ensures rests { Rests heap.now seat.new }
-    ensures read { HasRead result heap.now (view_of seat.old) (view_of seat.new) }
-    ensures section { (view_of seat.new).state.section ≡ (view_of seat.old).state.section }
+    ensures read { Across (HasRead result heap.now) seat.old seat.new }
+    ensures section { (state_of seat.new).section ≡ (state_of seat.old).section }
 {
     let free = heap.read_stat(seat, FREE);
     let marked = heap.read_stat(seat, LAST);
@@ -53,6 +50,16 @@ fn read_statistics(heap: &Heap, seat: &mut HeapSeat) -> Statistics
         free,
         marked,
     }
+}
+
+/// Reads which section found the heap full.
+fn read_named(heap: &Heap, seat: &mut HeapSeat) -> u64
+    requires rests { Rests heap.now seat.old }
+    ensures rests { Rests heap.now seat.new }
+    ensures read { Across (Found (ReadStat named_number) result) seat.old seat.new }
+    ensures section { (state_of seat.new).section ≡ (state_of seat.old).section }
+{
+    heap.read_stat(seat, NAMED_SECTION)
 }
 
 impl World {
@@ -85,8 +92,15 @@ impl World {
         self.tracers.pop()
     }
 
-    /// Takes a mutator back, which leaves first. Its variables stay, and what they refer to is kept: who takes it next finds them. Where there is no memory to
-    /// note it, which may come only where the mutator is of another world, it is handed back.
+    /// Whether a mutator of this name may be one that is out.
+    fn lacks_mutator(&self, name: u32) -> bool
+        ensures lacks { OnTrue result ((name ≡ self.now.sizes.name) × (vec_len self.now.mutators < self.now.sizes.mutators)) }
+    {
+        name == self.sizes.name && self.mutators.len() < self.sizes.mutators as usize
+    }
+
+    /// Takes a mutator back, which leaves first. Its variables stay, and what they refer to is kept: who takes it next finds them. It is handed back where it
+    /// has the name of another world, where all of this world's are back, or where there is no memory to note it.
     pub fn take_mutator(&mut self, mutator: Mutator) -> Result<(), Mutator>
         ensures back { OnOk result (IsBack mutator self.old self.new) }
         ensures refused { IfErr result (HasLeft mutator) }
@@ -94,25 +108,32 @@ impl World {
     {
         let mut mutator = mutator;
         mutator.leave();
+        if !self.lacks_mutator(mutator.name) {
+            return Err(mutator);
+        }
         match self.mutators.push(mutator) {
             Ok(()) => Ok(()),
             Err(failed) => Err(failed.value),
         }
     }
 
-    /// Takes a tracer back.
+    /// Takes a tracer back, or hands it back as `take_mutator` does.
     pub fn take_tracer(&mut self, tracer: Tracer) -> Result<(), Tracer>
         ensures back { OnOk result (self.new.tracers.items ≡ self.old.tracers.items ++ tracer ∷ []) }
+        ensures out { OnOk result ((tracer.name ≡ self.old.sizes.name) × (vec_len self.old.tracers < self.old.sizes.tracers)) }
         ensures refused { IfErr result (λ t. t ≡ tracer) }
         ensures rest { KeepsRest self.old self.new × (self.new.mutators ≡ self.old.mutators) }
     {
+        if tracer.name != self.sizes.name || self.tracers.len() >= self.sizes.tracers as usize {
+            return Err(tracer);
+        }
         match self.tracers.push(tracer) {
             Ok(()) => Ok(()),
             Err(failed) => Err(failed.value),
         }
     }
 
-    /// Tells the tracers that they are dismissed: each that runs ends, and each later turn answers so.
+    /// Tells the tracers that they are dismissed: each that runs ends, also one that sleeps, and each later turn answers so.
     pub fn dismiss_tracers<R: Wait>(&mut self, rt: &R) {
         tell_dismissed(rt, &self.heap, &mut self.zero);
     }
@@ -122,6 +143,18 @@ impl World {
         ensures read { HasRead result (arc_value self.old.heap) (view_of self.old.zero) (view_of self.new.zero) }
     {
         read_statistics(&self.heap, &mut self.zero)
+    }
+
+    /// Which mutator found the heap full, counted from 1 in the order that they had when the world was opened. None where none did.
+    pub fn found_full(&mut self) -> Option<u64>
+        ensures some { IfSome result (λ n. (0 < n) × Across (Found (ReadStat named_number) n) self.old.zero self.new.zero) }
+        ensures none { IfNone result (Across (Found (ReadStat named_number) 0) self.old.zero self.new.zero) }
+        ensures rest { (self.new.heap ≡ self.old.heap) × (self.new.mutators ≡ self.old.mutators) × (self.new.tracers ≡ self.old.tracers) }
+    {
+        match read_named(&self.heap, &mut self.zero) {
+            0 => None,
+            mutator => Some(mutator),
+        }
     }
 
     /// Whether all mutators and tracers are back.

@@ -39,10 +39,12 @@
 //! `sizes` has the sizes, `refused` why a call did nothing, `world` the heap with those of its mutators and tracers that nobody has, `lending` how they are
 //! taken and given back, `mutator` and `background` the types, `calls` what a mutator does. Below them `opening` makes a heap, `turns` comes to a
 //! mutator's turn and to a free cell, `operations` does one operation, `gates` goes in and out, and `marking` is a tracer's turn.
+//! `stepper` is a mutator that doesn't wait, `stepping` and `steps` are its calls and its collection, over `tries` and `collecting`.
 #![tactic(auto)]
 
 mod background;
 mod calls;
+mod collecting;
 mod dealing;
 mod gates;
 mod lending;
@@ -52,11 +54,17 @@ mod opening;
 mod operations;
 mod refused;
 mod sizes;
+mod stepper;
+mod stepping;
+mod steps;
+mod tries;
 mod turns;
 mod world;
 
 pub use background::{Tracer, Turn};
+pub use gc_cycle::{Counts, Paid, Watch};
 pub use mutator::Mutator;
 pub use refused::{NotOpened, Refused};
 pub use sizes::Sizes;
+pub use stepper::{Came, Stage, Stepper};
 pub use world::{Statistics, World};

@@ -24,6 +24,10 @@ pub struct Mutator {
     pub(crate) heap: Arc<Heap, Global>,
     pub(crate) seat: HeapSeat,
     pub(crate) place: Place,
+    /// The name of the world that lends it.
+    pub(crate) name: u32,
+    /// It collects in stops alone.
+    pub(crate) in_stops: bool,
     ghost outside: { place ≡ places.Outside → Waits (arc_value heap) seat },
     ghost inside: { place ≡ places.Inside → IsAtTurn (arc_value heap) seat },
 }

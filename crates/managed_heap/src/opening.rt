@@ -4,7 +4,7 @@ ghost use Rattle.std.specs.Bool.{OnTrue};
 ghost use Rattle.mark_core.specs.Shapes.{IsShape};
 ghost use Rattle.mark_core.specs.declared.kinds.Phase.TheVariants.{Idle};
 ghost use Rattle.gc_table.specs.Running.{Alone};
-ghost use Rattle.gc_table.specs.Seats.{view_of};
+ghost use Rattle.gc_table.specs.Seats.{Across, view_of};
 ghost use Rattle.gc_table.specs.Stopping.{has_moved};
 ghost use Rattle.gc_table.specs.Trials.{At, resting};
 ghost use Rattle.managed_heap.specs.Sizing.{Fits};
@@ -67,7 +67,7 @@ pub fn next_seat(heap: &Heap, seats: &mut Vec<HeapSeat>, _k: u32) -> HeapSeat
 fn raises(heap: &Heap, seat: &mut HeapSeat) -> bool
     requires { At heap.now resting 0 seat.old }
     ensures raised { OnTrue result (At heap.now flagged 0 seat.new × IsFalse (has_moved (view_of seat.new).log)) }
-    ensures keeps { Keeps (view_of seat.old) (view_of seat.new) }
+    ensures keeps { Across Keeps seat.old seat.new }
 {
     match raise(heap, seat) {
         Raised::Yours => true,
@@ -79,7 +79,7 @@ fn raises(heap: &Heap, seat: &mut HeapSeat) -> bool
 fn stops_now(heap: &Heap, seat: &mut HeapSeat) -> bool
     requires { At heap.now flagged 0 seat.old × IsFalse (has_moved (view_of seat.old).log) }
     ensures stopped { OnTrue result (At heap.now stopped 0 seat.new × Alone Idle (view_of seat.new)) }
-    ensures keeps { Keeps (view_of seat.old) (view_of seat.new) }
+    ensures keeps { Across Keeps seat.old seat.new }
 {
     heap.observe(seat);
     match heap.read_phase(seat) {

@@ -5,7 +5,7 @@ ghost use Rattle.std.specs.Int.Count.{ones};
 ghost use Rattle.plain_heap.specs.PlainHeap.{variable};
 ghost use Rattle.plain_heap.specs.declared.object.Ref.TheVariants.{Nil};
 ghost use Rattle.plain_heap.specs.declared.operation.Op.TheVariants as ops;
-ghost use Rattle.gc_table.specs.Seats.{view_of};
+ghost use Rattle.gc_table.specs.Seats.{state_of, view_of};
 ghost use Rattle.alloc_cache.specs.Caching.{IsCached};
 ghost use Rattle.managed_heap.specs.Halting.{MadeNone};
 ghost use Rattle.managed_heap.specs.Plain.{Steps, value_in};
@@ -15,17 +15,18 @@ use crate::gates::leave_full;
 use crate::refused::Refused;
 use crate::turns::come_to;
 use alloc_cache::{Cache, cache_of, leave_with_seat};
+use gc_cycle::Watch;
 use gc_table::{Heap, HeapSeat};
 use mutator_ops::{assign, clear, create, follow, put, say, set};
 use plain_heap::Line;
 use std::sync::Wait;
 
 /// Makes an object in variable v. The cache, which has a free cell, stays the seat's.
-fn make_in(heap: &Heap, seat: &mut HeapSeat, cache: Cache, v: u8, value: u32)
+pub fn make_in(heap: &Heap, seat: &mut HeapSeat, cache: Cache, v: u8, value: u32)
     requires plays { Plays heap.now seat.old }
     requires cache { IsCached cache (view_of seat.old) }
     requires free { 0 < ones cache.cells }
-    requires room { (view_of seat.old).state.made < heap.now.shape.objects }
+    requires room { (state_of seat.old).made < heap.now.shape.objects }
     requires range { v < 32 }
     ensures turn { IsAtTurn heap.now seat.new }
     ensures steps { Steps (ops.New v value) (plain_of seat.old) (plain_of seat.new) }
@@ -38,12 +39,14 @@ fn make_in(heap: &Heap, seat: &mut HeapSeat, cache: Cache, v: u8, value: u32)
 }
 
 /// Makes an object in variable v, after a safe point.
-pub fn make_object<R: Wait>(
+pub fn make_object<R: Wait, W: Watch>(
     rt: &R,
     heap: &Heap,
     seat: &mut HeapSeat,
     v: u8,
     value: u32,
+    in_stops: bool,
+    watch: &mut W,
 ) -> Result<(), Refused>
     requires turn { IsAtTurn heap.now seat.old }
     requires range { v < 32 }
@@ -51,7 +54,7 @@ pub fn make_object<R: Wait>(
     ensures err { IfErr result (λ e. MadeNone e heap.now seat.new × (plain_of seat.new ≡ plain_of seat.old)) }
 {
     let cache = cache_of(seat);
-    match come_to(rt, heap, seat, cache) {
+    match come_to(rt, heap, seat, cache, in_stops, watch) {
         Ok(free) => {
             make_in(heap, seat, free, v, value);
             Ok(())
@@ -129,7 +132,7 @@ pub fn read_value(heap: &Heap, seat: &mut HeapSeat, v: u8) -> Option<u32>
 /// The word of variable v: 0 where it refers to nothing.
 fn word_of(seat: &HeapSeat, v: u8) -> u32
     requires { v < 32 }
-    ensures { result ≡ slice_index (view_of seat.now).state.env v }
+    ensures { result ≡ slice_index (state_of seat.now).env v }
 {
     seat.state().env[v as usize]
 }

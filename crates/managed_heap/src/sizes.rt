@@ -11,6 +11,8 @@ pub struct Sizes {
     pub(crate) tracers: u32,
     pub(crate) packets: u32,
     pub(crate) entries: u32,
+    pub(crate) name: u32,
+    pub(crate) in_stops: bool,
 }
 
 impl Sizes {
@@ -24,6 +26,8 @@ impl Sizes {
             tracers: 0,
             packets: 64,
             entries: 32,
+            name: 0,
+            in_stops: false,
         }
     }
 
@@ -50,6 +54,17 @@ impl Sizes {
             entries,
             ..self
         }
+    }
+
+    /// With this name, which the world's mutators and tracers have too: where a program has several worlds, each with a name of its own, none takes back what
+    /// another lent. Any number will do; 0 where none is given.
+    pub fn named(self, name: u32) -> Sizes {
+        Sizes { name, ..self }
+    }
+
+    /// With mutators that collect in stops alone, where that is asked for: nothing is marked beside them, so each stop marks all. It is there to compare with.
+    pub fn in_stops(self, in_stops: bool) -> Sizes {
+        Sizes { in_stops, ..self }
     }
 
     /// Whether each is in its range.

@@ -1,7 +1,8 @@
 //! A mutator comes to its turn, and to a cell to make an object in.
 ghost use Rattle.std.specs.Prelude.{◌≡◌, ◌<◌, Some, None, IfOk, IfErr, IsTrue};
 ghost use Rattle.std.specs.Int.Count.{ones};
-ghost use Rattle.gc_table.specs.Seats.{Sits, view_of};
+ghost use Rattle.gc_table.specs.Running.{Ran};
+ghost use Rattle.gc_table.specs.Seats.{Across, Sits, state_of, view_of};
 ghost use Rattle.alloc_cache.specs.Caching.{IsCached};
 ghost use Rattle.gc_cycle.specs.Answering.{HasCache};
 ghost use Rattle.managed_heap.specs.Halting.{Ended, EndsFull};
@@ -10,7 +11,7 @@ ghost use Rattle.managed_heap.specs.Turning.{LooksAtSeason};
 
 use crate::refused::Refused;
 use alloc_cache::{Cache, leave_with_seat, retire};
-use gc_cycle::{Refill, Safe, refill, safe_point};
+use gc_cycle::{Refill, Safe, Watch, refill_in_stops, refill_watched, safe_point};
 use gc_table::{Heap, HeapSeat};
 use std::sync::Wait;
 
@@ -23,6 +24,7 @@ pub fn retire_some(heap: &Heap, seat: &mut HeapSeat, cache: Option<Cache>)
     requires cache { HasCache cache (view_of seat.old) }
     ensures halts { Halts heap.now seat.new }
     ensures same { plain_of seat.new ≡ plain_of seat.old }
+    ensures ran { Across Ran seat.old seat.new }
 {
     if let Some(cache) = cache {
         retire(heap, seat, cache);
@@ -44,8 +46,8 @@ pub fn keep_some(_heap: &Heap, _seat: &HeapSeat, cache: Option<Cache>)
 pub fn is_turn(heap: &Heap, seat: &mut HeapSeat) -> bool
     requires { Works heap.now seat.old }
     ensures seat { Sits heap.now seat.new }
-    ensures looks { LooksAtSeason (view_of seat.old) (view_of seat.new) }
-    ensures turn { IsTrue result → (view_of seat.new).state.season_seen ≡ Some 1 }
+    ensures looks { Across LooksAtSeason seat.old seat.new }
+    ensures turn { IsTrue result → (state_of seat.new).season_seen ≡ Some 1 }
 {
     match seat.state().season_seen {
         Some(season) => season == TURN,
@@ -66,6 +68,7 @@ pub fn pass<R: Wait>(
     ensures ok { IfOk result (λ kept. Plays heap.now seat.new × HasCache kept (view_of seat.new)) }
     ensures err { IfErr result (λ e. EndsFull e heap.now seat.new) }
     ensures same { plain_of seat.new ≡ plain_of seat.old }
+    ensures ran { Across Ran seat.old seat.new }
 {
     let mut cache = cache;
     for _ in rt.forever() {
@@ -83,12 +86,52 @@ pub fn pass<R: Wait>(
     unreachable!()
 }
 
-/// Another cache, with a free cell: this one is given up, and the collector is paid for the next.
-fn fill<R: Wait>(
+/// A cache with a free cell, which the collector is paid for.
+fn fill_beside<R: Wait, W: Watch>(
+    rt: &R,
+    heap: &Heap,
+    seat: &mut HeapSeat,
+    watch: &mut W,
+) -> Result<Option<Cache>, Refused>
+    requires halts { Halts heap.now seat.old }
+    ensures ok { IfOk result (λ kept. Works heap.now seat.new × HasCache kept (view_of seat.new)) }
+    ensures err { IfErr result (λ e. EndsFull e heap.now seat.new) }
+    ensures same { plain_of seat.new ≡ plain_of seat.old }
+{
+    let made = seat.state().made;
+    match refill_watched(rt, heap, seat, made, watch) {
+        Refill::Cache(cache, _paid) => Ok(Some(cache)),
+        Refill::Full => Err(Refused::Full),
+    }
+}
+
+/// The same of a mutator that collects in stops alone.
+fn fill_in_stops<R: Wait, W: Watch>(
+    rt: &R,
+    heap: &Heap,
+    seat: &mut HeapSeat,
+    watch: &mut W,
+) -> Result<Option<Cache>, Refused>
+    requires halts { Halts heap.now seat.old }
+    ensures ok { IfOk result (λ kept. Works heap.now seat.new × HasCache kept (view_of seat.new)) }
+    ensures err { IfErr result (λ e. EndsFull e heap.now seat.new) }
+    ensures same { plain_of seat.new ≡ plain_of seat.old }
+{
+    let made = seat.state().made;
+    match refill_in_stops(rt, heap, seat, made, watch) {
+        Refill::Cache(cache, _paid) => Ok(Some(cache)),
+        Refill::Full => Err(Refused::Full),
+    }
+}
+
+/// Another cache, with a free cell: this one is given up, and the collector is paid for the next, or collects in stops alone.
+fn fill<R: Wait, W: Watch>(
     rt: &R,
     heap: &Heap,
     seat: &mut HeapSeat,
     cache: Option<Cache>,
+    in_stops: bool,
+    watch: &mut W,
 ) -> Result<Option<Cache>, Refused>
     requires works { Works heap.now seat.old }
     requires cache { HasCache cache (view_of seat.old) }
@@ -97,15 +140,15 @@ fn fill<R: Wait>(
     ensures same { plain_of seat.new ≡ plain_of seat.old }
 {
     retire_some(heap, seat, cache);
-    let made = seat.state().made;
-    match refill(rt, heap, seat, made) {
-        Refill::Cache(cache, _paid) => Ok(Some(cache)),
-        Refill::Full => Err(Refused::Full),
+    if in_stops {
+        fill_in_stops(rt, heap, seat, watch)
+    } else {
+        fill_beside(rt, heap, seat, watch)
     }
 }
 
 /// The cache, where a cell can be made in it.
-fn with_free(cache: Option<Cache>) -> Result<Cache, Option<Cache>>
+pub fn with_free(cache: Option<Cache>) -> Result<Cache, Option<Cache>>
     ensures ok { IfOk result (λ free. (cache ≡ Some free) × (0 < ones free.cells)) }
     ensures err { IfErr result (λ none. none ≡ cache) }
 {
@@ -123,17 +166,19 @@ fn with_free(cache: Option<Cache>) -> Result<Cache, Option<Cache>>
 
 /// Comes to a new object: a safe point, and a cache with a free cell. After a refill there is a safe point again, since a refill may stop the world.
 /// Where the section has made all its objects, the mutator is at its turn afterwards, and where the heap is full it has no cache.
-pub fn come_to<R: Wait>(
+pub fn come_to<R: Wait, W: Watch>(
     rt: &R,
     heap: &Heap,
     seat: &mut HeapSeat,
     cache: Option<Cache>,
+    in_stops: bool,
+    watch: &mut W,
 ) -> Result<Cache, Refused>
     requires works { Works heap.now seat.old }
     requires cache { HasCache cache (view_of seat.old) }
     ensures ok { IfOk result (λ free. Plays heap.now seat.new × IsCached free (view_of seat.new)) }
     ensures free { IfOk result (λ free. 0 < ones free.cells) }
-    ensures room { IfOk result (λ _. (view_of seat.new).state.made < heap.now.shape.objects) }
+    ensures room { IfOk result (λ _. (state_of seat.new).made < heap.now.shape.objects) }
     ensures err { IfErr result (λ e. Ended e heap.now seat.new) }
     ensures same { plain_of seat.new ≡ plain_of seat.old }
 {
@@ -148,7 +193,7 @@ pub fn come_to<R: Wait>(
                 }
                 match with_free(kept) {
                     Ok(free) => return Ok(free),
-                    Err(none) => match fill(rt, heap, seat, none) {
+                    Err(none) => match fill(rt, heap, seat, none, in_stops, watch) {
                         Err(full) => return Err(full),
                         Ok(next) => cache = next,
                     },

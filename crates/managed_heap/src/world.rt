@@ -1,7 +1,7 @@
 //! A heap that threads share, with those of its mutators and tracers that nobody has.
 ghost use Rattle.std.specs.Arc.{arc_value};
 ghost use Rattle.std.specs.Prelude.{IsTrue, is_some};
-ghost use Rattle.gc_table.specs.Seats.{view_of};
+ghost use Rattle.gc_table.specs.Seats.{state_of};
 ghost use Rattle.managed_heap.specs.Standing.{Rests};
 
 use crate::background::Tracer;
@@ -32,5 +32,5 @@ pub struct World {
     pub(crate) tracers: Vec<Tracer>,
     pub(crate) sizes: Sizes,
     ghost rests: { Rests (arc_value heap) zero },
-    ghost section: { IsTrue (is_some (view_of zero).state.section) },
+    ghost section: { IsTrue (is_some (state_of zero).section) },
 }

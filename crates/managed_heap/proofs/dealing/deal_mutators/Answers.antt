@@ -18,6 +18,6 @@ loop-at-preserved c =
     record {
       new = subst (λ n. AreNew h n xs) next (subst (λ (g : Heap). AreNew g (1 + c.loop-at.at + 1) xs) c.deref.ensures rest);
       rest = omega (arith, i.rest, c.next_seat-seat.ensures.count);
-      fresh = subst (All (IsFresh h)) (sym c.in_ok-push.ensures.items) (All-push (IsFresh h) c.loop-at.all.items c.in_ok-mutator.mutator i.fresh c.in_ok-mutator.ensures.fresh);
+      fresh = subst (All (IsFresh h c.args.name)) (sym c.in_ok-push.ensures.items) (All-push (IsFresh h c.args.name) c.loop-at.all.items c.in_ok-mutator.mutator i.fresh c.in_ok-mutator.ensures.fresh);
       count = grind (arith, common_steps);
     }

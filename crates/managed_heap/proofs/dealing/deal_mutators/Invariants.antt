@@ -9,6 +9,6 @@ abbrev pub invariant-loop-at : goal.invariant-loop-at
 invariant-loop-at l = record {
   new : AreNew (arc_value l.heap) (1 + l.at) l.seats.items;
   rest : vec_len l.seats + l.at ≡ vec_len l.fn.seats;
-  fresh : All (IsFresh (arc_value l.heap)) l.all.items;
+  fresh : All (IsFresh (arc_value l.heap) l.name) l.all.items;
   count : vec_len l.all ≡ l.at;
 }

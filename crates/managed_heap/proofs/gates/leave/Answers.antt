@@ -13,3 +13,6 @@ returns-clause-same c = kept-heap (view_of c.args.seat.now) (view_of c.go_out.ne
 
 pub returns-clause-full : goal.returns-clause-full
 returns-clause-full c = out-full (view_of c.args.seat.now) (view_of c.go_out.new.seat) c.go_out.ensures.out
+
+pub returns-clause-ran : goal.returns-clause-ran
+returns-clause-ran c = c.go_out.ensures.out.ran

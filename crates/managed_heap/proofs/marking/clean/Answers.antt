@@ -1,9 +1,12 @@
-use Rattle.std.proofs.Common.{arith, ◌≤◌, sym, ap, ◌∙◌, subst}
+use Rattle.std.proofs.Common.{arith, ◌≤◌, [], ◌∷◌, sym, ap, ◌∙◌, subst}
 use Rattle.mark_core.specs.Held.{Slots}
 use Rattle.mark_core.specs.Seats.{work_in_hand}
 use Rattle.mark_core.specs.declared.kinds.Shape.{Shape}
+use Rattle.gc_table.specs.Log.{events}
 use Rattle.gc_table.specs.Seats.{view_of}
+use Rattle.gc_table.specs.declared.view.View.{View}
 use Rattle.packet_pools.specs.Hands.{free_slots}
+use Rattle.managed_heap.proofs.Tended.{moves-pop, one-pops, tended-by}
 use Rattle.managed_heap.proofs.Tending.{empty-of, marks-cleaned, marks-idle, marks-trace}
 use Rattle.managed_heap.proofs.marking.clean.Goals as goal
 
@@ -17,10 +20,22 @@ pub clean_one-requires-clause-work : goal.clean_one-requires-clause-work
 clean_one-requires-clause-work c =
     ap (λ (sh : Shape). work_in_hand sh.fields (view_of c.args.seat.now).state) (sym c.requires.seat.goes.sits.1) ∙ (empty-of (view_of c.args.seat.now).shape (view_of c.args.seat.now).state c.requires.seat.goes.idle).work
 
-pub returns-in-Some : goal.returns-in-Some
-returns-in-Some c =
+pub returns-in-Some-clause-seat : goal.returns-in-Some-clause-seat
+returns-in-Some-clause-seat c =
     let e = c.clean_one.ensures in marks-cleaned c.args.heap.now c.args.seat.now c.clean_one.new.seat c.requires.seat e.later e.seat.0 e.seat.1 e.held e.work e.owes
 
-pub returns-in-None : goal.returns-in-None
-returns-in-None c =
+pub returns-in-None-clause-seat : goal.returns-in-None-clause-seat
+returns-in-None-clause-seat c =
     let e = c.clean_one.ensures in marks-cleaned c.args.heap.now c.args.seat.now c.clean_one.new.seat c.requires.seat e.later e.seat.0 e.seat.1 e.held e.work e.owes
+
+pub returns-in-Some-clause-tended : goal.returns-in-Some-clause-tended
+returns-in-Some-clause-tended c =
+    let v : View = view_of c.args.seat.now in
+    let w : View = view_of c.clean_one.new.seat in
+    tended-by v w c.clean_one.ensures.later (one-pops c.args.heap.now.shape c.args.card _ (events v w) c.in-Some.ensures.some.0)
+
+pub returns-in-None-clause-tended : goal.returns-in-None-clause-tended
+returns-in-None-clause-tended c =
+    let v : View = view_of c.args.seat.now in
+    let w : View = view_of c.clean_one.new.seat in
+    tended-by v w c.clean_one.ensures.later (moves-pop (0 ∷ 1 ∷ 2 ∷ []) (events v w) c.in-None.ensures.none.2)

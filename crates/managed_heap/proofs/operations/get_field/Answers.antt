@@ -1,6 +1,5 @@
 use Rattle.std.proofs.Common.{refl}
 use Rattle.plain_heap.specs.declared.operation.Op.TheVariants as ops
-use Rattle.gc_table.specs.Seats.{view_of}
 use Rattle.managed_heap.proofs.Done.{steps-does, turn-does, turn-ready}
 use Rattle.managed_heap.proofs.operations.get_field.Goals as goal
 
@@ -11,4 +10,4 @@ pub returns-clause-turn : goal.returns-clause-turn
 returns-clause-turn c = let e = c.follow.ensures in turn-does c.args.heap.now (ops.Get c.args.w c.args.v c.args.i) 0 c.args.seat.now c.follow.new.seat c.requires.turn e.seat.0 e.seat.1 e.does
 
 pub returns-clause-steps : goal.returns-clause-steps
-returns-clause-steps c = steps-does (ops.Get c.args.w c.args.v c.args.i) 0 (view_of c.args.seat.now) (view_of c.follow.new.seat) c.requires.turn.works.mutator.plan refl c.follow.ensures.does
+returns-clause-steps c = steps-does (ops.Get c.args.w c.args.v c.args.i) 0 c.args.heap.now c.args.seat.now c.follow.new.seat c.requires.turn refl c.follow.ensures.does

@@ -1,6 +1,5 @@
 use Rattle.std.proofs.Common.{refl}
 use Rattle.plain_heap.specs.declared.operation.Op.TheVariants as ops
-use Rattle.gc_table.specs.Seats.{view_of}
 use Rattle.managed_heap.proofs.Done.{steps-does, turn-does, turn-ready}
 use Rattle.managed_heap.proofs.operations.set_field.Goals as goal
 
@@ -11,4 +10,4 @@ pub returns-clause-turn : goal.returns-clause-turn
 returns-clause-turn c = let e = c.set.ensures in turn-does c.args.heap.now (ops.Set c.args.v c.args.i c.args.w) _ c.args.seat.now c.set.new.seat c.requires.turn e.seat.0 e.seat.1 e.does
 
 pub returns-clause-steps : goal.returns-clause-steps
-returns-clause-steps c = steps-does (ops.Set c.args.v c.args.i c.args.w) _ (view_of c.args.seat.now) (view_of c.set.new.seat) c.requires.turn.works.mutator.plan refl c.set.ensures.does
+returns-clause-steps c = steps-does (ops.Set c.args.v c.args.i c.args.w) _ c.args.heap.now c.args.seat.now c.set.new.seat c.requires.turn refl c.set.ensures.does

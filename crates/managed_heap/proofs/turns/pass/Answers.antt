@@ -1,7 +1,8 @@
 use Rattle.std.proofs.Common.{◌∙◌}
 use Rattle.gc_table.specs.Seats.{view_of}
 use Rattle.managed_heap.specs.Standing.{Works}
-use Rattle.managed_heap.proofs.Seats.{first-turn, going-seen, kept-heap, kept-works, looks-cached, looks-heap, looks-seen, looks-works, works-ready}
+use Rattle.gc_table.proofs.Running.{ran-join}
+use Rattle.managed_heap.proofs.Seats.{first-turn, going-seen, kept-heap, kept-works, looks-cached, looks-heap, looks-ran, looks-seen, looks-works, works-ready}
 use Rattle.managed_heap.proofs.turns.pass.Goals as goal
 
 pub returns-in-Full-clause-err : goal.returns-in-Full-clause-err
@@ -11,6 +12,9 @@ returns-in-Full-clause-err g c =
 
 pub returns-in-Full-clause-same : goal.returns-in-Full-clause-same
 returns-in-Full-clause-same g c = kept-heap (view_of c.loop.seat) (view_of c.safe_point.new.seat) c.safe_point.ensures.keeps.1 ∙ c.loop.invariant.same
+
+pub returns-in-Full-clause-ran : goal.returns-in-Full-clause-ran
+returns-in-Full-clause-ran g c = ran-join (view_of c.args.seat.now) (view_of c.loop.seat) (view_of c.safe_point.new.seat) c.loop.invariant.ran c.safe_point.ensures.ran
 
 pub is_turn-requires : goal.is_turn-requires
 is_turn-requires g c =
@@ -36,6 +40,13 @@ pub returns-then-is_turn-clause-same : goal.returns-then-is_turn-clause-same
 returns-then-is_turn-clause-same g c =
     looks-heap (view_of c.safe_point.new.seat) (view_of c.is_turn.new.seat) c.is_turn.ensures.looks ∙ (kept-heap (view_of c.loop.seat) (view_of c.safe_point.new.seat) c.safe_point.ensures.keeps.1 ∙ c.loop.invariant.same)
 
+pub returns-then-is_turn-clause-ran : goal.returns-then-is_turn-clause-ran
+returns-then-is_turn-clause-ran g c =
+    let x = view_of c.loop.seat in
+    let y = view_of c.safe_point.new.seat in
+    let z = view_of c.is_turn.new.seat in
+    ran-join (view_of c.args.seat.now) x z c.loop.invariant.ran (ran-join x y z c.safe_point.ensures.ran (looks-ran y z c.is_turn.ensures.looks))
+
 pub loop-preserved : goal.loop-preserved
 loop-preserved g c =
     let s = c.safe_point.ensures in
@@ -51,4 +62,5 @@ loop-preserved g c =
       works = looks-works h y z (kept-works h x y c.loop.invariant.works s.seat safe.goes_on.mutates s.ran s.keeps.0 s.keeps.1) t.seat t.looks;
       cached = looks-cached c.in-Going.kept (view_of y) (view_of z) safe.cached t.looks;
       same = looks-heap (view_of y) (view_of z) t.looks ∙ (kept-heap (view_of x) (view_of y) s.keeps.1 ∙ c.loop.invariant.same);
+      ran = ran-join (view_of c.args.seat.now) (view_of x) (view_of z) c.loop.invariant.ran (ran-join (view_of x) (view_of y) (view_of z) s.ran (looks-ran (view_of y) (view_of z) t.looks));
     }

@@ -1,4 +1,5 @@
 use Rattle.std.proofs.Common.{◌≡◌}
+use Rattle.gc_table.specs.Running.{Ran}
 use Rattle.gc_table.specs.Seats.{view_of}
 use Rattle.gc_cycle.specs.Answering.{HasCache}
 use Rattle.managed_heap.specs.Standing.{Works, plain_of}
@@ -11,4 +12,5 @@ invariant-loop g l = record {
   works : Works l.heap l.seat;
   cached : HasCache l.cache (view_of l.seat);
   same : plain_of l.seat ≡ plain_of l.fn.seat;
+  ran : Ran (view_of l.fn.seat) (view_of l.seat);
 }

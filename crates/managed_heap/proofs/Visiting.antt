@@ -1,0 +1,14 @@
+-- A turn of a tracer, put together from its steps.
+use Rattle.std.proofs.Common.{◌≡◌, refl, sym, subst}
+use Rattle.mark_core.specs.declared.kinds.Phase.{Phase}
+use Rattle.mark_core.specs.declared.kinds.Phase.TheVariants as phases
+use Rattle.gc_table.specs.declared.view.View.{View}
+use Rattle.managed_heap.specs.Tracing.{HasMarked, MarksIn}
+
+-- where marking isn't under way nothing is done
+pub marks-none : (p : Phase) (v : View) → (p ≡ phases.Marking → ⊥) → MarksIn p v v
+marks-none phases.Marking v other = absurd (other refl)
+marks-none p v other = refl
+
+pub marks-some : (p : Phase) (v w : View) → p ≡ phases.Marking → HasMarked v w → MarksIn p v w
+marks-some p v w is m = subst (λ (q : Phase). MarksIn q v w) (sym is) m

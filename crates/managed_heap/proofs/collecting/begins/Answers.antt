@@ -1,0 +1,16 @@
+use Rattle.std.proofs.lemmas.Bool.{OnFalse_at, OnFalse_from, OnTrue_at, OnTrue_from}
+use Rattle.gc_table.specs.Seats.{view_of}
+use Rattle.managed_heap.proofs.Seats.{mutator-kept}
+use Rattle.managed_heap.proofs.collecting.begins.Goals as goal
+
+pub returns-clause-begun : goal.returns-clause-begun
+returns-clause-begun c =
+    let e = c.begin_collection.ensures in
+    let m = mutator-kept (view_of c.args.seat.now) (view_of c.begin_collection.new.seat) c.requires.stopped.mutator e.ran e.keeps.0 e.keeps.1 in
+    OnTrue_from c.begin_collection.result _ (λ is. record { sits = e.seat; mutator = m; roots = (OnTrue_at is e.begun).0 })
+
+pub returns-clause-full : goal.returns-clause-full
+returns-clause-full c =
+    let e = c.begin_collection.ensures in
+    let m = mutator-kept (view_of c.args.seat.now) (view_of c.begin_collection.new.seat) c.requires.stopped.mutator e.ran e.keeps.0 e.keeps.1 in
+    OnFalse_from c.begin_collection.result _ (λ is. let q = OnFalse_at is e.full in (record { works = record { sits = e.seat; mutates = q.0.mutates; mutator = m }; cache = q.0.cache }, q.1))

@@ -1,0 +1,8 @@
+use Rattle.gc_table.specs.Seats.{view_of}
+use Rattle.managed_heap.proofs.Seats.{mutator-kept}
+use Rattle.managed_heap.proofs.collecting.marks_again.Goals as goal
+
+pub returns-clause-rooting : goal.returns-clause-rooting
+returns-clause-rooting c =
+    let e = c.drain_again.ensures in
+    record { sits = e.seat; mutator = mutator-kept (view_of c.args.seat.now) (view_of c.drain_again.new.seat) c.requires.marked.mutator e.ran e.keeps.0 e.keeps.1; roots = e.roots }

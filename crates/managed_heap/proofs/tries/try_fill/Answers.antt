@@ -1,0 +1,12 @@
+use Rattle.managed_heap.proofs.tries.try_fill.Goals as goal
+use Rattle.managed_heap.proofs.Tried.{fills-none, fills-some}
+
+pub returns-clause-refills : goal.returns-clause-refills
+returns-clause-refills c =
+    let e = c.try_refill.ensures in
+    fills-some c.try_refill.result _ c.args.heap.now c.args.seat.now c.try_refill.new.seat c.requires.halts.works e.seat e.plays.ran e.keeps.0 e.keeps.1 e.refills
+
+pub returns-clause-none : goal.returns-clause-none
+returns-clause-none c =
+    let e = c.try_refill.ensures in
+    fills-none c.try_refill.result c.args.heap.now c.args.seat.now c.try_refill.new.seat c.requires.halts.works e.seat e.plays.ran e.keeps.0 e.keeps.1 e.calls

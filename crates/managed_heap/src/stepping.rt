@@ -1,0 +1,272 @@
+//! What a mutator does that doesn't wait.
+ghost use Rattle.std.specs.Prelude.{◌≡◌, ◌<◌, IfErr, IfOk, IsTrue};
+ghost use Rattle.std.specs.Arc.{arc_value};
+ghost use Rattle.plain_heap.specs.declared.operation.Op.TheVariants as ops;
+ghost use Rattle.managed_heap.specs.Calls.{heap_of};
+ghost use Rattle.managed_heap.specs.Stepping.{Entered, Left, Makes, Operates, Passed, Reads, collects, heap_in};
+ghost use Rattle.managed_heap.specs.declared.mutator.Place.TheVariants as places;
+ghost use Rattle.managed_heap.specs.declared.stepper.Stage.TheVariants as stages;
+
+use crate::gates::leave_turn;
+use crate::mutator::{Mutator, Place};
+use crate::operations::{
+    copy_variable, forget_variable, get_field, put_value, read_value, set_field,
+};
+use crate::stepper::{Came, Stage, Stepper};
+use crate::tries::{enter_once, make_once, pass_once};
+
+/// How many variables a mutator has.
+const VARIABLES: u8 = 32;
+
+impl Mutator {
+    /// The same for a thread that may not wait. It is outside the world.
+    pub fn into_steps(self) -> Stepper
+        ensures outside { result.stage ≡ stages.Outside }
+        ensures same { heap_in result ≡ heap_of self }
+        ensures world { (arc_value result.heap ≡ arc_value self.heap) × (result.name ≡ self.name) }
+    {
+        let mut mutator = self;
+        mutator.leave();
+        Stepper {
+            heap: mutator.heap,
+            seat: mutator.seat,
+            stage: Stage::Outside,
+            name: mutator.name,
+            in_stops: mutator.in_stops,
+            again: false,
+        }
+    }
+}
+
+impl Stepper {
+    /// The mutator that it was, outside the world. While it collects it is handed back.
+    pub fn into_mutator(self) -> Result<Mutator, Stepper>
+        ensures ok { IfOk result (λ m. (m.place ≡ places.Outside) × (heap_of m ≡ heap_in self) × (arc_value m.heap ≡ arc_value self.heap) × (m.name ≡ self.name)) }
+        ensures err { IfErr result (λ s. IsTrue (collects self.stage) × (s ≡ self)) }
+    {
+        match self.stage {
+            Stage::Outside => Ok(Mutator {
+                heap: self.heap,
+                seat: self.seat,
+                place: Place::Outside,
+                name: self.name,
+                in_stops: self.in_stops,
+            }),
+            Stage::Inside => {
+                let mut seat = self.seat;
+                leave_turn(&self.heap, &mut seat);
+                Ok(Mutator {
+                    heap: self.heap,
+                    seat,
+                    place: Place::Outside,
+                    name: self.name,
+                    in_stops: self.in_stops,
+                })
+            }
+            _ => Err(self),
+        }
+    }
+
+    /// Enters the world, where no stop is under way.
+    pub fn enter(&mut self) -> Came
+        ensures entered { Entered result self.old self.new }
+    {
+        match self.stage {
+            Stage::Inside => Came::Done,
+            Stage::Outside => self.enter_from_outside(),
+            _ => Came::Collecting,
+        }
+    }
+
+    /// The same from outside.
+    fn enter_from_outside(&mut self) -> Came
+        requires outside { self.old.stage ≡ stages.Outside }
+        ensures entered { Entered result self.old self.new }
+    {
+        match enter_once(&self.heap, &mut self.seat) {
+            Came::Done => {
+                self.stage = Stage::Inside;
+                Came::Done
+            }
+            other => other,
+        }
+    }
+
+    /// Leaves the world, if it is inside. What its variables refer to is kept.
+    pub fn leave(&mut self) -> Came
+        ensures left { Left result self.old self.new }
+    {
+        match self.stage {
+            Stage::Outside => Came::Done,
+            Stage::Inside => {
+                leave_turn(&self.heap, &mut self.seat);
+                self.stage = Stage::Outside;
+                Came::Done
+            }
+            _ => Came::Collecting,
+        }
+    }
+
+    /// A safe point. Where a stop is under way it leaves.
+    pub fn safe_point(&mut self) -> Came
+        ensures passed { Passed result self.old self.new }
+    {
+        match self.stage {
+            Stage::Outside => Came::Outside,
+            Stage::Inside => self.pass_inside(),
+            _ => Came::Collecting,
+        }
+    }
+
+    /// The same inside.
+    fn pass_inside(&mut self) -> Came
+        requires inside { self.old.stage ≡ stages.Inside }
+        ensures passed { Passed result self.old self.new }
+    {
+        match pass_once(&self.heap, &mut self.seat) {
+            Came::Done => Came::Done,
+            other => {
+                self.stage = Stage::Outside;
+                other
+            }
+        }
+    }
+
+    /// Makes an object with this value, whose references refer to nothing, and lets variable v refer to it. It is a safe point too.
+    pub fn make(&mut self, v: u8, value: u32) -> Came
+        ensures makes { Makes result (ops.New v value) self.old self.new }
+    {
+        if v >= VARIABLES {
+            return Came::OutOfRange;
+        }
+        match self.stage {
+            Stage::Outside => Came::Outside,
+            Stage::Inside => self.make_inside(v, value),
+            _ => Came::Collecting,
+        }
+    }
+
+    /// The same inside the world.
+    fn make_inside(&mut self, v: u8, value: u32) -> Came
+        requires inside { self.old.stage ≡ stages.Inside }
+        requires range { v < 32 }
+        ensures makes { Makes result (ops.New v value) self.old self.new }
+    {
+        if self.seat.state().made >= self.heap.shape().objects {
+            return Came::Spent;
+        }
+        match make_once(&self.heap, &mut self.seat, v, value) {
+            Came::Done => Came::Done,
+            Came::NoCell => Came::NoCell,
+            other => {
+                self.stage = Stage::Outside;
+                other
+            }
+        }
+    }
+
+    /// Reference i of variable v's object becomes what variable w refers to. Nothing happens where v refers to nothing.
+    pub fn set(&mut self, v: u8, i: u8, w: u8) -> Came
+        ensures operates { Operates result (ops.Set v i w) self.old self.new }
+    {
+        if v >= VARIABLES || w >= VARIABLES || u32::from(i) >= self.heap.shape().fields {
+            return Came::OutOfRange;
+        }
+        match self.stage {
+            Stage::Outside => Came::Outside,
+            Stage::Inside => {
+                set_field(&self.heap, &mut self.seat, v, i, w);
+                Came::Done
+            }
+            _ => Came::Collecting,
+        }
+    }
+
+    /// Variable w becomes what reference i of variable v's object refers to, or refers to nothing where v does.
+    pub fn get(&mut self, w: u8, v: u8, i: u8) -> Came
+        ensures operates { Operates result (ops.Get w v i) self.old self.new }
+    {
+        if w >= VARIABLES || v >= VARIABLES || u32::from(i) >= self.heap.shape().fields {
+            return Came::OutOfRange;
+        }
+        match self.stage {
+            Stage::Outside => Came::Outside,
+            Stage::Inside => {
+                get_field(&self.heap, &mut self.seat, w, v, i);
+                Came::Done
+            }
+            _ => Came::Collecting,
+        }
+    }
+
+    /// Variable w becomes what variable v is.
+    pub fn copy(&mut self, w: u8, v: u8) -> Came
+        ensures operates { Operates result (ops.Let w v) self.old self.new }
+    {
+        if w >= VARIABLES || v >= VARIABLES {
+            return Came::OutOfRange;
+        }
+        match self.stage {
+            Stage::Outside => Came::Outside,
+            Stage::Inside => {
+                copy_variable(&self.heap, &mut self.seat, w, v);
+                Came::Done
+            }
+            _ => Came::Collecting,
+        }
+    }
+
+    /// Variable v refers to nothing any more. What only it reached is garbage from then on.
+    pub fn forget(&mut self, v: u8) -> Came
+        ensures operates { Operates result (ops.Nil v) self.old self.new }
+    {
+        if v >= VARIABLES {
+            return Came::OutOfRange;
+        }
+        match self.stage {
+            Stage::Outside => Came::Outside,
+            Stage::Inside => {
+                forget_variable(&self.heap, &mut self.seat, v);
+                Came::Done
+            }
+            _ => Came::Collecting,
+        }
+    }
+
+    /// The value of variable v's object becomes this one. Nothing happens where v refers to nothing.
+    pub fn put(&mut self, v: u8, value: u32) -> Came
+        ensures operates { Operates result (ops.Put v value) self.old self.new }
+    {
+        if v >= VARIABLES {
+            return Came::OutOfRange;
+        }
+        match self.stage {
+            Stage::Outside => Came::Outside,
+            Stage::Inside => {
+                put_value(&self.heap, &mut self.seat, v, value);
+                Came::Done
+            }
+            _ => Came::Collecting,
+        }
+    }
+
+    /// Writes the value of variable v's object.
+    pub fn value(&mut self, v: u8, out: &mut u32) -> Came
+        ensures reads { Reads result v self.old self.new out.old out.new }
+    {
+        if v >= VARIABLES {
+            return Came::OutOfRange;
+        }
+        match self.stage {
+            Stage::Outside => Came::Outside,
+            Stage::Inside => match read_value(&self.heap, &mut self.seat, v) {
+                Some(value) => {
+                    *out = value;
+                    Came::Done
+                }
+                None => Came::Nil,
+            },
+            _ => Came::Collecting,
+        }
+    }
+}

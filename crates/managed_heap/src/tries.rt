@@ -1,0 +1,254 @@
+//! What a mutator does with its seat without waiting.
+ghost use Rattle.std.specs.Prelude.{◌≡◌, ◌<◌, length, IfErr, IfNone, IfOk, IfSome, None};
+ghost use Rattle.std.specs.Bool.{OnTrue};
+ghost use Rattle.std.specs.Int.Count.{ones};
+ghost use Rattle.plain_heap.specs.declared.operation.Op.TheVariants as ops;
+ghost use Rattle.alloc_cache.specs.Caching.{IsCached};
+ghost use Rattle.gc_cycle.specs.Answering.{HasCache};
+ghost use Rattle.gc_cycle.specs.declared.trying.Pass.TheVariants as passes;
+ghost use Rattle.gc_table.specs.Seats.{view_of};
+ghost use Rattle.managed_heap.specs.Standing.{Halts, IsAtTurn, Plays, Waits, Works, plain_of};
+ghost use Rattle.managed_heap.specs.Stepping.{Arrives, LacksCell, Leaves, MakesOne, Passes, Refills, Tries};
+
+use crate::gates::leave;
+use crate::operations::make_in;
+use crate::stepper::Came;
+use crate::turns::{is_turn, keep_some, retire_some, with_free};
+use alloc_cache::{Cache, cache_of};
+use gc_cycle::{Pass, Refill, try_enter, try_refill, try_safe_point};
+use gc_table::{Heap, HeapSeat};
+
+/// Tries to enter the world.
+fn try_in(heap: &Heap, seat: &mut HeapSeat) -> Pass
+    requires waits { Waits heap.now seat.old }
+    ensures tries { Tries result heap.now seat.new }
+    ensures same { plain_of seat.new ≡ plain_of seat.old }
+{
+    try_enter(heap, seat)
+}
+
+/// A safe point that doesn't wait, with this cache.
+fn try_pass(heap: &Heap, seat: &mut HeapSeat, cache: &mut Option<Cache>) -> Pass
+    requires works { Works heap.now seat.old }
+    requires cache { HasCache cache.old (view_of seat.old) }
+    ensures passes { Passes result heap.now seat.new cache.new }
+    ensures same { plain_of seat.new ≡ plain_of seat.old }
+{
+    let made = seat.state().made;
+    try_safe_point(heap, seat, cache, made)
+}
+
+/// Comes to a turn, where the phase was read and the heap isn't full. True where it is the mutators' turn.
+fn comes_to_turn(heap: &Heap, seat: &mut HeapSeat, _cache: &Option<Cache>) -> bool
+    requires going { Passes passes.Going heap.now seat.old _cache.now }
+    ensures plays { OnTrue result (Plays heap.now seat.new) }
+    ensures works { Works heap.now seat.new }
+    ensures cache { HasCache _cache.now (view_of seat.new) }
+    ensures same { plain_of seat.new ≡ plain_of seat.old }
+{
+    is_turn(heap, seat)
+}
+
+/// There is no cache to give up.
+fn spend_none(cache: Option<Cache>)
+    requires { cache ≡ None }
+{
+    match cache {
+        None => (),
+        Some(_) => unreachable!(),
+    }
+}
+
+/// Gives the cache up and leaves.
+fn leave_with(heap: &Heap, seat: &mut HeapSeat, cache: Option<Cache>)
+    requires works { Works heap.now seat.old }
+    requires cache { HasCache cache (view_of seat.old) }
+    ensures waits { Waits heap.now seat.new }
+    ensures same { plain_of seat.new ≡ plain_of seat.old }
+{
+    retire_some(heap, seat, cache);
+    leave(heap, seat);
+}
+
+/// Comes to its turn with this cache. Where a stop is under way or the heap is full it leaves.
+fn point(heap: &Heap, seat: &mut HeapSeat, cache: Option<Cache>) -> Result<Option<Cache>, Came>
+    requires works { Works heap.now seat.old }
+    requires cache { HasCache cache (view_of seat.old) }
+    ensures ok { IfOk result (λ kept. Plays heap.now seat.new × HasCache kept (view_of seat.new)) }
+    ensures err { IfErr result (λ came. Leaves came heap.now seat.new) }
+    ensures same { plain_of seat.new ≡ plain_of seat.old }
+{
+    let mut cache = cache;
+    match try_pass(heap, seat, &mut cache) {
+        Pass::Out => {
+            spend_none(cache);
+            Err(Came::Stopped)
+        }
+        Pass::Full => {
+            spend_none(cache);
+            leave(heap, seat);
+            Err(Came::Full)
+        }
+        Pass::Going => {
+            if comes_to_turn(heap, seat, &cache) {
+                return Ok(cache);
+            }
+            leave_with(heap, seat, cache);
+            Err(Came::Stopped)
+        }
+    }
+}
+
+/// Comes to its turn, or leaves.
+pub fn arrive(heap: &Heap, seat: &mut HeapSeat) -> Came
+    requires halts { Halts heap.now seat.old }
+    ensures arrives { Arrives result heap.now seat.new }
+    ensures same { plain_of seat.new ≡ plain_of seat.old }
+{
+    match point(heap, seat, None) {
+        Ok(none) => {
+            keep_some(heap, seat, none);
+            Came::Done
+        }
+        Err(came) => came,
+    }
+}
+
+/// Enters the world, where no stop is under way, and comes to its turn.
+pub fn enter_once(heap: &Heap, seat: &mut HeapSeat) -> Came
+    requires waits { Waits heap.now seat.old }
+    ensures arrives { Arrives result heap.now seat.new }
+    ensures same { plain_of seat.new ≡ plain_of seat.old }
+{
+    match try_in(heap, seat) {
+        Pass::Out => Came::Stopped,
+        Pass::Full => {
+            leave(heap, seat);
+            Came::Full
+        }
+        Pass::Going => arrive(heap, seat),
+    }
+}
+
+/// The cache that the seat has, at its turn.
+fn cache_at_turn(_heap: &Heap, seat: &HeapSeat) -> Option<Cache>
+    requires turn { IsAtTurn _heap.now seat.now }
+    ensures cache { HasCache result (view_of seat.now) }
+    ensures works { Works _heap.now seat.now }
+{
+    cache_of(seat)
+}
+
+/// A safe point at its turn.
+pub fn pass_once(heap: &Heap, seat: &mut HeapSeat) -> Came
+    requires turn { IsAtTurn heap.now seat.old }
+    ensures arrives { Arrives result heap.now seat.new }
+    ensures same { plain_of seat.new ≡ plain_of seat.old }
+{
+    let cache = cache_at_turn(heap, seat);
+    match point(heap, seat, cache) {
+        Ok(kept) => {
+            keep_some(heap, seat, kept);
+            Came::Done
+        }
+        Err(came) => came,
+    }
+}
+
+/// Tries to get a cache with a free cell, and pays for it.
+fn try_fill(heap: &Heap, seat: &mut HeapSeat) -> Option<Refill>
+    requires halts { Halts heap.now seat.old }
+    ensures refills { IfSome result (λ r. Refills r heap.now seat.new) }
+    ensures none { IfNone result (Halts heap.now seat.new) }
+    ensures same { plain_of seat.new ≡ plain_of seat.old }
+{
+    let made = seat.state().made;
+    try_refill(heap, seat, made)
+}
+
+/// Comes to its turn without a cell.
+fn lacks_cell(heap: &Heap, seat: &mut HeapSeat) -> Came
+    requires halts { Halts heap.now seat.old }
+    ensures lacks { LacksCell result heap.now seat.new }
+    ensures same { plain_of seat.new ≡ plain_of seat.old }
+{
+    match arrive(heap, seat) {
+        Came::Done => Came::NoCell,
+        other => other,
+    }
+}
+
+/// Comes to its turn with a cache that was got, and with a free cell of it.
+fn point_with(heap: &Heap, seat: &mut HeapSeat, cache: Cache) -> Result<Cache, Came>
+    requires works { Works heap.now seat.old }
+    requires cache { IsCached cache (view_of seat.old) }
+    ensures ok { IfOk result (λ free. Plays heap.now seat.new × IsCached free (view_of seat.new)) }
+    ensures free { IfOk result (λ free. 0 < ones free.cells) }
+    ensures err { IfErr result (λ came. LacksCell came heap.now seat.new) }
+    ensures same { plain_of seat.new ≡ plain_of seat.old }
+{
+    match point(heap, seat, Some(cache)) {
+        Err(came) => Err(came),
+        Ok(kept) => match with_free(kept) {
+            Ok(free) => Ok(free),
+            Err(none) => {
+                keep_some(heap, seat, none);
+                Err(Came::NoCell)
+            }
+        },
+    }
+}
+
+/// Another cache, with a free cell: this one is given up.
+fn fill(heap: &Heap, seat: &mut HeapSeat, cache: Option<Cache>) -> Result<Cache, Came>
+    requires works { Works heap.now seat.old }
+    requires cache { HasCache cache (view_of seat.old) }
+    ensures ok { IfOk result (λ free. Plays heap.now seat.new × IsCached free (view_of seat.new)) }
+    ensures free { IfOk result (λ free. 0 < ones free.cells) }
+    ensures err { IfErr result (λ came. LacksCell came heap.now seat.new) }
+    ensures same { plain_of seat.new ≡ plain_of seat.old }
+{
+    retire_some(heap, seat, cache);
+    match try_fill(heap, seat) {
+        None => Err(lacks_cell(heap, seat)),
+        Some(Refill::Full) => {
+            leave(heap, seat);
+            Err(Came::Full)
+        }
+        Some(Refill::Cache(cache, _paid)) => point_with(heap, seat, cache),
+    }
+}
+
+/// Comes to a cache with a free cell.
+fn come_once(heap: &Heap, seat: &mut HeapSeat) -> Result<Cache, Came>
+    requires turn { IsAtTurn heap.now seat.old }
+    ensures ok { IfOk result (λ free. Plays heap.now seat.new × IsCached free (view_of seat.new)) }
+    ensures free { IfOk result (λ free. 0 < ones free.cells) }
+    ensures err { IfErr result (λ came. LacksCell came heap.now seat.new) }
+    ensures same { plain_of seat.new ≡ plain_of seat.old }
+{
+    let cache = cache_at_turn(heap, seat);
+    match point(heap, seat, cache) {
+        Err(came) => Err(came),
+        Ok(kept) => match with_free(kept) {
+            Ok(free) => Ok(free),
+            Err(none) => fill(heap, seat, none),
+        },
+    }
+}
+
+/// Makes an object in variable v, after a safe point. The section hasn't made all its objects.
+pub fn make_once(heap: &Heap, seat: &mut HeapSeat, v: u8, value: u32) -> Came
+    requires turn { IsAtTurn heap.now seat.old }
+    requires room { length (plain_of seat.old).objects < heap.now.shape.objects }
+    requires range { v < 32 }
+    ensures makes { MakesOne result (ops.New v value) heap.now seat.old seat.new }
+{
+    match come_once(heap, seat) {
+        Ok(free) => {
+            make_in(heap, seat, free, v, value);
+            Came::Done
+        }
+        Err(came) => came,
+    }
+}
