@@ -140,7 +140,62 @@ def tracers():
     return curves("What tracers cost, four workers", "milliseconds", labels, lines)
 
 
-FIGURES = {"to_floor": to_floor, "speed_up": speed_up, "tracers": tracers}
+def pauses_of(cells, column):
+    """What the two ways have in a column of the table of pauses, for each pair of workers and tracers."""
+    header, rows = table("docs/PAUSES.md", "Marking", "Longest")
+    at = {name: header.index(name) for name in ("Cells", "Workers", "Tracers", "Marking", column)}
+    labels, found = [], {"beside": [], "stops": []}
+    for row in rows:
+        if number(row[at["Cells"]]) != cells or number(row[at["Tracers"]]) > 1:
+            continue
+        label = f"{row[at['Workers']]} / {row[at['Tracers']]}"
+        if label not in labels:
+            labels.append(label)
+        found[row[at["Marking"]]].append(number(row[at[column]]))
+    return labels, found
+
+
+def in_milliseconds(values):
+    return [round(v / 1000) for v in values]
+
+
+def pauses():
+    """The mean and the longest stop, both ways, of the largest heap of the series."""
+    labels, means = pauses_of(PAUSES_CELLS, "Mean")
+    _, longest = pauses_of(PAUSES_CELLS, "Longest")
+    lines = [
+        ("mean, beside", in_milliseconds(means["beside"])),
+        ("longest, beside", in_milliseconds(longest["beside"])),
+        ("mean, stops", in_milliseconds(means["stops"])),
+        ("longest, stops", in_milliseconds(longest["stops"])),
+    ]
+    return bars(f"Stops in a heap of {PAUSES_CELLS:,} cells, by workers / tracers", "milliseconds", labels, lines)
+
+
+def pauses_rate():
+    """How many orders were replaced in a second, both ways."""
+    labels, rates = pauses_of(PAUSES_CELLS, "Orders a second")
+    lines = [(name, [round(v / 1000) for v in values]) for name, values in (("marking beside", rates["beside"]), ("in stops alone", rates["stops"]))]
+    return bars(f"Orders in a heap of {PAUSES_CELLS:,} cells, by workers / tracers", "thousands a second", labels, lines)
+
+
+def pauses_work():
+    """Of a hundred objects that were traced, who traced them."""
+    header, rows = table("docs/PAUSES.md", "Traced by mutators", "By tracers", "Left to the stops")
+    columns = ["Traced by mutators", "By tracers", "Left to the stops"]
+    labels, lines = [], {column: [] for column in columns}
+    for row in rows:
+        if number(row[header.index("Cells")]) != PAUSES_CELLS:
+            continue
+        labels.append(f"{row[header.index('Workers')]} / {row[header.index('Tracers')]}")
+        counts = [number(row[header.index(column)]) for column in columns]
+        for column, count in zip(columns, counts):
+            lines[column].append(round(100 * count / max(1, sum(counts)), 1))
+    return bars("Who traced, by workers / tracers", "of a hundred objects", labels, list(lines.items()))
+
+
+PAUSES_CELLS = 4194304
+FIGURES = {"to_floor": to_floor, "speed_up": speed_up, "tracers": tracers, "pauses": pauses, "pauses_rate": pauses_rate, "pauses_work": pauses_work}
 
 
 def main():

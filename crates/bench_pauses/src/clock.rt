@@ -1,0 +1,91 @@
+//! What a worker's stops took by the clock, and what was done in them and beside them.
+
+use managed_heap::{Counts, Paid, Watch};
+use std::alloc::Global;
+use std::rt::Clock;
+use std::time::Instant;
+
+/// What was noted of a worker's stops.
+#[derive(Drop)]
+pub struct Log {
+    /// The nanoseconds of each stop from raise to resume.
+    pub lengths: Vec<u64>,
+    /// How many ordinary cycles ended, and how many cells were in use at their ends.
+    pub cycles: u64,
+    pub marked: u64,
+    /// How many precise collections there were, and how many cells were in use at their ends.
+    pub collections: u64,
+    pub exact: u64,
+    /// How many objects this worker traced beside the others.
+    pub traced: u64,
+    /// How many objects it scanned again in its stops, on dirty cards.
+    pub rescanned: u64,
+}
+
+impl Log {
+    pub fn empty(alloc: Global) -> Log {
+        Log {
+            lengths: Vec::new(alloc),
+            cycles: 0,
+            marked: 0,
+            collections: 0,
+            exact: 0,
+            traced: 0,
+            rescanned: 0,
+        }
+    }
+}
+
+/// A watch with a clock.
+#[derive(Drop)]
+pub struct StopClock<'a, R: Clock> {
+    pub rt: &'a R,
+    pub asked: Option<Instant>,
+    pub log: Log,
+}
+
+impl<'a, R: Clock> StopClock<'a, R> {
+    pub fn new(rt: &'a R, alloc: Global) -> StopClock<'a, R> {
+        StopClock {
+            rt,
+            asked: None,
+            log: Log::empty(alloc),
+        }
+    }
+
+    /// The nanoseconds since the stop was asked for.
+    fn since(&self) -> Option<u64> {
+        match self.asked?.elapsed(self.rt) {
+            Ok(took) => u64::try_from(took.as_nanos()).ok(),
+            Err(_) => None,
+        }
+    }
+}
+
+impl<'a, R: Clock> Watch for StopClock<'a, R> {
+    fn pays(&mut self, paid: Paid) {
+        self.log.traced = self.log.traced.wrapping_add(u64::from(paid.done));
+    }
+
+    fn asks(&mut self) {
+        self.asked = Instant::now(self.rt).ok();
+    }
+
+    fn finishes(&mut self, counts: Counts) {
+        self.log.cycles = self.log.cycles.wrapping_add(1);
+        self.log.marked = self.log.marked.wrapping_add(u64::from(counts.marked));
+        self.log.rescanned = self.log.rescanned.wrapping_add(u64::from(counts.rescanned));
+    }
+
+    fn collects(&mut self, counts: Counts) {
+        self.log.collections = self.log.collections.wrapping_add(1);
+        self.log.exact = self.log.exact.wrapping_add(u64::from(counts.marked));
+    }
+
+    fn resumes(&mut self) {
+        if let Some(took) = self.since() {
+            // A length that finds no memory isn't told.
+            let _kept = self.log.lengths.push(took);
+        }
+    }
+}

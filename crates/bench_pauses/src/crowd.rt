@@ -1,0 +1,193 @@
+//! All threads of a run.
+
+use crate::clock::Log;
+use crate::orders::Seen;
+use crate::words::Asked;
+use crate::workers::{Worker, orders_in};
+use managed_heap::{Sizes, Tracer, World};
+use std::alloc::Global;
+use std::rt::Clock;
+use std::sync::Wait;
+use std::thread::{Threads, for_each_mut, join_mut};
+use std::time::Instant;
+
+/// What a run came to.
+#[derive(Drop)]
+pub struct Found {
+    pub workers: Vec<Worker>,
+    /// How many objects the tracers traced beside the workers, while these replaced orders and before.
+    pub traced: u64,
+    /// The nanoseconds in which the orders were replaced.
+    pub took: u64,
+    /// Each worker came to its end.
+    pub ended: bool,
+}
+
+/// What each worker does in one part of a run.
+#[derive(Clone, Copy, Drop)]
+enum Part {
+    Fill,
+    Settle,
+    Play,
+    Look,
+}
+
+/// One part of one worker, unless it was stopped before.
+fn play_one<R: Wait + Clock>(rt: &R, alloc: Global, worker: &mut Worker, part: Part) {
+    if worker.ended.is_err() {
+        return;
+    }
+    worker.ended = match part {
+        Part::Fill => worker.fill(rt, alloc),
+        Part::Settle => worker.settle(rt),
+        Part::Play => worker.play(rt, alloc),
+        Part::Look => worker.look(rt, alloc),
+    };
+    worker.mutator.leave();
+}
+
+/// One part of all workers, each in a thread of its own.
+fn play_part<R: Threads + Wait + Sync + Clock>(
+    rt: &R,
+    alloc: Global,
+    workers: &mut Vec<Worker>,
+    part: Part,
+) {
+    let threads = workers.len();
+    if threads > 0 {
+        for_each_mut(
+            rt,
+            workers.as_mut_slice(),
+            threads,
+            &|_, worker: &mut Worker| play_one(rt, alloc, worker, part),
+        );
+    }
+}
+
+/// The nanoseconds since then.
+fn since<R: Clock>(rt: &R, start: Option<Instant>) -> u64 {
+    match start {
+        None => 0,
+        Some(start) => match start.elapsed(rt) {
+            Ok(took) => u64::try_from(took.as_nanos()).unwrap_or(u64::MAX),
+            Err(_) => 0,
+        },
+    }
+}
+
+/// All parts, and then the tracers are dismissed. The nanoseconds in which orders were replaced.
+fn play_all<R: Threads + Wait + Sync + Clock>(
+    rt: &R,
+    alloc: Global,
+    world: &mut World,
+    workers: &mut Vec<Worker>,
+) -> u64 {
+    play_part(rt, alloc, workers, Part::Fill);
+    play_part(rt, alloc, workers, Part::Settle);
+    let start = Instant::now(rt).ok();
+    play_part(rt, alloc, workers, Part::Play);
+    let took = since(rt, start);
+    play_part(rt, alloc, workers, Part::Look);
+    world.dismiss_tracers(rt);
+    took
+}
+
+/// A worker with its share of the work, where there are workers.
+fn hire_one(alloc: Global, world: &mut World, asked: Asked, k: u32) -> Option<Worker> {
+    let live = u64::from(asked.cells).wrapping_mul(u64::from(asked.live)) / 100;
+    let cells = live.checked_div(u64::from(asked.workers))?;
+    let more = if k < asked.transactions.checked_rem(asked.workers)? {
+        1
+    } else {
+        0
+    };
+    Some(Worker {
+        mutator: world.mutator()?,
+        orders: orders_in(u32::try_from(cells).unwrap_or(0)),
+        transactions: asked
+            .transactions
+            .checked_div(asked.workers)?
+            .saturating_add(more),
+        seed: 88_172_645_463_325_252u64.wrapping_add(u64::from(k)),
+        nodes: 0,
+        log: Log::empty(alloc),
+        seen: Seen::nothing(),
+        ended: Ok(()),
+    })
+}
+
+fn hire(alloc: Global, world: &mut World, asked: Asked) -> Option<Vec<Worker>> {
+    let mut workers = Vec::new(alloc);
+    for k in 0..asked.workers {
+        let worker = hire_one(alloc, world, asked, k)?;
+        workers.push(worker).ok()?;
+    }
+    Some(workers)
+}
+
+fn hire_tracers(alloc: Global, world: &mut World, tracers: u32) -> Option<Vec<Tracer>> {
+    let mut all = Vec::new(alloc);
+    for _ in 0..tracers {
+        let tracer = world.tracer()?;
+        all.push(tracer).ok()?;
+    }
+    Some(all)
+}
+
+/// Marks beside the others.
+fn trace_one<R: Wait>(rt: &R, tracer: &mut Tracer) {
+    tracer.run(rt);
+}
+
+fn trace_all<R: Threads + Wait + Sync>(rt: &R, tracers: &mut Vec<Tracer>) {
+    let threads = tracers.len();
+    if threads > 0 {
+        for_each_mut(
+            rt,
+            tracers.as_mut_slice(),
+            threads,
+            &|_, tracer: &mut Tracer| trace_one(rt, tracer),
+        );
+    }
+}
+
+/// What all came to.
+fn gather(workers: Vec<Worker>, tracers: &Vec<Tracer>, took: u64) -> Found {
+    let mut ended = true;
+    for worker in workers.iter() {
+        ended = ended && worker.ended.is_ok();
+    }
+    let mut traced = 0u64;
+    for tracer in tracers.iter() {
+        traced = traced.wrapping_add(tracer.traced());
+    }
+    Found {
+        workers,
+        traced,
+        took,
+        ended,
+    }
+}
+
+/// Opens a world, and lets the workers play in it.
+pub fn run<R: Threads + Wait + Sync + Clock>(rt: &R, alloc: Global, asked: Asked) -> Option<Found> {
+    let sizes = Sizes::of_cells(asked.cells)
+        .fields(4)
+        .mutators(asked.workers)
+        .tracers(asked.tracers)
+        .packets(asked.packets, asked.entries)
+        .in_stops(asked.stops);
+    let mut world = World::open(alloc, sizes).ok()?;
+    let mut workers = hire(alloc, &mut world, asked)?;
+    let mut tracers = hire_tracers(alloc, &mut world, asked.tracers)?;
+    let mut took = 0u64;
+    join_mut(
+        rt,
+        &mut || trace_all(rt, &mut tracers),
+        &mut || {
+            took = play_all(rt, alloc, &mut world, &mut workers);
+        },
+    );
+    let found = gather(workers, &tracers, took);
+    if found.ended { Some(found) } else { None }
+}

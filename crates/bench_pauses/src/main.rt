@@ -1,0 +1,66 @@
+//! The program `bench_pauses`: a warehouse's heap, and how long its mutators stand still.
+//!
+//! Each worker is a mutator that keeps orders: small trees and lists below a directory with a fan-out of four, which together fill a stated share of the
+//! heap. A transaction replaces one order by a new one and looks at another. So the heap is full of garbage again and again, while the live set stays as it
+//! is. With `--stops` a collection marks in stops alone; without, it marks beside the workers and stops them at its end. Stops are timed by the clock.
+//!
+//! - `words`: what the words of the command line ask for.
+//! - `orders`: an order, and the directory: made, replaced, looked at.
+//! - `clock`: what a worker's stops took, and what it traced.
+//! - `workers`: what a worker does. `crowd`: all threads of a run.
+//! - `report`: what is told of a run.
+#![tactic(auto)]
+
+mod clock;
+mod crowd;
+mod orders;
+mod report;
+mod words;
+mod workers;
+
+use crowd::run;
+use report::tell;
+use std::process::ExitCode;
+use std::{env, io};
+use words::asked_by;
+
+/// The words of the command line, without the program's own name.
+fn given_words<R: std::rt::Env + AllocGlobal>(rt: &R) -> io::Result<Vec<String>> {
+    let mut words = Vec::new(rt.alloc());
+    let mut is_name = true;
+    for word in env::args(rt)? {
+        if is_name {
+            is_name = false;
+        } else {
+            words.push(word)?;
+        }
+    }
+    Ok(words)
+}
+
+fn main(rt: HostRuntime) -> ExitCode {
+    let Ok(words) = given_words(&rt) else {
+        return ExitCode::from(6);
+    };
+    let Ok(asked) = asked_by(rt.alloc(), words.as_slice()) else {
+        return ExitCode::from(6);
+    };
+    let Some(asked) = asked else {
+        return match println!(rt;
+            "usage: bench_pauses [--cells n] [--live percent] [--workers k] [--tracers t] [--packets n] [--entries e] [--transactions n] [--stops] [--counts-alone]"
+        ) {
+            Ok(()) => ExitCode::from(1),
+            Err(_) => ExitCode::from(5),
+        };
+    };
+    let Some(found) = run(&rt, rt.alloc(), asked) else {
+        return match println!(rt; "the live set doesn't fit, or memory ran out") {
+            Ok(()) => ExitCode::from(3),
+            Err(_) => ExitCode::from(5),
+        };
+    };
+    match tell(&rt, asked, &found) {
+        Ok(()) => ExitCode::SUCCESS,
+        Err(_) => ExitCode::from(5),
+    }
+}

@@ -1,0 +1,215 @@
+//! An order, and the directory of all orders of a worker.
+//!
+//! An order has 16 objects. Its reference 0 is a list of five lines, each with an item, and its reference 1 a tree with four leaves. The directory is a tree with
+//! a fan-out of four, whose lowest nodes refer to the orders. An object's value is the order's number.
+
+use managed_heap::{Mutator, Refused, Watch};
+use std::sync::Wait;
+
+/// How many objects an order has.
+pub const OBJECTS: u32 = 16;
+
+/// How many lines an order has, and how many leaves its tree.
+const LINES: u32 = 5;
+
+const LEAVES: u8 = 4;
+
+/// The variables: the directory; a node of it, and the next below; an order, a line, what was made last, its item, and a tree.
+const DIRECTORY: u8 = 0;
+
+const NODE: u8 = 1;
+
+const NEXT: u8 = 2;
+
+const ORDER: u8 = 3;
+
+const LINE: u8 = 4;
+
+const MADE: u8 = 5;
+
+const ITEM: u8 = 6;
+
+const TREE: u8 = 7;
+
+/// How many levels of nodes are above so many orders: 4 orders are below one node.
+pub fn levels_for(orders: u32) -> u32 {
+    for levels in 1..16u32 {
+        if orders.wrapping_shr(2 * levels) == 0 {
+            return levels;
+        }
+    }
+    16
+}
+
+/// The reference of a node on this level that leads to an order.
+fn way(at: u32, level: u32) -> u8 {
+    (at.wrapping_shr(level.wrapping_mul(2)) % 4) as u8
+}
+
+/// Begins an empty directory.
+pub fn open<R: Wait, W: Watch>(rt: &R, m: &mut Mutator, watch: &mut W) -> Result<(), Refused> {
+    m.make_watched(rt, DIRECTORY, 0, watch)
+}
+
+/// Goes one level down, to a node that is made where there is none: whether it was made.
+fn step_down<R: Wait, W: Watch>(
+    rt: &R,
+    m: &mut Mutator,
+    way: u8,
+    watch: &mut W,
+) -> Result<bool, Refused> {
+    m.get(NEXT, NODE, way)?;
+    let made = m.is_nil(NEXT)?;
+    if made {
+        m.make_watched(rt, NEXT, 0, watch)?;
+        m.set(NODE, way, NEXT)?;
+    }
+    m.copy(NODE, NEXT)?;
+    Ok(made)
+}
+
+/// Comes to the lowest node above an order. How many nodes were made on the way.
+fn come_to<R: Wait, W: Watch>(
+    rt: &R,
+    m: &mut Mutator,
+    at: u32,
+    levels: u32,
+    watch: &mut W,
+) -> Result<u32, Refused> {
+    m.copy(NODE, DIRECTORY)?;
+    let mut nodes: u32 = 0;
+    for level in (1..levels).rev() {
+        if step_down(rt, m, way(at, level), watch)? {
+            nodes = nodes.wrapping_add(1);
+        }
+    }
+    Ok(nodes)
+}
+
+/// Makes the lines of the order in hand.
+fn make_lines<R: Wait, W: Watch>(
+    rt: &R,
+    m: &mut Mutator,
+    number: u32,
+    watch: &mut W,
+) -> Result<(), Refused> {
+    m.forget(LINE)?;
+    for _ in 0..LINES {
+        m.make_watched(rt, ITEM, number, watch)?;
+        m.make_watched(rt, MADE, number, watch)?;
+        m.set(MADE, 0, LINE)?;
+        m.set(MADE, 1, ITEM)?;
+        m.copy(LINE, MADE)?;
+    }
+    m.set(ORDER, 0, LINE)
+}
+
+/// Makes the tree of the order in hand.
+fn make_tree<R: Wait, W: Watch>(
+    rt: &R,
+    m: &mut Mutator,
+    number: u32,
+    watch: &mut W,
+) -> Result<(), Refused> {
+    m.make_watched(rt, TREE, number, watch)?;
+    for leaf in 0..LEAVES {
+        m.make_watched(rt, ITEM, number, watch)?;
+        m.set(TREE, leaf, ITEM)?;
+    }
+    m.set(ORDER, 1, TREE)
+}
+
+/// Lets go of all but the directory.
+fn let_go(m: &mut Mutator) -> Result<(), Refused> {
+    for v in 1..8u8 {
+        m.forget(v)?;
+    }
+    Ok(())
+}
+
+/// Puts a new order in the place of another, or where none was. How many nodes of the directory were made for it.
+pub fn replace<R: Wait, W: Watch>(
+    rt: &R,
+    m: &mut Mutator,
+    at: u32,
+    levels: u32,
+    number: u32,
+    watch: &mut W,
+) -> Result<u32, Refused> {
+    m.make_watched(rt, ORDER, number, watch)?;
+    make_lines(rt, m, number, watch)?;
+    make_tree(rt, m, number, watch)?;
+    let nodes = come_to(rt, m, at, levels, watch)?;
+    m.set(NODE, way(at, 0), ORDER)?;
+    let_go(m)?;
+    Ok(nodes)
+}
+
+/// What an order's objects have as values.
+#[derive(Clone, Copy, Drop)]
+pub struct Seen {
+    pub objects: u64,
+    pub sum: u64,
+}
+
+impl Seen {
+    pub fn nothing() -> Seen {
+        Seen { objects: 0, sum: 0 }
+    }
+
+    pub fn and(self, other: Seen) -> Seen {
+        Seen {
+            objects: self.objects.wrapping_add(other.objects),
+            sum: self.sum.wrapping_add(other.sum),
+        }
+    }
+
+    fn object(self, value: u32) -> Seen {
+        self.and(Seen {
+            objects: 1,
+            sum: u64::from(value),
+        })
+    }
+}
+
+/// Looks at the lines of the order in hand.
+fn look_at_lines(m: &mut Mutator, seen: Seen) -> Result<Seen, Refused> {
+    let mut seen = seen;
+    m.get(LINE, ORDER, 0)?;
+    for _ in 0..LINES {
+        seen = seen.object(m.value(LINE)?);
+        m.get(ITEM, LINE, 1)?;
+        seen = seen.object(m.value(ITEM)?);
+        m.get(LINE, LINE, 0)?;
+    }
+    Ok(seen)
+}
+
+/// Looks at the tree of the order in hand.
+fn look_at_tree(m: &mut Mutator, seen: Seen) -> Result<Seen, Refused> {
+    m.get(TREE, ORDER, 1)?;
+    let mut seen = seen.object(m.value(TREE)?);
+    for leaf in 0..LEAVES {
+        m.get(ITEM, TREE, leaf)?;
+        seen = seen.object(m.value(ITEM)?);
+    }
+    Ok(seen)
+}
+
+/// Looks at all objects of an order. It passes a safe point before.
+pub fn look_at<R: Wait, W: Watch>(
+    rt: &R,
+    m: &mut Mutator,
+    at: u32,
+    levels: u32,
+    watch: &mut W,
+) -> Result<Seen, Refused> {
+    m.safe_point(rt)?;
+    come_to(rt, m, at, levels, watch)?;
+    m.get(ORDER, NODE, way(at, 0))?;
+    let seen = Seen::nothing().object(m.value(ORDER)?);
+    let seen = look_at_lines(m, seen)?;
+    let seen = look_at_tree(m, seen)?;
+    let_go(m)?;
+    Ok(seen)
+}

@@ -1,0 +1,7 @@
+use Rattle.plain_heap.specs.declared.operation.Op.TheVariants as ops
+use Rattle.managed_heap.specs.Stepping.{Operates}
+use Rattle.managed_heap_c.proofs.Answered.{answered}
+use Rattle.managed_heap_c.proofs.calls.put_by.Goals as goal
+
+pub returns-in-Some : goal.returns-in-Some
+returns-in-Some c = record { answers = answered (λ came. Operates came (ops.Put c.args.v c.args.value)) c.status.result c.args.hand.now.stepper c.in-Some.stepper c.put.new.self c.put.result c.in-Some.is c.status.ensures.number c.put.ensures.operates }

@@ -1,0 +1,16 @@
+use Rattle.std.proofs.Common.{ap, ◌∙◌}
+use Rattle.plain_heap.specs.declared.operation.Op.TheVariants as ops
+use Rattle.managed_heap.specs.Stepping.{Operates}
+use Rattle.managed_heap_c.specs.declared.hands.Hand.{Hand}
+use Rattle.managed_heap_c.proofs.Answered.{once}
+use Rattle.managed_heap_c.proofs.mhl_forget.Goals as goal
+
+pub returns : goal.returns
+returns c =
+    record {
+      answers =
+          once (λ came. Operates came (ops.Nil c.args.v)) c.forget_by-answer.result c.args.h.now.hand.stepper c.begins.new.hand.stepper c.forget_by-answer.new.hand.stepper c.ends.new.hand.stepper
+          (c.begins.ensures.same ∙ ap (λ (h : Hand). h.stepper) c.lend_hand-hand.ensures.value)
+          c.ends.ensures.same
+          c.forget_by-answer.ensures.answers;
+    }

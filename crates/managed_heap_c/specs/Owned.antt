@@ -1,0 +1,19 @@
+-- What a handle owns: what lies at its address.
+use base.Fraction.{full_share}
+use base.Fml.{Fml}
+use base.Stored.{Coded}
+use denote.RawPtr.{Ptr, lies_at}
+use Rattle.managed_heap_c.specs.contracts.hands.Hand as hand
+use Rattle.managed_heap_c.specs.contracts.hands.Whole as whole
+
+abbrev pub hand_owned : Ptr → hand.the_row.Denot → Fml
+hand_owned = lies_at hand.the_row full_share
+
+abbrev pub hand_coded : Coded hand.the_row.Denot
+hand_coded = hand.the_row.coded
+
+abbrev pub whole_owned : Ptr → whole.the_row.Denot → Fml
+whole_owned = lies_at whole.the_row full_share
+
+abbrev pub whole_coded : Coded whole.the_row.Denot
+whole_coded = whole.the_row.coded

@@ -1,0 +1,18 @@
+//! What lies behind a handle.
+
+use managed_heap::{Stepper, World};
+use std::sync::atomic::AtomicU32;
+
+/// A mutator, or none where it was given back.
+#[derive(Drop)]
+pub struct Hand {
+    pub stepper: Option<Stepper>,
+    /// 1 while a call uses it, else 0.
+    pub word: AtomicU32,
+}
+
+/// A world, or none where it was closed.
+#[derive(Drop)]
+pub struct Whole {
+    pub world: Option<World>,
+}

@@ -1,0 +1,229 @@
+//! The heap for programs in C: handles of worlds and mutators, whose calls answer a status (`examples/c/managed_heap.h`).
+//!
+//! A handle is a struct of C that has the address of what lies behind it. C gives each handle to one call at a time; a word behind it refuses a second call
+//! beside the first, as long as the handle isn't given back meanwhile. Each export's contract says what its answer tells: `Answers` over the mutator before and
+//! after, by the clauses of `managed_heap`.
+#![tactic(auto)]
+
+mod calls;
+mod handles;
+mod hands;
+mod lending;
+mod statuses;
+mod using;
+mod worlds;
+
+ghost use Rattle.plain_heap.specs.declared.operation.Op.TheVariants as ops;
+ghost use Rattle.managed_heap.specs.Stepping.{Collects, Entered, Left, Makes, Operates, Passed};
+ghost use Rattle.managed_heap_c.specs.Answering.{AnswersOnce, Closes, Counts, GivesOnce, ReadsTo};
+
+use calls::{
+    collect_by, copy_by, enter_by, forget_by, get_by, leave_by, make_by, pass_by, put_by, set_by,
+    value_by,
+};
+use handles::{MutatorHandle, WorldHandle};
+use lending::{lend_hand, lend_whole};
+use statuses::IN_USE;
+use std::alloc::Global;
+use using::{begins, ends};
+use worlds::{CNumbers, CSizes, close_by, give_by, open_at, read_by, take_at};
+
+/// Enters the world, where no stop is under way.
+#[unsafe(no_mangle)]
+pub extern "C" fn mhl_enter_step(h: &mut MutatorHandle) -> u32
+    ensures answers { AnswersOnce Entered result h.old.hand.stepper h.new.hand.stepper }
+{
+    let hand = lend_hand(h);
+    if !begins(hand) {
+        return IN_USE;
+    }
+    let answer = enter_by(hand);
+    ends(hand);
+    answer
+}
+
+/// Leaves the world.
+#[unsafe(no_mangle)]
+pub extern "C" fn mhl_leave(h: &mut MutatorHandle) -> u32
+    ensures answers { AnswersOnce Left result h.old.hand.stepper h.new.hand.stepper }
+{
+    let hand = lend_hand(h);
+    if !begins(hand) {
+        return IN_USE;
+    }
+    let answer = leave_by(hand);
+    ends(hand);
+    answer
+}
+
+/// A safe point: where a stop is under way the mutator leaves.
+#[unsafe(no_mangle)]
+pub extern "C" fn mhl_pass(h: &mut MutatorHandle) -> u32
+    ensures answers { AnswersOnce Passed result h.old.hand.stepper h.new.hand.stepper }
+{
+    let hand = lend_hand(h);
+    if !begins(hand) {
+        return IN_USE;
+    }
+    let answer = pass_by(hand);
+    ends(hand);
+    answer
+}
+
+/// Makes an object in variable v.
+#[unsafe(no_mangle)]
+pub extern "C" fn mhl_make(h: &mut MutatorHandle, v: u8, value: u32) -> u32
+    ensures answers { AnswersOnce (λ came. Makes came (ops.New v value)) result h.old.hand.stepper h.new.hand.stepper }
+{
+    let hand = lend_hand(h);
+    if !begins(hand) {
+        return IN_USE;
+    }
+    let answer = make_by(hand, v, value);
+    ends(hand);
+    answer
+}
+
+/// Field i of the object of v becomes w.
+#[unsafe(no_mangle)]
+pub extern "C" fn mhl_set(h: &mut MutatorHandle, v: u8, i: u8, w: u8) -> u32
+    ensures answers { AnswersOnce (λ came. Operates came (ops.Set v i w)) result h.old.hand.stepper h.new.hand.stepper }
+{
+    let hand = lend_hand(h);
+    if !begins(hand) {
+        return IN_USE;
+    }
+    let answer = set_by(hand, v, i, w);
+    ends(hand);
+    answer
+}
+
+/// Variable w becomes field i of the object of v.
+#[unsafe(no_mangle)]
+pub extern "C" fn mhl_get(h: &mut MutatorHandle, w: u8, v: u8, i: u8) -> u32
+    ensures answers { AnswersOnce (λ came. Operates came (ops.Get w v i)) result h.old.hand.stepper h.new.hand.stepper }
+{
+    let hand = lend_hand(h);
+    if !begins(hand) {
+        return IN_USE;
+    }
+    let answer = get_by(hand, w, v, i);
+    ends(hand);
+    answer
+}
+
+/// Variable w becomes v.
+#[unsafe(no_mangle)]
+pub extern "C" fn mhl_copy(h: &mut MutatorHandle, w: u8, v: u8) -> u32
+    ensures answers { AnswersOnce (λ came. Operates came (ops.Let w v)) result h.old.hand.stepper h.new.hand.stepper }
+{
+    let hand = lend_hand(h);
+    if !begins(hand) {
+        return IN_USE;
+    }
+    let answer = copy_by(hand, w, v);
+    ends(hand);
+    answer
+}
+
+/// Variable v becomes nil.
+#[unsafe(no_mangle)]
+pub extern "C" fn mhl_forget(h: &mut MutatorHandle, v: u8) -> u32
+    ensures answers { AnswersOnce (λ came. Operates came (ops.Nil v)) result h.old.hand.stepper h.new.hand.stepper }
+{
+    let hand = lend_hand(h);
+    if !begins(hand) {
+        return IN_USE;
+    }
+    let answer = forget_by(hand, v);
+    ends(hand);
+    answer
+}
+
+/// The value of the object of v becomes this one.
+#[unsafe(no_mangle)]
+pub extern "C" fn mhl_put(h: &mut MutatorHandle, v: u8, value: u32) -> u32
+    ensures answers { AnswersOnce (λ came. Operates came (ops.Put v value)) result h.old.hand.stepper h.new.hand.stepper }
+{
+    let hand = lend_hand(h);
+    if !begins(hand) {
+        return IN_USE;
+    }
+    let answer = put_by(hand, v, value);
+    ends(hand);
+    answer
+}
+
+/// Writes the value of the object of v.
+#[unsafe(no_mangle)]
+pub extern "C" fn mhl_value(h: &mut MutatorHandle, v: u8, out: &mut u32) -> u32
+    ensures answers { AnswersOnce (ReadsTo v out.old out.new) result h.old.hand.stepper h.new.hand.stepper }
+{
+    let hand = lend_hand(h);
+    if !begins(hand) {
+        return IN_USE;
+    }
+    let answer = value_by(hand, v, out);
+    ends(hand);
+    answer
+}
+
+/// The next step of a collection of the mutator's own.
+#[unsafe(no_mangle)]
+pub extern "C" fn mhl_collect_step(h: &mut MutatorHandle) -> u32
+    ensures answers { AnswersOnce Collects result h.old.hand.stepper h.new.hand.stepper }
+{
+    let hand = lend_hand(h);
+    if !begins(hand) {
+        return IN_USE;
+    }
+    let answer = collect_by(hand);
+    ends(hand);
+    answer
+}
+
+/// Opens a world, and writes the address that its handle has.
+#[unsafe(no_mangle)]
+pub extern "C" fn mhl_open(alloc: Global, sizes: &CSizes, out: &mut *mut u8) -> u32 {
+    open_at(alloc, sizes, out)
+}
+
+/// Takes a mutator of the world, and writes the address that its handle has.
+#[unsafe(no_mangle)]
+pub extern "C" fn mhl_take_mutator(
+    alloc: Global,
+    world: &mut WorldHandle,
+    out: &mut *mut u8,
+) -> u32 {
+    take_at(alloc, lend_whole(world), out)
+}
+
+/// Gives a mutator back to the world. It leaves first.
+#[unsafe(no_mangle)]
+pub extern "C" fn mhl_give_back(world: &mut WorldHandle, h: &mut MutatorHandle) -> u32
+    ensures gives { GivesOnce result world.old.whole.world world.new.whole.world h.old.hand.stepper h.new.hand.stepper }
+{
+    let hand = lend_hand(h);
+    if !begins(hand) {
+        return IN_USE;
+    }
+    let answer = give_by(lend_whole(world), hand);
+    ends(hand);
+    answer
+}
+
+/// Closes the world, and frees its heap.
+#[unsafe(no_mangle)]
+pub extern "C" fn mhl_close(world: &mut WorldHandle) -> u32
+    ensures closes { Closes result world.old.whole.world world.new.whole.world }
+{
+    close_by(lend_whole(world))
+}
+
+/// Reads the numbers of the world.
+#[unsafe(no_mangle)]
+pub extern "C" fn mhl_statistics(world: &mut WorldHandle, out: &mut CNumbers) -> u32
+    ensures reads { Counts result world.old.whole.world world.new.whole.world out.old out.new }
+{
+    read_by(lend_whole(world), out)
+}

@@ -1,0 +1,47 @@
+//! What a call answers to C: the numbers of `mh_status`.
+ghost use Rattle.std.specs.Prelude.{◌≡◌};
+ghost use Rattle.managed_heap_c.specs.Answering.{status_of};
+
+use managed_heap::Came;
+
+/// It is done.
+pub const OK: u32 = 0;
+
+/// The mutator is between two steps of a collection.
+pub const COLLECTING: u32 = 5;
+
+/// A size is out of its range.
+pub const OUT_OF_RANGE: u32 = 6;
+
+/// There is no memory.
+pub const OUT_OF_MEMORY: u32 = 10;
+
+/// The handle was given back.
+pub const GIVEN_BACK: u32 = 11;
+
+/// A call of another thread uses the handle, or not all handles are back.
+pub const IN_USE: u32 = 12;
+
+/// All mutators are taken.
+pub const NONE_LEFT: u32 = 13;
+
+/// The world doesn't take the mutator back.
+pub const REFUSED: u32 = 14;
+
+/// The number of what a mutator's call came to.
+pub fn status(came: Came) -> u32
+    ensures number { result ≡ status_of came }
+{
+    match came {
+        Came::Done => 0,
+        Came::NotYet => 1,
+        Came::Stopped => 2,
+        Came::NoCell => 3,
+        Came::Outside => 4,
+        Came::Collecting => 5,
+        Came::OutOfRange => 6,
+        Came::Nil => 7,
+        Came::Full => 8,
+        Came::Spent => 9,
+    }
+}

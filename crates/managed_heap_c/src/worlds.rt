@@ -1,0 +1,175 @@
+//! Worlds are opened and closed, and lend their mutators.
+ghost use Rattle.std.specs.Prelude.{◌≡◌, IfNone, IfSome};
+ghost use Rattle.managed_heap.specs.Calls.{heap_of};
+ghost use Rattle.managed_heap.specs.Lending.{IsBack};
+ghost use Rattle.managed_heap.specs.Stepping.{heap_in};
+ghost use Rattle.managed_heap_c.specs.Answering.{Closes, Counts, Gives, GivesBack, HasCounted};
+
+use crate::hands::{Hand, Whole};
+use crate::lending::{hand_at, whole_at};
+use crate::statuses::{
+    COLLECTING, GIVEN_BACK, IN_USE, NONE_LEFT, OK, OUT_OF_MEMORY, OUT_OF_RANGE, REFUSED,
+};
+use managed_heap::{Mutator, NotOpened, Sizes, Stepper, World};
+use std::alloc::{AllocError, Global};
+use std::sync::atomic::AtomicU32;
+
+/// The sizes of a world, as C gives them.
+#[repr(C)]
+pub struct CSizes {
+    cells: u32,
+    fields: u32,
+    mutators: u32,
+    name: u32,
+}
+
+/// The numbers of a world, as C reads them.
+#[repr(C)]
+pub struct CNumbers {
+    pub cells: u32,
+    pub free: u64,
+    pub marked: u64,
+}
+
+/// A world in a box.
+fn boxed_world(alloc: Global, world: World) -> Result<Box<Whole, Global>, AllocError> {
+    Ok(Box::new(alloc, Whole { world: Some(world) })?)
+}
+
+/// An empty hand in a box.
+fn boxed_hand(alloc: Global) -> Result<Box<Hand, Global>, AllocError> {
+    Ok(Box::new(
+        alloc,
+        Hand {
+            stepper: None,
+            word: AtomicU32::new(0),
+        },
+    )?)
+}
+
+/// Opens a world.
+pub fn open_at(alloc: Global, sizes: &CSizes, out: &mut *mut u8) -> u32 {
+    let wanted = Sizes::of_cells(sizes.cells)
+        .fields(sizes.fields)
+        .mutators(sizes.mutators)
+        .named(sizes.name);
+    match World::open(alloc, wanted) {
+        Err(NotOpened::OutOfRange) => OUT_OF_RANGE,
+        Err(NotOpened::OutOfMemory) => OUT_OF_MEMORY,
+        Ok(world) => match boxed_world(alloc, world) {
+            Err(_) => OUT_OF_MEMORY,
+            Ok(whole) => {
+                *out = whole_at(whole);
+                OK
+            }
+        },
+    }
+}
+
+/// One of the mutators that nobody has.
+fn mutator_of(whole: &mut Whole) -> Result<Mutator, u32> {
+    match &mut whole.world {
+        None => Err(GIVEN_BACK),
+        Some(world) => match world.mutator() {
+            None => Err(NONE_LEFT),
+            Some(mutator) => Ok(mutator),
+        },
+    }
+}
+
+/// Takes a mutator. The box is made first, so that none is lost where there is no memory.
+pub fn take_at(alloc: Global, whole: &mut Whole, out: &mut *mut u8) -> u32 {
+    let Ok(mut hand) = boxed_hand(alloc) else {
+        return OUT_OF_MEMORY;
+    };
+    match mutator_of(whole) {
+        Err(status) => status,
+        Ok(mutator) => {
+            hand.stepper = Some(mutator.into_steps());
+            *out = hand_at(hand);
+            OK
+        }
+    }
+}
+
+/// Gives a mutator to a world, or hands it back in steps where the world refuses it.
+fn give_to(world: &mut World, mutator: Mutator) -> Option<Stepper>
+    ensures back { IfNone result (IsBack mutator world.old world.new) }
+    ensures refused { IfSome result (λ s. heap_in s ≡ heap_of mutator) }
+{
+    match world.take_mutator(mutator) {
+        Ok(()) => None,
+        Err(mutator) => Some(mutator.into_steps()),
+    }
+}
+
+/// The mutator of a hand goes back, where it isn't between two steps of a collection.
+fn empty_into(world: &mut World, hand: &mut Hand) -> u32
+    ensures gives { GivesBack result world.old world.new hand.old.stepper hand.new.stepper }
+{
+    match hand.stepper.take() {
+        None => GIVEN_BACK,
+        Some(stepper) => match stepper.into_mutator() {
+            Err(stepper) => {
+                hand.stepper = Some(stepper);
+                COLLECTING
+            }
+            Ok(mutator) => match give_to(world, mutator) {
+                None => OK,
+                Some(kept) => {
+                    hand.stepper = Some(kept);
+                    REFUSED
+                }
+            },
+        },
+    }
+}
+
+/// Gives a mutator back.
+pub fn give_by(whole: &mut Whole, hand: &mut Hand) -> u32
+    ensures gives { Gives result whole.old.world whole.new.world hand.old.stepper hand.new.stepper }
+{
+    match &mut whole.world {
+        None => GIVEN_BACK,
+        Some(world) => empty_into(world, hand),
+    }
+}
+
+/// Closes a world.
+pub fn close_by(whole: &mut Whole) -> u32
+    ensures closes { Closes result whole.old.world whole.new.world }
+{
+    match whole.world.take() {
+        None => GIVEN_BACK,
+        Some(world) => match world.close() {
+            Ok(()) => OK,
+            Err(world) => {
+                whole.world = Some(world);
+                IN_USE
+            }
+        },
+    }
+}
+
+/// Reads the numbers of a world that isn't closed.
+fn read_into(world: &mut World, out: &mut CNumbers)
+    ensures counted { HasCounted world.old world.new out.new }
+{
+    let numbers = world.statistics();
+    out.cells = numbers.cells;
+    out.free = numbers.free;
+    out.marked = numbers.marked;
+}
+
+/// Reads the numbers of a world.
+pub fn read_by(whole: &mut Whole, out: &mut CNumbers) -> u32
+    ensures reads { Counts result whole.old.world whole.new.world out.old out.new }
+{
+    match &mut whole.world {
+        None => GIVEN_BACK,
+        Some(world) => {
+            read_into(world, out);
+            OK
+        }
+    }
+}

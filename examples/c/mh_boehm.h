@@ -1,0 +1,93 @@
+/*
+ * mh_boehm.h: the calls of managed_heap.h over Boehm's collector, so that one program is built over either. Objects are blocks of GC_MALLOC; a mutator's
+ * variables lie in its handle, which the collector finds as a root. The sizes of a world are not kept to: there is no fixed number of cells.
+ */
+#ifndef MH_BOEHM_H
+#define MH_BOEHM_H
+
+#define GC_THREADS
+#include <gc.h>
+#include <stdint.h>
+
+typedef enum mh_status {
+    MH_OK, MH_NOT_YET, MH_STOPPED, MH_NO_CELL, MH_OUTSIDE, MH_COLLECTING, MH_OUT_OF_RANGE, MH_NIL, MH_FULL, MH_SPENT, MH_OUT_OF_MEMORY, MH_GIVEN_BACK,
+    MH_IN_USE, MH_NONE_LEFT, MH_REFUSED
+} mh_status;
+
+typedef struct mh_sizes { uint32_t cells, fields, mutators, name; } mh_sizes;
+typedef struct mh_numbers { uint32_t cells; uint64_t free, marked; } mh_numbers;
+struct mh_block { uint64_t value; struct mh_block *field[]; };
+typedef struct mh_world { void *at; mh_sizes sizes; uint32_t taken; } mh_world;
+typedef struct mh_mutator { void *at; struct mh_block *v[32]; uint32_t fields, inside; } mh_mutator;
+
+static inline mh_status mh_open(const mh_sizes *sizes, mh_world *w) {
+    if (sizes->cells < 64 || sizes->cells % 64 || sizes->fields < 1 || sizes->fields > 16 || sizes->mutators < 1 || sizes->mutators > 32)
+        return MH_OUT_OF_RANGE;
+    GC_INIT();
+    GC_allow_register_threads();
+    w->at = w; w->sizes = *sizes; w->taken = 0;
+    return MH_OK;
+}
+static inline mh_status mh_take_mutator(mh_world *w, mh_mutator *m) {
+    uint32_t k;
+    if (!w->at) return MH_GIVEN_BACK;
+    if (m->at) return MH_IN_USE;
+    if (w->taken == w->sizes.mutators) return MH_NONE_LEFT;
+    w->taken++; m->at = w; m->inside = 0; m->fields = w->sizes.fields;
+    for (k = 0; k < 32; k++) m->v[k] = 0;
+    return MH_OK;
+}
+static inline mh_status mh_give_back(mh_world *w, mh_mutator *m) {
+    uint32_t k;
+    if (!w->at || !m->at) return MH_GIVEN_BACK;
+    for (k = 0; k < 32; k++) m->v[k] = 0;
+    w->taken--; m->at = 0;
+    return MH_OK;
+}
+static inline mh_status mh_statistics(mh_world *w, mh_numbers *n) {
+    n->cells = w->sizes.cells; n->free = GC_get_free_bytes(); n->marked = 0;
+    return MH_OK;
+}
+static inline mh_status mh_close(mh_world *w) {
+    if (!w->at) return MH_GIVEN_BACK;
+    if (w->taken) return MH_IN_USE;
+    w->at = 0;
+    return MH_OK;
+}
+
+#define MH_AT(m, in_range) do { if (!(m)->at) return MH_GIVEN_BACK; if (!(in_range)) return MH_OUT_OF_RANGE; if (!(m)->inside) return MH_OUTSIDE; } while (0)
+
+static inline mh_status mh_enter(mh_mutator *m) { if (!m->at) return MH_GIVEN_BACK; m->inside = 1; return MH_OK; }
+static inline mh_status mh_leave(mh_mutator *m) { if (!m->at) return MH_GIVEN_BACK; m->inside = 0; return MH_OK; }
+static inline mh_status mh_safe_point(mh_mutator *m) { MH_AT(m, 1); return MH_OK; }
+static inline mh_status mh_collect(mh_mutator *m) { MH_AT(m, 1); GC_gcollect(); return MH_OK; }
+static inline mh_status mh_alloc(mh_mutator *m, uint8_t v, uint32_t value) {
+    struct mh_block *b;
+    MH_AT(m, v < 32);
+    b = GC_MALLOC(sizeof(struct mh_block) + m->fields * sizeof(void *));
+    if (!b) return MH_FULL;
+    b->value = value; m->v[v] = b;
+    return MH_OK;
+}
+static inline mh_status mh_set(mh_mutator *m, uint8_t v, uint8_t i, uint8_t w) {
+    MH_AT(m, v < 32 && w < 32 && i < m->fields);
+    if (m->v[v]) m->v[v]->field[i] = m->v[w];
+    return MH_OK;
+}
+static inline mh_status mh_get(mh_mutator *m, uint8_t w, uint8_t v, uint8_t i) {
+    MH_AT(m, v < 32 && w < 32 && i < m->fields);
+    m->v[w] = m->v[v] ? m->v[v]->field[i] : 0;
+    return MH_OK;
+}
+static inline mh_status mh_copy(mh_mutator *m, uint8_t w, uint8_t v) { MH_AT(m, v < 32 && w < 32); m->v[w] = m->v[v]; return MH_OK; }
+static inline mh_status mh_forget(mh_mutator *m, uint8_t v) { MH_AT(m, v < 32); m->v[v] = 0; return MH_OK; }
+static inline mh_status mh_put(mh_mutator *m, uint8_t v, uint32_t value) { MH_AT(m, v < 32); if (m->v[v]) m->v[v]->value = value; return MH_OK; }
+static inline mh_status mh_value(mh_mutator *m, uint8_t v, uint32_t *out) {
+    MH_AT(m, v < 32);
+    if (!m->v[v]) return MH_NIL;
+    *out = (uint32_t)m->v[v]->value;
+    return MH_OK;
+}
+static inline mh_status mh_is_nil(mh_mutator *m, uint8_t v, uint32_t *out) { MH_AT(m, v < 32); *out = !m->v[v]; return MH_OK; }
+
+#endif

@@ -1,0 +1,108 @@
+#!/bin/sh
+# Builds the C programs over the library and over Boehm's collector, runs them, then runs them under the sanitizers that the compiler has, and prints a line
+# for each run. Ends with status 1 where an answer was wrong.
+#
+#     sh examples/c/run.sh             everything but the long run
+#     sh examples/c/run.sh --long      besides, 10^9 objects in 65,536 cells
+#
+# The library is first built by `rt lib` in crates/managed_heap_c, which proves it. LIBRARY names another archive, KIT the folder of the kit.
+here=$(cd "$(dirname "$0")" && pwd)
+top=$(cd "$here/../.." && pwd)
+library=${LIBRARY:-$top/crates/managed_heap_c/out/libmanaged_heap_c.a}
+kit=${KIT:-/opt/rattle}
+work=$(mktemp -d)
+trap 'rm -rf "$work"' EXIT
+bad=0
+warnings="-std=c11 -D_GNU_SOURCE -Wall -Wextra -Werror"
+libraries="$library"
+[ -f "$kit/c/liblibc_c.a" ] && libraries="$libraries $kit/c/liblibc_c.a"
+
+fail() {
+    echo "WRONG: $*"
+    bad=1
+}
+
+# build NAME OUT FLAGS..
+build() {
+    name=$1 out=$2
+    shift 2
+    cc -O2 $warnings "$@" -o "$work/$out" "$here/$name.c" $libraries -lpthread || fail "$name is not built"
+}
+
+# run SECONDS PROGRAM WORDS..
+run() {
+    seconds=$1 program=$2
+    shift 2
+    [ -x "$work/$program" ] || return
+    timeout "$seconds" "$work/$program" "$@" || fail "$program $* ended with status $?"
+}
+
+[ -f "$library" ] || { echo "no $library: run 'rt lib' in crates/managed_heap_c first"; exit 1; }
+
+programs="binary_trees gcbench rewriter fuzz fills_up billion speed"
+for name in $programs; do build "$name" "$name"; done
+
+echo "== trees on 1, 2, 4 threads, and terms"
+for threads in 1 2 4; do
+    run 300 binary_trees 16 $threads
+done
+run 300 gcbench 16
+run 300 rewriter 7 20
+
+echo "== full heaps, and calls at random"
+for threads in 1 2 4; do run 120 fills_up $threads; done
+run 300 fuzz 1000000 1 1
+run 300 fuzz 1000000 4 3
+
+echo "== many objects in few cells, and what a call takes"
+run 300 billion 20 65536
+run 300 speed 10
+
+if cc -o "$work/gc_there" -x c - -lgc 2>"$work/log" <<'END'
+#include <gc.h>
+int main(void) { GC_INIT(); return 0; }
+END
+then
+    echo "== the same over Boehm's collector"
+    libraries=-lgc
+    for name in binary_trees gcbench rewriter billion speed; do build "$name" "$name.boehm" -DOVER_BOEHM; done
+    for threads in 1 2 4; do run 300 binary_trees.boehm 16 $threads; done
+    run 300 gcbench.boehm 16
+    run 300 rewriter.boehm 7 20
+    run 300 billion.boehm 20
+    run 300 speed.boehm 10
+    libraries="$library"
+    [ -f "$kit/c/liblibc_c.a" ] && libraries="$libraries $kit/c/liblibc_c.a"
+else
+    echo "== no libgc here: the same over Boehm's collector is left out (Debian: libgc-dev)"
+fi
+
+if command -v rustc >"$work/log" 2>&1; then
+    echo "== from Rust"
+    links=""
+    for each in $libraries; do links="$links -C link-arg=$each"; done
+    rustc --edition 2021 -O -D warnings -o "$work/rust" "$here/rust_main.rs" $links -C link-arg=-lpthread && run 120 rust || fail "the Rust program"
+fi
+
+for kind in address,undefined thread; do
+    if echo 'int main(void) { return 0; }' | cc -fsanitize=$kind -o "$work/there" -x c - 2>"$work/log" && "$work/there"; then
+        echo "== under -fsanitize=$kind"
+        for name in binary_trees gcbench rewriter fuzz fills_up; do build "$name" "$name.checked" -g -fsanitize=$kind -fno-sanitize-recover=all; done
+        run 600 binary_trees.checked 10 2
+        run 600 gcbench.checked 10
+        run 600 rewriter.checked 5 5
+        run 600 fuzz.checked 1000000 1 4
+        run 600 fuzz.checked 1000000 4 5
+        run 600 fills_up.checked 4
+    else
+        echo "== no -fsanitize=$kind here"
+    fi
+done
+
+if [ "$1" = --long ]; then
+    echo "== 10^9 objects in 65,536 cells"
+    run 3600 billion 1000 65536
+fi
+
+[ $bad = 0 ] && echo "all answers right"
+exit $bad

@@ -1,0 +1,44 @@
+/* What a call takes, on one thread. Arguments: millions of calls, cells. */
+#include "heap.h"
+
+static void tell(const char *what, double from, uint64_t many) {
+    printf("%-13s %-12s %-8s %6.1f ns\n", "speed", COLLECTOR, what, (now() - from) * 1e9 / (double)many);
+}
+
+int main(int count_of, char **words) {
+    static mh_world world;
+    static mh_mutator m;
+    uint64_t many = 1000000ull * number(count_of, words, 1, 10), k;
+    uint32_t cells = number(count_of, words, 2, 65536), value = 0, sum = 0;
+    double from;
+    open_world(&world, cells, 2, 1);
+    MUST(mh_take_mutator(&world, &m));
+    MUST(mh_enter(&m));
+    from = now();
+    for (k = 0; k < many; k++) MUST(mh_alloc(&m, 0, (uint32_t)k));
+    tell("make", from, many);
+    MUST(mh_alloc(&m, 1, 5));
+    from = now();
+    for (k = 0; k < many; k++) MUST(mh_set(&m, 0, (uint8_t)(k & 1), 1));
+    tell("set", from, many);
+    from = now();
+    for (k = 0; k < many; k++) MUST(mh_get(&m, 2, 0, (uint8_t)(k & 1)));
+    tell("get", from, many);
+    from = now();
+    for (k = 0; k < many; k++) {
+        MUST(mh_value(&m, 2, &value));
+        sum += value;
+    }
+    tell("value", from, many);
+    wrong("the sum", sum, (uint32_t)(5 * many));
+    from = now();
+    for (k = 0; k < many; k++) MUST(mh_copy(&m, (uint8_t)(3 + (k & 7)), 2));
+    tell("copy", from, many);
+    from = now();
+    for (k = 0; k < many; k++) MUST(mh_safe_point(&m));
+    tell("safe point", from, many);
+    MUST(mh_leave(&m));
+    MUST(mh_give_back(&world, &m));
+    MUST(mh_close(&world));
+    return 0;
+}
