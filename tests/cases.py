@@ -57,8 +57,6 @@ CHURN = b"gcscript 1\n" + 3 * b"warehouse\nnew a 1\nrepeat 200\nnew b 2\nset b 0
 FULL = b"gcscript 1\nwarehouse\nnil x\nrepeat 65\nnew y 1\nset y 0 x\nlet x y\nend\n"
 FULL_TEXT = b"full section 1\nposition 0 0\nposition 1 193\n"
 
-ADDED = b"gcscript 2\nfields 4\n"
-
 # Two fields, a record of the catalogue that warehouse 2 refers to, and two records that no variable leads to.
 TANGLED = dumps.MAGIC + dumps.numbers([2, 3, 4] + 64 * [0] + [2] + 31 * [0] + [0, 7, 1, 0, 0, 2, 0, 2, 1, 0, 2, 3, 5, 4, 3, 2, 9, 5, 3, 1])
 
@@ -92,31 +90,20 @@ class Run:
             self.status, self.text = status, text
 
     def pieces(self):
-        """The text as it is handed to the sink: line by line, but for a generated or converted script, a dump and what jobs wrote."""
-        if self.status == 0 and self.words[0] in PIECES:
-            return [piece for piece in PIECES[self.words[0]](self) if piece]
+        """The text as it is handed to the sink: line by line, but for a dump."""
+        if self.status == 0 and self.words[0] == "dump":
+            return dump_pieces(self.text)
         return self.text.splitlines(keepends=True)
 
 
-def converted_pieces(run):
-    added = 0 if run.text == run.source else len(ADDED)
-    return run.text[:added], run.text[added:]
-
-
-def dump_pieces(run):
+def dump_pieces(text):
     """The head, the sizes, the variables of each section, and each record."""
-    dump = dumps.Dump(run.text)
+    dump = dumps.Dump(text)
     sizes = [8, 12] + dump.sections * [128] + dump.count * [12 + 4 * dump.fields]
-    return [run.text[sum(sizes[:i]) : sum(sizes[: i + 1])] for i in range(len(sizes))]
-
-
-def batch_pieces(run):
-    """A line for each job, and its text."""
-    return [piece for job, answer in enumerate(batches.jobs(run.text)) for piece in (batches.line(job, answer), answer[1])]
+    return [text[sum(sizes[:i]) : sum(sizes[: i + 1])] for i in range(len(sizes))]
 
 
 READERS = ("run", "convert", "schedule", "dump", "undump", "census", "batch")
-PIECES = {"gen": lambda run: [run.text], "convert": converted_pieces, "dump": dump_pieces, "batch": batch_pieces}
 
 
 def answered(command, source):

@@ -31,6 +31,11 @@ class Disturbed:
 
     def answer(self, words, source, **faults):
         """The status, the text, and whether a call was made to fail. A play that doesn't end has no status."""
+        status, text, told = self.told(words, source, **faults)
+        return status, text, b"x" in told
+
+    def told(self, words, source, **faults):
+        """The status, the text, and what was told: an x for each call that was made to fail, and a t for each thread that was started."""
         told, tell = os.pipe()
         environment = {name.upper(): str(value) for name, value in faults.items()}
         environment.update(LD_PRELOAD=self.library, TOLD=str(tell))
@@ -41,9 +46,8 @@ class Disturbed:
             status, text = None, b""
         finally:
             os.close(tell)
-        failed = os.read(told, 1) != b""
-        os.close(told)
-        return status, text, failed
+        with os.fdopen(told, "rb") as said:
+            return status, text, said.read()
 
 
 def each(work, items):

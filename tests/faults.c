@@ -7,7 +7,7 @@
  * WRITE_FAILS   the number of the write to standard output that fails; WRITE_BYTES: how many bytes a write takes at most;
  *               WRITE_ROOM: how many bytes are taken in all; WRITE_ZERO: the write of WRITE_FAILS takes nothing and is no failure
  * INTERRUPTS    how often each read and write is interrupted before it is done
- * TOLD          a descriptor that gets a byte whenever a call was made to fail
+ * TOLD          a descriptor that gets an x whenever a call was made to fail, and a t whenever a thread is started
  */
 #define _GNU_SOURCE
 #include <dlfcn.h>
@@ -116,5 +116,6 @@ int pthread_create(pthread_t *thread, const pthread_attr_t *how, void *(*run)(vo
     static int (*next)(pthread_t *, const pthread_attr_t *, void *(*)(void *), void *);
     if (fails(atomic_fetch_add(&threads, 1) + 1, thread_fails, thread_on)) return EAGAIN;
     if (!next) next = dlsym(RTLD_NEXT, "pthread_create");
+    if (told >= 0) syscall(SYS_write, told, "t", 1);
     return next(thread, how, run, with);
 }

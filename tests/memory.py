@@ -1,9 +1,10 @@
 #!/usr/bin/env python3
 """Refuses memory and threads: in each run of `cases.py` each allocation in turn, and each together with all later ones.
 
-From the top of the repository: `python3 tests/memory.py [PROGRAM]`. A run has to end with the status 6 and nothing written, or as it
-ends where nothing is refused. Each job of a batch may so end too: then the batch is done, and tells the status 6 of a job that wrote nothing.
-The status of the script is 0 where there was no third kind, and each command, and each way, had something refused.
+From the top of the repository: `python3 tests/memory.py [PROGRAM]`. A run has to end with the status 6 and nothing written. Only where a
+thread's start was refused, so that fewer threads were started, it may end as it ends where nothing is refused, and where no more was asked
+for than was given it has to. Each job of a batch may end with the status 6 too: then the batch is done, and tells the status 6 of a job
+that wrote nothing. The status of the script is 0 where there was no third kind, and each command, and each way, had something refused.
 """
 
 import collections
@@ -30,25 +31,27 @@ def lost_jobs(run, status, text):
     return found is not None and len(found) == len(wanted) and all(job in ((6, b""), other) for job, other in zip(found, wanted))
 
 
-def kind(run, status, text):
+def kind(run, status, text, fewer):
     if (status, text) == (6, b""):
         return "status 6 and nothing written"
     if (status, text) == (run.status, run.text):
-        return "the whole answer"
+        return "the whole answer, with fewer threads" if fewer else "a third kind"
     return "the whole batch, with jobs of the status 6" if lost_jobs(run, status, text) else "a third kind"
 
 
 def refuse_in_turn(disturbed, run, way):
     """How many runs ended in which way, until a run asked for no more than was given."""
     kinds = collections.Counter()
+    threads = disturbed.told(run.words, run.source)[2].count(b"t")
     for n in itertools.count(1):
-        status, text, failed = disturbed.answer(run.words, run.source, **way(n))
-        if not failed:
+        status, text, told = disturbed.told(run.words, run.source, **way(n))
+        if b"x" not in told:
             if (status, text) != (run.status, run.text):
                 kinds["a third kind"] += 1
             return kinds
-        kinds[kind(run, status, text)] += 1
-        if kind(run, status, text) == "a third kind":
+        sort = kind(run, status, text, told.count(b"t") < threads)
+        kinds[sort] += 1
+        if sort == "a third kind":
             print(f"WRONG {' '.join(run.words)}, call {n}: status {status}, {text!r}", flush=True)
 
 

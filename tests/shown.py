@@ -61,4 +61,5 @@ def main():
     sys.exit(1 if missing or bare or not named else 0)
 
 
-main()
+if __name__ == "__main__":
+    main()

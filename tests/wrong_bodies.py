@@ -9,7 +9,8 @@ empty line between two:
     old: the text of one line, which stands in that function once
     new: what stands there in its place
 
-More lines old and new may follow. A line `free: REASON` says that the body is right too, or free on purpose. All are put into a copy of the crate, at
+More lines old and new may follow. A line `free: REASON` says that the body is right too, or free on purpose, and a line `test: CRATE NAME` that no
+clause can refuse it and which test does: it isn't tried here, but has to be a change that can be made, and the test has to be there. All others are put into a copy of the crate, at
 most one a function at a time, and `rt check` tells which functions it still proves. The status is 1 where a body got through that isn't free, or where
 one couldn't be judged. The crate and those below are best proved before, by `rt check` in the crate's folder: what that left is copied.
 """
@@ -20,6 +21,8 @@ import subprocess
 import sys
 import tempfile
 
+import shown
+
 TOP = os.path.dirname(os.path.dirname(os.path.abspath(__file__)))
 BODIES = os.path.join(TOP, "tests", "bodies")
 
@@ -28,7 +31,7 @@ class Body:
     """One wrong body: what it does, of which function, and what it changes."""
 
     def __init__(self, lines):
-        self.what, self.function, self.free, self.changes = lines[0], "", "", []
+        self.what, self.function, self.free, self.test, self.changes = lines[0], "", "", "", []
         file = old = ""
         for line in lines[1:]:
             word, _, text = line.partition(": ")
@@ -36,6 +39,8 @@ class Body:
                 self.function = text
             elif word == "free":
                 self.free = text
+            elif word == "test":
+                self.test = text
             elif word == "file":
                 file = text
             elif word == "old":
@@ -135,6 +140,14 @@ def reasons_of(body, said):
     return list(dict.fromkeys(goals)), names
 
 
+def unproved_closure(body, said):
+    """A closure of the function that wasn't proved, with its goals."""
+    module, _, name = body.function.rpartition("::")
+    inside = f"fn {module}::fn::{name}::"
+    line = next((it for it in said if it.startswith(inside) and "did not prove" in it), "")
+    return line[len(inside) :]
+
+
 def judge(body, said):
     """What became of a body: refused, with the goals; proved; or unknown."""
     line = next((it for it in said if it.startswith(f"fn {body.function}: ")), "")
@@ -148,7 +161,8 @@ def judge(body, said):
     if names:
         return "refused", "by names alone"
     if re.search("which (is|are) not proved", line) and "did not prove" not in line:
-        return "again", ""
+        closure = unproved_closure(body, said)
+        return ("refused", closure) if closure else ("again", "")
     return "refused", line.partition(": ")[2]
 
 
@@ -165,9 +179,22 @@ def try_some(crate, bodies):
     return [(body, *judge(body, said)) for body in done], left
 
 
+def look_at(crate, body):
+    """What is told of a body that a test refuses, and whether something is missing."""
+    other, _, name = body.test.partition(" ")
+    if body.texts(os.path.join(TOP, "crates", crate)) is None:
+        return "UNKNOWN", "an old text doesn't stand once in the function"
+    return ("by a test", body.test) if shown.has_test(other, name) else ("UNKNOWN", f"no test {body.test}")
+
+
 def try_crate(crate):
     """Tries all bodies of a crate, and prints what became of each. How many weren't refused."""
-    left, wrong = read_bodies(crate), 0
+    bodies, wrong = read_bodies(crate), 0
+    for body in (it for it in bodies if it.test):
+        came, why = look_at(crate, body)
+        print(f"{crate}: {came}: {body.what} ({body.function}): {why}", flush=True)
+        wrong += came == "UNKNOWN"
+    left = [it for it in bodies if not it.test]
     while left:
         judged, left = try_some(crate, left)
         for body, came, why in judged:

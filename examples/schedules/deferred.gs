@@ -1,5 +1,5 @@
 gcschedule 1
-# An unpublished cell is put aside in a deferred packet.
+# An unpublished cell waits in a deferred packet.
 # cells, packets, entries, sections, fields, seats
 shape 64 2 2 2 1 3
 
@@ -10,7 +10,7 @@ shape 64 2 2 2 1 3
 0 drop_step
 0 leave_step
 
-# seat 1 has section 1: it enters, reads that it is its turn, and takes block 0 to make cells in
+# seat 1 has section 1: it enters, reads that it is its turn, and claims block 0 to make cells in
 1 enter_step
 1 read_season
 1 claim_block 0
@@ -42,14 +42,14 @@ shape 64 2 2 2 1 3
 2 pop 0
 2 read_alloc 0
 
-# it puts the cell aside: back into the packet, and the packet into the deferred pool, where nobody looks for work
+# it defers the cell: back into the packet, and the packet into the deferred pool, where nobody looks for work
 2 push 0 0
 2 store_length 0
 2 give 0 1
 # the count of empty packets says 65 and not 66, since packet 0 isn't counted: marking isn't done
 2 read_count
 
-# seat 1 publishes its cells with one store of the block's allocation bits, and gives the block up
+# seat 1 publishes its cells with one atomic or into the block's allocation word, and gives the block up
 1 publish_cells
 1 release_block
 

@@ -10,8 +10,8 @@ shape 64 2 2 2 1 2
 0 drop_step
 0 leave_step
 
-# the 64 cells become a list: each further cell refers to the one before it
-# seat 1 has section 1: it enters, reads that it is its turn, and takes block 0 to make cells in
+# the 64 cells become a list: each further cell refers to the one before
+# seat 1 has section 1: it enters, reads that it is its turn, and claims block 0 to make cells in
 1 enter_step
 1 read_season
 1 claim_block 0
@@ -28,7 +28,7 @@ shape 64 2 2 2 1 2
 1 store_new 1 0 0
 1 store_new 1 1 5
 1 store_new 1 2 4294967297
-# variable 1 names it, its field becomes what variable 0 is (the cell is in the own block and unpublished: no debt),
+# variable 1 names it, its field becomes what variable 0 is (the cell is in its own block and unpublished: no card is owed),
 # and variable 0 names it as well
 1 store_root 1 2
 1 store_field 1 0 0
@@ -38,7 +38,7 @@ shape 64 2 2 2 1 2
 1 store_new 2 0 0
 1 store_new 2 1 5
 1 store_new 2 2 4294967298
-# variable 1 names it, its field becomes what variable 0 is (the cell is in the own block and unpublished: no debt),
+# variable 1 names it, its field becomes what variable 0 is (the cell is in its own block and unpublished: no card is owed),
 # and variable 0 names it as well
 1 store_root 1 3
 1 store_field 1 0 0
@@ -48,7 +48,7 @@ shape 64 2 2 2 1 2
 1 store_new 3 0 0
 1 store_new 3 1 5
 1 store_new 3 2 4294967299
-# variable 1 names it, its field becomes what variable 0 is (the cell is in the own block and unpublished: no debt),
+# variable 1 names it, its field becomes what variable 0 is (the cell is in its own block and unpublished: no card is owed),
 # and variable 0 names it as well
 1 store_root 1 4
 1 store_field 1 0 0
@@ -58,7 +58,7 @@ shape 64 2 2 2 1 2
 1 store_new 4 0 0
 1 store_new 4 1 5
 1 store_new 4 2 4294967300
-# variable 1 names it, its field becomes what variable 0 is (the cell is in the own block and unpublished: no debt),
+# variable 1 names it, its field becomes what variable 0 is (the cell is in its own block and unpublished: no card is owed),
 # and variable 0 names it as well
 1 store_root 1 5
 1 store_field 1 0 0
@@ -68,7 +68,7 @@ shape 64 2 2 2 1 2
 1 store_new 5 0 0
 1 store_new 5 1 5
 1 store_new 5 2 4294967301
-# variable 1 names it, its field becomes what variable 0 is (the cell is in the own block and unpublished: no debt),
+# variable 1 names it, its field becomes what variable 0 is (the cell is in its own block and unpublished: no card is owed),
 # and variable 0 names it as well
 1 store_root 1 6
 1 store_field 1 0 0
@@ -78,7 +78,7 @@ shape 64 2 2 2 1 2
 1 store_new 6 0 0
 1 store_new 6 1 5
 1 store_new 6 2 4294967302
-# variable 1 names it, its field becomes what variable 0 is (the cell is in the own block and unpublished: no debt),
+# variable 1 names it, its field becomes what variable 0 is (the cell is in its own block and unpublished: no card is owed),
 # and variable 0 names it as well
 1 store_root 1 7
 1 store_field 1 0 0
@@ -88,7 +88,7 @@ shape 64 2 2 2 1 2
 1 store_new 7 0 0
 1 store_new 7 1 5
 1 store_new 7 2 4294967303
-# variable 1 names it, its field becomes what variable 0 is (the cell is in the own block and unpublished: no debt),
+# variable 1 names it, its field becomes what variable 0 is (the cell is in its own block and unpublished: no card is owed),
 # and variable 0 names it as well
 1 store_root 1 8
 1 store_field 1 0 0
@@ -98,7 +98,7 @@ shape 64 2 2 2 1 2
 1 store_new 8 0 0
 1 store_new 8 1 5
 1 store_new 8 2 4294967304
-# variable 1 names it, its field becomes what variable 0 is (the cell is in the own block and unpublished: no debt),
+# variable 1 names it, its field becomes what variable 0 is (the cell is in its own block and unpublished: no card is owed),
 # and variable 0 names it as well
 1 store_root 1 9
 1 store_field 1 0 0
@@ -108,7 +108,7 @@ shape 64 2 2 2 1 2
 1 store_new 9 0 0
 1 store_new 9 1 5
 1 store_new 9 2 4294967305
-# variable 1 names it, its field becomes what variable 0 is (the cell is in the own block and unpublished: no debt),
+# variable 1 names it, its field becomes what variable 0 is (the cell is in its own block and unpublished: no card is owed),
 # and variable 0 names it as well
 1 store_root 1 10
 1 store_field 1 0 0
@@ -118,7 +118,7 @@ shape 64 2 2 2 1 2
 1 store_new 10 0 0
 1 store_new 10 1 5
 1 store_new 10 2 4294967306
-# variable 1 names it, its field becomes what variable 0 is (the cell is in the own block and unpublished: no debt),
+# variable 1 names it, its field becomes what variable 0 is (the cell is in its own block and unpublished: no card is owed),
 # and variable 0 names it as well
 1 store_root 1 11
 1 store_field 1 0 0
@@ -128,7 +128,7 @@ shape 64 2 2 2 1 2
 1 store_new 11 0 0
 1 store_new 11 1 5
 1 store_new 11 2 4294967307
-# variable 1 names it, its field becomes what variable 0 is (the cell is in the own block and unpublished: no debt),
+# variable 1 names it, its field becomes what variable 0 is (the cell is in its own block and unpublished: no card is owed),
 # and variable 0 names it as well
 1 store_root 1 12
 1 store_field 1 0 0
@@ -138,7 +138,7 @@ shape 64 2 2 2 1 2
 1 store_new 12 0 0
 1 store_new 12 1 5
 1 store_new 12 2 4294967308
-# variable 1 names it, its field becomes what variable 0 is (the cell is in the own block and unpublished: no debt),
+# variable 1 names it, its field becomes what variable 0 is (the cell is in its own block and unpublished: no card is owed),
 # and variable 0 names it as well
 1 store_root 1 13
 1 store_field 1 0 0
@@ -148,7 +148,7 @@ shape 64 2 2 2 1 2
 1 store_new 13 0 0
 1 store_new 13 1 5
 1 store_new 13 2 4294967309
-# variable 1 names it, its field becomes what variable 0 is (the cell is in the own block and unpublished: no debt),
+# variable 1 names it, its field becomes what variable 0 is (the cell is in its own block and unpublished: no card is owed),
 # and variable 0 names it as well
 1 store_root 1 14
 1 store_field 1 0 0
@@ -158,7 +158,7 @@ shape 64 2 2 2 1 2
 1 store_new 14 0 0
 1 store_new 14 1 5
 1 store_new 14 2 4294967310
-# variable 1 names it, its field becomes what variable 0 is (the cell is in the own block and unpublished: no debt),
+# variable 1 names it, its field becomes what variable 0 is (the cell is in its own block and unpublished: no card is owed),
 # and variable 0 names it as well
 1 store_root 1 15
 1 store_field 1 0 0
@@ -168,7 +168,7 @@ shape 64 2 2 2 1 2
 1 store_new 15 0 0
 1 store_new 15 1 5
 1 store_new 15 2 4294967311
-# variable 1 names it, its field becomes what variable 0 is (the cell is in the own block and unpublished: no debt),
+# variable 1 names it, its field becomes what variable 0 is (the cell is in its own block and unpublished: no card is owed),
 # and variable 0 names it as well
 1 store_root 1 16
 1 store_field 1 0 0
@@ -178,7 +178,7 @@ shape 64 2 2 2 1 2
 1 store_new 16 0 0
 1 store_new 16 1 5
 1 store_new 16 2 4294967312
-# variable 1 names it, its field becomes what variable 0 is (the cell is in the own block and unpublished: no debt),
+# variable 1 names it, its field becomes what variable 0 is (the cell is in its own block and unpublished: no card is owed),
 # and variable 0 names it as well
 1 store_root 1 17
 1 store_field 1 0 0
@@ -188,7 +188,7 @@ shape 64 2 2 2 1 2
 1 store_new 17 0 0
 1 store_new 17 1 5
 1 store_new 17 2 4294967313
-# variable 1 names it, its field becomes what variable 0 is (the cell is in the own block and unpublished: no debt),
+# variable 1 names it, its field becomes what variable 0 is (the cell is in its own block and unpublished: no card is owed),
 # and variable 0 names it as well
 1 store_root 1 18
 1 store_field 1 0 0
@@ -198,7 +198,7 @@ shape 64 2 2 2 1 2
 1 store_new 18 0 0
 1 store_new 18 1 5
 1 store_new 18 2 4294967314
-# variable 1 names it, its field becomes what variable 0 is (the cell is in the own block and unpublished: no debt),
+# variable 1 names it, its field becomes what variable 0 is (the cell is in its own block and unpublished: no card is owed),
 # and variable 0 names it as well
 1 store_root 1 19
 1 store_field 1 0 0
@@ -208,7 +208,7 @@ shape 64 2 2 2 1 2
 1 store_new 19 0 0
 1 store_new 19 1 5
 1 store_new 19 2 4294967315
-# variable 1 names it, its field becomes what variable 0 is (the cell is in the own block and unpublished: no debt),
+# variable 1 names it, its field becomes what variable 0 is (the cell is in its own block and unpublished: no card is owed),
 # and variable 0 names it as well
 1 store_root 1 20
 1 store_field 1 0 0
@@ -218,7 +218,7 @@ shape 64 2 2 2 1 2
 1 store_new 20 0 0
 1 store_new 20 1 5
 1 store_new 20 2 4294967316
-# variable 1 names it, its field becomes what variable 0 is (the cell is in the own block and unpublished: no debt),
+# variable 1 names it, its field becomes what variable 0 is (the cell is in its own block and unpublished: no card is owed),
 # and variable 0 names it as well
 1 store_root 1 21
 1 store_field 1 0 0
@@ -228,7 +228,7 @@ shape 64 2 2 2 1 2
 1 store_new 21 0 0
 1 store_new 21 1 5
 1 store_new 21 2 4294967317
-# variable 1 names it, its field becomes what variable 0 is (the cell is in the own block and unpublished: no debt),
+# variable 1 names it, its field becomes what variable 0 is (the cell is in its own block and unpublished: no card is owed),
 # and variable 0 names it as well
 1 store_root 1 22
 1 store_field 1 0 0
@@ -238,7 +238,7 @@ shape 64 2 2 2 1 2
 1 store_new 22 0 0
 1 store_new 22 1 5
 1 store_new 22 2 4294967318
-# variable 1 names it, its field becomes what variable 0 is (the cell is in the own block and unpublished: no debt),
+# variable 1 names it, its field becomes what variable 0 is (the cell is in its own block and unpublished: no card is owed),
 # and variable 0 names it as well
 1 store_root 1 23
 1 store_field 1 0 0
@@ -248,7 +248,7 @@ shape 64 2 2 2 1 2
 1 store_new 23 0 0
 1 store_new 23 1 5
 1 store_new 23 2 4294967319
-# variable 1 names it, its field becomes what variable 0 is (the cell is in the own block and unpublished: no debt),
+# variable 1 names it, its field becomes what variable 0 is (the cell is in its own block and unpublished: no card is owed),
 # and variable 0 names it as well
 1 store_root 1 24
 1 store_field 1 0 0
@@ -258,7 +258,7 @@ shape 64 2 2 2 1 2
 1 store_new 24 0 0
 1 store_new 24 1 5
 1 store_new 24 2 4294967320
-# variable 1 names it, its field becomes what variable 0 is (the cell is in the own block and unpublished: no debt),
+# variable 1 names it, its field becomes what variable 0 is (the cell is in its own block and unpublished: no card is owed),
 # and variable 0 names it as well
 1 store_root 1 25
 1 store_field 1 0 0
@@ -268,7 +268,7 @@ shape 64 2 2 2 1 2
 1 store_new 25 0 0
 1 store_new 25 1 5
 1 store_new 25 2 4294967321
-# variable 1 names it, its field becomes what variable 0 is (the cell is in the own block and unpublished: no debt),
+# variable 1 names it, its field becomes what variable 0 is (the cell is in its own block and unpublished: no card is owed),
 # and variable 0 names it as well
 1 store_root 1 26
 1 store_field 1 0 0
@@ -278,7 +278,7 @@ shape 64 2 2 2 1 2
 1 store_new 26 0 0
 1 store_new 26 1 5
 1 store_new 26 2 4294967322
-# variable 1 names it, its field becomes what variable 0 is (the cell is in the own block and unpublished: no debt),
+# variable 1 names it, its field becomes what variable 0 is (the cell is in its own block and unpublished: no card is owed),
 # and variable 0 names it as well
 1 store_root 1 27
 1 store_field 1 0 0
@@ -288,7 +288,7 @@ shape 64 2 2 2 1 2
 1 store_new 27 0 0
 1 store_new 27 1 5
 1 store_new 27 2 4294967323
-# variable 1 names it, its field becomes what variable 0 is (the cell is in the own block and unpublished: no debt),
+# variable 1 names it, its field becomes what variable 0 is (the cell is in its own block and unpublished: no card is owed),
 # and variable 0 names it as well
 1 store_root 1 28
 1 store_field 1 0 0
@@ -298,7 +298,7 @@ shape 64 2 2 2 1 2
 1 store_new 28 0 0
 1 store_new 28 1 5
 1 store_new 28 2 4294967324
-# variable 1 names it, its field becomes what variable 0 is (the cell is in the own block and unpublished: no debt),
+# variable 1 names it, its field becomes what variable 0 is (the cell is in its own block and unpublished: no card is owed),
 # and variable 0 names it as well
 1 store_root 1 29
 1 store_field 1 0 0
@@ -308,7 +308,7 @@ shape 64 2 2 2 1 2
 1 store_new 29 0 0
 1 store_new 29 1 5
 1 store_new 29 2 4294967325
-# variable 1 names it, its field becomes what variable 0 is (the cell is in the own block and unpublished: no debt),
+# variable 1 names it, its field becomes what variable 0 is (the cell is in its own block and unpublished: no card is owed),
 # and variable 0 names it as well
 1 store_root 1 30
 1 store_field 1 0 0
@@ -318,7 +318,7 @@ shape 64 2 2 2 1 2
 1 store_new 30 0 0
 1 store_new 30 1 5
 1 store_new 30 2 4294967326
-# variable 1 names it, its field becomes what variable 0 is (the cell is in the own block and unpublished: no debt),
+# variable 1 names it, its field becomes what variable 0 is (the cell is in its own block and unpublished: no card is owed),
 # and variable 0 names it as well
 1 store_root 1 31
 1 store_field 1 0 0
@@ -328,7 +328,7 @@ shape 64 2 2 2 1 2
 1 store_new 31 0 0
 1 store_new 31 1 5
 1 store_new 31 2 4294967327
-# variable 1 names it, its field becomes what variable 0 is (the cell is in the own block and unpublished: no debt),
+# variable 1 names it, its field becomes what variable 0 is (the cell is in its own block and unpublished: no card is owed),
 # and variable 0 names it as well
 1 store_root 1 32
 1 store_field 1 0 0
@@ -338,7 +338,7 @@ shape 64 2 2 2 1 2
 1 store_new 32 0 0
 1 store_new 32 1 5
 1 store_new 32 2 4294967328
-# variable 1 names it, its field becomes what variable 0 is (the cell is in the own block and unpublished: no debt),
+# variable 1 names it, its field becomes what variable 0 is (the cell is in its own block and unpublished: no card is owed),
 # and variable 0 names it as well
 1 store_root 1 33
 1 store_field 1 0 0
@@ -348,7 +348,7 @@ shape 64 2 2 2 1 2
 1 store_new 33 0 0
 1 store_new 33 1 5
 1 store_new 33 2 4294967329
-# variable 1 names it, its field becomes what variable 0 is (the cell is in the own block and unpublished: no debt),
+# variable 1 names it, its field becomes what variable 0 is (the cell is in its own block and unpublished: no card is owed),
 # and variable 0 names it as well
 1 store_root 1 34
 1 store_field 1 0 0
@@ -358,7 +358,7 @@ shape 64 2 2 2 1 2
 1 store_new 34 0 0
 1 store_new 34 1 5
 1 store_new 34 2 4294967330
-# variable 1 names it, its field becomes what variable 0 is (the cell is in the own block and unpublished: no debt),
+# variable 1 names it, its field becomes what variable 0 is (the cell is in its own block and unpublished: no card is owed),
 # and variable 0 names it as well
 1 store_root 1 35
 1 store_field 1 0 0
@@ -368,7 +368,7 @@ shape 64 2 2 2 1 2
 1 store_new 35 0 0
 1 store_new 35 1 5
 1 store_new 35 2 4294967331
-# variable 1 names it, its field becomes what variable 0 is (the cell is in the own block and unpublished: no debt),
+# variable 1 names it, its field becomes what variable 0 is (the cell is in its own block and unpublished: no card is owed),
 # and variable 0 names it as well
 1 store_root 1 36
 1 store_field 1 0 0
@@ -378,7 +378,7 @@ shape 64 2 2 2 1 2
 1 store_new 36 0 0
 1 store_new 36 1 5
 1 store_new 36 2 4294967332
-# variable 1 names it, its field becomes what variable 0 is (the cell is in the own block and unpublished: no debt),
+# variable 1 names it, its field becomes what variable 0 is (the cell is in its own block and unpublished: no card is owed),
 # and variable 0 names it as well
 1 store_root 1 37
 1 store_field 1 0 0
@@ -388,7 +388,7 @@ shape 64 2 2 2 1 2
 1 store_new 37 0 0
 1 store_new 37 1 5
 1 store_new 37 2 4294967333
-# variable 1 names it, its field becomes what variable 0 is (the cell is in the own block and unpublished: no debt),
+# variable 1 names it, its field becomes what variable 0 is (the cell is in its own block and unpublished: no card is owed),
 # and variable 0 names it as well
 1 store_root 1 38
 1 store_field 1 0 0
@@ -398,7 +398,7 @@ shape 64 2 2 2 1 2
 1 store_new 38 0 0
 1 store_new 38 1 5
 1 store_new 38 2 4294967334
-# variable 1 names it, its field becomes what variable 0 is (the cell is in the own block and unpublished: no debt),
+# variable 1 names it, its field becomes what variable 0 is (the cell is in its own block and unpublished: no card is owed),
 # and variable 0 names it as well
 1 store_root 1 39
 1 store_field 1 0 0
@@ -408,7 +408,7 @@ shape 64 2 2 2 1 2
 1 store_new 39 0 0
 1 store_new 39 1 5
 1 store_new 39 2 4294967335
-# variable 1 names it, its field becomes what variable 0 is (the cell is in the own block and unpublished: no debt),
+# variable 1 names it, its field becomes what variable 0 is (the cell is in its own block and unpublished: no card is owed),
 # and variable 0 names it as well
 1 store_root 1 40
 1 store_field 1 0 0
@@ -418,7 +418,7 @@ shape 64 2 2 2 1 2
 1 store_new 40 0 0
 1 store_new 40 1 5
 1 store_new 40 2 4294967336
-# variable 1 names it, its field becomes what variable 0 is (the cell is in the own block and unpublished: no debt),
+# variable 1 names it, its field becomes what variable 0 is (the cell is in its own block and unpublished: no card is owed),
 # and variable 0 names it as well
 1 store_root 1 41
 1 store_field 1 0 0
@@ -428,7 +428,7 @@ shape 64 2 2 2 1 2
 1 store_new 41 0 0
 1 store_new 41 1 5
 1 store_new 41 2 4294967337
-# variable 1 names it, its field becomes what variable 0 is (the cell is in the own block and unpublished: no debt),
+# variable 1 names it, its field becomes what variable 0 is (the cell is in its own block and unpublished: no card is owed),
 # and variable 0 names it as well
 1 store_root 1 42
 1 store_field 1 0 0
@@ -438,7 +438,7 @@ shape 64 2 2 2 1 2
 1 store_new 42 0 0
 1 store_new 42 1 5
 1 store_new 42 2 4294967338
-# variable 1 names it, its field becomes what variable 0 is (the cell is in the own block and unpublished: no debt),
+# variable 1 names it, its field becomes what variable 0 is (the cell is in its own block and unpublished: no card is owed),
 # and variable 0 names it as well
 1 store_root 1 43
 1 store_field 1 0 0
@@ -448,7 +448,7 @@ shape 64 2 2 2 1 2
 1 store_new 43 0 0
 1 store_new 43 1 5
 1 store_new 43 2 4294967339
-# variable 1 names it, its field becomes what variable 0 is (the cell is in the own block and unpublished: no debt),
+# variable 1 names it, its field becomes what variable 0 is (the cell is in its own block and unpublished: no card is owed),
 # and variable 0 names it as well
 1 store_root 1 44
 1 store_field 1 0 0
@@ -458,7 +458,7 @@ shape 64 2 2 2 1 2
 1 store_new 44 0 0
 1 store_new 44 1 5
 1 store_new 44 2 4294967340
-# variable 1 names it, its field becomes what variable 0 is (the cell is in the own block and unpublished: no debt),
+# variable 1 names it, its field becomes what variable 0 is (the cell is in its own block and unpublished: no card is owed),
 # and variable 0 names it as well
 1 store_root 1 45
 1 store_field 1 0 0
@@ -468,7 +468,7 @@ shape 64 2 2 2 1 2
 1 store_new 45 0 0
 1 store_new 45 1 5
 1 store_new 45 2 4294967341
-# variable 1 names it, its field becomes what variable 0 is (the cell is in the own block and unpublished: no debt),
+# variable 1 names it, its field becomes what variable 0 is (the cell is in its own block and unpublished: no card is owed),
 # and variable 0 names it as well
 1 store_root 1 46
 1 store_field 1 0 0
@@ -478,7 +478,7 @@ shape 64 2 2 2 1 2
 1 store_new 46 0 0
 1 store_new 46 1 5
 1 store_new 46 2 4294967342
-# variable 1 names it, its field becomes what variable 0 is (the cell is in the own block and unpublished: no debt),
+# variable 1 names it, its field becomes what variable 0 is (the cell is in its own block and unpublished: no card is owed),
 # and variable 0 names it as well
 1 store_root 1 47
 1 store_field 1 0 0
@@ -488,7 +488,7 @@ shape 64 2 2 2 1 2
 1 store_new 47 0 0
 1 store_new 47 1 5
 1 store_new 47 2 4294967343
-# variable 1 names it, its field becomes what variable 0 is (the cell is in the own block and unpublished: no debt),
+# variable 1 names it, its field becomes what variable 0 is (the cell is in its own block and unpublished: no card is owed),
 # and variable 0 names it as well
 1 store_root 1 48
 1 store_field 1 0 0
@@ -498,7 +498,7 @@ shape 64 2 2 2 1 2
 1 store_new 48 0 0
 1 store_new 48 1 5
 1 store_new 48 2 4294967344
-# variable 1 names it, its field becomes what variable 0 is (the cell is in the own block and unpublished: no debt),
+# variable 1 names it, its field becomes what variable 0 is (the cell is in its own block and unpublished: no card is owed),
 # and variable 0 names it as well
 1 store_root 1 49
 1 store_field 1 0 0
@@ -508,7 +508,7 @@ shape 64 2 2 2 1 2
 1 store_new 49 0 0
 1 store_new 49 1 5
 1 store_new 49 2 4294967345
-# variable 1 names it, its field becomes what variable 0 is (the cell is in the own block and unpublished: no debt),
+# variable 1 names it, its field becomes what variable 0 is (the cell is in its own block and unpublished: no card is owed),
 # and variable 0 names it as well
 1 store_root 1 50
 1 store_field 1 0 0
@@ -518,7 +518,7 @@ shape 64 2 2 2 1 2
 1 store_new 50 0 0
 1 store_new 50 1 5
 1 store_new 50 2 4294967346
-# variable 1 names it, its field becomes what variable 0 is (the cell is in the own block and unpublished: no debt),
+# variable 1 names it, its field becomes what variable 0 is (the cell is in its own block and unpublished: no card is owed),
 # and variable 0 names it as well
 1 store_root 1 51
 1 store_field 1 0 0
@@ -528,7 +528,7 @@ shape 64 2 2 2 1 2
 1 store_new 51 0 0
 1 store_new 51 1 5
 1 store_new 51 2 4294967347
-# variable 1 names it, its field becomes what variable 0 is (the cell is in the own block and unpublished: no debt),
+# variable 1 names it, its field becomes what variable 0 is (the cell is in its own block and unpublished: no card is owed),
 # and variable 0 names it as well
 1 store_root 1 52
 1 store_field 1 0 0
@@ -538,7 +538,7 @@ shape 64 2 2 2 1 2
 1 store_new 52 0 0
 1 store_new 52 1 5
 1 store_new 52 2 4294967348
-# variable 1 names it, its field becomes what variable 0 is (the cell is in the own block and unpublished: no debt),
+# variable 1 names it, its field becomes what variable 0 is (the cell is in its own block and unpublished: no card is owed),
 # and variable 0 names it as well
 1 store_root 1 53
 1 store_field 1 0 0
@@ -548,7 +548,7 @@ shape 64 2 2 2 1 2
 1 store_new 53 0 0
 1 store_new 53 1 5
 1 store_new 53 2 4294967349
-# variable 1 names it, its field becomes what variable 0 is (the cell is in the own block and unpublished: no debt),
+# variable 1 names it, its field becomes what variable 0 is (the cell is in its own block and unpublished: no card is owed),
 # and variable 0 names it as well
 1 store_root 1 54
 1 store_field 1 0 0
@@ -558,7 +558,7 @@ shape 64 2 2 2 1 2
 1 store_new 54 0 0
 1 store_new 54 1 5
 1 store_new 54 2 4294967350
-# variable 1 names it, its field becomes what variable 0 is (the cell is in the own block and unpublished: no debt),
+# variable 1 names it, its field becomes what variable 0 is (the cell is in its own block and unpublished: no card is owed),
 # and variable 0 names it as well
 1 store_root 1 55
 1 store_field 1 0 0
@@ -568,7 +568,7 @@ shape 64 2 2 2 1 2
 1 store_new 55 0 0
 1 store_new 55 1 5
 1 store_new 55 2 4294967351
-# variable 1 names it, its field becomes what variable 0 is (the cell is in the own block and unpublished: no debt),
+# variable 1 names it, its field becomes what variable 0 is (the cell is in its own block and unpublished: no card is owed),
 # and variable 0 names it as well
 1 store_root 1 56
 1 store_field 1 0 0
@@ -578,7 +578,7 @@ shape 64 2 2 2 1 2
 1 store_new 56 0 0
 1 store_new 56 1 5
 1 store_new 56 2 4294967352
-# variable 1 names it, its field becomes what variable 0 is (the cell is in the own block and unpublished: no debt),
+# variable 1 names it, its field becomes what variable 0 is (the cell is in its own block and unpublished: no card is owed),
 # and variable 0 names it as well
 1 store_root 1 57
 1 store_field 1 0 0
@@ -588,7 +588,7 @@ shape 64 2 2 2 1 2
 1 store_new 57 0 0
 1 store_new 57 1 5
 1 store_new 57 2 4294967353
-# variable 1 names it, its field becomes what variable 0 is (the cell is in the own block and unpublished: no debt),
+# variable 1 names it, its field becomes what variable 0 is (the cell is in its own block and unpublished: no card is owed),
 # and variable 0 names it as well
 1 store_root 1 58
 1 store_field 1 0 0
@@ -598,7 +598,7 @@ shape 64 2 2 2 1 2
 1 store_new 58 0 0
 1 store_new 58 1 5
 1 store_new 58 2 4294967354
-# variable 1 names it, its field becomes what variable 0 is (the cell is in the own block and unpublished: no debt),
+# variable 1 names it, its field becomes what variable 0 is (the cell is in its own block and unpublished: no card is owed),
 # and variable 0 names it as well
 1 store_root 1 59
 1 store_field 1 0 0
@@ -608,7 +608,7 @@ shape 64 2 2 2 1 2
 1 store_new 59 0 0
 1 store_new 59 1 5
 1 store_new 59 2 4294967355
-# variable 1 names it, its field becomes what variable 0 is (the cell is in the own block and unpublished: no debt),
+# variable 1 names it, its field becomes what variable 0 is (the cell is in its own block and unpublished: no card is owed),
 # and variable 0 names it as well
 1 store_root 1 60
 1 store_field 1 0 0
@@ -618,7 +618,7 @@ shape 64 2 2 2 1 2
 1 store_new 60 0 0
 1 store_new 60 1 5
 1 store_new 60 2 4294967356
-# variable 1 names it, its field becomes what variable 0 is (the cell is in the own block and unpublished: no debt),
+# variable 1 names it, its field becomes what variable 0 is (the cell is in its own block and unpublished: no card is owed),
 # and variable 0 names it as well
 1 store_root 1 61
 1 store_field 1 0 0
@@ -628,7 +628,7 @@ shape 64 2 2 2 1 2
 1 store_new 61 0 0
 1 store_new 61 1 5
 1 store_new 61 2 4294967357
-# variable 1 names it, its field becomes what variable 0 is (the cell is in the own block and unpublished: no debt),
+# variable 1 names it, its field becomes what variable 0 is (the cell is in its own block and unpublished: no card is owed),
 # and variable 0 names it as well
 1 store_root 1 62
 1 store_field 1 0 0
@@ -638,7 +638,7 @@ shape 64 2 2 2 1 2
 1 store_new 62 0 0
 1 store_new 62 1 5
 1 store_new 62 2 4294967358
-# variable 1 names it, its field becomes what variable 0 is (the cell is in the own block and unpublished: no debt),
+# variable 1 names it, its field becomes what variable 0 is (the cell is in its own block and unpublished: no card is owed),
 # and variable 0 names it as well
 1 store_root 1 63
 1 store_field 1 0 0
@@ -648,7 +648,7 @@ shape 64 2 2 2 1 2
 1 store_new 63 0 0
 1 store_new 63 1 5
 1 store_new 63 2 4294967359
-# variable 1 names it, its field becomes what variable 0 is (the cell is in the own block and unpublished: no debt),
+# variable 1 names it, its field becomes what variable 0 is (the cell is in its own block and unpublished: no card is owed),
 # and variable 0 names it as well
 1 store_root 1 64
 1 store_field 1 0 0
@@ -657,7 +657,7 @@ shape 64 2 2 2 1 2
 # variable 0 names the head of the list; variable 1 is no more needed
 1 store_root 1 0
 
-# it publishes its cells with one store of the block's allocation bits, and gives the block up
+# it publishes its cells with one atomic or into the block's allocation word, and gives the block up
 1 publish_cells
 1 release_block
 
@@ -1137,7 +1137,7 @@ shape 64 2 2 2 1 2
 1 store_alloc
 1 clear_marks
 1 store_phase 0
-# the marking was exact and every cell is still in use, so every cell is reachable: seat 1 writes its section down, and
+# the marking was exact and every cell is still in use, so every cell is reachable: seat 1 stores its section in NAMED, and
 # the heap is full
 1 store_named
 1 store_phase 5

@@ -10,7 +10,7 @@ shape 64 2 2 2 1 3
 0 drop_step
 0 leave_step
 
-# seat 1 has section 1: it enters, reads that it is its turn, and takes block 0 to make cells in
+# seat 1 has section 1: it enters, reads that it is its turn, and claims block 0 to make cells in
 1 enter_step
 1 read_season
 1 claim_block 0
@@ -30,7 +30,7 @@ shape 64 2 2 2 1 3
 # variable 1 names it
 1 store_root 1 2
 
-# it publishes its cells with one store of the block's allocation bits, and gives the block up
+# it publishes its cells with one atomic or into the block's allocation word, and gives the block up
 1 publish_cells
 1 release_block
 
@@ -56,7 +56,7 @@ shape 64 2 2 2 1 3
 
 # the mutator stores its reference to white cell 1 in the field of black cell 0, and now owes the card of cell 0
 1 store_field 0 0 1
-# it pays: the card is dirty
+# it dirties the card, and owes none
 1 dirty_card 0
 # only now may it forget variable 1, the other way to cell 1
 1 store_root 1 0

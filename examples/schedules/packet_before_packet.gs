@@ -10,7 +10,7 @@ shape 64 2 2 2 1 3
 0 drop_step
 0 leave_step
 
-# seat 1 has section 1: it enters, reads that it is its turn, and takes block 0 to make cells in
+# seat 1 has section 1: it enters, reads that it is its turn, and claims block 0 to make cells in
 1 enter_step
 1 read_season
 1 claim_block 0
@@ -23,7 +23,7 @@ shape 64 2 2 2 1 3
 # variable 0 names it
 1 store_root 0 1
 
-# it publishes its cells with one store of the block's allocation bits, and gives the block up
+# it publishes its cells with one atomic or into the block's allocation word, and gives the block up
 1 publish_cells
 1 release_block
 

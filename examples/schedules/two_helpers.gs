@@ -10,7 +10,7 @@ shape 64 4 2 2 1 4
 0 drop_step
 0 leave_step
 
-# seat 1 has section 1: it enters, reads that it is its turn, and takes block 0 to make cells in
+# seat 1 has section 1: it enters, reads that it is its turn, and claims block 0 to make cells in
 1 enter_step
 1 read_season
 1 claim_block 0
@@ -30,7 +30,7 @@ shape 64 4 2 2 1 4
 # variable 1 names it
 1 store_root 1 2
 
-# it publishes its cells with one store of the block's allocation bits, and gives the block up
+# it publishes its cells with one atomic or into the block's allocation word, and gives the block up
 1 publish_cells
 1 release_block
 
@@ -42,7 +42,7 @@ shape 64 4 2 2 1 4
 1 observe
 1 store_phase 2
 
-# it opens the stop to helpers, and isn't alone from here on
+# it opens help, and isn't alone from here on
 1 open_step
 
 # seat 2 joins, is admitted since help is open, and reads the phase
@@ -85,7 +85,7 @@ shape 64 4 2 2 1 4
 3 give 1 0
 3 credit
 
-# they leave; the coordinator closes, and reads that nobody helps any more: it is alone again
+# they leave; seat 1 closes help, and reads that nobody helps any more: it is alone again
 2 leave_help_step
 3 leave_help_step
 1 close_step

@@ -10,7 +10,7 @@ shape 64 2 2 2 1 3
 0 drop_step
 0 leave_step
 
-# seat 1 has section 1: it enters, reads that it is its turn, and takes block 0 to make cells in
+# seat 1 has section 1: it enters, reads that it is its turn, and claims block 0 to make cells in
 1 enter_step
 1 read_season
 1 claim_block 0
@@ -42,5 +42,5 @@ shape 64 2 2 2 1 3
 2 pop 0
 2 read_alloc 0
 
-# its words may not be there yet for other seats to see: to load its field is refused
+# its maker may still store in it without dirtying its card: to load its field is refused
 2 read_field 0 0
