@@ -1,6 +1,7 @@
 #!/bin/sh
-# Compares the documents with the repository: the picture of the crates with crates.txt, the names in backquotes with the sources, the code of
-# docs/EMBEDDING.md with the programs that it is taken from, and the files that a page names with those that its clauses need.
+# Compares the documents with the repository: the picture of the crates with crates.txt, the names in backquotes with the sources, and with the crates in
+# which they are said to stand, links with pages and their headings, and the files that a page names with those that its clauses need. README.md has 1,500
+# words at most, and docs/GLOSSARY.md a word a row. The programs of docs/EMBEDDING.md are run by tests/embedding.sh.
 # From the top of the repository: sh docs/check.sh. It prints what differs, and nothing where all agrees.
 set -eu
 export LC_ALL=C
@@ -16,7 +17,7 @@ function stands(a, b, i, n, xs) {
     for (i = 1; i <= n; i++) if (xs[i] == b || stands(xs[i], b)) return 1
     return 0
 }
-{ named[$1] = $2; order[NR] = $1 }
+{ sub(/ .*/, "", $1); named[$1] = $2; order[NR] = $1 }
 END {
     for (k = 1; k <= NR; k++) {
         n = split(named[order[k]], xs, " ")
@@ -30,9 +31,9 @@ END {
 awk '$2 == "->" { gsub(/[()]/, ""); for (i = 3; i <= NF; i++) print $1, $i }' docs/ARCHITECTURE.md | sort >"$folder/drawn"
 diff "$folder/named" "$folder/drawn" || true
 
-# Names in backquotes that stand in no source, and paths that lead nowhere.
+# Names in backquotes that stand in no source and no header for C, and paths that lead nowhere.
 find crates -name out -prune -o -type f -print >"$folder/files"
-grep -e '\.rt$' -e '\.antt$' -e '\.edit$' "$folder/files" | xargs cat | grep -o '[A-Za-z_][A-Za-z_0-9]*' | sort -u >"$folder/words"
+{ grep -e '\.rt$' -e '\.antt$' -e '\.edit$' "$folder/files" | xargs cat; cat examples/c/*.h; } | grep -o '[A-Za-z_][A-Za-z_0-9]*' | sort -u >"$folder/words"
 for text in README.md docs/*.md bench/README.md crates/*/README.md; do
     [ -f "$text" ] || continue
     grep -o '`[A-Za-z_][A-Za-z_0-9:]*`' "$text" | tr -d '`' | sed 's/.*:://' | sort -u | comm -23 - "$folder/words" >"$folder/missing"
@@ -45,13 +46,39 @@ for text in README.md docs/*.md bench/README.md crates/*/README.md; do
     done
 done
 
-# Code on the page about embedding that isn't that of a program over the collector, word for word.
-cat crates/binary_trees/src/*.rt crates/hash_table/src/*.rt >"$folder/program"
+# Names that stand in another crate than a page says, as `name` of `crate`, in `crate`, or (`crate`).
+for text in README.md docs/*.md bench/README.md crates/*/README.md; do
+    grep -oE '(`[A-Za-z_:]+`(, | and |, and ))*`[A-Za-z_:]+` (\(|in |of )`[a-z_]+`' "$text" | sort -u | while read -r line; do
+        crate=${line%\`}
+        crate=${crate##*\`}
+        [ -d "crates/$crate" ] || continue
+        echo "${line% *}" | grep -o '`[A-Za-z_:]*`' | tr -d '`' | sed 's/.*:://' | while read -r name; do
+            grep -qrsw -e "$name" "crates/$crate/src" "crates/$crate/specs" || echo "$text: $name isn't in $crate"
+        done
+    done
+done
+
+# Links that lead to no page, or to no heading of it.
+for text in README.md docs/*.md bench/README.md tests/README.md crates/*/README.md; do
+    grep -o '](\([^)]*\))' "$text" | sed 's/^](//; s/)$//' | grep -v '^http' | sort -u | while read -r link; do
+        page=$(dirname "$text")/${link%%#*}
+        [ -e "$page" ] || echo "$text: $link"
+        case $link in
+        *#*) sed -n 's/^##* //p' "$page" | tr 'A-Z ' 'a-z-' | tr -cd 'a-z0-9_\n-' | grep -qx -e "${link#*#}" || echo "$text: $link" ;;
+        esac
+    done
+done
+
+# The front page, and the glossary.
+[ "$(wc -w <README.md)" -le 1500 ] || echo "README.md: more than 1,500 words"
+awk -F'|' '/^\|/ && $2 ~ /[,;]/ { print "docs/GLOSSARY.md: more than one word in a row:" $2 }' docs/GLOSSARY.md
+
+# Programs on the page about embedding that say nothing of what they write: tests/embedding.sh runs each, and compares it with what stands below.
 awk '
-FNR == NR { program = program $0 "\n"; next }
-/^```rust$/ { block = ""; inside = 1; next }
-/^```$/ { if (inside && !index(program, block)) print "docs/EMBEDDING.md: what ends in line " FNR " is neither in crates/binary_trees/src nor in crates/hash_table/src"; inside = 0; next }
-inside { block = block $0 "\n" }' "$folder/program" docs/EMBEDDING.md
+/^```rust$/ { if (open) print "docs/EMBEDDING.md: nothing is told of what the program writes that ends in line " ended; inside = 1; next }
+/^```$/ { if (inside) { inside = 0; open = 1; ended = FNR } next }
+!inside && /^    / { open = 0 }
+END { if (open) print "docs/EMBEDDING.md: nothing is told of what the program writes that ends in line " ended }' docs/EMBEDDING.md
 
 # Pages that walk through the definitions of a clause.
 grep -l '^<!-- closure: ' docs/*.md | xargs python3 docs/closure.py
