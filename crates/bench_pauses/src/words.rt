@@ -1,4 +1,6 @@
 //! What the words of the command line ask for.
+ghost use Rattle.std.specs.Prelude.{◌≤◌, IfOk, IfSome};
+ghost use Rattle.bench_pauses.specs.Words.{IsInRange};
 
 use clap::error::ErrorKind;
 use clap::{Arg, ArgAction, ArgMatches, Command};
@@ -47,7 +49,10 @@ fn chosen(
     least: u32,
     greatest: u32,
     default: u32,
-) -> Option<u32> {
+) -> Option<u32>
+    requires { (least ≤ default) × (default ≤ greatest) }
+    ensures { IfSome result (λ n. (least ≤ n) × (n ≤ greatest)) }
+{
     let Some(text) = matches.get_str(name) else {
         return Some(default);
     };
@@ -64,7 +69,9 @@ fn chosen(
 }
 
 /// The run that the options ask for, if each is in its range.
-fn asked_of(matches: &ArgMatches<'_>) -> Option<Asked> {
+fn asked_of(matches: &ArgMatches<'_>) -> Option<Asked>
+    ensures { IfSome result IsInRange }
+{
     let asked = Asked {
         cells: chosen(matches, "cells", 4_096, 16_777_216, 65_536)?,
         live: chosen(matches, "live", 1, 90, 60)?,
@@ -100,7 +107,9 @@ fn program<'a>(alloc: Global) -> Result<Command<'a>, AllocError> {
 }
 
 /// The run that the words ask for, without the program's own name. None where they ask for nothing.
-pub fn asked_by(alloc: Global, words: &[String]) -> Result<Option<Asked>, AllocError> {
+pub fn asked_by(alloc: Global, words: &[String]) -> Result<Option<Asked>, AllocError>
+    ensures { IfOk result (λ o. IfSome o IsInRange) }
+{
     match program(alloc)?.try_get_matches_from(words) {
         Ok(matches) => Ok(asked_of(&matches)),
         Err(error) if error.kind() == ErrorKind::OutOfMemory => Err(AllocError),

@@ -1,5 +1,6 @@
 //! A table: an object whose references are rows, each with 16 buckets. A bucket is a chain of entries. An entry's value is its key; its reference 0 is the
 //! next entry, and its reference 1 the object that is kept under the key.
+ghost use Rattle.std.specs.Prelude.{◌≡◌, ◌<◌};
 
 use managed_heap::{Mutator, Refused};
 use std::sync::Wait;
@@ -20,8 +21,11 @@ const OLD: u8 = 5;
 /// How many entries a chain has at most.
 const ENTRIES: u32 = 1000;
 
-/// The row of a key, and its bucket there, in a table of so many rows, 1 or 16.
-fn place_of(key: u32, rows: u8) -> (u8, u8) {
+/// The row of a key, and its bucket there, in a table of so many rows, 1 or 16. Both are fields of an object, and of one row it is the first.
+fn place_of(key: u32, rows: u8) -> (u8, u8)
+    ensures row { (result.0 < 16) × (rows ≡ 1 → result.0 ≡ 0) }
+    ensures bucket { result.1 < 16 }
+{
     let hash = (key.wrapping_mul(2_654_435_761) >> 16) as u16;
     let row = if rows == 1 { 0 } else { (hash >> 4) % 16 };
     (row as u8, (hash % 16) as u8)
