@@ -1,16 +1,13 @@
 -- What an admitted helper does of a drain and of a sweep.
-use Rattle.std.proofs.Common.{ℕ, ◌≡◌, ◌≤◌, ◌+◌, zero-add, List, [], ◌∷◌, ◌++◌, arith, refl, sym, ap, ◌∙◌, subst, Bool, true, false, not, ◌&&◌, ◌||◌, Some, None, Option, ⊎_elim}
-use Rattle.std.specs.Prelude.{◌==◌, if◌then◌else◌, is_none, nat_lt, unwrap_or}
+use Rattle.std.proofs.Common.{ℕ, ◌≡◌, ◌≤◌, ◌+◌, zero-add, List, [], ◌∷◌, ◌++◌, arith, refl, sym, ap, ◌∙◌, subst, Bool, true, false, not, ◌&&◌, Some, None, Option, ⊎_elim}
+use Rattle.std.specs.Prelude.{◌==◌, if◌then◌else◌, nat_lt, unwrap_or}
 use Rattle.std.specs.List.{list_all, list_any}
 use Rattle.std.proofs.lemmas.Bool.{and_from, and_parts, cases_Bool, false≢true, not-true, or_cases, or_from, or_left, or_parts, or_right, true≢false}
-use Rattle.mark_core.specs.Cards.{card_cells}
 use Rattle.mark_core.specs.Effects.{place, seat_after}
 use Rattle.mark_core.specs.Held.{Slot, Slots}
-use Rattle.mark_core.specs.Layout.{card_count}
 use Rattle.mark_core.specs.Notes.{keeps_bound, same_place}
 use Rattle.mark_core.specs.Places.{the_next_card}
-use Rattle.mark_core.specs.Seats.{saw, work_in_hand}
-use Rattle.mark_core.specs.declared.kinds.Phase.TheVariants.{Drain, Sweep}
+use Rattle.mark_core.specs.Seats.{work_in_hand}
 use Rattle.mark_core.specs.declared.kinds.Shape.{Shape}
 use Rattle.mark_core.specs.declared.kinds.Step.{Step}
 use Rattle.mark_core.specs.declared.kinds.Step.TheVariants.{AddStat, ClearCard, Give, JoinHelpStep, LeaveHelpStep, NextOfCards, NextSeason, Push, ReadCat, ReadOwn, ReadStat, Reset, StoreField, StoreNew, StorePhase, StorePosition, StoreRoot, StoreValue}
@@ -22,35 +19,23 @@ use Rattle.gc_table.specs.declared.view.View.{View}
 use Rattle.gc_table.specs.Log.{all_steps, events, Only}
 use Rattle.gc_table.specs.Running.{AtLeast, changes_section, IsSeen, Ran}
 use Rattle.gc_table.proofs.Noticing.{floor-elsewhere, floor-here, found-above}
-use Rattle.gc_table.proofs.Running.{ran-events, ran-join, ran-only, ran-shape, run-keeps}
+use Rattle.gc_table.proofs.Running.{ran-events, ran-shape, run-keeps}
 use Rattle.packet_pools.specs.Counts.{count_of}
-use Rattle.packet_pools.specs.Seeking.{moves_packet, no_input, some_event}
-use Rattle.packet_pools.proofs.AllMissed.{no-input-left}
+use Rattle.packet_pools.specs.Seeking.{some_event}
 use Rattle.packet_pools.proofs.Counting.{count-join}
 use Rattle.packet_pools.proofs.Searches.{some-left}
 use Rattle.tracer.specs.Deferral.{waits_on}
-use Rattle.tracer.specs.Moments.{deferring_after, front, is_spent_slot, nothing_left}
+use Rattle.tracer.specs.Moments.{deferring_after, is_spent_slot}
 use Rattle.tracer.proofs.Moments.{moment_of, moment-waits}
 use Rattle.gc_cycle.specs.Events.{never, not_followed, Sort}
-use Rattle.gc_cycle.specs.Helping.{meets_card, meets_cards, rescanned_in}
-use Rattle.gc_cycle.specs.Lower.{EndsTrace, HasTraced, traces_cells}
+use Rattle.gc_cycle.specs.Helping.{meets_card, meets_cards}
+use Rattle.gc_cycle.specs.Lower.{traces_cells}
 use Rattle.gc_cycle.specs.Moments.{Moment, after_moment, at_some_moment, begins, finds_no_room, finds_no_work}
-use Rattle.card_clean.specs.Leaving.{rescans}
 use Rattle.card_clean.specs.Passing.{card_floor}
-use Rattle.tracer.specs.declared.traced.Stopped.{Stopped}
-use Rattle.tracer.specs.declared.traced.Stopped.TheVariants as stops
-use Rattle.tracer.specs.declared.traced.Traced.{Traced}
-use Rattle.gc_cycle.specs.declared.counts.Helped.{Helped}
-use Rattle.gc_cycle.specs.declared.counts.HelpEnd.{HelpEnd}
-use Rattle.gc_cycle.specs.declared.counts.HelpEnd.TheVariants.{Quota, NoWork, NoPacket, Swept}
-use Rattle.gc_cycle.specs.Draining.{CleansOn, DrainsOn, EndsAs, EndsAt, HelpsOn, StopsFor, end_as, is_idle_now}
-use Rattle.gc_cycle.specs.Sorts.{clears, clears_card, draws, draws_or_clears, pops, sees_last_card}
-use Rattle.gc_cycle.proofs.Goings.{no-cache}
-use Rattle.gc_cycle.specs.Standing.{Helps}
+use Rattle.gc_cycle.specs.Draining.{is_idle_now}
+use Rattle.gc_cycle.specs.Sorts.{clears, draws, draws_or_clears, sees_to_card}
 use Rattle.gc_cycle.proofs.Sequences.{moments, moments-state, some-moment-later, some-none, this-moment}
 use Rattle.gc_cycle.proofs.Searched.{work-longer}
-use Rattle.gc_cycle.proofs.Traced.{rest-nothing}
-use Rattle.gc_cycle.proofs.Completing.{total-run}
 
 -- what waits in the first list waits in the second
 abbrev pub Sub : List ℕ → List ℕ → Type 0
@@ -168,7 +153,7 @@ traced-idle sh es m n h = idle-now sh es m (uncleared es n) h
 -- cards that are given out are met
 meets-more : (cards : ℕ) (step : Step) (n : ℕ) (xs ys : List Entry) → meets_card cards step n xs ≡ true → meets_card cards step n (xs ++ ys) ≡ true
 meets-more cards NextOfCards n xs ys e =
-    ⊎_elim (λ (a : not (nat_lt n cards) ≡ true). or_left (not (nat_lt n cards)) _ a) (λ b. or_right (not (nat_lt n cards)) _ (some-left (clears_card n) xs ys b)) (or_cases (not (nat_lt n cards)) _ e)
+    ⊎_elim (λ (a : not (nat_lt n cards) ≡ true). or_left (not (nat_lt n cards)) _ a) (λ b. or_right (not (nat_lt n cards)) _ (some-left (sees_to_card n) xs ys b)) (or_cases (not (nat_lt n cards)) _ e)
 meets-more cards step n xs ys e = refl
 
 pub meets-join : (cards : ℕ) (xs ys : List Entry) → meets_cards cards xs ≡ true → meets_cards cards ys ≡ true → meets_cards cards (xs ++ ys) ≡ true
@@ -199,25 +184,6 @@ pub not-followed-later : (f g : Sort) (xs ys : List Entry) → not_followed f g 
 not-followed-later f g [] ys h = h
 not-followed-later f g (x ∷ xs) ys h = or_right (f x.step x.found && not (some_event g (xs ++ ys))) _ (not-followed-later f g xs ys h)
 
--- a helper that traced is one still
-pub traced-helps : (v w : View) → Helps v → HasTraced v w → DrainsOn v w
-traced-helps v w h t =
-    let seen : w.state.phase_seen ≡ v.state.phase_seen = ap (λ (s : SeatState). s.phase_seen) t.record_is in
-    record {
-      ran = t.ran;
-      only = t.only;
-      helps =
-          record {
-            admitted = ap (λ (s : SeatState). s.admitted) t.record_is ∙ h.admitted;
-            phase = ap (λ o. saw o Drain || saw o Sweep) seen ∙ h.phase;
-            rest = rest-nothing w.shape w.state t.rest (ap (λ (s : SeatState). is_none s.cache) t.record_is ∙ ap (λ o. is_none o) (no-cache v.shape v.state h.rest));
-          };
-      phase = seen;
-    }
-
-pub drains-join : (u v w : View) → DrainsOn u v → DrainsOn v w → DrainsOn u w
-drains-join u v w a b = record { ran = ran-join u v w a.ran b.ran; only = ran-only traces_cells u v w a.ran b.ran a.only b.only; helps = b.helps; phase = b.phase ∙ a.phase }
-
 pub count-none : (f : Sort) (es : List Entry) → never f es ≡ true → count_of f es ≡ 0
 count-none f [] h = refl
 count-none f (e ∷ es) h =
@@ -225,120 +191,6 @@ count-none f (e ∷ es) h =
 
 pub count-run : (f : Sort) (u v w : View) → Ran u v → Ran v w → count_of f (events u w) ≡ count_of f (events u v) + count_of f (events v w)
 count-run f u v w r q = ap (count_of f) (ran-events u v w r q) ∙ count-join f (events u v) (events v w)
-
--- why it stopped is so of both calls
-stops-later : (h : HelpEnd) (quota done : ℕ) (u v w : View) → Ran u v → Ran v w → StopsFor h quota done v w → StopsFor h quota done u w
-stops-later Quota quota done u v w r q s = s
-stops-later NoWork quota done u v w r q s =
-    (s.0, late (is_idle_now u.shape) (idle-grows u.shape) u v w r q (subst (λ (sh : Shape). at_some_moment v.shape (is_idle_now sh) (begins v) (events v w) ≡ true) (ran-shape u v r) s.1))
-stops-later NoPacket quota done u v w r q s =
-    (s.0, late (finds_no_room u.shape) (room-grows u.shape) u v w r q (subst (λ (sh : Shape). at_some_moment v.shape (finds_no_room sh) (begins v) (events v w) ≡ true) (ran-shape u v r) s.1))
-stops-later Swept quota done u v w r q s = s
-
--- how a trace ended
-trace-stops : (s : Stopped) (k before quota : ℕ) (r : Traced) (v w : View) → r.stopped ≡ s → before + k ≡ quota → r.done ≤ k → EndsTrace k r v w → never draws_or_clears (events v w) ≡ true → StopsFor (end_as s) quota (before + r.done) v w
-trace-stops stops.Quota k before quota r v w e q m t n = let a = t.all.0 e in omega (arith, a, q)
-trace-stops stops.NoWork k before quota r v w e q m t n =
-    (λ f. let g : r.stopped ≡ stops.Quota = t.all.1 (omega (arith, f, q)) in let x : stops.NoWork ≡ stops.Quota = sym e ∙ g in absurd (cc x), traced-idle v.shape (events v w) (begins v) n (t.no_work e))
-trace-stops stops.NoPacket k before quota r v w e q m t n = absurd (t.packet e)
-
--- a card was cleaned, and then the helper traced
-pub cleaned-on : (quota card k n : ℕ) (before : Helped) (r : Traced) (v w x : View) → Helps v → HasTraced v w → HasTraced w x → rescanned_in v (events v w) ≡ n → some_event (clears_card card) (events v w) ≡ true → n ≤ card_cells → never pops (events v w) ≡ true → never draws (events v w) ≡ true → EndsTrace k r w x → r.done ≤ k → before.traced + k ≡ quota → rescanned_in w (events w x) ≡ 0 → never draws_or_clears (events w x) ≡ true → CleansOn quota card before (record { traced = before.traced + r.done; rescanned = before.rescanned + n; swept = before.swept; ended = end_as r.stopped }) v x
-cleaned-on quota card k n before r v w x h a b s c few p d t m q z u =
-    let first = traced-helps v w h a in
-    let second = traced-helps w x first.helps b in
-    let counts = count-run pops v w x a.ran b.ran in
-    let none = count-none pops (events v w) p in
-    let sums = total-run rescans v w x a.ran b.ran in
-    record {
-      drained = drains-join v w x first second;
-      traced = let y = t.done in omega (arith, counts, none, y);
-      rescanned = omega (arith, sums, s, z);
-      few = omega (arith, few);
-      swept = refl;
-      most = omega (arith, m, q);
-      stops = stops-later (end_as r.stopped) quota (before.traced + r.done) v w x a.ran b.ran (trace-stops r.stopped k before.traced quota r w x refl q m t u);
-      undrawn = ap (never draws) (ran-events v w x a.ran b.ran) ∙ never-join draws (events v w) (events w x) d (undrawn (events w x) u);
-      cleaned = λ e. ap (some_event (clears_card card)) (ran-events v w x a.ran b.ran) ∙ some-left (clears_card card) (events v w) (events w x) c;
-    }
-
--- there was no packet to clean it with
-pub not-cleaned : (quota card : ℕ) (before : Helped) (v w : View) → Helps v → HasTraced v w → before.traced ≤ quota → (before.traced ≡ quota → ⊥) → rescanned_in v (events v w) ≡ 0 → never pops (events v w) ≡ true → never draws (events v w) ≡ true → at_some_moment v.shape (finds_no_room v.shape) (begins v) (events v w) ≡ true → CleansOn quota card before (record { traced = before.traced; rescanned = before.rescanned; swept = before.swept; ended = NoPacket }) v w
-not-cleaned quota card before v w h a m ne z p d f =
-    let none = count-none pops (events v w) p in
-    record {
-      drained = traced-helps v w h a;
-      traced = omega (arith, none);
-      rescanned = omega (arith, z);
-      few = omega arith;
-      swept = refl;
-      most = m;
-      stops = (ne, f);
-      undrawn = d;
-      cleaned = λ (e : NoPacket ≡ NoWork). absurd (cc e);
-    }
-
--- the first trace
-pub traced-first : (quota : ℕ) (r : Traced) (v w : View) → Helps v → HasTraced v w → EndsTrace quota r v w → r.done ≤ quota → rescanned_in v (events v w) ≡ 0 → never draws_or_clears (events v w) ≡ true → HelpsOn quota (record { traced = r.done; rescanned = 0; swept = 0; ended = end_as r.stopped }) v w
-traced-first quota r v w h a t m z u =
-    record {
-      drained = traced-helps v w h a;
-      traced = t.done;
-      rescanned = z;
-      swept = refl;
-      most = m;
-      stops = subst (λ n. StopsFor (end_as r.stopped) quota n v w) (zero-add r.done) (trace-stops r.stopped quota 0 quota r v w refl (zero-add quota) m t u);
-    }
-
--- a further card
-pub helped-more : (quota card : ℕ) (before after : Helped) (u v w x : View) → HelpsOn quota before u v → HasTraced v w → never pops (events v w) ≡ true → rescanned_in v (events v w) ≡ 0 → CleansOn quota card before after w x → HelpsOn quota after u x
-helped-more quota card before after u v w x h a p z c =
-    let drawn = traced-helps v w h.drained.helps a in
-    let to_w = drains-join u v w h.drained drawn in
-    let one = count-run pops u v w h.drained.ran a.ran in
-    let two = count-run pops u w x to_w.ran c.drained.ran in
-    let none = count-none pops (events v w) p in
-    let s1 = total-run rescans u v w h.drained.ran a.ran in
-    let s2 = total-run rescans u w x to_w.ran c.drained.ran in
-    record {
-      drained = drains-join u w x to_w c.drained;
-      traced = let i = h.traced in let j = c.traced in omega (arith, one, two, none, i, j);
-      rescanned = let i = h.rescanned in let j = c.rescanned in omega (arith, s1, s2, z, i, j);
-      swept = c.swept ∙ h.swept;
-      most = c.most;
-      stops = stops-later after.ended quota after.traced u w x to_w.ran c.drained.ran c.stops;
-    }
-
--- no card was left
-pub helped-last : (quota : ℕ) (helped : Helped) (u v w : View) → HelpsOn quota helped u v → helped.ended ≡ NoWork → meets_cards (card_count u.shape) (events u v) ≡ true → HasTraced v w → never pops (events v w) ≡ true → never clears (events v w) ≡ true → rescanned_in v (events v w) ≡ 0 → some_event (sees_last_card (card_count u.shape)) (events v w) ≡ true → meets_cards (card_count u.shape) (events v w) ≡ true → HelpsOn quota helped u w × EndsAs helped u w
-helped-last quota helped u v w h e met a p n z last over =
-    let to_w = drains-join u v w h.drained (traced-helps v w h.drained.helps a) in
-    let one = count-run pops u v w h.drained.ran a.ran in
-    let none = count-none pops (events v w) p in
-    let s1 = total-run rescans u v w h.drained.ran a.ran in
-    let es : events u w ≡ events u v ++ events v w = ran-events u v w h.drained.ran a.ran in
-    let stops : StopsFor NoWork quota helped.traced u v = subst (λ x. StopsFor x quota helped.traced u v) e h.stops in
-    let moment : at_some_moment u.shape (is_idle_now u.shape) (begins u) (events u w) ≡ true =
-    ap (at_some_moment u.shape (is_idle_now u.shape) (begins u)) es ∙ longer u.shape (is_idle_now u.shape) (events v w) (idle-longer u.shape (events v w) n) (events u v) (begins u) stops.1 in (
-      record {
-        drained = to_w;
-        traced = let i = h.traced in omega (arith, one, none, i);
-        rescanned = let i = h.rescanned in omega (arith, s1, z, i);
-        swept = h.swept;
-        most = h.most;
-        stops = subst (λ x. StopsFor x quota helped.traced u w) (sym e) (stops.0, moment);
-      },
-      subst (λ x. EndsAt x u w) (sym e)
-          (and_from _ _
-          (and_from _ _ (ap (not_followed (sees_last_card (card_count u.shape)) clears) es ∙ not-followed-later (sees_last_card (card_count u.shape)) clears (events u v) (events v w) (seen-last (sees_last_card (card_count u.shape)) clears (events v w) last n)) moment)
-          (ap (meets_cards (card_count u.shape)) es ∙ meets-join (card_count u.shape) (events u v) (events v w) met over)),
-    )
-
-pub ends-other : (h : HelpEnd) (v w : View) → (h ≡ NoWork → ⊥) → EndsAt h v w
-ends-other NoWork v w n = absurd (n refl)
-ends-other Quota v w n = tt
-ends-other NoPacket v w n = tt
-ends-other Swept v w n = tt
 
 -- the floor of the counter of cards
 stills : Step → Bool

@@ -1,5 +1,5 @@
 -- Changes of the statistics, over the events of calls one after another.
-use Rattle.std.proofs.Common.{ℕ, ◌≡◌, List, [], ◌∷◌, ◌++◌, refl, sym, ap, ◌∙◌, subst, true, false, Some, None, Option, is_some, ⊎_elim, ◌⊎◌, inl, inr}
+use Rattle.std.proofs.Common.{ℕ, ◌≡◌, List, [], ◌∷◌, ◌++◌, refl, sym, ap, ◌∙◌, subst, true, Some, None, Option, is_some, ⊎_elim, ◌⊎◌, inl, inr}
 use Rattle.std.proofs.lemmas.Bool.{false≢true, true≢false}
 use Rattle.mark_core.specs.declared.kinds.Step.{Step}
 use Rattle.mark_core.specs.declared.kinds.Step.TheVariants.{AddStat, Reset}

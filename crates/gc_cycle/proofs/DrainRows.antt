@@ -1,5 +1,5 @@
 -- Drains, computed.
-use Rattle.std.proofs.Common.{ℕ, ◌≡◌, ◌<◌, arith, refl, sym, ap, inl, List, [], ◌∷◌, ◌++◌, Bool, true, false}
+use Rattle.std.proofs.Common.{ℕ, ◌≡◌, arith, refl, sym, ap, inl, List, [], ◌∷◌, ◌++◌, Bool, true, false}
 use Rattle.std.proofs.lemmas.Bool.{true≢false}
 use Rattle.mark_core.specs.declared.kinds.Phase.TheVariants.{Clear, Drain, Sweep}
 use Rattle.mark_core.specs.declared.kinds.Step.{Step}

@@ -1,14 +1,8 @@
 -- Steps that change no statistic.
-use Rattle.std.proofs.Common.{ℕ, ◌≡◌, [], ◌∷◌, refl, true, false}
+use Rattle.std.proofs.Common.{◌≡◌, refl, true}
 use Rattle.std.proofs.lemmas.Bool.{false≢true}
-use Rattle.mark_core.specs.declared.kinds.Phase.TheVariants.{Marking}
 use Rattle.mark_core.specs.declared.kinds.Step.{Step}
-use Rattle.mark_core.specs.declared.kinds.Step.TheVariants.{AddStat, Reset, StorePhase}
-use Rattle.gc_table.specs.Log.{Only}
-use Rattle.gc_table.specs.Running.{Ran}
-use Rattle.gc_table.specs.Taking.{after}
-use Rattle.gc_table.specs.declared.view.View.{View}
-use Rattle.gc_table.proofs.Log.{only-after}
+use Rattle.mark_core.specs.declared.kinds.Step.TheVariants.{AddStat, Reset}
 use Rattle.stop_world.specs.Waiting.{watches}
 use Rattle.gc_cycle.specs.Lower.{sweeps_next, traces_cells}
 use Rattle.gc_cycle.specs.Pacing.{kicks}

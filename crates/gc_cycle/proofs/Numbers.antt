@@ -1,16 +1,14 @@
 -- What a claim, a payment and a cache given up do to the statistics.
-use Rattle.std.proofs.Common.{ℕ, ◌≡◌, List, [], ◌∷◌, ◌++◌, refl, ap, ◌∙◌, Bool, true, false, Some, None, Option, inl, inr}
+use Rattle.std.proofs.Common.{ℕ, ◌≡◌, List, [], ◌∷◌, ◌++◌, refl, ap, ◌∙◌, Bool, true, false, Some, None, Option, inr}
 use Rattle.std.specs.Prelude.{◌==◌, if◌then◌else◌, IfNone, IfSome}
 use Rattle.std.specs.Int.Count.{ones}
 use Rattle.std.proofs.lemmas.Bool.{false≢true}
-use Rattle.mark_core.specs.MutatorSteps.{used_bits}
 use Rattle.mark_core.specs.declared.kinds.Step.{Step}
 use Rattle.mark_core.specs.declared.kinds.Step.TheVariants.{AddStat, PublishCells, ReleaseBlock, Reset}
 use Rattle.gc_table.specs.Log.{events, Only, steps_of}
 use Rattle.gc_table.specs.Running.{Ran}
 use Rattle.gc_table.specs.declared.view.Entry.{Entry}
 use Rattle.gc_table.specs.declared.view.View.{View}
-use Rattle.packet_pools.specs.Fields.{picked}
 use Rattle.packet_pools.proofs.Reading.{picked-join}
 use Rattle.alloc_cache.specs.Claiming.{claimed_by, Claims, seeks_block}
 use Rattle.alloc_cache.specs.Retiring.{retiring_steps}

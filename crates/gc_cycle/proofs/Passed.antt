@@ -1,5 +1,5 @@
 -- A mutator that doesn't wait: at a safe point, at the gate, and on the way to a cache.
-use Rattle.std.proofs.Common.{ℕ, ◌≡◌, ◌<◌, [], ◌∷◌, ◌++◌, refl, sym, ap, ◌∙◌, subst, Bool, true, false, not, Some, None, Option, is_some}
+use Rattle.std.proofs.Common.{ℕ, ◌≡◌, ◌<◌, ◌∷◌, ◌++◌, refl, sym, ap, ◌∙◌, subst, Bool, true, false, not, Some, None, Option, is_some}
 use Rattle.std.specs.Prelude.{if◌then◌else◌, IfNone, IfSome}
 use Rattle.std.proofs.lemmas.Bool.{false≢true, not-true}
 use Rattle.mark_core.specs.Bits.{has_flag}

@@ -1,5 +1,5 @@
 -- What a mutator's rounds do to the statistics.
-use Rattle.std.proofs.Common.{◌≡◌, List, [], ◌∷◌, ◌++◌, refl, sym, ap, subst, true, Some, None, Option, ⊎_elim, ◌⊎◌, inl, inr}
+use Rattle.std.proofs.Common.{◌≡◌, List, [], ◌∷◌, ◌++◌, refl, sym, subst, Some, None, Option, ⊎_elim, inl, inr}
 use Rattle.mark_core.specs.declared.kinds.Step.{Step}
 use Rattle.mark_core.specs.declared.kinds.Step.TheVariants.{DropStep, ReadPhase}
 use Rattle.gc_table.specs.Running.{Ran}

@@ -1,5 +1,5 @@
 -- The steps of a seat that is alone, and counts and sets the numbers for the next cycle.
-use Rattle.std.proofs.Common.{ℕ, ◌≡◌, ◌<◌, ◌≤◌, ◌+◌, ◌/◌, suc, zero, arith, refl, sym, ap, ◌∙◌, subst, Bool, true, false, not, ◌&&◌, ◌||◌, Some, None, Option, is_some, cond, eqb, eq-eqb, eqb-true, ⊎_elim, inl, inr}
+use Rattle.std.proofs.Common.{ℕ, ◌≡◌, ◌<◌, ◌≤◌, ◌+◌, suc, zero, arith, refl, sym, ap, ◌∙◌, subst, Bool, true, false, not, ◌&&◌, ◌||◌, Some, None, Option, is_some, cond, eqb, eq-eqb, eqb-true, ⊎_elim, inl, inr}
 use Rattle.std.specs.Prelude.{◌==◌, if◌then◌else◌, bit_and, is_none, unwrap_or}
 use Rattle.std.specs.Int.Count.{ones}
 use Rattle.std.proofs.lemmas.Bool.{and_from, and_parts, cases_eq, false≢true, le-leb, lt-ltb, ne_eqb, not-false, not-true, or_from, or_left, or_parts, or_right, true≢false}

@@ -1,5 +1,5 @@
 -- Changes of the statistics, computed.
-use Rattle.std.proofs.Common.{ℕ, ◌≡◌, refl, sym, ap, List, [], ◌∷◌, ◌++◌, Bool, true, false, Some, None, inl}
+use Rattle.std.proofs.Common.{◌≡◌, refl, sym, ap, List, [], ◌∷◌, ◌++◌, Bool, true, false, Some, None}
 use Rattle.std.specs.Prelude.{◌==◌, ◌&&◌}
 use Rattle.std.specs.Int.Count.{ones}
 use Rattle.std.proofs.lemmas.Bool.{true≢false}
@@ -8,9 +8,8 @@ use Rattle.mark_core.specs.declared.kinds.Step.{Step}
 use Rattle.mark_core.specs.declared.kinds.Step.TheVariants.{AddStat, ClaimBlock, PublishCells, ReadFree, ReadPhase, ReadStat, ReleaseBlock, Reset, StorePhase}
 use Rattle.gc_table.specs.Log.{all_steps}
 use Rattle.gc_table.specs.declared.view.Entry.{Entry}
-use Rattle.gc_table.specs.declared.view.View.{View}
 use Rattle.alloc_cache.specs.declared.cache.Cache.{Cache}
-use Rattle.gc_cycle.specs.Statistics.{ChangesBy, ChangesNumbers, EndsCycle, given_up, gives_back, GivesUp, leaves_numbers, numbers_changed, taken, takes_off, tells}
+use Rattle.gc_cycle.specs.Statistics.{ChangesNumbers, EndsCycle, given_up, gives_back, GivesUp, leaves_numbers, numbers_changed, taken, takes_off, tells}
 use Rattle.gc_cycle.proofs.Changes.{by-none, keeps-up, numbers-one}
 use Rattle.gc_cycle.proofs.Trials.{did, marker, seen_by, stopper}
 

@@ -1,12 +1,15 @@
 -- What a helper does of a drain and of a sweep.
-use Rattle.std.specs.Prelude.{ℕ, ◌≡◌, ◌≢◌, ◌≤◌, ◌+◌, ◌&&◌, List, Bool, IsTrue}
+use Rattle.std.specs.Prelude.{ℕ, ◌≡◌, ◌≢◌, ◌≤◌, ◌+◌, ◌&&◌, ◌⊎◌, List, Bool, IsTrue, IsFalse}
 use Rattle.mark_core.specs.Cards.{card_cells}
 use Rattle.mark_core.specs.Layout.{block_count}
 use Rattle.mark_core.specs.declared.kinds.Shape.{Shape}
+use Rattle.mark_core.specs.declared.kinds.Step.TheVariants.{ReadCard}
 use Rattle.gc_table.specs.declared.view.Entry.{Entry}
 use Rattle.gc_table.specs.declared.view.View.{View}
 use Rattle.gc_table.specs.Log.{Only, events}
 use Rattle.gc_table.specs.Running.{Ran}
+use Rattle.gc_table.specs.Seats.{Answered}
+use Rattle.gc_table.specs.Taking.{won}
 use Rattle.packet_pools.specs.Counts.{count_of}
 use Rattle.packet_pools.specs.Seeking.{some_event}
 use Rattle.tracer.specs.declared.traced.Stopped.{Stopped}
@@ -53,7 +56,7 @@ pub record HelpsOn (quota : ℕ) (helped : Helped) (v w : View) : Type 0 where
   pub most : helped.traced ≤ quota
   pub stops : StopsFor helped.ended quota helped.traced v w
 
--- where there was no work left, each card given out was cleaned, and the pass was at its end
+-- where there was no work left, each card given out was cleaned or found clean, and the pass was at its end
 abbrev pub EndsAt : HelpEnd → View → View → Type 0
 EndsAt NoWork v w = IsTrue (helped_to_the_end v.shape (begins v) (events v w))
 EndsAt ended v w = Unit {0}
@@ -72,6 +75,17 @@ pub record CleansOn (quota card : ℕ) (before after : Helped) (v w : View) : Ty
   pub stops : StopsFor after.ended quota after.traced v w
   pub undrawn : IsTrue (never draws (events v w))
   pub cleaned : after.ended ≡ NoWork → IsTrue (some_event (clears_card card) (events v w))
+
+-- the card was found dirty by one look, and cleaned, and tracing went on
+pub record CleansDirty (quota card : ℕ) (before after : Helped) (v w : View) : Type 0 where
+  pub looked : View
+  pub looks : Answered (ReadCard card) (λ n. IsTrue (won (ReadCard card) n)) v looked
+  pub cleans : CleansOn quota card before after looked w
+
+-- the card was found clean by one look, and nothing else was done; or it was dirty, and seen to
+abbrev pub SeesToCard : ℕ → ℕ → Helped → Helped → View → View → Type 0
+SeesToCard quota card before after v w =
+    ((after ≡ before) × Answered (ReadCard card) (λ n. IsFalse (won (ReadCard card) n)) v w) ⊎ CleansDirty quota card before after v w
 
 -- blocks were swept until none was left
 pub record SweepsOn (helped : Helped) (v w : View) : Type 0 where

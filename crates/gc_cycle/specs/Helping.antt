@@ -16,7 +16,7 @@ use Rattle.gc_cycle.specs.declared.counts.Helped.{Helped}
 use Rattle.gc_cycle.specs.declared.counts.HelpEnd.{HelpEnd}
 use Rattle.gc_cycle.specs.declared.counts.HelpEnd.TheVariants.{Quota, NoWork, NoPacket, Swept}
 use Rattle.gc_cycle.specs.Events.{never, not_followed}
-use Rattle.gc_cycle.specs.Sorts.{clears, clears_card, gets_block, pops, sees_last_block, sees_last_card}
+use Rattle.gc_cycle.specs.Sorts.{clears, gets_block, pops, sees_last_block, sees_last_card, sees_to_card}
 use Rattle.gc_cycle.specs.Moments.{Moment, at_some_moment, begins, finds_no_room, finds_no_work, total_of}
 
 -- how many objects were scanned again
@@ -27,17 +27,17 @@ rescanned_in v es = total_of rescans v es
 abbrev pub freed_in : View → List Entry → ℕ
 freed_in v es = total_of frees v es
 
--- the event gave out a card, which these later events clear
+-- the event gave out a card, which these later events clear, or find clean
 abbrev pub meets_card : ℕ → Step → ℕ → List Entry → Bool
-meets_card cards NextOfCards found later = not (nat_lt found cards) || some_event (clears_card found) later
+meets_card cards NextOfCards found later = not (nat_lt found cards) || some_event (sees_to_card found) later
 meets_card cards step found later = true
 
--- each card that was given out was cleared later
+-- each card that was given out was cleared later, or found clean
 abbrev pub meets_cards : ℕ → List Entry → Bool
 meets_cards cards [] = true
 meets_cards cards (e ∷ es) = meets_card cards e.step e.found es && meets_cards cards es
 
--- after the last card that was cleared, the counter of cards was at its end; nothing was left in hand and there was no packet to read from; and each card given out was cleared
+-- after the last card that was cleared, the counter of cards was at its end; nothing was left in hand and there was no packet to read from; and each card given out was cleared, or found clean
 abbrev pub helped_to_the_end : Shape → Moment → List Entry → Bool
 helped_to_the_end sh m es =
     not_followed (sees_last_card (card_count sh)) clears es

@@ -1,5 +1,5 @@
 -- The numbers that pace a cycle, as a call read and changed them.
-use Rattle.std.specs.Prelude.{ℕ, ◌≡◌, ◌+◌, ◌*◌, ◌==◌, ◌&&◌, not, if◌then◌else◌, min, nat_le, nat_lt, List, [], ◌∷◌, Bool, true, false, Option, Some, None}
+use Rattle.std.specs.Prelude.{ℕ, ◌≡◌, ◌+◌, ◌*◌, ◌==◌, ◌&&◌, ◌||◌, not, if◌then◌else◌, min, nat_le, nat_lt, List, [], ◌∷◌, Bool, true, false, Option, Some, None}
 use Rattle.mark_core.specs.Cells.{or_else}
 use Rattle.mark_core.specs.declared.kinds.Phase.TheVariants.{Idle, Marking}
 use Rattle.mark_core.specs.declared.kinds.Step.{Step}
@@ -48,6 +48,18 @@ quota_by cells last rescanned traced free = None
 -- the quota for a cache of so many free cells, by the numbers as read last
 abbrev pub quota_seen : ℕ → List Entry → Option ℕ
 quota_seen cells es = quota_by cells (last_read 2 es) (last_read 3 es) (last_read 4 es) (last_read 5 es)
+
+-- a cycle is far on by these numbers: seven eighths of what the last one traced are traced, or hardly a cell is free
+abbrev pub late : ℕ → ℕ → ℕ → Bool
+late last traced free = nat_le (7 * last) (8 * traced) || nat_le (64 * free) last
+
+abbrev pub late_by : Option ℕ → Option ℕ → Option ℕ → Option Bool
+late_by (Some last) (Some traced) (Some free) = Some (late last traced free)
+late_by last traced free = None
+
+-- whether it was, by the numbers as read last
+abbrev pub late_seen : List Entry → Option Bool
+late_seen es = late_by (last_read 2 es) (last_read 4 es) (last_read 5 es)
 
 -- a try to begin a cycle
 abbrev pub tries_marking : Step → ℕ → Bool

@@ -6,8 +6,8 @@ use Rattle.mark_core.specs.Seats.{is_phase, phase_of, saw}
 use Rattle.mark_core.specs.declared.kinds.Phase.{Phase}
 use Rattle.mark_core.specs.declared.kinds.Phase.TheVariants.{Idle, Drain, Sweep, Clear, Full}
 use Rattle.mark_core.specs.declared.kinds.Step.{Step}
-use Rattle.mark_core.specs.declared.kinds.Step.TheVariants.{ReadCount, ReadAlloc, ReadRoot, ClearCard, ReadPhase, StoreField, StoreValue, StoreRoot, StoreNew, ClaimBlock, EnterStep, LeaveStep, RaiseStep, Observe, DropStep, StorePhase, NextBlock, NextOfCards, StoreNamed, AddStat, ReadStat, OpenStep, JoinHelpStep}
-use Rattle.gc_table.specs.Taking.{moves_from}
+use Rattle.mark_core.specs.declared.kinds.Step.TheVariants.{ReadCount, ReadAlloc, ReadRoot, ClearCard, ReadCard, ReadPhase, StoreField, StoreValue, StoreRoot, StoreNew, ClaimBlock, EnterStep, LeaveStep, RaiseStep, Observe, DropStep, StorePhase, NextBlock, NextOfCards, StoreNamed, AddStat, ReadStat, OpenStep, JoinHelpStep}
+use Rattle.gc_table.specs.Taking.{moves_from, won}
 pub use Rattle.tracer.specs.Roots.{shows_marked}
 pub use Rattle.tracer.specs.Tally.{pops}
 
@@ -128,6 +128,12 @@ clears step found = false
 abbrev pub clears_card : ℕ → Step → ℕ → Bool
 clears_card card (ClearCard c) found = c == card
 clears_card card step found = false
+
+-- this card was cleared, or a look found it clean
+abbrev pub sees_to_card : ℕ → Step → ℕ → Bool
+sees_to_card card (ClearCard c) found = c == card
+sees_to_card card (ReadCard c) found = (c == card) && not (won (ReadCard c) found)
+sees_to_card card step found = false
 
 -- the counter of cards was raised
 abbrev pub draws : Step → ℕ → Bool

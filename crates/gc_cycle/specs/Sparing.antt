@@ -1,5 +1,5 @@
 -- What the calls of the collector leave of a part that is being played.
-use Rattle.std.specs.Prelude.{ℕ, ◌==◌, not, Bool, true, false, Some}
+use Rattle.std.specs.Prelude.{◌==◌, not, Bool, true, false, Some}
 use Rattle.mark_core.specs.Numbers.{done_count}
 use Rattle.mark_core.specs.Seats.{saw}
 use Rattle.mark_core.specs.declared.kinds.Phase.TheVariants.{Full}

@@ -44,7 +44,7 @@ pub(crate) fn begin_drain(heap: &Heap, seat: &mut HeapSeat)
     heap.reset(seat, CARD_COUNTER);
 }
 
-/// One round: what was put off, so many objects of the packets, and all cards. How many objects were scanned again.
+/// One round: what was deferred, so many objects of the packets, and all cards. How many objects were scanned again.
 pub(crate) fn drain_round(heap: &Heap, seat: &mut HeapSeat, quota: u32) -> u32
     requires seat { Sits heap.now seat.old }
     requires alone { IsAloneIn Drain (view_of seat.old) }

@@ -4,11 +4,13 @@ ghost use Rattle.std.specs.Bool.{OnFalse, OnTrue};
 ghost use Rattle.mark_core.specs.Cards.{card_cells};
 ghost use Rattle.mark_core.specs.Layout.{card_count};
 ghost use Rattle.mark_core.specs.declared.kinds.Phase.TheVariants.{Drain, Sweep};
-ghost use Rattle.gc_table.specs.Seats.{Across, did, Sits, state_of, view_of};
+ghost use Rattle.mark_core.specs.declared.kinds.Step.TheVariants.{ReadCard};
+ghost use Rattle.gc_table.specs.Seats.{Across, Answered, did, Sits, state_of, view_of};
 ghost use Rattle.gc_table.specs.Log.{Only};
 ghost use Rattle.gc_table.specs.Running.{Ran};
+ghost use Rattle.gc_table.specs.Taking.{won};
 ghost use Rattle.gc_cycle.specs.Cycles.{never_fills};
-ghost use Rattle.gc_cycle.specs.Draining.{CleansOn, EndsAs, HelpsOn, SweepsOn, end_as};
+ghost use Rattle.gc_cycle.specs.Draining.{CleansOn, EndsAs, HelpsOn, SeesToCard, SweepsOn, end_as};
 ghost use Rattle.gc_cycle.specs.Events.{never};
 ghost use Rattle.gc_cycle.specs.Helping.{HelpsAs};
 ghost use Rattle.gc_cycle.specs.Mutating.{stays_calm};
@@ -75,9 +77,9 @@ fn help_sweep(heap: &Heap, seat: &mut HeapSeat) -> Helped
     }
 }
 
-/// Traces, and cleans cards where there is no packet to trace from, until neither is left or the quota is spent.
+/// Traces, and sees to cards where there is no packet to trace from, until neither is left or the quota is spent.
 ///
-/// It looks for packets again after each card, since cleaning fills packets.
+/// It looks for packets again after each card that was dirty, since cleaning fills packets.
 fn help_drain(heap: &Heap, seat: &mut HeapSeat, quota: u32) -> Helped
     requires seat { Sits heap.now seat.old × Helps (view_of seat.old) }
     requires drain { (state_of seat.old).phase_seen ≡ Some Drain }
@@ -96,9 +98,36 @@ fn help_drain(heap: &Heap, seat: &mut HeapSeat, quota: u32) -> Helped
         let Some(card) = next_card(heap, seat) else {
             return helped;
         };
-        helped = clean_on(heap, seat, quota, card, helped);
+        helped = see_to_card(heap, seat, quota, card, helped);
     }
     helped
+}
+
+/// Whether a card is dirty: one look, and no packet.
+fn is_dirty(heap: &Heap, seat: &mut HeapSeat, card: u32) -> bool
+    requires seat { Sits heap.now seat.old × Helps (view_of seat.old) }
+    requires drain { (state_of seat.old).phase_seen ≡ Some Drain }
+    requires card { card < card_count heap.now.shape }
+    ensures seat { Sits heap.now seat.new }
+    ensures looks { Across (Answered (ReadCard card) (λ n. result ≡ won (ReadCard card) n)) seat.old seat.new }
+{
+    heap.read_card(seat, card)
+}
+
+/// Sees to a card, after what was done before: a dirty one is cleaned, and what it leads to is traced. A clean one costs a look.
+fn see_to_card(heap: &Heap, seat: &mut HeapSeat, quota: u32, card: u32, before: Helped) -> Helped
+    requires seat { Sits heap.now seat.old × Helps (view_of seat.old) }
+    requires drain { (state_of seat.old).phase_seen ≡ Some Drain }
+    requires card { card < card_count heap.now.shape }
+    requires quota { (before.traced ≤ quota) × (before.traced ≢ quota) }
+    requires room { before.rescanned + card_cells < 4294967296 }
+    ensures seat { Sits heap.now seat.new }
+    ensures sees { Across (SeesToCard quota card before result) seat.old seat.new }
+{
+    if !is_dirty(heap, seat, card) {
+        return before;
+    }
+    clean_on(heap, seat, quota, card, before)
 }
 
 /// Cleans a card and traces on, after what was done before.

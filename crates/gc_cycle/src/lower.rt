@@ -22,7 +22,7 @@ ghost use Rattle.gc_cycle.specs.Finishing.{IsAloneIn, IsPart};
 ghost use Rattle.gc_cycle.specs.Helping.{freed_in, meets_cards, rescanned_in};
 ghost use Rattle.gc_cycle.specs.Lower.{DrawsCard, EndsTrace, HasTraced, ScansRoots, block_floor, sweeps_blocks, sweeps_next, traces_cells};
 ghost use Rattle.gc_cycle.specs.Moments.{at_some_moment, begins, finds_no_room};
-ghost use Rattle.gc_cycle.specs.Sorts.{clears, clears_card, draws, draws_or_clears, gets_block, pops, reads_pace, reads_root, sees_last_block};
+ghost use Rattle.gc_cycle.specs.Sorts.{clears, clears_card, draws, draws_or_clears, gets_block, pops, reads_pace, reads_root, sees_last_block, sees_to_card};
 ghost use Rattle.gc_cycle.specs.Standing.{is_at_rest};
 ghost use Rattle.gc_cycle.specs.Stepping.{LacksPacket};
 
@@ -50,7 +50,7 @@ pub(crate) fn trace(heap: &Heap, seat: &mut HeapSeat, quota: u32) -> Traced
     tracer::trace(heap, seat, quota)
 }
 
-/// Takes the packets that were put off back into their pools.
+/// Takes the deferred packets back into their pools.
 pub(crate) fn recycle_deferred(heap: &Heap, seat: &mut HeapSeat) -> u32
     requires seat { Sits heap.now seat.old × IsTrue (traces (view_of seat.old)) }
     requires rest { IsTrue (is_at_rest heap.now.shape (state_of seat.old)) }
@@ -106,7 +106,7 @@ pub(crate) fn is_drained(heap: &Heap, seat: &mut HeapSeat) -> bool
     card_clean::is_drained(heap, seat)
 }
 
-/// Marks what the roots of all sections refer to, where a packet can be had for it. Where none can, what was put off is brought back, which is all
+/// Marks what the roots of all sections refer to, where a packet can be had for it. Where none can, what was deferred is brought back, which is all
 /// that can keep packets from a seat that is alone.
 pub(crate) fn sees_to_roots(heap: &Heap, seat: &mut HeapSeat) -> bool
     requires seat { Sits heap.now seat.old }
@@ -127,7 +127,7 @@ pub(crate) fn sees_to_roots(heap: &Heap, seat: &mut HeapSeat) -> bool
 
 /// Marks what the roots of all sections refer to, for a seat that is alone, until each is nil or marked.
 ///
-/// It ends because nobody else is there: each packet is then in a pool, and once those that were put off are back one of them can be had.
+/// It ends because nobody else is there: each packet is then in a pool, and once the deferred ones are back one of them can be had.
 pub(crate) fn see_to_roots<R: Wait>(rt: &R, heap: &Heap, seat: &mut HeapSeat)
     requires seat { Sits heap.now seat.old }
     requires alone { IsAloneIn Drain (view_of seat.old) × (look the_next_block (view_of seat.old).known ≡ Some 0) }
@@ -154,7 +154,7 @@ pub(crate) fn next_card(heap: &Heap, seat: &mut HeapSeat) -> Option<u32>
     ensures state { state_of seat.new ≡ record (state_of seat.old) { below_card = false } }
     ensures draws { Across (DrawsCard result) seat.old seat.new }
     ensures rises { IfSome result (λ card. IsTrue (state_of seat.old).admitted → (card_floor (view_of seat.old) ≤ card) × (card_floor (view_of seat.new) ≡ card + 1)) }
-    ensures met { IfSome result (λ card. (later : List Entry) → IsTrue (some_event (clears_card card) later) → IsTrue (meets_cards (card_count heap.now.shape) later) → IsTrue (meets_cards (card_count heap.now.shape) (did seat.old seat.new ++ later))) }
+    ensures met { IfSome result (λ card. (later : List Entry) → IsTrue (some_event (sees_to_card card) later) → IsTrue (meets_cards (card_count heap.now.shape) later) → IsTrue (meets_cards (card_count heap.now.shape) (did seat.old seat.new ++ later))) }
     ensures over { IfNone result (IsTrue (meets_cards (card_count heap.now.shape) (did seat.old seat.new))) }
     ensures rescanned { rescanned_in (view_of seat.old) (did seat.old seat.new) ≡ 0 }
     ensures uncleared { IsTrue (never clears (did seat.old seat.new)) }

@@ -1,8 +1,9 @@
 //! What a mutator pays for its cache while a cycle is marking.
 //!
 //! It marks the roots of its own section and traces a quota of objects, which is larger the fewer cells are free. So marking keeps pace with allocation: Barabash
-//! and others, *A parallel, incremental, mostly concurrent garbage collector for servers*, 2005. Where it finds no packet to trace from it cleans cards, which
-//! fills packets again, and at last it brings back what was put off.
+//! and others, *A parallel, incremental, mostly concurrent garbage collector for servers*, 2005. Where it finds no packet to trace from, and the cycle is far on,
+//! it cleans cards, which fills packets again; and at last it brings back what was deferred. A card that is cleaned early is dirtied again, and then the stop
+//! cleans it.
 ghost use Rattle.std.specs.Prelude.{◌≡◌, ◌<◌, ◌≤◌, Some, IfSome, IfNone};
 ghost use Rattle.mark_core.specs.Layout.{card_count};
 ghost use Rattle.mark_core.specs.declared.kinds.Phase.TheVariants.{Marking};
@@ -11,12 +12,12 @@ ghost use Rattle.gc_table.specs.PlainSteps.{own_section};
 ghost use Rattle.gc_table.specs.Running.{Ran};
 ghost use Rattle.gc_table.specs.Seats.{Across, did, Sits, state_of, view_of};
 ghost use Rattle.gc_cycle.specs.Payment.{HasPaid, MarksAndTraces, TracesNone, TracesOn, reads_number, stop_of};
-ghost use Rattle.gc_cycle.specs.Pacing.{quota_seen};
+ghost use Rattle.gc_cycle.specs.Pacing.{late_seen, quota_seen};
 ghost use Rattle.gc_cycle.specs.Standing.{Mutates};
 
 use crate::counts::Paid;
 use crate::lower::{clean, next_card, recycle_deferred, scan_roots, trace};
-use crate::pace::read_statistic;
+use crate::pace::{is_late, read_statistic};
 use crate::quota::quota_of;
 use gc_table::{Heap, HeapSeat};
 use mark_core::{CARD_CELLS, FREE, LAST, RESCANNED, TRACED};
@@ -35,31 +36,35 @@ pub(crate) fn pay(heap: &Heap, seat: &mut HeapSeat, cells: u32) -> Paid
     ensures paid { Across (HasPaid cells result) seat.old seat.new }
     ensures own { (view_of seat.new).own ≡ (view_of seat.old).own }
 {
-    let quota = quota_now(heap, seat, cells);
-    let paid = mark_and_trace(heap, seat, quota);
+    let (quota, late) = quota_now(heap, seat, cells);
+    let paid = mark_and_trace(heap, seat, quota, late);
     heap.add_stat(seat, TRACED, paid.done, false);
     paid
 }
 
-/// The quota for a cache of `cells` free cells, by the numbers as they are now.
-fn quota_now(heap: &Heap, seat: &mut HeapSeat, cells: u32) -> u32
+/// The quota for a cache of `cells` free cells, and whether the cycle is far on, by the numbers as they are now.
+fn quota_now(heap: &Heap, seat: &mut HeapSeat, cells: u32) -> (u32, bool)
     requires seat { Sits heap.now seat.old }
     requires cells { cells ≤ 64 }
     ensures seat { Sits heap.now seat.new }
     ensures ran { Across Ran seat.old seat.new }
     ensures only { Across (Only reads_number) seat.old seat.new }
     ensures state { state_of seat.new ≡ state_of seat.old }
-    ensures quota { quota_seen cells (did seat.old seat.new) ≡ Some result }
+    ensures quota { quota_seen cells (did seat.old seat.new) ≡ Some result.0 }
+    ensures late { late_seen (did seat.old seat.new) ≡ Some result.1 }
 {
     let last = read_statistic(heap, seat, LAST);
     let rescanned = read_statistic(heap, seat, RESCANNED);
     let traced = read_statistic(heap, seat, TRACED);
     let free = read_statistic(heap, seat, FREE);
-    quota_of(cells, last, rescanned, traced, free)
+    (
+        quota_of(cells, last, rescanned, traced, free),
+        is_late(last, traced, free),
+    )
 }
 
 /// Marks the roots of the seat's section, and traces a quota. Where no packet can be taken, nothing is done.
-fn mark_and_trace(heap: &Heap, seat: &mut HeapSeat, quota: u32) -> Paid
+fn mark_and_trace(heap: &Heap, seat: &mut HeapSeat, quota: u32, late: bool) -> Paid
     requires seat { Sits heap.now seat.old × Mutates (view_of seat.old) }
     requires marking { (state_of seat.old).phase_seen ≡ Some Marking }
     ensures seat { Sits heap.now seat.new }
@@ -72,7 +77,7 @@ fn mark_and_trace(heap: &Heap, seat: &mut HeapSeat, quota: u32) -> Paid
             done: 0,
             stopped: stopped_at(quota),
         },
-        RootScan::Done { marked: _ } => pay_quota(heap, seat, quota),
+        RootScan::Done { marked: _ } => pay_quota(heap, seat, quota, late),
     }
 }
 
@@ -87,22 +92,23 @@ fn stopped_at(quota: u32) -> Stopped
     }
 }
 
-/// Traces a quota. Where there is no packet to trace from in the end, what was put off is brought back.
-fn pay_quota(heap: &Heap, seat: &mut HeapSeat, quota: u32) -> Paid
+/// Traces a quota. Where there is no packet to trace from in the end, what was deferred is brought back.
+fn pay_quota(heap: &Heap, seat: &mut HeapSeat, quota: u32, late: bool) -> Paid
     requires seat { Sits heap.now seat.old × Mutates (view_of seat.old) }
     requires marking { (state_of seat.old).phase_seen ≡ Some Marking }
     ensures seat { Sits heap.now seat.new }
     ensures traces { Across (TracesOn quota 0 result) seat.old seat.new }
 {
-    let paid = trace_and_clean(heap, seat, quota);
+    let paid = trace_and_clean(heap, seat, quota, late);
     if let Stopped::NoWork = paid.stopped {
         recycle_deferred(heap, seat);
     }
     paid
 }
 
-/// Traces a quota. Where there is no packet to trace from, cards are cleaned until there is one: each at most once, since the counter of cards may be reset meanwhile.
-fn trace_and_clean(heap: &Heap, seat: &mut HeapSeat, quota: u32) -> Paid
+/// Traces a quota. Where there is no packet to trace from and the cycle is far on, cards are cleaned until there is one: each at most once, since the counter of
+/// cards may be reset meanwhile.
+fn trace_and_clean(heap: &Heap, seat: &mut HeapSeat, quota: u32, late: bool) -> Paid
     requires seat { Sits heap.now seat.old × Mutates (view_of seat.old) }
     requires marking { (state_of seat.old).phase_seen ≡ Some Marking }
     ensures seat { Sits heap.now seat.new }
@@ -114,7 +120,12 @@ fn trace_and_clean(heap: &Heap, seat: &mut HeapSeat, quota: u32) -> Paid
         done: first.done,
         stopped: first.stopped,
     };
-    for _card in 0..heap.shape().cells / CARD_CELLS {
+    let most = if late {
+        heap.shape().cells / CARD_CELLS
+    } else {
+        0
+    };
+    for _card in 0..most {
         let Stopped::NoWork = paid.stopped else {
             return paid;
         };

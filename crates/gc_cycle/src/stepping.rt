@@ -108,7 +108,7 @@ pub fn begin_collection(heap: &Heap, seat: &mut HeapSeat) -> bool
     true
 }
 
-/// Marks what the roots refer to. False comes only where no packet could be had: those that were put off are back then, and it is to be called again.
+/// Marks what the roots refer to. False comes only where no packet could be had: the deferred ones are back then, and it is to be called again.
 pub fn root_step(heap: &Heap, seat: &mut HeapSeat) -> bool
     requires seat { Sits heap.now seat.old }
     requires roots { SeesRoots (view_of seat.old) }

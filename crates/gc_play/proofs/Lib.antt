@@ -15,3 +15,4 @@ pub mod Tending
 pub mod Rounds
 pub mod Seasons
 pub mod Outside
+pub mod Looking

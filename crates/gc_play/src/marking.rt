@@ -13,6 +13,7 @@ ghost use Rattle.gc_play.specs.Tending.{Marks, Tended};
 ghost use Rattle.gc_play.specs.Turns.{IsOne, TracesInside, traces_on};
 
 use card_clean::{clean_one, next_card};
+use gc_cycle::is_far_on;
 use gc_table::{Heap, HeapSeat};
 use mark_core::TRACED;
 use tracer::{Stopped, Traced, recycle_deferred, trace};
@@ -104,14 +105,34 @@ fn clean_cards(heap: &Heap, seat: &mut HeapSeat)
     }
 }
 
-/// Cleans the cards of a turn, where a trace ended since there was nothing to trace.
+/// Whether the cycle is far on.
+fn is_late(heap: &Heap, seat: &mut HeapSeat) -> bool
+    requires { Marks heap.now seat.old }
+    ensures seat { Marks heap.now seat.new }
+    ensures tended { Across (Tended 0) seat.old seat.new }
+{
+    is_far_on(heap, seat)
+}
+
+/// Cleans the cards of a turn, where the cycle is far on: a card that is cleaned early is dirtied again, and then the stop cleans it.
+fn clean_late(heap: &Heap, seat: &mut HeapSeat)
+    requires { Marks heap.now seat.old }
+    ensures seat { Marks heap.now seat.new }
+    ensures tended { Across (Tended 0) seat.old seat.new }
+{
+    if is_late(heap, seat) {
+        clean_cards(heap, seat);
+    }
+}
+
+/// Cleans cards, where a trace ended since there was nothing to trace.
 fn clean_after(heap: &Heap, seat: &mut HeapSeat, stopped: Stopped)
     requires { Marks heap.now seat.old }
     ensures seat { Marks heap.now seat.new }
     ensures tended { Across (Tended 0) seat.old seat.new }
 {
     if let Stopped::NoWork = stopped {
-        clean_cards(heap, seat);
+        clean_late(heap, seat);
     }
 }
 

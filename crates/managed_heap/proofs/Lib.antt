@@ -9,3 +9,4 @@ mod Tried
 mod Turning
 mod Uncatalogued
 mod Visiting
+pub mod Looking

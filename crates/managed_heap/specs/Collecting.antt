@@ -5,7 +5,7 @@ use Rattle.gc_table.specs.Seats.{Sits, view_of}
 use Rattle.gc_table.specs.declared.seat.Heap.{Heap}
 use Rattle.gc_table.specs.declared.seat.HeapSeat.{HeapSeat}
 use Rattle.gc_cycle.specs.Collecting.{HoldsWorld}
-use Rattle.gc_cycle.specs.Stepping.{Asks, Drains, HasDrained, SeesRoots}
+use Rattle.gc_cycle.specs.Stepping.{Asks, Drains, HasDrained, HasSwept, SeesRoots, Sweeps}
 use Rattle.managed_heap.specs.Standing.{IsMutator}
 
 -- it has asked for a stop
@@ -37,3 +37,15 @@ pub record IsMarked (h : Heap) (s : HeapSeat) : Type 0 where
   pub sits : Sits h s
   pub mutator : IsMutator (view_of s)
   pub drained : HasDrained (view_of s)
+
+-- it sweeps
+pub record SweepsOn (h : Heap) (s : HeapSeat) : Type 0 where
+  pub sits : Sits h s
+  pub mutator : IsMutator (view_of s)
+  pub sweeps : Sweeps (view_of s)
+
+-- no block is left to sweep
+pub record IsSwept (h : Heap) (s : HeapSeat) : Type 0 where
+  pub sits : Sits h s
+  pub mutator : IsMutator (view_of s)
+  pub swept : HasSwept (view_of s)

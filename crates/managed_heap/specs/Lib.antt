@@ -1,3 +1,5 @@
+pub mod Asking
+pub mod Bounds
 pub mod Calls
 pub mod Collecting
 pub mod Halting
@@ -8,4 +10,5 @@ pub mod Sizing
 pub mod Standing
 pub mod Stepping
 pub mod Tracing
+pub mod Trying
 pub mod Turning

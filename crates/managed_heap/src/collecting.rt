@@ -1,20 +1,21 @@
 //! A collection that a mutator makes, step by step. No call waits.
-ghost use Rattle.std.specs.Prelude.{◌≡◌};
+ghost use Rattle.std.specs.Prelude.{◌≡◌, ◌≢◌, ◌≤◌};
 ghost use Rattle.std.specs.Bool.{OnFalse, OnTrue};
+ghost use Rattle.mark_core.specs.Layout.{block_count};
 ghost use Rattle.gc_table.specs.Rule.{KnowsFull};
-ghost use Rattle.gc_table.specs.Seats.{view_of};
-ghost use Rattle.managed_heap.specs.Collecting.{AsksStop, DrainsOn, HoldsStop, IsMarked, ScansRoots};
+ghost use Rattle.gc_table.specs.Seats.{Across, did, view_of};
+ghost use Rattle.packet_pools.specs.Counts.{count_of};
+ghost use Rattle.gc_cycle.specs.Sorts.{gets_block};
+ghost use Rattle.gc_cycle.specs.Stepping.{MakesRound};
+ghost use Rattle.managed_heap.specs.Collecting.{AsksStop, DrainsOn, HoldsStop, IsMarked, IsSwept, ScansRoots, SweepsOn};
 ghost use Rattle.managed_heap.specs.Standing.{Halts, Waits, plain_of};
 
 use gc_cycle::{
-    ask_to_stop, begin_collection, drain_again, drain_step, end_collection, finds_stopped,
-    root_step,
+    SweepStep, ask_to_stop, begin_collection, drain_again, drain_step, finds_stopped,
+    finish_collection, root_step, start_sweep, sweep_step,
 };
 use gc_table::{Heap, HeapSeat};
 use mark_core::Phase;
-
-/// How many objects a step of a drain pops at most.
-const STEP: u32 = 4_096;
 
 /// Asks for a stop. False where another's comes first, and then the seat is outside.
 pub fn asks(heap: &Heap, seat: &mut HeapSeat) -> bool
@@ -65,14 +66,15 @@ pub fn roots(heap: &Heap, seat: &mut HeapSeat) -> bool
     root_step(heap, seat)
 }
 
-/// Drains on. False where it is to be called again.
-pub fn drains(heap: &Heap, seat: &mut HeapSeat) -> bool
+/// Drains on, by so many objects. False where it is to be called again.
+pub fn drains(heap: &Heap, seat: &mut HeapSeat, most: u32) -> bool
     requires draining { DrainsOn heap.now seat.old }
     ensures drained { OnTrue result (IsMarked heap.now seat.new) }
     ensures not_yet { OnFalse result (DrainsOn heap.now seat.new) }
+    ensures round { OnFalse result (Across (MakesRound most) seat.old seat.new) }
     ensures same { plain_of seat.new ≡ plain_of seat.old }
 {
-    drain_step(heap, seat, STEP)
+    drain_step(heap, seat, most)
 }
 
 /// Takes all marks away, to mark once more what is reachable now.
@@ -84,11 +86,31 @@ pub fn marks_again(heap: &Heap, seat: &mut HeapSeat)
     drain_again(heap, seat);
 }
 
-/// Sweeps, and lets the world go on.
-pub fn ends(heap: &Heap, seat: &mut HeapSeat)
+/// Begins to sweep.
+pub fn begins_sweep(heap: &Heap, seat: &mut HeapSeat)
     requires marked { IsMarked heap.now seat.old }
+    ensures sweeping { SweepsOn heap.now seat.new }
+    ensures same { plain_of seat.new ≡ plain_of seat.old }
+{
+    start_sweep(heap, seat);
+}
+
+/// Sweeps at most so many blocks: fewer come exactly where none is left.
+pub fn sweeps(heap: &Heap, seat: &mut HeapSeat, most: u32) -> SweepStep
+    requires sweeping { SweepsOn heap.now seat.old }
+    ensures sweeping { SweepsOn heap.now seat.new }
+    ensures swept { result.blocks ≢ most → IsSwept heap.now seat.new }
+    ensures blocks { count_of (gets_block (block_count heap.now.shape)) (did seat.old seat.new) ≤ most }
+    ensures same { plain_of seat.new ≡ plain_of seat.old }
+{
+    sweep_step(heap, seat, most)
+}
+
+/// Ends the cycle, in which so many cells were freed, and lets the world go on.
+pub fn ends(heap: &Heap, seat: &mut HeapSeat, freed: u32)
+    requires swept { IsSwept heap.now seat.old }
     ensures halts { Halts heap.now seat.new }
     ensures same { plain_of seat.new ≡ plain_of seat.old }
 {
-    end_collection(heap, seat);
+    finish_collection(heap, seat, freed);
 }

@@ -78,6 +78,7 @@ impl World {
     pub fn mutator(&mut self) -> Option<Mutator>
         ensures some { IfSome result (λ m. self.old.mutators.items ≡ self.new.mutators.items ++ m ∷ []) }
         ensures none { IfNone result (self.old.mutators.items ≡ []) }
+        ensures still { IfNone result (self.new.mutators.items ≡ []) }
         ensures rest { KeepsRest self.old self.new × (self.new.tracers ≡ self.old.tracers) }
     {
         self.mutators.pop()
@@ -87,6 +88,7 @@ impl World {
     pub fn tracer(&mut self) -> Option<Tracer>
         ensures some { IfSome result (λ t. self.old.tracers.items ≡ self.new.tracers.items ++ t ∷ []) }
         ensures none { IfNone result (self.old.tracers.items ≡ []) }
+        ensures still { IfNone result (self.new.tracers.items ≡ []) }
         ensures rest { KeepsRest self.old self.new × (self.new.mutators ≡ self.old.mutators) }
     {
         self.tracers.pop()

@@ -39,13 +39,16 @@
 //! `sizes` has the sizes, `refused` why a call did nothing, `world` the heap with those of its mutators and tracers that nobody has, `lending` how they are
 //! taken and given back, `mutator` and `background` the types, `calls` what a mutator does. Below them `opening` makes a heap, `turns` comes to a
 //! mutator's turn and to a free cell, `operations` does one operation, `gates` goes in and out, and `marking` is a tracer's turn.
-//! `stepper` is a mutator that doesn't wait, `stepping` and `steps` are its calls and its collection, over `tries` and `collecting`.
+//! `stepper` is a mutator that doesn't wait, `stepping`, `asking` and `steps` are its calls and its collection, over `tries` and `collecting`.
+//! `try_turns` is a tracer's turn that doesn't wait, and `dismissing` ends the tracers that take such turns.
 #![tactic(auto)]
 
+mod asking;
 mod background;
 mod calls;
 mod collecting;
 mod dealing;
+mod dismissing;
 mod gates;
 mod lending;
 mod marking;
@@ -58,6 +61,7 @@ mod stepper;
 mod stepping;
 mod steps;
 mod tries;
+mod try_turns;
 mod turns;
 mod world;
 
@@ -67,4 +71,5 @@ pub use mutator::Mutator;
 pub use refused::{NotOpened, Refused};
 pub use sizes::Sizes;
 pub use stepper::{Came, Stage, Stepper};
+pub use try_turns::TryTurn;
 pub use world::{Statistics, World};

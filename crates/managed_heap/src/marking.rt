@@ -11,15 +11,18 @@ ghost use Rattle.managed_heap.specs.Tracing.{HasMarked, MarksIn, Rounds, Sees, T
 
 use crate::background::Turn;
 use card_clean::{clean_one, next_card};
-use gc_cycle::await_resumed_helping;
+use gc_cycle::{await_resumed_helping, is_far_on};
 use gc_table::{Heap, HeapSeat};
 use mark_core::{DONE, Phase, TRACED};
 use std::sync::Wait;
 use stop_world::{enter, leave};
 use tracer::{Stopped, Traced, recycle_deferred, trace};
 
-/// How many objects a turn traces, and how many cards it cleans. A stop waits until a turn has ended.
+/// How many objects a turn traces. A stop waits until a turn has ended.
 const QUOTA: u32 = 64;
+
+/// How many cards a turn passes. Most are clean, and a clean one costs one look.
+const CARDS: u32 = 1_024;
 
 /// Traces the objects of a turn.
 fn trace_objects(heap: &Heap, seat: &mut HeapSeat) -> Traced
@@ -53,14 +56,37 @@ fn clean(heap: &Heap, seat: &mut HeapSeat, card: u32) -> bool
     }
 }
 
-/// Cleans the next card of the cycle's pass. False where no card is left, or no packet has room.
+/// Whether a card is dirty.
+fn is_dirty(heap: &Heap, seat: &mut HeapSeat, card: u32) -> bool
+    requires seat { Marks heap.now seat.old }
+    requires card { card < card_count heap.now.shape }
+    ensures seat { Marks heap.now seat.new }
+    ensures tended { Across Tended seat.old seat.new }
+{
+    heap.read_card(seat, card)
+}
+
+/// Looks at a card, and cleans it where it is dirty: a clean card costs one look and no packet. False where no packet has room.
+fn clean_where_dirty(heap: &Heap, seat: &mut HeapSeat, card: u32) -> bool
+    requires seat { Marks heap.now seat.old }
+    requires card { card < card_count heap.now.shape }
+    ensures seat { Marks heap.now seat.new }
+    ensures tended { Across Tended seat.old seat.new }
+{
+    if !is_dirty(heap, seat, card) {
+        return true;
+    }
+    clean(heap, seat, card)
+}
+
+/// Cleans the next card of the cycle's pass, where it is dirty. False where no card is left, or no packet has room.
 fn clean_next(heap: &Heap, seat: &mut HeapSeat) -> bool
     requires { Marks heap.now seat.old }
     ensures seat { Marks heap.now seat.new }
     ensures tended { Across Tended seat.old seat.new }
 {
     match draw(heap, seat) {
-        Some(card) => clean(heap, seat, card),
+        Some(card) => clean_where_dirty(heap, seat, card),
         None => false,
     }
 }
@@ -71,21 +97,41 @@ fn clean_cards(heap: &Heap, seat: &mut HeapSeat)
     ensures seat { Marks heap.now seat.new }
     ensures tended { Across Tended seat.old seat.new }
 {
-    for _ in 0..QUOTA {
+    for _ in 0..CARDS {
         if !clean_next(heap, seat) {
             return;
         }
     }
 }
 
-/// Cleans the cards of a turn, where a trace ended since there was nothing to trace.
+/// Whether the cycle is far on.
+fn is_late(heap: &Heap, seat: &mut HeapSeat) -> bool
+    requires { Marks heap.now seat.old }
+    ensures seat { Marks heap.now seat.new }
+    ensures tended { Across Tended seat.old seat.new }
+{
+    is_far_on(heap, seat)
+}
+
+/// Cleans the cards of a turn, where the cycle is far on: a card that is cleaned early is dirtied again, and then the stop cleans it.
+fn clean_late(heap: &Heap, seat: &mut HeapSeat)
+    requires { Marks heap.now seat.old }
+    ensures seat { Marks heap.now seat.new }
+    ensures tended { Across Tended seat.old seat.new }
+{
+    if is_late(heap, seat) {
+        clean_cards(heap, seat);
+    }
+}
+
+/// Cleans cards, where a trace ended since there was nothing to trace.
 fn clean_after(heap: &Heap, seat: &mut HeapSeat, stopped: Stopped)
     requires { Marks heap.now seat.old }
     ensures seat { Marks heap.now seat.new }
     ensures tended { Across Tended seat.old seat.new }
 {
     if let Stopped::NoWork = stopped {
-        clean_cards(heap, seat);
+        clean_late(heap, seat);
     }
 }
 
@@ -143,7 +189,7 @@ fn see_phase(heap: &Heap, seat: &mut HeapSeat) -> Phase
 }
 
 /// Enters the world: true where no stop is under way, else the seat is outside again.
-fn goes_in(heap: &Heap, seat: &mut HeapSeat) -> bool
+pub fn goes_in(heap: &Heap, seat: &mut HeapSeat) -> bool
     requires { Rests heap.now seat.old }
     ensures inside { IsTrue result → Goes heap.now seat.new }
     ensures outside { IsFalse result → Rests heap.now seat.new }
@@ -154,7 +200,7 @@ fn goes_in(heap: &Heap, seat: &mut HeapSeat) -> bool
 }
 
 /// Leaves the world.
-fn goes_out(heap: &Heap, seat: &mut HeapSeat)
+pub fn goes_out(heap: &Heap, seat: &mut HeapSeat)
     requires { Goes heap.now seat.old }
     ensures seat { Rests heap.now seat.new }
     ensures leaves { Across (Took LeaveStep) seat.old seat.new }
@@ -163,7 +209,7 @@ fn goes_out(heap: &Heap, seat: &mut HeapSeat)
 }
 
 /// What a tracer does in the world. It returns the phase that it read there.
-fn go_round(heap: &Heap, seat: &mut HeapSeat, tally: &mut u64) -> Phase
+pub fn go_round(heap: &Heap, seat: &mut HeapSeat, tally: &mut u64) -> Phase
     requires { Goes heap.now seat.old }
     ensures seat { Rests heap.now seat.new }
     ensures rounds { Across (Rounds result) seat.old seat.new }
@@ -175,7 +221,7 @@ fn go_round(heap: &Heap, seat: &mut HeapSeat, tally: &mut u64) -> Phase
 }
 
 /// How often the tracers were dismissed.
-fn see_dismissals(heap: &Heap, seat: &mut HeapSeat) -> u64
+pub fn see_dismissals(heap: &Heap, seat: &mut HeapSeat) -> u64
     requires { Rests heap.now seat.old }
     ensures seat { Rests heap.now seat.new }
     ensures looks { Across (Found (ReadStat done_count) result) seat.old seat.new }

@@ -1,4 +1,5 @@
 //! The sizes of a world.
+ghost use Rattle.std.specs.Prelude.{◌≡◌, false};
 ghost use Rattle.std.specs.Bool.{OnFalse, OnTrue};
 ghost use Rattle.managed_heap.specs.Sizing.{Fits};
 
@@ -18,7 +19,9 @@ pub struct Sizes {
 impl Sizes {
     /// A heap of so many cells, 64 to 16,777,216, a multiple of 64. Each cell holds one object. Objects have two references, and there is one mutator and no
     /// tracer, unless other numbers are given. Twice as many cells as objects are reachable at once are ample.
-    pub fn of_cells(cells: u32) -> Sizes {
+    pub fn of_cells(cells: u32) -> Sizes
+        ensures { result ≡ record { cells = cells; fields = 2; mutators = 1; tracers = 0; packets = 64; entries = 32; name = 0; in_stops = false } }
+    {
         Sizes {
             cells,
             fields: 2,
@@ -32,23 +35,31 @@ impl Sizes {
     }
 
     /// With so many references in each object, 1 to 16. Each takes a word in every cell.
-    pub fn fields(self, fields: u32) -> Sizes {
+    pub fn fields(self, fields: u32) -> Sizes
+        ensures { result ≡ record self { fields = fields } }
+    {
         Sizes { fields, ..self }
     }
 
     /// With so many mutators, 1 to 32. Each is for one thread at a time.
-    pub fn mutators(self, mutators: u32) -> Sizes {
+    pub fn mutators(self, mutators: u32) -> Sizes
+        ensures { result ≡ record self { mutators = mutators } }
+    {
         Sizes { mutators, ..self }
     }
 
     /// With so many tracers, 0 to 8. A tracer helps where a processor is free for it: without any, mutators trace as they make objects.
-    pub fn tracers(self, tracers: u32) -> Sizes {
+    pub fn tracers(self, tracers: u32) -> Sizes
+        ensures { result ≡ record self { tracers = tracers } }
+    {
         Sizes { tracers, ..self }
     }
 
     /// With so many packets, 2 to 1,024, each with room for so many cells, 2 to 512, that wait to be scanned. Where more wait, cards take the place of
     /// packets: too few cost time and nothing else.
-    pub fn packets(self, packets: u32, entries: u32) -> Sizes {
+    pub fn packets(self, packets: u32, entries: u32) -> Sizes
+        ensures { result ≡ record self { packets = packets; entries = entries } }
+    {
         Sizes {
             packets,
             entries,
@@ -58,12 +69,16 @@ impl Sizes {
 
     /// With this name, which the world's mutators and tracers have too: where a program has several worlds, each with a name of its own, none takes back what
     /// another lent. Any number will do; 0 where none is given.
-    pub fn named(self, name: u32) -> Sizes {
+    pub fn named(self, name: u32) -> Sizes
+        ensures { result ≡ record self { name = name } }
+    {
         Sizes { name, ..self }
     }
 
     /// With mutators that collect in stops alone, where that is asked for: nothing is marked beside them, so each stop marks all. It is there to compare with.
-    pub fn in_stops(self, in_stops: bool) -> Sizes {
+    pub fn in_stops(self, in_stops: bool) -> Sizes
+        ensures { result ≡ record self { in_stops = in_stops } }
+    {
         Sizes { in_stops, ..self }
     }
 

@@ -1,7 +1,7 @@
 //! A mutator in the hand of one thread that doesn't wait.
 ghost use Rattle.std.specs.Arc.{arc_value};
 ghost use Rattle.std.specs.Prelude.{◌≡◌};
-ghost use Rattle.managed_heap.specs.Collecting.{AsksStop, DrainsOn, ScansRoots};
+ghost use Rattle.managed_heap.specs.Collecting.{AsksStop, DrainsOn, IsSwept, ScansRoots, SweepsOn};
 ghost use Rattle.managed_heap.specs.Standing.{IsAtTurn, Waits};
 ghost use Rattle.managed_heap.specs.declared.stepper.Stage.TheVariants as stages;
 
@@ -22,6 +22,10 @@ pub enum Stage {
     Rooting,
     /// It collects, and drains.
     Draining,
+    /// It collects, and sweeps.
+    Sweeping,
+    /// It collects, and has swept all blocks.
+    Ending,
 }
 
 /// What a call of a stepper came to. Where it isn't `Done`, objects and variables are as before.
@@ -62,9 +66,13 @@ pub struct Stepper {
     pub(crate) in_stops: bool,
     /// The collection is to mark once more, from the roots alone, since a cycle was marking when it began.
     pub(crate) again: bool,
+    /// How many cells its sweep has freed.
+    pub(crate) freed: u32,
     ghost outside: { stage ≡ stages.Outside → Waits (arc_value heap) seat },
     ghost inside: { stage ≡ stages.Inside → IsAtTurn (arc_value heap) seat },
     ghost stopping: { stage ≡ stages.Stopping → AsksStop (arc_value heap) seat },
     ghost rooting: { stage ≡ stages.Rooting → ScansRoots (arc_value heap) seat },
     ghost draining: { stage ≡ stages.Draining → DrainsOn (arc_value heap) seat },
+    ghost sweeping: { stage ≡ stages.Sweeping → SweepsOn (arc_value heap) seat },
+    ghost ending: { stage ≡ stages.Ending → IsSwept (arc_value heap) seat },
 }

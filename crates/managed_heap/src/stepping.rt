@@ -34,6 +34,7 @@ impl Mutator {
             name: mutator.name,
             in_stops: mutator.in_stops,
             again: false,
+            freed: 0,
         }
     }
 }

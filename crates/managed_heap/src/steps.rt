@@ -1,23 +1,35 @@
 //! A stepper collects.
-ghost use Rattle.std.specs.Prelude.{◌≡◌};
-ghost use Rattle.managed_heap.specs.Collecting.{IsMarked};
+ghost use Rattle.std.specs.Prelude.{◌≡◌, ◌≤◌};
+ghost use Rattle.std.specs.Arc.{arc_value};
+ghost use Rattle.mark_core.specs.Layout.{block_count};
+ghost use Rattle.gc_table.specs.Seats.{Across, did};
+ghost use Rattle.packet_pools.specs.Counts.{count_of};
+ghost use Rattle.gc_cycle.specs.Sorts.{gets_block};
+ghost use Rattle.gc_cycle.specs.Stepping.{MakesRound};
+ghost use Rattle.managed_heap.specs.Bounds.{CollectsAtMost, IsBounded};
+ghost use Rattle.managed_heap.specs.Collecting.{IsSwept};
 ghost use Rattle.managed_heap.specs.Standing.{plain_of};
 ghost use Rattle.managed_heap.specs.Stepping.{Arrives, Collects};
 ghost use Rattle.managed_heap.specs.declared.stepper.Stage.TheVariants as stages;
 
-use crate::collecting::{asks, begins, drains, ends, marks_again, roots, saw_marking, stops};
+use crate::collecting::{
+    asks, begins, begins_sweep, drains, ends, marks_again, roots, saw_marking, stops, sweeps,
+};
 use crate::gates::{leave, park};
 use crate::stepper::{Came, Stage, Stepper};
 use crate::tries::arrive;
 use gc_table::{Heap, HeapSeat};
 
-/// Sweeps, lets the world go on, and comes to its turn.
-fn sweep_to_turn(heap: &Heap, seat: &mut HeapSeat) -> Came
-    requires marked { IsMarked heap.now seat.old }
+/// How many objects a step pops at most, or how many blocks it sweeps, where its caller says nothing of it.
+const STEP: u32 = 4_096;
+
+/// Ends the cycle, lets the world go on, and comes to its turn.
+fn end_to_turn(heap: &Heap, seat: &mut HeapSeat, freed: u32) -> Came
+    requires swept { IsSwept heap.now seat.old }
     ensures arrives { Arrives result heap.now seat.new }
     ensures same { plain_of seat.new ≡ plain_of seat.old }
 {
-    ends(heap, seat);
+    ends(heap, seat, freed);
     arrive(heap, seat)
 }
 
@@ -27,12 +39,33 @@ impl Stepper {
     pub fn collect_step(&mut self) -> Came
         ensures collects { Collects result self.old self.new }
     {
+        self.take_step(STEP)
+    }
+
+    /// The same, of a step with a bound: where it drains it pops so many objects, or as many as there are, and where it sweeps it sweeps at most so many
+    /// blocks. It is at least 1: 0 is out of range. A drain besides looks at each card, and cleans those that are dirty.
+    pub fn collect_at_most(&mut self, most: u32) -> Came
+        ensures collects { CollectsAtMost most result self.old self.new }
+    {
+        if most == 0 {
+            return Came::OutOfRange;
+        }
+        self.take_step(most)
+    }
+
+    /// The next step, with this bound.
+    fn take_step(&mut self, most: u32) -> Came
+        ensures collects { Collects result self.old self.new }
+        ensures bounded { IsBounded most self.old self.new }
+    {
         match self.stage {
             Stage::Outside => Came::Outside,
             Stage::Inside => self.ask(),
             Stage::Stopping => self.begin(),
             Stage::Rooting => self.scan(),
-            Stage::Draining => self.drain(),
+            Stage::Draining => self.drain(most),
+            Stage::Sweeping => self.sweep(most),
+            Stage::Ending => self.end(),
         }
     }
 
@@ -79,12 +112,13 @@ impl Stepper {
         Came::NotYet
     }
 
-    /// Drains on. Where all is marked it sweeps, or marks once more.
-    fn drain(&mut self) -> Came
+    /// Drains on. Where all is marked it begins to sweep, or marks once more.
+    fn drain(&mut self, most: u32) -> Came
         requires draining { self.old.stage ≡ stages.Draining }
         ensures collects { Collects result self.old self.new }
+        ensures round { self.new.stage ≡ stages.Draining → Across (MakesRound most) self.old.seat self.new.seat }
     {
-        if !drains(&self.heap, &mut self.seat) {
+        if !drains(&self.heap, &mut self.seat, most) {
             return Came::NotYet;
         }
         if self.again {
@@ -93,7 +127,32 @@ impl Stepper {
             self.stage = Stage::Rooting;
             return Came::NotYet;
         }
-        match sweep_to_turn(&self.heap, &mut self.seat) {
+        begins_sweep(&self.heap, &mut self.seat);
+        self.freed = 0;
+        self.stage = Stage::Sweeping;
+        Came::NotYet
+    }
+
+    /// Sweeps on.
+    fn sweep(&mut self, most: u32) -> Came
+        requires sweeping { self.old.stage ≡ stages.Sweeping }
+        ensures collects { Collects result self.old self.new }
+        ensures blocks { count_of (gets_block (block_count (arc_value self.old.heap).shape)) (did self.old.seat self.new.seat) ≤ most }
+    {
+        let step = sweeps(&self.heap, &mut self.seat, most);
+        self.freed = self.freed.saturating_add(step.freed);
+        if step.blocks != most {
+            self.stage = Stage::Ending;
+        }
+        Came::NotYet
+    }
+
+    /// Ends the collection.
+    fn end(&mut self) -> Came
+        requires ending { self.old.stage ≡ stages.Ending }
+        ensures collects { Collects result self.old self.new }
+    {
+        match end_to_turn(&self.heap, &mut self.seat, self.freed) {
             Came::Done => {
                 self.stage = Stage::Inside;
                 Came::Done

@@ -4,9 +4,6 @@ use Rattle.gc_table.specs.Seats.{view_of}
 use Rattle.gc_table.specs.declared.view.View.{View}
 use Rattle.gc_table.proofs.Running.{ran-took, ran-stored}
 use Rattle.gc_cycle.proofs.Answered.{cached-still, ends-full}
-use Rattle.gc_table.proofs.Log.{events-after}
-use Rattle.gc_cycle.specs.Events.{never}
-use Rattle.gc_cycle.specs.Sorts.{claims}
 use Rattle.gc_cycle.proofs.Changes.{changes-after, gives-join, keeps-up}
 use Rattle.gc_cycle.proofs.collecting.goes_on.Goals as goal
 

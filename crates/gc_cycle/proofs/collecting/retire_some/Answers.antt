@@ -6,7 +6,6 @@ use Rattle.std.proofs.Common.{sym, ◌∙◌, subst, None}
 use Rattle.alloc_cache.specs.declared.cache.Cache.{Cache}
 use Rattle.gc_cycle.proofs.Numbers.{retire-up}
 use Rattle.gc_cycle.specs.Statistics.{GivesUp}
-use Rattle.gc_cycle.proofs.Changes.{by-none, keeps-up}
 use Rattle.gc_cycle.proofs.collecting.retire_some.Goals as goal
 
 pub returns-in-Some-clause-only : goal.returns-in-Some-clause-only

@@ -10,7 +10,8 @@ use Rattle.gc_cycle.specs.Draining.{HelpsOn}
 use Rattle.gc_cycle.specs.Helping.{meets_cards}
 use Rattle.gc_cycle.specs.Sorts.{sees_last_card}
 use Rattle.gc_cycle.specs.Standing.{is_at_rest}
-use Rattle.gc_cycle.proofs.Admitted.{floor-kept, helped-last, helped-more, meets-join, traced-first, traced-helps, undrawn, undrawn-meets}
+use Rattle.gc_cycle.proofs.Admitted.{floor-kept, meets-join, undrawn, undrawn-meets}
+use Rattle.gc_cycle.proofs.HelperDrains.{helped-last, helped-still, seen-to, traced-first, traced-helps}
 use Rattle.gc_cycle.proofs.Traced.{nothing-rest}
 use Rattle.gc_cycle.proofs.helping.help_drain.Goals as goal
 
@@ -39,26 +40,26 @@ loop-helped-preserved c =
     let u : View = view_of c.args.seat.now in
     let v : View = view_of c.loop-helped.seat in
     let w : View = view_of c.next_card.new.seat in
-    let x : View = view_of c.clean_on-helped.new.seat in
+    let x : View = view_of c.see_to_card-helped.new.seat in
     let i = c.loop-helped.invariant in
     let n = c.in-Some.ensures in
-    let k = c.clean_on-helped.ensures.cleans in
+    let first = traced-helps v w i.helps.drained.helps n.traced in
+    let k = seen-to c.args.quota c.in-Some.card c.loop-helped.helped c.see_to_card-helped.result w x first.helps c.see_to_card-helped.ensures.sees in
     let rise = n.rises i.helps.drained.helps.admitted in
     let r0 = rise.0 in
     let r1 = rise.1 in
-    let first = traced-helps v w i.helps.drained.helps n.traced in
     let kept = floor-kept w x k.drained.ran k.drained.only k.undrawn first.helps.admitted in
     let few = k.few in
     let room = i.room in
     let later = ran-join v w x n.traced.ran k.drained.ran in
     record {
-      sits = c.clean_on-helped.ensures.seat;
-      helps = helped-more c.args.quota c.in-Some.card c.loop-helped.helped c.clean_on-helped.result u v w x i.helps n.traced n.unpopped n.rescanned k;
+      sits = c.see_to_card-helped.ensures.seat;
+      helps = k.goes u (helped-still c.args.quota c.loop-helped.helped u v w i.helps c.in-NoWork.is n.traced n.unpopped n.uncleared n.rescanned) c.in-NoWork.is;
       met =
           λ e.
           ap (meets_cards (card_count c.args.heap.now.shape)) (ran-events u v x i.helps.drained.ran later ∙ ap (λ es. events u v ++ es) (ran-events v w x n.traced.ran k.drained.ran))
           ∙ meets-join (card_count c.args.heap.now.shape) (events u v) (events v w ++ events w x) (i.met c.in-NoWork.is)
-          (n.met (events w x) (k.cleaned e) (undrawn-meets (card_count c.args.heap.now.shape) (events w x) k.undrawn));
+          (n.met (events w x) (k.met e) (undrawn-meets (card_count c.args.heap.now.shape) (events w x) k.undrawn));
       room = omega (arith, few, room, r0, r1, kept);
     }
 
@@ -66,14 +67,14 @@ pub loop-helped-smaller : goal.loop-helped-smaller
 loop-helped-smaller c =
     let v : View = view_of c.loop-helped.seat in
     let w : View = view_of c.next_card.new.seat in
-    let x : View = view_of c.clean_on-helped.new.seat in
+    let x : View = view_of c.see_to_card-helped.new.seat in
     let i = c.loop-helped.invariant in
     let n = c.in-Some.ensures in
-    let k = c.clean_on-helped.ensures.cleans in
+    let first = traced-helps v w i.helps.drained.helps n.traced in
+    let k = seen-to c.args.quota c.in-Some.card c.loop-helped.helped c.see_to_card-helped.result w x first.helps c.see_to_card-helped.ensures.sees in
     let rise = n.rises i.helps.drained.helps.admitted in
     let r0 = rise.0 in
     let r1 = rise.1 in
-    let first = traced-helps v w i.helps.drained.helps n.traced in
     let kept = floor-kept w x k.drained.ran k.drained.only k.undrawn first.helps.admitted in
     let there : c.in-Some.card < card_count c.args.heap.now.shape = subst (λ (sh : Shape). c.in-Some.card < card_count sh) i.sits.1 n.draws.0 in
     omega (arith, r0, r1, kept, there)

@@ -1,4 +1,4 @@
-use Rattle.std.proofs.Common.{ap, inl, Some, None}
+use Rattle.std.proofs.Common.{ap, inl}
 use Rattle.std.specs.Prelude.{unwrap_or}
 use Rattle.gc_table.specs.Seats.{view_of}
 use Rattle.gc_table.specs.declared.view.View.{View}

@@ -23,7 +23,7 @@ use Rattle.gc_table.specs.declared.view.Entry.{Entry}
 use Rattle.gc_cycle.specs.Events.{never}
 use Rattle.gc_cycle.specs.Helping.{meets_cards}
 use Rattle.gc_cycle.specs.Lower.{DrawsCard, HasTraced, traces_cells}
-use Rattle.gc_cycle.specs.Sorts.{clears, clears_card, gives_card, pops, reads_root, sees_last_card, reads_pace}
+use Rattle.gc_cycle.specs.Sorts.{clears, gives_card, pops, reads_pace, reads_root, sees_last_card, sees_to_card}
 use Rattle.gc_cycle.specs.Standing.{is_at_rest}
 use Rattle.gc_cycle.proofs.Idling.{traces-of}
 use Rattle.gc_cycle.proofs.Rooted.{rooted-of, roots-seen}
@@ -95,16 +95,16 @@ drawn r v w (inl over) =
     (ap (some_event (sees_last_card (card_count v.shape))) over.0.events_are ∙ or_left (nat_le (card_count v.shape) over.0.seen) false (le-leb (card_count v.shape) over.0.seen over.0.over))
 drawn r v w (inr gives) = subst (λ (o : Option ℕ). DrawsCard o v w) (sym gives.2) (by_test gives.0 v w gives.1 (nat_lt gives.0 (card_count v.shape)) refl)
 
--- the card that was given out is met by whoever clears it later
-met-by : (cards n : ℕ) (v w : View) → Draws n v w → (b : Bool) → IfSome (if b then Some n else None) (λ card. (later : List Entry) → some_event (clears_card card) later ≡ true → meets_cards cards later ≡ true → meets_cards cards (events v w ++ later) ≡ true)
-met-by cards n v w d true = λ later a m. ap (λ es. meets_cards cards (es ++ later)) d.events_are ∙ and_from _ _ refl (and_from _ _ (or_right (not (nat_lt n cards)) (some_event (clears_card n) later) a) m)
+-- the card that was given out is met by whoever sees to it later
+met-by : (cards n : ℕ) (v w : View) → Draws n v w → (b : Bool) → IfSome (if b then Some n else None) (λ card. (later : List Entry) → some_event (sees_to_card card) later ≡ true → meets_cards cards later ≡ true → meets_cards cards (events v w ++ later) ≡ true)
+met-by cards n v w d true = λ later a m. ap (λ es. meets_cards cards (es ++ later)) d.events_are ∙ and_from _ _ refl (and_from _ _ (or_right (not (nat_lt n cards)) (some_event (sees_to_card n) later) a) m)
 met-by cards n v w d false = tt
 
-met-drawn : (cards : ℕ) (r : Option ℕ) (v w : View) → CardDrawn r v w → IfSome r (λ card. (later : List Entry) → some_event (clears_card card) later ≡ true → meets_cards cards later ≡ true → meets_cards cards (events v w ++ later) ≡ true)
+met-drawn : (cards : ℕ) (r : Option ℕ) (v w : View) → CardDrawn r v w → IfSome r (λ card. (later : List Entry) → some_event (sees_to_card card) later ≡ true → meets_cards cards later ≡ true → meets_cards cards (events v w ++ later) ≡ true)
 met-drawn cards r v w (inl over) =
-    subst (λ (o : Option ℕ). IfSome o (λ card. (later : List Entry) → some_event (clears_card card) later ≡ true → meets_cards cards later ≡ true → meets_cards cards (events v w ++ later) ≡ true)) (sym over.1) tt
+    subst (λ (o : Option ℕ). IfSome o (λ card. (later : List Entry) → some_event (sees_to_card card) later ≡ true → meets_cards cards later ≡ true → meets_cards cards (events v w ++ later) ≡ true)) (sym over.1) tt
 met-drawn cards r v w (inr gives) =
-    subst (λ (o : Option ℕ). IfSome o (λ card. (later : List Entry) → some_event (clears_card card) later ≡ true → meets_cards cards later ≡ true → meets_cards cards (events v w ++ later) ≡ true)) (sym gives.2)
+    subst (λ (o : Option ℕ). IfSome o (λ card. (later : List Entry) → some_event (sees_to_card card) later ≡ true → meets_cards cards later ≡ true → meets_cards cards (events v w ++ later) ≡ true)) (sym gives.2)
     (met-by cards gives.0 v w gives.1 (nat_lt gives.0 (card_count v.shape)))
 
 over-by : (cards n : ℕ) (v w : View) → Draws n v w → (b : Bool) → nat_lt n cards ≡ b → IfNone (if b then Some n else None) (meets_cards cards (events v w) ≡ true)

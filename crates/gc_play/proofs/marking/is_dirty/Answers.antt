@@ -4,22 +4,17 @@ use Rattle.mark_core.specs.Held.{holds_any}
 use Rattle.mark_core.specs.Seats.{work_in_hand}
 use Rattle.mark_core.specs.declared.kinds.Step.TheVariants.{ReadCard}
 use Rattle.gc_table.specs.Seats.{view_of}
-use Rattle.gc_table.specs.Taking.{after, Finds}
 use Rattle.gc_table.specs.declared.view.View.{View}
 use Rattle.gc_table.proofs.Log.{events-after}
 use Rattle.packet_pools.specs.Counts.{count_of}
 use Rattle.packet_pools.specs.OnlyTraced.{OnlyTraced}
 use Rattle.packet_pools.proofs.Doing.{traces-on}
-use Rattle.packet_pools.proofs.TracedSteps.{later-read, later-to}
 use Rattle.tracer.specs.Tally.{pops}
+use Rattle.gc_cycle.proofs.Looked.{looks}
 use Rattle.gc_play.specs.Stays.{Stays}
 use Rattle.gc_play.specs.Tending.{Marks}
 use Rattle.gc_play.proofs.Tending.{empty-of, marks-later, marks-trace, tends-later}
 use Rattle.gc_play.proofs.marking.is_dirty.Goals as goal
-
--- a look at a card is a step of tracing
-looks : (v w : View) (n card : ℕ) → Finds (ReadCard card) n v → w ≡ after (ReadCard card) n v → OnlyTraced v w
-looks v w n card f e = later-to v w (ReadCard card) n e (later-read v (ReadCard card) n refl refl f refl refl refl refl refl)
 
 looked : (c : goal.After-read_card) → OnlyTraced (view_of c.args.seat.now) (view_of c.read_card.new.seat)
 looked c = let e = c.read_card.ensures.view in looks (view_of c.args.seat.now) (view_of c.read_card.new.seat) e.0 c.args.card e.2 e.1

@@ -4,5 +4,5 @@ use Rattle.managed_heap.proofs.collecting.ends.Goals as goal
 
 pub returns-clause-halts : goal.returns-clause-halts
 returns-clause-halts c =
-    let e = c.end_collection.ensures in
-    record { works = record { sits = e.seat; mutates = e.runs.mutates; mutator = mutator-kept (view_of c.args.seat.now) (view_of c.end_collection.new.seat) c.requires.marked.mutator e.ran e.keeps.0 e.keeps.1 }; cache = e.runs.cache }
+    let e = c.finish_collection.ensures in
+    record { works = record { sits = e.seat; mutates = e.runs.mutates; mutator = mutator-kept (view_of c.args.seat.now) (view_of c.finish_collection.new.seat) c.requires.swept.mutator e.ran e.keeps.0 e.keeps.1 }; cache = e.runs.cache }

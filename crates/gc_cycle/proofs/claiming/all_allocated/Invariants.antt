@@ -9,7 +9,7 @@ use Rattle.packet_pools.specs.Seeking.{some_event}
 use Rattle.gc_cycle.specs.Finishing.{IsPart}
 use Rattle.gc_cycle.specs.Sorts.{reads_all_ones}
 use Rattle.gc_cycle.specs.Statistics.{leaves_numbers}
-use Rattle.gc_cycle.proofs.refilling.all_allocated.Given as goal
+use Rattle.gc_cycle.proofs.claiming.all_allocated.Given as goal
 
 abbrev pub invariant-loop-b : goal.invariant-loop-b
 invariant-loop-b l = record {

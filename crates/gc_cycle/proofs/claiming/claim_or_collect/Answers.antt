@@ -13,12 +13,10 @@ use Rattle.gc_cycle.specs.Sorts.{begins_exactly, ends_cycle}
 use Rattle.gc_cycle.proofs.Collected.{exactly-collects}
 use Rattle.gc_cycle.proofs.InStop.{alone-same, claims-alone, claims-later, fills-caused, quiet-claim, quiet-finish, quiet-join, rests-later, unfills}
 use Rattle.gc_cycle.proofs.Sequences.{followed-later}
-use Rattle.alloc_cache.specs.Claiming.{seeks_block}
-use Rattle.gc_table.proofs.Log.{only-more}
 use Rattle.gc_cycle.proofs.Changes.{numbers-after, numbers-join, numbers-one}
 use Rattle.gc_cycle.specs.Statistics.{EndsCycle, taken}
 use Rattle.gc_cycle.proofs.Numbers.{claim-by, seeks-by}
-use Rattle.gc_cycle.proofs.refilling.claim_or_collect.Goals as goal
+use Rattle.gc_cycle.proofs.claiming.claim_or_collect.Goals as goal
 
 collected-after : (sh : Shape) (u v w : View) → Ran u v → Ran v w → collects_exactly sh (begins v) (events v w) ≡ true → collects (events u w) ≡ true
 collected-after sh u v w r q c = ap collects (ran-events u v w r q) ∙ followed-later begins_exactly ends_cycle (events u v) (events v w) (exactly-collects sh (begins v) (events v w) c)

@@ -18,7 +18,7 @@ use Rattle.gc_cycle.specs.Sorts.{reads_all_ones, reads_free_cell}
 use Rattle.gc_cycle.proofs.Parts.{part-join}
 use Rattle.gc_cycle.proofs.Sets.{part-read, read-here, read-kept}
 use Rattle.gc_cycle.specs.Statistics.{leaves_numbers}
-use Rattle.gc_cycle.proofs.refilling.all_allocated.Goals as goal
+use Rattle.gc_cycle.proofs.claiming.all_allocated.Goals as goal
 
 pub loop-b-preserved : goal.loop-b-preserved
 loop-b-preserved c =

@@ -19,7 +19,7 @@ use Rattle.alloc_cache.specs.declared.cache.Cache.{Cache}
 use Rattle.gc_cycle.proofs.Changes.{by-join, changes-after, numbers-one, only-changes}
 use Rattle.gc_cycle.specs.Statistics.{taken}
 use Rattle.gc_cycle.proofs.Numbers.{claim-any}
-use Rattle.gc_cycle.proofs.refilling.claim_or_fill.Goals as goal
+use Rattle.gc_cycle.proofs.claiming.claim_or_fill.Goals as goal
 
 pub store_named-requires-clause-may : goal.store_named-requires-clause-may
 store_named-requires-clause-may c =

@@ -12,7 +12,7 @@ use Rattle.gc_cycle.proofs.Collected.{exactly-collects, full-alone}
 use Rattle.gc_cycle.proofs.InStop.{claims-later, claims-none, fills-caused, fills-own, quiet-finish, rests-held, rests-later}
 use Rattle.gc_cycle.proofs.Changes.{by-none, numbers-after, numbers-one}
 use Rattle.gc_cycle.specs.Statistics.{EndsCycle, taken}
-use Rattle.gc_cycle.proofs.refilling.claim_in_stop.Goals as goal
+use Rattle.gc_cycle.proofs.claiming.claim_in_stop.Goals as goal
 
 pub claim_or_collect-requires-clause-alone : goal.claim_or_collect-requires-clause-alone
 claim_or_collect-requires-clause-alone g c =

@@ -1,0 +1,8 @@
+use Rattle.gc_table.specs.Seats.{view_of}
+use Rattle.managed_heap.proofs.Seats.{mutator-kept}
+use Rattle.managed_heap.proofs.collecting.begins_sweep.Goals as goal
+
+pub returns-clause-sweeping : goal.returns-clause-sweeping
+returns-clause-sweeping c =
+    let e = c.start_sweep.ensures in
+    record { sits = e.seat; mutator = mutator-kept (view_of c.args.seat.now) (view_of c.start_sweep.new.seat) c.requires.marked.mutator e.moved.ran e.keeps.0 e.keeps.1; sweeps = e.sweeps }
