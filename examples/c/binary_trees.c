@@ -1,6 +1,6 @@
 /*
  * Binary trees on threads: each makes trees of depths 4 to the greatest and counts their objects, which are 2^(d+1)-1. The first thread keeps a tree of the
- * greatest depth meanwhile. Arguments: greatest depth, threads, cells.
+ * greatest depth meanwhile. Other threads mark beside them. Arguments: greatest depth, threads, tracers, cells.
  */
 #include "heap.h"
 
@@ -10,6 +10,21 @@ struct job {
     uint32_t greatest, threads, number;
     uint64_t made, trees;
 };
+
+struct marker { mh_tracer t; uint64_t marked, idle; };
+
+/* Marks turn by turn, as mh_trace does, and counts the turns in which a cycle was marking, and those in which none was. */
+static void *mark(void *p) {
+    struct marker *r = p;
+    mh_status s;
+    while ((s = mh_trace_turn(&r->t)) == MH_OK || s == MH_IDLE || s == MH_STOPPED) {
+        r->marked += s == MH_OK;
+        r->idle += s == MH_IDLE;
+        mh_rest(s);
+    }
+    must(s, MH_DISMISSED, "mh_trace_turn", __FILE__, __LINE__);
+    return 0;
+}
 
 /* A tree of this depth in variable v, made from the top; variables above v are used. */
 static void build(struct job *j, uint8_t v, uint32_t depth) {
@@ -65,13 +80,18 @@ static void *work(void *p) {
 int main(int count_of, char **words) {
     static mh_world world;
     static struct job jobs[THREADS];
-    pthread_t threads[THREADS];
-    uint32_t greatest = number(count_of, words, 1, 16), n = number(count_of, words, 2, 1), k;
-    uint32_t cells = number(count_of, words, 3, 1u << 20);
-    uint64_t made = 0, trees = 0;
+    static struct marker markers[8];
+    pthread_t threads[THREADS], marking[8];
+    uint32_t greatest = number(count_of, words, 1, 16), n = number(count_of, words, 2, 1), tracers = number(count_of, words, 3, 0), k;
+    uint32_t cells = number(count_of, words, 4, 1u << 20);
+    uint64_t made = 0, trees = 0, marked = 0, idle = 0;
     double from, took, pause = 0;
-    open_world(&world, cells, 2, n);
+    open_with(&world, cells, 2, n, tracers);
     from = now();
+    for (k = 0; k < tracers; k++) {
+        MUST(mh_take_tracer(&world, &markers[k].t));
+        if (pthread_create(&marking[k], 0, mark, &markers[k])) return 2;
+    }
     for (k = 0; k < n; k++) {
         jobs[k].greatest = greatest; jobs[k].threads = n; jobs[k].number = k;
         MUST(mh_take_mutator(&world, &jobs[k].m));
@@ -84,8 +104,17 @@ int main(int count_of, char **words) {
         if (jobs[k].pause.longest > pause) pause = jobs[k].pause.longest;
     }
     took = now() - from;
+    MUST(mh_dismiss(&world));
+    for (k = 0; k < tracers; k++) {
+        pthread_join(marking[k], 0);
+        MUST_BE(MH_IN_USE, mh_close(&world));
+        MUST(mh_give_back_tracer(&world, &markers[k].t));
+        marked += markers[k].marked; idle += markers[k].idle;
+    }
     MUST(mh_close(&world));
-    printf("%-13s %-12s depth %u threads %u: %llu trees, %llu objects, %.2f s, %.2f s of processors, %.0f MB, longest call %.2f ms\n", "binary_trees",
-           COLLECTOR, greatest, n, (unsigned long long)trees, (unsigned long long)made, took, processor(), megabytes(), pause * 1e3);
+    printf("%-13s %-12s depth %u threads %u tracers %u: %llu trees, %llu objects, %.2f s, %.2f s of processors, %.0f MB, longest call %.2f ms", "binary_trees",
+           COLLECTOR, greatest, n, tracers, (unsigned long long)trees, (unsigned long long)made, took, processor(), megabytes(), pause * 1e3);
+    if (tracers) printf(", %llu turns marked and %llu found nothing", (unsigned long long)marked, (unsigned long long)idle);
+    printf("\n");
     return 0;
 }

@@ -1,12 +1,13 @@
 /*
- * Calls at random, right and wrong: numbers out of range, calls in the wrong place, handles that were given back. A shadow of each mutator's objects in plain C
+ * Calls at random, right and wrong: numbers out of range, calls in the wrong place, handles that were given back. Between them each thread takes turns of a
+ * tracer of its own. A shadow of each mutator's objects in plain C
  * says what each call is to answer, and from time to time every object that can be reached is compared with its shadow, so that none is lost or changed.
  * Arguments: calls in all, threads, seed.
  */
 #include "heap.h"
 #include <string.h>
 
-enum { FIELDS = 3, OBJECTS = 500, VARIABLES = 32, FOUND = 31, NEXT = 30, STATUSES = 16 };
+enum { FIELDS = 3, OBJECTS = 500, VARIABLES = 32, FOUND = 31, NEXT = 30, STATUSES = 17, TRACERS = 8 };
 enum place { OUTSIDE, INSIDE, COLLECTING };
 
 struct shadow {
@@ -16,6 +17,7 @@ struct shadow {
 
 struct job {
     mh_mutator m, gone;
+    mh_tracer t, none;
     struct shadow of[OBJECTS];
     int32_t variable[VARIABLES], waiting[OBJECTS];
     uint64_t seed, calls, answers[STATUSES], walked, walks, collections;
@@ -76,7 +78,7 @@ static void follow(struct job *j, int32_t o) {
 
 /* Each reachable object is as its shadow. */
 static void compare(struct job *j) {
-    uint32_t n, at, k, value, nil;
+    uint32_t n, at, k, value, nil, one;
     j->variable[FOUND] = j->variable[NEXT] = -1;
     n = reach(j);
     for (at = 0; at < n; at++) {
@@ -90,6 +92,8 @@ static void compare(struct job *j) {
             wrong("whether a field is nil", nil, j->of[o].field[k] < 0);
         }
         k = random_below(j, NEXT);
+        MUST(mh_same(&j->m, FOUND, (uint8_t)k, &one));
+        wrong("whether two variables refer to one object", one, j->variable[k] == o);
         if (j->variable[k] < 0) continue;
         /* A value that is put into the object that was found is read by the variable where it refers to that object, and else not. */
         MUST(mh_put(&j->m, FOUND, 1u << 31));
@@ -120,7 +124,7 @@ static mh_status expected(struct job *j, int in_range) {
 static void come_in(struct job *j) {
     mh_status s;
     while (j->place == COLLECTING) {
-        s = told(j, mh_collect_step(&j->m));
+        s = told(j, mh_collect_step(&j->m, 1 + random_below(j, 100)));
         if (s == MH_OK) { j->place = INSIDE; j->collections++; }
         else if (s == MH_STOPPED) j->place = OUTSIDE;
         else { must(s, MH_NOT_YET, "mh_collect_step", __FILE__, __LINE__); sched_yield(); }
@@ -189,6 +193,11 @@ static void operate(struct job *j, uint32_t which) {
         SAYS(wanted, mh_value(&j->m, v, &out));
         wrong("what mh_value wrote", out, wanted == MH_OK ? j->of[o].value : 77);
         return;
+    case 6:
+        wanted = expected(j, two);
+        SAYS(wanted, mh_same(&j->m, v, w, &out));
+        wrong("what mh_same wrote", out, wanted == MH_OK ? o == j->variable[w] : 77);
+        return;
     default:
         wanted = expected(j, one);
         SAYS(wanted, mh_is_nil(&j->m, v, &out));
@@ -216,8 +225,11 @@ static void move(struct job *j, uint32_t which) {
         else if (s == MH_STOPPED) j->place = OUTSIDE;
         else must(s, MH_OK, "mh_pass", __FILE__, __LINE__);
         return;
+    case 3:
+        SAYS(MH_OUT_OF_RANGE, mh_collect_step(&j->m, 0));
+        return;
     default:
-        s = told(j, mh_collect_step(&j->m));
+        s = told(j, mh_collect_step(&j->m, 1 + random_below(j, random_below(j, 2) ? 10 : 10000)));
         if (j->place == OUTSIDE) must(s, MH_OUTSIDE, "mh_collect_step", __FILE__, __LINE__);
         else if (s == MH_NOT_YET) j->place = COLLECTING;
         else if (s == MH_STOPPED) j->place = OUTSIDE;
@@ -237,14 +249,40 @@ static void use_gone(struct job *j, uint32_t which) {
     case 3: SAYS(MH_GIVEN_BACK, mh_enter_step(g)); break;
     case 4: SAYS(MH_GIVEN_BACK, mh_leave(g)); break;
     case 5: SAYS(MH_GIVEN_BACK, mh_pass(g)); break;
-    case 6: SAYS(MH_GIVEN_BACK, mh_collect_step(g)); break;
+    case 6: SAYS(MH_GIVEN_BACK, mh_collect_step(g, 1)); break;
     case 7: SAYS(MH_GIVEN_BACK, mh_value(g, v, &out)); break;
     case 8: SAYS(MH_GIVEN_BACK, mh_copy(g, v, w)); break;
     case 9: SAYS(MH_GIVEN_BACK, mh_put(g, v, 1)); break;
     case 10: SAYS(MH_GIVEN_BACK, mh_is_nil(g, v, &out)); break;
+    case 11: SAYS(MH_GIVEN_BACK, mh_same(g, v, w, &out)); break;
+    case 12: SAYS(MH_GIVEN_BACK, mh_trace_turn(&j->none)); break;
+    case 13: SAYS(MH_GIVEN_BACK, mh_give_back_tracer(&world, &j->none)); break;
     default: SAYS(MH_GIVEN_BACK, mh_forget(g, v));
     }
     wrong("what a call by a handle that was given back wrote", out, 77);
+}
+
+/* A turn of the thread's tracer, if it has one. */
+static void turn(struct job *j) {
+    mh_status s = told(j, mh_trace_turn(&j->t));
+    if (!j->t.at) must(s, MH_GIVEN_BACK, "mh_trace_turn", __FILE__, __LINE__);
+    else if (j->place == COLLECTING) must(s, MH_STOPPED, "mh_trace_turn", __FILE__, __LINE__);
+    else if (s != MH_STOPPED && s != MH_IDLE) must(s, MH_OK, "mh_trace_turn", __FILE__, __LINE__);
+}
+
+/* The tracer goes back to the world and is taken again. */
+static void lend_tracer(struct job *j) {
+    mh_tracer empty = {0};
+    pthread_mutex_lock(&lending);
+    if (j->t.at) {
+        SAYS(MH_IN_USE, mh_take_tracer(&world, &j->t));
+        SAYS(MH_NONE_LEFT, mh_take_tracer(&world, &empty));
+        SAYS(MH_IN_USE, mh_close(&world));
+        SAYS(MH_OK, mh_give_back_tracer(&world, &j->t));
+        SAYS(MH_GIVEN_BACK, mh_give_back_tracer(&world, &j->t));
+        SAYS(MH_OK, mh_take_tracer(&world, &j->t));
+    }
+    pthread_mutex_unlock(&lending);
 }
 
 /* The mutator goes back to the world and is taken again, with all that its variables refer to. */
@@ -273,15 +311,17 @@ static void *work(void *p) {
     for (k = 0; k < VARIABLES; k++) j->variable[k] = -1;
     while (j->calls < until) {
         uint32_t which = random_below(j, 100);
+        if (!random_below(j, 4)) turn(j);
         if (j->place != INSIDE && !random_below(j, 4)) which = 92 + 3 * (j->place == COLLECTING);
         if (which < 30) make(j);
         else if (which < 50) operate(j, 0);
         else if (which < 80) operate(j, which % 8 == 3 && which % 16 == 3 ? 0 : which % 8);
-        else if (which < 82) move(j, which % 2 + 2 * !random_below(j, 8));
+        else if (which < 82) move(j, which % 2 + 3 * !random_below(j, 8));
         else if (which < 92) move(j, 2);
-        else if (which < 96) move(j, j->place == INSIDE ? 2 : which % 4);
-        else if (which < 99) use_gone(j, random_below(j, 12));
+        else if (which < 96) move(j, j->place == INSIDE ? 2 : which % 4 + (which % 4 == 3));
+        else if (which < 99) use_gone(j, random_below(j, 15));
         else if (!random_below(j, 20)) lend(j);
+        else if (!random_below(j, 20)) lend_tracer(j);
         if (j->calls >= next) {
             come_in(j);
             compare(j);
@@ -299,14 +339,21 @@ int main(int count_of, char **words) {
     pthread_t threads[THREADS];
     uint32_t calls = number(count_of, words, 1, 1000000), n = number(count_of, words, 2, 1), k, s;
     uint64_t seed = number(count_of, words, 3, 1), made = 0, walked = 0, walks = 0, collections = 0, answers[STATUSES] = {0};
-    open_world(&world, (n * OBJECTS + n * 64 + 63) / 64 * 64 + 64 * n, FIELDS, n);
+    uint32_t tracers = n < TRACERS ? n : TRACERS;
+    open_with(&world, (n * OBJECTS + n * 64 + 63) / 64 * 64 + 64 * n, FIELDS, n, tracers);
     for (k = 0; k < n; k++) {
         jobs[k].seed = seed * 0x9e3779b97f4a7c15u + k + 1;
         jobs[k].calls = calls / n;
         MUST(mh_take_mutator(&world, &jobs[k].m));
+        if (k < tracers) MUST(mh_take_tracer(&world, &jobs[k].t));
     }
     for (k = 0; k < n; k++) if (pthread_create(&threads[k], 0, work, &jobs[k])) return 2;
     for (k = 0; k < n; k++) pthread_join(threads[k], 0);
+    MUST(mh_dismiss(&world));
+    for (k = 0; k < tracers; k++) {
+        MUST_BE(MH_DISMISSED, mh_trace_turn(&jobs[k].t));
+        MUST(mh_give_back_tracer(&world, &jobs[k].t));
+    }
     for (k = 0; k < n; k++) {
         MUST(mh_give_back(&world, &jobs[k].m));
         made += jobs[k].calls; walked += jobs[k].walked; walks += jobs[k].walks; collections += jobs[k].collections;

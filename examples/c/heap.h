@@ -65,10 +65,12 @@ static inline mh_status timed_alloc(struct pause *p, mh_mutator *m, uint8_t v, u
 
 enum { THREADS = 32 };
 
-static inline void open_world(mh_world *world, uint32_t cells, uint32_t fields, uint32_t mutators) {
-    mh_sizes sizes = {cells, fields, mutators, 0};
+static inline void open_with(mh_world *world, uint32_t cells, uint32_t fields, uint32_t mutators, uint32_t tracers) {
+    mh_sizes sizes = {cells, fields, mutators, 0, tracers};
     MUST(mh_open(&sizes, world));
 }
+
+static inline void open_world(mh_world *world, uint32_t cells, uint32_t fields, uint32_t mutators) { open_with(world, cells, fields, mutators, 0); }
 
 /* A number of a command line, or this one. */
 static inline uint32_t number(int count, char **words, int at, uint32_t otherwise) {

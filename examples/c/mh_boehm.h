@@ -11,10 +11,10 @@
 
 typedef enum mh_status {
     MH_OK, MH_NOT_YET, MH_STOPPED, MH_NO_CELL, MH_OUTSIDE, MH_COLLECTING, MH_OUT_OF_RANGE, MH_NIL, MH_FULL, MH_SPENT, MH_OUT_OF_MEMORY, MH_GIVEN_BACK,
-    MH_IN_USE, MH_NONE_LEFT, MH_REFUSED
+    MH_IN_USE, MH_NONE_LEFT, MH_REFUSED, MH_IDLE, MH_DISMISSED
 } mh_status;
 
-typedef struct mh_sizes { uint32_t cells, fields, mutators, name; } mh_sizes;
+typedef struct mh_sizes { uint32_t cells, fields, mutators, name, tracers; } mh_sizes;
 typedef struct mh_numbers { uint32_t cells; uint64_t free, marked; } mh_numbers;
 struct mh_block { uint64_t value; struct mh_block *field[]; };
 typedef struct mh_world { void *at; mh_sizes sizes; uint32_t taken; } mh_world;
@@ -89,5 +89,18 @@ static inline mh_status mh_value(mh_mutator *m, uint8_t v, uint32_t *out) {
     return MH_OK;
 }
 static inline mh_status mh_is_nil(mh_mutator *m, uint8_t v, uint32_t *out) { MH_AT(m, v < 32); *out = !m->v[v]; return MH_OK; }
+static inline mh_status mh_same(mh_mutator *m, uint8_t v, uint8_t w, uint32_t *out) {
+    MH_AT(m, v < 32 && w < 32);
+    *out = m->v[v] == m->v[w];
+    return MH_OK;
+}
+
+/* There are no tracers: the collector marks with threads of its own. */
+typedef struct mh_tracer { void *at; } mh_tracer;
+static inline mh_status mh_take_tracer(mh_world *w, mh_tracer *t) { (void)w; (void)t; return MH_NONE_LEFT; }
+static inline mh_status mh_give_back_tracer(mh_world *w, mh_tracer *t) { (void)w; (void)t; return MH_GIVEN_BACK; }
+static inline mh_status mh_trace_turn(mh_tracer *t) { (void)t; return MH_GIVEN_BACK; }
+static inline mh_status mh_dismiss(mh_world *w) { (void)w; return MH_OK; }
+static inline void mh_rest(mh_status s) { (void)s; }
 
 #endif

@@ -42,10 +42,13 @@ run() {
 programs="binary_trees gcbench rewriter fuzz fills_up billion speed"
 for name in $programs; do build "$name" "$name"; done
 
-echo "== trees on 1, 2, 4 threads, and terms"
+echo "== trees on 1, 2, 4 threads beside 0, 1, 2 tracers, and terms"
 for threads in 1 2 4; do
-    run 300 binary_trees 16 $threads
+    for tracers in 0 1 2; do
+        run 300 binary_trees 16 $threads $tracers 524288
+    done
 done
+run 300 binary_trees 16 1
 run 300 gcbench 16
 run 300 rewriter 7 20
 
@@ -88,7 +91,7 @@ for kind in address,undefined thread; do
     if echo 'int main(void) { return 0; }' | cc -fsanitize=$kind -o "$work/there" -x c - 2>"$work/log" && "$work/there"; then
         echo "== under -fsanitize=$kind"
         for name in binary_trees gcbench rewriter fuzz fills_up; do build "$name" "$name.checked" -g -fsanitize=$kind -fno-sanitize-recover=all; done
-        run 600 binary_trees.checked 10 2
+        run 600 binary_trees.checked 10 2 1 16384
         run 600 gcbench.checked 10
         run 600 rewriter.checked 5 5
         run 600 fuzz.checked 1000000 1 4

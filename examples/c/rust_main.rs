@@ -6,6 +6,7 @@ struct Sizes {
     fields: u32,
     mutators: u32,
     name: u32,
+    tracers: u32,
 }
 
 /// A handle, whose address the library fills in. What managed_heap.h does inline is done here: no call is made by an empty handle.
@@ -22,8 +23,8 @@ const STOPPED: u32 = 2;
 const NO_CELL: u32 = 3;
 
 extern "C" {
-    fn mhl_open(sizes: *const Sizes, at: *mut *mut u8) -> u32;
-    fn mhl_take_mutator(world: *mut Handle, at: *mut *mut u8) -> u32;
+    fn mhl_open(sizes: *const Sizes, world: *mut Handle) -> u32;
+    fn mhl_take_mutator(world: *mut Handle, m: *mut Handle) -> u32;
     fn mhl_give_back(world: *mut Handle, mutator: *mut Handle) -> u32;
     fn mhl_close(world: *mut Handle) -> u32;
     fn mhl_enter_step(m: *mut Handle) -> u32;
@@ -33,7 +34,7 @@ extern "C" {
     fn mhl_get(m: *mut Handle, w: u8, v: u8, i: u8) -> u32;
     fn mhl_copy(m: *mut Handle, w: u8, v: u8) -> u32;
     fn mhl_value(m: *mut Handle, v: u8, out: *mut u32) -> u32;
-    fn mhl_collect_step(m: *mut Handle) -> u32;
+    fn mhl_collect_step(m: *mut Handle, most: u32) -> u32;
     fn free(at: *mut u8);
 }
 
@@ -71,7 +72,7 @@ impl Handle {
 
     fn collect(&mut self) {
         loop {
-            match unsafe { mhl_collect_step(self) } {
+            match unsafe { mhl_collect_step(self, 4096) } {
                 OK => return,
                 STOPPED => return self.enter(),
                 NOT_YET => std::thread::yield_now(),
@@ -106,13 +107,13 @@ fn queue(m: &mut Handle, many: u32) -> u32 {
 }
 
 fn main() {
-    let sizes = Sizes { cells: 1024, fields: 2, mutators: 2, name: 0 };
+    let sizes = Sizes { cells: 1024, fields: 2, mutators: 2, name: 0, tracers: 0 };
     let mut world = Handle::empty();
-    done(unsafe { mhl_open(&sizes, &mut world.at) });
+    done(unsafe { mhl_open(&sizes, &mut world) });
     let threads: Vec<_> = (0..2)
         .map(|t| {
             let mut m = Handle::empty();
-            done(unsafe { mhl_take_mutator(&mut world, &mut m.at) });
+            done(unsafe { mhl_take_mutator(&mut world, &mut m) });
             std::thread::spawn(move || {
                 let last = queue(&mut m, 300_000 + 100_000 * t);
                 (m, last)

@@ -1,1 +1,4 @@
 pub mod Answered
+pub mod Tested
+pub mod Turned
+pub mod Values

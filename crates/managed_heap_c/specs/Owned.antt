@@ -4,6 +4,7 @@ use base.Fml.{Fml}
 use base.Stored.{Coded}
 use denote.RawPtr.{Ptr, lies_at}
 use Rattle.managed_heap_c.specs.contracts.hands.Hand as hand
+use Rattle.managed_heap_c.specs.contracts.hands.TracerHand as tracing
 use Rattle.managed_heap_c.specs.contracts.hands.Whole as whole
 
 abbrev pub hand_owned : Ptr → hand.the_row.Denot → Fml
@@ -11,6 +12,12 @@ hand_owned = lies_at hand.the_row full_share
 
 abbrev pub hand_coded : Coded hand.the_row.Denot
 hand_coded = hand.the_row.coded
+
+abbrev pub tracer_owned : Ptr → tracing.the_row.Denot → Fml
+tracer_owned = lies_at tracing.the_row full_share
+
+abbrev pub tracer_coded : Coded tracing.the_row.Denot
+tracer_coded = tracing.the_row.coded
 
 abbrev pub whole_owned : Ptr → whole.the_row.Denot → Fml
 whole_owned = lies_at whole.the_row full_share

@@ -1,6 +1,7 @@
 //! What a call does with the mutator behind a handle.
 ghost use Rattle.plain_heap.specs.declared.operation.Op.TheVariants as ops;
-ghost use Rattle.managed_heap.specs.Stepping.{Collects, Entered, Left, Makes, Operates, Passed};
+ghost use Rattle.managed_heap.specs.Bounds.{CollectsAtMost};
+ghost use Rattle.managed_heap.specs.Stepping.{Entered, Left, Makes, Operates, Passed};
 ghost use Rattle.managed_heap_c.specs.Answering.{Answers, ReadsTo, SparesGone};
 
 use crate::hands::Hand;
@@ -36,13 +37,13 @@ pub fn pass_by(hand: &mut Hand) -> u32
     }
 }
 
-/// A step of a collection.
-pub fn collect_by(hand: &mut Hand) -> u32
-    ensures answers { Answers Collects result hand.old.stepper hand.new.stepper }
+/// A step of a collection, with this bound.
+pub fn collect_by(hand: &mut Hand, most: u32) -> u32
+    ensures answers { Answers (CollectsAtMost most) result hand.old.stepper hand.new.stepper }
 {
     match &mut hand.stepper {
         None => GIVEN_BACK,
-        Some(stepper) => status(stepper.collect_step()),
+        Some(stepper) => status(stepper.collect_at_most(most)),
     }
 }
 

@@ -1,7 +1,8 @@
 //! What C keeps: the address of what lies behind a handle.
 ghost use Rattle.managed_heap_c.specs.declared.hands.Hand.{Hand};
+ghost use Rattle.managed_heap_c.specs.declared.hands.TracerHand.{TracerHand};
 ghost use Rattle.managed_heap_c.specs.declared.hands.Whole.{Whole};
-ghost use Rattle.managed_heap_c.specs.Owned.{hand_coded, hand_owned, whole_coded, whole_owned};
+ghost use Rattle.managed_heap_c.specs.Owned.{hand_coded, hand_owned, tracer_coded, tracer_owned, whole_coded, whole_owned};
 
 use std::marker::Model;
 
@@ -14,6 +15,17 @@ pub struct MutatorHandle {
 
 impl Model for MutatorHandle {
     ghost also_owns = { λ h. hand_owned h.at h.hand };
+}
+
+/// The handle of a tracer.
+#[repr(C)]
+pub struct TracerHandle {
+    pub(crate) at: *mut u8,
+    pub ghost hand: { TracerHand } by { tracer_coded },
+}
+
+impl Model for TracerHandle {
+    ghost also_owns = { λ h. tracer_owned h.at h.hand };
 }
 
 /// The handle of a world.

@@ -1,12 +1,20 @@
 //! What lies behind a handle.
 
-use managed_heap::{Stepper, World};
+use managed_heap::{Stepper, Tracer, World};
 use std::sync::atomic::AtomicU32;
 
 /// A mutator, or none where it was given back.
 #[derive(Drop)]
 pub struct Hand {
     pub stepper: Option<Stepper>,
+    /// 1 while a call uses it, else 0.
+    pub word: AtomicU32,
+}
+
+/// A tracer, or none where it was given back.
+#[derive(Drop)]
+pub struct TracerHand {
+    pub tracer: Option<Tracer>,
     /// 1 while a call uses it, else 0.
     pub word: AtomicU32,
 }

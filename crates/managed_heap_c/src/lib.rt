@@ -1,21 +1,29 @@
-//! The heap for programs in C: handles of worlds and mutators, whose calls answer a status (`examples/c/managed_heap.h`).
+//! The heap for programs in C: handles of worlds, mutators and tracers, whose calls answer a status (`examples/c/managed_heap.h`).
 //!
 //! A handle is a struct of C that has the address of what lies behind it. C gives each handle to one call at a time; a word behind it refuses a second call
 //! beside the first, as long as the handle isn't given back meanwhile. Each export's contract says what its answer tells: `Answers` over the mutator before and
 //! after, by the clauses of `managed_heap`.
 #![tactic(auto)]
 
+mod asked;
+mod asking;
 mod calls;
 mod handles;
 mod hands;
 mod lending;
+mod loose;
+mod slots;
 mod statuses;
+mod tracers;
+mod tracing;
 mod using;
 mod worlds;
 
 ghost use Rattle.plain_heap.specs.declared.operation.Op.TheVariants as ops;
-ghost use Rattle.managed_heap.specs.Stepping.{Collects, Entered, Left, Makes, Operates, Passed};
+ghost use Rattle.managed_heap.specs.Bounds.{CollectsAtMost};
+ghost use Rattle.managed_heap.specs.Stepping.{Entered, Left, Makes, Operates, Passed};
 ghost use Rattle.managed_heap_c.specs.Answering.{AnswersOnce, Closes, Counts, GivesOnce, ReadsTo};
+ghost use Rattle.managed_heap_c.specs.Taking.{Opens, Takes};
 
 use calls::{
     collect_by, copy_by, enter_by, forget_by, get_by, leave_by, make_by, pass_by, put_by, set_by,
@@ -23,6 +31,7 @@ use calls::{
 };
 use handles::{MutatorHandle, WorldHandle};
 use lending::{lend_hand, lend_whole};
+use slots::{MutatorSlot, WorldSlot};
 use statuses::IN_USE;
 use std::alloc::Global;
 use using::{begins, ends};
@@ -168,33 +177,37 @@ pub extern "C" fn mhl_value(h: &mut MutatorHandle, v: u8, out: &mut u32) -> u32
     answer
 }
 
-/// The next step of a collection of the mutator's own.
+/// The next step of a collection of the mutator's own, of at most so many objects or blocks.
 #[unsafe(no_mangle)]
-pub extern "C" fn mhl_collect_step(h: &mut MutatorHandle) -> u32
-    ensures answers { AnswersOnce Collects result h.old.hand.stepper h.new.hand.stepper }
+pub extern "C" fn mhl_collect_step(h: &mut MutatorHandle, most: u32) -> u32
+    ensures answers { AnswersOnce (CollectsAtMost most) result h.old.hand.stepper h.new.hand.stepper }
 {
     let hand = lend_hand(h);
     if !begins(hand) {
         return IN_USE;
     }
-    let answer = collect_by(hand);
+    let answer = collect_by(hand, most);
     ends(hand);
     answer
 }
 
-/// Opens a world, and writes the address that its handle has.
+/// Opens a world, and fills its handle.
 #[unsafe(no_mangle)]
-pub extern "C" fn mhl_open(alloc: Global, sizes: &CSizes, out: &mut *mut u8) -> u32 {
+pub extern "C" fn mhl_open(alloc: Global, sizes: &CSizes, out: &mut WorldSlot) -> u32
+    ensures opens { Opens result sizes.now out.old out.new }
+{
     open_at(alloc, sizes, out)
 }
 
-/// Takes a mutator of the world, and writes the address that its handle has.
+/// Takes a mutator of the world, and fills its handle.
 #[unsafe(no_mangle)]
 pub extern "C" fn mhl_take_mutator(
     alloc: Global,
     world: &mut WorldHandle,
-    out: &mut *mut u8,
-) -> u32 {
+    out: &mut MutatorSlot,
+) -> u32
+    ensures takes { Takes result world.old.whole.world world.new.whole.world out.old out.new }
+{
     take_at(alloc, lend_whole(world), out)
 }
 

@@ -1,11 +1,15 @@
 //! What a call answers to C: the numbers of `mh_status`.
 ghost use Rattle.std.specs.Prelude.{◌≡◌};
 ghost use Rattle.managed_heap_c.specs.Answering.{status_of};
+ghost use Rattle.managed_heap_c.specs.Tracers.{status_of_turn};
 
-use managed_heap::Came;
+use managed_heap::{Came, TryTurn};
 
 /// It is done.
 pub const OK: u32 = 0;
+
+/// A stop is under way.
+pub const STOPPED: u32 = 2;
 
 /// The mutator is between two steps of a collection.
 pub const COLLECTING: u32 = 5;
@@ -22,10 +26,10 @@ pub const GIVEN_BACK: u32 = 11;
 /// A call of another thread uses the handle, or not all handles are back.
 pub const IN_USE: u32 = 12;
 
-/// All mutators are taken.
+/// All mutators, or all tracers, are taken.
 pub const NONE_LEFT: u32 = 13;
 
-/// The world doesn't take the mutator back.
+/// The world doesn't take the mutator or the tracer back.
 pub const REFUSED: u32 = 14;
 
 /// The number of what a mutator's call came to.
@@ -43,5 +47,18 @@ pub fn status(came: Came) -> u32
         Came::Nil => 7,
         Came::Full => 8,
         Came::Spent => 9,
+    }
+}
+
+/// The number of what a tracer's turn came to.
+pub fn turn_status(tried: TryTurn) -> u32
+    ensures number { result ≡ status_of_turn tried }
+{
+    match tried {
+        TryTurn::Marked => 0,
+        TryTurn::Stopped => 2,
+        TryTurn::Full => 8,
+        TryTurn::Idle => 15,
+        TryTurn::Dismissed => 16,
     }
 }

@@ -1,12 +1,13 @@
 //! Worlds are opened and closed, and lend their mutators.
-ghost use Rattle.std.specs.Prelude.{◌≡◌, IfNone, IfSome};
+ghost use Rattle.std.specs.Prelude.{◌≡◌, IfErr, IfNone, IfOk, IfSome, Some};
 ghost use Rattle.managed_heap.specs.Calls.{heap_of};
 ghost use Rattle.managed_heap.specs.Lending.{IsBack};
 ghost use Rattle.managed_heap.specs.Stepping.{heap_in};
 ghost use Rattle.managed_heap_c.specs.Answering.{Closes, Counts, Gives, GivesBack, HasCounted};
+ghost use Rattle.managed_heap_c.specs.Taking.{HasNone, HoldsMutator, Lends, Opens, Takes, sizes_of};
 
 use crate::hands::{Hand, Whole};
-use crate::lending::{hand_at, whole_at};
+use crate::slots::{MutatorSlot, WorldSlot, hand_slot, whole_slot};
 use crate::statuses::{
     COLLECTING, GIVEN_BACK, IN_USE, NONE_LEFT, OK, OUT_OF_MEMORY, OUT_OF_RANGE, REFUSED,
 };
@@ -21,6 +22,7 @@ pub struct CSizes {
     fields: u32,
     mutators: u32,
     name: u32,
+    tracers: u32,
 }
 
 /// The numbers of a world, as C reads them.
@@ -32,7 +34,9 @@ pub struct CNumbers {
 }
 
 /// A world in a box.
-fn boxed_world(alloc: Global, world: World) -> Result<Box<Whole, Global>, AllocError> {
+fn boxed_world(alloc: Global, world: World) -> Result<Box<Whole, Global>, AllocError>
+    ensures has { IfOk result (λ whole. whole.value.world ≡ Some world) }
+{
     Ok(Box::new(alloc, Whole { world: Some(world) })?)
 }
 
@@ -47,19 +51,28 @@ fn boxed_hand(alloc: Global) -> Result<Box<Hand, Global>, AllocError> {
     )?)
 }
 
-/// Opens a world.
-pub fn open_at(alloc: Global, sizes: &CSizes, out: &mut *mut u8) -> u32 {
-    let wanted = Sizes::of_cells(sizes.cells)
+/// The sizes that C asks for.
+fn wanted(sizes: &CSizes) -> Sizes
+    ensures wanted { result ≡ sizes_of sizes.now }
+{
+    Sizes::of_cells(sizes.cells)
         .fields(sizes.fields)
         .mutators(sizes.mutators)
-        .named(sizes.name);
-    match World::open(alloc, wanted) {
+        .tracers(sizes.tracers)
+        .named(sizes.name)
+}
+
+/// Opens a world.
+pub fn open_at(alloc: Global, sizes: &CSizes, out: &mut WorldSlot) -> u32
+    ensures opens { Opens result sizes.now out.old out.new }
+{
+    match World::open(alloc, wanted(sizes)) {
         Err(NotOpened::OutOfRange) => OUT_OF_RANGE,
         Err(NotOpened::OutOfMemory) => OUT_OF_MEMORY,
         Ok(world) => match boxed_world(alloc, world) {
             Err(_) => OUT_OF_MEMORY,
             Ok(whole) => {
-                *out = whole_at(whole);
+                *out = whole_slot(whole);
                 OK
             }
         },
@@ -67,7 +80,10 @@ pub fn open_at(alloc: Global, sizes: &CSizes, out: &mut *mut u8) -> u32 {
 }
 
 /// One of the mutators that nobody has.
-fn mutator_of(whole: &mut Whole) -> Result<Mutator, u32> {
+fn mutator_of(whole: &mut Whole) -> Result<Mutator, u32>
+    ensures lent { IfOk result (λ m. Lends m whole.old.world whole.new.world) }
+    ensures none { IfErr result (λ n. HasNone n whole.old.world whole.new.world) }
+{
     match &mut whole.world {
         None => Err(GIVEN_BACK),
         Some(world) => match world.mutator() {
@@ -77,16 +93,26 @@ fn mutator_of(whole: &mut Whole) -> Result<Mutator, u32> {
     }
 }
 
+/// A handle of this mutator.
+fn slot_of(hand: Box<Hand, Global>, mutator: Mutator) -> MutatorSlot
+    ensures holds { HoldsMutator mutator result }
+{
+    let mut hand = hand;
+    hand.stepper = Some(mutator.into_steps());
+    hand_slot(hand)
+}
+
 /// Takes a mutator. The box is made first, so that none is lost where there is no memory.
-pub fn take_at(alloc: Global, whole: &mut Whole, out: &mut *mut u8) -> u32 {
-    let Ok(mut hand) = boxed_hand(alloc) else {
+pub fn take_at(alloc: Global, whole: &mut Whole, out: &mut MutatorSlot) -> u32
+    ensures takes { Takes result whole.old.world whole.new.world out.old out.new }
+{
+    let Ok(hand) = boxed_hand(alloc) else {
         return OUT_OF_MEMORY;
     };
     match mutator_of(whole) {
         Err(status) => status,
         Ok(mutator) => {
-            hand.stepper = Some(mutator.into_steps());
-            *out = hand_at(hand);
+            *out = slot_of(hand, mutator);
             OK
         }
     }

@@ -1,0 +1,13 @@
+use Rattle.std.proofs.Common.{refl}
+use Rattle.plain_heap.specs.declared.operation.Op.TheVariants as ops
+use Rattle.managed_heap_c.specs.Asking.{RefersToOne, TestsTo}
+use Rattle.managed_heap_c.proofs.Answered.{answered}
+use Rattle.managed_heap_c.proofs.Tested.{tested}
+use Rattle.managed_heap_c.proofs.asked.same_by.Goals as goal
+
+pub returns-in-Some-clause-answers : goal.returns-in-Some-clause-answers
+returns-in-Some-clause-answers c =
+    let e = c.same.ensures in
+    let P = RefersToOne c.args.v c.args.w in
+    answered (TestsTo P (ops.Let c.args.v c.args.w) c.args.out.now c.write_answer.new.out) c.status.result c.args.hand.now.stepper c.in-Some.stepper c.in-Some.stepper c.write_answer.result c.in-Some.is c.status.ensures.number
+    (tested P (ops.Let c.args.v c.args.w) c.args.out.now c.write_answer.new.out c.write_answer.result c.same.result c.in-Some.stepper e.one e.two e.may e.refused c.write_answer.ensures.writes)

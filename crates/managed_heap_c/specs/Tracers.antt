@@ -1,0 +1,91 @@
+-- What an export of a tracer answers.
+use Rattle.std.specs.Prelude.{ℕ, ◌≡◌, ◌⊎◌, ◌<◌, ◌++◌, [], ◌∷◌, Option, Some, None, vec_len}
+use Rattle.gc_table.specs.Seats.{Across}
+use Rattle.stop_world.specs.Gates.{TurnsBack}
+use Rattle.managed_heap.specs.Lending.{KeepsRest}
+use Rattle.managed_heap.specs.Trying.{Dismisses, TriesTurn}
+use Rattle.managed_heap.specs.declared.background.Tracer.{Tracer}
+use Rattle.managed_heap.specs.declared.try_turns.TryTurn.{TryTurn}
+use Rattle.managed_heap.specs.declared.try_turns.TryTurn.TheVariants as tries
+use Rattle.managed_heap.specs.declared.world.World.{World}
+use Rattle.managed_heap_c.specs.declared.hands.TracerHand.{TracerHand}
+use Rattle.managed_heap_c.specs.declared.slots.TracerSlot.{TracerSlot}
+
+-- the number of what a tracer's turn came to
+abbrev pub status_of_turn : TryTurn → ℕ
+status_of_turn tries.Marked = 0
+status_of_turn tries.Stopped = 2
+status_of_turn tries.Full = 8
+status_of_turn tries.Idle = 15
+status_of_turn tries.Dismissed = 16
+
+-- the tracer took this turn, and is of the same world
+abbrev pub Turns : TryTurn → Tracer → Tracer → Type 0
+Turns tried x y = Across (TriesTurn tried) x.seat y.seat × (y.heap ≡ x.heap) × (y.name ≡ x.name)
+
+-- the handle was given back, or else the turn came to what the answer says, and did this
+abbrev pub AnswersTurn : ℕ → Option Tracer → Option Tracer → Type 0
+AnswersTurn n None y = (n ≡ 11) × (y ≡ None)
+AnswersTurn n (Some s) y = (tried : TryTurn) × (t : Tracer) × (n ≡ status_of_turn tried) × (y ≡ Some t) × Turns tried s t
+
+-- or else the handle is in use, and nothing changed
+abbrev pub AnswersTurnOnce : ℕ → Option Tracer → Option Tracer → Type 0
+AnswersTurnOnce n x y = AnswersTurn n x y ⊎ ((n ≡ 12) × (y ≡ x))
+
+-- all of the world is as it was, but that its tracers may be others
+abbrev pub KeepsMutators : World → World → Type 0
+KeepsMutators w x = KeepsRest w x × (x.mutators ≡ w.mutators)
+
+-- the world had this tracer, and has the others still
+abbrev pub IsLent : Tracer → Option World → Option World → Type 0
+IsLent t (Some w) (Some x) = (w.tracers.items ≡ x.tracers.items ++ t ∷ []) × KeepsMutators w x
+IsLent t w x = ⊥
+
+-- the world was closed, or has no tracer left, and has all that it had
+abbrev pub LendsNone : ℕ → Option World → Option World → Type 0
+LendsNone n None y = (n ≡ 11) × (y ≡ None)
+LendsNone n (Some w) None = ⊥
+LendsNone n (Some w) (Some x) = (n ≡ 13) × (w.tracers.items ≡ []) × (x.tracers.items ≡ []) × KeepsMutators w x
+
+-- the handle is filled, and what is behind it has this tracer
+abbrev pub HoldsTracer : Tracer → TracerSlot → Type 0
+HoldsTracer t slot = (hand : TracerHand) × (slot.hand ≡ Some hand) × (hand.tracer ≡ Some t)
+
+-- a tracer of the world was taken, and the handle has it; or nothing is written, and there was no memory, or no tracer
+abbrev pub TakesTracer : ℕ → Option World → Option World → TracerSlot → TracerSlot → Type 0
+TakesTracer n w x before after = ((n ≡ 0) × ((t : Tracer) × IsLent t w x × HoldsTracer t after)) ⊎ ((after ≡ before) × (((n ≡ 10) × (x ≡ w)) ⊎ LendsNone n w x))
+
+-- the tracer has the world's name, one was out, and it is the world's now
+abbrev pub TakesTracerBack : Tracer → World → World → Type 0
+TakesTracerBack t w x = (x.tracers.items ≡ w.tracers.items ++ t ∷ []) × (t.name ≡ w.sizes.name) × (vec_len w.tracers < w.sizes.tracers)
+
+-- the tracer went back, or there was none to go back, or the world refused it and the handle keeps it
+abbrev pub GivesTracerBack : ℕ → World → World → Option Tracer → Option Tracer → Type 0
+GivesTracerBack n w x None None = (n ≡ 11) × (x ≡ w)
+GivesTracerBack n w x None (Some t) = ⊥
+GivesTracerBack n w x (Some s) None = (n ≡ 0) × TakesTracerBack s w x × KeepsMutators w x
+GivesTracerBack n w x (Some s) (Some t) = (n ≡ 14) × (t ≡ s) × KeepsMutators w x
+
+-- the same, or the world was closed
+abbrev pub GivesTracer : ℕ → Option World → Option World → Option Tracer → Option Tracer → Type 0
+GivesTracer n None y s t = (n ≡ 11) × (y ≡ None) × (t ≡ s)
+GivesTracer n (Some w) None s t = ⊥
+GivesTracer n (Some w) (Some x) s t = GivesTracerBack n w x s t
+
+-- or else the tracer's handle is in use, and nothing changed
+abbrev pub GivesTracerOnce : ℕ → Option World → Option World → Option Tracer → Option Tracer → Type 0
+GivesTracerOnce n w x s t = GivesTracer n w x s t ⊎ ((n ≡ 12) × (x ≡ w) × (t ≡ s))
+
+-- the tracers were told that they are dismissed, or a stop was under way
+abbrev pub TellsTracers : ℕ → World → World → Type 0
+TellsTracers n w x = ((n ≡ 0) × Across Dismisses w.zero x.zero) ⊎ ((n ≡ 2) × Across TurnsBack w.zero x.zero)
+
+-- the world has all that it had, but for what is known of its heap
+abbrev pub HasAllStill : World → World → Type 0
+HasAllStill w x = (x.heap ≡ w.heap) × (x.sizes ≡ w.sizes) × (x.mutators ≡ w.mutators) × (x.tracers ≡ w.tracers)
+
+-- the same, or the world was closed
+abbrev pub Dismissing : ℕ → Option World → Option World → Type 0
+Dismissing n None y = (n ≡ 11) × (y ≡ None)
+Dismissing n (Some w) None = ⊥
+Dismissing n (Some w) (Some x) = TellsTracers n w x × HasAllStill w x

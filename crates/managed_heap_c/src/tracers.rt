@@ -1,0 +1,112 @@
+//! What a call does with the tracer behind a handle.
+ghost use Rattle.std.specs.Prelude.{IfErr, IfOk};
+ghost use Rattle.managed_heap_c.specs.Tracers.{AnswersTurn, Dismissing, GivesTracer, GivesTracerBack, HoldsTracer, IsLent, LendsNone, TakesTracer};
+
+use crate::hands::{TracerHand, Whole};
+use crate::slots::{TracerSlot, tracer_slot};
+use crate::statuses::{GIVEN_BACK, NONE_LEFT, OK, OUT_OF_MEMORY, REFUSED, STOPPED, turn_status};
+use managed_heap::{Tracer, World};
+use std::alloc::{AllocError, Global};
+use std::sync::atomic::AtomicU32;
+
+/// An empty hand in a box.
+fn boxed_hand(alloc: Global) -> Result<Box<TracerHand, Global>, AllocError> {
+    Ok(Box::new(
+        alloc,
+        TracerHand {
+            tracer: None,
+            word: AtomicU32::new(0),
+        },
+    )?)
+}
+
+/// One of the tracers that nobody has.
+fn tracer_of(whole: &mut Whole) -> Result<Tracer, u32>
+    ensures lent { IfOk result (λ t. IsLent t whole.old.world whole.new.world) }
+    ensures none { IfErr result (λ n. LendsNone n whole.old.world whole.new.world) }
+{
+    match &mut whole.world {
+        None => Err(GIVEN_BACK),
+        Some(world) => match world.tracer() {
+            None => Err(NONE_LEFT),
+            Some(tracer) => Ok(tracer),
+        },
+    }
+}
+
+/// A handle of this tracer.
+fn slot_of(hand: Box<TracerHand, Global>, lent: Tracer) -> TracerSlot
+    ensures holds { HoldsTracer lent result }
+{
+    let mut hand = hand;
+    hand.tracer = Some(lent);
+    tracer_slot(hand)
+}
+
+/// Takes a tracer. The box is made first, so that none is lost where there is no memory.
+pub fn take_tracer_at(alloc: Global, whole: &mut Whole, out: &mut TracerSlot) -> u32
+    ensures takes { TakesTracer result whole.old.world whole.new.world out.old out.new }
+{
+    let Ok(hand) = boxed_hand(alloc) else {
+        return OUT_OF_MEMORY;
+    };
+    match tracer_of(whole) {
+        Err(status) => status,
+        Ok(tracer) => {
+            *out = slot_of(hand, tracer);
+            OK
+        }
+    }
+}
+
+/// The tracer of a hand goes back, where the world takes it.
+fn empty_into(world: &mut World, hand: &mut TracerHand) -> u32
+    ensures gives { GivesTracerBack result world.old world.new hand.old.tracer hand.new.tracer }
+{
+    match hand.tracer.take() {
+        None => GIVEN_BACK,
+        Some(tracer) => match world.take_tracer(tracer) {
+            Ok(()) => OK,
+            Err(tracer) => {
+                hand.tracer = Some(tracer);
+                REFUSED
+            }
+        },
+    }
+}
+
+/// Gives a tracer back.
+pub fn give_tracer_by(whole: &mut Whole, hand: &mut TracerHand) -> u32
+    ensures gives { GivesTracer result whole.old.world whole.new.world hand.old.tracer hand.new.tracer }
+{
+    match &mut whole.world {
+        None => GIVEN_BACK,
+        Some(world) => empty_into(world, hand),
+    }
+}
+
+/// A turn.
+pub fn turn_by(hand: &mut TracerHand) -> u32
+    ensures answers { AnswersTurn result hand.old.tracer hand.new.tracer }
+{
+    match &mut hand.tracer {
+        None => GIVEN_BACK,
+        Some(tracer) => turn_status(tracer.try_turn()),
+    }
+}
+
+/// Tells the tracers that they are dismissed.
+pub fn dismiss_by(whole: &mut Whole) -> u32
+    ensures dismisses { Dismissing result whole.old.world whole.new.world }
+{
+    match &mut whole.world {
+        None => GIVEN_BACK,
+        Some(world) => {
+            if world.try_dismiss_tracers() {
+                OK
+            } else {
+                STOPPED
+            }
+        }
+    }
+}
