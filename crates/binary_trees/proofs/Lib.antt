@@ -2,8 +2,3 @@ mod Growing
 mod Counting
 mod Building
 mod Walking
-mod Operations
-mod Seats
-mod Tending
-mod Turning
-mod Beginning

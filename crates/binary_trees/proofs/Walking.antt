@@ -1,61 +1,62 @@
 -- A walk of a tree, node by node.
-use Rattle.std.proofs.Common.{ℕ, zero, suc, ◌≡◌, ◌+◌, ◌<◌, length, refl, sym, ap, ◌∙◌, arith}
-use Rattle.std.specs.Prelude.{Option, slice_index_or}
+use Rattle.std.proofs.Common.{ℕ, zero, suc, ◌≡◌, ◌+◌, ◌<◌, refl, sym, ap, ◌∙◌, arith}
+use Rattle.std.specs.Prelude.{None, slice_index_or}
 use Rattle.std.proofs.lemmas.List.{get_or-set_same, get_or-set_other}
 use Rattle.plain_heap.specs.declared.object.Ref.{Ref}
 use Rattle.plain_heap.specs.declared.object.Ref.TheVariants as refs
 use Rattle.plain_heap.specs.declared.operation.Op.TheVariants as ops
 use Rattle.plain_heap.specs.PlainHeap.{Heap, variable}
 use Rattle.plain_heap.specs.PlainStep.{followed}
-use Rattle.binary_trees.specs.Trees.{Leaves, Steps, nodes}
+use Rattle.managed_heap.specs.Plain.{Steps}
+use Rattle.binary_trees.specs.Trees.{Leaves, nodes}
 use Rattle.binary_trees.proofs.Counting.{followed-same, nodes-same}
 use Rattle.binary_trees.proofs.Growing.{leaves-join, leaves-less}
 
-pub nodes-none : (x : Heap) (c : Option Heap) (k : ℕ) (ref : Ref) → ref ≡ refs.Nil → nodes x c k ref ≡ 0
-nodes-none x c zero ref e = ap (nodes x c 0) e
-nodes-none x c (suc k) ref e = ap (nodes x c (suc k)) e
+pub nodes-none : (x : Heap) (k : ℕ) (ref : Ref) → ref ≡ refs.Nil → nodes x k ref ≡ 0
+nodes-none x zero ref e = ap (nodes x 0) e
+nodes-none x (suc k) ref e = ap (nodes x (suc k)) e
 
-pub nodes-one : (x : Heap) (c : Option Heap) (ref : Ref) → (ref ≡ refs.Nil → ⊥) → nodes x c 0 ref ≡ 1
-nodes-one x c refs.Nil some = absurd (some refl)
-nodes-one x c (refs.Own n) some = refl
-nodes-one x c (refs.Cat n) some = refl
+pub nodes-one : (x : Heap) (ref : Ref) → (ref ≡ refs.Nil → ⊥) → nodes x 0 ref ≡ 1
+nodes-one x refs.Nil some = absurd (some refl)
+nodes-one x (refs.Own n) some = refl
+nodes-one x (refs.Cat n) some = refl
 
-nodes_more : (x : Heap) (c : Option Heap) (k : ℕ) (ref : Ref) → (ref ≡ refs.Nil → ⊥) → nodes x c (suc k) ref ≡ 1 + nodes x c k (followed x c ref 0) + nodes x c k (followed x c ref 1)
-nodes_more x c k refs.Nil some = absurd (some refl)
-nodes_more x c k (refs.Own n) some = refl
-nodes_more x c k (refs.Cat n) some = refl
+nodes_more : (x : Heap) (k : ℕ) (ref : Ref) → (ref ≡ refs.Nil → ⊥) → nodes x (suc k) ref ≡ 1 + nodes x k (followed x None ref 0) + nodes x k (followed x None ref 1)
+nodes_more x k refs.Nil some = absurd (some refl)
+nodes_more x k (refs.Own n) some = refl
+nodes_more x k (refs.Cat n) some = refl
 
 -- variable w becomes subtree i of the node in variable v
-pub looked : (c : Option Heap) (w v i : ℕ) (x y : Heap) → w < length x.variables → Steps c (ops.Get w v i) x y → (variable y w ≡ followed x c (variable x v) i) × Leaves w x y
-looked c w v i x y low s = (
-  ap (λ vs. slice_index_or vs w refs.Nil) s.1 ∙ get_or-set_same x.variables w (followed x c (variable x v) i) refs.Nil low,
+pub looked : (w v i : ℕ) (x y : Heap) → w < 32 → Steps (ops.Get w v i) x y → (variable y w ≡ followed x None (variable x v) i) × Leaves w x y
+looked w v i x y low s = (
+  ap (λ vs. slice_index_or vs w refs.Nil) s.variables ∙ get_or-set_same x.variables w (followed x None (variable x v) i) refs.Nil (omega (arith, low, s.count)),
   record {
-    objects = s.0;
-    variables = λ u lower. ap (λ vs. slice_index_or vs u refs.Nil) s.1 ∙ get_or-set_other x.variables w u (followed x c (variable x v) i) refs.Nil (λ e. let e' : u ≡ w = e in omega (arith, e', lower));
+    objects = s.objects;
+    variables = λ u lower. ap (λ vs. slice_index_or vs u refs.Nil) s.variables ∙ get_or-set_other x.variables w u (followed x None (variable x v) i) refs.Nil (λ e. let e' : u ≡ w = e in omega (arith, e', lower));
   },
 )
 
 -- a variable is made nil
-pub forgotten : (c : Option Heap) (v : ℕ) (x y : Heap) → Steps c (ops.Nil v) x y → Leaves v x y
-forgotten c v x y s =
+pub forgotten : (v : ℕ) (x y : Heap) → Steps (ops.Nil v) x y → Leaves v x y
+forgotten v x y s =
     record {
-      objects = s.0;
-      variables = λ u lower. ap (λ vs. slice_index_or vs u refs.Nil) s.1 ∙ get_or-set_other x.variables v u refs.Nil refs.Nil (λ e. let e' : u ≡ v = e in omega (arith, e', lower));
+      objects = s.objects;
+      variables = λ u lower. ap (λ vs. slice_index_or vs u refs.Nil) s.variables ∙ get_or-set_other x.variables v u refs.Nil refs.Nil (λ e. let e' : u ≡ v = e in omega (arith, e', lower));
     }
 
 -- both subtrees were counted, one after the other
 pub counted-both :
-    (c : Option Heap) (v k l r : ℕ) (x y z w q : Heap) → (variable x v ≡ refs.Nil → ⊥) → v + 1 < length x.variables → v + 1 < length z.variables → Steps c (ops.Get (v + 1) v 0) x y → l ≡ nodes y c k (variable y (v + 1)) → Leaves (v + 1 + 1) y z
-    → Steps c (ops.Get (v + 1) v 1) z w → r ≡ nodes w c k (variable w (v + 1)) → Leaves (v + 1 + 1) w q → (1 + l + r ≡ nodes x c (suc k) (variable x v)) × Leaves (v + 1) x q
-counted-both c v k l r x y z w q some low low' first left leaves second right leaves' =
-    let a = looked c (v + 1) v 0 x y low first in
-    let b = looked c (v + 1) v 1 z w low' second in
+    (v k l r : ℕ) (x y z w q : Heap) → (variable x v ≡ refs.Nil → ⊥) → v + 1 < 32 → Steps (ops.Get (v + 1) v 0) x y → l ≡ nodes y k (variable y (v + 1)) → Leaves (v + 1 + 1) y z
+    → Steps (ops.Get (v + 1) v 1) z w → r ≡ nodes w k (variable w (v + 1)) → Leaves (v + 1 + 1) w q → (1 + l + r ≡ nodes x (suc k) (variable x v)) × Leaves (v + 1) x q
+counted-both v k l r x y z w q some low first left leaves second right leaves' =
+    let a = looked (v + 1) v 0 x y low first in
+    let b = looked (v + 1) v 1 z w low second in
     let one : Leaves (v + 1) y z = leaves-less (v + 1 + 1) (v + 1) y z (omega arith) leaves in
     let upto : Leaves (v + 1) x z = leaves-join (v + 1) x y z a.1 one in
     let same : variable z v ≡ variable x v = upto.variables v (omega arith) in
-    let l' : l ≡ nodes x c k (followed x c (variable x v) 0) = left ∙ (nodes-same x y c k (variable y (v + 1)) a.1.objects ∙ ap (nodes x c k) a.0) in
-    let there : variable w (v + 1) ≡ followed x c (variable x v) 1 = b.0 ∙ (followed-same x z c (variable z v) 1 upto.objects ∙ ap (λ ref. followed x c ref 1) same) in
-    let r' : r ≡ nodes x c k (followed x c (variable x v) 1) = right ∙ (nodes-same x w c k (variable w (v + 1)) (b.1.objects ∙ upto.objects) ∙ ap (nodes x c k) there) in (
-      (λ i. 1 + l' i + r' i) ∙ sym (nodes_more x c k (variable x v) some),
+    let l' : l ≡ nodes x k (followed x None (variable x v) 0) = left ∙ (nodes-same x y k (variable y (v + 1)) a.1.objects ∙ ap (nodes x k) a.0) in
+    let there : variable w (v + 1) ≡ followed x None (variable x v) 1 = b.0 ∙ (followed-same x z (variable z v) 1 upto.objects ∙ ap (λ ref. followed x None ref 1) same) in
+    let r' : r ≡ nodes x k (followed x None (variable x v) 1) = right ∙ (nodes-same x w k (variable w (v + 1)) (b.1.objects ∙ upto.objects) ∙ ap (nodes x k) there) in (
+      (λ i. 1 + l' i + r' i) ∙ sym (nodes_more x k (variable x v) some),
       leaves-join (v + 1) x z q upto (leaves-join (v + 1) z w q b.1 (leaves-less (v + 1 + 1) (v + 1) w q (omega arith) leaves')),
     )

@@ -1,11 +1,10 @@
 -- Trees in a plain heap: what one is, how many nodes it has, and what making and counting one leaves.
-use Rattle.std.specs.Prelude.{ℕ, zero, suc, ◌≡◌, ◌+◌, ◌*◌, ◌<◌, ◌++◌, List, Option, Some, slice_get}
+use Rattle.std.specs.Prelude.{ℕ, zero, suc, ◌≡◌, ◌+◌, ◌*◌, ◌<◌, ◌++◌, List, Some, None, slice_get}
 use Rattle.plain_heap.specs.declared.object.Ref.{Ref}
 use Rattle.plain_heap.specs.declared.object.Ref.TheVariants.{Nil, Own}
 use Rattle.plain_heap.specs.declared.object.Object.{Object}
-use Rattle.plain_heap.specs.declared.operation.Op.{Op}
 use Rattle.plain_heap.specs.PlainHeap.{Heap, variable}
-use Rattle.plain_heap.specs.PlainStep.{field_of, followed, heap_after}
+use Rattle.plain_heap.specs.PlainStep.{field_of, followed}
 
 -- how many nodes a tree of this depth has, in which each node has two subtrees, but for those at its depth, which have none
 abbrev pub full : ℕ → ℕ
@@ -18,14 +17,10 @@ IsTree objects zero ref = (n : ℕ) × (o : Object) × (ref ≡ Own n) × (slice
 IsTree objects (suc d) ref = (n : ℕ) × (o : Object) × (ref ≡ Own n) × (slice_get objects n ≡ Some o) × IsTree objects d (field_of (Some o) 0) × IsTree objects d (field_of (Some o) 1)
 
 -- the nodes at most so many steps below a reference: one more than its two subtrees have, where it names an object
-abbrev pub nodes : Heap → Option Heap → ℕ → Ref → ℕ
-nodes heap catalogue steps Nil = 0
-nodes heap catalogue zero ref = 1
-nodes heap catalogue (suc k) ref = 1 + nodes heap catalogue k (followed heap catalogue ref 0) + nodes heap catalogue k (followed heap catalogue ref 1)
-
--- one operation was done: what it makes of the objects and of the variables
-abbrev pub Steps : Option Heap → Op → Heap → Heap → Type 0
-Steps catalogue op x y = (y.objects ≡ (heap_after x catalogue op).objects) × (y.variables ≡ (heap_after x catalogue op).variables)
+abbrev pub nodes : Heap → ℕ → Ref → ℕ
+nodes heap steps Nil = 0
+nodes heap zero ref = 1
+nodes heap (suc k) ref = 1 + nodes heap k (followed heap None ref 0) + nodes heap k (followed heap None ref 1)
 
 -- objects were made, none of those before changed, and variables below v stay
 pub record Grows (v : ℕ) (x y : Heap) : Type 0 where

@@ -1,22 +1,19 @@
 //! The program `binary_trees`: the well-known workload of that name, on the collector as a library.
 //!
 //! A tree is made and thrown away, so that the heap is stretched; one tree is made and kept; and while it lives, many trees of growing depth are made,
-//! counted and thrown away. Each worker is a mutator in a thread of its own, with a section and a seat; tracers mark beside them; all share one heap.
-//! `docs/EMBEDDING.md` walks through the files in this order:
+//! counted and thrown away. Each worker is a mutator in a thread of its own; tracers mark beside them; all share one heap.
+//! The files, in the order in which they are read:
 //!
 //! - `words`: what the words of the command line ask for.
-//! - `opening`: a heap with a seat for each section and each tracer, and its end. The seat of section 0 opens the workers' turn, and does nothing else.
-//! - `turns`: a mutator's safe point, with a cell to make an object in.
 //! - `nodes`: one node of a tree: made, joined to its subtrees, looked at, forgotten.
 //! - `trees`: a whole tree: made, counted, forgotten.
 //! - `workers`: what a worker does from entering to leaving, and how the work is shared.
-//! - `tracers`: a thread that marks beside the workers.
-//! - `threads`: all threads of a run. `crew`: all seats of a run, dealt out and put back in order.
+//! - `threads`: all threads of a run. `crew`: a world with its mutators and tracers, opened at the start and closed at the end.
 //! - `running`: a whole run. `output`: its lines.
 //!
 //! # What stands where a native program has its stack
 //!
-//! A section has 32 variables, and they are its only roots. A tree of depth d is made in variable v with the 2 d variables behind it: the subtrees of a
+//! A mutator has 32 variables, and they are its only roots. A tree of depth d is made in variable v with the 2 d variables behind it: the subtrees of a
 //! node wait in the next two until the node refers to them. It is counted with the d + 1 variables behind v, one for each node on the way down.
 //! So a tree of depth 15 fits, which is more than the cells of a heap allow; a deeper one would have to be walked by references in the nodes themselves.
 //!
@@ -27,13 +24,10 @@
 
 mod crew;
 mod nodes;
-mod opening;
 mod output;
 mod running;
 mod threads;
-mod tracers;
 mod trees;
-mod turns;
 mod words;
 mod workers;
 

@@ -31,7 +31,7 @@ fn write_counts<R: Runtime + AllocGlobal>(
     println!(rt; "long lived tree of depth {depth}\t check: {kept}")
 }
 
-/// Writes what a run came to, and answers the program's status: 0 for counts, 3 where the heap is full, 6 where memory ran out, 7 where a section made
+/// Writes what a run came to, and answers the program's status: 0 for counts, 3 where the heap is full, 6 where memory ran out, 7 where a worker made
 /// all objects that have numbers.
 pub fn report<R: Runtime + AllocGlobal>(
     rt: &R,
@@ -45,8 +45,8 @@ pub fn report<R: Runtime + AllocGlobal>(
             write_counts(rt, asked, counted)?;
             Ok(0)
         }
-        Err(Failure::Full(section)) => {
-            println!(rt; "full section {section}")?;
+        Err(Failure::Full(worker)) => {
+            println!(rt; "full section {worker}")?;
             Ok(3)
         }
         Err(Failure::Spent) => {

@@ -1,17 +1,14 @@
 //! A whole run.
-ghost use Rattle.std.specs.Prelude.{◌≡◌, ◌+◌, ◌<◌, All, IsTrue, is_some, vec_len};
-ghost use Rattle.gc_table.specs.Seats.{view_of};
+ghost use Rattle.std.specs.Prelude.{◌≡◌, ◌<◌, All, vec_len};
 ghost use Rattle.binary_trees.specs.Counts.{IsInRange};
-ghost use Rattle.binary_trees.specs.Standing.{Rests, Waits};
+ghost use Rattle.binary_trees.specs.Standing.{Waits};
 
-use crate::crew::{Crew, gather, prepare};
-use crate::opening::open_turn;
+use crate::crew::{Crew, close, prepare};
+use crate::nodes::Halt;
 use crate::threads::{Alone, Worker, run_threads};
-use crate::turns::Halt;
 use crate::words::Asked;
 use crate::workers::Checks;
-use gc_table::Heap;
-use plain_heap::OutOfMemory;
+use managed_heap::World;
 use std::alloc::Global;
 use std::sync::Wait;
 use std::thread::Threads;
@@ -27,9 +24,9 @@ pub struct Counted {
 /// Why there are no counts.
 #[derive(Clone, Copy, Drop)]
 pub enum Failure {
-    /// The reachable objects filled all cells where this section was to make one more.
-    Full(u32),
-    /// A section has made all objects that have numbers.
+    /// The reachable objects filled all cells where this worker, counted from 1, was to make one more.
+    Full(u64),
+    /// A worker has made all objects that have numbers.
     Spent,
     /// Memory ran out.
     OutOfMemory,
@@ -53,45 +50,34 @@ fn sum_up(workers: &[Worker]) -> Result<Checks, Halt> {
 
 /// What all workers came to.
 fn put_together(alone: Result<Alone, Halt>, workers: &[Worker]) -> Result<Counted, Halt> {
-    match alone {
-        Err(halt) => Err(halt),
-        Ok(alone) => match sum_up(workers) {
-            Err(halt) => Err(halt),
-            Ok(checks) => Ok(Counted { alone, checks }),
-        },
+    let alone = alone?;
+    let checks = sum_up(workers)?;
+    Ok(Counted { alone, checks })
+}
+
+/// Why there are no counts, where a worker went on no more.
+fn failure_of(world: &mut World, halt: Halt) -> Failure {
+    match halt {
+        Halt::Full => Failure::Full(world.found_full().unwrap_or(0)),
+        Halt::Spent => Failure::Spent,
     }
 }
 
-/// Plays the whole work on a heap, and closes it: what was counted, and the section that its words name where it is full.
-fn run_on<R: Threads + Wait + Sync>(
+/// Plays the whole work in a world.
+fn run_in<R: Threads + Wait + Sync>(
     rt: &R,
-    alloc: Global,
-    heap: Heap,
-    mut crew: Crew,
+    world: &mut World,
+    crew: &mut Crew,
     asked: &Asked,
-) -> Result<(Result<Counted, Halt>, u32), OutOfMemory>
+) -> Result<Counted, Failure>
     requires range { IsInRange asked.now }
-    requires zero { Rests heap crew.zero × IsTrue (is_some (view_of crew.zero).state.section) }
-    requires workers { All (λ x. Waits heap x.seat) crew.workers.items }
-    requires count { vec_len crew.workers ≡ asked.now.workers }
-    requires tracers { All (Rests heap) crew.tracers.items }
+    requires workers { All (λ x. Waits x.mutator) crew.old.workers.items }
+    requires count { vec_len crew.old.workers ≡ asked.now.workers }
 {
-    let alone = run_threads(
-        rt,
-        &heap,
-        &mut crew.zero,
-        &mut crew.workers,
-        &mut crew.tracers,
-        asked,
-    );
-    let came = put_together(alone, crew.workers.as_slice());
-    let seats = match gather(alloc, &heap, crew) {
-        Ok(seats) => seats,
-        Err(e) => return Err(e),
-    };
-    match heap.close(alloc, seats) {
-        Ok(words) => Ok((came, words.named)),
-        Err(e) => Err(e),
+    let alone = run_threads(rt, world, &mut crew.workers, &mut crew.tracers, asked);
+    match put_together(alone, crew.workers.as_slice()) {
+        Ok(counted) => Ok(counted),
+        Err(halt) => Err(failure_of(world, halt)),
     }
 }
 
@@ -103,17 +89,12 @@ pub fn run<R: Threads + Wait + Sync>(
 ) -> Result<Counted, Failure>
     requires range { IsInRange asked.now }
 {
-    let (heap, mut crew) = match prepare(alloc, asked) {
-        Ok(made) => made,
-        Err(_) => return Err(Failure::OutOfMemory),
-    };
-    if !open_turn(rt, &heap, &mut crew.zero) {
+    let Ok((mut world, mut crew)) = prepare(alloc, asked) else {
         return Err(Failure::OutOfMemory);
-    }
-    match run_on(rt, alloc, heap, crew, asked) {
-        Ok((Ok(counted), _)) => Ok(counted),
-        Ok((Err(Halt::Full), named)) => Err(Failure::Full(named)),
-        Ok((Err(Halt::Spent), _)) => Err(Failure::Spent),
+    };
+    let came = run_in(rt, &mut world, &mut crew, asked);
+    match close(world, crew) {
+        Ok(()) => came,
         Err(_) => Err(Failure::OutOfMemory),
     }
 }

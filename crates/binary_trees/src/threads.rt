@@ -1,24 +1,21 @@
 //! All threads of a run.
-ghost use Rattle.std.specs.Prelude.{◌≡◌, ◌+◌, ◌<◌, ◌≤◌, All, IfOk, IsTrue, is_some, vec_len};
+ghost use Rattle.std.specs.Prelude.{◌≡◌, ◌+◌, ◌<◌, ◌≤◌, All, IfOk, vec_len};
 ghost use Rattle.binary_trees.specs.Counts.{IsInRange};
 ghost use Rattle.binary_trees.specs.Playing.{AllWait, HasPlayed, HavePlayed};
-ghost use Rattle.binary_trees.specs.Standing.{Keeps, Rests, Waits};
+ghost use Rattle.binary_trees.specs.Standing.{Keeps, Waits};
 ghost use Rattle.binary_trees.specs.Trees.{full};
-ghost use Rattle.gc_table.specs.Seats.{state_of};
 
-use crate::tracers::{DONE, run_tracer};
-use crate::turns::Halt;
+use crate::nodes::Halt;
 use crate::words::Asked;
 use crate::workers::{Checks, count_kept, keep, play, stretch};
-use gc_cycle::{go_in, go_out};
-use gc_table::{Heap, HeapSeat};
+use managed_heap::{Mutator, Tracer, World};
 use std::sync::Wait;
 use std::thread::{Threads, for_each_mut, join_mut};
 
 /// A mutator in the hand of one thread, with what it counted, or why it goes on no more.
 #[derive(Drop)]
 pub struct Worker {
-    pub seat: HeapSeat,
+    pub mutator: Mutator,
     pub came: Result<Checks, Halt>,
 }
 
@@ -32,27 +29,21 @@ pub struct Alone {
 }
 
 /// One worker makes its short-lived trees.
-fn play_one<R: Threads + Wait + Sync>(
-    rt: &R,
-    heap: &Heap,
-    worker: &mut Worker,
-    asked: &Asked,
-    at: u32,
-)
+fn play_one<R: Threads + Wait + Sync>(rt: &R, worker: &mut Worker, asked: &Asked, at: u32)
     requires range { IsInRange asked.now }
     requires one { at < asked.now.workers }
-    requires waits { Waits heap.now worker.old.seat }
-    ensures { HasPlayed heap.now asked.now at worker.old worker.new }
+    requires waits { Waits worker.old.mutator }
+    ensures { HasPlayed asked.now at worker.old worker.new }
 {
-    worker.came = play(rt, heap, &mut worker.seat, asked, at);
+    worker.came = play(rt, &mut worker.mutator, asked, at);
 }
 
 /// All workers make their short-lived trees, each in a thread of its own.
-fn play_all<R: Threads + Wait + Sync>(rt: &R, heap: &Heap, workers: &mut Vec<Worker>, asked: &Asked)
+fn play_all<R: Threads + Wait + Sync>(rt: &R, workers: &mut Vec<Worker>, asked: &Asked)
     requires range { IsInRange asked.now }
     requires some { (0 < vec_len workers.old) × (vec_len workers.old ≡ asked.now.workers) }
-    requires waits { All (λ x. Waits heap.now x.seat) workers.old.items }
-    ensures { HavePlayed heap.now asked.now workers.old.items workers.new.items }
+    requires waits { All (λ x. Waits x.mutator) workers.old.items }
+    ensures { HavePlayed asked.now workers.old.items workers.new.items }
 {
     let threads = workers.len();
     for_each_mut(
@@ -60,147 +51,110 @@ fn play_all<R: Threads + Wait + Sync>(rt: &R, heap: &Heap, workers: &mut Vec<Wor
         workers.as_mut_slice(),
         threads,
         &|at, worker: &mut Worker|
-            requires { IsInRange asked.now × (at < asked.now.workers) × Waits heap.now worker.now.seat }
-            ensures { HasPlayed heap.entry.now asked.entry.now at worker.entry.now worker.exit.now }
-        { play_one(rt, heap, worker, asked, at as u32) },
+            requires { IsInRange asked.now × (at < asked.now.workers) × Waits worker.now.mutator }
+            ensures { HasPlayed asked.entry.now at worker.entry.now worker.exit.now }
+        { play_one(rt, worker, asked, at as u32) },
     );
 }
 
 /// The first worker before the others: the tree that stretches the heap, and the one that is kept.
-fn begin<R: Wait>(rt: &R, heap: &Heap, worker: &mut Worker, depth: u8) -> Result<u64, Halt>
+fn begin<R: Wait>(rt: &R, worker: &mut Worker, depth: u8) -> Result<u64, Halt>
     requires few { depth ≤ 13 }
-    requires waits { Waits heap.now worker.old.seat }
-    ensures waits { Waits heap.now worker.new.seat }
-    ensures counts { IfOk result (λ n. n ≡ full (depth + 1)) }
-    ensures tree { IfOk result (λ _. Keeps depth worker.new.seat) }
+    requires waits { Waits worker.old.mutator }
+    ensures waits { Waits worker.new.mutator }
+    ensures counts { IfOk result (λ nodes. nodes ≡ full (depth + 1)) }
+    ensures tree { IfOk result (λ _. Keeps depth worker.new.mutator) }
 {
-    match stretch(rt, heap, &mut worker.seat, depth) {
-        Err(halt) => Err(halt),
-        Ok(nodes) => match keep(rt, heap, &mut worker.seat, depth) {
-            Err(halt) => Err(halt),
-            Ok(()) => Ok(nodes),
-        },
-    }
+    let nodes = stretch(rt, &mut worker.mutator, depth)?;
+    keep(rt, &mut worker.mutator, depth)?;
+    Ok(nodes)
 }
 
 /// The first worker after the others: the nodes of the tree that was kept.
-fn finish<R: Wait>(rt: &R, heap: &Heap, worker: &mut Worker, depth: u8) -> Result<u64, Halt>
+fn finish<R: Wait>(rt: &R, worker: &mut Worker, depth: u8) -> Result<u64, Halt>
     requires few { depth ≤ 13 }
-    requires waits { Waits heap.now worker.old.seat }
-    ensures waits { Waits heap.now worker.new.seat }
-    ensures counts { Keeps depth worker.old.seat → IfOk result (λ n. n ≡ full depth) }
+    requires waits { Waits worker.old.mutator }
+    ensures waits { Waits worker.new.mutator }
+    ensures counts { Keeps depth worker.old.mutator → IfOk result (λ nodes. nodes ≡ full depth) }
     ensures came { worker.new.came ≡ worker.old.came }
 {
-    count_kept(rt, heap, &mut worker.seat, depth)
+    count_kept(rt, &mut worker.mutator, depth)
 }
 
 /// The whole work: the first worker alone, all workers, the first worker alone.
 fn work<R: Threads + Wait + Sync>(
     rt: &R,
-    heap: &Heap,
     workers: &mut Vec<Worker>,
     asked: &Asked,
 ) -> Result<Alone, Halt>
     requires range { IsInRange asked.now }
     requires some { (0 < vec_len workers.old) × (vec_len workers.old ≡ asked.now.workers) }
-    requires waits { All (λ x. Waits heap.now x.seat) workers.old.items }
-    ensures waits { All (λ x. Waits heap.now x.seat) workers.new.items }
+    requires waits { All (λ x. Waits x.mutator) workers.old.items }
+    ensures waits { AllWait workers.new.items }
 {
     let depth = asked.depth as u8;
-    match begin(rt, heap, &mut workers[0], depth) {
-        Err(halt) => Err(halt),
-        Ok(stretched) => {
-            play_all(rt, heap, workers, asked);
-            match finish(rt, heap, &mut workers[0], depth) {
-                Err(halt) => Err(halt),
-                Ok(kept) => Ok(Alone { stretched, kept }),
-            }
-        }
-    }
+    let stretched = begin(rt, &mut workers[0], depth)?;
+    play_all(rt, workers, asked);
+    let kept = finish(rt, &mut workers[0], depth)?;
+    Ok(Alone { stretched, kept })
 }
 
-/// Tells the tracers that the work is done, by the seat of section 0.
-fn tell_done<R: Wait>(rt: &R, heap: &Heap, seat: &mut HeapSeat)
-    requires rests { Rests heap.now seat.old }
-    requires section { IsTrue (is_some (state_of seat.old).section) }
-    ensures { Rests heap.now seat.new }
-{
-    go_in(rt, heap, seat);
-    heap.add_stat(seat, DONE, 1, false);
-    go_out(heap, seat, 0);
-}
-
-/// Runs each tracer in a thread of its own.
-fn run_tracers<R: Threads + Wait + Sync>(rt: &R, heap: &Heap, tracers: &mut Vec<HeapSeat>)
-    requires { All (Rests heap.now) tracers.old.items }
-    ensures { All (Rests heap.now) tracers.new.items }
-{
-    let threads = tracers.len();
-    if threads == 0 {
-        return;
-    }
-    for_each_mut(
-        rt,
-        tracers.as_mut_slice(),
-        threads,
-        &|_, seat: &mut HeapSeat|
-            requires { Rests heap.now seat.now }
-            ensures { Rests heap.entry.now seat.exit.now }
-        { run_tracer(rt, heap, seat) },
-    );
-}
-
-/// Does the work, and tells the tracers.
+/// Does the work, and dismisses the tracers.
 fn work_to_end<R: Threads + Wait + Sync>(
     rt: &R,
-    heap: &Heap,
-    zero: &mut HeapSeat,
+    world: &mut World,
     workers: &mut Vec<Worker>,
     asked: &Asked,
 ) -> Result<Alone, Halt>
     requires range { IsInRange asked.now }
     requires some { (0 < vec_len workers.old) × (vec_len workers.old ≡ asked.now.workers) }
-    requires zero { Rests heap.now zero.old }
-    requires section { IsTrue (is_some (state_of zero.old).section) }
-    requires waits { All (λ x. Waits heap.now x.seat) workers.old.items }
-    ensures zero { Rests heap.now zero.new }
-    ensures waits { All (λ x. Waits heap.now x.seat) workers.new.items }
+    requires waits { All (λ x. Waits x.mutator) workers.old.items }
+    ensures waits { AllWait workers.new.items }
 {
-    let came = work(rt, heap, workers, asked);
-    tell_done(rt, heap, zero);
+    let came = work(rt, workers, asked);
+    world.dismiss_tracers(rt);
     came
 }
 
+/// Marks beside the workers, until the tracers are dismissed or the heap is full.
+fn trace<R: Wait>(rt: &R, tracer: &mut Tracer) {
+    tracer.run(rt);
+}
+
+/// Runs each tracer in a thread of its own.
+fn trace_all<R: Threads + Wait + Sync>(rt: &R, tracers: &mut Vec<Tracer>) {
+    let threads = tracers.len();
+    if threads > 0 {
+        for_each_mut(
+            rt,
+            tracers.as_mut_slice(),
+            threads,
+            &|_, tracer: &mut Tracer| trace(rt, tracer),
+        );
+    }
+}
+
 /// Runs the work beside the tracers. It ends when all threads have ended. Where no thread can be made for the tracers, they come after the work, and read at
-/// once that it is done.
+/// once that they are dismissed.
 pub fn run_threads<R: Threads + Wait + Sync>(
     rt: &R,
-    heap: &Heap,
-    zero: &mut HeapSeat,
+    world: &mut World,
     workers: &mut Vec<Worker>,
-    tracers: &mut Vec<HeapSeat>,
+    tracers: &mut Vec<Tracer>,
     asked: &Asked,
 ) -> Result<Alone, Halt>
     requires range { IsInRange asked.now }
     requires some { (0 < vec_len workers.old) × (vec_len workers.old ≡ asked.now.workers) }
-    requires zero { Rests heap.now zero.old }
-    requires section { IsTrue (is_some (state_of zero.old).section) }
-    requires waits { All (λ x. Waits heap.now x.seat) workers.old.items }
-    requires tracers { All (Rests heap.now) tracers.old.items }
-    ensures zero { Rests heap.now zero.new }
-    ensures waits { AllWait heap.now workers.new.items }
-    ensures tracers { All (Rests heap.now) tracers.new.items }
+    requires waits { All (λ x. Waits x.mutator) workers.old.items }
+    ensures waits { AllWait workers.new.items }
 {
     let ((), came) = join_mut(
         rt,
-        &mut ||
-            requires { All (Rests heap.now) tracers.now.items }
-            ensures { All (Rests heap.entry.now) tracers.exit.now.items }
-        { run_tracers(rt, heap, tracers) },
+        &mut || trace_all(rt, tracers),
         &mut || -> Result<Alone, Halt>
-            requires { IsInRange asked.now × (0 < vec_len workers.now) × (vec_len workers.now ≡ asked.now.workers) × Rests heap.now zero.now × IsTrue (is_some (state_of zero.now).section) × All (λ x. Waits heap.now x.seat) workers.now.items }
-            ensures { Rests heap.entry.now zero.exit.now × AllWait heap.entry.now workers.exit.now.items }
-        { work_to_end(rt, heap, zero, workers, asked) },
+            requires { IsInRange asked.now × (0 < vec_len workers.now) × (vec_len workers.now ≡ asked.now.workers) × All (λ x. Waits x.mutator) workers.now.items }
+            ensures { AllWait workers.exit.now.items }
+        { work_to_end(rt, world, workers, asked) },
     );
     came
 }

@@ -1,18 +1,15 @@
 //! What a worker does from entering to leaving.
-ghost use Rattle.std.specs.Prelude.{◌≡◌, ◌+◌, ◌-◌, ◌*◌, ◌<◌, ◌≤◌, None, IfOk, IfErr};
+ghost use Rattle.std.specs.Prelude.{◌≡◌, ◌+◌, ◌-◌, ◌*◌, ◌<◌, ◌≤◌, IfErr, IfOk};
 ghost use Rattle.plain_heap.specs.PlainHeap.{variable};
-ghost use Rattle.gc_table.specs.Seats.{view_of};
-ghost use Rattle.gc_cycle.specs.Answering.{HasCache};
-ghost use Rattle.binary_trees.specs.Standing.{Halts, Waits, Works, heap_of};
-ghost use Rattle.binary_trees.specs.Trees.{Grows, IsTree, full};
+ghost use Rattle.managed_heap.specs.Calls.{heap_of};
 ghost use Rattle.binary_trees.specs.Counts.{AreChecked, IsInRange, depth_at, share, trees_at};
+ghost use Rattle.binary_trees.specs.Standing.{Halts, HasTwo, Plays, Waits};
+ghost use Rattle.binary_trees.specs.Trees.{Grows, IsTree, full};
 
+use crate::nodes::Halt;
 use crate::trees::{build, check, short_lived};
-use crate::turns::{Halt, pass, retire_some};
 use crate::words::Asked;
-use alloc_cache::Cache;
-use gc_cycle::{go_in, go_out};
-use gc_table::{Heap, HeapSeat};
+use managed_heap::Mutator;
 use std::sync::Wait;
 
 /// How many depths short-lived trees have at most: 4, 6, 8, 10 and 12.
@@ -49,172 +46,118 @@ fn share(trees: u32, workers: u32, at: u32) -> u32
     (trees + (workers - 1 - at)) / workers
 }
 
-/// Enters the world.
-fn enter<R: Wait>(rt: &R, heap: &Heap, seat: &mut HeapSeat)
-    requires waits { Waits heap.now seat.old }
-    ensures halts { Halts heap.now seat.new }
-    ensures same { heap_of seat.new ≡ heap_of seat.old }
+/// Enters the world, where the heap isn't full.
+fn enter<R: Wait>(rt: &R, m: &mut Mutator) -> Result<(), Halt>
+    requires waits { Waits m.old }
+    ensures ok { IfOk result (λ _. Plays m.new) }
+    ensures err { IfErr result (λ halt. Waits m.new × Halts halt m.new) }
+    ensures same { heap_of m.new ≡ heap_of m.old }
 {
-    go_in(rt, heap, seat);
+    match m.enter(rt) {
+        Ok(()) => Ok(()),
+        Err(_) => Err(Halt::Full),
+    }
 }
 
-/// Leaves the world, and gives up what cache there is.
-fn leave(heap: &Heap, seat: &mut HeapSeat, cache: Option<Cache>)
-    requires works { Works heap.now seat.old }
-    requires cache { HasCache cache (view_of seat.old) }
-    ensures waits { Waits heap.now seat.new }
-    ensures same { heap_of seat.new ≡ heap_of seat.old }
+/// Leaves the world, if it is inside.
+fn leave(m: &mut Mutator)
+    requires two { HasTwo m.old }
+    ensures waits { Waits m.new }
+    ensures same { heap_of m.new ≡ heap_of m.old }
 {
-    retire_some(heap, seat, cache);
-    let made = seat.state().made;
-    go_out(heap, seat, made);
+    m.leave();
 }
 
 /// Makes so many trees of this depth, one after another: how many nodes were counted in all.
-fn many<R: Wait>(
-    rt: &R,
-    heap: &Heap,
-    seat: &mut HeapSeat,
-    cache: Option<Cache>,
-    trees: u32,
-    depth: u8,
-) -> Result<(Option<Cache>, u64), Halt>
-    requires works { Works heap.now seat.old }
-    requires cache { HasCache cache (view_of seat.old) }
+fn many<R: Wait>(rt: &R, m: &mut Mutator, trees: u32, depth: u8) -> Result<u64, Halt>
+    requires plays { Plays m.old }
     requires few { (depth ≤ 14) × (trees ≤ 8223) }
-    ensures ok { IfOk result (λ r. Works heap.now seat.new × HasCache r.0 (view_of seat.new)) }
-    ensures err { IfErr result (λ _. Halts heap.now seat.new) }
-    ensures counts { IfOk result (λ r. r.1 ≡ trees * full depth) }
-    ensures grows { IfOk result (λ _. Grows 1 (heap_of seat.old) (heap_of seat.new)) }
+    ensures ok { IfOk result (λ _. Plays m.new) }
+    ensures err { IfErr result (λ halt. Halts halt m.new) }
+    ensures counts { IfOk result (λ nodes. nodes ≡ trees * full depth) }
+    ensures grows { IfOk result (λ _. Grows 1 (heap_of m.old) (heap_of m.new)) }
 {
-    let mut cache = cache;
     let mut nodes = 0;
     for _tree in 0..trees {
-        match short_lived(rt, heap, seat, cache, depth) {
-            Err(halt) => return Err(halt),
-            Ok((kept, more)) => {
-                cache = kept;
-                nodes += more;
-            }
-        }
+        let more = short_lived(rt, m, depth)?;
+        nodes += more;
     }
-    Ok((cache, nodes))
+    Ok(nodes)
 }
 
-/// Makes the short-lived trees of worker `at`, depth by depth, and gives the cache up.
-fn all_depths<R: Wait>(
-    rt: &R,
-    heap: &Heap,
-    seat: &mut HeapSeat,
-    asked: &Asked,
-    at: u32,
-) -> Result<Checks, Halt>
+/// Makes the short-lived trees of worker `at`, depth by depth.
+fn all_depths<R: Wait>(rt: &R, m: &mut Mutator, asked: &Asked, at: u32) -> Result<Checks, Halt>
     requires range { IsInRange asked.now }
     requires one { at < asked.now.workers }
-    requires halts { Halts heap.now seat.old }
-    ensures halts { Halts heap.now seat.new }
+    requires plays { Plays m.old }
+    ensures ok { IfOk result (λ _. Plays m.new) }
+    ensures err { IfErr result (λ halt. Halts halt m.new) }
     ensures counts { IfOk result (AreChecked asked.now at 5) }
-    ensures grows { IfOk result (λ _. Grows 1 (heap_of seat.old) (heap_of seat.new)) }
+    ensures grows { IfOk result (λ _. Grows 1 (heap_of m.old) (heap_of m.new)) }
 {
-    let mut cache = None;
     let mut checks = [0; 5];
     for i in 0..DEPTHS {
         let depth = depth_at(i);
         if depth > asked.depth {
-            retire_some(heap, seat, cache);
             return Ok(checks);
         }
         let trees = share(trees_at(asked.depth, i), asked.workers, at);
-        match many(rt, heap, seat, cache, trees, depth as u8) {
-            Err(halt) => return Err(halt),
-            Ok((kept, nodes)) => {
-                cache = kept;
-                checks[i as usize] = nodes;
-            }
-        }
+        let nodes = many(rt, m, trees, depth as u8)?;
+        checks[i as usize] = nodes;
     }
-    retire_some(heap, seat, cache);
     Ok(checks)
 }
 
 /// What a worker does beside the others: it makes its share of the short-lived trees, and counts them.
-pub fn play<R: Wait>(
-    rt: &R,
-    heap: &Heap,
-    seat: &mut HeapSeat,
-    asked: &Asked,
-    at: u32,
-) -> Result<Checks, Halt>
+pub fn play<R: Wait>(rt: &R, m: &mut Mutator, asked: &Asked, at: u32) -> Result<Checks, Halt>
     requires range { IsInRange asked.now }
     requires one { at < asked.now.workers }
-    requires waits { Waits heap.now seat.old }
-    ensures waits { Waits heap.now seat.new }
+    requires waits { Waits m.old }
+    ensures waits { Waits m.new }
     ensures counts { IfOk result (AreChecked asked.now at 5) }
-    ensures grows { IfOk result (λ _. Grows 1 (heap_of seat.old) (heap_of seat.new)) }
+    ensures grows { IfOk result (λ _. Grows 1 (heap_of m.old) (heap_of m.new)) }
 {
-    enter(rt, heap, seat);
-    let came = all_depths(rt, heap, seat, asked, at);
-    leave(heap, seat, None);
+    enter(rt, m)?;
+    let came = all_depths(rt, m, asked, at);
+    leave(m);
     came
 }
 
 /// What the first worker does before: it makes a tree one level deeper than the one that is kept, counts it and forgets it.
-pub fn stretch<R: Wait>(rt: &R, heap: &Heap, seat: &mut HeapSeat, depth: u8) -> Result<u64, Halt>
+pub fn stretch<R: Wait>(rt: &R, m: &mut Mutator, depth: u8) -> Result<u64, Halt>
     requires few { depth ≤ 13 }
-    requires waits { Waits heap.now seat.old }
-    ensures waits { Waits heap.now seat.new }
-    ensures counts { IfOk result (λ n. n ≡ full (depth + 1)) }
+    requires waits { Waits m.old }
+    ensures waits { Waits m.new }
+    ensures counts { IfOk result (λ nodes. nodes ≡ full (depth + 1)) }
 {
-    enter(rt, heap, seat);
-    match short_lived(rt, heap, seat, None, depth + 1) {
-        Err(halt) => {
-            leave(heap, seat, None);
-            Err(halt)
-        }
-        Ok((cache, nodes)) => {
-            leave(heap, seat, cache);
-            Ok(nodes)
-        }
-    }
+    enter(rt, m)?;
+    let came = short_lived(rt, m, depth + 1);
+    leave(m);
+    came
 }
 
 /// Then it makes the tree that is kept, in variable 0. It stays reachable while its maker is outside.
-pub fn keep<R: Wait>(rt: &R, heap: &Heap, seat: &mut HeapSeat, depth: u8) -> Result<(), Halt>
+pub fn keep<R: Wait>(rt: &R, m: &mut Mutator, depth: u8) -> Result<(), Halt>
     requires few { depth ≤ 13 }
-    requires waits { Waits heap.now seat.old }
-    ensures waits { Waits heap.now seat.new }
-    ensures tree { IfOk result (λ _. IsTree (heap_of seat.new).objects depth (variable (heap_of seat.new) 0)) }
+    requires waits { Waits m.old }
+    ensures waits { Waits m.new }
+    ensures tree { IfOk result (λ _. IsTree (heap_of m.new).objects depth (variable (heap_of m.new) 0)) }
 {
-    enter(rt, heap, seat);
-    match build(rt, heap, seat, None, 0, depth) {
-        Err(halt) => {
-            leave(heap, seat, None);
-            Err(halt)
-        }
-        Ok(cache) => {
-            leave(heap, seat, cache);
-            Ok(())
-        }
-    }
+    enter(rt, m)?;
+    let came = build(rt, m, 0, depth);
+    leave(m);
+    came
 }
 
 /// And when all others are done it counts it.
-pub fn count_kept<R: Wait>(rt: &R, heap: &Heap, seat: &mut HeapSeat, depth: u8) -> Result<u64, Halt>
+pub fn count_kept<R: Wait>(rt: &R, m: &mut Mutator, depth: u8) -> Result<u64, Halt>
     requires few { depth ≤ 13 }
-    requires waits { Waits heap.now seat.old }
-    ensures waits { Waits heap.now seat.new }
-    ensures counts { IsTree (heap_of seat.old).objects depth (variable (heap_of seat.old) 0) → IfOk result (λ n. n ≡ full depth) }
+    requires waits { Waits m.old }
+    ensures waits { Waits m.new }
+    ensures counts { IsTree (heap_of m.old).objects depth (variable (heap_of m.old) 0) → IfOk result (λ nodes. nodes ≡ full depth) }
 {
-    enter(rt, heap, seat);
-    match pass(rt, heap, seat, None) {
-        Err(halt) => {
-            leave(heap, seat, None);
-            Err(halt)
-        }
-        Ok(cache) => {
-            let nodes = check(heap, seat, 0, depth);
-            leave(heap, seat, cache);
-            Ok(nodes)
-        }
-    }
+    enter(rt, m)?;
+    let nodes = check(m, 0, depth);
+    leave(m);
+    Ok(nodes)
 }

@@ -13,14 +13,13 @@ for_each_mut-requires-clause-accepts g c = λ κs lives i p low is.
       (
         c.requires.range,
         omega (arith, low', c.requires.some.1, c.args.workers.now.ok),
-        subst (λ (x : Worker). Waits c.args.heap.now x.seat) (sym (is ∙ ap (λ (l : List Worker). get_or l i p.now) v)) (c.requires.waits i p.now low'),
+        subst (λ (x : Worker). Waits x.mutator) (sym (is ∙ ap (λ (l : List Worker). get_or l i p.now) v)) (c.requires.waits i p.now low'),
       ),
       search rules,
     )
 
 pub returns : goal.returns
 returns g c =
-    let h = c.args.heap.now in
     let a = c.args.asked.now in
     let xs : List Worker = c.args.workers.now.items in
     let ys : List Worker = c.for_each_mut.new.s in
@@ -32,8 +31,8 @@ returns g c =
           λ i d low.
           let low' : i < length c.as_mut_slice.result.now = subst (λ (l : List Worker). i < length l) (sym v) low in
           let t = (c.for_each_mut.ensures i d low').1 in
-          let one : HasPlayed h a i (get_or xs i d) (get_or ys i d) =
-          subst (λ (x : Worker). HasPlayed h a i x (get_or ys i d)) (t.argument_is ∙ ap (λ (l : List Worker). get_or l i d) v) (subst (HasPlayed h a i t.argument.now) t.left t.call) in
+          let one : HasPlayed a i (get_or xs i d) (get_or ys i d) =
+          subst (λ (x : Worker). HasPlayed a i x (get_or ys i d)) (t.argument_is ∙ ap (λ (l : List Worker). get_or l i d) v) (subst (HasPlayed a i t.argument.now) t.left t.call) in
           let same : get_or (take c.args.workers.now.len (ys ++ drop (length ys) xs)) i d ≡ get_or ys i d = grind (arith, common_steps) in
-          subst (HasPlayed h a i (get_or xs i d)) (sym same) one;
+          subst (HasPlayed a i (get_or xs i d)) (sym same) one;
     }

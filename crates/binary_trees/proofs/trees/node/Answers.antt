@@ -1,7 +1,8 @@
-use Rattle.std.proofs.Common.{subst}
-use Rattle.binary_trees.specs.Standing.{heap_of}
-use Rattle.binary_trees.specs.Trees.{Joins}
+use Rattle.std.proofs.Common.{arith}
+use Rattle.managed_heap.specs.Calls.{heap_of}
+use Rattle.binary_trees.proofs.Building.{node-joined}
 use Rattle.binary_trees.proofs.trees.node.Goals as goal
 
-pub returns-in-Ok-clause-joins : goal.returns-in-Ok-clause-joins
-returns-in-Ok-clause-joins g c = subst (λ h. Joins c.args.v h (heap_of c.tie.new.seat)) c.come_to.ensures.same c.tie.ensures.joins
+pub returns-clause-joins : goal.returns-clause-joins
+returns-clause-joins g c =
+    node-joined c.args.v (heap_of c.args.m.now) (heap_of c.make.new.m) (heap_of c.join.new.m) (heap_of c.join-2.new.m) (omega (arith, c.requires.fits)) c.in_ok-make.ensures.steps c.join.ensures.steps c.join-2.ensures.steps

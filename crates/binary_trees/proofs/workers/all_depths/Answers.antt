@@ -2,8 +2,8 @@ use Rattle.std.proofs.Common.{ℕ, ◌≡◌, ◌+◌, ◌*◌, ◌<◌, ◌≤�
 use Rattle.std.specs.Prelude.{slice_index, slice_set}
 use Rattle.std.proofs.lemmas.Bool.{cases_lt}
 use Rattle.std.proofs.lemmas.List.{get_or-set_same, get_or-set_other, length-set}
+use Rattle.managed_heap.specs.Calls.{heap_of}
 use Rattle.binary_trees.specs.Counts.{AreChecked, depth_at, share, trees_at}
-use Rattle.binary_trees.specs.Standing.{heap_of}
 use Rattle.binary_trees.specs.Trees.{full}
 use Rattle.binary_trees.specs.declared.words.Asked.{Asked}
 use Rattle.binary_trees.proofs.Growing.{grows-join, grows-none}
@@ -19,18 +19,17 @@ one-more a at i n xs low e done k below fits =
     (cases_lt k i)
 
 pub loop-i-init : goal.loop-i-init
-loop-i-init g c = record { works = c.requires.halts.works; cached = c.requires.halts.cache; long = refl; checked = λ k below fits. absurd (omega (arith, below)); grows = grows-none 1 (heap_of c.args.seat.now) }
+loop-i-init g c = record { plays = c.requires.plays; long = refl; checked = λ k below fits. absurd (omega (arith, below)); grows = grows-none 1 (heap_of c.args.m.now) }
 
 pub loop-i-preserved : goal.loop-i-preserved
 loop-i-preserved g c =
     let i = c.loop-i.invariant in
     let a = c.args.asked.now in
     let trees = c.share-trees.ensures.exact ∙ ap (λ n. share n a.workers c.args.at) c.trees_at.ensures.exact in
-    let counted = c.in-Ok.ensures.counts ∙ ap (λ n. n * full c.depth_at-depth.result) trees ∙ ap (λ d. share (trees_at a.depth c.loop-i.i) a.workers c.args.at * full d) c.depth_at-depth.ensures in
+    let counted = c.in_ok-nodes.ensures.counts ∙ ap (λ n. n * full c.depth_at-depth.result) trees ∙ ap (λ d. share (trees_at a.depth c.loop-i.i) a.workers c.args.at * full d) c.depth_at-depth.ensures in
     record {
-      works = c.in-Ok.ensures.ok.0;
-      cached = c.in-Ok.ensures.ok.1;
-      long = length-set c.loop-i.checks c.loop-i.i c.in-Ok.nodes ∙ i.long;
-      checked = one-more a c.args.at c.loop-i.i c.in-Ok.nodes c.loop-i.checks (omega (arith, i.long, c.loop-i-test.true)) counted i.checked;
-      grows = grows-join 1 (heap_of c.args.seat.now) (heap_of c.loop-i.seat) (heap_of c.many.new.seat) i.grows c.in-Ok.ensures.grows;
+      plays = c.in_ok-nodes.ensures.ok;
+      long = length-set c.loop-i.checks c.loop-i.i c.in_ok-nodes.nodes ∙ i.long;
+      checked = one-more a c.args.at c.loop-i.i c.in_ok-nodes.nodes c.loop-i.checks (omega (arith, i.long, c.loop-i-test.true)) counted i.checked;
+      grows = grows-join 1 (heap_of c.args.m.now) (heap_of c.loop-i.m) (heap_of c.many.new.m) i.grows c.in_ok-nodes.ensures.grows;
     }
