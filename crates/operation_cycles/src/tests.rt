@@ -7,6 +7,7 @@ mod opening;
 mod orders;
 mod packets;
 mod pools;
+mod scanning;
 mod seasons;
 mod stops;
 mod sweeping;

@@ -1,7 +1,7 @@
 //! What no clause says: whole runs of the program, from the words and the bytes in to the bytes out, and plays under gates.
 //!
 //! - `cases`: how whole runs are written down as texts.
-//! - `played`, `long`: what a play writes. `placed`: where objects lie.
+//! - `played`, `long`, `broad`: what a play writes. `placed`: where objects lie.
 //! - `converts`, `batches`: the commands `convert` and `batch`. `others`: those that play nothing, and words that ask for nothing.
 //! - `faults`, `edges`: scripts with a fault, and scripts at the limits of the language. `cuts`: a script cut short.
 //! - `disturbed`: each command (`commands`) under reads and writes that fail, come in parts or have no room.
@@ -14,6 +14,7 @@ ghost use Rattle.std.specs.Prelude.{◌<◌};
 
 mod batches;
 mod beside;
+mod broad;
 mod cases;
 mod commands;
 mod converts;

@@ -10,9 +10,11 @@
 //! survivors 0
 //! ```
 //!
-//! They stand in the files `played`, `long`, `converts`, `batches` and `others`. In a source or a text, braces enclose what is repeated: `{3*ab}` stands for ababab, and `{1..4*a%}` for a1a2a3, with the numbers
-//! from the first up to the last, which is left out. In `{2*a&b&}`, which stands for a0b1a2b3, each `&` counts on.
+//! They stand in the files `played`, `long`, `broad`, `converts`, `batches` and `others`. In a source or a text, braces enclose what is
+//! repeated: `{3*ab}` stands for ababab, and `{1..4*a%}` for a1a2a3, with the numbers from the first up to the last, which is left out.
+//! In `{2*a&b&}`, which stands for a0b1a2b3, each `&` counts on.
 use crate::tests::batches::BATCHES;
+use crate::tests::broad::BROAD;
 use crate::tests::converts::CONVERTS;
 use crate::tests::long::LONG;
 use crate::tests::others::OTHERS;
@@ -113,7 +115,7 @@ pub fn all_hold<R: Abort + AllocGlobal + Threads + Wait + Sync>(
 
 #[test]
 fn each_case_holds(rt: HostRuntime) -> Result<(), Fail> {
-    for cases in [PLAYED, LONG, CONVERTS, BATCHES, OTHERS] {
+    for cases in [PLAYED, LONG, BROAD, CONVERTS, BATCHES, OTHERS] {
         all_hold(&rt, cases)?;
     }
     Ok(())
