@@ -1,9 +1,9 @@
 #!/usr/bin/env python3
 """Refuses memory and threads: in each run of `cases.py` each allocation in turn, and each together with all later ones.
 
-From the top of the repository: `python3 tests/memory.py [PROGRAM]`. A run has to end with the status 6 and nothing written. Only where a
-thread's start was refused, so that fewer threads were started, it may end as it ends where nothing is refused, and where no more was asked
-for than was given it has to. Each job of a batch may end with the status 6 too: then the batch is done, and tells the status 6 of a job
+From the top of the repository: `python3 tests/memory.py [PROGRAM]`. A run has to end with the status 6 and nothing written. It may end as it
+ends where nothing is refused only where a thread's start was refused, so that fewer threads were started, or where a single allocation was,
+since a list whose growth is refused asks for it once more. Where no more was asked for than was given it has to. Each job of a batch may end with the status 6 too: then the batch is done, and tells the status 6 of a job
 that wrote nothing. The status of the script is 0 where there was no third kind, and each command, and each way, had something refused.
 """
 
@@ -31,11 +31,13 @@ def lost_jobs(run, status, text):
     return found is not None and len(found) == len(wanted) and all(job in ((6, b""), other) for job, other in zip(found, wanted))
 
 
-def kind(run, status, text, fewer):
+def kind(run, status, text, fewer, single):
     if (status, text) == (6, b""):
         return "status 6 and nothing written"
     if (status, text) == (run.status, run.text):
-        return "the whole answer, with fewer threads" if fewer else "a third kind"
+        if fewer:
+            return "the whole answer, with fewer threads"
+        return "the whole answer, asked once more" if single else "a third kind"
     return "the whole batch, with jobs of the status 6" if lost_jobs(run, status, text) else "a third kind"
 
 
@@ -49,7 +51,7 @@ def refuse_in_turn(disturbed, run, way):
             if (status, text) != (run.status, run.text):
                 kinds["a third kind"] += 1
             return kinds
-        sort = kind(run, status, text, told.count(b"t") < threads)
+        sort = kind(run, status, text, told.count(b"t") < threads, "alloc_on" not in way(n) and "alloc_fails" in way(n))
         kinds[sort] += 1
         if sort == "a third kind":
             print(f"WRONG {' '.join(run.words)}, call {n}: status {status}, {text!r}", flush=True)
