@@ -5,8 +5,8 @@ use Rattle.std.proofs.lemmas.Bool.{true≢false, false≢true, and_from, lt-ltb,
 use Rattle.mark_core.specs.Layout.{words_of, block_count}
 use Rattle.mark_core.specs.Places.{the_phase}
 use Rattle.mark_core.specs.Seats.{takes_part, may_mutate, free_in, has_making, has_used, is_unread, is_phase, is_the}
-use Rattle.mark_core.specs.MutatorSteps.{is_next_part, fits_part}
-use Rattle.mark_core.specs.WorldRules.{IsEmpty}
+use Rattle.mark_core.specs.Steps.MutatorSteps.{is_next_part, fits_part}
+use Rattle.mark_core.specs.Rules.WorldRules.{IsEmpty}
 use Rattle.mark_core.proofs.Blocks.BlocksTaken.{Taken, mine, within, own-record}
 use Rattle.mark_core.proofs.World.WorldReading.{at-standing}
 use Rattle.mark_core.specs.Strong.{IsStrongSeat}
@@ -21,7 +21,7 @@ use Rattle.gc_table.specs.Notes.{look}
 use Rattle.gc_table.specs.TableState.{TableState}
 use Rattle.gc_table.specs.Rule.{IsState, Agrees}
 use Rattle.gc_table.specs.Taking.{May}
-use Rattle.gc_table.proofs.StandsSeat.{looks, free-below}
+use Rattle.gc_table.proofs.Stands.StandsSeat.{looks, free-below}
 use Rattle.alloc_cache.specs.Claiming.{MayClaim, notes_idle}
 
 -- the seat, in a state that agrees with its view

@@ -6,7 +6,7 @@ use Rattle.std.proofs.lemmas.Bool.{false≢true, and_from, and_parts, or_left, o
 use Rattle.mark_core.specs.Bits.{all_ones, complement}
 use Rattle.mark_core.specs.Effects.{place, written, seat_after}
 use Rattle.mark_core.specs.Layout.{block_count}
-use Rattle.mark_core.specs.MutatorSteps.{with_free}
+use Rattle.mark_core.specs.Steps.MutatorSteps.{with_free}
 use Rattle.mark_core.specs.Notes.{same_place, steady}
 use Rattle.mark_core.specs.Places.{the_phase}
 use Rattle.mark_core.specs.Seats.{is_the}
@@ -23,7 +23,7 @@ use Rattle.gc_table.specs.Taking.{after}
 use Rattle.gc_table.proofs.Noticing.{knows-steady, note-stays}
 use Rattle.gc_table.specs.Log.{events, all_steps, Only}
 use Rattle.gc_table.specs.Running.{Ran}
-use Rattle.gc_table.proofs.Log.{entry_of, events-none, events-after}
+use Rattle.gc_table.proofs.History.Log.{entry_of, events-none, events-after}
 use Rattle.gc_table.proofs.Running.{ran-found, ran-stored, ran-join, ran-events}
 use Rattle.alloc_cache.specs.Caching.{cached}
 use Rattle.alloc_cache.specs.Claiming.{MayClaim, Misses, NoBlock, Claims, claimed_by, finds_claimed, full_first, gets_block, notes_idle, seeks_block, seen_taken}

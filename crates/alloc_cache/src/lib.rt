@@ -9,7 +9,7 @@
 //!
 //! A tracer that reads a field of a cell must find what its maker stored there. Were each cell published by a step of its own, each would cost
 //! a write to a word that tracers read. So the allocation word is written once per cache, and it alone says which cells may be scanned: a tracer that
-//! meets a used cell which isn't published puts it off. These are the allocation caches and allocation bits of Barabash and others, "A parallel,
+//! meets a used cell which isn't published defers it. These are the allocation caches and allocation bits of Barabash and others, "A parallel,
 //! incremental, mostly concurrent garbage collector for servers", TOPLAS 2005.
 //!
 //! # The search
@@ -37,5 +37,5 @@ mod retiring;
 
 pub use cache::{Cache, cache_of, leave_with_seat};
 pub use claiming::claim;
-pub use making::new_cell;
+pub use making::{SECTION_SPAN, new_cell};
 pub use retiring::{publish, retire};

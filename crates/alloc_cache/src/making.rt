@@ -12,11 +12,14 @@ use crate::cache::Cache;
 use gc_table::{Heap, HeapSeat};
 use mark_core::{Cell, Identity};
 
+/// How many identities a section has: the number of an object is the lower half of its identity, and the section the upper half.
+pub const SECTION_SPAN: u64 = 4_294_967_296;
+
 /// The word of an identity.
 fn identity_word(id: Identity) -> u64
     ensures { result ≡ identity_word_of id }
 {
-    u64::from(id.section) * 4_294_967_296 + u64::from(id.number)
+    u64::from(id.section) * SECTION_SPAN + u64::from(id.number)
 }
 
 /// Stores nil in each field of a free cell.

@@ -1,6 +1,6 @@
 //! The cells of a cache are published, and the cache is given up.
 ghost use Rattle.std.specs.Prelude.{◌≡◌, None};
-ghost use Rattle.mark_core.specs.MutatorSteps.{used_bits as used_bits_of, without_used};
+ghost use Rattle.mark_core.specs.Steps.MutatorSteps.{used_bits as used_bits_of, without_used};
 ghost use Rattle.mark_core.specs.declared.kinds.Step.TheVariants.{PublishCells};
 ghost use Rattle.gc_table.specs.Seats.{Across, did, Sits, state_of, Took, view_of};
 ghost use Rattle.alloc_cache.specs.Caching.{IsCached};

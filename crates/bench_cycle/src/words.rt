@@ -15,6 +15,7 @@ pub enum Content {
 }
 
 impl Content {
+    /// The word that asks for it.
     pub fn name(&self) -> &'static str {
         match *self {
             Content::Nothing => "empty",

@@ -6,7 +6,7 @@ use Rattle.mark_core.specs.Effects.{seat_after}
 use Rattle.mark_core.specs.Layout.{block_count, words_of}
 use Rattle.mark_core.specs.Places.{the_phase, the_next_block}
 use Rattle.mark_core.specs.Seats.{is_the, is_phase, phase_of}
-use Rattle.mark_core.specs.WorldSteps.{blocks_done}
+use Rattle.mark_core.specs.Steps.WorldSteps.{blocks_done}
 use Rattle.mark_core.specs.declared.kinds.Phase.TheVariants.{Idle, Marking, Drain, Sweep, Clear, Full}
 use Rattle.mark_core.specs.declared.kinds.Shape.{Shape}
 use Rattle.mark_core.specs.declared.kinds.Step.{Step}

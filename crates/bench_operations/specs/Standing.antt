@@ -5,7 +5,7 @@ use Rattle.mark_core.specs.Seats.{work_in_hand}
 use Rattle.gc_table.specs.Seats.{Sits, view_of}
 use Rattle.packet_pools.specs.Hands.{free_slots}
 use Rattle.packet_pools.specs.Tracing.{Traces}
-use Rattle.gc_table.specs.Trials.{At}
+use Rattle.gc_table.specs.SeatRecords.{At}
 use Rattle.mark_core.specs.declared.seat.SeatState.{SeatState}
 use Rattle.gc_table.specs.declared.seat.Heap.{Heap}
 use Rattle.gc_table.specs.declared.seat.HeapSeat.{HeapSeat}

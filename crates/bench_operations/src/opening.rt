@@ -2,7 +2,7 @@
 ghost use Rattle.std.specs.Prelude.{◌≡◌, IfSome, IsTrue};
 ghost use Rattle.std.specs.Bool.{OnTrue};
 ghost use Rattle.gc_table.specs.Seats.{Sits, view_of};
-ghost use Rattle.gc_table.specs.Trials.{entered, resting};
+ghost use Rattle.gc_table.specs.SeatRecords.{entered, resting};
 ghost use Rattle.bench_operations.specs.Standing.{Blank, Waiting};
 
 use crate::checks::{empty_handed, is_bare, owns_nothing, work_in_hand};

@@ -5,7 +5,7 @@
 pub enum Work {
     /// A heap is made and closed.
     Open,
-    /// The same, and between the two a cell is made in each of its cells.
+    /// A heap is made, an object is made in each of its cells, and it is closed.
     Make,
     /// A store in a published object.
     Publish,
@@ -13,17 +13,18 @@ pub enum Work {
     Hide,
     /// A heap is made, filled with objects of four references each, and closed.
     Mesh,
-    /// The same, and its objects are traced.
+    /// A heap is made, filled with objects of four references each, traced, and closed.
     Trace,
     /// A pass over cards that are clean.
     Look,
     /// A look whether anything is left to trace.
     Drain,
-    /// The same, and a sweep of all blocks.
+    /// A look whether anything is left to trace, and a sweep of all blocks.
     Sweep,
 }
 
 impl Work {
+    /// The word that asks for it.
     pub fn name(&self) -> &'static str {
         match *self {
             Work::Open => "open",

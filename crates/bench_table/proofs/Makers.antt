@@ -4,7 +4,7 @@ use Rattle.std.specs.Prelude.{IsTrue, IsFalse, is_some}
 use Rattle.std.proofs.lemmas.Bool.{false≢true}
 use Rattle.std.proofs.lemmas.List.{length-append}
 use Rattle.mark_core.specs.Effects.{seat_after}
-use Rattle.mark_core.specs.MutatorSteps.{with_made, with_free, without_used, names_last}
+use Rattle.mark_core.specs.Steps.MutatorSteps.{with_made, with_free, without_used, names_last}
 use Rattle.mark_core.specs.Seats.{free_in, has_making, is_unread}
 use Rattle.mark_core.specs.declared.kinds.Phase.{Phase}
 use Rattle.mark_core.specs.declared.kinds.Phase.TheVariants.{Full}

@@ -4,7 +4,7 @@ use Rattle.std.specs.Prelude.{◌==◌, ◌%◌}
 use Rattle.std.proofs.lemmas.Bool.{and_from, or_right, eq-eqb, ne_eqb, lt-ltb, false≢true}
 use Rattle.mark_core.specs.Layout.{Words}
 use Rattle.mark_core.specs.Parts.{parts}
-use Rattle.mark_core.specs.MutatorSteps.{with_making, with_made, names_last}
+use Rattle.mark_core.specs.Steps.MutatorSteps.{with_making, with_made, names_last}
 use Rattle.mark_core.specs.Seats.{free_in, makes, has_making}
 use Rattle.mark_core.specs.Steps.{AllTrue}
 use Rattle.mark_core.specs.declared.kinds.Phase.{Phase}

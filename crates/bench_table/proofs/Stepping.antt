@@ -14,7 +14,7 @@ use Rattle.gc_table.specs.declared.view.View.{View}
 use Rattle.gc_table.specs.Seats.{Sits, view_of}
 use Rattle.gc_table.specs.Sections.{section_after}
 use Rattle.gc_table.specs.Taking.{after, won, May}
-use Rattle.gc_table.proofs.Trying.{may-by, state-after}
+use Rattle.gc_table.proofs.RecordSteps.{may-by, state-after}
 use Rattle.bench_table.specs.Making.{objects_of}
 use Rattle.bench_table.specs.Records.{sizes, At}
 use Rattle.bench_table.specs.Taken.{Takes, steps_in, rounds_of}

@@ -13,11 +13,12 @@ pub enum Work {
     Fetch,
     /// A heap is made, cells are made in all its blocks, and it is closed.
     Make,
-    /// The same with no cell.
+    /// A heap is made and closed, with no cell.
     Open,
 }
 
 impl Work {
+    /// The word that asks for it.
     pub fn name(&self) -> &'static str {
         match *self {
             Work::Load => "load",

@@ -12,15 +12,6 @@ use Rattle.binary_trees.specs.Trees.{Leaves, nodes}
 use Rattle.binary_trees.proofs.Counting.{followed-same, nodes-same}
 use Rattle.binary_trees.proofs.Growing.{leaves-join, leaves-less}
 
-pub nodes-none : (x : Heap) (k : ℕ) (ref : Ref) → ref ≡ refs.Nil → nodes x k ref ≡ 0
-nodes-none x zero ref e = ap (nodes x 0) e
-nodes-none x (suc k) ref e = ap (nodes x (suc k)) e
-
-pub nodes-one : (x : Heap) (ref : Ref) → (ref ≡ refs.Nil → ⊥) → nodes x 0 ref ≡ 1
-nodes-one x refs.Nil some = absurd (some refl)
-nodes-one x (refs.Own n) some = refl
-nodes-one x (refs.Cat n) some = refl
-
 nodes_more : (x : Heap) (k : ℕ) (ref : Ref) → (ref ≡ refs.Nil → ⊥) → nodes x (suc k) ref ≡ 1 + nodes x k (followed x None ref 0) + nodes x k (followed x None ref 1)
 nodes_more x k refs.Nil some = absurd (some refl)
 nodes_more x k (refs.Own n) some = refl

@@ -12,7 +12,7 @@ use Rattle.gc_table.specs.declared.view.View.{View}
 use Rattle.gc_table.specs.Log.{event, events}
 use Rattle.gc_table.specs.Notes.{look}
 use Rattle.gc_table.specs.Taking.{Finds, after, won}
-use Rattle.gc_table.proofs.Log.{events-after, events-join}
+use Rattle.gc_table.proofs.History.Log.{events-after, events-join}
 use Rattle.gc_table.proofs.Noticing.{alone-steady}
 use Rattle.packet_pools.specs.Fields.{fields_read, picked}
 use Rattle.packet_pools.specs.OnlyTraced.{OnlyTraced}

@@ -13,11 +13,10 @@ use Rattle.mark_core.specs.declared.seat.SeatState.{SeatState}
 use Rattle.gc_table.specs.declared.view.View.{View}
 use Rattle.gc_table.specs.Notes.{look}
 use Rattle.gc_table.specs.Taking.{May, Finds, after}
-use Rattle.packet_pools.specs.OnlyTraced.{OnlyTracedBy}
 use Rattle.packet_pools.specs.Tracing.{notes_drain, Traces}
 use Rattle.packet_pools.proofs.Conditions.{may-trace}
 use Rattle.packet_pools.proofs.TracedSteps.{read-keeps}
-use Rattle.card_clean.specs.Passing.{card_floor, keeps_floor}
+use Rattle.card_clean.specs.Passing.{card_floor}
 use Rattle.gc_table.proofs.Noticing.{knows-steady, note-stays}
 use Rattle.card_clean.proofs.Noted.{noted-here}
 
@@ -96,11 +95,3 @@ module _ (v : View) (seen : ℕ) (f : Finds (ReadStat 0) seen v) (t : Traces v) 
 
 pub may-look : (v : View) → May (ReadStat 0) v
 may-look v c k w a = (lt-ltb 0 (8 + c.core.shape.sections) (omega arith), tt)
-
--- tracing keeps the floor
-pub floor-later : {b : Bool} (v w : View) (n : ℕ) → OnlyTracedBy b v w → keeps_floor v.state ≡ true → card_floor v ≡ n + 1 → card_floor w ≡ n + 1
-floor-later v w n k keeps e = by_note (look the_next_card v.floors) refl
-  where
-    by_note : (o : Option ℕ) → look the_next_card v.floors ≡ o → card_floor w ≡ n + 1
-    by_note None h = let zero_there : 0 ≡ n + 1 = sym (ap (λ (p : Option ℕ). unwrap_or p 0) h) ∙ e in absurd (omega (arith, zero_there))
-    by_note (Some m) h = ap (λ (p : Option ℕ). unwrap_or p 0) (k.floors the_next_card m refl keeps h) ∙ (sym (ap (λ (p : Option ℕ). unwrap_or p 0) h) ∙ e)

@@ -5,13 +5,13 @@ use Rattle.std.proofs.lemmas.Bool.{and_parts, false≢true}
 use Rattle.mark_core.specs.Bits.{has_bit, without_bit}
 use Rattle.mark_core.specs.Effects.{seat_after}
 use Rattle.mark_core.specs.Seats.{left_in, may_scan, in_set}
-use Rattle.mark_core.specs.ColourSteps.{redirty_off, without_cell}
+use Rattle.mark_core.specs.Steps.ColourSteps.{redirty_off, without_cell}
 use Rattle.mark_core.specs.declared.kinds.Shape.{Shape}
 use Rattle.mark_core.specs.declared.kinds.Step.{Step}
 use Rattle.mark_core.specs.declared.kinds.Step.TheVariants.{ReadAlloc, ReadField, DirtyCard, ClearCard, ReadMarks}
 use Rattle.mark_core.specs.declared.seat.Cleaning.{Cleaning}
 use Rattle.mark_core.specs.declared.seat.SeatState.{SeatState}
-use Rattle.mark_core.proofs.CellBits.{without_same}
+use Rattle.mark_core.proofs.Writing.CellBits.{without_same}
 use Rattle.gc_table.specs.declared.view.Entry.{Entry}
 use Rattle.gc_table.specs.declared.view.View.{View}
 use Rattle.gc_table.specs.Taking.{after}
@@ -19,7 +19,7 @@ use Rattle.gc_table.specs.Running.{Ran, after_all}
 use Rattle.gc_table.proofs.Running.{ran-events}
 use Rattle.packet_pools.specs.Counts.{scans_object, only_scans}
 use Rattle.packet_pools.specs.Fields.{fields_read, picked, fields_from}
-use Rattle.gc_table.specs.Log.{events, all_steps}
+use Rattle.gc_table.specs.Log.{events}
 use Rattle.packet_pools.specs.Seeking.{moves_packet, only_moves}
 use Rattle.card_clean.specs.Leaving.{rescans, rescanned_in}
 use Rattle.card_clean.specs.Passing.{draws_card}
@@ -138,22 +138,9 @@ pub scan-left : (o : Option Cleaning) (c : ℕ) → may_scan o c ≡ true → le
 scan-left None c e = e
 scan-left (Some x) c e = (and_parts (in_set (block_of_card x.card) x.left c) (in_set (block_of_card x.card) x.published c) e).0
 
--- the same in the events of a call
-pub rescanned-events : (v : View) (es fs : List Entry) → es ≡ fs → rescanned_in v es ≡ rescanned_in v fs
-rescanned-events v es fs e = ap (rescanned_in v) e
-
 undrawn : (s : SeatState) (step : Step) (found : ℕ) → draws_card step ≡ true → rescans s step found ≡ 0
 undrawn s (ReadField c i) found m = absurd (false≢true m)
 undrawn s step found m = refl
-
--- the pass gives out cards and leaves no object
-pub rescanned-draws : (es : List Entry) (v : View) → all_steps draws_card es ≡ true → rescanned_in v es ≡ 0
-rescanned-draws [] v m = refl
-rescanned-draws (e ∷ es) v m =
-    let h = and_parts (draws_card e.step) (all_steps draws_card es) m in
-    let one = undrawn v.state e.step e.found h.0 in
-    let rest = rescanned-draws es (after e.step e.found v) h.1 in
-    omega (arith, one, rest)
 
 -- where no field is read nothing is scanned again
 unread-step : (s : SeatState) (step : Step) (found : ℕ) (xs : List (ℕ × ℕ)) → fields_read step found ++ xs ≡ [] → (rescans s step found ≡ 0) × (xs ≡ [])

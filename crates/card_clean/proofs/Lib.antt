@@ -12,3 +12,4 @@ pub mod Leavings
 pub mod Takings
 pub mod Staying
 pub mod Drawn
+pub mod DrainEnds

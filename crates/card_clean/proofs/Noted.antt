@@ -23,8 +23,5 @@ noted-here keeps at word xs k = note-left keeps at at word xs (same-place at) k
 pub look-keeps : (v : View) (step : Step) (n : ℕ) → written v.shape v.state step n ≡ n → seat_after v.shape v.state step n ≡ v.state → Finds step n v → KeepsAllNotes v (after step n v)
 look-keeps v step n reads same f at m h = read-keeps v step n reads f at m (ap (λ (s : SeatState). steady s at m) same ∙ (f.agrees.noted at m h).0) h
 
-pub keeps-refl : (v : View) → KeepsAllNotes v v
-keeps-refl v at n h = h
-
 pub keeps-join : (u v w : View) → KeepsAllNotes u v → KeepsAllNotes v w → KeepsAllNotes u w
 keeps-join u v w a b at n h = b at n (a at n h)

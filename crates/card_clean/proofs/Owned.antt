@@ -2,9 +2,9 @@
 use Rattle.std.proofs.Common.{ℕ, ◌≡◌, ◌-◌, ◌<◌, List, true, refl, sym, ap, subst, arith, inl, inr, Option, Some, None, is_none}
 use Rattle.std.specs.Prelude.{not, IsFalse, IfSome, ◌||◌}
 use Rattle.std.proofs.lemmas.Bool.{and_parts, and_from, eq-eqb, ne_eqb, lt-ltb, false≢true, or_left}
-use Rattle.mark_core.specs.HeapRules.{section_of}
+use Rattle.mark_core.specs.Rules.HeapRules.{section_of}
 use Rattle.mark_core.specs.Layout.{words_of, card_count}
-use Rattle.mark_core.specs.MutatorSteps.{has_own, in_variables, variable as word_in}
+use Rattle.mark_core.specs.Steps.MutatorSteps.{has_own, in_variables, variable as word_in}
 use Rattle.mark_core.specs.Seats.{is_the, may_mutate}
 use Rattle.mark_core.specs.WellFormed.{IsSeat}
 use Rattle.mark_core.specs.declared.kinds.Shape.{Shape}
@@ -19,8 +19,8 @@ use Rattle.gc_table.specs.Taking.{May}
 use Rattle.gc_table.specs.TableState.{TableState, meanings_of}
 use Rattle.gc_table.specs.declared.view.Meaning.{Meaning}
 use Rattle.gc_table.specs.declared.view.View.{View}
-use Rattle.gc_table.proofs.StandsSeat.{looks, env-agrees}
-use Rattle.gc_table.proofs.StatePlain.{Views, views}
+use Rattle.gc_table.proofs.Stands.StandsSeat.{looks, env-agrees}
+use Rattle.gc_table.proofs.State.StatePlain.{Views, views}
 use Rattle.card_clean.specs.Barrier.{is_own, HasOwn, IsStorable, MayStore}
 
 -- a word that agrees with an own reference isn't nil, and names a cell of the section

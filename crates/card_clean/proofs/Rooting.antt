@@ -11,7 +11,7 @@ use Rattle.mark_core.specs.Seats.{work_in_hand, scan_left, cleaning_left}
 use Rattle.mark_core.specs.declared.kinds.Shape.{Shape}
 use Rattle.mark_core.specs.declared.kinds.Step.TheVariants.{ReadRoot}
 use Rattle.mark_core.proofs.Formed.FormedLearns.{goes-within}
-use Rattle.mark_core.proofs.Places.{region-length}
+use Rattle.mark_core.proofs.Writing.Places.{region-length}
 use Rattle.mark_core.proofs.Pool.PoolSlots.{any-held}
 use Rattle.gc_table.specs.declared.view.View.{View}
 use Rattle.gc_table.specs.Taking.{May, Finds, after}

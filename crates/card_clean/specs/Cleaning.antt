@@ -1,5 +1,5 @@
 -- What the events of a cleaning tell.
-use Rattle.std.specs.Prelude.{ℕ, ◌≡◌, ◌/◌, ◌⊎◌, ◌==◌, ◌||◌, not, if◌then◌else◌, nat_lt, List, [], ◌∷◌, ◌++◌, length, Bool, false, Some, bit_and}
+use Rattle.std.specs.Prelude.{ℕ, ◌≡◌, ◌⊎◌, ◌==◌, ◌||◌, not, if◌then◌else◌, nat_lt, List, [], ◌∷◌, ◌++◌, length, Bool, false, Some, bit_and}
 use Rattle.mark_core.specs.Bits.{complement}
 use Rattle.mark_core.specs.declared.kinds.Shape.{Shape}
 use Rattle.mark_core.specs.declared.kinds.Step.TheVariants.{ClearCard, DirtyCard, ReadAlloc, ReadMarks}
@@ -45,7 +45,7 @@ pub record RescansCard (sh : Shape) (card : ℕ) (r : Cleaned) (es : List Entry)
   pub rescanned : r.rescanned ≡ length (cells_of_card card (published_cells card marks allocs))
   pub redirtied : r.redirtied ≡ (has_unpublished card marks allocs || nat_lt 0 lost)
 
--- the same with the step that found it dirty
+-- the card was found dirty and cleared, and then its cells were scanned again
 abbrev pub FoundDirty : Shape → ℕ → Cleaned → List Entry → Type 0
 FoundDirty sh card r es = (rest : List Entry) × (es ≡ event (ClearCard card) 1 ∷ rest) × RescansCard sh card r rest
 

@@ -1,8 +1,8 @@
 -- A packet is taken for a cleaning, and given back after it.
-use Rattle.std.specs.Prelude.{◌≡◌, List, [], ◌∷◌, ◌++◌, IsTrue}
+use Rattle.std.specs.Prelude.{◌≡◌, List, ◌++◌, IsTrue}
 use Rattle.mark_core.specs.declared.kinds.Shape.{Shape}
 use Rattle.gc_table.specs.declared.view.Entry.{Entry}
-use Rattle.packet_pools.specs.Seeking.{NoInput, NoOutput, only_moves}
+use Rattle.packet_pools.specs.Seeking.{NoInput, NoOutput, only_moves, output_pools}
 
 -- first no packet with room was found, and then none to read from
 pub record NoPacket (sh : Shape) (es : List Entry) : Type 0 where
@@ -18,6 +18,6 @@ pub record CleansWithPacket (P : List Entry → Type 0) (es : List Entry) : Type
   pub cleaning : List Entry
   pub giving : List Entry
   pub events_are : es ≡ taking ++ (cleaning ++ giving)
-  pub takes : IsTrue (only_moves (0 ∷ 1 ∷ 2 ∷ []) taking)
+  pub takes : IsTrue (only_moves output_pools taking)
   pub cleans : P cleaning
-  pub gives : IsTrue (only_moves (0 ∷ 1 ∷ 2 ∷ []) giving)
+  pub gives : IsTrue (only_moves output_pools giving)

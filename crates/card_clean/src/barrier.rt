@@ -47,8 +47,8 @@ pub fn store_ref(heap: &Heap, seat: &mut HeapSeat, v: u8, field: u8, w: Option<u
     }
 }
 
-/// The value of variable v's object becomes this one. No card is dirtied, since a value refers to nothing. The same is asked of the seat and of
-/// variable v as by [`store_ref`].
+/// The value of variable v's object becomes this one. No card is dirtied, since a value refers to nothing. Of the seat and of variable v it asks what
+/// [`store_ref`] asks.
 pub fn store_value(heap: &Heap, seat: &mut HeapSeat, v: u8, value: u32)
     requires seat { Sits heap.now seat.old × MayStore (view_of seat.old) }
     requires own { HasOwn (view_of seat.old) v }

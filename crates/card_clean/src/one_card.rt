@@ -6,7 +6,7 @@ ghost use Rattle.mark_core.specs.Seats.{work_in_hand};
 ghost use Rattle.gc_table.specs.Seats.{Across, did, state_of, view_of};
 ghost use Rattle.packet_pools.specs.Hands.{free_slots};
 ghost use Rattle.packet_pools.specs.OnlyTraced.{OnlyCleaned};
-ghost use Rattle.packet_pools.specs.Seeking.{NoOutput, only_moves};
+ghost use Rattle.packet_pools.specs.Seeking.{NoOutput, only_moves, output_pools};
 ghost use Rattle.packet_pools.specs.Tracing.{IsTracer};
 ghost use Rattle.card_clean.specs.Cleaning.{CleansOne};
 ghost use Rattle.card_clean.specs.Leaving.{rescanned_in};
@@ -31,7 +31,7 @@ pub fn clean_one(heap: &Heap, seat: &mut HeapSeat, card: u32) -> Option<Cleaned>
     ensures work { IsFalse (work_in_hand heap.now.shape.fields (state_of seat.new)) }
     ensures owes { ((state_of seat.new).owes ≡ (state_of seat.old).owes) ⊎ ((state_of seat.new).owes ≡ None) }
     ensures some { IfSome result (λ r. CleansOne heap.now.shape card r (did seat.old seat.new) × (r.rescanned ≤ card_cells) × (rescanned_in (view_of seat.old) (did seat.old seat.new) ≡ r.rescanned)) }
-    ensures none { IfNone result ((state_of seat.new ≡ state_of seat.old) × NoOutput heap.now.shape (did seat.old seat.new) × IsTrue (only_moves (0 ∷ 1 ∷ 2 ∷ []) (did seat.old seat.new)) × (rescanned_in (view_of seat.old) (did seat.old seat.new) ≡ 0)) }
+    ensures none { IfNone result ((state_of seat.new ≡ state_of seat.old) × NoOutput heap.now.shape (did seat.old seat.new) × IsTrue (only_moves output_pools (did seat.old seat.new)) × (rescanned_in (view_of seat.old) (did seat.old seat.new) ≡ 0)) }
 {
     let Some(mut out) = take_output(heap, seat) else {
         return None;

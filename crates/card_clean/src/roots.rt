@@ -57,8 +57,8 @@ fn mark_roots(heap: &Heap, seat: &mut HeapSeat, out: &mut Held, section: u32)
 /// Sees to the roots of all sections, with a packet that it takes for it, for a seat that is alone in a drain: each root is then nil, or goes to a cell
 /// that the seat knows marked. The seat has no work in hand and holds at most two packets.
 ///
-/// False comes only where no packet was found, with room or with entries, in this call: nothing is marked then. A packet that was put off isn't
-/// found here.
+/// False comes only where no packet was found, with room or with entries, in this call: nothing is marked then. A deferred packet isn't found
+/// here.
 pub fn see_to_roots(heap: &Heap, seat: &mut HeapSeat) -> bool
     requires seat { IsTracer heap.now seat.old }
     requires ready { IsBeforeSweep (view_of seat.old) }

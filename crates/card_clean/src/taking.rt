@@ -1,11 +1,11 @@
 //! A packet is taken for the cells that are marked.
-ghost use Rattle.std.specs.Prelude.{◌≡◌, [], ◌∷◌, IsTrue, IsFalse, IfSome, IfNone};
+ghost use Rattle.std.specs.Prelude.{◌≡◌, IsTrue, IsFalse, IfSome, IfNone};
 ghost use Rattle.mark_core.specs.Held.{has_free_slot, holds};
 ghost use Rattle.gc_table.specs.Seats.{Across, did, state_of, view_of};
 ghost use Rattle.packet_pools.specs.OnlyTraced.{OnlyTraced};
 ghost use Rattle.packet_pools.specs.Tracing.{IsTracer};
 ghost use Rattle.packet_pools.specs.Hands.{IsHeld, with_packet};
-ghost use Rattle.packet_pools.specs.Seeking.{only_moves};
+ghost use Rattle.packet_pools.specs.Seeking.{only_moves, output_pools};
 ghost use Rattle.card_clean.specs.Taking.{NoPacket};
 
 use gc_table::{Heap, HeapSeat};
@@ -17,7 +17,7 @@ pub(crate) fn take_some(heap: &Heap, seat: &mut HeapSeat) -> Option<Held>
     requires free { IsTrue (has_free_slot (state_of seat.old).held) }
     ensures seat { IsTracer heap.now seat.new }
     ensures later { Across OnlyTraced seat.old seat.new }
-    ensures moves { IsTrue (only_moves (0 ∷ 1 ∷ 2 ∷ []) (did seat.old seat.new)) }
+    ensures moves { IsTrue (only_moves output_pools (did seat.old seat.new)) }
     ensures some { IfSome result (λ h. IsFalse (holds (state_of seat.old).held h.packet) × IsHeld h (view_of seat.new) × (state_of seat.new ≡ record (state_of seat.old) { held = with_packet (state_of seat.old).held h.packet h.length })) }
     ensures none { IfNone result ((state_of seat.new ≡ state_of seat.old) × NoPacket heap.now.shape (did seat.old seat.new)) }
 {

@@ -1,27 +1,15 @@
 -- The seats of the tests: what their records say, and what their sections have come to.
-use Rattle.std.specs.Prelude.{ℕ, ◌≡◌, [], length, true, Some, None, IsFalse}
+use Rattle.std.specs.Prelude.{ℕ, ◌≡◌, length, true, Some}
 use Rattle.mark_core.specs.Start.{start_seat}
 use Rattle.mark_core.specs.declared.kinds.Phase.TheVariants.{Idle}
 use Rattle.mark_core.specs.declared.kinds.Shape.{Shape}
 use Rattle.mark_core.specs.declared.seat.SeatState.{SeatState}
 use Rattle.gc_table.specs.Seats.{Sits, view_of}
-use Rattle.gc_table.specs.Sections.{start_section}
-use Rattle.gc_table.specs.Trials.{At}
 use Rattle.gc_table.specs.declared.seat.Heap.{Heap}
 use Rattle.gc_table.specs.declared.seat.HeapSeat.{HeapSeat}
-use Rattle.gc_table.specs.declared.view.View.{View}
 use Rattle.alloc_cache.specs.Caching.{IsCached}
 use Rattle.alloc_cache.specs.declared.cache.Cache.{Cache}
-use Rattle.tracer.specs.Hands.{no_packets}
 use Rattle.mutator_ops.specs.Ready.{IsReady}
-
--- its flag is up
-abbrev pub flagged : Shape → ℕ → SeatState
-flagged sh k = record (start_seat sh k) { raised = true }
-
--- it is alone in the stopped world, and no cycle was under way
-abbrev pub stopped : Shape → ℕ → SeatState
-stopped sh k = record (start_seat sh k) { raised = true; knows = true; alone = true; phase_seen = Some Idle }
 
 -- it is active, and has read that no cycle is under way
 abbrev pub waiting : Shape → ℕ → SeatState
@@ -31,14 +19,6 @@ waiting sh k = record (start_seat sh k) { counted = true; active = true; phase_s
 abbrev pub playing : Shape → ℕ → SeatState
 playing sh k = record (start_seat sh k) { counted = true; active = true; phase_seen = Some Idle; season_seen = Some 1 }
 
--- seat k has this record, and its section has done nothing
-abbrev pub New : Heap → (Shape → ℕ → SeatState) → ℕ → HeapSeat → Type 0
-New h f k s = At h f k s × ((view_of s).own.meaning ≡ (start_section h.shape k).meaning) × ((view_of s).own.seasons ≡ 0) × ((view_of s).plan ≡ [])
-
--- what the words of the section mean is as it was, and so are its seasons and its plan
-abbrev pub Keeps : View → View → Type 0
-Keeps v w = (w.own.meaning ≡ v.own.meaning) × (w.own.seasons ≡ v.own.seasons) × (w.plan ≡ v.plan)
-
 -- the seat is the heap's, and each cell that it made has its object
 abbrev pub Carries : Heap → HeapSeat → Type 0
 Carries h s = Sits h s × (length (view_of s).own.meaning.heap.objects ≡ (view_of s).state.made)
@@ -46,14 +26,3 @@ Carries h s = Sits h s × (length (view_of s).own.meaning.heap.objects ≡ (view
 -- the seat is a mutator's between two commands, and this is its cache
 abbrev pub Fills : Heap → HeapSeat → Cache → Type 0
 Fills h s c = Sits h s × IsReady (view_of s) × IsCached c (view_of s)
-
--- the seat holds no packet, and has nothing in hand
-pub record Bare (s : SeatState) : Type 0 where
-  pub held : s.held ≡ no_packets
-  pub unreserved : IsFalse s.reserved
-  pub uncredited : IsFalse s.credit
-  pub popped : s.popped ≡ None
-  pub scan : s.scan ≡ None
-  pub value : s.value ≡ None
-  pub fresh : s.fresh ≡ None
-  pub cleaning : s.cleaning ≡ None

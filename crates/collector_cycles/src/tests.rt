@@ -4,7 +4,6 @@ mod collecting;
 mod helping;
 mod hiding;
 mod objects;
-mod opening;
 mod paying;
 mod quotas;
 mod seasons;

@@ -8,7 +8,8 @@ use Rattle.command_words.specs.Parsing.{Form, batch_options, dashed, form_named,
 use Rattle.command_words.proofs.NamedRules.{has_name}
 use Rattle.command_words.proofs.LeafRefused.{flip}
 use Rattle.command_words.proofs.TopWalk.{Covers, CoversAt}
-use Rattle.command_words.proofs.Refusing.{IsStrict, NeedsAll, bare_needs, bare_strict, batch_needs, batch_strict, batches_by, dump_needs, dump_strict, gen_needs, gen_strict, keeps_by, load_needs, load_strict, loads_by, numbers_by, run_needs, run_strict}
+use Rattle.command_words.proofs.Refusing.{IsStrict, bare_strict, batch_strict, batches_by, dump_strict, gen_strict, load_strict, loads_by, numbers_by, run_strict}
+use Rattle.command_words.proofs.Requiring.{NeedsAll, bare_needs, batch_needs, dump_needs, gen_needs, keeps_by, load_needs, run_needs}
 
 -- ---- the table
 

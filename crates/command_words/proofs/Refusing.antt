@@ -9,11 +9,10 @@ use Rattle.std.proofs.lemmas.Slice.Eq.{bytes_eq-Decides}
 use Rattle.clap.specs.Walk.{Text}
 use Rattle.clap.proofs.WalkLemmas.{list_any-map}
 use Rattle.command_words.specs.Words.{Batch, Command, Dump, Gen, Load, Options, Run, Setting, allowing, cells, chosen, entries, given, is_set, number, number_in, options, packets, runners, size, tracers, workers}
-use Rattle.command_words.specs.Parsing.{are_allowed, batch_options, dashed, is_flag, is_required, load_options, made_options, play_options, run_options}
+use Rattle.command_words.specs.Parsing.{are_allowed, batch_options, dashed, is_flag, load_options, made_options, play_options, run_options}
 use Rattle.command_words.proofs.NamedRules.{has_name}
 use Rattle.command_words.proofs.LeafTurns.{begins_with_hyphen}
 use Rattle.command_words.proofs.LeafRefused.{is_bad, is_misused}
-use Rattle.command_words.proofs.TopWalk.{Keeps}
 
 -- ---- what is given is of no use
 
@@ -118,7 +117,7 @@ pub none_either : (b : Bool) (o : Option Command) → o ≡ None → (if b then 
 none_either true o e = e
 none_either false o e = refl
 
-refuses_by : (names : List Text) (inner : List Setting → Option Command) → IsStrict names inner → (done more : List Setting) (x : Setting) → is_bad names done x ≡ true
+pub refuses_by : (names : List Text) (inner : List Setting → Option Command) → IsStrict names inner → (done more : List Setting) (x : Setting) → is_bad names done x ≡ true
     → allowing (map dashed names) (done ++ x ∷ more) (inner (done ++ x ∷ more)) ≡ None
 refuses_by names inner strict done more x bad = go (list_any (λ n. bytes_eq x.name (dashed n)) names) refl bad
   where
@@ -137,7 +136,7 @@ refuses_by names inner strict done more x bad = go (list_any (λ n. bytes_eq x.n
 
 -- ---- the commands
 
-either_name : {P : Type 0} (m n : Text) (rest : List Text) → (m ≡ n → P) → (has_name rest n ≡ true → P) → has_name (m ∷ rest) n ≡ true → P
+pub either_name : {P : Type 0} (m n : Text) (rest : List Text) → (m ≡ n → P) → (has_name rest n ≡ true → P) → has_name (m ∷ rest) n ≡ true → P
 either_name {P = P} m n rest here there h = go (bytes_eq m n) (bytes_eq-Decides m n).0 h
   where
     go : (b : Bool) → (b ≡ true → m ≡ n) → (b || has_name rest n) ≡ true → P
@@ -208,18 +207,18 @@ module _ (all : List Setting) (n : Text) (spoilt : Spoilt (is_flag n) (given (da
 abbrev pub numbers_by : {X : Type 0} → (ℕ → ℕ → X) → Option ℕ → Option ℕ → Option X
 numbers_by make n m = option_and_then (λ a. option_and_then (λ b. Some (make a b)) m) n
 
-no_second : {X : Type 0} (make : ℕ → ℕ → X) (n : Option ℕ) → numbers_by make n None ≡ None
+pub no_second : {X : Type 0} (make : ℕ → ℕ → X) (n : Option ℕ) → numbers_by make n None ≡ None
 no_second make None = refl
 no_second make (Some a) = refl
 
 abbrev pub loads_by : Option Options → Option ℕ → Option ℕ → Option Command
 loads_by o n m = option_and_then (λ options. numbers_by (Load options) n m) o
 
-no_load_number : (o : Option Options) (m : Option ℕ) → loads_by o None m ≡ None
+pub no_load_number : (o : Option Options) (m : Option ℕ) → loads_by o None m ≡ None
 no_load_number None m = refl
 no_load_number (Some o) m = refl
 
-no_load_size : (o : Option Options) (n : Option ℕ) → loads_by o n None ≡ None
+pub no_load_size : (o : Option Options) (n : Option ℕ) → loads_by o n None ≡ None
 no_load_size None n = refl
 no_load_size (Some o) n = no_second (Load o) n
 
@@ -262,57 +261,3 @@ batch_strict all n known spoilt =
     either_name (codes "runners") n play_options
     (λ e. ap (batches_by (options all)) (none_of all n spoilt (codes "runners") e refl 1 8 (Some 2)) ∙ no_batch_runners (options all))
     (λ h. ap (λ o. batches_by o (runners all)) (play_strict all n spoilt h)) known
-
--- ---- the commands that need an option
-
--- the command is none where a required option is missing
-abbrev pub NeedsAll : List Text → (List Setting → Option Command) → Type 0
-NeedsAll names inner = (all : List Setting) (n : Text) → has_name names n ≡ true → is_required n ≡ true → given (dashed n) all ≡ [] → inner all ≡ None
-
-not_needed : {P : Type 0} (m n : Text) → is_required m ≡ false → is_required n ≡ true → m ≡ n → P
-not_needed m n free needed e = absurd (true≢false (sym needed ∙ (ap is_required (sym e) ∙ free)))
-
-play_free : {P : Type 0} (n : Text) → is_required n ≡ true → has_name play_options n ≡ true → P
-play_free n needed =
-    either_name (codes "cells") n (codes "workers" ∷ codes "tracers" ∷ codes "packets" ∷ codes "entries" ∷ []) (not_needed (codes "cells") n refl needed)
-    (either_name (codes "workers") n (codes "tracers" ∷ codes "packets" ∷ codes "entries" ∷ []) (not_needed (codes "workers") n refl needed)
-    (either_name (codes "tracers") n (codes "packets" ∷ codes "entries" ∷ []) (not_needed (codes "tracers") n refl needed)
-    (either_name (codes "packets") n (codes "entries" ∷ []) (not_needed (codes "packets") n refl needed)
-    (either_name (codes "entries") n [] (not_needed (codes "entries") n refl needed)
-    (λ h. absurd (true≢false (sym h)))))))
-
-pub run_needs : NeedsAll run_options (λ all. option_and_then (λ o. Some (Run o)) (options all))
-run_needs all n known needed missing = either_name (codes "place") n play_options (not_needed (codes "place") n refl needed) (play_free n needed) known
-
-pub gen_needs : NeedsAll made_options (λ all. numbers_by Gen (number all) (size all))
-gen_needs all n known needed missing =
-    either_name (codes "number") n (codes "size" ∷ [])
-    (λ e. ap (λ l. numbers_by Gen (chosen 0 4294967295 None l) (size all)) (ap (λ m. given (dashed m) all) e ∙ missing))
-    (either_name (codes "size") n []
-    (λ e. ap (λ l. numbers_by Gen (number all) (chosen 1 20000 None l)) (ap (λ m. given (dashed m) all) e ∙ missing) ∙ no_second Gen (number all))
-    (λ h. absurd (true≢false (sym h)))) known
-
-pub load_needs : NeedsAll load_options (λ all. loads_by (options all) (number all) (size all))
-load_needs all n known needed missing =
-    either_name (codes "number") n (codes "size" ∷ play_options)
-    (λ e. ap (λ l. loads_by (options all) (chosen 0 4294967295 None l) (size all)) (ap (λ m. given (dashed m) all) e ∙ missing) ∙ no_load_number (options all) (size all))
-    (either_name (codes "size") n play_options
-    (λ e. ap (λ l. loads_by (options all) (number all) (chosen 1 20000 None l)) (ap (λ m. given (dashed m) all) e ∙ missing) ∙ no_load_size (options all) (number all))
-    (play_free n needed)) known
-
-pub bare_needs : (command : Command) → NeedsAll [] (λ all. Some command)
-bare_needs command all n known needed missing = absurd (true≢false (sym known))
-
-pub dump_needs : NeedsAll play_options (λ all. option_and_then (λ o. Some (Dump o)) (options all))
-dump_needs all n known needed missing = play_free n needed known
-
-pub batch_needs : NeedsAll batch_options (λ all. batches_by (options all) (runners all))
-batch_needs all n known needed missing = either_name (codes "runners") n play_options (not_needed (codes "runners") n refl needed) (play_free n needed) known
-
-pub keeps_by : (names : List Text) (inner : List Setting → Option Command) → has_name names [] ≡ false → IsStrict names inner → NeedsAll names inner
-    → Keeps names (λ all. allowing (map dashed names) all (inner all))
-keeps_by names inner named strict needs = record {
-  named = named;
-  refuses = refuses_by names inner strict;
-  needs = λ all n known needed missing. none_either (are_allowed names all) (inner all) (needs all n known needed missing);
-}

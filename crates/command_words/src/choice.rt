@@ -1,5 +1,5 @@
 //! The commands, each from the matches of its own words.
-ghost use Rattle.std.specs.Prelude.{◌≡◌, List, ℕ, Option, Some, None, true, option_map, option_and_then};
+ghost use Rattle.std.specs.Prelude.{◌≡◌, List, ℕ, Option, Some, None, true, option_map};
 ghost use Rattle.clap.specs.Words.{first_of, found_of, rows_of};
 ghost use Rattle.clap.specs.Walk.{one_of};
 ghost use Rattle.command_words.specs.Words.{Setting, batch, by_name, cells, chosen, dump, gen, is_set, load, options, run};

@@ -1,5 +1,5 @@
 //! The commands and their options: the one table, and how `clap` is told it.
-ghost use Rattle.std.specs.Prelude.{◌≡◌, IfOk, false, map};
+ghost use Rattle.std.specs.Prelude.{◌≡◌, IfOk, false};
 ghost use Rattle.clap.specs.Words.{app_of, rule_of};
 ghost use Rattle.command_words.specs.Building.{IsCommand, texts_of, with_commands};
 ghost use Rattle.command_words.specs.Parsing.{asked_program, asked_rule, is_flag, is_required};

@@ -1,12 +1,12 @@
 -- A dump has one census.
-use Rattle.std.proofs.Common.{◌≡◌, ℕ, zero, suc, ◌+◌, ◌<◌, ◌≤◌, List, length, get_or, map, refl, sym, ap, ◌∙◌, inl, inr, arith}
+use Rattle.std.proofs.Common.{◌≡◌, ℕ, zero, suc, ◌<◌, ◌≤◌, List, length, map, sym, ap, ◌∙◌, inl, inr, arith}
 use Rattle.std.specs.Prelude.{count_by}
 use Rattle.std.proofs.lemmas.Bool.{cases_eq, cases_lt}
 use Rattle.std.proofs.lemmas.List.{ext_get_or}
-use Rattle.heap_dump.specs.Final.{Heap, Object}
+use Rattle.heap_dump.specs.Final.{Object}
 use Rattle.dump_census.specs.declared.counts.SectionCount.{SectionCount}
 use Rattle.dump_census.specs.declared.counts.ValueCount.{ValueCount}
-use Rattle.dump_census.specs.Counted.{Counts, level_counts, IsCensus}
+use Rattle.dump_census.specs.Counted.{Counts, level_counts}
 use Rattle.dump_census.specs.Rounds.{is_unknown}
 use Rattle.dump_census.specs.Surviving.{OneCensus}
 use Rattle.dump_census.specs.Values.{value_at, occurrences, AreValueCounts}

@@ -22,10 +22,6 @@ pub reach_all_long : (level : ℕ) (s : Progress) (refs : List ℕ) → length (
 reach_all_long level s [] = refl
 reach_all_long level s (r ∷ refs) = reach_all_long level (reach level s r) refs ∙ reach_long level s r
 
-pub reach_from_long : (h : Heap) (level : ℕ) (s : Progress) (ks : List ℕ) → length (reach_from h level s ks).found ≡ length s.found
-reach_from_long h level s [] = refl
-reach_from_long h level s (k ∷ ks) = reach_from_long h level (reach_all level s (object h k).refs) ks ∙ reach_all_long level s (object h k).refs
-
 -- ---- what a legal heap refers to
 
 pub ref_within : (h : Heap) (section ref : ℕ) → RefersWithin h section ref → ref ≤ length h.records
@@ -42,19 +38,11 @@ field_within h legal k lt i small =
 
 -- ---- one step of each loop
 
-pub all_more : (level : ℕ) (s t u : Progress) (refs : List ℕ) (i ref : ℕ) → i < length refs → ref ≡ get_or refs i 0 → t ≡ reach_all level s (take i refs) → u ≡ reach level t ref
-    → u ≡ reach_all level s (take (i + 1) refs)
-all_more level s t u refs i ref lt is before turn =
-    turn ∙ ap (λ (p : Progress). reach level p ref) before ∙ ap (reach level (reach_all level s (take i refs))) is ∙ sym (fold_more (reach level) s refs i 0 lt)
-
 pub from_more : (h : Heap) (level : ℕ) (s t u : Progress) (ks : List ℕ) (i k : ℕ) → i < length ks → k ≡ get_or ks i 0 → t ≡ reach_from h level s (take i ks) → u ≡ reach_all level t (object h k).refs
     → u ≡ reach_from h level s (take (i + 1) ks)
 from_more h level s t u ks i k lt is before turn =
     turn ∙ ap (λ (p : Progress). reach_all level p (object h k).refs) before ∙ ap (λ j. reach_all level (reach_from h level s (take i ks)) (object h j).refs) is
     ∙ sym (fold_more (λ (p : Progress) j. reach_all level p (object h j).refs) s ks i 0 lt)
-
-pub long_stays : (level : ℕ) (t u : Progress) (ref n : ℕ) → u ≡ reach level t ref → length t.found ≡ n → length u.found ≡ n
-long_stays level t u ref n turn e = ap (λ (p : Progress). length p.found) turn ∙ reach_long level t ref ∙ e
 
 pub long_stays_all : (level : ℕ) (t u : Progress) (refs : List ℕ) (n : ℕ) → u ≡ reach_all level t refs → length t.found ≡ n → length u.found ≡ n
 long_stays_all level t u refs n turn e = ap (λ (p : Progress). length p.found) turn ∙ reach_all_long level t refs ∙ e

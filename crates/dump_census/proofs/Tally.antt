@@ -179,9 +179,6 @@ count_more xs vs v a top =
 
 -- ---- the values in order
 
-pub none_counted : AreValueCounts [] []
-none_counted = record { rising = λ i lt. absurd (omega arith); counted = λ i lt. absurd (omega arith); each = λ v lt. absurd (omega arith) }
-
 -- one more of the values
 pub tally_more : (xs : List ℕ) (i v : ℕ) (vs ws : List ValueCount) → IsRising xs → i < length xs → v ≡ get_or xs i 0 → AreValueCounts (take i xs) vs → ws ≡ count_value vs v
     → AreValueCounts (take (i + 1) xs) ws

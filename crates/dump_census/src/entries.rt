@@ -1,6 +1,6 @@
 //! The sections and the values of the records, read by several threads, each a range of records.
 ghost use Rattle.std.specs.Prelude.{◌≡◌, ◌<◌, length, map, IfOk};
-ghost use Rattle.heap_dump.specs.Final.{object, IsLegal};
+ghost use Rattle.heap_dump.specs.Final.{object};
 ghost use Rattle.heap_dump.specs.Reading.{heap_of};
 ghost use Rattle.dump_census.specs.Entries.{entry_of};
 

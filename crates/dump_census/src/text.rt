@@ -1,5 +1,5 @@
 //! A census as a text that people read. Each line is one piece, and no call takes memory.
-ghost use Rattle.std.specs.Prelude.{◌++◌, codes, length, flat_map};
+ghost use Rattle.std.specs.Prelude.{◌++◌, codes, flat_map};
 ghost use Rattle.play_report.specs.Causes.{WritesTo};
 ghost use Rattle.play_report.specs.Text.{named_text, numbered};
 ghost use Rattle.dump_census.specs.Text.{section_text, level_text, value_text, census_text};

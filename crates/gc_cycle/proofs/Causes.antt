@@ -19,7 +19,7 @@ use Rattle.gc_cycle.specs.Cycles.{collects, fills_with_cause, may_fill, sees_all
 use Rattle.gc_cycle.specs.Events.{each_after, followed, front, since_last, Sort}
 use Rattle.gc_cycle.specs.Sorts.{begins_exactly, ends_cycle, moves_to, names, raises_flag, reads_phase, sees_all_empty, sees_last_card}
 use Rattle.gc_cycle.specs.Stops.{claim_failed, marking_done, may_stop, no_block, stops_with_cause}
-use Rattle.gc_cycle.proofs.Finishes.{since-later}
+use Rattle.gc_cycle.proofs.Ends.Finishes.{since-later}
 use Rattle.gc_cycle.proofs.Searched.{front-more}
 use Rattle.gc_cycle.proofs.Sequences.{followed-later, some-none}
 
@@ -154,10 +154,6 @@ fill-later sh xs ys h =
     and_from (collects (xs ++ ys) && sees_all_full sh (since_last ends_cycle (xs ++ ys))) _
     (and_from (collects (xs ++ ys)) _ (followed-later begins_exactly ends_cycle xs ys q.0) (ap (sees_all_full sh) (since-later ends_cycle xs ys (followed-some begins_exactly ends_cycle ys q.0)) ∙ q.1))
     (some-right names xs ys p.1)
-
--- two calls in one stop
-pub fill-join : (sh : Shape) (xs ys : List Entry) → each_after (may_fill sh) (moves_to Full) [] xs ≡ true → each_after (may_fill sh) (moves_to Full) xs ys ≡ true → each_after (may_fill sh) (moves_to Full) [] (xs ++ ys) ≡ true
-fill-join sh xs ys a b = after-join (may_fill sh) (moves_to Full) [] xs ys a b
 
 -- since the last event like f, when there was one and none came after
 pub since-more : (f : Sort) (xs ys : List Entry) → some_event f xs ≡ true → some_event f ys ≡ false → since_last f (xs ++ ys) ≡ since_last f xs ++ ys

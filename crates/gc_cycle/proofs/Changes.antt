@@ -7,12 +7,12 @@ use Rattle.gc_table.specs.Log.{events, Only}
 use Rattle.gc_table.specs.Running.{Ran}
 use Rattle.gc_table.specs.Taking.{after}
 use Rattle.gc_table.specs.declared.view.View.{View}
-use Rattle.gc_table.proofs.Log.{events-none, only-after}
+use Rattle.gc_table.proofs.History.Log.{events-none, only-after}
 use Rattle.gc_table.proofs.Running.{ran-events, ran-join, ran-refl}
 use Rattle.packet_pools.proofs.Reading.{picked-join}
 use Rattle.alloc_cache.specs.declared.cache.Cache.{Cache}
 use Rattle.gc_cycle.specs.Statistics.{BetweenCycles, changes, ChangesBy, ChangesNumbers, EndsCycle, given_up, gives_back, GivesUp, leaves_numbers, numbers_changed}
-use Rattle.gc_cycle.proofs.PaidFor.{picked-none}
+use Rattle.gc_cycle.proofs.Refills.PaidFor.{picked-none}
 
 -- steps that change no number
 leaves-none : (step : Step) (n : ℕ) → leaves_numbers step ≡ true → changes step n ≡ []

@@ -1,5 +1,5 @@
 -- A seat at rest may trace with nothing in hand, and is at rest again where its record is as before.
-use Rattle.std.proofs.Common.{ℕ, ◌≡◌, [], ◌∷◌, List, length, refl, sym, ap, ◌∙◌, subst, arith, cond, Bool, true, false, not, ◌+◌, ◌*◌, ◌<◌, ◌&&◌, Some, None, Option}
+use Rattle.std.proofs.Common.{ℕ, ◌≡◌, [], ◌∷◌, List, length, refl, sym, ap, ◌∙◌, subst, arith, cond, Bool, true, false, not, ◌*◌, ◌<◌, ◌&&◌, Some, None, Option}
 use Rattle.std.specs.Prelude.{is_some, is_none, ◌==◌}
 use Rattle.std.proofs.Math.Logic.{∥∥₁_elim}
 use Rattle.std.proofs.Props.{props}
@@ -18,19 +18,18 @@ use Rattle.gc_table.specs.Running.{IsSeen}
 use Rattle.gc_table.specs.Taking.{after}
 use Rattle.gc_table.specs.declared.view.Entry.{Entry}
 use Rattle.gc_table.specs.declared.view.View.{View}
-use Rattle.gc_table.proofs.Log.{only-more}
+use Rattle.gc_table.proofs.History.Log.{only-more}
 use Rattle.gc_table.proofs.Noticing.{alone-kept, alone-steady}
 use Rattle.gc_table.proofs.Running.{run-keeps}
-use Rattle.packet_pools.specs.OnlyTraced.{OnlyTracedBy, rest_of, traces_cells as traces_packets}
+use Rattle.packet_pools.specs.OnlyTraced.{OnlyTracedBy, rest_of, traces_cells}
 use Rattle.packet_pools.specs.Seeking.{moves_packet, only_moves}
 use Rattle.packet_pools.specs.Tracing.{Traces, traces}
 use Rattle.packet_pools.proofs.Marked.{tracing-alone}
 use Rattle.tracer.specs.Hands.{IsIdle, no_packets}
-use Rattle.card_clean.specs.Leaving.{rescanned_in}
 use Rattle.card_clean.proofs.Staying.{root-stays}
-use Rattle.gc_cycle.specs.Drained.{IsRooted}
+use Rattle.gc_cycle.specs.Drained.{RootedAlone}
 use Rattle.card_clean.specs.Leaving.{rescans}
-use Rattle.gc_cycle.specs.Lower.{HasTraced, traces_cells}
+use Rattle.gc_cycle.specs.Lower.{HasTraced, traces_or_cleans}
 use Rattle.gc_cycle.specs.Moments.{total_of}
 use Rattle.gc_cycle.specs.Standing.{is_at_rest}
 use Rattle.gc_cycle.proofs.Traced.{rest-nothing}
@@ -106,7 +105,7 @@ pub idle-of : (v : View) → ∥ IsPossible v ∥₁ → is_at_rest v.shape v.st
 idle-of v p e = let a = rest-parts v.shape v.state e in record { held = four-none v.state.held (four-slots v p) a.packets; work = a.work; block = a.block }
 
 -- a step of tracing is one of those that gc_cycle allows
-widened : (step : Step) → traces_packets step ≡ true → traces_cells step ≡ true
+widened : (step : Step) → traces_cells step ≡ true → traces_or_cleans step ≡ true
 widened Reserve e = refl
 widened (Take q p) e = refl
 widened (Give p deferred) e = refl
@@ -137,7 +136,7 @@ rest-from sh s a b c d o k g m =
     g)
     m
 
-owes-step : (x : View) (step : Step) (n : ℕ) → traces_packets step ≡ true → IsSeen step n x → x.state.owes ≡ None → (after step n x).state.owes ≡ None
+owes-step : (x : View) (step : Step) (n : ℕ) → traces_cells step ≡ true → IsSeen step n x → x.state.owes ≡ None → (after step n x).state.owes ≡ None
 owes-step x (DirtyCard card) n p s e = ap (λ (o : Option ℕ). cond (is_the o card) None o) e
 owes-step x Reserve n p s e = e
 owes-step x (Take q k) n p s e = e
@@ -160,7 +159,7 @@ owes-step x step n p s e = absurd (false≢true p)
 
 -- while a seat traces no card comes to be owed
 pub owes-none : {b : Bool} (v w : View) → OnlyTracedBy b v w → v.state.owes ≡ None → w.state.owes ≡ None
-owes-none v w l e = run-keeps traces_packets (λ (x : View). x.state.owes ≡ None) owes-step v w l.ran l.only e
+owes-none v w l e = run-keeps traces_cells (λ (x : View). x.state.owes ≡ None) owes-step v w l.ran l.only e
 
 -- with no packet and no work in hand it is at rest again
 pub rest-again : {b : Bool} (v w : View) → OnlyTracedBy b v w → Traces w → holds_any w.state.held ≡ false → work_in_hand w.shape.fields w.state ≡ false → is_at_rest v.shape v.state ≡ true → is_at_rest w.shape w.state ≡ true
@@ -170,15 +169,18 @@ rest-again v w l t packets work e =
     (ap (λ (s : SeatState). not (has_making s.cache)) l.rest ∙ a.making)
 
 -- roots that were seen to stay so
-pub rooted-by : {b : Bool} (v w : View) → OnlyTracedBy b v w → is_at_rest w.shape w.state ≡ true → IsRooted v → IsRooted w
+pub rooted-by : {b : Bool} (v w : View) → OnlyTracedBy b v w → is_at_rest w.shape w.state ≡ true → RootedAlone v → RootedAlone w
 rooted-by v w l rest r =
-    let drain = alone-kept Drain traces_packets tracing-alone v w l.ran l.only r.drain in
+    let before = r.rooted.ready in
+    let drain = alone-kept Drain traces_cells tracing-alone v w l.ran l.only before.drains in
     let cache = (and_parts _ (is_none v.state.cache) (and_parts _ (is_none v.state.block) (and_parts _ (v.state.got == 0) r.rest.rest).0).0).1 in
     record {
       rest = record { knows = drain.knows; alone = drain.alone; rest = rest-nothing w.shape w.state rest (ap (λ (s : SeatState). is_none s.cache) l.rest ∙ cache) };
-      drain = drain;
-      next_block = l.notes the_next_block 0 refl (alone-steady v.state the_next_block 0 refl r.rest.alone) r.next_block;
-      roots = λ i h. root-stays v w l.ran l.only i r.rest.alone (r.roots i (subst (λ (sh : Shape). i < sh.sections * 32) l.shape h));
+      rooted =
+          record {
+            ready = record { drains = drain; next_block = l.notes the_next_block 0 refl (alone-steady v.state the_next_block 0 refl r.rest.alone) before.next_block };
+            roots = λ i h. root-stays v w l.ran l.only i r.rest.alone (r.rooted.roots i (subst (λ (sh : Shape). i < sh.sections * 32) l.shape h));
+          };
     }
 
 rest-but : (v w : View) → rest_of w.state ≡ rest_of v.state → rest_of w.state ≡ record (rest_of v.state) { below_card = w.state.below_card }
@@ -186,16 +188,11 @@ rest-but v w e = e ∙ (λ i. record (rest_of v.state) { below_card = sym (ap (�
 
 -- what packet_pools' relation says of a call after which the seat is at rest again
 pub traced-of : {b : Bool} (v w : View) → OnlyTracedBy b v w → is_at_rest w.shape w.state ≡ true → HasTraced v w
-traced-of v w l rest = record { ran = l.ran; only = only-more traces_packets traces_cells widened v w l.only; rest = rest; record_is = rest-but v w l.rest; rooted = rooted-by v w l rest }
+traced-of v w l rest = record { ran = l.ran; only = only-more traces_cells traces_or_cleans widened v w l.only; rest = rest; record_is = rest-but v w l.rest; rooted = rooted-by v w l rest }
 
--- the same where the packets in hand are as before, and no work is left
+-- what it says where the packets in hand are as before, and no work is left
 pub traced-held : {b : Bool} (v w : View) → OnlyTracedBy b v w → Traces w → w.state.held ≡ v.state.held → work_in_hand w.shape.fields w.state ≡ false → is_at_rest v.shape v.state ≡ true → HasTraced v w
 traced-held v w l t h k r = traced-of v w l (rest-again v w l t (ap holds_any h ∙ (rest-parts v.shape v.state r).packets) k r)
-
--- card_clean counts the same
-pub rescanned-same : (es : List Entry) (v : View) → total_of rescans v es ≡ rescanned_in v es
-rescanned-same [] v = refl
-rescanned-same (e ∷ es) v = ap (λ n. rescans v.state e.step e.found + n) (rescanned-same es (after e.step e.found v))
 
 -- packets that move scan nothing again
 pub moves-quiet : (qs : List ℕ) (es : List Entry) (v : View) → only_moves qs es ≡ true → total_of rescans v es ≡ 0

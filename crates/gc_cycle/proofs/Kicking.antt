@@ -13,10 +13,10 @@ use Rattle.gc_table.specs.Rule.{IsState, Agrees}
 use Rattle.gc_table.specs.TableState.{TableState}
 use Rattle.gc_table.specs.Log.{events, event}
 use Rattle.gc_table.specs.Running.{Ran}
-use Rattle.gc_table.proofs.Log.{events-after}
+use Rattle.gc_table.proofs.History.Log.{events-after}
 use Rattle.gc_table.proofs.Running.{ran-events, ran-join}
 use Rattle.stop_world.proofs.Standing.{active-counted, strong, unless}
-use Rattle.gc_cycle.specs.Pacing.{KicksOff, statistic}
+use Rattle.gc_cycle.specs.Pace.Pacing.{KicksOff, statistic}
 
 -- three statistics are read
 abbrev pub three : ℕ → ℕ → ℕ → List Entry

@@ -4,12 +4,12 @@ use Rattle.std.proofs.lemmas.Bool.{false≢true}
 use Rattle.mark_core.specs.declared.kinds.Step.{Step}
 use Rattle.mark_core.specs.declared.kinds.Step.TheVariants.{AddStat, Reset}
 use Rattle.stop_world.specs.Waiting.{watches}
-use Rattle.gc_cycle.specs.Lower.{sweeps_next, traces_cells}
-use Rattle.gc_cycle.specs.Pacing.{kicks}
+use Rattle.gc_cycle.specs.Lower.{sweeps_next, traces_or_cleans}
+use Rattle.gc_cycle.specs.Pace.Pacing.{kicks}
 use Rattle.gc_cycle.specs.Refilling.{looks_for_end}
 use Rattle.gc_cycle.specs.Statistics.{leaves_numbers}
 
-pub traces-leave : (step : Step) → traces_cells step ≡ true → leaves_numbers step ≡ true
+pub traces-leave : (step : Step) → traces_or_cleans step ≡ true → leaves_numbers step ≡ true
 traces-leave (AddStat which by down) e = absurd (false≢true e)
 traces-leave (Reset which) e = absurd (false≢true e)
 traces-leave step e = refl

@@ -14,7 +14,7 @@ use Rattle.alloc_cache.specs.Claiming.{claimed_by, Claims, seeks_block}
 use Rattle.alloc_cache.specs.Retiring.{retiring_steps}
 use Rattle.alloc_cache.specs.declared.cache.Cache.{Cache}
 use Rattle.gc_cycle.specs.Statistics.{changes, ChangesBy, gives_back, GivesUp, numbers_changed, taken, takes_off}
-use Rattle.gc_cycle.proofs.PaidFor.{picked-none}
+use Rattle.gc_cycle.proofs.Refills.PaidFor.{picked-none}
 
 -- a search for a block changes no number
 seeks-none : (step : Step) (n : ℕ) → seeks_block step ≡ true → changes step n ≡ []

@@ -3,7 +3,7 @@ use Rattle.std.proofs.Common.{ℕ, ◌≡◌, [], ◌∷◌, ◌++◌, refl, sym
 use Rattle.std.proofs.lemmas.Bool.{true≢false}
 use Rattle.mark_core.specs.Effects.{seat_after}
 use Rattle.mark_core.specs.Seats.{phase_number}
-use Rattle.mark_core.specs.WorldSteps.{has_nothing}
+use Rattle.mark_core.specs.Steps.WorldSteps.{has_nothing}
 use Rattle.mark_core.specs.declared.kinds.Phase.{Phase}
 use Rattle.mark_core.specs.declared.kinds.Step.{Step}
 use Rattle.mark_core.specs.declared.kinds.Step.TheVariants.{DropStep, ReadField, ReadPhase, Reset, StoreAlloc, StorePhase}
@@ -12,7 +12,7 @@ use Rattle.gc_table.specs.Taking.{after}
 use Rattle.gc_table.specs.declared.view.View.{View}
 use Rattle.gc_table.specs.Log.{all_steps, event, events, Only}
 use Rattle.gc_table.specs.Running.{ends_alone, IsSeen, Ran}
-use Rattle.gc_table.proofs.Log.{events-after, only-after, only-more, only-none}
+use Rattle.gc_table.proofs.History.Log.{events-after, only-after, only-more, only-none}
 use Rattle.gc_table.proofs.Noticing.{alone-step}
 use Rattle.gc_table.proofs.Running.{ran-after, ran-events, ran-join, ran-only, ran-refl}
 use Rattle.gc_cycle.specs.Finishing.{finishes, IsAloneIn, IsMove, IsPart, stays, stays_in}

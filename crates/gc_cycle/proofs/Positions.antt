@@ -7,12 +7,12 @@ use Rattle.gc_table.specs.Log.{events, Only}
 use Rattle.gc_table.specs.Running.{Ran}
 use Rattle.gc_table.specs.Taking.{after}
 use Rattle.gc_table.specs.declared.view.View.{View}
-use Rattle.gc_table.proofs.Log.{events-none}
+use Rattle.gc_table.proofs.History.Log.{events-none}
 use Rattle.gc_table.proofs.Running.{ran-events, run-keeps}
 use Rattle.packet_pools.specs.Seeking.{some_event}
 use Rattle.packet_pools.proofs.Searches.{some-parts}
 use Rattle.gc_cycle.specs.Answering.{StoredAt}
-use Rattle.gc_cycle.specs.Payment.{pays_cells}
+use Rattle.gc_cycle.specs.Pace.Payment.{pays_cells}
 use Rattle.gc_cycle.specs.Refilling.{prepares}
 use Rattle.gc_cycle.specs.Sorts.{leaves}
 use Rattle.gc_cycle.proofs.Sequences.{none-of-steps}

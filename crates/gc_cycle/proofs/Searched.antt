@@ -1,4 +1,4 @@
--- A search in vain within one call, seen from a call that made it: among more events, and with more packets that were filled to be put off.
+-- A search in vain within one call, seen from a call that made it: among more events, and with more packets with deferred cells.
 use Rattle.std.proofs.Common.{ℕ, ◌≡◌, List, [], ◌∷◌, ◌++◌, refl, sym, ap, ◌∙◌, subst, cond, Bool, true, false, not, Some, None, ⊎_elim, eqb, eqb-true, eq-eqb}
 use Rattle.std.specs.Prelude.{◌&&◌, ◌==◌, if◌then◌else◌}
 use Rattle.std.specs.List.{list_all, list_any}
@@ -13,7 +13,7 @@ use Rattle.mark_core.specs.declared.seat.SeatState.{SeatState}
 use Rattle.gc_table.specs.declared.view.Entry.{Entry}
 use Rattle.packet_pools.specs.Seeking.{moves_packet, no_input, no_output}
 use Rattle.packet_pools.proofs.AllMissed.{no-input-left, no-output-left}
-use Rattle.tracer.specs.Deferral.{puts_off}
+use Rattle.tracer.specs.Deferral.{defers}
 use Rattle.tracer.specs.Moments.{after_moment, at_some_moment, deferring_after, finds_no_work, front, is_spent_slot, Moment, nothing_left, without}
 use Rattle.gc_cycle.specs.Moments.{finds_no_room, holds_one}
 
@@ -40,7 +40,7 @@ spent-slots : (ps qs : List ℕ) → AreAmong ps qs → (hs : Slots) → list_al
 spent-slots ps qs a [] e = refl
 spent-slots ps qs a (h ∷ hs) e = let q = and_parts (is_spent_slot ps h) (list_all (is_spent_slot ps) hs) e in and_from _ _ (spent-slot ps qs a h q.0) (spent-slots ps qs a hs q.1)
 
--- a test that stays so among more events, and with more packets that were filled to be put off
+-- a test that stays so among more events, and with more packets with deferred cells
 pub record Widens (test : Moment → List Entry → Bool) : Type 0 where
   pub wider : (n m : Moment) (es : List Entry) → n.state ≡ m.state → AreAmong n.deferring m.deferring → test n es ≡ true → test m es ≡ true
 
@@ -97,7 +97,7 @@ without-has q p (x ∷ xs) e n =
     (cases_Bool (eqb x q))
 
 among-step : (s : SeatState) (step : Step) (ps qs : List ℕ) → AreAmong ps qs → AreAmong (deferring_after s step ps) (deferring_after s step qs)
-among-step s (Push p c) ps qs a r e = either (puts_off s (Push p c)) e
+among-step s (Push p c) ps qs a r e = either (defers s (Push p c)) e
   where
     either : (b : Bool) → list_any (λ x. x == r) (if b then p ∷ ps else ps) ≡ true → list_any (λ x. x == r) (if b then p ∷ qs else qs) ≡ true
     either true h = ⊎_elim (λ (z : (p == r) ≡ true). or_left _ _ z) (λ (z : list_any (λ x. x == r) ps ≡ true). or_right _ _ (a r z)) (or_cases (p == r) _ h)

@@ -14,6 +14,7 @@ use Rattle.packet_pools.proofs.Searches.{some-right}
 use Rattle.gc_table.specs.Log.{all_steps}
 use Rattle.gc_table.specs.Running.{after_all}
 use Rattle.gc_cycle.specs.Events.{Sort, followed, since_last}
+use Rattle.sweeper.specs.Freeing.{frees, freed_in}
 use Rattle.gc_cycle.specs.Moments.{Moment, after_moment, at_some_moment, total_of}
 
 -- none in the first and none in the second
@@ -96,3 +97,8 @@ total-none f P h (e ∷ es) v a =
     let x = h v.state e.step e.found b.0 in
     let y = total-none f P h es (after e.step e.found v) b.1 in
     omega (arith, x, y)
+
+-- the cells that were freed, as such a sum
+pub freed-same : (es : List Entry) (v : View) → total_of frees v es ≡ freed_in v es
+freed-same [] v = refl
+freed-same (e ∷ es) v = ap (λ n. frees v.state e.step e.found + n) (freed-same es (after e.step e.found v))

@@ -1,46 +1,51 @@
 -- The steps of a collection that doesn't wait.
-use Rattle.std.proofs.Common.{ℕ, ◌≡◌, ◌≤◌, ◌-◌, ◌/◌, ◌%◌, refl, sym, ap, ◌∙◌, Bool, true, false, Option, not, ◌&&◌, ◌||◌, Some, None, subst, eqb-true, eq-eqb, ⊎_elim, ◌⊎◌, inl, inr}
-use Rattle.std.specs.Prelude.{is_some, is_none, ◌==◌}
-use Rattle.std.proofs.lemmas.Bool.{false≢true, and_from, and_parts, or_cases, or_left, or_parts, or_right}
+use Rattle.std.proofs.Common.{ℕ, ◌≡◌, ◌≤◌, ◌-◌, ◌/◌, ◌%◌, refl, sym, ap, ◌∙◌, Bool, true, false, Option, ◌&&◌, ◌||◌, Some, None, subst, eqb-true, eq-eqb, ⊎_elim, ◌⊎◌, inl, inr}
+use Rattle.std.specs.Prelude.{is_some, ◌==◌}
+use Rattle.std.proofs.lemmas.Bool.{false≢true, and_from, or_cases, or_left, or_right}
 use Rattle.mark_core.specs.Effects.{seat_after}
 use Rattle.mark_core.specs.Layout.{block_count}
 use Rattle.mark_core.specs.Places.{mark_at, the_next_block, the_phase}
-use Rattle.mark_core.specs.Seats.{cleaning_left, empty_handed, is_the, scan_left, work_in_hand}
-use Rattle.mark_core.specs.WorldSteps.{has_nothing, is_stopped}
+use Rattle.mark_core.specs.Seats.{cleaning_left, is_the}
+use Rattle.mark_core.specs.Steps.WorldSteps.{has_nothing, is_stopped}
 use Rattle.mark_core.specs.declared.kinds.Phase.{Phase}
 use Rattle.mark_core.specs.declared.kinds.Phase.TheVariants.{Drain, Full, Idle, Sweep}
 use Rattle.mark_core.specs.declared.kinds.Shape.{Shape}
 use Rattle.mark_core.specs.declared.kinds.Step.{Step}
-use Rattle.mark_core.specs.declared.kinds.Step.TheVariants.{ClearMarks, DropStep, JoinHelpStep, LeaveHelpStep, NextBlock, Observe, ReadAlloc, ReadBlockMarks, ReadPhase, ReadStat, Reset, StoreAlloc}
+use Rattle.mark_core.specs.declared.kinds.Step.TheVariants.{DropStep, JoinHelpStep, LeaveHelpStep, Observe, ReadPhase, ReadStat, Reset}
 use Rattle.mark_core.specs.declared.seat.Cleaning.{Cleaning}
 use Rattle.mark_core.specs.declared.seat.SeatState.{SeatState}
 use Rattle.gc_table.specs.Log.{events, Only}
 use Rattle.gc_table.specs.Notes.{look}
 use Rattle.gc_table.specs.Rule.{KnowsFull}
-use Rattle.gc_table.specs.Running.{Alone, ends_alone, Ran}
+use Rattle.gc_table.specs.Running.{Alone, Ran}
 use Rattle.gc_table.specs.Seats.{Found, Took}
 use Rattle.gc_table.specs.Taking.{after}
 use Rattle.gc_table.specs.declared.view.View.{View}
-use Rattle.gc_table.proofs.Log.{only-more}
+use Rattle.gc_table.proofs.History.Log.{only-more}
 use Rattle.gc_table.proofs.Noticing.{alone-kept, alone-steady, known-here}
 use Rattle.gc_table.proofs.Running.{ran-shape, state-kept}
 use Rattle.packet_pools.specs.OnlyTraced.{IsNotedMarked}
 use Rattle.card_clean.specs.Drained.{FindsWork, IsNotedRoot}
 use Rattle.stop_world.specs.Waiting.{HasStopped, Waits}
 use Rattle.stop_world.proofs.Waits.{stopped-in, stopped-state, waits-join, waits-observe, waits-read}
+use Rattle.sweeper.specs.Freeing.{block_floor}
+use Rattle.sweeper.specs.Sweepers.{is_sweeping}
 use Rattle.gc_cycle.specs.Collecting.{HoldsWorld}
-use Rattle.gc_cycle.specs.Drained.{IsRooted}
+use Rattle.gc_cycle.specs.Drained.{RootedAlone}
 use Rattle.gc_cycle.specs.Finishing.{finishes, IsAloneIn, IsPart, stays_in}
-use Rattle.gc_cycle.specs.Lower.{block_floor, sweeps_blocks, sweeps_next}
+use Rattle.gc_cycle.specs.Lower.{sweeps_next}
 use Rattle.gc_cycle.specs.Mutating.{keeps_section, tries_stopping}
 use Rattle.gc_cycle.specs.Standing.{IsAlone}
 use Rattle.gc_cycle.specs.Stepping.{Asks, CleansLast, Drains, IsOwner, HasSwept, Keeps, MakesRound, RunsAgain, says_marked, says_root, SeesRoots, Sweeps}
 use Rattle.gc_cycle.specs.Turns.{DrainsFor}
-use Rattle.gc_cycle.proofs.Collected.{full-alone, only-drop, resumed-mutates}
-use Rattle.gc_cycle.proofs.Fulls.{full-known}
-use Rattle.gc_cycle.proofs.Goings.{is-done, keeps-seat, keeps-section, mutators-left, tries-keep}
+use Rattle.gc_cycle.proofs.Refills.Collected.{full-alone, only-drop, resumed-mutates}
+use Rattle.gc_cycle.proofs.Refills.KnownFull.{full-known}
+use Rattle.gc_cycle.proofs.SectionKept.{keeps-seat, keeps-section, tries-keep}
+use Rattle.gc_cycle.proofs.Stops.OutAndIn.{is-done}
+use Rattle.gc_cycle.proofs.Stops.FlagRaised.{mutators-left}
 use Rattle.gc_cycle.proofs.Parts.{part-finishes, part-reset}
-use Rattle.gc_cycle.proofs.Spared.{finish-keeps}
+use Rattle.gc_cycle.proofs.Ends.Swept.{done-of, nothing_by, sweeps-quiet, sweeps-stay}
+use Rattle.gc_cycle.proofs.Ends.Spared.{finish-keeps}
 
 helping-kept : (sh : Shape) (s : SeatState) (step : Step) (old : ℕ) → finishes step ≡ true → (seat_after sh s step old).helping ≡ s.helping
 helping-kept sh s JoinHelpStep old e = absurd (false≢true e)
@@ -137,43 +142,11 @@ reset-roots v w k a is =
 
 -- sweeping alone
 
-sweeps-stay : (step : Step) → sweeps_blocks step ≡ true → stays_in Sweep step ≡ true
-sweeps-stay NextBlock e = refl
-sweeps-stay (ReadAlloc b) e = refl
-sweeps-stay ReadBlockMarks e = refl
-sweeps-stay StoreAlloc e = refl
-sweeps-stay ClearMarks e = refl
-sweeps-stay (ReadStat which) e = refl
-sweeps-stay step e = absurd (false≢true e)
-
-sweeps-quiet : (step : Step) → sweeps_blocks step ≡ true → ends_alone step ≡ false
-sweeps-quiet NextBlock e = refl
-sweeps-quiet (ReadAlloc b) e = refl
-sweeps-quiet ReadBlockMarks e = refl
-sweeps-quiet StoreAlloc e = refl
-sweeps-quiet ClearMarks e = refl
-sweeps-quiet (ReadStat which) e = refl
-sweeps-quiet step e = absurd (false≢true e)
-
--- nothing is in hand, by whether something of a cleaning is left
-abbrev nothing_by : Shape → SeatState → Bool → Bool
-nothing_by sh s left =
-    empty_handed s && not (is_some s.popped || scan_left sh.fields s.scan || is_some s.value || is_some s.fresh || left) && is_none s.owes && is_none s.cache && is_none s.block && (s.got == 0)
-
-unless : (b : Bool) → not b ≡ true → b ≡ false
-unless true e = absurd (false≢true e)
-unless false e = refl
-
-done-of : (w : View) → IsAlone w → cleaning_left w.state.cleaning ≡ false
-done-of w o =
-    let work : not (work_in_hand w.shape.fields w.state) ≡ true = (and_parts _ _ (and_parts _ _ (and_parts _ _ (and_parts _ _ (and_parts _ _ o.rest).0).0).0).0).1 in
-    (or_parts _ (cleaning_left w.state.cleaning) (unless (work_in_hand w.shape.fields w.state) work)).1
-
-pub swept-alone : (v w : View) → IsAloneIn Sweep v → Ran v w → Only sweeps_blocks v w → (b : Bool) (y : Option Cleaning) → w.state ≡ record v.state { below_block = b; cleaning = y } → (cleaning_left v.state.cleaning ≡ false → cleaning_left y ≡ false) → IsPart Sweep v w
+pub swept-alone : (v w : View) → IsAloneIn Sweep v → Ran v w → Only is_sweeping v w → (b : Bool) (y : Option Cleaning) → w.state ≡ record v.state { below_block = b; cleaning = y } → (cleaning_left v.state.cleaning ≡ false → cleaning_left y ≡ false) → IsPart Sweep v w
 swept-alone v w a r o b y e left =
     record {
       ran = r;
-      only = only-more sweeps_blocks (stays_in Sweep) sweeps-stay v w o;
+      only = only-more is_sweeping (stays_in Sweep) sweeps-stay v w o;
       alone =
           record {
             rest =
@@ -182,19 +155,19 @@ swept-alone v w a r o b y e left =
                   alone = ap (λ (s : SeatState). s.alone) e ∙ a.rest.alone;
                   rest =
                       ap (λ (x : Shape). has_nothing x w.state) (ran-shape v w r)
-                      ∙ (ap (λ (s : SeatState). has_nothing v.shape s) e ∙ (ap (nothing_by v.shape v.state) (left (done-of v a.rest) ∙ sym (done-of v a.rest)) ∙ a.rest.rest));
+                      ∙ (ap (λ (s : SeatState). has_nothing v.shape s) e ∙ (ap (nothing_by v.shape v.state) (left (done-of v a.rest.rest) ∙ sym (done-of v a.rest.rest)) ∙ a.rest.rest));
                 };
-            alone = alone-kept Sweep sweeps_blocks sweeps-quiet v w r o a.alone;
+            alone = alone-kept Sweep is_sweeping sweeps-quiet v w r o a.alone;
           };
     }
 
-next-sweeps : (step : Step) → sweeps_next step ≡ true → sweeps_blocks step ≡ true
+next-sweeps : (step : Step) → sweeps_next step ≡ true → is_sweeping step ≡ true
 next-sweeps (ReadStat which) e = refl
 next-sweeps step e = e
 
 -- the next block
 pub next-alone : (v w : View) → IsAloneIn Sweep v → Ran v w → Only sweeps_next v w → w.state ≡ record v.state { below_block = w.state.below_block; cleaning = w.state.cleaning } → (cleaning_left v.state.cleaning ≡ false → cleaning_left w.state.cleaning ≡ false) → IsPart Sweep v w
-next-alone v w a r o e left = swept-alone v w a r (only-more sweeps_next sweeps_blocks next-sweeps v w o) w.state.below_block w.state.cleaning e left
+next-alone v w a r o e left = swept-alone v w a r (only-more sweeps_next is_sweeping next-sweeps v w o) w.state.below_block w.state.cleaning e left
 
 -- a seat that is alone in the sweep may take a block
 pub may-sweep : (v : View) → IsAloneIn Sweep v → (v.state.knows && is_the (look the_phase v.known) 3) ≡ true
@@ -237,12 +210,13 @@ root-from i v (Some w) e h =
           (or_cases (w == 0) (says_marked (look (mark_at ((w - 1) / 64)) v.known) ((w - 1) % 64)) h);
     }
 
-pub drains-of : (v : View) → IsOwner v → IsRooted v → Drains v
+pub drains-of : (v : View) → IsOwner v → RootedAlone v → Drains v
 drains-of v k r =
-    record { owner = k; rest = r.rest; drain = r.drain; next_block = r.next_block; roots = λ i h. let n = r.roots i h in says-root v (look (2, i) v.known) n.word n.noted n.marked }
+    record { owner = k; rest = r.rest; drain = r.rooted.ready.drains; next_block = r.rooted.ready.next_block; roots = λ i h. let n = r.rooted.roots i h in says-root v (look (2, i) v.known) n.word n.noted n.marked }
 
-pub rooted-back : (v : View) → Drains v → IsRooted v
-rooted-back v d = record { rest = d.rest; drain = d.drain; next_block = d.next_block; roots = λ i h. root-from i v (look (2, i) v.known) refl (d.roots i h) }
+pub rooted-back : (v : View) → Drains v → RootedAlone v
+rooted-back v d =
+    record { rest = d.rest; rooted = record { ready = record { drains = d.drain; next_block = d.next_block }; roots = λ i h. root-from i v (look (2, i) v.known) refl (d.roots i h) } }
 
 -- after a look that found something left, a round was made
 pub makes-round : (most : ℕ) (sh : Shape) (v w x : View) → v.shape ≡ sh → Ran v w → FindsWork sh (events v w) → Ran w x → DrainsFor most w x → CleansLast w x → MakesRound most v x

@@ -1,10 +1,10 @@
 -- Tracing by a seat that stopped the world.
-use Rattle.std.proofs.Common.{ℕ, ◌≡◌, refl, ap, ◌∙◌, true, false, not, ◌&&◌, ◌||◌, None, Some, arith}
+use Rattle.std.proofs.Common.{ℕ, ◌≡◌, refl, ap, ◌∙◌, true, false, not, ◌&&◌, ◌||◌, None, Some, arith, ⊎_elim, inl, inr}
 use Rattle.std.specs.Prelude.{◌==◌, is_none}
 use Rattle.std.proofs.lemmas.Bool.{and_from, and_parts, false≢true, or_left, or_right}
 use Rattle.mark_core.specs.Places.{the_phase}
 use Rattle.mark_core.specs.Seats.{empty_handed, has_making, is_the, saw, work_in_hand}
-use Rattle.mark_core.specs.WorldSteps.{has_nothing}
+use Rattle.mark_core.specs.Steps.WorldSteps.{has_nothing}
 use Rattle.mark_core.specs.declared.kinds.Phase.TheVariants.{Drain, Marking}
 use Rattle.mark_core.specs.declared.kinds.Shape.{Shape}
 use Rattle.mark_core.specs.declared.kinds.Step.{Step}
@@ -15,16 +15,15 @@ use Rattle.gc_table.specs.declared.view.View.{View}
 use Rattle.packet_pools.specs.Tracing.{traces}
 use Rattle.gc_table.specs.Running.{ends_alone, Ran}
 use Rattle.gc_table.specs.Log.{events}
-use Rattle.gc_table.proofs.Log.{only-more}
+use Rattle.gc_table.proofs.History.Log.{only-more}
 use Rattle.gc_table.proofs.Noticing.{alone-kept}
-use Rattle.gc_table.proofs.Running.{ran-join, ran-only}
-use Rattle.gc_cycle.specs.Finishing.{IsAloneIn, IsOpen, IsOpenPart, IsPart, stays_in}
-use Rattle.gc_cycle.specs.Lower.{HasTraced, traces_cells}
+use Rattle.gc_table.proofs.Running.{ran-join}
+use Rattle.gc_cycle.specs.Finishing.{DrainsInStop, IsAloneIn, IsOpen, IsOpenPart, IsPart, stays_in}
+use Rattle.gc_cycle.specs.Lower.{HasTraced, traces_or_cleans}
 use Rattle.gc_cycle.specs.Standing.{is_at_rest}
-use Rattle.gc_cycle.specs.Helping.{rescanned_in}
-use Rattle.card_clean.specs.Leaving.{rescans}
-use Rattle.gc_cycle.proofs.Completing.{total-run}
-use Rattle.gc_cycle.proofs.Opened.{phase-kept}
+use Rattle.card_clean.specs.Leaving.{rescans, rescanned_in}
+use Rattle.gc_cycle.proofs.Ends.Completing.{total-run}
+use Rattle.gc_cycle.proofs.Stops.Opened.{phase-kept}
 
 -- a seat that knows, in a drain, may trace
 known-traces : (v : View) → v.state.knows ≡ true → look the_phase v.known ≡ Some 2 → traces v ≡ true
@@ -64,7 +63,7 @@ no-cache sh s e = (and_parts (empty_handed s && not (work_in_hand sh.fields s) &
 traced-nothing : (v w : View) → has_nothing v.shape v.state ≡ true → HasTraced v w → has_nothing w.shape w.state ≡ true
 traced-nothing v w e t = rest-nothing w.shape w.state t.rest (ap (λ (s : SeatState). is_none s.cache) t.record_is ∙ no-cache v.shape v.state e)
 
-pub quiet : (step : Step) → traces_cells step ≡ true → ends_alone step ≡ false
+pub quiet : (step : Step) → traces_or_cleans step ≡ true → ends_alone step ≡ false
 quiet Reserve e = refl
 quiet (Take q p) e = refl
 quiet (Give p d) e = refl
@@ -87,7 +86,7 @@ quiet NextOfCards e = refl
 quiet (ReadStat which) e = refl
 quiet step e = absurd (false≢true e)
 
-pub traces-stay : (step : Step) → traces_cells step ≡ true → stays_in Drain step ≡ true
+pub traces-stay : (step : Step) → traces_or_cleans step ≡ true → stays_in Drain step ≡ true
 traces-stay Reserve e = refl
 traces-stay (Take q p) e = refl
 traces-stay (Give p d) e = refl
@@ -114,7 +113,7 @@ pub traced-part : (v w : View) → IsAloneIn Drain v → HasTraced v w → IsPar
 traced-part v w a t =
     record {
       ran = t.ran;
-      only = only-more traces_cells (stays_in Drain) traces-stay v w t.only;
+      only = only-more traces_or_cleans (stays_in Drain) traces-stay v w t.only;
       alone =
           record {
             rest =
@@ -123,7 +122,7 @@ traced-part v w a t =
                   alone = ap (λ (s : SeatState). s.alone) t.record_is ∙ a.rest.alone;
                   rest = traced-nothing v w a.rest.rest t;
                 };
-            alone = alone-kept Drain traces_cells quiet v w t.ran t.only a.alone;
+            alone = alone-kept Drain traces_or_cleans quiet v w t.ran t.only a.alone;
           };
     }
 
@@ -131,18 +130,25 @@ pub traced-open : (v w : View) → IsOpen Drain v → HasTraced v w → IsOpenPa
 traced-open v w o t =
     record {
       ran = t.ran;
-      only = only-more traces_cells (stays_in Drain) traces-stay v w t.only;
+      only = only-more traces_or_cleans (stays_in Drain) traces-stay v w t.only;
       still =
           record {
             knows = ap (λ (s : SeatState). s.knows) t.record_is ∙ o.knows;
             opened = ap (λ (s : SeatState). s.opened) t.record_is ∙ o.opened;
-            phase = phase-kept traces_cells 2 quiet v w t.ran t.only o.knows o.phase;
+            phase = phase-kept traces_or_cleans 2 quiet v w t.ran t.only o.knows o.phase;
             rest = traced-nothing v w o.rest t;
           };
     }
 
-pub open-join : (u v w : View) → IsOpenPart Drain u v → IsOpenPart Drain v w → IsOpenPart Drain u w
-open-join u v w a b = record { ran = ran-join u v w a.ran b.ran; only = ran-only (stays_in Drain) u v w a.ran b.ran a.only b.only; still = b.still }
+-- a seat that drains in a stop may trace, with nothing in hand, and drains on
+pub drains-trace : (v : View) → DrainsInStop v → traces v ≡ true
+drains-trace v d = ⊎_elim (alone-traces v) (open-traces v) d
+
+pub drains-rest : (v : View) → DrainsInStop v → is_at_rest v.shape v.state ≡ true
+drains-rest v d = nothing-rest v.shape v.state (⊎_elim (λ (a : IsAloneIn Drain v). a.rest.rest) (λ (o : IsOpen Drain v). o.rest) d)
+
+pub drains-on : (v w : View) → DrainsInStop v → HasTraced v w → DrainsInStop w
+drains-on v w d t = ⊎_elim (λ (a : IsAloneIn Drain v). inl (traced-part v w a t).alone) (λ (o : IsOpen Drain v). inr (traced-open v w o t).still) d
 
 -- the third of three calls rescans, as one
 pub rescans-last : (u v w x : View) (n : ℕ) → Ran u v → Ran v w → Ran w x → rescanned_in u (events u v) ≡ 0 → rescanned_in v (events v w) ≡ 0 → rescanned_in w (events w x) ≡ n → rescanned_in u (events u x) ≡ n

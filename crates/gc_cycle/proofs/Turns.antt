@@ -8,7 +8,7 @@ use Rattle.gc_table.specs.Log.{events}
 use Rattle.gc_table.specs.Running.{Ran}
 use Rattle.gc_table.specs.Taking.{after}
 use Rattle.gc_table.specs.declared.view.View.{View}
-use Rattle.gc_table.proofs.Log.{events-after, events-none}
+use Rattle.gc_table.proofs.History.Log.{events-after, events-none}
 use Rattle.gc_table.proofs.Running.{ran-events, ran-join, ran-refl, ran-shape}
 use Rattle.packet_pools.specs.Counts.{count_of}
 use Rattle.tracer.specs.declared.traced.Stopped.{Stopped}
@@ -22,8 +22,8 @@ use Rattle.gc_cycle.specs.Moments.{at_some_moment, begins, finds_no_packet, find
 use Rattle.gc_cycle.specs.Roots.{roots_scanned}
 use Rattle.gc_cycle.specs.Sorts.{joins, pops}
 use Rattle.gc_cycle.specs.Turns.{DrainsFor, HelpsBetween, HelpsInTurns, HelpsOnce, SeesToRoots, StaysApart, turn_quota}
-use Rattle.gc_cycle.proofs.Admitted.{count-run, never-join}
-use Rattle.gc_cycle.proofs.Payment.{earlier-moment, later-moment, packet-longer, packet-widens, roots-left, roots-right}
+use Rattle.gc_cycle.proofs.Stops.Admitted.{count-run, never-join}
+use Rattle.gc_cycle.proofs.Refills.Payment.{earlier-moment, later-moment, packet-longer, packet-widens, roots-left, roots-right}
 use Rattle.gc_cycle.proofs.Searched.{work-longer, work-widens}
 use Rattle.gc_cycle.proofs.Sequences.{this-moment}
 

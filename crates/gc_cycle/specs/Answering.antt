@@ -26,7 +26,7 @@ use Rattle.gc_cycle.specs.Cycles.{collects}
 use Rattle.gc_cycle.specs.Events.{each_before}
 use Rattle.gc_cycle.specs.Moments.{begins}
 use Rattle.gc_cycle.specs.Mutating.{GoesOut}
-use Rattle.gc_cycle.specs.Paying.{Pays, since_claim}
+use Rattle.gc_cycle.specs.Pace.Paying.{Pays, since_claim}
 use Rattle.gc_cycle.specs.Polling.{offered_help, poll_found_stop, saw_full}
 use Rattle.gc_cycle.specs.Sorts.{leaves, lowers_free, polls}
 use Rattle.mark_core.specs.Numbers.{done_count}

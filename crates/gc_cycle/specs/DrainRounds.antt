@@ -11,7 +11,7 @@ use Rattle.gc_table.specs.declared.view.Entry.{Entry}
 use Rattle.gc_table.specs.declared.view.View.{View}
 use Rattle.packet_pools.specs.Seeking.{some_event}
 use Rattle.card_clean.specs.Drained.{FindsNone, FindsWork}
-use Rattle.gc_cycle.specs.Drained.{IsDrained, IsRooted}
+use Rattle.gc_cycle.specs.Drained.{DrainedAlone, RootedAlone}
 use Rattle.gc_cycle.specs.Events.{never, since_last}
 use Rattle.gc_cycle.specs.Finishing.{IsPart}
 use Rattle.gc_cycle.specs.Sorts.{moves_to, opens}
@@ -34,11 +34,11 @@ GoesInRounds (x ∷ xs) v w = GoesRound v x × GoesInRounds xs x w
 pub record DrainsAlone (v w : View) : Type 0 where
   pub rooted : View
   pub first : IsPart Drain v rooted
-  pub roots : IsRooted rooted
+  pub roots : RootedAlone rooted
   pub rounds : List View
   pub goes : GoesInRounds rounds rooted w
   pub part : IsPart Drain v w
-  pub drained : IsDrained w
+  pub drained : DrainedAlone w
 
 -- a drain with helpers: the roots of all sections were seen to as far as packets could be had, helpers were let in, and the seat made a round
 pub record DrainsTogether (v w : View) : Type 0 where

@@ -14,12 +14,13 @@ use Rattle.packet_pools.specs.Counts.{count_of}
 use Rattle.packet_pools.specs.Seeking.{some_event}
 use Rattle.tracer.specs.declared.traced.Stopped.{Stopped}
 use Rattle.tracer.specs.declared.traced.Stopped.TheVariants as stops
+use Rattle.card_clean.specs.Leaving.{rescanned_in}
 use Rattle.gc_cycle.specs.declared.counts.Helped.{Helped}
 use Rattle.gc_cycle.specs.declared.counts.HelpEnd.{HelpEnd}
 use Rattle.gc_cycle.specs.declared.counts.HelpEnd.TheVariants.{Quota, NoWork, NoPacket, Swept}
 use Rattle.gc_cycle.specs.Events.{never}
-use Rattle.gc_cycle.specs.Helping.{helped_to_the_end, rescanned_in}
-use Rattle.gc_cycle.specs.Lower.{sweeps_next, traces_cells}
+use Rattle.gc_cycle.specs.Helping.{helped_to_the_end}
+use Rattle.gc_cycle.specs.Lower.{sweeps_next, traces_or_cleans}
 use Rattle.gc_cycle.specs.Moments.{Moment, at_some_moment, begins, finds_no_room, finds_no_work}
 use Rattle.gc_cycle.specs.Sorts.{clears, clears_card, draws, gets_block, pops, sees_last_block}
 use Rattle.gc_cycle.specs.Standing.{Helps}
@@ -43,7 +44,7 @@ StopsFor Swept quota done v w = ⊥
 -- the helper traced and cleaned, and stays one
 pub record DrainsOn (v w : View) : Type 0 where
   pub ran : Ran v w
-  pub only : Only traces_cells v w
+  pub only : Only traces_or_cleans v w
   pub helps : Helps w
   pub phase : w.state.phase_seen ≡ v.state.phase_seen
 

@@ -1,10 +1,10 @@
 -- The parts of a stop that ends a cycle.
-use Rattle.std.specs.Prelude.{ℕ, ◌≡◌, ◌<◌, ◌+◌, ◌++◌, zero, suc, [], ◌∷◌, List, Bool, true, false, unwrap_or, Some, IsTrue}
+use Rattle.std.specs.Prelude.{◌⊎◌, ℕ, ◌≡◌, ◌<◌, ◌+◌, ◌++◌, zero, suc, [], ◌∷◌, List, Bool, true, false, unwrap_or, Some, IsTrue}
 use Rattle.std.specs.Int.Count.{ones}
 use Rattle.mark_core.specs.Numbers.{card_counter}
 use Rattle.mark_core.specs.Places.{alloc_at, the_phase}
 use Rattle.mark_core.specs.Seats.{phase_number, saw}
-use Rattle.mark_core.specs.WorldSteps.{has_nothing}
+use Rattle.mark_core.specs.Steps.WorldSteps.{has_nothing}
 use Rattle.mark_core.specs.declared.kinds.Phase.{Phase}
 use Rattle.mark_core.specs.declared.kinds.Phase.TheVariants.{Drain, Sweep, Idle}
 use Rattle.mark_core.specs.declared.kinds.Step.{Step}
@@ -33,13 +33,13 @@ stays LeaveHelpStep = false
 stays (StorePosition done) = false
 stays step = keeps_section step
 
--- the same, or a move of the phase, or a look at it
+-- a step that stays, or a move of the phase, or a look at it
 abbrev pub finishes : Step → Bool
 finishes (StorePhase to) = true
 finishes ReadPhase = true
 finishes step = stays step
 
--- the same in one phase: fields are scanned in a drain alone, and cells are freed in a sweep alone
+-- a step that stays in one phase: fields are scanned in a drain alone, and cells are freed in a sweep alone
 abbrev pub stays_in : Phase → Step → Bool
 stays_in p (ReadField c i) = saw (Some p) Drain
 stays_in p StoreAlloc = saw (Some p) Sweep
@@ -62,6 +62,10 @@ pub record IsOpen (p : Phase) (v : View) : Type 0 where
   pub opened : IsTrue v.state.opened
   pub phase : Known v the_phase (phase_number p)
   pub rest : IsTrue (has_nothing v.shape v.state)
+
+-- the seat stopped the world and drains, alone or beside helpers
+abbrev pub DrainsInStop : View → Type 0
+DrainsInStop v = IsAloneIn Drain v ⊎ IsOpen Drain v
 
 -- a part of the stop while it is open in this phase
 pub record IsOpenPart (p : Phase) (v w : View) : Type 0 where

@@ -10,22 +10,13 @@ use Rattle.gc_table.specs.declared.view.Entry.{Entry}
 use Rattle.gc_table.specs.declared.view.View.{View}
 use Rattle.packet_pools.specs.Counts.{count_of}
 use Rattle.packet_pools.specs.Seeking.{some_event}
-use Rattle.card_clean.specs.Leaving.{rescans}
-use Rattle.sweeper.specs.Freeing.{frees}
+use Rattle.card_clean.specs.Leaving.{rescanned_in}
 use Rattle.gc_cycle.specs.declared.counts.Helped.{Helped}
 use Rattle.gc_cycle.specs.declared.counts.HelpEnd.{HelpEnd}
 use Rattle.gc_cycle.specs.declared.counts.HelpEnd.TheVariants.{Quota, NoWork, NoPacket, Swept}
 use Rattle.gc_cycle.specs.Events.{never, not_followed}
 use Rattle.gc_cycle.specs.Sorts.{clears, gets_block, pops, sees_last_block, sees_last_card, sees_to_card}
-use Rattle.gc_cycle.specs.Moments.{Moment, at_some_moment, begins, finds_no_room, finds_no_work, total_of}
-
--- how many objects were scanned again
-abbrev pub rescanned_in : View → List Entry → ℕ
-rescanned_in v es = total_of rescans v es
-
--- how many cells were freed
-abbrev pub freed_in : View → List Entry → ℕ
-freed_in v es = total_of frees v es
+use Rattle.gc_cycle.specs.Moments.{Moment, at_some_moment, begins, finds_no_room, finds_no_work}
 
 -- the event gave out a card, which these later events clear, or find clean
 abbrev pub meets_card : ℕ → Step → ℕ → List Entry → Bool

@@ -12,8 +12,8 @@ use Rattle.gc_cycle.specs.declared.counts.Refill.{Refill}
 use Rattle.gc_cycle.specs.declared.counts.Refill.TheVariants as refills
 use Rattle.gc_cycle.specs.Answering.{EndsFull, GoesOn, StoredAt, TellsFull}
 use Rattle.gc_cycle.specs.Events.{never, until_first}
-use Rattle.gc_cycle.specs.Pacing.{tries_marking}
-use Rattle.gc_cycle.specs.Paying.{since_claim}
+use Rattle.gc_cycle.specs.Pace.Pacing.{tries_marking}
+use Rattle.gc_cycle.specs.Pace.Paying.{since_claim}
 use Rattle.gc_cycle.specs.Refilling.{EndsClaimed}
 use Rattle.gc_cycle.specs.Sorts.{lowers_free, raises_flag}
 

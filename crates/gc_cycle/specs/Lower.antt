@@ -1,14 +1,13 @@
 -- What the calls of the crates below promise, in the words of this one.
-use Rattle.std.specs.Prelude.{◌==◌, ℕ, ◌≡◌, ◌≢◌, ◌<◌, Bool, true, false, Option, Some, None, unwrap_or, IsTrue}
+use Rattle.std.specs.Prelude.{◌==◌, ℕ, ◌≡◌, ◌≢◌, ◌<◌, Bool, true, Option, Some, None, IsTrue}
 use Rattle.mark_core.specs.Numbers.{block_counter, card_counter}
 use Rattle.mark_core.specs.Layout.{card_count}
-use Rattle.mark_core.specs.Places.{the_next_block}
 use Rattle.mark_core.specs.declared.kinds.Step.{Step}
-use Rattle.mark_core.specs.declared.kinds.Step.TheVariants.{Reserve, Take, Give, Credit, Push, Pop, Look, ReadAlloc, ReadField, ReadRoot, SetMark, DirtyCard, ClearCard, ReadMarks, ReadCard, ReadCount, StoreLength, ReadLength, NextOfCards, ReadStat, NextBlock, ReadBlockMarks, StoreAlloc, ClearMarks}
-use Rattle.gc_table.specs.Notes.{look}
+use Rattle.mark_core.specs.declared.kinds.Step.TheVariants.{NextOfCards, ReadStat}
 use Rattle.gc_table.specs.declared.view.View.{View}
 use Rattle.packet_pools.specs.Counts.{count_of}
-use Rattle.packet_pools.specs.OnlyTraced.{rest_of}
+use Rattle.packet_pools.specs.OnlyTraced.{rest_of, traces_cells}
+use Rattle.sweeper.specs.Sweepers.{is_sweeping}
 use Rattle.tracer.specs.declared.traced.Stopped.TheVariants.{Quota, NoWork, NoPacket}
 use Rattle.tracer.specs.declared.traced.RootScan.{RootScan}
 use Rattle.tracer.specs.declared.traced.RootScan.TheVariants as roots
@@ -20,56 +19,28 @@ use Rattle.gc_cycle.specs.Moments.{at_some_moment, begins, finds_no_packet, find
 use Rattle.packet_pools.specs.Seeking.{some_event}
 use Rattle.gc_cycle.specs.Roots.{roots_scanned}
 use Rattle.gc_cycle.specs.Sorts.{gives_card, pops, reads_root, sees_last_card}
-use Rattle.gc_cycle.specs.Drained.{IsRooted}
+use Rattle.gc_cycle.specs.Drained.{RootedAlone}
 use Rattle.gc_cycle.specs.Standing.{is_at_rest}
 
 -- a step of tracing, or of cleaning cards
-abbrev pub traces_cells : Step → Bool
-traces_cells Reserve = true
-traces_cells (Take q p) = true
-traces_cells (Give p deferred) = true
-traces_cells Credit = true
-traces_cells (Push p c) = true
-traces_cells (Pop p) = true
-traces_cells (Look q g) = true
-traces_cells ReadCount = true
-traces_cells (ReadAlloc b) = true
-traces_cells (ReadField c i) = true
-traces_cells (ReadRoot section v) = true
-traces_cells (SetMark c) = true
-traces_cells (DirtyCard card) = true
-traces_cells (ClearCard card) = true
-traces_cells (ReadMarks b) = true
-traces_cells (ReadCard card) = true
-traces_cells (StoreLength p) = true
-traces_cells (ReadLength p) = true
-traces_cells NextOfCards = true
-traces_cells (ReadStat which) = which == card_counter
-traces_cells step = false
+abbrev pub traces_or_cleans : Step → Bool
+traces_or_cleans NextOfCards = true
+traces_or_cleans (ReadStat which) = which == card_counter
+traces_or_cleans step = traces_cells step
 
--- a step of the sweep
-abbrev pub sweeps_blocks : Step → Bool
-sweeps_blocks NextBlock = true
-sweeps_blocks (ReadAlloc b) = true
-sweeps_blocks ReadBlockMarks = true
-sweeps_blocks StoreAlloc = true
-sweeps_blocks ClearMarks = true
-sweeps_blocks (ReadStat which) = true
-sweeps_blocks step = false
-
--- the same, where no counter but that of blocks is read
+-- a step of the sweep that reads no counter but that of blocks
 abbrev pub sweeps_next : Step → Bool
 sweeps_next (ReadStat which) = which == block_counter
-sweeps_next step = sweeps_blocks step
+sweeps_next step = is_sweeping step
 
 -- the seat traced, with nothing in hand before and after, and nothing else of its record is another, but whether it read the counter of cards below its end
 pub record HasTraced (v w : View) : Type 0 where
   pub ran : Ran v w
-  pub only : Only traces_cells v w
+  pub only : Only traces_or_cleans v w
   pub rest : IsTrue (is_at_rest w.shape w.state)
   pub record_is : rest_of w.state ≡ record (rest_of v.state) { below_card = w.state.below_card }
   -- tracing sets mark bits and clears none, so roots that were seen to stay so while nobody else is there
-  pub rooted : IsRooted v → IsRooted w
+  pub rooted : RootedAlone v → RootedAlone w
 
 -- how a trace ended
 pub record EndsTrace (quota : ℕ) (r : Traced) (v w : View) : Type 0 where
@@ -79,14 +50,10 @@ pub record EndsTrace (quota : ℕ) (r : Traced) (v w : View) : Type 0 where
   -- never for want of a packet with room, since what finds none is left to its card
   pub packet : r.stopped ≢ NoPacket
 
--- the number below which the counter of blocks won't fall, as the seat knows it
-abbrev pub block_floor : View → ℕ
-block_floor v = unwrap_or (look the_next_block v.floors) 0
-
--- the next card that the pass gives out, or none where the counter was seen at its end
-abbrev pub DrawsCard : Option ℕ → View → View → Type 0
-DrawsCard None v w = IsTrue (some_event (sees_last_card (card_count v.shape)) (events v w))
-DrawsCard (Some card) v w = (card < card_count v.shape) × IsTrue (some_event (gives_card card) (events v w))
+-- the pass gave out this card, or none where the counter was seen at its end
+abbrev pub GivesCard : Option ℕ → View → View → Type 0
+GivesCard None v w = IsTrue (some_event (sees_last_card (card_count v.shape)) (events v w))
+GivesCard (Some card) v w = (card < card_count v.shape) × IsTrue (some_event (gives_card card) (events v w))
 
 -- each variable of the section was seen to; or no packet could be taken, and none was read
 abbrev pub ScansRoots : ℕ → RootScan → View → View → Type 0

@@ -5,9 +5,9 @@ use Rattle.mark_core.specs.Bits.{all_ones}
 use Rattle.mark_core.specs.Layout.{block_count, card_count}
 use Rattle.mark_core.specs.Places.{alloc_at, the_phase}
 use Rattle.mark_core.specs.Seats.{phase_number}
-use Rattle.mark_core.specs.WorldRules.{is_resting}
+use Rattle.mark_core.specs.Rules.WorldRules.{is_resting}
 use Rattle.mark_core.specs.declared.kinds.Phase.{Phase}
-use Rattle.mark_core.specs.declared.kinds.Phase.TheVariants.{Marking}
+use Rattle.mark_core.specs.declared.kinds.Phase.TheVariants.{Full, Marking}
 use Rattle.mark_core.specs.declared.kinds.Shape.{Shape}
 use Rattle.mark_core.specs.declared.kinds.Step.{Step}
 use Rattle.mark_core.specs.declared.kinds.Step.TheVariants.{AddStat, ClaimBlock, ReadCount, ReadFree, ReadStat, ReleaseBlock, StorePhase}
@@ -24,7 +24,7 @@ use Rattle.gc_cycle.specs.Answering.{HasCache, StoredAt, TellsFull}
 use Rattle.gc_cycle.specs.Cycles.{fills_with_cause}
 use Rattle.gc_cycle.specs.Events.{never, since_last}
 use Rattle.gc_cycle.specs.Mutating.{keeps_section}
-use Rattle.gc_cycle.specs.Pacing.{was_not_due}
+use Rattle.gc_cycle.specs.Pace.Pacing.{was_not_due}
 use Rattle.gc_cycle.specs.Polling.{saw_full}
 use Rattle.gc_cycle.specs.Sorts.{ends_cycle, raises_flag, reads_all_ones, sees_all_empty, sees_last_card}
 use Rattle.mark_core.specs.Numbers.{done_count}
@@ -66,7 +66,7 @@ prepares step = false
 
 -- the seat knows that a cycle is marking, or that the heap is full
 abbrev pub KnowsCycle : View → Type 0
-KnowsCycle v = Known v the_phase 1 ⊎ Known v the_phase 5
+KnowsCycle v = Known v the_phase (phase_number Marking) ⊎ Known v the_phase (phase_number Full)
 
 -- by these events no cycle was due, or the seat knows that one is marking
 abbrev pub IsPaced : List Entry → View → Type 0
@@ -79,7 +79,7 @@ pub record EndsClaimed (h : Cache) (first : List Entry) (v w : View) : Type 0 wh
   pub all : events v w ≡ first ++ claimed_by h word count
   pub free : 0 < ones h.cells
 
--- the same of a mutator that claimed it outside a stop, with its position stored where it left the world before
+-- a mutator claimed this cache outside a stop, by its last events, with its position stored where it left the world before
 pub record HasClaimed (h : Cache) (done : ℕ) (v w : View) : Type 0 where
   pub ran : Ran v w
   pub tells : TellsFull v w

@@ -1,6 +1,6 @@
 -- Sorts of events: what one step did, by the word that it found.
 use Rattle.std.specs.Prelude.{ℕ, ◌==◌, ◌&&◌, ◌||◌, not, if◌then◌else◌, List, [], ◌∷◌, Bool, true, false, nat_le, nat_lt, Some}
-use Rattle.mark_core.specs.Numbers.{block_counter, card_counter, done_count, free_count, traced_count}
+use Rattle.mark_core.specs.Numbers.{block_counter, card_counter, done_count, free_count, last_count, traced_count}
 use Rattle.mark_core.specs.Bits.{all_ones, has_flag}
 use Rattle.mark_core.specs.Seats.{is_phase, phase_of, saw}
 use Rattle.mark_core.specs.declared.kinds.Phase.{Phase}
@@ -195,7 +195,7 @@ reads_done_below until step found = false
 
 -- a number was read that paces a cycle
 abbrev pub reads_pace : Step → ℕ → Bool
-reads_pace (ReadStat which) found = nat_le 2 which
+reads_pace (ReadStat which) found = nat_le last_count which
 reads_pace step found = false
 
 -- by how much the number of traced cells was raised

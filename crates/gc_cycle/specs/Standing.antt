@@ -1,13 +1,10 @@
 -- Who may call: a mutator between two commands, the seat that stopped the world, a helper, and a seat outside.
 use Rattle.std.specs.Prelude.{◌≡◌, ◌==◌, ◌&&◌, ◌||◌, not, Bool, is_none, is_some, IsTrue, IsFalse}
-use Rattle.mark_core.specs.Places.{the_phase}
-use Rattle.mark_core.specs.Seats.{empty_handed, has_making, is_bare, is_the, phase_number, saw, work_in_hand}
-use Rattle.mark_core.specs.WorldSteps.{has_nothing}
-use Rattle.mark_core.specs.declared.kinds.Phase.{Phase}
+use Rattle.mark_core.specs.Seats.{empty_handed, has_making, is_bare, saw, work_in_hand}
+use Rattle.mark_core.specs.Steps.WorldSteps.{has_nothing}
 use Rattle.mark_core.specs.declared.kinds.Phase.TheVariants.{Drain, Sweep}
 use Rattle.mark_core.specs.declared.kinds.Shape.{Shape}
 use Rattle.mark_core.specs.declared.seat.SeatState.{SeatState}
-use Rattle.gc_table.specs.Notes.{look}
 use Rattle.gc_table.specs.declared.view.View.{View}
 
 -- no packet, no work, no block in hand, no card owed, no cell half made, and no reference in the register
@@ -20,10 +17,6 @@ pub record Mutates (v : View) : Type 0 where
   pub unhelping : IsFalse v.state.helping
   pub section : IsTrue (is_some v.state.section)
   pub rest : IsTrue (is_at_rest v.shape v.state)
-
--- the phase is noted, and is this one
-abbrev pub notes_phase : Phase → View → Bool
-notes_phase p v = is_the (look the_phase v.known) (phase_number p)
 
 -- the seat stopped the world, and is alone, with nothing in hand
 pub record IsAlone (v : View) : Type 0 where

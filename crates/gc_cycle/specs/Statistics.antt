@@ -11,11 +11,12 @@ use Rattle.gc_table.specs.declared.view.Entry.{Entry}
 use Rattle.gc_table.specs.declared.view.View.{View}
 use Rattle.packet_pools.specs.Fields.{picked}
 use Rattle.alloc_cache.specs.declared.cache.Cache.{Cache}
+use Rattle.sweeper.specs.Freeing.{freed_in}
+use Rattle.card_clean.specs.Leaving.{rescanned_in}
 use Rattle.gc_cycle.specs.Cycles.{lets_help}
 use Rattle.gc_cycle.specs.DrainRounds.{HasDrained}
 use Rattle.gc_cycle.specs.Ending.{InEach, IsCycleEnd}
 use Rattle.gc_cycle.specs.Finishing.{IsAloneIn, finishes, most}
-use Rattle.gc_cycle.specs.Helping.{freed_in, rescanned_in}
 use Rattle.gc_cycle.specs.Standing.{IsAlone}
 use Rattle.gc_cycle.specs.declared.counts.Counts.{Counts}
 use Rattle.gc_cycle.specs.declared.counts.Refill.{Refill}
@@ -83,7 +84,7 @@ abbrev pub RefillsNumbers : Refill → View → View → Type 0
 RefillsNumbers (refills.Cache h paid) v w = ChangesNumbers (takes_off h ∷ []) v w ⊎ ChangesNumbers (takes_off h ∷ tells paid.done ∷ []) v w
 RefillsNumbers refills.Full v w = ChangesNumbers [] v w ⊎ ((h : Cache) × ChangesNumbers (takes_off h ∷ gives_back h ∷ []) v w)
 
--- the same of a round, which may have no answer
+-- what a round changed, which may have no answer
 abbrev pub RoundNumbers : Option Refill → View → View → Type 0
 RoundNumbers None v w = ChangesNumbers [] v w
 RoundNumbers (Some r) v w = RefillsNumbers r v w

@@ -2,8 +2,9 @@
 use Rattle.std.specs.Prelude.{ℕ, ◌≡◌, ◌==◌, ◌||◌, ◌<◌, ◌≤◌, ◌-◌, ◌*◌, ◌/◌, ◌%◌, not, [], ◌∷◌, Bool, false, is_some, Option, Some, None, IsTrue, IsFalse}
 use Rattle.mark_core.specs.Bits.{has_bit, has_flag}
 use Rattle.mark_core.specs.Layout.{block_count}
+use Rattle.mark_core.specs.Numbers.{deferred_pool_number}
 use Rattle.mark_core.specs.Places.{mark_at, the_next_block}
-use Rattle.mark_core.specs.WorldSteps.{has_nothing, is_stopped}
+use Rattle.mark_core.specs.Steps.WorldSteps.{has_nothing, is_stopped}
 use Rattle.mark_core.specs.declared.kinds.Phase.TheVariants.{Drain, Idle, Sweep}
 use Rattle.mark_core.specs.declared.kinds.Step.TheVariants.{DropStep, LeaveStep, Observe, RaiseStep, ReadPhase, StorePosition}
 use Rattle.gc_table.specs.Log.{event, events}
@@ -16,10 +17,10 @@ use Rattle.card_clean.specs.Drained.{FindsWork}
 use Rattle.card_clean.specs.Taking.{NoPacket}
 use Rattle.stop_world.specs.Waiting.{IsAware}
 use Rattle.gc_table.specs.Running.{Alone, Ran}
-use Rattle.gc_cycle.specs.Drained.{IsDrained}
+use Rattle.sweeper.specs.Freeing.{block_floor}
+use Rattle.gc_cycle.specs.Drained.{DrainedAlone}
 use Rattle.gc_cycle.specs.Ending.{InEach, IsCycleEnd, IsExact}
 use Rattle.gc_cycle.specs.Finishing.{IsAloneIn}
-use Rattle.gc_cycle.specs.Lower.{block_floor}
 use Rattle.gc_cycle.specs.Sorts.{begins_exactly}
 use Rattle.gc_cycle.specs.Standing.{IsAlone, KeepsSeat, KeepsSection, Mutates}
 use Rattle.gc_cycle.specs.Turns.{DrainsFor}
@@ -68,7 +69,7 @@ pub record Drains (v : View) : Type 0 where
 -- and all is marked
 pub record HasDrained (v : View) : Type 0 where
   pub owner : IsOwner v
-  pub drained : IsDrained v
+  pub drained : DrainedAlone v
 
 -- alone in a sweep, it hands out blocks
 pub record Sweeps (v : View) : Type 0 where
@@ -109,13 +110,13 @@ pub record FindsStopped (v w : View) : Type 0 where
   pub all : events v w ≡ event Observe found ∷ event ReadPhase phase ∷ []
   pub stopped : IsTrue (is_stopped found)
 
--- no packet was found to take, and then those that were put off were brought back
+-- no packet was found to take, and then the deferred ones were brought back
 pub record LacksPacket (v w : View) : Type 0 where
   pub looked : View
   pub looks : Ran v looked
   pub lacks : NoPacket v.shape (events v looked)
   pub ran : Ran looked w
-  pub brings : IsTrue (only_moves (3 ∷ []) (events looked w))
+  pub brings : IsTrue (only_moves (deferred_pool_number ∷ []) (events looked w))
 
 -- after whatever was done first, every card was seen clean, or one was seen dirty, and then no packet was found, or each card from it on was cleaned where it was dirty
 pub record CleansLast (v w : View) : Type 0 where

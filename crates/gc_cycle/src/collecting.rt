@@ -138,8 +138,8 @@ pub fn safe_point<R: Wait>(
     Safe::Full
 }
 
-/// The same with the cache lent, for a player that comes to a safe point at each command: the cache moves only where a stop is under way or the heap is
-/// full. True where the mutator goes on, with the cache that it has then; where it doesn't, it has none.
+/// A safe point as [`safe_point`] makes it, with the cache lent, for a player that comes to one at each command: the cache moves only where a stop is under
+/// way or the heap is full. True where the mutator goes on, with the cache that it has then; where it doesn't, it has none.
 #[inline(always)]
 pub fn pass_safe_point<R: Wait>(
     rt: &R,
@@ -201,7 +201,7 @@ pub(crate) fn go_on(heap: &Heap, seat: &mut HeapSeat, cache: Option<Cache>, done
     Safe::Full
 }
 
-/// The same with the cache lent. Where the mutator doesn't go on, it has none.
+/// Whether a mutator goes on, as `go_on` finds, with the cache lent. Where it doesn't, it has none.
 #[inline(always)]
 pub(crate) fn goes_on(
     heap: &Heap,

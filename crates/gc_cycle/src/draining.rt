@@ -10,13 +10,14 @@ ghost use Rattle.gc_table.specs.Seats.{Across, did, Sits, state_of, view_of};
 ghost use Rattle.packet_pools.specs.Seeking.{some_event};
 ghost use Rattle.gc_table.specs.Log.{event, events};
 ghost use Rattle.gc_table.specs.Running.{Ran};
+ghost use Rattle.card_clean.specs.Leaving.{rescanned_in};
 ghost use Rattle.gc_cycle.specs.DrainRounds.{DrainsAlone, DrainsTogether};
-ghost use Rattle.gc_cycle.specs.Drained.{IsDrained, IsRooted};
-ghost use Rattle.gc_cycle.specs.Finishing.{IsAloneIn, IsMove, IsOpen, IsOpenPart, IsPart, most};
-ghost use Rattle.gc_cycle.specs.Helping.{rescanned_in};
+ghost use Rattle.gc_cycle.specs.Drained.{DrainedAlone};
+ghost use Rattle.gc_cycle.specs.Finishing.{DrainsInStop, IsAloneIn, IsMove, IsPart, most};
+ghost use Rattle.gc_cycle.specs.Lower.{HasTraced};
 ghost use Rattle.gc_cycle.specs.Sorts.{opens};
 ghost use Rattle.gc_cycle.specs.Stepping.{CleansLast};
-ghost use Rattle.gc_cycle.specs.Turns.{DrainsFor, SeesToRoots, round_quota};
+ghost use Rattle.gc_cycle.specs.Turns.{DrainsFor, SeesToRoots};
 
 use crate::lower::{
     clean_dirty, close_help, is_drained, open_help, recycle_deferred, scan_roots, see_to_roots,
@@ -44,13 +45,12 @@ pub(crate) fn begin_drain(heap: &Heap, seat: &mut HeapSeat)
     heap.reset(seat, CARD_COUNTER);
 }
 
-/// One round: what was deferred, so many objects of the packets, and all cards. How many objects were scanned again.
+/// One round, alone or beside helpers: what was deferred, so many objects of the packets, and all cards. How many objects were scanned again.
 pub(crate) fn drain_round(heap: &Heap, seat: &mut HeapSeat, quota: u32) -> u32
     requires seat { Sits heap.now seat.old }
-    requires alone { IsAloneIn Drain (view_of seat.old) }
+    requires drains { DrainsInStop (view_of seat.old) }
     ensures seat { Sits heap.now seat.new }
-    ensures part { Across (IsPart Drain) seat.old seat.new }
-    ensures rooted { IsRooted (view_of seat.old) → IsRooted (view_of seat.new) }
+    ensures traced { Across HasTraced seat.old seat.new }
     ensures rescanned { rescanned_in (view_of seat.old) (did seat.old seat.new) ≡ result }
     ensures worked { Across (DrainsFor quota) seat.old seat.new }
     ensures cleans { Across CleansLast seat.old seat.new }
@@ -84,7 +84,7 @@ pub(crate) fn drain_together<R: Wait>(rt: &R, heap: &Heap, seat: &mut HeapSeat) 
 {
     scan_all_roots(heap, seat);
     open_help(heap, seat);
-    let rescanned = help_drain(heap, seat);
+    let rescanned = drain_round(heap, seat, ROUND);
     close_help(rt, heap, seat);
     rescanned
 }
@@ -115,23 +115,9 @@ pub(crate) fn drain_alone<R: Wait>(rt: &R, heap: &Heap, seat: &mut HeapSeat) -> 
 /// Ends the drain.
 pub(crate) fn begin_sweep(heap: &Heap, seat: &mut HeapSeat)
     requires seat { Sits heap.now seat.old }
-    requires drained { IsDrained (view_of seat.old) }
+    requires drained { DrainedAlone (view_of seat.old) }
     ensures seat { Sits heap.now seat.new }
     ensures moved { Across (IsMove Drain Sweep) seat.old seat.new }
 {
     heap.store_phase(seat, CyclePhase::Sweep);
-}
-
-/// What one seat does of an open drain.
-fn help_drain(heap: &Heap, seat: &mut HeapSeat) -> u32
-    requires seat { Sits heap.now seat.old }
-    requires open { IsOpen Drain (view_of seat.old) }
-    ensures seat { Sits heap.now seat.new }
-    ensures open { Across (IsOpenPart Drain) seat.old seat.new }
-    ensures rescanned { rescanned_in (view_of seat.old) (did seat.old seat.new) ≡ result }
-    ensures worked { Across (DrainsFor round_quota) seat.old seat.new }
-{
-    recycle_deferred(heap, seat);
-    trace(heap, seat, ROUND);
-    clean_dirty(heap, seat)
 }

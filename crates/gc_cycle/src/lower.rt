@@ -3,7 +3,7 @@ ghost use Rattle.std.specs.Prelude.{ℕ, ◌≡◌, ◌<◌, ◌≤◌, ◌+◌,
 ghost use Rattle.mark_core.specs.Cards.{card_cells};
 ghost use Rattle.mark_core.specs.Layout.{block_count, card_count};
 ghost use Rattle.mark_core.specs.Places.{the_next_block, the_phase};
-ghost use Rattle.mark_core.specs.Seats.{cleaning_left, is_the, saw};
+ghost use Rattle.mark_core.specs.Seats.{cleaning_left, is_the, phase_number, saw};
 ghost use Rattle.mark_core.specs.declared.kinds.Phase.TheVariants.{Clear, Drain, Sweep};
 ghost use Rattle.gc_table.specs.Log.{Only};
 ghost use Rattle.gc_table.specs.Notes.{look};
@@ -16,11 +16,14 @@ ghost use Rattle.packet_pools.specs.Tracing.{traces};
 ghost use Rattle.card_clean.specs.DirtyCards.{CleansDirty};
 ghost use Rattle.card_clean.specs.Drained.{FindsNone, FindsWork};
 ghost use Rattle.card_clean.specs.Passing.{card_floor};
-ghost use Rattle.gc_cycle.specs.Drained.{IsDrained, IsRooted};
+ghost use Rattle.sweeper.specs.Freeing.{freed_in, block_floor};
+ghost use Rattle.card_clean.specs.Leaving.{rescanned_in};
+ghost use Rattle.sweeper.specs.Sweepers.{is_sweeping};
+ghost use Rattle.gc_cycle.specs.Drained.{DrainedAlone, RootedAlone};
 ghost use Rattle.gc_cycle.specs.Events.{never};
 ghost use Rattle.gc_cycle.specs.Finishing.{IsAloneIn, IsPart};
-ghost use Rattle.gc_cycle.specs.Helping.{freed_in, meets_cards, rescanned_in};
-ghost use Rattle.gc_cycle.specs.Lower.{DrawsCard, EndsTrace, HasTraced, ScansRoots, block_floor, sweeps_blocks, sweeps_next, traces_cells};
+ghost use Rattle.gc_cycle.specs.Helping.{meets_cards};
+ghost use Rattle.gc_cycle.specs.Lower.{GivesCard, EndsTrace, HasTraced, ScansRoots, sweeps_next, traces_or_cleans};
 ghost use Rattle.gc_cycle.specs.Moments.{at_some_moment, begins, finds_no_room};
 ghost use Rattle.gc_cycle.specs.Sorts.{clears, clears_card, draws, draws_or_clears, gets_block, pops, reads_pace, reads_root, sees_last_block, sees_to_card};
 ghost use Rattle.gc_cycle.specs.Standing.{is_at_rest};
@@ -95,11 +98,11 @@ pub(crate) fn clean_dirty(heap: &Heap, seat: &mut HeapSeat) -> u32
 
 /// Whether the drain is at its end, where all roots are seen to.
 pub(crate) fn is_drained(heap: &Heap, seat: &mut HeapSeat) -> bool
-    requires seat { Sits heap.now seat.old × IsRooted (view_of seat.old) }
-    ensures seat { Sits heap.now seat.new × IsRooted (view_of seat.new) }
+    requires seat { Sits heap.now seat.old × RootedAlone (view_of seat.old) }
+    ensures seat { Sits heap.now seat.new × RootedAlone (view_of seat.new) }
     ensures traced { Across HasTraced seat.old seat.new }
     ensures rescanned { rescanned_in (view_of seat.old) (did seat.old seat.new) ≡ 0 }
-    ensures drained { IsTrue result → IsDrained (view_of seat.new) }
+    ensures drained { IsTrue result → DrainedAlone (view_of seat.new) }
     ensures over { IsTrue result → FindsNone heap.now.shape (did seat.old seat.new) }
     ensures undrained { IsFalse result → FindsWork heap.now.shape (did seat.old seat.new) }
 {
@@ -115,7 +118,7 @@ pub(crate) fn sees_to_roots(heap: &Heap, seat: &mut HeapSeat) -> bool
     ensures part { Across (IsPart Drain) seat.old seat.new }
     ensures next { look the_next_block (view_of seat.new).known ≡ Some 0 }
     ensures rescanned { rescanned_in (view_of seat.old) (did seat.old seat.new) ≡ 0 }
-    ensures rooted { IsTrue result → IsRooted (view_of seat.new) }
+    ensures rooted { IsTrue result → RootedAlone (view_of seat.new) }
     ensures lacks { IsFalse result → Across LacksPacket seat.old seat.new }
 {
     if card_clean::see_to_roots(heap, seat) {
@@ -131,7 +134,7 @@ pub(crate) fn sees_to_roots(heap: &Heap, seat: &mut HeapSeat) -> bool
 pub(crate) fn see_to_roots<R: Wait>(rt: &R, heap: &Heap, seat: &mut HeapSeat)
     requires seat { Sits heap.now seat.old }
     requires alone { IsAloneIn Drain (view_of seat.old) × (look the_next_block (view_of seat.old).known ≡ Some 0) }
-    ensures seat { Sits heap.now seat.new × IsRooted (view_of seat.new) }
+    ensures seat { Sits heap.now seat.new × RootedAlone (view_of seat.new) }
     ensures part { Across (IsPart Drain) seat.old seat.new }
     ensures rescanned { rescanned_in (view_of seat.old) (did seat.old seat.new) ≡ 0 }
 {
@@ -149,10 +152,10 @@ pub(crate) fn next_card(heap: &Heap, seat: &mut HeapSeat) -> Option<u32>
     requires rest { IsTrue (is_at_rest heap.now.shape (state_of seat.old)) }
     ensures seat { Sits heap.now seat.new }
     ensures ran { Across Ran seat.old seat.new }
-    ensures only { Across (Only traces_cells) seat.old seat.new }
+    ensures only { Across (Only traces_or_cleans) seat.old seat.new }
     ensures traced { Across HasTraced seat.old seat.new }
     ensures state { state_of seat.new ≡ record (state_of seat.old) { below_card = false } }
-    ensures draws { Across (DrawsCard result) seat.old seat.new }
+    ensures draws { Across (GivesCard result) seat.old seat.new }
     ensures rises { IfSome result (λ card. IsTrue (state_of seat.old).admitted → (card_floor (view_of seat.old) ≤ card) × (card_floor (view_of seat.new) ≡ card + 1)) }
     ensures met { IfSome result (λ card. (later : List Entry) → IsTrue (some_event (sees_to_card card) later) → IsTrue (meets_cards (card_count heap.now.shape) later) → IsTrue (meets_cards (card_count heap.now.shape) (did seat.old seat.new ++ later))) }
     ensures over { IfNone result (IsTrue (meets_cards (card_count heap.now.shape) (did seat.old seat.new))) }
@@ -202,10 +205,10 @@ pub(crate) fn clear_rest(heap: &Heap, seat: &mut HeapSeat)
 /// Sweeps every block that is left: how many cells were freed.
 pub(crate) fn sweep_rest(heap: &Heap, seat: &mut HeapSeat) -> u32
     requires seat { Sits heap.now seat.old }
-    requires sweeps { IsTrue (state_of seat.old).knows × Known (view_of seat.old) the_phase 3 × ((state_of seat.old).block ≡ None) }
+    requires sweeps { IsTrue (state_of seat.old).knows × Known (view_of seat.old) the_phase (phase_number Sweep) × ((state_of seat.old).block ≡ None) }
     ensures seat { Sits heap.now seat.new }
     ensures ran { Across Ran seat.old seat.new }
-    ensures only { Across (Only sweeps_blocks) seat.old seat.new }
+    ensures only { Across (Only is_sweeping) seat.old seat.new }
     ensures state { state_of seat.new ≡ record (state_of seat.old) { below_block = (state_of seat.new).below_block; cleaning = (state_of seat.new).cleaning } }
     ensures left { IsFalse (cleaning_left (state_of seat.old).cleaning) → IsFalse (cleaning_left (state_of seat.new).cleaning) }
     ensures end { block_count heap.now.shape ≤ block_floor (view_of seat.new) }
@@ -217,7 +220,7 @@ pub(crate) fn sweep_rest(heap: &Heap, seat: &mut HeapSeat) -> u32
 /// Sweeps the next block: how many of its cells were freed. None where no block is left.
 pub(crate) fn sweep_next(heap: &Heap, seat: &mut HeapSeat) -> Option<u32>
     requires seat { Sits heap.now seat.old }
-    requires sweeps { IsTrue ((state_of seat.old).knows && is_the (look the_phase (view_of seat.old).known) 3) ⊎ IsTrue ((state_of seat.old).admitted && saw (state_of seat.old).phase_seen Sweep) }
+    requires sweeps { IsTrue ((state_of seat.old).knows && is_the (look the_phase (view_of seat.old).known) (phase_number Sweep)) ⊎ IsTrue ((state_of seat.old).admitted && saw (state_of seat.old).phase_seen Sweep) }
     requires block { (state_of seat.old).block ≡ None }
     ensures seat { Sits heap.now seat.new }
     ensures ran { Across Ran seat.old seat.new }

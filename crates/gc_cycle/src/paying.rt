@@ -11,8 +11,8 @@ ghost use Rattle.gc_table.specs.Log.{Only};
 ghost use Rattle.gc_table.specs.PlainSteps.{own_section};
 ghost use Rattle.gc_table.specs.Running.{Ran};
 ghost use Rattle.gc_table.specs.Seats.{Across, did, Sits, state_of, view_of};
-ghost use Rattle.gc_cycle.specs.Payment.{HasPaid, MarksAndTraces, TracesNone, TracesOn, reads_number, stop_of};
-ghost use Rattle.gc_cycle.specs.Pacing.{late_seen, quota_seen};
+ghost use Rattle.gc_cycle.specs.Pace.Payment.{HasPaid, MarksAndTraces, TracesNone, TracesOn, reads_number, stop_of};
+ghost use Rattle.gc_cycle.specs.Pace.Pacing.{late_seen, quota_seen};
 ghost use Rattle.gc_cycle.specs.Standing.{Mutates};
 
 use crate::counts::Paid;

@@ -1,7 +1,7 @@
 //! The pace of a collection.
 
 ghost use Rattle.std.specs.Prelude.{◌≡◌, ◌≤◌};
-ghost use Rattle.gc_cycle.specs.Quota.{quota};
+ghost use Rattle.gc_cycle.specs.Pace.Quota.{quota};
 
 /// How many objects a mutator traces for a cache of `cells` free cells.
 pub fn quota_of(cells: u32, last: u32, rescanned: u32, traced: u32, free: u32) -> u32

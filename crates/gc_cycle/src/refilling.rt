@@ -2,6 +2,7 @@
 ghost use Rattle.std.specs.Prelude.{◌≡◌, [], None, Some, IfSome, IsTrue};
 ghost use Rattle.std.specs.Bool.{OnFalse, OnTrue};
 ghost use Rattle.mark_core.specs.Places.{the_phase};
+ghost use Rattle.mark_core.specs.Seats.{phase_number};
 ghost use Rattle.mark_core.specs.declared.kinds.Phase.TheVariants.{Full, Idle, Marking};
 ghost use Rattle.gc_table.specs.Log.{Only, events};
 ghost use Rattle.gc_table.specs.Running.{Known, Ran};
@@ -12,7 +13,7 @@ ghost use Rattle.gc_cycle.specs.Answering.{RefillsTo, StoredAt, TellsFull};
 ghost use Rattle.gc_cycle.specs.Cycles.{fills_with_cause};
 ghost use Rattle.gc_cycle.specs.InStops.{begins_none};
 ghost use Rattle.gc_cycle.specs.Mutating.{stays_calm};
-ghost use Rattle.gc_cycle.specs.Paying.{IsFree};
+ghost use Rattle.gc_cycle.specs.Pace.Paying.{IsFree};
 ghost use Rattle.gc_cycle.specs.Refilling.{HasClaimed, IsPaced, IsRound, SeesEnd, looks_for_end, prepares};
 ghost use Rattle.gc_cycle.specs.Sparing.{SparesRefill, fills_part};
 ghost use Rattle.gc_cycle.specs.Standing.{KeepsSeat, KeepsSection, Mutates};
@@ -69,7 +70,7 @@ pub fn refill<R: Wait>(rt: &R, heap: &Heap, seat: &mut HeapSeat, done: u32) -> R
     refill_watched(rt, heap, seat, done, &mut Unwatched)
 }
 
-/// The same, and `watch` is told of each stop that the call makes.
+/// A cache as [`refill`] gives it, and `watch` is told of each stop that the call makes.
 pub fn refill_watched<R: Wait, W: Watch>(
     rt: &R,
     heap: &Heap,
@@ -126,7 +127,7 @@ fn refill_once<R: Wait, W: Watch>(
 /// Begins a cycle, where the phase was read as Idle and one is due. Whether the cycle under way is done with marking.
 fn sees_to_cycle(heap: &Heap, seat: &mut HeapSeat) -> bool
     requires seat { Sits heap.now seat.old × Mutates (view_of seat.old) }
-    requires marking { (state_of seat.old).phase_seen ≡ Some Marking → Known (view_of seat.old) the_phase 1 }
+    requires marking { (state_of seat.old).phase_seen ≡ Some Marking → Known (view_of seat.old) the_phase (phase_number Marking) }
     ensures seat { Sits heap.now seat.new × Mutates (view_of seat.new) }
     ensures ran { Across Ran seat.old seat.new }
     ensures only { Across (Only prepares) seat.old seat.new }
@@ -226,7 +227,7 @@ pub(crate) fn pay_for(heap: &Heap, seat: &mut HeapSeat, cache: Cache, done: u32)
     }
 }
 
-/// The same in a stop of its own. Where another seat's flag is up it waits, and has no answer.
+/// A round in a stop of its own. Where another seat's flag is up it waits, and has no answer.
 pub(crate) fn refill_in_stop<R: Wait, W: Watch>(
     rt: &R,
     heap: &Heap,

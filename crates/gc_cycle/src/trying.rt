@@ -4,6 +4,7 @@
 ghost use Rattle.std.specs.Bool.{OnFalse, OnTrue};
 ghost use Rattle.std.specs.Prelude.{◌≡◌, [], None, Some, IfNone, IfSome, IsTrue, is_some};
 ghost use Rattle.mark_core.specs.Places.{the_phase};
+ghost use Rattle.mark_core.specs.Seats.{phase_number};
 ghost use Rattle.mark_core.specs.declared.kinds.Phase.TheVariants.{Marking};
 ghost use Rattle.gc_table.specs.Log.{Only, events};
 ghost use Rattle.gc_table.specs.Running.{Known, Ran};
@@ -94,7 +95,7 @@ pub fn try_enter(heap: &Heap, seat: &mut HeapSeat) -> Pass
 /// done with marking.
 fn begins_or_ends(heap: &Heap, seat: &mut HeapSeat) -> bool
     requires seat { Sits heap.now seat.old × Mutates (view_of seat.old) }
-    requires marking { (state_of seat.old).phase_seen ≡ Some Marking → Known (view_of seat.old) the_phase 1 }
+    requires marking { (state_of seat.old).phase_seen ≡ Some Marking → Known (view_of seat.old) the_phase (phase_number Marking) }
     ensures seat { Sits heap.now seat.new × Mutates (view_of seat.new) }
     ensures ran { Across Ran seat.old seat.new }
     ensures only { Across (Only prepares) seat.old seat.new }

@@ -70,10 +70,6 @@ warehouse-says Done h s z w m x p same said places dropped num e =
 warehouse-says First h s z w m x p same said places dropped num e = tt
 warehouse-says Later h s z w m x p same said places dropped num e = tt
 
--- a tracer's
-pub tracer-left : (r : Ended) (h : Heap) (s : Sections) (z n : ℕ) (x : HeapSeat) → length s.warehouses < n → IsTracer h n x → IsLeft r h s z n x
-tracer-left r h s z n x high t = record { sits = t.rests.sits; number = t.number; outside = t.rests.outside; of_section = λ low. absurd (omega (arith, high, low)) }
-
 crew-seated : (r : Ended) (h : Heap) (s : Sections) (n z : ℕ) (c : Crew) → PlayEnds r h s n z c → IsSeated h s 0 (seat_in c.catalogue)
 crew-seated Done h s n z c e = e.0.catalogue.seated
 crew-seated First h s n z c e = e.catalogue.seated

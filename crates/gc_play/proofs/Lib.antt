@@ -9,10 +9,10 @@ pub mod Leaving
 pub mod Catalogues
 pub mod Handing
 pub mod Ending
-pub mod Logs
+pub mod LogRows
 pub mod Lending
 pub mod Tending
+pub mod TurnCuts
 pub mod Rounds
 pub mod Seasons
 pub mod Outside
-pub mod Looking

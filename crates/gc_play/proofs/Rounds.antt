@@ -2,7 +2,7 @@
 use Rattle.std.proofs.Common.{ℕ, ◌≡◌, ◌<◌, ◌≤◌, ◌⊎◌, ⊎_elim, inl, inr, List, [], ◌∷◌, ◌++◌, refl, sym, ap, ◌∙◌, subst, arith, Bool, true, false, not, cond, ◌&&◌, ◌||◌, Some}
 use Rattle.std.specs.Prelude.{IsTrue, IsFalse, nat_le}
 use Rattle.std.proofs.lemmas.List.{append-nil}
-use Rattle.std.proofs.lemmas.Bool.{true≢false, false≢true, and_parts, and_from, and_left, not_from_true, or_cases, or_from, or_left, or_parts, or_right, le-leb, lt-leb}
+use Rattle.std.proofs.lemmas.Bool.{true≢false, false≢true, and_from, and_left, not_from_true, or_cases, or_from, or_left, or_parts, or_right, le-leb, lt-leb}
 use Rattle.mark_core.specs.Bits.{has_flag}
 use Rattle.mark_core.specs.Effects.{seat_after}
 use Rattle.mark_core.specs.Seats.{phase_of, saw}
@@ -14,7 +14,7 @@ use Rattle.mark_core.specs.declared.kinds.Step.TheVariants.{ReadPhase, EnterStep
 use Rattle.mark_core.specs.declared.seat.SeatState.{SeatState}
 use Rattle.gc_table.specs.declared.view.Entry.{Entry}
 use Rattle.gc_table.specs.declared.view.View.{View}
-use Rattle.gc_table.specs.Log.{all_steps, events}
+use Rattle.gc_table.specs.Log.{events}
 use Rattle.gc_table.specs.Running.{Ran, after_all}
 use Rattle.gc_table.specs.Taking.{after}
 use Rattle.gc_table.proofs.Running.{ran-events, ran-join}
@@ -22,90 +22,11 @@ use Rattle.packet_pools.specs.Seeking.{some_event}
 use Rattle.packet_pools.proofs.Searches.{some-left}
 use Rattle.tracer.specs.Moments.{at_some_moment, finds_no_work}
 use Rattle.tracer.specs.Tally.{pops}
-use Rattle.gc_cycle.specs.Sorts.{enters, enters_freely, looks_at_phase}
+use Rattle.gc_cycle.specs.Sorts.{enters, looks_at_phase}
 use Rattle.gc_cycle.specs.Sorts.{reads_phase as sees_phase}
-use Rattle.gc_cycle.proofs.Admitted.{never-join}
 use Rattle.gc_cycle.proofs.Searched.{moment-longer, work-longer}
-use Rattle.gc_play.specs.Turns.{Turn, entry, leaves_done, reads_done, lead, turns_of, state_after, sees_full, enters_full, leaves, inside, traces_on, traces_where_marking, visits, each_visit, payment, Pays, EachPays, IsTurn, AreTurns, AllTurns, HasTraced, IsQuiet, Waits, IsOne, IsOneTurn, SeesPhase, TracesInside, IsRound}
-
-tail : List Entry → List Entry
-tail [] = []
-tail (x ∷ xs) = xs
-
-kept-head : (b : Bool) (x : Entry) (xs ls : List Entry) → cond b [] (x ∷ ls) ≡ x ∷ xs → (b ≡ false) × (ls ≡ xs)
-unfolding tail
-kept-head true x xs ls e = absurd (cc)
-kept-head false x xs ls e = (refl, ap tail e)
-
-quiet-lead : (xs ys : List Entry) → lead xs ≡ xs → lead (xs ++ ys) ≡ xs ++ lead ys
-quiet-lead [] ys e = refl
-quiet-lead (x ∷ xs) ys e =
-    let q = kept-head (reads_done x.step) x xs (lead xs) e in
-    ap (λ (b : Bool). cond b [] (x ∷ lead (xs ++ ys))) q.0 ∙ ap (λ l. x ∷ l) (quiet-lead xs ys q.1)
-
-quiet-turns : (sh : Shape) (s : SeatState) (xs ys : List Entry) → lead xs ≡ xs → turns_of sh s (xs ++ ys) ≡ turns_of sh (state_after sh s xs) ys
-quiet-turns sh s [] ys e = refl
-quiet-turns sh s (x ∷ xs) ys e =
-    let q = kept-head (reads_done x.step) x xs (lead xs) e in
-    let u : SeatState = seat_after sh s x.step x.found in
-    let t : Turn = record { found = x.found; state = u; rest = lead (xs ++ ys) } in
-    ap (λ (b : Bool). cond b (t ∷ turns_of sh u (xs ++ ys)) (turns_of sh u (xs ++ ys))) q.0 ∙ quiet-turns sh u xs ys q.1
-
-pub quiet-join : (xs ys : List Entry) → IsQuiet xs → IsQuiet ys → IsQuiet (xs ++ ys)
-quiet-join xs ys a b = quiet-lead xs ys a ∙ ap (λ l. xs ++ l) b
-
-pub quiet-one : (step : Step) (n : ℕ) → reads_done step ≡ false → IsQuiet (entry step n ∷ [])
-quiet-one step n e = ap (λ (b : Bool). cond b [] (entry step n ∷ [])) e
-
-not-true : (b : Bool) → not b ≡ true → b ≡ false
-not-true true e = sym e
-not-true false e = refl
-
--- events that read no number of parts
-pub quiet-only : (es : List Entry) → IsTrue (all_steps leaves_done es) → IsQuiet es
-quiet-only [] o = refl
-quiet-only (e ∷ es) o =
-    let p = and_parts (leaves_done e.step) (all_steps leaves_done es) o in
-    ap (λ b. cond b [] (e ∷ lead es)) (not-true (reads_done e.step) p.0) ∙ ap (λ l. e ∷ l) (quiet-only es p.1)
-
-pub waits-join : (xs ys : List Entry) → Waits xs → Waits ys → Waits (xs ++ ys)
-waits-join xs ys a b = record { quiet = quiet-join xs ys a.quiet b.quiet; outside = never-join enters xs ys a.outside b.outside }
-
--- a step that isn't an entry is none without a stop
-freely : (step : Step) (n : ℕ) → enters step n ≡ false → enters_freely step n ≡ false
-freely EnterStep n o = absurd (true≢false o)
-freely step n o = refl
-
--- a seat that doesn't enter makes no visit, and owes nothing
-visits-none : (sh : Shape) (es : List Entry) (s : SeatState) → some_event enters es ≡ false → each_visit sh s es ≡ true
-visits-none sh [] s o = refl
-visits-none sh (e ∷ es) s o =
-    let p = or_parts (enters e.step e.found) (some_event enters es) o in
-    and_from _ _ (or_left _ _ (ap not (freely e.step e.found p.0))) (visits-none sh es (seat_after sh s e.step e.found) p.1)
-
-pays-none : (es : List Entry) → some_event enters es ≡ false → EachPays es
-pays-none [] o = tt
-pays-none (e ∷ es) o =
-    let p = or_parts (enters e.step e.found) (some_event enters es) o in (λ f. absurd (true≢false (sym f ∙ freely e.step e.found p.0)), pays-none es p.1)
-
-pub lead-more : (xs ys : List Entry) → lead ys ≡ [] → lead (xs ++ ys) ≡ lead xs
-lead-more [] ys e = e
-lead-more (x ∷ xs) ys e = ap (λ l. cond (reads_done x.step) [] (x ∷ l)) (lead-more xs ys e)
-
-by-read : (b : Bool) (n : ℕ) (s : SeatState) (xs ys : List Entry) (ts us : List Turn) → xs ≡ ys → ts ≡ us → cond b (record { found = n; state = s; rest = xs } ∷ ts) ts ≡ cond b (record { found = n; state = s; rest = ys } ∷ us) us
-by-read true n s xs ys ts us e f = ap (λ l. record { found = n; state = s; rest = l } ∷ ts) e ∙ ap (λ l. record { found = n; state = s; rest = ys } ∷ l) f
-by-read false n s xs ys ts us e f = f
-
-cond-append : (b : Bool) (t : Turn) (ts us : List Turn) → cond b (t ∷ (ts ++ us)) (ts ++ us) ≡ cond b (t ∷ ts) ts ++ us
-cond-append true t ts us = refl
-cond-append false t ts us = refl
-
-pub turns-more : (sh : Shape) (s : SeatState) (xs ys : List Entry) → lead ys ≡ [] → turns_of sh s (xs ++ ys) ≡ turns_of sh s xs ++ turns_of sh (state_after sh s xs) ys
-turns-more sh s [] ys e = refl
-turns-more sh s (x ∷ xs) ys e =
-    let u : SeatState = seat_after sh s x.step x.found in
-    by-read (reads_done x.step) x.found u (lead (xs ++ ys)) (lead xs) (turns_of sh u (xs ++ ys)) (turns_of sh u xs ++ turns_of sh (state_after sh u xs) ys) (lead-more xs ys e) (turns-more sh u xs ys e)
-    ∙ cond-append (reads_done x.step) (record { found = x.found; state = u; rest = lead xs }) (turns_of sh u xs) (turns_of sh (state_after sh u xs) ys)
+use Rattle.gc_play.specs.Turns.{Turn, entry, lead, turns_of, state_after, sees_full, enters_full, leaves, inside, traces_on, traces_where_marking, visits, payment, Pays, IsTurn, AreTurns, AllTurns, HasTraced, IsQuiet, Waits, IsOne, IsOneTurn, SeesPhase, TracesInside, IsRound}
+use Rattle.gc_play.proofs.TurnCuts.{kept-head, quiet-turns, quiet-join, quiet-one, not-true, waits-join, visits-none, pays-none, lead-more, turns-more}
 
 -- a read of that number, and what it leads to
 turn-of : (sh : Shape) (s : SeatState) (n : ℕ) (rest : List Entry) → IsQuiet rest → turns_of sh s (entry (ReadStat 6) n ∷ rest) ≡ record { found = n; state = seat_after sh s (ReadStat 6) n; rest = rest } ∷ []

@@ -10,7 +10,7 @@ use Rattle.gc_table.specs.Running.{Ran}
 use Rattle.gc_table.specs.Seats.{view_of}
 use Rattle.gc_table.specs.declared.view.Entry.{Entry}
 use Rattle.gc_table.specs.declared.view.View.{View}
-use Rattle.gc_table.proofs.Log.{events-none}
+use Rattle.gc_table.proofs.History.Log.{events-none}
 use Rattle.gc_table.proofs.Running.{ran-events, ran-join, ran-refl}
 use Rattle.plain_heap.specs.Sections.{Sections}
 use Rattle.gc_table.specs.declared.seat.Heap.{Heap}

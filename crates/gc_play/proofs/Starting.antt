@@ -2,7 +2,7 @@
 use Rattle.std.proofs.Common.{ℕ, ◌≡◌, ◌<◌, ◌≤◌, [], length, map, sym, ap, ◌∙◌, subst, arith, Bool, cond, Some, None}
 use Rattle.std.proofs.lemmas.Bool.{lt-ltb, le-ltb}
 use Rattle.mark_core.specs.Seats.{is_bare}
-use Rattle.mark_core.specs.WorldSteps.{has_nothing}
+use Rattle.mark_core.specs.Steps.WorldSteps.{has_nothing}
 use Rattle.mark_core.specs.declared.seat.SeatState.{SeatState}
 use Rattle.mark_core.specs.declared.kinds.Shape.{Shape}
 use Rattle.plain_heap.specs.Sections.{Sections, joined, parts_of}

@@ -2,8 +2,9 @@
 use Rattle.std.proofs.Common.{ℕ, ◌≡◌, refl, sym, ap, ◌∙◌, subst, Bool, true, false, not, ◌&&◌, eqb}
 use Rattle.std.specs.Prelude.{is_none}
 use Rattle.std.proofs.lemmas.Bool.{and_parts, and_from}
-use Rattle.mark_core.specs.Seats.{work_in_hand, empty_handed, is_bare}
-use Rattle.mark_core.specs.WorldSteps.{has_nothing}
+use Rattle.mark_core.specs.Seats.{work_in_hand, empty_handed, is_bare, phase_of}
+use Rattle.mark_core.specs.Steps.WorldSteps.{has_nothing}
+use Rattle.mark_core.specs.declared.kinds.Phase.{Phase}
 use Rattle.mark_core.specs.declared.kinds.Shape.{Shape}
 use Rattle.mark_core.specs.Effects.{seat_after}
 use Rattle.mark_core.specs.declared.kinds.Step.{Step}
@@ -12,9 +13,12 @@ use Rattle.mark_core.specs.declared.seat.SeatState.{SeatState}
 use Rattle.gc_table.specs.declared.view.View.{View}
 use Rattle.gc_table.specs.Taking.{after, May}
 use Rattle.gc_table.specs.Running.{is_store}
-use Rattle.gc_table.specs.Seats.{Found}
+use Rattle.gc_table.specs.Log.{events}
+use Rattle.gc_table.specs.Seats.{Answered, Found}
+use Rattle.gc_table.proofs.History.Log.{events-after}
 use Rattle.gc_table.proofs.Running.{ran-found, ran-join, ran-number, ran-plan, ran-refl, ran-section, ran-shape}
 use Rattle.gc_play.specs.Stays.{Stays}
+use Rattle.gc_play.specs.Turns.{SeesPhase}
 
 -- a seat with nothing in hand may leave
 pub may-leave : (v : View) → v.state.counted ≡ true → has_nothing v.shape v.state ≡ true → May LeaveStep v
@@ -41,9 +45,6 @@ bare-parts s e =
 
 pub bare-from : (s : SeatState) → s.counted ≡ false → s.raised ≡ false → s.helping ≡ false → is_bare s ≡ true
 bare-from s a b c = and_from (not s.counted && not s.raised) (not s.helping) (and_from (not s.counted) (not s.raised) (ap not a) (ap not b)) (ap not c)
-
-pub stays-refl : (v : View) → Stays v v
-stays-refl v = record { shape = refl; number = refl; section = refl; plan_is = refl; own = refl; idle = refl; ran = ran-refl v }
 
 pub stays-join : (u v w : View) → Stays u v → Stays v w → Stays u w
 stays-join u v w a b =
@@ -77,8 +78,15 @@ stays-enter v w n f = stays-step v w EnterStep n refl refl refl f
 pub stays-leave : (v w : View) (n : ℕ) → Found LeaveStep n v w → Stays v w
 stays-leave v w n f = stays-step v w LeaveStep n refl refl refl f
 
-pub stays-read_phase : (v w : View) (n : ℕ) → Found ReadPhase n v w → Stays v w
+stays-read_phase : (v w : View) (n : ℕ) → Found ReadPhase n v w → Stays v w
 stays-read_phase v w n f = stays-step v w ReadPhase n refl refl refl f
+
+-- the phase was read
+pub stays-seen : (p : Phase) (v w : View) → Answered ReadPhase (λ n. p ≡ phase_of n) v w → Stays v w
+stays-seen p v w a = stays-read_phase v w a.0 (a.1, a.2)
+
+pub sees-seen : (p : Phase) (v w : View) → Answered ReadPhase (λ n. p ≡ phase_of n) v w → SeesPhase p (events v w)
+sees-seen p v w a = (a.0, a.3, events-after v w ReadPhase a.0 a.1)
 
 pub stays-read_stat : (v w : View) (which n : ℕ) → Found (ReadStat which) n v w → Stays v w
 stays-read_stat v w which n f = stays-step v w (ReadStat which) n refl refl refl f

@@ -5,5 +5,4 @@ pub mod Dealing
 pub mod Crews
 pub mod Options
 pub mod Turns
-pub mod Tending
 pub mod Answers

@@ -1,6 +1,6 @@
 -- Where a section stands between two parts.
-use Rattle.std.specs.Prelude.{ℕ, ◌≡◌, drop, IsTrue, true, false, None, Some}
-use Rattle.mark_core.specs.WorldSteps.{has_nothing}
+use Rattle.std.specs.Prelude.{ℕ, ◌≡◌, drop, IsTrue, None, Some}
+use Rattle.mark_core.specs.Steps.WorldSteps.{has_nothing}
 use Rattle.plain_heap.specs.Sections.{Sections, joined, parts_of}
 use Rattle.plain_heap.specs.PlainRun.{plan_of}
 use Rattle.gc_table.specs.Rule.{KnowsFull}
@@ -16,15 +16,6 @@ use Rattle.warehouse.specs.Playing.{HasRoom, IsCounted, player_of}
 pub record Rests (h : Heap) (s : HeapSeat) : Type 0 where
   pub sits : Sits h s
   pub outside : IsOutside (view_of s)
-  pub idle : IsTrue (has_nothing h.shape (view_of s).state)
-
--- the heap's seat, active, with nothing in hand
-pub record Goes (h : Heap) (s : HeapSeat) : Type 0 where
-  pub sits : Sits h s
-  pub counted : (view_of s).state.counted ≡ true
-  pub active : (view_of s).state.active ≡ true
-  pub unraised : (view_of s).state.raised ≡ false
-  pub unhelping : (view_of s).state.helping ≡ false
   pub idle : IsTrue (has_nothing h.shape (view_of s).state)
 
 -- the seat of section w, at rest

@@ -1,14 +1,13 @@
-//! How a tracer goes into the world, looks at the phase, and leaves.
-ghost use Rattle.std.specs.Prelude.{◌≡◌, IsTrue, IsFalse, Some};
+//! How a tracer goes into the world, and leaves it.
+ghost use Rattle.std.specs.Prelude.{IsTrue, IsFalse};
 ghost use Rattle.mark_core.specs.declared.kinds.Step.TheVariants.{LeaveStep};
-ghost use Rattle.gc_table.specs.Log.{events};
-ghost use Rattle.gc_table.specs.Seats.{Across, did, state_of};
-ghost use Rattle.gc_play.specs.Standing.{Goes, Rests};
+ghost use Rattle.gc_table.specs.Seats.{Across, did};
+ghost use Rattle.seat_turns.specs.Standing.{Goes};
+ghost use Rattle.gc_play.specs.Standing.{Rests};
 ghost use Rattle.gc_play.specs.Stays.{Stays};
-ghost use Rattle.gc_play.specs.Turns.{Enters, IsOne, SeesPhase};
+ghost use Rattle.gc_play.specs.Turns.{Enters, IsOne};
 
 use gc_table::{Heap, HeapSeat};
-use mark_core::Phase;
 
 /// Enters the world: true where the seat is active. Else it is outside again.
 pub(crate) fn enter(heap: &Heap, seat: &mut HeapSeat) -> bool
@@ -33,15 +32,4 @@ pub(crate) fn leave(heap: &Heap, seat: &mut HeapSeat)
     ensures events { IsOne LeaveStep (did seat.old seat.new) }
 {
     heap.leave_step(seat);
-}
-
-/// Reads the phase.
-pub(crate) fn see_phase(heap: &Heap, seat: &mut HeapSeat) -> Phase
-    requires { Goes heap.now seat.old }
-    ensures seat { Goes heap.now seat.new }
-    ensures stays { Across Stays seat.old seat.new }
-    ensures seen { (state_of seat.new).phase_seen ≡ Some result }
-    ensures events { SeesPhase result (did seat.old seat.new) }
-{
-    heap.read_phase(seat)
 }

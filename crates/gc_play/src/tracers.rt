@@ -2,20 +2,22 @@
 ghost use Rattle.std.specs.Prelude.{◌≡◌, ◌∷◌, [], All, None, Some};
 ghost use Rattle.gc_table.specs.Seats.{Across, did, state_of};
 ghost use Rattle.gc_play.specs.Crews.{IsAnyTracer};
-ghost use Rattle.gc_play.specs.Standing.{Goes, Rests};
+ghost use Rattle.seat_turns.specs.Standing.{Goes};
+ghost use Rattle.gc_play.specs.Standing.{Rests};
 ghost use Rattle.mark_core.specs.Numbers.{done_count};
 ghost use Rattle.mark_core.specs.declared.kinds.Phase.TheVariants.{Marking};
 ghost use Rattle.mark_core.specs.declared.kinds.Step.TheVariants.{ReadStat};
 ghost use Rattle.gc_table.specs.Log.{events};
 ghost use Rattle.gc_play.specs.Stays.{IsKept, Stays};
 ghost use Rattle.gc_play.specs.Traced.{AllTracedUntil, TracedUntil};
-ghost use Rattle.gc_play.specs.Turns.{HasTraced, IsOne, IsOneTurn, IsRound, TracesInside, Waits, entry};
+ghost use Rattle.gc_play.specs.Turns.{HasTraced, IsOneTurn, IsRound, TracesInside, Waits, entry};
 
-use crate::entering::{enter, leave, see_phase};
+use crate::entering::{enter, leave};
 use crate::marking::trace_inside;
 use gc_cycle::await_resumed_helping;
 use gc_table::{Heap, HeapSeat};
 use mark_core::{DONE, Phase};
+use seat_turns::see_phase;
 use std::sync::Wait;
 use std::thread;
 use std::thread::{Threads, yield_now};

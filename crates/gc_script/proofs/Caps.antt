@@ -44,17 +44,6 @@ large_command fields (SumOf label v i limit) h =
     ap (λ (b : Bool). b || nat_lt 65536 (min limit 4294967296)) (cap_from fields i h) ∙ ap (λ (b : Bool). nat_le fields i || b) (cap_above 65536 limit (omega arith))
 large_command fields CollectOf h = refl
 
-large_line : (fields : ℕ) (s : Statement) → fields < 4294967296 → has_large_number fields (capped s) ≡ has_large_number fields s
-large_line fields Blank h = refl
-large_line fields (Fields n) h = cap_above 16 n (omega arith)
-large_line fields Catalogue h = refl
-large_line fields Warehouse h = refl
-large_line fields Season h = refl
-large_line fields (Repeat n) h = cap_above 2000000 n (omega arith)
-large_line fields End h = refl
-large_line fields (Command spoken) h = large_command fields spoken h
-large_line fields Wrong h = refl
-
 exact_command : (fields : ℕ) (s : Spoken) → fields < 4294967296 → is_too_large fields s ≡ false → capped_command s ≡ s
 exact_command fields (NewOf v n) h e = ap (NewOf v) (cap_small 4294967295 n (omega arith) e)
 exact_command fields (LetOf v w) h e = refl

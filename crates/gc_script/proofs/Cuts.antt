@@ -1,31 +1,22 @@
--- The words of a line, one after the other.
-use Rattle.std.proofs.Common.{◌≡◌, ℕ, ◌+◌, ◌<◌, ◌≤◌, suc, List, [], ◌∷◌, ◌++◌, length, take, drop, get_or, map, refl, ap, sym, ◌∙◌, cond, Bor, Bool, true, false, arith, append_assoc}
+-- The lines of a text and the words of a line, by the first of them.
+use Rattle.std.proofs.Common.{◌≡◌, ℕ, ◌+◌, ◌-◌, ◌<◌, ◌≤◌, suc, List, [], ◌∷◌, length, take, get_or, refl, ap, sym, ◌∙◌, cond, Bool, true, false, arith}
 use Rattle.std.proofs.lemmas.Bool.Decides.{nat_tests}
-use Rattle.std.proofs.lemmas.List.{take_all, drop_all, map-append, append-nil, nil_from_length}
-use Rattle.std.proofs.lemmas.List.Splits.{slice_split_first}
-use Rattle.std.proofs.lemmas.List.Sums.{passes_at_first}
+use Rattle.std.proofs.lemmas.List.{take_all, drop_all}
+use Rattle.std.proofs.lemmas.List.Splits.{slice_split_first, length-slice_split}
 use Rattle.std.specs.Prelude.{not, nat_lt, filter, ◌==◌}
 use Rattle.std.specs.List.{slice_split, onto_first, position_or_len, before_first, after_first}
-use Rattle.gc_script.specs.ScriptText.{words, is_word}
+use Rattle.gc_script.specs.ScriptText.{words, is_word, lines, without_empty_last}
 
 abbrev pub is_space : ℕ → Bool
 is_space b = b == 32
 
-is_32 : (b : ℕ) → (b == 32) ≡ true → b ≡ 32
-is_32 b e = grind (arith, nat_tests)
-
--- a space stands where the first one is found
-pub space_at : (line : List ℕ) (end : ℕ) → end ≡ position_or_len is_space line → end < length line → get_or line end 0 ≡ 32
-space_at line end e h =
-    ap (λ (n : ℕ). get_or line n 0) e ∙ is_32 _ (passes_at_first is_space line 0 (omega (arith, e, h)))
-
--- a line without a space is one piece
-whole : (xs : List ℕ) → length xs ≤ position_or_len is_space xs → slice_split is_space xs ≡ xs ∷ []
-whole [] h = refl
-whole (x ∷ xs) h = by_head (is_space x) h (whole xs)
+-- a text without a separator is one piece
+whole : (p : ℕ → Bool) (xs : List ℕ) → length xs ≤ position_or_len p xs → slice_split p xs ≡ xs ∷ []
+whole p [] h = refl
+whole p (x ∷ xs) h = by_head (p x) h (whole p xs)
   where
-    by_head : (b : Bool) → suc (length xs) ≤ cond (not b) (1 + position_or_len is_space xs) 0 → (length xs ≤ position_or_len is_space xs → slice_split is_space xs ≡ xs ∷ [])
-        → cond b ([] ∷ slice_split is_space xs) (onto_first x (slice_split is_space xs)) ≡ (x ∷ xs) ∷ []
+    by_head : (b : Bool) → suc (length xs) ≤ cond (not b) (1 + position_or_len p xs) 0 → (length xs ≤ position_or_len p xs → slice_split p xs ≡ xs ∷ [])
+        → cond b ([] ∷ slice_split p xs) (onto_first x (slice_split p xs)) ≡ (x ∷ xs) ∷ []
     by_head true h ih = let no : ⊥ = omega arith in absurd no
     by_head false h ih = ap (onto_first x) (ih (omega arith))
 
@@ -41,33 +32,53 @@ words_step xs = by_test (nat_lt (position_or_len is_space xs) (length xs)) refl
     by_test false e =
         let far : length xs ≤ position_or_len is_space xs = grind (arith, nat_tests) in
         let rest : List ℕ = after_first is_space xs in
-        ap (filter is_word) (whole xs far)
+        ap (filter is_word) (whole is_space xs far)
         ∙ sym (ap (λ (b : List ℕ). cond (is_word b) (b ∷ words rest) (words rest)) (take_all (position_or_len is_space xs) xs far)
         ∙ ap (λ (r : List ℕ). cond (is_word xs) (xs ∷ words r) (words r)) (drop_all (position_or_len is_space xs + 1) xs (omega (arith, far))))
 
--- a piece without a byte is no word
-pub skipped : (found : List (List ℕ)) (line : List ℕ) → length (before_first is_space line) ≡ 0 → found ++ words (after_first is_space line) ≡ found ++ words line
-skipped found line h =
-    ap (λ (ws : List (List ℕ)). found ++ ws)
-    (sym (words_step line ∙ ap (λ (k : ℕ). cond (not (k == 0)) (before_first is_space line ∷ words (after_first is_space line)) (words (after_first is_space line))) h))
+abbrev is_line_feed : ℕ → Bool
+is_line_feed b = b == 10
 
--- a piece with a byte is the first word
-pub taken : (found : List (List ℕ)) (line : List ℕ) → (length (before_first is_space line) == 0) ≡ false → (found ++ before_first is_space line ∷ []) ++ words (after_first is_space line) ≡ found ++ words line
-taken found line h =
-    append_assoc found (before_first is_space line ∷ []) (words (after_first is_space line))
-    ∙ ap (λ (ws : List (List ℕ)). found ++ ws)
-    (sym (words_step line ∙ ap (λ (b : Bool). cond (not b) (before_first is_space line ∷ words (after_first is_space line)) (words (after_first is_space line))) h))
+-- a piece before others stays, and of those an empty last one is left out
+before_others : (piece p : List ℕ) (pieces : List (List ℕ)) → without_empty_last (piece ∷ p ∷ pieces) ≡ piece ∷ without_empty_last (p ∷ pieces)
+before_others piece p pieces =
+    ap (λ (n : ℕ). left_out n (piece ∷ p ∷ pieces)) (less (suc (length pieces)))
+    ∙ by_test (length (get_or (p ∷ pieces) (length pieces) []) == 0)
+    ∙ sym (ap (λ (n : ℕ). piece ∷ left_out n (p ∷ pieces)) (less (length pieces)))
+  where
+    left_out : ℕ → List (List ℕ) → List (List ℕ)
+    left_out n ps = cond (length (get_or ps n []) == 0) (take n ps) ps
 
--- no words are left of a line that is at its end
-pub no_words : (found : List (List ℕ)) (line : List ℕ) → length line ≡ 0 → found ++ words line ≡ found
-no_words found line h = ap (λ (l : List ℕ). found ++ words l) (nil_from_length line h) ∙ append-nil found
+    less : (n : ℕ) → suc n - 1 ≡ n
+    less n = omega arith
 
--- the first word was added, and the rest is left
-pub pushed : (old new : List (Bor (List ℕ))) (word : Bor (List ℕ)) (line rest : List ℕ) → new ≡ old ++ word ∷ [] → word.now ≡ before_first is_space line → rest ≡ after_first is_space line
-    → (length word.now == 0) ≡ false → map (λ (w : Bor (List ℕ)). w.now) new ++ words rest ≡ map (λ (w : Bor (List ℕ)). w.now) old ++ words line
-pushed old new word line rest e b a h =
-    ap (λ (ws : List (Bor (List ℕ))). map (λ (w : Bor (List ℕ)). w.now) ws ++ words rest) e
-    ∙ ap (λ (ws : List (List ℕ)). ws ++ words rest) (map-append (λ (w : Bor (List ℕ)). w.now) old (word ∷ []))
-    ∙ ap (λ (x : List ℕ). (map (λ (w : Bor (List ℕ)). w.now) old ++ x ∷ []) ++ words rest) b
-    ∙ ap (λ (r : List ℕ). (map (λ (w : Bor (List ℕ)). w.now) old ++ before_first is_space line ∷ []) ++ words r) a
-    ∙ taken (map (λ (w : Bor (List ℕ)). w.now) old) line (ap (λ (x : List ℕ). length x == 0) (sym b) ∙ h)
+    by_test : (b : Bool) → cond b (piece ∷ take (length pieces) (p ∷ pieces)) (piece ∷ p ∷ pieces) ≡ piece ∷ cond b (take (length pieces) (p ∷ pieces)) (p ∷ pieces)
+    by_test true = refl
+    by_test false = refl
+
+onto_others : (piece : List ℕ) (pieces : List (List ℕ)) → 0 < length pieces → without_empty_last (piece ∷ pieces) ≡ piece ∷ without_empty_last pieces
+onto_others piece [] h = absurd (omega arith)
+onto_others piece (p ∷ pieces) h = before_others piece p pieces
+
+some_pieces : (xs : List ℕ) → 0 < length (slice_split is_line_feed xs)
+some_pieces xs = let pieces = length-slice_split is_line_feed xs in omega arith
+
+alone : (xs : List ℕ) → 0 < length xs → without_empty_last (xs ∷ []) ≡ xs ∷ []
+alone xs h = ap (λ (b : Bool). cond b [] (xs ∷ [])) (not_empty (length xs) h)
+  where
+    not_empty : (n : ℕ) → 0 < n → (n == 0) ≡ false
+    not_empty n h = grind (arith, nat_tests)
+
+-- the lines of a text: what stands before its first line feed, and the lines of the rest
+pub lines_step : (xs : List ℕ) → 0 < length xs → lines xs ≡ before_first is_line_feed xs ∷ lines (after_first is_line_feed xs)
+lines_step xs h = by_test (nat_lt (position_or_len is_line_feed xs) (length xs)) refl
+  where
+    by_test : (b : Bool) → nat_lt (position_or_len is_line_feed xs) (length xs) ≡ b → lines xs ≡ before_first is_line_feed xs ∷ lines (after_first is_line_feed xs)
+    by_test true e =
+        let within : position_or_len is_line_feed xs < length xs = grind (arith, nat_tests) in
+        ap without_empty_last (slice_split_first is_line_feed xs 0 within) ∙ onto_others (before_first is_line_feed xs) _ (some_pieces (after_first is_line_feed xs))
+    by_test false e =
+        let far : length xs ≤ position_or_len is_line_feed xs = grind (arith, nat_tests) in
+        ap without_empty_last (whole is_line_feed xs far) ∙ alone xs h
+        ∙ sym (ap (λ (l : List ℕ). l ∷ lines (after_first is_line_feed xs)) (take_all (position_or_len is_line_feed xs) xs far)
+        ∙ ap (λ (r : List ℕ). xs ∷ lines r) (drop_all (position_or_len is_line_feed xs + 1) xs (omega (arith, far))))

@@ -1,13 +1,17 @@
 -- The fault of a line, by what the reader says of it.
-use Rattle.std.proofs.Common.{◌≡◌, ◌<◌, ap, sym, ◌∙◌, arith}
-use Rattle.std.specs.Prelude.{Option, Some, None, unwrap_or}
+use Rattle.std.proofs.Common.{◌≡◌, ◌<◌, ap, sym, ◌∙◌, subst, arith}
+use Rattle.std.specs.Prelude.{Option, Some, None, unwrap_or, Result, Ok, Err, OnOk, OnErr}
 use Rattle.gc_script.specs.Statement.{Statement}
 use Rattle.gc_script.specs.Faults.{Fault}
 use Rattle.gc_script.specs.Said.{capped}
-use Rattle.gc_script.specs.Context.{Context, fault_in, IsClear, IsSane}
+use Rattle.gc_script.specs.Context.{Context, context_after, fault_in, IsClear, IsSane}
+use Rattle.gc_script.specs.Content.{Content, content_after, kept_shown}
+use Rattle.gc_script.specs.Kept.{context_shown}
 use Rattle.gc_script.specs.Shown.{fault_of}
-use Rattle.gc_script.specs.Reading.{is_told, Tells}
+use Rattle.gc_script.specs.Reading.{is_told, Tells, LineAnswers}
+use Rattle.gc_script.specs.declared.progress.Progress.{Progress}
 use Rattle.gc_script.specs.declared.script.ScriptError.{ScriptError}
+use Rattle.gc_script.specs.declared.script.ScriptError.TheVariants as errors
 use Rattle.gc_script.proofs.Caps.{capped_fault, exact_line}
 use Rattle.gc_script.proofs.Clear.{is_clear}
 
@@ -25,3 +29,9 @@ pub clear_line : (c : Context) (st s : Statement) → IsSane c → None ≡ faul
 clear_line c st s h f g =
     let clear = is_clear c s (sym (capped_fault c s (few c h)) ∙ ap (fault_in c) (sym g) ∙ sym f) in
     (g ∙ exact_line (unwrap_or c.fields 0) s (few c h) clear.small, clear)
+
+-- what became of a line that was taken
+pub taken_line : (r : Result (Unit {0}) ScriptError) (c : Context) (k : Content) (st s : Statement) (p : Progress) → (st ≡ s) × IsClear c s
+    → OnOk r (context_shown p.context ≡ context_after c st) → OnOk r (kept_shown p.kept ≡ content_after c k st) → OnErr r (r ≡ Err errors.OutOfMemory) → LineAnswers r c k s p
+taken_line (Ok u) c k st s p h context kept err = record { clear = h.1; context = context ∙ ap (context_after c) h.0; kept = kept ∙ ap (content_after c k) h.0 }
+taken_line (Err e) c k st s p h context kept err = subst (λ (r : Result (Unit {0}) ScriptError). LineAnswers r c k s p) (sym err) tt

@@ -1,9 +1,11 @@
 -- The loop over the lines.
-use Rattle.std.proofs.Common.{◌≡◌, ℕ, ◌+◌, ◌≤◌, ◌<◌, List, [], ◌∷◌, ◌++◌, length, take, drop, get_or, map, refl, ap, sym, ◌∙◌, subst, cond, Bor, Bool, true, false, arith}
-use Rattle.std.proofs.lemmas.List.{take_more, take_all, drop_all, drop_more, length-map, get_or-map}
+use Rattle.std.proofs.Common.{length-drop, ◌≡◌, ℕ, ◌+◌, ◌≤◌, ◌<◌, List, [], ◌∷◌, ◌++◌, length, take, drop, get_or, map, refl, ap, sym, ◌∙◌, subst, cond, Bool, true, false, arith}
+use Rattle.std.proofs.lemmas.List.{nil_from_length, take_more, take_all, drop_all, drop_more, length-map, get_or-map}
 use Rattle.std.specs.Prelude.{Option, Some, None, unwrap_or, ◌==◌}
 use Rattle.gc_script.specs.Statement.{Statement, Blank, statement}
-use Rattle.gc_script.specs.ScriptText.{words}
+use Rattle.gc_script.specs.ScriptText.{words, lines}
+use Rattle.gc_script.specs.FirstLine.{first_line, after_line}
+use Rattle.gc_script.proofs.Cuts.{lines_step}
 use Rattle.gc_script.specs.Earlier.{catalogue_names}
 use Rattle.gc_script.specs.Faults.{Fault, first_fault, line_fault, end_fault, or_later}
 use Rattle.gc_script.specs.Script.{turned}
@@ -114,17 +116,74 @@ so_far_end version all i p l h =
       names = subst (λ (x : List Statement). Agrees (catalogue_names all) (turned [] x)) whole (agrees (catalogue_names all) (turned [] (take i all)) (drop i all) h.names);
     }
 
--- the statement of line i
-pub line_at : (lines : List (Bor (List ℕ))) (i : ℕ) (d : Bor (List ℕ)) → i < length lines
-    → get_or (map statement (map words (map (λ (s : Bor (List ℕ)). s.now) lines))) i Blank ≡ statement (words (get_or lines i d).now)
-line_at lines i d h =
-    let texts : List (List ℕ) = map (λ (s : Bor (List ℕ)). s.now) lines in
-    let a : length texts ≡ length lines = length-map lines (λ (s : Bor (List ℕ)). s.now) in
-    let b : length (map words texts) ≡ length texts = length-map texts words in
-    get_or-map statement (map words texts) i [] Blank (omega arith)
-    ∙ ap statement (get_or-map words texts i [] [] (omega arith))
-    ∙ ap (λ (t : List ℕ). statement (words t)) (get_or-map (λ (s : Bor (List ℕ)). s.now) lines i d [] h)
+-- the statements of a text's lines
+abbrev pub statements : List ℕ → List Statement
+statements text = map statement (map words (lines text))
 
-pub line_count : (lines : List (Bor (List ℕ))) → length (map statement (map words (map (λ (s : Bor (List ℕ)). s.now) lines))) ≡ length lines
-line_count lines =
-    length-map (map words (map (λ (s : Bor (List ℕ)). s.now) lines)) statement ∙ length-map (map (λ (s : Bor (List ℕ)). s.now) lines) words ∙ length-map lines (λ (s : Bor (List ℕ)). s.now)
+-- the progress after some lines of a text, with what is left of it
+pub record UpTo (version : ℕ) (text rest : List ℕ) (p : Progress) : Type 0 where
+  pub read : ℕ
+  pub within : read ≤ length (lines text)
+  pub so_far : SoFar version (statements text) read p
+  pub left : drop read (lines text) ≡ lines rest
+
+statement_count : (ls : List (List ℕ)) → length (map statement (map words ls)) ≡ length ls
+statement_count ls = length-map (map words ls) statement ∙ length-map ls words
+
+statement_at : (ls : List (List ℕ)) (i : ℕ) → i < length ls → get_or (map statement (map words ls)) i Blank ≡ statement (words (get_or ls i []))
+statement_at ls i h =
+    let b : length (map words ls) ≡ length ls = length-map ls words in
+    get_or-map statement (map words ls) i [] Blank (omega arith) ∙ ap statement (get_or-map words ls i [] [] h)
+
+-- a line is left
+one_left : (ls : List (List ℕ)) (i : ℕ) (line : List ℕ) (rest : List (List ℕ)) → drop i ls ≡ line ∷ rest → i < length ls
+one_left ls i line rest e = let long = length-drop i ls in let more : length (drop i ls) ≡ length (line ∷ rest) = ap length e in omega arith
+
+-- the first line of what is left
+first_left : (ls : List (List ℕ)) (i : ℕ) (line : List ℕ) (rest : List (List ℕ)) → drop i ls ≡ line ∷ rest → (get_or ls i [] ≡ line) × (drop (i + 1) ls ≡ rest)
+first_left ls i line rest e =
+    let parted : get_or ls i [] ∷ drop (i + 1) ls ≡ line ∷ rest = sym (drop_more ls i [] (one_left ls i line rest e)) ∙ e in
+    (ap (λ (x : List (List ℕ)). get_or x 0 []) parted, ap (λ (x : List (List ℕ)). drop 1 x) parted)
+
+parted : (text rest : List ℕ) (i : ℕ) → 0 < length rest → drop i (lines text) ≡ lines rest → drop i (lines text) ≡ first_line rest ∷ lines (after_line rest)
+parted text rest i h e = e ∙ lines_step rest h
+
+statement_left : (text rest : List ℕ) (i : ℕ) → 0 < length rest → drop i (lines text) ≡ lines rest → get_or (statements text) i Blank ≡ statement (words (first_line rest))
+statement_left text rest i h e =
+    let now = parted text rest i h e in
+    statement_at (lines text) i (one_left (lines text) i (first_line rest) (lines (after_line rest)) now)
+    ∙ ap (λ (l : List ℕ). statement (words l)) (first_left (lines text) i (first_line rest) (lines (after_line rest)) now).0
+
+inside : (text rest : List ℕ) (i : ℕ) → 0 < length rest → drop i (lines text) ≡ lines rest → i < length (statements text)
+inside text rest i h e =
+    subst (λ (n : ℕ). i < n) (sym (statement_count (lines text))) (one_left (lines text) i (first_line rest) (lines (after_line rest)) (parted text rest i h e))
+
+pub up_to_start : (version : ℕ) (text : List ℕ) (p : Progress) → context_shown p.context ≡ context_of version [] → kept_shown p.kept ≡ content_of (catalogue_names (statements text)) []
+    → UpTo version text text p
+up_to_start version text p context kept = record { read = 0; within = omega arith; so_far = so_far_start version (statements text) p context kept; left = refl }
+
+pub up_to_next : (version : ℕ) (text rest left : List ℕ) (p q : Progress) → 0 < length rest → UpTo version text rest p
+    → IsTaken (context_shown p.context) (kept_shown p.kept) (statement (words (first_line rest))) q → left ≡ after_line rest → UpTo version text left q
+up_to_next version text rest left p q h u t e =
+    let now = parted text rest u.read h u.left in
+    let more : u.read < length (lines text) = one_left (lines text) u.read (first_line rest) (lines (after_line rest)) now in
+    record {
+      read = u.read + 1;
+      within = omega arith;
+      so_far = so_far_next version (statements text) u.read p q (inside text rest u.read h u.left) u.so_far
+          (subst (λ (s : Statement). IsTaken (context_shown p.context) (kept_shown p.kept) s q) (sym (statement_left text rest u.read h u.left)) t);
+      left = (first_left (lines text) u.read (first_line rest) (lines (after_line rest)) now).1 ∙ ap lines (sym e);
+    }
+
+pub up_to_refused : (version : ℕ) (text rest : List ℕ) (p : Progress) (e : ScriptError) → 0 < length rest → UpTo version text rest p
+    → Tells e (fault_in (context_shown p.context) (statement (words (first_line rest)))) → Tells e (first_fault version (catalogue_names (statements text)) [] (statements text))
+up_to_refused version text rest p e h u t =
+    so_far_refused version (statements text) u.read p e (inside text rest u.read h u.left) u.so_far
+    (subst (λ (s : Statement). Tells e (fault_in (context_shown p.context) s)) (sym (statement_left text rest u.read h u.left)) t)
+
+pub up_to_end : (version : ℕ) (text rest : List ℕ) (p : Progress) → length rest ≡ 0 → UpTo version text rest p → AreRead version (statements text) p
+up_to_end version text rest p h u =
+    let none : length (drop u.read (lines text)) ≡ 0 = ap length (u.left ∙ ap lines (nil_from_length rest h)) in
+    let long = length-drop u.read (lines text) in
+    let all : length (statements text) ≡ length (lines text) = statement_count (lines text) in
+    so_far_end version (statements text) u.read p (omega (arith, u.within)) u.so_far

@@ -16,7 +16,7 @@ use Rattle.std.specs.Global.{Vec}
 abbrev pub parts_of : Vec part.Part → List (List Execution)
 parts_of v = map part_shown v.items
 
--- an error tells this fault, or want of memory
+-- an error tells this fault, or that memory ran out
 abbrev pub is_refused : {A : Type 0} → Option Fault → Result A Fault → Type 0
 is_refused None r = Unit {0}
 is_refused (Some fault) r = r ≡ Err fault

@@ -1,30 +1,24 @@
 -- What the reader answers, line by line.
+use Rattle.std.specs.Borrow.{Bor}
 use Rattle.std.specs.Prelude.{ℕ, ◌≡◌, List, [], Option, Some, None, Result, Ok, Err}
 use Rattle.gc_script.specs.Statement.{Statement}
 use Rattle.gc_script.specs.Earlier.{catalogue_names}
 use Rattle.gc_script.specs.Faults.{Fault, first_fault, end_fault}
-use Rattle.gc_script.specs.Said.{said}
 use Rattle.gc_script.specs.Context.{Context, context_of, context_after, fault_in, IsClear, AreClear, Agrees, IsSane}
 use Rattle.gc_script.specs.Content.{Content, content_of, content_after, kept_shown}
 use Rattle.gc_script.specs.Kept.{context_shown}
 use Rattle.gc_script.specs.Script.{turned}
 use Rattle.gc_script.specs.Shown.{fault_of}
 use Rattle.gc_script.specs.declared.script.ScriptError.{ScriptError}
-use Rattle.gc_script.specs.declared.statement.Statement as code
 use Rattle.gc_script.specs.declared.progress.Progress.{Progress}
 
--- an error tells this fault, or want of memory
+-- an error tells this fault, or that memory ran out
 abbrev pub is_told : Option Fault → Option Fault → Type 0
 is_told None fault = Unit {0}
 is_told (Some told) fault = fault ≡ Some told
 
 abbrev pub Tells : ScriptError → Option Fault → Type 0
 Tells e fault = is_told (fault_of e) fault
-
--- what became of a line's words
-abbrev pub StatementAnswers : Result code.Statement ScriptError → Context → Statement → Type 0
-StatementAnswers (Ok statement) c s = (said statement ≡ s) × IsClear c s
-StatementAnswers (Err e) c s = Tells e (fault_in c s)
 
 -- a line was taken
 pub record IsTaken (c : Context) (content : Content) (s : Statement) (p : Progress) : Type 0 where
@@ -36,6 +30,11 @@ pub record IsTaken (c : Context) (content : Content) (s : Statement) (p : Progre
 abbrev pub LineAnswers : Result (Unit {0}) ScriptError → Context → Content → Statement → Progress → Type 0
 LineAnswers (Ok u) c content s p = IsTaken c content s p
 LineAnswers (Err e) c content s p = Tells e (fault_in c s)
+
+-- what became of a text's first line, and what follows it
+abbrev pub FirstAnswers : Result (Bor (List ℕ)) ScriptError → Context → Content → Statement → Progress → List ℕ → Type 0
+FirstAnswers (Ok rest) c content s p after = IsTaken c content s p × (rest.now ≡ after)
+FirstAnswers (Err e) c content s p after = Tells e (fault_in c s)
 
 -- the progress is that of these lines, latest first
 pub record Shows (version : ℕ) (catalogue : List (List ℕ)) (earlier : List Statement) (p : Progress) : Type 0 where

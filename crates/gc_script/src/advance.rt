@@ -11,19 +11,22 @@ ghost use Rattle.gc_script.specs.Shown.{execution_of};
 
 use crate::command::Command;
 use crate::context::{Context, Opened, assigned};
+use crate::found::Found;
 use crate::label::Label;
-use crate::names::{has_name, place_of};
 use crate::statement::{Spoken, Statement};
 use plain_heap::{Op, OutOfMemory};
 use std::alloc::Global;
 use std::mem;
 
 impl<'a> Context<'a> {
+    ghost use Rattle.gc_script.specs.Found.{ArePlaces, AreFound};
+
     /// A name of the section has a number from now on.
-    fn name(&mut self, v: &'a str) -> Result<(), OutOfMemory>
+    fn name(&mut self, v: &'a str, at: u8) -> Result<(), OutOfMemory>
+        requires { at ≡ place (context_shown self.old).names v.now }
         ensures { OnOk result (context_shown self.new ≡ record (context_shown self.old) { names = with_name (Some v.now) (context_shown self.old).names }) }
     {
-        if has_name(self.names.as_slice(), v) {
+        if usize::from(at) < self.names.len() {
             Ok(())
         } else {
             match self.names.push(v) {
@@ -64,20 +67,27 @@ impl<'a> Context<'a> {
     }
 
     /// The context after a command.
-    fn follow(&mut self, spoken: &Spoken<'a>) -> Result<(), OutOfMemory>
+    fn follow(&mut self, spoken: &Spoken<'a>, found: Found) -> Result<(), OutOfMemory>
         requires line { self.old.line < 2 ^ 31 }
+        requires places { ArePlaces (context_shown self.old) (said_command spoken.now) found }
         ensures { OnOk result (context_shown self.new ≡ context_after (context_shown self.old) (Ordered (said_command spoken.now))) }
     {
         self.line += 1;
         match assigned(spoken) {
             None => Ok(()),
-            Some(v) => self.name(v),
+            Some(v) => self.name(v, found.v),
         }
     }
 
     /// The context after a line.
-    pub fn advance(&mut self, alloc: Global, statement: &Statement<'a>) -> Result<(), OutOfMemory>
+    pub fn advance(
+        &mut self,
+        alloc: Global,
+        statement: &Statement<'a>,
+        found: Found,
+    ) -> Result<(), OutOfMemory>
         requires line { self.old.line < 2 ^ 31 }
+        requires places { AreFound (context_shown self.old) (said statement.now) found }
         requires clear { IsClear (context_shown self.old) (said statement.now) }
         requires sane { IsSane (context_shown self.old) }
         ensures { OnOk result (context_shown self.new ≡ context_after (context_shown self.old) (said statement.now)) }
@@ -106,66 +116,34 @@ impl<'a> Context<'a> {
                 self.line += 1;
                 self.opened = None;
             }
-            Statement::Command(spoken) => return self.follow(spoken),
+            Statement::Command(spoken) => return self.follow(spoken, found),
         }
         Ok(())
     }
 
-    fn place(&self, name: &str) -> u8
-        requires { place (context_shown self.now).names name.now < 32 }
-        ensures { result ≡ place (context_shown self.now).names name.now }
-    {
-        place_of(self.names.as_slice(), name) as u8
-    }
-
-    fn place_in_catalogue(&self, name: &str) -> u8
-        requires { place (context_shown self.now).catalogue name.now < 32 }
-        ensures { result ≡ place (context_shown self.now).catalogue name.now }
-    {
-        place_of(self.catalogue.as_slice(), name) as u8
-    }
-
-    fn operation(&self, spoken: &Spoken) -> Op
+    fn operation(&self, spoken: &Spoken, found: Found) -> Op
+        requires places { ArePlaces (context_shown self.now) (said_command spoken.now) found }
         requires range { IsInRange (unwrap_or (context_shown self.now).fields 0) (operation_in (context_shown self.now) (said_command spoken.now)) }
         requires sane { IsSane (context_shown self.now) }
         ensures { result ≡ operation_in (context_shown self.now) (said_command spoken.now) }
     {
+        let Found { v, w } = found;
         match spoken {
-            Spoken::New { v, n } => Op::New {
-                v: self.place(v),
-                n: *n as u32,
-            },
-            Spoken::Let { v, w } => Op::Let {
-                v: self.place(v),
-                w: self.place(w),
-            },
-            Spoken::Nil { v } => Op::Nil { v: self.place(v) },
-            Spoken::Set { v, i, w } => Op::Set {
-                v: self.place(v),
-                i: *i as u8,
-                w: self.place(w),
-            },
-            Spoken::Get { v, w, i } => Op::Get {
-                v: self.place(v),
-                w: self.place(w),
-                i: *i as u8,
-            },
-            Spoken::Cat { v, name } => Op::Cat {
-                v: self.place(v),
-                c: self.place_in_catalogue(name),
-            },
-            Spoken::Put { v, n } => Op::Put {
-                v: self.place(v),
-                n: *n as u32,
-            },
-            Spoken::Say { label: _, v } => Op::Say { v: self.place(v) },
+            Spoken::New { v: _, n } => Op::New { v, n: *n as u32 },
+            Spoken::Let { v: _, w: _ } => Op::Let { v, w },
+            Spoken::Nil { v: _ } => Op::Nil { v },
+            Spoken::Set { v: _, i, w: _ } => Op::Set { v, i: *i as u8, w },
+            Spoken::Get { v: _, w: _, i } => Op::Get { v, w, i: *i as u8 },
+            Spoken::Cat { v: _, name: _ } => Op::Cat { v, c: w },
+            Spoken::Put { v: _, n } => Op::Put { v, n: *n as u32 },
+            Spoken::Say { label: _, v: _ } => Op::Say { v },
             Spoken::Sum {
                 label: _,
-                v,
+                v: _,
                 i,
                 limit,
             } => Op::Sum {
-                v: self.place(v),
+                v,
                 i: *i as u8,
                 limit: *limit as u32,
             },
@@ -184,7 +162,8 @@ impl<'a> Context<'a> {
     }
 
     /// A command on the line.
-    pub fn command(&self, spoken: &Spoken<'a>) -> Command<'a>
+    pub fn command(&self, spoken: &Spoken<'a>, found: Found) -> Command<'a>
+        requires places { ArePlaces (context_shown self.now) (said_command spoken.now) found }
         requires range { IsInRange (unwrap_or (context_shown self.now).fields 0) (operation_in (context_shown self.now) (said_command spoken.now)) }
         requires sane { IsSane (context_shown self.now) }
         ensures { execution_of result ≡ execution_in (context_shown self.now) (said_command spoken.now) }
@@ -193,7 +172,7 @@ impl<'a> Context<'a> {
         Command {
             line: self.line,
             label: label.text,
-            op: self.operation(spoken),
+            op: self.operation(spoken, found),
         }
     }
 }

@@ -83,7 +83,7 @@ impl<'s, 'a> Model for Commands<'s, 'a> {
 }
 
 impl<'s, 'a> Commands<'s, 'a> {
-    /// The same commands, each lent where it stands: none is copied.
+    /// The commands, each lent where it stands: none is copied.
     pub fn lent(self) -> Lent<'s, 'a>
         ensures { result ≡ self.entry }
     {
@@ -147,7 +147,7 @@ impl<'s, 'a> Iterator for Commands<'s, 'a> {
     }
 }
 
-/// The same, each command lent from the script.
+/// The commands of a section, each lent from the script.
 #[derive(Drop)]
 pub struct Lent<'s, 'a> {
     cursor: Cursor<'s, 'a>,

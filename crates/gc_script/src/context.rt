@@ -5,7 +5,7 @@ ghost use Rattle.gc_script.specs.Earlier.{is_for_catalogue, is_too_large, assign
 ghost use Rattle.gc_script.specs.Faults.{starts_section, may_stand, has_large_number};
 ghost use Rattle.gc_script.specs.Said.{said, said_command};
 
-use crate::names::{has_name, place_of};
+use crate::found::Found;
 use crate::script::ScriptError;
 use crate::statement::{Spoken, Statement};
 
@@ -129,6 +129,7 @@ impl<'a> Context<'a> {
     ghost use Rattle.gc_script.specs.Kept.{context_shown, told};
     ghost use Rattle.std.specs.List.{list_all};
     ghost use Rattle.gc_script.specs.Earlier.{reads, reads_of_catalogue, has_name};
+    ghost use Rattle.gc_script.specs.Found.{ArePlaces, AreFound};
 
     fn is_placed(&self, statement: &Statement) -> bool
         ensures { result ≡ placed_in (context_shown self.now) (said statement.now) }
@@ -154,71 +155,71 @@ impl<'a> Context<'a> {
         has_large_number(u64::from(self.fields.unwrap_or(0)), statement)
     }
 
-    fn has(&self, name: &str) -> bool
-        ensures { result ≡ has_name name.now (context_shown self.now).names }
-    {
-        has_name(self.names.as_slice(), name)
-    }
-
     /// Each name of the section that a command reads is known.
-    fn knows_read(&self, spoken: &Spoken) -> bool
+    fn knows_read(&self, spoken: &Spoken, found: Found) -> bool
+        requires { ArePlaces (context_shown self.now) (said_command spoken.now) found }
         ensures { result ≡ list_all (λ name. has_name name (context_shown self.now).names) (reads (said_command spoken.now)) }
     {
         match spoken {
-            Spoken::Let { v: _, w } => self.has(w),
-            Spoken::Set { v, i: _, w } => self.has(v) && self.has(w),
-            Spoken::Get { v: _, w, i: _ } => self.has(w),
-            Spoken::Put { v, n: _ } => self.has(v),
-            Spoken::Say { label: _, v } => self.has(v),
+            Spoken::Let { v: _, w: _ } => self.has(found.w),
+            Spoken::Set { v: _, i: _, w: _ } => self.has(found.v) && self.has(found.w),
+            Spoken::Get { v: _, w: _, i: _ } => self.has(found.w),
+            Spoken::Put { v: _, n: _ } => self.has(found.v),
+            Spoken::Say { label: _, v: _ } => self.has(found.v),
             Spoken::Sum {
                 label: _,
-                v,
+                v: _,
                 i: _,
                 limit: _,
-            } => self.has(v),
+            } => self.has(found.v),
             _ => true,
         }
     }
 
     /// The name of the catalogue that a command reads is known.
-    fn knows_of_catalogue(&self, spoken: &Spoken) -> bool
+    fn knows_of_catalogue(&self, spoken: &Spoken, found: Found) -> bool
+        requires { ArePlaces (context_shown self.now) (said_command spoken.now) found }
         ensures { result ≡ list_all (λ name. has_name name (context_shown self.now).catalogue) (reads_of_catalogue (said_command spoken.now)) }
     {
         match spoken {
-            Spoken::Cat { v: _, name } => has_name(self.catalogue.as_slice(), name),
+            Spoken::Cat { v: _, name: _ } => usize::from(found.w) < self.catalogue.len(),
             _ => true,
         }
     }
 
-    fn knows(&self, statement: &Statement) -> bool
+    fn knows(&self, statement: &Statement, found: Found) -> bool
+        requires { AreFound (context_shown self.now) (said statement.now) found }
         ensures { result ≡ knows_in (context_shown self.now) (said statement.now) }
     {
         match statement {
-            Statement::Command(spoken) => self.knows_read(spoken)
-                && self.knows_of_catalogue(spoken),
+            Statement::Command(spoken) => {
+                self.knows_read(spoken, found) && self.knows_of_catalogue(spoken, found)
+            }
             _ => true,
         }
     }
 
     /// How many names the section has once a command has assigned its own.
-    fn names_with(&self, spoken: &Spoken) -> usize
-        requires { length (context_shown self.now).names < 1048576 }
+    fn names_with(&self, spoken: &Spoken, found: Found) -> usize
+        requires places { ArePlaces (context_shown self.now) (said_command spoken.now) found }
+        requires few { length (context_shown self.now).names < 1048576 }
         ensures { result ≡ length (with_name (assigns (said_command spoken.now)) (context_shown self.now).names) }
     {
         match assigned(spoken) {
-            Some(v) if !self.has(v) => self.names.len() + 1,
+            Some(_) if !self.has(found.v) => self.names.len() + 1,
             _ => self.names.len(),
         }
     }
 
-    fn names_after(&self, statement: &Statement) -> usize
-        requires { length (context_shown self.now).names < 1048576 }
+    fn names_after(&self, statement: &Statement, found: Found) -> usize
+        requires places { AreFound (context_shown self.now) (said statement.now) found }
+        requires few { length (context_shown self.now).names < 1048576 }
         ensures { result ≡ length (names_after (context_shown self.now) (said statement.now)) }
     {
         match statement {
             Statement::Catalogue => 0,
             Statement::Warehouse => 0,
-            Statement::Command(spoken) => self.names_with(spoken),
+            Statement::Command(spoken) => self.names_with(spoken, found),
             _ => self.names.len(),
         }
     }
@@ -246,7 +247,8 @@ impl<'a> Context<'a> {
     }
 
     /// The first fault of a line that does not cut a `repeat`.
-    fn fault_of(&self, statement: &Statement) -> Option<ScriptError>
+    fn fault_of(&self, statement: &Statement, found: Found) -> Option<ScriptError>
+        requires places { AreFound (context_shown self.now) (said statement.now) found }
         requires names { length (context_shown self.now).names ≤ 32 }
         requires warehouses { (context_shown self.now).warehouses ≤ 32 }
         requires seasons { (context_shown self.now).seasons ≤ 63 }
@@ -259,10 +261,10 @@ impl<'a> Context<'a> {
         if self.is_large(statement) {
             return Some(ScriptError::NumberTooLarge { line });
         }
-        if !self.knows(statement) {
+        if !self.knows(statement, found) {
             return Some(ScriptError::UnknownName { line });
         }
-        if self.names_after(statement) > MOST_NAMES {
+        if self.names_after(statement, found) > MOST_NAMES {
             return Some(ScriptError::TooManyNames { line });
         }
         if self.warehouses_after(statement) > MOST_WAREHOUSES {
@@ -275,7 +277,8 @@ impl<'a> Context<'a> {
     }
 
     /// The first fault of a line.
-    pub fn fault(&self, statement: &Statement) -> Option<ScriptError>
+    pub fn fault(&self, statement: &Statement, found: Found) -> Option<ScriptError>
+        requires places { AreFound (context_shown self.now) (said statement.now) found }
         requires names { length (context_shown self.now).names ≤ 32 }
         requires warehouses { (context_shown self.now).warehouses ≤ 32 }
         requires seasons { (context_shown self.now).seasons ≤ 63 }
@@ -285,7 +288,7 @@ impl<'a> Context<'a> {
             Some(opened) if starts_section(statement) => {
                 Some(ScriptError::RepeatOpen { line: opened.line })
             }
-            _ => self.fault_of(statement),
+            _ => self.fault_of(statement, found),
         }
     }
 }

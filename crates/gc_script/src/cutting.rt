@@ -1,83 +1,87 @@
-//! The words of a line.
-ghost use Rattle.std.specs.Prelude.{◌==◌, ◌≡◌, ◌<◌, ◌≤◌, ◌+◌, ◌++◌, map, length, take, drop, IfOk, OnOk, slice_index};
-ghost use Rattle.std.specs.List.{position, position_or_len, before_first, after_first};
+//! The words of a text's first line.
+ghost use Rattle.std.specs.Prelude.{◌≡◌, ◌<◌, ◌≤◌, ◌+◌, ◌++◌, map, length, take, drop, IfOk, slice_index};
+ghost use Rattle.std.specs.List.{position, position_or_len};
 ghost use Rattle.gc_script.specs.ScriptText.{words};
+ghost use Rattle.gc_script.specs.FirstLine.{ends_piece, first_line, after_line, words_left, after_left, IsCut};
 
-use std::alloc::{AllocError, Global};
+use std::alloc::AllocError;
 
-fn first_space(line: &[u8]) -> Option<usize>
-    ensures { result ≡ position (λ b. b == 32) line.now }
+fn ends_piece(byte: u8) -> bool
+    ensures { result ≡ ends_piece byte }
 {
-    line.iter().position(|b| *b == b' ')
+    byte == b' ' || byte == b'\n'
 }
 
-/// Where the first word of a line ends, at its space or with the line.
-fn word_end(line: &[u8]) -> usize
-    ensures end { result ≡ position_or_len (λ b. b == 32) line.now }
-    ensures within { result ≤ length line.now }
+fn first_end(text: &[u8]) -> Option<usize>
+    ensures { result ≡ position ends_piece text.now }
 {
-    first_space(line).unwrap_or(line.len())
+    text.iter().position(|b| ends_piece(*b))
 }
 
-/// What stands before a space of a line, and what after it.
-fn cut_at<'a>(line: &'a str, end: usize) -> (&'a str, &'a str)
-    requires within { end < length line.now }
-    requires space { slice_index line.now end ≡ 32 }
-    ensures before { result.0.now ≡ take end line.now }
-    ensures after { result.1.now ≡ drop (end + 1) line.now }
+/// Where the first piece of a line ends, at a space, a line feed or with the text.
+fn piece_end(text: &[u8]) -> usize
+    ensures end { result ≡ position_or_len ends_piece text.now }
+    ensures within { result ≤ length text.now }
 {
-    (&line[..end], &line[end + 1..])
+    first_end(text).unwrap_or(text.len())
 }
 
-/// What stands before the first space of a line, and what after it.
-#[tactic(auto, using(crate::proofs::Cuts::space_at))]
-fn cut<'a>(line: &'a str) -> (&'a str, &'a str)
-    ensures before { result.0.now ≡ before_first (λ b. b == 32) line.now }
-    ensures after { result.1.now ≡ after_first (λ b. b == 32) line.now }
+/// What stands before an ASCII byte of a text, and what after it.
+fn cut_at<'a>(text: &'a str, end: usize) -> (&'a str, &'a str)
+    requires within { end < length text.now }
+    requires ascii { slice_index text.now end < 128 }
+    ensures before { result.0.now ≡ take end text.now }
+    ensures after { result.1.now ≡ drop (end + 1) text.now }
 {
-    let end = word_end(line.as_bytes());
-    if end < line.len() {
-        return cut_at(line, end);
+    (&text[..end], &text[end + 1..])
+}
+
+/// The first piece of a text, whether the line goes on after it, and what follows.
+fn cut<'a>(text: &'a str) -> (&'a str, bool, &'a str)
+    requires { 0 < length text.now }
+    ensures cut { IsCut result.0.now result.1 result.2.now text.now }
+    ensures shorter { length result.2.now < length text.now }
+{
+    let bytes = text.as_bytes();
+    let end = piece_end(bytes);
+    if end < bytes.len() {
+        let goes_on = bytes[end] == b' ';
+        let (piece, rest) = cut_at(text, end);
+        return (piece, goes_on, rest);
     }
-    (line, "")
+    (text, false, "")
 }
 
-/// Takes the first word off a line, if there is one before its first space, and gives the rest.
-fn take_word<'a>(found: &mut Vec<&'a str>, line: &'a str) -> Result<&'a str, AllocError>
-    requires { 0 < length line.now }
-    ensures found { IfOk result (λ rest. map (λ w. w.now) found.new.items ++ words rest.now ≡ map (λ w. w.now) found.old.items ++ words line.now) }
-    ensures shorter { IfOk result (λ rest. length rest.now < length line.now) }
+/// Takes the first word off a text's first line, if there is one before its first space. It says whether the line goes on, and gives the rest.
+fn take_word<'a>(found: &mut Vec<&'a str>, text: &'a str) -> Result<(bool, &'a str), AllocError>
+    requires { 0 < length text.now }
+    ensures found { IfOk result (λ r. map (λ w. w.now) found.new.items ++ words_left r.0 r.1.now ≡ map (λ w. w.now) found.old.items ++ words (first_line text.now)) }
+    ensures after { IfOk result (λ r. after_left r.0 r.1.now ≡ after_line text.now) }
+    ensures shorter { IfOk result (λ r. length r.1.now < length text.now) }
 {
-    let (word, rest) = cut(line);
-    if word.is_empty() {
-        return Ok(rest);
+    let (piece, goes_on, rest) = cut(text);
+    if piece.is_empty() {
+        return Ok((goes_on, rest));
     }
-    match found.push(word) {
-        Ok(()) => Ok(rest),
+    match found.push(piece) {
+        Ok(()) => Ok((goes_on, rest)),
         Err(_) => Err(AllocError),
     }
 }
 
-/// Adds the words of a line to those that were found.
-pub fn add_words<'a>(found: &mut Vec<&'a str>, line: &'a str) -> Result<(), AllocError>
-    ensures { OnOk result (map (λ w. w.now) found.new.items ≡ map (λ w. w.now) found.old.items ++ words line.now) }
+/// Finds the words of a text's first line, in place of those that were found, and gives what follows the line.
+pub fn take_words<'a>(found: &mut Vec<&'a str>, text: &'a str) -> Result<&'a str, AllocError>
+    ensures found { IfOk result (λ rest. map (λ w. w.now) found.new.items ≡ words (first_line text.now)) }
+    ensures after { IfOk result (λ rest. rest.now ≡ after_line text.now) }
 {
-    let mut rest = line;
+    found.clear();
+    let mut rest = text;
     'line: while !rest.is_empty() {
         match take_word(found, rest) {
-            Ok(left) => rest = left,
+            Ok((true, left)) => rest = left,
+            Ok((false, left)) => return Ok(left),
             Err(e) => return Err(e),
         }
     }
-    Ok(())
-}
-
-pub fn words_of<'a>(alloc: Global, line: &'a str) -> Result<Vec<&'a str>, AllocError>
-    ensures { IfOk result (λ v. map (λ w. w.now) v.items ≡ words line.now) }
-{
-    let mut found = Vec::new(alloc);
-    match add_words(&mut found, line) {
-        Ok(()) => Ok(found),
-        Err(e) => Err(e),
-    }
+    Ok(rest)
 }

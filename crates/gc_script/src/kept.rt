@@ -9,6 +9,7 @@ ghost use Rattle.gc_script.specs.Shown.{execution_of};
 use crate::block::{Block, Part};
 use crate::command::Command;
 use crate::context::Context;
+use crate::found::Found;
 use crate::statement::Statement;
 use plain_heap::OutOfMemory;
 use std::alloc::Global;
@@ -98,6 +99,7 @@ impl<'a> Kept<'a> {
 /// The commands of a part are kept as they are written: a `repeat` is not unrolled.
 impl<'a> Kept<'a> {
     ghost use Rattle.gc_script.specs.Context.{operation_in};
+    ghost use Rattle.gc_script.specs.Found.{AreFound};
     ghost use Rattle.gc_script.specs.Script.{repetitions};
     ghost use Rattle.gc_script.specs.Content.{kept_shown, settle, end_part, close, content_after};
 
@@ -107,7 +109,9 @@ impl<'a> Kept<'a> {
         alloc: Global,
         context: &Context<'a>,
         statement: &Statement<'a>,
+        found: Found,
     ) -> Result<(), OutOfMemory>
+        requires places { AreFound (context_shown context.now) (said statement.now) found }
         requires clear { IsClear (context_shown context.now) (said statement.now) }
         requires sane { IsSane (context_shown context.now) }
         ensures { OnOk result (kept_shown self.new ≡ content_after (context_shown context.now) (kept_shown self.old) (said statement.now)) }
@@ -117,7 +121,7 @@ impl<'a> Kept<'a> {
             Statement::Season => self.end_part(alloc),
             Statement::Repeat(_) => self.settle(alloc, 1),
             Statement::End => self.settle(alloc, context.repetitions()),
-            Statement::Command(spoken) => self.push(context.command(spoken)),
+            Statement::Command(spoken) => self.push(context.command(spoken, found)),
             _ => Ok(()),
         }
     }

@@ -1,8 +1,8 @@
 //! The names of a section.
-ghost use Rattle.std.specs.Prelude.{◌≡◌, map};
+ghost use Rattle.std.specs.Prelude.{◌≡◌, ◌≤◌, map, length};
 ghost use Rattle.std.specs.List.{position};
 ghost use Rattle.std.specs.Str.{bytes_eq};
-ghost use Rattle.gc_script.specs.Earlier.{place, has_name};
+ghost use Rattle.gc_script.specs.Earlier.{place};
 
 use crate::text::is_same;
 
@@ -14,13 +14,8 @@ fn position_of(names: &[&str], name: &str) -> Option<usize>
 
 /// A name's place, or the next one where it is not there.
 pub fn place_of(names: &[&str], name: &str) -> usize
-    ensures { result ≡ place (map (λ n. n.now) names.now) name.now }
+    ensures place { result ≡ place (map (λ n. n.now) names.now) name.now }
+    ensures within { result ≤ length names.now }
 {
     position_of(names, name).unwrap_or(names.len())
-}
-
-pub fn has_name(names: &[&str], name: &str) -> bool
-    ensures { result ≡ has_name name.now (map (λ n. n.now) names.now) }
-{
-    place_of(names, name) < names.len()
 }

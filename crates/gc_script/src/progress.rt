@@ -1,6 +1,6 @@
 //! Reads the lines of a script in order.
 ghost use Rattle.std.specs.Prelude.{◌≡◌, ◌<◌, ◌^◌, ◌+◌, [], None, Err, List, ℕ, map, length, OnOk, OnErr};
-ghost use Rattle.gc_script.specs.ScriptText.{words};
+ghost use Rattle.gc_script.specs.ScriptText.{words, lines};
 ghost use Rattle.gc_script.specs.Statement.{Statement as Said, statement};
 ghost use Rattle.gc_script.specs.Said.{said, capped};
 ghost use Rattle.gc_script.specs.Context.{context_of, context_after, IsClear, IsSane, end_fault_in};
@@ -9,7 +9,8 @@ ghost use Rattle.gc_script.specs.Content.{content_of, content_after, kept_shown}
 ghost use Rattle.gc_script.specs.Reading.{BodyAnswers};
 
 use crate::context::Context;
-use crate::cutting::words_of;
+use crate::cutting::take_words;
+use crate::found::Found;
 use crate::kept::Kept;
 use crate::script::ScriptError;
 use crate::statement::{Statement, statement_of};
@@ -51,60 +52,65 @@ fn nothing_kept<'a>(alloc: Global) -> Kept<'a>
     }
 }
 
-impl<'a> Context<'a> {
-    ghost use Rattle.gc_script.specs.Reading.{StatementAnswers};
-
-    /// What a line says, where it has no fault.
-    fn judged(&self, said_line: Statement<'a>) -> Result<Statement<'a>, ScriptError>
-        requires { IsSane (context_shown self.now) }
-        ensures { (s : Said) → said said_line.entry ≡ capped s → StatementAnswers result (context_shown self.now) s }
-    {
-        match self.fault(&said_line) {
-            Some(e) => Err(e),
-            None => Ok(said_line),
-        }
-    }
-
-    fn statement(&self, alloc: Global, line: &'a str) -> Result<Statement<'a>, ScriptError>
-        requires { IsSane (context_shown self.now) }
-        ensures { StatementAnswers result (context_shown self.now) (statement (words line.now)) }
-    {
-        match words_of(alloc, line) {
-            Err(_) => Err(ScriptError::OutOfMemory),
-            Ok(words) => self.judged(statement_of(words.as_slice())),
-        }
-    }
-}
-
 impl<'a> Progress<'a> {
-    ghost use Rattle.gc_script.specs.Reading.{LineAnswers};
+    ghost use Rattle.gc_script.specs.Reading.{LineAnswers, FirstAnswers};
+    ghost use Rattle.gc_script.specs.FirstLine.{first_line, after_line};
+    ghost use Rattle.gc_script.specs.Found.{AreFound};
 
-    fn take(&mut self, alloc: Global, statement: &Statement<'a>) -> Result<(), ScriptError>
+    fn take(
+        &mut self,
+        alloc: Global,
+        statement: &Statement<'a>,
+        found: Found,
+    ) -> Result<(), ScriptError>
         requires line { self.old.context.line < 2 ^ 31 }
+        requires places { AreFound (context_shown self.old.context) (said statement.now) found }
         requires clear { IsClear (context_shown self.old.context) (said statement.now) }
         requires sane { IsSane (context_shown self.old.context) }
         ensures context { OnOk result (context_shown self.new.context ≡ context_after (context_shown self.old.context) (said statement.now)) }
         ensures kept { OnOk result (kept_shown self.new.kept ≡ content_after (context_shown self.old.context) (kept_shown self.old.kept) (said statement.now)) }
         ensures err { OnErr result (result ≡ Err ScriptError.OutOfMemory) }
     {
-        match self.kept.take(alloc, &self.context, statement) {
+        match self.kept.take(alloc, &self.context, statement, found) {
             Ok(()) => {}
             Err(_) => return Err(ScriptError::OutOfMemory),
         }
-        match self.context.advance(alloc, statement) {
+        match self.context.advance(alloc, statement, found) {
             Ok(()) => Ok(()),
             Err(_) => Err(ScriptError::OutOfMemory),
         }
     }
 
-    fn read_line(&mut self, alloc: Global, line: &'a str) -> Result<(), ScriptError>
+    /// Takes what a line says, where it has no fault.
+    fn follow(&mut self, alloc: Global, statement: &Statement<'a>) -> Result<(), ScriptError>
         requires line { self.old.context.line < 2 ^ 31 }
         requires sane { IsSane (context_shown self.old.context) }
-        ensures { LineAnswers result (context_shown self.old.context) (kept_shown self.old.kept) (statement (words line.now)) self.new }
+        ensures { (s : Said) → said statement.now ≡ capped s → LineAnswers result (context_shown self.old.context) (kept_shown self.old.kept) s self.new }
     {
-        match self.context.statement(alloc, line) {
-            Ok(statement) => self.take(alloc, &statement),
-            Err(e) => Err(e),
+        let found = self.context.find(statement);
+        match self.context.fault(statement, found) {
+            Some(e) => Err(e),
+            None => self.take(alloc, statement, found),
+        }
+    }
+
+    /// Reads the first line of a text, and gives what follows it.
+    fn read_line(
+        &mut self,
+        alloc: Global,
+        pieces: &mut Vec<&'a str>,
+        text: &'a str,
+    ) -> Result<&'a str, ScriptError>
+        requires line { self.old.context.line < 2 ^ 31 }
+        requires sane { IsSane (context_shown self.old.context) }
+        ensures { FirstAnswers result (context_shown self.old.context) (kept_shown self.old.kept) (statement (words (first_line text.now))) self.new (after_line text.now) }
+    {
+        match take_words(pieces, text) {
+            Err(_) => Err(ScriptError::OutOfMemory),
+            Ok(rest) => match self.follow(alloc, &statement_of(pieces.as_slice())) {
+                Ok(()) => Ok(rest),
+                Err(e) => Err(e),
+            },
         }
     }
 }
@@ -123,15 +129,17 @@ fn first_progress<'a>(alloc: Global, version: u32) -> Progress<'a>
 pub fn read_lines<'a>(
     alloc: Global,
     version: u32,
-    lines: &[&'a str],
+    text: &'a str,
 ) -> Result<Progress<'a>, ScriptError>
-    requires { length lines.now < 2 ^ 21 }
-    ensures { BodyAnswers result version (map statement (map words (map (λ l. l.now) lines.now))) }
+    requires { length text.now < 2 ^ 21 }
+    ensures { BodyAnswers result version (map statement (map words (lines text.now))) }
 {
     let mut progress = first_progress(alloc, version);
-    for line in lines {
-        match progress.read_line(alloc, line) {
-            Ok(()) => {}
+    let mut pieces = Vec::new(alloc);
+    let mut rest = text;
+    'lines: while !rest.is_empty() {
+        match progress.read_line(alloc, &mut pieces, rest) {
+            Ok(left) => rest = left,
             Err(e) => return Err(e),
         }
     }

@@ -1,47 +1,27 @@
 //! Reads a script.
 ghost use Rattle.std.specs.Prelude.{◌≡◌, ◌<◌, ◌≤◌, ◌^◌, None, Err, map, length, IfSome, IsOk};
+ghost use Rattle.std.specs.List.{list_all};
 ghost use Rattle.gc_script.specs.ScriptText.{is_allowed, first_foreign, lines, words};
 ghost use Rattle.gc_script.specs.Statement.{statement};
 ghost use Rattle.gc_script.specs.Script.{script, body, of_lines};
 ghost use Rattle.gc_script.specs.Finished.{ReadAnswers};
 
-use crate::cutting::words_of;
+use crate::cutting::take_words;
 use crate::finish::script_of;
 use crate::header::version;
 use crate::progress::read_lines;
 use crate::script::{Script, ScriptError};
-use crate::text::lines_of;
 use std::alloc::Global;
 
 const LONGEST: usize = 1_048_576;
 
-fn script_of_body<'a>(
-    alloc: Global,
-    version: u32,
-    lines: &[&'a str],
-) -> Result<Script<'a>, ScriptError>
-    requires { length lines.now < 2 ^ 21 }
-    ensures { ReadAnswers result (body version (map statement (map words (map (λ l. l.now) lines.now)))) }
+fn script_of_body<'a>(alloc: Global, version: u32, text: &'a str) -> Result<Script<'a>, ScriptError>
+    requires { length text.now < 2 ^ 21 }
+    ensures { ReadAnswers result (body version (map statement (map words (lines text.now)))) }
 {
-    match read_lines(alloc, version, lines) {
+    match read_lines(alloc, version, text) {
         Err(e) => Err(e),
         Ok(progress) => script_of(alloc, progress),
-    }
-}
-
-fn script_of_lines<'a>(alloc: Global, lines: &[&'a str]) -> Result<Script<'a>, ScriptError>
-    requires { length lines.now < 2 ^ 21 }
-    ensures { ReadAnswers result (of_lines (map words (map (λ l. l.now) lines.now))) }
-{
-    match lines {
-        [] => Err(ScriptError::BadHeader),
-        [first, others @ ..] => match words_of(alloc, first) {
-            Err(_) => Err(ScriptError::OutOfMemory),
-            Ok(words) => match version(words.as_slice()) {
-                None => Err(ScriptError::BadHeader),
-                Some(version) => script_of_body(alloc, version, others),
-            },
-        },
     }
 }
 
@@ -49,9 +29,13 @@ fn script_of_text<'a>(alloc: Global, text: &'a str) -> Result<Script<'a>, Script
     requires { length text.now ≤ LONGEST }
     ensures { ReadAnswers result (of_lines (map words (lines text.now))) }
 {
-    match lines_of(alloc, text) {
+    let mut words = Vec::new(alloc);
+    match take_words(&mut words, text) {
         Err(_) => Err(ScriptError::OutOfMemory),
-        Ok(lines) => script_of_lines(alloc, lines.as_slice()),
+        Ok(rest) => match version(words.as_slice()) {
+            None => Err(ScriptError::BadHeader),
+            Some(version) => script_of_body(alloc, version, rest),
+        },
     }
 }
 
@@ -61,10 +45,24 @@ fn is_allowed(byte: u8) -> bool
     byte == b'\n' || (32 <= byte && byte <= 126)
 }
 
+/// Whether a script may have each of these bytes. The loop goes on to the end, so that it can look at many bytes together.
+fn are_allowed(source: &[u8]) -> bool
+    ensures { result ≡ list_all is_allowed source.now }
+{
+    let mut allowed = true;
+    for b in source {
+        allowed &= is_allowed(*b);
+    }
+    allowed
+}
+
 fn first_foreign(source: &[u8]) -> Option<usize>
     ensures first { result ≡ first_foreign source.now }
     ensures within { IfSome result (λ offset. offset < length source.now) }
 {
+    if are_allowed(source) {
+        return None;
+    }
     source.iter().position(|b| !is_allowed(*b))
 }
 

@@ -24,7 +24,7 @@ use Rattle.gc_table.specs.TableState.{TableState}
 use Rattle.gc_table.specs.Rule.{table_state}
 use Rattle.gc_table.specs.Taking.{Asked}
 use Rattle.gc_table.specs.Reads.{Reads}
-use Rattle.gc_table.proofs.StateReads.{reads-true}
+use Rattle.gc_table.proofs.State.StateReads.{reads-true}
 use Rattle.gc_table.proofs.Leaving.{Takes, allowed, finds, found-there, left_whole, left-words, left-seats, left-shape, left-state, own-agrees, own-fits, other-agrees, spent-stays}
 use Rattle.mark_core.specs.Start.{spent_seat}
 use Rattle.mark_core.specs.declared.kinds.Event.{Event}
@@ -33,8 +33,8 @@ use Rattle.gc_table.specs.declared.view.Entry.{Entry}
 use Rattle.gc_table.specs.Entries.{event, is_store}
 use Rattle.gc_table.specs.Past.{word_told, IsLogOf, IsLogged}
 use Rattle.gc_table.specs.Rule.{core_of}
-use Rattle.gc_table.proofs.Past.{led-on, log-other, log-own, own-logged}
-use Rattle.gc_table.proofs.StateSteps.{some-same}
+use Rattle.gc_table.proofs.History.Past.{led-on, log-other, log-own, own-logged}
+use Rattle.gc_table.proofs.State.StateSteps.{some-same}
 
 abbrev pub St : Type 0
 St = State (Unit {0}) View
@@ -162,7 +162,7 @@ pub allows-found : (sh : Shape) (plan : List (List Op)) (slots id : ℕ) (h : He
     → (t.table_id ≡ h.table.shared.table_id) × (word < h.table.shared.table_id.words) × Allows (Holds sh plan) slots id t.me word f (λ found a. (a ≡ (after step found t.me.0, [])) × IsPossible a.0 × Finds step found t.me.0)
 allows-found sh plan slots id h t word step f q writes reads = (q.table, q.within, allows sh plan slots id t.me step word f q.bare q.live q.there writes reads q.own q.may q.asked)
 
--- the same of a store
+-- what the table asks of an operation that stores a word, whatever it finds
 pub allows-stored : (sh : Shape) (plan : List (List Op)) (slots id : ℕ) (h : Heap) (t : Token) (word : ℕ) (step : Step) (new : ℕ) → MayTake h t word step → Writes step (λ _. new) t.me.0 → IsBlind step t.me.0 → IsTrue (is_store step)
     → (t.table_id ≡ h.table.shared.table_id) × (word < h.table.shared.table_id.words) × Allows (Holds sh plan) slots id t.me word (λ _. new) (λ _ a. (a ≡ (after step new t.me.0, [])) × IsPossible a.0)
 allows-stored sh plan slots id h t word step new q writes blind stores = (q.table, q.within, allows-store sh plan slots id t.me step word new q.bare q.live q.there writes blind stores q.own q.may q.asked)

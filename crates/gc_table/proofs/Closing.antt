@@ -12,8 +12,8 @@ use Rattle.mark_core.specs.Layout.{address}
 use Rattle.mark_core.specs.Places.{the_world}
 use Rattle.mark_core.specs.Seats.{is_bare, takes_part, empty_handed}
 use Rattle.mark_core.specs.Views.{Standing, standing_of, standings}
-use Rattle.mark_core.specs.WorldRules.{IsEmpty, IsCalm, HelpsOnly}
-use Rattle.mark_core.specs.WorldSteps.{has_nothing, may_be_joined, other_has_nothing}
+use Rattle.mark_core.specs.Rules.WorldRules.{IsEmpty, IsCalm, HelpsOnly}
+use Rattle.mark_core.specs.Steps.WorldSteps.{has_nothing, may_be_joined, other_has_nothing}
 use Rattle.mark_core.specs.Start.{spent_seat}
 use Rattle.mark_core.specs.Steps.{Core, after_of, after_event}
 use Rattle.mark_core.specs.Laws.{IsCore}
@@ -36,10 +36,10 @@ use Rattle.gc_table.proofs.Joining.{both-noted}
 use Rattle.gc_table.proofs.Opening.{none-in, record-at, still-sections, zero-plus}
 use Rattle.gc_table.specs.Past.{IsLogOf, IsLogged, log_of}
 use Rattle.gc_table.specs.declared.view.Entry.{Entry}
-use Rattle.gc_table.proofs.Past.{led-on, log-still}
+use Rattle.gc_table.proofs.History.Past.{led-on, log-still}
 use Rattle.gc_table.proofs.Records.{record-live, records-length, records-set, found-here, found-else}
-use Rattle.gc_table.proofs.StateSteps.{Goes, event, may-happen, sections-left}
-use Rattle.gc_table.proofs.StateKept.{whole-kept}
+use Rattle.gc_table.proofs.State.StateSteps.{Goes, event, may-happen, sections-left}
+use Rattle.gc_table.proofs.State.StateKept.{whole-kept}
 
 unset : (b : Bool) → not b ≡ true → b ≡ false
 unset true e = absurd (true≢false (sym e))

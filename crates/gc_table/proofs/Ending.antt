@@ -10,13 +10,12 @@ use Rattle.mark_core.specs.declared.seat.SeatState.{SeatState}
 use Rattle.gc_table.specs.Rule.{IsPossible, IsFinal, HasLog, HasSection, KnowsFull}
 use Rattle.gc_table.specs.Past.{LeadTo, log_of}
 use Rattle.gc_table.specs.declared.view.Entry.{Entry}
-use Rattle.gc_table.proofs.Past.{log-none}
+use Rattle.gc_table.proofs.History.Past.{log-none}
 use Rattle.std.proofs.lemmas.List.{get_or-take}
 use Rattle.mark_core.specs.Notes.{word_at}
 use Rattle.mark_core.specs.Places.{the_phase}
 use Rattle.mark_core.specs.Seats.{phase_of}
 use Rattle.mark_core.specs.Layout.{words_of}
-use Rattle.mark_core.specs.declared.kinds.Phase.{Phase}
 use Rattle.mark_core.specs.declared.kinds.Phase.TheVariants.{Full}
 use Rattle.gc_table.specs.Seats.{view_of, IsOutside}
 use Rattle.gc_table.specs.Ends.{AreWords, IsResting, IsEnd}

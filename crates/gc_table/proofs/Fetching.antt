@@ -21,8 +21,8 @@ use Rattle.mark_core.specs.declared.kinds.Step.TheVariants.{Take, Give, Push, Po
 use Rattle.mark_core.specs.declared.seat.SeatState.{SeatState}
 use Rattle.mark_core.proofs.Pool.PoolSlots.{SameInHand, put-other, drop-other, set-other, holds-put_same, holds-drop_same, holds-set_same, known-set_same}
 use Rattle.mark_core.proofs.Pool.PoolHolders.{only-holder}
-use Rattle.mark_core.proofs.RegionWrites.{touches_heads}
-use Rattle.mark_core.proofs.Writes.{at_part, at_counter}
+use Rattle.mark_core.proofs.Writing.RegionWrites.{touches_heads}
+use Rattle.mark_core.proofs.Writing.Writes.{at_part, at_counter}
 use Rattle.gc_table.specs.declared.view.Entry.{Entry}
 use Rattle.gc_table.specs.Fetching.{taken_out, last_pool, is_in_range}
 

@@ -13,7 +13,7 @@ use Rattle.mark_core.proofs.Notes.NotesBounds.{bounds-kept}
 use Rattle.mark_core.proofs.Notes.NotesOwn.{word-here}
 use Rattle.mark_core.proofs.Pool.PoolsKept.{shape-kept}
 use Rattle.mark_core.proofs.Blocks.BlocksTaken.{in-place}
-use Rattle.mark_core.proofs.Ranges.{IsPlace}
+use Rattle.mark_core.proofs.Writing.Ranges.{IsPlace}
 use Rattle.mark_core.specs.declared.kinds.Shape.{Shape}
 use Rattle.mark_core.specs.declared.kinds.Step.{Step}
 use Rattle.mark_core.specs.declared.kinds.Step.TheVariants.{Reserve, Split, Join}
@@ -31,18 +31,18 @@ use Rattle.mark_core.specs.Start.{spent_seat}
 use Rattle.gc_table.specs.declared.view.SectionState.{SectionState}
 use Rattle.gc_table.specs.Sections.{section_after}
 use Rattle.gc_table.specs.TableState.{TableState, no_section, section_at, with_section, state_after}
-use Rattle.gc_table.proofs.StateSteps.{Goes, event, may-happen, sections-left}
-use Rattle.gc_table.proofs.StateKept.{whole-kept}
+use Rattle.gc_table.proofs.State.StateSteps.{Goes, event, may-happen, sections-left}
+use Rattle.gc_table.proofs.State.StateKept.{whole-kept}
 use Rattle.std.proofs.Common.{◌%◌, ◌++◌, ◌⊎◌, eq-eqb}
 use Rattle.mark_core.specs.Bits.{has_bit}
 use Rattle.mark_core.specs.Cells.{or_else}
 use Rattle.mark_core.specs.Held.{holds, has_length}
 use Rattle.mark_core.specs.Places.{head_at}
-use Rattle.mark_core.proofs.RegionWrites.{touches_heads}
+use Rattle.mark_core.proofs.Writing.RegionWrites.{touches_heads}
 use Rattle.mark_core.specs.declared.kinds.Step.TheVariants.{StoreLength, ReadLength}
 use Rattle.mark_core.specs.Places.{the_phase}
 use Rattle.mark_core.specs.Strong.{IsStrongSeat}
-use Rattle.mark_core.specs.WorldRules.{is_stopped_phase}
+use Rattle.mark_core.specs.Rules.WorldRules.{is_stopped_phase}
 use Rattle.mark_core.specs.declared.kinds.Step.TheVariants.{ReadPhase}
 use Rattle.mark_core.proofs.Notes.NotesBeside.{sits, of-sits}
 use Rattle.mark_core.proofs.Notes.NotesKept.{single-word}

@@ -13,7 +13,7 @@ use Rattle.mark_core.specs.declared.kinds.Shape.{Shape}
 use Rattle.mark_core.specs.declared.kinds.Step.{Step}
 use Rattle.mark_core.specs.declared.kinds.Step.TheVariants.{Pop, Look, ReadCount, ReadLength, ReadAlloc, ReadField, ReadRoot, ReadMarks, ReadCard, ReadPhase, ReadOwn, ReadValue, ReadIdent, ReadCat, ReadFree, StoreNew, Observe, DropStep, StorePhase, ReadBlockMarks, Reset, AddStat, ReadStat, OpenStep, SeeHelp, ReadSeason}
 use Rattle.mark_core.specs.declared.seat.SeatState.{SeatState}
-use Rattle.mark_core.proofs.Writes.{at_part, at_counter}
+use Rattle.mark_core.proofs.Writing.Writes.{at_part, at_counter}
 use Rattle.gc_table.specs.declared.view.View.{View}
 use Rattle.gc_table.specs.Log.{Only}
 use Rattle.gc_table.specs.Notes.{Notes, look, if_kept, noting}
@@ -146,24 +146,6 @@ known-step v step n at m spares s k h =
     spares)
     (λ (apart : same_place (place v.shape v.state step) at ≡ false). known-elsewhere v step n at m apart k h)
     (cases_Bool (same_place (place v.shape v.state step) at))
-
--- a call of steps that leave the word, and with each of which its note may be kept
-pub known-kept : (P : Step → Bool) (at : ℕ × ℕ) (m : ℕ) → Spares P at → ((sh : Shape) (s : SeatState) (step : Step) (old : ℕ) → P step ≡ true → steady s at m ≡ true → steady (seat_after sh s step old) at m ≡ true) → (v w : View) → Ran v w → Only P v w → Known v at m → Known w at m
-known-kept P at m spares keeps v w r o k = run-keeps P (λ (x : View). Known x at m) (λ x step n p s q. known-step x step n at m (spares x.shape x.state step p) s (keeps x.shape x.state step n p q.1) q.0) v w r o k
-
--- how a seat stands to the world says which words it may note
-steady-by : ℕ × ℕ → ℕ → Standing → Bool
-steady-by at word s =
-    not (is_gate at)
-    && (s.alone
-    || (if same_place at the_phase then s.knows || s.admitted || (s.active && is_phase word Marking) || is_phase word Full
-    else if same_place at the_named then s.knows
-    else if same_place at the_season then s.knows || s.active
-    else false))
-
-pub steady-standing : (s t : SeatState) (at : ℕ × ℕ) (n : ℕ) → standing_of t ≡ standing_of s → steady s at n ≡ true → steady t at n ≡ true
-unfolding steady-by
-steady-standing s t at n e h = ap (steady-by at n) e ∙ h
 
 -- a seat that is alone notes all words but those that count seats
 pub alone-steady : (s : SeatState) (at : ℕ × ℕ) (n : ℕ) → is_gate at ≡ false → s.alone ≡ true → steady s at n ≡ true

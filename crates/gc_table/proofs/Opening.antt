@@ -14,7 +14,7 @@ use Rattle.mark_core.specs.Shapes.{IsShape}
 use Rattle.mark_core.specs.Places.{the_world}
 use Rattle.mark_core.specs.Start.{start_seat, start_words}
 use Rattle.mark_core.specs.Steps.{Core, AllTrue, after_of, after_event, start_core}
-use Rattle.mark_core.specs.WorldSteps.{split_parts}
+use Rattle.mark_core.specs.Steps.WorldSteps.{split_parts}
 use Rattle.mark_core.specs.declared.kinds.Event.{Event}
 use Rattle.mark_core.specs.declared.kinds.Shape.{Shape}
 use Rattle.mark_core.specs.declared.kinds.Step.TheVariants.{Split}
@@ -34,10 +34,10 @@ use Rattle.gc_table.specs.Rule.{record_of, records_from, table_state, IsState, H
 use Rattle.gc_table.proofs.Allowed.{St}
 use Rattle.gc_table.proofs.Records.{record-live, records-get, records-set, records-snoc, records-length, got-longer}
 use Rattle.gc_table.specs.Past.{log_of, IsLogged}
-use Rattle.gc_table.proofs.Past.{led-on, log-none, log-still}
-use Rattle.gc_table.proofs.StateSteps.{Goes, event, may-happen, sections-left}
-use Rattle.gc_table.proofs.StateKept.{whole-kept}
-use Rattle.gc_table.proofs.StateStart.{whole-starts}
+use Rattle.gc_table.proofs.History.Past.{led-on, log-none, log-still}
+use Rattle.gc_table.proofs.State.StateSteps.{Goes, event, may-happen, sections-left}
+use Rattle.gc_table.proofs.State.StateKept.{whole-kept}
+use Rattle.gc_table.proofs.State.StateStart.{whole-starts}
 
 pub at-end : {A : Type 0} (l : List A) (a b : A) (j : ℕ) → get_elem? (l ++ a ∷ []) j ≡ some b → (get_elem? l j ≡ some b) ⊎ ((j ≡ length l) × (a ≡ b))
 at-end [] a b zero e = inr (refl, some-injective a b e)

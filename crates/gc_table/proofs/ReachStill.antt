@@ -9,7 +9,7 @@ use Rattle.mark_core.proofs.Blocks.BlocksTaken.{Taken}
 use Rattle.mark_core.proofs.References.ReferencesRoots.{stores_root, roots-same}
 use Rattle.mark_core.specs.declared.kinds.Step.{Step}
 use Rattle.mark_core.specs.declared.seat.SeatState.{SeatState}
-use Rattle.gc_table.proofs.StandsWords.{stores_cell, fields-same}
+use Rattle.gc_table.proofs.Stands.StandsWords.{stores_cell, fields-same}
 
 -- cell y is reachable by the words that the step leaves
 abbrev pub ReachedAfter : Core → SeatState → Step → ℕ → Type 0

@@ -6,7 +6,7 @@ use Rattle.mark_core.specs.declared.kinds.Shape.{Shape}
 use Rattle.mark_core.specs.declared.kinds.Step.{Step}
 use Rattle.mark_core.specs.declared.kinds.Step.TheVariants.{ReadOwn, ReadCat, StoreField, StoreValue, StoreRoot, StoreNew, StorePosition, StorePhase, NextSeason}
 use Rattle.mark_core.specs.declared.seat.SeatState.{SeatState}
-use Rattle.mark_core.proofs.Frames.{identity_of, identity-kept}
+use Rattle.mark_core.proofs.Writing.Frames.{identity_of, identity-kept}
 use Rattle.plain_heap.specs.declared.operation.Op.{Op}
 use Rattle.gc_table.specs.declared.view.Entry.{Entry}
 use Rattle.gc_table.specs.declared.view.View.{View}
@@ -16,7 +16,7 @@ use Rattle.gc_table.specs.Running.{is_store, IsSeen, after_all, AllSeen, Ran, ch
 use Rattle.gc_table.specs.Sections.{section_after}
 use Rattle.gc_table.specs.Seats.{Found, Took, Answered, Stored}
 use Rattle.gc_table.specs.Taking.{after}
-use Rattle.gc_table.proofs.Log.{grows-refl, grows-join, grows-after, events-none, events-after, events-join, only-join}
+use Rattle.gc_table.proofs.History.Log.{grows-refl, grows-join, grows-after, events-none, events-after, events-join, only-join}
 
 grows-all : (es : List Entry) (v : View) → Grows v (after_all es v)
 grows-all [] v = grows-refl v

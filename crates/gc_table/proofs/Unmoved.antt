@@ -11,8 +11,8 @@ use Rattle.mark_core.specs.Places.{the_phase}
 use Rattle.mark_core.specs.Steps.{Core, AllTrue}
 use Rattle.mark_core.specs.Laws.{IsCore}
 use Rattle.mark_core.specs.Views.{Standing, standing_of, standings}
-use Rattle.mark_core.specs.WorldRules.{is_raised, is_stopped_phase}
-use Rattle.mark_core.specs.WorldSteps.{is_stopped}
+use Rattle.mark_core.specs.Rules.WorldRules.{is_raised, is_stopped_phase}
+use Rattle.mark_core.specs.Steps.WorldSteps.{is_stopped}
 use Rattle.mark_core.specs.declared.kinds.Shape.{Shape}
 use Rattle.mark_core.specs.declared.kinds.Step.{Step}
 use Rattle.mark_core.specs.declared.kinds.Step.TheVariants.{ReadPhase, RaiseStep, Observe, DropStep, StorePhase, StoreNew, Reset, AddStat, ReadStat}
@@ -20,7 +20,7 @@ use Rattle.mark_core.specs.declared.seat.SeatState.{SeatState}
 use Rattle.mark_core.proofs.Blocks.BlocksAlone.{one-passes}
 use Rattle.mark_core.proofs.Notes.NotesBeside.{Sits, sits}
 use Rattle.mark_core.proofs.World.WorldReading.{any-passes, some-passes}
-use Rattle.mark_core.proofs.Writes.{at_part, at_counter}
+use Rattle.mark_core.proofs.Writing.Writes.{at_part, at_counter}
 use Rattle.gc_table.specs.declared.view.Entry.{Entry}
 use Rattle.gc_table.specs.Stopping.{moves_on, moved_from, has_moved}
 

@@ -1,6 +1,7 @@
 -- What the log of a seat has of a step.
 use Rattle.std.specs.Prelude.{ℕ, ◌%◌, ◌==◌, Bool, true, false, not}
 use Rattle.mark_core.specs.Bits.{has_bit, has_flag}
+use Rattle.mark_core.specs.Cards.{block_cells}
 use Rattle.mark_core.specs.Seats.{is_phase}
 use Rattle.mark_core.specs.declared.kinds.Phase.{Phase}
 use Rattle.mark_core.specs.declared.kinds.Phase.TheVariants.{Idle, Marking}
@@ -16,7 +17,7 @@ moves_from n to = true
 -- the step got what it tried to get, where it found this word
 abbrev pub won : Step → ℕ → Bool
 won (Take q p) n = has_bit n (p % 64)
-won (SetMark c) n = not (has_bit n (c % 64))
+won (SetMark c) n = not (has_bit n (c % block_cells))
 won (ClearCard card) n = n == 1
 won (ReadCard card) n = n == 1
 won (ClaimBlock b) n = n == 0

@@ -4,6 +4,7 @@ use Rattle.mark_core.specs.Bits.{has_bit}
 use Rattle.mark_core.specs.Cells.{or_else}
 use Rattle.mark_core.specs.Held.{holds, has_length}
 use Rattle.mark_core.specs.Notes.{word_at}
+use Rattle.mark_core.specs.Numbers.{empty_pool_number, low_pool_number, high_pool_number}
 use Rattle.mark_core.specs.Places.{head_at}
 use Rattle.mark_core.specs.Steps.{Core}
 use Rattle.mark_core.specs.declared.kinds.Shape.{Shape}
@@ -25,9 +26,9 @@ last_pool p (e ∷ es) = or_else (last_pool p es) (taken_out p e.step e.found)
 -- the range of the lengths of the packets in pool q
 abbrev pub is_in_range : Shape → ℕ → ℕ → Bool
 is_in_range sh q n =
-    if q == 0 then n == 0
-    else if q == 1 then nat_lt 0 n && nat_lt (2 * n) sh.entries
-    else if q == 2 then nat_le sh.entries (2 * n) && nat_le n sh.entries
+    if q == empty_pool_number then n == 0
+    else if q == low_pool_number then nat_lt 0 n && nat_lt (2 * n) sh.entries
+    else if q == high_pool_number then nat_le sh.entries (2 * n) && nat_le n sh.entries
     else nat_lt 0 n && nat_le n sh.entries
 
 -- a packet whose length the seat has yet to read is as long as it was in its pool

@@ -5,7 +5,7 @@ use Rattle.mark_core.specs.Steps.{Core, failing_part, after_event, first_refused
 use Rattle.mark_core.specs.Layout.{words_of}
 use Rattle.mark_core.specs.Views.{makers}
 use Rattle.mark_core.specs.Cells.{in_use}
-use Rattle.mark_core.specs.HeapRules.{section_of}
+use Rattle.mark_core.specs.Rules.HeapRules.{section_of}
 use Rattle.mark_core.specs.Closed.{IsReachableIn}
 use Rattle.mark_core.specs.Laws.{IsCore, NumbersFit}
 use Rattle.gc_table.specs.TableState.{TableState, state_after, start_state, AskedIn}

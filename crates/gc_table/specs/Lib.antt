@@ -6,7 +6,7 @@ pub mod Past
 pub mod Rule
 pub mod Taking
 pub mod Operations
-pub mod Trials
+pub mod SeatRecords
 pub mod Seats
 pub mod StandsFor
 pub mod PlainSteps

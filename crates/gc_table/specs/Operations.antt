@@ -33,6 +33,6 @@ pub record MayTake (h : Heap) (t : Token) (word : ℕ) (step : Step) : Type 0 wh
 abbrev pub Writes : Step → (ℕ → ℕ) → View → Type 0
 Writes step f v = (n : ℕ) → written v.shape v.state step n ≡ f n
 
--- the same seat has taken the step, and was told n
+-- the seat has taken the step, and was told n
 abbrev pub HasTaken : Step → ℕ → Token → Token → Type 0
 HasTaken step n t u = (u.table_id ≡ t.table_id) × (u.id ≡ t.id) × (u.me ≡ (after step n t.me.0, [])) × IsPossible u.me.0

@@ -1,6 +1,7 @@
 -- What each step does to the plain heap of its seat's section, and what is asked of the steps that store.
 use Rattle.std.specs.Prelude.{ℕ, zero, suc, ◌≡◌, ◌+◌, ◌<◌, ◌==◌, if◌then◌else◌, List, [], ◌∷◌, length, Bool, true, false, Option, Some, None, IsTrue, unwrap_or, slice_get, slice_set, slice_index_or}
-use Rattle.mark_core.specs.MutatorSteps.{names_last, variable as word_in}
+use Rattle.mark_core.specs.Bits.{flag}
+use Rattle.mark_core.specs.Steps.MutatorSteps.{names_last, variable as word_in}
 use Rattle.mark_core.specs.declared.kinds.Shape.{Shape}
 use Rattle.mark_core.specs.declared.kinds.Phase.{Phase}
 use Rattle.mark_core.specs.declared.kinds.Phase.TheVariants.{Full}
@@ -107,12 +108,12 @@ IsAssignment s m catalogue v r op = ⊥
 -- what is asked of a step besides its own condition, by the seat's record, what it stands for, and what it sees of the catalogue
 abbrev pub Asks : SeatState → Meaning → Option Heap → Step → Op → Type 0
 Asks s m catalogue (StoreField v i w) op = HasSeenPhase s × IsSet m.heap v i w op
-Asks s m catalogue (StoreValue v n) op = HasSeenPhase s × (op ≡ ops.Put v n) × (n < 4294967296)
+Asks s m catalogue (StoreValue v n) op = HasSeenPhase s × (op ≡ ops.Put v n) × (n < flag)
 Asks s m catalogue (StoreRoot v r) op = HasSeenPhase s × IsAssignment s m catalogue v r op
 Asks s m catalogue (StoreNew c part word) op = part ≡ 0 → length m.heap.objects ≡ s.made
 Asks s m catalogue step op = Unit {0}
 
--- the same, of the seat of a section among all
+-- what is asked besides of a step of this seat, by what all sections mean
 abbrev pub AsksIn : SeatState → List Meaning → Step → Op → Type 0
 AsksIn s ms step op = Asks s (meaning_of ms (own_section s)) (seen_in ms (own_section s)) step op
 

@@ -7,7 +7,7 @@ use Rattle.mark_core.specs.Bits.{flag}
 use Rattle.mark_core.specs.Seats.{has_making, makes, last_made}
 use Rattle.mark_core.specs.Views.{makers}
 use Rattle.mark_core.specs.Cells.{in_use, field}
-use Rattle.mark_core.specs.HeapRules.{section_of, number_of}
+use Rattle.mark_core.specs.Rules.HeapRules.{section_of, number_of}
 use Rattle.mark_core.specs.Steps.{Core}
 use Rattle.mark_core.specs.declared.kinds.Shape.{Shape}
 use Rattle.mark_core.specs.declared.seat.SeatState.{SeatState}
@@ -88,11 +88,11 @@ pub record Stands (sh : Shape) (roots identities values fields : List ℕ) (used
   -- a section without a seat has done nothing
   pub unseated : (w : ℕ) (m : Meaning) → length seats ≤ w → slice_get ms w ≡ Some m → (m.got ≡ refs.Nil) × (length m.heap.objects ≡ 0)
 
--- the same, of words and seats
+-- these words and seats agree with what they mean
 abbrev pub StandsIn : Shape → Words → List SeatState → List Meaning → Type 0
 StandsIn sh w seats ms = Stands sh w.roots w.identities w.values w.fields (λ c. IsTrue (in_use w.allocs (makers seats) c)) seats ms
 
--- the same of a state
+-- the words and seats of this state agree with what they mean
 abbrev pub StandsFor : Core → List Meaning → Type 0
 StandsFor c ms = StandsIn c.shape (words_of c.shape c.words) c.seats ms
 

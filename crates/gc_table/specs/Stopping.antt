@@ -3,7 +3,7 @@ use Rattle.std.specs.Prelude.{List, [], ◌∷◌, Bool, true, false, IsTrue, Is
 use Rattle.mark_core.specs.Notes.{word_at}
 use Rattle.mark_core.specs.Places.{the_phase}
 use Rattle.mark_core.specs.Steps.{Core}
-use Rattle.mark_core.specs.WorldRules.{is_stopped_phase}
+use Rattle.mark_core.specs.Rules.WorldRules.{is_stopped_phase}
 use Rattle.mark_core.specs.declared.kinds.Step.{Step}
 use Rattle.mark_core.specs.declared.kinds.Step.TheVariants.{RaiseStep, StorePhase}
 use Rattle.gc_table.specs.declared.view.Entry.{Entry}

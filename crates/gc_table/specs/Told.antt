@@ -7,7 +7,7 @@ use Rattle.mark_core.specs.Bits.{cell_bit}
 use Rattle.mark_core.specs.Seats.{has_turn}
 use Rattle.mark_core.specs.Views.{makers}
 use Rattle.mark_core.specs.Cells.{in_use, IsReachable}
-use Rattle.mark_core.specs.HeapRules.{section_of, number_of}
+use Rattle.mark_core.specs.Rules.HeapRules.{section_of, number_of}
 use Rattle.mark_core.specs.declared.kinds.Shape.{Shape}
 use Rattle.mark_core.specs.declared.kinds.Phase.TheVariants.{Full}
 use Rattle.mark_core.specs.declared.seat.SeatState.{SeatState}
@@ -102,6 +102,6 @@ pub record Tells (sh : Shape) (w : Words) (seats : List SeatState) (plan : List 
   pub fullness : Fullness sh w seats xs
   pub settled : IsSettled sh w seats (section_at xs 0)
 
--- the same of a state
+-- what is told of the sections is true in this state
 abbrev pub IsTold : TableState → Type 0
 IsTold x = Tells x.core.shape (words_of x.core.shape x.core.words) x.core.seats x.plan x.sections

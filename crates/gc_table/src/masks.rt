@@ -1,9 +1,6 @@
-//! The masks of single bits, and the flag above a count of seats.
+//! The masks of single bits.
 ghost use Rattle.std.specs.Prelude.{◌≡◌, ◌<◌, ◌^◌};
 ghost use Rattle.mark_core.specs.Bits.{complement};
-
-/// The flag of a stop or of help, in a word that counts seats below it.
-pub const FLAG: u64 = 4_294_967_296;
 
 /// Bit i alone.
 pub fn bit(i: u32) -> u64

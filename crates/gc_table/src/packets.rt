@@ -1,4 +1,4 @@
-//! The steps on packets. The pools are 0 empty, 1 low, 2 high, 3 deferred.
+//! The steps on packets. `mark_core` names the numbers of the pools (`EMPTY_POOL` to `DEFERRED_POOL`).
 ghost use Rattle.std.specs.Prelude.{◌≡◌};
 ghost use Rattle.mark_core.specs.Bits.{cell_of as cell_of_word};
 ghost use Rattle.mark_core.specs.Held.{length_in_hand};
@@ -63,8 +63,8 @@ impl Heap {
         self.store_step(seat, Step::Push { p, cell });
     }
 
-    /// The same for a caller that knows how many cells are in the packet, as `packet_pools` does: its length isn't
-    /// looked up.
+    /// Puts a grey cell into packet p, for a caller that knows how many cells are in it, as `packet_pools` does: its
+    /// length isn't looked up.
     #[inline(always)]
     pub fn push_at(&self, seat: &mut HeapSeat, p: u32, length: u32, cell: Cell)
         requires seat { Sits self.now seat.old }
@@ -90,8 +90,8 @@ impl Heap {
         cell_of(self.load_step(seat, Step::Pop { p }))
     }
 
-    /// The same for a caller that knows how many cells are in the packet, as `packet_pools` does: its length isn't
-    /// looked up.
+    /// Takes the grey cell that was put into packet p last, for a caller that knows how many cells are in it, as
+    /// `packet_pools` does: its length isn't looked up.
     #[inline(always)]
     pub fn pop_at(&self, seat: &mut HeapSeat, p: u32, length: u32) -> Cell
         requires seat { Sits self.now seat.old }

@@ -1,6 +1,6 @@
 //! The steps of the sweep and of the counters.
 ghost use Rattle.std.specs.Prelude.{◌≡◌};
-ghost use Rattle.mark_core.specs.SweepSteps.{survivors};
+ghost use Rattle.mark_core.specs.Steps.SweepSteps.{survivors};
 ghost use Rattle.gc_table.specs.Seats.{Across, Found, Sits, state_of, Stored, Took, view_of};
 ghost use Rattle.gc_table.specs.Taking.{May};
 
@@ -89,7 +89,7 @@ impl Heap {
         self.store_step(seat, Step::StoreNamed);
     }
 
-    /// Sets a counter or statistic, 0 to 4, to 0.
+    /// Sets a counter or statistic, `CARD_COUNTER` to `TRACED`, to 0.
     pub fn reset(&self, seat: &mut HeapSeat, which: u8)
         requires seat { Sits self.now seat.old }
         requires may { May (Step.Reset which) (view_of seat.old) }
@@ -99,7 +99,7 @@ impl Heap {
         self.store_step(seat, Step::Reset { which });
     }
 
-    /// A counter, a statistic, the named section (7), or a position (8 and the section).
+    /// A counter, a statistic, the named section (`NAMED_SECTION`), or a position (`FIRST_POSITION` and the section).
     pub fn read_stat(&self, seat: &mut HeapSeat, which: u8) -> u64
         requires seat { Sits self.now seat.old }
         requires may { May (Step.ReadStat which) (view_of seat.old) }
@@ -109,7 +109,7 @@ impl Heap {
         self.load_step(seat, Step::ReadStat { which })
     }
 
-    /// Adds to a statistic, 2 to 6, or takes from it.
+    /// Adds to a statistic, `LAST` to `DONE`, or takes from it.
     pub fn add_stat(&self, seat: &mut HeapSeat, which: u8, by: u32, down: bool)
         requires seat { Sits self.now seat.old }
         requires may { May (Step.AddStat which by down) (view_of seat.old) }

@@ -6,7 +6,7 @@ ghost use Rattle.gc_table.specs.Taking.{May, won};
 
 use crate::masks::bit;
 use crate::seat::{Heap, HeapSeat};
-use mark_core::{Cell, Phase, Step, has_bit, phase_of};
+use mark_core::{BLOCK_CELLS, Cell, Phase, Step, has_bit, phase_of};
 
 impl Heap {
     /// The allocation bits of block b.
@@ -46,8 +46,8 @@ impl Heap {
         ensures seat { Sits self.now seat.new }
         ensures view { Across (Answered (Step.SetMark c) (λ n. result ≡ won (Step.SetMark c) n)) seat.old seat.new }
     {
-        let found = self.fetch_or_step(seat, bit(c.number() % 64), Step::SetMark { c });
-        !has_bit(found, c.number() % 64)
+        let found = self.fetch_or_step(seat, bit(c.number() % BLOCK_CELLS), Step::SetMark { c });
+        !has_bit(found, c.number() % BLOCK_CELLS)
     }
 
     /// Dirties a card, which answers for what the seat owes it.

@@ -79,7 +79,7 @@ pub struct View {
     pub plan: LinkedList<LinkedList<Op>>,
     /// What the seat's section has come to, where it has one.
     pub own: SectionState,
-    /// The same of the sections of the seats that were joined into this one.
+    /// What the sections of the seats that were joined into this one have come to, by the numbers of the seats.
     pub joined: LinkedList<(u32, SectionState)>,
     /// The logs of the seats that were joined into this one, by their numbers.
     pub logs: LinkedList<(u32, LinkedList<Entry>)>,

@@ -3,9 +3,8 @@ ghost use Rattle.std.specs.Prelude.{◌≡◌};
 ghost use Rattle.gc_table.specs.Seats.{Across, Answered, Found, Sits, Took, view_of};
 ghost use Rattle.gc_table.specs.Taking.{Asked, May, won};
 
-use crate::masks::FLAG;
 use crate::seat::{Heap, HeapSeat};
-use mark_core::{Phase, Step, has_flag, phase_number};
+use mark_core::{FLAG, Phase, Step, has_flag, phase_number};
 
 impl Heap {
     /// Enters the world: true where the seat is active, since no stop is under way.

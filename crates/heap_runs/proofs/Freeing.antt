@@ -6,8 +6,8 @@ use Rattle.mark_core.specs.Laws.{IsCore}
 use Rattle.mark_core.specs.Closed.{IsReachableIn, is_published}
 use Rattle.mark_core.specs.declared.kinds.Event.{Event}
 use Rattle.mark_core.proofs.CoreKept.{core-starts}
-use Rattle.mark_core.proofs.Staying.{reachable-stay}
-use Rattle.gc_table.proofs.Past.{run-first, run-sound}
+use Rattle.mark_core.proofs.Consequences.Staying.{reachable-stay}
+use Rattle.gc_table.proofs.History.Past.{run-first, run-sound}
 use Rattle.heap_runs.specs.Runs.{AreAllowed, NoneFreed}
 
 -- what is so in one state stays in another

@@ -3,8 +3,8 @@ use Rattle.std.proofs.Common.{◌≡◌, ◌+◌, ℕ, List, [], ◌∷◌}
 use Rattle.std.specs.Prelude.{None}
 use Rattle.mark_core.specs.Steps.{Core, first_refused, start_core}
 use Rattle.mark_core.specs.declared.kinds.Event.{Event}
-use Rattle.gc_table.proofs.Past.{first-allowed}
-use Rattle.gc_table.proofs.Ran.{closed-ran}
+use Rattle.gc_table.proofs.History.Past.{first-allowed}
+use Rattle.gc_table.proofs.History.Ran.{closed-ran}
 use Rattle.heap_runs.specs.Runs.{AreAllowed}
 use Rattle.heap_runs.specs.Threads.{ThreadsFreeNone}
 use Rattle.heap_runs.proofs.Freeing.{stays}

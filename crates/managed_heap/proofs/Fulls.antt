@@ -2,11 +2,11 @@
 use Rattle.std.proofs.Common.{◌≡◌, true, refl}
 use Rattle.gc_table.specs.Rule.{KnowsFull}
 use Rattle.gc_table.specs.declared.view.View.{View}
-use Rattle.gc_table.proofs.Log.{only-more}
+use Rattle.gc_table.proofs.History.Log.{only-more}
 use Rattle.mark_core.specs.declared.kinds.Step.{Step}
 use Rattle.mark_core.specs.declared.kinds.Step.TheVariants.{RaiseStep}
 use Rattle.gc_cycle.specs.Mutating.{GoesOut, stays_calm, tries_stopping}
-use Rattle.gc_cycle.proofs.Fulls.{full-known}
+use Rattle.gc_cycle.proofs.Refills.KnownFull.{full-known}
 
 calm-tries : (step : Step) → stays_calm step ≡ true → tries_stopping step ≡ true
 calm-tries RaiseStep e = refl

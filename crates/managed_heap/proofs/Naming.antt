@@ -6,7 +6,7 @@ use Rattle.std.proofs.Math.Logic.{∥∥₁_elim}
 use Rattle.std.proofs.Props.{props}
 use Rattle.std.proofs.lemmas.Bool.{or_right}
 use Rattle.mark_core.specs.Layout.{words_of}
-use Rattle.mark_core.specs.MutatorSteps.{variable as word_in}
+use Rattle.mark_core.specs.Steps.MutatorSteps.{variable as word_in}
 use Rattle.mark_core.specs.Seats.{may_mutate}
 use Rattle.mark_core.specs.declared.kinds.Step.TheVariants.{ReadCount}
 use Rattle.mark_core.proofs.Formed.FormedLearns.{used-exists}
@@ -20,7 +20,7 @@ use Rattle.gc_table.specs.Rule.{Agrees, IsPossible, IsState}
 use Rattle.gc_table.specs.StandsFor.{WordAgrees, name_at, object_count}
 use Rattle.gc_table.specs.TableState.{TableState, meanings_of}
 use Rattle.gc_table.specs.declared.view.View.{View}
-use Rattle.gc_table.proofs.StandsSeat.{looks}
+use Rattle.gc_table.proofs.Stands.StandsSeat.{looks}
 use Rattle.card_clean.proofs.Owned.{variable-there}
 use Rattle.mutator_ops.proofs.Knowing.{any-at, known-variable, nil-variable}
 

@@ -11,7 +11,7 @@ use Rattle.mark_core.specs.declared.kinds.Step.TheVariants.{ReadPhase, ReadSeaso
 use Rattle.mark_core.specs.declared.seat.SeatState.{SeatState}
 use Rattle.gc_table.specs.Log.{events}
 use Rattle.gc_table.specs.Running.{Ran}
-use Rattle.gc_table.proofs.Running.{ran-found, ran-plan, ran-refl, ran-shape}
+use Rattle.gc_table.proofs.Running.{ran-found, ran-plan, ran-refl}
 use Rattle.alloc_cache.specs.Caching.{is_whole}
 use Rattle.gc_table.specs.PlainSteps.{HasSeenPhase}
 use Rattle.gc_table.specs.Seats.{Found, Sits, view_of}
@@ -27,9 +27,9 @@ use Rattle.gc_cycle.specs.declared.counts.Safe.TheVariants as safes
 use Rattle.gc_cycle.specs.Polling.{saw_full}
 use Rattle.gc_cycle.specs.Sorts.{reads_phase}
 use Rattle.gc_cycle.specs.Standing.{KeepsSeat, KeepsSection, Mutates, is_at_rest}
-use Rattle.gc_cycle.proofs.Answered.{cached-still}
+use Rattle.gc_cycle.proofs.Refills.Answered.{cached-still}
+use Rattle.seat_turns.specs.Turning.{LooksAtSeason}
 use Rattle.managed_heap.specs.Standing.{Halts, IsAtTurn, IsMutator, Plays, Works, saw_going}
-use Rattle.managed_heap.specs.Turning.{LooksAtSeason}
 
 -- the phase that was read last isn't Full, where none was read as Full
 none_some : (p : Phase) → None ≡ Some p → ⊥
@@ -204,20 +204,7 @@ plays-turn h x p cache =
     let s : SeatState = (view_of x).state in
     record { works = p.works; turn = (and_parts s.active (has_turn s.section s.season_seen) p.ready.stores.turn).1; phase = seen-saw s p.ready.stores.seen; cache = cache }
 
--- a mutator that gave its cache up is one between two calls
-pub retired-mutates : (v w : View) → Mutates v → Ran v w → w.state ≡ record v.state { cache = None } → Mutates w
-retired-mutates v w m ran state =
-    let s : SeatState = v.state in
-    record {
-      active = ap (λ (x : SeatState). x.active) state ∙ m.active;
-      unhelping = ap (λ (x : SeatState). x.helping) state ∙ m.unhelping;
-      section = ap (λ (x : SeatState). is_some x.section) state ∙ m.section;
-      rest =
-          (λ i. is_at_rest (ran-shape v w ran i) (state i))
-          ∙ and_from _ _ (and_parts (empty_handed s && not (work_in_hand v.shape.fields s) && is_none s.owes && is_none s.block && (s.got == 0)) (not (has_making s.cache)) m.rest).0 refl;
-    }
-
--- so is one that collected
+-- a mutator that collected is one between two calls
 pub collected-mutates : (kept : Option Cache) (done : ℕ) (v w : View) → CollectsTo (safes.Going kept) done v w → Mutates w
 collected-mutates None done v w c = c.goes_on.mutates
 collected-mutates (Some h) done v w c = absurd c

@@ -1,6 +1,4 @@
 -- Where a mutator's seat stands between the steps of a collection of its own.
-use Rattle.std.specs.Prelude.{◌≡◌}
-use Rattle.gc_table.specs.Rule.{KnowsFull}
 use Rattle.gc_table.specs.Seats.{Sits, view_of}
 use Rattle.gc_table.specs.declared.seat.Heap.{Heap}
 use Rattle.gc_table.specs.declared.seat.HeapSeat.{HeapSeat}

@@ -11,4 +11,3 @@ pub mod Standing
 pub mod Stepping
 pub mod Tracing
 pub mod Trying
-pub mod Turning

@@ -6,7 +6,7 @@ use Rattle.mark_core.specs.declared.kinds.Shape.{Shape}
 use Rattle.mark_core.specs.declared.seat.SeatState.{SeatState}
 use Rattle.gc_table.specs.Seats.{IsFresh, Sits, view_of}
 use Rattle.gc_table.specs.Sections.{start_section}
-use Rattle.gc_table.specs.Trials.{At}
+use Rattle.gc_table.specs.SeatRecords.{At}
 use Rattle.gc_table.specs.declared.seat.Heap.{Heap}
 use Rattle.gc_table.specs.declared.seat.HeapSeat.{HeapSeat}
 use Rattle.gc_table.specs.declared.view.View.{View}

@@ -1,9 +1,8 @@
--- Where a mutator's seat stands: outside the world, in it between two calls, and at its turn; and where a tracer's does.
-use Rattle.std.specs.Prelude.{◌≡◌, [], length, Bool, true, false, Option, Some, None, IsTrue, IsFalse}
-use Rattle.mark_core.specs.Seats.{has_turn, saw}
-use Rattle.mark_core.specs.WorldSteps.{has_nothing}
+-- Where a mutator's seat stands: outside the world, in it between two calls, and at its turn; and where a tracer's does between two turns.
+use Rattle.std.specs.Prelude.{◌≡◌, [], length, Bool, true, false, Option, Some, None, IsTrue}
+use Rattle.mark_core.specs.Seats.{has_turn}
 use Rattle.mark_core.specs.declared.kinds.Phase.{Phase}
-use Rattle.mark_core.specs.declared.kinds.Phase.TheVariants.{Full, Marking}
+use Rattle.mark_core.specs.declared.kinds.Phase.TheVariants.{Full}
 use Rattle.plain_heap.specs.PlainHeap.{Heap as PlainHeap}
 use Rattle.gc_table.specs.declared.seat.Heap.{Heap}
 use Rattle.gc_table.specs.declared.seat.HeapSeat.{HeapSeat}
@@ -62,16 +61,3 @@ pub record IsAtTurn (h : Heap) (s : HeapSeat) : Type 0 where
 pub record Rests (h : Heap) (s : HeapSeat) : Type 0 where
   pub sits : Sits h s
   pub out : IsOut (view_of s)
-
--- a seat in the world, with nothing in hand
-pub record Goes (h : Heap) (s : HeapSeat) : Type 0 where
-  pub sits : Sits h s
-  pub active : IsTrue (view_of s).state.active
-  pub unraised : IsFalse (view_of s).state.raised
-  pub unhelping : IsFalse (view_of s).state.helping
-  pub idle : IsTrue (has_nothing (view_of s).shape (view_of s).state)
-
--- besides, it has read that marking is under way
-pub record Marks (h : Heap) (s : HeapSeat) : Type 0 where
-  pub goes : Goes h s
-  pub marking : IsTrue (saw (view_of s).state.phase_seen Marking)

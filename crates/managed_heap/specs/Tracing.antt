@@ -1,11 +1,10 @@
 -- What a turn of a tracer does, told by what its seat knew at each of its moments.
-use Rattle.std.specs.Prelude.{ℕ, ◌≡◌, ◌<◌, ◌⊎◌, ◌==◌, List, [], ◌∷◌, not, Bool, true, false, IsTrue}
+use Rattle.std.specs.Prelude.{ℕ, ◌≡◌, ◌<◌, ◌⊎◌, List, [], ◌∷◌, false, IsTrue}
 use Rattle.mark_core.specs.Numbers.{done_count, traced_count}
 use Rattle.mark_core.specs.Seats.{phase_of}
 use Rattle.mark_core.specs.declared.kinds.Phase.{Phase}
 use Rattle.mark_core.specs.declared.kinds.Phase.TheVariants as phases
-use Rattle.mark_core.specs.declared.kinds.Step.{Step}
-use Rattle.mark_core.specs.declared.kinds.Step.TheVariants.{AddStat, EnterStep, LeaveStep, ReadPhase, ReadStat}
+use Rattle.mark_core.specs.declared.kinds.Step.TheVariants.{AddStat, LeaveStep, ReadPhase, ReadStat}
 use Rattle.gc_table.specs.Log.{Only, events}
 use Rattle.gc_table.specs.Running.{Ran}
 use Rattle.gc_table.specs.Seats.{Answered, Found, Took}
@@ -16,23 +15,11 @@ use Rattle.tracer.specs.Causes.{FoundNoWork}
 use Rattle.tracer.specs.Tally.{pops}
 use Rattle.gc_cycle.specs.Polling.{saw_resumed}
 use Rattle.gc_cycle.specs.Turns.{HelpsInTurns}
+use Rattle.seat_turns.specs.Tending.{tends, turn_quota}
 use Rattle.managed_heap.specs.declared.background.Turn.{Turn}
 use Rattle.managed_heap.specs.declared.background.Turn.TheVariants as turns
 
--- how many objects a turn traces, where there are as many
-abbrev pub turn_quota : ℕ
-turn_quota = 64
-
--- the step neither enters nor leaves, reads neither the phase nor how often the tracers were dismissed, and adds to no number
-abbrev pub tends : Step → Bool
-tends EnterStep = false
-tends LeaveStep = false
-tends ReadPhase = false
-tends (ReadStat which) = not (which == done_count)
-tends (AddStat which by down) = false
-tends step = true
-
--- the seat took such steps, and traced nothing
+-- the seat took steps of a tracer inside the world, and traced nothing
 pub record Tended (v w : View) : Type 0 where
   pub ran : Ran v w
   pub only : Only tends v w
@@ -45,7 +32,7 @@ pub record Traces (traced : ℕ) (v w : View) : Type 0 where
   pub done : count_of pops (events v w) ≡ traced
   pub ends : (traced ≡ turn_quota) ⊎ ((traced < turn_quota) × FoundNoWork v w)
 
--- the seat traced, tended to cards and to what was put off, and told by one step how many objects it traced
+-- the seat traced, tended to cards and to what was deferred, and told by one step how many objects it traced
 pub record HasMarked (v w : View) : Type 0 where
   pub count : ℕ
   pub traced : View

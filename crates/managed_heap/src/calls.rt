@@ -94,7 +94,7 @@ impl Mutator {
         self.make_watched(rt, v, value, &mut Unwatched)
     }
 
-    /// The same, and `watch` is told of each stop that this mutator makes for it, and of what it traces.
+    /// Makes an object as `make` does, and `watch` is told of each stop that this mutator makes for it, and of what it traces.
     pub fn make_watched<R: Wait, W: Watch>(
         &mut self,
         rt: &R,

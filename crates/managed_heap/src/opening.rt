@@ -6,7 +6,7 @@ ghost use Rattle.mark_core.specs.declared.kinds.Phase.TheVariants.{Idle};
 ghost use Rattle.gc_table.specs.Running.{Alone};
 ghost use Rattle.gc_table.specs.Seats.{Across, view_of};
 ghost use Rattle.gc_table.specs.Stopping.{has_moved};
-ghost use Rattle.gc_table.specs.Trials.{At, resting};
+ghost use Rattle.gc_table.specs.SeatRecords.{At, resting};
 ghost use Rattle.managed_heap.specs.Sizing.{Fits};
 ghost use Rattle.managed_heap.specs.Opening.{AreNew, IsNew, Keeps, Opens, flagged, stopped};
 

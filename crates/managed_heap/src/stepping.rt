@@ -19,7 +19,7 @@ use crate::tries::{enter_once, make_once, pass_once};
 const VARIABLES: u8 = 32;
 
 impl Mutator {
-    /// The same for a thread that may not wait. It is outside the world.
+    /// The mutator in steps, for a thread that may not wait. It is outside the world.
     pub fn into_steps(self) -> Stepper
         ensures outside { result.stage ≡ stages.Outside }
         ensures same { heap_in result ≡ heap_of self }
@@ -79,7 +79,7 @@ impl Stepper {
         }
     }
 
-    /// The same from outside.
+    /// Enters, from outside: one try.
     fn enter_from_outside(&mut self) -> Came
         requires outside { self.old.stage ≡ stages.Outside }
         ensures entered { Entered result self.old self.new }
@@ -119,7 +119,7 @@ impl Stepper {
         }
     }
 
-    /// The same inside.
+    /// A safe point, inside the world.
     fn pass_inside(&mut self) -> Came
         requires inside { self.old.stage ≡ stages.Inside }
         ensures passed { Passed result self.old self.new }
@@ -147,7 +147,7 @@ impl Stepper {
         }
     }
 
-    /// The same inside the world.
+    /// Makes an object, inside the world: a safe point, and a cell.
     fn make_inside(&mut self, v: u8, value: u32) -> Came
         requires inside { self.old.stage ≡ stages.Inside }
         requires range { v < 32 }

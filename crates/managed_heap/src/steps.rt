@@ -42,7 +42,7 @@ impl Stepper {
         self.take_step(STEP)
     }
 
-    /// The same, of a step with a bound: where it drains it pops so many objects, or as many as there are, and where it sweeps it sweeps at most so many
+    /// The next step of a collection, with a bound: where it drains it pops so many objects, or as many as there are, and where it sweeps it sweeps at most so many
     /// blocks. It is at least 1: 0 is out of range. A drain besides looks at each card, and cleans those that are dirty.
     pub fn collect_at_most(&mut self, most: u32) -> Came
         ensures collects { CollectsAtMost most result self.old self.new }

@@ -13,10 +13,11 @@ ghost use Rattle.managed_heap.specs.Stepping.{Arrives, LacksCell, Leaves, MakesO
 use crate::gates::leave;
 use crate::operations::make_in;
 use crate::stepper::Came;
-use crate::turns::{is_turn, keep_some, retire_some, with_free};
+use crate::turns::{TURN, keep_some, retire_some, with_free};
 use alloc_cache::{Cache, cache_of};
 use gc_cycle::{Pass, Refill, try_enter, try_refill, try_safe_point};
 use gc_table::{Heap, HeapSeat};
+use seat_turns::is_turn;
 
 /// Tries to enter the world.
 fn try_in(heap: &Heap, seat: &mut HeapSeat) -> Pass
@@ -46,7 +47,7 @@ fn comes_to_turn(heap: &Heap, seat: &mut HeapSeat, _cache: &Option<Cache>) -> bo
     ensures cache { HasCache _cache.now (view_of seat.new) }
     ensures same { plain_of seat.new ≡ plain_of seat.old }
 {
-    is_turn(heap, seat)
+    is_turn(heap, seat, TURN)
 }
 
 /// There is no cache to give up.

@@ -1,22 +1,22 @@
 //! A mutator comes to its turn, and to a cell to make an object in.
-ghost use Rattle.std.specs.Prelude.{◌≡◌, ◌<◌, Some, None, IfOk, IfErr, IsTrue};
+ghost use Rattle.std.specs.Prelude.{◌≡◌, ◌<◌, Some, IfOk, IfErr};
 ghost use Rattle.std.specs.Int.Count.{ones};
 ghost use Rattle.gc_table.specs.Running.{Ran};
-ghost use Rattle.gc_table.specs.Seats.{Across, Sits, state_of, view_of};
+ghost use Rattle.gc_table.specs.Seats.{Across, state_of, view_of};
 ghost use Rattle.alloc_cache.specs.Caching.{IsCached};
 ghost use Rattle.gc_cycle.specs.Answering.{HasCache};
 ghost use Rattle.managed_heap.specs.Halting.{Ended, EndsFull};
 ghost use Rattle.managed_heap.specs.Standing.{Halts, IsAtTurn, Plays, Works, plain_of};
-ghost use Rattle.managed_heap.specs.Turning.{LooksAtSeason};
 
 use crate::refused::Refused;
-use alloc_cache::{Cache, leave_with_seat, retire};
+use alloc_cache::{Cache, leave_with_seat};
 use gc_cycle::{Refill, Safe, Watch, refill_in_stops, refill_watched, safe_point};
 use gc_table::{Heap, HeapSeat};
+use seat_turns::is_turn;
 use std::sync::Wait;
 
 /// The season in which the mutators play: the catalogue's section has ended its turn, in which it made nothing.
-const TURN: u64 = 1;
+pub const TURN: u64 = 1;
 
 /// Gives a cache up, if there is one.
 pub fn retire_some(heap: &Heap, seat: &mut HeapSeat, cache: Option<Cache>)
@@ -26,9 +26,7 @@ pub fn retire_some(heap: &Heap, seat: &mut HeapSeat, cache: Option<Cache>)
     ensures same { plain_of seat.new ≡ plain_of seat.old }
     ensures ran { Across Ran seat.old seat.new }
 {
-    if let Some(cache) = cache {
-        retire(heap, seat, cache);
-    }
+    seat_turns::retire_some(heap, seat, cache);
 }
 
 /// Lets the cache go that stays the seat's, if there is one.
@@ -39,19 +37,6 @@ pub fn keep_some(_heap: &Heap, _seat: &HeapSeat, cache: Option<Cache>)
 {
     if let Some(cache) = cache {
         leave_with_seat(cache);
-    }
-}
-
-/// Whether it is the mutators' turn. The season is read only where the seat doesn't know it any more, as after a stop.
-pub fn is_turn(heap: &Heap, seat: &mut HeapSeat) -> bool
-    requires { Works heap.now seat.old }
-    ensures seat { Sits heap.now seat.new }
-    ensures looks { Across LooksAtSeason seat.old seat.new }
-    ensures turn { IsTrue result → (state_of seat.new).season_seen ≡ Some 1 }
-{
-    match seat.state().season_seen {
-        Some(season) => season == TURN,
-        None => heap.read_season(seat) == TURN,
     }
 }
 
@@ -76,7 +61,7 @@ pub fn pass<R: Wait>(
         match safe_point(rt, heap, seat, cache, made) {
             Safe::Full => return Err(Refused::Full),
             Safe::Going(kept) => {
-                if is_turn(heap, seat) {
+                if is_turn(heap, seat, TURN) {
                     return Ok(kept);
                 }
                 cache = kept;
@@ -105,7 +90,7 @@ fn fill_beside<R: Wait, W: Watch>(
     }
 }
 
-/// The same of a mutator that collects in stops alone.
+/// A cache with a free cell, for a mutator that collects in stops alone.
 fn fill_in_stops<R: Wait, W: Watch>(
     rt: &R,
     heap: &Heap,

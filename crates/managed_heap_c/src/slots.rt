@@ -46,7 +46,7 @@ impl Model for WorldSlot {
     ghost also_owns = { λ s. whole_filled s.at s.whole };
 }
 
-/// A handle with what lies at the address.
+/// A mutator's handle with what lies at the address.
 fn hand_sealed(loose: Loose<Hand, Global>) -> MutatorSlot
     ensures filled { result.hand ≡ Some loose.value }
 {
@@ -54,7 +54,7 @@ fn hand_sealed(loose: Loose<Hand, Global>) -> MutatorSlot
     MutatorSlot { at: at as *mut u8 }
 }
 
-/// The same of a tracer.
+/// A tracer's handle with what lies at the address.
 fn tracer_sealed(loose: Loose<TracerHand, Global>) -> TracerSlot
     ensures filled { result.hand ≡ Some loose.value }
 {
@@ -62,7 +62,7 @@ fn tracer_sealed(loose: Loose<TracerHand, Global>) -> TracerSlot
     TracerSlot { at: at as *mut u8 }
 }
 
-/// The same of a world.
+/// A world's handle with what lies at the address.
 fn whole_sealed(loose: Loose<Whole, Global>) -> WorldSlot
     ensures filled { result.whole ≡ Some loose.value }
 {
@@ -70,21 +70,21 @@ fn whole_sealed(loose: Loose<Whole, Global>) -> WorldSlot
     WorldSlot { at: at as *mut u8 }
 }
 
-/// A handle with what is in the box.
+/// A mutator's handle with what is in the box.
 pub fn hand_slot(hand: Box<Hand, Global>) -> MutatorSlot
     ensures filled { result.hand ≡ Some hand.value }
 {
     hand_sealed(Loose::of(hand))
 }
 
-/// The same of a tracer.
+/// A tracer's handle with what is in the box.
 pub fn tracer_slot(hand: Box<TracerHand, Global>) -> TracerSlot
     ensures filled { result.hand ≡ Some hand.value }
 {
     tracer_sealed(Loose::of(hand))
 }
 
-/// The same of a world.
+/// A world's handle with what is in the box.
 pub fn whole_slot(whole: Box<Whole, Global>) -> WorldSlot
     ensures filled { result.whole ≡ Some whole.value }
 {

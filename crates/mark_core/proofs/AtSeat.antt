@@ -7,8 +7,8 @@ use Rattle.mark_core.specs.Layout.{words_of, address, region_sizes, block_count}
 use Rattle.mark_core.specs.Steps.{Core}
 use Rattle.mark_core.specs.Laws.{IsCore}
 use Rattle.mark_core.proofs.Blocks.BlocksTaken.{Taken, within, own-record}
-use Rattle.mark_core.proofs.Regions.{words-get}
-use Rattle.mark_core.proofs.Places.{region-length}
+use Rattle.mark_core.proofs.Writing.Regions.{words-get}
+use Rattle.mark_core.proofs.Writing.Places.{region-length}
 use Rattle.mark_core.specs.declared.kinds.Step.{Step}
 use Rattle.mark_core.specs.declared.seat.SeatState.{SeatState}
 

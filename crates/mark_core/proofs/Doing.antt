@@ -9,7 +9,7 @@ use Rattle.mark_core.specs.Shapes.{IsShape}
 use Rattle.mark_core.specs.Layout.{Words, words_of, address, block_count, region_sizes}
 use Rattle.mark_core.specs.Held.{has_length, length_in_hand}
 use Rattle.mark_core.specs.Seats.{may_mutate, cache_block}
-use Rattle.mark_core.specs.ColourSteps.{may_read_field}
+use Rattle.mark_core.specs.Steps.ColourSteps.{may_read_field}
 use Rattle.mark_core.specs.Parts.{parts}
 use Rattle.mark_core.specs.Effects.{place, written, seat_after}
 use Rattle.mark_core.specs.Room.{HasNumber, HasRoom}
@@ -18,11 +18,11 @@ use Rattle.mark_core.specs.Steps.{Core, first_false, AllTrue, failing_of, failin
 use Rattle.mark_core.specs.Laws.{NumbersFit}
 use Rattle.mark_core.proofs.Acting.{some_none, parts_hold}
 use Rattle.mark_core.proofs.Locals.{local-kept}
-use Rattle.mark_core.proofs.Ranges.{InRange, IsPlace, placed, block-below}
-use Rattle.mark_core.proofs.Regions.{address-lt-total}
-use Rattle.mark_core.proofs.SlotBounds.{length-fits}
-use Rattle.mark_core.proofs.SeatBoundsKept.{fits-made, variable-fits, seat-bounds, start-bounds, spent-bounds}
-use Rattle.mark_core.proofs.WordBoundsKept.{finds, word-bounds}
+use Rattle.mark_core.proofs.Writing.Ranges.{InRange, IsPlace, placed, block-below}
+use Rattle.mark_core.proofs.Writing.Regions.{address-lt-total}
+use Rattle.mark_core.proofs.Writing.SlotBounds.{length-fits}
+use Rattle.mark_core.proofs.Writing.SeatBoundsKept.{fits-made, variable-fits, seat-bounds, start-bounds, spent-bounds}
+use Rattle.mark_core.proofs.Writing.WordBoundsKept.{finds, word-bounds}
 use Rattle.mark_core.specs.declared.kinds.Shape.{Shape}
 use Rattle.mark_core.specs.declared.kinds.Event.{Event}
 use Rattle.mark_core.specs.declared.kinds.Step.{Step}

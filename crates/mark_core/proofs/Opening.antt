@@ -10,7 +10,7 @@ use Rattle.mark_core.specs.Layout.{address, region_base, region_words, region_si
 use Rattle.mark_core.specs.Start.{start_seat, packet_bits, full_pool, start_words, start_seats}
 use Rattle.mark_core.specs.Steps.{start_core}
 use Rattle.mark_core.specs.Bounds.{SeatBounds, IsBounded}
-use Rattle.mark_core.proofs.SeatBoundsKept.{start-bounds}
+use Rattle.mark_core.proofs.Writing.SeatBoundsKept.{start-bounds}
 use Rattle.mark_core.specs.declared.kinds.Shape.{Shape}
 
 pool_length : (sh : Shape) → length (full_pool sh) ≡ pool_words sh

@@ -1,13 +1,17 @@
--- Cards: how many cells one has, the card of a cell, the block of a card, and the bits of its cells. A card's size stands here alone.
+-- Blocks and cards: how many cells each has, the card of a cell, the block of a card, and the bits of its cells. The sizes of both stand here alone.
 use Rattle.std.specs.Prelude.{ℕ, ◌-◌, ◌*◌, ◌/◌, ◌%◌, ◌^◌}
+
+-- how many cells a block has: one for each bit of a word
+abbrev pub block_cells : ℕ
+block_cells = 64
 
 -- how many cells a card has
 abbrev pub card_cells : ℕ
 card_cells = 16
 
--- how many cards a block of sixty-four cells has
+-- how many cards a block has
 abbrev pub block_cards : ℕ
-block_cards = 64 / card_cells
+block_cards = block_cells / card_cells
 
 -- the card of a cell
 abbrev pub card_of : ℕ → ℕ

@@ -13,7 +13,7 @@ low_pool_number = 1
 abbrev pub high_pool_number : ℕ
 high_pool_number = 2
 
--- the pool of packets that are put off
+-- the pool of packets that are deferred
 abbrev pub deferred_pool_number : ℕ
 deferred_pool_number = 3
 

@@ -22,6 +22,6 @@ IsSweepingPhase phase = IsTrue (is_phase phase Sweep || is_phase phase Clear)
 pub record IsSwept (sh : Shape) (phase next_block : ℕ) (marks : List ℕ) (bs : List (Option BlockState)) : Type 0 where
   pub done_is_white : IsSweepingPhase phase → EachBlock sh (λ b. b < next_block → NoneHas b bs → slice_index marks b ≡ 0)
 
--- the same of a state
+-- in this state the blocks that are done have no mark
 abbrev pub IsSweptCore : Core → Type 0
 IsSweptCore c = let w = words_of c.shape c.words in IsSwept c.shape w.phase w.next_block w.marks (blocks c.seats)

@@ -3,13 +3,14 @@ ghost use Rattle.std.specs.Prelude.{◌≡◌};
 ghost use Rattle.mark_core.specs.Bits.{cell_of};
 ghost use Rattle.mark_core.specs.Effects.{place};
 ghost use Rattle.mark_core.specs.Layout.{address as address_of};
-ghost use Rattle.mark_core.specs.MutatorSteps.{part_at as part_place, variable as variable_of};
+ghost use Rattle.mark_core.specs.Steps.MutatorSteps.{part_at as part_place, variable as variable_of};
 ghost use Rattle.mark_core.specs.Passes.{pass_of as pass_of_step};
 ghost use Rattle.mark_core.specs.Shapes.{IsShape};
 ghost use Rattle.mark_core.specs.declared.kinds.Shape.{Shape};
 ghost use Rattle.mark_core.specs.declared.seat.SeatState.{SeatState};
 
 use crate::bases::Bases;
+use crate::cards::BLOCK_CELLS;
 use crate::kinds::{Cell, Shape, Step};
 use crate::passes::{Pass, pass_of};
 use crate::seat::SeatState;
@@ -29,7 +30,7 @@ pub fn address(shape: &Shape, s: &SeatState, step: &Step) -> usize
     address_by(&Bases::of(shape), s, step)
 }
 
-/// The same, in a heap whose regions begin there.
+/// The address of that word in the heap whose regions begin at these bases.
 #[inline(always)]
 pub fn address_by(bases: &Bases, s: &SeatState, step: &Step) -> usize
     ensures { result ≡ address_of bases.now.shape (place bases.now.shape s.now step.now) }
@@ -75,7 +76,7 @@ fn of_colour(bases: &Bases, s: &SeatState, step: &Step) -> usize
         Step::ReadAlloc { b } => bases.alloc_at(b),
         Step::ReadField { c, i } => bases.field_at(c.number(), i),
         Step::ReadRoot { section, v } => bases.root_at(section, v),
-        Step::SetMark { c } => bases.mark_at(c.number() / 64),
+        Step::SetMark { c } => bases.mark_at(c.number() / BLOCK_CELLS),
         Step::DirtyCard { card } | Step::ClearCard { card } | Step::ReadCard { card } =>
             bases.card_at(card),
         Step::ReadMarks { b } => bases.mark_at(b),

@@ -1,14 +1,17 @@
-//! Cards: how many cells one has, the card of a cell, the block of a card, and the bits of its cells. A card's size stands here alone.
+//! Blocks and cards: how many cells each has, the card of a cell, the block of a card, and the bits of its cells. The sizes of both stand here alone.
 ghost use Rattle.std.specs.Prelude.{◌≡◌};
 ghost use Rattle.mark_core.specs.Cards.{card_of as card_of_cell, block_of_card as block_of, first_bit as first_bit_of, card_bits as card_bits_of};
 
 use crate::kinds::Cell;
 
+/// How many cells a block has: one for each bit of a word.
+pub const BLOCK_CELLS: u32 = 64;
+
 /// How many cells a card has.
 pub const CARD_CELLS: u32 = 16;
 
-/// How many cards a block of 64 cells has.
-pub const BLOCK_CARDS: u32 = 64 / CARD_CELLS;
+/// How many cards a block has.
+pub const BLOCK_CARDS: u32 = BLOCK_CELLS / CARD_CELLS;
 
 /// The card of a cell, by its number.
 pub fn card_of(c: Cell) -> u32

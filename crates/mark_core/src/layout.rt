@@ -4,8 +4,9 @@ ghost use Rattle.mark_core.specs.Layout.{pool_words as pool_words_of, block_coun
 ghost use Rattle.mark_core.specs.Places.{identity_at as identity_place};
 ghost use Rattle.mark_core.specs.Shapes.{IsShape};
 
-use crate::cards::CARD_CELLS;
+use crate::cards::{BLOCK_CELLS, CARD_CELLS};
 use crate::kinds::Shape;
+use crate::numbers::POOLS;
 
 /// How many single words there are. They come first.
 pub const SINGLE_WORDS: usize = 11;
@@ -32,7 +33,7 @@ pub const NAMED: usize = 5;
 pub fn block_count(shape: &Shape) -> u32
     ensures { result ≡ block_count_of shape.now }
 {
-    shape.cells / 64
+    shape.cells / BLOCK_CELLS
 }
 
 /// How many cards there are, numbered from 0 on.
@@ -142,7 +143,7 @@ pub fn help(shape: &Shape) -> usize
     requires { IsShape shape.now }
     ensures { result ≡ region_base (region_sizes shape.now) 13 }
 {
-    pools(shape) + 4 * pool_words(shape)
+    pools(shape) + POOLS as usize * pool_words(shape)
 }
 
 /// How many words a heap of this shape has.

@@ -9,7 +9,7 @@ pub const LOW_POOL: u8 = 1;
 /// The pool of packets with half of their room or more.
 pub const HIGH_POOL: u8 = 2;
 
-/// The pool of packets that are put off, since their cells weren't published.
+/// The pool of packets that are deferred, since their cells weren't published.
 pub const DEFERRED_POOL: u8 = 3;
 
 /// How many pools there are.

@@ -5,6 +5,7 @@ ghost use Rattle.mark_core.specs.Held.{slot_of, length_in_slot, stored_in_slot, 
 /// Nothing, or a packet, its length if that is known, and whether its head holds this length.
 pub type Slot = Option<(u32, Option<u32>, bool)>;
 
+/// The four slots of a seat.
 pub type Slots = [Slot; 4];
 
 /// The slot holds packet p.

@@ -7,10 +7,11 @@ ghost use Rattle.mark_core.specs.Bits.{cell_bit as cell_bit_of};
 ghost use Rattle.mark_core.specs.Cells.{in_use};
 ghost use Rattle.mark_core.specs.Seats.{used_in};
 ghost use Rattle.mark_core.specs.Views.{makers};
-ghost use Rattle.mark_core.specs.WorldSteps.{cards_clean, roots_marked as roots_marked_of};
+ghost use Rattle.mark_core.specs.Steps.WorldSteps.{cards_clean, roots_marked as roots_marked_of};
 ghost use Rattle.mark_core.specs.Closed.{sees_quiet as sees_quiet_of, is_closed as is_closed_of};
 ghost use Rattle.mark_core.specs.Summary.{marked_cells as marked_cells_of, used_cells as used_cells_of};
 
+use crate::cards::BLOCK_CELLS;
 use crate::kinds::{Cell, Phase, Shape};
 use crate::seat::SeatState;
 use crate::standing::is_phase;
@@ -22,7 +23,7 @@ use crate::{bits, hand, layout};
 fn cell_bit(words: &[u64], c: u32) -> bool
     ensures { result ≡ cell_bit_of words.now c }
 {
-    bits::has_bit(read(words, (c / 64) as usize), c % 64)
+    bits::has_bit(read(words, (c / BLOCK_CELLS) as usize), c % BLOCK_CELLS)
 }
 
 /// A seat made the cell and hasn't published it.

@@ -1,11 +1,11 @@
 -- An object is made in a new cell, and a variable refers to it.
 use Rattle.std.proofs.Common.{ℕ, ◌≡◌, ◌+◌, ◌-◌, ◌<◌, zero, suc, map, List, [], ◌∷◌, ◌++◌, length, arith, refl, sym, ap, ◌∙◌, Bool, true, false, not, ◌||◌, Some, None, Option, is_none}
-use Rattle.std.specs.Prelude.{◌==◌, slice_set, unwrap_or}
+use Rattle.std.specs.Prelude.{◌==◌, slice_set}
 use Rattle.std.specs.List.{list_any, list_all, range_with_len}
 use Rattle.std.proofs.lemmas.Bool.{and_from, and_parts, or_right, eq-eqb, ne_eqb, lt-ltb, not_from_false, false≢true}
 use Rattle.std.proofs.lemmas.List.{length-append}
 use Rattle.mark_core.specs.Bits.{reference_in}
-use Rattle.mark_core.specs.MutatorSteps.{names_last, with_made}
+use Rattle.mark_core.specs.Steps.MutatorSteps.{names_last, with_made}
 use Rattle.mark_core.specs.Seats.{free_in, has_making, may_mutate, work_in_hand}
 use Rattle.mark_core.specs.declared.kinds.Identity.{Identity}
 use Rattle.mark_core.specs.declared.kinds.Step.{Step}
@@ -15,16 +15,15 @@ use Rattle.mark_core.specs.declared.seat.SeatState.{SeatState}
 use Rattle.plain_heap.specs.PlainHeap.{Heap}
 use Rattle.plain_heap.specs.PlainStep.{heap_after, new_object}
 use Rattle.plain_heap.specs.declared.operation.Op.TheVariants as ops
-use Rattle.gc_table.specs.PlainSteps.{Asks, own_section}
+use Rattle.gc_table.specs.PlainSteps.{Asks}
 use Rattle.gc_table.specs.Seats.{Stored, IsPlainStep}
 use Rattle.gc_table.specs.Sections.{section_after, seen_by}
 use Rattle.gc_table.specs.Taking.{May}
 use Rattle.gc_table.specs.declared.view.SectionState.{SectionState}
 use Rattle.gc_table.specs.declared.view.View.{View}
-use Rattle.gc_table.proofs.Asking.{has-section}
 use Rattle.gc_table.specs.Log.{all_steps, events}
 use Rattle.gc_table.specs.Running.{Ran}
-use Rattle.gc_table.proofs.Log.{only-after}
+use Rattle.gc_table.proofs.History.Log.{only-after}
 use Rattle.gc_table.proofs.Running.{ran-stored, ran-join, ran-only, ran-shape, ran-plan}
 use Rattle.alloc_cache.specs.Making.{Makes, nil_fields, with_cell, with_place, identity_word}
 use Rattle.mutator_ops.specs.Creating.{Creates}
@@ -33,10 +32,6 @@ use Rattle.mutator_ops.proofs.Once.{once-after, once-last}
 use Rattle.mutator_ops.specs.Ready.{IsReady}
 use Rattle.mutator_ops.proofs.Stepping.{stepped-none, undropped-root}
 use Rattle.mutator_ops.proofs.Storing.{all-by}
-
--- the seat's own section
-pub section-own : (s : SeatState) → may_mutate s ≡ true → s.section ≡ Some (own_section s)
-section-own s turn = let w = has-section s turn in w.1 ∙ ap (λ n. Some n) (sym (ap (λ (o : Option ℕ). unwrap_or o 0) w.1))
 
 -- the new cell is the one made last, and none is half made
 last_cell : (o : Option CacheState) (c r : ℕ) → free_in o c ≡ true → r ≡ c + 1 → names_last (with_made o c) r ≡ true

@@ -12,9 +12,8 @@ use Rattle.plain_heap.specs.declared.object.Ref.{Ref}
 use Rattle.plain_heap.specs.declared.object.Ref.TheVariants as refs
 use Rattle.gc_table.specs.Seats.{Found}
 use Rattle.gc_table.specs.declared.view.View.{View}
-use Rattle.gc_table.proofs.Log.{only-after}
+use Rattle.gc_table.proofs.History.Log.{only-after}
 use Rattle.gc_table.proofs.Running.{ran-found}
-use Rattle.card_clean.specs.Barrier.{is_own}
 use Rattle.mutator_ops.specs.declared.objects.Holds.TheVariants.{Nothing, OwnObject, LentObject}
 use Rattle.mutator_ops.specs.Doing.{with_dropped, Looks, reads_ident}
 use Rattle.mutator_ops.specs.Holding.{holding}
@@ -37,11 +36,6 @@ pub holds-nothing : (ref : Ref) → Nothing ≡ holding ref → ref ≡ refs.Nil
 holds-nothing refs.Nil e = refl
 holds-nothing (refs.Own n) e = absurd (cc)
 holds-nothing (refs.Cat n) e = absurd (cc)
-
-pub holds-own : (ref : Ref) → OwnObject ≡ holding ref → is_own ref ≡ true
-holds-own refs.Nil e = absurd (cc)
-holds-own (refs.Own n) e = refl
-holds-own (refs.Cat n) e = absurd (cc)
 
 -- a store through it
 pub stored-nothing : (d : ℕ) (heap : Heap) (ref : Ref) (change : Object → Object) → Nothing ≡ holding ref → with_dropped (d + 0) heap ≡ stored_at (with_dropped d heap) ref change

@@ -2,7 +2,7 @@
 use Rattle.std.proofs.Common.{ℕ, ◌≡◌, ◌+◌, ◌<◌, ◌==◌, ◌&&◌, if◌then◌else◌, length, arith, refl, sym, ap, ◌∙◌, subst, Bool, true, false, Some, None, Option}
 use Rattle.std.specs.Prelude.{slice_set}
 use Rattle.mark_core.specs.Bits.{reference_in}
-use Rattle.mark_core.specs.MutatorSteps.{names_last}
+use Rattle.mark_core.specs.Steps.MutatorSteps.{names_last}
 use Rattle.mark_core.specs.declared.kinds.Step.{Step}
 use Rattle.mark_core.specs.declared.kinds.Step.TheVariants.{StoreRoot, ReadOwn, ReadCat, ReadValue}
 use Rattle.mark_core.specs.declared.seat.SeatState.{SeatState}
@@ -18,7 +18,7 @@ use Rattle.gc_table.specs.Seats.{Found, Stored, IsPlainStep}
 use Rattle.gc_table.specs.declared.view.SectionState.{SectionState}
 use Rattle.gc_table.specs.declared.view.View.{View}
 use Rattle.gc_table.specs.Running.{Ran}
-use Rattle.gc_table.proofs.Log.{only-after, only-none, only-more}
+use Rattle.gc_table.proofs.History.Log.{only-after, only-none, only-more}
 use Rattle.gc_table.proofs.Running.{ran-refl, ran-found, ran-stored, ran-join, ran-only}
 use Rattle.mutator_ops.specs.Doing.{seen, spares_plain, with_dropped, belongs, HasRead, IsStepped, Does}
 use Rattle.mutator_ops.proofs.Once.{once-after, once-last}

@@ -1,7 +1,7 @@
 -- A walk along a field, visit by visit.
 use Rattle.std.proofs.Common.{ℕ, ◌≡◌, ◌+◌, ◌-◌, ◌<◌, zero, suc, arith, refl, sym, ap, ◌∙◌, subst, true, Option, ◌⊎◌, inl, inr}
 use Rattle.mark_core.specs.Seats.{may_mutate}
-use Rattle.mark_core.specs.MutatorSteps.{variable as word_in}
+use Rattle.mark_core.specs.Steps.MutatorSteps.{variable as word_in}
 use Rattle.mark_core.specs.declared.kinds.Step.{Step}
 use Rattle.mark_core.specs.declared.kinds.Step.TheVariants.{ReadOwn, ReadValue}
 use Rattle.mark_core.specs.declared.seat.SeatState.{SeatState}

@@ -1,4 +1,1 @@
-pub mod Turning
-pub mod Drains
-pub mod Ended
 pub mod Packets

@@ -3,7 +3,6 @@ mod blocks;
 mod cleaning;
 mod mutators;
 mod objects;
-mod opening;
 mod orders;
 mod packets;
 mod pools;

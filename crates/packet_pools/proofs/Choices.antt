@@ -1,6 +1,6 @@
 -- What a search answered, whether it took a packet or not.
 use Rattle.std.proofs.Common.{ℕ, ◌≡◌, ◌<◌, ◌*◌, sym, ap, ◌∙◌, arith, Bool, false, true, Option, Some, None, eqb}
-use Rattle.std.specs.Prelude.{IfSome, IfNone, nat_lt, nat_le}
+use Rattle.std.specs.Prelude.{IfSome, IfNone, nat_lt}
 use Rattle.std.proofs.lemmas.Bool.{and_parts, ltb-true}
 use Rattle.mark_core.specs.Held.{has_free_slot}
 use Rattle.mark_core.specs.declared.kinds.Shape.{Shape}
@@ -47,9 +47,6 @@ traces-either q room X (Some h) v w l t some none = traces-gained q room h v w l
 -- a packet that isn't empty
 pub low-some : (sh : Shape) (n : ℕ) → is_in_range sh 1 n ≡ true → 0 < n
 low-some sh n e = ltb-true 0 n (and_parts (nat_lt 0 n) (nat_lt (2 * n) sh.entries) e).0
-
-pub deferred-some : (sh : Shape) (n : ℕ) → is_in_range sh 3 n ≡ true → 0 < n
-deferred-some sh n e = ltb-true 0 n (and_parts (nat_lt 0 n) (nat_le n sh.entries) e).0
 
 -- a packet with room
 pub low-room : (sh : Shape) (n : ℕ) → is_in_range sh 1 n ≡ true → n < sh.entries

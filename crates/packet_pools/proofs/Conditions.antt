@@ -7,7 +7,7 @@ use Rattle.gc_table.specs.TableState.{TableState}
 use Rattle.mark_core.specs.Places.{the_phase}
 use Rattle.mark_core.specs.Held.{holds, has_length, length_in_hand, has_entry, is_stored, has_free_slot, holds_another}
 use Rattle.mark_core.specs.Seats.{may_trace, saw, is_the, is_phase, work_in_hand, is_unpublished}
-use Rattle.mark_core.specs.PacketSteps.{may_push}
+use Rattle.mark_core.specs.Steps.PacketSteps.{may_push}
 use Rattle.mark_core.specs.Notes.{steady}
 use Rattle.mark_core.specs.WellFormed.{IsSeat}
 use Rattle.mark_core.proofs.Notes.NotesKept.{single-word}

@@ -1,5 +1,5 @@
 -- What the events of a scan count, as more events come.
-use Rattle.std.proofs.Common.{ℕ, ◌≡◌, ◌+◌, List, [], ◌∷◌, ◌++◌, arith, refl, sym, ap, ◌∙◌, ◌%◌, subst, Bool, true, false, not, cond, append_assoc}
+use Rattle.std.proofs.Common.{ℕ, ◌≡◌, ◌+◌, List, [], ◌∷◌, ◌++◌, arith, refl, ap, ◌∙◌, ◌%◌, subst, Bool, true, false, not, cond}
 use Rattle.std.proofs.lemmas.Bool.{and_parts, and_from, false≢true, or_from}
 use Rattle.std.proofs.lemmas.List.{append-nil}
 use Rattle.mark_core.specs.Bits.{has_bit}
@@ -9,9 +9,9 @@ use Rattle.mark_core.specs.declared.kinds.Step.TheVariants.{Push, ReadField, Set
 use Rattle.gc_table.specs.declared.view.Entry.{Entry}
 use Rattle.gc_table.specs.Log.{steps_of}
 use Rattle.packet_pools.specs.Seeking.{moves_packet, only_moves, NoOutput, some_event}
-use Rattle.packet_pools.specs.Counts.{marks_white, pushes, dirties, dirties_after_search, scans_object, searches_in_vain, count_of, only_scans, SomeStretch, Counts}
+use Rattle.packet_pools.specs.Counts.{marks_white, pushes, dirties, dirties_after_search, scans_object, searches_in_vain, count_of, only_scans, Counts}
 use Rattle.packet_pools.specs.Orders.{each_after, some_end}
-use Rattle.gc_table.proofs.Log.{entry_of}
+use Rattle.gc_table.proofs.History.Log.{entry_of}
 use Rattle.packet_pools.proofs.Orders.{after-earlier, after-join, after-none, end-more, end-whole}
 use Rattle.packet_pools.proofs.Searches.{moves-steps, all_move}
 
@@ -22,12 +22,6 @@ count-join f (x ∷ xs) ys = let e = count-join f xs ys in omega (arith, e)
 pub scans-join : (xs ys : List Entry) → only_scans xs ≡ true → only_scans ys ≡ true → only_scans (xs ++ ys) ≡ true
 scans-join [] ys a b = b
 scans-join (x ∷ xs) ys a b = let h = and_parts (scans_object x.step) (only_scans xs) a in and_from _ _ h.0 (scans-join xs ys h.1 b)
-
-pub stretch-left : (P : List Entry → Type 0) (xs ys : List Entry) → SomeStretch P xs → SomeStretch P (xs ++ ys)
-stretch-left P xs ys s = (s.0, s.1, s.2 ++ ys, ap (λ l. l ++ ys) s.3 ∙ (append_assoc s.0 (s.1 ++ s.2) ys ∙ ap (λ l. s.0 ++ l) (append_assoc s.1 s.2 ys)), s.4)
-
-pub stretch-right : (P : List Entry → Type 0) (xs ys : List Entry) → SomeStretch P ys → SomeStretch P (xs ++ ys)
-stretch-right P xs ys s = (xs ++ s.0, s.1, s.2, ap (λ l. xs ++ l) s.3 ∙ sym (append_assoc xs s.0 (s.1 ++ s.2)), s.4)
 
 -- cards that were dirtied after searches in two calls
 pub searched-join : (sh : Shape) (xs ys es : List Entry) → es ≡ xs ++ ys → dirties_after_search sh xs ≡ true → dirties_after_search sh ys ≡ true → dirties_after_search sh es ≡ true

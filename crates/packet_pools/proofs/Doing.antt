@@ -2,7 +2,7 @@
 use Rattle.std.proofs.Common.{ℕ, ◌≡◌, ◌<◌, ◌≤◌, ◌+◌, ◌-◌, arith, refl, sym, ap, ◌∙◌, subst, Bool, true, false, Some}
 use Rattle.std.specs.Prelude.{is_some}
 use Rattle.std.proofs.lemmas.Bool.{not_from_false}
-use Rattle.mark_core.specs.PacketSteps.{may_push}
+use Rattle.mark_core.specs.Steps.PacketSteps.{may_push}
 use Rattle.mark_core.specs.Held.{known_length, set_length, length_in_hand}
 use Rattle.mark_core.specs.declared.kinds.Step.TheVariants.{Reserve, Take, Give, Credit, Push, Pop, Look, ReadCount, StoreLength, ReadLength}
 use Rattle.gc_table.specs.declared.view.View.{View}

@@ -1,8 +1,6 @@
 -- The packet in hand is filled, or changed for another.
-use Rattle.std.proofs.Common.{ℕ, ◌≡◌, ◌≢◌, ◌<◌, ◌≤◌, ◌+◌, List, sym, ap, ◌∙◌, subst, arith, Bool, true, Some}
-use Rattle.mark_core.specs.Held.{holds, has_free_slot, drop_packet, set_length, length_in_hand, known_length}
-use Rattle.std.proofs.lemmas.Bool.{true≢false}
-use Rattle.mark_core.proofs.Pool.PoolSlots.{drop-other, holds-drop_same}
+use Rattle.std.proofs.Common.{ℕ, ◌≡◌, ◌≢◌, ◌<◌, ◌≤◌, ◌+◌, List, sym, ap, ◌∙◌, subst, arith, Bool, true}
+use Rattle.mark_core.specs.Held.{has_free_slot, drop_packet, set_length, length_in_hand, known_length}
 use Rattle.mark_core.specs.declared.kinds.Shape.{Shape}
 use Rattle.mark_core.specs.declared.seat.SeatState.{SeatState}
 use Rattle.gc_table.specs.declared.view.View.{View}
@@ -64,11 +62,3 @@ module _ (v w : View) (qs : List ℕ) (h k : Held) (shape : w.shape ≡ v.shape)
             ap (λ (s : SeatState). drop_packet s.held k.packet) e
             ∙ (ap (λ (s : SeatState). drop_packet (drop_packet s.held h.packet) k.packet) t.state ∙ exchanged v.state.held h.packet k.packet k.length t.unheld);
       }
-
--- any other packet in hand stays as it is
-pub another-kept : (v w : View) (h k p : Held) → w.shape ≡ v.shape → Fills h k v w → IsHeld p v → p.packet ≢ h.packet → IsHeld p w × (p.packet ≢ k.packet)
-another-kept v w h k p shape f mine d =
-    let still : known_length (drop_packet w.state.held k.packet) p.packet ≡ Some p.length =
-    ap (λ hs. known_length hs p.packet) f.slots ∙ ((drop-other v.state.held h.packet p.packet d).known_same ∙ mine.known) in
-    let apart : p.packet ≢ k.packet = λ e. true≢false (sym (known-held (drop_packet w.state.held k.packet) p.packet p.length still) ∙ (ap (holds (drop_packet w.state.held k.packet)) e ∙ holds-drop_same w.state.held k.packet)) in
-    (held-same v w p shape (sym (drop-other w.state.held k.packet p.packet apart).known_same ∙ (still ∙ sym mine.known)) mine, apart)

@@ -7,7 +7,7 @@ use Rattle.gc_table.specs.declared.view.View.{View}
 use Rattle.gc_table.specs.Log.{events}
 use Rattle.gc_table.specs.Running.{after_all, Ran}
 use Rattle.gc_table.specs.Taking.{after}
-use Rattle.gc_table.proofs.Log.{events-after, events-none}
+use Rattle.gc_table.proofs.History.Log.{events-after, events-none}
 use Rattle.packet_pools.specs.Keeping.{all_keep, keeps_cells}
 
 pub keep-append : (xs ys : List Entry) (v : View) → all_keep v xs ≡ true → all_keep (after_all xs v) ys ≡ true → all_keep v (xs ++ ys) ≡ true

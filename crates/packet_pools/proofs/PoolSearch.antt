@@ -13,7 +13,7 @@ use Rattle.gc_table.specs.Log.{events}
 use Rattle.packet_pools.specs.Hands.{with_packet}
 use Rattle.packet_pools.specs.Seeking.{all_missed, gets, gets_from, was_missed, was_missed_in, was_full, was_got, only_moves}
 use Rattle.packet_pools.specs.Gains.{ComesFrom, Takes, Gains, Misses}
-use Rattle.gc_table.proofs.Log.{events-join}
+use Rattle.gc_table.proofs.History.Log.{events-join}
 use Rattle.packet_pools.proofs.AllMissed.{all-missed-left, all-missed-right, all-range}
 use Rattle.packet_pools.proofs.Searches.{missed-left, missed-right, none-got, some-parts, some-right, first-pool, moves-join, next-pools}
 

@@ -3,7 +3,7 @@ use Rattle.std.proofs.Common.{ℕ, ◌≡◌, ◌≤◌, ◌+◌, ◌%◌, ◌�
 use Rattle.mark_core.specs.Bits.{has_bit}
 use Rattle.mark_core.specs.Held.{has_free_slot, drop_packet}
 use Rattle.mark_core.specs.Seats.{is_the}
-use Rattle.mark_core.specs.ColourSteps.{fresh_off, popped_off}
+use Rattle.mark_core.specs.Steps.ColourSteps.{fresh_off, popped_off}
 use Rattle.mark_core.specs.declared.kinds.Step.TheVariants.{Push, SetMark, DirtyCard}
 use Rattle.mark_core.specs.declared.seat.Cleaning.{Cleaning}
 use Rattle.mark_core.specs.declared.seat.SeatState.{SeatState}

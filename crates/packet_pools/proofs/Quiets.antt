@@ -1,7 +1,7 @@
 -- A count of all packets shows that nothing is left to trace.
 use Rattle.std.proofs.Common.{◌+◌, ap, sym, ◌∙◌}
 use Rattle.mark_core.specs.declared.kinds.Shape.{Shape}
-use Rattle.mark_core.proofs.QuietReading.{quiet}
+use Rattle.mark_core.proofs.Consequences.QuietReading.{quiet}
 use Rattle.packet_pools.specs.Quiet.{IsQuietAt}
 
 pub quiet-at : (sh : Shape) → IsQuietAt sh (64 + sh.packets)

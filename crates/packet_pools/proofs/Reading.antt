@@ -8,7 +8,7 @@ use Rattle.mark_core.specs.declared.kinds.Step.TheVariants.{ReadField, SetMark}
 use Rattle.gc_table.specs.declared.view.Entry.{Entry}
 use Rattle.packet_pools.specs.Seeking.{moves_packet, only_moves}
 use Rattle.packet_pools.specs.Fields.{fields_read, cells_named, cells_asked, picked, Asks, Follows, fields_from}
-use Rattle.gc_table.proofs.Log.{entry_of}
+use Rattle.gc_table.proofs.History.Log.{entry_of}
 
 pub picked-join : {X : Type 0} (f : Step → ℕ → List X) (xs ys : List Entry) → picked f (xs ++ ys) ≡ picked f xs ++ picked f ys
 picked-join f [] ys = refl
@@ -70,12 +70,6 @@ fields-next c next i l =
     let n : suc (i - next) ≡ i + 1 - next = omega (arith, l) in
     let x : next + (i - next) ≡ i = omega (arith, l) in
     sym (ap (fields_from c next) (sym n) ∙ (one-more c next (i - next) ∙ ap (λ y. fields_from c next (i - next) ++ (c, y) ∷ []) x))
-
--- none so far
-pub follows-none : (c next : ℕ) (es : List Entry) → es ≡ [] → Follows (fields_from c next (next - next)) es
-follows-none c next es all =
-    let z : next - next ≡ 0 = omega arith in
-    record { read = ap (picked fields_read) all ∙ ap (fields_from c next) (sym z); asked = ap (picked cells_asked) all ∙ sym (ap (picked cells_named) all) }
 
 -- the first field, and the others
 pub fields-first : (c n : ℕ) → 1 ≤ n → (c, 0) ∷ fields_from c 1 (n - 1) ≡ fields_from c 0 n

@@ -1,8 +1,8 @@
 -- The fields of an object, one after another.
-use Rattle.std.proofs.Common.{ℕ, ◌≡◌, ◌<◌, ◌≤◌, ◌+◌, refl, sym, ap, ◌∙◌, subst, arith, Bool, true, false, cond, Some, None, Option, inl, eq-eqb, ⊎_elim}
+use Rattle.std.proofs.Common.{ℕ, ◌≡◌, ◌<◌, ◌≤◌, ◌+◌, refl, sym, ap, ◌∙◌, subst, arith, Bool, true, false, cond, Some, None, Option, inl, ⊎_elim}
 use Rattle.std.specs.Prelude.{nat_lt, is_some, ◌||◌, ◌&&◌, not}
-use Rattle.std.proofs.lemmas.Bool.{lt-ltb, le-ltb, or_left, or_right, and_from, cases_lt}
-use Rattle.mark_core.specs.ColourSteps.{may_read_field, without_cell}
+use Rattle.std.proofs.lemmas.Bool.{lt-ltb, le-ltb, or_right, cases_lt}
+use Rattle.mark_core.specs.Steps.ColourSteps.{may_read_field, without_cell}
 use Rattle.mark_core.specs.Seats.{cleaning_left, may_scan, work_in_hand, scan_left, scans}
 use Rattle.mark_core.specs.Held.{has_free_slot}
 use Rattle.mark_core.specs.declared.kinds.Shape.{Shape}
@@ -41,10 +41,6 @@ starts v h c next scan hand k free =
       cleaning = subst (λ (b : Bool). Settles (cond b (without_cell v.state.cleaning c) v.state.cleaning) v.state.cleaning) (sym (le-ltb next next (omega arith))) (settles-same v.state.cleaning);
       owes = inl refl;
     }
-
--- the next field may be read
-pub next-field : (sh : Shape) (s : SeatState) (c i : ℕ) → s.scan ≡ Some (c, i) → may_read_field sh s c i ≡ true
-next-field sh s c i e = or_left _ _ (ap (λ (o : Option (ℕ × ℕ)). scans o c i) e ∙ and_from _ _ (eq-eqb c c refl) (eq-eqb i i refl))
 
 -- no field is left
 pub finished : (v w : View) (h k : Held) (c next i fields : ℕ) → (next < fields → i ≡ fields) → (fields ≤ next → i ≡ next) → Pushes h k (Some (c, i)) (cleaned c next i v.state.cleaning) v w

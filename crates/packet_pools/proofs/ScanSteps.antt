@@ -4,7 +4,7 @@ use Rattle.std.specs.Prelude.{IfSome, ◌&&◌, ◌||◌, is_some, is_none}
 use Rattle.std.proofs.lemmas.Bool.{false≢true, and_parts, and_from, or_cases, or_left, or_right, lt-ltb}
 use Rattle.mark_core.specs.Shapes.{IsShape}
 use Rattle.mark_core.specs.Layout.{card_count}
-use Rattle.mark_core.specs.ColourSteps.{fresh_off, may_read_field}
+use Rattle.mark_core.specs.Steps.ColourSteps.{fresh_off, may_read_field}
 use Rattle.mark_core.specs.Seats.{takes_part, is_the, scans, may_scan, scan_left, in_set, saw}
 use Rattle.mark_core.specs.WellFormed.{IsSeat, IsCleaning}
 use Rattle.mark_core.specs.declared.kinds.Shape.{Shape}

@@ -67,9 +67,9 @@ taken_from_empty = refl
 lost_where_it_lay : no_output roomy (event (Look 0 0) 0 ∷ event (Look 1 0) 1 ∷ event (Take 1 0) 0 ∷ event (Look 2 0) 2 ∷ event (Take 2 1) 0 ∷ []) ≡ true
 lost_where_it_lay = refl
 
--- the pool of packets that were put off
-none_put_off : all_missed roomy (3 ∷ []) (event (Look 3 0) 0 ∷ []) ≡ true
-none_put_off = refl
+-- the pool of deferred packets
+none_deferred : all_missed roomy (3 ∷ []) (event (Look 3 0) 0 ∷ []) ≡ true
+none_deferred = refl
 
 another_pool : all_missed roomy (3 ∷ []) (event (Look 1 0) 0 ∷ []) ≡ false
 another_pool = refl

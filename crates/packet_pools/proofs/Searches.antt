@@ -104,7 +104,7 @@ next-pools q qs es m = moves-more qs (q ∷ qs) (λ x e. or_right (eqb q x) _ e)
 pub take-moves : (q p : ℕ) → moves_packet (q ∷ []) (Take q p) ≡ true
 take-moves q p = or_left _ false (eq-eqb q q refl)
 
--- the same by the steps alone
+-- all these steps are moves of packets of these pools
 abbrev pub all_move : List ℕ → List Step → Bool
 all_move qs [] = true
 all_move qs (x ∷ xs) = moves_packet qs x && all_move qs xs

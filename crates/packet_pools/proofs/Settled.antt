@@ -6,7 +6,7 @@ use Rattle.std.proofs.lemmas.Nat.{and_assoc}
 use Rattle.std.proofs.lemmas.Bool.{true≢false, false≢true, or_parts, false_from_ne_true, true_from_ne_false}
 use Rattle.mark_core.specs.Bits.{without_bit, complement}
 use Rattle.mark_core.specs.Seats.{cleaning_left}
-use Rattle.mark_core.specs.ColourSteps.{redirty_off, without_cell}
+use Rattle.mark_core.specs.Steps.ColourSteps.{redirty_off, without_cell}
 use Rattle.mark_core.specs.declared.seat.Cleaning.{Cleaning}
 use Rattle.packet_pools.specs.Scanning.{Settles, settled, owes_card}
 use Rattle.mark_core.specs.Cards.{block_of_card}

@@ -21,7 +21,7 @@ use Rattle.gc_table.proofs.Fetching.{last-snoc}
 use Rattle.gc_table.specs.Log.{steps_of}
 use Rattle.packet_pools.specs.Seeking.{gets, gets_from, loses, was_got}
 use Rattle.packet_pools.specs.Gains.{Misses, missed}
-use Rattle.gc_table.proofs.Log.{entry_of}
+use Rattle.gc_table.proofs.History.Log.{entry_of}
 use Rattle.packet_pools.proofs.Searches.{take-moves}
 
 -- a take that another seat was first to do leaves the record

@@ -18,7 +18,7 @@ use Rattle.packet_pools.specs.Tracing.{Traces}
 use Rattle.packet_pools.specs.Hands.{IsHeld, with_packet}
 use Rattle.packet_pools.specs.Seeking.{gets, gets_from, some_event, was_full, was_got, only_moves}
 use Rattle.packet_pools.specs.Gains.{Seeks, Gains, Misses, missed}
-use Rattle.gc_table.proofs.Log.{entry_of, events-after, events-join, grows-after, grows-join}
+use Rattle.gc_table.proofs.History.Log.{entry_of, events-after, events-join, grows-after, grows-join}
 use Rattle.packet_pools.proofs.TracedSteps.{later-join}
 use Rattle.packet_pools.proofs.Conditions.{traces-later}
 use Rattle.packet_pools.proofs.InHand.{known-with, unread-put, drop-with}

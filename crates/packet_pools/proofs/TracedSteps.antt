@@ -7,7 +7,7 @@ use Rattle.mark_core.specs.Notes.{same_place, steady, keeps_bound, keeps_single,
 use Rattle.mark_core.specs.Bits.{has_bit, with_bit}
 use Rattle.mark_core.specs.Places.{mark_at}
 use Rattle.mark_core.specs.declared.kinds.Step.TheVariants.{SetMark}
-use Rattle.mark_core.proofs.CellBits.{bit-more, with_same}
+use Rattle.mark_core.proofs.Writing.CellBits.{bit-more, with_same}
 use Rattle.mark_core.specs.declared.kinds.Step.{Step}
 use Rattle.mark_core.specs.declared.seat.SeatState.{SeatState}
 use Rattle.gc_table.specs.declared.view.View.{View}
@@ -16,7 +16,7 @@ use Rattle.gc_table.specs.Notes.{Notes, look, if_kept, noting}
 use Rattle.gc_table.specs.Taking.{after, Finds}
 use Rattle.gc_table.proofs.Noting.{place-same, look-map}
 use Rattle.gc_table.specs.Running.{is_store, IsSeen}
-use Rattle.gc_table.proofs.Log.{grows-refl, grows-join, grows-after, only-none, only-after, only-join}
+use Rattle.gc_table.proofs.History.Log.{grows-refl, grows-join, grows-after, only-none, only-after, only-join}
 use Rattle.gc_table.proofs.Noticing.{found-noted}
 use Rattle.gc_table.proofs.Running.{ran-refl, ran-after, ran-join, ran-events}
 use Rattle.packet_pools.specs.Keeping.{keeps_cells}
@@ -192,7 +192,7 @@ marks-noted v x n alone =
     let word : ℕ = with_bit n (x % 64) in
     (word, note-again (steady s) at at word word v.known (place-again at) refl (mark-steady s (x / 64) word alone), with_same n (x % 64))
 
--- the same of the view after the call
+-- the seat only traced up to the view after the call, where it is that after the step
 pub later-to : (v w : View) (step : Step) (n : ℕ) → w ≡ after step n v → OnlyTraced v (after step n v) → OnlyTraced v w
 later-to v w step n e k = subst (OnlyTraced v) (sym e) k
 

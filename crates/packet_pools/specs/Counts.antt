@@ -1,11 +1,11 @@
 -- What the events of a scan count.
-use Rattle.std.specs.Prelude.{ℕ, ◌≡◌, ◌+◌, ◌-◌, ◌%◌, ◌&&◌, not, if◌then◌else◌, List, [], ◌∷◌, ◌++◌, Bool, true, false, IsTrue}
+use Rattle.std.specs.Prelude.{ℕ, ◌≡◌, ◌+◌, ◌-◌, ◌%◌, ◌&&◌, not, if◌then◌else◌, List, [], ◌∷◌, Bool, true, false, IsTrue}
 use Rattle.mark_core.specs.Bits.{has_bit}
 use Rattle.mark_core.specs.declared.kinds.Shape.{Shape}
 use Rattle.mark_core.specs.declared.kinds.Step.{Step}
 use Rattle.mark_core.specs.declared.kinds.Step.TheVariants.{Push, ReadField, SetMark, DirtyCard}
 use Rattle.gc_table.specs.declared.view.Entry.{Entry}
-use Rattle.packet_pools.specs.Seeking.{moves_packet, no_output, only_moves}
+use Rattle.packet_pools.specs.Seeking.{moves_packet, no_output, only_moves, output_pools}
 use Rattle.packet_pools.specs.Orders.{each_after, some_end}
 use Rattle.packet_pools.specs.declared.scanned.Scanned.{Scanned}
 
@@ -30,7 +30,7 @@ scans_object (Push p cell) = true
 scans_object (ReadField c i) = true
 scans_object (SetMark c) = true
 scans_object (DirtyCard card) = true
-scans_object step = moves_packet (0 ∷ 1 ∷ 2 ∷ []) step
+scans_object step = moves_packet output_pools step
 
 -- how many events are like this
 abbrev pub count_of : (Step → ℕ → Bool) → List Entry → ℕ
@@ -42,13 +42,9 @@ abbrev pub only_scans : List Entry → Bool
 only_scans [] = true
 only_scans (e ∷ es) = scans_object e.step && only_scans es
 
--- some consecutive events are like this
-abbrev pub SomeStretch : (List Entry → Type 0) → List Entry → Type 0
-SomeStretch P es = (before stretch rest : List Entry) × (es ≡ before ++ (stretch ++ rest)) × P stretch
-
 -- a search for a packet with room that found none
 abbrev pub searches_in_vain : Shape → List Entry → Bool
-searches_in_vain sh es = no_output sh es && only_moves (0 ∷ 1 ∷ 2 ∷ []) es
+searches_in_vain sh es = no_output sh es && only_moves output_pools es
 
 -- each card that was dirtied was so right after such a search
 abbrev pub dirties_after_search : Shape → List Entry → Bool

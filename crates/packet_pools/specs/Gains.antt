@@ -1,6 +1,7 @@
 -- A packet that was taken, and the search for one.
 use Rattle.std.specs.Prelude.{ℕ, ◌≡◌, ◌<◌, ◌≤◌, ◌⊎◌, ◌==◌, ◌&&◌, ◌||◌, List, [], ◌∷◌, Bool, false, IsTrue, IsFalse}
 use Rattle.mark_core.specs.Held.{holds, has_free_slot}
+use Rattle.mark_core.specs.Numbers.{empty_pool_number, pools_in_all}
 use Rattle.mark_core.specs.declared.kinds.Shape.{Shape}
 use Rattle.gc_table.specs.declared.view.Entry.{Entry}
 use Rattle.gc_table.specs.declared.view.View.{View}
@@ -27,8 +28,8 @@ pub record Takes (qs : List ℕ) (h : Held) (v w : View) : Type 0 where
 -- the seat may take packets out of pool q: the empty one with a reservation
 pub record Seeks (q : ℕ) (v : View) : Type 0 where
   pub may : IsTrue (traces v)
-  pub pool : q < 4
-  pub reserved : v.state.reserved ≡ (q == 0)
+  pub pool : q < pools_in_all
+  pub reserved : v.state.reserved ≡ (q == empty_pool_number)
   pub uncredited : IsFalse v.state.credit
   pub free : IsTrue (has_free_slot v.state.held)
 

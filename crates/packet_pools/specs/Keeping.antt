@@ -1,7 +1,7 @@
 -- Tracing loses no cell that is in hand.
 use Rattle.std.specs.Prelude.{ℕ, List, [], ◌∷◌, Bool, true, not, ◌&&◌, ◌||◌, is_some, is_none}
-use Rattle.mark_core.specs.ColourSteps.{fresh_off, popped_off}
-use Rattle.mark_core.specs.PacketSteps.{may_push}
+use Rattle.mark_core.specs.Steps.ColourSteps.{fresh_off, popped_off}
+use Rattle.mark_core.specs.Steps.PacketSteps.{may_push}
 use Rattle.mark_core.specs.declared.kinds.Step.{Step}
 use Rattle.mark_core.specs.declared.kinds.Step.TheVariants.{Push, Pop, SetMark, DirtyCard}
 use Rattle.mark_core.specs.declared.seat.SeatState.{SeatState}

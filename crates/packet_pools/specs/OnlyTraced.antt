@@ -1,7 +1,7 @@
 -- The steps that a call took, and what it leaves as it was.
 use Rattle.std.specs.Prelude.{ℕ, ◌≡◌, ◌/◌, ◌%◌, ◌||◌, ◌==◌, [], Bool, true, false, Some, None, IsTrue, IsFalse}
 use Rattle.mark_core.specs.Bits.{has_bit}
-use Rattle.mark_core.specs.Places.{the_empty_count, mark_at}
+use Rattle.mark_core.specs.Places.{the_empty_count, mark_at, card_at, head_at}
 use Rattle.mark_core.specs.Notes.{same_place, steady, keeps_bound}
 use Rattle.mark_core.specs.declared.kinds.Step.{Step}
 use Rattle.mark_core.specs.declared.kinds.Step.TheVariants.{Reserve, Take, Give, Credit, Push, Pop, Look, ReadCount, ReadAlloc, ReadField, ReadRoot, SetMark, DirtyCard, ClearCard, ReadMarks, ReadCard, StoreLength, ReadLength}
@@ -12,9 +12,29 @@ use Rattle.gc_table.specs.Log.{events, Grows, Only}
 use Rattle.gc_table.specs.Running.{Ran}
 use Rattle.packet_pools.specs.Keeping.{all_keep}
 
+-- the region of the mark bits
+abbrev pub mark_region : ℕ
+mark_region = (mark_at 0).0
+
+-- the region of the cards
+abbrev pub card_region : ℕ
+card_region = (card_at 0).0
+
+-- the region of the lengths of packets
+abbrev pub head_region : ℕ
+head_region = (head_at 0).0
+
+-- the region of the entries of packets
+abbrev pub entry_region : ℕ
+entry_region = 8
+
+-- the region of the pools
+abbrev pub pool_region : ℕ
+pool_region = 12
+
 -- a word that tracing writes: the count of empty packets, mark bits, cards, and the heads, entries and pools of packets
 abbrev pub is_traced : ℕ × ℕ → Bool
-is_traced at = same_place at the_empty_count || (at.0 == 5) || (at.0 == 6) || (at.0 == 7) || (at.0 == 8) || (at.0 == 12)
+is_traced at = same_place at the_empty_count || (at.0 == mark_region) || (at.0 == card_region) || (at.0 == head_region) || (at.0 == entry_region) || (at.0 == pool_region)
 
 -- the record without what tracing changes
 abbrev pub rest_of : SeatState → SeatState

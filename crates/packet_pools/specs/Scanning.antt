@@ -1,7 +1,7 @@
 -- What the scan of an object leaves in a seat's hand.
 use Rattle.std.specs.Prelude.{ℕ, ◌≡◌, ◌≤◌, ◌⊎◌, Bool, false, if◌then◌else◌, nat_lt, Option, Some, None, IsTrue}
 use Rattle.mark_core.specs.Held.{has_free_slot, drop_packet}
-use Rattle.mark_core.specs.ColourSteps.{without_cell}
+use Rattle.mark_core.specs.Steps.ColourSteps.{without_cell}
 use Rattle.mark_core.specs.declared.seat.SeatState.{SeatState}
 use Rattle.mark_core.specs.declared.seat.Cleaning.{Cleaning}
 use Rattle.gc_table.specs.declared.view.View.{View}

@@ -2,10 +2,19 @@
 use Rattle.std.specs.Prelude.{ℕ, ◌/◌, ◌%◌, ◌==◌, ◌&&◌, ◌||◌, not, List, [], ◌∷◌, Bool, true, false, nat_le, IsTrue}
 use Rattle.std.specs.List.{list_all, range_with_len}
 use Rattle.mark_core.specs.Bits.{has_bit, reference_in}
+use Rattle.mark_core.specs.Numbers.{empty_pool_number, low_pool_number, high_pool_number, deferred_pool_number}
 use Rattle.mark_core.specs.declared.kinds.Shape.{Shape}
 use Rattle.mark_core.specs.declared.kinds.Step.{Step}
 use Rattle.mark_core.specs.declared.kinds.Step.TheVariants.{Reserve, Take, Give, Credit, Look, StoreLength, ReadLength}
 use Rattle.gc_table.specs.declared.view.Entry.{Entry}
+
+-- the pools in which a packet to read from is looked for, in this order
+abbrev pub input_pools : List ℕ
+input_pools = high_pool_number ∷ low_pool_number ∷ []
+
+-- the pools in which a packet with room is looked for, in this order
+abbrev pub output_pools : List ℕ
+output_pools = empty_pool_number ∷ low_pool_number ∷ high_pool_number ∷ []
 
 -- a look that found the bit of packet p in pool q clear
 abbrev pub shows_outside : ℕ → ℕ → Step → ℕ → Bool
@@ -57,7 +66,7 @@ was_missed q p es = seen_outside q p es || was_lost q p es
 -- packet p was taken out of the high pool, and read as full
 abbrev pub was_full : ℕ → ℕ → List Entry → Bool
 was_full entries p [] = false
-was_full entries p (e ∷ es) = (gets_from 2 p e.step e.found && some_event (reads_full entries p) es) || was_full entries p es
+was_full entries p (e ∷ es) = (gets_from high_pool_number p e.step e.found && some_event (reads_full entries p) es) || was_full entries p es
 
 -- packet p was taken out of pool q
 abbrev pub was_got_from : ℕ → ℕ → List Entry → Bool
@@ -74,7 +83,7 @@ was_missed_in (q ∷ qs) p es = was_missed q p es && was_missed_in qs p es
 
 -- packet p couldn't be had with room: not out of the empty and the low pool, and out of the high one not at all or full
 abbrev pub was_roomless : ℕ → ℕ → List Entry → Bool
-was_roomless entries p es = was_missed_in (0 ∷ 1 ∷ []) p es && (was_missed 2 p es || was_full entries p es)
+was_roomless entries p es = was_missed_in (empty_pool_number ∷ low_pool_number ∷ []) p es && (was_missed high_pool_number p es || was_full entries p es)
 
 -- no packet could be had out of any of these pools
 abbrev pub all_missed : Shape → List ℕ → List Entry → Bool
@@ -85,7 +94,7 @@ abbrev pub in_pools : ℕ → List ℕ → Bool
 in_pools q [] = false
 in_pools q (x ∷ xs) = (x == q) || in_pools q xs
 
--- a step that takes a packet out of one of these pools, or gives one back that isn't put off
+-- a step that takes a packet out of one of these pools, or gives one back that isn't deferred
 abbrev pub moves_packet : List ℕ → Step → Bool
 moves_packet qs Reserve = true
 moves_packet qs (Take pool packet) = in_pools pool qs
@@ -103,15 +112,15 @@ only_moves qs (e ∷ es) = moves_packet qs e.step && only_moves qs es
 
 -- no packet to read from could be had
 abbrev pub no_input : Shape → List Entry → Bool
-no_input sh es = all_missed sh (2 ∷ 1 ∷ []) es
+no_input sh es = all_missed sh input_pools es
 
 -- that this was so
 abbrev pub NoInput : Shape → List Entry → Type 0
 NoInput sh es = IsTrue (no_input sh es)
 
--- no packet that was put off could be had
+-- no deferred packet could be had
 abbrev pub NoDeferred : Shape → List Entry → Type 0
-NoDeferred sh es = IsTrue (all_missed sh (3 ∷ []) es)
+NoDeferred sh es = IsTrue (all_missed sh (deferred_pool_number ∷ []) es)
 
 -- no packet with room could be had
 abbrev pub no_output : Shape → List Entry → Bool

@@ -1,6 +1,7 @@
 //! One packet is taken out of the deferred pool.
 ghost use Rattle.std.specs.Prelude.{◌≡◌, ◌<◌, [], ◌∷◌, false, IsTrue, IsFalse, IfSome, IfNone};
 ghost use Rattle.mark_core.specs.Held.{has_free_slot, holds};
+ghost use Rattle.mark_core.specs.Numbers.{deferred_pool_number};
 ghost use Rattle.mark_core.specs.declared.kinds.Step.TheVariants.{ReadLength, Take};
 ghost use Rattle.gc_table.specs.Seats.{Across, did, state_of};
 ghost use Rattle.packet_pools.specs.OnlyTraced.{OnlyTraced};
@@ -21,8 +22,8 @@ pub fn take_deferred_at(heap: &Heap, seat: &mut HeapSeat, p: u32) -> Option<Held
     requires packet { (p < heap.now.shape.packets) × IsFalse (holds (state_of seat.old).held p) }
     ensures seat { IsTracer heap.now seat.new }
     ensures later { Across OnlyTraced seat.old seat.new }
-    ensures some { IfSome result (λ h. Across (Gains 3 false h) seat.old seat.new × (h.packet ≡ p) × (steps_of (did seat.old seat.new) ≡ Take 3 p ∷ ReadLength p ∷ [])) }
-    ensures none { IfNone result ((state_of seat.new ≡ state_of seat.old) × IsTrue (was_lost 3 p (did seat.old seat.new)) × (steps_of (did seat.old seat.new) ≡ Take 3 p ∷ [])) }
+    ensures some { IfSome result (λ h. Across (Gains deferred_pool_number false h) seat.old seat.new × (h.packet ≡ p) × (steps_of (did seat.old seat.new) ≡ Take deferred_pool_number p ∷ ReadLength p ∷ [])) }
+    ensures none { IfNone result ((state_of seat.new ≡ state_of seat.old) × IsTrue (was_lost deferred_pool_number p (did seat.old seat.new)) × (steps_of (did seat.old seat.new) ≡ Take deferred_pool_number p ∷ [])) }
 {
     if !heap.take(seat, DEFERRED_POOL, p) {
         return None;

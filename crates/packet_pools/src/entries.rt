@@ -2,7 +2,7 @@
 ghost use Rattle.std.specs.Prelude.{◌≡◌, ◌<◌, ◌+◌, ◌-◌, IsTrue, IsFalse, OnOk, OnErr, IfSome, IfNone};
 ghost use Rattle.mark_core.specs.Bits.{cell_of};
 ghost use Rattle.mark_core.specs.Seats.{work_in_hand};
-ghost use Rattle.mark_core.specs.PacketSteps.{may_push};
+ghost use Rattle.mark_core.specs.Steps.PacketSteps.{may_push};
 ghost use Rattle.mark_core.specs.declared.kinds.Step.TheVariants.{Pop, Push};
 ghost use Rattle.gc_table.specs.Seats.{Across, Answered, state_of, Stored, view_of};
 ghost use Rattle.packet_pools.specs.OnlyTraced.{OnlyTraced};

@@ -13,7 +13,7 @@ use crate::held::Held;
 use gc_table::{Heap, HeapSeat};
 
 /// Returns the packet to the pool of its length, or to the deferred pool. An empty one is counted after its return.
-/// A packet that is put off has an entry, and a seat with work in hand keeps another packet.
+/// A deferred packet has an entry, and a seat with work in hand keeps another packet.
 pub fn give(heap: &Heap, seat: &mut HeapSeat, held: Held, deferred: bool)
     requires seat { IsTracer heap.now seat.old }
     requires held { IsHeld held (view_of seat.old) }

@@ -1,11 +1,11 @@
 //! A full packet is changed for one with room.
-ghost use Rattle.std.specs.Prelude.{◌≡◌, [], ◌∷◌, ◌<◌, ◌≢◌, IsTrue};
+ghost use Rattle.std.specs.Prelude.{◌≡◌, ◌<◌, ◌≢◌, IsTrue};
 ghost use Rattle.mark_core.specs.Held.{drop_packet, has_free_slot};
 ghost use Rattle.gc_table.specs.Seats.{Across, did, state_of, view_of};
 ghost use Rattle.packet_pools.specs.OnlyTraced.{OnlyTraced};
 ghost use Rattle.packet_pools.specs.Tracing.{IsTracer};
 ghost use Rattle.packet_pools.specs.Hands.{IsHeld};
-ghost use Rattle.packet_pools.specs.Seeking.{NoOutput, only_moves};
+ghost use Rattle.packet_pools.specs.Seeking.{NoOutput, only_moves, output_pools};
 ghost use Rattle.packet_pools.specs.Scanning.{Fills};
 
 use crate::giving::give;
@@ -23,7 +23,7 @@ fn change(heap: &Heap, seat: &mut HeapSeat, out: &mut Held, other: Held)
     ensures later { Across OnlyTraced seat.old seat.new }
     ensures out { out.new ≡ other }
     ensures state { state_of seat.new ≡ record (state_of seat.old) { held = drop_packet (state_of seat.old).held out.old.packet } }
-    ensures moves { IsTrue (only_moves (0 ∷ 1 ∷ 2 ∷ []) (did seat.old seat.new)) }
+    ensures moves { IsTrue (only_moves output_pools (did seat.old seat.new)) }
 {
     let full = mem::replace(out, other);
     give(heap, seat, full, false);
@@ -38,7 +38,7 @@ fn change_full(heap: &Heap, seat: &mut HeapSeat, out: &mut Held)
     ensures later { Across OnlyTraced seat.old seat.new }
     ensures out { Across (Fills out.old out.new) seat.old seat.new }
     ensures state { state_of seat.new ≡ record (state_of seat.old) { held = (state_of seat.new).held } }
-    ensures moves { IsTrue (only_moves (0 ∷ 1 ∷ 2 ∷ []) (did seat.old seat.new)) }
+    ensures moves { IsTrue (only_moves output_pools (did seat.old seat.new)) }
     ensures full { out.new.length ≡ heap.now.shape.entries → NoOutput heap.now.shape (did seat.old seat.new) }
 {
     if let Some(other) = take_output(heap, seat) {
@@ -55,7 +55,7 @@ pub(crate) fn make_room(heap: &Heap, seat: &mut HeapSeat, out: &mut Held)
     ensures later { Across OnlyTraced seat.old seat.new }
     ensures out { Across (Fills out.old out.new) seat.old seat.new }
     ensures state { state_of seat.new ≡ record (state_of seat.old) { held = (state_of seat.new).held } }
-    ensures moves { IsTrue (only_moves (0 ∷ 1 ∷ 2 ∷ []) (did seat.old seat.new)) }
+    ensures moves { IsTrue (only_moves output_pools (did seat.old seat.new)) }
     ensures full { out.new.length ≡ heap.now.shape.entries → NoOutput heap.now.shape (did seat.old seat.new) }
 {
     if out.length == heap.shape().entries {

@@ -1,6 +1,6 @@
 //! Objects are scanned: what they refer to is marked, and goes into packets.
 ghost use Rattle.std.specs.Prelude.{◌≡◌, ◌<◌, ◌≤◌, ◌+◌, ◌-◌, [], ◌∷◌, Some, None, IsTrue, IsFalse};
-ghost use Rattle.mark_core.specs.ColourSteps.{may_read_field, without_cell};
+ghost use Rattle.mark_core.specs.Steps.ColourSteps.{may_read_field, without_cell};
 ghost use Rattle.mark_core.specs.Held.{has_free_slot};
 ghost use Rattle.mark_core.specs.Seats.{cleaning_left, may_scan, scan_left, work_in_hand};
 ghost use Rattle.gc_table.specs.Seats.{Across, did, state_of, view_of};
@@ -38,7 +38,7 @@ fn scan_field(heap: &Heap, seat: &mut HeapSeat, out: &mut Held, cell: Cell, i: u
     mark_cell(heap, seat, out, cell_of(word))
 }
 
-/// The fields from this one on.
+/// Reads the fields of the cell in scan from this one on, and marks what they refer to.
 #[inline(always)]
 fn scan_fields(heap: &Heap, seat: &mut HeapSeat, out: &mut Held, cell: Cell, next: u8) -> Scanned
     requires seat { IsTracer heap.now seat.old }

@@ -3,6 +3,7 @@ ghost use Rattle.std.specs.Prelude.{ℕ, ◌≡◌, [], ◌∷◌, ◌<◌, ◌+
 ghost use Rattle.mark_core.specs.Bits.{has_bit as has_bit_of};
 ghost use Rattle.mark_core.specs.Held.{holds};
 ghost use Rattle.mark_core.specs.Layout.{pool_words};
+ghost use Rattle.mark_core.specs.Numbers.{high_pool_number};
 ghost use Rattle.gc_table.specs.Seats.{Across, did, Sits, state_of, view_of};
 ghost use Rattle.packet_pools.specs.OnlyTraced.{OnlyTraced};
 ghost use Rattle.packet_pools.specs.Seeking.{only_moves, was_got};
@@ -18,7 +19,7 @@ use mark_core::has_bit;
 fn take_packet(heap: &Heap, seat: &mut HeapSeat, q: u8, p: u32, room: bool) -> Option<Held>
     requires seat { Sits heap.now seat.old × Seeks q (view_of seat.old) }
     requires packet { (p < heap.now.shape.packets) × IsFalse (holds (state_of seat.old).held p) }
-    requires high { IsTrue room → q ≡ 2 }
+    requires high { IsTrue room → q ≡ high_pool_number }
     ensures seat { Sits heap.now seat.new }
     ensures later { Across OnlyTraced seat.old seat.new }
     ensures some { IfSome result (λ h. Across (Gains q room h) seat.old seat.new) }
@@ -36,7 +37,7 @@ fn take_packet(heap: &Heap, seat: &mut HeapSeat, q: u8, p: u32, room: bool) -> O
     Some(held)
 }
 
-/// The same, where the bit of packet p is set in this word of the pool.
+/// Takes packet p as `take_packet` does, where its bit is set in this word of the pool.
 fn take_shown(
     heap: &Heap,
     seat: &mut HeapSeat,
@@ -47,7 +48,7 @@ fn take_shown(
 ) -> Option<Held>
     requires seat { Sits heap.now seat.old × Seeks q (view_of seat.old) }
     requires shown { p < heap.now.shape.packets → IsTrue (has_bit_of word (p % 64)) → IsFalse (holds (state_of seat.old).held p) }
-    requires high { IsTrue room → q ≡ 2 }
+    requires high { IsTrue room → q ≡ high_pool_number }
     ensures seat { Sits heap.now seat.new }
     ensures later { Across OnlyTraced seat.old seat.new }
     ensures some { IfSome result (λ h. Across (Gains q room h) seat.old seat.new) }
@@ -64,7 +65,7 @@ fn take_shown(
 fn take_in_word(heap: &Heap, seat: &mut HeapSeat, q: u8, g: u32, room: bool) -> Option<Held>
     requires seat { Sits heap.now seat.old × Seeks q (view_of seat.old) }
     requires word { g < pool_words heap.now.shape }
-    requires high { IsTrue room → q ≡ 2 }
+    requires high { IsTrue room → q ≡ high_pool_number }
     ensures seat { Sits heap.now seat.new }
     ensures later { Across OnlyTraced seat.old seat.new }
     ensures some { IfSome result (λ h. Across (Gains q room h) seat.old seat.new) }
@@ -83,7 +84,7 @@ fn take_in_word(heap: &Heap, seat: &mut HeapSeat, q: u8, g: u32, room: bool) -> 
 /// seen outside the pool, was lost, or had no room.
 pub(crate) fn take_any(heap: &Heap, seat: &mut HeapSeat, q: u8, room: bool) -> Option<Held>
     requires seat { Sits heap.now seat.old × Seeks q (view_of seat.old) }
-    requires high { IsTrue room → q ≡ 2 }
+    requires high { IsTrue room → q ≡ high_pool_number }
     ensures seat { Sits heap.now seat.new }
     ensures later { Across OnlyTraced seat.old seat.new }
     ensures some { IfSome result (λ h. Across (Gains q room h) seat.old seat.new) }

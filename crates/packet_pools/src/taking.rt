@@ -1,11 +1,12 @@
-//! Packets are taken: to read cells from, to put cells in, or because they were put off.
+//! Packets are taken: to read cells from, to put cells in, or out of the deferred pool.
 ghost use Rattle.std.specs.Prelude.{◌<◌, ◌*◌, [], ◌∷◌, false, IsTrue, IfSome, IfNone};
 ghost use Rattle.mark_core.specs.Held.{has_free_slot};
 ghost use Rattle.mark_core.specs.Layout.{pool_words};
+ghost use Rattle.mark_core.specs.Numbers.{deferred_pool_number, empty_pool_number};
 ghost use Rattle.gc_table.specs.Seats.{Across, state_of};
 ghost use Rattle.packet_pools.specs.OnlyTraced.{OnlyTraced};
 ghost use Rattle.packet_pools.specs.Tracing.{IsTracer};
-ghost use Rattle.packet_pools.specs.Seeking.{NoDeferred, NoInput, NoOutput};
+ghost use Rattle.packet_pools.specs.Seeking.{NoDeferred, NoInput, NoOutput, input_pools, output_pools};
 ghost use Rattle.packet_pools.specs.Gains.{FindsNone, Takes, TakesNone};
 
 use crate::held::Held;
@@ -20,8 +21,8 @@ pub fn take_input(heap: &Heap, seat: &mut HeapSeat) -> Option<Held>
     requires free { IsTrue (has_free_slot (state_of seat.old).held) }
     ensures seat { IsTracer heap.now seat.new }
     ensures later { Across OnlyTraced seat.old seat.new }
-    ensures some { IfSome result (λ h. Across (Takes (2 ∷ 1 ∷ []) h) seat.old seat.new × (0 < h.length)) }
-    ensures none { IfNone result (Across (TakesNone (NoInput heap.now.shape) (2 ∷ 1 ∷ [])) seat.old seat.new) }
+    ensures some { IfSome result (λ h. Across (Takes input_pools h) seat.old seat.new × (0 < h.length)) }
+    ensures none { IfNone result (Across (TakesNone (NoInput heap.now.shape) input_pools) seat.old seat.new) }
 {
     match take_any(heap, seat, HIGH_POOL, false) {
         Some(held) => Some(held),
@@ -29,15 +30,15 @@ pub fn take_input(heap: &Heap, seat: &mut HeapSeat) -> Option<Held>
     }
 }
 
-/// Takes a packet with cells that were put off. The seat holds at most three.
+/// Takes a packet with deferred cells. The seat holds at most three.
 /// None comes only where each packet was seen outside the deferred pool, or lost to another seat there, in this call.
 pub fn take_deferred(heap: &Heap, seat: &mut HeapSeat) -> Option<Held>
     requires seat { IsTracer heap.now seat.old }
     requires free { IsTrue (has_free_slot (state_of seat.old).held) }
     ensures seat { IsTracer heap.now seat.new }
     ensures later { Across OnlyTraced seat.old seat.new }
-    ensures some { IfSome result (λ h. Across (Takes (3 ∷ []) h) seat.old seat.new × (0 < h.length)) }
-    ensures none { IfNone result (Across (TakesNone (NoDeferred heap.now.shape) (3 ∷ [])) seat.old seat.new) }
+    ensures some { IfSome result (λ h. Across (Takes (deferred_pool_number ∷ []) h) seat.old seat.new × (0 < h.length)) }
+    ensures none { IfNone result (Across (TakesNone (NoDeferred heap.now.shape) (deferred_pool_number ∷ [])) seat.old seat.new) }
 {
     take_any(heap, seat, DEFERRED_POOL, false)
 }
@@ -49,8 +50,8 @@ fn take_empty(heap: &Heap, seat: &mut HeapSeat) -> Option<Held>
     requires free { IsTrue (has_free_slot (state_of seat.old).held) }
     ensures seat { IsTracer heap.now seat.new }
     ensures later { Across OnlyTraced seat.old seat.new }
-    ensures some { IfSome result (λ h. Across (Takes (0 ∷ []) h) seat.old seat.new) }
-    ensures none { IfNone result (Across (FindsNone heap.now.shape 0 false 0 (64 * pool_words heap.now.shape)) seat.old seat.new) }
+    ensures some { IfSome result (λ h. Across (Takes (empty_pool_number ∷ []) h) seat.old seat.new) }
+    ensures none { IfNone result (Across (FindsNone heap.now.shape empty_pool_number false 0 (64 * pool_words heap.now.shape)) seat.old seat.new) }
 {
     heap.reserve(seat);
     match take_any(heap, seat, EMPTY_POOL, false) {
@@ -70,8 +71,8 @@ pub fn take_output(heap: &Heap, seat: &mut HeapSeat) -> Option<Held>
     requires free { IsTrue (has_free_slot (state_of seat.old).held) }
     ensures seat { IsTracer heap.now seat.new }
     ensures later { Across OnlyTraced seat.old seat.new }
-    ensures some { IfSome result (λ h. Across (Takes (0 ∷ 1 ∷ 2 ∷ []) h) seat.old seat.new × (h.length < heap.now.shape.entries)) }
-    ensures none { IfNone result (Across (TakesNone (NoOutput heap.now.shape) (0 ∷ 1 ∷ 2 ∷ [])) seat.old seat.new) }
+    ensures some { IfSome result (λ h. Across (Takes output_pools h) seat.old seat.new × (h.length < heap.now.shape.entries)) }
+    ensures none { IfNone result (Across (TakesNone (NoOutput heap.now.shape) output_pools) seat.old seat.new) }
 {
     if let Some(held) = take_empty(heap, seat) {
         return Some(held);

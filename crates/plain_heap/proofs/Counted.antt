@@ -21,6 +21,3 @@ section-count s = omega (arith, length-counted 1 (length s.warehouses))
 -- the section numbers are counted from 0 on
 pub section-at : (s : Sections) (w d : ℕ) → w < length (section_numbers s) → get_or (section_numbers s) w d ≡ w
 section-at s w d below = counted-at 0 (suc (length s.warehouses)) w d (omega (arith, section-count s)) ∙ (let e : 0 + w ≡ w = omega arith in e)
-
-pub section-contains : (s : Sections) (w : ℕ) → w < length (section_numbers s) → Contains (section_numbers s) w
-section-contains s w below = counted-contains 0 (suc (length s.warehouses)) w (omega arith) (omega (arith, section-count s))

@@ -1,5 +1,5 @@
 -- Marks, set one reference at a time.
-use Rattle.std.proofs.Common.{◌≡◌, ◌⊎◌, inl, inr, ℕ, zero, suc, ◌+◌, ◌<◌, ◌≤◌, refl, ap, sym, ◌∙◌, subst, arith, List, [], ◌∷◌, ◌++◌, length, Bool, true, false, not, cond, take}
+use Rattle.std.proofs.Common.{◌≡◌, ◌⊎◌, inl, inr, ℕ, zero, suc, ◌+◌, ◌<◌, ◌≤◌, ap, sym, ◌∙◌, subst, arith, List, [], ◌∷◌, ◌++◌, length, Bool, true, false, not, cond, take}
 use Rattle.std.specs.Prelude.{slice_index_or, slice_set, Contains, count_by}
 use Rattle.std.proofs.lemmas.List.{length-append, length-set, get_or-set_same, get_or-set_other, take_more}
 use Rattle.std.proofs.lemmas.List.Elements.{Contains-push, Contains-push_cases, Contains-append_left}
@@ -18,20 +18,7 @@ marked_within [] n h = absurd (no h)
 marked_within (b ∷ marks) zero h = omega arith
 marked_within (b ∷ marks) (suc n) h = omega (arith, marked_within marks n h)
 
--- nothing is marked where all that is asked for is marked already
-pub marks_nothing : (P : ℕ → Type 0) (marks : List Bool) (waiting : List ℕ) → ((n : ℕ) → P n → n < length marks → IsMarked marks n) → Marks P marks marks waiting waiting
-marks_nothing P marks waiting each = record {
-  sized = refl;
-  kept = λ n h. h;
-  each = each;
-  only = λ n h. inl h;
-  still = λ n h. h;
-  wait = λ n h. inl h;
-  marked = λ n h. inl h;
-  left = refl;
-}
-
--- the same of other words for the same numbers
+-- what is marked stays the same where another condition holds of the same numbers
 pub marks_same : (P Q : ℕ → Type 0) (old new : List Bool) (waited waiting : List ℕ) → ((n : ℕ) → Q n → P n) → ((n : ℕ) → P n → Q n) → Marks P old new waited waiting → Marks Q old new waited waiting
 marks_same P Q old new waited waiting to from m = record {
   sized = m.sized;

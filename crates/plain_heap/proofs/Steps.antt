@@ -1,5 +1,5 @@
--- What commands add to a heap.
-use Rattle.std.proofs.Common.{◌≡◌, ℕ, ◌+◌, ◌≤◌, List, [], ◌∷◌, length, refl, ◌∙◌, arith, length-append, Bool, true, false}
+-- How many objects commands add to a heap, whose number they keep.
+use Rattle.std.proofs.Common.{◌≡◌, ℕ, ◌+◌, List, [], ◌∷◌, length, refl, ◌∙◌, arith, length-append}
 use Rattle.std.proofs.Math.ListN.{length-set}
 use Rattle.std.proofs.lemmas.List.Sums.{sum_by-cons}
 use Rattle.std.specs.Prelude.{Option, Some, None, slice_get, if◌then◌else◌}
@@ -22,24 +22,6 @@ stored-objects h refs.Nil change = refl
 stored-objects h (refs.Cat n) change = refl
 stored-objects h (refs.Own n) change = replaced-objects h n change (slice_get h.objects n)
 
-replaced-dropped : (h : Heap) (n : ℕ) (change : Object → Object) (o : Option Object) → (replaced_by h n change o).dropped ≡ h.dropped
-replaced-dropped h n change None = refl
-replaced-dropped h n change (Some object) = refl
-
-stored-dropped : (h : Heap) (r : Ref) (change : Object → Object) → (stored_at h r change).dropped ≤ h.dropped + 1
-stored-dropped h refs.Nil change = omega arith
-stored-dropped h (refs.Cat n) change = omega arith
-stored-dropped h (refs.Own n) change = omega (arith, replaced-dropped h n change (slice_get h.objects n))
-
-replaced-fields : (h : Heap) (n : ℕ) (change : Object → Object) (o : Option Object) → (replaced_by h n change o).fields ≡ h.fields
-replaced-fields h n change None = refl
-replaced-fields h n change (Some object) = refl
-
-stored-fields : (h : Heap) (r : Ref) (change : Object → Object) → (stored_at h r change).fields ≡ h.fields
-stored-fields h refs.Nil change = refl
-stored-fields h (refs.Cat n) change = refl
-stored-fields h (refs.Own n) change = replaced-fields h n change (slice_get h.objects n)
-
 replaced-section : (h : Heap) (n : ℕ) (change : Object → Object) (o : Option Object) → (replaced_by h n change o).section ≡ h.section
 replaced-section h n change None = refl
 replaced-section h n change (Some object) = refl
@@ -60,37 +42,6 @@ objects_after h catalogue (ops.Put v n) = omega (arith, stored-objects h (variab
 objects_after h catalogue (ops.Say v) = omega arith
 objects_after h catalogue (ops.Sum v i limit) = omega arith
 objects_after h catalogue ops.Collect = omega arith
-
-at_most_one : (b : Bool) → (if b then 1 else 0) ≤ 1
-at_most_one true = omega arith
-at_most_one false = omega arith
-
-pub objects_grow : (h : Heap) (catalogue : Option Heap) (op : Op) → length (heap_after h catalogue op).objects ≤ length h.objects + 1
-objects_grow h catalogue op = omega (arith, objects_after h catalogue op, at_most_one (makes_object op))
-
-pub dropped_after : (h : Heap) (catalogue : Option Heap) (op : Op) → (heap_after h catalogue op).dropped ≤ h.dropped + 1
-dropped_after h catalogue (ops.New v n) = omega arith
-dropped_after h catalogue (ops.Let v w) = omega arith
-dropped_after h catalogue (ops.Nil v) = omega arith
-dropped_after h catalogue (ops.Set v i w) = stored-dropped h (variable h v) (λ object. with_field object i (variable h w))
-dropped_after h catalogue (ops.Get v w i) = omega arith
-dropped_after h catalogue (ops.Cat v c) = omega arith
-dropped_after h catalogue (ops.Put v n) = stored-dropped h (variable h v) (λ object. with_value object n)
-dropped_after h catalogue (ops.Say v) = omega arith
-dropped_after h catalogue (ops.Sum v i limit) = omega arith
-dropped_after h catalogue ops.Collect = omega arith
-
-pub fields_after : (h : Heap) (catalogue : Option Heap) (op : Op) → (heap_after h catalogue op).fields ≡ h.fields
-fields_after h catalogue (ops.New v n) = refl
-fields_after h catalogue (ops.Let v w) = refl
-fields_after h catalogue (ops.Nil v) = refl
-fields_after h catalogue (ops.Set v i w) = stored-fields h (variable h v) (λ object. with_field object i (variable h w))
-fields_after h catalogue (ops.Get v w i) = refl
-fields_after h catalogue (ops.Cat v c) = refl
-fields_after h catalogue (ops.Put v n) = stored-fields h (variable h v) (λ object. with_value object n)
-fields_after h catalogue (ops.Say v) = refl
-fields_after h catalogue (ops.Sum v i limit) = refl
-fields_after h catalogue ops.Collect = refl
 
 pub section_after : (h : Heap) (catalogue : Option Heap) (op : Op) → (heap_after h catalogue op).section ≡ h.section
 section_after h catalogue (ops.New v n) = refl

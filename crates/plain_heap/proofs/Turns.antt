@@ -1,5 +1,5 @@
 -- One more command of a section: what it does and prints, and what stands where a part begins and ends.
-use Rattle.std.proofs.Common.{◌≡◌, ℕ, ◌+◌, ◌-◌, ◌<◌, ◌≤◌, refl, ap, sym, ◌∙◌, arith, List, [], ◌++◌, length, take, append_assoc}
+use Rattle.std.proofs.Common.{◌≡◌, ℕ, ◌+◌, ◌-◌, ◌<◌, ◌≤◌, ap, sym, ◌∙◌, arith, List, [], ◌++◌, length, take, append_assoc}
 use Rattle.std.specs.Prelude.{None, slice_get}
 use Rattle.std.proofs.lemmas.List.{take-map, append-nil}
 use Rattle.std.proofs.lemmas.Option.{slice_get_within, same_Some}
@@ -65,9 +65,6 @@ at-start s w = heap-none s w 1 (empty_heap s.fields w) (parts_of s w)
 
 pub at-start-printed : (s : Sections) (w : ℕ) → printed_before s w 0 ≡ []
 at-start-printed s w = printed-none s w 1 (empty_heap s.fields w) (parts_of s w)
-
-pub end-start : (s : Sections) (w : ℕ) → end_of s w 0 ≡ 0
-end-start s w = refl
 
 -- where a part ends
 pub at-part-end : (s : Sections) (w z : ℕ) → plain s w (end_of s w z) ≡ part_end s w z

@@ -1,17 +1,12 @@
 -- A walk, one object at a time.
-use Rattle.std.proofs.Common.{◌≡◌, ℕ, zero, suc, ◌+◌, ◌-◌, ◌<◌, refl, ap, sym, ◌∙◌, arith}
+use Rattle.std.proofs.Common.{◌≡◌, ℕ, suc, ◌+◌, ◌-◌, ◌<◌, refl, ap, sym, ◌∙◌, arith}
 use Rattle.std.specs.Prelude.{Option}
 use Rattle.plain_heap.specs.declared.object.Ref.{Ref}
 use Rattle.plain_heap.specs.declared.object.Ref.TheVariants as refs
 use Rattle.plain_heap.specs.PlainHeap.{Heap}
 use Rattle.plain_heap.specs.PlainStep.{walk, onto, value_of, object_of, followed}
 
--- a walk from nil meets nothing
-pub walk_nil : (heap : Heap) (catalogue : Option Heap) (i k : ℕ) → walk heap catalogue i k refs.Nil ≡ (0, 0)
-walk_nil heap catalogue i zero = refl
-walk_nil heap catalogue i (suc k) = refl
-
--- any other walk meets an object and goes on from its field
+-- a walk from a reference that is not nil meets an object and goes on from its field
 pub walk_on : (heap : Heap) (catalogue : Option Heap) (i k n : ℕ) (ref : Ref) → (ref ≡ refs.Nil → ⊥) → n ≡ suc k
     → walk heap catalogue i n ref ≡ onto (value_of (object_of heap catalogue ref)) (walk heap catalogue i k (followed heap catalogue ref i))
 walk_on heap catalogue i k n ref some e = ap (λ (m : ℕ). walk heap catalogue i m ref) e ∙ on ref some

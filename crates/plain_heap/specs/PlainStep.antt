@@ -138,19 +138,6 @@ IsInRange fields (ops.Say v) = v < 32
 IsInRange fields (ops.Sum v i limit) = (v < 32) × (i < fields) × (limit ≤ 65536)
 IsInRange fields ops.Collect = Unit {0}
 
--- what the catalogue allows
-abbrev pub IsForCatalogue : Op → Type 0
-IsForCatalogue (ops.New v n) = Unit {0}
-IsForCatalogue (ops.Let v w) = Unit {0}
-IsForCatalogue (ops.Nil v) = Unit {0}
-IsForCatalogue (ops.Set v i w) = Unit {0}
-IsForCatalogue (ops.Get v w i) = Unit {0}
-IsForCatalogue (ops.Put v n) = Unit {0}
-IsForCatalogue (ops.Cat v c) = ⊥
-IsForCatalogue (ops.Say v) = ⊥
-IsForCatalogue (ops.Sum v i limit) = ⊥
-IsForCatalogue ops.Collect = ⊥
-
 -- the one operation that takes memory
 abbrev pub MakesObject : Op → Type 0
 MakesObject (ops.New v n) = Unit {0}

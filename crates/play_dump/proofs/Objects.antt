@@ -1,17 +1,15 @@
 -- The numbers of objects at the end of the plain runs.
-use Rattle.std.proofs.Common.{◌≡◌, ℕ, ◌<◌, ◌≤◌, ap, sym, ◌∙◌, subst, arith, length}
+use Rattle.std.proofs.Common.{◌≡◌, ℕ, ◌<◌, ◌≤◌, ap, arith, length}
 use Rattle.std.specs.Prelude.{Some, slice_get}
 use Rattle.std.proofs.lemmas.List.Sums.{get_or-le-sum_by, count_by-le-length}
 use Rattle.std.proofs.lemmas.Option.{slice_get_within}
 use Rattle.plain_heap.specs.declared.object.Object.{Object}
 use Rattle.plain_heap.specs.PlainHeap.{Heap}
 use Rattle.plain_heap.specs.Sections.{Execution, Sections, section_numbers, seasons, end_of, executed_of, executed_total, makes_object}
-use Rattle.plain_heap.specs.PlainRun.{last_heap, last_heaps}
-use Rattle.plain_heap.specs.Paths.{Name, HasObject, IsReachable}
+use Rattle.plain_heap.specs.PlainRun.{last_heap}
 use Rattle.plain_heap.proofs.Counted.{section-at}
-use Rattle.plain_heap.proofs.TurnBounds.{plain-section, objects-most}
+use Rattle.plain_heap.proofs.TurnBounds.{objects-most}
 use Rattle.plain_heap.proofs.TurnEnds.{at-last}
-use Rattle.play_contract.proofs.SectionLists.{of-section}
 
 -- the number of an object is small, as the commands of the script are few
 pub number-few : (s : Sections) (w n : ℕ) (o : Object) → executed_total s ≤ 2000000 → w < length (section_numbers s) → slice_get (last_heap s w).objects n ≡ Some o → n < 2000000

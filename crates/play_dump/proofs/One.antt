@@ -1,5 +1,5 @@
 -- A script has one final heap.
-use Rattle.std.proofs.Common.{◌≡◌, inl, inr, ℕ, ◌+◌, ◌-◌, ◌*◌, ◌/◌, ◌%◌, ◌<◌, ◌≤◌, refl, ap, sym, ◌∙◌, subst, arith, List, [], ◌∷◌, length, map, get_or}
+use Rattle.std.proofs.Common.{◌≡◌, inl, inr, ℕ, ◌+◌, ◌-◌, ◌*◌, ◌/◌, ◌%◌, ◌<◌, ap, sym, ◌∙◌, subst, arith, List, length, map, get_or}
 use Rattle.std.specs.Prelude.{Some, slice_get, slice_index_or}
 use Rattle.std.proofs.lemmas.List.{ext_get_or, length-map}
 use Rattle.std.proofs.lemmas.Option.{same_Some}
@@ -10,7 +10,7 @@ use Rattle.plain_heap.specs.PlainHeap.{variable}
 use Rattle.plain_heap.specs.Sections.{Sections}
 use Rattle.plain_heap.specs.PlainRun.{last_heap}
 use Rattle.plain_heap.specs.Paths.{Name, Names, name_of}
-use Rattle.gc_table.proofs.StandsNamed.{names-one}
+use Rattle.gc_table.proofs.Stands.StandsNamed.{names-one}
 use Rattle.heap_dump.specs.Final.{Object, Heap, object, blank}
 use Rattle.play_contract.proofs.InOrder.{same-names}
 use Rattle.play_dump.specs.Final.{name_in, survivor_in, IsNumberOf, IsFinalHeap}

@@ -1,5 +1,5 @@
 -- Each cell that can be reached has a survivor, and the cell is its place in the report.
-use Rattle.std.proofs.Common.{◌≡◌, ◌⊎◌, inl, inr, ℕ, zero, suc, ◌<◌, ◌≤◌, refl, ap, sym, ◌∙◌, subst, arith, List, [], ◌∷◌, length, map, get_or}
+use Rattle.std.proofs.Common.{◌≡◌, ◌⊎◌, inl, inr, ℕ, ◌<◌, ◌≤◌, ap, sym, ◌∙◌, subst, arith, List, [], length, map, get_or}
 use Rattle.std.specs.Prelude.{Option, Some, option_map, slice_get, slice_index}
 use Rattle.std.proofs.lemmas.Bool.{cases_lt}
 use Rattle.std.proofs.lemmas.List.{length-map}
@@ -23,11 +23,11 @@ use Rattle.gc_table.specs.declared.words.Words.{Words}
 use Rattle.gc_table.specs.Laws.{IsCellOfObject}
 use Rattle.gc_table.specs.StandsFor.{name_at}
 use Rattle.gc_table.specs.TableState.{TableState, meanings_of, section_at}
-use Rattle.gc_table.proofs.StandsReached.{objects-have-cells, cells-have-objects}
-use Rattle.gc_table.proofs.StandsStores.{used-exists}
-use Rattle.gc_table.proofs.StandsUsed.{reachable-used}
+use Rattle.gc_table.proofs.Stands.StandsReached.{objects-have-cells, cells-have-objects}
+use Rattle.gc_table.proofs.Stands.StandsStores.{used-exists}
+use Rattle.gc_table.proofs.Stands.StandsUsed.{reachable-used}
 use Rattle.play_end.specs.Ended.{IsStateOf, IsUsed, ArePlaces}
-use Rattle.play_end.proofs.EndClosed.{some-seat}
+use Rattle.play_end.proofs.EndClosed.{element-at, end-count, end-position, end-positions, own-section, played-state}
 use Rattle.play_end.proofs.EndFilled.{halves}
 use Rattle.play_end.proofs.EndHeaps.{reached-run, reached-stand}
 use Rattle.play_contract.proofs.Members.{map-from, map-to}
@@ -36,7 +36,6 @@ use Rattle.play_end.proofs.EndPlaced.{last-done, lies-in}
 use Rattle.play_contract.proofs.SectionLists.{got, contains_got}
 use Rattle.play_dump.specs.Ending.{IsEndOf}
 use Rattle.play_dump.specs.Telling.{IsSurvivor, cell_in, ArePlaced}
-use Rattle.play_dump.proofs.Closing.{ends, all-done, own-section, played-state, ident-count}
 use Rattle.play_dump.proofs.Lists.{image-at, few-images}
 use Rattle.play_contract.proofs.LastHeaps.{reached-object}
 
@@ -49,29 +48,21 @@ abbrev pub end_state : (s : Sections) (r : Report) (w : Words) → IsEndOf s r w
 end_state s r w e = e.closed.end.state
 
 module _ (s : Sections) (r : Report) (w : Words) (e : IsEndOf s r w) where
-  pub stands : IsStateOf s e.shape.cells (ends s) (end_state s r w e)
-  stands = played-state s e.shape e.seats w e.closed e.played
+  pub stands : IsStateOf s e.shape.cells (end-positions s) (end_state s r w e)
+  stands = played-state s e.shape.cells e.shape e.seats w e.closed e.played
 
   -- the cells of each section's objects are those of its report
   pub are-places : ArePlaces s (end_state s r w e) (places_of r)
   are-places = record { sections = length-map r.parts.items (λ (p : Part). p.places.items) ∙ e.parts.sections; each = each }
     where
-      part-at : (i : ℕ) → i < length r.parts.items → (p : Part) × (slice_get r.parts.items i ≡ Some p)
-      part-at i below = some-part r.parts.items i below
-        where
-          some-part : (xs : List Part) (j : ℕ) → j < length xs → (x : Part) × (slice_get xs j ≡ Some x)
-          some-part [] j below = absurd (omega (arith, below))
-          some-part (x ∷ xs) zero below = (x, refl)
-          some-part (x ∷ xs) (suc j) below = some-part xs j (omega (arith, below))
-
       each : (i : ℕ) → i < length (places_of r) → cells_of (places_of r) i ≡ map (λ (p : Place). p.cell) (section_at (end_state s r w e).sections i).places
       each i below =
           let inside : i < length r.parts.items = omega (arith, below, length-map r.parts.items (λ (p : Part). p.places.items)) in
           let within : i < length (section_numbers s) = omega (arith, inside, e.parts.sections) in
-          let p = part-at i inside in
-          let seat = some-seat e.seats i (omega (arith, within, e.closed.made.seated)) in
+          let p = element-at r.parts.items i inside in
+          let seat = element-at e.seats i (omega (arith, within, e.closed.made.seated)) in
           image-at (λ (q : Part). q.places.items) r.parts.items p.0 [] i p.1
-          ∙ ((e.parts.each i p.0 seat.0 p.1 seat.1).cells_are ∙ ap (λ (y : SectionState). map (λ (q : Place). q.cell) y.places) (sym (own-section s e.shape e.seats w e.closed i seat.0 seat.1 within)))
+          ∙ ((e.parts.each i p.0 seat.0 p.1 seat.1).cells_are ∙ ap (λ (y : SectionState). map (λ (q : Place). q.cell) y.places) (sym (own-section s e.shape.cells e.shape e.seats w e.closed i seat.0 seat.1 within)))
 
   -- the survivors are those of the report
   pub reached-survivor : (name : Name) → IsReachable (last_heaps s) name → (j : ℕ) × (y : Survivor) × IsSurvivor r j y × (named y ≡ name)
@@ -100,8 +91,8 @@ module _ (s : Sections) (r : Report) (w : Words) (e : IsEndOf s r w) where
   -- the cell there is in use, and has the survivor's name
   pub in-cell : (j : ℕ) (y : Survivor) → IsSurvivor r j y → IsUsed (end_state s r w e).core (cell_in r y) × (name_at (the_words (end_state s r w e)).identities (cell_in r y) ≡ named y)
   in-cell j y at =
-      lies-in s e.shape.cells (ends s) (end_state s r w e) (places_of r) (named y) (cell_in r y) stands are-places
-      (subst (λ (hs : List Heap). IsReachable hs (named y)) (sym (last-done s (ends s) (all-done s))) (survivor-reached j y at))
+      lies-in s e.shape.cells (end-positions s) (end_state s r w e) (places_of r) (named y) (cell_in r y) stands are-places
+      (subst (λ (hs : List Heap). IsReachable hs (named y)) (sym (last-done s (end-positions s) (end-position s))) (survivor-reached j y at))
       (slice_get-get_or (cells_of (places_of r) y.section) y.number 0 (survivor-number j y at))
 
   -- no two cells in use have one name
@@ -118,8 +109,8 @@ module _ (s : Sections) (r : Report) (w : Words) (e : IsEndOf s r w) where
       let x : TableState = end_state s r w e in
       let name : Name = name_at (the_words x).identities c in
       let reached : IsReachable (last_heaps s) name =
-      subst (λ (hs : List Heap). IsReachable hs name) (last-done s (ends s) (all-done s))
-      (reached-run s e.shape.cells (ends s) x name stands (cells-have-objects x.core (meanings_of x.sections) e.closed.end.whole.core e.closed.end.whole.stands c reach).1) in
+      subst (λ (hs : List Heap). IsReachable hs name) (last-done s (end-positions s) (end-position s))
+      (reached-run s e.shape.cells (end-positions s) x name stands (cells-have-objects x.core (meanings_of x.sections) e.closed.end.whole.core e.closed.end.whole.stands c reach).1) in
       let y = reached-survivor name reached in
       let at = in-cell y.0 y.1 y.2 in
       (y.0, y.1, y.2, one-cell (cell_in r y.1) c at.0 (reachable-used x.core c e.closed.end.whole.core reach) (at.1 ∙ y.3))
@@ -127,7 +118,7 @@ module _ (s : Sections) (r : Report) (w : Words) (e : IsEndOf s r w) where
   pub cell-exists : (c : ℕ) → IsReachableIn (end_state s r w e).core c → c < length w.idents.items
   cell-exists c reach =
       let core = (end_state s r w e).core in
-      omega (arith, used-exists core e.closed.end.whole.core c (reachable-used core c e.closed.end.whole.core reach), ap (λ (h : Shape). h.cells) e.closed.end.shape, ident-count s e.shape e.seats w e.closed)
+      omega (arith, used-exists core e.closed.end.whole.core c (reachable-used core c e.closed.end.whole.core reach), ap (λ (h : Shape). h.cells) e.closed.end.shape, end-count s e.shape.cells e.shape e.seats w e.closed)
 
   -- the place of a survivor can be reached, and has its object
   pub survivor-cell : (j : ℕ) (y : Survivor) → IsSurvivor r j y → IsCellOfObject (end_state s r w e).core (meanings_of (end_state s r w e).sections) (named y) (cell_in r y) × IsReachableIn (end_state s r w e).core (cell_in r y)
@@ -136,7 +127,7 @@ module _ (s : Sections) (r : Report) (w : Words) (e : IsEndOf s r w) where
       let ms : List Meaning = meanings_of x.sections in
       let cell =
       objects-have-cells x.core ms e.closed.end.whole.core e.closed.end.whole.stands (named y)
-      (reached-stand s e.shape.cells (ends s) x (named y) stands (subst (λ (hs : List Heap). IsReachable hs (named y)) (sym (last-done s (ends s) (all-done s))) (survivor-reached j y at))) in
+      (reached-stand s e.shape.cells (end-positions s) x (named y) stands (subst (λ (hs : List Heap). IsReachable hs (named y)) (sym (last-done s (end-positions s) (end-position s))) (survivor-reached j y at))) in
       let here = in-cell j y at in
       let same : cell.0 ≡ cell_in r y = one-cell cell.0 (cell_in r y) cell.1.0 here.0 (cell.1.1 ∙ sym here.1) in
       (subst (IsCellOfObject x.core ms (named y)) same cell.1, subst (IsReachableIn x.core) same cell.2)
@@ -176,7 +167,7 @@ module _ (s : Sections) (r : Report) (w : Words) (e : IsEndOf s r w) where
 
   pub are-placed : ArePlaced r (length w.idents.items)
   are-placed = record {
-    few = omega (arith, few-images (cell_in r) r.survivors.items (length w.idents.items) (record { section = 0; number = 0; value = 0 }) below places-apart, ident-count s e.shape e.seats w e.closed, ap (λ (h : Shape). h.cells) e.closed.end.shape, e.few);
+    few = omega (arith, few-images (cell_in r) r.survivors.items (length w.idents.items) (record { section = 0; number = 0; value = 0 }) below places-apart, end-count s e.shape.cells e.shape e.seats w e.closed, ap (λ (h : Shape). h.cells) e.closed.end.shape, e.few);
     each = λ j y at. record { section = survivor-section j y at; number = survivor-number j y at; cell = below j y at };
     apart = places-apart;
   }

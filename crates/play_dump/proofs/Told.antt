@@ -7,7 +7,7 @@ use Rattle.std.proofs.lemmas.Option.{slice_get_within, same_Some}
 use Rattle.mark_core.specs.declared.kinds.Shape.{Shape}
 use Rattle.mark_core.specs.Cells.{field}
 use Rattle.mark_core.specs.Closed.{IsReachableIn}
-use Rattle.mark_core.specs.HeapRules.{section_of}
+use Rattle.mark_core.specs.Rules.HeapRules.{section_of}
 use Rattle.mark_core.proofs.AtSeat.{roots-length}
 use Rattle.mark_core.proofs.Exacts.ExactsReach.{reach-root, reach-field}
 use Rattle.plain_heap.specs.declared.object.Ref.{Ref}
@@ -30,7 +30,8 @@ use Rattle.play_end.proofs.EndListed.{the_words}
 use Rattle.play_dump.specs.Ending.{IsEndOf}
 use Rattle.play_dump.specs.Final.{IsNumberOf, name_in}
 use Rattle.play_dump.specs.Telling.{IsSurvivor, cell_in, AreNumbers, number_of, field_word, HasFields}
-use Rattle.play_dump.proofs.Closing.{ends, last-alike, roots-are, fields-are, ident-count, field-count}
+use Rattle.play_end.proofs.EndClosed.{end-count, end-positions}
+use Rattle.play_dump.proofs.Closing.{last-alike, roots-are, fields-are, field-count}
 use Rattle.play_dump.proofs.Reached.{named, end_state, stands, in-cell, cell-survivor, cell-exists, survivor-cell}
 
 -- the records are those of the survivors
@@ -91,7 +92,7 @@ module _ (s : Sections) (r : Report) (w : Words) (e : IsEndOf s r w) where
       let x : TableState = end_state s r w e in
       let o = stands s r w e in
       let m : Meaning = (section_at x.sections i).meaning in
-      let there = meaning-there s e.shape.cells (ends s) x i o within in
+      let there = meaning-there s e.shape.cells (end-positions s) x i o within in
       let place : i * 32 + v ≡ 32 * i + v = omega arith in
       let inside : 32 * i + v < length w.roots.items = omega (arith, within, low, root-count) in
       let same : variable m.heap v ≡ variable (last_heap s i) v = ap (λ (l : List Ref). slice_index_or l v refs.Nil) (alike-variables m.heap (last_heap s i) (last-alike s e.shape.cells x i m o there)) in
@@ -126,7 +127,7 @@ module _ (s : Sections) (r : Report) (w : Words) (e : IsEndOf s r w) where
       long : length w.fields.items ≡ length w.idents.items * s.fields
       long =
           field-count s e.shape e.seats w e.closed
-          ∙ (ap (λ (n : ℕ). n * e.shape.fields) (sym (ident-count s e.shape e.seats w e.closed)) ∙ ap (λ (n : ℕ). length w.idents.items * n) e.closed.made.fields)
+          ∙ (ap (λ (n : ℕ). n * e.shape.fields) (sym (end-count s e.shape.cells e.shape e.seats w e.closed)) ∙ ap (λ (n : ℕ). length w.idents.items * n) e.closed.made.fields)
 
       room : cell_in r y * s.fields + s.fields ≤ length w.fields.items
       room = subst (λ (n : ℕ). cell_in r y * s.fields + s.fields ≤ n) (sym long) (room-for (cell_in r y) (length w.idents.items) s.fields below)

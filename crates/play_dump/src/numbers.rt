@@ -1,13 +1,16 @@
 //! For each cell the number of the record of the object in it.
-ghost use Rattle.std.specs.Prelude.{◌≡◌, ◌≤◌, IfOk, vec_len};
-ghost use Rattle.play_dump.specs.Telling.{ArePlaced, AreNumbers, HasPlace, cell_in};
+ghost use Rattle.std.specs.Prelude.{◌≡◌, ◌<◌, ◌≤◌, IfOk, length, vec_len};
+ghost use Rattle.plain_heap.specs.Placement.{cells_of};
+ghost use Rattle.play_contract.specs.Playing.{places_of};
+ghost use Rattle.play_dump.specs.Telling.{ArePlaced, AreNumbers, cell_in};
 
 use play_report::{Report, Survivor};
 use std::alloc::{AllocError, Global};
 
 /// The cell in which a survivor lies.
-pub(crate) fn cell_of(report: &Report<'_>, survivor: &Survivor, _cells: usize) -> usize
-    requires { HasPlace report.now _cells survivor.now }
+pub(crate) fn cell_of(report: &Report<'_>, survivor: &Survivor) -> usize
+    requires section { survivor.now.section < length report.now.parts.items }
+    requires number { survivor.now.number < length (cells_of (places_of report.now) survivor.now.section) }
     ensures { result ≡ cell_in report.now survivor.now }
 {
     let part = &report.parts[survivor.section as usize];
@@ -25,7 +28,7 @@ pub(crate) fn number_cells(
 {
     let mut numbers = vec![in alloc; 0u32; cells]?;
     for (k, survivor) in report.survivors.iter().enumerate() {
-        let cell = cell_of(report, survivor, cells);
+        let cell = cell_of(report, survivor);
         numbers[cell] = k as u32 + 1;
     }
     Ok(numbers)

@@ -1,6 +1,6 @@
 //! Words and survivors as a dump tells them.
-ghost use Rattle.std.specs.Prelude.{◌≡◌, ◌<◌, ◌≤◌, ◌+◌, ◌*◌, ℕ, All, IfOk, length, map, slice_index};
-ghost use Rattle.play_dump.specs.Telling.{ArePlaced, AreRecords, AreRefs, HasFields, HasPlace, IsRecord, IsSurvivor, cell_in, field_word, number_of as number_told};
+ghost use Rattle.std.specs.Prelude.{◌≡◌, ◌<◌, ◌≤◌, ◌+◌, ◌*◌, ℕ, All, IfOk, length, map};
+ghost use Rattle.play_dump.specs.Telling.{ArePlaced, AreRecords, AreRefs, HasFields, HasPlace, IsRecord, IsSurvivor, cell_in, number_of as number_told};
 
 use crate::numbers::cell_of;
 use gc_table::Words;
@@ -60,7 +60,7 @@ fn tell_survivor(
     requires fields { HasFields words.now fields (length numbers.now) (cell_in report.now survivor.now) }
     ensures { IsRecord numbers.now report.now words.now fields survivor.now result }
 {
-    let cell = cell_of(report, survivor, numbers.len());
+    let cell = cell_of(report, survivor);
     FinalRecord {
         section: survivor.section,
         number: survivor.number,

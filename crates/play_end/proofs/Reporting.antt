@@ -1,5 +1,5 @@
 -- The report follows from what a closed heap gives and from what the players had.
-use Rattle.std.proofs.Common.{◌≡◌, ℕ, zero, suc, ◌+◌, ◌%◌, ◌<◌, ◌≤◌, refl, ap, sym, ◌∙◌, subst, arith, List, [], ◌∷◌, length, map, get_or}
+use Rattle.std.proofs.Common.{◌≡◌, ℕ, suc, ◌+◌, ◌%◌, ◌<◌, ◌≤◌, refl, ap, sym, ◌∙◌, subst, arith, List, [], ◌∷◌, length, map, get_or}
 use Rattle.std.proofs.lemmas.List.{length-map, get_or-map}
 use Rattle.std.proofs.lemmas.List.Sums.{count_by-le-length, sum_by-cons}
 use Rattle.std.proofs.lemmas.Option.{slice_get_within, get_or_from_slice_get}
@@ -29,7 +29,8 @@ use Rattle.play_end.specs.Ended.{AreInRange}
 use Rattle.play_end.specs.Closed.{IsClosed, PlayedAll, ArePlacesOf, EndsWell, SeatsStopped, EndsFull}
 use Rattle.play_contract.specs.Playing.{places_of, IsReport}
 use Rattle.play_end.specs.Reported.{AreHeld, AreParts, ListsWords, IsShort}
-use Rattle.play_end.proofs.EndClosed.{some-seat, ends-well, ends-full}
+use Rattle.play_end.proofs.EndClosed.{element-at, ends-well}
+use Rattle.play_end.proofs.FullClosed.{ends-full}
 
 -- what a section said, dropped and placed
 abbrev said_of : Part → List Printed
@@ -96,14 +97,9 @@ placed-few s places small each =
 part-had : (s : Sections) (seats : List HeapSeat) (r : Report) (k : ℕ) → AreParts s seats r.parts.items → length (section_numbers s) ≤ length seats → k < length r.parts.items
     → (p : Part) × (seat : HeapSeat) × (slice_get r.parts.items k ≡ Some p) × (slice_get seats k ≡ Some seat) × HasSaid s k (end_of s k (seasons s)) (said_of p) (dropped_of p) (placed_of p) (view_of seat).own
 part-had s seats r k a seated below =
-    let part = some-part r.parts.items k below in
-    let seat = some-seat seats k (omega (arith, below, a.sections, seated)) in
+    let part = element-at r.parts.items k below in
+    let seat = element-at seats k (omega (arith, below, a.sections, seated)) in
     (part.0, seat.0, part.1, seat.1, a.each k part.0 seat.0 part.1 seat.1)
-  where
-    some-part : (xs : List Part) (j : ℕ) → j < length xs → (x : Part) × (slice_get xs j ≡ Some x)
-    some-part [] j below = absurd (omega (arith, below))
-    some-part (x ∷ xs) zero below = (x, refl)
-    some-part (x ∷ xs) (suc j) below = some-part xs j (omega (arith, below))
 
 -- a field of part k
 part-field : {X : Type 0} (f : Part → X) (parts : List Part) (k : ℕ) (p : Part) (d : X) → slice_get parts k ≡ Some p → get_or (map f parts) k d ≡ f p

@@ -16,7 +16,7 @@ pub fn write_usage<K: Sink>(sink: &mut K) -> Result<(), Failed>
     write_all(sink, b"usage: gcplay command [options]\n")
 }
 
-/// Writes the text of status 2: the number and the name of the fault, and its place. Want of
+/// Writes the text of status 2: the number and the name of the fault, and its place. Out of
 /// memory is no fault of a script and has no text. Failed only where the sink's count of faults
 /// rose in this call, and a prefix of the text was then written. The line is one piece, and the
 /// rest of a piece that was taken in part is handed again. It takes no memory.

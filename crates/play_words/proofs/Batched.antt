@@ -60,18 +60,6 @@ pub fault_answer : (o : Options) (bytes : List ℕ) (fault : Option Fault) → M
 fault_answer o bytes None is status text a = absurd a
 fault_answer o bytes (Some fault) is status text a = subst (λ (r : Result (List (List ℕ)) Fault). BatchesTo o r status text) (sym is) a
 
--- what was written into an empty text is an answer with the status
-pub kept_answer : (A : ℕ → List ℕ → Type 0) (status : Status) (text : List ℕ) (before now : ℕ) → (status ≡ ends.WriteFault → ⊥) → (status ≡ ends.Memory → ⊥)
-    → TextEnds A status (Some []) (Some text) before now → A (code_of status) text
-kept_answer A ends.Done text before now fault memory ((t, a, is), same) = subst (A 0) (sym is) a
-kept_answer A ends.Usage text before now fault memory ((t, a, is), same) = subst (A 1) (sym is) a
-kept_answer A ends.InputFault text before now fault memory ((t, a, is), same) = subst (A 2) (sym is) a
-kept_answer A ends.Full text before now fault memory ((t, a, is), same) = subst (A 3) (sym is) a
-kept_answer A ends.ReadFault text before now fault memory h = absurd h
-kept_answer A ends.WriteFault text before now fault memory h = absurd (fault refl)
-kept_answer A ends.Memory text before now fault memory h = absurd (memory refl)
-kept_answer A ends.Refused text before now fault memory ((t, a, is), same) = subst (A 7) (sym is) a
-
 -- a job's line and its text
 pub job_pieces : (d : JobDone) (text : List ℕ) → text ≡ d.text → job_line d.job d.status (length text) ++ text ≡ job_text d
 job_pieces d text is = ap (λ (t : List ℕ). job_line d.job d.status (length t) ++ t) is

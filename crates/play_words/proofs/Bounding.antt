@@ -14,7 +14,6 @@ use Rattle.play_words.specs.Bounded.{KeepsFew}
 use Rattle.plain_heap.proofs.Counted.{section-count, section-at}
 use Rattle.plain_heap.proofs.TurnBounds.{plain-section, objects-most}
 use Rattle.plain_heap.proofs.OwnReaching.{IsOnly, reached-beside, reached-alone}
-use Rattle.plain_heap.proofs.ReachedNumbers.{own-reached}
 use Rattle.plain_heap.proofs.SectionNames.{numbers_of, numbers-contain, numbers-contained, numbers-ordered, sum-most, names-few, rising-few}
 
 -- the heap of a section at these positions, and those of all sections
@@ -77,10 +76,6 @@ catalogue-numbers s done names r k d inside =
 abbrev bound : ℕ → (ℕ → ℕ) → ℕ → ℕ
 bound made most zero = made
 bound made most (suc w) = most (suc w)
-
--- what a section that keeps few reaches can be listed after each number of its commands
-pub few-reached : (s : Sections) (w most k : ℕ) → KeepsFew s w most → (numbers : List ℕ) × AreOwnReachable (plain s w k) numbers × (length numbers ≤ most)
-few-reached s w most k keeps = let found = own-reached (plain s w k) in (found.0, found.1, keeps k found.0 found.1)
 
 -- at any positions at most so many objects are reachable
 pub few-reachable : (s : Sections) (done : List ℕ) (names : List Name) (most : ℕ → ℕ) → ((w : ℕ) → 0 < w → w < length (section_numbers s) → KeepsFew s w (most w))

@@ -1,13 +1,14 @@
 -- What a play answers.
-use Rattle.std.proofs.Common.{◌≡◌, ℕ, List, refl, ap, subst, inl, inr, Bool, true, false, map}
+use Rattle.std.proofs.Common.{◌≡◌, ℕ, List, refl, sym, ap, subst, inl, Bool, true, false, map}
 use Rattle.std.specs.Prelude.{MatchBool, Ok, Err}
-use Rattle.plain_heap.specs.Placement.{IsPlaced, IsFilled}
+use Rattle.plain_heap.specs.Placement.{IsPlaced}
 use Rattle.gc_script.specs.Script.{Script}
 use Rattle.play_report.specs.Report.{Outcome, outcome_of, survivor_of}
 use Rattle.play_report.specs.Text.{report_text, full_text, brief_text, IsFullText}
 use Rattle.plain_heap.specs.Sections.{Sections, executed_total}
 use Rattle.play_report.specs.declared.report.Report.{Report}
 use Rattle.play_report.specs.declared.report.Positions.{Positions}
+use Rattle.play_words.specs.Ending.{IsStopAnswer}
 use Rattle.play_words.specs.RunAnswers.{PlaysTo}
 use Rattle.play_words.specs.Loading.{LoadsTo}
 use Rattle.play_contract.specs.Playing.{IsReport, PlayAnswers, places_of}
@@ -33,20 +34,16 @@ done_answer o s r report = inl (
   },
 )
 
-filled_at : (s : Sections) (cells : ℕ) (e : PlayError) (p : Positions) → e ≡ errors.Full p → PlayAnswers (Err e) s cells → IsFilled s cells p.section p.done.items
-filled_at s cells e p is h = subst (λ (x : PlayError). PlayAnswers (Err x) s cells) is h
+-- positions answer a play that found too few cells
+pub stop_answer : (e : PlayError) (p : Positions) → e ≡ errors.Full p → IsStopAnswer e 3 (full_text p.section p.done.items)
+stop_answer e p is = subst (λ (x : PlayError). IsStopAnswer x 3 (full_text p.section p.done.items)) (sym is) (refl, refl)
 
-full_of : (o : Options) (s : Script) (p : Positions) → IsFilled s.sections o.cells p.section p.done.items → IsFullText s.sections o.cells (full_text p.section p.done.items)
-full_of o s p filled = record { section = p.section; positions = p.done.items; filled = filled; written = refl }
+-- the reachable objects fill all cells at these positions
+pub stopped : (s : Sections) (cells : ℕ) (e : PlayError) → PlayAnswers (Err e) s cells → (status : ℕ) (text : List ℕ) → IsStopAnswer e status text → (status ≡ 3) × IsFullText s cells text
+stopped s cells errors.OutOfMemory h status text a = absurd a
+stopped s cells (errors.Full p) h status text a = (a.0, record { section = p.section; positions = p.done.items; filled = h; written = a.1 })
 
--- positions answer it
-pub full_answer : (o : Options) (s : Script) (e : PlayError) (p : Positions) → e ≡ errors.Full p → PlayAnswers (Err e) s.sections o.cells → PlaysTo o s 3 (full_text p.section p.done.items)
-full_answer o s e p is h = inr (refl, full_of o s p (filled_at s.sections o.cells e p is h))
-
--- the five lines of a report, and positions, answer `load`
+-- the five lines of a report answer `load`
 pub five_answer : (o : Options) (s : Script) (commands : ℕ) (r : Report) → IsReport s.sections o.cells r → commands ≡ executed_total s.sections
     → LoadsTo o (Ok s) 0 (brief_text commands (map outcome_of r.parts.items) (map survivor_of r.survivors.items))
 five_answer o s commands r report count = inl (refl, load_text_of s.sections o.cells commands r report count)
-
-pub full_load : (o : Options) (s : Script) (e : PlayError) (p : Positions) → e ≡ errors.Full p → PlayAnswers (Err e) s.sections o.cells → LoadsTo o (Ok s) 3 (full_text p.section p.done.items)
-full_load o s e p is h = inr (refl, full_of o s p (filled_at s.sections o.cells e p is h))

@@ -9,7 +9,7 @@ use Rattle.heap_dump.specs.Final.{Heap}
 use Rattle.heap_dump.specs.Reading.{fault_of, heap_of}
 use Rattle.heap_dump.specs.Spelling.{dump}
 use Rattle.heap_dump.specs.declared.fault.DumpError.{DumpError}
-use Rattle.heap_dump.proofs.Again.{heap_again, no_fault_again}
+use Rattle.heap_dump.proofs.ReadBack.{heap_again, no_fault_again}
 use Rattle.dump_census.specs.Surviving.{TellsSurvivors}
 use Rattle.dump_census.proofs.Reached.{survivors_reached}
 use Rattle.play_dump.specs.Final.{IsFinalHeap}

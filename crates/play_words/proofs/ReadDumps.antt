@@ -1,15 +1,9 @@
 -- What is read of a dump, and what a play's end answers.
-use Rattle.std.proofs.Common.{◌≡◌, ℕ, List, refl, sym, subst, inl, inr}
-use Rattle.std.specs.Prelude.{Option, Some, None, Result, Err}
+use Rattle.std.proofs.Common.{◌≡◌, ℕ, List, refl, sym, subst, inl}
+use Rattle.std.specs.Prelude.{Option, Some, None, Result}
 use Rattle.gc_script.specs.Script.{Script}
 use Rattle.gc_script.specs.Faults.{Fault}
 use Rattle.gc_script.specs.Finished.{is_refused}
-use Rattle.plain_heap.specs.Placement.{IsFilled}
-use Rattle.play_report.specs.Text.{full_text}
-use Rattle.play_report.specs.declared.report.Positions.{Positions}
-use Rattle.play_contract.specs.Playing.{PlayAnswers}
-use Rattle.play_contract.specs.declared.error.PlayError.{PlayError}
-use Rattle.play_contract.specs.declared.error.PlayError.TheVariants as errors
 use Rattle.heap_dump.specs.Final.{Heap, IsLegal}
 use Rattle.heap_dump.specs.Reading.{fault_of, heap_of}
 use Rattle.heap_dump.specs.Spelling.{dump}
@@ -42,13 +36,6 @@ end_answer s h final legal = (refl, record { heap = h; final = final; legal = le
 
 pub dump_answer : (o : Options) (s : Script) (status : ℕ) (text : List ℕ) → IsEndAnswer s status text → EndsIn o s status text
 dump_answer o s status text a = inl a
-
-filled_at : (s : Script) (cells : ℕ) (e : PlayError) (p : Positions) → e ≡ errors.Full p → PlayAnswers (Err e) s.sections cells → IsFilled s.sections cells p.section p.done.items
-filled_at s cells e p is h = subst (λ (x : PlayError). PlayAnswers (Err x) s.sections cells) is h
-
--- positions answer it
-pub full_dump : (o : Options) (s : Script) (e : PlayError) (p : Positions) → e ≡ errors.Full p → PlayAnswers (Err e) s.sections o.cells → EndsIn o s 3 (full_text p.section p.done.items)
-full_dump o s e p is h = inr (refl, record { section = p.section; positions = p.done.items; filled = filled_at s o.cells e p is h; written = refl })
 
 -- the text of a script's fault answers it
 pub dump_fault : (o : Options) (fault : Option Fault) (r : Result Script Fault) → is_refused fault r → (status : ℕ) (text : List ℕ) → IsFaultAnswer fault status text → DumpsTo o r status text

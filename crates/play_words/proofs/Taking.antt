@@ -146,8 +146,3 @@ module _ (enough : ℕ) where
   source_spent (Some bytes) left_now taken (consumed, decided, few, same) =
       let t = takes bytes taken left_now consumed decided in
       subst (λ (o : Option (List ℕ)). IsSpent enough bytes o) (sym t.1) (is_spent bytes taken t.0 t.2 few)
-
-  -- no byte is taken where the source is left alone
-  pub takes_none : (left : Option (List ℕ)) → TakesAtMost enough left left
-  takes_none None = ([], tt, omega arith)
-  takes_none (Some bytes) = ([], refl, omega arith)

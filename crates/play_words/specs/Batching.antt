@@ -12,7 +12,7 @@ use Rattle.command_words.specs.Words.{Options}
 use Rattle.play_words.specs.RunAnswers.{IsRunAnswer}
 use Rattle.play_words.specs.Roomy.{IsOf, AreFew}
 
--- a job of a batch fits its script; want of memory has no text
+-- a job of a batch fits its script; out of memory has no text
 abbrev pub FitsJob : Options → List ℕ → ℕ → List ℕ → Type 0
 FitsJob o bytes status text = IsRunAnswer o bytes status text ⊎ ((status ≡ 6) × (text ≡ []))
 

@@ -3,7 +3,9 @@ use Rattle.std.specs.Prelude.{ℕ, ◌≡◌, List, Option, Some, None, Result, 
 use Rattle.std.specs.Io.KnownBytes.{Keeps}
 use Rattle.gc_script.specs.Faults.{Fault}
 use Rattle.play_report.specs.Causes.{Rose}
-use Rattle.play_report.specs.Text.{fault_text}
+use Rattle.play_report.specs.Text.{fault_text, full_text}
+use Rattle.play_contract.specs.declared.error.PlayError.{PlayError}
+use Rattle.play_contract.specs.declared.error.PlayError.TheVariants as errors
 use Rattle.play_words.specs.Promise.{WritesSome, WritesFront}
 use Rattle.play_words.specs.declared.status.Status.{Status}
 use Rattle.play_words.specs.declared.status.Status.TheVariants as ends
@@ -40,6 +42,11 @@ TextEnds Answers ends.Refused old new before now = WritesSome old new (Answers 7
 abbrev pub IsFaultAnswer : Option Fault → ℕ → List ℕ → Type 0
 IsFaultAnswer None status text = ⊥
 IsFaultAnswer (Some fault) status text = (status ≡ 2) × (text ≡ fault_text fault)
+
+-- the text of a play that found too few cells; out of memory has none
+abbrev pub IsStopAnswer : PlayError → ℕ → List ℕ → Type 0
+IsStopAnswer errors.OutOfMemory status text = ⊥
+IsStopAnswer (errors.Full p) status text = (status ≡ 3) × (text ≡ full_text p.section p.done.items)
 
 -- how a command ends: the source failed and nothing was written, or its count stayed. The counts of the source come first.
 abbrev pub CommandEnds : (ℕ → List ℕ → Type 0) → Status → ℕ → ℕ → Option (List ℕ) → Option (List ℕ) → ℕ → ℕ → Type 0

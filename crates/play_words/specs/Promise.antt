@@ -2,6 +2,7 @@
 use Rattle.std.specs.Prelude.{ℕ, ◌≡◌, ◌≤◌, ◌⊎◌, List, Bool, true, false, Option, Some, IfSome}
 use Rattle.std.specs.Io.KnownBytes.{Appends}
 use Rattle.play_report.specs.Causes.{Grows}
+use Rattle.play_words.specs.declared.source.TheConstants.{SCRIPT, SCHEDULE, DUMP, BATCH}
 use Rattle.command_words.specs.Words.{Command, Run, Convert, Schedule, Dump, Undump, Census, Batch, command}
 
 -- the command that these words ask for, if they ask for one
@@ -16,7 +17,7 @@ WritesSome old new P = (text : List ℕ) × P text × Appends old new text
 abbrev pub FromSource : (List ℕ → List ℕ → Type 0) → Option (List ℕ) → List ℕ → Type 0
 FromSource IsText left text = (bytes : List ℕ) × IfSome left (λ told. told ≡ bytes) × IsText bytes text
 
--- the same, by the status
+-- a text may be written with a status, of some bytes, which are those that the source tells where it tells them
 abbrev pub OfSource : (List ℕ → ℕ → List ℕ → Type 0) → Option (List ℕ) → ℕ → List ℕ → Type 0
 OfSource Answers left status text = FromSource (λ bytes. Answers bytes status) left text
 
@@ -46,8 +47,8 @@ reads_source other = false
 
 -- as many bytes of the source as decide: one more than the longest input of the command
 abbrev pub enough_for : Option Command → ℕ
-enough_for (Some Schedule) = 4194305
-enough_for (Some Undump) = 4984981
-enough_for (Some Census) = 4984981
-enough_for (Some (Batch options runners)) = 16777217
-enough_for other = 1048577
+enough_for (Some Schedule) = SCHEDULE
+enough_for (Some Undump) = DUMP
+enough_for (Some Census) = DUMP
+enough_for (Some (Batch options runners)) = BATCH
+enough_for other = SCRIPT

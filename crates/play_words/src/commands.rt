@@ -6,11 +6,11 @@
 //! - `schedule` checks the schedule of the source. `dump` plays the script of the source and writes the heap at its end;
 //!   `undump` writes the records of such a dump, and `census` counts them.
 //! - `batch` plays the scripts of the source's batch on several runners, each as `run` does.
-//! - `fault` is what a script with a fault is answered, whichever command read it.
+//! - `fault` is what a script with a fault is answered, whichever command read it, and `stopped` what a play without a report is.
 //!
 //! A command takes its input whole before it writes, so a source that fails or a script with a fault leaves nothing written but
 //! the fault's text. How each ends is `CommandEnds` in `specs/Ending.antt`, for the texts that `specs/Answers.antt` allows it.
-ghost use Rattle.std.specs.Prelude.{◌≡◌, ◌≤◌, IfSome, Some, true, false};
+ghost use Rattle.std.specs.Prelude.{◌≡◌, IfSome, Some, true, false};
 ghost use Rattle.command_words.specs.Commands.{IsInRange, command_of};
 ghost use Rattle.play_words.specs.Ending.{CommandEnds, code_of};
 ghost use Rattle.play_words.specs.Promise.{HasItsText, enough_for, reads_source};
@@ -27,6 +27,7 @@ mod generate;
 mod load;
 mod run;
 mod schedule;
+mod stopped;
 mod undump;
 
 use crate::status::Status;

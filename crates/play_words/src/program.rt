@@ -134,7 +134,7 @@ pub fn play_words<R: Threads + Wait + Sync, S: Source, K: Sink, G: Gate + Sync>(
     // `gen`, `load` and words that ask for nothing leave the source as it was.
     ensures untouched { reads_source (wanted (map string_bytes words.now)) ≡ false → source.new ≡ source.old }
 
-    // A fault of reading comes only where the source's count rose, and then nothing else comes but want of memory; nothing is written.
+    // A fault of reading comes only where the source's count rose, and then nothing else comes but out of memory; nothing is written.
     ensures read_fault { result ≡ 4 → S.faults source.old < S.faults source.new }
     ensures read_rose { S.faults source.old < S.faults source.new → (result ≡ 4) ⊎ (result ≡ 6) }
     ensures silent { (result ≡ 4) ⊎ (result ≡ 6) → Keeps (K.written sink.old) (K.written sink.new) }

@@ -16,10 +16,6 @@ use Rattle.schedule_check.specs.declared.verdict.Verdict.{Verdict}
 use Rattle.schedule_check.specs.declared.tell.Told.{Told}
 use Rattle.schedule_check.specs.declared.tell.Untold.{Untold}
 
-pub keeps_same : (a : Option (List ℕ)) → Keeps a a
-keeps_same None = tt
-keeps_same (Some xs) = refl
-
 -- a text that may be told is told
 pub written-told : {T E : Type 0} (r : Result Schedule Fault) (t : Told) (w : Result T E) (text : List ℕ) (old new : Option (List ℕ)) (before now : ℕ) → IsToldAs r (code_of t) text → Writes w old new before now text
     → TellsAs r (finished_as t w) old new before now
@@ -28,24 +24,12 @@ written-told r t (Ok u) text old new before now k w =
 written-told r t (Err e) text old new before now k w =
     (record { status_is = refl; text_is = refl; meant = k.meant }, subst (Grows old new) k.text_is w.0, w.1)
 
--- the fault of the bytes
-fault-told : (r : Result Schedule Fault) (fault : Fault) → r ≡ Err fault → IsToldAs r 2 (fault_text fault)
-fault-told r fault e = subst (λ (x : Result Schedule Fault). IsToldAs x 2 (fault_text fault)) (sym e) (record { status_is = refl; text_is = refl; meant = tt })
-
-pub error-told : (e : ScheduleFault) (r : Result Schedule Fault) → e ≢ answers.OutOfMemory → is_refused (fault_of e) r → IsToldAs r 2 (error_text e)
-error-told (answers.NotAscii offset) r n h = fault-told r (faults.NotAscii offset) h
-error-told answers.BadHeader r n h = fault-told r faults.BadHeader h
-error-told answers.BadShape r n h = fault-told r faults.BadShape h
-error-told (answers.BadEvent line) r n h = fault-told r (faults.BadEvent line) h
-error-told (answers.TooManyEvents line) r n h = fault-told r (faults.TooManyEvents line) h
-error-told answers.TooLong r n h = fault-told r faults.TooLong h
-error-told answers.OutOfMemory r n h = absurd (n refl)
-
+-- the text of a schedule's verdict may be told
 pub verdict-told : (s : Schedule) (v : Verdict) (t : Told) → v ≡ verdict s → Says s v → code_of t ≡ verdict_status v → IsToldAs (Ok s) (code_of t) (verdict_text v)
 verdict-told s v t e k c =
     record { status_is = c ∙ ap verdict_status e; text_is = ap verdict_text e; meant = subst (Says s) e k }
 
--- the same, for what was answered then
+-- what was answered then is told
 pub told-by : {T E : Type 0} (r : Result Schedule Fault) (t : Told) (w : Result T E) (answer : Result Told Untold) (text : List ℕ) (old new : Option (List ℕ)) (before now : ℕ) → answer ≡ finished_as t w → IsToldAs r (code_of t) text → Writes w old new before now text
     → TellsAs r answer old new before now
 told-by r t w answer text old new before now e k h = subst (λ (x : Result Told Untold). TellsAs r x old new before now) (sym e) (written-told r t w text old new before now k h)

@@ -3,6 +3,7 @@ use Rattle.std.specs.Prelude.{ℕ, ◌+◌, ◌%◌, List, [], ◌∷◌, length
 use Rattle.std.specs.Str.{bytes_eq}
 use Rattle.gc_script.specs.ScriptText.{first_foreign, lines, words}
 use Rattle.gc_script.specs.Statement.{is_note}
+use Rattle.mark_core.specs.Cards.{block_cells}
 use Rattle.mark_core.specs.declared.kinds.Shape.{Shape}
 use Rattle.mark_core.specs.declared.kinds.Event.{Event}
 use Rattle.mark_core.specs.declared.kinds.Step.{Step}
@@ -33,7 +34,7 @@ is_between least most n = nat_le least n && nat_le n most
 -- the sizes and the number of seats are within their limits
 abbrev pub is_in_limits : Shape → ℕ → Bool
 is_in_limits s seats =
-    is_between 64 65536 s.cells && (s.cells % 64 == 0) && is_between 2 1024 s.packets && is_between 2 512 s.entries && is_between 1 33 s.sections && is_between 1 16 s.fields && is_between 1 41 seats
+    is_between block_cells 65536 s.cells && (s.cells % block_cells == 0) && is_between 2 1024 s.packets && is_between 2 512 s.entries && is_between 1 33 s.sections && is_between 1 16 s.fields && is_between 1 41 seats
 
 -- a schedule without events
 abbrev pub plain : Shape → ℕ → Schedule

@@ -7,7 +7,7 @@ use Rattle.schedule_check.specs.Schedule.{Schedule}
 use Rattle.schedule_check.specs.declared.fault.ScheduleFault.{ScheduleFault}
 use Rattle.schedule_check.specs.declared.fault.ScheduleFault.TheVariants as answers
 
--- the fault that an error tells; want of memory is none
+-- the fault that an error tells; out of memory is none
 abbrev pub fault_of : ScheduleFault → Option Fault
 fault_of (answers.NotAscii offset) = Some (faults.NotAscii offset)
 fault_of answers.BadHeader = Some faults.BadHeader
@@ -17,7 +17,7 @@ fault_of (answers.TooManyEvents line) = Some (faults.TooManyEvents line)
 fault_of answers.TooLong = Some faults.TooLong
 fault_of answers.OutOfMemory = None
 
--- an error tells this fault, or want of memory
+-- an error tells this fault, or out of memory
 abbrev pub is_refused : {A : Type 0} → Option Fault → Result A Fault → Type 0
 is_refused None r = Unit {0}
 is_refused (Some fault) r = r ≡ Err fault

@@ -32,10 +32,6 @@ text_as (Err fault) = fault_text fault
 abbrev pub status_of : List ℕ → ℕ
 status_of bytes = status_as (schedule bytes)
 
--- the text of these bytes: of the schedule's verdict, or of the fault
-abbrev pub text_of : List ℕ → List ℕ
-text_of bytes = text_as (schedule bytes)
-
 -- a schedule's verdict says what is so
 abbrev pub IsMeant : Result Schedule Fault → Type 0
 IsMeant (Ok s) = Says s (verdict s)
@@ -68,6 +64,6 @@ TellsAs r (Ok t) old new before now = IsToldAs r (code_of t) (text_as r) × Appe
 TellsAs r (Err untold.Failed) old new before now = IsToldAs r (status_as r) (text_as r) × Grows old new (text_as r) × Rose before now
 TellsAs r (Err untold.OutOfMemory) old new before now = Keeps old new × (now ≡ before)
 
--- the same of these bytes
+-- what is told of these bytes: the text was written; or a front of it, and the sink failed; or memory ran out and nothing was written
 abbrev pub Tells : List ℕ → Result Told Untold → Option (List ℕ) → Option (List ℕ) → ℕ → ℕ → Type 0
 Tells bytes result old new before now = TellsAs (schedule bytes) result old new before now

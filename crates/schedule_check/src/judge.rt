@@ -5,12 +5,9 @@ ghost use Rattle.schedule_check.specs.Verdicts.{at_end as at_end_of, verdict, Sa
 use crate::play::{Played, play};
 use crate::schedule::Schedule;
 use crate::verdict::Verdict;
-use mark_core::{CoreState, PHASE, phase_of};
+use mark_core::{CoreState, EMPTY, PHASE, phase_of};
 use plain_heap::OutOfMemory;
 use std::alloc::Global;
-
-/// The word that counts empty packets, 64 above their number.
-const EMPTY: u32 = 2;
 
 fn word(state: &CoreState, index: u32) -> u64
     ensures { result ≡ slice_index state.now.words index }
@@ -25,7 +22,7 @@ fn at_end(events: u32, state: &CoreState) -> Verdict
     Verdict::Accepted {
         events,
         phase: phase_of(word(state, PHASE as u32)),
-        empty: word(state, EMPTY),
+        empty: word(state, EMPTY as u32),
         marked: state.marked_cells(),
         used: state.used_cells(),
         closed: state.is_closed(),

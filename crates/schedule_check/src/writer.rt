@@ -100,7 +100,7 @@ pub fn write_verdict<K: Sink>(verdict: &Verdict, sink: &mut K) -> Result<(), Fai
     }
 }
 
-/// Writes the text of a fault: its number and name, and its place. Want of memory is no fault of a schedule and has no
+/// Writes the text of a fault: its number and name, and its place. Out of memory is no fault of a schedule and has no
 /// text. Failed only where the sink's count of faults rose in this call, and a front of the text was then written. The
 /// line is one piece, and the rest of a piece that was taken in part is handed again. It takes no memory.
 pub fn write_schedule_fault<K: Sink>(fault: &ScheduleFault, sink: &mut K) -> Result<(), Failed>

@@ -3,7 +3,7 @@ ghost use Rattle.std.specs.Prelude.{◌≡◌, if◌then◌else◌, IsTrue, IsFa
 ghost use Rattle.std.specs.Bool.{OnTrue, OnFalse};
 ghost use Rattle.mark_core.specs.Bits.{has_flag};
 ghost use Rattle.mark_core.specs.Seats.{is_bare, phase_number};
-ghost use Rattle.mark_core.specs.WorldRules.{is_resting};
+ghost use Rattle.mark_core.specs.Rules.WorldRules.{is_resting};
 ghost use Rattle.mark_core.specs.declared.kinds.Phase.{Phase};
 ghost use Rattle.gc_table.specs.Seats.{Across, Answered, Sits, state_of, Took, view_of};
 ghost use Rattle.gc_table.specs.Running.{Alone, Ran};

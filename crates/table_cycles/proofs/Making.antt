@@ -3,7 +3,7 @@ use Rattle.std.proofs.Common.{ℕ, ◌≡◌, ◌+◌, ◌<◌, length, Bool, tr
 use Rattle.std.specs.Prelude.{nat_le, if◌then◌else◌, ◌&&◌, ◌==◌}
 use Rattle.std.proofs.lemmas.Bool.{and_parts, and_from, or_right, eq-eqb, ltb-true, false≢true}
 use Rattle.std.proofs.lemmas.List.{length-set, length-append}
-use Rattle.mark_core.specs.MutatorSteps.{names_last}
+use Rattle.mark_core.specs.Steps.MutatorSteps.{names_last}
 use Rattle.mark_core.specs.Seats.{saw, phase_number}
 use Rattle.mark_core.specs.declared.kinds.Phase.{Phase}
 use Rattle.mark_core.specs.declared.kinds.Phase.TheVariants.{Marking, Full}
@@ -19,7 +19,7 @@ use Rattle.gc_table.specs.declared.view.View.{View}
 use Rattle.gc_table.specs.Seats.{Sits, view_of}
 use Rattle.gc_table.specs.Sections.{named_by}
 use Rattle.gc_table.specs.Taking.{after, Asked, May}
-use Rattle.gc_table.proofs.Trying.{may-by}
+use Rattle.gc_table.proofs.RecordSteps.{may-by}
 use Rattle.table_cycles.specs.Ready.{Ready, Unnamed, may_store_new, may_name}
 
 -- a word of the cell may be stored
@@ -35,9 +35,6 @@ may-be-named h x v r sits e =
 made_after : (b : Bool) (made : ℕ) → b ≡ true → (if b then made else made + 1) ≡ made
 made_after b made e = ap (λ (a : Bool). if a then made else made + 1) e
 
-made_more : (b : Bool) (made : ℕ) → b ≡ false → (if b then made else made + 1) ≡ made + 1
-made_more b made e = ap (λ (a : Bool). if a then made else made + 1) e
-
 -- with a word before the last one the seat stays ready
 pub ready-part : (h : Heap) (x y : HeapSeat) (c part word n : ℕ) → nat_le part h.shape.fields ≡ true → Ready h x → Sits h y → view_of y ≡ after (StoreNew c part word) n (view_of x) → Ready h y
 ready-part h x y c part word n e r sits is =
@@ -45,16 +42,6 @@ ready-part h x y c part word n e r sits is =
     let early : nat_le part v.shape.fields ≡ true = ap (λ (sh : Shape). nat_le part sh.fields) r.0.1 ∙ e in (
       sits,
       ap (λ (w : View). length w.own.meaning.heap.objects) is ∙ r.1 ∙ sym (made_after _ v.state.made early) ∙ sym (ap (λ (w : View). w.state.made) is),
-      ap (λ (w : View). length w.own.meaning.heap.variables) is ∙ r.2,
-    )
-
--- with the last one the cell is made
-pub unnamed-part : (h : Heap) (x y : HeapSeat) (c part word n : ℕ) → nat_le part h.shape.fields ≡ false → Ready h x → Sits h y → view_of y ≡ after (StoreNew c part word) n (view_of x) → Unnamed h y
-unnamed-part h x y c part word n e r sits is =
-    let v : View = view_of x in
-    let late : nat_le part v.shape.fields ≡ false = ap (λ (sh : Shape). nat_le part sh.fields) r.0.1 ∙ e in (
-      sits,
-      ap (λ (w : View). length w.own.meaning.heap.objects + 1) is ∙ ap (λ (k : ℕ). k + 1) r.1 ∙ sym (made_more _ v.state.made late) ∙ sym (ap (λ (w : View). w.state.made) is),
       ap (λ (w : View). length w.own.meaning.heap.variables) is ∙ r.2,
     )
 

@@ -4,9 +4,9 @@ use Rattle.std.specs.Prelude.{not, ◌==◌, ◌&&◌, nat_lt, slice_get, slice_
 use Rattle.std.proofs.lemmas.Bool.{and_parts, and_from, eq-eqb, ne_eqb, not-true, ltb-true, false≢true}
 use Rattle.std.proofs.lemmas.List.{length-set, get_or-set_same}
 use Rattle.std.proofs.lemmas.Option.{get_or_from_slice_get, slice_get-map}
-use Rattle.mark_core.specs.HeapRules.{section_of}
+use Rattle.mark_core.specs.Rules.HeapRules.{section_of}
 use Rattle.mark_core.specs.Layout.{words_of}
-use Rattle.mark_core.specs.MutatorSteps.{has_own, variable as word_in, names_last}
+use Rattle.mark_core.specs.Steps.MutatorSteps.{has_own, variable as word_in, names_last}
 use Rattle.mark_core.specs.Seats.{is_the, may_mutate, saw}
 use Rattle.mark_core.specs.declared.kinds.Phase.TheVariants.{Marking}
 use Rattle.mark_core.specs.declared.kinds.Shape.{Shape}
@@ -30,7 +30,7 @@ use Rattle.gc_table.specs.declared.seat.HeapSeat.{HeapSeat}
 use Rattle.gc_table.specs.declared.view.Meaning.{Meaning}
 use Rattle.gc_table.specs.declared.view.SectionState.{SectionState}
 use Rattle.gc_table.specs.declared.view.View.{View}
-use Rattle.gc_table.proofs.StandsSeat.{Mutates, mutates, looks, env-agrees}
+use Rattle.gc_table.proofs.Stands.StandsSeat.{Mutates, mutates, looks, env-agrees}
 use Rattle.table_cycles.specs.Owned.{is_own, HasOwn, may_link}
 use Rattle.table_cycles.specs.Ready.{Ready, Unnamed}
 use Rattle.table_cycles.proofs.Making.{seen_marking, heap-named}

@@ -1,6 +1,6 @@
 -- A seat between two steps of a test.
 use Rattle.std.specs.Prelude.{ℕ, ◌≡◌, ◌+◌, ◌&&◌, Bool, not, is_none, nat_lt, nat_le, [], length}
-use Rattle.mark_core.specs.MutatorSteps.{is_next_part, fits_part, names_last}
+use Rattle.mark_core.specs.Steps.MutatorSteps.{is_next_part, fits_part, names_last}
 use Rattle.mark_core.specs.Seats.{may_mutate, has_making}
 use Rattle.mark_core.specs.declared.kinds.Shape.{Shape}
 use Rattle.mark_core.specs.declared.seat.SeatState.{SeatState}

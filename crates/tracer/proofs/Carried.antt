@@ -145,7 +145,7 @@ packets-three x = either x.output x.deferred
     either (Some o) None = omega arith
     either (Some o) (Some d) = omega arith
 
--- the one that is being filled with what is put off, before the others
+-- the packet that is being filled with deferred cells, before the others
 pub deferred-first : (i : Held) (o : Option Held) (h : Held) (v : View) → Carries (i ∷ in_front o (h ∷ [])) v → Carries (h ∷ i ∷ in_front o []) v
 deferred-first i None h v c = carries-front (i ∷ []) h [] v c
 deferred-first i (Some k) h v c = carries-front (i ∷ k ∷ []) h [] v c
@@ -159,7 +159,7 @@ pub taken-either : (qs : List ℕ) (r : Option Held) (hs : List Held) (v w : Vie
 taken-either qs None hs v w shape room some none c = carries-same v w shape hs (ap (λ (s : SeatState). s.held) none) c
 taken-either qs (Some h) hs v w shape room some none c = carries-take v w shape qs h hs some room c
 
--- the same of a packet that may be there or not
+-- the packet that is being filled with deferred cells, before the others, where it may be there or not
 pub deferred-front : (i : Held) (o d : Option Held) (v : View) → Carries (i ∷ in_front o (in_front d [])) v → Carries (in_front d (i ∷ in_front o [])) v
 deferred-front i o None v c = c
 deferred-front i o (Some h) v c = deferred-first i o h v c

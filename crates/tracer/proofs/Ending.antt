@@ -3,7 +3,7 @@ use Rattle.std.proofs.Common.{ℕ, ◌≡◌, ◌/◌, List, [], ◌∷◌, refl
 use Rattle.std.specs.Prelude.{◌&&◌, ◌||◌, ◌==◌, is_some}
 use Rattle.std.proofs.lemmas.Bool.{and_from, and_parts, false≢true, or_right}
 use Rattle.mark_core.specs.Seats.{is_the, is_unpublished}
-use Rattle.mark_core.specs.ColourSteps.{popped_off}
+use Rattle.mark_core.specs.Steps.ColourSteps.{popped_off}
 use Rattle.mark_core.specs.declared.kinds.Shape.{Shape}
 use Rattle.mark_core.specs.declared.kinds.Step.{Step}
 use Rattle.mark_core.specs.declared.kinds.Step.TheVariants.{DirtyCard, Give, Pop, Push, ReadAlloc, ReadField, SetMark, Reserve, Take, Credit, Look, StoreLength, ReadLength}
@@ -12,7 +12,7 @@ use Rattle.gc_table.specs.declared.view.Entry.{Entry}
 use Rattle.gc_table.specs.declared.view.View.{View}
 use Rattle.gc_table.specs.Taking.{after}
 use Rattle.packet_pools.specs.Keeping.{all_keep, keeps_cells}
-use Rattle.tracer.specs.Tally.{only_traces, traces_cells}
+use Rattle.tracer.specs.Tally.{only_traces, is_trace_step}
 use Rattle.tracer.specs.Ends.{all_end_well, ends_well, fresh_ends, popped_ends, was_clear}
 use Rattle.mark_core.specs.Cards.{card_of}
 
@@ -58,7 +58,7 @@ or-true : (a : Bool) → (a || true) ≡ true
 or-true true = refl
 or-true false = refl
 
-end-one : (sh : Shape) (s : SeatState) (step : Step) (n : ℕ) → keeps_cells s step ≡ true → traces_cells step ≡ true → ends_well sh s step n ≡ true
+end-one : (sh : Shape) (s : SeatState) (step : Step) (n : ℕ) → keeps_cells s step ≡ true → is_trace_step step ≡ true → ends_well sh s step n ≡ true
 end-one sh s (Push p c) n k t = and_from _ _ (or-true _) (pushed-clear s.popped c (is_the s.fresh c) k)
 end-one sh s (DirtyCard card) n k t = and_from _ _ (or-true _) (dirtied-clear s.popped card)
 end-one sh s (ReadAlloc b) n k t = and_from _ _ (ap (λ (d : Bool). not d || false) (fresh-stays s.fresh)) (or-true _)
@@ -78,5 +78,5 @@ pub all-end : (v : View) (es : List Entry) → all_keep v es ≡ true → only_t
 all-end v [] k t = refl
 all-end v (e ∷ es) k t =
     let a = and_parts (keeps_cells v.state e.step) (all_keep (after e.step e.found v) es) k in
-    let b = and_parts (traces_cells e.step) (only_traces es) t in
+    let b = and_parts (is_trace_step e.step) (only_traces es) t in
     and_from _ _ (end-one v.shape v.state e.step e.found a.0 b.0) (all-end (after e.step e.found v) es a.1 b.1)

@@ -6,7 +6,7 @@ use Rattle.std.proofs.lemmas.Bool.{and_from, false≢true, lt-ltb, or_from, or_p
 use Rattle.mark_core.specs.Bits.{cell_of, complement, has_bit}
 use Rattle.mark_core.specs.Layout.{block_count, card_count}
 use Rattle.mark_core.specs.Seats.{cleaning_left, is_the, scan_left, work_in_hand}
-use Rattle.mark_core.specs.ColourSteps.{cleaning_after, popped_after, popped_off, scan_after, seen_in, with_alloc_word}
+use Rattle.mark_core.specs.Steps.ColourSteps.{cleaning_after, popped_after, popped_off, scan_after, seen_in, with_alloc_word}
 use Rattle.mark_core.specs.declared.kinds.Shape.{Shape}
 use Rattle.mark_core.specs.declared.kinds.Step.TheVariants.{DirtyCard, Pop, Push, ReadAlloc}
 use Rattle.mark_core.specs.declared.seat.Cleaning.{Cleaning}

@@ -10,7 +10,7 @@ use Rattle.gc_table.specs.Taking.{after}
 use Rattle.gc_table.specs.Running.{after_all}
 use Rattle.packet_pools.specs.Seeking.{some_event}
 use Rattle.tracer.specs.Deferral.{waits, waits_on, pops_from, pops_waiting}
-use Rattle.tracer.specs.Tally.{count_by, only_traces, traces_cells}
+use Rattle.tracer.specs.Tally.{count_by, only_traces, is_trace_step}
 
 pub waits-join : (p : ℕ) (xs ys : List Entry) (v : View) (b : Bool) → waits p v (xs ++ ys) b ≡ waits p (after_all xs v) ys (waits p v xs b)
 waits-join p [] ys v b = refl
@@ -30,4 +30,4 @@ by-join f (x ∷ xs) ys v = let e = by-join f xs ys (after x.step x.found v) in 
 
 pub traces-join : (xs ys : List Entry) → only_traces xs ≡ true → only_traces ys ≡ true → only_traces (xs ++ ys) ≡ true
 traces-join [] ys a b = b
-traces-join (x ∷ xs) ys a b = let h = and_parts (traces_cells x.step) (only_traces xs) a in and_from _ _ h.0 (traces-join xs ys h.1 b)
+traces-join (x ∷ xs) ys a b = let h = and_parts (is_trace_step x.step) (only_traces xs) a in and_from _ _ h.0 (traces-join xs ys h.1 b)

@@ -9,9 +9,9 @@ use Rattle.packet_pools.specs.OnlyTraced.{OnlyTraced}
 use Rattle.gc_table.specs.Log.{events}
 use Rattle.packet_pools.specs.Seeking.{gets_from, was_got_from}
 use Rattle.packet_pools.specs.Counts.{count_of, dirties}
-use Rattle.gc_table.proofs.Log.{events-join}
+use Rattle.gc_table.proofs.History.Log.{events-join}
 use Rattle.packet_pools.proofs.Counting.{count-join, searched-join}
-use Rattle.tracer.specs.Deferral.{waits, pops_waiting, puts_off}
+use Rattle.tracer.specs.Deferral.{waits, pops_waiting, defers}
 use Rattle.tracer.specs.Tally.{pops, count_by, only_traces}
 use Rattle.tracer.specs.Parts.{Did, Part}
 use Rattle.tracer.proofs.Histories.{by-join, none-join, popped-join, traces-join, waits-join}
@@ -30,7 +30,7 @@ module _ (o q r : Option ℕ) (d e f g l m x y z : ℕ) (u v : View) (xs ys es :
             ∙ popped-join p xs ys u (is_the o p) (a.kept p) ((λ i. pops_waiting p (sym at i) ys (a.waiting p i)) ∙ b.kept p);
         undeferred = λ p. ap (was_got_from 3 p) all ∙ none-join (gets_from 3 p) xs ys (a.undeferred p) (b.undeferred p);
         done = ap (count_of pops) all ∙ (count-join pops xs ys ∙ ((λ i. a.done i + b.done i) ∙ dx));
-        deferred = ap (count_by puts_off u) all ∙ (by-join puts_off xs ys u ∙ ((λ i. a.deferred i + (ap (λ t. count_by puts_off t ys) (sym at) ∙ b.deferred) i) ∙ fy));
+        deferred = ap (count_by defers u) all ∙ (by-join defers xs ys u ∙ ((λ i. a.deferred i + (ap (λ t. count_by defers t ys) (sym at) ∙ b.deferred) i) ∙ fy));
         dirtied = ap (count_of dirties) all ∙ (count-join dirties xs ys ∙ ((λ i. a.dirtied i + b.dirtied i) ∙ lz));
         steps = ap only_traces all ∙ traces-join xs ys a.steps b.steps;
       }

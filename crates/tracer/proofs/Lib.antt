@@ -1,6 +1,6 @@
 pub mod Histories
 pub mod Joined
-pub mod Calm
+pub mod NoDeferral
 pub mod Quiet
 pub mod OneStep
 pub mod Carried

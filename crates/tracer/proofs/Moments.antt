@@ -15,7 +15,7 @@ use Rattle.gc_table.specs.Running.{after_all}
 use Rattle.gc_table.specs.Taking.{after}
 use Rattle.packet_pools.specs.Seeking.{moves_packet, no_input, no_output, NoInput, NoOutput, only_moves}
 use Rattle.packet_pools.proofs.AllMissed.{all-missed-left, no-output-left}
-use Rattle.tracer.specs.Deferral.{puts_off, waits, waits_on}
+use Rattle.tracer.specs.Deferral.{defers, waits, waits_on}
 use Rattle.tracer.specs.Moments.{Moment, after_moment, at_some_moment, deferring_after, front, is_spent_slot, without}
 
 -- the moment after these events
@@ -81,7 +81,7 @@ and-one false false = refl
 
 -- the list of the packets that wait and the test of one of them agree
 waits-step : (p : ℕ) (s : SeatState) (step : Step) (ps : List ℕ) → list_any (λ x. x == p) (deferring_after s step ps) ≡ waits_on p s step (list_any (λ x. x == p) ps)
-waits-step p s (Push q c) ps = either (puts_off s (Push q c))
+waits-step p s (Push q c) ps = either (defers s (Push q c))
   where
     either : (b : Bool) → list_any (λ x. x == p) (cond b (q ∷ ps) ps) ≡ (list_any (λ x. x == p) ps || ((q == p) && b))
     either true = (push-both true (q == p) (list_any (λ x. x == p) ps)).0

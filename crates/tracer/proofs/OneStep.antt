@@ -14,11 +14,11 @@ use Rattle.packet_pools.specs.OnlyTraced.{OnlyTraced}
 use Rattle.gc_table.specs.Log.{events, steps_of}
 use Rattle.packet_pools.specs.Seeking.{only_moves, NoOutput, some_event}
 use Rattle.packet_pools.specs.Counts.{count_of, dirties}
-use Rattle.gc_table.proofs.Log.{entry_of, events-after, events-join}
+use Rattle.gc_table.proofs.History.Log.{entry_of, events-after, events-join}
 use Rattle.packet_pools.proofs.Counting.{given-moves, quiet, searched-none, searched-one}
 use Rattle.tracer.specs.Deferral.{waits, waits_on}
 use Rattle.tracer.specs.Parts.{Did, Part}
-use Rattle.tracer.proofs.Calm.{AllCalm, IsCalm, and-false, calm-got, calm-off, calm-popped, calm-pops, calm-traces}
+use Rattle.tracer.proofs.NoDeferral.{AllCalm, IsCalm, and-false, calm-got, calm-off, calm-popped, calm-pops, calm-traces}
 use Rattle.tracer.proofs.Joined.{did-join}
 use Rattle.tracer.proofs.Quiet.{did-quiet, part-moves}
 
@@ -168,8 +168,8 @@ no-dirt [] g = refl
 no-dirt (e ∷ es) g = let h = and_parts (gives_back e.step) (all_give (steps_of es)) g in or_from _ _ (clean e.step e.found h.0) (no-dirt es h.1)
 
 -- a packet was given as deferred, and waits no more
-pub part-put_off : (sh : Shape) (p : ℕ) (c : Bool) (v : View) (es : List Entry) → steps_of es ≡ StoreLength p ∷ Give p true ∷ (cond c (Credit ∷ []) []) → Part sh (Some p) None 0 0 0 v es
-part-put_off sh p c v es e =
+pub part-deferred : (sh : Shape) (p : ℕ) (c : Bool) (v : View) (es : List Entry) → steps_of es ≡ StoreLength p ∷ Give p true ∷ (cond c (Credit ∷ []) []) → Part sh (Some p) None 0 0 0 v es
+part-deferred sh p c v es e =
     let calm = gives-calm v es (ap all_give e ∙ giving c) in
     record {
       did =
@@ -192,8 +192,3 @@ part-put_off sh p c v es e =
     over : (x : ℕ) (b : Bool) → given_all x (StoreLength p ∷ Give p true ∷ (cond b (Credit ∷ []) [])) (p == x) ≡ false
     over x true = ends (p == x)
     over x false = ends (p == x)
-
--- a packet was given back, as deferred or not
-pub part-give : (sh : Shape) (d : Bool) (p : ℕ) (c : Bool) (v : View) (es : List Entry) → steps_of es ≡ StoreLength p ∷ Give p d ∷ (cond c (Credit ∷ []) []) → Part sh (cond d (Some p) None) None 0 0 0 v es
-part-give sh true p c v es e = part-put_off sh p c v es e
-part-give sh false p c v es e = part-moves sh None v es (given-moves (0 ∷ 1 ∷ 2 ∷ []) p c es e)

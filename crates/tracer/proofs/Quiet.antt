@@ -3,8 +3,8 @@ use Rattle.std.proofs.Common.{ℕ, ◌≡◌, List, [], ◌∷◌, refl, sym, ap
 use Rattle.std.specs.Prelude.{◌&&◌, ◌||◌, ◌==◌}
 use Rattle.std.proofs.lemmas.Bool.{and_parts, false≢true, or_cases}
 use Rattle.mark_core.specs.Seats.{is_the, is_unpublished}
-use Rattle.mark_core.specs.PacketSteps.{may_push}
-use Rattle.mark_core.specs.ColourSteps.{popped_off}
+use Rattle.mark_core.specs.Steps.PacketSteps.{may_push}
+use Rattle.mark_core.specs.Steps.ColourSteps.{popped_off}
 use Rattle.mark_core.specs.Effects.{seat_after}
 use Rattle.mark_core.specs.declared.kinds.Shape.{Shape}
 use Rattle.mark_core.specs.declared.kinds.Step.{Step}
@@ -19,7 +19,7 @@ use Rattle.packet_pools.specs.Counts.{count_of, dirties, only_scans, scans_objec
 use Rattle.packet_pools.proofs.Counting.{counts-moves}
 use Rattle.tracer.specs.Deferral.{waits_on}
 use Rattle.tracer.specs.Parts.{Did, Part}
-use Rattle.tracer.proofs.Calm.{AllCalm, AllStill, IsCalm, calm-got, calm-off, calm-popped, calm-pops, calm-traces, move-calm, move-still, still-waits}
+use Rattle.tracer.proofs.NoDeferral.{AllCalm, AllStill, IsCalm, calm-got, calm-off, calm-popped, calm-pops, calm-traces, move-calm, move-still, still-waits}
 
 -- events that change nothing of what waits
 pub did-quiet : (o : Option ℕ) (l : ℕ) (v : View) (es : List Entry) → AllCalm v es → AllStill v es → count_of dirties es ≡ l → Did o o 0 0 l v es

@@ -3,7 +3,7 @@ use Rattle.std.proofs.Common.{ℕ, ◌≡◌, ◌<◌, ◌≤◌, ◌+◌, ◌*�
 use Rattle.std.specs.Prelude.{◌&&◌, ◌||◌, ◌==◌, IsTrue}
 use Rattle.std.proofs.lemmas.Bool.{and_from, and_parts, cases_lt, false≢true, false_from_ne_true, ne_eqb, not_from_false, or_cases, or_left, or_right}
 use Rattle.mark_core.specs.Bits.{has_bit}
-use Rattle.mark_core.proofs.CellBits.{no-bit}
+use Rattle.mark_core.proofs.Writing.CellBits.{no-bit}
 use Rattle.mark_core.specs.Seats.{work_in_hand}
 use Rattle.mark_core.specs.declared.seat.SeatState.{SeatState}
 use Rattle.mark_core.specs.declared.kinds.Step.{Step}
@@ -13,7 +13,7 @@ use Rattle.gc_table.specs.Log.{steps_of}
 use Rattle.packet_pools.specs.Seeking.{gets, gets_from, only_moves, shows_outside, some_event, was_got, was_got_from}
 use Rattle.packet_pools.specs.Counts.{count_of}
 use Rattle.packet_pools.proofs.Counting.{count-join}
-use Rattle.gc_table.proofs.Log.{entry_of}
+use Rattle.gc_table.proofs.History.Log.{entry_of}
 use Rattle.packet_pools.proofs.Searches.{all_move, either-way, moves-join, moves-steps, some-left, some-parts, some-right, was-missed-left, was-missed-right}
 use Rattle.gc_table.specs.declared.view.View.{View}
 use Rattle.tracer.specs.Hands.{IsIdle}
@@ -45,9 +45,6 @@ settled-left p xs ys h = either-way _ _ _ _ (was-missed-left 3 p xs ys) (moved-l
 
 pub settled-right : (p : ℕ) (xs ys : List Entry) → was_got p xs ≡ false → is_settled p ys ≡ true → is_settled p (xs ++ ys) ≡ true
 settled-right p xs ys n h = either-way _ _ _ _ (was-missed-right 3 p xs ys n) (moved-right p xs ys) h
-
-pub recycles-none : Recycles 0 0 0 []
-recycles-none = record { all = λ p a b. absurd (omega (arith, b)); got = λ p g. absurd (false≢true g); once = λ p. omega arith; none = λ p o. refl; count = refl; moves = refl }
 
 -- one packet after others
 pub recycles-join : (lo mid hi k l m : ℕ) (xs ys es : List Entry) → es ≡ xs ++ ys → lo ≤ mid → mid ≤ hi → k + l ≡ m → Recycles lo mid k xs → Recycles mid hi l ys → Recycles lo hi m es

@@ -28,7 +28,7 @@ one_ready = refl
 taken_from_another : at_some_moment roomy (finds_no_work roomy) marker (event (Look 2 0) 0 ∷ event (Look 1 0) 3 ∷ event (Take 2 0) 0 ∷ event (Take 2 1) 0 ∷ []) ≡ false
 taken_from_another = refl
 
--- so too, out of the pool of those that were put off
+-- so too, out of the deferred pool
 taken_unseen : at_some_moment roomy (finds_no_work roomy) marker (event (Take 3 0) 0 ∷ event (Take 3 1) 0 ∷ []) ≡ false
 taken_unseen = refl
 

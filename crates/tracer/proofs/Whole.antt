@@ -25,12 +25,12 @@ use Rattle.gc_table.specs.Log.{events}
 use Rattle.packet_pools.specs.Tracing.{Traces}
 use Rattle.packet_pools.specs.Seeking.{NoInput, only_moves}
 use Rattle.packet_pools.specs.Counts.{count_of, dirties, dirties_after_search}
-use Rattle.gc_table.proofs.Log.{events-join, grows-join}
+use Rattle.gc_table.proofs.History.Log.{events-join, grows-join}
 use Rattle.gc_table.proofs.Running.{after-join}
 use Rattle.tracer.specs.declared.packets.Packets.{Packets}
 use Rattle.tracer.specs.Hands.{Carries, in_front, IsEmpty, IsIdle, KeepsRecord, no_packets, packet_of, packets_of}
-use Rattle.tracer.specs.Deferral.{PutsOff, waits}
-use Rattle.tracer.specs.Tally.{count_by, only_traces, spills, Tally, traces_cells}
+use Rattle.tracer.specs.Deferral.{Defers, waits}
+use Rattle.tracer.specs.Tally.{count_by, only_traces, spills, Tally, is_trace_step}
 use Rattle.tracer.specs.Causes.{FoundNoWork}
 use Rattle.tracer.specs.Moments.{Moment, at_some_moment, begins, finds_no_work, is_spent_slot}
 use Rattle.tracer.specs.Parts.{Ended, Part}
@@ -62,11 +62,11 @@ module _ (sh : Shape) (d f l : ℕ) (v w : View) (shape : v.shape ≡ sh) (later
         cause = subst (λ s. dirties_after_search s (events v w) ≡ true) (sym shape) p.cause;
       }
 
-  pub puts-off : PutsOff v w
-  puts-off = record { given = p.did.waiting; kept = p.did.kept; undeferred = p.did.undeferred }
+  pub deferral-of : Defers v w
+  deferral-of = record { given = p.did.waiting; kept = p.did.kept; undeferred = p.did.undeferred }
 
 -- no card comes to be owed
-trace-owes : (sh : Shape) (s : SeatState) (step : Step) (n : ℕ) → traces_cells step ≡ true → s.owes ≡ None → (seat_after sh s step n).owes ≡ None
+trace-owes : (sh : Shape) (s : SeatState) (step : Step) (n : ℕ) → is_trace_step step ≡ true → s.owes ≡ None → (seat_after sh s step n).owes ≡ None
 trace-owes sh s (DirtyCard card) n t e = ap (λ (o : Option ℕ). cond (is_the o card) None o) e
 trace-owes sh s (Push p c) n t e = e
 trace-owes sh s (Pop p) n t e = e
@@ -84,7 +84,7 @@ trace-owes sh s step n t e = absurd (false≢true t)
 
 all-owe : (es : List Entry) (v : View) → only_traces es ≡ true → v.state.owes ≡ None → (after_all es v).state.owes ≡ None
 all-owe [] v t e = e
-all-owe (x ∷ es) v t e = let h = and_parts (traces_cells x.step) (only_traces es) t in all-owe es (after x.step x.found v) h.1 (trace-owes v.shape v.state x.step x.found h.0 e)
+all-owe (x ∷ es) v t e = let h = and_parts (is_trace_step x.step) (only_traces es) t in all-owe es (after x.step x.found v) h.1 (trace-owes v.shape v.state x.step x.found h.0 e)
 
 pub traces-owe : (v w : View) → OnlyTraced v w → only_traces (events v w) ≡ true → v.state.owes ≡ None → w.state.owes ≡ None
 traces-owe v w l steps e = ap (λ (z : View). z.state.owes) l.ran.steps ∙ all-owe (events v w) v steps e

@@ -1,8 +1,8 @@
 -- Why a trace ended before its quota, and why no packet could be had.
-use Rattle.std.specs.Prelude.{[], ◌∷◌, IsTrue}
+use Rattle.std.specs.Prelude.{IsTrue}
 use Rattle.gc_table.specs.declared.view.View.{View}
 use Rattle.gc_table.specs.Log.{events}
-use Rattle.packet_pools.specs.Seeking.{only_moves}
+use Rattle.packet_pools.specs.Seeking.{only_moves, output_pools}
 use Rattle.tracer.specs.Moments.{at_some_moment, begins, finds_no_packet, finds_no_work}
 
 -- no packet with a cell was found while nothing was left in hand
@@ -12,4 +12,4 @@ FoundNoWork v w = IsTrue (at_some_moment v.shape (finds_no_work v.shape) (begins
 -- neither a packet with room nor one with a cell was found, while the seat held none; nothing was marked
 pub record FoundNoPacket (v w : View) : Type 0 where
   pub none : IsTrue (finds_no_packet v.shape (begins v) (events v w))
-  pub moves : IsTrue (only_moves (0 ∷ 1 ∷ 2 ∷ []) (events v w))
+  pub moves : IsTrue (only_moves output_pools (events v w))

@@ -43,7 +43,7 @@ in_front (Some h) hs = h ∷ hs
 abbrev pub packets_of : Packets → List Held
 packets_of x = x.input ∷ in_front x.output (in_front x.deferred [])
 
--- the packet that is being filled with cells to put off
+-- the number of the packet that is being filled with deferred cells, if there is one
 abbrev pub packet_of : Option Held → Option ℕ
 packet_of None = None
 packet_of (Some h) = Some h.packet

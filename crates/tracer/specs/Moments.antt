@@ -10,10 +10,10 @@ use Rattle.mark_core.specs.declared.kinds.Step.TheVariants.{Push, Give}
 use Rattle.mark_core.specs.declared.seat.SeatState.{SeatState}
 use Rattle.gc_table.specs.declared.view.Entry.{Entry}
 use Rattle.gc_table.specs.declared.view.View.{View}
-use Rattle.packet_pools.specs.Seeking.{moves_packet, no_input, no_output}
-use Rattle.tracer.specs.Deferral.{puts_off}
+use Rattle.packet_pools.specs.Seeking.{input_pools, moves_packet, no_input, no_output, output_pools}
+use Rattle.tracer.specs.Deferral.{defers}
 
--- the seat's record, and the packets with cells that wait to be put off
+-- the seat's record, and the packets with deferred cells that aren't given yet
 pub record Moment : Type 0 where
   pub state : SeatState
   pub deferring : List ℕ
@@ -25,7 +25,7 @@ without p (x ∷ xs) = if x == p then without p xs else x ∷ without p xs
 
 -- a packet into which a popped cell goes has one that waits, until it is given as deferred
 abbrev pub deferring_after : SeatState → Step → List ℕ → List ℕ
-deferring_after s (Push p c) ps = if puts_off s (Push p c) then p ∷ ps else ps
+deferring_after s (Push p c) ps = if defers s (Push p c) then p ∷ ps else ps
 deferring_after s (Give p deferred) ps = if deferred then without p ps else ps
 deferring_after s step ps = ps
 
@@ -53,21 +53,21 @@ is_spent_slot ps None = true
 is_spent_slot ps (Some (p, None, stored)) = list_any (λ x. x == p) ps
 is_spent_slot ps (Some (p, Some n, stored)) = (n == 0) || list_any (λ x. x == p) ps
 
--- no work in hand, and no packet in hand with a cell but those that are filled to be put off
+-- no work in hand, and no packet in hand with a cell but those with deferred cells
 abbrev pub nothing_left : Shape → Moment → Bool
 nothing_left sh m = not (work_in_hand sh.fields m.state) && list_all (is_spent_slot m.deferring) m.state.held
 
 -- here nothing is left in hand, and the steps that follow look for a packet to read from and find none
 abbrev pub finds_no_work : Shape → Moment → List Entry → Bool
-finds_no_work sh m es = nothing_left sh m && no_input sh (front (moves_packet (2 ∷ 1 ∷ [])) es)
+finds_no_work sh m es = nothing_left sh m && no_input sh (front (moves_packet input_pools) es)
 
 -- here no packet is in hand, and the steps that follow look for one to read from and find none
 abbrev pub finds_none_to_read : Shape → Moment → List Entry → Bool
-finds_none_to_read sh m es = not (holds_any m.state.held) && no_input sh (front (moves_packet (2 ∷ 1 ∷ [])) es)
+finds_none_to_read sh m es = not (holds_any m.state.held) && no_input sh (front (moves_packet input_pools) es)
 
 -- here no packet is in hand, and the steps that follow look for one with room and find none
 abbrev pub finds_none_to_fill : Shape → Moment → List Entry → Bool
-finds_none_to_fill sh m es = not (holds_any m.state.held) && no_output sh (front (moves_packet (0 ∷ 1 ∷ 2 ∷ [])) es)
+finds_none_to_fill sh m es = not (holds_any m.state.held) && no_output sh (front (moves_packet output_pools) es)
 
 -- both are so at some moment: no packet could be taken at all
 abbrev pub finds_no_packet : Shape → Moment → List Entry → Bool

@@ -10,7 +10,7 @@
 //! 1. A cell is *popped* out of the input packet. It is grey: marked, and its fields aren't read.
 //! 2. Its allocation bit is read. Only a published object is scanned, since the words of one that is still being made are its mutator's alone.
 //! 3. Where the bit is set, the cell is in *scan*: each field is read, what it names is marked, and what was white is pushed into the output packet.
-//! 4. Where it is clear, the cell is *put off*: it is pushed into a third packet, which goes into the deferred pool. Nobody pops out of that pool, so a
+//! 4. Where it is clear, the cell is *deferred*: it is pushed into a third packet, which goes into the deferred pool. Nobody pops out of that pool, so a
 //!    tracer doesn't spend its quota on cells that it can't scan. [`recycle_deferred`] moves the packets back once caches were published.
 //! 5. A cell that finds no packet with room isn't lost either: its card is dirtied, and cleaning that card will find it. So a full set of packets costs
 //!    time and no cell.
@@ -21,21 +21,21 @@
 //!
 //! A tracer pops out of one packet and pushes into another, so that the input becomes empty while the output fills, and both go to the pools where
 //! others look for them. An output with cells becomes the input before the pools are searched. Where no second packet is to be had, the seat pushes into the
-//! packet it pops from, which has room after each pop: so two packets suffice for a heap of any size, and a trace never ends for want of a packet.
+//! packet it pops from, which has room after each pop: so two packets suffice for a heap of any size, and a trace never ends because a packet lacks.
 //!
 //! # Why it ends, and what an answer says
 //!
-//! [`Traced`]`.done` counts each object that was popped, whether it was scanned, put off or left to its card, and a trace pops at most its quota: this is why
+//! [`Traced`]`.done` counts each object that was popped, whether it was scanned, deferred or left to its card, and a trace pops at most its quota: this is why
 //! it returns. [`Stopped::NoWork`] says that at some moment of the call nothing was left in hand, and that the steps that followed were a search of
 //! the pools in each of which each packet was seen elsewhere or lost to another seat (`specs/Moments.antt`, `specs/Causes.antt`). It doesn't say that no
 //! packet had a cell at any one moment: others may give packets back meanwhile. That tracing is done is told by `all_empty` of `packet_pools`.
 //!
-//! Counts are counts of events (`specs/Tally.antt`), and what was put off is given as deferred before a cell is popped out of that packet again
+//! Counts are counts of events (`specs/Tally.antt`), and a packet with deferred cells is given to the deferred pool before a cell is popped out of that packet again
 //! (`specs/Deferral.antt`). Each call leaves the record as it was, but for the object in scan and the card that is being cleaned.
 //!
 //! # Where what is
 //!
-//! `tracing` has the loop, `finding` the next cell, `deferring` puts cells off, `packets` has the packets of a tracer, `recycling` moves what was put off back,
+//! `tracing` has the loop, `finding` the next cell, `deferring` defers cells, `packets` has the packets of a tracer, `recycling` moves deferred packets back,
 //! `roots` scans a section's variables, and `traced` has the answers.
 #![tactic(auto)]
 

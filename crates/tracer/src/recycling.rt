@@ -1,4 +1,4 @@
-//! What was put off is traced again.
+//! Deferred cells are traced again.
 ghost use Rattle.std.specs.Prelude.{◌≡◌, ◌<◌, ◌≤◌, ◌+◌, ◌*◌, ◌/◌, if◌then◌else◌};
 ghost use Rattle.gc_table.specs.Seats.{Across, did, state_of, view_of};
 ghost use Rattle.packet_pools.specs.OnlyTraced.{OnlyTraced};
@@ -31,7 +31,7 @@ fn recycle(heap: &Heap, seat: &mut HeapSeat, p: u32) -> bool
     true
 }
 
-/// The same for the packets from `first` on and below `end`: how many it moved.
+/// Moves the packets from `first` on and below `end` that are in the deferred pool to those of their lengths: how many it moved.
 fn recycle_between(heap: &Heap, seat: &mut HeapSeat, first: u32, end: u32) -> u32
     requires seat { IsTracer heap.now seat.old }
     requires idle { IsIdle (view_of seat.old) }
@@ -49,7 +49,7 @@ fn recycle_between(heap: &Heap, seat: &mut HeapSeat, first: u32, end: u32) -> u3
     moved
 }
 
-/// The same for the packets of word g of the pool that are below `end`. A word that shows none is read once.
+/// Moves the packets of word g of the deferred pool that are below `end`: how many it moved. A word that shows none is read once.
 fn recycle_in_word(heap: &Heap, seat: &mut HeapSeat, g: u32, end: u32) -> u32
     requires seat { IsTracer heap.now seat.old }
     requires idle { IsIdle (view_of seat.old) }
@@ -66,7 +66,7 @@ fn recycle_in_word(heap: &Heap, seat: &mut HeapSeat, g: u32, end: u32) -> u32
     recycle_between(heap, seat, 64 * g, end)
 }
 
-/// The same for all words that are full of packets.
+/// Moves the packets of all words of the deferred pool that stand for 64 packets each: how many it moved.
 fn recycle_words(heap: &Heap, seat: &mut HeapSeat) -> u32
     requires seat { IsTracer heap.now seat.old }
     requires idle { IsIdle (view_of seat.old) }
@@ -83,9 +83,9 @@ fn recycle_words(heap: &Heap, seat: &mut HeapSeat) -> u32
     moved
 }
 
-/// Moves the packets that were put off to the pools of their lengths, where tracers find them: how many it moved, each at most once. The seat may trace,
+/// Moves the deferred packets to the pools of their lengths, where tracers find them: how many it moved, each at most once. The seat may trace,
 /// and holds no packet. Each packet was moved, or was seen outside the deferred pool or lost to another seat there in this call.
-/// Cells that still aren't published are put off again when they are popped, so a caller publishes first, or waits for others to.
+/// Cells that still aren't published are deferred again when they are popped, so a caller publishes first, or waits for others to.
 pub fn recycle_deferred(heap: &Heap, seat: &mut HeapSeat) -> u32
     requires seat { IsTracer heap.now seat.old }
     requires idle { IsIdle (view_of seat.old) }

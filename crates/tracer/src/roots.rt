@@ -3,7 +3,7 @@ ghost use Rattle.std.specs.Prelude.{ℕ, ◌≡◌, ◌<◌, ◌≤◌, [], ◌�
 ghost use Rattle.mark_core.specs.Seats.{work_in_hand};
 ghost use Rattle.gc_table.specs.Seats.{Across, did, state_of, view_of};
 ghost use Rattle.packet_pools.specs.OnlyTraced.{OnlyTraced};
-ghost use Rattle.packet_pools.specs.Seeking.{only_moves};
+ghost use Rattle.packet_pools.specs.Seeking.{only_moves, output_pools};
 ghost use Rattle.packet_pools.specs.Tracing.{IsTracer};
 ghost use Rattle.tracer.specs.Causes.{FoundNoPacket};
 ghost use Rattle.tracer.specs.Hands.{Carries, IsIdle, KeepsRecord};
@@ -24,7 +24,7 @@ fn take_either(heap: &Heap, seat: &mut HeapSeat) -> Option<Held>
     ensures seat { IsTracer heap.now seat.new }
     ensures later { Across OnlyTraced seat.old seat.new }
     ensures work { IsFalse (work_in_hand heap.now.shape.fields (state_of seat.new)) }
-    ensures moves { IsTrue (only_moves (0 ∷ 1 ∷ 2 ∷ []) (did seat.old seat.new)) }
+    ensures moves { IsTrue (only_moves output_pools (did seat.old seat.new)) }
     ensures some { IfSome result (λ h. Carries (h ∷ []) (view_of seat.new)) }
     ensures none { IfNone result ((state_of seat.new ≡ state_of seat.old) × Across FoundNoPacket seat.old seat.new) }
 {

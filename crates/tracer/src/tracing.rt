@@ -5,15 +5,15 @@ ghost use Rattle.gc_table.specs.Seats.{Across, did, state_of, view_of};
 ghost use Rattle.packet_pools.specs.OnlyTraced.{OnlyTraced};
 ghost use Rattle.packet_pools.specs.Tracing.{IsTracer};
 ghost use Rattle.packet_pools.specs.Scanning.{InHand};
-ghost use Rattle.packet_pools.specs.Seeking.{NoInput, only_moves};
+ghost use Rattle.packet_pools.specs.Seeking.{NoInput, input_pools, only_moves};
 ghost use Rattle.tracer.specs.Causes.{FoundNoWork};
-ghost use Rattle.tracer.specs.Deferral.{PutsOff};
+ghost use Rattle.tracer.specs.Deferral.{Defers};
 ghost use Rattle.tracer.specs.Ends.{all_end_well};
 ghost use Rattle.tracer.specs.Hands.{Carries, HasRoom, IsIdle, KeepsRecord, no_packets, packet_of, packets_of};
 ghost use Rattle.tracer.specs.Parts.{Ended, HasPopped, Part};
 ghost use Rattle.tracer.specs.Tally.{Tally};
 
-use crate::deferring::put_off;
+use crate::deferring::defer;
 use crate::finding::next_cell;
 use crate::packets::{Packets, give_some};
 use crate::traced::{Passed, Stopped, Traced};
@@ -40,7 +40,7 @@ fn scan(heap: &Heap, seat: &mut HeapSeat, packets: &mut Packets, cell: Cell) -> 
     }
 }
 
-/// Traces the cell that was popped: how many cells were put off for it, 0 or 1, and how many were left to their cards.
+/// Traces the cell that was popped: how many cells were deferred for it, 0 or 1, and how many were left to their cards.
 fn trace_cell(heap: &Heap, seat: &mut HeapSeat, packets: &mut Packets, cell: Cell) -> Passed
     requires seat { IsTracer heap.now seat.old }
     requires packets { Carries (packets_of packets.old) (view_of seat.old) × HasRoom heap.now.shape packets.old.deferred }
@@ -60,7 +60,7 @@ fn trace_cell(heap: &Heap, seat: &mut HeapSeat, packets: &mut Packets, cell: Cel
             overflowed: scanned.overflowed,
         };
     }
-    let overflowed = put_off(heap, seat, packets, cell);
+    let overflowed = defer(heap, seat, packets, cell);
     Passed {
         deferred: u32::from(!overflowed),
         overflowed: u32::from(overflowed),
@@ -102,7 +102,7 @@ fn begin(heap: &Heap, seat: &mut HeapSeat) -> Option<Packets>
     ensures idle { IsFalse (work_in_hand heap.now.shape.fields (state_of seat.new)) × ((state_of seat.new).block ≡ None) }
     ensures part { Part heap.now.shape None None 0 0 0 (view_of seat.old) (did seat.old seat.new) }
     ensures some { IfSome result (λ x. Carries (packets_of x) (view_of seat.new) × (x.deferred ≡ None)) }
-    ensures none { IfNone result ((state_of seat.new ≡ state_of seat.old) × NoInput heap.now.shape (did seat.old seat.new) × IsTrue (only_moves (2 ∷ 1 ∷ []) (did seat.old seat.new))) }
+    ensures none { IfNone result ((state_of seat.new ≡ state_of seat.old) × NoInput heap.now.shape (did seat.old seat.new) × IsTrue (only_moves input_pools (did seat.old seat.new))) }
 {
     let input = take_input(heap, seat)?;
     let output = take_output(heap, seat);
@@ -113,7 +113,7 @@ fn begin(heap: &Heap, seat: &mut HeapSeat) -> Option<Packets>
     })
 }
 
-/// Gives all packets back, and what was put off as deferred.
+/// Gives all packets back, the one with deferred cells to the deferred pool.
 fn finish(heap: &Heap, seat: &mut HeapSeat, packets: Packets)
     requires seat { IsTracer heap.now seat.old }
     requires packets { Carries (packets_of packets) (view_of seat.old) × HasRoom heap.now.shape packets.deferred }
@@ -148,7 +148,7 @@ pub fn trace(heap: &Heap, seat: &mut HeapSeat, quota: u32) -> Traced
     ensures state { Across KeepsRecord seat.old seat.new }
     ensures stopped { ((result.stopped ≡ Stopped.Quota) × (result.done ≡ quota)) ⊎ ((result.stopped ≡ Stopped.NoWork) × (result.done < quota) × Across FoundNoWork seat.old seat.new) }
     ensures tally { Across (Tally result.done result.deferred result.overflowed) seat.old seat.new }
-    ensures deferral { Across PutsOff seat.old seat.new }
+    ensures deferral { Across Defers seat.old seat.new }
     ensures ends { IsTrue (all_end_well (view_of seat.old) (did seat.old seat.new)) }
 {
     if quota == 0 {

@@ -1,12 +1,12 @@
 -- A section without commands is counted.
 use Rattle.std.proofs.Common.{◌≡◌, List, refl, sym, ap, ◌∙◌, subst, ◌&&◌, true, false, not}
 use Rattle.std.proofs.lemmas.Bool.{and_from}
-use Rattle.mark_core.specs.WorldSteps.{has_nothing}
+use Rattle.mark_core.specs.Steps.WorldSteps.{has_nothing}
 use Rattle.mark_core.specs.declared.kinds.Step.TheVariants.{AddStat, LeaveStep}
 use Rattle.gc_table.specs.Seats.{Took}
 use Rattle.gc_table.specs.declared.view.Entry.{Entry}
 use Rattle.gc_table.specs.declared.view.View.{View}
-use Rattle.gc_table.proofs.Log.{events-after, only-after}
+use Rattle.gc_table.proofs.History.Log.{events-after, only-after}
 use Rattle.gc_table.proofs.Running.{ran-took}
 use Rattle.gc_cycle.specs.Cycles.{never_fills}
 use Rattle.gc_cycle.specs.Events.{never}
@@ -15,7 +15,7 @@ use Rattle.gc_cycle.specs.Sorts.{raises_flag}
 use Rattle.mark_core.specs.Numbers.{done_count}
 use Rattle.gc_cycle.specs.Sparing.{spares_part}
 use Rattle.gc_cycle.specs.Standing.{IsOut, Mutates}
-use Rattle.gc_cycle.proofs.Goings.{mutator-nothing}
+use Rattle.gc_cycle.proofs.Stops.OutAndIn.{mutator-nothing}
 use Rattle.gc_table.specs.Log.{Only, events}
 use Rattle.play_end.specs.Done.{IsStill}
 use Rattle.stop_world.proofs.Standing.{active-counted, strong, unless}

@@ -16,7 +16,7 @@ use Rattle.gc_table.specs.declared.seat.HeapSeat.{HeapSeat}
 use Rattle.gc_table.specs.declared.view.Entry.{Entry}
 use Rattle.gc_table.specs.declared.view.View.{View}
 use Rattle.gc_table.proofs.Running.{ran-grows}
-use Rattle.gc_table.proofs.Log.{events-of}
+use Rattle.gc_table.proofs.History.Log.{events-of}
 use Rattle.alloc_cache.specs.declared.cache.Cache.{Cache}
 use Rattle.play_end.specs.Alike.{AreAlike}
 use Rattle.play_end.specs.Done.{turn_word}

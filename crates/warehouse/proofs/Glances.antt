@@ -11,7 +11,7 @@ use Rattle.gc_table.specs.Running.{Ran}
 use Rattle.gc_table.specs.Seats.{Found}
 use Rattle.gc_table.specs.declared.view.Entry.{Entry}
 use Rattle.gc_table.specs.declared.view.View.{View}
-use Rattle.gc_table.proofs.Log.{events-after, only-after}
+use Rattle.gc_table.proofs.History.Log.{events-after, only-after}
 use Rattle.gc_table.proofs.Running.{ran-events, ran-found, ran-refl}
 use Rattle.packet_pools.specs.Seeking.{some_event}
 use Rattle.packet_pools.proofs.Searches.{some-left, some-right}
@@ -20,9 +20,9 @@ use Rattle.gc_cycle.specs.Mutating.{stays_calm, tries_stopping}
 use Rattle.gc_cycle.specs.Polling.{poll_found_stop, saw_full}
 use Rattle.gc_cycle.specs.Sorts.{polls, reads_phase}
 use Rattle.gc_cycle.specs.Standing.{Mutates}
-use Rattle.gc_cycle.proofs.Answered.{polled-mutates}
-use Rattle.gc_cycle.proofs.Fulls.{goes-on, mutates-still, tells-more, tells-none}
-use Rattle.gc_cycle.proofs.Goings.{goes-out, out-join}
+use Rattle.gc_cycle.proofs.Refills.Answered.{polled-mutates}
+use Rattle.gc_cycle.proofs.Refills.KnownFull.{goes-on, mutates-still, tells-more, tells-none}
+use Rattle.gc_cycle.proofs.SectionKept.{goes-out, out-join}
 use Rattle.warehouse.specs.Playing.{Glances, IsHindered}
 
 module _ (n : ℕ) (u v : View) (polled : Found Observe n u v) (mutates : Mutates u) where

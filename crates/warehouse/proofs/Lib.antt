@@ -18,6 +18,7 @@ pub mod Going
 pub mod Leavings
 pub mod Parting
 pub mod Seasons
+pub mod InTheStop
 pub mod Stopping
 pub mod Turned
 pub mod Settling

@@ -9,7 +9,7 @@ use Rattle.plain_heap.specs.Sections.{Execution, made_by, makes_object, printed_
 use Rattle.plain_heap.specs.declared.operation.Op.TheVariants as ops
 use Rattle.gc_table.specs.declared.view.View.{View}
 use Rattle.gc_table.specs.Log.{events}
-use Rattle.gc_table.proofs.Log.{only-more}
+use Rattle.gc_table.proofs.History.Log.{only-more}
 use Rattle.gc_table.proofs.Running.{ran-shape}
 use Rattle.mutator_ops.specs.Creating.{Creates}
 use Rattle.mutator_ops.specs.Doing.{belongs}

@@ -15,7 +15,7 @@ use Rattle.gc_table.specs.Running.{Ran}
 use Rattle.gc_table.specs.Seats.{Found}
 use Rattle.gc_table.specs.declared.view.Entry.{Entry}
 use Rattle.gc_table.specs.declared.view.View.{View}
-use Rattle.gc_table.proofs.Log.{events-after, only-after, only-more, only-none}
+use Rattle.gc_table.proofs.History.Log.{events-after, only-after, only-more, only-none}
 use Rattle.gc_table.proofs.Running.{ran-events, ran-found, ran-only, ran-refl, ran-section}
 use Rattle.packet_pools.specs.Seeking.{some_event}
 use Rattle.packet_pools.proofs.Searches.{some-left}
@@ -23,7 +23,8 @@ use Rattle.alloc_cache.specs.declared.cache.Cache.{Cache}
 use Rattle.gc_cycle.specs.Answering.{GoesOn, HasCache, later_or, last_phase, phase_read}
 use Rattle.gc_cycle.specs.Events.{never}
 use Rattle.gc_cycle.specs.PartEvents.{polled_last}
-use Rattle.warehouse.specs.Playing.{Acts, GetsReady, IsCounted, IsInTurn, LooksAtSeason, Stays, Waits, counts_part}
+use Rattle.seat_turns.specs.Turning.{LooksAtSeason}
+use Rattle.warehouse.specs.Playing.{Acts, GetsReady, IsCounted, IsInTurn, Stays, Waits, counts_part}
 use Rattle.gc_cycle.specs.Polling.{saw_full}
 use Rattle.gc_cycle.specs.Sorts.{makes, polls, raises_flag, reads_phase, stores}
 use Rattle.gc_cycle.specs.Sparing.{spares_part}

@@ -1,40 +1,45 @@
 -- Giving a cache up leaves the part that is played.
-use Rattle.std.proofs.Common.{ℕ, ◌≡◌, ◌==◌, ◌&&◌, List, [], ◌∷◌, ◌++◌, refl, ap, ◌∙◌, Bool, true, false, if◌then◌else◌}
-use Rattle.std.specs.List.{list_all}
-use Rattle.std.proofs.lemmas.Bool.{and_parts, false≢true}
+use Rattle.std.proofs.Common.{ℕ, ◌≡◌, refl, ap, None, true, false}
+use Rattle.std.proofs.lemmas.Bool.{false≢true}
 use Rattle.mark_core.specs.declared.kinds.Step.{Step}
-use Rattle.mark_core.specs.declared.kinds.Step.TheVariants.{PublishCells, RaiseStep}
-use Rattle.gc_table.specs.Log.{Only, all_steps, events, steps_of}
-use Rattle.gc_table.specs.declared.view.Entry.{Entry}
+use Rattle.mark_core.specs.declared.kinds.Step.TheVariants.{AddStat, PublishCells, RaiseStep, ReleaseBlock}
+use Rattle.mark_core.specs.declared.seat.SeatState.{SeatState}
+use Rattle.gc_table.specs.Log.{Only, events}
+use Rattle.gc_table.specs.Running.{Ran}
+use Rattle.gc_table.specs.declared.view.SectionState.{SectionState}
 use Rattle.gc_table.specs.declared.view.View.{View}
-use Rattle.alloc_cache.specs.Retiring.{retiring_steps}
-use Rattle.alloc_cache.specs.declared.cache.Cache.{Cache}
-use Rattle.gc_cycle.specs.Events.{never}
+use Rattle.gc_table.proofs.History.Log.{only-more}
+use Rattle.gc_table.proofs.Running.{ran-shape}
+use Rattle.gc_cycle.specs.Answering.{retires}
 use Rattle.gc_cycle.specs.Sorts.{raises_flag}
 use Rattle.gc_cycle.specs.Sparing.{spares_part}
+use Rattle.warehouse.specs.Playing.{Stays, Waits}
 use Rattle.warehouse.proofs.Seen.{never-of}
+use Rattle.warehouse.proofs.Sparings.{waits-calm}
 
-pub by-steps : (P : Step → Bool) (es : List Entry) → list_all P (steps_of es) ≡ true → all_steps P es ≡ true
-by-steps P [] b = refl
-by-steps P (e ∷ es) b = let p = and_parts (P e.step) (list_all P (steps_of es)) b in ap (λ x. x && all_steps P es) p.0 ∙ by-steps P es p.1
+retires-spares : (step : Step) → retires step ≡ true → spares_part step ≡ true
+retires-spares (AddStat which by down) e = e
+retires-spares PublishCells e = refl
+retires-spares ReleaseBlock e = refl
+retires-spares step e = absurd (false≢true e)
 
-published : (P : Step → Bool) (b : Bool) (steps : List Step) → P PublishCells ≡ true → list_all P steps ≡ true → list_all P ((if b then [] else PublishCells ∷ []) ++ steps) ≡ true
-published P true steps p e = e
-published P false steps p e = ap (λ x. x && list_all P steps) p ∙ e
+retires-calm : (step : Step) (n : ℕ) → retires step ≡ true → raises_flag step n ≡ false
+retires-calm RaiseStep n e = absurd (false≢true e)
+retires-calm step n e = refl
 
-pub retiring-spares : (h : Cache) (used : ℕ) (v w : View) → steps_of (events v w) ≡ retiring_steps h used → Only spares_part v w
-retiring-spares h used v w steps = by-steps spares_part (events v w) (ap (list_all spares_part) steps ∙ published spares_part (used == 0) _ refl refl)
+pub retired-waits : (v w : View) → Ran v w → Only retires v w → Waits v w
+retired-waits v w ran only = waits-calm v w ran (only-more retires spares_part retires-spares v w only) (never-of retires raises_flag retires-calm (events v w) only)
 
-is_calm : Step → Bool
-is_calm RaiseStep = false
-is_calm step = true
-
-calm_step : (step : Step) (n : ℕ) → is_calm step ≡ true → raises_flag step n ≡ false
-unfolding is_calm
-calm_step RaiseStep n b = absurd (false≢true b)
-calm_step step n b = refl
-
-pub retiring-calm : (h : Cache) (used : ℕ) (v w : View) → steps_of (events v w) ≡ retiring_steps h used → never raises_flag (events v w) ≡ true
-unfolding is_calm
-retiring-calm h used v w steps =
-    never-of is_calm raises_flag calm_step (events v w) (by-steps is_calm (events v w) (ap (list_all is_calm) steps ∙ published is_calm (used == 0) _ refl refl))
+pub retired-stays : (v w : View) → Ran v w → w.state ≡ record v.state { cache = None } → w.own ≡ v.own → Stays v w
+retired-stays v w ran state own =
+    record {
+      still =
+          record {
+            heap = ap (λ (o : SectionState). o.meaning.heap) own;
+            turns = ap (λ (o : SectionState). o.history) own;
+            places = ap (λ (o : SectionState). o.places) own;
+            full = ap (λ (o : SectionState). o.full) own;
+          };
+      made = ap (λ (s : SeatState). s.made) state;
+      shape = ran-shape v w ran;
+    }

@@ -13,7 +13,7 @@ use Rattle.gc_table.specs.Running.{Ran}
 use Rattle.gc_table.specs.Taking.{after, moves_from}
 use Rattle.gc_table.specs.declared.view.Entry.{Entry}
 use Rattle.gc_table.specs.declared.view.View.{View}
-use Rattle.gc_table.proofs.Log.{only-more}
+use Rattle.gc_table.proofs.History.Log.{only-more}
 use Rattle.gc_table.proofs.Running.{ran-join, state-kept}
 use Rattle.packet_pools.specs.Seeking.{some_event}
 use Rattle.play_end.specs.Playing.{leaves_play}

@@ -8,7 +8,7 @@ use Rattle.mark_core.specs.declared.kinds.Phase.TheVariants.{Full, Idle, Sweep}
 use Rattle.mark_core.specs.declared.kinds.Step.{Step}
 use Rattle.mark_core.specs.declared.kinds.Step.TheVariants.{NextSeason, StoreField, StoreNew, StorePhase, StoreRoot, StoreValue}
 use Rattle.mark_core.specs.declared.seat.SeatState.{SeatState}
-use Rattle.mark_core.proofs.Frames.{identity-kept}
+use Rattle.mark_core.proofs.Writing.Frames.{identity-kept}
 use Rattle.gc_table.specs.Log.{Only, all_steps, events}
 use Rattle.gc_table.specs.Running.{Alone, Ran, after_all}
 use Rattle.gc_table.specs.Taking.{after, moves_from}

@@ -8,7 +8,7 @@ use Rattle.gc_table.specs.declared.view.Entry.{Entry}
 use Rattle.gc_table.specs.declared.view.View.{View}
 use Rattle.gc_table.specs.Log.{Only, events}
 use Rattle.gc_table.specs.Running.{Ran}
-use Rattle.gc_table.proofs.Log.{events-none, only-more, only-none}
+use Rattle.gc_table.proofs.History.Log.{events-none, only-more, only-none}
 use Rattle.gc_table.proofs.Running.{ran-refl, ran-shape}
 use Rattle.packet_pools.specs.Seeking.{some_event}
 use Rattle.play_end.specs.Playing.{leaves_play}

@@ -1,40 +1,36 @@
 -- The catalogue's seat stops the world, ends a cycle, turns the season, and leaves.
-use Rattle.std.proofs.Common.{ℕ, ◌≡◌, ◌++◌, ◌==◌, ◌&&◌, ◌||◌, List, [], ◌∷◌, refl, sym, ap, ◌∙◌, subst, Bool, true, false, not, Option, Some, None, eqb-true, eq-eqb, ⊎_elim, inr, if◌then◌else◌}
-use Rattle.std.specs.Prelude.{is_none, unwrap_or}
-use Rattle.std.proofs.lemmas.Bool.{and_from, and_parts, false≢true, true≢false, not-true, or_cases, or_left}
+use Rattle.std.proofs.Common.{ℕ, ◌≡◌, ◌++◌, ◌&&◌, List, [], ◌∷◌, refl, sym, ap, ◌∙◌, subst, Bool, true, false, not, eqb-true, ⊎_elim, inr, if◌then◌else◌}
+use Rattle.std.proofs.lemmas.Bool.{and_from, and_parts, false≢true, true≢false, or_cases, or_left}
 use Rattle.mark_core.specs.Bits.{has_flag}
 use Rattle.mark_core.specs.Effects.{seat_after}
 use Rattle.mark_core.specs.Places.{the_phase}
-use Rattle.mark_core.specs.Seats.{empty_handed, phase_number, phase_of, saw, work_in_hand}
-use Rattle.mark_core.specs.WorldSteps.{has_nothing}
-use Rattle.mark_core.specs.declared.kinds.Phase.{Phase}
-use Rattle.mark_core.specs.declared.kinds.Phase.TheVariants.{Idle, Marking, Drain, Sweep, Clear, Full}
-use Rattle.mark_core.specs.declared.kinds.Shape.{Shape}
+use Rattle.mark_core.specs.Seats.{phase_number, phase_of}
+use Rattle.mark_core.specs.Steps.WorldSteps.{has_nothing}
+use Rattle.mark_core.specs.declared.kinds.Phase.TheVariants.{Full}
 use Rattle.mark_core.specs.declared.kinds.Step.{Step}
-use Rattle.mark_core.specs.declared.kinds.Step.TheVariants.{DropStep, JoinHelpStep, LeaveHelpStep, LeaveStep, Observe, RaiseStep, ReadPhase}
+use Rattle.mark_core.specs.declared.kinds.Step.TheVariants.{DropStep, LeaveStep, Observe, RaiseStep, ReadPhase}
 use Rattle.mark_core.specs.declared.seat.SeatState.{SeatState}
 use Rattle.gc_table.specs.Log.{Only, all_steps, event, events}
 use Rattle.gc_table.specs.Rule.{KnowsFull}
-use Rattle.gc_table.specs.Running.{AllSeen, Alone, IsSeen, Ran, after_all, changes_section, ends_alone}
+use Rattle.gc_table.specs.Running.{AllSeen, IsSeen, Ran, after_all, changes_section}
 use Rattle.gc_table.specs.Seats.{Found, Took}
 use Rattle.gc_table.specs.Taking.{after}
 use Rattle.gc_table.specs.declared.view.Entry.{Entry}
 use Rattle.gc_table.specs.declared.view.View.{View}
 use Rattle.gc_table.proofs.Joining.{full-steady}
-use Rattle.gc_table.proofs.Log.{events-after, only-after, only-more}
-use Rattle.gc_table.proofs.Noticing.{alone-kept, known-step}
+use Rattle.gc_table.proofs.History.Log.{events-after, only-after, only-more}
+use Rattle.gc_table.proofs.Noticing.{known-step}
 use Rattle.gc_table.proofs.Running.{own-kept, ran-events, ran-found, ran-join, ran-only, ran-shape, ran-took, state-kept}
 use Rattle.packet_pools.specs.Seeking.{some_event}
 use Rattle.packet_pools.proofs.Searches.{some-right}
 use Rattle.play_end.specs.Playing.{moves_phase}
 use Rattle.play_end.proofs.FullKnown.{full-kept, full-read}
-use Rattle.stop_world.specs.Gates.{IsFreeToLeave}
-use Rattle.stop_world.specs.Waiting.{HasStopped, is_mutators, watches}
+use Rattle.stop_world.specs.Waiting.{HasStopped, watches}
 use Rattle.stop_world.specs.declared.Raised.{Raised}
 use Rattle.stop_world.specs.declared.Raised.TheVariants.{Theirs, Yours}
-use Rattle.stop_world.proofs.Phases.{phase-read, read-number}
+use Rattle.stop_world.proofs.Phases.{read-number}
 use Rattle.stop_world.proofs.Standing.{bare-parts, strong, unless}
-use Rattle.gc_cycle.proofs.Collected.{calm-spares as calm_spares}
+use Rattle.gc_cycle.proofs.Refills.Collected.{calm-spares as calm_spares}
 use Rattle.gc_cycle.specs.Events.{never}
 use Rattle.gc_cycle.specs.Finishing.{finishes}
 use Rattle.gc_cycle.specs.Mutating.{stays_calm}
@@ -46,87 +42,7 @@ use Rattle.warehouse.specs.Turns.{EndsCycle, KeepsPart, LeavesStop, StopsAt, in_
 use Rattle.warehouse.proofs.Counting.{spares-seasons}
 use Rattle.warehouse.proofs.Seasons.{keeps-join, neither, since-here, spared-keeps, spared-turns}
 use Rattle.warehouse.proofs.Seen.{never-join, none-of}
-
--- at rest, part by part
-pub free-to-leave : (v : View) → has_nothing v.shape v.state ≡ true → IsFreeToLeave v
-free-to-leave v e =
-    let s : SeatState = v.state in
-    let sh : Shape = v.shape in
-    let p5 = and_parts (empty_handed s && not (work_in_hand sh.fields s) && is_none s.owes && is_none s.cache && is_none s.block) (s.got == 0) e in
-    let p4 = and_parts (empty_handed s && not (work_in_hand sh.fields s) && is_none s.owes && is_none s.cache) (is_none s.block) p5.0 in
-    let p3 = and_parts (empty_handed s && not (work_in_hand sh.fields s) && is_none s.owes) (is_none s.cache) p4.0 in
-    let p2 = and_parts (empty_handed s && not (work_in_hand sh.fields s)) (is_none s.owes) p3.0 in
-    let p1 = and_parts (empty_handed s) (not (work_in_hand sh.fields s)) p2.0 in
-    record { handed = p1.0; idle = not-true (work_in_hand sh.fields s) p1.1; owes = none_of s.owes p2.1; cache = none_of s.cache p3.1; got = eqb-true s.got 0 p5.1 }
-  where
-    none_of : {X : Type 0} (o : Option X) → is_none o ≡ true → o ≡ None
-    none_of None e = refl
-    none_of (Some x) e = absurd (false≢true e)
-
-phase_back : (p : Phase) → phase_of (phase_number p) ≡ p
-phase_back Idle = refl
-phase_back Marking = refl
-phase_back Drain = refl
-phase_back Sweep = refl
-phase_back Clear = refl
-phase_back Full = refl
-
--- the phase is read in the stop
-module _ (n : ℕ) (v w : View) (stopped : HasStopped v) (rest : has_nothing v.shape v.state ≡ true) (found : Found ReadPhase n v w) where
-  read_ran : Ran v w
-  read_ran = ran-found v w ReadPhase n refl found
-
-  read_alone : Alone stopped.phase w
-  read_alone = alone-kept stopped.phase (λ step. not (ends_alone step)) (λ step b. not-true (ends_alone step) b) v w read_ran (only-after (λ step. not (ends_alone step)) v w ReadPhase n refl found.0) stopped.alone
-
-  same_number : phase_number stopped.phase ≡ n
-  same_number =
-      ap (λ (o : Option ℕ). unwrap_or o 0) (sym read_alone.phase ∙ (phase-read v w n (or_left v.state.knows v.state.admitted stopped.alone.knows) found).0) ∙ read-number v n found.1
-
-  pub read-phase : phase_of n ≡ stopped.phase
-  read-phase = ap phase_of (sym same_number) ∙ phase_back stopped.phase
-
-  pub read-alone : (p : Phase) → phase_of n ≡ p → Alone p w
-  read-alone p is = subst (λ q. Alone q w) (sym read-phase ∙ is) read_alone
-
-  pub read-rest : has_nothing w.shape w.state ≡ true
-  read-rest = subst (λ (x : View). has_nothing x.shape x.state ≡ true) (sym found.0) rest
-
-  read_keeps : KeepsPart v w
-  read_keeps = spared-keeps v w read_ran (only-after spares_part v w ReadPhase n refl found.0) (ap (λ (x : View). x.own.position) found.0)
-
-  pub ends-read : (b : Bool) (p : Phase) → phase_of n ≡ p → saw (Some p) Full ≡ b → EndsCycle b v w
-  ends-read b p is full =
-      let one = events-after v w ReadPhase n found.0 in
-      let a = read-alone p is in
-      record {
-        keeps = read_keeps;
-        seasons = ap (λ (x : View). x.own.seasons) found.0;
-        rest = record { knows = a.knows; alone = a.alone; rest = read-rest };
-        unturned = ap (λ (es : List Entry). never turns_season es) one;
-        calm = ap (λ (es : List Entry). never raises_flag es) one;
-        unhelping = ap (λ (x : View). x.state.helping) found.0;
-        read = ap saw_full one ∙ ap (λ q. saw (Some q) Full || false) is ∙ or_none (saw (Some p) Full) ∙ full;
-        found = λ known. sym full ∙ eq-eqb (phase_number p) 5 (ap phase_number (sym is ∙ read-phase) ∙ ap (λ (o : Option ℕ). unwrap_or o 0) (sym stopped.alone.phase ∙ known));
-      }
-    where
-      or_none : (c : Bool) → (c || false) ≡ c
-      or_none true = refl
-      or_none false = refl
-
--- where it is neither Full nor Marking, no cycle is under way
-pub idle-left : (p : Phase) → is_mutators p ≡ true → (p ≡ Full → ⊥) → (p ≡ Marking → ⊥) → p ≡ Idle
-idle-left Idle m f g = refl
-idle-left Marking m f g = absurd (g refl)
-idle-left Full m f g = absurd (f refl)
-idle-left Drain m f g = absurd (false≢true m)
-idle-left Sweep m f g = absurd (false≢true m)
-idle-left Clear m f g = absurd (false≢true m)
-
-helping_same : (sh : Shape) (s : SeatState) (step : Step) (old : ℕ) → finishes step ≡ true → (seat_after sh s step old).helping ≡ s.helping
-helping_same sh s JoinHelpStep old b = absurd (false≢true b)
-helping_same sh s LeaveHelpStep old b = absurd (false≢true b)
-helping_same sh s step old b = refl
+use Rattle.warehouse.proofs.InTheStop.{helping_same}
 
 -- the end of a cycle makes no helper
 pub finishes-unhelped : (v w : View) → Ran v w → Only finishes v w → w.state.helping ≡ v.state.helping

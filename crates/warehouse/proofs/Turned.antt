@@ -5,8 +5,8 @@ use Rattle.std.proofs.lemmas.Option.{get_or_from_slice_get}
 use Rattle.mark_core.specs.Layout.{words_of}
 use Rattle.mark_core.specs.declared.kinds.Phase.TheVariants.{Full, Idle}
 use Rattle.mark_core.specs.Seats.{phase_number}
-use Rattle.mark_core.specs.WorldRules.{is_resting}
-use Rattle.mark_core.specs.WorldSteps.{has_nothing}
+use Rattle.mark_core.specs.Rules.WorldRules.{is_resting}
+use Rattle.mark_core.specs.Steps.WorldSteps.{has_nothing}
 use Rattle.mark_core.specs.declared.kinds.Phase.{Phase}
 use Rattle.mark_core.specs.declared.kinds.Step.TheVariants.{NextSeason}
 use Rattle.gc_table.specs.Log.{event, events}
@@ -19,7 +19,7 @@ use Rattle.gc_table.specs.TableState.{TableState, no_section}
 use Rattle.gc_table.specs.declared.view.Entry.{Entry}
 use Rattle.gc_table.specs.declared.view.SectionState.{SectionState}
 use Rattle.gc_table.specs.declared.view.View.{View}
-use Rattle.gc_table.proofs.Log.{events-after, only-after}
+use Rattle.gc_table.proofs.History.Log.{events-after, only-after}
 use Rattle.gc_table.proofs.Noticing.{alone-kept}
 use Rattle.gc_table.proofs.Running.{ran-events, ran-join, ran-plan, ran-section, ran-shape, ran-took}
 use Rattle.packet_pools.specs.Counts.{count_of}

@@ -17,7 +17,7 @@ use Rattle.gc_table.specs.Log.{Only, all_steps, events}
 use Rattle.gc_table.specs.Running.{Ran, after_all}
 use Rattle.gc_table.specs.Sections.{season_of}
 use Rattle.gc_table.specs.Taking.{after}
-use Rattle.gc_table.proofs.Log.{only-more}
+use Rattle.gc_table.proofs.History.Log.{only-more}
 use Rattle.mutator_ops.specs.Doing.{belongs}
 use Rattle.play_end.specs.Done.{last_heap_of}
 

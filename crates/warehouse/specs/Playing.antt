@@ -1,8 +1,8 @@
 -- A mutator that plays a part: what it has between its commands, and what it says at the end.
-use Rattle.std.specs.Prelude.{ℕ, ◌≡◌, ◌≢◌, ◌⊎◌, ◌+◌, ◌-◌, ◌<◌, ◌≤◌, ◌==◌, ◌&&◌, not, List, [], length, map, take, drop, count_by, slice_index_or, Bool, true, false, Option, Some, None, is_some, IsTrue, IsFalse, vec_capacity}
+use Rattle.std.specs.Prelude.{ℕ, ◌≡◌, ◌⊎◌, ◌+◌, ◌-◌, ◌<◌, ◌≤◌, ◌==◌, ◌&&◌, not, List, [], length, map, take, drop, count_by, slice_index_or, Bool, true, false, Option, Some, None, is_some, IsTrue, IsFalse, vec_capacity}
 use Rattle.std.specs.Int.Count.{ones}
 use Rattle.mark_core.specs.declared.kinds.Step.{Step}
-use Rattle.mark_core.specs.declared.kinds.Step.TheVariants.{AddStat, ReadSeason}
+use Rattle.mark_core.specs.declared.kinds.Step.TheVariants.{AddStat}
 use Rattle.plain_heap.specs.declared.operation.Op.{Op}
 use Rattle.plain_heap.specs.declared.operation.Op.TheVariants as ops
 use Rattle.plain_heap.specs.Sections.{Execution, Sections, Parts, joined, made_by, printed_by}
@@ -14,7 +14,7 @@ use Rattle.gc_table.specs.declared.view.Entry.{Entry}
 use Rattle.gc_table.specs.declared.view.View.{View}
 use Rattle.gc_table.specs.Log.{events}
 use Rattle.gc_table.specs.Running.{Ran}
-use Rattle.gc_table.specs.Seats.{Found, Sits, view_of}
+use Rattle.gc_table.specs.Seats.{Sits, view_of}
 use Rattle.packet_pools.specs.Counts.{count_of}
 use Rattle.packet_pools.specs.Seeking.{some_event}
 use Rattle.alloc_cache.specs.declared.cache.Cache.{Cache}
@@ -96,14 +96,6 @@ pub record Stays (v w : View) : Type 0 where
 -- nothing was done that a part tells of
 abbrev pub Waits : View → View → Type 0
 Waits v w = (season : ℕ) → Acts season 0 0 0 v w
-
--- the season is read where the seat doesn't know it any more, as after a stop, and nothing else is done
-abbrev pub LooksAtSeason : View → View → Type 0
-LooksAtSeason v w = (w ≡ v) ⊎ ((n : ℕ) × Found ReadSeason n v w)
-
--- the season that the seat has seen is another than this
-abbrev pub SeesOther : ℕ → View → Type 0
-SeesOther turn v = (season : ℕ) × (v.state.season_seen ≡ Some season) × (season ≢ turn)
 
 -- the first poll found a stop under way, or the phase was read as Full
 abbrev pub IsHindered : View → View → Type 0

@@ -11,7 +11,7 @@ ghost use Rattle.warehouse.specs.Playing.{HasFree, HasNoFree, IsPlaying};
 
 use crate::gate::Gate;
 use crate::mutator::Mutator;
-use crate::turn::{await_cell, await_turn, has_free, is_ready, retire_some, spend_none};
+use crate::turn::{await_cell, await_turn, has_free, is_ready, spend_none};
 use alloc_cache::Cache;
 use gc_cycle::{Safe, collect};
 use gc_script::{Command, Section};
@@ -19,6 +19,7 @@ use gc_table::Heap;
 use mutator_ops::create;
 use plain_heap::{Line, Op};
 use play_report::Said;
+use seat_turns::retire_some;
 use std::sync::Wait;
 
 /// Notes what a command printed, in room that was taken before.

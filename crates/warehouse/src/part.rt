@@ -10,13 +10,14 @@ ghost use Rattle.warehouse.specs.Playing.{IsPart, IsPlaying, MayPlay, part_at};
 use crate::commands::play_command;
 use crate::gate::Gate;
 use crate::mutator::Mutator;
-use crate::turn::{retire_some, spend_none};
+use crate::turn::spend_none;
 use alloc_cache::Cache;
 use gc_cycle::{Safe, go_in, go_out};
 use gc_script::Section;
 use gc_table::{Heap, HeapSeat};
 use mark_core::DONE;
 use play_end::Played;
+use seat_turns::retire_some;
 use std::sync::Wait;
 use stop_world::leave;
 

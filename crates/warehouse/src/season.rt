@@ -1,10 +1,10 @@
 //! The season moves on between two turns, in a stop of the catalogue's seat, and in the last stop the heap is collected besides.
 ghost use Rattle.std.specs.Prelude.{◌≡◌, IsTrue, IsFalse};
 ghost use Rattle.mark_core.specs.Seats.{phase_number};
-ghost use Rattle.mark_core.specs.WorldRules.{is_resting};
+ghost use Rattle.mark_core.specs.Rules.WorldRules.{is_resting};
 ghost use Rattle.mark_core.specs.declared.kinds.Phase.{Phase};
 ghost use Rattle.gc_table.specs.Running.{Alone};
-ghost use Rattle.mark_core.specs.WorldSteps.{has_nothing};
+ghost use Rattle.mark_core.specs.Steps.WorldSteps.{has_nothing};
 ghost use Rattle.gc_table.specs.Seats.{Across, Sits, state_of, view_of};
 ghost use Rattle.stop_world.specs.Waiting.{HasStopped};
 ghost use Rattle.gc_cycle.specs.Standing.{IsAlone, IsOut};

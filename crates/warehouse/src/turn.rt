@@ -3,39 +3,20 @@ ghost use Rattle.std.specs.Prelude.{◌≡◌, ◌⊎◌, Some, None, IsTrue, Is
 ghost use Rattle.std.specs.Bool.{OnFalse, OnTrue};
 ghost use Rattle.mark_core.specs.Seats.{has_turn, saw};
 ghost use Rattle.mark_core.specs.declared.kinds.Phase.TheVariants.{Full};
-ghost use Rattle.gc_table.specs.Log.{Only};
-ghost use Rattle.gc_table.specs.Running.{Ran};
 ghost use Rattle.gc_table.specs.Seats.{Across, did, Sits, state_of, view_of};
 ghost use Rattle.gc_cycle.specs.Answering.{GoesOn, HasCache};
-ghost use Rattle.warehouse.specs.Playing.{FindsFull, GetsReady, Glances, HasFree, HasNoFree, IsCounted, IsHindered, LooksAtSeason, SeesOther, Stays, Waits};
-ghost use Rattle.gc_cycle.specs.Events.{never};
+ghost use Rattle.seat_turns.specs.Turning.{SeesOther};
+ghost use Rattle.warehouse.specs.Playing.{FindsFull, GetsReady, Glances, HasFree, HasNoFree, IsCounted, IsHindered, Stays, Waits};
 ghost use Rattle.gc_cycle.specs.Polling.{poll_found_stop};
-ghost use Rattle.gc_cycle.specs.Sorts.{raises_flag};
-ghost use Rattle.gc_cycle.specs.Sparing.{spares_part};
 ghost use Rattle.gc_cycle.specs.Standing.{Mutates};
 
-use alloc_cache::{Cache, retire};
+use alloc_cache::Cache;
 use gc_cycle::{Refill, go_in, go_out, pass_safe_point, refill};
 use gc_table::{Heap, HeapSeat};
 use mark_core::Phase;
+use seat_turns::{is_turn, retire_some};
 use std::sync::Wait;
 use stop_world::poll;
-
-/// Gives a cache up, if there is one.
-pub(crate) fn retire_some(heap: &Heap, seat: &mut HeapSeat, cache: Option<Cache>)
-    requires seat { Sits heap.now seat.old × Mutates (view_of seat.old) }
-    requires cache { HasCache cache (view_of seat.old) }
-    ensures seat { Sits heap.now seat.new × Mutates (view_of seat.new) }
-    ensures cache { (state_of seat.new).cache ≡ None }
-    ensures ran { Across Ran seat.old seat.new }
-    ensures spares { Across (Only spares_part) seat.old seat.new }
-    ensures calm { IsTrue (never raises_flag (did seat.old seat.new)) }
-    ensures stays { Across Stays seat.old seat.new }
-{
-    if let Some(cache) = cache {
-        retire(heap, seat, cache);
-    }
-}
 
 /// There is no cache to give up.
 pub(crate) fn spend_none(cache: Option<Cache>)
@@ -44,21 +25,6 @@ pub(crate) fn spend_none(cache: Option<Cache>)
     match cache {
         None => (),
         Some(_cache) => unreachable!(),
-    }
-}
-
-/// Whether the season is this turn. It is read only where the seat doesn't know it any more: it moves on in a stop alone, and then the seat is outside.
-#[inline(always)]
-fn is_turn(heap: &Heap, seat: &mut HeapSeat, turn: u64) -> bool
-    requires seat { Sits heap.now seat.old × Mutates (view_of seat.old) }
-    ensures seat { Sits heap.now seat.new }
-    ensures looks { Across LooksAtSeason seat.old seat.new }
-    ensures turn { IsTrue result → (state_of seat.new).season_seen ≡ Some turn }
-    ensures other { OnFalse result (SeesOther turn (view_of seat.new)) }
-{
-    match seat.state().season_seen {
-        Some(season) => season == turn,
-        None => heap.read_season(seat) == turn,
     }
 }
 
@@ -193,7 +159,7 @@ fn keep(place: &mut Option<Cache>, cache: Cache)
     spend_none(place.replace(cache));
 }
 
-/// The same, with a cell to make an object in.
+/// Comes to the section's turn, with a cell to make an object in.
 pub(crate) fn await_cell<R: Wait>(
     rt: &R,
     heap: &Heap,

@@ -5,13 +5,13 @@ ghost use Rattle.collector_cycles.specs.Seats.{Carries, Fills};
 use super::SMALL;
 use super::checks::{is_ready, may_call};
 use super::objects::{chain, forget, free_cells, link, make, take};
-use super::opening::{next_seat, open};
 use super::seasons::begin;
 use alloc_cache::{Cache, retire};
 use gc_cycle::{Paid, Refill, Safe, collect, refill};
 use gc_table::{Heap, HeapSeat};
 use mark_core::Phase;
 use std::sync::Wait;
+use test_heaps::{next_seat, open};
 
 /// A cache and what was paid for it, for a mutator that has done `done` commands.
 pub fn refills<R: Wait>(

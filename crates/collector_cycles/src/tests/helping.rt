@@ -6,21 +6,22 @@ ghost use Rattle.mark_core.specs.declared.kinds.Phase.TheVariants.{Drain, Markin
 ghost use Rattle.gc_table.specs.Running.{Alone, Known};
 ghost use Rattle.gc_table.specs.Seats.{did, Sits, state_of, view_of};
 ghost use Rattle.gc_table.specs.Stopping.{has_moved};
-ghost use Rattle.gc_table.specs.Trials.{At, resting};
-ghost use Rattle.card_clean.specs.Drained.{IsBeforeSweep, IsDrained, IsRooted};
-ghost use Rattle.collector_cycles.specs.Seats.{Carries, flagged};
+ghost use Rattle.gc_table.specs.SeatRecords.{At, resting};
+ghost use Rattle.collector_cycles.specs.Seats.{Carries};
+ghost use Rattle.test_heaps.specs.Seats.{flagged};
 
 use super::SMALL;
-use super::checks::{holds_nothing, is_bare, is_done, is_free, may_help};
+use super::checks::{is_done, may_help};
 use super::objects::chain;
-use super::opening::{next_seat, open};
-use super::seasons::{begin, marks, raises_own};
-use card_clean::{is_drained, see_to_roots};
+use super::seasons::{begin, marks};
 use gc_cycle::{HelpEnd, Helped, help};
 use gc_table::{Heap, HeapSeat};
-use mark_core::{BLOCK_COUNTER, Phase};
+use mark_core::Phase;
 use std::sync::Wait;
 use stop_world::{await_stopped, close_help, join_help, leave, leave_help, open_help};
+use test_heaps::{
+    begins_sweep, drained, drains, is_bare, is_free, next_seat, open, raises_own, resets, scans_all,
+};
 
 /// What a seat did that was let in to help: nothing where help was closed.
 pub fn helps(heap: &Heap, seat: &mut HeapSeat, quota: u32) -> Option<Helped>
@@ -65,15 +66,6 @@ fn stops_marking<R: Wait>(rt: &R, heap: &Heap, seat: &mut HeapSeat) -> bool
     }
 }
 
-/// Begins a drain, in which no block was handed out.
-fn drains(heap: &Heap, seat: &mut HeapSeat)
-    requires { Sits heap.now seat.old × Alone Marking (view_of seat.old) }
-    ensures { Sits heap.now seat.new × IsBeforeSweep (view_of seat.new) }
-{
-    heap.store_phase(seat, Phase::Drain);
-    heap.reset(seat, BLOCK_COUNTER);
-}
-
 /// Lets others help in the drain.
 fn opens(heap: &Heap, seat: &mut HeapSeat)
     requires seat { Sits heap.now seat.old × Alone Drain (view_of seat.old) }
@@ -83,20 +75,13 @@ fn opens(heap: &Heap, seat: &mut HeapSeat)
     open_help(heap, seat);
 }
 
-/// Sees to all roots, where no block was handed out.
-fn scans_all(heap: &Heap, seat: &mut HeapSeat) -> bool
-    requires { Sits heap.now seat.old × IsBeforeSweep (view_of seat.old) }
-    ensures { OnTrue result (Sits heap.now seat.new × IsRooted (view_of seat.new)) }
-{
-    holds_nothing(seat) && see_to_roots(heap, seat)
-}
-
 /// Begins the drain, scans all roots, and lets others help.
 fn opens_drain(heap: &Heap, seat: &mut HeapSeat) -> bool
     requires { Sits heap.now seat.old × Alone Marking (view_of seat.old) }
     ensures { OnTrue result (Sits heap.now seat.new × Known (view_of seat.new) the_phase 2) }
 {
     drains(heap, seat);
+    resets(heap, seat);
     if !scans_all(heap, seat) || seat.state().opened {
         return false;
     }
@@ -111,29 +96,6 @@ fn closes<R: Wait>(rt: &R, heap: &Heap, seat: &mut HeapSeat)
     ensures { Sits heap.now seat.new × Alone Drain (view_of seat.new) }
 {
     close_help(rt, heap, seat);
-}
-
-/// The counter of blocks begins again.
-fn resets(heap: &Heap, seat: &mut HeapSeat)
-    requires { Sits heap.now seat.old × Alone Drain (view_of seat.old) }
-    ensures { Sits heap.now seat.new × IsBeforeSweep (view_of seat.new) }
-{
-    heap.reset(seat, BLOCK_COUNTER);
-}
-
-/// Whether the drain ends: all roots are seen to, every card is clean, and every packet is empty.
-fn drained(heap: &Heap, seat: &mut HeapSeat) -> bool
-    requires { Sits heap.now seat.old × IsBeforeSweep (view_of seat.old) }
-    ensures { OnTrue result (Sits heap.now seat.new × IsDrained (view_of seat.new)) }
-{
-    holds_nothing(seat) && see_to_roots(heap, seat) && is_drained(heap, seat)
-}
-
-fn begins_sweep(heap: &Heap, seat: &mut HeapSeat)
-    requires { Sits heap.now seat.old × IsDrained (view_of seat.old) }
-    ensures { Sits heap.now seat.new × Alone Sweep (view_of seat.new) }
-{
-    heap.store_phase(seat, Phase::Sweep);
 }
 
 /// Lets others help in the sweep.

@@ -2,16 +2,15 @@
 ghost use Rattle.collector_cycles.specs.Seats.{Carries, Fills};
 
 use super::SMALL;
-use super::checks::may_trace;
 use super::collecting::refills;
 use super::objects::{forget, link, make, take, walk};
-use super::opening::{next_seat, open};
 use super::seasons::{begin, marks};
 use alloc_cache::{Cache, retire};
 use card_clean::next_card;
 use gc_table::{Heap, HeapSeat};
 use mark_core::Phase;
 use std::sync::Wait;
+use test_heaps::{may_trace, next_seat, open};
 use tracer::{scan_roots, trace};
 
 /// Makes an object with value 7 in variable 0.

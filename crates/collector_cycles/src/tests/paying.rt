@@ -4,13 +4,13 @@ ghost use Rattle.collector_cycles.specs.Seats.{Carries};
 use super::LARGE;
 use super::collecting::{collects, refills};
 use super::objects::chain;
-use super::opening::{next_seat, open};
 use super::seasons::begin;
 use alloc_cache::retire;
 use gc_cycle::Paid;
 use gc_table::{Heap, HeapSeat};
 use mark_core::Phase;
 use std::sync::Wait;
+use test_heaps::{next_seat, open};
 use tracer::Stopped;
 
 /// What a refill comes to.

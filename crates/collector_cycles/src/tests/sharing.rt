@@ -7,13 +7,13 @@ use super::BROAD;
 use super::collecting::collects;
 use super::helping::helps;
 use super::objects::{assign_to, link, make, take, walk};
-use super::opening::{next_seat, open};
 use super::seasons::begin;
 use alloc_cache::{Cache, retire};
 use gc_table::{Heap, HeapSeat};
 use std::sync::Wait;
 use std::sync::atomic::{AtomicBool, Ordering};
 use std::thread::{Threads, join_mut, yield_now};
+use test_heaps::{next_seat, open};
 
 /// Puts a new object with value n before the chain from variable v along field 0.
 fn grow(heap: &Heap, seat: &mut HeapSeat, cache: &mut Cache, v: u8, n: u32) -> bool

@@ -10,7 +10,6 @@ use super::SMALL;
 use super::checks::{is_out, may_call};
 use super::collecting::make_ring;
 use super::objects::{chain, free_cells, walk};
-use super::opening::{next_seat, open};
 use super::seasons::begin;
 use alloc_cache::Cache;
 use gc_cycle::{
@@ -18,6 +17,7 @@ use gc_cycle::{
     finds_stopped, root_step, try_enter, try_safe_point,
 };
 use gc_table::{Heap, HeapSeat};
+use test_heaps::{next_seat, open};
 
 /// What a seat outside is told that tries once to enter.
 fn tries_entering(heap: &Heap, seat: &mut HeapSeat) -> Option<Pass>

@@ -5,13 +5,13 @@ use super::THREE;
 use super::checks::{is_out, may_call};
 use super::collecting::refills;
 use super::objects::{forget, lengthen, make, walk};
-use super::opening::{next_seat, open};
 use super::seasons::{begin, joins};
 use alloc_cache::{Cache, retire};
 use gc_cycle::{Safe, go_in, go_out, safe_point};
 use gc_table::{Heap, HeapSeat};
 use std::sync::Wait;
 use std::thread::{Threads, join_mut};
+use test_heaps::{next_seat, open};
 
 /// Comes to a safe point: true where the mutator goes on.
 fn passes<R: Wait>(rt: &R, heap: &Heap, seat: &mut HeapSeat) -> bool

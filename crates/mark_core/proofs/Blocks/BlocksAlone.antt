@@ -6,7 +6,7 @@ use Rattle.std.proofs.lemmas.Bool.{cases_Bool, cases_eq, true≢false, or_from}
 use Rattle.std.proofs.lemmas.List.{length-map, get_or-map}
 use Rattle.mark_core.specs.Seats.{takes_part}
 use Rattle.mark_core.specs.Views.{Standing, standings, standing_of, blocks}
-use Rattle.mark_core.specs.WorldRules.{NoneAdmitted, is_raised}
+use Rattle.mark_core.specs.Rules.WorldRules.{NoneAdmitted, is_raised}
 use Rattle.mark_core.specs.Steps.{Core}
 use Rattle.mark_core.proofs.Count.CountTests.{bit}
 use Rattle.mark_core.proofs.Count.CountRange.{count-cons}

@@ -5,14 +5,14 @@ use Rattle.std.specs.List.{All}
 use Rattle.std.proofs.lemmas.Bool.{cases_Bool, and_parts, false≢true}
 use Rattle.std.proofs.lemmas.List.Elements.{All-replicate}
 use Rattle.mark_core.specs.Layout.{Words, words_of}
-use Rattle.mark_core.specs.MutatorSteps.{with_free, without_used}
+use Rattle.mark_core.specs.Steps.MutatorSteps.{with_free, without_used}
 use Rattle.mark_core.specs.Seats.{is_phase, has_turn}
 use Rattle.mark_core.specs.Effects.{written, seat_after}
 use Rattle.mark_core.specs.Steps.{Core}
 use Rattle.mark_core.specs.Laws.{IsCore}
 use Rattle.mark_core.proofs.Acting.{found, words_left, seats_left}
 use Rattle.mark_core.proofs.Locals.{local-kept}
-use Rattle.mark_core.proofs.Writes.{phase-kept}
+use Rattle.mark_core.proofs.Writing.Writes.{phase-kept}
 use Rattle.mark_core.proofs.Blocks.BlocksTaken.{Taken, mine, words-read}
 use Rattle.mark_core.proofs.Blocks.BlocksStopped.{still-known, knower, not-still}
 use Rattle.mark_core.specs.declared.kinds.Phase.{Phase}

@@ -8,16 +8,16 @@ use Rattle.std.proofs.lemmas.List.{length-map, get_or-map, set-get_or}
 use Rattle.mark_core.specs.Layout.{Words, words_of, region_sizes, block_count}
 use Rattle.mark_core.specs.Seats.{is_phase, has_used}
 use Rattle.mark_core.specs.Views.{blocks}
-use Rattle.mark_core.specs.MutatorSteps.{used_bits, cached_block}
-use Rattle.mark_core.specs.SweepSteps.{own_block, survivors}
-use Rattle.mark_core.specs.WorldRules.{IsCalm}
+use Rattle.mark_core.specs.Steps.MutatorSteps.{used_bits, cached_block}
+use Rattle.mark_core.specs.Steps.SweepSteps.{own_block, survivors}
+use Rattle.mark_core.specs.Rules.WorldRules.{IsCalm}
 use Rattle.mark_core.specs.Effects.{written, seat_after}
 use Rattle.mark_core.specs.Steps.{Core}
-use Rattle.mark_core.proofs.Regions.{words-get}
+use Rattle.mark_core.proofs.Writing.Regions.{words-get}
 use Rattle.mark_core.proofs.Acting.{found, words_left}
-use Rattle.mark_core.proofs.Frames.{block-kept}
-use Rattle.mark_core.proofs.Writes.{phase-kept, next_block-kept}
-use Rattle.mark_core.proofs.RegionWrites.{allocs-kept, marks-kept}
+use Rattle.mark_core.proofs.Writing.Frames.{block-kept}
+use Rattle.mark_core.proofs.Writing.Writes.{phase-kept, next_block-kept}
+use Rattle.mark_core.proofs.Writing.RegionWrites.{allocs-kept, marks-kept}
 use Rattle.mark_core.proofs.Count.CountTests.{follows}
 use Rattle.mark_core.proofs.Blocks.BlocksTaken.{Taken, within, own-record, mine, in-place}
 use Rattle.mark_core.proofs.Blocks.BlocksOthers.{Others}
@@ -39,7 +39,7 @@ use Rattle.mark_core.specs.declared.seat.BlockState.{BlockState}
 abbrev pub Hand : Words → List (Option BlockState) → Type 0
 Hand w bs = InHand w.phase w.next_block w.allocs w.marks bs
 
--- the same after a step of seat i alone
+-- the rule of the blocks in hand after a step of seat i, as long as only the record of its own seat changed
 abbrev pub HandLeft : Core → ℕ → SeatState → Step → Type 0
 HandLeft c i s step = Hand (words_left c s step) (set (blocks c.seats) i (seat_after c.shape s step (found c s step)).block)
 

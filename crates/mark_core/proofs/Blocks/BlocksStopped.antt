@@ -7,7 +7,7 @@ use Rattle.std.proofs.lemmas.List.{length-map, get_or-map}
 use Rattle.mark_core.specs.Layout.{Words, words_of}
 use Rattle.mark_core.specs.Seats.{is_phase, saw, may_trace, may_sweep, may_clear}
 use Rattle.mark_core.specs.Views.{Standing, standings, standing_of, blocks, some_knows}
-use Rattle.mark_core.specs.WorldRules.{World, NoneActive, is_tracing, is_stopped_phase}
+use Rattle.mark_core.specs.Rules.WorldRules.{World, NoneActive, is_tracing, is_stopped_phase}
 use Rattle.mark_core.specs.Strong.{IsStrongBlock}
 use Rattle.mark_core.specs.Steps.{Core}
 use Rattle.mark_core.specs.Laws.{IsCore}

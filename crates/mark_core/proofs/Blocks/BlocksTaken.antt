@@ -9,12 +9,12 @@ use Rattle.mark_core.specs.Parts.{parts}
 use Rattle.mark_core.specs.Effects.{place, written}
 use Rattle.mark_core.specs.Steps.{Core, AllTrue, failing_part, after_event}
 use Rattle.mark_core.specs.Laws.{IsCore}
-use Rattle.mark_core.proofs.Places.{word-put}
-use Rattle.mark_core.proofs.Ranges.{IsPlace, placed}
+use Rattle.mark_core.proofs.Writing.Places.{word-put}
+use Rattle.mark_core.proofs.Writing.Ranges.{IsPlace, placed}
 use Rattle.mark_core.proofs.Acting.{Acted, found, words_left, seats_left}
 use Rattle.mark_core.proofs.Core.{in_range, acts}
 use Rattle.mark_core.proofs.Pool.PoolsKept.{shape-kept}
-use Rattle.mark_core.proofs.Writes.{only_reads, read-written}
+use Rattle.mark_core.proofs.Writing.Writes.{only_reads, read-written}
 use Rattle.mark_core.specs.declared.kinds.Shape.{Shape}
 use Rattle.mark_core.specs.declared.kinds.Event.{Event}
 use Rattle.mark_core.specs.declared.kinds.Step.{Step}

@@ -4,8 +4,8 @@ use Rattle.std.specs.Prelude.{IfSome, is_some, unwrap_or}
 use Rattle.std.proofs.lemmas.Bool.{eqb-true, eqb-false, ne_eqb, true≢false, false≢true}
 use Rattle.std.proofs.lemmas.List.{get_or-set_other}
 use Rattle.mark_core.specs.Seats.{is_phase, block_in_hand, may_store}
-use Rattle.mark_core.specs.ColourSteps.{with_alloc_word}
-use Rattle.mark_core.specs.SweepSteps.{with_mark_word, with_stored}
+use Rattle.mark_core.specs.Steps.ColourSteps.{with_alloc_word}
+use Rattle.mark_core.specs.Steps.SweepSteps.{with_mark_word, with_stored}
 use Rattle.mark_core.specs.Strong.{IsStrongBlock}
 use Rattle.mark_core.proofs.Blocks.BlocksHand.{IsBlock, AreApart}
 use Rattle.mark_core.specs.declared.kinds.Phase.TheVariants.{Sweep, Clear}

@@ -9,14 +9,14 @@ use Rattle.std.proofs.lemmas.Option.{slice_get-map, slice_get-get_or, slice_get_
 use Rattle.mark_core.specs.Layout.{Words, words_of, region_sizes, block_count}
 use Rattle.mark_core.specs.Seats.{cache_block}
 use Rattle.mark_core.specs.Views.{Maker, makers, maker_of}
-use Rattle.mark_core.specs.HeapRules.{Caches}
-use Rattle.mark_core.specs.MutatorSteps.{cached_block, with_free, without_used, used_bits}
+use Rattle.mark_core.specs.Rules.HeapRules.{Caches}
+use Rattle.mark_core.specs.Steps.MutatorSteps.{cached_block, with_free, without_used, used_bits}
 use Rattle.mark_core.specs.Parts.{parts}
 use Rattle.mark_core.specs.Effects.{seat_after}
 use Rattle.mark_core.specs.Steps.{Core, AllTrue}
 use Rattle.mark_core.specs.Laws.{IsCore}
-use Rattle.mark_core.proofs.Places.{region-length}
-use Rattle.mark_core.proofs.Regions.{words-get}
+use Rattle.mark_core.proofs.Writing.Places.{region-length}
+use Rattle.mark_core.proofs.Writing.Regions.{words-get}
 use Rattle.mark_core.proofs.Acting.{found, words_left}
 use Rattle.mark_core.proofs.Core.{in_range}
 use Rattle.mark_core.proofs.Known.{HasCache}

@@ -8,15 +8,15 @@ use Rattle.mark_core.specs.Bits.{flag, cell_of, nil_or}
 use Rattle.mark_core.specs.Seats.{is_the, may_store, may_mutate, block_in_hand}
 use Rattle.mark_core.specs.Views.{Maker, makers, maker_of}
 use Rattle.mark_core.specs.Cells.{in_use}
-use Rattle.mark_core.specs.HeapRules.{NamesInUse}
-use Rattle.mark_core.specs.MutatorSteps.{variable, with_making, with_made, part_at}
-use Rattle.mark_core.specs.SweepSteps.{survivors, own_block}
+use Rattle.mark_core.specs.Rules.HeapRules.{NamesInUse}
+use Rattle.mark_core.specs.Steps.MutatorSteps.{variable, with_making, with_made, part_at}
+use Rattle.mark_core.specs.Steps.SweepSteps.{survivors, own_block}
 use Rattle.mark_core.specs.Parts.{parts}
 use Rattle.mark_core.specs.Effects.{seat_after}
 use Rattle.mark_core.specs.Steps.{Core, AllTrue}
 use Rattle.mark_core.specs.Strong.{IsStrongBlock}
 use Rattle.mark_core.specs.Laws.{IsCore}
-use Rattle.mark_core.proofs.Ranges.{either}
+use Rattle.mark_core.proofs.Writing.Ranges.{either}
 use Rattle.mark_core.proofs.Acting.{found, words_left}
 use Rattle.mark_core.proofs.Core.{in_range}
 use Rattle.mark_core.proofs.Formed.FormedAfter.{one-of, one-read}

@@ -7,18 +7,18 @@ use Rattle.std.proofs.lemmas.Option.{slice_get_within, get_or_from_slice_get}
 use Rattle.mark_core.specs.Layout.{Words, words_of, region_sizes}
 use Rattle.mark_core.specs.Seats.{is_the}
 use Rattle.mark_core.specs.Views.{Maker, makers, maker_of}
-use Rattle.mark_core.specs.WorldSteps.{other_has_nothing}
+use Rattle.mark_core.specs.Steps.WorldSteps.{other_has_nothing}
 use Rattle.mark_core.specs.Start.{start_seat, spent_seat}
 use Rattle.mark_core.specs.Parts.{parts}
 use Rattle.mark_core.specs.Effects.{place, written}
 use Rattle.mark_core.specs.Steps.{Core, AllTrue, failing_part, after_event}
 use Rattle.mark_core.specs.Laws.{IsCore}
-use Rattle.mark_core.proofs.Regions.{words-get}
-use Rattle.mark_core.proofs.Ranges.{IsPlace, placed}
+use Rattle.mark_core.proofs.Writing.Regions.{words-get}
+use Rattle.mark_core.proofs.Writing.Ranges.{IsPlace, placed}
 use Rattle.mark_core.proofs.Acting.{Acted, found, words_left, seats_left}
 use Rattle.mark_core.proofs.Core.{in_range, acts}
-use Rattle.mark_core.proofs.Frames.{maker-kept, projection-kept}
-use Rattle.mark_core.proofs.RegionWrites.{owners-kept, allocs-kept, identities-kept, fields-kept}
+use Rattle.mark_core.proofs.Writing.Frames.{maker-kept, projection-kept}
+use Rattle.mark_core.proofs.Writing.RegionWrites.{owners-kept, allocs-kept, identities-kept, fields-kept}
 use Rattle.mark_core.proofs.Pool.PoolsKept.{shape-kept}
 use Rattle.mark_core.proofs.Caches.CachesPublish.{push-kept, end-kept}
 use Rattle.mark_core.proofs.Caches.CachesAt.{CachesOf, maker-at, claim-at, release-at, read_free-at, publish-at}

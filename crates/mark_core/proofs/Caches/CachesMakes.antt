@@ -8,8 +8,8 @@ use Rattle.mark_core.specs.Bits.{has_bit, cell_bit, complement}
 use Rattle.mark_core.specs.Seats.{free_in, used_in, makes, cache_block}
 use Rattle.mark_core.specs.Views.{Maker}
 use Rattle.mark_core.specs.Cells.{field}
-use Rattle.mark_core.specs.HeapRules.{CachesUnpublished, MakesNil}
-use Rattle.mark_core.specs.MutatorSteps.{with_free, with_making, with_made, without_used}
+use Rattle.mark_core.specs.Rules.HeapRules.{CachesUnpublished, MakesNil}
+use Rattle.mark_core.specs.Steps.MutatorSteps.{with_free, with_making, with_made, without_used}
 use Rattle.mark_core.proofs.Pool.PoolBits.{same_place}
 use Rattle.mark_core.specs.declared.kinds.Shape.{Shape}
 use Rattle.mark_core.specs.declared.seat.CacheState.{CacheState}

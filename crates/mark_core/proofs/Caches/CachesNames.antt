@@ -8,7 +8,7 @@ use Rattle.std.proofs.lemmas.List.Elements.{All-set}
 use Rattle.mark_core.specs.Shapes.{EachCell}
 use Rattle.mark_core.specs.Seats.{is_the}
 use Rattle.mark_core.specs.Views.{Maker}
-use Rattle.mark_core.specs.HeapRules.{section_of, number_of}
+use Rattle.mark_core.specs.Rules.HeapRules.{section_of, number_of}
 use Rattle.mark_core.proofs.Locals.{all-push}
 use Rattle.mark_core.proofs.Formed.FormedAfter.{one-of}
 use Rattle.mark_core.specs.declared.kinds.Shape.{Shape}

@@ -7,7 +7,7 @@ use Rattle.std.proofs.lemmas.Option.{slice_get_within}
 use Rattle.mark_core.specs.Bits.{flag}
 use Rattle.mark_core.specs.Seats.{is_the}
 use Rattle.mark_core.specs.Views.{Maker}
-use Rattle.mark_core.specs.HeapRules.{section_of, number_of}
+use Rattle.mark_core.specs.Rules.HeapRules.{section_of, number_of}
 use Rattle.mark_core.proofs.Formed.FormedAfter.{one-of, all-but}
 use Rattle.mark_core.proofs.Caches.CachesNames.{Given, Names}
 use Rattle.mark_core.specs.declared.kinds.Shape.{Shape}

@@ -10,12 +10,12 @@ use Rattle.mark_core.specs.Bits.{cell_bit}
 use Rattle.mark_core.specs.Seats.{is_the, cache_block, free_in, used_in}
 use Rattle.mark_core.specs.Views.{Maker}
 use Rattle.mark_core.specs.Cells.{used_by, in_use}
-use Rattle.mark_core.specs.HeapRules.{CachesUnpublished}
+use Rattle.mark_core.specs.Rules.HeapRules.{CachesUnpublished}
 use Rattle.mark_core.proofs.Acting.{some_none}
 use Rattle.mark_core.proofs.Caches.CachesNext.{free-block, used-block}
 use Rattle.mark_core.proofs.Caches.CachesSeat.{CacheFacts}
 use Rattle.mark_core.proofs.Formed.FormedAfter.{EachAt, one-of}
-use Rattle.mark_core.proofs.Ranges.{block-exists}
+use Rattle.mark_core.proofs.Writing.Ranges.{block-exists}
 use Rattle.mark_core.specs.declared.kinds.Shape.{Shape}
 use Rattle.mark_core.specs.declared.seat.CacheState.{CacheState}
 

@@ -10,8 +10,8 @@ use Rattle.mark_core.specs.Bits.{has_bit, cell_bit}
 use Rattle.mark_core.specs.Seats.{is_the, cache_block, free_in, used_in, makes}
 use Rattle.mark_core.specs.Views.{Maker}
 use Rattle.mark_core.specs.Cells.{in_use}
-use Rattle.mark_core.specs.HeapRules.{Caches, CachesUnpublished, MakesNil}
-use Rattle.mark_core.specs.MutatorSteps.{used_bits, without_used}
+use Rattle.mark_core.specs.Rules.HeapRules.{Caches, CachesUnpublished, MakesNil}
+use Rattle.mark_core.specs.Steps.MutatorSteps.{used_bits, without_used}
 use Rattle.mark_core.specs.WellFormed.{IsCache}
 use Rattle.mark_core.proofs.Acting.{some_none}
 use Rattle.mark_core.proofs.Locals.{all-push}
@@ -25,7 +25,7 @@ use Rattle.mark_core.proofs.Caches.CachesNames.{Names, names-less, names-fewer, 
 use Rattle.mark_core.proofs.Caches.CachesUses.{use-fewer, use-published, use-made, use-mine, use-push, bit-set}
 use Rattle.mark_core.proofs.Caches.CachesMakes.{unpublished-fewer, making-other, published_block, published_free, published_makes}
 use Rattle.mark_core.proofs.Caches.CachesSteps.{Caching, with_cache, names-of, caches-set}
-use Rattle.mark_core.proofs.CellBits.{bit-either, bit-first}
+use Rattle.mark_core.proofs.Writing.CellBits.{bit-either, bit-first}
 use Rattle.mark_core.proofs.Used.UsedBits.{published-none}
 use Rattle.mark_core.specs.declared.kinds.Shape.{Shape}
 use Rattle.mark_core.specs.declared.seat.CacheState.{CacheState}

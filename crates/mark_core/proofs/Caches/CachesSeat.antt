@@ -5,14 +5,14 @@ use Rattle.std.proofs.lemmas.Bool.{and_right, cases_eq, true≢false, false≢tr
 use Rattle.mark_core.specs.Layout.{Words}
 use Rattle.mark_core.specs.Bits.{has_bit, with_bit, without_bit}
 use Rattle.mark_core.specs.Seats.{in_set, free_in, used_in, is_unread}
-use Rattle.mark_core.specs.MutatorSteps.{with_free, with_making, with_made, without_used}
+use Rattle.mark_core.specs.Steps.MutatorSteps.{with_free, with_making, with_made, without_used}
 use Rattle.mark_core.specs.Parts.{parts}
 use Rattle.mark_core.specs.Effects.{seat_after}
 use Rattle.mark_core.specs.Steps.{AllTrue}
 use Rattle.mark_core.specs.Strong.{IsEmptyWhereUnread}
-use Rattle.mark_core.proofs.SlotBounds.{choose}
+use Rattle.mark_core.proofs.Writing.SlotBounds.{choose}
 use Rattle.mark_core.proofs.Caches.CachesNext.{MakesFree, next-free}
-use Rattle.mark_core.proofs.CellBits.{with_other, without_same, without_other}
+use Rattle.mark_core.proofs.Writing.CellBits.{with_other, without_same, without_other}
 use Rattle.mark_core.proofs.Used.UsedBits.{empty-set}
 use Rattle.mark_core.specs.declared.kinds.Shape.{Shape}
 use Rattle.mark_core.specs.declared.kinds.Step.{Step}

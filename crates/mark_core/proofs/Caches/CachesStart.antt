@@ -10,7 +10,7 @@ use Rattle.mark_core.specs.Seats.{is_the, cache_block, makes}
 use Rattle.mark_core.specs.Views.{Maker, makers, maker_of}
 use Rattle.mark_core.specs.Cells.{in_use}
 use Rattle.mark_core.specs.Start.{start_words, start_seats, full_pool}
-use Rattle.mark_core.proofs.Regions.{words-get}
+use Rattle.mark_core.proofs.Writing.Regions.{words-get}
 use Rattle.mark_core.proofs.Pool.PoolStart.{gap, singles, tail_words, in-gap, each-seat}
 use Rattle.mark_core.proofs.Formed.FormedAfter.{one-of}
 use Rattle.mark_core.proofs.Caches.CachesAt.{CachesOf}

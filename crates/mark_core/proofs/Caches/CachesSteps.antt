@@ -9,8 +9,8 @@ use Rattle.mark_core.specs.Layout.{block_count}
 use Rattle.mark_core.specs.Seats.{cache_block, free_in, used_in}
 use Rattle.mark_core.specs.Views.{Maker}
 use Rattle.mark_core.specs.Cells.{in_use}
-use Rattle.mark_core.specs.HeapRules.{Caches, CachesUnpublished, MakesNil}
-use Rattle.mark_core.specs.MutatorSteps.{with_free}
+use Rattle.mark_core.specs.Rules.HeapRules.{Caches, CachesUnpublished, MakesNil}
+use Rattle.mark_core.specs.Steps.MutatorSteps.{with_free}
 use Rattle.mark_core.proofs.Known.{HasCache}
 use Rattle.mark_core.proofs.Formed.FormedAfter.{EachAt, one-of, all-but}
 use Rattle.mark_core.proofs.Caches.CachesSeat.{CacheFacts}
@@ -34,7 +34,7 @@ pub record Caching (sh : Shape) (owners allocs ids fields : List ℕ) (ms : List
   pub ranges : All (HasCache sh) ms
   pub sections : EachAt (λ j (m : Maker). m.section ≡ cond (nat_lt j sh.sections) (Some j) None) ms
 
--- the same seat with another cache
+-- this seat with another cache
 abbrev pub with_cache : Maker → Option CacheState → Maker
 with_cache m o = record m { cache = o }
 

@@ -7,8 +7,8 @@ use Rattle.mark_core.specs.Bits.{flag, has_bit, with_bit, without_bit, complemen
 use Rattle.mark_core.specs.Seats.{is_the, free_in, used_in}
 use Rattle.mark_core.specs.Views.{Maker}
 use Rattle.mark_core.specs.Cells.{in_use, field}
-use Rattle.mark_core.specs.HeapRules.{Caches, CachesUnpublished, MakesNil}
-use Rattle.mark_core.specs.MutatorSteps.{with_making, with_made}
+use Rattle.mark_core.specs.Rules.HeapRules.{Caches, CachesUnpublished, MakesNil}
+use Rattle.mark_core.specs.Steps.MutatorSteps.{with_making, with_made}
 use Rattle.mark_core.proofs.Formed.FormedAfter.{one-of}
 use Rattle.mark_core.proofs.Caches.CachesNext.{is_next, next-free, next-makes, free-block}
 use Rattle.mark_core.proofs.Caches.CachesSeat.{CacheFacts}
@@ -19,7 +19,7 @@ use Rattle.mark_core.proofs.Caches.CachesUses.{use-set, use-published, use-mine,
 use Rattle.mark_core.proofs.Caches.CachesNew.{Naming, names-new}
 use Rattle.mark_core.proofs.Caches.CachesMakes.{making-next, making_block, made_block, made_makes}
 use Rattle.mark_core.proofs.Caches.CachesSteps.{Caching, with_cache, names-of, caches-set, cache-set}
-use Rattle.mark_core.proofs.CellBits.{with_other, bit-first}
+use Rattle.mark_core.proofs.Writing.CellBits.{with_other, bit-first}
 use Rattle.mark_core.proofs.Used.UsedBits.{making-used}
 use Rattle.mark_core.specs.declared.kinds.Shape.{Shape}
 use Rattle.mark_core.specs.declared.seat.CacheState.{CacheState}

@@ -1,5 +1,5 @@
 -- Which cells are in use, where one seat's cache changed or the allocation bits did.
-use Rattle.std.proofs.Common.{ℕ, ◌≡◌, ◌/◌, ◌%◌, ◌<◌, zero, suc, List, [], ◌∷◌, ◌++◌, set, get_or, length, arith, sym, ap, ◌∙◌, true, false, Some, max, ◌⊎◌, inl, inr, ⊎_elim}
+use Rattle.std.proofs.Common.{ℕ, ◌≡◌, ◌/◌, ◌%◌, ◌<◌, List, [], ◌∷◌, ◌++◌, set, get_or, length, sym, ap, ◌∙◌, true, false, Some, ⊎_elim}
 use Rattle.std.specs.Prelude.{slice_get}
 use Rattle.std.specs.List.{list_any}
 use Rattle.std.proofs.lemmas.Bool.{or_cases, or_left, or_right, cases_eq, false≢true}
@@ -9,7 +9,7 @@ use Rattle.mark_core.specs.Seats.{used_in}
 use Rattle.mark_core.specs.Views.{Maker}
 use Rattle.mark_core.specs.Cells.{used_by, in_use}
 use Rattle.mark_core.proofs.Caches.CachesOwners.{used-any}
-use Rattle.mark_core.proofs.SomePasses.{any-unset, any-push}
+use Rattle.mark_core.proofs.Consequences.SomePasses.{any-unset, any-push}
 
 -- why a cell is in use after one seat's record changed
 pub use-set : (P : Type 0) (allocs : List ℕ) (ms : List Maker) (i c : ℕ) (n : Maker) → (cell_bit allocs c ≡ true → P) → (used_in n.cache c ≡ true → P) → (list_any (used_by c) ms ≡ true → P) → in_use allocs (set ms i n) c ≡ true → P
@@ -45,7 +45,3 @@ bit-set P allocs b v c h here there e =
     (λ (s : c / 64 ≡ b). here (sym s) (ap (λ x. has_bit x (c % 64)) (sym (ap (λ k. get_or (set allocs b v) k 0) s ∙ get_or-set_same allocs b v 0 h)) ∙ e))
     (λ d. there (ap (λ x. has_bit x (c % 64)) (sym (get_or-set_other allocs b (c / 64) v 0 d)) ∙ e))
     (cases_eq (c / 64) b)
-
-one_of_max : (a b : ℕ) → a < 2 → max a b ≡ 1 → (a ≡ 1) ⊎ (b ≡ 1)
-one_of_max zero b h e = inr (omega (arith, e))
-one_of_max (suc a) b h e = inl (omega (arith, h))

@@ -8,8 +8,8 @@ use Rattle.mark_core.specs.Bits.{cell_bit, nil_or, cell_of}
 use Rattle.mark_core.specs.Seats.{is_the, scans, scan_left, may_scan}
 use Rattle.mark_core.specs.Views.{grasps, makers}
 use Rattle.mark_core.specs.Cells.{field, in_use}
-use Rattle.mark_core.specs.ColourRules.{is_marked_soon, has_value, will_read, is_unread_by}
-use Rattle.mark_core.specs.ColourSteps.{scan_after}
+use Rattle.mark_core.specs.Rules.ColourRules.{is_marked_soon, has_value, will_read, is_unread_by}
+use Rattle.mark_core.specs.Steps.ColourSteps.{scan_after}
 use Rattle.mark_core.specs.Steps.{Core}
 use Rattle.mark_core.proofs.Acting.{found, words_left, seats_left}
 use Rattle.mark_core.proofs.Hands.HandsRight.{HandRight, free-from}

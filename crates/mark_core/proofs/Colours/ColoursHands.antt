@@ -7,11 +7,11 @@ use Rattle.std.proofs.Math.Pow.{pow-lt}
 use Rattle.std.proofs.lemmas.Nat.Bits.{bit_at_not, bit_at-pow_other, bit_at-lt}
 use Rattle.mark_core.specs.Bits.{has_bit, without_bit, complement}
 use Rattle.mark_core.specs.Seats.{left_in, is_the, is_unpublished}
-use Rattle.mark_core.specs.ColourRules.{popped_is, cleans}
-use Rattle.mark_core.specs.ColourSteps.{popped_after, cleaning_after, seen_in, without_cell, fresh_off, popped_off, redirty_off, known_in}
+use Rattle.mark_core.specs.Rules.ColourRules.{popped_is, cleans}
+use Rattle.mark_core.specs.Steps.ColourSteps.{popped_after, cleaning_after, seen_in, without_cell, fresh_off, popped_off, redirty_off, known_in}
 use Rattle.mark_core.proofs.Hands.HandsBits.{card-has}
 use Rattle.mark_core.proofs.Hands.HandsCleaning.{IsOfCard}
-use Rattle.mark_core.proofs.CellBits.{some-bit, bit-both}
+use Rattle.mark_core.proofs.Writing.CellBits.{some-bit, bit-both}
 use Rattle.mark_core.specs.declared.seat.Cleaning.{Cleaning}
 use mir.Syntax.{w64}
 use Rattle.mark_core.specs.Cards.{block_of_card, card_bits, card_of}
@@ -165,7 +165,7 @@ found-cleans (Some y) b word x m e =
     (λ (f : t ≡ false). inr (rw f e))
     (cases_Bool t)
 
--- so is one that was left
+-- a cell that was left to scan is still left
 pub found-left : (o : Option Cleaning) (b word x : ℕ) → (b ≡ x / 64 → has_bit word (x % 64) ≡ true) → IfSome o IsOfCard → left_in o x ≡ true → left_in (known_in o b word) x ≡ true
 found-left None b word x m k e = e
 found-left (Some y) b word x m k e =

@@ -12,17 +12,17 @@ use Rattle.mark_core.specs.Bits.{cell_bit, cell_of}
 use Rattle.mark_core.specs.Seats.{is_the, free_in, used_in, may_mutate}
 use Rattle.mark_core.specs.Views.{makers, maker_of, grasps, hands}
 use Rattle.mark_core.specs.Cells.{field}
-use Rattle.mark_core.specs.HeapRules.{CachesUnpublished}
-use Rattle.mark_core.specs.WorldRules.{is_tracing}
-use Rattle.mark_core.specs.MutatorSteps.{variable, variable_or_nil, in_variables}
-use Rattle.mark_core.specs.ColourRules.{owes_card, PublishedColour}
-use Rattle.mark_core.specs.ColourRules.IsWaiting.{dirty}
-use Rattle.mark_core.specs.ColourRules.IsAccounted.{waiting, owed, scanned}
+use Rattle.mark_core.specs.Rules.HeapRules.{CachesUnpublished}
+use Rattle.mark_core.specs.Rules.WorldRules.{is_tracing}
+use Rattle.mark_core.specs.Steps.MutatorSteps.{variable, variable_or_nil, in_variables}
+use Rattle.mark_core.specs.Rules.ColourRules.{owes_card, PublishedColour}
+use Rattle.mark_core.specs.Rules.ColourRules.IsWaiting.{dirty}
+use Rattle.mark_core.specs.Rules.ColourRules.IsAccounted.{waiting, owed, scanned}
 use Rattle.mark_core.specs.Start.{start_words, start_seats}
 use Rattle.mark_core.specs.Steps.{Core, failing_part, after_event}
 use Rattle.mark_core.specs.Laws.{IsCore}
-use Rattle.mark_core.proofs.Places.{region-length}
-use Rattle.mark_core.proofs.Ranges.{placed}
+use Rattle.mark_core.proofs.Writing.Places.{region-length}
+use Rattle.mark_core.proofs.Writing.Ranges.{placed}
 use Rattle.mark_core.proofs.Core.{in_range}
 use Rattle.mark_core.proofs.Acting.{found, words_left, seats_left}
 use Rattle.mark_core.proofs.Marks.MarksIdle.{lacks-from}

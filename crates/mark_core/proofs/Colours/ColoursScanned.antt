@@ -8,13 +8,13 @@ use Rattle.mark_core.specs.Bits.{has_bit}
 use Rattle.mark_core.specs.Seats.{scans, scan_left, left_in, may_scan}
 use Rattle.mark_core.specs.Views.{grasps, hands}
 use Rattle.mark_core.specs.Cells.{field}
-use Rattle.mark_core.specs.WorldRules.{is_tracing}
-use Rattle.mark_core.specs.ColourRules.{popped_is, will_read, is_unread_by, IsScanned, IsAccounted}
-use Rattle.mark_core.specs.ColourSteps.{scan_after}
+use Rattle.mark_core.specs.Rules.WorldRules.{is_tracing}
+use Rattle.mark_core.specs.Rules.ColourRules.{popped_is, will_read, is_unread_by, IsScanned, IsAccounted}
+use Rattle.mark_core.specs.Steps.ColourSteps.{scan_after}
 use Rattle.mark_core.specs.Effects.{written}
 use Rattle.mark_core.specs.Steps.{Core}
 use Rattle.mark_core.proofs.Acting.{found, words_left, seats_left}
-use Rattle.mark_core.proofs.RegionWrites.{fields-kept}
+use Rattle.mark_core.proofs.Writing.RegionWrites.{fields-kept}
 use Rattle.mark_core.proofs.Hands.HandsApart.{HandApart, IsOnce}
 use Rattle.mark_core.proofs.Hands.HandsKept.{apart-now}
 use Rattle.mark_core.proofs.Marks.MarksIdle.{at-seat}

@@ -7,8 +7,8 @@ use Rattle.std.proofs.lemmas.Option.{slice_get_within, get_or_from_slice_get}
 use Rattle.mark_core.specs.Layout.{words_of}
 use Rattle.mark_core.specs.Seats.{left_in, is_the, work_in_hand}
 use Rattle.mark_core.specs.Views.{Grasp, grasps, grasp_of}
-use Rattle.mark_core.specs.ColourRules.{popped_is, tends, cleans_card}
-use Rattle.mark_core.specs.WorldSteps.{has_nothing, other_has_nothing}
+use Rattle.mark_core.specs.Rules.ColourRules.{popped_is, tends, cleans_card}
+use Rattle.mark_core.specs.Steps.WorldSteps.{has_nothing, other_has_nothing}
 use Rattle.mark_core.specs.Parts.{parts}
 use Rattle.mark_core.specs.Effects.{seat_after}
 use Rattle.mark_core.specs.Steps.{Core, AllTrue, others_after}
@@ -17,7 +17,7 @@ use Rattle.mark_core.proofs.Marks.MarksIdle.{left-works, idle-cleaning}
 use Rattle.mark_core.proofs.Marks.MarksAny.{any-after, EndsUntested}
 use Rattle.mark_core.proofs.Colours.ColoursHands.{tends-cases, some-popped}
 use Rattle.mark_core.proofs.Basics.{some-number}
-use Rattle.mark_core.proofs.SomePasses.{any-map, any-new, any-old}
+use Rattle.mark_core.proofs.Consequences.SomePasses.{any-map, any-new, any-old}
 use Rattle.mark_core.proofs.Hands.HandsCleaning.{done-cleans}
 use Rattle.mark_core.specs.declared.kinds.Shape.{Shape}
 use Rattle.mark_core.specs.declared.kinds.Step.{Step}

@@ -6,21 +6,21 @@ use Rattle.mark_core.specs.Shapes.{IsShape}
 use Rattle.mark_core.specs.Layout.{Words, words_of}
 use Rattle.mark_core.specs.Bits.{has_bit, cell_bit}
 use Rattle.mark_core.specs.Views.{grasps, hands}
-use Rattle.mark_core.specs.WorldRules.{is_tracing}
-use Rattle.mark_core.specs.WorldSteps.{none_marked}
-use Rattle.mark_core.specs.ColourRules.{UnpublishedColour}
+use Rattle.mark_core.specs.Rules.WorldRules.{is_tracing}
+use Rattle.mark_core.specs.Steps.WorldSteps.{none_marked}
+use Rattle.mark_core.specs.Rules.ColourRules.{UnpublishedColour}
 use Rattle.mark_core.specs.Start.{start_words, start_seats}
 use Rattle.mark_core.specs.Effects.{written}
 use Rattle.mark_core.specs.Steps.{Core, failing_part, after_event}
 use Rattle.mark_core.specs.Laws.{IsCore}
 use Rattle.mark_core.proofs.Acting.{found, words_left, seats_left}
-use Rattle.mark_core.proofs.Writes.{phase-kept}
+use Rattle.mark_core.proofs.Writing.Writes.{phase-kept}
 use Rattle.mark_core.proofs.Count.CountTests.{follows}
 use Rattle.mark_core.proofs.Marks.MarksIdle.{block-stops}
 use Rattle.mark_core.proofs.Marks.MarksWords.{MarksIt, marks-from, found-word}
 use Rattle.mark_core.proofs.Colours.ColoursWaiting.{WaitsNow, WaitsAfter, seat_left, tends-now}
 use Rattle.mark_core.proofs.Colours.ColoursWaits.{fresh-tends, waiting-after}
-use Rattle.mark_core.proofs.CellBits.{no-bit}
+use Rattle.mark_core.proofs.Writing.CellBits.{no-bit}
 use Rattle.mark_core.proofs.Basics.{all-zero}
 use Rattle.mark_core.proofs.Blocks.BlocksWrites.{may-store-some}
 use Rattle.mark_core.proofs.Blocks.BlocksTaken.{Taken, kept-after}

@@ -4,13 +4,13 @@ use Rattle.std.specs.Prelude.{slice_get, slice_index}
 use Rattle.std.specs.List.{list_any}
 use Rattle.mark_core.specs.Layout.{words_of}
 use Rattle.mark_core.specs.Views.{grasps, grasp_of, hands}
-use Rattle.mark_core.specs.ColourRules.{tends, cleans_card, IsWaiting}
-use Rattle.mark_core.specs.ColourRules.IsWaiting.{queued, tended, dirty, cleaned}
+use Rattle.mark_core.specs.Rules.ColourRules.{tends, cleans_card, IsWaiting}
+use Rattle.mark_core.specs.Rules.ColourRules.IsWaiting.{queued, tended, dirty, cleaned}
 use Rattle.mark_core.specs.Effects.{written, seat_after}
 use Rattle.mark_core.specs.Steps.{Core}
 use Rattle.mark_core.proofs.Acting.{found, words_left, seats_left}
-use Rattle.mark_core.proofs.Frames.{changes_grasp, grasp-kept}
-use Rattle.mark_core.proofs.RegionWrites.{touches_cards, cards-kept}
+use Rattle.mark_core.proofs.Writing.Frames.{changes_grasp, grasp-kept}
+use Rattle.mark_core.proofs.Writing.RegionWrites.{touches_cards, cards-kept}
 use Rattle.mark_core.proofs.Marks.MarksIdle.{lacks-from}
 use Rattle.mark_core.proofs.Marks.MarksQueues.{fills}
 use Rattle.mark_core.proofs.Colours.ColoursQueued.{QueuedNow, queued-stays}

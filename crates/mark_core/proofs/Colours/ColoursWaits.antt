@@ -9,14 +9,14 @@ use Rattle.mark_core.specs.Bits.{has_bit, cell_bit, cell_of}
 use Rattle.mark_core.specs.Seats.{left_in, is_the, is_unpublished, is_phase, may_sweep, may_clear, saw, phase_number, work_in_hand}
 use Rattle.mark_core.specs.Held.{holds, has_length, length_in_hand}
 use Rattle.mark_core.specs.Views.{grasp_of}
-use Rattle.mark_core.specs.WorldRules.{is_tracing}
-use Rattle.mark_core.specs.ColourRules.{popped_is, tends}
-use Rattle.mark_core.specs.ColourRules.IsWaiting.{queued, tended, dirty, cleaned}
+use Rattle.mark_core.specs.Rules.WorldRules.{is_tracing}
+use Rattle.mark_core.specs.Rules.ColourRules.{popped_is, tends}
+use Rattle.mark_core.specs.Rules.ColourRules.IsWaiting.{queued, tended, dirty, cleaned}
 use Rattle.mark_core.specs.Effects.{place}
 use Rattle.mark_core.specs.Steps.{Core}
 use Rattle.mark_core.specs.Laws.{IsCore}
-use Rattle.mark_core.proofs.Places.{region-length}
-use Rattle.mark_core.proofs.Ranges.{placed}
+use Rattle.mark_core.proofs.Writing.Places.{region-length}
+use Rattle.mark_core.proofs.Writing.Ranges.{placed}
 use Rattle.mark_core.proofs.Core.{in_range}
 use Rattle.mark_core.proofs.Acting.{found, words_left}
 use Rattle.mark_core.proofs.Hands.HandsRight.{HandRight}

@@ -10,7 +10,7 @@ use Rattle.std.proofs.lemmas.Bool.{cases_eq, true≢false}
 use Rattle.mark_core.specs.Held.{has_length, is_stored, length_in_hand, holds_any}
 use Rattle.mark_core.specs.Seats.{work_in_hand}
 use Rattle.mark_core.specs.Cells.{in_pool, empty_packets}
-use Rattle.mark_core.specs.PacketRules.{Counts, HeadsAgree, has_reservation, has_credit}
+use Rattle.mark_core.specs.Rules.PacketRules.{Counts, HeadsAgree, has_reservation, has_credit}
 use Rattle.mark_core.proofs.Count.CountTests.{bit}
 use Rattle.mark_core.proofs.Count.CountRange.{count-cons}
 use Rattle.mark_core.proofs.Pool.PoolSlots.{SameInHand}

@@ -6,7 +6,7 @@ use Rattle.mark_core.specs.Layout.{Words, put_word}
 use Rattle.mark_core.specs.Held.{holds_any}
 use Rattle.mark_core.specs.Seats.{work_in_hand, scan_left, cleaning_left}
 use Rattle.mark_core.specs.Views.{Grasp}
-use Rattle.mark_core.specs.ColourSteps.{may_read_field}
+use Rattle.mark_core.specs.Steps.ColourSteps.{may_read_field}
 use Rattle.mark_core.specs.Parts.{parts}
 use Rattle.mark_core.specs.Effects.{place, written, seat_after}
 use Rattle.mark_core.specs.Steps.{AllTrue}
@@ -14,9 +14,9 @@ use Rattle.mark_core.specs.Laws.{PacketsSound}
 use Rattle.mark_core.proofs.Count.CountTests.{bit, neither}
 use Rattle.mark_core.proofs.Count.CountMoves.{count-above, count-below}
 use Rattle.mark_core.proofs.Count.CountWork.{work-before, work-reads, work-marks, idle-read_alloc, idle-dirty_card, idle-read_marks}
-use Rattle.mark_core.proofs.Frames.{held_of, debts_of, changes_held, changes_debts, changes_grasp, held-kept, debts-kept, grasp-kept}
-use Rattle.mark_core.proofs.Writes.{touches_empty, empty-kept}
-use Rattle.mark_core.proofs.RegionWrites.{touches_heads, touches_pools, heads-kept, pools-kept}
+use Rattle.mark_core.proofs.Writing.Frames.{held_of, debts_of, changes_held, changes_debts, changes_grasp, held-kept, debts-kept, grasp-kept}
+use Rattle.mark_core.proofs.Writing.Writes.{touches_empty, empty-kept}
+use Rattle.mark_core.proofs.Writing.RegionWrites.{touches_heads, touches_pools, heads-kept, pools-kept}
 use Rattle.mark_core.proofs.Pool.PoolSteps.{At, sound-still, one-debt, work-holds}
 use Rattle.mark_core.specs.declared.kinds.Shape.{Shape}
 use Rattle.mark_core.specs.declared.kinds.Step.{Step}

@@ -5,9 +5,9 @@ use Rattle.std.proofs.lemmas.Bool.{cases_Bool, true≢false, false≢true, and_p
 use Rattle.std.specs.Int.Bits.{and_zero_l}
 use Rattle.mark_core.specs.Bits.{complement}
 use Rattle.mark_core.specs.Seats.{work_in_hand, scan_left, cleaning_left, scans, may_scan, is_the}
-use Rattle.mark_core.specs.ColourSteps.{popped_after, scan_after, cleaning_after, seen_in, may_read_field, fresh_off, popped_off, redirty_off, known_in}
+use Rattle.mark_core.specs.Steps.ColourSteps.{popped_after, scan_after, cleaning_after, seen_in, may_read_field, fresh_off, popped_off, redirty_off, known_in}
 use Rattle.mark_core.specs.Effects.{seat_after}
-use Rattle.mark_core.proofs.CellBits.{some-bit}
+use Rattle.mark_core.proofs.Writing.CellBits.{some-bit}
 use Rattle.mark_core.proofs.Basics.{some-number}
 use Rattle.mark_core.specs.declared.kinds.Shape.{Shape}
 use Rattle.mark_core.specs.declared.kinds.Step.TheVariants.{ReadAlloc, DirtyCard, ReadMarks}

@@ -9,23 +9,23 @@ use Rattle.mark_core.specs.Bits.{has_bit, with_bit, cell_bit, nil_or, cell_named
 use Rattle.mark_core.specs.Seats.{is_the, scans, scan_left, may_scan, left_in}
 use Rattle.mark_core.specs.Views.{Grasp, grasp_of, makers}
 use Rattle.mark_core.specs.Cells.{in_use, field, IsReachable}
-use Rattle.mark_core.specs.ColourSteps.{may_read_field}
-use Rattle.mark_core.specs.WorldRules.{is_tracing}
+use Rattle.mark_core.specs.Steps.ColourSteps.{may_read_field}
+use Rattle.mark_core.specs.Rules.WorldRules.{is_tracing}
 use Rattle.mark_core.specs.Effects.{seat_after}
 use Rattle.mark_core.specs.Steps.{Core}
 use Rattle.mark_core.specs.Laws.{IsCore}
-use Rattle.mark_core.proofs.Regions.{words-get}
-use Rattle.mark_core.proofs.Places.{region-length}
+use Rattle.mark_core.proofs.Writing.Regions.{words-get}
+use Rattle.mark_core.proofs.Writing.Places.{region-length}
 use Rattle.mark_core.proofs.Acting.{found, words_left}
 use Rattle.mark_core.proofs.Known.{bit-below, reference-within}
-use Rattle.mark_core.proofs.RegionWrites.{marks-kept}
+use Rattle.mark_core.proofs.Writing.RegionWrites.{marks-kept}
 use Rattle.mark_core.proofs.Blocks.BlocksTaken.{Taken, within, in-place}
 use Rattle.mark_core.proofs.Blocks.BlocksWords.{heap-left}
 use Rattle.mark_core.proofs.Blocks.BlocksStopped.{none-in-hand}
 use Rattle.mark_core.proofs.Blocks.BlocksSteps.{own-block}
 use Rattle.mark_core.proofs.Sweeps.SweepsUsed.{NoneUsed, use-published}
 use Rattle.mark_core.proofs.Exacts.ExactsReach.{reach-root, reach-field, named-cell}
-use Rattle.mark_core.proofs.CellBits.{with_other, same-index, bit-there}
+use Rattle.mark_core.proofs.Writing.CellBits.{with_other, same-index, bit-there}
 use Rattle.mark_core.proofs.Hands.HandsCleaning.{scan-left}
 use Rattle.mark_core.proofs.AtSeat.{of-view}
 use Rattle.mark_core.specs.declared.kinds.Step.{Step}

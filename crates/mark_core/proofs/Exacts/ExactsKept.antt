@@ -11,15 +11,15 @@ use Rattle.mark_core.specs.Bits.{cell_bit}
 use Rattle.mark_core.specs.Seats.{is_phase}
 use Rattle.mark_core.specs.Views.{Grasp, grasps, grasp_of, makers, blocks}
 use Rattle.mark_core.specs.Cells.{in_use, IsReachable}
-use Rattle.mark_core.specs.HeapRules.{Exact}
+use Rattle.mark_core.specs.Rules.HeapRules.{Exact}
 use Rattle.mark_core.specs.Sound.{some_exact}
-use Rattle.mark_core.specs.WorldSteps.{begins_exact}
+use Rattle.mark_core.specs.Steps.WorldSteps.{begins_exact}
 use Rattle.mark_core.specs.Effects.{seat_after}
 use Rattle.mark_core.specs.Steps.{Core, failing_part, after_event}
 use Rattle.mark_core.specs.Laws.{IsCore}
 use Rattle.mark_core.proofs.Acting.{found, words_left, seats_left}
 use Rattle.mark_core.proofs.Locals.{local-kept}
-use Rattle.mark_core.proofs.RegionWrites.{allocs-kept}
+use Rattle.mark_core.proofs.Writing.RegionWrites.{allocs-kept}
 use Rattle.mark_core.proofs.World.WorldKept.{WorldSound}
 use Rattle.mark_core.proofs.Blocks.BlocksTaken.{Taken, kept-after, mine}
 use Rattle.mark_core.proofs.Blocks.BlocksWords.{heap-left}

@@ -11,8 +11,8 @@ use Rattle.mark_core.specs.Seats.{work_in_hand, scan_left}
 use Rattle.mark_core.specs.Views.{makers, blocks}
 use Rattle.mark_core.specs.Cells.{in_use, is_kept, is_unswept}
 use Rattle.mark_core.specs.Sound.{some_exact}
-use Rattle.mark_core.specs.WorldRules.{is_tracing}
-use Rattle.mark_core.specs.WorldSteps.{begins_exact, none_marked}
+use Rattle.mark_core.specs.Rules.WorldRules.{is_tracing}
+use Rattle.mark_core.specs.Steps.WorldSteps.{begins_exact, none_marked}
 use Rattle.mark_core.specs.Steps.{Core}
 use Rattle.mark_core.specs.Laws.{IsCore}
 use Rattle.mark_core.proofs.Count.CountTests.{follows}

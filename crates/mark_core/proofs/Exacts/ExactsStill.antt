@@ -6,7 +6,7 @@ use Rattle.std.proofs.lemmas.List.Folds.{list_any_none, list_any_at}
 use Rattle.mark_core.specs.Layout.{Words, words_of}
 use Rattle.mark_core.specs.Views.{standings, some_knows}
 use Rattle.mark_core.specs.Sound.{some_exact}
-use Rattle.mark_core.specs.WorldSteps.{begins_exact}
+use Rattle.mark_core.specs.Steps.WorldSteps.{begins_exact}
 use Rattle.mark_core.specs.Effects.{seat_after}
 use Rattle.mark_core.specs.Steps.{Core}
 use Rattle.mark_core.specs.Laws.{IsCore}
@@ -17,7 +17,7 @@ use Rattle.mark_core.proofs.Blocks.BlocksTaken.{Taken, mine}
 use Rattle.mark_core.proofs.Blocks.BlocksWords.{heap-left}
 use Rattle.mark_core.proofs.Blocks.BlocksStopped.{AllStill, still-from, still-known, knower, not-still}
 use Rattle.mark_core.proofs.Blocks.BlocksFacts.{ExactKnows, NotExact, exact-knows, none-exact}
-use Rattle.mark_core.proofs.RegionWrites.{roots-kept, fields-kept}
+use Rattle.mark_core.proofs.Writing.RegionWrites.{roots-kept, fields-kept}
 use Rattle.mark_core.proofs.Sweeps.SweepsUsed.{NoneUsed, none-used}
 use Rattle.mark_core.specs.declared.kinds.Phase.{Phase}
 use Rattle.mark_core.specs.declared.kinds.Phase.TheVariants.{Idle, Marking, Drain, Sweep, Clear, Full}

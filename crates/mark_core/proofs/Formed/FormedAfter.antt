@@ -17,7 +17,7 @@ use Rattle.mark_core.specs.declared.seat.SeatState.{SeatState}
 pub one-of : {X : Type 0} (P : X → Type 0) (xs : List X) (i : ℕ) (x : X) → slice_get xs i ≡ Some x → All P xs → P x
 one-of {X} P xs i x e a = subst P (get_or_from_slice_get xs i x x e) (a i x (slice_get_within xs i x e))
 
--- so does one of what is read of them
+-- a property of what is read of all elements holds of what is read of this one
 pub one-read : {X Y : Type 0} (f : X → Y) (P : Y → Type 0) (xs : List X) (i : ℕ) (x : X) → slice_get xs i ≡ Some x → All P (map f xs) → P (f x)
 one-read {X} {Y} f P xs i x e a =
     let h : i < length xs = slice_get_within xs i x e in

@@ -4,15 +4,15 @@ use Rattle.std.specs.Prelude.{IfSome, nat_le}
 use Rattle.std.proofs.lemmas.Bool.{and_parts, and_from, ltb-true, leb-true, eq-eqb}
 use Rattle.mark_core.specs.Layout.{Words, block_count}
 use Rattle.mark_core.specs.Seats.{free_in}
-use Rattle.mark_core.specs.MutatorSteps.{with_free, with_making, with_made, without_used}
+use Rattle.mark_core.specs.Steps.MutatorSteps.{with_free, with_making, with_made, without_used}
 use Rattle.mark_core.specs.Parts.{parts}
 use Rattle.mark_core.specs.Effects.{seat_after}
 use Rattle.mark_core.specs.Steps.{AllTrue}
 use Rattle.mark_core.specs.WellFormed.{IsCache}
-use Rattle.mark_core.proofs.SlotBounds.{choose}
+use Rattle.mark_core.proofs.Writing.SlotBounds.{choose}
 use Rattle.mark_core.proofs.Formed.FormedBits.{with-fits, without-fits, complement-fits}
 use Rattle.mark_core.proofs.Caches.CachesNext.{MakesFree, next-free, free-block}
-use Rattle.mark_core.proofs.CellBits.{with_same}
+use Rattle.mark_core.proofs.Writing.CellBits.{with_same}
 use Rattle.mark_core.specs.declared.kinds.Shape.{Shape}
 use Rattle.mark_core.specs.declared.kinds.Step.{Step}
 use Rattle.mark_core.specs.declared.kinds.Step.TheVariants.{ClaimBlock, ReleaseBlock, ReadFree, StoreNew, PublishCells}

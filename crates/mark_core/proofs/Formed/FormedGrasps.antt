@@ -6,13 +6,13 @@ use Rattle.mark_core.specs.Shapes.{IsShape}
 use Rattle.mark_core.specs.Layout.{Words, card_count}
 use Rattle.mark_core.specs.Bits.{has_bit, cell_of}
 use Rattle.mark_core.specs.Seats.{is_the, used_in}
-use Rattle.mark_core.specs.ColourSteps.{may_read_field, popped_after, scan_after, seen_in, cleaning_after, without_cell, fresh_off, popped_off, redirty_off, known_in}
-use Rattle.mark_core.specs.MutatorSteps.{variable}
+use Rattle.mark_core.specs.Steps.ColourSteps.{may_read_field, popped_after, scan_after, seen_in, cleaning_after, without_cell, fresh_off, popped_off, redirty_off, known_in}
+use Rattle.mark_core.specs.Steps.MutatorSteps.{variable}
 use Rattle.mark_core.specs.Parts.{parts}
 use Rattle.mark_core.specs.Effects.{seat_after}
 use Rattle.mark_core.specs.Steps.{AllTrue}
 use Rattle.mark_core.specs.WellFormed.{IsCleaning}
-use Rattle.mark_core.proofs.SlotBounds.{choose}
+use Rattle.mark_core.proofs.Writing.SlotBounds.{choose}
 use Rattle.mark_core.proofs.Formed.FormedBits.{and-left_fits, and-right_fits, without-fits}
 use Rattle.mark_core.proofs.Basics.{positive}
 use Rattle.mark_core.specs.declared.kinds.Shape.{Shape}

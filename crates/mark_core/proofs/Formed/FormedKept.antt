@@ -7,7 +7,7 @@ use Rattle.std.proofs.lemmas.List.Elements.{All-get_or, All-set}
 use Rattle.std.proofs.lemmas.Option.{IfSome_then, slice_get_within}
 use Rattle.mark_core.specs.Layout.{Words, words_of, address, region_sizes, block_count}
 use Rattle.mark_core.specs.Views.{makers}
-use Rattle.mark_core.specs.HeapRules.{NamesInUse}
+use Rattle.mark_core.specs.Rules.HeapRules.{NamesInUse}
 use Rattle.mark_core.specs.Parts.{parts}
 use Rattle.mark_core.specs.Effects.{place, written, seat_after}
 use Rattle.mark_core.specs.Steps.{Core, AllTrue, failing_part, after_of, after_event}
@@ -15,15 +15,15 @@ use Rattle.mark_core.specs.WellFormed.{IsCache, IsSeat, IsWellFormed}
 use Rattle.mark_core.specs.Strong.{IsStrongSeat, IsStrongBlock}
 use Rattle.mark_core.specs.Bounds.{IsReference, CacheFits}
 use Rattle.mark_core.specs.Laws.{IsCore, NumbersFit}
-use Rattle.mark_core.proofs.Places.{word-put, region-length}
-use Rattle.mark_core.proofs.Regions.{words-get}
-use Rattle.mark_core.proofs.Ranges.{IsPlace, placed}
+use Rattle.mark_core.proofs.Writing.Places.{word-put, region-length}
+use Rattle.mark_core.proofs.Writing.Regions.{words-get}
+use Rattle.mark_core.proofs.Writing.Ranges.{IsPlace, placed}
 use Rattle.mark_core.proofs.Acting.{Acted, found, words_left}
 use Rattle.mark_core.proofs.Core.{in_range, acts}
 use Rattle.mark_core.proofs.Known.{used-below}
-use Rattle.mark_core.proofs.Writes.{phase-kept}
-use Rattle.mark_core.proofs.RegionWrites.{cards-kept}
-use Rattle.mark_core.proofs.SeatBoundsKept.{reference-fits}
+use Rattle.mark_core.proofs.Writing.Writes.{phase-kept}
+use Rattle.mark_core.proofs.Writing.RegionWrites.{cards-kept}
+use Rattle.mark_core.proofs.Writing.SeatBoundsKept.{reference-fits}
 use Rattle.mark_core.proofs.Doing.{count-after}
 use Rattle.mark_core.proofs.Formed.FormedAfter.{one-of, one-read, each-kept}
 use Rattle.mark_core.proofs.Formed.FormedSeats.{seat-kept, new-seat, ended-seat}

@@ -12,18 +12,18 @@ use Rattle.mark_core.specs.Held.{holds, holds_any, known_length, has_entry, leng
 use Rattle.mark_core.specs.Seats.{work_in_hand, scan_left, scans, may_scan, is_phase}
 use Rattle.mark_core.specs.Views.{Grasp, hands, makers, grasp_of, maker_of}
 use Rattle.mark_core.specs.Cells.{in_use, packet_length, entry, field, FieldsGo}
-use Rattle.mark_core.specs.WorldRules.{is_tracing}
-use Rattle.mark_core.specs.ColourRules.{goes_to}
-use Rattle.mark_core.specs.ColourSteps.{may_read_field}
+use Rattle.mark_core.specs.Rules.WorldRules.{is_tracing}
+use Rattle.mark_core.specs.Rules.ColourRules.{goes_to}
+use Rattle.mark_core.specs.Steps.ColourSteps.{may_read_field}
 use Rattle.mark_core.specs.Parts.{parts}
 use Rattle.mark_core.specs.Effects.{place}
 use Rattle.mark_core.specs.Steps.{Core, AllTrue}
 use Rattle.mark_core.specs.WellFormed.{IsWellFormed}
 use Rattle.mark_core.specs.Laws.{IsCore}
 use Rattle.mark_core.specs.declared.kinds.Phase.TheVariants.{Sweep}
-use Rattle.mark_core.proofs.Places.{region-length}
-use Rattle.mark_core.proofs.Regions.{words-get}
-use Rattle.mark_core.proofs.Ranges.{IsPlace, placed}
+use Rattle.mark_core.proofs.Writing.Places.{region-length}
+use Rattle.mark_core.proofs.Writing.Regions.{words-get}
+use Rattle.mark_core.proofs.Writing.Ranges.{IsPlace, placed}
 use Rattle.mark_core.proofs.Acting.{found}
 use Rattle.mark_core.proofs.Core.{in_range}
 use Rattle.mark_core.proofs.Known.{HasCache, bit-below, in_use-below, reference-within, known-among}

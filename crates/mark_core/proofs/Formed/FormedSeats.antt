@@ -10,15 +10,15 @@ use Rattle.mark_core.specs.Shapes.{IsShape}
 use Rattle.mark_core.specs.Layout.{Words}
 use Rattle.mark_core.specs.Bits.{has_bit, reference_in}
 use Rattle.mark_core.specs.Held.{Slot, Slots, put_packet, length_in_hand}
-use Rattle.mark_core.specs.MutatorSteps.{variable}
+use Rattle.mark_core.specs.Steps.MutatorSteps.{variable}
 use Rattle.mark_core.specs.Parts.{parts}
 use Rattle.mark_core.specs.Effects.{seat_after}
 use Rattle.mark_core.specs.Start.{start_seat, spent_seat}
 use Rattle.mark_core.specs.Steps.{AllTrue}
 use Rattle.mark_core.specs.WellFormed.{IsApart, IsHeldList, IsSeat}
-use Rattle.mark_core.proofs.Frames.{identity-kept}
-use Rattle.mark_core.proofs.SlotBounds.{choose}
-use Rattle.mark_core.proofs.SeatBoundsKept.{block-after, made-after}
+use Rattle.mark_core.proofs.Writing.Frames.{identity-kept}
+use Rattle.mark_core.proofs.Writing.SlotBounds.{choose}
+use Rattle.mark_core.proofs.Writing.SeatBoundsKept.{block-after, made-after}
 use Rattle.mark_core.proofs.Caches.CachesNext.{MakesFree}
 use Rattle.mark_core.proofs.Formed.FormedSlots.{put-list, drop-list, set-list}
 use Rattle.mark_core.proofs.Formed.FormedGrasps.{Learns, popped-after, scan-after, value-after, fresh-after, owes-after, cleaning-after}

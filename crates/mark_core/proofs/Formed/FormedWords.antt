@@ -10,9 +10,9 @@ use Rattle.mark_core.specs.Layout.{Words}
 use Rattle.mark_core.specs.Bits.{flag, wrapped_sum, wrapped_difference}
 use Rattle.mark_core.specs.Held.{holds}
 use Rattle.mark_core.specs.Seats.{is_phase, may_store}
-use Rattle.mark_core.specs.MutatorSteps.{variable_or_nil, used_bits, has_reference}
-use Rattle.mark_core.specs.SweepSteps.{survivors}
-use Rattle.mark_core.specs.WorldSteps.{phase_after}
+use Rattle.mark_core.specs.Steps.MutatorSteps.{variable_or_nil, used_bits, has_reference}
+use Rattle.mark_core.specs.Steps.SweepSteps.{survivors}
+use Rattle.mark_core.specs.Steps.WorldSteps.{phase_after}
 use Rattle.mark_core.specs.Parts.{parts}
 use Rattle.mark_core.specs.Effects.{written}
 use Rattle.mark_core.specs.Steps.{AllTrue}
@@ -20,8 +20,8 @@ use Rattle.mark_core.specs.WellFormed.{IsCache}
 use Rattle.mark_core.specs.Laws.{NumbersFit}
 use Rattle.mark_core.specs.declared.kinds.Phase.{Phase}
 use Rattle.mark_core.specs.declared.kinds.Phase.TheVariants.{Idle, Marking, Drain, Sweep, Clear, Full}
-use Rattle.mark_core.proofs.Ranges.{InRange}
-use Rattle.mark_core.proofs.SlotBounds.{choose}
+use Rattle.mark_core.proofs.Writing.Ranges.{InRange}
+use Rattle.mark_core.proofs.Writing.SlotBounds.{choose}
 use Rattle.mark_core.proofs.Formed.FormedBits.{and-left_fits, or-fits, with-fits, without-fits}
 use Rattle.mark_core.specs.declared.kinds.Shape.{Shape}
 use Rattle.mark_core.specs.declared.kinds.Step.{Step}

@@ -1,13 +1,11 @@
 -- A seat's scan and its cleaning don't share a cell that is half read: kept by each step of the seat that is allowed.
-use Rattle.std.proofs.Common.{ℕ, ◌≡◌, ◌+◌, ◌/◌, ◌%◌, ◌^◌, ◌<◌, List, arith, refl, sym, ◌∙◌, Bool, true, false, not, cond, eqb, ◌&&◌, ◌||◌, Option, Some, None, ⊎_elim}
+use Rattle.std.proofs.Common.{ℕ, ◌≡◌, ◌+◌, ◌/◌, ◌%◌, ◌<◌, List, arith, refl, sym, ◌∙◌, Bool, true, false, not, cond, eqb, ◌&&◌, ◌||◌, Option, Some, None, ⊎_elim}
 use Rattle.std.specs.Prelude.{IsFalse, IfSome, is_some, bit_and}
-use Rattle.std.proofs.lemmas.Bool.{true≢false, false≢true, and_parts, not-true, or_cases, false_from_ne_true, and_left, and_right, ne_eqb, lt-ltb}
-use Rattle.std.proofs.Math.Pow.{pow-lt}
-use Rattle.std.proofs.lemmas.Nat.Bits.{bit_at_not, bit_at-pow_same}
+use Rattle.std.proofs.lemmas.Bool.{true≢false, false≢true, and_parts, not-true, or_cases, false_from_ne_true, and_left, and_right, lt-ltb}
 use Rattle.mark_core.specs.Layout.{Words}
-use Rattle.mark_core.specs.Bits.{has_bit, without_bit, complement}
+use Rattle.mark_core.specs.Bits.{has_bit, without_bit}
 use Rattle.mark_core.specs.Seats.{scan_left, left_in, may_scan, scans, is_the, cleaning_left}
-use Rattle.mark_core.specs.ColourSteps.{popped_after, scan_after, popped_off, cleaning_after, seen_in, without_cell, redirty_off, known_in}
+use Rattle.mark_core.specs.Steps.ColourSteps.{popped_after, scan_after, popped_off, cleaning_after, seen_in, without_cell, redirty_off, known_in}
 use Rattle.mark_core.specs.Start.{start_seat, spent_seat}
 use Rattle.mark_core.specs.Parts.{parts}
 use Rattle.mark_core.specs.Effects.{seat_after}
@@ -16,14 +14,13 @@ use Rattle.mark_core.proofs.Hands.HandsCleaning.{in_set-none, scan-left, left-re
 use Rattle.mark_core.proofs.Hands.HandsRight.{free-from, popped-before}
 use Rattle.mark_core.proofs.Marks.MarksIdle.{idle-cleaning}
 use Rattle.mark_core.proofs.Marks.MarksHands.{may-load}
-use Rattle.mark_core.proofs.CellBits.{without_same}
+use Rattle.mark_core.proofs.Writing.CellBits.{without_same}
 use Rattle.mark_core.proofs.Count.CountWork.{scans-left}
 use Rattle.mark_core.specs.declared.kinds.Shape.{Shape}
 use Rattle.mark_core.specs.declared.kinds.Step.{Step}
 use Rattle.mark_core.specs.declared.kinds.Step.TheVariants.{Push, Pop, ReadAlloc, ReadField, DirtyCard, ClearCard, ReadMarks}
 use Rattle.mark_core.specs.declared.seat.SeatState.{SeatState}
 use Rattle.mark_core.specs.declared.seat.Cleaning.{Cleaning}
-use mir.Syntax.{w64}
 use Rattle.mark_core.specs.Cards.{block_of_card, card_bits}
 
 -- nothing is popped, scanned or left while the cleaning isn't known
@@ -108,9 +105,6 @@ alone_loads fields None p scan next c i b h k e = tt
 alone_loads fields (Some x) p scan next c i b h k e = λ u. loads_known fields x p scan c i b _ h k e (sym (gone_known x (eqb (block_of_card x.card) (c / 64)) _ _) ∙ u)
 
 -- the cell is gone from the list
-other_bit : (k : ℕ) → k < 64 → has_bit (complement (2 ^ k)) k ≡ false
-other_bit k h = let none = bit_at_not w64 (2 ^ k) k (pow-lt h) h in ne_eqb _ _ (λ e. omega (arith, none, bit_at-pow_same k, e))
-
 left_gone : (x : Cleaning) (t : Bool) (c v : ℕ) → (t ≡ false → eqb (block_of_card x.card) (c / 64) ≡ false) → left_in (Some (cond t (record x { left = without_bit x.left (c % 64); published = v }) x)) c ≡ false
 left_gone x true c v f = and_right (eqb (block_of_card x.card) (c / 64)) _ (without_same x.left (c % 64) (omega arith))
 left_gone x false c v f = and_left (eqb (block_of_card x.card) (c / 64)) (has_bit x.left (c % 64)) (f refl)

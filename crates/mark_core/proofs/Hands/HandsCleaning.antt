@@ -4,10 +4,10 @@ use Rattle.std.specs.Prelude.{IsTrue, IfSome}
 use Rattle.std.proofs.lemmas.Bool.{true≢false, false≢true, and_parts, and_from, eqb-true, or_parts, and_right, not-false, or_from, ltb-false, lt-leb}
 use Rattle.mark_core.specs.Bits.{has_bit}
 use Rattle.mark_core.specs.Seats.{in_set, left_in, may_scan, cleaning_left, scan_left}
-use Rattle.mark_core.specs.ColourSteps.{cleaning_after, seen_in, without_cell, redirty_off, known_in}
-use Rattle.mark_core.specs.ColourRules.{cleans, is_unread_by}
+use Rattle.mark_core.specs.Steps.ColourSteps.{cleaning_after, seen_in, without_cell, redirty_off, known_in}
+use Rattle.mark_core.specs.Rules.ColourRules.{cleans, is_unread_by}
 use Rattle.mark_core.proofs.Hands.HandsBits.{both-bits, card-bit}
-use Rattle.mark_core.proofs.CellBits.{no-bit}
+use Rattle.mark_core.proofs.Writing.CellBits.{no-bit}
 use Rattle.mark_core.specs.declared.seat.Cleaning.{Cleaning}
 use Rattle.mark_core.specs.Cards.{block_of_card, card_of}
 

@@ -5,7 +5,7 @@ use Rattle.std.proofs.lemmas.Bool.{true≢false, false≢true, and_right, or_par
 use Rattle.mark_core.specs.Layout.{Words}
 use Rattle.mark_core.specs.Bits.{has_bit, cell_named}
 use Rattle.mark_core.specs.Seats.{scan_left, left_in, work_in_hand, is_the}
-use Rattle.mark_core.specs.ColourSteps.{popped_after, scan_after, fresh_off, popped_off}
+use Rattle.mark_core.specs.Steps.ColourSteps.{popped_after, scan_after, fresh_off, popped_off}
 use Rattle.mark_core.specs.Start.{start_seat, spent_seat}
 use Rattle.mark_core.specs.Parts.{parts}
 use Rattle.mark_core.specs.Effects.{seat_after}

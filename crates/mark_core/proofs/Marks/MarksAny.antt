@@ -8,7 +8,7 @@ use Rattle.std.proofs.lemmas.List.Folds.{list_any-append}
 use Rattle.std.proofs.lemmas.Option.{slice_get_cases}
 use Rattle.mark_core.specs.Start.{spent_seat}
 use Rattle.mark_core.specs.Steps.{others_after}
-use Rattle.mark_core.proofs.SomePasses.{any-kept}
+use Rattle.mark_core.proofs.Consequences.SomePasses.{any-kept}
 use Rattle.mark_core.specs.declared.kinds.Shape.{Shape}
 use Rattle.mark_core.specs.declared.kinds.Step.{Step}
 use Rattle.mark_core.specs.declared.kinds.Step.TheVariants.{Split, Join}

@@ -11,8 +11,8 @@ use Rattle.mark_core.specs.Bits.{cell_bit}
 use Rattle.mark_core.specs.Seats.{scan_left, left_in, may_scan, work_in_hand}
 use Rattle.mark_core.specs.Views.{Grasp, grasps, grasp_of, hands, makers}
 use Rattle.mark_core.specs.Cells.{in_use}
-use Rattle.mark_core.specs.WorldRules.{is_tracing}
-use Rattle.mark_core.specs.ColourRules.{Marks}
+use Rattle.mark_core.specs.Rules.WorldRules.{is_tracing}
+use Rattle.mark_core.specs.Rules.ColourRules.{Marks}
 use Rattle.mark_core.specs.Start.{start_seat, spent_seat}
 use Rattle.mark_core.specs.Steps.{Core}
 use Rattle.mark_core.specs.Laws.{IsCore}
@@ -94,7 +94,7 @@ entries-now c k p hp j hj =
 abbrev pub MarksOf : Shape → Words → List SeatState → Type 0
 MarksOf sh w seats = Marks sh w.phase w.allocs w.marks w.heads w.entries (hands seats) (grasps seats) (makers seats)
 
--- the same, by facts of each seat
+-- the rule of marks, with what it says of seats said of each seat
 pub record MarksHeld (sh : Shape) (phase : ℕ) (allocs marks heads entries : List ℕ) (seats : List SeatState) : Type 0 where
   pub marked_in_use : EachCell sh (λ c. IsTrue (cell_bit marks c) → IsTrue (in_use allocs (makers seats) c))
   pub entries_marked : IsTrue (is_tracing phase) → EntriesGo sh (cell_bit marks) heads entries (hands seats)

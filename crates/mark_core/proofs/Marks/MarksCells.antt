@@ -4,7 +4,7 @@ use Rattle.std.specs.Int.{bit_at}
 use Rattle.std.proofs.lemmas.Bool.{true≢false, cases_eq, eqb-true}
 use Rattle.std.proofs.lemmas.Nat.Bits.{bit_at-pow_other}
 use Rattle.mark_core.specs.Bits.{has_bit, with_bit, cell_bit}
-use Rattle.mark_core.proofs.CellBits.{no-bit, with_same, bit-more, bit-either, bit-here, bits-grow, bits-from, same-index}
+use Rattle.mark_core.proofs.Writing.CellBits.{no-bit, with_same, bit-more, bit-either, bit-here, bits-grow, bits-from, same-index}
 
 bit_one : (w i : ℕ) → has_bit w i ≡ true → bit_at w i ≡ 1
 bit_one w i e = eqb-true (bit_at w i) 1 e

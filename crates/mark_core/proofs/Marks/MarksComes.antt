@@ -12,12 +12,12 @@ use Rattle.mark_core.specs.Seats.{is_the, is_phase, is_unpublished}
 use Rattle.mark_core.specs.Held.{length_in_hand}
 use Rattle.mark_core.specs.Views.{makers, maker_of}
 use Rattle.mark_core.specs.Cells.{in_use, used_by, entry}
-use Rattle.mark_core.specs.WorldRules.{is_tracing}
+use Rattle.mark_core.specs.Rules.WorldRules.{is_tracing}
 use Rattle.mark_core.specs.Parts.{parts}
 use Rattle.mark_core.specs.Steps.{Core, AllTrue}
 use Rattle.mark_core.specs.Laws.{IsCore}
-use Rattle.mark_core.proofs.Ranges.{placed}
-use Rattle.mark_core.proofs.Places.{region-length}
+use Rattle.mark_core.proofs.Writing.Ranges.{placed}
+use Rattle.mark_core.proofs.Writing.Places.{region-length}
 use Rattle.mark_core.proofs.Core.{in_range}
 use Rattle.mark_core.proofs.Acting.{found, words_left}
 use Rattle.mark_core.proofs.Known.{HasCache, bit-below, in_use-below}

@@ -7,7 +7,7 @@ use Rattle.std.proofs.lemmas.List.{get_or-set_same, get_or-set_other}
 use Rattle.mark_core.specs.Shapes.{EachPacket}
 use Rattle.mark_core.specs.Held.{Slots}
 use Rattle.mark_core.specs.Cells.{packet_length, entry}
-use Rattle.mark_core.specs.ColourRules.{goes_to}
+use Rattle.mark_core.specs.Rules.ColourRules.{goes_to}
 use Rattle.mark_core.specs.declared.kinds.Shape.{Shape}
 
 -- each entry of each packet names a cell of this kind

@@ -5,11 +5,11 @@ use Rattle.std.proofs.lemmas.Bool.{false≢true, and_parts, or_cases, eqb-true, 
 use Rattle.mark_core.specs.Layout.{Words}
 use Rattle.mark_core.specs.Bits.{has_bit, cell_of, cell_named}
 use Rattle.mark_core.specs.Seats.{scan_left, left_in, may_scan, scans, is_the}
-use Rattle.mark_core.specs.ColourSteps.{popped_after, scan_after, fresh_off, popped_off, may_read_field}
+use Rattle.mark_core.specs.Steps.ColourSteps.{popped_after, scan_after, fresh_off, popped_off, may_read_field}
 use Rattle.mark_core.specs.Parts.{parts}
 use Rattle.mark_core.specs.Effects.{seat_after}
 use Rattle.mark_core.specs.Steps.{AllTrue}
-use Rattle.mark_core.proofs.SlotBounds.{choose}
+use Rattle.mark_core.proofs.Writing.SlotBounds.{choose}
 use Rattle.mark_core.proofs.Hands.HandsCleaning.{in_set-none, scan-left, left-read, left-without, left-dirtied, left-known, scan-read, scan-without, scan-dirtied, scan-known}
 use Rattle.mark_core.specs.declared.kinds.Shape.{Shape}
 use Rattle.mark_core.specs.declared.kinds.Step.{Step}
@@ -30,7 +30,7 @@ pub record HandPublished (fields : ℕ) (a : ℕ → Bool) (s : SeatState) : Typ
   pub scan : IsTrue (scan_left fields s.scan) → IfSome s.scan (λ x. IsTrue (a x.0))
   pub left : (c : ℕ) → IsTrue (may_scan s.cleaning c) → IsTrue (a c)
 
--- and so does the cell that it loaded
+-- the cell that the seat loaded has the property
 abbrev pub HandUsed : (ℕ → Bool) → SeatState → Type 0
 HandUsed u s = IfSome s.value (λ c. IsTrue (u c))
 

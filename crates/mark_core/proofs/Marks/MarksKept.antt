@@ -8,7 +8,7 @@ use Rattle.mark_core.specs.Bits.{cell_bit}
 use Rattle.mark_core.specs.Seats.{is_the, work_in_hand}
 use Rattle.mark_core.specs.Views.{hands, makers}
 use Rattle.mark_core.specs.Cells.{in_use}
-use Rattle.mark_core.specs.WorldRules.{is_tracing}
+use Rattle.mark_core.specs.Rules.WorldRules.{is_tracing}
 use Rattle.mark_core.specs.Effects.{seat_after}
 use Rattle.mark_core.specs.Steps.{Core, failing_part, after_event}
 use Rattle.mark_core.specs.Laws.{IsCore}

@@ -9,19 +9,19 @@ use Rattle.mark_core.specs.Bits.{has_bit, reference_in}
 use Rattle.mark_core.specs.Held.{Slots, holds, known_length, has_length, length_in_hand, set_length}
 use Rattle.mark_core.specs.Cells.{packet_length, length_among, entry}
 use Rattle.mark_core.specs.Views.{hands}
-use Rattle.mark_core.specs.PacketRules.{HeadsAgree}
-use Rattle.mark_core.specs.WorldSteps.{has_nothing, other_has_nothing}
+use Rattle.mark_core.specs.Rules.PacketRules.{HeadsAgree}
+use Rattle.mark_core.specs.Steps.WorldSteps.{has_nothing, other_has_nothing}
 use Rattle.mark_core.specs.Start.{spent_seat}
 use Rattle.mark_core.specs.Parts.{parts}
 use Rattle.mark_core.specs.Effects.{written, seat_after}
 use Rattle.mark_core.specs.Steps.{Core, AllTrue}
 use Rattle.mark_core.specs.Laws.{IsCore}
-use Rattle.mark_core.proofs.Ranges.{placed}
-use Rattle.mark_core.proofs.Places.{region-length}
+use Rattle.mark_core.proofs.Writing.Ranges.{placed}
+use Rattle.mark_core.proofs.Writing.Places.{region-length}
 use Rattle.mark_core.proofs.Core.{in_range}
 use Rattle.mark_core.proofs.Acting.{found, words_left, seats_left}
-use Rattle.mark_core.proofs.Frames.{held_of, held-kept, projection-kept}
-use Rattle.mark_core.proofs.RegionWrites.{heads-kept, entries-kept}
+use Rattle.mark_core.proofs.Writing.Frames.{held_of, held-kept, projection-kept}
+use Rattle.mark_core.proofs.Writing.RegionWrites.{heads-kept, entries-kept}
 use Rattle.mark_core.proofs.Known.{unheld-unknown}
 use Rattle.mark_core.proofs.Pool.PoolSlots.{set-other, none-held}
 use Rattle.mark_core.proofs.Pool.PoolHolders.{among-push}

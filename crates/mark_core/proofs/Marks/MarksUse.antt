@@ -6,12 +6,12 @@ use Rattle.mark_core.specs.Layout.{Words, words_of}
 use Rattle.mark_core.specs.Bits.{cell_bit}
 use Rattle.mark_core.specs.Views.{makers}
 use Rattle.mark_core.specs.Cells.{in_use, used_by}
-use Rattle.mark_core.specs.SweepSteps.{own_block, survivors}
+use Rattle.mark_core.specs.Steps.SweepSteps.{own_block, survivors}
 use Rattle.mark_core.specs.Steps.{Core}
 use Rattle.mark_core.proofs.Acting.{words_left, seats_left}
-use Rattle.mark_core.proofs.CellBits.{bits-grow}
+use Rattle.mark_core.proofs.Writing.CellBits.{bits-grow}
 use Rattle.mark_core.proofs.HeldBlock.{own-strong}
-use Rattle.mark_core.proofs.Sparing.{survives}
+use Rattle.mark_core.proofs.Consequences.Sparing.{survives}
 use Rattle.mark_core.proofs.Blocks.BlocksTaken.{Taken}
 use Rattle.mark_core.proofs.Used.UsedKept.{still-made}
 use Rattle.mark_core.proofs.Used.UsedCells.{frees, alloc-on}

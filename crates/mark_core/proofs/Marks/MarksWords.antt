@@ -6,17 +6,17 @@ use Rattle.std.proofs.lemmas.List.{set-get_or}
 use Rattle.mark_core.specs.Layout.{words_of, region_sizes, region_words}
 use Rattle.mark_core.specs.Bits.{with_bit, cell_bit}
 use Rattle.mark_core.specs.Seats.{is_the}
-use Rattle.mark_core.specs.WorldRules.{is_tracing}
-use Rattle.mark_core.specs.SweepSteps.{own_block}
+use Rattle.mark_core.specs.Rules.WorldRules.{is_tracing}
+use Rattle.mark_core.specs.Steps.SweepSteps.{own_block}
 use Rattle.mark_core.specs.Parts.{parts}
 use Rattle.mark_core.specs.Effects.{place, written}
 use Rattle.mark_core.specs.Steps.{Core, AllTrue}
 use Rattle.mark_core.specs.Laws.{IsCore}
-use Rattle.mark_core.proofs.Regions.{words-get}
-use Rattle.mark_core.proofs.Ranges.{placed}
+use Rattle.mark_core.proofs.Writing.Regions.{words-get}
+use Rattle.mark_core.proofs.Writing.Ranges.{placed}
 use Rattle.mark_core.proofs.Acting.{found, words_left}
 use Rattle.mark_core.proofs.Core.{in_range}
-use Rattle.mark_core.proofs.RegionWrites.{marks-kept}
+use Rattle.mark_core.proofs.Writing.RegionWrites.{marks-kept}
 use Rattle.mark_core.proofs.Marks.MarksCells.{mark-grows, mark-from, clear-from}
 use Rattle.mark_core.proofs.Marks.MarksIdle.{block-stops}
 use Rattle.mark_core.specs.declared.kinds.Step.{Step}

@@ -7,7 +7,7 @@ use Rattle.std.proofs.lemmas.List.{length-map, get_or-map}
 use Rattle.std.proofs.lemmas.Option.{slice_get_within, get_or_from_slice_get}
 use Rattle.mark_core.specs.Seats.{takes_part}
 use Rattle.mark_core.specs.Views.{Standing, standings, standing_of, some_knows}
-use Rattle.mark_core.specs.WorldRules.{NoneAdmitted, is_raised}
+use Rattle.mark_core.specs.Rules.WorldRules.{NoneAdmitted, is_raised}
 use Rattle.mark_core.specs.Steps.{Core}
 use Rattle.mark_core.specs.Laws.{IsCore}
 use Rattle.mark_core.proofs.World.WorldReading.{at-standing}

@@ -10,7 +10,7 @@ use Rattle.mark_core.specs.Steps.{Core, after_event}
 use Rattle.mark_core.specs.Laws.{EventsKeepBounds}
 use Rattle.mark_core.proofs.Acting.{Acted, found, words_left}
 use Rattle.mark_core.proofs.Core.{acts}
-use Rattle.mark_core.proofs.Writes.{next_card-kept, next_block-kept}
+use Rattle.mark_core.proofs.Writing.Writes.{next_card-kept, next_block-kept}
 use Rattle.mark_core.proofs.Blocks.BlocksTaken.{Taken, words-read}
 use Rattle.mark_core.proofs.Blocks.BlocksWords.{statistic}
 use Rattle.mark_core.proofs.Notes.NotesBeside.{Beside, sits, beside}

@@ -8,9 +8,9 @@ use Rattle.mark_core.specs.Effects.{place, written}
 use Rattle.mark_core.specs.Notes.{word_at, steady}
 use Rattle.mark_core.specs.Steps.{Core, after_of, after_event}
 use Rattle.mark_core.specs.Laws.{EventsKeepNotes}
-use Rattle.mark_core.proofs.Regions.{words-get}
-use Rattle.mark_core.proofs.Places.{region-put}
-use Rattle.mark_core.proofs.Ranges.{IsPlace}
+use Rattle.mark_core.proofs.Writing.Regions.{words-get}
+use Rattle.mark_core.proofs.Writing.Places.{region-put}
+use Rattle.mark_core.proofs.Writing.Ranges.{IsPlace}
 use Rattle.mark_core.proofs.Acting.{Acted, found}
 use Rattle.mark_core.proofs.Core.{acts}
 use Rattle.mark_core.proofs.Blocks.BlocksTaken.{Taken, in-place}

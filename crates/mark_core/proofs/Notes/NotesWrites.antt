@@ -5,13 +5,13 @@ use Rattle.std.proofs.lemmas.Bool.{cases_Bool, and_parts, or_cases, or_from, or_
 use Rattle.mark_core.specs.Places.{counter_at}
 use Rattle.mark_core.specs.Held.{holds, holds_any}
 use Rattle.mark_core.specs.Seats.{takes_part, may_sweep, may_clear}
-use Rattle.mark_core.specs.WorldRules.{IsEmpty}
+use Rattle.mark_core.specs.Rules.WorldRules.{IsEmpty}
 use Rattle.mark_core.specs.Notes.{steady, keeps_phase}
 use Rattle.mark_core.specs.Effects.{place, written}
 use Rattle.mark_core.specs.Steps.{Core}
 use Rattle.mark_core.proofs.Acting.{found}
 use Rattle.mark_core.proofs.Count.CountTests.{follows}
-use Rattle.mark_core.proofs.Writes.{at_part}
+use Rattle.mark_core.proofs.Writing.Writes.{at_part}
 use Rattle.mark_core.proofs.Pool.PoolSlots.{any-held}
 use Rattle.mark_core.proofs.World.WorldSeats.{tracer-in, sweeper-in, runner-in, part-from_active}
 use Rattle.mark_core.proofs.Blocks.BlocksTaken.{Taken, mine}

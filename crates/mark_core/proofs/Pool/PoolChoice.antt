@@ -2,7 +2,7 @@
 use Rattle.std.proofs.Common.{ℕ, ◌≡◌, ◌*◌, ◌<◌, ◌≤◌, arith, refl, Bool, true, false, cond, eqb}
 use Rattle.std.specs.Prelude.{nat_le}
 use Rattle.std.proofs.lemmas.Bool.{eqb-true, leb-true, leb-false}
-use Rattle.mark_core.specs.PacketSteps.{pool_for}
+use Rattle.mark_core.specs.Steps.PacketSteps.{pool_for}
 use Rattle.mark_core.proofs.Basics.{positive}
 use Rattle.mark_core.specs.declared.kinds.Shape.{Shape}
 

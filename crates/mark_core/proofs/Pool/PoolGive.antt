@@ -7,7 +7,7 @@ use Rattle.mark_core.specs.Held.{holds, has_length, known_length, length_in_hand
 use Rattle.mark_core.specs.Cells.{in_pool, empty_packets, packet_length}
 use Rattle.mark_core.specs.Seats.{work_in_hand}
 use Rattle.mark_core.specs.Views.{hands}
-use Rattle.mark_core.specs.PacketSteps.{pool_for}
+use Rattle.mark_core.specs.Steps.PacketSteps.{pool_for}
 use Rattle.mark_core.specs.Parts.{parts}
 use Rattle.mark_core.specs.Effects.{place, written, seat_after}
 use Rattle.mark_core.specs.Steps.{AllTrue}
@@ -20,7 +20,7 @@ use Rattle.mark_core.proofs.Pool.PoolChoice.{empty-fits, empty-chosen}
 use Rattle.mark_core.proofs.Pool.PoolMoves.{pools-give, held-alone, held-length}
 use Rattle.mark_core.proofs.Pool.PoolSteps.{At, holding, mine, sound-moved}
 use Rattle.mark_core.proofs.Basics.{not-not}
-use Rattle.mark_core.proofs.Ranges.{word-below, in-row, pool_for-below}
+use Rattle.mark_core.proofs.Writing.Ranges.{word-below, in-row, pool_for-below}
 use Rattle.mark_core.specs.declared.kinds.Shape.{Shape}
 use Rattle.mark_core.specs.declared.kinds.Step.TheVariants.{Give}
 use Rattle.mark_core.specs.declared.seat.SeatState.{SeatState}

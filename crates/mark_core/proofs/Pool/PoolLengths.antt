@@ -8,7 +8,7 @@ use Rattle.mark_core.specs.Bits.{reference_in}
 use Rattle.mark_core.specs.Held.{holds, known_length, length_in_hand, set_length}
 use Rattle.mark_core.specs.Cells.{packet_length}
 use Rattle.mark_core.specs.Views.{hands}
-use Rattle.mark_core.specs.PacketRules.{HeadsAgree}
+use Rattle.mark_core.specs.Rules.PacketRules.{HeadsAgree}
 use Rattle.mark_core.specs.Parts.{parts}
 use Rattle.mark_core.specs.Effects.{place, written, seat_after}
 use Rattle.mark_core.specs.Steps.{AllTrue}

@@ -5,15 +5,15 @@ use Rattle.std.proofs.lemmas.Bool.{cases_eq, true≢false}
 use Rattle.std.proofs.lemmas.List.{get_or-set_same, length-set}
 use Rattle.mark_core.specs.Held.{Slots, holds, known_length, has_free_slot, put_packet, drop_packet, set_length}
 use Rattle.mark_core.specs.Cells.{in_pool, pool_count, holder_count, packet_length, length_among}
-use Rattle.mark_core.specs.PacketRules.{Pools}
-use Rattle.mark_core.specs.PacketSteps.{pool_for}
+use Rattle.mark_core.specs.Rules.PacketRules.{Pools}
+use Rattle.mark_core.specs.Steps.PacketSteps.{pool_for}
 use Rattle.mark_core.proofs.Count.CountTests.{bit}
 use Rattle.mark_core.proofs.Pool.PoolSlots.{same-in-hand, put-other, drop-other, set-other, holds-put_same, known-put_same, holds-drop_same, holds-set_same, known-set_same}
 use Rattle.mark_core.proofs.Pool.PoolChoice.{empty-fits, low-fits, high-fits, deferred-fits}
 use Rattle.mark_core.proofs.Pool.PoolBits.{OneBit, pool_count-moves, in-no-pool}
 use Rattle.mark_core.proofs.Pool.PoolHolders.{holders-set, holder-counts, among-held, among-unheld}
 use Rattle.mark_core.proofs.Pool.PoolPlaces.{IsPlaced, pools-but-one, pools-still, same-hands}
-use Rattle.mark_core.proofs.Ranges.{pool_for-below}
+use Rattle.mark_core.proofs.Writing.Ranges.{pool_for-below}
 use Rattle.mark_core.specs.declared.kinds.Shape.{Shape}
 
 -- seat i holds hs, where the rule of the pools is met

@@ -5,7 +5,7 @@ use Rattle.std.proofs.lemmas.Bool.{cases_eq}
 use Rattle.mark_core.specs.Shapes.{EachPacket}
 use Rattle.mark_core.specs.Held.{Slots, known_length}
 use Rattle.mark_core.specs.Cells.{in_pool, pool_count, holder_count, packet_length, length_among}
-use Rattle.mark_core.specs.PacketRules.{NoStrays, Pools}
+use Rattle.mark_core.specs.Rules.PacketRules.{NoStrays, Pools}
 use Rattle.mark_core.proofs.Count.CountTests.{bit}
 use Rattle.mark_core.proofs.Pool.PoolBits.{SamePast, strays-kept}
 use Rattle.mark_core.proofs.Pool.PoolSlots.{SameInHand}

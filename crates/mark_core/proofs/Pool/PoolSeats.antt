@@ -12,8 +12,8 @@ use Rattle.mark_core.specs.Held.{Slots, holds, holds_any, is_stored}
 use Rattle.mark_core.specs.Seats.{work_in_hand, empty_handed}
 use Rattle.mark_core.specs.Views.{hands}
 use Rattle.mark_core.specs.Start.{start_seat, spent_seat}
-use Rattle.mark_core.specs.PacketRules.{Pools, HeadsAgree, has_reservation, has_credit}
-use Rattle.mark_core.specs.WorldSteps.{other_has_nothing}
+use Rattle.mark_core.specs.Rules.PacketRules.{Pools, HeadsAgree, has_reservation, has_credit}
+use Rattle.mark_core.specs.Steps.WorldSteps.{other_has_nothing}
 use Rattle.mark_core.specs.Laws.{PacketsSound}
 use Rattle.mark_core.proofs.Count.CountTests.{bit}
 use Rattle.mark_core.proofs.Known.{unheld-unknown}

@@ -15,14 +15,14 @@ use Rattle.mark_core.specs.Seats.{work_in_hand}
 use Rattle.mark_core.specs.Views.{hands}
 use Rattle.mark_core.specs.Cells.{in_pool, pool_count, holder_count, empty_packets}
 use Rattle.mark_core.specs.Start.{start_seat, start_seats, start_words, full_pool, packet_bits}
-use Rattle.mark_core.specs.PacketRules.{HeadsAgree, NoStrays, has_reservation, has_credit}
+use Rattle.mark_core.specs.Rules.PacketRules.{HeadsAgree, NoStrays, has_reservation, has_credit}
 use Rattle.mark_core.specs.Laws.{StartMeetsPackets}
-use Rattle.mark_core.proofs.Regions.{words-get}
+use Rattle.mark_core.proofs.Writing.Regions.{words-get}
 use Rattle.mark_core.proofs.Count.CountTests.{bit}
 use Rattle.mark_core.proofs.Count.CountRange.{count-cons, count-none, count-same}
 use Rattle.mark_core.proofs.Pool.PoolHolders.{among-unheld}
-use Rattle.mark_core.proofs.CellBits.{no-bit}
-use Rattle.mark_core.proofs.Ranges.{word-below, in-row}
+use Rattle.mark_core.proofs.Writing.CellBits.{no-bit}
+use Rattle.mark_core.proofs.Writing.Ranges.{word-below, in-row}
 use Rattle.mark_core.specs.declared.kinds.Shape.{Shape}
 use Rattle.mark_core.specs.declared.seat.SeatState.{SeatState}
 

@@ -7,7 +7,7 @@ use Rattle.mark_core.specs.Layout.{Words, pool_words}
 use Rattle.mark_core.specs.Held.{holds_any}
 use Rattle.mark_core.specs.Seats.{work_in_hand}
 use Rattle.mark_core.specs.Views.{hands}
-use Rattle.mark_core.specs.PacketRules.{Pools, HeadsAgree}
+use Rattle.mark_core.specs.Rules.PacketRules.{Pools, HeadsAgree}
 use Rattle.mark_core.specs.Laws.{PacketsSound}
 use Rattle.mark_core.proofs.Count.CountTests.{bit}
 use Rattle.mark_core.proofs.Count.CountMoves.{CountMove, counts-moved}

@@ -17,7 +17,7 @@ use Rattle.mark_core.proofs.Pool.PoolSlots.{put-other, known-put_same, any-put}
 use Rattle.mark_core.proofs.Pool.PoolBits.{OneBit, pool-without, empty_packets-moves}
 use Rattle.mark_core.proofs.Pool.PoolMoves.{pools-take, pools-untaken, same-inside}
 use Rattle.mark_core.proofs.Pool.PoolSteps.{At, holding, mine, one-debt, work-holds, sound-moved}
-use Rattle.mark_core.proofs.Ranges.{word-below, in-row}
+use Rattle.mark_core.proofs.Writing.Ranges.{word-below, in-row}
 use Rattle.mark_core.specs.declared.kinds.Shape.{Shape}
 use Rattle.mark_core.specs.declared.kinds.Step.TheVariants.{Take}
 use Rattle.mark_core.specs.declared.seat.SeatState.{SeatState}

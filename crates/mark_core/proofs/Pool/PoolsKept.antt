@@ -6,15 +6,15 @@ use Rattle.std.proofs.lemmas.List.{set-get_or}
 use Rattle.std.proofs.lemmas.Option.{slice_get_within, get_or_from_slice_get}
 use Rattle.mark_core.specs.Layout.{Words, words_of, put_word, region_sizes, pool_words}
 use Rattle.mark_core.specs.Held.{length_in_hand}
-use Rattle.mark_core.specs.PacketSteps.{pool_for}
+use Rattle.mark_core.specs.Steps.PacketSteps.{pool_for}
 use Rattle.mark_core.specs.Start.{spent_seat}
 use Rattle.mark_core.specs.Parts.{parts}
 use Rattle.mark_core.specs.Effects.{place, written, seat_after}
 use Rattle.mark_core.specs.Steps.{Core, AllTrue, after_event, after_of, others_after}
 use Rattle.mark_core.specs.WellFormed.{IsWellFormed}
 use Rattle.mark_core.specs.Laws.{PacketsSound, ArePacketsSound, EventsKeepPackets}
-use Rattle.mark_core.proofs.Regions.{words-get}
-use Rattle.mark_core.proofs.Places.{region-length}
+use Rattle.mark_core.proofs.Writing.Regions.{words-get}
+use Rattle.mark_core.proofs.Writing.Places.{region-length}
 use Rattle.mark_core.proofs.Acting.{Acted, acted, found, words_left}
 use Rattle.mark_core.proofs.Core.{reaches_from}
 use Rattle.mark_core.proofs.Pool.PoolSteps.{At, work-holds}
@@ -23,8 +23,8 @@ use Rattle.mark_core.proofs.Pool.PoolGive.{sound-give}
 use Rattle.mark_core.proofs.Pool.PoolLengths.{sound-push, sound-pop, sound-store_length, sound-read_length}
 use Rattle.mark_core.proofs.Pool.PoolSeats.{sound-split, sound-join}
 use Rattle.mark_core.proofs.Count.CountSteps.{sound-reserve, sound-credit, sound-work, sound-other, work-after, is_tracing}
-use Rattle.mark_core.proofs.Frames.{held_of, debts_of}
-use Rattle.mark_core.proofs.Ranges.{word-below, in-row, pool_for-below}
+use Rattle.mark_core.proofs.Writing.Frames.{held_of, debts_of}
+use Rattle.mark_core.proofs.Writing.Ranges.{word-below, in-row, pool_for-below}
 use Rattle.mark_core.specs.declared.kinds.Shape.{Shape}
 use Rattle.mark_core.specs.declared.kinds.Event.{Event}
 use Rattle.mark_core.specs.declared.kinds.Step.{Step}

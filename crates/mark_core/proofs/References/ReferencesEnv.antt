@@ -9,7 +9,7 @@ use Rattle.std.proofs.lemmas.Option.{slice_get-get_or}
 use Rattle.mark_core.specs.Layout.{Words, words_of}
 use Rattle.mark_core.specs.Bits.{reference_in}
 use Rattle.mark_core.specs.Seats.{may_mutate}
-use Rattle.mark_core.specs.HeapRules.{EnvIsRoots}
+use Rattle.mark_core.specs.Rules.HeapRules.{EnvIsRoots}
 use Rattle.mark_core.specs.Start.{start_seat, spent_seat}
 use Rattle.mark_core.specs.Effects.{seat_after}
 use Rattle.mark_core.specs.Steps.{Core}

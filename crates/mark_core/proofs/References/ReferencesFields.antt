@@ -8,15 +8,15 @@ use Rattle.mark_core.specs.Bits.{nil_or, cell_of}
 use Rattle.mark_core.specs.Seats.{is_phase, free_in, makes, has_making, may_mutate}
 use Rattle.mark_core.specs.Views.{makers, maker_of}
 use Rattle.mark_core.specs.Cells.{field, FieldsGo}
-use Rattle.mark_core.specs.HeapRules.{MakesNil, NamesInUse}
-use Rattle.mark_core.specs.MutatorSteps.{variable, variable_or_nil, in_variables}
+use Rattle.mark_core.specs.Rules.HeapRules.{MakesNil, NamesInUse}
+use Rattle.mark_core.specs.Steps.MutatorSteps.{variable, variable_or_nil, in_variables}
 use Rattle.mark_core.specs.Effects.{written}
 use Rattle.mark_core.specs.Steps.{Core}
 use Rattle.mark_core.proofs.Acting.{found, words_left}
 use Rattle.mark_core.proofs.AtSeat.{of-view}
 use Rattle.mark_core.proofs.Blocks.BlocksTaken.{Taken, words-read, mine as own-fact}
 use Rattle.mark_core.proofs.References.ReferencesRoots.{Used, UsedAfter, nil-on, seat-formed}
-use Rattle.mark_core.proofs.RegionWrites.{fields-kept}
+use Rattle.mark_core.proofs.Writing.RegionWrites.{fields-kept}
 use Rattle.mark_core.proofs.Used.UsedCells.{frees}
 use Rattle.mark_core.proofs.Used.UsedSeats.{IsMadeBy}
 use Rattle.mark_core.proofs.Used.UsedKept.{used-on, used-back}

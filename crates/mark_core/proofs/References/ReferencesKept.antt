@@ -5,8 +5,8 @@ use Rattle.std.proofs.lemmas.Bool.{true≢false, eqb-true, cases_Bool}
 use Rattle.mark_core.specs.Layout.{Words, words_of}
 use Rattle.mark_core.specs.Seats.{is_phase}
 use Rattle.mark_core.specs.Views.{makers}
-use Rattle.mark_core.specs.HeapRules.{References}
-use Rattle.mark_core.specs.WorldSteps.{phase_after, is_move}
+use Rattle.mark_core.specs.Rules.HeapRules.{References}
+use Rattle.mark_core.specs.Steps.WorldSteps.{phase_after, is_move}
 use Rattle.mark_core.specs.Effects.{written}
 use Rattle.mark_core.specs.Steps.{Core, failing_part, after_event}
 use Rattle.mark_core.specs.Laws.{IsCore}
@@ -20,7 +20,7 @@ use Rattle.mark_core.proofs.References.ReferencesFields.{FieldsUsed, fields-used
 use Rattle.mark_core.proofs.References.ReferencesNames.{names-used}
 use Rattle.mark_core.proofs.References.ReferencesRoots.{roots-used}
 use Rattle.mark_core.proofs.References.ReferencesSwept.{swept-roots, swept-names, swept-fields}
-use Rattle.mark_core.proofs.Writes.{phase-kept}
+use Rattle.mark_core.proofs.Writing.Writes.{phase-kept}
 use Rattle.mark_core.specs.declared.kinds.Shape.{Shape}
 use Rattle.mark_core.specs.declared.kinds.Event.{Event}
 use Rattle.mark_core.specs.declared.kinds.Phase.{Phase}

@@ -10,17 +10,17 @@ use Rattle.mark_core.specs.Bits.{nil_or, reference_in}
 use Rattle.mark_core.specs.Seats.{may_mutate}
 use Rattle.mark_core.specs.Views.{makers}
 use Rattle.mark_core.specs.Cells.{field, AllGo}
-use Rattle.mark_core.specs.HeapRules.{NamesInUse}
-use Rattle.mark_core.specs.MutatorSteps.{knows_cell}
+use Rattle.mark_core.specs.Rules.HeapRules.{NamesInUse}
+use Rattle.mark_core.specs.Steps.MutatorSteps.{knows_cell}
 use Rattle.mark_core.specs.Start.{start_seat}
 use Rattle.mark_core.specs.Effects.{seat_after}
 use Rattle.mark_core.specs.Steps.{Core}
-use Rattle.mark_core.proofs.Regions.{words-get}
+use Rattle.mark_core.proofs.Writing.Regions.{words-get}
 use Rattle.mark_core.proofs.Acting.{found, words_left, seats_left}
 use Rattle.mark_core.proofs.AtSeat.{roots-length}
 use Rattle.mark_core.proofs.Blocks.BlocksTaken.{Taken, in-place, mine as own-fact}
-use Rattle.mark_core.proofs.Closing.{goes-to}
-use Rattle.mark_core.proofs.Frames.{names_of, names-kept}
+use Rattle.mark_core.proofs.Consequences.Closing.{goes-to}
+use Rattle.mark_core.proofs.Writing.Frames.{names_of, names-kept}
 use Rattle.mark_core.proofs.Locals.{local-kept}
 use Rattle.mark_core.proofs.References.ReferencesRoots.{Used, UsedAfter, nil-on, has-use, in-env, read-whole, mutator-is, read-field}
 use Rattle.mark_core.proofs.Used.UsedCells.{frees}

@@ -12,9 +12,9 @@ use Rattle.mark_core.specs.Bits.{nil_or, reference_in, cell_bit}
 use Rattle.mark_core.specs.Seats.{used_in, last_made, is_the, has_turn, is_phase, may_mutate}
 use Rattle.mark_core.specs.Views.{makers, maker_of}
 use Rattle.mark_core.specs.Cells.{in_use, used_by, field, AllGo}
-use Rattle.mark_core.specs.WorldRules.{is_stopped_phase}
-use Rattle.mark_core.specs.HeapRules.{NamesInUse}
-use Rattle.mark_core.specs.MutatorSteps.{has_reference, names_last}
+use Rattle.mark_core.specs.Rules.WorldRules.{is_stopped_phase}
+use Rattle.mark_core.specs.Rules.HeapRules.{NamesInUse}
+use Rattle.mark_core.specs.Steps.MutatorSteps.{has_reference, names_last}
 use Rattle.mark_core.specs.WellFormed.{IsSeat, IsCache}
 use Rattle.mark_core.specs.Effects.{written}
 use Rattle.mark_core.specs.Steps.{Core}
@@ -24,7 +24,7 @@ use Rattle.mark_core.proofs.Blocks.BlocksStopped.{still-stopped}
 use Rattle.mark_core.proofs.Acting.{found, words_left, seats_left}
 use Rattle.mark_core.proofs.Blocks.BlocksTaken.{Taken, within, own-record, words-read, mine as own-fact}
 use Rattle.mark_core.proofs.AtSeat.{allocs-length}
-use Rattle.mark_core.proofs.RegionWrites.{roots-kept}
+use Rattle.mark_core.proofs.Writing.RegionWrites.{roots-kept}
 use Rattle.mark_core.proofs.Used.UsedCells.{frees}
 use Rattle.mark_core.proofs.Used.UsedKept.{used-on}
 use Rattle.mark_core.proofs.World.WorldReading.{any-passes, some-passes}

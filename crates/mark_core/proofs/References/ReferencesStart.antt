@@ -12,14 +12,14 @@ use Rattle.mark_core.specs.Layout.{Words, words_of, region_base, region_sizes, b
 use Rattle.mark_core.specs.Bits.{cell_bit, has_bit, nil_or}
 use Rattle.mark_core.specs.Views.{Maker, makers, maker_of}
 use Rattle.mark_core.specs.Cells.{in_use, used_by}
-use Rattle.mark_core.specs.HeapRules.{NamesInUse, EnvIsRoots, References}
+use Rattle.mark_core.specs.Rules.HeapRules.{NamesInUse, EnvIsRoots, References}
 use Rattle.mark_core.specs.Start.{start_words, start_seats, start_seat, full_pool}
-use Rattle.mark_core.proofs.Regions.{words-get}
-use Rattle.mark_core.proofs.Places.{region-length}
+use Rattle.mark_core.proofs.Writing.Regions.{words-get}
+use Rattle.mark_core.proofs.Writing.Places.{region-length}
 use Rattle.mark_core.proofs.Opening.{start-length}
 use Rattle.mark_core.proofs.Pool.PoolStart.{in-gap, each-seat, gap, singles, tail_words}
 use Rattle.mark_core.proofs.References.ReferencesNames.{new-names}
-use Rattle.mark_core.proofs.CellBits.{no-bit}
+use Rattle.mark_core.proofs.Writing.CellBits.{no-bit}
 use Rattle.mark_core.specs.declared.kinds.Shape.{Shape}
 use Rattle.mark_core.specs.declared.seat.SeatState.{SeatState}
 

@@ -11,10 +11,10 @@ use Rattle.mark_core.specs.Bits.{cell_bit, nil_or}
 use Rattle.mark_core.specs.Seats.{is_phase}
 use Rattle.mark_core.specs.Views.{makers, blocks}
 use Rattle.mark_core.specs.Cells.{used_by, field, is_unswept, is_swept_block, AllGo}
-use Rattle.mark_core.specs.HeapRules.{NamesInUse, EnvIsRoots}
-use Rattle.mark_core.specs.SweepSteps.{own_block, survivors}
-use Rattle.mark_core.specs.WorldRules.{is_stopped_phase}
-use Rattle.mark_core.specs.WorldSteps.{blocks_done, none_marked}
+use Rattle.mark_core.specs.Rules.HeapRules.{NamesInUse, EnvIsRoots}
+use Rattle.mark_core.specs.Steps.SweepSteps.{own_block, survivors}
+use Rattle.mark_core.specs.Rules.WorldRules.{is_stopped_phase}
+use Rattle.mark_core.specs.Steps.WorldSteps.{blocks_done, none_marked}
 use Rattle.mark_core.specs.Effects.{seat_after}
 use Rattle.mark_core.specs.Steps.{Core}
 use Rattle.mark_core.specs.Laws.{IsCore}
@@ -23,14 +23,14 @@ use Rattle.mark_core.proofs.AtSeat.{roots-length}
 use Rattle.mark_core.proofs.Blocks.BlocksTaken.{Taken, mine as own-fact}
 use Rattle.mark_core.proofs.Blocks.BlocksStopped.{sweeping, still-stopped}
 use Rattle.mark_core.proofs.Blocks.BlocksSteps.{none-at-move}
-use Rattle.mark_core.proofs.CellBits.{bits-grow}
+use Rattle.mark_core.proofs.Writing.CellBits.{bits-grow}
 use Rattle.mark_core.proofs.HeldBlock.{own-strong}
 use Rattle.mark_core.proofs.Locals.{local-kept}
 use Rattle.mark_core.proofs.References.ReferencesEnv.{seat-section}
 use Rattle.mark_core.proofs.References.ReferencesNames.{new-names}
 use Rattle.mark_core.proofs.References.ReferencesRoots.{Used, UsedAfter, nil-on}
 use Rattle.mark_core.proofs.References.ReferencesFields.{FieldsUsed}
-use Rattle.mark_core.proofs.Sparing.{Kept, either-way, kept-below, kept-unswept, own-unswept, survives}
+use Rattle.mark_core.proofs.Consequences.Sparing.{Kept, either-way, kept-below, kept-unswept, own-unswept, survives}
 use Rattle.mark_core.proofs.Used.UsedKept.{used-on, used-back, still-made}
 use Rattle.mark_core.specs.declared.kinds.Phase.TheVariants.{Idle, Sweep}
 use Rattle.mark_core.specs.declared.kinds.Step.TheVariants.{StoreAlloc, StorePhase}

@@ -1,5 +1,5 @@
 -- The counters of blocks and of cards never run far past their ends: kept by each step that is allowed.
-use Rattle.std.proofs.Common.{ℕ, ◌≡◌, ◌+◌, ◌%◌, ◌<◌, ◌≤◌, List, set, get_or, length, arith, refl, ap, Bool, true, false, cond, eqb, ◌⊎◌, inl, inr, ⊎_elim}
+use Rattle.std.proofs.Common.{ℕ, ◌≡◌, ◌+◌, ◌%◌, ◌<◌, ◌≤◌, List, set, get_or, length, arith, refl, sym, ap, ◌∙◌, Bool, true, false, cond, eqb, ◌⊎◌, inl, inr, ⊎_elim}
 use Rattle.std.specs.Prelude.{nat_lt, nat_le}
 use Rattle.std.specs.List.{count_by}
 use Rattle.std.proofs.lemmas.Bool.{cases_Bool, cases_lt, and_parts, ltb-true, leb-true, eqb-true, ne_eqb}
@@ -12,8 +12,8 @@ use Rattle.mark_core.specs.Start.{start_seat, spent_seat}
 use Rattle.mark_core.specs.Effects.{written, seat_after}
 use Rattle.mark_core.specs.Steps.{Core, others_after}
 use Rattle.mark_core.proofs.Acting.{found, words_left, seats_left}
-use Rattle.mark_core.proofs.Frames.{readings-kept}
-use Rattle.mark_core.proofs.Writes.{at_counter, next_card-kept, next_block-kept}
+use Rattle.mark_core.proofs.Writing.Frames.{readings-kept}
+use Rattle.mark_core.proofs.Writing.Writes.{at_counter, next_card-kept, next_block-kept}
 use Rattle.mark_core.proofs.Count.CountTests.{bit}
 use Rattle.mark_core.proofs.Blocks.BlocksTaken.{Taken, within, own-record, words-read}
 use Rattle.mark_core.proofs.Blocks.BlocksWords.{statistic}
@@ -70,16 +70,66 @@ no_word w which v h g =
     let none = λ (k : ℕ) (l : k ≤ 5). ne_eqb (4 + which) k (λ e. omega (arith, h, l, e)) in
     statistic (λ at. ((put_word at v w).next_card ≡ w.next_card) × ((put_word at v w).next_block ≡ w.next_block)) which h g (rw (none 3 (omega arith)) refl, rw (none 4 (omega arith)) refl)
 
+-- what is added to a statistic goes to neither counter
+adds_elsewhere : (c : Core) (i : ℕ) (s : SeatState) (which by : ℕ) (down : Bool) → Taken c i s (AddStat which by down)
+    → ((words_left c s (AddStat which by down)).next_card ≡ (words_of c.shape c.words).next_card) × ((words_left c s (AddStat which by down)).next_block ≡ (words_of c.shape c.words).next_block)
+adds_elsewhere c i s which by down t =
+    let range = and_parts (nat_le last_count which) (nat_le which done_count) (and_parts _ _ t.ok.0).0 in
+    no_word (words_of c.shape c.words) which (written c.shape s (AddStat which by down) (found c s (AddStat which by down))) (leb-true last_count which range.0) (leb-true which done_count range.1)
+
+-- a counter that hands out blocks or cards: its number, its word, its end, and the seats that read it below that
+record Counter : Type 0 where
+  number : ℕ
+  word : Words → ℕ
+  end : Shape → ℕ
+  below : SeatState → Bool
+
 -- the counter of blocks
-abbrev pub BlocksBounded : Core → ℕ → SeatState → Step → Type 0
-BlocksBounded c i s step = (words_left c s step).next_block + block_readers (seats_left c i s step) ≤ block_count c.shape + 41
+abbrev of_blocks : Counter
+of_blocks = record { number = block_counter; word = λ w. w.next_block; end = block_count; below = λ s. s.below_block }
 
-blocks_by : (c : Core) (i : ℕ) (s : SeatState) (step : Step) → Taken c i s step → (words_left c s step).next_block + bit (seat_after c.shape s step (found c s step)).below_block ≤ (words_of c.shape c.words).next_block + bit s.below_block → BlocksBounded c i s step
-blocks_by c i s step t less =
-    bound_kept (λ (x : SeatState). x.below_block) c.shape step c.seats i s (seat_after c.shape s step (found c s step)) (words_of c.shape c.words).next_block (words_left c s step).next_block (block_count c.shape + 41) (λ k. refl) (λ k. refl)
-    (within c i s step t) (own-record c i s step s t) t.core.sound.sweeping.blocks_bounded less
+-- the counter of cards
+abbrev of_cards : Counter
+of_cards = record { number = card_counter; word = λ w. w.next_card; end = card_count; below = λ s. s.below_card }
 
-pub blocks-bounded : (c : Core) (i : ℕ) (s : SeatState) (step : Step) → Taken c i s step → BlocksBounded c i s step
+-- no seat is new or spent with a reading of this counter
+abbrev IsUnreadAtFirst : Counter → Type 0
+IsUnreadAtFirst q = (sh : Shape) (k : ℕ) → (q.below (start_seat sh k) ≡ false) × (q.below (spent_seat sh k) ≡ false)
+
+-- the counter doesn't run away, before the step
+abbrev IsBounded : Counter → Core → Type 0
+IsBounded q c = q.word (words_of c.shape c.words) + count_by q.below c.seats ≤ q.end c.shape + 41
+
+-- nor after it
+abbrev StaysBounded : Counter → Core → ℕ → SeatState → Step → Type 0
+StaysBounded q c i s step = q.word (words_left c s step) + count_by q.below (seats_left c i s step) ≤ q.end c.shape + 41
+
+-- a step that lets the counter and its seat's reading together not grow
+stays_by : (q : Counter) → IsUnreadAtFirst q → (c : Core) (i : ℕ) (s : SeatState) (step : Step) → Taken c i s step → IsBounded q c → q.word (words_left c s step) + bit (q.below (seat_after c.shape s step (found c s step))) ≤ q.word (words_of c.shape c.words) + bit (q.below s) → StaysBounded q c i s step
+stays_by q first c i s step t bounded less =
+    bound_kept q.below c.shape step c.seats i s (seat_after c.shape s step (found c s step)) (q.word (words_of c.shape c.words)) (q.word (words_left c s step)) (q.end c.shape + 41) (λ k. (first c.shape k).0) (λ k. (first c.shape k).1)
+    (within c i s step t) (own-record c i s step s t) bounded less
+
+-- a step that reads the counter
+stays_read : (q : Counter) (c : Core) (i : ℕ) (s : SeatState) (which : ℕ) → Taken c i s (ReadStat which) → IsBounded q c → found c s (ReadStat q.number) ≡ q.word (words_of c.shape c.words)
+    → q.below (seat_after c.shape s (ReadStat which) (found c s (ReadStat which))) ≡ cond (eqb which q.number) (nat_lt (found c s (ReadStat which)) (q.end c.shape)) (q.below s) → StaysBounded q c i s (ReadStat which)
+stays_read q c i s which t bounded there reads =
+    let old : ℕ = found c s (ReadStat which) in
+    let same = ap q.word (words-read c i s (ReadStat which) t refl) in
+    let kept = reading_kept q.below c.seats i s (seat_after c.shape s (ReadStat which) old) (q.word (words_of c.shape c.words)) (q.end c.shape) (within c i s (ReadStat which) t) (own-record c i s (ReadStat which) s t) t.core.formed.seat_count.1 bounded
+    (λ e.
+    ⊎_elim
+    (λ a.
+    let here : old ≡ q.word (words_of c.shape c.words) = ap (λ k. found c s (ReadStat k)) (eqb-true which q.number a.0) ∙ there in
+    inl (omega (arith, here, ltb-true old (q.end c.shape) a.1)))
+    (λ (a : q.below s ≡ true). inr a)
+    (chosen (eqb which q.number) (nat_lt old (q.end c.shape)) (q.below s) (sym reads ∙ e))) in
+    omega (arith, same, kept)
+
+blocks_by : (c : Core) (i : ℕ) (s : SeatState) (step : Step) → Taken c i s step → (words_left c s step).next_block + bit (seat_after c.shape s step (found c s step)).below_block ≤ (words_of c.shape c.words).next_block + bit s.below_block → StaysBounded of_blocks c i s step
+blocks_by c i s step t less = stays_by of_blocks (λ sh k. (refl, refl)) c i s step t t.core.sound.sweeping.blocks_bounded less
+
+pub blocks-bounded : (c : Core) (i : ℕ) (s : SeatState) (step : Step) → Taken c i s step → (words_left c s step).next_block + block_readers (seats_left c i s step) ≤ block_count c.shape + 41
 blocks-bounded c i s NextBlock t =
     let n : ℕ = (words_of c.shape c.words).next_block in
     let room : (n + 1) % 18446744073709551616 ≡ n + 1 = omega (arith, t.core.sound.sweeping.blocks_bounded, t.core.formed.shaped.cells) in
@@ -88,40 +138,18 @@ blocks-bounded c i s (Reset which) t =
     let w : Words = words_of c.shape c.words in
     let less : (put_word (counter_at which) 0 w).next_block ≤ w.next_block = at_counter (λ at. (put_word at 0 w).next_block ≤ w.next_block) which (λ j h. reset_one (eqb j 4) w.next_block) (λ j. omega arith) in
     blocks_by c i s (Reset which) t (omega (arith, less))
-blocks-bounded c i s (AddStat which by down) t =
-    let range = and_parts (nat_le last_count which) (nat_le which done_count) (and_parts _ _ t.ok.0).0 in
-    let w : Words = words_of c.shape c.words in
-    let same = no_word w which (written c.shape s (AddStat which by down) (found c s (AddStat which by down))) (leb-true last_count which range.0) (leb-true which done_count range.1) in
-    blocks_by c i s (AddStat which by down) t (omega (arith, same.1))
-blocks-bounded c i s (ReadStat which) t =
-    let w : Words = words_of c.shape c.words in
-    let old : ℕ = found c s (ReadStat which) in
-    let same = ap (λ (v : Words). v.next_block) (words-read c i s (ReadStat which) t refl) in
-    let kept = reading_kept (λ (x : SeatState). x.below_block) c.seats i s (seat_after c.shape s (ReadStat which) old) w.next_block (block_count c.shape) (within c i s (ReadStat which) t) (own-record c i s (ReadStat which) s t) t.core.formed.seat_count.1 t.core.sound.sweeping.blocks_bounded
-    (λ e.
-    ⊎_elim
-    (λ a.
-    let here : old ≡ w.next_block = ap (λ k. found c s (ReadStat k)) (eqb-true which block_counter a.0) in
-    inl (omega (arith, here, ltb-true old (block_count c.shape) a.1)))
-    (λ (a : s.below_block ≡ true). inr a)
-    (chosen (eqb which block_counter) (nat_lt old (block_count c.shape)) s.below_block e)) in
-    omega (arith, same, kept)
+blocks-bounded c i s (AddStat which by down) t = blocks_by c i s (AddStat which by down) t (omega (arith, (adds_elsewhere c i s which by down t).1))
+blocks-bounded c i s (ReadStat which) t = stays_read of_blocks c i s which t t.core.sound.sweeping.blocks_bounded refl refl
 blocks-bounded c i s NextOfCards t = blocks_by c i s NextOfCards t (omega arith)
 blocks-bounded c i s step t =
     let same = next_block-kept c.shape s step (written c.shape s step (found c s step)) (words_of c.shape c.words) refl in
     let reads = ap (λ (x : Bool × Bool). bit x.1) (readings-kept c.shape s step (found c s step) refl) in
     blocks_by c i s step t (omega (arith, same, reads))
 
--- the counter of cards
-abbrev pub CardsBounded : Core → ℕ → SeatState → Step → Type 0
-CardsBounded c i s step = (words_left c s step).next_card + card_readers (seats_left c i s step) ≤ card_count c.shape + 41
+cards_by : (c : Core) (i : ℕ) (s : SeatState) (step : Step) → Taken c i s step → (words_left c s step).next_card + bit (seat_after c.shape s step (found c s step)).below_card ≤ (words_of c.shape c.words).next_card + bit s.below_card → StaysBounded of_cards c i s step
+cards_by c i s step t less = stays_by of_cards (λ sh k. (refl, refl)) c i s step t t.core.sound.sweeping.cards_bounded less
 
-cards_by : (c : Core) (i : ℕ) (s : SeatState) (step : Step) → Taken c i s step → (words_left c s step).next_card + bit (seat_after c.shape s step (found c s step)).below_card ≤ (words_of c.shape c.words).next_card + bit s.below_card → CardsBounded c i s step
-cards_by c i s step t less =
-    bound_kept (λ (x : SeatState). x.below_card) c.shape step c.seats i s (seat_after c.shape s step (found c s step)) (words_of c.shape c.words).next_card (words_left c s step).next_card (card_count c.shape + 41) (λ k. refl) (λ k. refl)
-    (within c i s step t) (own-record c i s step s t) t.core.sound.sweeping.cards_bounded less
-
-pub cards-bounded : (c : Core) (i : ℕ) (s : SeatState) (step : Step) → Taken c i s step → CardsBounded c i s step
+pub cards-bounded : (c : Core) (i : ℕ) (s : SeatState) (step : Step) → Taken c i s step → (words_left c s step).next_card + card_readers (seats_left c i s step) ≤ card_count c.shape + 41
 cards-bounded c i s NextOfCards t =
     let n : ℕ = (words_of c.shape c.words).next_card in
     let room : (n + 1) % 18446744073709551616 ≡ n + 1 = omega (arith, t.core.sound.sweeping.cards_bounded, t.core.formed.shaped.cells) in
@@ -130,24 +158,8 @@ cards-bounded c i s (Reset which) t =
     let w : Words = words_of c.shape c.words in
     let less : (put_word (counter_at which) 0 w).next_card ≤ w.next_card = at_counter (λ at. (put_word at 0 w).next_card ≤ w.next_card) which (λ j h. reset_one (eqb j 3) w.next_card) (λ j. omega arith) in
     cards_by c i s (Reset which) t (omega (arith, less))
-cards-bounded c i s (AddStat which by down) t =
-    let range = and_parts (nat_le last_count which) (nat_le which done_count) (and_parts _ _ t.ok.0).0 in
-    let w : Words = words_of c.shape c.words in
-    let same = no_word w which (written c.shape s (AddStat which by down) (found c s (AddStat which by down))) (leb-true last_count which range.0) (leb-true which done_count range.1) in
-    cards_by c i s (AddStat which by down) t (omega (arith, same.0))
-cards-bounded c i s (ReadStat which) t =
-    let w : Words = words_of c.shape c.words in
-    let old : ℕ = found c s (ReadStat which) in
-    let same = ap (λ (v : Words). v.next_card) (words-read c i s (ReadStat which) t refl) in
-    let kept = reading_kept (λ (x : SeatState). x.below_card) c.seats i s (seat_after c.shape s (ReadStat which) old) w.next_card (card_count c.shape) (within c i s (ReadStat which) t) (own-record c i s (ReadStat which) s t) t.core.formed.seat_count.1 t.core.sound.sweeping.cards_bounded
-    (λ e.
-    ⊎_elim
-    (λ a.
-    let here : old ≡ w.next_card = ap (λ k. found c s (ReadStat k)) (eqb-true which card_counter a.0) in
-    inl (omega (arith, here, ltb-true old (card_count c.shape) a.1)))
-    (λ (a : s.below_card ≡ true). inr a)
-    (chosen (eqb which card_counter) (nat_lt old (card_count c.shape)) s.below_card e)) in
-    omega (arith, same, kept)
+cards-bounded c i s (AddStat which by down) t = cards_by c i s (AddStat which by down) t (omega (arith, (adds_elsewhere c i s which by down t).0))
+cards-bounded c i s (ReadStat which) t = stays_read of_cards c i s which t t.core.sound.sweeping.cards_bounded refl refl
 cards-bounded c i s NextBlock t = cards_by c i s NextBlock t (omega arith)
 cards-bounded c i s step t =
     let same = next_card-kept c.shape s step (written c.shape s step (found c s step)) (words_of c.shape c.words) refl in

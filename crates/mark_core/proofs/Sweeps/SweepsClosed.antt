@@ -11,14 +11,14 @@ use Rattle.mark_core.specs.Bits.{cell_bit, nil_or}
 use Rattle.mark_core.specs.Seats.{work_in_hand, scan_left, cleaning_left, left_in, is_the}
 use Rattle.mark_core.specs.Views.{Grasp, grasps, grasp_of, hands}
 use Rattle.mark_core.specs.Cells.{packet_length, field, FieldsGo}
-use Rattle.mark_core.specs.ColourRules.{IsWaiting, IsAccounted, IsScanned, queued, tended, dirty, cleaned, waiting, owed, scanned, tends, popped_is, cleans_card, owes_card, will_read, has_value, is_marked_soon}
-use Rattle.mark_core.specs.WorldRules.{is_stopped_phase, is_tracing}
-use Rattle.mark_core.specs.WorldSteps.{cards_clean}
+use Rattle.mark_core.specs.Rules.ColourRules.{IsWaiting, IsAccounted, IsScanned, queued, tended, dirty, cleaned, waiting, owed, scanned, tends, popped_is, cleans_card, owes_card, will_read, has_value, is_marked_soon}
+use Rattle.mark_core.specs.Rules.WorldRules.{is_stopped_phase, is_tracing}
+use Rattle.mark_core.specs.Steps.WorldSteps.{cards_clean}
 use Rattle.mark_core.specs.Closed.{IsQuiet}
 use Rattle.mark_core.specs.Steps.{Core}
 use Rattle.mark_core.specs.Laws.{IsCore}
-use Rattle.mark_core.proofs.QuietReading.{quiet}
-use Rattle.mark_core.proofs.Closing.{clean-card}
+use Rattle.mark_core.proofs.Consequences.QuietReading.{quiet}
+use Rattle.mark_core.proofs.Consequences.Closing.{clean-card}
 use Rattle.mark_core.proofs.Blocks.BlocksOthers.{or-false}
 use Rattle.mark_core.proofs.Blocks.BlocksStopped.{still-stopped}
 use Rattle.mark_core.proofs.Hands.HandsCleaning.{done-left, done-cleans, done-scan}

@@ -9,13 +9,13 @@ use Rattle.mark_core.specs.Bits.{cell_bit, nil_or}
 use Rattle.mark_core.specs.Seats.{is_phase}
 use Rattle.mark_core.specs.Views.{Maker, makers, blocks}
 use Rattle.mark_core.specs.Cells.{is_kept, is_swept_block, field, AllGo, FieldsGo}
-use Rattle.mark_core.specs.HeapRules.{Sweeping}
+use Rattle.mark_core.specs.Rules.HeapRules.{Sweeping}
 use Rattle.mark_core.specs.Sound.{card_readers, block_readers}
-use Rattle.mark_core.specs.WorldRules.{is_stopped_phase}
-use Rattle.mark_core.specs.WorldSteps.{is_quiet, cards_clean, roots_marked}
+use Rattle.mark_core.specs.Rules.WorldRules.{is_stopped_phase}
+use Rattle.mark_core.specs.Steps.WorldSteps.{is_quiet, cards_clean, roots_marked}
 use Rattle.mark_core.specs.Steps.{Core, failing_part, after_event}
 use Rattle.mark_core.specs.Laws.{IsCore}
-use Rattle.mark_core.proofs.Places.{region-length}
+use Rattle.mark_core.proofs.Writing.Places.{region-length}
 use Rattle.mark_core.proofs.Acting.{Acted, words_left, seats_left}
 use Rattle.mark_core.proofs.Known.{bit-below}
 use Rattle.mark_core.proofs.Pool.PoolsKept.{shape-kept}

@@ -69,7 +69,7 @@ swept-taken nb b bs i h is =
 pub swept-past : (nb b : ℕ) (bs : List (Option BlockState)) → b < nb → is_swept_block (nb + 1) bs b ≡ is_swept_block nb bs b
 swept-past nb b bs h = rw (lt-ltb b (nb + 1) (omega arith), lt-ltb b nb h) refl
 
--- the same block in another's hand
+-- a block in hand isn't unswept by another seat, which has another block or none
 other_unswept : (x : BlockState) (y : Option BlockState) → AreApart (Some x) y → is_unswept x.block y ≡ false
 other_unswept x None a = refl
 other_unswept x (Some y) a = rw (ne_eqb y.block x.block (λ e. true≢false (sym (eq-eqb x.block y.block (sym e)) ∙ a))) refl

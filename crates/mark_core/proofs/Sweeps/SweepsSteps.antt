@@ -12,14 +12,14 @@ use Rattle.mark_core.specs.Bits.{cell_bit}
 use Rattle.mark_core.specs.Seats.{is_phase, is_swept}
 use Rattle.mark_core.specs.Views.{blocks}
 use Rattle.mark_core.specs.Cells.{is_unswept, is_swept_block}
-use Rattle.mark_core.specs.ColourSteps.{with_alloc_word}
-use Rattle.mark_core.specs.WorldRules.{is_stopped_phase}
-use Rattle.mark_core.specs.WorldSteps.{other_has_nothing}
-use Rattle.mark_core.specs.SweepSteps.{with_stored, with_mark_word}
+use Rattle.mark_core.specs.Steps.ColourSteps.{with_alloc_word}
+use Rattle.mark_core.specs.Rules.WorldRules.{is_stopped_phase}
+use Rattle.mark_core.specs.Steps.WorldSteps.{other_has_nothing}
+use Rattle.mark_core.specs.Steps.SweepSteps.{with_stored, with_mark_word}
 use Rattle.mark_core.specs.Start.{start_seat, spent_seat}
 use Rattle.mark_core.specs.Effects.{seat_after}
 use Rattle.mark_core.specs.Steps.{Core}
-use Rattle.mark_core.proofs.Places.{region-length}
+use Rattle.mark_core.proofs.Writing.Places.{region-length}
 use Rattle.mark_core.proofs.Acting.{found, words_left, seats_left}
 use Rattle.mark_core.proofs.Blocks.BlocksTaken.{Taken, within, own-record, in-place}
 use Rattle.mark_core.proofs.Blocks.BlocksOthers.{or-false, any-same}

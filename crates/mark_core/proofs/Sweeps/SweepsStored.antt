@@ -6,12 +6,12 @@ use Rattle.std.proofs.lemmas.List.{get_or-set_same}
 use Rattle.mark_core.specs.Bits.{has_bit, cell_bit}
 use Rattle.mark_core.specs.Seats.{block_in_hand, may_store, is_swept}
 use Rattle.mark_core.specs.Cells.{is_unswept, is_swept_block}
-use Rattle.mark_core.specs.SweepSteps.{survivors, with_stored}
+use Rattle.mark_core.specs.Steps.SweepSteps.{survivors, with_stored}
 use Rattle.mark_core.specs.Strong.{IsStrongBlock}
 use Rattle.mark_core.proofs.Blocks.BlocksOthers.{Others}
 use Rattle.mark_core.proofs.Blocks.BlocksHand.{IsBlock, AreApart}
 use Rattle.mark_core.proofs.Sweeps.SweepsSpared.{is_spared, swept-own, swept-done, swept-other, bit-within}
-use Rattle.mark_core.proofs.CellBits.{bit-there}
+use Rattle.mark_core.proofs.Writing.CellBits.{bit-there}
 use Rattle.mark_core.specs.declared.seat.BlockState.{BlockState}
 
 -- a word that was read and kept is the present one

@@ -7,7 +7,7 @@ use Rattle.std.proofs.lemmas.List.Folds.{list_any_none}
 use Rattle.mark_core.specs.Bits.{cell_bit}
 use Rattle.mark_core.specs.Views.{Maker, standings, makers, maker_of}
 use Rattle.mark_core.specs.Cells.{used_by, in_use, is_kept}
-use Rattle.mark_core.specs.WorldRules.{World}
+use Rattle.mark_core.specs.Rules.WorldRules.{World}
 use Rattle.mark_core.proofs.Blocks.BlocksOthers.{or-false}
 use Rattle.mark_core.proofs.Sweeps.SweepsSpared.{is_spared}
 use Rattle.mark_core.proofs.Used.UsedBits.{no-used}

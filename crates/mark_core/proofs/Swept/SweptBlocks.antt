@@ -7,9 +7,9 @@ use Rattle.std.proofs.lemmas.List.{length-set, length-append, get_or-set_other, 
 use Rattle.std.proofs.lemmas.Option.{slice_get_within, get_or_from_slice_get}
 use Rattle.mark_core.specs.Seats.{is_the, block_in_hand}
 use Rattle.mark_core.specs.Views.{blocks}
-use Rattle.mark_core.specs.ColourSteps.{with_alloc_word}
-use Rattle.mark_core.specs.SweepSteps.{with_mark_word, with_stored}
-use Rattle.mark_core.specs.WorldSteps.{may_be_joined, other_has_nothing}
+use Rattle.mark_core.specs.Steps.ColourSteps.{with_alloc_word}
+use Rattle.mark_core.specs.Steps.SweepSteps.{with_mark_word, with_stored}
+use Rattle.mark_core.specs.Steps.WorldSteps.{may_be_joined, other_has_nothing}
 use Rattle.mark_core.proofs.Blocks.BlocksWrites.{taken}
 use Rattle.mark_core.proofs.Basics.{none-is}
 use Rattle.mark_core.specs.declared.kinds.Shape.{Shape}

@@ -7,7 +7,7 @@ use Rattle.std.proofs.lemmas.List.{length-map, get_or-map, get_or_default}
 use Rattle.std.proofs.lemmas.List.Sums.{list_all-from_AllPass}
 use Rattle.mark_core.specs.Layout.{Words, words_of, block_count}
 use Rattle.mark_core.specs.Views.{blocks}
-use Rattle.mark_core.specs.WorldSteps.{none_marked}
+use Rattle.mark_core.specs.Steps.WorldSteps.{none_marked}
 use Rattle.mark_core.specs.Swept.{IsSweepingPhase, IsSweptCore}
 use Rattle.mark_core.specs.Steps.{Core}
 use Rattle.mark_core.specs.Laws.{IsCore}

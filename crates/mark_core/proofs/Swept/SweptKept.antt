@@ -5,16 +5,16 @@ use Rattle.std.proofs.lemmas.List.{map-set, map_push, set-get_or, get_or-set_sam
 use Rattle.mark_core.specs.Layout.{Words, words_of, block_count}
 use Rattle.mark_core.specs.Start.{start_seat, spent_seat}
 use Rattle.mark_core.specs.Views.{blocks}
-use Rattle.mark_core.specs.SweepSteps.{own_block}
+use Rattle.mark_core.specs.Steps.SweepSteps.{own_block}
 use Rattle.mark_core.specs.Swept.{NoneHas, IsSweepingPhase, IsSwept}
 use Rattle.mark_core.specs.Laws.{EventsKeepSwept}
 use Rattle.mark_core.specs.Effects.{written, seat_after}
 use Rattle.mark_core.specs.Steps.{Core, after_event}
 use Rattle.mark_core.proofs.Acting.{Acted, found, words_left, seats_left}
 use Rattle.mark_core.proofs.Core.{acts}
-use Rattle.mark_core.proofs.Frames.{block-kept, changes_block}
-use Rattle.mark_core.proofs.Writes.{phase-kept, next_block-kept, touches_phase, touches_next_block}
-use Rattle.mark_core.proofs.RegionWrites.{marks-kept, touches_marks}
+use Rattle.mark_core.proofs.Writing.Frames.{block-kept, changes_block}
+use Rattle.mark_core.proofs.Writing.Writes.{phase-kept, next_block-kept, touches_phase, touches_next_block}
+use Rattle.mark_core.proofs.Writing.RegionWrites.{marks-kept, touches_marks}
 use Rattle.mark_core.proofs.AtSeat.{marks-length}
 use Rattle.mark_core.proofs.Pool.PoolsKept.{shape-kept}
 use Rattle.mark_core.proofs.Blocks.BlocksTaken.{Taken, within, own-record, in-place}
@@ -135,7 +135,7 @@ moves c i s Full t = outside c (words_left c s (StorePhase Full)) _ (λ e. false
 reset_phase : (c : Core) (s : SeatState) (which : ℕ) → IsSweepingPhase (words_left c s (Reset which)).phase → IsSweepingPhase (words_of c.shape c.words).phase
 reset_phase c s which e = subst IsSweepingPhase (phase-kept c.shape s (Reset which) 0 (words_of c.shape c.words) refl) e
 
--- the same before other records change
+-- a step leaves no mark in the blocks that are done, as long as only the record of its own seat changed
 swept_at : (c : Core) (i : ℕ) (s : SeatState) (step : Step) → Taken c i s step → Before c → Left c i s step
 swept_at c i s (SetMark x) t k = outside c (words_left c s (SetMark x)) _ (never_swept (words_of c.shape c.words).phase 1 2 _ (omega arith) (omega arith) (tracing c i s (SetMark x) t t.ok.1.0))
 swept_at c i s (Reset which) t k = outside c (words_left c s (Reset which)) _ (λ e. never_swept (words_of c.shape c.words).phase 0 2 _ (omega arith) (omega arith) (and_parts _ _ t.ok.0).1 (reset_phase c s which e))

@@ -3,9 +3,9 @@ use Rattle.std.proofs.Common.{ℕ, ◌≡◌, refl, Option, Some, None, false, �
 use Rattle.std.proofs.lemmas.Bool.{and_right, eqb-true, not-false, true≢false}
 use Rattle.std.specs.Prelude.{is_none}
 use Rattle.mark_core.specs.Seats.{used_in, in_set, has_used}
-use Rattle.mark_core.specs.MutatorSteps.{with_free, with_making, without_used}
+use Rattle.mark_core.specs.Steps.MutatorSteps.{with_free, with_making, without_used}
 use Rattle.mark_core.specs.Bits.{has_bit}
-use Rattle.mark_core.proofs.CellBits.{no-bit}
+use Rattle.mark_core.proofs.Writing.CellBits.{no-bit}
 use Rattle.mark_core.specs.declared.seat.CacheState.{CacheState}
 
 -- no cell is in an empty set

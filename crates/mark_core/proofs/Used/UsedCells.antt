@@ -6,16 +6,16 @@ use Rattle.mark_core.specs.Layout.{Words, words_of, address, block_count}
 use Rattle.mark_core.specs.Bits.{cell_bit, has_bit}
 use Rattle.mark_core.specs.Seats.{used_in, may_store, block_in_hand, cache_block}
 use Rattle.mark_core.specs.Strong.{IsStrongBlock}
-use Rattle.mark_core.specs.SweepSteps.{survivors, own_block}
-use Rattle.mark_core.specs.MutatorSteps.{cached_block, used_bits}
+use Rattle.mark_core.specs.Steps.SweepSteps.{survivors, own_block}
+use Rattle.mark_core.specs.Steps.MutatorSteps.{cached_block, used_bits}
 use Rattle.mark_core.specs.Effects.{written}
 use Rattle.mark_core.specs.Steps.{Core}
 use Rattle.mark_core.proofs.Blocks.BlocksTaken.{Taken, in-place, words-read}
 use Rattle.mark_core.proofs.AtSeat.{alloc-found}
 use Rattle.mark_core.proofs.Acting.{found, words_left}
 use Rattle.mark_core.proofs.HeldBlock.{MayStore, may-store, own-strong}
-use Rattle.mark_core.proofs.CellBits.{bits-grow, bits-from, bit-more, bit-either, bit-first}
-use Rattle.mark_core.proofs.RegionWrites.{allocs-kept}
+use Rattle.mark_core.proofs.Writing.CellBits.{bits-grow, bits-from, bit-more, bit-either, bit-first}
+use Rattle.mark_core.proofs.Writing.RegionWrites.{allocs-kept}
 use Rattle.mark_core.specs.declared.kinds.Step.{Step}
 use Rattle.mark_core.specs.declared.kinds.Step.TheVariants.{ReadAlloc, ReadFree, PublishCells, StoreAlloc}
 use Rattle.mark_core.specs.declared.seat.SeatState.{SeatState}

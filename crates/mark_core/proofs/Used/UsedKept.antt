@@ -12,16 +12,16 @@ use Rattle.mark_core.specs.Bits.{cell_bit, has_bit}
 use Rattle.mark_core.specs.Seats.{in_set, used_in, cache_block, is_bare, work_in_hand, empty_handed}
 use Rattle.mark_core.specs.Views.{Maker, makers, maker_of}
 use Rattle.mark_core.specs.Cells.{in_use, used_by}
-use Rattle.mark_core.specs.MutatorSteps.{cached_block, used_bits}
-use Rattle.mark_core.specs.WorldSteps.{has_nothing, other_has_nothing, may_be_joined}
+use Rattle.mark_core.specs.Steps.MutatorSteps.{cached_block, used_bits}
+use Rattle.mark_core.specs.Steps.WorldSteps.{has_nothing, other_has_nothing, may_be_joined}
 use Rattle.mark_core.specs.Start.{start_seat, spent_seat}
 use Rattle.mark_core.specs.Effects.{seat_after}
 use Rattle.mark_core.specs.Steps.{Core}
 use Rattle.mark_core.proofs.Blocks.BlocksTaken.{Taken, within, own-record, in-place, mine as own-fact}
 use Rattle.mark_core.proofs.AtSeat.{allocs-length}
 use Rattle.mark_core.proofs.Acting.{found, words_left, seats_left}
-use Rattle.mark_core.proofs.CellBits.{bit-here, bit-joined}
-use Rattle.mark_core.proofs.SomePasses.{any-set, any-unset}
+use Rattle.mark_core.proofs.Writing.CellBits.{bit-here, bit-joined}
+use Rattle.mark_core.proofs.Consequences.SomePasses.{any-set, any-unset}
 use Rattle.mark_core.proofs.Used.UsedSeats.{IsMadeBy, seat-on, seat-back}
 use Rattle.mark_core.proofs.Used.UsedCells.{frees, alloc-on, alloc-back}
 use Rattle.mark_core.proofs.Basics.{none-is}

@@ -5,11 +5,11 @@ use Rattle.std.proofs.lemmas.Bool.{true≢false, not-true, and_parts, ne_eqb, eq
 use Rattle.mark_core.specs.Layout.{Words}
 use Rattle.mark_core.specs.Bits.{has_bit, with_bit}
 use Rattle.mark_core.specs.Seats.{in_set, free_in, makes, scans, used_in, has_used, has_making}
-use Rattle.mark_core.specs.MutatorSteps.{with_making, with_made}
+use Rattle.mark_core.specs.Steps.MutatorSteps.{with_making, with_made}
 use Rattle.mark_core.specs.Effects.{seat_after}
 use Rattle.mark_core.specs.Parts.{parts}
 use Rattle.mark_core.specs.Steps.{AllTrue}
-use Rattle.mark_core.proofs.CellBits.{bit-more, no-bit, with_other}
+use Rattle.mark_core.proofs.Writing.CellBits.{bit-more, no-bit, with_other}
 use Rattle.mark_core.proofs.Used.UsedBits.{published-none, free-used, making-used, no-used, no-cache_used}
 use Rattle.mark_core.specs.declared.kinds.Shape.{Shape}
 use Rattle.mark_core.specs.declared.kinds.Step.{Step}

@@ -9,8 +9,8 @@ use Rattle.mark_core.specs.Layout.{Words, words_of}
 use Rattle.mark_core.specs.Seats.{takes_part}
 use Rattle.mark_core.specs.Views.{Standing, standings, standing_of, hands, blocks}
 use Rattle.mark_core.specs.Start.{start_seat, spent_seat}
-use Rattle.mark_core.specs.WorldRules.{World, Phases, NoneActive, is_stopped_phase}
-use Rattle.mark_core.specs.WorldSteps.{begins_exact}
+use Rattle.mark_core.specs.Rules.WorldRules.{World, Phases, NoneActive, is_stopped_phase}
+use Rattle.mark_core.specs.Steps.WorldSteps.{begins_exact}
 use Rattle.mark_core.specs.Strong.{IsStrongBlock}
 use Rattle.mark_core.specs.Parts.{parts}
 use Rattle.mark_core.specs.Effects.{written, seat_after}
@@ -19,7 +19,7 @@ use Rattle.mark_core.specs.Laws.{IsCore}
 use Rattle.mark_core.proofs.Acting.{Acted, found, words_left, seats_left}
 use Rattle.mark_core.proofs.Core.{acts}
 use Rattle.mark_core.proofs.Locals.{local-kept}
-use Rattle.mark_core.proofs.Writes.{phase-kept}
+use Rattle.mark_core.proofs.Writing.Writes.{phase-kept}
 use Rattle.mark_core.proofs.Pool.PoolsKept.{shape-kept}
 use Rattle.mark_core.proofs.World.WorldTally.{Fits}
 use Rattle.mark_core.proofs.World.WorldNumbers.{Numbers}

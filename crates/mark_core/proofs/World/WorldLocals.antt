@@ -5,8 +5,8 @@ use Rattle.std.proofs.lemmas.Bool.{cases_Bool, and_parts, not-true, true≢false
 use Rattle.mark_core.specs.Layout.{Words}
 use Rattle.mark_core.specs.Held.{holds_any}
 use Rattle.mark_core.specs.Seats.{takes_part, may_sweep, may_clear, work_in_hand, has_used, has_making, is_unread, empty_handed}
-use Rattle.mark_core.specs.ColourSteps.{may_read_field}
-use Rattle.mark_core.specs.MutatorSteps.{with_free, without_used}
+use Rattle.mark_core.specs.Steps.ColourSteps.{may_read_field}
+use Rattle.mark_core.specs.Steps.MutatorSteps.{with_free, without_used}
 use Rattle.mark_core.specs.Parts.{parts}
 use Rattle.mark_core.specs.Effects.{seat_after}
 use Rattle.mark_core.specs.Steps.{AllTrue}

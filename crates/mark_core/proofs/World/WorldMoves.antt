@@ -44,53 +44,12 @@ pub enters : (world help : ℕ) (r : Census) (x : Standing) → Stands world hel
 enters world help r x k b =
     let flagged = world_flag world help r x k in
     let other = not_bit (has_flag world) in
-    let t = k.tally in
-    let f = k.fits in
-    let o = k.others in
-    let c = k.few in
-    record {
-      fits =
-          record {
-            opened_or_alone = f.opened_or_alone;
-            knows_raised = f.knows_raised;
-            active_counted = bit-below (not (has_flag world));
-            admitted_helps = f.admitted_helps;
-            one_role = omega arith;
-          };
-      tally =
-          record {
-            world_word = omega arith;
-            one_raised = t.one_raised;
-            help_word = t.help_word;
-            admitted_stopped = t.admitted_stopped;
-            knows_stopped = λ h. omega arith;
-            alone_unhelped = t.alone_unhelped;
-          };
-      others = o;
-      few = c;
-    }
+    grind (arith, k.tally, k.fits, k.others, k.few)
 
 -- 26: the seat was counted
 pub leaves : (world help : ℕ) (r : Census) (x : Standing) → Stands world help r x → bit x.counted ≡ 1 → Stands (wrapped_difference world 1) help r (record x { counted = false; active = false })
 leaves world help r x k b =
-    let t = k.tally in
-    let f = k.fits in
-    let o = k.others in
-    let c = k.few in
-    record {
-      fits = record { opened_or_alone = omega arith; knows_raised = omega arith; active_counted = omega arith; admitted_helps = omega arith; one_role = omega arith };
-      tally =
-          record {
-            world_word = omega arith;
-            one_raised = omega arith;
-            help_word = omega arith;
-            admitted_stopped = λ h. omega arith;
-            knows_stopped = λ h. omega arith;
-            alone_unhelped = λ h. omega arith;
-          };
-      others = o;
-      few = c;
-    }
+    grind (arith, k.tally, k.fits, k.others, k.few)
 
 -- 27
 pub raises : (world help : ℕ) (r : Census) (x : Standing) → Stands world help r x → Bare x → Stands (bit_or world flag) help r (record x { raised = not (has_flag world) })
@@ -98,144 +57,36 @@ raises world help r x k b =
     let flagged = world_flag world help r x k in
     let other = not_bit (has_flag world) in
     let set = or-flag world (r.counted + bit x.counted) (r.raised + bit x.raised) k.tally.world_word (omega (arith, k.few.counted, bit-below x.counted)) k.tally.one_raised in
-    let t = k.tally in
-    let f = k.fits in
-    let o = k.others in
-    let c = k.few in
-    record {
-      fits = record { opened_or_alone = omega arith; knows_raised = omega arith; active_counted = omega arith; admitted_helps = omega arith; one_role = omega arith };
-      tally =
-          record {
-            world_word = omega arith;
-            one_raised = omega arith;
-            help_word = omega arith;
-            admitted_stopped = λ h. omega arith;
-            knows_stopped = λ h. omega arith;
-            alone_unhelped = λ h. omega arith;
-          };
-      others = o;
-      few = c;
-    }
+    grind (arith, k.tally, k.fits, k.others, k.few)
 
 -- 29: the seat knows, and is alone
 pub drops : (world help : ℕ) (r : Census) (x : Standing) → Stands world help r x → bit x.knows ≡ 1 → bit x.alone ≡ 1 → Stands (wrapped_difference world 4294967295) help r (record x { raised = false; knows = false; alone = false; counted = true; active = true })
 drops world help r x k b d =
-    let t = k.tally in
-    let f = k.fits in
-    let o = k.others in
-    let c = k.few in
-    record {
-      fits = record { opened_or_alone = omega arith; knows_raised = omega arith; active_counted = omega arith; admitted_helps = omega arith; one_role = omega arith };
-      tally =
-          record {
-            world_word = omega arith;
-            one_raised = omega arith;
-            help_word = omega arith;
-            admitted_stopped = λ h. omega arith;
-            knows_stopped = λ h. omega arith;
-            alone_unhelped = λ h. omega arith;
-          };
-      others = o;
-      few = c;
-    }
+    grind (arith, k.tally, k.fits, k.others, k.few)
 
 -- 43: the seat knows, and has not opened
 pub opens : (world help : ℕ) (r : Census) (x : Standing) → Stands world help r x → bit x.knows ≡ 1 → bit x.opened ≡ 0 → Stands world (bit_or help flag) r (record x { opened = true; alone = false })
 opens world help r x k b d =
     let set = or-flag help (r.helping + bit x.helping) (r.opened + bit x.opened) k.tally.help_word (omega (arith, k.few.helping, bit-below x.helping)) (omega (arith, k.fits, k.others, k.tally.one_raised)) in
-    let t = k.tally in
-    let f = k.fits in
-    let o = k.others in
-    let c = k.few in
-    record {
-      fits = record { opened_or_alone = omega arith; knows_raised = omega arith; active_counted = omega arith; admitted_helps = omega arith; one_role = omega arith };
-      tally =
-          record {
-            world_word = omega arith;
-            one_raised = omega arith;
-            help_word = omega arith;
-            admitted_stopped = λ h. omega arith;
-            knows_stopped = λ h. omega arith;
-            alone_unhelped = λ h. omega arith;
-          };
-      others = o;
-      few = c;
-    }
+    grind (arith, k.tally, k.fits, k.others, k.few)
 
 -- 44
 pub joins : (world help : ℕ) (r : Census) (x : Standing) → Stands world help r x → Bare x → Stands world (wrapped_sum help 1) r (record x { helping = true; admitted = has_flag help })
 joins world help r x k b =
     let flagged = help_flag world help r x k in
     let below = bit-below (has_flag help) in
-    let t = k.tally in
-    let f = k.fits in
-    let o = k.others in
-    let c = k.few in
-    record {
-      fits = record { opened_or_alone = omega arith; knows_raised = omega arith; active_counted = omega arith; admitted_helps = omega arith; one_role = omega arith };
-      tally =
-          record {
-            world_word = omega arith;
-            one_raised = omega arith;
-            help_word = omega arith;
-            admitted_stopped = λ h.
-                ⊎_elim
-                (λ (g : 0 < r.knows + bit x.knows). g)
-                (λ (g : r.knows + bit x.knows ≤ 0).
-                let none = zero_if (r.admitted + bit x.admitted) (r.knows + bit x.knows) k.tally.admitted_stopped (omega arith) in
-                absurd (omega arith))
-                (cases_lt 0 (r.knows + bit x.knows));
-            knows_stopped = λ h. omega arith;
-            alone_unhelped = λ h. omega arith;
-          };
-      others = o;
-      few = c;
-    }
+    grind (arith, k.tally, k.fits, k.others, k.few)
 
 -- 45: the seat helps
 pub leaves-help : (world help : ℕ) (r : Census) (x : Standing) → Stands world help r x → bit x.helping ≡ 1 → Stands world (wrapped_difference help 1) r (record x { helping = false; admitted = false })
 leaves-help world help r x k b =
-    let t = k.tally in
-    let f = k.fits in
-    let o = k.others in
-    let c = k.few in
-    record {
-      fits = record { opened_or_alone = omega arith; knows_raised = omega arith; active_counted = omega arith; admitted_helps = omega arith; one_role = omega arith };
-      tally =
-          record {
-            world_word = omega arith;
-            one_raised = omega arith;
-            help_word = omega arith;
-            admitted_stopped = λ h. omega arith;
-            knows_stopped = λ h. omega arith;
-            alone_unhelped = λ h. omega arith;
-          };
-      others = o;
-      few = c;
-    }
+    grind (arith, k.tally, k.fits, k.others, k.few)
 
 -- 46: the seat has opened
 pub closes : (world help : ℕ) (r : Census) (x : Standing) → Stands world help r x → bit x.opened ≡ 1 → Stands world (wrapped_difference help flag) r (record x { opened = false })
 closes world help r x k b =
     let below = bit-below x.helping in
-    let t = k.tally in
-    let f = k.fits in
-    let o = k.others in
-    let c = k.few in
-    record {
-      fits = record { opened_or_alone = omega arith; knows_raised = omega arith; active_counted = omega arith; admitted_helps = omega arith; one_role = omega arith };
-      tally =
-          record {
-            world_word = omega arith;
-            one_raised = omega arith;
-            help_word = omega arith;
-            admitted_stopped = λ h. omega arith;
-            knows_stopped = λ h. omega arith;
-            alone_unhelped = λ h. omega arith;
-          };
-      others = o;
-      few = c;
-    }
+    grind (arith, k.tally, k.fits, k.others, k.few)
 
 -- 28: the seat that raised the flag finds no seat counted
 pub observes : (world help : ℕ) (r : Census) (x : Standing) → Stands world help r x → world ≡ flag → bit x.raised ≡ 1 → bit x.knows ≡ 0 → Stands world help r (record x { knows = true; alone = true })
@@ -243,43 +94,9 @@ observes world help r x k e b d =
     let least = k.tally.one_raised in
     let fewer = k.others.knows_raised in
     let none = zero_if (r.admitted + bit x.admitted) (r.knows + bit x.knows) k.tally.admitted_stopped (omega arith) in
-    let t = k.tally in
-    let f = k.fits in
-    let o = k.others in
-    let c = k.few in
-    record {
-      fits = record { opened_or_alone = omega arith; knows_raised = omega arith; active_counted = omega arith; admitted_helps = omega arith; one_role = omega arith };
-      tally =
-          record {
-            world_word = omega arith;
-            one_raised = omega arith;
-            help_word = omega arith;
-            admitted_stopped = λ h. omega arith;
-            knows_stopped = λ h. omega arith;
-            alone_unhelped = λ h. omega arith;
-          };
-      others = o;
-      few = c;
-    }
+    grind (arith, k.tally, k.fits, k.others, k.few)
 
 -- 47: the seat knows, has not opened, and finds no seat helping
 pub sees : (world help : ℕ) (r : Census) (x : Standing) → Stands world help r x → help ≡ 0 → bit x.knows ≡ 1 → bit x.opened ≡ 0 → Stands world help r (record x { alone = true })
 sees world help r x k e b d =
-    let t = k.tally in
-    let f = k.fits in
-    let o = k.others in
-    let c = k.few in
-    record {
-      fits = record { opened_or_alone = omega arith; knows_raised = omega arith; active_counted = omega arith; admitted_helps = omega arith; one_role = omega arith };
-      tally =
-          record {
-            world_word = omega arith;
-            one_raised = omega arith;
-            help_word = omega arith;
-            admitted_stopped = λ h. omega arith;
-            knows_stopped = λ h. omega arith;
-            alone_unhelped = λ h. omega arith;
-          };
-      others = o;
-      few = c;
-    }
+    grind (arith, k.tally, k.fits, k.others, k.few)

@@ -10,15 +10,15 @@ use Rattle.mark_core.specs.Layout.{Words, words_of}
 use Rattle.mark_core.specs.Held.{holds_any}
 use Rattle.mark_core.specs.Seats.{is_bare}
 use Rattle.mark_core.specs.Views.{Standing, standings, standing_of, some_knows}
-use Rattle.mark_core.specs.WorldSteps.{may_be_joined}
-use Rattle.mark_core.specs.WorldRules.{is_stopped_phase}
+use Rattle.mark_core.specs.Steps.WorldSteps.{may_be_joined}
+use Rattle.mark_core.specs.Rules.WorldRules.{is_stopped_phase}
 use Rattle.mark_core.specs.Start.{start_seat, spent_seat}
 use Rattle.mark_core.specs.Parts.{parts}
 use Rattle.mark_core.specs.Effects.{written, seat_after}
 use Rattle.mark_core.specs.Steps.{Core, AllTrue}
 use Rattle.mark_core.proofs.Acting.{found, words_left, seats_left}
 use Rattle.mark_core.proofs.Locals.{local-kept}
-use Rattle.mark_core.proofs.Writes.{touches_phase}
+use Rattle.mark_core.proofs.Writing.Writes.{touches_phase}
 use Rattle.mark_core.proofs.Count.CountTests.{bit}
 use Rattle.mark_core.proofs.World.WorldTally.{census-set, census-now, nowhere, Fits}
 use Rattle.mark_core.proofs.World.WorldMoves.{Bare}

@@ -9,19 +9,19 @@ use Rattle.mark_core.specs.Layout.{Words, words_of}
 use Rattle.mark_core.specs.Bits.{has_bit}
 use Rattle.mark_core.specs.Held.{holds_any}
 use Rattle.mark_core.specs.Views.{Standing, standings, standing_of, some_knows}
-use Rattle.mark_core.specs.WorldRules.{is_tracing, is_resting, NoneActive, NoneAdmitted}
-use Rattle.mark_core.specs.WorldSteps.{phase_after, none_marked}
+use Rattle.mark_core.specs.Rules.WorldRules.{is_tracing, is_resting, NoneActive, NoneAdmitted}
+use Rattle.mark_core.specs.Steps.WorldSteps.{phase_after, none_marked}
 use Rattle.mark_core.specs.Parts.{parts}
 use Rattle.mark_core.specs.Steps.{Core, AllTrue}
 use Rattle.mark_core.specs.WellFormed.{IsWellFormed}
 use Rattle.mark_core.specs.Laws.{ArePacketsSound}
 use Rattle.mark_core.proofs.Count.CountTests.{follows}
-use Rattle.mark_core.proofs.QuietReading.{quiet-hands, quiet-heads}
+use Rattle.mark_core.proofs.Consequences.QuietReading.{quiet-hands, quiet-heads}
 use Rattle.mark_core.proofs.World.WorldReading.{StandsRight, passes-any, any-passes, some-passes, passes-counted, at-standing}
 use Rattle.mark_core.proofs.World.WorldSights.{Sees}
 use Rattle.mark_core.proofs.World.WorldPhases.{InPhase, IsWhite, IsStill}
 use Rattle.mark_core.proofs.World.WorldPhaseKept.{knowers-set}
-use Rattle.mark_core.proofs.CellBits.{no-bit}
+use Rattle.mark_core.proofs.Writing.CellBits.{no-bit}
 use Rattle.mark_core.proofs.Basics.{all-zero}
 use Rattle.mark_core.specs.declared.kinds.Phase.{Phase}
 use Rattle.mark_core.specs.declared.kinds.Phase.TheVariants.{Idle, Marking, Drain, Sweep, Clear, Full}

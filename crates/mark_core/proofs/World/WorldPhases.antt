@@ -11,16 +11,16 @@ use Rattle.mark_core.specs.Bits.{cell_bit, has_bit}
 use Rattle.mark_core.specs.Held.{holds_any}
 use Rattle.mark_core.specs.Seats.{is_phase}
 use Rattle.mark_core.specs.Views.{standings, hands, some_knows}
-use Rattle.mark_core.specs.WorldRules.{Phases, is_tracing, is_stopped_phase, is_resting}
+use Rattle.mark_core.specs.Rules.WorldRules.{Phases, is_tracing, is_stopped_phase, is_resting}
 use Rattle.mark_core.specs.Parts.{parts}
 use Rattle.mark_core.specs.Effects.{written}
 use Rattle.mark_core.specs.Steps.{Core, AllTrue}
-use Rattle.mark_core.proofs.Regions.{words-get}
+use Rattle.mark_core.proofs.Writing.Regions.{words-get}
 use Rattle.mark_core.proofs.Acting.{found, words_left}
-use Rattle.mark_core.proofs.RegionWrites.{marks-kept}
+use Rattle.mark_core.proofs.Writing.RegionWrites.{marks-kept}
 use Rattle.mark_core.proofs.World.WorldSights.{Sees, traces-in}
 use Rattle.mark_core.proofs.World.WorldQuiet.{lengths-of-heads}
-use Rattle.mark_core.proofs.CellBits.{no-bit}
+use Rattle.mark_core.proofs.Writing.CellBits.{no-bit}
 use Rattle.mark_core.specs.declared.kinds.Shape.{Shape}
 use Rattle.mark_core.specs.declared.kinds.Phase.TheVariants.{Sweep}
 use Rattle.mark_core.specs.declared.kinds.Step.{Step}

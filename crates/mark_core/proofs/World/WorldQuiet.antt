@@ -7,12 +7,12 @@ use Rattle.std.proofs.lemmas.List.Elements.{All-head, All-tail}
 use Rattle.mark_core.specs.Layout.{Words, put_word}
 use Rattle.mark_core.specs.Held.{Slots, holds, holds_any}
 use Rattle.mark_core.specs.Cells.{length_among, packet_length}
-use Rattle.mark_core.specs.WorldRules.{is_tracing}
+use Rattle.mark_core.specs.Rules.WorldRules.{is_tracing}
 use Rattle.mark_core.specs.Parts.{parts}
 use Rattle.mark_core.specs.Effects.{place, seat_after}
 use Rattle.mark_core.specs.Steps.{AllTrue}
 use Rattle.mark_core.proofs.Known.{unheld-unknown}
-use Rattle.mark_core.proofs.RegionWrites.{heads-kept}
+use Rattle.mark_core.proofs.Writing.RegionWrites.{heads-kept}
 use Rattle.mark_core.proofs.Pool.PoolSlots.{any-held, none-held}
 use Rattle.mark_core.proofs.World.WorldSights.{Sees, traces-in}
 use Rattle.mark_core.specs.declared.kinds.Shape.{Shape}

@@ -8,7 +8,7 @@ use Rattle.std.proofs.lemmas.List.Elements.{All-map}
 use Rattle.std.proofs.lemmas.List.Sums.{get_or-le-sum_by}
 use Rattle.mark_core.specs.Bits.{flag_where}
 use Rattle.mark_core.specs.Views.{Standing, standings, standing_of, some_knows}
-use Rattle.mark_core.specs.WorldRules.{World, NoneActive, NoneAdmitted, HelpsOnly, is_counted, is_raised, is_helping, is_opened}
+use Rattle.mark_core.specs.Rules.WorldRules.{World, NoneActive, NoneAdmitted, HelpsOnly, is_counted, is_raised, is_helping, is_opened}
 use Rattle.mark_core.specs.Strong.{IsStrongSeat}
 use Rattle.mark_core.proofs.Count.CountTests.{bit, bit-below, bit-zero}
 use Rattle.mark_core.proofs.Count.CountRange.{count-cons, count-none}

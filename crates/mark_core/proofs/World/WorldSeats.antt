@@ -15,7 +15,7 @@ use Rattle.mark_core.specs.declared.seat.SeatState.{SeatState}
 abbrev pub HasNothing : Shape → SeatState → Type 0
 HasNothing sh s = IsFalse (holds_any s.held) × IsFalse s.reserved × IsFalse s.credit × IsFalse (work_in_hand sh.fields s) × (s.cache ≡ None) × (s.block ≡ None)
 
--- the same facts of one seat, by its fields
+-- what the rule of the world says of one seat outside, inactive or admitted, by the fields of its record
 pub record Local (sh : Shape) (s : SeatState) : Type 0 where
   pub outside : IsFalse (takes_part s) → HasNothing sh s
   pub calm : IsFalse s.active → (s.owes ≡ None) × IsFalse (has_used s.cache) × IsFalse (has_making s.cache) × (s.got ≡ 0)

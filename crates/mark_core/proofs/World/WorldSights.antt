@@ -4,13 +4,13 @@ use Rattle.std.specs.Prelude.{IsTrue, IfSome}
 use Rattle.std.proofs.lemmas.Bool.{and_parts, or_cases, eqb-true, true≢false, false≢true}
 use Rattle.mark_core.specs.Layout.{Words}
 use Rattle.mark_core.specs.Seats.{takes_part, may_trace, is_phase, saw, phase_number, phase_of}
-use Rattle.mark_core.specs.WorldRules.{is_tracing}
+use Rattle.mark_core.specs.Rules.WorldRules.{is_tracing}
 use Rattle.mark_core.specs.Views.{standing_of}
 use Rattle.mark_core.specs.Parts.{parts}
 use Rattle.mark_core.specs.Effects.{seat_after}
 use Rattle.mark_core.specs.Steps.{AllTrue}
 use Rattle.mark_core.proofs.World.WorldTally.{Fits}
-use Rattle.mark_core.proofs.Writes.{touches_phase}
+use Rattle.mark_core.proofs.Writing.Writes.{touches_phase}
 use Rattle.mark_core.proofs.World.WorldSeats.{Local, bare-out}
 use Rattle.mark_core.specs.declared.kinds.Shape.{Shape}
 use Rattle.mark_core.specs.declared.kinds.Phase.{Phase}

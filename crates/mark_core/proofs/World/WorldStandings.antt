@@ -9,14 +9,14 @@ use Rattle.mark_core.specs.Places.{the_help}
 use Rattle.mark_core.specs.Seats.{is_bare}
 use Rattle.mark_core.specs.Views.{standings, standing_of}
 use Rattle.mark_core.specs.Start.{start_seat, spent_seat}
-use Rattle.mark_core.specs.WorldSteps.{may_be_joined}
+use Rattle.mark_core.specs.Steps.WorldSteps.{may_be_joined}
 use Rattle.mark_core.specs.Parts.{parts}
 use Rattle.mark_core.specs.Effects.{place, written, seat_after}
 use Rattle.mark_core.specs.Steps.{Core, AllTrue, others_after}
-use Rattle.mark_core.proofs.Regions.{words-get}
+use Rattle.mark_core.proofs.Writing.Regions.{words-get}
 use Rattle.mark_core.proofs.Acting.{found}
-use Rattle.mark_core.proofs.Frames.{changes_standing, standing-kept, projection-kept}
-use Rattle.mark_core.proofs.Writes.{touches_world, touches_help, world-kept, help-kept}
+use Rattle.mark_core.proofs.Writing.Frames.{changes_standing, standing-kept, projection-kept}
+use Rattle.mark_core.proofs.Writing.Writes.{touches_world, touches_help, world-kept, help-kept}
 use Rattle.mark_core.proofs.Count.CountTests.{bit}
 use Rattle.mark_core.proofs.World.WorldTally.{others}
 use Rattle.mark_core.proofs.World.WorldMoves.{Stands, enters, leaves, raises, drops, opens, joins, leaves-help, closes}

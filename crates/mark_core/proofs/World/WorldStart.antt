@@ -12,7 +12,7 @@ use Rattle.mark_core.specs.Bits.{has_bit}
 use Rattle.mark_core.specs.Held.{holds_any}
 use Rattle.mark_core.specs.Views.{Standing, standings, standing_of}
 use Rattle.mark_core.specs.Start.{start_words, start_seats, full_pool, packet_bits}
-use Rattle.mark_core.proofs.Regions.{words-get}
+use Rattle.mark_core.proofs.Writing.Regions.{words-get}
 use Rattle.mark_core.proofs.Count.CountRange.{count-none}
 use Rattle.mark_core.proofs.Pool.PoolStart.{in-gap, past-gap, no-head, each-seat, gap, singles, tail_words}
 use Rattle.mark_core.proofs.World.WorldTally.{nowhere, nowhere-fits, Fits}
@@ -23,8 +23,8 @@ use Rattle.mark_core.proofs.World.WorldSights.{Sees}
 use Rattle.mark_core.proofs.World.WorldPhases.{IsWhite}
 use Rattle.mark_core.proofs.World.WorldPhaseKept.{new-sees}
 use Rattle.mark_core.proofs.World.WorldKept.{WorldSound, together, new-local}
-use Rattle.mark_core.proofs.CellBits.{no-bit}
-use Rattle.mark_core.proofs.Ranges.{block-exists}
+use Rattle.mark_core.proofs.Writing.CellBits.{no-bit}
+use Rattle.mark_core.proofs.Writing.Ranges.{block-exists}
 use Rattle.mark_core.specs.declared.kinds.Shape.{Shape}
 use Rattle.mark_core.specs.declared.seat.SeatState.{SeatState}
 

@@ -32,7 +32,7 @@ census ss =
       alone = count_by (λ (s : Standing). s.alone) ss;
     }
 
--- the same with one seat more
+-- the counts with one seat more
 abbrev pub plus : Census → Standing → Census
 plus r x =
     record {

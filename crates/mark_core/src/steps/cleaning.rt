@@ -1,9 +1,9 @@
 //! A card that a seat cleared, and what becomes of its cells as the seat reads their bits.
 ghost use Rattle.std.specs.Prelude.{◌≡◌};
-ghost use Rattle.mark_core.specs.ColourSteps.{seen_in as seen_in_of, cleaning_after as cleaning_after_of, without_cell as without_cell_of, redirty_off as redirty_off_of, known_in as known_in_of};
+ghost use Rattle.mark_core.specs.Steps.ColourSteps.{seen_in as seen_in_of, cleaning_after as cleaning_after_of, without_cell as without_cell_of, redirty_off as redirty_off_of, known_in as known_in_of};
 
 use crate::bits;
-use crate::cards::{block_of_card, card_bits};
+use crate::cards::{BLOCK_CELLS, block_of_card, card_bits};
 use crate::kinds::Cell;
 use crate::seat::Cleaning;
 
@@ -34,9 +34,9 @@ pub fn without_cell(cleaning: &mut Option<Cleaning>, c: Cell)
     ensures { cleaning.new ≡ without_cell_of cleaning.old c }
 {
     if let Some(x) = cleaning {
-        if block_of_card(x.card) == c.number() / 64 {
-            x.left = bits::without_bit(x.left, c.number() % 64);
-            x.published = bits::without_bit(x.published, c.number() % 64);
+        if block_of_card(x.card) == c.number() / BLOCK_CELLS {
+            x.left = bits::without_bit(x.left, c.number() % BLOCK_CELLS);
+            x.published = bits::without_bit(x.published, c.number() % BLOCK_CELLS);
         }
     }
 }

@@ -1,11 +1,11 @@
 //! The steps of tracing. They turn white cells grey and grey cells black, and clean cards.
 ghost use Rattle.std.specs.Prelude.{◌≡◌, ◌<◌, ◌+◌, if◌then◌else◌};
 ghost use Rattle.mark_core.specs.Bits.{cell_named};
-ghost use Rattle.mark_core.specs.ColourSteps.{without_cell, redirty_off, popped_after as popped_after_of, scan_after as scan_after_of, with_alloc_word as with_alloc_word_of, fresh_off as fresh_off_of, popped_off as popped_off_of, read_alloc_parts, read_alloc_effect, read_field_parts, read_root_parts, set_mark_parts, set_mark_effect, dirty_card_parts, clear_card_parts, clear_card_effect, read_marks_parts, read_marks_effect, read_card_parts, read_phase_effect};
+ghost use Rattle.mark_core.specs.Steps.ColourSteps.{without_cell, redirty_off, popped_after as popped_after_of, scan_after as scan_after_of, with_alloc_word as with_alloc_word_of, fresh_off as fresh_off_of, popped_off as popped_off_of, read_alloc_parts, read_alloc_effect, read_field_parts, read_root_parts, set_mark_parts, set_mark_effect, dirty_card_parts, clear_card_parts, clear_card_effect, read_marks_parts, read_marks_effect, read_card_parts, read_phase_effect};
 ghost use Rattle.mark_core.specs.Seats.{is_the as is_the_number};
 ghost use Rattle.mark_core.specs.Steps.{first_false as first_false_of};
 
-use crate::cards::card_of;
+use crate::cards::{BLOCK_CELLS, card_of};
 use crate::kinds::{Cell, Shape};
 use crate::layout::{block_count, card_count};
 use crate::parts::first_false;
@@ -20,8 +20,8 @@ fn scan_popped(popped: &mut Option<(Cell, bool)>, scan: &mut Option<(Cell, u8)>,
     ensures scan { scan.new ≡ scan_after_of popped.old scan.old b word }
 {
     if let Some(x) = *popped {
-        if x.0.number() / 64 == b {
-            if bits::has_bit(word, x.0.number() % 64) {
+        if x.0.number() / BLOCK_CELLS == b {
+            if bits::has_bit(word, x.0.number() % BLOCK_CELLS) {
                 *popped = None;
                 *scan = Some((x.0, 0));
             } else {
@@ -41,14 +41,14 @@ fn with_alloc_word(block: &mut Option<BlockState>, b: u32, word: u64)
     }
 }
 
-/// The least part of the condition of kind 9 that fails, if one does.
+/// Kind 9: a cell that a seat outside saw published could be freed before the seat's next step.
 pub fn check_read_alloc(shape: &Shape, s: &SeatState, b: u32) -> Option<u8>
     ensures { result ≡ first_false_of 1 (read_alloc_parts shape.now s.now b) }
 {
     first_false(&[b < block_count(shape) && takes_part(s)])
 }
 
-/// What kind 9 makes of the seat's record, and what it leaves in the word.
+/// Kind 9: a popped cell of the block is in scan where its bit is set, and else known to be unpublished; of a cleaning the published cells alone are left; a block in hand keeps the word.
 pub fn read_alloc(s: &mut SeatState, b: u32, old: u64) -> u64
     ensures word { result ≡ (read_alloc_effect s.old b).written old }
     ensures seat { s.new ≡ (read_alloc_effect s.old b).seat old }
@@ -59,7 +59,7 @@ pub fn read_alloc(s: &mut SeatState, b: u32, old: u64) -> u64
     old
 }
 
-/// The least part of the condition of kind 10 that fails, if one does.
+/// Kind 10: a field that was passed over could hide a white cell, and a cell that isn't published is still being written.
 pub fn check_read_field(shape: &Shape, s: &SeatState, c: Cell, i: u8) -> Option<u8>
     ensures { result ≡ first_false_of 1 (read_field_parts shape.now s.now c i) }
 {
@@ -83,7 +83,7 @@ fn load(value: &mut Option<Cell>, word: u64)
     }
 }
 
-/// What kind 10 makes of the seat's record, and what it leaves in the word.
+/// Kind 10: the next field is due, the cell is no longer left in the cleaning, and what the field names is the value in hand.
 pub fn read_field(s: &mut SeatState, c: Cell, i: u8, old: u64) -> u64
     requires { i < 255 }
     ensures word { result ≡ old }
@@ -95,7 +95,7 @@ pub fn read_field(s: &mut SeatState, c: Cell, i: u8, old: u64) -> u64
     old
 }
 
-/// The least part of the condition of kind 10 that fails, if one does.
+/// Kind 10: what a root names is work, which shows in the count only where the seat holds a packet.
 pub fn check_read_root(shape: &Shape, phase: u64, s: &SeatState, section: u32, v: u8) -> Option<u8>
     ensures { result ≡ first_false_of 1 (read_root_parts shape.now phase s.now section v) }
 {
@@ -105,7 +105,7 @@ pub fn check_read_root(shape: &Shape, phase: u64, s: &SeatState, section: u32, v
     ])
 }
 
-/// What kind 10 makes of the seat's record, and what it leaves in the word.
+/// Kind 10: what the root names is the value in hand.
 pub fn read_root(s: &mut SeatState, old: u64) -> u64
     ensures word { result ≡ old }
     ensures seat { s.new ≡ record s.old { value = cell_named old } }
@@ -114,7 +114,7 @@ pub fn read_root(s: &mut SeatState, old: u64) -> u64
     old
 }
 
-/// The least part of the condition of kind 11 that fails, if one does.
+/// Kind 11: outside Marking and Drain a marked cell would never be scanned, and one to which nothing refers would be kept.
 pub fn check_set_mark(shape: &Shape, phase: u64, s: &SeatState, c: Cell) -> Option<u8>
     ensures { result ≡ first_false_of 1 (set_mark_parts shape.now phase s.now c) }
 {
@@ -124,16 +124,16 @@ pub fn check_set_mark(shape: &Shape, phase: u64, s: &SeatState, c: Cell) -> Opti
     ])
 }
 
-/// What kind 11 makes of the seat's record, and what it leaves in the word.
+/// Kind 11: the value is gone, and the cell is fresh where its bit was clear. The bit is set.
 pub fn set_mark(s: &mut SeatState, c: Cell, old: u64) -> u64
     ensures word { result ≡ (set_mark_effect s.old c).written old }
     ensures seat { s.new ≡ (set_mark_effect s.old c).seat old }
 {
     s.value = None;
-    if !bits::has_bit(old, c.number() % 64) {
+    if !bits::has_bit(old, c.number() % BLOCK_CELLS) {
         s.fresh = Some(c);
     }
-    bits::with_bit(old, c.number() % 64)
+    bits::with_bit(old, c.number() % BLOCK_CELLS)
 }
 
 #[inline(always)]
@@ -158,7 +158,7 @@ fn popped_off(popped: &mut Option<(Cell, bool)>, card: u32)
     }
 }
 
-/// The least part of the condition of kind 12 that fails, if one does.
+/// Kind 12: a seat outside could dirty a card that was seen clean in a stop.
 pub fn check_dirty_card(shape: &Shape, s: &SeatState, card: u32) -> Option<u8>
     ensures { result ≡ first_false_of 1 (dirty_card_parts shape.now s.now card) }
 {
@@ -180,7 +180,7 @@ pub fn dirty_card(s: &mut SeatState, card: u32) -> u64
     1
 }
 
-/// The least part of the condition of kind 13 that fails, if one does.
+/// Kind 13: the cells of a cleared card are work, which shows in the count only where the seat holds a packet.
 pub fn check_clear_card(shape: &Shape, phase: u64, s: &SeatState, card: u32) -> Option<u8>
     ensures { result ≡ first_false_of 1 (clear_card_parts shape.now phase s.now card) }
 {
@@ -190,7 +190,7 @@ pub fn check_clear_card(shape: &Shape, phase: u64, s: &SeatState, card: u32) -> 
     ])
 }
 
-/// What kind 13 makes of the seat's record, and what it leaves in the word.
+/// Kind 13: where the card was dirty the seat cleans it, and doesn't know its marked cells yet. The card is clean.
 pub fn clear_card(s: &mut SeatState, card: u32, old: u64) -> u64
     ensures word { result ≡ (clear_card_effect s.old card).written old }
     ensures seat { s.new ≡ (clear_card_effect s.old card).seat old }
@@ -207,14 +207,14 @@ pub fn clear_card(s: &mut SeatState, card: u32, old: u64) -> u64
     0
 }
 
-/// The least part of the condition of kind 14 that fails, if one does.
+/// Kind 14: marks that a seat outside saw could be cleared before the seat's next step.
 pub fn check_read_marks(shape: &Shape, s: &SeatState, b: u32) -> Option<u8>
     ensures { result ≡ first_false_of 1 (read_marks_parts shape.now s.now b) }
 {
     first_false(&[b < block_count(shape) && takes_part(s)])
 }
 
-/// What kind 14 makes of the seat's record, and what it leaves in the word.
+/// Kind 14: a cleaning of a card of this block, whose cells weren't known, has the marked ones left to scan.
 pub fn read_marks(s: &mut SeatState, b: u32, old: u64) -> u64
     ensures word { result ≡ (read_marks_effect s.old b).written old }
     ensures seat { s.new ≡ (read_marks_effect s.old b).seat old }
@@ -223,14 +223,14 @@ pub fn read_marks(s: &mut SeatState, b: u32, old: u64) -> u64
     old
 }
 
-/// The least part of the condition of kind 15 that fails, if one does.
+/// Kind 15: there has to be such a card.
 pub fn check_read_card(shape: &Shape, card: u32) -> Option<u8>
     ensures { result ≡ first_false_of 1 (read_card_parts shape.now card) }
 {
     first_false(&[card < card_count(shape)])
 }
 
-/// What kind 16 makes of the seat's record, and what it leaves in the word.
+/// Kind 16: a seat that takes part keeps the phase as read.
 pub fn read_phase(s: &mut SeatState, old: u64) -> u64
     ensures word { result ≡ (read_phase_effect s.old).written old }
     ensures seat { s.new ≡ (read_phase_effect s.old).seat old }

@@ -1,6 +1,6 @@
 //! The steps by which the seat that stopped the world admits helpers.
 ghost use Rattle.std.specs.Prelude.{◌≡◌};
-ghost use Rattle.mark_core.specs.HelpSteps.{open_parts, open_effect, join_help_parts, join_help_effect, leave_help_parts, leave_help_effect, close_parts, close_effect, see_help_effect};
+ghost use Rattle.mark_core.specs.Steps.HelpSteps.{open_parts, open_effect, join_help_parts, join_help_effect, leave_help_parts, leave_help_effect, close_parts, close_effect, see_help_effect};
 ghost use Rattle.mark_core.specs.Steps.{first_false as first_false_of};
 
 use crate::kinds::{Phase, Shape};
@@ -9,7 +9,7 @@ use crate::seat::SeatState;
 use crate::standing::{is_bare, is_phase};
 use crate::{bits, hand};
 
-/// The least part of the condition of kind 43 that fails, if one does.
+/// Kind 43: one seat opens help, once, and in Drain and Sweep alone there is work to share.
 pub fn check_open(phase: u64, s: &SeatState) -> Option<u8>
     ensures { result ≡ first_false_of 1 (open_parts phase s.now) }
 {
@@ -19,7 +19,7 @@ pub fn check_open(phase: u64, s: &SeatState) -> Option<u8>
     ])
 }
 
-/// What kind 43 makes of the seat's record, and what it leaves in the word.
+/// Kind 43: help is open, and the seat isn't alone.
 pub fn open_help(s: &mut SeatState, old: u64) -> u64
     ensures word { result ≡ (open_effect s.old).written old }
     ensures seat { s.new ≡ (open_effect s.old).seat old }
@@ -29,14 +29,14 @@ pub fn open_help(s: &mut SeatState, old: u64) -> u64
     old | bits::FLAG
 }
 
-/// The least part of the condition of kind 44 that fails, if one does.
+/// Kind 44: a seat that is in the world already, or in its own stop, or among the helpers, would be in two places.
 pub fn check_join_help(s: &SeatState) -> Option<u8>
     ensures { result ≡ first_false_of 1 (join_help_parts s.now) }
 {
     first_false(&[is_bare(s)])
 }
 
-/// What kind 44 makes of the seat's record, and what it leaves in the word.
+/// Kind 44: the seat is counted among the helpers, and admitted where help was open.
 pub fn join_help(s: &mut SeatState, old: u64) -> u64
     ensures word { result ≡ (join_help_effect s.old).written old }
     ensures seat { s.new ≡ (join_help_effect s.old).seat old }
@@ -46,7 +46,7 @@ pub fn join_help(s: &mut SeatState, old: u64) -> u64
     old.wrapping_add(1)
 }
 
-/// The least part of the condition of kind 45 that fails, if one does.
+/// Kind 45: what a helper kept in hand would be hidden from the seat that waits until none is left.
 pub fn check_leave_help(shape: &Shape, s: &SeatState) -> Option<u8>
     ensures { result ≡ first_false_of 1 (leave_help_parts shape.now s.now) }
 {
@@ -57,7 +57,7 @@ pub fn check_leave_help(shape: &Shape, s: &SeatState) -> Option<u8>
     ])
 }
 
-/// What kind 45 makes of the seat's record, and what it leaves in the word.
+/// Kind 45: the seat is outside, and has read no phase.
 pub fn leave_help(s: &mut SeatState, old: u64) -> u64
     ensures word { result ≡ (leave_help_effect s.old).written old }
     ensures seat { s.new ≡ (leave_help_effect s.old).seat old }
@@ -68,14 +68,14 @@ pub fn leave_help(s: &mut SeatState, old: u64) -> u64
     old.wrapping_sub(1)
 }
 
-/// The least part of the condition of kind 46 that fails, if one does.
+/// Kind 46: the flag is that of the seat which opened help.
 pub fn check_close(s: &SeatState) -> Option<u8>
     ensures { result ≡ first_false_of 1 (close_parts s.now) }
 {
     first_false(&[s.opened])
 }
 
-/// What kind 46 makes of the seat's record, and what it leaves in the word.
+/// Kind 46: help is closed. Helpers may still be there.
 pub fn close_help(s: &mut SeatState, old: u64) -> u64
     ensures word { result ≡ (close_effect s.old).written old }
     ensures seat { s.new ≡ (close_effect s.old).seat old }

@@ -1,8 +1,10 @@
 //! The steps by which a seat makes cells: it takes a block, fills free cells of it, and publishes them.
 ghost use Rattle.std.specs.Prelude.{◌≡◌, ◌<◌, ◌+◌, ◌*◌, nat_le, if◌then◌else◌};
-ghost use Rattle.mark_core.specs.MutatorSteps.{claim_block_parts, claim_block_effect, cached_block as cached_block_of, release_block_parts, with_free as with_free_of, read_free_parts, read_free_effect, is_next_part as is_next_part_of, fits_part as fits_part_of, with_making as with_making_of, with_made as with_made_of, store_new_parts, used_bits as used_bits_of, without_used as without_used_of, publish_cells_parts, publish_cells_effect};
+ghost use Rattle.mark_core.specs.Bits.{flag};
+ghost use Rattle.mark_core.specs.Steps.MutatorSteps.{claim_block_parts, claim_block_effect, cached_block as cached_block_of, release_block_parts, with_free as with_free_of, read_free_parts, read_free_effect, is_next_part as is_next_part_of, fits_part as fits_part_of, with_making as with_making_of, with_made as with_made_of, store_new_parts, used_bits as used_bits_of, without_used as without_used_of, publish_cells_parts, publish_cells_effect};
 ghost use Rattle.mark_core.specs.Steps.{first_false as first_false_of};
 
+use crate::cards::BLOCK_CELLS;
 use crate::kinds::{Cell, Phase, Shape};
 use crate::layout::block_count;
 use crate::parts::first_false;
@@ -10,7 +12,7 @@ use crate::seat::{CacheState, SeatState};
 use crate::standing::{is_phase, may_mutate};
 use crate::{bits, hand};
 
-/// The least part of the condition of kind 20 that fails, if one does.
+/// Kind 20: a sweep stores the allocation word whole, so cells that are made meanwhile would be lost.
 pub fn check_claim_block(shape: &Shape, phase: u64, s: &SeatState, b: u32) -> Option<u8>
     ensures { result ≡ first_false_of 1 (claim_block_parts shape.now phase s.now b) }
 {
@@ -21,7 +23,7 @@ pub fn check_claim_block(shape: &Shape, phase: u64, s: &SeatState, b: u32) -> Op
     ])
 }
 
-/// What kind 20 makes of the seat's record, and what it leaves in the word.
+/// Kind 20: where nobody had the block it is the seat's cache, whose free cells weren't read yet, and the word says so.
 pub fn claim_block(s: &mut SeatState, b: u32, old: u64) -> u64
     ensures word { result ≡ (claim_block_effect s.old b).written old }
     ensures seat { s.new ≡ (claim_block_effect s.old b).seat old }
@@ -51,7 +53,7 @@ pub fn cached_block(s: &SeatState) -> u32
     }
 }
 
-/// The least part of the condition of kind 21 that fails, if one does.
+/// Kind 21: a cell that is made and not published would be in use and nobody's.
 pub fn check_release_block(s: &SeatState) -> Option<u8>
     ensures { result ≡ first_false_of 1 (release_block_parts s.now) }
 {
@@ -61,7 +63,7 @@ pub fn check_release_block(s: &SeatState) -> Option<u8>
     ])
 }
 
-/// What kind 21 makes of the seat's record, and what it leaves in the word.
+/// Kind 21: the seat has no cache, and the block has no owner.
 pub fn release_block(s: &mut SeatState) -> u64
     ensures word { result ≡ 0 }
     ensures seat { s.new ≡ record s.old { cache = None } }
@@ -80,14 +82,14 @@ fn with_free(cache: &mut Option<CacheState>, word: u64)
     }
 }
 
-/// The least part of the condition of kind 22 that fails, if one does.
+/// Kind 22: read a second time, the cells that the seat made would seem free.
 pub fn check_read_free(s: &SeatState) -> Option<u8>
     ensures { result ≡ first_false_of 1 (read_free_parts s.now) }
 {
     first_false(&[hand::is_unread(s.cache)])
 }
 
-/// What kind 22 makes of the seat's record, and what it leaves in the word.
+/// Kind 22: the free cells of the cache are known.
 pub fn read_free(s: &mut SeatState, old: u64) -> u64
     ensures word { result ≡ (read_free_effect s.old).written old }
     ensures seat { s.new ≡ (read_free_effect s.old).seat old }
@@ -109,7 +111,7 @@ fn is_next_part(s: &SeatState, c: Cell, part: u8) -> bool
 
 /// The section and the number of the seat's next cell, where the seat has a section.
 fn identity_of(section: u32, number: u32) -> u64
-    ensures { result ≡ section * 4294967296 + number }
+    ensures { result ≡ section * flag + number }
 {
     u64::from(section) * bits::FLAG + u64::from(number)
 }
@@ -144,14 +146,14 @@ fn with_made(cache: &mut Option<CacheState>, c: Cell)
     ensures { cache.new ≡ with_made_of cache.old c }
 {
     if let Some(x) = cache {
-        x.free = bits::without_bit(x.free, c.number() % 64);
-        x.used = bits::with_bit(x.used, c.number() % 64);
+        x.free = bits::without_bit(x.free, c.number() % BLOCK_CELLS);
+        x.used = bits::with_bit(x.used, c.number() % BLOCK_CELLS);
         x.making = None;
         x.last = Some(c);
     }
 }
 
-/// The least part of the condition of kind 23 that fails, if one does.
+/// Kind 23: an old reference would be left in a cell whose parts are stored out of order, and a number that is given twice would name two objects.
 pub fn check_store_new(shape: &Shape, s: &SeatState, c: Cell, part: u8, word: u64) -> Option<u8>
     requires { shape.now.fields < 256 }
     ensures { result ≡ first_false_of 1 (store_new_parts shape.now s.now c part word) }
@@ -163,7 +165,7 @@ pub fn check_store_new(shape: &Shape, s: &SeatState, c: Cell, part: u8, word: u6
     ])
 }
 
-/// What kind 23 makes of the seat's record, and what it leaves in the word.
+/// Kind 23: the next part is due; after the last one the cell is made, and the seat has made one more.
 #[inline(always)]
 pub fn store_new(shape: &Shape, s: &mut SeatState, c: Cell, part: u8, word: u64) -> u64
     requires part_counts { part < 255 }
@@ -199,7 +201,7 @@ fn without_used(cache: &mut Option<CacheState>)
     }
 }
 
-/// The least part of the condition of kind 24 that fails, if one does.
+/// Kind 24: a published cell may be scanned at once, so none may be half made, and from then on a store in it owes its card.
 pub fn check_publish_cells(s: &SeatState) -> Option<u8>
     ensures { result ≡ first_false_of 1 (publish_cells_parts s.now) }
 {
@@ -209,7 +211,7 @@ pub fn check_publish_cells(s: &SeatState) -> Option<u8>
     ])
 }
 
-/// What kind 24 makes of the seat's record, and what it leaves in the word.
+/// Kind 24: no cell is made and unpublished any more. The bits of those that were so are set.
 pub fn publish_cells(s: &mut SeatState, old: u64) -> u64
     ensures word { result ≡ (publish_cells_effect s.old).written old }
     ensures seat { s.new ≡ (publish_cells_effect s.old).seat old }

@@ -3,8 +3,8 @@ ghost use Rattle.std.specs.Prelude.{◌≡◌, ◌<◌, ◌-◌, ◌/◌, ◌==�
 ghost use Rattle.std.specs.List.{list_any};
 ghost use Rattle.mark_core.specs.Bits.{cell_of, reference_in};
 ghost use Rattle.mark_core.specs.Cards.{card_of as card_of_cell};
-ghost use Rattle.mark_core.specs.MutatorSteps.{read_object_parts, read_own_parts, read_cat_parts, store_field_parts, store_value_parts, store_root_parts};
-ghost use Rattle.mark_core.specs.MutatorSteps.{knows_cell as knows_cell_of, variable as variable_of, has_own as has_own_of, in_variables as in_variables_of, variable_or_nil as variable_or_nil_of, names_last as names_last_of, has_reference as has_reference_of};
+ghost use Rattle.mark_core.specs.Steps.MutatorSteps.{read_object_parts, read_own_parts, read_cat_parts, store_field_parts, store_value_parts, store_root_parts};
+ghost use Rattle.mark_core.specs.Steps.MutatorSteps.{knows_cell as knows_cell_of, variable as variable_of, has_own as has_own_of, in_variables as in_variables_of, variable_or_nil as variable_or_nil_of, names_last as names_last_of, has_reference as has_reference_of};
 ghost use Rattle.mark_core.specs.Seats.{used_in};
 ghost use Rattle.mark_core.specs.Steps.{first_false as first_false_of};
 
@@ -30,14 +30,14 @@ fn knows_cell(s: &SeatState, c: Cell) -> bool
     u64::from(s.got) == reference || has_variable(s, reference)
 }
 
-/// The least part of the condition of kind 17 that fails, if one does.
+/// Kind 17: a cell that neither the variables nor the register name could be freed before it is read.
 pub fn check_read_object(shape: &Shape, s: &SeatState, c: Cell) -> Option<u8>
     ensures { result ≡ first_false_of 1 (read_object_parts shape.now s.now c) }
 {
     first_false(&[c.number() < shape.cells && may_mutate(s), knows_cell(s, c)])
 }
 
-/// The least part of the condition of kind 17 that fails, if one does.
+/// Kind 17: a cell that neither the variables nor the register name could be freed, and made anew, before its field is read.
 pub fn check_read_own(shape: &Shape, s: &SeatState, c: Cell, i: u8) -> Option<u8>
     ensures { result ≡ first_false_of 1 (read_own_parts shape.now s.now c i) }
 {
@@ -56,7 +56,7 @@ pub fn read_reference(s: &mut SeatState, old: u64) -> u64
     old
 }
 
-/// The least part of the condition of kind 17 that fails, if one does.
+/// Kind 17: in the catalogue's own turn its variables change, so what was read could be freed.
 pub fn check_read_cat(s: &SeatState, v: u8) -> Option<u8>
     ensures { result ≡ first_false_of 1 (read_cat_parts s.now v) }
 {
@@ -102,7 +102,7 @@ fn variable_or_nil(s: &SeatState, w: Option<u8>) -> u32
     }
 }
 
-/// The least part of the condition of kind 18 that fails, if one does.
+/// Kind 18: another section's object would be stored in by two seats, and a card that is still owed would be forgotten.
 pub fn check_store_field(
     shape: &Shape,
     identity: u64,
@@ -132,7 +132,7 @@ pub fn store_field(s: &mut SeatState, v: u8, w: Option<u8>) -> u64
     u64::from(variable_or_nil(s, w))
 }
 
-/// The least part of the condition of kind 18 that fails, if one does.
+/// Kind 18: another section's object would be stored in by two seats, and a store whose card is still owed ends first.
 pub fn check_store_value(identity: u64, s: &SeatState, v: u8) -> Option<u8>
     ensures { (ids : List ℕ) → slice_index ids (variable_of s.now v - 1) ≡ identity → result ≡ first_false_of 1 (store_value_parts ids s.now v) }
 {
@@ -163,7 +163,7 @@ fn has_reference(s: &SeatState, r: u64) -> bool
     r == 0 || r == u64::from(s.got) || has_variable(s, r) || names_last(s.cache, r)
 }
 
-/// The least part of the condition of kind 19 that fails, if one does.
+/// Kind 19: a root that names a free cell would dangle, and what was begun, a store or a new cell, ends first.
 pub fn check_store_root(s: &SeatState, v: u8, r: u64) -> Option<u8>
     ensures { result ≡ first_false_of 1 (store_root_parts s.now v r) }
 {
@@ -181,7 +181,7 @@ fn set_variable(env: &mut [u32; 32], v: u8, reference: u32)
     env[v as usize] = reference;
 }
 
-/// What kind 19 makes of the seat's record, and what it leaves in the word.
+/// Kind 19: the seat's own copy of the variable is the same, and its register is nil.
 pub fn store_root(s: &mut SeatState, v: u8, r: u64) -> u64
     requires { v < 32 }
     ensures word { result ≡ r }

@@ -2,8 +2,8 @@
 ghost use Rattle.std.specs.Prelude.{◌≡◌, ◌<◌, ◌+◌, ◌-◌, ◌%◌, ◌==◌, ◌&&◌, not, if◌then◌else◌, true, false};
 ghost use Rattle.mark_core.specs.Bits.{has_bit, with_bit, without_bit, cell_of};
 ghost use Rattle.mark_core.specs.Held.{length_in_hand, has_entry, put_packet, drop_packet, set_length};
-ghost use Rattle.mark_core.specs.Numbers.{empty_pool_number};
-ghost use Rattle.mark_core.specs.PacketSteps.{reserve_parts, reserve_effect, take_parts, pool_for as pool_for_of, give_parts, credit_parts, credit_effect, push_parts, pop_parts, look_parts, store_length_parts, read_length_parts, read_length_effect};
+ghost use Rattle.mark_core.specs.Numbers.{empty_pool_number, pools_in_all};
+ghost use Rattle.mark_core.specs.Steps.PacketSteps.{reserve_parts, reserve_effect, take_parts, pool_for as pool_for_of, give_parts, credit_parts, credit_effect, push_parts, pop_parts, look_parts, store_length_parts, read_length_parts, read_length_effect};
 ghost use Rattle.mark_core.specs.Seats.{is_the};
 ghost use Rattle.mark_core.specs.Steps.{first_false as first_false_of};
 
@@ -15,14 +15,14 @@ use crate::seat::SeatState;
 use crate::standing::may_trace;
 use crate::{bits, hand, slots};
 
-/// The least part of the condition of kind 1 that fails, if one does.
+/// Kind 1: packets leave their pools only while cells are marked, and the record can't tell two reservations from one.
 pub fn check_reserve(phase: u64, s: &SeatState) -> Option<u8>
     ensures { result ≡ first_false_of 1 (reserve_parts phase s.now) }
 {
     first_false(&[may_trace(phase, s), !s.reserved && !s.credit])
 }
 
-/// What kind 1 makes of the seat's record, and what it leaves in the word.
+/// Kind 1: a reservation is out, and the count is one less.
 pub fn reserve(s: &mut SeatState, old: u64) -> u64
     ensures word { result ≡ (reserve_effect s.old).written old }
     ensures seat { s.new ≡ (reserve_effect s.old).seat old }
@@ -31,7 +31,7 @@ pub fn reserve(s: &mut SeatState, old: u64) -> u64
     old.wrapping_sub(1)
 }
 
-/// The least part of the condition of kind 2 that fails, if one does.
+/// Kind 2: were an empty packet taken without a reservation, the count would say that tracing is done while a seat has work.
 pub fn check_take(shape: &Shape, phase: u64, s: &SeatState, q: u8, p: u32) -> Option<u8>
     ensures { result ≡ first_false_of 1 (take_parts shape.now phase s.now q p) }
 {
@@ -43,7 +43,7 @@ pub fn check_take(shape: &Shape, phase: u64, s: &SeatState, q: u8, p: u32) -> Op
     ])
 }
 
-/// What kind 2 makes of the seat's record, and what it leaves in the word.
+/// Kind 2: where the bit was set the packet is in hand, with its length unknown, and an empty one spends the reservation. The bit is clear.
 pub fn take(s: &mut SeatState, q: u8, p: u32, old: u64) -> u64
     ensures word { result ≡ without_bit old (p % 64) }
     ensures seat { let found = has_bit old (p % 64) in s.new ≡ record s.old { held = if found then put_packet s.old.held p else s.old.held; reserved = s.old.reserved && not ((q == empty_pool_number) && found) } }
@@ -59,7 +59,7 @@ pub fn take(s: &mut SeatState, q: u8, p: u32, old: u64) -> u64
 /// The pool to which a packet of this length goes back.
 pub fn pool_for(shape: &Shape, length: u32, deferred: bool) -> usize
     ensures value { result ≡ pool_for_of shape.now length deferred }
-    ensures few { result < 4 }
+    ensures few { result < pools_in_all }
 {
     if deferred {
         DEFERRED_POOL as usize
@@ -72,7 +72,7 @@ pub fn pool_for(shape: &Shape, length: u32, deferred: bool) -> usize
     }
 }
 
-/// The least part of the condition of kind 3 that fails, if one does.
+/// Kind 3: work without a packet in hand wouldn't show in the count, and a packet whose head is old, or whose pool is that of another length, would be misread.
 pub fn check_give(shape: &Shape, s: &SeatState, p: u32, deferred: bool) -> Option<u8>
     ensures { result ≡ first_false_of 1 (give_parts shape.now s.now p deferred) }
 {
@@ -85,7 +85,7 @@ pub fn check_give(shape: &Shape, s: &SeatState, p: u32, deferred: bool) -> Optio
     ])
 }
 
-/// What kind 3 makes of the seat's record, and what it leaves in the word.
+/// Kind 3: the packet is out of hand, and an empty one leaves a credit. Its bit is set.
 pub fn give(s: &mut SeatState, p: u32, old: u64) -> u64
     ensures word { result ≡ with_bit old (p % 64) }
     ensures seat { s.new ≡ record s.old { held = drop_packet s.old.held p; credit = not (has_entry s.old.held p) } }
@@ -96,14 +96,14 @@ pub fn give(s: &mut SeatState, p: u32, old: u64) -> u64
     bits::with_bit(old, p % 64)
 }
 
-/// The least part of the condition of kind 4 that fails, if one does.
+/// Kind 4: a count that rises for no packet would say too early that all are empty.
 pub fn check_credit(s: &SeatState) -> Option<u8>
     ensures { result ≡ first_false_of 1 (credit_parts s.now) }
 {
     first_false(&[s.credit || s.reserved])
 }
 
-/// What kind 4 makes of the seat's record, and what it leaves in the word.
+/// Kind 4: nothing is reserved or credited any more, and the count is one more.
 pub fn credit(s: &mut SeatState, old: u64) -> u64
     ensures word { result ≡ (credit_effect s.old).written old }
     ensures seat { s.new ≡ (credit_effect s.old).seat old }
@@ -113,7 +113,7 @@ pub fn credit(s: &mut SeatState, old: u64) -> u64
     old.wrapping_add(1)
 }
 
-/// The least part of the condition of kind 5 that fails, if one does.
+/// Kind 5: entries name marked cells alone, so only a cell that the seat marked, or popped and may not scan yet, goes into its packet.
 pub fn check_push(shape: &Shape, s: &SeatState, p: u32, c: Cell) -> Option<u8>
     ensures { result ≡ first_false_of 1 (push_parts shape.now s.now p c) }
 {
@@ -139,7 +139,7 @@ pub fn push_at(s: &mut SeatState, p: u32, length: u32, c: Cell)
     }
 }
 
-/// What kind 5 makes of the seat's record, and what it leaves in the word.
+/// Kind 5: the packet is one cell longer, which its head doesn't say yet, and the cell is no longer in hand. The entry names the cell.
 pub fn push(s: &mut SeatState, p: u32, c: Cell) -> u64
     requires { length_in_hand s.old.held p < 4294967295 }
     ensures word { result ≡ c + 1 }
@@ -150,7 +150,7 @@ pub fn push(s: &mut SeatState, p: u32, c: Cell) -> u64
     u64::from(c.number()) + 1
 }
 
-/// The least part of the condition of kind 6 that fails, if one does.
+/// Kind 6: the record has one place for each sort of work, so what stood there would be lost.
 pub fn check_pop(shape: &Shape, phase: u64, s: &SeatState, p: u32) -> Option<u8>
     ensures { result ≡ first_false_of 1 (pop_parts shape.now phase s.now p) }
 {
@@ -172,7 +172,7 @@ pub fn pop_at(s: &mut SeatState, p: u32, length: u32, c: Cell)
     s.popped = Some((c, false));
 }
 
-/// What kind 6 makes of the seat's record, and what it leaves in the word.
+/// Kind 6: the packet is one cell shorter, which its head doesn't say yet, and the cell is popped.
 pub fn pop(s: &mut SeatState, p: u32, old: u64) -> u64
     ensures word { result ≡ old }
     ensures seat { s.new ≡ record s.old { held = set_length s.old.held p (length_in_hand s.old.held p - 1) false; popped = Some (cell_of old, false) } }
@@ -182,7 +182,7 @@ pub fn pop(s: &mut SeatState, p: u32, old: u64) -> u64
     old
 }
 
-/// The least part of the condition of kind 7 that fails, if one does.
+/// Kind 7: there has to be such a word.
 pub fn check_look(shape: &Shape, q: u8, g: u32) -> Option<u8>
     requires { shape.now.packets < 65536 }
     ensures { result ≡ first_false_of 1 (look_parts shape.now q g) }
@@ -190,7 +190,7 @@ pub fn check_look(shape: &Shape, q: u8, g: u32) -> Option<u8>
     first_false(&[q < POOLS && (g as usize) < pool_words(shape)])
 }
 
-/// The least part of the condition of kind 41 that fails, if one does.
+/// Kind 41: the head is its holder's alone to write, and an unknown length would be stored as 0.
 pub fn check_store_length(shape: &Shape, s: &SeatState, p: u32) -> Option<u8>
     ensures { result ≡ first_false_of 1 (store_length_parts shape.now s.now p) }
 {
@@ -200,7 +200,7 @@ pub fn check_store_length(shape: &Shape, s: &SeatState, p: u32) -> Option<u8>
     ])
 }
 
-/// What kind 41 makes of the seat's record, and what it leaves in the word.
+/// Kind 41: the head holds the length.
 pub fn store_length(s: &mut SeatState, p: u32) -> u64
     ensures word { result ≡ length_in_hand s.old.held p }
     ensures seat { s.new ≡ record s.old { held = set_length s.old.held p (length_in_hand s.old.held p) true } }
@@ -210,7 +210,7 @@ pub fn store_length(s: &mut SeatState, p: u32) -> u64
     u64::from(length)
 }
 
-/// The least part of the condition of kind 42 that fails, if one does.
+/// Kind 42: once the length is known, the head may lie behind pushes and pops.
 pub fn check_read_length(shape: &Shape, s: &SeatState, p: u32) -> Option<u8>
     ensures { result ≡ first_false_of 1 (read_length_parts shape.now s.now p) }
 {
@@ -220,7 +220,7 @@ pub fn check_read_length(shape: &Shape, s: &SeatState, p: u32) -> Option<u8>
     ])
 }
 
-/// What kind 42 makes of the seat's record, and what it leaves in the word.
+/// Kind 42: the length is known, and is that of the head.
 pub fn read_length(s: &mut SeatState, p: u32, old: u64) -> u64
     ensures word { result ≡ (read_length_effect s.old p).written old }
     ensures seat { s.new ≡ (read_length_effect s.old p).seat old }

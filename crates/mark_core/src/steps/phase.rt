@@ -4,9 +4,10 @@ ghost use Rattle.std.specs.List.{list_all};
 ghost use Rattle.mark_core.specs.Bits.{cell_bit as cell_bit_of, nil_or};
 ghost use Rattle.mark_core.specs.Layout.{region_sizes, total_words as total_words_of, words_of};
 ghost use Rattle.mark_core.specs.Shapes.{IsShape};
-ghost use Rattle.mark_core.specs.WorldSteps.{is_quiet as is_quiet_of, cards_clean as cards_clean_of, roots_marked as roots_marked_of, none_marked as none_marked_of, all_allocated as all_allocated_of, blocks_done as blocks_done_of, is_move as is_move_of, may_move as may_move_of, store_phase_parts, phase_after as phase_after_of, begins_exact as begins_exact_of, store_phase_effect};
+ghost use Rattle.mark_core.specs.Steps.WorldSteps.{is_quiet as is_quiet_of, cards_clean as cards_clean_of, roots_marked as roots_marked_of, none_marked as none_marked_of, all_allocated as all_allocated_of, blocks_done as blocks_done_of, is_move as is_move_of, may_move as may_move_of, store_phase_parts, phase_after as phase_after_of, begins_exact as begins_exact_of, store_phase_effect};
 ghost use Rattle.mark_core.specs.Steps.{first_false as first_false_of};
 
+use crate::cards::BLOCK_CELLS;
 use crate::kinds::{Phase, Shape};
 use crate::parts::first_false;
 use crate::seat::SeatState;
@@ -29,7 +30,8 @@ fn is_marked(marks: &[u64], reference: u64) -> bool
         return true;
     }
     let c = reference - 1;
-    bits::has_bit(read(marks, (c / 64) as usize), (c % 64) as u32)
+    let block = u64::from(BLOCK_CELLS);
+    bits::has_bit(read(marks, (c / block) as usize), (c % block) as u32)
 }
 
 /// Each root is nil, or refers to a marked cell.
@@ -109,7 +111,7 @@ fn may_move(shape: &Shape, words: &[u64], s: &SeatState, to: Phase) -> bool
     }
 }
 
-/// The least part of the condition of kind 30 that fails, if one does.
+/// Kind 30: a sweep that began before all was marked would free reachable cells, and helpers act by the phase that they read.
 pub fn check_store_phase(shape: &Shape, words: &[u64], s: &SeatState, to: Phase) -> Option<u8>
     requires shaped { IsShape shape.now }
     requires whole { length words.now ≡ total_words_of (region_sizes shape.now) }
@@ -146,7 +148,7 @@ fn begins_exact(old: u64, to: Phase) -> bool
     }
 }
 
-/// What kind 30 makes of the seat's record, and what it leaves in the word.
+/// Kind 30: the phase is moved, and a drain from Idle or Clear is exact.
 pub fn store_phase(s: &mut SeatState, to: Phase, old: u64) -> u64
     ensures word { result ≡ (store_phase_effect s.old to).written old }
     ensures seat { s.new ≡ (store_phase_effect s.old to).seat old }

@@ -1,7 +1,7 @@
 //! The steps of the season, which says whose turn it is: the catalogue's or that of the warehouses.
 ghost use Rattle.std.specs.Prelude.{◌≡◌};
 ghost use Rattle.mark_core.specs.Bits.{wrapped_sum};
-ghost use Rattle.mark_core.specs.HelpSteps.{read_season_parts, read_season_effect, next_season_parts};
+ghost use Rattle.mark_core.specs.Steps.HelpSteps.{read_season_parts, read_season_effect, next_season_parts};
 ghost use Rattle.mark_core.specs.Steps.{first_false as first_false_of};
 
 use crate::kinds::Phase;
@@ -9,14 +9,14 @@ use crate::parts::first_false;
 use crate::seat::SeatState;
 use crate::standing::is_phase;
 
-/// The least part of the condition of kind 48 that fails, if one does.
+/// Kind 48: the season could move on under a seat that doesn't run.
 pub fn check_read_season(s: &SeatState) -> Option<u8>
     ensures { result ≡ first_false_of 1 (read_season_parts s.now) }
 {
     first_false(&[s.active])
 }
 
-/// What kind 48 makes of the seat's record, and what it leaves in the word.
+/// Kind 48: the seat keeps the season as read.
 pub fn read_season(s: &mut SeatState, old: u64) -> u64
     ensures word { result ≡ (read_season_effect s.old).written old }
     ensures seat { s.new ≡ (read_season_effect s.old).seat old }
@@ -25,14 +25,14 @@ pub fn read_season(s: &mut SeatState, old: u64) -> u64
     old
 }
 
-/// The least part of the condition of kind 49 that fails, if one does.
+/// Kind 49: a seat that runs would be in a turn that has ended, and there are at most 64 seasons of two turns.
 pub fn check_next_season(phase: u64, season: u64, s: &SeatState) -> Option<u8>
     ensures { result ≡ first_false_of 1 (next_season_parts phase season s.now) }
 {
     first_false(&[s.knows, is_phase(phase, Phase::Idle), season < 128])
 }
 
-/// What kind 49 leaves in the word.
+/// Kind 49: it is the next turn.
 pub fn next_season(old: u64) -> u64
     ensures { result ≡ wrapped_sum old 1 }
 {

@@ -1,7 +1,7 @@
 //! The steps of the sweep and of the counters.
 ghost use Rattle.std.specs.Prelude.{◌≡◌, ◌<◌, if◌then◌else◌, true};
 ghost use Rattle.mark_core.specs.Bits.{wrapped_sum, wrapped_difference};
-ghost use Rattle.mark_core.specs.SweepSteps.{next_block_parts, next_block_effect, next_of_cards_parts, next_of_cards_effect, own_block as own_block_of, with_mark_word as with_mark_word_of, read_block_marks_parts, read_block_marks_effect, survivors as survivors_of, with_stored as with_stored_of, store_alloc_parts, clear_marks_parts, wipe_card_parts, store_position_parts, store_named_parts, reset_parts, add_stat_parts, read_stat_parts, read_stat_effect};
+ghost use Rattle.mark_core.specs.Steps.SweepSteps.{next_block_parts, next_block_effect, next_of_cards_parts, next_of_cards_effect, own_block as own_block_of, with_mark_word as with_mark_word_of, read_block_marks_parts, read_block_marks_effect, survivors as survivors_of, with_stored as with_stored_of, store_alloc_parts, clear_marks_parts, wipe_card_parts, store_position_parts, store_named_parts, reset_parts, add_stat_parts, read_stat_parts, read_stat_effect};
 ghost use Rattle.mark_core.specs.Steps.{first_false as first_false_of};
 
 use crate::hand;
@@ -12,7 +12,7 @@ use crate::parts::first_false;
 use crate::seat::{BlockState, SeatState};
 use crate::standing::{is_phase, may_clear, may_sweep, may_trace, takes_part};
 
-/// The least part of the condition of kind 33 that fails, if one does.
+/// Kind 33: a block that is in hand already would be left unswept, and a counter that is raised unread would run away past its end.
 pub fn check_next_block(phase: u64, s: &SeatState) -> Option<u8>
     ensures { result ≡ first_false_of 1 (next_block_parts phase s.now) }
 {
@@ -23,7 +23,7 @@ pub fn check_next_block(phase: u64, s: &SeatState) -> Option<u8>
     ])
 }
 
-/// What kind 33 makes of the seat's record, and what it leaves in the word.
+/// Kind 33: the block that was handed out is in hand, where there is one. The seat has to read the counter again before it raises it again.
 pub fn next_block(shape: &Shape, s: &mut SeatState, old: u64) -> u64
     ensures word { result ≡ (next_block_effect shape.now s.old).written old }
     ensures seat { s.new ≡ (next_block_effect shape.now s.old).seat old }
@@ -40,14 +40,14 @@ pub fn next_block(shape: &Shape, s: &mut SeatState, old: u64) -> u64
     old.wrapping_add(1)
 }
 
-/// The least part of the condition of kind 33 that fails, if one does.
+/// Kind 33: a counter that is raised unread would run away past its end.
 pub fn check_next_of_cards(phase: u64, s: &SeatState) -> Option<u8>
     ensures { result ≡ first_false_of 1 (next_of_cards_parts phase s.now) }
 {
     first_false(&[may_trace(phase, s), s.below_card])
 }
 
-/// What kind 33 makes of the seat's record, and what it leaves in the word.
+/// Kind 33: the card is handed out. The seat has to read the counter again before it raises it again.
 pub fn next_of_cards(s: &mut SeatState, old: u64) -> u64
     ensures word { result ≡ (next_of_cards_effect s.old).written old }
     ensures seat { s.new ≡ (next_of_cards_effect s.old).seat old }
@@ -74,14 +74,14 @@ fn with_mark_word(block: &mut Option<BlockState>, word: u64)
     }
 }
 
-/// The least part of the condition of kind 34 that fails, if one does.
+/// Kind 34: outside Sweep the marks don't say what stays.
 pub fn check_read_block_marks(phase: u64, s: &SeatState) -> Option<u8>
     ensures { result ≡ first_false_of 1 (read_block_marks_parts phase s.now) }
 {
     first_false(&[s.block.is_some() && is_phase(phase, Phase::Sweep)])
 }
 
-/// What kind 34 makes of the seat's record, and what it leaves in the word.
+/// Kind 34: the block in hand keeps the word.
 pub fn read_block_marks(s: &mut SeatState, old: u64) -> u64
     ensures word { result ≡ (read_block_marks_effect s.old).written old }
     ensures seat { s.new ≡ (read_block_marks_effect s.old).seat old }
@@ -108,14 +108,14 @@ fn with_stored(block: &mut Option<BlockState>)
     }
 }
 
-/// The least part of the condition of kind 35 that fails, if one does.
+/// Kind 35: where a word of the block wasn't read, marked cells would be freed.
 pub fn check_store_alloc(phase: u64, s: &SeatState) -> Option<u8>
     ensures { result ≡ first_false_of 1 (store_alloc_parts phase s.now) }
 {
     first_false(&[may_sweep(phase, s), hand::may_store(s.block)])
 }
 
-/// What kind 35 makes of the seat's record, and what it leaves in the word.
+/// Kind 35: the allocated cells that are marked stay, the others are free, and the block is swept.
 pub fn store_alloc(s: &mut SeatState) -> u64
     ensures word { result ≡ survivors_of s.old.block }
     ensures seat { s.new ≡ record s.old { block = with_stored_of s.old.block } }
@@ -125,7 +125,7 @@ pub fn store_alloc(s: &mut SeatState) -> u64
     word
 }
 
-/// The least part of the condition of kind 36 that fails, if one does.
+/// Kind 36: until the block is swept its marks say what stays.
 pub fn check_clear_marks(phase: u64, s: &SeatState) -> Option<u8>
     ensures { result ≡ first_false_of 1 (clear_marks_parts phase s.now) }
 {
@@ -133,7 +133,7 @@ pub fn check_clear_marks(phase: u64, s: &SeatState) -> Option<u8>
     first_false(&[s.block.is_some(), s.block.is_some() && swept])
 }
 
-/// What kind 36 makes of the seat's record, and what it leaves in the word.
+/// Kind 36: the block has no mark, and isn't in hand any more.
 pub fn clear_marks(s: &mut SeatState) -> u64
     ensures word { result ≡ 0 }
     ensures seat { s.new ≡ record s.old { block = None } }
@@ -142,28 +142,28 @@ pub fn clear_marks(s: &mut SeatState) -> u64
     0
 }
 
-/// The least part of the condition of kind 37 that fails, if one does.
+/// Kind 37: in Marking and Drain a dirty card stands for cells that wait to be scanned.
 pub fn check_wipe_card(shape: &Shape, phase: u64, s: &SeatState, card: u32) -> Option<u8>
     ensures { result ≡ first_false_of 1 (wipe_card_parts shape.now phase s.now card) }
 {
     first_false(&[card < card_count(shape) && (may_sweep(phase, s) || may_clear(phase, s))])
 }
 
-/// The least part of the condition of kind 38 that fails, if one does.
+/// Kind 38: a position is its section's alone, and stays as it is while another seat has stopped the world.
 pub fn check_store_position(s: &SeatState) -> Option<u8>
     ensures { result ≡ first_false_of 1 (store_position_parts s.now) }
 {
     first_false(&[s.section.is_some(), s.active || s.knows])
 }
 
-/// The least part of the condition of kind 38 that fails, if one does.
+/// Kind 38: only the seat that is about to find the heap full names itself, so that one name stands there.
 pub fn check_store_named(phase: u64, s: &SeatState) -> Option<u8>
     ensures { result ≡ first_false_of 1 (store_named_parts phase s.now) }
 {
     first_false(&[s.knows && s.section.is_some() && is_phase(phase, Phase::Idle)])
 }
 
-/// The least part of the condition of kind 38 that fails, if one does.
+/// Kind 38: a counter would fall under a seat that draws from it.
 pub fn check_reset(phase: u64, s: &SeatState, which: u8) -> Option<u8>
     ensures { result ≡ first_false_of 1 (reset_parts phase s.now which) }
 {
@@ -171,7 +171,7 @@ pub fn check_reset(phase: u64, s: &SeatState, which: u8) -> Option<u8>
     first_false(&[which <= TRACED && s.alone && in_time])
 }
 
-/// The least part of the condition of kind 39 that fails, if one does.
+/// Kind 39: a statistic would change under the seat that has stopped the world, and DONE counts parts, which end one at a time.
 pub fn check_add_stat(s: &SeatState, which: u8, by: u32, down: bool) -> Option<u8>
     ensures { result ≡ first_false_of 1 (add_stat_parts s.now which by down) }
 {
@@ -181,7 +181,7 @@ pub fn check_add_stat(s: &SeatState, which: u8, by: u32, down: bool) -> Option<u
     ])
 }
 
-/// What kind 39 leaves in the word.
+/// Kind 39: the statistic rises or falls by so much.
 pub fn add_stat(by: u32, down: bool, old: u64) -> u64
     ensures { result ≡ (if down then wrapped_difference old by else wrapped_sum old by) }
 {
@@ -192,7 +192,7 @@ pub fn add_stat(by: u32, down: bool, old: u64) -> u64
     }
 }
 
-/// The least part of the condition of kind 40 that fails, if one does.
+/// Kind 40: there has to be such a word.
 pub fn check_read_stat(shape: &Shape, which: u8) -> Option<u8>
     requires { shape.now.sections < 4294967288 }
     ensures { result ≡ first_false_of 1 (read_stat_parts shape.now which) }

@@ -1,8 +1,8 @@
 //! The steps that stop and resume the world, move the phase, and split and join seats.
 ghost use Rattle.std.specs.Prelude.{◌≡◌, ◌==◌, slice_get};
 ghost use Rattle.std.specs.List.{list_all};
-ghost use Rattle.mark_core.specs.WorldSteps.{enter_parts, enter_effect, leave_parts, leave_effect, raise_parts, raise_effect, observe_effect, drop_parts, drop_effect, split_parts, join_parts};
-ghost use Rattle.mark_core.specs.WorldSteps.{is_stopped as is_stopped_word, is_plain_standing as is_plain_standing_of, has_nothing as has_nothing_of, is_new as is_new_of, may_be_joined as may_be_joined_of, other_has_nothing as other_has_nothing_of};
+ghost use Rattle.mark_core.specs.Steps.WorldSteps.{enter_parts, enter_effect, leave_parts, leave_effect, raise_parts, raise_effect, observe_effect, drop_parts, drop_effect, split_parts, join_parts};
+ghost use Rattle.mark_core.specs.Steps.WorldSteps.{is_stopped as is_stopped_word, is_plain_standing as is_plain_standing_of, has_nothing as has_nothing_of, is_new as is_new_of, may_be_joined as may_be_joined_of, other_has_nothing as other_has_nothing_of};
 ghost use Rattle.mark_core.specs.Steps.{first_false as first_false_of};
 
 use crate::kinds::{Phase, Shape};
@@ -11,14 +11,14 @@ use crate::seat::SeatState;
 use crate::standing::{is_bare, is_phase};
 use crate::{bits, hand};
 
-/// The least part of the condition of kind 25 that fails, if one does.
+/// Kind 25: a seat that is in the world already, or in its own stop, or among the helpers, would be in two places.
 pub fn check_enter(s: &SeatState) -> Option<u8>
     ensures { result ≡ first_false_of 1 (enter_parts s.now) }
 {
     first_false(&[is_bare(s)])
 }
 
-/// What kind 25 makes of the seat's record, and what it leaves in the word.
+/// Kind 25: the seat is counted, and active where no flag was up.
 pub fn enter(s: &mut SeatState, old: u64) -> u64
     ensures word { result ≡ (enter_effect s.old).written old }
     ensures seat { s.new ≡ (enter_effect s.old).seat old }
@@ -29,7 +29,7 @@ pub fn enter(s: &mut SeatState, old: u64) -> u64
     old.wrapping_add(1)
 }
 
-/// The least part of the condition of kind 26 that fails, if one does.
+/// Kind 26: what a seat kept in hand would be hidden from the stop that waits until it has left.
 pub fn check_leave(shape: &Shape, s: &SeatState) -> Option<u8>
     ensures { result ≡ first_false_of 1 (leave_parts shape.now s.now) }
 {
@@ -41,7 +41,7 @@ pub fn check_leave(shape: &Shape, s: &SeatState) -> Option<u8>
     ])
 }
 
-/// What kind 26 makes of the seat's record, and what it leaves in the word.
+/// Kind 26: the seat is outside, and has read no phase and no season.
 pub fn leave(s: &mut SeatState, old: u64) -> u64
     ensures word { result ≡ (leave_effect s.old).written old }
     ensures seat { s.new ≡ (leave_effect s.old).seat old }
@@ -53,14 +53,14 @@ pub fn leave(s: &mut SeatState, old: u64) -> u64
     old.wrapping_sub(1)
 }
 
-/// The least part of the condition of kind 27 that fails, if one does.
+/// Kind 27: a seat that is counted would wait for itself.
 pub fn check_raise(s: &SeatState) -> Option<u8>
     ensures { result ≡ first_false_of 1 (raise_parts s.now) }
 {
     first_false(&[is_bare(s)])
 }
 
-/// What kind 27 makes of the seat's record, and what it leaves in the word.
+/// Kind 27: the flag is up, and the seat's own where it was down.
 pub fn raise(s: &mut SeatState, old: u64) -> u64
     ensures word { result ≡ (raise_effect s.old).written old }
     ensures seat { s.new ≡ (raise_effect s.old).seat old }
@@ -76,7 +76,7 @@ fn is_stopped(word: u64) -> bool
     word == bits::FLAG
 }
 
-/// What kind 28 makes of the seat's record, and what it leaves in the word.
+/// Kind 28: the seat whose flag it is, and that finds no seat counted, knows that the world is stopped, and is alone.
 pub fn observe(s: &mut SeatState, old: u64) -> u64
     ensures word { result ≡ (observe_effect s.old).written old }
     ensures seat { s.new ≡ (observe_effect s.old).seat old }
@@ -87,7 +87,7 @@ pub fn observe(s: &mut SeatState, old: u64) -> u64
     old
 }
 
-/// The least part of the condition of kind 29 that fails, if one does.
+/// Kind 29: mutators would run beside a helper, or in a phase that rests on a stop.
 pub fn check_drop(shape: &Shape, phase: u64, s: &SeatState) -> Option<u8>
     ensures { result ≡ first_false_of 1 (drop_parts shape.now phase s.now) }
 {
@@ -99,7 +99,7 @@ pub fn check_drop(shape: &Shape, phase: u64, s: &SeatState) -> Option<u8>
     ])
 }
 
-/// What kind 29 makes of the seat's record, and what it leaves in the word.
+/// Kind 29: the flag is down and the seat is counted and active, in one step, so no other stop comes between. It has read no phase and no season.
 pub fn drop_flag(s: &mut SeatState, old: u64) -> u64
     ensures word { result ≡ (drop_effect s.old).written old }
     ensures seat { s.new ≡ (drop_effect s.old).seat old }
@@ -162,7 +162,7 @@ fn is_new(shape: &Shape, s: &SeatState) -> bool
         && !s.below_block
 }
 
-/// The least part of the condition of kind 31 that fails, if one does.
+/// Kind 31: there is room for 41 records, and all seats are made before the first one does anything.
 pub fn check_split(shape: &Shape, seats: &[SeatState], s: &SeatState) -> Option<u8>
     ensures { result ≡ first_false_of 1 (split_parts shape.now seats.now s.now) }
 {
@@ -188,7 +188,7 @@ fn other_has_nothing(shape: &Shape, seats: &[SeatState], other: u32) -> bool
     }
 }
 
-/// The least part of the condition of kind 32 that fails, if one does.
+/// Kind 32: what the other seat had in hand would be lost with its record.
 pub fn check_join(shape: &Shape, seats: &[SeatState], s: &SeatState, other: u32) -> Option<u8>
     ensures { result ≡ first_false_of 1 (join_parts shape.now seats.now s.now other) }
 {

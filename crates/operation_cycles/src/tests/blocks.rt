@@ -1,14 +1,14 @@
 //! A block has one owner, has room for its cells, and the barrier dirties the cards of published objects alone.
 ghost use Rattle.std.specs.Prelude.{◌<◌};
-ghost use Rattle.gc_table.specs.Trials.{At, inside, resting};
+ghost use Rattle.gc_table.specs.SeatRecords.{At, inside, resting};
 ghost use Rattle.operation_cycles.specs.Seats.{Fills, Mutates};
 
 use super::SMALL;
 use super::objects::{gives_up, link, make, publish, take};
-use super::opening::{next_seat, open};
 use super::seasons::begin;
 use alloc_cache::{Cache, claim, retire};
 use gc_table::{Heap, HeapSeat};
+use test_heaps::{next_seat, open};
 
 /// Whether the catalogue's seat finds no block.
 fn finds_none(heap: &Heap, seat: &mut HeapSeat) -> bool
@@ -104,7 +104,7 @@ fn links(heap: &Heap, seat: &mut HeapSeat) -> Option<(bool, bool)>
 
 #[test]
 fn a_block_has_one_owner(rt: HostRuntime) {
-    let Some((heap, mut seats)) = open(rt.alloc(), SMALL) else {
+    let Some((heap, mut seats)) = open(rt.alloc(), SMALL, 3) else {
         panic!(&rt; "memory")
     };
     let mut zero = next_seat(&heap, &mut seats, 0);
@@ -116,7 +116,7 @@ fn a_block_has_one_owner(rt: HostRuntime) {
 
 #[test]
 fn a_block_has_room_for_its_cells(rt: HostRuntime) {
-    let Some((heap, mut seats)) = open(rt.alloc(), SMALL) else {
+    let Some((heap, mut seats)) = open(rt.alloc(), SMALL, 3) else {
         panic!(&rt; "memory")
     };
     let mut zero = next_seat(&heap, &mut seats, 0);
@@ -128,7 +128,7 @@ fn a_block_has_room_for_its_cells(rt: HostRuntime) {
 
 #[test]
 fn what_was_given_up_is_claimed_again(rt: HostRuntime) {
-    let Some((heap, mut seats)) = open(rt.alloc(), SMALL) else {
+    let Some((heap, mut seats)) = open(rt.alloc(), SMALL, 3) else {
         panic!(&rt; "memory")
     };
     let mut zero = next_seat(&heap, &mut seats, 0);
@@ -140,7 +140,7 @@ fn what_was_given_up_is_claimed_again(rt: HostRuntime) {
 
 #[test]
 fn a_store_dirties_the_card_of_a_published_object(rt: HostRuntime) {
-    let Some((heap, mut seats)) = open(rt.alloc(), SMALL) else {
+    let Some((heap, mut seats)) = open(rt.alloc(), SMALL, 3) else {
         panic!(&rt; "memory")
     };
     let mut zero = next_seat(&heap, &mut seats, 0);

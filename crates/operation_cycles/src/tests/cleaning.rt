@@ -1,17 +1,17 @@
 //! Clean cards stay clean, the pass gives out each card once, and the marked objects of a dirty card are scanned again.
 ghost use Rattle.std.specs.Prelude.{◌<◌};
 ghost use Rattle.std.specs.Bool.{OnTrue};
-ghost use Rattle.gc_table.specs.Trials.{At};
+ghost use Rattle.gc_table.specs.SeatRecords.{At};
 ghost use Rattle.operation_cycles.specs.Seats.{Mutates, playing};
 
 use super::FOUR;
 use super::objects::{gives_up, link, make_three, publish, take};
-use super::opening::{next_seat, open};
 use super::seasons::begin;
 use super::tracing::{is_idle, scans, traces};
 use card_clean::{Cleaned, clean_card, clean_dirty, clean_one, next_card};
 use gc_table::{Heap, HeapSeat};
 use packet_pools::{give, take_output};
+use test_heaps::{next_seat, open};
 
 fn draw(heap: &Heap, seat: &mut HeapSeat) -> Option<u32>
     requires { At heap.now playing 1 seat.old }
@@ -91,7 +91,7 @@ fn cleans_dirty(heap: &Heap, seat: &mut HeapSeat) -> Option<(u32, u32)>
 
 #[test]
 fn a_clean_card_stays_clean(rt: HostRuntime) {
-    let Some((heap, mut seats)) = open(rt.alloc(), FOUR) else {
+    let Some((heap, mut seats)) = open(rt.alloc(), FOUR, 3) else {
         panic!(&rt; "memory")
     };
     let mut zero = next_seat(&heap, &mut seats, 0);
@@ -107,7 +107,7 @@ fn a_clean_card_stays_clean(rt: HostRuntime) {
 
 #[test]
 fn the_pass_gives_out_each_card_once(rt: HostRuntime) {
-    let Some((heap, mut seats)) = open(rt.alloc(), FOUR) else {
+    let Some((heap, mut seats)) = open(rt.alloc(), FOUR, 3) else {
         panic!(&rt; "memory")
     };
     let mut zero = next_seat(&heap, &mut seats, 0);
@@ -119,7 +119,7 @@ fn the_pass_gives_out_each_card_once(rt: HostRuntime) {
 
 #[test]
 fn a_dirty_card_is_scanned_again(rt: HostRuntime) {
-    let Some((heap, mut seats)) = open(rt.alloc(), FOUR) else {
+    let Some((heap, mut seats)) = open(rt.alloc(), FOUR, 3) else {
         panic!(&rt; "memory")
     };
     let mut zero = next_seat(&heap, &mut seats, 0);
@@ -135,7 +135,7 @@ fn a_dirty_card_is_scanned_again(rt: HostRuntime) {
 
 #[test]
 fn dirty_cards_are_scanned_again(rt: HostRuntime) {
-    let Some((heap, mut seats)) = open(rt.alloc(), FOUR) else {
+    let Some((heap, mut seats)) = open(rt.alloc(), FOUR, 3) else {
         panic!(&rt; "memory")
     };
     let mut zero = next_seat(&heap, &mut seats, 0);

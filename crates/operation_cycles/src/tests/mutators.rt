@@ -6,11 +6,11 @@ ghost use Rattle.operation_cycles.specs.Seats.{Mutates};
 
 use super::SMALL;
 use super::objects::{gives_up, make, take};
-use super::opening::{next_seat, open};
 use super::seasons::begin;
 use gc_table::{Heap, HeapSeat};
 use mutator_ops::{assign, clear, command, follow, lend, put, say, set, sum};
 use plain_heap::{Line, Op};
+use test_heaps::{next_seat, open};
 
 /// Whether the seat is a warehouse's.
 fn is_warehouse(seat: &HeapSeat) -> bool
@@ -96,7 +96,7 @@ fn commands(heap: &Heap, seat: &mut HeapSeat) -> Option<(bool, Option<Line>)>
 
 #[test]
 fn commands_print_what_was_stored(rt: HostRuntime) {
-    let Some((heap, mut seats)) = open(rt.alloc(), SMALL) else {
+    let Some((heap, mut seats)) = open(rt.alloc(), SMALL, 3) else {
         panic!(&rt; "memory")
     };
     let mut zero = next_seat(&heap, &mut seats, 0);
@@ -117,7 +117,7 @@ fn commands_print_what_was_stored(rt: HostRuntime) {
 
 #[test]
 fn any_command_is_done_by_its_operation(rt: HostRuntime) {
-    let Some((heap, mut seats)) = open(rt.alloc(), SMALL) else {
+    let Some((heap, mut seats)) = open(rt.alloc(), SMALL, 3) else {
         panic!(&rt; "memory")
     };
     let mut zero = next_seat(&heap, &mut seats, 0);

@@ -1,16 +1,16 @@
 //! Packets of four entries lie in two pools: one with a single object is low, and one with two is high.
 ghost use Rattle.std.specs.Prelude.{◌<◌};
 ghost use Rattle.std.specs.Bool.{OnTrue};
-ghost use Rattle.gc_table.specs.Trials.{At, inside};
+ghost use Rattle.gc_table.specs.SeatRecords.{At, inside};
 ghost use Rattle.operation_cycles.specs.Seats.{Mutates};
 
 use super::DEEP;
 use super::objects::{gives_up, make, make_three, publish, take};
-use super::opening::{next_seat, open};
 use super::seasons::begin;
 use super::tracing::{scans, traces};
 use gc_table::{Heap, HeapSeat};
 use packet_pools::{give, take_input, take_output};
+use test_heaps::{next_seat, open};
 
 /// Two objects are put in one packet, and a third in the other.
 fn fills_both(heap: &Heap, seat: &mut HeapSeat) -> bool
@@ -62,7 +62,7 @@ fn filled_in_order(heap: &Heap, seat: &mut HeapSeat, k: u32) -> Option<(u32, u32
 
 #[test]
 fn the_fuller_packet_is_read_first(rt: HostRuntime) {
-    let Some((heap, mut seats)) = open(rt.alloc(), DEEP) else {
+    let Some((heap, mut seats)) = open(rt.alloc(), DEEP, 3) else {
         panic!(&rt; "memory")
     };
     let mut zero = next_seat(&heap, &mut seats, 0);
@@ -75,7 +75,7 @@ fn the_fuller_packet_is_read_first(rt: HostRuntime) {
 
 #[test]
 fn the_emptier_packet_is_filled_first(rt: HostRuntime) {
-    let Some((heap, mut seats)) = open(rt.alloc(), DEEP) else {
+    let Some((heap, mut seats)) = open(rt.alloc(), DEEP, 3) else {
         panic!(&rt; "memory")
     };
     let mut zero = next_seat(&heap, &mut seats, 0);

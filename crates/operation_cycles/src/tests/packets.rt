@@ -11,12 +11,12 @@ ghost use Rattle.operation_cycles.specs.Seats.{Mutates};
 
 use super::FOUR;
 use super::objects::{gives_up, make, make_three, publish, take};
-use super::opening::{next_seat, open};
 use super::seasons::begin;
 use super::tracing::{is_idle, scans, traces};
 use gc_table::{Heap, HeapSeat};
 use mark_core::{Cell, card_of, cell_of};
 use packet_pools::{Held, PacketFull, give, push, take_input};
+use test_heaps::{next_seat, open};
 
 /// Two objects that a third refers to are put in one packet, and a fourth is stored in variable 3, white.
 fn fills_packet(heap: &Heap, seat: &mut HeapSeat) -> bool
@@ -101,7 +101,7 @@ fn finds_full(heap: &Heap, seat: &mut HeapSeat) -> Option<bool>
 
 #[test]
 fn a_full_packet_takes_no_further_object(rt: HostRuntime) {
-    let Some((heap, mut seats)) = open(rt.alloc(), FOUR) else {
+    let Some((heap, mut seats)) = open(rt.alloc(), FOUR, 3) else {
         panic!(&rt; "memory")
     };
     let mut zero = next_seat(&heap, &mut seats, 0);

@@ -4,15 +4,15 @@ ghost use Rattle.std.specs.Bool.{OnTrue};
 ghost use Rattle.mark_core.specs.Held.{has_free_slot};
 ghost use Rattle.mark_core.specs.Seats.{work_in_hand};
 ghost use Rattle.gc_table.specs.Seats.{state_of, view_of};
-ghost use Rattle.gc_table.specs.Trials.{At, inside, resting};
+ghost use Rattle.gc_table.specs.SeatRecords.{At, inside, resting};
 ghost use Rattle.packet_pools.specs.Tracing.{IsTracer};
 
 use super::SMALL;
-use super::opening::{next_seat, open};
-use super::seasons::{enters, sees_marking, try_marking};
+use super::seasons::{sees_marking, try_marking};
 use gc_table::{Heap, HeapSeat};
 use packet_pools::{all_empty, give, pop, take_deferred, take_input, take_output};
 use std::thread::{Threads, join_mut};
+use test_heaps::{enters, next_seat, open};
 
 /// The seat begins to mark.
 fn begin(heap: &Heap, seat: &mut HeapSeat, k: u32) -> bool
@@ -168,7 +168,7 @@ fn first_answers(heap: &Heap, seat: &mut HeapSeat) -> Option<(bool, bool)>
 
 #[test]
 fn answers(rt: HostRuntime) {
-    let Some((heap, mut seats)) = open(rt.alloc(), SMALL) else {
+    let Some((heap, mut seats)) = open(rt.alloc(), SMALL, 3) else {
         panic!(&rt; "memory")
     };
     let mut seat = next_seat(&heap, &mut seats, 0);
@@ -177,7 +177,7 @@ fn answers(rt: HostRuntime) {
 
 #[test]
 fn quiet(rt: HostRuntime) {
-    let Some((heap, mut seats)) = open(rt.alloc(), SMALL) else {
+    let Some((heap, mut seats)) = open(rt.alloc(), SMALL, 3) else {
         panic!(&rt; "memory")
     };
     let mut seat = next_seat(&heap, &mut seats, 0);
@@ -186,7 +186,7 @@ fn quiet(rt: HostRuntime) {
 
 #[test]
 fn no_third(rt: HostRuntime) {
-    let Some((heap, mut seats)) = open(rt.alloc(), SMALL) else {
+    let Some((heap, mut seats)) = open(rt.alloc(), SMALL, 3) else {
         panic!(&rt; "memory")
     };
     let mut seat = next_seat(&heap, &mut seats, 0);
@@ -195,7 +195,7 @@ fn no_third(rt: HostRuntime) {
 
 #[test]
 fn two_threads(rt: HostRuntime) {
-    let Some((heap, mut seats)) = open(rt.alloc(), SMALL) else {
+    let Some((heap, mut seats)) = open(rt.alloc(), SMALL, 3) else {
         panic!(&rt; "memory")
     };
     let mut one = next_seat(&heap, &mut seats, 0);

@@ -12,7 +12,6 @@ ghost use Rattle.operation_cycles.specs.Seats.{Fills, Mutates};
 
 use super::FOUR;
 use super::objects::{forget, gives_up, link, make, make_three, publish, take};
-use super::opening::{next_seat, open};
 use super::seasons::begin;
 use super::tracing::{is_idle, scans};
 use alloc_cache::Cache;
@@ -20,6 +19,7 @@ use gc_table::{Heap, HeapSeat};
 use mark_core::{Cell, has_bit};
 use packet_pools::{Held, Scanned, give, pop, scan_cell, take_input};
 use std::process::Abort;
+use test_heaps::{next_seat, open};
 
 /// What a scan came to, and how many cells were in the packet after it.
 type Filled = (Scanned, u32);
@@ -137,7 +137,7 @@ fn marked(marked: u32) -> Scanned {
 
 #[test]
 fn each_object_that_a_field_leads_to_is_marked(rt: HostRuntime) {
-    let Some((heap, mut seats)) = open(rt.alloc(), FOUR) else {
+    let Some((heap, mut seats)) = open(rt.alloc(), FOUR, 3) else {
         panic!(&rt; "memory")
     };
     let mut zero = next_seat(&heap, &mut seats, 0);
@@ -150,7 +150,7 @@ fn each_object_that_a_field_leads_to_is_marked(rt: HostRuntime) {
 
 #[test]
 fn an_object_that_two_fields_lead_to_is_marked_once(rt: HostRuntime) {
-    let Some((heap, mut seats)) = open(rt.alloc(), FOUR) else {
+    let Some((heap, mut seats)) = open(rt.alloc(), FOUR, 3) else {
         panic!(&rt; "memory")
     };
     let mut zero = next_seat(&heap, &mut seats, 0);

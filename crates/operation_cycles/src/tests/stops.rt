@@ -4,19 +4,18 @@ ghost use Rattle.mark_core.specs.Seats.{is_bare};
 ghost use Rattle.mark_core.specs.declared.kinds.Phase.TheVariants.{Idle};
 ghost use Rattle.gc_table.specs.Running.{Alone};
 ghost use Rattle.gc_table.specs.Seats.{Sits, state_of, view_of};
-ghost use Rattle.gc_table.specs.Trials.{At, resting};
-ghost use Rattle.operation_cycles.specs.Seats.{stopped};
+ghost use Rattle.gc_table.specs.SeatRecords.{At, resting};
+ghost use Rattle.test_heaps.specs.Seats.{stopped};
 ghost use Rattle.stop_world.specs.Gates.{IsOpenable};
 
 use super::SMALL;
-use super::opening::{next_seat, open};
-use super::seasons::{goes_on, next_turn, raises_own, stops_idle};
 use gc_table::{Heap, HeapSeat};
 use mark_core::Phase;
 use std::sync::Wait;
 use stop_world::{
     Raised, await_resumed, close_help, enter, join_help, leave_help, open_help, poll, raise,
 };
+use test_heaps::{drains, goes_on, next_seat, next_turn, open, raises_own, stops_idle};
 
 /// What becomes of the flag when a seat finds it free.
 fn raises(heap: &Heap, seat: &mut HeapSeat) -> bool
@@ -53,7 +52,7 @@ fn begins_drain(heap: &Heap, seat: &mut HeapSeat, k: u32)
     ensures seat { Sits heap.now seat.new }
     ensures openable { IsOpenable (view_of seat.new) }
 {
-    heap.store_phase(seat, Phase::Drain);
+    drains(heap, seat);
 }
 
 /// Whether the seat is let in to help, by its record.
@@ -94,7 +93,7 @@ fn shares<R: Wait>(
 
 #[test]
 fn another_flag_is_theirs(rt: HostRuntime) {
-    let Some((heap, mut seats)) = open(rt.alloc(), SMALL) else {
+    let Some((heap, mut seats)) = open(rt.alloc(), SMALL, 3) else {
         panic!(&rt; "memory")
     };
     let mut zero = next_seat(&heap, &mut seats, 0);
@@ -107,7 +106,7 @@ fn another_flag_is_theirs(rt: HostRuntime) {
 
 #[test]
 fn the_world_stops_and_goes_on(rt: HostRuntime) {
-    let Some((heap, mut seats)) = open(rt.alloc(), SMALL) else {
+    let Some((heap, mut seats)) = open(rt.alloc(), SMALL, 3) else {
         panic!(&rt; "memory")
     };
     let mut zero = next_seat(&heap, &mut seats, 0);
@@ -116,7 +115,7 @@ fn the_world_stops_and_goes_on(rt: HostRuntime) {
 
 #[test]
 fn a_helper_is_let_in(rt: HostRuntime) {
-    let Some((heap, mut seats)) = open(rt.alloc(), SMALL) else {
+    let Some((heap, mut seats)) = open(rt.alloc(), SMALL, 3) else {
         panic!(&rt; "memory")
     };
     let mut zero = next_seat(&heap, &mut seats, 0);

@@ -3,56 +3,20 @@ ghost use Rattle.std.specs.Prelude.{◌<◌};
 ghost use Rattle.std.specs.Bool.{OnTrue};
 ghost use Rattle.mark_core.specs.declared.kinds.Phase.TheVariants.{Clear, Idle, Sweep};
 ghost use Rattle.gc_table.specs.Running.{Alone};
-ghost use Rattle.gc_table.specs.Seats.{Sits, state_of, view_of};
-ghost use Rattle.gc_table.specs.Trials.{resting};
-ghost use Rattle.card_clean.specs.Drained.{IsBeforeSweep, IsDrained};
+ghost use Rattle.gc_table.specs.Seats.{Sits, view_of};
+ghost use Rattle.gc_table.specs.SeatRecords.{resting};
+ghost use Rattle.card_clean.specs.Drained.{IsDrained};
 ghost use Rattle.sweeper.specs.Sweepers.{Clears, Sweeps};
-ghost use Rattle.operation_cycles.specs.Seats.{Bare, New};
+ghost use Rattle.test_heaps.specs.Seats.{New};
 
 use super::SMALL;
-use super::opening::{next_seat, open};
-use super::seasons::{next_turn, raises_own, stops_idle};
-use super::tracing::are_bare;
-use card_clean::{is_drained, see_to_roots};
 use gc_table::{Heap, HeapSeat};
-use mark_core::{BLOCK_COUNTER, Phase};
+use mark_core::Phase;
 use std::sync::Wait;
 use sweeper::{Swept, clear_marks_next, clear_rest, end_clear, end_sweep, sweep_next, sweep_rest};
-
-/// Begins a drain, in which no block was handed out.
-fn drains(heap: &Heap, seat: &mut HeapSeat)
-    requires { Sits heap.now seat.old × Alone Idle (view_of seat.old) }
-    ensures { Sits heap.now seat.new × IsBeforeSweep (view_of seat.new) }
-{
-    heap.store_phase(seat, Phase::Drain);
-    heap.reset(seat, BLOCK_COUNTER);
-}
-
-/// Whether the seat has nothing in its hands.
-fn has_nothing(seat: &HeapSeat) -> bool
-    ensures { OnTrue result (Bare (state_of seat.now)) }
-{
-    let s = seat.state();
-    are_bare(s.held)
-        && (!s.reserved && !s.credit)
-        && (s.popped.is_none() && s.scan.is_none() && s.value.is_none())
-        && (s.fresh.is_none() && s.cleaning.is_none())
-}
-
-/// Whether the drain ends: all roots are seen to, every card is clean, and every packet is empty.
-fn drained(heap: &Heap, seat: &mut HeapSeat) -> bool
-    requires { Sits heap.now seat.old × IsBeforeSweep (view_of seat.old) }
-    ensures { OnTrue result (Sits heap.now seat.new × IsDrained (view_of seat.new)) }
-{
-    has_nothing(seat) && see_to_roots(heap, seat) && is_drained(heap, seat)
-}
-
-fn begins_sweep(heap: &Heap, seat: &mut HeapSeat)
-    requires { Sits heap.now seat.old × IsDrained (view_of seat.old) }
-    ensures { Sits heap.now seat.new × Alone Sweep (view_of seat.new) }
-{
-    heap.store_phase(seat, Phase::Sweep);
-}
+use test_heaps::{
+    begins_sweep, drained, drains, next_seat, next_turn, open, raises_own, resets, stops_idle,
+};
 
 fn begins_clear(heap: &Heap, seat: &mut HeapSeat)
     requires { Sits heap.now seat.old × IsDrained (view_of seat.old) }
@@ -126,12 +90,13 @@ fn ends_drain<R: Wait>(rt: &R, heap: &Heap, zero: &mut HeapSeat, one: &mut HeapS
         return false;
     }
     drains(heap, one);
+    resets(heap, one);
     drained(heap, one)
 }
 
 #[test]
 fn each_block_is_swept_once(rt: HostRuntime) {
-    let Some((heap, mut seats)) = open(rt.alloc(), SMALL) else {
+    let Some((heap, mut seats)) = open(rt.alloc(), SMALL, 3) else {
         panic!(&rt; "memory")
     };
     let mut zero = next_seat(&heap, &mut seats, 0);
@@ -144,7 +109,7 @@ fn each_block_is_swept_once(rt: HostRuntime) {
 
 #[test]
 fn each_block_is_cleared_once(rt: HostRuntime) {
-    let Some((heap, mut seats)) = open(rt.alloc(), SMALL) else {
+    let Some((heap, mut seats)) = open(rt.alloc(), SMALL, 3) else {
         panic!(&rt; "memory")
     };
     let mut zero = next_seat(&heap, &mut seats, 0);

@@ -1,7 +1,7 @@
 //! Cells go from one thread to another in packets.
 ghost use Rattle.std.specs.Prelude.{◌<◌};
 ghost use Rattle.gc_table.specs.Seats.{Sits, view_of};
-ghost use Rattle.gc_table.specs.Trials.{At, inside, resting};
+ghost use Rattle.gc_table.specs.SeatRecords.{At, inside, resting};
 ghost use Rattle.packet_pools.specs.Tracing.{Traces};
 ghost use Rattle.std.specs.Bool.{OnTrue};
 ghost use Rattle.operation_cycles.specs.Seats.{Fills, Mutates};
@@ -9,13 +9,13 @@ ghost use Rattle.tracer.specs.Hands.{IsIdle};
 
 use super::FOUR;
 use super::objects::{link, make_three, publish, take};
-use super::opening::{next_seat, open};
-use super::seasons::{begin, enters, sees_marking};
+use super::seasons::{begin, sees_marking};
 use super::tracing::{recycles, scans, traces};
 use alloc_cache::{Cache, retire};
 use gc_table::{Heap, HeapSeat};
 use packet_pools::all_empty;
 use std::thread::{Threads, join_mut};
+use test_heaps::{enters, next_seat, open};
 use tracer::trace;
 
 /// A tracer's seat enters, and sees that marking is under way.
@@ -154,7 +154,7 @@ fn hands_over<R: Threads + Sync>(
 
 #[test]
 fn cells_go_from_thread_to_thread(rt: HostRuntime) {
-    let Some((heap, mut seats)) = open(rt.alloc(), FOUR) else {
+    let Some((heap, mut seats)) = open(rt.alloc(), FOUR, 3) else {
         panic!(&rt; "memory")
     };
     let mut zero = next_seat(&heap, &mut seats, 0);
@@ -169,7 +169,7 @@ fn cells_go_from_thread_to_thread(rt: HostRuntime) {
 
 #[test]
 fn all_packets_are_empty_in_the_end(rt: HostRuntime) {
-    let Some((heap, mut seats)) = open(rt.alloc(), FOUR) else {
+    let Some((heap, mut seats)) = open(rt.alloc(), FOUR, 3) else {
         panic!(&rt; "memory")
     };
     let mut zero = next_seat(&heap, &mut seats, 0);

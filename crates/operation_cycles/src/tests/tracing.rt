@@ -1,37 +1,16 @@
 //! A warehouse's seat scans its roots and traces what they lead to.
-ghost use Rattle.std.specs.Prelude.{◌≡◌, ◌&&◌};
 ghost use Rattle.std.specs.Bool.{OnTrue};
-ghost use Rattle.mark_core.specs.Seats.{saw};
-ghost use Rattle.mark_core.specs.declared.kinds.Phase.TheVariants.{Marking};
 ghost use Rattle.gc_table.specs.Seats.{state_of};
 ghost use Rattle.operation_cycles.specs.Seats.{Fills, Mutates, MayTrace};
-ghost use Rattle.tracer.specs.Hands.{no_packets};
 
 use super::FOUR;
 use super::objects::{make_three, publish, take};
-use super::opening::{next_seat, open};
 use super::seasons::begin;
 use alloc_cache::{Cache, retire};
 use gc_table::{Heap, HeapSeat};
 use packet_pools::{give, take_deferred};
+use test_heaps::{are_bare, is_marking, next_seat, open};
 use tracer::{RootScan, Stopped, Traced, recycle_deferred, scan_roots, trace};
-
-type Slots = [Option<(u32, Option<u32>, bool)>; 4];
-
-/// Whether the seat holds no packet.
-pub fn are_bare(held: Slots) -> bool
-    ensures { OnTrue result (held ≡ no_packets) }
-{
-    let [a, b, c, d] = held;
-    a.is_none() && b.is_none() && c.is_none() && d.is_none()
-}
-
-/// The seat is active, and has read that marking is under way.
-fn is_marking(seat: &HeapSeat) -> bool
-    ensures { result ≡ ((state_of seat.now).active && saw (state_of seat.now).phase_seen Marking) }
-{
-    seat.state().is_marking()
-}
 
 /// Whether the seat marks as a mutator, and holds no packet and no block to sweep.
 pub fn is_idle(seat: &HeapSeat) -> bool
@@ -166,7 +145,7 @@ fn answers(heap: &Heap, seat: &mut HeapSeat, which: u32) -> Option<bool>
 
 #[test]
 fn published_objects_are_traced(rt: HostRuntime) {
-    let Some((heap, mut seats)) = open(rt.alloc(), FOUR) else {
+    let Some((heap, mut seats)) = open(rt.alloc(), FOUR, 3) else {
         panic!(&rt; "memory")
     };
     let mut zero = next_seat(&heap, &mut seats, 0);
@@ -178,7 +157,7 @@ fn published_objects_are_traced(rt: HostRuntime) {
 
 #[test]
 fn unpublished_objects_are_put_off(rt: HostRuntime) {
-    let Some((heap, mut seats)) = open(rt.alloc(), FOUR) else {
+    let Some((heap, mut seats)) = open(rt.alloc(), FOUR, 3) else {
         panic!(&rt; "memory")
     };
     let mut zero = next_seat(&heap, &mut seats, 0);
@@ -190,7 +169,7 @@ fn unpublished_objects_are_put_off(rt: HostRuntime) {
 
 #[test]
 fn a_quota_is_spent(rt: HostRuntime) {
-    let Some((heap, mut seats)) = open(rt.alloc(), FOUR) else {
+    let Some((heap, mut seats)) = open(rt.alloc(), FOUR, 3) else {
         panic!(&rt; "memory")
     };
     let mut zero = next_seat(&heap, &mut seats, 0);

@@ -1,12 +1,12 @@
 //! Two threads take and give the first packet of one heap, step by step.
 ghost use Rattle.std.specs.Bool.{OnTrue, OnFalse};
-ghost use Rattle.gc_table.specs.Trials.{At, inside, reserved, holding, measured, returned, resting};
+ghost use Rattle.gc_table.specs.SeatRecords.{At, inside, reserved, holding, measured, returned, resting};
 
 use super::SMALL;
-use super::opening::{next_seat, open};
-use super::seasons::{enters, sees_marking, try_marking};
+use super::seasons::{sees_marking, try_marking};
 use gc_table::{Heap, HeapSeat};
 use std::thread::{Threads, join_mut};
+use test_heaps::{enters, next_seat, open};
 
 fn reserve(heap: &Heap, seat: &mut HeapSeat, k: u32)
     requires { At heap.now inside k seat.old }
@@ -115,7 +115,7 @@ fn both<R: Threads + Sync>(
 
 #[test]
 fn two_threads(rt: HostRuntime) {
-    let Some((heap, mut seats)) = open(rt.alloc(), SMALL) else {
+    let Some((heap, mut seats)) = open(rt.alloc(), SMALL, 3) else {
         panic!(&rt; "memory")
     };
     let mut one = next_seat(&heap, &mut seats, 0);

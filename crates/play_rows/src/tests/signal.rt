@@ -15,6 +15,7 @@ pub struct Signal {
 }
 
 impl Signal {
+    /// A signal that comes once it was told so many times.
     pub fn of(wanted: u64) -> Signal {
         Signal {
             wanted,
@@ -23,10 +24,12 @@ impl Signal {
         }
     }
 
+    /// Tells it once.
     pub fn tell(&self) {
         self.told.fetch_add(1, SeqCst);
     }
 
+    /// Waits until it was told often enough, or a thread gave it up; gives it up after many looks.
     pub fn wait(&self) {
         for _ in 0..LOOKS {
             if self.told.load(SeqCst) >= self.wanted || self.was_given_up() {
@@ -37,6 +40,7 @@ impl Signal {
         self.given_up.fetch_add(1, SeqCst);
     }
 
+    /// Whether a thread gave it up.
     pub fn was_given_up(&self) -> bool {
         self.given_up.load(SeqCst) > 0
     }

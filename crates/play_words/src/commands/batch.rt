@@ -45,7 +45,7 @@ fn play_jobs<R: Threads + Wait + Sync, K: Sink>(
     }
 }
 
-/// Writes a fault; want of memory is none.
+/// Writes a fault; out of memory is none.
 fn tell_batch_fault<K: Sink>(fault: &BatchError, sink: &mut K) -> Status
     requires { fault.now ≢ BatchError.OutOfMemory }
     ensures { AcrossSink K.written K.faults (TextEnds (IsBatchFault (fault_of fault.now)) result) sink.old sink.new }
@@ -86,8 +86,8 @@ pub fn play_batch<R: Threads + Wait + Sync, S: Source, K: Sink>(
     requires runners { (1 ≤ runners) × (runners ≤ 8) }
     ensures ends { AcrossSink K.written K.faults (CommandEnds (OfSource (IsBatchAnswer (options_of options.now)) (S.left source.old)) result
         (S.faults source.old) (S.faults source.new)) sink.old sink.new }
-    ensures spent { HasItsText (code_of result) → IfSome (S.left source.old) (λ bytes. IsSpent 16777217 bytes (S.left source.new)) }
-    ensures most { TakesAtMost 16777217 (S.left source.old) (S.left source.new) }
+    ensures spent { HasItsText (code_of result) → IfSome (S.left source.old) (λ bytes. IsSpent BATCH bytes (S.left source.new)) }
+    ensures most { TakesAtMost BATCH (S.left source.old) (S.left source.new) }
 {
     match read_source(alloc, source, BATCH) {
         Err(Unread::Memory) => Status::Memory,

@@ -1,5 +1,5 @@
 //! The command `census`: counts the records of the source's dump.
-ghost use Rattle.std.specs.Prelude.{◌≤◌, IfSome};
+ghost use Rattle.std.specs.Prelude.{IfSome};
 ghost use Rattle.heap_dump.specs.Reading.{heap_of};
 ghost use Rattle.play_words.specs.Counting.{IsCensusAnswer, IsCountOf};
 ghost use Rattle.play_words.specs.Ending.{CommandEnds, TextEnds, code_of};
@@ -54,8 +54,8 @@ pub fn census_source<R: Threads + Sync, S: Source, K: Sink>(
 ) -> Status
     ensures ends { AcrossSink K.written K.faults (CommandEnds (OfSource IsCensusAnswer (S.left source.old)) result
         (S.faults source.old) (S.faults source.new)) sink.old sink.new }
-    ensures spent { HasItsText (code_of result) → IfSome (S.left source.old) (λ bytes. IsSpent 4984981 bytes (S.left source.new)) }
-    ensures most { TakesAtMost 4984981 (S.left source.old) (S.left source.new) }
+    ensures spent { HasItsText (code_of result) → IfSome (S.left source.old) (λ bytes. IsSpent DUMP bytes (S.left source.new)) }
+    ensures most { TakesAtMost DUMP (S.left source.old) (S.left source.new) }
 {
     match read_source(alloc, source, DUMP) {
         Err(Unread::Memory) => Status::Memory,

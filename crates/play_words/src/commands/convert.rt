@@ -1,5 +1,5 @@
 //! The command `convert`: writes the script of the source in the second version of the language.
-ghost use Rattle.std.specs.Prelude.{◌≡◌, ◌≤◌, [], IfSome, if◌then◌else◌};
+ghost use Rattle.std.specs.Prelude.{[], IfSome, if◌then◌else◌};
 ghost use Rattle.gc_script.specs.Convert.{added_lines, converted_text};
 ghost use Rattle.gc_script.specs.Converting.{conversion_of};
 ghost use Rattle.play_report.specs.Causes.{AcrossSink, WritesTo};
@@ -51,8 +51,8 @@ fn convert_bytes<K: Sink>(alloc: Global, bytes: &[u8], sink: &mut K) -> Status
 pub fn convert_source<S: Source, K: Sink>(alloc: Global, source: &mut S, sink: &mut K) -> Status
     ensures ends { AcrossSink K.written K.faults (CommandEnds (OfSource IsConvertAnswer (S.left source.old)) result
         (S.faults source.old) (S.faults source.new)) sink.old sink.new }
-    ensures spent { HasItsText (code_of result) → IfSome (S.left source.old) (λ bytes. IsSpent 1048577 bytes (S.left source.new)) }
-    ensures most { TakesAtMost 1048577 (S.left source.old) (S.left source.new) }
+    ensures spent { HasItsText (code_of result) → IfSome (S.left source.old) (λ bytes. IsSpent SCRIPT bytes (S.left source.new)) }
+    ensures most { TakesAtMost SCRIPT (S.left source.old) (S.left source.new) }
 {
     match read_source(alloc, source, SCRIPT) {
         Err(Unread::Memory) => Status::Memory,

@@ -1,7 +1,7 @@
 //! The command `dump`: plays the script of the source, and writes the heap at its end.
-ghost use Rattle.std.specs.Prelude.{◌≤◌, Err, IfSome};
+ghost use Rattle.std.specs.Prelude.{IfSome};
 ghost use Rattle.command_words.specs.Commands.{options_of};
-ghost use Rattle.play_contract.specs.Playing.{AreInRange, PlayAnswers};
+ghost use Rattle.play_contract.specs.Playing.{AreInRange};
 ghost use Rattle.play_dump.specs.Ending.{IsEndOf};
 ghost use Rattle.play_words.specs.Dumping.{EndsIn, IsDumpAnswer, IsEndAnswer};
 ghost use Rattle.play_words.specs.Ending.{CommandEnds, TextEnds, code_of};
@@ -10,15 +10,16 @@ ghost use Rattle.play_words.specs.Reading.{IsSpent, TakesAtMost};
 ghost use Rattle.play_report.specs.Causes.{AcrossSink};
 
 use crate::commands::fault::tell_fault;
+use crate::commands::stopped::tell_stop;
 use crate::source::{SCRIPT, Unread, read_source};
 use crate::status::Status;
 use gc_play::{Gate, play_final};
 use gc_script::{Script, ScriptError, read};
 use gc_table::Words;
 use heap_dump::write_dump;
-use play_contract::{Options, PlayError};
+use play_contract::Options;
 use play_dump::final_heap;
-use play_report::{Report, Sink, Source, write_full};
+use play_report::{Report, Sink, Source};
 use std::alloc::Global;
 use std::sync::Wait;
 use std::thread::Threads;
@@ -39,22 +40,6 @@ fn write_end<K: Sink>(
     }
 }
 
-/// Writes how far a play came that found too few cells.
-fn write_error<K: Sink>(
-    error: PlayError,
-    _script: &Script<'_>,
-    _options: &Options,
-    sink: &mut K,
-) -> Status
-    requires { PlayAnswers (Err error) _script.now.sections _options.now.cells }
-    ensures { AcrossSink K.written K.faults (TextEnds (EndsIn (options_of _options.now) _script.now) result) sink.old sink.new }
-{
-    match error {
-        PlayError::OutOfMemory => Status::Memory,
-        PlayError::Full(positions) => Status::Full.after(write_full(&positions, sink)),
-    }
-}
-
 /// Plays a script, and writes the heap at its end or how far it came.
 fn dump_script<R: Threads + Wait + Sync, K: Sink, G: Gate + Sync>(
     rt: &R,
@@ -68,7 +53,7 @@ fn dump_script<R: Threads + Wait + Sync, K: Sink, G: Gate + Sync>(
     ensures { AcrossSink K.written K.faults (TextEnds (EndsIn (options_of options.now) script.now) result) sink.old sink.new }
 {
     match play_final(rt, alloc, script, options, gate) {
-        Err(error) => write_error(error, script, options, sink),
+        Err(error) => tell_stop(error, sink),
         Ok(end) => write_end(alloc, script, &end, sink),
     }
 }
@@ -104,8 +89,8 @@ pub fn dump_source<R: Threads + Wait + Sync, S: Source, K: Sink, G: Gate + Sync>
     requires { AreInRange options.now }
     ensures ends { AcrossSink K.written K.faults (CommandEnds (OfSource (IsDumpAnswer (options_of options.now)) (S.left source.old)) result
         (S.faults source.old) (S.faults source.new)) sink.old sink.new }
-    ensures spent { HasItsText (code_of result) → IfSome (S.left source.old) (λ bytes. IsSpent 1048577 bytes (S.left source.new)) }
-    ensures most { TakesAtMost 1048577 (S.left source.old) (S.left source.new) }
+    ensures spent { HasItsText (code_of result) → IfSome (S.left source.old) (λ bytes. IsSpent SCRIPT bytes (S.left source.new)) }
+    ensures most { TakesAtMost SCRIPT (S.left source.old) (S.left source.new) }
 {
     match read_source(alloc, source, SCRIPT) {
         Err(Unread::Memory) => Status::Memory,

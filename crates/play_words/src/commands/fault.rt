@@ -8,7 +8,7 @@ use crate::status::Status;
 use gc_script::ScriptError;
 use play_report::{Sink, write_fault};
 
-/// Writes a fault; want of memory is none.
+/// Writes a fault; out of memory is none.
 pub fn tell_fault<K: Sink>(fault: &ScriptError, sink: &mut K) -> Status
     requires { fault.now ≢ ScriptError.OutOfMemory }
     ensures { AcrossSink K.written K.faults (TextEnds (IsFaultAnswer (fault_of fault.now)) result) sink.old sink.new }

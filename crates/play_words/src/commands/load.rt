@@ -8,12 +8,13 @@ ghost use Rattle.play_words.specs.Ending.{TextEnds};
 ghost use Rattle.play_contract.specs.Playing.{AreInRange};
 ghost use Rattle.play_report.specs.Causes.{AcrossSink};
 
+use crate::commands::stopped::tell_stop;
 use crate::status::Status;
 use gc_play::{Gate, play};
 use gc_script::{Script, read};
 use load_gen::generate;
-use play_contract::{Options, PlayError};
-use play_report::{Sink, write_full, write_load};
+use play_contract::Options;
+use play_report::{Sink, write_load};
 use std::alloc::Global;
 use std::sync::Wait;
 use std::thread::Threads;
@@ -33,13 +34,12 @@ fn load_script<R: Threads + Wait + Sync, K: Sink, G: Gate + Sync>(
 {
     let commands = script.executed();
     match play(rt, alloc, script, options, gate) {
-        Err(PlayError::OutOfMemory) => Status::Memory,
-        Err(PlayError::Full(positions)) => Status::Full.after(write_full(&positions, sink)),
+        Err(error) => tell_stop(error, sink),
         Ok(report) => Status::Done.after(write_load(&report, commands, sink)),
     }
 }
 
-/// Reads and plays a script of four warehouses. It has no fault, so it is refused for want of memory alone.
+/// Reads and plays a script of four warehouses. It has no fault, so it is refused where memory runs out, and nowhere else.
 fn load_bytes<R: Threads + Wait + Sync, K: Sink, G: Gate + Sync>(
     rt: &R,
     alloc: Global,

@@ -1,5 +1,5 @@
 //! The command `run`: plays the script of the source.
-ghost use Rattle.std.specs.Prelude.{◌≡◌, ◌≤◌, IfSome};
+ghost use Rattle.std.specs.Prelude.{IfSome};
 ghost use Rattle.play_words.specs.RunAnswers.{IsRunAnswer, PlaysTo};
 ghost use Rattle.command_words.specs.Commands.{options_of};
 ghost use Rattle.play_words.specs.Ending.{CommandEnds, TextEnds, code_of};
@@ -9,12 +9,13 @@ ghost use Rattle.play_words.specs.Reading.{IsSpent, TakesAtMost};
 ghost use Rattle.play_report.specs.Causes.{AcrossSink};
 
 use crate::commands::fault::tell_fault;
+use crate::commands::stopped::tell_stop;
 use crate::source::{SCRIPT, Unread, read_source};
 use crate::status::Status;
 use gc_play::{Gate, play};
 use gc_script::{Script, ScriptError, read};
-use play_contract::{Options, PlayError};
-use play_report::{Sink, Source, write_full, write_report};
+use play_contract::Options;
+use play_report::{Sink, Source, write_report};
 use std::alloc::Global;
 use std::sync::Wait;
 use std::thread::Threads;
@@ -32,8 +33,7 @@ fn play_script<R: Threads + Wait + Sync, K: Sink, G: Gate + Sync>(
     ensures { AcrossSink K.written K.faults (TextEnds (PlaysTo (options_of options.now) script.now) result) sink.old sink.new }
 {
     match play(rt, alloc, script, options, gate) {
-        Err(PlayError::OutOfMemory) => Status::Memory,
-        Err(PlayError::Full(positions)) => Status::Full.after(write_full(&positions, sink)),
+        Err(error) => tell_stop(error, sink),
         Ok(report) => Status::Done.after(write_report(&report, options.place, sink)),
     }
 }
@@ -69,8 +69,8 @@ pub fn play_source<R: Threads + Wait + Sync, S: Source, K: Sink, G: Gate + Sync>
     requires { AreInRange options.now }
     ensures ends { AcrossSink K.written K.faults (CommandEnds (OfSource (IsRunAnswer (options_of options.now)) (S.left source.old)) result
         (S.faults source.old) (S.faults source.new)) sink.old sink.new }
-    ensures spent { HasItsText (code_of result) → IfSome (S.left source.old) (λ bytes. IsSpent 1048577 bytes (S.left source.new)) }
-    ensures most { TakesAtMost 1048577 (S.left source.old) (S.left source.new) }
+    ensures spent { HasItsText (code_of result) → IfSome (S.left source.old) (λ bytes. IsSpent SCRIPT bytes (S.left source.new)) }
+    ensures most { TakesAtMost SCRIPT (S.left source.old) (S.left source.new) }
 {
     match read_source(alloc, source, SCRIPT) {
         Err(Unread::Memory) => Status::Memory,

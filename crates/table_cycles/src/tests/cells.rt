@@ -1,7 +1,7 @@
 //! Cells are made in a claimed block.
 ghost use Rattle.std.specs.Prelude.{◌≡◌, ◌≤◌, ◌+◌, ◌*◌};
 ghost use Rattle.std.specs.Bool.{OnTrue};
-ghost use Rattle.mark_core.specs.MutatorSteps.{is_next_part, fits_part as fits_part_of, names_last as names_last_of};
+ghost use Rattle.mark_core.specs.Steps.MutatorSteps.{is_next_part, fits_part as fits_part_of, names_last as names_last_of};
 ghost use Rattle.mark_core.specs.Seats.{free_in, makes as makes_part};
 ghost use Rattle.gc_table.specs.Seats.{state_of};
 ghost use Rattle.table_cycles.specs.Owned.{HasOwn};

@@ -1,7 +1,7 @@
 use Rattle.std.proofs.Common.{ap, ◌∙◌}
 use Rattle.gc_table.specs.Seats.{view_of}
 use Rattle.gc_table.specs.declared.view.View.{View}
-use Rattle.bench_operations.proofs.Ending.{alone-sweep, may-begin_sweep}
+use Rattle.card_clean.proofs.DrainEnds.{alone-sweeps, may-begin_sweep}
 use Rattle.bench_operations.proofs.sweeping.begin_sweep.Goals as goal
 
 pub store_phase-requires-clause-may : goal.store_phase-requires-clause-may
@@ -10,6 +10,6 @@ store_phase-requires-clause-may c = may-begin_sweep (view_of c.args.seat.now) c.
 pub returns-clause-alone : goal.returns-clause-alone
 returns-clause-alone c =
     let e = c.store_phase.ensures.view in (
-      alone-sweep (view_of c.args.seat.now) (view_of c.store_phase.new.seat) e.0 c.requires.drained.rooted.ready.drains e.1,
+      alone-sweeps (view_of c.args.seat.now) (view_of c.store_phase.new.seat) e.0 c.requires.drained.rooted.ready.drains e.1,
       ap (λ (w : View). w.state.block) e.1 ∙ c.requires.block,
     )

@@ -1,6 +1,6 @@
 use Rattle.std.proofs.Common.{None, refl, ap, ◌∙◌}
 use Rattle.std.specs.Prelude.{is_none}
-use Rattle.mark_core.specs.MutatorSteps.{without_used}
+use Rattle.mark_core.specs.Steps.MutatorSteps.{without_used}
 use Rattle.mark_core.specs.declared.kinds.Step.TheVariants.{PublishCells, ReleaseBlock}
 use Rattle.bench_table.proofs.Makers.{makes-after, published-whole}
 use Rattle.bench_table.proofs.making.finish.Goals as goal

@@ -1,7 +1,7 @@
 use Rattle.std.proofs.Common.{◌≡◌, ◌+◌, ◌<◌, ◌∙◌, arith, ap, sym}
 use Rattle.std.specs.Prelude.{is_some, slice_set}
 use Rattle.mark_core.specs.Bits.{reference_in}
-use Rattle.mark_core.specs.MutatorSteps.{with_made}
+use Rattle.mark_core.specs.Steps.MutatorSteps.{with_made}
 use Rattle.mark_core.specs.declared.kinds.Step.TheVariants.{StoreNew, StoreRoot}
 use Rattle.mark_core.specs.declared.seat.SeatState.{SeatState}
 use Rattle.plain_heap.specs.declared.operation.Op.TheVariants.{New}

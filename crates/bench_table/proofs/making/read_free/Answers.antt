@@ -1,6 +1,6 @@
 use Rattle.std.proofs.Common.{◌∙◌, refl, ap, sym}
 use Rattle.std.specs.Prelude.{is_some}
-use Rattle.mark_core.specs.MutatorSteps.{with_free}
+use Rattle.mark_core.specs.Steps.MutatorSteps.{with_free}
 use Rattle.mark_core.specs.Seats.{is_unread}
 use Rattle.mark_core.specs.declared.kinds.Step.TheVariants.{ReadFree}
 use Rattle.bench_table.proofs.Makers.{makes-after, cache-is, read-whole, read-some}

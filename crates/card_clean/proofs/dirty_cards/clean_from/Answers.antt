@@ -5,7 +5,7 @@ use Rattle.gc_table.specs.Seats.{view_of}
 use Rattle.gc_table.specs.Log.{events}
 use Rattle.packet_pools.proofs.Filled.{fills-join}
 use Rattle.packet_pools.proofs.TracedSteps.{cleaned-join}
-use Rattle.gc_table.proofs.Log.{events-join}
+use Rattle.gc_table.proofs.History.Log.{events-join}
 use Rattle.card_clean.specs.DirtyCards.{CleanedFrom, CleanedWhereDirty}
 use Rattle.card_clean.proofs.Leavings.{rescanned-join}
 use Rattle.card_clean.proofs.dirty_cards.clean_from.Goals as goal

@@ -8,7 +8,7 @@ use Rattle.gc_table.specs.Seats.{view_of}
 use Rattle.gc_table.specs.Log.{events, event}
 use Rattle.packet_pools.proofs.Doing.{traces-on}
 use Rattle.packet_pools.proofs.TracedSteps.{cleaned-join, later-cleaned}
-use Rattle.gc_table.proofs.Log.{events-after, events-join}
+use Rattle.gc_table.proofs.History.Log.{events-after, events-join}
 use Rattle.card_clean.specs.Leaving.{rescanned_in}
 use Rattle.card_clean.proofs.Leavings.{rescanned-join}
 use Rattle.card_clean.proofs.Steps.{later-read_card, card-small}

@@ -10,7 +10,7 @@ use Rattle.gc_table.specs.declared.view.View.{View}
 use Rattle.gc_table.specs.Notes.{look}
 use Rattle.gc_table.specs.Seats.{view_of}
 use Rattle.gc_table.specs.Log.{event, events}
-use Rattle.gc_table.proofs.Log.{events-after, events-join}
+use Rattle.gc_table.proofs.History.Log.{events-after, events-join}
 use Rattle.packet_pools.proofs.TracedSteps.{later-join}
 use Rattle.card_clean.specs.Drained.{AreNotedClean}
 use Rattle.card_clean.specs.Leaving.{rescanned_in}

@@ -4,7 +4,7 @@ use Rattle.mark_core.specs.declared.seat.SeatState.{SeatState}
 use Rattle.gc_table.specs.declared.view.View.{View}
 use Rattle.gc_table.specs.Seats.{view_of}
 use Rattle.gc_table.specs.Log.{events}
-use Rattle.gc_table.proofs.Log.{events-join}
+use Rattle.gc_table.proofs.History.Log.{events-join}
 use Rattle.packet_pools.proofs.Counting.{given-moves}
 use Rattle.packet_pools.proofs.InHand.{drop-with}
 use Rattle.packet_pools.proofs.TracedSteps.{cleaned-join, later-cleaned}

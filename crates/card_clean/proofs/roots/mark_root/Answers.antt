@@ -17,7 +17,7 @@ use Rattle.card_clean.proofs.Steps.{idle-hand}
 use Rattle.card_clean.proofs.Leavings.{rescanned-join, rescanned-unread}
 use Rattle.card_clean.specs.Leaving.{rescanned_in}
 use Rattle.gc_table.specs.Log.{events}
-use Rattle.gc_table.proofs.Log.{events-after}
+use Rattle.gc_table.proofs.History.Log.{events-after}
 use Rattle.card_clean.proofs.roots.mark_root.Goals as goal
 
 pub read_root-word-requires-clause-may : goal.read_root-word-requires-clause-may

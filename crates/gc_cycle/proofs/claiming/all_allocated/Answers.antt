@@ -10,13 +10,13 @@ use Rattle.gc_table.specs.Log.{events}
 use Rattle.gc_table.specs.Running.{Known}
 use Rattle.gc_table.specs.Seats.{view_of}
 use Rattle.gc_table.specs.declared.view.View.{View}
-use Rattle.gc_table.proofs.Log.{events-after, only-after}
+use Rattle.gc_table.proofs.History.Log.{events-after, only-after}
 use Rattle.gc_table.proofs.Running.{ran-events, ran-only}
 use Rattle.packet_pools.specs.Seeking.{some_event}
 use Rattle.packet_pools.proofs.Searches.{some-left, some-right}
 use Rattle.gc_cycle.specs.Sorts.{reads_all_ones, reads_free_cell}
 use Rattle.gc_cycle.proofs.Parts.{part-join}
-use Rattle.gc_cycle.proofs.Sets.{part-read, read-here, read-kept}
+use Rattle.gc_cycle.proofs.Ends.Sets.{part-read, read-here, read-kept}
 use Rattle.gc_cycle.specs.Statistics.{leaves_numbers}
 use Rattle.gc_cycle.proofs.claiming.all_allocated.Goals as goal
 

@@ -6,10 +6,10 @@ use Rattle.gc_table.specs.Seats.{view_of}
 use Rattle.gc_table.specs.declared.view.View.{View}
 use Rattle.gc_table.proofs.Running.{ran-events}
 use Rattle.gc_cycle.specs.Refilling.{HasMissed}
-use Rattle.gc_cycle.proofs.Again.{none-later}
+use Rattle.gc_cycle.proofs.Stops.StopsAgain.{none-later}
 use Rattle.gc_cycle.specs.Moments.{begins}
-use Rattle.gc_cycle.proofs.Collected.{exactly-collects, full-alone}
-use Rattle.gc_cycle.proofs.InStop.{claims-later, claims-none, fills-caused, fills-own, quiet-finish, rests-held, rests-later}
+use Rattle.gc_cycle.proofs.Refills.Collected.{exactly-collects, full-alone}
+use Rattle.gc_cycle.proofs.Stops.InStop.{claims-later, claims-none, fills-caused, fills-own, quiet-finish, rests-held, rests-later}
 use Rattle.gc_cycle.proofs.Changes.{by-none, numbers-after, numbers-one}
 use Rattle.gc_cycle.specs.Statistics.{EndsCycle, taken}
 use Rattle.gc_cycle.proofs.claiming.claim_in_stop.Goals as goal

@@ -10,8 +10,8 @@ use Rattle.gc_cycle.specs.Cycles.{collects, collects_exactly}
 use Rattle.gc_cycle.specs.Moments.{begins}
 use Rattle.gc_cycle.specs.Refilling.{HasMissed}
 use Rattle.gc_cycle.specs.Sorts.{begins_exactly, ends_cycle}
-use Rattle.gc_cycle.proofs.Collected.{exactly-collects}
-use Rattle.gc_cycle.proofs.InStop.{alone-same, claims-alone, claims-later, fills-caused, quiet-claim, quiet-finish, quiet-join, rests-later, unfills}
+use Rattle.gc_cycle.proofs.Refills.Collected.{exactly-collects}
+use Rattle.gc_cycle.proofs.Stops.InStop.{alone-same, claims-alone, claims-later, fills-caused, quiet-claim, quiet-finish, quiet-join, rests-later, unfills}
 use Rattle.gc_cycle.proofs.Sequences.{followed-later}
 use Rattle.gc_cycle.proofs.Changes.{numbers-after, numbers-join, numbers-one}
 use Rattle.gc_cycle.specs.Statistics.{EndsCycle, taken}

@@ -6,11 +6,11 @@ use Rattle.mark_core.specs.declared.kinds.Shape.{Shape}
 use Rattle.gc_table.specs.Seats.{view_of}
 use Rattle.gc_table.specs.declared.view.View.{View}
 use Rattle.gc_table.proofs.Running.{ran-section, ran-stored, ran-found}
-use Rattle.gc_cycle.proofs.Completing.{part-exact}
-use Rattle.gc_cycle.proofs.Filling.{full-claims, full-fills, full-told, looked-missed, may-fill, may-name, named-asked, named-kept, named-part}
-use Rattle.gc_cycle.proofs.InStop.{claims-alone, claims-later, may-claim, quiet-claim, quiet-join, quiet-part, rests-later, unfills, ClaimsNone}
+use Rattle.gc_cycle.proofs.Ends.Completing.{part-exact}
+use Rattle.gc_cycle.proofs.Refills.Filling.{full-claims, full-fills, full-told, looked-missed, may-fill, may-name, named-asked, named-kept, named-part}
+use Rattle.gc_cycle.proofs.Stops.InStop.{claims-alone, claims-later, may-claim, quiet-claim, quiet-join, quiet-part, rests-later, unfills, ClaimsNone}
 use Rattle.gc_cycle.proofs.Parts.{part-finishes}
-use Rattle.gc_cycle.proofs.Rounds.{some-blocks}
+use Rattle.gc_cycle.proofs.Refills.Rounds.{some-blocks}
 use Rattle.alloc_cache.specs.Claiming.{seeks_block}
 use Rattle.mark_core.specs.declared.kinds.Step.TheVariants.{StoreNamed, StorePhase}
 use Rattle.mark_core.specs.Effects.{written}

@@ -2,7 +2,7 @@ use Rattle.std.proofs.Common.{◌≡◌, ◌≤◌, [], ◌∷◌, refl, sym, ap
 use Rattle.std.proofs.lemmas.Bool.{or_right}
 use Rattle.mark_core.specs.Layout.{block_count}
 use Rattle.mark_core.specs.Places.{the_phase}
-use Rattle.mark_core.specs.WorldSteps.{begins_exact}
+use Rattle.mark_core.specs.Steps.WorldSteps.{begins_exact}
 use Rattle.mark_core.specs.declared.kinds.Phase.TheVariants.{Clear, Drain}
 use Rattle.mark_core.specs.declared.kinds.Shape.{Shape}
 use Rattle.mark_core.specs.declared.kinds.Step.TheVariants.{Reset, StorePhase}
@@ -11,10 +11,10 @@ use Rattle.gc_table.specs.declared.view.View.{View}
 use Rattle.gc_table.specs.Log.{all_steps, event}
 use Rattle.gc_table.proofs.Noticing.{found-noted}
 use Rattle.gc_table.proofs.Running.{ran-join}
+use Rattle.sweeper.specs.Freeing.{freed_in, block_floor}
+use Rattle.card_clean.specs.Leaving.{rescanned_in}
 use Rattle.gc_cycle.specs.Finishing.{finishes, IsMove}
-use Rattle.gc_cycle.specs.Helping.{freed_in, rescanned_in}
-use Rattle.gc_cycle.specs.Lower.{block_floor}
-use Rattle.gc_cycle.proofs.Moving.{may-begin_again, may-reset_drain, moved}
+use Rattle.gc_cycle.proofs.Ends.Moving.{may-begin_again, may-reset_drain, moved}
 use Rattle.gc_cycle.proofs.Parts.{move-events, part-reset}
 use Rattle.gc_cycle.proofs.clearing.begin_again.Goals as goal
 

@@ -8,10 +8,9 @@ use Rattle.gc_table.proofs.Running.{ran-events, ran-join, ran-only}
 use Rattle.gc_cycle.specs.Events.{never}
 use Rattle.gc_cycle.specs.Finishing.{finishes}
 use Rattle.card_clean.specs.Leaving.{rescans}
-use Rattle.sweeper.specs.Freeing.{frees}
 use Rattle.gc_cycle.specs.Sorts.{tells_full}
-use Rattle.gc_cycle.proofs.Completing.{frees-none, move-total, none-in, part-untold, total-run}
-use Rattle.gc_cycle.proofs.Finishes.{begins-later, never-both}
+use Rattle.gc_cycle.proofs.Ends.Completing.{freed-move, freed-none, freed-run, move-total, part-untold, total-run}
+use Rattle.gc_cycle.proofs.Ends.Finishes.{begins-later, never-both}
 use Rattle.gc_cycle.proofs.Parts.{move-finishes, part-finishes}
 use Rattle.gc_cycle.proofs.clearing.clear_all_marks.Goals as goal
 
@@ -53,10 +52,10 @@ returns-clause-freed g c =
     let m = c.begin_clear.ensures.moved in
     let p = c.clear_rest.ensures.part in
     let b = c.begin_again.ensures.begun in
-    let all = total-run frees v w y m.ran (ran-join w x y p.ran b.ran) in
-    let later = total-run frees w x y p.ran b.ran in
-    let one = move-total frees Drain Clear (λ s n. refl) v w m in
-    let two = none-in frees Clear (frees-none Clear refl) w x p in
+    let all = freed-run v w y m.ran (ran-join w x y p.ran b.ran) in
+    let later = freed-run w x y p.ran b.ran in
+    let one = freed-move Drain Clear v w m in
+    let two = freed-none Clear refl w x p in
     let three = c.begin_again.ensures.freed in
     omega (arith, all, later, one, two, three)
 

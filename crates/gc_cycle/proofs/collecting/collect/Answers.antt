@@ -2,16 +2,16 @@ use Rattle.std.proofs.Common.{◌∙◌, arith, ap, []}
 use Rattle.gc_table.specs.Log.{events}
 use Rattle.gc_table.specs.Seats.{view_of}
 use Rattle.gc_table.specs.declared.view.View.{View}
-use Rattle.gc_table.proofs.Log.{events-none, only-none}
+use Rattle.gc_table.proofs.History.Log.{events-none, only-none}
 use Rattle.gc_table.proofs.Running.{ran-events, ran-join, ran-only, ran-refl}
 use Rattle.packet_pools.specs.Counts.{count_of}
 use Rattle.packet_pools.proofs.Counting.{count-join}
 use Rattle.gc_cycle.specs.Collecting.{spares_section}
 use Rattle.gc_cycle.specs.Mutating.{tries_stopping}
 use Rattle.gc_cycle.specs.Sorts.{raises_flag}
-use Rattle.gc_cycle.proofs.Collected.{section-kept, tries-spare}
-use Rattle.gc_cycle.proofs.Fulls.{tells-more, tells-none}
-use Rattle.gc_cycle.proofs.Goings.{count-calls}
+use Rattle.gc_cycle.proofs.Refills.Collected.{section-kept, tries-spare}
+use Rattle.gc_cycle.proofs.Refills.KnownFull.{tells-more, tells-none}
+use Rattle.gc_cycle.proofs.Stops.FlagRaised.{count-calls}
 use Rattle.gc_cycle.proofs.Changes.{by-none, numbers-join, numbers-one}
 use Rattle.gc_cycle.proofs.collecting.collect.Goals as goal
 

@@ -1,8 +1,8 @@
 use Rattle.gc_table.specs.Seats.{view_of}
 use Rattle.gc_table.specs.declared.view.View.{View}
 use Rattle.std.proofs.Common.{refl, []}
-use Rattle.gc_cycle.proofs.Collected.{ends-at_full, ends-collected, full-alone, exactly-collects, holds-phase, resumed-mutates}
-use Rattle.gc_cycle.proofs.Goings.{is-done}
+use Rattle.gc_cycle.proofs.Refills.Collected.{ends-at_full, ends-collected, full-alone, exactly-collects, holds-phase, resumed-mutates}
+use Rattle.gc_cycle.proofs.Stops.OutAndIn.{is-done}
 use Rattle.gc_cycle.specs.Moments.{begins}
 use Rattle.gc_table.specs.Log.{events}
 use Rattle.mark_core.specs.declared.kinds.Phase.TheVariants.{Full, Idle}

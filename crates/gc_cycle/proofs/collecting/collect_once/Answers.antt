@@ -1,4 +1,4 @@
-use Rattle.std.proofs.Common.{◌∙◌, ap, Bool, []}
+use Rattle.std.proofs.Common.{◌∙◌, ap, Bool, [], rules}
 use Rattle.std.specs.Prelude.{if◌then◌else◌}
 use Rattle.gc_table.specs.Seats.{view_of}
 use Rattle.gc_table.specs.Log.{events}
@@ -6,8 +6,8 @@ use Rattle.gc_table.specs.declared.view.View.{View}
 use Rattle.gc_table.proofs.Running.{ran-join}
 use Rattle.packet_pools.specs.Counts.{count_of}
 use Rattle.gc_cycle.specs.Sorts.{raises_flag}
-use Rattle.gc_cycle.proofs.Answered.{full-later}
-use Rattle.gc_cycle.proofs.Collected.{answers-section, answers-uncounted, goes-collected, held, none-raised, stopped, tells-tried, tried}
+use Rattle.gc_cycle.proofs.Refills.Answered.{full-later}
+use Rattle.gc_cycle.proofs.Refills.Collected.{answers-section, answers-uncounted, goes-collected, held, none-raised, stopped, tells-tried, tried}
 use Rattle.gc_cycle.proofs.Changes.{by-join, numbers-collected, numbers-one, only-changes}
 use Rattle.gc_cycle.proofs.collecting.collect_once.Goals as goal
 
@@ -33,177 +33,70 @@ returns-then-ends_full-clause-only g c =
     let v : View = view_of c.ends_full.new.seat in
     answers-section u v c.ends_full.ensures.only
 
-pub returns-then-not-stop-clause-ran : goal.returns-then-not-stop-clause-ran
-returns-then-not-stop-clause-ran g c =
-    let u : View = view_of c.args.seat.now in
-    let v : View = view_of c.ends_full.new.seat in
-    let w : View = view_of c.stop.new.seat in
-    let e = c.ends_full.ensures in
-    let t = c.stop.ensures in
-    let d = tried c.args.done u v w e.ran e.only t.tries t.position (t.raises ∙ ap (λ (b : Bool). if b then 1 else 0) c.if-not-stop.true) c.if-not-stop.ensures.theirs in
-    d.0
-
-pub returns-then-not-stop-clause-none : goal.returns-then-not-stop-clause-none
-returns-then-not-stop-clause-none g c =
-    let u : View = view_of c.args.seat.now in
-    let v : View = view_of c.ends_full.new.seat in
-    let w : View = view_of c.stop.new.seat in
-    let e = c.ends_full.ensures in
-    let t = c.stop.ensures in
-    let d = tried c.args.done u v w e.ran e.only t.tries t.position (t.raises ∙ ap (λ (b : Bool). if b then 1 else 0) c.if-not-stop.true) c.if-not-stop.ensures.theirs in
-    d.1
-
-pub returns-then-not-stop-clause-once : goal.returns-then-not-stop-clause-once
-returns-then-not-stop-clause-once g c =
-    let u : View = view_of c.args.seat.now in
-    let v : View = view_of c.ends_full.new.seat in
-    let w : View = view_of c.stop.new.seat in
-    let e = c.ends_full.ensures in
-    let t = c.stop.ensures in
-    let d = tried c.args.done u v w e.ran e.only t.tries t.position (t.raises ∙ ap (λ (b : Bool). if b then 1 else 0) c.if-not-stop.true) c.if-not-stop.ensures.theirs in
-    none-raised (count_of raises_flag (events u w)) d.1.calm
-
-pub returns-then-not-stop-clause-only : goal.returns-then-not-stop-clause-only
-returns-then-not-stop-clause-only g c =
-    let u : View = view_of c.args.seat.now in
-    let v : View = view_of c.ends_full.new.seat in
-    let w : View = view_of c.stop.new.seat in
-    let e = c.ends_full.ensures in
-    let t = c.stop.ensures in
-    let d = tried c.args.done u v w e.ran e.only t.tries t.position (t.raises ∙ ap (λ (b : Bool). if b then 1 else 0) c.if-not-stop.true) c.if-not-stop.ensures.theirs in
-    d.2
-
-pub returns-then-ends_full-2-clause-ran : goal.returns-then-ends_full-2-clause-ran
-returns-then-ends_full-2-clause-ran g c =
-    let u : View = view_of c.args.seat.now in
-    let v : View = view_of c.ends_full.new.seat in
-    let w : View = view_of c.stop.new.seat in
-    let e = c.ends_full.ensures in
-    let t = c.stop.ensures in
-    let x : View = view_of c.collect_in_stop.new.seat in
-    let y : View = view_of c.ends_full-2.new.seat in
-    let i = c.collect_in_stop.ensures in
-    let l = c.ends_full-2.ensures in
-    let d = stopped u v w x y e.ran e.only t.tries (t.raises ∙ ap (λ (b : Bool). if b then 1 else 0) c.if-not-stop.false) i.ends l.ran l.only in
-    d.0
-
-pub returns-then-ends_full-2-clause-once : goal.returns-then-ends_full-2-clause-once
-returns-then-ends_full-2-clause-once g c =
-    let u : View = view_of c.args.seat.now in
-    let v : View = view_of c.ends_full.new.seat in
-    let w : View = view_of c.stop.new.seat in
-    let e = c.ends_full.ensures in
-    let t = c.stop.ensures in
-    let x : View = view_of c.collect_in_stop.new.seat in
-    let y : View = view_of c.ends_full-2.new.seat in
-    let i = c.collect_in_stop.ensures in
-    let l = c.ends_full-2.ensures in
-    let d = stopped u v w x y e.ran e.only t.tries (t.raises ∙ ap (λ (b : Bool). if b then 1 else 0) c.if-not-stop.false) i.ends l.ran l.only in
-    d.2
-
-pub returns-then-ends_full-2-clause-only : goal.returns-then-ends_full-2-clause-only
-returns-then-ends_full-2-clause-only g c =
-    let u : View = view_of c.args.seat.now in
-    let v : View = view_of c.ends_full.new.seat in
-    let w : View = view_of c.stop.new.seat in
-    let e = c.ends_full.ensures in
-    let t = c.stop.ensures in
-    let x : View = view_of c.collect_in_stop.new.seat in
-    let y : View = view_of c.ends_full-2.new.seat in
-    let i = c.collect_in_stop.ensures in
-    let l = c.ends_full-2.ensures in
-    let d = stopped u v w x y e.ran e.only t.tries (t.raises ∙ ap (λ (b : Bool). if b then 1 else 0) c.if-not-stop.false) i.ends l.ran l.only in
-    d.1
-
-pub returns-clause-ran : goal.returns-clause-ran
-returns-clause-ran g c =
-    let u : View = view_of c.args.seat.now in
-    let v : View = view_of c.ends_full.new.seat in
-    let w : View = view_of c.stop.new.seat in
-    let e = c.ends_full.ensures in
-    let t = c.stop.ensures in
-    let x : View = view_of c.collect_in_stop.new.seat in
-    let y : View = view_of c.ends_full-2.new.seat in
-    let i = c.collect_in_stop.ensures in
-    let l = c.ends_full-2.ensures in
-    let d = stopped u v w x y e.ran e.only t.tries (t.raises ∙ ap (λ (b : Bool). if b then 1 else 0) c.if-not-stop.false) i.ends l.ran l.only in
-    d.0
-
-pub returns-clause-once : goal.returns-clause-once
-returns-clause-once g c =
-    let u : View = view_of c.args.seat.now in
-    let v : View = view_of c.ends_full.new.seat in
-    let w : View = view_of c.stop.new.seat in
-    let e = c.ends_full.ensures in
-    let t = c.stop.ensures in
-    let x : View = view_of c.collect_in_stop.new.seat in
-    let y : View = view_of c.ends_full-2.new.seat in
-    let i = c.collect_in_stop.ensures in
-    let l = c.ends_full-2.ensures in
-    let d = stopped u v w x y e.ran e.only t.tries (t.raises ∙ ap (λ (b : Bool). if b then 1 else 0) c.if-not-stop.false) i.ends l.ran l.only in
-    d.2
-
-pub returns-clause-only : goal.returns-clause-only
-returns-clause-only g c =
-    let u : View = view_of c.args.seat.now in
-    let v : View = view_of c.ends_full.new.seat in
-    let w : View = view_of c.stop.new.seat in
-    let e = c.ends_full.ensures in
-    let t = c.stop.ensures in
-    let x : View = view_of c.collect_in_stop.new.seat in
-    let y : View = view_of c.ends_full-2.new.seat in
-    let i = c.collect_in_stop.ensures in
-    let l = c.ends_full-2.ensures in
-    let d = stopped u v w x y e.ran e.only t.tries (t.raises ∙ ap (λ (b : Bool). if b then 1 else 0) c.if-not-stop.false) i.ends l.ran l.only in
-    d.1
-
-pub returns-then-ends_full-2-clause-some : goal.returns-then-ends_full-2-clause-some
-returns-then-ends_full-2-clause-some g c =
-    let u : View = view_of c.args.seat.now in
-    let v : View = view_of c.ends_full.new.seat in
-    let w : View = view_of c.stop.new.seat in
-    let e = c.ends_full.ensures in
-    let t = c.stop.ensures in
-    let x : View = view_of c.collect_in_stop.new.seat in
-    let y : View = view_of c.ends_full-2.new.seat in
-    let i = c.collect_in_stop.ensures in
-    let l = c.ends_full-2.ensures in
-    let d = stopped u v w x y e.ran e.only t.tries (t.raises ∙ ap (λ (b : Bool). if b then 1 else 0) c.if-not-stop.false) i.ends l.ran l.only in
-    λ z r k. full-later c.args.done z x y (ran-join z w x (tells-tried z u v w r k e.ran e.only t.tries).0 i.ends.ran) l.ran c.if-ends_full-2.ensures.full.0
-
-pub returns-clause-some : goal.returns-clause-some
-returns-clause-some g c =
-    let u : View = view_of c.args.seat.now in
-    let v : View = view_of c.ends_full.new.seat in
-    let w : View = view_of c.stop.new.seat in
-    let e = c.ends_full.ensures in
-    let t = c.stop.ensures in
-    let x : View = view_of c.collect_in_stop.new.seat in
-    let y : View = view_of c.ends_full-2.new.seat in
-    let i = c.collect_in_stop.ensures in
-    let l = c.ends_full-2.ensures in
-    let d = stopped u v w x y e.ran e.only t.tries (t.raises ∙ ap (λ (b : Bool). if b then 1 else 0) c.if-not-stop.false) i.ends l.ran l.only in
-    λ z r k. let b = tells-tried z u v w r k e.ran e.only t.tries in goes-collected c.args.done z w x y b.0 b.1 t.position i.ends.ran l.ran i.ends c.if-ends_full-2.ensures.going
-
 pub returns-then-ends_full-clause-numbers : goal.returns-then-ends_full-clause-numbers
 returns-then-ends_full-clause-numbers g c = numbers-one [] (view_of c.args.seat.now) (view_of c.ends_full.new.seat) c.ends_full.ensures.numbers
 
-pub returns-then-not-stop-clause-numbers : goal.returns-then-not-stop-clause-numbers
-returns-then-not-stop-clause-numbers g c =
+pub returns-then-not-stop : goal.returns-then-not-stop
+returns-then-not-stop g c =
     let u : View = view_of c.args.seat.now in
     let v : View = view_of c.ends_full.new.seat in
     let w : View = view_of c.stop.new.seat in
+    let e = c.ends_full.ensures in
     let t = c.stop.ensures in
-    numbers-one [] u w (by-join [] [] u v w c.ends_full.ensures.numbers (only-changes (view_of c.ends_full.new.seat) (view_of c.stop.new.seat) t.tries.ran t.numbers))
+    let d = tried c.args.done u v w e.ran e.only t.tries t.position (t.raises ∙ ap (λ (b : Bool). if b then 1 else 0) c.if-not-stop.true) c.if-not-stop.ensures.theirs in
+    record {
+      seat = search rules;
+      ran = d.0;
+      none = d.1;
+      some = tt;
+      once = none-raised (count_of raises_flag (events u w)) d.1.calm;
+      only = d.2;
+      numbers = numbers-one [] u w (by-join [] [] u v w e.numbers (only-changes v w t.tries.ran t.numbers));
+      known = tt;
+    }
 
-pub returns-then-ends_full-2-clause-numbers : goal.returns-then-ends_full-2-clause-numbers
-returns-then-ends_full-2-clause-numbers g c =
+pub returns-then-ends_full-2 : goal.returns-then-ends_full-2
+returns-then-ends_full-2 g c =
+    let u : View = view_of c.args.seat.now in
+    let v : View = view_of c.ends_full.new.seat in
+    let w : View = view_of c.stop.new.seat in
+    let x : View = view_of c.collect_in_stop.new.seat in
+    let y : View = view_of c.ends_full-2.new.seat in
+    let e = c.ends_full.ensures in
     let t = c.stop.ensures in
-    numbers-collected (view_of c.args.seat.now) (view_of c.ends_full.new.seat) (view_of c.stop.new.seat) (view_of c.collect_in_stop.new.seat) (view_of c.ends_full-2.new.seat)
-    c.ends_full.ensures.numbers (only-changes (view_of c.ends_full.new.seat) (view_of c.stop.new.seat) t.tries.ran t.numbers) c.collect_in_stop.ensures.numbers c.ends_full-2.ensures.numbers
+    let i = c.collect_in_stop.ensures in
+    let l = c.ends_full-2.ensures in
+    let d = stopped u v w x y e.ran e.only t.tries (t.raises ∙ ap (λ (b : Bool). if b then 1 else 0) c.if-not-stop.false) i.ends l.ran l.only in
+    record {
+      seat = search rules;
+      ran = d.0;
+      none = tt;
+      some = λ z r k. full-later c.args.done z x y (ran-join z w x (tells-tried z u v w r k e.ran e.only t.tries).0 i.ends.ran) l.ran c.if-ends_full-2.ensures.full.0;
+      once = d.2;
+      only = d.1;
+      numbers = numbers-collected u v w x y e.numbers (only-changes v w t.tries.ran t.numbers) i.numbers l.numbers;
+      known = search rules;
+    }
 
-pub returns-clause-numbers : goal.returns-clause-numbers
-returns-clause-numbers g c =
+pub returns : goal.returns
+returns g c =
+    let u : View = view_of c.args.seat.now in
+    let v : View = view_of c.ends_full.new.seat in
+    let w : View = view_of c.stop.new.seat in
+    let x : View = view_of c.collect_in_stop.new.seat in
+    let y : View = view_of c.ends_full-2.new.seat in
+    let e = c.ends_full.ensures in
     let t = c.stop.ensures in
-    numbers-collected (view_of c.args.seat.now) (view_of c.ends_full.new.seat) (view_of c.stop.new.seat) (view_of c.collect_in_stop.new.seat) (view_of c.ends_full-2.new.seat)
-    c.ends_full.ensures.numbers (only-changes (view_of c.ends_full.new.seat) (view_of c.stop.new.seat) t.tries.ran t.numbers) c.collect_in_stop.ensures.numbers c.ends_full-2.ensures.numbers
+    let i = c.collect_in_stop.ensures in
+    let l = c.ends_full-2.ensures in
+    let d = stopped u v w x y e.ran e.only t.tries (t.raises ∙ ap (λ (b : Bool). if b then 1 else 0) c.if-not-stop.false) i.ends l.ran l.only in
+    record {
+      seat = search rules;
+      ran = d.0;
+      none = tt;
+      some = λ z r k. let b = tells-tried z u v w r k e.ran e.only t.tries in goes-collected c.args.done z w x y b.0 b.1 t.position i.ends.ran l.ran i.ends c.if-ends_full-2.ensures.going;
+      once = d.2;
+      only = d.1;
+      numbers = numbers-collected u v w x y e.numbers (only-changes v w t.tries.ran t.numbers) i.numbers l.numbers;
+      known = search rules;
+    }

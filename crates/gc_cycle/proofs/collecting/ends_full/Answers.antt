@@ -2,10 +2,10 @@ use Rattle.std.proofs.Common.{◌∙◌, None, refl, ap, []}
 use Rattle.mark_core.specs.declared.kinds.Step.TheVariants.{ReadPhase, StorePosition}
 use Rattle.gc_table.specs.Seats.{view_of}
 use Rattle.gc_table.specs.declared.view.View.{View}
-use Rattle.gc_table.proofs.Log.{only-none}
+use Rattle.gc_table.proofs.History.Log.{only-none}
 use Rattle.gc_table.proofs.Running.{ran-refl, ran-took, ran-stored}
 use Rattle.gc_cycle.specs.Answering.{retires}
-use Rattle.gc_cycle.proofs.Answered.{cached-still, ends-full}
+use Rattle.gc_cycle.proofs.Refills.Answered.{cached-still, ends-full}
 use Rattle.gc_cycle.proofs.Changes.{by-join, changes-after}
 use Rattle.gc_cycle.proofs.collecting.ends_full.Goals as goal
 

@@ -2,7 +2,7 @@ use Rattle.std.proofs.Common.{◌∙◌, sym, ap, subst, is_some, refl, []}
 use Rattle.gc_table.specs.Seats.{view_of}
 use Rattle.gc_table.specs.declared.view.View.{View}
 use Rattle.gc_cycle.specs.Answering.{GivesWay}
-use Rattle.gc_cycle.proofs.Answered.{cached-still, gave-way, kept-way, polled-mutates}
+use Rattle.gc_cycle.proofs.Refills.Answered.{cached-still, gave-way, kept-way, polled-mutates}
 use Rattle.mark_core.specs.declared.kinds.Step.TheVariants.{Observe}
 use Rattle.gc_cycle.proofs.Changes.{by-join, changes-after, gives-join, keeps-up, only-changes}
 use Rattle.gc_cycle.proofs.collecting.give_way.Goals as goal

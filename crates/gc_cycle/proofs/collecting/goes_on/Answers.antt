@@ -3,7 +3,7 @@ use Rattle.mark_core.specs.declared.kinds.Step.TheVariants.{ReadPhase, StorePosi
 use Rattle.gc_table.specs.Seats.{view_of}
 use Rattle.gc_table.specs.declared.view.View.{View}
 use Rattle.gc_table.proofs.Running.{ran-took, ran-stored}
-use Rattle.gc_cycle.proofs.Answered.{cached-still, ends-full}
+use Rattle.gc_cycle.proofs.Refills.Answered.{cached-still, ends-full}
 use Rattle.gc_cycle.proofs.Changes.{changes-after, gives-join, keeps-up}
 use Rattle.gc_cycle.proofs.collecting.goes_on.Goals as goal
 

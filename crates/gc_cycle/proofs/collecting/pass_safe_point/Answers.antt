@@ -1,13 +1,13 @@
 use Rattle.std.proofs.lemmas.Bool.{OnFalse_at, OnFalse_from, OnTrue_at, OnTrue_from}
 use Rattle.gc_table.specs.Seats.{view_of}
 use Rattle.gc_table.specs.declared.view.View.{View}
-use Rattle.gc_table.proofs.Log.{only-more}
+use Rattle.gc_table.proofs.History.Log.{only-more}
 use Rattle.gc_table.proofs.Running.{ran-join}
 use Rattle.gc_cycle.specs.Mutating.{stays_calm}
 use Rattle.gc_cycle.specs.declared.counts.Safe.TheVariants as safes
 use Rattle.gc_cycle.specs.Sparing.{spares_part}
-use Rattle.gc_cycle.proofs.Answered.{passed-out, passes}
-use Rattle.gc_cycle.proofs.Collected.{calm-spares}
+use Rattle.gc_cycle.proofs.Refills.Answered.{passed-out, passes}
+use Rattle.gc_cycle.proofs.Refills.Collected.{calm-spares}
 use Rattle.gc_cycle.proofs.Changes.{gives-join}
 use Rattle.gc_cycle.proofs.collecting.pass_safe_point.Goals as goal
 

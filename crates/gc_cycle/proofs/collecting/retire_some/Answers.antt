@@ -1,7 +1,7 @@
 use Rattle.gc_table.specs.Seats.{view_of}
 use Rattle.gc_table.specs.declared.view.View.{View}
-use Rattle.mark_core.specs.MutatorSteps.{used_bits}
-use Rattle.gc_cycle.proofs.Retired.{retired-only}
+use Rattle.mark_core.specs.Steps.MutatorSteps.{used_bits}
+use Rattle.gc_cycle.proofs.Refills.Retired.{retired-only}
 use Rattle.std.proofs.Common.{sym, ◌∙◌, subst, None}
 use Rattle.alloc_cache.specs.declared.cache.Cache.{Cache}
 use Rattle.gc_cycle.proofs.Numbers.{retire-up}

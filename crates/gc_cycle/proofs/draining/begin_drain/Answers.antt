@@ -3,7 +3,7 @@ use Rattle.std.proofs.lemmas.Bool.{or_right}
 use Rattle.mark_core.specs.declared.kinds.Phase.TheVariants.{Drain, Idle, Marking}
 use Rattle.mark_core.specs.declared.kinds.Step.TheVariants.{StorePhase}
 use Rattle.mark_core.specs.Places.{the_phase}
-use Rattle.mark_core.specs.WorldSteps.{begins_exact}
+use Rattle.mark_core.specs.Steps.WorldSteps.{begins_exact}
 use Rattle.gc_table.specs.Seats.{Answered, view_of}
 use Rattle.gc_table.specs.Taking.{won}
 use Rattle.gc_table.specs.declared.view.View.{View}
@@ -11,7 +11,7 @@ use Rattle.gc_table.specs.Running.{Ran}
 use Rattle.gc_table.proofs.Noticing.{found-noted}
 use Rattle.gc_table.proofs.Running.{ran-join}
 use Rattle.gc_cycle.specs.Finishing.{IsAloneIn, IsMove}
-use Rattle.gc_cycle.proofs.Moving.{may-begin_drain, may-reset_drain, moved}
+use Rattle.gc_cycle.proofs.Ends.Moving.{may-begin_drain, may-reset_drain, moved}
 use Rattle.gc_cycle.proofs.Parts.{move-events, part-reset}
 use Rattle.gc_cycle.proofs.draining.begin_drain.Goals as goal
 

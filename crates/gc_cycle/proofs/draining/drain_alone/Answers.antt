@@ -1,26 +1,16 @@
-use Rattle.std.proofs.Common.{◌≡◌, refl, ap, ◌∙◌, arith, Some}
-use Rattle.mark_core.specs.Places.{the_next_block}
+use Rattle.std.proofs.Common.{refl, ap, arith, inl}
 use Rattle.mark_core.specs.declared.kinds.Phase.TheVariants.{Drain}
-use Rattle.mark_core.specs.declared.kinds.Step.TheVariants.{Reset}
-use Rattle.gc_table.specs.Notes.{look}
 use Rattle.gc_table.specs.Seats.{view_of}
-use Rattle.gc_table.specs.Taking.{after}
 use Rattle.gc_table.specs.declared.view.View.{View}
-use Rattle.gc_table.proofs.Noticing.{alone-steady, known-here}
 use Rattle.gc_table.proofs.Running.{ran-join}
-use Rattle.gc_cycle.specs.Finishing.{IsAloneIn}
-use Rattle.gc_cycle.specs.Helping.{rescanned_in}
-use Rattle.card_clean.specs.Leaving.{rescans}
-use Rattle.gc_cycle.proofs.Completing.{total-run}
-use Rattle.gc_cycle.proofs.DrainRounds.{begins-rounds, drains-alone, goes-on, goes-round}
-use Rattle.gc_cycle.proofs.Moving.{may-reset_drain}
+use Rattle.card_clean.specs.Leaving.{rescans, rescanned_in}
+use Rattle.gc_cycle.proofs.Ends.Completing.{total-run}
+use Rattle.gc_cycle.proofs.Ends.DrainRounds.{begins-rounds, drains-alone, goes-on, goes-round}
+use Rattle.gc_cycle.proofs.Ends.Moving.{may-reset_drain}
 use Rattle.gc_cycle.proofs.Parts.{only-reset, part-join, part-reset}
 use Rattle.gc_cycle.proofs.Traced.{rescans-none, traced-part}
+use Rattle.gc_cycle.proofs.Stepped.{cleared}
 use Rattle.gc_cycle.proofs.draining.drain_alone.Goals as goal
-
--- the counter of blocks is noted as 0
-cleared : (v w : View) → IsAloneIn Drain v → w ≡ after (Reset 1) 0 v → look the_next_block w.known ≡ Some 0
-cleared v w a is = ap (λ (x : View). look the_next_block x.known) is ∙ (known-here v (Reset 1) 0 the_next_block refl (alone-steady v.state the_next_block 0 refl a.rest.alone)).0
 
 pub reset-requires-clause-may : goal.reset-requires-clause-may
 reset-requires-clause-may g c = may-reset_drain 1 (view_of c.args.seat.now) refl c.requires.alone
@@ -41,9 +31,9 @@ loop-init g c =
     let none = rescans-none v w x p.ran q.ran (ap (rescanned_in v) (only-reset 1 v w c.reset.ensures.view)) c.see_to_roots.ensures.rescanned in
     record { next = tt; finite = tt; sits = c.see_to_roots.ensures.seat.0; part = part-join Drain v w x p q; rooted = c.see_to_roots.ensures.seat.1; draining = begins-rounds v x (part-join Drain v w x p q) c.see_to_roots.ensures.seat.1; count = omega (arith, none) }
 
-pub drain_round-requires-clause-alone : goal.drain_round-requires-clause-alone
-drain_round-requires-clause-alone g c =
-    let i = c.loop.invariant in (traced-part (view_of c.loop.seat) (view_of c.is_drained.new.seat) i.part.alone c.is_drained.ensures.traced).alone
+pub drain_round-requires-clause-drains : goal.drain_round-requires-clause-drains
+drain_round-requires-clause-drains g c =
+    let i = c.loop.invariant in inl (traced-part (view_of c.loop.seat) (view_of c.is_drained.new.seat) i.part.alone c.is_drained.ensures.traced).alone
 
 pub loop-preserved : goal.loop-preserved
 loop-preserved g c =
@@ -53,7 +43,7 @@ loop-preserved g c =
     let y : View = view_of c.drain_round.new.seat in
     let i = c.loop.invariant in
     let p = traced-part w x i.part.alone c.is_drained.ensures.traced in
-    let q = c.drain_round.ensures.part in
+    let q = traced-part x y p.alone c.drain_round.ensures.traced in
     let all = total-run rescans v w y i.part.ran (ran-join w x y p.ran q.ran) in
     let last = total-run rescans w x y p.ran q.ran in
     let none = c.is_drained.ensures.rescanned in
@@ -65,7 +55,7 @@ loop-preserved g c =
       finite = tt;
       sits = c.drain_round.ensures.seat;
       part = part-join Drain v w y i.part (part-join Drain w x y p q);
-      rooted = c.drain_round.ensures.rooted c.is_drained.ensures.seat.1;
+      rooted = c.drain_round.ensures.traced.rooted c.is_drained.ensures.seat.1;
       draining = goes-on v w y i.draining (goes-round c.args.heap.now.shape w x y i.sits.1 p.ran (c.is_drained.ensures.undrained c.if-is_drained.false) q.ran c.drain_round.ensures.worked);
       count = omega (arith, all, last, none, some, sum, before);
     }

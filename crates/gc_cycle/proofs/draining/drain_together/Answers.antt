@@ -1,4 +1,4 @@
-use Rattle.std.proofs.Common.{ℕ, ◌≡◌, ◌<◌, refl, ap, ◌∙◌, arith, subst, true}
+use Rattle.std.proofs.Common.{ℕ, ◌≡◌, ◌<◌, refl, ap, ◌∙◌, arith, subst, true, inr}
 use Rattle.std.proofs.lemmas.Bool.{false≢true}
 use Rattle.mark_core.specs.declared.kinds.Phase.TheVariants.{Drain}
 use Rattle.mark_core.specs.declared.kinds.Shape.{Shape}
@@ -16,10 +16,11 @@ use Rattle.gc_table.proofs.Noticing.{alone-phase}
 use Rattle.gc_table.proofs.Running.{ran-events, ran-join}
 use Rattle.card_clean.specs.Leaving.{rescans}
 use Rattle.gc_cycle.specs.Sorts.{opens}
-use Rattle.gc_cycle.proofs.Completing.{total-run}
-use Rattle.gc_cycle.proofs.Opened.{closed, open-event, open-part, open-ran, open-total, opened}
+use Rattle.gc_cycle.proofs.Ends.Completing.{total-run}
+use Rattle.gc_cycle.proofs.Stops.Opened.{closed, open-event, open-part, open-ran, open-total, opened}
 use Rattle.gc_cycle.proofs.Parts.{part-join}
-use Rattle.gc_cycle.proofs.Unopened.{openable}
+use Rattle.gc_cycle.proofs.Traced.{traced-open}
+use Rattle.gc_cycle.proofs.Stops.Unopened.{openable}
 use Rattle.gc_cycle.specs.Turns.{round_quota}
 use Rattle.gc_cycle.proofs.Turns.{drained-within, roots-earlier}
 use Rattle.gc_cycle.proofs.draining.drain_together.Goals as goal
@@ -29,25 +30,25 @@ closes-none s CloseStep n e = refl
 closes-none s SeeHelp n e = refl
 closes-none s step n e = absurd (false≢true e)
 
-pub help_drain-rescanned-requires-clause-open : goal.help_drain-rescanned-requires-clause-open
-help_drain-rescanned-requires-clause-open g c =
+pub drain_round-rescanned-requires-clause-drains : goal.drain_round-rescanned-requires-clause-drains
+drain_round-rescanned-requires-clause-drains g c =
     let w : View = view_of c.scan_all_roots.new.seat in
     let a = c.scan_all_roots.ensures.part.alone in
-    opened Drain w (view_of c.open_help.new.seat) a c.open_help.ensures.step (c.open_help.ensures.phase Drain (alone-phase Drain w a.alone))
+    inr (opened Drain w (view_of c.open_help.new.seat) a c.open_help.ensures.step (c.open_help.ensures.phase Drain (alone-phase Drain w a.alone)))
 
 pub returns-clause-rescanned : goal.returns-clause-rescanned
 returns-clause-rescanned g c =
     let v : View = view_of c.args.seat.now in
     let w : View = view_of c.scan_all_roots.new.seat in
     let x : View = view_of c.open_help.new.seat in
-    let y : View = view_of c.help_drain-rescanned.new.seat in
+    let y : View = view_of c.drain_round-rescanned.new.seat in
     let z : View = view_of c.close_help.new.seat in
-    let o = c.help_drain-rescanned.ensures.open in
+    let o = c.drain_round-rescanned.ensures.traced in
     let q = c.close_help.ensures in
     let all = total-run rescans v w z c.scan_all_roots.ensures.part.ran (ran-join w x z (open-ran w x c.open_help.ensures.step) (ran-join x y z o.ran q.ran)) in
     let none = c.scan_all_roots.ensures.rescanned in
     let inside = open-total rescans (λ s n. refl) closes-none w x y z c.open_help.ensures.step o.ran q.ran q.only in
-    let some = c.help_drain-rescanned.ensures.rescanned in
+    let some = c.drain_round-rescanned.ensures.rescanned in
     omega (arith, all, none, inside, some)
 
 pub open_help-requires-clause-openable : goal.open_help-requires-clause-openable
@@ -58,10 +59,11 @@ returns-clause-drains g c =
     let v : View = view_of c.args.seat.now in
     let w : View = view_of c.scan_all_roots.new.seat in
     let x : View = view_of c.open_help.new.seat in
-    let y : View = view_of c.help_drain-rescanned.new.seat in
+    let y : View = view_of c.drain_round-rescanned.new.seat in
     let z : View = view_of c.close_help.new.seat in
     let scanned = c.scan_all_roots.ensures in
-    let o = c.help_drain-rescanned.ensures.open in
+    let a = scanned.part.alone in
+    let o = traced-open x y (opened Drain w x a c.open_help.ensures.step (c.open_help.ensures.phase Drain (alone-phase Drain w a.alone))) c.drain_round-rescanned.ensures.traced in
     let q = c.close_help.ensures in
     let opening : Ran w x = open-ran w x c.open_help.ensures.step in
     let later : Ran x z = ran-join x y z o.ran q.ran in
@@ -72,5 +74,5 @@ returns-clause-drains g c =
       opened =
           ap (some_event opens) (ran-events v w z scanned.part.ran rest)
           ∙ some-right opens (events v w) (events w z) (open-event w x z c.open_help.ensures.step later);
-      worked = drained-within round_quota v x y z (ran-join v w x scanned.part.ran opening) o.ran q.ran c.help_drain-rescanned.ensures.worked;
+      worked = drained-within round_quota v x y z (ran-join v w x scanned.part.ran opening) o.ran q.ran c.drain_round-rescanned.ensures.worked;
     }

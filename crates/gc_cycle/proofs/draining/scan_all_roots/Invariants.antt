@@ -2,8 +2,8 @@ use Rattle.std.proofs.Common.{ℕ, ◌≡◌, ◌<◌}
 use Rattle.mark_core.specs.declared.kinds.Phase.TheVariants.{Drain}
 use Rattle.gc_table.specs.Seats.{Sits, view_of}
 use Rattle.gc_table.specs.Log.{events}
+use Rattle.card_clean.specs.Leaving.{rescanned_in}
 use Rattle.gc_cycle.specs.Finishing.{IsPart}
-use Rattle.gc_cycle.specs.Helping.{rescanned_in}
 use Rattle.gc_cycle.specs.Turns.{SeesToRoots}
 use Rattle.gc_cycle.proofs.draining.scan_all_roots.Given as goal
 

@@ -3,16 +3,15 @@ use Rattle.mark_core.specs.declared.kinds.Phase.TheVariants.{Drain, Idle, Markin
 use Rattle.gc_table.specs.Seats.{view_of}
 use Rattle.gc_table.specs.declared.view.View.{View}
 use Rattle.gc_table.proofs.Running.{ran-join, ran-only}
-use Rattle.gc_cycle.specs.Helping.{freed_in, rescanned_in}
-use Rattle.card_clean.specs.Leaving.{rescans}
-use Rattle.sweeper.specs.Freeing.{frees}
-use Rattle.gc_cycle.proofs.Completing.{frees-none, none-in, total-run}
+use Rattle.card_clean.specs.Leaving.{rescans, rescanned_in}
+use Rattle.sweeper.specs.Freeing.{freed_in}
+use Rattle.gc_cycle.proofs.Ends.Completing.{freed-none, freed-run, total-run}
 use Rattle.gc_cycle.specs.Events.{since_last}
 use Rattle.gc_cycle.specs.Finishing.{finishes}
 use Rattle.gc_cycle.specs.Sorts.{moves_to}
 use Rattle.gc_cycle.proofs.Parts.{part-finishes}
-use Rattle.gc_cycle.proofs.Finishes.{begins-later}
-use Rattle.gc_cycle.proofs.Starting.{drain-no-full, either-untold, idle-begins, look-drain-events, look-drain-finishes, look-finishes, look-ran, looked, idle-or-marking, marking-ran}
+use Rattle.gc_cycle.proofs.Ends.Finishes.{begins-later}
+use Rattle.gc_cycle.proofs.Ends.Starting.{drain-no-full, either-untold, idle-begins, look-drain-events, look-drain-finishes, look-finishes, look-ran, looked, idle-or-marking, marking-ran}
 use Rattle.gc_cycle.proofs.finishing.begin_exactly.Goals as goal
 
 pub returns-then-idle-clause-begun : goal.returns-then-idle-clause-begun
@@ -85,10 +84,10 @@ returns-clause-freed g c =
     let b = c.begin_drain.ensures in
     let p = c.drain_alone-rescanned.ensures.drains.part in
     let q = c.clear_all_marks.ensures.begun in
-    let all = total-run frees v x z (marking-ran v w x t b.ran) (ran-join x y z p.ran q.ran) in
-    let later = total-run frees x y z p.ran q.ran in
+    let all = freed-run v x z (marking-ran v w x t b.ran) (ran-join x y z p.ran q.ran) in
+    let later = freed-run x y z p.ran q.ran in
     let one = ap (freed_in v) (look-drain-events v w x 1 t b.ran (b.events Marking c.if-idle.ensures.marking)) in
-    let two = none-in frees Drain (frees-none Drain refl) x y p in
+    let two = freed-none Drain refl x y p in
     let three = c.clear_all_marks.ensures.freed in
     omega (arith, all, later, one, two, three)
 

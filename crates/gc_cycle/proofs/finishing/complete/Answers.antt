@@ -1,6 +1,6 @@
 use Rattle.std.proofs.Common.{sym, ◌∙◌, arith}
 use Rattle.gc_table.specs.Seats.{view_of}
-use Rattle.gc_cycle.proofs.Completing.{completes, drains-sweep, freed-in-all, rescanned-in-all}
+use Rattle.gc_cycle.proofs.Ends.Completing.{completes, drains-sweep, freed-in-all, rescanned-in-all}
 use Rattle.gc_cycle.proofs.finishing.complete.Goals as goal
 
 pub returns-clause-completes : goal.returns-clause-completes

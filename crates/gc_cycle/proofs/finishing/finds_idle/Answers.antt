@@ -1,6 +1,6 @@
 use Rattle.std.proofs.Common.{sym, ◌∙◌}
 use Rattle.gc_table.specs.Seats.{view_of}
-use Rattle.gc_cycle.proofs.Starting.{idle-found, marking-found}
+use Rattle.gc_cycle.proofs.Ends.Starting.{idle-found, marking-found}
 use Rattle.gc_cycle.proofs.finishing.finds_idle.Goals as goal
 
 pub returns-in-Idle-clause-idle : goal.returns-in-Idle-clause-idle

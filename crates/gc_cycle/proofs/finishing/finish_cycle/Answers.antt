@@ -9,8 +9,9 @@ use Rattle.gc_cycle.specs.Finishing.{finishes}
 use Rattle.gc_cycle.specs.Sorts.{moves_to}
 use Rattle.card_clean.specs.Leaving.{rescans}
 use Rattle.sweeper.specs.Freeing.{frees}
-use Rattle.gc_cycle.proofs.Finishes.{cycle-help, cycle-not-full, cycle-total}
-use Rattle.gc_cycle.proofs.Spared.{finish-calm, finish-keeps, finish-position, finish-spares, untold-fills, untold-sees}
+use Rattle.gc_cycle.proofs.Ends.Finishes.{cycle-help, cycle-not-full, cycle-total}
+use Rattle.gc_cycle.proofs.Ends.Spared.{finish-calm, finish-keeps, finish-position, finish-spares, untold-fills, untold-sees}
+use Rattle.gc_cycle.proofs.Sequences.{freed-same}
 use Rattle.gc_cycle.proofs.finishing.finish_cycle.Goals as goal
 
 pub returns-clause-ran : goal.returns-clause-ran
@@ -37,7 +38,10 @@ returns-clause-rescanned g c =
 pub returns-clause-freed : goal.returns-clause-freed
 returns-clause-freed g c =
     let t = cycle-total (view_of c.args.seat.now) (view_of c.begin_drain.new.seat) (view_of c.complete.new.seat) c.begin_drain.ensures.ran (c.begin_drain.ensures.events Marking c.requires.alone) c.complete.ensures.completes frees (λ s. refl) (λ s. refl) in
-    c.complete.ensures.freed ∙ sym t
+    let v : View = view_of c.args.seat.now in
+    let w : View = view_of c.begin_drain.new.seat in
+    let x : View = view_of c.complete.new.seat in
+    c.complete.ensures.freed ∙ (sym (freed-same (events w x) w) ∙ (sym t ∙ freed-same (events v x) v))
 
 pub returns-clause-only : goal.returns-clause-only
 returns-clause-only g c =

@@ -5,13 +5,12 @@ use Rattle.gc_table.specs.declared.view.View.{View}
 use Rattle.gc_table.specs.Log.{events}
 use Rattle.gc_cycle.specs.Cycles.{collects_exactly}
 use Rattle.card_clean.specs.Leaving.{rescans}
-use Rattle.sweeper.specs.Freeing.{frees}
 use Rattle.gc_cycle.specs.Moments.{begins}
 use Rattle.gc_table.proofs.Running.{ran-only}
 use Rattle.gc_cycle.specs.Finishing.{finishes}
-use Rattle.gc_cycle.proofs.Completing.{total-run}
-use Rattle.gc_cycle.proofs.Finishes.{before-more, exact-collects, exact-end, exact-fresh, exact-help, exact-not-full, exact-ran}
-use Rattle.gc_cycle.proofs.Spared.{finish-calm, finish-keeps, finish-position, finish-spares, untold-fills, untold-sees}
+use Rattle.gc_cycle.proofs.Ends.Completing.{freed-run, total-run}
+use Rattle.gc_cycle.proofs.Ends.Finishes.{before-more, exact-collects, exact-end, exact-fresh, exact-help, exact-not-full, exact-ran}
+use Rattle.gc_cycle.proofs.Ends.Spared.{finish-calm, finish-keeps, finish-position, finish-spares, untold-fills, untold-sees}
 use Rattle.gc_cycle.proofs.finishing.precise.Goals as goal
 
 pub returns-clause-ran : goal.returns-clause-ran
@@ -47,7 +46,7 @@ returns-clause-rescanned g c =
 
 pub returns-clause-freed : goal.returns-clause-freed
 returns-clause-freed g c =
-    let t = total-run frees (view_of c.args.seat.now) (view_of c.begin_exactly-first.new.seat) (view_of c.complete.new.seat) c.begin_exactly-first.ensures.begun.ran c.complete.ensures.completes.ran in
+    let t = freed-run (view_of c.args.seat.now) (view_of c.begin_exactly-first.new.seat) (view_of c.complete.new.seat) c.begin_exactly-first.ensures.begun.ran c.complete.ensures.completes.ran in
     let none = c.begin_exactly-first.ensures.freed in
     let r = c.complete.ensures.freed in
     omega (arith, t, none, r)

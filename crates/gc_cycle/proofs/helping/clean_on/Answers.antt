@@ -5,7 +5,7 @@ use Rattle.gc_table.specs.Seats.{view_of}
 use Rattle.gc_table.specs.declared.view.View.{View}
 use Rattle.gc_cycle.specs.Draining.{CleansOn}
 use Rattle.gc_cycle.specs.Moments.{at_some_moment, begins, finds_no_room}
-use Rattle.gc_cycle.proofs.HelperDrains.{cleaned-on, not-cleaned}
+use Rattle.gc_cycle.proofs.Stops.HelperDrains.{cleaned-on, not-cleaned}
 use Rattle.gc_cycle.proofs.helping.clean_on.Goals as goal
 
 pub returns-in_default-clause-cleans : goal.returns-in_default-clause-cleans

@@ -12,7 +12,7 @@ use Rattle.gc_table.specs.Log.{events}
 use Rattle.gc_table.specs.Running.{changes_section}
 use Rattle.gc_table.specs.Seats.{view_of}
 use Rattle.gc_table.specs.declared.view.View.{View}
-use Rattle.gc_table.proofs.Log.{only-more}
+use Rattle.gc_table.proofs.History.Log.{only-more}
 use Rattle.gc_table.proofs.Running.{own-kept}
 use Rattle.card_clean.specs.Leaving.{rescans}
 use Rattle.gc_cycle.specs.declared.counts.Helped.{Helped}
@@ -21,12 +21,12 @@ use Rattle.gc_cycle.specs.declared.counts.HelpEnd.TheVariants.{Quota, NoWork, No
 use Rattle.gc_cycle.specs.Draining.{EndsAs, EndsAt, HelpsOn, StopsFor, SweepsOn}
 use Rattle.gc_cycle.specs.Events.{never}
 use Rattle.gc_cycle.specs.Helping.{DrainsTo, HelpsAs}
-use Rattle.gc_cycle.specs.Lower.{sweeps_next, traces_cells}
+use Rattle.gc_cycle.specs.Lower.{sweeps_next, traces_or_cleans}
 use Rattle.gc_cycle.specs.Moments.{begins}
 use Rattle.gc_cycle.specs.Mutating.{GoesOut, stays_calm}
 use Rattle.gc_cycle.specs.Sorts.{gets_block, joins, leaves, pops}
-use Rattle.gc_cycle.proofs.Admitted.{count-none, traces-kept}
-use Rattle.gc_cycle.proofs.Goings.{goes-out}
+use Rattle.gc_cycle.proofs.Stops.Admitted.{count-none, traces-kept}
+use Rattle.gc_cycle.proofs.SectionKept.{goes-out}
 use Rattle.gc_cycle.specs.Statistics.{leaves_numbers}
 use Rattle.gc_cycle.proofs.Leaving.{sweeps-leave, traces-leave}
 use Rattle.gc_cycle.proofs.Sequences.{none-of-steps, total-none}
@@ -66,7 +66,7 @@ sweeps-unscanned : (s : SeatState) (step : Step) (n : ℕ) → sweeps_next step 
 sweeps-unscanned s (ReadField c i) n e = absurd (false≢true e)
 sweeps-unscanned s step n e = refl
 
-traces-calm : (step : Step) → traces_cells step ≡ true → stays_calm step ≡ true
+traces-calm : (step : Step) → traces_or_cleans step ≡ true → stays_calm step ≡ true
 traces-calm (ClaimBlock b) e = absurd (false≢true e)
 traces-calm RaiseStep e = absurd (false≢true e)
 traces-calm (StorePhase to) e = absurd (false≢true e)
@@ -82,15 +82,15 @@ traces-calm (AddStat which by down) e = absurd (false≢true e)
 traces-calm (ReadStat which) e = ap (λ n. not (n == 6)) (eqb-true which 0 e)
 traces-calm step e = refl
 
-traces-inside : (step : Step) (n : ℕ) → traces_cells step ≡ true → leaves step n ≡ false
+traces-inside : (step : Step) (n : ℕ) → traces_or_cleans step ≡ true → leaves step n ≡ false
 traces-inside LeaveStep n e = absurd (false≢true e)
 traces-inside step n e = refl
 
-traces-unjoined : (step : Step) (n : ℕ) → traces_cells step ≡ true → joins step n ≡ false
+traces-unjoined : (step : Step) (n : ℕ) → traces_or_cleans step ≡ true → joins step n ≡ false
 traces-unjoined JoinHelpStep n e = absurd (false≢true e)
 traces-unjoined step n e = refl
 
-traces-unswept : (blocks : ℕ) (step : Step) (n : ℕ) → traces_cells step ≡ true → gets_block blocks step n ≡ false
+traces-unswept : (blocks : ℕ) (step : Step) (n : ℕ) → traces_or_cleans step ≡ true → gets_block blocks step n ≡ false
 traces-unswept blocks NextBlock n e = absurd (false≢true e)
 traces-unswept blocks step n e = refl
 
@@ -115,9 +115,9 @@ swept-out helped v w s = (
 
 drained-out : (quota : ℕ) (helped : Helped) (v w : View) → HelpsOn quota helped v w → GoesOut v w × (never leaves (events v w) ≡ true) × (w.own ≡ v.own)
 drained-out quota helped v w h = (
-  goes-out v w h.drained.ran (only-more traces_cells stays_calm traces-calm v w h.drained.only),
-  ap not (none-of-steps traces_cells leaves traces-inside (events v w) h.drained.only),
-  own-kept traces_cells traces-kept v w h.drained.ran h.drained.only,
+  goes-out v w h.drained.ran (only-more traces_or_cleans stays_calm traces-calm v w h.drained.only),
+  ap not (none-of-steps traces_or_cleans leaves traces-inside (events v w) h.drained.only),
+  own-kept traces_or_cleans traces-kept v w h.drained.ran h.drained.only,
 )
 
 swept-as : (quota : ℕ) (helped : Helped) (v w : View) → v.state.phase_seen ≡ Some Sweep → SweepsOn helped v w → HelpsAs quota helped v (events v w)
@@ -135,7 +135,7 @@ drained-as quota helped v w p h e =
     record {
       traced = h.traced;
       rescanned = h.rescanned;
-      swept = count-none (gets_block (block_count v.shape)) (events v w) (ap not (none-of-steps traces_cells (gets_block (block_count v.shape)) (traces-unswept (block_count v.shape)) (events v w) h.drained.only)) ∙ sym h.swept;
+      swept = count-none (gets_block (block_count v.shape)) (events v w) (ap not (none-of-steps traces_or_cleans (gets_block (block_count v.shape)) (traces-unswept (block_count v.shape)) (events v w) h.drained.only)) ∙ sym h.swept;
       drain = λ _. drains-to helped.ended quota helped.traced v w h.stops e;
       sweep = λ k. absurd (true≢false (sym k ∙ ap (λ o. saw o Sweep) p));
     }
@@ -175,9 +175,9 @@ returns c =
       helps = drained-as c.args.quota c.help_drain.result v w (drain-of v.state.phase_seen c.requires.seat.1.phase c.if-sees_sweep.ensures.other) h c.help_drain.ensures.ends;
       not_full = o.0.not_full;
       only = o.0.only;
-      numbers = only-more traces_cells leaves_numbers traces-leave v w h.drained.only;
+      numbers = only-more traces_or_cleans leaves_numbers traces-leave v w h.drained.only;
       inside = o.1;
-      stays = ap not (none-of-steps traces_cells joins traces-unjoined (events v w) h.drained.only);
+      stays = ap not (none-of-steps traces_or_cleans joins traces-unjoined (events v w) h.drained.only);
       phase = h.drained.phase;
       keeps = o.0.seat;
       own = o.2;

@@ -10,8 +10,8 @@ use Rattle.gc_cycle.specs.Draining.{HelpsOn}
 use Rattle.gc_cycle.specs.Helping.{meets_cards}
 use Rattle.gc_cycle.specs.Sorts.{sees_last_card}
 use Rattle.gc_cycle.specs.Standing.{is_at_rest}
-use Rattle.gc_cycle.proofs.Admitted.{floor-kept, meets-join, undrawn, undrawn-meets}
-use Rattle.gc_cycle.proofs.HelperDrains.{helped-last, helped-still, seen-to, traced-first, traced-helps}
+use Rattle.gc_cycle.proofs.Stops.Admitted.{floor-kept, meets-join, undrawn, undrawn-meets}
+use Rattle.gc_cycle.proofs.Stops.HelperDrains.{helped-last, helped-still, seen-to, traced-first, traced-helps}
 use Rattle.gc_cycle.proofs.Traced.{nothing-rest}
 use Rattle.gc_cycle.proofs.helping.help_drain.Goals as goal
 

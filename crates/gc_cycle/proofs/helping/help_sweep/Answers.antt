@@ -3,7 +3,7 @@ use Rattle.std.specs.Prelude.{is_some, is_none, ◌==◌}
 use Rattle.std.proofs.lemmas.Bool.{and_parts, not-true, or_parts}
 use Rattle.mark_core.specs.Layout.{block_count}
 use Rattle.mark_core.specs.Seats.{cleaning_left, empty_handed, saw, scan_left, work_in_hand}
-use Rattle.mark_core.specs.WorldSteps.{has_nothing}
+use Rattle.mark_core.specs.Steps.WorldSteps.{has_nothing}
 use Rattle.mark_core.specs.declared.kinds.Phase.TheVariants.{Drain, Sweep}
 use Rattle.mark_core.specs.declared.kinds.Shape.{Shape}
 use Rattle.mark_core.specs.declared.seat.Cleaning.{Cleaning}
@@ -18,7 +18,7 @@ use Rattle.packet_pools.proofs.Searches.{some-right}
 use Rattle.gc_cycle.specs.Lower.{sweeps_next}
 use Rattle.gc_cycle.specs.Sorts.{gets_block, sees_last_block}
 use Rattle.gc_cycle.specs.Standing.{Helps}
-use Rattle.gc_cycle.proofs.Admitted.{count-run}
+use Rattle.gc_cycle.proofs.Stops.Admitted.{count-run}
 use Rattle.gc_cycle.proofs.helping.help_sweep.Goals as goal
 
 -- nothing is in hand, by whether something of a cleaning is left

@@ -4,7 +4,8 @@ use Rattle.gc_table.specs.Log.{events, Only}
 use Rattle.gc_table.specs.Running.{Ran}
 use Rattle.gc_table.specs.Seats.{Sits, view_of}
 use Rattle.packet_pools.specs.Counts.{count_of}
-use Rattle.gc_cycle.specs.Lower.{block_floor, sweeps_next}
+use Rattle.sweeper.specs.Freeing.{block_floor}
+use Rattle.gc_cycle.specs.Lower.{sweeps_next}
 use Rattle.gc_cycle.specs.Sorts.{gets_block}
 use Rattle.gc_cycle.specs.Standing.{Helps}
 use Rattle.gc_cycle.proofs.helping.help_sweep.Given as goal

@@ -1,7 +1,7 @@
 use Rattle.std.proofs.Common.{refl, sym, ap, ◌∙◌, inl, inr}
 use Rattle.gc_table.specs.Seats.{view_of}
 use Rattle.gc_table.specs.declared.view.View.{View}
-use Rattle.gc_cycle.proofs.HelperDrains.{looked-helps}
+use Rattle.gc_cycle.proofs.Stops.HelperDrains.{looked-helps}
 use Rattle.gc_cycle.proofs.helping.see_to_card.Goals as goal
 
 pub returns-then-not-is_dirty-clause-sees : goal.returns-then-not-is_dirty-clause-sees

@@ -2,13 +2,13 @@ use Rattle.std.proofs.Common.{ap, inl}
 use Rattle.std.specs.Prelude.{unwrap_or}
 use Rattle.gc_table.specs.Seats.{view_of}
 use Rattle.gc_table.specs.declared.view.View.{View}
-use Rattle.gc_table.proofs.Log.{only-more}
+use Rattle.gc_table.proofs.History.Log.{only-more}
 use Rattle.gc_cycle.specs.Answering.{answers}
 use Rattle.gc_cycle.specs.Mutating.{stays_calm}
 use Rattle.gc_cycle.specs.Sparing.{spares_part}
-use Rattle.gc_cycle.proofs.Answered.{answers-calm, full-later}
-use Rattle.gc_cycle.proofs.Collected.{calm-spares}
-use Rattle.gc_cycle.proofs.InStops.{keeps-fills}
+use Rattle.gc_cycle.proofs.Refills.Answered.{answers-calm, full-later}
+use Rattle.gc_cycle.proofs.Refills.Collected.{calm-spares}
+use Rattle.gc_cycle.proofs.Stops.InStops.{keeps-fills}
 use Rattle.gc_cycle.proofs.in_stops.keep_cache.Goals as goal
 
 pub returns-in-Full-clause-numbers : goal.returns-in-Full-clause-numbers

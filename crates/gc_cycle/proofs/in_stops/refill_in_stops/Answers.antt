@@ -6,10 +6,10 @@ use Rattle.gc_cycle.specs.Cycles.{fills_with_cause}
 use Rattle.gc_cycle.specs.Stops.{stops_again_with_cause, stops_with_cause}
 use Rattle.std.proofs.Common.{sym, subst, true, ◌≡◌, []}
 use Rattle.gc_table.proofs.Running.{ran-refl}
-use Rattle.gc_cycle.proofs.Fulls.{tells-none}
-use Rattle.gc_cycle.proofs.Tried.{ends-round, tried-more, tried-none}
-use Rattle.gc_cycle.proofs.InStops.{unbegun-empty, unbegun-join}
-use Rattle.gc_cycle.proofs.RoundNumbers.{refills-later}
+use Rattle.gc_cycle.proofs.Refills.KnownFull.{tells-none}
+use Rattle.gc_cycle.proofs.Refills.RoundsSoFar.{ends-round, tried-more, tried-none}
+use Rattle.gc_cycle.proofs.Stops.InStops.{unbegun-empty, unbegun-join}
+use Rattle.gc_cycle.proofs.Refills.RoundNumbers.{refills-later}
 use Rattle.gc_cycle.proofs.Changes.{by-none, numbers-join, numbers-one}
 use Rattle.gc_cycle.proofs.in_stops.refill_in_stops.Goals as goal
 

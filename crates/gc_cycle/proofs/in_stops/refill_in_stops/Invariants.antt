@@ -3,7 +3,7 @@ use Rattle.gc_table.specs.Log.{events}
 use Rattle.gc_cycle.specs.InStops.{begins_none}
 use Rattle.gc_table.specs.Seats.{Sits, view_of}
 use Rattle.gc_cycle.specs.Statistics.{ChangesNumbers}
-use Rattle.gc_cycle.proofs.Tried.{HasTried}
+use Rattle.gc_cycle.proofs.Refills.RoundsSoFar.{HasTried}
 use Rattle.gc_cycle.proofs.in_stops.refill_in_stops.Given as goal
 
 abbrev pub invariant-loop : goal.invariant-loop

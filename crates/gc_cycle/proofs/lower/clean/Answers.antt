@@ -23,11 +23,11 @@ use Rattle.gc_cycle.specs.Lower.{HasTraced}
 use Rattle.gc_cycle.specs.Moments.{at_some_moment, begins, finds_no_room, holds_one}
 use Rattle.gc_cycle.specs.Sorts.{clears_card, draws, pops, reads_root}
 use Rattle.gc_cycle.specs.Standing.{is_at_rest}
-use Rattle.gc_cycle.proofs.Finishes.{never-both}
-use Rattle.gc_cycle.proofs.Idling.{idle-of, rescanned-same, rest-parts, traced-held, traces-of}
-use Rattle.gc_cycle.proofs.Rooted.{rest-room}
+use Rattle.gc_cycle.proofs.Ends.Finishes.{never-both}
+use Rattle.gc_cycle.proofs.Idling.{idle-of, rest-parts, traced-held, traces-of}
+use Rattle.gc_cycle.proofs.Ends.Rooted.{rest-room}
 use Rattle.gc_cycle.proofs.Sequences.{this-moment}
-use Rattle.gc_cycle.proofs.Untaken.{moved-untaken, moves-unpopped, moves-unrooted, scan-steps, scan-unpopped, scan-unrooted, Spares, untaken, unread-of}
+use Rattle.gc_cycle.proofs.TracingSpares.{moved-untaken, moves-unpopped, moves-unrooted, scan-steps, scan-unpopped, scan-unrooted, Spares, untaken, unread-of}
 use Rattle.gc_cycle.proofs.lower.clean.Goals as goal
 use Rattle.mark_core.specs.Cards.{block_of_card}
 
@@ -110,7 +110,7 @@ returns-in-Some-clause-some c =
     let v : View = view_of c.args.seat.now in
     let es = events v (view_of c.clean_one.new.seat) in
     let s = c.in-Some.ensures.some in
-    (rescanned-same es v ∙ s.2, met c.args.heap.now.shape c.args.card c.in-Some.cleaned es s.0)
+    (s.2, met c.args.heap.now.shape c.args.card c.in-Some.cleaned es s.0)
 
 pub returns-in-Some-clause-most : goal.returns-in-Some-clause-most
 returns-in-Some-clause-most c = c.in-Some.ensures.some.1
@@ -140,7 +140,7 @@ returns-in-None-clause-none c =
     roomless sh v (events v (view_of c.clean_one.new.seat)) (ap holds_one idle.held) n.1 n.2
 
 pub returns-in-None-clause-left : goal.returns-in-None-clause-left
-returns-in-None-clause-left c = let v : View = view_of c.args.seat.now in rescanned-same (events v (view_of c.clean_one.new.seat)) v ∙ c.in-None.ensures.none.3
+returns-in-None-clause-left c = c.in-None.ensures.none.3
 
 pub returns-in-None-clause-unpopped : goal.returns-in-None-clause-unpopped
 returns-in-None-clause-unpopped c = moved-untaken (0 ∷ 1 ∷ 2 ∷ []) pops (moves-unpopped (0 ∷ 1 ∷ 2 ∷ [])) (events (view_of c.args.seat.now) (view_of c.clean_one.new.seat)) c.in-None.ensures.none.2

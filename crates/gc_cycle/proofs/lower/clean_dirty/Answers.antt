@@ -2,12 +2,11 @@ use Rattle.std.proofs.Common.{◌≡◌, sym, ap, ◌∙◌, subst, true, false}
 use Rattle.mark_core.specs.Held.{holds_any}
 use Rattle.mark_core.specs.Seats.{work_in_hand}
 use Rattle.mark_core.specs.declared.kinds.Shape.{Shape}
-use Rattle.gc_table.specs.Log.{events}
 use Rattle.gc_table.specs.Seats.{view_of}
 use Rattle.gc_table.specs.declared.view.View.{View}
 use Rattle.gc_cycle.specs.Standing.{is_at_rest}
-use Rattle.gc_cycle.proofs.Idling.{rescanned-same, rest-again, rest-parts, traced-of, traces-of}
-use Rattle.gc_cycle.proofs.Rooted.{rest-room}
+use Rattle.gc_cycle.proofs.Idling.{rest-again, rest-parts, traced-of, traces-of}
+use Rattle.gc_cycle.proofs.Ends.Rooted.{rest-room}
 use Rattle.gc_cycle.proofs.lower.clean_dirty.Goals as goal
 
 pub clean_dirty-requires-clause-seat : goal.clean_dirty-requires-clause-seat
@@ -32,6 +31,4 @@ returns-clause-traced c =
     traced-of v w e.later (rest-again v w e.later e.seat.1 packets work before)
 
 pub returns-clause-rescanned : goal.returns-clause-rescanned
-returns-clause-rescanned c =
-    let v : View = view_of c.args.seat.now in
-    rescanned-same (events v (view_of c.clean_dirty.new.seat)) v ∙ c.clean_dirty.ensures.left
+returns-clause-rescanned c = c.clean_dirty.ensures.left

@@ -2,7 +2,7 @@ use Rattle.std.proofs.Common.{ℕ, ◌≡◌, refl, ap, ◌∙◌, true, false, 
 use Rattle.std.proofs.lemmas.Bool.{and_from, false≢true}
 use Rattle.mark_core.specs.Layout.{block_count}
 use Rattle.mark_core.specs.Seats.{is_the}
-use Rattle.mark_core.specs.WorldSteps.{has_nothing}
+use Rattle.mark_core.specs.Steps.WorldSteps.{has_nothing}
 use Rattle.mark_core.specs.declared.kinds.Phase.TheVariants.{Clear}
 use Rattle.mark_core.specs.declared.kinds.Shape.{Shape}
 use Rattle.mark_core.specs.declared.kinds.Step.{Step}
@@ -12,15 +12,15 @@ use Rattle.gc_table.specs.Log.{events}
 use Rattle.gc_table.specs.Running.{ends_alone}
 use Rattle.gc_table.specs.Seats.{view_of}
 use Rattle.gc_table.specs.declared.view.View.{View}
-use Rattle.gc_table.proofs.Log.{only-more}
+use Rattle.gc_table.proofs.History.Log.{only-more}
 use Rattle.gc_table.proofs.Noticing.{alone-kept}
 use Rattle.gc_table.proofs.Running.{ran-shape}
 use Rattle.sweeper.specs.Sweepers.{is_clearing}
 use Rattle.gc_cycle.specs.Finishing.{stays_in}
 use Rattle.card_clean.specs.Leaving.{rescans}
-use Rattle.gc_cycle.proofs.Moving.{no-block}
+use Rattle.gc_cycle.proofs.Ends.Moving.{no-block}
 use Rattle.gc_cycle.proofs.Sequences.{total-none}
-use Rattle.gc_cycle.proofs.Swept.{floor-above}
+use Rattle.gc_cycle.proofs.Ends.Swept.{floor-above}
 use Rattle.gc_cycle.proofs.lower.clear_rest.Goals as goal
 
 clearing-stays : (step : Step) → is_clearing step ≡ true → stays_in Clear step ≡ true

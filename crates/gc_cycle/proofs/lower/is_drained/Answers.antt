@@ -1,14 +1,12 @@
-use Rattle.std.proofs.Common.{◌≡◌, arith, refl, sym, ap, ◌∙◌, Bool, true, false, not}
+use Rattle.std.proofs.Common.{◌≡◌, refl, sym, ap, ◌∙◌, Bool, true, false, not}
 use Rattle.std.proofs.lemmas.Bool.{false≢true}
 use Rattle.mark_core.specs.Seats.{work_in_hand}
 use Rattle.mark_core.specs.declared.kinds.Shape.{Shape}
-use Rattle.gc_table.specs.Log.{events}
 use Rattle.gc_table.specs.Seats.{view_of}
 use Rattle.gc_table.specs.declared.view.View.{View}
 use Rattle.gc_cycle.specs.Standing.{is_at_rest}
-use Rattle.gc_cycle.proofs.Idling.{rescanned-same, rooted-by, traced-of}
-use Rattle.gc_cycle.proofs.Moving.{no-work}
-use Rattle.gc_cycle.proofs.Rooted.{roots-seen}
+use Rattle.gc_cycle.proofs.Idling.{rooted-by, traced-of}
+use Rattle.gc_cycle.proofs.Ends.Moving.{no-work}
 use Rattle.gc_cycle.proofs.Traced.{nothing-rest}
 use Rattle.gc_cycle.proofs.lower.is_drained.Goals as goal
 
@@ -17,7 +15,7 @@ unless true e = absurd (false≢true e)
 unless false e = refl
 
 pub is_drained-requires-clause-rooted : goal.is_drained-requires-clause-rooted
-is_drained-requires-clause-rooted c = roots-seen (view_of c.args.seat.now) c.requires.seat.1
+is_drained-requires-clause-rooted c = c.requires.seat.1.rooted
 
 pub is_drained-requires-clause-work : goal.is_drained-requires-clause-work
 is_drained-requires-clause-work c =
@@ -40,12 +38,8 @@ returns-clause-traced c =
     traced-of v w e.later ((λ i. is_at_rest (e.later.shape i) (e.state i)) ∙ nothing-rest v.shape v.state c.requires.seat.1.rest.rest)
 
 pub returns-clause-rescanned : goal.returns-clause-rescanned
-returns-clause-rescanned c =
-    let v : View = view_of c.args.seat.now in
-    rescanned-same (events v (view_of c.is_drained.new.seat)) v ∙ c.is_drained.ensures.left
+returns-clause-rescanned c = c.is_drained.ensures.left
 
 pub returns-clause-drained : goal.returns-clause-drained
 unfolding returns-clause-seat
-returns-clause-drained c full =
-    let d = c.is_drained.ensures.drained full in
-    record { rooted = (returns-clause-seat c).1; cards = λ card h. d.cards card (omega arith) h; empty = d.empty }
+returns-clause-drained c full = record { rest = (returns-clause-seat c).1.rest; drained = c.is_drained.ensures.drained full }

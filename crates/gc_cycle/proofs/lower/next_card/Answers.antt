@@ -4,13 +4,11 @@ use Rattle.std.proofs.lemmas.Bool.{and_from, false≢true, le-leb, ltb-false, lt
 use Rattle.mark_core.specs.Layout.{card_count}
 use Rattle.mark_core.specs.declared.kinds.Step.{Step}
 use Rattle.mark_core.specs.declared.kinds.Step.TheVariants.{ClearCard, NextOfCards, Pop, ReadField, ReadRoot}
-use Rattle.mark_core.specs.WorldSteps.{has_nothing}
-use Rattle.mark_core.specs.declared.kinds.Phase.TheVariants.{Drain}
+use Rattle.mark_core.specs.Steps.WorldSteps.{has_nothing}
 use Rattle.mark_core.specs.declared.kinds.Shape.{Shape}
 use Rattle.mark_core.specs.declared.seat.SeatState.{SeatState}
 use Rattle.gc_table.specs.Log.{all_steps, events, Only}
 use Rattle.gc_table.specs.Running.{Ran}
-use Rattle.gc_table.proofs.Noticing.{alone-kept}
 use Rattle.gc_table.proofs.Running.{ran-shape}
 use Rattle.packet_pools.specs.OnlyTraced.{rest_of}
 use Rattle.card_clean.specs.Leaving.{rescans}
@@ -18,27 +16,25 @@ use Rattle.card_clean.proofs.Drawn.{rooted-drawn}
 use Rattle.gc_table.specs.Seats.{view_of}
 use Rattle.gc_table.specs.declared.view.View.{View}
 use Rattle.packet_pools.specs.Seeking.{some_event}
-use Rattle.card_clean.specs.Passing.{card_floor, Draws, DrawsCard as CardDrawn, draws_card, keeps_floor}
+use Rattle.card_clean.specs.Passing.{card_floor, Draws, DrawsCard, draws_card, keeps_floor}
 use Rattle.gc_table.specs.declared.view.Entry.{Entry}
 use Rattle.gc_cycle.specs.Events.{never}
 use Rattle.gc_cycle.specs.Helping.{meets_cards}
-use Rattle.gc_cycle.specs.Lower.{DrawsCard, HasTraced, traces_cells}
+use Rattle.gc_cycle.specs.Lower.{GivesCard, HasTraced, traces_or_cleans}
 use Rattle.gc_cycle.specs.Sorts.{clears, gives_card, pops, reads_pace, reads_root, sees_last_card, sees_to_card}
 use Rattle.gc_cycle.specs.Standing.{is_at_rest}
 use Rattle.gc_cycle.proofs.Idling.{traces-of}
-use Rattle.gc_cycle.proofs.Rooted.{rooted-of, roots-seen}
 use Rattle.gc_cycle.proofs.Sequences.{total-none}
-use Rattle.gc_cycle.proofs.Traced.{quiet}
-use Rattle.gc_cycle.proofs.Untaken.{Spares, untaken}
+use Rattle.gc_cycle.proofs.TracingSpares.{Spares, untaken}
 use Rattle.gc_cycle.proofs.lower.next_card.Goals as goal
 
 -- a draw reads the counter of cards alone
-draws-only : (r : Option ℕ) (v w : View) → CardDrawn r v w → Only traces_cells v w
-draws-only r v w (inl over) = ap (all_steps traces_cells) over.0.events_are
-draws-only r v w (inr gives) = ap (all_steps traces_cells) gives.1.events_are
+draws-only : (r : Option ℕ) (v w : View) → DrawsCard r v w → Only traces_or_cleans v w
+draws-only r v w (inl over) = ap (all_steps traces_or_cleans) over.0.events_are
+draws-only r v w (inr gives) = ap (all_steps traces_or_cleans) gives.1.events_are
 
 -- a draw leaves the seat at rest, and what it has seen to
-drawn-traced : (v w : View) → Ran v w → Only draws_card v w → Only traces_cells v w → w.state ≡ record v.state { below_card = false } → is_at_rest v.shape v.state ≡ true → HasTraced v w
+drawn-traced : (v w : View) → Ran v w → Only draws_card v w → Only traces_or_cleans v w → w.state ≡ record v.state { below_card = false } → is_at_rest v.shape v.state ≡ true → HasTraced v w
 drawn-traced v w r o t e rest =
     let shape = ran-shape v w r in
     record {
@@ -47,17 +43,15 @@ drawn-traced v w r o t e rest =
       rest = ap (λ (sh : Shape). is_at_rest sh w.state) shape ∙ (ap (λ (s : SeatState). is_at_rest v.shape s) e ∙ rest);
       record_is = ap rest_of e ∙ (λ i. record (rest_of v.state) { below_card = sym (ap (λ (s : SeatState). s.below_card) e) i });
       rooted = λ k.
-          rooted-of w
-          (record {
+          record {
             rest =
                 record {
                   knows = ap (λ (s : SeatState). s.knows) e ∙ k.rest.knows;
                   alone = ap (λ (s : SeatState). s.alone) e ∙ k.rest.alone;
                   rest = ap (λ (sh : Shape). has_nothing sh w.state) shape ∙ (ap (λ (s : SeatState). has_nothing v.shape s) e ∙ k.rest.rest);
                 };
-            alone = alone-kept Drain traces_cells quiet v w r t k.drain;
-          })
-          (rooted-drawn v w r o (roots-seen v k));
+            rooted = rooted-drawn v w r o k.rooted;
+          };
     }
 
 -- an admitted seat keeps the floor of the counter
@@ -81,7 +75,7 @@ unroots : Spares draws_card reads_root
 unroots (ReadRoot section v) n e = absurd (false≢true e)
 unroots step n e = refl
 
-by_test : (n : ℕ) (v w : View) → Draws n v w → (b : Bool) → nat_lt n (card_count v.shape) ≡ b → DrawsCard (if b then Some n else None) v w
+by_test : (n : ℕ) (v w : View) → Draws n v w → (b : Bool) → nat_lt n (card_count v.shape) ≡ b → GivesCard (if b then Some n else None) v w
 by_test n v w d true h = (ltb-true n (card_count v.shape) h, ap (some_event (gives_card n)) d.events_are ∙ or_left (gives_card n NextOfCards n) false (eq-eqb n n refl))
 by_test n v w d false h =
     let end : card_count v.shape ≤ n = ltb-false n (card_count v.shape) h in
@@ -89,18 +83,18 @@ by_test n v w d false h =
     ∙ or_right (nat_le (card_count v.shape) d.seen) (nat_le (card_count v.shape) n || false) (or_left (nat_le (card_count v.shape) n) false (le-leb (card_count v.shape) n end))
 
 -- the card that was given out, or the end that was seen
-drawn : (r : Option ℕ) (v w : View) → CardDrawn r v w → DrawsCard r v w
+drawn : (r : Option ℕ) (v w : View) → DrawsCard r v w → GivesCard r v w
 drawn r v w (inl over) =
-    subst (λ (o : Option ℕ). DrawsCard o v w) (sym over.1)
+    subst (λ (o : Option ℕ). GivesCard o v w) (sym over.1)
     (ap (some_event (sees_last_card (card_count v.shape))) over.0.events_are ∙ or_left (nat_le (card_count v.shape) over.0.seen) false (le-leb (card_count v.shape) over.0.seen over.0.over))
-drawn r v w (inr gives) = subst (λ (o : Option ℕ). DrawsCard o v w) (sym gives.2) (by_test gives.0 v w gives.1 (nat_lt gives.0 (card_count v.shape)) refl)
+drawn r v w (inr gives) = subst (λ (o : Option ℕ). GivesCard o v w) (sym gives.2) (by_test gives.0 v w gives.1 (nat_lt gives.0 (card_count v.shape)) refl)
 
 -- the card that was given out is met by whoever sees to it later
 met-by : (cards n : ℕ) (v w : View) → Draws n v w → (b : Bool) → IfSome (if b then Some n else None) (λ card. (later : List Entry) → some_event (sees_to_card card) later ≡ true → meets_cards cards later ≡ true → meets_cards cards (events v w ++ later) ≡ true)
 met-by cards n v w d true = λ later a m. ap (λ es. meets_cards cards (es ++ later)) d.events_are ∙ and_from _ _ refl (and_from _ _ (or_right (not (nat_lt n cards)) (some_event (sees_to_card n) later) a) m)
 met-by cards n v w d false = tt
 
-met-drawn : (cards : ℕ) (r : Option ℕ) (v w : View) → CardDrawn r v w → IfSome r (λ card. (later : List Entry) → some_event (sees_to_card card) later ≡ true → meets_cards cards later ≡ true → meets_cards cards (events v w ++ later) ≡ true)
+met-drawn : (cards : ℕ) (r : Option ℕ) (v w : View) → DrawsCard r v w → IfSome r (λ card. (later : List Entry) → some_event (sees_to_card card) later ≡ true → meets_cards cards later ≡ true → meets_cards cards (events v w ++ later) ≡ true)
 met-drawn cards r v w (inl over) =
     subst (λ (o : Option ℕ). IfSome o (λ card. (later : List Entry) → some_event (sees_to_card card) later ≡ true → meets_cards cards later ≡ true → meets_cards cards (events v w ++ later) ≡ true)) (sym over.1) tt
 met-drawn cards r v w (inr gives) =
@@ -111,7 +105,7 @@ over-by : (cards n : ℕ) (v w : View) → Draws n v w → (b : Bool) → nat_lt
 over-by cards n v w d true h = tt
 over-by cards n v w d false h = ap (meets_cards cards) d.events_are ∙ and_from _ _ refl (and_from _ _ (or_left (not (nat_lt n cards)) false (ap not h)) refl)
 
-over-drawn : (r : Option ℕ) (v w : View) → CardDrawn r v w → IfNone r (meets_cards (card_count v.shape) (events v w) ≡ true)
+over-drawn : (r : Option ℕ) (v w : View) → DrawsCard r v w → IfNone r (meets_cards (card_count v.shape) (events v w) ≡ true)
 over-drawn r v w (inl over) = subst (λ (o : Option ℕ). IfNone o (meets_cards (card_count v.shape) (events v w) ≡ true)) (sym over.1) (ap (meets_cards (card_count v.shape)) over.0.events_are)
 over-drawn r v w (inr gives) =
     subst (λ (o : Option ℕ). IfNone o (meets_cards (card_count v.shape) (events v w) ≡ true)) (sym gives.2) (over-by (card_count v.shape) gives.0 v w gives.1 (nat_lt gives.0 (card_count v.shape)) refl)
@@ -159,7 +153,7 @@ returns-clause-over c =
     subst (λ (sh : Shape). IfNone c.next_card.result (meets_cards (card_count sh) (events v w) ≡ true)) c.requires.seat.0.1 (over-drawn c.next_card.result v w c.next_card.ensures.draws)
 
 -- the counter of cards is no number that paces a cycle
-unread-drawn : (r : Option ℕ) (v w : View) → CardDrawn r v w → never reads_pace (events v w) ≡ true
+unread-drawn : (r : Option ℕ) (v w : View) → DrawsCard r v w → never reads_pace (events v w) ≡ true
 unread-drawn r v w (inl over) = ap (never reads_pace) over.0.events_are
 unread-drawn r v w (inr gives) = ap (never reads_pace) gives.1.events_are
 

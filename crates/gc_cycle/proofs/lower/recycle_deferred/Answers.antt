@@ -6,7 +6,7 @@ use Rattle.gc_table.specs.declared.view.View.{View}
 use Rattle.gc_cycle.specs.Sorts.{draws_or_clears, pops, reads_root}
 use Rattle.gc_cycle.specs.Standing.{is_at_rest}
 use Rattle.gc_cycle.proofs.Idling.{idle-of, moves-quiet, traced-of, traces-of}
-use Rattle.gc_cycle.proofs.Untaken.{moved-untaken, moves-uncleaned, moves-unpopped, moves-unrooted, unread-of}
+use Rattle.gc_cycle.proofs.TracingSpares.{moved-untaken, moves-uncleaned, moves-unpopped, moves-unrooted, unread-of}
 use Rattle.gc_cycle.proofs.lower.recycle_deferred.Goals as goal
 
 pub recycle_deferred-requires-clause-seat : goal.recycle_deferred-requires-clause-seat

@@ -16,9 +16,9 @@ use Rattle.gc_cycle.specs.Moments.{total_of}
 use Rattle.gc_cycle.specs.Lower.{ScansRoots}
 use Rattle.gc_cycle.specs.Sorts.{reads_root, draws_or_clears, pops}
 use Rattle.gc_cycle.specs.Standing.{is_at_rest}
-use Rattle.gc_cycle.proofs.Calm.{calm, roots-begin_none}
+use Rattle.gc_cycle.proofs.Ends.NoRescans.{calm, roots-begin_none}
 use Rattle.gc_cycle.proofs.Idling.{idle-of, moves-quiet, rest-again, rest-parts, traced-of, traces-of}
-use Rattle.gc_cycle.proofs.Untaken.{moved-untaken, moves-uncleaned, moves-unpopped, root-steps, roots-uncleaned, roots-unpopped, Spares, untaken, unread-of, moves-unrooted}
+use Rattle.gc_cycle.proofs.TracingSpares.{moved-untaken, moves-uncleaned, moves-unpopped, root-steps, roots-uncleaned, roots-unpopped, Spares, untaken, unread-of, moves-unrooted}
 use Rattle.gc_cycle.proofs.lower.scan_roots.Goals as goal
 
 pub scan_roots-requires-clause-seat : goal.scan_roots-requires-clause-seat

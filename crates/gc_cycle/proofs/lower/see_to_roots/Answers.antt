@@ -2,8 +2,8 @@ use Rattle.std.proofs.Common.{ap}
 use Rattle.mark_core.specs.declared.kinds.Phase.TheVariants.{Drain}
 use Rattle.gc_table.specs.Seats.{view_of}
 use Rattle.gc_table.specs.declared.view.View.{View}
-use Rattle.gc_table.proofs.Log.{events-none}
-use Rattle.gc_cycle.specs.Helping.{rescanned_in}
+use Rattle.gc_table.proofs.History.Log.{events-none}
+use Rattle.card_clean.specs.Leaving.{rescanned_in}
 use Rattle.gc_cycle.proofs.Parts.{part-join, part-none}
 use Rattle.gc_cycle.proofs.Traced.{rescans-none}
 use Rattle.gc_cycle.proofs.lower.see_to_roots.Goals as goal

@@ -4,8 +4,8 @@ use Rattle.mark_core.specs.declared.kinds.Phase.TheVariants.{Drain}
 use Rattle.gc_table.specs.Log.{events}
 use Rattle.gc_table.specs.Notes.{look}
 use Rattle.gc_table.specs.Seats.{Sits, view_of}
+use Rattle.card_clean.specs.Leaving.{rescanned_in}
 use Rattle.gc_cycle.specs.Finishing.{IsPart}
-use Rattle.gc_cycle.specs.Helping.{rescanned_in}
 use Rattle.gc_cycle.proofs.lower.see_to_roots.Given as goal
 
 abbrev pub invariant-loop : goal.invariant-loop

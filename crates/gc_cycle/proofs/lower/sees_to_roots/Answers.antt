@@ -13,10 +13,10 @@ use Rattle.card_clean.proofs.Staying.{ready-stays}
 use Rattle.gc_cycle.specs.Finishing.{IsAloneIn}
 use Rattle.gc_cycle.specs.Lower.{HasTraced}
 use Rattle.gc_cycle.specs.Standing.{is_at_rest}
-use Rattle.gc_cycle.proofs.Idling.{idle-of, moves-quiet, rescanned-same, traced-held, traced-of, traces-of}
-use Rattle.gc_cycle.proofs.Moving.{no-work}
+use Rattle.gc_cycle.proofs.Idling.{idle-of, moves-quiet, traced-held, traced-of, traces-of}
+use Rattle.gc_cycle.proofs.Ends.Moving.{no-work}
 use Rattle.gc_cycle.proofs.Parts.{part-join}
-use Rattle.gc_cycle.proofs.Rooted.{ready-of, rest-room, rooted-of}
+use Rattle.gc_cycle.proofs.Ends.Rooted.{ready-of, rest-room}
 use Rattle.gc_cycle.proofs.Traced.{alone-traces, nothing-rest, rescans-none, traced-part}
 use Rattle.gc_cycle.proofs.lower.sees_to_roots.Goals as goal
 
@@ -56,14 +56,12 @@ returns-then-see_to_roots-clause-next c =
     (ready-stays v (view_of c.see_to_roots.new.seat) e.later.ran e.later.only (ready-of v c.requires.alone.0 c.requires.alone.1)).next_block
 
 pub returns-then-see_to_roots-clause-rescanned : goal.returns-then-see_to_roots-clause-rescanned
-returns-then-see_to_roots-clause-rescanned c =
-    let v : View = view_of c.args.seat.now in
-    rescanned-same (events v (view_of c.see_to_roots.new.seat)) v ∙ c.see_to_roots.ensures.left
+returns-then-see_to_roots-clause-rescanned c = c.see_to_roots.ensures.left
 
 pub returns-then-see_to_roots-clause-rooted : goal.returns-then-see_to_roots-clause-rooted
 unfolding returns-then-see_to_roots-clause-part
 returns-then-see_to_roots-clause-rooted c t =
-    rooted-of (view_of c.see_to_roots.new.seat) (returns-then-see_to_roots-clause-part c).alone (c.if-see_to_roots.ensures.rooted t)
+    record { rest = (returns-then-see_to_roots-clause-part c).alone.rest; rooted = c.if-see_to_roots.ensures.rooted t }
 
 pub recycle_deferred-requires-clause-seat : goal.recycle_deferred-requires-clause-seat
 recycle_deferred-requires-clause-seat c = c.see_to_roots.ensures.seat
@@ -101,7 +99,7 @@ returns-clause-rescanned c =
     let x : View = view_of c.recycle_deferred.new.seat in
     let e = c.see_to_roots.ensures in
     let r = c.recycle_deferred.ensures in
-    rescans-none v w x e.later.ran r.later.ran (rescanned-same (events v w) v ∙ e.left) (moves-quiet (3 ∷ []) (events w x) w r.recycled.moves)
+    rescans-none v w x e.later.ran r.later.ran e.left (moves-quiet (3 ∷ []) (events w x) w r.recycled.moves)
 
 pub returns-clause-lacks : goal.returns-clause-lacks
 returns-clause-lacks c t =

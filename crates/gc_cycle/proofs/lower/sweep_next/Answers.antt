@@ -13,10 +13,10 @@ use Rattle.gc_table.specs.declared.view.View.{View}
 use Rattle.packet_pools.specs.Counts.{count_of}
 use Rattle.packet_pools.specs.Seeking.{some_event}
 use Rattle.sweeper.specs.Blocks.{Ended, drawn, swept_events}
-use Rattle.gc_cycle.specs.Helping.{freed_in}
-use Rattle.gc_cycle.specs.Lower.{block_floor, sweeps_next}
+use Rattle.sweeper.specs.Freeing.{freed_in, block_floor}
+use Rattle.gc_cycle.specs.Lower.{sweeps_next}
 use Rattle.gc_cycle.specs.Sorts.{gets_block, sees_last_block}
-use Rattle.gc_cycle.proofs.Swept.{cleaning-done, floor-above, floor-low, floor-rises, freed-same}
+use Rattle.gc_cycle.proofs.Ends.Swept.{cleaning-done, floor-above, floor-low, floor-rises}
 use Rattle.gc_cycle.proofs.lower.sweep_next.Goals as goal
 
 same-state : (v w : View) (s : SeatState) → w.state ≡ s → s ≡ record v.state { below_block = s.below_block; cleaning = s.cleaning } → w.state ≡ record v.state { below_block = w.state.below_block; cleaning = w.state.cleaning }
@@ -67,7 +67,7 @@ returns-in-Some-clause-some c =
     let low = floor-low v c.in-Some.swept.block keeps s.order in
     let there = s.there in
     let shape = c.requires.seat.1 in (
-      freed-same (events v w) v ∙ s.counted,
+      s.counted,
       floor-rises v w c.in-Some.swept.block keeps s.order s.above,
       subst (λ (sh : Shape). block_floor v < block_count sh) shape (omega (arith, low, there)),
       ap (count_of (gets_block (block_count c.args.heap.now.shape))) s.events ∙ got-one (block_count c.args.heap.now.shape) c.in-Some.swept.block s.seen s.alloc s.mark (subst (λ (sh : Shape). c.in-Some.swept.block < block_count sh) shape there),

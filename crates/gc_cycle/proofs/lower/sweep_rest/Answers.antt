@@ -3,22 +3,15 @@ use Rattle.std.proofs.lemmas.Bool.{and_from, or_left}
 use Rattle.mark_core.specs.Layout.{block_count}
 use Rattle.mark_core.specs.Seats.{is_the}
 use Rattle.mark_core.specs.declared.seat.SeatState.{SeatState}
-use Rattle.gc_table.specs.Log.{events}
 use Rattle.gc_table.specs.Seats.{view_of}
 use Rattle.gc_table.specs.declared.view.View.{View}
-use Rattle.gc_table.proofs.Log.{only-more}
-use Rattle.sweeper.specs.Sweepers.{is_sweeping}
-use Rattle.gc_cycle.specs.Lower.{sweeps_blocks}
-use Rattle.gc_cycle.proofs.Swept.{cleaning-done, floor-above, freed-same, sweeping}
+use Rattle.gc_cycle.proofs.Ends.Swept.{cleaning-done, floor-above}
 use Rattle.gc_cycle.proofs.lower.sweep_rest.Goals as goal
 
 pub sweep_rest-requires : goal.sweep_rest-requires
 sweep_rest-requires c =
     let s = c.requires.sweeps in
     record { seat = (c.requires.seat, record { may = or_left _ _ (and_from _ _ s.0 (ap (λ (o : Option ℕ). is_the o 3) s.1.0)); free = s.2 }) }
-
-pub returns-clause-only : goal.returns-clause-only
-returns-clause-only c = only-more is_sweeping sweeps_blocks sweeping (view_of c.args.seat.now) (view_of c.sweep_rest.new.seat) c.sweep_rest.ensures.only
 
 pub returns-clause-state : goal.returns-clause-state
 returns-clause-state c =
@@ -32,8 +25,3 @@ returns-clause-left c left = cleaning-done (view_of c.args.seat.now) (view_of c.
 
 pub returns-clause-end : goal.returns-clause-end
 returns-clause-end c = floor-above (block_count c.args.heap.now.shape) (view_of c.sweep_rest.new.seat) c.sweep_rest.ensures.end
-
-pub returns-clause-freed : goal.returns-clause-freed
-returns-clause-freed c =
-    let v : View = view_of c.args.seat.now in
-    freed-same (events v (view_of c.sweep_rest.new.seat)) v ∙ c.sweep_rest.ensures.freed

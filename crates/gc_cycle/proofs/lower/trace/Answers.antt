@@ -7,16 +7,16 @@ use Rattle.gc_table.specs.Log.{events}
 use Rattle.gc_table.specs.Seats.{view_of}
 use Rattle.gc_table.specs.declared.view.View.{View}
 use Rattle.tracer.specs.Causes.{FoundNoWork}
-use Rattle.tracer.specs.Tally.{Tally, traces_cells}
+use Rattle.tracer.specs.Tally.{Tally, is_trace_step}
 use Rattle.tracer.specs.declared.traced.Stopped.{Stopped}
 use Rattle.tracer.specs.declared.traced.Stopped.TheVariants.{NoPacket, NoWork, Quota}
 use Rattle.tracer.specs.declared.traced.Traced.{Traced}
 use Rattle.gc_cycle.specs.Lower.{EndsTrace}
 use Rattle.gc_cycle.specs.Sorts.{draws_or_clears, reads_root}
 use Rattle.gc_cycle.specs.Standing.{is_at_rest}
-use Rattle.gc_cycle.proofs.Calm.{calm, traces-begin_none}
+use Rattle.gc_cycle.proofs.Ends.NoRescans.{calm, traces-begin_none}
 use Rattle.gc_cycle.proofs.Idling.{idle-of, rest-again, rest-parts, traced-of, traces-of}
-use Rattle.gc_cycle.proofs.Untaken.{trace-steps, trace-uncleaned, trace-unrooted, untaken, unread-of}
+use Rattle.gc_cycle.proofs.TracingSpares.{trace-steps, trace-uncleaned, trace-unrooted, untaken, unread-of}
 use Rattle.gc_cycle.proofs.lower.trace.Goals as goal
 
 abbrev is_quota : Stopped → Bool
@@ -75,12 +75,12 @@ returns-clause-rescanned c =
 pub returns-clause-uncleaned : goal.returns-clause-uncleaned
 returns-clause-uncleaned c =
     let es = events (view_of c.args.seat.now) (view_of c.trace.new.seat) in
-    untaken traces_cells draws_or_clears trace-uncleaned es (sym (trace-steps es) ∙ c.trace.ensures.tally.steps)
+    untaken is_trace_step draws_or_clears trace-uncleaned es (sym (trace-steps es) ∙ c.trace.ensures.tally.steps)
 
 pub returns-clause-unrooted : goal.returns-clause-unrooted
 returns-clause-unrooted c =
     let es = events (view_of c.args.seat.now) (view_of c.trace.new.seat) in
-    untaken traces_cells reads_root trace-unrooted es (sym (trace-steps es) ∙ c.trace.ensures.tally.steps)
+    untaken is_trace_step reads_root trace-unrooted es (sym (trace-steps es) ∙ c.trace.ensures.tally.steps)
 
 pub returns-clause-most : goal.returns-clause-most
 returns-clause-most c = ⊎_elim (λ a. let k = a.1 in omega (arith, k)) (λ b. let k = b.1 in omega (arith, k)) c.trace.ensures.stopped

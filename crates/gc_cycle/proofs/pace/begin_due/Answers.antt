@@ -9,9 +9,9 @@ use Rattle.gc_table.specs.Seats.{view_of}
 use Rattle.gc_table.specs.Taking.{won}
 use Rattle.gc_table.specs.Log.{events}
 use Rattle.gc_table.specs.Running.{Ran}
-use Rattle.gc_table.proofs.Log.{events-after}
+use Rattle.gc_table.proofs.History.Log.{events-after}
 use Rattle.gc_table.proofs.Running.{ran-answered, ran-events, ran-join}
-use Rattle.gc_cycle.specs.Pacing.{KicksOff, statistic}
+use Rattle.gc_cycle.specs.Pace.Pacing.{KicksOff, statistic}
 use Rattle.gc_cycle.proofs.Kicking.{may-try, none-due, one-due, three, three-events, tried-state}
 use Rattle.gc_cycle.proofs.pace.begin_due.Goals as goal
 

@@ -3,8 +3,8 @@ use Rattle.std.specs.Prelude.{IfNone}
 use Rattle.gc_table.specs.Seats.{view_of}
 use Rattle.gc_table.specs.declared.view.View.{View}
 use Rattle.gc_cycle.specs.declared.counts.Paid.{Paid}
-use Rattle.gc_cycle.specs.Payment.{TracesNone}
-use Rattle.gc_cycle.proofs.Payment.{none-join, none-traces, traces-on}
+use Rattle.gc_cycle.specs.Pace.Payment.{TracesNone}
+use Rattle.gc_cycle.proofs.Refills.Payment.{none-join, none-traces, traces-on}
 use Rattle.gc_cycle.proofs.paying.clean_next.Goals as goal
 
 pub returns-in_err-clean-clause-none : goal.returns-in_err-clean-clause-none

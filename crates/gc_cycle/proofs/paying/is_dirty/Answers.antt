@@ -2,10 +2,10 @@ use Rattle.std.proofs.Common.{ap}
 use Rattle.mark_core.specs.declared.kinds.Step.TheVariants.{ReadCard}
 use Rattle.gc_table.specs.Seats.{view_of}
 use Rattle.gc_table.specs.declared.view.View.{View}
-use Rattle.gc_table.proofs.Log.{events-after}
+use Rattle.gc_table.proofs.History.Log.{events-after}
 use Rattle.gc_cycle.specs.Events.{never}
 use Rattle.gc_cycle.specs.Sorts.{pops, reads_pace, reads_root}
-use Rattle.gc_cycle.proofs.Looked.{has-looked}
+use Rattle.gc_cycle.proofs.Stops.Looked.{has-looked}
 use Rattle.gc_cycle.proofs.paying.is_dirty.Goals as goal
 
 pub returns-clause-none : goal.returns-clause-none

@@ -5,9 +5,9 @@ use Rattle.gc_table.specs.PlainSteps.{own_section}
 use Rattle.gc_table.specs.Log.{events}
 use Rattle.gc_table.specs.Seats.{view_of}
 use Rattle.gc_table.specs.declared.view.View.{View}
-use Rattle.gc_cycle.specs.Payment.{MarksAndTraces}
+use Rattle.gc_cycle.specs.Pace.Payment.{MarksAndTraces}
 use Rattle.gc_cycle.specs.Roots.{roots_scanned}
-use Rattle.gc_cycle.proofs.Payment.{marks-none, marks-traces, section-below}
+use Rattle.gc_cycle.proofs.Refills.Payment.{marks-none, marks-traces, section-below}
 use Rattle.gc_cycle.proofs.paying.mark_and_trace.Goals as goal
 
 pub scan_roots-requires-clause-section : goal.scan_roots-requires-clause-section

@@ -1,21 +1,21 @@
 use Rattle.std.proofs.Common.{refl, ap}
 use Rattle.gc_table.specs.Seats.{view_of}
 use Rattle.gc_table.specs.declared.view.View.{View}
-use Rattle.gc_table.proofs.Log.{events-none, only-none}
+use Rattle.gc_table.proofs.History.Log.{events-none, only-none}
 use Rattle.gc_table.proofs.Running.{ran-refl}
 use Rattle.gc_cycle.specs.Events.{never}
-use Rattle.gc_cycle.specs.Lower.{traces_cells}
-use Rattle.gc_cycle.specs.Payment.{TracesNone}
+use Rattle.gc_cycle.specs.Lower.{traces_or_cleans}
+use Rattle.gc_cycle.specs.Pace.Payment.{TracesNone}
 use Rattle.gc_cycle.specs.Sorts.{pops, reads_pace, reads_root}
 use Rattle.gc_cycle.specs.Standing.{Mutates}
-use Rattle.gc_cycle.proofs.Payment.{none-join}
+use Rattle.gc_cycle.proofs.Refills.Payment.{none-join}
 use Rattle.gc_cycle.proofs.paying.next_dirty.Goals as goal
 
 -- nothing was done yet
 none-yet : (v : View) → Mutates v → TracesNone v v
 none-yet v m =
     record {
-      traced = record { ran = ran-refl v; only = only-none traces_cells v; rest = m.rest; record_is = refl; rooted = λ r. r };
+      traced = record { ran = ran-refl v; only = only-none traces_or_cleans v; rest = m.rest; record_is = refl; rooted = λ r. r };
       unpopped = ap (never pops) (events-none v);
       unread = ap (never reads_pace) (events-none v);
       unrooted = ap (never reads_root) (events-none v);

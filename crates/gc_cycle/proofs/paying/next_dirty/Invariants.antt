@@ -1,5 +1,5 @@
 use Rattle.gc_table.specs.Seats.{Sits, view_of}
-use Rattle.gc_cycle.specs.Payment.{TracesNone}
+use Rattle.gc_cycle.specs.Pace.Payment.{TracesNone}
 use Rattle.gc_cycle.proofs.paying.next_dirty.Given as goal
 
 abbrev pub invariant-loop-card : goal.invariant-loop-card

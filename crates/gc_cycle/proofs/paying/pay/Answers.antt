@@ -1,7 +1,7 @@
 use Rattle.gc_table.specs.Seats.{view_of}
 use Rattle.gc_table.proofs.Running.{own-kept}
-use Rattle.gc_cycle.specs.Payment.{pays_cells}
-use Rattle.gc_cycle.proofs.PaidFor.{paid-of, pays-kept}
+use Rattle.gc_cycle.specs.Pace.Payment.{pays_cells}
+use Rattle.gc_cycle.proofs.Refills.PaidFor.{paid-of, pays-kept}
 use Rattle.gc_cycle.proofs.paying.pay.Goals as goal
 
 pub returns-clause-paid : goal.returns-clause-paid

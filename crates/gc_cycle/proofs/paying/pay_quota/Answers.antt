@@ -1,5 +1,5 @@
 use Rattle.gc_table.specs.Seats.{view_of}
-use Rattle.gc_cycle.proofs.Payment.{traces-none}
+use Rattle.gc_cycle.proofs.Refills.Payment.{traces-none}
 use Rattle.gc_cycle.proofs.paying.pay_quota.Goals as goal
 
 pub returns-in-NoWork-clause-traces : goal.returns-in-NoWork-clause-traces

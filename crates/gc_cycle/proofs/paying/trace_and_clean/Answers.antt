@@ -2,8 +2,8 @@ use Rattle.std.proofs.Common.{arith, ap, ◌∙◌, subst, zero-add}
 use Rattle.mark_core.specs.declared.seat.SeatState.{SeatState}
 use Rattle.gc_table.specs.Seats.{view_of}
 use Rattle.gc_table.specs.declared.view.View.{View}
-use Rattle.gc_cycle.specs.Payment.{TracesOn}
-use Rattle.gc_cycle.proofs.Payment.{mutates-on, traces-join, traces-none, traces-on}
+use Rattle.gc_cycle.specs.Pace.Payment.{TracesOn}
+use Rattle.gc_cycle.proofs.Refills.Payment.{mutates-on, traces-join, traces-none, traces-on}
 use Rattle.gc_cycle.proofs.paying.trace_and_clean.Goals as goal
 
 pub loop-card-init : goal.loop-card-init

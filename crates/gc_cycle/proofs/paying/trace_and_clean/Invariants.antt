@@ -1,5 +1,5 @@
 use Rattle.gc_table.specs.Seats.{Sits, view_of}
-use Rattle.gc_cycle.specs.Payment.{TracesOn}
+use Rattle.gc_cycle.specs.Pace.Payment.{TracesOn}
 use Rattle.gc_cycle.proofs.paying.trace_and_clean.Given as goal
 
 abbrev pub invariant-loop-card : goal.invariant-loop-card

@@ -3,15 +3,15 @@ use Rattle.mark_core.specs.Layout.{block_count}
 use Rattle.mark_core.specs.declared.kinds.Shape.{Shape}
 use Rattle.gc_table.specs.Seats.{view_of}
 use Rattle.gc_table.specs.declared.view.View.{View}
-use Rattle.gc_table.proofs.Log.{only-more}
+use Rattle.gc_table.proofs.History.Log.{only-more}
 use Rattle.gc_table.proofs.Running.{ran-join}
 use Rattle.alloc_cache.specs.Claiming.{seeks_block}
 use Rattle.gc_cycle.specs.Refilling.{prepares}
-use Rattle.gc_cycle.proofs.Paced.{seeks-prepare}
+use Rattle.gc_cycle.proofs.Refills.Paced.{seeks-prepare}
 use Rattle.gc_cycle.proofs.Positions.{stored-more}
-use Rattle.gc_cycle.proofs.Claimed.{claims-cached, claims-claimed, claims-only}
-use Rattle.gc_cycle.proofs.Rounds.{calm-stops, leads-caused, leads-prepared, leads-stops, later-some, round-calm, round-later, searched-stops, some-blocks}
-use Rattle.gc_cycle.proofs.RoundNumbers.{claims-refill, leaves-first}
+use Rattle.gc_cycle.proofs.Refills.Claimed.{claims-cached, claims-claimed, claims-only}
+use Rattle.gc_cycle.proofs.Refills.Rounds.{calm-stops, leads-caused, leads-prepared, leads-stops, later-some, round-calm, round-later, searched-stops, some-blocks}
+use Rattle.gc_cycle.proofs.Refills.RoundNumbers.{claims-refill, leaves-first}
 use Rattle.gc_cycle.proofs.Numbers.{seeks-by}
 use Rattle.gc_cycle.proofs.refilling.claim_or_stop.Goals as goal
 

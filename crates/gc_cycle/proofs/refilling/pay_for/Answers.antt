@@ -1,22 +1,22 @@
 use Rattle.std.proofs.Common.{◌∙◌, [], ◌∷◌, inl, inr, refl, subst, sym}
 use Rattle.gc_table.specs.Seats.{view_of}
 use Rattle.gc_table.specs.declared.view.View.{View}
-use Rattle.gc_table.proofs.Log.{events-none, only-more, only-none}
+use Rattle.gc_table.proofs.History.Log.{events-none, only-more, only-none}
 use Rattle.gc_table.proofs.Running.{ran-refl, ran-stored, ran-found}
 use Rattle.gc_cycle.specs.Answering.{answers}
 use Rattle.gc_cycle.specs.Mutating.{stays_calm}
-use Rattle.gc_cycle.specs.Payment.{HasPaid, pays_cells}
+use Rattle.gc_cycle.specs.Pace.Payment.{HasPaid, pays_cells}
 use Rattle.gc_cycle.specs.Sparing.{spares_part}
-use Rattle.gc_cycle.proofs.Answered.{answers-calm, full-later}
-use Rattle.gc_cycle.proofs.Collected.{calm-spares}
-use Rattle.gc_cycle.proofs.Fulls.{mutates-still}
-use Rattle.gc_cycle.proofs.Refilled.{gets-free, gets-paid, gives-up, looked-calm, looked-ran, read-idle}
-use Rattle.gc_cycle.proofs.Retired.{owes-none}
+use Rattle.gc_cycle.proofs.Refills.Answered.{answers-calm, full-later}
+use Rattle.gc_cycle.proofs.Refills.Collected.{calm-spares}
+use Rattle.gc_cycle.proofs.Refills.KnownFull.{mutates-still}
+use Rattle.gc_cycle.proofs.Refills.Refilled.{gets-free, gets-paid, gives-up, looked-calm, looked-ran, read-idle}
+use Rattle.gc_cycle.proofs.Refills.Retired.{owes-none}
 use Rattle.mark_core.specs.declared.kinds.Step.TheVariants.{StorePosition, ReadPhase}
 use Rattle.gc_cycle.proofs.Changes.{by-join, changes-after}
 use Rattle.gc_cycle.proofs.Numbers.{retire-by}
 use Rattle.gc_cycle.specs.Statistics.{gives_back}
-use Rattle.mark_core.specs.MutatorSteps.{used_bits}
+use Rattle.mark_core.specs.Steps.MutatorSteps.{used_bits}
 use Rattle.gc_cycle.proofs.refilling.pay_for.Goals as goal
 
 pub retire-requires-clause-owes : goal.retire-requires-clause-owes

@@ -2,13 +2,13 @@ use Rattle.std.proofs.Common.{◌∙◌, ap, Bool, []}
 use Rattle.std.specs.Prelude.{if◌then◌else◌}
 use Rattle.gc_table.specs.Seats.{view_of}
 use Rattle.gc_table.specs.declared.view.View.{View}
-use Rattle.gc_cycle.proofs.AfterStop.{done-resuming, round-cache, round-full, round-gets, round-none, round-theirs, to-drop}
-use Rattle.gc_cycle.proofs.Answered.{full-later}
+use Rattle.gc_cycle.proofs.Stops.AfterStop.{done-resuming, round-cache, round-full, round-gets, round-none, round-theirs, to-drop}
+use Rattle.gc_cycle.proofs.Refills.Answered.{full-later}
 use Rattle.gc_table.proofs.Running.{ran-join}
-use Rattle.gc_cycle.proofs.InStops.{unbegun-stop, unbegun-tries}
+use Rattle.gc_cycle.proofs.Stops.InStops.{unbegun-stop, unbegun-tries}
 use Rattle.gc_cycle.proofs.Changes.{numbers-one, only-changes}
 use Rattle.gc_cycle.specs.Statistics.{taken}
-use Rattle.gc_cycle.proofs.RoundNumbers.{stop-full, stop-none, stop-some, stop-takes}
+use Rattle.gc_cycle.proofs.Refills.RoundNumbers.{stop-full, stop-none, stop-some, stop-takes}
 use Rattle.gc_cycle.proofs.refilling.refill_in_stop.Goals as goal
 
 pub returns-then-not-stop-clause-round : goal.returns-then-not-stop-clause-round

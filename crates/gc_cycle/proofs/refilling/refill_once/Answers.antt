@@ -3,11 +3,11 @@ use Rattle.gc_table.specs.declared.view.View.{View}
 use Rattle.gc_table.proofs.Running.{ran-join}
 use Rattle.gc_cycle.specs.Answering.{answers}
 use Rattle.gc_cycle.specs.Mutating.{stays_calm}
-use Rattle.gc_table.proofs.Log.{only-more}
-use Rattle.gc_cycle.proofs.Answered.{answers-calm, full-later}
+use Rattle.gc_table.proofs.History.Log.{only-more}
+use Rattle.gc_cycle.proofs.Refills.Answered.{answers-calm, full-later}
 use Rattle.gc_cycle.proofs.Positions.{stored-more}
-use Rattle.gc_cycle.proofs.Rounds.{calm-stops, later-some, leads-caused, leads-join, leads-looked, leads-prepared, leads-stops, looked-seen, marked-stops, marking-known, paced-after, round-calm, round-later}
-use Rattle.gc_cycle.proofs.RoundNumbers.{leaves-first, leaves-full}
+use Rattle.gc_cycle.proofs.Refills.Rounds.{calm-stops, later-some, leads-caused, leads-join, leads-looked, leads-prepared, leads-stops, looked-seen, marked-stops, marking-known, paced-after, round-calm, round-later}
+use Rattle.gc_cycle.proofs.Refills.RoundNumbers.{leaves-first, leaves-full}
 use Rattle.gc_cycle.proofs.Changes.{by-join}
 use Rattle.std.proofs.Common.{[]}
 use Rattle.gc_cycle.proofs.refilling.refill_once.Goals as goal

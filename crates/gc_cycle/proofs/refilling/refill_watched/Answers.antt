@@ -6,9 +6,9 @@ use Rattle.gc_cycle.specs.Cycles.{fills_with_cause}
 use Rattle.gc_cycle.specs.Stops.{stops_again_with_cause, stops_with_cause}
 use Rattle.std.proofs.Common.{sym, subst, true, ◌≡◌, []}
 use Rattle.gc_table.proofs.Running.{ran-refl}
-use Rattle.gc_cycle.proofs.Fulls.{tells-none}
-use Rattle.gc_cycle.proofs.Tried.{ends-round, tried-more, tried-none}
-use Rattle.gc_cycle.proofs.RoundNumbers.{refills-later}
+use Rattle.gc_cycle.proofs.Refills.KnownFull.{tells-none}
+use Rattle.gc_cycle.proofs.Refills.RoundsSoFar.{ends-round, tried-more, tried-none}
+use Rattle.gc_cycle.proofs.Refills.RoundNumbers.{refills-later}
 use Rattle.gc_cycle.proofs.Changes.{by-none, numbers-join, numbers-one}
 use Rattle.gc_cycle.proofs.refilling.refill_watched.Goals as goal
 
@@ -21,75 +21,23 @@ loop-preserved g c =
     let e = c.refill_once.ensures in
     record { next = tt; finite = tt; sits = e.seat; numbers = numbers-join [] (view_of c.args.seat.now) (view_of c.loop.seat) (view_of c.refill_once.new.seat) i.numbers c.in_default.ensures.numbers; tried = tried-more c.args.done (view_of c.args.seat.now) (view_of c.loop.seat) (view_of c.refill_once.new.seat) i.tried c.in_default.ensures.round (subst (λ (sh : Shape). stops_with_cause sh (events (view_of c.loop.seat) (view_of c.refill_once.new.seat)) ≡ true) (sym i.sits.1) e.stops) }
 
-pub returns-in-Some-refill_once-clause-ran : goal.returns-in-Some-refill_once-clause-ran
-returns-in-Some-refill_once-clause-ran g c =
+pub returns-in-Some-refill_once : goal.returns-in-Some-refill_once
+returns-in-Some-refill_once g c =
     let u : View = view_of c.args.seat.now in
     let v : View = view_of c.loop.seat in
     let w : View = view_of c.refill_once.new.seat in
-    let e = c.in-Some-refill_once.ensures in
-    let d = ends-round _ c.args.done u v w c.loop.invariant.tried e.round (subst (λ (sh : Shape). stops_with_cause sh (events v w) ≡ true) (sym c.loop.invariant.sits.1) e.stops) in
-    d.ran
-
-pub returns-in-Some-refill_once-clause-stops : goal.returns-in-Some-refill_once-clause-stops
-returns-in-Some-refill_once-clause-stops g c =
-    let u : View = view_of c.args.seat.now in
-    let v : View = view_of c.loop.seat in
-    let w : View = view_of c.refill_once.new.seat in
-    let e = c.in-Some-refill_once.ensures in
-    let d = ends-round _ c.args.done u v w c.loop.invariant.tried e.round (subst (λ (sh : Shape). stops_with_cause sh (events v w) ≡ true) (sym c.loop.invariant.sits.1) e.stops) in
-    subst (λ (sh : Shape). stops_with_cause sh (events u w) ≡ true) c.requires.seat.0.1 d.stops
-
-pub returns-in-Some-refill_once-clause-again : goal.returns-in-Some-refill_once-clause-again
-returns-in-Some-refill_once-clause-again g c =
-    let u : View = view_of c.args.seat.now in
-    let v : View = view_of c.loop.seat in
-    let w : View = view_of c.refill_once.new.seat in
-    let e = c.in-Some-refill_once.ensures in
-    let d = ends-round _ c.args.done u v w c.loop.invariant.tried e.round (subst (λ (sh : Shape). stops_with_cause sh (events v w) ≡ true) (sym c.loop.invariant.sits.1) e.stops) in
-    subst (λ (sh : Shape). stops_again_with_cause sh (events u w) ≡ true) c.requires.seat.0.1 d.again
-
-pub returns-in-Some-refill_once-clause-fills : goal.returns-in-Some-refill_once-clause-fills
-returns-in-Some-refill_once-clause-fills g c =
-    let u : View = view_of c.args.seat.now in
-    let v : View = view_of c.loop.seat in
-    let w : View = view_of c.refill_once.new.seat in
-    let e = c.in-Some-refill_once.ensures in
-    let d = ends-round _ c.args.done u v w c.loop.invariant.tried e.round (subst (λ (sh : Shape). stops_with_cause sh (events v w) ≡ true) (sym c.loop.invariant.sits.1) e.stops) in
-    subst (λ (sh : Shape). fills_with_cause sh (events u w) ≡ true) c.requires.seat.0.1 d.fills
-
-pub returns-in-Some-refill_once-clause-keeps : goal.returns-in-Some-refill_once-clause-keeps
-returns-in-Some-refill_once-clause-keeps g c =
-    let u : View = view_of c.args.seat.now in
-    let v : View = view_of c.loop.seat in
-    let w : View = view_of c.refill_once.new.seat in
-    let e = c.in-Some-refill_once.ensures in
-    let d = ends-round _ c.args.done u v w c.loop.invariant.tried e.round (subst (λ (sh : Shape). stops_with_cause sh (events v w) ≡ true) (sym c.loop.invariant.sits.1) e.stops) in
-    d.keeps
-
-pub returns-in-Some-refill_once-clause-only : goal.returns-in-Some-refill_once-clause-only
-returns-in-Some-refill_once-clause-only g c =
-    let u : View = view_of c.args.seat.now in
-    let v : View = view_of c.loop.seat in
-    let w : View = view_of c.refill_once.new.seat in
-    let e = c.in-Some-refill_once.ensures in
-    let d = ends-round _ c.args.done u v w c.loop.invariant.tried e.round (subst (λ (sh : Shape). stops_with_cause sh (events v w) ≡ true) (sym c.loop.invariant.sits.1) e.stops) in
-    d.only
-
-pub returns-in-Some-refill_once-clause-spares : goal.returns-in-Some-refill_once-clause-spares
-returns-in-Some-refill_once-clause-spares g c =
-    let u : View = view_of c.args.seat.now in
-    let v : View = view_of c.loop.seat in
-    let w : View = view_of c.refill_once.new.seat in
-    let e = c.in-Some-refill_once.ensures in
-    let d = ends-round _ c.args.done u v w c.loop.invariant.tried e.round (subst (λ (sh : Shape). stops_with_cause sh (events v w) ≡ true) (sym c.loop.invariant.sits.1) e.stops) in
-    d.spares
-
-pub returns-in-Some-refill_once-clause-refills : goal.returns-in-Some-refill_once-clause-refills
-returns-in-Some-refill_once-clause-refills g c =
-    let u : View = view_of c.args.seat.now in
     let t = c.loop.invariant.tried in
-    c.in-Some-refill_once.ensures.some u t.ran (t.tells u (ran-refl u) (tells-none u)) t.position
-
-pub returns-in-Some-refill_once-clause-numbers : goal.returns-in-Some-refill_once-clause-numbers
-returns-in-Some-refill_once-clause-numbers g c =
-    refills-later _ (view_of c.args.seat.now) (view_of c.loop.seat) (view_of c.refill_once.new.seat) c.loop.invariant.numbers c.in-Some-refill_once.ensures.numbers
+    let e = c.in-Some-refill_once.ensures in
+    let d = ends-round _ c.args.done u v w t e.round (subst (λ (sh : Shape). stops_with_cause sh (events v w) ≡ true) (sym c.loop.invariant.sits.1) e.stops) in
+    record {
+      seat = e.seat;
+      ran = d.ran;
+      refills = e.some u t.ran (t.tells u (ran-refl u) (tells-none u)) t.position;
+      stops = subst (λ (sh : Shape). stops_with_cause sh (events u w) ≡ true) c.requires.seat.0.1 d.stops;
+      again = subst (λ (sh : Shape). stops_again_with_cause sh (events u w) ≡ true) c.requires.seat.0.1 d.again;
+      fills = subst (λ (sh : Shape). fills_with_cause sh (events u w) ≡ true) c.requires.seat.0.1 d.fills;
+      keeps = d.keeps;
+      only = d.only;
+      numbers = refills-later _ u v w c.loop.invariant.numbers e.numbers;
+      spares = d.spares;
+    }

@@ -1,7 +1,7 @@
 use Rattle.std.proofs.Common.{[]}
 use Rattle.gc_table.specs.Seats.{Sits, view_of}
 use Rattle.gc_cycle.specs.Statistics.{ChangesNumbers}
-use Rattle.gc_cycle.proofs.Tried.{HasTried}
+use Rattle.gc_cycle.proofs.Refills.RoundsSoFar.{HasTried}
 use Rattle.gc_cycle.proofs.refilling.refill_watched.Given as goal
 
 abbrev pub invariant-loop : goal.invariant-loop

@@ -1,11 +1,11 @@
 use Rattle.std.proofs.Common.{inr, inl}
 use Rattle.gc_table.specs.Seats.{view_of}
 use Rattle.gc_table.specs.declared.view.View.{View}
-use Rattle.gc_table.proofs.Log.{only-more}
-use Rattle.gc_cycle.specs.Pacing.{kicks}
+use Rattle.gc_table.proofs.History.Log.{only-more}
+use Rattle.gc_cycle.specs.Pace.Pacing.{kicks}
 use Rattle.gc_cycle.specs.Refilling.{looks_for_end, prepares}
-use Rattle.gc_cycle.proofs.Paced.{cycle-kept, kicked-paced, kicks-prepare, looks-prepare}
-use Rattle.gc_cycle.proofs.Rounds.{on-false}
+use Rattle.gc_cycle.proofs.Refills.Paced.{cycle-kept, kicked-paced, kicks-prepare, looks-prepare}
+use Rattle.gc_cycle.proofs.Refills.Rounds.{on-false}
 use Rattle.gc_cycle.proofs.Leaving.{kicks-leave, looks-leave}
 use Rattle.gc_cycle.proofs.Changes.{only-changes}
 use Rattle.gc_cycle.specs.Statistics.{leaves_numbers}

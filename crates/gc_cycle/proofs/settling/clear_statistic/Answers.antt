@@ -1,5 +1,5 @@
 use Rattle.gc_table.specs.Seats.{view_of}
-use Rattle.gc_cycle.proofs.Sets.{may-clear, sets-clear}
+use Rattle.gc_cycle.proofs.Ends.Sets.{may-clear, sets-clear}
 use Rattle.gc_cycle.proofs.settling.clear_statistic.Goals as goal
 
 pub reset-requires-clause-may : goal.reset-requires-clause-may

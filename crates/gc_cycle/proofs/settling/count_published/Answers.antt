@@ -4,7 +4,7 @@ use Rattle.gc_table.specs.declared.view.View.{View}
 use Rattle.mark_core.specs.declared.kinds.Phase.TheVariants.{Idle}
 use Rattle.std.proofs.lemmas.Nat.{ones-le}
 use Rattle.gc_cycle.proofs.Parts.{part-join}
-use Rattle.gc_cycle.proofs.Sets.{allocs-more, ones-more, part-read}
+use Rattle.gc_cycle.proofs.Ends.Sets.{allocs-more, ones-more, part-read}
 use Rattle.gc_cycle.proofs.settling.count_published.Goals as goal
 
 pub loop-b-preserved : goal.loop-b-preserved

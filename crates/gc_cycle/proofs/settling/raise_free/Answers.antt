@@ -3,7 +3,7 @@ use Rattle.gc_table.specs.Seats.{view_of}
 use Rattle.gc_table.specs.declared.view.View.{View}
 use Rattle.gc_cycle.specs.Settling.{Sets}
 use Rattle.mark_core.specs.Bits.{wrapped_sum}
-use Rattle.gc_cycle.proofs.Sets.{sets-add, sets-join}
+use Rattle.gc_cycle.proofs.Ends.Sets.{sets-add, sets-join}
 use Rattle.gc_cycle.proofs.settling.raise_free.Goals as goal
 
 pub loop-step-preserved : goal.loop-step-preserved

@@ -3,7 +3,7 @@ use Rattle.gc_table.specs.Seats.{view_of}
 use Rattle.gc_table.specs.declared.view.View.{View}
 use Rattle.gc_cycle.specs.Settling.{Sets}
 use Rattle.mark_core.specs.Bits.{wrapped_difference}
-use Rattle.gc_cycle.proofs.Sets.{sets-add, sets-join, sets-read}
+use Rattle.gc_cycle.proofs.Ends.Sets.{sets-add, sets-join, sets-read}
 use Rattle.gc_cycle.proofs.settling.set_free.Goals as goal
 
 pub raise_free-requires-clause-alone : goal.raise_free-requires-clause-alone

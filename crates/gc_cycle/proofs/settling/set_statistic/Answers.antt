@@ -2,7 +2,7 @@ use Rattle.std.proofs.Common.{◌≡◌, ◌+◌, ◌%◌, subst, arith, false}
 use Rattle.gc_table.specs.Seats.{view_of}
 use Rattle.gc_table.specs.declared.view.View.{View}
 use Rattle.gc_cycle.specs.Settling.{Sets}
-use Rattle.gc_cycle.proofs.Sets.{may-add, may-clear, sets-add, sets-clear, sets-join}
+use Rattle.gc_cycle.proofs.Ends.Sets.{may-add, may-clear, sets-add, sets-clear, sets-join}
 use Rattle.gc_cycle.proofs.settling.set_statistic.Goals as goal
 
 pub reset-requires-clause-may : goal.reset-requires-clause-may

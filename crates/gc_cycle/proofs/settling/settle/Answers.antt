@@ -7,9 +7,9 @@ use Rattle.gc_table.specs.Seats.{view_of}
 use Rattle.gc_table.specs.declared.view.View.{View}
 use Rattle.gc_table.specs.Running.{Known}
 use Rattle.gc_cycle.specs.Finishing.{AllocsNoted, ones_noted}
-use Rattle.gc_cycle.proofs.Ended.{cycle-ends}
+use Rattle.gc_cycle.proofs.Ends.Ended.{cycle-ends}
 use Rattle.gc_cycle.proofs.Parts.{part-join}
-use Rattle.gc_cycle.proofs.Sets.{allocs-kept, KeepsAllocs, ones-kept, sets-kept}
+use Rattle.gc_cycle.proofs.Ends.Sets.{allocs-kept, KeepsAllocs, ones-kept, sets-kept}
 use Rattle.gc_cycle.proofs.settling.settle.Goals as goal
 
 pub returns-clause-part : goal.returns-clause-part

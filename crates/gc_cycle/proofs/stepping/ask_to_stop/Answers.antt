@@ -4,17 +4,18 @@ use Rattle.stop_world.specs.declared.Raised.{Raised}
 use Rattle.stop_world.specs.declared.Raised.TheVariants.{Theirs, Yours}
 use Rattle.std.specs.Prelude.{if◌then◌else◌, is_some}
 use Rattle.mark_core.specs.Bits.{has_flag}
-use Rattle.mark_core.specs.WorldSteps.{has_nothing}
+use Rattle.mark_core.specs.Steps.WorldSteps.{has_nothing}
 use Rattle.gc_table.specs.Seats.{view_of}
 use Rattle.gc_table.specs.declared.view.View.{View}
 use Rattle.stop_world.proofs.Standing.{unaware-alone}
 use Rattle.stop_world.proofs.Waits.{aware-at}
-use Rattle.gc_cycle.proofs.Goings.{bare-parts, out-unaware, theirs-out, yours-free}
+use Rattle.gc_cycle.proofs.Stops.OutAndIn.{bare-parts}
+use Rattle.gc_cycle.proofs.Stops.FlagRaised.{out-unaware, theirs-out, yours-free}
 use Rattle.mark_core.specs.declared.kinds.Step.TheVariants.{LeaveStep, RaiseStep, StorePosition}
 use Rattle.gc_table.specs.Log.{event, events}
 use Rattle.gc_table.specs.Running.{Ran}
 use Rattle.gc_table.specs.Taking.{after}
-use Rattle.gc_table.proofs.Log.{events-after}
+use Rattle.gc_table.proofs.History.Log.{events-after}
 use Rattle.gc_table.proofs.Running.{ran-events, ran-join}
 use Rattle.gc_cycle.proofs.stepping.ask_to_stop.Goals as goal
 

@@ -12,10 +12,10 @@ use Rattle.gc_table.specs.declared.view.View.{View}
 use Rattle.gc_table.proofs.Running.{ran-events, ran-join}
 use Rattle.gc_cycle.specs.Finishing.{finishes, IsAloneIn}
 use Rattle.gc_cycle.specs.Sorts.{begins_exactly}
-use Rattle.gc_cycle.proofs.Collected.{holds-phase}
-use Rattle.gc_cycle.proofs.Completing.{part-exact}
-use Rattle.gc_cycle.proofs.Spared.{finish-keeps}
-use Rattle.gc_cycle.proofs.Exactly.{exact-begun}
+use Rattle.gc_cycle.proofs.Refills.Collected.{holds-phase}
+use Rattle.gc_cycle.proofs.Ends.Completing.{part-exact}
+use Rattle.gc_cycle.proofs.Ends.Spared.{finish-keeps}
+use Rattle.gc_cycle.proofs.Ends.Exactly.{exact-begun}
 use Rattle.gc_cycle.proofs.Stepped.{full-resumed, holds-idle, keeps-join, part-keeps, resumed-runs}
 use Rattle.gc_cycle.proofs.stepping.begin_collection.Goals as goal
 

@@ -7,10 +7,10 @@ use Rattle.gc_table.specs.Seats.{view_of}
 use Rattle.gc_table.specs.declared.view.View.{View}
 use Rattle.gc_table.proofs.Running.{ran-events, ran-join}
 use Rattle.gc_cycle.specs.Sorts.{begins_exactly}
-use Rattle.gc_cycle.proofs.Completing.{part-exact}
-use Rattle.gc_cycle.proofs.Exactly.{exact-again, exact-begun}
+use Rattle.gc_cycle.proofs.Ends.Completing.{part-exact}
+use Rattle.gc_cycle.proofs.Ends.Exactly.{exact-again, exact-begun}
 use Rattle.gc_cycle.proofs.Parts.{move-finishes}
-use Rattle.gc_cycle.proofs.Spared.{finish-keeps}
+use Rattle.gc_cycle.proofs.Ends.Spared.{finish-keeps}
 use Rattle.gc_cycle.proofs.Stepped.{keeps-join, owner-kept, part-keeps, part-owner}
 use Rattle.gc_cycle.proofs.stepping.drain_again.Goals as goal
 

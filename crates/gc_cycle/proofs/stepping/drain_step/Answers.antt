@@ -1,9 +1,10 @@
+use Rattle.std.proofs.Common.{inl}
 use Rattle.mark_core.specs.declared.kinds.Phase.TheVariants.{Drain}
 use Rattle.gc_table.specs.Seats.{view_of}
 use Rattle.gc_table.specs.declared.view.View.{View}
 use Rattle.gc_cycle.specs.Finishing.{IsAloneIn}
 use Rattle.gc_cycle.specs.Stepping.{Drains}
-use Rattle.gc_cycle.proofs.Exactly.{exact-part}
+use Rattle.gc_cycle.proofs.Ends.Exactly.{exact-part}
 use Rattle.gc_cycle.proofs.Parts.{part-join}
 use Rattle.gc_cycle.proofs.Stepped.{drains-of, makes-round, part-keeps, part-owner, rooted-back}
 use Rattle.gc_cycle.proofs.Traced.{traced-part}
@@ -34,11 +35,16 @@ returns-then-is_drained-clause-drained c = (
   c.is_drained.ensures.over c.if-is_drained.true,
 )
 
+pub drain_round-requires-clause-drains : goal.drain_round-requires-clause-drains
+drain_round-requires-clause-drains c =
+    let v : View = view_of c.args.seat.now in inl (traced-part v (view_of c.is_drained.new.seat) (alone-of v c.requires.drains) c.is_drained.ensures.traced).alone
+
 pub returns-clause-part : goal.returns-clause-part
 returns-clause-part c =
     let v : View = view_of c.args.seat.now in
     let w : View = view_of c.is_drained.new.seat in
-    part-join Drain v w (view_of c.drain_round.new.seat) (traced-part v w (alone-of v c.requires.drains) c.is_drained.ensures.traced) c.drain_round.ensures.part
+    let x : View = view_of c.drain_round.new.seat in
+    let p = traced-part v w (alone-of v c.requires.drains) c.is_drained.ensures.traced in part-join Drain v w x p (traced-part w x p.alone c.drain_round.ensures.traced)
 
 pub returns-clause-not_yet : goal.returns-clause-not_yet
 unfolding returns-clause-part
@@ -48,8 +54,8 @@ returns-clause-not_yet c =
     let x : View = view_of c.drain_round.new.seat in
     let e = c.is_drained.ensures in
     let d = c.drain_round.ensures in (
-      drains-of x (part-owner Drain v x (returns-clause-part c) c.requires.drains.owner) (d.rooted e.seat.1),
-      makes-round c.args.most c.args.heap.now.shape v w x c.requires.seat.1 e.traced.ran (e.undrained c.if-is_drained.false) d.part.ran d.worked d.cleans,
+      drains-of x (part-owner Drain v x (returns-clause-part c) c.requires.drains.owner) (d.traced.rooted e.seat.1),
+      makes-round c.args.most c.args.heap.now.shape v w x c.requires.seat.1 e.traced.ran (e.undrained c.if-is_drained.false) d.traced.ran d.worked d.cleans,
     )
 
 pub returns-clause-exact : goal.returns-clause-exact

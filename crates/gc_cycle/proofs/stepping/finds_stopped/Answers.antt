@@ -4,7 +4,7 @@ use Rattle.mark_core.specs.declared.seat.SeatState.{SeatState}
 use Rattle.gc_table.specs.Log.{event, events}
 use Rattle.gc_table.specs.Seats.{view_of}
 use Rattle.gc_table.specs.declared.view.View.{View}
-use Rattle.gc_table.proofs.Log.{events-after}
+use Rattle.gc_table.proofs.History.Log.{events-after}
 use Rattle.gc_table.proofs.Running.{ran-events, ran-found, ran-join}
 use Rattle.gc_cycle.proofs.Stepped.{asks-still, knows-found, stopped-holds}
 use Rattle.gc_cycle.proofs.stepping.finds_stopped.Goals as goal

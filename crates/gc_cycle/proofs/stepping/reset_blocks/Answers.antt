@@ -1,7 +1,7 @@
 use Rattle.std.proofs.Common.{refl}
 use Rattle.mark_core.specs.declared.kinds.Phase.TheVariants.{Drain}
 use Rattle.gc_table.specs.Seats.{view_of}
-use Rattle.gc_cycle.proofs.Moving.{may-reset_drain}
+use Rattle.gc_cycle.proofs.Ends.Moving.{may-reset_drain}
 use Rattle.gc_cycle.proofs.Parts.{part-reset}
 use Rattle.gc_cycle.proofs.Stepped.{reset-roots}
 use Rattle.gc_cycle.proofs.stepping.reset_blocks.Goals as goal

@@ -2,7 +2,7 @@ use Rattle.std.proofs.lemmas.Bool.{OnFalse_from, OnTrue_from}
 use Rattle.mark_core.specs.declared.kinds.Phase.TheVariants.{Drain}
 use Rattle.gc_table.specs.Seats.{view_of}
 use Rattle.gc_table.specs.declared.view.View.{View}
-use Rattle.gc_cycle.proofs.Exactly.{exact-part}
+use Rattle.gc_cycle.proofs.Ends.Exactly.{exact-part}
 use Rattle.gc_cycle.proofs.Stepped.{drains-of, part-keeps, part-owner}
 use Rattle.gc_cycle.proofs.stepping.root_step.Goals as goal
 

@@ -5,12 +5,13 @@ use Rattle.gc_table.specs.declared.view.View.{View}
 use Rattle.packet_pools.specs.Seeking.{some_event}
 use Rattle.packet_pools.proofs.Searches.{some-left, some-right}
 use Rattle.gc_table.specs.Log.{events}
-use Rattle.gc_table.proofs.Log.{events-after, only-after}
+use Rattle.gc_table.proofs.History.Log.{events-after, only-after}
 use Rattle.gc_table.proofs.Running.{ran-events, ran-join, ran-only}
 use Rattle.gc_cycle.specs.Events.{never}
 use Rattle.gc_cycle.specs.Sorts.{joins, leaves}
-use Rattle.gc_cycle.proofs.Waits.{stays-join, stays-look}
-use Rattle.gc_cycle.proofs.Goings.{offered-last, out-join, polled-out, resumed-last}
+use Rattle.gc_cycle.proofs.Stops.Waits.{stays-join, stays-look}
+use Rattle.gc_cycle.proofs.SectionKept.{out-join}
+use Rattle.gc_cycle.proofs.Stops.OutAndIn.{offered-last, polled-out, resumed-last}
 use Rattle.gc_cycle.proofs.Turns.{apart-look, turns-join, turns-none, turns-once}
 use Rattle.gc_cycle.specs.Statistics.{leaves_numbers}
 use Rattle.gc_cycle.proofs.stopping.await_resumed_helping.Goals as goal

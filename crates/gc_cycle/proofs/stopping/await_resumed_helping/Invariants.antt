@@ -7,7 +7,7 @@ use Rattle.gc_cycle.specs.Mutating.{GoesOut}
 use Rattle.gc_cycle.specs.Standing.{IsOut}
 use Rattle.gc_cycle.specs.Statistics.{leaves_numbers}
 use Rattle.gc_cycle.specs.Turns.{HelpsInTurns}
-use Rattle.gc_cycle.proofs.Goings.{Offered}
+use Rattle.gc_cycle.proofs.Stops.OutAndIn.{Offered}
 use Rattle.gc_cycle.proofs.stopping.await_resumed_helping.Given as goal
 
 abbrev pub invariant-loop : goal.invariant-loop

@@ -3,7 +3,7 @@ use Rattle.mark_core.specs.declared.kinds.Step.TheVariants.{EnterStep, LeaveStep
 use Rattle.gc_table.specs.Log.{event, events, all_steps}
 use Rattle.gc_table.specs.Running.{Ran}
 use Rattle.gc_table.specs.declared.view.Entry.{Entry}
-use Rattle.gc_table.proofs.Log.{events-none, only-more, only-none}
+use Rattle.gc_table.proofs.History.Log.{events-none, only-more, only-none}
 use Rattle.gc_table.proofs.Running.{ran-events, ran-join, ran-only}
 use Rattle.gc_cycle.specs.Answering.{waits_helping}
 use Rattle.gc_cycle.specs.Events.{never}
@@ -11,12 +11,13 @@ use Rattle.gc_cycle.specs.Mutating.{stays_calm}
 use Rattle.gc_cycle.specs.Polling.{offered_help}
 use Rattle.gc_cycle.specs.Sorts.{joins, leaves}
 use Rattle.gc_cycle.specs.Sparing.{spares_part}
-use Rattle.gc_cycle.proofs.Collected.{calm-spares}
-use Rattle.gc_cycle.proofs.Waits.{entered-waits, offered-join, turned-waits}
+use Rattle.gc_cycle.proofs.Refills.Collected.{calm-spares}
+use Rattle.gc_cycle.proofs.Stops.Waits.{entered-waits, offered-join, turned-waits}
 use Rattle.std.specs.Prelude.{is_some}
 use Rattle.gc_table.specs.Seats.{view_of}
 use Rattle.gc_table.specs.declared.view.View.{View}
-use Rattle.gc_cycle.proofs.Goings.{enters-in, goes-out, out-join, out-none, turns-out}
+use Rattle.gc_cycle.proofs.SectionKept.{goes-out, out-join, out-none}
+use Rattle.gc_cycle.proofs.Stops.OutAndIn.{enters-in, turns-out}
 use Rattle.gc_cycle.proofs.Turns.{apart-none, turns-join, turns-none}
 use Rattle.gc_cycle.specs.Statistics.{leaves_numbers}
 use Rattle.gc_cycle.proofs.stopping.go_in.Goals as goal

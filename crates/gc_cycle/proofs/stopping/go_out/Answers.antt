@@ -1,12 +1,12 @@
 use Rattle.std.proofs.Common.{refl, ap, ◌∙◌, ◌++◌, ◌∷◌}
 use Rattle.mark_core.specs.declared.kinds.Step.TheVariants.{LeaveStep, StorePosition}
 use Rattle.gc_table.specs.Log.{event, events, all_steps}
-use Rattle.gc_table.proofs.Log.{events-after}
+use Rattle.gc_table.proofs.History.Log.{events-after}
 use Rattle.gc_table.proofs.Running.{ran-events, ran-stored}
 use Rattle.gc_table.specs.Seats.{view_of}
 use Rattle.gc_table.specs.declared.view.View.{View}
-use Rattle.mark_core.specs.WorldSteps.{has_nothing}
-use Rattle.gc_cycle.proofs.Goings.{free-to-leave, left-out, may-position, mutator-nothing}
+use Rattle.mark_core.specs.Steps.WorldSteps.{has_nothing}
+use Rattle.gc_cycle.proofs.Stops.OutAndIn.{free-to-leave, left-out, may-position, mutator-nothing}
 use Rattle.gc_cycle.specs.Statistics.{leaves_numbers}
 use Rattle.gc_cycle.proofs.stopping.go_out.Goals as goal
 

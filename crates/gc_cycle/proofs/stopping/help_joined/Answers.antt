@@ -1,5 +1,5 @@
 use Rattle.gc_table.specs.Seats.{view_of}
-use Rattle.gc_cycle.proofs.Goings.{goes-out}
+use Rattle.gc_cycle.proofs.SectionKept.{goes-out}
 use Rattle.gc_cycle.proofs.stopping.help_joined.Goals as goal
 
 pub returns-in-Some-Drain-clause-out : goal.returns-in-Some-Drain-clause-out

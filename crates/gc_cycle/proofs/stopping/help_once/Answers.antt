@@ -6,11 +6,12 @@ use Rattle.packet_pools.proofs.Searches.{some-left}
 use Rattle.gc_table.specs.Log.{events, all_steps}
 use Rattle.gc_table.proofs.Running.{ran-events, ran-join, ran-only}
 use Rattle.mark_core.specs.declared.kinds.Step.TheVariants.{LeaveHelpStep}
-use Rattle.gc_table.proofs.Log.{events-after, only-after}
+use Rattle.gc_table.proofs.History.Log.{events-after, only-after}
 use Rattle.gc_cycle.specs.Events.{never}
 use Rattle.gc_cycle.specs.Sorts.{joins, leaves}
-use Rattle.gc_cycle.proofs.Waits.{stays-join}
-use Rattle.gc_cycle.proofs.Goings.{declines-out, is-done, joins-out, leaves-help, out-join}
+use Rattle.gc_cycle.proofs.Stops.Waits.{stays-join}
+use Rattle.gc_cycle.proofs.SectionKept.{out-join}
+use Rattle.gc_cycle.proofs.Stops.OutAndIn.{declines-out, is-done, joins-out, leaves-help}
 use Rattle.gc_cycle.specs.Statistics.{leaves_numbers}
 use Rattle.gc_cycle.proofs.stopping.help_once.Goals as goal
 

@@ -1,11 +1,12 @@
 use Rattle.std.proofs.Common.{refl, ap, ◌∙◌}
 use Rattle.gc_table.specs.Seats.{view_of}
 use Rattle.gc_table.specs.declared.view.View.{View}
-use Rattle.gc_table.proofs.Log.{events-none, only-after, only-none}
+use Rattle.gc_table.proofs.History.Log.{events-none, only-after, only-none}
 use Rattle.gc_cycle.specs.Events.{never}
 use Rattle.gc_cycle.specs.Sorts.{joins, leaves}
-use Rattle.gc_cycle.proofs.Goings.{looked-out, out-join, out-none, polled-out}
-use Rattle.gc_cycle.proofs.Waits.{stays-look}
+use Rattle.gc_cycle.proofs.SectionKept.{out-join, out-none}
+use Rattle.gc_cycle.proofs.Stops.OutAndIn.{looked-out, polled-out}
+use Rattle.gc_cycle.proofs.Stops.Waits.{stays-look}
 use Rattle.gc_cycle.proofs.Turns.{apart-join, apart-look}
 use Rattle.gc_cycle.specs.Statistics.{leaves_numbers}
 use Rattle.gc_table.proofs.Running.{ran-only}

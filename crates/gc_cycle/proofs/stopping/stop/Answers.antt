@@ -1,6 +1,6 @@
 use Rattle.std.proofs.Common.{ap, ◌∙◌, not, refl}
 use Rattle.mark_core.specs.Bits.{has_flag}
-use Rattle.mark_core.specs.WorldSteps.{has_nothing}
+use Rattle.mark_core.specs.Steps.WorldSteps.{has_nothing}
 use Rattle.mark_core.specs.declared.kinds.Shape.{Shape}
 use Rattle.mark_core.specs.declared.seat.SeatState.{SeatState}
 use Rattle.gc_table.specs.Seats.{view_of}
@@ -8,12 +8,14 @@ use Rattle.gc_table.specs.declared.view.View.{View}
 use Rattle.packet_pools.specs.Seeking.{some_event}
 use Rattle.packet_pools.proofs.Searches.{some-left, some-right}
 use Rattle.gc_table.specs.Log.{events}
-use Rattle.gc_table.proofs.Log.{only-more, only-after}
+use Rattle.gc_table.proofs.History.Log.{only-more, only-after}
 use Rattle.gc_table.proofs.Running.{ran-events, ran-join, ran-only, ran-shape}
 use Rattle.stop_world.specs.Waiting.{watches}
 use Rattle.gc_cycle.specs.Mutating.{stays_calm, tries_stopping}
 use Rattle.gc_cycle.specs.Sorts.{raises_flag}
-use Rattle.gc_cycle.proofs.Goings.{bare-parts, calm-count, calm-tries, count-calls, mutators-left, no-cache, out-unaware, raised-event, raised-never, raised-once, raised-only, theirs-out, tries, watches-own, watches-try, yours-free}
+use Rattle.gc_cycle.proofs.SectionKept.{calm-tries}
+use Rattle.gc_cycle.proofs.Stops.OutAndIn.{bare-parts, no-cache}
+use Rattle.gc_cycle.proofs.Stops.FlagRaised.{calm-count, count-calls, mutators-left, out-unaware, raised-event, raised-never, raised-once, raised-only, theirs-out, tries, watches-own, watches-try, yours-free}
 use Rattle.gc_cycle.specs.Statistics.{leaves_numbers}
 use Rattle.gc_cycle.proofs.Leaving.{watches-leave}
 use Rattle.mark_core.specs.declared.kinds.Step.TheVariants.{RaiseStep}

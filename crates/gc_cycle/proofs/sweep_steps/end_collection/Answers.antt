@@ -3,8 +3,8 @@ use Rattle.mark_core.specs.declared.kinds.Phase.TheVariants.{Drain, Sweep}
 use Rattle.gc_table.specs.Seats.{view_of}
 use Rattle.gc_table.specs.declared.view.View.{View}
 use Rattle.gc_table.proofs.Running.{ran-join}
-use Rattle.gc_cycle.proofs.Completing.{move-exact, part-exact}
-use Rattle.gc_cycle.proofs.Exactly.{exact-part}
+use Rattle.gc_cycle.proofs.Ends.Completing.{move-exact, part-exact}
+use Rattle.gc_cycle.proofs.Ends.Exactly.{exact-part}
 use Rattle.gc_cycle.proofs.Stepped.{has-swept, keeps-join, part-keeps, sweeps-on}
 use Rattle.gc_cycle.proofs.sweep_steps.end_collection.Goals as goal
 

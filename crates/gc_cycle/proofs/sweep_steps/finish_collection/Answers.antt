@@ -6,15 +6,15 @@ use Rattle.gc_table.specs.Log.{events}
 use Rattle.gc_table.specs.Seats.{view_of}
 use Rattle.gc_table.specs.declared.view.View.{View}
 use Rattle.gc_table.proofs.Running.{ran-join, ran-shape}
+use Rattle.sweeper.specs.Freeing.{block_floor}
 use Rattle.gc_cycle.specs.Cycles.{collects_exactly}
-use Rattle.gc_cycle.specs.Lower.{block_floor}
 use Rattle.gc_cycle.specs.Moments.{begins}
-use Rattle.gc_cycle.proofs.Completing.{move-exact, part-exact}
-use Rattle.gc_cycle.proofs.Exactly.{ends-now, exact-more, exact-since}
-use Rattle.gc_cycle.proofs.Finishes.{exact-end}
-use Rattle.gc_cycle.proofs.Goings.{is-done}
+use Rattle.gc_cycle.proofs.Ends.Completing.{move-exact, part-exact}
+use Rattle.gc_cycle.proofs.Ends.Exactly.{ends-now, exact-more, exact-since}
+use Rattle.gc_cycle.proofs.Ends.Finishes.{exact-end}
+use Rattle.gc_cycle.proofs.Stops.OutAndIn.{is-done}
 use Rattle.gc_cycle.proofs.Parts.{move-finishes}
-use Rattle.gc_cycle.proofs.Spared.{finish-keeps}
+use Rattle.gc_cycle.proofs.Ends.Spared.{finish-keeps}
 use Rattle.gc_cycle.proofs.Stepped.{keeps-join, owner-kept, part-keeps, part-owner, resumed-keeps, resumed-runs}
 use Rattle.gc_cycle.proofs.sweep_steps.finish_collection.Goals as goal
 

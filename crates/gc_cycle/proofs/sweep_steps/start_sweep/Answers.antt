@@ -1,9 +1,9 @@
 use Rattle.mark_core.specs.declared.kinds.Phase.TheVariants.{Drain, Sweep}
 use Rattle.gc_table.specs.Seats.{view_of}
 use Rattle.gc_table.specs.declared.view.View.{View}
-use Rattle.gc_cycle.proofs.Exactly.{exact-move}
+use Rattle.gc_cycle.proofs.Ends.Exactly.{exact-move}
 use Rattle.gc_cycle.proofs.Parts.{move-finishes}
-use Rattle.gc_cycle.proofs.Spared.{finish-keeps}
+use Rattle.gc_cycle.proofs.Ends.Spared.{finish-keeps}
 use Rattle.gc_cycle.proofs.Stepped.{owner-kept}
 use Rattle.gc_cycle.proofs.sweep_steps.start_sweep.Goals as goal
 

@@ -2,15 +2,14 @@ use Rattle.std.proofs.Common.{ap, arith, inl, refl}
 use Rattle.mark_core.specs.Layout.{block_count}
 use Rattle.mark_core.specs.declared.kinds.Phase.TheVariants.{Sweep}
 use Rattle.packet_pools.specs.Counts.{count_of}
-use Rattle.sweeper.specs.Freeing.{frees}
+use Rattle.sweeper.specs.Freeing.{freed_in}
 use Rattle.gc_table.specs.Seats.{view_of}
 use Rattle.gc_table.specs.declared.view.View.{View}
-use Rattle.gc_table.proofs.Log.{events-none}
-use Rattle.gc_cycle.specs.Helping.{freed_in}
+use Rattle.gc_table.proofs.History.Log.{events-none}
 use Rattle.gc_cycle.specs.Sorts.{gets_block}
-use Rattle.gc_cycle.proofs.Admitted.{count-run}
-use Rattle.gc_cycle.proofs.Completing.{total-run}
-use Rattle.gc_cycle.proofs.Exactly.{exact-part}
+use Rattle.gc_cycle.proofs.Stops.Admitted.{count-run}
+use Rattle.gc_cycle.proofs.Ends.Completing.{freed-run}
+use Rattle.gc_cycle.proofs.Ends.Exactly.{exact-part}
 use Rattle.gc_cycle.proofs.Parts.{part-join, part-none}
 use Rattle.gc_cycle.proofs.Stepped.{has-swept, may-sweep, next-alone, no-block, part-keeps, sweeps-on}
 use Rattle.gc_cycle.proofs.sweep_steps.sweep_step.Goals as goal
@@ -43,7 +42,7 @@ loop-blocks-preserved c =
     let counts = count-run (gets_block (block_count c.args.heap.now.shape)) u v w i.part.ran e.ran in
     let one = e.some.3 in
     let so_far = i.count in
-    let total = total-run frees u v w i.part.ran e.ran in
+    let total = freed-run u v w i.part.ran e.ran in
     let more = e.some.0 in
     let before = i.freed in
     let sum = c.saturating_add-freed.ensures in
@@ -65,7 +64,7 @@ returns-in_default c =
     let counts = count-run (gets_block (block_count c.args.heap.now.shape)) u v w i.part.ran e.ran in
     let none = e.none.2 in
     let so_far = i.count in
-    let total = total-run frees u v w i.part.ran e.ran in
+    let total = freed-run u v w i.part.ran e.ran in
     let unfreed = e.unfreed in
     let before = i.freed in
     let few = c.loop-blocks-test.true in

@@ -5,8 +5,8 @@ use Rattle.mark_core.specs.declared.kinds.Phase.TheVariants.{Sweep}
 use Rattle.gc_table.specs.Log.{events}
 use Rattle.gc_table.specs.Seats.{Sits, view_of}
 use Rattle.packet_pools.specs.Counts.{count_of}
+use Rattle.sweeper.specs.Freeing.{freed_in}
 use Rattle.gc_cycle.specs.Finishing.{IsPart}
-use Rattle.gc_cycle.specs.Helping.{freed_in}
 use Rattle.gc_cycle.specs.Sorts.{gets_block}
 use Rattle.gc_cycle.proofs.sweep_steps.sweep_step.Given as goal
 

@@ -1,68 +1,37 @@
-use Rattle.std.proofs.Common.{ℕ, ◌≡◌, refl, sym, ap, ◌∙◌, Bool, true, false, not, Option, ◌&&◌, ◌||◌}
-use Rattle.std.specs.Prelude.{is_some, is_none, ◌==◌}
-use Rattle.std.proofs.lemmas.Bool.{false≢true, and_parts, or_parts}
+use Rattle.std.proofs.Common.{ℕ, ◌≡◌, refl, sym, ap, ◌∙◌, Bool, true, false, Option}
+use Rattle.std.proofs.lemmas.Bool.{false≢true}
 use Rattle.mark_core.specs.Layout.{block_count}
 use Rattle.mark_core.specs.Places.{the_phase}
-use Rattle.mark_core.specs.Seats.{cleaning_left, empty_handed, scan_left, work_in_hand}
-use Rattle.mark_core.specs.WorldSteps.{has_nothing}
+use Rattle.mark_core.specs.Seats.{cleaning_left}
+use Rattle.mark_core.specs.Steps.WorldSteps.{has_nothing}
 use Rattle.mark_core.specs.declared.kinds.Phase.TheVariants.{Sweep}
 use Rattle.mark_core.specs.declared.kinds.Shape.{Shape}
 use Rattle.mark_core.specs.declared.kinds.Step.{Step}
-use Rattle.mark_core.specs.declared.kinds.Step.TheVariants.{CloseStep, NextBlock, ReadAlloc, ReadBlockMarks, OpenStep, StoreAlloc, ClearMarks, ReadStat, SeeHelp}
+use Rattle.mark_core.specs.declared.kinds.Step.TheVariants.{CloseStep, OpenStep, SeeHelp}
 use Rattle.mark_core.specs.declared.seat.Cleaning.{Cleaning}
 use Rattle.mark_core.specs.declared.seat.SeatState.{SeatState}
 use Rattle.gc_table.specs.Seats.{Took, view_of}
 use Rattle.gc_table.specs.declared.view.View.{View}
 use Rattle.stop_world.specs.Waiting.{closes}
-use Rattle.gc_table.specs.Running.{ends_alone, Known}
-use Rattle.gc_table.proofs.Log.{only-more}
+use Rattle.gc_table.specs.Running.{Known}
+use Rattle.gc_table.proofs.History.Log.{only-more}
 use Rattle.gc_table.proofs.Noticing.{alone-phase}
 use Rattle.gc_table.proofs.Running.{ran-join, ran-shape}
+use Rattle.sweeper.specs.Sweepers.{is_sweeping}
 use Rattle.gc_cycle.specs.Finishing.{IsAloneIn, IsOpen, stays_in}
 use Rattle.sweeper.specs.Freeing.{frees}
-use Rattle.gc_cycle.specs.Lower.{sweeps_blocks}
-use Rattle.gc_cycle.proofs.Moving.{no-block}
-use Rattle.gc_cycle.proofs.Opened.{closed, closes-block_floor, open-event, open-part, open-total, opened, phase-kept}
-use Rattle.gc_cycle.proofs.Unopened.{openable}
+use Rattle.gc_cycle.proofs.Ends.Moving.{no-block}
+use Rattle.gc_cycle.proofs.Stops.Opened.{closed, closes-block_floor, open-event, open-part, open-total, opened, phase-kept}
+use Rattle.gc_cycle.proofs.Stops.Unopened.{openable}
+use Rattle.gc_cycle.proofs.Sequences.{freed-same}
+use Rattle.gc_table.specs.Log.{events}
+use Rattle.gc_cycle.proofs.Ends.Swept.{done-of, nothing_by, sweeps-quiet, sweeps-stay}
 use Rattle.gc_cycle.proofs.sweeping.sweep_together.Goals as goal
-
-sweeps-stay : (step : Step) → sweeps_blocks step ≡ true → stays_in Sweep step ≡ true
-sweeps-stay NextBlock e = refl
-sweeps-stay (ReadAlloc b) e = refl
-sweeps-stay ReadBlockMarks e = refl
-sweeps-stay StoreAlloc e = refl
-sweeps-stay ClearMarks e = refl
-sweeps-stay (ReadStat which) e = refl
-sweeps-stay step e = absurd (false≢true e)
-
-sweeps-quiet : (step : Step) → sweeps_blocks step ≡ true → ends_alone step ≡ false
-sweeps-quiet NextBlock e = refl
-sweeps-quiet (ReadAlloc b) e = refl
-sweeps-quiet ReadBlockMarks e = refl
-sweeps-quiet StoreAlloc e = refl
-sweeps-quiet ClearMarks e = refl
-sweeps-quiet (ReadStat which) e = refl
-sweeps-quiet step e = absurd (false≢true e)
 
 closes-none : (s : SeatState) (step : Step) (n : ℕ) → closes step ≡ true → frees s step n ≡ 0
 closes-none s CloseStep n e = refl
 closes-none s SeeHelp n e = refl
 closes-none s step n e = absurd (false≢true e)
-
--- nothing is in hand, by whether something of a cleaning is left
-abbrev pub nothing_by : Shape → SeatState → Bool → Bool
-nothing_by sh s left =
-    empty_handed s && not (is_some s.popped || scan_left sh.fields s.scan || is_some s.value || is_some s.fresh || left) && is_none s.owes && is_none s.cache && is_none s.block && (s.got == 0)
-
-unless : (b : Bool) → not b ≡ true → b ≡ false
-unless true e = absurd (false≢true e)
-unless false e = refl
-
--- nothing is left of a cleaning
-done-of : (w : View) → IsOpen Sweep w → cleaning_left w.state.cleaning ≡ false
-done-of w o =
-    let work : not (work_in_hand w.shape.fields w.state) ≡ true = (and_parts _ _ (and_parts _ _ (and_parts _ _ (and_parts _ _ (and_parts _ _ o.rest).0).0).0).0).1 in
-    (or_parts _ (cleaning_left w.state.cleaning) (unless (work_in_hand w.shape.fields w.state) work)).1
 
 -- a seat that has opened, and swept
 swept-open : (v w : View) → IsOpen Sweep v → w.shape ≡ v.shape → (b : Bool) (y : Option Cleaning) → w.state ≡ record v.state { below_block = b; cleaning = y } → cleaning_left y ≡ false → Known w the_phase 3 → IsOpen Sweep w
@@ -73,7 +42,7 @@ swept-open v w o sh b y e left k =
       phase = k;
       rest =
           ap (λ (x : Shape). has_nothing x w.state) sh
-          ∙ (ap (λ (s : SeatState). has_nothing v.shape s) e ∙ (ap (nothing_by v.shape v.state) (left ∙ sym (done-of v o)) ∙ o.rest));
+          ∙ (ap (λ (s : SeatState). has_nothing v.shape s) e ∙ (ap (nothing_by v.shape v.state) (left ∙ sym (done-of v o.rest)) ∙ o.rest));
     }
 
 pub open_help-requires-clause-openable : goal.open_help-requires-clause-openable
@@ -98,9 +67,9 @@ returns-clause-part g c =
     let r = c.sweep_rest-freed.ensures in
     let q = c.close_help.ensures in
     let o = opened Sweep v w a c.open_help.ensures.step (c.open_help.ensures.phase Sweep (alone-phase Sweep v a.alone)) in
-    let known : Known x the_phase 3 = phase-kept sweeps_blocks 3 sweeps-quiet w x r.ran r.only o.knows o.phase in
-    let z = swept-open w x o (ran-shape w x r.ran) x.state.below_block x.state.cleaning r.state (r.left (done-of w o)) known in
-    open-part Sweep v w x y c.open_help.ensures.step r.ran (only-more sweeps_blocks (stays_in Sweep) sweeps-stay w x r.only) q.ran q.only (closed Sweep x y z q.ran q.state q.phase)
+    let known : Known x the_phase 3 = phase-kept is_sweeping 3 sweeps-quiet w x r.ran r.only o.knows o.phase in
+    let z = swept-open w x o (ran-shape w x r.ran) x.state.below_block x.state.cleaning r.state (r.left (done-of w o.rest)) known in
+    open-part Sweep v w x y c.open_help.ensures.step r.ran (only-more is_sweeping (stays_in Sweep) sweeps-stay w x r.only) q.ran q.only (closed Sweep x y z q.ran q.state q.phase)
 
 -- the seat has opened
 there : (v w : View) → IsAloneIn Sweep v → Took OpenStep v w → w.state.knows ≡ true
@@ -124,4 +93,7 @@ pub returns-clause-freed : goal.returns-clause-freed
 returns-clause-freed g c =
     let w : View = view_of c.open_help.new.seat in
     let x : View = view_of c.sweep_rest-freed.new.seat in
-    open-total frees (λ s n. refl) closes-none (view_of c.args.seat.now) w x (view_of c.close_help.new.seat) c.open_help.ensures.step c.sweep_rest-freed.ensures.ran c.close_help.ensures.ran c.close_help.ensures.only ∙ c.sweep_rest-freed.ensures.freed
+    let v : View = view_of c.args.seat.now in
+    let y : View = view_of c.close_help.new.seat in
+    let same = open-total frees (λ s n. refl) closes-none v w x y c.open_help.ensures.step c.sweep_rest-freed.ensures.ran c.close_help.ensures.ran c.close_help.ensures.only in
+    sym (freed-same (events v y) v) ∙ (same ∙ (freed-same (events w x) w ∙ c.sweep_rest-freed.ensures.freed))

@@ -1,17 +1,16 @@
-use Rattle.std.proofs.Common.{◌<◌, [], subst}
-use Rattle.mark_core.specs.Layout.{block_count}
+use Rattle.std.proofs.Common.{[]}
 use Rattle.gc_table.specs.Seats.{view_of}
 use Rattle.gc_table.specs.declared.view.View.{View}
-use Rattle.gc_table.proofs.Log.{only-more}
+use Rattle.gc_table.proofs.History.Log.{only-more}
 use Rattle.alloc_cache.specs.Claiming.{seeks_block}
 use Rattle.gc_cycle.specs.Refilling.{prepares}
 use Rattle.gc_cycle.proofs.Changes.{numbers-one}
-use Rattle.gc_cycle.proofs.Claimed.{claims-cached, claims-claimed, claims-only}
+use Rattle.gc_cycle.proofs.Refills.Claimed.{claims-cached, claims-claimed, claims-only}
 use Rattle.gc_cycle.proofs.Numbers.{seeks-by}
-use Rattle.gc_cycle.proofs.Paced.{seeks-prepare}
-use Rattle.gc_cycle.proofs.Passed.{found-none, plays-calm, plays-join, plays-leads}
-use Rattle.gc_cycle.proofs.RoundNumbers.{claims-refill}
-use Rattle.gc_cycle.proofs.Rounds.{leads-prepared, some-blocks, spares-refill}
+use Rattle.gc_cycle.proofs.Refills.Paced.{seeks-prepare}
+use Rattle.gc_cycle.proofs.Refills.Passed.{found-none, plays-calm, plays-join, plays-leads}
+use Rattle.gc_cycle.proofs.Refills.RoundNumbers.{claims-refill}
+use Rattle.gc_cycle.proofs.Refills.Rounds.{leads-prepared, some-blocks, spares-refill}
 use Rattle.gc_cycle.proofs.trying.try_claim.Goals as goal
 
 pub returns-in-None-clause-plays : goal.returns-in-None-clause-plays

@@ -2,13 +2,13 @@ use Rattle.std.proofs.Common.{ap}
 use Rattle.gc_table.specs.Log.{all_steps}
 use Rattle.gc_table.specs.Seats.{view_of}
 use Rattle.gc_table.specs.declared.view.View.{View}
-use Rattle.gc_table.proofs.Log.{only-more}
+use Rattle.gc_table.proofs.History.Log.{only-more}
 use Rattle.gc_cycle.specs.Mutating.{stays_calm}
 use Rattle.gc_cycle.specs.Sparing.{spares_part}
 use Rattle.gc_cycle.specs.Statistics.{leaves_numbers}
-use Rattle.gc_cycle.proofs.Collected.{calm-spares}
-use Rattle.gc_cycle.proofs.Goings.{turns-out}
-use Rattle.gc_cycle.proofs.Passed.{come-cache, come-full, come-going, come-mutates, come-numbers, come-once, come-out, come-own}
+use Rattle.gc_cycle.proofs.Refills.Collected.{calm-spares}
+use Rattle.gc_cycle.proofs.Stops.OutAndIn.{turns-out}
+use Rattle.gc_cycle.proofs.Refills.Passed.{come-cache, come-full, come-going, come-mutates, come-numbers, come-once, come-out, come-own}
 use Rattle.gc_cycle.proofs.trying.try_enter.Goals as goal
 
 pub returns-then-not-enter : goal.returns-then-not-enter

@@ -1,20 +1,20 @@
-use Rattle.std.proofs.Common.{◌≡◌, [], ap, ◌∙◌, subst, sym, true}
+use Rattle.std.proofs.Common.{◌≡◌, [], ◌∙◌, subst, sym, true}
 use Rattle.mark_core.specs.declared.kinds.Shape.{Shape}
 use Rattle.gc_table.specs.Log.{events}
 use Rattle.gc_table.specs.Seats.{view_of}
 use Rattle.gc_table.specs.declared.view.View.{View}
-use Rattle.gc_table.proofs.Log.{only-more}
+use Rattle.gc_table.proofs.History.Log.{only-more}
 use Rattle.gc_table.proofs.Running.{ran-join, ran-refl}
 use Rattle.gc_cycle.specs.Answering.{answers}
 use Rattle.gc_cycle.specs.Mutating.{stays_calm}
 use Rattle.gc_cycle.specs.Stops.{may_stop}
-use Rattle.gc_cycle.proofs.Answered.{answers-calm}
+use Rattle.gc_cycle.proofs.Refills.Answered.{answers-calm}
 use Rattle.gc_cycle.proofs.Changes.{by-join, numbers-one}
-use Rattle.gc_cycle.proofs.Fulls.{tells-none}
-use Rattle.gc_cycle.proofs.Passed.{both-some, none-calls, plays-calm, plays-join, plays-keeps, plays-leads, unseen-full, unseen-join}
+use Rattle.gc_cycle.proofs.Refills.KnownFull.{tells-none}
+use Rattle.gc_cycle.proofs.Refills.Passed.{both-some, none-calls, plays-calm, plays-join, plays-keeps, plays-leads, unseen-full, unseen-join}
 use Rattle.gc_cycle.proofs.Positions.{stored-more, stored-none}
-use Rattle.gc_cycle.proofs.Rounds.{later-some, leads-join, leads-looked, leads-prepared, looked-seen, marked-stops, marking-known, paced-after, spares-refill}
-use Rattle.gc_cycle.proofs.RoundNumbers.{leaves-first, leaves-full}
+use Rattle.gc_cycle.proofs.Refills.Rounds.{later-some, leads-join, leads-looked, leads-prepared, looked-seen, marked-stops, marking-known, paced-after, spares-refill}
+use Rattle.gc_cycle.proofs.Refills.RoundNumbers.{leaves-first, leaves-full}
 use Rattle.gc_cycle.proofs.trying.try_refill.Goals as goal
 
 pub returns-then-ends_full : goal.returns-then-ends_full

@@ -1,14 +1,14 @@
-use Rattle.std.proofs.Common.{sym, ap, ◌∙◌, refl, []}
+use Rattle.std.proofs.Common.{sym, ap, ◌∙◌, refl}
 use Rattle.mark_core.specs.declared.kinds.Step.TheVariants.{Observe}
 use Rattle.gc_table.specs.Seats.{view_of}
 use Rattle.gc_table.specs.declared.view.View.{View}
-use Rattle.gc_table.proofs.Log.{only-more}
+use Rattle.gc_table.proofs.History.Log.{only-more}
 use Rattle.gc_cycle.specs.Mutating.{stays_calm}
 use Rattle.gc_cycle.specs.Sparing.{spares_part}
-use Rattle.gc_cycle.proofs.Answered.{cached-still, polled-mutates}
+use Rattle.gc_cycle.proofs.Refills.Answered.{cached-still, polled-mutates}
 use Rattle.gc_cycle.proofs.Changes.{changes-after, gives-join, keeps-up, only-changes}
-use Rattle.gc_cycle.proofs.Collected.{calm-spares}
-use Rattle.gc_cycle.proofs.Passed.{gone-full, gone-out, gone-past, stepped-out}
+use Rattle.gc_cycle.proofs.Refills.Collected.{calm-spares}
+use Rattle.gc_cycle.proofs.Refills.Passed.{gone-full, gone-out, gone-past, stepped-out}
 use Rattle.gc_cycle.proofs.trying.try_safe_point.Goals as goal
 
 pub retire_some-requires-clause-seat : goal.retire_some-requires-clause-seat

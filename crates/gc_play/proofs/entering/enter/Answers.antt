@@ -1,9 +1,9 @@
 use Rattle.std.proofs.Common.{refl, ap, sym, ◌∙◌, ◌≡◌, ◌++◌, Bool, true, false, not}
 use Rattle.mark_core.specs.Bits.{has_flag}
 use Rattle.mark_core.specs.declared.kinds.Step.TheVariants.{EnterStep, LeaveStep}
-use Rattle.gc_table.proofs.Log.{events-after}
+use Rattle.gc_table.proofs.History.Log.{events-after}
 use Rattle.gc_table.proofs.Running.{ran-events}
-use Rattle.mark_core.specs.WorldSteps.{has_nothing}
+use Rattle.mark_core.specs.Steps.WorldSteps.{has_nothing}
 use Rattle.gc_table.specs.Seats.{view_of}
 use Rattle.gc_table.specs.declared.view.View.{View}
 use Rattle.gc_play.proofs.Steps.{bare-parts, bare-from, may-leave, stays-enter, stays-leave, stays-join}

@@ -1,7 +1,7 @@
 use Rattle.mark_core.specs.declared.kinds.Step.TheVariants.{AddStat}
 use Rattle.std.proofs.Common.{false}
 use Rattle.gc_table.specs.Seats.{view_of}
-use Rattle.gc_table.proofs.Log.{events-after}
+use Rattle.gc_table.proofs.History.Log.{events-after}
 use Rattle.gc_play.proofs.Steps.{stays-add_stat}
 use Rattle.gc_play.proofs.marking.count_traced.Goals as goal
 

@@ -3,26 +3,45 @@ use Rattle.gc_table.specs.Log.{events}
 use Rattle.gc_table.specs.Seats.{view_of}
 use Rattle.gc_table.specs.declared.view.View.{View}
 use Rattle.gc_table.proofs.Running.{ran-events}
+use Rattle.seat_turns.proofs.Tending.{marks-tend}
 use Rattle.gc_play.specs.Turns.{TracesInside}
 use Rattle.gc_play.proofs.Steps.{stays-join}
-use Rattle.gc_play.proofs.Tending.{inside-counted, inside-idle}
+use Rattle.gc_play.proofs.Tending.{inside-counted, inside-idle, marked-on, marked-stays}
 use Rattle.gc_play.proofs.marking.trace_inside.Goals as goal
 
 pub returns-then-traced-gt0-clause-traces : goal.returns-then-traced-gt0-clause-traces
 returns-then-traced-gt0-clause-traces c =
     let a : View = view_of c.args.seat.now in
-    let b : View = view_of c.tend-traced.new.seat in
+    let b : View = view_of c.mark_some-traced.new.seat in
     let d : View = view_of c.count_traced.new.seat in
-    let t = c.tend-traced.ensures in
+    let n = c.mark_some-traced.result in
+    let m = c.mark_some-traced.ensures.marks in
+    let t = marks-tend n a b m in
     let one = c.count_traced.ensures.events in
-    subst (TracesInside c.args.heap.now.shape a.state) (sym (ran-events a b d t.tended.stays.ran c.count_traced.ensures.stays.ran ∙ ap (λ l. events a b ++ l) one.1))
-    (inside-counted c.args.heap.now.shape a.state c.tend-traced.result one.0 (events a b) (omega (arith, c.if-traced-gt0.true)) t.tended.only t.tended.done t.traces)
+    subst (TracesInside c.args.heap.now.shape a.state) (sym (ran-events a b d t.ran c.count_traced.ensures.stays.ran ∙ ap (λ l. events a b ++ l) one.1))
+    (inside-counted c.args.heap.now.shape a.state n one.0 (events a b) (omega (arith, c.if-traced-gt0.true)) t.only t.done (marked-on c.args.heap.now.shape n a b c.requires.goes.sits.1 m))
 
 pub returns-else-traced-gt0-clause-traces : goal.returns-else-traced-gt0-clause-traces
 returns-else-traced-gt0-clause-traces c =
-    let t = c.tend-traced.ensures in
-    inside-idle c.args.heap.now.shape (view_of c.args.seat.now).state c.tend-traced.result (events (view_of c.args.seat.now) (view_of c.tend-traced.new.seat)) (omega (arith, c.if-traced-gt0.false)) t.tended.only t.tended.done t.traces
+    let a : View = view_of c.args.seat.now in
+    let b : View = view_of c.mark_some-traced.new.seat in
+    let n = c.mark_some-traced.result in
+    let m = c.mark_some-traced.ensures.marks in
+    let t = marks-tend n a b m in
+    inside-idle c.args.heap.now.shape a.state n (events a b) (omega (arith, c.if-traced-gt0.false)) t.only t.done (marked-on c.args.heap.now.shape n a b c.requires.goes.sits.1 m)
 
 pub returns-then-traced-gt0-clause-stays : goal.returns-then-traced-gt0-clause-stays
 returns-then-traced-gt0-clause-stays c =
-    stays-join (view_of c.args.seat.now) (view_of c.tend-traced.new.seat) (view_of c.count_traced.new.seat) c.tend-traced.ensures.tended.stays c.count_traced.ensures.stays
+    let x = c.args.seat.now in
+    let y = c.mark_some-traced.new.seat in
+    let e = c.mark_some-traced.ensures in
+    let n = c.mark_some-traced.result in
+    stays-join (view_of x) (view_of y) (view_of c.count_traced.new.seat) (marked-stays n c.args.heap.now x y c.requires e.seat (marks-tend n (view_of x) (view_of y) e.marks)) c.count_traced.ensures.stays
+
+pub returns-else-traced-gt0-clause-stays : goal.returns-else-traced-gt0-clause-stays
+returns-else-traced-gt0-clause-stays c =
+    let x = c.args.seat.now in
+    let y = c.mark_some-traced.new.seat in
+    let e = c.mark_some-traced.ensures in
+    let n = c.mark_some-traced.result in
+    marked-stays n c.args.heap.now x y c.requires e.seat (marks-tend n (view_of x) (view_of y) e.marks)

@@ -4,11 +4,11 @@ use Rattle.mark_core.specs.declared.kinds.Step.TheVariants.{ReadStat}
 use Rattle.gc_table.specs.Seats.{view_of}
 use Rattle.gc_table.specs.Log.{events}
 use Rattle.gc_table.specs.declared.view.View.{View}
-use Rattle.gc_table.proofs.Log.{only-more}
+use Rattle.gc_table.proofs.History.Log.{only-more}
 use Rattle.gc_table.proofs.Running.{ran-plan, ran-shape}
 use Rattle.gc_cycle.specs.Mutating.{stays_calm}
 use Rattle.gc_play.specs.Turns.{leaves_done}
-use Rattle.gc_play.proofs.Rounds.{quiet-only}
+use Rattle.gc_play.proofs.TurnCuts.{quiet-only}
 use Rattle.gc_play.proofs.Outside.{never-enters}
 use Rattle.gc_play.proofs.Parts.{rests-out}
 use Rattle.gc_play.proofs.Steps.{bare-parts}

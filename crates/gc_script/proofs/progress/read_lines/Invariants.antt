@@ -1,8 +1,11 @@
-use Rattle.std.proofs.Common.{map, Bor, List, ℕ}
-use Rattle.gc_script.specs.ScriptText.{words}
-use Rattle.gc_script.specs.Statement.{statement}
-use Rattle.gc_script.proofs.Lines.{SoFar}
+use Rattle.std.proofs.Common.{length}
+use denote.Text.{Utf8}
+use denote.Shadow.{shadow}
+use Rattle.gc_script.proofs.Lines.{UpTo}
 use Rattle.gc_script.proofs.progress.read_lines.Given as goal
 
-abbrev pub invariant-loop-line : goal.invariant-loop-line
-invariant-loop-line l = SoFar l.version (map statement (map words (map (λ (s : Bor (List ℕ)). s.now) l.lines))) l.line-index l.progress
+abbrev pub invariant-lines : goal.invariant-lines
+invariant-lines l = shadow (Utf8 l.rest) × UpTo l.version l.text l.rest l.progress
+
+abbrev pub decreases-lines : goal.decreases-lines
+decreases-lines l = length l.rest

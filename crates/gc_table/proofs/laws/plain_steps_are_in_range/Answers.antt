@@ -1,4 +1,4 @@
-use Rattle.gc_table.proofs.StandsRanges.{steps-in-range}
+use Rattle.gc_table.proofs.Stands.StandsRanges.{steps-in-range}
 use Rattle.gc_table.proofs.laws.plain_steps_are_in_range.Goals as goal
 
 pub returns : goal.returns

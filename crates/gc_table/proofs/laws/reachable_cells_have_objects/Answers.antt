@@ -1,4 +1,4 @@
-use Rattle.gc_table.proofs.StandsReached.{cells-have-objects}
+use Rattle.gc_table.proofs.Stands.StandsReached.{cells-have-objects}
 use Rattle.gc_table.proofs.laws.reachable_cells_have_objects.Goals as goal
 
 pub returns : goal.returns

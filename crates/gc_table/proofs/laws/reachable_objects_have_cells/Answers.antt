@@ -1,4 +1,4 @@
-use Rattle.gc_table.proofs.StandsReached.{objects-have-cells}
+use Rattle.gc_table.proofs.Stands.StandsReached.{objects-have-cells}
 use Rattle.gc_table.proofs.laws.reachable_objects_have_cells.Goals as goal
 
 pub returns : goal.returns

@@ -1,4 +1,4 @@
-use Rattle.gc_table.proofs.StateKept.{rule-kept_by}
+use Rattle.gc_table.proofs.State.StateKept.{rule-kept_by}
 use Rattle.gc_table.proofs.laws.rule_is_kept.Goals as goal
 
 pub returns : goal.returns

@@ -1,4 +1,4 @@
-use Rattle.gc_table.proofs.StateStart.{whole-starts}
+use Rattle.gc_table.proofs.State.StateStart.{whole-starts}
 use Rattle.gc_table.proofs.laws.rule_starts.Goals as goal
 
 pub returns : goal.returns

@@ -1,4 +1,4 @@
-use Rattle.gc_table.proofs.StandsStart.{stands-starts}
+use Rattle.gc_table.proofs.Stands.StandsStart.{stands-starts}
 use Rattle.gc_table.proofs.laws.stands_starts.Goals as goal
 
 pub returns : goal.returns

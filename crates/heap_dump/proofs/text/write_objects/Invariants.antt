@@ -1,7 +1,6 @@
 use Rattle.std.proofs.Common.{◌≡◌, take}
 use Rattle.std.specs.Prelude.{flat_map}
 use Rattle.std.specs.Io.KnownBytes.{Appends}
-use Rattle.heap_dump.specs.Final.{Heap}
 use Rattle.heap_dump.specs.Reading.{heap_of}
 use Rattle.heap_dump.specs.Text.{object_text}
 use Rattle.heap_dump.proofs.text.write_objects.Given as goal

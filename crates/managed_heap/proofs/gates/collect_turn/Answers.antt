@@ -9,7 +9,7 @@ use Rattle.gc_cycle.specs.Answering.{CollectsTo}
 use Rattle.gc_cycle.specs.Cycles.{collects}
 use Rattle.gc_cycle.specs.Sorts.{begins_exactly, ends_cycle}
 use Rattle.gc_cycle.specs.declared.counts.Safe.TheVariants as safes
-use Rattle.gc_cycle.proofs.Collected.{followed-earlier}
+use Rattle.gc_cycle.proofs.Refills.Collected.{followed-earlier}
 use Rattle.gc_cycle.proofs.Sequences.{followed-later}
 use Rattle.managed_heap.proofs.Seats.{collected-mutates, kept-works}
 use Rattle.managed_heap.proofs.gates.collect_turn.Goals as goal

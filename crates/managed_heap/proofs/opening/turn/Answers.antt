@@ -8,7 +8,7 @@ use Rattle.gc_table.specs.declared.view.Meaning.{Meaning}
 use Rattle.gc_table.specs.declared.view.View.{View}
 use Rattle.managed_heap.specs.Opening.{stopped}
 use Rattle.managed_heap.proofs.Turning.{alone-turn, first-section, may-turn}
-use Rattle.gc_table.proofs.Trying.{state-after}
+use Rattle.gc_table.proofs.RecordSteps.{state-after}
 use Rattle.managed_heap.proofs.opening.turn.Goals as goal
 
 pub next_season-requires-clause-may : goal.next_season-requires-clause-may

@@ -17,9 +17,7 @@ pub returns-in-Full-clause-ran : goal.returns-in-Full-clause-ran
 returns-in-Full-clause-ran g c = ran-join (view_of c.args.seat.now) (view_of c.loop.seat) (view_of c.safe_point.new.seat) c.loop.invariant.ran c.safe_point.ensures.ran
 
 pub is_turn-requires : goal.is_turn-requires
-is_turn-requires g c =
-    let s = c.safe_point.ensures in
-    kept-works c.args.heap.now c.loop.seat c.safe_point.new.seat c.loop.invariant.works s.seat c.in-Going.ensures.safe.goes_on.mutates s.ran s.keeps.0 s.keeps.1
+is_turn-requires g c = record { seat = (c.safe_point.ensures.seat, c.in-Going.ensures.safe.goes_on.mutates) }
 
 pub returns-then-is_turn-clause-ok : goal.returns-then-is_turn-clause-ok
 returns-then-is_turn-clause-ok g c =

@@ -1,11 +1,7 @@
-use Rattle.gc_table.specs.Seats.{view_of}
-use Rattle.managed_heap.proofs.Seats.{retired-halts, retired-mutates}
+use Rattle.managed_heap.proofs.Seats.{retired-halts}
 use Rattle.managed_heap.proofs.turns.retire_some.Goals as goal
 
-pub returns-in-Some-clause-halts : goal.returns-in-Some-clause-halts
-returns-in-Some-clause-halts c =
-    let x = c.args.seat.now in
-    let y = c.retire.new.seat in
-    let e = c.retire.ensures in
-    let k = c.requires.works in
-    retired-halts c.args.heap.now x y k e.seat (retired-mutates (view_of x) (view_of y) k.mutates e.ran e.state) e.ran e.state e.own
+pub returns-clause-halts : goal.returns-clause-halts
+returns-clause-halts c =
+    let e = c.retire_some.ensures in
+    retired-halts c.args.heap.now c.args.seat.now c.retire_some.new.seat c.requires.works e.seat.0 e.seat.1 e.ran e.state e.own

@@ -1,4 +1,4 @@
-use Rattle.mark_core.proofs.Closing.{closed-marks}
+use Rattle.mark_core.proofs.Consequences.Closing.{closed-marks}
 use Rattle.mark_core.proofs.laws.closed_marks_all.Goals as goal
 
 pub returns : goal.returns

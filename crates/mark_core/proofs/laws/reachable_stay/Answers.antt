@@ -1,4 +1,4 @@
-use Rattle.mark_core.proofs.Staying.{reachable-stay}
+use Rattle.mark_core.proofs.Consequences.Staying.{reachable-stay}
 use Rattle.mark_core.proofs.laws.reachable_stay.Goals as goal
 
 pub returns : goal.returns

@@ -1,5 +1,5 @@
 use Rattle.mark_core.specs.Layout.{region_sizes}
-use Rattle.mark_core.proofs.Slices.{region-slice}
+use Rattle.mark_core.proofs.Writing.Slices.{region-slice}
 use Rattle.mark_core.proofs.layout.cards_of.Goals as goal
 
 pub returns : goal.returns

@@ -5,7 +5,7 @@ use Rattle.mark_core.specs.Seats.{used_in}
 use Rattle.mark_core.specs.Cells.{used_by, in_use}
 use Rattle.mark_core.specs.Views.{maker_of, makers}
 use Rattle.mark_core.specs.declared.seat.SeatState.{SeatState}
-use Rattle.mark_core.proofs.SomePasses.{any-map}
+use Rattle.mark_core.proofs.Consequences.SomePasses.{any-map}
 use Rattle.mark_core.proofs.summary.is_in_use.Goals as goal
 
 made : (allocs : List ℕ) (seats : List SeatState) (c : ℕ) (b : Bool) → cell_bit allocs c ≡ false → b ≡ list_any (λ (s : SeatState). used_in s.cache c) seats → b ≡ in_use allocs (makers seats) c

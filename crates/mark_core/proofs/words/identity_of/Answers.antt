@@ -1,7 +1,7 @@
 use Rattle.std.proofs.Common.{◌≤◌, length, arith, sym}
 use Rattle.std.proofs.lemmas.List.{get_or_past}
 use Rattle.mark_core.specs.Layout.{region_sizes, region_words}
-use Rattle.mark_core.proofs.Places.{region-length}
+use Rattle.mark_core.proofs.Writing.Places.{region-length}
 use Rattle.mark_core.proofs.words.identity_of.Goals as goal
 
 pub returns-else-c-shape : goal.returns-else-c-shape

@@ -11,7 +11,7 @@ use Rattle.gc_table.specs.Log.{steps_of}
 use Rattle.packet_pools.specs.Gains.{Seeks}
 use Rattle.packet_pools.specs.Seeking.{loses, was_lost}
 use Rattle.packet_pools.specs.Tracing.{Traces}
-use Rattle.gc_table.proofs.Log.{events-after}
+use Rattle.gc_table.proofs.History.Log.{events-after}
 use Rattle.packet_pools.proofs.Conditions.{may-read_length, may-take}
 use Rattle.packet_pools.proofs.Choices.{seeks-from, traces-same}
 use Rattle.packet_pools.proofs.Doing.{later-take}

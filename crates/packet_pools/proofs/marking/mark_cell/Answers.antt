@@ -10,7 +10,7 @@ use Rattle.gc_table.specs.Seats.{view_of}
 use Rattle.gc_table.specs.Log.{events}
 use Rattle.packet_pools.specs.OnlyTraced.{IsNotedMarked}
 use Rattle.packet_pools.specs.Counts.{Counts}
-use Rattle.gc_table.proofs.Log.{entry_of, events-after, events-join}
+use Rattle.gc_table.proofs.History.Log.{entry_of, events-after, events-join}
 use Rattle.packet_pools.proofs.Marked.{marked-stays}
 use Rattle.packet_pools.proofs.TracedSteps.{later-join, marks-noted}
 use Rattle.packet_pools.proofs.Doing.{traces-on}

@@ -9,7 +9,7 @@ use Rattle.gc_table.specs.Taking.{after, May}
 use Rattle.packet_pools.specs.declared.held.Held.{Held}
 use Rattle.gc_table.specs.Log.{events}
 use Rattle.packet_pools.specs.Scanning.{InHand, Pushes}
-use Rattle.gc_table.proofs.Log.{entry_of, events-after, events-join}
+use Rattle.gc_table.proofs.History.Log.{entry_of, events-after, events-join}
 use Rattle.packet_pools.proofs.TracedSteps.{later-join}
 use Rattle.packet_pools.proofs.Doing.{traces-on}
 use Rattle.packet_pools.proofs.ScanSteps.{fresh-answers, may-dirty_card, later-dirty_card}

@@ -5,7 +5,7 @@ use Rattle.packet_pools.specs.declared.held.Held.{Held}
 use Rattle.gc_table.specs.Log.{events}
 use Rattle.packet_pools.specs.Seeking.{only_moves}
 use Rattle.packet_pools.specs.Scanning.{Fills}
-use Rattle.gc_table.proofs.Log.{events-join}
+use Rattle.gc_table.proofs.History.Log.{events-join}
 use Rattle.packet_pools.proofs.TracedSteps.{later-join}
 use Rattle.packet_pools.proofs.Searches.{moves-join}
 use Rattle.packet_pools.proofs.Filled.{apart, fills-other, kept}

@@ -1,6 +1,6 @@
 use Rattle.std.proofs.Common.{ℕ, ◌-◌, ◌≡◌, ◌<◌, [], ◌∷◌, ◌++◌, List, sym, ap, ◌∙◌, subst, arith}
 use Rattle.std.specs.Prelude.{IsTrue}
-use Rattle.mark_core.specs.ColourSteps.{may_read_field}
+use Rattle.mark_core.specs.Steps.ColourSteps.{may_read_field}
 use Rattle.mark_core.specs.declared.kinds.Shape.{Shape}
 use Rattle.mark_core.specs.declared.kinds.Step.TheVariants.{ReadField}
 use Rattle.gc_table.specs.declared.view.Entry.{Entry}
@@ -9,7 +9,7 @@ use Rattle.gc_table.specs.Seats.{view_of}
 use Rattle.gc_table.specs.Log.{events}
 use Rattle.packet_pools.specs.Scanning.{Pushes}
 use Rattle.packet_pools.specs.Counts.{Counts}
-use Rattle.gc_table.proofs.Log.{entry_of, events-after, events-join}
+use Rattle.gc_table.proofs.History.Log.{entry_of, events-after, events-join}
 use Rattle.packet_pools.proofs.TracedSteps.{later-join}
 use Rattle.packet_pools.proofs.Doing.{traces-on}
 use Rattle.packet_pools.proofs.ScanSteps.{may-read_field, later-read_field}

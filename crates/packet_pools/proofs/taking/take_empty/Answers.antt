@@ -15,7 +15,7 @@ use Rattle.packet_pools.specs.OnlyTraced.{OnlyTraced}
 use Rattle.gc_table.specs.Log.{events}
 use Rattle.packet_pools.specs.Seeking.{gets_from, was_got, was_got_from, only_moves}
 use Rattle.packet_pools.specs.Gains.{Misses}
-use Rattle.gc_table.proofs.Log.{events-after, events-join}
+use Rattle.gc_table.proofs.History.Log.{events-after, events-join}
 use Rattle.packet_pools.proofs.TracedSteps.{later-join}
 use Rattle.packet_pools.proofs.Conditions.{may-reserve, traces-later}
 use Rattle.packet_pools.proofs.Doing.{later-reserve, later-credit, traces-on}

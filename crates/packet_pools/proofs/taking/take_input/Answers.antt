@@ -10,7 +10,7 @@ use Rattle.gc_table.specs.Seats.{view_of}
 use Rattle.gc_table.specs.Log.{events}
 use Rattle.packet_pools.specs.Seeking.{NoInput, was_missed_in, was_got, only_moves}
 use Rattle.packet_pools.specs.Gains.{Gains, Misses, Takes}
-use Rattle.gc_table.proofs.Log.{events-join}
+use Rattle.gc_table.proofs.History.Log.{events-join}
 use Rattle.packet_pools.proofs.TracedSteps.{later-join}
 use Rattle.packet_pools.proofs.AllMissed.{all-range}
 use Rattle.packet_pools.proofs.Searches.{none-got, first-pool, moves-join, next-pools, was-missed-left, was-missed-right}

@@ -11,7 +11,7 @@ use Rattle.packet_pools.specs.declared.held.Held.{Held}
 use Rattle.gc_table.specs.Log.{events}
 use Rattle.packet_pools.specs.Seeking.{NoOutput, was_got, was_got_from, was_roomless, only_moves}
 use Rattle.packet_pools.specs.Gains.{ComesFrom, Gains, Misses, Takes}
-use Rattle.gc_table.proofs.Log.{events-join}
+use Rattle.gc_table.proofs.History.Log.{events-join}
 use Rattle.packet_pools.proofs.TracedSteps.{later-join}
 use Rattle.std.proofs.lemmas.Bool.{and_from}
 use Rattle.packet_pools.proofs.AllMissed.{all-range}

@@ -7,9 +7,13 @@ use Rattle.play_dump.specs.Telling.{IsSurvivor}
 use Rattle.play_dump.proofs.Loops.{survivor-at, NumbersTo, numbers-more}
 use Rattle.play_dump.proofs.numbers.number_cells.Goals as goal
 
-pub cell_of-cell-requires : goal.cell_of-cell-requires
-cell_of-cell-requires c =
-    c.requires.each c.loop-k.k _ (survivor-at c.args.report.now c.deref-survivor-items.result.now c.loop-k.k (record { section = 0; number = 0; value = 0 }) c.deref-survivor-items.ensures.value c.loop-k-test.true)
+pub cell_of-cell-requires-clause-section : goal.cell_of-cell-requires-clause-section
+cell_of-cell-requires-clause-section c =
+    (c.requires.each c.loop-k.k _ (survivor-at c.args.report.now c.deref-survivor-items.result.now c.loop-k.k (record { section = 0; number = 0; value = 0 }) c.deref-survivor-items.ensures.value c.loop-k-test.true)).section
+
+pub cell_of-cell-requires-clause-number : goal.cell_of-cell-requires-clause-number
+cell_of-cell-requires-clause-number c =
+    (c.requires.each c.loop-k.k _ (survivor-at c.args.report.now c.deref-survivor-items.result.now c.loop-k.k (record { section = 0; number = 0; value = 0 }) c.deref-survivor-items.ensures.value c.loop-k-test.true)).number
 
 pub index_mut-requires : goal.index_mut-requires
 index_mut-requires c =

@@ -1,4 +1,4 @@
-use Rattle.std.proofs.Common.{rules, ◌∙◌, ◌≤◌, ◌+◌, length, drop, take, subst}
+use Rattle.std.proofs.Common.{rules, ◌∙◌, take, subst}
 use Rattle.std.specs.Io.KnownBytes.{Appends}
 use Rattle.play_report.proofs.Gathering.{handed_turn}
 use Rattle.play_report.proofs.gathered.hand_on.Goals as goal

@@ -11,7 +11,7 @@ use std::alloc::Global;
 use std::sync::Wait;
 use std::thread::Threads;
 
-/// Keeps what is written as a text. It fails only for want of memory.
+/// Keeps what is written as a text. It fails only where memory runs out.
 #[derive(Drop)]
 struct TextSink {
     text: Text,
@@ -49,7 +49,7 @@ impl Player for ScriptPlayer {
 
     ghost fits = { λ player script status text. FitsJob (options_of player.options) script status text };
 
-    /// Plays the script as `run` does. For want of memory the status is 6 and the text empty.
+    /// Plays the script as `run` does. Where memory runs out, the status is 6 and the text empty.
     fn play_job<R: Threads + Wait + Sync>(
         &self,
         rt: &R,

@@ -48,7 +48,7 @@ pub fn write_jobs<K: Sink>(done: &[JobDone], sink: &mut K) -> Result<(), Failed>
     Ok(())
 }
 
-/// The text of a batch's fault; want of memory is none.
+/// The text of a batch's fault; out of memory is none.
 pub fn write_batch_fault<K: Sink>(fault: &BatchError, sink: &mut K) -> Result<(), Failed>
     requires { fault.now ≢ BatchError.OutOfMemory }
     ensures { WritesTo K.written K.faults result sink.old sink.new (batch_error_text fault.now) }

@@ -12,7 +12,7 @@ use Rattle.tracer.specs.Parts.{Part}
 use Rattle.tracer.proofs.Carried.{carries-give, carries-set}
 use Rattle.tracer.proofs.Hand.{popped-fresh, pushed-work}
 use Rattle.tracer.proofs.Joined.{part-then}
-use Rattle.tracer.proofs.OneStep.{part-push, part-put_off}
+use Rattle.tracer.proofs.OneStep.{part-push, part-deferred}
 use Rattle.gc_table.specs.declared.view.View.{View}
 use Rattle.packet_pools.specs.declared.held.Held.{Held}
 use Rattle.gc_table.specs.Log.{events}
@@ -76,4 +76,4 @@ returns-then-length-shape-clause-part c =
     λ o either.
     part-then sh o (Some h.packet) None 0 0 1 0 0 0 0 1 0 v w x e.later c.give.ensures.later refl refl refl
     (part-push sh o h.packet c.args.cell _ v w p.2 (popped-fresh v w h.packet c.args.cell _ c.requires.cell p.2) either)
-    (subst (λ q. Part sh (Some q) None 0 0 0 w (events w x)) (ap (λ (h : Held). h.packet) p.1) (part-put_off sh k.packet (k.length == 0) w (events w x) c.give.ensures.steps))
+    (subst (λ q. Part sh (Some q) None 0 0 0 w (events w x)) (ap (λ (h : Held). h.packet) p.1) (part-deferred sh k.packet (k.length == 0) w (events w x) c.give.ensures.steps))

@@ -10,14 +10,14 @@ use Rattle.tracer.specs.Hands.{Carries, in_front, packet_of}
 use Rattle.tracer.specs.Parts.{Part}
 use Rattle.tracer.proofs.Carried.{carries-give}
 use Rattle.tracer.proofs.Quiet.{part-moves}
-use Rattle.tracer.proofs.OneStep.{part-none, part-put_off}
+use Rattle.tracer.proofs.OneStep.{part-none, part-deferred}
 use Rattle.gc_table.specs.declared.view.View.{View}
 use Rattle.gc_table.specs.Seats.{view_of}
 use Rattle.packet_pools.specs.declared.held.Held.{Held}
 use Rattle.tracer.proofs.packets.give_some.Goals as goal
 
 either : (sh : Shape) (d : Bool) (o : Option ℕ) (p : ℕ) (b : Bool) (v : View) (es : List Entry) → steps_of es ≡ StoreLength p ∷ Give p d ∷ (cond b (Credit ∷ []) []) → (d ≡ true → o ≡ Some p) → Part sh o (cond d None o) 0 0 0 v es
-either sh true o p b v es e is = subst (λ x. Part sh x None 0 0 0 v es) (sym (is refl)) (part-put_off sh p b v es e)
+either sh true o p b v es e is = subst (λ x. Part sh x None 0 0 0 v es) (sym (is refl)) (part-deferred sh p b v es e)
 either sh false o p b v es e is = part-moves sh o v es (given-moves (0 ∷ 1 ∷ 2 ∷ []) p b es e)
 
 nothing : (sh : Shape) (d : Bool) (o : Option ℕ) (v : View) (es : List Entry) → es ≡ [] → (d ≡ true → o ≡ None) → Part sh o (cond d None o) 0 0 0 v es

@@ -15,7 +15,7 @@ use Rattle.packet_pools.proofs.Conditions.{may-look}
 use Rattle.packet_pools.proofs.Doing.{later-look}
 use Rattle.packet_pools.proofs.InHand.{drop-with}
 use Rattle.packet_pools.proofs.TracedSteps.{later-join}
-use Rattle.gc_table.proofs.Log.{entry_of, events-after, events-join}
+use Rattle.gc_table.proofs.History.Log.{entry_of, events-after, events-join}
 use Rattle.tracer.specs.Recycling.{is_settled, Recycles}
 use Rattle.tracer.proofs.Carried.{carries-free, carries-none}
 use Rattle.tracer.proofs.Recycled.{given-event, moved-both, recycles-lost, recycles-moved, recycles-outside, settled-right, steps-append}

@@ -5,7 +5,7 @@ use Rattle.packet_pools.proofs.Choices.{traces-same}
 use Rattle.packet_pools.proofs.Conditions.{may-look}
 use Rattle.packet_pools.proofs.Doing.{later-look}
 use Rattle.packet_pools.proofs.TracedSteps.{later-join}
-use Rattle.gc_table.proofs.Log.{events-after, events-join}
+use Rattle.gc_table.proofs.History.Log.{events-after, events-join}
 use Rattle.tracer.proofs.Recycled.{recycles-empty, recycles-join, recycles-look, idle-still}
 use Rattle.gc_table.specs.declared.view.View.{View}
 use Rattle.gc_table.specs.Seats.{view_of}

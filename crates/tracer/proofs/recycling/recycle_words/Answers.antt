@@ -1,7 +1,7 @@
 use Rattle.std.proofs.Common.{ℕ, ◌≡◌, ◌+◌, ◌*◌, ◌/◌, ap, ◌∙◌, refl, arith, subst}
 use Rattle.mark_core.specs.declared.kinds.Shape.{Shape}
 use Rattle.packet_pools.proofs.TracedSteps.{later-join}
-use Rattle.gc_table.proofs.Log.{events-join}
+use Rattle.gc_table.proofs.History.Log.{events-join}
 use Rattle.tracer.specs.Recycling.{Recycles}
 use Rattle.tracer.proofs.Recycled.{recycles-join, idle-still}
 use Rattle.gc_table.specs.declared.view.View.{View}

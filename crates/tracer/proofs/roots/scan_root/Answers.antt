@@ -8,7 +8,7 @@ use Rattle.packet_pools.specs.Fields.{Asks}
 use Rattle.packet_pools.specs.Scanning.{InHand}
 use Rattle.packet_pools.proofs.Doing.{traces-on}
 use Rattle.packet_pools.proofs.TracedSteps.{later-join}
-use Rattle.gc_table.proofs.Log.{events-after, events-join}
+use Rattle.gc_table.proofs.History.Log.{events-after, events-join}
 use Rattle.tracer.proofs.Carried.{carries-fill, carries-free, carries-head, carries-same}
 use Rattle.packet_pools.proofs.ScanSteps.{later-read_root}
 use Rattle.tracer.proofs.RootScans.{cell-seen, holds-one, loaded, marked-work, may-read_root, nil-seen, nil-work, root-cell, root-nil}

@@ -5,7 +5,7 @@ use Rattle.mark_core.specs.declared.kinds.Shape.{Shape}
 use Rattle.mark_core.specs.declared.seat.SeatState.{SeatState}
 use Rattle.packet_pools.proofs.Counting.{given-moves}
 use Rattle.packet_pools.proofs.TracedSteps.{later-join}
-use Rattle.gc_table.proofs.Log.{events-join}
+use Rattle.gc_table.proofs.History.Log.{events-join}
 use Rattle.tracer.specs.Hands.{IsIdle}
 use Rattle.tracer.specs.Roots.{Follows, roots_of}
 use Rattle.tracer.proofs.Carried.{carries-give}

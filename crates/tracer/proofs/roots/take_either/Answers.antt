@@ -5,7 +5,7 @@ use Rattle.mark_core.specs.declared.seat.SeatState.{SeatState}
 use Rattle.packet_pools.specs.Seeking.{NoInput, NoOutput, only_moves}
 use Rattle.packet_pools.proofs.Choices.{if-none, if-some}
 use Rattle.packet_pools.proofs.TracedSteps.{later-join}
-use Rattle.gc_table.proofs.Log.{events-join}
+use Rattle.gc_table.proofs.History.Log.{events-join}
 use Rattle.packet_pools.proofs.Searches.{moves-join}
 use Rattle.tracer.specs.Hands.{Carries}
 use Rattle.tracer.specs.Causes.{FoundNoPacket}

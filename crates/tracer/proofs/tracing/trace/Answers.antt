@@ -10,7 +10,7 @@ use Rattle.tracer.specs.Parts.{Part}
 use Rattle.tracer.specs.Tally.{Tally}
 use Rattle.tracer.proofs.Ending.{all-end}
 use Rattle.tracer.proofs.Joined.{part-then}
-use Rattle.tracer.proofs.Whole.{found-end, found-none, keeps-record, puts-off, tally-of, traces-owe}
+use Rattle.tracer.proofs.Whole.{found-end, found-none, deferral-of, keeps-record, tally-of, traces-owe}
 use Rattle.gc_table.specs.declared.view.View.{View}
 use Rattle.gc_table.specs.Seats.{view_of}
 use Rattle.packet_pools.specs.OnlyTraced.{OnlyTraced}
@@ -78,7 +78,7 @@ returns-clause-deferral c =
     let e = c.in-Some.ensures in
     let f = c.trace_all-traced.ensures in
     let g = c.finish.ensures in
-    puts-off sh t.done t.deferred t.overflowed v y c.requires.seat.0.1 (later-join v w y e.later (later-join w x y f.later g.later))
+    deferral-of sh t.done t.deferred t.overflowed v y c.requires.seat.0.1 (later-join v w y e.later (later-join w x y f.later g.later))
     (whole sh t.done t.deferred t.overflowed _ _ v w x y e.later f.later g.later (ap packet_of e.some.1) e.part f.part g.part)
 
 -- nothing is held, and nothing is in hand

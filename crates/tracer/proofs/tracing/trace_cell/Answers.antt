@@ -89,19 +89,19 @@ returns-then-has_bit-clause-part c =
     subst (λ q. Part sh o q 0 0 n v (events v x)) (sym (ap packet_of s.packets.1))
     (part-then sh o o o 0 0 0 0 0 n 0 0 n v w x r.later s.later refl refl (zero-plus n) (part-alloc sh o (c.args.cell / 64) _ v w r.view) (s.part o))
 
-pub put_off-overflowed-requires-clause-seat : goal.put_off-overflowed-requires-clause-seat
-put_off-overflowed-requires-clause-seat c =
+pub defer-overflowed-requires-clause-seat : goal.defer-overflowed-requires-clause-seat
+defer-overflowed-requires-clause-seat c =
     (c.read_alloc-word.ensures.seat, (was-read c.args.cell c.number.result c.read_alloc-word.result (view_of c.args.seat.now) (view_of c.read_alloc-word.new.seat) c.requires.cell c.requires.seat.1 c.number.ensures c.read_alloc-word.ensures.view).traces)
 
-pub put_off-overflowed-requires-clause-packets : goal.put_off-overflowed-requires-clause-packets
-put_off-overflowed-requires-clause-packets c =
+pub defer-overflowed-requires-clause-packets : goal.defer-overflowed-requires-clause-packets
+defer-overflowed-requires-clause-packets c =
     let v : View = view_of c.args.seat.now in
     let w : View = view_of c.read_alloc-word.new.seat in
     let r = was-read c.args.cell c.number.result c.read_alloc-word.result v w c.requires.cell c.requires.seat.1 c.number.ensures c.read_alloc-word.ensures.view in
     (carries-same v w r.later.shape (packets_of c.args.packets.now) (ap (λ (z : View). z.state.held) r.view) c.requires.packets.0, c.requires.packets.1)
 
-pub put_off-overflowed-requires-clause-cell : goal.put_off-overflowed-requires-clause-cell
-put_off-overflowed-requires-clause-cell c =
+pub defer-overflowed-requires-clause-cell : goal.defer-overflowed-requires-clause-cell
+defer-overflowed-requires-clause-cell c =
     let v : View = view_of c.args.seat.now in
     let w : View = view_of c.read_alloc-word.new.seat in
     let n : ℕ = c.read_alloc-word.result in
@@ -113,7 +113,7 @@ returns-clause-later c =
     let v : View = view_of c.args.seat.now in
     let w : View = view_of c.read_alloc-word.new.seat in
     let r = was-read c.args.cell c.number.result c.read_alloc-word.result v w c.requires.cell c.requires.seat.1 c.number.ensures c.read_alloc-word.ensures.view in
-    later-join v w (view_of c.put_off-overflowed.new.seat) r.later c.put_off-overflowed.ensures.later
+    later-join v w (view_of c.defer-overflowed.new.seat) r.later c.defer-overflowed.ensures.later
 
 kept-byte : (b : Bool) → cond b 0 1 ≡ bool_byte (not b)
 kept-byte true = refl
@@ -128,12 +128,12 @@ returns-clause-part c =
     let sh : Shape = c.args.heap.now.shape in
     let v : View = view_of c.args.seat.now in
     let w : View = view_of c.read_alloc-word.new.seat in
-    let x : View = view_of c.put_off-overflowed.new.seat in
-    let b : Bool = c.put_off-overflowed.result in
+    let x : View = view_of c.defer-overflowed.new.seat in
+    let b : Bool = c.defer-overflowed.result in
     let o : Option ℕ = packet_of c.args.packets.now.deferred in
-    let q : Option ℕ = packet_of c.put_off-overflowed.new.packets.deferred in
+    let q : Option ℕ = packet_of c.defer-overflowed.new.packets.deferred in
     let r = was-read c.args.cell c.number.result c.read_alloc-word.result v w c.requires.cell c.requires.seat.1 c.number.ensures c.read_alloc-word.ensures.view in
-    let p = c.put_off-overflowed.ensures in
+    let p = c.defer-overflowed.ensures in
     part-then sh o o q 0 0 0 (cond b 0 1) 0 (cond b 1 0) 0 c.from.result c.from-2.result v w x r.later p.later refl
     (zero-plus (cond b 0 1) ∙ (kept-byte b ∙ sym c.from.ensures))
     (zero-plus (cond b 1 0) ∙ (lost-byte b ∙ sym c.from-2.ensures))

@@ -6,7 +6,7 @@ use Rattle.gc_cycle.specs.Answering.{CollectsTo, HasCache}
 use Rattle.gc_cycle.specs.declared.counts.Safe.TheVariants as safes
 use Rattle.warehouse.specs.Commands.{DoesOne}
 use Rattle.warehouse.proofs.Collecting.{collects-full, collects-going, counted_up, no-cache-left}
-use Rattle.warehouse.proofs.Sparings.{waits-calm}
+use Rattle.warehouse.proofs.Retirings.{retired-stays, retired-waits}
 use Rattle.warehouse.proofs.commands.collect_now.Goals as goal
 
 pub overflow_add-mutator : goal.overflow_add-mutator
@@ -22,7 +22,7 @@ returns-in-Full-clause-stops g c =
     let t = c.collect.new.seat in
     let r = c.retire_some.ensures in
     let k = c.collect.ensures in (
-      collects-full c.args.heap.now c.args.section.now (execution_of c.args.command.now) m c.args.cache.now s t c.requires.op c.requires.playing c.requires.may k.seat (waits-calm (view_of m.seat) (view_of s) r.ran r.spares r.calm) r.stays
+      collects-full c.args.heap.now c.args.section.now (execution_of c.args.command.now) m c.args.cache.now s t c.requires.op c.requires.playing c.requires.may k.seat (retired-waits (view_of m.seat) (view_of s) r.ran r.only) (retired-stays (view_of m.seat) (view_of s) r.ran r.state r.own)
           k.ran k.spares k.keeps.0 k.once c.in-Full.ensures.collects c.in-Full.ensures.known,
       c.take.ensures.after,
     )
@@ -36,7 +36,7 @@ returns-in-Going-clause-does g c =
     let k = c.collect.ensures in
     let e = execution_of c.args.command.now in
     subst (λ o. DoesOne c.args.heap.now c.args.section.now o e m (counted_up m t)) (sym c.take.ensures.after)
-    (collects-going c.args.heap.now c.args.section.now e m c.args.cache.now s t c.requires.op c.requires.playing c.requires.may k.seat (waits-calm (view_of m.seat) (view_of s) r.ran r.spares r.calm) r.stays
+    (collects-going c.args.heap.now c.args.section.now e m c.args.cache.now s t c.requires.op c.requires.playing c.requires.may k.seat (retired-waits (view_of m.seat) (view_of s) r.ran r.only) (retired-stays (view_of m.seat) (view_of s) r.ran r.state r.own)
     k.ran k.spares k.keeps.0 k.once None m.count (subst (λ o. CollectsTo (safes.Going o) m.count (view_of s) (view_of t)) (no-cache-left c.in-Going.kept m.count (view_of s) (view_of t) c.in-Going.ensures.collects) c.in-Going.ensures.collects))
 
 pub spend_none-requires : goal.spend_none-requires

@@ -2,7 +2,8 @@ use Rattle.std.proofs.Common.{refl}
 use Rattle.gc_table.specs.Seats.{view_of}
 use Rattle.gc_table.specs.declared.view.View.{View}
 use Rattle.warehouse.proofs.Coming.{room-moved, says-moved}
-use Rattle.warehouse.proofs.Leavings.{counted-stays, leaves-calm, leaves-counted, leaves-join}
+use Rattle.warehouse.proofs.Leavings.{counted-stays, leaves-calm, leaves-counted, leaves-join, leaves-waits}
+use Rattle.warehouse.proofs.Retirings.{retired-stays, retired-waits}
 use Rattle.warehouse.proofs.Sparings.{stays-join, stays-spared}
 use Rattle.warehouse.proofs.part.end_part.Goals as goal
 
@@ -15,13 +16,13 @@ returns g c =
     let x : View = view_of c.go_out.new.seat in
     let r = c.retire_some.ensures in
     let o = c.go_out.ensures in
-    let stays = stays-join u v x r.stays (stays-join v w x (counted-stays v w c.add_stat.ensures.view) (stays-spared w x o.out.ran o.spares o.out.seat)) in
+    let stays = stays-join u v x (retired-stays u v r.ran r.state r.own) (stays-join v w x (counted-stays v w c.add_stat.ensures.view) (stays-spared w x o.out.ran o.spares o.out.seat)) in
     record {
       sits = o.seat.0;
       out = o.seat.1;
       stays = stays;
       says = says-moved m c.go_out.new.seat;
       position = o.position;
-      leaves = leaves-join 0 1 1 u v x (leaves-calm u v r.ran r.spares r.calm) (leaves-join 1 0 1 v w x (leaves-counted v w c.add_stat.ensures.view) (leaves-calm w x o.out.ran o.spares o.out.calm) refl) refl;
+      leaves = leaves-join 0 1 1 u v x (leaves-waits u v (retired-waits u v r.ran r.only)) (leaves-join 1 0 1 v w x (leaves-counted v w c.add_stat.ensures.view) (leaves-calm w x o.out.ran o.spares o.out.calm) refl) refl;
       room = room-moved m c.go_out.new.seat stays;
     }

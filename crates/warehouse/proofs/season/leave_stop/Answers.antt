@@ -1,8 +1,9 @@
 use Rattle.gc_table.specs.Seats.{view_of}
-use Rattle.warehouse.proofs.Stopping.{free-to-leave, leaves-stop, left-out}
+use Rattle.warehouse.proofs.Stopping.{leaves-stop, left-out}
+use Rattle.warehouse.proofs.InTheStop.{free-to-leave}
 use Rattle.std.proofs.Common.{sym, subst, ◌≡◌, true}
 use Rattle.gc_table.specs.declared.view.View.{View}
-use Rattle.mark_core.specs.WorldSteps.{has_nothing}
+use Rattle.mark_core.specs.Steps.WorldSteps.{has_nothing}
 use Rattle.warehouse.proofs.season.leave_stop.Goals as goal
 
 pub leave-requires-clause-free : goal.leave-requires-clause-free

@@ -1,7 +1,7 @@
 use Rattle.std.proofs.Common.{refl, ap}
 use Rattle.gc_table.specs.Seats.{view_of}
 use Rattle.gc_table.specs.declared.view.View.{View}
-use Rattle.gc_table.proofs.Log.{only-none}
+use Rattle.gc_table.proofs.History.Log.{only-none}
 use Rattle.gc_table.proofs.Running.{ran-refl}
 use Rattle.gc_cycle.specs.Sparing.{spares_part}
 use Rattle.warehouse.proofs.Seasons.{spared-keeps, spared-turns}

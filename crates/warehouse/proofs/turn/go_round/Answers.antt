@@ -4,6 +4,7 @@ use Rattle.gc_table.specs.Seats.{view_of}
 use Rattle.gc_cycle.specs.Answering.{HasCache}
 use Rattle.warehouse.proofs.turn.go_round.Goals as goal
 use Rattle.warehouse.proofs.Acting.{waits-join}
+use Rattle.warehouse.proofs.Retirings.{retired-stays, retired-waits}
 use Rattle.warehouse.proofs.Sparings.{stays-join, stays-spared, waits-calm}
 
 pub retire_some-requires-clause-cache : goal.retire_some-requires-clause-cache
@@ -18,7 +19,7 @@ returns-clause-stays g c =
     let b = view_of c.retire_some.new.seat in
     let d = view_of c.go_out.new.seat in
     let e = view_of c.go_in.new.seat in
-    stays-join a b e c.retire_some.ensures.stays
+    stays-join a b e (retired-stays a b c.retire_some.ensures.ran c.retire_some.ensures.state c.retire_some.ensures.own)
     (stays-join b d e (stays-spared b d c.go_out.ensures.out.ran c.go_out.ensures.spares c.go_out.ensures.out.seat) (stays-spared d e c.go_in.ensures.entered.out.ran c.go_in.ensures.spares c.go_in.ensures.entered.out.seat))
 
 pub returns-clause-acts : goal.returns-clause-acts
@@ -27,5 +28,5 @@ returns-clause-acts g c =
     let b = view_of c.retire_some.new.seat in
     let d = view_of c.go_out.new.seat in
     let e = view_of c.go_in.new.seat in
-    waits-join a b e (waits-calm a b c.retire_some.ensures.ran c.retire_some.ensures.spares c.retire_some.ensures.calm)
+    waits-join a b e (retired-waits a b c.retire_some.ensures.ran c.retire_some.ensures.only)
     (waits-join b d e (waits-calm b d c.go_out.ensures.out.ran c.go_out.ensures.spares c.go_out.ensures.out.calm) (waits-calm d e c.go_in.ensures.entered.out.ran c.go_in.ensures.spares c.go_in.ensures.entered.out.calm))

@@ -2,10 +2,10 @@ use Rattle.std.proofs.Common.{inl, inr}
 use Rattle.std.proofs.lemmas.Bool.{OnFalse_at, OnFalse_from}
 use Rattle.gc_table.specs.Seats.{view_of}
 use Rattle.gc_table.specs.declared.view.View.{View}
-use Rattle.gc_table.proofs.Log.{only-more}
+use Rattle.gc_table.proofs.History.Log.{only-more}
 use Rattle.gc_cycle.specs.Mutating.{stays_calm}
 use Rattle.gc_cycle.specs.Sparing.{spares_part}
-use Rattle.gc_cycle.proofs.Collected.{calm-spares}
+use Rattle.gc_cycle.proofs.Refills.Collected.{calm-spares}
 use Rattle.warehouse.proofs.Acting.{waits-join}
 use Rattle.warehouse.proofs.Others.{has-cache}
 use Rattle.warehouse.proofs.Readying.{looks-cache, looks-mutates, looks-stays, looks-waits, reads-ready}

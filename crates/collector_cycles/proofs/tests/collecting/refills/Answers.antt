@@ -1,7 +1,7 @@
 use Rattle.std.proofs.Common.{ap, ◌∙◌}
 use Rattle.gc_table.specs.Seats.{view_of}
 use Rattle.gc_table.specs.declared.view.View.{View}
-use Rattle.gc_cycle.proofs.Retired.{owes-none}
+use Rattle.gc_cycle.proofs.Refills.Retired.{owes-none}
 use Rattle.collector_cycles.proofs.tests.collecting.refills.Goals as goal
 
 pub retire-requires-clause-owes : goal.retire-requires-clause-owes

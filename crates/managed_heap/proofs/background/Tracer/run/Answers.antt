@@ -1,4 +1,4 @@
-use Rattle.std.proofs.Common.{◌≡◌, ◌∷◌, [], refl, subst, ◌∙◌}
+use Rattle.std.proofs.Common.{◌∷◌, [], refl, subst, ◌∙◌}
 use Rattle.gc_table.specs.Seats.{view_of}
 use Rattle.managed_heap.specs.Tracing.{TakesTurn}
 use Rattle.managed_heap.specs.declared.background.Turn.{Turn}

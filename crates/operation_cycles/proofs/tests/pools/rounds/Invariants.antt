@@ -1,4 +1,4 @@
-use Rattle.gc_table.specs.Trials.{At, inside}
+use Rattle.gc_table.specs.SeatRecords.{At, inside}
 use Rattle.operation_cycles.proofs.tests.pools.rounds.Given as goal
 
 abbrev pub invariant-loop-attempt : goal.invariant-loop-attempt

@@ -1,5 +1,5 @@
 use Rattle.gc_table.specs.Seats.{view_of}
-use Rattle.operation_cycles.proofs.Ended.{alone-clears, may-clear}
+use Rattle.test_heaps.proofs.Ended.{alone-clears, may-clear}
 use Rattle.operation_cycles.proofs.tests.sweeping.begins_clear.Goals as goal
 
 pub store_phase-requires-clause-may : goal.store_phase-requires-clause-may

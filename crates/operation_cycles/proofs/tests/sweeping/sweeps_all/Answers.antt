@@ -6,7 +6,9 @@ use Rattle.mark_core.specs.declared.kinds.Shape.{Shape}
 use Rattle.gc_table.specs.Running.{AtLeast}
 use Rattle.gc_table.specs.Seats.{view_of}
 use Rattle.gc_table.specs.declared.view.View.{View}
-use Rattle.operation_cycles.proofs.Ended.{alone-sweeping}
+use Rattle.gc_table.proofs.Noticing.{alone-kept}
+use Rattle.sweeper.specs.Sweepers.{is_sweeping}
+use Rattle.sweeper.proofs.Sweepers.{sweeping-stays}
 use Rattle.operation_cycles.proofs.tests.sweeping.sweeps_all.Goals as goal
 
 pub end_sweep-requires-clause-over : goal.end_sweep-requires-clause-over
@@ -15,7 +17,7 @@ end_sweep-requires-clause-over c =
     let w : View = view_of c.sweep_rest-rest.new.seat in
     let e = c.sweep_rest-rest.ensures in
     record {
-      alone = alone-sweeping Sweep v w e.ran e.only c.sweeps-second.ensures.2;
+      alone = alone-kept Sweep is_sweeping sweeping-stays v w e.ran e.only c.sweeps-second.ensures.2;
       free = e.seat.1.free;
       end = subst (λ (sh : Shape). AtLeast w the_next_block (block_count sh)) (sym e.seat.0.1) e.end;
     }

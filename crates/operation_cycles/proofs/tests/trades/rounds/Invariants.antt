@@ -1,4 +1,4 @@
-use Rattle.gc_table.specs.Trials.{At, resting}
+use Rattle.gc_table.specs.SeatRecords.{At, resting}
 use Rattle.operation_cycles.proofs.tests.trades.rounds.Given as goal
 
 abbrev pub invariant-loop-done : goal.invariant-loop-done

@@ -3,8 +3,8 @@ use Rattle.std.proofs.lemmas.Bool.{OnTrue_from, OnFalse_from}
 use Rattle.mark_core.specs.Start.{start_seat}
 use Rattle.mark_core.specs.declared.kinds.Phase.TheVariants.{Marking}
 use Rattle.mark_core.specs.declared.kinds.Step.TheVariants.{Take}
-use Rattle.gc_table.specs.Trials.{At, holding, reserved}
-use Rattle.gc_table.proofs.Trying.{may-by, state-after, first-packet, taking}
+use Rattle.gc_table.specs.SeatRecords.{At, holding, reserved}
+use Rattle.gc_table.proofs.RecordSteps.{may-by, state-after, first-packet, taking}
 use Rattle.operation_cycles.proofs.tests.trades.take.Goals as goal
 
 pub take-requires-clause-may : goal.take-requires-clause-may

@@ -1,6 +1,9 @@
+use Rattle.std.proofs.Common.{inr}
 use Rattle.play_words.specs.Dumping.{EndsIn, IsEndAnswer}
+use Rattle.play_words.specs.Ending.{IsStopAnswer}
 use Rattle.command_words.specs.Commands.{options_of}
 use Rattle.play_words.proofs.Ends.{other_ends}
+use Rattle.play_words.proofs.Plays.{stopped}
 use Rattle.play_words.proofs.ReadDumps.{dump_answer}
 use Rattle.play_words.proofs.commands.dump.dump_script.Goals as goal
 
@@ -13,3 +16,8 @@ pub returns-in-Ok : goal.returns-in-Ok
 returns-in-Ok g c =
     other_ends (IsEndAnswer c.args.script.now) (EndsIn (options_of c.args.options.now) c.args.script.now) _ _ _ _ _
     (dump_answer (options_of c.args.options.now) c.args.script.now) c.write_end.ensures
+
+pub returns-in-Err : goal.returns-in-Err
+returns-in-Err g c =
+    other_ends (IsStopAnswer c.in-Err.error) (EndsIn (options_of c.args.options.now) c.args.script.now) _ _ _ _ _
+    (λ status text a. inr (stopped c.args.script.now.sections c.args.options.now.cells c.in-Err.error c.in-Err.ensures.answers status text a)) c.tell_stop.ensures

@@ -1,9 +1,0 @@
-use Rattle.gc_table.specs.Seats.{view_of}
-use Rattle.collector_cycles.proofs.Ended.{alone-sweeps, may-sweep}
-use Rattle.collector_cycles.proofs.tests.helping.begins_sweep.Goals as goal
-
-pub store_phase-requires-clause-may : goal.store_phase-requires-clause-may
-store_phase-requires-clause-may c = may-sweep (view_of c.args.seat.now) c.requires.1
-
-pub returns : goal.returns
-returns c = let e = c.store_phase.ensures in (e.seat, alone-sweeps (view_of c.args.seat.now) (view_of c.store_phase.new.seat) e.view.0 c.requires.1.rooted.ready.drains e.view.1)

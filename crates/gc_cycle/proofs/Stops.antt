@@ -1,0 +1,13 @@
+-- A stop: how it is asked for, waited for, opened to helpers and left.
+pub mod Opened
+pub mod OutAndIn
+pub mod FlagRaised
+pub mod Waits
+pub mod Admitted
+pub mod Looked
+pub mod HelperDrains
+pub mod Unopened
+pub mod StopsAgain
+pub mod InStops
+pub mod InStop
+pub mod AfterStop

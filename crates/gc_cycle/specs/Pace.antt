@@ -1,0 +1,5 @@
+-- When a cycle is due, what a mutator owes, and what it pays.
+pub mod Quota
+pub mod Pacing
+pub mod Paying
+pub mod Payment

@@ -1,0 +1,179 @@
+-- The reachable objects and the reachable cells: each has the other.
+use Rattle.std.proofs.Common.{ℕ, ◌≡◌, ◌+◌, ◌*◌, ◌/◌, ◌%◌, ◌<◌, ◌≤◌, List, [], ◌∷◌, length, arith, refl, sym, ap, ◌∙◌, subst, Some, ◌⊎◌, inl, inr}
+use Rattle.std.specs.Prelude.{slice_get, slice_index, slice_index_or}
+use Rattle.std.proofs.lemmas.Bool.{cases_lt}
+use Rattle.std.proofs.lemmas.List.{get_or_default}
+use Rattle.std.proofs.lemmas.List.Elements.{Contains-get_or}
+use Rattle.std.proofs.lemmas.Option.{same_Some, slice_get_within, slice_get-get_or}
+use Rattle.mark_core.specs.Layout.{Words, words_of}
+use Rattle.mark_core.specs.Cells.{field, IsPath as IsCellPath}
+use Rattle.mark_core.specs.Closed.{IsReachableIn}
+use Rattle.mark_core.specs.Rules.HeapRules.{section_of, number_of}
+use Rattle.mark_core.specs.Steps.{Core}
+use Rattle.mark_core.specs.Laws.{IsCore}
+use Rattle.mark_core.proofs.AtSeat.{roots-length}
+use Rattle.mark_core.proofs.Exacts.ExactsReach.{reach-root, reach-field}
+use Rattle.plain_heap.specs.declared.object.Ref.{Ref}
+use Rattle.plain_heap.specs.declared.object.Ref.TheVariants as refs
+use Rattle.plain_heap.specs.declared.object.Object.{Object}
+use Rattle.plain_heap.specs.PlainHeap.{Heap, variable}
+use Rattle.plain_heap.specs.Paths.{Name, Names, IsObject, IsHeld, RefersTo, IsReachable}
+use Rattle.plain_heap.proofs.Reaching.{of_reachable, reach_on}
+use Rattle.gc_table.specs.StandsFor.{StandsFor, WordAgrees, HoldsObject, heaps_of, name_at, object_count}
+use Rattle.gc_table.specs.declared.view.Meaning.{Meaning}
+use Rattle.gc_table.specs.PlainSteps.{no_meaning, meaning_of}
+use Rattle.gc_table.specs.Laws.{IsCellOfObject, ReachableObjectsHaveCells, ReachableCellsHaveObjects}
+use Rattle.gc_table.proofs.Stands.StandsCells.{named-object}
+use Rattle.gc_table.proofs.Stands.StandsNamed.{word-of, ref-of, heap-there, there-heap, has-object, object-in}
+use Rattle.gc_table.proofs.Stands.StandsStores.{used-exists}
+use Rattle.gc_table.proofs.Stands.StandsUsed.{reachable-used}
+
+-- the number in the cell is that of an object of its section
+abbrev IsGiven : Core → List Meaning → ℕ → Type 0
+IsGiven c ms x = number_of (words_of c.shape c.words).identities x < object_count ms (section_of (words_of c.shape c.words).identities x)
+
+-- a reachable cell with the number of an object holds this object
+cell_holds : (c : Core) (ms : List Meaning) (x : ℕ) → IsCore c → StandsFor c ms → IsReachableIn c x → IsGiven c ms x → IsCellOfObject c ms (name_at (words_of c.shape c.words).identities x) x
+cell_holds c ms x k st reach given =
+    let w : Words = words_of c.shape c.words in
+    let used = reachable-used c x k reach in
+    (used, refl, named-object c.shape w.identities w.values w.fields ms x given (st.cells_agree x (used-exists c k x used) used))
+
+-- what holds of a reachable cell
+abbrev HasObjectIn : Core → List Meaning → ℕ → Type 0
+HasObjectIn c ms x = IsGiven c ms x × IsReachable (heaps_of ms) (name_at (words_of c.shape c.words).identities x)
+
+-- of a cell that a root names
+rooted : (c : Core) (ms : List Meaning) (x k : ℕ) → IsCore c → StandsFor c ms → k < length (words_of c.shape c.words).roots → slice_index (words_of c.shape c.words).roots k ≡ x + 1 → HasObjectIn c ms x
+rooted c ms x k core st h e = (named.1, (object, [], held))
+  where
+    ids : List ℕ
+    ids = (words_of c.shape c.words).identities
+
+    section : ℕ
+    section = k / 32
+
+    inside : section < length ms
+    inside = omega (arith, h, roots-length c core, st.sections)
+
+    m : Meaning
+    m = meaning_of ms section
+
+    there : slice_get ms section ≡ Some m
+    there = slice_get-get_or ms section no_meaning inside
+
+    place : section * 32 + k % 32 ≡ k
+    place = omega arith
+
+    low : k % 32 < 32
+    low = omega arith
+
+    named : Names section (variable m.heap (k % 32)) (name_at ids x) × IsGiven c ms x
+    named = ref-of ids (object_count ms) section (slice_index (words_of c.shape c.words).roots k) x (variable m.heap (k % 32)) e
+        (subst (λ j. WordAgrees ids (object_count ms) section (slice_index (words_of c.shape c.words).roots j) (variable m.heap (k % 32))) place (st.roots_agree section m there (k % 32) low))
+
+    holds : IsCellOfObject c ms (name_at ids x) x
+    holds = cell_holds c ms x core st (reach-root c.shape (words_of c.shape c.words).roots (words_of c.shape c.words).fields k x h e) named.1
+
+    object : IsObject (heaps_of ms) (name_at ids x)
+    object = (holds.2.2.object, has-object c ms x holds.2.0 st holds.2.1 holds.2.2)
+
+    held : IsHeld (heaps_of ms) (name_at ids x)
+    held = (
+      m.heap,
+      heap-there ms section m there,
+      variable m.heap (k % 32),
+      Contains-get_or m.heap.variables (k % 32) refs.Nil (omega (arith, low, (st.numbered section m there).1)),
+      subst (λ j. Names j (variable m.heap (k % 32)) (name_at ids x)) (sym (st.numbered section m there).0) named.0,
+    )
+
+-- of a cell that a field of a reachable cell names
+fielded : (c : Core) (ms : List Meaning) (x d i : ℕ) → IsCore c → StandsFor c ms → IsReachableIn c d → HasObjectIn c ms d → i < c.shape.fields → field c.shape (words_of c.shape c.words).fields d i ≡ x + 1 → HasObjectIn c ms x
+fielded c ms x d i core st reach from h e = (named.1, reach_on (heaps_of ms) (name_at ids d) (name_at ids x) from.1 refers object)
+  where
+    w : Words
+    w = words_of c.shape c.words
+
+    ids : List ℕ
+    ids = w.identities
+
+    source : IsCellOfObject c ms (name_at ids d) d
+    source = cell_holds c ms d core st reach from.0
+
+    o : Object
+    o = source.2.2.object
+
+    ref : Ref
+    ref = slice_index_or o.refs i refs.Nil
+
+    named : Names (section_of ids d) ref (name_at ids x) × IsGiven c ms x
+    named = ref-of ids (object_count ms) (section_of ids d) (field c.shape w.fields d i) x ref e (source.2.2.each_field i h)
+
+    holds : IsCellOfObject c ms (name_at ids x) x
+    holds = cell_holds c ms x core st (reach-field c.shape w.roots w.fields d i x reach h e) named.1
+
+    object : IsObject (heaps_of ms) (name_at ids x)
+    object = (holds.2.2.object, has-object c ms x holds.2.0 st holds.2.1 holds.2.2)
+
+    refers : RefersTo (heaps_of ms) (name_at ids d) (name_at ids x)
+    refers = (o, has-object c ms d source.2.0 st source.2.1 source.2.2, ref, Contains-get_or o.refs i refs.Nil (omega (arith, h, source.2.2.room, core.formed.shaped.fields)), named.0)
+
+along : (c : Core) (ms : List Meaning) (x : ℕ) (ds : List ℕ) → IsCore c → StandsFor c ms → IsCellPath c.shape (words_of c.shape c.words).roots (words_of c.shape c.words).fields (x ∷ ds) → HasObjectIn c ms x
+along c ms x [] core st p = rooted c ms x p.0 core st p.1 p.2
+along c ms x (d ∷ ds) core st p = fielded c ms x d p.0.0 core st (ds, p.1) (along c ms d ds core st p.1) p.0.1 p.0.2
+
+-- a reachable cell holds an object, which is reachable
+pub cells-have-objects : ReachableCellsHaveObjects
+cells-have-objects c ms core st x reach = let a = along c ms x reach.0 core st reach.1 in (cell_holds c ms x core st reach a.0, a.1)
+
+-- a reachable cell for an object
+abbrev HasCell : Core → List Meaning → Name → Type 0
+HasCell c ms name = (x : ℕ) × IsCellOfObject c ms name x × IsReachableIn c x
+
+-- a cell that is reachable, and has the object's name
+found_cell : (c : Core) (ms : List Meaning) (name : Name) (x : ℕ) → IsCore c → StandsFor c ms → IsReachableIn c x → name_at (words_of c.shape c.words).identities x ≡ name → IsGiven c ms x → HasCell c ms name
+found_cell c ms name x core st reach e given = (x, subst (λ (n : Name). IsCellOfObject c ms n x) e (cell_holds c ms x core st reach given), reach)
+
+-- an object that a variable names has one
+held_cell : (c : Core) (ms : List Meaning) (name : Name) → IsCore c → StandsFor c ms → IsHeld (heaps_of ms) name → HasCell c ms name
+held_cell c ms name core st (heap, there, ref, (v, below, is), names) =
+    let w : Words = words_of c.shape c.words in
+    let m = there-heap c ms heap st there in
+    let low : v < 32 = omega (arith, below, (st.numbered heap.section m.0 m.1).1, ap (λ (h : Heap). length h.variables) m.2) in
+    let section : heap.section < length ms = slice_get_within ms heap.section m.0 m.1 in
+    let ref_is : variable m.0.heap v ≡ ref = ap (λ (h : Heap). variable h v) m.2 ∙ (get_or_default heap.variables v refs.Nil ref below ∙ is) in
+    let agrees : WordAgrees w.identities (object_count ms) heap.section (slice_index w.roots (heap.section * 32 + v)) ref = subst (λ (r : Ref). WordAgrees w.identities (object_count ms) heap.section (slice_index w.roots (heap.section * 32 + v)) r) ref_is (st.roots_agree heap.section m.0 m.1 v low) in
+    let x = word-of w.identities (object_count ms) heap.section (slice_index w.roots (heap.section * 32 + v)) ref name agrees names in
+    let inside : heap.section * 32 + v < length w.roots = omega (arith, low, section, roots-length c core, st.sections) in
+    found_cell c ms name x.0 core st (reach-root c.shape w.roots w.fields (heap.section * 32 + v) x.0 inside x.1) x.2 x.3
+
+-- so has one that an object with a cell refers to
+referred_cell : (c : Core) (ms : List Meaning) (from to : Name) → IsCore c → StandsFor c ms → HasCell c ms from → RefersTo (heaps_of ms) from to → HasCell c ms to
+referred_cell c ms from to core st (x, cell, reach) (object, has, ref, (j, below, is), names) = of (cases_lt j c.shape.fields)
+  where
+    w : Words
+    w = words_of c.shape c.words
+
+    h : HoldsObject c.shape w.identities w.values w.fields (object_count ms) cell.2.0 x
+    h = cell.2.2
+
+    same : h.object ≡ object
+    same = same_Some h.object object (sym h.there ∙ (ap (λ (n : Name). slice_get cell.2.0.heap.objects n.number) cell.1 ∙ object-in c ms from object cell.2.0 st cell.2.1 has))
+
+    ref_is : slice_index_or h.object.refs j refs.Nil ≡ ref
+    ref_is = ap (λ (o : Object). slice_index_or o.refs j refs.Nil) same ∙ (get_or_default object.refs j refs.Nil ref below ∙ is)
+
+    of : (j < c.shape.fields) ⊎ (c.shape.fields ≤ j) → HasCell c ms to
+    of (inl l) =
+        let section : section_of w.identities x ≡ from.section = ap (λ (n : Name). n.section) cell.1 in
+        let agrees : WordAgrees w.identities (object_count ms) from.section (field c.shape w.fields x j) ref =
+        subst (λ s. WordAgrees w.identities (object_count ms) s (field c.shape w.fields x j) ref) section
+        (subst (λ (r : Ref). WordAgrees w.identities (object_count ms) (section_of w.identities x) (field c.shape w.fields x j) r) ref_is (h.each_field j l)) in
+        let z = word-of w.identities (object_count ms) from.section (field c.shape w.fields x j) ref to agrees names in
+        found_cell c ms to z.0 core st (reach-field c.shape w.roots w.fields x j z.0 reach l z.1) z.2 z.3
+    of (inr l) = absurd (subst (λ (r : Ref). Names from.section r to) (sym ref_is ∙ h.rest j l) names)
+
+-- each reachable object has a cell, which is reachable
+pub objects-have-cells : ReachableObjectsHaveCells
+objects-have-cells c ms core st name reach =
+    of_reachable (heaps_of ms) (HasCell c ms) (λ n object held. held_cell c ms n core st held) (λ from to cell refers object. referred_cell c ms from to core st cell refers) name reach

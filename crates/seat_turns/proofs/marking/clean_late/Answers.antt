@@ -1,0 +1,7 @@
+use Rattle.std.proofs.Common.{refl}
+use Rattle.gc_table.specs.Seats.{view_of}
+use Rattle.seat_turns.proofs.Tending.{tends-join}
+use Rattle.seat_turns.proofs.marking.clean_late.Goals as goal
+
+pub returns-then-is_late-clause-tends : goal.returns-then-is_late-clause-tends
+returns-then-is_late-clause-tends c = tends-join 0 0 0 (view_of c.args.seat.now) (view_of c.is_late.new.seat) (view_of c.clean_cards.new.seat) refl c.is_late.ensures.tends c.clean_cards.ensures.tends

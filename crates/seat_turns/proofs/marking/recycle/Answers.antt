@@ -1,0 +1,33 @@
+use Rattle.std.proofs.Common.{[], ◌∷◌, ap, ◌∙◌}
+use Rattle.std.specs.Prelude.{is_none}
+use Rattle.mark_core.specs.Held.{holds_any}
+use Rattle.mark_core.specs.Seats.{work_in_hand}
+use Rattle.mark_core.specs.declared.seat.SeatState.{SeatState}
+use Rattle.gc_table.specs.Log.{events}
+use Rattle.gc_table.specs.Seats.{view_of}
+use Rattle.gc_table.specs.declared.view.View.{View}
+use Rattle.seat_turns.proofs.Standing.{empty-of, marks-idle, marks-later, marks-trace}
+use Rattle.seat_turns.proofs.Tending.{moves-pop, tends-by}
+use Rattle.seat_turns.proofs.marking.recycle.Goals as goal
+
+pub recycle_deferred-requires-clause-seat : goal.recycle_deferred-requires-clause-seat
+recycle_deferred-requires-clause-seat c = (c.requires.goes.sits, marks-trace c.args.heap.now c.args.seat.now c.requires)
+
+pub recycle_deferred-requires-clause-idle : goal.recycle_deferred-requires-clause-idle
+recycle_deferred-requires-clause-idle c = marks-idle c.args.heap.now c.args.seat.now c.args.seat.now.possible c.requires
+
+pub returns-clause-seat : goal.returns-clause-seat
+returns-clause-seat c =
+    let h = c.args.heap.now in
+    let x = c.args.seat.now in
+    let e = c.recycle_deferred.ensures in
+    let n = empty-of h.shape (view_of x).state c.requires.goes.idle in
+    marks-later h x c.recycle_deferred.new.seat c.requires e.later e.seat.0 e.seat.1 (ap (λ (s : SeatState). holds_any s.held) e.state ∙ n.held)
+    (ap (λ (s : SeatState). work_in_hand h.shape.fields s) e.state ∙ n.work) (ap (λ (s : SeatState). is_none s.owes) e.state ∙ n.owes)
+
+pub returns-clause-tends : goal.returns-clause-tends
+returns-clause-tends c =
+    let v : View = view_of c.args.seat.now in
+    let w : View = view_of c.recycle_deferred.new.seat in
+    let e = c.recycle_deferred.ensures in
+    tends-by 0 v w e.later (moves-pop (3 ∷ []) (events v w) e.recycled.moves)

@@ -1,0 +1,42 @@
+-- What a tracer does inside the world while marking is under way.
+use Rattle.std.specs.Prelude.{ℕ, ◌≡◌, ◌<◌, ◌⊎◌, ◌==◌, not, Bool, true, false}
+use Rattle.mark_core.specs.Numbers.{done_count}
+use Rattle.mark_core.specs.declared.kinds.Step.{Step}
+use Rattle.mark_core.specs.declared.kinds.Step.TheVariants.{AddStat, EnterStep, LeaveStep, ReadPhase, ReadStat}
+use Rattle.gc_table.specs.Log.{Only, events}
+use Rattle.gc_table.specs.Running.{Ran}
+use Rattle.gc_table.specs.declared.view.View.{View}
+use Rattle.packet_pools.specs.Counts.{count_of}
+use Rattle.tracer.specs.Causes.{FoundNoWork}
+use Rattle.tracer.specs.Tally.{pops}
+
+-- how many objects a turn traces, where there are as many
+abbrev pub turn_quota : ℕ
+turn_quota = 64
+
+-- the step neither enters nor leaves, reads neither the phase nor the number of parts that were played, and adds to no number
+abbrev pub tends : Step → Bool
+tends EnterStep = false
+tends LeaveStep = false
+tends ReadPhase = false
+tends (ReadStat which) = not (which == done_count)
+tends (AddStat which by down) = false
+tends step = true
+
+-- by such steps so many objects were traced, and what the seat's section has come to is as it was
+pub record Tends (traced : ℕ) (v w : View) : Type 0 where
+  pub ran : Ran v w
+  pub only : Only tends v w
+  pub done : count_of pops (events v w) ≡ traced
+  pub own : w.own ≡ v.own
+
+-- as many as a turn traces, or fewer, and then at some moment nothing was left in hand and no packet with a cell was found
+pub record TracesSome (traced : ℕ) (v w : View) : Type 0 where
+  pub tends : Tends traced v w
+  pub ends : (traced ≡ turn_quota) ⊎ ((traced < turn_quota) × FoundNoWork v w)
+
+-- the seat traced so many objects, and then tended to cards and to what was deferred
+pub record MarksSome (traced : ℕ) (v w : View) : Type 0 where
+  pub between : View
+  pub traces : TracesSome traced v between
+  pub tends : Tends 0 between w

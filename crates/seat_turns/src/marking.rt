@@ -1,0 +1,172 @@
+//! A tracer inside the world: it reads the phase, traces a few objects, and where there are none, cleans a few cards.
+ghost use Rattle.std.specs.Prelude.{◌≡◌, ◌<◌, IfSome, Some};
+ghost use Rattle.mark_core.specs.Layout.{card_count};
+ghost use Rattle.mark_core.specs.Seats.{phase_of};
+ghost use Rattle.mark_core.specs.declared.kinds.Step.TheVariants.{ReadPhase};
+ghost use Rattle.gc_table.specs.Seats.{Across, Answered, state_of};
+ghost use Rattle.seat_turns.specs.Standing.{Goes, Marks};
+ghost use Rattle.seat_turns.specs.Tending.{MarksSome, Tends, TracesSome};
+
+use card_clean::{clean_one, next_card};
+use gc_cycle::is_far_on;
+use gc_table::{Heap, HeapSeat};
+use mark_core::Phase;
+use tracer::{Stopped, Traced, recycle_deferred, trace};
+
+/// How many objects a turn traces.
+const OBJECTS: u32 = 64;
+
+/// How many cards a turn passes. Most are clean, and a clean one costs one look.
+const CARDS: u32 = 1_024;
+
+/// Reads the phase.
+pub fn see_phase(heap: &Heap, seat: &mut HeapSeat) -> Phase
+    requires { Goes heap.now seat.old }
+    ensures seat { Goes heap.now seat.new }
+    ensures seen { (state_of seat.new).phase_seen ≡ Some result }
+    ensures sees { Across (Answered ReadPhase (λ n. result ≡ phase_of n)) seat.old seat.new }
+{
+    heap.read_phase(seat)
+}
+
+/// Traces the objects of a turn.
+fn trace_objects(heap: &Heap, seat: &mut HeapSeat) -> Traced
+    requires { Marks heap.now seat.old }
+    ensures seat { Marks heap.now seat.new }
+    ensures traces { Across (TracesSome result.done) seat.old seat.new }
+{
+    trace(heap, seat, OBJECTS)
+}
+
+/// The next card of the cycle's pass.
+fn draw(heap: &Heap, seat: &mut HeapSeat) -> Option<u32>
+    requires { Marks heap.now seat.old }
+    ensures seat { Marks heap.now seat.new }
+    ensures tends { Across (Tends 0) seat.old seat.new }
+    ensures there { IfSome result (λ card. card < card_count heap.now.shape) }
+{
+    next_card(heap, seat)
+}
+
+/// Cleans a card. False where no packet has room.
+fn clean(heap: &Heap, seat: &mut HeapSeat, card: u32) -> bool
+    requires seat { Marks heap.now seat.old }
+    requires card { card < card_count heap.now.shape }
+    ensures seat { Marks heap.now seat.new }
+    ensures tends { Across (Tends 0) seat.old seat.new }
+{
+    match clean_one(heap, seat, card) {
+        Some(_) => true,
+        None => false,
+    }
+}
+
+/// Whether a card is dirty.
+fn is_dirty(heap: &Heap, seat: &mut HeapSeat, card: u32) -> bool
+    requires seat { Marks heap.now seat.old }
+    requires card { card < card_count heap.now.shape }
+    ensures seat { Marks heap.now seat.new }
+    ensures tends { Across (Tends 0) seat.old seat.new }
+{
+    heap.read_card(seat, card)
+}
+
+/// Looks at a card, and cleans it where it is dirty: a clean card costs one look and no packet. False where no packet has room.
+fn clean_where_dirty(heap: &Heap, seat: &mut HeapSeat, card: u32) -> bool
+    requires seat { Marks heap.now seat.old }
+    requires card { card < card_count heap.now.shape }
+    ensures seat { Marks heap.now seat.new }
+    ensures tends { Across (Tends 0) seat.old seat.new }
+{
+    if !is_dirty(heap, seat, card) {
+        return true;
+    }
+    clean(heap, seat, card)
+}
+
+/// Cleans the next card of the cycle's pass, where it is dirty. False where no card is left, or no packet has room.
+fn clean_next(heap: &Heap, seat: &mut HeapSeat) -> bool
+    requires { Marks heap.now seat.old }
+    ensures seat { Marks heap.now seat.new }
+    ensures tends { Across (Tends 0) seat.old seat.new }
+{
+    match draw(heap, seat) {
+        Some(card) => clean_where_dirty(heap, seat, card),
+        None => false,
+    }
+}
+
+/// Cleans the cards of a turn.
+fn clean_cards(heap: &Heap, seat: &mut HeapSeat)
+    requires { Marks heap.now seat.old }
+    ensures seat { Marks heap.now seat.new }
+    ensures tends { Across (Tends 0) seat.old seat.new }
+{
+    for _ in 0..CARDS {
+        if !clean_next(heap, seat) {
+            return;
+        }
+    }
+}
+
+/// Whether the cycle is far on.
+fn is_late(heap: &Heap, seat: &mut HeapSeat) -> bool
+    requires { Marks heap.now seat.old }
+    ensures seat { Marks heap.now seat.new }
+    ensures tends { Across (Tends 0) seat.old seat.new }
+{
+    is_far_on(heap, seat)
+}
+
+/// Cleans the cards of a turn, where the cycle is far on: a card that is cleaned early is dirtied again, and then the stop cleans it.
+fn clean_late(heap: &Heap, seat: &mut HeapSeat)
+    requires { Marks heap.now seat.old }
+    ensures seat { Marks heap.now seat.new }
+    ensures tends { Across (Tends 0) seat.old seat.new }
+{
+    if is_late(heap, seat) {
+        clean_cards(heap, seat);
+    }
+}
+
+/// Cleans cards, where a trace ended since there was nothing to trace.
+fn clean_after(heap: &Heap, seat: &mut HeapSeat, stopped: Stopped)
+    requires { Marks heap.now seat.old }
+    ensures seat { Marks heap.now seat.new }
+    ensures tends { Across (Tends 0) seat.old seat.new }
+{
+    if let Stopped::NoWork = stopped {
+        clean_late(heap, seat);
+    }
+}
+
+/// Lets deferred cells, which weren't published yet, be traced again.
+fn recycle(heap: &Heap, seat: &mut HeapSeat)
+    requires { Marks heap.now seat.old }
+    ensures seat { Marks heap.now seat.new }
+    ensures tends { Across (Tends 0) seat.old seat.new }
+{
+    recycle_deferred(heap, seat);
+}
+
+/// Cleans a few cards, where there was nothing to trace, and lets deferred cells be traced again.
+fn tend(heap: &Heap, seat: &mut HeapSeat, stopped: Stopped)
+    requires { Marks heap.now seat.old }
+    ensures seat { Marks heap.now seat.new }
+    ensures tends { Across (Tends 0) seat.old seat.new }
+{
+    clean_after(heap, seat, stopped);
+    recycle(heap, seat);
+}
+
+/// Traces the 64 objects of a turn, and where there are fewer and the cycle is far on, cleans cards. Returns how many objects it traced, which the caller is to
+/// add to the number of traced objects.
+pub fn mark_some(heap: &Heap, seat: &mut HeapSeat) -> u32
+    requires { Marks heap.now seat.old }
+    ensures seat { Marks heap.now seat.new }
+    ensures marks { Across (MarksSome result) seat.old seat.new }
+{
+    let traced = trace_objects(heap, seat);
+    tend(heap, seat, traced.stopped);
+    traced.done
+}
