@@ -1,7 +1,8 @@
 #!/bin/sh
-# Compares the documents with the repository: the picture of the crates with crates.txt, the names in backquotes with the sources, and with the crates in
-# which they are said to stand, links with pages and their headings, and the files that a page names with those that its clauses need. README.md has 1,500
-# words at most, and docs/GLOSSARY.md a word a row. The programs of docs/EMBEDDING.md are run by tests/embedding.sh.
+# Compares the documents with the repository: the picture of the crates with crates.txt, the names in backquotes with the sources, and with the crates and
+# the files in which they are said to stand, links with pages and their headings, and the files that a page names with those that its clauses need. README.md
+# has 1,500 words at most, and docs/GLOSSARY.md a word a row. docs/SCHEDULES.md quotes conditions as docs/STEPS.md has them. Words that the field doesn't use
+# stand nowhere. The programs of docs/EMBEDDING.md are run by tests/embedding.sh.
 # From the top of the repository: sh docs/check.sh. It prints what differs, and nothing where all agrees.
 set -eu
 export LC_ALL=C
@@ -40,7 +41,7 @@ for text in README.md docs/*.md bench/README.md crates/*/README.md; do
     while read -r name; do
         [ -e "crates/$name" ] || grep -q "/$name[^/]*\.antt$" "$folder/files" || echo "$text: $name"
     done <"$folder/missing"
-    grep -o '`[A-Za-z_./]*/[A-Za-z_.]*\.\(rt\|antt\|md\|sh\|cpp\|edit\)`' "$text" | tr -d '`' | sort -u | while read -r path; do
+    grep -o '`[A-Za-z_./-]*/[A-Za-z_.]*\.\(rt\|antt\|md\|sh\|cpp\|edit\)`' "$text" | tr -d '`' | grep -v CRATE | sort -u | while read -r path; do
         case $text in crates/*) own=$(dirname "$text")/$path ;; *) own=crates/$path ;; esac
         [ -e "$path" ] || [ -e "$own" ] || grep -q "/$path$" "$folder/files" || echo "$text: $path"
     done
@@ -58,6 +59,31 @@ for text in README.md docs/*.md bench/README.md crates/*/README.md; do
     done
 done
 
+# Whether one of the files that a path may mean, on this page, has the name as a whole word.
+stands_in() {
+    for file in "$3" "crates/$3" "$(dirname "$1")/$3"; do
+        [ -f "$file" ] && grep -qw -e "$2" "$file" && return 0
+    done
+    grep -qw -e "$2" /dev/null $(grep -e "/$3\$" "$folder/files")
+}
+
+# Names that stand in another file than a page says, as `name` in `path`, of `path` or (`path`), as `path` (`name`) or `path`: `name`, or in the row of a file
+# in the tables that walk through the definitions of a clause.
+name='`[A-Za-z_][A-Za-z_0-9:-]*`'
+names="($name(, and |, | and | or ))*$name"
+path='`[A-Za-z_0-9./-]+\.(rt|antt|cpp|hpp|h|edit|txt)`'
+for text in README.md docs/*.md bench/README.md tests/README.md crates/*/README.md; do
+    {
+        grep -oE "$names(,? in |,? of |,? \(|, by )$path" "$text" | sed 's/`\([^`]*\)`$/@\1/'
+        grep -oE "$path( \(|: )$names" "$text" | sed 's/^`\([^`]*\)`\(.*\)/\2@\1/'
+        ! grep -q '^<!-- closure: ' "$text" || sed -n 's/^| `\([^`]*\)` |\(.*`.*\)/\2@\1/p' "$text"
+    } | sort -u | while IFS=@ read -r told place; do
+        echo "$told" | grep -o '`[^`]*`' | tr -d '`' | sed 's/.*:://' | while read -r word; do
+            [ -d "crates/$word" ] || stands_in "$text" "$word" "$place" || echo "$text: $word isn't in $place"
+        done
+    done
+done
+
 # Links that lead to no page, or to no heading of it.
 for text in README.md docs/*.md bench/README.md tests/README.md crates/*/README.md; do
     grep -o '](\([^)]*\))' "$text" | sed 's/^](//; s/)$//' | grep -v '^http' | sort -u | while read -r link; do
@@ -67,6 +93,27 @@ for text in README.md docs/*.md bench/README.md tests/README.md crates/*/README.
         *#*) sed -n 's/^##* //p' "$page" | tr 'A-Z ' 'a-z-' | tr -cd 'a-z0-9_\n-' | grep -qx -e "${link#*#}" || echo "$text: $link" ;;
         esac
     done
+done
+
+# Words that the field doesn't use, each with what is used instead. Names in backquotes and programs aren't looked at.
+cat >"$folder/discarded" <<'END'
+(a|an|any|each|its|no|one) front|fronts|front of (a|the|its) (text|bytes|list|log|run|output)@prefix
+want of@out of memory, or without
+put(s|ting)? (it |them |a cell |cells )?off@deferred
+as right as@equivalent to
+so of (it|less|more|nothing)@a sentence that names what holds
+may trace|knows that the world@tracer, has stopped the world
+END
+for text in README.md docs/*.md crates/*/README.md; do
+    awk '/^ *```/ { inside = !inside } { print inside || /^    [^ -]/ ? "" : $0 }' "$text" | sed 's/`[^`]*`/``/g' >"$folder/prose"
+    while IFS=@ read -r discarded used; do
+        grep -nowiE -e "$discarded" "$folder/prose" | sed "s|^|$text:|; s|\$| ($used)|"
+    done <"$folder/discarded"
+done
+
+# Parts of conditions that docs/SCHEDULES.md quotes and docs/STEPS.md doesn't have.
+grep -oE 'part [0-9]+[^:.]*: \*[^*]*\*' docs/SCHEDULES.md | sed 's/.*: \*//; s/\*$//' | sort -u | while read -r part; do
+    grep -qF -e "$part" docs/STEPS.md || echo "docs/SCHEDULES.md: not in docs/STEPS.md: $part"
 done
 
 # The front page, and the glossary.
@@ -82,3 +129,6 @@ END { if (open) print "docs/EMBEDDING.md: nothing is told of what the program wr
 
 # Pages that walk through the definitions of a clause.
 grep -l '^<!-- closure: ' docs/*.md | xargs python3 docs/closure.py
+
+# Definitions and lemmas that nothing cites.
+python3 docs/unused.py 2>/dev/null

@@ -30,7 +30,7 @@ class File:
             if other:
                 self.modules[other] = kind
         for block in re.split(r'\n\s*\n', text):
-            lines = [line for line in block.split('\n') if line and not re.match(r'(pub )?use ', line)]
+            lines = [line for line in block.split('\n') if line and not re.match(r'(pub )?(use|mod) ', line)]
             found = re.search(HEAD, '\n'.join(lines), re.M)
             if found:
                 self.items[found.group(1)] = lines
@@ -94,7 +94,7 @@ def closure(start):
             if item:
                 found.setdefault(item[0], {})[' '.join(item[1][:9])] = (rest.split('.')[-1], item[1])
             continue
-        path = f'crates/{crate}/specs/{rest}.antt'
+        path = f'crates/{crate}/specs/{rest.replace(".", "/")}.antt'
         if not os.path.exists(path):
             continue
         here = file(path)

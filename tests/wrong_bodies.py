@@ -6,7 +6,7 @@ empty line between two:
     searches to the end alone
     function: alloc_cache::searching::claim_among
     file: src/searching.rt
-    old: the text of one line, which stands in that function once
+    old: the text of one line, which stands in that function once, or once in the file, outside it
     new: what stands there in its place
 
 More lines old and new may follow. A line `free: REASON` says that the body is right too, or free on purpose, and a line `test: CRATE NAME` that no
@@ -51,10 +51,11 @@ class Body:
                 sys.exit(f"{self.what}: {line}")
 
     def places_in(self, text, old):
-        """Where this text stands below the head of a function of that name."""
+        """Where this text stands below the head of a function of that name, or where it does at all if it stands there nowhere."""
         name = self.function.split("::")[-1]
         ends = [it.end() for it in re.finditer(re.escape(old), text)]
-        return [end - len(old) for end in ends if re.findall(r"\bfn (\w+)", text[:end])[-1:] == [name]]
+        inside = [end for end in ends if re.findall(r"\bfn (\w+)", text[:end])[-1:] == [name]]
+        return [end - len(old) for end in inside or ends]
 
     def texts(self, folder):
         """The files that it changes, with the change, or None where an old text doesn't stand in its function once."""
@@ -79,7 +80,7 @@ def read_bodies(crate):
 def crates_below(crate):
     """The crate and those of this repository that it stands on, and these stand on."""
     with open(os.path.join(TOP, "crates.txt"), encoding="utf-8") as it:
-        named = {name: below.split() for name, below in (line.strip().split(":", 1) for line in it if ":" in line)}
+        named = {name.split()[0]: below.split() for name, below in (line.strip().split(":", 1) for line in it if ":" in line)}
     found, left = [], [crate]
     while left:
         name = left.pop()
@@ -95,7 +96,7 @@ def copy_crates(crate, to):
         shutil.copy(os.path.join(TOP, file), to)
     names = crates_below(crate)
     with open(os.path.join(to, "crates.txt"), encoding="utf-8") as it:
-        lines = [line for line in it if line.split(":")[0] in names]
+        lines = [line for line in it if line.split(":")[0].split(" ")[0] in names]
     with open(os.path.join(to, "crates.txt"), "w", encoding="utf-8") as it:
         it.writelines(lines)
     for name in names:
@@ -160,7 +161,9 @@ def judge(body, said):
         return "refused", ", ".join(goals)
     if names:
         return "refused", "by names alone"
-    if re.search("which (is|are) not proved", line) and "did not prove" not in line:
+    if "the borrow checker does not cover" in line:
+        return "UNKNOWN", "it doesn't compile"
+    if re.search("which (is|are) not proved|which has no proof", line) and "did not prove" not in line:
         closure = unproved_closure(body, said)
         return ("refused", closure) if closure else ("again", "")
     return "refused", line.partition(": ")[2]

@@ -654,7 +654,7 @@ shape 64 2 2 2 1 2
 1 store_field 1 0 0
 1 store_root 0 64
 
-# variable 0 names the head of the list; variable 1 is no more needed
+# variable 0 names the head of the list; variable 1 is no longer needed
 1 store_root 1 0
 
 # it publishes its cells with one atomic or into the block's allocation word, and gives the block up
