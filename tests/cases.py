@@ -73,7 +73,8 @@ EXAMPLES = os.path.join(os.path.dirname(os.path.abspath(__file__)), "..", "examp
 
 def example(name, end):
     """A schedule of the documents (`gs`), or what is told of it (`out`)."""
-    with open(os.path.join(EXAMPLES, f"{name}.{end}"), "rb") as file:
+    verdict = "accepted" if os.path.exists(os.path.join(EXAMPLES, "accepted", f"{name}.gs")) else "refused"
+    with open(os.path.join(EXAMPLES, verdict, f"{name}.{end}"), "rb") as file:
         return file.read()
 
 
