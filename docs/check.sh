@@ -103,6 +103,14 @@ put(s|ting)? (it |them |a cell |cells )?off@deferred
 as right as@equivalent to
 so of (it|less|more|nothing)@a sentence that names what holds
 may trace|knows that the world@tracer, has stopped the world
+in front@before, at the start, or leading
+None comes@None is answered
+by the book@correctly
+where memory is there@where there is memory
+mend(s|ed|ing)?@remedy
+(go|goes|went) round@wrap around
+dear@expensive
+(go|goes) by@split by, use, or depend on
 END
 for text in README.md docs/*.md crates/*/README.md; do
     awk '/^ *```/ { inside = !inside } { print inside || /^    [^ -]/ ? "" : $0 }' "$text" | sed 's/`[^`]*`/``/g' >"$folder/prose"

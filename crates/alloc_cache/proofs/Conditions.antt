@@ -3,6 +3,7 @@ use Rattle.std.proofs.Common.{ℕ, ◌≡◌, ◌<◌, ◌≤◌, ◌+◌, arith
 use Rattle.std.specs.Prelude.{IsTrue, IsFalse}
 use Rattle.std.proofs.lemmas.Bool.{true≢false, false≢true, and_from, lt-ltb, le-leb, not_from_false, eq-eqb, eqb-true}
 use Rattle.mark_core.specs.Layout.{words_of, block_count}
+use Rattle.mark_core.specs.Numbers.{free_count}
 use Rattle.mark_core.specs.Places.{the_phase}
 use Rattle.mark_core.specs.Seats.{takes_part, may_mutate, free_in, has_making, has_used, is_unread, is_phase, is_the}
 use Rattle.mark_core.specs.Steps.MutatorSteps.{is_next_part, fits_part}
@@ -46,7 +47,7 @@ module _ (v : View) where
   pub may-release_block : is_some v.state.cache ≡ true → has_used v.state.cache ≡ false → has_making v.state.cache ≡ false → May ReleaseBlock v
   may-release_block has used whole x i st a = (has, (and_from (not (has_used v.state.cache)) (not (has_making v.state.cache)) (not_from_false _ used) (not_from_false _ whole), tt))
 
-  pub may-add_free : (by : ℕ) (down : Bool) → v.state.spent ≡ false → is_some v.state.cache ≡ true → May (AddStat 5 by down) v
+  pub may-add_free : (by : ℕ) (down : Bool) → v.state.spent ≡ false → is_some v.state.cache ≡ true → May (AddStat free_count by down) v
   may-add_free by down live has x i st a = (part-cached x i v st a live has, (refl, tt))
 
   pub may-read_free : is_unread v.state.cache ≡ true → May ReadFree v

@@ -6,6 +6,7 @@ use Rattle.std.proofs.lemmas.Bool.{false≢true, and_from, and_parts, or_left, o
 use Rattle.mark_core.specs.Bits.{all_ones, complement}
 use Rattle.mark_core.specs.Effects.{place, written, seat_after}
 use Rattle.mark_core.specs.Layout.{block_count}
+use Rattle.mark_core.specs.Numbers.{free_count}
 use Rattle.mark_core.specs.Steps.MutatorSteps.{with_free}
 use Rattle.mark_core.specs.Notes.{same_place, steady}
 use Rattle.mark_core.specs.Places.{the_phase}
@@ -188,11 +189,11 @@ block-full b n word v w x y m got full f g r =
 
 -- it has free cells
 pub block-got : (b n word count : ℕ) (h : Cache) (v w x y : View) → MayClaim v → b < block_count v.shape → (n == 0) ≡ true → h.block ≡ b → h.cells ≡ complement word → 0 < h.cells → Found (ClaimBlock b) n v w → Found ReadFree word w x
-    → Found (AddStat 5 (ones h.cells) true) count x y → Claims h v y
+    → Found (AddStat free_count (ones h.cells) true) count x y → Claims h v y
 block-got b n word count h v w x y m there got block cells some f g r =
     let one : Ran v w = ran-found v w (ClaimBlock b) n refl f in
     let two : Ran w x = ran-found w x ReadFree word refl g in
-    let three : Ran x y = ran-found x y (AddStat 5 (ones h.cells) true) count refl r in
+    let three : Ran x y = ran-found x y (AddStat free_count (ones h.cells) true) count refl r in
     let none : n ≡ 0 = eqb-true n 0 got in
     record {
       block = subst (λ k. k < block_count v.shape) (sym block) there;
@@ -204,8 +205,8 @@ block-got b n word count h v w x y m there got block cells some f g r =
         word,
         count,
         ran-events v w y one (ran-join w x y two three)
-            ∙ (λ i. events-after v w (ClaimBlock b) n f.0 i ++ (ran-events w x y two three ∙ (λ j. events-after w x ReadFree word g.0 j ++ events-after x y (AddStat 5 (ones h.cells) true) count r.0 j)) i)
-            ∙ (λ i. entry_of (ClaimBlock (sym block i)) (none i) ∷ entry_of ReadFree word ∷ entry_of (AddStat 5 (ones h.cells) true) count ∷ []),
+            ∙ (λ i. events-after v w (ClaimBlock b) n f.0 i ++ (ran-events w x y two three ∙ (λ j. events-after w x ReadFree word g.0 j ++ events-after x y (AddStat free_count (ones h.cells) true) count r.0 j)) i)
+            ∙ (λ i. entry_of (ClaimBlock (sym block i)) (none i) ∷ entry_of ReadFree word ∷ entry_of (AddStat free_count (ones h.cells) true) count ∷ []),
         cells,
         refl,
       );

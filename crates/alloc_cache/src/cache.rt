@@ -8,6 +8,7 @@ use gc_table::HeapSeat;
 
 /// A block that the seat claimed, and its free cells. It can't be dropped: [`retire`](crate::retire) spends it.
 pub struct Cache {
+    /// The block's number.
     pub(crate) block: u32,
     /// Bit i is cell 64 * block + i.
     pub(crate) cells: u64,

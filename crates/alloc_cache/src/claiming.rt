@@ -8,7 +8,7 @@ ghost use Rattle.gc_table.specs.Running.{Ran};
 
 use crate::cache::Cache;
 use gc_table::{Heap, HeapSeat};
-use mark_core::FREE;
+use mark_core::{BLOCK_CELLS, FREE};
 
 /// Claims block b, unless another seat has it or no cell of it is free. A block that was got and is full is released again.
 fn claim_block(heap: &Heap, seat: &mut HeapSeat, b: u32) -> Option<Cache>
@@ -56,7 +56,7 @@ fn claim_from(heap: &Heap, seat: &mut HeapSeat, first: u32) -> Option<Cache>
     ensures some { IfSome result (λ h. Across (Claims h) seat.old seat.new) }
     ensures none { IfNone result ((state_of seat.new ≡ state_of seat.old) × ((view_of seat.new).own ≡ (view_of seat.old).own) × NoBlock heap.now.shape (did seat.old seat.new) × Across (Only seeks_block) seat.old seat.new) }
 {
-    let blocks = heap.shape().cells / 64;
+    let blocks = heap.shape().cells / BLOCK_CELLS;
     let first = first % blocks;
     match claim_among(heap, seat, first, blocks) {
         Some(cache) => Some(cache),

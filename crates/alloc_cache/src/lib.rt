@@ -23,7 +23,7 @@
 //! The statistic of free cells falls by a block's free cells when it is claimed, and rises by those that are left when it is given up ([`retire`]),
 //! before the block is released. It paces the cycle; no proof rests on it.
 //!
-//! # Where what is
+//! # Where things are
 //!
 //! `cache` has the cache in hand, `claiming` looks for a block, `making` makes a cell in it, and `retiring` publishes and gives the block up. In
 //! `specs/`, `Claiming` says what a search has seen, `Making` what a new cell is, word by word, and `Caching` and `Retiring` what the record and the
@@ -37,5 +37,5 @@ mod retiring;
 
 pub use cache::{Cache, cache_of, leave_with_seat};
 pub use claiming::claim;
-pub use making::{SECTION_SPAN, new_cell};
+pub use making::new_cell;
 pub use retiring::{publish, retire};

@@ -2,6 +2,7 @@
 ghost use Rattle.std.specs.Prelude.{◌≡◌, ◌<◌, ◌%◌, length, Some, IsTrue, IsFalse, IfSome, IfNone};
 ghost use Rattle.std.specs.Int.Count.{ones};
 ghost use Rattle.mark_core.specs.Bits.{without_bit};
+ghost use Rattle.mark_core.specs.Cards.{block_cells};
 ghost use Rattle.mark_core.specs.Seats.{free_in, has_making, may_mutate};
 ghost use Rattle.gc_table.specs.Seats.{Across, Sits, state_of, view_of};
 ghost use Rattle.alloc_cache.specs.Caching.{IsCached};
@@ -10,10 +11,7 @@ ghost use Rattle.gc_table.specs.Running.{Ran};
 
 use crate::cache::Cache;
 use gc_table::{Heap, HeapSeat};
-use mark_core::{Cell, Identity};
-
-/// How many identities a section has: the number of an object is the lower half of its identity, and the section the upper half.
-pub const SECTION_SPAN: u64 = 4_294_967_296;
+use mark_core::{BLOCK_CELLS, Cell, Identity, SECTION_SPAN};
 
 /// The word of an identity.
 fn identity_word(id: Identity) -> u64
@@ -57,7 +55,7 @@ fn fill(heap: &Heap, seat: &mut HeapSeat, cell: Cell, id: Identity, value: u32)
 
 /// The set of cells without cell i of the block.
 fn without_cell(cells: u64, i: u32) -> u64
-    requires { i < 64 }
+    requires { i < block_cells }
     ensures { result ≡ without_bit cells i }
 {
     cells & !(1 << i)
@@ -65,9 +63,9 @@ fn without_cell(cells: u64, i: u32) -> u64
 
 /// Makes an unpublished cell with this identity and value and nil references.
 ///
-/// The seat has its section's turn. `id` is that section, with the number of cells that the seat has made, which is below what the shape lets a section make; each of these has
-/// its object, so a cell is stored in a variable before the next one is made. None comes exactly where no cell of the cache is free, and nothing
-/// changes then.
+/// The seat has its section's turn. `id` is that section, with the number of cells that the seat has made, which is below what the shape lets a section make;
+/// each of these has its object, so a cell is stored in a variable before the next one is made. None comes exactly where no cell of the cache is free, and
+/// nothing changes then.
 pub fn new_cell(
     heap: &Heap,
     seat: &mut HeapSeat,
@@ -83,14 +81,14 @@ pub fn new_cell(
     ensures seat { Sits heap.now seat.new }
     ensures ran { Across Ran seat.old seat.new }
     ensures cache { IsCached cache.new (view_of seat.new) }
-    ensures made { IfSome result (λ cell. (cell < heap.now.shape.cells) × IsTrue (free_in (state_of seat.old).cache cell) × (cache.new ≡ record cache.old { cells = without_bit cache.old.cells (cell % 64) }) × Across (Makes cell value id) seat.old seat.new) }
+    ensures made { IfSome result (λ cell. (cell < heap.now.shape.cells) × IsTrue (free_in (state_of seat.old).cache cell) × (cache.new ≡ record cache.old { cells = without_bit cache.old.cells (cell % block_cells) }) × Across (Makes cell value id) seat.old seat.new) }
     ensures none { IfNone result ((ones cache.old.cells ≡ 0) × (cache.new ≡ cache.old) × (view_of seat.new ≡ view_of seat.old)) }
 {
     if cache.cells == 0 {
         return None;
     }
     let i = cache.cells.trailing_zeros();
-    let cell = Cell::make(64 * cache.block + i);
+    let cell = Cell::make(BLOCK_CELLS * cache.block + i);
     fill(heap, seat, cell, id, value);
     cache.cells = without_cell(cache.cells, i);
     Some(cell)

@@ -1,42 +1,18 @@
 //! All cells are filled with objects of four references each.
-ghost use Rattle.std.specs.Prelude.{◌<◌, IfSome, IfNone};
-ghost use Rattle.bench_cycle.specs.Standing.{Carries, Fills};
+ghost use Rattle.std.specs.Prelude.{◌<◌};
+ghost use Rattle.test_heaps.specs.Seats.{HasEachObject, IsReadyWithCache};
 
-use crate::checks::is_ready;
-use alloc_cache::{Cache, claim, retire};
+use alloc_cache::{Cache, retire};
 use gc_table::{Heap, HeapSeat};
-use mutator_ops::{clear, create, set};
-
-/// Takes a block to make objects in.
-fn take(heap: &Heap, seat: &mut HeapSeat) -> Option<Cache>
-    requires { Carries heap.now seat.old }
-    ensures some { IfSome result (λ cache. Fills heap.now seat.new cache) }
-    ensures none { IfNone result (Carries heap.now seat.new) }
-{
-    if !seat.state().active {
-        return None;
-    }
-    heap.read_season(seat);
-    if !is_ready(heap, seat) || seat.state().cache.is_some() {
-        return None;
-    }
-    claim(heap, seat)
-}
-
-/// Makes an object in variable v: whether the block had a free cell.
-fn make(heap: &Heap, seat: &mut HeapSeat, cache: &mut Cache, v: u8, n: u32) -> bool
-    requires range { v < 32 }
-    requires fills { Fills heap.now seat.old cache.old }
-    ensures { Fills heap.now seat.new cache.new }
-{
-    seat.state().made < heap.shape().objects && create(heap, seat, cache, v, n).is_some()
-}
+use mark_core::BLOCK_CELLS;
+use mutator_ops::{clear, set};
+use test_heaps::{is_ready, make, take};
 
 /// Stores variable w in field i of variable v's object.
 fn link(heap: &Heap, seat: &mut HeapSeat, cache: &Cache, v: u8, i: u8, w: u8)
     requires range { (v < 32) × (w < 32) }
-    requires fills { Fills heap.now seat.old cache.now }
-    ensures { Fills heap.now seat.new cache.now }
+    requires fills { IsReadyWithCache heap.now seat.old cache.now }
+    ensures { IsReadyWithCache heap.now seat.new cache.now }
 {
     if u32::from(i) < heap.shape().fields {
         set(heap, seat, v, i, w);
@@ -45,8 +21,8 @@ fn link(heap: &Heap, seat: &mut HeapSeat, cache: &Cache, v: u8, i: u8, w: u8)
 
 /// Makes an object in one of the variables 0 to 4, with references to the objects of the four others.
 fn knot(heap: &Heap, seat: &mut HeapSeat, cache: &mut Cache, n: u32) -> bool
-    requires { Fills heap.now seat.old cache.old }
-    ensures { Fills heap.now seat.new cache.new }
+    requires { IsReadyWithCache heap.now seat.old cache.old }
+    ensures { IsReadyWithCache heap.now seat.new cache.new }
 {
     let v = (n % 5) as u8;
     let made = make(heap, seat, cache, v, n);
@@ -59,11 +35,11 @@ fn knot(heap: &Heap, seat: &mut HeapSeat, cache: &mut Cache, n: u32) -> bool
 
 /// Fills a block, whose first object has number `first`: whether all its cells were free.
 fn fill(heap: &Heap, seat: &mut HeapSeat, cache: &mut Cache, first: u32) -> bool
-    requires { Fills heap.now seat.old cache.old }
-    ensures { Fills heap.now seat.new cache.new }
+    requires { IsReadyWithCache heap.now seat.old cache.old }
+    ensures { IsReadyWithCache heap.now seat.new cache.new }
 {
     let mut filled = true;
-    for i in 0..64 {
+    for i in 0..BLOCK_CELLS {
         filled = knot(heap, seat, cache, first.wrapping_add(i)) && filled;
     }
     filled
@@ -71,8 +47,8 @@ fn fill(heap: &Heap, seat: &mut HeapSeat, cache: &mut Cache, first: u32) -> bool
 
 /// Takes a block and fills it.
 fn fill_block(heap: &Heap, seat: &mut HeapSeat, first: u32) -> bool
-    requires { Carries heap.now seat.old }
-    ensures { Carries heap.now seat.new }
+    requires { HasEachObject heap.now seat.old }
+    ensures { HasEachObject heap.now seat.new }
 {
     let Some(mut cache) = take(heap, seat) else {
         return false;
@@ -84,21 +60,21 @@ fn fill_block(heap: &Heap, seat: &mut HeapSeat, first: u32) -> bool
 
 /// Fills all blocks: whether all cells were free. Each object is reached.
 pub fn fill_all(heap: &Heap, seat: &mut HeapSeat) -> bool
-    requires { Carries heap.now seat.old }
-    ensures { Carries heap.now seat.new }
+    requires { HasEachObject heap.now seat.old }
+    ensures { HasEachObject heap.now seat.new }
 {
-    for b in 0..heap.shape().cells / 64 {
-        if !fill_block(heap, seat, b * 64) {
+    for b in 0..heap.shape().cells / BLOCK_CELLS {
+        if !fill_block(heap, seat, b * BLOCK_CELLS) {
             return false;
         }
     }
     true
 }
 
-/// Makes the variables nil that [`fill_all`] stored in, so that no object is reached.
+/// Makes the variables nil that [`fill_all`] stored in, so that no object is reached. False where the seat is no mutator between two commands.
 pub fn forget_all(heap: &Heap, seat: &mut HeapSeat) -> bool
-    requires { Carries heap.now seat.old }
-    ensures { Carries heap.now seat.new }
+    requires { HasEachObject heap.now seat.old }
+    ensures { HasEachObject heap.now seat.new }
 {
     if !is_ready(heap, seat) {
         return false;

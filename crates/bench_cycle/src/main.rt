@@ -5,7 +5,7 @@
 //!
 //! - `words`: what the words of the command line ask for.
 //! - `checks`: what a seat's record says, by which it is known that a call may be made.
-//! - `opening`: a heap with one seat, which enters as the catalogue's mutator; the heap is closed.
+//! - `opening`: the seat of a new heap enters as the catalogue's mutator.
 //! - `filling`: all cells are filled with objects of four references each.
 //! - `stops`: collections, and how long the fastest took.
 #![tactic(auto)]
@@ -16,27 +16,14 @@ mod opening;
 mod stops;
 mod words;
 
+use std::io;
 use std::rt::Runtime;
 use std::sync::Wait;
-use std::{env, io};
+use test_heaps::command_words;
 use words::{Asked, Content, Size, asked_by};
 
 /// How many collections there are of each kind where no words are given.
 const FEW: u64 = 2;
-
-/// The words of the command line, without the program's own name.
-fn command_words<R: std::rt::Env + AllocGlobal>(rt: &R) -> io::Result<Vec<String>> {
-    let mut words = Vec::new(rt.alloc());
-    let mut is_name = true;
-    for word in env::args(rt)? {
-        if is_name {
-            is_name = false;
-        } else {
-            words.push(word)?;
-        }
-    }
-    Ok(words)
-}
 
 /// Writes the nanoseconds of the fastest of so many collections.
 fn report<R: Runtime + AllocGlobal + Wait>(rt: &R, asked: Asked) -> io::Result<()> {

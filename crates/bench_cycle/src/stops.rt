@@ -1,9 +1,9 @@
 //! Collections, and how long the fastest took.
-ghost use Rattle.bench_cycle.specs.Standing.{Carries};
+ghost use Rattle.test_heaps.specs.Seats.{HasEachObject};
 
 use crate::checks::may_call;
 use crate::filling::{fill_all, forget_all};
-use crate::opening::{begin, close, end, open};
+use crate::opening::begin;
 use crate::words::{Asked, Content};
 use alloc_cache::retire;
 use gc_cycle::{Safe, collect};
@@ -13,12 +13,13 @@ use std::alloc::Global;
 use std::rt::Clock;
 use std::sync::Wait;
 use std::time::Instant;
+use test_heaps::{leaves, open_one, try_close};
 
 /// A collection of a mutator without a cache: true where it goes on.
 #[inline(never)]
 fn collects<R: Wait>(rt: &R, heap: &Heap, seat: &mut HeapSeat) -> bool
-    requires { Carries heap.now seat.old }
-    ensures { Carries heap.now seat.new }
+    requires { HasEachObject heap.now seat.old }
+    ensures { HasEachObject heap.now seat.new }
 {
     if !may_call(heap, seat) || seat.state().cache.is_some() {
         return false;
@@ -35,8 +36,8 @@ fn collects<R: Wait>(rt: &R, heap: &Heap, seat: &mut HeapSeat) -> bool
 
 /// The nanoseconds of a collection.
 fn timed<R: Wait + Clock>(rt: &R, heap: &Heap, seat: &mut HeapSeat) -> Option<u64>
-    requires { Carries heap.now seat.old }
-    ensures { Carries heap.now seat.new }
+    requires { HasEachObject heap.now seat.old }
+    ensures { HasEachObject heap.now seat.new }
 {
     let Ok(start) = Instant::now(rt) else {
         return None;
@@ -52,8 +53,8 @@ fn timed<R: Wait + Clock>(rt: &R, heap: &Heap, seat: &mut HeapSeat) -> Option<u6
 
 /// Makes the heap full of objects that aren't reached, where that is asked: whether it is as asked.
 fn prepares(heap: &Heap, seat: &mut HeapSeat, content: Content) -> bool
-    requires { Carries heap.now seat.old }
-    ensures { Carries heap.now seat.new }
+    requires { HasEachObject heap.now seat.old }
+    ensures { HasEachObject heap.now seat.new }
 {
     match content {
         Content::Dead => fill_all(heap, seat) && forget_all(heap, seat),
@@ -69,8 +70,8 @@ fn collects_on<R: Wait + Clock>(
     content: Content,
     rounds: u64,
 ) -> Option<u64>
-    requires { Carries heap.now seat.old }
-    ensures { Carries heap.now seat.new }
+    requires { HasEachObject heap.now seat.old }
+    ensures { HasEachObject heap.now seat.new }
 {
     let mut least = u64::MAX;
     for _round in 0..rounds {
@@ -83,9 +84,9 @@ fn collects_on<R: Wait + Clock>(
 }
 
 /// Whether as many cells are free after the last collection as there should be.
-fn leaves(heap: &Heap, seat: &mut HeapSeat, content: Content) -> bool
-    requires { Carries heap.now seat.old }
-    ensures { Carries heap.now seat.new }
+fn has_freed(heap: &Heap, seat: &mut HeapSeat, content: Content) -> bool
+    requires { HasEachObject heap.now seat.old }
+    ensures { HasEachObject heap.now seat.new }
 {
     let free = heap.read_stat(seat, FREE);
     match content {
@@ -96,8 +97,8 @@ fn leaves(heap: &Heap, seat: &mut HeapSeat, content: Content) -> bool
 
 /// The nanoseconds of the fastest of the collections that are asked for, of a seat that has just entered.
 fn works<R: Wait + Clock>(rt: &R, heap: &Heap, seat: &mut HeapSeat, asked: Asked) -> Option<u64>
-    requires { Carries heap.now seat.old }
-    ensures { Carries heap.now seat.new }
+    requires { HasEachObject heap.now seat.old }
+    ensures { HasEachObject heap.now seat.new }
 {
     if let Content::Live = asked.content {
         if !fill_all(heap, seat) {
@@ -105,7 +106,7 @@ fn works<R: Wait + Clock>(rt: &R, heap: &Heap, seat: &mut HeapSeat, asked: Asked
         }
     }
     let took = collects_on(rt, heap, seat, asked.content, asked.rounds)?;
-    if leaves(heap, seat, asked.content) {
+    if has_freed(heap, seat, asked.content) {
         Some(took)
     } else {
         None
@@ -114,12 +115,12 @@ fn works<R: Wait + Clock>(rt: &R, heap: &Heap, seat: &mut HeapSeat, asked: Asked
 
 /// The nanoseconds of the fastest of so many collections in a new heap. None where one didn't come to its end as it should.
 pub fn run<R: Wait + Clock>(rt: &R, alloc: Global, asked: Asked) -> Option<u64> {
-    let (heap, mut seat) = open(alloc, asked.size.shape())?;
+    let (heap, mut seat) = open_one(alloc, asked.size.shape())?;
     if !begin(&heap, &mut seat) {
         return None;
     }
     let took = works(rt, &heap, &mut seat, asked)?;
-    if end(&heap, &mut seat) && close(alloc, heap, seat) {
+    if leaves(&heap, &mut seat) && try_close(alloc, heap, seat) {
         Some(took)
     } else {
         None

@@ -1,7 +1,8 @@
 //! What the words of the command line ask for.
 ghost use Rattle.mark_core.specs.Shapes.{IsShape};
 
-use mark_core::Shape;
+use mark_core::{BLOCK_CELLS, Shape};
+use test_heaps::rounds_of;
 
 /// What a heap holds when the world is stopped.
 #[derive(Clone, Copy, Drop)]
@@ -28,7 +29,7 @@ impl Content {
 /// How large a heap is.
 #[derive(Clone, Copy, Drop)]
 pub enum Size {
-    /// 64 cells.
+    /// 64 cells: one block.
     Small,
     /// 65,536 cells.
     Large,
@@ -40,7 +41,7 @@ impl Size {
         ensures { IsShape result }
     {
         match *self {
-            Size::Small => shape_of(64),
+            Size::Small => shape_of(BLOCK_CELLS),
             Size::Large => shape_of(65_536),
         }
     }
@@ -93,12 +94,9 @@ pub fn asked_by(words: &[String]) -> Option<Asked> {
     };
     let content = content_named(content.as_str())?;
     let size = size_named(size.as_str())?;
-    match rounds.as_str().parse::<u64>() {
-        Ok(rounds) => Some(Asked {
-            content,
-            size,
-            rounds,
-        }),
-        Err(_) => None,
-    }
+    Some(Asked {
+        content,
+        size,
+        rounds: rounds_of(rounds)?,
+    })
 }

@@ -1,5 +1,5 @@
 //! A block is taken to make cells in, and given back.
-ghost use Rattle.std.specs.Prelude.{◌≡◌, ◌<◌, ◌≤◌, ◌+◌, IfSome};
+ghost use Rattle.std.specs.Prelude.{◌<◌, ◌+◌, IfSome};
 ghost use Rattle.gc_table.specs.Seats.{Sits};
 ghost use Rattle.bench_operations.specs.Standing.{Filling, Waiting};
 
@@ -7,7 +7,7 @@ use alloc_cache::{Cache, claim, publish, retire};
 use gc_table::{Heap, HeapSeat};
 use mutator_ops::create;
 
-/// Takes a block.
+/// Takes a block. None where each block was seen claimed or full.
 pub fn take(heap: &Heap, seat: &mut HeapSeat, n: u32) -> Option<Cache>
     requires { Waiting heap.now n seat.old }
     ensures seat { Sits heap.now seat.new }

@@ -2,11 +2,11 @@
 ghost use Rattle.gc_table.specs.Seats.{Sits};
 ghost use Rattle.bench_operations.specs.Standing.{Tracing, Waiting};
 
-use crate::checks::is_idle;
-use crate::opening::{begin, close, leave, open};
+use crate::opening::{begin, open};
 use card_clean::clean_dirty;
 use gc_table::{Heap, HeapSeat};
 use std::alloc::Global;
+use test_heaps::{leaves, marks_as_mutator, try_close};
 
 /// So many passes, one after another: whether each found all cards clean.
 #[inline(never)]
@@ -27,19 +27,19 @@ fn look(heap: &Heap, seat: &mut HeapSeat, rounds: u64) -> bool
     requires { Waiting heap.now 0 seat.old }
     ensures { Sits heap.now seat.new }
 {
-    if !is_idle(heap, seat) {
+    if !marks_as_mutator(heap, seat) {
         return false;
     }
     passes(heap, seat, rounds)
 }
 
-/// Passes over the cards of a new heap.
+/// Passes over the cards of a new heap. False where there is no memory, or where a step that was to come could not be taken.
 pub fn run(alloc: Global, rounds: u64) -> bool {
     let Some((heap, mut seat)) = open(alloc) else {
         return false;
     };
     begin(&heap, &mut seat)
         && look(&heap, &mut seat, rounds)
-        && leave(&heap, &mut seat)
-        && close(alloc, heap, seat)
+        && leaves(&heap, &mut seat)
+        && try_close(alloc, heap, seat)
 }

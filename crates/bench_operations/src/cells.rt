@@ -1,38 +1,41 @@
 //! Cells are made in all blocks, one block after another.
-ghost use Rattle.std.specs.Prelude.{◌≡◌, ◌<◌, ◌≤◌, ◌+◌, ◌*◌};
+ghost use Rattle.std.specs.Prelude.{◌<◌, ◌+◌, ◌*◌};
 ghost use Rattle.std.specs.Bool.{OnTrue};
+ghost use Rattle.mark_core.specs.Cards.{block_cells};
 ghost use Rattle.gc_table.specs.Seats.{Sits};
-ghost use Rattle.bench_operations.specs.Standing.{Filling, Waiting};
+ghost use Rattle.bench_operations.specs.Standing.{Filling, Waiting, sizes};
 
 use crate::blocks::{give_up, make, take};
-use crate::opening::{begin, close, leave, open};
+use crate::opening::{BLOCKS, CELLS, begin, open};
 use alloc_cache::Cache;
 use gc_table::{Heap, HeapSeat};
+use mark_core::BLOCK_CELLS;
 use std::alloc::Global;
+use test_heaps::{leaves, try_close};
 
 /// Makes as many cells as a block has, each in variable 0.
 fn fill(heap: &Heap, seat: &mut HeapSeat, cache: &mut Cache, first: u32)
-    requires few { first < 4096 }
+    requires few { first < sizes.cells }
     requires filling { Filling heap.now first cache.old seat.old }
-    ensures { Filling heap.now (first + 64) cache.new seat.new }
+    ensures { Filling heap.now (first + block_cells) cache.new seat.new }
 {
-    for i in 0..64 {
+    for i in 0..BLOCK_CELLS {
         make(heap, seat, cache, 0, first + i);
     }
 }
 
 /// Takes a block, fills it and gives it up: false where none was to be had.
 fn fill_block(heap: &Heap, seat: &mut HeapSeat, first: u32) -> bool
-    requires few { first < 4096 }
+    requires few { first < sizes.cells }
     requires waits { Waiting heap.now first seat.old }
     ensures seat { Sits heap.now seat.new }
-    ensures waits { OnTrue result (Waiting heap.now (first + 64) seat.new) }
+    ensures waits { OnTrue result (Waiting heap.now (first + block_cells) seat.new) }
 {
     let Some(mut cache) = take(heap, seat, first) else {
         return false;
     };
     fill(heap, seat, &mut cache, first);
-    give_up(heap, seat, cache, first + 64);
+    give_up(heap, seat, cache, first + BLOCK_CELLS);
     true
 }
 
@@ -42,8 +45,8 @@ fn fill_all(heap: &Heap, seat: &mut HeapSeat) -> bool
     requires { Waiting heap.now 0 seat.old }
     ensures { Sits heap.now seat.new }
 {
-    for b in 0..64 {
-        if !fill_block(heap, seat, b * 64) {
+    for b in 0..BLOCKS {
+        if !fill_block(heap, seat, b * BLOCK_CELLS) {
             return false;
         }
     }
@@ -59,10 +62,10 @@ fn one(alloc: Global) -> bool {
         return false;
     }
     let made = seat.state().made;
-    leave(&heap, &mut seat) && close(alloc, heap, seat) && made == 4096
+    leaves(&heap, &mut seat) && try_close(alloc, heap, seat) && made == CELLS
 }
 
-/// Heaps that are filled.
+/// Heaps that are filled. False where there is no memory, or where a step that was to come could not be taken.
 pub fn run(alloc: Global, rounds: u64) -> bool {
     for _round in 0..rounds {
         if !one(alloc) {

@@ -3,8 +3,7 @@
 //! Each loop works on a heap of 64 blocks of 64 cells with objects of four fields, by the calls that a runtime makes.
 //!
 //! - `words`: what the words of the command line ask for.
-//! - `checks`: what a seat's record says, by which a loop knows that it may go on.
-//! - `opening`: a heap with one seat, which is made and closed.
+//! - `opening`: a heap with one seat, which enters and begins to mark.
 //! - `blocks`, `cells`: objects are made, in blocks that are taken and given up.
 //! - `stores`: references are stored in objects that are published, and in objects that aren't.
 //! - `tracing`: objects with four references each are traced.
@@ -15,57 +14,41 @@
 mod blocks;
 mod cards;
 mod cells;
-mod checks;
 mod opening;
 mod stores;
 mod sweeping;
 mod tracing;
 mod words;
 
-use std::alloc::Global;
-use std::{env, io};
+use opening::SIZES;
+use std::io;
+use std::rt::Runtime;
+use std::sync::Wait;
+use test_heaps::{command_words, opens, report};
 use words::{Asked, Work, asked_by};
 
-/// The words of the command line, without the program's own name.
-fn command_words<R: std::rt::Env + AllocGlobal>(rt: &R) -> io::Result<Vec<String>> {
-    let mut words = Vec::new(rt.alloc());
-    let mut is_name = true;
-    for word in env::args(rt)? {
-        if is_name {
-            is_name = false;
-        } else {
-            words.push(word)?;
-        }
-    }
-    Ok(words)
-}
-
 /// Whether so many rounds were done.
-fn is_done(alloc: Global, work: Work, rounds: u64) -> bool {
+fn is_done<R: Wait + AllocGlobal>(rt: &R, work: Work, rounds: u64) -> bool {
+    let alloc = rt.alloc();
     match work {
-        Work::Open => opening::run(alloc, rounds),
+        Work::Open => opens(alloc, SIZES, rounds),
         Work::Make => cells::run(alloc, rounds),
         Work::Publish => stores::run(alloc, rounds, true),
         Work::Hide => stores::run(alloc, rounds, false),
         Work::Mesh => tracing::run(alloc, rounds, false),
         Work::Trace => tracing::run(alloc, rounds, true),
         Work::Look => cards::run(alloc, rounds),
-        Work::Drain => sweeping::run(alloc, rounds, false),
-        Work::Sweep => sweeping::run(alloc, rounds, true),
+        Work::Drain => sweeping::run(rt, alloc, rounds, false),
+        Work::Sweep => sweeping::run(rt, alloc, rounds, true),
     }
 }
 
-fn report(rt: &HostRuntime, asked: Asked) -> io::Result<()> {
-    let name = asked.work.name();
-    let rounds = asked.rounds;
-    if is_done(rt.alloc(), asked.work, rounds) {
-        println!(rt; "{name} {rounds}")
-    } else {
-        println!(rt; "{name} failed")
-    }
+fn does<R: Runtime + AllocGlobal + Wait>(rt: &R, asked: Asked) -> io::Result<()> {
+    let Asked { work, rounds } = asked;
+    report(rt, work.name(), rounds, is_done(rt, work, rounds))
 }
 
-fn report_all(rt: &HostRuntime) -> io::Result<()> {
+fn do_all<R: Runtime + AllocGlobal + Wait>(rt: &R) -> io::Result<()> {
     for work in [
         Work::Open,
         Work::Make,
@@ -77,7 +60,7 @@ fn report_all(rt: &HostRuntime) -> io::Result<()> {
         Work::Drain,
         Work::Sweep,
     ] {
-        report(rt, Asked { work, rounds: 2 })?;
+        does(rt, Asked { work, rounds: 2 })?;
     }
     Ok(())
 }
@@ -85,10 +68,10 @@ fn report_all(rt: &HostRuntime) -> io::Result<()> {
 fn main(rt: HostRuntime) -> io::Result<()> {
     let words = command_words(&rt)?;
     if words.is_empty() {
-        return report_all(&rt);
+        return do_all(&rt);
     }
     match asked_by(words.as_slice()) {
-        Some(asked) => report(&rt, asked),
+        Some(asked) => does(&rt, asked),
         None => println!(rt;
             "usage: bench_operations [open | make | publish | hide | mesh | trace | look | drain | sweep ROUNDS]"
         ),

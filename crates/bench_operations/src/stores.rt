@@ -1,15 +1,15 @@
 //! References are stored in objects, which are published or not.
-ghost use Rattle.std.specs.Prelude.{◌≡◌, ◌<◌, ◌≤◌, ◌+◌};
-ghost use Rattle.std.specs.Bool.{OnTrue};
+ghost use Rattle.std.specs.Prelude.{◌<◌};
 ghost use Rattle.gc_table.specs.Seats.{Sits};
 ghost use Rattle.bench_operations.specs.Standing.{Filling, Waiting};
 
 use crate::blocks::{give_up, make, show, take};
-use crate::opening::{begin, close, leave, open};
+use crate::opening::{begin, open};
 use alloc_cache::Cache;
 use gc_table::{Heap, HeapSeat};
 use mutator_ops::set;
 use std::alloc::Global;
+use test_heaps::{leaves, try_close};
 
 /// Stores variable w in field i of variable v's object.
 pub fn link(heap: &Heap, seat: &mut HeapSeat, cache: &Cache, v: u8, i: u8, w: u8, n: u32)
@@ -75,13 +75,13 @@ fn store(heap: &Heap, seat: &mut HeapSeat, rounds: u64, published: bool) -> bool
     true
 }
 
-/// Stores in the objects of a new heap.
+/// Stores in the objects of a new heap. False where there is no memory, or where a step that was to come could not be taken.
 pub fn run(alloc: Global, rounds: u64, published: bool) -> bool {
     let Some((heap, mut seat)) = open(alloc) else {
         return false;
     };
     begin(&heap, &mut seat)
         && store(&heap, &mut seat, rounds, published)
-        && leave(&heap, &mut seat)
-        && close(alloc, heap, seat)
+        && leaves(&heap, &mut seat)
+        && try_close(alloc, heap, seat)
 }

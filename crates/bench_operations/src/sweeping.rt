@@ -1,57 +1,44 @@
 //! The world is stopped, nothing is left to trace, and all blocks are swept, again and again.
-ghost use Rattle.std.specs.Prelude.{◌≡◌, None, IsTrue};
+ghost use Rattle.std.specs.Prelude.{◌≡◌, None};
 ghost use Rattle.std.specs.Bool.{OnTrue};
-ghost use Rattle.mark_core.specs.declared.kinds.Phase.TheVariants.{Drain, Idle, Sweep};
+ghost use Rattle.mark_core.specs.declared.kinds.Phase.TheVariants.{Idle};
 ghost use Rattle.gc_table.specs.Running.{Alone};
 ghost use Rattle.gc_table.specs.Seats.{Sits, state_of, view_of};
+ghost use Rattle.gc_table.specs.SeatRecords.{resting};
 ghost use Rattle.card_clean.specs.Drained.{IsBeforeSweep, IsDrained};
+ghost use Rattle.bench_operations.specs.Standing.{Blank, StandsAlone};
 
-use crate::checks::{is_bare, stands_alone};
-use crate::opening::{close, leave, open};
-use card_clean::{is_drained, see_to_roots};
+use crate::opening::open;
 use gc_table::{Heap, HeapSeat};
-use mark_core::Phase;
 use std::alloc::Global;
-use stop_world::{poll, raise, resume};
+use std::sync::Wait;
+use stop_world::resume;
 use sweeper::{end_sweep, sweep_rest};
+use test_heaps::{
+    are_bare, begins_sweep, drained, drains, leaves, raises_own, resets, stops_idle, try_close,
+    work_in_hand,
+};
 
-/// Whether no cycle is under way.
-fn finds_idle(heap: &Heap, seat: &mut HeapSeat) -> bool
-    requires seat { Sits heap.now seat.old }
-    requires alone { IsTrue (state_of seat.old).knows × IsTrue (state_of seat.old).alone }
-    ensures seat { Sits heap.now seat.new }
-    ensures alone { OnTrue result (Alone Idle (view_of seat.new)) }
+/// Whether the seat stopped the world, is alone in it, and is between two calls.
+fn stands_alone(heap: &Heap, seat: &HeapSeat) -> bool
+    requires { Sits heap.now seat.now }
+    ensures { OnTrue result (StandsAlone (view_of seat.now)) }
 {
-    match heap.read_phase(seat) {
-        Phase::Idle => true,
-        _ => false,
-    }
+    let s = seat.state();
+    s.knows
+        && s.alone
+        && (!s.reserved && !s.credit)
+        && are_bare(s.held)
+        && !work_in_hand(heap.shape().fields, seat)
+        && s.block.is_none()
 }
 
-/// Stops the world: true where the seat was outside, and no cycle is under way.
-fn stop(heap: &Heap, seat: &mut HeapSeat) -> bool
-    requires { Sits heap.now seat.old }
-    ensures seat { Sits heap.now seat.new }
-    ensures alone { OnTrue result (Alone Idle (view_of seat.new)) }
+/// Stops the world: true where no cycle is under way.
+fn stops<R: Wait>(rt: &R, heap: &Heap, seat: &mut HeapSeat) -> bool
+    requires { Blank heap.now resting seat.old }
+    ensures { OnTrue result (Sits heap.now seat.new × Alone Idle (view_of seat.new)) }
 {
-    if !is_bare(seat) {
-        return false;
-    }
-    raise(heap, seat);
-    poll(heap, seat);
-    if !stands_alone(heap, seat) {
-        return false;
-    }
-    finds_idle(heap, seat)
-}
-
-fn begin_drain(heap: &Heap, seat: &mut HeapSeat)
-    requires seat { Sits heap.now seat.old }
-    requires alone { Alone Idle (view_of seat.old) }
-    ensures seat { Sits heap.now seat.new }
-    ensures alone { Alone Drain (view_of seat.new) }
-{
-    heap.store_phase(seat, Phase::Drain);
+    raises_own(heap, seat, 0) && stops_idle(rt, heap, seat, 0)
 }
 
 /// Begins a drain, and sets the counter of blocks to its start.
@@ -61,8 +48,8 @@ fn prepare(heap: &Heap, seat: &mut HeapSeat)
     ensures seat { Sits heap.now seat.new }
     ensures ready { IsBeforeSweep (view_of seat.new) }
 {
-    begin_drain(heap, seat);
-    heap.reset(seat, 1);
+    drains(heap, seat);
+    resets(heap, seat);
 }
 
 /// Sees to all roots, and looks at all cards and at the count of empty packets: whether nothing is left to trace.
@@ -74,23 +61,10 @@ fn settle(heap: &Heap, seat: &mut HeapSeat) -> bool
     ensures ready { OnTrue result (IsBeforeSweep (view_of seat.new)) }
     ensures drained { OnTrue result (IsDrained (view_of seat.new)) }
 {
-    if !stands_alone(heap, seat) {
+    if !drained(heap, seat) {
         return false;
     }
-    if !see_to_roots(heap, seat) {
-        return false;
-    }
-    is_drained(heap, seat)
-}
-
-fn begin_sweep(heap: &Heap, seat: &mut HeapSeat)
-    requires seat { Sits heap.now seat.old }
-    requires drained { IsDrained (view_of seat.old) }
-    requires block { (state_of seat.old).block ≡ None }
-    ensures seat { Sits heap.now seat.new }
-    ensures alone { Alone Sweep (view_of seat.new) × ((state_of seat.new).block ≡ None) }
-{
-    heap.store_phase(seat, Phase::Sweep);
+    true
 }
 
 /// Sweeps all blocks, and ends the cycle.
@@ -102,7 +76,7 @@ fn sweep_all(heap: &Heap, seat: &mut HeapSeat)
     ensures seat { Sits heap.now seat.new }
     ensures alone { Alone Idle (view_of seat.new) }
 {
-    begin_sweep(heap, seat);
+    begins_sweep(heap, seat);
     sweep_rest(heap, seat);
     end_sweep(heap, seat);
 }
@@ -138,7 +112,7 @@ fn sweeps(heap: &Heap, seat: &mut HeapSeat, rounds: u64) -> bool
 }
 
 /// One cycle that looks so often whether anything is left to trace: whether it came to its end.
-fn drains(heap: &Heap, seat: &mut HeapSeat, rounds: u64) -> bool
+fn settles(heap: &Heap, seat: &mut HeapSeat, rounds: u64) -> bool
     requires seat { Sits heap.now seat.old }
     requires alone { Alone Idle (view_of seat.old) }
     ensures seat { Sits heap.now seat.new }
@@ -163,29 +137,29 @@ fn finish(heap: &Heap, seat: &mut HeapSeat) -> bool
         return false;
     }
     resume(heap, seat);
-    leave(heap, seat)
+    leaves(heap, seat)
 }
 
 /// So many cycles in a stopped new heap, or one that looks so often whether it is at its end.
-fn cycles(heap: &Heap, seat: &mut HeapSeat, rounds: u64, swept: bool) -> bool
-    requires { Sits heap.now seat.old }
-    ensures { Sits heap.now seat.new }
+fn cycles<R: Wait>(rt: &R, heap: &Heap, seat: &mut HeapSeat, rounds: u64, swept: bool) -> bool
+    requires { Blank heap.now resting seat.old }
+    ensures { OnTrue result (Sits heap.now seat.new) }
 {
-    if !stop(heap, seat) {
+    if !stops(rt, heap, seat) {
         return false;
     }
     let ended = if swept {
         sweeps(heap, seat, rounds)
     } else {
-        drains(heap, seat, rounds)
+        settles(heap, seat, rounds)
     };
     if ended { finish(heap, seat) } else { false }
 }
 
-/// Cycles in a new heap, with a sweep each or with one in all.
-pub fn run(alloc: Global, rounds: u64, swept: bool) -> bool {
+/// Cycles in a new heap, with a sweep each or with one in all. False where there is no memory, or where a step that was to come could not be taken.
+pub fn run<R: Wait>(rt: &R, alloc: Global, rounds: u64, swept: bool) -> bool {
     let Some((heap, mut seat)) = open(alloc) else {
         return false;
     };
-    cycles(&heap, &mut seat, rounds, swept) && close(alloc, heap, seat)
+    cycles(rt, &heap, &mut seat, rounds, swept) && try_close(alloc, heap, seat)
 }

@@ -1,16 +1,18 @@
 //! Objects are made in all blocks, each with references to four that were made before it, and traced from the variables.
-ghost use Rattle.std.specs.Prelude.{◌≡◌, ◌<◌, ◌≤◌, ◌+◌, ◌*◌};
+ghost use Rattle.std.specs.Prelude.{◌<◌, ◌+◌, ◌*◌};
 ghost use Rattle.std.specs.Bool.{OnTrue};
+ghost use Rattle.mark_core.specs.Cards.{block_cells};
 ghost use Rattle.gc_table.specs.Seats.{Sits};
-ghost use Rattle.bench_operations.specs.Standing.{Filling, Waiting};
+ghost use Rattle.bench_operations.specs.Standing.{Filling, Waiting, sizes};
 
 use crate::blocks::{give_up, make, take};
-use crate::checks::is_idle;
-use crate::opening::{begin, close, leave, open};
+use crate::opening::{BLOCKS, CELLS, begin, open};
 use crate::stores::link;
 use alloc_cache::Cache;
 use gc_table::{Heap, HeapSeat};
+use mark_core::BLOCK_CELLS;
 use std::alloc::Global;
+use test_heaps::{leaves, marks_as_mutator, try_close};
 use tracer::{scan_roots, trace};
 
 /// Makes an object in one of the variables 0 to 4, with references to the objects of the four others.
@@ -28,26 +30,26 @@ fn knot(heap: &Heap, seat: &mut HeapSeat, cache: &mut Cache, n: u32)
 }
 
 fn fill(heap: &Heap, seat: &mut HeapSeat, cache: &mut Cache, first: u32)
-    requires few { first < 4096 }
+    requires few { first < sizes.cells }
     requires filling { Filling heap.now first cache.old seat.old }
-    ensures { Filling heap.now (first + 64) cache.new seat.new }
+    ensures { Filling heap.now (first + block_cells) cache.new seat.new }
 {
-    for i in 0..64 {
+    for i in 0..BLOCK_CELLS {
         knot(heap, seat, cache, first + i);
     }
 }
 
 fn fill_block(heap: &Heap, seat: &mut HeapSeat, first: u32) -> bool
-    requires few { first < 4096 }
+    requires few { first < sizes.cells }
     requires waits { Waiting heap.now first seat.old }
     ensures seat { Sits heap.now seat.new }
-    ensures waits { OnTrue result (Waiting heap.now (first + 64) seat.new) }
+    ensures waits { OnTrue result (Waiting heap.now (first + block_cells) seat.new) }
 {
     let Some(mut cache) = take(heap, seat, first) else {
         return false;
     };
     fill(heap, seat, &mut cache, first);
-    give_up(heap, seat, cache, first + 64);
+    give_up(heap, seat, cache, first + BLOCK_CELLS);
     true
 }
 
@@ -57,8 +59,8 @@ fn fill_all(heap: &Heap, seat: &mut HeapSeat) -> bool
     requires { Waiting heap.now 0 seat.old }
     ensures { Sits heap.now seat.new }
 {
-    for b in 0..64 {
-        if !fill_block(heap, seat, b * 64) {
+    for b in 0..BLOCKS {
+        if !fill_block(heap, seat, b * BLOCK_CELLS) {
             return false;
         }
     }
@@ -71,7 +73,7 @@ fn trace_all(heap: &Heap, seat: &mut HeapSeat) -> u32
     requires { Sits heap.now seat.old }
     ensures { Sits heap.now seat.new }
 {
-    if !is_idle(heap, seat) || heap.shape().sections == 0 {
+    if !marks_as_mutator(heap, seat) || heap.shape().sections == 0 {
         return 0;
     }
     scan_roots(heap, seat, 0);
@@ -89,12 +91,12 @@ fn one(alloc: Global, traces: bool) -> bool {
     let done = if traces {
         trace_all(&heap, &mut seat)
     } else {
-        4096
+        CELLS
     };
-    leave(&heap, &mut seat) && close(alloc, heap, seat) && done == 4096
+    leaves(&heap, &mut seat) && try_close(alloc, heap, seat) && done == CELLS
 }
 
-/// Heaps that are filled and, if they are to be, traced.
+/// Heaps that are filled and, if they are to be, traced. False where there is no memory, or where a step that was to come could not be taken.
 pub fn run(alloc: Global, rounds: u64, traces: bool) -> bool {
     for _round in 0..rounds {
         if !one(alloc, traces) {

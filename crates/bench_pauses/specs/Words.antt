@@ -3,7 +3,7 @@ use Rattle.std.specs.Prelude.{ℕ, ◌≡◌, ◌≤◌, ◌%◌}
 use Rattle.bench_pauses.specs.declared.words.Asked.{Asked}
 
 -- the words are in their ranges
-pub record IsInRange (a : Asked) : Type 0 where
+pub record AreWordsInRange (a : Asked) : Type 0 where
   pub cells : (4096 ≤ a.cells) × (a.cells ≤ 16777216) × (a.cells % 64 ≡ 0)
   pub live : (1 ≤ a.live) × (a.live ≤ 90)
   pub workers : (1 ≤ a.workers) × (a.workers ≤ 32)

@@ -10,11 +10,13 @@ use std::time::Instant;
 pub struct Log {
     /// The nanoseconds of each stop from raise to resume.
     pub lengths: Vec<u64>,
-    /// How many ordinary cycles ended, and how many cells were in use at their ends.
+    /// How many ordinary cycles ended.
     pub cycles: u64,
+    /// How many cells were in use at the ends of these cycles, added up.
     pub marked: u64,
-    /// How many precise collections there were, and how many cells were in use at their ends.
+    /// How many precise collections there were.
     pub collections: u64,
+    /// How many cells were in use at the ends of these collections, added up.
     pub exact: u64,
     /// How many objects this worker traced beside the others.
     pub traced: u64,
@@ -23,6 +25,7 @@ pub struct Log {
 }
 
 impl Log {
+    /// A log in which nothing is noted. It takes no memory.
     pub fn empty(alloc: Global) -> Log {
         Log {
             lengths: Vec::new(alloc),
@@ -45,6 +48,7 @@ pub struct StopClock<'a, R: Clock> {
 }
 
 impl<'a, R: Clock> StopClock<'a, R> {
+    /// A watch with this clock and an empty log, asked for no stop yet.
     pub fn new(rt: &'a R, alloc: Global) -> StopClock<'a, R> {
         StopClock {
             rt,

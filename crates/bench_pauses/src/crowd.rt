@@ -14,6 +14,7 @@ use std::time::Instant;
 /// What a run came to.
 #[derive(Drop)]
 pub struct Found {
+    /// The workers, as they ended.
     pub workers: Vec<Worker>,
     /// How many objects the tracers traced beside the workers, while these replaced orders and before.
     pub traced: u64,
@@ -169,7 +170,7 @@ fn gather(workers: Vec<Worker>, tracers: &Vec<Tracer>, took: u64) -> Found {
     }
 }
 
-/// Opens a world, and lets the workers play in it.
+/// Opens a world, and lets the workers play in it. None where there is no memory, or where a mutator or a tracer could not be given back.
 pub fn run<R: Threads + Wait + Sync + Clock>(rt: &R, alloc: Global, asked: Asked) -> Option<Found> {
     let sizes = Sizes::of_cells(asked.cells)
         .fields(4)

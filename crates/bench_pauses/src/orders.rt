@@ -1,7 +1,7 @@
 //! An order, and the directory of all orders of a worker.
 //!
-//! An order has 16 objects. Its reference 0 is a list of five lines, each with an item, and its reference 1 a tree with four leaves. The directory is a tree with
-//! a fan-out of four, whose lowest nodes refer to the orders. An object's value is the order's number.
+//! An order has 16 objects. Its reference 0 is a list of five lines, each with an item, and its reference 1 a tree with four leaves. The directory is a tree
+//! with a fan-out of four, whose lowest nodes refer to the orders. An object's value is the order's number.
 
 use managed_heap::{Mutator, Refused, Watch};
 use std::sync::Wait;
@@ -46,7 +46,7 @@ fn way(at: u32, level: u32) -> u8 {
     (at.wrapping_shr(level.wrapping_mul(2)) % 4) as u8
 }
 
-/// Begins an empty directory.
+/// Begins an empty directory. Refused as `make_watched` of `managed_heap` is.
 pub fn open<R: Wait, W: Watch>(rt: &R, m: &mut Mutator, watch: &mut W) -> Result<(), Refused> {
     m.make_watched(rt, DIRECTORY, 0, watch)
 }
@@ -153,10 +153,12 @@ pub struct Seen {
 }
 
 impl Seen {
+    /// No object, and the sum 0.
     pub fn nothing() -> Seen {
         Seen { objects: 0, sum: 0 }
     }
 
+    /// The objects of both, and the sum of both sums, modulo 2^64.
     pub fn and(self, other: Seen) -> Seen {
         Seen {
             objects: self.objects.wrapping_add(other.objects),
@@ -196,7 +198,7 @@ fn look_at_tree(m: &mut Mutator, seen: Seen) -> Result<Seen, Refused> {
     Ok(seen)
 }
 
-/// Looks at all objects of an order. It passes a safe point before.
+/// Looks at all objects of an order. It passes a safe point before. Refused where a call of `managed_heap` is.
 pub fn look_at<R: Wait, W: Watch>(
     rt: &R,
     m: &mut Mutator,

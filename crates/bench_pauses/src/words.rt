@@ -1,6 +1,6 @@
 //! What the words of the command line ask for.
 ghost use Rattle.std.specs.Prelude.{◌≤◌, IfOk, IfSome};
-ghost use Rattle.bench_pauses.specs.Words.{IsInRange};
+ghost use Rattle.bench_pauses.specs.Words.{AreWordsInRange};
 
 use clap::error::ErrorKind;
 use clap::{Arg, ArgAction, ArgMatches, Command};
@@ -17,8 +17,9 @@ pub struct Asked {
     pub workers: u32,
     /// How many threads mark beside them: 0 to 8.
     pub tracers: u32,
-    /// How many packets there are, 2 to 1,024, each with room for so many cells, 2 to 512.
+    /// How many packets there are: 2 to 1,024.
     pub packets: u32,
+    /// How many cells a packet has room for: 2 to 512.
     pub entries: u32,
     /// How many orders are replaced in all: up to 4,000,000,000.
     pub transactions: u32,
@@ -70,7 +71,7 @@ fn chosen(
 
 /// The run that the options ask for, if each is in its range.
 fn asked_of(matches: &ArgMatches<'_>) -> Option<Asked>
-    ensures { IfSome result IsInRange }
+    ensures { IfSome result AreWordsInRange }
 {
     let asked = Asked {
         cells: chosen(matches, "cells", 4_096, 16_777_216, 65_536)?,
@@ -108,7 +109,7 @@ fn program<'a>(alloc: Global) -> Result<Command<'a>, AllocError> {
 
 /// The run that the words ask for, without the program's own name. None where they ask for nothing.
 pub fn asked_by(alloc: Global, words: &[String]) -> Result<Option<Asked>, AllocError>
-    ensures { IfOk result (λ o. IfSome o IsInRange) }
+    ensures { IfOk result (λ o. IfSome o AreWordsInRange) }
 {
     match program(alloc)?.try_get_matches_from(words) {
         Ok(matches) => Ok(asked_of(&matches)),

@@ -10,15 +10,21 @@ use std::sync::Wait;
 /// A mutator, what it is to do, what it found, and how it ended.
 #[derive(Drop)]
 pub struct Worker {
+    /// Its mutator.
     pub mutator: Mutator,
-    /// How many orders it keeps, how many it replaces, and where its choice begins.
+    /// How many orders it keeps.
     pub orders: u32,
+    /// How many orders it replaces.
     pub transactions: u32,
+    /// Where its choice of orders begins.
     pub seed: u64,
     /// How many nodes its directory has.
     pub nodes: u64,
+    /// What was noted of its stops.
     pub log: Log,
+    /// The objects of all its orders at the end.
     pub seen: Seen,
+    /// Whether it came to its end, or why not.
     pub ended: Result<(), Refused>,
 }
 
@@ -95,7 +101,7 @@ fn look_at_all<R: Wait + Clock>(
 }
 
 impl Worker {
-    /// Fills its directory, and stays outside then.
+    /// Fills its directory, and stays outside then. Refused where a call of `managed_heap` is.
     pub fn fill<R: Wait + Clock>(&mut self, rt: &R, alloc: Global) -> Result<(), Refused> {
         let mut clock = StopClock::new(rt, alloc);
         self.mutator.enter(rt)?;
@@ -104,7 +110,7 @@ impl Worker {
         Ok(())
     }
 
-    /// Collects once, so that the collector knows how large the live set is.
+    /// Collects once, so that the collector knows how large the live set is. Refused where a call of `managed_heap` is.
     pub fn settle<R: Wait>(&mut self, rt: &R) -> Result<(), Refused> {
         self.mutator.enter(rt)?;
         self.mutator.collect(rt)?;
@@ -112,7 +118,7 @@ impl Worker {
         Ok(())
     }
 
-    /// Replaces its orders. What it saw meanwhile is no part of what it tells.
+    /// Replaces its orders. What it saw meanwhile is no part of what it tells. Refused where a call of `managed_heap` is.
     pub fn play<R: Wait + Clock>(&mut self, rt: &R, alloc: Global) -> Result<(), Refused> {
         let mut clock = StopClock::new(rt, alloc);
         self.mutator.enter(rt)?;
@@ -129,7 +135,7 @@ impl Worker {
         Ok(())
     }
 
-    /// Looks at all of its orders.
+    /// Looks at all of its orders. Refused where a call of `managed_heap` is.
     pub fn look<R: Wait + Clock>(&mut self, rt: &R, alloc: Global) -> Result<(), Refused> {
         let mut clock = StopClock::new(rt, alloc);
         self.mutator.enter(rt)?;

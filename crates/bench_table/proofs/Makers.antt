@@ -21,19 +21,19 @@ use Rattle.gc_table.specs.PlainSteps.{Asks}
 use Rattle.gc_table.specs.Seats.{Sits, Stored, IsPlainStep, view_of}
 use Rattle.gc_table.specs.Sections.{section_after, seen_by}
 use Rattle.gc_table.specs.Taking.{after}
-use Rattle.bench_table.specs.Records.{sizes, At}
-use Rattle.bench_table.specs.Making.{Makes, maker, cache_of, made_by, objects_of}
+use Rattle.bench_table.specs.Records.{sizes, SitsWithRecord}
+use Rattle.bench_table.specs.Making.{MayMakeCells, maker, block_of_maker, cells_made, objects_of}
 use Rattle.bench_table.proofs.NewCells.{three_stored, made-last, three-at}
 use Rattle.bench_table.proofs.Stepping.{at-after, objects-after}
 
 -- a step that changes nothing but the block
 pub makes-after :
-    (h : Heap) (x y : HeapSeat) (step : Step) (n : ℕ) (cache : Option CacheState) (m : Makes h x)
+    (h : Heap) (x y : HeapSeat) (step : Step) (n : ℕ) (cache : Option CacheState) (m : MayMakeCells h x)
     → Sits h y → view_of y ≡ after step n (view_of x)
     → seat_after sizes (maker m.phase m.season m.env m.cache m.made) step n ≡ maker m.phase m.season m.env cache m.made
     → IsFalse (has_making cache)
     → length (section_after (view_of x).shape (view_of x).plan (view_of x).state step (view_of x).own).meaning.heap.objects ≡ objects_of x
-    → Makes h y × (cache_of y ≡ cache) × (made_by y ≡ made_by x)
+    → MayMakeCells h y × (block_of_maker y ≡ cache) × (cells_made y ≡ cells_made x)
 makes-after h x y step n cache m sits e is whole same =
     let a = at-after h (maker m.phase m.season m.env m.cache m.made) x y step n m.at sits e in
     let state = a.2 ∙ is in (
@@ -43,7 +43,7 @@ makes-after h x y step n cache m sits e is whole same =
     )
 
 -- the block is that of the record
-pub cache-is : (h : Heap) (x : HeapSeat) (m : Makes h x) → cache_of x ≡ m.cache
+pub cache-is : (h : Heap) (x : HeapSeat) (m : MayMakeCells h x) → block_of_maker x ≡ m.cache
 cache-is h x m = ap (λ (s : SeatState). s.cache) m.at.2
 
 -- no cell is half made in a block that was claimed, read or published
@@ -74,12 +74,12 @@ made-some (Some x) c e = refl
 
 -- the record after all words of a new cell, and the objects, which are one fewer than the cells
 pub four-at :
-    (h : Heap) (x a b d y : HeapSeat) (m : Makes h x) (c n i : ℕ)
+    (h : Heap) (x a b d y : HeapSeat) (m : MayMakeCells h x) (c n i : ℕ)
     → Sits h a → Stored (StoreNew c 0 0) (view_of x) (view_of a)
     → Sits h b → Stored (StoreNew c 1 0) (view_of a) (view_of b)
     → Sits h d → Stored (StoreNew c 2 n) (view_of b) (view_of d)
     → Sits h y → Stored (StoreNew c 3 i) (view_of d) (view_of y)
-    → At h (maker m.phase m.season m.env (with_made (three_stored m.cache c) c) (m.made + 1)) y × (objects_of y ≡ m.made)
+    → SitsWithRecord h (maker m.phase m.season m.env (with_made (three_stored m.cache c) c) (m.made + 1)) y × (objects_of y ≡ m.made)
 four-at h x a b d y m c n i sa va sb vb sd vd sy vy =
     let at = three-at h x a b d m c n sa va sb vb sd vd in (
       at-after h (maker m.phase m.season m.env (three_stored m.cache c) m.made) d y (StoreNew c 3 i) _ at sy vy,
@@ -89,7 +89,7 @@ four-at h x a b d y m c n i sa va sb vb sd vd sy vy =
 -- the store of the new cell in variable 0 is the plain step that makes its object
 pub asks-new :
     (h : Heap) (y : HeapSeat) (p : Phase) (t : ℕ) (env : List ℕ) (cache : Option CacheState) (made c r : ℕ)
-    → (p ≡ Full → ⊥) → At h (maker p t env (with_made (three_stored cache c) c) (made + 1)) y → objects_of y ≡ made → free_in cache c ≡ true → r ≡ c + 1
+    → (p ≡ Full → ⊥) → SitsWithRecord h (maker p t env (with_made (three_stored cache c) c) (made + 1)) y → objects_of y ≡ made → free_in cache c ≡ true → r ≡ c + 1
     → Asks (view_of y).state (view_of y).own.meaning (seen_by (view_of y).shape (view_of y).plan (view_of y).state) (StoreRoot 0 r) (New 0 (view_of y).own.meaning.value)
 asks-new h y p t env cache made c r seen at objects free is =
     ((p, ap (λ (s : SeatState). s.phase_seen) at.2, seen), (refl, refl, ap (λ (s : SeatState). names_last s.cache r) at.2 ∙ made-last cache c r free is, ap (λ (k : ℕ). k + 1) objects ∙ sym (ap (λ (s : SeatState). s.made) at.2)))

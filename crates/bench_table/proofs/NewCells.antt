@@ -14,8 +14,8 @@ use Rattle.mark_core.specs.declared.seat.CacheState.{CacheState}
 use Rattle.gc_table.specs.declared.seat.Heap.{Heap}
 use Rattle.gc_table.specs.declared.seat.HeapSeat.{HeapSeat}
 use Rattle.gc_table.specs.Seats.{Sits, Stored, view_of}
-use Rattle.bench_table.specs.Records.{sizes, At}
-use Rattle.bench_table.specs.Making.{Makes, maker, cache_of}
+use Rattle.bench_table.specs.Records.{sizes, SitsWithRecord}
+use Rattle.bench_table.specs.Making.{MayMakeCells, maker, block_of_maker}
 use Rattle.bench_table.proofs.Stepping.{at-after}
 
 -- the block after the first three words
@@ -53,16 +53,16 @@ pub root-met :
 root-met p t env cache made c r w seats turn free is = (turn, (or_right _ _ (made-last cache c r free is), (none-half-made cache c, tt)))
 
 -- the cell is free in the block that the record says
-pub free-there : (h : Heap) (x : HeapSeat) (m : Makes h x) (c number : ℕ) → free_in (cache_of x) number ≡ true → c ≡ number → free_in m.cache c ≡ true
+pub free-there : (h : Heap) (x : HeapSeat) (m : MayMakeCells h x) (c number : ℕ) → free_in (block_of_maker x) number ≡ true → c ≡ number → free_in m.cache c ≡ true
 free-there h x m c number free is = subst (λ (k : ℕ). free_in m.cache k ≡ true) (sym is) (ap (λ (s : SeatState). free_in s.cache number) (sym m.at.2) ∙ free)
 
 -- the record after the first three words
 pub three-at :
-    (h : Heap) (x a b d : HeapSeat) (m : Makes h x) (c n : ℕ)
+    (h : Heap) (x a b d : HeapSeat) (m : MayMakeCells h x) (c n : ℕ)
     → Sits h a → Stored (StoreNew c 0 0) (view_of x) (view_of a)
     → Sits h b → Stored (StoreNew c 1 0) (view_of a) (view_of b)
     → Sits h d → Stored (StoreNew c 2 n) (view_of b) (view_of d)
-    → At h (maker m.phase m.season m.env (three_stored m.cache c) m.made) d
+    → SitsWithRecord h (maker m.phase m.season m.env (three_stored m.cache c) m.made) d
 three-at h x a b d m c n sa va sb vb sd vd =
     let s : Option CacheState → SeatState = λ k. maker m.phase m.season m.env k m.made in
     let one = at-after h (s m.cache) x a (StoreNew c 0 0) _ m.at sa va in

@@ -16,15 +16,15 @@ use Rattle.gc_table.specs.Sections.{section_after}
 use Rattle.gc_table.specs.Taking.{after, won, May}
 use Rattle.gc_table.proofs.RecordSteps.{may-by, state-after}
 use Rattle.bench_table.specs.Making.{objects_of}
-use Rattle.bench_table.specs.Records.{sizes, At}
-use Rattle.bench_table.specs.Taken.{Takes, steps_in, rounds_of}
+use Rattle.bench_table.specs.Records.{sizes, SitsWithRecord}
+use Rattle.bench_table.specs.Taken.{TakesRounds, steps_in, rounds_of}
 
 -- the seat may take the step
-pub may-at : (h : Heap) (s : SeatState) (x : HeapSeat) (step : Step) → At h s x → ((w : Words) (seats : List SeatState) → AllTrue (parts sizes w seats s step)) → May step (view_of x)
+pub may-at : (h : Heap) (s : SeatState) (x : HeapSeat) (step : Step) → SitsWithRecord h s x → ((w : Words) (seats : List SeatState) → AllTrue (parts sizes w seats s step)) → May step (view_of x)
 may-at h s x step a met = may-by sizes (view_of x) s step (a.1.1 ∙ a.0) a.2 met
 
 -- the record after it
-pub at-after : (h : Heap) (s : SeatState) (x y : HeapSeat) (step : Step) (n : ℕ) → At h s x → Sits h y → view_of y ≡ after step n (view_of x) → At h (seat_after sizes s step n) y
+pub at-after : (h : Heap) (s : SeatState) (x y : HeapSeat) (step : Step) (n : ℕ) → SitsWithRecord h s x → Sits h y → view_of y ≡ after step n (view_of x) → SitsWithRecord h (seat_after sizes s step n) y
 at-after h s x y step n a sits e = (a.0, sits, state-after sizes (view_of x) (view_of y) s step n (a.1.1 ∙ a.0) a.2 e)
 
 -- the objects after a step that makes none
@@ -38,7 +38,7 @@ objects-after x y step n e same = ap (λ (v : View). length v.own.meaning.heap.o
 -- the steps of one round more
 pub takes-more :
     (f : ℕ → List Step) (k : ℕ) (x y z : HeapSeat) (step : Step) (n : ℕ)
-    → f k ≡ step ∷ [] → Takes f k x y → view_of z ≡ after step n (view_of y) → Takes f (k + 1) x z
+    → f k ≡ step ∷ [] → TakesRounds f k x y → view_of z ≡ after step n (view_of y) → TakesRounds f (k + 1) x z
 takes-more f k x y z step n one taken e =
     let more : rounds_of f (k + 1) ≡ rounds_of f k ++ step ∷ [] = (let is : k + 1 ≡ suc k = omega arith in ap (rounds_of f) is) ∙ ap (λ (l : List Step). rounds_of f k ++ l) one in
     ap steps_in e

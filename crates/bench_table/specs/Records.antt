@@ -1,5 +1,6 @@
 -- The records of the seat, as it takes the steps that are timed.
-use Rattle.std.specs.Prelude.{◌≡◌, true, Some}
+use Rattle.std.specs.Prelude.{ℕ, ◌≡◌, ◌/◌, true, Some}
+use Rattle.mark_core.specs.Cards.{card_cells}
 use Rattle.mark_core.specs.Start.{start_seat}
 use Rattle.mark_core.specs.declared.kinds.Phase.TheVariants.{Marking}
 use Rattle.mark_core.specs.declared.kinds.Shape.{Shape}
@@ -12,22 +13,30 @@ use Rattle.gc_table.specs.Seats.{Sits, view_of}
 abbrev pub sizes : Shape
 sizes = record { cells = 4096; packets = 2; entries = 2; sections = 1; fields = 2; objects = 2000000 }
 
--- the heap has these sizes, and the seat is one of its seats, with this record
-abbrev pub At : Heap → SeatState → HeapSeat → Type 0
-At h s x = (h.shape ≡ sizes) × Sits h x × ((view_of x).state ≡ s)
+-- how many blocks a heap has
+abbrev pub blocks_in_all : ℕ
+blocks_in_all = 64
 
--- it has done nothing, or has left
+-- how many cards a heap has
+abbrev pub cards_in_all : ℕ
+cards_in_all = sizes.cells / card_cells
+
+-- the heap has these sizes, and the seat is one of its seats, with this record
+abbrev pub SitsWithRecord : Heap → SeatState → HeapSeat → Type 0
+SitsWithRecord h s x = (h.shape ≡ sizes) × Sits h x × ((view_of x).state ≡ s)
+
+-- the seat has done nothing, or has left
 abbrev pub resting : SeatState
 resting = start_seat sizes 0
 
--- it is active
+-- the seat is active
 abbrev pub entered : SeatState
 entered = record resting { counted = true; active = true }
 
--- it has read that marking is under way
+-- the seat has read that marking is under way
 abbrev pub marking : SeatState
 marking = record entered { phase_seen = Some Marking }
 
--- it will take an empty packet
+-- the seat has a reservation for an empty packet
 abbrev pub reserved : SeatState
 reserved = record marking { reserved = true }

@@ -6,6 +6,7 @@ use Rattle.gc_table.specs.declared.view.Entry.{Entry}
 use Rattle.gc_table.specs.declared.view.View.{View}
 use Rattle.gc_table.specs.declared.seat.HeapSeat.{HeapSeat}
 use Rattle.gc_table.specs.Seats.{view_of}
+use Rattle.bench_table.specs.Records.{cards_in_all}
 
 -- all steps that a view tells of, in order
 abbrev pub steps_in : View → List Step
@@ -21,18 +22,21 @@ abbrev pub TakesOne : Step → HeapSeat → HeapSeat → Type 0
 TakesOne step x y = steps_in (view_of y) ≡ steps_in (view_of x) ++ step ∷ []
 
 -- between the one state of the seat and the other it took the steps of n rounds, and no other
-abbrev pub Takes : (ℕ → List Step) → ℕ → HeapSeat → HeapSeat → Type 0
-Takes f n x y = steps_in (view_of y) ≡ steps_in (view_of x) ++ rounds_of f n
+abbrev pub TakesRounds : (ℕ → List Step) → ℕ → HeapSeat → HeapSeat → Type 0
+TakesRounds f n x y = steps_in (view_of y) ≡ steps_in (view_of x) ++ rounds_of f n
 
 -- a round of each loop
 abbrev pub a_load : ℕ → List Step
 a_load n = ReadCount ∷ []
 
+-- round n of looking: one read of a card, of 256 in turn
 abbrev pub a_look : ℕ → List Step
-a_look n = ReadCard (n % 256) ∷ []
+a_look n = ReadCard (n % cards_in_all) ∷ []
 
+-- round n of storing: one card is dirtied, of 256 in turn
 abbrev pub a_store : ℕ → List Step
-a_store n = DirtyCard (n % 256) ∷ []
+a_store n = DirtyCard (n % cards_in_all) ∷ []
 
+-- a round of two steps: a packet is reserved, and the reservation goes back
 abbrev pub a_pair : ℕ → List Step
 a_pair n = Reserve ∷ Credit ∷ []

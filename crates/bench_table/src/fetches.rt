@@ -1,25 +1,25 @@
 //! Two fetches, many times: one is taken from a count, and given back.
 ghost use Rattle.std.specs.Bool.{OnTrue};
 ghost use Rattle.mark_core.specs.declared.kinds.Step.{Step};
-ghost use Rattle.bench_table.specs.Records.{At, entered, marking, reserved, resting};
-ghost use Rattle.bench_table.specs.Taken.{Takes, TakesOne, a_pair};
+ghost use Rattle.bench_table.specs.Records.{SitsWithRecord, entered, marking, reserved, resting};
+ghost use Rattle.bench_table.specs.Taken.{TakesRounds, TakesOne, a_pair};
 
-use crate::opening::{close, open_entered};
+use crate::opening::open_entered;
 use gc_table::{Heap, HeapSeat};
-use mark_core::Phase;
 use std::alloc::Global;
+use test_heaps::{close_one, sees_marking, try_marking};
 
 fn reserve(heap: &Heap, seat: &mut HeapSeat)
-    requires { At heap.now marking seat.old }
-    ensures standing { At heap.now reserved seat.new }
+    requires { SitsWithRecord heap.now marking seat.old }
+    ensures standing { SitsWithRecord heap.now reserved seat.new }
     ensures step { TakesOne Step.Reserve seat.old seat.new }
 {
     heap.reserve(seat);
 }
 
 fn credit(heap: &Heap, seat: &mut HeapSeat)
-    requires { At heap.now reserved seat.old }
-    ensures standing { At heap.now marking seat.new }
+    requires { SitsWithRecord heap.now reserved seat.old }
+    ensures standing { SitsWithRecord heap.now marking seat.new }
     ensures step { TakesOne Step.Credit seat.old seat.new }
 {
     heap.credit(seat);
@@ -28,9 +28,9 @@ fn credit(heap: &Heap, seat: &mut HeapSeat)
 /// Takes one from the count, and gives it back.
 #[inline(never)]
 fn fetches(heap: &Heap, seat: &mut HeapSeat, rounds: u64)
-    requires { At heap.now marking seat.old }
-    ensures standing { At heap.now marking seat.new }
-    ensures steps { Takes a_pair rounds seat.old seat.new }
+    requires { SitsWithRecord heap.now marking seat.old }
+    ensures standing { SitsWithRecord heap.now marking seat.new }
+    ensures steps { TakesRounds a_pair rounds seat.old seat.new }
 {
     for _round in 0..rounds {
         reserve(heap, seat);
@@ -38,40 +38,31 @@ fn fetches(heap: &Heap, seat: &mut HeapSeat, rounds: u64)
     }
 }
 
-fn mark(heap: &Heap, seat: &mut HeapSeat)
-    requires { At heap.now entered seat.old }
-    ensures { At heap.now entered seat.new }
+/// Begins marking: whether the seat finds that it is under way.
+fn marks(heap: &Heap, seat: &mut HeapSeat) -> bool
+    requires { SitsWithRecord heap.now entered seat.old }
+    ensures { OnTrue result (SitsWithRecord heap.now marking seat.new) }
 {
-    heap.store_phase(seat, Phase::Marking);
-}
-
-fn sees_marking(heap: &Heap, seat: &mut HeapSeat) -> bool
-    requires { At heap.now entered seat.old }
-    ensures { OnTrue result (At heap.now marking seat.new) }
-{
-    match heap.read_phase(seat) {
-        Phase::Marking => true,
-        _ => false,
-    }
+    try_marking(heap, seat, 0);
+    sees_marking(heap, seat, 0)
 }
 
 fn leave(heap: &Heap, seat: &mut HeapSeat)
-    requires { At heap.now marking seat.old }
-    ensures { At heap.now resting seat.new }
+    requires { SitsWithRecord heap.now marking seat.old }
+    ensures { SitsWithRecord heap.now resting seat.new }
 {
     heap.leave_step(seat);
 }
 
-/// Fetches in a heap.
+/// Fetches in a heap. False where there is no memory, or where a step that was to come could not be taken.
 pub fn run(alloc: Global, rounds: u64) -> bool {
     let Some((heap, mut seat)) = open_entered(alloc) else {
         return false;
     };
-    mark(&heap, &mut seat);
-    if !sees_marking(&heap, &mut seat) {
+    if !marks(&heap, &mut seat) {
         return false;
     }
     fetches(&heap, &mut seat, rounds);
     leave(&heap, &mut seat);
-    close(alloc, heap, seat)
+    close_one(alloc, heap, seat)
 }

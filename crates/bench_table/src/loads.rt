@@ -1,17 +1,19 @@
 //! One load, many times: of a word that is always the same, or of one card after another.
-ghost use Rattle.bench_table.specs.Records.{At, resting};
-ghost use Rattle.bench_table.specs.Taken.{Takes, a_load, a_look};
+ghost use Rattle.bench_table.specs.Records.{SitsWithRecord, resting};
+ghost use Rattle.bench_table.specs.Taken.{TakesRounds, a_load, a_look};
 
-use crate::opening::{close, open};
+use crate::opening::{CARDS, SIZES, open};
 use gc_table::{Heap, HeapSeat};
+use mark_core::EMPTY_OFFSET;
 use std::alloc::Global;
+use test_heaps::close_one;
 
 /// The sum of the words that were loaded.
 #[inline(never)]
 fn loads(heap: &Heap, seat: &mut HeapSeat, rounds: u64) -> u64
-    requires { At heap.now resting seat.old }
-    ensures standing { At heap.now resting seat.new }
-    ensures steps { Takes a_load rounds seat.old seat.new }
+    requires { SitsWithRecord heap.now resting seat.old }
+    ensures standing { SitsWithRecord heap.now resting seat.new }
+    ensures steps { TakesRounds a_load rounds seat.old seat.new }
 {
     let mut sum = 0u64;
     for _round in 0..rounds {
@@ -23,33 +25,34 @@ fn loads(heap: &Heap, seat: &mut HeapSeat, rounds: u64) -> u64
 /// How many cards were dirty.
 #[inline(never)]
 fn looks(heap: &Heap, seat: &mut HeapSeat, rounds: u64) -> u64
-    requires { At heap.now resting seat.old }
-    ensures standing { At heap.now resting seat.new }
-    ensures steps { Takes a_look rounds seat.old seat.new }
+    requires { SitsWithRecord heap.now resting seat.old }
+    ensures standing { SitsWithRecord heap.now resting seat.new }
+    ensures steps { TakesRounds a_look rounds seat.old seat.new }
 {
     let mut sum = 0u64;
     for round in 0..rounds {
-        if heap.read_card(seat, (round % 256) as u32) {
+        if heap.read_card(seat, (round % CARDS) as u32) {
             sum = sum.wrapping_add(1);
         }
     }
     sum
 }
 
-/// Loads from a heap.
+/// Loads from a heap. False where there is no memory, or where a load found another word than a new heap has.
 pub fn run(alloc: Global, rounds: u64) -> bool {
     let Some((heap, mut seat)) = open(alloc) else {
         return false;
     };
     let sum = loads(&heap, &mut seat, rounds);
-    close(alloc, heap, seat) && sum == rounds.wrapping_mul(66)
+    close_one(alloc, heap, seat)
+        && sum == rounds.wrapping_mul(EMPTY_OFFSET + u64::from(SIZES.packets))
 }
 
-/// Loads of cards.
+/// Loads of cards. False where there is no memory, or where a load found another word than a new heap has.
 pub fn run_looks(alloc: Global, rounds: u64) -> bool {
     let Some((heap, mut seat)) = open(alloc) else {
         return false;
     };
     let sum = looks(&heap, &mut seat, rounds);
-    close(alloc, heap, seat) && sum == 0
+    close_one(alloc, heap, seat) && sum == 0
 }

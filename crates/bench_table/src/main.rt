@@ -1,7 +1,7 @@
 //! The program `bench_table`: does a stated number of steps of a heap, to be timed beside the same steps on bare words.
 //!
 //! - `words`: what the words of the command line ask for.
-//! - `opening`: a heap with one seat, which is made and closed.
+//! - `opening`: a heap with one seat, which enters.
 //! - `loads`, `stores`, `fetches`: one operation, many times.
 //! - `making`: cells, made one after another in all blocks of the heap.
 #![tactic(auto)]
@@ -13,23 +13,11 @@ mod opening;
 mod stores;
 mod words;
 
+use opening::SIZES;
 use std::alloc::Global;
-use std::{env, io};
+use std::io;
+use test_heaps::{command_words, opens, report};
 use words::{Asked, Work, asked_by};
-
-/// The words of the command line, without the program's own name.
-fn command_words<R: std::rt::Env + AllocGlobal>(rt: &R) -> io::Result<Vec<String>> {
-    let mut words = Vec::new(rt.alloc());
-    let mut is_name = true;
-    for word in env::args(rt)? {
-        if is_name {
-            is_name = false;
-        } else {
-            words.push(word)?;
-        }
-    }
-    Ok(words)
-}
 
 /// Whether so many rounds were done.
 fn is_done(alloc: Global, work: Work, rounds: u64) -> bool {
@@ -39,23 +27,18 @@ fn is_done(alloc: Global, work: Work, rounds: u64) -> bool {
         Work::Store => stores::run(alloc, rounds),
         Work::Fetch => fetches::run(alloc, rounds),
         Work::Make => making::run(alloc, rounds),
-        Work::Open => opening::run(alloc, rounds),
+        Work::Open => opens(alloc, SIZES, rounds),
     }
 }
 
-fn report(rt: &HostRuntime, asked: Asked) -> io::Result<()> {
-    let name = asked.work.name();
-    let rounds = asked.rounds;
-    if is_done(rt.alloc(), asked.work, rounds) {
-        println!(rt; "{name} {rounds}")
-    } else {
-        println!(rt; "{name} failed")
-    }
+fn does(rt: &HostRuntime, asked: Asked) -> io::Result<()> {
+    let Asked { work, rounds } = asked;
+    report(rt, work.name(), rounds, is_done(rt.alloc(), work, rounds))
 }
 
-fn report_all(rt: &HostRuntime) -> io::Result<()> {
+fn do_all(rt: &HostRuntime) -> io::Result<()> {
     for work in [Work::Load, Work::Look, Work::Store, Work::Fetch] {
-        report(
+        does(
             rt,
             Asked {
                 work,
@@ -64,7 +47,7 @@ fn report_all(rt: &HostRuntime) -> io::Result<()> {
         )?;
     }
     for work in [Work::Make, Work::Open] {
-        report(rt, Asked { work, rounds: 1 })?;
+        does(rt, Asked { work, rounds: 1 })?;
     }
     Ok(())
 }
@@ -72,10 +55,10 @@ fn report_all(rt: &HostRuntime) -> io::Result<()> {
 fn main(rt: HostRuntime) -> io::Result<()> {
     let words = command_words(&rt)?;
     if words.is_empty() {
-        return report_all(&rt);
+        return do_all(&rt);
     }
     match asked_by(words.as_slice()) {
-        Some(asked) => report(&rt, asked),
+        Some(asked) => does(&rt, asked),
         None => println!(rt;
             "usage: bench_table [load | look | store | fetch | make | open ROUNDS]"
         ),

@@ -1,36 +1,37 @@
 //! One store, many times.
-ghost use Rattle.bench_table.specs.Records.{At, entered, resting};
-ghost use Rattle.bench_table.specs.Taken.{Takes, a_store};
+ghost use Rattle.bench_table.specs.Records.{SitsWithRecord, entered, resting};
+ghost use Rattle.bench_table.specs.Taken.{TakesRounds, a_store};
 
-use crate::opening::{close, open_entered};
+use crate::opening::{CARDS, open_entered};
 use gc_table::{Heap, HeapSeat};
 use std::alloc::Global;
+use test_heaps::close_one;
 
 /// Dirties a card, and then the next one, over all cards.
 #[inline(never)]
 fn stores(heap: &Heap, seat: &mut HeapSeat, rounds: u64)
-    requires { At heap.now entered seat.old }
-    ensures standing { At heap.now entered seat.new }
-    ensures steps { Takes a_store rounds seat.old seat.new }
+    requires { SitsWithRecord heap.now entered seat.old }
+    ensures standing { SitsWithRecord heap.now entered seat.new }
+    ensures steps { TakesRounds a_store rounds seat.old seat.new }
 {
     for round in 0..rounds {
-        heap.dirty_card(seat, (round % 256) as u32);
+        heap.dirty_card(seat, (round % CARDS) as u32);
     }
 }
 
 fn leave(heap: &Heap, seat: &mut HeapSeat)
-    requires { At heap.now entered seat.old }
-    ensures { At heap.now resting seat.new }
+    requires { SitsWithRecord heap.now entered seat.old }
+    ensures { SitsWithRecord heap.now resting seat.new }
 {
     heap.leave_step(seat);
 }
 
-/// Stores into a heap.
+/// Stores into a heap. False where there is no memory, or where a step that was to come could not be taken.
 pub fn run(alloc: Global, rounds: u64) -> bool {
     let Some((heap, mut seat)) = open_entered(alloc) else {
         return false;
     };
     stores(&heap, &mut seat, rounds);
     leave(&heap, &mut seat);
-    close(alloc, heap, seat)
+    close_one(alloc, heap, seat)
 }

@@ -1,4 +1,5 @@
 //! What the words of the command line ask for.
+use test_heaps::named_rounds;
 
 /// What is done many times.
 #[derive(Clone, Copy, Drop)]
@@ -7,7 +8,7 @@ pub enum Work {
     Load,
     /// One load, of a word that is found by its number.
     Look,
-    /// One store, in the same way.
+    /// One store, into a word that is found by its number.
     Store,
     /// Two fetches: one from a counter is taken, and given back.
     Fetch,
@@ -52,12 +53,7 @@ fn work_named(name: &str) -> Option<Work> {
 
 /// What two words ask for, or nothing.
 pub fn asked_by(words: &[String]) -> Option<Asked> {
-    let [name, rounds] = words else {
-        return None;
-    };
-    let work = work_named(name.as_str())?;
-    match rounds.as_str().parse::<u64>() {
-        Ok(rounds) => Some(Asked { work, rounds }),
-        Err(_) => None,
-    }
+    let (name, rounds) = named_rounds(words)?;
+    let work = work_named(name)?;
+    Some(Asked { work, rounds })
 }

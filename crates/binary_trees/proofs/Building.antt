@@ -5,10 +5,10 @@ use Rattle.std.proofs.lemmas.List.{get_or-set_same, get_or-set_other}
 use Rattle.plain_heap.specs.declared.object.Ref.TheVariants as refs
 use Rattle.plain_heap.specs.declared.object.Object.{Object}
 use Rattle.plain_heap.specs.declared.operation.Op.TheVariants as ops
-use Rattle.plain_heap.specs.PlainHeap.{Heap, variable}
+use Rattle.plain_heap.specs.PlainHeap.{Heap, heap_variables, variable}
 use Rattle.plain_heap.specs.PlainStep.{field_of, new_object, replaced_by, stored_at, with_field}
-use Rattle.managed_heap.specs.Plain.{Steps}
-use Rattle.binary_trees.specs.Trees.{Builds, IsTree, Joins}
+use Rattle.mutator_turns.specs.Plain.{Steps}
+use Rattle.binary_trees.specs.Trees.{Builds, IsTree, JoinsTrees}
 use Rattle.binary_trees.proofs.Growing.{grows-join, grows-less, tree-grows, tree-on}
 
 got_last : {A : Type 0} (xs : List A) (x : A) → slice_get (xs ++ x ∷ []) (length xs) ≡ Some x
@@ -25,7 +25,7 @@ pub record IsNewest (v : ℕ) (before : List Object) (object : Object) (x : Heap
   pub names : variable x v ≡ refs.Own (length before)
 
 -- it was made
-pub newest-made : (v : ℕ) (x y : Heap) → v < 32 → Steps (ops.New v 0) x y → IsNewest v x.objects (new_object 0) y × ((u : ℕ) → u ≢ v → variable y u ≡ variable x u)
+pub newest-made : (v : ℕ) (x y : Heap) → v < heap_variables → Steps (ops.New v 0) x y → IsNewest v x.objects (new_object 0) y × ((u : ℕ) → u ≢ v → variable y u ≡ variable x u)
 newest-made v x y low s = (
   record { objects = s.objects; names = ap (λ vs. slice_index_or vs v refs.Nil) s.variables ∙ get_or-set_same x.variables v (refs.Own (length x.objects)) refs.Nil (omega (arith, low, s.count)) },
   λ u other. ap (λ vs. slice_index_or vs u refs.Nil) s.variables ∙ get_or-set_other x.variables v u (refs.Own (length x.objects)) refs.Nil other,
@@ -47,7 +47,7 @@ newest-stored v i w before o x y n s =
     )
 
 -- a leaf
-pub leaf-built : (v : ℕ) (x y : Heap) → v < 32 → Steps (ops.New v 0) x y → Builds 0 v x y
+pub leaf-built : (v : ℕ) (x y : Heap) → v < heap_variables → Steps (ops.New v 0) x y → Builds 0 v x y
 leaf-built v x y low s =
     let m = newest-made v x y low s in
     record {
@@ -56,7 +56,7 @@ leaf-built v x y low s =
     }
 
 -- a node, with the trees of two variables
-pub node-joined : (v : ℕ) (x y z w : Heap) → v < 32 → Steps (ops.New v 0) x y → Steps (ops.Set v 0 (v + 1)) y z → Steps (ops.Set v 1 (v + 2)) z w → Joins v x w
+pub node-joined : (v : ℕ) (x y z w : Heap) → v < heap_variables → Steps (ops.New v 0) x y → Steps (ops.Set v 0 (v + 1)) y z → Steps (ops.Set v 1 (v + 2)) z w → JoinsTrees v x w
 node-joined v x y z w low new first second = λ d left right.
     let m = newest-made v x y low new in
     let p = newest-stored v 0 (v + 1) x.objects (new_object 0) y z m.0 first in
@@ -82,7 +82,7 @@ node-joined v x y z w low new first second = λ d left right.
     }
 
 -- both subtrees were made before it
-pub tree-built : (d v : ℕ) (x a b w : Heap) → Builds d (v + 1) x a → Builds d (v + 2) a b → Joins v b w → Builds (suc d) v x w
+pub tree-built : (d v : ℕ) (x a b w : Heap) → Builds d (v + 1) x a → Builds d (v + 2) a b → JoinsTrees v b w → Builds (suc d) v x w
 tree-built d v x a b w left right joins =
     let n = joins d (tree-grows (v + 2) (v + 1) d a b (omega arith) right.grows left.tree) right.tree in
     record { grows = grows-join v x a w (grows-less (v + 1) v x a (omega arith) left.grows) (grows-join v a b w (grows-less (v + 2) v a b (omega arith) right.grows) n.grows); tree = n.tree }

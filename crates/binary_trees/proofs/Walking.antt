@@ -5,10 +5,10 @@ use Rattle.std.proofs.lemmas.List.{get_or-set_same, get_or-set_other}
 use Rattle.plain_heap.specs.declared.object.Ref.{Ref}
 use Rattle.plain_heap.specs.declared.object.Ref.TheVariants as refs
 use Rattle.plain_heap.specs.declared.operation.Op.TheVariants as ops
-use Rattle.plain_heap.specs.PlainHeap.{Heap, variable}
+use Rattle.plain_heap.specs.PlainHeap.{Heap, heap_variables, variable}
 use Rattle.plain_heap.specs.PlainStep.{followed}
-use Rattle.managed_heap.specs.Plain.{Steps}
-use Rattle.binary_trees.specs.Trees.{Leaves, nodes}
+use Rattle.mutator_turns.specs.Plain.{Steps}
+use Rattle.binary_trees.specs.Trees.{LeavesObjects, nodes}
 use Rattle.binary_trees.proofs.Counting.{followed-same, nodes-same}
 use Rattle.binary_trees.proofs.Growing.{leaves-join, leaves-less}
 
@@ -18,7 +18,7 @@ nodes_more x k (refs.Own n) some = refl
 nodes_more x k (refs.Cat n) some = refl
 
 -- variable w becomes subtree i of the node in variable v
-pub looked : (w v i : ℕ) (x y : Heap) → w < 32 → Steps (ops.Get w v i) x y → (variable y w ≡ followed x None (variable x v) i) × Leaves w x y
+pub looked : (w v i : ℕ) (x y : Heap) → w < heap_variables → Steps (ops.Get w v i) x y → (variable y w ≡ followed x None (variable x v) i) × LeavesObjects w x y
 looked w v i x y low s = (
   ap (λ vs. slice_index_or vs w refs.Nil) s.variables ∙ get_or-set_same x.variables w (followed x None (variable x v) i) refs.Nil (omega (arith, low, s.count)),
   record {
@@ -28,7 +28,7 @@ looked w v i x y low s = (
 )
 
 -- a variable is made nil
-pub forgotten : (v : ℕ) (x y : Heap) → Steps (ops.Nil v) x y → Leaves v x y
+pub forgotten : (v : ℕ) (x y : Heap) → Steps (ops.Nil v) x y → LeavesObjects v x y
 forgotten v x y s =
     record {
       objects = s.objects;
@@ -37,13 +37,13 @@ forgotten v x y s =
 
 -- both subtrees were counted, one after the other
 pub counted-both :
-    (v k l r : ℕ) (x y z w q : Heap) → (variable x v ≡ refs.Nil → ⊥) → v + 1 < 32 → Steps (ops.Get (v + 1) v 0) x y → l ≡ nodes y k (variable y (v + 1)) → Leaves (v + 1 + 1) y z
-    → Steps (ops.Get (v + 1) v 1) z w → r ≡ nodes w k (variable w (v + 1)) → Leaves (v + 1 + 1) w q → (1 + l + r ≡ nodes x (suc k) (variable x v)) × Leaves (v + 1) x q
+    (v k l r : ℕ) (x y z w q : Heap) → (variable x v ≡ refs.Nil → ⊥) → v + 1 < heap_variables → Steps (ops.Get (v + 1) v 0) x y → l ≡ nodes y k (variable y (v + 1)) → LeavesObjects (v + 1 + 1) y z
+    → Steps (ops.Get (v + 1) v 1) z w → r ≡ nodes w k (variable w (v + 1)) → LeavesObjects (v + 1 + 1) w q → (1 + l + r ≡ nodes x (suc k) (variable x v)) × LeavesObjects (v + 1) x q
 counted-both v k l r x y z w q some low first left leaves second right leaves' =
     let a = looked (v + 1) v 0 x y low first in
     let b = looked (v + 1) v 1 z w low second in
-    let one : Leaves (v + 1) y z = leaves-less (v + 1 + 1) (v + 1) y z (omega arith) leaves in
-    let upto : Leaves (v + 1) x z = leaves-join (v + 1) x y z a.1 one in
+    let one : LeavesObjects (v + 1) y z = leaves-less (v + 1 + 1) (v + 1) y z (omega arith) leaves in
+    let upto : LeavesObjects (v + 1) x z = leaves-join (v + 1) x y z a.1 one in
     let same : variable z v ≡ variable x v = upto.variables v (omega arith) in
     let l' : l ≡ nodes x k (followed x None (variable x v) 0) = left ∙ (nodes-same x y k (variable y (v + 1)) a.1.objects ∙ ap (nodes x k) a.0) in
     let there : variable w (v + 1) ≡ followed x None (variable x v) 1 = b.0 ∙ (followed-same x z (variable z v) 1 upto.objects ∙ ap (λ ref. followed x None ref 1) same) in

@@ -4,7 +4,7 @@ use Rattle.binary_trees.specs.Trees.{full}
 use Rattle.binary_trees.specs.declared.words.Asked.{Asked}
 
 -- the words are in their ranges
-pub record IsInRange (a : Asked) : Type 0 where
+pub record AreWordsInRange (a : Asked) : Type 0 where
   pub depth : (4 ≤ a.depth) × (a.depth ≤ 13)
   pub cells : (64 ≤ a.cells) × (a.cells ≤ 65536) × (a.cells % 64 ≡ 0)
   pub workers : (1 ≤ a.workers) × (a.workers ≤ 32)

@@ -23,21 +23,21 @@ nodes heap zero ref = 1
 nodes heap (suc k) ref = 1 + nodes heap k (followed heap None ref 0) + nodes heap k (followed heap None ref 1)
 
 -- objects were made, none of those before changed, and variables below v stay
-pub record Grows (v : ℕ) (x y : Heap) : Type 0 where
+pub record GrowsHeap (v : ℕ) (x y : Heap) : Type 0 where
   pub more : List Object
   pub objects : y.objects ≡ x.objects ++ more
   pub variables : (u : ℕ) → u < v → variable y u ≡ variable x u
 
 -- besides, a tree stands in variable v
 pub record Builds (depth v : ℕ) (x y : Heap) : Type 0 where
-  pub grows : Grows v x y
+  pub grows : GrowsHeap v x y
   pub tree : IsTree y.objects depth (variable y v)
 
 -- no object changes, and variables below v stay
-pub record Leaves (v : ℕ) (x y : Heap) : Type 0 where
+pub record LeavesObjects (v : ℕ) (x y : Heap) : Type 0 where
   pub objects : y.objects ≡ x.objects
   pub variables : (u : ℕ) → u < v → variable y u ≡ variable x u
 
 -- a node was made in variable v, with the trees in the next two variables
-abbrev pub Joins : ℕ → Heap → Heap → Type 0
-Joins v x y = (d : ℕ) → IsTree x.objects d (variable x (v + 1)) → IsTree x.objects d (variable x (v + 2)) → Builds (suc d) v x y
+abbrev pub JoinsTrees : ℕ → Heap → Heap → Type 0
+JoinsTrees v x y = (d : ℕ) → IsTree x.objects d (variable x (v + 1)) → IsTree x.objects d (variable x (v + 2)) → Builds (suc d) v x y

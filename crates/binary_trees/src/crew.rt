@@ -1,7 +1,7 @@
 //! All mutators and tracers of a world, in the hands of those that use them.
 ghost use Rattle.std.specs.Prelude.{◌≡◌, All, IfOk, vec_len};
-ghost use Rattle.binary_trees.specs.Counts.{IsInRange};
-ghost use Rattle.binary_trees.specs.Standing.{Waits};
+ghost use Rattle.binary_trees.specs.Counts.{AreWordsInRange};
+ghost use Rattle.binary_trees.specs.Standing.{WorkerWaits};
 
 use crate::threads::Worker;
 use crate::words::Asked;
@@ -17,8 +17,8 @@ pub struct Crew {
 
 /// A worker for each mutator that the world has, in their order: the world hands out the last one first.
 fn hire_workers(alloc: Global, world: &mut World) -> Result<Vec<Worker>, AllocError>
-    requires waits { All Waits world.old.mutators.items }
-    ensures waits { IfOk result (λ r. All (λ x. Waits x.mutator) r.items) }
+    requires waits { All WorkerWaits world.old.mutators.items }
+    ensures waits { IfOk result (λ r. All (λ x. WorkerWaits x.mutator) r.items) }
     ensures count { IfOk result (λ r. vec_len r ≡ vec_len world.old.mutators) }
 {
     let mut workers = Vec::new(alloc);
@@ -43,7 +43,7 @@ fn hire_tracers(alloc: Global, world: &mut World) -> Result<Vec<Tracer>, AllocEr
 
 /// Opens a world for so many workers and tracers, in which an object has two references.
 fn open(alloc: Global, asked: &Asked) -> Result<World, AllocError>
-    ensures waits { IfOk result (λ world. All Waits world.mutators.items) }
+    ensures waits { IfOk result (λ world. All WorkerWaits world.mutators.items) }
     ensures count { IfOk result (λ world. vec_len world.mutators ≡ asked.now.workers) }
 {
     let sizes = Sizes::of_cells(asked.cells)
@@ -58,8 +58,8 @@ fn open(alloc: Global, asked: &Asked) -> Result<World, AllocError>
 
 /// Opens a world, and takes all its mutators and tracers. It is refused where memory runs out.
 pub fn prepare(alloc: Global, asked: &Asked) -> Result<(World, Crew), AllocError>
-    requires range { IsInRange asked.now }
-    ensures workers { IfOk result (λ r. All (λ x. Waits x.mutator) r.1.workers.items) }
+    requires range { AreWordsInRange asked.now }
+    ensures workers { IfOk result (λ r. All (λ x. WorkerWaits x.mutator) r.1.workers.items) }
     ensures count { IfOk result (λ r. vec_len r.1.workers ≡ asked.now.workers) }
 {
     let mut world = open(alloc, asked)?;

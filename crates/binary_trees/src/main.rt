@@ -11,7 +11,7 @@
 //! - `threads`: all threads of a run. `crew`: a world with its mutators and tracers, opened at the start and closed at the end.
 //! - `running`: a whole run. `output`: its lines.
 //!
-//! # What stands where a native program has its stack
+//! # What takes the place of a native program's stack
 //!
 //! A mutator has 32 variables, and they are its only roots. A tree of depth d is made in variable v with the 2 d variables behind it: the subtrees of a
 //! node wait in the next two until the node refers to them. It is counted with the d + 1 variables behind v, one for each node on the way down.

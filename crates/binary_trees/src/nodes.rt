@@ -2,12 +2,12 @@
 //! where its maker has made all objects that have numbers.
 ghost use Rattle.std.specs.Prelude.{◌≡◌, ◌<◌, IfErr, IfOk};
 ghost use Rattle.std.specs.Bool.{OnFalse, OnTrue};
-ghost use Rattle.plain_heap.specs.PlainHeap.{variable};
+ghost use Rattle.plain_heap.specs.PlainHeap.{heap_variables, variable};
 ghost use Rattle.plain_heap.specs.declared.object.Ref.TheVariants.{Nil};
 ghost use Rattle.plain_heap.specs.declared.operation.Op.TheVariants as ops;
 ghost use Rattle.managed_heap.specs.Calls.{heap_of};
-ghost use Rattle.managed_heap.specs.Plain.{Steps};
-ghost use Rattle.binary_trees.specs.Standing.{Halts, Plays};
+ghost use Rattle.mutator_turns.specs.Plain.{Steps};
+ghost use Rattle.binary_trees.specs.Standing.{WorkerHalts, WorkerPlays};
 
 use managed_heap::{Mutator, Refused};
 use std::sync::Wait;
@@ -21,12 +21,12 @@ pub enum Halt {
     Spent,
 }
 
-/// Makes a node without subtrees in variable v. It is a safe point.
+/// Makes a node without subtrees in variable v. It is a safe point. Refused where the heap is full, or where all numbers of objects are used.
 pub fn make<R: Wait>(rt: &R, m: &mut Mutator, v: u8) -> Result<(), Halt>
-    requires plays { Plays m.old }
-    requires range { v < 32 }
-    ensures ok { IfOk result (λ _. Plays m.new) }
-    ensures err { IfErr result (λ halt. Halts halt m.new) }
+    requires plays { WorkerPlays m.old }
+    requires range { v < heap_variables }
+    ensures ok { IfOk result (λ _. WorkerPlays m.new) }
+    ensures err { IfErr result (λ halt. WorkerHalts halt m.new) }
     ensures steps { IfOk result (λ _. Steps (ops.New v 0) (heap_of m.old) (heap_of m.new)) }
 {
     match m.make(rt, v, 0) {
@@ -39,9 +39,9 @@ pub fn make<R: Wait>(rt: &R, m: &mut Mutator, v: u8) -> Result<(), Halt>
 
 /// Subtree i of the node in variable v becomes what variable w refers to.
 pub fn join(m: &mut Mutator, v: u8, i: u8, w: u8)
-    requires plays { Plays m.old }
-    requires range { (v < 32) × (i < 2) × (w < 32) }
-    ensures plays { Plays m.new }
+    requires plays { WorkerPlays m.old }
+    requires range { (v < heap_variables) × (i < 2) × (w < heap_variables) }
+    ensures plays { WorkerPlays m.new }
     ensures steps { Steps (ops.Set v i w) (heap_of m.old) (heap_of m.new) }
 {
     let Ok(()) = m.set(v, i, w) else {
@@ -51,9 +51,9 @@ pub fn join(m: &mut Mutator, v: u8, i: u8, w: u8)
 
 /// Variable w becomes what subtree i of the node in variable v is.
 pub fn look(m: &mut Mutator, w: u8, v: u8, i: u8)
-    requires plays { Plays m.old }
-    requires range { (w < 32) × (v < 32) × (i < 2) }
-    ensures plays { Plays m.new }
+    requires plays { WorkerPlays m.old }
+    requires range { (w < heap_variables) × (v < heap_variables) × (i < 2) }
+    ensures plays { WorkerPlays m.new }
     ensures steps { Steps (ops.Get w v i) (heap_of m.old) (heap_of m.new) }
 {
     let Ok(()) = m.get(w, v, i) else {
@@ -63,8 +63,8 @@ pub fn look(m: &mut Mutator, w: u8, v: u8, i: u8)
 
 /// Whether variable v refers to nothing.
 pub fn is_nil(m: &Mutator, v: u8) -> bool
-    requires plays { Plays m.now }
-    requires range { v < 32 }
+    requires plays { WorkerPlays m.now }
+    requires range { v < heap_variables }
     ensures nil { OnTrue result (variable (heap_of m.now) v ≡ Nil) }
     ensures some { OnFalse result (variable (heap_of m.now) v ≡ Nil → ⊥) }
 {
@@ -74,9 +74,9 @@ pub fn is_nil(m: &Mutator, v: u8) -> bool
 
 /// Variable v refers to nothing any more.
 pub fn forget(m: &mut Mutator, v: u8)
-    requires plays { Plays m.old }
-    requires range { v < 32 }
-    ensures plays { Plays m.new }
+    requires plays { WorkerPlays m.old }
+    requires range { v < heap_variables }
+    ensures plays { WorkerPlays m.new }
     ensures steps { Steps (ops.Nil v) (heap_of m.old) (heap_of m.new) }
 {
     let Ok(()) = m.forget(v) else { unreachable!() };

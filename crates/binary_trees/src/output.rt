@@ -1,5 +1,5 @@
 //! The lines of a run, and its status.
-ghost use Rattle.binary_trees.specs.Counts.{IsInRange};
+ghost use Rattle.binary_trees.specs.Counts.{AreWordsInRange};
 
 use crate::running::{Counted, Failure};
 use crate::words::Asked;
@@ -13,7 +13,7 @@ fn write_counts<R: Runtime + AllocGlobal>(
     asked: &Asked,
     counted: &Counted,
 ) -> io::Result<()>
-    requires { IsInRange asked.now }
+    requires { AreWordsInRange asked.now }
 {
     let deeper = asked.depth + 1;
     let stretched = counted.alone.stretched;
@@ -38,7 +38,7 @@ pub fn report<R: Runtime + AllocGlobal>(
     asked: &Asked,
     came: &Result<Counted, Failure>,
 ) -> io::Result<u8>
-    requires { IsInRange asked.now }
+    requires { AreWordsInRange asked.now }
 {
     match came {
         Ok(counted) => {

@@ -1,7 +1,7 @@
 //! A whole run.
 ghost use Rattle.std.specs.Prelude.{◌≡◌, ◌<◌, All, vec_len};
-ghost use Rattle.binary_trees.specs.Counts.{IsInRange};
-ghost use Rattle.binary_trees.specs.Standing.{Waits};
+ghost use Rattle.binary_trees.specs.Counts.{AreWordsInRange};
+ghost use Rattle.binary_trees.specs.Standing.{WorkerWaits};
 
 use crate::crew::{Crew, close, prepare};
 use crate::nodes::Halt;
@@ -16,6 +16,7 @@ use std::thread::Threads;
 /// What was counted.
 #[derive(Clone, Copy, Drop)]
 pub struct Counted {
+    /// What one thread counted alone.
     pub alone: Alone,
     /// The nodes of all workers' short-lived trees, by their depths.
     pub checks: Checks,
@@ -70,8 +71,8 @@ fn run_in<R: Threads + Wait + Sync>(
     crew: &mut Crew,
     asked: &Asked,
 ) -> Result<Counted, Failure>
-    requires range { IsInRange asked.now }
-    requires workers { All (λ x. Waits x.mutator) crew.old.workers.items }
+    requires range { AreWordsInRange asked.now }
+    requires workers { All (λ x. WorkerWaits x.mutator) crew.old.workers.items }
     requires count { vec_len crew.old.workers ≡ asked.now.workers }
 {
     let alone = run_threads(rt, world, &mut crew.workers, &mut crew.tracers, asked);
@@ -87,7 +88,7 @@ pub fn run<R: Threads + Wait + Sync>(
     alloc: Global,
     asked: &Asked,
 ) -> Result<Counted, Failure>
-    requires range { IsInRange asked.now }
+    requires range { AreWordsInRange asked.now }
 {
     let Ok((mut world, mut crew)) = prepare(alloc, asked) else {
         return Err(Failure::OutOfMemory);

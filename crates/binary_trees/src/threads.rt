@@ -1,8 +1,8 @@
 //! All threads of a run.
 ghost use Rattle.std.specs.Prelude.{◌≡◌, ◌+◌, ◌<◌, ◌≤◌, All, IfOk, vec_len};
-ghost use Rattle.binary_trees.specs.Counts.{IsInRange};
-ghost use Rattle.binary_trees.specs.Playing.{AllWait, HasPlayed, HavePlayed};
-ghost use Rattle.binary_trees.specs.Standing.{Keeps, Waits};
+ghost use Rattle.binary_trees.specs.Counts.{AreWordsInRange};
+ghost use Rattle.binary_trees.specs.Playing.{AllWait, WorkerPlayed, HavePlayed};
+ghost use Rattle.binary_trees.specs.Standing.{KeepsTree, WorkerWaits};
 ghost use Rattle.binary_trees.specs.Trees.{full};
 
 use crate::nodes::Halt;
@@ -30,19 +30,19 @@ pub struct Alone {
 
 /// One worker makes its short-lived trees.
 fn play_one<R: Threads + Wait + Sync>(rt: &R, worker: &mut Worker, asked: &Asked, at: u32)
-    requires range { IsInRange asked.now }
+    requires range { AreWordsInRange asked.now }
     requires one { at < asked.now.workers }
-    requires waits { Waits worker.old.mutator }
-    ensures { HasPlayed asked.now at worker.old worker.new }
+    requires waits { WorkerWaits worker.old.mutator }
+    ensures { WorkerPlayed asked.now at worker.old worker.new }
 {
     worker.came = play(rt, &mut worker.mutator, asked, at);
 }
 
 /// All workers make their short-lived trees, each in a thread of its own.
 fn play_all<R: Threads + Wait + Sync>(rt: &R, workers: &mut Vec<Worker>, asked: &Asked)
-    requires range { IsInRange asked.now }
+    requires range { AreWordsInRange asked.now }
     requires some { (0 < vec_len workers.old) × (vec_len workers.old ≡ asked.now.workers) }
-    requires waits { All (λ x. Waits x.mutator) workers.old.items }
+    requires waits { All (λ x. WorkerWaits x.mutator) workers.old.items }
     ensures { HavePlayed asked.now workers.old.items workers.new.items }
 {
     let threads = workers.len();
@@ -51,8 +51,8 @@ fn play_all<R: Threads + Wait + Sync>(rt: &R, workers: &mut Vec<Worker>, asked: 
         workers.as_mut_slice(),
         threads,
         &|at, worker: &mut Worker|
-            requires { IsInRange asked.now × (at < asked.now.workers) × Waits worker.now.mutator }
-            ensures { HasPlayed asked.entry.now at worker.entry.now worker.exit.now }
+            requires { AreWordsInRange asked.now × (at < asked.now.workers) × WorkerWaits worker.now.mutator }
+            ensures { WorkerPlayed asked.entry.now at worker.entry.now worker.exit.now }
         { play_one(rt, worker, asked, at as u32) },
     );
 }
@@ -60,10 +60,10 @@ fn play_all<R: Threads + Wait + Sync>(rt: &R, workers: &mut Vec<Worker>, asked: 
 /// The first worker before the others: the tree that stretches the heap, and the one that is kept.
 fn begin<R: Wait>(rt: &R, worker: &mut Worker, depth: u8) -> Result<u64, Halt>
     requires few { depth ≤ 13 }
-    requires waits { Waits worker.old.mutator }
-    ensures waits { Waits worker.new.mutator }
+    requires waits { WorkerWaits worker.old.mutator }
+    ensures waits { WorkerWaits worker.new.mutator }
     ensures counts { IfOk result (λ nodes. nodes ≡ full (depth + 1)) }
-    ensures tree { IfOk result (λ _. Keeps depth worker.new.mutator) }
+    ensures tree { IfOk result (λ _. KeepsTree depth worker.new.mutator) }
 {
     let nodes = stretch(rt, &mut worker.mutator, depth)?;
     keep(rt, &mut worker.mutator, depth)?;
@@ -73,9 +73,9 @@ fn begin<R: Wait>(rt: &R, worker: &mut Worker, depth: u8) -> Result<u64, Halt>
 /// The first worker after the others: the nodes of the tree that was kept.
 fn finish<R: Wait>(rt: &R, worker: &mut Worker, depth: u8) -> Result<u64, Halt>
     requires few { depth ≤ 13 }
-    requires waits { Waits worker.old.mutator }
-    ensures waits { Waits worker.new.mutator }
-    ensures counts { Keeps depth worker.old.mutator → IfOk result (λ nodes. nodes ≡ full depth) }
+    requires waits { WorkerWaits worker.old.mutator }
+    ensures waits { WorkerWaits worker.new.mutator }
+    ensures counts { KeepsTree depth worker.old.mutator → IfOk result (λ nodes. nodes ≡ full depth) }
     ensures came { worker.new.came ≡ worker.old.came }
 {
     count_kept(rt, &mut worker.mutator, depth)
@@ -87,9 +87,9 @@ fn work<R: Threads + Wait + Sync>(
     workers: &mut Vec<Worker>,
     asked: &Asked,
 ) -> Result<Alone, Halt>
-    requires range { IsInRange asked.now }
+    requires range { AreWordsInRange asked.now }
     requires some { (0 < vec_len workers.old) × (vec_len workers.old ≡ asked.now.workers) }
-    requires waits { All (λ x. Waits x.mutator) workers.old.items }
+    requires waits { All (λ x. WorkerWaits x.mutator) workers.old.items }
     ensures waits { AllWait workers.new.items }
 {
     let depth = asked.depth as u8;
@@ -106,9 +106,9 @@ fn work_to_end<R: Threads + Wait + Sync>(
     workers: &mut Vec<Worker>,
     asked: &Asked,
 ) -> Result<Alone, Halt>
-    requires range { IsInRange asked.now }
+    requires range { AreWordsInRange asked.now }
     requires some { (0 < vec_len workers.old) × (vec_len workers.old ≡ asked.now.workers) }
-    requires waits { All (λ x. Waits x.mutator) workers.old.items }
+    requires waits { All (λ x. WorkerWaits x.mutator) workers.old.items }
     ensures waits { AllWait workers.new.items }
 {
     let came = work(rt, workers, asked);
@@ -143,16 +143,16 @@ pub fn run_threads<R: Threads + Wait + Sync>(
     tracers: &mut Vec<Tracer>,
     asked: &Asked,
 ) -> Result<Alone, Halt>
-    requires range { IsInRange asked.now }
+    requires range { AreWordsInRange asked.now }
     requires some { (0 < vec_len workers.old) × (vec_len workers.old ≡ asked.now.workers) }
-    requires waits { All (λ x. Waits x.mutator) workers.old.items }
+    requires waits { All (λ x. WorkerWaits x.mutator) workers.old.items }
     ensures waits { AllWait workers.new.items }
 {
     let ((), came) = join_mut(
         rt,
         &mut || trace_all(rt, tracers),
         &mut || -> Result<Alone, Halt>
-            requires { IsInRange asked.now × (0 < vec_len workers.now) × (vec_len workers.now ≡ asked.now.workers) × All (λ x. Waits x.mutator) workers.now.items }
+            requires { AreWordsInRange asked.now × (0 < vec_len workers.now) × (vec_len workers.now ≡ asked.now.workers) × All (λ x. WorkerWaits x.mutator) workers.now.items }
             ensures { AllWait workers.exit.now.items }
         { work_to_end(rt, world, workers, asked) },
     );

@@ -1,6 +1,6 @@
 //! What the words of the command line ask for.
 ghost use Rattle.std.specs.Prelude.{◌≤◌, IfOk, IfSome};
-ghost use Rattle.binary_trees.specs.Counts.{IsInRange};
+ghost use Rattle.binary_trees.specs.Counts.{AreWordsInRange};
 
 use clap::error::ErrorKind;
 use clap::{Arg, ArgAction, ArgMatches, Command};
@@ -71,7 +71,7 @@ fn chosen(
 
 /// The run that the options ask for, if each is in its range.
 fn asked_of(matches: &ArgMatches<'_>) -> Option<Asked>
-    ensures { IfSome result IsInRange }
+    ensures { IfSome result AreWordsInRange }
 {
     let asked = Asked {
         depth: chosen(matches, "depth", 4, 13, 10)?,
@@ -114,7 +114,7 @@ fn program<'a>(alloc: Global) -> Result<Command<'a>, AllocError> {
 /// The run that the words ask for, without the program's own name: options in any order, each at most once, as `--name value` or `--name=value`. None
 /// where they ask for nothing. It takes memory for the parse.
 pub fn asked_by(alloc: Global, words: &[String]) -> Result<Option<Asked>, AllocError>
-    ensures { IfOk result (λ r. IfSome r IsInRange) }
+    ensures { IfOk result (λ r. IfSome r AreWordsInRange) }
 {
     if !words.iter().all(|word| word.as_str() != "--") {
         return Ok(None);

@@ -2,9 +2,9 @@
 ghost use Rattle.std.specs.Prelude.{◌≡◌, ◌+◌, ◌-◌, ◌*◌, ◌<◌, ◌≤◌, IfErr, IfOk};
 ghost use Rattle.plain_heap.specs.PlainHeap.{variable};
 ghost use Rattle.managed_heap.specs.Calls.{heap_of};
-ghost use Rattle.binary_trees.specs.Counts.{AreChecked, IsInRange, depth_at, share, trees_at};
-ghost use Rattle.binary_trees.specs.Standing.{Halts, HasTwo, Plays, Waits};
-ghost use Rattle.binary_trees.specs.Trees.{Grows, IsTree, full};
+ghost use Rattle.binary_trees.specs.Counts.{AreChecked, AreWordsInRange, depth_at, share, trees_at};
+ghost use Rattle.binary_trees.specs.Standing.{WorkerHalts, HasTwo, WorkerPlays, WorkerWaits};
+ghost use Rattle.binary_trees.specs.Trees.{GrowsHeap, IsTree, full};
 
 use crate::nodes::Halt;
 use crate::trees::{build, check, short_lived};
@@ -48,9 +48,9 @@ fn share(trees: u32, workers: u32, at: u32) -> u32
 
 /// Enters the world, where the heap isn't full.
 fn enter<R: Wait>(rt: &R, m: &mut Mutator) -> Result<(), Halt>
-    requires waits { Waits m.old }
-    ensures ok { IfOk result (λ _. Plays m.new) }
-    ensures err { IfErr result (λ halt. Waits m.new × Halts halt m.new) }
+    requires waits { WorkerWaits m.old }
+    ensures ok { IfOk result (λ _. WorkerPlays m.new) }
+    ensures err { IfErr result (λ halt. WorkerWaits m.new × WorkerHalts halt m.new) }
     ensures same { heap_of m.new ≡ heap_of m.old }
 {
     match m.enter(rt) {
@@ -62,7 +62,7 @@ fn enter<R: Wait>(rt: &R, m: &mut Mutator) -> Result<(), Halt>
 /// Leaves the world, if it is inside.
 fn leave(m: &mut Mutator)
     requires two { HasTwo m.old }
-    ensures waits { Waits m.new }
+    ensures waits { WorkerWaits m.new }
     ensures same { heap_of m.new ≡ heap_of m.old }
 {
     m.leave();
@@ -70,12 +70,12 @@ fn leave(m: &mut Mutator)
 
 /// Makes so many trees of this depth, one after another: how many nodes were counted in all.
 fn many<R: Wait>(rt: &R, m: &mut Mutator, trees: u32, depth: u8) -> Result<u64, Halt>
-    requires plays { Plays m.old }
+    requires plays { WorkerPlays m.old }
     requires few { (depth ≤ 14) × (trees ≤ 8223) }
-    ensures ok { IfOk result (λ _. Plays m.new) }
-    ensures err { IfErr result (λ halt. Halts halt m.new) }
+    ensures ok { IfOk result (λ _. WorkerPlays m.new) }
+    ensures err { IfErr result (λ halt. WorkerHalts halt m.new) }
     ensures counts { IfOk result (λ nodes. nodes ≡ trees * full depth) }
-    ensures grows { IfOk result (λ _. Grows 1 (heap_of m.old) (heap_of m.new)) }
+    ensures grows { IfOk result (λ _. GrowsHeap 1 (heap_of m.old) (heap_of m.new)) }
 {
     let mut nodes = 0;
     for _tree in 0..trees {
@@ -87,13 +87,13 @@ fn many<R: Wait>(rt: &R, m: &mut Mutator, trees: u32, depth: u8) -> Result<u64, 
 
 /// Makes the short-lived trees of worker `at`, depth by depth.
 fn all_depths<R: Wait>(rt: &R, m: &mut Mutator, asked: &Asked, at: u32) -> Result<Checks, Halt>
-    requires range { IsInRange asked.now }
+    requires range { AreWordsInRange asked.now }
     requires one { at < asked.now.workers }
-    requires plays { Plays m.old }
-    ensures ok { IfOk result (λ _. Plays m.new) }
-    ensures err { IfErr result (λ halt. Halts halt m.new) }
+    requires plays { WorkerPlays m.old }
+    ensures ok { IfOk result (λ _. WorkerPlays m.new) }
+    ensures err { IfErr result (λ halt. WorkerHalts halt m.new) }
     ensures counts { IfOk result (AreChecked asked.now at 5) }
-    ensures grows { IfOk result (λ _. Grows 1 (heap_of m.old) (heap_of m.new)) }
+    ensures grows { IfOk result (λ _. GrowsHeap 1 (heap_of m.old) (heap_of m.new)) }
 {
     let mut checks = [0; 5];
     for i in 0..DEPTHS {
@@ -108,14 +108,15 @@ fn all_depths<R: Wait>(rt: &R, m: &mut Mutator, asked: &Asked, at: u32) -> Resul
     Ok(checks)
 }
 
-/// What a worker does beside the others: it makes its share of the short-lived trees, and counts them.
+/// What a worker does beside the others: it makes its share of the short-lived trees, and counts them. Refused where the heap is full, or where all numbers of
+/// objects are used.
 pub fn play<R: Wait>(rt: &R, m: &mut Mutator, asked: &Asked, at: u32) -> Result<Checks, Halt>
-    requires range { IsInRange asked.now }
+    requires range { AreWordsInRange asked.now }
     requires one { at < asked.now.workers }
-    requires waits { Waits m.old }
-    ensures waits { Waits m.new }
+    requires waits { WorkerWaits m.old }
+    ensures waits { WorkerWaits m.new }
     ensures counts { IfOk result (AreChecked asked.now at 5) }
-    ensures grows { IfOk result (λ _. Grows 1 (heap_of m.old) (heap_of m.new)) }
+    ensures grows { IfOk result (λ _. GrowsHeap 1 (heap_of m.old) (heap_of m.new)) }
 {
     enter(rt, m)?;
     let came = all_depths(rt, m, asked, at);
@@ -123,11 +124,12 @@ pub fn play<R: Wait>(rt: &R, m: &mut Mutator, asked: &Asked, at: u32) -> Result<
     came
 }
 
-/// What the first worker does before: it makes a tree one level deeper than the one that is kept, counts it and forgets it.
+/// What the first worker does before: it makes a tree one level deeper than the one that is kept, counts it and forgets it. Refused where the heap is full, or
+/// where all numbers of objects are used.
 pub fn stretch<R: Wait>(rt: &R, m: &mut Mutator, depth: u8) -> Result<u64, Halt>
     requires few { depth ≤ 13 }
-    requires waits { Waits m.old }
-    ensures waits { Waits m.new }
+    requires waits { WorkerWaits m.old }
+    ensures waits { WorkerWaits m.new }
     ensures counts { IfOk result (λ nodes. nodes ≡ full (depth + 1)) }
 {
     enter(rt, m)?;
@@ -136,11 +138,12 @@ pub fn stretch<R: Wait>(rt: &R, m: &mut Mutator, depth: u8) -> Result<u64, Halt>
     came
 }
 
-/// Then it makes the tree that is kept, in variable 0. It stays reachable while its maker is outside.
+/// The first worker then makes the tree that is kept, in variable 0. It stays reachable while its maker is outside. Refused where the heap is full, or where
+/// all numbers of objects are used.
 pub fn keep<R: Wait>(rt: &R, m: &mut Mutator, depth: u8) -> Result<(), Halt>
     requires few { depth ≤ 13 }
-    requires waits { Waits m.old }
-    ensures waits { Waits m.new }
+    requires waits { WorkerWaits m.old }
+    ensures waits { WorkerWaits m.new }
     ensures tree { IfOk result (λ _. IsTree (heap_of m.new).objects depth (variable (heap_of m.new) 0)) }
 {
     enter(rt, m)?;
@@ -149,11 +152,11 @@ pub fn keep<R: Wait>(rt: &R, m: &mut Mutator, depth: u8) -> Result<(), Halt>
     came
 }
 
-/// And when all others are done it counts it.
+/// When all others are done, the first worker counts the tree that it kept. Refused where the heap is full, or where all numbers of objects are used.
 pub fn count_kept<R: Wait>(rt: &R, m: &mut Mutator, depth: u8) -> Result<u64, Halt>
     requires few { depth ≤ 13 }
-    requires waits { Waits m.old }
-    ensures waits { Waits m.new }
+    requires waits { WorkerWaits m.old }
+    ensures waits { WorkerWaits m.new }
     ensures counts { IsTree (heap_of m.old).objects depth (variable (heap_of m.old) 0) → IfOk result (λ nodes. nodes ≡ full depth) }
 {
     enter(rt, m)?;

@@ -4,10 +4,11 @@ use Rattle.std.specs.Prelude.{◌==◌}
 use Rattle.std.specs.List.{list_all}
 use Rattle.std.proofs.lemmas.Bool.{and_from, or_left, or_right, true≢false}
 use Rattle.mark_core.specs.Bits.{cell_bit, has_bit, nil_or}
+use Rattle.mark_core.specs.Cards.{block_cells}
 use Rattle.mark_core.specs.Effects.{seat_after}
 use Rattle.mark_core.specs.Layout.{card_count, region_sizes, words_of}
 use Rattle.mark_core.specs.Places.{card_at, mark_at, the_next_block, the_phase}
-use Rattle.mark_core.specs.Numbers.{block_counter}
+use Rattle.mark_core.specs.Numbers.{block_counter, empty_offset, section_variables}
 use Rattle.mark_core.specs.Seats.{work_in_hand}
 use Rattle.mark_core.specs.Steps.WorldSteps.{cards_clean, is_quiet, roots_marked}
 use Rattle.mark_core.specs.declared.kinds.Phase.TheVariants.{Clear, Drain, Sweep}
@@ -59,19 +60,19 @@ module _ (x : TableState) (i : ℕ) (v : View) (k : IsState x) (a : Agrees x i v
       (⊎_elim
       (λ (z : r.word ≡ 0). or_left (r.word == 0) _ (eq-eqb r.word 0 z))
       (λ (m : IsNotedMarked v (r.word - 1)).
-      or_right (r.word == 0) _ (ap (λ n. has_bit n ((r.word - 1) % 64)) (a.noted (mark_at ((r.word - 1) / 64)) m.0 m.1).1 ∙ m.2))
+      or_right (r.word == 0) _ (ap (λ n. has_bit n ((r.word - 1) % block_cells)) (a.noted (mark_at ((r.word - 1) / block_cells)) m.0 m.1).1 ∙ m.2))
       r.marked)
 
   all-marked : roots_marked (words_of x.core.shape x.core.words).roots (words_of x.core.shape x.core.words).marks ≡ true
   all-marked =
       all-from (nil_or (cell_bit (words_of x.core.shape x.core.words).marks)) (words_of x.core.shape x.core.words).roots
       (λ j l.
-      let long : length (words_of x.core.shape x.core.words).roots ≡ x.core.shape.sections * 32 = region-length (region_sizes x.core.shape) 2 x.core.words (omega (arith, k.core.formed.words)) in
-      root-marked j (d.rooted.roots j (subst (λ (sh : Shape). j < sh.sections * 32) (sym a.shape) (subst (λ n. j < n) long l))))
+      let long : length (words_of x.core.shape x.core.words).roots ≡ x.core.shape.sections * section_variables = region-length (region_sizes x.core.shape) 2 x.core.words (omega (arith, k.core.formed.words)) in
+      root-marked j (d.rooted.roots j (subst (λ (sh : Shape). j < sh.sections * section_variables) (sym a.shape) (subst (λ n. j < n) long l))))
 
   quiet : is_quiet x.core.shape (words_of x.core.shape x.core.words) v.state ≡ true
   quiet =
-      and_from _ _ (eq-eqb _ _ (single x i v 2 (64 + v.shape.packets) a (omega arith) d.empty ∙ ap (λ (sh : Shape). 64 + sh.packets) a.shape))
+      and_from _ _ (eq-eqb _ _ (single x i v 2 (empty_offset + v.shape.packets) a (omega arith) d.empty ∙ ap (λ (sh : Shape). empty_offset + sh.packets) a.shape))
       (ap not (sym (ap (λ (sh : Shape). work_in_hand sh.fields v.state) a.shape) ∙ d.work))
 
 -- a drain at its end may go on to the sweep, or to the clearing of marks
@@ -92,7 +93,7 @@ may-begin_clear v d x i k a =
       (and_from _ _ (and_from _ _ l.drains.knows (quiet x i v k a d)) (eq-eqb _ 0 (single x i v 4 0 a (omega arith) l.next_block)), (or_right (not v.state.knows) v.state.alone l.drains.alone, tt)),
     )
 
--- and is alone there
+-- the seat is alone in the sweep after the move
 pub alone-sweeps : (v w : View) (n : ℕ) → Alone Drain v → w ≡ after (StorePhase Sweep) n v → Alone Sweep w
 alone-sweeps v w n l e = subst (Alone Sweep) (sym e) (record { knows = l.knows; alone = l.alone; phase = (known-here v (StorePhase Sweep) n the_phase refl (knows-steady (seat_after v.shape v.state (StorePhase Sweep) n) 3 l.knows)).0 })
 

@@ -4,6 +4,7 @@ use Rattle.std.specs.Prelude.{◌&&◌, ◌||◌}
 use Rattle.std.proofs.lemmas.Bool.{and_from, and_parts, true≢false, lt-ltb, le-ltb}
 use Rattle.mark_core.specs.Layout.{card_count}
 use Rattle.mark_core.specs.Bits.{wrapped_sum}
+use Rattle.mark_core.specs.Numbers.{card_counter}
 use Rattle.mark_core.specs.Places.{the_phase, the_next_card}
 use Rattle.mark_core.specs.Notes.{steady, keeps_bound}
 use Rattle.mark_core.specs.Seats.{saw, is_the}
@@ -49,13 +50,13 @@ still-traces v w e kept t =
       uncredited = ap (λ (s : SeatState). s.credit) e ∙ t.uncredited;
     }
 
-module _ (v : View) (seen : ℕ) (f : Finds (ReadStat 0) seen v) (t : Traces v) where
+module _ (v : View) (seen : ℕ) (f : Finds (ReadStat card_counter) seen v) (t : Traces v) where
   -- after the look at the counter
   abbrev pub looked : View
-  looked = after (ReadStat 0) seen v
+  looked = after (ReadStat card_counter) seen v
 
   pub looked-traces : Traces looked
-  looked-traces = still-traces v looked refl (λ k h. read-keeps v (ReadStat 0) seen refl f the_phase 2 (knows-steady looked.state 2 k) h) t
+  looked-traces = still-traces v looked refl (λ k h. read-keeps v (ReadStat card_counter) seen refl f the_phase 2 (knows-steady looked.state 2 k) h) t
 
   pub may-draw : seen < card_count v.shape → May NextOfCards looked
   may-draw under c k w a = (may-trace c k looked a looked-traces.may, (lt-ltb seen (card_count v.shape) under, tt))
@@ -84,7 +85,7 @@ module _ (v : View) (seen : ℕ) (f : Finds (ReadStat 0) seen v) (t : Traces v) 
   floor-looked : (v.state.admitted || v.state.knows) ≡ true → look the_next_card looked.floors ≡ Some seen
   floor-looked k = noted-here (λ at m. keeps_bound looked.state at) the_next_card seen v.floors k
 
-  -- nor above what it draws, and then it is above that
+  -- the seat's floor isn't above the number that it draws, and is above that number afterwards
   pub rises : (n : ℕ) → Finds NextOfCards n looked → n < card_count v.shape → card_count v.shape < 18446744073709551615 → (v.state.admitted || v.state.knows) ≡ true → (card_floor v ≤ n) × (card_floor (drawn n) ≡ n + 1)
   rises n d below few k =
       let low = (d.agrees.floored the_next_card seen (floor-looked k)).1 in
@@ -93,5 +94,5 @@ module _ (v : View) (seen : ℕ) (f : Finds (ReadStat 0) seen v) (t : Traces v) 
         ap (λ (o : Option ℕ). unwrap_or o 0) (noted-here (λ at m. keeps_bound (drawn n).state at) the_next_card (wrapped_sum n 1) looked.floors k) ∙ sum,
       )
 
-pub may-look : (v : View) → May (ReadStat 0) v
+pub may-look : (v : View) → May (ReadStat card_counter) v
 may-look v c k w a = (lt-ltb 0 (8 + c.core.shape.sections) (omega arith), tt)

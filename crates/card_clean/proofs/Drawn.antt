@@ -1,6 +1,7 @@
 -- What a seat that is alone in a drain has noted stays while it draws cards of the pass.
 use Rattle.std.proofs.Common.{ℕ, ◌≡◌, ◌/◌, inl, inr, refl, true, false}
 use Rattle.std.proofs.lemmas.Bool.{false≢true}
+use Rattle.mark_core.specs.Cards.{block_cells}
 use Rattle.mark_core.specs.Notes.{same_place}
 use Rattle.mark_core.specs.Places.{mark_at, the_next_block, the_next_card}
 use Rattle.mark_core.specs.declared.kinds.Step.{Step}
@@ -28,7 +29,7 @@ drawing-alone step p = refl
 
 marked-drawn : (v w : View) → Ran v w → Only draws_card v w → (c : ℕ) → v.state.alone ≡ true → IsNotedMarked v c → IsNotedMarked w c
 marked-drawn v w r o c alone m =
-    let at : ℕ × ℕ = mark_at (c / 64) in
+    let at : ℕ × ℕ = mark_at (c / block_cells) in
     (m.0, (known-alone draws_card at m.0 drawing-alone (spares-drawn at refl) refl v w r o alone (m.1, alone-steady v.state at m.0 refl alone)).0, m.2)
 
 module _ (v w : View) (r : Ran v w) (o : Only draws_card v w) where

@@ -23,7 +23,7 @@ use Rattle.gc_table.specs.Log.{events}
 use Rattle.packet_pools.specs.Seeking.{moves_packet, only_moves}
 use Rattle.card_clean.specs.Leaving.{rescans, rescanned_in}
 use Rattle.card_clean.specs.Passing.{draws_card}
-use Rattle.mark_core.specs.Cards.{block_of_card}
+use Rattle.mark_core.specs.Cards.{block_cells, block_of_card}
 
 total-join : (xs ys : List Entry) (v : View) → rescanned_in v (xs ++ ys) ≡ rescanned_in v xs + rescanned_in (after_all xs v) ys
 total-join [] ys v = omega arith
@@ -70,18 +70,18 @@ left-after sh s step n c o e = refl
 
 left-gone : (o : Option Cleaning) (c : ℕ) → left_in (without_cell o c) c ≡ false
 left-gone None c = refl
-left-gone (Some x) c = by_block (block_of_card x.card == c / 64) refl
+left-gone (Some x) c = by_block (block_of_card x.card == c / block_cells) refl
   where
     less : Cleaning
-    less = record x { left = without_bit x.left (c % 64); published = without_bit x.published (c % 64) }
+    less = record x { left = without_bit x.left (c % block_cells); published = without_bit x.published (c % block_cells) }
 
     and_false : (b d : Bool) → d ≡ false → (b && d) ≡ false
     and_false true d e = e
     and_false false d e = refl
 
-    by_block : (b : Bool) → (block_of_card x.card == c / 64) ≡ b → left_in (Some (cond b less x)) c ≡ false
-    by_block true e = and_false (block_of_card x.card == c / 64) _ (without_same x.left (c % 64) (omega arith))
-    by_block false e = ap (λ b. b && has_bit x.left (c % 64)) e
+    by_block : (b : Bool) → (block_of_card x.card == c / block_cells) ≡ b → left_in (Some (cond b less x)) c ≡ false
+    by_block true e = and_false (block_of_card x.card == c / block_cells) _ (without_same x.left (c % block_cells) (omega arith))
+    by_block false e = ap (λ b. b && has_bit x.left (c % block_cells)) e
 
 abbrev pub first_of : List (ℕ × ℕ) → ℕ × ℕ
 first_of [] = (0, 0)

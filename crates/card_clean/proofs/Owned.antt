@@ -2,15 +2,16 @@
 use Rattle.std.proofs.Common.{ℕ, ◌≡◌, ◌-◌, ◌<◌, List, true, refl, sym, ap, subst, arith, inl, inr, Option, Some, None, is_none}
 use Rattle.std.specs.Prelude.{not, IsFalse, IfSome, ◌||◌}
 use Rattle.std.proofs.lemmas.Bool.{and_parts, and_from, eq-eqb, ne_eqb, lt-ltb, false≢true, or_left}
-use Rattle.mark_core.specs.Rules.HeapRules.{section_of}
+use Rattle.mark_core.specs.Numbers.{section_variables}
+use Rattle.mark_core.specs.Rules.HeapRules.{section_of_cell}
 use Rattle.mark_core.specs.Layout.{words_of, card_count}
-use Rattle.mark_core.specs.Steps.MutatorSteps.{has_own, in_variables, variable as word_in}
+use Rattle.mark_core.specs.Steps.MutatorSteps.{has_own, in_variables, seat_variable as word_in}
 use Rattle.mark_core.specs.Seats.{is_the, may_mutate}
 use Rattle.mark_core.specs.WellFormed.{IsSeat}
 use Rattle.mark_core.specs.declared.kinds.Shape.{Shape}
 use Rattle.mark_core.specs.declared.kinds.Step.TheVariants.{StoreField, StoreValue, DirtyCard, ReadCount}
 use Rattle.mark_core.proofs.Blocks.BlocksTaken.{Taken}
-use Rattle.plain_heap.specs.PlainHeap.{variable}
+use Rattle.plain_heap.specs.PlainHeap.{variable, is_own}
 use Rattle.plain_heap.specs.declared.object.Ref.{Ref}
 use Rattle.plain_heap.specs.declared.object.Ref.TheVariants as refs
 use Rattle.gc_table.specs.Rule.{IsState, Agrees}
@@ -21,17 +22,17 @@ use Rattle.gc_table.specs.declared.view.Meaning.{Meaning}
 use Rattle.gc_table.specs.declared.view.View.{View}
 use Rattle.gc_table.proofs.Stands.StandsSeat.{looks, env-agrees}
 use Rattle.gc_table.proofs.State.StatePlain.{Views, views}
-use Rattle.card_clean.specs.Barrier.{is_own, HasOwn, IsStorable, MayStore}
+use Rattle.card_clean.specs.Barrier.{HasOwn, IsStorable, MayStore}
 
 -- a word that agrees with an own reference isn't nil, and names a cell of the section
-owned-word : (ids : List ℕ) (p : ℕ → ℕ) (i word : ℕ) (ref : Ref) → is_own ref ≡ true → WordAgrees ids p i word ref → (0 < word) × (section_of ids (word - 1) ≡ i)
+owned-word : (ids : List ℕ) (p : ℕ → ℕ) (i word : ℕ) (ref : Ref) → is_own ref ≡ true → WordAgrees ids p i word ref → (0 < word) × (section_of_cell ids (word - 1) ≡ i)
 owned-word ids p i word refs.Nil is a = absurd (false≢true is)
 owned-word ids p i word (refs.Cat k) is a = absurd (false≢true is)
 owned-word ids p i word (refs.Own k) is (inl z) = absurd (cc)
 owned-word ids p i word (refs.Own k) is (inr (some, names, below)) = (some, names.0)
 
 -- in each state that agrees with the view, the variable's word agrees with the variable
-pub variable-there : (x : TableState) (i : ℕ) (v : View) (u : ℕ) → IsState x → Agrees x i v → IsFalse v.state.spent → may_mutate v.state ≡ true → u < 32
+pub variable-there : (x : TableState) (i : ℕ) (v : View) (u : ℕ) → IsState x → Agrees x i v → IsFalse v.state.spent → may_mutate v.state ≡ true → u < section_variables
     → WordAgrees (words_of x.core.shape x.core.words).identities (object_count (meanings_of x.sections)) i (word_in v.state u) (variable v.own.meaning.heap u)
 variable-there x i v u st a live turn below =
     let k : Taken x.core i v.state ReadCount = looks x.core i v.state st.core a.seat live in
@@ -39,29 +40,29 @@ variable-there x i v u st a live turn below =
     subst (λ (m : Meaning). WordAgrees (words_of x.core.shape x.core.words).identities (object_count (meanings_of x.sections)) i (word_in v.state u) (variable m.heap u)) n.meaning
     (env-agrees x.core i v.state ReadCount (meanings_of x.sections) u k st.stands n.mutates below)
 
--- and names a cell of the own section, where the variable holds an own object
+-- the variable's word names a cell of the own section, where the variable holds an own object
 own-there : (x : TableState) (i : ℕ) (v : View) (u : ℕ) → IsState x → Agrees x i v → IsFalse v.state.spent → may_mutate v.state ≡ true → HasOwn v u → has_own (words_of x.core.shape x.core.words).identities v.state u ≡ true
 own-there x i v u st a live turn own =
     let ids : List ℕ = (words_of x.core.shape x.core.words).identities in
     let n : Views x i v = views x i v ReadCount (record { whole = st; agrees = a; live = live; ok = tt }) turn in
     let names = owned-word ids (object_count (meanings_of x.sections)) i (word_in v.state u) (variable v.own.meaning.heap u) own.1 (variable-there x i v u st a live turn own.0) in
     and_from _ _ (ap not (ne_eqb (word_in v.state u) 0 (λ e. omega (arith, e, names.0))))
-    (subst (λ (o : Option ℕ). is_the o (section_of ids (word_in v.state u - 1)) ≡ true) (sym n.mutates.section) (eq-eqb i (section_of ids (word_in v.state u - 1)) (sym names.1)))
+    (subst (λ (o : Option ℕ). is_the o (section_of_cell ids (word_in v.state u - 1)) ≡ true) (sym n.mutates.section) (eq-eqb i (section_of_cell ids (word_in v.state u - 1)) (sym names.1)))
 
 storable-there : (v : View) (w : Option ℕ) → IsStorable v w → in_variables w ≡ true
 storable-there v None h = refl
-storable-there v (Some w) h = lt-ltb w 32 h
+storable-there v (Some w) h = lt-ltb w section_variables h
 
 -- a reference may be stored in the object
 pub may-store_field : (v : View) (u i : ℕ) (w : Option ℕ) → IsFalse v.state.spent → MayStore v → HasOwn v u → i < v.shape.fields → IsStorable v w → May (StoreField u i w) v
 may-store_field v u i w live m own field stored x k st a = (
-  and_from _ _ (and_from _ _ (and_from _ _ (lt-ltb u 32 own.0) (lt-ltb i x.core.shape.fields (subst (λ (sh : Shape). i < sh.fields) a.shape field))) (storable-there v w stored)) m.turn,
+  and_from _ _ (and_from _ _ (and_from _ _ (lt-ltb u section_variables own.0) (lt-ltb i x.core.shape.fields (subst (λ (sh : Shape). i < sh.fields) a.shape field))) (storable-there v w stored)) m.turn,
   (own-there x k v u st a live m.turn own, (ap is_none m.owes, tt)),
 )
 
--- and a value
+-- a value may be stored in the object
 pub may-store_value : (v : View) (u n : ℕ) → IsFalse v.state.spent → MayStore v → HasOwn v u → May (StoreValue u n) v
-may-store_value v u n live m own x k st a = (and_from _ _ (lt-ltb u 32 own.0) m.turn, (own-there x k v u st a live m.turn own, (ap is_none m.owes, tt)))
+may-store_value v u n live m own x k st a = (and_from _ _ (lt-ltb u section_variables own.0) m.turn, (own-there x k v u st a live m.turn own, (ap is_none m.owes, tt)))
 
 -- the card that is owed may be dirtied
 pub may-dirty_owed : (v : View) (card : ℕ) → may_mutate v.state ≡ true → v.state.owes ≡ Some card → May (DirtyCard card) v

@@ -5,6 +5,7 @@ use Rattle.std.proofs.lemmas.Bool.{and_from, lt-ltb, cases_eq, not_from_false}
 use Rattle.mark_core.specs.Layout.{words_of, region_sizes}
 use Rattle.mark_core.specs.Bits.{cell_of, nil_or}
 use Rattle.mark_core.specs.Cells.{in_use}
+use Rattle.mark_core.specs.Numbers.{section_variables}
 use Rattle.mark_core.specs.Views.{makers}
 use Rattle.mark_core.specs.Notes.{steady}
 use Rattle.mark_core.specs.Seats.{work_in_hand, scan_left, cleaning_left}
@@ -16,7 +17,7 @@ use Rattle.mark_core.proofs.Pool.PoolSlots.{any-held}
 use Rattle.gc_table.specs.declared.view.View.{View}
 use Rattle.gc_table.specs.Taking.{May, Finds, after}
 use Rattle.packet_pools.specs.declared.held.Held.{Held}
-use Rattle.packet_pools.specs.Hands.{IsHeld}
+use Rattle.packet_pools.specs.Hands.{HoldsPacket}
 use Rattle.packet_pools.specs.OnlyTraced.{OnlyTraced, IsNotedMarked}
 use Rattle.packet_pools.specs.Scanning.{Pushes}
 use Rattle.packet_pools.specs.Tracing.{traces}
@@ -27,33 +28,33 @@ use Rattle.card_clean.specs.Drained.{IsNotedRoot, RootsNoted, RootsTo}
 use Rattle.gc_table.proofs.Noticing.{alone-steady}
 use Rattle.card_clean.proofs.Noted.{noted-here}
 
-pub may-read_root : (v : View) (section u : ℕ) (h : Held) → traces v ≡ true → section < v.shape.sections → u < 32 → IsHeld h v → work_in_hand v.shape.fields v.state ≡ false → May (ReadRoot section u) v
+pub may-read_root : (v : View) (section u : ℕ) (h : Held) → traces v ≡ true → section < v.shape.sections → u < section_variables → HoldsPacket h v → work_in_hand v.shape.fields v.state ≡ false → May (ReadRoot section u) v
 may-read_root v section u h t there low held work c k w a = (
   and_from _ _
-      (and_from _ _ (and_from _ _ (lt-ltb section c.core.shape.sections (subst (λ (sh : Shape). section < sh.sections) a.shape there)) (lt-ltb u 32 low)) (may-trace c k v a t))
+      (and_from _ _ (and_from _ _ (lt-ltb section c.core.shape.sections (subst (λ (sh : Shape). section < sh.sections) a.shape there)) (lt-ltb u section_variables low)) (may-trace c k v a t))
       (any-held v.state.held h.packet (known-held v.state.held h.packet h.length held.known)),
   (not_from_false _ (sym (ap (λ (sh : Shape). work_in_hand sh.fields v.state) a.shape) ∙ work), tt),
 )
 
 -- a root word is nil or names a cell that exists
-root-small : (v : View) (n section u : ℕ) → section < v.shape.sections → u < 32 → Finds (ReadRoot section u) n v → n ≤ 16777216
+root-small : (v : View) (n section u : ℕ) → section < v.shape.sections → u < section_variables → Finds (ReadRoot section u) n v → n ≤ 16777216
 root-small v n section u there low f =
     let sh : Shape = f.state.core.shape in
     let ws : List ℕ = f.state.core.words in
     let p : ℕ → Bool = in_use (words_of sh ws).allocs (makers f.state.core.seats) in
-    let i : ℕ = section * 32 + u in
+    let i : ℕ = section * section_variables + u in
     let there_too : section < sh.sections = subst (λ (s : Shape). section < s.sections) f.agrees.shape there in
-    let long : length (words_of sh ws).roots ≡ sh.sections * 32 = region-length (region_sizes sh) 2 ws (omega (arith, f.whole.core.formed.words)) in
+    let long : length (words_of sh ws).roots ≡ sh.sections * section_variables = region-length (region_sizes sh) 2 ws (omega (arith, f.whole.core.formed.words)) in
     let within : i < length (words_of sh ws).roots = omega (arith, long, there_too, low) in
     let goes : nil_or p n ≡ true = subst (λ r. nil_or p r ≡ true) f.word (f.whole.core.sound.references.roots_in_use i 0 within) in
     let most : n ≤ sh.cells = goes-within f.state.core n f.whole.core.formed goes in
     omega (arith, most, f.whole.core.formed.shaped.cells.1)
 
 -- a root that was read, and whose cell was marked after
-pub root-noted : (v x : View) (n section u : ℕ) → section < v.shape.sections → u < 32 → v.state.alone ≡ true → Finds (ReadRoot section u) n v → OnlyTraced (after (ReadRoot section u) n v) x → (n ≡ 0) ⊎ IsNotedMarked x (cell_of n) → IsNotedRoot (section * 32 + u) x
+pub root-noted : (v x : View) (n section u : ℕ) → section < v.shape.sections → u < section_variables → v.state.alone ≡ true → Finds (ReadRoot section u) n v → OnlyTraced (after (ReadRoot section u) n v) x → (n ≡ 0) ⊎ IsNotedMarked x (cell_of n) → IsNotedRoot (section * section_variables + u) x
 root-noted v x n section u there low alone f k marked =
     let w : View = after (ReadRoot section u) n v in
-    let at : ℕ × ℕ = (2, section * 32 + u) in
+    let at : ℕ × ℕ = (2, section * section_variables + u) in
     record {
       word = n;
       noted = k.notes at n refl (alone-steady w.state at n refl alone) (noted-here (steady w.state) at n v.known (alone-steady w.state at n refl alone));
@@ -76,17 +77,17 @@ marked-work v w h k fields over done p =
     λ i. is_some (p.hand.popped i) || scan i || is_some (p.hand.value i) || is_some (p.hand.fresh i) || cleaning i
 
 -- the variables of a section so far, and the next one
-pub roots-next : (section u : ℕ) (v w : View) → ((i : ℕ) → IsNotedRoot i v → IsNotedRoot i w) → RootsNoted section u v → IsNotedRoot (section * 32 + u) w → RootsNoted section (u + 1) w
+pub roots-next : (section u : ℕ) (v w : View) → ((i : ℕ) → IsNotedRoot i v → IsNotedRoot i w) → RootsNoted section u v → IsNotedRoot (section * section_variables + u) w → RootsNoted section (u + 1) w
 roots-next section u v w kept so_far one i l =
     ⊎_elim
-    (λ (s : i ≡ u). subst (λ j. IsNotedRoot (section * 32 + j) w) (sym s) one)
-    (λ (d : i ≢ u). kept (section * 32 + i) (so_far i (omega (arith, l, d))))
+    (λ (s : i ≡ u). subst (λ j. IsNotedRoot (section * section_variables + j) w) (sym s) one)
+    (λ (d : i ≢ u). kept (section * section_variables + i) (so_far i (omega (arith, l, d))))
     (cases_eq i u)
 
 -- the roots of all sections
-pub roots-all : (sections : ℕ) (v : View) → ((section : ℕ) → section < sections → RootsNoted section 32 v) → RootsTo (sections * 32) v
+pub roots-all : (sections : ℕ) (v : View) → ((section : ℕ) → section < sections → RootsNoted section section_variables v) → RootsTo (sections * section_variables) v
 roots-all sections v each i l =
-    let section : ℕ = i / 32 in
-    let u : ℕ = i % 32 in
-    let at : section * 32 + u ≡ i = omega arith in
+    let section : ℕ = i / section_variables in
+    let u : ℕ = i % section_variables in
+    let at : section * section_variables + u ≡ i = omega arith in
     subst (λ j. IsNotedRoot j v) at (each section (omega (arith, l)) u (omega arith))

@@ -1,6 +1,7 @@
 -- What a seat that is alone in a drain has noted stays while it traces: by the steps that it takes alone.
 use Rattle.std.proofs.Common.{ℕ, ◌≡◌, ◌*◌, ◌-◌, ◌<◌, inl, inr, refl, subst, Bool, true, false, ⊎_elim}
 use Rattle.std.proofs.lemmas.Bool.{false≢true}
+use Rattle.mark_core.specs.Numbers.{section_variables}
 use Rattle.mark_core.specs.Places.{the_next_block}
 use Rattle.mark_core.specs.declared.kinds.Phase.TheVariants.{Drain}
 use Rattle.mark_core.specs.declared.kinds.Shape.{Shape}
@@ -34,7 +35,7 @@ module _ (P : Step → Bool) (quiet : (step : Step) → P step ≡ true → ends
       }
 
   pub rooted-by : IsRooted v → IsRooted w
-  rooted-by k = record { ready = ready-by k.ready; roots = λ i h. root-by i k.ready.drains.alone (k.roots i (subst (λ (sh : Shape). i < sh.sections * 32) (ran-shape v w r) h)) }
+  rooted-by k = record { ready = ready-by k.ready; roots = λ i h. root-by i k.ready.drains.alone (k.roots i (subst (λ (sh : Shape). i < sh.sections * section_variables) (ran-shape v w r) h)) }
 
 spares-block : Spares traces_cells the_next_block
 spares-block sh s NextBlock p = absurd (false≢true p)

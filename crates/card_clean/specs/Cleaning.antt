@@ -34,7 +34,8 @@ pub record FoundClean (card : ℕ) (r : Cleaned) (es : List Entry) : Type 0 wher
   pub result : r ≡ record { rescanned = 0; redirtied = false }
   pub events_are : es ≡ event (ClearCard card) 0 ∷ []
 
--- a card that was found dirty: its marked published cells were scanned again, and then it was dirtied where it has a marked cell that isn't published, or where a cell found no packet
+-- a card that was found dirty: its marked published cells were scanned again, and then it was dirtied where it has a marked cell that isn't published, or where
+-- a cell found no packet
 pub record RescansCard (sh : Shape) (card : ℕ) (r : Cleaned) (es : List Entry) : Type 0 where
   pub marks : ℕ
   pub allocs : ℕ
@@ -49,7 +50,7 @@ pub record RescansCard (sh : Shape) (card : ℕ) (r : Cleaned) (es : List Entry)
 abbrev pub FoundDirty : Shape → ℕ → Cleaned → List Entry → Type 0
 FoundDirty sh card r es = (rest : List Entry) × (es ≡ event (ClearCard card) 1 ∷ rest) × RescansCard sh card r rest
 
--- one of both
+-- the card was found clean; or it was found dirty, cleared, and its cells were scanned again
 abbrev pub Cleans : Shape → ℕ → Cleaned → List Entry → Type 0
 Cleans sh card r es = FoundClean card r es ⊎ FoundDirty sh card r es
 

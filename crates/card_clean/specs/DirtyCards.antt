@@ -15,7 +15,7 @@ pub record CleanedWhereDirty (sh : Shape) (card n : ℕ) (es : List Entry) : Typ
   pub cleaning : List Entry
   pub told : ((n ≡ 0) × (es ≡ event (ReadCard card) 0 ∷ []) × (cleaning ≡ [])) ⊎ ((r : Cleaned) × (n ≡ r.rescanned) × (es ≡ event (ReadCard card) 1 ∷ cleaning) × Cleans sh card r cleaning)
 
--- so it was for so many cards from this one on, one after another; all in all so many cells were scanned again
+-- so many cards from this one on were each seen clean, or seen dirty and cleaned, in order; in all, n cells were scanned again
 abbrev pub CleanedFrom : Shape → ℕ → ℕ → ℕ → List Entry → Type 0
 CleanedFrom sh from zero n es = (n ≡ 0) × (es ≡ [])
 CleanedFrom sh from (suc k) n es = (a b : ℕ) × (xs ys : List Entry) × (es ≡ xs ++ ys) × (n ≡ a + b) × CleanedFrom sh from k a xs × CleanedWhereDirty sh (from + k) b ys

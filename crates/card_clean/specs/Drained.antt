@@ -1,6 +1,7 @@
 -- What a seat that is alone has noted by the end of a drain.
 use Rattle.std.specs.Prelude.{ℕ, ◌≡◌, ◌≢◌, ◌≤◌, ◌<◌, ◌+◌, ◌-◌, ◌*◌, ◌⊎◌, List, [], ◌∷◌, ◌++◌, Some, IsFalse}
 use Rattle.mark_core.specs.Layout.{card_count}
+use Rattle.mark_core.specs.Numbers.{empty_offset, section_variables}
 use Rattle.mark_core.specs.Places.{the_empty_count, the_next_block, card_at}
 use Rattle.mark_core.specs.Seats.{work_in_hand}
 use Rattle.mark_core.specs.declared.kinds.Phase.TheVariants.{Drain}
@@ -18,17 +19,17 @@ use Rattle.card_clean.specs.Looking.{looks_clean, looks_dirty}
 abbrev pub AreNotedClean : ℕ → ℕ → View → Type 0
 AreNotedClean from to v = (card : ℕ) → from ≤ card → card < to → look (card_at card) v.known ≡ Some 0
 
--- root word i is noted as nil, or as going to a cell that is noted as marked
+-- root word i is noted as nil, or as naming a cell that is noted as marked
 pub record IsNotedRoot (i : ℕ) (v : View) : Type 0 where
   pub word : ℕ
   pub noted : look (2, i) v.known ≡ Some word
   pub marked : (word ≡ 0) ⊎ IsNotedMarked v (word - 1)
 
--- so is each variable of a section, below this one
+-- each variable of a section, below this one, is noted as nil, or as naming a cell that is noted as marked
 abbrev pub RootsNoted : ℕ → ℕ → View → Type 0
-RootsNoted section to v = (u : ℕ) → u < to → IsNotedRoot (section * 32 + u) v
+RootsNoted section to v = (u : ℕ) → u < to → IsNotedRoot (section * section_variables + u) v
 
--- so is each of the first n root words
+-- each of the first n root words is noted as nil, or as naming a cell that is noted as marked
 abbrev pub RootsTo : ℕ → View → Type 0
 RootsTo n v = (i : ℕ) → i < n → IsNotedRoot i v
 
@@ -37,24 +38,24 @@ pub record IsBeforeSweep (v : View) : Type 0 where
   pub drains : Alone Drain v
   pub next_block : look the_next_block v.known ≡ Some 0
 
--- and it has seen to all roots
+-- the seat is alone in a drain before the sweep, and has noted that every root is nil or names a marked cell
 pub record IsRooted (v : View) : Type 0 where
   pub ready : IsBeforeSweep v
-  pub roots : RootsTo (v.shape.sections * 32) v
+  pub roots : RootsTo (v.shape.sections * section_variables) v
 
--- and then it saw that no card is dirty, and that all packets are empty
+-- the seat has noted that every root is nil or names a marked cell, that each card is clean, and that all packets are empty; it has no work in hand
 pub record IsDrained (v : View) : Type 0 where
   pub rooted : IsRooted v
   pub cards : AreNotedClean 0 (card_count v.shape) v
-  pub empty : look the_empty_count v.known ≡ Some (64 + v.shape.packets)
+  pub empty : look the_empty_count v.known ≡ Some (empty_offset + v.shape.packets)
   pub work : IsFalse (work_in_hand v.shape.fields v.state)
 
 -- a dirty card was found, or no dirty card and another count of empty packets than that of all
 abbrev pub FindsWork : Shape → List Entry → Type 0
 FindsWork sh es =
     ((card : ℕ) × (card < card_count sh) × (es ≡ looks_dirty 0 card))
-    ⊎ ((n : ℕ) × (n ≢ 64 + sh.packets) × (es ≡ looks_clean 0 (card_count sh) ++ event ReadCount n ∷ []))
+    ⊎ ((n : ℕ) × (n ≢ empty_offset + sh.packets) × (es ≡ looks_clean 0 (card_count sh) ++ event ReadCount n ∷ []))
 
 -- no dirty card was found, and after that the count of empty packets was that of all
-abbrev pub FindsNone : Shape → List Entry → Type 0
-FindsNone sh es = es ≡ looks_clean 0 (card_count sh) ++ event ReadCount (64 + sh.packets) ∷ []
+abbrev pub FindsNoDirtyCard : Shape → List Entry → Type 0
+FindsNoDirtyCard sh es = es ≡ looks_clean 0 (card_count sh) ++ event ReadCount (empty_offset + sh.packets) ∷ []

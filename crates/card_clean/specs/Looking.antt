@@ -15,6 +15,6 @@ KeepsAllNotes v w = (at : ℕ × ℕ) (n : ℕ) → look at v.known ≡ Some n �
 abbrev pub looks_clean : ℕ → ℕ → List Entry
 looks_clean from to = map (λ k. event (ReadCard k) 0) (range_with_len from (to - from))
 
--- and then that one was found dirty
+-- the cards from this one on were looked at, one after another, and found clean; then that one was found dirty
 abbrev pub looks_dirty : ℕ → ℕ → List Entry
 looks_dirty from card = looks_clean from card ++ event (ReadCard card) 1 ∷ []

@@ -12,7 +12,7 @@ pub record NoPacket (sh : Shape) (es : List Entry) : Type 0 where
   pub no_output : NoOutput sh first
   pub no_input : NoInput sh second
 
--- this was done between the taking and the giving of packets
+-- packets were taken, then P holds of what was done, and then packets were given back
 pub record CleansWithPacket (P : List Entry → Type 0) (es : List Entry) : Type 0 where
   pub taking : List Entry
   pub cleaning : List Entry

@@ -9,8 +9,8 @@ ghost use Rattle.gc_table.specs.Seats.{Across, did, state_of, view_of};
 ghost use Rattle.packet_pools.specs.OnlyTraced.{OnlyTraced, OnlyCleaned};
 ghost use Rattle.gc_table.specs.Log.{events, event};
 ghost use Rattle.packet_pools.specs.Tracing.{IsTracer};
-ghost use Rattle.packet_pools.specs.Hands.{IsHeld};
-ghost use Rattle.packet_pools.specs.Scanning.{Fills, InHand, owes_card};
+ghost use Rattle.packet_pools.specs.Hands.{HoldsPacket};
+ghost use Rattle.packet_pools.specs.Scanning.{Fills, InHand, owes_redirty};
 ghost use Rattle.card_clean.specs.Cleaning.{Cleans, LearnsCells, RescansCard};
 ghost use Rattle.card_clean.specs.Leaving.{rescanned_in};
 ghost use Rattle.card_clean.specs.Rescanning.{OnlyOwes, just_cleared, left_word};
@@ -23,7 +23,7 @@ use packet_pools::Held;
 
 /// The cells that are left in the seat's cleaning, and whether its card must be dirtied again.
 fn what_is_left(seat: &HeapSeat) -> (u64, bool)
-    ensures { (result.0 ≡ left_word (state_of seat.now).cleaning) × (result.1 ≡ owes_card (state_of seat.now).cleaning) }
+    ensures { (result.0 ≡ left_word (state_of seat.now).cleaning) × (result.1 ≡ owes_redirty (state_of seat.now).cleaning) }
 {
     match seat.state().cleaning {
         None => (0, false),
@@ -38,7 +38,7 @@ fn read_block(heap: &Heap, seat: &mut HeapSeat, card: u32) -> (u64, bool)
     requires hand { InHand None None (state_of seat.old) }
     requires cleared { (state_of seat.old).cleaning ≡ Some (just_cleared card) }
     ensures seat { IsTracer heap.now seat.new }
-    ensures later { Across OnlyTraced seat.old seat.new }
+    ensures only { Across OnlyTraced seat.old seat.new }
     ensures learns { Across (LearnsCells card result.0 result.1) seat.old seat.new }
 {
     heap.read_marks(seat, card / BLOCK_CARDS);
@@ -58,9 +58,9 @@ fn redirty(heap: &Heap, seat: &mut HeapSeat, card: u32, redirtied: bool)
     requires seat { IsTracer heap.now seat.old }
     requires card { card < card_count heap.now.shape }
     requires owes { OnlyOwes card heap.now.shape.fields (state_of seat.old) }
-    requires told { IsTrue (owes_card (state_of seat.old).cleaning) → IsTrue redirtied }
+    requires told { IsTrue (owes_redirty (state_of seat.old).cleaning) → IsTrue redirtied }
     ensures seat { IsTracer heap.now seat.new }
-    ensures later { Across OnlyCleaned seat.old seat.new }
+    ensures only { Across OnlyCleaned seat.old seat.new }
     ensures held { (state_of seat.new).held ≡ (state_of seat.old).held }
     ensures work { IsFalse (work_in_hand heap.now.shape.fields (state_of seat.new)) }
     ensures owed { ((state_of seat.new).owes ≡ (state_of seat.old).owes) ⊎ ((state_of seat.new).owes ≡ None) }
@@ -75,12 +75,12 @@ fn redirty(heap: &Heap, seat: &mut HeapSeat, card: u32, redirtied: bool)
 fn rescan_card(heap: &Heap, seat: &mut HeapSeat, card: u32, out: &mut Held) -> Cleaned
     requires seat { IsTracer heap.now seat.old }
     requires card { card < card_count heap.now.shape }
-    requires out { IsHeld out.old (view_of seat.old) × IsTrue (has_free_slot (state_of seat.old).held) }
+    requires out { HoldsPacket out.old (view_of seat.old) × IsTrue (has_free_slot (state_of seat.old).held) }
     requires hand { InHand None None (state_of seat.old) }
     requires over { IsFalse (scan_left heap.now.shape.fields (state_of seat.old).scan) }
     requires cleared { (state_of seat.old).cleaning ≡ Some (just_cleared card) }
     ensures seat { IsTracer heap.now seat.new }
-    ensures later { Across OnlyCleaned seat.old seat.new }
+    ensures only { Across OnlyCleaned seat.old seat.new }
     ensures out { Across (Fills out.old out.new) seat.old seat.new }
     ensures work { IsFalse (work_in_hand heap.now.shape.fields (state_of seat.new)) }
     ensures owes { ((state_of seat.new).owes ≡ (state_of seat.old).owes) ⊎ ((state_of seat.new).owes ≡ None) }
@@ -120,10 +120,10 @@ fn rescan_card(heap: &Heap, seat: &mut HeapSeat, card: u32, out: &mut Held) -> C
 pub fn clean_card(heap: &Heap, seat: &mut HeapSeat, card: u32, out: &mut Held) -> Cleaned
     requires seat { IsTracer heap.now seat.old }
     requires card { card < card_count heap.now.shape }
-    requires out { IsHeld out.old (view_of seat.old) × IsTrue (has_free_slot (state_of seat.old).held) }
+    requires out { HoldsPacket out.old (view_of seat.old) × IsTrue (has_free_slot (state_of seat.old).held) }
     requires work { IsFalse (work_in_hand heap.now.shape.fields (state_of seat.old)) }
     ensures seat { IsTracer heap.now seat.new }
-    ensures later { Across OnlyCleaned seat.old seat.new }
+    ensures only { Across OnlyCleaned seat.old seat.new }
     ensures out { Across (Fills out.old out.new) seat.old seat.new }
     ensures work { IsFalse (work_in_hand heap.now.shape.fields (state_of seat.new)) }
     ensures owes { ((state_of seat.new).owes ≡ (state_of seat.old).owes) ⊎ ((state_of seat.new).owes ≡ None) }

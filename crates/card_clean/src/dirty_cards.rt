@@ -7,7 +7,7 @@ ghost use Rattle.mark_core.specs.Seats.{work_in_hand};
 ghost use Rattle.gc_table.specs.Seats.{Across, did, Sits, state_of, view_of};
 ghost use Rattle.packet_pools.specs.OnlyTraced.{OnlyTraced, OnlyCleaned};
 ghost use Rattle.packet_pools.specs.Tracing.{IsTracer};
-ghost use Rattle.packet_pools.specs.Hands.{IsHeld};
+ghost use Rattle.packet_pools.specs.Hands.{HoldsPacket};
 ghost use Rattle.packet_pools.specs.Scanning.{Fills};
 ghost use Rattle.card_clean.specs.Leaving.{rescanned_in};
 ghost use Rattle.card_clean.specs.DirtyCards.{CleanedFrom, CleanedWhereDirty, CleansDirty};
@@ -25,7 +25,7 @@ use packet_pools::{Held, give};
 pub(crate) fn first_dirty(heap: &Heap, seat: &mut HeapSeat, from: u32) -> Option<u32>
     requires { Sits heap.now seat.old }
     ensures seat { Sits heap.now seat.new }
-    ensures later { Across OnlyTraced seat.old seat.new }
+    ensures only { Across OnlyTraced seat.old seat.new }
     ensures state { state_of seat.new ≡ state_of seat.old }
     ensures notes { Across KeepsAllNotes seat.old seat.new }
     ensures dirty { IfSome result (λ card. (from ≤ card) × (card < card_count heap.now.shape) × (did seat.old seat.new ≡ looks_dirty from card)) }
@@ -44,10 +44,10 @@ pub(crate) fn first_dirty(heap: &Heap, seat: &mut HeapSeat, from: u32) -> Option
 fn clean_where_dirty(heap: &Heap, seat: &mut HeapSeat, card: u32, out: &mut Held) -> u32
     requires seat { IsTracer heap.now seat.old }
     requires card { card < card_count heap.now.shape }
-    requires out { IsHeld out.old (view_of seat.old) × IsTrue (has_free_slot (state_of seat.old).held) }
+    requires out { HoldsPacket out.old (view_of seat.old) × IsTrue (has_free_slot (state_of seat.old).held) }
     requires work { IsFalse (work_in_hand heap.now.shape.fields (state_of seat.old)) }
     ensures seat { IsTracer heap.now seat.new }
-    ensures later { Across OnlyCleaned seat.old seat.new }
+    ensures only { Across OnlyCleaned seat.old seat.new }
     ensures out { Across (Fills out.old out.new) seat.old seat.new }
     ensures work { IsFalse (work_in_hand heap.now.shape.fields (state_of seat.new)) }
     ensures most { result ≤ card_cells }
@@ -64,10 +64,10 @@ fn clean_where_dirty(heap: &Heap, seat: &mut HeapSeat, card: u32, out: &mut Held
 /// Looks at each card from this one on, and cleans those that are dirty: how many cells were scanned again. A clean card costs one look.
 fn clean_from(heap: &Heap, seat: &mut HeapSeat, from: u32, out: &mut Held) -> u32
     requires seat { IsTracer heap.now seat.old }
-    requires out { IsHeld out.old (view_of seat.old) × IsTrue (has_free_slot (state_of seat.old).held) }
+    requires out { HoldsPacket out.old (view_of seat.old) × IsTrue (has_free_slot (state_of seat.old).held) }
     requires work { IsFalse (work_in_hand heap.now.shape.fields (state_of seat.old)) }
     ensures seat { IsTracer heap.now seat.new }
-    ensures later { Across OnlyCleaned seat.old seat.new }
+    ensures only { Across OnlyCleaned seat.old seat.new }
     ensures out { Across (Fills out.old out.new) seat.old seat.new }
     ensures work { IsFalse (work_in_hand heap.now.shape.fields (state_of seat.new)) }
     ensures most { result ≤ heap.now.shape.cells }
@@ -90,7 +90,7 @@ pub fn clean_dirty(heap: &Heap, seat: &mut HeapSeat) -> u32
     requires free { 2 ≤ free_slots (state_of seat.old).held }
     requires work { IsFalse (work_in_hand heap.now.shape.fields (state_of seat.old)) }
     ensures seat { IsTracer heap.now seat.new }
-    ensures later { Across OnlyCleaned seat.old seat.new }
+    ensures only { Across OnlyCleaned seat.old seat.new }
     ensures held { (state_of seat.new).held ≡ (state_of seat.old).held }
     ensures work { IsFalse (work_in_hand heap.now.shape.fields (state_of seat.new)) }
     ensures left { rescanned_in (view_of seat.old) (did seat.old seat.new) ≡ result }

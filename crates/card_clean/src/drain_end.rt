@@ -1,13 +1,13 @@
 //! The end of a drain, as the seat sees it that stopped the world and is alone.
 //!
-//! What such a seat reads stays until it changes it. So once the roots are seen to (each is nil, or goes to a marked cell), they are: tracing sets
+//! What such a seat reads stays until it changes it. So once the roots are seen to (each is nil, or names a marked cell), they are: tracing sets
 //! mark bits and clears none, and no mutator stores a root. Then it is enough to look at every card, and at the count of empty packets, with no
 //! step between that dirties a card or takes a packet.
 ghost use Rattle.std.specs.Prelude.{◌≡◌, IsTrue, IsFalse};
 ghost use Rattle.mark_core.specs.Seats.{work_in_hand};
 ghost use Rattle.gc_table.specs.Seats.{Across, did, Sits, state_of, view_of};
 ghost use Rattle.packet_pools.specs.OnlyTraced.{OnlyTraced};
-ghost use Rattle.card_clean.specs.Drained.{FindsNone, FindsWork, IsDrained, IsRooted};
+ghost use Rattle.card_clean.specs.Drained.{FindsNoDirtyCard, FindsWork, IsDrained, IsRooted};
 ghost use Rattle.card_clean.specs.Leaving.{rescanned_in};
 
 use crate::dirty_cards::first_dirty;
@@ -21,11 +21,11 @@ pub fn is_drained(heap: &Heap, seat: &mut HeapSeat) -> bool
     requires rooted { IsRooted (view_of seat.old) }
     requires work { IsFalse (work_in_hand heap.now.shape.fields (state_of seat.old)) }
     ensures seat { Sits heap.now seat.new }
-    ensures later { Across OnlyTraced seat.old seat.new }
+    ensures only { Across OnlyTraced seat.old seat.new }
     ensures state { state_of seat.new ≡ state_of seat.old }
     ensures rooted { IsRooted (view_of seat.new) }
     ensures drained { IsTrue result → IsDrained (view_of seat.new) }
-    ensures over { IsTrue result → FindsNone heap.now.shape (did seat.old seat.new) }
+    ensures over { IsTrue result → FindsNoDirtyCard heap.now.shape (did seat.old seat.new) }
     ensures undrained { IsFalse result → FindsWork heap.now.shape (did seat.old seat.new) }
     ensures left { rescanned_in (view_of seat.old) (did seat.old seat.new) ≡ 0 }
 {

@@ -1,8 +1,8 @@
 //! Cards: a mutator's barrier dirties them, and tracers clean them.
 //!
-//! A heap is cut into cards (`mark_core` says of how many cells). While tracers read the fields of objects, mutators store in them, so an object that was scanned may refer to
-//! a white cell since. Its card says so: it is dirty. To clean a card is to scan its marked objects again (as in Boehm and others, "Mostly parallel
-//! garbage collection", PLDI 1991, with pages for cards, and in Barabash and others, TOPLAS 2005, whose cards these are). Throughout a cycle a marked
+//! A heap is cut into cards (`mark_core` says of how many cells). While tracers read the fields of objects, mutators store in them, so an object that was
+//! scanned may refer to a white cell since. Its card says so: it is dirty. To clean a card is to scan its marked objects again (as in Boehm and others, "Mostly
+//! parallel garbage collection", PLDI 1991, with pages for cards, and in Barabash and others, TOPLAS 2005, whose cards these are). Throughout a cycle a marked
 //! published object that refers to a white cell is in a packet or in somebody's hand, or its card is dirty, owed by a mutator, or being cleaned.
 //!
 //! # The mutators' half: the barrier
@@ -24,11 +24,11 @@
 //!
 //! # The end of a drain
 //!
-//! What a seat that is alone has read stays until it changes it. So such a seat sees to the roots once ([`see_to_roots`]): each is nil, or goes to a
-//! cell that it knows marked, and tracing clears no mark. Then it traces and cleans in turns until one look at all cards and then at the count of empty
+//! What a seat that is alone has read stays until it changes it. So such a seat sees to the roots once ([`see_to_roots`]): each is nil, or names a
+//! cell that it knows to be marked, and tracing clears no mark. Then it traces and cleans in turns until one look at all cards and then at the count of empty
 //! packets finds nothing left ([`is_drained`]). Then every reachable cell is marked, and the drain may end.
 //!
-//! # Where what is
+//! # Where things are
 //!
 //! - `barrier`: a mutator's stores;
 //! - `cleaning`: one card is cleaned; `rescanning` scans its cells; `cleaned` has the answers; `one_card` takes a packet for it;

@@ -26,7 +26,7 @@ pub fn clean_one(heap: &Heap, seat: &mut HeapSeat, card: u32) -> Option<Cleaned>
     requires free { 2 ≤ free_slots (state_of seat.old).held }
     requires work { IsFalse (work_in_hand heap.now.shape.fields (state_of seat.old)) }
     ensures seat { IsTracer heap.now seat.new }
-    ensures later { Across OnlyCleaned seat.old seat.new }
+    ensures only { Across OnlyCleaned seat.old seat.new }
     ensures held { (state_of seat.new).held ≡ (state_of seat.old).held }
     ensures work { IsFalse (work_in_hand heap.now.shape.fields (state_of seat.new)) }
     ensures owes { ((state_of seat.new).owes ≡ (state_of seat.old).owes) ⊎ ((state_of seat.new).owes ≡ None) }

@@ -4,7 +4,7 @@ ghost use Rattle.mark_core.specs.Held.{has_free_slot, holds};
 ghost use Rattle.gc_table.specs.Seats.{Across, did, state_of, view_of};
 ghost use Rattle.packet_pools.specs.OnlyTraced.{OnlyTraced};
 ghost use Rattle.packet_pools.specs.Tracing.{IsTracer};
-ghost use Rattle.packet_pools.specs.Hands.{IsHeld, with_packet};
+ghost use Rattle.packet_pools.specs.Hands.{HoldsPacket, with_packet};
 ghost use Rattle.packet_pools.specs.Seeking.{only_moves, output_pools};
 ghost use Rattle.card_clean.specs.Taking.{NoPacket};
 
@@ -16,9 +16,9 @@ pub(crate) fn take_some(heap: &Heap, seat: &mut HeapSeat) -> Option<Held>
     requires seat { IsTracer heap.now seat.old }
     requires free { IsTrue (has_free_slot (state_of seat.old).held) }
     ensures seat { IsTracer heap.now seat.new }
-    ensures later { Across OnlyTraced seat.old seat.new }
+    ensures only { Across OnlyTraced seat.old seat.new }
     ensures moves { IsTrue (only_moves output_pools (did seat.old seat.new)) }
-    ensures some { IfSome result (λ h. IsFalse (holds (state_of seat.old).held h.packet) × IsHeld h (view_of seat.new) × (state_of seat.new ≡ record (state_of seat.old) { held = with_packet (state_of seat.old).held h.packet h.length })) }
+    ensures some { IfSome result (λ h. IsFalse (holds (state_of seat.old).held h.packet) × HoldsPacket h (view_of seat.new) × (state_of seat.new ≡ record (state_of seat.old) { held = with_packet (state_of seat.old).held h.packet h.length })) }
     ensures none { IfNone result ((state_of seat.new ≡ state_of seat.old) × NoPacket heap.now.shape (did seat.old seat.new)) }
 {
     match take_output(heap, seat) {

@@ -15,7 +15,7 @@ use Rattle.clap.specs.declared.parser.matches.ArgMatches.{ArgMatches}
 use Rattle.clap.specs.declared.parser.matches.ArgMatches.TheViews.{out-ArgMatches, out-SubCommand}
 use Rattle.clap.specs.declared.parser.matches.SubCommand.{SubCommand}
 use Rattle.command_words.specs.Words.{Command, Setting, by_name, command, settings}
-use Rattle.command_words.specs.Parsing.{Form, IsAsked, Tells, asked_program, dashed, form_named, forms, has_no_dashes}
+use Rattle.command_words.specs.Parsing.{Form, IsAsked, MatchesTell, asked_program, dashed, form_named, forms, has_no_dashes}
 use Rattle.command_words.proofs.LeafRefused.{dashes_mean_none}
 use Rattle.command_words.proofs.TopWalk.{CoversAt, Entered, Keeps, Outcome, meant, program_outcome}
 use Rattle.command_words.proofs.CommandTable.{covers}
@@ -53,7 +53,7 @@ asked_is words m name rows answer nd none same named rowed asked =
       form = entered.form;
       known = ap (λ n. form_named n forms) name_is ∙ entered.known;
       allowed = entered.allowed;
-      tells = subst (λ r. Tells r entered.all) (sym rows_are) entered.tells;
+      tells = subst (λ r. MatchesTell r entered.all) (sym rows_are) entered.tells;
     })
     ∙ (ap (λ n. by_name n entered.all) name_is ∙ (sym entered.meant_is ∙ sym (means words)))
   where

@@ -3,9 +3,9 @@ use Rattle.std.proofs.Common.{◌≡◌, ◌≤◌, ◌%◌, ◌&&◌, ◌==◌,
 use Rattle.std.proofs.lemmas.Bool.Decides.{nat_tests}
 use Rattle.std.specs.Prelude.{Option, Some, None, IfSome, option_map, option_and_then, if◌then◌else◌, nat_le, codes}
 use Rattle.std.specs.Str.{bytes_eq}
-use Rattle.gc_script.specs.ScriptText.{number_of}
-use Rattle.command_words.specs.Words.{Options, Setting, Command, Run, Gen, Load, Convert, Schedule, Dump, Undump, Census, Batch, command, by_name, settings, allowing, given, chosen, number_in, is_set, cells, workers, tracers, packets, entries, runners, options, number, size, run, gen, load, dump, batch, play_names, made_names}
-use Rattle.command_words.specs.Commands.{IsInRange, command_of, options_of}
+use Rattle.script_lines.specs.ScriptText.{number_of}
+use Rattle.command_words.specs.Words.{Options, Setting, Command, Run, Gen, Load, Convert, Schedule, Dump, Undump, Census, Batch, command, by_name, settings, allowing, given, chosen, number_in, is_set, cells, workers, tracers, packets, entries, runners, options, number, size, run, gen, load, dump_command, batch_command, play_names, made_names}
+use Rattle.command_words.specs.Commands.{IsCommandInRange, command_of, options_of}
 use Rattle.play_contract.specs.Playing.{AreInRange}
 use Rattle.play_contract.specs.declared.options.Options.{Options as PlayOptions}
 use Rattle.command_words.specs.declared.asked.Asked.{Asked}
@@ -143,7 +143,7 @@ named_fine : (name : List ℕ) (all : List Setting) → IsFine (by_name name all
 named_fine name all =
     first_of (bytes_eq name (codes "run")) (bytes_eq name (codes "gen")) (bytes_eq name (codes "load")) (bytes_eq name (codes "convert")) (bytes_eq name (codes "schedule"))
     (bytes_eq name (codes "dump")) (bytes_eq name (codes "undump")) (bytes_eq name (codes "census")) (bytes_eq name (codes "batch"))
-    (run all) (gen all) (load all) (allowing [] all (Some Convert)) (allowing [] all (Some Schedule)) (dump all) (allowing [] all (Some Undump)) (allowing [] all (Some Census)) (batch all)
+    (run all) (gen all) (load all) (allowing [] all (Some Convert)) (allowing [] all (Some Schedule)) (dump_command all) (allowing [] all (Some Undump)) (allowing [] all (Some Census)) (batch_command all)
     (allowed (codes "--place" ∷ play_names) all (option_and_then (λ o. Some (Run o)) (options all)) (run_fine (options all) (options_in all)))
     (allowed made_names all (option_and_then (λ n. option_and_then (λ m. Some (Gen n m)) (size all)) (number all)) (gen_fine (number all) (size all) (size_in all)))
     (allowed (codes "--number" ∷ codes "--size" ∷ play_names) all (option_and_then (λ o. option_and_then (λ n. option_and_then (λ m. Some (Load o n m)) (size all)) (number all)) (options all))
@@ -166,7 +166,7 @@ command_fine (name ∷ words) = with_settings name (settings words None)
 options_fine : (o : PlayOptions) → AreIn (Some (options_of o)) → AreInRange o
 options_fine o h = record { cells = h.0; workers = h.1; tracers = h.2.1; packets = h.3; entries = h.4 }
 
-range_of : (a : Asked) → IsFine (Some (command_of a)) → IsInRange a
+range_of : (a : Asked) → IsFine (Some (command_of a)) → IsCommandInRange a
 range_of (asked.Run o) h = options_fine o h
 range_of (asked.Gen number size) h = h
 range_of (asked.Load o number size) h = (options_fine o h.0, h.1.0, h.1.1)
@@ -178,10 +178,10 @@ range_of asked.Census h = tt
 range_of (asked.Batch o runners) h = (options_fine o h.0, h.1.0, h.1.1)
 
 -- what the words ask for is in range
-in_range : (words : List (List ℕ)) (a : Asked) → Some (command_of a) ≡ command words → IsInRange a
+in_range : (words : List (List ℕ)) (a : Asked) → Some (command_of a) ≡ command words → IsCommandInRange a
 in_range words a e = range_of a (subst IsFine (sym e) (command_fine words))
 
-pub all_in_range : (words : List (List ℕ)) (a : Option Asked) → option_map command_of a ≡ command words → IfSome a IsInRange
+pub all_in_range : (words : List (List ℕ)) (a : Option Asked) → option_map command_of a ≡ command words → IfSome a IsCommandInRange
 all_in_range words None e = tt
 all_in_range words (Some a) e = in_range words a e
 

@@ -16,7 +16,7 @@ use Rattle.clap.specs.declared.builder.value_parser.Reading.TheVariants.{AsWritt
 use Rattle.clap.specs.declared.parser.matches.ValueSource.TheVariants.{DefaultValue}
 use Rattle.clap.proofs.WalkLemmas.{find-map}
 use Rattle.command_words.specs.Words.{Setting, given, settings}
-use Rattle.command_words.specs.Parsing.{IsToldFlag, Tells, are_allowed, dashed, flag_rule, has_no_dashes, is_flag, is_required, option_rule, read_command, read_rule, told}
+use Rattle.command_words.specs.Parsing.{IsToldFlag, MatchesTell, are_allowed, dashed, flag_rule, has_no_dashes, is_flag, is_required, option_rule, read_command, read_rule, told_values}
 use Rattle.command_words.proofs.NamedRules.{by_kind, has_name, rules}
 use Rattle.command_words.proofs.Uses.{IsOnce, Use, at_no_row, row_of_use, row_with, rows_of_uses, settings_of, shown, use_of}
 use Rattle.command_words.proofs.LeafTurns.{at, ends, held, if_sound}
@@ -107,16 +107,16 @@ use_fits names n (u ∷ us) h = go (bytes_eq u.0 n) (bytes_eq-Decides u.0 n).0 (
     go false same true true e t next = next t
 
 tells_uses : (names : List Text) (uses : List Use) (extra : List Text) → list_all (fits names) uses ≡ true → IsOnce uses → list_all is_flag extra ≡ true
-    → Tells (rows_of_uses uses ++ map unset_row extra) (settings_of uses)
+    → MatchesTell (rows_of_uses uses ++ map unset_row extra) (settings_of uses)
 tells_uses names uses extra fit once flags = record {
   option = λ n f. once n ∙ (option_told (use_of n uses) (subst (λ b. FitsKind b (use_of n uses)) f (use_fits names n uses fit))
-      ∙ ap (λ o. told (option_and_then (λ (r : Row). slice_get r.values 0) o)) (sym (row_found n uses extra ∙ ap (or_next (option_map row_of_use (use_of n uses))) (ap (option_map unset_row) (no_option_extra n extra f flags)))));
+      ∙ ap (λ o. told_values (option_and_then (λ (r : Row). slice_get r.values 0) o)) (sym (row_found n uses extra ∙ ap (or_next (option_map row_of_use (use_of n uses))) (ap (option_map unset_row) (no_option_extra n extra f flags)))));
   flag = λ n f. subst (λ l. IsToldFlag (one_of n (rows_of_uses uses ++ map unset_row extra)) l) (sym (once n))
       (subst (λ o. IsToldFlag (option_and_then row_text o) (shown (use_of n uses))) (sym (row_found n uses extra))
       (flag_told (use_of n uses) (find (λ m. bytes_eq m n) extra) (subst (λ b. FitsKind b (use_of n uses)) f (use_fits names n uses fit))));
 }
   where
-    option_told : (o : Option Use) → FitsKind false o → shown o ≡ told (option_and_then (λ (r : Row). slice_get r.values 0) (or_next (option_map row_of_use o) None))
+    option_told : (o : Option Use) → FitsKind false o → shown o ≡ told_values (option_and_then (λ (r : Row). slice_get r.values 0) (or_next (option_map row_of_use o) None))
     option_told None k = refl
     option_told (Some (m, Some v)) k = refl
     option_told (Some (m, None)) k = absurd (true≢false (sym k))
@@ -238,7 +238,7 @@ pub record Says (names : List Text) (rows : List Row) (sets : Option (List Setti
   pub all : List Setting
   pub sets_are : sets ≡ Some all
   pub allowed : are_allowed names all ≡ true
-  pub tells : Tells rows all
+  pub tells : MatchesTell rows all
 
 module _ {Z : Type 0} (name : Text) (names : List Text) (K : List Setting → Option Z)
     (refuses : (done more : List Setting) (x : Setting) → is_bad names done x ≡ true → K (done ++ x ∷ more) ≡ None)
@@ -266,7 +266,7 @@ module _ {Z : Type 0} (name : Text) (names : List Text) (K : List Setting → Op
         all = settings_of found.uses;
         sets_are = found.sets_are;
         allowed = allowed names found.uses found.fit;
-        tells = subst (λ r. Tells r (settings_of found.uses)) (sym rows_are) (tells_uses names found.uses extra.names found.fit found.once extra.flags);
+        tells = subst (λ r. MatchesTell r (settings_of found.uses)) (sym rows_are) (tells_uses names found.uses extra.names found.fit found.once extra.flags);
       }
       go true e =
           let one = missing_one (fold with_default rows (rules names)) names e in

@@ -5,7 +5,7 @@ use Rattle.std.specs.Option.{option_map_or}
 use Rattle.std.specs.List.{list_any}
 use Rattle.std.proofs.lemmas.Slice.Eq.{bytes_eq-Decides}
 use Rattle.clap.specs.Walk.{Text}
-use Rattle.command_words.specs.Words.{Setting, Begins, Flag, Named, Whole, begins, begun, settings, with_setting}
+use Rattle.command_words.specs.Words.{Setting, Begins, Flag, Named, Whole, word_kind, settings_begun, settings, with_setting}
 use Rattle.command_words.specs.Parsing.{dashed, has_no_dashes, is_flag}
 use Rattle.command_words.proofs.NamedRules.{has_name}
 use Rattle.command_words.proofs.Uses.{Use, has_setting, is_used, settings_of}
@@ -99,7 +99,7 @@ module _ {Z : Type 0} (names : List Text) (K : List Setting → Option Z)
   waiting_refused uses m [] bad = refl
   waiting_refused uses m (y ∷ ys) bad = refused_name uses m (Some y) (settings ys None) bad
 
-  pub other_refused : (uses : List Use) (b : Begins) (xs : List Text) → BeginsOther b → option_and_then K (preceded (settings_of uses) (begun b (settings xs))) ≡ None
+  pub other_refused : (uses : List Use) (b : Begins) (xs : List Text) → BeginsOther b → option_and_then K (preceded (settings_of uses) (settings_begun b (settings xs))) ≡ None
   other_refused uses Flag xs is = absurd is
   other_refused uses (Whole m v) xs lacks = refused_name uses m (Some v) (settings xs None) (lacks_names m names lacks)
   other_refused uses (Named m) xs lacks = waiting_refused uses m xs (lacks_names m names lacks)
@@ -124,7 +124,7 @@ module _ {Z : Type 0} (names : List Text) (K : List Setting → Option Z)
   dashes_refused (x ∷ xs) done empty h = (idle_case (bytes_eq x (dashed [])) (bytes_eq-Decides x (dashed [])).0 h (λ d e. dashes_refused xs d empty e), λ m. open_case m (bytes_eq x (dashed [])) (bytes_eq-Decides x (dashed [])).0 h (λ d e. dashes_refused xs d empty e))
     where
       by_begins : (b : Begins) → has_no_dashes xs ≡ false → ((d : List Setting) → has_no_dashes xs ≡ false → (option_and_then K (preceded d (settings xs None)) ≡ None) × ((m : Text) → option_and_then K (preceded d (settings xs (Some m))) ≡ None))
-          → option_and_then K (preceded done (begun b (settings xs))) ≡ None
+          → option_and_then K (preceded done (settings_begun b (settings xs))) ≡ None
       by_begins Flag e rest = ap (option_and_then K) (refused_front done (codes "--place") None (settings xs None)) ∙ (rest (done ++ pair (codes "--place") None ∷ []) e).0
       by_begins (Whole m v) e rest = ap (option_and_then K) (refused_front done m (Some v) (settings xs None)) ∙ (rest (done ++ pair m (Some v) ∷ []) e).0
       by_begins (Named m) e rest = (rest done e).1 m
@@ -136,8 +136,8 @@ module _ {Z : Type 0} (names : List Text) (K : List Setting → Option Z)
       idle_case : (b : Bool) → (b ≡ true → x ≡ dashed []) → (not b && has_no_dashes xs) ≡ false
           → ((d : List Setting) → has_no_dashes xs ≡ false → (option_and_then K (preceded d (settings xs None)) ≡ None) × ((m : Text) → option_and_then K (preceded d (settings xs (Some m))) ≡ None))
           → option_and_then K (preceded done (settings (x ∷ xs) None)) ≡ None
-      idle_case true same e rest = ap (λ w. option_and_then K (preceded done (begun (begins w) (settings xs)))) (same refl) ∙ named_dashes xs
-      idle_case false same e rest = by_begins (begins x) e rest
+      idle_case true same e rest = ap (λ w. option_and_then K (preceded done (settings_begun (word_kind w) (settings xs)))) (same refl) ∙ named_dashes xs
+      idle_case false same e rest = by_begins (word_kind x) e rest
 
       open_case : (m : Text) (b : Bool) → (b ≡ true → x ≡ dashed []) → (not b && has_no_dashes xs) ≡ false
           → ((d : List Setting) → has_no_dashes xs ≡ false → (option_and_then K (preceded d (settings xs None)) ≡ None) × ((m : Text) → option_and_then K (preceded d (settings xs (Some m))) ≡ None))

@@ -13,7 +13,7 @@ use Rattle.clap.specs.Faults.{settle_fault, use_fault}
 use Rattle.clap.specs.declared.builder.value_parser.Reading.TheVariants.{AsWritten}
 use Rattle.clap.specs.declared.parser.matches.ValueSource.TheVariants.{CommandLine}
 use Rattle.clap.specs.declared.error.kind.ErrorKind.TheVariants as kind
-use Rattle.command_words.specs.Words.{Setting, Flag, Named, begins, begun, settings, with_setting}
+use Rattle.command_words.specs.Words.{Setting, Flag, Named, word_kind, settings_begun, settings, with_setting}
 use Rattle.command_words.specs.Parsing.{dashed, has_no_dashes, is_flag, read_command}
 use Rattle.command_words.proofs.NamedRules.{has_name, rules}
 use Rattle.command_words.proofs.Uses.{IsOnce, Use, has_used, is_used, once_more, one_row_more, rows_of_uses, setting_of, settings_of}
@@ -149,19 +149,19 @@ module _ {Z : Type 0} (name : Text) (names : List Text) (K : List Setting → Op
   -- ---- a word where an option may begin
 
   flag_begun : (uses : List Use) (n : Text) (xs : List Text) → is_flag n ≡ true
-      → preceded (settings_of uses) (begun (begins_as n None) (settings xs)) ≡ preceded (settings_of uses) (with_setting (dashed n) None (settings xs None))
+      → preceded (settings_of uses) (settings_begun (begins_as n None) (settings xs)) ≡ preceded (settings_of uses) (with_setting (dashed n) None (settings xs None))
   flag_begun uses n xs e =
-      ap (λ b. preceded (settings_of uses) (begun (if b then Flag else Named (dashed n)) (settings xs))) e
+      ap (λ b. preceded (settings_of uses) (settings_begun (if b then Flag else Named (dashed n)) (settings xs))) e
       ∙ ap (λ m. preceded (settings_of uses) (with_setting (dashed m) None (settings xs None))) (sym ((bytes_eq-Decides n (codes "place")).0 e))
 
   name_begun : (uses : List Use) (n : Text) (xs : List Text) → is_flag n ≡ false
-      → preceded (settings_of uses) (begun (begins_as n None) (settings xs)) ≡ read uses xs (Some (dashed n))
-  name_begun uses n xs e = ap (λ b. preceded (settings_of uses) (begun (if b then Flag else Named (dashed n)) (settings xs))) e
+      → preceded (settings_of uses) (settings_begun (begins_as n None) (settings xs)) ≡ read uses xs (Some (dashed n))
+  name_begun uses n xs e = ap (λ b. preceded (settings_of uses) (settings_begun (if b then Flag else Named (dashed n)) (settings xs))) e
 
   idle_long : (x : Text) (xs : List Text) → IdleAt xs → OpenAt xs → (uses : List Use) (rows : List Row) (p : Option (Text × List Text)) → IsReady uses
       → settle_fault c false (held rows p) ≡ [] → settled_rows c p rows ≡ rows_of_uses uses
       → (n : Text) (v : Option Text) (known flag : Bool) → has_name names n ≡ known → is_flag n ≡ flag
-      → Result (long_turn name names (rule_met known flag n) v idle (held rows p) x xs) (preceded (settings_of uses) (begun (begins_as n v) (settings xs)))
+      → Result (long_turn name names (rule_met known flag n) v idle (held rows p) x xs) (preceded (settings_of uses) (settings_begun (begins_as n v) (settings xs)))
   idle_long x xs ih io uses rows p ready f q n (Some y) false flag e k = refused_name names K refuses uses (dashed n) (Some y) (settings xs None) (unknown names K refuses n e)
   idle_long x xs ih io uses rows p ready f q n None false true e k =
       ap (option_and_then K) (flag_begun uses n xs k) ∙ refused_name names K refuses uses (dashed n) None (settings xs None) (unknown names K refuses n e)
@@ -181,10 +181,10 @@ module _ {Z : Type 0} (name : Text) (names : List Text) (K : List Setting → Op
     where
       go : Look x → Result (ends s (at idle (held rows p)) (x ∷ xs)) (read uses (x ∷ xs) None)
       go (dashes e) = never_dashes x (first_word x xs nd).0 e
-      go (other l d) = failed _ _ (other_fails name names rows p x xs (first_word x xs nd).0 l) (other_refused names K refuses uses (begins x) xs (begins_other x d))
+      go (other l d) = failed _ _ (other_fails name names rows p x xs (first_word x xs nd).0 l) (other_refused names K refuses uses (word_kind x) xs (begins_other x d))
       go (long n v l b d) = result_as _ _ _ _
           (long_turn_is name names idle for_none (held rows p) x xs n v (first_word x xs nd).0 l ∙ ap (λ o. long_turn name names o v idle (held rows p) x xs) (met_is name names n (has_name names n) (is_flag n) refl refl))
-          (ap (λ o. preceded (settings_of uses) (begun o (settings xs))) b)
+          (ap (λ o. preceded (settings_of uses) (settings_begun o (settings xs))) b)
           (idle_long x xs ih io uses rows p ready f q n v (has_name names n) (is_flag n) refl refl)
 
   both : (words : List Text) → has_no_dashes words ≡ true → IdleAt words × OpenAt words

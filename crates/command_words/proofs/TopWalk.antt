@@ -13,7 +13,7 @@ use Rattle.clap.specs.declared.error.kind.ErrorKind.TheVariants as kind
 use Rattle.clap.proofs.WalkLemmas.{walk_stopped}
 use Rattle.clap.proofs.FaultLemmas.{stopped_fault}
 use Rattle.command_words.specs.Words.{Setting, given, settings}
-use Rattle.command_words.specs.Parsing.{Form, Tells, are_allowed, dashed, form_named, has_no_dashes, is_required, read_command, read_program}
+use Rattle.command_words.specs.Parsing.{Form, MatchesTell, are_allowed, dashed, form_named, has_no_dashes, is_required, read_command, read_program}
 use Rattle.command_words.proofs.NamedRules.{has_name, or_no, rules}
 use Rattle.command_words.proofs.LeafTurns.{bundle_fails, first_word}
 use Rattle.command_words.proofs.LeafRefused.{is_bad}
@@ -177,7 +177,7 @@ module _ {Z : Type 0} (forms : List Form) (B : Text → List Setting → Option 
     pub all : List Setting
     pub meant_is : meant words ≡ B form.0 all
     pub allowed : are_allowed form.1 all ≡ true
-    pub tells : Tells rows all
+    pub tells : MatchesTell rows all
 
   abbrev pub Outcome : List Text → Kinds → Option (Text × List Row) → Type 0
   Outcome words [] sub = Entered words sub

@@ -6,6 +6,7 @@ use Rattle.play_contract.specs.Playing.{AreInRange}
 use Rattle.command_words.specs.declared.asked.Asked.{Asked}
 use Rattle.command_words.specs.declared.asked.Asked.TheVariants as asked
 
+-- the options of a play, as the definitions have them
 abbrev pub options_of : PlayOptions → Options
 options_of o = record { cells = o.cells; workers = o.workers; tracers = o.tracers; packets = o.packets; entries = o.entries; place = o.place }
 
@@ -22,13 +23,13 @@ command_of asked.Census = Census
 command_of (asked.Batch options runners) = Batch (options_of options) runners
 
 -- the values of a command's options are in their ranges
-abbrev pub IsInRange : Asked → Type 0
-IsInRange (asked.Run options) = AreInRange options
-IsInRange (asked.Gen number size) = (1 ≤ size) × (size ≤ 20000)
-IsInRange (asked.Load options number size) = AreInRange options × (1 ≤ size) × (size ≤ 20000)
-IsInRange asked.Convert = Unit {0}
-IsInRange asked.Schedule = Unit {0}
-IsInRange (asked.Dump options) = AreInRange options
-IsInRange asked.Undump = Unit {0}
-IsInRange asked.Census = Unit {0}
-IsInRange (asked.Batch options runners) = AreInRange options × (1 ≤ runners) × (runners ≤ 8)
+abbrev pub IsCommandInRange : Asked → Type 0
+IsCommandInRange (asked.Run options) = AreInRange options
+IsCommandInRange (asked.Gen number size) = (1 ≤ size) × (size ≤ 20000)
+IsCommandInRange (asked.Load options number size) = AreInRange options × (1 ≤ size) × (size ≤ 20000)
+IsCommandInRange asked.Convert = Unit {0}
+IsCommandInRange asked.Schedule = Unit {0}
+IsCommandInRange (asked.Dump options) = AreInRange options
+IsCommandInRange asked.Undump = Unit {0}
+IsCommandInRange asked.Census = Unit {0}
+IsCommandInRange (asked.Batch options runners) = AreInRange options × (1 ≤ runners) × (runners ≤ 8)

@@ -2,9 +2,9 @@
 ghost use Rattle.std.specs.Prelude.{◌≡◌, List, ℕ, Option, Some, None, true, option_map};
 ghost use Rattle.clap.specs.Words.{first_of, found_of, rows_of};
 ghost use Rattle.clap.specs.Walk.{one_of};
-ghost use Rattle.command_words.specs.Words.{Setting, batch, by_name, cells, chosen, dump, gen, is_set, load, options, run};
+ghost use Rattle.command_words.specs.Words.{Setting, batch_command, by_name, cells, chosen, dump_command, gen, is_set, load, options, run};
 ghost use Rattle.command_words.specs.Commands.{command_of, options_of};
-ghost use Rattle.command_words.specs.Parsing.{IsAsked, IsToldFlag, Tells, are_allowed, batch_options, load_options, made_options, play_options, run_options, told};
+ghost use Rattle.command_words.specs.Parsing.{IsAsked, IsToldFlag, MatchesTell, are_allowed, batch_options, load_options, made_options, play_options, run_options, told_values};
 
 use crate::asked::Asked;
 use crate::number::number_in;
@@ -19,7 +19,7 @@ fn chosen(
     greatest: u32,
     default: Option<u32>,
 ) -> Option<u32>
-    ensures { result ≡ chosen least greatest default (told (first_of name.now (rows_of (found_of matches.now)))) }
+    ensures { result ≡ chosen least greatest default (told_values (first_of name.now (rows_of (found_of matches.now)))) }
 {
     match matches.get_str(name) {
         Some(text) => number_in(least, greatest, text),
@@ -36,7 +36,7 @@ fn is_set(matches: &ArgMatches<'_>, name: &str) -> bool
 
 /// The cells of the heap: a multiple of 64.
 fn cells(matches: &ArgMatches<'_>) -> Option<u32>
-    ensures { (all : List Setting) → Tells (rows_of (found_of matches.now)) all → result ≡ cells all }
+    ensures { (all : List Setting) → MatchesTell (rows_of (found_of matches.now)) all → result ≡ cells all }
 {
     let cells = chosen(matches, "cells", 64, 65_536, Some(4_096))?;
     if cells % 64 == 0 { Some(cells) } else { None }
@@ -44,7 +44,7 @@ fn cells(matches: &ArgMatches<'_>) -> Option<u32>
 
 /// How a script is to be played.
 fn options(matches: &ArgMatches<'_>) -> Option<Options>
-    ensures { (all : List Setting) → Tells (rows_of (found_of matches.now)) all → option_map options_of result ≡ options all }
+    ensures { (all : List Setting) → MatchesTell (rows_of (found_of matches.now)) all → option_map options_of result ≡ options all }
 {
     Some(Options {
         cells: cells(matches)?,
@@ -57,13 +57,13 @@ fn options(matches: &ArgMatches<'_>) -> Option<Options>
 }
 
 fn run(matches: &ArgMatches<'_>) -> Option<Asked>
-    ensures { (all : List Setting) → Tells (rows_of (found_of matches.now)) all → are_allowed run_options all ≡ true → option_map command_of result ≡ run all }
+    ensures { (all : List Setting) → MatchesTell (rows_of (found_of matches.now)) all → are_allowed run_options all ≡ true → option_map command_of result ≡ run all }
 {
     Some(Asked::Run(options(matches)?))
 }
 
 fn generate(matches: &ArgMatches<'_>) -> Option<Asked>
-    ensures { (all : List Setting) → Tells (rows_of (found_of matches.now)) all → are_allowed made_options all ≡ true → option_map command_of result ≡ gen all }
+    ensures { (all : List Setting) → MatchesTell (rows_of (found_of matches.now)) all → are_allowed made_options all ≡ true → option_map command_of result ≡ gen all }
 {
     let number = chosen(matches, "number", 0, 4_294_967_295, None)?;
     let size = chosen(matches, "size", 1, 20_000, None)?;
@@ -71,7 +71,7 @@ fn generate(matches: &ArgMatches<'_>) -> Option<Asked>
 }
 
 fn load(matches: &ArgMatches<'_>) -> Option<Asked>
-    ensures { (all : List Setting) → Tells (rows_of (found_of matches.now)) all → are_allowed load_options all ≡ true → option_map command_of result ≡ load all }
+    ensures { (all : List Setting) → MatchesTell (rows_of (found_of matches.now)) all → are_allowed load_options all ≡ true → option_map command_of result ≡ load all }
 {
     let options = options(matches)?;
     let number = chosen(matches, "number", 0, 4_294_967_295, None)?;
@@ -80,20 +80,20 @@ fn load(matches: &ArgMatches<'_>) -> Option<Asked>
 }
 
 fn dump(matches: &ArgMatches<'_>) -> Option<Asked>
-    ensures { (all : List Setting) → Tells (rows_of (found_of matches.now)) all → are_allowed play_options all ≡ true → option_map command_of result ≡ dump all }
+    ensures { (all : List Setting) → MatchesTell (rows_of (found_of matches.now)) all → are_allowed play_options all ≡ true → option_map command_of result ≡ dump_command all }
 {
     Some(Asked::Dump(options(matches)?))
 }
 
 fn batch(matches: &ArgMatches<'_>) -> Option<Asked>
-    ensures { (all : List Setting) → Tells (rows_of (found_of matches.now)) all → are_allowed batch_options all ≡ true → option_map command_of result ≡ batch all }
+    ensures { (all : List Setting) → MatchesTell (rows_of (found_of matches.now)) all → are_allowed batch_options all ≡ true → option_map command_of result ≡ batch_command all }
 {
     let options = options(matches)?;
     let runners = chosen(matches, "runners", 1, 8, Some(2))?;
     Some(Asked::Batch(options, runners))
 }
 
-/// The command of this name, from the matches of its own words.
+/// The command of this name, from the matches of its own words. None where a value is out of its range, or a required option is missing.
 pub fn by_name(name: &str, matches: &ArgMatches<'_>) -> Option<Asked>
     ensures { (all : List Setting) → IsAsked name.now (rows_of (found_of matches.now)) all → option_map command_of result ≡ by_name name.now all }
 {

@@ -23,7 +23,7 @@
 //!
 //! 1. `COMMANDS` in `program` gets its line, and `forms` in `specs/Parsing.antt` the same one. A new flag or a required option is
 //!    named in `is_flag` or `is_required`, in both. The builder is proved for any table.
-//! 2. `Asked` gets what it asks for, with its lines in `command_of` and `IsInRange` of `specs/Commands.antt`. `by_name` in
+//! 2. `Asked` gets what it asks for, with its lines in `command_of` and `IsCommandInRange` of `specs/Commands.antt`. `by_name` in
 //!    `specs/Words.antt` says which command its words are.
 //! 3. `choice` reads its values from the matches.
 //! 4. `the_table` in `proofs/CommandTable.antt` gets its line, with two facts: a bad value makes it none, and so does a required
@@ -33,7 +33,7 @@
 ghost use Rattle.std.specs.Prelude.{◌≡◌, map, IfOk, IfSome, option_map};
 ghost use Rattle.std.specs.String.{string_bytes};
 ghost use Rattle.command_words.specs.Words.{command};
-ghost use Rattle.command_words.specs.Commands.{IsInRange, command_of};
+ghost use Rattle.command_words.specs.Commands.{IsCommandInRange, command_of};
 ghost use Rattle.command_words.specs.Parsing.{has_no_dashes};
 
 mod asked;
@@ -58,7 +58,7 @@ fn has_no_dashes(words: &[String]) -> bool
 /// their ranges. It takes memory for the parse.
 pub fn command_of(alloc: Global, words: &[String]) -> Result<Option<Asked>, AllocError>
     ensures asked { IfOk result (λ r. option_map command_of r ≡ command (map string_bytes words.now)) }
-    ensures range { IfOk result (λ r. IfSome r IsInRange) }
+    ensures range { IfOk result (λ r. IfSome r IsCommandInRange) }
 {
     if !has_no_dashes(words) {
         return Ok(None);

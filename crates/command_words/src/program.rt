@@ -113,7 +113,7 @@ fn with_commands<'a>(
     Ok(program)
 }
 
-/// The program: a command is required, and there is no help.
+/// The program: a command is required, and there is no help. Out of memory is the only refusal.
 pub fn program<'a>(alloc: Global) -> Result<Command<'a>, AllocError>
     ensures { IfOk result (λ c. app_of c ≡ asked_program) }
 {

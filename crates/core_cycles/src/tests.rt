@@ -9,7 +9,9 @@ mod helped;
 mod overflow;
 mod precise;
 
-use mark_core::{Cell, CoreState, Event, Phase, Rule, Shape, Step};
+use mark_core::{
+    BLOCK_COUNTER, Cell, CoreState, EMPTY_POOL, Event, Phase, Rule, SECTION_SPAN, Shape, Step,
+};
 use std::alloc::Global;
 
 const SMALL: Shape = Shape {
@@ -23,18 +25,31 @@ const SMALL: Shape = Shape {
 
 /// One packet more than fit into a word of a pool.
 const WIDE: Shape = Shape {
-    cells: 64,
     packets: 65,
-    entries: 2,
-    sections: 2,
-    fields: 4,
-    objects: 2_000_000,
+    ..SMALL
 };
 
 const DONE: Result<(), (usize, Rule)> = Ok(());
 
 fn by(seat: u32, step: Step) -> Event {
     Event { seat, step }
+}
+
+/// The seat takes packet p out of pool q.
+fn takes_out(seat: u32, q: u8, p: u32) -> Event {
+    by(seat, Step::Take { q, p })
+}
+
+/// The seat reads the counter of blocks.
+fn reads_blocks(seat: u32) -> Event {
+    let which = BLOCK_COUNTER;
+    by(seat, Step::ReadStat { which })
+}
+
+/// The seat sets the counter of blocks to 0.
+fn resets_blocks(seat: u32) -> Event {
+    let which = BLOCK_COUNTER;
+    by(seat, Step::Reset { which })
 }
 
 fn new_word(part: u8, word: u64) -> Event {
@@ -77,12 +92,12 @@ fn popped() -> [Event; 24] {
         new_word(2, 0),
         new_word(3, 0),
         new_word(4, 5),
-        new_word(5, 4_294_967_296),
+        new_word(5, SECTION_SPAN),
         by(1, Step::StoreRoot { v: 0, r: 1 }),
         by(1, Step::StorePhase { to }),
         by(1, Step::ReadPhase),
         by(1, Step::Reserve),
-        by(1, Step::Take { q: 0, p: 0 }),
+        takes_out(1, EMPTY_POOL, 0),
         by(1, Step::ReadLength { p: 0 }),
         by(1, Step::ReadRoot { section: 1, v: 0 }),
         by(1, Step::SetMark { c }),
@@ -106,7 +121,7 @@ fn stopped() -> [Event; 3] {
 fn swept() -> [Event; 9] {
     [
         by(1, Step::StorePhase { to: Phase::Sweep }),
-        by(1, Step::ReadStat { which: 1 }),
+        reads_blocks(1),
         by(1, Step::NextBlock),
         by(1, Step::ReadAlloc { b: 0 }),
         by(1, Step::ReadBlockMarks),
@@ -186,11 +201,11 @@ fn packets(rt: HostRuntime) {
     let alloc = rt.alloc();
     let reserve = [by(1, Step::Reserve)];
     let credit = [by(1, Step::Reserve), by(1, Step::Credit)];
-    let take = [by(1, Step::Take { q: 0, p: 0 })];
-    let last = [by(1, Step::Reserve), by(1, Step::Take { q: 0, p: 64 })];
+    let take = [takes_out(1, EMPTY_POOL, 0)];
+    let last = [by(1, Step::Reserve), takes_out(1, EMPTY_POOL, 64)];
     let given = [
         by(1, Step::Reserve),
-        by(1, Step::Take { q: 0, p: 0 }),
+        takes_out(1, EMPTY_POOL, 0),
         by(1, Step::ReadLength { p: 0 }),
         give(),
         by(1, Step::Credit),

@@ -8,7 +8,7 @@ use Rattle.std.proofs.lemmas.List.Sums.{sum-map, sum_by-le}
 use Rattle.std.proofs.lemmas.List.Elements.{All-map, All-from_get_or}
 use Rattle.std.proofs.lemmas.List.Folds.{fold-map}
 use Rattle.std.proofs.lemmas.List.FromFn.{get_or-map-range_with_len, length-map-range_with_len}
-use Rattle.heap_dump.specs.Final.{Heap, Object, blank, object, IsLegal}
+use Rattle.heap_dump.specs.Final.{DumpedHeap, Object, blank, object, HasDump}
 use Rattle.dump_census.specs.declared.entries.Entry.{Entry}
 use Rattle.dump_census.specs.Entries.{entry_of, entry_count}
 use Rattle.dump_census.specs.Counted.{section_count}
@@ -34,7 +34,7 @@ values_small w entries few small =
     sum_small (λ (e : Entry). cond (nat_eq e.section w) e.value 0) (2 ^ 32) entries few each
 
 -- the numbers of the records, each read
-pub all_read : (h : Heap) (entries : List Entry) → entries ≡ map (λ k. entry_of (object h k)) (range_with_len 0 (length h.records)) → entries ≡ map entry_of h.records
+pub all_read : (h : DumpedHeap) (entries : List Entry) → entries ≡ map (λ k. entry_of (object h k)) (range_with_len 0 (length h.records)) → entries ≡ map entry_of h.records
 all_read h entries e =
     let d : Entry = entry_of blank in
     let n = length h.records in
@@ -50,7 +50,7 @@ entries_count records w = λ i. record {
   total = (fold-map (λ n (e : Entry). n + cond (nat_eq e.section w) e.value 0) entry_of 0 records) i;
 }
 
-pub values_below : (h : Heap) → IsLegal h → All (λ (e : Entry). e.value < 2 ^ 32) (map entry_of h.records)
+pub values_below : (h : DumpedHeap) → HasDump h → All (λ (e : Entry). e.value < 2 ^ 32) (map entry_of h.records)
 values_below h legal = All-map (λ (e : Entry). e.value < 2 ^ 32) entry_of h.records (All-from_get_or (λ (o : Object). o.value < 2 ^ 32) h.records blank (λ k lt. (legal.objects k lt).value))
 
 pub entry_values : (records : List Object) → map (λ (e : Entry). e.value) (map entry_of records) ≡ map (λ (o : Object). o.value) records

@@ -7,7 +7,7 @@ use Rattle.std.proofs.lemmas.List.{ext_get_or, length-replicate, length_push, ge
 use Rattle.std.specs.Prelude.{Result, Ok, Err, OnOk}
 use Rattle.std.proofs.lemmas.List.Elements.{All-from_get_or}
 use Rattle.std.proofs.lemmas.List.FromFn.{length-map-range_with_len, get_or-map-range_with_len}
-use Rattle.heap_dump.specs.Final.{Heap, object, IsLegal}
+use Rattle.heap_dump.specs.Final.{DumpedHeap, object, HasDump}
 use Rattle.dump_census.specs.Levels.{HasPath, IsLevel, AreLevels}
 use Rattle.dump_census.specs.Rounds.{Progress, is_at, is_unknown, reach_all, reach_from, IsSearch, AreCounts, IsLeveling}
 use Rattle.dump_census.specs.Counted.{depth, level_counts}
@@ -17,17 +17,17 @@ use Rattle.dump_census.proofs.Rounding.{Advances, nothing_advances, then_advance
 -- ---- all references of some records
 
 -- these records end paths of this length
-abbrev Ends : Heap → ℕ → List ℕ → Type 0
+abbrev Ends : DumpedHeap → ℕ → List ℕ → Type 0
 Ends h level ks = (i : ℕ) → i < length ks → (get_or ks i 0 < length h.records) × HasPath h level (get_or ks i 0)
 
-leads_on : (h : Heap) (level k : ℕ) → IsLegal h → k < length h.records → HasPath h level k → Leads h (suc level) (object h k).refs
+leads_on : (h : DumpedHeap) (level k : ℕ) → HasDump h → k < length h.records → HasPath h level k → Leads h (suc level) (object h k).refs
 leads_on h level k legal lt path = record { within = field_within h legal k lt; path = λ i j small e. (k, path, (i, small, e)) }
 
-pub record ReachesFrom (h : Heap) (level known : ℕ) (s t : Progress) (ks : List ℕ) : Type 0 where
+pub record ReachesFrom (h : DumpedHeap) (level known : ℕ) (s t : Progress) (ks : List ℕ) : Type 0 where
   pub steps : Steps h level known s t
   pub each : (i : ℕ) → i < length ks → (f : ℕ) → f < length (object h (get_or ks i 0)).refs → IsReached t (get_or (object h (get_or ks i 0)).refs f 0)
 
-from_steps : (h : Heap) (level known : ℕ) (s : Progress) (ks : List ℕ) → IsLegal h → IsSearch h (suc level) known s → Ends h level ks
+from_steps : (h : DumpedHeap) (level known : ℕ) (s : Progress) (ks : List ℕ) → HasDump h → IsSearch h (suc level) known s → Ends h level ks
     → ReachesFrom h (suc level) known s (reach_from h (suc level) s ks) ks
 from_steps h level known s [] legal q ends = record { steps = record { search = q; advances = nothing_advances (suc level) s }; each = λ i lt. absurd (omega arith) }
 from_steps h level known s (k ∷ ks) legal q ends =
@@ -39,7 +39,7 @@ from_steps h level known s (k ∷ ks) legal q ends =
           (λ f lt. reached_later (suc level) _ _ (get_or (object h k).refs f 0) later.steps.advances (first.each f lt)) later.each;
     }
   where
-    each_of : (h : Heap) (k : ℕ) (ks : List ℕ) (t : Progress) → ((f : ℕ) → f < length (object h k).refs → IsReached t (get_or (object h k).refs f 0))
+    each_of : (h : DumpedHeap) (k : ℕ) (ks : List ℕ) (t : Progress) → ((f : ℕ) → f < length (object h k).refs → IsReached t (get_or (object h k).refs f 0))
         → ((i : ℕ) → i < length ks → (f : ℕ) → f < length (object h (get_or ks i 0)).refs → IsReached t (get_or (object h (get_or ks i 0)).refs f 0))
         → (i : ℕ) → i < length (k ∷ ks) → (f : ℕ) → f < length (object h (get_or (k ∷ ks) i 0)).refs → IsReached t (get_or (object h (get_or (k ∷ ks) i 0)).refs f 0)
     each_of h k ks t a b zero lt = a
@@ -50,7 +50,7 @@ from_steps h level known s (k ∷ ks) legal q ends =
 abbrev pub cleared : Progress → Progress
 cleared s = record { found = s.found; fresh = [] }
 
-next_search : (h : Heap) (level : ℕ) (s : Progress) → IsSearch h level (suc level) s → IsSearch h (suc level) (suc level) (cleared s)
+next_search : (h : DumpedHeap) (level : ℕ) (s : Progress) → IsSearch h level (suc level) s → IsSearch h (suc level) (suc level) (cleared s)
 next_search h level s q =
     let none : (k : ℕ) → at s.found k ≡ Some (suc level) → ⊥ = λ k e. absurd (omega (arith, (q.sound k (suc level) e).1)) in
     record {
@@ -63,13 +63,13 @@ next_search h level s q =
     }
 
 -- the records that were found last end paths
-ends_of : (h : Heap) (level known : ℕ) (s : Progress) → IsSearch h level known s → Ends h level s.fresh
+ends_of : (h : DumpedHeap) (level known : ℕ) (s : Progress) → IsSearch h level known s → Ends h level s.fresh
 ends_of h level known s q i lt =
     let e = q.fresh i lt in
     (omega (arith, known_within s.found (get_or s.fresh i 0) level e, q.long), (q.sound (get_or s.fresh i 0) level e).0)
 
 -- a path to a record of the next level
-last_complete : (h : Heap) (level : ℕ) (s t : Progress) → IsSearch h level (suc level) s → ReachesFrom h (suc level) (suc level) (cleared s) t s.fresh
+last_complete : (h : DumpedHeap) (level : ℕ) (s t : Progress) → IsSearch h level (suc level) s → ReachesFrom h (suc level) (suc level) (cleared s) t s.fresh
     → (k : ℕ) → HasPath h (suc level) k → (least : ℕ) × (least ≤ suc level) × (at t.found k ≡ Some least)
 last_complete h level s t q r k (j, path, names) =
     let before = q.complete j level (omega arith) path in
@@ -87,7 +87,7 @@ last_complete h level s t q r k (j, path, names) =
           (l.0, omega (arith, l.1, before.1), l.2))
     ]
 
-round_search : (h : Heap) (level : ℕ) (s t : Progress) → IsSearch h level (suc level) s → ReachesFrom h (suc level) (suc level) (cleared s) t s.fresh
+round_search : (h : DumpedHeap) (level : ℕ) (s t : Progress) → IsSearch h level (suc level) s → ReachesFrom h (suc level) (suc level) (cleared s) t s.fresh
     → IsSearch h (suc level) (suc (suc level)) t
 round_search h level s t q r =
     let u = r.steps.search in
@@ -105,7 +105,7 @@ round_search h level s t q r =
       counted = u.counted;
     }
 
-pub round : (h : Heap) (s : Progress) (level : ℕ) → IsLegal h → IsSearch h level (suc level) s
+pub round : (h : DumpedHeap) (s : Progress) (level : ℕ) → HasDump h → IsSearch h level (suc level) s
     → IsSearch h (suc level) (suc (suc level)) (reach_from h (suc level) (cleared s) s.fresh) × Advances (suc level) (cleared s) (reach_from h (suc level) (cleared s) s.fresh)
 round h s level legal q =
     let r = from_steps h level (suc level) (cleared s) s.fresh legal (next_search h level s q) (ends_of h level (suc level) s q) in
@@ -129,7 +129,7 @@ counts_more found later counts x are is some same n lt =
 
 -- ---- the first round
 
-start : (h : Heap) → IsSearch h 0 0 (record { found = replicate (length h.records) None; fresh = [] })
+start : (h : DumpedHeap) → IsSearch h 0 0 (record { found = replicate (length h.records) None; fresh = [] })
 start h =
     let none : (k n : ℕ) → at (replicate (length h.records) None) k ≡ Some n → ⊥ = λ k n e. known_not_new (at (replicate (length h.records) None) k) n (nothing_known (length h.records) k) e in
     record {
@@ -141,7 +141,7 @@ start h =
       counted = sym (none_at (replicate (length h.records) None) 0 (λ k e. none k 0 e));
     }
 
-pub first : (h : Heap) (records : ℕ) (t : Progress) → IsLegal h → records ≡ length h.records → t ≡ reach_all 0 (record { found = replicate records None; fresh = [] }) h.roots → IsLeveling h t []
+pub first : (h : DumpedHeap) (records : ℕ) (t : Progress) → HasDump h → records ≡ length h.records → t ≡ reach_all 0 (record { found = replicate records None; fresh = [] }) h.roots → IsLeveling h t []
 first h records t legal count is =
     let from : ℕ → Progress = λ n. record { found = replicate n None; fresh = [] } in
     let r = all_steps h 0 0 (from (length h.records)) h.roots (start h) (record { within = root_within h legal; path = λ i k lt e. (i, lt, e) }) in
@@ -167,7 +167,7 @@ first h records t legal count is =
 -- ---- the end
 
 -- every path's end has a level that is no greater
-any_path : (h : Heap) (level : ℕ) (s : Progress) → IsSearch h level (suc level) s → length s.fresh ≡ 0 → (n k : ℕ) → HasPath h n k → (least : ℕ) × (least ≤ n) × (at s.found k ≡ Some least)
+any_path : (h : DumpedHeap) (level : ℕ) (s : Progress) → IsSearch h level (suc level) s → length s.fresh ≡ 0 → (n k : ℕ) → HasPath h n k → (least : ℕ) × (least ≤ n) × (at s.found k ≡ Some least)
 any_path h level s q none zero k path = q.complete k zero (omega arith) path
 any_path h level s q none (suc n) k (j, path, names) =
     let before = any_path h level s q none n j path in
@@ -176,7 +176,7 @@ any_path h level s q none (suc n) k (j, path, names) =
     let l = q.complete k (suc before.0) (omega (arith, known.1)) (j, known.0, names) in
     (l.0, omega (arith, l.1, before.1), l.2)
 
-level_is : (h : Heap) (level : ℕ) (s : Progress) → IsSearch h level (suc level) s → length s.fresh ≡ 0 → (k : ℕ) (o : Option ℕ) → at s.found k ≡ o → IsLevel h k o
+level_is : (h : DumpedHeap) (level : ℕ) (s : Progress) → IsSearch h level (suc level) s → length s.fresh ≡ 0 → (k : ℕ) (o : Option ℕ) → at s.found k ≡ o → IsLevel h k o
 level_is h level s q none k None e = λ n path. let l = any_path h level s q none n k path in known_not_new (at s.found k) l.0 e l.2
 level_is h level s q none k (Some m) e = (
   (q.sound k m e).0,
@@ -218,7 +218,7 @@ counts_are found counts are e =
     ext_get_or 0 counts (map f (range_with_len 0 (depth found))) long (λ n lt.
     (are n lt).0 ∙ sym (get_or-map-range_with_len f 0 (depth found) n n 0 (omega arith) (omega arith)))
 
-pub levels_found : (h : Heap) (s : Progress) (counts : List ℕ) → IsLeveling h s counts → length s.fresh ≡ 0 → AreLevels h s.found × (counts ≡ level_counts s.found)
+pub levels_found : (h : DumpedHeap) (s : Progress) (counts : List ℕ) → IsLeveling h s counts → length s.fresh ≡ 0 → AreLevels h s.found × (counts ≡ level_counts s.found)
 levels_found h s counts l none =
     let q = l.search in
     let below : (k n : ℕ) → at s.found k ≡ Some n → n < length counts = λ k n e.
@@ -227,7 +227,7 @@ levels_found h s counts l none =
     ((q.long, λ k lt. level_is h (length counts) s q none k (at s.found k) refl), counts_are s.found counts l.counted (depth_is s.found counts l.counted below))
 
 -- one round, as the code makes it
-pub leveling_more : (h : Heap) (s t : Progress) (counts : List ℕ) (x level : ℕ) → IsLegal h → IsLeveling h s counts → 0 < length s.fresh → x ≡ length s.fresh → level ≡ length (counts ++ x ∷ [])
+pub leveling_more : (h : DumpedHeap) (s t : Progress) (counts : List ℕ) (x level : ℕ) → HasDump h → IsLeveling h s counts → 0 < length s.fresh → x ≡ length s.fresh → level ≡ length (counts ++ x ∷ [])
     → t ≡ reach_from h level (cleared s) s.fresh
     → IsLeveling h t (counts ++ x ∷ []) × (count_by is_unknown t.found + length t.fresh < count_by is_unknown s.found + length s.fresh)
 leveling_more h s t counts x level legal l some is len made =
@@ -246,7 +246,7 @@ leveling_more h s t counts x level legal l some is len made =
       omega (arith, advances.rest),
     )
 
-pub round_made : (h : Heap) (s before t : Progress) (counts longer front : List ℕ) (x level : ℕ) → IsLegal h → IsLeveling h s counts → 0 < length s.fresh → before ≡ cleared s → front ≡ s.fresh
+pub round_made : (h : DumpedHeap) (s before t : Progress) (counts longer front : List ℕ) (x level : ℕ) → HasDump h → IsLeveling h s counts → 0 < length s.fresh → before ≡ cleared s → front ≡ s.fresh
     → x ≡ length front → longer ≡ counts ++ x ∷ [] → level ≡ length longer → t ≡ reach_from h level before front
     → IsLeveling h t longer × (count_by is_unknown t.found + length t.fresh < count_by is_unknown s.found + length s.fresh)
 round_made h s before t counts longer front x level legal l some b f is pushed len made =
@@ -255,7 +255,7 @@ round_made h s before t counts longer front x level legal l some b f is pushed l
     (subst (λ (c : List ℕ). IsLeveling h t c) (sym pushed) r.0, r.1)
 
 -- the records that were found last are the heap's
-pub fresh_within : (h : Heap) (s : Progress) (counts front : List ℕ) → IsLeveling h s counts → front ≡ s.fresh → All (λ k. k < length h.records) front
+pub fresh_within : (h : DumpedHeap) (s : Progress) (counts front : List ℕ) → IsLeveling h s counts → front ≡ s.fresh → All (λ k. k < length h.records) front
 fresh_within h s counts front l e =
     subst (λ (ks : List ℕ). All (λ k. k < length h.records) ks) (sym e) (All-from_get_or (λ k. k < length h.records) s.fresh 0 (λ i lt. (ends_of h _ _ s l.search i lt).0))
 

@@ -4,7 +4,7 @@ use Rattle.std.specs.Prelude.{count_by}
 use Rattle.std.proofs.lemmas.Bool.{cases_lt}
 use Rattle.std.proofs.lemmas.List.{length-set, get_or-set_same, length_push, get_or_push, get_or_append_left}
 use Rattle.std.proofs.lemmas.List.Sums.{fold_more}
-use Rattle.heap_dump.specs.Final.{Heap, object, IsLegal, RefersWithin}
+use Rattle.heap_dump.specs.Final.{DumpedHeap, object, HasDump, RefersWithin}
 use Rattle.dump_census.specs.Levels.{HasPath}
 use Rattle.dump_census.specs.Rounds.{Progress, is_at, is_unknown, reach, reach_all, reach_from, IsSearch}
 use Rattle.dump_census.proofs.Found.{at, one, cases_known, set_shows, set_keeps, set_counts, at_level, at_other}
@@ -24,21 +24,21 @@ reach_all_long level s (r ∷ refs) = reach_all_long level (reach level s r) ref
 
 -- ---- what a legal heap refers to
 
-pub ref_within : (h : Heap) (section ref : ℕ) → RefersWithin h section ref → ref ≤ length h.records
+pub ref_within : (h : DumpedHeap) (section ref : ℕ) → RefersWithin h section ref → ref ≤ length h.records
 ref_within h section ref (inl e) = omega arith
 ref_within h section ref (inr p) = p.1
 
-pub root_within : (h : Heap) → IsLegal h → (i : ℕ) → i < length h.roots → get_or h.roots i 0 ≤ length h.records
+pub root_within : (h : DumpedHeap) → HasDump h → (i : ℕ) → i < length h.roots → get_or h.roots i 0 ≤ length h.records
 root_within h legal i lt = ref_within h _ _ (legal.roots i (omega (arith, legal.variables)))
 
-pub field_within : (h : Heap) → IsLegal h → (k : ℕ) → k < length h.records → (i : ℕ) → i < length (object h k).refs → get_or (object h k).refs i 0 ≤ length h.records
+pub field_within : (h : DumpedHeap) → HasDump h → (k : ℕ) → k < length h.records → (i : ℕ) → i < length (object h k).refs → get_or (object h k).refs i 0 ≤ length h.records
 field_within h legal k lt i small =
     let o = legal.objects k lt in
     ref_within h _ _ (o.refs i (omega (arith, o.fields)))
 
 -- ---- one step of each loop
 
-pub from_more : (h : Heap) (level : ℕ) (s t u : Progress) (ks : List ℕ) (i k : ℕ) → i < length ks → k ≡ get_or ks i 0 → t ≡ reach_from h level s (take i ks) → u ≡ reach_all level t (object h k).refs
+pub from_more : (h : DumpedHeap) (level : ℕ) (s t u : Progress) (ks : List ℕ) (i k : ℕ) → i < length ks → k ≡ get_or ks i 0 → t ≡ reach_from h level s (take i ks) → u ≡ reach_all level t (object h k).refs
     → u ≡ reach_from h level s (take (i + 1) ks)
 from_more h level s t u ks i k lt is before turn =
     turn ∙ ap (λ (p : Progress). reach_all level p (object h k).refs) before ∙ ap (λ j. reach_all level (reach_from h level s (take i ks)) (object h j).refs) is
@@ -68,7 +68,7 @@ then_advances level s t u a b = record {
 }
 
 -- a search after a step that gave levels to more records
-pub record Steps (h : Heap) (level known : ℕ) (s t : Progress) : Type 0 where
+pub record Steps (h : DumpedHeap) (level known : ℕ) (s t : Progress) : Type 0 where
   pub search : IsSearch h level known t
   pub advances : Advances level s t
 
@@ -89,7 +89,7 @@ new_advances level k s lt new = record {
   rest = omega (arith, set_counts is_unknown s.found k level lt new, length_push s.fresh k);
 }
 
-new_listed : (h : Heap) (level known k : ℕ) (s : Progress) → IsSearch h level known s → k < length s.found → (j : ℕ) → at (set s.found k (Some level)) j ≡ Some level
+new_listed : (h : DumpedHeap) (level known k : ℕ) (s : Progress) → IsSearch h level known s → k < length s.found → (j : ℕ) → at (set s.found k (Some level)) j ≡ Some level
     → (i : ℕ) × (i < length (s.fresh ++ k ∷ [])) × (get_or (s.fresh ++ k ∷ []) i 0 ≡ j)
 new_listed h level known k s q lt j e =
     let long = length_push s.fresh k in
@@ -98,7 +98,7 @@ new_listed h level known k s q lt j e =
       | inr old ↦ (let l = q.listed j old in (l.0, omega (arith, long, l.1), get_or_append_left s.fresh (k ∷ []) 0 l.0 l.1 ∙ l.2))
     ]
 
-new_fresh : (h : Heap) (level known k : ℕ) (s : Progress) → IsSearch h level known s → k < length s.found → at s.found k ≡ None → (i : ℕ) → i < length (s.fresh ++ k ∷ [])
+new_fresh : (h : DumpedHeap) (level known k : ℕ) (s : Progress) → IsSearch h level known s → k < length s.found → at s.found k ≡ None → (i : ℕ) → i < length (s.fresh ++ k ∷ [])
     → at (set s.found k (Some level)) (get_or (s.fresh ++ k ∷ []) i 0) ≡ Some level
 new_fresh h level known k s q lt new i small =
     elim (cases_lt i (length s.fresh)) [
@@ -106,7 +106,7 @@ new_fresh h level known k s q lt new i small =
       | inr last ↦ ap (λ j. at (set s.found k (Some level)) j) (get_or_push s.fresh k 0 i (omega (arith, length_push s.fresh k))) ∙ get_or-set_same s.found k (Some level) None lt
     ]
 
-new_sound : (h : Heap) (level known k : ℕ) (s : Progress) → IsSearch h level known s → k < length s.found → HasPath h level k → (j n : ℕ) → at (set s.found k (Some level)) j ≡ Some n
+new_sound : (h : DumpedHeap) (level known k : ℕ) (s : Progress) → IsSearch h level known s → k < length s.found → HasPath h level k → (j n : ℕ) → at (set s.found k (Some level)) j ≡ Some n
     → HasPath h n j × (n ≤ level)
 new_sound h level known k s q lt path j n e =
     elim (set_shows s.found k level j n lt e) [
@@ -114,7 +114,7 @@ new_sound h level known k s q lt path j n e =
       | inr old ↦ q.sound j n old
     ]
 
-new_step : (h : Heap) (level known k : ℕ) (s : Progress) → IsSearch h level known s → k < length s.found → at s.found k ≡ None → HasPath h level k
+new_step : (h : DumpedHeap) (level known k : ℕ) (s : Progress) → IsSearch h level known s → k < length s.found → at s.found k ≡ None → HasPath h level k
     → Steps h level known s (with_level level s k)
 new_step h level known k s q lt new path = record {
   search = record {
@@ -136,11 +136,11 @@ reach_new level s k e = rw e refl
 reach_known : (level : ℕ) (s : Progress) (k n : ℕ) → at s.found k ≡ Some n → reach level s (suc k) ≡ s
 reach_known level s k n e = rw e refl
 
-abbrev Reaches : Heap → ℕ → ℕ → Progress → Progress → ℕ → Type 0
+abbrev Reaches : DumpedHeap → ℕ → ℕ → Progress → Progress → ℕ → Type 0
 Reaches h level known s t ref = Steps h level known s t × IsReached t ref
 
 -- one reference, whose record ends a path
-one_step : (h : Heap) (level known : ℕ) (s : Progress) (ref : ℕ) → IsSearch h level known s → ref ≤ length h.records → ((k : ℕ) → ref ≡ suc k → HasPath h level k)
+one_step : (h : DumpedHeap) (level known : ℕ) (s : Progress) (ref : ℕ) → IsSearch h level known s → ref ≤ length h.records → ((k : ℕ) → ref ≡ suc k → HasPath h level k)
     → Reaches h level known s (reach level s ref) ref
 one_step h level known s zero q le path = (record { search = q; advances = nothing_advances level s }, λ k e. absurd (omega arith))
 one_step h level known s (suc k) q le path =
@@ -164,15 +164,15 @@ pub reached_later : (level : ℕ) (s t : Progress) (ref : ℕ) → Advances leve
 reached_later level s t ref a r = λ k e. let l = r k e in (l.0, a.kept k l.0 l.1)
 
 -- what each of these references names is in the heap and ends a path
-pub record Leads (h : Heap) (level : ℕ) (refs : List ℕ) : Type 0 where
+pub record Leads (h : DumpedHeap) (level : ℕ) (refs : List ℕ) : Type 0 where
   pub within : (i : ℕ) → i < length refs → get_or refs i 0 ≤ length h.records
   pub path : (i k : ℕ) → i < length refs → get_or refs i 0 ≡ suc k → HasPath h level k
 
-pub record ReachesAll (h : Heap) (level known : ℕ) (s t : Progress) (refs : List ℕ) : Type 0 where
+pub record ReachesAll (h : DumpedHeap) (level known : ℕ) (s t : Progress) (refs : List ℕ) : Type 0 where
   pub steps : Steps h level known s t
   pub each : (i : ℕ) → i < length refs → IsReached t (get_or refs i 0)
 
-pub all_steps : (h : Heap) (level known : ℕ) (s : Progress) (refs : List ℕ) → IsSearch h level known s → Leads h level refs → ReachesAll h level known s (reach_all level s refs) refs
+pub all_steps : (h : DumpedHeap) (level known : ℕ) (s : Progress) (refs : List ℕ) → IsSearch h level known s → Leads h level refs → ReachesAll h level known s (reach_all level s refs) refs
 all_steps h level known s [] q leads = record { steps = record { search = q; advances = nothing_advances level s }; each = λ i lt. absurd (omega arith) }
 all_steps h level known s (ref ∷ refs) q leads =
     let first = one_step h level known s ref q (leads.within 0 (omega arith)) (λ k e. leads.path 0 k (omega arith) e) in

@@ -1,7 +1,7 @@
 -- The census of a dump.
 use Rattle.std.specs.Prelude.{ℕ, suc, ◌≡◌, List, [], ◌∷◌, map, Option, Some, None, max, count_by, sum_by, ◌==◌, if◌then◌else◌}
 use Rattle.std.specs.List.{range_with_len}
-use Rattle.heap_dump.specs.Final.{Heap, Object}
+use Rattle.heap_dump.specs.Final.{DumpedHeap, Object}
 use Rattle.dump_census.specs.Levels.{AreLevels}
 use Rattle.dump_census.specs.Rounds.{is_at, is_unknown}
 use Rattle.dump_census.specs.Values.{AreValueCounts}
@@ -9,7 +9,7 @@ use Rattle.dump_census.specs.declared.counts.SectionCount.{SectionCount}
 use Rattle.dump_census.specs.declared.counts.ValueCount.{ValueCount}
 
 -- what a census tells
-pub record Counts : Type 0 where
+pub record CensusCounts : Type 0 where
   pub levels : List ℕ
   pub unreached : ℕ
   pub sections : List SectionCount
@@ -33,7 +33,7 @@ section_count records w = record {
 }
 
 -- the number of records of each level, of those without a level, of each section with the sum of their values, and of each value that occurs
-pub record IsCensus (h : Heap) (c : Counts) : Type 0 where
+pub record IsCensus (h : DumpedHeap) (c : CensusCounts) : Type 0 where
   pub of : List (Option ℕ)
   pub leveled : AreLevels h of
   pub levels : c.levels ≡ level_counts of

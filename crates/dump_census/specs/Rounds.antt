@@ -1,7 +1,7 @@
 -- The search for levels: the records whose level is new, in rounds.
 use Rattle.std.specs.Prelude.{ℕ, zero, suc, ◌≡◌, ◌<◌, ◌≤◌, ◌+◌, List, [], ◌∷◌, ◌++◌, length, get_or, Option, Some, None, Bool, true, false, if◌then◌else◌, slice_set, count_by, ◌==◌}
 use Rattle.std.specs.List.{fold}
-use Rattle.heap_dump.specs.Final.{Heap, object}
+use Rattle.heap_dump.specs.Final.{DumpedHeap, object}
 use Rattle.dump_census.specs.Levels.{HasPath}
 
 -- the level of each record, as far as it is known, and the records that were found last
@@ -14,6 +14,7 @@ abbrev pub is_at : ℕ → Option ℕ → Bool
 is_at level None = false
 is_at level (Some n) = n == level
 
+-- no level is known
 abbrev pub is_unknown : Option ℕ → Bool
 is_unknown None = true
 is_unknown (Some n) = false
@@ -29,11 +30,11 @@ abbrev pub reach_all : ℕ → Progress → List ℕ → Progress
 reach_all level s references = fold (reach level) s references
 
 -- all references of these records
-abbrev pub reach_from : Heap → ℕ → Progress → List ℕ → Progress
+abbrev pub reach_from : DumpedHeap → ℕ → Progress → List ℕ → Progress
 reach_from h level s records = fold (λ t k. reach_all level t (object h k).refs) s records
 
 -- a search among the records of a heap: each level below `known` is final, and the fresh records are those of the last level
-pub record IsSearch (h : Heap) (level known : ℕ) (s : Progress) : Type 0 where
+pub record IsSearch (h : DumpedHeap) (level known : ℕ) (s : Progress) : Type 0 where
   pub long : length s.found ≡ length h.records
   pub sound : (k n : ℕ) → get_or s.found k None ≡ Some n → HasPath h n k × (n ≤ level)
   pub complete : (k n : ℕ) → n < known → HasPath h n k → (least : ℕ) × (least ≤ n) × (get_or s.found k None ≡ Some least)
@@ -46,7 +47,7 @@ abbrev pub AreCounts : List (Option ℕ) → List ℕ → Type 0
 AreCounts found counts = (n : ℕ) → n < length counts → (get_or counts n 0 ≡ count_by (is_at n) found) × (0 < get_or counts n 0)
 
 -- a search whose levels before the last are counted
-pub record IsLeveling (h : Heap) (s : Progress) (counts : List ℕ) : Type 0 where
+pub record IsLeveling (h : DumpedHeap) (s : Progress) (counts : List ℕ) : Type 0 where
   pub search : IsSearch h (length counts) (suc (length counts)) s
   pub counted : AreCounts s.found counts
   pub few : length counts + (count_by is_unknown s.found + length s.fresh) ≤ length h.records

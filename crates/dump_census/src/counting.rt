@@ -1,6 +1,6 @@
 //! The census of a dump, counted by several threads.
 ghost use Rattle.std.specs.Prelude.{◌≡◌, ◌≤◌, if◌then◌else◌, length, count_by, IfOk};
-ghost use Rattle.heap_dump.specs.Reading.{heap_of};
+ghost use Rattle.heap_dump.specs.Reading.{heap_of_dump};
 ghost use Rattle.dump_census.specs.Rounds.{is_unknown};
 ghost use Rattle.dump_census.specs.Counted.{IsCensus};
 
@@ -37,7 +37,7 @@ pub fn census<R: Threads + Sync>(
     alloc: Global,
     dump: &Dump<'_>,
 ) -> Result<Census, OutOfMemory>
-    ensures { IfOk result (λ c. IsCensus (heap_of dump.now) c) }
+    ensures { IfOk result (λ c. IsCensus (heap_of_dump dump.now) c) }
 {
     let _records = dump.records();
     let entries = match read_entries(rt, alloc, dump) {

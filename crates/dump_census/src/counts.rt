@@ -27,9 +27,9 @@ pub struct Census {
 }
 
 impl Model for Census {
-    ghost use Rattle.dump_census.specs.Counted.{Counts};
+    ghost use Rattle.dump_census.specs.Counted.{CensusCounts};
 
-    ghost Value = { Counts };
+    ghost Value = { CensusCounts };
 
     ghost view = { λ c. record { levels = c.levels.items; unreached = c.unreached; sections = c.sections.items; values = c.values.items } };
 }

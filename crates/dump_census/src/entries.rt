@@ -1,7 +1,7 @@
 //! The sections and the values of the records, read by several threads, each a range of records.
 ghost use Rattle.std.specs.Prelude.{◌≡◌, ◌<◌, length, map, IfOk};
 ghost use Rattle.heap_dump.specs.Final.{object};
-ghost use Rattle.heap_dump.specs.Reading.{heap_of};
+ghost use Rattle.heap_dump.specs.Reading.{heap_of_dump};
 ghost use Rattle.dump_census.specs.Entries.{entry_of};
 
 use heap_dump::Dump;
@@ -18,8 +18,8 @@ pub struct Entry {
 }
 
 fn read_entry(dump: &Dump<'_>, k: u32) -> Entry
-    requires { k < length (heap_of dump.now).records }
-    ensures { result ≡ entry_of (object (heap_of dump.now) k) }
+    requires { k < length (heap_of_dump dump.now).records }
+    ensures { result ≡ entry_of (object (heap_of_dump dump.now) k) }
 {
     let Some(object) = dump.nth(k) else {
         unreachable!();
@@ -30,20 +30,20 @@ fn read_entry(dump: &Dump<'_>, k: u32) -> Entry
     }
 }
 
-/// The section and the value of each record.
+/// The section and the value of each record. Out of memory is the only refusal.
 pub fn read_entries<R: Threads + Sync>(
     rt: &R,
     alloc: Global,
     dump: &Dump<'_>,
 ) -> Result<Vec<Entry>, OutOfMemory>
-    ensures { IfOk result (λ v. v.items ≡ map entry_of (heap_of dump.now).records) }
+    ensures { IfOk result (λ v. v.items ≡ map entry_of (heap_of_dump dump.now).records) }
 {
     let read = (0..dump.records())
         .into_par_iter()
         .map(
             |k: u32| -> Entry
-                requires { k < length (heap_of dump.now).records }
-                ensures { result ≡ entry_of (object (heap_of dump.entry.now) k) }
+                requires { k < length (heap_of_dump dump.now).records }
+                ensures { result ≡ entry_of (object (heap_of_dump dump.entry.now) k) }
             { read_entry(dump, k) },
         )
         .collect::<Vec<Entry>>(rt, alloc);

@@ -1,7 +1,7 @@
 //! The level of each record: rounds over the records whose level is new, until a round finds none.
 ghost use Rattle.std.specs.Prelude.{◌≡◌, ◌<◌, ◌+◌, [], length, OnOk, IfOk, count_by};
-ghost use Rattle.heap_dump.specs.Final.{IsLegal};
-ghost use Rattle.heap_dump.specs.Reading.{heap_of};
+ghost use Rattle.heap_dump.specs.Final.{HasDump};
+ghost use Rattle.heap_dump.specs.Reading.{heap_of_dump};
 ghost use Rattle.dump_census.specs.Levels.{AreLevels};
 ghost use Rattle.dump_census.specs.Rounds.{is_unknown, IsLeveling};
 ghost use Rattle.dump_census.specs.Counted.{level_counts};
@@ -21,7 +21,7 @@ pub struct Levels {
 
 /// A search in which the records that variables refer to have level 0.
 fn first_round(alloc: Global, dump: &Dump<'_>) -> Result<Search, OutOfMemory>
-    ensures { IfOk result (λ s. IsLeveling (heap_of dump.now) s []) }
+    ensures { IfOk result (λ s. IsLeveling (heap_of_dump dump.now) s []) }
 {
     match Search::start(alloc, dump.records()) {
         Ok(mut search) => match search.reach_variables(dump) {
@@ -39,10 +39,10 @@ fn next_round(
     search: &mut Search,
     counts: &mut Vec<u32>,
 ) -> Result<(), OutOfMemory>
-    requires legal { IsLegal (heap_of dump.now) }
-    requires leveling { IsLeveling (heap_of dump.now) search.old counts.old.items }
+    requires legal { HasDump (heap_of_dump dump.now) }
+    requires leveling { IsLeveling (heap_of_dump dump.now) search.old counts.old.items }
     requires some { 0 < length search.old.fresh }
-    ensures leveling { OnOk result (IsLeveling (heap_of dump.now) search.new counts.new.items) }
+    ensures leveling { OnOk result (IsLeveling (heap_of_dump dump.now) search.new counts.new.items) }
     ensures falls { OnOk result (count_by is_unknown search.new.found + length search.new.fresh
         < count_by is_unknown search.old.found + length search.old.fresh) }
 {
@@ -54,10 +54,10 @@ fn next_round(
     search.reach_from(dump, counts.len() as u32, front.as_slice())
 }
 
-/// The level of each record, and how many records each level has.
+/// The level of each record, and how many records each level has. Out of memory is the only refusal.
 pub fn find_levels(alloc: Global, dump: &Dump<'_>) -> Result<Levels, OutOfMemory>
-    requires { IsLegal (heap_of dump.now) }
-    ensures { IfOk result (λ r. AreLevels (heap_of dump.now) r.found.items × (r.counts.items ≡ level_counts r.found.items)) }
+    requires { HasDump (heap_of_dump dump.now) }
+    ensures { IfOk result (λ r. AreLevels (heap_of_dump dump.now) r.found.items × (r.counts.items ≡ level_counts r.found.items)) }
 {
     let mut search = match first_round(alloc, dump) {
         Ok(search) => search,

@@ -20,7 +20,7 @@
 //! The counts are those of a walk over the records in order, however the threads share the work. `laws` has what follows of every
 //! dump: one dump has one census of its levels and sections, and in a dump of a play's survivors no record is unreached.
 //!
-//! That threads run side by side is proved by nothing.
+//! No clause says that threads run side by side.
 #![tactic(auto)]
 
 mod counting;

@@ -1,7 +1,7 @@
 //! The search for the levels of records: one round gives a level to the records that references of the last round's records reach.
 ghost use Rattle.std.specs.Prelude.{◌≡◌, ◌<◌, ◌≤◌, length, All, OnOk, IfOk, replicate, None, []};
-ghost use Rattle.heap_dump.specs.Final.{IsLegal, object};
-ghost use Rattle.heap_dump.specs.Reading.{heap_of};
+ghost use Rattle.heap_dump.specs.Final.{HasDump, object};
+ghost use Rattle.heap_dump.specs.Reading.{heap_of_dump};
 ghost use Rattle.dump_census.specs.Rounds.{reach, reach_all, reach_from};
 
 use heap_dump::Dump;
@@ -25,7 +25,7 @@ impl Model for Search {
 }
 
 impl Search {
-    /// A search among so many records, of which none is found yet.
+    /// A search among so many records, of which none is found yet. Out of memory is the only refusal.
     pub fn start(alloc: Global, records: u32) -> Result<Search, OutOfMemory>
         ensures { IfOk result (λ s. s ≡ record { found = replicate records None; fresh = [] }) }
     {
@@ -59,10 +59,10 @@ impl Search {
 
     /// Gives this level to what record k refers to.
     fn reach_record(&mut self, dump: &Dump<'_>, level: u32, k: u32) -> Result<(), OutOfMemory>
-        requires legal { IsLegal (heap_of dump.now) }
-        requires k { k < length (heap_of dump.now).records }
-        requires long { length self.old.found ≡ length (heap_of dump.now).records }
-        ensures { OnOk result (self.new ≡ reach_all level self.old (object (heap_of dump.now) k).refs) }
+        requires legal { HasDump (heap_of_dump dump.now) }
+        requires k { k < length (heap_of_dump dump.now).records }
+        requires long { length self.old.found ≡ length (heap_of_dump dump.now).records }
+        ensures { OnOk result (self.new ≡ reach_all level self.old (object (heap_of_dump dump.now) k).refs) }
     {
         let Some(object) = dump.nth(k) else {
             unreachable!();
@@ -79,11 +79,11 @@ impl Search {
         Ok(())
     }
 
-    /// Gives level 0 to what the variables refer to.
+    /// Gives level 0 to what the variables refer to. Out of memory is the only refusal. Some records may have the level then.
     pub fn reach_variables(&mut self, dump: &Dump<'_>) -> Result<(), OutOfMemory>
-        requires legal { IsLegal (heap_of dump.now) }
-        requires long { length self.old.found ≡ length (heap_of dump.now).records }
-        ensures { OnOk result (self.new ≡ reach_all 0 self.old (heap_of dump.now).roots) }
+        requires legal { HasDump (heap_of_dump dump.now) }
+        requires long { length self.old.found ≡ length (heap_of_dump dump.now).records }
+        ensures { OnOk result (self.new ≡ reach_all 0 self.old (heap_of_dump dump.now).roots) }
     {
         for i in 0..32 * dump.sections() {
             let Some(reference) = dump.root(i / 32, i % 32) else {
@@ -97,17 +97,17 @@ impl Search {
         Ok(())
     }
 
-    /// Gives this level to what these records refer to.
+    /// Gives this level to what these records refer to. Out of memory is the only refusal. Some records may have the level then.
     pub fn reach_from(
         &mut self,
         dump: &Dump<'_>,
         level: u32,
         records: &[u32],
     ) -> Result<(), OutOfMemory>
-        requires legal { IsLegal (heap_of dump.now) }
-        requires records { All (λ k. k < length (heap_of dump.now).records) records.now }
-        requires long { length self.old.found ≡ length (heap_of dump.now).records }
-        ensures { OnOk result (self.new ≡ reach_from (heap_of dump.now) level self.old records.now) }
+        requires legal { HasDump (heap_of_dump dump.now) }
+        requires records { All (λ k. k < length (heap_of_dump dump.now).records) records.now }
+        requires long { length self.old.found ≡ length (heap_of_dump dump.now).records }
+        ensures { OnOk result (self.new ≡ reach_from (heap_of_dump dump.now) level self.old records.now) }
     {
         for k in records {
             match self.reach_record(dump, level, *k) {

@@ -47,7 +47,7 @@ fn add_values<R: Threads + Sync>(rt: &R, entries: &[Entry], section: u32) -> u64
         .sum::<u64>(rt)
 }
 
-/// The number of records and the sum of values of each section.
+/// The number of records and the sum of values of each section. Out of memory is the only refusal.
 pub fn count_sections<R: Threads + Sync>(
     rt: &R,
     alloc: Global,

@@ -1,14 +1,14 @@
 //! A census as a text that people read. Each line is one piece, and no call takes memory.
 ghost use Rattle.std.specs.Prelude.{◌++◌, codes, flat_map};
 ghost use Rattle.play_report.specs.Causes.{WritesTo};
-ghost use Rattle.play_report.specs.Text.{named_text, numbered};
+ghost use Rattle.play_report.specs.Text.{named_text, numbered_texts};
 ghost use Rattle.dump_census.specs.Text.{section_text, level_text, value_text, census_text};
 
 use crate::counts::{Census, SectionCount, ValueCount};
 use play_report::{Failed, Sink, TextLine, write_named, write_pair};
 
 fn write_levels<K: Sink>(levels: &[u32], sink: &mut K) -> Result<(), Failed>
-    ensures { WritesTo K.written K.faults result sink.old sink.new (numbered level_text 0 levels.now) }
+    ensures { WritesTo K.written K.faults result sink.old sink.new (numbered_texts level_text 0 levels.now) }
 {
     for (n, count) in levels.iter().enumerate() {
         match write_pair("level ", n as u64, *count as u64, sink) {
@@ -35,7 +35,7 @@ fn write_section<K: Sink>(w: u64, section: &SectionCount, sink: &mut K) -> Resul
 }
 
 fn write_sections<K: Sink>(sections: &[SectionCount], sink: &mut K) -> Result<(), Failed>
-    ensures { WritesTo K.written K.faults result sink.old sink.new (numbered section_text 0 sections.now) }
+    ensures { WritesTo K.written K.faults result sink.old sink.new (numbered_texts section_text 0 sections.now) }
 {
     for (w, section) in sections.iter().enumerate() {
         match write_section(w as u64, section, sink) {
@@ -61,7 +61,7 @@ fn write_values<K: Sink>(values: &[ValueCount], sink: &mut K) -> Result<(), Fail
 /// The sections and the values.
 fn write_counts<K: Sink>(census: &Census, sink: &mut K) -> Result<(), Failed>
     ensures { WritesTo K.written K.faults result sink.old sink.new
-        (numbered section_text 0 census.now.sections ++ flat_map value_text census.now.values) }
+        (numbered_texts section_text 0 census.now.sections ++ flat_map value_text census.now.values) }
 {
     match write_sections(census.sections(), sink) {
         Ok(()) => write_values(census.values(), sink),
@@ -72,7 +72,7 @@ fn write_counts<K: Sink>(census: &Census, sink: &mut K) -> Result<(), Failed>
 /// The records without a level, the sections and the values.
 fn write_rest<K: Sink>(census: &Census, sink: &mut K) -> Result<(), Failed>
     ensures { WritesTo K.written K.faults result sink.old sink.new
-        (named_text (codes "unreached ") census.now.unreached ++ (numbered section_text 0 census.now.sections ++ flat_map value_text census.now.values)) }
+        (named_text (codes "unreached ") census.now.unreached ++ (numbered_texts section_text 0 census.now.sections ++ flat_map value_text census.now.values)) }
 {
     match write_named("unreached ", census.unreached() as u64, sink) {
         Ok(()) => write_counts(census, sink),
@@ -83,8 +83,8 @@ fn write_rest<K: Sink>(census: &Census, sink: &mut K) -> Result<(), Failed>
 /// All but the number of levels.
 fn write_after<K: Sink>(census: &Census, sink: &mut K) -> Result<(), Failed>
     ensures { WritesTo K.written K.faults result sink.old sink.new
-        (numbered level_text 0 census.now.levels ++ (named_text (codes "unreached ") census.now.unreached
-        ++ (numbered section_text 0 census.now.sections ++ flat_map value_text census.now.values))) }
+        (numbered_texts level_text 0 census.now.levels ++ (named_text (codes "unreached ") census.now.unreached
+        ++ (numbered_texts section_text 0 census.now.sections ++ flat_map value_text census.now.values))) }
 {
     match write_levels(census.levels(), sink) {
         Ok(()) => write_rest(census, sink),
@@ -94,7 +94,7 @@ fn write_after<K: Sink>(census: &Census, sink: &mut K) -> Result<(), Failed>
 
 /// Writes a census: `levels d`, a line `level n count` for each level, `unreached u`, a line `section w count total` for each
 /// section, and a line `value v count` for each value, in order. Failed only where the sink's count of faults rose in this call,
-/// and a front of the text was then written.
+/// and a prefix of the text was then written.
 pub fn write_census<K: Sink>(census: &Census, sink: &mut K) -> Result<(), Failed>
     ensures { WritesTo K.written K.faults result sink.old sink.new (census_text census.now) }
 {

@@ -11,17 +11,17 @@ use Rattle.gc_table.proofs.History.Log.{events-none, only-after}
 use Rattle.gc_table.proofs.Running.{ran-events, ran-join, ran-refl}
 use Rattle.packet_pools.proofs.Reading.{picked-join}
 use Rattle.alloc_cache.specs.declared.cache.Cache.{Cache}
-use Rattle.gc_cycle.specs.Statistics.{BetweenCycles, changes, ChangesBy, ChangesNumbers, EndsCycle, given_up, gives_back, GivesUp, leaves_numbers, numbers_changed}
-use Rattle.gc_cycle.proofs.Refills.PaidFor.{picked-none}
+use Rattle.gc_cycle.specs.Statistics.{BetweenCycles, changing_step, ChangesBy, ChangesNumbers, EndsCycle, given_up, gives_back, GivesUp, leaves_numbers, numbers_changed}
+use Rattle.gc_cycle.proofs.Picked.{picked-none}
 
 -- steps that change no number
-leaves-none : (step : Step) (n : ℕ) → leaves_numbers step ≡ true → changes step n ≡ []
+leaves-none : (step : Step) (n : ℕ) → leaves_numbers step ≡ true → changing_step step n ≡ []
 leaves-none (AddStat which by down) n e = absurd (false≢true e)
 leaves-none (Reset which) n e = absurd (false≢true e)
 leaves-none step n e = refl
 
 pub only-changes : (v w : View) → Ran v w → Only leaves_numbers v w → ChangesBy [] v w
-only-changes v w r o = record { ran = r; all = picked-none leaves_numbers changes leaves-none (events v w) o }
+only-changes v w r o = record { ran = r; all = picked-none leaves_numbers changing_step leaves-none (events v w) o }
 
 -- one step
 pub changes-after : (v w : View) (step : Step) (n : ℕ) → leaves_numbers step ≡ true → Ran v w → w ≡ after step n v → ChangesBy [] v w
@@ -33,7 +33,7 @@ by-none v = record { ran = ran-refl v; all = ap numbers_changed (events-none v) 
 -- one call after another
 pub by-join : (ss tt : List Step) (u v w : View) → ChangesBy ss u v → ChangesBy tt v w → ChangesBy (ss ++ tt) u w
 by-join ss ts u v w a b =
-    record { ran = ran-join u v w a.ran b.ran; all = ap numbers_changed (ran-events u v w a.ran b.ran) ∙ (picked-join changes (events u v) (events v w) ∙ (λ i. a.all i ++ b.all i)) }
+    record { ran = ran-join u v w a.ran b.ran; all = ap numbers_changed (ran-events u v w a.ran b.ran) ∙ (picked-join changing_step (events u v) (events v w) ∙ (λ i. a.all i ++ b.all i)) }
 
 -- the ends of cycles of one call, and then those of another
 between-first : (ss : List Step) (ys : List (View × View)) (u v w : View) → ChangesBy [] u v → BetweenCycles ss ys v w → BetweenCycles ss ys u w

@@ -5,6 +5,7 @@ use Rattle.std.proofs.Math.Logic.{∥∥₁_elim}
 use Rattle.std.proofs.Props.{props}
 use Rattle.std.proofs.lemmas.Bool.{and_from, and_parts, false≢true, not_from_false, true≢false, or_parts}
 use Rattle.mark_core.specs.Held.{Slot, Slots, holds_any}
+use Rattle.mark_core.specs.Numbers.{section_variables}
 use Rattle.mark_core.specs.Seats.{empty_handed, has_making, is_the, work_in_hand}
 use Rattle.mark_core.specs.Places.{the_next_block}
 use Rattle.mark_core.specs.declared.kinds.Phase.TheVariants.{Drain}
@@ -179,7 +180,7 @@ rooted-by v w l rest r =
       rooted =
           record {
             ready = record { drains = drain; next_block = l.notes the_next_block 0 refl (alone-steady v.state the_next_block 0 refl r.rest.alone) before.next_block };
-            roots = λ i h. root-stays v w l.ran l.only i r.rest.alone (r.rooted.roots i (subst (λ (sh : Shape). i < sh.sections * 32) l.shape h));
+            roots = λ i h. root-stays v w l.ran l.only i r.rest.alone (r.rooted.roots i (subst (λ (sh : Shape). i < sh.sections * section_variables) l.shape h));
           };
     }
 

@@ -5,8 +5,6 @@ use Rattle.mark_core.specs.declared.kinds.Step.{Step}
 use Rattle.mark_core.specs.declared.kinds.Step.TheVariants.{AddStat, Reset}
 use Rattle.stop_world.specs.Waiting.{watches}
 use Rattle.gc_cycle.specs.Lower.{sweeps_next, traces_or_cleans}
-use Rattle.gc_cycle.specs.Pace.Pacing.{kicks}
-use Rattle.gc_cycle.specs.Refilling.{looks_for_end}
 use Rattle.gc_cycle.specs.Statistics.{leaves_numbers}
 
 pub traces-leave : (step : Step) → traces_or_cleans step ≡ true → leaves_numbers step ≡ true
@@ -23,13 +21,3 @@ pub watches-leave : (step : Step) → watches step ≡ true → leaves_numbers s
 watches-leave (AddStat which by down) e = absurd (false≢true e)
 watches-leave (Reset which) e = absurd (false≢true e)
 watches-leave step e = refl
-
-pub kicks-leave : (step : Step) → kicks step ≡ true → leaves_numbers step ≡ true
-kicks-leave (AddStat which by down) e = absurd (false≢true e)
-kicks-leave (Reset which) e = absurd (false≢true e)
-kicks-leave step e = refl
-
-pub looks-leave : (step : Step) → looks_for_end step ≡ true → leaves_numbers step ≡ true
-looks-leave (AddStat which by down) e = absurd (false≢true e)
-looks-leave (Reset which) e = absurd (false≢true e)
-looks-leave step e = refl

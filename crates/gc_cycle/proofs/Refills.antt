@@ -1,15 +1,5 @@
 -- A mutator on its way to a cache: what it claims, pays and answers.
-pub mod RoundNumbers
 pub mod KnownFull
 pub mod Retired
 pub mod Answered
 pub mod Collected
-pub mod Payment
-pub mod PaidFor
-pub mod Paced
-pub mod Rounds
-pub mod Claimed
-pub mod RoundsSoFar
-pub mod Refilled
-pub mod Filling
-pub mod Passed

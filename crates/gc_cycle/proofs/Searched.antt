@@ -11,13 +11,13 @@ use Rattle.mark_core.specs.declared.kinds.Step.{Step}
 use Rattle.mark_core.specs.declared.kinds.Step.TheVariants.{Give, Push}
 use Rattle.mark_core.specs.declared.seat.SeatState.{SeatState}
 use Rattle.gc_table.specs.declared.view.Entry.{Entry}
-use Rattle.packet_pools.specs.Seeking.{moves_packet, no_input, no_output}
+use Rattle.packet_pools.specs.Seeking.{input_pools, moves_packet, no_input, no_output, output_pools}
 use Rattle.packet_pools.proofs.AllMissed.{no-input-left, no-output-left}
 use Rattle.tracer.specs.Deferral.{defers}
 use Rattle.tracer.specs.Moments.{after_moment, at_some_moment, deferring_after, finds_no_work, front, is_spent_slot, Moment, nothing_left, without}
 use Rattle.gc_cycle.specs.Moments.{finds_no_room, holds_one}
 
--- the front of more events begins with that of the first
+-- the prefix of more events begins with that of the first
 pub front-more : (P : Step → Bool) (xs ys : List Entry) → (zs : List Entry) × (front P (xs ++ ys) ≡ front P xs ++ zs)
 front-more P [] ys = (front P ys, refl)
 front-more P (x ∷ xs) ys = by_test (P x.step) (front-more P xs ys)
@@ -50,10 +50,10 @@ left-wider sh n m e a h =
     and_from _ _ (subst (λ (s : SeatState). not (work_in_hand sh.fields s) ≡ true) e q.0) (spent-slots n.deferring m.deferring a m.state.held (subst (λ (s : SeatState). list_all (is_spent_slot n.deferring) s.held ≡ true) e q.1))
 
 pub work-widens : (sh : Shape) → Widens (finds_no_work sh)
-work-widens sh = record { wider = λ n m es e a h. let q = and_parts (nothing_left sh n) (no_input sh (front (moves_packet (2 ∷ 1 ∷ [])) es)) h in and_from _ _ (left-wider sh n m e a q.0) q.1 }
+work-widens sh = record { wider = λ n m es e a h. let q = and_parts (nothing_left sh n) (no_input sh (front (moves_packet input_pools) es)) h in and_from _ _ (left-wider sh n m e a q.0) q.1 }
 
 pub room-widens : (sh : Shape) → Widens (finds_no_room sh)
-room-widens sh = record { wider = λ n m es e a h. subst (λ (s : SeatState). (holds_one s.held && no_output sh (front (moves_packet (0 ∷ 1 ∷ 2 ∷ [])) es)) ≡ true) e h }
+room-widens sh = record { wider = λ n m es e a h. subst (λ (s : SeatState). (holds_one s.held && no_output sh (front (moves_packet output_pools) es)) ≡ true) e h }
 
 pub both-widen : (quiet : List Entry → Bool) (test : Moment → List Entry → Bool) → Widens test → Widens (λ n es. quiet es && test n es)
 both-widen quiet test w = record { wider = λ n m es e a h. let q = and_parts (quiet es) (test n es) h in and_from _ _ q.0 (w.wider n m es e a q.1) }
@@ -133,12 +133,12 @@ moment-longer sh test ys longer (x ∷ xs) m h =
 
 pub work-longer : (sh : Shape) (ys : List Entry) (m : Moment) (xs : List Entry) → finds_no_work sh m xs ≡ true → finds_no_work sh m (xs ++ ys) ≡ true
 work-longer sh ys m xs h =
-    let q = and_parts (nothing_left sh m) (no_input sh (front (moves_packet (2 ∷ 1 ∷ [])) xs)) h in
-    let f = front-more (moves_packet (2 ∷ 1 ∷ [])) xs ys in
-    and_from _ _ q.0 (ap (no_input sh) f.1 ∙ no-input-left sh (front (moves_packet (2 ∷ 1 ∷ [])) xs) f.0 q.1)
+    let q = and_parts (nothing_left sh m) (no_input sh (front (moves_packet input_pools) xs)) h in
+    let f = front-more (moves_packet input_pools) xs ys in
+    and_from _ _ q.0 (ap (no_input sh) f.1 ∙ no-input-left sh (front (moves_packet input_pools) xs) f.0 q.1)
 
 pub room-longer : (sh : Shape) (ys : List Entry) (m : Moment) (xs : List Entry) → finds_no_room sh m xs ≡ true → finds_no_room sh m (xs ++ ys) ≡ true
 room-longer sh ys m xs h =
-    let q = and_parts (holds_one m.state.held) (no_output sh (front (moves_packet (0 ∷ 1 ∷ 2 ∷ [])) xs)) h in
-    let f = front-more (moves_packet (0 ∷ 1 ∷ 2 ∷ [])) xs ys in
-    and_from _ _ q.0 (ap (no_output sh) f.1 ∙ no-output-left sh (front (moves_packet (0 ∷ 1 ∷ 2 ∷ [])) xs) f.0 q.1)
+    let q = and_parts (holds_one m.state.held) (no_output sh (front (moves_packet output_pools) xs)) h in
+    let f = front-more (moves_packet output_pools) xs ys in
+    and_from _ _ q.0 (ap (no_output sh) f.1 ∙ no-output-left sh (front (moves_packet output_pools) xs) f.0 q.1)

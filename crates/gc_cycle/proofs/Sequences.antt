@@ -13,7 +13,7 @@ use Rattle.packet_pools.specs.Seeking.{some_event}
 use Rattle.packet_pools.proofs.Searches.{some-right}
 use Rattle.gc_table.specs.Log.{all_steps}
 use Rattle.gc_table.specs.Running.{after_all}
-use Rattle.gc_cycle.specs.Events.{Sort, followed, since_last}
+use Rattle.gc_cycle.specs.Events.{Sort, followed_by, since_last}
 use Rattle.sweeper.specs.Freeing.{frees, freed_in}
 use Rattle.gc_cycle.specs.Moments.{Moment, after_moment, at_some_moment, total_of}
 
@@ -38,18 +38,18 @@ none-of-steps P f h (e ∷ es) a =
     let b = and_parts (P e.step) (all_steps P es) a in or_from (f e.step e.found) (some_event f es) (h e.step e.found b.0) (none-of-steps P f h es b.1)
 
 -- one like f in the first, and one like g in the second
-pub followed-across : (f g : Sort) (xs ys : List Entry) → some_event f xs ≡ true → some_event g ys ≡ true → followed f g (xs ++ ys) ≡ true
+pub followed-across : (f g : Sort) (xs ys : List Entry) → some_event f xs ≡ true → some_event g ys ≡ true → followed_by f g (xs ++ ys) ≡ true
 followed-across f g [] ys a b = absurd (false≢true a)
 followed-across f g (x ∷ xs) ys a b =
     ⊎_elim
-    (λ (e : f x.step x.found ≡ true). or_left (f x.step x.found && some_event g (xs ++ ys)) (followed f g (xs ++ ys)) (and_from _ _ e (some-right g xs ys b)))
-    (λ (e : some_event f xs ≡ true). or_right (f x.step x.found && some_event g (xs ++ ys)) (followed f g (xs ++ ys)) (followed-across f g xs ys e b))
+    (λ (e : f x.step x.found ≡ true). or_left (f x.step x.found && some_event g (xs ++ ys)) (followed_by f g (xs ++ ys)) (and_from _ _ e (some-right g xs ys b)))
+    (λ (e : some_event f xs ≡ true). or_right (f x.step x.found && some_event g (xs ++ ys)) (followed_by f g (xs ++ ys)) (followed-across f g xs ys e b))
     (or_cases (f x.step x.found) (some_event f xs) a)
 
 -- within the second
-pub followed-later : (f g : Sort) (xs ys : List Entry) → followed f g ys ≡ true → followed f g (xs ++ ys) ≡ true
+pub followed-later : (f g : Sort) (xs ys : List Entry) → followed_by f g ys ≡ true → followed_by f g (xs ++ ys) ≡ true
 followed-later f g [] ys a = a
-followed-later f g (x ∷ xs) ys a = or_right (f x.step x.found && some_event g (xs ++ ys)) (followed f g (xs ++ ys)) (followed-later f g xs ys a)
+followed-later f g (x ∷ xs) ys a = or_right (f x.step x.found && some_event g (xs ++ ys)) (followed_by f g (xs ++ ys)) (followed-later f g xs ys a)
 
 -- after the last event like f
 pub since-this : (f : Sort) (xs : List Entry) (e : Entry) (ys : List Entry) → f e.step e.found ≡ true → some_event f ys ≡ false → since_last f (xs ++ (e ∷ ys)) ≡ ys

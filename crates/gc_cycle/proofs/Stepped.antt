@@ -2,8 +2,10 @@
 use Rattle.std.proofs.Common.{ℕ, ◌≡◌, ◌≤◌, ◌-◌, ◌/◌, ◌%◌, refl, sym, ap, ◌∙◌, Bool, true, false, Option, ◌&&◌, ◌||◌, Some, None, subst, eqb-true, eq-eqb, ⊎_elim, ◌⊎◌, inl, inr}
 use Rattle.std.specs.Prelude.{is_some, ◌==◌}
 use Rattle.std.proofs.lemmas.Bool.{false≢true, and_from, or_cases, or_left, or_right}
+use Rattle.mark_core.specs.Cards.{block_cells}
 use Rattle.mark_core.specs.Effects.{seat_after}
 use Rattle.mark_core.specs.Layout.{block_count}
+use Rattle.mark_core.specs.Numbers.{block_counter}
 use Rattle.mark_core.specs.Places.{mark_at, the_next_block, the_phase}
 use Rattle.mark_core.specs.Seats.{cleaning_left, is_the}
 use Rattle.mark_core.specs.Steps.WorldSteps.{has_nothing, is_stopped}
@@ -36,7 +38,7 @@ use Rattle.gc_cycle.specs.Finishing.{finishes, IsAloneIn, IsPart, stays_in}
 use Rattle.gc_cycle.specs.Lower.{sweeps_next}
 use Rattle.gc_cycle.specs.Mutating.{keeps_section, tries_stopping}
 use Rattle.gc_cycle.specs.Standing.{IsAlone}
-use Rattle.gc_cycle.specs.Stepping.{Asks, CleansLast, Drains, IsOwner, HasSwept, Keeps, MakesRound, RunsAgain, says_marked, says_root, SeesRoots, Sweeps}
+use Rattle.gc_cycle.specs.Stepping.{AwaitsStop, CleansLast, Drains, IsOwner, HasSwept, Keeps, MakesRound, RunsAgain, says_marked, says_root, IsAtRoots, IsAtSweep}
 use Rattle.gc_cycle.specs.Turns.{DrainsFor}
 use Rattle.gc_cycle.proofs.Refills.Collected.{full-alone, only-drop, resumed-mutates}
 use Rattle.gc_cycle.proofs.Refills.KnownFull.{full-known}
@@ -79,7 +81,7 @@ pub resumed-keeps : (v w : View) → Ran v w → Took DropStep v w → Keeps v w
 resumed-keeps v w r t = let o = only-more tries_stopping keeps_section tries-keep v w (only-drop v w t) in (keeps-seat v w r o, keeps-section v w r o)
 
 -- the world hasn't stopped yet
-pub asks-still : (v w : View) (n : ℕ) → Asks v → Found Observe n v w → w.state.knows ≡ false → Asks w
+pub asks-still : (v w : View) (n : ℕ) → AwaitsStop v → Found Observe n v w → w.state.knows ≡ false → AwaitsStop w
 asks-still v w n a f k =
     let t = waits-observe v w n a.aware f in
     record {
@@ -95,11 +97,11 @@ by-knowing false true s e f = refl
 by-knowing false false s e f = absurd (false≢true f)
 
 -- the seat knows that the world has stopped where its look found so
-pub knows-found : (v w : View) (n : ℕ) → Asks v → Found Observe n v w → w.state.knows ≡ is_stopped n
+pub knows-found : (v w : View) (n : ℕ) → AwaitsStop v → Found Observe n v w → w.state.knows ≡ is_stopped n
 knows-found v w n a f = ap (λ (x : View). x.state.knows) f.0 ∙ by-knowing v.state.knows v.state.raised (is_stopped n) a.unaware a.aware.raised
 
 -- it has stopped, in a phase that mutators leave
-pub stopped-holds : (u w x : View) (n m : ℕ) → Asks u → Found Observe n u w → w.state.knows ≡ true → Found ReadPhase m w x → HoldsWorld x
+pub stopped-holds : (u w x : View) (n m : ℕ) → AwaitsStop u → Found Observe n u w → w.state.knows ≡ true → Found ReadPhase m w x → HoldsWorld x
 stopped-holds u w x n m a f k g =
     let first : Waits u w = waits-observe u w n a.aware f in
     let h : HasStopped x = stopped-in w x m first.aware k g in
@@ -132,10 +134,10 @@ pub full-resumed : (v w : View) → HoldsWorld v → v.state.phase_seen ≡ Some
 full-resumed v w h f r t = full-known v w r (only-drop v w t) (full-alone v h f).phase
 
 -- the counter of blocks is noted as 0
-pub cleared : (v w : View) → IsAloneIn Drain v → w ≡ after (Reset 1) 0 v → look the_next_block w.known ≡ Some 0
-cleared v w a is = ap (λ (x : View). look the_next_block x.known) is ∙ (known-here v (Reset 1) 0 the_next_block refl (alone-steady v.state the_next_block 0 refl a.rest.alone)).0
+pub cleared : (v w : View) → IsAloneIn Drain v → w ≡ after (Reset block_counter) 0 v → look the_next_block w.known ≡ Some 0
+cleared v w a is = ap (λ (x : View). look the_next_block x.known) is ∙ (known-here v (Reset block_counter) 0 the_next_block refl (alone-steady v.state the_next_block 0 refl a.rest.alone)).0
 
-pub reset-roots : (v w : View) → IsOwner v → IsAloneIn Drain v → w ≡ after (Reset 1) 0 v → SeesRoots w
+pub reset-roots : (v w : View) → IsOwner v → IsAloneIn Drain v → w ≡ after (Reset block_counter) 0 v → IsAtRoots w
 reset-roots v w k a is =
     let p = part-reset Drain 1 v w is a in
     record { owner = part-owner Drain v w p k; alone = p.alone; next_block = cleared v w a is }
@@ -176,11 +178,11 @@ may-sweep v a = and_from _ _ a.rest.knows (ap (λ q. is_the q 3) a.alone.phase)
 pub no-block : (v : View) → IsAloneIn Sweep v → v.state.block ≡ None
 no-block v a = (is-done v a.rest.rest).block
 
-pub sweeps-on : (v w : View) → Sweeps v → IsPart Sweep v w → Sweeps w
+pub sweeps-on : (v w : View) → IsAtSweep v → IsPart Sweep v w → IsAtSweep w
 sweeps-on v w s p = record { owner = part-owner Sweep v w p s.owner; alone = p.alone }
 
 -- none is left
-pub has-swept : (sh : Shape) (v : View) → v.shape ≡ sh → Sweeps v → block_count sh ≤ block_floor v → HasSwept v
+pub has-swept : (sh : Shape) (v : View) → v.shape ≡ sh → IsAtSweep v → block_count sh ≤ block_floor v → HasSwept v
 has-swept sh v e s b = record { sweeps = s; end = subst (λ k. block_count k ≤ block_floor v) (sym e) b }
 
 -- what is noted of a root, told by a test and by a fact
@@ -190,10 +192,10 @@ says-root v o word e h =
     ap (λ q. says_root v q) e
     ∙ ⊎_elim
     (λ (z : word ≡ 0). or_left (word == 0) _ (eq-eqb word 0 z))
-    (λ (m : IsNotedMarked v (word - 1)). or_right (word == 0) _ (ap (λ q. says_marked q ((word - 1) % 64)) m.1 ∙ m.2))
+    (λ (m : IsNotedMarked v (word - 1)). or_right (word == 0) _ (ap (λ q. says_marked q ((word - 1) % block_cells)) m.1 ∙ m.2))
     h
 
-marked-from : (v : View) (c : ℕ) (o : Option ℕ) → look (mark_at (c / 64)) v.known ≡ o → says_marked o (c % 64) ≡ true → IsNotedMarked v c
+marked-from : (v : View) (c : ℕ) (o : Option ℕ) → look (mark_at (c / block_cells)) v.known ≡ o → says_marked o (c % block_cells) ≡ true → IsNotedMarked v c
 marked-from v c None e h = absurd (false≢true h)
 marked-from v c (Some n) e h = (n, e, h)
 
@@ -206,8 +208,8 @@ root-from i v (Some w) e h =
       marked =
           ⊎_elim
           (λ (z : (w == 0) ≡ true). inl (eqb-true w 0 z))
-          (λ (m : says_marked (look (mark_at ((w - 1) / 64)) v.known) ((w - 1) % 64) ≡ true). inr (marked-from v (w - 1) (look (mark_at ((w - 1) / 64)) v.known) refl m))
-          (or_cases (w == 0) (says_marked (look (mark_at ((w - 1) / 64)) v.known) ((w - 1) % 64)) h);
+          (λ (m : says_marked (look (mark_at ((w - 1) / block_cells)) v.known) ((w - 1) % block_cells) ≡ true). inr (marked-from v (w - 1) (look (mark_at ((w - 1) / block_cells)) v.known) refl m))
+          (or_cases (w == 0) (says_marked (look (mark_at ((w - 1) / block_cells)) v.known) ((w - 1) % block_cells)) h);
     }
 
 pub drains-of : (v : View) → IsOwner v → RootedAlone v → Drains v

@@ -7,7 +7,3 @@ pub mod Admitted
 pub mod Looked
 pub mod HelperDrains
 pub mod Unopened
-pub mod StopsAgain
-pub mod InStops
-pub mod InStop
-pub mod AfterStop

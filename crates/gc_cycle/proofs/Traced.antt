@@ -49,7 +49,7 @@ nothing-rest sh s e =
     no-making None h = refl
     no-making (Some x) h = absurd (false≢true h)
 
--- and where it has no cache the other way round
+-- a seat at rest without a cache has nothing in hand
 pub rest-nothing : (sh : Shape) (s : SeatState) → is_at_rest sh s ≡ true → is_none s.cache ≡ true → has_nothing sh s ≡ true
 rest-nothing sh s e n =
     let p5 = and_parts _ (not (has_making s.cache)) e in

@@ -21,9 +21,9 @@ use Rattle.gc_cycle.specs.Lower.{EndsTrace, ScansRoots}
 use Rattle.gc_cycle.specs.Moments.{at_some_moment, begins, finds_no_packet, finds_no_work}
 use Rattle.gc_cycle.specs.Roots.{roots_scanned}
 use Rattle.gc_cycle.specs.Sorts.{joins, pops}
-use Rattle.gc_cycle.specs.Turns.{DrainsFor, HelpsBetween, HelpsInTurns, HelpsOnce, SeesToRoots, StaysApart, turn_quota}
+use Rattle.gc_cycle.specs.Turns.{DrainsFor, HelpsBetween, HelpsInTurns, HelpsOnce, SeesToRoots, StaysApart, help_quota}
 use Rattle.gc_cycle.proofs.Stops.Admitted.{count-run, never-join}
-use Rattle.gc_cycle.proofs.Refills.Payment.{earlier-moment, later-moment, packet-longer, packet-widens, roots-left, roots-right}
+use Rattle.gc_cycle.proofs.Longer.{earlier-moment, later-moment, packet-longer, packet-widens, roots-left, roots-right}
 use Rattle.gc_cycle.proofs.Searched.{work-longer, work-widens}
 use Rattle.gc_cycle.proofs.Sequences.{this-moment}
 
@@ -67,7 +67,7 @@ roots-earlier section u v w a b h =
     or_right (roots_scanned section (events u w)) _ (earlier-moment (finds_no_packet u.shape) u v w (packet-longer u.shape (events v w)) a b k))
     (or_cases (roots_scanned section (events u v)) _ h)
 
--- or of the second
+-- two calls saw to the roots where the second did
 pub roots-later : (section : ℕ) (u v w : View) → Ran u v → Ran v w → SeesToRoots section v w → SeesToRoots section u w
 roots-later section u v w a b h =
     ⊎_elim
@@ -84,7 +84,7 @@ apart-none v = record { ran = ran-refl v; apart = ap (never joins) (events-none 
 pub apart-join : (u v w : View) → StaysApart u v → StaysApart v w → StaysApart u w
 apart-join u v w a b = record { ran = ran-join u v w a.ran b.ran; apart = ap (never joins) (ran-events u v w a.ran b.ran) ∙ never-join joins (events u v) (events v w) a.apart b.apart }
 
--- nor does one that looks whether a stop is under way
+-- a look whether a stop is under way joins no helpers
 pub apart-look : (v w : View) (n : ℕ) → Ran v w → w ≡ after Observe n v → StaysApart v w
 apart-look v w n r e = record { ran = r; apart = ap (never joins) (events-after v w Observe n e) }
 
@@ -95,10 +95,10 @@ between-join quota [] (s ∷ ss) u v w a b = (s ∷ ss, (apart-join u v s.0 a b.
 between-join quota (t ∷ ts) ss u v w a b = let r = between-join quota ts ss t.1 v w a.2 b in (t ∷ r.0, (a.0, a.1, r.1))
 
 pub turns-join : (u v w : View) → HelpsInTurns u v → HelpsInTurns v w → HelpsInTurns u w
-turns-join u v w a b = between-join turn_quota a.0 b.0 u v w a.1 b.1
+turns-join u v w a b = between-join help_quota a.0 b.0 u v w a.1 b.1
 
 pub turns-none : (v w : View) → StaysApart v w → HelpsInTurns v w
 turns-none v w a = ([], a)
 
-pub turns-once : (v w : View) → HelpsOnce turn_quota v w → HelpsInTurns v w
+pub turns-once : (v w : View) → HelpsOnce help_quota v w → HelpsInTurns v w
 turns-once v w h = ((v, w) ∷ [], (apart-none v, h, apart-none w))

@@ -1,15 +1,12 @@
 -- What a mutator is answered that asks for a cache, comes to a safe point, or collects.
-use Rattle.std.specs.Prelude.{ℕ, ◌≡◌, ◌==◌, ◌<◌, not, true, false, if◌then◌else◌, List, [], ◌∷◌, Bool, Option, Some, None, is_some, IsTrue, IsFalse}
-use Rattle.std.specs.Int.Count.{ones}
+use Rattle.std.specs.Prelude.{ℕ, ◌≡◌, ◌==◌, not, true, false, if◌then◌else◌, List, [], ◌∷◌, Bool, Option, Some, None, is_some, IsTrue, IsFalse}
 use Rattle.mark_core.specs.Seats.{phase_of}
 use Rattle.mark_core.specs.declared.kinds.Phase.{Phase}
 use Rattle.mark_core.specs.declared.kinds.Phase.TheVariants as phases
 use Rattle.mark_core.specs.declared.kinds.Step.{Step}
 use Rattle.mark_core.specs.declared.kinds.Step.TheVariants.{AddStat, PublishCells, ReadPhase, ReleaseBlock, StorePosition}
-use Rattle.gc_table.specs.PlainSteps.{own_section}
 use Rattle.gc_table.specs.declared.view.Entry.{Entry}
 use Rattle.gc_table.specs.declared.view.View.{View}
-use Rattle.packet_pools.specs.Fields.{picked}
 use Rattle.packet_pools.specs.Seeking.{some_event}
 use Rattle.alloc_cache.specs.Caching.{IsCached}
 use Rattle.alloc_cache.specs.declared.cache.Cache.{Cache}
@@ -17,18 +14,13 @@ use Rattle.gc_table.specs.Log.{events}
 use Rattle.gc_table.specs.Rule.{KnowsFull}
 use Rattle.gc_table.specs.Running.{Ran}
 use Rattle.gc_table.specs.Seats.{Took}
-use Rattle.gc_cycle.specs.declared.counts.Paid.{Paid}
-use Rattle.gc_cycle.specs.declared.counts.Refill.{Refill}
-use Rattle.gc_cycle.specs.declared.counts.Refill.TheVariants as refills
 use Rattle.gc_cycle.specs.declared.counts.Safe.{Safe}
 use Rattle.gc_cycle.specs.declared.counts.Safe.TheVariants as safes
 use Rattle.gc_cycle.specs.Cycles.{collects}
 use Rattle.gc_cycle.specs.Events.{each_before}
-use Rattle.gc_cycle.specs.Moments.{begins}
 use Rattle.gc_cycle.specs.Mutating.{GoesOut}
-use Rattle.gc_cycle.specs.Pace.Paying.{Pays, since_claim}
 use Rattle.gc_cycle.specs.Polling.{offered_help, poll_found_stop, saw_full}
-use Rattle.gc_cycle.specs.Sorts.{leaves, lowers_free, polls}
+use Rattle.gc_cycle.specs.Sorts.{leaves, polls}
 use Rattle.mark_core.specs.Numbers.{done_count}
 use Rattle.gc_cycle.specs.Standing.{Mutates}
 
@@ -116,26 +108,14 @@ pub record GivesWay (handed kept : Option Cache) (done : ℕ) (v w : View) : Typ
   pub position : IsTrue (poll_found_stop (events v w)) → (w.own.position ≡ done) × IsTrue (some_event leaves (events v w))
   pub waits : IsTrue (waits_helping (events v w))
 
--- a cache with free cells, which were taken off the number of free cells, and paid for; where the seat left the world on the way, its position is stored
-pub record GetsCache (h : Cache) (paid : Paid) (done : ℕ) (v w : View) : Type 0 where
-  pub goes_on : GoesOn v w
-  pub cached : IsCached h w
-  pub position : StoredAt done v w
-  pub free : 0 < ones h.cells
-  pub told : picked lowers_free (since_claim (events v w)) ≡ ones h.cells ∷ []
-  pub pays : Pays v.shape (own_section v.state) (ones h.cells) paid (begins v) (events v w)
-
-abbrev pub RefillsTo : Refill → ℕ → View → View → Type 0
-RefillsTo (refills.Cache h paid) done v w = GetsCache h paid done v w
-RefillsTo refills.Full done v w = EndsFull done v w
-
--- it polled; where the first poll found a stop it stored its position, left, offered its help and gave up its cache, and else it has what it had
+-- the mutator polled; where the first poll found a stop it stored its position, left, offered its help and gave up its cache, and else it has what it had
 pub record PassesSafely (handed kept : Option Cache) (done : ℕ) (v w : View) : Type 0 where
   pub goes_on : GoesOn v w
   pub cached : HasCache kept w
   pub same : kept ≡ (if poll_found_stop (events v w) then None else handed)
   pub position : IsTrue (poll_found_stop (events v w)) → (w.own.position ≡ done) × IsTrue (some_event leaves (events v w))
 
+-- what a safe point answers: the mutator goes on, or the heap is full
 abbrev pub SafeTo : Safe → Option Cache → ℕ → View → View → Type 0
 SafeTo (safes.Going kept) handed done v w = PassesSafely handed kept done v w
 SafeTo safes.Full handed done v w = EndsFull done v w
@@ -147,6 +127,7 @@ pub record Collects (done : ℕ) (v w : View) : Type 0 where
   pub position : w.own.position ≡ done
   pub collected : IsTrue (collects (events v w))
 
+-- what a precise collection answers: the mutator goes on without a cache, or the heap is full
 abbrev pub CollectsTo : Safe → ℕ → View → View → Type 0
 CollectsTo (safes.Going None) done v w = Collects done v w
 CollectsTo (safes.Going (Some h)) done v w = ⊥

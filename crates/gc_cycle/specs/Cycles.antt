@@ -3,8 +3,8 @@ use Rattle.std.specs.Prelude.{◌&&◌, ◌||◌, List, [], ◌∷◌, Bool, fal
 use Rattle.mark_core.specs.declared.kinds.Phase.TheVariants.{Idle, Drain, Sweep, Full}
 use Rattle.mark_core.specs.declared.kinds.Shape.{Shape}
 use Rattle.gc_table.specs.declared.view.Entry.{Entry}
-use Rattle.gc_cycle.specs.Events.{followed, since_last, each_after, never}
-use Rattle.gc_cycle.specs.Sorts.{begins_exactly, ends_cycle, moves_to, opens, names, raises_flag, reads_all_ones, reads_free_cell}
+use Rattle.gc_cycle.specs.Events.{followed_by, since_last, each_after, never}
+use Rattle.gc_cycle.specs.Sorts.{begins_exactly, ends_cycle, moves_to, opens_help, names, raises_flag, reads_all_ones, reads_free_cell}
 use Rattle.gc_cycle.specs.Moments.{Moment, after_moment, at_some_moment}
 use Rattle.mark_core.specs.Layout.{block_count}
 use Rattle.std.specs.List.{list_all, range_with_len}
@@ -12,7 +12,7 @@ use Rattle.packet_pools.specs.Seeking.{some_event}
 
 -- a drain began in which no cell was marked, and after it a cycle ended
 abbrev pub collects : List Entry → Bool
-collects es = followed begins_exactly ends_cycle es
+collects es = followed_by begins_exactly ends_cycle es
 
 -- the next event ends a cycle, of a seat whose drain began with no cell marked
 abbrev pub ends_exactly : Moment → List Entry → Bool
@@ -27,11 +27,11 @@ collects_exactly sh m (e ∷ es) =
 
 -- help was opened between the last move to Drain and the last move to Sweep
 abbrev pub opens_in_drain : List Entry → Bool
-opens_in_drain es = followed opens (moves_to Sweep) (since_last (moves_to Drain) es)
+opens_in_drain es = followed_by opens_help (moves_to Sweep) (since_last (moves_to Drain) es)
 
 -- help was opened between the last move to Sweep and the last move to Idle
 abbrev pub opens_in_sweep : List Entry → Bool
-opens_in_sweep es = followed opens (moves_to Idle) (since_last (moves_to Sweep) es)
+opens_in_sweep es = followed_by opens_help (moves_to Idle) (since_last (moves_to Sweep) es)
 
 -- help was opened for both
 abbrev pub lets_help : List Entry → Bool
@@ -49,10 +49,10 @@ sees_free_cell sh es = some_event (reads_free_cell (block_count sh)) es
 abbrev pub may_fill : Shape → List Entry → Bool
 may_fill sh stop = collects stop && sees_all_full sh (since_last ends_cycle stop) && some_event names stop
 
--- the heap was said to be full only so
+-- each time that the heap was said to be full there was cause for it in the same stop
 abbrev pub fills_with_cause : Shape → List Entry → Bool
 fills_with_cause sh es = each_after (λ earlier. may_fill sh (since_last raises_flag earlier)) (moves_to Full) [] es
 
--- it wasn't said to be full
+-- the heap was not said to be full
 abbrev pub never_fills : List Entry → Bool
 never_fills es = never (moves_to Full) es

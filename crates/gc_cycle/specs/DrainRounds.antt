@@ -10,14 +10,15 @@ use Rattle.gc_table.specs.Running.{Ran}
 use Rattle.gc_table.specs.declared.view.Entry.{Entry}
 use Rattle.gc_table.specs.declared.view.View.{View}
 use Rattle.packet_pools.specs.Seeking.{some_event}
-use Rattle.card_clean.specs.Drained.{FindsNone, FindsWork}
+use Rattle.card_clean.specs.Drained.{FindsNoDirtyCard, FindsWork}
 use Rattle.gc_cycle.specs.Drained.{DrainedAlone, RootedAlone}
 use Rattle.gc_cycle.specs.Events.{never, since_last}
 use Rattle.gc_cycle.specs.Finishing.{IsPart}
-use Rattle.gc_cycle.specs.Sorts.{moves_to, opens}
+use Rattle.gc_cycle.specs.Sorts.{moves_to, opens_help}
 use Rattle.gc_cycle.specs.Turns.{DrainsFor, SeesToRoots, round_quota}
 
--- a look at the cards and at the count of packets found something left; and after it a round was made, in which so many cells were popped, or at some moment nothing was left in hand and there was no packet to read from
+-- a look at the cards and at the count of packets found something left; and after it a round was made, in which so many cells were popped, or at some moment
+-- nothing was left in hand and there was no packet to read from
 pub record GoesRound (v w : View) : Type 0 where
   pub looked : View
   pub looks : Ran v looked
@@ -27,7 +28,7 @@ pub record GoesRound (v w : View) : Type 0 where
 
 -- such rounds and nothing else, each up to the next of these views, and at last a look that found each card clean and all packets empty
 abbrev pub GoesInRounds : List View → View → View → Type 0
-GoesInRounds [] v w = Ran v w × FindsNone v.shape (events v w)
+GoesInRounds [] v w = Ran v w × FindsNoDirtyCard v.shape (events v w)
 GoesInRounds (x ∷ xs) v w = GoesRound v x × GoesInRounds xs x w
 
 -- a drain by the seat alone: it saw to the roots until each was nil or marked, and went in rounds until nothing was left
@@ -44,7 +45,7 @@ pub record DrainsAlone (v w : View) : Type 0 where
 pub record DrainsTogether (v w : View) : Type 0 where
   pub part : IsPart Drain v w
   pub roots : (section : ℕ) → section < v.shape.sections → SeesToRoots section v w
-  pub opened : IsTrue (some_event opens (events v w))
+  pub opened : IsTrue (some_event opens_help (events v w))
   pub worked : DrainsFor round_quota v w
 
 -- the first step moved the phase from Drain to this one

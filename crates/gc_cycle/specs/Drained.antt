@@ -3,12 +3,12 @@ use Rattle.gc_table.specs.declared.view.View.{View}
 use Rattle.card_clean.specs.Drained.{IsDrained, IsRooted}
 use Rattle.gc_cycle.specs.Standing.{IsAlone}
 
--- it has seen to all roots
+-- the seat has noted that every root is nil or names a marked cell
 pub record RootedAlone (v : View) : Type 0 where
   pub rest : IsAlone v
   pub rooted : IsRooted v
 
--- and then it saw that no card is dirty, and that all packets are empty
+-- the seat has noted that every root is nil or names a marked cell, and after that that no card is dirty and all packets are empty
 pub record DrainedAlone (v : View) : Type 0 where
   pub rest : IsAlone v
   pub drained : IsDrained v

@@ -22,9 +22,10 @@ use Rattle.gc_cycle.specs.Events.{never}
 use Rattle.gc_cycle.specs.Helping.{helped_to_the_end}
 use Rattle.gc_cycle.specs.Lower.{sweeps_next, traces_or_cleans}
 use Rattle.gc_cycle.specs.Moments.{Moment, at_some_moment, begins, finds_no_room, finds_no_work}
-use Rattle.gc_cycle.specs.Sorts.{clears, clears_card, draws, gets_block, pops, sees_last_block}
+use Rattle.gc_cycle.specs.Sorts.{clears, clears_card, draws, draws_block, pops, sees_last_block}
 use Rattle.gc_cycle.specs.Standing.{Helps}
 
+-- why a helper ended, where its tracing stopped for this
 abbrev pub end_as : Stopped → HelpEnd
 end_as stops.Quota = Quota
 end_as stops.NoWork = NoWork
@@ -48,7 +49,7 @@ pub record DrainsOn (v w : View) : Type 0 where
   pub helps : Helps w
   pub phase : w.state.phase_seen ≡ v.state.phase_seen
 
--- it did so much in all
+-- the helper traced and cleaned so much, and why it stopped
 pub record HelpsOn (quota : ℕ) (helped : Helped) (v w : View) : Type 0 where
   pub drained : DrainsOn v w
   pub traced : count_of pops (events v w) ≡ helped.traced
@@ -62,6 +63,7 @@ abbrev pub EndsAt : HelpEnd → View → View → Type 0
 EndsAt NoWork v w = IsTrue (helped_to_the_end v.shape (begins v) (events v w))
 EndsAt ended v w = Unit {0}
 
+-- what holds of the cards where a helper ended as its answer says
 abbrev pub EndsAs : Helped → View → View → Type 0
 EndsAs helped v w = EndsAt helped.ended v w
 
@@ -78,7 +80,7 @@ pub record CleansOn (quota card : ℕ) (before after : Helped) (v w : View) : Ty
   pub cleaned : after.ended ≡ NoWork → IsTrue (some_event (clears_card card) (events v w))
 
 -- the card was found dirty by one look, and cleaned, and tracing went on
-pub record CleansDirty (quota card : ℕ) (before after : Helped) (v w : View) : Type 0 where
+pub record CleansFoundCard (quota card : ℕ) (before after : Helped) (v w : View) : Type 0 where
   pub looked : View
   pub looks : Answered (ReadCard card) (λ n. IsTrue (won (ReadCard card) n)) v looked
   pub cleans : CleansOn quota card before after looked w
@@ -86,7 +88,7 @@ pub record CleansDirty (quota card : ℕ) (before after : Helped) (v w : View) :
 -- the card was found clean by one look, and nothing else was done; or it was dirty, and seen to
 abbrev pub SeesToCard : ℕ → ℕ → Helped → Helped → View → View → Type 0
 SeesToCard quota card before after v w =
-    ((after ≡ before) × Answered (ReadCard card) (λ n. IsFalse (won (ReadCard card) n)) v w) ⊎ CleansDirty quota card before after v w
+    ((after ≡ before) × Answered (ReadCard card) (λ n. IsFalse (won (ReadCard card) n)) v w) ⊎ CleansFoundCard quota card before after v w
 
 -- blocks were swept until none was left
 pub record SweepsOn (helped : Helped) (v w : View) : Type 0 where
@@ -96,6 +98,6 @@ pub record SweepsOn (helped : Helped) (v w : View) : Type 0 where
   pub phase : w.state.phase_seen ≡ v.state.phase_seen
   pub traced : helped.traced ≡ 0
   pub rescanned : helped.rescanned ≡ 0
-  pub swept : count_of (gets_block (block_count v.shape)) (events v w) ≡ helped.swept
+  pub swept : count_of (draws_block (block_count v.shape)) (events v w) ≡ helped.swept
   pub ended : helped.ended ≡ Swept
   pub end : IsTrue (some_event (sees_last_block (block_count v.shape)) (events v w))

@@ -11,9 +11,9 @@ abbrev pub Sort : Type 0
 Sort = Step → ℕ → Bool
 
 -- an event like f, and after it one like g
-abbrev pub followed : Sort → Sort → List Entry → Bool
-followed f g [] = false
-followed f g (e ∷ es) = (f e.step e.found && some_event g es) || followed f g es
+abbrev pub followed_by : Sort → Sort → List Entry → Bool
+followed_by f g [] = false
+followed_by f g (e ∷ es) = (f e.step e.found && some_event g es) || followed_by f g es
 
 -- an event like f, and after it none like g
 abbrev pub not_followed : Sort → Sort → List Entry → Bool

@@ -16,9 +16,9 @@ use Rattle.packet_pools.specs.Seeking.{some_event}
 use Rattle.gc_table.specs.Log.{all_steps, events, event, Only}
 use Rattle.gc_table.specs.Running.{Alone, Known, Ran}
 use Rattle.gc_cycle.specs.Cycles.{ends_exactly, opens_in_sweep}
-use Rattle.gc_cycle.specs.Events.{followed, never}
+use Rattle.gc_cycle.specs.Events.{followed_by, never}
 use Rattle.gc_cycle.specs.Moments.{at_some_moment, begins}
-use Rattle.gc_cycle.specs.Sorts.{begins_exactly, ends_cycle, moves_to, opens, tells_full}
+use Rattle.gc_cycle.specs.Sorts.{begins_exactly, ends_cycle, moves_to, opens_help, tells_full}
 use Rattle.gc_cycle.specs.Mutating.{keeps_section}
 use Rattle.gc_cycle.specs.Standing.{IsAlone}
 
@@ -96,7 +96,7 @@ pub record Completes (v w : View) : Type 0 where
   pub only : Only finishes v w
   pub alone : IsAloneIn Idle w
   pub no_drain : IsTrue (never (moves_to Drain) (events v w))
-  pub drain_help : IsTrue (followed opens (moves_to Sweep) (events v w))
+  pub drain_help : IsTrue (followed_by opens_help (moves_to Sweep) (events v w))
   pub sweep_help : IsTrue (opens_in_sweep (events v w))
   pub ends : IsTrue (some_event ends_cycle (events v w))
   pub not_full : IsTrue (never tells_full (events v w))

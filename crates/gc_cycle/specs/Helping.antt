@@ -15,7 +15,7 @@ use Rattle.gc_cycle.specs.declared.counts.Helped.{Helped}
 use Rattle.gc_cycle.specs.declared.counts.HelpEnd.{HelpEnd}
 use Rattle.gc_cycle.specs.declared.counts.HelpEnd.TheVariants.{Quota, NoWork, NoPacket, Swept}
 use Rattle.gc_cycle.specs.Events.{never, not_followed}
-use Rattle.gc_cycle.specs.Sorts.{clears, gets_block, pops, sees_last_block, sees_last_card, sees_to_card}
+use Rattle.gc_cycle.specs.Sorts.{clears, draws_block, pops, sees_last_block, sees_last_card, sees_to_card}
 use Rattle.gc_cycle.specs.Moments.{Moment, at_some_moment, begins, finds_no_room, finds_no_work}
 
 -- the event gave out a card, which these later events clear, or find clean
@@ -28,7 +28,8 @@ abbrev pub meets_cards : ℕ → List Entry → Bool
 meets_cards cards [] = true
 meets_cards cards (e ∷ es) = meets_card cards e.step e.found es && meets_cards cards es
 
--- after the last card that was cleared, the counter of cards was at its end; nothing was left in hand and there was no packet to read from; and each card given out was cleared, or found clean
+-- after the last card that was cleared, the counter of cards was at its end; nothing was left in hand and there was no packet to read from; and each card given
+-- out was cleared, or found clean
 abbrev pub helped_to_the_end : Shape → Moment → List Entry → Bool
 helped_to_the_end sh m es =
     not_followed (sees_last_card (card_count sh)) clears es
@@ -51,6 +52,6 @@ pub record SweepsAll (sh : Shape) (helped : Helped) (es : List Entry) : Type 0 w
 pub record HelpsAs (quota : ℕ) (helped : Helped) (v : View) (es : List Entry) : Type 0 where
   pub traced : count_of pops es ≡ helped.traced
   pub rescanned : rescanned_in v es ≡ helped.rescanned
-  pub swept : count_of (gets_block (block_count v.shape)) es ≡ helped.swept
+  pub swept : count_of (draws_block (block_count v.shape)) es ≡ helped.swept
   pub drain : IsTrue (saw v.state.phase_seen Drain) → DrainsTo helped.ended v.shape quota helped.traced (begins v) es
   pub sweep : IsTrue (saw v.state.phase_seen Sweep) → (helped.traced ≡ 0) × SweepsAll v.shape helped es

@@ -15,13 +15,15 @@ use Rattle.mark_core.specs.Numbers.{done_count}
 use Rattle.gc_cycle.specs.Sparing.{fills_part}
 use Rattle.gc_cycle.specs.Standing.{IsAlone, KeepsSeat, KeepsSection}
 
--- a step that changes nothing of what the seat's section has come to, but for its position and for what the ends of cycles say; it reads no season, and counts no part that was played
+-- a step that changes nothing of what the seat's section has come to, but for its position and for what the ends of cycles say; it reads no season, and counts
+-- no part that was played
 abbrev pub keeps_section : Step → Bool
 keeps_section (ReadOwn c i) = false
 keeps_section (ReadCat v) = false
 keeps_section step = fills_part step
 
--- and that neither claims a block, nor raises the flag, nor moves the phase, nor reads how many parts were played
+-- the step keeps the section as `keeps_section` says, and neither claims a block, nor raises the flag, nor moves the phase,
+-- nor reads how many parts were played
 abbrev pub stays_calm : Step → Bool
 stays_calm (ClaimBlock b) = false
 stays_calm RaiseStep = false
@@ -29,7 +31,7 @@ stays_calm (StorePhase to) = false
 stays_calm (ReadStat which) = not (which == done_count)
 stays_calm step = keeps_section step
 
--- so it is of this step, but that it may raise the flag
+-- the step is calm, or it raises the flag
 abbrev pub tries_stopping : Step → Bool
 tries_stopping RaiseStep = true
 tries_stopping step = stays_calm step
@@ -44,13 +46,13 @@ pub record GoesOut (v w : View) : Type 0 where
   pub calm : IsTrue (never raises_flag (events v w))
   pub unclaimed : IsTrue (never claims (events v w))
 
--- so it is of a seat that entered
+-- the seat entered: it and its section are as they were, it has no cache, and the heap was not said to be full
 pub record HasEntered (v w : View) : Type 0 where
   pub out : GoesOut v w
   pub cache : w.state.cache ≡ None
   pub position : w.own.position ≡ v.own.position
 
--- so it is of one that tried to stop the world, but that it may have raised the flag
+-- the seat tried to stop the world, and may have raised the flag; it and its section are as they were, and the heap was not said to be full
 pub record TriesToStop (v w : View) : Type 0 where
   pub ran : Ran v w
   pub only : Only tries_stopping v w

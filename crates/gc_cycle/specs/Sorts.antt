@@ -21,22 +21,22 @@ abbrev pub polls : Step → ℕ → Bool
 polls Observe found = true
 polls step found = false
 
--- it had the flag
+-- the word of the world was read, and had the stop flag
 abbrev pub sees_flag : Step → ℕ → Bool
 sees_flag Observe found = has_flag found
 sees_flag step found = false
 
--- it had no flag
+-- the word of the world was read, and had no stop flag
 abbrev pub sees_no_flag : Step → ℕ → Bool
 sees_no_flag Observe found = not (has_flag found)
 sees_no_flag step found = false
 
--- the world was entered, or tried to
+-- the world was entered, while a stop was under way or not
 abbrev pub enters : Step → ℕ → Bool
 enters EnterStep found = true
 enters step found = false
 
--- it was entered while no stop was under way
+-- the world was entered while no stop was under way
 abbrev pub enters_freely : Step → ℕ → Bool
 enters_freely EnterStep found = not (has_flag found)
 enters_freely step found = false
@@ -52,9 +52,9 @@ resumes DropStep found = true
 resumes step found = false
 
 -- help was opened
-abbrev pub opens : Step → ℕ → Bool
-opens OpenStep found = true
-opens step found = false
+abbrev pub opens_help : Step → ℕ → Bool
+opens_help OpenStep found = true
+opens_help step found = false
 
 -- the helpers were joined, or tried to
 abbrev pub joins : Step → ℕ → Bool
@@ -80,7 +80,7 @@ moves_to p step found = false
 abbrev pub tells_full : Step → ℕ → Bool
 tells_full step found = moves_to Full step found || reads_phase Full step found
 
--- it moved from the first to the second
+-- the phase was moved from the first to the second
 abbrev pub moves : Phase → Phase → Step → ℕ → Bool
 moves from to step found = moves_to to step found && is_phase found from
 
@@ -119,12 +119,12 @@ sees_last_block blocks (ReadStat which) found = (which == block_counter) && nat_
 sees_last_block blocks NextBlock found = nat_le blocks found
 sees_last_block blocks step found = false
 
--- a card was cleared, or found clean
+-- a card was cleared, whether it was dirty or clean
 abbrev pub clears : Step → ℕ → Bool
 clears (ClearCard card) found = true
 clears step found = false
 
--- it was this card
+-- this card was cleared, whether it was dirty or clean
 abbrev pub clears_card : ℕ → Step → ℕ → Bool
 clears_card card (ClearCard c) found = c == card
 clears_card card step found = false
@@ -152,9 +152,9 @@ gives_card card NextOfCards found = found == card
 gives_card card step found = false
 
 -- a block came in hand
-abbrev pub gets_block : ℕ → Step → ℕ → Bool
-gets_block blocks NextBlock found = nat_lt found blocks
-gets_block blocks step found = false
+abbrev pub draws_block : ℕ → Step → ℕ → Bool
+draws_block blocks NextBlock found = nat_lt found blocks
+draws_block blocks step found = false
 
 -- the allocation bits of the block were read, and all were set
 abbrev pub reads_all_ones : ℕ → Step → ℕ → Bool
@@ -172,23 +172,23 @@ names StoreNamed found = true
 names step found = false
 
 -- a word of a new cell was stored
-abbrev pub makes : Step → ℕ → Bool
-makes (StoreNew c part word) found = true
-makes step found = false
+abbrev pub stores_new : Step → ℕ → Bool
+stores_new (StoreNew c part word) found = true
+stores_new step found = false
 
 -- a mutator stored
-abbrev pub stores : Step → ℕ → Bool
-stores (StoreField v i w) found = true
-stores (StoreValue v n) found = true
-stores (StoreRoot v r) found = true
-stores step found = false
+abbrev pub mutator_stores : Step → ℕ → Bool
+mutator_stores (StoreField v i w) found = true
+mutator_stores (StoreValue v n) found = true
+mutator_stores (StoreRoot v r) found = true
+mutator_stores step found = false
 
 -- the count of parts that were played was read
 abbrev pub reads_done : Step → ℕ → Bool
 reads_done (ReadStat which) found = which == done_count
 reads_done step found = false
 
--- it was below this number
+-- the count of parts that were played was read, and was below this number
 abbrev pub reads_done_below : ℕ → Step → ℕ → Bool
 reads_done_below until (ReadStat which) found = (which == done_count) && nat_lt found until
 reads_done_below until step found = false

@@ -24,7 +24,7 @@ fills_part NextSeason = false
 fills_part (AddStat which by down) = not (which == done_count)
 fills_part step = true
 
--- nor does it say that the heap is full
+-- the step is none of a command, reads and moves no season, counts no part that was played, and does not say that the heap is full
 abbrev pub spares_part : Step → Bool
 spares_part (StorePhase to) = not (saw (Some to) Full)
 spares_part step = fills_part step

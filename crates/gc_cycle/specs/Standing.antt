@@ -47,7 +47,7 @@ pub record KeepsSection (v w : View) : Type 0 where
   pub turns : w.own.history ≡ v.own.history
   pub seasons : w.own.seasons ≡ v.own.seasons
 
--- so does what the seat is and has made
+-- the seat keeps its number, its section, its variables, and how many cells it has made
 pub record KeepsSeat (v w : View) : Type 0 where
   pub number : w.state.number ≡ v.state.number
   pub section : w.state.section ≡ v.state.section

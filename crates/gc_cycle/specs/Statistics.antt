@@ -31,33 +31,34 @@ leaves_numbers (Reset which) = false
 leaves_numbers step = true
 
 -- the step, where it does
-abbrev pub changes : Step → ℕ → List Step
-changes (AddStat which by down) found = AddStat which by down ∷ []
-changes (Reset which) found = Reset which ∷ []
-changes step found = []
+abbrev pub changing_step : Step → ℕ → List Step
+changing_step (AddStat which by down) found = AddStat which by down ∷ []
+changing_step (Reset which) found = Reset which ∷ []
+changing_step step found = []
 
 -- all steps among these events that do, in their order
 abbrev pub numbers_changed : List Entry → List Step
-numbers_changed es = picked changes es
+numbers_changed es = picked changing_step es
 
 -- the call changed the numbers by these steps, and by no other
 pub record ChangesBy (steps : List Step) (v w : View) : Type 0 where
   pub ran : Ran v w
   pub all : numbers_changed (events v w) ≡ steps
 
--- the free cells of a block that was claimed are taken off
+-- the step that takes the free cells of a claimed block off the count of free cells
 abbrev pub takes_off : Cache → Step
 takes_off h = AddStat free_count (ones h.cells) true
 
--- those that are left in a cache are counted again
+-- the step that adds the free cells that are left in a cache to that count
 abbrev pub gives_back : Cache → Step
 gives_back h = AddStat free_count (ones h.cells) false
 
--- it is told that so many cells were traced
+-- the step that raises the number of traced cells by n
 abbrev pub tells : ℕ → Step
 tells n = AddStat traced_count n false
 
--- a cycle ended, by all that `finish_cycle` and `precise` promise of it alike: alone in a stop the seat drained and swept, let helpers in, and set the numbers to those of this cycle
+-- a cycle ended, by all that `finish_cycle` and `precise` promise of it alike: alone in a stop the seat drained and swept, let helpers in, and set the numbers
+-- to those of this cycle
 pub record EndsCycle (v w : View) : Type 0 where
   pub ran : Ran v w
   pub only : Only finishes v w
@@ -79,7 +80,8 @@ BetweenCycles steps (end ∷ ends) v w = ChangesBy [] v end.0 × EndsCycle end.0
 abbrev pub ChangesNumbers : List Step → View → View → Type 0
 ChangesNumbers steps v w = (ends : List (View × View)) × BetweenCycles steps ends v w
 
--- with a cache: its free cells were taken off, and it may have been told how many cells were traced for it. With Full: nothing was changed, or a block was claimed and given up
+-- with a cache: its free cells were taken off, and it may have been told how many cells were traced for it. With Full: nothing was changed, or a block was
+-- claimed and given up
 abbrev pub RefillsNumbers : Refill → View → View → Type 0
 RefillsNumbers (refills.Cache h paid) v w = ChangesNumbers (takes_off h ∷ []) v w ⊎ ChangesNumbers (takes_off h ∷ tells paid.done ∷ []) v w
 RefillsNumbers refills.Full v w = ChangesNumbers [] v w ⊎ ((h : Cache) × ChangesNumbers (takes_off h ∷ gives_back h ∷ []) v w)

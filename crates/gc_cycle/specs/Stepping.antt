@@ -1,8 +1,9 @@
 -- A collection in steps that doesn't wait: where the seat stands between them, and what each of them did.
 use Rattle.std.specs.Prelude.{ℕ, ◌≡◌, ◌==◌, ◌||◌, ◌<◌, ◌≤◌, ◌-◌, ◌*◌, ◌/◌, ◌%◌, not, [], ◌∷◌, Bool, false, is_some, Option, Some, None, IsTrue, IsFalse}
 use Rattle.mark_core.specs.Bits.{has_bit, has_flag}
+use Rattle.mark_core.specs.Cards.{block_cells}
 use Rattle.mark_core.specs.Layout.{block_count}
-use Rattle.mark_core.specs.Numbers.{deferred_pool_number}
+use Rattle.mark_core.specs.Numbers.{section_variables}
 use Rattle.mark_core.specs.Places.{mark_at, the_next_block}
 use Rattle.mark_core.specs.Steps.WorldSteps.{has_nothing, is_stopped}
 use Rattle.mark_core.specs.declared.kinds.Phase.TheVariants.{Drain, Idle, Sweep}
@@ -11,7 +12,7 @@ use Rattle.gc_table.specs.Log.{event, events}
 use Rattle.gc_table.specs.Notes.{look}
 use Rattle.gc_table.specs.Seats.{Took}
 use Rattle.gc_table.specs.declared.view.View.{View}
-use Rattle.packet_pools.specs.Seeking.{only_moves, some_event}
+use Rattle.packet_pools.specs.Seeking.{deferred_pools, only_moves, some_event}
 use Rattle.card_clean.specs.DirtyCards.{CleansDirty}
 use Rattle.card_clean.specs.Drained.{FindsWork}
 use Rattle.card_clean.specs.Taking.{NoPacket}
@@ -32,14 +33,14 @@ pub record IsOwner (v : View) : Type 0 where
   pub unhelping : IsFalse v.state.helping
 
 -- its flag is up, and it doesn't know yet that the world has stopped
-pub record Asks (v : View) : Type 0 where
+pub record AwaitsStop (v : View) : Type 0 where
   pub owner : IsOwner v
   pub aware : IsAware v
   pub unaware : IsFalse v.state.knows
   pub rest : IsTrue (has_nothing v.shape v.state)
 
 -- alone in a drain, it sees to the roots
-pub record SeesRoots (v : View) : Type 0 where
+pub record IsAtRoots (v : View) : Type 0 where
   pub owner : IsOwner v
   pub alone : IsAloneIn Drain v
   pub next_block : look the_next_block v.known ≡ Some 0
@@ -49,12 +50,12 @@ abbrev pub says_marked : Option ℕ → ℕ → Bool
 says_marked None i = false
 says_marked (Some n) i = has_bit n i
 
--- what is noted of a root word says that it is nil, or goes to a cell that is noted as marked
+-- what is noted of a root word says that it is nil, or names a cell that is noted as marked
 abbrev pub says_root : View → Option ℕ → Bool
 says_root v None = false
-says_root v (Some word) = (word == 0) || says_marked (look (mark_at ((word - 1) / 64)) v.known) ((word - 1) % 64)
+says_root v (Some word) = (word == 0) || says_marked (look (mark_at ((word - 1) / block_cells)) v.known) ((word - 1) % block_cells)
 
--- so it is of root word i
+-- what is noted of root word i says that it is nil, or names a cell that is noted as marked
 abbrev pub notes_root : ℕ → View → Bool
 notes_root i v = says_root v (look (2, i) v.known)
 
@@ -64,24 +65,24 @@ pub record Drains (v : View) : Type 0 where
   pub rest : IsAlone v
   pub drain : Alone Drain v
   pub next_block : look the_next_block v.known ≡ Some 0
-  pub roots : (i : ℕ) → i < v.shape.sections * 32 → IsTrue (notes_root i v)
+  pub roots : (i : ℕ) → i < v.shape.sections * section_variables → IsTrue (notes_root i v)
 
--- and all is marked
-pub record HasDrained (v : View) : Type 0 where
+-- the seat is alone at the end of a drain: it has noted that every root is nil or names a marked cell, each card is clean and all packets are empty
+pub record HasMarkedAll (v : View) : Type 0 where
   pub owner : IsOwner v
   pub drained : DrainedAlone v
 
 -- alone in a sweep, it hands out blocks
-pub record Sweeps (v : View) : Type 0 where
+pub record IsAtSweep (v : View) : Type 0 where
   pub owner : IsOwner v
   pub alone : IsAloneIn Sweep v
 
--- and none is left
+-- the seat is alone in a sweep, and has noted that every block was handed out
 pub record HasSwept (v : View) : Type 0 where
-  pub sweeps : Sweeps v
+  pub sweeps : IsAtSweep v
   pub end : block_count v.shape ≤ block_floor v
 
--- it runs again, without a cache
+-- the seat runs again as a mutator, without a cache
 pub record RunsAgain (v : View) : Type 0 where
   pub mutates : Mutates v
   pub cache : v.state.cache ≡ None
@@ -103,7 +104,7 @@ pub record FindsRunning (v w : View) : Type 0 where
   pub all : events v w ≡ event Observe found ∷ []
   pub running : IsFalse (is_stopped found)
 
--- one look found that none does, and then the phase was read
+-- one look at the world found that no seat runs, and then the phase was read
 pub record FindsStopped (v w : View) : Type 0 where
   pub found : ℕ
   pub phase : ℕ
@@ -116,9 +117,10 @@ pub record LacksPacket (v w : View) : Type 0 where
   pub looks : Ran v looked
   pub lacks : NoPacket v.shape (events v looked)
   pub ran : Ran looked w
-  pub brings : IsTrue (only_moves (deferred_pool_number ∷ []) (events looked w))
+  pub brings : IsTrue (only_moves deferred_pools (events looked w))
 
--- after whatever was done first, every card was seen clean, or one was seen dirty, and then no packet was found, or each card from it on was cleaned where it was dirty
+-- after whatever was done first, every card was seen clean, or one was seen dirty, and then no packet was found, or each card from it on was cleaned where it
+-- was dirty
 pub record CleansLast (v w : View) : Type 0 where
   pub traced : View
   pub first : Ran v traced
@@ -126,7 +128,8 @@ pub record CleansLast (v w : View) : Type 0 where
   pub count : ℕ
   pub cleans : CleansDirty v.shape count (events traced w)
 
--- a look at the cards and at the count of packets found something left; and after it a round was made, in which so many cells were popped, or at some moment nothing was left in hand and there was no packet to read from, and at last the cards were cleaned
+-- a look at the cards and at the count of packets found something left; and after it a round was made, in which so many cells were popped, or at some moment
+-- nothing was left in hand and there was no packet to read from, and at last the cards were cleaned
 pub record MakesRound (most : ℕ) (v w : View) : Type 0 where
   pub looked : View
   pub looks : Ran v looked

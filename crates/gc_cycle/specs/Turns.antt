@@ -21,8 +21,8 @@ abbrev pub round_quota : ℕ
 round_quota = 4294967295
 
 -- how many cells a seat that waits pops in a turn as a helper, where there are as many
-abbrev pub turn_quota : ℕ
-turn_quota = 1024
+abbrev pub help_quota : ℕ
+help_quota = 1024
 
 -- so many cells were popped, or at some moment nothing was left in hand and there was no packet to read from
 abbrev pub DrainsFor : ℕ → View → View → Type 0
@@ -32,7 +32,8 @@ DrainsFor quota v w = IsTrue (nat_le quota (count_of pops (events v w)) || at_so
 abbrev pub SeesToRoots : ℕ → View → View → Type 0
 SeesToRoots section v w = IsTrue (roots_scanned section (events v w) || at_some_moment v.shape (finds_no_packet v.shape) (begins v) (events v w))
 
--- where the phase was read as Drain or Sweep, it helped: in a drain until so many objects were traced, or no work or no packet was found, and in a sweep until no block was left
+-- where the phase was read as Drain or Sweep, it helped: in a drain until so many objects were traced, or no work or no packet was found, and in a sweep until
+-- no block was left
 abbrev pub HelpsFor : ℕ → View → View → Type 0
 HelpsFor quota v w = IsTrue (saw v.state.phase_seen Drain || saw v.state.phase_seen Sweep) → (helped : Helped) × HelpsAs quota helped v (events v w)
 
@@ -57,11 +58,11 @@ pub record StaysApart (v w : View) : Type 0 where
   pub ran : Ran v w
   pub apart : IsTrue (never joins (events v w))
 
--- it tried so once between the two views of each pair, and else never
+-- between the two views of each pair the seat tried once to join the helpers, and at no other time
 abbrev pub HelpsBetween : ℕ → List (View × View) → View → View → Type 0
 HelpsBetween quota [] v w = StaysApart v w
 HelpsBetween quota (turn ∷ turns) v w = StaysApart v turn.0 × HelpsOnce quota turn.0 turn.1 × HelpsBetween quota turns turn.1 w
 
 -- each time that the seat tried to join the helpers help was closed, or it took a turn
 abbrev pub HelpsInTurns : View → View → Type 0
-HelpsInTurns v w = (turns : List (View × View)) × HelpsBetween turn_quota turns v w
+HelpsInTurns v w = (turns : List (View × View)) × HelpsBetween help_quota turns v w

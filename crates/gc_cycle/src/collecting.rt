@@ -178,13 +178,13 @@ fn give_way<R: Wait>(rt: &R, heap: &Heap, seat: &mut HeapSeat, cache: &mut Optio
     if !poll(heap, seat) {
         return;
     }
-    retire_some(heap, seat, cache);
+    retire_some(heap, seat, cache.take());
     go_out(heap, seat, done);
     go_in(rt, heap, seat);
 }
 
 /// Whether a mutator goes on, with its cache. Where it reads that the heap is full it gives the cache up, and stores its position.
-pub(crate) fn go_on(heap: &Heap, seat: &mut HeapSeat, cache: Option<Cache>, done: u32) -> Safe
+pub fn go_on(heap: &Heap, seat: &mut HeapSeat, cache: Option<Cache>, done: u32) -> Safe
     requires seat { Sits heap.now seat.old × Mutates (view_of seat.old) }
     requires cache { HasCache cache (view_of seat.old) }
     ensures seat { Sits heap.now seat.new × Mutates (view_of seat.new) }
@@ -203,12 +203,7 @@ pub(crate) fn go_on(heap: &Heap, seat: &mut HeapSeat, cache: Option<Cache>, done
 
 /// Whether a mutator goes on, as `go_on` finds, with the cache lent. Where it doesn't, it has none.
 #[inline(always)]
-pub(crate) fn goes_on(
-    heap: &Heap,
-    seat: &mut HeapSeat,
-    cache: &mut Option<Cache>,
-    done: u32,
-) -> bool
+pub fn goes_on(heap: &Heap, seat: &mut HeapSeat, cache: &mut Option<Cache>, done: u32) -> bool
     requires seat { Sits heap.now seat.old × Mutates (view_of seat.old) }
     requires cache { HasCache cache.old (view_of seat.old) }
     ensures seat { Sits heap.now seat.new × Mutates (view_of seat.new) }
@@ -221,7 +216,7 @@ pub(crate) fn goes_on(
     if !finds_full(heap, seat) {
         return true;
     }
-    retire_some(heap, seat, cache);
+    retire_some(heap, seat, cache.take());
     heap.store_position(seat, done);
     false
 }
@@ -237,7 +232,7 @@ fn spend_none(cache: Option<Cache>)
 }
 
 /// Whether the heap is full, as a mutator without a cache reads it. Where it is, the mutator stores its position.
-pub(crate) fn ends_full(heap: &Heap, seat: &mut HeapSeat, done: u32) -> bool
+pub fn ends_full(heap: &Heap, seat: &mut HeapSeat, done: u32) -> bool
     requires seat { Sits heap.now seat.old × Mutates (view_of seat.old) }
     requires cache { (state_of seat.old).cache ≡ None }
     ensures seat { Sits heap.now seat.new × Mutates (view_of seat.new) }
@@ -256,7 +251,7 @@ pub(crate) fn ends_full(heap: &Heap, seat: &mut HeapSeat, done: u32) -> bool
 
 /// Whether the heap is full, as a mutator reads it. Where it isn't, the mutator goes on after whatever it did before.
 #[inline(always)]
-pub(crate) fn finds_full(heap: &Heap, seat: &mut HeapSeat) -> bool
+pub fn finds_full(heap: &Heap, seat: &mut HeapSeat) -> bool
     requires seat { Sits heap.now seat.old × Mutates (view_of seat.old) }
     ensures seat { Sits heap.now seat.new × Mutates (view_of seat.new) }
     ensures read { Across (Took ReadPhase) seat.old seat.new }
@@ -269,22 +264,20 @@ pub(crate) fn finds_full(heap: &Heap, seat: &mut HeapSeat) -> bool
     }
 }
 
-/// Gives a cache up, if there is one.
+/// Gives a cache up, if there is one: of the seat's record it takes the cache alone, and its section stays.
 #[cold]
 #[inline(never)]
-pub(crate) fn retire_some(heap: &Heap, seat: &mut HeapSeat, cache: &mut Option<Cache>)
+pub fn retire_some(heap: &Heap, seat: &mut HeapSeat, cache: Option<Cache>)
     requires seat { Sits heap.now seat.old × Mutates (view_of seat.old) }
-    requires cache { HasCache cache.old (view_of seat.old) }
+    requires cache { HasCache cache (view_of seat.old) }
     ensures seat { Sits heap.now seat.new × Mutates (view_of seat.new) }
-    ensures cache { (state_of seat.new).cache ≡ None }
-    ensures none { cache.new ≡ None }
     ensures ran { Across Ran seat.old seat.new }
     ensures only { Across (Only retires) seat.old seat.new }
-    ensures numbers { Across (GivesUp cache.old cache.new) seat.old seat.new }
-    ensures seen { (state_of seat.new).phase_seen ≡ (state_of seat.old).phase_seen }
+    ensures numbers { Across (GivesUp cache None) seat.old seat.new }
+    ensures state { state_of seat.new ≡ record (state_of seat.old) { cache = None } }
     ensures own { (view_of seat.new).own ≡ (view_of seat.old).own }
 {
-    if let Some(cache) = cache.take() {
+    if let Some(cache) = cache {
         retire(heap, seat, cache);
     }
 }

@@ -15,7 +15,7 @@ ghost use Rattle.gc_cycle.specs.DrainRounds.{DrainsAlone, DrainsTogether};
 ghost use Rattle.gc_cycle.specs.Drained.{DrainedAlone};
 ghost use Rattle.gc_cycle.specs.Finishing.{DrainsInStop, IsAloneIn, IsMove, IsPart, most};
 ghost use Rattle.gc_cycle.specs.Lower.{HasTraced};
-ghost use Rattle.gc_cycle.specs.Sorts.{opens};
+ghost use Rattle.gc_cycle.specs.Sorts.{opens_help};
 ghost use Rattle.gc_cycle.specs.Stepping.{CleansLast};
 ghost use Rattle.gc_cycle.specs.Turns.{DrainsFor, SeesToRoots};
 
@@ -27,8 +27,8 @@ use gc_table::{Heap, HeapSeat};
 use mark_core::{BLOCK_COUNTER, CARD_COUNTER, Phase as CyclePhase};
 use std::sync::Wait;
 
-/// How many objects a round of the drain pops at most: all that there are. A round passes over all cards at its end, so it would cost too much to make one before
-/// there is nothing left to trace.
+/// How many objects a round of the drain pops at most: all that there are. A round passes over all cards at its end, so it would cost too much to make one
+/// before there is nothing left to trace.
 const ROUND: u32 = u32::MAX;
 
 /// Begins the drain. The pass over all cards begins again.

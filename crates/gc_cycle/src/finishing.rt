@@ -78,7 +78,7 @@ fn begin_exactly<R: Wait>(rt: &R, heap: &Heap, seat: &mut HeapSeat) -> u32
         return 0;
     }
     let rescanned = drain_alone(rt, heap, seat);
-    clear_all_marks(rt, heap, seat);
+    clear_all_marks(heap, seat);
     rescanned
 }
 

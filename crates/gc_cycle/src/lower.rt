@@ -14,7 +14,7 @@ ghost use Rattle.packet_pools.specs.Counts.{count_of};
 ghost use Rattle.packet_pools.specs.Seeking.{some_event};
 ghost use Rattle.packet_pools.specs.Tracing.{traces};
 ghost use Rattle.card_clean.specs.DirtyCards.{CleansDirty};
-ghost use Rattle.card_clean.specs.Drained.{FindsNone, FindsWork};
+ghost use Rattle.card_clean.specs.Drained.{FindsNoDirtyCard, FindsWork};
 ghost use Rattle.card_clean.specs.Passing.{card_floor};
 ghost use Rattle.sweeper.specs.Freeing.{freed_in, block_floor};
 ghost use Rattle.card_clean.specs.Leaving.{rescanned_in};
@@ -25,11 +25,11 @@ ghost use Rattle.gc_cycle.specs.Finishing.{IsAloneIn, IsPart};
 ghost use Rattle.gc_cycle.specs.Helping.{meets_cards};
 ghost use Rattle.gc_cycle.specs.Lower.{GivesCard, EndsTrace, HasTraced, ScansRoots, sweeps_next, traces_or_cleans};
 ghost use Rattle.gc_cycle.specs.Moments.{at_some_moment, begins, finds_no_room};
-ghost use Rattle.gc_cycle.specs.Sorts.{clears, clears_card, draws, draws_or_clears, gets_block, pops, reads_pace, reads_root, sees_last_block, sees_to_card};
+ghost use Rattle.gc_cycle.specs.Sorts.{clears, clears_card, draws, draws_or_clears, draws_block, pops, reads_pace, reads_root, sees_last_block, sees_to_card};
 ghost use Rattle.gc_cycle.specs.Standing.{is_at_rest};
 ghost use Rattle.gc_cycle.specs.Stepping.{LacksPacket};
 
-pub(crate) use alloc_cache::{claim, retire};
+pub(crate) use alloc_cache::retire;
 use gc_table::{Heap, HeapSeat};
 use std::sync::Wait;
 pub(crate) use stop_world::{
@@ -38,7 +38,7 @@ pub(crate) use stop_world::{
 use tracer::{RootScan, Traced};
 
 /// Traces at most so many objects.
-pub(crate) fn trace(heap: &Heap, seat: &mut HeapSeat, quota: u32) -> Traced
+pub fn trace(heap: &Heap, seat: &mut HeapSeat, quota: u32) -> Traced
     requires seat { Sits heap.now seat.old × IsTrue (traces (view_of seat.old)) }
     requires rest { IsTrue (is_at_rest heap.now.shape (state_of seat.old)) }
     ensures seat { Sits heap.now seat.new }
@@ -54,7 +54,7 @@ pub(crate) fn trace(heap: &Heap, seat: &mut HeapSeat, quota: u32) -> Traced
 }
 
 /// Takes the deferred packets back into their pools.
-pub(crate) fn recycle_deferred(heap: &Heap, seat: &mut HeapSeat) -> u32
+pub fn recycle_deferred(heap: &Heap, seat: &mut HeapSeat) -> u32
     requires seat { Sits heap.now seat.old × IsTrue (traces (view_of seat.old)) }
     requires rest { IsTrue (is_at_rest heap.now.shape (state_of seat.old)) }
     ensures seat { Sits heap.now seat.new }
@@ -69,7 +69,7 @@ pub(crate) fn recycle_deferred(heap: &Heap, seat: &mut HeapSeat) -> u32
 }
 
 /// Scans the roots of a section.
-pub(crate) fn scan_roots(heap: &Heap, seat: &mut HeapSeat, section: u32) -> RootScan
+pub fn scan_roots(heap: &Heap, seat: &mut HeapSeat, section: u32) -> RootScan
     requires seat { Sits heap.now seat.old × IsTrue (traces (view_of seat.old)) }
     requires rest { IsTrue (is_at_rest heap.now.shape (state_of seat.old)) }
     requires section { section < heap.now.shape.sections }
@@ -103,7 +103,7 @@ pub(crate) fn is_drained(heap: &Heap, seat: &mut HeapSeat) -> bool
     ensures traced { Across HasTraced seat.old seat.new }
     ensures rescanned { rescanned_in (view_of seat.old) (did seat.old seat.new) ≡ 0 }
     ensures drained { IsTrue result → DrainedAlone (view_of seat.new) }
-    ensures over { IsTrue result → FindsNone heap.now.shape (did seat.old seat.new) }
+    ensures over { IsTrue result → FindsNoDirtyCard heap.now.shape (did seat.old seat.new) }
     ensures undrained { IsFalse result → FindsWork heap.now.shape (did seat.old seat.new) }
 {
     card_clean::is_drained(heap, seat)
@@ -147,7 +147,7 @@ pub(crate) fn see_to_roots<R: Wait>(rt: &R, heap: &Heap, seat: &mut HeapSeat)
 }
 
 /// The next card of the pass, or none where the counter was at its end.
-pub(crate) fn next_card(heap: &Heap, seat: &mut HeapSeat) -> Option<u32>
+pub fn next_card(heap: &Heap, seat: &mut HeapSeat) -> Option<u32>
     requires seat { Sits heap.now seat.old × IsTrue (traces (view_of seat.old)) }
     requires rest { IsTrue (is_at_rest heap.now.shape (state_of seat.old)) }
     ensures seat { Sits heap.now seat.new }
@@ -169,7 +169,7 @@ pub(crate) fn next_card(heap: &Heap, seat: &mut HeapSeat) -> Option<u32>
 }
 
 /// Cleans a card with a packet of its own: how many objects were scanned again, or none where no packet could be had.
-pub(crate) fn clean(heap: &Heap, seat: &mut HeapSeat, card: u32) -> Option<u32>
+pub fn clean(heap: &Heap, seat: &mut HeapSeat, card: u32) -> Option<u32>
     requires seat { Sits heap.now seat.old × IsTrue (traces (view_of seat.old)) }
     requires rest { IsTrue (is_at_rest heap.now.shape (state_of seat.old)) }
     requires card { card < card_count heap.now.shape }
@@ -227,8 +227,8 @@ pub(crate) fn sweep_next(heap: &Heap, seat: &mut HeapSeat) -> Option<u32>
     ensures only { Across (Only sweeps_next) seat.old seat.new }
     ensures state { state_of seat.new ≡ record (state_of seat.old) { below_block = (state_of seat.new).below_block; cleaning = (state_of seat.new).cleaning } }
     ensures left { IsFalse (cleaning_left (state_of seat.old).cleaning) → IsFalse (cleaning_left (state_of seat.new).cleaning) }
-    ensures some { IfSome result (λ n. (freed_in (view_of seat.old) (did seat.old seat.new) ≡ n) × (block_floor (view_of seat.old) < block_floor (view_of seat.new)) × (block_floor (view_of seat.old) < block_count heap.now.shape) × (count_of (gets_block (block_count heap.now.shape)) (did seat.old seat.new) ≡ 1)) }
-    ensures none { IfNone result (IsTrue (some_event (sees_last_block (block_count heap.now.shape)) (did seat.old seat.new)) × (block_count heap.now.shape ≤ block_floor (view_of seat.new)) × (count_of (gets_block (block_count heap.now.shape)) (did seat.old seat.new) ≡ 0)) }
+    ensures some { IfSome result (λ n. (freed_in (view_of seat.old) (did seat.old seat.new) ≡ n) × (block_floor (view_of seat.old) < block_floor (view_of seat.new)) × (block_floor (view_of seat.old) < block_count heap.now.shape) × (count_of (draws_block (block_count heap.now.shape)) (did seat.old seat.new) ≡ 1)) }
+    ensures none { IfNone result (IsTrue (some_event (sees_last_block (block_count heap.now.shape)) (did seat.old seat.new)) × (block_count heap.now.shape ≤ block_floor (view_of seat.new)) × (count_of (draws_block (block_count heap.now.shape)) (did seat.old seat.new) ≡ 0)) }
     ensures unfreed { IfNone result (freed_in (view_of seat.old) (did seat.old seat.new) ≡ 0) }
 {
     match sweeper::sweep_next(heap, seat) {

@@ -12,7 +12,7 @@ ghost use Rattle.gc_cycle.specs.Settling.{Sets};
 
 use crate::counts::Counts;
 use gc_table::{Heap, HeapSeat};
-use mark_core::{CARD_COUNTER, FREE, LAST, RESCANNED, TRACED};
+use mark_core::{BLOCK_CELLS, CARD_COUNTER, FREE, LAST, RESCANNED, TRACED};
 
 /// How many allocation bits are set, as a seat that is alone reads them.
 fn count_published(heap: &Heap, seat: &mut HeapSeat) -> u32
@@ -25,7 +25,7 @@ fn count_published(heap: &Heap, seat: &mut HeapSeat) -> u32
     ensures bound { result ≤ heap.now.shape.cells }
 {
     let mut published = 0;
-    for b in 0..heap.shape().cells / 64 {
+    for b in 0..heap.shape().cells / BLOCK_CELLS {
         published += heap.read_alloc(seat, b).count_ones();
     }
     published

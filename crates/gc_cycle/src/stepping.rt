@@ -23,11 +23,11 @@ ghost use Rattle.gc_table.specs.Rule.{KnowsFull};
 ghost use Rattle.gc_table.specs.Running.{Ran};
 ghost use Rattle.gc_table.specs.Seats.{Across, did, Sits, state_of, view_of};
 ghost use Rattle.gc_table.specs.declared.view.View.{View};
-ghost use Rattle.card_clean.specs.Drained.{FindsNone};
+ghost use Rattle.card_clean.specs.Drained.{FindsNoDirtyCard};
 ghost use Rattle.gc_cycle.specs.Collecting.{HoldsWorld};
 ghost use Rattle.gc_cycle.specs.Finishing.{IsAloneIn, IsPart};
 ghost use Rattle.gc_cycle.specs.Standing.{IsOut, Mutates};
-ghost use Rattle.gc_cycle.specs.Stepping.{Asks, AsksOnce, Drains, FindsRunning, FindsStopped, HasDrained, IsExactSince, IsOwner, Keeps, LacksPacket, MakesRound, RunsAgain, SeesRoots};
+ghost use Rattle.gc_cycle.specs.Stepping.{AwaitsStop, AsksOnce, Drains, FindsRunning, FindsStopped, HasMarkedAll, IsExactSince, IsOwner, Keeps, LacksPacket, MakesRound, RunsAgain, IsAtRoots};
 
 use crate::clearing::{begin_again, begin_clear};
 use crate::collecting::has_seen_full;
@@ -46,7 +46,7 @@ pub fn ask_to_stop(heap: &Heap, seat: &mut HeapSeat, done: u32) -> bool
     ensures seat { Sits heap.now seat.new }
     ensures ran { Across Ran seat.old seat.new }
     ensures asks { Across (AsksOnce done result) seat.old seat.new }
-    ensures yours { OnTrue result (Asks (view_of seat.new)) }
+    ensures yours { OnTrue result (AwaitsStop (view_of seat.new)) }
     ensures theirs { OnFalse result (IsOut (view_of seat.new)) }
     ensures position { (view_of seat.new).own.position ≡ done }
     ensures keeps { Across Keeps seat.old seat.new }
@@ -61,11 +61,11 @@ pub fn ask_to_stop(heap: &Heap, seat: &mut HeapSeat, done: u32) -> bool
 /// Whether the world has stopped, as one look finds it.
 pub fn finds_stopped(heap: &Heap, seat: &mut HeapSeat) -> bool
     requires seat { Sits heap.now seat.old }
-    requires asks { Asks (view_of seat.old) }
+    requires asks { AwaitsStop (view_of seat.old) }
     ensures seat { Sits heap.now seat.new }
     ensures ran { Across Ran seat.old seat.new }
     ensures stopped { OnTrue result (HoldsWorld (view_of seat.new) × Across FindsStopped seat.old seat.new) }
-    ensures not_yet { OnFalse result (Asks (view_of seat.new) × Across FindsRunning seat.old seat.new) }
+    ensures not_yet { OnFalse result (AwaitsStop (view_of seat.new) × Across FindsRunning seat.old seat.new) }
     ensures keeps { Across Keeps seat.old seat.new }
 {
     heap.observe(seat);
@@ -83,7 +83,7 @@ fn reset_blocks(heap: &Heap, seat: &mut HeapSeat)
     requires alone { IsAloneIn Drain (view_of seat.old) }
     ensures seat { Sits heap.now seat.new }
     ensures part { Across (IsPart Drain) seat.old seat.new }
-    ensures roots { SeesRoots (view_of seat.new) }
+    ensures roots { IsAtRoots (view_of seat.new) }
 {
     heap.reset(seat, BLOCK_COUNTER);
 }
@@ -94,7 +94,7 @@ pub fn begin_collection(heap: &Heap, seat: &mut HeapSeat) -> bool
     requires stopped { HoldsWorld (view_of seat.old) }
     ensures seat { Sits heap.now seat.new }
     ensures ran { Across Ran seat.old seat.new }
-    ensures begun { OnTrue result (SeesRoots (view_of seat.new) × ((state_of seat.old).phase_seen ≢ Some Full)) }
+    ensures begun { OnTrue result (IsAtRoots (view_of seat.new) × ((state_of seat.old).phase_seen ≢ Some Full)) }
     ensures exact { OnTrue result ((state_of seat.old).phase_seen ≡ Some Idle → (u : View) → Ran u (view_of seat.old) → IsExactSince u (view_of seat.new)) }
     ensures full { OnFalse result (RunsAgain (view_of seat.new) × KnowsFull (view_of seat.new)) }
     ensures keeps { Across Keeps seat.old seat.new }
@@ -111,11 +111,11 @@ pub fn begin_collection(heap: &Heap, seat: &mut HeapSeat) -> bool
 /// Marks what the roots refer to. False comes only where no packet could be had: the deferred ones are back then, and it is to be called again.
 pub fn root_step(heap: &Heap, seat: &mut HeapSeat) -> bool
     requires seat { Sits heap.now seat.old }
-    requires roots { SeesRoots (view_of seat.old) }
+    requires roots { IsAtRoots (view_of seat.old) }
     ensures seat { Sits heap.now seat.new }
     ensures part { Across (IsPart Drain) seat.old seat.new }
     ensures rooted { OnTrue result (Drains (view_of seat.new)) }
-    ensures not_yet { OnFalse result (SeesRoots (view_of seat.new) × Across LacksPacket seat.old seat.new) }
+    ensures not_yet { OnFalse result (IsAtRoots (view_of seat.new) × Across LacksPacket seat.old seat.new) }
     ensures exact { (u : View) → IsExactSince u (view_of seat.old) → IsExactSince u (view_of seat.new) }
     ensures keeps { Across Keeps seat.old seat.new }
 {
@@ -129,7 +129,7 @@ pub fn drain_step(heap: &Heap, seat: &mut HeapSeat, most: u32) -> bool
     requires drains { Drains (view_of seat.old) }
     ensures seat { Sits heap.now seat.new }
     ensures part { Across (IsPart Drain) seat.old seat.new }
-    ensures drained { OnTrue result (HasDrained (view_of seat.new) × FindsNone heap.now.shape (did seat.old seat.new)) }
+    ensures drained { OnTrue result (HasMarkedAll (view_of seat.new) × FindsNoDirtyCard heap.now.shape (did seat.old seat.new)) }
     ensures not_yet { OnFalse result (Drains (view_of seat.new) × Across (MakesRound most) seat.old seat.new) }
     ensures exact { (u : View) → IsExactSince u (view_of seat.old) → IsExactSince u (view_of seat.new) }
     ensures keeps { Across Keeps seat.old seat.new }
@@ -144,10 +144,10 @@ pub fn drain_step(heap: &Heap, seat: &mut HeapSeat, most: u32) -> bool
 /// Takes all marks away and begins the drain once more, so that only what is reachable now is marked.
 pub fn drain_again(heap: &Heap, seat: &mut HeapSeat)
     requires seat { Sits heap.now seat.old }
-    requires drained { HasDrained (view_of seat.old) }
+    requires drained { HasMarkedAll (view_of seat.old) }
     ensures seat { Sits heap.now seat.new }
     ensures ran { Across Ran seat.old seat.new }
-    ensures roots { SeesRoots (view_of seat.new) }
+    ensures roots { IsAtRoots (view_of seat.new) }
     ensures exact { (u : View) → Ran u (view_of seat.old) → IsExactSince u (view_of seat.new) }
     ensures keeps { Across Keeps seat.old seat.new }
 {

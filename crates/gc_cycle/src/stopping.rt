@@ -16,7 +16,7 @@ ghost use Rattle.gc_cycle.specs.Sorts.{joins, leaves, raises_flag};
 ghost use Rattle.gc_cycle.specs.Sparing.{spares_part};
 ghost use Rattle.gc_cycle.specs.Standing.{IsAdmitted, IsOut, KeepsSeat, KeepsSection, Mutates};
 ghost use Rattle.gc_cycle.specs.Statistics.{leaves_numbers};
-ghost use Rattle.gc_cycle.specs.Turns.{HelpsFor, HelpsInTurns, HelpsOnce, turn_quota};
+ghost use Rattle.gc_cycle.specs.Turns.{HelpsFor, HelpsInTurns, HelpsOnce, help_quota};
 
 use crate::helping::help;
 use crate::lower::{await_stopped, enter, join_help, leave, leave_help, poll, raise};
@@ -42,7 +42,7 @@ fn help_joined(heap: &Heap, seat: &mut HeapSeat)
     ensures numbers { Across (Only leaves_numbers) seat.old seat.new }
     ensures inside { IsTrue (never leaves (did seat.old seat.new)) }
     ensures stays { IsTrue (never joins (did seat.old seat.new)) }
-    ensures helps { Across (HelpsFor turn_quota) seat.old seat.new }
+    ensures helps { Across (HelpsFor help_quota) seat.old seat.new }
 {
     match seat.state().phase_seen {
         Some(Phase::Drain) => {
@@ -64,7 +64,7 @@ fn help_once(heap: &Heap, seat: &mut HeapSeat)
     ensures numbers { Across (Only leaves_numbers) seat.old seat.new }
     ensures offered { IsTrue (some_event joins (did seat.old seat.new)) }
     ensures inside { IsTrue (never leaves (did seat.old seat.new)) }
-    ensures helps { Across (HelpsOnce turn_quota) seat.old seat.new }
+    ensures helps { Across (HelpsOnce help_quota) seat.old seat.new }
 {
     if join_help(heap, seat) {
         help_joined(heap, seat);
@@ -155,7 +155,7 @@ pub fn go_in<R: Wait>(rt: &R, heap: &Heap, seat: &mut HeapSeat)
 
 /// Asks for a stop of its own, with the position stored: true where the seat has stopped the world and is alone in it. Where another seat's flag is up it
 /// waits until that stop has ended, and enters again.
-pub(crate) fn stop<R: Wait>(rt: &R, heap: &Heap, seat: &mut HeapSeat, done: u32) -> bool
+pub fn stop<R: Wait>(rt: &R, heap: &Heap, seat: &mut HeapSeat, done: u32) -> bool
     requires seat { Sits heap.now seat.old × Mutates (view_of seat.old) }
     requires cache { (state_of seat.old).cache ≡ None }
     ensures seat { Sits heap.now seat.new }

@@ -11,8 +11,8 @@ ghost use Rattle.sweeper.specs.Freeing.{freed_in, block_floor};
 ghost use Rattle.gc_cycle.specs.Cycles.{collects_exactly};
 ghost use Rattle.gc_cycle.specs.Finishing.{IsAloneIn, IsMove, IsPart, most as greatest};
 ghost use Rattle.gc_cycle.specs.Moments.{begins};
-ghost use Rattle.gc_cycle.specs.Sorts.{gets_block};
-ghost use Rattle.gc_cycle.specs.Stepping.{EndsCollection, HasDrained, HasSwept, IsExactSince, Keeps, RunsAgain, Sweeps};
+ghost use Rattle.gc_cycle.specs.Sorts.{draws_block};
+ghost use Rattle.gc_cycle.specs.Stepping.{EndsCollection, HasMarkedAll, HasSwept, IsExactSince, Keeps, RunsAgain, IsAtSweep};
 
 use crate::counts::Counts;
 use crate::draining::begin_sweep;
@@ -33,10 +33,10 @@ pub struct SweepStep {
 /// Begins the sweep, once all is marked.
 pub fn start_sweep(heap: &Heap, seat: &mut HeapSeat)
     requires seat { Sits heap.now seat.old }
-    requires drained { HasDrained (view_of seat.old) }
+    requires drained { HasMarkedAll (view_of seat.old) }
     ensures seat { Sits heap.now seat.new }
     ensures moved { Across (IsMove Drain Sweep) seat.old seat.new }
-    ensures sweeps { Sweeps (view_of seat.new) }
+    ensures sweeps { IsAtSweep (view_of seat.new) }
     ensures exact { (u : View) → IsExactSince u (view_of seat.old) → IsExactSince u (view_of seat.new) }
     ensures keeps { Across Keeps seat.old seat.new }
 {
@@ -46,12 +46,12 @@ pub fn start_sweep(heap: &Heap, seat: &mut HeapSeat)
 /// Sweeps at most so many blocks: fewer come exactly where none is left.
 pub fn sweep_step(heap: &Heap, seat: &mut HeapSeat, most: u32) -> SweepStep
     requires seat { Sits heap.now seat.old }
-    requires sweeps { Sweeps (view_of seat.old) }
+    requires sweeps { IsAtSweep (view_of seat.old) }
     ensures seat { Sits heap.now seat.new }
     ensures part { Across (IsPart Sweep) seat.old seat.new }
-    ensures sweeps { Sweeps (view_of seat.new) }
+    ensures sweeps { IsAtSweep (view_of seat.new) }
     ensures swept { result.blocks ≢ most → HasSwept (view_of seat.new) }
-    ensures blocks { (result.blocks ≤ most) × (count_of (gets_block (block_count heap.now.shape)) (did seat.old seat.new) ≡ result.blocks) }
+    ensures blocks { (result.blocks ≤ most) × (count_of (draws_block (block_count heap.now.shape)) (did seat.old seat.new) ≡ result.blocks) }
     ensures freed { result.freed ≡ min (freed_in (view_of seat.old) (did seat.old seat.new)) greatest }
     ensures exact { (u : View) → IsExactSince u (view_of seat.old) → IsExactSince u (view_of seat.new) }
     ensures keeps { Across Keeps seat.old seat.new }
@@ -104,7 +104,7 @@ fn sweep_alone(heap: &Heap, seat: &mut HeapSeat) -> u32
 /// cycle. The seat has read no phase since: before it stores it comes to a safe point.
 pub fn end_collection(heap: &Heap, seat: &mut HeapSeat) -> Counts
     requires seat { Sits heap.now seat.old }
-    requires drained { HasDrained (view_of seat.old) }
+    requires drained { HasMarkedAll (view_of seat.old) }
     ensures seat { Sits heap.now seat.new }
     ensures ran { Across Ran seat.old seat.new }
     ensures runs { RunsAgain (view_of seat.new) }

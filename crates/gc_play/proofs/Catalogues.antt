@@ -19,7 +19,7 @@ use Rattle.play_end.specs.declared.played.Played.TheVariants.{Done, Full}
 use Rattle.play_end.proofs.Doing.{done-still, played-missing, waiting-stops}
 use Rattle.play_end.proofs.CatalogueEnd.{catalogue-planned}
 use Rattle.warehouse.specs.declared.mutator.Mutator.{Mutator}
-use Rattle.warehouse.specs.Playing.{IsPart}
+use Rattle.warehouse.specs.Playing.{IsPartPlayed}
 use Rattle.gc_table.specs.Seats.{Sits}
 use Rattle.warehouse.specs.Ending.{CountsAbsent, PlaySettles as Settles}
 use Rattle.gc_cycle.specs.Standing.{IsOut}
@@ -27,13 +27,20 @@ use Rattle.warehouse.specs.Turns.{KeepsPart, MayTurnSeason, TurnEnds as Turns}
 use Rattle.gc_play.specs.declared.crew.Catalogue.{Catalogue}
 use Rattle.gc_play.specs.declared.crew.Catalogue.TheVariants.{Playing, Absent}
 use Rattle.gc_play.specs.Standing.{IsSeated, PlayedTo}
-use Rattle.gc_play.specs.Crews.{CatalogueAt, CatalogueEnds, CatalogueStarts, PlaySettles, TurnMoves, own_of, seat_in}
+use Rattle.gc_play.specs.Crews.{CatalogueAt, CatalogueEnds, CatalogueStarts, CatalogueSettles, LeavesCatalogue, TurnMoves, own_of, seat_in}
 use Rattle.gc_play.proofs.Parts.{part-done, part-full, rests-out, seated-ran}
 
 -- a call left the seat outside, and what its section came to
 pub record Leaves (h : Heap) (x y : HeapSeat) : Type 0 where
   pub seat : Sits h y × IsOut (view_of y)
   pub keeps : KeepsPart (view_of x) (view_of y)
+
+-- so it is with a player's seat, and with one alone
+pub stop-playing : (h : Heap) (m n : Mutator) (c : Catalogue) → c ≡ Playing m → n ≡ record m { seat = n.seat } → Sits h n.seat × IsOut (view_of n.seat) → KeepsPart (view_of m.seat) (view_of n.seat) → LeavesCatalogue h c (Playing n)
+stop-playing h m n c is kept seat keeps = subst (λ (b : Catalogue). LeavesCatalogue h b (Playing n)) (sym is) (record { kept = ap (λ (a : Mutator). Playing a) kept; seat = seat; keeps = keeps })
+
+pub stop-absent : (h : Heap) (x y : HeapSeat) (c : Catalogue) → c ≡ Absent x → Sits h y × IsOut (view_of y) → KeepsPart (view_of x) (view_of y) → LeavesCatalogue h c (Absent y)
+stop-absent h x y c is seat keeps = subst (λ (b : Catalogue). LeavesCatalogue h b (Absent y)) (sym is) (record { kept = refl; seat = seat; keeps = keeps })
 
 take-none : {X : Type 0} (n : ℕ) (xs : List X) → xs ≡ [] → take n xs ≡ []
 take-none zero [] e = refl
@@ -42,12 +49,12 @@ take-none n (x ∷ xs) e = absurd (cc)
 
 module _ (h : Heap) (s : Sections) (z : ℕ) where
   -- the catalogue's part
-  pub catalogue-part : (r : Played) (moved : ℕ) (m n : Mutator) (a : Parts) → a ≡ section_of s 0 → CatalogueAt h s (z - 1) moved (Playing m) → IsPart r h a z m n → CatalogueEnds r h s z moved (Playing n)
+  pub catalogue-part : (r : Played) (moved : ℕ) (m n : Mutator) (a : Parts) → a ≡ section_of s 0 → CatalogueAt h s (z - 1) moved (Playing m) → IsPartPlayed r h a z m n → CatalogueEnds r h s z moved (Playing n)
   catalogue-part Done moved m n a is e x =
-      let q = part-done h s 0 z m n e.goes_on.1 (subst (λ (y : Parts). IsPart Done h y z m n) is x) in
+      let q = part-done h s 0 z m n e.goes_on.1 (subst (λ (y : Parts). IsPartPlayed Done h y z m n) is x) in
       record { seated = q.seated; played = q.after.played; moved_is = x.seasons ∙ e.moved_is; goes_on = (e.goes_on.0, q) }
   catalogue-part Full moved m n a is e x =
-      let q = part-full h s 0 z m n e.goes_on.1 (subst (λ (y : Parts). IsPart Full h y z m n) is x) in
+      let q = part-full h s 0 z m n e.goes_on.1 (subst (λ (y : Parts). IsPartPlayed Full h y z m n) is x) in
       record { seated = q.seated; at = q.at; stopped = q.stopped; full = q.full }
 
   none-parts : (o : Option (List (List Execution))) → IsNone o → unwrap_or o [] ≡ []
@@ -134,7 +141,7 @@ module _ (h : Heap) (s : Sections) (z : ℕ) where
       eq-true a b q = grind (arith, q)
 
   -- the last stop
-  pub settled-playing : (r : Played) (m n : Mutator) → 0 < z → n ≡ record m { seat = n.seat } → Leaves h m.seat n.seat → Settles r (view_of m.seat) (view_of n.seat) → CatalogueAt h s z (2 * z - 1) (Playing m) → PlaySettles r h s z (Playing n)
+  pub settled-playing : (r : Played) (m n : Mutator) → 0 < z → n ≡ record m { seat = n.seat } → Leaves h m.seat n.seat → Settles r (view_of m.seat) (view_of n.seat) → CatalogueAt h s z (2 * z - 1) (Playing m) → CatalogueSettles r h s z (Playing n)
   settled-playing Done m n season kept l t e =
       let q = player-left m n kept l e.goes_on.1 in (
         record { seated = q.seated; played = q.after.played; moved_is = t.0 ∙ omega (arith, e.moved_is, season); goes_on = (e.goes_on.0, q) },
@@ -144,7 +151,7 @@ module _ (h : Heap) (s : Sections) (z : ℕ) where
       let q = player-left m n kept l e.goes_on.1 in
       (record { seated = q.seated; played = q.after.played }, t)
 
-  pub settled-absent : (r : Played) (x y : HeapSeat) → 0 < z → Leaves h x y → Settles r (view_of x) (view_of y) → CatalogueAt h s z (2 * z - 1) (Absent x) → PlaySettles r h s z (Absent y)
+  pub settled-absent : (r : Played) (x y : HeapSeat) → 0 < z → Leaves h x y → Settles r (view_of x) (view_of y) → CatalogueAt h s z (2 * z - 1) (Absent x) → CatalogueSettles r h s z (Absent y)
   settled-absent Done x y season l t e = (
     record {
       seated = left-seated x y l e.seated;
@@ -155,6 +162,10 @@ module _ (h : Heap) (s : Sections) (z : ℕ) where
     t.1 (odd (view_of x).own.seasons season e.moved_is),
   )
   settled-absent Full x y season l t e = (record { seated = left-seated x y l e.seated; played = left-played z x y l e.played }, t)
+
+  pub settled : (r : Played) (c d : Catalogue) → 0 < z → LeavesCatalogue h c d → Settles r (view_of (seat_in c)) (view_of (seat_in d)) → CatalogueAt h s z (2 * z - 1) c → CatalogueSettles r h s z d
+  settled r (Playing m) d season l t e = subst (λ (b : Catalogue). CatalogueSettles r h s z b) (sym l.kept) (settled-playing r m (record m { seat = seat_in d }) season refl (record { seat = l.seat; keeps = l.keeps }) t e)
+  settled r (Absent x) d season l t e = subst (λ (b : Catalogue). CatalogueSettles r h s z b) (sym l.kept) (settled-absent r x (seat_in d) season (record { seat = l.seat; keeps = l.keeps }) t e)
 
   -- when the season may be moved on
   pub may-move : (moved : ℕ) (c : Catalogue) → 0 < z → moved < 128 → (moved ≡ 2 * z - 2) ⊎ (moved ≡ 2 * z - 1) → CatalogueAt h s z moved c → (Sits h (seat_in c) × IsOut (view_of (seat_in c))) × MayTurnSeason (view_of (seat_in c))

@@ -12,18 +12,18 @@ use Rattle.gc_table.specs.declared.seat.HeapSeat.{HeapSeat}
 use Rattle.gc_table.specs.declared.view.SectionState.{SectionState}
 use Rattle.gc_table.proofs.Joining.{some-at}
 use Rattle.play_end.specs.Closed.{AreSeated, PlayedAll, SeatsStopped}
-use Rattle.play_end.specs.Done.{HasPlayed, HasStopped}
+use Rattle.play_end.specs.Done.{HasPlayed, HasStoppedInPart}
 use Rattle.play_end.specs.Ended.{CameTo}
 use Rattle.play_end.specs.Reported.{AreParts}
 use Rattle.gc_play.specs.declared.season.Ended.{Ended}
 use Rattle.gc_play.specs.declared.season.Ended.TheVariants.{Done, First, Later}
-use Rattle.gc_play.specs.Crews.{AreSaid, CameIn, IsLeft, IsMade, KnowsEnd, Numbered, Says, SettlesEnd}
+use Rattle.gc_play.specs.Crews.{AreSaid, CameIn, IsSeatLeftBy, IsMadeForScript, KnowsEnd, Numbered, SaysOfSection, SettlesEnd}
 
-module _ (r : Ended) (h : Heap) (s : Sections) (z : ℕ) (xs : List HeapSeat) (made : IsMade s h xs) (left : Numbered (IsLeft r h s z) 0 xs) where
-  left-at : (i : ℕ) (x : HeapSeat) → slice_get xs i ≡ Some x → IsLeft r h s z i x
+module _ (r : Ended) (h : Heap) (s : Sections) (z : ℕ) (xs : List HeapSeat) (made : IsMadeForScript s h xs) (left : Numbered (IsSeatLeftBy r h s z) 0 xs) where
+  left-at : (i : ℕ) (x : HeapSeat) → slice_get xs i ≡ Some x → IsSeatLeftBy r h s z i x
   left-at i x e =
-      subst (IsLeft r h s z i) (get_or_from_slice_get xs i x x e)
-      (subst (λ k. IsLeft r h s z k (get_or xs i x)) (let q : 0 + i ≡ i = omega arith in q) (left i x (slice_get_within xs i x e)))
+      subst (IsSeatLeftBy r h s z i) (get_or_from_slice_get xs i x x e)
+      (subst (λ k. IsSeatLeftBy r h s z k (get_or xs i x)) (let q : 0 + i ≡ i = omega arith in q) (left i x (slice_get_within xs i x e)))
 
   pub are-ready : (i : ℕ) (x : HeapSeat) → slice_get xs i ≡ Some x → Sits h x × ((view_of x).state.number ≡ i) × IsOutside (view_of x)
   are-ready i x e = let l = left-at i x e in (l.sits, l.number, l.outside)
@@ -41,9 +41,9 @@ module _ (r : Ended) (h : Heap) (s : Sections) (z : ℕ) (xs : List HeapSeat) (m
   came-at : (k : ℕ) (x : HeapSeat) → slice_get xs k ≡ Some x → k < length (section_numbers s) → CameIn r s z k (view_of x).own
   came-at k x e low = ((left-at k x e).of_section (omega (arith, low, section-count s))).came
 
-module _ (h : Heap) (s : Sections) (z : ℕ) (xs : List HeapSeat) (made : IsMade s h xs) where
+module _ (h : Heap) (s : Sections) (z : ℕ) (xs : List HeapSeat) (made : IsMadeForScript s h xs) where
   -- where all was played
-  pub all-played : Numbered (IsLeft Done h s z) 0 xs → z ≡ seasons s → SettlesEnd Done xs → PlayedAll s xs
+  pub all-played : Numbered (IsSeatLeftBy Done h s z) 0 xs → z ≡ seasons s → SettlesEnd Done xs → PlayedAll s xs
   all-played left all settles = record {
     played = λ k x e low. subst (λ n. HasPlayed s k n (view_of x).own) all (came-at Done h s z xs made left k x e low);
     settled = λ x e. subst (λ (y : HeapSeat). IsTrue (view_of y).own.settled) (get_or_from_slice_get xs 0 x x e) (settles x);
@@ -54,10 +54,10 @@ module _ (h : Heap) (s : Sections) (z : ℕ) (xs : List HeapSeat) (made : IsMade
     sections = omega (arith, long, section-count s);
     each =
         λ k p x here seat.
-        subst (λ n. Says Done s n k x p) all
-        (subst (λ (y : HeapSeat). Says Done s z k y p) (get_or_from_slice_get xs k x x seat)
-        (subst (λ (q : Part). Says Done s z k (get_or xs k x) q) (get_or_from_slice_get ps k p p here)
-        (subst (λ i. Says Done s z i (get_or xs k x) (get_or ps k p)) (let e : 0 + k ≡ k = omega arith in e) (said k x p (slice_get_within ps k p here)))));
+        subst (λ n. SaysOfSection Done s n k x p) all
+        (subst (λ (y : HeapSeat). SaysOfSection Done s z k y p) (get_or_from_slice_get xs k x x seat)
+        (subst (λ (q : Part). SaysOfSection Done s z k (get_or xs k x) q) (get_or_from_slice_get ps k p p here)
+        (subst (λ i. SaysOfSection Done s z i (get_or xs k x) (get_or ps k p)) (let e : 0 + k ≡ k = omega arith in e) (said k x p (slice_get_within ps k p here)))));
   }
 
   came-first : (k : ℕ) (y : SectionState) → 0 < k → CameIn First s z k y → HasPlayed s k (z - 1) y
@@ -69,7 +69,7 @@ module _ (h : Heap) (s : Sections) (z : ℕ) (xs : List HeapSeat) (made : IsMade
   came-later (suc w) y low c = c
 
   -- where the heap was found full
-  pub have-stopped : (r : Ended) → r ≢ Done → 0 < z → Numbered (IsLeft r h s z) 0 xs → SeatsStopped s z xs
+  pub have-stopped : (r : Ended) → r ≢ Done → 0 < z → Numbered (IsSeatLeftBy r h s z) 0 xs → SeatsStopped s z xs
   have-stopped Done n season left = absurd (n refl)
   have-stopped First n season left =
       let some : 0 < length xs = omega (arith, made.enough) in
@@ -79,7 +79,7 @@ module _ (h : Heap) (s : Sections) (z : ℕ) (xs : List HeapSeat) (made : IsMade
         at = c.0;
         catalogue =
             λ x e.
-            subst (λ (y : HeapSeat). HasStopped s 0 z c.0 (view_of y).own)
+            subst (λ (y : HeapSeat). HasStoppedInPart s 0 z c.0 (view_of y).own)
             (sym (get_or_from_slice_get xs 0 one.0 one.0 one.1) ∙ get_or_from_slice_get xs 0 x one.0 e) c.1;
         warehouses = λ k x e above low. came-first k (view_of x).own above (came-at First h s z xs made left k x e low);
       })

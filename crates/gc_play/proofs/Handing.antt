@@ -1,12 +1,14 @@
 -- Who knows that the heap is full, while warehouses hand back their seats.
-use Rattle.std.proofs.Common.{ℕ, zero, suc, ◌≡◌, ◌+◌, ◌<◌, ◌≤◌, ◌⊎◌, ⊎_elim, inl, inr, List, [], ◌∷◌, ◌++◌, length, length-append, get_or, set, sym, ap, ◌∙◌, subst, arith}
+use Rattle.std.proofs.Common.{ℕ, zero, suc, ◌≡◌, ◌+◌, ◌<◌, ◌≤◌, ◌⊎◌, ⊎_elim, inl, inr, List, [], ◌∷◌, ◌++◌, length, length-append, All, get_or, sym, ap, ◌∙◌, subst, arith}
 use Rattle.std.proofs.Math.Seq.{get_or-append_seam}
 use Rattle.std.proofs.lemmas.Bool.{cases_lt}
-use Rattle.std.proofs.lemmas.List.{get_or-set_same, get_or-set_other, get_or_append_left, length-map, length-set}
+use Rattle.std.proofs.lemmas.List.{get_or_append_left, get_or_default, length-map}
+use Rattle.warehouse.specs.declared.mutator.Mutator.{Mutator}
 use Rattle.gc_play.specs.declared.workers.Worker.{Worker}
 use Rattle.gc_table.proofs.Joining.{some-at}
 use Rattle.gc_play.specs.Crews.{SomeKnows}
-use Rattle.gc_play.specs.Dealing.{IsDealt, SomeAt, number_of, numbers_of}
+use Rattle.gc_play.specs.Dealing.{EachOne, IsDealt, SomeAt, TakesLast, seat_number, sections_of_worker}
+use Rattle.gc_play.proofs.Dealt.{all-front}
 
 -- some element but the last, or the last
 some-front : {X : Type 0} (P : X → Type 0) (xs : List X) (x : X) → SomeAt P (xs ++ x ∷ []) → SomeAt P xs ⊎ P x
@@ -23,32 +25,46 @@ some-ahead P x xs e = (e.0 + 1, omega (arith, e.1), λ d. subst (λ i. P (get_or
 pub some-first : {X : Type 0} (P : X → Type 0) (x : X) (xs : List X) → P x → SomeAt P (x ∷ xs)
 some-first P x xs p = (0, omega arith, λ d. p)
 
--- one list of a list of lists loses its last element
-pub some-taken : {X Y : Type 0} (P : X → Type 0) (f : Y → List X) (ys : List Y) (t : ℕ) (y : Y) (xs : List X) (x : X) → t < length ys → f (get_or ys t y) ≡ xs ++ x ∷ [] → (z : Y) → f z ≡ xs
-    → SomeAt (λ w. SomeAt P (f w)) ys → SomeAt (λ w. SomeAt P (f w)) (set ys t z) ⊎ P x
-some-taken P f ys t y xs x low was z now e =
-    ⊎_elim
-    (λ (apart : e.0 ≡ t → ⊥).
-    inl (e.0, omega (arith, e.1, length-set ys t z), λ d. subst (λ w. SomeAt P (f w)) (sym (get_or-set_other ys t e.0 z d (λ q. apart q))) (e.2 d)))
-    (λ (same : e.0 ≡ t).
-    ⊎_elim
-    (λ (left : SomeAt P xs).
-    inl (t, omega (arith, low, length-set ys t z), λ d. subst (λ w. SomeAt P (f w)) (sym (get_or-set_same ys t z d low)) (subst (SomeAt P) (sym now) left)))
-    (λ (one : P x). inr one)
-    (some-front P xs x (subst (SomeAt P) (ap (λ i. f (get_or ys i y)) same ∙ was) (e.2 y))))
-    (apart-or-same e.0 t)
-  where
-    apart-or-same : (i j : ℕ) → (i ≡ j → ⊥) ⊎ (i ≡ j)
-    apart-or-same zero zero = inr (omega arith)
-    apart-or-same zero (suc j) = inl (λ q. omega (arith, q))
-    apart-or-same (suc i) zero = inl (λ q. omega (arith, q))
-    apart-or-same (suc i) (suc j) = ⊎_elim (λ (f : i ≡ j → ⊥). inl (λ (q : suc i ≡ suc j). f (omega (arith, q)))) (λ (q : i ≡ j). inr (ap suc q)) (apart-or-same i j)
+apart-or-same : (i j : ℕ) → (i ≡ j → ⊥) ⊎ (i ≡ j)
+apart-or-same zero zero = inr (omega arith)
+apart-or-same zero (suc j) = inl (λ q. omega (arith, q))
+apart-or-same (suc i) zero = inl (λ q. omega (arith, q))
+apart-or-same (suc i) (suc j) = ⊎_elim (λ (f : i ≡ j → ⊥). inl (λ (q : suc i ≡ suc j). f (omega (arith, q)))) (λ (q : i ≡ j). inr (ap suc q)) (apart-or-same i j)
+
+-- a worker loses its last mutator: what holds of each one holds of that one and of those that stay, and one of which something holds is that one or stays
+module _ (P : Mutator → Type 0) (t : ℕ) (m : Mutator) (old new : List Worker) (taken : TakesLast t m old new) where
+  left-and-last : (d : Worker) → EachOne P old → All P (get_or new t d).mutators.items × P m
+  left-and-last d all = all-front P (get_or new t d).mutators.items m (subst (All P) (taken.last d) (all t d taken.turn))
+
+  pub each-left : EachOne P old → EachOne P new
+  each-left all = λ k d low.
+      ⊎_elim
+      (λ (apart : k ≡ t → ⊥). subst (λ (w : Worker). All P w.mutators.items) (sym (taken.others k d apart)) (all k d (omega (arith, low, taken.count))))
+      (λ (same : k ≡ t). subst (λ i. All P (get_or new i d).mutators.items) (sym same) (left-and-last d all).0)
+      (apart-or-same k t)
+
+  pub last-too : EachOne P old → P m
+  last-too all = (left-and-last (some-at old t taken.turn).0 all).1
+
+  pub some-taken : SomeAt (λ (w : Worker). SomeAt P w.mutators.items) old → SomeAt (λ (w : Worker). SomeAt P w.mutators.items) new ⊎ P m
+  some-taken e =
+      let d : Worker = (some-at old t taken.turn).0 in
+      let Q : Worker → Type 0 = λ w. SomeAt P w.mutators.items in
+      ⊎_elim
+      (λ (apart : e.0 ≡ t → ⊥). inl (e.0, omega (arith, e.1, taken.count), λ b. subst Q (sym (taken.others e.0 b apart)) (e.2 b)))
+      (λ (same : e.0 ≡ t).
+      ⊎_elim
+      (λ (left : SomeAt P (get_or new t d).mutators.items).
+      inl (t, omega (arith, taken.turn, taken.count), λ b. subst Q (get_or_default new t d b (omega (arith, taken.turn, taken.count))) left))
+      (λ (one : P m). inr one)
+      (some-front P (get_or new t d).mutators.items m (subst (SomeAt P) (ap (λ i. (get_or old i d).mutators.items) same ∙ taken.last d) (e.2 d))))
+      (apart-or-same e.0 t)
 
 -- a worker that has handed back all its warehouses has none that knows
 pub none-left : (n : ℕ) (ws : List Worker) → IsDealt n 0 ws → SomeKnows ws → ⊥
 none-left n ws dealt e =
     let d : Worker = (some-at ws e.0 e.1).0 in
     let x : Worker = get_or ws e.0 d in
-    let none : numbers_of x ≡ [] = dealt.each e.0 d (omega (arith, e.1, dealt.count)) in
+    let none : sections_of_worker x ≡ [] = dealt.each e.0 d (omega (arith, e.1, dealt.count)) in
     let one = (e.2 d).1 in
-    omega (arith, one, ap length none, length-map x.mutators.items number_of)
+    omega (arith, one, ap length none, length-map x.mutators.items seat_number)

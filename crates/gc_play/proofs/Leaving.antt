@@ -15,10 +15,10 @@ use Rattle.play_end.proofs.Doing.{waiting-stops}
 use Rattle.warehouse.specs.declared.mutator.Mutator.{Mutator}
 use Rattle.gc_play.specs.declared.season.Ended.{Ended}
 use Rattle.gc_play.specs.declared.season.Ended.TheVariants.{Done, First, Later}
-use Rattle.gc_play.specs.Standing.{IsSeated, IsTracer}
-use Rattle.gc_play.specs.Dealing.{StandsAt, StopsAt, HaltsAt, number_of}
+use Rattle.gc_play.specs.Standing.{IsSeated, IsTracerSeat}
+use Rattle.gc_play.specs.Dealing.{StandsAt, WarehouseStopsAt, HaltsAt, seat_number}
 use Rattle.gc_play.specs.declared.crew.Crew.{Crew}
-use Rattle.gc_play.specs.Crews.{AreSaid, CameIn, CatalogueAt, EndsAt, HandsOver, IsLeft, KnowsEnd, PlayEnds, Says, SettlesEnd, SomeKnows, SomeSeatKnows, own_of, seat_in}
+use Rattle.gc_play.specs.Crews.{AreSaid, CameIn, CatalogueAt, WarehouseEndsAt, HandsOver, IsSeatLeftBy, KnowsEnd, PlayEnds, SaysOfSection, SettlesEnd, SomeKnows, SomeSeatKnows, own_of, seat_in}
 use Rattle.gc_play.specs.declared.crew.Catalogue.{Catalogue}
 use Rattle.gc_play.specs.declared.crew.Catalogue.TheVariants.{Playing, Absent}
 use Rattle.gc_play.proofs.Catalogues.{absent-end}
@@ -28,28 +28,28 @@ use Rattle.plain_heap.specs.PlainHeap.{Heap as PlainHeap, empty_heap}
 use Rattle.plain_heap.proofs.Turns.{at-start, at-start-printed}
 use Rattle.std.specs.Prelude.{IsTrue}
 
-halts-seated : (h : Heap) (s : Sections) (z : ℕ) (m : Mutator) → HaltsAt h s z m → IsSeated h s (number_of m) m.seat
-halts-seated h s z m e = ⊎_elim (λ (x : StandsAt h s (z - 1) m). x.played.seated) (λ y. ⊎_elim (λ (x : StandsAt h s z m). x.played.seated) (λ (x : StopsAt h s z m). x.stopped.seated) y) e
+halts-seated : (h : Heap) (s : Sections) (z : ℕ) (m : Mutator) → HaltsAt h s z m → IsSeated h s (seat_number m) m.seat
+halts-seated h s z m e = ⊎_elim (λ (x : StandsAt h s (z - 1) m). x.played.seated) (λ y. ⊎_elim (λ (x : StandsAt h s z m). x.played.seated) (λ (x : WarehouseStopsAt h s z m). x.stopped.seated) y) e
 
-ends-seated : (r : Ended) (h : Heap) (s : Sections) (z : ℕ) (m : Mutator) → EndsAt r h s z m → IsSeated h s (number_of m) m.seat
+ends-seated : (r : Ended) (h : Heap) (s : Sections) (z : ℕ) (m : Mutator) → WarehouseEndsAt r h s z m → IsSeated h s (seat_number m) m.seat
 ends-seated Done h s z m e = e.played.seated
 ends-seated First h s z m e = e.played.seated
 ends-seated Later h s z m e = halts-seated h s z m e
 
-halts-came : (h : Heap) (s : Sections) (z : ℕ) (m : Mutator) → 0 < z → HaltsAt h s z m → CameTo s (number_of m) z (view_of m.seat).own
+halts-came : (h : Heap) (s : Sections) (z : ℕ) (m : Mutator) → 0 < z → HaltsAt h s z m → CameTo s (seat_number m) z (view_of m.seat).own
 halts-came h s z m season e =
-    ⊎_elim (λ (x : StandsAt h s (z - 1) m). inr (end_of s (number_of m) (z - 1), waiting-stops s (number_of m) z (view_of m.seat).own season x.played.after.played))
-    (λ y. ⊎_elim (λ (x : StandsAt h s z m). inl x.played.after.played) (λ (x : StopsAt h s z m). inr (x.stopped.at, x.stopped.stopped)) y) e
+    ⊎_elim (λ (x : StandsAt h s (z - 1) m). inr (end_of s (seat_number m) (z - 1), waiting-stops s (seat_number m) z (view_of m.seat).own season x.played.after.played))
+    (λ y. ⊎_elim (λ (x : StandsAt h s z m). inl x.played.after.played) (λ (x : WarehouseStopsAt h s z m). inr (x.stopped.at, x.stopped.stopped)) y) e
 
-ends-came : (r : Ended) (h : Heap) (s : Sections) (z w : ℕ) (m : Mutator) → 0 < z → number_of m ≡ suc w → EndsAt r h s z m → CameIn r s z (suc w) (view_of m.seat).own
+ends-came : (r : Ended) (h : Heap) (s : Sections) (z w : ℕ) (m : Mutator) → 0 < z → seat_number m ≡ suc w → WarehouseEndsAt r h s z m → CameIn r s z (suc w) (view_of m.seat).own
 ends-came Done h s z w m season num e = subst (λ k. HasPlayed s k z (view_of m.seat).own) num e.played.after.played
 ends-came First h s z w m season num e = subst (λ k. HasPlayed s k (z - 1) (view_of m.seat).own) num e.played.after.played
 ends-came Later h s z w m season num e = subst (λ k. CameTo s k z (view_of m.seat).own) num (halts-came h s z m season e)
 
 -- a seat that a warehouse hands back
-pub warehouse-left : (r : Ended) (h : Heap) (s : Sections) (z w : ℕ) (m : Mutator) (x : HeapSeat) → 0 < z → x ≡ m.seat → number_of m ≡ suc w → EndsAt r h s z m → IsLeft r h s z (suc w) x
+pub warehouse-left : (r : Ended) (h : Heap) (s : Sections) (z w : ℕ) (m : Mutator) (x : HeapSeat) → 0 < z → x ≡ m.seat → seat_number m ≡ suc w → WarehouseEndsAt r h s z m → IsSeatLeftBy r h s z (suc w) x
 warehouse-left r h s z w m x season same num e =
-    subst (IsLeft r h s z (suc w)) (sym same)
+    subst (IsSeatLeftBy r h s z (suc w)) (sym same)
     (let q : IsSeated h s (suc w) m.seat = subst (λ k. IsSeated h s k m.seat) num (ends-seated r h s z m e) in
     record {
       sits = q.rests.sits;
@@ -59,7 +59,7 @@ warehouse-left r h s z w m x season same num e =
     })
 
 -- what its player hands back besides is its part of the report
-pub warehouse-says : (r : Ended) (h : Heap) (s : Sections) (z w : ℕ) (m : Mutator) (x : HeapSeat) (p : Part) → x ≡ m.seat → p.said.items ≡ m.said.items → p.places.items ≡ m.places.items → p.dropped ≡ m.dropped → number_of m ≡ suc w → EndsAt r h s z m → Says r s z (suc w) x p
+pub warehouse-says : (r : Ended) (h : Heap) (s : Sections) (z w : ℕ) (m : Mutator) (x : HeapSeat) (p : Part) → x ≡ m.seat → p.said.items ≡ m.said.items → p.places.items ≡ m.places.items → p.dropped ≡ m.dropped → seat_number m ≡ suc w → WarehouseEndsAt r h s z m → SaysOfSection r s z (suc w) x p
 warehouse-says Done h s z w m x p same said places dropped num e =
     let q = e.played.after.after.said in
     record {
@@ -81,23 +81,23 @@ crew-came First h s n z c e = (e.catalogue.at, e.catalogue.stopped)
 crew-came Later h s n z c e = e.catalogue.played
 
 -- the seat of section 0
-pub catalogue-left : (r : Ended) (h : Heap) (s : Sections) (n z : ℕ) (c : Crew) (x : HeapSeat) → seat_in c.catalogue ≡ x → PlayEnds r h s n z c → IsLeft r h s z 0 x
+pub catalogue-left : (r : Ended) (h : Heap) (s : Sections) (n z : ℕ) (c : Crew) (x : HeapSeat) → seat_in c.catalogue ≡ x → PlayEnds r h s n z c → IsSeatLeftBy r h s z 0 x
 catalogue-left r h s n z c x same e =
-    subst (IsLeft r h s z 0) same
+    subst (IsSeatLeftBy r h s z 0) same
     (let q = crew-seated r h s n z c e in
     record { sits = q.rests.sits; number = q.number; outside = q.rests.outside; of_section = λ _. record { section = q.section; plan_is = q.plan_is; came = crew-came r h s n z c e } })
 
 -- one more part of the report in front of those that are there
-pub said-front : (r : Ended) (s : Sections) (z n : ℕ) (x : HeapSeat) (p : Part) (xs : List HeapSeat) (ps : List Part) → Says r s z n x p → AreSaid r s z (n + 1) xs ps → AreSaid r s z n (x ∷ xs) (p ∷ ps)
-said-front r s z n x p xs ps one all zero d q low = subst (λ k. Says r s z k x p) (omega arith) one
-said-front r s z n x p xs ps one all (suc i) d q low = subst (λ k. Says r s z k (get_or xs i d) (get_or ps i q)) (omega arith) (all i d q (omega (arith, low)))
+pub said-front : (r : Ended) (s : Sections) (z n : ℕ) (x : HeapSeat) (p : Part) (xs : List HeapSeat) (ps : List Part) → SaysOfSection r s z n x p → AreSaid r s z (n + 1) xs ps → AreSaid r s z n (x ∷ xs) (p ∷ ps)
+said-front r s z n x p xs ps one all zero d q low = subst (λ k. SaysOfSection r s z k x p) (omega arith) one
+said-front r s z n x p xs ps one all (suc i) d q low = subst (λ k. SaysOfSection r s z k (get_or xs i d) (get_or ps i q)) (omega arith) (all i d q (omega (arith, low)))
 
 empty-list : {X : Type 0} (xs : List X) → length xs ≡ 0 → xs ≡ []
 empty-list [] e = refl
 empty-list (x ∷ xs) e = absurd (omega (arith, e))
 
 -- what section 0 hands over is its part of the report
-says-first : (h : Heap) (s : Sections) (z moved : ℕ) (c : Catalogue) (x : HeapSeat) (p : Part) → CatalogueAt h s z moved c → HandsOver c x p.said.items p.places.items p.dropped → Says Done s z 0 x p
+says-first : (h : Heap) (s : Sections) (z moved : ℕ) (c : Catalogue) (x : HeapSeat) (p : Part) → CatalogueAt h s z moved c → HandsOver c x p.said.items p.places.items p.dropped → SaysOfSection Done s z 0 x p
 says-first h s z moved (Playing m) x p e o =
     let q = e.goes_on.1.after.after.said in
     record {
@@ -115,7 +115,7 @@ says-first h s z moved (Absent y) x p e o =
       cells_are = o.2 ∙ (ap (λ (ps : List Place). map (λ (a : Place). a.cell) ps) (sym places) ∙ ap (λ (v : HeapSeat). map (λ (a : Place). a.cell) (view_of v).own.places) (sym o.0));
     }
 
-pub catalogue-says : (r : Ended) (h : Heap) (s : Sections) (n z : ℕ) (c : Crew) (x : HeapSeat) (p : Part) → PlayEnds r h s n z c → HandsOver c.catalogue x p.said.items p.places.items p.dropped → Says r s z 0 x p
+pub catalogue-says : (r : Ended) (h : Heap) (s : Sections) (n z : ℕ) (c : Crew) (x : HeapSeat) (p : Part) → PlayEnds r h s n z c → HandsOver c.catalogue x p.said.items p.places.items p.dropped → SaysOfSection r s z 0 x p
 catalogue-says Done h s n z c x p e o = says-first h s z (2 * z) c.catalogue x p e.0.catalogue o
 catalogue-says First h s n z c x p e o = tt
 catalogue-says Later h s n z c x p e o = tt

@@ -1,4 +1,5 @@
 pub mod Steps
+pub mod GoingIn
 pub mod Parts
 pub mod Shares
 pub mod Dealt

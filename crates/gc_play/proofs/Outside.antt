@@ -14,7 +14,7 @@ use Rattle.gc_table.specs.declared.view.View.{View}
 use Rattle.packet_pools.specs.Seeking.{some_event}
 use Rattle.gc_cycle.specs.Events.{never}
 use Rattle.gc_cycle.specs.Sorts.{enters, leaves}
-use Rattle.gc_play.specs.Turns.{state_after}
+use Rattle.gc_play.specs.Turns.{record_after}
 use Rattle.gc_play.proofs.Rounds.{ran-state}
 
 -- a step that doesn't leave keeps the seat counted
@@ -24,7 +24,7 @@ counted-step sh s EnterStep n l c = refl
 counted-step sh s DropStep n l c = refl
 counted-step sh s step n l c = c
 
-counted-stays : (sh : Shape) (es : List Entry) (s : SeatState) → some_event leaves es ≡ false → s.counted ≡ true → (state_after sh s es).counted ≡ true
+counted-stays : (sh : Shape) (es : List Entry) (s : SeatState) → some_event leaves es ≡ false → s.counted ≡ true → (record_after sh s es).counted ≡ true
 counted-stays sh [] s l c = c
 counted-stays sh (e ∷ es) s l c =
     let p = or_parts (leaves e.step e.found) (some_event leaves es) l in counted-stays sh es (seat_after sh s e.step e.found) p.1 (counted-step sh s e.step e.found p.0 c)
@@ -33,7 +33,7 @@ enters-counts : (sh : Shape) (s : SeatState) (step : Step) (n : ℕ) → enters 
 enters-counts sh s EnterStep n e = refl
 enters-counts sh s step n e = absurd (true≢false (sym e))
 
-counted-after : (sh : Shape) (es : List Entry) (s : SeatState) → some_event leaves es ≡ false → some_event enters es ≡ true → (state_after sh s es).counted ≡ true
+counted-after : (sh : Shape) (es : List Entry) (s : SeatState) → some_event leaves es ≡ false → some_event enters es ≡ true → (record_after sh s es).counted ≡ true
 counted-after sh [] s l e = absurd (true≢false (sym e))
 counted-after sh (x ∷ es) s l e =
     let p = or_parts (leaves x.step x.found) (some_event leaves es) l in

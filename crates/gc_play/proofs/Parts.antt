@@ -4,22 +4,21 @@ use Rattle.std.specs.Prelude.{◌==◌, IsTrue, IsFalse}
 use Rattle.std.specs.List.{list_any}
 use Rattle.mark_core.specs.Steps.WorldSteps.{has_nothing}
 use Rattle.mark_core.specs.declared.kinds.Shape.{Shape}
-use Rattle.plain_heap.specs.Sections.{Sections, Parts, section_of, counted, joined, parts_of}
+use Rattle.plain_heap.specs.Sections.{Sections, Parts, section_of, counted, joined, parts_of, lends}
 use Rattle.gc_table.specs.Running.{Ran}
 use Rattle.gc_table.specs.Seats.{Sits, view_of}
 use Rattle.gc_table.specs.declared.seat.Heap.{Heap}
 use Rattle.gc_table.specs.declared.seat.HeapSeat.{HeapSeat}
 use Rattle.gc_table.specs.declared.view.View.{View}
 use Rattle.gc_table.proofs.Running.{ran-shape, ran-plan, ran-number, ran-section}
-use Rattle.mutator_ops.specs.Doing.{lends}
 use Rattle.play_end.specs.Parts.{AreOf}
 use Rattle.play_end.specs.declared.played.Played.{Played}
 use Rattle.play_end.specs.declared.played.Played.TheVariants.{Done, Full}
 use Rattle.warehouse.specs.declared.mutator.Mutator.{Mutator}
-use Rattle.warehouse.specs.Playing.{IsPart, MayPlay}
+use Rattle.warehouse.specs.Playing.{IsPartPlayed, MayPlay}
 use Rattle.gc_cycle.specs.Standing.{IsOut}
 use Rattle.gc_play.specs.Standing.{IsSeated, PlayedTo, Rests, StoppedIn}
-use Rattle.gc_play.specs.Dealing.{number_of, IsWarehouse, OneEnds}
+use Rattle.gc_play.specs.Dealing.{seat_number, IsWarehouse, OneEnds}
 
 pub counted-long : (from n : ℕ) → length (counted from n) ≡ n
 counted-long from zero = refl
@@ -68,7 +67,7 @@ may-play h s w z m season alone p = record {
 }
 
 -- how its part ends
-pub part-done : (h : Heap) (s : Sections) (w z : ℕ) (m n : Mutator) → PlayedTo h s w (z - 1) m → IsPart Done h (section_of s w) z m n → PlayedTo h s w z n
+pub part-done : (h : Heap) (s : Sections) (w z : ℕ) (m n : Mutator) → PlayedTo h s w (z - 1) m → IsPartPlayed Done h (section_of s w) z m n → PlayedTo h s w z n
 part-done h s w z m n p x = record {
   seated = seated-ran h s w m.seat n.seat x.ran x.sits x.out p.seated;
   after = x.plays s (are-of h s w m.seat p.seated) p.after;
@@ -76,18 +75,18 @@ part-done h s w z m n p x = record {
   room = x.room refl;
 }
 
-pub part-full : (h : Heap) (s : Sections) (w z : ℕ) (m n : Mutator) → PlayedTo h s w (z - 1) m → IsPart Full h (section_of s w) z m n → StoppedIn h s w z n
+pub part-full : (h : Heap) (s : Sections) (w z : ℕ) (m n : Mutator) → PlayedTo h s w (z - 1) m → IsPartPlayed Full h (section_of s w) z m n → StoppedIn h s w z n
 part-full h s w z m n p x =
     let e = x.plays s (are-of h s w m.seat p.seated) p.after in
     record { seated = seated-ran h s w m.seat n.seat x.ran x.sits x.out p.seated; at = e.0.0; stopped = e.0.1; full = e.1 }
 
 -- what a part leaves, as one warehouse of the script
-pub one-ends : (r : Played) (h : Heap) (s : Sections) (z : ℕ) (m n : Mutator) (a : Parts) → a ≡ section_of s (number_of m) → IsWarehouse s (number_of m) → PlayedTo h s (number_of m) (z - 1) m → IsPart r h a z m n → OneEnds r h s z n × (number_of n ≡ number_of m)
+pub one-ends : (r : Played) (h : Heap) (s : Sections) (z : ℕ) (m n : Mutator) (a : Parts) → a ≡ section_of s (seat_number m) → IsWarehouse s (seat_number m) → PlayedTo h s (seat_number m) (z - 1) m → IsPartPlayed r h a z m n → OneEnds r h s z n × (seat_number n ≡ seat_number m)
 one-ends Done h s z m n a f w p x =
-    let q = part-done h s (number_of m) z m n p (subst (λ (y : Parts). IsPart Done h y z m n) f x) in
-    let same : number_of n ≡ number_of m = q.seated.number in
+    let q = part-done h s (seat_number m) z m n p (subst (λ (y : Parts). IsPartPlayed Done h y z m n) f x) in
+    let same : seat_number n ≡ seat_number m = q.seated.number in
     (record { warehouse = subst (IsWarehouse s) (sym same) w; played = subst (λ k. PlayedTo h s k z n) (sym same) q }, same)
 one-ends Full h s z m n a f w p x =
-    let q = part-full h s (number_of m) z m n p (subst (λ (y : Parts). IsPart Full h y z m n) f x) in
-    let same : number_of n ≡ number_of m = q.seated.number in
+    let q = part-full h s (seat_number m) z m n p (subst (λ (y : Parts). IsPartPlayed Full h y z m n) f x) in
+    let same : seat_number n ≡ seat_number m = q.seated.number in
     (record { warehouse = subst (IsWarehouse s) (sym same) w; stopped = subst (λ k. StoppedIn h s k z n) (sym same) q }, same)

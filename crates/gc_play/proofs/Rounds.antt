@@ -5,6 +5,7 @@ use Rattle.std.proofs.lemmas.List.{append-nil}
 use Rattle.std.proofs.lemmas.Bool.{true≢false, false≢true, and_from, and_left, not_from_true, or_cases, or_from, or_left, or_parts, or_right, le-leb, lt-leb}
 use Rattle.mark_core.specs.Bits.{has_flag}
 use Rattle.mark_core.specs.Effects.{seat_after}
+use Rattle.mark_core.specs.Numbers.{done_count}
 use Rattle.mark_core.specs.Seats.{phase_of, saw}
 use Rattle.mark_core.specs.declared.kinds.Phase.{Phase}
 use Rattle.mark_core.specs.declared.kinds.Phase.TheVariants.{Idle, Marking, Drain, Sweep, Clear, Full}
@@ -18,6 +19,7 @@ use Rattle.gc_table.specs.Log.{events}
 use Rattle.gc_table.specs.Running.{Ran, after_all}
 use Rattle.gc_table.specs.Taking.{after}
 use Rattle.gc_table.proofs.Running.{ran-events, ran-join}
+use Rattle.gc_table.specs.Entries.{event}
 use Rattle.packet_pools.specs.Seeking.{some_event}
 use Rattle.packet_pools.proofs.Searches.{some-left}
 use Rattle.tracer.specs.Moments.{at_some_moment, finds_no_work}
@@ -25,37 +27,37 @@ use Rattle.tracer.specs.Tally.{pops}
 use Rattle.gc_cycle.specs.Sorts.{enters, looks_at_phase}
 use Rattle.gc_cycle.specs.Sorts.{reads_phase as sees_phase}
 use Rattle.gc_cycle.proofs.Searched.{moment-longer, work-longer}
-use Rattle.gc_play.specs.Turns.{Turn, entry, lead, turns_of, state_after, sees_full, enters_full, leaves, inside, traces_on, traces_where_marking, visits, payment, Pays, IsTurn, AreTurns, AllTurns, HasTraced, IsQuiet, Waits, IsOne, IsOneTurn, SeesPhase, TracesInside, IsRound}
+use Rattle.gc_play.specs.Turns.{Turn, lead, turns_of, record_after, sees_full, enters_full, is_leave, until_leave, seat_traces_on, seat_traces_where_marking, visits, payment, PaysForPops, IsTracerTurn, AreTurns, AllTurns, HasTakenTurns, ReadsNoParts, WaitsOutside, IsOne, IsOneTurn, SeesPhase, TracesInside, IsVisit}
 use Rattle.gc_play.proofs.TurnCuts.{kept-head, quiet-turns, quiet-join, quiet-one, not-true, waits-join, visits-none, pays-none, lead-more, turns-more}
 
 -- a read of that number, and what it leads to
-turn-of : (sh : Shape) (s : SeatState) (n : ℕ) (rest : List Entry) → IsQuiet rest → turns_of sh s (entry (ReadStat 6) n ∷ rest) ≡ record { found = n; state = seat_after sh s (ReadStat 6) n; rest = rest } ∷ []
+turn-of : (sh : Shape) (s : SeatState) (n : ℕ) (rest : List Entry) → ReadsNoParts rest → turns_of sh s (event (ReadStat done_count) n ∷ rest) ≡ record { found = n; state = seat_after sh s (ReadStat done_count) n; rest = rest } ∷ []
 turn-of sh s n rest q =
-    let u : SeatState = seat_after sh s (ReadStat 6) n in
+    let u : SeatState = seat_after sh s (ReadStat done_count) n in
     ap (λ l. record { found = n; state = u; rest = l } ∷ turns_of sh u rest) q
     ∙ ap (λ ts. record { found = n; state = u; rest = rest } ∷ ts) (ap (turns_of sh u) (sym (append-nil rest)) ∙ quiet-turns sh u rest [] q)
 
 module _ (sh : Shape) (until : ℕ) (s : SeatState) where
   -- all parts were played
-  pub one-done : (n : ℕ) → until ≤ n → IsOneTurn sh until true s (entry (ReadStat 6) n ∷ [])
+  pub one-done : (n : ℕ) → until ≤ n → IsOneTurn sh until true s (event (ReadStat done_count) n ∷ [])
   one-done n high =
       record {
-        turn = record { found = n; state = seat_after sh s (ReadStat 6) n; rest = [] };
+        turn = record { found = n; state = seat_after sh s (ReadStat done_count) n; rest = [] };
         first = refl;
         only = refl;
         is = record { tries = λ low. absurd (omega (arith, high, low)); traces = refl; pays = tt; ends = sym (or_left (nat_le until n) false (le-leb until n high)) };
       }
 
   -- it found a flag, and waited
-  pub one-waits : (n a b : ℕ) (es : List Entry) → n < until → IsTrue (has_flag a) → Waits es → IsOneTurn sh until false s (entry (ReadStat 6) n ∷ entry EnterStep a ∷ entry LeaveStep b ∷ es)
+  pub one-waits : (n a b : ℕ) (es : List Entry) → n < until → IsTrue (has_flag a) → WaitsOutside es → IsOneTurn sh until false s (event (ReadStat done_count) n ∷ event EnterStep a ∷ event LeaveStep b ∷ es)
   one-waits n a b es left flag w =
-      let rest : List Entry = entry EnterStep a ∷ entry LeaveStep b ∷ es in
-      let u : SeatState = seat_after sh s (ReadStat 6) n in
+      let rest : List Entry = event EnterStep a ∷ event LeaveStep b ∷ es in
+      let u : SeatState = seat_after sh s (ReadStat done_count) n in
       let none : some_event enters es ≡ false = not-true (some_event enters es) w.outside in
       record {
         turn = record { found = n; state = u; rest = rest };
         first = refl;
-        only = turn-of sh s n rest (quiet-join (entry EnterStep a ∷ []) (entry LeaveStep b ∷ es) (quiet-one EnterStep a refl) (quiet-join (entry LeaveStep b ∷ []) es (quiet-one LeaveStep b refl) w.quiet));
+        only = turn-of sh s n rest (quiet-join (event EnterStep a ∷ []) (event LeaveStep b ∷ es) (quiet-one EnterStep a refl) (quiet-join (event LeaveStep b ∷ []) es (quiet-one LeaveStep b refl) w.quiet));
         is =
             record {
               tries = λ _. refl;
@@ -66,14 +68,14 @@ module _ (sh : Shape) (until : ℕ) (s : SeatState) where
       }
 
   -- it entered
-  pub one-goes : (n a : ℕ) (full : Bool) (es : List Entry) → n < until → IsFalse (has_flag a) → IsRound sh full (seat_after sh (seat_after sh s (ReadStat 6) n) EnterStep a) es → IsOneTurn sh until full s (entry (ReadStat 6) n ∷ entry EnterStep a ∷ es)
+  pub one-goes : (n a : ℕ) (full : Bool) (es : List Entry) → n < until → IsFalse (has_flag a) → IsVisit sh full (seat_after sh (seat_after sh s (ReadStat done_count) n) EnterStep a) es → IsOneTurn sh until full s (event (ReadStat done_count) n ∷ event EnterStep a ∷ es)
   one-goes n a full es left free r =
-      let rest : List Entry = entry EnterStep a ∷ es in
+      let rest : List Entry = event EnterStep a ∷ es in
       let none : some_event enters es ≡ false = not-true (some_event enters es) r.waits.outside in
       record {
-        turn = record { found = n; state = seat_after sh s (ReadStat 6) n; rest = rest };
+        turn = record { found = n; state = seat_after sh s (ReadStat done_count) n; rest = rest };
         first = refl;
-        only = turn-of sh s n rest (quiet-join (entry EnterStep a ∷ []) es (quiet-one EnterStep a refl) r.waits.quiet);
+        only = turn-of sh s n rest (quiet-join (event EnterStep a ∷ []) es (quiet-one EnterStep a refl) r.waits.quiet);
         is =
             record {
               tries = λ _. refl;
@@ -83,24 +85,24 @@ module _ (sh : Shape) (until : ℕ) (s : SeatState) where
             };
       }
 
-  all-more : (ts : List Turn) (t : Turn) → AllTurns sh until ts → IsTurn sh until false t → AllTurns sh until (ts ++ t ∷ [])
+  all-more : (ts : List Turn) (t : Turn) → AllTurns sh until ts → IsTracerTurn sh until false t → AllTurns sh until (ts ++ t ∷ [])
   all-more [] t a b = (b, tt)
   all-more (u ∷ us) t a b = (a.0, all-more us t a.1 b)
 
-  are-last : (ts : List Turn) (t : Turn) → AllTurns sh until ts → IsTurn sh until true t → AreTurns sh until (ts ++ t ∷ [])
+  are-last : (ts : List Turn) (t : Turn) → AllTurns sh until ts → IsTracerTurn sh until true t → AreTurns sh until (ts ++ t ∷ [])
   are-last [] t a b = b
   are-last (u ∷ []) t a b = (a.0, b)
   are-last (u ∷ v ∷ vs) t a b = (a.0, are-last (v ∷ vs) t a.1 b)
 
   -- one turn more
-  pub turn-more : (xs ys : List Entry) → IsOneTurn sh until false (state_after sh s xs) ys → lead xs ≡ [] → AllTurns sh until (turns_of sh s xs) → (lead (xs ++ ys) ≡ []) × AllTurns sh until (turns_of sh s (xs ++ ys))
+  pub turn-more : (xs ys : List Entry) → IsOneTurn sh until false (record_after sh s xs) ys → lead xs ≡ [] → AllTurns sh until (turns_of sh s xs) → (lead (xs ++ ys) ≡ []) × AllTurns sh until (turns_of sh s (xs ++ ys))
   turn-more xs ys o f a = (
     lead-more xs ys o.first ∙ f,
     subst (AllTurns sh until) (sym (turns-more sh s xs ys o.first ∙ ap (λ l. turns_of sh s xs ++ l) o.only)) (all-more (turns_of sh s xs) o.turn a o.is),
   )
 
   -- the last one
-  pub turn-last : (xs ys : List Entry) → IsOneTurn sh until true (state_after sh s xs) ys → lead xs ≡ [] → AllTurns sh until (turns_of sh s xs) → HasTraced sh until s (xs ++ ys)
+  pub turn-last : (xs ys : List Entry) → IsOneTurn sh until true (record_after sh s xs) ys → lead xs ≡ [] → AllTurns sh until (turns_of sh s xs) → HasTakenTurns sh until s (xs ++ ys)
   turn-last xs ys o f a =
       record {
         first = lead-more xs ys o.first ∙ f;
@@ -108,23 +110,23 @@ module _ (sh : Shape) (until : ℕ) (s : SeatState) where
       }
 
 -- the record after a call's steps
-state-all : (es : List Entry) (v : View) → state_after v.shape v.state es ≡ (after_all es v).state
+state-all : (es : List Entry) (v : View) → record_after v.shape v.state es ≡ (after_all es v).state
 state-all [] v = refl
 state-all (e ∷ es) v = state-all es (after e.step e.found v)
 
-pub ran-state : (v w : View) → Ran v w → state_after v.shape v.state (events v w) ≡ w.state
+pub ran-state : (v w : View) → Ran v w → record_after v.shape v.state (events v w) ≡ w.state
 ran-state v w r = state-all (events v w) v ∙ ap (λ (x : View). x.state) (sym r.steps)
 
--- the same in a heap of these sizes
-pub ran-state-in : (sh : Shape) (v w : View) → v.shape ≡ sh → Ran v w → state_after sh v.state (events v w) ≡ w.state
-ran-state-in sh v w e r = ap (λ (x : Shape). state_after x v.state (events v w)) (sym e) ∙ ran-state v w r
+-- in a heap of these sizes, a seat's record at the end of a run is its record at the start after the run's events
+pub ran-state-in : (sh : Shape) (v w : View) → v.shape ≡ sh → Ran v w → record_after sh v.state (events v w) ≡ w.state
+ran-state-in sh v w e r = ap (λ (x : Shape). record_after x v.state (events v w)) (sym e) ∙ ran-state v w r
 
 -- a turn after others, of the record that those left
-pub turn-after : (sh : Shape) (until : ℕ) (last : Bool) (a b d : View) → a.shape ≡ sh → Ran a b → IsOneTurn sh until last b.state (events b d) → IsOneTurn sh until last (state_after sh a.state (events a b)) (events b d)
+pub turn-after : (sh : Shape) (until : ℕ) (last : Bool) (a b d : View) → a.shape ≡ sh → Ran a b → IsOneTurn sh until last b.state (events b d) → IsOneTurn sh until last (record_after sh a.state (events a b)) (events b d)
 turn-after sh until last a b d e r o = subst (λ (s : SeatState). IsOneTurn sh until last s (events b d)) (sym (ran-state-in sh a b e r)) o
 
 -- what a trace says, more events say too
-pub traces-more : (sh : Shape) (s : SeatState) (xs ys : List Entry) → traces_on sh s xs ≡ true → traces_on sh s (xs ++ ys) ≡ true
+pub traces-more : (sh : Shape) (s : SeatState) (xs ys : List Entry) → seat_traces_on sh s xs ≡ true → seat_traces_on sh s (xs ++ ys) ≡ true
 traces-more sh s xs ys t =
     ⊎_elim
     (λ (p : some_event pops xs ≡ true). or_left (some_event pops (xs ++ ys)) _ (some-left pops xs ys p))
@@ -132,11 +134,11 @@ traces-more sh s xs ys t =
     or_right (some_event pops (xs ++ ys)) _ (moment-longer sh (finds_no_work sh) ys (work-longer sh ys) xs (record { state = s; deferring = [] }) n))
     (or_cases (some_event pops xs) _ t)
 
-inside-leave : (xs : List Entry) (n : ℕ) → inside xs ≡ xs → inside (xs ++ entry LeaveStep n ∷ []) ≡ xs
+inside-leave : (xs : List Entry) (n : ℕ) → until_leave xs ≡ xs → until_leave (xs ++ event LeaveStep n ∷ []) ≡ xs
 inside-leave [] n e = refl
 inside-leave (x ∷ xs) n e =
-    let q = kept-head (leaves x.step) x xs (inside xs) e in
-    ap (λ (b : Bool). cond b [] (x ∷ inside (xs ++ entry LeaveStep n ∷ []))) q.0 ∙ ap (λ l. x ∷ l) (inside-leave xs n q.1)
+    let q = kept-head (is_leave x.step) x xs (until_leave xs) e in
+    ap (λ (b : Bool). cond b [] (x ∷ until_leave (xs ++ event LeaveStep n ∷ []))) q.0 ∙ ap (λ l. x ∷ l) (inside-leave xs n q.1)
 
 unmarking : (p : Phase) → (p ≡ Marking → ⊥) → saw (Some p) Marking ≡ false
 unmarking Idle f = refl
@@ -163,11 +165,11 @@ is-marking Sweep = inr (λ e. absurd (cc))
 is-marking Clear = inr (λ e. absurd (cc))
 is-marking Full = inr (λ e. absurd (cc))
 
-pays-after : (n : ℕ) (es : List Entry) → Pays es → Pays (entry ReadPhase n ∷ es)
+pays-after : (n : ℕ) (es : List Entry) → PaysForPops es → PaysForPops (event ReadPhase n ∷ es)
 pays-after n es p = p ∙ ap payment (omega arith)
 
 -- where no phase is read, no trace is asked
-blind-traces : (sh : Shape) (es : List Entry) (s : SeatState) → some_event looks_at_phase es ≡ false → traces_where_marking sh s es ≡ true
+blind-traces : (sh : Shape) (es : List Entry) (s : SeatState) → some_event looks_at_phase es ≡ false → seat_traces_where_marking sh s es ≡ true
 blind-traces sh [] s o = refl
 blind-traces sh (e ∷ es) s o =
     let p = or_parts (looks_at_phase e.step e.found) (some_event looks_at_phase es) o in
@@ -179,30 +181,30 @@ blind-traces sh (e ∷ es) s o =
 
 -- from where it entered to where it left
 round-of : (sh : Shape) (p : Phase) (s : SeatState) (n m : ℕ) (es : List Entry) (full : Bool) → p ≡ phase_of n → (p ≡ Marking → TracesInside sh (seat_after sh s ReadPhase n) es) → ((p ≡ Marking → ⊥) → es ≡ []) → full ≡ saw (Some p) Full
-    → IsRound sh full s (entry ReadPhase n ∷ (es ++ entry LeaveStep m ∷ []))
+    → IsVisit sh full s (event ReadPhase n ∷ (es ++ event LeaveStep m ∷ []))
 round-of sh p s n m es full e marking other f = ⊎_elim in_marking in_other (is-marking p)
   where
     ends : full ≡ saw (Some (phase_of n)) Full
     ends = f ∙ ap (λ (x : Phase). saw (Some x) Full) e
 
-    in_marking : p ≡ Marking → IsRound sh full s (entry ReadPhase n ∷ (es ++ entry LeaveStep m ∷ []))
+    in_marking : p ≡ Marking → IsVisit sh full s (event ReadPhase n ∷ (es ++ event LeaveStep m ∷ []))
     in_marking q =
         let t = marking q in
-        let left : inside (es ++ entry LeaveStep m ∷ []) ≡ es = inside-leave es m t.stays_in in
+        let left : until_leave (es ++ event LeaveStep m ∷ []) ≡ es = inside-leave es m t.stays_in in
         record {
           sees =
-              subst (λ l. visits sh s (entry ReadPhase n ∷ l) ≡ true) (sym left)
+              subst (λ l. visits sh s (event ReadPhase n ∷ l) ≡ true) (sym left)
               (and_from _ _ (or_right (not (sees_phase Marking ReadPhase n)) _ t.traces) (blind-traces sh es (seat_after sh s ReadPhase n) (not-true (some_event looks_at_phase es) t.blind)));
-          pays = subst (λ l. Pays (entry ReadPhase n ∷ l)) (sym left) (pays-after n es t.pays);
+          pays = subst (λ l. PaysForPops (event ReadPhase n ∷ l)) (sym left) (pays-after n es t.pays);
           waits =
-              waits-join (entry ReadPhase n ∷ []) (es ++ entry LeaveStep m ∷ []) (record { quiet = quiet-one ReadPhase n refl; outside = refl })
-              (waits-join es (entry LeaveStep m ∷ []) t.waits (record { quiet = quiet-one LeaveStep m refl; outside = refl }));
+              waits-join (event ReadPhase n ∷ []) (es ++ event LeaveStep m ∷ []) (record { quiet = quiet-one ReadPhase n refl; outside = refl })
+              (waits-join es (event LeaveStep m ∷ []) t.waits (record { quiet = quiet-one LeaveStep m refl; outside = refl }));
           ends = ends;
         }
 
-    in_other : (p ≡ Marking → ⊥) → IsRound sh full s (entry ReadPhase n ∷ (es ++ entry LeaveStep m ∷ []))
+    in_other : (p ≡ Marking → ⊥) → IsVisit sh full s (event ReadPhase n ∷ (es ++ event LeaveStep m ∷ []))
     in_other q =
-        subst (λ l. IsRound sh full s (entry ReadPhase n ∷ (l ++ entry LeaveStep m ∷ []))) (sym (other q))
+        subst (λ l. IsVisit sh full s (event ReadPhase n ∷ (l ++ event LeaveStep m ∷ []))) (sym (other q))
         (record {
           sees = and_from _ _ (or_left (not (sees_phase Marking ReadPhase n)) _ (ap not (unmarking (phase_of n) (λ k. q (e ∙ k))))) refl;
           pays = refl;
@@ -214,10 +216,10 @@ round-of sh p s n m es full e marking other f = ⊎_elim in_marking in_other (is
 pub events-three : (a b c d : View) → Ran a b → Ran b c → Ran c d → events a d ≡ events a b ++ (events b c ++ events c d)
 events-three a b c d f g h = ran-events a b d f (ran-join b c d g h) ∙ ap (λ l. events a b ++ l) (ran-events b c d g h)
 
--- the same round, call by call: the phase is read, then what follows from it, and the seat leaves
+-- a round made of three calls: the phase is read, what follows from it is done, and the seat leaves
 pub round-join : (sh : Shape) (p : Phase) (full : Bool) (a b c d : View) → a.shape ≡ sh → Ran a b → Ran b c → Ran c d → SeesPhase p (events a b) → (p ≡ Marking → TracesInside sh b.state (events b c)) → ((p ≡ Marking → ⊥) → events b c ≡ [])
-    → IsOne LeaveStep (events c d) → full ≡ saw (Some p) Full → IsRound sh full a.state (events a d)
+    → IsOne LeaveStep (events c d) → full ≡ saw (Some p) Full → IsVisit sh full a.state (events a d)
 round-join sh p full a b c d shape f g h sees marking other left e =
-    let read : b.state ≡ seat_after sh a.state ReadPhase sees.0 = sym (ran-state-in sh a b shape f) ∙ ap (state_after sh a.state) sees.2 in
-    subst (IsRound sh full a.state) (sym (events-three a b c d f g h ∙ (λ y. sees.2 y ++ (events b c ++ left.1 y))))
+    let read : b.state ≡ seat_after sh a.state ReadPhase sees.0 = sym (ran-state-in sh a b shape f) ∙ ap (record_after sh a.state) sees.2 in
+    subst (IsVisit sh full a.state) (sym (events-three a b c d f g h ∙ (λ y. sees.2 y ++ (events b c ++ left.1 y))))
     (round-of sh p a.state sees.0 left.0 (events b c) full sees.1 (λ q. subst (λ (s : SeatState). TracesInside sh s (events b c)) read (marking q)) other e)

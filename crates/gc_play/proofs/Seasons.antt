@@ -17,9 +17,9 @@ use Rattle.gc_table.specs.declared.seat.Heap.{Heap}
 use Rattle.gc_table.specs.declared.seat.HeapSeat.{HeapSeat}
 use Rattle.gc_play.specs.declared.season.Ended.{Ended}
 use Rattle.gc_play.specs.declared.season.Ended.TheVariants.{Done, First, Later}
-use Rattle.gc_play.specs.Crews.{AreAfter, IsNew, Numbered}
+use Rattle.gc_play.specs.Crews.{AreAfter, IsNewSeatOfPlay, Numbered}
 use Rattle.gc_play.specs.Traced.{AllTracedUntil, EndTraced, SeasonTraced, SeasonsTraced, PlayTraced, TracedSeasons, TracersRan, parts_by}
-use Rattle.gc_play.specs.Turns.{HasTraced}
+use Rattle.gc_play.specs.Turns.{HasTakenTurns}
 use Rattle.gc_play.proofs.Rounds.{ran-state-in}
 
 module _ (h : Heap) (s : Sections) (z : ℕ) (xs zs ys : List HeapSeat) (before : SeasonsTraced h s z xs zs) where
@@ -62,7 +62,7 @@ module _ (h : Heap) (s : Sections) (xs : List HeapSeat) (i : ℕ) (d : HeapSeat)
             events middle end,
             ran-events first middle end was.1.ran one.kept.stays.ran,
             was.1.seasons,
-            subst (λ (t : SeatState). HasTraced h.shape (parts_by s (suc z)) t (events middle end)) (sym state) one.traced,
+            subst (λ (t : SeatState). HasTakenTurns h.shape (parts_by s (suc z)) t (events middle end)) (sym state) one.traced,
           );
         },
       )
@@ -71,7 +71,7 @@ get-after : (fs xs : List HeapSeat) (j : ℕ) (d : HeapSeat) → get_or (fs ++ x
 get-after [] xs j d = ap (λ n. get_or xs n d) (let e : 0 + j ≡ j = omega arith in e)
 get-after (f ∷ fs) xs j d = ap (λ n. get_or (f ∷ (fs ++ xs)) n d) (let e : suc (length fs) + j ≡ suc (length fs + j) = omega arith in e) ∙ get-after fs xs j d
 
-module _ (h : Heap) (s : Sections) (tracers : ℕ) (xs ys seats : List HeapSeat) (new : Numbered (IsNew h s) (1 + length s.warehouses) xs) (count : length xs ≡ tracers) (after : AreAfter (1 + length s.warehouses) ys seats) where
+module _ (h : Heap) (s : Sections) (tracers : ℕ) (xs ys seats : List HeapSeat) (new : Numbered (IsNewSeatOfPlay h s) (1 + length s.warehouses) xs) (count : length xs ≡ tracers) (after : AreAfter (1 + length s.warehouses) ys seats) where
   -- of tracers that were new at first
   tracers-ran : (z : ℕ) → length ys ≡ length xs → ((j : ℕ) (d : HeapSeat) → j < length xs → OneTraced h s z (view_of (get_or xs j d)) (view_of (get_or ys j d))) → TracersRan s h.shape tracers z seats
   tracers-ran z long each =

@@ -13,17 +13,17 @@ use Rattle.gc_table.specs.Sections.{start_section}
 use Rattle.gc_table.specs.declared.view.Place.{Place}
 use Rattle.play_end.specs.Done.{HasPlayed}
 use Rattle.play_end.proofs.Doing.{played-start}
-use Rattle.warehouse.specs.Playing.{HasRoom}
+use Rattle.warehouse.specs.Playing.{HasRoomForCommands}
 use Rattle.gc_table.specs.Seats.{view_of}
 use Rattle.gc_table.specs.declared.seat.Heap.{Heap}
 use Rattle.gc_table.specs.declared.seat.HeapSeat.{HeapSeat}
 use Rattle.gc_table.specs.declared.view.SectionState.{SectionState}
 use Rattle.warehouse.specs.declared.mutator.Mutator.{Mutator}
-use Rattle.gc_play.specs.Standing.{IsSeated, IsTracer, PlayedTo, Rests}
-use Rattle.gc_play.specs.Crews.{IsNew}
-use Rattle.gc_play.specs.Dealing.{StandsAt, number_of}
+use Rattle.gc_play.specs.Standing.{IsSeated, IsTracerSeat, PlayedTo, Rests}
+use Rattle.gc_play.specs.Crews.{IsNewSeatOfPlay}
+use Rattle.gc_play.specs.Dealing.{StandsAt, seat_number}
 
-module _ (h : Heap) (s : Sections) (n : ℕ) (x : HeapSeat) (new : IsNew h s n x) where
+module _ (h : Heap) (s : Sections) (n : ℕ) (x : HeapSeat) (new : IsNewSeatOfPlay h s n x) where
   pub new-rests : Rests h x
   new-rests = record { sits = new.sits; outside = ap is_bare new.fresh.state; idle = ap (has_nothing h.shape) new.fresh.state }
 
@@ -37,7 +37,7 @@ module _ (h : Heap) (s : Sections) (n : ℕ) (x : HeapSeat) (new : IsNew h s n x
         fields = ap (λ (y : Shape). y.fields) new.fresh.shape ∙ new.fields;
       }
 
-  pub new-tracer : length s.warehouses < n → IsTracer h n x
+  pub new-tracer : length s.warehouses < n → IsTracerSeat h n x
   new-tracer high =
       record {
         rests = new-rests;
@@ -45,11 +45,11 @@ module _ (h : Heap) (s : Sections) (n : ℕ) (x : HeapSeat) (new : IsNew h s n x
         section = ap (λ (y : SeatState). y.section) new.fresh.state ∙ ap (λ (b : Bool). cond b (Some n) None) (le-ltb n h.shape.sections (omega (arith, high, new.sections)));
       }
 
-  pub new-number : (m : Mutator) → m.seat ≡ x → number_of m ≡ n
+  pub new-number : (m : Mutator) → m.seat ≡ x → seat_number m ≡ n
   new-number m same = ap (λ (y : HeapSeat). (view_of y).state.number) same ∙ ap (λ (y : SeatState). y.number) new.fresh.state
 
   -- a player that was made for the seat did nothing
-  pub new-played : (m : Mutator) → m.seat ≡ x → n ≤ length s.warehouses → m.said.items ≡ [] → m.places.items ≡ [] → m.dropped ≡ 0 → m.count ≡ 0 → HasRoom (joined (parts_of s n)) m → PlayedTo h s n 0 m
+  pub new-played : (m : Mutator) → m.seat ≡ x → n ≤ length s.warehouses → m.said.items ≡ [] → m.places.items ≡ [] → m.dropped ≡ 0 → m.count ≡ 0 → HasRoomForCommands (joined (parts_of s n)) m → PlayedTo h s n 0 m
   new-played m same low said places dropped count room =
       let own : (view_of m.seat).own ≡ start_section h.shape n = ap (λ (y : HeapSeat). (view_of y).own) same ∙ new.fresh.own in
       let start : HasPlayed s n 0 (start_section h.shape n) = played-start s h.shape n new.fields in
@@ -84,9 +84,9 @@ module _ (h : Heap) (s : Sections) (n : ℕ) (x : HeapSeat) (new : IsNew h s n x
   pub new-objects : 2000000 ≤ (view_of x).shape.objects
   new-objects = omega (arith, ap (λ (y : Shape). y.objects) new.fresh.shape, new.objects)
 
-  pub new-stands : (m : Mutator) → m.seat ≡ x → 1 ≤ n → n ≤ length s.warehouses → m.said.items ≡ [] → m.places.items ≡ [] → m.dropped ≡ 0 → m.count ≡ 0 → HasRoom (joined (parts_of s n)) m → StandsAt h s 0 m
+  pub new-stands : (m : Mutator) → m.seat ≡ x → 1 ≤ n → n ≤ length s.warehouses → m.said.items ≡ [] → m.places.items ≡ [] → m.dropped ≡ 0 → m.count ≡ 0 → HasRoomForCommands (joined (parts_of s n)) m → StandsAt h s 0 m
   new-stands m same first last said places dropped count room =
-      let num : number_of m ≡ n = new-number m same in
+      let num : seat_number m ≡ n = new-number m same in
       record {
         warehouse = record { first = subst (λ k. 1 ≤ k) (sym num) first; last = subst (λ k. k ≤ length s.warehouses) (sym num) last };
         played = subst (λ k. PlayedTo h s k 0 m) (sym num) (new-played m same last said places dropped count room);

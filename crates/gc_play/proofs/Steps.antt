@@ -1,37 +1,22 @@
--- Steps outside a command: when they may be taken, and what they leave.
-use Rattle.std.proofs.Common.{ℕ, ◌≡◌, refl, sym, ap, ◌∙◌, subst, Bool, true, false, not, ◌&&◌, eqb}
-use Rattle.std.specs.Prelude.{is_none}
+-- Steps outside a command, and what they leave.
+use Rattle.std.proofs.Common.{ℕ, ◌≡◌, refl, sym, ap, ◌∙◌, Bool, true, false, not, ◌&&◌}
 use Rattle.std.proofs.lemmas.Bool.{and_parts, and_from}
-use Rattle.mark_core.specs.Seats.{work_in_hand, empty_handed, is_bare, phase_of}
+use Rattle.mark_core.specs.Seats.{is_bare, phase_of}
 use Rattle.mark_core.specs.Steps.WorldSteps.{has_nothing}
 use Rattle.mark_core.specs.declared.kinds.Phase.{Phase}
-use Rattle.mark_core.specs.declared.kinds.Shape.{Shape}
 use Rattle.mark_core.specs.Effects.{seat_after}
 use Rattle.mark_core.specs.declared.kinds.Step.{Step}
 use Rattle.mark_core.specs.declared.kinds.Step.TheVariants.{AddStat, EnterStep, LeaveStep, ReadPhase, ReadStat}
 use Rattle.mark_core.specs.declared.seat.SeatState.{SeatState}
 use Rattle.gc_table.specs.declared.view.View.{View}
-use Rattle.gc_table.specs.Taking.{after, May}
+use Rattle.gc_table.specs.Taking.{after}
 use Rattle.gc_table.specs.Running.{is_store}
 use Rattle.gc_table.specs.Log.{events}
 use Rattle.gc_table.specs.Seats.{Answered, Found}
 use Rattle.gc_table.proofs.History.Log.{events-after}
-use Rattle.gc_table.proofs.Running.{ran-found, ran-join, ran-number, ran-plan, ran-refl, ran-section, ran-shape}
-use Rattle.gc_play.specs.Stays.{Stays}
+use Rattle.gc_table.proofs.Running.{ran-found, ran-join, ran-number, ran-plan, ran-section, ran-shape}
+use Rattle.gc_play.specs.Stays.{SeatStays}
 use Rattle.gc_play.specs.Turns.{SeesPhase}
-
--- a seat with nothing in hand may leave
-pub may-leave : (v : View) → v.state.counted ≡ true → has_nothing v.shape v.state ≡ true → May LeaveStep v
-may-leave v k e x i w a =
-    let s = v.state in
-    let sh = x.core.shape in
-    let all : has_nothing sh s ≡ true = subst (λ (y : Shape). has_nothing y s ≡ true) a.shape e in
-    let p = and_parts (empty_handed s && not (work_in_hand sh.fields s) && is_none s.owes && is_none s.cache && is_none s.block) (eqb s.got 0) all in
-    let q = and_parts (empty_handed s && not (work_in_hand sh.fields s) && is_none s.owes && is_none s.cache) (is_none s.block) p.0 in
-    let r = and_parts (empty_handed s && not (work_in_hand sh.fields s) && is_none s.owes) (is_none s.cache) q.0 in
-    let t = and_parts (empty_handed s && not (work_in_hand sh.fields s)) (is_none s.owes) r.0 in
-    let u = and_parts (empty_handed s) (not (work_in_hand sh.fields s)) t.0 in
-    (k, (u.0, (u.1, (and_from (is_none s.owes && is_none s.cache) (eqb s.got 0) (and_from (is_none s.owes) (is_none s.cache) t.1 r.1) p.1, tt))))
 
 pub bare-parts : (s : SeatState) → is_bare s ≡ true → (s.counted ≡ false) × (s.raised ≡ false) × (s.helping ≡ false)
 bare-parts s e =
@@ -46,7 +31,7 @@ bare-parts s e =
 pub bare-from : (s : SeatState) → s.counted ≡ false → s.raised ≡ false → s.helping ≡ false → is_bare s ≡ true
 bare-from s a b c = and_from (not s.counted && not s.raised) (not s.helping) (and_from (not s.counted) (not s.raised) (ap not a) (ap not b)) (ap not c)
 
-pub stays-join : (u v w : View) → Stays u v → Stays v w → Stays u w
+pub stays-join : (u v w : View) → SeatStays u v → SeatStays v w → SeatStays u w
 stays-join u v w a b =
     record {
       shape = b.shape ∙ a.shape;
@@ -59,7 +44,7 @@ stays-join u v w a b =
     }
 
 -- a step that changes nothing of the section, and leaves in hand what was there
-stays-step : (v w : View) (step : Step) (n : ℕ) → is_store step ≡ false → (after step n v).own ≡ v.own → has_nothing v.shape (seat_after v.shape v.state step n) ≡ has_nothing v.shape v.state → Found step n v w → Stays v w
+stays-step : (v w : View) (step : Step) (n : ℕ) → is_store step ≡ false → (after step n v).own ≡ v.own → has_nothing v.shape (seat_after v.shape v.state step n) ≡ has_nothing v.shape v.state → Found step n v w → SeatStays v w
 stays-step v w step n k own idle f =
     let r = ran-found v w step n k f in
     record {
@@ -72,24 +57,24 @@ stays-step v w step n k own idle f =
       ran = r;
     }
 
-pub stays-enter : (v w : View) (n : ℕ) → Found EnterStep n v w → Stays v w
+pub stays-enter : (v w : View) (n : ℕ) → Found EnterStep n v w → SeatStays v w
 stays-enter v w n f = stays-step v w EnterStep n refl refl refl f
 
-pub stays-leave : (v w : View) (n : ℕ) → Found LeaveStep n v w → Stays v w
+pub stays-leave : (v w : View) (n : ℕ) → Found LeaveStep n v w → SeatStays v w
 stays-leave v w n f = stays-step v w LeaveStep n refl refl refl f
 
-stays-read_phase : (v w : View) (n : ℕ) → Found ReadPhase n v w → Stays v w
+stays-read_phase : (v w : View) (n : ℕ) → Found ReadPhase n v w → SeatStays v w
 stays-read_phase v w n f = stays-step v w ReadPhase n refl refl refl f
 
 -- the phase was read
-pub stays-seen : (p : Phase) (v w : View) → Answered ReadPhase (λ n. p ≡ phase_of n) v w → Stays v w
+pub stays-seen : (p : Phase) (v w : View) → Answered ReadPhase (λ n. p ≡ phase_of n) v w → SeatStays v w
 stays-seen p v w a = stays-read_phase v w a.0 (a.1, a.2)
 
 pub sees-seen : (p : Phase) (v w : View) → Answered ReadPhase (λ n. p ≡ phase_of n) v w → SeesPhase p (events v w)
 sees-seen p v w a = (a.0, a.3, events-after v w ReadPhase a.0 a.1)
 
-pub stays-read_stat : (v w : View) (which n : ℕ) → Found (ReadStat which) n v w → Stays v w
+pub stays-read_stat : (v w : View) (which n : ℕ) → Found (ReadStat which) n v w → SeatStays v w
 stays-read_stat v w which n f = stays-step v w (ReadStat which) n refl refl refl f
 
-pub stays-add_stat : (v w : View) (which by n : ℕ) (down : Bool) → Found (AddStat which by down) n v w → Stays v w
+pub stays-add_stat : (v w : View) (which by n : ℕ) (down : Bool) → Found (AddStat which by down) n v w → SeatStays v w
 stays-add_stat v w which by n down f = stays-step v w (AddStat which by down) n refl refl refl f

@@ -2,6 +2,7 @@
 use Rattle.std.proofs.Common.{ℕ, ◌≡◌, ◌<◌, ◌≤◌, ◌+◌, ⊎_elim, List, [], ◌∷◌, ◌++◌, refl, sym, ap, ◌∙◌, subst, arith, Bool, true, false, not, cond, ◌||◌}
 use Rattle.std.proofs.lemmas.List.{append-nil}
 use Rattle.std.proofs.lemmas.Bool.{true≢false, and_parts, and_from, or_left, or_right, ne_eqb}
+use Rattle.mark_core.specs.Numbers.{traced_count}
 use Rattle.mark_core.specs.Steps.WorldSteps.{has_nothing}
 use Rattle.mark_core.specs.declared.kinds.Shape.{Shape}
 use Rattle.mark_core.specs.declared.kinds.Step.{Step}
@@ -14,6 +15,7 @@ use Rattle.gc_table.specs.declared.seat.HeapSeat.{HeapSeat}
 use Rattle.gc_table.specs.declared.view.Entry.{Entry}
 use Rattle.gc_table.specs.declared.view.View.{View}
 use Rattle.gc_table.proofs.Running.{ran-events, ran-number, ran-plan, ran-section, ran-shape}
+use Rattle.gc_table.specs.Entries.{event}
 use Rattle.packet_pools.specs.Counts.{count_of}
 use Rattle.packet_pools.specs.Seeking.{some_event}
 use Rattle.packet_pools.proofs.Counting.{count-join}
@@ -21,15 +23,15 @@ use Rattle.tracer.specs.Causes.{FoundNoWork}
 use Rattle.tracer.specs.Tally.{pops}
 use Rattle.gc_cycle.specs.Sorts.{enters, looks_at_phase}
 use Rattle.gc_cycle.proofs.Sequences.{none-of-steps, some-none}
-use Rattle.seat_turns.specs.Standing.{Marks}
-use Rattle.seat_turns.specs.Tending.{MarksSome, Tends, tends}
-use Rattle.gc_play.specs.Stays.{Stays}
-use Rattle.gc_play.specs.Turns.{TracesInside, Waits, changed, changes, entry, inside, leaves, leaves_done, payment, traces_on}
+use Rattle.seat_turns.specs.Standing.{GoesMarking}
+use Rattle.seat_turns.specs.Tending.{MarksSome, Tends, tends_inside, turn_quota}
+use Rattle.gc_play.specs.Stays.{SeatStays}
+use Rattle.gc_play.specs.Turns.{TracesInside, WaitsOutside, change_of_number, changes_of_numbers, until_leave, is_leave, leaves_done, payment, seat_traces_on}
 use Rattle.gc_play.proofs.Rounds.{traces-more}
 use Rattle.gc_play.proofs.TurnCuts.{quiet-one, quiet-only, waits-join}
 
 -- a seat that marked is the same
-pub marked-stays : (n : ℕ) (h : Heap) (x y : HeapSeat) → Marks h x → Marks h y → Tends n (view_of x) (view_of y) → Stays (view_of x) (view_of y)
+pub marked-stays : (n : ℕ) (h : Heap) (x y : HeapSeat) → GoesMarking h x → GoesMarking h y → Tends n (view_of x) (view_of y) → SeatStays (view_of x) (view_of y)
 marked-stays n h x y a b t =
     let v : View = view_of x in
     let w : View = view_of y in
@@ -53,87 +55,87 @@ some-counted f (x ∷ xs) low = of (f x.step x.found) (some_event f xs) (count_o
     of false later n h l = h (omega (arith, l))
 
 -- a marking popped a cell, or nothing was left in hand and there was no packet to read from
-pub marked-on : (sh : Shape) (n : ℕ) (v w : View) → v.shape ≡ sh → MarksSome n v w → traces_on sh v.state (events v w) ≡ true
+pub marked-on : (sh : Shape) (n : ℕ) (v w : View) → v.shape ≡ sh → MarksSome n v w → seat_traces_on sh v.state (events v w) ≡ true
 marked-on sh n v w e m =
     let u : View = m.between in
     let t = m.traces.tends in
-    let some : n ≡ 64 → traces_on sh v.state (events v u) ≡ true =
+    let some : n ≡ turn_quota → seat_traces_on sh v.state (events v u) ≡ true =
     λ q. or_left (some_event pops (events v u)) _ (some-counted pops (events v u) (let d = t.done in omega (arith, d, q))) in
-    let none : (n < 64) × FoundNoWork v u → traces_on sh v.state (events v u) ≡ true =
-    λ q. subst (λ (z : Shape). traces_on z v.state (events v u) ≡ true) e (or_right (some_event pops (events v u)) _ q.1) in
-    subst (λ l. traces_on sh v.state l ≡ true) (sym (ran-events v u w t.ran m.tends.ran)) (traces-more sh v.state (events v u) (events u w) (⊎_elim some none m.traces.ends))
+    let none : (n < turn_quota) × FoundNoWork v u → seat_traces_on sh v.state (events v u) ≡ true =
+    λ q. subst (λ (z : Shape). seat_traces_on z v.state (events v u) ≡ true) e (or_right (some_event pops (events v u)) _ q.1) in
+    subst (λ l. seat_traces_on sh v.state l ≡ true) (sym (ran-events v u w t.ran m.tends.ran)) (traces-more sh v.state (events v u) (events u w) (⊎_elim some none m.traces.ends))
 
 -- what such a step doesn't do
-tend-leaves : (step : Step) → tends step ≡ true → leaves step ≡ false
+tend-leaves : (step : Step) → tends_inside step ≡ true → is_leave step ≡ false
 tend-leaves LeaveStep e = sym e
 tend-leaves step e = refl
 
-tend-done : (step : Step) → tends step ≡ true → leaves_done step ≡ true
+tend-done : (step : Step) → tends_inside step ≡ true → leaves_done step ≡ true
 tend-done (ReadStat which) e = e
 tend-done step e = refl
 
-tend-changes : (step : Step) → tends step ≡ true → changed step ≡ []
+tend-changes : (step : Step) → tends_inside step ≡ true → change_of_number step ≡ []
 tend-changes (AddStat which by down) e = absurd (true≢false (sym e))
 tend-changes step e = refl
 
-tend-looks : (step : Step) (n : ℕ) → tends step ≡ true → looks_at_phase step n ≡ false
+tend-looks : (step : Step) (n : ℕ) → tends_inside step ≡ true → looks_at_phase step n ≡ false
 tend-looks ReadPhase n e = sym e
 tend-looks step n e = refl
 
-tend-enters : (step : Step) (n : ℕ) → tends step ≡ true → enters step n ≡ false
+tend-enters : (step : Step) (n : ℕ) → tends_inside step ≡ true → enters step n ≡ false
 tend-enters EnterStep n e = sym e
 tend-enters step n e = refl
 
 -- the seat doesn't leave before what comes after such steps
-tend-inside : (es fs : List Entry) → all_steps tends es ≡ true → inside fs ≡ fs → inside (es ++ fs) ≡ es ++ fs
+tend-inside : (es fs : List Entry) → all_steps tends_inside es ≡ true → until_leave fs ≡ fs → until_leave (es ++ fs) ≡ es ++ fs
 tend-inside [] fs o f = f
 tend-inside (e ∷ es) fs o f =
-    let p = and_parts (tends e.step) (all_steps tends es) o in
-    ap (λ (b : Bool). cond b [] (e ∷ inside (es ++ fs))) (tend-leaves e.step p.0) ∙ ap (λ l. e ∷ l) (tend-inside es fs p.1 f)
+    let p = and_parts (tends_inside e.step) (all_steps tends_inside es) o in
+    ap (λ (b : Bool). cond b [] (e ∷ until_leave (es ++ fs))) (tend-leaves e.step p.0) ∙ ap (λ l. e ∷ l) (tend-inside es fs p.1 f)
 
 -- no number is changed before what comes after such steps
-none-changed : (es fs : List Entry) → all_steps tends es ≡ true → changes (es ++ fs) ≡ changes fs
+none-changed : (es fs : List Entry) → all_steps tends_inside es ≡ true → changes_of_numbers (es ++ fs) ≡ changes_of_numbers fs
 none-changed [] fs o = refl
 none-changed (e ∷ es) fs o =
-    let p = and_parts (tends e.step) (all_steps tends es) o in
-    ap (λ l. l ++ changes (es ++ fs)) (tend-changes e.step p.0) ∙ none-changed es fs p.1
+    let p = and_parts (tends_inside e.step) (all_steps tends_inside es) o in
+    ap (λ l. l ++ changes_of_numbers (es ++ fs)) (tend-changes e.step p.0) ∙ none-changed es fs p.1
 
-all-done : (es : List Entry) → all_steps tends es ≡ true → all_steps leaves_done es ≡ true
+all-done : (es : List Entry) → all_steps tends_inside es ≡ true → all_steps leaves_done es ≡ true
 all-done [] o = refl
-all-done (e ∷ es) o = let p = and_parts (tends e.step) (all_steps tends es) o in and_from _ _ (tend-done e.step p.0) (all-done es p.1)
+all-done (e ∷ es) o = let p = and_parts (tends_inside e.step) (all_steps tends_inside es) o in and_from _ _ (tend-done e.step p.0) (all-done es p.1)
 
-tend-waits : (es : List Entry) → all_steps tends es ≡ true → Waits es
-tend-waits es o = record { quiet = quiet-only es (all-done es o); outside = ap not (none-of-steps tends enters tend-enters es o) }
+tend-waits : (es : List Entry) → all_steps tends_inside es ≡ true → WaitsOutside es
+tend-waits es o = record { quiet = quiet-only es (all-done es o); outside = ap not (none-of-steps tends_inside enters tend-enters es o) }
 
-tend-blind : (es : List Entry) → all_steps tends es ≡ true → some_event looks_at_phase es ≡ false
-tend-blind es o = none-of-steps tends looks_at_phase tend-looks es o
+tend-blind : (es : List Entry) → all_steps tends_inside es ≡ true → some_event looks_at_phase es ≡ false
+tend-blind es o = none-of-steps tends_inside looks_at_phase tend-looks es o
 
 -- what is to be told where something was popped
-payment-some : (n : ℕ) → 0 < n → payment n ≡ (4, n, false) ∷ []
-payment-some n low = ap (λ b. cond b [] ((4, n, false) ∷ [])) (ne_eqb n 0 (λ z. omega (arith, z, low)))
+payment-some : (n : ℕ) → 0 < n → payment n ≡ (traced_count, n, false) ∷ []
+payment-some n low = ap (λ b. cond b [] ((traced_count, n, false) ∷ [])) (ne_eqb n 0 (λ z. omega (arith, z, low)))
 
 -- nothing was popped
-pub inside-idle : (sh : Shape) (s : SeatState) (n : ℕ) (es : List Entry) → n ≤ 0 → all_steps tends es ≡ true → count_of pops es ≡ n → traces_on sh s es ≡ true → TracesInside sh s es
+pub inside-idle : (sh : Shape) (s : SeatState) (n : ℕ) (es : List Entry) → n ≤ 0 → all_steps tends_inside es ≡ true → count_of pops es ≡ n → seat_traces_on sh s es ≡ true → TracesInside sh s es
 inside-idle sh s n es none o count t =
     let nil : (es ++ []) ≡ es = append-nil es in
     let zero_is : count_of pops es ≡ 0 = omega (arith, count, none) in
     record {
       traces = t;
-      pays = ap changes (sym nil) ∙ (none-changed es [] o ∙ ap payment (sym zero_is));
-      stays_in = ap inside (sym nil) ∙ (tend-inside es [] o refl ∙ nil);
+      pays = ap changes_of_numbers (sym nil) ∙ (none-changed es [] o ∙ ap payment (sym zero_is));
+      stays_in = ap until_leave (sym nil) ∙ (tend-inside es [] o refl ∙ nil);
       blind = ap not (tend-blind es o);
       waits = tend-waits es o;
     }
 
 -- what was popped was told
-pub inside-counted : (sh : Shape) (s : SeatState) (n m : ℕ) (es : List Entry) → 0 < n → all_steps tends es ≡ true → count_of pops es ≡ n → traces_on sh s es ≡ true → TracesInside sh s (es ++ entry (AddStat 4 n false) m ∷ [])
+pub inside-counted : (sh : Shape) (s : SeatState) (n m : ℕ) (es : List Entry) → 0 < n → all_steps tends_inside es ≡ true → count_of pops es ≡ n → seat_traces_on sh s es ≡ true → TracesInside sh s (es ++ event (AddStat traced_count n false) m ∷ [])
 inside-counted sh s n m es low o count t =
-    let last : List Entry = entry (AddStat 4 n false) m ∷ [] in
+    let last : List Entry = event (AddStat traced_count n false) m ∷ [] in
     let all : count_of pops (es ++ last) ≡ n = count-join pops es last ∙ omega (arith, count) in
     record {
       traces = traces-more sh s es last t;
       pays = none-changed es last o ∙ (sym (payment-some n low) ∙ ap payment (sym all));
       stays_in = tend-inside es last o refl;
       blind = ap not (some-none looks_at_phase es last (tend-blind es o) refl);
-      waits = waits-join es last (tend-waits es o) (record { quiet = quiet-one (AddStat 4 n false) m refl; outside = refl });
+      waits = waits-join es last (tend-waits es o) (record { quiet = quiet-one (AddStat traced_count n false) m refl; outside = refl });
     }

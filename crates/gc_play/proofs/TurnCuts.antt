@@ -9,10 +9,11 @@ use Rattle.mark_core.specs.declared.kinds.Step.TheVariants.{EnterStep}
 use Rattle.mark_core.specs.declared.seat.SeatState.{SeatState}
 use Rattle.gc_table.specs.declared.view.Entry.{Entry}
 use Rattle.gc_table.specs.Log.{all_steps}
+use Rattle.gc_table.specs.Entries.{event}
 use Rattle.packet_pools.specs.Seeking.{some_event}
 use Rattle.gc_cycle.specs.Sorts.{enters, enters_freely}
 use Rattle.gc_cycle.proofs.Stops.Admitted.{never-join}
-use Rattle.gc_play.specs.Turns.{Turn, entry, leaves_done, reads_done, lead, turns_of, state_after, each_visit, EachPays, IsQuiet, Waits}
+use Rattle.gc_play.specs.Turns.{Turn, leaves_done, is_read_of_done, lead, turns_of, record_after, each_visit, EachPays, ReadsNoParts, WaitsOutside}
 
 tail : List Entry → List Entry
 tail [] = []
@@ -26,35 +27,35 @@ kept-head false x xs ls e = (refl, ap tail e)
 quiet-lead : (xs ys : List Entry) → lead xs ≡ xs → lead (xs ++ ys) ≡ xs ++ lead ys
 quiet-lead [] ys e = refl
 quiet-lead (x ∷ xs) ys e =
-    let q = kept-head (reads_done x.step) x xs (lead xs) e in
+    let q = kept-head (is_read_of_done x.step) x xs (lead xs) e in
     ap (λ (b : Bool). cond b [] (x ∷ lead (xs ++ ys))) q.0 ∙ ap (λ l. x ∷ l) (quiet-lead xs ys q.1)
 
-pub quiet-turns : (sh : Shape) (s : SeatState) (xs ys : List Entry) → lead xs ≡ xs → turns_of sh s (xs ++ ys) ≡ turns_of sh (state_after sh s xs) ys
+pub quiet-turns : (sh : Shape) (s : SeatState) (xs ys : List Entry) → lead xs ≡ xs → turns_of sh s (xs ++ ys) ≡ turns_of sh (record_after sh s xs) ys
 quiet-turns sh s [] ys e = refl
 quiet-turns sh s (x ∷ xs) ys e =
-    let q = kept-head (reads_done x.step) x xs (lead xs) e in
+    let q = kept-head (is_read_of_done x.step) x xs (lead xs) e in
     let u : SeatState = seat_after sh s x.step x.found in
     let t : Turn = record { found = x.found; state = u; rest = lead (xs ++ ys) } in
     ap (λ (b : Bool). cond b (t ∷ turns_of sh u (xs ++ ys)) (turns_of sh u (xs ++ ys))) q.0 ∙ quiet-turns sh u xs ys q.1
 
-pub quiet-join : (xs ys : List Entry) → IsQuiet xs → IsQuiet ys → IsQuiet (xs ++ ys)
+pub quiet-join : (xs ys : List Entry) → ReadsNoParts xs → ReadsNoParts ys → ReadsNoParts (xs ++ ys)
 quiet-join xs ys a b = quiet-lead xs ys a ∙ ap (λ l. xs ++ l) b
 
-pub quiet-one : (step : Step) (n : ℕ) → reads_done step ≡ false → IsQuiet (entry step n ∷ [])
-quiet-one step n e = ap (λ (b : Bool). cond b [] (entry step n ∷ [])) e
+pub quiet-one : (step : Step) (n : ℕ) → is_read_of_done step ≡ false → ReadsNoParts (event step n ∷ [])
+quiet-one step n e = ap (λ (b : Bool). cond b [] (event step n ∷ [])) e
 
 pub not-true : (b : Bool) → not b ≡ true → b ≡ false
 not-true true e = sym e
 not-true false e = refl
 
 -- events that read no number of parts
-pub quiet-only : (es : List Entry) → IsTrue (all_steps leaves_done es) → IsQuiet es
+pub quiet-only : (es : List Entry) → IsTrue (all_steps leaves_done es) → ReadsNoParts es
 quiet-only [] o = refl
 quiet-only (e ∷ es) o =
     let p = and_parts (leaves_done e.step) (all_steps leaves_done es) o in
-    ap (λ b. cond b [] (e ∷ lead es)) (not-true (reads_done e.step) p.0) ∙ ap (λ l. e ∷ l) (quiet-only es p.1)
+    ap (λ b. cond b [] (e ∷ lead es)) (not-true (is_read_of_done e.step) p.0) ∙ ap (λ l. e ∷ l) (quiet-only es p.1)
 
-pub waits-join : (xs ys : List Entry) → Waits xs → Waits ys → Waits (xs ++ ys)
+pub waits-join : (xs ys : List Entry) → WaitsOutside xs → WaitsOutside ys → WaitsOutside (xs ++ ys)
 waits-join xs ys a b = record { quiet = quiet-join xs ys a.quiet b.quiet; outside = never-join enters xs ys a.outside b.outside }
 
 -- a step that isn't an entry is none without a stop
@@ -76,7 +77,7 @@ pays-none (e ∷ es) o =
 
 pub lead-more : (xs ys : List Entry) → lead ys ≡ [] → lead (xs ++ ys) ≡ lead xs
 lead-more [] ys e = e
-lead-more (x ∷ xs) ys e = ap (λ l. cond (reads_done x.step) [] (x ∷ l)) (lead-more xs ys e)
+lead-more (x ∷ xs) ys e = ap (λ l. cond (is_read_of_done x.step) [] (x ∷ l)) (lead-more xs ys e)
 
 by-read : (b : Bool) (n : ℕ) (s : SeatState) (xs ys : List Entry) (ts us : List Turn) → xs ≡ ys → ts ≡ us → cond b (record { found = n; state = s; rest = xs } ∷ ts) ts ≡ cond b (record { found = n; state = s; rest = ys } ∷ us) us
 by-read true n s xs ys ts us e f = ap (λ l. record { found = n; state = s; rest = l } ∷ ts) e ∙ ap (λ l. record { found = n; state = s; rest = ys } ∷ l) f
@@ -86,9 +87,9 @@ cond-append : (b : Bool) (t : Turn) (ts us : List Turn) → cond b (t ∷ (ts ++
 cond-append true t ts us = refl
 cond-append false t ts us = refl
 
-pub turns-more : (sh : Shape) (s : SeatState) (xs ys : List Entry) → lead ys ≡ [] → turns_of sh s (xs ++ ys) ≡ turns_of sh s xs ++ turns_of sh (state_after sh s xs) ys
+pub turns-more : (sh : Shape) (s : SeatState) (xs ys : List Entry) → lead ys ≡ [] → turns_of sh s (xs ++ ys) ≡ turns_of sh s xs ++ turns_of sh (record_after sh s xs) ys
 turns-more sh s [] ys e = refl
 turns-more sh s (x ∷ xs) ys e =
     let u : SeatState = seat_after sh s x.step x.found in
-    by-read (reads_done x.step) x.found u (lead (xs ++ ys)) (lead xs) (turns_of sh u (xs ++ ys)) (turns_of sh u xs ++ turns_of sh (state_after sh u xs) ys) (lead-more xs ys e) (turns-more sh u xs ys e)
-    ∙ cond-append (reads_done x.step) (record { found = x.found; state = u; rest = lead xs }) (turns_of sh u xs) (turns_of sh (state_after sh u xs) ys)
+    by-read (is_read_of_done x.step) x.found u (lead (xs ++ ys)) (lead xs) (turns_of sh u (xs ++ ys)) (turns_of sh u xs ++ turns_of sh (record_after sh u xs) ys) (lead-more xs ys e) (turns-more sh u xs ys e)
+    ∙ cond-append (is_read_of_done x.step) (record { found = x.found; state = u; rest = lead xs }) (turns_of sh u xs) (turns_of sh (record_after sh u xs) ys)

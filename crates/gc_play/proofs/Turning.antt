@@ -7,8 +7,8 @@ use Rattle.gc_table.specs.declared.seat.Heap.{Heap}
 use Rattle.warehouse.specs.declared.mutator.Mutator.{Mutator}
 use Rattle.play_end.specs.declared.played.Played.TheVariants.{Done, Full}
 use Rattle.gc_play.specs.declared.workers.Worker.{Worker}
-use Rattle.gc_play.specs.Dealing.{StandsAt, HaltsAt, StopsAt, ShareEnds, SomeAt, SomeFull}
-use Rattle.gc_play.specs.Crews.{TurnEnds}
+use Rattle.gc_play.specs.Dealing.{StandsAt, HaltsAt, WarehouseStopsAt, ShareEnds, SomeAt, SomeFull}
+use Rattle.gc_play.specs.Crews.{SeasonTurnEnds}
 
 some-map : {X : Type 0} (P Q : X → Type 0) → ((x : X) → P x → Q x) → (xs : List X) → SomeAt P xs → SomeAt Q xs
 some-map P Q f xs e = (e.0, e.1, λ d. f (get_or xs e.0 d) (e.2 d))
@@ -17,24 +17,24 @@ share-halts : (b : Bool) (h : Heap) (s : Sections) (z : ℕ) (ms : List Mutator)
 share-halts true h s z ms e = e.0
 share-halts false h s z ms e = λ k d below. inr (inl (e k d below))
 
-share-stops : (b : Bool) (h : Heap) (s : Sections) (z : ℕ) (ms : List Mutator) → b ≡ true → ShareEnds b h s z ms → SomeAt (StopsAt h s z) ms
+share-stops : (b : Bool) (h : Heap) (s : Sections) (z : ℕ) (ms : List Mutator) → b ≡ true → ShareEnds b h s z ms → SomeAt (WarehouseStopsAt h s z) ms
 share-stops b h s z ms t e = (subst (λ x. ShareEnds x h s z ms) t e).1
 
 share-stands : (b : Bool) (h : Heap) (s : Sections) (z : ℕ) (ms : List Mutator) → b ≡ false → ShareEnds b h s z ms → All (StandsAt h s z) ms
 share-stands b h s z ms f e = subst (λ x. ShareEnds x h s z ms) f e
 
 module _ (h : Heap) (s : Sections) (z : ℕ) (ws : List Worker) (all : All (λ (x : Worker). ShareEnds x.full h s z x.mutators.items) ws) where
-  pub turn-full : SomeFull ws → TurnEnds Full h s z ws
+  pub turn-full : SomeFull ws → SeasonTurnEnds Full h s z ws
   turn-full some_full = (
     λ k d below. share-halts (get_or ws k d).full h s z (get_or ws k d).mutators.items (all k d below),
     (
       some_full.0,
       some_full.1,
       λ d.
-          some-map (StopsAt h s z) (λ (m : Mutator). KnowsFull (view_of m.seat)) (λ m x. x.stopped.full) (get_or ws some_full.0 d).mutators.items
+          some-map (WarehouseStopsAt h s z) (λ (m : Mutator). KnowsFull (view_of m.seat)) (λ m x. x.stopped.full) (get_or ws some_full.0 d).mutators.items
           (share-stops (get_or ws some_full.0 d).full h s z (get_or ws some_full.0 d).mutators.items (some_full.2 d) (all some_full.0 d some_full.1)),
     ),
   )
 
-  pub turn-done : All (λ (x : Worker). x.full ≡ false) ws → TurnEnds Done h s z ws
+  pub turn-done : All (λ (x : Worker). x.full ≡ false) ws → SeasonTurnEnds Done h s z ws
   turn-done going = (λ k d below. share-stands (get_or ws k d).full h s z (get_or ws k d).mutators.items (going k d below) (all k d below), going)

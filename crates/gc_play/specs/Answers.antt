@@ -10,7 +10,7 @@ use Rattle.play_report.specs.declared.report.Report.{Report}
 use Rattle.gc_table.specs.declared.seat.HeapSeat.{HeapSeat}
 use Rattle.gc_table.specs.declared.words.Words.{Words}
 use Rattle.play_end.specs.Closed.{IsClosed, PlayedAll, SeatsStopped}
-use Rattle.play_end.specs.Reported.{AreHeld, AreParts, AreStored}
+use Rattle.play_end.specs.Reported.{AreSurvivorsPlaced, AreParts, AreStored}
 use Rattle.gc_play.specs.Traced.{TracersRan}
 
 -- a heap of these sizes was closed with these words when each section had played all its parts; the report's parts are those of its seats,
@@ -20,11 +20,11 @@ pub record IsPlayed (s : Sections) (sh : Shape) (tracers : ℕ) (r : Report) (w 
   pub closed : IsClosed s sh.cells sh seats w
   pub played : PlayedAll s seats
   pub parts : AreParts s seats r.parts.items
-  pub held : AreHeld s w r
+  pub held : AreSurvivorsPlaced s w r
   pub traced : TracersRan s sh tracers (seasons s) seats
 
--- a heap of these sizes was closed when the sections had stopped in some season, since it was full; the positions are those that it stored,
--- and each of so many tracers traced in each season before, and in that one if its warehouses had their turn
+-- the heap was closed when the sections had stopped in some season, because it was full, and the positions are those that it stored;
+-- each tracer traced in each season before that one, and in that one too if its warehouses had their turn
 pub record IsStopped (s : Sections) (sh : Shape) (tracers : ℕ) (p : Positions) : Type 0 where
   pub season : ℕ
   pub words : Words
@@ -49,7 +49,7 @@ abbrev pub FinalEnds : Result (Report × Words) PlayError → Sections → Shape
 FinalEnds (Ok r) s sh tracers = IsPlayed s sh tracers r.0 r.1
 FinalEnds (Err e) s sh tracers = StopsIn e s sh tracers
 
--- the same without the words
+-- how the heap of a play ended, where the caller gets the report without the words
 abbrev pub EndsIn : Result Report PlayError → Sections → Shape → ℕ → Type 0
 EndsIn (Ok r) s sh tracers = (w : Words) × IsPlayed s sh tracers r w
 EndsIn (Err e) s sh tracers = StopsIn e s sh tracers

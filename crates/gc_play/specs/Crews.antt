@@ -10,10 +10,12 @@ use Rattle.gc_table.specs.Seats.{Sits, IsFresh, IsOutside, view_of}
 use Rattle.gc_table.specs.declared.seat.Heap.{Heap}
 use Rattle.gc_table.specs.declared.seat.HeapSeat.{HeapSeat}
 use Rattle.gc_table.specs.declared.view.SectionState.{SectionState}
-use Rattle.play_end.specs.Done.{HasPlayed, HasStopped, HasSaid}
+use Rattle.play_end.specs.Done.{HasPlayed, HasStoppedInPart, HasSaid}
 use Rattle.play_end.specs.Ended.{CameTo}
 use Rattle.play_end.specs.declared.played.Played.{Played}
 use Rattle.play_end.specs.declared.played.Played.TheVariants as ends
+use Rattle.gc_cycle.specs.Standing.{IsOut}
+use Rattle.warehouse.specs.Turns.{KeepsPart}
 use Rattle.warehouse.specs.declared.mutator.Mutator.{Mutator}
 use Rattle.gc_play.specs.declared.crew.Catalogue.{Catalogue}
 use Rattle.gc_play.specs.declared.crew.Catalogue.TheVariants as seats
@@ -22,14 +24,14 @@ use Rattle.gc_play.specs.declared.season.Ended.{Ended}
 use Rattle.gc_play.specs.declared.season.Ended.TheVariants as plays
 use Rattle.gc_play.specs.declared.workers.Worker.{Worker}
 use Rattle.gc_play.specs.Dealing.{EachOne, IsDealt, StandsAt, HaltsAt, SomeAt}
-use Rattle.gc_play.specs.Standing.{IsSeated, IsTracer, PlayedTo, Rests}
+use Rattle.gc_play.specs.Standing.{IsSeated, IsTracerSeat, PlayedTo, Rests}
 
 -- each of these is what P says of its number, counted from n
 abbrev pub Numbered : {X : Type 0} → (ℕ → X → Type 0) → ℕ → List X → Type 0
 Numbered {X} P n xs = (i : ℕ) (d : X) → i < length xs → P (n + i) (slice_index_or xs i d)
 
 -- the seat of the heap with this number has done nothing
-pub record IsNew (h : Heap) (s : Sections) (n : ℕ) (x : HeapSeat) : Type 0 where
+pub record IsNewSeatOfPlay (h : Heap) (s : Sections) (n : ℕ) (x : HeapSeat) : Type 0 where
   pub sits : Sits h x
   pub fresh : IsFresh h.shape (plan_of s) n (view_of x)
   pub sections : h.shape.sections ≡ 1 + length s.warehouses
@@ -37,7 +39,7 @@ pub record IsNew (h : Heap) (s : Sections) (n : ℕ) (x : HeapSeat) : Type 0 whe
   pub objects : h.shape.objects ≡ 2000000
 
 -- a heap that was made for a script, with all its seats
-pub record IsMade (s : Sections) (h : Heap) (xs : List HeapSeat) : Type 0 where
+pub record IsMadeForScript (s : Sections) (h : Heap) (xs : List HeapSeat) : Type 0 where
   pub fields : h.shape.fields ≡ s.fields
   pub sections : h.shape.sections ≡ 1 + length s.warehouses
   pub enough : 1 + length s.warehouses ≤ length xs
@@ -46,6 +48,17 @@ pub record IsMade (s : Sections) (h : Heap) (xs : List HeapSeat) : Type 0 where
 abbrev pub seat_in : Catalogue → HeapSeat
 seat_in (seats.Playing m) = m.seat
 seat_in (seats.Absent x) = x
+
+-- the catalogue with this seat
+abbrev pub with_seat : Catalogue → HeapSeat → Catalogue
+with_seat (seats.Playing m) y = seats.Playing (record m { seat = y })
+with_seat (seats.Absent x) y = seats.Absent y
+
+-- a stop changed nothing of the catalogue but its seat, which is outside again, and left what the section has come to
+pub record LeavesCatalogue (h : Heap) (c d : Catalogue) : Type 0 where
+  pub kept : d ≡ with_seat c (seat_in d)
+  pub seat : Sits h (seat_in d) × IsOut (view_of (seat_in d))
+  pub keeps : KeepsPart (view_of (seat_in c)) (view_of (seat_in d))
 
 -- what section 0 came to
 abbrev pub own_of : Catalogue → SectionState
@@ -67,7 +80,7 @@ pub record CatalogueAt (h : Heap) (s : Sections) (z moved : ℕ) (c : Catalogue)
 pub record CatalogueStops (h : Heap) (s : Sections) (z : ℕ) (c : Catalogue) : Type 0 where
   pub seated : IsSeated h s 0 (seat_in c)
   pub at : ℕ
-  pub stopped : HasStopped s 0 z at (own_of c)
+  pub stopped : HasStoppedInPart s 0 z at (own_of c)
   pub full : KnowsFull (view_of (seat_in c))
 
 -- section 0 played its part z, and another stop found the heap full
@@ -91,13 +104,13 @@ CatalogueStarts ends.Done h s z c = CatalogueAt h s (z - 1) (2 * z - 2) c
 CatalogueStarts ends.Full h s z c = CatalogueStops h s z c
 
 -- how the last stop ends
-abbrev pub PlaySettles : Played → Heap → Sections → ℕ → Catalogue → Type 0
-PlaySettles ends.Done h s z c = CatalogueAt h s z (2 * z) c × IsTrue (own_of c).settled
-PlaySettles ends.Full h s z c = CatalogueWaits h s z c × KnowsFull (view_of (seat_in c))
+abbrev pub CatalogueSettles : Played → Heap → Sections → ℕ → Catalogue → Type 0
+CatalogueSettles ends.Done h s z c = CatalogueAt h s z (2 * z) c × IsTrue (own_of c).settled
+CatalogueSettles ends.Full h s z c = CatalogueWaits h s z c × KnowsFull (view_of (seat_in c))
 
 -- the tracers' seats come after those of the sections
 abbrev pub AreTracers : Heap → Sections → List HeapSeat → Type 0
-AreTracers h s xs = Numbered (IsTracer h) (1 + length s.warehouses) xs
+AreTracers h s xs = Numbered (IsTracerSeat h) (1 + length s.warehouses) xs
 
 -- the first stand in the others, after so many more
 abbrev pub AreAfter : ℕ → List HeapSeat → List HeapSeat → Type 0
@@ -127,7 +140,7 @@ pub record IsHaltedFirst (h : Heap) (s : Sections) (n z : ℕ) (c : Crew) : Type
   pub waiting : EachOne (StandsAt h s (z - 1)) c.workers.items
   pub tracers : AreTracers h s c.tracers.items
 
--- or the warehouses' turn, or a stop after a turn
+-- the warehouses' turn of season z, or a stop after a turn, found the heap full
 pub record IsHaltedLater (h : Heap) (s : Sections) (n z : ℕ) (c : Crew) : Type 0 where
   pub season : 0 < z
   pub catalogue : CatalogueWaits h s z c.catalogue
@@ -149,20 +162,20 @@ PlayEnds plays.First h s n z c = IsHaltedFirst h s n z c
 PlayEnds plays.Later h s n z c = IsHaltedLater h s n z c
 
 -- how the warehouses' turn of a season ends
-abbrev pub TurnEnds : Played → Heap → Sections → ℕ → List Worker → Type 0
-TurnEnds ends.Done h s z ws = EachOne (StandsAt h s z) ws × All (λ (x : Worker). x.full ≡ false) ws
-TurnEnds ends.Full h s z ws = EachOne (HaltsAt h s z) ws × SomeKnows ws
+abbrev pub SeasonTurnEnds : Played → Heap → Sections → ℕ → List Worker → Type 0
+SeasonTurnEnds ends.Done h s z ws = EachOne (StandsAt h s z) ws × All (λ (x : Worker). x.full ≡ false) ws
+SeasonTurnEnds ends.Full h s z ws = EachOne (HaltsAt h s z) ws × SomeKnows ws
 
 -- where a warehouse is at the end of a play
-abbrev pub EndsAt : Ended → Heap → Sections → ℕ → Mutator → Type 0
-EndsAt plays.Done h s z m = StandsAt h s z m
-EndsAt plays.First h s z m = StandsAt h s (z - 1) m
-EndsAt plays.Later h s z m = HaltsAt h s z m
+abbrev pub WarehouseEndsAt : Ended → Heap → Sections → ℕ → Mutator → Type 0
+WarehouseEndsAt plays.Done h s z m = StandsAt h s z m
+WarehouseEndsAt plays.First h s z m = StandsAt h s (z - 1) m
+WarehouseEndsAt plays.Later h s z m = HaltsAt h s z m
 
 -- what a section came to, where a play ended
 abbrev pub CameIn : Ended → Sections → ℕ → ℕ → SectionState → Type 0
 CameIn plays.Done s z w y = HasPlayed s w z y
-CameIn plays.First s z zero y = (k : ℕ) × HasStopped s 0 z k y
+CameIn plays.First s z zero y = (k : ℕ) × HasStoppedInPart s 0 z k y
 CameIn plays.First s z (suc w) y = HasPlayed s (suc w) (z - 1) y
 CameIn plays.Later s z zero y = HasPlayed s 0 z y
 CameIn plays.Later s z (suc w) y = CameTo s (suc w) z y
@@ -174,38 +187,38 @@ pub record IsLeftOf (r : Ended) (s : Sections) (z w : ℕ) (x : HeapSeat) : Type
   pub came : CameIn r s z w (view_of x).own
 
 -- the seat with this number, as a play left it
-pub record IsLeft (r : Ended) (h : Heap) (s : Sections) (z n : ℕ) (x : HeapSeat) : Type 0 where
+pub record IsSeatLeftBy (r : Ended) (h : Heap) (s : Sections) (z n : ℕ) (x : HeapSeat) : Type 0 where
   pub sits : Sits h x
   pub number : (view_of x).state.number ≡ n
   pub outside : IsOutside (view_of x)
   pub of_section : n ≤ length s.warehouses → IsLeftOf r s z n x
 
 -- what was printed, dropped and placed is that of section w, where all was played
-abbrev pub Says : Ended → Sections → ℕ → ℕ → HeapSeat → Part → Type 0
-Says plays.Done s z w x p = HasSaid s w (end_of s w z) (map printed_of p.said.items) p.dropped p.places.items (view_of x).own
-Says plays.First s z w x p = Unit {0}
-Says plays.Later s z w x p = Unit {0}
+abbrev pub SaysOfSection : Ended → Sections → ℕ → ℕ → HeapSeat → Part → Type 0
+SaysOfSection plays.Done s z w x p = HasSaid s w (end_of s w z) (map printed_of p.said.items) p.dropped p.places.items (view_of x).own
+SaysOfSection plays.First s z w x p = Unit {0}
+SaysOfSection plays.Later s z w x p = Unit {0}
 
 -- what section 0 had
 abbrev pub HandsOver : Catalogue → HeapSeat → List Said → List ℕ → ℕ → Type 0
 HandsOver (seats.Playing m) x said places dropped = (x ≡ m.seat) × (said ≡ m.said.items) × (places ≡ m.places.items) × (dropped ≡ m.dropped)
 HandsOver (seats.Absent y) x said places dropped = (x ≡ y) × (said ≡ []) × (places ≡ []) × (dropped ≡ 0)
 
--- so is each of these of its section, counted from n
+-- what was printed, dropped and placed is that of the sections from number n on, one after another, where all was played
 abbrev pub AreSaid : Ended → Sections → ℕ → ℕ → List HeapSeat → List Part → Type 0
-AreSaid r s z n xs ps = (i : ℕ) (d : HeapSeat) (p : Part) → i < length ps → Says r s z (n + i) (slice_index_or xs i d) (slice_index_or ps i p)
+AreSaid r s z n xs ps = (i : ℕ) (d : HeapSeat) (p : Part) → i < length ps → SaysOfSection r s z (n + i) (slice_index_or xs i d) (slice_index_or ps i p)
 
 -- some seat knows that the heap is full
 abbrev pub SomeSeatKnows : List HeapSeat → Type 0
 SomeSeatKnows xs = SomeAt (λ (x : HeapSeat). KnowsFull (view_of x)) xs
 
--- so it is where not all was played
+-- where not all was played, some seat knows that the heap is full
 abbrev pub KnowsEnd : Ended → List HeapSeat → Type 0
 KnowsEnd plays.Done xs = Unit {0}
 KnowsEnd plays.First xs = SomeSeatKnows xs
 KnowsEnd plays.Later xs = SomeSeatKnows xs
 
--- and where all was played, the catalogue's seat ended an exact cycle at last
+-- where all was played, the catalogue's seat ended an exact cycle at last
 abbrev pub SettlesEnd : Ended → List HeapSeat → Type 0
 SettlesEnd plays.Done xs = (d : HeapSeat) → IsTrue (view_of (slice_index_or xs 0 d)).own.settled
 SettlesEnd plays.First xs = Unit {0}

@@ -2,9 +2,8 @@
 use Rattle.std.specs.Prelude.{◌+◌, ◌≤◌, length, IsFalse}
 use Rattle.std.specs.List.{list_any}
 use Rattle.mark_core.specs.declared.kinds.Shape.{Shape}
-use Rattle.plain_heap.specs.Sections.{Sections, joined, parts_of, seasons}
+use Rattle.plain_heap.specs.Sections.{Sections, joined, parts_of, seasons, lends}
 use Rattle.play_contract.specs.declared.options.Options.{Options}
-use Rattle.mutator_ops.specs.Doing.{lends}
 
 -- the sections of a script that was read
 pub record IsPlayable (s : Sections) : Type 0 where

@@ -7,10 +7,10 @@ use Rattle.gc_table.specs.Rule.{KnowsFull}
 use Rattle.gc_table.specs.Seats.{Sits, IsOutside, view_of}
 use Rattle.gc_table.specs.declared.seat.Heap.{Heap}
 use Rattle.gc_table.specs.declared.seat.HeapSeat.{HeapSeat}
-use Rattle.play_end.specs.Done.{HasStopped}
+use Rattle.play_end.specs.Done.{HasStoppedInPart}
 use Rattle.play_end.specs.Parts.{IsAfterParts}
 use Rattle.warehouse.specs.declared.mutator.Mutator.{Mutator}
-use Rattle.warehouse.specs.Playing.{HasRoom, IsCounted, player_of}
+use Rattle.warehouse.specs.Playing.{HasRoomForCommands, ObjectsHaveCells, player_of}
 
 -- the heap's seat, outside the world, its stop and its help, with nothing in hand
 pub record Rests (h : Heap) (s : HeapSeat) : Type 0 where
@@ -27,7 +27,7 @@ pub record IsSeated (h : Heap) (s : Sections) (w : ℕ) (x : HeapSeat) : Type 0 
   pub fields : (view_of x).shape.fields ≡ s.fields
 
 -- a seat without a section, at rest
-pub record IsTracer (h : Heap) (k : ℕ) (x : HeapSeat) : Type 0 where
+pub record IsTracerSeat (h : Heap) (k : ℕ) (x : HeapSeat) : Type 0 where
   pub rests : Rests h x
   pub number : (view_of x).state.number ≡ k
   pub section : (view_of x).state.section ≡ None
@@ -36,12 +36,12 @@ pub record IsTracer (h : Heap) (k : ℕ) (x : HeapSeat) : Type 0 where
 pub record PlayedTo (h : Heap) (s : Sections) (w z : ℕ) (m : Mutator) : Type 0 where
   pub seated : IsSeated h s w m.seat
   pub after : IsAfterParts s w z (player_of m)
-  pub counted : IsCounted (view_of m.seat)
-  pub room : HasRoom (joined (drop z (parts_of s w))) m
+  pub counted : ObjectsHaveCells (view_of m.seat)
+  pub room : HasRoomForCommands (joined (drop z (parts_of s w))) m
 
 -- section w stopped within part z, since the heap is full
 pub record StoppedIn (h : Heap) (s : Sections) (w z : ℕ) (m : Mutator) : Type 0 where
   pub seated : IsSeated h s w m.seat
   pub at : ℕ
-  pub stopped : HasStopped s w z at (view_of m.seat).own
+  pub stopped : HasStoppedInPart s w z at (view_of m.seat).own
   pub full : KnowsFull (view_of m.seat)

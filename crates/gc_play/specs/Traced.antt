@@ -11,19 +11,19 @@ use Rattle.gc_table.specs.declared.seat.Heap.{Heap}
 use Rattle.gc_table.specs.declared.seat.HeapSeat.{HeapSeat}
 use Rattle.gc_play.specs.declared.season.Ended.{Ended}
 use Rattle.gc_play.specs.declared.season.Ended.TheVariants as plays
-use Rattle.gc_play.specs.Stays.{IsKept}
-use Rattle.gc_play.specs.Turns.{HasTraced, state_after}
+use Rattle.gc_play.specs.Stays.{RestsUnchanged}
+use Rattle.gc_play.specs.Turns.{HasTakenTurns, record_after}
 
 -- how many parts were played at the end of season z: one a section and season
 abbrev pub parts_by : Sections → ℕ → ℕ
 parts_by s z = z * (1 + length s.warehouses)
 
--- the same seat, at rest, after it traced until so many parts were played or the heap was full
+-- y is the seat x after a run of a tracer's turns, at rest; the run ended when so many parts were played, or the heap was full
 pub record TracedUntil (h : Heap) (until : ℕ) (x y : HeapSeat) : Type 0 where
-  pub kept : IsKept h x y
-  pub traced : HasTraced h.shape until (view_of x).state (events (view_of x) (view_of y))
+  pub kept : RestsUnchanged h x y
+  pub traced : HasTakenTurns h.shape until (view_of x).state (events (view_of x) (view_of y))
 
--- so did each of these
+-- each of these seats traced until so many parts were played, or the heap was full
 pub record AllTracedUntil (h : Heap) (until : ℕ) (xs ys : List HeapSeat) : Type 0 where
   pub count : length ys ≡ length xs
   pub each : (i : ℕ) (d : HeapSeat) → i < length xs → TracedUntil h until (slice_index_or xs i d) (slice_index_or ys i d)
@@ -43,7 +43,7 @@ SeasonsTraced h s (suc z) xs ys = (zs : List HeapSeat) × SeasonsTraced h s z xs
 abbrev pub TracedSeasons : Shape → Sections → ℕ → SeatState → List Entry → Type 0
 TracedSeasons sh s zero t es = es ≡ []
 TracedSeasons sh s (suc z) t es =
-    (before : List Entry) × (season : List Entry) × (es ≡ before ++ season) × TracedSeasons sh s z t before × HasTraced sh (parts_by s (suc z)) (state_after sh t before) season
+    (before : List Entry) × (season : List Entry) × (es ≡ before ++ season) × TracedSeasons sh s z t before × HasTakenTurns sh (parts_by s (suc z)) (record_after sh t before) season
 
 -- beside the seats of the sections there are so many of tracers, and each traced so from the start of the heap on
 pub record TracersRan (s : Sections) (sh : Shape) (tracers z : ℕ) (seats : List HeapSeat) : Type 0 where
@@ -56,7 +56,7 @@ PlayTraced plays.Done h s z xs ys = SeasonsTraced h s z xs ys
 PlayTraced plays.First h s z xs ys = SeasonsTraced h s (z - 1) xs ys
 PlayTraced plays.Later h s z xs ys = SeasonsTraced h s (z - 1) xs ys ⊎ SeasonsTraced h s z xs ys
 
--- so they did, by the seats at the end of a play
+-- what the tracers did in a play that ended in season z, told by the logs of the seats at its end
 abbrev pub EndTraced : Ended → Sections → Shape → ℕ → ℕ → List HeapSeat → Type 0
 EndTraced plays.Done s sh tracers z seats = TracersRan s sh tracers z seats
 EndTraced plays.First s sh tracers z seats = TracersRan s sh tracers (z - 1) seats

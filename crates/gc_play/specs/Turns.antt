@@ -10,8 +10,8 @@ use Rattle.mark_core.specs.declared.kinds.Shape.{Shape}
 use Rattle.mark_core.specs.declared.kinds.Step.{Step}
 use Rattle.mark_core.specs.declared.kinds.Step.TheVariants.{ReadPhase, EnterStep, LeaveStep, AddStat, ReadStat}
 use Rattle.mark_core.specs.declared.seat.SeatState.{SeatState}
-use Rattle.gc_table.specs.Taking.{won}
 use Rattle.gc_table.specs.declared.view.Entry.{Entry}
+use Rattle.gc_table.specs.Entries.{event}
 use Rattle.packet_pools.specs.Counts.{count_of}
 use Rattle.packet_pools.specs.Seeking.{some_event}
 use Rattle.tracer.specs.Moments.{at_some_moment, finds_no_work}
@@ -20,23 +20,19 @@ use Rattle.gc_cycle.specs.Events.{never}
 use Rattle.gc_cycle.specs.Sorts.{enters, enters_freely, looks_at_phase}
 use Rattle.gc_cycle.specs.Sorts.{reads_phase as sees_phase}
 
--- the event of a step that found this word
-abbrev pub entry : Step → ℕ → Entry
-entry step n = record { step = step; found = n; won = won step n }
-
 -- a read of the number of parts that were played
-abbrev pub reads_done : Step → Bool
-reads_done (ReadStat which) = which == done_count
-reads_done step = false
+abbrev pub is_read_of_done : Step → Bool
+is_read_of_done (ReadStat which) = which == done_count
+is_read_of_done step = false
 
 -- any other step
 abbrev pub leaves_done : Step → Bool
-leaves_done step = not (reads_done step)
+leaves_done step = not (is_read_of_done step)
 
 -- the record after these events
-abbrev pub state_after : Shape → SeatState → List Entry → SeatState
-state_after sh s [] = s
-state_after sh s (e ∷ es) = state_after sh (seat_after sh s e.step e.found) es
+abbrev pub record_after : Shape → SeatState → List Entry → SeatState
+record_after sh s [] = s
+record_after sh s (e ∷ es) = record_after sh (seat_after sh s e.step e.found) es
 
 -- a read of that number, the seat's record then, and what came after it
 pub record Turn : Type 0 where
@@ -47,14 +43,14 @@ pub record Turn : Type 0 where
 -- the events before the first such read
 abbrev pub lead : List Entry → List Entry
 lead [] = []
-lead (e ∷ es) = if reads_done e.step then [] else e ∷ lead es
+lead (e ∷ es) = if is_read_of_done e.step then [] else e ∷ lead es
 
 -- all such reads, of a seat with this record
 abbrev pub turns_of : Shape → SeatState → List Entry → List Turn
 turns_of sh s [] = []
 turns_of sh s (e ∷ es) =
     let t = seat_after sh s e.step e.found in
-    if reads_done e.step then record { found = e.found; state = t; rest = lead es } ∷ turns_of sh t es else turns_of sh t es
+    if is_read_of_done e.step then record { found = e.found; state = t; rest = lead es } ∷ turns_of sh t es else turns_of sh t es
 
 -- the seat tries to enter
 abbrev pub tries_enter : Step → Bool
@@ -62,14 +58,14 @@ tries_enter EnterStep = true
 tries_enter step = false
 
 -- a read of the phase
-abbrev pub reads_phase : Step → Bool
-reads_phase ReadPhase = true
-reads_phase step = false
+abbrev pub is_read_of_phase : Step → Bool
+is_read_of_phase ReadPhase = true
+is_read_of_phase step = false
 
 -- the first phase that is read is Full
 abbrev pub sees_full : List Entry → Bool
 sees_full [] = false
-sees_full (e ∷ es) = if reads_phase e.step then saw (Some (phase_of e.found)) Full else sees_full es
+sees_full (e ∷ es) = if is_read_of_phase e.step then saw (Some (phase_of e.found)) Full else sees_full es
 
 -- the seat tries to enter, finds no flag, and then reads the phase as Full
 abbrev pub enters_full : List Entry → Bool
@@ -80,71 +76,74 @@ enters_full (e ∷ es) = if tries_enter e.step then not (has_flag e.found) && se
 abbrev pub is_last : ℕ → Turn → Bool
 is_last until t = nat_le until t.found || enters_full t.rest
 
-abbrev pub leaves : Step → Bool
-leaves LeaveStep = true
-leaves step = false
+-- the seat leaves
+abbrev pub is_leave : Step → Bool
+is_leave LeaveStep = true
+is_leave step = false
 
 -- the events before the seat leaves
-abbrev pub inside : List Entry → List Entry
-inside [] = []
-inside (e ∷ es) = if leaves e.step then [] else e ∷ inside es
+abbrev pub until_leave : List Entry → List Entry
+until_leave [] = []
+until_leave (e ∷ es) = if is_leave e.step then [] else e ∷ until_leave es
 
 -- a cell was popped, or nothing was left in hand and there was no packet to read from
-abbrev pub traces_on : Shape → SeatState → List Entry → Bool
-traces_on sh s es = some_event pops es || at_some_moment sh (finds_no_work sh) (record { state = s; deferring = [] }) es
+abbrev pub seat_traces_on : Shape → SeatState → List Entry → Bool
+seat_traces_on sh s es = some_event pops es || at_some_moment sh (finds_no_work sh) (record { state = s; deferring = [] }) es
 
 -- each time that the phase was read as Marking, it traced from there on
-abbrev pub traces_where_marking : Shape → SeatState → List Entry → Bool
-traces_where_marking sh s [] = true
-traces_where_marking sh s (e ∷ es) =
-    let t = seat_after sh s e.step e.found in (not (sees_phase Marking e.step e.found) || traces_on sh t es) && traces_where_marking sh t es
+abbrev pub seat_traces_where_marking : Shape → SeatState → List Entry → Bool
+seat_traces_where_marking sh s [] = true
+seat_traces_where_marking sh s (e ∷ es) =
+    let t = seat_after sh s e.step e.found in (not (sees_phase Marking e.step e.found) || seat_traces_on sh t es) && seat_traces_where_marking sh t es
 
 -- what the seat does from where it entered to where it leaves: it reads the phase, and in Marking it traces
 abbrev pub visits : Shape → SeatState → List Entry → Bool
-visits sh s es = some_event looks_at_phase es && traces_where_marking sh s es
+visits sh s es = some_event looks_at_phase es && seat_traces_where_marking sh s es
 
--- so it does each time that it enters while no stop is under way
+-- each time that the seat enters while no stop is under way, it reads the phase before it leaves, and in Marking it traces
 abbrev pub each_visit : Shape → SeatState → List Entry → Bool
 each_visit sh s [] = true
 each_visit sh s (e ∷ es) =
-    let t = seat_after sh s e.step e.found in (not (enters_freely e.step e.found) || visits sh t (inside es)) && each_visit sh t es
+    let t = seat_after sh s e.step e.found in (not (enters_freely e.step e.found) || visits sh t (until_leave es)) && each_visit sh t es
 
 -- a number of the cycle that was changed, by how much, and whether it was lowered
 abbrev pub Change : Type 0
 Change = ℕ × ℕ × Bool
 
-abbrev pub changed : Step → List Change
-changed (AddStat which by down) = (which, by, down) ∷ []
-changed step = []
+-- the change that a step makes to a number of the cycle, if it makes one
+abbrev pub change_of_number : Step → List Change
+change_of_number (AddStat which by down) = (which, by, down) ∷ []
+change_of_number step = []
 
 -- all such changes
-abbrev pub changes : List Entry → List Change
-changes [] = []
-changes (e ∷ es) = changed e.step ++ changes es
+abbrev pub changes_of_numbers : List Entry → List Change
+changes_of_numbers [] = []
+changes_of_numbers (e ∷ es) = change_of_number e.step ++ changes_of_numbers es
 
 -- the number of traced cells is raised by so many
 abbrev pub payment : ℕ → List Change
 payment n = if n == 0 then [] else (traced_count, n, false) ∷ []
 
 -- what was popped was told by one step, and no other number was changed
-abbrev pub Pays : List Entry → Type 0
-Pays es = changes es ≡ payment (count_of pops es)
+abbrev pub PaysForPops : List Entry → Type 0
+PaysForPops es = changes_of_numbers es ≡ payment (count_of pops es)
 
--- so it is each time that the seat enters while no stop is under way, up to where it leaves
+-- each time that the seat enters while no stop is under way, what it pops before it leaves is told by one step, and no other number is changed
 abbrev pub EachPays : List Entry → Type 0
 EachPays [] = Unit {0}
-EachPays (e ∷ es) = (IsTrue (enters_freely e.step e.found) → Pays (inside es)) × EachPays es
+EachPays (e ∷ es) = (IsTrue (enters_freely e.step e.found) → PaysForPops (until_leave es)) × EachPays es
 
 -- what a turn does, and whether it is the last: while parts are left to play the seat tries to enter
-pub record IsTurn (sh : Shape) (until : ℕ) (last : Bool) (t : Turn) : Type 0 where
+pub record IsTracerTurn (sh : Shape) (until : ℕ) (last : Bool) (t : Turn) : Type 0 where
   pub tries : t.found < until → IsTrue (some_event enters t.rest)
   pub traces : IsTrue (each_visit sh t.state t.rest)
   pub pays : EachPays t.rest
   pub ends : last ≡ is_last until t
 
+-- turn t is the last where no turn follows; else it is not, and the rest holds
 abbrev pub then_turns : Shape → ℕ → Turn → List Turn → Type 0 → Type 0
-then_turns sh until t [] rest = IsTurn sh until true t
-then_turns sh until t (u ∷ us) rest = IsTurn sh until false t × rest
+then_turns sh until t [] rest = IsTracerTurn sh until true t
+then_turns sh until t (u ∷ us) rest = IsTracerTurn sh until false t × rest
 
 -- turns, of which the last in the list is the last, and no other
 abbrev pub AreTurns : Shape → ℕ → List Turn → Type 0
@@ -152,55 +151,55 @@ AreTurns sh until [] = ⊥
 AreTurns sh until (t ∷ ts) = then_turns sh until t ts (AreTurns sh until ts)
 
 -- a tracer, with this record at first, ran until it read that so many parts were played, or that the heap was full, and no longer
-pub record HasTraced (sh : Shape) (until : ℕ) (s : SeatState) (es : List Entry) : Type 0 where
+pub record HasTakenTurns (sh : Shape) (until : ℕ) (s : SeatState) (es : List Entry) : Type 0 where
   pub first : lead es ≡ []
   pub turns : AreTurns sh until (turns_of sh s es)
 
 -- turns, none of them the last
 abbrev pub AllTurns : Shape → ℕ → List Turn → Type 0
 AllTurns sh until [] = Unit {0}
-AllTurns sh until (t ∷ ts) = IsTurn sh until false t × AllTurns sh until ts
+AllTurns sh until (t ∷ ts) = IsTracerTurn sh until false t × AllTurns sh until ts
 
 -- no read of the number of parts
-abbrev pub IsQuiet : List Entry → Type 0
-IsQuiet es = lead es ≡ es
+abbrev pub ReadsNoParts : List Entry → Type 0
+ReadsNoParts es = lead es ≡ es
 
--- nor did the seat try to enter
-pub record Waits (es : List Entry) : Type 0 where
-  pub quiet : IsQuiet es
+-- the seat read no number of parts, and did not try to enter
+pub record WaitsOutside (es : List Entry) : Type 0 where
+  pub quiet : ReadsNoParts es
   pub outside : IsTrue (never enters es)
 
--- one step
+-- the events are one step of this sort
 abbrev pub IsOne : Step → List Entry → Type 0
-IsOne step es = (n : ℕ) × (es ≡ entry step n ∷ [])
+IsOne step es = (n : ℕ) × (es ≡ event step n ∷ [])
 
 -- the phase was read
 abbrev pub SeesPhase : Phase → List Entry → Type 0
-SeesPhase p es = (n : ℕ) × (p ≡ phase_of n) × (es ≡ entry ReadPhase n ∷ [])
+SeesPhase p es = (n : ℕ) × (p ≡ phase_of n) × (es ≡ event ReadPhase n ∷ [])
 
 -- the seat found no flag, and entered; or it found one, and left
-abbrev pub Enters : Bool → List Entry → Type 0
-Enters true es = (n : ℕ) × IsFalse (has_flag n) × (es ≡ entry EnterStep n ∷ [])
-Enters false es = (n : ℕ) × (m : ℕ) × IsTrue (has_flag n) × (es ≡ entry EnterStep n ∷ entry LeaveStep m ∷ [])
+abbrev pub EntersOrLeaves : Bool → List Entry → Type 0
+EntersOrLeaves true es = (n : ℕ) × IsFalse (has_flag n) × (es ≡ event EnterStep n ∷ [])
+EntersOrLeaves false es = (n : ℕ) × (m : ℕ) × IsTrue (has_flag n) × (es ≡ event EnterStep n ∷ event LeaveStep m ∷ [])
 
 -- one turn of a seat with this record, and whether it is the last
 pub record IsOneTurn (sh : Shape) (until : ℕ) (last : Bool) (s : SeatState) (es : List Entry) : Type 0 where
   pub turn : Turn
   pub first : lead es ≡ []
   pub only : turns_of sh s es ≡ turn ∷ []
-  pub is : IsTurn sh until last turn
+  pub is : IsTracerTurn sh until last turn
 
 -- what a seat with this record does inside after it saw that marking is under way: it neither leaves, enters nor reads the phase
 pub record TracesInside (sh : Shape) (s : SeatState) (es : List Entry) : Type 0 where
-  pub traces : IsTrue (traces_on sh s es)
-  pub pays : Pays es
-  pub stays_in : inside es ≡ es
+  pub traces : IsTrue (seat_traces_on sh s es)
+  pub pays : PaysForPops es
+  pub stays_in : until_leave es ≡ es
   pub blind : IsTrue (never looks_at_phase es)
-  pub waits : Waits es
+  pub waits : WaitsOutside es
 
 -- what a seat that entered does up to where it leaves, and whether it saw that the heap is full
-pub record IsRound (sh : Shape) (full : Bool) (s : SeatState) (es : List Entry) : Type 0 where
-  pub sees : IsTrue (visits sh s (inside es))
-  pub pays : Pays (inside es)
-  pub waits : Waits es
+pub record IsVisit (sh : Shape) (full : Bool) (s : SeatState) (es : List Entry) : Type 0 where
+  pub sees : IsTrue (visits sh s (until_leave es))
+  pub pays : PaysForPops (until_leave es)
+  pub waits : WaitsOutside es
   pub ends : full ≡ sees_full es

@@ -1,6 +1,6 @@
 //! All seats of a play, dealt out at the start.
 ghost use Rattle.std.specs.Prelude.{◌≡◌, ◌+◌, ◌<◌, ◌≤◌, [], All, false, IfOk, OnOk, length, vec_len};
-ghost use Rattle.gc_play.specs.Crews.{CatalogueAt, IsCrew, IsNew, Numbered};
+ghost use Rattle.gc_play.specs.Crews.{CatalogueAt, IsCrew, IsNewSeatOfPlay, Numbered};
 ghost use Rattle.gc_play.specs.Dealing.{EachOne, IsDealt, StandsAt};
 
 use crate::workers::Worker;
@@ -31,7 +31,7 @@ fn make_catalogue<'a>(
     script: &Script<'a>,
     seat: HeapSeat,
 ) -> Result<Catalogue<'a>, OutOfMemory>
-    requires { IsNew _heap.now script.now.sections 0 seat }
+    requires { IsNewSeatOfPlay _heap.now script.now.sections 0 seat }
     ensures { IfOk result (CatalogueAt _heap.now script.now.sections 0 0) }
 {
     match script.catalogue() {
@@ -72,7 +72,7 @@ fn deal_one<'a>(
 ) -> Result<(), OutOfMemory>
     requires some { 0 < vec_len workers.old }
     requires at { at < length script.now.sections.warehouses }
-    requires seat { IsNew _heap.now script.now.sections (at + 1) seat }
+    requires seat { IsNewSeatOfPlay _heap.now script.now.sections (at + 1) seat }
     requires dealt { IsDealt (vec_len workers.old) at workers.old.items }
     requires played { EachOne (StandsAt _heap.now script.now.sections 0) workers.old.items }
     requires going { All (λ x. x.full ≡ false) workers.old.items }
@@ -102,12 +102,12 @@ fn deal<'a>(
     requires dealt { IsDealt (vec_len workers.old) 0 workers.old.items }
     requires played { EachOne (StandsAt heap.now script.now.sections 0) workers.old.items }
     requires going { All (λ x. x.full ≡ false) workers.old.items }
-    requires seats { Numbered (IsNew heap.now script.now.sections) 1 seats.old.items }
+    requires seats { Numbered (IsNewSeatOfPlay heap.now script.now.sections) 1 seats.old.items }
     requires enough { length script.now.sections.warehouses ≤ vec_len seats.old }
     ensures dealt { OnOk result (IsDealt (vec_len workers.old) (length script.now.sections.warehouses) workers.new.items) }
     ensures played { OnOk result (EachOne (StandsAt heap.now script.now.sections 0) workers.new.items) }
     ensures going { OnOk result (All (λ x. x.full ≡ false) workers.new.items) }
-    ensures seats { OnOk result (Numbered (IsNew heap.now script.now.sections) (1 + length script.now.sections.warehouses) seats.new.items) }
+    ensures seats { OnOk result (Numbered (IsNewSeatOfPlay heap.now script.now.sections) (1 + length script.now.sections.warehouses) seats.new.items) }
     ensures rest { OnOk result (vec_len seats.new + length script.now.sections.warehouses ≡ vec_len seats.old) }
 {
     for at in 0..script.warehouses().len() {
@@ -129,11 +129,11 @@ pub(crate) fn muster<'a>(
     mut seats: Vec<HeapSeat>,
 ) -> Result<Crew<'a>, OutOfMemory>
     requires some { 1 ≤ workers }
-    requires seats { Numbered (IsNew heap.now script.now.sections) 0 seats.items }
+    requires seats { Numbered (IsNewSeatOfPlay heap.now script.now.sections) 0 seats.items }
     requires enough { 1 + length script.now.sections.warehouses ≤ vec_len seats }
     ensures crew { IfOk result (IsCrew heap.now script.now.sections workers 0 0) }
     ensures tracers { IfOk result (λ c. vec_len c.tracers + (1 + length script.now.sections.warehouses) ≡ vec_len seats) }
-    ensures new { IfOk result (λ c. Numbered (IsNew heap.now script.now.sections) (1 + length script.now.sections.warehouses) c.tracers.items) }
+    ensures new { IfOk result (λ c. Numbered (IsNewSeatOfPlay heap.now script.now.sections) (1 + length script.now.sections.warehouses) c.tracers.items) }
 {
     let catalogue = match make_catalogue(alloc, heap, script, seats.remove(0)) {
         Ok(catalogue) => catalogue,

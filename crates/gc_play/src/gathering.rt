@@ -1,9 +1,7 @@
 //! All seats of a play, gathered at the end, with what each section's player had.
-ghost use Rattle.std.specs.Prelude.{◌≡◌, ◌+◌, ◌<◌, ◌≤◌, ◌⊎◌, [], ◌∷◌, IfOk, OnOk, length, vec_len};
-ghost use Rattle.gc_table.specs.Rule.{KnowsFull};
-ghost use Rattle.gc_table.specs.Seats.{view_of};
-ghost use Rattle.gc_play.specs.Crews.{AreAfter, AreSaid, AreTracers, EndsAt, HandsOver, IsLeft, KnowsEnd, Numbered, PlayEnds, SettlesEnd, SomeKnows, SomeSeatKnows};
-ghost use Rattle.gc_play.specs.Dealing.{EachOne, IsDealt, number_of};
+ghost use Rattle.std.specs.Prelude.{◌≡◌, ◌+◌, ◌%◌, ◌<◌, ◌≤◌, [], ◌∷◌, IfOk, OnOk, length, vec_len};
+ghost use Rattle.gc_play.specs.Crews.{AreAfter, AreSaid, AreTracers, WarehouseEndsAt, HandsOver, IsSeatLeftBy, KnowsEnd, Numbered, PlayEnds, SettlesEnd, SomeKnows, SomeSeatKnows};
+ghost use Rattle.gc_play.specs.Dealing.{EachOne, IsDealt, TakesLast, seat_number};
 
 use crate::crew::{Catalogue, Crew};
 use crate::season::Ended;
@@ -16,22 +14,12 @@ use std::alloc::Global;
 use warehouse::Mutator;
 
 /// Takes the last warehouse of those that are left from its worker.
-fn take_back<'a>(
-    _heap: &Heap,
-    _script: &Script<'a>,
-    workers: &mut Vec<Worker<'a>>,
-    at: usize,
-    _ended: Ended,
-    _season: u32,
-) -> Mutator<'a>
+fn take_back<'a>(workers: &mut Vec<Worker<'a>>, at: usize) -> Mutator<'a>
     requires some { 0 < vec_len workers.old }
     requires dealt { IsDealt (vec_len workers.old) (at + 1) workers.old.items }
-    requires ends { EachOne (EndsAt _ended _heap.now _script.now.sections _season) workers.old.items }
     ensures dealt { IsDealt (vec_len workers.old) at workers.new.items }
-    ensures ends { EachOne (EndsAt _ended _heap.now _script.now.sections _season) workers.new.items }
-    ensures number { number_of result ≡ at + 1 }
-    ensures one { EndsAt _ended _heap.now _script.now.sections _season result }
-    ensures knows { SomeKnows workers.old.items → SomeKnows workers.new.items ⊎ KnowsFull (view_of result.seat) }
+    ensures number { seat_number result ≡ at + 1 }
+    ensures takes { TakesLast (at % vec_len workers.old) result workers.old.items workers.new.items }
 {
     let turn = at % workers.len();
     let Some(mutator) = workers[turn].mutators.pop() else {
@@ -81,11 +69,11 @@ pub(crate) fn gather<'a>(
 ) -> Result<(), OutOfMemory>
     requires some { 0 < vec_len workers.old }
     requires dealt { IsDealt (vec_len workers.old) (length script.now.sections.warehouses) workers.old.items }
-    requires ends { EachOne (EndsAt ended heap.now script.now.sections season) workers.old.items }
+    requires ends { EachOne (WarehouseEndsAt ended heap.now script.now.sections season) workers.old.items }
     requires season { 1 ≤ season }
     requires seats { AreTracers heap.now script.now.sections seats.old.items }
     requires parts { parts.old.items ≡ [] }
-    ensures seats { OnOk result (Numbered (IsLeft ended heap.now script.now.sections season) 1 seats.new.items) }
+    ensures seats { OnOk result (Numbered (IsSeatLeftBy ended heap.now script.now.sections season) 1 seats.new.items) }
     ensures count { OnOk result (vec_len seats.new ≡ vec_len seats.old + length script.now.sections.warehouses) }
     ensures tracers { OnOk result (AreAfter (length script.now.sections.warehouses) seats.old.items seats.new.items) }
     ensures parts { OnOk result (length parts.new.items ≡ length script.now.sections.warehouses) }
@@ -95,7 +83,7 @@ pub(crate) fn gather<'a>(
     let warehouses = script.warehouses().len();
     for taken in 0..warehouses {
         let at = warehouses - 1 - taken;
-        let mutator = take_back(heap, script, workers, at, ended, season);
+        let mutator = take_back(workers, at);
         let (seat, said, places, dropped) = mutator.finish();
         match hand_over(seats, parts, seat, said, places, dropped) {
             Ok(()) => {}
@@ -133,7 +121,7 @@ pub(crate) fn put_away<'a>(
     requires season { 1 ≤ season }
     requires crew { PlayEnds ended heap.now script.now.sections _workers season crew }
     requires parts { parts.items ≡ [] }
-    ensures left { IfOk result (λ r. Numbered (IsLeft ended heap.now script.now.sections season) 0 r.0.items) }
+    ensures left { IfOk result (λ r. Numbered (IsSeatLeftBy ended heap.now script.now.sections season) 0 r.0.items) }
     ensures count { IfOk result (λ r. vec_len r.0 ≡ vec_len crew.entry.tracers + (1 + length script.now.sections.warehouses)) }
     ensures parts { IfOk result (λ r. length r.1.items ≡ 1 + length script.now.sections.warehouses) }
     ensures said { IfOk result (λ r. AreSaid ended script.now.sections season 0 r.0.items r.1.items) }

@@ -26,7 +26,7 @@
 //! The season word is moved on by the catalogue's seat alone, 2z - 1 times up to the warehouses' turn of season z; its view
 //! counts them, and so an even number at the end tells that no section plays any more.
 //!
-//! # What is where
+//! # Where things are
 //!
 //! - `workers`: the warehouses, dealt out among the threads that play them, and one season of them.
 //! - `tracers`: the seats that trace beside them, turn by turn; `specs/Turns.antt` says by their events what a turn does and

@@ -1,8 +1,7 @@
 //! The limits of a script that was read, by which its play is one that may be played.
 ghost use Rattle.std.specs.Prelude.{◌≤◌, length, IsFalse};
 ghost use Rattle.std.specs.List.{list_any};
-ghost use Rattle.plain_heap.specs.Sections.{joined, parts_of};
-ghost use Rattle.mutator_ops.specs.Doing.{lends};
+ghost use Rattle.plain_heap.specs.Sections.{joined, parts_of, lends};
 ghost use Rattle.gc_play.specs.Options.{IsPlayable};
 
 use gc_script::Script;

@@ -5,8 +5,8 @@ ghost use Rattle.std.specs.Prelude.{false};
 ghost use Rattle.mark_core.specs.Numbers.{traced_count};
 ghost use Rattle.mark_core.specs.declared.kinds.Step.TheVariants.{AddStat};
 ghost use Rattle.gc_table.specs.Seats.{Across, did, state_of};
-ghost use Rattle.seat_turns.specs.Standing.{Goes, Marks};
-ghost use Rattle.gc_play.specs.Stays.{Stays};
+ghost use Rattle.seat_turns.specs.Standing.{Goes, GoesMarking};
+ghost use Rattle.gc_play.specs.Stays.{SeatStays};
 ghost use Rattle.gc_play.specs.Turns.{IsOne, TracesInside};
 
 use gc_table::{Heap, HeapSeat};
@@ -17,7 +17,7 @@ use seat_turns::mark_some;
 fn count_traced(heap: &Heap, seat: &mut HeapSeat, by: u32)
     requires { Goes heap.now seat.old }
     ensures seat { Goes heap.now seat.new }
-    ensures stays { Across Stays seat.old seat.new }
+    ensures stays { Across SeatStays seat.old seat.new }
     ensures events { IsOne (AddStat traced_count by false) (did seat.old seat.new) }
 {
     heap.add_stat(seat, TRACED, by, false);
@@ -25,9 +25,9 @@ fn count_traced(heap: &Heap, seat: &mut HeapSeat, by: u32)
 
 /// What a tracer does in a turn. What it traced it adds to the number of traced objects, by one step.
 pub(crate) fn trace_inside(heap: &Heap, seat: &mut HeapSeat)
-    requires { Marks heap.now seat.old }
+    requires { GoesMarking heap.now seat.old }
     ensures seat { Goes heap.now seat.new }
-    ensures stays { Across Stays seat.old seat.new }
+    ensures stays { Across SeatStays seat.old seat.new }
     ensures traces { TracesInside heap.now.shape (state_of seat.old) (did seat.old seat.new) }
 {
     let traced = mark_some(heap, seat);

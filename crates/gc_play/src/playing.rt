@@ -4,7 +4,7 @@ ghost use Rattle.plain_heap.specs.Sections.{seasons};
 ghost use Rattle.mark_core.specs.Shapes.{IsShape};
 ghost use Rattle.play_contract.specs.Playing.{AreInRange, PlayAnswers};
 ghost use Rattle.gc_play.specs.declared.season.Ended.TheVariants as ends;
-ghost use Rattle.gc_play.specs.Crews.{IsCrew, IsLeft, IsMade, IsNew, Numbered, PlayEnds, AreSaid, KnowsEnd, SettlesEnd};
+ghost use Rattle.gc_play.specs.Crews.{IsCrew, IsSeatLeftBy, IsMadeForScript, IsNewSeatOfPlay, Numbered, PlayEnds, AreSaid, KnowsEnd, SettlesEnd};
 ghost use Rattle.gc_play.specs.Answers.{EndsIn, FinalAnswers, FinalEnds};
 ghost use Rattle.gc_play.specs.Options.{IsPlayable, shape_for};
 ghost use Rattle.gc_play.specs.Traced.{EndTraced, PlayTraced};
@@ -61,7 +61,7 @@ fn make_heap(
     requires script { IsPlayable script.now.sections }
     ensures shape { IfOk result (λ r. r.0.shape ≡ shape_for options.now script.now.sections) }
     ensures count { IfOk result (λ r. vec_len r.1 ≡ 1 + length script.now.sections.warehouses + options.now.tracers) }
-    ensures seats { IfOk result (λ r. Numbered (IsNew r.0 script.now.sections) 0 r.1.items) }
+    ensures seats { IfOk result (λ r. Numbered (IsNewSeatOfPlay r.0 script.now.sections) 0 r.1.items) }
 {
     let shape = shape_of(script, options);
     match Heap::create(alloc, shape, shape.sections + options.tracers, script) {
@@ -106,7 +106,7 @@ fn play_seasons<'a, R: Threads + Wait + Sync, G: Gate + Sync>(
             ended => return (ended, season),
         }
     }
-    match settle(rt, heap, script, &mut crew.catalogue, all) {
+    match settle(rt, heap, &mut crew.catalogue) {
         Played::Done => (Ended::Done, all),
         Played::Full => (Ended::Later, all),
     }
@@ -123,10 +123,10 @@ fn close<'a>(
     _season: u32,
     _tracers: u32,
 ) -> Result<(Report<'a>, Words), PlayError>
-    requires made { IsMade script.now.sections heap seats.items }
+    requires made { IsMadeForScript script.now.sections heap seats.items }
     requires season { 1 ≤ _season }
     requires all { ended ≡ ends.Done → _season ≡ seasons script.now.sections }
-    requires left { Numbered (IsLeft ended heap script.now.sections _season) 0 seats.items }
+    requires left { Numbered (IsSeatLeftBy ended heap script.now.sections _season) 0 seats.items }
     requires parts { length parts.items ≡ 1 + length script.now.sections.warehouses }
     requires said { AreSaid ended script.now.sections _season 0 seats.items parts.items }
     requires knows { KnowsEnd ended seats.items }
@@ -158,7 +158,7 @@ fn prepare<'a>(
     ensures shape { IfOk result (λ r. r.0.shape ≡ shape_for options.now script.now.sections) }
     ensures crew { IfOk result (λ r. IsCrew r.0 script.now.sections options.now.workers 0 0 r.1) }
     ensures parts { IfOk result (λ r. r.2.items ≡ []) }
-    ensures tracers { IfOk result (λ r. (vec_len r.1.tracers ≡ options.now.tracers) × Numbered (IsNew r.0 script.now.sections) (1 + length script.now.sections.warehouses) r.1.tracers.items) }
+    ensures tracers { IfOk result (λ r. (vec_len r.1.tracers ≡ options.now.tracers) × Numbered (IsNewSeatOfPlay r.0 script.now.sections) (1 + length script.now.sections.warehouses) r.1.tracers.items) }
 {
     let (heap, seats) = match make_heap(alloc, script, options) {
         Ok(made) => made,
@@ -174,7 +174,7 @@ fn prepare<'a>(
     }
 }
 
-/// Plays a script as [`play`] does, and gives the words of the heap besides.
+/// Plays a script as [`play`] does, and gives the words of the heap besides. The refusals are those of `play`: the heap is full, or there is no memory.
 pub fn play_final<'a, R: Threads + Wait + Sync, G: Gate + Sync>(
     rt: &R,
     alloc: Global,

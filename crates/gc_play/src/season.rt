@@ -1,6 +1,10 @@
 //! A season: the catalogue's turn, and then all threads of the warehouses' turn.
 ghost use Rattle.std.specs.Prelude.{◌≡◌, ◌+◌, ◌-◌, ◌*◌, ◌<◌, ◌≤◌, ◌⊎◌, All, false};
-ghost use Rattle.gc_play.specs.Crews.{AreTracers, CatalogueAt, CatalogueEnds, CatalogueStarts, CrewEnds, IsAnyTracer, IsCrew, PlaySettles, TurnEnds, TurnMoves};
+ghost use Rattle.gc_table.specs.Seats.{Sits, view_of};
+ghost use Rattle.gc_cycle.specs.Standing.{IsOut};
+ghost use Rattle.warehouse.specs.Ending.{PlaySettles};
+ghost use Rattle.warehouse.specs.Turns.{MayTurnSeason};
+ghost use Rattle.gc_play.specs.Crews.{AreTracers, CatalogueAt, CatalogueEnds, CatalogueStarts, CrewEnds, IsAnyTracer, IsCrew, LeavesCatalogue, SeasonTurnEnds, TurnMoves, seat_in};
 ghost use Rattle.gc_play.specs.Dealing.{EachOne, SameShares, ShareEnds, StandsAt};
 ghost use Rattle.gc_play.specs.Options.{IsPlayable};
 ghost use Rattle.gc_play.specs.Traced.{AllTracedUntil, SeasonTraced, parts_by};
@@ -75,7 +79,7 @@ fn play_turn<'a, R: Threads + Wait + Sync, G: Gate + Sync>(
     requires before { EachOne (StandsAt heap.now script.now.sections (season - 1)) workers.old.items }
     requires going { All (λ x. x.full ≡ false) workers.old.items }
     requires tracers { AreTracers heap.now script.now.sections tracers.old.items }
-    ensures ends { TurnEnds result heap.now script.now.sections season workers.new.items }
+    ensures ends { SeasonTurnEnds result heap.now script.now.sections season workers.new.items }
     ensures same { SameShares workers.old.items workers.new.items }
     ensures tracers { AreTracers heap.now script.now.sections tracers.new.items }
     ensures traced { AllTracedUntil heap.now (parts_by script.now.sections season) tracers.old.items tracers.new.items }
@@ -135,17 +139,16 @@ fn next_turn<'a, R: Threads + Wait + Sync>(
     }
 }
 
-/// The last stop of a play, after so many parts.
+/// The last stop of a play.
 pub(crate) fn settle<'a, R: Threads + Wait + Sync>(
     rt: &R,
     heap: &Heap,
-    _script: &Script<'a>,
     catalogue: &mut Catalogue<'a>,
-    _parts: u32,
 ) -> Played
-    requires parts { (1 ≤ _parts) × (_parts ≤ 64) }
-    requires at { CatalogueAt heap.now _script.now.sections _parts (2 * _parts - 1) catalogue.old }
-    ensures { PlaySettles result heap.now _script.now.sections _parts catalogue.new }
+    requires seat { Sits heap.now (seat_in catalogue.old) × IsOut (view_of (seat_in catalogue.old)) }
+    requires turn { MayTurnSeason (view_of (seat_in catalogue.old)) }
+    ensures leaves { LeavesCatalogue heap.now catalogue.old catalogue.new }
+    ensures settles { PlaySettles result (view_of (seat_in catalogue.old)) (view_of (seat_in catalogue.new)) }
 {
     match catalogue {
         Catalogue::Playing(mutator) => mutator.end_play(rt, heap),

@@ -8,9 +8,10 @@ ghost use Rattle.mark_core.specs.Numbers.{done_count};
 ghost use Rattle.mark_core.specs.declared.kinds.Phase.TheVariants.{Marking};
 ghost use Rattle.mark_core.specs.declared.kinds.Step.TheVariants.{ReadStat};
 ghost use Rattle.gc_table.specs.Log.{events};
-ghost use Rattle.gc_play.specs.Stays.{IsKept, Stays};
+ghost use Rattle.gc_table.specs.Entries.{event};
+ghost use Rattle.gc_play.specs.Stays.{RestsUnchanged, SeatStays};
 ghost use Rattle.gc_play.specs.Traced.{AllTracedUntil, TracedUntil};
-ghost use Rattle.gc_play.specs.Turns.{HasTraced, IsOneTurn, IsRound, TracesInside, Waits, entry};
+ghost use Rattle.gc_play.specs.Turns.{HasTakenTurns, IsOneTurn, IsVisit, TracesInside, WaitsOutside};
 
 use crate::entering::{enter, leave};
 use crate::marking::trace_inside;
@@ -28,8 +29,8 @@ use warehouse::Gate;
 fn await_resumed<R: Wait>(rt: &R, heap: &Heap, seat: &mut HeapSeat)
     requires { Rests heap.now seat.old }
     ensures seat { Rests heap.now seat.new }
-    ensures stays { Across Stays seat.old seat.new }
-    ensures waits { Waits (did seat.old seat.new) }
+    ensures stays { Across SeatStays seat.old seat.new }
+    ensures waits { WaitsOutside (did seat.old seat.new) }
 {
     await_resumed_helping(rt, heap, seat);
 }
@@ -38,8 +39,8 @@ fn await_resumed<R: Wait>(rt: &R, heap: &Heap, seat: &mut HeapSeat)
 fn see_done(heap: &Heap, seat: &mut HeapSeat) -> u64
     requires { Rests heap.now seat.old }
     ensures seat { Rests heap.now seat.new }
-    ensures stays { Across Stays seat.old seat.new }
-    ensures events { did seat.old seat.new ≡ entry (ReadStat done_count) result ∷ [] }
+    ensures stays { Across SeatStays seat.old seat.new }
+    ensures events { did seat.old seat.new ≡ event (ReadStat done_count) result ∷ [] }
 {
     heap.read_stat(seat, DONE)
 }
@@ -49,7 +50,7 @@ fn trace_if(heap: &Heap, seat: &mut HeapSeat, phase: Phase)
     requires seat { Goes heap.now seat.old }
     requires seen { (state_of seat.old).phase_seen ≡ Some phase }
     ensures seat { Goes heap.now seat.new }
-    ensures stays { Across Stays seat.old seat.new }
+    ensures stays { Across SeatStays seat.old seat.new }
     ensures marking { phase ≡ Marking → TracesInside heap.now.shape (state_of seat.old) (did seat.old seat.new) }
     ensures other { (phase ≡ Marking → ⊥) → did seat.old seat.new ≡ [] }
 {
@@ -63,8 +64,8 @@ fn go_round<G: Gate>(heap: &Heap, seat: &mut HeapSeat, gate: &G) -> bool
     requires seat { Goes heap.now seat.old }
     requires section { (state_of seat.old).section ≡ None }
     ensures seat { Rests heap.now seat.new }
-    ensures stays { Across Stays seat.old seat.new }
-    ensures round { IsRound heap.now.shape result (state_of seat.old) (did seat.old seat.new) }
+    ensures stays { Across SeatStays seat.old seat.new }
+    ensures round { IsVisit heap.now.shape result (state_of seat.old) (did seat.old seat.new) }
 {
     let phase = see_phase(heap, seat);
     gate.turn(seat);
@@ -83,7 +84,7 @@ fn take_turn<R: Threads + Wait + Sync, G: Gate>(
 ) -> bool
     requires { IsAnyTracer heap.now seat.old }
     ensures seat { Rests heap.now seat.new }
-    ensures stays { Across Stays seat.old seat.new }
+    ensures stays { Across SeatStays seat.old seat.new }
     ensures turn { IsOneTurn heap.now.shape until result (state_of seat.old) (did seat.old seat.new) }
 {
     if see_done(heap, seat) >= u64::from(until) {
@@ -119,8 +120,8 @@ pub fn run_tracer<R: Threads + Wait + Sync, G: Gate>(
     gate: &G,
 )
     requires { IsAnyTracer heap.now seat.old }
-    ensures kept { IsKept heap.now seat.old seat.new }
-    ensures turns { HasTraced heap.now.shape until (state_of seat.old) (did seat.old seat.new) }
+    ensures kept { RestsUnchanged heap.now seat.old seat.new }
+    ensures turns { HasTakenTurns heap.now.shape until (state_of seat.old) (did seat.old seat.new) }
 {
     for _ in rt.forever() {
         if take_turn(rt, heap, seat, until, gate) {

@@ -1,6 +1,6 @@
 //! The warehouses, dealt out among the threads that play them.
 ghost use Rattle.std.specs.Prelude.{◌≡◌, ◌-◌, ◌≤◌, All, false, IsTrue, IsFalse};
-ghost use Rattle.gc_play.specs.Dealing.{EachOne, OneEnds, ShareEnds, SomeFull, StandsAt, number_of, numbers_of, SameShares};
+ghost use Rattle.gc_play.specs.Dealing.{EachOne, OneEnds, ShareEnds, SomeFull, StandsAt, seat_number, sections_of_worker, SameShares};
 
 use gc_script::Script;
 use gc_table::Heap;
@@ -29,7 +29,7 @@ fn play_one<'a, R: Threads + Wait + Sync, G: Gate>(
     requires season { 1 ≤ season }
     requires before { StandsAt heap.now script.now.sections (season - 1) mutator.old }
     ensures part { OneEnds result heap.now script.now.sections season mutator.new }
-    ensures number { number_of mutator.new ≡ number_of mutator.old }
+    ensures number { seat_number mutator.new ≡ seat_number mutator.old }
 {
     let section = &script.warehouses()[mutator.number() as usize - 1];
     play_part(rt, heap, mutator, section, season, gate)
@@ -48,7 +48,7 @@ fn play_share<'a, R: Threads + Wait + Sync, G: Gate>(
     requires before { All (StandsAt heap.now script.now.sections (season - 1)) worker.old.mutators.items }
     requires empty { worker.old.full ≡ false }
     ensures share { ShareEnds worker.new.full heap.now script.now.sections season worker.new.mutators.items }
-    ensures numbers { numbers_of worker.new ≡ numbers_of worker.old }
+    ensures numbers { sections_of_worker worker.new ≡ sections_of_worker worker.old }
 {
     for i in 0..worker.mutators.len() {
         if let Played::Full = play_one(rt, heap, script, &mut worker.mutators[i], season, gate) {
@@ -83,7 +83,7 @@ pub(crate) fn play_warehouses<'a, R: Threads + Wait + Sync, G: Gate + Sync>(
         threads,
         &|_, worker: &mut Worker|
             requires { (1 ≤ season) × All (StandsAt heap.now script.now.sections (season - 1)) worker.now.mutators.items × (worker.now.full ≡ false) }
-            ensures { ShareEnds worker.exit.now.full heap.entry.now script.entry.now.sections season worker.exit.now.mutators.items × (numbers_of worker.exit.now ≡ numbers_of worker.entry.now) }
+            ensures { ShareEnds worker.exit.now.full heap.entry.now script.entry.now.sections season worker.exit.now.mutators.items × (sections_of_worker worker.exit.now ≡ sections_of_worker worker.entry.now) }
         { play_share(rt, heap, script, worker, season, gate) },
     );
 }

@@ -5,13 +5,12 @@ use Rattle.std.proofs.lemmas.List.Elements.{All-append, All-nil, All-push}
 use Rattle.std.specs.Prelude.{Option, Some, is_some, unwrap_or, IsFalse}
 use Rattle.std.specs.Option.{option_or}
 use Rattle.std.specs.List.{All}
-use Rattle.plain_heap.specs.Sections.{Execution}
-use Rattle.gc_script.specs.Statement.{Spoken, NewOf, LetOf, NilOf, SetOf, GetOf, CatOf, PutOf, SayOf, SumOf, CollectOf, Statement, Blank, Fields, Catalogue, Warehouse, Season, Repeat, End, Command, Wrong}
+use Rattle.plain_heap.specs.Sections.{Execution, lends}
+use Rattle.script_lines.specs.Statement.{Spoken, NewOf, LetOf, NilOf, SetOf, GetOf, CatOf, PutOf, SayOf, SumOf, CollectOf, Statement, Blank, Fields, Catalogue, Warehouse, Season, Repeat, End, Command, Wrong}
 use Rattle.gc_script.specs.Earlier.{open_repeat, open_section, is_for_catalogue}
 use Rattle.gc_script.specs.Faults.{may_stand}
-use Rattle.gc_script.specs.Script.{repetitions, pending, executed, execution, ended_parts, open_parts, if_catalogue, closed_catalogue}
+use Rattle.gc_script.specs.Script.{repetitions, pending, executed, execution, ended_parts, parts_of_open_section, if_catalogue, closed_catalogue}
 use Rattle.gc_script.specs.Context.{AreClear}
-use Rattle.gc_script.specs.Sectioned.{lends}
 use Rattle.gc_script.proofs.Ranges.{AllFit, fit_push, fit_repeated, fit_catalogue, more_executed}
 
 abbrev pub LendsNothing : Execution → Type 0
@@ -36,7 +35,7 @@ pub record AreAlone (catalogue : List (List ℕ)) (e : List Statement) : Type 0 
   pub executed : open_section e ≡ Some 0 → All LendsNothing (executed catalogue e)
   pub pending : open_section e ≡ Some 0 → All LendsNothing (pending catalogue e)
 
-open_alone : (catalogue : List (List ℕ)) (e : List Statement) → AreAlone catalogue e → open_section e ≡ Some 0 → AllFit LendsNothing (open_parts catalogue e)
+open_alone : (catalogue : List (List ℕ)) (e : List Statement) → AreAlone catalogue e → open_section e ≡ Some 0 → AllFit LendsNothing (parts_of_open_section catalogue e)
 open_alone catalogue e r o = fit_push LendsNothing (ended_parts catalogue e) (executed catalogue e) (r.ended o) (r.executed o)
 
 pub alone : (version : ℕ) (catalogue : List (List ℕ)) (e : List Statement) → AreClear version e → AreAlone catalogue e
@@ -47,7 +46,7 @@ alone version catalogue (Catalogue ∷ e) h = let r = alone version catalogue e 
 alone version catalogue (Warehouse ∷ e) h =
     let r = alone version catalogue e h.1 in
     record {
-      first = fit_catalogue LendsNothing (open_section e) (open_parts catalogue e) (closed_catalogue catalogue e) (open_alone catalogue e r) r.first;
+      first = fit_catalogue LendsNothing (open_section e) (parts_of_open_section catalogue e) (closed_catalogue catalogue e) (open_alone catalogue e r) r.first;
       ended = λ o. All-nil _;
       executed = λ o. All-nil _;
       pending = λ o. All-nil _;
@@ -74,8 +73,8 @@ alone version catalogue (Command spoken ∷ e) h =
     }
 alone version catalogue (Wrong ∷ e) h = let r = alone version catalogue e h.1 in record { first = r.first; ended = r.ended; executed = r.executed; pending = r.pending }
 
--- so is the catalogue at the end of these lines
-pub alone-end : (version : ℕ) (catalogue : List (List ℕ)) (e : List Statement) → AreClear version e → AllFit LendsNothing (unwrap_or (option_or (if_catalogue (open_section e) (open_parts catalogue e)) (closed_catalogue catalogue e)) [])
+-- the catalogue at the end of these lines reads no variable of the catalogue
+pub alone-end : (version : ℕ) (catalogue : List (List ℕ)) (e : List Statement) → AreClear version e → AllFit LendsNothing (unwrap_or (option_or (if_catalogue (open_section e) (parts_of_open_section catalogue e)) (closed_catalogue catalogue e)) [])
 alone-end version catalogue e h =
     let r = alone version catalogue e h in
-    fit_catalogue LendsNothing (open_section e) (open_parts catalogue e) (closed_catalogue catalogue e) (open_alone catalogue e r) r.first
+    fit_catalogue LendsNothing (open_section e) (parts_of_open_section catalogue e) (closed_catalogue catalogue e) (open_alone catalogue e r) r.first

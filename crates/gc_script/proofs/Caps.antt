@@ -2,10 +2,10 @@
 use Rattle.std.proofs.Common.{◌≡◌, ℕ, ◌<◌, zero, suc, length, refl, ap, ◌∙◌, Bool, true, false, arith, min}
 use Rattle.std.proofs.lemmas.Bool.Decides.{nat_tests}
 use Rattle.std.specs.Prelude.{not, nat_le, nat_lt, Option, Some, None, ◌==◌, ◌||◌, ◌&&◌, unwrap_or, is_none}
-use Rattle.gc_script.specs.Statement.{Spoken, NewOf, LetOf, NilOf, SetOf, GetOf, CatOf, PutOf, SayOf, SumOf, CollectOf, Statement, Blank, Fields, Catalogue, Warehouse, Season, Repeat, End, Command, Wrong}
+use Rattle.script_lines.specs.Statement.{Spoken, NewOf, LetOf, NilOf, SetOf, GetOf, CatOf, PutOf, SayOf, SumOf, CollectOf, Statement, Blank, Fields, Catalogue, Warehouse, Season, Repeat, End, Command, Wrong}
 use Rattle.gc_script.specs.Earlier.{is_too_large, is_for_catalogue}
 use Rattle.gc_script.specs.Faults.{Fault, BadLine, UnknownName, TooManyNames, NumberTooLarge, TooManySections, TooManySeasons, has_large_number, may_stand, starts_section, unless_, cuts_repeat}
-use Rattle.gc_script.specs.Said.{capped, capped_command}
+use Rattle.script_lines.specs.Said.{capped, capped_command}
 use Rattle.gc_script.specs.Context.{Context, fault_in, knows_in, names_after, warehouses_after, seasons_after}
 
 cap_above : (b n : ℕ) → b < 4294967296 → nat_lt b (min n 4294967296) ≡ nat_lt b n

@@ -1,10 +1,10 @@
 -- The names that the catalogue assigns anywhere are those that were known as it ended.
 use Rattle.std.proofs.Common.{◌≡◌, ℕ, zero, suc, List, [], ◌∷◌, refl, ap, sym, ◌∙◌, Bool, true, false, add-one}
 use Rattle.std.specs.Prelude.{Option, Some, None, is_some, ◌&&◌}
-use Rattle.gc_script.specs.Statement.{Spoken, NewOf, LetOf, NilOf, SetOf, GetOf, CatOf, PutOf, SayOf, SumOf, CollectOf, Statement, Blank, Fields, Catalogue, Warehouse, Season, Repeat, End, Command, Wrong}
+use Rattle.script_lines.specs.Statement.{Spoken, NewOf, LetOf, NilOf, SetOf, GetOf, CatOf, PutOf, SayOf, SumOf, CollectOf, Statement, Blank, Fields, Catalogue, Warehouse, Season, Repeat, End, Command, Wrong}
 use Rattle.gc_script.specs.Earlier.{assigns, with_name, warehouse_count, known_fields, known_names, open_section, open_repeat, assigned_names, catalogue_names}
 use Rattle.gc_script.specs.Faults.{Fault, unless_, cuts_repeat, may_stand, line_fault}
-use Rattle.gc_script.specs.Context.{Agrees, context_of, closing, closed_names, IsClear, AreClear}
+use Rattle.gc_script.specs.Context.{IsCatalogueKnown, context_of, closing, closed_names, IsClear, AreClear}
 use Rattle.gc_script.proofs.History.{bare, none_is}
 
 -- the catalogue's names, by the section that was started last, the names known in it, those of the closed catalogue, and the rest of the lines
@@ -51,14 +51,14 @@ names_step version e End rest h k = skip (open_section e) _ _ End rest refl refl
 names_step version e (Command spoken) rest h k = at_command (open_section e) _ _ spoken rest
 names_step version e Wrong rest h k = skip (open_section e) _ _ Wrong rest refl refl
 
-pub agrees : (catalogue : List (List ℕ)) (e rest : List Statement) → names_from e rest ≡ catalogue → Agrees catalogue e
+pub agrees : (catalogue : List (List ℕ)) (e rest : List Statement) → names_from e rest ≡ catalogue → IsCatalogueKnown catalogue e
 agrees catalogue e rest h w o = sym (ap (λ s. names_by s (known_names e) (closed_names e) rest) o) ∙ h
 
 unplaced : (p : Bool) (f : Fault) (x y : Option Fault) → p ≡ false → unless_ p f x ≡ unless_ p f y
 unplaced true f x y e = cc
 unplaced false f x y e = refl
 
-at_cat : (version : ℕ) (catalogue : List (List ℕ)) (e : List Statement) (v name : List ℕ) → Agrees catalogue e → (o : Option ℕ) → open_section e ≡ o
+at_cat : (version : ℕ) (catalogue : List (List ℕ)) (e : List Statement) (v name : List ℕ) → IsCatalogueKnown catalogue e → (o : Option ℕ) → open_section e ≡ o
     → line_fault version catalogue e (Command (CatOf v name)) ≡ line_fault version (closed_names e) e (Command (CatOf v name))
 at_cat version catalogue e v name a None o =
     ap (cuts_repeat (Command (CatOf v name)) (open_repeat e)) (unplaced (may_stand (open_section e) (CatOf v name)) _ _ _ (ap (λ s. may_stand s (CatOf v name)) o))
@@ -67,7 +67,7 @@ at_cat version catalogue e v name a (Some zero) o =
 at_cat version catalogue e v name a (Some (suc w)) o = ap (λ names. line_fault version names e (Command (CatOf v name))) (sym (a w o))
 
 -- the fault of a line, by the catalogue's names as they are known by then
-pub same_fault : (version : ℕ) (catalogue : List (List ℕ)) (e : List Statement) (s : Statement) → Agrees catalogue e → line_fault version catalogue e s ≡ line_fault version (closed_names e) e s
+pub same_fault : (version : ℕ) (catalogue : List (List ℕ)) (e : List Statement) (s : Statement) → IsCatalogueKnown catalogue e → line_fault version catalogue e s ≡ line_fault version (closed_names e) e s
 same_fault version catalogue e Blank a = refl
 same_fault version catalogue e (Fields n) a = refl
 same_fault version catalogue e Catalogue a = refl

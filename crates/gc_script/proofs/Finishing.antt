@@ -7,7 +7,7 @@ use Rattle.std.specs.List.{sum_by, fold}
 use Rattle.std.specs.List.{All}
 use Rattle.plain_heap.specs.Sections.{Execution, Sections, Parts, joined}
 use Rattle.gc_script.specs.Blocks.{counts}
-use Rattle.gc_script.specs.Sectioned.{IsLegal, IsSmall, AreLegal, AreSmall, in_parts, in_sections, numbered, sections_shown, is_catalogue, AreCounted}
+use Rattle.gc_script.specs.Sectioned.{IsLegal, IsSmall, AreLegal, AreSmall, in_parts, in_sections, sections_numbered, sections_shown, is_catalogue, AreCounted}
 use Rattle.gc_script.specs.declared.block.Kind.TheVariants.{All as AllOf, Printing}
 use Rattle.gc_script.proofs.Sectioning.{counted_all}
 use Rattle.gc_script.proofs.Numbers.{numbered_are, numbered_parts, executed_is, printed_is, seasons_are}
@@ -55,7 +55,7 @@ first_of fields (Some p) = refl
 
 -- the sections as they are kept
 pub shown : (fields : ℕ) (first : Option Parts) (others : List Parts) (c : Option (List (List Execution))) (ws : List (List (List Execution)))
-    → first ≡ option_map (λ (p : List (List Execution)). record { number = 0; fields = fields; parts = p }) c → others ≡ numbered fields 1 ws
+    → first ≡ option_map (λ (p : List (List Execution)). record { number = 0; fields = fields; parts = p }) c → others ≡ sections_numbered fields 1 ws
     → sections_shown fields first others ≡ record { fields = fields; catalogue = c; warehouses = ws }
 shown fields first others c ws e f =
     ap (λ (o : Option (List (List Execution))). record { fields = fields; catalogue = o; warehouses = map (λ (w : Parts). w.parts) others }) (ap (option_map (λ (p : Parts). p.parts)) e ∙ first_of fields c)
@@ -67,7 +67,7 @@ first_is fields None ws = tt
 first_is fields (Some p) ws = refl
 
 pub counted_sections : (fields : ℕ) (first : Option Parts) (others slice : List Parts) (c : Option (List (List Execution))) (ws : List (List (List Execution))) (commands lines parts : ℕ)
-    → first ≡ option_map (λ (p : List (List Execution)). record { number = 0; fields = fields; parts = p }) c → others ≡ numbered fields 1 ws → slice ≡ others
+    → first ≡ option_map (λ (p : List (List Execution)). record { number = 0; fields = fields; parts = p }) c → others ≡ sections_numbered fields 1 ws → slice ≡ others
     → commands ≡ in_sections (counts AllOf) c ws → lines ≡ in_sections (counts Printing) c ws
     → parts ≡ fold (λ most p. max most (length p)) (max 1 (length (unwrap_or (option_map (λ (p : Parts). p.parts) first) []))) (map (λ (w : Parts). w.parts) slice)
     → AreSmall fields c ws → AreCounted (sections_shown fields first others) first others commands lines parts

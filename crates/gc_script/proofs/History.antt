@@ -4,10 +4,10 @@ use Rattle.std.proofs.lemmas.List.{append-nil, append_assoc}
 use Rattle.std.specs.Prelude.{Option, Some, None, is_none, is_some, ◌&&◌}
 use Rattle.plain_heap.specs.Sections.{Execution}
 use Rattle.plain_heap.specs.declared.operation.Op.{Op}
-use Rattle.gc_script.specs.Statement.{Spoken, NewOf, LetOf, NilOf, SetOf, GetOf, CatOf, PutOf, SayOf, SumOf, CollectOf, Statement, Blank, Fields, Catalogue, Warehouse, Season, Repeat, End, Command, Wrong}
+use Rattle.script_lines.specs.Statement.{Spoken, NewOf, LetOf, NilOf, SetOf, GetOf, CatOf, PutOf, SayOf, SumOf, CollectOf, Statement, Blank, Fields, Catalogue, Warehouse, Season, Repeat, End, Command, Wrong}
 use Rattle.gc_script.specs.Earlier.{next_line, place, known_names, open_repeat, open_section}
 use Rattle.gc_script.specs.Script.{repeated, repetitions, pending, executed, execution, operation, label_of, ended_parts}
-use Rattle.gc_script.specs.Context.{context_of, closed_names, IsClear, AreClear, Agrees, execution_in}
+use Rattle.gc_script.specs.Context.{context_of, closed_names, IsClear, AreClear, IsCatalogueKnown, execution_in}
 use Rattle.gc_script.specs.Content.{settled, content_of, content_after, close}
 
 left : (a b : Bool) → (a && b) ≡ true → a ≡ true
@@ -129,13 +129,13 @@ same_operation at a b o (SayOf label v) h f = refl
 same_operation at a b o (SumOf label v i limit) h f = refl
 same_operation at a b o CollectOf h f = refl
 
-pub same_execution : (version : ℕ) (catalogue : List (List ℕ)) (e : List Statement) (s : Spoken) → Agrees catalogue e → IsClear (context_of version e) (Command s)
+pub same_execution : (version : ℕ) (catalogue : List (List ℕ)) (e : List Statement) (s : Spoken) → IsCatalogueKnown catalogue e → IsClear (context_of version e) (Command s)
     → execution catalogue e s ≡ execution_in (context_of version e) s
 same_execution version catalogue e s a h =
     ap (λ (op : Op). record { line = next_line e; label = label_of s; op = op }) (sym (same_operation (place (known_names e)) (closed_names e) catalogue (open_section e) s h.placed a))
 
 -- the content after one line more
-pub content_step : (version : ℕ) (catalogue : List (List ℕ)) (e : List Statement) (s : Statement) → AreClear version e → IsClear (context_of version e) s → Agrees catalogue e
+pub content_step : (version : ℕ) (catalogue : List (List ℕ)) (e : List Statement) (s : Statement) → AreClear version e → IsClear (context_of version e) s → IsCatalogueKnown catalogue e
     → content_of catalogue (s ∷ e) ≡ content_after (context_of version e) (content_of catalogue e) s
 content_step version catalogue e Blank h k a = refl
 content_step version catalogue e (Fields n) h k a = refl

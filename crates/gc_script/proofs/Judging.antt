@@ -1,14 +1,14 @@
 -- The fault of a line, by what the reader says of it.
 use Rattle.std.proofs.Common.{◌≡◌, ◌<◌, ap, sym, ◌∙◌, subst, arith}
 use Rattle.std.specs.Prelude.{Option, Some, None, unwrap_or, Result, Ok, Err, OnOk, OnErr}
-use Rattle.gc_script.specs.Statement.{Statement}
+use Rattle.script_lines.specs.Statement.{Statement}
 use Rattle.gc_script.specs.Faults.{Fault}
-use Rattle.gc_script.specs.Said.{capped}
+use Rattle.script_lines.specs.Said.{capped}
 use Rattle.gc_script.specs.Context.{Context, context_after, fault_in, IsClear, IsSane}
 use Rattle.gc_script.specs.Content.{Content, content_after, kept_shown}
 use Rattle.gc_script.specs.Kept.{context_shown}
 use Rattle.gc_script.specs.Shown.{fault_of}
-use Rattle.gc_script.specs.Reading.{is_told, Tells, LineAnswers}
+use Rattle.gc_script.specs.Reading.{is_told, TellsFault, LineAnswers}
 use Rattle.gc_script.specs.declared.progress.Progress.{Progress}
 use Rattle.gc_script.specs.declared.script.ScriptError.{ScriptError}
 use Rattle.gc_script.specs.declared.script.ScriptError.TheVariants as errors
@@ -22,7 +22,7 @@ is_told_by (Some t) fault e = e
 few : (c : Context) → IsSane c → unwrap_or c.fields 0 < 4294967296
 few c h = omega (arith, h.fields)
 
-pub told_line : (e : ScriptError) (c : Context) (st s : Statement) → IsSane c → fault_of e ≡ fault_in c st → st ≡ capped s → Tells e (fault_in c s)
+pub told_line : (e : ScriptError) (c : Context) (st s : Statement) → IsSane c → fault_of e ≡ fault_in c st → st ≡ capped s → TellsFault e (fault_in c s)
 told_line e c st s h f g = is_told_by (fault_of e) (fault_in c s) (sym (f ∙ ap (fault_in c) g ∙ capped_fault c s (few c h)))
 
 pub clear_line : (c : Context) (st s : Statement) → IsSane c → None ≡ fault_in c st → st ≡ capped s → (st ≡ s) × IsClear c s

@@ -2,17 +2,17 @@
 use Rattle.std.proofs.Common.{length-drop, ◌≡◌, ℕ, ◌+◌, ◌≤◌, ◌<◌, List, [], ◌∷◌, ◌++◌, length, take, drop, get_or, map, refl, ap, sym, ◌∙◌, subst, cond, Bool, true, false, arith}
 use Rattle.std.proofs.lemmas.List.{nil_from_length, take_more, take_all, drop_all, drop_more, length-map, get_or-map}
 use Rattle.std.specs.Prelude.{Option, Some, None, unwrap_or, ◌==◌}
-use Rattle.gc_script.specs.Statement.{Statement, Blank, statement}
-use Rattle.gc_script.specs.ScriptText.{words, lines}
-use Rattle.gc_script.specs.FirstLine.{first_line, after_line}
-use Rattle.gc_script.proofs.Cuts.{lines_step}
+use Rattle.script_lines.specs.Statement.{Statement, Blank, statement}
+use Rattle.script_lines.specs.ScriptText.{words, lines}
+use Rattle.script_lines.specs.FirstLine.{first_line, after_line}
+use Rattle.script_lines.proofs.Cuts.{lines_step}
 use Rattle.gc_script.specs.Earlier.{catalogue_names}
 use Rattle.gc_script.specs.Faults.{Fault, first_fault, line_fault, end_fault, or_later}
 use Rattle.gc_script.specs.Script.{turned}
-use Rattle.gc_script.specs.Context.{Agrees, Context, context_of, context_after, fault_in, IsClear, IsSane}
+use Rattle.gc_script.specs.Context.{IsCatalogueKnown, Context, context_of, context_after, fault_in, IsClear, IsSane}
 use Rattle.gc_script.specs.Kept.{context_shown}
 use Rattle.gc_script.specs.Content.{Content, content_of, content_after, kept_shown}
-use Rattle.gc_script.specs.Reading.{is_told, Tells, IsTaken, Shows, AreRead}
+use Rattle.gc_script.specs.Reading.{is_told, TellsFault, IsTaken, Shows, AreRead}
 use Rattle.gc_script.specs.Shown.{fault_of}
 use Rattle.gc_script.specs.declared.progress.Progress.{Progress}
 use Rattle.gc_script.specs.declared.script.ScriptError.{ScriptError}
@@ -58,7 +58,7 @@ so_far_next version all i p q l h t =
     let parted : drop i all ≡ s ∷ rest = drop_more all i Blank l in
     let next : turned [] (take (i + 1) all) ≡ s ∷ e = next_turned all i l in
     let clear : IsClear (context_of version e) s = subst (λ (c : Context). IsClear c s) h.shows.context t.clear in
-    let agreed : Agrees cat e = agrees cat e (drop i all) h.names in
+    let agreed : IsCatalogueKnown cat e = agrees cat e (drop i all) h.names in
     let context : context_shown q.context ≡ context_of version (s ∷ e) =
     t.context ∙ ap (λ (c : Context). context_after c s) h.shows.context ∙ sym (context_step version e s clear.placed) in
     let kept : kept_shown q.kept ≡ content_of cat (s ∷ e) =
@@ -79,7 +79,7 @@ so_far_next version all i p q l h t =
     moved n = omega arith
 
 pub so_far_refused : (version : ℕ) (all : List Statement) (i : ℕ) (p : Progress) (e : ScriptError) → i < length all → SoFar version all i p
-    → Tells e (fault_in (context_shown p.context) (get_or all i Blank)) → Tells e (first_fault version (catalogue_names all) [] all)
+    → TellsFault e (fault_in (context_shown p.context) (get_or all i Blank)) → TellsFault e (first_fault version (catalogue_names all) [] all)
 so_far_refused version all i p error l h t =
     let e : List Statement = turned [] (take i all) in
     let s : Statement = get_or all i Blank in
@@ -113,7 +113,7 @@ so_far_end version all i p l h =
     record {
       fault = sym h.fault ∙ ap (first_fault version (catalogue_names all) (turned [] (take i all))) none ∙ ap (λ (x : List Statement). end_fault version (turned [] x)) whole;
       shows = subst (λ (x : List Statement). Shows version (catalogue_names all) (turned [] x) p) whole h.shows;
-      names = subst (λ (x : List Statement). Agrees (catalogue_names all) (turned [] x)) whole (agrees (catalogue_names all) (turned [] (take i all)) (drop i all) h.names);
+      names = subst (λ (x : List Statement). IsCatalogueKnown (catalogue_names all) (turned [] x)) whole (agrees (catalogue_names all) (turned [] (take i all)) (drop i all) h.names);
     }
 
 -- the statements of a text's lines
@@ -176,10 +176,10 @@ up_to_next version text rest left p q h u t e =
     }
 
 pub up_to_refused : (version : ℕ) (text rest : List ℕ) (p : Progress) (e : ScriptError) → 0 < length rest → UpTo version text rest p
-    → Tells e (fault_in (context_shown p.context) (statement (words (first_line rest)))) → Tells e (first_fault version (catalogue_names (statements text)) [] (statements text))
+    → TellsFault e (fault_in (context_shown p.context) (statement (words (first_line rest)))) → TellsFault e (first_fault version (catalogue_names (statements text)) [] (statements text))
 up_to_refused version text rest p e h u t =
     so_far_refused version (statements text) u.read p e (inside text rest u.read h u.left) u.so_far
-    (subst (λ (s : Statement). Tells e (fault_in (context_shown p.context) s)) (sym (statement_left text rest u.read h u.left)) t)
+    (subst (λ (s : Statement). TellsFault e (fault_in (context_shown p.context) s)) (sym (statement_left text rest u.read h u.left)) t)
 
 pub up_to_end : (version : ℕ) (text rest : List ℕ) (p : Progress) → length rest ≡ 0 → UpTo version text rest p → AreRead version (statements text) p
 up_to_end version text rest p h u =

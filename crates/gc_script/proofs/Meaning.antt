@@ -7,9 +7,9 @@ use Rattle.std.proofs.lemmas.List.Sums.{fails_before_first}
 use Rattle.std.proofs.lemmas.List.Splits.{slice_split_first, slice_split_none}
 use Rattle.std.specs.Prelude.{not, nat_lt, Option, Some, None, Result, Ok, Err, ◌==◌, ◌⊎◌}
 use Rattle.std.specs.List.{All, position_or_len, slice_split, onto_first, before_first, after_first}
-use Rattle.gc_script.specs.ScriptText.{is_allowed, first_foreign, lines, words, without_empty_last}
-use Rattle.gc_script.specs.Statement.{Fields, statement, header}
-use Rattle.gc_script.specs.Faults.{Fault, TooLong, BadHeader, NotAscii}
+use Rattle.script_lines.specs.ScriptText.{is_allowed, first_foreign, lines, words, without_empty_last}
+use Rattle.script_lines.specs.Statement.{Fields, statement, header}
+use Rattle.gc_script.specs.Faults.{Fault, TooLong}
 use Rattle.gc_script.specs.Script.{Script, script, of_text, of_lines, of_version, body}
 use Rattle.gc_script.specs.Convert.{Conversion, added_lines, converted_text, if_short, converted, without_lines, KeepsMeaning}
 use Rattle.gc_script.proofs.SameMeaning.{body_same, body_ok, IsScript}
@@ -148,7 +148,7 @@ is_one n e = grind (arith, nat_tests)
 abbrev Kept : Script → List ℕ → Type 0
 Kept s text = (t : Script) × (script text ≡ Ok t) × (without_lines t.sections ≡ without_lines s.sections)
 
--- the same lines, after a header of version 2 and the number of fields
+-- a script of version 1 has a script of version 2 with the same commands: a header and the number of fields stand before its lines
 body_kept : (others : List (List (List ℕ))) (n : ℕ) (s : Script) → body n (map statement others) ≡ Ok s → (s.version == 1) ≡ true → (t : Script) × (body 2 (Fields 4 ∷ map statement others) ≡ Ok t) × (without_lines t.sections ≡ without_lines s.sections)
 body_kept others n s h e =
     let k : IsScript n (map statement others) s = body_ok n (map statement others) s h in

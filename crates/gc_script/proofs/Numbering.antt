@@ -4,11 +4,11 @@ use Rattle.std.proofs.lemmas.List.{append-nil, append_assoc, length-append}
 use Rattle.std.proofs.lemmas.List.Elements.{All-head, All-tail}
 use Rattle.std.specs.List.{All}
 use Rattle.plain_heap.specs.Sections.{Execution, Parts}
-use Rattle.gc_script.specs.Sectioned.{IsSmall, numbered}
+use Rattle.gc_script.specs.Sectioned.{IsSmall, sections_numbered}
 
 -- the sections so far, and the parts of those that are left
 pub record IsNumbered (fields : ℕ) (all : List (List (List Execution))) (done : List Parts) (rest : List (List (List Execution))) : Type 0 where
-  pub sum : done ++ numbered fields (length done + 1) rest ≡ numbered fields 1 all
+  pub sum : done ++ sections_numbered fields (length done + 1) rest ≡ sections_numbered fields 1 all
   pub small : All (IsSmall fields) rest
   pub few : length done + length rest ≤ 32
 
@@ -24,14 +24,14 @@ numbered_next fields all done more rest left p h e f =
     let x : Parts = record { number = length done + 1; fields = fields; parts = p } in
     let long : length (done ++ x ∷ []) ≡ length done + 1 = length-append done (x ∷ []) in
     let next : IsNumbered fields all (done ++ x ∷ []) left = record {
-      sum = ap (λ (n : ℕ). (done ++ x ∷ []) ++ numbered fields (n + 1) left) long ∙ append_assoc done (x ∷ []) _ ∙ here.sum;
+      sum = ap (λ (n : ℕ). (done ++ x ∷ []) ++ sections_numbered fields (n + 1) left) long ∙ append_assoc done (x ∷ []) _ ∙ here.sum;
       small = All-tail (IsSmall fields) p left here.small;
       few = let few = here.few in omega arith;
     } in
     subst (λ (m : List Parts). IsNumbered fields all m left) (sym f) next
 
-pub numbered_last : (fields : ℕ) (all : List (List (List Execution))) (done : List Parts) (rest : List (List (List Execution))) → IsNumbered fields all done rest → rest ≡ [] → done ≡ numbered fields 1 all
-numbered_last fields all done rest h e = sym (append-nil done) ∙ ap (λ (r : List (List (List Execution))). done ++ numbered fields (length done + 1) r) (sym e) ∙ h.sum
+pub numbered_last : (fields : ℕ) (all : List (List (List Execution))) (done : List Parts) (rest : List (List (List Execution))) → IsNumbered fields all done rest → rest ≡ [] → done ≡ sections_numbered fields 1 all
+numbered_last fields all done rest h e = sym (append-nil done) ∙ ap (λ (r : List (List (List Execution))). done ++ sections_numbered fields (length done + 1) r) (sym e) ∙ h.sum
 
 -- one section is left at least
 pub numbered_here : (fields : ℕ) (all : List (List (List Execution))) (done : List Parts) (rest left : List (List (List Execution))) (p : List (List Execution)) → IsNumbered fields all done rest → rest ≡ p ∷ left

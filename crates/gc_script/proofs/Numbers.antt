@@ -6,7 +6,7 @@ use Rattle.std.specs.Prelude.{unwrap_or}
 use Rattle.std.specs.List.{fold, sum_by}
 use Rattle.plain_heap.specs.Sections.{Execution, Sections, Parts, joined, parts_of, counted, warehouse_numbers, section_numbers, section_of, warehouse_sections, executed_total, printed_total, printed_by, seasons}
 use Rattle.gc_script.specs.Blocks.{counts}
-use Rattle.gc_script.specs.Sectioned.{in_parts, in_sections, numbered}
+use Rattle.gc_script.specs.Sectioned.{in_parts, in_sections, sections_numbered}
 use Rattle.gc_script.specs.declared.block.Kind.TheVariants.{All, Printing}
 use Rattle.gc_script.proofs.Sectioning.{counted_all}
 
@@ -32,17 +32,17 @@ parts_from s n (w ∷ ws) e =
 warehouse_parts : (s : Sections) → map (parts_of s) (warehouse_numbers s) ≡ s.warehouses
 warehouse_parts s = parts_from s 0 s.warehouses refl
 
-sections_from : (s : Sections) (n : ℕ) (ws : List (List (List Execution))) → drop n s.warehouses ≡ ws → map (section_of s) (counted (n + 1) (length ws)) ≡ numbered s.fields (n + 1) ws
+sections_from : (s : Sections) (n : ℕ) (ws : List (List (List Execution))) → drop n s.warehouses ≡ ws → map (section_of s) (counted (n + 1) (length ws)) ≡ sections_numbered s.fields (n + 1) ws
 sections_from s n [] e = refl
 sections_from s n (w ∷ ws) e =
     ap (λ (p : List (List Execution)). record { number = n + 1; fields = s.fields; parts = p } ∷ map (section_of s) (counted (n + 1 + 1) (length ws))) (part_there s n w ws e)
     ∙ ap (λ (l : List Parts). record { number = n + 1; fields = s.fields; parts = w } ∷ l) (sections_from s (n + 1) ws (rest_there s n w ws e))
 
 -- the warehouses, numbered from 1
-pub numbered_are : (s : Sections) → numbered s.fields 1 s.warehouses ≡ warehouse_sections s
+pub numbered_are : (s : Sections) → sections_numbered s.fields 1 s.warehouses ≡ warehouse_sections s
 numbered_are s = sym (sections_from s 0 s.warehouses refl)
 
-pub numbered_parts : (fields n : ℕ) (ws : List (List (List Execution))) → map (λ (p : Parts). p.parts) (numbered fields n ws) ≡ ws
+pub numbered_parts : (fields n : ℕ) (ws : List (List (List Execution))) → map (λ (p : Parts). p.parts) (sections_numbered fields n ws) ≡ ws
 numbered_parts fields n [] = refl
 numbered_parts fields n (w ∷ ws) = ap (λ (l : List (List (List Execution))). w ∷ l) (numbered_parts fields (n + 1) ws)
 

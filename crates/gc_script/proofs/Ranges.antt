@@ -8,10 +8,10 @@ use Rattle.std.specs.Option.{option_or}
 use Rattle.std.specs.List.{All}
 use Rattle.plain_heap.specs.PlainStep.{IsInRange}
 use Rattle.plain_heap.specs.Sections.{Execution, joined}
-use Rattle.gc_script.specs.Statement.{Spoken, Statement, Blank, Fields, Catalogue, Warehouse, Season, Repeat, End, Command, Wrong}
+use Rattle.script_lines.specs.Statement.{Spoken, Statement, Blank, Fields, Catalogue, Warehouse, Season, Repeat, End, Command, Wrong}
 use Rattle.gc_script.specs.Earlier.{known_fields, known_names, warehouse_count, open_repeat, open_section}
-use Rattle.gc_script.specs.Script.{repeated, repetitions, pending, executed, execution, ended_parts, open_parts, if_warehouse, if_catalogue, closed_warehouses, closed_catalogue}
-use Rattle.gc_script.specs.Context.{Agrees, Context, context_of, closed_names, IsClear, AreClear, IsSane, execution_in}
+use Rattle.gc_script.specs.Script.{repeated, repetitions, pending, executed, execution, ended_parts, parts_of_open_section, if_warehouse, if_catalogue, closed_warehouses, closed_catalogue}
+use Rattle.gc_script.specs.Context.{IsCatalogueKnown, Context, context_of, closed_names, IsClear, AreClear, IsSane, execution_in}
 use Rattle.gc_script.proofs.Contexts.{context_step}
 use Rattle.gc_script.proofs.Clear.{sane_step, in_range}
 use Rattle.gc_script.proofs.History.{same_execution}
@@ -36,7 +36,7 @@ sane version [] h = first_sane version
 sane version (s ∷ e) h = subst IsSane (sym (context_step version e s h.0.placed)) (sane_step _ s (sane version e h.1) h.0)
 
 -- what the catalogue's names are at the end, they were in each warehouse
-agreed : (version : ℕ) (catalogue : List (List ℕ)) (e : List Statement) (s : Statement) → IsClear (context_of version e) s → Agrees catalogue (s ∷ e) → Agrees catalogue e
+agreed : (version : ℕ) (catalogue : List (List ℕ)) (e : List Statement) (s : Statement) → IsClear (context_of version e) s → IsCatalogueKnown catalogue (s ∷ e) → IsCatalogueKnown catalogue e
 agreed version catalogue e Blank k a = a
 agreed version catalogue e (Fields n) k a = a
 agreed version catalogue e Catalogue k a = λ w o. absurd (opened (open_section e) w o (right (is_some (known_fields version e)) _ k.placed))
@@ -118,7 +118,7 @@ pub more_executed : (P : Execution → Type 0) (inside : Bool) (es : List Execut
 more_executed P true es d h k = h
 more_executed P false es d h k = All-push P es d h k
 
-pub ranged : (version fields : ℕ) (catalogue : List (List ℕ)) (e : List Statement) → AreClear version e → Agrees catalogue e → (is_some (open_section e) ≡ true → known_fields version e ≡ Some fields)
+pub ranged : (version fields : ℕ) (catalogue : List (List ℕ)) (e : List Statement) → AreClear version e → IsCatalogueKnown catalogue e → (is_some (open_section e) ≡ true → known_fields version e ≡ Some fields)
     → AreRanged fields catalogue e
 ranged version fields catalogue [] h a f = record { first = All-nil _; warehouses = All-nil _; ended = All-nil _; executed = All-nil _; pending = All-nil _ }
 ranged version fields catalogue (Blank ∷ e) h a f = let r = ranged version fields catalogue e h.1 a f in record { first = r.first; warehouses = r.warehouses; ended = r.ended; executed = r.executed; pending = r.pending }
@@ -130,10 +130,10 @@ ranged version fields catalogue (Catalogue ∷ e) h a f =
     record { first = r.first; warehouses = r.warehouses; ended = All-nil _; executed = All-nil _; pending = All-nil _ }
 ranged version fields catalogue (Warehouse ∷ e) h a f =
     let r = ranged version fields catalogue e h.1 (agreed version catalogue e Warehouse h.0 a) (λ o. f refl) in
-    let parts : AllFit (Fits fields) (open_parts catalogue e) = fit_push (Fits fields) (ended_parts catalogue e) (executed catalogue e) r.ended r.executed in
+    let parts : AllFit (Fits fields) (parts_of_open_section catalogue e) = fit_push (Fits fields) (ended_parts catalogue e) (executed catalogue e) r.ended r.executed in
     record {
-      first = fit_catalogue (Fits fields) (open_section e) (open_parts catalogue e) (closed_catalogue catalogue e) (λ o. parts) r.first;
-      warehouses = fit_warehouses (Fits fields) (open_section e) (open_parts catalogue e) (closed_warehouses catalogue e) parts r.warehouses;
+      first = fit_catalogue (Fits fields) (open_section e) (parts_of_open_section catalogue e) (closed_catalogue catalogue e) (λ o. parts) r.first;
+      warehouses = fit_warehouses (Fits fields) (open_section e) (parts_of_open_section catalogue e) (closed_warehouses catalogue e) parts r.warehouses;
       ended = All-nil _;
       executed = All-nil _;
       pending = All-nil _;

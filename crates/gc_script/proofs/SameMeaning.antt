@@ -4,10 +4,10 @@ use Rattle.std.proofs.lemmas.List.{append-nil, map-append}
 use Rattle.std.specs.Prelude.{nat_lt, Option, Some, None, is_some, unwrap_or, option_map, Ok}
 use Rattle.std.specs.Option.{option_or}
 use Rattle.plain_heap.specs.Sections.{Execution}
-use Rattle.gc_script.specs.Statement.{Spoken, Statement, Blank, Fields, Catalogue, Warehouse, Season, Repeat, End, Command, Wrong}
+use Rattle.script_lines.specs.Statement.{Spoken, Statement, Blank, Fields, Catalogue, Warehouse, Season, Repeat, End, Command, Wrong}
 use Rattle.gc_script.specs.Earlier.{place, stated_fields, open_repeat, open_section, catalogue_names, is_printing}
 use Rattle.gc_script.specs.Faults.{Fault, first_fault, line_fault}
-use Rattle.gc_script.specs.Script.{Script, repeated, repetitions, pending, executed, execution, operation, label_of, ended_parts, open_parts, if_warehouse, if_catalogue, closed_warehouses, closed_catalogue, sections, executed_count, turned, limited, judged, body}
+use Rattle.gc_script.specs.Script.{Script, repeated, repetitions, pending, executed, execution, operation, label_of, ended_parts, parts_of_open_section, if_warehouse, if_catalogue, closed_warehouses, closed_catalogue, sections, executed_count, turned, limited, judged, body}
 use Rattle.gc_script.specs.Convert.{without_line, without_lines}
 use Rattle.gc_script.proofs.Shifted.{after_fields, same_section, same_names, same_repeat, some_shifted, times_shifted, fields_shifted, first_clear, later_clear, first_shifted, turned_after, same_count}
 
@@ -76,7 +76,7 @@ same_ended catalogue (End ∷ e) = same_ended catalogue e
 same_ended catalogue (Command spoken ∷ e) = same_ended catalogue e
 same_ended catalogue (Wrong ∷ e) = same_ended catalogue e
 
-same_open : (catalogue : List (List ℕ)) (e : List Statement) → bares (open_parts catalogue (after_fields e)) ≡ bares (open_parts catalogue e)
+same_open : (catalogue : List (List ℕ)) (e : List Statement) → bares (parts_of_open_section catalogue (after_fields e)) ≡ bares (parts_of_open_section catalogue e)
 same_open catalogue e = map_push bare (ended_parts catalogue (after_fields e)) (ended_parts catalogue e) _ _ (same_ended catalogue e) (same_executed catalogue e)
 
 closing_warehouses : (o q : Option ℕ) (xs ys : List (List (List Execution))) (a b : List (List Execution)) → o ≡ q → map bares xs ≡ map bares ys → bares a ≡ bares b → map bares (xs ++ if_warehouse o a) ≡ map bares (ys ++ if_warehouse q b)
@@ -102,7 +102,7 @@ same_closed catalogue (Blank ∷ e) = same_closed catalogue e
 same_closed catalogue (Fields n ∷ e) = same_closed catalogue e
 same_closed catalogue (Catalogue ∷ e) = same_closed catalogue e
 same_closed catalogue (Warehouse ∷ e) =
-    closing_warehouses (open_section (after_fields e)) (open_section e) (closed_warehouses catalogue (after_fields e)) (closed_warehouses catalogue e) (open_parts catalogue (after_fields e)) (open_parts catalogue e)
+    closing_warehouses (open_section (after_fields e)) (open_section e) (closed_warehouses catalogue (after_fields e)) (closed_warehouses catalogue e) (parts_of_open_section catalogue (after_fields e)) (parts_of_open_section catalogue e)
     (same_section e) (same_closed catalogue e) (same_open catalogue e)
 same_closed catalogue (Season ∷ e) = same_closed catalogue e
 same_closed catalogue (Repeat n ∷ e) = same_closed catalogue e
@@ -116,7 +116,7 @@ same_catalogue catalogue (Blank ∷ e) = same_catalogue catalogue e
 same_catalogue catalogue (Fields n ∷ e) = same_catalogue catalogue e
 same_catalogue catalogue (Catalogue ∷ e) = same_catalogue catalogue e
 same_catalogue catalogue (Warehouse ∷ e) =
-    closing_catalogue (open_section (after_fields e)) (open_section e) (closed_catalogue catalogue (after_fields e)) (closed_catalogue catalogue e) (open_parts catalogue (after_fields e)) (open_parts catalogue e)
+    closing_catalogue (open_section (after_fields e)) (open_section e) (closed_catalogue catalogue (after_fields e)) (closed_catalogue catalogue e) (parts_of_open_section catalogue (after_fields e)) (parts_of_open_section catalogue e)
     (same_section e) (same_catalogue catalogue e) (same_open catalogue e)
 same_catalogue catalogue (Season ∷ e) = same_catalogue catalogue e
 same_catalogue catalogue (Repeat n ∷ e) = same_catalogue catalogue e
@@ -128,10 +128,10 @@ same_sections : (catalogue : List (List ℕ)) (e : List Statement) → stated_fi
 same_sections catalogue e f =
     ap (λ (o : Option ℕ). record (without_lines (sections 2 catalogue (after_fields e))) { fields = unwrap_or o 0 }) f
     ∙ ap (λ (c : Option (List (List Execution))). record (without_lines (sections 2 catalogue (after_fields e))) { fields = 4; catalogue = c })
-    (closing_catalogue (open_section (after_fields e)) (open_section e) (closed_catalogue catalogue (after_fields e)) (closed_catalogue catalogue e) (open_parts catalogue (after_fields e)) (open_parts catalogue e)
+    (closing_catalogue (open_section (after_fields e)) (open_section e) (closed_catalogue catalogue (after_fields e)) (closed_catalogue catalogue e) (parts_of_open_section catalogue (after_fields e)) (parts_of_open_section catalogue e)
     (same_section e) (same_catalogue catalogue e) (same_open catalogue e))
     ∙ ap (λ (w : List (List (List Execution))). record (without_lines (sections 1 catalogue e)) { warehouses = w })
-    (closing_warehouses (open_section (after_fields e)) (open_section e) (closed_warehouses catalogue (after_fields e)) (closed_warehouses catalogue e) (open_parts catalogue (after_fields e)) (open_parts catalogue e)
+    (closing_warehouses (open_section (after_fields e)) (open_section e) (closed_warehouses catalogue (after_fields e)) (closed_warehouses catalogue e) (parts_of_open_section catalogue (after_fields e)) (parts_of_open_section catalogue e)
     (same_section e) (same_closed catalogue e) (same_open catalogue e))
 
 stated_at_end : (catalogue : List (List ℕ)) (e all : List Statement) → stated_fields (after_fields e) ≡ Some 4 → first_fault 1 catalogue e all ≡ None → stated_fields (after_fields (turned e all)) ≡ Some 4

@@ -1,14 +1,14 @@
 -- The parts and the warehouses of a script without a fault are few.
-use Rattle.std.proofs.Common.{◌≡◌, ℕ, ◌+◌, ◌≤◌, zero, suc, List, [], ◌∷◌, ◌++◌, length, refl, ap, sym, ◌∙◌, subst, Bool, true, false, arith}
+use Rattle.std.proofs.Common.{◌≡◌, ℕ, ◌+◌, ◌≤◌, zero, suc, List, [], ◌∷◌, ◌++◌, length, refl, ap, ◌∙◌, Bool, true, false, arith}
 use Rattle.std.proofs.lemmas.List.{append-nil, length-append}
 use Rattle.std.proofs.lemmas.List.Elements.{All-nil, All-push, All-same}
 use Rattle.std.specs.Prelude.{Option, Some, None, is_some, unwrap_or, ◌&&◌}
 use Rattle.std.specs.Option.{option_or}
 use Rattle.std.specs.List.{All}
 use Rattle.plain_heap.specs.Sections.{Execution}
-use Rattle.gc_script.specs.Statement.{Statement, Blank, Fields, Catalogue, Warehouse, Season, Repeat, End, Command, Wrong}
+use Rattle.script_lines.specs.Statement.{Statement, Blank, Fields, Catalogue, Warehouse, Season, Repeat, End, Command, Wrong}
 use Rattle.gc_script.specs.Earlier.{known_fields, open_section, season_count, warehouse_count}
-use Rattle.gc_script.specs.Script.{executed, ended_parts, open_parts, if_warehouse, if_catalogue, closed_warehouses, closed_catalogue}
+use Rattle.gc_script.specs.Script.{executed, ended_parts, parts_of_open_section, if_warehouse, if_catalogue, closed_warehouses, closed_catalogue}
 use Rattle.gc_script.specs.Context.{AreClear}
 use Rattle.gc_script.proofs.History.{none_is}
 use Rattle.gc_script.proofs.Ranges.{sane}
@@ -25,7 +25,7 @@ ended_count catalogue (End ∷ e) = ended_count catalogue e
 ended_count catalogue (Command spoken ∷ e) = ended_count catalogue e
 ended_count catalogue (Wrong ∷ e) = ended_count catalogue e
 
-pub open_count : (version : ℕ) (catalogue : List (List ℕ)) (e : List Statement) → AreClear version e → length (open_parts catalogue e) ≤ 64
+pub open_count : (version : ℕ) (catalogue : List (List ℕ)) (e : List Statement) → AreClear version e → length (parts_of_open_section catalogue e) ≤ 64
 open_count version catalogue e h =
     let more = length-append (ended_parts catalogue e) (executed catalogue e ∷ []) in
     let same = ended_count catalogue e in
@@ -58,8 +58,8 @@ few_parts version catalogue (Warehouse ∷ e) h =
     let f = few_parts version catalogue e h.1 in
     let few = open_count version catalogue e h.1 in
     record {
-      first = few_catalogue (open_section e) (open_parts catalogue e) (closed_catalogue catalogue e) few f.first;
-      others = few_warehouses (open_section e) (open_parts catalogue e) (closed_warehouses catalogue e) few f.others;
+      first = few_catalogue (open_section e) (parts_of_open_section catalogue e) (closed_catalogue catalogue e) few f.first;
+      others = few_warehouses (open_section e) (parts_of_open_section catalogue e) (closed_warehouses catalogue e) few f.others;
     }
 few_parts version catalogue (Season ∷ e) h = let f = few_parts version catalogue e h.1 in record { first = f.first; others = f.others }
 few_parts version catalogue (Repeat n ∷ e) h = let f = few_parts version catalogue e h.1 in record { first = f.first; others = f.others }
@@ -69,11 +69,11 @@ few_parts version catalogue (Wrong ∷ e) h = let f = few_parts version catalogu
 
 -- all sections at the end of these lines
 pub all_few : (version : ℕ) (catalogue : List (List ℕ)) (e : List Statement) → AreClear version e
-    → AreFew (unwrap_or (option_or (if_catalogue (open_section e) (open_parts catalogue e)) (closed_catalogue catalogue e)) []) × All AreFew (closed_warehouses catalogue e ++ if_warehouse (open_section e) (open_parts catalogue e))
+    → AreFew (unwrap_or (option_or (if_catalogue (open_section e) (parts_of_open_section catalogue e)) (closed_catalogue catalogue e)) []) × All AreFew (closed_warehouses catalogue e ++ if_warehouse (open_section e) (parts_of_open_section catalogue e))
 all_few version catalogue e h =
     let f = few_parts version catalogue e h in
     let few = open_count version catalogue e h in
-    (few_catalogue (open_section e) (open_parts catalogue e) (closed_catalogue catalogue e) few f.first, few_warehouses (open_section e) (open_parts catalogue e) (closed_warehouses catalogue e) few f.others)
+    (few_catalogue (open_section e) (parts_of_open_section catalogue e) (closed_catalogue catalogue e) few f.first, few_warehouses (open_section e) (parts_of_open_section catalogue e) (closed_warehouses catalogue e) few f.others)
 
 -- a warehouse is open
 abbrev open_one : Option ℕ → ℕ
@@ -93,8 +93,8 @@ right false b e = cc
 late : (n : ℕ) → open_one (Some (n + 1)) ≡ 1
 late n = ap (λ (k : ℕ). open_one (Some k)) (Rattle.std.proofs.Common.add-one n)
 
-all_warehouses : (catalogue : List (List ℕ)) (e : List Statement) → length (closed_warehouses catalogue e ++ if_warehouse (open_section e) (open_parts catalogue e)) ≡ length (closed_warehouses catalogue e) + open_one (open_section e)
-all_warehouses catalogue e = length-append (closed_warehouses catalogue e) _ ∙ ap (λ (n : ℕ). length (closed_warehouses catalogue e) + n) (open_one_is (open_section e) (open_parts catalogue e))
+all_warehouses : (catalogue : List (List ℕ)) (e : List Statement) → length (closed_warehouses catalogue e ++ if_warehouse (open_section e) (parts_of_open_section catalogue e)) ≡ length (closed_warehouses catalogue e) + open_one (open_section e)
+all_warehouses catalogue e = length-append (closed_warehouses catalogue e) _ ∙ ap (λ (n : ℕ). length (closed_warehouses catalogue e) + n) (open_one_is (open_section e) (parts_of_open_section catalogue e))
 
 warehouses_are : (version : ℕ) (catalogue : List (List ℕ)) (e : List Statement) → AreClear version e → length (closed_warehouses catalogue e) + open_one (open_section e) ≡ warehouse_count e
 warehouses_are version catalogue [] h = refl
@@ -115,7 +115,7 @@ warehouses_are version catalogue (End ∷ e) h = warehouses_are version catalogu
 warehouses_are version catalogue (Command spoken ∷ e) h = warehouses_are version catalogue e h.1
 warehouses_are version catalogue (Wrong ∷ e) h = warehouses_are version catalogue e h.1
 
-pub few_warehouses_all : (version : ℕ) (catalogue : List (List ℕ)) (e : List Statement) → AreClear version e → length (closed_warehouses catalogue e ++ if_warehouse (open_section e) (open_parts catalogue e)) ≤ 32
+pub few_warehouses_all : (version : ℕ) (catalogue : List (List ℕ)) (e : List Statement) → AreClear version e → length (closed_warehouses catalogue e ++ if_warehouse (open_section e) (parts_of_open_section catalogue e)) ≤ 32
 few_warehouses_all version catalogue e h =
     let same = warehouses_are version catalogue e h in
     let all = all_warehouses catalogue e in

@@ -1,5 +1,5 @@
 -- The commands that are counted by lines are those that the sections have.
-use Rattle.std.proofs.Common.{◌≡◌, ℕ, ◌+◌, ◌*◌, ◌≤◌, ◌<◌, zero, suc, List, [], ◌∷◌, ◌++◌, length, map, refl, ap, sym, ◌∙◌, subst, cond, Bool, true, false, arith}
+use Rattle.std.proofs.Common.{◌≡◌, ℕ, ◌+◌, ◌*◌, zero, suc, List, [], ◌∷◌, ◌++◌, refl, ap, sym, ◌∙◌, subst, cond, Bool, true, false, arith}
 use Rattle.std.proofs.lemmas.List.{append-nil}
 use Rattle.std.proofs.lemmas.List.Sums.{sum_by-append}
 use Rattle.std.proofs.lemmas.List.Concat.{flat_map-append}
@@ -7,9 +7,9 @@ use Rattle.std.specs.Prelude.{Option, Some, None, is_none, is_some, ◌&&◌}
 use Rattle.std.specs.Option.{option_or}
 use Rattle.std.specs.List.{count_by}
 use Rattle.plain_heap.specs.Sections.{Execution, joined}
-use Rattle.gc_script.specs.Statement.{Spoken, Statement, Blank, Fields, Catalogue, Warehouse, Season, Repeat, End, Command, Wrong}
+use Rattle.script_lines.specs.Statement.{Spoken, Statement, Blank, Fields, Catalogue, Warehouse, Season, Repeat, End, Command, Wrong}
 use Rattle.gc_script.specs.Earlier.{known_fields, open_repeat, open_section}
-use Rattle.gc_script.specs.Script.{repeated, repetitions, pending, executed, execution, ended_parts, open_parts, if_warehouse, if_catalogue, closed_warehouses, closed_catalogue, one_if, pending_count, executed_count}
+use Rattle.gc_script.specs.Script.{repeated, repetitions, pending, executed, execution, ended_parts, parts_of_open_section, if_warehouse, if_catalogue, closed_warehouses, closed_catalogue, one_if, pending_count, executed_count}
 use Rattle.gc_script.specs.Context.{AreClear}
 use Rattle.gc_script.specs.Sectioned.{in_parts, in_sections}
 use Rattle.gc_script.proofs.Repeats.{count_by-append, count_repeated}
@@ -101,10 +101,10 @@ command_total test true es d t e = omega arith
 command_total test false es d t e = let more = count_by-append test es (d ∷ []) in let one = ap one_if e in omega arith
 
 -- the parts of the open section
-open_total : (test : Execution → Bool) (catalogue : List (List ℕ)) (e : List Statement) → in_parts test (open_parts catalogue e) ≡ in_parts test (ended_parts catalogue e) + count_by test (executed catalogue e)
+open_total : (test : Execution → Bool) (catalogue : List (List ℕ)) (e : List Statement) → in_parts test (parts_of_open_section catalogue e) ≡ in_parts test (ended_parts catalogue e) + count_by test (executed catalogue e)
 open_total test catalogue e = parts_more test (ended_parts catalogue e) (executed catalogue e)
 
-bare_total : (version : ℕ) (test : Execution → Bool) (catalogue : List (List ℕ)) (e : List Statement) → AreClear version e → open_section e ≡ None → in_parts test (open_parts catalogue e) ≡ 0
+bare_total : (version : ℕ) (test : Execution → Bool) (catalogue : List (List ℕ)) (e : List Statement) → AreClear version e → open_section e ≡ None → in_parts test (parts_of_open_section catalogue e) ≡ 0
 bare_total version test catalogue e h o =
     let b = bare version catalogue e h o in
     let parts = ap (in_parts test) b.ended in
@@ -114,9 +114,9 @@ bare_total version test catalogue e h o =
 
 -- all sections of these lines
 pub sections_total : (version : ℕ) (test : Execution → Bool) (catalogue : List (List ℕ)) (e : List Statement) → AreClear version e
-    → in_sections test (option_or (if_catalogue (open_section e) (open_parts catalogue e)) (closed_catalogue catalogue e)) (closed_warehouses catalogue e ++ if_warehouse (open_section e) (open_parts catalogue e)) ≡ total test catalogue e
+    → in_sections test (option_or (if_catalogue (open_section e) (parts_of_open_section catalogue e)) (closed_catalogue catalogue e)) (closed_warehouses catalogue e ++ if_warehouse (open_section e) (parts_of_open_section catalogue e)) ≡ total test catalogue e
 sections_total version test catalogue e h =
-    closing_total test (open_section e) (open_parts catalogue e) (closed_catalogue catalogue e) (closed_warehouses catalogue e) (bare_total version test catalogue e h) (not_closed version catalogue e h)
+    closing_total test (open_section e) (parts_of_open_section catalogue e) (closed_catalogue catalogue e) (closed_warehouses catalogue e) (bare_total version test catalogue e h) (not_closed version catalogue e h)
     ∙ ap (λ (n : ℕ). in_sections test (closed_catalogue catalogue e) (closed_warehouses catalogue e) + n) (open_total test catalogue e)
 
 pub total_is : (version : ℕ) (said : Spoken → Bool) (test : Execution → Bool) (catalogue : List (List ℕ)) (e : List Statement) → Agree said test catalogue → AreClear version e

@@ -4,11 +4,11 @@ use Rattle.std.specs.Prelude.{nat_lt, Option, Some, None, is_some, unwrap_or, Re
 use Rattle.std.specs.Option.{option_or}
 use Rattle.std.specs.List.{All}
 use Rattle.plain_heap.specs.Sections.{Execution}
-use Rattle.gc_script.specs.Statement.{NewOf, LetOf, NilOf, SetOf, GetOf, CatOf, PutOf, SayOf, SumOf, CollectOf, Statement}
+use Rattle.script_lines.specs.Statement.{NewOf, LetOf, NilOf, SetOf, GetOf, CatOf, PutOf, SayOf, SumOf, CollectOf, Statement}
 use Rattle.gc_script.specs.Earlier.{known_fields, open_repeat, open_section, catalogue_names, is_printing}
 use Rattle.gc_script.specs.Faults.{Fault, BadHeader, TooManyCommands, TooManyLines, unless_, left_open, end_fault}
-use Rattle.gc_script.specs.Script.{Script, executed, ended_parts, open_parts, if_warehouse, if_catalogue, closed_warehouses, closed_catalogue, sections, executed_count, turned, limited, judged, body}
-use Rattle.gc_script.specs.Context.{Context, context_of, AreClear, Agrees}
+use Rattle.gc_script.specs.Script.{Script, executed, ended_parts, parts_of_open_section, if_warehouse, if_catalogue, closed_warehouses, closed_catalogue, sections, executed_count, turned, limited, judged, body}
+use Rattle.gc_script.specs.Context.{Context, context_of, AreClear, IsCatalogueKnown}
 use Rattle.gc_script.specs.Kept.{context_shown}
 use Rattle.gc_script.specs.Content.{content_of, kept_shown, end_part, close}
 use Rattle.gc_script.specs.Blocks.{counts}
@@ -54,20 +54,20 @@ abbrev other_parts : List (List ℕ) → List Statement → List (List Execution
 other_parts catalogue e parts = closed_warehouses catalogue e ++ if_warehouse (open_section e) parts
 
 -- the parts of the open section, as they are kept
-kept_parts : (version : ℕ) (catalogue : List (List ℕ)) (e : List Statement) → AreClear version e → end_fault version e ≡ None → (end_part (content_of catalogue e)).ended ≡ open_parts catalogue e
+kept_parts : (version : ℕ) (catalogue : List (List ℕ)) (e : List Statement) → AreClear version e → end_fault version e ≡ None → (end_part (content_of catalogue e)).ended ≡ parts_of_open_section catalogue e
 kept_parts version catalogue e h f =
     ap (λ (part : List Execution). ended_parts catalogue e ++ part ∷ []) (sym (executed_outside version catalogue e h (ends_outside (known_fields version e) (open_repeat e) f)))
 
-legal : (version : ℕ) (catalogue : List (List ℕ)) (e : List Statement) → AreClear version e → Agrees catalogue e → end_fault version e ≡ None
-    → AreLegal (unwrap_or (known_fields version e) 0) (first_parts catalogue e (open_parts catalogue e)) (other_parts catalogue e (open_parts catalogue e))
+legal : (version : ℕ) (catalogue : List (List ℕ)) (e : List Statement) → AreClear version e → IsCatalogueKnown catalogue e → end_fault version e ≡ None
+    → AreLegal (unwrap_or (known_fields version e) 0) (first_parts catalogue e (parts_of_open_section catalogue e)) (other_parts catalogue e (parts_of_open_section catalogue e))
 legal version catalogue e h a f =
     let fields : ℕ = unwrap_or (known_fields version e) 0 in
     let r : AreRanged fields catalogue e = ranged version fields catalogue e h a (λ o. ends_known (known_fields version e) (open_repeat e) f) in
-    let parts : AllFit (Fits fields) (open_parts catalogue e) = fit_push (Fits fields) (ended_parts catalogue e) (executed catalogue e) r.ended r.executed in
+    let parts : AllFit (Fits fields) (parts_of_open_section catalogue e) = fit_push (Fits fields) (ended_parts catalogue e) (executed catalogue e) r.ended r.executed in
     let few = all_few version catalogue e h in
-    let warehouses : All (AllFit (Fits fields)) (other_parts catalogue e (open_parts catalogue e)) = fit_warehouses (Fits fields) (open_section e) (open_parts catalogue e) (closed_warehouses catalogue e) parts r.warehouses in
+    let warehouses : All (AllFit (Fits fields)) (other_parts catalogue e (parts_of_open_section catalogue e)) = fit_warehouses (Fits fields) (open_section e) (parts_of_open_section catalogue e) (closed_warehouses catalogue e) parts r.warehouses in
     record {
-      first = record { range = fit_catalogue (Fits fields) (open_section e) (open_parts catalogue e) (closed_catalogue catalogue e) (λ o. parts) r.first; seasons = few.0 };
+      first = record { range = fit_catalogue (Fits fields) (open_section e) (parts_of_open_section catalogue e) (closed_catalogue catalogue e) (λ o. parts) r.first; seasons = few.0 };
       others = λ k d l. record { range = warehouses k d l; seasons = few.1 k d l };
       count = few_warehouses_all version catalogue e h;
       most = (sane version e h).fields;
@@ -75,7 +75,7 @@ legal version catalogue e h a f =
       alone = alone-end version catalogue e h;
     }
 
-whole_content : (version : ℕ) (catalogue : List (List ℕ)) (e : List Statement) → AreClear version e → Agrees catalogue e → IsWhole (context_of version e) (content_of catalogue e)
+whole_content : (version : ℕ) (catalogue : List (List ℕ)) (e : List Statement) → AreClear version e → IsCatalogueKnown catalogue e → IsWhole (context_of version e) (content_of catalogue e)
 whole_content version catalogue e h a f =
     subst (λ (parts : List (List Execution)). AreLegal (unwrap_or (known_fields version e) 0) (first_parts catalogue e parts) (other_parts catalogue e parts))
     (sym (kept_parts version catalogue e h f)) (legal version catalogue e h a f)
@@ -92,13 +92,13 @@ by_limits false true version catalogue e = refl
 by_limits false false version catalogue e = refl
 
 limited_is : (version : ℕ) (catalogue : List (List ℕ)) (e : List Statement) → AreClear version e
-    → limited_script version (unwrap_or (known_fields version e) 0) (first_parts catalogue e (open_parts catalogue e)) (other_parts catalogue e (open_parts catalogue e))
+    → limited_script version (unwrap_or (known_fields version e) 0) (first_parts catalogue e (parts_of_open_section catalogue e)) (other_parts catalogue e (parts_of_open_section catalogue e))
     ≡ limited (nat_lt 2000000 (executed_count (λ spoken. true) e)) (nat_lt 65536 (executed_count is_printing e)) version catalogue e
 limited_is version catalogue e h =
     let commands = sections_total version (counts AllOf) catalogue e h ∙ total_is version (λ spoken. true) (counts AllOf) catalogue e (λ f s. refl) h in
     let lines = sections_total version (counts Printing) catalogue e h ∙ total_is version is_printing (counts Printing) catalogue e (printing catalogue) h in
     let made : Result Script Fault = Ok (record { version = version; sections = sections version catalogue e }) in
-    ap (λ (n : ℕ). cond (nat_lt 2000000 n) (Err TooManyCommands) (cond (nat_lt 65536 (in_sections (counts Printing) (first_parts catalogue e (open_parts catalogue e)) (other_parts catalogue e (open_parts catalogue e)))) (Err TooManyLines) made)) commands
+    ap (λ (n : ℕ). cond (nat_lt 2000000 n) (Err TooManyCommands) (cond (nat_lt 65536 (in_sections (counts Printing) (first_parts catalogue e (parts_of_open_section catalogue e)) (other_parts catalogue e (parts_of_open_section catalogue e)))) (Err TooManyLines) made)) commands
     ∙ ap (λ (n : ℕ). cond (nat_lt 2000000 (executed_count (λ spoken. true) e)) (Err TooManyCommands) (cond (nat_lt 65536 n) (Err TooManyLines) made)) lines
     ∙ by_limits _ _ version catalogue e
 

@@ -15,14 +15,18 @@ is_counted All op = true
 is_counted Making op = makes_object op
 is_counted Printing op = prints_line op
 
+-- a command is of a kind
 abbrev pub counts : Kind → Execution → Bool
 counts kind e = is_counted kind e.op
 
+-- what a block executes: its commands, as often as it repeats them
 abbrev pub block_shown : block.Block → List Execution
 block_shown b = repeated b.times (map execution_of b.body.items)
 
+-- what these blocks execute, one after another
 abbrev pub blocks_shown : List block.Block → List Execution
 blocks_shown bs = flat_map block_shown bs
 
+-- what a part executes
 abbrev pub part_shown : part.Part → List Execution
 part_shown p = blocks_shown p.blocks.items

@@ -2,7 +2,7 @@
 use Rattle.std.specs.Prelude.{ℕ, List, [], ◌∷◌, ◌++◌, map, Option, option_map}
 use Rattle.std.specs.Option.{option_or}
 use Rattle.plain_heap.specs.Sections.{Execution}
-use Rattle.gc_script.specs.Statement.{Statement, Catalogue, Warehouse, Season, Repeat, End, Command}
+use Rattle.script_lines.specs.Statement.{Statement, Catalogue, Warehouse, Season, Repeat, End, Command}
 use Rattle.gc_script.specs.Earlier.{open_repeat}
 use Rattle.gc_script.specs.Script.{repeated, repetitions, pending, ended_parts, if_warehouse, if_catalogue, closed_warehouses, closed_catalogue}
 use Rattle.gc_script.specs.Context.{Context, execution_in}
@@ -10,8 +10,8 @@ use Rattle.gc_script.specs.Shown.{execution_of}
 use Rattle.gc_script.specs.Blocks.{blocks_shown, part_shown}
 use Rattle.gc_script.specs.declared.kept.Kept.{Kept}
 
--- the sections before the one that was started last, its parts before the one that was begun last,
--- and of that the commands before the last line that cuts them, and those since
+-- the sections before the one that was started last, and of that one the parts before the one that was begun last;
+-- of that part, the commands before the last line that cuts them, and those since
 pub record Content : Type 0 where
   pub catalogue : Option (List (List Execution))
   pub warehouses : List (List (List Execution))
@@ -29,6 +29,7 @@ settled catalogue (Repeat n ∷ earlier) = settled catalogue earlier ++ repeated
 settled catalogue (End ∷ earlier) = settled catalogue earlier ++ repeated (repetitions (open_repeat earlier)) (pending catalogue earlier)
 settled catalogue (statement ∷ earlier) = settled catalogue earlier
 
+-- the content after these lines, latest first
 abbrev pub content_of : List (List ℕ) → List Statement → Content
 content_of catalogue earlier = record {
   catalogue = closed_catalogue catalogue earlier;
@@ -63,6 +64,7 @@ content_after c content End = settle (repetitions c.opened) content
 content_after c content (Command spoken) = record content { pending = content.pending ++ execution_in c spoken ∷ [] }
 content_after c content statement = content
 
+-- what the reader keeps of the commands, as the definitions have it
 abbrev pub kept_shown : Kept → Content
 kept_shown k = record {
   catalogue = option_map (λ parts. map part_shown parts.items) k.catalogue;

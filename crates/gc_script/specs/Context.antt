@@ -3,8 +3,8 @@ use Rattle.std.specs.Prelude.{ℕ, ◌≡◌, ◌≤◌, ◌+◌, zero, suc, Lis
 use Rattle.std.specs.List.{list_all}
 use Rattle.plain_heap.specs.declared.operation.Op.{Op}
 use Rattle.plain_heap.specs.Sections.{Execution}
-use Rattle.gc_script.specs.Statement.{Spoken, Statement, Blank, Fields, Catalogue, Warehouse, Season, Repeat, End, Command, Wrong}
-use Rattle.gc_script.specs.Earlier.{next_line, place, has_name, reads, reads_of_catalogue, assigns, with_name, known_fields, known_names, open_repeat, warehouse_count, season_count, open_section}
+use Rattle.script_lines.specs.Statement.{Spoken, Statement, Blank, Fields, Catalogue, Warehouse, Season, Repeat, End, Command, Wrong}
+use Rattle.gc_script.specs.Earlier.{next_line, place, has_name, names_read, reads_of_catalogue, assigns, with_name, known_fields, known_names, open_repeat, warehouse_count, season_count, open_section}
 use Rattle.gc_script.specs.Faults.{Fault, BadHeader, BadLine, UnknownName, TooManyNames, NumberTooLarge, TooManySections, TooManySeasons, starts_section, may_stand, has_large_number, unless_, cuts_repeat, left_open}
 use Rattle.gc_script.specs.Script.{operation, label_of}
 
@@ -32,6 +32,7 @@ closed_names [] = []
 closed_names (Warehouse ∷ earlier) = closing (open_section earlier) (known_names earlier) (closed_names earlier)
 closed_names (statement ∷ earlier) = closed_names earlier
 
+-- the context after these lines, latest first
 abbrev pub context_of : ℕ → List Statement → Context
 context_of version earlier = record {
   version = version;
@@ -45,7 +46,7 @@ context_of version earlier = record {
   catalogue = closed_names earlier;
 }
 
--- the same, on the next line
+-- the context of the next line, where this line changes nothing else
 abbrev pub next : Context → Context
 next c = record c { line = c.line + 1 }
 
@@ -84,7 +85,7 @@ large_in c statement = has_large_number (unwrap_or c.fields 0) statement
 
 -- each name that a line reads is known
 abbrev pub knows_in : Context → Statement → Bool
-knows_in c (Command spoken) = list_all (λ name. has_name name c.names) (reads spoken) && list_all (λ name. has_name name c.catalogue) (reads_of_catalogue spoken)
+knows_in c (Command spoken) = list_all (λ name. has_name name c.names) (names_read spoken) && list_all (λ name. has_name name c.catalogue) (reads_of_catalogue spoken)
 knows_in c statement = true
 
 -- the names of the section after the line
@@ -94,10 +95,12 @@ names_after c Warehouse = []
 names_after c (Command spoken) = with_name (assigns spoken) c.names
 names_after c statement = c.names
 
+-- how many warehouses were started, this line included
 abbrev pub warehouses_after : Context → Statement → ℕ
 warehouses_after c Warehouse = c.warehouses + 1
 warehouses_after c statement = c.warehouses
 
+-- how many `season` lines the section has, this line included
 abbrev pub seasons_after : Context → Statement → ℕ
 seasons_after c Catalogue = 0
 seasons_after c Warehouse = 0
@@ -155,5 +158,5 @@ abbrev pub end_fault_in : Context → Option Fault
 end_fault_in c = unless_ (is_some c.fields) BadHeader (left_open c.opened)
 
 -- what a command of a warehouse reads of the catalogue is known by now
-abbrev pub Agrees : List (List ℕ) → List Statement → Type 0
-Agrees catalogue e = (w : ℕ) → open_section e ≡ Some (suc w) → closed_names e ≡ catalogue
+abbrev pub IsCatalogueKnown : List (List ℕ) → List Statement → Type 0
+IsCatalogueKnown catalogue e = (w : ℕ) → open_section e ≡ Some (suc w) → closed_names e ≡ catalogue

@@ -8,6 +8,7 @@ use Rattle.gc_script.specs.Shown.{fault_of}
 use Rattle.gc_script.specs.declared.converter.Converted.{Converted}
 use Rattle.gc_script.specs.declared.script.ScriptError.{ScriptError}
 
+-- a conversion of the code, as the definitions have it
 abbrev pub conversion_of : Converted → Conversion
 conversion_of c = record { added = c.added; rest = c.rest.now }
 

@@ -13,8 +13,9 @@ use Rattle.gc_script.specs.declared.block.Kind.TheVariants.{All, Printing}
 use Rattle.gc_script.specs.declared.script.ScriptError.{ScriptError}
 use Rattle.std.specs.Global.{Vec}
 
-abbrev pub parts_of : Vec part.Part → List (List Execution)
-parts_of v = map part_shown v.items
+-- what each of these parts executes
+abbrev pub parts_shown : Vec part.Part → List (List Execution)
+parts_shown v = map part_shown v.items
 
 -- an error tells this fault, or that memory ran out
 abbrev pub is_refused : {A : Type 0} → Option Fault → Result A Fault → Type 0
@@ -26,6 +27,7 @@ abbrev pub ReadAnswers : Result Script ScriptError → Result Script Fault → T
 ReadAnswers (Ok s) r = r ≡ Ok s
 ReadAnswers (Err e) r = is_refused (fault_of e) r
 
+-- the script of this version with these sections
 abbrev pub script_made : ℕ → ℕ → Option (List (List Execution)) → List (List (List Execution)) → Script
 script_made version fields catalogue warehouses = record { version = version; sections = record { fields = fields; catalogue = catalogue; warehouses = warehouses } }
 
@@ -36,11 +38,12 @@ limited_script version fields catalogue warehouses =
     else (if nat_lt 65536 (in_sections (counts Printing) catalogue warehouses) then Err TooManyLines
     else Ok (script_made version fields catalogue warehouses))
 
--- the same at the end of input
+-- the script at the end of input: the fault of the end where it has one, else the script within its limits
 abbrev pub ended_script : Option Fault → Context → Content → Result Script Fault
 ended_script (Some fault) c content = Err fault
 ended_script None c content = limited_script c.version (unwrap_or c.fields 0) content.catalogue content.warehouses
 
+-- the script of the lines that were read, once the last section is closed
 abbrev pub finished_script : Context → Content → Result Script Fault
 finished_script c content = ended_script (end_fault_in c) c (close c.section (end_part content))
 

@@ -7,9 +7,11 @@ use Rattle.gc_script.specs.declared.script.ScriptError.{ScriptError}
 use Rattle.gc_script.specs.declared.context.Opened.{Opened}
 use Rattle.gc_script.specs.declared.context.Context as code
 
+-- the line of a `repeat` that has no `end` yet, and how often it repeats
 abbrev pub opened_of : Opened → ℕ × ℕ
 opened_of o = (o.line, o.times)
 
+-- what the reader keeps of the lines before, as the definitions have it
 abbrev pub context_shown : code.Context → Context
 context_shown c = record {
   version = c.version;

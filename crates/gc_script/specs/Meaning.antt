@@ -4,8 +4,8 @@ use Rattle.std.specs.Option.{option_or}
 use Rattle.plain_heap.specs.declared.operation.Op.{Op}
 use Rattle.plain_heap.specs.declared.operation.Op.TheVariants as ops
 use Rattle.plain_heap.specs.Sections.{Execution, Sections}
-use Rattle.gc_script.specs.ScriptText.{lines, words}
-use Rattle.gc_script.specs.Statement.{Spoken, NewOf, LetOf, NilOf, SetOf, GetOf, CatOf, PutOf, SayOf, SumOf, CollectOf, Statement, Catalogue, Warehouse, Season, Repeat, End, Command, statement, header}
+use Rattle.script_lines.specs.ScriptText.{lines, words}
+use Rattle.script_lines.specs.Statement.{Spoken, NewOf, LetOf, NilOf, SetOf, GetOf, CatOf, PutOf, SayOf, SumOf, CollectOf, Statement, Catalogue, Warehouse, Season, Repeat, End, Command, statement, header}
 use Rattle.gc_script.specs.Known.{next_line, place, known_fields, known_names, open_repeat, open_section, catalogue_names}
 
 -- the operation of a command, with its names by their numbers
@@ -76,8 +76,8 @@ ended_parts catalogue (Season ∷ earlier) = ended_parts catalogue earlier ++ ex
 ended_parts catalogue (statement ∷ earlier) = ended_parts catalogue earlier
 
 -- the parts of the section that was started last
-abbrev pub open_parts : List (List ℕ) → List Statement → List (List Execution)
-open_parts catalogue earlier = ended_parts catalogue earlier ++ executed catalogue earlier ∷ []
+abbrev pub parts_of_open_section : List (List ℕ) → List Statement → List (List Execution)
+parts_of_open_section catalogue earlier = ended_parts catalogue earlier ++ executed catalogue earlier ∷ []
 
 -- the parts, where the section is a warehouse
 abbrev pub if_warehouse : Option ℕ → List (List Execution) → List (List (List Execution))
@@ -94,21 +94,21 @@ if_catalogue (Some (suc w)) parts = None
 -- the warehouses before the section that was started last
 abbrev pub closed_warehouses : List (List ℕ) → List Statement → List (List (List Execution))
 closed_warehouses catalogue [] = []
-closed_warehouses catalogue (Warehouse ∷ earlier) = closed_warehouses catalogue earlier ++ if_warehouse (open_section earlier) (open_parts catalogue earlier)
+closed_warehouses catalogue (Warehouse ∷ earlier) = closed_warehouses catalogue earlier ++ if_warehouse (open_section earlier) (parts_of_open_section catalogue earlier)
 closed_warehouses catalogue (statement ∷ earlier) = closed_warehouses catalogue earlier
 
 -- the catalogue, where its section isn't the one that was started last
 abbrev pub closed_catalogue : List (List ℕ) → List Statement → Option (List (List Execution))
 closed_catalogue catalogue [] = None
-closed_catalogue catalogue (Warehouse ∷ earlier) = option_or (if_catalogue (open_section earlier) (open_parts catalogue earlier)) (closed_catalogue catalogue earlier)
+closed_catalogue catalogue (Warehouse ∷ earlier) = option_or (if_catalogue (open_section earlier) (parts_of_open_section catalogue earlier)) (closed_catalogue catalogue earlier)
 closed_catalogue catalogue (statement ∷ earlier) = closed_catalogue catalogue earlier
 
 -- all sections of these lines
 abbrev pub sections : ℕ → List (List ℕ) → List Statement → Sections
 sections version catalogue all = record {
   fields = unwrap_or (known_fields version all) 0;
-  catalogue = option_or (if_catalogue (open_section all) (open_parts catalogue all)) (closed_catalogue catalogue all);
-  warehouses = closed_warehouses catalogue all ++ if_warehouse (open_section all) (open_parts catalogue all);
+  catalogue = option_or (if_catalogue (open_section all) (parts_of_open_section catalogue all)) (closed_catalogue catalogue all);
+  warehouses = closed_warehouses catalogue all ++ if_warehouse (open_section all) (parts_of_open_section catalogue all);
 }
 
 -- these lines first to last, after those latest first

@@ -1,12 +1,12 @@
 -- A script: its version and its sections, or its first fault.
 use Rattle.std.specs.Prelude.{ℕ, ◌≡◌, ◌+◌, ◌*◌, List, [], ◌∷◌, length, Bool, true, false, nat_lt, if◌then◌else◌, Option, Some, None, Result, Ok, Err, is_some, map}
 use Rattle.plain_heap.specs.Sections.{Sections}
-use Rattle.gc_script.specs.ScriptText.{first_foreign, lines, words}
-use Rattle.gc_script.specs.Statement.{Spoken, Statement, Catalogue, Warehouse, Repeat, End, Command, statement, header}
+use Rattle.script_lines.specs.ScriptText.{first_foreign, lines, words}
+use Rattle.script_lines.specs.Statement.{Spoken, Statement, Catalogue, Warehouse, Repeat, End, Command, statement, header}
 use Rattle.gc_script.specs.Earlier.{open_repeat, catalogue_names, is_printing}
 use Rattle.gc_script.specs.Faults.{Fault, NotAscii, BadHeader, TooManyCommands, TooManyLines, TooLong, first_fault}
 use Rattle.gc_script.specs.Meaning.{Means}
-pub use Rattle.gc_script.specs.Meaning.{operation, label_of, execution, repeated, repetitions, pending, executed, ended_parts, open_parts, if_warehouse, if_catalogue, closed_warehouses, closed_catalogue, sections, turned}
+pub use Rattle.gc_script.specs.Meaning.{operation, label_of, execution, repeated, repetitions, pending, executed, ended_parts, parts_of_open_section, if_warehouse, if_catalogue, closed_warehouses, closed_catalogue, sections, turned}
 
 -- the version that the header names, and what the script means
 pub record Script : Type 0 where

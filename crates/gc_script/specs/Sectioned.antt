@@ -1,15 +1,8 @@
 -- What holds of a section that was read.
-use Rattle.std.specs.Prelude.{ℕ, ◌≡◌, ◌≤◌, ◌+◌, List, [], ◌∷◌, length, map, sum_by, count_by, Bool, true, false, IsFalse, Option, Some, None, unwrap_or, option_map}
+use Rattle.std.specs.Prelude.{ℕ, ◌≡◌, ◌≤◌, ◌+◌, List, [], ◌∷◌, length, map, sum_by, count_by, Bool, true, IsFalse, Option, Some, None, unwrap_or, option_map}
 use Rattle.std.specs.List.{All}
 use Rattle.plain_heap.specs.PlainStep.{IsInRange}
-use Rattle.plain_heap.specs.declared.operation.Op.{Op}
-use Rattle.plain_heap.specs.declared.operation.Op.TheVariants.{Cat}
-use Rattle.plain_heap.specs.Sections.{Execution, Sections, Parts, joined, parts_of, section_of, warehouse_sections, made_by, printed_by, executed_total, printed_total, seasons}
-
--- the operation reads a variable of the catalogue
-abbrev pub lends : Op → Bool
-lends (Cat v c) = true
-lends op = false
+use Rattle.plain_heap.specs.Sections.{Execution, Sections, Parts, joined, parts_of, section_of, warehouse_sections, made_by, printed_by, executed_total, printed_total, seasons, lends}
 
 -- few parts, of few commands in range
 pub record IsSmall (fields : ℕ) (parts : List (List Execution)) : Type 0 where
@@ -17,7 +10,7 @@ pub record IsSmall (fields : ℕ) (parts : List (List Execution)) : Type 0 where
   pub few : length (joined parts) ≤ 2000000
   pub seasons : length parts ≤ 64
 
--- the same, with how many commands are executed, make an object and print
+-- few parts, of few commands in range; so many commands are executed, so many make an object, and so many print
 pub record IsCounted (fields : ℕ) (parts : List (List Execution)) (commands made printed : ℕ) : Type 0 where
   pub small : IsSmall fields parts
   pub executed_is : commands ≡ length (joined parts)
@@ -37,7 +30,7 @@ pub record IsLegal (fields : ℕ) (parts : List (List Execution)) : Type 0 where
   pub range : All (λ e. IsInRange fields e.op) (joined parts)
   pub seasons : length parts ≤ 64
 
--- so are all sections of a script
+-- all sections of a script, without a limit on their commands: how many there are, and what each may do
 pub record AreLegal (fields : ℕ) (catalogue : Option (List (List Execution))) (warehouses : List (List (List Execution))) : Type 0 where
   pub first : IsLegal fields (unwrap_or catalogue [])
   pub others : All (IsLegal fields) warehouses
@@ -47,6 +40,7 @@ pub record AreLegal (fields : ℕ) (catalogue : Option (List (List Execution))) 
   -- the catalogue reads no variable of the catalogue
   pub alone : All (λ e. IsFalse (lends e.op)) (joined (unwrap_or catalogue []))
 
+-- few sections, each of few parts and commands in range; at most 2,000,000 commands are executed in all
 pub record AreSmall (fields : ℕ) (catalogue : Option (List (List Execution))) (warehouses : List (List (List Execution))) : Type 0 where
   pub first : IsSmall fields (unwrap_or catalogue [])
   pub others : All (IsSmall fields) warehouses
@@ -57,9 +51,9 @@ pub record AreSmall (fields : ℕ) (catalogue : Option (List (List Execution))) 
   pub few : in_sections (λ e. true) catalogue warehouses ≤ 2000000
 
 -- the sections of these parts, numbered from n on
-abbrev pub numbered : ℕ → ℕ → List (List (List Execution)) → List Parts
-numbered fields n [] = []
-numbered fields n (parts ∷ others) = record { number = n; fields = fields; parts = parts } ∷ numbered fields (n + 1) others
+abbrev pub sections_numbered : ℕ → ℕ → List (List (List Execution)) → List Parts
+sections_numbered fields n [] = []
+sections_numbered fields n (parts ∷ others) = record { number = n; fields = fields; parts = parts } ∷ sections_numbered fields (n + 1) others
 
 -- the sections of a script that was read
 abbrev pub sections_shown : ℕ → Option Parts → List Parts → Sections
@@ -69,6 +63,7 @@ sections_shown fields catalogue warehouses = record {
   warehouses = map (λ w. w.parts) warehouses;
 }
 
+-- where there are parts, they are those of section 0
 abbrev pub is_catalogue : Sections → Option Parts → Type 0
 is_catalogue s None = Unit {0}
 is_catalogue s (Some c) = c ≡ section_of s 0

@@ -1,5 +1,5 @@
 //! Lends the executed commands of parts one after the other, with each `repeat` unrolled on the way.
-ghost use Rattle.std.specs.Prelude.{◌≡◌, ◌<◌, ◌∷◌, [], map, length, IsTrue, IsFalse, MatchOption};
+ghost use Rattle.std.specs.Prelude.{◌≡◌, ◌<◌, ◌∷◌, [], map, IsTrue, IsFalse, MatchOption};
 ghost use Rattle.std.specs.Iterator.{YieldsFirstBy, item_count};
 ghost use Rattle.plain_heap.specs.Sections.{joined};
 ghost use Rattle.gc_script.specs.Shown.{execution_of};

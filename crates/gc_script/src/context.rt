@@ -1,13 +1,13 @@
 //! What the reader keeps of the lines before a line, and what it tests of the line by that alone.
-ghost use Rattle.std.specs.Prelude.{◌≡◌, ◌≤◌, ◌<◌, ◌+◌, length, unwrap_or, OnOk, Some, option_map};
-ghost use Rattle.gc_script.specs.Statement.{Warehouse, Command};
+ghost use Rattle.std.specs.Prelude.{◌≡◌, ◌≤◌, ◌<◌, ◌+◌, length, unwrap_or, Some, option_map};
+ghost use Rattle.script_lines.specs.Statement.{Warehouse, Command};
 ghost use Rattle.gc_script.specs.Earlier.{is_for_catalogue, is_too_large, assigns, with_name};
 ghost use Rattle.gc_script.specs.Faults.{starts_section, may_stand, has_large_number};
-ghost use Rattle.gc_script.specs.Said.{said, said_command};
+ghost use Rattle.script_lines.specs.Said.{said, said_command};
 
 use crate::found::Found;
 use crate::script::ScriptError;
-use crate::statement::{Spoken, Statement};
+use script_lines::{Spoken, Statement};
 
 const MOST_NAMES: usize = 32;
 
@@ -110,7 +110,7 @@ fn has_large_number(fields: u64, statement: &Statement) -> bool
     }
 }
 
-/// The name that a command assigns.
+/// The name that a command assigns. None where the command assigns none.
 pub fn assigned<'a>(spoken: &Spoken<'a>) -> Option<&'a str>
     ensures { option_map (λ v. v.now) result ≡ assigns (said_command spoken.now) }
 {
@@ -128,7 +128,7 @@ impl<'a> Context<'a> {
     ghost use Rattle.gc_script.specs.Context.{placed_in, large_in, knows_in, names_after, warehouses_after, seasons_after, uncut_fault_in, fault_in};
     ghost use Rattle.gc_script.specs.Kept.{context_shown, told};
     ghost use Rattle.std.specs.List.{list_all};
-    ghost use Rattle.gc_script.specs.Earlier.{reads, reads_of_catalogue, has_name};
+    ghost use Rattle.gc_script.specs.Earlier.{names_read, reads_of_catalogue, has_name};
     ghost use Rattle.gc_script.specs.Found.{ArePlaces, AreFound};
 
     fn is_placed(&self, statement: &Statement) -> bool
@@ -158,7 +158,7 @@ impl<'a> Context<'a> {
     /// Each name of the section that a command reads is known.
     fn knows_read(&self, spoken: &Spoken, found: Found) -> bool
         requires { ArePlaces (context_shown self.now) (said_command spoken.now) found }
-        ensures { result ≡ list_all (λ name. has_name name (context_shown self.now).names) (reads (said_command spoken.now)) }
+        ensures { result ≡ list_all (λ name. has_name name (context_shown self.now).names) (names_read (said_command spoken.now)) }
     {
         match spoken {
             Spoken::Let { v: _, w: _ } => self.has(found.w),
@@ -276,7 +276,7 @@ impl<'a> Context<'a> {
         None
     }
 
-    /// The first fault of a line.
+    /// The first fault of a line. None where it has none.
     pub fn fault(&self, statement: &Statement, found: Found) -> Option<ScriptError>
         requires places { AreFound (context_shown self.now) (said statement.now) found }
         requires names { length (context_shown self.now).names ≤ 32 }

@@ -4,11 +4,9 @@ ghost use Rattle.std.specs.List.{after_first, position, position_or_len};
 ghost use Rattle.gc_script.specs.Convert.{KeepsMeaning, convert, if_short};
 ghost use Rattle.gc_script.specs.Converting.{ConvertAnswers, conversion_of, conversion};
 
-use crate::reader::read;
+use crate::reader::{LONGEST, read};
 use crate::script::ScriptError;
 use std::alloc::Global;
-
-const LONGEST: usize = 1_048_576;
 
 const ADDED: usize = 20;
 
@@ -56,7 +54,7 @@ fn if_short<'a>(converted: Converted<'a>) -> Result<Converted<'a>, ScriptError>
 }
 
 /// Makes of a script of version 1 one of version 2 that means the same; a later version is left as it is.
-/// Its faults are those of `read`, and after them `ConvertedTooLong`.
+/// Its faults are those of `read`, and after them `ConvertedTooLong`. Out of memory comes only of a source that is not too long.
 pub fn convert<'a>(alloc: Global, source: &'a [u8]) -> Result<Converted<'a>, ScriptError>
     ensures answers { ConvertAnswers result (convert source.now) }
     ensures memory { result ≡ Err ScriptError.OutOfMemory → length source.now ≤ 1048576 }

@@ -1,13 +1,12 @@
 //! The script of lines that were read to their end.
-ghost use Rattle.std.specs.Prelude.{◌≡◌, ◌≤◌, ◌+◌, [], Ok, Err, Option, List, map, min, max, length, fold, unwrap_or, option_map, OnErr, IfOk};
+ghost use Rattle.std.specs.Prelude.{◌≡◌, ◌≤◌, ◌+◌, [], Ok, Err, Option, map, min, max, length, fold, unwrap_or, option_map, OnErr, IfOk};
 ghost use Rattle.std.specs.List.{All};
-ghost use Rattle.plain_heap.specs.Sections.{joined, executed_total, printed_total};
 ghost use Rattle.gc_script.specs.Context.{end_fault_in};
 ghost use Rattle.gc_script.specs.Content.{kept_shown};
 ghost use Rattle.gc_script.specs.Kept.{context_shown, told};
-ghost use Rattle.gc_script.specs.Blocks.{counts, part_shown};
-ghost use Rattle.gc_script.specs.Sectioned.{IsSmall, AreLegal, AreSmall, in_parts, in_sections, numbered};
-ghost use Rattle.gc_script.specs.Finished.{parts_of, ReadAnswers, limited_script, finished_script, script_made, IsWhole};
+ghost use Rattle.gc_script.specs.Blocks.{counts};
+ghost use Rattle.gc_script.specs.Sectioned.{IsSmall, AreLegal, AreSmall, in_parts, in_sections, sections_numbered};
+ghost use Rattle.gc_script.specs.Finished.{parts_shown, ReadAnswers, limited_script, finished_script, script_made, IsWhole};
 
 use crate::block::{Kind, Part, count_in_parts};
 use crate::context::Context;
@@ -23,7 +22,7 @@ const MOST_COMMANDS: u64 = 2_000_000;
 const MOST_LINES: u64 = 65_536;
 
 fn count_in_catalogue(kind: Kind, catalogue: &Option<Vec<Part<'_>>>) -> u64
-    ensures { result ≡ min (in_parts (counts kind) (unwrap_or (option_map parts_of catalogue.now) [])) u64.MAX }
+    ensures { result ≡ min (in_parts (counts kind) (unwrap_or (option_map parts_shown catalogue.now) [])) u64.MAX }
 {
     match catalogue {
         None => 0,
@@ -37,7 +36,7 @@ fn count_in_sections(
     catalogue: &Option<Vec<Part<'_>>>,
     warehouses: &[Vec<Part<'_>>],
 ) -> u64
-    ensures { result ≡ min (in_sections (counts kind) (option_map parts_of catalogue.now) (map parts_of warehouses.now)) u64.MAX }
+    ensures { result ≡ min (in_sections (counts kind) (option_map parts_shown catalogue.now) (map parts_shown warehouses.now)) u64.MAX }
 {
     let mut count = count_in_catalogue(kind, catalogue);
     for parts in warehouses {
@@ -55,7 +54,7 @@ fn seasons_of_catalogue(catalogue: &Option<Section<'_>>) -> u32
     }
 }
 
-/// As many as the section with most parts.
+/// How many parts the section has that has most.
 fn most_seasons(catalogue: &Option<Section<'_>>, warehouses: &[Section<'_>]) -> u32
     ensures { result ≡ fold (λ most p. max most (length p)) (max 1 (length (unwrap_or (option_map (λ c. c.parts) catalogue.now) []))) (map (λ w. w.parts) warehouses.now) }
 {
@@ -73,8 +72,8 @@ fn numbered_sections<'a>(
     warehouses: Vec<Vec<Part<'a>>>,
 ) -> Result<Vec<Section<'a>>, OutOfMemory>
     requires few { length warehouses.items ≤ 32 }
-    requires small { All (IsSmall fields) (map parts_of warehouses.items) }
-    ensures { IfOk result (λ v. v.items ≡ numbered fields 1 (map parts_of warehouses.entry.items)) }
+    requires small { All (IsSmall fields) (map parts_shown warehouses.items) }
+    ensures { IfOk result (λ v. v.items ≡ sections_numbered fields 1 (map parts_shown warehouses.entry.items)) }
 {
     let mut sections = Vec::new(alloc);
     for parts in warehouses {
@@ -89,8 +88,8 @@ fn numbered_sections<'a>(
 
 /// The catalogue, numbered 0.
 fn catalogue_section<'a>(fields: u32, catalogue: Option<Vec<Part<'a>>>) -> Option<Section<'a>>
-    requires { IsSmall fields (unwrap_or (option_map parts_of catalogue) []) }
-    ensures { result ≡ option_map (λ p. record { number = 0; fields = fields; parts = p }) (option_map parts_of catalogue.entry) }
+    requires { IsSmall fields (unwrap_or (option_map parts_shown catalogue) []) }
+    ensures { result ≡ option_map (λ p. record { number = 0; fields = fields; parts = p }) (option_map parts_shown catalogue.entry) }
 {
     match catalogue {
         None => None,
@@ -161,7 +160,7 @@ impl<'a> Context<'a> {
     }
 }
 
-/// The script of the lines that were read.
+/// The script of the lines that were read. It is refused where too many commands are executed, or too many lines printed, or where there is no memory.
 pub fn script_of<'a>(alloc: Global, progress: Progress<'a>) -> Result<Script<'a>, ScriptError>
     requires { IsWhole (context_shown progress.context) (kept_shown progress.kept) }
     ensures { ReadAnswers result (finished_script (context_shown progress.entry.context) (kept_shown progress.entry.kept)) }

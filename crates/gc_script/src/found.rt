@@ -1,11 +1,11 @@
 //! Where the names of a line stand, which is looked up once for each line.
 ghost use Rattle.std.specs.Prelude.{◌≡◌, ◌≤◌, length, nat_lt};
 ghost use Rattle.gc_script.specs.Earlier.{place};
-ghost use Rattle.gc_script.specs.Said.{said, said_command};
+ghost use Rattle.script_lines.specs.Said.{said, said_command};
 
 use crate::context::Context;
 use crate::names::place_of;
-use crate::statement::{Spoken, Statement};
+use script_lines::{Spoken, Statement};
 
 /// The place of a line's first name, and that of its second, among the names of the section; a `cat` has its second in the catalogue.
 #[derive(Clone, Copy)]

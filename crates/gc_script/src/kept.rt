@@ -1,8 +1,7 @@
 //! What the reader keeps of the commands before a line.
-ghost use Rattle.std.specs.Prelude.{◌≡◌, ◌++◌, ◌∷◌, [], OnOk, unwrap_or};
-ghost use Rattle.plain_heap.specs.PlainStep.{IsInRange};
-ghost use Rattle.gc_script.specs.Said.{said};
-ghost use Rattle.gc_script.specs.Context.{IsClear, IsSane, context_after};
+ghost use Rattle.std.specs.Prelude.{◌≡◌, ◌++◌, ◌∷◌, [], OnOk};
+ghost use Rattle.script_lines.specs.Said.{said};
+ghost use Rattle.gc_script.specs.Context.{IsClear, IsSane};
 ghost use Rattle.gc_script.specs.Kept.{context_shown};
 ghost use Rattle.gc_script.specs.Shown.{execution_of};
 
@@ -10,8 +9,8 @@ use crate::block::{Block, Part};
 use crate::command::Command;
 use crate::context::Context;
 use crate::found::Found;
-use crate::statement::Statement;
 use plain_heap::OutOfMemory;
+use script_lines::Statement;
 use std::alloc::Global;
 use std::mem;
 
@@ -85,7 +84,7 @@ impl<'a> Kept<'a> {
         }
     }
 
-    /// Ends the open section.
+    /// Ends the open section. Out of memory is the only refusal.
     pub fn end_section(&mut self, alloc: Global, section: Option<u32>) -> Result<(), OutOfMemory>
         ensures { OnOk result (kept_shown self.new ≡ close section (end_part (kept_shown self.old))) }
     {
@@ -98,7 +97,6 @@ impl<'a> Kept<'a> {
 
 /// The commands of a part are kept as they are written: a `repeat` is not unrolled.
 impl<'a> Kept<'a> {
-    ghost use Rattle.gc_script.specs.Context.{operation_in};
     ghost use Rattle.gc_script.specs.Found.{AreFound};
     ghost use Rattle.gc_script.specs.Script.{repetitions};
     ghost use Rattle.gc_script.specs.Content.{kept_shown, settle, end_part, close, content_after};

@@ -1,19 +1,18 @@
 //! Reads a script.
-ghost use Rattle.std.specs.Prelude.{◌≡◌, ◌<◌, ◌≤◌, ◌^◌, None, Err, map, length, IfSome, IsOk};
-ghost use Rattle.std.specs.List.{list_all};
-ghost use Rattle.gc_script.specs.ScriptText.{is_allowed, first_foreign, lines, words};
-ghost use Rattle.gc_script.specs.Statement.{statement};
+ghost use Rattle.std.specs.Prelude.{◌≡◌, ◌<◌, ◌≤◌, ◌^◌, Err, map, length, IsOk};
+ghost use Rattle.script_lines.specs.ScriptText.{lines, words};
+ghost use Rattle.script_lines.specs.Statement.{statement};
 ghost use Rattle.gc_script.specs.Script.{script, body, of_lines};
 ghost use Rattle.gc_script.specs.Finished.{ReadAnswers};
 
-use crate::cutting::take_words;
 use crate::finish::script_of;
-use crate::header::version;
 use crate::progress::read_lines;
 use crate::script::{Script, ScriptError};
+use script_lines::{first_foreign, take_words, text_of, version};
 use std::alloc::Global;
 
-const LONGEST: usize = 1_048_576;
+/// The greatest number of bytes of a script.
+pub const LONGEST: usize = 1_048_576;
 
 fn script_of_body<'a>(alloc: Global, version: u32, text: &'a str) -> Result<Script<'a>, ScriptError>
     requires { length text.now < 2 ^ 21 }
@@ -36,44 +35,6 @@ fn script_of_text<'a>(alloc: Global, text: &'a str) -> Result<Script<'a>, Script
             None => Err(ScriptError::BadHeader),
             Some(version) => script_of_body(alloc, version, rest),
         },
-    }
-}
-
-fn is_allowed(byte: u8) -> bool
-    ensures { result ≡ is_allowed byte }
-{
-    byte == b'\n' || (32 <= byte && byte <= 126)
-}
-
-/// Whether a script may have each of these bytes. The loop goes on to the end, so that it can look at many bytes together.
-fn are_allowed(source: &[u8]) -> bool
-    ensures { result ≡ list_all is_allowed source.now }
-{
-    let mut allowed = true;
-    for b in source {
-        allowed &= is_allowed(*b);
-    }
-    allowed
-}
-
-fn first_foreign(source: &[u8]) -> Option<usize>
-    ensures first { result ≡ first_foreign source.now }
-    ensures within { IfSome result (λ offset. offset < length source.now) }
-{
-    if are_allowed(source) {
-        return None;
-    }
-    source.iter().position(|b| !is_allowed(*b))
-}
-
-/// The bytes of a source as a text.
-fn text_of<'a>(source: &'a [u8]) -> &'a str
-    requires { first_foreign source.now ≡ None }
-    ensures { result.now ≡ source.now }
-{
-    match str::from_utf8(source) {
-        Ok(text) => text,
-        Err(_) => unreachable!(),
     }
 }
 

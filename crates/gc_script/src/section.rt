@@ -1,5 +1,5 @@
 //! A section of a script.
-ghost use Rattle.std.specs.Prelude.{◌≡◌, ◌≤◌, ◌-◌, [], List, map, length, slice_index_or};
+ghost use Rattle.std.specs.Prelude.{◌≡◌, ◌≤◌, ◌-◌, [], map, length, slice_index_or};
 ghost use Rattle.std.specs.List.{All};
 ghost use Rattle.plain_heap.specs.PlainStep.{IsInRange};
 ghost use Rattle.plain_heap.specs.Sections.{joined, made_by, printed_by};

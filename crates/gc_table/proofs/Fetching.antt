@@ -60,7 +60,7 @@ pub record Took (s : SeatState) (step : Step) (n p : ℕ) : Type 0 where
   pub is : step ≡ Take pool p
   pub bit : has_bit n (p % 64) ≡ true
 
--- or the seat held it before, with a length that it hadn't read
+-- the step took packet p, or the seat held it before, with a length that it hadn't read
 pub record Kept (s : SeatState) (step : Step) (n p : ℕ) : Type 0 where
   pub none : taken_out p step n ≡ None
   pub held : holds s.held p ≡ true
@@ -87,7 +87,7 @@ after-set s step found r n p b none far h u =
 same-packet : (r p : ℕ) → StoreLength r ≡ StoreLength p → p ≡ r
 same-packet r p z = cc
 
--- so it is for each packet in hand whose length wasn't read
+-- each packet in hand whose length wasn't read was taken by the step, or held before with an unread length
 pub fetched-record : (sh : Shape) (s : SeatState) (step : Step) (n p : ℕ) → holds (seat_after sh s step n).held p ≡ true → has_length (seat_after sh s step n).held p ≡ false → Took s step n p ⊎ Kept s step n p
 fetched-record sh s (Take q r) n p h u = by_packet (cases_eq p r)
   where
@@ -153,7 +153,7 @@ take-asks c s step ok q r e =
     let k : AllTrue (parts c.shape (words_of c.shape c.words) c.seats s (Take q r)) = subst (λ x. AllTrue (parts c.shape (words_of c.shape c.words) c.seats s x)) e ok in
     (not-true _ k.1.0, k.1.1.1.0)
 
--- and of the pool
+-- what a take asks of the pool
 pub take-pool : (c : Core) (s : SeatState) (step : Step) → AllTrue (parts c.shape (words_of c.shape c.words) c.seats s step) → (q r : ℕ) → step ≡ Take q r → q < 4
 take-pool c s step ok q r e =
     let k : AllTrue (parts c.shape (words_of c.shape c.words) c.seats s (Take q r)) = subst (λ x. AllTrue (parts c.shape (words_of c.shape c.words) c.seats s x)) e ok in

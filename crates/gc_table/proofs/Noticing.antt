@@ -111,7 +111,7 @@ found-noted v step n m at f e h =
     let to : place f.state.core.shape v.state step ≡ at = ap (λ (sh : Shape). place sh v.state step) (sym f.agrees.shape) ∙ place-same (place v.shape v.state step) at e in
     sym f.word ∙ (ap (λ p. word_at f.state.core.shape f.state.core.words p) to ∙ (f.agrees.noted at m h).1)
 
--- and at a counter with a floor it isn't below
+-- what a step finds at a counter with a floor isn't below the floor
 pub found-floored : (v : View) (step : Step) (n m : ℕ) (at : ℕ × ℕ) → Finds step n v → same_place (place v.shape v.state step) at ≡ true → look at v.floors ≡ Some m → m ≤ n
 found-floored v step n m at f e h =
     let to : place f.state.core.shape v.state step ≡ at = ap (λ (sh : Shape). place sh v.state step) (sym f.agrees.shape) ∙ place-same (place v.shape v.state step) at e in

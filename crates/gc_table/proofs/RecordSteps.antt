@@ -1,5 +1,5 @@
--- A step whose condition speaks of the seat's record alone may be taken wherever the record is this one, and the record after it is known. This crate rests nothing on it. It stands here for the crates that take single steps of the table:
--- those of tests and benchmarks, and the opening of a world.
+-- A step whose condition speaks of the seat's record alone may be taken wherever the record is this one, and the record after it is known. This crate rests
+-- nothing on it. It stands here for the crates that take single steps of the table: those of tests and benchmarks, and the opening of a world.
 use Rattle.std.proofs.Common.{ℕ, ◌≡◌, List, arith, sym, ap, ◌∙◌, subst, Bool, true, cond, not}
 use Rattle.std.specs.Prelude.{nat_lt}
 use Rattle.std.proofs.lemmas.Bool.{lt-ltb}

@@ -46,7 +46,7 @@ begin = (start_core small 2, start_meanings small)
 abbrev making : List (Event × Op)
 making = by 0 EnterStep Collect ∷ by 0 ReadPhase Collect ∷ by 0 ReadSeason Collect ∷ by 0 (ClaimBlock 0) Collect ∷ by 0 ReadFree Collect ∷ by 0 (StoreNew 0 0 0) Collect ∷ by 0 (StoreNew 0 1 7) Collect ∷ by 0 (StoreNew 0 2 0) Collect ∷ []
 
--- and stores it, a reference of it to itself, and another value, and follows the reference
+-- the catalogue's seat stores the cell in a variable, a reference of it to itself, and another value, and follows the reference
 abbrev storing : List (Event × Op)
 storing = by 0 (StoreRoot 3 1) (New 3 7) ∷ by 0 (StoreField 3 0 (Some 3)) (Set 3 0 3) ∷ by 0 (StoreValue 3 9) (Put 3 9) ∷ by 0 (ReadOwn 0 0) Collect ∷ by 0 (StoreRoot 4 1) (Get 4 3 0) ∷ []
 
@@ -61,7 +61,7 @@ none_made = refl
 all_stored : (meaning_of (run_both storing (run_both making begin)).1 0).heap ≡ heap_from None (empty_heap 1 0) (New 3 7 ∷ Set 3 0 3 ∷ Put 3 9 ∷ Get 4 3 0 ∷ [])
 all_stored = refl
 
--- and all of this is allowed
+-- each of these steps is allowed
 making_allowed : first_refused 0 (map (λ x. x.0) making) begin.0 ≡ None
 making_allowed = refl
 
@@ -90,7 +90,7 @@ followed_is = refl
 fresh_newcomer : IsFresh small [] 1 (newcomer small [] 1)
 fresh_newcomer = record { shape = refl; state = refl; log = refl; known = refl; floors = refl; plan_is = refl; own = refl; joined = refl; logs = refl }
 
--- and a view with a note, or with a floor, is no newcomer's, even where the word says what was noted
+-- a view with a note, or with a floor, is no newcomer's, even where the word says what was noted
 fresh_noted : IsFresh small [] 1 (record (newcomer small [] 1) { known = (the_phase, Some 0) ∷ [] }) → ⊥
 fresh_noted k = let e : (the_phase, Some 0) ∷ [] ≡ [] = k.known in cc
 

@@ -8,6 +8,7 @@ use Rattle.mark_core.specs.declared.kinds.Phase.TheVariants.{Idle, Marking}
 use Rattle.mark_core.specs.declared.kinds.Step.{Step}
 use Rattle.mark_core.specs.declared.kinds.Step.TheVariants.{Take, SetMark, ClearCard, ReadCard, ClaimBlock, EnterStep, RaiseStep, StorePhase, JoinHelpStep, Split, Join, Push, DirtyCard, StoreField, StoreValue, StoreRoot, ReleaseBlock, StoreNew, StoreAlloc, ClearMarks, WipeCard, StorePosition, StoreNamed, Reset, StoreLength}
 use Rattle.gc_table.specs.declared.view.Entry.{Entry}
+use Rattle.mark_core.specs.Numbers.{word_bits}
 
 -- a move of the phase takes place, where this phase is found
 abbrev pub moves_from : ℕ → Phase → Bool
@@ -16,7 +17,7 @@ moves_from n to = true
 
 -- the step got what it tried to get, where it found this word
 abbrev pub won : Step → ℕ → Bool
-won (Take q p) n = has_bit n (p % 64)
+won (Take q p) n = has_bit n (p % word_bits)
 won (SetMark c) n = not (has_bit n (c % block_cells))
 won (ClearCard card) n = n == 1
 won (ReadCard card) n = n == 1

@@ -4,7 +4,7 @@ use Rattle.mark_core.specs.Bits.{has_bit}
 use Rattle.mark_core.specs.Cells.{or_else}
 use Rattle.mark_core.specs.Held.{holds, has_length}
 use Rattle.mark_core.specs.Notes.{word_at}
-use Rattle.mark_core.specs.Numbers.{empty_pool_number, low_pool_number, high_pool_number}
+use Rattle.mark_core.specs.Numbers.{empty_pool_number, low_pool_number, high_pool_number, word_bits}
 use Rattle.mark_core.specs.Places.{head_at}
 use Rattle.mark_core.specs.Steps.{Core}
 use Rattle.mark_core.specs.declared.kinds.Shape.{Shape}
@@ -15,7 +15,7 @@ use Rattle.gc_table.specs.declared.view.View.{View}
 
 -- the pool out of which this step took packet p
 abbrev pub taken_out : ℕ → Step → ℕ → Option ℕ
-taken_out p (Take q packet) found = if (packet == p) && has_bit found (p % 64) then Some q else None
+taken_out p (Take q packet) found = if (packet == p) && has_bit found (p % word_bits) then Some q else None
 taken_out p step found = None
 
 -- the pool out of which packet p was taken last

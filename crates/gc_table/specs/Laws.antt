@@ -5,7 +5,7 @@ use Rattle.mark_core.specs.Steps.{Core, failing_part, after_event, first_refused
 use Rattle.mark_core.specs.Layout.{words_of}
 use Rattle.mark_core.specs.Views.{makers}
 use Rattle.mark_core.specs.Cells.{in_use}
-use Rattle.mark_core.specs.Rules.HeapRules.{section_of}
+use Rattle.mark_core.specs.Rules.HeapRules.{section_of_cell}
 use Rattle.mark_core.specs.Closed.{IsReachableIn}
 use Rattle.mark_core.specs.Laws.{IsCore, NumbersFit}
 use Rattle.gc_table.specs.TableState.{TableState, state_after, start_state, AskedIn}
@@ -16,7 +16,7 @@ use Rattle.mark_core.specs.declared.kinds.Step.{Step}
 use Rattle.mark_core.specs.declared.seat.SeatState.{SeatState}
 use Rattle.plain_heap.specs.declared.operation.Op.{Op}
 use Rattle.plain_heap.specs.Paths.{Name, IsReachable}
-use Rattle.gc_table.specs.StandsFor.{StandsFor, HoldsObject, IsNext, heaps_of, name_at, object_count, start_meanings}
+use Rattle.gc_table.specs.StandsFor.{StandsFor, HoldsObject, IsForNextObject, heaps_of, name_at, object_count, start_meanings}
 use Rattle.gc_table.specs.declared.view.Meaning.{Meaning}
 use Rattle.plain_heap.specs.PlainStep.{IsInRange}
 use Rattle.gc_table.specs.Ends.{AreWords, IsEnd}
@@ -24,11 +24,12 @@ use Rattle.gc_table.specs.Past.{log_of}
 use Rattle.gc_table.specs.Seats.{view_of}
 use Rattle.gc_table.specs.declared.seat.HeapSeat.{HeapSeat}
 use Rattle.gc_table.specs.declared.words.Words.{Words}
-use Rattle.gc_table.specs.PlainSteps.{meaning_after, meanings_after, seen_in, AsksIn, changes_heap}
+use Rattle.gc_table.specs.PlainSteps.{meaning_after, meanings_after, catalogue_seen, AsksIn, changes_heap}
+use Rattle.mark_core.specs.Numbers.{most_seats}
 
 -- the state in which nothing has happened meets the rule
 abbrev pub StartMeetsRule : Type 0
-StartMeetsRule = (sh : Shape) (plan : List (List Op)) (n : ℕ) → IsShape sh → 1 ≤ n → n ≤ 41 → IsState (start_state sh plan n)
+StartMeetsRule = (sh : Shape) (plan : List (List Op)) (n : ℕ) → IsShape sh → 1 ≤ n → n ≤ most_seats → IsState (start_state sh plan n)
 
 -- each event that is allowed, and whose step meets what is asked besides, keeps it
 abbrev pub EventsKeepRule : Type 0
@@ -54,13 +55,13 @@ PlainStepsAreInRange =
 -- a step of a section's seat changes the meaning of this section alone, by what it was and what the section sees of the catalogue
 abbrev pub OneMeaningChanges : Type 0
 OneMeaningChanges =
-    (sh : Shape) (s : SeatState) (step : Step) (op : Op) (ms : List Meaning) (w : ℕ) (m : Meaning) → s.section ≡ Some w → slice_get ms w ≡ Some m → meanings_after sh s step op ms ≡ slice_set ms w (meaning_after sh s (seen_in ms w) step op m)
+    (sh : Shape) (s : SeatState) (step : Step) (op : Op) (ms : List Meaning) (w : ℕ) (m : Meaning) → s.section ≡ Some w → slice_get ms w ≡ Some m → meanings_after sh s step op ms ≡ slice_set ms w (meaning_after sh s (catalogue_seen ms w) step op m)
 
 -- at most one cell of a section is made for the next object
 abbrev pub OneCellIsNext : Type 0
 OneCellIsNext =
     (c : Core) (m : Meaning) (x y : ℕ) → let w = words_of c.shape c.words in IsCore c → IsTrue (in_use w.allocs (makers c.seats) x) → IsTrue (in_use w.allocs (makers c.seats) y)
-    → section_of w.identities x ≡ section_of w.identities y → IsNext c.shape w.identities w.values w.fields m x → IsNext c.shape w.identities w.values w.fields m y → x ≡ y
+    → section_of_cell w.identities x ≡ section_of_cell w.identities y → IsForNextObject c.shape w.identities w.values w.fields m x → IsForNextObject c.shape w.identities w.values w.fields m y → x ≡ y
 
 -- cell x holds the object of this name
 abbrev pub IsCellOfObject : Core → List Meaning → Name → ℕ → Type 0
@@ -85,7 +86,7 @@ pub record IsRunOf (sh : Shape) (seats : List HeapSeat) (w : Words) (es : List E
   pub allowed : first_refused 0 es (start_core sh 1) ≡ None
   -- the log of each seat is its part of the run, each step with the word that it found there, or stored
   pub parts : (i : ℕ) (s : HeapSeat) → slice_get seats i ≡ Some s → (view_of s).log ≡ log_of sh es i
-  -- and where all seats of the heap are among these, nobody else has a part
+  -- where all seats of the heap are among these, nobody else has a part
   pub no_others : (s : HeapSeat) → slice_get seats 0 ≡ Some s → (view_of s).opened ≡ length seats → (i : ℕ) → length seats ≤ i → log_of sh es i ≡ []
   pub sound : (n : ℕ) → IsCore (run_of (take n es) (start_core sh 1))
   pub ends : AreWords sh (run_of es (start_core sh 1)).words w

@@ -15,11 +15,11 @@ Token = Seat (Unit {0}) View
 
 -- the seat may take this step in the heap, at this word
 pub record MayTake (h : Heap) (t : Token) (word : ℕ) (step : Step) : Type 0 where
-  -- it is one of the heap's, and holds no slot of the table
+  -- the seat is one of the heap's, and holds no slot of the table
   pub table : t.table_id ≡ h.table.shared.table_id
   pub bare : t.me.1 ≡ []
   pub shape : t.me.0.shape ≡ h.shape
-  -- it wasn't joined into another
+  -- the seat wasn't joined into another
   pub live : t.me.0.state.spent ≡ false
   -- the word exists, and is the step's
   pub within : word < h.table.shared.table_id.words

@@ -1,7 +1,7 @@
 -- What each step does to the plain heap of its seat's section, and what is asked of the steps that store.
 use Rattle.std.specs.Prelude.{ℕ, zero, suc, ◌≡◌, ◌+◌, ◌<◌, ◌==◌, if◌then◌else◌, List, [], ◌∷◌, length, Bool, true, false, Option, Some, None, IsTrue, unwrap_or, slice_get, slice_set, slice_index_or}
 use Rattle.mark_core.specs.Bits.{flag}
-use Rattle.mark_core.specs.Steps.MutatorSteps.{names_last, variable as word_in}
+use Rattle.mark_core.specs.Steps.MutatorSteps.{names_last, seat_variable as word_in}
 use Rattle.mark_core.specs.declared.kinds.Shape.{Shape}
 use Rattle.mark_core.specs.declared.kinds.Phase.{Phase}
 use Rattle.mark_core.specs.declared.kinds.Phase.TheVariants.{Full}
@@ -15,6 +15,7 @@ use Rattle.plain_heap.specs.declared.operation.Op.TheVariants as ops
 use Rattle.plain_heap.specs.PlainHeap.{Heap, variable}
 use Rattle.plain_heap.specs.PlainStep.{heap_after, followed, lent_variable}
 use Rattle.gc_table.specs.declared.view.Meaning.{Meaning}
+use Rattle.mark_core.specs.Numbers.{section_variables}
 
 -- the heap of a meaning, where there is one
 abbrev pub heap_in : Option Meaning → Option Heap
@@ -22,9 +23,9 @@ heap_in None = None
 heap_in (Some m) = Some m.heap
 
 -- what a section sees of the catalogue
-abbrev pub seen_in : List Meaning → ℕ → Option Heap
-seen_in ms zero = None
-seen_in ms (suc w) = heap_in (slice_get ms 0)
+abbrev pub catalogue_seen : List Meaning → ℕ → Option Heap
+catalogue_seen ms zero = None
+catalogue_seen ms (suc w) = heap_in (slice_get ms 0)
 
 -- the section of a seat
 abbrev pub own_section : SeatState → ℕ
@@ -75,7 +76,7 @@ meaning_after sh s catalogue step op m = m
 
 -- the meanings of all sections, where a step changes that of its seat's own
 abbrev pub changed_by : Shape → SeatState → Step → Op → List Meaning → List Meaning
-changed_by sh s step op ms = changed ms (own_section s) (meaning_after sh s (seen_in ms (own_section s)) step op)
+changed_by sh s step op ms = changed ms (own_section s) (meaning_after sh s (catalogue_seen ms (own_section s)) step op)
 
 -- the meanings of all sections after a step
 abbrev pub meanings_after : Shape → SeatState → Step → Op → List Meaning → List Meaning
@@ -93,16 +94,17 @@ HasSeenPhase s = (p : Phase) × (s.phase_seen ≡ Some p) × (p ≡ Full → ⊥
 
 -- what is stored in a field: a variable, or nil by the name of a variable that is nil
 abbrev pub IsSet : Heap → ℕ → ℕ → Option ℕ → Op → Type 0
-IsSet heap v i None op = (u : ℕ) × (u < 32) × (variable heap u ≡ refs.Nil) × (op ≡ ops.Set v i u)
+IsSet heap v i None op = (u : ℕ) × (u < section_variables) × (variable heap u ≡ refs.Nil) × (op ≡ ops.Set v i u)
 IsSet heap v i (Some w) op = op ≡ ops.Set v i w
 
--- what becomes of variable v where a root is stored: the object for which a cell was made, nil, another variable, or what the register has by a field or from the catalogue
+-- what becomes of variable v where a root is stored: the object for which a cell was made, nil, another variable, or what the register has by a field or from
+-- the catalogue
 abbrev pub IsAssignment : SeatState → Meaning → Option Heap → ℕ → ℕ → Op → Type 0
 IsAssignment s m catalogue v r (ops.New u n) = (u ≡ v) × (n ≡ m.value) × IsTrue (names_last s.cache r) × (length m.heap.objects + 1 ≡ s.made)
 IsAssignment s m catalogue v r (ops.Nil u) = (u ≡ v) × (r ≡ 0)
-IsAssignment s m catalogue v r (ops.Let u x) = (u ≡ v) × (x < 32) × (r ≡ word_in s x)
-IsAssignment s m catalogue v r (ops.Get u x i) = (u ≡ v) × (r ≡ s.got) × (m.got ≡ followed m.heap catalogue (variable m.heap x) i) × (x < 32) × (i < m.heap.fields)
-IsAssignment s m catalogue v r (ops.Cat u x) = (u ≡ v) × (r ≡ s.got) × (m.got ≡ lent_variable catalogue x) × (x < 32)
+IsAssignment s m catalogue v r (ops.Let u x) = (u ≡ v) × (x < section_variables) × (r ≡ word_in s x)
+IsAssignment s m catalogue v r (ops.Get u x i) = (u ≡ v) × (r ≡ s.got) × (m.got ≡ followed m.heap catalogue (variable m.heap x) i) × (x < section_variables) × (i < m.heap.fields)
+IsAssignment s m catalogue v r (ops.Cat u x) = (u ≡ v) × (r ≡ s.got) × (m.got ≡ lent_variable catalogue x) × (x < section_variables)
 IsAssignment s m catalogue v r op = ⊥
 
 -- what is asked of a step besides its own condition, by the seat's record, what it stands for, and what it sees of the catalogue
@@ -115,7 +117,7 @@ Asks s m catalogue step op = Unit {0}
 
 -- what is asked besides of a step of this seat, by what all sections mean
 abbrev pub AsksIn : SeatState → List Meaning → Step → Op → Type 0
-AsksIn s ms step op = Asks s (meaning_of ms (own_section s)) (seen_in ms (own_section s)) step op
+AsksIn s ms step op = Asks s (meaning_of ms (own_section s)) (catalogue_seen ms (own_section s)) step op
 
 -- the step changes the plain heap of its seat's section
 abbrev pub changes_heap : Step → Bool

@@ -1,4 +1,5 @@
--- The rule of the table. It speaks of a state of the core, made of the words and of the records of all seats, of what each section has come to, and of how each seat's view agrees with them.
+-- The rule of the table. It speaks of a state of the core, made of the words and of the records of all seats, of what each section has come to, and of how each
+-- seat's view agrees with them.
 use Rattle.std.specs.Prelude.{ℕ, ◌≡◌, ◌⊎◌, ◌≤◌, ◌+◌, List, [], ◌∷◌, ◌++◌, if◌then◌else◌, ◌==◌, slice_get, length, IsTrue, IsFalse, Option, None, Some, Contains}
 use mathlib.Core.Option.{some}
 use lib.ListN.{get_elem?}
@@ -103,6 +104,7 @@ newcomer sh plan k =
 abbrev pub opens : View → View
 opens v = record v { opened = v.opened + 1 }
 
+-- the seat that the first seat makes next
 abbrev pub opened_by : View → View
 opened_by v = newcomer v.shape v.plan v.opened
 
@@ -120,7 +122,8 @@ abbrev pub told_full : Option ℕ → Notes → Notes
 told_full None notes = notes
 told_full (Some n) notes = if n == 5 then (the_phase, Some 5) ∷ notes else notes
 
--- a seat takes in another: it keeps what the other's section has come to, its log, the sections and logs that the other took in, and that the heap was found full
+-- a seat takes in another: it keeps what the other's section has come to, its log, the sections and logs that the other took in, and that the heap was found
+-- full
 abbrev pub takes_in : View → View → View
 takes_in v w =
     record v {

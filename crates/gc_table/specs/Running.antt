@@ -24,7 +24,7 @@ abbrev pub after_all : List Entry → View → View
 after_all [] v = v
 after_all (e ∷ es) v = after_all es (after e.step e.found v)
 
--- each of these steps, taken one after another, saw its word
+-- each of these steps, taken one after another, found its word
 abbrev pub AllSeen : List Entry → View → Type 0
 AllSeen [] v = Unit {0}
 AllSeen (e ∷ es) v = IsSeen e.step e.found v × AllSeen es (after e.step e.found v)

@@ -1,4 +1,5 @@
--- What a section comes to by the steps of its seat: its plain heap, where its objects were made, and what its seat did besides. A seat can tell all of it by itself.
+-- What a section comes to by the steps of its seat: its plain heap, where its objects were made, and what its seat did besides. A seat can tell all of it by
+-- itself.
 use Rattle.std.specs.Prelude.{ℕ, zero, suc, ◌≡◌, ◌+◌, ◌/◌, ◌%◌, ◌==◌, ◌&&◌, ◌||◌, if◌then◌else◌, List, [], ◌∷◌, ◌++◌, length, map, false, Option, Some, None, IsTrue, unwrap_or}
 use Rattle.std.specs.List.{range_with_len}
 use Rattle.mark_core.specs.Steps.MutatorSteps.{names_last}

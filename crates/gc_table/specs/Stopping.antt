@@ -15,6 +15,7 @@ moves_on b RaiseStep = false
 moves_on b (StorePhase to) = true
 moves_on b step = b
 
+-- whether the phase was moved since the flag was raised last, by these events, latest last; b says so of the time before them
 abbrev pub moved_from : Bool → List Entry → Bool
 moved_from b [] = b
 moved_from b (e ∷ es) = moved_from (moves_on b e.step) es

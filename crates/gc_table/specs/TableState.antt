@@ -12,6 +12,7 @@ use Rattle.gc_table.specs.declared.view.SectionState.{SectionState}
 use Rattle.gc_table.specs.PlainSteps.{no_meaning, own_section}
 use Rattle.gc_table.specs.Sections.{section_after, start_sections, AskedOf}
 
+-- a state of the core, the plan, and what each section has come to
 pub record TableState : Type 0 where
   pub core : Core
   -- the operations of the catalogue, part by part

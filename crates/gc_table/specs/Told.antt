@@ -6,8 +6,8 @@ use Rattle.mark_core.specs.Layout.{Words, words_of}
 use Rattle.mark_core.specs.Bits.{cell_bit}
 use Rattle.mark_core.specs.Seats.{has_turn}
 use Rattle.mark_core.specs.Views.{makers}
-use Rattle.mark_core.specs.Cells.{in_use, IsReachable}
-use Rattle.mark_core.specs.Rules.HeapRules.{section_of, number_of}
+use Rattle.mark_core.specs.Cells.{in_use, IsReachableCell}
+use Rattle.mark_core.specs.Rules.HeapRules.{section_of_cell, number_of_cell}
 use Rattle.mark_core.specs.declared.kinds.Shape.{Shape}
 use Rattle.mark_core.specs.declared.kinds.Phase.TheVariants.{Full}
 use Rattle.mark_core.specs.declared.seat.SeatState.{SeatState}
@@ -31,7 +31,7 @@ LiesAt x n c = (p : Place) × (slice_get x.places n ≡ Some p) × (p.cell ≡ c
 -- where the objects lie that have cells
 pub record Placed (sh : Shape) (identities : List ℕ) (used : ℕ → Type 0) (seats : List SeatState) (xs : List SectionState) : Type 0 where
   -- a cell in use is the place of the object that its identity names
-  pub at_place : EachCell sh (λ c. used c → (x : SectionState) × (slice_get xs (section_of identities c) ≡ Some x) × LiesAt x (number_of identities c) c)
+  pub at_place : EachCell sh (λ c. used c → (x : SectionState) × (slice_get xs (section_of_cell identities c) ≡ Some x) × LiesAt x (number_of_cell identities c) c)
   -- there is a place for each cell that a seat made
   pub counted : EachSection xs (λ w x. (s : SeatState) → slice_get seats w ≡ Some s → IsFalse s.spent → length x.places ≡ s.made)
   pub unseated : EachSection xs (λ w x. length seats ≤ w → x.places ≡ [])
@@ -82,13 +82,13 @@ pub record Fullness (sh : Shape) (w : Words) (seats : List SeatState) (xs : List
   pub found_by : EachSection xs (λ k x. IsTrue x.full → (w.phase ≡ 5) × (w.named ≡ k))
   pub found : w.phase ≡ 5 → (k : ℕ) × (x : SectionState) × (slice_get xs k ≡ Some x) × IsTrue x.full
   pub published : w.phase ≡ 5 → EachCell sh (λ c. IsTrue (cell_bit w.allocs c))
-  pub reached : w.phase ≡ 5 → EachCell sh (IsReachable sh w.roots w.fields)
-  -- and no seat stores any more
+  pub reached : w.phase ≡ 5 → EachCell sh (IsReachableCell sh w.roots w.fields)
+  -- no seat stores any more: each that is active has read Full, or no phase
   pub seen : w.phase ≡ 5 → All (λ (s : SeatState). IsTrue s.active → IfSome s.phase_seen (λ p. p ≡ Full)) seats
 
 -- after an exact cycle in the catalogue's turn each cell in use is reachable, until the catalogue's seat stores again
 abbrev pub IsSettled : Shape → Words → List SeatState → SectionState → Type 0
-IsSettled sh w seats x = IsTrue x.settled → (x.seasons % 2 ≡ 0) × EachCell sh (λ c. IsTrue (in_use w.allocs (makers seats) c) → IsReachable sh w.roots w.fields c)
+IsSettled sh w seats x = IsTrue x.settled → (x.seasons % 2 ≡ 0) × EachCell sh (λ c. IsTrue (in_use w.allocs (makers seats) c) → IsReachableCell sh w.roots w.fields c)
 
 -- all of these
 pub record Tells (sh : Shape) (w : Words) (seats : List SeatState) (plan : List (List Op)) (xs : List SectionState) : Type 0 where

@@ -5,6 +5,7 @@ ghost use Rattle.mark_core.specs.Start.{start_seat as start_seat_of};
 ghost use Rattle.gc_table.specs.Ends.{IsEnd, IsLeft};
 ghost use Rattle.gc_table.specs.Rule.{newcomer, opens, opened_by, takes_in, nobody, HasLog, HasSection, IsFinal, KnowsFull};
 ghost use Rattle.gc_table.specs.Seats.{IsFresh, IsOutside, Sits, state_of, view_of};
+ghost use Rattle.mark_core.specs.Numbers.{most_seats};
 
 use crate::plan::{PlanTag, tag_of};
 use crate::rule::{Key, Rule};
@@ -64,7 +65,7 @@ impl Heap {
 
     fn open_seat(&self, first: &mut HeapSeat, number: u32) -> HeapSeat
         requires seat { Sits self.now first.old × (state_of first.old ≡ start_seat_of self.now.shape 0) }
-        requires number { ((view_of first.old).opened ≡ number) × (number < 41) }
+        requires number { ((view_of first.old).opened ≡ number) × (number < most_seats) }
         requires plan { (view_of first.old).plan ≡ self.now.table.shared.key.plan.parts }
         ensures first { Sits self.now first.new × (view_of first.new ≡ opens (view_of first.old)) }
         ensures new { Sits self.now result × (view_of result ≡ newcomer self.now.shape (view_of first.old).plan number) }
@@ -83,7 +84,7 @@ impl Heap {
         seats: u32,
         plan: PlanTag,
     ) -> Result<(Heap, Vec<HeapSeat>), AllocError>
-        requires { IsShape shape × (1 ≤ seats) × (seats ≤ 41) }
+        requires { IsShape shape × (1 ≤ seats) × (seats ≤ most_seats) }
         ensures { IfOk result (λ r. (r.0.shape ≡ shape) × (vec_len r.1 ≡ seats) × ((i : ℕ) (s : HeapSeat) → slice_get r.1.items i ≡ Some s → Sits r.0 s × IsFresh shape plan.parts i (view_of s)) × ((s : HeapSeat) → slice_get r.1.items 0 ≡ Some s → (view_of s).opened ≡ seats)) }
     {
         let (heap, mut first) = Heap::first(alloc, shape, plan)?;
@@ -104,7 +105,7 @@ impl Heap {
         seats: u32,
         plan: &P,
     ) -> Result<(Heap, Vec<HeapSeat>), OutOfMemory>
-        requires { IsShape shape × (1 ≤ seats) × (seats ≤ 41) }
+        requires { IsShape shape × (1 ≤ seats) × (seats ≤ most_seats) }
         ensures { IfOk result (λ r. (r.0.shape ≡ shape) × (vec_len r.1 ≡ seats) × ((i : ℕ) (s : HeapSeat) → slice_get r.1.items i ≡ Some s → Sits r.0 s × IsFresh shape (P.plan plan.now) i (view_of s)) × ((s : HeapSeat) → slice_get r.1.items 0 ≡ Some s → (view_of s).opened ≡ seats)) }
     {
         match Heap::create_all(alloc, shape, seats, tag_of(plan)) {

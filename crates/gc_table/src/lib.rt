@@ -71,7 +71,7 @@
 //! may be excepted: the one made last, until a variable gets it. The stores of a mutator change the plain heap of their own
 //! section, each by one plain step (`specs/PlainSteps.antt`), and all other steps leave every plain heap.
 //!
-//! # Where what is
+//! # Where things are
 //!
 //! `seat` has the heap and its seats. `ends` makes a heap with all its seats, and closes it with all of them: the
 //! words in the end, which `words` copies out, are those of a state that meets the rule, in which each section is as

@@ -7,7 +7,7 @@ use crate::seat::{Heap, HeapSeat};
 use mark_core::{Cell, Step, used_bits};
 
 impl Heap {
-    /// Field i of an object that the seat knows.
+    /// Field i of an object that the seat's variables or register name. The register has what was read.
     pub fn read_own(&self, seat: &mut HeapSeat, c: Cell, i: u8) -> u64
         requires seat { Sits self.now seat.old }
         requires may { May (Step.ReadOwn c i) (view_of seat.old) }
@@ -17,7 +17,7 @@ impl Heap {
         self.load_step(seat, Step::ReadOwn { c, i })
     }
 
-    /// The value of an object that the seat knows.
+    /// The value of an object that the seat's variables or register name.
     pub fn read_value(&self, seat: &mut HeapSeat, c: Cell) -> u64
         requires seat { Sits self.now seat.old }
         requires may { May (Step.ReadValue c) (view_of seat.old) }
@@ -37,7 +37,7 @@ impl Heap {
         self.load_step(seat, Step::ReadIdent { c })
     }
 
-    /// Variable v of the catalogue.
+    /// Variable v of the catalogue, 0 to 31, for a warehouse in its turn. The register has what was read.
     pub fn read_cat(&self, seat: &mut HeapSeat, v: u8) -> u64
         requires seat { Sits self.now seat.old }
         requires may { May (Step.ReadCat v) (view_of seat.old) }
@@ -47,7 +47,8 @@ impl Heap {
         self.load_step(seat, Step::ReadCat { v })
     }
 
-    /// Stores variable w, or nil, in field i of variable v's object.
+    /// Stores variable w, or nil, in field i of variable v's object, which is of the seat's section. The seat owes the object's card then, unless it made the
+    /// object and hasn't published it.
     pub fn store_field(&self, seat: &mut HeapSeat, v: u8, i: u8, w: Option<u8>)
         requires seat { Sits self.now seat.old }
         requires may { May (Step.StoreField v i w) (view_of seat.old) }
@@ -59,7 +60,7 @@ impl Heap {
         self.store_step(seat, Step::StoreField { v, i, w });
     }
 
-    /// Stores a value in variable v's object.
+    /// Stores a value in variable v's object, which is of the seat's section. No card is owed for it, since a value refers to nothing.
     pub fn store_value(&self, seat: &mut HeapSeat, v: u8, n: u32)
         requires seat { Sits self.now seat.old }
         requires may { May (Step.StoreValue v n) (view_of seat.old) }
@@ -71,7 +72,7 @@ impl Heap {
         self.store_step(seat, Step::StoreValue { v, n });
     }
 
-    /// Stores a reference in variable v.
+    /// Stores a reference in variable v: nil, or that of a variable, of the register, or of the cell that was made last. No card may be owed.
     pub fn store_root(&self, seat: &mut HeapSeat, v: u8, r: u64)
         requires seat { Sits self.now seat.old }
         requires may { May (Step.StoreRoot v r) (view_of seat.old) }
@@ -83,7 +84,7 @@ impl Heap {
         self.store_step(seat, Step::StoreRoot { v, r });
     }
 
-    /// Takes block b to make cells in: true where nobody had it.
+    /// Claims block b to make cells in, for a seat without a cache: true where nobody had it.
     pub fn claim_block(&self, seat: &mut HeapSeat, b: u32) -> bool
         requires seat { Sits self.now seat.old }
         requires may { May (Step.ClaimBlock b) (view_of seat.old) }
@@ -99,7 +100,7 @@ impl Heap {
         found == 0
     }
 
-    /// Gives the block up.
+    /// Gives the block up. Each cell that the seat made in it is published.
     pub fn release_block(&self, seat: &mut HeapSeat)
         requires seat { Sits self.now seat.old }
         requires may { May Step.ReleaseBlock (view_of seat.old) }
@@ -130,7 +131,7 @@ impl Heap {
         self.store_step(seat, Step::StoreNew { c, part, word });
     }
 
-    /// Publishes the cells that the seat made.
+    /// Publishes the cells that the seat made, all by one step: from then on they may be scanned, and a store in them owes their card.
     pub fn publish_cells(&self, seat: &mut HeapSeat) -> u64
         requires seat { Sits self.now seat.old }
         requires may { May Step.PublishCells (view_of seat.old) }

@@ -7,7 +7,7 @@ ghost use Rattle.gc_table.specs.Taking.{May, won};
 
 use crate::masks::{all_but, bit};
 use crate::seat::{Heap, HeapSeat};
-use mark_core::{Cell, Step, cell_of, has_bit, pop_at, push_at};
+use mark_core::{Cell, Step, WORD_BITS, cell_of, has_bit, pop_at, push_at};
 use std::marker::Brand;
 
 impl Heap {
@@ -28,8 +28,8 @@ impl Heap {
         ensures seat { Sits self.now seat.new }
         ensures view { Across (Answered (Step.Take q p) (λ n. result ≡ won (Step.Take q p) n)) seat.old seat.new }
     {
-        let found = self.fetch_and_step(seat, all_but(p % 64), Step::Take { q, p });
-        has_bit(found, p % 64)
+        let found = self.fetch_and_step(seat, all_but(p % WORD_BITS), Step::Take { q, p });
+        has_bit(found, p % WORD_BITS)
     }
 
     /// Gives packet p back to the pool of its length, or to the deferred pool.
@@ -39,7 +39,7 @@ impl Heap {
         ensures seat { Sits self.now seat.new }
         ensures view { Across (Took (Step.Give p deferred)) seat.old seat.new }
     {
-        self.fetch_or_step(seat, bit(p % 64), Step::Give { p, deferred });
+        self.fetch_or_step(seat, bit(p % WORD_BITS), Step::Give { p, deferred });
     }
 
     /// Counts the empty packet that the seat gave back, or reserved and found none of.
@@ -116,7 +116,7 @@ impl Heap {
         self.load_step(seat, Step::Look { q, g })
     }
 
-    /// The count of empty packets, 64 above.
+    /// The count of empty packets, and [`mark_core::EMPTY_OFFSET`].
     pub fn read_count(&self, seat: &mut HeapSeat) -> u64
         requires seat { Sits self.now seat.old }
         requires may { May Step.ReadCount (view_of seat.old) }

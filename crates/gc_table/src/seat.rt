@@ -26,7 +26,9 @@ pub struct Heap {
 /// A participant: its record, and the right to take steps.
 #[derive(Drop)]
 pub struct HeapSeat {
+    /// Its record in the core.
     pub(crate) state: SeatState,
+    /// Its part in the table, with the view that contracts see.
     pub(crate) token: Seat<(), View>,
     /// Where its last search for a block ended. No contract speaks of it.
     pub(crate) hint: u32,

@@ -8,7 +8,8 @@ use crate::seat::{Heap, HeapSeat};
 use mark_core::Step;
 
 impl Heap {
-    /// The next block of the sweep, which comes in hand where there is one.
+    /// Draws the next block of the sweep, or of clearing, by its number (a block has 64 cells): it is in hand then, unless the counter was at its end. The seat
+    /// sweeps or clears, has no block in hand, and has read the counter below its end.
     pub fn next_block(&self, seat: &mut HeapSeat) -> u64
         requires seat { Sits self.now seat.old }
         requires may { May Step.NextBlock (view_of seat.old) }
@@ -18,7 +19,8 @@ impl Heap {
         self.fetch_add_step(seat, 1, Step::NextBlock)
     }
 
-    /// The next card of the pass.
+    /// Draws the next card of the pass, by its number (`CARD_CELLS` cells a card); the counter may be at its end already. The seat is a tracer that has read
+    /// the counter below its end.
     pub fn next_of_cards(&self, seat: &mut HeapSeat) -> u64
         requires seat { Sits self.now seat.old }
         requires may { May Step.NextOfCards (view_of seat.old) }
@@ -28,7 +30,7 @@ impl Heap {
         self.fetch_add_step(seat, 1, Step::NextOfCards)
     }
 
-    /// The mark bits of the block in hand.
+    /// The mark bits of the block in hand, a bit for each of its 64 cells, in Sweep.
     pub fn read_block_marks(&self, seat: &mut HeapSeat) -> u64
         requires seat { Sits self.now seat.old }
         requires may { May Step.ReadBlockMarks (view_of seat.old) }
@@ -38,7 +40,7 @@ impl Heap {
         self.load_step(seat, Step::ReadBlockMarks)
     }
 
-    /// Frees the white cells of the block in hand, and answers the bits of those that stay.
+    /// Frees the white cells of the block in hand, and answers the bits of those that stay. Both words of the block were read, and it is not swept yet.
     pub fn store_alloc(&self, seat: &mut HeapSeat) -> u64
         requires seat { Sits self.now seat.old }
         requires may { May Step.StoreAlloc (view_of seat.old) }
@@ -49,7 +51,7 @@ impl Heap {
         self.store_step(seat, Step::StoreAlloc)
     }
 
-    /// Clears the marks of the block in hand.
+    /// Clears the marks of the block in hand, which is out of hand then. In Sweep the block was swept before.
     pub fn clear_marks(&self, seat: &mut HeapSeat)
         requires seat { Sits self.now seat.old }
         requires may { May Step.ClearMarks (view_of seat.old) }
@@ -59,7 +61,7 @@ impl Heap {
         self.store_step(seat, Step::ClearMarks);
     }
 
-    /// Wipes a card.
+    /// Makes a card clean, in Sweep or Clear, where no card stands for cells to scan.
     pub fn wipe_card(&self, seat: &mut HeapSeat, card: u32)
         requires seat { Sits self.now seat.old }
         requires may { May (Step.WipeCard card) (view_of seat.old) }
@@ -69,7 +71,7 @@ impl Heap {
         self.store_step(seat, Step::WipeCard { card });
     }
 
-    /// Stores how far the section has come.
+    /// Stores how many commands the section has done, for a seat that runs or has stopped the world.
     pub fn store_position(&self, seat: &mut HeapSeat, done: u32)
         requires seat { Sits self.now seat.old }
         requires may { May (Step.StorePosition done) (view_of seat.old) }
@@ -79,7 +81,7 @@ impl Heap {
         self.store_step(seat, Step::StorePosition { done });
     }
 
-    /// Names the section, before it finds the heap full.
+    /// Names the seat's section, before it finds the heap full. The seat has stopped the world, in Idle.
     pub fn store_named(&self, seat: &mut HeapSeat)
         requires seat { Sits self.now seat.old }
         requires may { May Step.StoreNamed (view_of seat.old) }
@@ -89,7 +91,7 @@ impl Heap {
         self.store_step(seat, Step::StoreNamed);
     }
 
-    /// Sets a counter or statistic, `CARD_COUNTER` to `TRACED`, to 0.
+    /// Sets a counter or statistic, `CARD_COUNTER` to `TRACED`, to 0, for a seat that is alone in Idle or Drain.
     pub fn reset(&self, seat: &mut HeapSeat, which: u8)
         requires seat { Sits self.now seat.old }
         requires may { May (Step.Reset which) (view_of seat.old) }

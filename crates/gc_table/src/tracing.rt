@@ -9,7 +9,7 @@ use crate::seat::{Heap, HeapSeat};
 use mark_core::{BLOCK_CELLS, Cell, Phase, Step, has_bit, phase_of};
 
 impl Heap {
-    /// The allocation bits of block b.
+    /// The allocation bits of block b, a bit for each of its 64 cells. A popped cell whose bit is set is in scan then.
     pub fn read_alloc(&self, seat: &mut HeapSeat, b: u32) -> u64
         requires seat { Sits self.now seat.old }
         requires may { May (Step.ReadAlloc b) (view_of seat.old) }
@@ -19,7 +19,7 @@ impl Heap {
         self.load_step(seat, Step::ReadAlloc { b })
     }
 
-    /// The next field of the cell in scan, or the first one of a cell left in cleaning.
+    /// The next field of the cell in scan, or the first one of a cell left in cleaning. The cell that it names is in hand then, to be marked.
     pub fn read_field(&self, seat: &mut HeapSeat, c: Cell, i: u8) -> u64
         requires seat { Sits self.now seat.old }
         requires may { May (Step.ReadField c i) (view_of seat.old) }
@@ -29,7 +29,7 @@ impl Heap {
         self.load_step(seat, Step::ReadField { c, i })
     }
 
-    /// Variable v of a section.
+    /// Variable v of a section, 0 to 31, for a tracer that holds a packet. The cell that it names is in hand then, to be marked.
     pub fn read_root(&self, seat: &mut HeapSeat, section: u32, v: u8) -> u64
         requires seat { Sits self.now seat.old }
         requires may { May (Step.ReadRoot section v) (view_of seat.old) }
@@ -39,7 +39,7 @@ impl Heap {
         self.load_step(seat, Step::ReadRoot { section, v })
     }
 
-    /// Marks the cell that was loaded: true where it was white.
+    /// Marks the cell that was loaded: true where it was white, and then it is in hand until it is pushed or its card is dirty.
     pub fn set_mark(&self, seat: &mut HeapSeat, c: Cell) -> bool
         requires seat { Sits self.now seat.old }
         requires may { May (Step.SetMark c) (view_of seat.old) }
@@ -50,7 +50,7 @@ impl Heap {
         !has_bit(found, c.number() % BLOCK_CELLS)
     }
 
-    /// Dirties a card, which answers for what the seat owes it.
+    /// Dirties a card, which answers for all that the seat owes it and has in hand of it.
     pub fn dirty_card(&self, seat: &mut HeapSeat, card: u32)
         requires seat { Sits self.now seat.old }
         requires may { May (Step.DirtyCard card) (view_of seat.old) }
@@ -60,7 +60,7 @@ impl Heap {
         self.store_step(seat, Step::DirtyCard { card });
     }
 
-    /// Cleans a card: true where it was dirty.
+    /// Clears a card: true where it was dirty, and then its marked cells are to be scanned. The seat is a tracer that holds a packet.
     pub fn clear_card(&self, seat: &mut HeapSeat, card: u32) -> bool
         requires seat { Sits self.now seat.old }
         requires may { May (Step.ClearCard card) (view_of seat.old) }
@@ -71,7 +71,7 @@ impl Heap {
         found == 1
     }
 
-    /// The mark bits of block b.
+    /// The mark bits of block b, a bit for each of its 64 cells. Where the seat cleans a card of the block, they tell the cells to scan.
     pub fn read_marks(&self, seat: &mut HeapSeat, b: u32) -> u64
         requires seat { Sits self.now seat.old }
         requires may { May (Step.ReadMarks b) (view_of seat.old) }
@@ -92,7 +92,7 @@ impl Heap {
         found == 1
     }
 
-    /// The phase of the cycle.
+    /// The phase of the cycle, which a seat that takes part keeps as read.
     pub fn read_phase(&self, seat: &mut HeapSeat) -> Phase
         requires seat { Sits self.now seat.old }
         requires may { May Step.ReadPhase (view_of seat.old) }

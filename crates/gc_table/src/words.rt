@@ -13,7 +13,7 @@ use std::alloc::{AllocError, Global};
 /// What lay in the words of a heap when it was closed.
 #[derive(Drop)]
 pub struct Words {
-    /// By cell: its object's section times 2 ^ 32, and the object's number.
+    /// By cell: its object's section times [`mark_core::SECTION_SPAN`], and the object's number.
     pub idents: Vec<u64>,
     /// By cell: its value.
     pub values: Vec<u64>,
@@ -27,7 +27,7 @@ pub struct Words {
     pub phase: Phase,
     /// Where the phase is `Full`, the section that found the heap full.
     pub named: u32,
-    /// Variable v of section w, at 32 w and v, in the form of a field.
+    /// Variable v of section w, at `VARIABLES * w + v`, in the form of a field.
     pub roots: Vec<u64>,
 }
 

@@ -7,7 +7,7 @@ use crate::seat::{Heap, HeapSeat};
 use mark_core::{FLAG, Phase, Step, has_flag, phase_number};
 
 impl Heap {
-    /// Enters the world: true where the seat is active, since no stop is under way.
+    /// Enters the world, from outside: true where the seat is active, since no stop is under way. Else it has to leave again.
     pub fn enter_step(&self, seat: &mut HeapSeat) -> bool
         requires seat { Sits self.now seat.old }
         requires may { May Step.EnterStep (view_of seat.old) }
@@ -18,7 +18,7 @@ impl Heap {
         !has_flag(found)
     }
 
-    /// Leaves the world.
+    /// Leaves the world, with no packet, no work, no cache, no card that is owed and nothing in the register. The phase and the season are forgotten.
     pub fn leave_step(&self, seat: &mut HeapSeat)
         requires seat { Sits self.now seat.old }
         requires may { May Step.LeaveStep (view_of seat.old) }
@@ -28,7 +28,7 @@ impl Heap {
         self.fetch_sub_step(seat, 1, Step::LeaveStep);
     }
 
-    /// Raises the stop flag: true where it is now the seat's own.
+    /// Raises the stop flag, from outside the world: true where it is now the seat's own, and false where another seat's was up.
     pub fn raise_step(&self, seat: &mut HeapSeat) -> bool
         requires seat { Sits self.now seat.old }
         requires may { May Step.RaiseStep (view_of seat.old) }
@@ -49,7 +49,8 @@ impl Heap {
         self.load_step(seat, Step::Observe)
     }
 
-    /// Resumes the world.
+    /// Resumes the world, in Idle or Full: the flag is cleared and the seat runs, in one step, so no other stop comes between. The seat is alone, with nothing
+    /// in hand.
     pub fn drop_step(&self, seat: &mut HeapSeat)
         requires seat { Sits self.now seat.old }
         requires may { May Step.DropStep (view_of seat.old) }
@@ -59,7 +60,7 @@ impl Heap {
         self.fetch_sub_step(seat, FLAG - 1, Step::DropStep);
     }
 
-    /// Opens the stopped world to helpers.
+    /// Opens the stopped world to helpers, in Drain or Sweep. The seat is not alone then, until it has closed help and seen that no helper is left.
     pub fn open_step(&self, seat: &mut HeapSeat)
         requires seat { Sits self.now seat.old }
         requires may { May Step.OpenStep (view_of seat.old) }
@@ -69,7 +70,7 @@ impl Heap {
         self.fetch_or_step(seat, FLAG, Step::OpenStep);
     }
 
-    /// Joins the helpers: true where help is open.
+    /// Joins the helpers, from outside the world: true where help is open. Else the seat has to leave them again.
     pub fn join_help_step(&self, seat: &mut HeapSeat) -> bool
         requires seat { Sits self.now seat.old }
         requires may { May Step.JoinHelpStep (view_of seat.old) }
@@ -80,7 +81,7 @@ impl Heap {
         has_flag(found)
     }
 
-    /// Leaves the helpers.
+    /// Leaves the helpers, with no packet, no work and no block in hand.
     pub fn leave_help_step(&self, seat: &mut HeapSeat)
         requires seat { Sits self.now seat.old }
         requires may { May Step.LeaveHelpStep (view_of seat.old) }
@@ -90,7 +91,7 @@ impl Heap {
         self.fetch_sub_step(seat, 1, Step::LeaveHelpStep);
     }
 
-    /// Closes help.
+    /// Closes help to further helpers. Those that were admitted may go on.
     pub fn close_step(&self, seat: &mut HeapSeat)
         requires seat { Sits self.now seat.old }
         requires may { May Step.CloseStep (view_of seat.old) }
@@ -110,7 +111,7 @@ impl Heap {
         self.load_step(seat, Step::SeeHelp)
     }
 
-    /// The season.
+    /// The season word, even in the catalogue's turn and odd in the warehouses', for a seat that runs: it holds until the seat leaves.
     pub fn read_season(&self, seat: &mut HeapSeat) -> u64
         requires seat { Sits self.now seat.old }
         requires may { May Step.ReadSeason (view_of seat.old) }
@@ -120,7 +121,7 @@ impl Heap {
         self.load_step(seat, Step::ReadSeason)
     }
 
-    /// Turns the season.
+    /// Turns the season, between the catalogue's turn and the warehouses', at most 128 times. The seat has stopped the world, in Idle.
     pub fn next_season(&self, seat: &mut HeapSeat)
         requires seat { Sits self.now seat.old }
         requires may { May Step.NextSeason (view_of seat.old) }
@@ -131,7 +132,8 @@ impl Heap {
         self.fetch_add_step(seat, 1, Step::NextSeason);
     }
 
-    /// Moves the phase. The move to Marking is a try of a mutator: false where the phase wasn't Idle. Any other move is of the seat that stopped the world, and succeeds.
+    /// Moves the phase. The move to Marking is a try of a mutator: false where the phase wasn't Idle. Any other move is of the seat that stopped the world, and
+    /// succeeds.
     pub fn store_phase(&self, seat: &mut HeapSeat, to: Phase) -> bool
         requires seat { Sits self.now seat.old }
         requires may { May (Step.StorePhase to) (view_of seat.old) }

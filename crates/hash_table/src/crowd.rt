@@ -15,8 +15,9 @@ const ROUNDS: u32 = 40;
 /// What was found in tables.
 #[derive(Clone, Copy, Drop)]
 pub struct Tally {
-    /// How many keys were found, and the sum of what was kept under them.
+    /// How many keys were found.
     pub found: u64,
+    /// The sum of what was kept under these keys.
     pub sum: u64,
     /// How many were found when every other key was taken out.
     pub left: u64,
@@ -125,7 +126,7 @@ fn gather(world: &mut World, workers: Vec<Worker>) -> Option<Tally> {
     Some(all)
 }
 
-/// Opens a world, plays in it, and closes it.
+/// Opens a world, plays in it, and closes it. None where there is no memory, or where a mutator or the tracer could not be given back.
 pub fn run<R: Threads + Wait + Sync>(rt: &R, alloc: Global) -> Option<Tally> {
     let sizes = Sizes::of_cells(2048).fields(16).mutators(2).tracers(1);
     let mut world = World::open(alloc, sizes).ok()?;

@@ -31,7 +31,7 @@ fn place_of(key: u32, rows: u8) -> (u8, u8)
     (row as u8, (hash % 16) as u8)
 }
 
-/// Makes an empty table of so many rows.
+/// Makes an empty table of so many rows. Refused where a call of `managed_heap` is.
 pub fn make<R: Wait>(m: &mut Mutator, rt: &R, rows: u8) -> Result<(), Refused> {
     m.make(rt, TABLE, 0)?;
     for row in 0..rows {
@@ -41,7 +41,7 @@ pub fn make<R: Wait>(m: &mut Mutator, rt: &R, rows: u8) -> Result<(), Refused> {
     Ok(())
 }
 
-/// Puts the entry in hand in front of its chain.
+/// Puts the entry in hand before the others of its chain.
 fn link(m: &mut Mutator, rows: u8, key: u32) -> Result<(), Refused> {
     let (row, bucket) = place_of(key, rows);
     m.get(ROW, TABLE, row)?;
@@ -50,7 +50,7 @@ fn link(m: &mut Mutator, rows: u8, key: u32) -> Result<(), Refused> {
     m.set(ROW, bucket, ENTRY)
 }
 
-/// Keeps a number under a key.
+/// Keeps a number under a key. Refused where a call of `managed_heap` is.
 pub fn insert<R: Wait>(
     m: &mut Mutator,
     rt: &R,
@@ -78,7 +78,7 @@ fn move_chain(m: &mut Mutator, rows: u8) -> Result<(), Refused> {
     Ok(())
 }
 
-/// Lets a table of one row grow to 16 rows.
+/// Lets a table of one row grow to 16 rows. Refused where a call of `managed_heap` is.
 pub fn grow<R: Wait>(m: &mut Mutator, rt: &R) -> Result<(), Refused> {
     m.get(OLD, TABLE, 0)?;
     make(m, rt, 16)?;
@@ -108,7 +108,7 @@ fn seek(m: &mut Mutator, rows: u8, key: u32) -> Result<bool, Refused> {
     Ok(false)
 }
 
-/// The number that is kept under a key, if there is one.
+/// The number that is kept under a key, if there is one. Refused where a call of `managed_heap` is.
 pub fn find(m: &mut Mutator, rows: u8, key: u32) -> Result<Option<u32>, Refused> {
     if !seek(m, rows, key)? {
         return Ok(None);
@@ -117,7 +117,7 @@ pub fn find(m: &mut Mutator, rows: u8, key: u32) -> Result<Option<u32>, Refused>
     Ok(Some(m.value(MADE)?))
 }
 
-/// Takes a key out of the table.
+/// Takes a key out of the table. Refused where a call of `managed_heap` is.
 pub fn remove(m: &mut Mutator, rows: u8, key: u32) -> Result<(), Refused> {
     if !seek(m, rows, key)? {
         return Ok(());

@@ -3,7 +3,7 @@ use Rattle.std.specs.Prelude.{ℕ, List, ◌++◌, length, codes, decimal, flat_
 use Rattle.play_report.specs.Text.{named_text, triple_text}
 use Rattle.heap_dump.specs.declared.fault.DumpError.{DumpError}
 use Rattle.heap_dump.specs.declared.fault.DumpError.TheVariants.{Cut, BadMagic, BadShape, TooMuch, BadRoot, BadRecord, BadRef}
-use Rattle.heap_dump.specs.Final.{Object, Heap}
+use Rattle.heap_dump.specs.Final.{Object, DumpedHeap}
 
 -- how many sections, fields and records there are
 unfoldable pub sizes_text : ℕ → ℕ → ℕ → List ℕ
@@ -15,7 +15,7 @@ abbrev pub object_text : Object → List ℕ
 object_text o = triple_text o.section o.number o.value
 
 -- a line for the sizes, and one for each record
-abbrev pub undump_text : Heap → List ℕ
+abbrev pub undump_text : DumpedHeap → List ℕ
 undump_text h = sizes_text h.sections h.fields (length h.records) ++ flat_map object_text h.records
 
 -- the fault of a field of a record

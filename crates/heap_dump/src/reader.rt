@@ -1,9 +1,9 @@
 //! A dump that was read, and its records: parts of the bytes, and nothing copied.
 ghost use Rattle.std.specs.Prelude.{◌≡◌, ◌<◌, ◌≤◌, ◌+◌, ◌*◌, ◌++◌, ℕ, List, [], length, slice_index, IfOk, IsOkAnd, MatchOption, SomeIff};
 ghost use Rattle.std.specs.Result.{result_err};
-ghost use Rattle.heap_dump.specs.Final.{Heap, IsLegal, object};
+ghost use Rattle.heap_dump.specs.Final.{DumpedHeap, HasDump, object};
 ghost use Rattle.heap_dump.specs.Spelling.{dump};
-ghost use Rattle.heap_dump.specs.Reading.{heap_of, fault_of, object_in, record_bytes, numbers};
+ghost use Rattle.heap_dump.specs.Reading.{heap_of_dump, first_dump_fault, object_in, record_bytes, numbers};
 
 use crate::check::check_heap;
 use crate::fault::DumpError;
@@ -18,14 +18,14 @@ pub struct Dump<'a> {
 
 impl<'a> Model for Dump<'a> {
     ghost use Rattle.std.specs.Prelude.{List, ℕ};
-    ghost use Rattle.heap_dump.specs.Final.{IsLegal};
-    ghost use Rattle.heap_dump.specs.Reading.{heap_of};
+    ghost use Rattle.heap_dump.specs.Final.{HasDump};
+    ghost use Rattle.heap_dump.specs.Reading.{heap_of_dump};
 
     ghost Value = { List ℕ };
 
     ghost view = { λ d. d.frame.bytes.now };
 
-    ghost invariant = { λ d. IsLegal (heap_of d.frame.bytes.now) };
+    ghost invariant = { λ d. HasDump (heap_of_dump d.frame.bytes.now) };
 }
 
 /// A record of a dump: the part of its bytes that tells one object.
@@ -48,11 +48,11 @@ impl<'a> Model for Record<'a> {
 /// The dump that the bytes are, or their first fault. Nothing is copied, and no memory is taken.
 pub fn read_dump<'a>(bytes: &'a [u8]) -> Result<Dump<'a>, DumpError>
     // An error is the first fault of the bytes, and comes exactly where they have one.
-    ensures exact { result_err result ≡ fault_of bytes.now }
+    ensures exact { result_err result ≡ first_dump_fault bytes.now }
     // The dump is these bytes, and they are the one dump of a legal heap.
-    ensures found { IfOk result (λ d. (d ≡ bytes.now) × IsLegal (heap_of d) × (d ≡ dump (heap_of d))) }
+    ensures found { IfOk result (λ d. (d ≡ bytes.now) × HasDump (heap_of_dump d) × (d ≡ dump (heap_of_dump d))) }
     // The dump of a legal heap is read, and tells that heap.
-    ensures only { (h : Heap) → IsLegal h → bytes.now ≡ dump h → IsOkAnd result (λ d. heap_of d ≡ h) }
+    ensures only { (h : DumpedHeap) → HasDump h → bytes.now ≡ dump h → IsOkAnd result (λ d. heap_of_dump d ≡ h) }
 {
     match frame_of(bytes) {
         Ok(frame) => match check_heap(&frame) {
@@ -66,23 +66,23 @@ pub fn read_dump<'a>(bytes: &'a [u8]) -> Result<Dump<'a>, DumpError>
 impl<'a> Dump<'a> {
     /// How many fields each object has.
     pub fn fields(&self) -> u32
-        ensures { result ≡ (heap_of self.now).fields }
+        ensures { result ≡ (heap_of_dump self.now).fields }
     {
         self.frame.fields
     }
 
     /// How many sections there are.
     pub fn sections(&self) -> u32
-        ensures { result ≡ (heap_of self.now).sections }
+        ensures { result ≡ (heap_of_dump self.now).sections }
     {
         self.frame.sections
     }
 
     /// How many records there are.
     pub fn records(&self) -> u32
-        ensures count { result ≡ length (heap_of self.now).records }
+        ensures count { result ≡ length (heap_of_dump self.now).records }
         // What a dump tells is a legal heap.
-        ensures legal { IsLegal (heap_of self.now) }
+        ensures legal { HasDump (heap_of_dump self.now) }
     {
         self.frame.records
     }
@@ -90,8 +90,8 @@ impl<'a> Dump<'a> {
     /// Variable v of a section: 0 for nil, k + 1 for record k. None exactly where there is no such
     /// section or v is not below 32.
     pub fn root(&self, section: u32, v: u32) -> Option<u32>
-        ensures { SomeIff result ((section < (heap_of self.now).sections) × (v < 32))
-            (slice_index (heap_of self.now).roots (32 * section + v)) }
+        ensures { SomeIff result ((section < (heap_of_dump self.now).sections) × (v < 32))
+            (slice_index (heap_of_dump self.now).roots (32 * section + v)) }
     {
         if section < self.frame.sections && v < 32 {
             Some(self.frame.root(32 * section + v))
@@ -102,9 +102,9 @@ impl<'a> Dump<'a> {
 
     /// Record k, a part of the bytes that were read. None exactly where there is no such record.
     pub fn nth(&self, k: u32) -> Option<Record<'a>>
-        ensures { MatchOption result (length (heap_of self.now).records ≤ k) (λ r. (k < length (heap_of self.now).records)
-            × (r ≡ record_bytes (heap_of self.now).fields (heap_of self.now).sections self.now k)
-            × (object_in r ≡ object (heap_of self.now) k)) }
+        ensures { MatchOption result (length (heap_of_dump self.now).records ≤ k) (λ r. (k < length (heap_of_dump self.now).records)
+            × (r ≡ record_bytes (heap_of_dump self.now).fields (heap_of_dump self.now).sections self.now k)
+            × (object_in r ≡ object (heap_of_dump self.now) k)) }
     {
         if k < self.frame.records {
             Some(Record {
@@ -169,5 +169,5 @@ impl<'a> Record<'a> {
 
 /// No dump begins another, and two legal heaps have two dumps.
 pub fn one_dump()
-    ensures { (g h : Heap) (rest : List ℕ) → IsLegal g → IsLegal h → dump g ++ rest ≡ dump h → (rest ≡ []) × (g ≡ h) }
+    ensures { (g h : DumpedHeap) (rest : List ℕ) → HasDump g → HasDump h → dump g ++ rest ≡ dump h → (rest ≡ []) × (g ≡ h) }
 {}

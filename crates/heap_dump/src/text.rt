@@ -1,7 +1,7 @@
 //! A dump as a text, a line for each record, and the texts of its faults. Each line is one piece, and no call takes memory.
 ghost use Rattle.std.specs.Prelude.{flat_map};
 ghost use Rattle.play_report.specs.Causes.{WritesTo};
-ghost use Rattle.heap_dump.specs.Reading.{heap_of, object_in};
+ghost use Rattle.heap_dump.specs.Reading.{heap_of_dump, object_in};
 ghost use Rattle.heap_dump.specs.Text.{sizes_text, object_text, undump_text, reference_fault_text, dump_fault_text};
 
 use crate::fault::DumpError;
@@ -40,7 +40,7 @@ fn write_object<K: Sink>(object: &Record<'_>, sink: &mut K) -> Result<(), Failed
 }
 
 fn write_objects<K: Sink>(dump: &Dump<'_>, sink: &mut K) -> Result<(), Failed>
-    ensures { WritesTo K.written K.faults result sink.old sink.new (flat_map object_text (heap_of dump.now).records) }
+    ensures { WritesTo K.written K.faults result sink.old sink.new (flat_map object_text (heap_of_dump dump.now).records) }
 {
     for k in 0..dump.records() {
         let Some(object) = dump.nth(k) else {
@@ -55,9 +55,9 @@ fn write_objects<K: Sink>(dump: &Dump<'_>, sink: &mut K) -> Result<(), Failed>
 }
 
 /// Writes a dump as a text: a line `sections S fields F records m`, and for each record a line with its section, its number and
-/// its value. Failed only where the sink's count of faults rose in this call, and a front of the text was then written.
+/// its value. Failed only where the sink's count of faults rose in this call, and a prefix of the text was then written.
 pub fn write_undump<K: Sink>(dump: &Dump<'_>, sink: &mut K) -> Result<(), Failed>
-    ensures { WritesTo K.written K.faults result sink.old sink.new (undump_text (heap_of dump.now)) }
+    ensures { WritesTo K.written K.faults result sink.old sink.new (undump_text (heap_of_dump dump.now)) }
 {
     match write_sizes(dump.sections(), dump.fields(), dump.records(), sink) {
         Ok(()) => write_objects(dump, sink),
@@ -79,7 +79,7 @@ fn write_reference_fault<K: Sink>(k: u32, field: u32, sink: &mut K) -> Result<()
 }
 
 /// Writes the first fault of bytes that are no dump: its number, its name and its place. Failed only where the sink's count of
-/// faults rose in this call, and a front of the text was then written.
+/// faults rose in this call, and a prefix of the text was then written.
 pub fn write_dump_fault<K: Sink>(fault: &DumpError, sink: &mut K) -> Result<(), Failed>
     ensures { WritesTo K.written K.faults result sink.old sink.new (dump_fault_text fault.now) }
 {

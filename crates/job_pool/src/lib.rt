@@ -12,17 +12,17 @@
 //! ones and those in line weigh as much as all numbers below that of the jobs.
 //!
 //! A runner knows only what it drew itself. The right to know the whole is cut into eight parts, one a runner at most, and a part comes back with
-//! what was drawn. Whoever has all eight parts and finds nobody in line knows that each number was drawn once; so the results, sorted by their
+//! what was drawn. Whoever has all eight parts and finds no number in line knows that each number was drawn once; so the results, sorted by their
 //! jobs, are those of job 0, 1, 2 and so on.
 //!
 //! A draw makes a [`Turn`], and a play spends it. Nothing else makes one and nothing copies it, so no number that was drawn is played twice. This
 //! the types say, and no clause: a body that plays a job twice does not compile.
 //!
-//! # Where what is
+//! # Where things are
 //!
 //! `batch` and `reader` have the batch and its faults, in their order; what bytes are a batch is a function of them, `batch` in `specs/Batch.antt`.
-//! `draws` has the line of numbers and its rule, `turn` the draw and the right to play that it makes, `run` the runners, `player` who plays a job, and `text` and `done` what a job answers. Each runner
-//! keeps its own results on a cache line of its own (`CachePadded`), of which nothing is claimed.
+//! `draws` has the line of numbers and its rule, `turn` the draw and the right to play that it makes, `run` the runners, `player` who plays a job, and `text`
+//! and `done` what a job answers. Each runner keeps its own results on a cache line of its own (`CachePadded`), of which nothing is claimed.
 #![tactic(auto)]
 
 mod batch;

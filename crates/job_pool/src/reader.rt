@@ -1,7 +1,7 @@
 //! Reads a batch.
 ghost use Rattle.std.specs.Prelude.{◌≡◌, ◌≤◌, [], true, min, length, position, not, option_map, IfSome};
 ghost use Rattle.std.specs.Char.{is_ascii_digit};
-ghost use Rattle.job_pool.specs.Batch.{Reads, batch, jobs_from, job_line as job_line_of, digits_line as digits_line_of, decimal_value, begins as begins_of};
+ghost use Rattle.job_pool.specs.Batch.{ReadsBatch, batch, jobs_from, job_line as job_line_of, digits_line as digits_line_of, decimal_value, begins_with as begins_of};
 
 use crate::batch::Batch;
 use crate::fault::BatchError;
@@ -72,7 +72,7 @@ fn job_line(bytes: &[u8]) -> Option<(usize, &[u8])>
 /// The jobs of a batch of `all` bytes, from its first job line on.
 fn read_jobs<'a>(alloc: Global, all: u32, first: &'a [u8]) -> Result<Batch<'a>, BatchError>
     requires { length first.now ≤ all }
-    ensures { Reads result (jobs_from all 64 [] first.now) }
+    ensures { ReadsBatch result (jobs_from all 64 [] first.now) }
 {
     let mut jobs = Vec::new(alloc);
     let mut rest = first;
@@ -110,7 +110,7 @@ fn read_jobs<'a>(alloc: Global, all: u32, first: &'a [u8]) -> Result<Batch<'a>, 
 /// 16,777,216 bytes, which is told first, and at most 64 jobs. Of one line a wrong form is told first, then that there are too many jobs, then that
 /// fewer than n bytes are left. Only the list of jobs takes memory.
 pub fn read_batch<'a>(alloc: Global, source: &'a [u8]) -> Result<Batch<'a>, BatchError>
-    ensures { Reads result (batch source.now) }
+    ensures { ReadsBatch result (batch source.now) }
 {
     if source.len() > LONGEST {
         return Err(BatchError::BatchTooLong);

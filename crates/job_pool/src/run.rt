@@ -1,9 +1,9 @@
 //! The jobs of a batch, played by runners that draw their numbers.
-ghost use Rattle.std.specs.Prelude.{◌≡◌, ℕ, ◌<◌, ◌≤◌, [], length, map, IfOk, All};
+ghost use Rattle.std.specs.Prelude.{◌≡◌, ◌<◌, ◌≤◌, [], length, map, IfOk, All};
 ghost use Rattle.std.specs.Thread.{IsSync};
 ghost use Rattle.crossbeam_queue.specs.Passes.{view, IsPassOf, ruled_capacity};
 ghost use Rattle.job_pool.specs.Draws.{hand, AreBelow};
-ghost use Rattle.job_pool.specs.Jobs.{IsPlayed, ArePlayed, numbers};
+ghost use Rattle.job_pool.specs.Jobs.{IsPlayed, ArePlayed, jobs_of_results};
 
 use crate::batch::Batch;
 use crate::done::JobDone;
@@ -43,11 +43,11 @@ fn draw_jobs<P: Player, R: Threads + Wait + Sync>(
     mut me: Drawer,
     done: Vec<JobDone>,
 ) -> Result<(Drawer, Vec<JobDone>), OutOfMemory>
-    requires me { IsPassOf line.now me × (0 < (view me).parts) × (view me ≡ hand (view me).parts (length jobs.now) (numbers done.items)) }
+    requires me { IsPassOf line.now me × (0 < (view me).parts) × (view me ≡ hand (view me).parts (length jobs.now) (jobs_of_results done.items)) }
     requires done { All (IsPlayed (P.fits player.now) (map (λ s. s.now) jobs.now)) done.items }
-    ensures me { IfOk result (λ r. IsPassOf line.now r.0 × (view r.0 ≡ hand (view me).parts (length jobs.now) (numbers r.1.items))) }
+    ensures me { IfOk result (λ r. IsPassOf line.now r.0 × (view r.0 ≡ hand (view me).parts (length jobs.now) (jobs_of_results r.1.items))) }
     ensures played { IfOk result (λ r. All (IsPlayed (P.fits player.now) (map (λ s. s.now) jobs.now)) r.1.items) }
-    ensures whole { IfOk result (λ r. (view me).parts ≡ 8 → AreBelow (length jobs.now) (numbers r.1.items)) }
+    ensures whole { IfOk result (λ r. (view me).parts ≡ 8 → AreBelow (length jobs.now) (jobs_of_results r.1.items)) }
 {
     let mut mine = CachePadded::new(done);
     for _ in rt.forever() {
@@ -75,7 +75,7 @@ fn run_on<P: Player + Sync, R: Threads + Wait + Sync>(
 ) -> Result<(Drawer, Vec<JobDone>), OutOfMemory>
     requires me { IsPassOf line.now me × (view me ≡ hand (view me).parts (length jobs.now) []) }
     requires runners { (1 ≤ runners) × (runners ≤ (view me).parts) }
-    ensures me { IfOk result (λ r. IsPassOf line.now r.0 × (view r.0 ≡ hand (view me).parts (length jobs.now) (numbers r.1.items))) }
+    ensures me { IfOk result (λ r. IsPassOf line.now r.0 × (view r.0 ≡ hand (view me).parts (length jobs.now) (jobs_of_results r.1.items))) }
     ensures played { IfOk result (λ r. All (IsPlayed (P.fits player.now) (map (λ s. s.now) jobs.now)) r.1.items) }
 {
     if runners == 1 {
@@ -110,16 +110,16 @@ fn beside<P: Player + Sync, R: Threads + Wait + Sync>(
     requires other { IsPassOf line.now other × (view other ≡ hand 1 (length jobs.now) []) }
     requires me { IsPassOf line.now me × (view me ≡ hand (view me).parts (length jobs.now) []) }
     requires rest { (1 ≤ rest) × (rest ≤ (view me).parts) }
-    ensures other { IfOk result.0 (λ r. IsPassOf line.now r.0 × (view r.0 ≡ hand 1 (length jobs.now) (numbers r.1.items)) × All (IsPlayed (P.fits player.now) (map (λ s. s.now) jobs.now)) r.1.items) }
-    ensures me { IfOk result.1 (λ r. IsPassOf line.now r.0 × (view r.0 ≡ hand (view me).parts (length jobs.now) (numbers r.1.items)) × All (IsPlayed (P.fits player.now) (map (λ s. s.now) jobs.now)) r.1.items) }
+    ensures other { IfOk result.0 (λ r. IsPassOf line.now r.0 × (view r.0 ≡ hand 1 (length jobs.now) (jobs_of_results r.1.items)) × All (IsPlayed (P.fits player.now) (map (λ s. s.now) jobs.now)) r.1.items) }
+    ensures me { IfOk result.1 (λ r. IsPassOf line.now r.0 × (view r.0 ≡ hand (view me).parts (length jobs.now) (jobs_of_results r.1.items)) × All (IsPlayed (P.fits player.now) (map (λ s. s.now) jobs.now)) r.1.items) }
 {
     let theirs = move || -> Result<(Drawer, Vec<JobDone>), OutOfMemory>
         requires { IsSync R.row × IsSync P.row × IsPassOf line.now other × (view other ≡ hand 1 (length jobs.now) []) }
-        ensures { IfOk result (λ r. IsPassOf line.entry.now r.0 × (view r.0 ≡ hand 1 (length jobs.entry.now) (numbers r.1.items)) × All (IsPlayed (P.fits player.entry.now) (map (λ s. s.now) jobs.entry.now)) r.1.items) }
+        ensures { IfOk result (λ r. IsPassOf line.entry.now r.0 × (view r.0 ≡ hand 1 (length jobs.entry.now) (jobs_of_results r.1.items)) × All (IsPlayed (P.fits player.entry.now) (map (λ s. s.now) jobs.entry.now)) r.1.items) }
     { draw_jobs(rt, alloc, line, jobs, player, other, Vec::new(alloc)) };
     let mine = move || -> Result<(Drawer, Vec<JobDone>), OutOfMemory>
         requires { IsSync R.row × IsSync P.row × IsPassOf line.now me × (view me ≡ hand (view me).parts (length jobs.now) []) × (1 ≤ rest) × (rest ≤ (view me).parts) }
-        ensures { IfOk result (λ r. IsPassOf line.entry.now r.0 × (view r.0 ≡ hand (view me).parts (length jobs.entry.now) (numbers r.1.items)) × All (IsPlayed (P.fits player.entry.now) (map (λ s. s.now) jobs.entry.now)) r.1.items) }
+        ensures { IfOk result (λ r. IsPassOf line.entry.now r.0 × (view r.0 ≡ hand (view me).parts (length jobs.entry.now) (jobs_of_results r.1.items)) × All (IsPlayed (P.fits player.entry.now) (map (λ s. s.now) jobs.entry.now)) r.1.items) }
     { run_on(rt, alloc, line, jobs, player, me, rest) };
     thread::join(rt, theirs, mine)
 }
@@ -141,7 +141,8 @@ fn put_all<R: Wait>(rt: &R, line: &Line, mut me: Drawer, jobs: u32) -> Drawer
 
 /// Plays each job of the batch once, on so many runners, which are 1 to 8. Entry j has job j and what its play answered.
 ///
-/// Each runner but the caller has a thread of its own. One that can't be started is run by the caller, after its own.
+/// Each runner but the caller has a thread of its own. One that can't be started is run by the caller, after its own. It is refused only where there is no
+/// memory.
 pub fn run_jobs<P: Player + Sync, R: Threads + Wait + Sync>(
     rt: &R,
     alloc: Global,

@@ -14,7 +14,8 @@ use Rattle.plain_heap.specs.Sections.{Execution}
 use Rattle.plain_heap.specs.PlainRun.{heap_from, ops_of}
 use Rattle.load_gen.proofs.Recent.{IsFrom, HasFrom, IsRecent, IsStored, all_or, held_from, assigned_recent, followed_from, stored, pushed_recent}
 
--- what line p of a block may do: one of the first eight sets the variable of its number to nil, and others assign to the first eight; the last one makes no object
+-- what line p of a block may do: one of the first eight sets the variable of its number to nil, and others assign to the first eight; the last one makes no
+-- object
 abbrev pub IsStep : ℕ → Op → Type 0
 IsStep p (ops.New v n) = (8 ≤ p) × (p < 63) × (v < 8)
 IsStep p (ops.Let v w) = (8 ≤ p) × (v < 8)

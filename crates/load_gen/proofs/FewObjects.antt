@@ -37,6 +37,6 @@ read_few size read f whole e w k numbers a =
     let same : f.four.whole ≡ whole = same_script f.four.whole whole (sym f.four.no_fault ∙ e) in
     sections_few f.four.whole.sections w k numbers f.four.catalogue f.blocks (subst (λ (x : Script). AreOwnReachable (plain x.sections w k) numbers) (sym same) a)
 
--- so has each heap of the generated script
+-- each heap of the generated script has few reachable objects
 pub generated_few : (number size : ℕ) → size ≤ 20000 → HasFewReachable 55 (script (generated number size))
 generated_few number size h = read_few size (script (generated number size)) (generated_script number size h)

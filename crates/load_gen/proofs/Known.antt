@@ -68,6 +68,6 @@ knows_more names j l k = all_known names j l k ∙ sym (take_all (j + 1) letters
 pub first_letter : (names : List (List ℕ)) (j : ℕ) → j < 8 → Knows names j → Knows (with_name (Some (letter j)) names) (j + 1)
 first_letter names j h k = ap (with_name (Some (letter j))) k ∙ next_letter j h
 
--- and in a later one
+-- a line that sets the letter of its place to nil, in a block after the first
 pub later_letter : (names : List (List ℕ)) (j a : ℕ) → 8 ≤ j → a < 8 → Knows names j → Knows (with_name (Some (letter a)) names) (j + 1)
 later_letter names j a l h k = ap (λ (test : Bool). cond test names (names ++ letter a ∷ [])) (is_known names j a l h k) ∙ knows_more names j l k

@@ -5,12 +5,12 @@ use Rattle.std.proofs.lemmas.Fmt.{decimal_digit}
 use Rattle.std.specs.Prelude.{◌&&◌, ◌==◌, nat_le, nat_lt, Some}
 use Rattle.std.specs.List.{list_all}
 use Rattle.plain_heap.specs.declared.operation.Op.TheVariants as ops
-use Rattle.gc_script.specs.ScriptText.{words, number_of}
-use Rattle.gc_script.specs.Statement.{Spoken, NewOf, LetOf, NilOf, SetOf, GetOf, SayOf, Statement, Command, numbered, statement}
-use Rattle.gc_script.specs.Earlier.{place, has_name, with_name, reads, reads_of_catalogue, assigns, is_too_large, is_printing}
+use Rattle.script_lines.specs.ScriptText.{words, number_of}
+use Rattle.script_lines.specs.Statement.{Spoken, NewOf, LetOf, NilOf, SetOf, GetOf, SayOf, Statement, Command, with_number, statement}
+use Rattle.gc_script.specs.Earlier.{place, has_name, with_name, names_read, reads_of_catalogue, assigns, is_too_large, is_printing}
 use Rattle.gc_script.specs.Script.{operation}
 use Rattle.load_gen.proofs.Conjunction.{and_true}
-use Rattle.load_gen.specs.Generated.{letter, drawn, drawn_text, line_text}
+use Rattle.load_gen.specs.Generated.{letter, draw_of, drawn_text, generated_line}
 use Rattle.load_gen.proofs.Cases.{by_test, chosen, below, not_below}
 use Rattle.load_gen.proofs.Cut.{IsWord, two_words, three_words, four_words}
 use Rattle.load_gen.proofs.Numerals.{decimal_word, letter_word, named_letter, numbered_decimal}
@@ -36,8 +36,8 @@ say_is v h =
     ∙ named_letter v _ h
 
 -- a number of one digit
-digit_is : (i : ℕ) (s : ℕ → Statement) → i < 10 → numbered (number_of ((48 + i) ∷ [])) s ≡ s i
-digit_is i s h = ap (λ (w : List ℕ). numbered (number_of w) s) (sym (decimal_digit i h)) ∙ numbered_decimal i s (omega arith)
+digit_is : (i : ℕ) (s : ℕ → Statement) → i < 10 → with_number (number_of ((48 + i) ∷ [])) s ≡ s i
+digit_is i s h = ap (λ (w : List ℕ). with_number (number_of w) s) (sym (decimal_digit i h)) ∙ numbered_decimal i s (omega arith)
 
 digit_word : (i : ℕ) → i < 10 → IsWord ((48 + i) ∷ [])
 digit_word i h = subst IsWord (decimal_digit i h) (decimal_word i (omega arith))
@@ -57,7 +57,7 @@ get_is v x i h l k =
 -- a command that may stand on line j of a warehouse, after these names, whose numbers its operation has; it prints or not
 pub record MayStand (names : List (List ℕ)) (j : ℕ) (prints : Bool) (spoken : Spoken) : Type 0 where
   pub small : is_too_large 4 spoken ≡ false
-  pub known : list_all (λ name. has_name name names) (reads spoken) ≡ true
+  pub known : list_all (λ name. has_name name names) (names_read spoken) ≡ true
   pub catalogue : reads_of_catalogue spoken ≡ []
   pub after : Knows (with_name (assigns spoken) names) (j + 1)
   pub printing : is_printing spoken ≡ prints
@@ -151,9 +151,9 @@ drawn_line names j r l o k =
     (set_line names j ((r / 8) % 8) ((r / 512) % 4) ((r / 64) % 8) l a c b k)))
 
 -- a line that prints, or is drawn
-late_line : (names : List (List ℕ)) (j state : ℕ) (prints : Bool) → 8 ≤ j % 64 → (prints ≡ false → j % 64 < 63) → Knows names j → IsLine names j prints (cond prints (codes "say s " ++ letter (drawn state % 8)) (drawn_text (drawn state)))
-late_line names j state true l o k = say_line names j (drawn state % 8) l (omega arith) k
-late_line names j state false l o k = drawn_line names j (drawn state) l (o refl) k
+late_line : (names : List (List ℕ)) (j state : ℕ) (prints : Bool) → 8 ≤ j % 64 → (prints ≡ false → j % 64 < 63) → Knows names j → IsLine names j prints (cond prints (codes "say s " ++ letter (draw_of state % 8)) (drawn_text (draw_of state)))
+late_line names j state true l o k = say_line names j (draw_of state % 8) l (omega arith) k
+late_line names j state false l o k = drawn_line names j (draw_of state) l (o refl) k
 
 -- a line of a block before the last one
 before_last : (p : ℕ) → p < 64 → (p == 63) ≡ false → p < 63
@@ -178,9 +178,9 @@ early_line names j h k =
     subst (λ (t : Bool). IsLine names j t (codes "nil " ++ letter (j % 64))) (sym (no_last (j % 64) h)) (nil_line names j (j % 64) h found.0 (h, found.1))
 
 -- line j of a warehouse
-pub line_is : (names : List (List ℕ)) (j state : ℕ) → Knows names j → IsLine names j (j % 64 == 63) (line_text (j % 64) state)
+pub line_is : (names : List (List ℕ)) (j state : ℕ) → Knows names j → IsLine names j (j % 64 == 63) (generated_line (j % 64) state)
 line_is names j state k =
     by_test
-    (λ (t : Bool). IsLine names j (j % 64 == 63) (cond t (codes "nil " ++ letter (j % 64)) (cond (j % 64 == 63) (codes "say s " ++ letter (drawn state % 8)) (drawn_text (drawn state)))))
+    (λ (t : Bool). IsLine names j (j % 64 == 63) (cond t (codes "nil " ++ letter (j % 64)) (cond (j % 64 == 63) (codes "say s " ++ letter (draw_of state % 8)) (drawn_text (draw_of state)))))
     (nat_lt (j % 64) 8) (λ e. early_line names j (below (j % 64) 8 e) k)
     (λ e. late_line names j state (j % 64 == 63) (not_below (j % 64) 8 e) (before_last (j % 64) (omega arith)) k)

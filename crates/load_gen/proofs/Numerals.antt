@@ -6,8 +6,8 @@ use Rattle.std.proofs.lemmas.Str.Parse.{IsNumeralModel, numerals_by_fold}
 use Rattle.std.specs.Prelude.{not, ◌&&◌, ◌==◌, nat_le, Option, Some, None}
 use Rattle.std.specs.Char.{is_ascii_digit}
 use Rattle.std.specs.List.{list_all}
-use Rattle.gc_script.specs.ScriptText.{is_name, decimal_value, number_of}
-use Rattle.gc_script.specs.Statement.{Statement, Wrong, named, numbered}
+use Rattle.script_lines.specs.ScriptText.{is_name, decimal_value, number_of}
+use Rattle.script_lines.specs.Statement.{Statement, Wrong, named, with_number}
 use Rattle.load_gen.proofs.Conjunction.{both, and_true}
 use Rattle.load_gen.specs.Generated.{letter}
 use Rattle.load_gen.proofs.Cut.{IsWord}
@@ -72,5 +72,5 @@ pub named_letter : (n : ℕ) (s : Statement) → n < 8 → named (letter n) s �
 named_letter n s h = ap (λ (test : Bool). cond test s Wrong) (letter_name n h)
 
 -- where a number is wanted
-pub numbered_decimal : (n : ℕ) (s : ℕ → Statement) → n < 2 ^ 64 → numbered (number_of (decimal n)) s ≡ s n
-numbered_decimal n s h = ap (λ (o : Option ℕ). numbered o s) (number_of_decimal n h)
+pub numbered_decimal : (n : ℕ) (s : ℕ → Statement) → n < 2 ^ 64 → with_number (number_of (decimal n)) s ≡ s n
+numbered_decimal n s h = ap (λ (o : Option ℕ). with_number o s) (number_of_decimal n h)

@@ -1,7 +1,7 @@
 -- When lines after a header are a script.
 use Rattle.std.proofs.Common.{◌≡◌, ℕ, List, [], refl, ap, Bool, true, false, sym, ◌∙◌}
 use Rattle.std.specs.Prelude.{Option, None, Ok, nat_lt}
-use Rattle.gc_script.specs.Statement.{Statement}
+use Rattle.script_lines.specs.Statement.{Statement}
 use Rattle.gc_script.specs.Earlier.{catalogue_names, is_printing}
 use Rattle.gc_script.specs.Faults.{Fault, first_fault}
 use Rattle.gc_script.specs.Script.{Script, sections, executed_count, turned, limited, judged, body}

@@ -5,9 +5,9 @@ use Rattle.std.proofs.lemmas.Fmt.{decimal_digit, length-decimal-le}
 use Rattle.std.proofs.lemmas.List.Folds.{list_all-append}
 use Rattle.std.specs.Prelude.{not, ◌&&◌, ◌==◌, nat_lt, Some, None}
 use Rattle.std.specs.List.{list_all, position_or_len}
-use Rattle.gc_script.specs.ScriptText.{is_allowed, first_foreign}
+use Rattle.script_lines.specs.ScriptText.{is_allowed, first_foreign}
 use Rattle.load_gen.proofs.Conjunction.{both, and_true}
-use Rattle.load_gen.specs.Generated.{letter, drawn, drawn_text, state_after, line_text, lines_text, last_state, warehouses_text, generated}
+use Rattle.load_gen.specs.Generated.{letter, draw_of, drawn_text, state_after_line, generated_line, lines_text, last_state, generated_warehouses, generated}
 use Rattle.load_gen.proofs.Numerals.{is_printed, all_pass, decimal_printed, letter_printed}
 use Rattle.load_gen.proofs.Cases.{by_test, chosen, below}
 
@@ -59,13 +59,13 @@ drawn_short r =
     (chosen IsShort (r % 8 == 7) _ _ (get_short ((r / 8) % 8) ((r / 64) % 8) ((r / 512) % 4) a b c)
     (set_short ((r / 8) % 8) ((r / 512) % 4) ((r / 64) % 8) a c b)))
 
-late_short : (prints : Bool) (state : ℕ) → IsShort (cond prints (codes "say s " ++ letter (drawn state % 8)) (drawn_text (drawn state)))
-late_short true state = say_short (drawn state % 8) (omega arith)
-late_short false state = drawn_short (drawn state)
+late_short : (prints : Bool) (state : ℕ) → IsShort (cond prints (codes "say s " ++ letter (draw_of state % 8)) (drawn_text (draw_of state)))
+late_short true state = say_short (draw_of state % 8) (omega arith)
+late_short false state = drawn_short (draw_of state)
 
-pub line_short : (k state : ℕ) → IsShort (line_text k state)
+pub line_short : (k state : ℕ) → IsShort (generated_line k state)
 line_short k state =
-    by_test (λ (t : Bool). IsShort (cond t (codes "nil " ++ letter k) (cond (k == 63) (codes "say s " ++ letter (drawn state % 8)) (drawn_text (drawn state))))) (nat_lt k 8) (λ e. nil_short k (below k 8 e))
+    by_test (λ (t : Bool). IsShort (cond t (codes "nil " ++ letter k) (cond (k == 63) (codes "say s " ++ letter (draw_of state % 8)) (drawn_text (draw_of state))))) (nat_lt k 8) (λ e. nil_short k (below k 8 e))
     (λ _. late_short (k == 63) state)
 
 printed_allowed : (b : ℕ) → is_printed b ≡ true → is_allowed b ≡ true
@@ -75,8 +75,8 @@ printed_no_end : (b : ℕ) → is_printed b ≡ true → not (b == 10) ≡ true
 printed_no_end b h = grind (arith, nat_tests)
 
 -- it has no LF
-pub line_no_end : (k state : ℕ) → list_all (λ (b : ℕ). not (b == 10)) (line_text k state) ≡ true
-line_no_end k state = all_pass is_printed (λ (b : ℕ). not (b == 10)) printed_no_end (line_text k state) (line_short k state).printed
+pub line_no_end : (k state : ℕ) → list_all (λ (b : ℕ). not (b == 10)) (generated_line k state) ≡ true
+line_no_end k state = all_pass is_printed (λ (b : ℕ). not (b == 10)) printed_no_end (generated_line k state) (line_short k state).printed
 
 -- bytes that a script may have, and so many at most
 pub record IsSource (text : List ℕ) (most : ℕ) : Type 0 where
@@ -91,24 +91,24 @@ joined a b m n k l p q =
 lines_source : (more j state : ℕ) → IsSource (lines_text more j state) (10 * more)
 lines_source zero j state = record { allowed = refl; short = omega arith }
 lines_source (suc more) j state =
-    let after : ℕ = state_after (j % 64) state in
-    let line : List ℕ = line_text (j % 64) after in
+    let after : ℕ = state_after_line (j % 64) state in
+    let line : List ℕ = generated_line (j % 64) after in
     let short : IsShort line = line_short (j % 64) after in
     let own : IsSource line 9 = record { allowed = all_pass is_printed is_allowed printed_allowed line short.printed; short = short.short } in
     let end : IsSource (codes "\n") 1 = record { allowed = refl; short = omega arith } in
     joined (line ++ codes "\n") (lines_text more (j + 1) after) 10 (10 * more) (10 * suc more) (omega arith) (joined line (codes "\n") 9 1 10 (omega arith) own end) (lines_source more (j + 1) after)
 
-warehouses_source : (n size state : ℕ) → size ≤ 20000 → IsSource (warehouses_text n size state) (200010 * n)
+warehouses_source : (n size state : ℕ) → size ≤ 20000 → IsSource (generated_warehouses n size state) (200010 * n)
 warehouses_source zero size state h = record { allowed = refl; short = omega arith }
 warehouses_source (suc n) size state h =
     let head : IsSource (codes "warehouse\n") 10 = record { allowed = refl; short = omega arith } in
-    joined (codes "warehouse\n" ++ lines_text size 0 state) (warehouses_text n size (last_state size 0 state)) 200010 (200010 * n) (200010 * suc n) (omega arith)
+    joined (codes "warehouse\n" ++ lines_text size 0 state) (generated_warehouses n size (last_state size 0 state)) 200010 (200010 * n) (200010 * suc n) (omega arith)
     (joined (codes "warehouse\n") (lines_text size 0 state) 10 (10 * size) 200010 (omega (arith, h)) head (lines_source size 0 state)) (warehouses_source n size (last_state size 0 state) h)
 
 pub generated_source : (number size : ℕ) → size ≤ 20000 → IsSource (generated number size) 800051
 generated_source number size h =
     let head : IsSource (codes "gcscript 1\n") 11 = record { allowed = refl; short = omega arith } in
-    joined (codes "gcscript 1\n") (warehouses_text 4 size number) 11 800040 800051 (omega arith) head (warehouses_source 4 size number h)
+    joined (codes "gcscript 1\n") (generated_warehouses 4 size number) 11 800040 800051 (omega arith) head (warehouses_source 4 size number h)
 
 -- no byte is foreign
 all_end : (bs : List ℕ) → list_all is_allowed bs ≡ true → position_or_len (λ (b : ℕ). not (is_allowed b)) bs ≡ length bs

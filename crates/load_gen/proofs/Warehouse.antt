@@ -7,10 +7,10 @@ use Rattle.std.specs.Prelude.{not, ◌&&◌, ◌==◌, nat_le, All, Option, Some
 use Rattle.std.specs.List.{list_all}
 use Rattle.std.specs.Option.{option_or}
 use Rattle.plain_heap.specs.Sections.{Execution}
-use Rattle.gc_script.specs.Statement.{Spoken, Statement, Warehouse, Command}
-use Rattle.gc_script.specs.Earlier.{place, has_name, reads, reads_of_catalogue, assigns, is_printing, known_names, open_repeat, open_section, warehouse_count, season_count, with_name}
+use Rattle.script_lines.specs.Statement.{Spoken, Statement, Warehouse, Command}
+use Rattle.gc_script.specs.Earlier.{place, has_name, names_read, reads_of_catalogue, assigns, is_printing, known_names, open_repeat, open_section, warehouse_count, season_count, with_name}
 use Rattle.gc_script.specs.Faults.{Fault, unless_, cuts_repeat, may_stand, line_fault}
-use Rattle.gc_script.specs.Script.{execution, executed, ended_parts, open_parts, if_warehouse, if_catalogue, closed_warehouses, closed_catalogue, sections, executed_count, one_if}
+use Rattle.gc_script.specs.Script.{execution, executed, ended_parts, parts_of_open_section, if_warehouse, if_catalogue, closed_warehouses, closed_catalogue, sections, executed_count, one_if}
 use Rattle.load_gen.proofs.Conjunction.{and_true}
 use Rattle.load_gen.proofs.Known.{Knows, few_names, knows_none}
 use Rattle.load_gen.proofs.LineText.{MayStand}
@@ -88,8 +88,8 @@ started size w lengths earlier h = record {
 stands_there : (o : Option ℕ) (w : ℕ) (spoken : Spoken) → o ≡ Some (suc w) → may_stand o spoken ≡ true
 stands_there o w spoken e = ap (λ (p : Option ℕ). may_stand p spoken) e
 
-names_known : (names : List (List ℕ)) (spoken : Spoken) → list_all (λ name. has_name name names) (reads spoken) ≡ true → reads_of_catalogue spoken ≡ []
-    → (list_all (λ name. has_name name names) (reads spoken) && list_all (λ name. has_name name []) (reads_of_catalogue spoken)) ≡ true
+names_known : (names : List (List ℕ)) (spoken : Spoken) → list_all (λ name. has_name name names) (names_read spoken) ≡ true → reads_of_catalogue spoken ≡ []
+    → (list_all (λ name. has_name name names) (names_read spoken) && list_all (λ name. has_name name []) (reads_of_catalogue spoken)) ≡ true
 names_known names spoken h e = and_true _ _ h (ap (list_all (λ (name : List ℕ). has_name name [])) e)
 
 -- a command stands on the next line
@@ -172,7 +172,7 @@ pub closed : (size w : ℕ) (lengths : List (List ℕ)) (earlier : List Statemen
 closed size w lengths earlier h = record {
   no_repeat = h.no_repeat;
   count = omega (arith, h.count);
-  catalogue = no_catalogue (open_section earlier) w (open_parts [] earlier) (closed_catalogue [] earlier) h.section h.catalogue;
+  catalogue = no_catalogue (open_section earlier) w (parts_of_open_section [] earlier) (closed_catalogue [] earlier) h.section h.catalogue;
   warehouses = one_more (open_section earlier) w size (closed_warehouses [] earlier) (ended_parts [] earlier) (executed [] earlier) lengths h.section h.ended h.warehouses h.executed;
   commands = omega (arith, h.commands);
   printed = omega (arith, h.printed);

@@ -2,13 +2,13 @@
 use Rattle.std.proofs.Common.{◌≡◌, ℕ, ◌+◌, ◌%◌, ◌<◌, ◌≤◌, zero, suc, List, [], ◌∷◌, ◌++◌, length, map, refl, ap, sym, ◌∙◌, subst, cond, Bool, false, arith, codes}
 use Rattle.std.proofs.lemmas.Bool.Decides.{nat_tests}
 use Rattle.std.specs.Prelude.{◌==◌, nat_lt, All, Option, None, Result, Err}
-use Rattle.gc_script.specs.ScriptText.{first_foreign, words}
-use Rattle.gc_script.specs.Statement.{Statement, Warehouse, Command}
+use Rattle.script_lines.specs.ScriptText.{first_foreign, words}
+use Rattle.script_lines.specs.Statement.{Statement, Warehouse, Command}
 use Rattle.gc_script.specs.Earlier.{known_names}
 use Rattle.gc_script.specs.Faults.{Fault, TooLong, line_fault, first_fault, left_open, or_later}
 use Rattle.gc_script.specs.Script.{Script, turned, body, of_lines, of_text, script}
 use Rattle.load_gen.proofs.ScriptForm.{script_from, body_is}
-use Rattle.load_gen.specs.Generated.{state_after, line_text, lines_text, last_state, warehouses_text, generated}
+use Rattle.load_gen.specs.Generated.{state_after_line, generated_line, lines_text, last_state, generated_warehouses, generated}
 use Rattle.load_gen.specs.FourWarehouses.{HasFourWarehouses}
 use Rattle.load_gen.proofs.Cut.{lines_first, statements, statements_first}
 use Rattle.load_gen.proofs.LineText.{IsLine, line_is}
@@ -40,8 +40,8 @@ lines_pass : (more j state size w : ℕ) (lengths : List (List ℕ)) (earlier : 
     → ((last : List Statement) → IsOpen size w (j + more) lengths last → Passes size last (statements rest)) → Passes size earlier (statements (lines_text more j state ++ rest))
 lines_pass zero j state size w lengths earlier rest l h f = f earlier (subst (λ (m : ℕ). IsOpen size w m lengths earlier) (let e : j ≡ j + 0 = omega arith in e) h)
 lines_pass (suc more) j state size w lengths earlier rest l h f =
-    let after : ℕ = state_after (j % 64) state in
-    let line : List ℕ = line_text (j % 64) after in
+    let after : ℕ = state_after_line (j % 64) state in
+    let line : List ℕ = generated_line (j % 64) after in
     let others : List ℕ = lines_text more (j + 1) after ++ rest in
     let here : IsLine (known_names earlier) j (j % 64 == 63) line = line_is (known_names earlier) j after h.names in
     let first : statements (line ++ codes "\n" ++ lines_text more (j + 1) after ++ rest) ≡ Command here.spoken ∷ statements others =
@@ -63,12 +63,12 @@ warehouse_passes state size w lengths earlier rest l h f =
     (λ last o. f last (closed size w lengths last (subst (λ (m : ℕ). IsOpen size w m lengths last) all o)))))
 
 -- all four pass
-warehouses_pass : (size state : ℕ) → Passes size [] (statements (warehouses_text 4 size state))
+warehouses_pass : (size state : ℕ) → Passes size [] (statements (generated_warehouses 4 size state))
 warehouses_pass size state =
     let next : ℕ → ℕ = last_state size 0 in
-    warehouse_passes state size 0 [] [] (warehouses_text 3 size (next state)) (omega arith) (none_closed size)
-    (λ a p. warehouse_passes (next state) size 1 ((size ∷ []) ∷ []) a (warehouses_text 2 size (next (next state))) (omega arith) p
-    (λ b q. warehouse_passes (next (next state)) size 2 ((size ∷ []) ∷ (size ∷ []) ∷ []) b (warehouses_text 1 size (next (next (next state)))) (omega arith) q
+    warehouse_passes state size 0 [] [] (generated_warehouses 3 size (next state)) (omega arith) (none_closed size)
+    (λ a p. warehouse_passes (next state) size 1 ((size ∷ []) ∷ []) a (generated_warehouses 2 size (next (next state))) (omega arith) p
+    (λ b q. warehouse_passes (next (next state)) size 2 ((size ∷ []) ∷ (size ∷ []) ∷ []) b (generated_warehouses 1 size (next (next (next state)))) (omega arith) q
     (λ c r. warehouse_passes (next (next (next state))) size 3 ((size ∷ []) ∷ (size ∷ []) ∷ (size ∷ []) ∷ []) c [] (omega arith) r
     (λ d s. passes_end size d s))))
 
@@ -101,14 +101,14 @@ after_header rest s =
     ∙ ap (λ (o : Option ℕ). of_text o bytes) (no_foreign bytes s.allowed)
     ∙ ap (λ (ls : List (List ℕ)). of_lines (map words ls)) (lines_first (codes "gcscript 1") rest refl)
 
-first_warehouse : (size more state : ℕ) → (rest : List Statement) × (statements (warehouses_text (suc more) size state) ≡ Warehouse ∷ rest)
+first_warehouse : (size more state : ℕ) → (rest : List Statement) × (statements (generated_warehouses (suc more) size state) ≡ Warehouse ∷ rest)
 first_warehouse size more state =
-    let rest : List ℕ = lines_text size 0 state ++ warehouses_text more size (last_state size 0 state) in
+    let rest : List ℕ = lines_text size 0 state ++ generated_warehouses more size (last_state size 0 state) in
     (statements rest, statements_first (codes "warehouse") rest refl)
 
 -- the generated text is a script of four warehouses
 pub generated_script : (number size : ℕ) → size ≤ 20000 → AreFourOfBlocks size (script (generated number size))
 generated_script number size h =
     let first = first_warehouse size 3 number in
-    let read : script (generated number size) ≡ body 1 (Warehouse ∷ first.0) = after_header (warehouses_text 4 size number) (generated_source number size h) ∙ ap (body 1) first.1 in
+    let read : script (generated number size) ≡ body 1 (Warehouse ∷ first.0) = after_header (generated_warehouses 4 size number) (generated_source number size h) ∙ ap (body 1) first.1 in
     subst (AreFourOfBlocks size) (sym read) (body_passes size first.0 h (subst (Passes size []) first.1 (warehouses_pass size number)))

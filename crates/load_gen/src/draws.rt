@@ -1,6 +1,6 @@
 //! Numbers that look random.
 ghost use Rattle.std.specs.Prelude.{◌≡◌, ◌<◌, ◌^◌};
-ghost use Rattle.load_gen.specs.Generated.{next_state, drawn};
+ghost use Rattle.load_gen.specs.Generated.{next_state, draw_of};
 
 /// What a state is multiplied by.
 const FACTOR: u64 = 6_364_136_223_846_793_005;
@@ -19,7 +19,7 @@ impl Draws {
     /// Draws a number below 2^31.
     pub fn draw(&mut self) -> u32
         ensures state { self.new.state ≡ next_state self.old.state }
-        ensures drawn { result ≡ drawn (next_state self.old.state) }
+        ensures drawn { result ≡ draw_of (next_state self.old.state) }
         ensures range { result < 2 ^ 31 }
     {
         self.state = self.state.wrapping_mul(FACTOR).wrapping_add(INCREMENT);

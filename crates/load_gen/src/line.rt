@@ -1,7 +1,7 @@
 //! One line of a warehouse.
 ghost use Rattle.std.specs.Prelude.{◌≡◌, ◌<◌, ◌+◌, ◌++◌, OnOk, codes};
 ghost use Rattle.std.specs.String.{string_bytes};
-ghost use Rattle.load_gen.specs.Generated.{state_after, line_text, drawn_text};
+ghost use Rattle.load_gen.specs.Generated.{state_after_line, generated_line, drawn_text};
 
 use crate::draws::Draws;
 use std::alloc::AllocError;
@@ -38,12 +38,12 @@ fn push_drawn(text: &mut String, r: u32) -> Result<(), AllocError>
 }
 
 /// Appends line `place` of a block, counted from 0: lines 0 to 7 set a name to nil, line 63 prints, and each other
-/// one is drawn. Lines 0 to 7 draw no number, and each other one draws one.
+/// one is drawn. Lines 0 to 7 draw no number, and each other one draws one. Out of memory is the only refusal.
 pub fn push_line(text: &mut String, draws: &mut Draws, place: u32) -> Result<(), AllocError>
     requires { place < BLOCK }
-    ensures text { let after = state_after place draws.old.state in
-        OnOk result (string_bytes text.new ≡ string_bytes text.old ++ line_text place after ++ codes "\n") }
-    ensures state { draws.new.state ≡ state_after place draws.old.state }
+    ensures text { let after = state_after_line place draws.old.state in
+        OnOk result (string_bytes text.new ≡ string_bytes text.old ++ generated_line place after ++ codes "\n") }
+    ensures state { draws.new.state ≡ state_after_line place draws.old.state }
 {
     if place < NAMES {
         let name = letter(place);

@@ -4,7 +4,7 @@ ghost use Rattle.std.specs.String.{string_bytes};
 ghost use Rattle.gc_script.specs.Script.{script};
 ghost use Rattle.load_gen.specs.FewReachable.{HasFewReachable};
 ghost use Rattle.load_gen.specs.FourWarehouses.{HasFourWarehouses};
-ghost use Rattle.load_gen.specs.Generated.{generated, lines_text, last_state, warehouses_text};
+ghost use Rattle.load_gen.specs.Generated.{generated, lines_text, last_state, generated_warehouses};
 
 use crate::draws::Draws;
 use crate::line::{BLOCK, push_line};
@@ -35,7 +35,7 @@ fn push_warehouse(text: &mut String, draws: &mut Draws, size: u32) -> Result<(),
 /// Appends the four warehouses.
 fn push_warehouses(text: &mut String, draws: &mut Draws, size: u32) -> Result<(), AllocError>
     ensures { let state = draws.old.state in
-        OnOk result (string_bytes text.new ≡ string_bytes text.old ++ warehouses_text WAREHOUSES size state) }
+        OnOk result (string_bytes text.new ≡ string_bytes text.old ++ generated_warehouses WAREHOUSES size state) }
 {
     for _warehouse in 0..WAREHOUSES {
         push_warehouse(text, draws, size)?;

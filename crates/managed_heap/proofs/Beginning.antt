@@ -1,18 +1,31 @@
--- Seats that have done nothing.
-use Rattle.std.proofs.Common.{ℕ, ◌≡◌, ◌<◌, length, sym, ap, ◌∙◌, arith, Bool, true, cond, Option, Some, None}
-use Rattle.std.specs.Prelude.{◌%◌, ◌==◌, if◌then◌else◌, is_some}
-use Rattle.std.proofs.lemmas.Bool.{lt-ltb, ne_eqb}
-use Rattle.mark_core.specs.Seats.{has_turn, is_bare}
+-- Seats that have done nothing, and the first of them.
+use Rattle.std.proofs.Common.{ℕ, suc, ◌≡◌, ◌+◌, ◌<◌, List, [], ◌∷◌, ◌++◌, length, get_or, take, drop, sym, ap, ◌∙◌, subst, arith}
+use Rattle.std.specs.Prelude.{slice_get}
+use Rattle.mark_core.specs.Seats.{is_bare}
 use Rattle.mark_core.specs.Steps.WorldSteps.{has_nothing}
-use Rattle.mark_core.specs.declared.seat.SeatState.{SeatState}
-use Rattle.gc_table.specs.Seats.{view_of}
-use Rattle.gc_table.specs.SeatRecords.{At, resting}
+use Rattle.gc_table.specs.SeatRecords.{resting}
 use Rattle.gc_table.specs.declared.seat.Heap.{Heap}
 use Rattle.gc_table.specs.declared.seat.HeapSeat.{HeapSeat}
 use Rattle.gc_table.specs.declared.view.SectionState.{SectionState}
-use Rattle.managed_heap.specs.Opening.{IsNew, Opens}
-use Rattle.managed_heap.specs.Standing.{Rests, Waits}
-use Rattle.managed_heap.proofs.Turning.{first-section}
+use Rattle.managed_heap.specs.Opening.{AreNew, IsNewSeat, Opens}
+use Rattle.mutator_turns.specs.Standing.{RestsOutside}
 
-pub new-rests : (h : Heap) (n : ℕ) (x : HeapSeat) → IsNew h n x → Rests h x
+pub new-rests : (h : Heap) (n : ℕ) (x : HeapSeat) → IsNewSeat h n x → RestsOutside h x
 new-rests h n x new = record { sits = new.0; out = record { bare = ap is_bare new.1.state; rest = λ i. has_nothing (new.1.shape i) (new.1.state i) } }
+
+pub new-opens : (h : Heap) (x : HeapSeat) → IsNewSeat h 0 x → Opens h resting x
+new-opens h x new = ((new.0, new.1.state), ap (λ (o : SectionState). o.meaning) new.1.own, ap (λ (o : SectionState). o.seasons) new.1.own, new.1.plan_is)
+
+-- a list is its first element and the others
+pub first-and-rest : {A : Type 0} (xs : List A) (x : A) (rest : List A) → 0 < length xs → x ≡ get_or xs 0 x → rest ≡ take 0 xs ++ drop 1 xs → xs ≡ x ∷ rest
+first-and-rest [] x rest l e r = absurd (omega (arith, l))
+first-and-rest (y ∷ ys) x rest l e r = ap (λ v. v ∷ ys) (sym e) ∙ ap (λ l. x ∷ l) (sym r)
+
+module _ (h : Heap) (k : ℕ) (x : HeapSeat) (xs ys : List HeapSeat) (first : ys ≡ x ∷ xs) (new : AreNew h k ys) where
+  -- of seats that have done nothing, from seat k on, the first is seat k
+  pub first-new : IsNewSeat h k x
+  first-new = subst (λ n. IsNewSeat h n x) (let e : k + 0 ≡ k = omega arith in e) (new 0 x (ap (λ (l : List HeapSeat). slice_get l 0) first))
+
+  -- and the others are those from the next one on
+  pub rest-new : AreNew h (k + 1) xs
+  rest-new = λ i s at. subst (λ n. IsNewSeat h n s) (let e : k + suc i ≡ k + 1 + i = omega arith in e) (new (suc i) s (ap (λ (l : List HeapSeat). slice_get l (suc i)) first ∙ at))

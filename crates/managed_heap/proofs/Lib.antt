@@ -1,9 +1,4 @@
 mod Beginning
-mod Done
-mod Fulls
-mod Naming
-mod Seats
 mod Tried
 mod Turning
-mod Uncatalogued
 mod Visiting

@@ -8,18 +8,18 @@ use Rattle.gc_table.specs.Seats.{Sits, view_of}
 use Rattle.gc_table.specs.declared.seat.Heap.{Heap}
 use Rattle.gc_table.specs.declared.seat.HeapSeat.{HeapSeat}
 use Rattle.alloc_cache.specs.declared.cache.Cache.{Cache}
-use Rattle.gc_cycle.specs.Answering.{RefillsTo}
+use Rattle.cache_refills.specs.Getting.{RefillsTo}
 use Rattle.gc_cycle.specs.Mutating.{GoesOut}
 use Rattle.gc_cycle.specs.Sparing.{SparesRefill}
 use Rattle.gc_cycle.specs.Standing.{KeepsSeat, KeepsSection}
-use Rattle.gc_cycle.specs.Trying.{CallsForCollection, EntersTo, PassesTo}
+use Rattle.cache_refills.specs.Trying.{CallsForCollection, EntersTo, PassesTo}
 use Rattle.gc_cycle.specs.declared.counts.Refill.{Refill}
 use Rattle.gc_cycle.specs.declared.counts.Refill.TheVariants as refills
-use Rattle.gc_cycle.specs.declared.trying.Pass.{Pass}
-use Rattle.gc_cycle.specs.declared.trying.Pass.TheVariants as passes
-use Rattle.managed_heap.specs.Standing.{Halts, Waits, Works}
+use Rattle.cache_refills.specs.declared.trying.Pass.{Pass}
+use Rattle.cache_refills.specs.declared.trying.Pass.TheVariants as passes
+use Rattle.mutator_turns.specs.Standing.{Halts, IsMutatorOutside, Works}
 use Rattle.managed_heap.specs.Stepping.{Passes, Refills, Tries}
-use Rattle.managed_heap.proofs.Seats.{going-seen, kept-works, mutator-kept}
+use Rattle.mutator_turns.proofs.Seats.{going-seen, kept-works, mutator-kept}
 
 pub has-section : (o season : Option ℕ) → has_turn o season ≡ true → is_some o ≡ true
 has-section None season e = absurd (false≢true e)
@@ -35,7 +35,7 @@ tries-pass passes.Out handed kept done h x y k sits out p =
     (record { sits = sits; out = p.out; mutator = mutator-kept (view_of x) (view_of y) k.mutator out.ran out.seat out.section }, p.none)
 
 -- an entry
-pub tries-enter : (p : Pass) (h : Heap) (x y : HeapSeat) → Waits h x → Sits h y → GoesOut (view_of x) (view_of y) → EntersTo p (view_of x) (view_of y) → Tries p h y
+pub tries-enter : (p : Pass) (h : Heap) (x y : HeapSeat) → IsMutatorOutside h x → Sits h y → GoesOut (view_of x) (view_of y) → EntersTo p (view_of x) (view_of y) → Tries p h y
 tries-enter passes.Going h x y k sits out p =
     record { works = record { sits = sits; mutates = p.1.mutates; mutator = mutator-kept (view_of x) (view_of y) k.mutator out.ran out.seat out.section }; cache = p.2 }
 tries-enter passes.Full h x y k sits out p =

@@ -19,7 +19,7 @@ use Rattle.gc_table.specs.declared.view.View.{View}
 use Rattle.gc_table.proofs.Noticing.{alone-step}
 use Rattle.gc_table.proofs.Running.{own-kept, ran-plan}
 use Rattle.stop_world.specs.Waiting.{watches}
-use Rattle.managed_heap.specs.Opening.{Keeps}
+use Rattle.stop_world.specs.StopRecords.{KeepsMeaningAndPlan}
 
 watching : (step : Step) → watches step ≡ true → changes_section step ≡ false
 watching Observe e = refl
@@ -27,7 +27,7 @@ watching ReadPhase e = refl
 watching step e = absurd (false≢true e)
 
 -- a seat that waits does nothing to its section
-pub keeps-watching : (v w : View) → Ran v w → Only watches v w → Keeps v w
+pub keeps-watching : (v w : View) → Ran v w → Only watches v w → KeepsMeaningAndPlan v w
 keeps-watching v w r o = let own = own-kept watches watching v w r o in (ap (λ (x : SectionState). x.meaning) own, ap (λ (x : SectionState). x.seasons) own, ran-plan v w r)
 
 pub first-section : (sh : Shape) → 0 < sh.sections → cond {A = Option ℕ} (nat_lt 0 sh.sections) (Some 0) None ≡ Some 0

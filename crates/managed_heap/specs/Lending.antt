@@ -1,13 +1,13 @@
 -- What a world has, and what is so when it is opened and closed.
 use Rattle.std.specs.Prelude.{ℕ, ◌≡◌, ◌<◌, ◌++◌, [], ◌∷◌, replicate, All, vec_len}
 use Rattle.std.specs.Arc.{arc_value}
-use Rattle.mark_core.specs.Numbers.{free_count, last_count}
+use Rattle.mark_core.specs.Numbers.{free_count, last_count, section_variables}
 use Rattle.mark_core.specs.declared.kinds.Step.TheVariants.{ReadStat}
 use Rattle.plain_heap.specs.declared.object.Ref.TheVariants.{Nil}
 use Rattle.gc_table.specs.Seats.{Found}
 use Rattle.gc_table.specs.declared.seat.Heap.{Heap}
 use Rattle.gc_table.specs.declared.view.View.{View}
-use Rattle.managed_heap.specs.Calls.{HasLeft, heap_of}
+use Rattle.managed_heap.specs.Calls.{MutatorLeft, heap_of}
 use Rattle.managed_heap.specs.declared.mutator.Mutator.{Mutator}
 use Rattle.managed_heap.specs.declared.mutator.Place.TheVariants.{Outside}
 use Rattle.managed_heap.specs.declared.sizes.Sizes.{Sizes}
@@ -15,12 +15,12 @@ use Rattle.managed_heap.specs.declared.world.Statistics.{Statistics}
 use Rattle.managed_heap.specs.declared.world.World.{World}
 
 -- a mutator of this heap, with this name, that has done nothing
-pub record IsFresh (h : Heap) (name : ℕ) (m : Mutator) : Type 0 where
+pub record IsFreshMutator (h : Heap) (name : ℕ) (m : Mutator) : Type 0 where
   pub heap : arc_value m.heap ≡ h
   pub name_is : m.name ≡ name
   pub place : m.place ≡ Outside
   pub objects : (heap_of m).objects ≡ []
-  pub variables : (heap_of m).variables ≡ replicate 32 Nil
+  pub variables : (heap_of m).variables ≡ replicate section_variables Nil
 
 -- all mutators and tracers are back
 abbrev pub AreAllBack : World → Type 0
@@ -32,7 +32,7 @@ pub record IsOpened (sizes : Sizes) (w : World) : Type 0 where
   pub fields : (arc_value w.heap).shape.fields ≡ sizes.fields
   -- how many objects a mutator makes at most: their numbers have 32 bits
   pub objects : (arc_value w.heap).shape.objects ≡ 4294967295
-  pub fresh : All (IsFresh (arc_value w.heap) sizes.name) w.mutators.items
+  pub fresh : All (IsFreshMutator (arc_value w.heap) sizes.name) w.mutators.items
   pub all : AreAllBack w
 
 -- the heap, its sizes and what is known of it are as before
@@ -46,11 +46,11 @@ pub record IsBack (m : Mutator) (x y : World) : Type 0 where
   pub name_is : m.name ≡ x.sizes.name
   pub out : vec_len x.mutators < x.sizes.mutators
   pub left : Mutator
-  pub has_left : HasLeft m left
+  pub has_left : MutatorLeft m left
   pub items : y.mutators.items ≡ x.mutators.items ++ left ∷ []
 
 -- the number of free cells was read, and then the number of those that the last cycle marked
-pub record HasRead (s : Statistics) (h : Heap) (v w : View) : Type 0 where
+pub record ReadsStatistics (s : Statistics) (h : Heap) (v w : View) : Type 0 where
   pub cells : s.cells ≡ h.shape.cells
   pub between : View
   pub free : Found (ReadStat free_count) s.free v between

@@ -2,12 +2,9 @@ pub mod Asking
 pub mod Bounds
 pub mod Calls
 pub mod Collecting
-pub mod Halting
 pub mod Lending
 pub mod Opening
-pub mod Plain
 pub mod Sizing
-pub mod Standing
 pub mod Stepping
 pub mod Tracing
 pub mod Trying

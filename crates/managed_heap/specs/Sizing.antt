@@ -1,10 +1,11 @@
 -- The sizes that a world may have.
 use Rattle.std.specs.Prelude.{◌≡◌, ◌%◌, ◌≤◌}
+use Rattle.mark_core.specs.Cards.{block_cells}
 use Rattle.managed_heap.specs.declared.sizes.Sizes.{Sizes}
 
 -- each size is in its range
 pub record Fits (s : Sizes) : Type 0 where
-  pub cells : (64 ≤ s.cells) × (s.cells ≤ 16777216) × (s.cells % 64 ≡ 0)
+  pub cells : (block_cells ≤ s.cells) × (s.cells ≤ 16777216) × (s.cells % block_cells ≡ 0)
   pub fields : (1 ≤ s.fields) × (s.fields ≤ 16)
   pub mutators : (1 ≤ s.mutators) × (s.mutators ≤ 32)
   pub tracers : s.tracers ≤ 8

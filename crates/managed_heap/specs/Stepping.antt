@@ -1,6 +1,7 @@
 -- What a mutator is told that doesn't wait.
 use Rattle.std.specs.Prelude.{ℕ, ◌≡◌, ◌≤◌, ◌<◌, length, Bool, true, false, Option, Some, None, IsTrue}
 use Rattle.std.specs.Arc.{arc_value}
+use Rattle.mark_core.specs.Numbers.{section_variables}
 use Rattle.plain_heap.specs.PlainHeap.{Heap as PlainHeap}
 use Rattle.plain_heap.specs.PlainStep.{IsInRange}
 use Rattle.plain_heap.specs.declared.operation.Op.{Op}
@@ -12,12 +13,12 @@ use Rattle.alloc_cache.specs.declared.cache.Cache.{Cache}
 use Rattle.gc_cycle.specs.Answering.{HasCache}
 use Rattle.gc_cycle.specs.declared.counts.Refill.{Refill}
 use Rattle.gc_cycle.specs.declared.counts.Refill.TheVariants as refills
-use Rattle.gc_cycle.specs.declared.trying.Pass.{Pass}
-use Rattle.gc_cycle.specs.declared.trying.Pass.TheVariants as passes
+use Rattle.cache_refills.specs.declared.trying.Pass.{Pass}
+use Rattle.cache_refills.specs.declared.trying.Pass.TheVariants as passes
 use Rattle.gc_table.specs.declared.seat.Heap.{Heap}
 use Rattle.gc_table.specs.declared.seat.HeapSeat.{HeapSeat}
-use Rattle.managed_heap.specs.Plain.{Steps, value_in}
-use Rattle.managed_heap.specs.Standing.{Halts, IsAtTurn, Waits, Works, plain_of}
+use Rattle.mutator_turns.specs.Plain.{Steps, value_in}
+use Rattle.mutator_turns.specs.Standing.{Halts, IsAtTurn, IsMutatorOutside, Works, plain_of}
 use Rattle.managed_heap.specs.declared.stepper.Came.{Came}
 use Rattle.managed_heap.specs.declared.stepper.Came.TheVariants as cames
 use Rattle.managed_heap.specs.declared.stepper.Stage.{Stage}
@@ -28,13 +29,13 @@ use Rattle.managed_heap.specs.declared.stepper.Stepper.{Stepper}
 abbrev pub Tries : Pass → Heap → HeapSeat → Type 0
 Tries passes.Going h s = Halts h s
 Tries passes.Full h s = Halts h s × KnowsFull (view_of s)
-Tries passes.Out h s = Waits h s
+Tries passes.Out h s = IsMutatorOutside h s
 
 -- where it is after a safe point, with the cache that it has then
 abbrev pub Passes : Pass → Heap → HeapSeat → Option Cache → Type 0
 Passes passes.Going h s kept = Works h s × HasCache kept (view_of s) × HasSeenPhase (view_of s).state
 Passes passes.Full h s kept = Halts h s × KnowsFull (view_of s) × (kept ≡ None)
-Passes passes.Out h s kept = Waits h s × (kept ≡ None)
+Passes passes.Out h s kept = IsMutatorOutside h s × (kept ≡ None)
 
 -- where it is that asked for a cache
 abbrev pub Refills : Refill → Heap → HeapSeat → Type 0
@@ -42,23 +43,23 @@ Refills (refills.Cache free paid) h s = Works h s × IsCached free (view_of s)
 Refills refills.Full h s = Halts h s × KnowsFull (view_of s)
 
 -- where it is that left instead of what it was to do
-abbrev pub Leaves : Came → Heap → HeapSeat → Type 0
-Leaves cames.Stopped h s = Waits h s
-Leaves cames.Full h s = Waits h s × KnowsFull (view_of s)
-Leaves c h s = ⊥
+abbrev pub LeavesWorld : Came → Heap → HeapSeat → Type 0
+LeavesWorld cames.Stopped h s = IsMutatorOutside h s
+LeavesWorld cames.Full h s = IsMutatorOutside h s × KnowsFull (view_of s)
+LeavesWorld c h s = ⊥
 
 -- where it is that tried to come to its turn
 abbrev pub Arrives : Came → Heap → HeapSeat → Type 0
 Arrives cames.Done h s = IsAtTurn h s
-Arrives cames.Stopped h s = Waits h s
-Arrives cames.Full h s = Waits h s × KnowsFull (view_of s)
+Arrives cames.Stopped h s = IsMutatorOutside h s
+Arrives cames.Full h s = IsMutatorOutside h s × KnowsFull (view_of s)
 Arrives c h s = ⊥
 
 -- where it is that has come to no cell
 abbrev pub LacksCell : Came → Heap → HeapSeat → Type 0
 LacksCell cames.NoCell h s = IsAtTurn h s
-LacksCell cames.Stopped h s = Waits h s
-LacksCell cames.Full h s = Waits h s × KnowsFull (view_of s)
+LacksCell cames.Stopped h s = IsMutatorOutside h s
+LacksCell cames.Full h s = IsMutatorOutside h s × KnowsFull (view_of s)
 LacksCell c h s = ⊥
 
 -- what making an object came to, where the section may make one
@@ -67,66 +68,66 @@ MakesOne cames.Done op h x y = IsAtTurn h y × Steps op (plain_of x) (plain_of y
 MakesOne c op h x y = LacksCell c h y × (plain_of y ≡ plain_of x)
 
 -- the plain heap of a stepper
-abbrev pub heap_in : Stepper → PlainHeap
-heap_in m = plain_of m.seat
+abbrev pub heap_of_stepper : Stepper → PlainHeap
+heap_of_stepper m = plain_of m.seat
 
 -- how many references an object has
 abbrev pub fields_in : Stepper → ℕ
 fields_in m = (arc_value m.heap).shape.fields
 
--- it is between two steps of a collection of its own
-abbrev pub collects : Stage → Bool
-collects Inside = false
-collects Outside = false
-collects stage = true
+-- the stepper is between two steps of a collection of its own
+abbrev pub is_collecting : Stage → Bool
+is_collecting Inside = false
+is_collecting Outside = false
+is_collecting stage = true
 
 -- neither the objects nor the variables changed, and the stepper is of the same world
 pub record KeepsAll (x y : Stepper) : Type 0 where
-  pub heap : heap_in y ≡ heap_in x
+  pub heap : heap_of_stepper y ≡ heap_of_stepper x
   pub world : arc_value y.heap ≡ arc_value x.heap
   pub name_is : y.name ≡ x.name
 
 -- one operation was done by a stepper inside the world, and nothing else
-pub record DoesOne (op : Op) (x y : Stepper) : Type 0 where
+pub record StepperDoes (op : Op) (x y : Stepper) : Type 0 where
   pub range : IsInRange (fields_in x) op
   pub was : x.stage ≡ Inside
   pub inside : y.stage ≡ Inside
-  pub steps : Steps op (heap_in x) (heap_in y)
+  pub steps : Steps op (heap_of_stepper x) (heap_of_stepper y)
   pub world : arc_value y.heap ≡ arc_value x.heap
   pub name_is : y.name ≡ x.name
 
 -- what an operation came to: it was done, or the stepper is as it was
 abbrev pub Operates : Came → Op → Stepper → Stepper → Type 0
-Operates cames.Done op x y = DoesOne op x y
+Operates cames.Done op x y = StepperDoes op x y
 Operates cames.OutOfRange op x y = (IsInRange (fields_in x) op → ⊥) × (y ≡ x)
 Operates cames.Outside op x y = (x.stage ≡ Outside) × (y ≡ x)
-Operates cames.Collecting op x y = IsTrue (collects x.stage) × (y ≡ x)
+Operates cames.Collecting op x y = IsTrue (is_collecting x.stage) × (y ≡ x)
 Operates c op x y = ⊥
 
 -- what making an object came to: besides, no cell was free, or the stepper is spent, or it left, as a stop is under way or the heap is full
-abbrev pub Makes : Came → Op → Stepper → Stepper → Type 0
-Makes cames.Done op x y = DoesOne op x y
-Makes cames.OutOfRange op x y = (IsInRange (fields_in x) op → ⊥) × (y ≡ x)
-Makes cames.Outside op x y = (x.stage ≡ Outside) × (y ≡ x)
-Makes cames.Collecting op x y = IsTrue (collects x.stage) × (y ≡ x)
-Makes cames.NoCell op x y = (x.stage ≡ Inside) × (y.stage ≡ Inside) × KeepsAll x y
-Makes cames.Spent op x y = ((arc_value x.heap).shape.objects ≤ length (heap_in x).objects) × (x.stage ≡ Inside) × (y.stage ≡ Inside) × KeepsAll x y
-Makes cames.Stopped op x y = (x.stage ≡ Inside) × (y.stage ≡ Outside) × KeepsAll x y
-Makes cames.Full op x y = KnowsFull (view_of y.seat) × (x.stage ≡ Inside) × (y.stage ≡ Outside) × KeepsAll x y
-Makes c op x y = ⊥
+abbrev pub StepperMakes : Came → Op → Stepper → Stepper → Type 0
+StepperMakes cames.Done op x y = StepperDoes op x y
+StepperMakes cames.OutOfRange op x y = (IsInRange (fields_in x) op → ⊥) × (y ≡ x)
+StepperMakes cames.Outside op x y = (x.stage ≡ Outside) × (y ≡ x)
+StepperMakes cames.Collecting op x y = IsTrue (is_collecting x.stage) × (y ≡ x)
+StepperMakes cames.NoCell op x y = (x.stage ≡ Inside) × (y.stage ≡ Inside) × KeepsAll x y
+StepperMakes cames.Spent op x y = ((arc_value x.heap).shape.objects ≤ length (heap_of_stepper x).objects) × (x.stage ≡ Inside) × (y.stage ≡ Inside) × KeepsAll x y
+StepperMakes cames.Stopped op x y = (x.stage ≡ Inside) × (y.stage ≡ Outside) × KeepsAll x y
+StepperMakes cames.Full op x y = KnowsFull (view_of y.seat) × (x.stage ≡ Inside) × (y.stage ≡ Outside) × KeepsAll x y
+StepperMakes c op x y = ⊥
 
 -- what entering came to
 abbrev pub Entered : Came → Stepper → Stepper → Type 0
 Entered cames.Done x y = (y.stage ≡ Inside) × KeepsAll x y
 Entered cames.Stopped x y = (x.stage ≡ Outside) × (y.stage ≡ Outside) × KeepsAll x y
 Entered cames.Full x y = KnowsFull (view_of y.seat) × (x.stage ≡ Outside) × (y.stage ≡ Outside) × KeepsAll x y
-Entered cames.Collecting x y = IsTrue (collects x.stage) × (y ≡ x)
+Entered cames.Collecting x y = IsTrue (is_collecting x.stage) × (y ≡ x)
 Entered c x y = ⊥
 
 -- what leaving came to
 abbrev pub Left : Came → Stepper → Stepper → Type 0
 Left cames.Done x y = (y.stage ≡ Outside) × KeepsAll x y
-Left cames.Collecting x y = IsTrue (collects x.stage) × (y ≡ x)
+Left cames.Collecting x y = IsTrue (is_collecting x.stage) × (y ≡ x)
 Left c x y = ⊥
 
 -- what a safe point came to
@@ -135,23 +136,23 @@ Passed cames.Done x y = (x.stage ≡ Inside) × (y.stage ≡ Inside) × KeepsAll
 Passed cames.Stopped x y = (x.stage ≡ Inside) × (y.stage ≡ Outside) × KeepsAll x y
 Passed cames.Outside x y = (x.stage ≡ Outside) × (y ≡ x)
 Passed cames.Full x y = KnowsFull (view_of y.seat) × (x.stage ≡ Inside) × (y.stage ≡ Outside) × KeepsAll x y
-Passed cames.Collecting x y = IsTrue (collects x.stage) × (y ≡ x)
+Passed cames.Collecting x y = IsTrue (is_collecting x.stage) × (y ≡ x)
 Passed c x y = ⊥
 
 -- what a step of a collection came to
-abbrev pub Collects : Came → Stepper → Stepper → Type 0
-Collects cames.NotYet x y = IsTrue (collects y.stage) × KeepsAll x y
-Collects cames.Done x y = IsTrue (collects x.stage) × (y.stage ≡ Inside) × KeepsAll x y
-Collects cames.Stopped x y = (y.stage ≡ Outside) × KeepsAll x y
-Collects cames.Full x y = KnowsFull (view_of y.seat) × (y.stage ≡ Outside) × KeepsAll x y
-Collects cames.Outside x y = (x.stage ≡ Outside) × (y ≡ x)
-Collects c x y = ⊥
+abbrev pub StepsCollection : Came → Stepper → Stepper → Type 0
+StepsCollection cames.NotYet x y = IsTrue (is_collecting y.stage) × KeepsAll x y
+StepsCollection cames.Done x y = IsTrue (is_collecting x.stage) × (y.stage ≡ Inside) × KeepsAll x y
+StepsCollection cames.Stopped x y = (y.stage ≡ Outside) × KeepsAll x y
+StepsCollection cames.Full x y = KnowsFull (view_of y.seat) × (y.stage ≡ Outside) × KeepsAll x y
+StepsCollection cames.Outside x y = (x.stage ≡ Outside) × (y ≡ x)
+StepsCollection c x y = ⊥
 
 -- what reading a value came to: it was read, or what is to hold it is as it was
-abbrev pub Reads : Came → ℕ → Stepper → Stepper → ℕ → ℕ → Type 0
-Reads cames.Done v x y before after = (value_in (heap_in x) v ≡ Some after) × (v < 32) × (x.stage ≡ Inside) × (y.stage ≡ Inside) × KeepsAll x y
-Reads cames.Nil v x y before after = (value_in (heap_in x) v ≡ None) × (v < 32) × (x.stage ≡ Inside) × (y.stage ≡ Inside) × KeepsAll x y × (after ≡ before)
-Reads cames.OutOfRange v x y before after = (v < 32 → ⊥) × (y ≡ x) × (after ≡ before)
-Reads cames.Outside v x y before after = (x.stage ≡ Outside) × (y ≡ x) × (after ≡ before)
-Reads cames.Collecting v x y before after = IsTrue (collects x.stage) × (y ≡ x) × (after ≡ before)
-Reads c v x y before after = ⊥
+abbrev pub ReadsValue : Came → ℕ → Stepper → Stepper → ℕ → ℕ → Type 0
+ReadsValue cames.Done v x y before after = (value_in (heap_of_stepper x) v ≡ Some after) × (v < section_variables) × (x.stage ≡ Inside) × (y.stage ≡ Inside) × KeepsAll x y
+ReadsValue cames.Nil v x y before after = (value_in (heap_of_stepper x) v ≡ None) × (v < section_variables) × (x.stage ≡ Inside) × (y.stage ≡ Inside) × KeepsAll x y × (after ≡ before)
+ReadsValue cames.OutOfRange v x y before after = (v < section_variables → ⊥) × (y ≡ x) × (after ≡ before)
+ReadsValue cames.Outside v x y before after = (x.stage ≡ Outside) × (y ≡ x) × (after ≡ before)
+ReadsValue cames.Collecting v x y before after = IsTrue (is_collecting x.stage) × (y ≡ x) × (after ≡ before)
+ReadsValue c v x y before after = ⊥

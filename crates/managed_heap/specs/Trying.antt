@@ -7,21 +7,21 @@ use Rattle.mark_core.specs.declared.kinds.Step.TheVariants.{AddStat, LeaveStep, 
 use Rattle.gc_table.specs.Seats.{Found, Took}
 use Rattle.gc_table.specs.declared.view.View.{View}
 use Rattle.stop_world.specs.Gates.{Enters, TurnsBack}
-use Rattle.managed_heap.specs.Tracing.{Visits}
+use Rattle.managed_heap.specs.Tracing.{VisitsWorld}
 use Rattle.managed_heap.specs.declared.try_turns.TryTurn.{TryTurn}
 use Rattle.managed_heap.specs.declared.try_turns.TryTurn.TheVariants as tries
 
--- it entered, read a phase in which there is nothing to mark and after which there may be, and left
+-- the seat entered, read a phase in which there is nothing to mark and after which there may be, and left
 abbrev pub FindsNoCycle : View → View → Type 0
-FindsNoCycle v w = (p : Phase) × (p ≢ phases.Marking) × (p ≢ phases.Full) × Visits p v w
+FindsNoCycle v w = (p : Phase) × (p ≢ phases.Marking) × (p ≢ phases.Full) × VisitsWorld p v w
 
 -- what a turn came to, where it found that number of dismissals
 abbrev pub TriesTo : TryTurn → ℕ → View → View → Type 0
 TriesTo tries.Dismissed n v w = (0 < n) × (w ≡ v)
 TriesTo tries.Stopped n v w = (n ≡ 0) × TurnsBack v w
-TriesTo tries.Marked n v w = (n ≡ 0) × Visits phases.Marking v w
+TriesTo tries.Marked n v w = (n ≡ 0) × VisitsWorld phases.Marking v w
 TriesTo tries.Idle n v w = (n ≡ 0) × FindsNoCycle v w
-TriesTo tries.Full n v w = (n ≡ 0) × Visits phases.Full v w
+TriesTo tries.Full n v w = (n ≡ 0) × VisitsWorld phases.Full v w
 
 -- a turn: it read whether the tracers were dismissed, and where they weren't it tried to enter once, and marked and left where it was in
 pub record TriesTurn (tried : TryTurn) (v w : View) : Type 0 where

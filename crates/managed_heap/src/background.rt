@@ -2,8 +2,8 @@
 ghost use Rattle.std.specs.Arc.{arc_value};
 ghost use Rattle.std.specs.Prelude.{◌≡◌};
 ghost use Rattle.gc_table.specs.Seats.{Across};
-ghost use Rattle.managed_heap.specs.Standing.{Rests};
-ghost use Rattle.managed_heap.specs.Tracing.{RunsTo, TakesTurn};
+ghost use Rattle.mutator_turns.specs.Standing.{RestsOutside};
+ghost use Rattle.managed_heap.specs.Tracing.{TracerRunsTo, TracerTakesTurn};
 
 use crate::marking::take_turn;
 use gc_table::{Heap, HeapSeat};
@@ -32,13 +32,15 @@ const SLEEP: u64 = 2_000;
 /// What one thread marks with beside the mutators. It has no objects. Between two turns it is outside the world.
 #[derive(Drop)]
 pub struct Tracer {
+    /// The world's heap.
     pub(crate) heap: Arc<Heap, Global>,
+    /// Its seat in the heap, of no section.
     pub(crate) seat: HeapSeat,
     /// The name of the world that lends it.
     pub(crate) name: u32,
     /// How many objects it has traced beside the mutators.
     pub(crate) traced: u64,
-    ghost rests: { Rests (arc_value heap) seat },
+    ghost rests: { RestsOutside (arc_value heap) seat },
 }
 
 /// Lets others run, and sleeps while no cycle marks.
@@ -52,7 +54,7 @@ fn rest<R: Wait>(rt: &R, heap: &Heap) {
 impl Tracer {
     /// One turn: it enters, traces and cleans a little where a cycle is marking, and leaves. Where a stop is under way it helps until that has ended.
     pub fn trace_turn<R: Wait>(&mut self, rt: &R) -> Turn
-        ensures turn { Across (TakesTurn result) self.old.seat self.new.seat }
+        ensures turn { Across (TracerTakesTurn result) self.old.seat self.new.seat }
         ensures world { (self.new.heap ≡ self.old.heap) × (self.new.name ≡ self.old.name) }
     {
         take_turn(rt, &self.heap, &mut self.seat, &mut self.traced)
@@ -65,7 +67,7 @@ impl Tracer {
 
     /// Marks turn by turn, until the world dismisses its tracers or the heap is full. Between two turns it lets others run, and sleeps while no cycle marks.
     pub fn run<R: Wait>(&mut self, rt: &R) -> Turn
-        ensures runs { Across (RunsTo result) self.old.seat self.new.seat }
+        ensures runs { Across (TracerRunsTo result) self.old.seat self.new.seat }
         ensures world { (self.new.heap ≡ self.old.heap) × (self.new.name ≡ self.old.name) }
     {
         for _ in rt.forever() {

@@ -1,28 +1,25 @@
 //! What a mutator does.
 ghost use Rattle.std.specs.Prelude.{◌≡◌, ◌<◌, IfErr, IfOk, IsFalse, IsTrue, None, Some};
+ghost use Rattle.mark_core.specs.Numbers.{section_variables};
 ghost use Rattle.plain_heap.specs.PlainHeap.{variable};
 ghost use Rattle.plain_heap.specs.declared.object.Ref.TheVariants.{Nil};
 ghost use Rattle.plain_heap.specs.declared.operation.Op.TheVariants as ops;
-ghost use Rattle.managed_heap.specs.Calls.{CantEnter, HasCollected, HasEntered, HasLeft, HasPassed, IsDone, IsRefused, IsSame, MakesNone, ReadsNone, Refuses, StaysOut, heap_of};
-ghost use Rattle.managed_heap.specs.Plain.{value_in};
+ghost use Rattle.managed_heap.specs.Calls.{CantEnter, MutatorCollected, MutatorEntered, MutatorLeft, HasPassed, MutatorDoes, MutatorRefused, IsSame, MakesNone, ReadsNone, Refuses, StaysOut, heap_of};
+ghost use Rattle.mutator_turns.specs.Plain.{value_in};
 
-use crate::gates::{collect_turn, enter_turn, leave_turn, pass_turn};
 use crate::mutator::{Mutator, Place};
-use crate::operations::{
-    copy_variable, forget_variable, get_field, make_object, put_value, read_value, refer_to_one,
-    refers_to_nothing, set_field,
+use cache_refills::{Unwatched, Watch};
+use mark_core::VARIABLES;
+use mutator_turns::{
+    Refused, collect_turn, copy_variable, enter_turn, forget_variable, get_field, leave_turn,
+    make_object, pass_turn, put_value, read_value, refer_to_one, refers_to_nothing, set_field,
 };
-use crate::refused::Refused;
-use gc_cycle::{Unwatched, Watch};
 use std::sync::Wait;
-
-/// How many variables a mutator has.
-const VARIABLES: u8 = 32;
 
 impl Mutator {
     /// Enters the world, as soon as no collection is under way. Meanwhile it helps to collect. Full comes where the heap is full.
     pub fn enter<R: Wait>(&mut self, rt: &R) -> Result<(), Refused>
-        ensures entered { IfOk result (λ _. HasEntered self.old self.new) }
+        ensures entered { IfOk result (λ _. MutatorEntered self.old self.new) }
         ensures refused { IfErr result (λ e. CantEnter e self.old self.new) }
     {
         match self.place {
@@ -39,7 +36,7 @@ impl Mutator {
 
     /// Leaves the world, if it is inside. What its variables refer to is kept. It leaves before it waits for anything, since a collection waits for it.
     pub fn leave(&mut self)
-        ensures left { HasLeft self.old self.new }
+        ensures left { MutatorLeft self.old self.new }
     {
         match self.place {
             Place::Outside => {}
@@ -68,9 +65,10 @@ impl Mutator {
     }
 
     /// A precise collection: afterwards the cells in use are those of the objects that were reachable while the world stood still. It is a safe point too.
+    /// Refused where the mutator is outside, and where the heap is full: then it is outside afterwards.
     pub fn collect<R: Wait>(&mut self, rt: &R) -> Result<(), Refused>
         ensures passed { IfOk result (λ _. HasPassed self.old self.new) }
-        ensures collected { IfOk result (λ _. HasCollected self.old self.new) }
+        ensures collected { IfOk result (λ _. MutatorCollected self.old self.new) }
         ensures refused { IfErr result (λ e. StaysOut e self.old self.new) }
     {
         match self.place {
@@ -88,13 +86,13 @@ impl Mutator {
     /// Makes an object with this value, whose references refer to nothing, and lets variable v refer to it. It is a safe point: where no cell is free the
     /// mutator collects, or waits until another has collected.
     pub fn make<R: Wait>(&mut self, rt: &R, v: u8, value: u32) -> Result<(), Refused>
-        ensures made { IfOk result (λ _. IsDone (ops.New v value) self.old self.new) }
+        ensures made { IfOk result (λ _. MutatorDoes (ops.New v value) self.old self.new) }
         ensures refused { IfErr result (λ e. MakesNone e (ops.New v value) self.old self.new × IsSame self.old self.new) }
     {
         self.make_watched(rt, v, value, &mut Unwatched)
     }
 
-    /// Makes an object as `make` does, and `watch` is told of each stop that this mutator makes for it, and of what it traces.
+    /// Makes an object as `make` does, and `watch` is told of each stop that this mutator makes for it, and of what it traces. It is refused as `make` is.
     pub fn make_watched<R: Wait, W: Watch>(
         &mut self,
         rt: &R,
@@ -102,7 +100,7 @@ impl Mutator {
         value: u32,
         watch: &mut W,
     ) -> Result<(), Refused>
-        ensures made { IfOk result (λ _. IsDone (ops.New v value) self.old self.new) }
+        ensures made { IfOk result (λ _. MutatorDoes (ops.New v value) self.old self.new) }
         ensures refused { IfErr result (λ e. MakesNone e (ops.New v value) self.old self.new × IsSame self.old self.new) }
     {
         if v >= VARIABLES {
@@ -131,8 +129,8 @@ impl Mutator {
 
     /// Reference i of variable v's object becomes what variable w refers to. Nothing happens where v refers to nothing.
     pub fn set(&mut self, v: u8, i: u8, w: u8) -> Result<(), Refused>
-        ensures done { IfOk result (λ _. IsDone (ops.Set v i w) self.old self.new) }
-        ensures refused { IfErr result (λ e. IsRefused e (ops.Set v i w) self.old self.new) }
+        ensures done { IfOk result (λ _. MutatorDoes (ops.Set v i w) self.old self.new) }
+        ensures refused { IfErr result (λ e. MutatorRefused e (ops.Set v i w) self.old self.new) }
     {
         if v >= VARIABLES || w >= VARIABLES || u32::from(i) >= self.heap.shape().fields {
             return Err(Refused::OutOfRange);
@@ -148,8 +146,8 @@ impl Mutator {
 
     /// Variable w becomes what reference i of variable v's object refers to, or refers to nothing where v does.
     pub fn get(&mut self, w: u8, v: u8, i: u8) -> Result<(), Refused>
-        ensures done { IfOk result (λ _. IsDone (ops.Get w v i) self.old self.new) }
-        ensures refused { IfErr result (λ e. IsRefused e (ops.Get w v i) self.old self.new) }
+        ensures done { IfOk result (λ _. MutatorDoes (ops.Get w v i) self.old self.new) }
+        ensures refused { IfErr result (λ e. MutatorRefused e (ops.Get w v i) self.old self.new) }
     {
         if w >= VARIABLES || v >= VARIABLES || u32::from(i) >= self.heap.shape().fields {
             return Err(Refused::OutOfRange);
@@ -163,10 +161,10 @@ impl Mutator {
         }
     }
 
-    /// Variable w becomes what variable v is.
+    /// Variable w becomes what variable v is. Refused where a number is out of range, or the mutator is outside.
     pub fn copy(&mut self, w: u8, v: u8) -> Result<(), Refused>
-        ensures done { IfOk result (λ _. IsDone (ops.Let w v) self.old self.new) }
-        ensures refused { IfErr result (λ e. IsRefused e (ops.Let w v) self.old self.new) }
+        ensures done { IfOk result (λ _. MutatorDoes (ops.Let w v) self.old self.new) }
+        ensures refused { IfErr result (λ e. MutatorRefused e (ops.Let w v) self.old self.new) }
     {
         if w >= VARIABLES || v >= VARIABLES {
             return Err(Refused::OutOfRange);
@@ -180,10 +178,10 @@ impl Mutator {
         }
     }
 
-    /// Variable v refers to nothing any more. What only it reached is garbage from then on.
+    /// Variable v refers to nothing any more. What only it reached is garbage from then on. Refused where v is out of range, or the mutator is outside.
     pub fn forget(&mut self, v: u8) -> Result<(), Refused>
-        ensures done { IfOk result (λ _. IsDone (ops.Nil v) self.old self.new) }
-        ensures refused { IfErr result (λ e. IsRefused e (ops.Nil v) self.old self.new) }
+        ensures done { IfOk result (λ _. MutatorDoes (ops.Nil v) self.old self.new) }
+        ensures refused { IfErr result (λ e. MutatorRefused e (ops.Nil v) self.old self.new) }
     {
         if v >= VARIABLES {
             return Err(Refused::OutOfRange);
@@ -199,8 +197,8 @@ impl Mutator {
 
     /// The value of variable v's object becomes this one. Nothing happens where v refers to nothing.
     pub fn put(&mut self, v: u8, value: u32) -> Result<(), Refused>
-        ensures done { IfOk result (λ _. IsDone (ops.Put v value) self.old self.new) }
-        ensures refused { IfErr result (λ e. IsRefused e (ops.Put v value) self.old self.new) }
+        ensures done { IfOk result (λ _. MutatorDoes (ops.Put v value) self.old self.new) }
+        ensures refused { IfErr result (λ e. MutatorRefused e (ops.Put v value) self.old self.new) }
     {
         if v >= VARIABLES {
             return Err(Refused::OutOfRange);
@@ -216,7 +214,7 @@ impl Mutator {
 
     /// The value of variable v's object. Nil where it refers to nothing.
     pub fn value(&mut self, v: u8) -> Result<u32, Refused>
-        ensures value { IfOk result (λ value. (value_in (heap_of self.old) v ≡ Some value) × (v < 32) × HasPassed self.old self.new) }
+        ensures value { IfOk result (λ value. (value_in (heap_of self.old) v ≡ Some value) × (v < section_variables) × HasPassed self.old self.new) }
         ensures refused { IfErr result (λ e. ReadsNone e v self.old × IsSame self.old self.new) }
         ensures place { self.new.place ≡ self.old.place }
     {
@@ -232,7 +230,7 @@ impl Mutator {
         }
     }
 
-    /// Whether variable v refers to nothing.
+    /// Whether variable v refers to nothing. Refused where v is out of range, or the mutator is outside.
     pub fn is_nil(&self, v: u8) -> Result<bool, Refused>
         ensures nil { IfOk result (λ nil. IsTrue nil → variable (heap_of self.now) v ≡ Nil) }
         ensures some { IfOk result (λ nil. IsFalse nil → variable (heap_of self.now) v ≡ Nil → ⊥) }

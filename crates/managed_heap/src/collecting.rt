@@ -5,10 +5,10 @@ ghost use Rattle.mark_core.specs.Layout.{block_count};
 ghost use Rattle.gc_table.specs.Rule.{KnowsFull};
 ghost use Rattle.gc_table.specs.Seats.{Across, did, view_of};
 ghost use Rattle.packet_pools.specs.Counts.{count_of};
-ghost use Rattle.gc_cycle.specs.Sorts.{gets_block};
+ghost use Rattle.gc_cycle.specs.Sorts.{draws_block};
 ghost use Rattle.gc_cycle.specs.Stepping.{MakesRound};
-ghost use Rattle.managed_heap.specs.Collecting.{AsksStop, DrainsOn, HoldsStop, IsMarked, IsSwept, ScansRoots, SweepsOn};
-ghost use Rattle.managed_heap.specs.Standing.{Halts, Waits, plain_of};
+ghost use Rattle.managed_heap.specs.Collecting.{AsksStop, SitsAtDrain, HoldsStop, SitsMarkedAll, SitsSweptAll, SitsAtRoots, SitsAtSweep};
+ghost use Rattle.mutator_turns.specs.Standing.{Halts, IsMutatorOutside, plain_of};
 
 use gc_cycle::{
     SweepStep, ask_to_stop, begin_collection, drain_again, drain_step, finds_stopped,
@@ -21,7 +21,7 @@ use mark_core::Phase;
 pub fn asks(heap: &Heap, seat: &mut HeapSeat) -> bool
     requires halts { Halts heap.now seat.old }
     ensures yours { OnTrue result (AsksStop heap.now seat.new) }
-    ensures theirs { OnFalse result (Waits heap.now seat.new) }
+    ensures theirs { OnFalse result (IsMutatorOutside heap.now seat.new) }
     ensures same { plain_of seat.new ≡ plain_of seat.old }
 {
     let made = seat.state().made;
@@ -49,7 +49,7 @@ pub fn saw_marking(seat: &HeapSeat) -> bool {
 /// Begins to mark. False where the heap is full, and then the world goes on.
 pub fn begins(heap: &Heap, seat: &mut HeapSeat) -> bool
     requires stopped { HoldsStop heap.now seat.old }
-    ensures begun { OnTrue result (ScansRoots heap.now seat.new) }
+    ensures begun { OnTrue result (SitsAtRoots heap.now seat.new) }
     ensures full { OnFalse result (Halts heap.now seat.new × KnowsFull (view_of seat.new)) }
     ensures same { plain_of seat.new ≡ plain_of seat.old }
 {
@@ -58,9 +58,9 @@ pub fn begins(heap: &Heap, seat: &mut HeapSeat) -> bool
 
 /// Sees to the roots. False where it is to be called again.
 pub fn roots(heap: &Heap, seat: &mut HeapSeat) -> bool
-    requires rooting { ScansRoots heap.now seat.old }
-    ensures rooted { OnTrue result (DrainsOn heap.now seat.new) }
-    ensures not_yet { OnFalse result (ScansRoots heap.now seat.new) }
+    requires rooting { SitsAtRoots heap.now seat.old }
+    ensures rooted { OnTrue result (SitsAtDrain heap.now seat.new) }
+    ensures not_yet { OnFalse result (SitsAtRoots heap.now seat.new) }
     ensures same { plain_of seat.new ≡ plain_of seat.old }
 {
     root_step(heap, seat)
@@ -68,9 +68,9 @@ pub fn roots(heap: &Heap, seat: &mut HeapSeat) -> bool
 
 /// Drains on, by so many objects. False where it is to be called again.
 pub fn drains(heap: &Heap, seat: &mut HeapSeat, most: u32) -> bool
-    requires draining { DrainsOn heap.now seat.old }
-    ensures drained { OnTrue result (IsMarked heap.now seat.new) }
-    ensures not_yet { OnFalse result (DrainsOn heap.now seat.new) }
+    requires draining { SitsAtDrain heap.now seat.old }
+    ensures drained { OnTrue result (SitsMarkedAll heap.now seat.new) }
+    ensures not_yet { OnFalse result (SitsAtDrain heap.now seat.new) }
     ensures round { OnFalse result (Across (MakesRound most) seat.old seat.new) }
     ensures same { plain_of seat.new ≡ plain_of seat.old }
 {
@@ -79,8 +79,8 @@ pub fn drains(heap: &Heap, seat: &mut HeapSeat, most: u32) -> bool
 
 /// Takes all marks away, to mark once more what is reachable now.
 pub fn marks_again(heap: &Heap, seat: &mut HeapSeat)
-    requires marked { IsMarked heap.now seat.old }
-    ensures rooting { ScansRoots heap.now seat.new }
+    requires marked { SitsMarkedAll heap.now seat.old }
+    ensures rooting { SitsAtRoots heap.now seat.new }
     ensures same { plain_of seat.new ≡ plain_of seat.old }
 {
     drain_again(heap, seat);
@@ -88,8 +88,8 @@ pub fn marks_again(heap: &Heap, seat: &mut HeapSeat)
 
 /// Begins to sweep.
 pub fn begins_sweep(heap: &Heap, seat: &mut HeapSeat)
-    requires marked { IsMarked heap.now seat.old }
-    ensures sweeping { SweepsOn heap.now seat.new }
+    requires marked { SitsMarkedAll heap.now seat.old }
+    ensures sweeping { SitsAtSweep heap.now seat.new }
     ensures same { plain_of seat.new ≡ plain_of seat.old }
 {
     start_sweep(heap, seat);
@@ -97,10 +97,10 @@ pub fn begins_sweep(heap: &Heap, seat: &mut HeapSeat)
 
 /// Sweeps at most so many blocks: fewer come exactly where none is left.
 pub fn sweeps(heap: &Heap, seat: &mut HeapSeat, most: u32) -> SweepStep
-    requires sweeping { SweepsOn heap.now seat.old }
-    ensures sweeping { SweepsOn heap.now seat.new }
-    ensures swept { result.blocks ≢ most → IsSwept heap.now seat.new }
-    ensures blocks { count_of (gets_block (block_count heap.now.shape)) (did seat.old seat.new) ≤ most }
+    requires sweeping { SitsAtSweep heap.now seat.old }
+    ensures sweeping { SitsAtSweep heap.now seat.new }
+    ensures swept { result.blocks ≢ most → SitsSweptAll heap.now seat.new }
+    ensures blocks { count_of (draws_block (block_count heap.now.shape)) (did seat.old seat.new) ≤ most }
     ensures same { plain_of seat.new ≡ plain_of seat.old }
 {
     sweep_step(heap, seat, most)
@@ -108,7 +108,7 @@ pub fn sweeps(heap: &Heap, seat: &mut HeapSeat, most: u32) -> SweepStep
 
 /// Ends the cycle, in which so many cells were freed, and lets the world go on.
 pub fn ends(heap: &Heap, seat: &mut HeapSeat, freed: u32)
-    requires swept { IsSwept heap.now seat.old }
+    requires swept { SitsSweptAll heap.now seat.old }
     ensures halts { Halts heap.now seat.new }
     ensures same { plain_of seat.new ≡ plain_of seat.old }
 {

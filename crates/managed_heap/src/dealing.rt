@@ -2,19 +2,19 @@
 ghost use Rattle.std.specs.Prelude.{◌≡◌, ◌+◌, ◌<◌, ◌≤◌, All, IfErr, IfOk, IsTrue, is_some, vec_len};
 ghost use Rattle.std.specs.Arc.{arc_value};
 ghost use Rattle.gc_table.specs.Seats.{state_of};
-ghost use Rattle.managed_heap.specs.Lending.{IsFresh, IsOpened};
-ghost use Rattle.managed_heap.specs.Opening.{AreNew, IsNew};
+ghost use Rattle.managed_heap.specs.Lending.{IsFreshMutator, IsOpened};
+ghost use Rattle.managed_heap.specs.Opening.{AreNew, IsNewSeat};
 ghost use Rattle.managed_heap.specs.Sizing.{Fits};
-ghost use Rattle.managed_heap.specs.Standing.{Rests};
-ghost use Rattle.managed_heap.specs.declared.refused.NotOpened.TheVariants.{OutOfMemory};
+ghost use Rattle.mutator_turns.specs.Standing.{RestsOutside};
+ghost use Rattle.mutator_turns.specs.declared.refused.NotOpened.TheVariants.{OutOfMemory};
 
 use crate::background::Tracer;
 use crate::mutator::{Mutator, Place};
 use crate::opening::{next_seat, open, open_turn};
-use crate::refused::NotOpened;
 use crate::sizes::Sizes;
 use crate::world::World;
 use gc_table::{Heap, HeapSeat};
+use mutator_turns::NotOpened;
 use std::alloc::{AllocError, Global};
 use std::sync::Arc;
 
@@ -26,9 +26,9 @@ fn mutator_of(
     _k: u32,
     in_stops: bool,
 ) -> Result<Mutator, AllocError>
-    requires seat { IsNew (arc_value heap.now) _k seat }
+    requires seat { IsNewSeat (arc_value heap.now) _k seat }
     requires section { (0 < _k) × (_k < (arc_value heap.now).shape.sections) }
-    ensures fresh { IfOk result (IsFresh (arc_value heap.now) name) }
+    ensures fresh { IfOk result (IsFreshMutator (arc_value heap.now) name) }
 {
     Ok(Mutator {
         heap: Arc::try_clone(heap)?,
@@ -46,7 +46,7 @@ fn tracer_of(
     name: u32,
     _k: u32,
 ) -> Result<Tracer, AllocError>
-    requires seat { IsNew (arc_value heap.now) _k seat }
+    requires seat { IsNewSeat (arc_value heap.now) _k seat }
     ensures named { IfOk result (λ t. t.name ≡ name) }
 {
     Ok(Tracer {
@@ -69,14 +69,14 @@ fn deal_mutators(
     requires new { AreNew (arc_value heap.now) 1 seats.old.items }
     requires enough { mutators ≤ vec_len seats.old }
     requires sections { ((arc_value heap.now).shape.sections ≡ 1 + mutators) × (mutators ≤ 32) }
-    ensures fresh { IfOk result (λ r. All (IsFresh (arc_value heap.now) name) r.items) }
+    ensures fresh { IfOk result (λ r. All (IsFreshMutator (arc_value heap.now) name) r.items) }
     ensures count { IfOk result (λ r. vec_len r ≡ mutators) }
     ensures rest { IfOk result (λ _. AreNew (arc_value heap.now) (1 + mutators) seats.new.items) }
     ensures left { IfOk result (λ _. vec_len seats.new + mutators ≡ vec_len seats.old) }
 {
     let mut all = Vec::new(alloc);
     for at in 0..mutators {
-        let seat = next_seat(heap, seats, 1 + at);
+        let seat = next_seat(seats);
         let mutator = mutator_of(heap, seat, name, 1 + at, in_stops)?;
         all.push(mutator)?;
     }
@@ -99,7 +99,7 @@ fn deal_tracers(
 {
     let mut all = Vec::new(alloc);
     for at in 0..tracers {
-        let seat = next_seat(heap, seats, first + at);
+        let seat = next_seat(seats);
         all.push(tracer_of(heap, seat, name, first + at)?)?;
     }
     Ok(all)
@@ -114,7 +114,7 @@ fn share(
     sizes: Sizes,
 ) -> Result<World, AllocError>
     requires fits { Fits sizes }
-    requires zero { Rests heap zero × IsTrue (is_some (state_of zero).section) }
+    requires zero { RestsOutside heap zero × IsTrue (is_some (state_of zero).section) }
     requires new { AreNew heap 1 seats.old.items }
     requires count { vec_len seats.old ≡ sizes.mutators + sizes.tracers }
     requires shape { (heap.shape.fields ≡ sizes.fields) × (heap.shape.sections ≡ 1 + sizes.mutators) × (heap.shape.objects ≡ 4294967295) }
@@ -133,7 +133,7 @@ fn share(
     })
 }
 
-/// A world of these sizes, which fit.
+/// A world of these sizes, which fit. Out of memory is the only refusal.
 pub fn open_fitting(alloc: Global, sizes: Sizes) -> Result<World, NotOpened>
     requires fits { Fits sizes }
     ensures opened { IfOk result (λ w. IsOpened sizes w) }
@@ -143,7 +143,7 @@ pub fn open_fitting(alloc: Global, sizes: Sizes) -> Result<World, NotOpened>
         Ok(made) => made,
         Err(_) => return Err(NotOpened::OutOfMemory),
     };
-    let mut zero = next_seat(&heap, &mut seats, 0);
+    let mut zero = next_seat(&mut seats);
     if !open_turn(&heap, &mut zero) {
         return Err(NotOpened::OutOfMemory);
     }

@@ -5,29 +5,29 @@ ghost use Rattle.std.specs.Arc.{arc_value};
 ghost use Rattle.mark_core.specs.Numbers.{named_number};
 ghost use Rattle.mark_core.specs.declared.kinds.Step.TheVariants.{ReadStat};
 ghost use Rattle.gc_table.specs.Seats.{Across, Found, state_of, view_of};
-ghost use Rattle.managed_heap.specs.Calls.{HasLeft};
-ghost use Rattle.managed_heap.specs.Lending.{AreAllBack, HasRead, IsBack, IsOpened, KeepsRest};
+ghost use Rattle.managed_heap.specs.Calls.{MutatorLeft};
+ghost use Rattle.managed_heap.specs.Lending.{AreAllBack, ReadsStatistics, IsBack, IsOpened, KeepsRest};
 ghost use Rattle.managed_heap.specs.Sizing.{Fits};
-ghost use Rattle.managed_heap.specs.Standing.{Rests};
-ghost use Rattle.managed_heap.specs.declared.refused.NotOpened.TheVariants.{OutOfRange};
+ghost use Rattle.mutator_turns.specs.Standing.{RestsOutside};
+ghost use Rattle.mutator_turns.specs.declared.refused.NotOpened.TheVariants.{OutOfRange};
 
 use crate::background::Tracer;
 use crate::dealing::open_fitting;
 use crate::mutator::Mutator;
-use crate::refused::NotOpened;
 use crate::sizes::Sizes;
 use crate::world::{Statistics, World};
 use gc_cycle::{go_in, go_out};
 use gc_table::{Heap, HeapSeat};
 use mark_core::{DONE, FREE, LAST, NAMED_SECTION};
+use mutator_turns::NotOpened;
 use std::alloc::Global;
 use std::sync::Wait;
 
 /// Tells the tracers that they are dismissed: the count of played parts, of which these worlds have no other use, is raised.
 fn tell_dismissed<R: Wait>(rt: &R, heap: &Heap, seat: &mut HeapSeat)
-    requires rests { Rests heap.now seat.old }
+    requires rests { RestsOutside heap.now seat.old }
     requires section { IsTrue (is_some (state_of seat.old).section) }
-    ensures rests { Rests heap.now seat.new }
+    ensures rests { RestsOutside heap.now seat.new }
     ensures section { IsTrue (is_some (state_of seat.new).section) }
 {
     go_in(rt, heap, seat);
@@ -38,9 +38,9 @@ fn tell_dismissed<R: Wait>(rt: &R, heap: &Heap, seat: &mut HeapSeat)
 
 /// Reads the numbers of the heap.
 fn read_statistics(heap: &Heap, seat: &mut HeapSeat) -> Statistics
-    requires rests { Rests heap.now seat.old }
-    ensures rests { Rests heap.now seat.new }
-    ensures read { Across (HasRead result heap.now) seat.old seat.new }
+    requires rests { RestsOutside heap.now seat.old }
+    ensures rests { RestsOutside heap.now seat.new }
+    ensures read { Across (ReadsStatistics result heap.now) seat.old seat.new }
     ensures section { (state_of seat.new).section ≡ (state_of seat.old).section }
 {
     let free = heap.read_stat(seat, FREE);
@@ -54,8 +54,8 @@ fn read_statistics(heap: &Heap, seat: &mut HeapSeat) -> Statistics
 
 /// Reads which section found the heap full.
 fn read_named(heap: &Heap, seat: &mut HeapSeat) -> u64
-    requires rests { Rests heap.now seat.old }
-    ensures rests { Rests heap.now seat.new }
+    requires rests { RestsOutside heap.now seat.old }
+    ensures rests { RestsOutside heap.now seat.new }
     ensures read { Across (Found (ReadStat named_number) result) seat.old seat.new }
     ensures section { (state_of seat.new).section ≡ (state_of seat.old).section }
 {
@@ -63,7 +63,8 @@ fn read_named(heap: &Heap, seat: &mut HeapSeat) -> u64
 }
 
 impl World {
-    /// A world of these sizes, in which nothing has happened. It has all its mutators and tracers.
+    /// A world of these sizes, in which nothing has happened. It has all its mutators and tracers. It is refused where a size is out of its range, or where
+    /// there is no memory.
     pub fn open(alloc: Global, sizes: Sizes) -> Result<World, NotOpened>
         ensures opened { IfOk result (λ w. IsOpened sizes w) }
         ensures refused { IfErr result (λ e. e ≡ OutOfRange → Fits sizes → ⊥) }
@@ -105,7 +106,7 @@ impl World {
     /// has the name of another world, where all of this world's are back, or where there is no memory to note it.
     pub fn take_mutator(&mut self, mutator: Mutator) -> Result<(), Mutator>
         ensures back { OnOk result (IsBack mutator self.old self.new) }
-        ensures refused { IfErr result (HasLeft mutator) }
+        ensures refused { IfErr result (MutatorLeft mutator) }
         ensures rest { KeepsRest self.old self.new × (self.new.tracers ≡ self.old.tracers) }
     {
         let mut mutator = mutator;
@@ -142,7 +143,7 @@ impl World {
 
     /// Numbers of the heap. Where others act on it meanwhile, each is of another moment.
     pub fn statistics(&mut self) -> Statistics
-        ensures read { HasRead result (arc_value self.old.heap) (view_of self.old.zero) (view_of self.new.zero) }
+        ensures read { ReadsStatistics result (arc_value self.old.heap) (view_of self.old.zero) (view_of self.new.zero) }
     {
         read_statistics(&self.heap, &mut self.zero)
     }

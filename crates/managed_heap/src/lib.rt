@@ -20,25 +20,25 @@
 //! # What a mutator is told
 //!
 //! What a call does is told over a *plain heap*, which forgets nothing: its objects by their numbers, and what each variable refers to
-//! ([`heap_of`](specs/Standing.antt)). `set` is one operation of it, as are `make`, `get`, `put`, `copy` and `forget`; a safe point, a collection, entering and leaving
-//! change nothing of it. So a program is proved against a heap without a collector.
+//! ([`heap_of`](specs/Standing.antt)). `set` is one operation of it, as are `make`, `get`, `put`, `copy` and `forget`; a safe point, a collection, entering and
+//! leaving change nothing of it. So a program is proved against a heap without a collector.
 //!
 //! # Inside and outside
 //!
 //! A mutator is *inside* the world or *outside* it. Objects are made, read and changed inside. A collection stops the world, for which it waits until each
-//! mutator that is inside comes to a safe point or leaves. So a loop that runs long has a safe point (`make` is one), and a thread that waits for anything, as input or
-//! another thread, leaves first. What it refers to is kept while it is outside.
+//! mutator that is inside comes to a safe point or leaves. So a loop that runs long has a safe point (`make` is one), and a thread that waits for anything, as
+//! input or another thread, leaves first. What it refers to is kept while it is outside.
 //!
 //! # What is final
 //!
 //! Where a precise collection leaves no cell free the heap is *full*, for good: each mutator is told by [`Refused::Full`], and is outside then. A mutator
 //! that has made 4,294,967,295 objects is *spent* ([`Refused::Spent`]): it can do all but make another.
 //!
-//! # Where what is
+//! # Where things are
 //!
-//! `sizes` has the sizes, `refused` why a call did nothing, `world` the heap with those of its mutators and tracers that nobody has, `lending` how they are
-//! taken and given back, `mutator` and `background` the types, `calls` what a mutator does. Below them `opening` makes a heap, `turns` comes to a
-//! mutator's turn and to a free cell, `operations` does one operation, `gates` goes in and out, and `marking` is a tracer's turn.
+//! `sizes` has the sizes, `world` the heap with those of its mutators and tracers that nobody has, `lending` how they are
+//! taken and given back, `mutator` and `background` the types, `calls` what a mutator does. Below them `opening` makes a heap, and
+//! `marking` is a tracer's turn. What a mutator does with its seat is in `mutator_turns`, and so is why a call did nothing.
 //! `stepper` is a mutator that doesn't wait, `stepping`, `asking` and `steps` are its calls and its collection, over `tries` and `collecting`.
 //! `try_turns` is a tracer's turn that doesn't wait, and `dismissing` ends the tracers that take such turns.
 #![tactic(auto)]
@@ -49,26 +49,23 @@ mod calls;
 mod collecting;
 mod dealing;
 mod dismissing;
-mod gates;
 mod lending;
 mod marking;
 mod mutator;
 mod opening;
-mod operations;
-mod refused;
 mod sizes;
 mod stepper;
 mod stepping;
 mod steps;
 mod tries;
 mod try_turns;
-mod turns;
 mod world;
 
 pub use background::{Tracer, Turn};
-pub use gc_cycle::{Counts, Paid, Watch};
+pub use cache_refills::Watch;
+pub use gc_cycle::{Counts, Paid};
 pub use mutator::Mutator;
-pub use refused::{NotOpened, Refused};
+pub use mutator_turns::{NotOpened, Refused};
 pub use sizes::Sizes;
 pub use stepper::{Came, Stage, Stepper};
 pub use try_turns::TryTurn;

@@ -5,9 +5,9 @@ ghost use Rattle.mark_core.specs.Numbers.{done_count};
 ghost use Rattle.mark_core.specs.declared.kinds.Step.TheVariants.{LeaveStep, ReadStat};
 ghost use Rattle.gc_table.specs.Seats.{Across, Found, Took, state_of};
 ghost use Rattle.stop_world.specs.Gates.{Enters, TurnsBack};
-ghost use Rattle.seat_turns.specs.Standing.{Goes, Marks};
-ghost use Rattle.managed_heap.specs.Standing.{Rests};
-ghost use Rattle.managed_heap.specs.Tracing.{HasMarked, MarksIn, Rounds, TakesTurn};
+ghost use Rattle.seat_turns.specs.Standing.{Goes, GoesMarking};
+ghost use Rattle.mutator_turns.specs.Standing.{RestsOutside};
+ghost use Rattle.managed_heap.specs.Tracing.{HasMarked, MarksIn, Rounds, TracerTakesTurn};
 
 use crate::background::Turn;
 use gc_cycle::await_resumed_helping;
@@ -19,7 +19,7 @@ use stop_world::{enter, leave};
 
 /// Traces a few objects, and where there are none, cleans a few cards. How many it traced it tells, and adds to the tally.
 fn mark(heap: &Heap, seat: &mut HeapSeat, tally: &mut u64)
-    requires { Marks heap.now seat.old }
+    requires { GoesMarking heap.now seat.old }
     ensures seat { Goes heap.now seat.new }
     ensures marks { Across HasMarked seat.old seat.new }
 {
@@ -42,9 +42,9 @@ fn mark_in(heap: &Heap, seat: &mut HeapSeat, phase: Phase, tally: &mut u64)
 
 /// Enters the world: true where no stop is under way, else the seat is outside again.
 pub fn goes_in(heap: &Heap, seat: &mut HeapSeat) -> bool
-    requires { Rests heap.now seat.old }
+    requires { RestsOutside heap.now seat.old }
     ensures inside { IsTrue result → Goes heap.now seat.new }
-    ensures outside { IsFalse result → Rests heap.now seat.new }
+    ensures outside { IsFalse result → RestsOutside heap.now seat.new }
     ensures enters { OnTrue result (Across Enters seat.old seat.new) }
     ensures turns { OnFalse result (Across TurnsBack seat.old seat.new) }
 {
@@ -54,7 +54,7 @@ pub fn goes_in(heap: &Heap, seat: &mut HeapSeat) -> bool
 /// Leaves the world.
 pub fn goes_out(heap: &Heap, seat: &mut HeapSeat)
     requires { Goes heap.now seat.old }
-    ensures seat { Rests heap.now seat.new }
+    ensures seat { RestsOutside heap.now seat.new }
     ensures leaves { Across (Took LeaveStep) seat.old seat.new }
 {
     leave(heap, seat);
@@ -63,7 +63,7 @@ pub fn goes_out(heap: &Heap, seat: &mut HeapSeat)
 /// What a tracer does in the world. It returns the phase that it read there.
 pub fn go_round(heap: &Heap, seat: &mut HeapSeat, tally: &mut u64) -> Phase
     requires { Goes heap.now seat.old }
-    ensures seat { Rests heap.now seat.new }
+    ensures seat { RestsOutside heap.now seat.new }
     ensures rounds { Across (Rounds result) seat.old seat.new }
 {
     let phase = see_phase(heap, seat);
@@ -74,8 +74,8 @@ pub fn go_round(heap: &Heap, seat: &mut HeapSeat, tally: &mut u64) -> Phase
 
 /// How often the tracers were dismissed.
 pub fn see_dismissals(heap: &Heap, seat: &mut HeapSeat) -> u64
-    requires { Rests heap.now seat.old }
-    ensures seat { Rests heap.now seat.new }
+    requires { RestsOutside heap.now seat.old }
+    ensures seat { RestsOutside heap.now seat.new }
     ensures looks { Across (Found (ReadStat done_count) result) seat.old seat.new }
 {
     heap.read_stat(seat, DONE)
@@ -83,9 +83,9 @@ pub fn see_dismissals(heap: &Heap, seat: &mut HeapSeat) -> u64
 
 /// One turn. Where a stop is under way the seat helps until that has ended. The objects that it traced beside the mutators are added to the tally.
 pub fn take_turn<R: Wait>(rt: &R, heap: &Heap, seat: &mut HeapSeat, tally: &mut u64) -> Turn
-    requires { Rests heap.now seat.old }
-    ensures seat { Rests heap.now seat.new }
-    ensures turn { Across (TakesTurn result) seat.old seat.new }
+    requires { RestsOutside heap.now seat.old }
+    ensures seat { RestsOutside heap.now seat.new }
+    ensures turn { Across (TracerTakesTurn result) seat.old seat.new }
 {
     if see_dismissals(heap, seat) != 0 {
         return Turn::Dismissed;

@@ -1,7 +1,7 @@
 //! A mutator in the hand of one thread.
 ghost use Rattle.std.specs.Arc.{arc_value};
 ghost use Rattle.std.specs.Prelude.{◌≡◌};
-ghost use Rattle.managed_heap.specs.Standing.{IsAtTurn, Waits};
+ghost use Rattle.mutator_turns.specs.Standing.{IsAtTurn, IsMutatorOutside};
 ghost use Rattle.managed_heap.specs.declared.mutator.Place.TheVariants as places;
 
 use gc_table::{Heap, HeapSeat};
@@ -21,13 +21,16 @@ pub enum Place {
 /// world. Before it is let go it is to leave, or to be given back: a stop waits for each mutator that is inside.
 #[derive(Drop)]
 pub struct Mutator {
+    /// The world's heap.
     pub(crate) heap: Arc<Heap, Global>,
+    /// The seat of its section, which has its variables and objects.
     pub(crate) seat: HeapSeat,
+    /// Whether it is in the world.
     pub(crate) place: Place,
     /// The name of the world that lends it.
     pub(crate) name: u32,
     /// It collects in stops alone.
     pub(crate) in_stops: bool,
-    ghost outside: { place ≡ places.Outside → Waits (arc_value heap) seat },
+    ghost outside: { place ≡ places.Outside → IsMutatorOutside (arc_value heap) seat },
     ghost inside: { place ≡ places.Inside → IsAtTurn (arc_value heap) seat },
 }

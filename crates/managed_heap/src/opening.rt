@@ -1,5 +1,5 @@
 //! A heap with its seats, and the mutators' turn. Nothing waits: in a new heap nobody is inside.
-ghost use Rattle.std.specs.Prelude.{◌≡◌, ◌+◌, ◌<◌, IfOk, IsFalse, IsTrue, vec_len};
+ghost use Rattle.std.specs.Prelude.{◌≡◌, ◌+◌, ◌<◌, ◌∷◌, IfOk, IsFalse, IsTrue, vec_len};
 ghost use Rattle.std.specs.Bool.{OnTrue};
 ghost use Rattle.mark_core.specs.Shapes.{IsShape};
 ghost use Rattle.mark_core.specs.declared.kinds.Phase.TheVariants.{Idle};
@@ -8,12 +8,13 @@ ghost use Rattle.gc_table.specs.Seats.{Across, view_of};
 ghost use Rattle.gc_table.specs.Stopping.{has_moved};
 ghost use Rattle.gc_table.specs.SeatRecords.{At, resting};
 ghost use Rattle.managed_heap.specs.Sizing.{Fits};
-ghost use Rattle.managed_heap.specs.Opening.{AreNew, IsNew, Keeps, Opens, flagged, stopped};
+ghost use Rattle.managed_heap.specs.Opening.{AreNew, Opens};
+ghost use Rattle.stop_world.specs.StopRecords.{flagged, stopped, KeepsMeaningAndPlan};
 
-use crate::refused::NotOpened;
 use crate::sizes::Sizes;
 use gc_table::{Heap, HeapSeat};
 use mark_core::{Phase, Shape};
+use mutator_turns::NotOpened;
 use plain_heap::NoPlan;
 use std::alloc::Global;
 use stop_world::{Raised, leave, raise, resume};
@@ -52,12 +53,10 @@ pub fn open(alloc: Global, sizes: &Sizes) -> Result<(Heap, Vec<HeapSeat>), NotOp
     }
 }
 
-/// The first of the seats that are left, which is seat k.
-pub fn next_seat(heap: &Heap, seats: &mut Vec<HeapSeat>, _k: u32) -> HeapSeat
+/// The first of the seats that are left.
+pub fn next_seat(seats: &mut Vec<HeapSeat>) -> HeapSeat
     requires some { 0 < vec_len seats.old }
-    requires new { AreNew heap.now _k seats.old.items }
-    ensures seat { IsNew heap.now _k result }
-    ensures rest { AreNew heap.now (_k + 1) seats.new.items }
+    ensures first { seats.old.items ≡ result ∷ seats.new.items }
     ensures count { vec_len seats.new + 1 ≡ vec_len seats.old }
 {
     seats.remove(0)
@@ -67,7 +66,7 @@ pub fn next_seat(heap: &Heap, seats: &mut Vec<HeapSeat>, _k: u32) -> HeapSeat
 fn raises(heap: &Heap, seat: &mut HeapSeat) -> bool
     requires { At heap.now resting 0 seat.old }
     ensures raised { OnTrue result (At heap.now flagged 0 seat.new × IsFalse (has_moved (view_of seat.new).log)) }
-    ensures keeps { Across Keeps seat.old seat.new }
+    ensures keeps { Across KeepsMeaningAndPlan seat.old seat.new }
 {
     match raise(heap, seat) {
         Raised::Yours => true,
@@ -79,7 +78,7 @@ fn raises(heap: &Heap, seat: &mut HeapSeat) -> bool
 fn stops_now(heap: &Heap, seat: &mut HeapSeat) -> bool
     requires { At heap.now flagged 0 seat.old × IsFalse (has_moved (view_of seat.old).log) }
     ensures stopped { OnTrue result (At heap.now stopped 0 seat.new × Alone Idle (view_of seat.new)) }
-    ensures keeps { Across Keeps seat.old seat.new }
+    ensures keeps { Across KeepsMeaningAndPlan seat.old seat.new }
 {
     heap.observe(seat);
     match heap.read_phase(seat) {

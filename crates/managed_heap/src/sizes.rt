@@ -3,6 +3,8 @@ ghost use Rattle.std.specs.Prelude.{◌≡◌, false};
 ghost use Rattle.std.specs.Bool.{OnFalse, OnTrue};
 ghost use Rattle.managed_heap.specs.Sizing.{Fits};
 
+use mark_core::BLOCK_CELLS;
+
 /// The sizes of a world, which [`World::open`](crate::World::open) tests. All memory is taken when it opens.
 #[derive(Clone, Copy, Debug, PartialEq, Eq, Drop)]
 pub struct Sizes {
@@ -87,9 +89,9 @@ impl Sizes {
         ensures fits { OnTrue result (Fits self.now) }
         ensures unfit { OnFalse result (Fits self.now → ⊥) }
     {
-        64 <= self.cells
+        BLOCK_CELLS <= self.cells
             && self.cells <= 16_777_216
-            && self.cells % 64 == 0
+            && self.cells % BLOCK_CELLS == 0
             && 1 <= self.fields
             && self.fields <= 16
             && 1 <= self.mutators

@@ -1,8 +1,8 @@
 //! A mutator in the hand of one thread that doesn't wait.
 ghost use Rattle.std.specs.Arc.{arc_value};
 ghost use Rattle.std.specs.Prelude.{◌≡◌};
-ghost use Rattle.managed_heap.specs.Collecting.{AsksStop, DrainsOn, IsSwept, ScansRoots, SweepsOn};
-ghost use Rattle.managed_heap.specs.Standing.{IsAtTurn, Waits};
+ghost use Rattle.managed_heap.specs.Collecting.{AsksStop, SitsAtDrain, SitsSweptAll, SitsAtRoots, SitsAtSweep};
+ghost use Rattle.mutator_turns.specs.Standing.{IsAtTurn, IsMutatorOutside};
 ghost use Rattle.managed_heap.specs.declared.stepper.Stage.TheVariants as stages;
 
 use gc_table::{Heap, HeapSeat};
@@ -57,8 +57,11 @@ pub enum Came {
 /// which the caller does as it likes. Before it is let go it is to leave: a stop waits for each that is inside, and while it collects the world stands still.
 #[derive(Drop)]
 pub struct Stepper {
+    /// The world's heap.
     pub(crate) heap: Arc<Heap, Global>,
+    /// The seat of its section, which has its variables and objects.
     pub(crate) seat: HeapSeat,
+    /// Where it is: outside, at its turn, or between two steps of a collection.
     pub(crate) stage: Stage,
     /// The name of the world that lends it.
     pub(crate) name: u32,
@@ -68,11 +71,11 @@ pub struct Stepper {
     pub(crate) again: bool,
     /// How many cells its sweep has freed.
     pub(crate) freed: u32,
-    ghost outside: { stage ≡ stages.Outside → Waits (arc_value heap) seat },
+    ghost outside: { stage ≡ stages.Outside → IsMutatorOutside (arc_value heap) seat },
     ghost inside: { stage ≡ stages.Inside → IsAtTurn (arc_value heap) seat },
     ghost stopping: { stage ≡ stages.Stopping → AsksStop (arc_value heap) seat },
-    ghost rooting: { stage ≡ stages.Rooting → ScansRoots (arc_value heap) seat },
-    ghost draining: { stage ≡ stages.Draining → DrainsOn (arc_value heap) seat },
-    ghost sweeping: { stage ≡ stages.Sweeping → SweepsOn (arc_value heap) seat },
-    ghost ending: { stage ≡ stages.Ending → IsSwept (arc_value heap) seat },
+    ghost rooting: { stage ≡ stages.Rooting → SitsAtRoots (arc_value heap) seat },
+    ghost draining: { stage ≡ stages.Draining → SitsAtDrain (arc_value heap) seat },
+    ghost sweeping: { stage ≡ stages.Sweeping → SitsAtSweep (arc_value heap) seat },
+    ghost ending: { stage ≡ stages.Ending → SitsSweptAll (arc_value heap) seat },
 }

@@ -1,28 +1,26 @@
 //! What a mutator does that doesn't wait.
 ghost use Rattle.std.specs.Prelude.{◌≡◌, ◌<◌, IfErr, IfOk, IsTrue};
 ghost use Rattle.std.specs.Arc.{arc_value};
+ghost use Rattle.mark_core.specs.Numbers.{section_variables};
 ghost use Rattle.plain_heap.specs.declared.operation.Op.TheVariants as ops;
 ghost use Rattle.managed_heap.specs.Calls.{heap_of};
-ghost use Rattle.managed_heap.specs.Stepping.{Entered, Left, Makes, Operates, Passed, Reads, collects, heap_in};
+ghost use Rattle.managed_heap.specs.Stepping.{Entered, Left, StepperMakes, Operates, Passed, ReadsValue, is_collecting, heap_of_stepper};
 ghost use Rattle.managed_heap.specs.declared.mutator.Place.TheVariants as places;
 ghost use Rattle.managed_heap.specs.declared.stepper.Stage.TheVariants as stages;
 
-use crate::gates::leave_turn;
 use crate::mutator::{Mutator, Place};
-use crate::operations::{
-    copy_variable, forget_variable, get_field, put_value, read_value, set_field,
-};
 use crate::stepper::{Came, Stage, Stepper};
 use crate::tries::{enter_once, make_once, pass_once};
-
-/// How many variables a mutator has.
-const VARIABLES: u8 = 32;
+use mark_core::VARIABLES;
+use mutator_turns::{
+    copy_variable, forget_variable, get_field, leave_turn, put_value, read_value, set_field,
+};
 
 impl Mutator {
     /// The mutator in steps, for a thread that may not wait. It is outside the world.
     pub fn into_steps(self) -> Stepper
         ensures outside { result.stage ≡ stages.Outside }
-        ensures same { heap_in result ≡ heap_of self }
+        ensures same { heap_of_stepper result ≡ heap_of self }
         ensures world { (arc_value result.heap ≡ arc_value self.heap) × (result.name ≡ self.name) }
     {
         let mut mutator = self;
@@ -42,8 +40,8 @@ impl Mutator {
 impl Stepper {
     /// The mutator that it was, outside the world. While it collects it is handed back.
     pub fn into_mutator(self) -> Result<Mutator, Stepper>
-        ensures ok { IfOk result (λ m. (m.place ≡ places.Outside) × (heap_of m ≡ heap_in self) × (arc_value m.heap ≡ arc_value self.heap) × (m.name ≡ self.name)) }
-        ensures err { IfErr result (λ s. IsTrue (collects self.stage) × (s ≡ self)) }
+        ensures ok { IfOk result (λ m. (m.place ≡ places.Outside) × (heap_of m ≡ heap_of_stepper self) × (arc_value m.heap ≡ arc_value self.heap) × (m.name ≡ self.name)) }
+        ensures err { IfErr result (λ s. IsTrue (is_collecting self.stage) × (s ≡ self)) }
     {
         match self.stage {
             Stage::Outside => Ok(Mutator {
@@ -135,7 +133,7 @@ impl Stepper {
 
     /// Makes an object with this value, whose references refer to nothing, and lets variable v refer to it. It is a safe point too.
     pub fn make(&mut self, v: u8, value: u32) -> Came
-        ensures makes { Makes result (ops.New v value) self.old self.new }
+        ensures makes { StepperMakes result (ops.New v value) self.old self.new }
     {
         if v >= VARIABLES {
             return Came::OutOfRange;
@@ -150,8 +148,8 @@ impl Stepper {
     /// Makes an object, inside the world: a safe point, and a cell.
     fn make_inside(&mut self, v: u8, value: u32) -> Came
         requires inside { self.old.stage ≡ stages.Inside }
-        requires range { v < 32 }
-        ensures makes { Makes result (ops.New v value) self.old self.new }
+        requires range { v < section_variables }
+        ensures makes { StepperMakes result (ops.New v value) self.old self.new }
     {
         if self.seat.state().made >= self.heap.shape().objects {
             return Came::Spent;
@@ -253,7 +251,7 @@ impl Stepper {
 
     /// Writes the value of variable v's object.
     pub fn value(&mut self, v: u8, out: &mut u32) -> Came
-        ensures reads { Reads result v self.old self.new out.old out.new }
+        ensures reads { ReadsValue result v self.old self.new out.old out.new }
     {
         if v >= VARIABLES {
             return Came::OutOfRange;

@@ -2,26 +2,26 @@
 ghost use Rattle.std.specs.Prelude.{◌≡◌, ◌<◌, length, IfErr, IfNone, IfOk, IfSome, None};
 ghost use Rattle.std.specs.Bool.{OnTrue};
 ghost use Rattle.std.specs.Int.Count.{ones};
+ghost use Rattle.mark_core.specs.Numbers.{section_variables};
 ghost use Rattle.plain_heap.specs.declared.operation.Op.TheVariants as ops;
 ghost use Rattle.alloc_cache.specs.Caching.{IsCached};
 ghost use Rattle.gc_cycle.specs.Answering.{HasCache};
-ghost use Rattle.gc_cycle.specs.declared.trying.Pass.TheVariants as passes;
+ghost use Rattle.cache_refills.specs.declared.trying.Pass.TheVariants as passes;
 ghost use Rattle.gc_table.specs.Seats.{view_of};
-ghost use Rattle.managed_heap.specs.Standing.{Halts, IsAtTurn, Plays, Waits, Works, plain_of};
-ghost use Rattle.managed_heap.specs.Stepping.{Arrives, LacksCell, Leaves, MakesOne, Passes, Refills, Tries};
+ghost use Rattle.mutator_turns.specs.Standing.{Halts, IsAtTurn, Plays, IsMutatorOutside, Works, plain_of};
+ghost use Rattle.managed_heap.specs.Stepping.{Arrives, LacksCell, LeavesWorld, MakesOne, Passes, Refills, Tries};
 
-use crate::gates::leave;
-use crate::operations::make_in;
 use crate::stepper::Came;
-use crate::turns::{TURN, keep_some, retire_some, with_free};
 use alloc_cache::{Cache, cache_of};
-use gc_cycle::{Pass, Refill, try_enter, try_refill, try_safe_point};
+use cache_refills::{Pass, try_enter, try_refill, try_safe_point};
+use gc_cycle::Refill;
 use gc_table::{Heap, HeapSeat};
+use mutator_turns::{TURN, keep_some, leave, make_in, retire_some, with_free};
 use seat_turns::is_turn;
 
 /// Tries to enter the world.
 fn try_in(heap: &Heap, seat: &mut HeapSeat) -> Pass
-    requires waits { Waits heap.now seat.old }
+    requires waits { IsMutatorOutside heap.now seat.old }
     ensures tries { Tries result heap.now seat.new }
     ensures same { plain_of seat.new ≡ plain_of seat.old }
 {
@@ -43,6 +43,7 @@ fn try_pass(heap: &Heap, seat: &mut HeapSeat, cache: &mut Option<Cache>) -> Pass
 fn comes_to_turn(heap: &Heap, seat: &mut HeapSeat, _cache: &Option<Cache>) -> bool
     requires going { Passes passes.Going heap.now seat.old _cache.now }
     ensures plays { OnTrue result (Plays heap.now seat.new) }
+    ensures turn { OnTrue result (IsAtTurn heap.now seat.new) }
     ensures works { Works heap.now seat.new }
     ensures cache { HasCache _cache.now (view_of seat.new) }
     ensures same { plain_of seat.new ≡ plain_of seat.old }
@@ -64,7 +65,7 @@ fn spend_none(cache: Option<Cache>)
 fn leave_with(heap: &Heap, seat: &mut HeapSeat, cache: Option<Cache>)
     requires works { Works heap.now seat.old }
     requires cache { HasCache cache (view_of seat.old) }
-    ensures waits { Waits heap.now seat.new }
+    ensures waits { IsMutatorOutside heap.now seat.new }
     ensures same { plain_of seat.new ≡ plain_of seat.old }
 {
     retire_some(heap, seat, cache);
@@ -76,7 +77,8 @@ fn point(heap: &Heap, seat: &mut HeapSeat, cache: Option<Cache>) -> Result<Optio
     requires works { Works heap.now seat.old }
     requires cache { HasCache cache (view_of seat.old) }
     ensures ok { IfOk result (λ kept. Plays heap.now seat.new × HasCache kept (view_of seat.new)) }
-    ensures err { IfErr result (λ came. Leaves came heap.now seat.new) }
+    ensures turn { IfOk result (λ _. IsAtTurn heap.now seat.new) }
+    ensures err { IfErr result (λ came. LeavesWorld came heap.now seat.new) }
     ensures same { plain_of seat.new ≡ plain_of seat.old }
 {
     let mut cache = cache;
@@ -108,7 +110,7 @@ pub fn arrive(heap: &Heap, seat: &mut HeapSeat) -> Came
 {
     match point(heap, seat, None) {
         Ok(none) => {
-            keep_some(heap, seat, none);
+            keep_some(none);
             Came::Done
         }
         Err(came) => came,
@@ -117,7 +119,7 @@ pub fn arrive(heap: &Heap, seat: &mut HeapSeat) -> Came
 
 /// Enters the world, where no stop is under way, and comes to its turn.
 pub fn enter_once(heap: &Heap, seat: &mut HeapSeat) -> Came
-    requires waits { Waits heap.now seat.old }
+    requires waits { IsMutatorOutside heap.now seat.old }
     ensures arrives { Arrives result heap.now seat.new }
     ensures same { plain_of seat.new ≡ plain_of seat.old }
 {
@@ -131,25 +133,16 @@ pub fn enter_once(heap: &Heap, seat: &mut HeapSeat) -> Came
     }
 }
 
-/// The cache that the seat has, at its turn.
-fn cache_at_turn(_heap: &Heap, seat: &HeapSeat) -> Option<Cache>
-    requires turn { IsAtTurn _heap.now seat.now }
-    ensures cache { HasCache result (view_of seat.now) }
-    ensures works { Works _heap.now seat.now }
-{
-    cache_of(seat)
-}
-
 /// A safe point at its turn.
 pub fn pass_once(heap: &Heap, seat: &mut HeapSeat) -> Came
     requires turn { IsAtTurn heap.now seat.old }
     ensures arrives { Arrives result heap.now seat.new }
     ensures same { plain_of seat.new ≡ plain_of seat.old }
 {
-    let cache = cache_at_turn(heap, seat);
+    let cache = cache_of(seat);
     match point(heap, seat, cache) {
         Ok(kept) => {
-            keep_some(heap, seat, kept);
+            keep_some(kept);
             Came::Done
         }
         Err(came) => came,
@@ -193,7 +186,7 @@ fn point_with(heap: &Heap, seat: &mut HeapSeat, cache: Cache) -> Result<Cache, C
         Ok(kept) => match with_free(kept) {
             Ok(free) => Ok(free),
             Err(none) => {
-                keep_some(heap, seat, none);
+                keep_some(none);
                 Err(Came::NoCell)
             }
         },
@@ -228,7 +221,7 @@ fn come_once(heap: &Heap, seat: &mut HeapSeat) -> Result<Cache, Came>
     ensures err { IfErr result (λ came. LacksCell came heap.now seat.new) }
     ensures same { plain_of seat.new ≡ plain_of seat.old }
 {
-    let cache = cache_at_turn(heap, seat);
+    let cache = cache_of(seat);
     match point(heap, seat, cache) {
         Err(came) => Err(came),
         Ok(kept) => match with_free(kept) {
@@ -242,7 +235,7 @@ fn come_once(heap: &Heap, seat: &mut HeapSeat) -> Result<Cache, Came>
 pub fn make_once(heap: &Heap, seat: &mut HeapSeat, v: u8, value: u32) -> Came
     requires turn { IsAtTurn heap.now seat.old }
     requires room { length (plain_of seat.old).objects < heap.now.shape.objects }
-    requires range { v < 32 }
+    requires range { v < section_variables }
     ensures makes { MakesOne result (ops.New v value) heap.now seat.old seat.new }
 {
     match come_once(heap, seat) {

@@ -1,7 +1,7 @@
 //! A turn of a tracer that doesn't wait.
 ghost use Rattle.std.specs.Prelude.{◌≡◌};
 ghost use Rattle.gc_table.specs.Seats.{Across};
-ghost use Rattle.managed_heap.specs.Standing.{Rests};
+ghost use Rattle.mutator_turns.specs.Standing.{RestsOutside};
 ghost use Rattle.managed_heap.specs.Trying.{TriesTurn};
 
 use crate::background::Tracer;
@@ -26,8 +26,8 @@ pub enum TryTurn {
 
 /// One turn that doesn't wait. Where a stop is under way the seat is outside again at once.
 fn try_take_turn(heap: &Heap, seat: &mut HeapSeat, tally: &mut u64) -> TryTurn
-    requires { Rests heap.now seat.old }
-    ensures seat { Rests heap.now seat.new }
+    requires { RestsOutside heap.now seat.old }
+    ensures seat { RestsOutside heap.now seat.new }
     ensures turn { Across (TriesTurn result) seat.old seat.new }
 {
     if see_dismissals(heap, seat) != 0 {

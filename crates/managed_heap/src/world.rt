@@ -2,7 +2,7 @@
 ghost use Rattle.std.specs.Arc.{arc_value};
 ghost use Rattle.std.specs.Prelude.{IsTrue, is_some};
 ghost use Rattle.gc_table.specs.Seats.{state_of};
-ghost use Rattle.managed_heap.specs.Standing.{Rests};
+ghost use Rattle.mutator_turns.specs.Standing.{RestsOutside};
 
 use crate::background::Tracer;
 use crate::mutator::Mutator;
@@ -25,12 +25,16 @@ pub struct Statistics {
 /// A heap that threads share. It has those of its mutators and tracers that nobody has taken. The heap is freed when the world is closed.
 #[derive(Drop)]
 pub struct World {
+    /// The heap, which its mutators and tracers share.
     pub(crate) heap: Arc<Heap, Global>,
     /// The seat of section 0, which has nothing to do with objects: it reads and tells.
     pub(crate) zero: HeapSeat,
+    /// The mutators that nobody has taken.
     pub(crate) mutators: Vec<Mutator>,
+    /// The tracers that nobody has taken.
     pub(crate) tracers: Vec<Tracer>,
+    /// The sizes that it was opened with.
     pub(crate) sizes: Sizes,
-    ghost rests: { Rests (arc_value heap) zero },
+    ghost rests: { RestsOutside (arc_value heap) zero },
     ghost section: { IsTrue (is_some (state_of zero).section) },
 }

@@ -3,9 +3,9 @@ use Rattle.std.proofs.Common.{ℕ, ◌≡◌, refl, sym, subst, Option, Some, No
 use Rattle.managed_heap.specs.declared.background.Tracer.{Tracer}
 use Rattle.managed_heap.specs.declared.try_turns.TryTurn.{TryTurn}
 use Rattle.managed_heap.specs.declared.world.World.{World}
-use Rattle.managed_heap_c.specs.Tracers.{AnswersTurn, GivesTracerBack, KeepsMutators, TakesTracerBack, Turns, status_of_turn}
+use Rattle.managed_heap_c.specs.Tracers.{AnswersTurn, GivesTracerBack, KeepsMutators, TakesTracerBack, TriesTracerTurn, status_of_turn}
 
-pub turned : (n : ℕ) (x : Option Tracer) (s t : Tracer) (tried : TryTurn) → x ≡ Some s → n ≡ status_of_turn tried → Turns tried s t → AnswersTurn n x (Some t)
+pub turned : (n : ℕ) (x : Option Tracer) (s t : Tracer) (tried : TryTurn) → x ≡ Some s → n ≡ status_of_turn tried → TriesTracerTurn tried s t → AnswersTurn n x (Some t)
 turned n x s t tried e k p = subst (λ q. AnswersTurn n q (Some t)) (sym e) (tried, t, k, refl, p)
 
 -- it went back to the world

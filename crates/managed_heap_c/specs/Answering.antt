@@ -2,8 +2,8 @@
 use Rattle.std.specs.Prelude.{ℕ, ◌≡◌, ◌⊎◌, Option, Some, None, IsTrue}
 use Rattle.std.specs.Arc.{arc_value}
 use Rattle.gc_table.specs.Seats.{view_of}
-use Rattle.managed_heap.specs.Lending.{AreAllBack, HasRead, IsBack}
-use Rattle.managed_heap.specs.Stepping.{Reads, collects, heap_in}
+use Rattle.managed_heap.specs.Lending.{AreAllBack, ReadsStatistics, IsBack}
+use Rattle.managed_heap.specs.Stepping.{ReadsValue, is_collecting, heap_of_stepper}
 use Rattle.managed_heap.specs.Calls.{heap_of}
 use Rattle.managed_heap.specs.declared.mutator.Mutator.{Mutator}
 use Rattle.managed_heap.specs.declared.world.Statistics.{Statistics}
@@ -14,17 +14,17 @@ use Rattle.managed_heap.specs.declared.stepper.Stepper.{Stepper}
 use Rattle.managed_heap_c.specs.declared.worlds.CNumbers.{CNumbers}
 
 -- the number of what a mutator's call came to
-abbrev pub status_of : Came → ℕ
-status_of cames.Done = 0
-status_of cames.NotYet = 1
-status_of cames.Stopped = 2
-status_of cames.NoCell = 3
-status_of cames.Outside = 4
-status_of cames.Collecting = 5
-status_of cames.OutOfRange = 6
-status_of cames.Nil = 7
-status_of cames.Full = 8
-status_of cames.Spent = 9
+abbrev pub status_of_came : Came → ℕ
+status_of_came cames.Done = 0
+status_of_came cames.NotYet = 1
+status_of_came cames.Stopped = 2
+status_of_came cames.NoCell = 3
+status_of_came cames.Outside = 4
+status_of_came cames.Collecting = 5
+status_of_came cames.OutOfRange = 6
+status_of_came cames.Nil = 7
+status_of_came cames.Full = 8
+status_of_came cames.Spent = 9
 
 -- the handle is in use by another thread, and nothing changed
 abbrev pub IsInUse : ℕ → Option Stepper → Option Stepper → Type 0
@@ -33,15 +33,15 @@ IsInUse n x y = (n ≡ 12) × (y ≡ x)
 -- the handle was given back, or else the call came to what the answer says, and did this
 abbrev pub Answers : (Came → Stepper → Stepper → Type 0) → ℕ → Option Stepper → Option Stepper → Type 0
 Answers P n None y = (n ≡ 11) × (y ≡ None)
-Answers P n (Some s) y = (came : Came) × (t : Stepper) × (n ≡ status_of came) × (y ≡ Some t) × P came s t
+Answers P n (Some s) y = (came : Came) × (t : Stepper) × (n ≡ status_of_came came) × (y ≡ Some t) × P came s t
 
--- or else the handle is in use
+-- the answer of a call; or the handle is in use, and nothing changed
 abbrev pub AnswersOnce : (Came → Stepper → Stepper → Type 0) → ℕ → Option Stepper → Option Stepper → Type 0
 AnswersOnce P n x y = Answers P n x y ⊎ IsInUse n x y
 
 -- what reading a value came to, by what the variable of C was and is
 abbrev pub ReadsTo : ℕ → ℕ → ℕ → Came → Stepper → Stepper → Type 0
-ReadsTo v before after came x y = Reads came v x y before after
+ReadsTo v before after came x y = ReadsValue came v x y before after
 
 -- nothing is written by a handle that was given back
 abbrev pub SparesGone : Option Stepper → ℕ → ℕ → Type 0
@@ -50,11 +50,11 @@ SparesGone (Some s) before after = Unit {0}
 
 -- the world has a mutator back with these objects and variables
 abbrev pub TakesBack : Stepper → World → World → Type 0
-TakesBack s w x = (m : Mutator) × (heap_of m ≡ heap_in s) × IsBack m w x
+TakesBack s w x = (m : Mutator) × (heap_of m ≡ heap_of_stepper s) × IsBack m w x
 
 -- the mutator is between two steps of a collection and stays, or the world refused it, and the objects and variables are as before
 abbrev pub StaysWith : ℕ → Stepper → Stepper → Type 0
-StaysWith n s t = ((n ≡ 5) × IsTrue (collects s.stage) × (t ≡ s)) ⊎ ((n ≡ 14) × (heap_in t ≡ heap_in s))
+StaysWith n s t = ((n ≡ 5) × IsTrue (is_collecting s.stage) × (t ≡ s)) ⊎ ((n ≡ 14) × (heap_of_stepper t ≡ heap_of_stepper s))
 
 -- the mutator went back, or there was none to go back, or the handle keeps it
 abbrev pub GivesBack : ℕ → World → World → Option Stepper → Option Stepper → Type 0
@@ -63,32 +63,32 @@ GivesBack n w x None (Some t) = ⊥
 GivesBack n w x (Some s) None = (n ≡ 0) × TakesBack s w x
 GivesBack n w x (Some s) (Some t) = StaysWith n s t
 
--- the same, or the world was closed
+-- the world was closed, or it has the mutator back, or the handle keeps it, or there was none to give back
 abbrev pub Gives : ℕ → Option World → Option World → Option Stepper → Option Stepper → Type 0
 Gives n None y s t = (n ≡ 11) × (y ≡ None) × (t ≡ s)
 Gives n (Some w) None s t = ⊥
 Gives n (Some w) (Some x) s t = GivesBack n w x s t
 
--- or else the mutator's handle is in use, and nothing changed
+-- the answer of giving a mutator back; or its handle is in use, and nothing changed
 abbrev pub GivesOnce : ℕ → Option World → Option World → Option Stepper → Option Stepper → Type 0
 GivesOnce n w x s t = Gives n w x s t ⊎ ((n ≡ 12) × (x ≡ w) × (t ≡ s))
 
 -- the world was closed as all were back, or it was closed before, or not all are back
-abbrev pub Closes : ℕ → Option World → Option World → Type 0
-Closes n None y = (n ≡ 11) × (y ≡ None)
-Closes n (Some w) None = (n ≡ 0) × AreAllBack w
-Closes n (Some w) (Some x) = (n ≡ 12) × (x ≡ w) × (AreAllBack w → ⊥)
+abbrev pub ClosesWorld : ℕ → Option World → Option World → Type 0
+ClosesWorld n None y = (n ≡ 11) × (y ≡ None)
+ClosesWorld n (Some w) None = (n ≡ 0) × AreAllBack w
+ClosesWorld n (Some w) (Some x) = (n ≡ 12) × (x ≡ w) × (AreAllBack w → ⊥)
 
 -- the numbers that C has
-abbrev pub numbers_of : CNumbers → Statistics
-numbers_of out = record { cells = out.cells; free = out.free; marked = out.marked }
+abbrev pub statistics_of : CNumbers → Statistics
+statistics_of out = record { cells = out.cells; free = out.free; marked = out.marked }
 
--- these numbers were read
+-- the numbers that C got are those that were read
 abbrev pub HasCounted : World → World → CNumbers → Type 0
-HasCounted w x out = HasRead (numbers_of out) (arc_value w.heap) (view_of w.zero) (view_of x.zero)
+HasCounted w x out = ReadsStatistics (statistics_of out) (arc_value w.heap) (view_of w.zero) (view_of x.zero)
 
 -- the numbers were read, or the world was closed and nothing is written
-abbrev pub Counts : ℕ → Option World → Option World → CNumbers → CNumbers → Type 0
-Counts n None y before after = (n ≡ 11) × (y ≡ None) × (after ≡ before)
-Counts n (Some w) None before after = ⊥
-Counts n (Some w) (Some x) before after = (n ≡ 0) × HasCounted w x after
+abbrev pub CountsWorld : ℕ → Option World → Option World → CNumbers → CNumbers → Type 0
+CountsWorld n None y before after = (n ≡ 11) × (y ≡ None) × (after ≡ before)
+CountsWorld n (Some w) None before after = ⊥
+CountsWorld n (Some w) (Some x) before after = (n ≡ 0) × HasCounted w x after

@@ -3,35 +3,35 @@ use Rattle.std.specs.Prelude.{ℕ, ◌≡◌, ◌⊎◌, Bool, true, false, Resu
 use Rattle.plain_heap.specs.PlainHeap.{variable}
 use Rattle.plain_heap.specs.declared.object.Ref.TheVariants.{Nil}
 use Rattle.plain_heap.specs.declared.operation.Op.{Op}
-use Rattle.managed_heap.specs.Asking.{Declines, MayAsk}
-use Rattle.managed_heap.specs.Stepping.{heap_in}
+use Rattle.managed_heap.specs.Asking.{DeclinesToTell, MayAsk}
+use Rattle.managed_heap.specs.Stepping.{heap_of_stepper}
 use Rattle.managed_heap.specs.declared.stepper.Came.{Came}
 use Rattle.managed_heap.specs.declared.stepper.Came.TheVariants as cames
 use Rattle.managed_heap.specs.declared.stepper.Stepper.{Stepper}
 
 -- the variable refers to nothing
 abbrev pub IsNil : ℕ → Stepper → Type 0
-IsNil v s = variable (heap_in s) v ≡ Nil
+IsNil v s = variable (heap_of_stepper s) v ≡ Nil
 
 -- the variables refer to one object, or both to nothing
 abbrev pub RefersToOne : ℕ → ℕ → Stepper → Type 0
-RefersToOne v w s = variable (heap_in s) v ≡ variable (heap_in s) w
+RefersToOne v w s = variable (heap_of_stepper s) v ≡ variable (heap_of_stepper s) w
 
 -- what is written for an answer
-abbrev pub number_of : Bool → ℕ
-number_of true = 1
-number_of false = 0
+abbrev pub number_of_answer : Bool → ℕ
+number_of_answer true = 1
+number_of_answer false = 0
 
 -- the answer was written, or there is none and nothing is written
 abbrev pub WritesAnswer : Came → Result Bool Came → ℕ → ℕ → Type 0
-WritesAnswer came (Ok told) before after = (came ≡ cames.Done) × (after ≡ number_of told)
+WritesAnswer came (Ok told) before after = (came ≡ cames.Done) × (after ≡ number_of_answer told)
 WritesAnswer came (Err why) before after = (came ≡ why) × (after ≡ before)
 
 -- 1 where it is so, and 0 where it isn't
-abbrev pub Says : Type 0 → ℕ → Type 0
-Says P n = ((n ≡ 1) × P) ⊎ ((n ≡ 0) × (P → ⊥))
+abbrev pub SaysWhether : Type 0 → ℕ → Type 0
+SaysWhether P n = ((n ≡ 1) × P) ⊎ ((n ≡ 0) × (P → ⊥))
 
 -- what asking came to, by what the variable of C was and is; the mutator is as it was
 abbrev pub TestsTo : (Stepper → Type 0) → Op → ℕ → ℕ → Came → Stepper → Stepper → Type 0
-TestsTo P op before after cames.Done x y = Says (P x) after × MayAsk op x × (y ≡ x)
-TestsTo P op before after came x y = Declines came op x × (y ≡ x) × (after ≡ before)
+TestsTo P op before after cames.Done x y = SaysWhether (P x) after × MayAsk op x × (y ≡ x)
+TestsTo P op before after came x y = DeclinesToTell came op x × (y ≡ x) × (after ≡ before)

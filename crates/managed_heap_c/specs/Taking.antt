@@ -4,7 +4,7 @@ use Rattle.std.specs.Arc.{arc_value}
 use Rattle.managed_heap.specs.Calls.{heap_of}
 use Rattle.managed_heap.specs.Lending.{IsOpened, KeepsRest}
 use Rattle.managed_heap.specs.Sizing.{Fits}
-use Rattle.managed_heap.specs.Stepping.{heap_in}
+use Rattle.managed_heap.specs.Stepping.{heap_of_stepper}
 use Rattle.managed_heap.specs.declared.mutator.Mutator.{Mutator}
 use Rattle.managed_heap.specs.declared.sizes.Sizes.{Sizes}
 use Rattle.managed_heap.specs.declared.stepper.Stage.TheVariants.{Outside}
@@ -25,12 +25,12 @@ abbrev pub OpensNone : ℕ → CSizes → Type 0
 OpensNone n c = ((n ≡ 6) × (Fits (sizes_of c) → ⊥)) ⊎ (n ≡ 10)
 
 -- the handle is filled, and what is behind it has this world
-abbrev pub HoldsWorld : World → WorldSlot → Type 0
-HoldsWorld w slot = (whole : Whole) × (slot.whole ≡ Some whole) × (whole.world ≡ Some w)
+abbrev pub HandleHoldsWorld : World → WorldSlot → Type 0
+HandleHoldsWorld w slot = (whole : Whole) × (slot.whole ≡ Some whole) × (whole.world ≡ Some w)
 
 -- a world of these sizes was opened, and the handle has it, or nothing is written
-abbrev pub Opens : ℕ → CSizes → WorldSlot → WorldSlot → Type 0
-Opens n c before after = ((n ≡ 0) × ((w : World) × IsOpened (sizes_of c) w × HoldsWorld w after)) ⊎ ((after ≡ before) × OpensNone n c)
+abbrev pub OpensWorld : ℕ → CSizes → WorldSlot → WorldSlot → Type 0
+OpensWorld n c before after = ((n ≡ 0) × ((w : World) × IsOpened (sizes_of c) w × HandleHoldsWorld w after)) ⊎ ((after ≡ before) × OpensNone n c)
 
 -- all of the world is as it was, but that its mutators may be others
 abbrev pub KeepsTracers : World → World → Type 0
@@ -47,10 +47,10 @@ HasNone n None y = (n ≡ 11) × (y ≡ None)
 HasNone n (Some w) None = ⊥
 HasNone n (Some w) (Some x) = (n ≡ 13) × (w.mutators.items ≡ []) × (x.mutators.items ≡ []) × KeepsTracers w x
 
--- it is this mutator for a thread that may not wait: outside the world, with the same objects and variables
+-- the stepper is this mutator for a thread that may not wait: outside the world, with the same objects and variables
 pub record IsInSteps (m : Mutator) (s : Stepper) : Type 0 where
   pub outside : s.stage ≡ Outside
-  pub same : heap_in s ≡ heap_of m
+  pub same : heap_of_stepper s ≡ heap_of m
   pub world : (arc_value s.heap ≡ arc_value m.heap) × (s.name ≡ m.name)
 
 -- the handle is filled, and what is behind it has this mutator
@@ -58,5 +58,5 @@ abbrev pub HoldsMutator : Mutator → MutatorSlot → Type 0
 HoldsMutator m slot = (hand : Hand) × (s : Stepper) × (slot.hand ≡ Some hand) × (hand.stepper ≡ Some s) × IsInSteps m s
 
 -- a mutator of the world was taken, and the handle has it; or nothing is written, and there was no memory, or no mutator
-abbrev pub Takes : ℕ → Option World → Option World → MutatorSlot → MutatorSlot → Type 0
-Takes n w x before after = ((n ≡ 0) × ((m : Mutator) × Lends m w x × HoldsMutator m after)) ⊎ ((after ≡ before) × (((n ≡ 10) × (x ≡ w)) ⊎ HasNone n w x))
+abbrev pub TakesMutator : ℕ → Option World → Option World → MutatorSlot → MutatorSlot → Type 0
+TakesMutator n w x before after = ((n ≡ 0) × ((m : Mutator) × Lends m w x × HoldsMutator m after)) ⊎ ((after ≡ before) × (((n ≡ 10) × (x ≡ w)) ⊎ HasNone n w x))

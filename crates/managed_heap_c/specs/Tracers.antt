@@ -20,15 +20,15 @@ status_of_turn tries.Idle = 15
 status_of_turn tries.Dismissed = 16
 
 -- the tracer took this turn, and is of the same world
-abbrev pub Turns : TryTurn → Tracer → Tracer → Type 0
-Turns tried x y = Across (TriesTurn tried) x.seat y.seat × (y.heap ≡ x.heap) × (y.name ≡ x.name)
+abbrev pub TriesTracerTurn : TryTurn → Tracer → Tracer → Type 0
+TriesTracerTurn tried x y = Across (TriesTurn tried) x.seat y.seat × (y.heap ≡ x.heap) × (y.name ≡ x.name)
 
 -- the handle was given back, or else the turn came to what the answer says, and did this
 abbrev pub AnswersTurn : ℕ → Option Tracer → Option Tracer → Type 0
 AnswersTurn n None y = (n ≡ 11) × (y ≡ None)
-AnswersTurn n (Some s) y = (tried : TryTurn) × (t : Tracer) × (n ≡ status_of_turn tried) × (y ≡ Some t) × Turns tried s t
+AnswersTurn n (Some s) y = (tried : TryTurn) × (t : Tracer) × (n ≡ status_of_turn tried) × (y ≡ Some t) × TriesTracerTurn tried s t
 
--- or else the handle is in use, and nothing changed
+-- the answer of a turn; or the handle is in use, and nothing changed
 abbrev pub AnswersTurnOnce : ℕ → Option Tracer → Option Tracer → Type 0
 AnswersTurnOnce n x y = AnswersTurn n x y ⊎ ((n ≡ 12) × (y ≡ x))
 
@@ -66,13 +66,13 @@ GivesTracerBack n w x None (Some t) = ⊥
 GivesTracerBack n w x (Some s) None = (n ≡ 0) × TakesTracerBack s w x × KeepsMutators w x
 GivesTracerBack n w x (Some s) (Some t) = (n ≡ 14) × (t ≡ s) × KeepsMutators w x
 
--- the same, or the world was closed
+-- the world was closed, or it has the tracer back, or refused it, or there was none to give back
 abbrev pub GivesTracer : ℕ → Option World → Option World → Option Tracer → Option Tracer → Type 0
 GivesTracer n None y s t = (n ≡ 11) × (y ≡ None) × (t ≡ s)
 GivesTracer n (Some w) None s t = ⊥
 GivesTracer n (Some w) (Some x) s t = GivesTracerBack n w x s t
 
--- or else the tracer's handle is in use, and nothing changed
+-- the answer of giving a tracer back; or its handle is in use, and nothing changed
 abbrev pub GivesTracerOnce : ℕ → Option World → Option World → Option Tracer → Option Tracer → Type 0
 GivesTracerOnce n w x s t = GivesTracer n w x s t ⊎ ((n ≡ 12) × (x ≡ w) × (t ≡ s))
 
@@ -84,7 +84,7 @@ TellsTracers n w x = ((n ≡ 0) × Across Dismisses w.zero x.zero) ⊎ ((n ≡ 2
 abbrev pub HasAllStill : World → World → Type 0
 HasAllStill w x = (x.heap ≡ w.heap) × (x.sizes ≡ w.sizes) × (x.mutators ≡ w.mutators) × (x.tracers ≡ w.tracers)
 
--- the same, or the world was closed
+-- the world was closed, or its tracers were told that they are dismissed, or a stop was under way
 abbrev pub Dismissing : ℕ → Option World → Option World → Type 0
 Dismissing n None y = (n ≡ 11) × (y ≡ None)
 Dismissing n (Some w) None = ⊥

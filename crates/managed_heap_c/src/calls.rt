@@ -1,13 +1,13 @@
 //! What a call does with the mutator behind a handle.
 ghost use Rattle.plain_heap.specs.declared.operation.Op.TheVariants as ops;
 ghost use Rattle.managed_heap.specs.Bounds.{CollectsAtMost};
-ghost use Rattle.managed_heap.specs.Stepping.{Entered, Left, Makes, Operates, Passed};
+ghost use Rattle.managed_heap.specs.Stepping.{Entered, Left, StepperMakes, Operates, Passed};
 ghost use Rattle.managed_heap_c.specs.Answering.{Answers, ReadsTo, SparesGone};
 
 use crate::hands::Hand;
 use crate::statuses::{GIVEN_BACK, status};
 
-/// Enters the world.
+/// One try to enter the world: the status of the mutator's call, as done, or a stop under way. `GIVEN_BACK` where the handle is empty.
 pub fn enter_by(hand: &mut Hand) -> u32
     ensures answers { Answers Entered result hand.old.stepper hand.new.stepper }
 {
@@ -17,7 +17,7 @@ pub fn enter_by(hand: &mut Hand) -> u32
     }
 }
 
-/// Leaves it.
+/// Leaves the world: the status of the mutator's call. `GIVEN_BACK` where the handle is empty.
 pub fn leave_by(hand: &mut Hand) -> u32
     ensures answers { Answers Left result hand.old.stepper hand.new.stepper }
 {
@@ -27,7 +27,7 @@ pub fn leave_by(hand: &mut Hand) -> u32
     }
 }
 
-/// A safe point.
+/// A safe point that waits for nobody: the status of the mutator's call. `GIVEN_BACK` where the handle is empty.
 pub fn pass_by(hand: &mut Hand) -> u32
     ensures answers { Answers Passed result hand.old.stepper hand.new.stepper }
 {
@@ -37,7 +37,8 @@ pub fn pass_by(hand: &mut Hand) -> u32
     }
 }
 
-/// A step of a collection, with this bound.
+/// One step of a collection, which marks at most `most` objects or sweeps at most `most` blocks: the status of the mutator's call, as not yet done.
+/// `GIVEN_BACK` where the handle is empty.
 pub fn collect_by(hand: &mut Hand, most: u32) -> u32
     ensures answers { Answers (CollectsAtMost most) result hand.old.stepper hand.new.stepper }
 {
@@ -47,9 +48,9 @@ pub fn collect_by(hand: &mut Hand, most: u32) -> u32
     }
 }
 
-/// Makes an object in v.
+/// Makes an object of this value in variable v, if a cell is free: the status of the mutator's call. `GIVEN_BACK` where the handle is empty.
 pub fn make_by(hand: &mut Hand, v: u8, value: u32) -> u32
-    ensures answers { Answers (λ came. Makes came (ops.New v value)) result hand.old.stepper hand.new.stepper }
+    ensures answers { Answers (λ came. StepperMakes came (ops.New v value)) result hand.old.stepper hand.new.stepper }
 {
     match &mut hand.stepper {
         None => GIVEN_BACK,
@@ -57,7 +58,7 @@ pub fn make_by(hand: &mut Hand, v: u8, value: u32) -> u32
     }
 }
 
-/// Field i of the object of v becomes w.
+/// Field i of variable v's object becomes what variable w is: the status of the mutator's call. `GIVEN_BACK` where the handle is empty.
 pub fn set_by(hand: &mut Hand, v: u8, i: u8, w: u8) -> u32
     ensures answers { Answers (λ came. Operates came (ops.Set v i w)) result hand.old.stepper hand.new.stepper }
 {
@@ -67,7 +68,7 @@ pub fn set_by(hand: &mut Hand, v: u8, i: u8, w: u8) -> u32
     }
 }
 
-/// Variable w becomes field i of the object of v.
+/// Variable w becomes what field i of variable v's object is: the status of the mutator's call. `GIVEN_BACK` where the handle is empty.
 pub fn get_by(hand: &mut Hand, w: u8, v: u8, i: u8) -> u32
     ensures answers { Answers (λ came. Operates came (ops.Get w v i)) result hand.old.stepper hand.new.stepper }
 {
@@ -77,7 +78,7 @@ pub fn get_by(hand: &mut Hand, w: u8, v: u8, i: u8) -> u32
     }
 }
 
-/// Variable w becomes v.
+/// Variable w becomes what variable v is: the status of the mutator's call. `GIVEN_BACK` where the handle is empty.
 pub fn copy_by(hand: &mut Hand, w: u8, v: u8) -> u32
     ensures answers { Answers (λ came. Operates came (ops.Let w v)) result hand.old.stepper hand.new.stepper }
 {
@@ -87,7 +88,7 @@ pub fn copy_by(hand: &mut Hand, w: u8, v: u8) -> u32
     }
 }
 
-/// Variable v becomes nil.
+/// Variable v becomes nil: the status of the mutator's call. `GIVEN_BACK` where the handle is empty.
 pub fn forget_by(hand: &mut Hand, v: u8) -> u32
     ensures answers { Answers (λ came. Operates came (ops.Nil v)) result hand.old.stepper hand.new.stepper }
 {
@@ -97,7 +98,7 @@ pub fn forget_by(hand: &mut Hand, v: u8) -> u32
     }
 }
 
-/// The value of the object of v becomes this one.
+/// The value of variable v's object becomes this one: the status of the mutator's call. `GIVEN_BACK` where the handle is empty.
 pub fn put_by(hand: &mut Hand, v: u8, value: u32) -> u32
     ensures answers { Answers (λ came. Operates came (ops.Put v value)) result hand.old.stepper hand.new.stepper }
 {
@@ -107,7 +108,7 @@ pub fn put_by(hand: &mut Hand, v: u8, value: u32) -> u32
     }
 }
 
-/// Writes the value of the object of v.
+/// Writes the value of variable v's object, where the status of the mutator's call is done, and else nothing. `GIVEN_BACK` where the handle is empty.
 pub fn value_by(hand: &mut Hand, v: u8, out: &mut u32) -> u32
     ensures answers { Answers (ReadsTo v out.old out.new) result hand.old.stepper hand.new.stepper }
     ensures quiet { SparesGone hand.old.stepper out.old out.new }

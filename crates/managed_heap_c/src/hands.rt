@@ -6,6 +6,7 @@ use std::sync::atomic::AtomicU32;
 /// A mutator, or none where it was given back.
 #[derive(Drop)]
 pub struct Hand {
+    /// The mutator, which takes no handle of the runtime.
     pub stepper: Option<Stepper>,
     /// 1 while a call uses it, else 0.
     pub word: AtomicU32,
@@ -14,6 +15,7 @@ pub struct Hand {
 /// A tracer, or none where it was given back.
 #[derive(Drop)]
 pub struct TracerHand {
+    /// The tracer.
     pub tracer: Option<Tracer>,
     /// 1 while a call uses it, else 0.
     pub word: AtomicU32,

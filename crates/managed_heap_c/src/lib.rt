@@ -21,9 +21,9 @@ mod worlds;
 
 ghost use Rattle.plain_heap.specs.declared.operation.Op.TheVariants as ops;
 ghost use Rattle.managed_heap.specs.Bounds.{CollectsAtMost};
-ghost use Rattle.managed_heap.specs.Stepping.{Entered, Left, Makes, Operates, Passed};
-ghost use Rattle.managed_heap_c.specs.Answering.{AnswersOnce, Closes, Counts, GivesOnce, ReadsTo};
-ghost use Rattle.managed_heap_c.specs.Taking.{Opens, Takes};
+ghost use Rattle.managed_heap.specs.Stepping.{Entered, Left, StepperMakes, Operates, Passed};
+ghost use Rattle.managed_heap_c.specs.Answering.{AnswersOnce, ClosesWorld, CountsWorld, GivesOnce, ReadsTo};
+ghost use Rattle.managed_heap_c.specs.Taking.{OpensWorld, TakesMutator};
 
 use calls::{
     collect_by, copy_by, enter_by, forget_by, get_by, leave_by, make_by, pass_by, put_by, set_by,
@@ -82,7 +82,7 @@ pub extern "C" fn mhl_pass(h: &mut MutatorHandle) -> u32
 /// Makes an object in variable v.
 #[unsafe(no_mangle)]
 pub extern "C" fn mhl_make(h: &mut MutatorHandle, v: u8, value: u32) -> u32
-    ensures answers { AnswersOnce (λ came. Makes came (ops.New v value)) result h.old.hand.stepper h.new.hand.stepper }
+    ensures answers { AnswersOnce (λ came. StepperMakes came (ops.New v value)) result h.old.hand.stepper h.new.hand.stepper }
 {
     let hand = lend_hand(h);
     if !begins(hand) {
@@ -194,7 +194,7 @@ pub extern "C" fn mhl_collect_step(h: &mut MutatorHandle, most: u32) -> u32
 /// Opens a world, and fills its handle.
 #[unsafe(no_mangle)]
 pub extern "C" fn mhl_open(alloc: Global, sizes: &CSizes, out: &mut WorldSlot) -> u32
-    ensures opens { Opens result sizes.now out.old out.new }
+    ensures opens { OpensWorld result sizes.now out.old out.new }
 {
     open_at(alloc, sizes, out)
 }
@@ -206,7 +206,7 @@ pub extern "C" fn mhl_take_mutator(
     world: &mut WorldHandle,
     out: &mut MutatorSlot,
 ) -> u32
-    ensures takes { Takes result world.old.whole.world world.new.whole.world out.old out.new }
+    ensures takes { TakesMutator result world.old.whole.world world.new.whole.world out.old out.new }
 {
     take_at(alloc, lend_whole(world), out)
 }
@@ -228,7 +228,7 @@ pub extern "C" fn mhl_give_back(world: &mut WorldHandle, h: &mut MutatorHandle) 
 /// Closes the world, and frees its heap.
 #[unsafe(no_mangle)]
 pub extern "C" fn mhl_close(world: &mut WorldHandle) -> u32
-    ensures closes { Closes result world.old.whole.world world.new.whole.world }
+    ensures closes { ClosesWorld result world.old.whole.world world.new.whole.world }
 {
     close_by(lend_whole(world))
 }
@@ -236,7 +236,7 @@ pub extern "C" fn mhl_close(world: &mut WorldHandle) -> u32
 /// Reads the numbers of the world.
 #[unsafe(no_mangle)]
 pub extern "C" fn mhl_statistics(world: &mut WorldHandle, out: &mut CNumbers) -> u32
-    ensures reads { Counts result world.old.whole.world world.new.whole.world out.old out.new }
+    ensures reads { CountsWorld result world.old.whole.world world.new.whole.world out.old out.new }
 {
     read_by(lend_whole(world), out)
 }

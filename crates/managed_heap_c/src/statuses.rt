@@ -1,6 +1,6 @@
 //! What a call answers to C: the numbers of `mh_status`.
 ghost use Rattle.std.specs.Prelude.{◌≡◌};
-ghost use Rattle.managed_heap_c.specs.Answering.{status_of};
+ghost use Rattle.managed_heap_c.specs.Answering.{status_of_came};
 ghost use Rattle.managed_heap_c.specs.Tracers.{status_of_turn};
 
 use managed_heap::{Came, TryTurn};
@@ -32,9 +32,9 @@ pub const NONE_LEFT: u32 = 13;
 /// The world doesn't take the mutator or the tracer back.
 pub const REFUSED: u32 = 14;
 
-/// The number of what a mutator's call came to.
+/// The number of what a mutator's call came to, 0 to 9, as the header has them.
 pub fn status(came: Came) -> u32
-    ensures number { result ≡ status_of came }
+    ensures number { result ≡ status_of_came came }
 {
     match came {
         Came::Done => 0,
@@ -50,7 +50,7 @@ pub fn status(came: Came) -> u32
     }
 }
 
-/// The number of what a tracer's turn came to.
+/// The number of what a tracer's turn came to, as the header has them.
 pub fn turn_status(tried: TryTurn) -> u32
     ensures number { result ≡ status_of_turn tried }
 {

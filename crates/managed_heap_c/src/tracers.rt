@@ -43,7 +43,8 @@ fn slot_of(hand: Box<TracerHand, Global>, lent: Tracer) -> TracerSlot
     tracer_slot(hand)
 }
 
-/// Takes a tracer. The box is made first, so that none is lost where there is no memory.
+/// Takes a tracer. The box is made first, so that none is lost where there is no memory. Done, `NONE_LEFT`, `OUT_OF_MEMORY`, or `GIVEN_BACK` where the world
+/// was closed.
 pub fn take_tracer_at(alloc: Global, whole: &mut Whole, out: &mut TracerSlot) -> u32
     ensures takes { TakesTracer result whole.old.world whole.new.world out.old out.new }
 {
@@ -75,7 +76,8 @@ fn empty_into(world: &mut World, hand: &mut TracerHand) -> u32
     }
 }
 
-/// Gives a tracer back.
+/// Gives a tracer back to its world: done, `REFUSED` where the world doesn't take it, and then the handle keeps it, or `GIVEN_BACK` where the handle or the
+/// world is empty.
 pub fn give_tracer_by(whole: &mut Whole, hand: &mut TracerHand) -> u32
     ensures gives { GivesTracer result whole.old.world whole.new.world hand.old.tracer hand.new.tracer }
 {
@@ -85,7 +87,7 @@ pub fn give_tracer_by(whole: &mut Whole, hand: &mut TracerHand) -> u32
     }
 }
 
-/// A turn.
+/// One turn of a tracer, which waits for nobody: the number of what it came to. `GIVEN_BACK` where the handle is empty.
 pub fn turn_by(hand: &mut TracerHand) -> u32
     ensures answers { AnswersTurn result hand.old.tracer hand.new.tracer }
 {
@@ -95,7 +97,7 @@ pub fn turn_by(hand: &mut TracerHand) -> u32
     }
 }
 
-/// Tells the tracers that they are dismissed.
+/// One try to tell the tracers that they are dismissed: done, `STOPPED` where a stop is under way, or `GIVEN_BACK` where the world was closed.
 pub fn dismiss_by(whole: &mut Whole) -> u32
     ensures dismisses { Dismissing result whole.old.world whole.new.world }
 {

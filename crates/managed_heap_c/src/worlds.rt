@@ -2,9 +2,9 @@
 ghost use Rattle.std.specs.Prelude.{◌≡◌, IfErr, IfNone, IfOk, IfSome, Some};
 ghost use Rattle.managed_heap.specs.Calls.{heap_of};
 ghost use Rattle.managed_heap.specs.Lending.{IsBack};
-ghost use Rattle.managed_heap.specs.Stepping.{heap_in};
-ghost use Rattle.managed_heap_c.specs.Answering.{Closes, Counts, Gives, GivesBack, HasCounted};
-ghost use Rattle.managed_heap_c.specs.Taking.{HasNone, HoldsMutator, Lends, Opens, Takes, sizes_of};
+ghost use Rattle.managed_heap.specs.Stepping.{heap_of_stepper};
+ghost use Rattle.managed_heap_c.specs.Answering.{ClosesWorld, CountsWorld, Gives, GivesBack, HasCounted};
+ghost use Rattle.managed_heap_c.specs.Taking.{HasNone, HoldsMutator, Lends, OpensWorld, TakesMutator, sizes_of};
 
 use crate::hands::{Hand, Whole};
 use crate::slots::{MutatorSlot, WorldSlot, hand_slot, whole_slot};
@@ -62,9 +62,9 @@ fn wanted(sizes: &CSizes) -> Sizes
         .named(sizes.name)
 }
 
-/// Opens a world.
+/// Opens a world of these sizes: done, and the handle is filled; else `OUT_OF_RANGE` or `OUT_OF_MEMORY`, and nothing is written.
 pub fn open_at(alloc: Global, sizes: &CSizes, out: &mut WorldSlot) -> u32
-    ensures opens { Opens result sizes.now out.old out.new }
+    ensures opens { OpensWorld result sizes.now out.old out.new }
 {
     match World::open(alloc, wanted(sizes)) {
         Err(NotOpened::OutOfRange) => OUT_OF_RANGE,
@@ -102,9 +102,10 @@ fn slot_of(hand: Box<Hand, Global>, mutator: Mutator) -> MutatorSlot
     hand_slot(hand)
 }
 
-/// Takes a mutator. The box is made first, so that none is lost where there is no memory.
+/// Takes a mutator. The box is made first, so that none is lost where there is no memory. Done, `NONE_LEFT`, `OUT_OF_MEMORY`, or `GIVEN_BACK` where the world
+/// was closed.
 pub fn take_at(alloc: Global, whole: &mut Whole, out: &mut MutatorSlot) -> u32
-    ensures takes { Takes result whole.old.world whole.new.world out.old out.new }
+    ensures takes { TakesMutator result whole.old.world whole.new.world out.old out.new }
 {
     let Ok(hand) = boxed_hand(alloc) else {
         return OUT_OF_MEMORY;
@@ -121,7 +122,7 @@ pub fn take_at(alloc: Global, whole: &mut Whole, out: &mut MutatorSlot) -> u32
 /// Gives a mutator to a world, or hands it back in steps where the world refuses it.
 fn give_to(world: &mut World, mutator: Mutator) -> Option<Stepper>
     ensures back { IfNone result (IsBack mutator world.old world.new) }
-    ensures refused { IfSome result (λ s. heap_in s ≡ heap_of mutator) }
+    ensures refused { IfSome result (λ s. heap_of_stepper s ≡ heap_of mutator) }
 {
     match world.take_mutator(mutator) {
         Ok(()) => None,
@@ -151,7 +152,7 @@ fn empty_into(world: &mut World, hand: &mut Hand) -> u32
     }
 }
 
-/// Gives a mutator back.
+/// Gives a mutator back to its world: done, `COLLECTING` or `REFUSED`, and then the handle keeps it, or `GIVEN_BACK` where the handle or the world is empty.
 pub fn give_by(whole: &mut Whole, hand: &mut Hand) -> u32
     ensures gives { Gives result whole.old.world whole.new.world hand.old.stepper hand.new.stepper }
 {
@@ -161,9 +162,9 @@ pub fn give_by(whole: &mut Whole, hand: &mut Hand) -> u32
     }
 }
 
-/// Closes a world.
+/// Closes a world: done where all mutators and tracers are back, else `IN_USE`, or `GIVEN_BACK` where it was closed before.
 pub fn close_by(whole: &mut Whole) -> u32
-    ensures closes { Closes result whole.old.world whole.new.world }
+    ensures closes { ClosesWorld result whole.old.world whole.new.world }
 {
     match whole.world.take() {
         None => GIVEN_BACK,
@@ -187,9 +188,9 @@ fn read_into(world: &mut World, out: &mut CNumbers)
     out.marked = numbers.marked;
 }
 
-/// Reads the numbers of a world.
+/// Writes how many cells the world has, how many are free and how many the last cycle marked: done, or `GIVEN_BACK` where it was closed.
 pub fn read_by(whole: &mut Whole, out: &mut CNumbers) -> u32
-    ensures reads { Counts result whole.old.world whole.new.world out.old out.new }
+    ensures reads { CountsWorld result whole.old.world whole.new.world out.old out.new }
 {
     match &mut whole.world {
         None => GIVEN_BACK,

@@ -38,7 +38,7 @@ has-room sh w seats s (StoreRoot v r) k ok = ltb-true v 32 (and_parts _ _ ok.0).
 has-room sh w seats s (StoreNew c part word) k ok = let a : part ≤ sh.fields + 1 = leb-true part (sh.fields + 1) (and_parts (nat_lt c sh.cells) (nat_le part (sh.fields + 1)) (and_parts (nat_lt c sh.cells && nat_le part (sh.fields + 1)) (may_mutate s) ok.0).0).1 in omega (arith, a, k.fields)
 has-room sh w seats s step k ok = tt
 
--- and a number for the object that it finishes
+-- a step that is allowed has a number for the object that it finishes
 pub has-number : (sh : Shape) (w : Words) (seats : List SeatState) (s : SeatState) (step : Step) → IsShape sh → AllTrue (parts sh w seats s step) → HasNumber sh s step
 has-number sh w seats s (StoreNew c part word) k ok = λ h. omega (arith, k.objects, fits-made sh s part word h ok.1.1.0)
 has-number sh w seats s step k ok = tt

@@ -9,6 +9,7 @@ use Rattle.mark_core.specs.declared.kinds.Shape.{Shape}
 use Rattle.mark_core.specs.declared.seat.SeatState.{SeatState}
 use Rattle.mark_core.specs.declared.seat.CacheState.{CacheState}
 use Rattle.mark_core.specs.declared.seat.BlockState.{BlockState}
+use Rattle.mark_core.specs.Numbers.{most_seats}
 
 -- nil, or a cell that exists
 abbrev pub IsReference : Shape → ℕ → Type 0
@@ -43,5 +44,5 @@ pub record IsBounded (c : Core) : Type 0 where
   pub shaped : IsShape c.shape
   pub word_count : length c.words ≡ total_words (region_sizes c.shape)
   pub words : WordBounds c.shape (words_of c.shape c.words)
-  pub seat_count : (1 ≤ length c.seats) × (length c.seats ≤ 41)
+  pub seat_count : (1 ≤ length c.seats) × (length c.seats ≤ most_seats)
   pub seats : All (SeatBounds c.shape) c.seats

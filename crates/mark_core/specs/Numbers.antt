@@ -1,4 +1,5 @@
--- The numbers that stand for the pools, and for the counters and statistics in Reset, AddStat and ReadStat. Who raises each of them and when it falls stands in src/numbers.rt.
+-- The numbers that stand for the pools, and for the counters and statistics in Reset, AddStat and ReadStat; and those that all heaps have in common. Who raises
+-- each of the counters and when it falls stands in src/numbers.rt.
 use Rattle.std.specs.Prelude.{ℕ}
 
 -- the pool of packets with no entry
@@ -56,3 +57,31 @@ named_number = 7
 -- the position of section 0, with those of the others behind it
 abbrev pub first_position : ℕ
 first_position = 8
+
+-- how many variables a section has
+abbrev pub section_variables : ℕ
+section_variables = 32
+
+-- how many seats there can be: thirty-three sections and eight tracers
+abbrev pub most_seats : ℕ
+most_seats = 41
+
+-- how many bits a word has
+abbrev pub word_bits : ℕ
+word_bits = 64
+
+-- what the word of empty packets holds beside their count: more than there are seats, each of which may have lowered it by one
+abbrev pub empty_offset : ℕ
+empty_offset = 64
+
+-- an identity is its section times this, and the number of the object
+abbrev pub section_span : ℕ
+section_span = 4294967296
+
+-- values are below this
+abbrev pub value_bound : ℕ
+value_bound = 4294967296
+
+-- references are below this
+abbrev pub reference_bound : ℕ
+reference_bound = 4294967296

@@ -5,12 +5,13 @@ use Rattle.mark_core.specs.declared.kinds.Shape.{Shape}
 use Rattle.mark_core.specs.declared.kinds.Step.{Step}
 use Rattle.mark_core.specs.declared.kinds.Step.TheVariants.{Push, ReadField, StoreRoot, StoreNew}
 use Rattle.mark_core.specs.declared.seat.SeatState.{SeatState}
+use Rattle.mark_core.specs.Numbers.{section_variables}
 
 -- what the step adds one to has room for it, and the variable that it sets exists
 abbrev pub HasRoom : SeatState → Step → Type 0
 HasRoom s (Push p c) = length_in_hand s.held p < 4294967295
 HasRoom s (ReadField c i) = i < 255
-HasRoom s (StoreRoot v r) = v < 32
+HasRoom s (StoreRoot v r) = v < section_variables
 HasRoom s (StoreNew c part word) = part < 255
 HasRoom s step = Unit {0}
 

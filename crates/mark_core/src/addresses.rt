@@ -3,7 +3,7 @@ ghost use Rattle.std.specs.Prelude.{◌≡◌};
 ghost use Rattle.mark_core.specs.Bits.{cell_of};
 ghost use Rattle.mark_core.specs.Effects.{place};
 ghost use Rattle.mark_core.specs.Layout.{address as address_of};
-ghost use Rattle.mark_core.specs.Steps.MutatorSteps.{part_at as part_place, variable as variable_of};
+ghost use Rattle.mark_core.specs.Steps.MutatorSteps.{part_at as part_place, seat_variable as variable_of};
 ghost use Rattle.mark_core.specs.Passes.{pass_of as pass_of_step};
 ghost use Rattle.mark_core.specs.Shapes.{IsShape};
 ghost use Rattle.mark_core.specs.declared.kinds.Shape.{Shape};
@@ -12,6 +12,7 @@ ghost use Rattle.mark_core.specs.declared.seat.SeatState.{SeatState};
 use crate::bases::Bases;
 use crate::cards::BLOCK_CELLS;
 use crate::kinds::{Cell, Shape, Step};
+use crate::numbers::WORD_BITS;
 use crate::passes::{Pass, pass_of};
 use crate::seat::SeatState;
 use crate::slots::length_in_hand;
@@ -54,10 +55,10 @@ fn of_packets(bases: &Bases, s: &SeatState, step: &Step) -> usize
 {
     match *step {
         Step::Reserve | Step::Credit | Step::ReadCount => layout::EMPTY,
-        Step::Take { q, p } => bases.pool_at(q as usize, p / 64),
+        Step::Take { q, p } => bases.pool_at(q as usize, p / WORD_BITS),
         Step::Give { p, deferred } => {
             let q = packets::pool_for(&bases.shape, length_in_hand(&s.held, p), deferred);
-            bases.pool_at(q, p / 64)
+            bases.pool_at(q, p / WORD_BITS)
         }
         Step::Push { p, cell: _ } => bases.entry_at(p, length_in_hand(&s.held, p)),
         Step::Pop { p } => bases.entry_at(p, length_in_hand(&s.held, p).saturating_sub(1)),

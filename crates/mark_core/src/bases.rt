@@ -6,7 +6,7 @@ ghost use Rattle.mark_core.specs.Shapes.{IsShape};
 
 use crate::kinds::Shape;
 use crate::layout::{self, NAMED, NEXT_CARD};
-use crate::numbers::{FIRST_POSITION, LAST, NAMED_SECTION};
+use crate::numbers::{FIRST_POSITION, LAST, NAMED_SECTION, VARIABLES};
 
 /// Where the regions of a heap's words begin. It holds for the sizes from which it was made, so that no address has to be worked out from the sizes.
 #[derive(Drop)]
@@ -82,7 +82,7 @@ impl Bases {
     pub fn root_at(&self, section: u32, v: u8) -> usize
         ensures { result ≡ address self.now.shape (root_place section v) }
     {
-        self.roots + (section as usize * 32 + v as usize)
+        self.roots + (section as usize * VARIABLES as usize + v as usize)
     }
 
     /// The address of the word that says who makes cells in block b.
@@ -157,7 +157,7 @@ impl Bases {
         self.fields + (c as usize * self.shape.fields as usize + i as usize)
     }
 
-    /// The address of word g of pool q, which has a bit for each of 64 packets.
+    /// The address of word g of pool q, which has a bit for each of [`WORD_BITS`](crate::WORD_BITS) packets.
     #[inline(always)]
     pub fn pool_at(&self, q: usize, g: u32) -> usize
         requires { q < 256 }

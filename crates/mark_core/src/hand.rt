@@ -7,7 +7,7 @@ use crate::kinds::Cell;
 use crate::seat::{BlockState, CacheState, Cleaning, SeatState};
 use crate::{bits, slots};
 
-/// The option holds this cell.
+/// Whether the option holds this cell.
 pub fn is_the_cell(held: Option<Cell>, c: Cell) -> bool
     ensures { result ≡ is_the_cell_number held c }
 {
@@ -17,7 +17,7 @@ pub fn is_the_cell(held: Option<Cell>, c: Cell) -> bool
     }
 }
 
-/// The scan has a field left.
+/// Whether the scan has a field left.
 pub fn scan_left(fields: u32, scan: Option<(Cell, u8)>) -> bool
     ensures { result ≡ scan_left_of fields scan }
 {
@@ -37,7 +37,7 @@ fn cleaning_left(cleaning: Option<Cleaning>) -> bool
     }
 }
 
-/// A grey cell, or something that may lead to one, stands in the seat's record alone.
+/// Whether a grey cell, or something that may lead to one, is in the seat's record alone; `fields` is how many fields an object has.
 pub fn work_in_hand(fields: u32, s: &SeatState) -> bool
     ensures { result ≡ work_in_hand_of fields s.now }
 {
@@ -48,7 +48,7 @@ pub fn work_in_hand(fields: u32, s: &SeatState) -> bool
         || cleaning_left(s.cleaning)
 }
 
-/// Neither a packet, nor a reservation, nor a credit.
+/// Whether the seat has neither a packet, nor a reservation, nor a credit.
 pub fn empty_handed(s: &SeatState) -> bool
     ensures { result ≡ empty_handed_of s.now }
 {
@@ -62,7 +62,7 @@ fn in_set(b: u32, set: u64, c: Cell) -> bool
     b == c.number() / BLOCK_CELLS && bits::has_bit(set, c.number() % BLOCK_CELLS)
 }
 
-/// A cell left in cleaning whose allocation bit was seen.
+/// Whether the cell is left in the cleaning, and its allocation bit was seen set.
 pub fn may_scan(cleaning: Option<Cleaning>, c: Cell) -> bool
     ensures { result ≡ may_scan_of cleaning c }
 {
@@ -73,7 +73,7 @@ pub fn may_scan(cleaning: Option<Cleaning>, c: Cell) -> bool
     }
 }
 
-/// The cell is popped, and was seen unpublished.
+/// Whether the cell is popped, and was seen unpublished.
 pub fn is_unpublished(popped: Option<(Cell, bool)>, c: Cell) -> bool
     ensures { result ≡ is_unpublished_of popped c }
 {
@@ -83,7 +83,7 @@ pub fn is_unpublished(popped: Option<(Cell, bool)>, c: Cell) -> bool
     }
 }
 
-/// The scan stands before field i of the cell.
+/// Whether field i is the next to be read of the cell in scan.
 pub fn scans(scan: Option<(Cell, u8)>, c: Cell, i: u8) -> bool
     ensures { result ≡ scans_of scan c i }
 {
@@ -93,7 +93,7 @@ pub fn scans(scan: Option<(Cell, u8)>, c: Cell, i: u8) -> bool
     }
 }
 
-/// The cell is free in the cache.
+/// Whether the cell is free in the cache.
 pub fn free_in(cache: Option<CacheState>, c: Cell) -> bool
     ensures { result ≡ free_in_of cache c }
 {
@@ -103,7 +103,7 @@ pub fn free_in(cache: Option<CacheState>, c: Cell) -> bool
     }
 }
 
-/// The cell is made and not yet published.
+/// Whether the cell is made and not yet published.
 pub fn used_in(cache: Option<CacheState>, c: Cell) -> bool
     ensures { result ≡ used_in_of cache c }
 {
@@ -113,7 +113,7 @@ pub fn used_in(cache: Option<CacheState>, c: Cell) -> bool
     }
 }
 
-/// The cache has a cell that is made and not yet published.
+/// Whether the cache has a cell that is made and not yet published.
 pub fn has_used(cache: Option<CacheState>) -> bool
     ensures { result ≡ has_used_of cache }
 {
@@ -123,7 +123,7 @@ pub fn has_used(cache: Option<CacheState>) -> bool
     }
 }
 
-/// There is a cache whose free cells weren't read yet.
+/// Whether there is a cache whose free cells weren't read yet.
 pub fn is_unread(cache: Option<CacheState>) -> bool
     ensures { result ≡ is_unread_of cache }
 {
@@ -133,7 +133,7 @@ pub fn is_unread(cache: Option<CacheState>) -> bool
     }
 }
 
-/// A cell is being made.
+/// Whether a cell is being made.
 pub fn has_making(cache: Option<CacheState>) -> bool
     ensures { result ≡ has_making_of cache }
 {
@@ -143,7 +143,7 @@ pub fn has_making(cache: Option<CacheState>) -> bool
     }
 }
 
-/// The cell being made is c, and this part is its next.
+/// Whether the cell being made is c, and this part is its next.
 pub fn makes(cache: Option<CacheState>, c: Cell, part: u8) -> bool
     ensures { result ≡ makes_of cache c part }
 {
@@ -153,7 +153,7 @@ pub fn makes(cache: Option<CacheState>, c: Cell, part: u8) -> bool
     }
 }
 
-/// Both words of the block in hand were read, and none was stored.
+/// Whether both words of the block in hand were read, and none was stored.
 pub fn may_store(block: Option<BlockState>) -> bool
     ensures { result ≡ may_store_of block }
 {
@@ -163,7 +163,7 @@ pub fn may_store(block: Option<BlockState>) -> bool
     }
 }
 
-/// The allocation bits of the block in hand were stored.
+/// Whether the allocation bits of the block in hand were stored.
 pub fn is_swept(block: Option<BlockState>) -> bool
     ensures { result ≡ is_swept_of block }
 {

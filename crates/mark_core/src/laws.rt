@@ -12,8 +12,8 @@ pub fn events_keep_core()
     ensures { EventsKeepCore }
 {}
 
-/// Every run is sound: for every legal shape, 1 to 41 seats and every list of events whose numbers fit words, the state that [`crate::CoreState::run`] leaves
-/// after starting is sound. Each front of a list is a list, so it is sound at each moment on the way.
+/// Every run is sound: for every legal shape, 1 to [`crate::SEATS`] seats and every list of events whose numbers fit words, the state that
+/// [`crate::CoreState::run`] leaves after starting is sound. Each prefix of a list is a list, so it is sound at each moment on the way.
 pub fn runs_are_sound()
     ensures { RunsAreSound }
 {}

@@ -6,18 +6,20 @@ ghost use Rattle.mark_core.specs.Shapes.{IsShape};
 
 use crate::cards::{BLOCK_CELLS, CARD_CELLS};
 use crate::kinds::Shape;
-use crate::numbers::POOLS;
+use crate::numbers::{POOLS, VARIABLES, WORD_BITS};
 
 /// How many single words there are. They come first.
 pub const SINGLE_WORDS: usize = 11;
 
-/// How many seats run, and above that number the stop flag. Entering raises it by 1 and leaving lowers it; the flag is raised and dropped by the seat that stops the world.
+/// How many seats run, and above that number the stop flag. Entering raises it by 1 and leaving lowers it; the flag is raised and dropped by the seat that
+/// stops the world.
 pub const WORLD: usize = 0;
 
 /// The phase of the cycle, by its number.
 pub const PHASE: usize = 1;
 
-/// The count of empty packets, 64 above: `Reserve` lowers it by 1, `Credit` raises it by 1, and it is never above the packets of the empty pool.
+/// The count of empty packets, and [`EMPTY_OFFSET`](crate::EMPTY_OFFSET): `Reserve` lowers it by 1, `Credit` raises it by 1, and it is never above the packets
+/// of the empty pool.
 pub const EMPTY: usize = 2;
 
 /// The counter of the card pass (`CARD_COUNTER`). Those of the sweep and the statistics follow, with the named section in between.
@@ -47,7 +49,7 @@ pub fn card_count(shape: &Shape) -> u32
 pub fn pool_words(shape: &Shape) -> usize
     ensures { result ≡ pool_words_of shape.now }
 {
-    (shape.packets as usize + 63) / 64
+    (shape.packets as usize + 63) / WORD_BITS as usize
 }
 
 /// Where the positions begin, one for each section.
@@ -57,7 +59,7 @@ pub fn positions(shape: &Shape) -> usize
     SINGLE_WORDS
 }
 
-/// Where the roots begin, 32 for each section.
+/// Where the roots begin, [`VARIABLES`](crate::VARIABLES) for each section.
 pub fn roots(shape: &Shape) -> usize
     ensures { result ≡ region_base (region_sizes shape.now) 2 }
 {
@@ -68,7 +70,7 @@ pub fn roots(shape: &Shape) -> usize
 pub fn owners(shape: &Shape) -> usize
     ensures { result ≡ region_base (region_sizes shape.now) 3 }
 {
-    roots(shape) + shape.sections as usize * 32
+    roots(shape) + shape.sections as usize * VARIABLES as usize
 }
 
 /// Where the allocation bits begin, a word for each block.
@@ -162,7 +164,7 @@ pub fn identity_at(shape: &Shape, c: u32) -> usize
     identities(shape) + c as usize
 }
 
-/// How many commands each section has done.
+/// How many commands each section has done, as stored last: a word a section.
 pub fn positions_of<'a>(shape: &Shape, words: &'a [u64]) -> &'a [u64]
     requires { length words.now ≡ total_words_of (region_sizes shape.now) }
     ensures { result.now ≡ (words_of shape.now words.now).positions }
@@ -170,7 +172,7 @@ pub fn positions_of<'a>(shape: &Shape, words: &'a [u64]) -> &'a [u64]
     &words[positions(shape)..roots(shape)]
 }
 
-/// The words of the roots.
+/// The words of the roots: 32 for each section, section by section.
 pub fn roots_of<'a>(shape: &Shape, words: &'a [u64]) -> &'a [u64]
     requires shaped { IsShape shape.now }
     requires whole { length words.now ≡ total_words_of (region_sizes shape.now) }
@@ -179,7 +181,7 @@ pub fn roots_of<'a>(shape: &Shape, words: &'a [u64]) -> &'a [u64]
     &words[roots(shape)..owners(shape)]
 }
 
-/// The words of the allocation bits.
+/// The words of the allocation bits: one a block, with a bit for each of its 64 cells.
 pub fn allocs_of<'a>(shape: &Shape, words: &'a [u64]) -> &'a [u64]
     requires shaped { IsShape shape.now }
     requires whole { length words.now ≡ total_words_of (region_sizes shape.now) }
@@ -188,7 +190,7 @@ pub fn allocs_of<'a>(shape: &Shape, words: &'a [u64]) -> &'a [u64]
     &words[allocs(shape)..marks(shape)]
 }
 
-/// The words of the mark bits.
+/// The words of the mark bits: one a block, with a bit for each of its 64 cells.
 pub fn marks_of<'a>(shape: &Shape, words: &'a [u64]) -> &'a [u64]
     requires shaped { IsShape shape.now }
     requires whole { length words.now ≡ total_words_of (region_sizes shape.now) }
@@ -197,7 +199,7 @@ pub fn marks_of<'a>(shape: &Shape, words: &'a [u64]) -> &'a [u64]
     &words[marks(shape)..cards(shape)]
 }
 
-/// The words of the cards.
+/// The words of the cards: 1 where a card is dirty, else 0.
 pub fn cards_of<'a>(shape: &Shape, words: &'a [u64]) -> &'a [u64]
     requires shaped { IsShape shape.now }
     requires whole { length words.now ≡ total_words_of (region_sizes shape.now) }
@@ -206,7 +208,7 @@ pub fn cards_of<'a>(shape: &Shape, words: &'a [u64]) -> &'a [u64]
     &words[cards(shape)..heads(shape)]
 }
 
-/// The identity of each cell.
+/// The identity of each cell: its section times `SECTION_SPAN`, and the number of its object.
 pub fn identities_of<'a>(shape: &Shape, words: &'a [u64]) -> &'a [u64]
     requires shaped { IsShape shape.now }
     requires whole { length words.now ≡ total_words_of (region_sizes shape.now) }
@@ -224,7 +226,7 @@ pub fn values_of<'a>(shape: &Shape, words: &'a [u64]) -> &'a [u64]
     &words[values(shape)..fields(shape)]
 }
 
-/// The fields of all cells.
+/// The fields of all cells, cell by cell: as many for each as the shape says.
 pub fn fields_of<'a>(shape: &Shape, words: &'a [u64]) -> &'a [u64]
     requires shaped { IsShape shape.now }
     requires whole { length words.now ≡ total_words_of (region_sizes shape.now) }

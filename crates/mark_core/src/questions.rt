@@ -16,7 +16,8 @@ impl SeatState {
         standing::takes_part(self)
     }
 
-    /// Whether the seat is outside: not in the world's number, without a stop of its own, and not among the helpers. Only such a seat enters, raises the stop flag or joins the helpers.
+    /// Whether the seat is outside: not in the world's number, without a stop of its own, and not among the helpers. Only such a seat enters, raises the stop
+    /// flag or joins the helpers.
     pub fn is_bare(&self) -> bool
         ensures { result ≡ is_bare_seat self.now }
     {
@@ -37,7 +38,8 @@ impl SeatState {
         self.active && standing::saw(self.phase_seen, Phase::Marking)
     }
 
-    /// Whether the seat has a grey cell in hand, or something that may lead to one; `fields` is how many fields an object has. Then it must not give back its last packet, nor leave.
+    /// Whether the seat has a grey cell in hand, or something that may lead to one; `fields` is how many fields an object has. Then it must not give back its
+    /// last packet, nor leave.
     pub fn work_in_hand(&self, fields: u32) -> bool
         ensures { result ≡ work_in_hand_of fields self.now }
     {

@@ -38,7 +38,7 @@ fn is_stored_in(slot: Slot, p: u32) -> bool
     }
 }
 
-/// Packet p is held.
+/// Whether packet p is held.
 pub fn holds(held: Slots, p: u32) -> bool
     ensures { result ≡ holds_packet held p }
 {
@@ -73,21 +73,21 @@ pub fn length_in_hand(held: &Slots, p: u32) -> u32
     known_length(held, p).unwrap_or(0)
 }
 
-/// Packet p is held, and its length is known.
+/// Whether packet p is held, and its length is known.
 pub fn has_length(held: &Slots, p: u32) -> bool
     ensures { result ≡ has_length_of held.now p }
 {
     known_length(held, p).is_some()
 }
 
-/// Packet p is known to have an entry.
+/// Whether packet p is known to have an entry.
 pub fn has_entry(held: &Slots, p: u32) -> bool
     ensures { result ≡ has_entry_of held.now p }
 {
     !(length_in_hand(held, p) == 0)
 }
 
-/// Packet p is held, and its head holds its length.
+/// Whether packet p is held, and its head holds its length.
 pub fn is_stored(held: Slots, p: u32) -> bool
     ensures { result ≡ is_stored_packet held p }
 {
@@ -95,14 +95,14 @@ pub fn is_stored(held: Slots, p: u32) -> bool
     is_stored_in(a, p) || is_stored_in(b, p) || is_stored_in(c, p) || is_stored_in(d, p)
 }
 
-/// A packet is held.
+/// Whether a packet is held.
 pub fn holds_any(held: Slots) -> bool
     ensures { result ≡ holds_any_packet held }
 {
     held[0].is_some() || held[1].is_some() || held[2].is_some() || held[3].is_some()
 }
 
-/// A slot is free.
+/// Whether a slot is free.
 pub fn has_free_slot(held: Slots) -> bool
     ensures { result ≡ has_a_free_slot held }
 {
@@ -166,7 +166,7 @@ pub fn set_length(held: &mut Slots, p: u32, length: u32, stored: bool)
     set_slot(&mut held[3], p, length, stored);
 }
 
-/// A packet other than p is held.
+/// Whether a packet other than p is held.
 pub fn holds_another(held: Slots, p: u32) -> bool
     ensures { result ≡ holds_another_packet held p }
 {

@@ -33,14 +33,14 @@ pub fn phase_of(word: u64) -> Phase
     }
 }
 
-/// The word says this phase.
+/// Whether the word says this phase.
 pub fn is_phase(word: u64, phase: Phase) -> bool
     ensures { result ≡ is_phase_of word phase }
 {
     word == phase_number(phase)
 }
 
-/// The phase seen is this one.
+/// Whether the phase seen is this one.
 pub fn saw(seen: Option<Phase>, phase: Phase) -> bool
     ensures { result ≡ saw_phase seen phase }
 {
@@ -50,7 +50,7 @@ pub fn saw(seen: Option<Phase>, phase: Phase) -> bool
     }
 }
 
-/// The option holds this number.
+/// Whether the option holds this number.
 pub fn is_the(held: Option<u32>, number: u32) -> bool
     ensures { result ≡ is_the_number held number }
 {
@@ -60,7 +60,7 @@ pub fn is_the(held: Option<u32>, number: u32) -> bool
     }
 }
 
-/// A tracer: it marks as a mutator, or alone in the stop, or as a helper.
+/// Whether the seat is a tracer: it marks as a mutator, or alone in the stop, or as a helper.
 pub fn may_trace(phase: u64, s: &SeatState) -> bool
     ensures { result ≡ may_trace_in phase s.now }
 {
@@ -69,28 +69,28 @@ pub fn may_trace(phase: u64, s: &SeatState) -> bool
         || s.admitted && saw(s.phase_seen, Phase::Drain)
 }
 
-/// A sweeper: the one that stopped the world, or a helper.
+/// Whether the seat is a sweeper: the one that stopped the world, or a helper.
 pub fn may_sweep(phase: u64, s: &SeatState) -> bool
     ensures { result ≡ may_sweep_in phase s.now }
 {
     s.knows && is_phase(phase, Phase::Sweep) || s.admitted && saw(s.phase_seen, Phase::Sweep)
 }
 
-/// The seat stopped the world to clear all marks.
+/// Whether the seat stopped the world to clear all marks.
 pub fn may_clear(phase: u64, s: &SeatState) -> bool
     ensures { result ≡ may_clear_in phase s.now }
 {
     s.knows && is_phase(phase, Phase::Clear)
 }
 
-/// The seat runs, or it stopped the world, or it helps.
+/// Whether the seat runs, or it stopped the world, or it helps.
 pub fn takes_part(s: &SeatState) -> bool
     ensures { result ≡ takes_part_of s.now }
 {
     s.active || s.knows || s.admitted
 }
 
-/// The seat is neither in the world's number, nor has it stopped the world, nor does it help.
+/// Whether the seat is neither in the world's number, nor has stopped the world, nor helps.
 pub fn is_bare(s: &SeatState) -> bool
     ensures { result ≡ is_bare_seat s.now }
 {
@@ -107,7 +107,7 @@ fn has_turn(section: Option<u32>, season: Option<u64>) -> bool
     }
 }
 
-/// An active seat in its section's turn.
+/// Whether the seat is a mutator: active, in its section's turn.
 pub fn may_mutate(s: &SeatState) -> bool
     ensures { result ≡ may_mutate_of s.now }
 {

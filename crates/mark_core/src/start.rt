@@ -2,9 +2,11 @@
 ghost use Rattle.std.specs.Prelude.{◌≡◌, ◌<◌, ◌≤◌, IfOk, vec_capacity};
 ghost use Rattle.mark_core.specs.Shapes.{IsShape};
 ghost use Rattle.mark_core.specs.Start.{start_seat as start_seat_of, spent_seat as spent_seat_of, packet_bits as packet_bits_of, full_pool as full_pool_of, start_words as start_words_of, start_seats as start_seats_of};
+ghost use Rattle.mark_core.specs.Numbers.{most_seats};
 
 use crate::kinds::Shape;
 use crate::layout;
+use crate::numbers::{EMPTY_OFFSET, WORD_BITS};
 use crate::seat::SeatState;
 use std::alloc::{AllocError, Global};
 
@@ -66,10 +68,10 @@ fn new_seats(alloc: Global, shape: &Shape, count: u32) -> Result<Vec<SeatState>,
     (0..count).map(|k| start_seat(shape, k)).collect(alloc)
 }
 
-/// So many seats that have done nothing, with room for 41.
+/// So many seats that have done nothing, with room for [`SEATS`](crate::SEATS). Out of memory is the only refusal.
 pub fn start_seats(alloc: Global, shape: &Shape, count: u32) -> Result<Vec<SeatState>, AllocError>
     ensures seats { IfOk result (λ v. v.items ≡ start_seats_of shape.now count) }
-    ensures room { IfOk result (λ v. 41 ≤ vec_capacity v) }
+    ensures room { IfOk result (λ v. most_seats ≤ vec_capacity v) }
 {
     let mut seats = new_seats(alloc, shape, count)?;
     seats.reserve(41usize.saturating_sub(seats.len()))?;
@@ -81,8 +83,12 @@ fn packet_bits(count: u32, g: u32) -> u64
     requires { g < 65536 }
     ensures { result ≡ packet_bits_of count g }
 {
-    let left = count.saturating_sub(64 * g);
-    if left < 64 { (1 << left) - 1 } else { u64::MAX }
+    let left = count.saturating_sub(WORD_BITS * g);
+    if left < WORD_BITS {
+        (1 << left) - 1
+    } else {
+        u64::MAX
+    }
 }
 
 /// The words of the empty pool, which holds all packets.
@@ -95,12 +101,12 @@ fn full_pool(alloc: Global, shape: &Shape) -> Result<Vec<u64>, AllocError>
         .collect(alloc)
 }
 
-/// The words of a new heap: no seat runs, the phase is Idle, all packets are empty and in their pool, and no cell is made.
+/// The words of a new heap: no seat runs, the phase is Idle, all packets are empty and in their pool, and no cell is made. Out of memory is the only refusal.
 pub fn start_words(alloc: Global, shape: &Shape) -> Result<Vec<u64>, AllocError>
     requires { IsShape shape.now }
     ensures { IfOk result (λ v. v.items ≡ start_words_of shape.now) }
 {
-    let empty = 64 + u64::from(shape.packets);
+    let empty = EMPTY_OFFSET + u64::from(shape.packets);
     let mut words = Vec::new(alloc);
     words.extend_from_slice(&[0, 0, empty, 0, 0, 0, 0, 0, 0, u64::from(shape.cells), 0])?;
     words.resize(layout::pools(shape), 0)?;

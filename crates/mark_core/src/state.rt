@@ -5,10 +5,11 @@ ghost use Rattle.mark_core.specs.Kinds.{kind_of};
 ghost use Rattle.mark_core.specs.Shapes.{IsShape};
 ghost use Rattle.mark_core.specs.Laws.{IsCore};
 ghost use Rattle.mark_core.specs.Steps.{Core, failing_part, after_event, start_core, run_of, first_refused};
+ghost use Rattle.mark_core.specs.Numbers.{most_seats};
 
 use crate::addresses::address;
 use crate::kinds::{Event, NotAllowed, Rule, Shape};
-use crate::others::{change_others, seat_at};
+use crate::records::{change_others, seat_at};
 use crate::seat::SeatState;
 use crate::start::{start_seats, start_words};
 use crate::words::word_at;
@@ -18,7 +19,7 @@ use std::alloc::Global;
 use std::marker::Model;
 
 /// A state: the sizes of the heap, its words, and a record for each seat. Every state that can be reached came from
-/// [`CoreState::start`] by events that were allowed. It has room for 41 seats, so no call but `start` takes memory.
+/// [`CoreState::start`] by events that were allowed. It has room for [`SEATS`](crate::SEATS) seats, so no call but `start` takes memory.
 #[derive(Drop)]
 pub struct CoreState {
     pub(crate) shape: Shape,
@@ -31,23 +32,24 @@ impl Model for CoreState {
     ghost use Rattle.mark_core.specs.Steps.{Core};
     ghost use Rattle.mark_core.specs.Bounds.{IsBounded};
     ghost use Rattle.mark_core.specs.Laws.{IsCore};
+    ghost use Rattle.mark_core.specs.Numbers.{most_seats};
 
     ghost Value = { Core };
 
     ghost view = { λ a. record { shape = a.shape; words = a.words.items; seats = a.seats.items } };
 
-    ghost invariant = { λ a. IsBounded (record { shape = a.shape; words = a.words.items; seats = a.seats.items }) × (41 ≤ vec_capacity a.seats)
+    ghost invariant = { λ a. IsBounded (record { shape = a.shape; words = a.words.items; seats = a.seats.items }) × (most_seats ≤ vec_capacity a.seats)
         × IsCore (record { shape = a.shape; words = a.words.items; seats = a.seats.items }) };
 }
 
 impl CoreState {
-    /// The state in which `seats` seats, 1 to 41, have done nothing yet: every cell is free and white, every packet
+    /// The state in which `seats` seats, 1 to [`SEATS`](crate::SEATS), have done nothing yet: every cell is free and white, every packet
     /// is in the empty pool, and the phase is Idle. Seat w has section w, and seats past the sections have none. The
     /// shape must be within its limits. It is refused only where memory ran out.
     pub fn start(alloc: Global, shape: Shape, seats: u32) -> Result<CoreState, OutOfMemory>
         requires shaped { IsShape shape }
         requires some { 1 ≤ seats }
-        requires few { seats ≤ 41 }
+        requires few { seats ≤ most_seats }
         ensures { IfOk result (λ c. c ≡ start_core shape seats) }
     {
         let words = match start_words(alloc, &shape) {

@@ -5,6 +5,7 @@ use Rattle.std.specs.List.{list_any, list_all, range_with_len}
 use Rattle.std.proofs.lemmas.Bool.{and_from, and_parts, or_right, eq-eqb, ne_eqb, lt-ltb, not_from_false, false≢true}
 use Rattle.std.proofs.lemmas.List.{length-append}
 use Rattle.mark_core.specs.Bits.{reference_in}
+use Rattle.mark_core.specs.Numbers.{section_variables}
 use Rattle.mark_core.specs.Steps.MutatorSteps.{names_last, with_made}
 use Rattle.mark_core.specs.Seats.{free_in, has_making, may_mutate, work_in_hand}
 use Rattle.mark_core.specs.declared.kinds.Identity.{Identity}
@@ -47,16 +48,16 @@ module _ (u n c r : ℕ) (id : Identity) (v x : View) (ready : IsReady v) (ran :
   named = ap (λ (s : SeatState). names_last s.cache r) k.state ∙ last_cell v.state.cache c r free is
 
   -- it may be stored in a variable
-  pub may-name : u < 32 → May (StoreRoot u r) x
+  pub may-name : u < section_variables → May (StoreRoot u r) x
   may-name below y i st a = (
-    and_from _ _ (lt-ltb u 32 below) (ap may_mutate k.state ∙ ready.stores.turn),
+    and_from _ _ (lt-ltb u section_variables below) (ap may_mutate k.state ∙ ready.stores.turn),
     (
       or_right ((r == 0) || (r == x.state.got) || list_any (λ m. m == r) x.state.env) (names_last x.state.cache r) named,
       (and_from _ _ (ap (λ (s : SeatState). is_none s.owes) k.state ∙ ap is_none ready.stores.owes) (not_from_false _ (ap (λ (s : SeatState). has_making s.cache) k.state ∙ whole_cell v.state.cache c)), tt),
     ),
   )
 
-  -- that is the step which makes its object
+  -- the store of the new cell's reference is the step that makes its object
   pub asks-name : Asks x.state x.own.meaning (seen x) (StoreRoot u r) (ops.New u n)
   asks-name = (
     (ready.stores.seen.0, ap (λ (s : SeatState). s.phase_seen) k.state ∙ ready.stores.seen.1, ready.stores.seen.2),
@@ -98,7 +99,7 @@ module _ (u n c r : ℕ) (id : Identity) (v x : View) (ready : IsReady v) (ran :
             ∙ ap (λ (y : SectionState). record (with_place v.state c n v.own) { meaning = y.meaning; history = y.history; settled = false }) (sym own);
       }
 
-  -- and the seat is ready again
+  -- the seat is ready after the whole command
   pub ready-creates : (w : View) → Creates u n c v w → IsReady w
   ready-creates w d =
       let s = d.state in

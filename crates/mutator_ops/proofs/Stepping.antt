@@ -2,6 +2,7 @@
 use Rattle.std.proofs.Common.{ℕ, ◌≡◌, ◌+◌, ◌<◌, ◌==◌, ◌&&◌, if◌then◌else◌, length, arith, refl, sym, ap, ◌∙◌, subst, Bool, true, false, Some, None, Option}
 use Rattle.std.specs.Prelude.{slice_set}
 use Rattle.mark_core.specs.Bits.{reference_in}
+use Rattle.mark_core.specs.Numbers.{section_variables}
 use Rattle.mark_core.specs.Steps.MutatorSteps.{names_last}
 use Rattle.mark_core.specs.declared.kinds.Step.{Step}
 use Rattle.mark_core.specs.declared.kinds.Step.TheVariants.{StoreRoot, ReadOwn, ReadCat, ReadValue}
@@ -96,7 +97,7 @@ reads-field p c j n v x b f =
       own = ap (λ (y : View). y.own) f.0 ∙ ap (λ (y : View). record v.own { meaning = with_got y.own.meaning.got v.own.meaning }) (sym f.0);
     }
 
--- or a variable of the catalogue
+-- a variable of the catalogue was read into the register
 pub reads-catalogue : (p : Step → Bool) (u n : ℕ) (v x : View) → p (ReadCat u) ≡ true → Found (ReadCat u) n v x → HasRead p v x
 reads-catalogue p u n v x b f =
     record {
@@ -110,7 +111,7 @@ reads-catalogue p u n v x b f =
     }
 
 -- the register has the field of variable w's object
-pub asks-get : (u w i c n r : ℕ) (v x : View) → HasSeenPhase v.state → known_as v.state v.own.meaning c ≡ variable v.own.meaning.heap w → w < 32 → i < v.own.meaning.heap.fields → Found (ReadOwn c i) n v x → r ≡ x.state.got
+pub asks-get : (u w i c n r : ℕ) (v x : View) → HasSeenPhase v.state → known_as v.state v.own.meaning c ≡ variable v.own.meaning.heap w → w < section_variables → i < v.own.meaning.heap.fields → Found (ReadOwn c i) n v x → r ≡ x.state.got
     → Asks x.state x.own.meaning (seen x) (StoreRoot u r) (ops.Get u w i)
 asks-get u w i c n r v x phase known below field f is =
     let got : x.own.meaning.got ≡ followed v.own.meaning.heap (seen v) (variable v.own.meaning.heap w) i = ap (λ (y : View). y.own.meaning.got) f.0 ∙ ap (λ ref. followed v.own.meaning.heap (seen v) ref i) known in (
@@ -119,7 +120,7 @@ asks-get u w i c n r v x phase known below field f is =
     )
 
 -- the register has variable c of the catalogue
-pub asks-cat : (u c n r : ℕ) (v x : View) → HasSeenPhase v.state → c < 32 → Found (ReadCat c) n v x → r ≡ x.state.got → Asks x.state x.own.meaning (seen x) (StoreRoot u r) (ops.Cat u c)
+pub asks-cat : (u c n r : ℕ) (v x : View) → HasSeenPhase v.state → c < section_variables → Found (ReadCat c) n v x → r ≡ x.state.got → Asks x.state x.own.meaning (seen x) (StoreRoot u r) (ops.Cat u c)
 asks-cat u c n r v x phase below f is =
     ((phase.0, ap (λ (y : View). y.state.phase_seen) f.0 ∙ phase.1, phase.2), (refl, is, ap (λ (y : View). y.own.meaning.got) f.0 ∙ (λ j. lent_variable (seen (sym f.0 j)) c), below))
 

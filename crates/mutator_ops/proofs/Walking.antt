@@ -1,7 +1,8 @@
 -- A walk along a field, visit by visit.
 use Rattle.std.proofs.Common.{ℕ, ◌≡◌, ◌+◌, ◌-◌, ◌<◌, zero, suc, arith, refl, sym, ap, ◌∙◌, subst, true, Option, ◌⊎◌, inl, inr}
+use Rattle.mark_core.specs.Numbers.{section_variables}
 use Rattle.mark_core.specs.Seats.{may_mutate}
-use Rattle.mark_core.specs.Steps.MutatorSteps.{variable as word_in}
+use Rattle.mark_core.specs.Steps.MutatorSteps.{seat_variable as word_in}
 use Rattle.mark_core.specs.declared.kinds.Step.{Step}
 use Rattle.mark_core.specs.declared.kinds.Step.TheVariants.{ReadOwn, ReadValue}
 use Rattle.mark_core.specs.declared.seat.SeatState.{SeatState}
@@ -29,20 +30,20 @@ pub hand-at : (u word : ℕ) (ref : Ref) (v : View) → InHand u word ref v → 
 hand-at u word ref v (inl x) = inl (x.0, x.1)
 hand-at u word ref v (inr x) = inr x.0
 
-pub hand-nil : (u word : ℕ) (ref : Ref) (v : View) → ∥ IsPossible v ∥₁ → may_mutate v.state ≡ true → u < 32 → InHand u word ref v → word ≡ 0 → ref ≡ refs.Nil
+pub hand-nil : (u word : ℕ) (ref : Ref) (v : View) → ∥ IsPossible v ∥₁ → may_mutate v.state ≡ true → u < section_variables → InHand u word ref v → word ≡ 0 → ref ≡ refs.Nil
 hand-nil u word ref v p turn below (inl x) e = x.2 ∙ nil-variable v u p turn below (sym x.0 ∙ e)
 hand-nil u word ref v p turn below (inr x) e = x.1 ∙ nil-register v p turn (sym x.0 ∙ e)
 
-pub hand-some : (u word : ℕ) (ref : Ref) (v : View) → ∥ IsPossible v ∥₁ → may_mutate v.state ≡ true → u < 32 → InHand u word ref v → 0 < word → ref ≡ refs.Nil → ⊥
+pub hand-some : (u word : ℕ) (ref : Ref) (v : View) → ∥ IsPossible v ∥₁ → may_mutate v.state ≡ true → u < section_variables → InHand u word ref v → 0 < word → ref ≡ refs.Nil → ⊥
 hand-some u word ref v p turn below (inl x) some e = some-variable v u p turn below (subst (λ n. 0 < n) x.0 some) (sym x.2 ∙ e)
 hand-some u word ref v p turn below (inr x) some e = some-register v p turn (subst (λ n. 0 < n) x.0 some) (sym x.1 ∙ e)
 
-pub hand-known : (u word : ℕ) (ref : Ref) (v : View) → ∥ IsPossible v ∥₁ → may_mutate v.state ≡ true → u < 32 → InHand u word ref v → 0 < word → ref_at word v ≡ ref
+pub hand-known : (u word : ℕ) (ref : Ref) (v : View) → ∥ IsPossible v ∥₁ → may_mutate v.state ≡ true → u < section_variables → InHand u word ref v → 0 < word → ref_at word v ≡ ref
 hand-known u word ref v p turn below (inl x) some = known-variable v u (word - 1) p turn below (let e = x.0 in omega (arith, e, some)) ∙ sym x.2
 hand-known u word ref v p turn below (inr x) some = known-register v (word - 1) (let e = x.0 in omega (arith, e, some)) ∙ sym x.1
 
 -- the seat knows the cell in hand
-pub at-knows : (u word c : ℕ) (v : View) → IsFalse v.state.spent → u < 32 → IsAt u word v → word ≡ c + 1 → Knows v c
+pub at-knows : (u word c : ℕ) (v : View) → IsFalse v.state.spent → u < section_variables → IsAt u word v → word ≡ c + 1 → Knows v c
 at-knows u word c v live below (inl x) e = knows-variable v u c live below (sym x.0 ∙ e)
 at-knows u word c v live below (inr x) e = knows-register v c (sym x ∙ e)
 
@@ -75,7 +76,7 @@ walks-none u i limit word v k got e = record { read = k; ref = variable v.own.me
     none w = let a : w.0 ≡ 0 + w.0 = omega arith in let b : w.1 ≡ 0 + w.1 = omega arith in λ j. (a j, b j)
 
 -- the walk has met nil
-pub walks-nil : (u i limit count total word : ℕ) (v x : View) → ∥ IsPossible x ∥₁ → may_mutate x.state ≡ true → u < 32 → Walks u i limit count total word v x → word ≡ 0 → (count, total) ≡ walk v.own.meaning.heap (seen v) i limit (variable v.own.meaning.heap u)
+pub walks-nil : (u i limit count total word : ℕ) (v x : View) → ∥ IsPossible x ∥₁ → may_mutate x.state ≡ true → u < section_variables → Walks u i limit count total word v x → word ≡ 0 → (count, total) ≡ walk v.own.meaning.heap (seen v) i limit (variable v.own.meaning.heap u)
 walks-nil u i limit count total word v x p turn below k e =
     let none = hand-nil u word k.ref x p turn below k.hand e in
     let same : (count, total) ≡ plus count total (0, 0) = let a : count ≡ count + 0 = omega arith in let b : total ≡ total + 0 = omega arith in λ j. (a j, b j) in
@@ -89,7 +90,7 @@ walks-all u i limit count total word v x k e =
     same ∙ ap (plus count total) (sym (ap (λ n. walk v.own.meaning.heap (seen v) i n k.ref) none)) ∙ sym k.rest
 
 -- it goes on
-pub walks-more : (u i limit count total word value next : ℕ) (v x w : View) → ∥ IsPossible x ∥₁ → may_mutate x.state ≡ true → u < 32 → count < limit → 0 < word → Walks u i limit count total word v x → Visits u word i value x w → next ≡ w.state.got
+pub walks-more : (u i limit count total word value next : ℕ) (v x w : View) → ∥ IsPossible x ∥₁ → may_mutate x.state ≡ true → u < section_variables → count < limit → 0 < word → Walks u i limit count total word v x → Visits u word i value x w → next ≡ w.state.got
     → Walks u i limit (count + 1) (total + value) next v w
 walks-more u i limit count total word value next v x w p turn below more some k visit is =
     let heap : Heap = v.own.meaning.heap in

@@ -12,16 +12,6 @@ use Rattle.gc_table.specs.declared.view.View.{View}
 use Rattle.gc_table.specs.Log.{Only, events, steps_of}
 use Rattle.gc_table.specs.Running.{Ran}
 
--- the command makes an object
-abbrev pub makes : Op → Bool
-makes (ops.New v n) = true
-makes op = false
-
--- the command reads a variable of the catalogue
-abbrev pub lends : Op → Bool
-lends (ops.Cat v c) = true
-lends op = false
-
 -- what a seat sees of the catalogue
 abbrev pub seen : View → Option Heap
 seen v = seen_by v.shape v.plan v.state
@@ -58,7 +48,7 @@ stores_plainly (StoreValue u n) = true
 stores_plainly (StoreRoot u r) = true
 stores_plainly step = false
 
--- it isn't
+-- the step is no store that the plain heap sees
 abbrev pub spares_plain : Step → Bool
 spares_plain step = not (stores_plainly step)
 
@@ -67,7 +57,7 @@ abbrev pub plain_steps : List Step → ℕ
 plain_steps [] = 0
 plain_steps (x ∷ xs) = (if stores_plainly x then 1 else 0) + plain_steps xs
 
--- it sees at most one step of the call, so no other thread sees half of it
+-- the plain heap sees at most one step of the call, so no other thread sees half of the command
 abbrev pub IsOneStep : View → View → Type 0
 IsOneStep v w = plain_steps (steps_of (events v w)) ≤ 1
 

@@ -14,10 +14,10 @@
 //!
 //! # Objects of the catalogue
 //!
-//! A warehouse reads the catalogue's objects and stores in none of them: such a store is dropped, and the words stay as they are. Whose object it is
-//! tells its identity, which is read before each store in an object. The words don't say how many stores were dropped, so the answer does.
+//! A warehouse reads the catalogue's objects and stores in none of them: such a store is dropped, and the words stay as they are. An object's
+//! identity tells whose it is, and is read before each store in the object. The words don't say how many stores were dropped, so the answer does.
 //!
-//! # Where what is
+//! # Where things are
 //!
 //! `variables` has the commands that change a variable alone, `objects` those that store in an object, `reading` those that
 //! print, and `making` the one that makes an object. `commands` does any of them by its operation. In `specs/`, `Ready` says what a mutator is between

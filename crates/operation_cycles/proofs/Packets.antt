@@ -2,6 +2,7 @@
 use Rattle.std.proofs.Common.{ℕ, ◌≡◌, ◌<◌, refl, sym, ap, ◌∙◌, subst, true, false, Option, Some, None}
 use Rattle.std.specs.Prelude.{◌||◌, is_some}
 use Rattle.std.proofs.lemmas.Bool.{and_from, lt-ltb, not_from_false, or_parts, true≢false}
+use Rattle.mark_core.specs.Numbers.{section_variables}
 use Rattle.mark_core.specs.Seats.{cleaning_left, scan_left, work_in_hand}
 use Rattle.mark_core.specs.declared.kinds.Shape.{Shape}
 use Rattle.mark_core.specs.declared.kinds.Step.TheVariants.{ReadRoot}
@@ -9,7 +10,7 @@ use Rattle.mark_core.specs.declared.seat.SeatState.{SeatState}
 use Rattle.mark_core.proofs.Pool.PoolSlots.{any-held}
 use Rattle.gc_table.specs.Taking.{May}
 use Rattle.gc_table.specs.declared.view.View.{View}
-use Rattle.packet_pools.specs.Hands.{IsHeld}
+use Rattle.packet_pools.specs.Hands.{HoldsPacket}
 use Rattle.packet_pools.specs.Scanning.{InHand, Pushes}
 use Rattle.packet_pools.specs.Tracing.{traces}
 use Rattle.packet_pools.specs.declared.held.Held.{Held}
@@ -17,10 +18,10 @@ use Rattle.packet_pools.proofs.Conditions.{may-trace}
 use Rattle.packet_pools.proofs.InHand.{known-held}
 use Rattle.packet_pools.proofs.Settled.{settles-left}
 
-pub may-read_root : (v : View) (section u : ℕ) (h : Held) → traces v ≡ true → section < v.shape.sections → u < 32 → IsHeld h v → work_in_hand v.shape.fields v.state ≡ false → May (ReadRoot section u) v
+pub may-read_root : (v : View) (section u : ℕ) (h : Held) → traces v ≡ true → section < v.shape.sections → u < section_variables → HoldsPacket h v → work_in_hand v.shape.fields v.state ≡ false → May (ReadRoot section u) v
 may-read_root v section u h t there low held work c k w a = (
   and_from _ _
-      (and_from _ _ (and_from _ _ (lt-ltb section c.core.shape.sections (subst (λ (sh : Shape). section < sh.sections) a.shape there)) (lt-ltb u 32 low)) (may-trace c k v a t))
+      (and_from _ _ (and_from _ _ (lt-ltb section c.core.shape.sections (subst (λ (sh : Shape). section < sh.sections) a.shape there)) (lt-ltb u section_variables low)) (may-trace c k v a t))
       (any-held v.state.held h.packet (known-held v.state.held h.packet h.length held.known)),
   (not_from_false _ (sym (ap (λ (sh : Shape). work_in_hand sh.fields v.state) a.shape) ∙ work), tt),
 )

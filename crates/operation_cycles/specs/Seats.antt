@@ -9,8 +9,6 @@ use Rattle.mark_core.specs.declared.seat.SeatState.{SeatState}
 use Rattle.gc_table.specs.Seats.{Sits, view_of}
 use Rattle.gc_table.specs.declared.seat.Heap.{Heap}
 use Rattle.gc_table.specs.declared.seat.HeapSeat.{HeapSeat}
-use Rattle.alloc_cache.specs.Caching.{IsCached}
-use Rattle.alloc_cache.specs.declared.cache.Cache.{Cache}
 use Rattle.mutator_ops.specs.Ready.{IsReady}
 
 -- it has read that marking is under way, in the first season of the warehouses
@@ -18,12 +16,8 @@ abbrev pub playing : Shape → ℕ → SeatState
 playing sh k = record (start_seat sh k) { counted = true; active = true; phase_seen = Some Marking; season_seen = Some 1 }
 
 -- the seat is a mutator's between two commands
-abbrev pub Mutates : Heap → HeapSeat → Type 0
-Mutates h s = Sits h s × IsReady (view_of s)
-
--- and this is its cache
-abbrev pub Fills : Heap → HeapSeat → Cache → Type 0
-Fills h s c = Sits h s × IsReady (view_of s) × IsCached c (view_of s)
+abbrev pub IsReadyMutator : Heap → HeapSeat → Type 0
+IsReadyMutator h s = Sits h s × IsReady (view_of s)
 
 -- the seat marks as a mutator, and holds no packet and no block to sweep
 pub record MayTrace (s : SeatState) : Type 0 where

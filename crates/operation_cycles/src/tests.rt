@@ -15,33 +15,16 @@ mod tracing;
 mod trades;
 
 use mark_core::Shape;
+use test_heaps::SMALL;
 
-/// One block, and two packets of two entries.
-const SMALL: Shape = Shape {
-    cells: 64,
-    packets: 2,
-    entries: 2,
-    sections: 2,
-    fields: 4,
-    objects: 2_000_000,
-};
-
-/// The same with four packets.
+/// One block, and four packets of two entries.
 const FOUR: Shape = Shape {
-    cells: 64,
     packets: 4,
-    entries: 2,
-    sections: 2,
-    fields: 4,
-    objects: 2_000_000,
+    ..SMALL
 };
 
 /// One block, and two packets of four entries.
 const DEEP: Shape = Shape {
-    cells: 64,
-    packets: 2,
     entries: 4,
-    sections: 2,
-    fields: 4,
-    objects: 2_000_000,
+    ..SMALL
 };

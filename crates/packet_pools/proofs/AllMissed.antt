@@ -2,9 +2,10 @@
 use Rattle.std.proofs.Common.{ℕ, ◌≡◌, ◌<◌, ◌+◌, List, [], ◌∷◌, ◌++◌, arith, refl, zero, suc, Bool, true, false, ◌||◌}
 use Rattle.std.specs.List.{list_all, range_with_len}
 use Rattle.std.proofs.lemmas.Bool.{and_from, and_parts}
+use Rattle.mark_core.specs.Numbers.{empty_pool_number, high_pool_number, low_pool_number}
 use Rattle.mark_core.specs.declared.kinds.Shape.{Shape}
 use Rattle.gc_table.specs.declared.view.Entry.{Entry}
-use Rattle.packet_pools.specs.Seeking.{all_missed, no_input, no_output, was_full, was_got, was_missed, was_missed_in, was_roomless}
+use Rattle.packet_pools.specs.Seeking.{all_missed, input_pools, no_input, no_output, was_full, was_got, was_missed, was_missed_in, was_roomless}
 use Rattle.packet_pools.proofs.Searches.{either-way, full-left, was-missed-left, was-missed-right}
 
 -- what is so of each number is so of all in a range
@@ -28,8 +29,8 @@ missed-in-right (q ∷ qs) p xs ys n m = let h = and_parts (was_missed q p ys) (
 
 roomless-left : (entries p : ℕ) (xs ys : List Entry) → was_roomless entries p xs ≡ true → was_roomless entries p (xs ++ ys) ≡ true
 roomless-left entries p xs ys m =
-    let h = and_parts (was_missed_in (0 ∷ 1 ∷ []) p xs) (was_missed 2 p xs || was_full entries p xs) m in
-    and_from _ _ (missed-in-left (0 ∷ 1 ∷ []) p xs ys h.0) (either-way _ _ _ _ (was-missed-left 2 p xs ys) (full-left entries p xs ys) h.1)
+    let h = and_parts (was_missed_in (empty_pool_number ∷ low_pool_number ∷ []) p xs) (was_missed high_pool_number p xs || was_full entries p xs) m in
+    and_from _ _ (missed-in-left (empty_pool_number ∷ low_pool_number ∷ []) p xs ys h.0) (either-way _ _ _ _ (was-missed-left high_pool_number p xs ys) (full-left entries p xs ys) h.1)
 
 -- all of them
 pub all-missed-left : (sh : Shape) (qs : List ℕ) (xs ys : List Entry) → all_missed sh qs xs ≡ true → all_missed sh qs (xs ++ ys) ≡ true
@@ -39,7 +40,7 @@ pub all-missed-right : (sh : Shape) (qs : List ℕ) (xs ys : List Entry) → ((p
 all-missed-right sh qs xs ys n m = all-more (λ p. was_missed_in qs p ys) (λ p. was_missed_in qs p (xs ++ ys)) (λ p e. missed-in-right qs p xs ys (n p) e) (range_with_len 0 sh.packets) m
 
 pub no-input-left : (sh : Shape) (xs ys : List Entry) → no_input sh xs ≡ true → no_input sh (xs ++ ys) ≡ true
-no-input-left sh xs ys m = all-missed-left sh (2 ∷ 1 ∷ []) xs ys m
+no-input-left sh xs ys m = all-missed-left sh input_pools xs ys m
 
 pub no-output-left : (sh : Shape) (xs ys : List Entry) → no_output sh xs ≡ true → no_output sh (xs ++ ys) ≡ true
 no-output-left sh xs ys m = all-more (λ p. was_roomless sh.entries p xs) (λ p. was_roomless sh.entries p (xs ++ ys)) (λ p e. roomless-left sh.entries p xs ys e) (range_with_len 0 sh.packets) m

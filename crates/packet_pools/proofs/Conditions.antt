@@ -4,6 +4,7 @@ use Rattle.std.specs.Prelude.{IfSome, nat_lt, ◌==◌}
 use Rattle.std.proofs.lemmas.Bool.{true≢false, and_parts, and_from, or_cases, lt-ltb, not_from_false}
 use Rattle.mark_core.specs.Layout.{words_of, pool_words}
 use Rattle.gc_table.specs.TableState.{TableState}
+use Rattle.mark_core.specs.Numbers.{empty_pool_number, pools_in_all}
 use Rattle.mark_core.specs.Places.{the_phase}
 use Rattle.mark_core.specs.Held.{holds, has_length, length_in_hand, has_entry, is_stored, has_free_slot, holds_another}
 use Rattle.mark_core.specs.Seats.{may_trace, saw, is_the, is_phase, work_in_hand, is_unpublished}
@@ -65,18 +66,18 @@ module _ (v : View) where
   pub may-reserve : Traces v → May Reserve v
   may-reserve t c i w a = (may-trace c i v a t.may, (rw (t.unreserved, t.uncredited) refl, tt))
 
-  pub may-take : (q p : ℕ) → traces v ≡ true → q < 4 → p < v.shape.packets → holds v.state.held p ≡ false → v.state.reserved ≡ (q == 0) → has_free_slot v.state.held ≡ true → May (Take q p) v
+  pub may-take : (q p : ℕ) → traces v ≡ true → q < pools_in_all → p < v.shape.packets → holds v.state.held p ≡ false → v.state.reserved ≡ (q == empty_pool_number) → has_free_slot v.state.held ≡ true → May (Take q p) v
   may-take q p t below there unheld reserved free c i w a = (
-    and_from _ _ (and_from _ _ (lt-ltb q 4 below) (lt-ltb p c.core.shape.packets (subst (λ (sh : Shape). p < sh.packets) a.shape there))) (may-trace c i v a t),
-    (rw unheld refl, (rw reserved (either (q == 0)), (free, tt))),
+    and_from _ _ (and_from _ _ (lt-ltb q pools_in_all below) (lt-ltb p c.core.shape.packets (subst (λ (sh : Shape). p < sh.packets) a.shape there))) (may-trace c i v a t),
+    (rw unheld refl, (rw reserved (either (q == empty_pool_number)), (free, tt))),
   )
     where
       either : (b : Bool) → (not b || b) ≡ true
       either true = refl
       either false = refl
 
-  pub may-look : (q g : ℕ) → q < 4 → g < pool_words v.shape → May (Look q g) v
-  may-look q g below there c i w a = (and_from _ _ (lt-ltb q 4 below) (lt-ltb g (pool_words c.core.shape) (subst (λ (sh : Shape). g < pool_words sh) a.shape there)), tt)
+  pub may-look : (q g : ℕ) → q < pools_in_all → g < pool_words v.shape → May (Look q g) v
+  may-look q g below there c i w a = (and_from _ _ (lt-ltb q pools_in_all below) (lt-ltb g (pool_words c.core.shape) (subst (λ (sh : Shape). g < pool_words sh) a.shape there)), tt)
 
   pub may-read_count : May ReadCount v
   may-read_count c i w a = tt

@@ -3,13 +3,14 @@ use Rattle.std.proofs.Common.{ℕ, ◌≡◌, ◌+◌, List, [], ◌∷◌, ◌+
 use Rattle.std.proofs.lemmas.Bool.{and_parts, and_from, false≢true, or_from}
 use Rattle.std.proofs.lemmas.List.{append-nil}
 use Rattle.mark_core.specs.Bits.{has_bit}
+use Rattle.mark_core.specs.Cards.{block_cells}
 use Rattle.mark_core.specs.declared.kinds.Shape.{Shape}
 use Rattle.mark_core.specs.declared.kinds.Step.{Step}
 use Rattle.mark_core.specs.declared.kinds.Step.TheVariants.{Push, ReadField, SetMark, DirtyCard, Give, Credit, StoreLength}
 use Rattle.gc_table.specs.declared.view.Entry.{Entry}
 use Rattle.gc_table.specs.Log.{steps_of}
-use Rattle.packet_pools.specs.Seeking.{moves_packet, only_moves, NoOutput, some_event}
-use Rattle.packet_pools.specs.Counts.{marks_white, pushes, dirties, dirties_after_search, scans_object, searches_in_vain, count_of, only_scans, Counts}
+use Rattle.packet_pools.specs.Seeking.{moves_packet, only_moves, NoOutput, some_event, output_pools}
+use Rattle.packet_pools.specs.Counts.{marks_white, pushes, dirties, dirties_after_search, scans_object, searches_in_vain, count_of, only_scans, CountsMarked}
 use Rattle.packet_pools.specs.Orders.{each_after, some_end}
 use Rattle.gc_table.proofs.History.Log.{entry_of}
 use Rattle.packet_pools.proofs.Orders.{after-earlier, after-join, after-none, end-more, end-whole}
@@ -37,14 +38,14 @@ pub searched-none : (sh : Shape) (es : List Entry) → some_event dirties es ≡
 searched-none sh es n = after-none (some_end (searches_in_vain sh)) dirties [] es n
 
 -- a card that was dirtied right after a search in vain
-pub searched-one : (sh : Shape) (card n : ℕ) (xs es : List Entry) → es ≡ xs ++ entry_of (DirtyCard card) n ∷ [] → some_event dirties xs ≡ false → NoOutput sh xs → only_moves (0 ∷ 1 ∷ 2 ∷ []) xs ≡ true → dirties_after_search sh es ≡ true
+pub searched-one : (sh : Shape) (card n : ℕ) (xs es : List Entry) → es ≡ xs ++ entry_of (DirtyCard card) n ∷ [] → some_event dirties xs ≡ false → NoOutput sh xs → only_moves output_pools xs ≡ true → dirties_after_search sh es ≡ true
 searched-one sh card n xs es all quiet none moves =
     ap (dirties_after_search sh) all
     ∙ after-join (some_end (searches_in_vain sh)) dirties [] xs (entry_of (DirtyCard card) n ∷ []) (searched-none sh xs quiet)
     (and_from _ _ (end-whole (searches_in_vain sh) xs (and_from _ _ none moves)) refl)
 
 -- one part of a scan after another
-pub counts-join : (sh : Shape) (a b s k l r m n t : ℕ) (xs ys es : List Entry) → es ≡ xs ++ ys → a + b ≡ s → k + l ≡ r → m + n ≡ t → Counts sh a k m xs → Counts sh b l n ys → Counts sh s r t es
+pub counts-join : (sh : Shape) (a b s k l r m n t : ℕ) (xs ys es : List Entry) → es ≡ xs ++ ys → a + b ≡ s → k + l ≡ r → m + n ≡ t → CountsMarked sh a k m xs → CountsMarked sh b l n ys → CountsMarked sh s r t es
 counts-join sh a b s k l r m n t xs ys es all white kept lost f g =
     record {
       marked = ap (count_of marks_white) all ∙ (count-join marks_white xs ys ∙ ((λ i. f.marked i + g.marked i) ∙ white));
@@ -54,11 +55,11 @@ counts-join sh a b s k l r m n t xs ys es all white kept lost f g =
       scans = ap only_scans all ∙ scans-join xs ys f.scans g.scans;
     }
 
-pub counts-none : (sh : Shape) → Counts sh 0 0 0 []
+pub counts-none : (sh : Shape) → CountsMarked sh 0 0 0 []
 counts-none sh = record { marked = refl; pushed = refl; overflowed = refl; cause = refl; scans = refl }
 
 -- a step that moves a packet is none that counts
-idle : (step : Step) (found : ℕ) → moves_packet (0 ∷ 1 ∷ 2 ∷ []) step ≡ true → (marks_white step found ≡ false) × (pushes step found ≡ false) × (dirties step found ≡ false) × (scans_object step ≡ true)
+idle : (step : Step) (found : ℕ) → moves_packet output_pools step ≡ true → (marks_white step found ≡ false) × (pushes step found ≡ false) × (dirties step found ≡ false) × (scans_object step ≡ true)
 idle (SetMark c) found m = absurd (false≢true m)
 idle (DirtyCard card) found m = absurd (false≢true m)
 idle (Push p cell) found m = absurd (false≢true m)
@@ -66,14 +67,14 @@ idle (ReadField c i) found m = absurd (false≢true m)
 idle step found m = (refl, refl, refl, m)
 
 -- steps that move packets dirty no card
-pub quiet : (es : List Entry) → only_moves (0 ∷ 1 ∷ 2 ∷ []) es ≡ true → some_event dirties es ≡ false
+pub quiet : (es : List Entry) → only_moves output_pools es ≡ true → some_event dirties es ≡ false
 quiet [] m = refl
-quiet (e ∷ es) m = let h = and_parts (moves_packet (0 ∷ 1 ∷ 2 ∷ []) e.step) (only_moves (0 ∷ 1 ∷ 2 ∷ []) es) m in or_from _ _ (idle e.step e.found h.0).2 (quiet es h.1)
+quiet (e ∷ es) m = let h = and_parts (moves_packet output_pools e.step) (only_moves output_pools es) m in or_from _ _ (idle e.step e.found h.0).2 (quiet es h.1)
 
-pub counts-moves : (sh : Shape) (es : List Entry) → only_moves (0 ∷ 1 ∷ 2 ∷ []) es ≡ true → Counts sh 0 0 0 es
+pub counts-moves : (sh : Shape) (es : List Entry) → only_moves output_pools es ≡ true → CountsMarked sh 0 0 0 es
 counts-moves sh [] m = counts-none sh
 counts-moves sh (e ∷ es) m =
-    let h = and_parts (moves_packet (0 ∷ 1 ∷ 2 ∷ []) e.step) (only_moves (0 ∷ 1 ∷ 2 ∷ []) es) m in
+    let h = and_parts (moves_packet output_pools e.step) (only_moves output_pools es) m in
     let k = idle e.step e.found h.0 in
     let r = counts-moves sh es h.1 in
     record {
@@ -93,15 +94,15 @@ given-moves qs p b es e = moves-steps qs es ∙ (ap (all_move qs) e ∙ moving b
     moving false = refl
 
 -- a cell that was pushed
-pub counts-push : (sh : Shape) (p c n : ℕ) → Counts sh 0 1 0 (entry_of (Push p c) n ∷ [])
+pub counts-push : (sh : Shape) (p c n : ℕ) → CountsMarked sh 0 1 0 (entry_of (Push p c) n ∷ [])
 counts-push sh p c n = record { marked = refl; pushed = refl; overflowed = refl; cause = refl; scans = refl }
 
 -- a field that was read
-pub counts-read : (sh : Shape) (c i n : ℕ) → Counts sh 0 0 0 (entry_of (ReadField c i) n ∷ [])
+pub counts-read : (sh : Shape) (c i n : ℕ) → CountsMarked sh 0 0 0 (entry_of (ReadField c i) n ∷ [])
 counts-read sh c i n = record { marked = refl; pushed = refl; overflowed = refl; cause = refl; scans = refl }
 
 -- a cell that was tried
-pub counts-mark : (sh : Shape) (c n : ℕ) (b : Bool) → has_bit n (c % 64) ≡ b → Counts sh (cond b 0 1) 0 0 (entry_of (SetMark c) n ∷ [])
+pub counts-mark : (sh : Shape) (c n : ℕ) (b : Bool) → has_bit n (c % block_cells) ≡ b → CountsMarked sh (cond b 0 1) 0 0 (entry_of (SetMark c) n ∷ [])
 counts-mark sh c n b e =
     record { marked = ap (λ d. cond (not d) 1 0 + 0) e ∙ either b; pushed = refl; overflowed = refl; cause = refl; scans = refl }
   where
@@ -110,7 +111,7 @@ counts-mark sh c n b e =
     either false = refl
 
 -- a cell that found no packet, after a search that found none
-pub counts-lost : (sh : Shape) (card n : ℕ) (xs es : List Entry) → es ≡ xs ++ (entry_of (DirtyCard card) n ∷ []) → NoOutput sh xs → only_moves (0 ∷ 1 ∷ 2 ∷ []) xs ≡ true → Counts sh 0 0 1 es
+pub counts-lost : (sh : Shape) (card n : ℕ) (xs es : List Entry) → es ≡ xs ++ (entry_of (DirtyCard card) n ∷ []) → NoOutput sh xs → only_moves output_pools xs ≡ true → CountsMarked sh 0 0 1 es
 counts-lost sh card n xs es all none moves =
     let c = counts-moves sh xs moves in
     let one : List Entry = entry_of (DirtyCard card) n ∷ [] in

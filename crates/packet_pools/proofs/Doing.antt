@@ -11,48 +11,48 @@ use Rattle.gc_table.specs.Taking.{after, Finds}
 use Rattle.packet_pools.specs.declared.held.Held.{Held}
 use Rattle.packet_pools.specs.OnlyTraced.{OnlyTracedBy, OnlyTraced}
 use Rattle.packet_pools.specs.Tracing.{Traces}
-use Rattle.packet_pools.specs.Hands.{IsHeld}
-use Rattle.packet_pools.proofs.TracedSteps.{later-step, later-to, seen-found, seen-stored}
+use Rattle.packet_pools.specs.Hands.{HoldsPacket}
+use Rattle.packet_pools.proofs.TracedSteps.{traced-step, traced-to, seen-found, seen-stored}
 use Rattle.packet_pools.proofs.Conditions.{traces-later}
 use Rattle.packet_pools.proofs.InHand.{known-set, known-length}
 
 module _ (v w : View) (n : ℕ) where
-  pub later-reserve : Finds Reserve n v → w ≡ after Reserve n v → OnlyTraced v w
-  later-reserve f e = later-to v w Reserve n e (later-step v Reserve n refl refl refl (seen-found v Reserve n refl f) refl refl)
+  pub traced-reserve : Finds Reserve n v → w ≡ after Reserve n v → OnlyTraced v w
+  traced-reserve f e = traced-to v w Reserve n e (traced-step v Reserve n refl refl refl (seen-found v Reserve n refl f) refl refl)
 
-  pub later-take : (q p : ℕ) → Finds (Take q p) n v → w ≡ after (Take q p) n v → OnlyTraced v w
-  later-take q p f e = later-to v w (Take q p) n e (later-step v (Take q p) n refl refl refl (seen-found v (Take q p) n refl f) refl refl)
+  pub traced-take : (q p : ℕ) → Finds (Take q p) n v → w ≡ after (Take q p) n v → OnlyTraced v w
+  traced-take q p f e = traced-to v w (Take q p) n e (traced-step v (Take q p) n refl refl refl (seen-found v (Take q p) n refl f) refl refl)
 
-  pub later-give : (p : ℕ) (d : Bool) → Finds (Give p d) n v → w ≡ after (Give p d) n v → OnlyTraced v w
-  later-give p d f e = later-to v w (Give p d) n e (later-step v (Give p d) n refl refl refl (seen-found v (Give p d) n refl f) refl refl)
+  pub traced-give : (p : ℕ) (d : Bool) → Finds (Give p d) n v → w ≡ after (Give p d) n v → OnlyTraced v w
+  traced-give p d f e = traced-to v w (Give p d) n e (traced-step v (Give p d) n refl refl refl (seen-found v (Give p d) n refl f) refl refl)
 
-  pub later-credit : Finds Credit n v → w ≡ after Credit n v → OnlyTraced v w
-  later-credit f e = later-to v w Credit n e (later-step v Credit n refl refl refl (seen-found v Credit n refl f) refl refl)
+  pub traced-credit : Finds Credit n v → w ≡ after Credit n v → OnlyTraced v w
+  traced-credit f e = traced-to v w Credit n e (traced-step v Credit n refl refl refl (seen-found v Credit n refl f) refl refl)
 
-  pub later-push : (p x : ℕ) → n ≡ written v.shape v.state (Push p x) 0 → may_push v.state x ≡ true → w ≡ after (Push p x) n v → OnlyTraced v w
-  later-push p x f may e = later-to v w (Push p x) n e (later-step v (Push p x) n refl refl refl (seen-stored v (Push p x) n refl f) refl may)
+  pub traced-push : (p x : ℕ) → n ≡ written v.shape v.state (Push p x) 0 → may_push v.state x ≡ true → w ≡ after (Push p x) n v → OnlyTraced v w
+  traced-push p x f may e = traced-to v w (Push p x) n e (traced-step v (Push p x) n refl refl refl (seen-stored v (Push p x) n refl f) refl may)
 
-  pub later-pop : (p : ℕ) → Finds (Pop p) n v → is_some v.state.popped ≡ false → w ≡ after (Pop p) n v → OnlyTraced v w
-  later-pop p f none e = later-to v w (Pop p) n e (later-step v (Pop p) n refl refl refl (seen-found v (Pop p) n refl f) refl (not_from_false _ none))
+  pub traced-pop : (p : ℕ) → Finds (Pop p) n v → is_some v.state.popped ≡ false → w ≡ after (Pop p) n v → OnlyTraced v w
+  traced-pop p f none e = traced-to v w (Pop p) n e (traced-step v (Pop p) n refl refl refl (seen-found v (Pop p) n refl f) refl (not_from_false _ none))
 
-  pub later-look : (q g : ℕ) → Finds (Look q g) n v → w ≡ after (Look q g) n v → OnlyTraced v w
-  later-look q g f e = later-to v w (Look q g) n e (later-step v (Look q g) n refl refl refl (seen-found v (Look q g) n refl f) refl refl)
+  pub traced-look : (q g : ℕ) → Finds (Look q g) n v → w ≡ after (Look q g) n v → OnlyTraced v w
+  traced-look q g f e = traced-to v w (Look q g) n e (traced-step v (Look q g) n refl refl refl (seen-found v (Look q g) n refl f) refl refl)
 
-  pub later-read_count : Finds ReadCount n v → w ≡ after ReadCount n v → OnlyTraced v w
-  later-read_count f e = later-to v w ReadCount n e (later-step v ReadCount n refl refl refl (seen-found v ReadCount n refl f) refl refl)
+  pub traced-read_count : Finds ReadCount n v → w ≡ after ReadCount n v → OnlyTraced v w
+  traced-read_count f e = traced-to v w ReadCount n e (traced-step v ReadCount n refl refl refl (seen-found v ReadCount n refl f) refl refl)
 
-  pub later-store_length : (p : ℕ) → n ≡ written v.shape v.state (StoreLength p) 0 → w ≡ after (StoreLength p) n v → OnlyTraced v w
-  later-store_length p f e = later-to v w (StoreLength p) n e (later-step v (StoreLength p) n refl refl refl (seen-stored v (StoreLength p) n refl f) refl refl)
+  pub traced-store_length : (p : ℕ) → n ≡ written v.shape v.state (StoreLength p) 0 → w ≡ after (StoreLength p) n v → OnlyTraced v w
+  traced-store_length p f e = traced-to v w (StoreLength p) n e (traced-step v (StoreLength p) n refl refl refl (seen-stored v (StoreLength p) n refl f) refl refl)
 
-  pub later-read_length : (p : ℕ) → Finds (ReadLength p) n v → w ≡ after (ReadLength p) n v → OnlyTraced v w
-  later-read_length p f e = later-to v w (ReadLength p) n e (later-step v (ReadLength p) n refl refl refl (seen-found v (ReadLength p) n refl f) refl refl)
+  pub traced-read_length : (p : ℕ) → Finds (ReadLength p) n v → w ≡ after (ReadLength p) n v → OnlyTraced v w
+  traced-read_length p f e = traced-to v w (ReadLength p) n e (traced-step v (ReadLength p) n refl refl refl (seen-found v (ReadLength p) n refl f) refl refl)
 
 -- the seat traces on
 pub traces-on : {b : Bool} (v w : View) → OnlyTracedBy b v w → Traces v → w.state.reserved ≡ v.state.reserved → w.state.credit ≡ v.state.credit → Traces w
 traces-on v w k t r c = record { may = traces-later v w k t.may; unreserved = r ∙ t.unreserved; uncredited = c ∙ t.uncredited }
 
 -- the packet in hand has another length
-pub held-again : (v w : View) (h : Held) (n : ℕ) (b : Bool) → IsHeld h v → w.shape ≡ v.shape → w.state.held ≡ set_length v.state.held h.packet (length_in_hand v.state.held h.packet + n) b → h.length + n ≤ v.shape.entries → IsHeld (record h { length = h.length + n }) w
+pub held-again : (v w : View) (h : Held) (n : ℕ) (b : Bool) → HoldsPacket h v → w.shape ≡ v.shape → w.state.held ≡ set_length v.state.held h.packet (length_in_hand v.state.held h.packet + n) b → h.length + n ≤ v.shape.entries → HoldsPacket (record h { length = h.length + n }) w
 held-again v w h n b k shape held fits =
     record {
       there = subst (λ sh. h.packet < sh) (ap (λ s. s.packets) (sym shape)) k.there;
@@ -60,7 +60,7 @@ held-again v w h n b k shape held fits =
       fits = subst (λ m. h.length + n ≤ m) (ap (λ s. s.entries) (sym shape)) fits;
     }
 
-pub held-less : (v w : View) (h : Held) (b : Bool) → IsHeld h v → w.shape ≡ v.shape → w.state.held ≡ set_length v.state.held h.packet (length_in_hand v.state.held h.packet - 1) b → IsHeld (record h { length = h.length - 1 }) w
+pub held-less : (v w : View) (h : Held) (b : Bool) → HoldsPacket h v → w.shape ≡ v.shape → w.state.held ≡ set_length v.state.held h.packet (length_in_hand v.state.held h.packet - 1) b → HoldsPacket (record h { length = h.length - 1 }) w
 held-less v w h b k shape held =
     record {
       there = subst (λ sh. h.packet < sh) (ap (λ s. s.packets) (sym shape)) k.there;

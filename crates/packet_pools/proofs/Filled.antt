@@ -5,7 +5,7 @@ use Rattle.mark_core.specs.declared.kinds.Shape.{Shape}
 use Rattle.mark_core.specs.declared.seat.SeatState.{SeatState}
 use Rattle.gc_table.specs.declared.view.View.{View}
 use Rattle.packet_pools.specs.declared.held.Held.{Held}
-use Rattle.packet_pools.specs.Hands.{IsHeld, free_slots}
+use Rattle.packet_pools.specs.Hands.{HoldsPacket, free_slots}
 use Rattle.packet_pools.specs.Gains.{Takes}
 use Rattle.packet_pools.specs.Scanning.{Fills}
 use Rattle.packet_pools.proofs.InHand.{drop-set, known-held, with-other}
@@ -13,7 +13,7 @@ use Rattle.packet_pools.proofs.Doing.{held-again}
 use Rattle.packet_pools.proofs.Exchanged.{drop-free, drop-frees, exchanged, held-apart, known-came, set-free, set-frees, with-frees}
 
 -- a packet is held as before
-pub held-same : (v w : View) (h : Held) → w.shape ≡ v.shape → known_length w.state.held h.packet ≡ known_length v.state.held h.packet → IsHeld h v → IsHeld h w
+pub held-same : (v w : View) (h : Held) → w.shape ≡ v.shape → known_length w.state.held h.packet ≡ known_length v.state.held h.packet → HoldsPacket h v → HoldsPacket h w
 held-same v w h shape known k =
     record {
       there = subst (λ (s : Shape). h.packet < s.packets) (sym shape) k.there;
@@ -22,12 +22,12 @@ held-same v w h shape known k =
     }
 
 -- nothing was pushed
-pub fills-same : (v w : View) (h : Held) → w.shape ≡ v.shape → w.state.held ≡ v.state.held → IsHeld h v → has_free_slot v.state.held ≡ true → Fills h h v w
+pub fills-same : (v w : View) (h : Held) → w.shape ≡ v.shape → w.state.held ≡ v.state.held → HoldsPacket h v → has_free_slot v.state.held ≡ true → Fills h h v w
 fills-same v w h shape e k free =
     record { held = held-same v w h shape (ap (λ hs. known_length hs h.packet) e) k; free = ap has_free_slot e ∙ free; frees = (let n : free_slots w.state.held ≡ free_slots v.state.held = ap free_slots e in omega (arith, n)); slots = ap (λ hs. drop_packet hs h.packet) e }
 
 -- a cell was pushed
-pub fills-more : (v w : View) (h : Held) (b : Bool) → w.shape ≡ v.shape → w.state.held ≡ set_length v.state.held h.packet (length_in_hand v.state.held h.packet + 1) b → h.length + 1 ≤ v.shape.entries → IsHeld h v → has_free_slot v.state.held ≡ true → Fills h (record h { length = h.length + 1 }) v w
+pub fills-more : (v w : View) (h : Held) (b : Bool) → w.shape ≡ v.shape → w.state.held ≡ set_length v.state.held h.packet (length_in_hand v.state.held h.packet + 1) b → h.length + 1 ≤ v.shape.entries → HoldsPacket h v → has_free_slot v.state.held ≡ true → Fills h (record h { length = h.length + 1 }) v w
 fills-more v w h b shape e fits k free =
     record {
       held = held-again v w h 1 b k shape e fits;
@@ -40,14 +40,14 @@ pub fills-join : (u v w : View) (h k l : Held) → Fills h k u v → Fills k l v
 fills-join u v w h k l a b = record { held = b.held; free = b.free; frees = omega (arith, a.frees, b.frees); slots = b.slots ∙ a.slots }
 
 -- another packet was taken
-module _ (v w : View) (qs : List ℕ) (h k : Held) (shape : w.shape ≡ v.shape) (mine : IsHeld h v) (t : Takes qs k v w) where
+module _ (v w : View) (qs : List ℕ) (h k : Held) (shape : w.shape ≡ v.shape) (mine : HoldsPacket h v) (t : Takes qs k v w) where
   pub apart : k.packet ≢ h.packet
   apart = held-apart v.state.held h.packet k.packet h.length mine.known t.unheld
 
-  pub kept : IsHeld h w
+  pub kept : HoldsPacket h w
   kept = held-same v w h shape (ap (λ (s : SeatState). known_length s.held h.packet) t.state ∙ with-other v.state.held k.packet k.length h.packet (λ e. apart (sym e))) mine
 
-  -- and the first one went back
+  -- another packet was taken, and the first one was given back
   pub fills-other : has_free_slot v.state.held ≡ true → (x : View) → x.shape ≡ w.shape → x.state ≡ record w.state { held = drop_packet w.state.held h.packet } → Fills h k v x
   fills-other room x same e =
       record {

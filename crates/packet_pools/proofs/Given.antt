@@ -8,8 +8,8 @@ use Rattle.gc_table.specs.declared.view.View.{View}
 use Rattle.gc_table.specs.Seats.{Found, Stored}
 use Rattle.packet_pools.specs.OnlyTraced.{OnlyTraced}
 use Rattle.packet_pools.specs.Tracing.{Traces}
-use Rattle.packet_pools.proofs.TracedSteps.{later-join}
-use Rattle.packet_pools.proofs.Doing.{later-store_length, later-give, later-credit, traces-on}
+use Rattle.packet_pools.proofs.TracedSteps.{traced-join}
+use Rattle.packet_pools.proofs.Doing.{traced-store_length, traced-give, traced-credit, traces-on}
 use Rattle.packet_pools.proofs.InHand.{drop-set, known-entry, known-held, known-length, known-set, stored-set}
 
 module _ (s : SeatState) (p n : ℕ) (k : known_length s.held p ≡ Some n) where
@@ -51,7 +51,7 @@ module _ {v w x : View} {p n m : ℕ} {d : Bool} (t : Traces v) (k : known_lengt
       ap (λ (z : View). z.state) b.0 ∙ ap (λ (s : SeatState). record s { held = drop_packet s.held p; credit = not (has_entry s.held p) }) w_is
 
   pub gave-later : OnlyTraced v x
-  gave-later = later-join v w x (later-store_length v w _ p refl a) (later-give w x m p d b.1 b.0)
+  gave-later = traced-join v w x (traced-store_length v w _ p refl a) (traced-give w x m p d b.1 b.0)
 
   -- a packet with entries needs no more
   pub gave-full : 0 < n → x.state ≡ record v.state { held = drop_packet v.state.held p }
@@ -66,7 +66,7 @@ module _ {v w x y : View} {p n m j : ℕ} {d : Bool} (t : Traces v) (k : known_l
   counted-state = ap (λ (z : View). z.state) e.0 ∙ (ap (λ (s : SeatState). record s { credit = false; reserved = false }) (gave-state t k a b) ∙ given-empty v.state p n k t.uncredited t.unreserved)
 
   pub counted-later : OnlyTraced v y
-  counted-later = later-join v x y (gave-later t k a b) (later-credit x y j e.1 e.0)
+  counted-later = traced-join v x y (gave-later t k a b) (traced-credit x y j e.1 e.0)
 
   pub counted-traces : Traces y
   counted-traces = traces-on v y counted-later t (ap (λ (z : View). z.state.reserved) e.0 ∙ sym t.unreserved) (ap (λ (z : View). z.state.credit) e.0 ∙ sym t.uncredited)

@@ -1,6 +1,7 @@
 -- What a seat that is alone has noted as marked stays marked while it traces: by the steps that it takes alone.
 use Rattle.std.proofs.Common.{ℕ, ◌≡◌, ◌/◌, ◌⊎◌, inl, inr, refl, true, false}
 use Rattle.std.proofs.lemmas.Bool.{false≢true}
+use Rattle.mark_core.specs.Cards.{block_cells}
 use Rattle.mark_core.specs.Effects.{place, seat_after}
 use Rattle.mark_core.specs.Notes.{same_place}
 use Rattle.mark_core.specs.Places.{mark_at}
@@ -26,10 +27,10 @@ tracing-alone step p = refl
 abbrev pub AloneMarked : ℕ → View → Type 0
 AloneMarked c v = (v.state.alone ≡ true) × IsNotedMarked v c
 
-other-step : (c : ℕ) (x : View) (step : Step) (n : ℕ) → traces_cells step ≡ true → IsSeen step n x → AloneMarked c x → (same_place (place x.shape x.state step) (mark_at (c / 64)) ≡ false) ⊎ (is_load step ≡ true) → AloneMarked c (after step n x)
+other-step : (c : ℕ) (x : View) (step : Step) (n : ℕ) → traces_cells step ≡ true → IsSeen step n x → AloneMarked c x → (same_place (place x.shape x.state step) (mark_at (c / block_cells)) ≡ false) ⊎ (is_load step ≡ true) → AloneMarked c (after step n x)
 other-step c x step n p s q spared =
     let alone = alone-stays x.shape x.state step n (tracing-alone step p) q.0 in
-    let note = known-step x step n (mark_at (c / 64)) q.1.0 spared s (alone-steady (seat_after x.shape x.state step n) (mark_at (c / 64)) q.1.0 refl alone) q.1.1 in
+    let note = known-step x step n (mark_at (c / block_cells)) q.1.0 spared s (alone-steady (seat_after x.shape x.state step n) (mark_at (c / block_cells)) q.1.0 refl alone) q.1.1 in
     (alone, (q.1.0, note.0, q.1.2))
 
 marked-step : (c : ℕ) (x : View) (step : Step) (n : ℕ) → traces_cells step ≡ true → IsSeen step n x → AloneMarked c x → AloneMarked c (after step n x)

@@ -3,6 +3,7 @@ use Rattle.std.proofs.Common.{ℕ, ◌≡◌, ◌<◌, ◌*◌, List, [], ◌∷
 use Rattle.std.proofs.lemmas.Bool.{and_from, true≢false}
 use Rattle.mark_core.specs.Layout.{pool_words}
 use Rattle.mark_core.specs.Held.{holds}
+use Rattle.mark_core.specs.Numbers.{word_bits}
 use Rattle.mark_core.specs.declared.kinds.Shape.{Shape}
 use Rattle.mark_core.specs.declared.seat.SeatState.{SeatState}
 use Rattle.gc_table.specs.declared.view.Entry.{Entry}
@@ -12,12 +13,12 @@ use Rattle.packet_pools.specs.OnlyTraced.{OnlyTraced}
 use Rattle.gc_table.specs.Log.{events}
 use Rattle.packet_pools.specs.Hands.{with_packet}
 use Rattle.packet_pools.specs.Seeking.{all_missed, gets, gets_from, was_missed, was_missed_in, was_full, was_got, only_moves}
-use Rattle.packet_pools.specs.Gains.{ComesFrom, Takes, Gains, Misses}
+use Rattle.packet_pools.specs.Gains.{ComesFrom, Takes, Gains, MissesPackets}
 use Rattle.gc_table.proofs.History.Log.{events-join}
 use Rattle.packet_pools.proofs.AllMissed.{all-missed-left, all-missed-right, all-range}
 use Rattle.packet_pools.proofs.Searches.{missed-left, missed-right, none-got, some-parts, some-right, first-pool, moves-join, next-pools}
 
-pub below-words : (sh : Shape) (p : ℕ) → p < sh.packets → p < 64 * pool_words sh
+pub below-words : (sh : Shape) (p : ℕ) → p < sh.packets → p < word_bits * pool_words sh
 below-words sh p l = omega (arith, l)
 
 without-room : (a f : Bool) → (a || (false && f)) ≡ true → a ≡ true
@@ -25,10 +26,10 @@ without-room true f e = refl
 without-room false f e = e
 
 -- a whole pool without a packet
-pub pool-missed : (sh : Shape) (q : ℕ) (es : List Entry) → Misses sh q false 0 (64 * pool_words sh) es → (p : ℕ) → p < sh.packets → was_missed q p es ≡ true
+pub pool-missed : (sh : Shape) (q : ℕ) (es : List Entry) → MissesPackets sh q false 0 (word_bits * pool_words sh) es → (p : ℕ) → p < sh.packets → was_missed q p es ≡ true
 pool-missed sh q es m p l = without-room (was_missed q p es) (was_full sh.entries p es) (m.all p (omega arith) (below-words sh p l) l)
 
-pub all-missed : (sh : Shape) (q : ℕ) (es : List Entry) → Misses sh q false 0 (64 * pool_words sh) es → all_missed sh (q ∷ []) es ≡ true
+pub all-missed : (sh : Shape) (q : ℕ) (es : List Entry) → MissesPackets sh q false 0 (word_bits * pool_words sh) es → all_missed sh (q ∷ []) es ≡ true
 all-missed sh q es m = all-range (λ p. was_missed_in (q ∷ []) p es) 0 sh.packets (λ p l. and_from _ _ (pool-missed sh q es m p (omega (arith, l))) refl)
 
 -- where a packet came from, with events before it that got none
@@ -48,10 +49,10 @@ takes-first q qs room h v w r g =
     }
 
 -- a packet of a later pool, where a whole search of the first found none
-pub takes-next : (sh : Shape) (q : ℕ) (qs : List ℕ) (h : Held) (v u w : View) → v.shape ≡ sh → OnlyTraced v u → OnlyTraced u w → u.state ≡ v.state → Misses sh q false 0 (64 * pool_words sh) (events v u) → Takes qs h u w → Takes (q ∷ qs) h v w
+pub takes-next : (sh : Shape) (q : ℕ) (qs : List ℕ) (h : Held) (v u w : View) → v.shape ≡ sh → OnlyTraced v u → OnlyTraced u w → u.state ≡ v.state → MissesPackets sh q false 0 (word_bits * pool_words sh) (events v u) → Takes qs h u w → Takes (q ∷ qs) h v w
 takes-next sh q qs h v u w shape a b e m t =
     let es = events-join v u w a.log b.log in
-    let none : (p : ℕ) → was_got p (events v u) ≡ false = λ p. none-got sh q 0 (64 * pool_words sh) p (events v u) m in
+    let none : (p : ℕ) → was_got p (events v u) ≡ false = λ p. none-got sh q 0 (word_bits * pool_words sh) p (events v u) m in
     let missed : all_missed v.shape (q ∷ []) (events v u) ≡ true = subst (λ (s : Shape). all_missed s (q ∷ []) (events v u) ≡ true) (sym shape) (all-missed sh q (events v u) m) in
     record {
       unheld = ap (λ (s : SeatState). holds s.held h.packet) (sym e) ∙ t.unheld;
@@ -65,7 +66,7 @@ takes-next sh q qs h v u w shape a b e m t =
     }
 
 -- events around a search that take nothing
-pub misses-within : (sh : Shape) (q : ℕ) (room : Bool) (lo hi : ℕ) (xs es ys : List Entry) → ((p : ℕ) → was_got p xs ≡ false) → ((p : ℕ) → was_got p ys ≡ false) → only_moves (q ∷ []) xs ≡ true → only_moves (q ∷ []) ys ≡ true → Misses sh q room lo hi es → Misses sh q room lo hi (xs ++ (es ++ ys))
+pub misses-within : (sh : Shape) (q : ℕ) (room : Bool) (lo hi : ℕ) (xs es ys : List Entry) → ((p : ℕ) → was_got p xs ≡ false) → ((p : ℕ) → was_got p ys ≡ false) → only_moves (q ∷ []) xs ≡ true → only_moves (q ∷ []) ys ≡ true → MissesPackets sh q room lo hi es → MissesPackets sh q room lo hi (xs ++ (es ++ ys))
 misses-within sh q room lo hi xs es ys nx ny mx my m =
     record {
       all = λ p l h low. missed-right sh.entries q room p xs (es ++ ys) (nx p) (missed-left sh.entries q room p es ys (m.all p l h low));

@@ -11,10 +11,10 @@ use Rattle.gc_table.specs.declared.view.View.{View}
 use Rattle.gc_table.specs.Taking.{after}
 use Rattle.packet_pools.specs.declared.held.Held.{Held}
 use Rattle.packet_pools.specs.Scanning.{InHand, Fills, Pushes, Settles}
-use Rattle.packet_pools.specs.Hands.{IsHeld, free_slots}
+use Rattle.packet_pools.specs.Hands.{HoldsPacket, free_slots}
 use Rattle.packet_pools.proofs.Filled.{fills-join, fills-more, fills-same}
 use Rattle.packet_pools.proofs.Settled.{settles-dirty, settles-join, settles-same}
-use Rattle.mark_core.specs.Cards.{card_of}
+use Rattle.mark_core.specs.Cards.{block_cells, card_of}
 
 abbrev pub Owed : SeatState → SeatState → Type 0
 Owed s t = (t.owes ≡ s.owes) ⊎ (t.owes ≡ None)
@@ -54,7 +54,7 @@ module _ (v w : View) (h : Held) (c n : ℕ) (e : w ≡ after (Push h.packet c) 
             ∙ (ap (λ (o : Option ℕ). cond (is_the o c) None o) hand.fresh ∙ ap (λ (b : Bool). cond b None (Some c)) (eq-eqb c c refl));
       }
 
-  pub pushed : h.length + 1 ≤ v.shape.entries → IsHeld h v → has_free_slot v.state.held ≡ true → Pushes h (record h { length = h.length + 1 }) v.state.scan v.state.cleaning v w
+  pub pushed : h.length + 1 ≤ v.shape.entries → HoldsPacket h v → has_free_slot v.state.held ≡ true → Pushes h (record h { length = h.length + 1 }) v.state.scan v.state.cleaning v w
   pushed fits k free =
       record {
         packet = fills-more v w h false (ap (λ (z : View). z.shape) e) (ap (λ (z : View). z.state.held) e) fits k free;
@@ -80,7 +80,7 @@ module _ (v w : View) (h : Held) (c n : ℕ) (e : w ≡ after (DirtyCard (card_o
   paid true o = inr o
   paid false o = inl o
 
-  pub dirtied : IsHeld h v → has_free_slot v.state.held ≡ true → Pushes h h v.state.scan v.state.cleaning v w
+  pub dirtied : HoldsPacket h v → has_free_slot v.state.held ≡ true → Pushes h h v.state.scan v.state.cleaning v w
   dirtied k free =
       record {
         packet = fills-same v w h (ap (λ (z : View). z.shape) e) (ap (λ (z : View). z.state.held) e) k free;
@@ -91,7 +91,7 @@ module _ (v w : View) (h : Held) (c n : ℕ) (e : w ≡ after (DirtyCard (card_o
       }
 
 -- the loaded cell was marked before
-pub black : (v w : View) (h : Held) (c n : ℕ) → w ≡ after (SetMark c) n v → has_bit n (c % 64) ≡ true → InHand (Some c) None v.state → IsHeld h v → has_free_slot v.state.held ≡ true → Pushes h h v.state.scan v.state.cleaning v w
+pub black : (v w : View) (h : Held) (c n : ℕ) → w ≡ after (SetMark c) n v → has_bit n (c % block_cells) ≡ true → InHand (Some c) None v.state → HoldsPacket h v → has_free_slot v.state.held ≡ true → Pushes h h v.state.scan v.state.cleaning v w
 black v w h c n e bit hand k free =
     record {
       packet = fills-same v w h (ap (λ (z : View). z.shape) e) (ap (λ (z : View). z.state.held) e) k free;
@@ -107,7 +107,7 @@ black v w h c n e bit hand k free =
     }
 
 -- it was white, and is marked now
-pub white : (v w : View) (c n : ℕ) → w ≡ after (SetMark c) n v → has_bit n (c % 64) ≡ false → InHand (Some c) None v.state → InHand None (Some c) w.state
+pub white : (v w : View) (c n : ℕ) → w ≡ after (SetMark c) n v → has_bit n (c % block_cells) ≡ false → InHand (Some c) None v.state → InHand None (Some c) w.state
 white v w c n e bit hand =
     record {
       popped = ap (λ (z : View). z.state.popped) e ∙ hand.popped;

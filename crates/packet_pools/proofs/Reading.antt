@@ -6,8 +6,8 @@ use Rattle.mark_core.specs.Bits.{cell_of}
 use Rattle.mark_core.specs.declared.kinds.Step.{Step}
 use Rattle.mark_core.specs.declared.kinds.Step.TheVariants.{ReadField, SetMark}
 use Rattle.gc_table.specs.declared.view.Entry.{Entry}
-use Rattle.packet_pools.specs.Seeking.{moves_packet, only_moves}
-use Rattle.packet_pools.specs.Fields.{fields_read, cells_named, cells_asked, picked, Asks, Follows, fields_from}
+use Rattle.packet_pools.specs.Seeking.{moves_packet, only_moves, output_pools}
+use Rattle.packet_pools.specs.Fields.{fields_read, cells_named, cells_asked, picked, AsksToMark, Follows, fields_from}
 use Rattle.gc_table.proofs.History.Log.{entry_of}
 
 pub picked-join : {X : Type 0} (f : Step → ℕ → List X) (xs ys : List Entry) → picked f (xs ++ ys) ≡ picked f xs ++ picked f ys
@@ -15,20 +15,20 @@ picked-join f [] ys = refl
 picked-join f (x ∷ xs) ys = ap (λ l. f x.step x.found ++ l) (picked-join f xs ys) ∙ sym (append_assoc (f x.step x.found) (picked f xs) (picked f ys))
 
 -- a step that moves a packet reads and marks nothing
-idle : (step : Step) (found : ℕ) → moves_packet (0 ∷ 1 ∷ 2 ∷ []) step ≡ true → (fields_read step found ≡ []) × (cells_named step found ≡ []) × (cells_asked step found ≡ [])
+idle : (step : Step) (found : ℕ) → moves_packet output_pools step ≡ true → (fields_read step found ≡ []) × (cells_named step found ≡ []) × (cells_asked step found ≡ [])
 idle (ReadField c i) found m = absurd (false≢true m)
 idle (SetMark c) found m = absurd (false≢true m)
 idle step found m = (refl, refl, refl)
 
-pub asks-moves : (es : List Entry) → only_moves (0 ∷ 1 ∷ 2 ∷ []) es ≡ true → Asks [] es
+pub asks-moves : (es : List Entry) → only_moves output_pools es ≡ true → AsksToMark [] es
 asks-moves [] m = record { read = refl; named = refl; asked = refl }
 asks-moves (e ∷ es) m =
-    let h = and_parts (moves_packet (0 ∷ 1 ∷ 2 ∷ []) e.step) (only_moves (0 ∷ 1 ∷ 2 ∷ []) es) m in
+    let h = and_parts (moves_packet output_pools e.step) (only_moves output_pools es) m in
     let k = idle e.step e.found h.0 in
     let r = asks-moves es h.1 in
     record { read = λ i. k.0 i ++ r.read i; named = λ i. k.1 i ++ r.named i; asked = λ i. k.2 i ++ r.asked i }
 
-pub asks-join : (cs ds : List ℕ) (xs ys es : List Entry) → es ≡ xs ++ ys → Asks cs xs → Asks ds ys → Asks (cs ++ ds) es
+pub asks-join : (cs ds : List ℕ) (xs ys es : List Entry) → es ≡ xs ++ ys → AsksToMark cs xs → AsksToMark ds ys → AsksToMark (cs ++ ds) es
 asks-join cs ds xs ys es all a b =
     record {
       read = ap (picked fields_read) all ∙ (picked-join fields_read xs ys ∙ (λ i. a.read i ++ b.read i));
@@ -50,7 +50,7 @@ pub follows-nil : (c i n : ℕ) (es : List Entry) → es ≡ entry_of (ReadField
 follows-nil c i n es all e = record { read = ap (picked fields_read) all; asked = ap (picked cells_asked) all ∙ sym (ap (picked cells_named) all ∙ ap (λ (m : ℕ). cond (m == 0) [] (cell_of m ∷ []) ++ []) e) }
 
 -- a field that refers to a cell, which then is to be marked
-pub follows-cell : (c i n : ℕ) (ys es : List Entry) → es ≡ entry_of (ReadField c i) n ∷ ys → (n == 0) ≡ false → Asks (cell_of n ∷ []) ys → Follows ((c, i) ∷ []) es
+pub follows-cell : (c i n : ℕ) (ys es : List Entry) → es ≡ entry_of (ReadField c i) n ∷ ys → (n == 0) ≡ false → AsksToMark (cell_of n ∷ []) ys → Follows ((c, i) ∷ []) es
 follows-cell c i n ys es all e a =
     record {
       read = ap (picked fields_read) all ∙ ap (λ l. (c, i) ∷ l) a.read;

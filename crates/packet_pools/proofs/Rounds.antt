@@ -11,7 +11,7 @@ use Rattle.mark_core.specs.declared.seat.SeatState.{SeatState}
 use Rattle.gc_table.specs.declared.view.View.{View}
 use Rattle.packet_pools.specs.declared.held.Held.{Held}
 use Rattle.packet_pools.specs.Scanning.{InHand, Pushes, Settles, scan_end, cleaning_end}
-use Rattle.packet_pools.specs.Hands.{IsHeld}
+use Rattle.packet_pools.specs.Hands.{HoldsPacket}
 use Rattle.packet_pools.proofs.Filled.{fills-same}
 use Rattle.packet_pools.proofs.Settled.{settles-same, settles-without, settles-left, without-left, without-twice}
 use Rattle.packet_pools.proofs.Pushed.{pushes-join}
@@ -32,7 +32,7 @@ round u v w h k l c next i le a b =
     (cleaned-more c (nat_lt next i) u.state.cleaning v.state.cleaning a.cleaning))
 
 -- the first round
-pub starts : (v : View) (h : Held) (c next : ℕ) → v.state.scan ≡ Some (c, next) → InHand None None v.state → IsHeld h v → has_free_slot v.state.held ≡ true → Pushes h h (Some (c, next)) (cleaned c next next v.state.cleaning) v v
+pub starts : (v : View) (h : Held) (c next : ℕ) → v.state.scan ≡ Some (c, next) → InHand None None v.state → HoldsPacket h v → has_free_slot v.state.held ≡ true → Pushes h h (Some (c, next)) (cleaned c next next v.state.cleaning) v v
 starts v h c next scan hand k free =
     record {
       packet = fills-same v v h refl refl k free;

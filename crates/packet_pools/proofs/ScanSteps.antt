@@ -19,8 +19,8 @@ use Rattle.packet_pools.specs.OnlyTraced.{OnlyTraced, OnlyCleaned}
 use Rattle.packet_pools.specs.Tracing.{traces, notes_drain}
 use Rattle.packet_pools.specs.Scanning.{InHand}
 use Rattle.packet_pools.proofs.Conditions.{may-trace}
-use Rattle.packet_pools.proofs.TracedSteps.{cleaned-step, cleaned-to, later-step, later-read, later-to, seen-found, seen-stored}
-use Rattle.mark_core.specs.Cards.{block_of_card, card_of}
+use Rattle.packet_pools.proofs.TracedSteps.{cleaned-step, cleaned-to, traced-step, traced-read, traced-to, seen-found, seen-stored}
+use Rattle.mark_core.specs.Cards.{block_cells, block_of_card, card_of}
 
 -- a seat that traces takes part
 pub traces-part : (v : View) → traces v ≡ true → takes_part v.state ≡ true
@@ -41,7 +41,7 @@ scanned-below sh (Some y) x i h e = subst (λ n. n < sh.cells) (eqb-true y.0 x (
 left-below : (sh : Shape) (o : Option Cleaning) (x : ℕ) → IsShape sh → IfSome o (IsCleaning sh) → may_scan o x ≡ true → x < sh.cells
 left-below sh None x s h e = absurd (false≢true e)
 left-below sh (Some y) x s h e =
-    let block = eqb-true (block_of_card y.card) (x / 64) (and_parts (eqb (block_of_card y.card) (x / 64)) _ (and_parts (in_set (block_of_card y.card) y.left x) (in_set (block_of_card y.card) y.published x) e).0).0 in
+    let block = eqb-true (block_of_card y.card) (x / block_cells) (and_parts (eqb (block_of_card y.card) (x / block_cells)) _ (and_parts (in_set (block_of_card y.card) y.left x) (in_set (block_of_card y.card) y.published x) e).0).0 in
     omega (arith, h.card, s.whole_blocks, block)
 
 -- a cell with a field to read exists
@@ -78,21 +78,21 @@ module _ (v : View) where
       (and_from _ _ (lt-ltb (card_of x) (card_count c.core.shape) (omega (arith, below, whole))) (traces-part v t), tt)
 
 module _ (v w : View) (n : ℕ) where
-  pub later-read_field : (x i : ℕ) → Finds (ReadField x i) n v → w ≡ after (ReadField x i) n v → OnlyTraced v w
-  later-read_field x i f e = later-to v w (ReadField x i) n e (later-read v (ReadField x i) n refl refl f refl refl refl refl refl)
+  pub traced-read_field : (x i : ℕ) → Finds (ReadField x i) n v → w ≡ after (ReadField x i) n v → OnlyTraced v w
+  traced-read_field x i f e = traced-to v w (ReadField x i) n e (traced-read v (ReadField x i) n refl refl f refl refl refl refl refl)
 
-  pub later-set_mark : (x : ℕ) → Finds (SetMark x) n v → v.state.fresh ≡ None → w ≡ after (SetMark x) n v → OnlyTraced v w
-  later-set_mark x f none e = later-to v w (SetMark x) n e (later-step v (SetMark x) n refl refl refl (seen-found v (SetMark x) n refl f) refl (ap (λ (o : Option ℕ). not (is_some o)) none))
+  pub traced-set_mark : (x : ℕ) → Finds (SetMark x) n v → v.state.fresh ≡ None → w ≡ after (SetMark x) n v → OnlyTraced v w
+  traced-set_mark x f none e = traced-to v w (SetMark x) n e (traced-step v (SetMark x) n refl refl refl (seen-found v (SetMark x) n refl f) refl (ap (λ (o : Option ℕ). not (is_some o)) none))
 
-  pub later-dirty_card : (card : ℕ) → n ≡ 1 → answers_for v.state card ≡ true → w ≡ after (DirtyCard card) n v → OnlyTraced v w
-  later-dirty_card card f answers e = later-to v w (DirtyCard card) n e (later-step v (DirtyCard card) n refl refl refl (seen-stored v (DirtyCard card) n refl f) refl answers)
+  pub traced-dirty_card : (card : ℕ) → n ≡ 1 → answers_for v.state card ≡ true → w ≡ after (DirtyCard card) n v → OnlyTraced v w
+  traced-dirty_card card f answers e = traced-to v w (DirtyCard card) n e (traced-step v (DirtyCard card) n refl refl refl (seen-stored v (DirtyCard card) n refl f) refl answers)
 
   -- a card is dirtied with no cell in hand
   pub cleaned-dirty_card : (card : ℕ) → n ≡ 1 → w ≡ after (DirtyCard card) n v → OnlyCleaned v w
   cleaned-dirty_card card f e = cleaned-to v w (DirtyCard card) n e (cleaned-step v (DirtyCard card) n refl refl refl (seen-stored v (DirtyCard card) n refl f) refl)
 
-  pub later-read_root : (section u : ℕ) → Finds (ReadRoot section u) n v → w ≡ after (ReadRoot section u) n v → OnlyTraced v w
-  later-read_root section u f e = later-to v w (ReadRoot section u) n e (later-read v (ReadRoot section u) n refl refl f refl refl refl refl refl)
+  pub traced-read_root : (section u : ℕ) → Finds (ReadRoot section u) n v → w ≡ after (ReadRoot section u) n v → OnlyTraced v w
+  traced-read_root section u f e = traced-to v w (ReadRoot section u) n e (traced-read v (ReadRoot section u) n refl refl f refl refl refl refl refl)
 
 -- the card of a fresh cell
 pub fresh-answers : (s : SeatState) (x card : ℕ) → s.fresh ≡ Some x → card_of x ≡ card → answers_for s card ≡ true

@@ -1,58 +1,59 @@
 -- Searches for packets, computed: two packets of four entries, which lie in the low pool with one cell and in the high pool with two.
 use Rattle.std.specs.Prelude.{◌≡◌, List, [], ◌∷◌, ◌++◌, true, false, refl}
+use Rattle.mark_core.specs.Numbers.{deferred_pool_number, empty_pool_number, high_pool_number, low_pool_number}
 use Rattle.mark_core.specs.declared.kinds.Shape.{Shape}
 use Rattle.mark_core.specs.declared.kinds.Step.TheVariants.{DirtyCard, Give, Look, Push, ReadLength, StoreLength, Take}
 use Rattle.gc_table.specs.declared.view.Entry.{Entry}
 use Rattle.gc_table.specs.Log.{event}
-use Rattle.packet_pools.specs.Seeking.{all_missed, no_input, no_output}
+use Rattle.packet_pools.specs.Seeking.{all_missed, deferred_pools, no_input, no_output}
 use Rattle.packet_pools.specs.Counts.{dirties_after_search}
 
 abbrev pub roomy : Shape
 roomy = record { cells = 64; packets = 2; entries = 4; sections = 2; fields = 1; objects = 2000000 }
 
 -- both pools to read from show no packet
-both_bare : no_input roomy (event (Look 2 0) 0 ∷ event (Look 1 0) 0 ∷ []) ≡ true
+both_bare : no_input roomy (event (Look high_pool_number 0) 0 ∷ event (Look low_pool_number 0) 0 ∷ []) ≡ true
 both_bare = refl
 
 -- the low pool shows both packets, and another seat is first at each
-lost_in_low : no_input roomy (event (Look 2 0) 0 ∷ event (Look 1 0) 3 ∷ event (Take 1 0) 0 ∷ event (Take 1 1) 0 ∷ []) ≡ true
+lost_in_low : no_input roomy (event (Look high_pool_number 0) 0 ∷ event (Look low_pool_number 0) 3 ∷ event (Take low_pool_number 0) 0 ∷ event (Take low_pool_number 1) 0 ∷ []) ≡ true
 lost_in_low = refl
 
 -- the low pool wasn't looked at
-high_alone : no_input roomy (event (Look 2 0) 0 ∷ []) ≡ false
+high_alone : no_input roomy (event (Look high_pool_number 0) 0 ∷ []) ≡ false
 high_alone = refl
 
 -- both packets lie in the low pool, and are to be taken out of the high one
-taken_from_another : no_input roomy (event (Look 2 0) 0 ∷ event (Look 1 0) 3 ∷ event (Take 2 0) 0 ∷ event (Take 2 1) 0 ∷ []) ≡ false
+taken_from_another : no_input roomy (event (Look high_pool_number 0) 0 ∷ event (Look low_pool_number 0) 3 ∷ event (Take high_pool_number 0) 0 ∷ event (Take high_pool_number 1) 0 ∷ []) ≡ false
 taken_from_another = refl
 
 -- no pool was looked at
-taken_unseen : no_input roomy (event (Take 2 0) 0 ∷ event (Take 2 1) 0 ∷ []) ≡ false
+taken_unseen : no_input roomy (event (Take high_pool_number 0) 0 ∷ event (Take high_pool_number 1) 0 ∷ []) ≡ false
 taken_unseen = refl
 
 -- a packet is outside the pools because this seat took it
-holds_it_itself : no_input roomy (event (Take 2 0) 1 ∷ event (Look 2 0) 0 ∷ event (Look 1 0) 0 ∷ []) ≡ false
+holds_it_itself : no_input roomy (event (Take high_pool_number 0) 1 ∷ event (Look high_pool_number 0) 0 ∷ event (Look low_pool_number 0) 0 ∷ []) ≡ false
 holds_it_itself = refl
 
 -- no pool shows a packet
-all_bare : no_output roomy (event (Look 0 0) 0 ∷ event (Look 1 0) 0 ∷ event (Look 2 0) 0 ∷ []) ≡ true
+all_bare : no_output roomy (event (Look empty_pool_number 0) 0 ∷ event (Look low_pool_number 0) 0 ∷ event (Look high_pool_number 0) 0 ∷ []) ≡ true
 all_bare = refl
 
 -- the high pool has both packets, and both are full
 abbrev found_full : List Entry
 found_full =
-    event (Look 2 0) 3
-    ∷ event (Take 2 0) 3
+    event (Look high_pool_number 0) 3
+    ∷ event (Take high_pool_number 0) 3
     ∷ event (ReadLength 0) 4
     ∷ event (StoreLength 0) 4
     ∷ event (Give 0 false) 2
-    ∷ event (Take 2 1) 3
+    ∷ event (Take high_pool_number 1) 3
     ∷ event (ReadLength 1) 4
     ∷ event (StoreLength 1) 4
     ∷ event (Give 1 false) 1
     ∷ []
 
-all_full : no_output roomy (event (Look 0 0) 0 ∷ event (Look 1 0) 0 ∷ found_full) ≡ true
+all_full : no_output roomy (event (Look empty_pool_number 0) 0 ∷ event (Look low_pool_number 0) 0 ∷ found_full) ≡ true
 all_full = refl
 
 -- the empty and the low pool weren't looked at
@@ -60,23 +61,23 @@ full_alone : no_output roomy found_full ≡ false
 full_alone = refl
 
 -- one packet lies in the low pool and one in the high pool, and both are to be taken out of the empty one
-taken_from_empty : no_output roomy (event (Look 0 0) 0 ∷ event (Look 1 0) 1 ∷ event (Look 2 0) 2 ∷ event (Take 0 0) 0 ∷ event (Take 0 1) 0 ∷ []) ≡ false
+taken_from_empty : no_output roomy (event (Look empty_pool_number 0) 0 ∷ event (Look low_pool_number 0) 1 ∷ event (Look high_pool_number 0) 2 ∷ event (Take empty_pool_number 0) 0 ∷ event (Take empty_pool_number 1) 0 ∷ []) ≡ false
 taken_from_empty = refl
 
 -- each was lost where it lay
-lost_where_it_lay : no_output roomy (event (Look 0 0) 0 ∷ event (Look 1 0) 1 ∷ event (Take 1 0) 0 ∷ event (Look 2 0) 2 ∷ event (Take 2 1) 0 ∷ []) ≡ true
+lost_where_it_lay : no_output roomy (event (Look empty_pool_number 0) 0 ∷ event (Look low_pool_number 0) 1 ∷ event (Take low_pool_number 0) 0 ∷ event (Look high_pool_number 0) 2 ∷ event (Take high_pool_number 1) 0 ∷ []) ≡ true
 lost_where_it_lay = refl
 
 -- the pool of deferred packets
-none_deferred : all_missed roomy (3 ∷ []) (event (Look 3 0) 0 ∷ []) ≡ true
+none_deferred : all_missed roomy deferred_pools (event (Look deferred_pool_number 0) 0 ∷ []) ≡ true
 none_deferred = refl
 
-another_pool : all_missed roomy (3 ∷ []) (event (Look 1 0) 0 ∷ []) ≡ false
+another_pool : all_missed roomy deferred_pools (event (Look low_pool_number 0) 0 ∷ []) ≡ false
 another_pool = refl
 
 -- a card is dirtied right after a search that found no packet with room
 abbrev search : List Entry
-search = event (Look 0 0) 0 ∷ event (Look 1 0) 0 ∷ event (Look 2 0) 0 ∷ []
+search = event (Look empty_pool_number 0) 0 ∷ event (Look low_pool_number 0) 0 ∷ event (Look high_pool_number 0) 0 ∷ []
 
 searched_first : dirties_after_search roomy (search ++ event (DirtyCard 0) 0 ∷ []) ≡ true
 searched_first = refl
@@ -93,5 +94,5 @@ one_search_for_two = refl
 pushed_between : dirties_after_search roomy (search ++ event (Push 0 5) 0 ∷ event (DirtyCard 0) 0 ∷ []) ≡ false
 pushed_between = refl
 
-found_room : dirties_after_search roomy (event (Look 0 0) 1 ∷ event (Look 1 0) 0 ∷ event (Look 2 0) 0 ∷ event (DirtyCard 0) 0 ∷ []) ≡ false
+found_room : dirties_after_search roomy (event (Look empty_pool_number 0) 1 ∷ event (Look low_pool_number 0) 0 ∷ event (Look high_pool_number 0) 0 ∷ event (DirtyCard 0) 0 ∷ []) ≡ false
 found_room = refl

@@ -1,13 +1,14 @@
 -- What the events of a search say, as more events come.
 use Rattle.std.proofs.Common.{ℕ, ◌≡◌, ◌<◌, ◌≤◌, List, [], ◌∷◌, ◌++◌, arith, ⊎_elim, inl, inr, ◌⊎◌, Bool, true, false, not, ◌&&◌, ◌||◌, ap, refl, eqb, eq-eqb}
 use Rattle.std.proofs.lemmas.Bool.{false≢true, and_parts, and_from, or_left, or_right, or_cases, or_parts, not_from_false, cases_lt, false_from_ne_true}
+use Rattle.mark_core.specs.Numbers.{high_pool_number}
 use Rattle.mark_core.specs.declared.kinds.Step.{Step}
 use Rattle.mark_core.specs.declared.kinds.Step.TheVariants.{Reserve, Take, Give, Credit, Look, StoreLength, ReadLength}
 use Rattle.mark_core.specs.declared.kinds.Shape.{Shape}
 use Rattle.gc_table.specs.declared.view.Entry.{Entry}
 use Rattle.gc_table.specs.Log.{steps_of}
 use Rattle.packet_pools.specs.Seeking.{gets, shows_outside, loses, some_event, before_got, was_full, was_got, was_missed, reads_full, gets_from, in_pools, moves_packet, only_moves}
-use Rattle.packet_pools.specs.Gains.{missed, Misses}
+use Rattle.packet_pools.specs.Gains.{missed, MissesPackets}
 
 pub some-left : (f : Step → ℕ → Bool) (xs ys : List Entry) → some_event f xs ≡ true → some_event f (xs ++ ys) ≡ true
 some-left f [] ys h = absurd (false≢true h)
@@ -39,13 +40,13 @@ pub full-left : (entries p : ℕ) (xs ys : List Entry) → was_full entries p xs
 full-left entries p [] ys h = absurd (false≢true h)
 full-left entries p (x ∷ xs) ys h =
     ⊎_elim
-    (λ e. let b = and_parts (gets_from 2 p x.step x.found) (some_event (reads_full entries p) xs) e in or_left _ _ (and_from _ _ b.0 (some-left (reads_full entries p) xs ys b.1)))
-    (λ e. or_right (gets_from 2 p x.step x.found && some_event (reads_full entries p) (xs ++ ys)) _ (full-left entries p xs ys e))
-    (or_cases (gets_from 2 p x.step x.found && some_event (reads_full entries p) xs) (was_full entries p xs) h)
+    (λ e. let b = and_parts (gets_from high_pool_number p x.step x.found) (some_event (reads_full entries p) xs) e in or_left _ _ (and_from _ _ b.0 (some-left (reads_full entries p) xs ys b.1)))
+    (λ e. or_right (gets_from high_pool_number p x.step x.found && some_event (reads_full entries p) (xs ++ ys)) _ (full-left entries p xs ys e))
+    (or_cases (gets_from high_pool_number p x.step x.found && some_event (reads_full entries p) xs) (was_full entries p xs) h)
 
 pub full-right : (entries p : ℕ) (xs ys : List Entry) → was_full entries p ys ≡ true → was_full entries p (xs ++ ys) ≡ true
 full-right entries p [] ys h = h
-full-right entries p (x ∷ xs) ys h = or_right (gets_from 2 p x.step x.found && some_event (reads_full entries p) (xs ++ ys)) _ (full-right entries p xs ys h)
+full-right entries p (x ∷ xs) ys h = or_right (gets_from high_pool_number p x.step x.found && some_event (reads_full entries p) (xs ++ ys)) _ (full-right entries p xs ys h)
 
 -- one of two
 pub either-way : (a b a' b' : Bool) → (a ≡ true → a' ≡ true) → (b ≡ true → b' ≡ true) → (a || b) ≡ true → (a' || b') ≡ true
@@ -58,16 +59,16 @@ was-missed-left q p xs ys h = either-way _ _ _ _ (before-left p (shows_outside q
 pub was-missed-right : (q p : ℕ) (xs ys : List Entry) → was_got p xs ≡ false → was_missed q p ys ≡ true → was_missed q p (xs ++ ys) ≡ true
 was-missed-right q p xs ys n h = either-way _ _ _ _ (before-right p (shows_outside q p) xs ys n) (before-right p (loses q p) xs ys n) h
 
-pub missed-left : (entries q : ℕ) (room : Bool) (p : ℕ) (xs ys : List Entry) → missed entries q room p xs ≡ true → missed entries q room p (xs ++ ys) ≡ true
-missed-left entries q room p xs ys h =
+pub missed-left : (entries q : ℕ) (not_full : Bool) (p : ℕ) (xs ys : List Entry) → missed entries q not_full p xs ≡ true → missed entries q not_full p (xs ++ ys) ≡ true
+missed-left entries q not_full p xs ys h =
     either-way _ _ _ _ (was-missed-left q p xs ys)
-    (λ e. let b = and_parts room (was_full entries p xs) e in and_from _ _ b.0 (full-left entries p xs ys b.1))
+    (λ e. let b = and_parts not_full (was_full entries p xs) e in and_from _ _ b.0 (full-left entries p xs ys b.1))
     h
 
-pub missed-right : (entries q : ℕ) (room : Bool) (p : ℕ) (xs ys : List Entry) → was_got p xs ≡ false → missed entries q room p ys ≡ true → missed entries q room p (xs ++ ys) ≡ true
-missed-right entries q room p xs ys n h =
+pub missed-right : (entries q : ℕ) (not_full : Bool) (p : ℕ) (xs ys : List Entry) → was_got p xs ≡ false → missed entries q not_full p ys ≡ true → missed entries q not_full p (xs ++ ys) ≡ true
+missed-right entries q not_full p xs ys n h =
     either-way _ _ _ _ (was-missed-right q p xs ys n)
-    (λ e. let b = and_parts room (was_full entries p ys) e in and_from _ _ b.0 (full-right entries p xs ys b.1))
+    (λ e. let b = and_parts not_full (was_full entries p ys) e in and_from _ _ b.0 (full-right entries p xs ys b.1))
     h
 
 pub moves-join : (qs : List ℕ) (xs ys : List Entry) → only_moves qs xs ≡ true → only_moves qs ys ≡ true → only_moves qs (xs ++ ys) ≡ true
@@ -114,25 +115,25 @@ moves-steps qs [] = refl
 moves-steps qs (e ∷ es) = ap (λ (b : Bool). moves_packet qs e.step && b) (moves-steps qs es)
 
 -- a packet that no event got
-pub ungot : (sh : Shape) (q : ℕ) (room : Bool) (lo hi p : ℕ) (es : List Entry) → Misses sh q room lo hi es → hi ≤ p → was_got p es ≡ false
-ungot sh q room lo hi p es m h = false_from_ne_true (was_got p es) (λ e. absurd (let l = (m.got p e).1 in omega (arith, l, h)))
+pub ungot : (sh : Shape) (q : ℕ) (not_full : Bool) (lo hi p : ℕ) (es : List Entry) → MissesPackets sh q not_full lo hi es → hi ≤ p → was_got p es ≡ false
+ungot sh q not_full lo hi p es m h = false_from_ne_true (was_got p es) (λ e. absurd (let l = (m.got p e).1 in omega (arith, l, h)))
 
 -- where full packets don't go back, nothing is got in vain
-pub none-got : (sh : Shape) (q lo hi p : ℕ) (es : List Entry) → Misses sh q false lo hi es → was_got p es ≡ false
+pub none-got : (sh : Shape) (q lo hi p : ℕ) (es : List Entry) → MissesPackets sh q false lo hi es → was_got p es ≡ false
 none-got sh q lo hi p es m = false_from_ne_true (was_got p es) (λ e. false≢true (m.got p e).0)
 
-pub misses-none : (sh : Shape) (q : ℕ) (room : Bool) (lo : ℕ) → Misses sh q room lo lo []
-misses-none sh q room lo = record { all = λ p a b h. absurd (omega (arith, a, b)); got = λ p e. absurd (false≢true e); moves = refl }
+pub misses-none : (sh : Shape) (q : ℕ) (not_full : Bool) (lo : ℕ) → MissesPackets sh q not_full lo lo []
+misses-none sh q not_full lo = record { all = λ p a b h. absurd (omega (arith, a, b)); got = λ p e. absurd (false≢true e); moves = refl }
 
 -- one search after another
-pub misses-join : (sh : Shape) (q : ℕ) (room : Bool) (lo mid hi : ℕ) (xs ys : List Entry) → mid ≤ hi → Misses sh q room lo mid xs → Misses sh q room mid hi ys → Misses sh q room lo hi (xs ++ ys)
-misses-join sh q room lo mid hi xs ys le a b =
+pub misses-join : (sh : Shape) (q : ℕ) (not_full : Bool) (lo mid hi : ℕ) (xs ys : List Entry) → mid ≤ hi → MissesPackets sh q not_full lo mid xs → MissesPackets sh q not_full mid hi ys → MissesPackets sh q not_full lo hi (xs ++ ys)
+misses-join sh q not_full lo mid hi xs ys le a b =
     record {
       all =
           λ p l h there.
           ⊎_elim
-          (λ (e : p < mid). missed-left sh.entries q room p xs ys (a.all p l e there))
-          (λ (e : mid ≤ p). missed-right sh.entries q room p xs ys (ungot sh q room lo mid p xs a e) (b.all p e h there))
+          (λ (e : p < mid). missed-left sh.entries q not_full p xs ys (a.all p l e there))
+          (λ (e : mid ≤ p). missed-right sh.entries q not_full p xs ys (ungot sh q not_full lo mid p xs a e) (b.all p e h there))
           (cases_lt p mid);
       got =
           λ p e.

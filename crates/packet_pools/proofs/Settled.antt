@@ -8,8 +8,8 @@ use Rattle.mark_core.specs.Bits.{without_bit, complement}
 use Rattle.mark_core.specs.Seats.{cleaning_left}
 use Rattle.mark_core.specs.Steps.ColourSteps.{redirty_off, without_cell}
 use Rattle.mark_core.specs.declared.seat.Cleaning.{Cleaning}
-use Rattle.packet_pools.specs.Scanning.{Settles, settled, owes_card}
-use Rattle.mark_core.specs.Cards.{block_of_card}
+use Rattle.packet_pools.specs.Scanning.{Settles, without_redirty, owes_redirty}
+use Rattle.mark_core.specs.Cards.{block_cells, block_of_card}
 
 pub settles-same : (x : Option Cleaning) → Settles x x
 settles-same x = record { same = refl; debt = λ d. d }
@@ -26,22 +26,22 @@ settles-dirty (Some x) card = by_card (eqb x.card card)
     by_card true = record { same = refl; debt = λ d. absurd (false≢true d) }
     by_card false = settles-same (Some x)
 
-settled-without : (x : Option Cleaning) (c : ℕ) → settled (without_cell x c) ≡ without_cell (settled x) c
+settled-without : (x : Option Cleaning) (c : ℕ) → without_redirty (without_cell x c) ≡ without_cell (without_redirty x) c
 settled-without None c = refl
-settled-without (Some x) c = by_block (eqb (block_of_card x.card) (c / 64))
+settled-without (Some x) c = by_block (eqb (block_of_card x.card) (c / block_cells))
   where
     less : Cleaning
-    less = record x { left = without_bit x.left (c % 64); published = without_bit x.published (c % 64) }
+    less = record x { left = without_bit x.left (c % block_cells); published = without_bit x.published (c % block_cells) }
 
-    by_block : (b : Bool) → settled (Some (cond b less x)) ≡ Some (cond b (record less { redirty = false }) (record x { redirty = false }))
+    by_block : (b : Bool) → without_redirty (Some (cond b less x)) ≡ Some (cond b (record less { redirty = false }) (record x { redirty = false }))
     by_block true = refl
     by_block false = refl
 
-owes-without : (x : Option Cleaning) (c : ℕ) → owes_card (without_cell x c) ≡ owes_card x
+owes-without : (x : Option Cleaning) (c : ℕ) → owes_redirty (without_cell x c) ≡ owes_redirty x
 owes-without None c = refl
-owes-without (Some x) c = by_block (eqb (block_of_card x.card) (c / 64))
+owes-without (Some x) c = by_block (eqb (block_of_card x.card) (c / block_cells))
   where
-    by_block : (b : Bool) → owes_card (Some (cond b (record x { left = without_bit x.left (c % 64); published = without_bit x.published (c % 64) }) x)) ≡ x.redirty
+    by_block : (b : Bool) → owes_redirty (Some (cond b (record x { left = without_bit x.left (c % block_cells); published = without_bit x.published (c % block_cells) }) x)) ≡ x.redirty
     by_block true = refl
     by_block false = refl
 
@@ -59,18 +59,18 @@ bit-twice w m = and_assoc m w m ∙ ap (bit_and w) (and_self m)
 -- it can't be left less
 pub without-twice : (x : Option Cleaning) (c : ℕ) → without_cell (without_cell x c) c ≡ without_cell x c
 without-twice None c = refl
-without-twice (Some x) c = by_block (eqb (block_of_card x.card) (c / 64)) refl
+without-twice (Some x) c = by_block (eqb (block_of_card x.card) (c / block_cells)) refl
   where
     less : Cleaning
-    less = record x { left = without_bit x.left (c % 64); published = without_bit x.published (c % 64) }
+    less = record x { left = without_bit x.left (c % block_cells); published = without_bit x.published (c % block_cells) }
 
-    by_block : (b : Bool) → eqb (block_of_card x.card) (c / 64) ≡ b → without_cell (Some (cond b less x)) c ≡ Some (cond b less x)
+    by_block : (b : Bool) → eqb (block_of_card x.card) (c / block_cells) ≡ b → without_cell (Some (cond b less x)) c ≡ Some (cond b less x)
     by_block true e =
-        ap (λ (d : Bool). Some (cond d (record less { left = without_bit less.left (c % 64); published = without_bit less.published (c % 64) }) less)) e
-        ∙ (λ i. Some (record less { left = bit-twice x.left (complement (2 ^ (c % 64))) i; published = bit-twice x.published (complement (2 ^ (c % 64))) i }))
+        ap (λ (d : Bool). Some (cond d (record less { left = without_bit less.left (c % block_cells); published = without_bit less.published (c % block_cells) }) less)) e
+        ∙ (λ i. Some (record less { left = bit-twice x.left (complement (2 ^ (c % block_cells))) i; published = bit-twice x.published (complement (2 ^ (c % block_cells))) i }))
     by_block false e = ap (λ (d : Bool). Some (cond d less x)) e
 
-left-settled : (x : Option Cleaning) → cleaning_left x ≡ (cleaning_left (settled x) || owes_card x)
+left-settled : (x : Option Cleaning) → cleaning_left x ≡ (cleaning_left (without_redirty x) || owes_redirty x)
 left-settled None = refl
 left-settled (Some x) = by_debt (not x.known || not (x.left == 0)) x.redirty
   where
@@ -84,13 +84,13 @@ or_false a b e f = λ i. e i || f i
 -- a cleaning with nothing left stays so
 pub settles-left : (x y : Option Cleaning) → Settles x y → cleaning_left x ≡ false → cleaning_left y ≡ false
 settles-left x y s e =
-    let b = or_parts (cleaning_left (settled x)) (owes_card x) (sym (left-settled x) ∙ e) in
+    let b = or_parts (cleaning_left (without_redirty x)) (owes_redirty x) (sym (left-settled x) ∙ e) in
     left-settled y
-    ∙ or_false (cleaning_left (settled y)) (owes_card y) (ap cleaning_left s.same ∙ b.0) (false_from_ne_true (owes_card y) (λ d. true≢false (sym (s.debt d) ∙ b.1)))
+    ∙ or_false (cleaning_left (without_redirty y)) (owes_redirty y) (ap cleaning_left s.same ∙ b.0) (false_from_ne_true (owes_redirty y) (λ d. true≢false (sym (s.debt d) ∙ b.1)))
 
 pub without-left : (x : Option Cleaning) (c : ℕ) → cleaning_left x ≡ false → cleaning_left (without_cell x c) ≡ false
 without-left None c e = e
-without-left (Some x) c e = by_block (eqb (block_of_card x.card) (c / 64))
+without-left (Some x) c e = by_block (eqb (block_of_card x.card) (c / block_cells))
   where
     parts : ((not x.known || not (x.left == 0)) ≡ false) × (x.redirty ≡ false)
     parts = or_parts (not x.known || not (x.left == 0)) x.redirty e
@@ -98,6 +98,6 @@ without-left (Some x) c e = by_block (eqb (block_of_card x.card) (c / 64))
     none : x.left ≡ 0
     none = eqb-true x.left 0 (true_from_ne_false (x.left == 0) (λ f. true≢false (ap not (sym f) ∙ (or_parts (not x.known) (not (x.left == 0)) parts.0).1)))
 
-    by_block : (b : Bool) → cleaning_left (Some (cond b (record x { left = without_bit x.left (c % 64); published = without_bit x.published (c % 64) }) x)) ≡ false
-    by_block true = ap (λ n. not x.known || not (without_bit n (c % 64) == 0) || x.redirty) none ∙ (ap (λ n. not x.known || not (n == 0) || x.redirty) (sym none) ∙ e)
+    by_block : (b : Bool) → cleaning_left (Some (cond b (record x { left = without_bit x.left (c % block_cells); published = without_bit x.published (c % block_cells) }) x)) ≡ false
+    by_block true = ap (λ n. not x.known || not (without_bit n (c % block_cells) == 0) || x.redirty) none ∙ (ap (λ n. not x.known || not (n == 0) || x.redirty) (sym none) ∙ e)
     by_block false = e

@@ -6,6 +6,7 @@ use Rattle.std.proofs.lemmas.Option.{slice_get_within, get_or_from_slice_get}
 use Rattle.mark_core.specs.Bits.{has_bit, reference_in}
 use Rattle.mark_core.specs.Held.{holds, holds_any, put_packet, has_length}
 use Rattle.mark_core.specs.Effects.{seat_after}
+use Rattle.mark_core.specs.Numbers.{empty_pool_number, pools_in_all, word_bits}
 use Rattle.mark_core.specs.Seats.{work_in_hand}
 use Rattle.mark_core.specs.Cells.{or_else}
 use Rattle.mark_core.specs.declared.kinds.Shape.{Shape}
@@ -20,13 +21,13 @@ use Rattle.gc_table.specs.Taking.{after, Finds}
 use Rattle.gc_table.proofs.Fetching.{last-snoc}
 use Rattle.gc_table.specs.Log.{steps_of}
 use Rattle.packet_pools.specs.Seeking.{gets, gets_from, loses, was_got}
-use Rattle.packet_pools.specs.Gains.{Misses, missed}
+use Rattle.packet_pools.specs.Gains.{MissesPackets, missed}
 use Rattle.gc_table.proofs.History.Log.{entry_of}
 use Rattle.packet_pools.proofs.Searches.{take-moves}
 
 -- a take that another seat was first to do leaves the record
-pub lost-state : (sh : Shape) (s : SeatState) (q p n : ℕ) → has_bit n (p % 64) ≡ false → seat_after sh s (Take q p) n ≡ s
-lost-state sh s q p n e = ap (λ (b : Bool). record s { held = cond b (put_packet s.held p) s.held; reserved = s.reserved && not ((q == 0) && b) }) e ∙ (λ i. record s { reserved = keeps s.reserved (q == 0) i })
+pub lost-state : (sh : Shape) (s : SeatState) (q p n : ℕ) → has_bit n (p % word_bits) ≡ false → seat_after sh s (Take q p) n ≡ s
+lost-state sh s q p n e = ap (λ (b : Bool). record s { held = cond b (put_packet s.held p) s.held; reserved = s.reserved && not ((q == empty_pool_number) && b) }) e ∙ (λ i. record s { reserved = keeps s.reserved (q == empty_pool_number) i })
   where
     keeps : (a b : Bool) → (a && not (b && false)) ≡ a
     keeps true true = refl
@@ -34,8 +35,8 @@ lost-state sh s q p n e = ap (λ (b : Bool). record s { held = cond b (put_packe
     keeps false b = refl
 
 -- a take that wins puts the packet into a slot, and uses the reservation
-pub won-state : (sh : Shape) (s : SeatState) (q p n : ℕ) → s.reserved ≡ (q == 0) → has_bit n (p % 64) ≡ true → seat_after sh s (Take q p) n ≡ record s { held = put_packet s.held p; reserved = false }
-won-state sh s q p n r e = ap (λ (b : Bool). record s { held = cond b (put_packet s.held p) s.held; reserved = s.reserved && not ((q == 0) && b) }) e ∙ (λ i. record s { held = put_packet s.held p; reserved = (ap (λ (b : Bool). b && not ((q == 0) && true)) r ∙ uses (q == 0)) i })
+pub won-state : (sh : Shape) (s : SeatState) (q p n : ℕ) → s.reserved ≡ (q == empty_pool_number) → has_bit n (p % word_bits) ≡ true → seat_after sh s (Take q p) n ≡ record s { held = put_packet s.held p; reserved = false }
+won-state sh s q p n r e = ap (λ (b : Bool). record s { held = cond b (put_packet s.held p) s.held; reserved = s.reserved && not ((q == empty_pool_number) && b) }) e ∙ (λ i. record s { held = put_packet s.held p; reserved = (ap (λ (b : Bool). b && not ((q == empty_pool_number) && true)) r ∙ uses (q == empty_pool_number)) i })
   where
     uses : (b : Bool) → (b && not (b && true)) ≡ false
     uses true = refl
@@ -43,30 +44,30 @@ won-state sh s q p n r e = ap (λ (b : Bool). record s { held = cond b (put_pack
 
 -- only the packet that is asked for is got
 pub got-asked : (q p n x : ℕ) → gets x (Take q p) n ≡ true → x ≡ p
-got-asked q p n x e = sym (eqb-true p x (and_parts (eqb p x) (has_bit n (x % 64)) e).0)
+got-asked q p n x e = sym (eqb-true p x (and_parts (eqb p x) (has_bit n (x % word_bits)) e).0)
 
-pub lost-misses : (sh : Shape) (q : ℕ) (room : Bool) (p n : ℕ) → has_bit n (p % 64) ≡ false → Misses sh q room p (p + 1) (entry_of (Take q p) n ∷ [])
-lost-misses sh q room p n e =
+pub lost-misses : (sh : Shape) (q : ℕ) (not_full : Bool) (p n : ℕ) → has_bit n (p % word_bits) ≡ false → MissesPackets sh q not_full p (p + 1) (entry_of (Take q p) n ∷ [])
+lost-misses sh q not_full p n e =
     record {
       all =
           λ x l h there.
           let is : p ≡ x = omega (arith, l, h) in
-          subst (λ y. IsTrue (missed sh.entries q room y (entry_of (Take q p) n ∷ []))) is
+          subst (λ y. IsTrue (missed sh.entries q not_full y (entry_of (Take q p) n ∷ []))) is
           (or_left _ _ (or_right _ _ (or_left (loses q p (Take q p) n) _ (and_from _ _ (and_from _ _ (eq-eqb q q refl) (eq-eqb p p refl)) (not_from_false _ e)))));
       got =
           λ x g.
           absurd
           (⊎_elim
-          (λ (f : gets x (Take q p) n ≡ true). true≢false (sym (and_parts (eqb p x) (has_bit n (x % 64)) f).1 ∙ (ap (λ y. has_bit n (y % 64)) (got-asked q p n x f) ∙ e)))
+          (λ (f : gets x (Take q p) n ≡ true). true≢false (sym (and_parts (eqb p x) (has_bit n (x % word_bits)) f).1 ∙ (ap (λ y. has_bit n (y % word_bits)) (got-asked q p n x f) ∙ e)))
           (λ (f : false ≡ true). false≢true f)
           (or_cases (gets x (Take q p) n) false g));
       moves = and_from _ _ (take-moves q p) refl;
     }
 
-pub got-from : (q p n : ℕ) → has_bit n (p % 64) ≡ true → gets_from q p (Take q p) n ≡ true
+pub got-from : (q p n : ℕ) → has_bit n (p % word_bits) ≡ true → gets_from q p (Take q p) n ≡ true
 got-from q p n e = and_from _ _ (and_from _ _ (eq-eqb q q refl) (eq-eqb p p refl)) e
 
-pub range-fits : (sh : Shape) (q n : ℕ) → q < 4 → is_in_range sh q n ≡ true → n ≤ sh.entries
+pub range-fits : (sh : Shape) (q n : ℕ) → q < pools_in_all → is_in_range sh q n ≡ true → n ≤ sh.entries
 range-fits sh zero n b e = let z = eqb-true n 0 e in omega (arith, z)
 range-fits sh (suc zero) n b e = let z = ltb-true (2 * n) sh.entries (and_parts (nat_lt 0 n) (nat_lt (2 * n) sh.entries) e).1 in omega (arith, z)
 range-fits sh (suc (suc zero)) n b e = leb-true n sh.entries (and_parts (nat_le sh.entries (2 * n)) (nat_le n sh.entries) e).1
@@ -74,12 +75,12 @@ range-fits sh (suc (suc (suc zero))) n b e = leb-true n sh.entries (and_parts (n
 range-fits sh (suc (suc (suc (suc q)))) n b e = absurd (omega (arith, b))
 
 -- the length that is read from the head is one of its pool
-pub fetched-range : (v : View) (q p m : ℕ) → q < 4 → p < v.shape.packets → holds v.state.held p ≡ true → has_length v.state.held p ≡ false → last_pool p v.log ≡ Some q → Finds (ReadLength p) m v → (is_in_range v.shape q m ≡ true) × (reference_in m ≡ m)
+pub fetched-range : (v : View) (q p m : ℕ) → q < pools_in_all → p < v.shape.packets → holds v.state.held p ≡ true → has_length v.state.held p ≡ false → last_pool p v.log ≡ Some q → Finds (ReadLength p) m v → (is_in_range v.shape q m ≡ true) × (reference_in m ≡ m)
 fetched-range v q p m b there h u last f =
     let range : is_in_range v.shape q m ≡ true = ap (is_in_range v.shape q) (sym f.word) ∙ f.agrees.fetched p q there h u last in
     (range, whole-length m v.shape.entries (range-fits v.shape q m b range) (subst (λ (sh : Shape). sh.entries ≤ 512) (sym f.agrees.shape) f.whole.core.formed.shaped.entries.1))
 
-pub last-taken : (v w : View) (q p n : ℕ) → w ≡ after (Take q p) n v → has_bit n (p % 64) ≡ true → last_pool p w.log ≡ Some q
+pub last-taken : (v w : View) (q p n : ℕ) → w ≡ after (Take q p) n v → has_bit n (p % word_bits) ≡ true → last_pool p w.log ≡ Some q
 last-taken v w q p n e b =
     ap (λ (x : View). last_pool p x.log) e
     ∙ (last-snoc p v.log (entry_of (Take q p) n) ∙ ap (λ (c : Bool). or_else (cond c (Some q) None) (last_pool p v.log)) (and_from _ _ (eq-eqb p p refl) b))

@@ -4,6 +4,7 @@ use Rattle.std.specs.Prelude.{IsTrue, ◌==◌}
 use Rattle.std.proofs.lemmas.Bool.{true≢false, false≢true, and_from, or_left, or_right, or_cases, le-leb}
 use Rattle.mark_core.specs.Bits.{has_bit, reference_in}
 use Rattle.mark_core.specs.Held.{holds, holds_any, holds_another, has_length, known_length, put_packet, drop_packet, set_length}
+use Rattle.mark_core.specs.Numbers.{high_pool_number, word_bits}
 use Rattle.mark_core.specs.Seats.{work_in_hand}
 use Rattle.mark_core.specs.declared.kinds.Shape.{Shape}
 use Rattle.mark_core.specs.declared.kinds.Step.TheVariants.{Take, ReadLength, StoreLength, Give, Credit}
@@ -15,18 +16,18 @@ use Rattle.gc_table.specs.Taking.{after, Finds}
 use Rattle.packet_pools.specs.OnlyTraced.{OnlyTraced}
 use Rattle.gc_table.specs.Log.{events, steps_of, Grows}
 use Rattle.packet_pools.specs.Tracing.{Traces}
-use Rattle.packet_pools.specs.Hands.{IsHeld, with_packet}
+use Rattle.packet_pools.specs.Hands.{HoldsPacket, with_packet}
 use Rattle.packet_pools.specs.Seeking.{gets, gets_from, some_event, was_full, was_got, only_moves}
-use Rattle.packet_pools.specs.Gains.{Seeks, Gains, Misses, missed}
+use Rattle.packet_pools.specs.Gains.{Seeks, Gains, MissesPackets, missed}
 use Rattle.gc_table.proofs.History.Log.{entry_of, events-after, events-join, grows-after, grows-join}
-use Rattle.packet_pools.proofs.TracedSteps.{later-join}
+use Rattle.packet_pools.proofs.TracedSteps.{traced-join}
 use Rattle.packet_pools.proofs.Conditions.{traces-later}
 use Rattle.packet_pools.proofs.InHand.{known-with, unread-put, drop-with}
-use Rattle.packet_pools.proofs.Doing.{later-take, later-read_length}
+use Rattle.packet_pools.proofs.Doing.{traced-take, traced-read_length}
 use Rattle.packet_pools.proofs.Searches.{some-parts, full-left, moves-join, moves-steps, all_move, take-moves}
 use Rattle.packet_pools.proofs.TakenOne.{won-state, got-asked, got-from, fetched-range, range-fits, last-taken, none-taken, some_take}
 
-module _ (v w : View) (q p n : ℕ) (k : Seeks q v) (there : p < v.shape.packets) (unheld : holds v.state.held p ≡ false) (taken : w ≡ after (Take q p) n v) (bit : has_bit n (p % 64) ≡ true) where
+module _ (v w : View) (q p n : ℕ) (k : Seeks q v) (there : p < v.shape.packets) (unheld : holds v.state.held p ≡ false) (taken : w ≡ after (Take q p) n v) (bit : has_bit n (p % word_bits) ≡ true) where
   w-state : w.state ≡ record v.state { held = put_packet v.state.held p; reserved = false }
   w-state = ap (λ (z : View). z.state) taken ∙ won-state v.shape v.state q p n k.reserved bit
 
@@ -60,8 +61,8 @@ module _ (v w : View) (q p n : ℕ) (k : Seeks q v) (there : p < v.shape.packets
         ap (λ (z : View). z.state) read
         ∙ (ap (λ (s : SeatState). record s { held = set_length s.held p (reference_in m) true }) w-state ∙ ap (λ l. record v.state { held = with_packet v.state.held p l; reserved = false }) (sym is))
 
-    pub later : Finds (Take q p) n v → OnlyTraced v x
-    later found = later-join v w x (later-take v w n q p found taken) (later-read_length w x m p f read)
+    pub only-traced : Finds (Take q p) n v → OnlyTraced v x
+    only-traced found = traced-join v w x (traced-take v w n q p found taken) (traced-read_length w x m p f read)
 
     took : Grows v w
     took = subst (Grows v) (sym taken) (grows-after v (Take q p) n)
@@ -69,7 +70,7 @@ module _ (v w : View) (q p n : ℕ) (k : Seeks q v) (there : p < v.shape.packets
     after_read : Grows w x
     after_read = subst (Grows w) (sym read) (grows-after w (ReadLength p) m)
 
-    pub held : IsHeld (record { packet = p; length = len }) x
+    pub held : HoldsPacket (record { packet = p; length = len }) x
     held =
         record {
           there = subst (λ (sh : Shape). p < sh.packets) (sym x-shape) there;
@@ -83,8 +84,8 @@ module _ (v w : View) (q p n : ℕ) (k : Seeks q v) (there : p < v.shape.packets
         ∙ (λ i. events-after v w (Take q p) n taken i ++ events-after w x (ReadLength p) m read i)
 
     -- the packet is kept
-    pub gains : (room : Bool) → (IsTrue room → len < v.shape.entries) → Gains q room (record { packet = p; length = len }) v x
-    gains room roomy =
+    pub gains : (not_full : Bool) → (IsTrue not_full → len < v.shape.entries) → Gains q not_full (record { packet = p; length = len }) v x
+    gains not_full roomy =
         record {
           unheld = unheld;
           held = held;
@@ -97,14 +98,14 @@ module _ (v w : View) (q p n : ℕ) (k : Seeks q v) (there : p < v.shape.packets
 
     -- the seat may give it back
     pub traces : Finds (Take q p) n v → Traces x
-    traces found = record { may = traces-later v x (later found) k.may; unreserved = ap (λ (s : SeatState). s.reserved) x-state; uncredited = ap (λ (s : SeatState). s.credit) x-state ∙ k.uncredited }
+    traces found = record { may = traces-later v x (only-traced found) k.may; unreserved = ap (λ (s : SeatState). s.reserved) x-state; uncredited = ap (λ (s : SeatState). s.credit) x-state ∙ k.uncredited }
 
     pub keeps-another : (work_in_hand v.shape.fields v.state ≡ true → holds_any v.state.held ≡ true) → work_in_hand x.shape.fields x.state ≡ true → holds_another x.state.held p ≡ true
     keeps-another h e =
         ap (λ (s : SeatState). holds_another s.held p) x-state
         ∙ (ap holds_any (drop-with v.state.held p len unheld) ∙ h ((λ i. work_in_hand (sym x-shape i).fields (record v.state { held = v.state.held })) ∙ (ap (λ (s : SeatState). work_in_hand x.shape.fields s) (sym x-state) ∙ e)))
 
-    module _ (y : View) (high : q ≡ 2) (gave : y.state ≡ record x.state { held = drop_packet x.state.held p }) (after_it : OnlyTraced x y) (d : Bool) (steps : steps_of (events x y) ≡ StoreLength p ∷ Give p false ∷ (cond d (Credit ∷ []) [])) (full : len ≡ v.shape.entries) where
+    module _ (y : View) (high : q ≡ high_pool_number) (gave : y.state ≡ record x.state { held = drop_packet x.state.held p }) (after_it : OnlyTraced x y) (d : Bool) (steps : steps_of (events x y) ≡ StoreLength p ∷ Give p false ∷ (cond d (Credit ∷ []) [])) (full : len ≡ v.shape.entries) where
       -- it is back, and the record is as it was
       pub back-state : y.state ≡ v.state
       back-state =
@@ -134,7 +135,7 @@ module _ (v w : View) (q p n : ℕ) (k : Seeks q v) (there : p < v.shape.packets
           (or_left _ _ (and_from _ _ (eq-eqb p p refl) (le-leb v.shape.entries (reference_in m) (let e : v.shape.entries ≡ reference_in m = sym full ∙ is in omega (arith, e))))))
 
       -- the packet is full, and no other was taken
-      pub back-misses : Misses v.shape q true p (p + 1) (events v y)
+      pub back-misses : MissesPackets v.shape q true p (p + 1) (events v y)
       back-misses =
           record {
             all =

@@ -2,6 +2,7 @@
 use Rattle.std.proofs.Common.{ℕ, ◌≡◌, ◌/◌, ◌%◌, ◌^◌, ◌∷◌, refl, sym, ap, ◌∙◌, subst, Bool, true, false, cond, Some, None, ⊎_elim, eq-eqb}
 use Rattle.std.specs.Prelude.{◌||◌}
 use Rattle.std.proofs.lemmas.Bool.{cases_Bool, and_parts, and_from, true≢false, false≢true, false_from_ne_true}
+use Rattle.mark_core.specs.Cards.{block_cells}
 use Rattle.mark_core.specs.Effects.{place, written, seat_after}
 use Rattle.mark_core.specs.Notes.{same_place, steady, keeps_bound, keeps_single, is_counter}
 use Rattle.mark_core.specs.Bits.{has_bit, with_bit}
@@ -29,7 +30,7 @@ note-stays keeps to at word n xs apart k h =
     look-map keeps at ((to, Some word) ∷ xs)
     ∙ (ap (λ (b : Bool). if_kept keeps at (cond b (Some word) (look at xs))) apart ∙ (ap (if_kept keeps at) h ∙ ap (λ (b : Bool). cond b (Some n) None) k))
 
--- and so does what was noted of this place, where the word is left
+-- what was noted of this place stays, where the word is left
 note-again : (keeps : ℕ × ℕ → ℕ → Bool) (to at : ℕ × ℕ) (word n : ℕ) (xs : Notes) → same_place to at ≡ true → word ≡ n → keeps at n ≡ true → look at (noting keeps to word xs) ≡ Some n
 note-again keeps to at word n xs here is k =
     look-map keeps at ((to, Some word) ∷ xs)
@@ -58,8 +59,8 @@ seen-found v step n k f = record { found = λ _. f; stored = λ t. absurd (true�
 pub seen-stored : (v : View) (step : Step) (n : ℕ) → is_store step ≡ true → n ≡ written v.shape v.state step 0 → IsSeen step n v
 seen-stored v step n k e = record { found = λ f. absurd (true≢false (sym k ∙ f)); stored = λ _. e }
 
-pub later-refl : (v : View) → OnlyTraced v v
-later-refl v = record { shape = refl; opened = refl; plan = refl; own = refl; joined = refl; rest = refl; log = grows-refl v; notes = λ at n f k h. h; floors = λ at n f k h. h; ran = ran-refl v; only = only-none traces_cells v; cells = λ _. keep-none v }
+pub traced-refl : (v : View) → OnlyTraced v v
+traced-refl v = record { shape = refl; opened = refl; plan = refl; own = refl; joined = refl; rest = refl; log = grows-refl v; notes = λ at n f k h. h; floors = λ at n f k h. h; ran = ran-refl v; only = only-none traces_cells v; cells = λ _. keep-none v }
 
 by-join : (t : Bool) (u v w : View) → OnlyTracedBy t u v → OnlyTracedBy t v w → OnlyTracedBy t u w
 by-join t u v w a b =
@@ -78,15 +79,15 @@ by-join t u v w a b =
       cells = λ h. keep-join u v w (ran-events u v w a.ran b.ran) a.ran (a.cells h) (b.cells h);
     }
 
-pub later-join : (u v w : View) → OnlyTraced u v → OnlyTraced v w → OnlyTraced u w
-later-join u v w a b = by-join true u v w a b
+pub traced-join : (u v w : View) → OnlyTraced u v → OnlyTraced v w → OnlyTraced u w
+traced-join u v w a b = by-join true u v w a b
 
 pub cleaned-join : (u v w : View) → OnlyCleaned u v → OnlyCleaned v w → OnlyCleaned u w
 cleaned-join u v w a b = by-join false u v w a b
 
 -- a seat that traced may have cleaned, too
-pub later-cleaned : (v w : View) → OnlyTraced v w → OnlyCleaned v w
-later-cleaned v w a =
+pub traced-cleaned : (v w : View) → OnlyTraced v w → OnlyCleaned v w
+traced-cleaned v w a =
     record {
       shape = a.shape;
       opened = a.opened;
@@ -123,8 +124,8 @@ by-step b v step n t e same seen sort keeps =
       cells = λ h. keep-one v step n (keeps h);
     }
 
-pub later-step : (v : View) (step : Step) (n : ℕ) → is_traced (place v.shape v.state step) ≡ true → rest_of (seat_after v.shape v.state step n) ≡ rest_of v.state → section_after v.shape v.plan v.state step v.own ≡ v.own → IsSeen step n v → traces_cells step ≡ true → keeps_cells v.state step ≡ true → OnlyTraced v (after step n v)
-later-step v step n t e same seen sort keeps = by-step true v step n t e same seen sort (λ _. keeps)
+pub traced-step : (v : View) (step : Step) (n : ℕ) → is_traced (place v.shape v.state step) ≡ true → rest_of (seat_after v.shape v.state step n) ≡ rest_of v.state → section_after v.shape v.plan v.state step v.own ≡ v.own → IsSeen step n v → traces_cells step ≡ true → keeps_cells v.state step ≡ true → OnlyTraced v (after step n v)
+traced-step v step n t e same seen sort keeps = by-step true v step n t e same seen sort (λ _. keeps)
 
 -- so where a cell in hand may be lost
 pub cleaned-step : (v : View) (step : Step) (n : ℕ) → is_traced (place v.shape v.state step) ≡ true → rest_of (seat_after v.shape v.state step n) ≡ rest_of v.state → section_after v.shape v.plan v.state step v.own ≡ v.own → IsSeen step n v → traces_cells step ≡ true → OnlyCleaned v (after step n v)
@@ -144,8 +145,8 @@ read-keeps v step n reads f at m k h =
     (cases_Bool (same_place to at))
 
 -- a step that reads a word, other than a counter
-pub later-read : (v : View) (step : Step) (n : ℕ) → written v.shape v.state step n ≡ n → is_counter (place v.shape v.state step) ≡ false → Finds step n v → rest_of (seat_after v.shape v.state step n) ≡ rest_of v.state → section_after v.shape v.plan v.state step v.own ≡ v.own → is_store step ≡ false → traces_cells step ≡ true → keeps_cells v.state step ≡ true → OnlyTraced v (after step n v)
-later-read v step n reads c f e same load sort keeps =
+pub traced-read : (v : View) (step : Step) (n : ℕ) → written v.shape v.state step n ≡ n → is_counter (place v.shape v.state step) ≡ false → Finds step n v → rest_of (seat_after v.shape v.state step n) ≡ rest_of v.state → section_after v.shape v.plan v.state step v.own ≡ v.own → is_store step ≡ false → traces_cells step ≡ true → keeps_cells v.state step ≡ true → OnlyTraced v (after step n v)
+traced-read v step n reads c f e same load sort keeps =
     let to : ℕ × ℕ = place v.shape v.state step in
     let s : SeatState = seat_after v.shape v.state step n in
     record {
@@ -171,30 +172,30 @@ later-read v step n reads c f e same load sort keeps =
 -- a cell is marked: the others of its block stay marked
 pub mark-keeps : (v : View) (x n c : ℕ) → Finds (SetMark x) n v → v.state.alone ≡ true → IsNotedMarked v c → IsNotedMarked (after (SetMark x) n v) c
 mark-keeps v x n c f alone k =
-    let to : ℕ × ℕ = mark_at (x / 64) in
+    let to : ℕ × ℕ = mark_at (x / block_cells) in
     let s : SeatState = seat_after v.shape v.state (SetMark x) n in
     ⊎_elim
-    (λ (here : same_place to (mark_at (c / 64)) ≡ true).
-    let word : ℕ = with_bit n (x % 64) in (
+    (λ (here : same_place to (mark_at (c / block_cells)) ≡ true).
+    let word : ℕ = with_bit n (x % block_cells) in (
       word,
-      note-again (steady s) to (mark_at (c / 64)) word word v.known here refl (mark-steady s (c / 64) word alone),
-      bit-more n (2 ^ (x % 64)) (c % 64) (ap (λ m. has_bit m (c % 64)) (found-noted v (SetMark x) n k.0 (mark_at (c / 64)) f here k.1) ∙ k.2),
+      note-again (steady s) to (mark_at (c / block_cells)) word word v.known here refl (mark-steady s (c / block_cells) word alone),
+      bit-more n (2 ^ (x % block_cells)) (c % block_cells) (ap (λ m. has_bit m (c % block_cells)) (found-noted v (SetMark x) n k.0 (mark_at (c / block_cells)) f here k.1) ∙ k.2),
     ))
-    (λ (apart : same_place to (mark_at (c / 64)) ≡ false).
-    (k.0, note-stays (steady s) to (mark_at (c / 64)) (with_bit n (x % 64)) k.0 v.known apart (mark-steady s (c / 64) k.0 alone) k.1, k.2))
-    (cases_Bool (same_place to (mark_at (c / 64))))
+    (λ (apart : same_place to (mark_at (c / block_cells)) ≡ false).
+    (k.0, note-stays (steady s) to (mark_at (c / block_cells)) (with_bit n (x % block_cells)) k.0 v.known apart (mark-steady s (c / block_cells) k.0 alone) k.1, k.2))
+    (cases_Bool (same_place to (mark_at (c / block_cells))))
 
--- and this one is noted as marked
+-- the cell that is marked is noted as marked
 pub marks-noted : (v : View) (x n : ℕ) → v.state.alone ≡ true → IsNotedMarked (after (SetMark x) n v) x
 marks-noted v x n alone =
-    let at : ℕ × ℕ = mark_at (x / 64) in
+    let at : ℕ × ℕ = mark_at (x / block_cells) in
     let s : SeatState = seat_after v.shape v.state (SetMark x) n in
-    let word : ℕ = with_bit n (x % 64) in
-    (word, note-again (steady s) at at word word v.known (place-again at) refl (mark-steady s (x / 64) word alone), with_same n (x % 64))
+    let word : ℕ = with_bit n (x % block_cells) in
+    (word, note-again (steady s) at at word word v.known (place-again at) refl (mark-steady s (x / block_cells) word alone), with_same n (x % block_cells))
 
 -- the seat only traced up to the view after the call, where it is that after the step
-pub later-to : (v w : View) (step : Step) (n : ℕ) → w ≡ after step n v → OnlyTraced v (after step n v) → OnlyTraced v w
-later-to v w step n e k = subst (OnlyTraced v) (sym e) k
+pub traced-to : (v w : View) (step : Step) (n : ℕ) → w ≡ after step n v → OnlyTraced v (after step n v) → OnlyTraced v w
+traced-to v w step n e k = subst (OnlyTraced v) (sym e) k
 
 pub cleaned-to : (v w : View) (step : Step) (n : ℕ) → w ≡ after step n v → OnlyCleaned v (after step n v) → OnlyCleaned v w
 cleaned-to v w step n e k = subst (OnlyCleaned v) (sym e) k

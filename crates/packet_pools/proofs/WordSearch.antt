@@ -12,6 +12,7 @@ use Rattle.mark_core.specs.Bits.{has_bit}
 use Rattle.mark_core.specs.Held.{holds, has_free_slot}
 use Rattle.mark_core.specs.Cells.{in_pool, pool_count, holder_count}
 use Rattle.mark_core.specs.Layout.{words_of, pool_words}
+use Rattle.mark_core.specs.Numbers.{pools_in_all, word_bits}
 use Rattle.mark_core.specs.Views.{hands}
 use Rattle.mark_core.specs.Steps.{Core}
 use Rattle.mark_core.specs.declared.kinds.Shape.{Shape}
@@ -27,15 +28,15 @@ use Rattle.packet_pools.specs.OnlyTraced.{OnlyTraced}
 use Rattle.gc_table.specs.Log.{events}
 use Rattle.packet_pools.specs.Hands.{with_packet}
 use Rattle.packet_pools.specs.Seeking.{gets, gets_from, some_event, shows_outside, seen_outside, was_got, only_moves}
-use Rattle.packet_pools.specs.Gains.{Seeks, Gains, Misses, missed}
+use Rattle.packet_pools.specs.Gains.{Seeks, Gains, MissesPackets, missed}
 use Rattle.gc_table.proofs.History.Log.{entry_of, events-after, events-join}
-use Rattle.packet_pools.proofs.TracedSteps.{later-join}
+use Rattle.packet_pools.proofs.TracedSteps.{traced-join}
 use Rattle.packet_pools.proofs.Conditions.{traces-later}
-use Rattle.packet_pools.proofs.Doing.{later-look}
+use Rattle.packet_pools.proofs.Doing.{traced-look}
 use Rattle.packet_pools.proofs.Searches.{before-left, missed-left, missed-right, some-parts, some-right, ungot, moves-join}
 
 -- a packet that a look found in a pool isn't in the seat's hand
-pub shown-unheld : (v : View) (q g n p : ℕ) → Finds (Look q g) n v → q < 4 → p < v.shape.packets → p / 64 ≡ g → has_bit n (p % 64) ≡ true → holds v.state.held p ≡ false
+pub shown-unheld : (v : View) (q g n p : ℕ) → Finds (Look q g) n v → q < pools_in_all → p < v.shape.packets → p / word_bits ≡ g → has_bit n (p % word_bits) ≡ true → holds v.state.held p ≡ false
 shown-unheld v q g n p f b low here bit = false_from_ne_true (holds v.state.held p) (λ h. true≢false (sym shown ∙ in-no-pool sh pools q p b (alone h).0))
   where
     c : Core
@@ -48,7 +49,7 @@ shown-unheld v q g n p f b low here bit = false_from_ne_true (holds v.state.held
     pools = (words_of sh c.words).pools
 
     shown : in_pool sh pools q p ≡ true
-    shown = ap (λ x. has_bit (slice_index pools (q * pool_words sh + x)) (p % 64)) here ∙ (ap (λ x. has_bit x (p % 64)) f.word ∙ bit)
+    shown = ap (λ x. has_bit (slice_index pools (q * pool_words sh + x)) (p % word_bits)) here ∙ (ap (λ x. has_bit x (p % word_bits)) f.word ∙ bit)
 
     within : f.index < length c.seats
     within = slice_get_within c.seats f.index v.state f.agrees.seat
@@ -76,8 +77,8 @@ seeks-on q v w l e k =
     }
 
 -- what is taken later in a call
-pub gains-from : (q : ℕ) (room : Bool) (h : Held) (v w u : View) → OnlyTraced v w → OnlyTraced w u → w.state ≡ v.state → only_moves (q ∷ []) (events v w) ≡ true → Gains q room h w u → Gains q room h v u
-gains-from q room h v w u a b e before g =
+pub gains-from : (q : ℕ) (not_full : Bool) (h : Held) (v w u : View) → OnlyTraced v w → OnlyTraced w u → w.state ≡ v.state → only_moves (q ∷ []) (events v w) ≡ true → Gains q not_full h w u → Gains q not_full h v u
+gains-from q not_full h v w u a b e before g =
     record {
       unheld = ap (λ (s : SeatState). holds s.held h.packet) (sym e) ∙ g.unheld;
       held = g.held;
@@ -89,26 +90,26 @@ gains-from q room h v w u a b e before g =
     }
 
 -- so far in word g of pool q
-pub record WordSeeks (sh : Shape) (q : ℕ) (room : Bool) (g word p : ℕ) (v w : View) : Type 0 where
-  pub later : OnlyTraced v w
+pub record WordSeeks (sh : Shape) (q : ℕ) (not_full : Bool) (g word p : ℕ) (v w : View) : Type 0 where
+  pub only : OnlyTraced v w
   pub state : w.state ≡ v.state
-  pub misses : Misses sh q room (64 * g) p (events v w)
-  pub shown : (x : ℕ) → x / 64 ≡ g → has_bit word (x % 64) ≡ false → seen_outside q x (events v w) ≡ true
-  pub unheld : (x : ℕ) → x < sh.packets → x / 64 ≡ g → has_bit word (x % 64) ≡ true → holds v.state.held x ≡ false
+  pub misses : MissesPackets sh q not_full (word_bits * g) p (events v w)
+  pub shown : (x : ℕ) → x / word_bits ≡ g → has_bit word (x % word_bits) ≡ false → seen_outside q x (events v w) ≡ true
+  pub unheld : (x : ℕ) → x < sh.packets → x / word_bits ≡ g → has_bit word (x % word_bits) ≡ true → holds v.state.held x ≡ false
 
-pub word-starts : (sh : Shape) (q : ℕ) (room : Bool) (g n : ℕ) (v w : View) → v.shape ≡ sh → q < 4 → w ≡ after (Look q g) n v → Finds (Look q g) n v → WordSeeks sh q room g n (64 * g) v w
-word-starts sh q room g n v w shape b e f =
+pub word-starts : (sh : Shape) (q : ℕ) (not_full : Bool) (g n : ℕ) (v w : View) → v.shape ≡ sh → q < pools_in_all → w ≡ after (Look q g) n v → Finds (Look q g) n v → WordSeeks sh q not_full g n (word_bits * g) v w
+word-starts sh q not_full g n v w shape b e f =
     let es : events v w ≡ entry_of (Look q g) n ∷ [] = events-after v w (Look q g) n e in
     record {
-      later = later-look v w n q g f e;
+      only = traced-look v w n q g f e;
       state = ap (λ (x : View). x.state) e;
       misses = record { all = λ x l h. absurd (omega (arith, l, h)); got = λ x t. absurd (false≢true (ap (was_got x) (sym es) ∙ t)); moves = ap (only_moves (q ∷ [])) es };
-      shown = λ x here clear. ap (seen_outside q x) es ∙ or_left _ _ (and_from _ _ (and_from _ _ (eq-eqb q q refl) (eq-eqb g (x / 64) (sym here))) (not_from_false _ clear));
+      shown = λ x here clear. ap (seen_outside q x) es ∙ or_left _ _ (and_from _ _ (and_from _ _ (eq-eqb q q refl) (eq-eqb g (x / word_bits) (sym here))) (not_from_false _ clear));
       unheld = λ x low here bit. shown-unheld v q g n x f b (subst (λ (s : Shape). x < s.packets) (sym shape) low) here bit;
     }
 
 -- the bits below the lowest one that is set are clear
-clear-below : (word i : ℕ) → word < 2 ^ 64 → i < trailing_zeros w64 word → i < 64 → has_bit word i ≡ false
+clear-below : (word i : ℕ) → word < 2 ^ 64 → i < trailing_zeros w64 word → i < word_bits → has_bit word i ≡ false
 clear-below word i small below l =
     ⊎_elim
     (λ (some : 0 < word). ap (λ b. b == 1) ((bit_at-trailing_zeros w64 word some small).2 i below))
@@ -116,20 +117,20 @@ clear-below word i small below l =
     (cases_lt 0 word)
 
 -- the search begins at the first packet whose bit is set
-pub word-begins : (sh : Shape) (q : ℕ) (room : Bool) (g n z : ℕ) (v w : View) → n < 2 ^ 64 → z ≡ trailing_zeros w64 n → WordSeeks sh q room g n (64 * g) v w → WordSeeks sh q room g n (64 * g + z) v w
-word-begins sh q room g n z v w small is k =
+pub word-begins : (sh : Shape) (q : ℕ) (not_full : Bool) (g n z : ℕ) (v w : View) → n < 2 ^ 64 → z ≡ trailing_zeros w64 n → WordSeeks sh q not_full g n (word_bits * g) v w → WordSeeks sh q not_full g n (word_bits * g + z) v w
+word-begins sh q not_full g n z v w small is k =
     let most = trailing_le 64 n in
     record {
-      later = k.later;
+      only = k.only;
       state = k.state;
       misses =
           record {
             all =
                 λ x a b low.
-                let here : x / 64 ≡ g = omega (arith, a, b, is, most) in
-                let place : x % 64 ≡ x - 64 * g = omega (arith, a, b, is, most) in
-                let below : x % 64 < trailing_zeros w64 n = omega (arith, a, b, is, place) in
-                or_left _ _ (or_left _ _ (k.shown x here (clear-below n (x % 64) small below (omega arith))));
+                let here : x / word_bits ≡ g = omega (arith, a, b, is, most) in
+                let place : x % word_bits ≡ x - word_bits * g = omega (arith, a, b, is, most) in
+                let below : x % word_bits < trailing_zeros w64 n = omega (arith, a, b, is, place) in
+                or_left _ _ (or_left _ _ (k.shown x here (clear-below n (x % word_bits) small below (omega arith))));
             got = λ x e. let r = k.misses.got x e in let l = r.1 in (r.0, omega (arith, l));
             moves = k.misses.moves;
           };
@@ -137,26 +138,26 @@ word-begins sh q room g n z v w small is k =
       unheld = k.unheld;
     }
 
-in-word : (g p : ℕ) → 64 * g ≤ p → p < 64 * g + 64 → p / 64 ≡ g
+in-word : (g p : ℕ) → word_bits * g ≤ p → p < word_bits * g + word_bits → p / word_bits ≡ g
 in-word g p l h = omega (arith, l, h)
 
-pub word-next : (sh : Shape) (q : ℕ) (room : Bool) (g word p : ℕ) (v w u : View) → 64 * g ≤ p → p < 64 * g + 64 → WordSeeks sh q room g word p v w → OnlyTraced w u → u.state ≡ w.state
-    → ((x : ℕ) → IsTrue (was_got x (events w u)) → IsTrue room × (x < p + 1)) → (p < sh.packets → IsTrue (has_bit word (p % 64)) → IsTrue (missed sh.entries q room p (events w u))) → only_moves (q ∷ []) (events w u) ≡ true → WordSeeks sh q room g word (p + 1) v u
-word-next sh q room g word p v w u l h k later same got miss moving =
-    let es = events-join v w u k.later.log later.log in
+pub word-next : (sh : Shape) (q : ℕ) (not_full : Bool) (g word p : ℕ) (v w u : View) → word_bits * g ≤ p → p < word_bits * g + word_bits → WordSeeks sh q not_full g word p v w → OnlyTraced w u → u.state ≡ w.state
+    → ((x : ℕ) → IsTrue (was_got x (events w u)) → IsTrue not_full × (x < p + 1)) → (p < sh.packets → IsTrue (has_bit word (p % word_bits)) → IsTrue (missed sh.entries q not_full p (events w u))) → only_moves (q ∷ []) (events w u) ≡ true → WordSeeks sh q not_full g word (p + 1) v u
+word-next sh q not_full g word p v w u l h k later same got miss moving =
+    let es = events-join v w u k.only.log later.log in
     record {
-      later = later-join v w u k.later later;
+      only = traced-join v w u k.only later;
       state = same ∙ k.state;
       misses =
           record {
             all =
                 λ x a b low.
-                ap (missed sh.entries q room x) es
+                ap (missed sh.entries q not_full x) es
                 ∙ ⊎_elim
-                (λ (e : x < p). missed-left sh.entries q room x (events v w) (events w u) (k.misses.all x a e low))
+                (λ (e : x < p). missed-left sh.entries q not_full x (events v w) (events w u) (k.misses.all x a e low))
                 (λ (e : p ≤ x).
                 let is : p ≡ x = omega (arith, b, e) in
-                subst (λ y. missed sh.entries q room y (events v w ++ events w u) ≡ true) is (this (subst (λ y. y < sh.packets) (sym is) low) (has_bit word (p % 64)) refl))
+                subst (λ y. missed sh.entries q not_full y (events v w ++ events w u) ≡ true) is (this (subst (λ y. y < sh.packets) (sym is) low) (has_bit word (p % word_bits)) refl))
                 (cases_lt x p);
             got =
                 λ x e.
@@ -170,6 +171,6 @@ word-next sh q room g word p v w u l h k later same got miss moving =
       unheld = k.unheld;
     }
   where
-    this : p < sh.packets → (b : Bool) → has_bit word (p % 64) ≡ b → missed sh.entries q room p (events v w ++ events w u) ≡ true
-    this low true e = missed-right sh.entries q room p (events v w) (events w u) (ungot sh q room (64 * g) p p (events v w) k.misses (omega arith)) (miss low e)
-    this low false e = missed-left sh.entries q room p (events v w) (events w u) (or_left _ _ (or_left _ _ (k.shown p (in-word g p l h) e)))
+    this : p < sh.packets → (b : Bool) → has_bit word (p % word_bits) ≡ b → missed sh.entries q not_full p (events v w ++ events w u) ≡ true
+    this low true e = missed-right sh.entries q not_full p (events v w) (events w u) (ungot sh q not_full (word_bits * g) p p (events v w) k.misses (omega arith)) (miss low e)
+    this low false e = missed-left sh.entries q not_full p (events v w) (events w u) (or_left _ _ (or_left _ _ (k.shown p (in-word g p l h) e)))

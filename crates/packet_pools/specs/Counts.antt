@@ -1,6 +1,7 @@
 -- What the events of a scan count.
 use Rattle.std.specs.Prelude.{ℕ, ◌≡◌, ◌+◌, ◌-◌, ◌%◌, ◌&&◌, not, if◌then◌else◌, List, [], ◌∷◌, Bool, true, false, IsTrue}
 use Rattle.mark_core.specs.Bits.{has_bit}
+use Rattle.mark_core.specs.Cards.{block_cells}
 use Rattle.mark_core.specs.declared.kinds.Shape.{Shape}
 use Rattle.mark_core.specs.declared.kinds.Step.{Step}
 use Rattle.mark_core.specs.declared.kinds.Step.TheVariants.{Push, ReadField, SetMark, DirtyCard}
@@ -11,7 +12,7 @@ use Rattle.packet_pools.specs.declared.scanned.Scanned.{Scanned}
 
 -- a cell was marked that was white
 abbrev pub marks_white : Step → ℕ → Bool
-marks_white (SetMark c) found = not (has_bit found (c % 64))
+marks_white (SetMark c) found = not (has_bit found (c % block_cells))
 marks_white step found = false
 
 -- a cell was put into a packet
@@ -51,7 +52,7 @@ abbrev pub dirties_after_search : Shape → List Entry → Bool
 dirties_after_search sh es = each_after (some_end (searches_in_vain sh)) dirties [] es
 
 -- so many white cells were marked; so many went into packets, and so many found no packet with room, each after a search of its own
-pub record Counts (sh : Shape) (white kept lost : ℕ) (es : List Entry) : Type 0 where
+pub record CountsMarked (sh : Shape) (white kept lost : ℕ) (es : List Entry) : Type 0 where
   pub marked : count_of marks_white es ≡ white
   pub pushed : count_of pushes es ≡ kept
   pub overflowed : count_of dirties es ≡ lost
@@ -60,4 +61,4 @@ pub record Counts (sh : Shape) (white kept lost : ℕ) (es : List Entry) : Type 
 
 -- what a scan answers is what its events count
 abbrev pub CountsScanned : Shape → Scanned → List Entry → Type 0
-CountsScanned sh r es = Counts sh r.marked (r.marked - r.overflowed) r.overflowed es
+CountsScanned sh r es = CountsMarked sh r.marked (r.marked - r.overflowed) r.overflowed es

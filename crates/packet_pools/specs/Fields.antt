@@ -27,7 +27,7 @@ picked f [] = []
 picked f (e ∷ es) = f e.step e.found ++ picked f es
 
 -- these cells were to be marked, and no field was read
-pub record Asks (cells : List ℕ) (es : List Entry) : Type 0 where
+pub record AsksToMark (cells : List ℕ) (es : List Entry) : Type 0 where
   pub read : picked fields_read es ≡ []
   pub named : picked cells_named es ≡ []
   pub asked : picked cells_asked es ≡ cells

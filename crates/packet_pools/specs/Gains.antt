@@ -9,7 +9,7 @@ use Rattle.gc_table.specs.Fetching.{is_in_range}
 use Rattle.packet_pools.specs.declared.held.Held.{Held}
 use Rattle.gc_table.specs.Log.{events}
 use Rattle.packet_pools.specs.Tracing.{traces}
-use Rattle.packet_pools.specs.Hands.{IsHeld, with_packet}
+use Rattle.packet_pools.specs.Hands.{HoldsPacket, with_packet}
 use Rattle.packet_pools.specs.Seeking.{was_missed, was_full, was_got, was_got_from, all_missed, only_moves}
 
 -- the packet came from the first of these pools that had one to take
@@ -20,7 +20,7 @@ ComesFrom sh (q ∷ qs) h es = (IsTrue (is_in_range sh q h.length) × IsTrue (wa
 -- the seat took a packet that it hadn't, out of the first of these pools that had one, and nothing else of its record changed
 pub record Takes (qs : List ℕ) (h : Held) (v w : View) : Type 0 where
   pub unheld : IsFalse (holds v.state.held h.packet)
-  pub held : IsHeld h w
+  pub held : HoldsPacket h w
   pub state : w.state ≡ record v.state { held = with_packet v.state.held h.packet h.length }
   pub from : ComesFrom v.shape qs h (events v w)
   pub moves : IsTrue (only_moves qs (events v w))
@@ -33,29 +33,30 @@ pub record Seeks (q : ℕ) (v : View) : Type 0 where
   pub uncredited : IsFalse v.state.credit
   pub free : IsTrue (has_free_slot v.state.held)
 
--- it took this one, which has room where it should
-pub record Gains (q : ℕ) (room : Bool) (h : Held) (v w : View) : Type 0 where
+-- the seat took this packet out of pool q; where room was asked for, the packet has room
+pub record Gains (q : ℕ) (not_full : Bool) (h : Held) (v w : View) : Type 0 where
   pub unheld : IsFalse (holds v.state.held h.packet)
-  pub held : IsHeld h w
+  pub held : HoldsPacket h w
   pub state : w.state ≡ record v.state { held = with_packet v.state.held h.packet h.length; reserved = false }
   pub range : IsTrue (is_in_range v.shape q h.length)
-  pub roomy : IsTrue room → h.length < v.shape.entries
+  pub roomy : IsTrue not_full → h.length < v.shape.entries
   pub got : IsTrue (was_got_from q h.packet (events v w))
   pub moves : IsTrue (only_moves (q ∷ []) (events v w))
 
 -- packet p couldn't be taken out of pool q, or had no room where it should
 abbrev pub missed : ℕ → ℕ → Bool → ℕ → List Entry → Bool
-missed entries q room p es = was_missed q p es || (room && was_full entries p es)
+missed entries q not_full p es = was_missed q p es || (not_full && was_full entries p es)
 
--- so it is for the packets from lo on and below hi, and no others were taken
-pub record Misses (sh : Shape) (q : ℕ) (room : Bool) (lo hi : ℕ) (es : List Entry) : Type 0 where
-  pub all : (p : ℕ) → lo ≤ p → p < hi → p < sh.packets → IsTrue (missed sh.entries q room p es)
-  pub got : (p : ℕ) → IsTrue (was_got p es) → IsTrue room × (p < hi)
+-- each packet from lo on and below hi could not be taken out of pool q, or had no room where it should;
+-- a packet was got only where room was asked for, and lies below hi
+pub record MissesPackets (sh : Shape) (q : ℕ) (not_full : Bool) (lo hi : ℕ) (es : List Entry) : Type 0 where
+  pub all : (p : ℕ) → lo ≤ p → p < hi → p < sh.packets → IsTrue (missed sh.entries q not_full p es)
+  pub got : (p : ℕ) → IsTrue (was_got p es) → IsTrue not_full × (p < hi)
   pub moves : IsTrue (only_moves (q ∷ []) es)
 
--- so it is of those packets, and the seat's record is as it was
+-- each packet from lo on and below hi was missed, or had no room where it should, and the seat's record is as it was
 abbrev pub FindsNone : Shape → ℕ → Bool → ℕ → ℕ → View → View → Type 0
-FindsNone sh q room lo hi v w = (w.state ≡ v.state) × Misses sh q room lo hi (events v w)
+FindsNone sh q not_full lo hi v w = (w.state ≡ v.state) × MissesPackets sh q not_full lo hi (events v w)
 
 -- a search of these pools took nothing: this is true of its events, and the seat's record is as it was
 abbrev pub TakesNone : (List Entry → Type 0) → List ℕ → View → View → Type 0

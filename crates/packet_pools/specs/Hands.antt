@@ -5,7 +5,7 @@ use Rattle.gc_table.specs.declared.view.View.{View}
 use Rattle.packet_pools.specs.declared.held.Held.{Held}
 
 -- the seat holds the packet, with this length
-pub record IsHeld (h : Held) (v : View) : Type 0 where
+pub record HoldsPacket (h : Held) (v : View) : Type 0 where
   pub there : h.packet < v.shape.packets
   pub known : known_length v.state.held h.packet ≡ Some h.length
   pub fits : h.length ≤ v.shape.entries

@@ -21,7 +21,7 @@ keeps_cells s (Pop p) = not (is_some s.popped)
 keeps_cells s (SetMark c) = not (is_some s.fresh)
 keeps_cells s step = true
 
--- so do all these steps
+-- none of these steps loses a cell in hand
 abbrev pub all_keep : View → List Entry → Bool
 all_keep v [] = true
 all_keep v (e ∷ es) = keeps_cells v.state e.step && all_keep (after e.step e.found v) es

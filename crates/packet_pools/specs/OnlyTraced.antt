@@ -1,6 +1,7 @@
 -- The steps that a call took, and what it leaves as it was.
 use Rattle.std.specs.Prelude.{ℕ, ◌≡◌, ◌/◌, ◌%◌, ◌||◌, ◌==◌, [], Bool, true, false, Some, None, IsTrue, IsFalse}
 use Rattle.mark_core.specs.Bits.{has_bit}
+use Rattle.mark_core.specs.Cards.{block_cells}
 use Rattle.mark_core.specs.Places.{the_empty_count, mark_at, card_at, head_at}
 use Rattle.mark_core.specs.Notes.{same_place, steady, keeps_bound}
 use Rattle.mark_core.specs.declared.kinds.Step.{Step}
@@ -45,13 +46,13 @@ rest_of s =
 abbrev pub KeepsNotes : View → View → Type 0
 KeepsNotes v w = (at : ℕ × ℕ) (n : ℕ) → IsFalse (is_traced at) → IsTrue (steady v.state at n) → look at v.known ≡ Some n → look at w.known ≡ Some n
 
--- so do the floors of counters
+-- the floors of counters that tracing does not write stay
 abbrev pub KeepsFloors : View → View → Type 0
 KeepsFloors v w = (at : ℕ × ℕ) (n : ℕ) → IsFalse (is_traced at) → IsTrue (keeps_bound v.state at) → look at v.floors ≡ Some n → look at w.floors ≡ Some n
 
 -- the seat has noted that cell c is marked
 abbrev pub IsNotedMarked : View → ℕ → Type 0
-IsNotedMarked v c = (n : ℕ) × (look (mark_at (c / 64)) v.known ≡ Some n) × IsTrue (has_bit n (c % 64))
+IsNotedMarked v c = (n : ℕ) × (look (mark_at (c / block_cells)) v.known ≡ Some n) × IsTrue (has_bit n (c % block_cells))
 
 -- a step of tracing
 abbrev pub traces_cells : Step → Bool

@@ -6,7 +6,7 @@ use Rattle.mark_core.specs.declared.seat.SeatState.{SeatState}
 use Rattle.mark_core.specs.declared.seat.Cleaning.{Cleaning}
 use Rattle.gc_table.specs.declared.view.View.{View}
 use Rattle.packet_pools.specs.declared.held.Held.{Held}
-use Rattle.packet_pools.specs.Hands.{IsHeld, free_slots}
+use Rattle.packet_pools.specs.Hands.{HoldsPacket, free_slots}
 
 -- no popped cell is in hand, and these are what was loaded and what was marked
 pub record InHand (loaded marked : Option ℕ) (s : SeatState) : Type 0 where
@@ -16,25 +16,25 @@ pub record InHand (loaded marked : Option ℕ) (s : SeatState) : Type 0 where
 
 -- in place of packet h the seat holds k, which may be the same; all other slots are as they were, and none less is free
 pub record Fills (h k : Held) (v w : View) : Type 0 where
-  pub held : IsHeld k w
+  pub held : HoldsPacket k w
   pub free : IsTrue (has_free_slot w.state.held)
   pub frees : free_slots v.state.held ≤ free_slots w.state.held
   pub slots : drop_packet w.state.held k.packet ≡ drop_packet v.state.held h.packet
 
 -- a cleaning without the debt of its card
-abbrev pub settled : Option Cleaning → Option Cleaning
-settled None = None
-settled (Some x) = Some (record x { redirty = false })
+abbrev pub without_redirty : Option Cleaning → Option Cleaning
+without_redirty None = None
+without_redirty (Some x) = Some (record x { redirty = false })
 
 -- the card must be dirtied again
-abbrev pub owes_card : Option Cleaning → Bool
-owes_card None = false
-owes_card (Some x) = x.redirty
+abbrev pub owes_redirty : Option Cleaning → Bool
+owes_redirty None = false
+owes_redirty (Some x) = x.redirty
 
 -- the cleaning y is x, where no debt came up and one may have been paid
 pub record Settles (x y : Option Cleaning) : Type 0 where
-  pub same : settled y ≡ settled x
-  pub debt : IsTrue (owes_card y) → IsTrue (owes_card x)
+  pub same : without_redirty y ≡ without_redirty x
+  pub debt : IsTrue (owes_redirty y) → IsTrue (owes_redirty x)
 
 -- the seat pushed what it marked: nothing else is in hand, and its scan and cleaning are these
 pub record Pushes (h k : Held) (scanned : Option (ℕ × ℕ)) (cleaned : Option Cleaning) (v w : View) : Type 0 where

@@ -2,7 +2,7 @@
 use Rattle.std.specs.Prelude.{ℕ, ◌/◌, ◌%◌, ◌==◌, ◌&&◌, ◌||◌, not, List, [], ◌∷◌, Bool, true, false, nat_le, IsTrue}
 use Rattle.std.specs.List.{list_all, range_with_len}
 use Rattle.mark_core.specs.Bits.{has_bit, reference_in}
-use Rattle.mark_core.specs.Numbers.{empty_pool_number, low_pool_number, high_pool_number, deferred_pool_number}
+use Rattle.mark_core.specs.Numbers.{empty_pool_number, low_pool_number, high_pool_number, deferred_pool_number, word_bits}
 use Rattle.mark_core.specs.declared.kinds.Shape.{Shape}
 use Rattle.mark_core.specs.declared.kinds.Step.{Step}
 use Rattle.mark_core.specs.declared.kinds.Step.TheVariants.{Reserve, Take, Give, Credit, Look, StoreLength, ReadLength}
@@ -16,24 +16,28 @@ input_pools = high_pool_number ∷ low_pool_number ∷ []
 abbrev pub output_pools : List ℕ
 output_pools = empty_pool_number ∷ low_pool_number ∷ high_pool_number ∷ []
 
+-- the pool in which a deferred packet is looked for
+abbrev pub deferred_pools : List ℕ
+deferred_pools = deferred_pool_number ∷ []
+
 -- a look that found the bit of packet p in pool q clear
 abbrev pub shows_outside : ℕ → ℕ → Step → ℕ → Bool
-shows_outside q p (Look pool g) found = (pool == q) && (g == p / 64) && not (has_bit found (p % 64))
+shows_outside q p (Look pool g) found = (pool == q) && (g == p / word_bits) && not (has_bit found (p % word_bits))
 shows_outside q p step found = false
 
 -- a take of packet p out of pool q that found its bit clear: another seat was first
 abbrev pub loses : ℕ → ℕ → Step → ℕ → Bool
-loses q p (Take pool packet) found = (pool == q) && (packet == p) && not (has_bit found (p % 64))
+loses q p (Take pool packet) found = (pool == q) && (packet == p) && not (has_bit found (p % word_bits))
 loses q p step found = false
 
 -- a take of packet p out of pool q that got it
 abbrev pub gets_from : ℕ → ℕ → Step → ℕ → Bool
-gets_from q p (Take pool packet) found = (pool == q) && (packet == p) && has_bit found (p % 64)
+gets_from q p (Take pool packet) found = (pool == q) && (packet == p) && has_bit found (p % word_bits)
 gets_from q p step found = false
 
 -- a take of packet p that got it
 abbrev pub gets : ℕ → Step → ℕ → Bool
-gets p (Take pool packet) found = (packet == p) && has_bit found (p % 64)
+gets p (Take pool packet) found = (packet == p) && has_bit found (p % word_bits)
 gets p step found = false
 
 -- a length of packet p that leaves no room
@@ -105,27 +109,27 @@ moves_packet qs (StoreLength packet) = true
 moves_packet qs (ReadLength packet) = true
 moves_packet qs step = false
 
--- all these events are such steps
+-- each of these events is a step by which packets are taken out of these pools, or given back and not deferred
 abbrev pub only_moves : List ℕ → List Entry → Bool
 only_moves qs [] = true
 only_moves qs (e ∷ es) = moves_packet qs e.step && only_moves qs es
 
--- no packet to read from could be had
+-- each packet was missed in each pool that has packets to read from
 abbrev pub no_input : Shape → List Entry → Bool
 no_input sh es = all_missed sh input_pools es
 
--- that this was so
+-- no packet to read from could be had: each was missed, pool by pool
 abbrev pub NoInput : Shape → List Entry → Type 0
 NoInput sh es = IsTrue (no_input sh es)
 
 -- no deferred packet could be had
 abbrev pub NoDeferred : Shape → List Entry → Type 0
-NoDeferred sh es = IsTrue (all_missed sh (deferred_pool_number ∷ []) es)
+NoDeferred sh es = IsTrue (all_missed sh deferred_pools es)
 
--- no packet with room could be had
+-- each packet was missed in each pool, or found full
 abbrev pub no_output : Shape → List Entry → Bool
 no_output sh es = list_all (λ p. was_roomless sh.entries p es) (range_with_len 0 sh.packets)
 
--- that this was so
+-- no packet with room could be had: each was missed, pool by pool, or found full
 abbrev pub NoOutput : Shape → List Entry → Type 0
 NoOutput sh es = IsTrue (no_output sh es)

@@ -17,12 +17,12 @@ notes_drain v = is_the (look the_phase v.known) (phase_number Drain)
 abbrev pub traces : View → Bool
 traces v = (v.state.active && saw v.state.phase_seen Marking) || (v.state.knows && notes_drain v) || (v.state.admitted && saw v.state.phase_seen Drain)
 
--- it may trace, and is between two calls: neither a reservation nor a credit is out
+-- the seat may trace, and is between two calls: neither a reservation nor a credit is out
 pub record Traces (v : View) : Type 0 where
   pub may : IsTrue (traces v)
   pub unreserved : IsFalse v.state.reserved
   pub uncredited : IsFalse v.state.credit
 
--- a seat of the heap that does so: what each call of tracing is given, and leaves
+-- a seat of the heap that may trace, between two calls: what each call of tracing is given, and leaves
 abbrev pub IsTracer : Heap → HeapSeat → Type 0
 IsTracer h s = Sits h s × Traces (view_of s)

@@ -15,13 +15,13 @@ use crate::lengths::read_length;
 use gc_table::{Heap, HeapSeat};
 use mark_core::DEFERRED_POOL;
 
-/// Takes packet p out of the deferred pool, unless another seat is first. The seat holds at most three.
+/// Takes packet p out of the deferred pool, unless another seat is first. The seat holds at most three. None where the packet is not in that pool any more.
 pub fn take_deferred_at(heap: &Heap, seat: &mut HeapSeat, p: u32) -> Option<Held>
     requires seat { IsTracer heap.now seat.old }
     requires free { IsTrue (has_free_slot (state_of seat.old).held) }
     requires packet { (p < heap.now.shape.packets) × IsFalse (holds (state_of seat.old).held p) }
     ensures seat { IsTracer heap.now seat.new }
-    ensures later { Across OnlyTraced seat.old seat.new }
+    ensures only { Across OnlyTraced seat.old seat.new }
     ensures some { IfSome result (λ h. Across (Gains deferred_pool_number false h) seat.old seat.new × (h.packet ≡ p) × (steps_of (did seat.old seat.new) ≡ Take deferred_pool_number p ∷ ReadLength p ∷ [])) }
     ensures none { IfNone result ((state_of seat.new ≡ state_of seat.old) × IsTrue (was_lost deferred_pool_number p (did seat.old seat.new)) × (steps_of (did seat.old seat.new) ≡ Take deferred_pool_number p ∷ [])) }
 {

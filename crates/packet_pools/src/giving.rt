@@ -7,7 +7,7 @@ ghost use Rattle.gc_table.specs.Seats.{Across, did, state_of, view_of};
 ghost use Rattle.packet_pools.specs.OnlyTraced.{OnlyTraced};
 ghost use Rattle.gc_table.specs.Log.{steps_of};
 ghost use Rattle.packet_pools.specs.Tracing.{IsTracer};
-ghost use Rattle.packet_pools.specs.Hands.{IsHeld};
+ghost use Rattle.packet_pools.specs.Hands.{HoldsPacket};
 
 use crate::held::Held;
 use gc_table::{Heap, HeapSeat};
@@ -16,11 +16,11 @@ use gc_table::{Heap, HeapSeat};
 /// A deferred packet has an entry, and a seat with work in hand keeps another packet.
 pub fn give(heap: &Heap, seat: &mut HeapSeat, held: Held, deferred: bool)
     requires seat { IsTracer heap.now seat.old }
-    requires held { IsHeld held (view_of seat.old) }
+    requires held { HoldsPacket held (view_of seat.old) }
     requires deferred { IsTrue deferred → 0 < held.length }
     requires work { IsTrue (work_in_hand heap.now.shape.fields (state_of seat.old)) → IsTrue (holds_another (state_of seat.old).held held.packet) }
     ensures seat { IsTracer heap.now seat.new }
-    ensures later { Across OnlyTraced seat.old seat.new }
+    ensures only { Across OnlyTraced seat.old seat.new }
     ensures state { state_of seat.new ≡ record (state_of seat.old) { held = drop_packet (state_of seat.old).held held.packet } }
     ensures steps { steps_of (did seat.old seat.new) ≡ StoreLength held.packet ∷ Give held.packet deferred ∷ (if held.length == 0 then Credit ∷ [] else []) }
 {

@@ -8,14 +8,14 @@ pub struct Held {
 }
 
 impl Held {
-    /// Which packet it is.
+    /// The number of the packet.
     pub fn packet(&self) -> u32
         ensures { result ≡ self.now.packet }
     {
         self.packet
     }
 
-    /// How many cells are in it.
+    /// How many cells are in the packet: at most as many as the shape has entries.
     pub fn length(&self) -> u32
         ensures { result ≡ self.now.length }
     {

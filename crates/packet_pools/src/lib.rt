@@ -44,7 +44,7 @@
 //! into packets (`specs/Fields.antt`, `specs/Counts.antt`); and that the slots are as they were, but for the packet
 //! that stands in the place of the one handed in (`specs/Scanning.antt`).
 //!
-//! # Where what is
+//! # Where things are
 //!
 //! `held` has the packet in hand, `entries` puts cells in and takes them out, `giving` returns a packet, `seeking`
 //! looks for one in a pool and `taking` in the pools of each use, `room` changes a full packet for another, `marking`

@@ -4,10 +4,10 @@ ghost use Rattle.mark_core.specs.Held.{has_free_slot};
 ghost use Rattle.gc_table.specs.Seats.{Across, did, state_of, view_of};
 ghost use Rattle.packet_pools.specs.OnlyTraced.{OnlyTraced, IsNotedMarked};
 ghost use Rattle.packet_pools.specs.Tracing.{IsTracer};
-ghost use Rattle.packet_pools.specs.Hands.{IsHeld};
+ghost use Rattle.packet_pools.specs.Hands.{HoldsPacket};
 ghost use Rattle.packet_pools.specs.Scanning.{InHand, Pushes};
-ghost use Rattle.packet_pools.specs.Counts.{Counts, CountsScanned};
-ghost use Rattle.packet_pools.specs.Fields.{Asks};
+ghost use Rattle.packet_pools.specs.Counts.{CountsMarked, CountsScanned};
+ghost use Rattle.packet_pools.specs.Fields.{AsksToMark};
 
 use crate::entries::push;
 use crate::held::{Held, PacketFull};
@@ -20,13 +20,13 @@ use mark_core::{Cell, card_of};
 #[inline(always)]
 fn push_marked(heap: &Heap, seat: &mut HeapSeat, out: &mut Held, cell: Cell) -> bool
     requires seat { IsTracer heap.now seat.old }
-    requires out { IsHeld out.old (view_of seat.old) × IsTrue (has_free_slot (state_of seat.old).held) }
+    requires out { HoldsPacket out.old (view_of seat.old) × IsTrue (has_free_slot (state_of seat.old).held) }
     requires hand { InHand None (Some cell) (state_of seat.old) }
     ensures seat { IsTracer heap.now seat.new }
-    ensures later { Across OnlyTraced seat.old seat.new }
+    ensures only { Across OnlyTraced seat.old seat.new }
     ensures pushes { Across (Pushes out.old out.new (state_of seat.old).scan (state_of seat.old).cleaning) seat.old seat.new }
-    ensures counts { Counts heap.now.shape 0 (if result then 0 else 1) (if result then 1 else 0) (did seat.old seat.new) }
-    ensures asks { Asks [] (did seat.old seat.new) }
+    ensures counts { CountsMarked heap.now.shape 0 (if result then 0 else 1) (if result then 1 else 0) (did seat.old seat.new) }
+    ensures asks { AsksToMark [] (did seat.old seat.new) }
 {
     make_room(heap, seat, out);
     match push(heap, seat, out, cell) {
@@ -43,14 +43,14 @@ fn push_marked(heap: &Heap, seat: &mut HeapSeat, out: &mut Held, cell: Cell) -> 
 #[inline(always)]
 pub fn mark_cell(heap: &Heap, seat: &mut HeapSeat, out: &mut Held, cell: Cell) -> Scanned
     requires seat { IsTracer heap.now seat.old }
-    requires out { IsHeld out.old (view_of seat.old) × IsTrue (has_free_slot (state_of seat.old).held) }
+    requires out { HoldsPacket out.old (view_of seat.old) × IsTrue (has_free_slot (state_of seat.old).held) }
     requires hand { InHand (Some cell) None (state_of seat.old) }
     ensures seat { IsTracer heap.now seat.new }
-    ensures later { Across OnlyTraced seat.old seat.new }
+    ensures only { Across OnlyTraced seat.old seat.new }
     ensures pushes { Across (Pushes out.old out.new (state_of seat.old).scan (state_of seat.old).cleaning) seat.old seat.new }
     ensures most { (result.overflowed ≤ result.marked) × (result.marked ≤ 1) }
     ensures counts { CountsScanned heap.now.shape result (did seat.old seat.new) }
-    ensures asks { Asks (cell ∷ []) (did seat.old seat.new) }
+    ensures asks { AsksToMark (cell ∷ []) (did seat.old seat.new) }
     ensures noted { IsTrue (state_of seat.old).alone → IsNotedMarked (view_of seat.new) cell }
 {
     if !heap.set_mark(seat, cell) {

@@ -4,7 +4,7 @@ ghost use Rattle.mark_core.specs.Held.{drop_packet, has_free_slot};
 ghost use Rattle.gc_table.specs.Seats.{Across, did, state_of, view_of};
 ghost use Rattle.packet_pools.specs.OnlyTraced.{OnlyTraced};
 ghost use Rattle.packet_pools.specs.Tracing.{IsTracer};
-ghost use Rattle.packet_pools.specs.Hands.{IsHeld};
+ghost use Rattle.packet_pools.specs.Hands.{HoldsPacket};
 ghost use Rattle.packet_pools.specs.Seeking.{NoOutput, only_moves, output_pools};
 ghost use Rattle.packet_pools.specs.Scanning.{Fills};
 
@@ -17,10 +17,10 @@ use std::mem;
 /// Returns the packet for another one, which the seat holds as well.
 fn change(heap: &Heap, seat: &mut HeapSeat, out: &mut Held, other: Held)
     requires seat { IsTracer heap.now seat.old }
-    requires out { IsHeld out.old (view_of seat.old) }
-    requires other { IsHeld other (view_of seat.old) × (other.packet ≢ out.old.packet) }
+    requires out { HoldsPacket out.old (view_of seat.old) }
+    requires other { HoldsPacket other (view_of seat.old) × (other.packet ≢ out.old.packet) }
     ensures seat { IsTracer heap.now seat.new }
-    ensures later { Across OnlyTraced seat.old seat.new }
+    ensures only { Across OnlyTraced seat.old seat.new }
     ensures out { out.new ≡ other }
     ensures state { state_of seat.new ≡ record (state_of seat.old) { held = drop_packet (state_of seat.old).held out.old.packet } }
     ensures moves { IsTrue (only_moves output_pools (did seat.old seat.new)) }
@@ -33,9 +33,9 @@ fn change(heap: &Heap, seat: &mut HeapSeat, out: &mut Held, other: Held)
 #[inline(never)]
 fn change_full(heap: &Heap, seat: &mut HeapSeat, out: &mut Held)
     requires seat { IsTracer heap.now seat.old }
-    requires out { IsHeld out.old (view_of seat.old) × IsTrue (has_free_slot (state_of seat.old).held) }
+    requires out { HoldsPacket out.old (view_of seat.old) × IsTrue (has_free_slot (state_of seat.old).held) }
     ensures seat { IsTracer heap.now seat.new }
-    ensures later { Across OnlyTraced seat.old seat.new }
+    ensures only { Across OnlyTraced seat.old seat.new }
     ensures out { Across (Fills out.old out.new) seat.old seat.new }
     ensures state { state_of seat.new ≡ record (state_of seat.old) { held = (state_of seat.new).held } }
     ensures moves { IsTrue (only_moves output_pools (did seat.old seat.new)) }
@@ -50,9 +50,9 @@ fn change_full(heap: &Heap, seat: &mut HeapSeat, out: &mut Held)
 #[inline(always)]
 pub(crate) fn make_room(heap: &Heap, seat: &mut HeapSeat, out: &mut Held)
     requires seat { IsTracer heap.now seat.old }
-    requires out { IsHeld out.old (view_of seat.old) × IsTrue (has_free_slot (state_of seat.old).held) }
+    requires out { HoldsPacket out.old (view_of seat.old) × IsTrue (has_free_slot (state_of seat.old).held) }
     ensures seat { IsTracer heap.now seat.new }
-    ensures later { Across OnlyTraced seat.old seat.new }
+    ensures only { Across OnlyTraced seat.old seat.new }
     ensures out { Across (Fills out.old out.new) seat.old seat.new }
     ensures state { state_of seat.new ≡ record (state_of seat.old) { held = (state_of seat.new).held } }
     ensures moves { IsTrue (only_moves output_pools (did seat.old seat.new)) }

@@ -6,7 +6,7 @@ ghost use Rattle.mark_core.specs.Seats.{cleaning_left, may_scan, scan_left, work
 ghost use Rattle.gc_table.specs.Seats.{Across, did, state_of, view_of};
 ghost use Rattle.packet_pools.specs.OnlyTraced.{OnlyTraced};
 ghost use Rattle.packet_pools.specs.Tracing.{IsTracer};
-ghost use Rattle.packet_pools.specs.Hands.{IsHeld};
+ghost use Rattle.packet_pools.specs.Hands.{HoldsPacket};
 ghost use Rattle.packet_pools.specs.Scanning.{InHand, Pushes, scan_end, cleaning_end};
 ghost use Rattle.packet_pools.specs.Counts.{CountsScanned};
 ghost use Rattle.packet_pools.specs.Fields.{Follows, fields_from, fields_left};
@@ -21,11 +21,11 @@ use mark_core::{Cell, cell_of};
 #[inline(always)]
 fn scan_field(heap: &Heap, seat: &mut HeapSeat, out: &mut Held, cell: Cell, i: u8) -> Scanned
     requires seat { IsTracer heap.now seat.old }
-    requires out { IsHeld out.old (view_of seat.old) × IsTrue (has_free_slot (state_of seat.old).held) }
+    requires out { HoldsPacket out.old (view_of seat.old) × IsTrue (has_free_slot (state_of seat.old).held) }
     requires hand { InHand None None (state_of seat.old) }
     requires field { (i < heap.now.shape.fields) × IsTrue (may_read_field heap.now.shape (state_of seat.old) cell i) }
     ensures seat { IsTracer heap.now seat.new }
-    ensures later { Across OnlyTraced seat.old seat.new }
+    ensures only { Across OnlyTraced seat.old seat.new }
     ensures pushes { Across (Pushes out.old out.new (Some (cell, i + 1)) (without_cell (state_of seat.old).cleaning cell)) seat.old seat.new }
     ensures most { (result.overflowed ≤ result.marked) × (result.marked ≤ 1) }
     ensures counts { CountsScanned heap.now.shape result (did seat.old seat.new) }
@@ -42,11 +42,11 @@ fn scan_field(heap: &Heap, seat: &mut HeapSeat, out: &mut Held, cell: Cell, i: u
 #[inline(always)]
 fn scan_fields(heap: &Heap, seat: &mut HeapSeat, out: &mut Held, cell: Cell, next: u8) -> Scanned
     requires seat { IsTracer heap.now seat.old }
-    requires out { IsHeld out.old (view_of seat.old) × IsTrue (has_free_slot (state_of seat.old).held) }
+    requires out { HoldsPacket out.old (view_of seat.old) × IsTrue (has_free_slot (state_of seat.old).held) }
     requires hand { InHand None None (state_of seat.old) }
     requires scan { (state_of seat.old).scan ≡ Some (cell, next) }
     ensures seat { IsTracer heap.now seat.new }
-    ensures later { Across OnlyTraced seat.old seat.new }
+    ensures only { Across OnlyTraced seat.old seat.new }
     ensures pushes { Across (Pushes out.old out.new (scan_end heap.now.shape.fields (Some (cell, next))) (cleaning_end heap.now.shape.fields (Some (cell, next)) (state_of seat.old).cleaning)) seat.old seat.new }
     ensures most { (result.overflowed ≤ result.marked) × (result.marked ≤ heap.now.shape.fields - next) }
     ensures counts { CountsScanned heap.now.shape result (did seat.old seat.new) }
@@ -69,10 +69,10 @@ fn scan_fields(heap: &Heap, seat: &mut HeapSeat, out: &mut Held, cell: Cell, nex
 #[inline(always)]
 pub fn scan_cell(heap: &Heap, seat: &mut HeapSeat, out: &mut Held) -> Scanned
     requires seat { IsTracer heap.now seat.old }
-    requires out { IsHeld out.old (view_of seat.old) × IsTrue (has_free_slot (state_of seat.old).held) }
+    requires out { HoldsPacket out.old (view_of seat.old) × IsTrue (has_free_slot (state_of seat.old).held) }
     requires hand { InHand None None (state_of seat.old) }
     ensures seat { IsTracer heap.now seat.new }
-    ensures later { Across OnlyTraced seat.old seat.new }
+    ensures only { Across OnlyTraced seat.old seat.new }
     ensures pushes { Across (Pushes out.old out.new (scan_end heap.now.shape.fields (state_of seat.old).scan) (cleaning_end heap.now.shape.fields (state_of seat.old).scan (state_of seat.old).cleaning)) seat.old seat.new }
     ensures work { IsFalse (cleaning_left (state_of seat.old).cleaning) → IsFalse (work_in_hand heap.now.shape.fields (state_of seat.new)) }
     ensures most { (result.overflowed ≤ result.marked) × (result.marked ≤ heap.now.shape.fields) }
@@ -85,15 +85,16 @@ pub fn scan_cell(heap: &Heap, seat: &mut HeapSeat, out: &mut Held) -> Scanned
     }
 }
 
-/// Scans the object in scan, which is this one, from its first field on, in the same way.
+/// Scans the object in scan, which is `cell`, from its first field on: reads each field, marks what it refers to, and pushes what was white, or dirties the
+/// card of a cell that finds no packet with room.
 #[inline(always)]
 pub fn scan_whole(heap: &Heap, seat: &mut HeapSeat, out: &mut Held, cell: Cell) -> Scanned
     requires seat { IsTracer heap.now seat.old }
-    requires out { IsHeld out.old (view_of seat.old) × IsTrue (has_free_slot (state_of seat.old).held) }
+    requires out { HoldsPacket out.old (view_of seat.old) × IsTrue (has_free_slot (state_of seat.old).held) }
     requires hand { InHand None None (state_of seat.old) }
     requires scan { (state_of seat.old).scan ≡ Some (cell, 0) }
     ensures seat { IsTracer heap.now seat.new }
-    ensures later { Across OnlyTraced seat.old seat.new }
+    ensures only { Across OnlyTraced seat.old seat.new }
     ensures pushes { Across (Pushes out.old out.new (scan_end heap.now.shape.fields (state_of seat.old).scan) (cleaning_end heap.now.shape.fields (state_of seat.old).scan (state_of seat.old).cleaning)) seat.old seat.new }
     ensures work { IsFalse (cleaning_left (state_of seat.old).cleaning) → IsFalse (work_in_hand heap.now.shape.fields (state_of seat.new)) }
     ensures most { (result.overflowed ≤ result.marked) × (result.marked ≤ heap.now.shape.fields) }
@@ -103,14 +104,15 @@ pub fn scan_whole(heap: &Heap, seat: &mut HeapSeat, out: &mut Held, cell: Cell) 
     scan_fields(heap, seat, out, cell, 0)
 }
 
-/// Scans a cell that is left in the seat's cleaning, in the same way.
+/// Scans a cell that is left in the seat's cleaning: reads each field, marks what it refers to, and pushes what was white, or dirties the card of a cell that
+/// finds no packet with room.
 pub fn scan_again(heap: &Heap, seat: &mut HeapSeat, out: &mut Held, cell: Cell) -> Scanned
     requires seat { IsTracer heap.now seat.old }
-    requires out { IsHeld out.old (view_of seat.old) × IsTrue (has_free_slot (state_of seat.old).held) }
+    requires out { HoldsPacket out.old (view_of seat.old) × IsTrue (has_free_slot (state_of seat.old).held) }
     requires hand { InHand None None (state_of seat.old) }
     requires left { IsTrue (may_scan (state_of seat.old).cleaning cell) × IsFalse (scan_left heap.now.shape.fields (state_of seat.old).scan) }
     ensures seat { IsTracer heap.now seat.new }
-    ensures later { Across OnlyTraced seat.old seat.new }
+    ensures only { Across OnlyTraced seat.old seat.new }
     ensures pushes { Across (Pushes out.old out.new (Some (cell, heap.now.shape.fields)) (without_cell (state_of seat.old).cleaning cell)) seat.old seat.new }
     ensures most { (result.overflowed ≤ result.marked) × (result.marked ≤ heap.now.shape.fields) }
     ensures counts { CountsScanned heap.now.shape result (did seat.old seat.new) }

@@ -2,11 +2,11 @@
 ghost use Rattle.std.specs.Prelude.{◌<◌, ◌*◌, [], ◌∷◌, false, IsTrue, IfSome, IfNone};
 ghost use Rattle.mark_core.specs.Held.{has_free_slot};
 ghost use Rattle.mark_core.specs.Layout.{pool_words};
-ghost use Rattle.mark_core.specs.Numbers.{deferred_pool_number, empty_pool_number};
+ghost use Rattle.mark_core.specs.Numbers.{empty_pool_number, word_bits};
 ghost use Rattle.gc_table.specs.Seats.{Across, state_of};
 ghost use Rattle.packet_pools.specs.OnlyTraced.{OnlyTraced};
 ghost use Rattle.packet_pools.specs.Tracing.{IsTracer};
-ghost use Rattle.packet_pools.specs.Seeking.{NoDeferred, NoInput, NoOutput, input_pools, output_pools};
+ghost use Rattle.packet_pools.specs.Seeking.{NoDeferred, NoInput, NoOutput, deferred_pools, input_pools, output_pools};
 ghost use Rattle.packet_pools.specs.Gains.{FindsNone, Takes, TakesNone};
 
 use crate::held::Held;
@@ -20,7 +20,7 @@ pub fn take_input(heap: &Heap, seat: &mut HeapSeat) -> Option<Held>
     requires seat { IsTracer heap.now seat.old }
     requires free { IsTrue (has_free_slot (state_of seat.old).held) }
     ensures seat { IsTracer heap.now seat.new }
-    ensures later { Across OnlyTraced seat.old seat.new }
+    ensures only { Across OnlyTraced seat.old seat.new }
     ensures some { IfSome result (λ h. Across (Takes input_pools h) seat.old seat.new × (0 < h.length)) }
     ensures none { IfNone result (Across (TakesNone (NoInput heap.now.shape) input_pools) seat.old seat.new) }
 {
@@ -36,9 +36,9 @@ pub fn take_deferred(heap: &Heap, seat: &mut HeapSeat) -> Option<Held>
     requires seat { IsTracer heap.now seat.old }
     requires free { IsTrue (has_free_slot (state_of seat.old).held) }
     ensures seat { IsTracer heap.now seat.new }
-    ensures later { Across OnlyTraced seat.old seat.new }
-    ensures some { IfSome result (λ h. Across (Takes (deferred_pool_number ∷ []) h) seat.old seat.new × (0 < h.length)) }
-    ensures none { IfNone result (Across (TakesNone (NoDeferred heap.now.shape) (deferred_pool_number ∷ [])) seat.old seat.new) }
+    ensures only { Across OnlyTraced seat.old seat.new }
+    ensures some { IfSome result (λ h. Across (Takes deferred_pools h) seat.old seat.new × (0 < h.length)) }
+    ensures none { IfNone result (Across (TakesNone (NoDeferred heap.now.shape) deferred_pools) seat.old seat.new) }
 {
     take_any(heap, seat, DEFERRED_POOL, false)
 }
@@ -49,9 +49,9 @@ fn take_empty(heap: &Heap, seat: &mut HeapSeat) -> Option<Held>
     requires seat { IsTracer heap.now seat.old }
     requires free { IsTrue (has_free_slot (state_of seat.old).held) }
     ensures seat { IsTracer heap.now seat.new }
-    ensures later { Across OnlyTraced seat.old seat.new }
+    ensures only { Across OnlyTraced seat.old seat.new }
     ensures some { IfSome result (λ h. Across (Takes (empty_pool_number ∷ []) h) seat.old seat.new) }
-    ensures none { IfNone result (Across (FindsNone heap.now.shape empty_pool_number false 0 (64 * pool_words heap.now.shape)) seat.old seat.new) }
+    ensures none { IfNone result (Across (FindsNone heap.now.shape empty_pool_number false 0 (word_bits * pool_words heap.now.shape)) seat.old seat.new) }
 {
     heap.reserve(seat);
     match take_any(heap, seat, EMPTY_POOL, false) {
@@ -70,7 +70,7 @@ pub fn take_output(heap: &Heap, seat: &mut HeapSeat) -> Option<Held>
     requires seat { IsTracer heap.now seat.old }
     requires free { IsTrue (has_free_slot (state_of seat.old).held) }
     ensures seat { IsTracer heap.now seat.new }
-    ensures later { Across OnlyTraced seat.old seat.new }
+    ensures only { Across OnlyTraced seat.old seat.new }
     ensures some { IfSome result (λ h. Across (Takes output_pools h) seat.old seat.new × (h.length < heap.now.shape.entries)) }
     ensures none { IfNone result (Across (TakesNone (NoOutput heap.now.shape) output_pools) seat.old seat.new) }
 {

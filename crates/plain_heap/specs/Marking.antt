@@ -38,7 +38,8 @@ refs_at heap n = refs_in (slice_get heap.objects n)
 abbrev pub IsFollowed : Heap → List Bool → ℕ → Type 0
 IsFollowed heap marks n = (m : ℕ) → Contains (refs_at heap n) (refs.Own m) → m < length heap.objects → IsMarked marks m
 
--- so far only reachable objects are marked, those that variables hold among them, and of each one that doesn't wait all that it refers to
+-- only reachable objects are marked so far, and each that a variable holds is;
+-- what a marked object refers to is marked, unless the object waits
 pub record Reaches (heap : Heap) (marks : List Bool) (waiting : List ℕ) : Type 0 where
   pub sized : length marks ≡ length heap.objects
   pub sound : (n : ℕ) → IsMarked marks n → IsReachable (heap ∷ []) (own heap n)

@@ -46,6 +46,7 @@ IsReachable heaps name = IsObject heaps name × (path : List Name) × IsPath hea
 abbrev pub ComesBefore : Name → Name → Type 0
 ComesBefore a b = (a.section < b.section) ⊎ ((a.section ≡ b.section) × (a.number < b.number))
 
+-- each name comes before those after it
 abbrev pub IsOrdered : List Name → Type 0
 IsOrdered names = AllPairs ComesBefore names
 

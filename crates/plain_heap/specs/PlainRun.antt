@@ -58,7 +58,7 @@ pub record Printed : Type 0 where
   pub label : List ℕ
   pub line : Line
 
--- a line, where there is one, in front of those that follow
+-- a line, where there is one, before those that follow
 abbrev pub with_label : List ℕ → Option Line → List Printed → List Printed
 with_label label None printed = printed
 with_label label (Some line) printed = record { label = label; line = line } ∷ printed
@@ -82,8 +82,8 @@ printed_before s w k = printed_in_parts s w 1 (empty_heap s.fields w) (first_of 
 abbrev pub transcript : Sections → ℕ → List Printed
 transcript s w = printed_in_parts s w 1 (empty_heap s.fields w) (parts_of s w)
 
--- what stands just before command k of section w, in season z: a warehouse has its own heap and the catalogue at the end of its part of the season,
--- and the catalogue has the warehouses as they are before theirs
+-- the heaps that exist just before command k of section w, in season z: a warehouse has its own and the catalogue at the end of its part
+-- of the season; the catalogue has its own and those of the warehouses before their parts of the season
 abbrev pub heaps_at : Sections → ℕ → ℕ → ℕ → List Heap
 heaps_at s zero k z = plain s 0 k ∷ map (λ w. part_end s w (z - 1)) (warehouse_numbers s)
 heaps_at s (suc w) k z = catalogue_end s z ∷ plain s (suc w) k ∷ []

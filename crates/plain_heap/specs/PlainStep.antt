@@ -7,7 +7,7 @@ use Rattle.plain_heap.specs.declared.operation.Op.{Op}
 use Rattle.plain_heap.specs.declared.operation.Op.TheVariants as ops
 use Rattle.plain_heap.specs.declared.operation.Line.{Line}
 use Rattle.plain_heap.specs.declared.operation.Line.TheVariants as lines
-use Rattle.plain_heap.specs.PlainHeap.{Heap, variable}
+use Rattle.plain_heap.specs.PlainHeap.{Heap, heap_variables, variable}
 
 -- the object that a reference names: an own one stands in the heap, the others in the catalogue
 abbrev pub object_of : Heap → Option Heap → Ref → Option Object
@@ -49,7 +49,7 @@ with_field object i ref = record object { refs = slice_set object.refs i ref }
 abbrev pub with_value : Object → ℕ → Object
 with_value object n = record object { value = n }
 
--- one object more in front of a walk
+-- a walk with one object more before it
 abbrev pub onto : ℕ → ℕ × ℕ → ℕ × ℕ
 onto value w = (1 + w.0, value + w.1)
 
@@ -83,6 +83,7 @@ walk heap catalogue i (suc limit) (refs.Own n) =
 walk heap catalogue i (suc limit) (refs.Cat n) =
     onto (value_of (object_of heap catalogue (refs.Cat n))) (walk heap catalogue i limit (followed heap catalogue (refs.Cat n) i))
 
+-- the line that `sum` prints of a walk
 abbrev pub walk_line : ℕ × ℕ → Line
 walk_line w = lines.Walk w.0 w.1
 
@@ -125,17 +126,17 @@ line_of heap catalogue (ops.Cat v c) = None
 line_of heap catalogue (ops.Put v n) = None
 line_of heap catalogue ops.Collect = None
 
--- names are below 32, fields below their number, a walk has at most 65,536 objects
+-- variables are below their number, fields below theirs, a walk has at most 65,536 objects
 abbrev pub IsInRange : ℕ → Op → Type 0
-IsInRange fields (ops.New v n) = (v < 32) × (n < 2 ^ 32)
-IsInRange fields (ops.Let v w) = (v < 32) × (w < 32)
-IsInRange fields (ops.Nil v) = v < 32
-IsInRange fields (ops.Set v i w) = (v < 32) × (i < fields) × (w < 32)
-IsInRange fields (ops.Get v w i) = (v < 32) × (w < 32) × (i < fields)
-IsInRange fields (ops.Cat v c) = (v < 32) × (c < 32)
-IsInRange fields (ops.Put v n) = (v < 32) × (n < 2 ^ 32)
-IsInRange fields (ops.Say v) = v < 32
-IsInRange fields (ops.Sum v i limit) = (v < 32) × (i < fields) × (limit ≤ 65536)
+IsInRange fields (ops.New v n) = (v < heap_variables) × (n < 2 ^ 32)
+IsInRange fields (ops.Let v w) = (v < heap_variables) × (w < heap_variables)
+IsInRange fields (ops.Nil v) = v < heap_variables
+IsInRange fields (ops.Set v i w) = (v < heap_variables) × (i < fields) × (w < heap_variables)
+IsInRange fields (ops.Get v w i) = (v < heap_variables) × (w < heap_variables) × (i < fields)
+IsInRange fields (ops.Cat v c) = (v < heap_variables) × (c < heap_variables)
+IsInRange fields (ops.Put v n) = (v < heap_variables) × (n < 2 ^ 32)
+IsInRange fields (ops.Say v) = v < heap_variables
+IsInRange fields (ops.Sum v i limit) = (v < heap_variables) × (i < fields) × (limit ≤ 65536)
 IsInRange fields ops.Collect = Unit {0}
 
 -- the one operation that takes memory

@@ -74,6 +74,11 @@ prints_line (ops.Say v) = true
 prints_line (ops.Sum v i limit) = true
 prints_line op = false
 
+-- whether it reads a variable of the catalogue
+abbrev pub lends : Op → Bool
+lends (ops.Cat v c) = true
+lends op = false
+
 -- how many objects these commands make
 abbrev pub made_by : List Execution → ℕ
 made_by es = count_by (λ e. makes_object e.op) es
@@ -90,7 +95,7 @@ executed_total s = sum_by (λ w. length (executed_of s w)) (section_numbers s)
 abbrev pub printed_total : Sections → ℕ
 printed_total s = sum_by (λ w. printed_by (executed_of s w)) (section_numbers s)
 
--- as many as the section with most parts
+-- how many seasons a script has: the number of parts of the section that has most, and at least one
 abbrev pub seasons : Sections → ℕ
 seasons s = fold (λ most w. max most (length (parts_of s w))) 1 (section_numbers s)
 

@@ -1,7 +1,7 @@
 //! The heap as its callers see it, and one step of it.
 ghost use Rattle.std.specs.Prelude.{◌≡◌, ◌<◌, ◌≤◌, length, IfOk, IsErr, IsOkAnd, OnErr, OnOk};
 ghost use Rattle.std.specs.Option.{option_copied};
-ghost use Rattle.plain_heap.specs.PlainHeap.{empty_heap, variable};
+ghost use Rattle.plain_heap.specs.PlainHeap.{empty_heap, heap_variables, variable};
 ghost use Rattle.plain_heap.specs.PlainStep.{heap_after, line_of, IsInRange, MakesObject};
 
 use crate::memory::OutOfMemory;
@@ -31,7 +31,7 @@ pub struct PlainHeap {
 
 impl Model for PlainHeap {
     ghost use Rattle.std.specs.Prelude.{◌≡◌, ◌≤◌, length};
-    ghost use Rattle.plain_heap.specs.PlainHeap.{Heap};
+    ghost use Rattle.plain_heap.specs.PlainHeap.{Heap, heap_variables};
 
     ghost Value = { Heap };
 
@@ -44,7 +44,7 @@ impl Model for PlainHeap {
     } };
 
     ghost invariant = { λ h. (1 ≤ h.fields) × (h.fields ≤ 16)
-        × (length h.objects.items ≤ 2000000) × (length h.variables ≡ 32)
+        × (length h.objects.items ≤ 2000000) × (length h.variables ≡ heap_variables)
         × (h.dropped ≤ 2000000) };
 }
 
@@ -136,9 +136,9 @@ impl PlainHeap {
 
     /// What variable `v`, below 32, holds.
     pub fn variable(&self, v: u8) -> Ref
-        requires { v < 32 }
+        requires { v < heap_variables }
         ensures held { result ≡ variable self.now v }
-        ensures names { length self.now.variables ≡ 32 }
+        ensures names { length self.now.variables ≡ heap_variables }
     {
         self.variables[v as usize]
     }

@@ -1,6 +1,6 @@
 //! What a script means: its heaps as they would be with no collector.
 //!
-//! A collector that is right must not be seen. So what it has to preserve is written down here without it: a heap
+//! A correct collector can't be observed. So what it has to preserve is written down here without it: a heap
 //! that only grows, in which an object that was made once keeps its number and its contents for good. All that a
 //! running heap prints, stores and keeps is compared with this one.
 //!

@@ -22,6 +22,6 @@ object-there s name o has =
       ap (λ (n : ℕ). slice_get (last_heap s n).objects name.number) (sym is) ∙ (ap (λ (h : Heap). slice_get h.objects name.number) v.2 ∙ has.3),
     )
 
--- so does that of a reachable one
+-- a reachable object is in the last heap of its section
 pub reached-object : (s : Sections) (name : Name) → IsReachable (last_heaps s) name → (name.section < length (section_numbers s)) × ((o : Object) × (slice_get (last_heap s name.section).objects name.number ≡ Some o))
 reached-object s name reach = let at = object-there s name reach.0.0 reach.0.1 in (at.0, (reach.0.0, at.1))

@@ -21,14 +21,14 @@ pub record AgreeButForPlaces (a b : Report) : Type 0 where
 abbrev pub OneReport : Type 0
 OneReport = (s : Sections) (m n : ℕ) (a b : Report) → IsReport s m a → IsReport s n b → AgreeButForPlaces a b
 
--- and there are survivors to report: of each script the reachable objects can be listed
+-- of each script the reachable objects at the end can be listed, so there are survivors to report
 abbrev pub SurvivorsExist : Type 0
 SurvivorsExist = (s : Sections) → (survivors : List Survivor) × AreSurvivors (last_heaps s) survivors
 
--- so a script has one text where no places are written
+-- a script has one text of a report, where no places are written
 abbrev pub OneText : Type 0
 OneText = (s : Sections) (m n : ℕ) (a b : List ℕ) → IsReportText s m false a → IsReportText s n false b → a ≡ b
 
--- and one text of counts
+-- a script has one text of counts
 abbrev pub OneLoadText : Type 0
 OneLoadText = (s : Sections) (a b : List ℕ) → IsLoadText s a → IsLoadText s b → a ≡ b

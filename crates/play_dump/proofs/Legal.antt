@@ -10,7 +10,7 @@ use Rattle.plain_heap.specs.declared.object.Object.{Object as PlainObject}
 use Rattle.plain_heap.specs.Sections.{Sections, section_numbers, executed_total}
 use Rattle.plain_heap.specs.PlainRun.{last_heap, last_heaps}
 use Rattle.plain_heap.specs.Paths.{Name, Names, ComesBefore, IsReachable, Survivor, name_of, HasValue}
-use Rattle.heap_dump.specs.Final.{Heap, Object, object, blank, IsWithin, RefersWithin, IsLegal}
+use Rattle.heap_dump.specs.Final.{DumpedHeap, Object, object, blank, IsWithinSection, RefersWithin, HasDump}
 use Rattle.play_contract.proofs.InOrder.{never}
 use Rattle.play_contract.proofs.Members.{map-to}
 use Rattle.play_contract.proofs.SectionLists.{contains_got}
@@ -19,25 +19,25 @@ use Rattle.play_contract.proofs.LastHeaps.{object-there, reached-object}
 use Rattle.play_dump.proofs.Objects.{number-few}
 
 -- an object that a reference of a section names is of this section or of the catalogue
-named-within : (section : ℕ) (ref : Ref) (o : Object) → Names section ref (name_in o) → IsWithin section o
+named-within : (section : ℕ) (ref : Ref) (o : Object) → Names section ref (name_in o) → IsWithinSection section o
 named-within section refs.Nil o e = absurd e
 named-within section (refs.Own n) o e = inl e.0
 named-within zero (refs.Cat n) o e = absurd e
 named-within (suc section) (refs.Cat n) o e = inr e.0
 
-within : (h : Heap) (section : ℕ) (ref : Ref) (n : ℕ) → IsNumberOf h section ref n → RefersWithin h section n
+within : (h : DumpedHeap) (section : ℕ) (ref : Ref) (n : ℕ) → IsNumberOf h section ref n → RefersWithin h section n
 within h section ref n (inl nil) = inl nil.1
 within h section ref n (inr goes) = inr (goes.0, goes.1, named-within section ref (object h (n - 1)) goes.2)
 
 -- what limits a script and its heap
-pub record IsLimited (s : Sections) (h : Heap) : Type 0 where
+pub record IsLimited (s : Sections) (h : DumpedHeap) : Type 0 where
   pub fields : (1 ≤ s.fields) × (s.fields ≤ 16)
   pub sections : length (section_numbers s) ≤ 33
   pub short : executed_total s ≤ 2000000
   pub count : length h.records ≤ 65536
   pub values : (k : ℕ) (o : PlainObject) → k < length h.records → slice_get (last_heap s (object h k).section).objects (object h k).number ≡ Some o → o.value < 4294967296
 
-module _ (s : Sections) (h : Heap) (f : IsFinalHeap s h) where
+module _ (s : Sections) (h : DumpedHeap) (f : IsFinalHeap s h) where
   -- names in order
   pub names : List Name
   names = map name_of (map survivor_in h.records)
@@ -86,7 +86,7 @@ module _ (s : Sections) (h : Heap) (f : IsFinalHeap s h) where
       of (inr less) (inl more) = absurd (before k j more in-j in-k (sym one))
       of (inr less) (inr more) = omega arith
 
-  pub legal : IsLimited s h → IsLegal h
+  pub legal : IsLimited s h → HasDump h
   legal l = record {
     fields = (omega (arith, l.fields, f.fields), omega (arith, l.fields, f.fields));
     sections = (omega (arith, f.sections), omega (arith, f.sections, l.sections));

@@ -14,11 +14,11 @@ use Rattle.play_report.specs.declared.report.Report.{Report}
 use Rattle.play_report.specs.declared.report.Survivor.{Survivor}
 use Rattle.gc_table.specs.declared.words.Words.{Words}
 use Rattle.heap_dump.specs.declared.final_heap.FinalRecord.{FinalRecord}
-use Rattle.heap_dump.specs.Final.{Heap, Object, object, blank, IsLegal}
+use Rattle.heap_dump.specs.Final.{DumpedHeap, Object, object, blank, HasDump}
 use Rattle.heap_dump.specs.Told.{object_told, heap_told, EndsInNil}
 use Rattle.play_dump.specs.Ending.{IsEndOf}
 use Rattle.play_dump.specs.Final.{name_in, survivor_in, IsNumberOf, HasRefs, IsFinalHeap}
-use Rattle.play_dump.specs.Telling.{IsSurvivor, cell_in, AreNumbers, number_of, field_word, AreRecords, IsRecord}
+use Rattle.play_dump.specs.Telling.{IsSurvivor, cell_of_survivor, AreNumbers, dumped_word, field_word, AreRecords, IsRecord}
 use Rattle.play_dump.proofs.Legal.{legal}
 use Rattle.play_dump.proofs.Lists.{image-at}
 use Rattle.play_dump.proofs.Reached.{named, are-placed}
@@ -38,11 +38,11 @@ told-survivors fields (t ∷ ts) (y ∷ ys) long same =
     ∙ ap (λ (l : List Listed). survivor_of y ∷ l) (told-survivors fields ts ys (omega (arith, long)) (λ k x u at there. same (suc k) x u at there))
 
 -- the heap of these roots and records
-abbrev pub made : Sections → List ℕ → List FinalRecord → Heap
+abbrev pub made : Sections → List ℕ → List FinalRecord → DumpedHeap
 made s roots records = heap_told s.fields (length (section_numbers s)) roots records
 
 module _ (s : Sections) (r : Report) (w : Words) (e : IsEndOf s r w) (numbers roots : List ℕ) (records : List FinalRecord) (n : AreNumbers r (length w.idents.items) numbers) (few : s.fields ≤ 16)
-    (rooted : roots ≡ map (number_of numbers) w.roots.items) (are : AreRecords numbers r w s.fields (length r.survivors.items) records) where
+    (rooted : roots ≡ map (dumped_word numbers) w.roots.items) (are : AreRecords numbers r w s.fields (length r.survivors.items) records) where
   record-at : (k : ℕ) → k < length records → (t : FinalRecord) × (slice_get records k ≡ Some t)
   record-at k below = let d : FinalRecord = record { section = 0; number = 0; value = 0; refs = [] } in (get_or records k d, slice_get-get_or records k d below)
 
@@ -69,7 +69,7 @@ module _ (s : Sections) (r : Report) (w : Words) (e : IsEndOf s r w) (numbers ro
   has-refs : (k : ℕ) → k < length (made s roots records).records → HasRefs s (made s roots records) k
   has-refs k inside = record { count = ap (λ (o : Object). length o.refs) is ∙ length-take-le s.fields t.0.refs (omega (arith, few, told.refs.count)); others = others; each = each }
     where
-      h : Heap
+      h : DumpedHeap
       h = made s roots records
 
       below : k < length records
@@ -99,26 +99,26 @@ module _ (s : Sections) (r : Report) (w : Words) (e : IsEndOf s r w) (numbers ro
       each : (o : PlainObject) → slice_get (last_heap s (object h k).section).objects (object h k).number ≡ Some o → (i : ℕ) → i < s.fields
           → IsNumberOf h (object h k).section (slice_index_or o.refs i refs.Nil) (get_or (object h k).refs i 0)
       each o there i low =
-          let value : get_or (object h k).refs i 0 ≡ number_of numbers (field_word w s.fields (cell_in r y.0) i) = ap (λ (x : Object). get_or x.refs i 0) is ∙ (get_or-take s.fields t.0.refs i 0 low ∙ told.refs.each i low) in
+          let value : get_or (object h k).refs i 0 ≡ dumped_word numbers (field_word w s.fields (cell_of_survivor r y.0) i) = ap (λ (x : Object). get_or x.refs i 0) is ∙ (get_or-take s.fields t.0.refs i 0 low ∙ told.refs.each i low) in
           subst (λ (section : ℕ). IsNumberOf h section (slice_index_or o.refs i refs.Nil) (get_or (object h k).refs i 0)) (sym (ap (λ (x : Name). x.section) name))
           (subst (λ (m : ℕ). IsNumberOf h y.0.section (slice_index_or o.refs i refs.Nil) m) (sym value) (told-field s r w e numbers h n held k y.0 y.1 o (own o there) i low))
 
-  root-at : (k : ℕ) → k < length w.roots.items → get_or roots k 0 ≡ number_of numbers (slice_index w.roots.items k)
-  root-at k inside = ap (λ (l : List ℕ). get_or l k 0) rooted ∙ get_or-map (number_of numbers) w.roots.items k 0 0 inside
+  root-at : (k : ℕ) → k < length w.roots.items → get_or roots k 0 ≡ dumped_word numbers (slice_index w.roots.items k)
+  root-at k inside = ap (λ (l : List ℕ). get_or l k 0) rooted ∙ get_or-map (dumped_word numbers) w.roots.items k 0 0 inside
 
   pub final : IsFinalHeap s (made s roots records)
   final = record {
     fields = refl;
     sections = refl;
     survivors = subst (λ (l : List Listed). AreSurvivors (last_heaps s) l) (sym (told-survivors s.fields records r.survivors.items are.count same-survivor)) e.report.survivors;
-    count = ap length rooted ∙ (length-map w.roots.items (number_of numbers) ∙ (root-count s r w e ∙ (let turned : length (section_numbers s) * 32 ≡ 32 * length (section_numbers s) = omega arith in turned)));
+    count = ap length rooted ∙ (length-map w.roots.items (dumped_word numbers) ∙ (root-count s r w e ∙ (let turned : length (section_numbers s) * 32 ≡ 32 * length (section_numbers s) = omega arith in turned)));
     variables = λ i v within low.
         subst (λ (m : ℕ). IsNumberOf (made s roots records) i (variable (last_heap s i) v) m) (sym (root-at (32 * i + v) (omega (arith, within, low, root-count s r w e))))
         (told-variable s r w e numbers (made s roots records) n held i v within low);
     objects = has-refs;
   }
 
-  pub final-legal : 1 ≤ s.fields → length (section_numbers s) ≤ 33 → executed_total s ≤ 2000000 → IsLegal (made s roots records)
+  pub final-legal : 1 ≤ s.fields → length (section_numbers s) ≤ 33 → executed_total s ≤ 2000000 → HasDump (made s roots records)
   final-legal some sections short = legal s (made s roots records) final
       (record {
         fields = (some, few);
@@ -143,7 +143,7 @@ roots-within s r w e numbers roots count same =
 
 -- what the heap that is made has to meet, and what it is
 pub record IsMade (s : Sections) (fields sections : ℕ) (roots : List ℕ) (records : List FinalRecord) : Type 0 where
-  pub legal : IsLegal (heap_told fields sections roots records)
+  pub legal : HasDump (heap_told fields sections roots records)
   pub rest : All (EndsInNil fields) records
   pub final : IsFinalHeap s (heap_told fields sections roots records)
 
@@ -157,7 +157,7 @@ pub record IsShort (s : Sections) : Type 0 where
 -- from what the calls tell: the same table, words, roots and records are borrowed several times
 pub is-made : (s : Sections) (r : Report) (w : Words) (e : IsEndOf s r w) (cells fields sections : ℕ) (table one two words roots lent : List ℕ) (records given : List FinalRecord) → IsShort s
     → cells ≡ length w.idents.items → fields ≡ s.fields → sections ≡ length (section_numbers s) → AreNumbers r cells table
-    → one ≡ table → words ≡ w.roots.items → roots ≡ map (number_of one) words → lent ≡ roots
+    → one ≡ table → words ≡ w.roots.items → roots ≡ map (dumped_word one) words → lent ≡ roots
     → two ≡ table → AreRecords two r w fields (length r.survivors.items) records → given ≡ records → IsMade s fields sections lent given
 is-made s r w e cells fields sections table one two words roots lent records given limits count field_is section_is n one_is words_are rooted lent_is two_is are given_is =
     subst (λ (f : ℕ). IsMade s f sections lent given) (sym field_is)
@@ -171,8 +171,8 @@ is-made s r w e cells fields sections table one two words roots lent records giv
     n' : AreNumbers r (length w.idents.items) table
     n' = subst (λ (k : ℕ). AreNumbers r k table) count n
 
-    rooted' : lent ≡ map (number_of table) w.roots.items
-    rooted' = lent_is ∙ (rooted ∙ (ap (λ (t : List ℕ). map (number_of t) words) one_is ∙ ap (λ (l : List ℕ). map (number_of table) l) words_are))
+    rooted' : lent ≡ map (dumped_word table) w.roots.items
+    rooted' = lent_is ∙ (rooted ∙ (ap (λ (t : List ℕ). map (dumped_word t) words) one_is ∙ ap (λ (l : List ℕ). map (dumped_word table) l) words_are))
 
     are' : AreRecords table r w s.fields (length r.survivors.items) given
     are' =

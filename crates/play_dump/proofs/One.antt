@@ -11,14 +11,14 @@ use Rattle.plain_heap.specs.Sections.{Sections}
 use Rattle.plain_heap.specs.PlainRun.{last_heap}
 use Rattle.plain_heap.specs.Paths.{Name, Names, name_of}
 use Rattle.gc_table.proofs.Stands.StandsNamed.{names-one}
-use Rattle.heap_dump.specs.Final.{Object, Heap, object, blank}
+use Rattle.heap_dump.specs.Final.{Object, DumpedHeap, object, blank}
 use Rattle.play_contract.proofs.InOrder.{same-names}
 use Rattle.play_dump.specs.Final.{name_in, survivor_in, IsNumberOf, IsFinalHeap}
 use Rattle.play_dump.specs.Laws.{OneFinalHeap}
 use Rattle.play_dump.proofs.Legal.{record-value, record-object, records-apart, name-at}
 
 -- a reference has one number where no name stands twice
-number-one : (a b : Heap) (section : ℕ) (ref : Ref) (m n : ℕ) → IsNumberOf a section ref m → IsNumberOf b section ref n → length a.records ≡ length b.records
+number-one : (a b : DumpedHeap) (section : ℕ) (ref : Ref) (m n : ℕ) → IsNumberOf a section ref m → IsNumberOf b section ref n → length a.records ≡ length b.records
     → ((k : ℕ) → k < length b.records → name_in (object a k) ≡ name_in (object b k)) → ((j k : ℕ) → j < length b.records → k < length b.records → name_in (object b j) ≡ name_in (object b k) → j ≡ k) → m ≡ n
 number-one a b section ref m n (inl x) (inl y) long same apart = x.1 ∙ sym y.1
 number-one a b section ref m n (inl x) (inr y) long same apart = absurd (subst (λ (r : Ref). Names section r (name_in (object b (n - 1)))) x.0 y.2)
@@ -28,7 +28,7 @@ number-one a b section ref m n (inr x) (inr y) long same apart =
     sym (same (m - 1) (omega (arith, x.0, x.1, long))) ∙ names-one section ref (name_in (object a (m - 1))) (name_in (object b (n - 1))) x.2 y.2 in
     omega (arith, x.0, y.0, apart (m - 1) (n - 1) (omega (arith, x.0, x.1, long)) (omega (arith, y.0, y.1)) one)
 
-module _ (s : Sections) (a b : Heap) (f : IsFinalHeap s a) (g : IsFinalHeap s b) where
+module _ (s : Sections) (a b : DumpedHeap) (f : IsFinalHeap s a) (g : IsFinalHeap s b) where
   names-same : map name_of (map survivor_in a.records) ≡ map name_of (map survivor_in b.records)
   names-same =
       same-names (map name_of (map survivor_in a.records)) (map name_of (map survivor_in b.records)) f.survivors.reachable.ordered g.survivors.reachable.ordered
@@ -92,7 +92,7 @@ module _ (s : Sections) (a b : Heap) (f : IsFinalHeap s a) (g : IsFinalHeap s b)
   heaps-same : a ≡ b
   heaps-same = whole a b (f.fields ∙ sym g.fields) (f.sections ∙ sym g.sections) roots-same (ext_get_or blank a.records b.records long (λ k below. object-same k (omega (arith, below, long))))
     where
-      whole : (x y : Heap) → x.fields ≡ y.fields → x.sections ≡ y.sections → x.roots ≡ y.roots → x.records ≡ y.records → x ≡ y
+      whole : (x y : DumpedHeap) → x.fields ≡ y.fields → x.sections ≡ y.sections → x.roots ≡ y.roots → x.records ≡ y.records → x ≡ y
       whole x y p q r t =
           ap (λ (n : ℕ). record x { fields = n }) p
           ∙ (ap (λ (n : ℕ). record { fields = y.fields; sections = n; roots = x.roots; records = x.records }) q

@@ -26,7 +26,7 @@ use Rattle.gc_table.specs.TableState.{TableState, meanings_of, section_at}
 use Rattle.gc_table.proofs.Stands.StandsReached.{objects-have-cells, cells-have-objects}
 use Rattle.gc_table.proofs.Stands.StandsStores.{used-exists}
 use Rattle.gc_table.proofs.Stands.StandsUsed.{reachable-used}
-use Rattle.play_end.specs.Ended.{IsStateOf, IsUsed, ArePlaces}
+use Rattle.play_end.specs.Ended.{IsStateOf, IsUsed, AreCellsOfPlaces}
 use Rattle.play_end.proofs.EndClosed.{element-at, end-count, end-position, end-positions, own-section, played-state}
 use Rattle.play_end.proofs.EndFilled.{halves}
 use Rattle.play_end.proofs.EndHeaps.{reached-run, reached-stand}
@@ -35,7 +35,7 @@ use Rattle.play_end.proofs.EndListed.{the_words}
 use Rattle.play_end.proofs.EndPlaced.{last-done, lies-in}
 use Rattle.play_contract.proofs.SectionLists.{got, contains_got}
 use Rattle.play_dump.specs.Ending.{IsEndOf}
-use Rattle.play_dump.specs.Telling.{IsSurvivor, cell_in, ArePlaced}
+use Rattle.play_dump.specs.Telling.{IsSurvivor, cell_of_survivor, ArePlaced}
 use Rattle.play_dump.proofs.Lists.{image-at, few-images}
 use Rattle.play_contract.proofs.LastHeaps.{reached-object}
 
@@ -52,7 +52,7 @@ module _ (s : Sections) (r : Report) (w : Words) (e : IsEndOf s r w) where
   stands = played-state s e.shape.cells e.shape e.seats w e.closed e.played
 
   -- the cells of each section's objects are those of its report
-  pub are-places : ArePlaces s (end_state s r w e) (places_of r)
+  pub are-places : AreCellsOfPlaces s (end_state s r w e) (places_of r)
   are-places = record { sections = length-map r.parts.items (λ (p : Part). p.places.items) ∙ e.parts.sections; each = each }
     where
       each : (i : ℕ) → i < length (places_of r) → cells_of (places_of r) i ≡ map (λ (p : Place). p.cell) (section_at (end_state s r w e).sections i).places
@@ -89,9 +89,9 @@ module _ (s : Sections) (r : Report) (w : Words) (e : IsEndOf s r w) where
       omega (arith, slice_get_within (last_heap s y.section).objects y.number o.1.0 o.1.1, long)
 
   -- the cell there is in use, and has the survivor's name
-  pub in-cell : (j : ℕ) (y : Survivor) → IsSurvivor r j y → IsUsed (end_state s r w e).core (cell_in r y) × (name_at (the_words (end_state s r w e)).identities (cell_in r y) ≡ named y)
+  pub in-cell : (j : ℕ) (y : Survivor) → IsSurvivor r j y → IsUsed (end_state s r w e).core (cell_of_survivor r y) × (name_at (the_words (end_state s r w e)).identities (cell_of_survivor r y) ≡ named y)
   in-cell j y at =
-      lies-in s e.shape.cells (end-positions s) (end_state s r w e) (places_of r) (named y) (cell_in r y) stands are-places
+      lies-in s e.shape.cells (end-positions s) (end_state s r w e) (places_of r) (named y) (cell_of_survivor r y) stands are-places
       (subst (λ (hs : List Heap). IsReachable hs (named y)) (sym (last-done s (end-positions s) (end-position s))) (survivor-reached j y at))
       (slice_get-get_or (cells_of (places_of r) y.section) y.number 0 (survivor-number j y at))
 
@@ -104,7 +104,7 @@ module _ (s : Sections) (r : Report) (w : Words) (e : IsEndOf s r w) where
       (halves (slice_index ids c) (slice_index ids d) (ap (λ (n : Name). n.section) same) (ap (λ (n : Name). n.number) same))
 
   -- a cell that can be reached is the place of a survivor
-  pub cell-survivor : (c : ℕ) → IsReachableIn (end_state s r w e).core c → (j : ℕ) × (y : Survivor) × IsSurvivor r j y × (cell_in r y ≡ c)
+  pub cell-survivor : (c : ℕ) → IsReachableIn (end_state s r w e).core c → (j : ℕ) × (y : Survivor) × IsSurvivor r j y × (cell_of_survivor r y ≡ c)
   cell-survivor c reach =
       let x : TableState = end_state s r w e in
       let name : Name = name_at (the_words x).identities c in
@@ -113,7 +113,7 @@ module _ (s : Sections) (r : Report) (w : Words) (e : IsEndOf s r w) where
       (reached-run s e.shape.cells (end-positions s) x name stands (cells-have-objects x.core (meanings_of x.sections) e.closed.end.whole.core e.closed.end.whole.stands c reach).1) in
       let y = reached-survivor name reached in
       let at = in-cell y.0 y.1 y.2 in
-      (y.0, y.1, y.2, one-cell (cell_in r y.1) c at.0 (reachable-used x.core c e.closed.end.whole.core reach) (at.1 ∙ y.3))
+      (y.0, y.1, y.2, one-cell (cell_of_survivor r y.1) c at.0 (reachable-used x.core c e.closed.end.whole.core reach) (at.1 ∙ y.3))
 
   pub cell-exists : (c : ℕ) → IsReachableIn (end_state s r w e).core c → c < length w.idents.items
   cell-exists c reach =
@@ -121,7 +121,7 @@ module _ (s : Sections) (r : Report) (w : Words) (e : IsEndOf s r w) where
       omega (arith, used-exists core e.closed.end.whole.core c (reachable-used core c e.closed.end.whole.core reach), ap (λ (h : Shape). h.cells) e.closed.end.shape, end-count s e.shape.cells e.shape e.seats w e.closed)
 
   -- the place of a survivor can be reached, and has its object
-  pub survivor-cell : (j : ℕ) (y : Survivor) → IsSurvivor r j y → IsCellOfObject (end_state s r w e).core (meanings_of (end_state s r w e).sections) (named y) (cell_in r y) × IsReachableIn (end_state s r w e).core (cell_in r y)
+  pub survivor-cell : (j : ℕ) (y : Survivor) → IsSurvivor r j y → IsCellOfObject (end_state s r w e).core (meanings_of (end_state s r w e).sections) (named y) (cell_of_survivor r y) × IsReachableIn (end_state s r w e).core (cell_of_survivor r y)
   survivor-cell j y at =
       let x : TableState = end_state s r w e in
       let ms : List Meaning = meanings_of x.sections in
@@ -129,7 +129,7 @@ module _ (s : Sections) (r : Report) (w : Words) (e : IsEndOf s r w) where
       objects-have-cells x.core ms e.closed.end.whole.core e.closed.end.whole.stands (named y)
       (reached-stand s e.shape.cells (end-positions s) x (named y) stands (subst (λ (hs : List Heap). IsReachable hs (named y)) (sym (last-done s (end-positions s) (end-position s))) (survivor-reached j y at))) in
       let here = in-cell j y at in
-      let same : cell.0 ≡ cell_in r y = one-cell cell.0 (cell_in r y) cell.1.0 here.0 (cell.1.1 ∙ sym here.1) in
+      let same : cell.0 ≡ cell_of_survivor r y = one-cell cell.0 (cell_of_survivor r y) cell.1.0 here.0 (cell.1.1 ∙ sym here.1) in
       (subst (IsCellOfObject x.core ms (named y)) same cell.1, subst (IsReachableIn x.core) same cell.2)
 
   -- two survivors have two names
@@ -160,17 +160,17 @@ module _ (s : Sections) (r : Report) (w : Words) (e : IsEndOf s r w) where
       of (inr less) (inr more) = omega arith
 
   -- so each survivor has a place of its own
-  pub places-apart : (j k : ℕ) (x y : Survivor) → IsSurvivor r j x → IsSurvivor r k y → cell_in r x ≡ cell_in r y → j ≡ k
+  pub places-apart : (j k : ℕ) (x y : Survivor) → IsSurvivor r j x → IsSurvivor r k y → cell_of_survivor r x ≡ cell_of_survivor r y → j ≡ k
   places-apart j k x y at-j at-k same =
       names-apart j k x y at-j at-k
       (sym (in-cell j x at-j).1 ∙ (ap (name_at (the_words (end_state s r w e)).identities) same ∙ (in-cell k y at-k).1))
 
   pub are-placed : ArePlaced r (length w.idents.items)
   are-placed = record {
-    few = omega (arith, few-images (cell_in r) r.survivors.items (length w.idents.items) (record { section = 0; number = 0; value = 0 }) below places-apart, end-count s e.shape.cells e.shape e.seats w e.closed, ap (λ (h : Shape). h.cells) e.closed.end.shape, e.few);
+    few = omega (arith, few-images (cell_of_survivor r) r.survivors.items (length w.idents.items) (record { section = 0; number = 0; value = 0 }) below places-apart, end-count s e.shape.cells e.shape e.seats w e.closed, ap (λ (h : Shape). h.cells) e.closed.end.shape, e.few);
     each = λ j y at. record { section = survivor-section j y at; number = survivor-number j y at; cell = below j y at };
     apart = places-apart;
   }
     where
-      below : (j : ℕ) (y : Survivor) → IsSurvivor r j y → cell_in r y < length w.idents.items
-      below j y at = cell-exists (cell_in r y) (survivor-cell j y at).1
+      below : (j : ℕ) (y : Survivor) → IsSurvivor r j y → cell_of_survivor r y < length w.idents.items
+      below j y at = cell-exists (cell_of_survivor r y) (survivor-cell j y at).1

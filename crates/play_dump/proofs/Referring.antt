@@ -15,7 +15,7 @@ use Rattle.plain_heap.specs.Sections.{Sections, Execution, parts_of}
 use Rattle.plain_heap.specs.PlainRun.{heap_from, heap_after_parts, last_heap, last_heaps, ops_of, seen_catalogue}
 use Rattle.plain_heap.specs.Paths.{Names, IsHeld, RefersTo}
 use Rattle.gc_table.proofs.Stands.StandsNamed.{names-one}
-use Rattle.heap_dump.specs.Final.{Heap, object}
+use Rattle.heap_dump.specs.Final.{DumpedHeap, object}
 use Rattle.play_contract.proofs.LastHeaps.{last-section, object-there}
 use Rattle.play_contract.proofs.SectionLists.{of-section}
 use Rattle.play_dump.specs.Final.{name_in, IsNumberOf, IsFinalHeap}
@@ -58,14 +58,14 @@ last-variables s w = variables-in s w 1 (empty_heap s.fields w) (parts_of s w)
 -- ---- what refers to the object of a record
 
 -- the number of a reference to it is that of the record
-number-of-record : (h : Heap) (section : ℕ) (ref : Ref) (n k : ℕ) → ((i j : ℕ) → i < length h.records → j < length h.records → name_in (object h i) ≡ name_in (object h j) → i ≡ j)
+number-of-record : (h : DumpedHeap) (section : ℕ) (ref : Ref) (n k : ℕ) → ((i j : ℕ) → i < length h.records → j < length h.records → name_in (object h i) ≡ name_in (object h j) → i ≡ j)
     → k < length h.records → IsNumberOf h section ref n → Names section ref (name_in (object h k)) → n ≡ suc k
 number-of-record h section ref n k apart below (inl nil) names = absurd (subst (λ (r : Ref). Names section r (name_in (object h k))) nil.0 names)
 number-of-record h section ref n k apart below (inr goes) names =
     let same : n - 1 ≡ k = apart (n - 1) k (omega (arith, goes.0, goes.1)) below (names-one section ref (name_in (object h (n - 1))) (name_in (object h k)) goes.2 names) in
     omega (arith, goes.0, same)
 
-module _ (s : Sections) (h : Heap) (f : IsFinalHeap s h) where
+module _ (s : Sections) (h : DumpedHeap) (f : IsFinalHeap s h) where
   pub held-there : (k : ℕ) → k < length h.records → IsHeld (last_heaps s) (name_in (object h k)) → (i : ℕ) × (i < length h.roots) × (get_or h.roots i 0 ≡ suc k)
   held-there k below (heap, there, ref, (v, early, is), names) =
       let w = of-section (last_heap s) s heap there in

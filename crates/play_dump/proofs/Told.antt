@@ -7,7 +7,7 @@ use Rattle.std.proofs.lemmas.Option.{slice_get_within, same_Some}
 use Rattle.mark_core.specs.declared.kinds.Shape.{Shape}
 use Rattle.mark_core.specs.Cells.{field}
 use Rattle.mark_core.specs.Closed.{IsReachableIn}
-use Rattle.mark_core.specs.Rules.HeapRules.{section_of}
+use Rattle.mark_core.specs.Rules.HeapRules.{section_of_cell}
 use Rattle.mark_core.proofs.AtSeat.{roots-length}
 use Rattle.mark_core.proofs.Exacts.ExactsReach.{reach-root, reach-field}
 use Rattle.plain_heap.specs.declared.object.Ref.{Ref}
@@ -23,13 +23,13 @@ use Rattle.gc_table.specs.declared.view.Meaning.{Meaning}
 use Rattle.gc_table.specs.declared.words.Words.{Words}
 use Rattle.gc_table.specs.StandsFor.{WordAgrees, name_at, object_count}
 use Rattle.gc_table.specs.TableState.{TableState, meanings_of, section_at}
-use Rattle.heap_dump.specs.Final.{Heap as Dumped, object}
+use Rattle.heap_dump.specs.Final.{DumpedHeap as Dumped, object}
 use Rattle.play_end.proofs.Alike.{alike-objects, alike-variables}
 use Rattle.play_end.proofs.EndHeaps.{meaning-there}
 use Rattle.play_end.proofs.EndListed.{the_words}
 use Rattle.play_dump.specs.Ending.{IsEndOf}
 use Rattle.play_dump.specs.Final.{IsNumberOf, name_in}
-use Rattle.play_dump.specs.Telling.{IsSurvivor, cell_in, AreNumbers, number_of, field_word, HasFields}
+use Rattle.play_dump.specs.Telling.{IsSurvivor, cell_of_survivor, AreNumbers, dumped_word, field_word, HasFields}
 use Rattle.play_end.proofs.EndClosed.{end-count, end-positions}
 use Rattle.play_dump.proofs.Closing.{last-alike, roots-are, fields-are, field-count}
 use Rattle.play_dump.proofs.Reached.{named, end_state, stands, in-cell, cell-survivor, cell-exists, survivor-cell}
@@ -50,7 +50,7 @@ module _ (s : Sections) (r : Report) (w : Words) (e : IsEndOf s r w) where
   -- a word that agrees with a reference, and goes to a cell that can be reached, is told as the number of the record
   pub told : (numbers : List ℕ) (h : Dumped) → AreNumbers r (length w.idents.items) numbers → HasSurvivors r h → (section word : ℕ) (ref : Ref)
       → WordAgrees (the_words (end_state s r w e)).identities (object_count (meanings_of (end_state s r w e).sections)) section word ref
-      → ((c : ℕ) → word ≡ c + 1 → IsReachableIn (end_state s r w e).core c) → IsNumberOf h section ref (number_of numbers word)
+      → ((c : ℕ) → word ≡ c + 1 → IsReachableIn (end_state s r w e).core c) → IsNumberOf h section ref (dumped_word numbers word)
   told numbers h n held section zero ref (inl nil) reach = inl (nil.1, refl)
   told numbers h n held section zero ref (inr goes) reach = absurd (omega (arith, goes.0))
   told numbers h n held section (suc c) ref (inl nil) reach = absurd (omega (arith, nil.0))
@@ -87,7 +87,7 @@ module _ (s : Sections) (r : Report) (w : Words) (e : IsEndOf s r w) where
 
   -- a variable is told
   pub told-variable : (numbers : List ℕ) (h : Dumped) → AreNumbers r (length w.idents.items) numbers → HasSurvivors r h → (i v : ℕ) → i < length (section_numbers s) → v < 32
-      → IsNumberOf h i (variable (last_heap s i) v) (number_of numbers (slice_index w.roots.items (32 * i + v)))
+      → IsNumberOf h i (variable (last_heap s i) v) (dumped_word numbers (slice_index w.roots.items (32 * i + v)))
   told-variable numbers h n held i v within low =
       let x : TableState = end_state s r w e in
       let o = stands s r w e in
@@ -113,33 +113,33 @@ module _ (s : Sections) (r : Report) (w : Words) (e : IsEndOf s r w) where
       let x : TableState = end_state s r w e in
       ap (λ (n : ℕ). slice_index (the_words x).fields (c * n + i)) field-shape ∙ ap (λ (l : List ℕ). slice_index l (c * s.fields + i)) (sym (fields-are s e.shape e.seats w e.closed))
 
-  pub field-reaches : (j : ℕ) (y : Survivor) → IsSurvivor r j y → (i c : ℕ) → i < s.fields → field_word w s.fields (cell_in r y) i ≡ c + 1 → IsReachableIn (end_state s r w e).core c
+  pub field-reaches : (j : ℕ) (y : Survivor) → IsSurvivor r j y → (i c : ℕ) → i < s.fields → field_word w s.fields (cell_of_survivor r y) i ≡ c + 1 → IsReachableIn (end_state s r w e).core c
   field-reaches j y at i c few goes =
       let x : TableState = end_state s r w e in
-      reach-field x.core.shape (the_words x).roots (the_words x).fields (cell_in r y) i c (survivor-cell s r w e j y at).1 (omega (arith, few, field-shape)) (field-is (cell_in r y) i ∙ goes)
+      reach-field x.core.shape (the_words x).roots (the_words x).fields (cell_of_survivor r y) i c (survivor-cell s r w e j y at).1 (omega (arith, few, field-shape)) (field-is (cell_of_survivor r y) i ∙ goes)
 
-  pub has-fields : (j : ℕ) (y : Survivor) → IsSurvivor r j y → HasFields w s.fields (length w.idents.items) (cell_in r y)
-  has-fields j y at = record { few = omega (arith, field-shape, e.closed.end.whole.core.formed.shaped.fields); room = room; within = λ i few. of i few (field_word w s.fields (cell_in r y) i) refl }
+  pub has-fields : (j : ℕ) (y : Survivor) → IsSurvivor r j y → HasFields w s.fields (length w.idents.items) (cell_of_survivor r y)
+  has-fields j y at = record { few = omega (arith, field-shape, e.closed.end.whole.core.formed.shaped.fields); room = room; within = λ i few. of i few (field_word w s.fields (cell_of_survivor r y) i) refl }
     where
-      below : cell_in r y < length w.idents.items
-      below = cell-exists s r w e (cell_in r y) (survivor-cell s r w e j y at).1
+      below : cell_of_survivor r y < length w.idents.items
+      below = cell-exists s r w e (cell_of_survivor r y) (survivor-cell s r w e j y at).1
 
       long : length w.fields.items ≡ length w.idents.items * s.fields
       long =
           field-count s e.shape e.seats w e.closed
           ∙ (ap (λ (n : ℕ). n * e.shape.fields) (sym (end-count s e.shape.cells e.shape e.seats w e.closed)) ∙ ap (λ (n : ℕ). length w.idents.items * n) e.closed.made.fields)
 
-      room : cell_in r y * s.fields + s.fields ≤ length w.fields.items
-      room = subst (λ (n : ℕ). cell_in r y * s.fields + s.fields ≤ n) (sym long) (room-for (cell_in r y) (length w.idents.items) s.fields below)
+      room : cell_of_survivor r y * s.fields + s.fields ≤ length w.fields.items
+      room = subst (λ (n : ℕ). cell_of_survivor r y * s.fields + s.fields ≤ n) (sym long) (room-for (cell_of_survivor r y) (length w.idents.items) s.fields below)
 
-      of : (i : ℕ) → i < s.fields → (word : ℕ) → field_word w s.fields (cell_in r y) i ≡ word → field_word w s.fields (cell_in r y) i ≤ length w.idents.items
+      of : (i : ℕ) → i < s.fields → (word : ℕ) → field_word w s.fields (cell_of_survivor r y) i ≡ word → field_word w s.fields (cell_of_survivor r y) i ≤ length w.idents.items
       of i few zero is = omega (arith, is)
       of i few (suc c) is = omega (arith, is, cell-exists s r w e c (field-reaches j y at i c few (is ∙ (let one : suc c ≡ c + 1 = omega arith in one))))
 
   -- the object of a survivor, and how its fields are told
   pub told-field : (numbers : List ℕ) (h : Dumped) → AreNumbers r (length w.idents.items) numbers → HasSurvivors r h → (j : ℕ) (y : Survivor) → IsSurvivor r j y
       → (o : Object) → slice_get (last_heap s y.section).objects y.number ≡ Some o → (i : ℕ) → i < s.fields
-      → IsNumberOf h y.section (slice_index_or o.refs i refs.Nil) (number_of numbers (field_word w s.fields (cell_in r y) i))
+      → IsNumberOf h y.section (slice_index_or o.refs i refs.Nil) (dumped_word numbers (field_word w s.fields (cell_of_survivor r y) i))
   told-field numbers h n held j y at o there i few =
       let x : TableState = end_state s r w e in
       let ids : List ℕ = (the_words x).identities in
@@ -149,11 +149,11 @@ module _ (s : Sections) (r : Report) (w : Words) (e : IsEndOf s r w) where
       let alike = last-alike s e.shape.cells x y.section m (stands s r w e) cell.2.1 in
       let own : holds.object ≡ o =
       same_Some holds.object o (sym holds.there ∙ (ap (λ (k : Name). slice_get m.heap.objects k.number) cell.1 ∙ (ap (λ (os : List Object). slice_get os y.number) (alike-objects m.heap (last_heap s y.section) alike) ∙ there))) in
-      let section : section_of ids (cell_in r y) ≡ y.section = ap (λ (k : Name). k.section) cell.1 in
-      told numbers h n held y.section (field_word w s.fields (cell_in r y) i) (slice_index_or o.refs i refs.Nil)
-      (subst (λ (k : ℕ). WordAgrees ids (object_count (meanings_of x.sections)) k (field_word w s.fields (cell_in r y) i) (slice_index_or o.refs i refs.Nil)) section
-      (subst (λ (p : Object). WordAgrees ids (object_count (meanings_of x.sections)) (section_of ids (cell_in r y)) (field_word w s.fields (cell_in r y) i) (slice_index_or p.refs i refs.Nil)) own
-      (subst (λ (t : ℕ). WordAgrees ids (object_count (meanings_of x.sections)) (section_of ids (cell_in r y)) t (slice_index_or holds.object.refs i refs.Nil)) (field-is (cell_in r y) i) (holds.each_field i (omega (arith, few, field-shape))))))
+      let section : section_of_cell ids (cell_of_survivor r y) ≡ y.section = ap (λ (k : Name). k.section) cell.1 in
+      told numbers h n held y.section (field_word w s.fields (cell_of_survivor r y) i) (slice_index_or o.refs i refs.Nil)
+      (subst (λ (k : ℕ). WordAgrees ids (object_count (meanings_of x.sections)) k (field_word w s.fields (cell_of_survivor r y) i) (slice_index_or o.refs i refs.Nil)) section
+      (subst (λ (p : Object). WordAgrees ids (object_count (meanings_of x.sections)) (section_of_cell ids (cell_of_survivor r y)) (field_word w s.fields (cell_of_survivor r y) i) (slice_index_or p.refs i refs.Nil)) own
+      (subst (λ (t : ℕ). WordAgrees ids (object_count (meanings_of x.sections)) (section_of_cell ids (cell_of_survivor r y)) t (slice_index_or holds.object.refs i refs.Nil)) (field-is (cell_of_survivor r y) i) (holds.each_field i (omega (arith, few, field-shape))))))
       (λ c goes. field-reaches j y at i c few goes)
 
   -- by no other field does it refer to anything

@@ -7,7 +7,7 @@ use Rattle.plain_heap.specs.PlainHeap.{variable}
 use Rattle.plain_heap.specs.Sections.{Sections, section_numbers}
 use Rattle.plain_heap.specs.PlainRun.{last_heap, last_heaps}
 use Rattle.plain_heap.specs.Paths.{Name, Names, Survivor, AreSurvivors}
-use Rattle.heap_dump.specs.Final.{Object, Heap, object}
+use Rattle.heap_dump.specs.Final.{Object, DumpedHeap, object}
 
 -- the object of a record
 abbrev pub name_in : Object → Name
@@ -18,11 +18,11 @@ abbrev pub survivor_in : Object → Survivor
 survivor_in o = record { section = o.section; number = o.number; value = o.value }
 
 -- what a reference of a section is in a dump: 0 where it is nil, else one more than the place of its object's record
-abbrev pub IsNumberOf : Heap → ℕ → Ref → ℕ → Type 0
+abbrev pub IsNumberOf : DumpedHeap → ℕ → Ref → ℕ → Type 0
 IsNumberOf h section ref n = ((ref ≡ refs.Nil) × (n ≡ 0)) ⊎ ((0 < n) × (n ≤ length h.records) × Names section ref (name_in (object h (n - 1))))
 
 -- record k has the references of its object
-pub record HasRefs (s : Sections) (h : Heap) (k : ℕ) : Type 0 where
+pub record HasRefs (s : Sections) (h : DumpedHeap) (k : ℕ) : Type 0 where
   pub count : length (object h k).refs ≡ s.fields
   -- all of them: by no other field does the object refer to anything
   pub others : (o : PlainObject) → slice_get (last_heap s (object h k).section).objects (object h k).number ≡ Some o → (i : ℕ) → s.fields ≤ i
@@ -32,7 +32,7 @@ pub record HasRefs (s : Sections) (h : Heap) (k : ℕ) : Type 0 where
 
 -- the records are exactly the objects that are reachable when each section has played all its parts, with their values and in order;
 -- the roots are the sections' variables then, and the references those of the objects
-pub record IsFinalHeap (s : Sections) (h : Heap) : Type 0 where
+pub record IsFinalHeap (s : Sections) (h : DumpedHeap) : Type 0 where
   pub fields : h.fields ≡ s.fields
   pub sections : h.sections ≡ length (section_numbers s)
   pub survivors : AreSurvivors (last_heaps s) (map survivor_in h.records)

@@ -1,7 +1,7 @@
 //! The heap that a dump tells, from what a play answers.
 ghost use Rattle.std.specs.Prelude.{◌≡◌, ◌+◌, ◌≤◌, IfOk, length};
 ghost use Rattle.plain_heap.specs.Sections.{section_numbers};
-ghost use Rattle.heap_dump.specs.Final.{IsLegal};
+ghost use Rattle.heap_dump.specs.Final.{HasDump};
 ghost use Rattle.play_dump.specs.Ending.{IsEndOf};
 ghost use Rattle.play_dump.specs.Final.{IsFinalHeap};
 
@@ -35,7 +35,7 @@ pub fn final_heap(
 ) -> Result<FinalHeap, OutOfMemory>
     requires { IsEndOf script.now.sections report.now words.now }
     ensures heap { IfOk result (IsFinalHeap script.now.sections) }
-    ensures legal { IfOk result IsLegal }
+    ensures legal { IfOk result HasDump }
 {
     let _seasons = script.seasons();
     let fields = script.fields();

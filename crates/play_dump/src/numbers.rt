@@ -2,7 +2,7 @@
 ghost use Rattle.std.specs.Prelude.{◌≡◌, ◌<◌, ◌≤◌, IfOk, length, vec_len};
 ghost use Rattle.plain_heap.specs.Placement.{cells_of};
 ghost use Rattle.play_contract.specs.Playing.{places_of};
-ghost use Rattle.play_dump.specs.Telling.{ArePlaced, AreNumbers, cell_in};
+ghost use Rattle.play_dump.specs.Telling.{ArePlaced, AreNumbers, cell_of_survivor};
 
 use play_report::{Report, Survivor};
 use std::alloc::{AllocError, Global};
@@ -11,7 +11,7 @@ use std::alloc::{AllocError, Global};
 pub(crate) fn cell_of(report: &Report<'_>, survivor: &Survivor) -> usize
     requires section { survivor.now.section < length report.now.parts.items }
     requires number { survivor.now.number < length (cells_of (places_of report.now) survivor.now.section) }
-    ensures { result ≡ cell_in report.now survivor.now }
+    ensures { result ≡ cell_of_survivor report.now survivor.now }
 {
     let part = &report.parts[survivor.section as usize];
     part.places[survivor.number as usize] as usize

@@ -1,6 +1,6 @@
 //! Words and survivors as a dump tells them.
 ghost use Rattle.std.specs.Prelude.{◌≡◌, ◌<◌, ◌≤◌, ◌+◌, ◌*◌, ℕ, All, IfOk, length, map};
-ghost use Rattle.play_dump.specs.Telling.{ArePlaced, AreRecords, AreRefs, HasFields, HasPlace, IsRecord, IsSurvivor, cell_in, number_of as number_told};
+ghost use Rattle.play_dump.specs.Telling.{ArePlaced, AreRecords, AreRefs, HasFields, HasPlace, IsRecord, IsSurvivor, cell_of_survivor, dumped_word as number_told};
 
 use crate::numbers::cell_of;
 use gc_table::Words;
@@ -57,7 +57,7 @@ fn tell_survivor(
     survivor: &Survivor,
 ) -> FinalRecord
     requires place { HasPlace report.now (length numbers.now) survivor.now }
-    requires fields { HasFields words.now fields (length numbers.now) (cell_in report.now survivor.now) }
+    requires fields { HasFields words.now fields (length numbers.now) (cell_of_survivor report.now survivor.now) }
     ensures { IsRecord numbers.now report.now words.now fields survivor.now result }
 {
     let cell = cell_of(report, survivor);
@@ -78,7 +78,7 @@ pub(crate) fn tell_survivors(
     fields: usize,
 ) -> Result<Vec<FinalRecord>, AllocError>
     requires placed { ArePlaced report.now (length numbers.now) }
-    requires fields { (k : ℕ) (x : Survivor) → IsSurvivor report.now k x → HasFields words.now fields (length numbers.now) (cell_in report.now x) }
+    requires fields { (k : ℕ) (x : Survivor) → IsSurvivor report.now k x → HasFields words.now fields (length numbers.now) (cell_of_survivor report.now x) }
     ensures { IfOk result (λ v. AreRecords numbers.now report.now words.now fields (length report.now.survivors.items) v.items) }
 {
     let mut told = Vec::with_capacity(alloc, report.survivors.len())?;

@@ -17,9 +17,9 @@ use Rattle.gc_table.specs.declared.seat.HeapSeat.{HeapSeat}
 use Rattle.gc_table.specs.declared.view.SectionState.{SectionState}
 use Rattle.gc_table.specs.declared.words.Words.{Words}
 use Rattle.gc_table.specs.TableState.{TableState, no_section, section_at}
-use Rattle.play_end.specs.Done.{HasPlayed, HasStopped}
+use Rattle.play_end.specs.Done.{HasPlayed, HasStoppedInPart}
 use Rattle.play_end.specs.Ended.{IsHeapOf, ArePositions, CameTo, HaveStopped}
-use Rattle.play_end.specs.Closed.{IsClosed, SeatsStopped, EndsFull}
+use Rattle.play_end.specs.Closed.{IsClosed, SeatsStopped, ArePositionsFilled}
 use Rattle.play_end.proofs.EndListed.{the_words}
 use Rattle.play_end.proofs.EndFilled.{filled-for}
 use Rattle.play_end.proofs.EndClosed.{heap-of, of-seat, position-count, positions-are}
@@ -37,7 +37,7 @@ stopped-of : (s : Sections) (cells : ℕ) (sh : Shape) (seats : List HeapSeat) (
 stopped-of s cells sh seats w z k (inl t) = inl
     (record {
       at = t.at;
-      catalogue = of-seat s cells sh seats w k (λ i y. HasStopped s i z t.at y) 0 (omega arith) t.catalogue;
+      catalogue = of-seat s cells sh seats w k (λ i y. HasStoppedInPart s i z t.at y) 0 (omega arith) t.catalogue;
       warehouses = λ j some below. of-seat s cells sh seats w k (λ i y. HasPlayed s i (z - 1) y) j below (λ seat at. t.warehouses j seat at some below);
     })
 stopped-of s cells sh seats w z k (inr t) = inr
@@ -58,14 +58,14 @@ stopped-few s z x (suc j) (inl t) below = omega (arith, (t.warehouses (suc j) (o
 stopped-few s z x zero (inr t) below = omega (arith, t.catalogue.position, end-most s 0 z)
 stopped-few s z x (suc j) (inr t) below = came-few s (suc j) z (section_at x.sections (suc j)) (t.warehouses (suc j) (omega arith) below)
 
--- and these among those of all sections
+-- the commands of a section are among those of all sections
 executed-few : (s : Sections) (j : ℕ) → j < length (section_numbers s) → length (executed_of s j) ≤ executed_total s
 executed-few s j below =
     let each = get_or-le-sum_by (λ w. length (executed_of s w)) (section_numbers s) j 0 below in
     omega (arith, each, ap (λ (n : ℕ). length (executed_of s n)) (section-at s j 0 below))
 
 -- a play that stopped in a full heap
-pub ends-full : (s : Sections) (cells : ℕ) (sh : Shape) (seats : List HeapSeat) (w : Words) (z : ℕ) → IsClosed s cells sh seats w → SeatsStopped s z seats → w.phase ≡ Full → EndsFull s cells w
+pub ends-full : (s : Sections) (cells : ℕ) (sh : Shape) (seats : List HeapSeat) (w : Words) (z : ℕ) → IsClosed s cells sh seats w → SeatsStopped s z seats → w.phase ≡ Full → ArePositionsFilled s cells w
 ends-full s cells sh seats w z k stopped full = record { count = p.sections; few = few; filled = filled-for s cells z w.named w.positions.items x h (stopped-of s cells sh seats w z k stopped) p five named }
   where
     x : TableState

@@ -7,6 +7,7 @@ use Rattle.std.specs.Prelude.{Some, slice_get, sum_by}
 use Rattle.std.specs.List.{All}
 use Rattle.std.proofs.lemmas.List.Elements.{All-head, All-tail}
 use Rattle.mark_core.specs.Bits.{reference_in}
+use Rattle.mark_core.specs.Numbers.{reference_bound}
 use Rattle.gc_table.specs.Rule.{KnowsFull}
 use Rattle.mark_core.specs.declared.kinds.Shape.{Shape}
 use Rattle.plain_heap.specs.PlainHeap.{Heap}
@@ -25,10 +26,10 @@ use Rattle.gc_table.specs.declared.seat.HeapSeat.{HeapSeat}
 use Rattle.gc_table.specs.declared.words.Words.{Words}
 use Rattle.gc_table.specs.Seats.{view_of}
 use Rattle.play_end.specs.Done.{HasSaid}
-use Rattle.play_end.specs.Ended.{AreInRange}
-use Rattle.play_end.specs.Closed.{IsClosed, PlayedAll, ArePlacesOf, EndsWell, SeatsStopped, EndsFull}
+use Rattle.play_end.specs.Ended.{AreCommandsInRange}
+use Rattle.play_end.specs.Closed.{IsClosed, PlayedAll, ArePlacesOf, EndsWell, SeatsStopped, ArePositionsFilled}
 use Rattle.play_contract.specs.Playing.{places_of, IsReport}
-use Rattle.play_end.specs.Reported.{AreHeld, AreParts, ListsWords, IsShort}
+use Rattle.play_end.specs.Reported.{AreSurvivorsPlaced, AreParts, ListsWords, IsShort}
 use Rattle.play_end.proofs.EndClosed.{element-at, ends-well}
 use Rattle.play_end.proofs.FullClosed.{ends-full}
 
@@ -115,11 +116,11 @@ reported-places s seats r parts seated = record {
 }
 
 -- a survivor lies where its place says
-pub are-held : (s : Sections) (cells : ℕ) (sh : Shape) (seats : List HeapSeat) (w : Words) (r : Report) → AreInRange s → IsClosed s cells sh seats w → PlayedAll s seats → AreParts s seats r.parts.items → AreHeld s w r
+pub are-held : (s : Sections) (cells : ℕ) (sh : Shape) (seats : List HeapSeat) (w : Words) (r : Report) → AreCommandsInRange s → IsClosed s cells sh seats w → PlayedAll s seats → AreParts s seats r.parts.items → AreSurvivorsPlaced s w r
 are-held s cells sh seats w r range k played parts =
     λ name cell reached lies. (ends-well s cells sh seats w range k played).held (places_of r) name cell (reported-places s seats r parts k.made.seated) reached lies
 
-pub reports : (s : Sections) (cells : ℕ) (sh : Shape) (seats : List HeapSeat) (w : Words) (r : Report) → IsShort s → AreInRange s → IsClosed s cells sh seats w → PlayedAll s seats → AreParts s seats r.parts.items → ListsWords cells w r → IsReport s cells r
+pub reports : (s : Sections) (cells : ℕ) (sh : Shape) (seats : List HeapSeat) (w : Words) (r : Report) → IsShort s → AreCommandsInRange s → IsClosed s cells sh seats w → PlayedAll s seats → AreParts s seats r.parts.items → ListsWords cells w r → IsReport s cells r
 reports s cells sh seats w r short range k played parts lists = record {
   outcomes = outcomes_are;
   survivors = well.survivors (map survivor_of r.survivors.items) lists;
@@ -161,13 +162,13 @@ reports s cells sh seats w r short range k played parts lists = record {
 pub small-words : (xs : List ℕ) → All (λ x. x ≤ 2000000) xs → map reference_in xs ≡ xs
 small-words [] small = refl
 small-words (x ∷ xs) small =
-    ap (λ (n : ℕ). n ∷ map reference_in xs) (let e : x % 4294967296 ≡ x = omega (arith, All-head (λ (y : ℕ). y ≤ 2000000) x xs small) in e)
+    ap (λ (n : ℕ). n ∷ map reference_in xs) (let e : x % reference_bound ≡ x = omega (arith, All-head (λ (y : ℕ). y ≤ 2000000) x xs small) in e)
     ∙ ap (λ (l : List ℕ). x ∷ l) (small-words xs (All-tail (λ (y : ℕ). y ≤ 2000000) x xs small))
 
 -- where a play stopped, its positions are filled
 pub stops : (s : Sections) (cells : ℕ) (sh : Shape) (seats : List HeapSeat) (w : Words) (done : List ℕ) → IsShort s → IsClosed s cells sh seats w → (z : ℕ) × SeatsStopped s z seats
     → (i : ℕ) × (seat : HeapSeat) × (slice_get seats i ≡ Some seat) × KnowsFull (view_of seat) → done ≡ map reference_in w.positions.items → IsFilled s cells w.named done
 stops s cells sh seats w done short k (z, stopped) (i, seat, at, knows) is =
-    let full : EndsFull s cells w = ends-full s cells sh seats w z k stopped (k.end.full i seat at knows) in
+    let full : ArePositionsFilled s cells w = ends-full s cells sh seats w z k stopped (k.end.full i seat at knows) in
     let small : All (λ x. x ≤ 2000000) w.positions.items = λ j d below. omega (arith, full.few j d below, short) in
     subst (λ (l : List ℕ). IsFilled s cells w.named l) (sym (is ∙ small-words w.positions.items small)) full.filled

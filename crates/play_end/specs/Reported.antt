@@ -13,7 +13,7 @@ use Rattle.plain_heap.specs.Paths.{Name, IsReachable}
 use Rattle.plain_heap.specs.Placement.{LiesIn}
 use Rattle.play_report.specs.declared.report.Positions.{Positions}
 use Rattle.play_contract.specs.Playing.{places_of}
-use Rattle.play_end.specs.Closed.{HoldsObject}
+use Rattle.play_end.specs.Closed.{CellHasIdentity}
 use Rattle.play_end.specs.Done.{HasSaid}
 use Rattle.play_end.specs.Ended.{AreListed}
 
@@ -28,8 +28,8 @@ abbrev pub ListsWords : ℕ → Words → Report → Type 0
 ListsWords cells w r = AreListed cells w.idents.items w.values.items w.alloc.items (map survivor_of r.survivors.items)
 
 -- the place that the report has of a survivor is the cell that holds it, by the words
-abbrev pub AreHeld : Sections → Words → Report → Type 0
-AreHeld s w r = (name : Name) (cell : ℕ) → IsReachable (last_heaps s) name → LiesIn (places_of r) name cell → HoldsObject w cell name
+abbrev pub AreSurvivorsPlaced : Sections → Words → Report → Type 0
+AreSurvivorsPlaced s w r = (name : Name) (cell : ℕ) → IsReachable (last_heaps s) name → LiesIn (places_of r) name cell → CellHasIdentity w cell name
 
 -- these are the stored positions, and the section that is named, by the words
 pub record AreStored (w : Words) (p : Positions) : Type 0 where

@@ -9,7 +9,7 @@ ghost use Rattle.play_end.specs.Closed.{AreSeated, PlayedAll, SeatsStopped};
 ghost use Rattle.play_contract.specs.Playing.{IsReport};
 ghost use Rattle.gc_table.specs.Ends.{IsEnd};
 ghost use Rattle.gc_table.specs.declared.words.Words.{Words};
-ghost use Rattle.play_end.specs.Reported.{AreHeld, AreParts, AreStored};
+ghost use Rattle.play_end.specs.Reported.{AreSurvivorsPlaced, AreParts, AreStored};
 
 use crate::limits::{see_limits, see_ranges};
 use crate::survivors::survivors_of;
@@ -39,7 +39,7 @@ pub fn close_played<'a>(
     requires parts { AreParts script.now.sections seats.items parts.items }
     ensures report { IfOk result (λ r. IsReport script.now.sections heap.shape.cells r.0) }
     ensures words { IfOk result (λ r. IsEnd heap.shape seats.items r.1) }
-    ensures held { IfOk result (λ r. AreHeld script.now.sections r.1 r.0) }
+    ensures held { IfOk result (λ r. AreSurvivorsPlaced script.now.sections r.1 r.0) }
     ensures parts { IfOk result (λ r. AreParts script.now.sections seats.items r.0.parts.items) }
 {
     see_limits(script);

@@ -7,7 +7,7 @@ use Rattle.plain_heap.specs.Paths.{Survivor}
 use Rattle.play_report.specs.declared.report.Part.{Part}
 use Rattle.play_report.specs.declared.report.Survivor.{Survivor as Kept}
 use Rattle.play_report.specs.Report.{Outcome, outcome_of, printed_of, survivor_of}
-use Rattle.play_report.specs.Text.{placed_count, printed_count, total_of}
+use Rattle.play_report.specs.Text.{placed_count, printed_count, total_value}
 
 pub places_counted : (ps : List Part) → sum_by (λ (p : Part). length p.places.items) ps ≡ placed_count (map outcome_of ps)
 places_counted ps = sym (fold-map (λ n (o : Outcome). n + length o.places) outcome_of 0 ps)
@@ -21,5 +21,5 @@ lines_from a (p ∷ ps) =
 pub lines_counted : (ps : List Part) → sum_by (λ (p : Part). length p.said.items) ps ≡ printed_count (map outcome_of ps)
 lines_counted ps = lines_from 0 ps
 
-pub values_added : (ss : List Kept) → sum_by (λ (s : Kept). s.value) ss ≡ total_of (map survivor_of ss)
+pub values_added : (ss : List Kept) → sum_by (λ (s : Kept). s.value) ss ≡ total_value (map survivor_of ss)
 values_added ss = sym (fold-map (λ n (s : Survivor). n + s.value) survivor_of 0 ss)

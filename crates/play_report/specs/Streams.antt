@@ -2,8 +2,8 @@
 use Rattle.std.specs.Prelude.{ℕ, ◌+◌, ◌-◌, ◌^◌, List, min, Option}
 
 -- the count after one more, which stops at the end of its type
-abbrev pub counted : ℕ → ℕ
-counted n = min (n + 1) (2 ^ 64 - 1)
+abbrev pub count_one_more : ℕ → ℕ
+count_one_more n = min (n + 1) (2 ^ 64 - 1)
 
 -- a stream of the outside: the bytes that it tells of, if it does, and how often it has failed
 pub record Stream : Type 0 where

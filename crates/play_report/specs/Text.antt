@@ -36,9 +36,9 @@ unfoldable pub triple_text : ℕ → ℕ → ℕ → List ℕ
 triple_text a b c = decimal a ++ codes " " ++ decimal b ++ codes " " ++ decimal c ++ codes "\n"
 
 -- the texts of these elements, each with its number, from n on
-abbrev pub numbered : {X : Type 0} → (ℕ → X → List ℕ) → ℕ → List X → List ℕ
-numbered text n [] = []
-numbered text n (x ∷ xs) = text n x ++ numbered text (n + 1) xs
+abbrev pub numbered_texts : {X : Type 0} → (ℕ → X → List ℕ) → ℕ → List X → List ℕ
+numbered_texts text n [] = []
+numbered_texts text n (x ∷ xs) = text n x ++ numbered_texts text (n + 1) xs
 
 -- what section w printed
 abbrev pub outcome_text : ℕ → Outcome → List ℕ
@@ -46,7 +46,7 @@ outcome_text w o = named_text (codes "warehouse ") w ++ flat_map printed_text o.
 
 -- the warehouses from number w on
 abbrev pub outcomes_text : ℕ → List Outcome → List ℕ
-outcomes_text w os = numbered outcome_text w os
+outcomes_text w os = numbered_texts outcome_text w os
 
 -- section 0 prints nothing
 abbrev pub warehouses_text : List Outcome → List ℕ
@@ -63,11 +63,11 @@ survivors_text survivors = named_text (codes "survivors ") (length survivors) ++
 
 -- the cells of section w's objects, by their numbers
 abbrev pub cells_text : ℕ → List ℕ → List ℕ
-cells_text w cells = numbered (triple_text w) 0 cells
+cells_text w cells = numbered_texts (triple_text w) 0 cells
 
 -- the cells of all objects, by section and number
 abbrev pub places_text : List Outcome → List ℕ
-places_text os = numbered (λ w o. cells_text w o.places) 0 os
+places_text os = numbered_texts (λ w o. cells_text w o.places) 0 os
 
 -- how many objects were ever made
 abbrev pub placed_count : List Outcome → ℕ
@@ -90,7 +90,7 @@ abbrev pub outcomes : Sections → List (List ℕ) → List Outcome
 outcomes s places = map (outcome s places) (section_numbers s)
 
 -- what may be written of a play in so many cells: each transcript, then exactly the objects that are reachable at the end,
--- and where it is asked for, a legal place of each object
+-- and with places, a legal place of each object
 pub record IsReportText (s : Sections) (cells : ℕ) (place : Bool) (text : List ℕ) : Type 0 where
   pub survivors : List Survivor
   pub reached : AreSurvivors (last_heaps s) survivors
@@ -100,7 +100,7 @@ pub record IsReportText (s : Sections) (cells : ℕ) (place : Bool) (text : List
 
 -- how many commands each section did
 abbrev pub positions_text : List ℕ → List ℕ
-positions_text positions = numbered (pair_text (codes "position ")) 0 positions
+positions_text positions = numbered_texts (pair_text (codes "position ")) 0 positions
 
 -- the text of status 3: the section that found no cell, and how many commands each section did
 abbrev pub full_text : ℕ → List ℕ → List ℕ
@@ -147,8 +147,8 @@ abbrev pub printed_count : List Outcome → ℕ
 printed_count os = sum_by (λ o. length o.said) os
 
 -- the sum of the survivors' values
-abbrev pub total_of : List Survivor → ℕ
-total_of survivors = sum_by (λ s. s.value) survivors
+abbrev pub total_value : List Survivor → ℕ
+total_value survivors = sum_by (λ s. s.value) survivors
 
 -- how many objects were made, and how many lines printed
 abbrev pub made_text : List Outcome → List ℕ
@@ -156,13 +156,14 @@ made_text os = named_text (codes "objects ") (placed_count os) ++ named_text (co
 
 -- how many survivors there are, and the sum of their values
 abbrev pub kept_text : List Survivor → List ℕ
-kept_text survivors = named_text (codes "survivors ") (length survivors) ++ named_text (codes "total ") (total_of survivors)
+kept_text survivors = named_text (codes "survivors ") (length survivors) ++ named_text (codes "total ") (total_value survivors)
 
 -- a play that is done, in five lines
 abbrev pub brief_text : ℕ → List Outcome → List Survivor → List ℕ
 brief_text commands os survivors = named_text (codes "commands ") commands ++ (made_text os ++ kept_text survivors)
 
--- what `load` writes on status 0: how many commands were executed, how many objects made and how many lines printed, and how many survivors there are with which total
+-- what `load` writes on status 0: how many commands were executed, how many objects made and how many lines printed, and how many survivors there are with
+-- which total
 abbrev pub load_text : Sections → List Survivor → List ℕ
 load_text s survivors =
     named_text (codes "commands ") (sum_by (λ w. length (executed_of s w)) (section_numbers s))
@@ -171,6 +172,7 @@ load_text s survivors =
     ++ named_text (codes "survivors ") (length survivors)
     ++ named_text (codes "total ") (sum_by (λ s. s.value) survivors)
 
+-- the text is what `load` writes of some list of the reachable objects at the end
 pub record IsLoadText (s : Sections) (text : List ℕ) : Type 0 where
   pub survivors : List Survivor
   pub reached : AreSurvivors (last_heaps s) survivors

@@ -1,7 +1,7 @@
 //! A sink that gathers: it takes pieces into memory, and hands on whole buffers.
 ghost use Rattle.std.specs.Prelude.{◌≡◌, ◌<◌, ◌≤◌, [], IfOk, IfSome, MatchResult, drop, length, vec_capacity, vec_len};
 ghost use Rattle.std.specs.Io.{StartsWith};
-ghost use Rattle.std.specs.Io.KnownBytes.{Keeps, WriteAppends, append_known};
+ghost use Rattle.std.specs.Io.KnownBytes.{Keeps, append_known};
 ghost use Rattle.play_report.specs.Causes.{HasCause};
 
 use crate::outside::{Failed, Sink};

@@ -59,7 +59,7 @@ impl TextLine {
         self.push(buffer.format(n));
     }
 
-    /// Hands the line to the sink as one piece.
+    /// Hands the line to the sink as one piece. Failed only where the sink's count of faults rose in this call, and a prefix of the text was then written.
     pub fn write<K: Sink>(&self, sink: &mut K) -> Result<(), Failed>
         ensures { WritesTo K.written K.faults result sink.old sink.new self.now }
     {
@@ -67,7 +67,8 @@ impl TextLine {
     }
 }
 
-/// The line of a word, its space included, and a number.
+/// The line of a word, its space included, and a number. Failed only where the sink's count of faults rose in this call, and a prefix of the text was then
+/// written.
 #[tactic(auto, unfolding(crate::specs::Text::named_text))]
 pub fn write_named<K: Sink>(word: &str, n: u64, sink: &mut K) -> Result<(), Failed>
     requires { length word.now ≤ 32 }
@@ -80,7 +81,8 @@ pub fn write_named<K: Sink>(word: &str, n: u64, sink: &mut K) -> Result<(), Fail
     line.write(sink)
 }
 
-/// The line of a word, its space included, and two numbers.
+/// The line of a word, its space included, and two numbers. Failed only where the sink's count of faults rose in this call, and a prefix of the text was then
+/// written.
 #[tactic(auto, unfolding(crate::specs::Text::pair_text))]
 pub fn write_pair<K: Sink>(word: &str, a: u64, b: u64, sink: &mut K) -> Result<(), Failed>
     requires { length word.now ≤ 32 }
@@ -95,7 +97,7 @@ pub fn write_pair<K: Sink>(word: &str, a: u64, b: u64, sink: &mut K) -> Result<(
     line.write(sink)
 }
 
-/// The line of three numbers.
+/// The line of three numbers. Failed only where the sink's count of faults rose in this call, and a prefix of the text was then written.
 #[tactic(auto, unfolding(crate::specs::Text::triple_text))]
 pub fn write_triple<K: Sink>(a: u64, b: u64, c: u64, sink: &mut K) -> Result<(), Failed>
     ensures { WritesTo K.written K.faults result sink.old sink.new (triple_text a b c) }

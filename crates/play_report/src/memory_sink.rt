@@ -3,7 +3,7 @@ ghost use Rattle.std.specs.Prelude.{◌≡◌, ◌<◌, ◌≤◌, ◌+◌, ◌-
 ghost use Rattle.std.specs.Io.{WritesAtMost};
 ghost use Rattle.std.specs.Io.KnownBytes.{WriteAppends};
 ghost use Rattle.play_report.specs.Causes.{HasCause};
-ghost use Rattle.play_report.specs.Streams.{counted};
+ghost use Rattle.play_report.specs.Streams.{count_one_more};
 
 use crate::memory_source::{copy_of, is_listed};
 use crate::outside::{Failed, Sink};
@@ -96,11 +96,11 @@ impl Sink for MemorySink {
         ensures cause { HasCause self.old.faults self.new.faults result }
 
         ensures failed { IsErr result
-            ↔ (Contains self.old.failing (counted self.old.calls) ⊎ ((0 < length piece.now) × (self.old.room ≡ 0))) }
+            ↔ (Contains self.old.failing (count_one_more self.old.calls) ⊎ ((0 < length piece.now) × (self.old.room ≡ 0))) }
         ensures count { IfOk result (λ n. n ≡ min (min (length piece.now) self.old.per_call) self.old.room) }
         ensures after { MatchResult result
-            (λ n. self.new ≡ record self.old { written = self.old.written ++ take n piece.now; room = self.old.room - n; calls = counted self.old.calls })
-            (λ _. self.new ≡ record self.old { calls = counted self.old.calls; faults = counted self.old.faults }) }
+            (λ n. self.new ≡ record self.old { written = self.old.written ++ take n piece.now; room = self.old.room - n; calls = count_one_more self.old.calls })
+            (λ _. self.new ≡ record self.old { calls = count_one_more self.old.calls; faults = count_one_more self.old.faults }) }
     {
         self.calls = self.calls.saturating_add(1);
         if is_refused(&self.failing, self.calls, self.room, piece) {

@@ -3,14 +3,14 @@ ghost use Rattle.std.specs.Prelude.{◌≡◌, ◌<◌, ◌≤◌, ◌+◌, ◌+
 ghost use Rattle.std.specs.Io.{ReadsAtMost};
 ghost use Rattle.std.specs.Io.KnownBytes.{ReadConsumes};
 ghost use Rattle.play_report.specs.Causes.{HasCause};
-ghost use Rattle.play_report.specs.Streams.{counted};
+ghost use Rattle.play_report.specs.Streams.{count_one_more};
 
 use crate::outside::{Failed, Source};
 use plain_heap::OutOfMemory;
 use std::alloc::Global;
 use std::marker::Model;
 
-/// A copy of a list of plain values.
+/// A copy of a list of plain values. Out of memory is the only refusal.
 pub fn copy_of<T: Copy>(alloc: Global, items: &[T]) -> Result<Vec<T>, OutOfMemory>
     ensures { IfOk result (λ v. v.items ≡ items.now) }
 {
@@ -104,11 +104,11 @@ impl Source for MemorySource {
         ensures bytes { ReadConsumes (Some self.old.left) (Some self.new.left) result buf.new }
         ensures cause { HasCause self.old.faults self.new.faults result }
 
-        ensures listed { IsErr result ↔ Contains self.old.failing (counted self.old.calls) }
+        ensures listed { IsErr result ↔ Contains self.old.failing (count_one_more self.old.calls) }
         ensures count { IfOk result (λ n. n ≡ min (min (length self.old.left) (length buf.old)) self.old.per_call) }
         ensures after { MatchResult result
-            (λ n. self.new ≡ record self.old { left = drop n self.old.left; calls = counted self.old.calls })
-            (λ _. self.new ≡ record self.old { calls = counted self.old.calls; faults = counted self.old.faults }) }
+            (λ n. self.new ≡ record self.old { left = drop n self.old.left; calls = count_one_more self.old.calls })
+            (λ _. self.new ≡ record self.old { calls = count_one_more self.old.calls; faults = count_one_more self.old.faults }) }
     {
         self.calls = self.calls.saturating_add(1);
         if is_listed(&self.failing, self.calls) {
@@ -139,7 +139,7 @@ impl Model for SureSource {
 }
 
 impl SureSource {
-    /// A source of these bytes.
+    /// A source of these bytes. Out of memory is the only refusal.
     pub fn make(alloc: Global, bytes: &[u8]) -> Result<SureSource, OutOfMemory>
         ensures { IfOk result (λ s. s ≡ bytes.now) }
     {

@@ -2,7 +2,7 @@
 ghost use Rattle.std.specs.Prelude.{◌≡◌, ◌<◌, ◌^◌, [], length, map, sum_by, if◌then◌else◌};
 ghost use Rattle.play_report.specs.Causes.{WritesTo};
 ghost use Rattle.play_report.specs.Report.{outcome_of};
-ghost use Rattle.play_report.specs.Text.{numbered, cells_text, placed_count, placed_text};
+ghost use Rattle.play_report.specs.Text.{numbered_texts, cells_text, placed_count, placed_text};
 
 use crate::line::{write_named, write_triple};
 use crate::outside::{Failed, Sink};
@@ -29,7 +29,7 @@ fn write_cells<K: Sink>(section: u64, cells: &[u32], sink: &mut K) -> Result<(),
 }
 
 fn write_places<K: Sink>(parts: &[Part<'_>], sink: &mut K) -> Result<(), Failed>
-    ensures { WritesTo K.written K.faults result sink.old sink.new (numbered (λ w p. cells_text w p.places.items) 0 parts.now) }
+    ensures { WritesTo K.written K.faults result sink.old sink.new (numbered_texts (λ w p. cells_text w p.places.items) 0 parts.now) }
 {
     for (section, part) in parts.iter().enumerate() {
         match write_cells(section as u64, part.places.as_slice(), sink) {

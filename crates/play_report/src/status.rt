@@ -1,5 +1,5 @@
 //! The text of a play that is done.
-ghost use Rattle.std.specs.Prelude.{◌≡◌, ◌<◌, ◌^◌, ◌++◌, map};
+ghost use Rattle.std.specs.Prelude.{◌<◌, ◌^◌, ◌++◌, map};
 ghost use Rattle.play_report.specs.Causes.{WritesTo};
 ghost use Rattle.play_report.specs.Report.{outcome_of, survivor_of};
 ghost use Rattle.play_report.specs.Text.{warehouses_text, survivors_text, placed_count, report_text};

@@ -3,7 +3,7 @@ ghost use Rattle.std.specs.Prelude.{◌≡◌, ◌≤◌, ◌++◌, length, map,
 ghost use Rattle.std.specs.List.{flat_map};
 ghost use Rattle.play_report.specs.Causes.{WritesTo};
 ghost use Rattle.play_report.specs.Report.{printed_of, outcome_of};
-ghost use Rattle.play_report.specs.Text.{printed_text, named_text, line_text, numbered, outcome_text, warehouses_text};
+ghost use Rattle.play_report.specs.Text.{printed_text, named_text, line_text, numbered_texts, outcome_text, warehouses_text};
 
 use crate::line::{TextLine, write_named};
 use crate::outside::{Failed, Sink};
@@ -70,7 +70,7 @@ fn write_part<K: Sink>(number: u64, part: &Part<'_>, sink: &mut K) -> Result<(),
 }
 
 fn write_warehouses<K: Sink>(parts: &[Part<'_>], sink: &mut K) -> Result<(), Failed>
-    ensures { WritesTo K.written K.faults result sink.old sink.new (numbered (λ w p. outcome_text w (outcome_of p)) 1 parts.now) }
+    ensures { WritesTo K.written K.faults result sink.old sink.new (numbered_texts (λ w p. outcome_text w (outcome_of p)) 1 parts.now) }
 {
     for (i, part) in parts.iter().enumerate() {
         match write_part(i as u64 + 1, part, sink) {
@@ -81,7 +81,8 @@ fn write_warehouses<K: Sink>(parts: &[Part<'_>], sink: &mut K) -> Result<(), Fai
     Ok(())
 }
 
-/// What each warehouse printed and dropped, in order; section 0, which comes first, prints nothing.
+/// What each warehouse printed and dropped, in order; section 0, which comes first, prints nothing. Failed only where the sink's count of faults rose in this
+/// call, and a prefix of the text was then written.
 pub fn write_parts<K: Sink>(parts: &[Part<'_>], sink: &mut K) -> Result<(), Failed>
     ensures { WritesTo K.written K.faults result sink.old sink.new (warehouses_text (map outcome_of parts.now)) }
 {

@@ -1,7 +1,7 @@
-//! Whole runs of the program, from the words and the bytes in to the bytes out, and whole plays under gates, as tests.
+//! Whole runs of the program, from the words and the bytes in to the bytes out, as tests.
 //!
-//! The crate has no code of its own: each test calls [`play_words`] or [`gc_play`], as any user of these crates may.
-//! They stand apart so that those crates are proved once, and not with their tests a second time.
+//! The crate has no code of its own: each test calls `play_words`, as any user of it may. The tests stand apart so that `play_words` is proved once, and not with
+//! its tests a second time. Heaps of all shapes, dumps and plays under gates are in `heap_rows`.
 #![tactic(auto)]
 
 #[cfg(test)]

@@ -11,11 +11,11 @@ use Rattle.play_contract.proofs.OneReport.{one-text, one-load-text}
 use Rattle.play_dump.proofs.One.{one-final}
 use Rattle.command_words.specs.Words.{Options}
 use Rattle.play_words.specs.Loading.{LoadsTo}
-use Rattle.play_words.specs.Dumping.{EndsIn, DumpsTo}
+use Rattle.play_words.specs.Dumping.{EndsDoneOrFull, DumpsTo}
 use Rattle.play_words.proofs.Meant.{one-meaning}
 use Rattle.play_words.specs.Laws.{RunsAlike, DumpsAlike, LoadsAlike}
 
-ended-alike : (o p : Options) (s : Script) (a b : List ℕ) → EndsIn o s 0 a → EndsIn p s 0 b → a ≡ b
+ended-alike : (o p : Options) (s : Script) (a b : List ℕ) → EndsDoneOrFull o s 0 a → EndsDoneOrFull p s 0 b → a ≡ b
 ended-alike o p s a b (inr x) y = absurd (omega (arith, x.0))
 ended-alike o p s a b (inl x) (inr y) = absurd (omega (arith, y.0))
 ended-alike o p s a b (inl x) (inl y) = x.1.written ∙ (ap dump (one-final s.sections x.1.heap y.1.heap x.1.final y.1.final) ∙ sym y.1.written)

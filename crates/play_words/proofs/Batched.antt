@@ -5,15 +5,15 @@ use Rattle.std.specs.Bool.{⊤}
 use Rattle.std.specs.List.{flat_map}
 use Rattle.plain_heap.specs.Sections.{Sections}
 use Rattle.gc_script.specs.Script.{script}
-use Rattle.job_pool.specs.Batch.{Fault, batch, fault_of}
+use Rattle.job_pool.specs.Batch.{FaultOfBatch, batch, batch_fault_of}
 use Rattle.job_pool.specs.Jobs.{ArePlayed}
 use Rattle.job_pool.specs.declared.done.JobDone.{JobDone}
 use Rattle.job_pool.specs.declared.fault.BatchError.{BatchError}
 use Rattle.job_pool.specs.declared.fault.BatchError.TheVariants as errors
 use Rattle.command_words.specs.Words.{Options}
-use Rattle.play_words.specs.Batching.{FitsJob, BatchesTo, IsBatchAnswer, IsBatchFault, batch_error_text, text_of_fault, job_line, job_text}
+use Rattle.play_words.specs.Batching.{FitsJob, BatchesTo, IsBatchAnswer, IsBatchFault, batch_error_text, text_of_batch_fault, job_line_text, job_text}
 use Rattle.play_words.specs.RunAnswers.{IsRunAnswer}
-use Rattle.play_words.specs.Ending.{TextEnds, code_of}
+use Rattle.play_words.specs.Ending.{TextEnds, number_of_status}
 use Rattle.play_words.specs.Roomy.{IsOf, AreFew}
 use Rattle.play_words.specs.declared.status.Status.{Status}
 use Rattle.play_words.specs.declared.status.Status.TheVariants as ends
@@ -39,27 +39,27 @@ jobs_answer o jobs done lent played is = (
   },
 )
 
-is_fault : (e : BatchError) → (e ≡ errors.OutOfMemory → ⊥) → fault_of e ≡ None → ⊥
+is_fault : (e : BatchError) → (e ≡ errors.OutOfMemory → ⊥) → batch_fault_of e ≡ None → ⊥
 is_fault (errors.BadBatch offset) memory e = cc
 is_fault (errors.CutJob job) memory e = cc
 is_fault (errors.TooManyJobs offset) memory e = cc
 is_fault errors.BatchTooLong memory e = cc
 is_fault errors.OutOfMemory memory e = memory refl
 
-told : (fault : Option Fault) → (fault ≡ None → ⊥) → IsBatchFault fault 2 (text_of_fault fault)
+told : (fault : Option FaultOfBatch) → (fault ≡ None → ⊥) → IsBatchFault fault 2 (text_of_batch_fault fault)
 told None some = absurd (some refl)
 told (Some fault) some = (refl, refl)
 
 -- the text of an error is that of its fault
-pub fault_told : (e : BatchError) → (e ≡ errors.OutOfMemory → ⊥) → IsBatchFault (fault_of e) 2 (batch_error_text e)
-fault_told e memory = told (fault_of e) (is_fault e memory)
+pub fault_told : (e : BatchError) → (e ≡ errors.OutOfMemory → ⊥) → IsBatchFault (batch_fault_of e) 2 (batch_error_text e)
+fault_told e memory = told (batch_fault_of e) (is_fault e memory)
 
 -- the text of the batch's fault answers it
-pub fault_answer : (o : Options) (bytes : List ℕ) (fault : Option Fault) → MatchOption fault ⊤ (λ f. batch bytes ≡ Err f) → (status : ℕ) (text : List ℕ) → IsBatchFault fault status text
+pub fault_answer : (o : Options) (bytes : List ℕ) (fault : Option FaultOfBatch) → MatchOption fault ⊤ (λ f. batch bytes ≡ Err f) → (status : ℕ) (text : List ℕ) → IsBatchFault fault status text
     → IsBatchAnswer o bytes status text
 fault_answer o bytes None is status text a = absurd a
-fault_answer o bytes (Some fault) is status text a = subst (λ (r : Result (List (List ℕ)) Fault). BatchesTo o r status text) (sym is) a
+fault_answer o bytes (Some fault) is status text a = subst (λ (r : Result (List (List ℕ)) FaultOfBatch). BatchesTo o r status text) (sym is) a
 
 -- a job's line and its text
-pub job_pieces : (d : JobDone) (text : List ℕ) → text ≡ d.text → job_line d.job d.status (length text) ++ text ≡ job_text d
-job_pieces d text is = ap (λ (t : List ℕ). job_line d.job d.status (length t) ++ t) is
+pub job_pieces : (d : JobDone) (text : List ℕ) → text ≡ d.text → job_line_text d.job d.status (length text) ++ text ≡ job_text d
+job_pieces d text is = ap (λ (t : List ℕ). job_line_text d.job d.status (length t) ++ t) is

@@ -4,9 +4,9 @@ use Rattle.std.proofs.lemmas.Bool.Decides.{nat_tests}
 use Rattle.std.proofs.lemmas.Nat.{mul-le}
 use Rattle.std.specs.Prelude.{Option, Some, None, nat_eq}
 use Rattle.std.specs.List.{starts_with}
-use Rattle.heap_dump.specs.Final.{Heap}
-use Rattle.heap_dump.specs.First.{or_else}
-use Rattle.heap_dump.specs.Reading.{fault_of, frame_fault, has_shape, heap_fault, heap_of, length_fault, number_at, numbers_of}
+use Rattle.heap_dump.specs.Final.{DumpedHeap}
+use Rattle.heap_dump.specs.First.{first_of_two}
+use Rattle.heap_dump.specs.Reading.{first_dump_fault, frame_fault, has_shape, heap_fault, heap_of_dump, length_fault, number_at, numbers_of_dump}
 use Rattle.heap_dump.specs.Spelling.{magic, stated_length}
 use Rattle.heap_dump.specs.declared.fault.DumpError.{DumpError}
 use Rattle.heap_dump.specs.declared.fault.DumpError.TheVariants.{BadMagic, BadShape, TooMuch, Cut}
@@ -20,7 +20,7 @@ pub record HasHead (xs ys : List ℕ) : Type 0 where
   pub records_is : number_at ys 2 ≡ number_at xs 2
 
 same_head : (xs rest : List ℕ) → 20 ≤ length xs → HasHead xs (xs ++ rest)
-unfolding numbers_of
+unfolding numbers_of_dump
 same_head (x0 ∷ x1 ∷ x2 ∷ x3 ∷ x4 ∷ x5 ∷ x6 ∷ x7 ∷ x8 ∷ x9 ∷ x10 ∷ x11 ∷ x12 ∷ x13 ∷ x14 ∷ x15 ∷ x16 ∷ x17 ∷ x18 ∷ x19 ∷ more) rest h = record { magic_is = refl; fields_is = refl; sections_is = refl; records_is = refl }
 same_head _ rest h = absurd (omega arith)
 
@@ -60,9 +60,9 @@ framed : (bytes : List ℕ) → 4984981 ≤ length bytes → frame_fault bytes �
 unfolding frame_fault
 framed bytes long = by_head (length bytes) (number_at bytes 0) (number_at bytes 1) (number_at bytes 2) (starts_with nat_eq bytes magic) (has_shape (number_at bytes 0) (number_at bytes 1) (number_at bytes 2)) refl long
 
-faulty : (bytes : List ℕ) → 4984981 ≤ length bytes → fault_of bytes ≡ Some (head_fault (starts_with nat_eq bytes magic) (number_at bytes 0) (number_at bytes 1) (number_at bytes 2))
-unfolding fault_of
-faulty bytes long = ap (λ (o : Option DumpError). or_else o (heap_fault (heap_of bytes))) (framed bytes long)
+faulty : (bytes : List ℕ) → 4984981 ≤ length bytes → first_dump_fault bytes ≡ Some (head_fault (starts_with nat_eq bytes magic) (number_at bytes 0) (number_at bytes 1) (number_at bytes 2))
+unfolding first_dump_fault
+faulty bytes long = ap (λ (o : Option DumpError). first_of_two o (heap_fault (heap_of_dump bytes))) (framed bytes long)
 
 heads_agree : (xs ys : List ℕ) → HasHead xs ys
     → head_fault (starts_with nat_eq ys magic) (number_at ys 0) (number_at ys 1) (number_at ys 2) ≡ head_fault (starts_with nat_eq xs magic) (number_at xs 0) (number_at xs 1) (number_at xs 2)
@@ -73,8 +73,8 @@ heads_agree xs ys h =
     ∙ ap (λ (n : ℕ). head_fault (starts_with nat_eq xs magic) (number_at xs 0) (number_at xs 1) n) h.records_is
 
 -- an answer to so much of a dump that it is too long is one to the whole
-pub long_answer : (P : Heap → List ℕ → Type 0) (taken rest : List ℕ) → 4984981 ≤ length taken → (status : ℕ) (text : List ℕ)
-    → OfDump P taken (fault_of taken) status text → OfDump P (taken ++ rest) (fault_of (taken ++ rest)) status text
+pub long_answer : (P : DumpedHeap → List ℕ → Type 0) (taken rest : List ℕ) → 4984981 ≤ length taken → (status : ℕ) (text : List ℕ)
+    → OfDump P taken (first_dump_fault taken) status text → OfDump P (taken ++ rest) (first_dump_fault (taken ++ rest)) status text
 long_answer P taken rest long status text a =
     let whole : 4984981 ≤ length (taken ++ rest) = omega (arith, long, length-append taken rest) in
     let first = faulty taken long in

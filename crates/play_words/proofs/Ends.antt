@@ -2,8 +2,8 @@
 use Rattle.std.proofs.Common.{◌≡◌, ℕ, List, refl, sym, subst}
 use Rattle.std.specs.Prelude.{Option, Some, None, Result, Ok, Err}
 use Rattle.std.specs.Io.KnownBytes.{Appends, Keeps}
-use Rattle.play_report.specs.Causes.{Writes}
-use Rattle.play_words.specs.Ending.{code_of, after, TextEnds, CommandEnds}
+use Rattle.play_report.specs.Causes.{WritesText}
+use Rattle.play_words.specs.Ending.{number_of_status, status_after_write, TextEnds, CommandEnds}
 use Rattle.play_words.specs.declared.status.Status.{Status}
 use Rattle.play_words.specs.declared.status.Status.TheVariants as ends
 
@@ -18,7 +18,7 @@ HasText ends.WriteFault = ⊥
 HasText ends.Memory = ⊥
 HasText ends.Refused = Unit {0}
 
-written : (A : ℕ → List ℕ → Type 0) (status : Status) (text : List ℕ) (old new : Option (List ℕ)) (before now : ℕ) → HasText status → A (code_of status) text
+written : (A : ℕ → List ℕ → Type 0) (status : Status) (text : List ℕ) (old new : Option (List ℕ)) (before now : ℕ) → HasText status → A (number_of_status status) text
     → Appends old new text × (now ≡ before) → TextEnds A status old new before now
 written A ends.Done text old new before now has a p = ((text, a, p.0), p.1)
 written A ends.Usage text old new before now has a p = ((text, a, p.0), p.1)
@@ -30,13 +30,13 @@ written A ends.Memory text old new before now has a p = absurd has
 written A ends.Refused text old new before now has a p = ((text, a, p.0), p.1)
 
 after_text : {T E : Type 0} (A : ℕ → List ℕ → Type 0) (status : Status) (r : Result T E) (text : List ℕ) (old new : Option (List ℕ)) (before now : ℕ) → HasText status
-    → A (code_of status) text → Writes r old new before now text → TextEnds A (after status r) old new before now
+    → A (number_of_status status) text → WritesText r old new before now text → TextEnds A (status_after_write status r) old new before now
 after_text A status (Ok u) text old new before now has a p = written A status text old new before now has a p
-after_text A status (Err e) text old new before now has a p = ((text, (code_of status, a), p.0), p.1)
+after_text A status (Err e) text old new before now has a p = ((text, (number_of_status status, a), p.0), p.1)
 
 -- the text of a status was handed to the sink
 pub text_ends : {T E : Type 0} (A : ℕ → List ℕ → Type 0) (status result : Status) (r : Result T E) (text : List ℕ) (old new : Option (List ℕ)) (before now : ℕ)
-    → result ≡ after status r → HasText status → A (code_of status) text → Writes r old new before now text → TextEnds A result old new before now
+    → result ≡ status_after_write status r → HasText status → A (number_of_status status) text → WritesText r old new before now text → TextEnds A result old new before now
 text_ends A status result r text old new before now is has a p =
     subst (λ (s : Status). TextEnds A s old new before now) (sym is) (after_text A status r text old new before now has a p)
 

@@ -9,7 +9,7 @@ use Rattle.gc_script.specs.Finished.{is_refused}
 use Rattle.gc_script.specs.declared.script.ScriptError.{ScriptError}
 use Rattle.gc_script.specs.declared.script.ScriptError.TheVariants as errors
 use Rattle.play_report.specs.Text.{error_text, text_of_fault}
-use Rattle.play_words.specs.RunAnswers.{RunsTo}
+use Rattle.play_words.specs.RunAnswers.{RunAnswersTo}
 use Rattle.play_words.specs.Converting.{ConvertsTo}
 use Rattle.play_words.specs.Ending.{IsFaultAnswer}
 use Rattle.command_words.specs.Words.{Options}
@@ -39,9 +39,9 @@ pub fault_told : (e : ScriptError) → (e ≡ errors.OutOfMemory → ⊥) → Is
 fault_told e memory = told (fault_of e) (is_fault e memory)
 
 -- the text of a fault answers `run`, and `convert`
-pub run_fault : (o : Options) (fault : Option Fault) (r : Result Script Fault) → is_refused fault r → (status : ℕ) (text : List ℕ) → IsFaultAnswer fault status text → RunsTo o r status text
+pub run_fault : (o : Options) (fault : Option Fault) (r : Result Script Fault) → is_refused fault r → (status : ℕ) (text : List ℕ) → IsFaultAnswer fault status text → RunAnswersTo o r status text
 run_fault o None r h status text a = absurd a
-run_fault o (Some fault) r h status text a = subst (λ (x : Result Script Fault). RunsTo o x status text) (sym h) a
+run_fault o (Some fault) r h status text a = subst (λ (x : Result Script Fault). RunAnswersTo o x status text) (sym h) a
 
 pub conversion_fault : (fault : Option Fault) (r : Result Conversion Fault) → is_refused fault r → (status : ℕ) (text : List ℕ) → IsFaultAnswer fault status text → ConvertsTo r status text
 conversion_fault None r h status text a = absurd a

@@ -8,7 +8,7 @@ use Rattle.plain_heap.specs.PlainRun.{last_heap}
 use Rattle.plain_heap.specs.Paths.{Survivor}
 use Rattle.plain_heap.specs.Placement.{cells_of, IsPlaced}
 use Rattle.play_report.specs.Report.{Outcome, outcome_of, survivor_of}
-use Rattle.play_report.specs.Text.{named_text, brief_text, load_text, outcomes, placed_count, printed_count, total_of, IsLoadText}
+use Rattle.play_report.specs.Text.{named_text, brief_text, load_text, outcomes, placed_count, printed_count, total_value, IsLoadText}
 use Rattle.play_report.specs.declared.report.Report.{Report}
 use Rattle.play_contract.specs.Playing.{IsReport, places_of}
 use Rattle.plain_heap.proofs.Counted.{section-at}
@@ -38,13 +38,13 @@ five_lines : (s : Sections) (cells : ℕ) (places : List (List ℕ)) (survivors 
     → brief_text (executed_total s) (outcomes s places) survivors ≡ load_text s survivors
 five_lines s cells places survivors placed =
     grouped (named_text (codes "commands ") (executed_total s)) (named_text (codes "objects ") (placed_count (outcomes s places))) (named_text (codes "lines ") (printed_count (outcomes s places)))
-    (named_text (codes "survivors ") (length survivors)) (named_text (codes "total ") (total_of survivors))
+    (named_text (codes "survivors ") (length survivors)) (named_text (codes "total ") (total_value survivors))
     ∙ ap
     (λ (n : ℕ). named_text (codes "commands ") (executed_total s) ++ named_text (codes "objects ") n ++ named_text (codes "lines ") (printed_count (outcomes s places))
-    ++ named_text (codes "survivors ") (length survivors) ++ named_text (codes "total ") (total_of survivors)) (sym (objects_counted s cells places placed))
+    ++ named_text (codes "survivors ") (length survivors) ++ named_text (codes "total ") (total_value survivors)) (sym (objects_counted s cells places placed))
     ∙ ap
     (λ (n : ℕ). named_text (codes "commands ") (executed_total s) ++ named_text (codes "objects ") (sum_by (λ w. length (last_heap s w).objects) (section_numbers s)) ++ named_text (codes "lines ") n
-    ++ named_text (codes "survivors ") (length survivors) ++ named_text (codes "total ") (total_of survivors)) (lines_of s places)
+    ++ named_text (codes "survivors ") (length survivors) ++ named_text (codes "total ") (total_value survivors)) (lines_of s places)
 
 -- the five lines of a report are those of its script
 pub load_text_of : (s : Sections) (cells commands : ℕ) (r : Report) → IsReport s cells r → commands ≡ executed_total s

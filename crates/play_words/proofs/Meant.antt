@@ -3,7 +3,7 @@ use Rattle.std.proofs.Common.{◌≡◌, ℕ, List, [], ◌∷◌, refl, sym, ap
 use Rattle.std.specs.Prelude.{Option, Some, Result, Ok, Err}
 use Rattle.plain_heap.specs.Sections.{Sections}
 use Rattle.gc_script.specs.Faults.{Fault}
-use Rattle.gc_script.specs.Statement.{statement, header}
+use Rattle.script_lines.specs.Statement.{statement, header}
 use Rattle.gc_script.specs.Earlier.{catalogue_names}
 use Rattle.gc_script.specs.Meaning.{Means, sections, turned}
 use Rattle.gc_script.specs.Script.{Script, script}
@@ -11,7 +11,7 @@ use Rattle.gc_script.proofs.Meant.{scripts-mean}
 use Rattle.command_words.specs.Words.{Options}
 use Rattle.play_words.specs.Promise.{FromSource, OfSource, Wrote, WritesSome}
 use Rattle.play_words.specs.Running.{IsRunText, IsRunFull}
-use Rattle.play_words.specs.RunAnswers.{PlaysTo, RunsTo, IsRunAnswer}
+use Rattle.play_words.specs.RunAnswers.{PlaysTo, RunAnswersTo, IsRunAnswer}
 
 played : (o : Options) (bytes text : List ℕ) (s : Script) → script bytes ≡ Ok s → PlaysTo o s 0 text → IsRunText o bytes text
 played o bytes text s is (inl a) = record { sections = s.sections; meant = scripts-mean bytes s is; report = a.1 }
@@ -21,11 +21,11 @@ filled : (o : Options) (bytes text : List ℕ) (s : Script) → script bytes ≡
 filled o bytes text s is (inl a) = absurd (omega (arith, a.0))
 filled o bytes text s is (inr a) = record { sections = s.sections; meant = scripts-mean bytes s is; full = a.1 }
 
-run_text : (o : Options) (bytes text : List ℕ) (r : Result Script Fault) → script bytes ≡ r → RunsTo o r 0 text → IsRunText o bytes text
+run_text : (o : Options) (bytes text : List ℕ) (r : Result Script Fault) → script bytes ≡ r → RunAnswersTo o r 0 text → IsRunText o bytes text
 run_text o bytes text (Err fault) is a = absurd (omega (arith, a.0))
 run_text o bytes text (Ok s) is a = played o bytes text s is a
 
-run_full : (o : Options) (bytes text : List ℕ) (r : Result Script Fault) → script bytes ≡ r → RunsTo o r 3 text → IsRunFull o bytes text
+run_full : (o : Options) (bytes text : List ℕ) (r : Result Script Fault) → script bytes ≡ r → RunAnswersTo o r 3 text → IsRunFull o bytes text
 run_full o bytes text (Err fault) is a = absurd (omega (arith, a.0))
 run_full o bytes text (Ok s) is a = filled o bytes text s is a
 

@@ -7,15 +7,15 @@ use Rattle.gc_script.specs.Convert.{Conversion, convert}
 use Rattle.load_gen.specs.Generated.{generated}
 use Rattle.play_report.specs.Text.{usage_text}
 use Rattle.command_words.specs.Words.{Options, Command, Run, Gen, Load, Convert, Schedule, Dump, Undump, Census, Batch}
-use Rattle.play_words.specs.RunAnswers.{RunsTo}
+use Rattle.play_words.specs.RunAnswers.{RunAnswersTo}
 use Rattle.play_words.specs.Loading.{LoadsTo}
 use Rattle.play_words.specs.Converting.{ConvertsTo}
-use Rattle.job_pool.specs.Batch.{Fault as BatchFault, batch}
+use Rattle.job_pool.specs.Batch.{FaultOfBatch as BatchFault, batch}
 use Rattle.play_words.specs.Batching.{BatchesTo}
-use Rattle.heap_dump.specs.Final.{Heap}
-use Rattle.heap_dump.specs.Reading.{fault_of}
+use Rattle.heap_dump.specs.Final.{DumpedHeap}
+use Rattle.heap_dump.specs.Reading.{first_dump_fault}
 use Rattle.heap_dump.specs.declared.fault.DumpError.{DumpError}
-use Rattle.schedule_check.specs.Faults.{Fault as ScheduleFault}
+use Rattle.schedule_check.specs.Faults.{FaultOfSchedule as ScheduleFault}
 use Rattle.schedule_check.specs.Schedule.{Schedule as Schedules, schedule}
 use Rattle.schedule_check.specs.Verdicts.{verdict}
 use Rattle.schedule_check.specs.Telling.{status_as, status_of, verdict_status}
@@ -28,7 +28,7 @@ use Rattle.play_words.specs.Counting.{IsCensusText}
 use Rattle.play_words.specs.Answers.{IsAnswer}
 use Rattle.play_words.specs.Statuses.{EndsWith, RunsWith, ConvertsWith, BatchesWith, DumpsWith}
 
-runs_with : (o : Options) (r : Result Script Fault) (status : ℕ) (text : List ℕ) → RunsTo o r status text → RunsWith r status
+runs_with : (o : Options) (r : Result Script Fault) (status : ℕ) (text : List ℕ) → RunAnswersTo o r status text → RunsWith r status
 runs_with o (Err fault) status text a = a.0
 runs_with o (Ok s) status text (inl a) = inl a.0
 runs_with o (Ok s) status text (inr a) = inr a.0
@@ -55,7 +55,7 @@ dumps_with o (Err fault) status text a = a.0
 dumps_with o (Ok s) status text (inl a) = inl a.0
 dumps_with o (Ok s) status text (inr a) = inr a.0
 
-reads_with : (P : Heap → List ℕ → Type 0) (bytes : List ℕ) (fault : Option DumpError) (status : ℕ) (text : List ℕ) → OfDump P bytes fault status text → DumpsWith fault status
+reads_with : (P : DumpedHeap → List ℕ → Type 0) (bytes : List ℕ) (fault : Option DumpError) (status : ℕ) (text : List ℕ) → OfDump P bytes fault status text → DumpsWith fault status
 reads_with P bytes None status text a = a.0
 reads_with P bytes (Some fault) status text a = a.0
 
@@ -120,10 +120,10 @@ ends_with (Some (Dump o)) (Some bytes) status text (taken, same, a) =
     subst (λ (l : List ℕ). RunsWith (script l) status) (sym same) (dumps_with o (script taken) status text a)
 ends_with (Some Undump) None status text a = tt
 ends_with (Some Undump) (Some bytes) status text (taken, same, a) =
-    subst (λ (l : List ℕ). DumpsWith (fault_of l) status) (sym same) (reads_with IsUndumpText taken (fault_of taken) status text a)
+    subst (λ (l : List ℕ). DumpsWith (first_dump_fault l) status) (sym same) (reads_with IsUndumpText taken (first_dump_fault taken) status text a)
 ends_with (Some Census) None status text a = tt
 ends_with (Some Census) (Some bytes) status text (taken, same, a) =
-    subst (λ (l : List ℕ). DumpsWith (fault_of l) status) (sym same) (reads_with IsCensusText taken (fault_of taken) status text a)
+    subst (λ (l : List ℕ). DumpsWith (first_dump_fault l) status) (sym same) (reads_with IsCensusText taken (first_dump_fault taken) status text a)
 ends_with (Some (Batch o runners)) None status text a = tt
 ends_with (Some (Batch o runners)) (Some bytes) status text (taken, same, a) =
     subst (λ (l : List ℕ). BatchesWith (batch l) status) (sym same) (batches_with o (batch taken) status text a)
@@ -137,8 +137,8 @@ usage_is_refusal (Some (Load o number size)) left text a = absurd (loads_not_usa
 usage_is_refusal (Some Convert) left text (taken, same, a) = absurd (converts_not_usage (convert taken) 1 (converts_with (convert taken) 1 text a) refl)
 usage_is_refusal (Some Schedule) left text (taken, same, a) = absurd (told_not_usage (schedule taken) (sym a.status_is))
 usage_is_refusal (Some (Dump o)) left text (taken, same, a) = absurd (runs_not_usage (script taken) 1 (dumps_with o (script taken) 1 text a) refl)
-usage_is_refusal (Some Undump) left text (taken, same, a) = absurd (dumps_not_usage (fault_of taken) 1 (reads_with IsUndumpText taken (fault_of taken) 1 text a) refl)
-usage_is_refusal (Some Census) left text (taken, same, a) = absurd (dumps_not_usage (fault_of taken) 1 (reads_with IsCensusText taken (fault_of taken) 1 text a) refl)
+usage_is_refusal (Some Undump) left text (taken, same, a) = absurd (dumps_not_usage (first_dump_fault taken) 1 (reads_with IsUndumpText taken (first_dump_fault taken) 1 text a) refl)
+usage_is_refusal (Some Census) left text (taken, same, a) = absurd (dumps_not_usage (first_dump_fault taken) 1 (reads_with IsCensusText taken (first_dump_fault taken) 1 text a) refl)
 usage_is_refusal (Some (Batch o runners)) left text (taken, same, a) = absurd (batches_not_usage (batch taken) 1 (batches_with o (batch taken) 1 text a) refl)
 
 -- words that ask for nothing are told so
@@ -159,6 +159,6 @@ refusal_is_schedule (Some (Load o number size)) left text a = absurd (loads_not_
 refusal_is_schedule (Some Convert) left text (taken, same, a) = absurd (converts_not_seven (convert taken) (converts_with (convert taken) 7 text a))
 refusal_is_schedule (Some Schedule) left text (taken, same, a) = (refl, same_bytes left taken same (sym a.status_is))
 refusal_is_schedule (Some (Dump o)) left text (taken, same, a) = absurd (runs_not_seven (script taken) (dumps_with o (script taken) 7 text a))
-refusal_is_schedule (Some Undump) left text (taken, same, a) = absurd (dumps_not_seven (fault_of taken) (reads_with IsUndumpText taken (fault_of taken) 7 text a))
-refusal_is_schedule (Some Census) left text (taken, same, a) = absurd (dumps_not_seven (fault_of taken) (reads_with IsCensusText taken (fault_of taken) 7 text a))
+refusal_is_schedule (Some Undump) left text (taken, same, a) = absurd (dumps_not_seven (first_dump_fault taken) (reads_with IsUndumpText taken (first_dump_fault taken) 7 text a))
+refusal_is_schedule (Some Census) left text (taken, same, a) = absurd (dumps_not_seven (first_dump_fault taken) (reads_with IsCensusText taken (first_dump_fault taken) 7 text a))
 refusal_is_schedule (Some (Batch o runners)) left text (taken, same, a) = absurd (batches_not_seven (batch taken) (batches_with o (batch taken) 7 text a))

@@ -5,8 +5,8 @@ use Rattle.plain_heap.specs.Sections.{Sections}
 use Rattle.plain_heap.specs.PlainRun.{last_heaps}
 use Rattle.gc_script.specs.Faults.{Fault}
 use Rattle.gc_script.specs.Script.{Script, script}
-use Rattle.heap_dump.specs.Final.{Heap}
-use Rattle.heap_dump.specs.Reading.{fault_of, heap_of}
+use Rattle.heap_dump.specs.Final.{DumpedHeap}
+use Rattle.heap_dump.specs.Reading.{first_dump_fault, heap_of_dump}
 use Rattle.heap_dump.specs.Spelling.{dump}
 use Rattle.heap_dump.specs.declared.fault.DumpError.{DumpError}
 use Rattle.heap_dump.proofs.ReadBack.{heap_again, no_fault_again}
@@ -20,7 +20,7 @@ use Rattle.play_words.specs.DumpReading.{OfDump}
 use Rattle.play_words.specs.Dumping.{DumpsTo, IsDumpText}
 use Rattle.play_words.specs.Laws.{CountsNoneUnreached, DumpsAreReached, FinalHeapsAreReached}
 
-tells-survivors : (s : Sections) (h : Heap) → IsFinalHeap s h → TellsSurvivors (last_heaps s) h
+tells-survivors : (s : Sections) (h : DumpedHeap) → IsFinalHeap s h → TellsSurvivors (last_heaps s) h
 tells-survivors s h f = record { survivors = f.survivors; variables = held-there s h f; fields = refers-there s h f }
 
 pub final-reached : FinalHeapsAreReached
@@ -28,9 +28,9 @@ final-reached s h c f q = survivors_reached (last_heaps s) h c (tells-survivors 
 
 counted-whole : (s : Sections) (dumped counted : List ℕ) (status : ℕ) → IsDumpText s dumped → IsCensusAnswer dumped status counted → (status ≡ 0) × CountsNoneUnreached counted
 counted-whole s dumped counted status t a =
-    let again : OfDump IsCensusText (dump t.heap) (fault_of (dump t.heap)) status counted = subst (λ (l : List ℕ). OfDump IsCensusText l (fault_of l) status counted) t.written a in
-    let sound : (status ≡ 0) × IsCensusText (heap_of (dump t.heap)) counted = subst (λ (e : Option DumpError). OfDump IsCensusText (dump t.heap) e status counted) (no_fault_again t.heap t.legal) again in
-    let text : IsCensusText t.heap counted = subst (λ (h : Heap). IsCensusText h counted) (heap_again t.heap t.legal) sound.1 in
+    let again : OfDump IsCensusText (dump t.heap) (first_dump_fault (dump t.heap)) status counted = subst (λ (l : List ℕ). OfDump IsCensusText l (first_dump_fault l) status counted) t.written a in
+    let sound : (status ≡ 0) × IsCensusText (heap_of_dump (dump t.heap)) counted = subst (λ (e : Option DumpError). OfDump IsCensusText (dump t.heap) e status counted) (no_fault_again t.heap t.legal) again in
+    let text : IsCensusText t.heap counted = subst (λ (h : DumpedHeap). IsCensusText h counted) (heap_again t.heap t.legal) sound.1 in
     (sound.0, (text.counts, text.written, final-reached s t.heap text.counts t.final text.right))
 
 dumped-whole : (o : Options) (r : Result Script Fault) (dumped counted : List ℕ) (status : ℕ) → DumpsTo o r 0 dumped → IsCensusAnswer dumped status counted → (status ≡ 0) × CountsNoneUnreached counted

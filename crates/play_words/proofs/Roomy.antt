@@ -12,7 +12,7 @@ use Rattle.load_gen.proofs.FewObjects.{generated_few}
 use Rattle.load_gen.proofs.Whole.{generated_script}
 use Rattle.play_report.specs.Text.{IsFullText}
 use Rattle.command_words.specs.Words.{Options, Command, Run, Gen, Load, Convert, Schedule, Dump, Undump, Census, Batch}
-use Rattle.play_words.specs.RunAnswers.{RunsTo}
+use Rattle.play_words.specs.RunAnswers.{RunAnswersTo}
 use Rattle.play_words.specs.Loading.{LoadsTo}
 use Rattle.play_words.specs.Dumping.{DumpsTo}
 use Rattle.play_words.specs.Answers.{IsAnswer}
@@ -28,7 +28,7 @@ full_few s cells text full most keeps =
     (λ (few : cells ≤ sum). few)
     (cases_lt sum cells)
 
-run_full : (o : Options) (s : Sections) (text : List ℕ) (whole : Script) → whole.sections ≡ s → RunsTo o (Ok whole) 3 text → AreFew s o.cells
+run_full : (o : Options) (s : Sections) (text : List ℕ) (whole : Script) → whole.sections ≡ s → RunAnswersTo o (Ok whole) 3 text → AreFew s o.cells
 run_full o s text whole f plays =
     ⊎_elim
     (λ a. absurd (omega (arith, a.0)))
@@ -43,8 +43,8 @@ load_full o s text whole f plays =
     plays
 
 -- a script that was read, and is full
-pub run_few : (o : Options) (s : Sections) (text : List ℕ) (read : Result Script Fault) (whole : Script) → read ≡ Ok whole → whole.sections ≡ s → RunsTo o read 3 text → AreFew s o.cells
-run_few o s text read whole e f runs = run_full o s text whole f (subst (λ (r : Result Script Fault). RunsTo o r 3 text) e runs)
+pub run_few : (o : Options) (s : Sections) (text : List ℕ) (read : Result Script Fault) (whole : Script) → read ≡ Ok whole → whole.sections ≡ s → RunAnswersTo o read 3 text → AreFew s o.cells
+run_few o s text read whole e f runs = run_full o s text whole f (subst (λ (r : Result Script Fault). RunAnswersTo o r 3 text) e runs)
 
 dump_full : (o : Options) (s : Sections) (text : List ℕ) (whole : Script) → whole.sections ≡ s → DumpsTo o (Ok whole) 3 text → AreFew s o.cells
 dump_full o s text whole f plays =

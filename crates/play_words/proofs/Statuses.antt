@@ -6,7 +6,7 @@ use Rattle.schedule_check.specs.Telling.{status_of}
 use Rattle.command_words.specs.Words.{Command, Schedule}
 use Rattle.play_words.specs.Answers.{IsAnswer}
 use Rattle.play_words.specs.Promise.{HasItsText, WritesSome, WritesFront, Wrote}
-use Rattle.play_words.specs.Ending.{code_of, CommandEnds}
+use Rattle.play_words.specs.Ending.{number_of_status, CommandEnds}
 use Rattle.play_words.specs.declared.status.Status.{Status}
 use Rattle.play_words.specs.declared.status.Status.TheVariants as ends
 use Rattle.play_words.proofs.Promised.{refusal_is_schedule, usage_is_refusal}
@@ -19,7 +19,7 @@ untold n (inl low) big small = omega (arith, low, big)
 untold n (inr seven) big small = omega (arith, seven, small)
 
 module _ (reads reads_now : ℕ) (old new : Option (List ℕ)) (before now : ℕ) where
-  written_at : (A : ℕ → List ℕ → Type 0) (status : Status) → CommandEnds A status reads reads_now old new before now → HasItsText (code_of status) → WritesSome old new (A (code_of status))
+  written_at : (A : ℕ → List ℕ → Type 0) (status : Status) → CommandEnds A status reads reads_now old new before now → HasItsText (number_of_status status) → WritesSome old new (A (number_of_status status))
   written_at A ends.Done h l = h.0.0
   written_at A ends.Usage h l = h.0.0
   written_at A ends.InputFault h l = h.0.0
@@ -30,11 +30,11 @@ module _ (reads reads_now : ℕ) (old new : Option (List ℕ)) (before now : ℕ
   written_at A ends.Refused h l = h.0.0
 
   -- a text of the status was written
-  pub text_written : (A : ℕ → List ℕ → Type 0) (status : Status) (n : ℕ) → n ≡ code_of status → CommandEnds A status reads reads_now old new before now → HasItsText n → WritesSome old new (A n)
+  pub text_written : (A : ℕ → List ℕ → Type 0) (status : Status) (n : ℕ) → n ≡ number_of_status status → CommandEnds A status reads reads_now old new before now → HasItsText n → WritesSome old new (A n)
   text_written A status n is h =
       subst (λ (k : ℕ). HasItsText k → WritesSome old new (A k)) (sym is) (written_at A status h)
 
-  front_at : (A : ℕ → List ℕ → Type 0) (status : Status) → CommandEnds A status reads reads_now old new before now → code_of status ≡ 5 → WritesFront old new (λ text. (s : ℕ) × A s text)
+  front_at : (A : ℕ → List ℕ → Type 0) (status : Status) → CommandEnds A status reads reads_now old new before now → number_of_status status ≡ 5 → WritesFront old new (λ text. (s : ℕ) × A s text)
   front_at A ends.Done h e = absurd (omega (arith, e))
   front_at A ends.Usage h e = absurd (omega (arith, e))
   front_at A ends.InputFault h e = absurd (omega (arith, e))
@@ -44,31 +44,31 @@ module _ (reads reads_now : ℕ) (old new : Option (List ℕ)) (before now : ℕ
   front_at A ends.Memory h e = absurd (omega (arith, e))
   front_at A ends.Refused h e = absurd (omega (arith, e))
 
-  -- a text of the status was written, or a front of one
-  pub wrote : (A : ℕ → List ℕ → Type 0) (status : Status) (n : ℕ) → n ≡ code_of status → CommandEnds A status reads reads_now old new before now → Wrote A n old new
+  -- a text of the status was written, or a prefix of one
+  pub wrote : (A : ℕ → List ℕ → Type 0) (status : Status) (n : ℕ) → n ≡ number_of_status status → CommandEnds A status reads reads_now old new before now → Wrote A n old new
   wrote A status n is h = record { whole = text_written A status n is h; front = λ five. front_at A status h (sym is ∙ five) }
 
   module _ (asked : Option Command) (left : Option (List ℕ)) where
     -- of the command that was asked for
-    pub wrote_as : (status : Status) (n : ℕ) → n ≡ code_of status → CommandEnds (IsAnswer asked left) status reads reads_now old new before now
+    pub wrote_as : (status : Status) (n : ℕ) → n ≡ number_of_status status → CommandEnds (IsAnswer asked left) status reads reads_now old new before now
         → (other : Option Command) → asked ≡ other → Wrote (IsAnswer other left) n old new
     wrote_as status n is h other same = subst (λ (a : Option Command). Wrote (IsAnswer a left) n old new) same (wrote (IsAnswer asked left) status n is h)
 
     -- the status 1 comes to words that ask for nothing
-    pub usage_comes : (status : Status) (n : ℕ) → n ≡ code_of status → CommandEnds (IsAnswer asked left) status reads reads_now old new before now → n ≡ 1 → asked ≡ None
+    pub usage_comes : (status : Status) (n : ℕ) → n ≡ number_of_status status → CommandEnds (IsAnswer asked left) status reads reads_now old new before now → n ≡ 1 → asked ≡ None
     usage_comes status n is h one =
         let some = subst (λ (k : ℕ). WritesSome old new (IsAnswer asked left k)) one (text_written (IsAnswer asked left) status n is h (inl (omega (arith, one)))) in
         usage_is_refusal asked left some.0 some.1
 
     -- the status 7 comes to refused schedules
-    pub refused_comes : (status : Status) (n : ℕ) → n ≡ code_of status → CommandEnds (IsAnswer asked left) status reads reads_now old new before now → n ≡ 7
+    pub refused_comes : (status : Status) (n : ℕ) → n ≡ number_of_status status → CommandEnds (IsAnswer asked left) status reads reads_now old new before now → n ≡ 7
         → (asked ≡ Some Schedule) × IfSome left (λ bytes. status_of bytes ≡ 7)
     refused_comes status n is h seven =
         let some = subst (λ (k : ℕ). WritesSome old new (IsAnswer asked left k)) seven (text_written (IsAnswer asked left) status n is h (inr seven)) in
         refusal_is_schedule asked left some.0 some.1
 
     module _ (reads_small : reads < 2 ^ 64 - 1) (writes_small : before < 2 ^ 64 - 1) (reads_same : reads_now ≡ reads) (writes_same : now ≡ before) where
-      complete_at : (status : Status) → CommandEnds (IsAnswer asked left) status reads reads_now old new before now → (code_of status ≡ 6) ⊎ HasItsText (code_of status)
+      complete_at : (status : Status) → CommandEnds (IsAnswer asked left) status reads reads_now old new before now → (number_of_status status ≡ 6) ⊎ HasItsText (number_of_status status)
       complete_at ends.Done h = inr (inl (omega arith))
       complete_at ends.Usage h = inr (inl (omega arith))
       complete_at ends.InputFault h = inr (inl (omega arith))
@@ -79,5 +79,5 @@ module _ (reads reads_now : ℕ) (old new : Option (List ℕ)) (before now : ℕ
       complete_at ends.Refused h = inr (inr refl)
 
       -- where nothing failed
-      pub complete : (status : Status) (n : ℕ) → n ≡ code_of status → CommandEnds (IsAnswer asked left) status reads reads_now old new before now → (n ≡ 6) ⊎ HasItsText n
+      pub complete : (status : Status) (n : ℕ) → n ≡ number_of_status status → CommandEnds (IsAnswer asked left) status reads reads_now old new before now → (n ≡ 6) ⊎ HasItsText n
       complete status n is h = subst (λ (k : ℕ). (k ≡ 6) ⊎ HasItsText k) (sym is) (complete_at status h)

@@ -11,23 +11,23 @@ use Rattle.play_words.specs.declared.status.Status.{Status}
 use Rattle.play_words.specs.declared.status.Status.TheVariants as ends
 
 -- the number of a status
-abbrev pub code_of : Status → ℕ
-code_of ends.Done = 0
-code_of ends.Usage = 1
-code_of ends.InputFault = 2
-code_of ends.Full = 3
-code_of ends.ReadFault = 4
-code_of ends.WriteFault = 5
-code_of ends.Memory = 6
-code_of ends.Refused = 7
+abbrev pub number_of_status : Status → ℕ
+number_of_status ends.Done = 0
+number_of_status ends.Usage = 1
+number_of_status ends.InputFault = 2
+number_of_status ends.Full = 3
+number_of_status ends.ReadFault = 4
+number_of_status ends.WriteFault = 5
+number_of_status ends.Memory = 6
+number_of_status ends.Refused = 7
 
 -- the status after a text was handed to the sink
-abbrev pub after : {T E : Type 0} → Status → Result T E → Status
-after status (Ok u) = status
-after status (Err e) = ends.WriteFault
+abbrev pub status_after_write : {T E : Type 0} → Status → Result T E → Status
+status_after_write status (Ok u) = status
+status_after_write status (Err e) = ends.WriteFault
 
 -- how a command ends that has all its input, where `Answers` says which texts a status may have: such a text was written,
--- or a front of one and the sink failed, or memory ran out and nothing was written
+-- or a prefix of one and the sink failed, or memory ran out and nothing was written
 abbrev pub TextEnds : (ℕ → List ℕ → Type 0) → Status → Option (List ℕ) → Option (List ℕ) → ℕ → ℕ → Type 0
 TextEnds Answers ends.Done old new before now = WritesSome old new (Answers 0) × (now ≡ before)
 TextEnds Answers ends.Usage old new before now = WritesSome old new (Answers 1) × (now ≡ before)

@@ -1,6 +1,6 @@
 -- What follows from the clauses of all commands together.
 use Rattle.std.specs.Prelude.{ℕ, ◌≡◌, List, Option, Some, None}
-use Rattle.schedule_check.specs.Telling.{IsAnswer as IsScheduleAnswer}
+use Rattle.schedule_check.specs.Telling.{IsScheduleAnswer}
 use Rattle.command_words.specs.Words.{Options, Command, Run, Gen, Load, Convert, Schedule, Dump, Undump, Census, Batch}
 use Rattle.play_words.specs.Promise.{HasItsText, OfSource, Wrote}
 use Rattle.play_words.specs.RunAnswers.{IsRunAnswer}
@@ -27,10 +27,10 @@ pub record KeepsPromise (asked : Option Command) (left old new : Option (List �
   pub batch : (o : Options) (runners : ℕ) → asked ≡ Some (Batch o runners) → Wrote (OfSource (IsBatchAnswer o) left) status old new
   pub usage : asked ≡ None → Wrote IsUsageAnswer status old new
 
--- so what is written answers what the words ask for, by one relation for all commands
+-- what the program promises of each command follows for all commands by one relation: what is written answers what the words ask for
 abbrev pub AnswersFollow : Type 0
 AnswersFollow = (asked : Option Command) (left old new : Option (List ℕ)) (status : ℕ) → KeepsPromise asked left old new status → Wrote (IsAnswer asked left) status old new
 
--- and a whole text has one of the statuses of its command
+-- a whole text has one of the statuses of its command
 abbrev pub StatusesFollow : Type 0
 StatusesFollow = (asked : Option Command) (left old new : Option (List ℕ)) (status : ℕ) → KeepsPromise asked left old new status → HasItsText status → EndsWith asked left status

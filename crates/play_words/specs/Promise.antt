@@ -1,7 +1,7 @@
 -- What all commands share: the words that ask for one, the bytes that it takes, and what is written by its status.
 use Rattle.std.specs.Prelude.{ℕ, ◌≡◌, ◌≤◌, ◌⊎◌, List, Bool, true, false, Option, Some, IfSome}
 use Rattle.std.specs.Io.KnownBytes.{Appends}
-use Rattle.play_report.specs.Causes.{Grows}
+use Rattle.play_report.specs.Causes.{AppendsPrefix}
 use Rattle.play_words.specs.declared.source.TheConstants.{SCRIPT, SCHEDULE, DUMP, BATCH}
 use Rattle.command_words.specs.Words.{Command, Run, Convert, Schedule, Dump, Undump, Census, Batch, command}
 
@@ -25,11 +25,11 @@ OfSource Answers left status text = FromSource (λ bytes. Answers bytes status) 
 abbrev pub HasItsText : ℕ → Type 0
 HasItsText status = (status ≤ 3) ⊎ (status ≡ 7)
 
--- a front of some text was written, for which P holds
+-- a prefix of some text was written, for which P holds
 abbrev pub WritesFront : Option (List ℕ) → Option (List ℕ) → (List ℕ → Type 0) → Type 0
-WritesFront old new P = (text : List ℕ) × P text × Grows old new text
+WritesFront old new P = (text : List ℕ) × P text × AppendsPrefix old new text
 
--- what was written, where `Answers` says which texts a status may have: such a text whole, or with status 5 a front of one
+-- what was written, where `Answers` says which texts a status may have: such a text whole, or with status 5 a prefix of one
 pub record Wrote (Answers : ℕ → List ℕ → Type 0) (status : ℕ) (old new : Option (List ℕ)) : Type 0 where
   pub whole : HasItsText status → WritesSome old new (Answers status)
   pub front : status ≡ 5 → WritesFront old new (λ text. (s : ℕ) × Answers s text)

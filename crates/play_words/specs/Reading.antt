@@ -10,10 +10,10 @@ abbrev pub TakesAtMost : ℕ → Option (List ℕ) → Option (List ℕ) → Typ
 TakesAtMost most old new = (taken : List ℕ) × Consumes old new taken × (length taken ≤ most)
 
 -- these bytes were taken: all there are, or as many as decide and no more
-abbrev pub Reads : {Z : Type 0} → ℕ → Result (Vec ℕ Z) Unread → Option (List ℕ) → Option (List ℕ) → ℕ → ℕ → Type 0
-Reads enough (Ok bytes) old new before now = Consumes old new bytes.items × (IsAtEnd new ⊎ (enough ≤ length bytes.items)) × (length bytes.items ≤ enough) × (now ≡ before)
-Reads enough (Err unread.Failed) old new before now = Rose before now
-Reads enough (Err unread.Memory) old new before now = now ≡ before
+abbrev pub ReadsEnough : {Z : Type 0} → ℕ → Result (Vec ℕ Z) Unread → Option (List ℕ) → Option (List ℕ) → ℕ → ℕ → Type 0
+ReadsEnough enough (Ok bytes) old new before now = Consumes old new bytes.items × (IsAtEnd new ⊎ (enough ≤ length bytes.items)) × (length bytes.items ≤ enough) × (now ≡ before)
+ReadsEnough enough (Err unread.Failed) old new before now = Rose before now
+ReadsEnough enough (Err unread.Memory) old new before now = now ≡ before
 
 -- where the bytes are fewer than decide nothing is left of them, and else just as many as decide were taken
 pub record IsSpent (enough : ℕ) (bytes : List ℕ) (left : Option (List ℕ)) : Type 0 where

@@ -10,10 +10,10 @@ abbrev pub PlaysTo : Options → Script → ℕ → List ℕ → Type 0
 PlaysTo o s status text = ((status ≡ 0) × IsReportText s.sections o.cells o.place text) ⊎ ((status ≡ 3) × IsFullText s.sections o.cells text)
 
 -- a script is played, and a fault has status 2
-abbrev pub RunsTo : Options → Result Script Fault → ℕ → List ℕ → Type 0
-RunsTo o (Err fault) status text = (status ≡ 2) × (text ≡ fault_text fault)
-RunsTo o (Ok s) status text = PlaysTo o s status text
+abbrev pub RunAnswersTo : Options → Result Script Fault → ℕ → List ℕ → Type 0
+RunAnswersTo o (Err fault) status text = (status ≡ 2) × (text ≡ fault_text fault)
+RunAnswersTo o (Ok s) status text = PlaysTo o s status text
 
 -- `run`, of these bytes
 abbrev pub IsRunAnswer : Options → List ℕ → ℕ → List ℕ → Type 0
-IsRunAnswer o bytes status text = RunsTo o (script bytes) status text
+IsRunAnswer o bytes status text = RunAnswersTo o (script bytes) status text

@@ -3,9 +3,9 @@ use Rattle.std.specs.Prelude.{ℕ, ◌≡◌, ◌⊎◌, List, Option, Some, Non
 use Rattle.gc_script.specs.Faults.{Fault}
 use Rattle.gc_script.specs.Script.{Script, script}
 use Rattle.gc_script.specs.Convert.{Conversion, convert}
-use Rattle.heap_dump.specs.Reading.{fault_of}
+use Rattle.heap_dump.specs.Reading.{first_dump_fault}
 use Rattle.heap_dump.specs.declared.fault.DumpError.{DumpError}
-use Rattle.job_pool.specs.Batch.{Fault as BatchFault, batch}
+use Rattle.job_pool.specs.Batch.{FaultOfBatch as BatchFault, batch}
 use Rattle.schedule_check.specs.Telling.{status_of}
 use Rattle.command_words.specs.Words.{Command, Run, Gen, Load, Convert, Schedule, Dump, Undump, Census, Batch}
 
@@ -14,6 +14,7 @@ abbrev pub RunsWith : Result Script Fault → ℕ → Type 0
 RunsWith (Ok s) status = (status ≡ 0) ⊎ (status ≡ 3)
 RunsWith (Err fault) status = status ≡ 2
 
+-- the status of a conversion, or of a script with a fault
 abbrev pub ConvertsWith : Result Conversion Fault → ℕ → Type 0
 ConvertsWith (Ok c) status = status ≡ 0
 ConvertsWith (Err fault) status = status ≡ 2
@@ -23,6 +24,7 @@ abbrev pub DumpsWith : Option DumpError → ℕ → Type 0
 DumpsWith None status = status ≡ 0
 DumpsWith (Some fault) status = status ≡ 2
 
+-- the status of a batch, or of bytes with a fault
 abbrev pub BatchesWith : Result (List (List ℕ)) BatchFault → ℕ → Type 0
 BatchesWith (Ok jobs) status = status ≡ 0
 BatchesWith (Err fault) status = status ≡ 2
@@ -36,6 +38,6 @@ EndsWith (Some (Load options number size)) left status = (status ≡ 0) ⊎ (sta
 EndsWith (Some Convert) left status = IfSome left (λ bytes. ConvertsWith (convert bytes) status)
 EndsWith (Some Schedule) left status = IfSome left (λ bytes. status ≡ status_of bytes)
 EndsWith (Some (Dump options)) left status = IfSome left (λ bytes. RunsWith (script bytes) status)
-EndsWith (Some Undump) left status = IfSome left (λ bytes. DumpsWith (fault_of bytes) status)
-EndsWith (Some Census) left status = IfSome left (λ bytes. DumpsWith (fault_of bytes) status)
+EndsWith (Some Undump) left status = IfSome left (λ bytes. DumpsWith (first_dump_fault bytes) status)
+EndsWith (Some Census) left status = IfSome left (λ bytes. DumpsWith (first_dump_fault bytes) status)
 EndsWith (Some (Batch options runners)) left status = IfSome left (λ bytes. BatchesWith (batch bytes) status)

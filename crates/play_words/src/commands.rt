@@ -11,8 +11,8 @@
 //! A command takes its input whole before it writes, so a source that fails or a script with a fault leaves nothing written but
 //! the fault's text. How each ends is `CommandEnds` in `specs/Ending.antt`, for the texts that `specs/Answers.antt` allows it.
 ghost use Rattle.std.specs.Prelude.{◌≡◌, IfSome, Some, true, false};
-ghost use Rattle.command_words.specs.Commands.{IsInRange, command_of};
-ghost use Rattle.play_words.specs.Ending.{CommandEnds, code_of};
+ghost use Rattle.command_words.specs.Commands.{IsCommandInRange, command_of};
+ghost use Rattle.play_words.specs.Ending.{CommandEnds, number_of_status};
 ghost use Rattle.play_words.specs.Promise.{HasItsText, enough_for, reads_source};
 ghost use Rattle.play_words.specs.Answers.{IsAnswer};
 ghost use Rattle.play_words.specs.Reading.{IsSpent, TakesAtMost};
@@ -56,10 +56,10 @@ pub fn do_command<R: Threads + Wait + Sync, S: Source, K: Sink, G: Gate + Sync>(
     sink: &mut K,
     gate: &G,
 ) -> Status
-    requires { IsInRange asked }
+    requires { IsCommandInRange asked }
     ensures ends { AcrossSink K.written K.faults (CommandEnds (IsAnswer (Some (command_of asked)) (S.left source.old)) result
         (S.faults source.old) (S.faults source.new)) sink.old sink.new }
-    ensures spent { reads_source (Some (command_of asked)) ≡ true → HasItsText (code_of result)
+    ensures spent { reads_source (Some (command_of asked)) ≡ true → HasItsText (number_of_status result)
         → IfSome (S.left source.old) (λ bytes. IsSpent (enough_for (Some (command_of asked))) bytes (S.left source.new)) }
     ensures most { TakesAtMost (enough_for (Some (command_of asked))) (S.left source.old) (S.left source.new) }
     ensures untouched { reads_source (Some (command_of asked)) ≡ false → source.new ≡ source.old }

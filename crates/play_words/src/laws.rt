@@ -7,12 +7,12 @@ pub fn runs_alike()
     ensures { RunsAlike }
 {}
 
-/// So do two dumps of one script.
+/// Two dumps of one script are the same bytes.
 pub fn dumps_alike()
     ensures { DumpsAlike }
 {}
 
-/// So do two loads with the same numbers.
+/// Two loads with the same numbers write the same text.
 pub fn loads_alike()
     ensures { LoadsAlike }
 {}
@@ -22,7 +22,7 @@ pub fn final_heaps_are_reached()
     ensures { FinalHeapsAreReached }
 {}
 
-/// So `census` counts no record that isn't reached in what `dump` writes of a play that is done.
+/// In what `dump` writes of a play that is done, `census` counts no record that isn't reached.
 pub fn dumps_are_reached()
     ensures { DumpsAreReached }
 {}
@@ -32,7 +32,7 @@ pub fn answers_follow()
     ensures { AnswersFollow }
 {}
 
-/// And a whole text has one of the statuses that its command may have where nothing fails.
+/// A whole text has one of the statuses that its command may have where nothing fails.
 pub fn statuses_follow()
     ensures { StatusesFollow }
 {}

@@ -24,7 +24,7 @@ fn first_line(text: &[u8]) -> usize
     }
 }
 
-/// Hands a text to the sink, each line as one piece.
+/// Hands a text to the sink, each line as one piece. Failed only where the sink's count of faults rose in this call, and a prefix of the text was then written.
 pub fn write_lines<K: Sink>(sink: &mut K, text: &[u8]) -> Result<(), Failed>
     ensures { WritesTo K.written K.faults result sink.old sink.new text.now }
 {

@@ -6,8 +6,8 @@ ghost use Rattle.std.specs.Prelude.{ℕ, ◌≡◌, ◌≢◌, ◌<◌, ◌≤�
 ghost use Rattle.std.specs.String.{string_bytes};
 ghost use Rattle.std.specs.Io.KnownBytes.{Keeps};
 ghost use Rattle.command_words.specs.Words.{Batch, Census, Convert, Dump, Gen, Load, Options, Run, Schedule, Undump};
-ghost use Rattle.schedule_check.specs.Telling.{IsAnswer as IsScheduleAnswer, status_of};
-ghost use Rattle.play_words.specs.Ending.{CommandEnds, code_of};
+ghost use Rattle.schedule_check.specs.Telling.{IsScheduleAnswer, status_of};
+ghost use Rattle.play_words.specs.Ending.{CommandEnds, number_of_status};
 ghost use Rattle.play_words.specs.Promise.{FromSource, HasItsText, OfSource, Wrote, WritesSome, enough_for, reads_source, wanted};
 ghost use Rattle.play_words.specs.Answers.{IsAnswer, IsUsageAnswer};
 ghost use Rattle.play_words.specs.Batching.{IsBatchAnswer};
@@ -44,7 +44,7 @@ fn do_words<R: Threads + Wait + Sync, S: Source, K: Sink, G: Gate + Sync>(
 ) -> Status
     ensures ends { AcrossSink K.written K.faults (CommandEnds (IsAnswer (wanted (map string_bytes words.now)) (S.left source.old)) result
         (S.faults source.old) (S.faults source.new)) sink.old sink.new }
-    ensures spent { reads_source (wanted (map string_bytes words.now)) ≡ true → HasItsText (code_of result)
+    ensures spent { reads_source (wanted (map string_bytes words.now)) ≡ true → HasItsText (number_of_status result)
         → IfSome (S.left source.old) (λ bytes. IsSpent (enough_for (wanted (map string_bytes words.now))) bytes (S.left source.new)) }
     ensures most { TakesAtMost (enough_for (wanted (map string_bytes words.now))) (S.left source.old) (S.left source.new) }
     ensures untouched { reads_source (wanted (map string_bytes words.now)) ≡ false → source.new ≡ source.old }
@@ -72,7 +72,7 @@ fn do_words<R: Threads + Wait + Sync, S: Source, K: Sink, G: Gate + Sync>(
 /// | 2 | of the commands that read: the input has a fault | the fault's number, name and place |
 /// | 3 | of `run`, `load` and `dump`: the reachable objects filled all cells | the section that found no cell, and how many commands each section did |
 /// | 4 | of the commands that read: the source failed | nothing |
-/// | 5 | the sink failed | a front of what was to be written |
+/// | 5 | the sink failed | a prefix of what was to be written |
 /// | 6 | memory ran out | nothing |
 /// | 7 | of `schedule`: the schedule is refused | the line, the rule and its part |
 pub fn play_words<R: Threads + Wait + Sync, S: Source, K: Sink, G: Gate + Sync>(

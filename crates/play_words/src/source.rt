@@ -1,5 +1,5 @@
 //! Reads all of a source.
-ghost use Rattle.play_words.specs.Reading.{Reads, TakesAtMost};
+ghost use Rattle.play_words.specs.Reading.{ReadsEnough, TakesAtMost};
 
 use play_report::Source;
 use std::alloc::Global;
@@ -23,13 +23,14 @@ pub const DUMP: usize = 4_984_981;
 /// One byte more than the longest batch.
 pub const BATCH: usize = 16_777_217;
 
-/// Takes bytes until there are no more, or `enough` of them, which is more than the input may have. It never takes more.
+/// Takes bytes until there are no more, or `enough` of them, which is more than the input may have. It never takes more. Unread says that the source failed, or
+/// that there was no memory.
 pub fn read_source<S: Source>(
     alloc: Global,
     source: &mut S,
     enough: usize,
 ) -> Result<Vec<u8>, Unread>
-    ensures reads { Reads enough result (S.left source.old) (S.left source.new) (S.faults source.old) (S.faults source.new) }
+    ensures reads { ReadsEnough enough result (S.left source.old) (S.left source.new) (S.faults source.old) (S.faults source.new) }
     ensures most { TakesAtMost enough (S.left source.old) (S.left source.new) }
 {
     let mut bytes = Vec::new(alloc);

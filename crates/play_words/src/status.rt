@@ -1,6 +1,6 @@
 //! How the program ends.
 ghost use Rattle.std.specs.Prelude.{◌≡◌};
-ghost use Rattle.play_words.specs.Ending.{code_of, after};
+ghost use Rattle.play_words.specs.Ending.{number_of_status, status_after_write};
 
 use play_report::Failed;
 
@@ -29,7 +29,7 @@ impl Status {
     /// Its number: 0 done, 1 usage, 2 fault of the input, 3 full, 4 read fault, 5 write fault, 6 memory,
     /// 7 refused.
     pub fn code(self) -> u8
-        ensures { result ≡ code_of self }
+        ensures { result ≡ number_of_status self }
     {
         match self {
             Status::Done => 0,
@@ -45,7 +45,7 @@ impl Status {
 
     /// The status after its text was handed to the sink: itself, unless the sink failed.
     pub fn after(self, written: Result<(), Failed>) -> Status
-        ensures { result ≡ after self written }
+        ensures { result ≡ status_after_write self written }
     {
         match written {
             Ok(()) => self,

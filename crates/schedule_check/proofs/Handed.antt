@@ -1,35 +1,31 @@
 -- What is told after a text was handed to the sink.
 use Rattle.std.proofs.Common.{◌≡◌, ℕ, List, refl, sym, ap, ◌∙◌, subst}
-use Rattle.std.specs.Prelude.{Option, Some, None, Result, Ok, Err, ◌≢◌}
-use Rattle.std.specs.Io.KnownBytes.{Appends, Keeps}
-use Rattle.play_report.specs.Causes.{Grows, Writes}
-use Rattle.schedule_check.specs.Faults.{Fault}
-use Rattle.schedule_check.specs.Faults as faults
+use Rattle.std.specs.Prelude.{Option, Result, Ok, Err}
+use Rattle.std.specs.Io.KnownBytes.{Appends}
+use Rattle.play_report.specs.Causes.{AppendsPrefix, WritesText}
+use Rattle.schedule_check.specs.Faults.{FaultOfSchedule}
 use Rattle.schedule_check.specs.Schedule.{Schedule}
-use Rattle.schedule_check.specs.Shown.{fault_of, is_refused}
 use Rattle.schedule_check.specs.Verdicts.{verdict, Says}
-use Rattle.schedule_check.specs.Text.{fault_text, error_text, verdict_text}
-use Rattle.schedule_check.specs.Telling.{verdict_status, IsToldAs, TellsAs, finished_as, code_of}
-use Rattle.schedule_check.specs.declared.fault.ScheduleFault.{ScheduleFault}
-use Rattle.schedule_check.specs.declared.fault.ScheduleFault.TheVariants as answers
+use Rattle.schedule_check.specs.Text.{verdict_text}
+use Rattle.schedule_check.specs.Telling.{verdict_status, IsToldAs, TellsAs, finished_as, number_of_told}
 use Rattle.schedule_check.specs.declared.verdict.Verdict.{Verdict}
 use Rattle.schedule_check.specs.declared.tell.Told.{Told}
 use Rattle.schedule_check.specs.declared.tell.Untold.{Untold}
 
 -- a text that may be told is told
-pub written-told : {T E : Type 0} (r : Result Schedule Fault) (t : Told) (w : Result T E) (text : List ℕ) (old new : Option (List ℕ)) (before now : ℕ) → IsToldAs r (code_of t) text → Writes w old new before now text
+pub written-told : {T E : Type 0} (r : Result Schedule FaultOfSchedule) (t : Told) (w : Result T E) (text : List ℕ) (old new : Option (List ℕ)) (before now : ℕ) → IsToldAs r (number_of_told t) text → WritesText w old new before now text
     → TellsAs r (finished_as t w) old new before now
 written-told r t (Ok u) text old new before now k w =
-    (subst (IsToldAs r (code_of t)) k.text_is k, subst (Appends old new) k.text_is w.0, w.1)
+    (subst (IsToldAs r (number_of_told t)) k.text_is k, subst (Appends old new) k.text_is w.0, w.1)
 written-told r t (Err e) text old new before now k w =
-    (record { status_is = refl; text_is = refl; meant = k.meant }, subst (Grows old new) k.text_is w.0, w.1)
+    (record { status_is = refl; text_is = refl; meant = k.meant }, subst (AppendsPrefix old new) k.text_is w.0, w.1)
 
 -- the text of a schedule's verdict may be told
-pub verdict-told : (s : Schedule) (v : Verdict) (t : Told) → v ≡ verdict s → Says s v → code_of t ≡ verdict_status v → IsToldAs (Ok s) (code_of t) (verdict_text v)
+pub verdict-told : (s : Schedule) (v : Verdict) (t : Told) → v ≡ verdict s → Says s v → number_of_told t ≡ verdict_status v → IsToldAs (Ok s) (number_of_told t) (verdict_text v)
 verdict-told s v t e k c =
     record { status_is = c ∙ ap verdict_status e; text_is = ap verdict_text e; meant = subst (Says s) e k }
 
 -- what was answered then is told
-pub told-by : {T E : Type 0} (r : Result Schedule Fault) (t : Told) (w : Result T E) (answer : Result Told Untold) (text : List ℕ) (old new : Option (List ℕ)) (before now : ℕ) → answer ≡ finished_as t w → IsToldAs r (code_of t) text → Writes w old new before now text
+pub told-by : {T E : Type 0} (r : Result Schedule FaultOfSchedule) (t : Told) (w : Result T E) (answer : Result Told Untold) (text : List ℕ) (old new : Option (List ℕ)) (before now : ℕ) → answer ≡ finished_as t w → IsToldAs r (number_of_told t) text → WritesText w old new before now text
     → TellsAs r answer old new before now
 told-by r t w answer text old new before now e k h = subst (λ (x : Result Told Untold). TellsAs r x old new before now) (sym e) (written-told r t w text old new before now k h)

@@ -8,17 +8,17 @@ use Rattle.mark_core.specs.Steps.{Core, failing_part, after_event}
 use Rattle.mark_core.specs.declared.kinds.Rule.{Rule}
 use Rattle.schedule_check.specs.declared.line.Line.{Line}
 use Rattle.schedule_check.specs.Schedule.{Schedule}
-use Rattle.schedule_check.specs.Verdicts.{IsRun, IsAccepted, IsRefused, start_of, at_end, by_part, verdict_from, verdict, Says}
+use Rattle.schedule_check.specs.Verdicts.{IsRunOfLines, IsAccepted, IsRefusedAt, start_of, at_end, by_part, verdict_from, verdict, Says}
 use Rattle.schedule_check.specs.declared.verdict.Verdict.{Verdict}
 use Rattle.schedule_check.specs.declared.verdict.Verdict.TheVariants.{Refused}
 
 -- a run comes to what is told of its end
-run_ends : (n : ℕ) (ls : List Line) (c d : Core) → IsRun ls c d → verdict_from n ls c ≡ at_end n d
+run_ends : (n : ℕ) (ls : List Line) (c d : Core) → IsRunOfLines ls c d → verdict_from n ls c ≡ at_end n d
 run_ends n [] c d r = ap (at_end n) r
 run_ends n (l ∷ ls) c d r = ap (λ (o : Option ℕ). by_part l o (verdict_from n ls (after_event c l.event))) r.0 ∙ run_ends n ls (after_event c l.event) d r.1
 
 -- a run before an event that isn't allowed comes to its refusal
-run_refused : (n : ℕ) (before : List Line) (l : Line) (after : List Line) (c d : Core) (part : ℕ) → IsRun before c d → failing_part d l.event ≡ Some part
+run_refused : (n : ℕ) (before : List Line) (l : Line) (after : List Line) (c d : Core) (part : ℕ) → IsRunOfLines before c d → failing_part d l.event ≡ Some part
     → verdict_from n (before ++ l ∷ after) c ≡ Refused l.line (record { kind = kind_of l.event.step; part = part })
 run_refused n [] l after c d part r f =
     ap (λ (o : Option ℕ). by_part l o (verdict_from n after (after_event c l.event))) (ap (λ (x : Core). failing_part x l.event) r ∙ f)
@@ -28,7 +28,7 @@ run_refused n (k ∷ ks) l after c d part r f =
 pub accepted-is : (s : Schedule) (d : Core) → IsAccepted s d → verdict s ≡ at_end (length s.events) d
 accepted-is s d k = run_ends (length s.events) s.events (start_of s) d k.run
 
-pub refused-is : (s : Schedule) (line : ℕ) (rule : Rule) → IsRefused s line rule.kind rule.part → verdict s ≡ Refused line rule
+pub refused-is : (s : Schedule) (line : ℕ) (rule : Rule) → IsRefusedAt s line rule.kind rule.part → verdict s ≡ Refused line rule
 refused-is s line rule k =
     ap (λ (es : List Line). verdict_from (length s.events) es (start_of s)) k.events
     ∙ run_refused (length s.events) k.before k.refused k.after (start_of s) k.state rule.part k.run k.part_is

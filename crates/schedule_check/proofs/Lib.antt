@@ -1,4 +1,3 @@
-pub mod Bytes
 mod Rows
 mod PlayedRows
 pub mod Same

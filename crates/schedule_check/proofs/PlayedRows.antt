@@ -5,12 +5,12 @@ use Rattle.mark_core.specs.Steps.{Core, first_refused, run_of}
 use Rattle.mark_core.specs.Layout.{words_of}
 use Rattle.mark_core.specs.Closed.{is_closed}
 use Rattle.schedule_check.specs.declared.line.Line.{Line}
-use Rattle.schedule_check.specs.Faults.{Fault}
+use Rattle.schedule_check.specs.Faults.{FaultOfSchedule}
 use Rattle.schedule_check.specs.Schedule.{Schedule, schedule}
 use Rattle.mark_core.specs.Summary.{marked_cells, used_cells}
 use Rattle.schedule_check.specs.Verdicts.{start_of}
 
-abbrev refused_in : Result Schedule Fault → Option (ℕ × ℕ × ℕ)
+abbrev refused_in : Result Schedule FaultOfSchedule → Option (ℕ × ℕ × ℕ)
 refused_in (Err fault) = None
 refused_in (Ok s) = first_refused 0 (map (λ (l : Line). l.event) s.events) (start_of s)
 
@@ -24,7 +24,7 @@ row_2 = refl
 abbrev summed : Core → ℕ × ℕ × ℕ × ℕ × Bool
 summed c = ((words_of c.shape c.words).phase, (words_of c.shape c.words).empty, marked_cells c, used_cells c, is_closed c)
 
-abbrev summed_in : Result Schedule Fault → Option (ℕ × ℕ × ℕ × ℕ × Bool)
+abbrev summed_in : Result Schedule FaultOfSchedule → Option (ℕ × ℕ × ℕ × ℕ × Bool)
 summed_in (Err fault) = None
 summed_in (Ok s) = Some (summed (run_of (map (λ (l : Line). l.event) s.events) (start_of s)))
 

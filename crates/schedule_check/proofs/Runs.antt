@@ -7,24 +7,24 @@ use Rattle.mark_core.specs.Laws.{IsCore, ClosedMarksAll}
 use Rattle.mark_core.specs.Steps.{Core, failing_part, after_event}
 use Rattle.schedule_check.specs.declared.line.Line.{Line}
 use Rattle.schedule_check.specs.Schedule.{Schedule}
-use Rattle.schedule_check.specs.Verdicts.{IsRun, IsAccepted, IsRefused, start_of}
+use Rattle.schedule_check.specs.Verdicts.{IsRunOfLines, IsAccepted, IsRefusedAt, start_of}
 
 -- a run with an event more
-run_more : (ls : List Line) (l : Line) (c d : Core) → IsRun ls c d → failing_part d l.event ≡ None → IsRun (ls ++ l ∷ []) c (after_event d l.event)
+run_more : (ls : List Line) (l : Line) (c d : Core) → IsRunOfLines ls c d → failing_part d l.event ≡ None → IsRunOfLines (ls ++ l ∷ []) c (after_event d l.event)
 run_more [] l c d h f = (subst (λ (x : Core). failing_part x l.event ≡ None) (sym h) f, ap (λ (x : Core). after_event x l.event) h)
 run_more (k ∷ ls) l c d h f = (h.0, run_more ls l (after_event c k.event) d h.1 f)
 
-pub run_next : (ls : List Line) (c : Core) (i : ℕ) (l : Line) (d e : Core) → i < length ls → get_or ls i l ≡ l → IsRun (take i ls) c d → failing_part d l.event ≡ None → e ≡ after_event d l.event
-    → IsRun (take (i + 1) ls) c e
+pub run_next : (ls : List Line) (c : Core) (i : ℕ) (l : Line) (d e : Core) → i < length ls → get_or ls i l ≡ l → IsRunOfLines (take i ls) c d → failing_part d l.event ≡ None → e ≡ after_event d l.event
+    → IsRunOfLines (take (i + 1) ls) c e
 run_next ls c i l d e h g r f a =
-    subst (λ (xs : List Line). IsRun xs c e) (sym (take_more ls i l h ∙ ap (λ (x : Line). take i ls ++ x ∷ []) g))
-    (subst (IsRun (take i ls ++ l ∷ []) c) (sym a) (run_more (take i ls) l c d r f))
+    subst (λ (xs : List Line). IsRunOfLines xs c e) (sym (take_more ls i l h ∙ ap (λ (x : Line). take i ls ++ x ∷ []) g))
+    (subst (IsRunOfLines (take i ls ++ l ∷ []) c) (sym a) (run_more (take i ls) l c d r f))
 
-pub run_end : (s : Schedule) (ls : List Line) (i : ℕ) (d : Core) → ls ≡ s.events → length ls ≤ i → IsRun (take i ls) (start_of s) d → IsCore d → ClosedMarksAll → IsAccepted s d
-run_end s ls i d e h r k law = record { closed_marks = law d k.formed k.sound; run = subst (λ (xs : List Line). IsRun xs (start_of s) d) (take_all i ls h ∙ e) r; sound = k }
+pub run_end : (s : Schedule) (ls : List Line) (i : ℕ) (d : Core) → ls ≡ s.events → length ls ≤ i → IsRunOfLines (take i ls) (start_of s) d → IsCore d → ClosedMarksAll → IsAccepted s d
+run_end s ls i d e h r k law = record { closed_marks = law d k.formed k.sound; run = subst (λ (xs : List Line). IsRunOfLines xs (start_of s) d) (take_all i ls h ∙ e) r; sound = k }
 
-pub run_refused : (s : Schedule) (ls : List Line) (i : ℕ) (l : Line) (d : Core) (kind part : ℕ) → ls ≡ s.events → i < length ls → get_or ls i l ≡ l → IsRun (take i ls) (start_of s) d
-    → kind ≡ kind_of l.event.step → failing_part d l.event ≡ Some part → IsRefused s l.line kind part
+pub run_refused : (s : Schedule) (ls : List Line) (i : ℕ) (l : Line) (d : Core) (kind part : ℕ) → ls ≡ s.events → i < length ls → get_or ls i l ≡ l → IsRunOfLines (take i ls) (start_of s) d
+    → kind ≡ kind_of l.event.step → failing_part d l.event ≡ Some part → IsRefusedAt s l.line kind part
 run_refused s ls i l d kind part e h g r k f =
     record {
       before = take i ls;

@@ -5,22 +5,22 @@ use Rattle.std.specs.Prelude.{Option, Some, None, Result, Ok, Err, nat_lt}
 use Rattle.mark_core.specs.declared.kinds.Event.{Event}
 use Rattle.mark_core.specs.declared.kinds.Shape.{Shape}
 use Rattle.schedule_check.specs.declared.line.Line.{Line}
-use Rattle.schedule_check.specs.Faults.{Fault, TooManyEvents}
+use Rattle.schedule_check.specs.Faults.{FaultOfSchedule, TooManyEvents}
 use Rattle.std.specs.Str.{bytes_eq}
-use Rattle.schedule_check.specs.Forms.{number}
+use Rattle.schedule_check.specs.Forms.{number_word}
 use Rattle.schedule_check.specs.Table.{all_three, triple}
-use Rattle.schedule_check.specs.Schedule.{Schedule, plain, sized, objects_in_schedule, is_in_limits, is_skipped, shape_line, event_line, events_from, with_event, put_first, with_events, of_shape, body}
-use Rattle.schedule_check.specs.Reading.{reading, and_then, after_words, with_more, begun}
+use Rattle.schedule_check.specs.Schedule.{Schedule, without_events, sized, objects_in_schedule, is_in_limits, is_skipped, shape_line, event_line, events_from, with_event, put_first, with_events, of_shape, schedule_body}
+use Rattle.schedule_check.specs.Reading.{reading, and_then, after_words, with_more, begun_schedule}
 
 -- the schedule with these events more
-abbrev pub more : Schedule → Result (List Line) Fault → Result Schedule Fault
+abbrev pub more : Schedule → Result (List Line) FaultOfSchedule → Result Schedule FaultOfSchedule
 more s (Ok events) = Ok (record s { events = s.events ++ events })
 more s (Err fault) = Err fault
 
 abbrev with_last : Schedule → Line → Schedule
 with_last s l = record s { events = s.events ++ l ∷ [] }
 
-more_first : (s : Schedule) (l : Line) (r : Result (List Line) Fault) → more (with_last s l) r ≡ more s (put_first l r)
+more_first : (s : Schedule) (l : Line) (r : Result (List Line) FaultOfSchedule) → more (with_last s l) r ≡ more s (put_first l r)
 more_first s l (Ok rest) = ap (λ (es : List Line). Ok (record s { events = es })) (append_assoc s.events (l ∷ []) rest)
 more_first s l (Err fault) = refl
 
@@ -59,15 +59,15 @@ abbrev pub IsPlain : Option Schedule → Type 0
 IsPlain None = Unit {0}
 IsPlain (Some s) = s.events ≡ []
 
-plain_more : (s : Schedule) (r : Result (List Line) Fault) → s.events ≡ [] → more s r ≡ with_events s r
+plain_more : (s : Schedule) (r : Result (List Line) FaultOfSchedule) → s.events ≡ [] → more s r ≡ with_events s r
 plain_more s (Ok es) h = ap (λ (xs : List Line). Ok (record s { events = xs ++ es })) h
 plain_more s (Err fault) h = refl
 
-begins : (o : Option Schedule) (line : ℕ) (ls : List (List (List ℕ))) → IsPlain o → and_then (begun o) (λ next. reading next line ls) ≡ of_shape o line ls
+begins : (o : Option Schedule) (line : ℕ) (ls : List (List (List ℕ))) → IsPlain o → and_then (begun_schedule o) (λ next. reading next line ls) ≡ of_shape o line ls
 begins None line ls h = refl
 begins (Some s) line ls h = goes line ls s ∙ ap (λ (n : ℕ). more s (events_from line n ls)) (ap length h) ∙ plain_more s (events_from line 0 ls) h
 
-limits_plain : (shape : Shape) (n : ℕ) (b : Bool) → IsPlain (cond b (Some (plain shape n)) None)
+limits_plain : (shape : Shape) (n : ℕ) (b : Bool) → IsPlain (cond b (Some (without_events shape n)) None)
 limits_plain shape n true = refl
 limits_plain shape n false = tt
 
@@ -86,14 +86,14 @@ shape_plain [] = tt
 shape_plain (w ∷ []) = tt
 shape_plain (w ∷ c ∷ []) = tt
 shape_plain (w ∷ c ∷ p ∷ []) = tt
-shape_plain (w ∷ c ∷ p ∷ e ∷ ws) = shape_test (all_three (number c) (number p) (number e)) (triple number number number ws) (bytes_eq w (codes "shape"))
+shape_plain (w ∷ c ∷ p ∷ e ∷ ws) = shape_test (all_three (number_word c) (number_word p) (number_word e)) (triple number_word number_word number_word ws) (bytes_eq w (codes "shape"))
 
-body_skips : (line : ℕ) (ws : List (List ℕ)) (ls : List (List (List ℕ))) → reading None (line + 1) ls ≡ body (line + 1) ls → (skipped : Bool)
-    → and_then (cond skipped (Ok None) (after_words None line ws)) (λ next. reading next (line + 1) ls) ≡ cond skipped (body (line + 1) ls) (of_shape (shape_line ws) (line + 1) ls)
+body_skips : (line : ℕ) (ws : List (List ℕ)) (ls : List (List (List ℕ))) → reading None (line + 1) ls ≡ schedule_body (line + 1) ls → (skipped : Bool)
+    → and_then (cond skipped (Ok None) (after_words None line ws)) (λ next. reading next (line + 1) ls) ≡ cond skipped (schedule_body (line + 1) ls) (of_shape (shape_line ws) (line + 1) ls)
 body_skips line ws ls h true = h
 body_skips line ws ls h false = begins (shape_line ws) (line + 1) ls (shape_plain ws)
 
 -- from no schedule on, the lines are a body
-pub body_is : (line : ℕ) (ls : List (List (List ℕ))) → reading None line ls ≡ body line ls
+pub body_is : (line : ℕ) (ls : List (List (List ℕ))) → reading None line ls ≡ schedule_body line ls
 body_is line [] = refl
 body_is line (ws ∷ ls) = body_skips line ws ls (body_is (line + 1) ls) (is_skipped ws)

@@ -6,7 +6,7 @@ use Rattle.mark_core.specs.Shapes.{IsShape}
 use Rattle.mark_core.specs.declared.kinds.Shape.{Shape}
 use Rattle.schedule_check.specs.declared.line.Line.{Line}
 use Rattle.schedule_check.specs.Schedule.{event_line, shape_line, is_in_limits, objects_in_schedule}
-use Rattle.schedule_check.specs.Shown.{IsLegal}
+use Rattle.schedule_check.specs.Shown.{IsLegalSchedule}
 
 abbrev now : List (Bor (List ℕ)) → List (List ℕ)
 now xs = map (λ (s : Bor (List ℕ)). s.now) xs
@@ -38,6 +38,6 @@ limits s n h o = (
   grind (arith, nat_tests),
 )
 
-pub legal : (s : Shape) (n : ℕ) (es : List Line) → is_in_limits s n ≡ true → s.objects ≡ objects_in_schedule → es ≡ [] → IsLegal (record { shape = s; seats = n; events = es })
+pub legal : (s : Shape) (n : ℕ) (es : List Line) → is_in_limits s n ≡ true → s.objects ≡ objects_in_schedule → es ≡ [] → IsLegalSchedule (record { shape = s; seats = n; events = es })
 legal s n [] h o e = let l = limits s n h o in record { shape = l.0; seats = (l.1, l.2); few = omega arith }
 legal s n (x ∷ es) h o e = cc

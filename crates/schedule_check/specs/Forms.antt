@@ -1,7 +1,7 @@
 -- The forms of parameters: what a word says, where it has the form.
 use Rattle.std.specs.Prelude.{ℕ, List, Bool, true, false, ◌==◌, nat_lt, if◌then◌else◌, Option, Some, None, codes}
 use Rattle.std.specs.Str.{bytes_eq}
-use Rattle.gc_script.specs.ScriptText.{number_of}
+use Rattle.script_lines.specs.ScriptText.{number_of}
 use Rattle.mark_core.specs.declared.kinds.Phase.{Phase}
 use Rattle.mark_core.specs.declared.kinds.Phase.TheVariants.{Idle, Marking, Drain, Sweep, Clear, Full}
 
@@ -15,8 +15,8 @@ abbrev pub byte : List ℕ → Option ℕ
 byte word = below 256 (number_of word)
 
 -- a number of thirty-two bits
-abbrev pub number : List ℕ → Option ℕ
-number word = below 4294967296 (number_of word)
+abbrev pub number_word : List ℕ → Option ℕ
+number_word word = below 4294967296 (number_of word)
 
 -- a number of sixty-four bits
 abbrev pub long : List ℕ → Option ℕ
@@ -24,19 +24,21 @@ long word = below 18446744073709551616 (number_of word)
 
 -- a cell is its number
 abbrev pub cell : List ℕ → Option ℕ
-cell word = number word
+cell word = number_word word
 
+-- the flag that a number says: 0 or 1
 abbrev pub flag_of : Option ℕ → Option Bool
 flag_of None = None
 flag_of (Some n) = if n == 0 then Some false else (if n == 1 then Some true else None)
 
 -- false is 0, and true is 1
-abbrev pub flag : List ℕ → Option Bool
-flag word = flag_of (number_of word)
+abbrev pub flag_word : List ℕ → Option Bool
+flag_word word = flag_of (number_of word)
 
-abbrev pub phase_of : Option ℕ → Option Phase
-phase_of None = None
-phase_of (Some n) =
+-- the phase that a number says: 0 to 5
+abbrev pub phase_of_number : Option ℕ → Option Phase
+phase_of_number None = None
+phase_of_number (Some n) =
     if n == 0 then Some Idle
     else (if n == 1 then Some Marking
     else (if n == 2 then Some Drain
@@ -47,12 +49,13 @@ phase_of (Some n) =
 
 -- a phase is its number
 abbrev pub phase : List ℕ → Option Phase
-phase word = phase_of (number_of word)
+phase word = phase_of_number (number_of word)
 
+-- a variable of this number, where there is a number
 abbrev pub present : Option ℕ → Option (Option ℕ)
 present None = None
 present (Some n) = Some (Some n)
 
 -- a variable, or `-` for none
-abbrev pub variable : List ℕ → Option (Option ℕ)
-variable word = if bytes_eq word (codes "-") then Some None else present (byte word)
+abbrev pub variable_word : List ℕ → Option (Option ℕ)
+variable_word word = if bytes_eq word (codes "-") then Some None else present (byte word)

@@ -1,11 +1,11 @@
 -- What is told of a source.
 use Rattle.std.specs.Prelude.{ℕ, ◌≡◌, List, Option, Result, Ok, Err}
 use Rattle.std.specs.Io.KnownBytes.{Appends, Keeps}
-use Rattle.play_report.specs.Causes.{Rose, Grows}
-use Rattle.schedule_check.specs.Faults.{Fault}
+use Rattle.play_report.specs.Causes.{Rose, AppendsPrefix}
+use Rattle.schedule_check.specs.Faults.{FaultOfSchedule}
 use Rattle.schedule_check.specs.Schedule.{Schedule, schedule}
 use Rattle.schedule_check.specs.Verdicts.{verdict, Says}
-use Rattle.schedule_check.specs.Text.{verdict_text, fault_text}
+use Rattle.schedule_check.specs.Text.{verdict_text, schedule_fault_text}
 use Rattle.schedule_check.specs.declared.verdict.Verdict.{Verdict}
 use Rattle.schedule_check.specs.declared.verdict.Verdict.TheVariants.{Accepted, Refused}
 use Rattle.schedule_check.specs.declared.tell.Told.{Told}
@@ -19,51 +19,51 @@ verdict_status (Accepted events phase empty marked used closed) = 0
 verdict_status (Refused line rule) = 7
 
 -- the status of what bytes are
-abbrev pub status_as : Result Schedule Fault → ℕ
+abbrev pub status_as : Result Schedule FaultOfSchedule → ℕ
 status_as (Ok s) = verdict_status (verdict s)
 status_as (Err fault) = 2
 
 -- the text of what bytes are
-abbrev pub text_as : Result Schedule Fault → List ℕ
+abbrev pub text_as : Result Schedule FaultOfSchedule → List ℕ
 text_as (Ok s) = verdict_text (verdict s)
-text_as (Err fault) = fault_text fault
+text_as (Err fault) = schedule_fault_text fault
 
 -- the status of these bytes: 0 for a schedule that is accepted, 7 for one that is refused, and 2 where they are none
 abbrev pub status_of : List ℕ → ℕ
 status_of bytes = status_as (schedule bytes)
 
 -- a schedule's verdict says what is so
-abbrev pub IsMeant : Result Schedule Fault → Type 0
+abbrev pub IsMeant : Result Schedule FaultOfSchedule → Type 0
 IsMeant (Ok s) = Says s (verdict s)
 IsMeant (Err fault) = Unit {0}
 
 -- what may be written, by the status, where the bytes are this
-pub record IsToldAs (r : Result Schedule Fault) (status : ℕ) (text : List ℕ) : Type 0 where
+pub record IsToldAs (r : Result Schedule FaultOfSchedule) (status : ℕ) (text : List ℕ) : Type 0 where
   pub status_is : status ≡ status_as r
   pub text_is : text ≡ text_as r
   pub meant : IsMeant r
 
 -- what may be written of these bytes, by the status
-abbrev pub IsAnswer : List ℕ → ℕ → List ℕ → Type 0
-IsAnswer bytes status text = IsToldAs (schedule bytes) status text
+abbrev pub IsScheduleAnswer : List ℕ → ℕ → List ℕ → Type 0
+IsScheduleAnswer bytes status text = IsToldAs (schedule bytes) status text
 
 -- the status of what was told
-abbrev pub code_of : Told → ℕ
-code_of told.Accepted = 0
-code_of told.Faulty = 2
-code_of told.Refused = 7
+abbrev pub number_of_told : Told → ℕ
+number_of_told told.Accepted = 0
+number_of_told told.Faulty = 2
+number_of_told told.Refused = 7
 
 -- what is answered after the text of this was handed to the sink
 abbrev pub finished_as : {T E : Type 0} → Told → Result T E → Result Told Untold
 finished_as t (Ok u) = Ok t
 finished_as t (Err e) = Err untold.Failed
 
--- the text was written; or a front of it, and the sink failed; or memory ran out and nothing was written
-abbrev pub TellsAs : Result Schedule Fault → Result Told Untold → Option (List ℕ) → Option (List ℕ) → ℕ → ℕ → Type 0
-TellsAs r (Ok t) old new before now = IsToldAs r (code_of t) (text_as r) × Appends old new (text_as r) × (now ≡ before)
-TellsAs r (Err untold.Failed) old new before now = IsToldAs r (status_as r) (text_as r) × Grows old new (text_as r) × Rose before now
+-- the text was written; or a prefix of it, and the sink failed; or memory ran out and nothing was written
+abbrev pub TellsAs : Result Schedule FaultOfSchedule → Result Told Untold → Option (List ℕ) → Option (List ℕ) → ℕ → ℕ → Type 0
+TellsAs r (Ok t) old new before now = IsToldAs r (number_of_told t) (text_as r) × Appends old new (text_as r) × (now ≡ before)
+TellsAs r (Err untold.Failed) old new before now = IsToldAs r (status_as r) (text_as r) × AppendsPrefix old new (text_as r) × Rose before now
 TellsAs r (Err untold.OutOfMemory) old new before now = Keeps old new × (now ≡ before)
 
--- what is told of these bytes: the text was written; or a front of it, and the sink failed; or memory ran out and nothing was written
-abbrev pub Tells : List ℕ → Result Told Untold → Option (List ℕ) → Option (List ℕ) → ℕ → ℕ → Type 0
-Tells bytes result old new before now = TellsAs (schedule bytes) result old new before now
+-- what is told of these bytes: the text was written; or a prefix of it, and the sink failed; or memory ran out and nothing was written
+abbrev pub TellsSchedule : List ℕ → Result Told Untold → Option (List ℕ) → Option (List ℕ) → ℕ → ℕ → Type 0
+TellsSchedule bytes result old new before now = TellsAs (schedule bytes) result old new before now

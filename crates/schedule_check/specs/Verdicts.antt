@@ -37,24 +37,24 @@ abbrev pub verdict : Schedule → Verdict
 verdict s = verdict_from (length s.events) s.events (start_of s)
 
 -- a run: each event is allowed in its turn, and they lead from the one state to the other
-abbrev pub IsRun : List Line → Core → Core → Type 0
-IsRun [] c d = c ≡ d
-IsRun (l ∷ ls) c d = (failing_part c l.event ≡ None) × IsRun ls (after_event c l.event) d
+abbrev pub IsRunOfLines : List Line → Core → Core → Type 0
+IsRunOfLines [] c d = c ≡ d
+IsRunOfLines (l ∷ ls) c d = (failing_part c l.event ≡ None) × IsRunOfLines ls (after_event c l.event) d
 
 -- all events are a run, and this is its end: it is sound, and where some seat makes it closed every reachable cell is marked
 pub record IsAccepted (s : Schedule) (end : Core) : Type 0 where
-  pub run : IsRun s.events (start_of s) end
+  pub run : IsRunOfLines s.events (start_of s) end
   pub sound : IsCore end
   pub closed_marks : IsTrue (is_closed end) → AllMarked end
 
 -- the events before one are a run, and this one, on that line, isn't allowed then
-pub record IsRefused (s : Schedule) (line kind part : ℕ) : Type 0 where
+pub record IsRefusedAt (s : Schedule) (line kind part : ℕ) : Type 0 where
   pub before : List Line
   pub refused : Line
   pub after : List Line
   pub state : Core
   pub events : s.events ≡ before ++ refused ∷ after
-  pub run : IsRun before (start_of s) state
+  pub run : IsRunOfLines before (start_of s) state
   pub line_is : line ≡ refused.line
   pub kind_is : kind ≡ kind_of refused.event.step
   pub part_is : failing_part state refused.event ≡ Some part
@@ -64,4 +64,4 @@ abbrev pub Says : Schedule → Verdict → Type 0
 Says s (Accepted events phase empty marked used closed) =
     (end : Core) × IsAccepted s end × (events ≡ length s.events) × IsTrue (is_phase (words_of end.shape end.words).phase phase) × (empty ≡ (words_of end.shape end.words).empty)
     × (marked ≡ marked_cells end) × (used ≡ used_cells end) × (closed ≡ is_closed end)
-Says s (Refused line rule) = IsRefused s line rule.kind rule.part
+Says s (Refused line rule) = IsRefusedAt s line rule.kind rule.part

@@ -24,12 +24,12 @@
 //! ([`runs_are_accepted`]). `closed` is yes exactly where some seat sees at the end that nothing is left to mark, and then
 //! every reachable cell is marked.
 //!
-//! # Where what is
+//! # Where things are
 //!
-//! `text` cuts lines and words, `forms` and `parameters` read numbers by their types, `table` has the names of all steps
+//! The words of a line and numbers of 32 bits are cut and read by `gc_script`. `forms` and `parameters` read numbers by their types, `table` has the names of all steps
 //! with the forms of their parameters (`specs/Table.antt` is the same table, against which each row is proved),
 //! `shape_line` the first two lines, and `reader` goes line by line. `play` takes the events on a core, `judge` tells the
-//! verdict, `output` and `writer` write, and `tell` puts all together.
+//! verdict, `writer` writes, and `tell` puts all together.
 #![tactic(auto)]
 
 mod fault;
@@ -37,7 +37,6 @@ mod forms;
 mod judge;
 mod laws;
 mod line;
-mod output;
 mod parameters;
 mod play;
 mod reader;
@@ -45,7 +44,6 @@ mod schedule;
 mod shape_line;
 mod table;
 mod tell;
-mod text;
 mod verdict;
 mod writer;
 

@@ -14,7 +14,7 @@ pub enum Played {
     Refused { line: u32, rule: Rule },
 }
 
-/// Takes the events in order, up to the first that isn't allowed.
+/// Takes the events in order, up to the first that isn't allowed. Out of memory is the only refusal.
 pub fn play(alloc: Global, schedule: &Schedule) -> Result<Played, OutOfMemory>
     ensures { IfOk result (λ p. PlayTells schedule.now p) }
 {

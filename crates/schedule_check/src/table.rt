@@ -163,7 +163,7 @@ fn of_help(name: &str, words: &[&str], rest: Option<Step>) -> Option<Step>
     }
 }
 
-/// The step of a name with its parameters.
+/// The step of a name with its parameters. None where no step has this name, or the parameters are not of its forms.
 pub fn step_of(name: &str, words: &[&str]) -> Option<Step>
     ensures { result ≡ step_said name.now (map (λ w. w.now) words.now) }
 {

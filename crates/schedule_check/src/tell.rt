@@ -1,6 +1,6 @@
 //! All that is done with a source: it is read, played, and its verdict or its fault written.
 ghost use Rattle.std.specs.Prelude.{◌≡◌, Ok};
-ghost use Rattle.schedule_check.specs.Telling.{verdict_status, code_of, finished_as, TellsAs, Tells};
+ghost use Rattle.schedule_check.specs.Telling.{verdict_status, number_of_told, finished_as, TellsAs, TellsSchedule};
 ghost use Rattle.play_report.specs.Causes.{AcrossSink};
 
 use crate::fault::ScheduleFault;
@@ -28,7 +28,7 @@ pub enum Told {
 pub enum Untold {
     /// Memory ran out. Nothing was written.
     OutOfMemory,
-    /// The sink failed: its count of faults rose. A front of the text was written.
+    /// The sink failed: its count of faults rose. A prefix of the text was written.
     Failed,
 }
 
@@ -43,7 +43,7 @@ fn finished(told: Told, written: Result<(), Failed>) -> Result<Told, Untold>
 }
 
 fn told_of(verdict: &Verdict) -> Told
-    ensures { code_of result ≡ verdict_status verdict.now }
+    ensures { number_of_told result ≡ verdict_status verdict.now }
 {
     match verdict {
         Verdict::Accepted { .. } => Told::Accepted,
@@ -64,7 +64,7 @@ fn tell_verdict<K: Sink>(alloc: Global, schedule: &Schedule, sink: &mut K) -> Re
 /// text and the status (0 accepted, 2 faulty, 7 refused) are functions of the bytes, and the verdict says what is so: see
 /// [`crate::check`].
 pub fn tell_schedule<K: Sink>(alloc: Global, source: &[u8], sink: &mut K) -> Result<Told, Untold>
-    ensures { AcrossSink K.written K.faults (Tells source.now result) sink.old sink.new }
+    ensures { AcrossSink K.written K.faults (TellsSchedule source.now result) sink.old sink.new }
 {
     match read_schedule(alloc, source) {
         Err(ScheduleFault::OutOfMemory) => Err(Untold::OutOfMemory),

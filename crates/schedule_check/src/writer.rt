@@ -1,13 +1,12 @@
 //! Writes verdicts and faults.
 ghost use Rattle.std.specs.Prelude.{◌≢◌};
 ghost use Rattle.play_report.specs.Causes.{WritesTo};
-ghost use Rattle.schedule_check.specs.Text.{closed_text, used_text, marking_text, words_text, end_text, accepted_text, verdict_text, error_text};
+ghost use Rattle.schedule_check.specs.Text.{closed_text, used_text, marking_text, words_text, end_text, accepted_text, refused_text, verdict_text, schedule_error_text};
 
 use crate::fault::ScheduleFault;
-use crate::output::{write_named, write_refused};
 use crate::verdict::Verdict;
-use mark_core::{Phase, phase_number};
-use play_report::{Failed, Sink, write_all};
+use mark_core::{Phase, Rule, phase_number};
+use play_report::{Failed, Sink, TextLine, write_all, write_named};
 
 fn write_closed<K: Sink>(closed: bool, sink: &mut K) -> Result<(), Failed>
     ensures { WritesTo K.written K.faults result sink.old sink.new (closed_text closed) }
@@ -80,9 +79,25 @@ fn write_accepted<K: Sink>(
     }
 }
 
+/// The line of an event that isn't allowed.
+#[tactic(auto, unfolding(crate::specs::Text::refused_text))]
+fn write_refused<K: Sink>(at: u32, rule: &Rule, sink: &mut K) -> Result<(), Failed>
+    ensures { WritesTo K.written K.faults result sink.old sink.new (refused_text at rule.now.kind rule.now.part) }
+{
+    let mut line = TextLine::new();
+    line.push("refused line ");
+    line.push_number(at as u64);
+    line.push(" rule ");
+    line.push_number(rule.kind as u64);
+    line.push(" part ");
+    line.push_number(rule.part as u64);
+    line.push("\n");
+    line.write(sink)
+}
+
 /// Writes the text of a verdict: for an accepted schedule the lines `accepted`, `phase`, `empty`, `marked` and `used`,
 /// each with a number, and `closed yes` or `closed no`; for a refused one the line `refused line L rule K part P`. Failed
-/// only where the sink's count of faults rose in this call, and a front of the text was then written. Each line is one
+/// only where the sink's count of faults rose in this call, and a prefix of the text was then written. Each line is one
 /// piece, and the rest of a piece that was taken in part is handed again. It takes no memory.
 pub fn write_verdict<K: Sink>(verdict: &Verdict, sink: &mut K) -> Result<(), Failed>
     ensures { WritesTo K.written K.faults result sink.old sink.new (verdict_text verdict.now) }
@@ -101,11 +116,11 @@ pub fn write_verdict<K: Sink>(verdict: &Verdict, sink: &mut K) -> Result<(), Fai
 }
 
 /// Writes the text of a fault: its number and name, and its place. Out of memory is no fault of a schedule and has no
-/// text. Failed only where the sink's count of faults rose in this call, and a front of the text was then written. The
+/// text. Failed only where the sink's count of faults rose in this call, and a prefix of the text was then written. The
 /// line is one piece, and the rest of a piece that was taken in part is handed again. It takes no memory.
 pub fn write_schedule_fault<K: Sink>(fault: &ScheduleFault, sink: &mut K) -> Result<(), Failed>
     requires { fault.now ≢ ScheduleFault.OutOfMemory }
-    ensures { WritesTo K.written K.faults result sink.old sink.new (error_text fault.now) }
+    ensures { WritesTo K.written K.faults result sink.old sink.new (schedule_error_text fault.now) }
 {
     match fault {
         ScheduleFault::NotAscii { offset } => {

@@ -18,7 +18,7 @@ use Rattle.gc_table.specs.declared.view.View.{View}
 use Rattle.packet_pools.specs.OnlyTraced.{OnlyTracedBy, rest_of}
 use Rattle.packet_pools.specs.Tracing.{Traces as MayTrace}
 use Rattle.tracer.specs.Hands.{IsIdle, no_packets}
-use Rattle.seat_turns.specs.Standing.{Marks}
+use Rattle.seat_turns.specs.Standing.{GoesMarking}
 
 unless : (b : Bool) → not b ≡ true → b ≡ false
 unless true e = sym e
@@ -65,7 +65,7 @@ handed_of : (s : SeatState) → holds_any s.held ≡ false → s.reserved ≡ fa
 handed_of s held reserved credit = and_from _ _ (and_from _ _ (not_from_false _ held) (not_from_false _ reserved)) (not_from_false _ credit)
 
 -- a seat that marks may trace
-pub marks-trace : (h : Heap) (x : HeapSeat) → Marks h x → MayTrace (view_of x)
+pub marks-trace : (h : Heap) (x : HeapSeat) → GoesMarking h x → MayTrace (view_of x)
 marks-trace h x m =
     let s = (view_of x).state in
     let e = empty-of h.shape s m.goes.idle in
@@ -96,7 +96,7 @@ pub is-none : {X : Type 0} (o : Option X) → is_none o ≡ true → o ≡ None
 is-none None e = refl
 is-none (Some x) e = absurd (true≢false (sym e))
 
-pub marks-idle : (h : Heap) (x : HeapSeat) → ∥ IsPossible (view_of x) ∥₁ → Marks h x → IsIdle (view_of x)
+pub marks-idle : (h : Heap) (x : HeapSeat) → ∥ IsPossible (view_of x) ∥₁ → GoesMarking h x → IsIdle (view_of x)
 marks-idle h x p m =
     let v : View = view_of x in
     let e = empty-of h.shape v.state m.goes.idle in
@@ -112,8 +112,8 @@ standing s = record (rest_of s) { below_card = false; below_block = false }
 
 -- after a call that leaves nothing in hand the seat still marks
 pub marks-on :
-    (h : Heap) (x y : HeapSeat) → Marks h x → standing (view_of y).state ≡ standing (view_of x).state → Sits h y → MayTrace (view_of y) → holds_any (view_of y).state.held ≡ false → work_in_hand h.shape.fields (view_of y).state ≡ false
-    → is_none (view_of y).state.owes ≡ true → Marks h y
+    (h : Heap) (x y : HeapSeat) → GoesMarking h x → standing (view_of y).state ≡ standing (view_of x).state → Sits h y → MayTrace (view_of y) → holds_any (view_of y).state.held ≡ false → work_in_hand h.shape.fields (view_of y).state ≡ false
+    → is_none (view_of y).state.owes ≡ true → GoesMarking h y
 marks-on h x y m same sits t held work owes =
     let w : View = view_of y in
     let e = empty-of h.shape (view_of x).state m.goes.idle in
@@ -133,21 +133,21 @@ marks-on h x y m same sits t held work owes =
     }
 
 pub marks-later :
-    {b : Bool} (h : Heap) (x y : HeapSeat) → Marks h x → OnlyTracedBy b (view_of x) (view_of y) → Sits h y → MayTrace (view_of y) → holds_any (view_of y).state.held ≡ false → work_in_hand h.shape.fields (view_of y).state ≡ false
-    → is_none (view_of y).state.owes ≡ true → Marks h y
+    {b : Bool} (h : Heap) (x y : HeapSeat) → GoesMarking h x → OnlyTracedBy b (view_of x) (view_of y) → Sits h y → MayTrace (view_of y) → holds_any (view_of y).state.held ≡ false → work_in_hand h.shape.fields (view_of y).state ≡ false
+    → is_none (view_of y).state.owes ≡ true → GoesMarking h y
 marks-later h x y m k sits t held work owes = marks-on h x y m (ap (λ (s : SeatState). record s { below_card = false; below_block = false }) k.rest) sits t held work owes
 
--- so it does after a cleaning
+-- after a cleaning the seat still marks
 pub marks-cleaned :
-    {b : Bool} (h : Heap) (x y : HeapSeat) → Marks h x → OnlyTracedBy b (view_of x) (view_of y) → Sits h y → MayTrace (view_of y) → (view_of y).state.held ≡ (view_of x).state.held → work_in_hand h.shape.fields (view_of y).state ≡ false
-    → ((view_of y).state.owes ≡ (view_of x).state.owes) ⊎ ((view_of y).state.owes ≡ None) → Marks h y
+    {b : Bool} (h : Heap) (x y : HeapSeat) → GoesMarking h x → OnlyTracedBy b (view_of x) (view_of y) → Sits h y → MayTrace (view_of y) → (view_of y).state.held ≡ (view_of x).state.held → work_in_hand h.shape.fields (view_of y).state ≡ false
+    → ((view_of y).state.owes ≡ (view_of x).state.owes) ⊎ ((view_of y).state.owes ≡ None) → GoesMarking h y
 marks-cleaned h x y m k sits t held work owes =
     let n = empty-of h.shape (view_of x).state m.goes.idle in
     marks-later h x y m k sits t (ap holds_any held ∙ n.held) work
     (⊎_elim (λ (q : (view_of y).state.owes ≡ (view_of x).state.owes). ap (λ (o : Option ℕ). is_none o) q ∙ n.owes) (λ (q : (view_of y).state.owes ≡ None). ap (λ (o : Option ℕ). is_none o) q) owes)
 
--- and after numbers were read
-pub marks-same : (h : Heap) (x y : HeapSeat) → Marks h x → Sits h y → (view_of y).state ≡ (view_of x).state → Marks h y
+-- after numbers were read the seat still marks
+pub marks-same : (h : Heap) (x y : HeapSeat) → GoesMarking h x → Sits h y → (view_of y).state ≡ (view_of x).state → GoesMarking h y
 marks-same h x y m sits same =
     record {
       goes =

@@ -12,17 +12,17 @@ use Rattle.gc_table.proofs.History.Log.{events-none, only-more, only-none}
 use Rattle.gc_table.proofs.Running.{own-kept, ran-events, ran-join, ran-only, ran-refl}
 use Rattle.packet_pools.specs.Counts.{count_of, only_scans, scans_object}
 use Rattle.packet_pools.specs.OnlyTraced.{OnlyTracedBy, traces_cells}
-use Rattle.packet_pools.specs.Seeking.{moves_packet, only_moves}
+use Rattle.packet_pools.specs.Seeking.{moves_packet, only_moves, output_pools}
 use Rattle.packet_pools.proofs.Counting.{count-join}
 use Rattle.card_clean.specs.Cleaning.{Cleans, CleansOne}
 use Rattle.card_clean.specs.Passing.{DrawsCard, draws_card}
 use Rattle.card_clean.specs.declared.cleaned.Cleaned.{Cleaned}
 use Rattle.tracer.specs.Tally.{pops}
-use Rattle.gc_cycle.specs.Pace.Payment.{reads_number}
-use Rattle.seat_turns.specs.Tending.{MarksSome, Tends, tends}
+use Rattle.cache_refills.specs.Pace.Payment.{reads_number}
+use Rattle.seat_turns.specs.Tending.{MarksSome, Tends, tends_inside}
 
 -- a step of tracing is one that a tracer may take inside
-traces-tend : (step : Step) → traces_cells step ≡ true → tends step ≡ true
+traces-tend : (step : Step) → traces_cells step ≡ true → tends_inside step ≡ true
 traces-tend EnterStep e = e
 traces-tend LeaveStep e = e
 traces-tend ReadPhase e = e
@@ -30,17 +30,17 @@ traces-tend (ReadStat which) e = absurd (true≢false (sym e))
 traces-tend (AddStat which by down) e = e
 traces-tend step e = refl
 
-pub tends-later : {b : Bool} (v w : View) → OnlyTracedBy b v w → Only tends v w
-tends-later v w k = only-more traces_cells tends traces-tend v w k.only
+pub tends-later : {b : Bool} (v w : View) → OnlyTracedBy b v w → Only tends_inside v w
+tends-later v w k = only-more traces_cells tends_inside traces-tend v w k.only
 
 pub tends-none : (v : View) → Tends 0 v v
-tends-none v = record { ran = ran-refl v; only = only-none tends v; done = ap (count_of pops) (events-none v); own = refl }
+tends-none v = record { ran = ran-refl v; only = only-none tends_inside v; done = ap (count_of pops) (events-none v); own = refl }
 
 pub tends-join : (m n k : ℕ) (u v w : View) → m + n ≡ k → Tends m u v → Tends n v w → Tends k u w
 tends-join m n k u v w e a b =
     record {
       ran = ran-join u v w a.ran b.ran;
-      only = ran-only tends u v w a.ran b.ran a.only b.only;
+      only = ran-only tends_inside u v w a.ran b.ran a.only b.only;
       done = ap (count_of pops) (ran-events u v w a.ran b.ran) ∙ (count-join pops (events u v) (events v w) ∙ ((λ i. a.done i + b.done i) ∙ e));
       own = b.own ∙ a.own;
     }
@@ -60,7 +60,7 @@ moves-pop qs (x ∷ xs) e =
     let h = and_parts (moves_packet qs x.step) (only_moves qs xs) e in
     λ i. cond (move-pops qs x.step x.found h.0 i) 1 0 + moves-pop qs xs h.1 i
 
--- nor does the scan of an object
+-- the scan of an object pops nothing
 scan-pops : (step : Step) (n : ℕ) → scans_object step ≡ true → pops step n ≡ false
 scan-pops (Pop p) n e = sym e
 scan-pops step n e = refl
@@ -71,7 +71,7 @@ scans-pop (x ∷ xs) e =
     let h = and_parts (scans_object x.step) (only_scans xs) e in
     λ i. cond (scan-pops x.step x.found h.0 i) 1 0 + scans-pop xs h.1 i
 
--- nor does a cleaning
+-- a cleaning pops nothing
 cleans-pop : (sh : Shape) (card : ℕ) (r : Cleaned) (es : List Entry) → Cleans sh card r es → count_of pops es ≡ 0
 cleans-pop sh card r es (inl clean) = ap (count_of pops) clean.events_are
 cleans-pop sh card r es (inr dirty) =
@@ -87,7 +87,7 @@ cleans-pop sh card r es (inr dirty) =
 pub one-pops : (sh : Shape) (card : ℕ) (r : Cleaned) (es : List Entry) → CleansOne sh card r es → count_of pops es ≡ 0
 one-pops sh card r es c =
     ap (count_of pops) c.events_are
-    ∙ (count-join pops c.taking (c.cleaning ++ c.giving) ∙ (λ i. moves-pop (0 ∷ 1 ∷ 2 ∷ []) c.taking c.takes i + (count-join pops c.cleaning c.giving ∙ (λ j. cleans-pop sh card r c.cleaning c.cleans j + moves-pop (0 ∷ 1 ∷ 2 ∷ []) c.giving c.gives j)) i))
+    ∙ (count-join pops c.taking (c.cleaning ++ c.giving) ∙ (λ i. moves-pop output_pools c.taking c.takes i + (count-join pops c.cleaning c.giving ∙ (λ j. cleans-pop sh card r c.cleaning c.cleans j + moves-pop output_pools c.giving c.gives j)) i))
 
 -- the drawing of a card reads the counter of cards alone, and changes nothing of what the section has come to
 draw-own : (step : Step) → draws_card step ≡ true → changes_section step ≡ false
@@ -95,9 +95,9 @@ draw-own (ReadStat which) e = refl
 draw-own NextOfCards e = refl
 draw-own step e = absurd (true≢false (sym e))
 
-draws-tend : (r : Option ℕ) (v w : View) → DrawsCard r v w → Only tends v w × (count_of pops (events v w) ≡ 0)
-draws-tend r v w (inl over) = (ap (all_steps tends) over.0.events_are, ap (count_of pops) over.0.events_are)
-draws-tend r v w (inr draws) = (ap (all_steps tends) draws.1.events_are, ap (count_of pops) draws.1.events_are)
+draws-tend : (r : Option ℕ) (v w : View) → DrawsCard r v w → Only tends_inside v w × (count_of pops (events v w) ≡ 0)
+draws-tend r v w (inl over) = (ap (all_steps tends_inside) over.0.events_are, ap (count_of pops) over.0.events_are)
+draws-tend r v w (inr draws) = (ap (all_steps tends_inside) draws.1.events_are, ap (count_of pops) draws.1.events_are)
 
 pub tends-drawn : (r : Option ℕ) (v w : View) → Ran v w → Only draws_card v w → DrawsCard r v w → Tends 0 v w
 tends-drawn r v w ran only draws = let d = draws-tend r v w draws in record { ran = ran; only = d.0; done = d.1; own = own-kept draws_card draw-own v w ran only }
@@ -113,7 +113,7 @@ reads-pop (x ∷ xs) e =
     one (Pop p) n k = absurd (true≢false (sym k))
     one step n k = refl
 
-reads-tend : (step : Step) → reads_number step ≡ true → tends step ≡ true
+reads-tend : (step : Step) → reads_number step ≡ true → tends_inside step ≡ true
 reads-tend (ReadStat which) e = e
 reads-tend EnterStep e = e
 reads-tend LeaveStep e = e
@@ -129,7 +129,7 @@ pub tends-read : (v w : View) → Ran v w → Only reads_number v w → Tends 0 
 tends-read v w ran only =
     record {
       ran = ran;
-      only = only-more reads_number tends reads-tend v w only;
+      only = only-more reads_number tends_inside reads-tend v w only;
       done = reads-pop (events v w) only;
       own = own-kept reads_number reads-own v w ran only;
     }

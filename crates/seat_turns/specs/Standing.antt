@@ -17,6 +17,6 @@ pub record Goes (h : Heap) (s : HeapSeat) : Type 0 where
   pub idle : IsTrue (has_nothing h.shape (view_of s).state)
 
 -- besides, it has read that marking is under way
-pub record Marks (h : Heap) (s : HeapSeat) : Type 0 where
+pub record GoesMarking (h : Heap) (s : HeapSeat) : Type 0 where
   pub goes : Goes h s
   pub marking : IsTrue (saw (view_of s).state.phase_seen Marking)

@@ -15,18 +15,18 @@ abbrev pub turn_quota : ℕ
 turn_quota = 64
 
 -- the step neither enters nor leaves, reads neither the phase nor the number of parts that were played, and adds to no number
-abbrev pub tends : Step → Bool
-tends EnterStep = false
-tends LeaveStep = false
-tends ReadPhase = false
-tends (ReadStat which) = not (which == done_count)
-tends (AddStat which by down) = false
-tends step = true
+abbrev pub tends_inside : Step → Bool
+tends_inside EnterStep = false
+tends_inside LeaveStep = false
+tends_inside ReadPhase = false
+tends_inside (ReadStat which) = not (which == done_count)
+tends_inside (AddStat which by down) = false
+tends_inside step = true
 
 -- by such steps so many objects were traced, and what the seat's section has come to is as it was
 pub record Tends (traced : ℕ) (v w : View) : Type 0 where
   pub ran : Ran v w
-  pub only : Only tends v w
+  pub only : Only tends_inside v w
   pub done : count_of pops (events v w) ≡ traced
   pub own : w.own ≡ v.own
 

@@ -5,30 +5,29 @@
 //!
 //! # A tracer's turn
 //!
-//! A tracer enters the world, reads the phase ([`see_phase`]), marks where marking is under way ([`mark_some`]), and leaves. A stop waits until the turn has ended,
-//! so a turn is short:
+//! A tracer enters the world, reads the phase ([`see_phase`]), marks where marking is under way ([`mark_some`]), and leaves. A stop waits until the turn has
+//! ended, so a turn is short:
 //!
 //! 1. it traces 64 objects, or fewer where at some moment nothing was left in hand and no packet with a cell was found;
 //! 2. where there were fewer, and the cycle is far on, it passes up to 1,024 cards and cleans those that are dirty. A card that is cleaned early is dirtied
 //!    again, and then the stop cleans it. A clean card costs one look and no packet;
 //! 3. deferred cells, which weren't published yet, may be traced again.
 //!
-//! How many objects it traced it answers. The caller tells the collector that number, by a step of its own: where there was none, one caller tells it and
-//! another doesn't.
+//! It answers how many objects it traced. The caller tells the collector that number, by a step of its own; where no object was traced, one caller takes that
+//! step and another doesn't.
 //!
 //! # A mutator's turn
 //!
-//! [`is_turn`] answers whether the season is the mutator's, and reads it only where the seat doesn't know it any more. [`retire_some`] gives a cache up, if there is
-//! one, as before leaving or before the next one is claimed.
+//! [`is_turn`] answers whether the season is the mutator's, and reads it only where the seat doesn't know it any more.
 //!
-//! # Where what is
+//! # Where things are
 //!
-//! `marking` has a tracer's turn and `turns` a mutator's. In `specs/`, `Standing` says who may call, `Tending` what a tracer's steps are, and `Turning` what a reading
-//! of the season tells.
+//! `marking` has a tracer's turn and `turns` a mutator's. In `specs/`, `Standing` says who may call, `Tending` what a tracer's steps are, and `Turning` what a
+//! reading of the season tells.
 #![tactic(auto)]
 
 mod marking;
 mod turns;
 
 pub use marking::{mark_some, see_phase};
-pub use turns::{is_turn, retire_some};
+pub use turns::is_turn;

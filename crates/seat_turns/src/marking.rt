@@ -4,11 +4,11 @@ ghost use Rattle.mark_core.specs.Layout.{card_count};
 ghost use Rattle.mark_core.specs.Seats.{phase_of};
 ghost use Rattle.mark_core.specs.declared.kinds.Step.TheVariants.{ReadPhase};
 ghost use Rattle.gc_table.specs.Seats.{Across, Answered, state_of};
-ghost use Rattle.seat_turns.specs.Standing.{Goes, Marks};
+ghost use Rattle.seat_turns.specs.Standing.{Goes, GoesMarking};
 ghost use Rattle.seat_turns.specs.Tending.{MarksSome, Tends, TracesSome};
 
+use cache_refills::is_far_on;
 use card_clean::{clean_one, next_card};
-use gc_cycle::is_far_on;
 use gc_table::{Heap, HeapSeat};
 use mark_core::Phase;
 use tracer::{Stopped, Traced, recycle_deferred, trace};
@@ -19,7 +19,7 @@ const OBJECTS: u32 = 64;
 /// How many cards a turn passes. Most are clean, and a clean one costs one look.
 const CARDS: u32 = 1_024;
 
-/// Reads the phase.
+/// Reads the phase, by one step of a seat in the world. Its record has the phase then.
 pub fn see_phase(heap: &Heap, seat: &mut HeapSeat) -> Phase
     requires { Goes heap.now seat.old }
     ensures seat { Goes heap.now seat.new }
@@ -31,8 +31,8 @@ pub fn see_phase(heap: &Heap, seat: &mut HeapSeat) -> Phase
 
 /// Traces the objects of a turn.
 fn trace_objects(heap: &Heap, seat: &mut HeapSeat) -> Traced
-    requires { Marks heap.now seat.old }
-    ensures seat { Marks heap.now seat.new }
+    requires { GoesMarking heap.now seat.old }
+    ensures seat { GoesMarking heap.now seat.new }
     ensures traces { Across (TracesSome result.done) seat.old seat.new }
 {
     trace(heap, seat, OBJECTS)
@@ -40,8 +40,8 @@ fn trace_objects(heap: &Heap, seat: &mut HeapSeat) -> Traced
 
 /// The next card of the cycle's pass.
 fn draw(heap: &Heap, seat: &mut HeapSeat) -> Option<u32>
-    requires { Marks heap.now seat.old }
-    ensures seat { Marks heap.now seat.new }
+    requires { GoesMarking heap.now seat.old }
+    ensures seat { GoesMarking heap.now seat.new }
     ensures tends { Across (Tends 0) seat.old seat.new }
     ensures there { IfSome result (λ card. card < card_count heap.now.shape) }
 {
@@ -50,9 +50,9 @@ fn draw(heap: &Heap, seat: &mut HeapSeat) -> Option<u32>
 
 /// Cleans a card. False where no packet has room.
 fn clean(heap: &Heap, seat: &mut HeapSeat, card: u32) -> bool
-    requires seat { Marks heap.now seat.old }
+    requires seat { GoesMarking heap.now seat.old }
     requires card { card < card_count heap.now.shape }
-    ensures seat { Marks heap.now seat.new }
+    ensures seat { GoesMarking heap.now seat.new }
     ensures tends { Across (Tends 0) seat.old seat.new }
 {
     match clean_one(heap, seat, card) {
@@ -63,9 +63,9 @@ fn clean(heap: &Heap, seat: &mut HeapSeat, card: u32) -> bool
 
 /// Whether a card is dirty.
 fn is_dirty(heap: &Heap, seat: &mut HeapSeat, card: u32) -> bool
-    requires seat { Marks heap.now seat.old }
+    requires seat { GoesMarking heap.now seat.old }
     requires card { card < card_count heap.now.shape }
-    ensures seat { Marks heap.now seat.new }
+    ensures seat { GoesMarking heap.now seat.new }
     ensures tends { Across (Tends 0) seat.old seat.new }
 {
     heap.read_card(seat, card)
@@ -73,9 +73,9 @@ fn is_dirty(heap: &Heap, seat: &mut HeapSeat, card: u32) -> bool
 
 /// Looks at a card, and cleans it where it is dirty: a clean card costs one look and no packet. False where no packet has room.
 fn clean_where_dirty(heap: &Heap, seat: &mut HeapSeat, card: u32) -> bool
-    requires seat { Marks heap.now seat.old }
+    requires seat { GoesMarking heap.now seat.old }
     requires card { card < card_count heap.now.shape }
-    ensures seat { Marks heap.now seat.new }
+    ensures seat { GoesMarking heap.now seat.new }
     ensures tends { Across (Tends 0) seat.old seat.new }
 {
     if !is_dirty(heap, seat, card) {
@@ -86,8 +86,8 @@ fn clean_where_dirty(heap: &Heap, seat: &mut HeapSeat, card: u32) -> bool
 
 /// Cleans the next card of the cycle's pass, where it is dirty. False where no card is left, or no packet has room.
 fn clean_next(heap: &Heap, seat: &mut HeapSeat) -> bool
-    requires { Marks heap.now seat.old }
-    ensures seat { Marks heap.now seat.new }
+    requires { GoesMarking heap.now seat.old }
+    ensures seat { GoesMarking heap.now seat.new }
     ensures tends { Across (Tends 0) seat.old seat.new }
 {
     match draw(heap, seat) {
@@ -98,8 +98,8 @@ fn clean_next(heap: &Heap, seat: &mut HeapSeat) -> bool
 
 /// Cleans the cards of a turn.
 fn clean_cards(heap: &Heap, seat: &mut HeapSeat)
-    requires { Marks heap.now seat.old }
-    ensures seat { Marks heap.now seat.new }
+    requires { GoesMarking heap.now seat.old }
+    ensures seat { GoesMarking heap.now seat.new }
     ensures tends { Across (Tends 0) seat.old seat.new }
 {
     for _ in 0..CARDS {
@@ -111,8 +111,8 @@ fn clean_cards(heap: &Heap, seat: &mut HeapSeat)
 
 /// Whether the cycle is far on.
 fn is_late(heap: &Heap, seat: &mut HeapSeat) -> bool
-    requires { Marks heap.now seat.old }
-    ensures seat { Marks heap.now seat.new }
+    requires { GoesMarking heap.now seat.old }
+    ensures seat { GoesMarking heap.now seat.new }
     ensures tends { Across (Tends 0) seat.old seat.new }
 {
     is_far_on(heap, seat)
@@ -120,8 +120,8 @@ fn is_late(heap: &Heap, seat: &mut HeapSeat) -> bool
 
 /// Cleans the cards of a turn, where the cycle is far on: a card that is cleaned early is dirtied again, and then the stop cleans it.
 fn clean_late(heap: &Heap, seat: &mut HeapSeat)
-    requires { Marks heap.now seat.old }
-    ensures seat { Marks heap.now seat.new }
+    requires { GoesMarking heap.now seat.old }
+    ensures seat { GoesMarking heap.now seat.new }
     ensures tends { Across (Tends 0) seat.old seat.new }
 {
     if is_late(heap, seat) {
@@ -131,8 +131,8 @@ fn clean_late(heap: &Heap, seat: &mut HeapSeat)
 
 /// Cleans cards, where a trace ended since there was nothing to trace.
 fn clean_after(heap: &Heap, seat: &mut HeapSeat, stopped: Stopped)
-    requires { Marks heap.now seat.old }
-    ensures seat { Marks heap.now seat.new }
+    requires { GoesMarking heap.now seat.old }
+    ensures seat { GoesMarking heap.now seat.new }
     ensures tends { Across (Tends 0) seat.old seat.new }
 {
     if let Stopped::NoWork = stopped {
@@ -142,8 +142,8 @@ fn clean_after(heap: &Heap, seat: &mut HeapSeat, stopped: Stopped)
 
 /// Lets deferred cells, which weren't published yet, be traced again.
 fn recycle(heap: &Heap, seat: &mut HeapSeat)
-    requires { Marks heap.now seat.old }
-    ensures seat { Marks heap.now seat.new }
+    requires { GoesMarking heap.now seat.old }
+    ensures seat { GoesMarking heap.now seat.new }
     ensures tends { Across (Tends 0) seat.old seat.new }
 {
     recycle_deferred(heap, seat);
@@ -151,8 +151,8 @@ fn recycle(heap: &Heap, seat: &mut HeapSeat)
 
 /// Cleans a few cards, where there was nothing to trace, and lets deferred cells be traced again.
 fn tend(heap: &Heap, seat: &mut HeapSeat, stopped: Stopped)
-    requires { Marks heap.now seat.old }
-    ensures seat { Marks heap.now seat.new }
+    requires { GoesMarking heap.now seat.old }
+    ensures seat { GoesMarking heap.now seat.new }
     ensures tends { Across (Tends 0) seat.old seat.new }
 {
     clean_after(heap, seat, stopped);
@@ -162,8 +162,8 @@ fn tend(heap: &Heap, seat: &mut HeapSeat, stopped: Stopped)
 /// Traces the 64 objects of a turn, and where there are fewer and the cycle is far on, cleans cards. Returns how many objects it traced, which the caller is to
 /// add to the number of traced objects.
 pub fn mark_some(heap: &Heap, seat: &mut HeapSeat) -> u32
-    requires { Marks heap.now seat.old }
-    ensures seat { Marks heap.now seat.new }
+    requires { GoesMarking heap.now seat.old }
+    ensures seat { GoesMarking heap.now seat.new }
     ensures marks { Across (MarksSome result) seat.old seat.new }
 {
     let traced = trace_objects(heap, seat);

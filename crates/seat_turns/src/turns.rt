@@ -1,30 +1,11 @@
-//! A mutator at its turn: whether it is, and a cache given up.
-ghost use Rattle.std.specs.Prelude.{◌≡◌, None, Some, IsTrue};
+//! A mutator at its turn: whether it is.
+ghost use Rattle.std.specs.Prelude.{◌≡◌, Some, IsTrue};
 ghost use Rattle.std.specs.Bool.{OnFalse};
-ghost use Rattle.gc_table.specs.Log.{Only};
-ghost use Rattle.gc_table.specs.Running.{Ran};
 ghost use Rattle.gc_table.specs.Seats.{Across, Sits, state_of, view_of};
-ghost use Rattle.gc_cycle.specs.Answering.{HasCache, retires};
 ghost use Rattle.gc_cycle.specs.Standing.{Mutates};
 ghost use Rattle.seat_turns.specs.Turning.{LooksAtSeason, SeesOther};
 
-use alloc_cache::{Cache, retire};
 use gc_table::{Heap, HeapSeat};
-
-/// Gives a cache up, if there is one.
-pub fn retire_some(heap: &Heap, seat: &mut HeapSeat, cache: Option<Cache>)
-    requires seat { Sits heap.now seat.old × Mutates (view_of seat.old) }
-    requires cache { HasCache cache (view_of seat.old) }
-    ensures seat { Sits heap.now seat.new × Mutates (view_of seat.new) }
-    ensures ran { Across Ran seat.old seat.new }
-    ensures only { Across (Only retires) seat.old seat.new }
-    ensures state { state_of seat.new ≡ record (state_of seat.old) { cache = None } }
-    ensures own { (view_of seat.new).own ≡ (view_of seat.old).own }
-{
-    if let Some(cache) = cache {
-        retire(heap, seat, cache);
-    }
-}
 
 /// Whether the season is this turn. It is read only where the seat doesn't know it any more: it moves on in a stop alone, and then the seat is outside.
 #[inline(always)]

@@ -1,2 +1,3 @@
 pub mod Gates
+pub mod StopRecords
 pub mod Waiting

@@ -1,4 +1,3 @@
-pub mod Stepping
-pub mod Noted
+pub mod Starting
 pub mod Making
 pub mod Owned

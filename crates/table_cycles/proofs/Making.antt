@@ -1,8 +1,9 @@
 -- A new cell's words are stored, and then the cell in a variable.
-use Rattle.std.proofs.Common.{ℕ, ◌≡◌, ◌+◌, ◌<◌, length, Bool, true, false, refl, sym, ap, ◌∙◌, Option, None, Some}
+use Rattle.std.proofs.Common.{ℕ, ◌≡◌, ◌+◌, ◌<◌, length, Bool, true, refl, sym, ap, ◌∙◌, Option, None, Some}
 use Rattle.std.specs.Prelude.{nat_le, if◌then◌else◌, ◌&&◌, ◌==◌}
 use Rattle.std.proofs.lemmas.Bool.{and_parts, and_from, or_right, eq-eqb, ltb-true, false≢true}
 use Rattle.std.proofs.lemmas.List.{length-set, length-append}
+use Rattle.mark_core.specs.Numbers.{section_variables}
 use Rattle.mark_core.specs.Steps.MutatorSteps.{names_last}
 use Rattle.mark_core.specs.Seats.{saw, phase_number}
 use Rattle.mark_core.specs.declared.kinds.Phase.{Phase}
@@ -54,7 +55,7 @@ heap-named h x y u r n e a is =
     let new : (names_last v.state.cache r && (length m.heap.objects + 1 == v.state.made)) ≡ true = and_from _ _ e (eq-eqb _ _ a.1) in
     ap (λ (w : View). w.own.meaning.heap) is ∙ ap (λ (b : Bool). if b then with_new m.heap u m.value else assigned m.heap u (named_by v.state m r)) new
 
--- and the seat is ready
+-- the seat is ready once a variable names the new object
 pub ready-named : (h : Heap) (x y : HeapSeat) (u r n : ℕ) → names_last (view_of x).state.cache r ≡ true → Unnamed h x → Sits h y → view_of y ≡ after (StoreRoot u r) n (view_of x) → Ready h y
 ready-named h x y u r n e a sits is =
     let v : View = view_of x in
@@ -67,8 +68,8 @@ ready-named h x y u r n e a sits is =
     )
 
 -- what may be named is named by a variable that exists
-pub below-variables : (s : SeatState) (v r : ℕ) → may_name s v r ≡ true → v < 32
-below-variables s v r e = ltb-true v 32 (and_parts _ _ (and_parts _ _ (and_parts _ _ e).0).0).0
+pub below-variables : (s : SeatState) (v r : ℕ) → may_name s v r ≡ true → v < section_variables
+below-variables s v r e = ltb-true v section_variables (and_parts _ _ (and_parts _ _ (and_parts _ _ e).0).0).0
 
 -- what may be named was made last
 pub made-last : (s : SeatState) (v r : ℕ) → may_name s v r ≡ true → names_last s.cache r ≡ true

@@ -4,16 +4,17 @@ use Rattle.std.specs.Prelude.{not, ◌==◌, ◌&&◌, nat_lt, slice_get, slice_
 use Rattle.std.proofs.lemmas.Bool.{and_parts, and_from, eq-eqb, ne_eqb, not-true, ltb-true, false≢true}
 use Rattle.std.proofs.lemmas.List.{length-set, get_or-set_same}
 use Rattle.std.proofs.lemmas.Option.{get_or_from_slice_get, slice_get-map}
-use Rattle.mark_core.specs.Rules.HeapRules.{section_of}
+use Rattle.mark_core.specs.Numbers.{section_variables}
+use Rattle.mark_core.specs.Rules.HeapRules.{section_of_cell}
 use Rattle.mark_core.specs.Layout.{words_of}
-use Rattle.mark_core.specs.Steps.MutatorSteps.{has_own, variable as word_in, names_last}
+use Rattle.mark_core.specs.Steps.MutatorSteps.{has_own, seat_variable as word_in, names_last}
 use Rattle.mark_core.specs.Seats.{is_the, may_mutate, saw}
 use Rattle.mark_core.specs.declared.kinds.Phase.TheVariants.{Marking}
 use Rattle.mark_core.specs.declared.kinds.Shape.{Shape}
 use Rattle.mark_core.specs.declared.kinds.Step.TheVariants.{StoreField, ReadCount, StoreRoot}
 use Rattle.mark_core.specs.declared.seat.SeatState.{SeatState}
 use Rattle.mark_core.proofs.Blocks.BlocksTaken.{Taken}
-use Rattle.plain_heap.specs.PlainHeap.{Heap as PlainHeap, variable}
+use Rattle.plain_heap.specs.PlainHeap.{Heap as PlainHeap, variable, is_own}
 use Rattle.plain_heap.specs.PlainStep.{stored_at, replaced_by, with_field}
 use Rattle.plain_heap.specs.declared.object.Object.{Object}
 use Rattle.plain_heap.specs.declared.object.Ref.{Ref}
@@ -31,19 +32,19 @@ use Rattle.gc_table.specs.declared.view.Meaning.{Meaning}
 use Rattle.gc_table.specs.declared.view.SectionState.{SectionState}
 use Rattle.gc_table.specs.declared.view.View.{View}
 use Rattle.gc_table.proofs.Stands.StandsSeat.{Mutates, mutates, looks, env-agrees}
-use Rattle.table_cycles.specs.Owned.{is_own, HasOwn, may_link}
+use Rattle.table_cycles.specs.Owned.{SeatHasOwn, may_link}
 use Rattle.table_cycles.specs.Ready.{Ready, Unnamed}
 use Rattle.table_cycles.proofs.Making.{seen_marking, heap-named}
 
 -- a word that agrees with an own reference isn't nil, and names a cell of the section
-owned-word : (ids : List ℕ) (p : ℕ → ℕ) (i word : ℕ) (ref : Ref) → is_own ref ≡ true → WordAgrees ids p i word ref → (0 < word) × (section_of ids (word - 1) ≡ i)
+owned-word : (ids : List ℕ) (p : ℕ → ℕ) (i word : ℕ) (ref : Ref) → is_own ref ≡ true → WordAgrees ids p i word ref → (0 < word) × (section_of_cell ids (word - 1) ≡ i)
 owned-word ids p i word refs.Nil is a = absurd (false≢true is)
 owned-word ids p i word (refs.Cat k) is a = absurd (false≢true is)
 owned-word ids p i word (refs.Own k) is (inl z) = absurd (cc)
 owned-word ids p i word (refs.Own k) is (inr (some, names, below)) = (some, names.0)
 
 -- in each state that agrees with the view, the variable's word names a cell of the own section
-own-there : (y : TableState) (i : ℕ) (v : View) (u : ℕ) → IsState y → Agrees y i v → IsFalse v.state.spent → may_mutate v.state ≡ true → u < 32 → is_own (variable v.own.meaning.heap u) ≡ true
+own-there : (y : TableState) (i : ℕ) (v : View) (u : ℕ) → IsState y → Agrees y i v → IsFalse v.state.spent → may_mutate v.state ≡ true → u < section_variables → is_own (variable v.own.meaning.heap u) ≡ true
     → has_own (words_of y.core.shape y.core.words).identities v.state u ≡ true
 own-there y i v u st a live acts below own = and_from _ _ not_nil here
   where
@@ -68,17 +69,17 @@ own-there y i v u st a live acts below own = and_from _ _ not_nil here
     word : ℕ
     word = word_in s u
 
-    names : (0 < word) × (section_of ids (word - 1) ≡ i)
+    names : (0 < word) × (section_of_cell ids (word - 1) ≡ i)
     names = owned-word ids (object_count ms) i word (variable (meaning_of ms i).heap u) (ap (λ (n : Meaning). is_own (variable n.heap u)) same ∙ own) (env-agrees y.core i s ReadCount ms u k st.stands m below)
 
     not_nil : not (word == 0) ≡ true
     not_nil = ap not (ne_eqb word 0 (λ e. omega (arith, e, names.0)))
 
-    here : is_the s.section (section_of ids (word - 1)) ≡ true
-    here = subst (λ (o : Option ℕ). is_the o (section_of ids (word - 1)) ≡ true) (sym m.section) (eq-eqb i (section_of ids (word - 1)) (sym names.1))
+    here : is_the s.section (section_of_cell ids (word - 1)) ≡ true
+    here = subst (λ (o : Option ℕ). is_the o (section_of_cell ids (word - 1)) ≡ true) (sym m.section) (eq-eqb i (section_of_cell ids (word - 1)) (sym names.1))
 
 -- variable w may be stored in field i of variable u's object
-pub may-link : (h : Heap) (x : HeapSeat) (sh : Shape) (u i w : ℕ) → Sits h x → sh ≡ h.shape → HasOwn x u → may_link sh (view_of x).state u i w ≡ true → May (StoreField u i (Some w)) (view_of x)
+pub may-link : (h : Heap) (x : HeapSeat) (sh : Shape) (u i w : ℕ) → Sits h x → sh ≡ h.shape → SeatHasOwn x u → may_link sh (view_of x).state u i w ≡ true → May (StoreField u i (Some w)) (view_of x)
 may-link h x sh u i w sits is own e =
     λ y k st a.
     let v : View = view_of x in
@@ -87,8 +88,8 @@ may-link h x sh u i w sits is own e =
     let f = and_parts _ _ p.0 in
     let g = and_parts _ _ (and_parts _ _ f.0).0 in
     let same : sh ≡ y.core.shape = is ∙ sym sits.1 ∙ a.shape in
-    let first : (nat_lt u 32 && nat_lt i y.core.shape.fields && nat_lt w 32 && may_mutate v.state) ≡ true = subst (λ (z : Shape). (nat_lt u 32 && nat_lt i z.fields && nat_lt w 32 && may_mutate v.state) ≡ true) same p.0 in
-    (first, (own-there y k v u st a (not-true v.state.spent q.1) f.1 (ltb-true u 32 g.0) own, (q.0, tt)))
+    let first : (nat_lt u section_variables && nat_lt i y.core.shape.fields && nat_lt w section_variables && may_mutate v.state) ≡ true = subst (λ (z : Shape). (nat_lt u section_variables && nat_lt i z.fields && nat_lt w section_variables && may_mutate v.state) ≡ true) same p.0 in
+    (first, (own-there y k v u st a (not-true v.state.spent q.1) f.1 (ltb-true u section_variables g.0) own, (q.0, tt)))
 
 -- a store in a field leaves the variables, and how many objects there are
 same_variables : (heap : PlainHeap) (change : Object → Object) (o : Option Object) (n : ℕ) → (replaced_by heap n change o).variables ≡ heap.variables
@@ -110,13 +111,13 @@ stored-count heap (refs.Cat n) change = refl
 stored-count heap (refs.Own n) change = same_count heap change (slice_get heap.objects n) n
 
 -- after the store the variables still name what they named
-pub own-linked : (x y : HeapSeat) (u i w v n : ℕ) → HasOwn x v → view_of y ≡ after (StoreField u i (Some w)) n (view_of x) → HasOwn y v
+pub own-linked : (x y : HeapSeat) (u i w v n : ℕ) → SeatHasOwn x v → view_of y ≡ after (StoreField u i (Some w)) n (view_of x) → SeatHasOwn y v
 own-linked x y u i w v n own is =
     let heap : PlainHeap = (view_of x).own.meaning.heap in
     let kept : (view_of y).own.meaning.heap.variables ≡ heap.variables = ap (λ (z : View). z.own.meaning.heap.variables) is ∙ stored-variables heap (variable heap u) (λ (object : Object). with_field object i (variable heap w)) in
     ap (λ (xs : List Ref). is_own (slice_index_or xs v refs.Nil)) kept ∙ own
 
--- and the seat stays ready
+-- the seat stays ready after the store
 pub ready-linked : (h : Heap) (x y : HeapSeat) (u i w n : ℕ) → Ready h x → Sits h y → view_of y ≡ after (StoreField u i (Some w)) n (view_of x) → Ready h y
 ready-linked h x y u i w n r sits is =
     let heap : PlainHeap = (view_of x).own.meaning.heap in
@@ -131,7 +132,7 @@ pub asked-set : (x : HeapSeat) (u i w : ℕ) → ((view_of x).state.active && sa
 asked-set x u i w seen = (ops.Set u i w, (seen_marking (view_of x).state.phase_seen (and_parts _ _ seen).1, refl))
 
 -- the variable that got a new cell names an own object
-pub own-named : (h : Heap) (x y : HeapSeat) (u r n : ℕ) → u < 32 → names_last (view_of x).state.cache r ≡ true → Unnamed h x → view_of y ≡ after (StoreRoot u r) n (view_of x) → HasOwn y u
+pub own-named : (h : Heap) (x y : HeapSeat) (u r n : ℕ) → u < section_variables → names_last (view_of x).state.cache r ≡ true → Unnamed h x → view_of y ≡ after (StoreRoot u r) n (view_of x) → SeatHasOwn y u
 own-named h x y u r n below e a is =
     let m : Meaning = (view_of x).own.meaning in
     let heap = heap-named h x y u r n e a is in

@@ -10,17 +10,6 @@ mod seasons;
 mod seats;
 mod world;
 
-use mark_core::Shape;
-
-const SMALL: Shape = Shape {
-    cells: 64,
-    packets: 2,
-    entries: 2,
-    sections: 2,
-    fields: 4,
-    objects: 2_000_000,
-};
-
 // So many words, all 0.
 fn are_zero(words: &[u64], count: usize) -> bool {
     words.len() == count && words.iter().all(|x| *x == 0)

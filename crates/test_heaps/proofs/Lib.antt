@@ -1,2 +1,2 @@
-pub mod Ended
+pub mod DrainBegins
 pub mod Turning

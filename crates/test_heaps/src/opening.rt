@@ -3,7 +3,7 @@ ghost use Rattle.std.specs.Prelude.{ℕ, ◌≡◌, ◌<◌, ◌≤◌, ◌+◌,
 ghost use Rattle.gc_table.specs.declared.seat.HeapSeat.{HeapSeat};
 ghost use Rattle.gc_table.specs.SeatRecords.{resting};
 ghost use Rattle.mark_core.specs.Shapes.{IsShape};
-ghost use Rattle.test_heaps.specs.Seats.{New};
+ghost use Rattle.test_heaps.specs.Seats.{HasEachObject, New};
 
 use gc_table::{Heap, HeapSeat};
 use mark_core::Shape;
@@ -31,4 +31,16 @@ pub fn next_seat(heap: &Heap, seats: &mut Vec<HeapSeat>, k: u32) -> HeapSeat
     ensures count { vec_len seats.new + 1 ≡ vec_len seats.old }
 {
     seats.remove(0)
+}
+
+/// A heap with the catalogue's seat alone. None where memory ran out.
+pub fn open_one(alloc: Global, shape: Shape) -> Option<(Heap, HeapSeat)>
+    requires { IsShape shape }
+    ensures { IfSome result (λ r. (r.0.shape ≡ shape) × New r.0 resting 0 r.1 × HasEachObject r.0 r.1) }
+{
+    let Some((heap, mut seats)) = open(alloc, shape, 1) else {
+        return None;
+    };
+    let seat = next_seat(&heap, &mut seats, 0);
+    Some((heap, seat))
 }

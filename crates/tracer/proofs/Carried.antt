@@ -9,7 +9,7 @@ use Rattle.mark_core.specs.declared.seat.SeatState.{SeatState}
 use Rattle.mark_core.proofs.Pool.PoolSlots.{drop-other, holds-drop_same}
 use Rattle.gc_table.specs.declared.view.View.{View}
 use Rattle.packet_pools.specs.declared.held.Held.{Held}
-use Rattle.packet_pools.specs.Hands.{IsHeld, free_slots}
+use Rattle.packet_pools.specs.Hands.{HoldsPacket, free_slots}
 use Rattle.packet_pools.specs.Gains.{Takes}
 use Rattle.packet_pools.specs.Scanning.{Fills}
 use Rattle.packet_pools.proofs.InHand.{drop-set, drop-with, known-held}
@@ -54,7 +54,7 @@ module _ (xs : List Held) (h : Held) (ys : List Held) (v : View) where
   carries-back c = record { fit = fit-back v.shape xs h ys c.fit; held = held-back xs h ys v.state.held c.held; free = (let e = longer xs h ys in omega (arith, e, c.free)) }
 
 -- the first of them is held
-pub carries-head : (h : Held) (hs : List Held) (v : View) → Carries (h ∷ hs) v → IsHeld h v
+pub carries-head : (h : Held) (hs : List Held) (v : View) → Carries (h ∷ hs) v → HoldsPacket h v
 carries-head h hs v c = record { there = c.fit.0; known = c.held.0; fits = c.fit.1 }
 
 -- a slot is free where there are at most three
@@ -84,7 +84,7 @@ module _ (v w : View) (shape : w.shape ≡ v.shape) where
       }
 
   -- one has another length
-  pub carries-set : (h k : Held) (n : ℕ) (b : Bool) (hs : List Held) → k.packet ≡ h.packet → IsHeld k w → w.state.held ≡ set_length v.state.held h.packet n b → Carries (h ∷ hs) v → Carries (k ∷ hs) w
+  pub carries-set : (h k : Held) (n : ℕ) (b : Bool) (hs : List Held) → k.packet ≡ h.packet → HoldsPacket k w → w.state.held ≡ set_length v.state.held h.packet n b → Carries (h ∷ hs) v → Carries (k ∷ hs) w
   carries-set h k n b hs same held e c =
       record {
         fit = (held.there, held.fits, subst (λ (sh : Shape). AllFit sh hs) (sym shape) c.fit.2);
@@ -172,7 +172,7 @@ pub second-front : (a : Held) (r : Option Held) (hs : List Held) (v : View) → 
 second-front a None hs v c = c
 second-front a (Some h) hs v c = carries-front (a ∷ []) h hs v c
 
-pub front-held : (r : Option Held) (hs : List Held) (v : View) → Carries (in_front r hs) v → IfSome r (λ h. IsHeld h v)
+pub front-held : (r : Option Held) (hs : List Held) (v : View) → Carries (in_front r hs) v → IfSome r (λ h. HoldsPacket h v)
 front-held None hs v c = tt
 front-held (Some h) hs v c = carries-head h hs v c
 

@@ -1,5 +1,5 @@
 -- Cells in hand end as they may, since no step loses one.
-use Rattle.std.proofs.Common.{ℕ, ◌≡◌, ◌/◌, List, [], ◌∷◌, refl, sym, ap, cond, Bool, true, false, not, Some, None, Option, eq-eqb}
+use Rattle.std.proofs.Common.{ℕ, ◌≡◌, List, [], ◌∷◌, refl, sym, ap, cond, Bool, true, false, not, Some, None, Option, eq-eqb}
 use Rattle.std.specs.Prelude.{◌&&◌, ◌||◌, ◌==◌, is_some}
 use Rattle.std.proofs.lemmas.Bool.{and_from, and_parts, false≢true, or_right}
 use Rattle.mark_core.specs.Seats.{is_the, is_unpublished}

@@ -17,20 +17,20 @@ use Rattle.packet_pools.specs.Keeping.{answers_for}
 use Rattle.packet_pools.specs.OnlyTraced.{OnlyTraced, rest_of}
 use Rattle.packet_pools.specs.Tracing.{traces}
 use Rattle.packet_pools.specs.Scanning.{InHand}
-use Rattle.packet_pools.proofs.TracedSteps.{later-read, later-to}
+use Rattle.packet_pools.proofs.TracedSteps.{traced-read, traced-to}
 use Rattle.packet_pools.proofs.ScanSteps.{traces-part}
 use Rattle.tracer.specs.Parts.{HasPopped}
-use Rattle.mark_core.specs.Cards.{block_of_card, card_of}
+use Rattle.mark_core.specs.Cards.{block_cells, block_of_card, card_of}
 
 popped-below : (sh : Shape) (o : Option (ℕ × Bool)) (c : ℕ) (b : Bool) → IfSome o (λ x. x.0 < sh.cells) → o ≡ Some (c, b) → c < sh.cells
 popped-below sh o c b h e = subst (λ (p : Option (ℕ × Bool)). IfSome p (λ x. x.0 < sh.cells)) e h
 
 module _ (v : View) (c : ℕ) (b : Bool) (t : traces v ≡ true) (e : v.state.popped ≡ Some (c, b)) where
-  pub may-read_alloc : May (ReadAlloc (c / 64)) v
+  pub may-read_alloc : May (ReadAlloc (c / block_cells)) v
   may-read_alloc x k w a =
       let below = popped-below x.core.shape v.state.popped c b (w.core.formed.seats k v.state a.seat).popped e in
       let whole = w.core.formed.shaped.whole_blocks in
-      (and_from _ _ (lt-ltb (c / 64) (block_count x.core.shape) (omega (arith, below, whole))) (traces-part v t), tt)
+      (and_from _ _ (lt-ltb (c / block_cells) (block_count x.core.shape) (omega (arith, below, whole))) (traces-part v t), tt)
 
   pub may-dirty_popped : May (DirtyCard (card_of c)) v
   may-dirty_popped x k w a =
@@ -91,58 +91,58 @@ alloc-left (Some x) b word e = either (x.known && (block_of_card x.card == b))
     either true = seen-left x word e
     either false = e
 
-module _ (v w : View) (c n : ℕ) (p : HasPopped c false v) (e : w ≡ after (ReadAlloc (c / 64)) n v) where
-  pub later-read_alloc : Finds (ReadAlloc (c / 64)) n v → OnlyTraced v w
-  later-read_alloc f =
-      let block : with_alloc_word v.state.block (c / 64) n ≡ v.state.block = ap (λ o. with_alloc_word o (c / 64) n) p.block ∙ sym p.block in
-      later-to v w (ReadAlloc (c / 64)) n e (later-read v (ReadAlloc (c / 64)) n refl refl f (λ i. rest_of (record v.state { block = block i })) refl refl refl refl)
+module _ (v w : View) (c n : ℕ) (p : HasPopped c false v) (e : w ≡ after (ReadAlloc (c / block_cells)) n v) where
+  pub traced-read_alloc : Finds (ReadAlloc (c / block_cells)) n v → OnlyTraced v w
+  traced-read_alloc f =
+      let block : with_alloc_word v.state.block (c / block_cells) n ≡ v.state.block = ap (λ o. with_alloc_word o (c / block_cells) n) p.block ∙ sym p.block in
+      traced-to v w (ReadAlloc (c / block_cells)) n e (traced-read v (ReadAlloc (c / block_cells)) n refl refl f (λ i. rest_of (record v.state { block = block i })) refl refl refl refl)
 
   free : IsFree v.shape.fields (record v.state { popped = None })
   free = free-of v.shape.fields (record v.state { popped = None }) p.others
 
   pub alloc-cleaning : cleaning_left w.state.cleaning ≡ false
-  alloc-cleaning = ap (λ (z : View). cleaning_left z.state.cleaning) e ∙ alloc-left v.state.cleaning (c / 64) n free.cleaning
+  alloc-cleaning = ap (λ (z : View). cleaning_left z.state.cleaning) e ∙ alloc-left v.state.cleaning (c / block_cells) n free.cleaning
 
   -- the cell is published, and is in scan
-  pub published : has_bit n (c % 64) ≡ true → InHand None None w.state
+  pub published : has_bit n (c % block_cells) ≡ true → InHand None None w.state
   published bit =
       record {
         popped =
             ap (λ (z : View). z.state.popped) e
-            ∙ (ap (λ o. popped_after o (c / 64) n) p.popped
-            ∙ (ap (λ (d : Bool). cond d (cond (has_bit n (c % 64)) None (Some (c, true))) (Some (c, false))) (eq-eqb (c / 64) (c / 64) refl) ∙ ap (λ (d : Bool). cond d None (Some (c, true))) bit));
+            ∙ (ap (λ o. popped_after o (c / block_cells) n) p.popped
+            ∙ (ap (λ (d : Bool). cond d (cond (has_bit n (c % block_cells)) None (Some (c, true))) (Some (c, false))) (eq-eqb (c / block_cells) (c / block_cells) refl) ∙ ap (λ (d : Bool). cond d None (Some (c, true))) bit));
         value = ap (λ (z : View). z.state.value) e ∙ none-of v.state.value free.value;
         fresh = ap (λ (z : View). z.state.fresh) e ∙ none-of v.state.fresh free.fresh;
       }
 
   -- it is scanned from its first field on
-  pub scanned : has_bit n (c % 64) ≡ true → w.state.scan ≡ Some (c, 0)
+  pub scanned : has_bit n (c % block_cells) ≡ true → w.state.scan ≡ Some (c, 0)
   scanned bit =
       ap (λ (z : View). z.state.scan) e
-      ∙ (ap (λ o. scan_after o v.state.scan (c / 64) n) p.popped
-      ∙ (ap (λ (d : Bool). cond (d && has_bit n (c % 64)) (Some (c, 0)) v.state.scan) (eq-eqb (c / 64) (c / 64) refl) ∙ ap (λ (d : Bool). cond d (Some (c, 0)) v.state.scan) bit))
+      ∙ (ap (λ o. scan_after o v.state.scan (c / block_cells) n) p.popped
+      ∙ (ap (λ (d : Bool). cond (d && has_bit n (c % block_cells)) (Some (c, 0)) v.state.scan) (eq-eqb (c / block_cells) (c / block_cells) refl) ∙ ap (λ (d : Bool). cond d (Some (c, 0)) v.state.scan) bit))
 
   -- the cell isn't
-  pub unpublished : has_bit n (c % 64) ≡ false → HasPopped c true w
+  pub unpublished : has_bit n (c % block_cells) ≡ false → HasPopped c true w
   unpublished bit =
       record {
         popped =
             ap (λ (z : View). z.state.popped) e
-            ∙ (ap (λ o. popped_after o (c / 64) n) p.popped
-            ∙ (ap (λ (d : Bool). cond d (cond (has_bit n (c % 64)) None (Some (c, true))) (Some (c, false))) (eq-eqb (c / 64) (c / 64) refl) ∙ ap (λ (d : Bool). cond d None (Some (c, true))) bit));
+            ∙ (ap (λ o. popped_after o (c / block_cells) n) p.popped
+            ∙ (ap (λ (d : Bool). cond d (cond (has_bit n (c % block_cells)) None (Some (c, true))) (Some (c, false))) (eq-eqb (c / block_cells) (c / block_cells) refl) ∙ ap (λ (d : Bool). cond d None (Some (c, true))) bit));
         others =
             work-of w.shape.fields (record w.state { popped = None }) refl
             (record {
               scan =
                   ap (λ (z : View). scan_left z.shape.fields z.state.scan) e
-                  ∙ (ap (λ o. scan_left v.shape.fields (scan_after o v.state.scan (c / 64) n)) p.popped
-                  ∙ (ap (λ (d : Bool). scan_left v.shape.fields (cond ((c / 64 == c / 64) && d) (Some (c, 0)) v.state.scan)) bit
-                  ∙ (ap (λ (d : Bool). scan_left v.shape.fields (cond (d && false) (Some (c, 0)) v.state.scan)) (eq-eqb (c / 64) (c / 64) refl) ∙ free.scan)));
+                  ∙ (ap (λ o. scan_left v.shape.fields (scan_after o v.state.scan (c / block_cells) n)) p.popped
+                  ∙ (ap (λ (d : Bool). scan_left v.shape.fields (cond ((c / block_cells == c / block_cells) && d) (Some (c, 0)) v.state.scan)) bit
+                  ∙ (ap (λ (d : Bool). scan_left v.shape.fields (cond (d && false) (Some (c, 0)) v.state.scan)) (eq-eqb (c / block_cells) (c / block_cells) refl) ∙ free.scan)));
               value = ap (λ (z : View). is_some z.state.value) e ∙ free.value;
               fresh = ap (λ (z : View). is_some z.state.fresh) e ∙ free.fresh;
               cleaning = alloc-cleaning;
             });
-        block = ap (λ (z : View). z.state.block) e ∙ ap (λ o. with_alloc_word o (c / 64) n) p.block;
+        block = ap (λ (z : View). z.state.block) e ∙ ap (λ o. with_alloc_word o (c / block_cells) n) p.block;
       }
 
 -- a popped cell was pushed

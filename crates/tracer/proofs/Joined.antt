@@ -1,5 +1,6 @@
 -- One part of a trace after another.
 use Rattle.std.proofs.Common.{ℕ, ◌≡◌, ◌+◌, List, ◌++◌, sym, ap, ◌∙◌, Option}
+use Rattle.mark_core.specs.Numbers.{deferred_pool_number}
 use Rattle.mark_core.specs.Seats.{is_the}
 use Rattle.mark_core.specs.declared.kinds.Shape.{Shape}
 use Rattle.gc_table.specs.declared.view.Entry.{Entry}
@@ -28,7 +29,7 @@ module _ (o q r : Option ℕ) (d e f g l m x y z : ℕ) (u v : View) (xs ys es :
             λ p.
             ap (λ zs. pops_waiting p u zs (is_the o p)) all
             ∙ popped-join p xs ys u (is_the o p) (a.kept p) ((λ i. pops_waiting p (sym at i) ys (a.waiting p i)) ∙ b.kept p);
-        undeferred = λ p. ap (was_got_from 3 p) all ∙ none-join (gets_from 3 p) xs ys (a.undeferred p) (b.undeferred p);
+        undeferred = λ p. ap (was_got_from deferred_pool_number p) all ∙ none-join (gets_from deferred_pool_number p) xs ys (a.undeferred p) (b.undeferred p);
         done = ap (count_of pops) all ∙ (count-join pops xs ys ∙ ((λ i. a.done i + b.done i) ∙ dx));
         deferred = ap (count_by defers u) all ∙ (by-join defers xs ys u ∙ ((λ i. a.deferred i + (ap (λ t. count_by defers t ys) (sym at) ∙ b.deferred) i) ∙ fy));
         dirtied = ap (count_of dirties) all ∙ (count-join dirties xs ys ∙ ((λ i. a.dirtied i + b.dirtied i) ∙ lz));

@@ -2,7 +2,7 @@
 use Rattle.std.proofs.Common.{ℕ, ◌≡◌, ◌<◌, List, [], ◌∷◌, ◌++◌, length, refl, sym, ap, ◌∙◌, arith, cond, Bool, true, false, not, Some, None, Option, suc, eqb, eqb-true, eq-eqb, ⊎_elim, slice_index_or}
 use Rattle.std.specs.Prelude.{◌&&◌, ◌||◌, ◌==◌}
 use Rattle.std.specs.List.{list_all, list_any, AllPairs}
-use Rattle.std.proofs.lemmas.Bool.{and_from, and_parts, cases_Bool, false≢true, or_cases, or_from, or_left, or_right}
+use Rattle.std.proofs.lemmas.Bool.{and_from, and_parts, cases_Bool, false≢true, or_from, or_left, or_right}
 use Rattle.mark_core.specs.Held.{Slot, Slots, holds, known_length, slot_of}
 use Rattle.mark_core.specs.WellFormed.{IsApart}
 use Rattle.mark_core.specs.declared.kinds.Shape.{Shape}
@@ -13,7 +13,7 @@ use Rattle.gc_table.specs.declared.view.Entry.{Entry}
 use Rattle.gc_table.specs.declared.view.View.{View}
 use Rattle.gc_table.specs.Running.{after_all}
 use Rattle.gc_table.specs.Taking.{after}
-use Rattle.packet_pools.specs.Seeking.{moves_packet, no_input, no_output, NoInput, NoOutput, only_moves}
+use Rattle.packet_pools.specs.Seeking.{moves_packet, no_input, no_output, NoInput, NoOutput, only_moves, input_pools, output_pools}
 use Rattle.packet_pools.proofs.AllMissed.{all-missed-left, no-output-left}
 use Rattle.tracer.specs.Deferral.{defers, waits, waits_on}
 use Rattle.tracer.specs.Moments.{Moment, after_moment, at_some_moment, deferring_after, front, is_spent_slot, without}
@@ -94,7 +94,7 @@ pub moment-waits : (p : ℕ) (v : View) (ps : List ℕ) (es : List Entry) → li
 moment-waits p v ps [] = refl
 moment-waits p v ps (e ∷ es) = moment-waits p (after e.step e.found v) (deferring_after v.state e.step ps) es ∙ ap (waits p (after e.step e.found v) es) (waits-step p v.state e.step ps)
 
--- steps of one sort are a front of the events
+-- steps of one sort are a prefix of the events
 front-keeps : (qs : List ℕ) (xs ys : List Entry) → only_moves qs xs ≡ true → front (moves_packet qs) (xs ++ ys) ≡ xs ++ front (moves_packet qs) ys
 front-keeps qs [] ys m = refl
 front-keeps qs (x ∷ xs) ys m =
@@ -102,12 +102,12 @@ front-keeps qs (x ∷ xs) ys m =
     ap (λ b. cond b (x ∷ front (moves_packet qs) (xs ++ ys)) []) h.0 ∙ ap (λ l. x ∷ l) (front-keeps qs xs ys h.1)
 
 -- the search in vain for a packet to read from is told by the steps that follow
-pub input-front : (sh : Shape) (xs ys : List Entry) → NoInput sh xs → only_moves (2 ∷ 1 ∷ []) xs ≡ true → no_input sh (front (moves_packet (2 ∷ 1 ∷ [])) (xs ++ ys)) ≡ true
-input-front sh xs ys none m = ap (no_input sh) (front-keeps (2 ∷ 1 ∷ []) xs ys m) ∙ all-missed-left sh (2 ∷ 1 ∷ []) xs (front (moves_packet (2 ∷ 1 ∷ [])) ys) none
+pub input-front : (sh : Shape) (xs ys : List Entry) → NoInput sh xs → only_moves input_pools xs ≡ true → no_input sh (front (moves_packet input_pools) (xs ++ ys)) ≡ true
+input-front sh xs ys none m = ap (no_input sh) (front-keeps input_pools xs ys m) ∙ all-missed-left sh input_pools xs (front (moves_packet input_pools) ys) none
 
--- and so is that for one with room
-pub output-front : (sh : Shape) (xs ys : List Entry) → NoOutput sh xs → only_moves (0 ∷ 1 ∷ 2 ∷ []) xs ≡ true → no_output sh (front (moves_packet (0 ∷ 1 ∷ 2 ∷ [])) (xs ++ ys)) ≡ true
-output-front sh xs ys none m = ap (no_output sh) (front-keeps (0 ∷ 1 ∷ 2 ∷ []) xs ys m) ∙ no-output-left sh xs (front (moves_packet (0 ∷ 1 ∷ 2 ∷ [])) ys) none
+-- the search in vain for a packet with room is told by the steps that follow
+pub output-front : (sh : Shape) (xs ys : List Entry) → NoOutput sh xs → only_moves output_pools xs ≡ true → no_output sh (front (moves_packet output_pools) (xs ++ ys)) ≡ true
+output-front sh xs ys none m = ap (no_output sh) (front-keeps output_pools xs ys m) ∙ no-output-left sh xs (front (moves_packet output_pools) ys) none
 
 -- no other slot holds the packet of the first
 head-alone : (x : ℕ) (l : Option ℕ) (b : Bool) (hs : Slots) → AllPairs IsApart (Some (x, l, b) ∷ hs) → holds hs x ≡ false

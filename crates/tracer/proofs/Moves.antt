@@ -1,10 +1,10 @@
 -- The searches of a tracer move packets alone.
-use Rattle.std.proofs.Common.{◌≡◌, List, [], ◌∷◌, refl, Bool, true, false, Some, None, Option}
+use Rattle.std.proofs.Common.{◌≡◌, List, refl, Bool, true, false, Some, None, Option}
 use Rattle.std.specs.Prelude.{◌||◌, ◌==◌, IfSome, IfNone}
 use Rattle.std.proofs.lemmas.Bool.{false≢true}
 use Rattle.gc_table.specs.declared.view.Entry.{Entry}
 use Rattle.packet_pools.specs.declared.held.Held.{Held}
-use Rattle.packet_pools.specs.Seeking.{only_moves}
+use Rattle.packet_pools.specs.Seeking.{input_pools, only_moves, output_pools}
 use Rattle.packet_pools.proofs.Searches.{moves-more}
 
 more : (a b c : Bool) → (b || (a || false)) ≡ true → (c || (a || (b || false))) ≡ true
@@ -13,8 +13,8 @@ more true b false e = refl
 more false true false e = refl
 more false false false e = absurd (false≢true e)
 
-pub input-moves : (es : List Entry) → only_moves (2 ∷ 1 ∷ []) es ≡ true → only_moves (0 ∷ 1 ∷ 2 ∷ []) es ≡ true
-input-moves es m = moves-more (2 ∷ 1 ∷ []) (0 ∷ 1 ∷ 2 ∷ []) (λ q e. more (1 == q) (2 == q) (0 == q) e) es m
+pub input-moves : (es : List Entry) → only_moves input_pools es ≡ true → only_moves output_pools es ≡ true
+input-moves es m = moves-more input_pools output_pools (λ q e. more (1 == q) (2 == q) (0 == q) e) es m
 
 -- what holds whether a packet was found or not
 pub either-way : (r : Option Held) (P : Type 0) → IfSome r (λ h. P) → IfNone r P → P

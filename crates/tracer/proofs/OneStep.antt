@@ -1,5 +1,5 @@
 -- Single steps as parts of a trace, and packets that are given back.
-use Rattle.std.proofs.Common.{ℕ, ◌≡◌, ◌⊎◌, ◌+◌, ◌++◌, List, [], ◌∷◌, refl, sym, ap, ◌∙◌, subst, arith, cond, Bool, true, false, not, Some, None, Option, eqb-true, ⊎_elim}
+use Rattle.std.proofs.Common.{ℕ, ◌≡◌, ◌⊎◌, ◌+◌, ◌++◌, List, [], ◌∷◌, refl, sym, ap, ◌∙◌, subst, cond, Bool, true, false, not, Some, None, Option, eqb-true, ⊎_elim}
 use Rattle.std.specs.Prelude.{◌&&◌, ◌||◌, ◌==◌}
 use Rattle.std.proofs.lemmas.Bool.{and_parts, cases_Bool, false≢true, or_from}
 use Rattle.mark_core.specs.Seats.{is_the}
@@ -12,10 +12,10 @@ use Rattle.gc_table.specs.declared.view.View.{View}
 use Rattle.gc_table.specs.Taking.{after}
 use Rattle.packet_pools.specs.OnlyTraced.{OnlyTraced}
 use Rattle.gc_table.specs.Log.{events, steps_of}
-use Rattle.packet_pools.specs.Seeking.{only_moves, NoOutput, some_event}
+use Rattle.packet_pools.specs.Seeking.{only_moves, NoOutput, some_event, output_pools}
 use Rattle.packet_pools.specs.Counts.{count_of, dirties}
 use Rattle.gc_table.proofs.History.Log.{entry_of, events-after, events-join}
-use Rattle.packet_pools.proofs.Counting.{given-moves, quiet, searched-none, searched-one}
+use Rattle.packet_pools.proofs.Counting.{quiet, searched-none, searched-one}
 use Rattle.tracer.specs.Deferral.{waits, waits_on}
 use Rattle.tracer.specs.Parts.{Did, Part}
 use Rattle.tracer.proofs.NoDeferral.{AllCalm, IsCalm, and-false, calm-got, calm-off, calm-popped, calm-pops, calm-traces}
@@ -24,7 +24,7 @@ use Rattle.tracer.proofs.Quiet.{did-quiet, part-moves}
 
 -- no step
 pub part-none : (sh : Shape) (o : Option ℕ) (v : View) (es : List Entry) → es ≡ [] → Part sh o o 0 0 0 v es
-part-none sh o v es e = part-moves sh o v es (ap (only_moves (0 ∷ 1 ∷ 2 ∷ [])) e)
+part-none sh o v es e = part-moves sh o v es (ap (only_moves output_pools) e)
 
 other-popped : (o : Option ℕ) (p x : ℕ) → is_the o p ≡ false → (is_the o x && (p == x)) ≡ false
 other-popped o p x f =
@@ -93,7 +93,7 @@ part-push sh o q c n v w e f either =
     })
 
 -- a card was dirtied after a search that found no packet with room
-pub part-spill : (sh : Shape) (o : Option ℕ) (card n : ℕ) (u v w : View) → OnlyTraced u v → OnlyTraced v w → only_moves (0 ∷ 1 ∷ 2 ∷ []) (events u v) ≡ true → NoOutput sh (events u v) → w ≡ after (DirtyCard card) n v → Part sh o o 0 0 1 u (events u w)
+pub part-spill : (sh : Shape) (o : Option ℕ) (card n : ℕ) (u v w : View) → OnlyTraced u v → OnlyTraced v w → only_moves output_pools (events u v) ≡ true → NoOutput sh (events u v) → w ≡ after (DirtyCard card) n v → Part sh o o 0 0 1 u (events u w)
 part-spill sh o card n u v w a b m none e =
     let one : List Entry = entry_of (DirtyCard card) n ∷ [] in
     let last : events v w ≡ one = events-after v w (DirtyCard card) n e in

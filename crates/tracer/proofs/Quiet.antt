@@ -1,5 +1,5 @@
 -- Takes, and the scan of an object, as parts of a trace.
-use Rattle.std.proofs.Common.{ℕ, ◌≡◌, List, [], ◌∷◌, refl, sym, ap, ◌∙◌, arith, cond, Bool, true, false, not, None, Option, ⊎_elim}
+use Rattle.std.proofs.Common.{ℕ, ◌≡◌, List, [], ◌∷◌, refl, sym, ap, ◌∙◌, cond, Bool, true, false, not, None, Option, ⊎_elim}
 use Rattle.std.specs.Prelude.{◌&&◌, ◌||◌, ◌==◌}
 use Rattle.std.proofs.lemmas.Bool.{and_parts, false≢true, or_cases}
 use Rattle.mark_core.specs.Seats.{is_the, is_unpublished}
@@ -14,8 +14,8 @@ use Rattle.gc_table.specs.declared.view.Entry.{Entry}
 use Rattle.gc_table.specs.declared.view.View.{View}
 use Rattle.gc_table.specs.Taking.{after}
 use Rattle.packet_pools.specs.Keeping.{all_keep, keeps_cells}
-use Rattle.packet_pools.specs.Seeking.{moves_packet, only_moves}
-use Rattle.packet_pools.specs.Counts.{count_of, dirties, only_scans, scans_object, Counts}
+use Rattle.packet_pools.specs.Seeking.{moves_packet, only_moves, output_pools}
+use Rattle.packet_pools.specs.Counts.{count_of, dirties, only_scans, scans_object, CountsMarked}
 use Rattle.packet_pools.proofs.Counting.{counts-moves}
 use Rattle.tracer.specs.Deferral.{waits_on}
 use Rattle.tracer.specs.Parts.{Did, Part}
@@ -34,16 +34,16 @@ did-quiet o l v es c s d =
       steps = calm-traces v es c;
     }
 
-moves-calm : (v : View) (es : List Entry) → only_moves (0 ∷ 1 ∷ 2 ∷ []) es ≡ true → AllCalm v es
+moves-calm : (v : View) (es : List Entry) → only_moves output_pools es ≡ true → AllCalm v es
 moves-calm v [] m = tt
-moves-calm v (e ∷ es) m = let h = and_parts (moves_packet (0 ∷ 1 ∷ 2 ∷ []) e.step) (only_moves (0 ∷ 1 ∷ 2 ∷ []) es) m in (move-calm v.state e.step e.found h.0, moves-calm (after e.step e.found v) es h.1)
+moves-calm v (e ∷ es) m = let h = and_parts (moves_packet output_pools e.step) (only_moves output_pools es) m in (move-calm v.state e.step e.found h.0, moves-calm (after e.step e.found v) es h.1)
 
-moves-still : (v : View) (es : List Entry) → only_moves (0 ∷ 1 ∷ 2 ∷ []) es ≡ true → AllStill v es
+moves-still : (v : View) (es : List Entry) → only_moves output_pools es ≡ true → AllStill v es
 moves-still v [] m = tt
-moves-still v (e ∷ es) m = let h = and_parts (moves_packet (0 ∷ 1 ∷ 2 ∷ []) e.step) (only_moves (0 ∷ 1 ∷ 2 ∷ []) es) m in (λ p b. move-still v.state e.step p b h.0, moves-still (after e.step e.found v) es h.1)
+moves-still v (e ∷ es) m = let h = and_parts (moves_packet output_pools e.step) (only_moves output_pools es) m in (λ p b. move-still v.state e.step p b h.0, moves-still (after e.step e.found v) es h.1)
 
 -- packets were taken, or given back
-pub part-moves : (sh : Shape) (o : Option ℕ) (v : View) (es : List Entry) → only_moves (0 ∷ 1 ∷ 2 ∷ []) es ≡ true → Part sh o o 0 0 0 v es
+pub part-moves : (sh : Shape) (o : Option ℕ) (v : View) (es : List Entry) → only_moves output_pools es ≡ true → Part sh o o 0 0 0 v es
 part-moves sh o v es m = record { did = did-quiet o 0 v es (moves-calm v es m) (moves-still v es m) (counts-moves sh es m).overflowed; cause = (counts-moves sh es m).cause }
 
 -- with no popped cell in hand it is a fresh one that is pushed
@@ -109,5 +109,5 @@ scans-still v (e ∷ es) none k m =
     (λ p b. scan-still v.state e.step p b none a.0 h.0, scans-still (after e.step e.found v) es (scan-none v.shape v.state e.step e.found none h.0) a.1 h.1)
 
 -- an object was scanned
-pub part-scan : (sh : Shape) (o : Option ℕ) (white kept lost : ℕ) (v : View) (es : List Entry) → v.state.popped ≡ None → all_keep v es ≡ true → Counts sh white kept lost es → Part sh o o 0 0 lost v es
+pub part-scan : (sh : Shape) (o : Option ℕ) (white kept lost : ℕ) (v : View) (es : List Entry) → v.state.popped ≡ None → all_keep v es ≡ true → CountsMarked sh white kept lost es → Part sh o o 0 0 lost v es
 part-scan sh o white kept lost v es none k c = record { did = did-quiet o lost v es (scans-calm v es none k c.scans) (scans-still v es none k c.scans) c.overflowed; cause = c.cause }

@@ -4,13 +4,14 @@ use Rattle.std.specs.Prelude.{◌&&◌, ◌||◌, ◌==◌, IsTrue}
 use Rattle.std.proofs.lemmas.Bool.{and_from, and_parts, cases_lt, false≢true, false_from_ne_true, ne_eqb, not_from_false, or_cases, or_left, or_right}
 use Rattle.mark_core.specs.Bits.{has_bit}
 use Rattle.mark_core.proofs.Writing.CellBits.{no-bit}
+use Rattle.mark_core.specs.Numbers.{deferred_pool_number, word_bits}
 use Rattle.mark_core.specs.Seats.{work_in_hand}
 use Rattle.mark_core.specs.declared.seat.SeatState.{SeatState}
 use Rattle.mark_core.specs.declared.kinds.Step.{Step}
 use Rattle.mark_core.specs.declared.kinds.Step.TheVariants.{Credit, Give, Look, ReadLength, StoreLength, Take}
 use Rattle.gc_table.specs.declared.view.Entry.{Entry}
 use Rattle.gc_table.specs.Log.{steps_of}
-use Rattle.packet_pools.specs.Seeking.{gets, gets_from, only_moves, shows_outside, some_event, was_got, was_got_from}
+use Rattle.packet_pools.specs.Seeking.{deferred_pools, gets, gets_from, only_moves, shows_outside, some_event, was_got, was_got_from}
 use Rattle.packet_pools.specs.Counts.{count_of}
 use Rattle.packet_pools.proofs.Counting.{count-join}
 use Rattle.gc_table.proofs.History.Log.{entry_of}
@@ -23,28 +24,28 @@ moved-left : (p : ℕ) (xs ys : List Entry) → was_moved p xs ≡ true → was_
 moved-left p [] ys h = absurd (false≢true h)
 moved-left p (x ∷ xs) ys h =
     ⊎_elim
-    (λ e. let b = and_parts (gets_from 3 p x.step x.found) (some_event (gives_to p) xs) e in or_left _ _ (and_from _ _ b.0 (some-left (gives_to p) xs ys b.1)))
-    (λ e. or_right (gets_from 3 p x.step x.found && some_event (gives_to p) (xs ++ ys)) _ (moved-left p xs ys e))
-    (or_cases (gets_from 3 p x.step x.found && some_event (gives_to p) xs) (was_moved p xs) h)
+    (λ e. let b = and_parts (gets_from deferred_pool_number p x.step x.found) (some_event (gives_to p) xs) e in or_left _ _ (and_from _ _ b.0 (some-left (gives_to p) xs ys b.1)))
+    (λ e. or_right (gets_from deferred_pool_number p x.step x.found && some_event (gives_to p) (xs ++ ys)) _ (moved-left p xs ys e))
+    (or_cases (gets_from deferred_pool_number p x.step x.found && some_event (gives_to p) xs) (was_moved p xs) h)
 
 pub moved-right : (p : ℕ) (xs ys : List Entry) → was_moved p ys ≡ true → was_moved p (xs ++ ys) ≡ true
 moved-right p [] ys h = h
-moved-right p (x ∷ xs) ys h = or_right (gets_from 3 p x.step x.found && some_event (gives_to p) (xs ++ ys)) _ (moved-right p xs ys h)
+moved-right p (x ∷ xs) ys h = or_right (gets_from deferred_pool_number p x.step x.found && some_event (gives_to p) (xs ++ ys)) _ (moved-right p xs ys h)
 
 -- taken before, and given back after
-pub moved-both : (p : ℕ) (xs ys : List Entry) → was_got_from 3 p xs ≡ true → some_event (gives_to p) ys ≡ true → was_moved p (xs ++ ys) ≡ true
+pub moved-both : (p : ℕ) (xs ys : List Entry) → was_got_from deferred_pool_number p xs ≡ true → some_event (gives_to p) ys ≡ true → was_moved p (xs ++ ys) ≡ true
 moved-both p [] ys g h = absurd (false≢true g)
 moved-both p (x ∷ xs) ys g h =
     ⊎_elim
     (λ e. or_left _ _ (and_from _ _ e (some-right (gives_to p) xs ys h)))
-    (λ e. or_right (gets_from 3 p x.step x.found && some_event (gives_to p) (xs ++ ys)) _ (moved-both p xs ys e h))
-    (or_cases (gets_from 3 p x.step x.found) (was_got_from 3 p xs) g)
+    (λ e. or_right (gets_from deferred_pool_number p x.step x.found && some_event (gives_to p) (xs ++ ys)) _ (moved-both p xs ys e h))
+    (or_cases (gets_from deferred_pool_number p x.step x.found) (was_got_from deferred_pool_number p xs) g)
 
 settled-left : (p : ℕ) (xs ys : List Entry) → is_settled p xs ≡ true → is_settled p (xs ++ ys) ≡ true
-settled-left p xs ys h = either-way _ _ _ _ (was-missed-left 3 p xs ys) (moved-left p xs ys) h
+settled-left p xs ys h = either-way _ _ _ _ (was-missed-left deferred_pool_number p xs ys) (moved-left p xs ys) h
 
 pub settled-right : (p : ℕ) (xs ys : List Entry) → was_got p xs ≡ false → is_settled p ys ≡ true → is_settled p (xs ++ ys) ≡ true
-settled-right p xs ys n h = either-way _ _ _ _ (was-missed-right 3 p xs ys n) (moved-right p xs ys) h
+settled-right p xs ys n h = either-way _ _ _ _ (was-missed-right deferred_pool_number p xs ys n) (moved-right p xs ys) h
 
 -- one packet after others
 pub recycles-join : (lo mid hi k l m : ℕ) (xs ys es : List Entry) → es ≡ xs ++ ys → lo ≤ mid → mid ≤ hi → k + l ≡ m → Recycles lo mid k xs → Recycles mid hi l ys → Recycles lo hi m es
@@ -72,22 +73,22 @@ recycles-join lo mid hi k l m xs ys es whole low high kl a b =
           (λ (e : hi ≤ p). let x = a.none p (inr (omega (arith, e, high))) in let y = b.none p (inr e) in omega (arith, x, y))
           o;
       count = ap (count_of gives) whole ∙ (count-join gives xs ys ∙ ((λ i. a.count i + b.count i) ∙ kl));
-      moves = ap (only_moves (3 ∷ [])) whole ∙ moves-join (3 ∷ []) xs ys a.moves b.moves;
+      moves = ap (only_moves deferred_pools) whole ∙ moves-join deferred_pools xs ys a.moves b.moves;
     }
   where
     both : (p : ℕ) → count_of (gives_to p) es ≡ count_of (gives_to p) xs + count_of (gives_to p) ys
     both p = ap (count_of (gives_to p)) whole ∙ count-join (gives_to p) xs ys
 
 -- packet p was seen outside
-pub recycles-outside : (p n : ℕ) (es : List Entry) → es ≡ entry_of (Look 3 (p / 64)) n ∷ [] → has_bit n (p % 64) ≡ false → Recycles p (p + 1) 0 es
+pub recycles-outside : (p n : ℕ) (es : List Entry) → es ≡ entry_of (Look deferred_pool_number (p / word_bits)) n ∷ [] → has_bit n (p % word_bits) ≡ false → Recycles p (p + 1) 0 es
 recycles-outside p n es whole clear =
     subst (Recycles p (p + 1) 0) (sym whole)
     (record {
       all =
           λ x a b.
           let same : p ≡ x = omega (arith, a, b) in
-          subst (λ y. IsTrue (is_settled y (entry_of (Look 3 (p / 64)) n ∷ []))) same
-          (or_left _ _ (or_left _ _ (or_left (shows_outside 3 p (Look 3 (p / 64)) n) _ (and_from _ _ (eq-eqb (p / 64) (p / 64) refl) (not_from_false _ clear)))));
+          subst (λ y. IsTrue (is_settled y (entry_of (Look deferred_pool_number (p / word_bits)) n ∷ []))) same
+          (or_left _ _ (or_left _ _ (or_left (shows_outside deferred_pool_number p (Look deferred_pool_number (p / word_bits)) n) _ (and_from _ _ (eq-eqb (p / word_bits) (p / word_bits) refl) (not_from_false _ clear)))));
       got = λ x g. absurd (false≢true g);
       once = λ x. omega arith;
       none = λ x o. refl;
@@ -96,7 +97,7 @@ recycles-outside p n es whole clear =
     })
 
 -- a look takes and gives none
-pub recycles-look : (lo g n : ℕ) (es : List Entry) → es ≡ entry_of (Look 3 g) n ∷ [] → Recycles lo lo 0 es
+pub recycles-look : (lo g n : ℕ) (es : List Entry) → es ≡ entry_of (Look deferred_pool_number g) n ∷ [] → Recycles lo lo 0 es
 recycles-look lo g n es whole =
     subst (Recycles lo lo 0) (sym whole)
     (record {
@@ -109,15 +110,15 @@ recycles-look lo g n es whole =
     })
 
 -- a word that shows none
-pub recycles-empty : (g hi n : ℕ) (es : List Entry) → hi ≤ 64 * g + 64 → n ≡ 0 → es ≡ entry_of (Look 3 g) n ∷ [] → Recycles (64 * g) hi 0 es
+pub recycles-empty : (g hi n : ℕ) (es : List Entry) → hi ≤ word_bits * g + word_bits → n ≡ 0 → es ≡ entry_of (Look deferred_pool_number g) n ∷ [] → Recycles (word_bits * g) hi 0 es
 recycles-empty g hi n es most nothing whole =
-    subst (Recycles (64 * g) hi 0) (sym whole)
+    subst (Recycles (word_bits * g) hi 0) (sym whole)
     (record {
       all =
           λ x a b.
-          let here : g ≡ x / 64 = omega (arith, a, b, most) in
-          let clear : has_bit n (x % 64) ≡ false = ap (λ w. has_bit w (x % 64)) nothing ∙ no-bit (x % 64) in
-          or_left _ _ (or_left _ _ (or_left (shows_outside 3 x (Look 3 g) n) _ (and_from _ _ (eq-eqb g (x / 64) here) (not_from_false _ clear))));
+          let here : g ≡ x / word_bits = omega (arith, a, b, most) in
+          let clear : has_bit n (x % word_bits) ≡ false = ap (λ w. has_bit w (x % word_bits)) nothing ∙ no-bit (x % word_bits) in
+          or_left _ _ (or_left _ _ (or_left (shows_outside deferred_pool_number x (Look deferred_pool_number g) n) _ (and_from _ _ (eq-eqb g (x / word_bits) here) (not_from_false _ clear))));
       got = λ x h. absurd (false≢true h);
       once = λ x. omega arith;
       none = λ x o. refl;
@@ -144,7 +145,7 @@ all_ask p [] = false
 all_ask p (x ∷ xs) = asks p x || all_ask p xs
 
 got-asks : (p : ℕ) (step : Step) (n : ℕ) → gets p step n ≡ true → asks p step ≡ true
-got-asks p (Take q x) n g = (and_parts (x == p) (has_bit n (p % 64)) g).0
+got-asks p (Take q x) n g = (and_parts (x == p) (has_bit n (p % word_bits)) g).0
 got-asks p step n g = absurd (false≢true g)
 
 was-asked : (p : ℕ) (es : List Entry) → was_got p es ≡ true → all_ask p (steps_of es) ≡ true
@@ -203,7 +204,7 @@ asked-one : (p x : ℕ) → ((p == x) || false) ≡ true → x ≡ p
 asked-one p x h = ⊎_elim (λ e. sym (eqb-true p x e)) (λ e. absurd (false≢true e)) (or_cases (p == x) false h)
 
 -- packet p was looked for, and lost
-module _ (p g : ℕ) (es : List Entry) (steps : steps_of es ≡ Look 3 g ∷ Take 3 p ∷ []) where
+module _ (p g : ℕ) (es : List Entry) (steps : steps_of es ≡ Look deferred_pool_number g ∷ Take deferred_pool_number p ∷ []) where
   lost-got : (x : ℕ) → was_got x es ≡ true → (p ≤ x) × (x < p + 1)
   lost-got x e =
       let is : x ≡ p = asked-one p x (sym (ap (all_ask x) steps) ∙ was-asked x es e) in
@@ -217,12 +218,12 @@ module _ (p g : ℕ) (es : List Entry) (steps : steps_of es ≡ Look 3 g ∷ Tak
         once = λ x. (let z : count_of (gives_to x) es ≡ 0 = count-to x es ∙ ap (count_steps (gives_step x)) steps in omega (arith, z));
         none = λ x o. count-to x es ∙ ap (count_steps (gives_step x)) steps;
         count = count-any es ∙ ap (count_steps gives_any) steps;
-        moves = moves-steps (3 ∷ []) es ∙ ap (all_move (3 ∷ [])) steps;
+        moves = moves-steps deferred_pools es ∙ ap (all_move deferred_pools) steps;
       }
 
 -- it was moved
-module _ (p g : ℕ) (b : Bool) (es : List Entry) (steps : steps_of es ≡ Look 3 g ∷ Take 3 p ∷ ReadLength p ∷ StoreLength p ∷ Give p false ∷ (cond b (Credit ∷ []) [])) where
-  given-asks : (x : ℕ) (d : Bool) → all_ask x (Look 3 g ∷ Take 3 p ∷ ReadLength p ∷ StoreLength p ∷ Give p false ∷ (cond d (Credit ∷ []) [])) ≡ ((p == x) || false)
+module _ (p g : ℕ) (b : Bool) (es : List Entry) (steps : steps_of es ≡ Look deferred_pool_number g ∷ Take deferred_pool_number p ∷ ReadLength p ∷ StoreLength p ∷ Give p false ∷ (cond b (Credit ∷ []) [])) where
+  given-asks : (x : ℕ) (d : Bool) → all_ask x (Look deferred_pool_number g ∷ Take deferred_pool_number p ∷ ReadLength p ∷ StoreLength p ∷ Give p false ∷ (cond d (Credit ∷ []) [])) ≡ ((p == x) || false)
   given-asks x true = refl
   given-asks x false = refl
 
@@ -231,7 +232,7 @@ module _ (p g : ℕ) (b : Bool) (es : List Entry) (steps : steps_of es ≡ Look 
       let is : x ≡ p = asked-one p x (sym (ap (all_ask x) steps ∙ given-asks x b) ∙ was-asked x es e) in
       (omega (arith, is), omega (arith, is))
 
-  counted : (x : ℕ) (c d : Bool) → c ≡ ((p == x) && true) → count_steps (gives_step x) (Look 3 g ∷ Take 3 p ∷ ReadLength p ∷ StoreLength p ∷ Give p false ∷ (cond d (Credit ∷ []) [])) ≡ cond c 1 0
+  counted : (x : ℕ) (c d : Bool) → c ≡ ((p == x) && true) → count_steps (gives_step x) (Look deferred_pool_number g ∷ Take deferred_pool_number p ∷ ReadLength p ∷ StoreLength p ∷ Give p false ∷ (cond d (Credit ∷ []) [])) ≡ cond c 1 0
   counted x true true e = ap (λ (y : Bool). 0 + (0 + (0 + (0 + (cond y 1 0 + (0 + 0)))))) (sym e)
   counted x true false e = ap (λ (y : Bool). 0 + (0 + (0 + (0 + (cond y 1 0 + 0))))) (sym e)
   counted x false true e = ap (λ (y : Bool). 0 + (0 + (0 + (0 + (cond y 1 0 + (0 + 0)))))) (sym e)
@@ -244,11 +245,11 @@ module _ (p g : ℕ) (b : Bool) (es : List Entry) (steps : steps_of es ≡ Look 
   one-most true = omega arith
   one-most false = omega arith
 
-  any-moved : (d : Bool) → count_steps gives_any (Look 3 g ∷ Take 3 p ∷ ReadLength p ∷ StoreLength p ∷ Give p false ∷ (cond d (Credit ∷ []) [])) ≡ 1
+  any-moved : (d : Bool) → count_steps gives_any (Look deferred_pool_number g ∷ Take deferred_pool_number p ∷ ReadLength p ∷ StoreLength p ∷ Give p false ∷ (cond d (Credit ∷ []) [])) ≡ 1
   any-moved true = refl
   any-moved false = refl
 
-  all-moved : (d : Bool) → all_move (3 ∷ []) (Look 3 g ∷ Take 3 p ∷ ReadLength p ∷ StoreLength p ∷ Give p false ∷ (cond d (Credit ∷ []) [])) ≡ true
+  all-moved : (d : Bool) → all_move deferred_pools (Look deferred_pool_number g ∷ Take deferred_pool_number p ∷ ReadLength p ∷ StoreLength p ∷ Give p false ∷ (cond d (Credit ∷ []) [])) ≡ true
   all-moved true = refl
   all-moved false = refl
 
@@ -263,5 +264,5 @@ module _ (p g : ℕ) (b : Bool) (es : List Entry) (steps : steps_of es ≡ Look 
             let apart : p ≢ x = λ e. ⊎_elim (λ (l : x < p). absurd (omega (arith, l, e))) (λ (l : p + 1 ≤ x). absurd (omega (arith, l, e))) o in
             count-moved x ∙ ap (λ (c : Bool). cond (c && true) 1 0) (ne_eqb p x apart);
         count = count-any es ∙ (ap (count_steps gives_any) steps ∙ any-moved b);
-        moves = moves-steps (3 ∷ []) es ∙ (ap (all_move (3 ∷ [])) steps ∙ all-moved b);
+        moves = moves-steps deferred_pools es ∙ (ap (all_move deferred_pools) steps ∙ all-moved b);
       }

@@ -6,6 +6,7 @@ use Rattle.std.proofs.lemmas.Bool.{and_from, and_parts, cases_Bool, eq-eqb, fals
 use Rattle.mark_core.specs.Bits.{cell_named, cell_of}
 use Rattle.mark_core.specs.Effects.{seat_after}
 use Rattle.mark_core.specs.Held.{holds_any}
+use Rattle.mark_core.specs.Numbers.{section_variables}
 use Rattle.mark_core.specs.Seats.{cleaning_left, is_the, scan_left, work_in_hand}
 use Rattle.mark_core.specs.declared.kinds.Shape.{Shape}
 use Rattle.mark_core.specs.declared.kinds.Step.{Step}
@@ -21,9 +22,9 @@ use Rattle.packet_pools.specs.OnlyTraced.{OnlyTraced}
 use Rattle.gc_table.specs.Log.{events}
 use Rattle.packet_pools.specs.Tracing.{traces}
 use Rattle.packet_pools.specs.Scanning.{InHand, Pushes}
-use Rattle.packet_pools.specs.Seeking.{only_moves, some_event}
-use Rattle.packet_pools.specs.Counts.{count_of, Counts, dirties, dirties_after_search, marks_white, only_scans, scans_object}
-use Rattle.packet_pools.specs.Fields.{Asks, cells_asked, picked}
+use Rattle.packet_pools.specs.Seeking.{only_moves, output_pools, some_event}
+use Rattle.packet_pools.specs.Counts.{count_of, CountsMarked, dirties, dirties_after_search, marks_white, only_scans, scans_object}
+use Rattle.packet_pools.specs.Fields.{AsksToMark, cells_asked, picked}
 use Rattle.packet_pools.proofs.Conditions.{may-trace}
 use Rattle.packet_pools.proofs.Counting.{count-join, counts-moves, searched-join}
 use Rattle.packet_pools.proofs.InHand.{known-held}
@@ -32,7 +33,7 @@ use Rattle.packet_pools.proofs.Reading.{asks-moves, fields-next, picked-join}
 use Rattle.packet_pools.proofs.Searches.{some-left}
 use Rattle.packet_pools.proofs.Settled.{settles-left}
 use Rattle.tracer.specs.Hands.{Carries}
-use Rattle.tracer.specs.Roots.{cells_rooted, Follows, only_roots, root_marked, roots_of, roots_read, roots_scanned, scans_roots, shows_marked, shows_root}
+use Rattle.tracer.specs.Roots.{cells_rooted, FollowsRoots, only_roots, root_marked, roots_of, roots_read, roots_scanned, scans_roots, shows_marked, shows_root}
 use Rattle.tracer.proofs.Hand.{free-of, none-of, work-of}
 
 -- a step of the scan of an object reads no root
@@ -53,14 +54,14 @@ unrooted (e ∷ es) m =
     let r = unrooted es h.1 in
     record { read = λ i. k.0 i ++ r.read i; named = λ i. k.1 i ++ r.named i; steps = and_from _ _ k.2 r.steps }
 
-pub roots-moves : (sh : Shape) (es : List Entry) → only_moves (0 ∷ 1 ∷ 2 ∷ []) es ≡ true → Follows sh [] 0 0 es
+pub roots-moves : (sh : Shape) (es : List Entry) → only_moves output_pools es ≡ true → FollowsRoots sh [] 0 0 es
 roots-moves sh es m =
     let c = counts-moves sh es m in
     let u = unrooted es c.scans in
     record { read = u.read; asked = (asks-moves es m).asked ∙ sym u.named; marked = c.marked; dirtied = c.overflowed; cause = c.cause; steps = u.steps }
 
 -- a nil root
-pub root-nil : (sh : Shape) (s v n : ℕ) (es : List Entry) → es ≡ entry_of (ReadRoot s v) n ∷ [] → n ≡ 0 → Follows sh ((s, v) ∷ []) 0 0 es
+pub root-nil : (sh : Shape) (s v n : ℕ) (es : List Entry) → es ≡ entry_of (ReadRoot s v) n ∷ [] → n ≡ 0 → FollowsRoots sh ((s, v) ∷ []) 0 0 es
 root-nil sh s v n es all e =
     record {
       read = ap (picked roots_read) all;
@@ -72,7 +73,7 @@ root-nil sh s v n es all e =
     }
 
 -- a root that refers to a cell, which then is to be marked
-pub root-cell : (sh : Shape) (s v n white kept lost : ℕ) (ys es : List Entry) → es ≡ entry_of (ReadRoot s v) n ∷ ys → (n == 0) ≡ false → Asks (cell_of n ∷ []) ys → Counts sh white kept lost ys → Follows sh ((s, v) ∷ []) white lost es
+pub root-cell : (sh : Shape) (s v n white kept lost : ℕ) (ys es : List Entry) → es ≡ entry_of (ReadRoot s v) n ∷ ys → (n == 0) ≡ false → AsksToMark (cell_of n ∷ []) ys → CountsMarked sh white kept lost ys → FollowsRoots sh ((s, v) ∷ []) white lost es
 root-cell sh s v n white kept lost ys es all e a c =
     let u = unrooted ys c.scans in
     let one : List Entry = entry_of (ReadRoot s v) n ∷ [] in
@@ -92,7 +93,7 @@ roots-append : (xs ys : List Entry) → only_roots xs ≡ true → only_roots ys
 roots-append [] ys a b = b
 roots-append (x ∷ xs) ys a b = let h = and_parts (scans_roots x.step) (only_roots xs) a in and_from _ _ h.0 (roots-append xs ys h.1 b)
 
-pub roots-join : (sh : Shape) (fs gs : List (ℕ × ℕ)) (a b c k l m : ℕ) (xs ys es : List Entry) → es ≡ xs ++ ys → a + b ≡ c → k + l ≡ m → Follows sh fs a k xs → Follows sh gs b l ys → Follows sh (fs ++ gs) c m es
+pub roots-join : (sh : Shape) (fs gs : List (ℕ × ℕ)) (a b c k l m : ℕ) (xs ys es : List Entry) → es ≡ xs ++ ys → a + b ≡ c → k + l ≡ m → FollowsRoots sh fs a k xs → FollowsRoots sh gs b l ys → FollowsRoots sh (fs ++ gs) c m es
 roots-join sh fs gs a b c k l m xs ys es all ab kl f g =
     record {
       read = ap (picked roots_read) all ∙ (picked-join roots_read xs ys ∙ (λ i. f.read i ++ g.read i));
@@ -116,10 +117,10 @@ roots-next section n =
 pub holds-one : (h : Held) (hs : List Held) (v : View) → Carries (h ∷ hs) v → holds_any v.state.held ≡ true
 holds-one h hs v c = any-held v.state.held h.packet (known-held v.state.held h.packet h.length c.held.0)
 
-pub may-read_root : (v : View) (section variable : ℕ) → traces v ≡ true → section < v.shape.sections → variable < 32 → holds_any v.state.held ≡ true → work_in_hand v.shape.fields v.state ≡ false → May (ReadRoot section variable) v
+pub may-read_root : (v : View) (section variable : ℕ) → traces v ≡ true → section < v.shape.sections → variable < section_variables → holds_any v.state.held ≡ true → work_in_hand v.shape.fields v.state ≡ false → May (ReadRoot section variable) v
 may-read_root v section variable t s l h work x i w a = (
   and_from _ _
-      (and_from _ _ (and_from _ _ (lt-ltb section x.core.shape.sections (subst (λ (sh : Shape). section < sh.sections) a.shape s)) (lt-ltb variable 32 l)) (may-trace x i v a t))
+      (and_from _ _ (and_from _ _ (lt-ltb section x.core.shape.sections (subst (λ (sh : Shape). section < sh.sections) a.shape s)) (lt-ltb variable section_variables l)) (may-trace x i v a t))
       h,
   (not_from_false _ (sym (ap (λ (sh : Shape). work_in_hand sh.fields v.state) a.shape) ∙ work), tt),
 )
@@ -198,7 +199,7 @@ asked-marked c (e ∷ es) a = by_step e.step e.found a (asked-marked c es)
 pub nil-seen : (s v n : ℕ) (es : List Entry) → es ≡ entry_of (ReadRoot s v) n ∷ [] → n ≡ 0 → root_marked s v es ≡ true
 nil-seen s v n es all z = ap (root_marked s v) all ∙ or_left _ _ (and_from _ _ (and_from _ _ (eq-eqb s s refl) (eq-eqb v v refl)) (or_left _ _ (eq-eqb n 0 z)))
 
--- so is one whose cell is asked for then
+-- a root is seen to where its cell is asked for afterwards
 pub cell-seen : (s v n : ℕ) (ys es : List Entry) → es ≡ entry_of (ReadRoot s v) n ∷ ys → picked cells_asked ys ≡ cell_of n ∷ [] → root_marked s v es ≡ true
 cell-seen s v n ys es all a =
     ap (root_marked s v) all
@@ -235,5 +236,5 @@ all-in f a zero h = refl
 all-in f a (suc n) h = and_from _ _ (h a (omega arith)) (all-in f (a + 1) n (λ v l. h v (omega (arith, l))))
 
 -- all variables
-pub seen-all : (s n : ℕ) (xs ys es : List Entry) → es ≡ xs ++ ys → n ≡ 32 → ((v : ℕ) → v < n → root_marked s v xs ≡ true) → roots_scanned s es ≡ true
-seen-all s n xs ys es all e h = ap (roots_scanned s) all ∙ all-in (λ v. root_marked s v (xs ++ ys)) 0 32 (λ v l. seen-left s v xs ys (h v (omega (arith, l, e))))
+pub seen-all : (s n : ℕ) (xs ys es : List Entry) → es ≡ xs ++ ys → n ≡ section_variables → ((v : ℕ) → v < n → root_marked s v xs ≡ true) → roots_scanned s es ≡ true
+seen-all s n xs ys es all e h = ap (roots_scanned s) all ∙ all-in (λ v. root_marked s v (xs ++ ys)) 0 section_variables (λ v l. seen-left s v xs ys (h v (omega (arith, l, e))))

@@ -1,5 +1,6 @@
 -- Traces that end for want of work, computed: two packets of four entries, which lie in the low pool with one cell.
 use Rattle.std.specs.Prelude.{◌≡◌, List, [], ◌∷◌, true, false, refl, Some}
+use Rattle.mark_core.specs.Numbers.{deferred_pool_number, empty_pool_number, high_pool_number, low_pool_number}
 use Rattle.mark_core.specs.Start.{start_seat}
 use Rattle.mark_core.specs.declared.kinds.Phase.TheVariants.{Marking}
 use Rattle.mark_core.specs.declared.kinds.Step.TheVariants.{Give, Look, Pop, ReadAlloc, ReadField, ReadLength, StoreLength, Take}
@@ -13,7 +14,7 @@ abbrev marker : Moment
 marker = record { state = record (start_seat roomy 1) { counted = true; active = true; phase_seen = Some Marking }; deferring = [] }
 
 -- both pools show no packet
-none_there : at_some_moment roomy (finds_no_work roomy) marker (event (Look 2 0) 0 ∷ event (Look 1 0) 0 ∷ []) ≡ true
+none_there : at_some_moment roomy (finds_no_work roomy) marker (event (Look high_pool_number 0) 0 ∷ event (Look low_pool_number 0) 0 ∷ []) ≡ true
 none_there = refl
 
 -- nothing was done
@@ -21,36 +22,36 @@ nothing_done : at_some_moment roomy (finds_no_work roomy) marker [] ≡ false
 nothing_done = refl
 
 -- a packet lies in the low pool
-one_ready : at_some_moment roomy (finds_no_work roomy) marker (event (Look 2 0) 0 ∷ event (Look 1 0) 1 ∷ []) ≡ false
+one_ready : at_some_moment roomy (finds_no_work roomy) marker (event (Look high_pool_number 0) 0 ∷ event (Look low_pool_number 0) 1 ∷ []) ≡ false
 one_ready = refl
 
 -- both packets lie in the low pool, and are to be taken out of the high one
-taken_from_another : at_some_moment roomy (finds_no_work roomy) marker (event (Look 2 0) 0 ∷ event (Look 1 0) 3 ∷ event (Take 2 0) 0 ∷ event (Take 2 1) 0 ∷ []) ≡ false
+taken_from_another : at_some_moment roomy (finds_no_work roomy) marker (event (Look high_pool_number 0) 0 ∷ event (Look low_pool_number 0) 3 ∷ event (Take high_pool_number 0) 0 ∷ event (Take high_pool_number 1) 0 ∷ []) ≡ false
 taken_from_another = refl
 
 -- so too, out of the deferred pool
-taken_unseen : at_some_moment roomy (finds_no_work roomy) marker (event (Take 3 0) 0 ∷ event (Take 3 1) 0 ∷ []) ≡ false
+taken_unseen : at_some_moment roomy (finds_no_work roomy) marker (event (Take deferred_pool_number 0) 0 ∷ event (Take deferred_pool_number 1) 0 ∷ []) ≡ false
 taken_unseen = refl
 
 -- packet 0 was taken and given back
 abbrev taken_and_given : List Entry
-taken_and_given = event (Look 2 0) 0 ∷ event (Look 1 0) 1 ∷ event (Take 1 0) 1 ∷ event (ReadLength 0) 1 ∷ event (StoreLength 0) 1 ∷ event (Give 0 false) 0 ∷ []
+taken_and_given = event (Look high_pool_number 0) 0 ∷ event (Look low_pool_number 0) 1 ∷ event (Take low_pool_number 0) 1 ∷ event (ReadLength 0) 1 ∷ event (StoreLength 0) 1 ∷ event (Give 0 false) 0 ∷ []
 
 gave_back : at_some_moment roomy (finds_no_work roomy) marker taken_and_given ≡ false
 gave_back = refl
 
 -- a cell was traced, and then no packet had another
-traced : at_some_moment roomy (finds_no_work roomy) marker (event (Look 2 0) 0 ∷ event (Look 1 0) 1 ∷ event (Take 1 0) 1 ∷ event (ReadLength 0) 1 ∷ event (Pop 0) 6 ∷ event (ReadAlloc 0) 32 ∷ event (ReadField 5 0) 0 ∷ event (Look 2 0) 0 ∷ event (Look 1 0) 0 ∷ []) ≡ true
+traced : at_some_moment roomy (finds_no_work roomy) marker (event (Look high_pool_number 0) 0 ∷ event (Look low_pool_number 0) 1 ∷ event (Take low_pool_number 0) 1 ∷ event (ReadLength 0) 1 ∷ event (Pop 0) 6 ∷ event (ReadAlloc 0) 32 ∷ event (ReadField 5 0) 0 ∷ event (Look high_pool_number 0) 0 ∷ event (Look low_pool_number 0) 0 ∷ []) ≡ true
 traced = refl
 
 -- it was popped and its field not read
-scan_left : at_some_moment roomy (finds_no_work roomy) marker (event (Look 2 0) 0 ∷ event (Look 1 0) 1 ∷ event (Take 1 0) 1 ∷ event (ReadLength 0) 1 ∷ event (Pop 0) 6 ∷ event (ReadAlloc 0) 32 ∷ event (Look 2 0) 0 ∷ event (Look 1 0) 0 ∷ []) ≡ false
+scan_left : at_some_moment roomy (finds_no_work roomy) marker (event (Look high_pool_number 0) 0 ∷ event (Look low_pool_number 0) 1 ∷ event (Take low_pool_number 0) 1 ∷ event (ReadLength 0) 1 ∷ event (Pop 0) 6 ∷ event (ReadAlloc 0) 32 ∷ event (Look high_pool_number 0) 0 ∷ event (Look low_pool_number 0) 0 ∷ []) ≡ false
 scan_left = refl
 
 -- no packet could be had
-no_packet : finds_no_packet roomy marker (event (Look 0 0) 0 ∷ event (Look 1 0) 0 ∷ event (Look 2 0) 0 ∷ event (Look 2 0) 0 ∷ event (Look 1 0) 0 ∷ []) ≡ true
+no_packet : finds_no_packet roomy marker (event (Look empty_pool_number 0) 0 ∷ event (Look low_pool_number 0) 0 ∷ event (Look high_pool_number 0) 0 ∷ event (Look high_pool_number 0) 0 ∷ event (Look low_pool_number 0) 0 ∷ []) ≡ true
 no_packet = refl
 
 -- one lies in the low pool, and is to be taken out of the others
-packet_passed_by : finds_no_packet roomy marker (event (Look 0 0) 0 ∷ event (Take 0 0) 0 ∷ event (Look 1 0) 1 ∷ event (Look 2 0) 0 ∷ event (Take 2 0) 0 ∷ []) ≡ false
+packet_passed_by : finds_no_packet roomy marker (event (Look empty_pool_number 0) 0 ∷ event (Take empty_pool_number 0) 0 ∷ event (Look low_pool_number 0) 1 ∷ event (Look high_pool_number 0) 0 ∷ event (Take high_pool_number 0) 0 ∷ []) ≡ false
 packet_passed_by = refl

@@ -1,5 +1,5 @@
 -- A whole trace, from its parts.
-use Rattle.std.proofs.Common.{ℕ, ◌≡◌, ◌<◌, ◌+◌, List, [], ◌∷◌, ◌++◌, refl, sym, ap, ◌∙◌, subst, cond, Bool, true, false, Some, None, Option, eq-eqb, append_assoc}
+use Rattle.std.proofs.Common.{ℕ, ◌≡◌, ◌+◌, List, [], ◌∷◌, ◌++◌, refl, sym, ap, ◌∙◌, subst, cond, Bool, true, false, Some, None, Option, eq-eqb, append_assoc}
 use Rattle.std.specs.Prelude.{◌==◌, ◌||◌}
 use Rattle.std.specs.List.{list_all, list_any, AllPairs}
 use Rattle.std.proofs.Math.Logic.{∥∥₁_elim}
@@ -23,17 +23,17 @@ use Rattle.packet_pools.specs.Keeping.{all_keep, keeps_cells}
 use Rattle.packet_pools.specs.OnlyTraced.{OnlyTraced}
 use Rattle.gc_table.specs.Log.{events}
 use Rattle.packet_pools.specs.Tracing.{Traces}
-use Rattle.packet_pools.specs.Seeking.{NoInput, only_moves}
+use Rattle.packet_pools.specs.Seeking.{NoInput, input_pools, only_moves}
 use Rattle.packet_pools.specs.Counts.{count_of, dirties, dirties_after_search}
 use Rattle.gc_table.proofs.History.Log.{events-join, grows-join}
 use Rattle.gc_table.proofs.Running.{after-join}
 use Rattle.tracer.specs.declared.packets.Packets.{Packets}
-use Rattle.tracer.specs.Hands.{Carries, in_front, IsEmpty, IsIdle, KeepsRecord, no_packets, packet_of, packets_of}
+use Rattle.tracer.specs.Hands.{Carries, in_front, HasNoCell, IsIdle, KeepsRecord, no_packets, packet_of, packets_of}
 use Rattle.tracer.specs.Deferral.{Defers, waits}
 use Rattle.tracer.specs.Tally.{count_by, only_traces, spills, Tally, is_trace_step}
 use Rattle.tracer.specs.Causes.{FoundNoWork}
 use Rattle.tracer.specs.Moments.{Moment, at_some_moment, begins, finds_no_work, is_spent_slot}
-use Rattle.tracer.specs.Parts.{Ended, Part}
+use Rattle.tracer.specs.Parts.{SearchedInVain, Part}
 use Rattle.tracer.proofs.Carried.{AllAre, held-is}
 use Rattle.tracer.proofs.Hand.{free-of, none-of}
 use Rattle.tracer.proofs.Histories.{waits-join}
@@ -122,7 +122,7 @@ none-held : (ps : List ℕ) (hs : Slots) → hs ≡ no_packets → list_all (is_
 none-held ps hs e = ap (list_all (is_spent_slot ps)) e
 
 -- nothing was found at the start
-pub found-none : (sh : Shape) (v w : View) → v.shape ≡ sh → IsIdle v → NoInput sh (events v w) → only_moves (2 ∷ 1 ∷ []) (events v w) ≡ true → FoundNoWork v w
+pub found-none : (sh : Shape) (v w : View) → v.shape ≡ sh → IsIdle v → NoInput sh (events v w) → only_moves input_pools (events v w) ≡ true → FoundNoWork v w
 found-none sh v w shape a none moves =
     ap (at_some_moment v.shape (finds_no_work v.shape) (begins v)) (append-none (events v w))
     ∙ at-moment v.shape (finds_no_work v.shape) (begins v) [] (events v w ++ [])
@@ -138,7 +138,7 @@ abbrev is_spent : List ℕ → ℕ → ℕ → Type 0
 is_spent ps p n = ((n == 0) || list_any (λ x. x == p) ps) ≡ true
 
 -- each packet in hand is
-hand-left : (x : Packets) (ps : List ℕ) → x.input.length ≡ 0 → IsEmpty x.output → ((p : ℕ) → is_the (packet_of x.deferred) p ≡ true → list_any (λ y. y == p) ps ≡ true) → AllAre (is_spent ps) (packets_of x)
+hand-left : (x : Packets) (ps : List ℕ) → x.input.length ≡ 0 → HasNoCell x.output → ((p : ℕ) → is_the (packet_of x.deferred) p ≡ true → list_any (λ y. y == p) ps ≡ true) → AllAre (is_spent ps) (packets_of x)
 hand-left x ps i o w = (empty x.input i, first x.output x.deferred o w)
   where
     empty : (h : Held) → h.length ≡ 0 → is_spent ps h.packet h.length
@@ -148,7 +148,7 @@ hand-left x ps i o w = (empty x.input i, first x.output x.deferred o w)
     second None w = tt
     second (Some h) w = (or_right _ _ (w h.packet (eq-eqb h.packet h.packet refl)), tt)
 
-    first : (o d : Option Held) → IsEmpty o → ((p : ℕ) → is_the (packet_of d) p ≡ true → list_any (λ y. y == p) ps ≡ true) → AllAre (is_spent ps) (in_front o (in_front d []))
+    first : (o d : Option Held) → HasNoCell o → ((p : ℕ) → is_the (packet_of d) p ≡ true → list_any (λ y. y == p) ps ≡ true) → AllAre (is_spent ps) (in_front o (in_front d []))
     first None d e w = second d w
     first (Some k) d e w = (empty k e, second d w)
 
@@ -156,7 +156,7 @@ held-apart : (v : View) → ∥ IsPossible v ∥₁ → AllPairs IsApart v.state
 held-apart v q i j d k l = ∥∥₁_elim q (Prim.hlevel props) (λ (p : IsPossible v). (p.whole.core.formed.seats p.index v.state p.agrees.seat).held.apart i j d k l)
 
 -- a trace that begins, goes on until nothing is found, and gives its packets back
-module _ (sh : Shape) (x : Packets) (o : Option ℕ) (d f l : ℕ) (u v w y : View) (shape : u.shape ≡ sh) (a : OnlyTraced u v) (b : OnlyTraced v w) (c : OnlyTraced w y) (first : Part sh None None 0 0 0 u (events u v)) (main : Part sh None (packet_of x.deferred) d f l v (events v w)) (e : Ended sh x v w) (k : Carries (packets_of x) w) (possible : ∥ IsPossible w ∥₁) (work : work_in_hand u.shape.fields w.state ≡ false) where
+module _ (sh : Shape) (x : Packets) (o : Option ℕ) (d f l : ℕ) (u v w y : View) (shape : u.shape ≡ sh) (a : OnlyTraced u v) (b : OnlyTraced v w) (c : OnlyTraced w y) (first : Part sh None None 0 0 0 u (events u v)) (main : Part sh None (packet_of x.deferred) d f l v (events v w)) (e : SearchedInVain sh x v w) (k : Carries (packets_of x) w) (possible : ∥ IsPossible w ∥₁) (work : work_in_hand u.shape.fields w.state ≡ false) where
   abbrev earlier : List Entry
   earlier = events u v ++ e.before
 

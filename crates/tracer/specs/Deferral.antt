@@ -32,12 +32,13 @@ abbrev pub pops_from : ℕ → Step → Bool
 pops_from p (Pop q) = q == p
 pops_from p step = false
 
--- one was taken out while a popped cell waited there
+-- a cell was taken out of packet p while a popped cell waited there
 abbrev pub pops_waiting : ℕ → View → List Entry → Bool → Bool
 pops_waiting p v [] b = false
 pops_waiting p v (e ∷ es) b = (b && pops_from p e.step) || pops_waiting p (after e.step e.found v) es (waits_on p v.state e.step b)
 
--- a packet into which the call deferred a cell was given to the deferred pool before a cell was taken out of it again; and no packet was taken out of the deferred pool
+-- a packet into which the call deferred a cell was given to the deferred pool before a cell was taken out of it again; and no packet was taken out of the
+-- deferred pool
 pub record Defers (v w : View) : Type 0 where
   pub given : (p : ℕ) → IsFalse (waits p v (events v w) false)
   pub kept : (p : ℕ) → IsFalse (pops_waiting p v (events v w) false)

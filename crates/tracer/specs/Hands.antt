@@ -23,7 +23,7 @@ abbrev pub AreHeld : List Held → Slots → Type 0
 AreHeld [] slots = slots ≡ no_packets
 AreHeld (h ∷ hs) slots = (known_length slots h.packet ≡ Some h.length) × AreHeld hs (drop_packet slots h.packet)
 
--- they are packets of the heap
+-- each of these is a packet of the heap, with as many cells as a packet has room for, or fewer
 abbrev pub AllFit : Shape → List Held → Type 0
 AllFit sh [] = Unit {0}
 AllFit sh (h ∷ hs) = (h.packet < sh.packets) × (h.length ≤ sh.entries) × AllFit sh hs
@@ -48,15 +48,15 @@ abbrev pub packet_of : Option Held → Option ℕ
 packet_of None = None
 packet_of (Some h) = Some h.packet
 
--- it has a cell, and room for another
-abbrev pub HasRoom : Shape → Option Held → Type 0
-HasRoom sh None = Unit {0}
-HasRoom sh (Some h) = (0 < h.length) × (h.length < sh.entries)
+-- the packet, where there is one, has a cell and room for another
+abbrev pub HasCellAndRoom : Shape → Option Held → Type 0
+HasCellAndRoom sh None = Unit {0}
+HasCellAndRoom sh (Some h) = (0 < h.length) × (h.length < sh.entries)
 
--- it has no cell
-abbrev pub IsEmpty : Option Held → Type 0
-IsEmpty None = Unit {0}
-IsEmpty (Some h) = h.length ≡ 0
+-- the packet, where there is one, has no cell
+abbrev pub HasNoCell : Option Held → Type 0
+HasNoCell None = Unit {0}
+HasNoCell (Some h) = h.length ≡ 0
 
 -- but for the object in scan, the cleaning and the card that is owed, the record is as it was; no card is owed where none was
 pub record KeepsRecord (v w : View) : Type 0 where

@@ -1,5 +1,5 @@
 -- What some of a trace's events did, and what is in hand between two steps.
-use Rattle.std.specs.Prelude.{ℕ, ◌≡◌, List, [], ◌∷◌, ◌++◌, Bool, Option, Some, None, IsTrue, IsFalse}
+use Rattle.std.specs.Prelude.{ℕ, ◌≡◌, List, ◌++◌, Bool, Option, Some, None, IsTrue, IsFalse}
 use Rattle.mark_core.specs.Numbers.{deferred_pool_number}
 use Rattle.mark_core.specs.Seats.{is_the, work_in_hand}
 use Rattle.mark_core.specs.declared.kinds.Shape.{Shape}
@@ -10,7 +10,7 @@ use Rattle.packet_pools.specs.Counts.{count_of, dirties, dirties_after_search}
 use Rattle.gc_table.specs.Log.{events}
 use Rattle.gc_table.specs.Running.{after_all}
 use Rattle.tracer.specs.declared.packets.Packets.{Packets}
-use Rattle.tracer.specs.Hands.{IsEmpty}
+use Rattle.tracer.specs.Hands.{HasNoCell}
 use Rattle.tracer.specs.Deferral.{waits, pops_waiting, defers}
 use Rattle.tracer.specs.Tally.{pops, count_by, only_traces}
 
@@ -46,10 +46,10 @@ pub record NothingTaken (sh : Shape) (x y : Packets) (v w : View) : Type 0 where
 pub record NothingFound (sh : Shape) (x y : Packets) (v w : View) : Type 0 where
   pub taken : NothingTaken sh x y v w
   pub input : x.input.length ≡ 0
-  pub output : IsEmpty x.output
+  pub output : HasNoCell x.output
 
 -- the seat searched in vain at the end, while neither the input nor the output had a cell
-pub record Ended (sh : Shape) (x : Packets) (v w : View) : Type 0 where
+pub record SearchedInVain (sh : Shape) (x : Packets) (v w : View) : Type 0 where
   pub before : List Entry
   pub search : List Entry
   pub all : events v w ≡ before ++ search
@@ -58,4 +58,4 @@ pub record Ended (sh : Shape) (x : Packets) (v w : View) : Type 0 where
   pub state : (after_all before v).state ≡ w.state
   pub still : (o : Option ℕ) (p : ℕ) → waits p (after_all before v) search (is_the o p) ≡ is_the o p
   pub input : x.input.length ≡ 0
-  pub output : IsEmpty x.output
+  pub output : HasNoCell x.output

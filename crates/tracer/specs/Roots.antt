@@ -2,6 +2,8 @@
 use Rattle.std.specs.Prelude.{ℕ, ◌≡◌, ◌≤◌, ◌/◌, ◌%◌, ◌==◌, ◌&&◌, ◌||◌, if◌then◌else◌, List, [], ◌∷◌, map, Bool, true, false, IsTrue}
 use Rattle.std.specs.List.{list_all, range_with_len}
 use Rattle.mark_core.specs.Bits.{cell_of, has_bit}
+use Rattle.mark_core.specs.Cards.{block_cells}
+use Rattle.mark_core.specs.Numbers.{section_variables}
 use Rattle.mark_core.specs.declared.kinds.Shape.{Shape}
 use Rattle.mark_core.specs.declared.kinds.Step.{Step}
 use Rattle.mark_core.specs.declared.kinds.Step.TheVariants.{ReadMarks, ReadRoot, SetMark}
@@ -35,8 +37,9 @@ abbrev pub only_roots : List Entry → Bool
 only_roots [] = true
 only_roots (e ∷ es) = scans_roots e.step && only_roots es
 
--- these roots were read, and each cell that they name was to be marked, in order: so many were white, and so many of these are left to their cards, each right after a search that found no packet with room
-pub record Follows (sh : Shape) (roots : List (ℕ × ℕ)) (white lost : ℕ) (es : List Entry) : Type 0 where
+-- these roots were read, and each cell that they name was to be marked, in order: so many were white, and so many of these are left to their cards, each right
+-- after a search that found no packet with room
+pub record FollowsRoots (sh : Shape) (roots : List (ℕ × ℕ)) (white lost : ℕ) (es : List Entry) : Type 0 where
   pub read : picked roots_read es ≡ roots
   pub asked : picked cells_asked es ≡ picked cells_rooted es
   pub marked : count_of marks_white es ≡ white
@@ -50,13 +53,13 @@ roots_of section n = map (λ v. (section, v)) (range_with_len 0 n)
 
 -- what the answer says
 abbrev pub RootsScanned : ℕ → RootScan → View → View → Type 0
-RootsScanned section (Done marked) v w = (lost : ℕ) × (lost ≤ marked) × Follows v.shape (roots_of section 32) marked lost (events v w)
+RootsScanned section (Done marked) v w = (lost : ℕ) × (lost ≤ marked) × FollowsRoots v.shape (roots_of section section_variables) marked lost (events v w)
 RootsScanned section NoPacket v w = FoundNoPacket v w
 
 -- the cell was marked, or seen marked
 abbrev pub shows_marked : ℕ → Step → ℕ → Bool
 shows_marked c (SetMark cell) found = cell == c
-shows_marked c (ReadMarks b) found = (b == c / 64) && has_bit found (c % 64)
+shows_marked c (ReadMarks b) found = (b == c / block_cells) && has_bit found (c % block_cells)
 shows_marked c step found = false
 
 -- the event read this variable as nil, or as a cell that these later events show marked
@@ -69,9 +72,9 @@ abbrev pub root_marked : ℕ → ℕ → List Entry → Bool
 root_marked section v [] = false
 root_marked section v (e ∷ es) = shows_root section v e.step e.found es || root_marked section v es
 
--- so it is of all variables of the section
+-- each variable of the section was read as nil, or as a cell that was then seen marked
 abbrev pub roots_scanned : ℕ → List Entry → Bool
-roots_scanned section es = list_all (λ v. root_marked section v es) (range_with_len 0 32)
+roots_scanned section es = list_all (λ v. root_marked section v es) (range_with_len 0 section_variables)
 
 -- where the scan was done, each variable was seen to
 abbrev pub SeesRoots : ℕ → RootScan → List Entry → Type 0

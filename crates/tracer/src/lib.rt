@@ -20,8 +20,8 @@
 //! # Packets
 //!
 //! A tracer pops out of one packet and pushes into another, so that the input becomes empty while the output fills, and both go to the pools where
-//! others look for them. An output with cells becomes the input before the pools are searched. Where no second packet is to be had, the seat pushes into the
-//! packet it pops from, which has room after each pop: so two packets suffice for a heap of any size, and a trace never ends because a packet lacks.
+//! others look for them. An output with cells becomes the input before the pools are searched. Where no second packet can be had, the seat pushes into the
+//! packet it pops from, which has room after each pop: so two packets suffice for a heap of any size, and a trace never ends for lack of a packet.
 //!
 //! # Why it ends, and what an answer says
 //!
@@ -30,10 +30,10 @@
 //! the pools in each of which each packet was seen elsewhere or lost to another seat (`specs/Moments.antt`, `specs/Causes.antt`). It doesn't say that no
 //! packet had a cell at any one moment: others may give packets back meanwhile. That tracing is done is told by `all_empty` of `packet_pools`.
 //!
-//! Counts are counts of events (`specs/Tally.antt`), and a packet with deferred cells is given to the deferred pool before a cell is popped out of that packet again
-//! (`specs/Deferral.antt`). Each call leaves the record as it was, but for the object in scan and the card that is being cleaned.
+//! Counts are counts of events (`specs/Tally.antt`), and a packet with deferred cells is given to the deferred pool before a cell is popped out of that packet
+//! again (`specs/Deferral.antt`). Each call leaves the record as it was, but for the object in scan and the card that is being cleaned.
 //!
-//! # Where what is
+//! # Where things are
 //!
 //! `tracing` has the loop, `finding` the next cell, `deferring` defers cells, `packets` has the packets of a tracer, `recycling` moves deferred packets back,
 //! `roots` scans a section's variables, and `traced` has the answers.

@@ -1,5 +1,6 @@
 //! Deferred cells are traced again.
 ghost use Rattle.std.specs.Prelude.{◌≡◌, ◌<◌, ◌≤◌, ◌+◌, ◌*◌, ◌/◌, if◌then◌else◌};
+ghost use Rattle.mark_core.specs.Numbers.{word_bits};
 ghost use Rattle.gc_table.specs.Seats.{Across, did, state_of, view_of};
 ghost use Rattle.packet_pools.specs.OnlyTraced.{OnlyTraced};
 ghost use Rattle.packet_pools.specs.Tracing.{IsTracer};
@@ -7,7 +8,7 @@ ghost use Rattle.tracer.specs.Hands.{IsIdle};
 ghost use Rattle.tracer.specs.Recycling.{Recycled, Recycles};
 
 use gc_table::{Heap, HeapSeat};
-use mark_core::{DEFERRED_POOL, has_bit};
+use mark_core::{DEFERRED_POOL, WORD_BITS, has_bit};
 use packet_pools::{give, take_deferred_at};
 
 /// Moves packet p from the deferred pool to that of its length, where it is there. True where it was moved.
@@ -16,12 +17,12 @@ fn recycle(heap: &Heap, seat: &mut HeapSeat, p: u32) -> bool
     requires idle { IsIdle (view_of seat.old) }
     requires packet { p < heap.now.shape.packets }
     ensures seat { IsTracer heap.now seat.new }
-    ensures later { Across OnlyTraced seat.old seat.new }
+    ensures only { Across OnlyTraced seat.old seat.new }
     ensures state { state_of seat.new ≡ state_of seat.old }
     ensures recycles { Recycles p (p + 1) (if result then 1 else 0) (did seat.old seat.new) }
 {
-    let word = heap.look(seat, DEFERRED_POOL, p / 64);
-    if !has_bit(word, p % 64) {
+    let word = heap.look(seat, DEFERRED_POOL, p / WORD_BITS);
+    if !has_bit(word, p % WORD_BITS) {
         return false;
     }
     let Some(held) = take_deferred_at(heap, seat, p) else {
@@ -37,7 +38,7 @@ fn recycle_between(heap: &Heap, seat: &mut HeapSeat, first: u32, end: u32) -> u3
     requires idle { IsIdle (view_of seat.old) }
     requires packets { (first ≤ end) × (end ≤ heap.now.shape.packets) }
     ensures seat { IsTracer heap.now seat.new }
-    ensures later { Across OnlyTraced seat.old seat.new }
+    ensures only { Across OnlyTraced seat.old seat.new }
     ensures state { state_of seat.new ≡ state_of seat.old }
     ensures most { result + first ≤ end }
     ensures recycles { Recycles first end result (did seat.old seat.new) }
@@ -53,17 +54,17 @@ fn recycle_between(heap: &Heap, seat: &mut HeapSeat, first: u32, end: u32) -> u3
 fn recycle_in_word(heap: &Heap, seat: &mut HeapSeat, g: u32, end: u32) -> u32
     requires seat { IsTracer heap.now seat.old }
     requires idle { IsIdle (view_of seat.old) }
-    requires packets { (64 * g < end) × (end ≤ 64 * g + 64) × (end ≤ heap.now.shape.packets) }
+    requires packets { (word_bits * g < end) × (end ≤ word_bits * g + word_bits) × (end ≤ heap.now.shape.packets) }
     ensures seat { IsTracer heap.now seat.new }
-    ensures later { Across OnlyTraced seat.old seat.new }
+    ensures only { Across OnlyTraced seat.old seat.new }
     ensures state { state_of seat.new ≡ state_of seat.old }
-    ensures most { result + 64 * g ≤ end }
-    ensures recycles { Recycles (64 * g) end result (did seat.old seat.new) }
+    ensures most { result + word_bits * g ≤ end }
+    ensures recycles { Recycles (word_bits * g) end result (did seat.old seat.new) }
 {
     if heap.look(seat, DEFERRED_POOL, g) == 0 {
         return 0;
     }
-    recycle_between(heap, seat, 64 * g, end)
+    recycle_between(heap, seat, WORD_BITS * g, end)
 }
 
 /// Moves the packets of all words of the deferred pool that stand for 64 packets each: how many it moved.
@@ -71,14 +72,14 @@ fn recycle_words(heap: &Heap, seat: &mut HeapSeat) -> u32
     requires seat { IsTracer heap.now seat.old }
     requires idle { IsIdle (view_of seat.old) }
     ensures seat { IsTracer heap.now seat.new }
-    ensures later { Across OnlyTraced seat.old seat.new }
+    ensures only { Across OnlyTraced seat.old seat.new }
     ensures state { state_of seat.new ≡ state_of seat.old }
-    ensures most { result ≤ 64 * (heap.now.shape.packets / 64) }
-    ensures recycles { Recycles 0 (64 * (heap.now.shape.packets / 64)) result (did seat.old seat.new) }
+    ensures most { result ≤ word_bits * (heap.now.shape.packets / word_bits) }
+    ensures recycles { Recycles 0 (word_bits * (heap.now.shape.packets / word_bits)) result (did seat.old seat.new) }
 {
     let mut moved = 0;
-    for g in 0..heap.shape().packets / 64 {
-        moved += recycle_in_word(heap, seat, g, 64 * g + 64);
+    for g in 0..heap.shape().packets / WORD_BITS {
+        moved += recycle_in_word(heap, seat, g, WORD_BITS * g + WORD_BITS);
     }
     moved
 }
@@ -90,14 +91,14 @@ pub fn recycle_deferred(heap: &Heap, seat: &mut HeapSeat) -> u32
     requires seat { IsTracer heap.now seat.old }
     requires idle { IsIdle (view_of seat.old) }
     ensures seat { IsTracer heap.now seat.new }
-    ensures later { Across OnlyTraced seat.old seat.new }
+    ensures only { Across OnlyTraced seat.old seat.new }
     ensures state { state_of seat.new ≡ state_of seat.old }
     ensures recycled { Recycled heap.now.shape result (did seat.old seat.new) }
 {
     let moved = recycle_words(heap, seat);
     let packets = heap.shape().packets;
-    if packets % 64 == 0 {
+    if packets % WORD_BITS == 0 {
         return moved;
     }
-    moved + recycle_in_word(heap, seat, packets / 64, packets)
+    moved + recycle_in_word(heap, seat, packets / WORD_BITS, packets)
 }

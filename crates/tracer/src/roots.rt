@@ -1,5 +1,6 @@
 //! The roots of a section are scanned.
-ghost use Rattle.std.specs.Prelude.{ℕ, ◌≡◌, ◌<◌, ◌≤◌, [], ◌∷◌, Some, None, IsTrue, IsFalse, IfSome, IfNone};
+ghost use Rattle.std.specs.Prelude.{◌≡◌, ◌<◌, ◌≤◌, [], ◌∷◌, Some, None, IsTrue, IsFalse, IfSome, IfNone};
+ghost use Rattle.mark_core.specs.Numbers.{section_variables};
 ghost use Rattle.mark_core.specs.Seats.{work_in_hand};
 ghost use Rattle.gc_table.specs.Seats.{Across, did, state_of, view_of};
 ghost use Rattle.packet_pools.specs.OnlyTraced.{OnlyTraced};
@@ -7,22 +8,19 @@ ghost use Rattle.packet_pools.specs.Seeking.{only_moves, output_pools};
 ghost use Rattle.packet_pools.specs.Tracing.{IsTracer};
 ghost use Rattle.tracer.specs.Causes.{FoundNoPacket};
 ghost use Rattle.tracer.specs.Hands.{Carries, IsIdle, KeepsRecord};
-ghost use Rattle.tracer.specs.Roots.{Follows, RootsScanned, SeesRoots, root_marked};
+ghost use Rattle.tracer.specs.Roots.{FollowsRoots, RootsScanned, SeesRoots, root_marked};
 
 use crate::traced::RootScan;
 use gc_table::{Heap, HeapSeat};
-use mark_core::cell_of;
+use mark_core::{VARIABLES, cell_of};
 use packet_pools::{Held, Scanned, give, mark_cell, take_input, take_output};
-
-/// How many variables a section has.
-const VARIABLES: u8 = 32;
 
 /// Takes a packet to put cells in, or else any with cells.
 fn take_either(heap: &Heap, seat: &mut HeapSeat) -> Option<Held>
     requires seat { IsTracer heap.now seat.old }
     requires idle { IsIdle (view_of seat.old) }
     ensures seat { IsTracer heap.now seat.new }
-    ensures later { Across OnlyTraced seat.old seat.new }
+    ensures only { Across OnlyTraced seat.old seat.new }
     ensures work { IsFalse (work_in_hand heap.now.shape.fields (state_of seat.new)) }
     ensures moves { IsTrue (only_moves output_pools (did seat.old seat.new)) }
     ensures some { IfSome result (λ h. Carries (h ∷ []) (view_of seat.new)) }
@@ -45,13 +43,13 @@ fn scan_root(
     requires seat { IsTracer heap.now seat.old }
     requires out { Carries (out.old ∷ []) (view_of seat.old) }
     requires work { IsFalse (work_in_hand heap.now.shape.fields (state_of seat.old)) }
-    requires root { (section < heap.now.shape.sections) × (variable < 32) }
+    requires root { (section < heap.now.shape.sections) × (variable < section_variables) }
     ensures seat { IsTracer heap.now seat.new }
-    ensures later { Across OnlyTraced seat.old seat.new }
+    ensures only { Across OnlyTraced seat.old seat.new }
     ensures out { Carries (out.new ∷ []) (view_of seat.new) }
     ensures work { IsFalse (work_in_hand heap.now.shape.fields (state_of seat.new)) }
     ensures most { (result.overflowed ≤ result.marked) × (result.marked ≤ 1) }
-    ensures follows { Follows heap.now.shape ((section, variable) ∷ []) result.marked result.overflowed (did seat.old seat.new) }
+    ensures follows { FollowsRoots heap.now.shape ((section, variable) ∷ []) result.marked result.overflowed (did seat.old seat.new) }
     ensures seen { IsTrue (root_marked section variable (did seat.old seat.new)) }
 {
     let word = heap.read_root(seat, section, variable);
@@ -74,7 +72,7 @@ pub fn scan_roots(heap: &Heap, seat: &mut HeapSeat, section: u32) -> RootScan
     requires idle { IsIdle (view_of seat.old) }
     requires section { section < heap.now.shape.sections }
     ensures seat { IsTracer heap.now seat.new }
-    ensures later { Across OnlyTraced seat.old seat.new }
+    ensures only { Across OnlyTraced seat.old seat.new }
     ensures idle { IsIdle (view_of seat.new) }
     ensures state { Across KeepsRecord seat.old seat.new }
     ensures scanned { Across (RootsScanned section result) seat.old seat.new }

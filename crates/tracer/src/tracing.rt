@@ -1,5 +1,5 @@
 //! The loop of a tracer.
-ghost use Rattle.std.specs.Prelude.{ℕ, ◌≡◌, ◌≢◌, ◌<◌, ◌≤◌, ◌+◌, ◌*◌, ◌⊎◌, [], ◌∷◌, Option, Some, None, false, IsTrue, IsFalse, IfSome, IfNone};
+ghost use Rattle.std.specs.Prelude.{ℕ, ◌≡◌, ◌<◌, ◌≤◌, ◌+◌, ◌⊎◌, Option, Some, None, false, IsTrue, IsFalse, IfSome, IfNone};
 ghost use Rattle.mark_core.specs.Seats.{cleaning_left, work_in_hand};
 ghost use Rattle.gc_table.specs.Seats.{Across, did, state_of, view_of};
 ghost use Rattle.packet_pools.specs.OnlyTraced.{OnlyTraced};
@@ -9,8 +9,8 @@ ghost use Rattle.packet_pools.specs.Seeking.{NoInput, input_pools, only_moves};
 ghost use Rattle.tracer.specs.Causes.{FoundNoWork};
 ghost use Rattle.tracer.specs.Deferral.{Defers};
 ghost use Rattle.tracer.specs.Ends.{all_end_well};
-ghost use Rattle.tracer.specs.Hands.{Carries, HasRoom, IsIdle, KeepsRecord, no_packets, packet_of, packets_of};
-ghost use Rattle.tracer.specs.Parts.{Ended, HasPopped, Part};
+ghost use Rattle.tracer.specs.Hands.{Carries, HasCellAndRoom, IsIdle, KeepsRecord, no_packets, packet_of, packets_of};
+ghost use Rattle.tracer.specs.Parts.{SearchedInVain, HasPopped, Part};
 ghost use Rattle.tracer.specs.Tally.{Tally};
 
 use crate::deferring::defer;
@@ -18,7 +18,7 @@ use crate::finding::next_cell;
 use crate::packets::{Packets, give_some};
 use crate::traced::{Passed, Stopped, Traced};
 use gc_table::{Heap, HeapSeat};
-use mark_core::{Cell, has_bit};
+use mark_core::{BLOCK_CELLS, Cell, has_bit};
 use packet_pools::{Scanned, give, scan_whole, take_input, take_output};
 
 /// Scans the object in scan, which is this one, into the output, or into the input where there is none.
@@ -28,7 +28,7 @@ fn scan(heap: &Heap, seat: &mut HeapSeat, packets: &mut Packets, cell: Cell) -> 
     requires hand { InHand None None (state_of seat.old) × IsFalse (cleaning_left (state_of seat.old).cleaning) }
     requires scan { (state_of seat.old).scan ≡ Some (cell, 0) }
     ensures seat { IsTracer heap.now seat.new }
-    ensures later { Across OnlyTraced seat.old seat.new }
+    ensures only { Across OnlyTraced seat.old seat.new }
     ensures packets { Carries (packets_of packets.new) (view_of seat.new) × (packets.new.deferred ≡ packets.old.deferred) }
     ensures work { IsFalse (work_in_hand heap.now.shape.fields (state_of seat.new)) }
     ensures most { (result.overflowed ≤ result.marked) × (result.marked ≤ heap.now.shape.fields) }
@@ -43,17 +43,17 @@ fn scan(heap: &Heap, seat: &mut HeapSeat, packets: &mut Packets, cell: Cell) -> 
 /// Traces the cell that was popped: how many cells were deferred for it, 0 or 1, and how many were left to their cards.
 fn trace_cell(heap: &Heap, seat: &mut HeapSeat, packets: &mut Packets, cell: Cell) -> Passed
     requires seat { IsTracer heap.now seat.old }
-    requires packets { Carries (packets_of packets.old) (view_of seat.old) × HasRoom heap.now.shape packets.old.deferred }
+    requires packets { Carries (packets_of packets.old) (view_of seat.old) × HasCellAndRoom heap.now.shape packets.old.deferred }
     requires cell { HasPopped cell false (view_of seat.old) }
     ensures seat { IsTracer heap.now seat.new }
-    ensures later { Across OnlyTraced seat.old seat.new }
-    ensures packets { Carries (packets_of packets.new) (view_of seat.new) × HasRoom heap.now.shape packets.new.deferred }
+    ensures only { Across OnlyTraced seat.old seat.new }
+    ensures packets { Carries (packets_of packets.new) (view_of seat.new) × HasCellAndRoom heap.now.shape packets.new.deferred }
     ensures work { IsFalse (work_in_hand heap.now.shape.fields (state_of seat.new)) }
     ensures most { (result.deferred ≤ 1) × (result.overflowed ≤ 16) }
     ensures part { Part heap.now.shape (packet_of packets.old.deferred) (packet_of packets.new.deferred) 0 result.deferred result.overflowed (view_of seat.old) (did seat.old seat.new) }
 {
-    let word = heap.read_alloc(seat, cell.number() / 64);
-    if has_bit(word, cell.number() % 64) {
+    let word = heap.read_alloc(seat, cell.number() / BLOCK_CELLS);
+    if has_bit(word, cell.number() % BLOCK_CELLS) {
         let scanned = scan(heap, seat, packets, cell);
         return Passed {
             deferred: 0,
@@ -70,14 +70,14 @@ fn trace_cell(heap: &Heap, seat: &mut HeapSeat, packets: &mut Packets, cell: Cel
 /// Traces at most so many cells.
 fn trace_all(heap: &Heap, seat: &mut HeapSeat, packets: &mut Packets, quota: u32) -> Traced
     requires seat { IsTracer heap.now seat.old }
-    requires packets { Carries (packets_of packets.old) (view_of seat.old) × HasRoom heap.now.shape packets.old.deferred }
+    requires packets { Carries (packets_of packets.old) (view_of seat.old) × HasCellAndRoom heap.now.shape packets.old.deferred }
     requires idle { IsFalse (work_in_hand heap.now.shape.fields (state_of seat.old)) × ((state_of seat.old).block ≡ None) }
     ensures seat { IsTracer heap.now seat.new }
-    ensures later { Across OnlyTraced seat.old seat.new }
-    ensures packets { Carries (packets_of packets.new) (view_of seat.new) × HasRoom heap.now.shape packets.new.deferred }
+    ensures only { Across OnlyTraced seat.old seat.new }
+    ensures packets { Carries (packets_of packets.new) (view_of seat.new) × HasCellAndRoom heap.now.shape packets.new.deferred }
     ensures work { IsFalse (work_in_hand heap.now.shape.fields (state_of seat.new)) }
     ensures part { Part heap.now.shape (packet_of packets.old.deferred) (packet_of packets.new.deferred) result.done result.deferred result.overflowed (view_of seat.old) (did seat.old seat.new) }
-    ensures stopped { ((result.stopped ≡ Stopped.Quota) × (result.done ≡ quota)) ⊎ ((result.stopped ≡ Stopped.NoWork) × (result.done < quota) × Across (Ended heap.now.shape packets.new) seat.old seat.new) }
+    ensures stopped { ((result.stopped ≡ Stopped.Quota) × (result.done ≡ quota)) ⊎ ((result.stopped ≡ Stopped.NoWork) × (result.done < quota) × Across (SearchedInVain heap.now.shape packets.new) seat.old seat.new) }
 {
     let mut traced = Traced::started();
     for _turn in 0..quota {
@@ -98,7 +98,7 @@ fn begin(heap: &Heap, seat: &mut HeapSeat) -> Option<Packets>
     requires seat { IsTracer heap.now seat.old }
     requires idle { IsIdle (view_of seat.old) }
     ensures seat { IsTracer heap.now seat.new }
-    ensures later { Across OnlyTraced seat.old seat.new }
+    ensures only { Across OnlyTraced seat.old seat.new }
     ensures idle { IsFalse (work_in_hand heap.now.shape.fields (state_of seat.new)) × ((state_of seat.new).block ≡ None) }
     ensures part { Part heap.now.shape None None 0 0 0 (view_of seat.old) (did seat.old seat.new) }
     ensures some { IfSome result (λ x. Carries (packets_of x) (view_of seat.new) × (x.deferred ≡ None)) }
@@ -116,10 +116,10 @@ fn begin(heap: &Heap, seat: &mut HeapSeat) -> Option<Packets>
 /// Gives all packets back, the one with deferred cells to the deferred pool.
 fn finish(heap: &Heap, seat: &mut HeapSeat, packets: Packets)
     requires seat { IsTracer heap.now seat.old }
-    requires packets { Carries (packets_of packets) (view_of seat.old) × HasRoom heap.now.shape packets.deferred }
+    requires packets { Carries (packets_of packets) (view_of seat.old) × HasCellAndRoom heap.now.shape packets.deferred }
     requires work { IsFalse (work_in_hand heap.now.shape.fields (state_of seat.old)) }
     ensures seat { IsTracer heap.now seat.new }
-    ensures later { Across OnlyTraced seat.old seat.new }
+    ensures only { Across OnlyTraced seat.old seat.new }
     ensures held { (state_of seat.new).held ≡ no_packets }
     ensures work { IsFalse (work_in_hand heap.now.shape.fields (state_of seat.new)) }
     ensures part { Part heap.now.shape (packet_of packets.deferred) None 0 0 0 (view_of seat.old) (did seat.old seat.new) }
@@ -136,14 +136,14 @@ fn finish(heap: &Heap, seat: &mut HeapSeat, packets: Packets)
 
 /// Traces at most `quota` objects: each is popped, and what it refers to is marked and pushed. The seat may trace, and holds no packet.
 ///
-/// `done` counts the objects that were popped, `deferred` those of them that weren't published yet and went into a deferred packet, and `overflowed` the cells that
-/// found no packet with room, so that their cards are dirty. Quota is answered exactly where `done` is the quota. NoWork comes only where no packet with a cell was
-/// found while nothing was left in hand. NoPacket never comes: where only one packet is to be had, the seat pops out of it and pushes into it.
+/// `done` counts the objects that were popped, `deferred` those of them that weren't published yet and went into a deferred packet, and `overflowed` the cells
+/// that found no packet with room, so that their cards are dirty. Quota is answered exactly where `done` is the quota. NoWork comes only where no packet with a
+/// cell was found while nothing was left in hand. NoPacket never comes: where only one packet is to be had, the seat pops out of it and pushes into it.
 pub fn trace(heap: &Heap, seat: &mut HeapSeat, quota: u32) -> Traced
     requires seat { IsTracer heap.now seat.old }
     requires idle { IsIdle (view_of seat.old) }
     ensures seat { IsTracer heap.now seat.new }
-    ensures later { Across OnlyTraced seat.old seat.new }
+    ensures only { Across OnlyTraced seat.old seat.new }
     ensures idle { IsIdle (view_of seat.new) }
     ensures state { Across KeepsRecord seat.old seat.new }
     ensures stopped { ((result.stopped ≡ Stopped.Quota) × (result.done ≡ quota)) ⊎ ((result.stopped ≡ Stopped.NoWork) × (result.done < quota) × Across FoundNoWork seat.old seat.new) }

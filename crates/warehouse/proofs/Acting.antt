@@ -8,9 +8,9 @@ use Rattle.gc_table.specs.Log.{events}
 use Rattle.gc_table.specs.Running.{Ran}
 use Rattle.gc_table.proofs.Running.{ran-join, ran-events, ran-shape}
 use Rattle.packet_pools.specs.Counts.{count_of}
-use Rattle.warehouse.specs.Playing.{Acts, Waits, counts_part}
-use Rattle.gc_cycle.specs.Sorts.{ends_cycle, makes, polls, raises_flag}
-use Rattle.gc_cycle.specs.Stops.{may_stop, stops_without_cause}
+use Rattle.warehouse.specs.Playing.{Acts, DoesNothing, counts_part}
+use Rattle.gc_cycle.specs.Sorts.{ends_cycle, stores_new, polls, raises_flag}
+use Rattle.cache_refills.specs.Stops.{may_stop, stops_without_cause}
 use Rattle.warehouse.proofs.Storing.{stored-join}
 use Rattle.warehouse.proofs.Seen.{never-join}
 
@@ -29,7 +29,7 @@ pub stops-both : (sh : Shape) (since xs ys : List Entry) (a b : ℕ) → stops_w
 stops-both sh since [] ys a b p q = let r : stops_without_cause sh since ys ≤ b = q since in omega (arith, r)
 stops-both sh since (x ∷ xs) ys a b p q =
     let here : ℕ = if raises_flag x.step x.found && not (may_stop sh since) then 1 else 0 in
-    let next : List Entry = if makes x.step x.found then [] else since ++ x ∷ [] in
+    let next : List Entry = if stores_new x.step x.found then [] else since ++ x ∷ [] in
     let r : stops_without_cause sh next (xs ++ ys) ≤ stops_without_cause sh next xs + b = stops-both sh next xs ys (stops_without_cause sh next xs) b (same (stops_without_cause sh next xs)) q in
     sums here (stops_without_cause sh next xs) (stops_without_cause sh next (xs ++ ys)) a b p r
   where
@@ -58,8 +58,8 @@ acts-join season a b c a' b' c' A B C u v w x y p q r =
     }
 
 -- waiting after waiting
-pub waits-join : (u v w : View) → Waits u v → Waits v w → Waits u w
+pub waits-join : (u v w : View) → DoesNothing u v → DoesNothing v w → DoesNothing u w
 waits-join u v w x y = λ season. acts-join season 0 0 0 0 0 0 0 0 0 u v w (x season) (y season) (omega arith) (omega arith) (omega arith)
 
-pub waits-ran : (v w : View) → Waits v w → Ran v w
+pub waits-ran : (v w : View) → DoesNothing v w → Ran v w
 waits-ran v w x = (x 0).ran

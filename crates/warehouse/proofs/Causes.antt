@@ -1,6 +1,7 @@
 -- Stops with their causes.
 use Rattle.std.proofs.Common.{ℕ, ◌≡◌, ◌+◌, ◌≤◌, ◌&&◌, ◌||◌, List, [], ◌∷◌, ◌++◌, append_assoc, refl, ap, ◌∙◌, Bool, true, false, not, if◌then◌else◌, arith, ⊎_elim}
 use Rattle.std.proofs.lemmas.Bool.{and_parts, false≢true, or_cases, or_left, or_parts, or_right}
+use Rattle.mark_core.specs.Numbers.{empty_offset}
 use Rattle.mark_core.specs.declared.kinds.Shape.{Shape}
 use Rattle.gc_table.specs.Log.{Only, all_steps, events}
 use Rattle.gc_table.specs.Running.{Ran}
@@ -11,13 +12,13 @@ use Rattle.packet_pools.specs.Counts.{count_of}
 use Rattle.packet_pools.specs.Seeking.{some_event}
 use Rattle.alloc_cache.specs.Claiming.{seeks_block}
 use Rattle.gc_cycle.specs.Cycles.{collects}
-use Rattle.gc_cycle.specs.Events.{Sort, each_after, followed, front}
-use Rattle.warehouse.specs.Playing.{Acts, Waits}
-use Rattle.gc_cycle.specs.Sorts.{begins_exactly, ends_cycle, makes, raises_flag, reads_phase, sees_all_empty, sees_last_card, stores}
+use Rattle.gc_cycle.specs.Events.{Sort, each_after, followed_by, front}
+use Rattle.warehouse.specs.Playing.{Acts, DoesNothing}
+use Rattle.gc_cycle.specs.Sorts.{begins_exactly, ends_cycle, stores_new, raises_flag, reads_phase, sees_all_empty, sees_last_card, mutator_stores}
 use Rattle.mark_core.specs.Layout.{card_count}
 use Rattle.mark_core.specs.declared.kinds.Phase.TheVariants.{Marking}
 use Rattle.gc_cycle.specs.Sparing.{fills_part, spares_part}
-use Rattle.gc_cycle.specs.Stops.{claim_failed, marking_done, may_stop, no_block, stops_with_cause, stops_without_cause}
+use Rattle.cache_refills.specs.Stops.{claim_failed, marking_done, may_stop, no_block, stops_with_cause, stops_without_cause}
 use Rattle.warehouse.proofs.Counting.{fills-seasons, fills-stores, fills-uncounted, spares-fills}
 use Rattle.warehouse.proofs.Seen.{some-count}
 use Rattle.warehouse.proofs.Storing.{stored-none, stores_none, writes-none}
@@ -35,7 +36,7 @@ marked_more : (sh : Shape) (before es : List Entry) → marking_done sh es ≡ t
 marked_more sh [] es h = h
 marked_more sh (e ∷ before) es h =
     or_right
-    (reads_phase Marking e.step e.found && some_event (sees_last_card (card_count sh)) (before ++ es) && some_event (sees_all_empty (64 + sh.packets)) (before ++ es))
+    (reads_phase Marking e.step e.found && some_event (sees_last_card (card_count sh)) (before ++ es) && some_event (sees_all_empty (empty_offset + sh.packets)) (before ++ es))
     (marking_done sh (before ++ es)) (marked_more sh before es h)
 
 may_more : (sh : Shape) (before es : List Entry) → may_stop sh es ≡ true → may_stop sh (before ++ es) ≡ true
@@ -63,11 +64,11 @@ caused sh before earlier [] b h = refl
 caused sh before earlier (e ∷ es) b h =
     let p = and_parts (stores_none e.step) (all_steps stores_none es) b in
     let q = and_parts (not (raises_flag e.step e.found) || may_stop sh earlier) (each_after (may_stop sh) raises_flag (earlier ++ e ∷ []) es) h in
-    let none = or_parts (stores e.step e.found) (makes e.step e.found) (writes-none e.step e.found p.0) in
+    let none = or_parts (mutator_stores e.step e.found) (stores_new e.step e.found) (writes-none e.step e.found p.0) in
     let here = uncounted (raises_flag e.step e.found) (may_stop sh (before ++ earlier))
     (either_more (raises_flag e.step e.found) (may_stop sh earlier) (may_stop sh (before ++ earlier)) (may_more sh before earlier) q.0) in
     let rest : stops_without_cause sh (before ++ (earlier ++ e ∷ [])) es ≡ 0 = caused sh before (earlier ++ e ∷ []) es p.1 q.1 in
-    both (if raises_flag e.step e.found && not (may_stop sh (before ++ earlier)) then 1 else 0) (stops_without_cause sh (if makes e.step e.found then [] else (before ++ earlier) ++ e ∷ []) es) here
+    both (if raises_flag e.step e.found && not (may_stop sh (before ++ earlier)) then 1 else 0) (stops_without_cause sh (if stores_new e.step e.found then [] else (before ++ earlier) ++ e ∷ []) es) here
     (ap (λ m. stops_without_cause sh (if m then [] else (before ++ earlier) ++ e ∷ []) es) none.1 ∙ ap (λ l. stops_without_cause sh l es) (append_assoc before earlier (e ∷ [])) ∙ rest)
   where
     both : (m k : ℕ) → m ≡ 0 → k ≡ 0 → m + k ≡ 0
@@ -77,7 +78,7 @@ fills_stores : (v w : View) → Only fills_part v w → Only stores_none v w
 fills_stores v w o = only-more fills_part stores_none fills-stores v w o
 
 -- a call that stops the world for cause alone
-pub waits-caused : (v w : View) → Ran v w → Only fills_part v w → stops_with_cause v.shape (events v w) ≡ true → Waits v w
+pub waits-caused : (v w : View) → Ran v w → Only fills_part v w → stops_with_cause v.shape (events v w) ≡ true → DoesNothing v w
 waits-caused v w ran only h season =
     let none : all_steps stores_none (events v w) ≡ true = fills_stores v w only in
     record {
@@ -97,7 +98,7 @@ waits-caused v w ran only h season =
 stops_counted : (sh : Shape) (since es : List Entry) → stops_without_cause sh since es ≤ count_of raises_flag es
 stops_counted sh since [] = omega arith
 stops_counted sh since (e ∷ es) =
-    let next : List Entry = if makes e.step e.found then [] else since ++ e ∷ [] in
+    let next : List Entry = if stores_new e.step e.found then [] else since ++ e ∷ [] in
     let rest : stops_without_cause sh next es ≤ count_of raises_flag es = stops_counted sh next es in
     sums (raises_flag e.step e.found) (may_stop sh since) (stops_without_cause sh next es) (count_of raises_flag es) rest
   where
@@ -106,11 +107,11 @@ stops_counted sh since (e ∷ es) =
     sums true false m k h = omega (arith, h)
     sums false c m k h = omega (arith, h)
 
-ended : (f g : Sort) (es : List Entry) → followed f g es ≡ true → some_event g es ≡ true
+ended : (f g : Sort) (es : List Entry) → followed_by f g es ≡ true → some_event g es ≡ true
 ended f g [] h = absurd (false≢true h)
 ended f g (e ∷ es) h =
     or_right (g e.step e.found) (some_event g es)
-    (⊎_elim (λ a. (and_parts (f e.step e.found) (some_event g es) a).1) (λ a. ended f g es a) (or_cases (f e.step e.found && some_event g es) (followed f g es) h))
+    (⊎_elim (λ a. (and_parts (f e.step e.found) (some_event g es) a).1) (λ a. ended f g es a) (or_cases (f e.step e.found && some_event g es) (followed_by f g es) h))
 
 -- a collection that stopped the world once at most
 pub acts-collect : (season : ℕ) (v w : View) → Ran v w → Only spares_part v w → collects (events v w) ≡ true → count_of raises_flag (events v w) ≤ 1 → Acts season 0 1 1 v w

@@ -17,13 +17,13 @@ use Rattle.gc_table.proofs.Running.{ran-join}
 use Rattle.packet_pools.specs.Counts.{count_of}
 use Rattle.alloc_cache.specs.declared.cache.Cache.{Cache}
 use Rattle.mutator_ops.specs.Doing.{seen}
-use Rattle.play_end.specs.Done.{Does}
+use Rattle.play_end.specs.Done.{SectionDoes}
 use Rattle.play_end.specs.Parts.{DoesCommand}
 use Rattle.play_end.specs.Playing.{drops}
 use Rattle.play_end.proofs.Commands.{still-does}
 use Rattle.gc_cycle.specs.Answering.{Collects, CollectsTo, EndsFull, HasCache}
 use Rattle.warehouse.specs.Commands.{DoesOne, MayDo, StopsBefore}
-use Rattle.warehouse.specs.Playing.{Acts, IsPlaying, Stays, Waits, collects_by, player_of}
+use Rattle.warehouse.specs.Playing.{Acts, IsPlaying, Stays, DoesNothing, collects_by, player_of}
 use Rattle.gc_cycle.specs.Sorts.{raises_flag}
 use Rattle.gc_cycle.specs.Sparing.{spares_part}
 use Rattle.gc_cycle.specs.Standing.{KeepsSeat}
@@ -63,7 +63,7 @@ counted_up m s = record m { seat = s; count = m.count + 1 }
 -- from a mutator whose seat gave its cache up (s), and collected then (t)
 module _
     (h : Heap) (p : Parts) (e : Execution) (m : Mutator) (cache : Option Cache) (s t : HeapSeat) (is : e.op ≡ ops.Collect) (playing : IsPlaying h p cache m) (may : MayDo p e m) (sits : Sits h t)
-    (waits : Waits (view_of m.seat) (view_of s)) (stays : Stays (view_of m.seat) (view_of s)) (ran : Ran (view_of s) (view_of t)) (spares : Only spares_part (view_of s) (view_of t))
+    (waits : DoesNothing (view_of m.seat) (view_of s)) (stays : Stays (view_of m.seat) (view_of s)) (ran : Ran (view_of s) (view_of t)) (spares : Only spares_part (view_of s) (view_of t))
     (keeps : KeepsSeat (view_of s) (view_of t)) (once : count_of raises_flag (events (view_of s) (view_of t)) ≤ 1) where
   both_stay : Stays (view_of m.seat) (view_of t)
   both_stay = stays-join (view_of m.seat) (view_of s) (view_of t) stays (stays-spared (view_of s) (view_of t) ran spares keeps)
@@ -77,7 +77,7 @@ module _
       let w : View = view_of t in
       record {
         of = stays-of v w both_ran;
-        does = subst (λ op. Does (seen v) (season_of v.state) op v.own w.own) (sym is) (still-does (seen v) (season_of v.state) ops.Collect v.own w.own refl both_stay.still);
+        does = subst (λ op. SectionDoes (seen v) (season_of v.state) op v.own w.own) (sym is) (still-does (seen v) (season_of v.state) ops.Collect v.own w.own refl both_stay.still);
         count = refl;
         said = append_none (player_of m).said ∙ ap (λ op. (player_of m).said ++ with_label e.label (line_of v.own.meaning.heap (seen v) op) []) (sym is);
         dropped = plus_none m.dropped ∙ ap (λ op. m.dropped + (if drops v.own.meaning.heap op then 1 else 0)) (sym is);

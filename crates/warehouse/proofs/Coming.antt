@@ -21,9 +21,9 @@ use Rattle.alloc_cache.specs.declared.cache.Cache.{Cache}
 use Rattle.play_end.specs.Alike.{AreAlike}
 use Rattle.play_end.specs.Done.{turn_word}
 use Rattle.play_end.specs.Parts.{SaysSame}
-use Rattle.warehouse.specs.Commands.{IsAt, IsNextOf, StopsBefore}
-use Rattle.gc_cycle.specs.PartEvents.{polled_last}
-use Rattle.warehouse.specs.Playing.{Acts, FindsFull, GetsReady, HasFree, HasRoom, IsCounted, MayPass, Stays, Waits, collects_by, player_of}
+use Rattle.warehouse.specs.Commands.{IsAtCommand, IsNextOf, StopsBefore}
+use Rattle.cache_refills.specs.PartEvents.{polled_last}
+use Rattle.warehouse.specs.Playing.{Acts, FindsFull, GetsReady, HasFree, HasRoomForCommands, ObjectsHaveCells, MayPass, Stays, DoesNothing, collects_by, player_of}
 use Rattle.warehouse.specs.declared.mutator.Mutator.{Mutator}
 use Rattle.warehouse.proofs.Acting.{acts-join}
 use Rattle.warehouse.proofs.Commanding.{stays-of}
@@ -46,7 +46,7 @@ moved m s = record m { seat = s }
 pub says-moved : (m : Mutator) (s : HeapSeat) → SaysSame (player_of m) (player_of (moved m s))
 says-moved m s = record { count = refl; said = refl; dropped = refl; cells = refl }
 
-pub room-moved : (m : Mutator) (s : HeapSeat) → Stays (view_of m.seat) (view_of s) → (left : List Execution) → HasRoom left m → HasRoom left (moved m s)
+pub room-moved : (m : Mutator) (s : HeapSeat) → Stays (view_of m.seat) (view_of s) → (left : List Execution) → HasRoomForCommands left m → HasRoomForCommands left (moved m s)
 room-moved m s stays left r = record { said = r.said; places = r.places; count = r.count; made = omega (arith, r.made, stays.made, ap (λ (sh : Shape). sh.objects) stays.shape); dropped = r.dropped }
 
 pub next-moved : (p : Parts) (turn : ℕ) (e : Execution) (m : Mutator) (s : HeapSeat) → Ran (view_of m.seat) (view_of s) → Stays (view_of m.seat) (view_of s) → IsNextOf p turn e m → IsNextOf p turn e (moved m s)
@@ -80,9 +80,9 @@ pass-moved p turn e kept m s ran k n =
       polled = polled_log (view_of m.seat) (view_of s) ran k.polled;
     }
 
-module _ (h : Heap) (p : Parts) (turn : ℕ) (e : Execution) (m : Mutator) (s : HeapSeat) (sits : Sits h s) (counted : IsCounted (view_of m.seat)) (next : IsNextOf p turn e m) where
+module _ (h : Heap) (p : Parts) (turn : ℕ) (e : Execution) (m : Mutator) (s : HeapSeat) (sits : Sits h s) (counted : ObjectsHaveCells (view_of m.seat)) (next : IsNextOf p turn e m) where
   -- it is there
-  pub comes-going : (kept : Option Cache) → GetsReady turn kept (view_of m.seat) (view_of s) → (IsTrue (makes_object e.op) → HasFree kept) → IsAt h p turn kept e m (moved m s)
+  pub comes-going : (kept : Option Cache) → GetsReady turn kept (view_of m.seat) (view_of s) → (IsTrue (makes_object e.op) → HasFree kept) → IsAtCommand h p turn kept e m (moved m s)
   comes-going kept k free =
       let ran : Ran (view_of m.seat) (view_of s) = (k.acts 0).ran in
       let still = next-moved p turn e m s ran k.stays next in
@@ -98,7 +98,7 @@ module _ (h : Heap) (p : Parts) (turn : ℕ) (e : Execution) (m : Mutator) (s : 
         free = free;
       }
 
-  -- or the heap is full
+  -- where the heap was found full, the mutator stops before the command
   pub comes-full : FindsFull m.count (view_of m.seat) (view_of s) → (IsTrue (view_of s).own.full → IsTrue (view_of m.seat).own.full ⊎ IsNew e.op) → StopsBefore h p e m (moved m s)
   comes-full k found =
       record {
@@ -133,11 +133,11 @@ makes-new (ops.Sum v i limit) b = absurd (false≢true b)
 makes-new ops.Collect b = absurd (false≢true b)
 
 -- it waited, and then came to the command, or found the heap full
-module _ (h : Heap) (p : Parts) (turn : ℕ) (e : Execution) (m : Mutator) (s : HeapSeat) (y : Mutator) (stays : Stays (view_of m.seat) (view_of s)) (waits : Waits (view_of m.seat) (view_of s)) where
+module _ (h : Heap) (p : Parts) (turn : ℕ) (e : Execution) (m : Mutator) (s : HeapSeat) (y : Mutator) (stays : Stays (view_of m.seat) (view_of s)) (waits : DoesNothing (view_of m.seat) (view_of s)) where
   says_later : SaysSame (player_of (moved m s)) (player_of y) → SaysSame (player_of m) (player_of y)
   says_later k = record { count = k.count; said = k.said; dropped = k.dropped; cells = k.cells }
 
-  pub at-later : (kept : Option Cache) → IsAt h p turn kept e (moved m s) y → IsAt h p turn kept e m y
+  pub at-later : (kept : Option Cache) → IsAtCommand h p turn kept e (moved m s) y → IsAtCommand h p turn kept e m y
   at-later kept k =
       record {
         playing = k.playing;

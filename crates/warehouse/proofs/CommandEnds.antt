@@ -5,7 +5,7 @@ use Rattle.plain_heap.specs.Sections.{Execution, Parts}
 use Rattle.gc_table.specs.declared.seat.Heap.{Heap}
 use Rattle.gc_table.specs.Seats.{view_of}
 use Rattle.alloc_cache.specs.declared.cache.Cache.{Cache}
-use Rattle.warehouse.specs.Commands.{DoesOne, IsAt, PlaysOne, StopsBefore}
+use Rattle.warehouse.specs.Commands.{DoesOne, IsAtCommand, PlaysOne, StopsBefore}
 use Rattle.warehouse.specs.Playing.{collects_by, player_of}
 use Rattle.warehouse.specs.declared.mutator.Mutator.{Mutator}
 use Rattle.warehouse.proofs.Acting.{acts-join}
@@ -13,7 +13,7 @@ use Rattle.warehouse.proofs.Commanding.{stays-of}
 use Rattle.warehouse.proofs.Leaving.{left-command}
 
 -- it was done
-pub plays-from : (h : Heap) (p : Parts) (turn : ℕ) (kept still : Option Cache) (e : Execution) (x m y : Mutator) → IsAt h p turn kept e x m → DoesOne h p still e m y → PlaysOne h p turn still e x y
+pub plays-from : (h : Heap) (p : Parts) (turn : ℕ) (kept still : Option Cache) (e : Execution) (x m y : Mutator) → IsAtCommand h p turn kept e x m → DoesOne h p still e m y → PlaysOne h p turn still e x y
 plays-from h p turn kept still e x m y at ends =
     record {
       playing = ends.playing;
@@ -28,7 +28,7 @@ plays-from h p turn kept still e x m y at ends =
     c = collects_by (e ∷ [])
 
 -- the heap was full before it
-pub stops-from : (h : Heap) (p : Parts) (turn : ℕ) (kept : Option Cache) (e : Execution) (x m y : Mutator) → IsAt h p turn kept e x m → StopsBefore h p e m y → StopsBefore h p e x y
+pub stops-from : (h : Heap) (p : Parts) (turn : ℕ) (kept : Option Cache) (e : Execution) (x m y : Mutator) → IsAtCommand h p turn kept e x m → StopsBefore h p e m y → StopsBefore h p e x y
 stops-from h p turn kept e x m y at ends =
     record {
       playing = ends.playing;

@@ -17,11 +17,11 @@ use Rattle.gc_table.specs.Sections.{season_of}
 use Rattle.gc_table.specs.Running.{Ran}
 use Rattle.gc_table.proofs.Running.{ran-shape, ran-plan, ran-section}
 use Rattle.mutator_ops.specs.Creating.{Creates}
-use Rattle.mutator_ops.specs.Doing.{Does as OperationDoes, IsStepped, makes, seen, with_dropped}
+use Rattle.mutator_ops.specs.Doing.{Does as OperationDoes, IsStepped, seen, with_dropped}
 use Rattle.play_end.specs.Alike.{AreAlike, uncounted}
-use Rattle.play_end.specs.Done.{Does}
+use Rattle.play_end.specs.Done.{SectionDoes}
 use Rattle.play_end.specs.Parts.{Player, DoesCommand, StaysOf}
-use Rattle.plain_heap.specs.Sections.{Execution}
+use Rattle.plain_heap.specs.Sections.{Execution, makes_object}
 use Rattle.plain_heap.specs.PlainRun.{with_label}
 use Rattle.play_end.specs.Playing.{drops, is_lent}
 use Rattle.warehouse.proofs.Turning.{turns-of}
@@ -31,7 +31,7 @@ pub alike-stepped : (op : Op) (d : ℕ) (v w : View) → IsStepped op d v w → 
 alike-stepped op d v w e = ap uncounted (e v.own.meaning.heap.dropped)
 
 -- a command other than `new`, where its seat drops no store in the heap of its view
-pub does-other : (op : Op) (d : ℕ) (v w : View) → makes op ≡ false → OperationDoes op d v w → Does (seen v) (season_of v.state) op v.own w.own
+pub does-other : (op : Op) (d : ℕ) (v w : View) → makes_object op ≡ false → OperationDoes op d v w → SectionDoes (seen v) (season_of v.state) op v.own w.own
 does-other op d v w old k =
     let t = turns-of op v w k.ran k.only in
     record {
@@ -46,7 +46,7 @@ does-other op d v w old k =
       full = ap (λ (x : SectionState). x.full) k.own;
     }
   where
-    isn't : (o : Op) → makes o ≡ false → IsNew o → ⊥
+    isn't : (o : Op) → makes_object o ≡ false → IsNew o → ⊥
     isn't (ops.New u n) e is = false≢true (sym e)
     isn't (ops.Let u x) e is = is
     isn't (ops.Nil u) e is = is
@@ -59,7 +59,7 @@ does-other op d v w old k =
     isn't ops.Collect e is = is
 
 -- `new`
-pub does-new : (u n cell : ℕ) (v w : View) → Creates u n cell v w → Does (seen v) (season_of v.state) (ops.New u n) v.own w.own
+pub does-new : (u n cell : ℕ) (v w : View) → Creates u n cell v w → SectionDoes (seen v) (season_of v.state) (ops.New u n) v.own w.own
 does-new u n cell v w k =
     let t = turns-of (ops.New u n) v w k.ran k.only in
     record {
@@ -88,13 +88,13 @@ stored_drops heap refs.Nil f z = z
 stored_drops heap (refs.Cat n) f z = ap (λ m. m + 1) z
 stored_drops heap (refs.Own n) f z = replaced_keeps heap n f (slice_get heap.objects n) ∙ z
 
-pub drops-stepped : (op : Op) (d : ℕ) (v w : View) → makes op ≡ false → IsStepped op d v w → d ≡ (if drops v.own.meaning.heap op then 1 else 0)
+pub drops-stepped : (op : Op) (d : ℕ) (v w : View) → makes_object op ≡ false → IsStepped op d v w → d ≡ (if drops v.own.meaning.heap op then 1 else 0)
 drops-stepped op d v w old e = plus_zero ∙ ap (λ (h : Heap). h.dropped) (e 0) ∙ by op old
   where
     plus_zero : d ≡ 0 + d
     plus_zero = omega arith
 
-    by : (o : Op) → makes o ≡ false → (heap_after (with_dropped 0 v.own.meaning.heap) (seen v) o).dropped ≡ (if drops v.own.meaning.heap o then 1 else 0)
+    by : (o : Op) → makes_object o ≡ false → (heap_after (with_dropped 0 v.own.meaning.heap) (seen v) o).dropped ≡ (if drops v.own.meaning.heap o then 1 else 0)
     by (ops.New u n) old = absurd (false≢true (sym old))
     by (ops.Let u x) old = refl
     by (ops.Nil u) old = refl
@@ -108,7 +108,7 @@ drops-stepped op d v w old e = plus_zero ∙ ap (λ (h : Heap). h.dropped) (e 0)
 
 -- a command other than `new` is a command of the player
 pub command-other :
-    (e : Execution) (d : ℕ) (x y : Player) → makes e.op ≡ false → OperationDoes e.op d x.view y.view → y.count ≡ x.count + 1
+    (e : Execution) (d : ℕ) (x y : Player) → makes_object e.op ≡ false → OperationDoes e.op d x.view y.view → y.count ≡ x.count + 1
     → y.said ≡ x.said ++ with_label e.label (line_of x.view.own.meaning.heap (seen x.view) e.op) [] → y.dropped ≡ x.dropped + d → y.cells ≡ x.cells → x.cells ≡ map (λ (p : Place). p.cell) x.view.own.places → DoesCommand e x y
 command-other e d x y old k count said dropped cells were =
     record {
@@ -127,7 +127,7 @@ pub command-new :
 command-new e u n cell x y is k count said dropped cells were =
     record {
       of = stays-of x.view y.view k.ran;
-      does = subst (λ op. Does (seen x.view) (season_of x.view.state) op x.view.own y.view.own) (sym is) (does-new u n cell x.view y.view k);
+      does = subst (λ op. SectionDoes (seen x.view) (season_of x.view.state) op x.view.own y.view.own) (sym is) (does-new u n cell x.view y.view k);
       count = count;
       said = said ∙ append_none x.said ∙ ap (λ op. x.said ++ with_label e.label (line_of x.view.own.meaning.heap (seen x.view) op) []) (sym is);
       dropped = dropped ∙ plus_none x.dropped ∙ ap (λ op. x.dropped + (if drops x.view.own.meaning.heap op then 1 else 0)) (sym is);

@@ -10,7 +10,7 @@ use Rattle.gc_table.proofs.Running.{ran-events}
 use Rattle.packet_pools.proofs.Searches.{some-right}
 use Rattle.mark_core.specs.declared.kinds.Phase.TheVariants.{Full}
 use Rattle.gc_cycle.specs.Answering.{EndsFull}
-use Rattle.warehouse.specs.Playing.{FindsFull, IsCounted, Stays, Waits}
+use Rattle.warehouse.specs.Playing.{FindsFull, ObjectsHaveCells, Stays, DoesNothing}
 use Rattle.gc_cycle.specs.Polling.{saw_full}
 use Rattle.gc_cycle.specs.Sorts.{reads_phase}
 use Rattle.gc_cycle.specs.Standing.{KeepsSeat, KeepsSection}
@@ -28,7 +28,7 @@ ends-before done u v w r s e =
     }
 
 -- the call that finds it leaves the section, after others that did
-pub finds-after : (done : ℕ) (u v w : View) → Stays u v → Waits u v → KeepsSeat v w → KeepsSection v w → Waits v w → EndsFull done v w → KnowsFull w → FindsFull done u w
+pub finds-after : (done : ℕ) (u v w : View) → Stays u v → DoesNothing u v → KeepsSeat v w → KeepsSection v w → DoesNothing v w → EndsFull done v w → KnowsFull w → FindsFull done u w
 finds-after done u v w stays before seat section acts ends known =
     record {
       heap = ap (λ (m : Meaning). m.heap) section.meaning ∙ stays.still.heap;
@@ -40,8 +40,8 @@ finds-after done u v w stays before seat section acts ends known =
       acts = waits-join u v w before acts;
     }
 
--- and so it does after calls that found room
-pub finds-later : (done : ℕ) (u v w : View) → Stays u v → Waits u v → FindsFull done v w → FindsFull done u w
+-- the call that finds the heap full leaves the section, after calls that found room
+pub finds-later : (done : ℕ) (u v w : View) → Stays u v → DoesNothing u v → FindsFull done v w → FindsFull done u w
 finds-later done u v w stays before f =
     record {
       heap = f.heap ∙ stays.still.heap;
@@ -54,5 +54,5 @@ finds-later done u v w stays before f =
     }
 
 -- each object has its cell still
-pub counted-kept : (v w : View) → w.own.meaning.heap ≡ v.own.meaning.heap → w.state.made ≡ v.state.made → IsCounted v → IsCounted w
+pub counted-kept : (v w : View) → w.own.meaning.heap ≡ v.own.meaning.heap → w.state.made ≡ v.state.made → ObjectsHaveCells v → ObjectsHaveCells w
 counted-kept v w heap made c = ap (λ (h : Heap). length h.objects) heap ∙ c ∙ sym made

@@ -1,9 +1,9 @@
 -- What the catalogue's seat knows once it has stopped the world: it is at rest, and it reads the phase.
-use Rattle.std.proofs.Common.{ℕ, ◌≡◌, ◌==◌, ◌&&◌, ◌||◌, List, refl, sym, ap, ◌∙◌, subst, Bool, true, false, not, Option, Some, None, eqb-true, eq-eqb}
-use Rattle.std.specs.Prelude.{is_none, unwrap_or}
-use Rattle.std.proofs.lemmas.Bool.{and_parts, false≢true, not-true, or_left}
+use Rattle.std.proofs.Common.{ℕ, ◌≡◌, ◌||◌, List, refl, sym, ap, ◌∙◌, subst, Bool, true, false, not, Option, Some, eq-eqb}
+use Rattle.std.specs.Prelude.{unwrap_or}
+use Rattle.std.proofs.lemmas.Bool.{false≢true, not-true, or_left}
 use Rattle.mark_core.specs.Effects.{seat_after}
-use Rattle.mark_core.specs.Seats.{empty_handed, phase_number, phase_of, saw, work_in_hand}
+use Rattle.mark_core.specs.Seats.{phase_number, phase_of, saw}
 use Rattle.mark_core.specs.Steps.WorldSteps.{has_nothing}
 use Rattle.mark_core.specs.declared.kinds.Phase.{Phase}
 use Rattle.mark_core.specs.declared.kinds.Phase.TheVariants.{Idle, Marking, Drain, Sweep, Clear, Full}
@@ -18,7 +18,6 @@ use Rattle.gc_table.specs.declared.view.View.{View}
 use Rattle.gc_table.proofs.History.Log.{events-after, only-after}
 use Rattle.gc_table.proofs.Noticing.{alone-kept}
 use Rattle.gc_table.proofs.Running.{ran-found}
-use Rattle.stop_world.specs.Gates.{IsFreeToLeave}
 use Rattle.stop_world.specs.Waiting.{HasStopped, is_mutators}
 use Rattle.stop_world.proofs.Phases.{phase-read, read-number}
 use Rattle.gc_cycle.specs.Events.{never}
@@ -26,24 +25,8 @@ use Rattle.gc_cycle.specs.Finishing.{finishes}
 use Rattle.gc_cycle.specs.Polling.{saw_full}
 use Rattle.gc_cycle.specs.Sorts.{raises_flag}
 use Rattle.gc_cycle.specs.Sparing.{spares_part}
-use Rattle.warehouse.specs.Turns.{EndsCycle, KeepsPart, turns_season}
+use Rattle.warehouse.specs.Turns.{LeavesNoCycle, KeepsPart, turns_season}
 use Rattle.warehouse.proofs.Seasons.{spared-keeps}
-
--- at rest, part by part
-pub free-to-leave : (v : View) → has_nothing v.shape v.state ≡ true → IsFreeToLeave v
-free-to-leave v e =
-    let s : SeatState = v.state in
-    let sh : Shape = v.shape in
-    let p5 = and_parts (empty_handed s && not (work_in_hand sh.fields s) && is_none s.owes && is_none s.cache && is_none s.block) (s.got == 0) e in
-    let p4 = and_parts (empty_handed s && not (work_in_hand sh.fields s) && is_none s.owes && is_none s.cache) (is_none s.block) p5.0 in
-    let p3 = and_parts (empty_handed s && not (work_in_hand sh.fields s) && is_none s.owes) (is_none s.cache) p4.0 in
-    let p2 = and_parts (empty_handed s && not (work_in_hand sh.fields s)) (is_none s.owes) p3.0 in
-    let p1 = and_parts (empty_handed s) (not (work_in_hand sh.fields s)) p2.0 in
-    record { handed = p1.0; idle = not-true (work_in_hand sh.fields s) p1.1; owes = none_of s.owes p2.1; cache = none_of s.cache p3.1; got = eqb-true s.got 0 p5.1 }
-  where
-    none_of : {X : Type 0} (o : Option X) → is_none o ≡ true → o ≡ None
-    none_of None e = refl
-    none_of (Some x) e = absurd (false≢true e)
 
 phase_back : (p : Phase) → phase_of (phase_number p) ≡ p
 phase_back Idle = refl
@@ -77,7 +60,7 @@ module _ (n : ℕ) (v w : View) (stopped : HasStopped v) (rest : has_nothing v.s
   read_keeps : KeepsPart v w
   read_keeps = spared-keeps v w read_ran (only-after spares_part v w ReadPhase n refl found.0) (ap (λ (x : View). x.own.position) found.0)
 
-  pub ends-read : (b : Bool) (p : Phase) → phase_of n ≡ p → saw (Some p) Full ≡ b → EndsCycle b v w
+  pub ends-read : (b : Bool) (p : Phase) → phase_of n ≡ p → saw (Some p) Full ≡ b → LeavesNoCycle b v w
   ends-read b p is full =
       let one = events-after v w ReadPhase n found.0 in
       let a = read-alone p is in

@@ -34,7 +34,7 @@ within-still s p z rest x y of still same k =
       found_room = still.full ∙ k.found_room;
     }
 
--- and has the same left
+-- a player that waits has the same commands left
 pub left-still : (p : Parts) (z : ℕ) (rest : List Execution) (old x y : Player) → StaysOf x.view y.view → IsStill x.view.own y.view.own → SaysSame x y → HasLeft p z rest old x → HasLeft p z rest old y
 left-still p z rest old x y of still same left s a before = within-still s p z rest x y of still same (left s a before)
 

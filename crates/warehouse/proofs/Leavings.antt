@@ -16,11 +16,11 @@ use Rattle.play_end.specs.Playing.{moves_phase}
 use Rattle.play_end.proofs.FullKnown.{full-kept}
 use Rattle.warehouse.specs.Commands.{Leaves}
 use Rattle.gc_cycle.specs.Events.{never}
-use Rattle.warehouse.specs.Playing.{Acts, Stays, Waits, counts_part}
+use Rattle.warehouse.specs.Playing.{Acts, Stays, DoesNothing, counts_part}
 use Rattle.gc_cycle.specs.Sorts.{ends_cycle, polls, raises_flag}
 use Rattle.mark_core.specs.Numbers.{done_count}
 use Rattle.gc_cycle.specs.Sparing.{spares_part}
-use Rattle.gc_cycle.specs.Stops.{stops_without_cause}
+use Rattle.cache_refills.specs.Stops.{stops_without_cause}
 use Rattle.warehouse.specs.Storing.{stores_in}
 use Rattle.packet_pools.specs.Seeking.{some_event}
 use Rattle.warehouse.proofs.Acting.{stops-both}
@@ -29,7 +29,7 @@ use Rattle.warehouse.proofs.Sparings.{waits-calm}
 use Rattle.warehouse.proofs.Storing.{stored-join}
 
 -- a call that waits counts no part
-pub leaves-waits : (v w : View) → Waits v w → Leaves 0 v w
+pub leaves-waits : (v w : View) → DoesNothing v w → Leaves 0 v w
 leaves-waits v w waits =
     record {
       ran = (waits 0).ran;

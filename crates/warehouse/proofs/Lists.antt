@@ -5,7 +5,7 @@ use Rattle.std.specs.List.{list_any}
 use Rattle.std.proofs.lemmas.Bool.{false≢true, or_cases, or_left, or_right}
 use Rattle.std.proofs.lemmas.List.Sums.{sum_by-append}
 use Rattle.plain_heap.specs.Sections.{Execution, Parts, joined, made_by, makes_object}
-use Rattle.warehouse.specs.Playing.{collects_by, is_collect, part_at}
+use Rattle.warehouse.specs.Playing.{collects_by, is_collect, commands_of_part}
 
 -- parts from one on are this one and the later ones
 joined_drop : (parts : List (List Execution)) (k : ℕ) → joined (drop k parts) ≡ slice_index_or parts k [] ++ joined (drop (suc k) parts)
@@ -14,8 +14,8 @@ joined_drop [] (suc k) = refl
 joined_drop (x ∷ xs) zero = refl
 joined_drop (x ∷ xs) (suc k) = joined_drop xs k
 
-pub part-then : (p : Parts) (z : ℕ) → 0 < z → joined (drop (z - 1) p.parts) ≡ part_at p z ++ joined (drop z p.parts)
-part-then p z pos = joined_drop p.parts (z - 1) ∙ ap (λ n. part_at p z ++ joined (drop n p.parts)) back
+pub part-then : (p : Parts) (z : ℕ) → 0 < z → joined (drop (z - 1) p.parts) ≡ commands_of_part p z ++ joined (drop z p.parts)
+part-then p z pos = joined_drop p.parts (z - 1) ∙ ap (λ n. commands_of_part p z ++ joined (drop n p.parts)) back
   where
     back : suc (z - 1) ≡ z
     back = omega (arith, pos)
@@ -36,7 +36,7 @@ any_part f (x ∷ xs) zero h = any_left f x (joined xs) h
 any_part f (x ∷ xs) (suc k) h = any_right f x (joined xs) (any_part f xs k h)
 
 -- a command of a part is one of its section
-pub part-any : (f : Execution → Bool) (p : Parts) (z : ℕ) (front rest : List Execution) (e : Execution) → part_at p z ≡ front ++ e ∷ rest → f e ≡ true → list_any f (joined p.parts) ≡ true
+pub part-any : (f : Execution → Bool) (p : Parts) (z : ℕ) (front rest : List Execution) (e : Execution) → commands_of_part p z ≡ front ++ e ∷ rest → f e ≡ true → list_any f (joined p.parts) ≡ true
 part-any f p z front rest e part h = any_part f p.parts (z - 1) (ap (list_any f) part ∙ any_right f front (e ∷ rest) (or_left (f e) (list_any f rest) h))
 
 got_here : (front rest : List Execution) (e d : Execution) → get_or (front ++ e ∷ rest) (length front) d ≡ e

@@ -22,13 +22,13 @@ use Rattle.gc_table.proofs.History.Log.{only-more}
 use Rattle.gc_table.proofs.Running.{ran-shape}
 use Rattle.alloc_cache.specs.Caching.{cached}
 use Rattle.alloc_cache.specs.declared.cache.Cache.{Cache}
-use Rattle.mutator_ops.specs.Doing.{Does, belongs, makes as makes_new}
+use Rattle.mutator_ops.specs.Doing.{Does, belongs}
 use Rattle.gc_cycle.specs.Answering.{HasCache}
 use Rattle.warehouse.specs.Commands.{is_other}
 use Rattle.warehouse.specs.Playing.{Acts, collects_by}
-use Rattle.gc_cycle.specs.Sorts.{makes, raises_flag}
+use Rattle.gc_cycle.specs.Sorts.{stores_new, raises_flag}
 use Rattle.gc_cycle.specs.Standing.{Mutates, is_at_rest}
-use Rattle.gc_cycle.specs.Stops.{may_stop, stops_without_cause}
+use Rattle.cache_refills.specs.Stops.{may_stop, stops_without_cause}
 use Rattle.warehouse.proofs.Counting.{command-seasons, command-uncounted}
 use Rattle.warehouse.proofs.Storing.{stored-turn}
 use Rattle.warehouse.proofs.Turning.{is_of_command, of-command}
@@ -64,8 +64,8 @@ pub stops-none : (sh : Shape) (since : List Entry) (es : List Entry) → all_ste
 stops-none sh since [] b = refl
 stops-none sh since (e ∷ es) b =
     let p = and_parts (is_of_command e.step) (all_steps is_of_command es) b in
-    let later = stops_without_cause sh (if makes e.step e.found then [] else since ++ e ∷ []) es in
-    ap (λ r. (if r && not (may_stop sh since) then 1 else 0) + later) (raises_none e.step e.found p.0) ∙ plus later ∙ stops-none sh (if makes e.step e.found then [] else since ++ e ∷ []) es p.1
+    let later = stops_without_cause sh (if stores_new e.step e.found then [] else since ++ e ∷ []) es in
+    ap (λ r. (if r && not (may_stop sh since) then 1 else 0) + later) (raises_none e.step e.found p.0) ∙ plus later ∙ stops-none sh (if stores_new e.step e.found then [] else since ++ e ∷ []) es p.1
   where
     plus : (m : ℕ) → 0 + m ≡ m
     plus m = omega arith
@@ -97,7 +97,7 @@ acts-other e d v w other k season read =
     }
 
 -- it makes no object
-pub makes-none : (op : Op) → is_other op ≡ true → makes_new op ≡ false
+pub makes-none : (op : Op) → is_other op ≡ true → makes_object op ≡ false
 makes-none (ops.New v n) b = absurd (false≢true b)
 makes-none (ops.Let v w) b = refl
 makes-none (ops.Nil v) b = refl

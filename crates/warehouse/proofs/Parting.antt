@@ -28,10 +28,10 @@ use Rattle.play_end.proofs.Doing.{done-still}
 use Rattle.play_end.proofs.Within.{left-full, left-none}
 use Rattle.warehouse.specs.Commands.{CountsPart, MayPlayPart, PlaysAll, StopsWithin}
 use Rattle.gc_cycle.specs.Cycles.{never_fills}
-use Rattle.warehouse.specs.Playing.{HasRoom, IsPart, IsPlaying, MayPlay, Stays, Waits, collects_by, part_at, player_of}
+use Rattle.warehouse.specs.Playing.{HasRoomForCommands, IsPartPlayed, IsPlaying, MayPlay, Stays, DoesNothing, collects_by, commands_of_part, player_of}
 use Rattle.gc_cycle.specs.Sorts.{ends_cycle, moves_to}
 use Rattle.gc_cycle.specs.Standing.{Mutates}
-use Rattle.gc_cycle.specs.Stops.{stops_without_cause}
+use Rattle.cache_refills.specs.Stops.{stops_without_cause}
 use Rattle.warehouse.specs.declared.mutator.Mutator.{Mutator}
 use Rattle.warehouse.proofs.Acting.{acts-join, waits-ran}
 use Rattle.warehouse.proofs.Commanding.{stays-of}
@@ -82,7 +82,7 @@ after-still s w z x y still same position a =
 -- from a mutator that entered (its seat is s then)
 module _
     (h : Heap) (p : Parts) (z : ℕ) (x : Mutator) (s : HeapSeat) (may : MayPlay h p z x) (sits : Sits h s) (mutates : Mutates (view_of s)) (empty : (view_of s).state.cache ≡ None)
-    (stays : Stays (view_of x.seat) (view_of s)) (waits : Waits (view_of x.seat) (view_of s)) (position : (view_of s).own.position ≡ (view_of x.seat).own.position) where
+    (stays : Stays (view_of x.seat) (view_of s)) (waits : DoesNothing (view_of x.seat) (view_of s)) (position : (view_of s).own.position ≡ (view_of x.seat).own.position) where
   of : StaysOf (view_of x.seat) (view_of s)
   of = stays-of (view_of x.seat) (view_of s) (waits-ran (view_of x.seat) (view_of s) waits)
 
@@ -106,21 +106,21 @@ module _
       k sections (of-stays sections p (view_of x.seat) (view_of s) of a) (after-still sections p.number (z - 1) (player_of x) (player_of (moved x s)) stays.still (says-moved x s) position before)
 
   -- it played all commands (y), and left (w)
-  module _ (kept : Option Cache) (y w : Mutator) (all : PlaysAll h p z kept (part_at p z) (moved x s) y) (leaves : CountsPart 1 h p y w) where
+  module _ (kept : Option Cache) (y w : Mutator) (all : PlaysAll h p z kept (commands_of_part p z) (moved x s) y) (leaves : CountsPart 1 h p y w) where
     done_plays : PlaysPart plays.Done p z (player_of x) (player_of w)
     done_plays = plays_since plays.Done (player_of w) (left-none p z (player_of (moved x s)) (player_of y) (player_of w) may.season all.left leaves.stays.still leaves.says (leaves.position ∙ leaves.says.count))
 
-    done_told : Told (turn_word p.number z) (length (part_at p z)) (collects_by (part_at p z)) (collects_by (part_at p z)) 1 (view_of x.seat) (view_of w.seat)
+    done_told : Told (turn_word p.number z) (length (commands_of_part p z)) (collects_by (commands_of_part p z)) (collects_by (commands_of_part p z)) 1 (view_of x.seat) (view_of w.seat)
     done_told =
-        let n : ℕ = length (part_at p z) in
-        let c : ℕ = collects_by (part_at p z) in
+        let n : ℕ = length (commands_of_part p z) in
+        let c : ℕ = collects_by (commands_of_part p z) in
         told-left (turn_word p.number z) n c c 1 (view_of x.seat) (view_of y.seat) (view_of w.seat)
         (acts-join (turn_word p.number z) 0 0 0 n c c n c c (view_of x.seat) (view_of s) (view_of y.seat) (waits (turn_word p.number z)) all.acts (omega arith) (omega arith) (omega arith)) leaves.leaves
 
-    done_count : w.count - x.count ≡ length (part_at p z)
+    done_count : w.count - x.count ≡ length (commands_of_part p z)
     done_count = omega (arith, leaves.says.count, all.count)
 
-    pub part-done : IsPart plays.Done h p z x w
+    pub part-done : IsPartPlayed plays.Done h p z x w
     part-done =
         let t = done_told in
         record {
@@ -130,7 +130,7 @@ module _
           seasons = t.seasons;
           counted = counted-kept (view_of y.seat) (view_of w.seat) leaves.stays.still.heap leaves.stays.made all.playing.counted;
           room = λ is. leaves.room (joined (drop z p.parts))
-              (all.room (joined (drop z p.parts)) (subst (λ es. HasRoom es (moved x s)) (part-then p z may.season) begins-may.room));
+              (all.room (joined (drop z p.parts)) (subst (λ es. HasRoomForCommands es (moved x s)) (part-then p z may.season) begins-may.room));
           plays = done_plays;
           position = leaves.position;
           tells =
@@ -144,7 +144,7 @@ module _
         }
 
   -- the heap was full before one of them (y), and it left (w)
-  module _ (y w : Mutator) (k : StopsWithin h p z (part_at p z) (moved x s) y) (leaves : CountsPart 0 h p y w) (known : KnowsFull (view_of w.seat)) where
+  module _ (y w : Mutator) (k : StopsWithin h p z (commands_of_part p z) (moved x s) y) (leaves : CountsPart 0 h p y w) (known : KnowsFull (view_of w.seat)) where
     was_room : (view_of k.before.seat).own.full ≡ false
     unfolding begins-may
     was_room = (k.left may.sections begins-may.of begins-may.before).found_room
@@ -168,10 +168,10 @@ module _
           ⊎_elim (λ before. absurd (false≢true (sym was_room ∙ before))) (λ new. new) (k.stops.found (sym leaves.stays.still.full ∙ full)),
         )
 
-    full_told : Told (turn_word p.number z) k.done (collects_by (take k.done (part_at p z))) (collects_by (take k.done (part_at p z)) + collects_by (k.e ∷ [])) 0 (view_of x.seat) (view_of w.seat)
+    full_told : Told (turn_word p.number z) k.done (collects_by (take k.done (commands_of_part p z))) (collects_by (take k.done (commands_of_part p z)) + collects_by (k.e ∷ [])) 0 (view_of x.seat) (view_of w.seat)
     full_told =
         let season : ℕ = turn_word p.number z in
-        let c : ℕ = collects_by (take k.done (part_at p z)) in
+        let c : ℕ = collects_by (take k.done (commands_of_part p z)) in
         let t : ℕ = c + collects_by (k.e ∷ []) in
         told-left season k.done c t 0 (view_of x.seat) (view_of y.seat) (view_of w.seat)
         (acts-join season 0 0 0 k.done c t k.done c t (view_of x.seat) (view_of s) (view_of y.seat) (waits season) k.acts (omega arith) (omega arith) (omega arith)) leaves.leaves
@@ -179,12 +179,12 @@ module _
     full_count : w.count - x.count ≡ k.done
     full_count = omega (arith, leaves.says.count, k.count)
 
-    pub part-full : IsPart plays.Full h p z x w
+    pub part-full : IsPartPlayed plays.Full h p z x w
     part-full =
         let t = full_told in
         let es : List Entry = events (view_of x.seat) (view_of w.seat) in
         let stops : ℕ = stops_without_cause (view_of x.seat).shape [] es in
-        let part : List Execution = part_at p z in
+        let part : List Execution = commands_of_part p z in
         record {
           sits = leaves.sits;
           out = leaves.out;

@@ -22,14 +22,14 @@ use Rattle.packet_pools.proofs.Searches.{some-left}
 use Rattle.alloc_cache.specs.declared.cache.Cache.{Cache}
 use Rattle.gc_cycle.specs.Answering.{GoesOn, HasCache, later_or, last_phase, phase_read}
 use Rattle.gc_cycle.specs.Events.{never}
-use Rattle.gc_cycle.specs.PartEvents.{polled_last}
+use Rattle.cache_refills.specs.PartEvents.{polled_last}
 use Rattle.seat_turns.specs.Turning.{LooksAtSeason}
-use Rattle.warehouse.specs.Playing.{Acts, GetsReady, IsCounted, IsInTurn, Stays, Waits, counts_part}
+use Rattle.warehouse.specs.Playing.{Acts, GetsReady, ObjectsHaveCells, IsInTurn, Stays, DoesNothing, counts_part}
 use Rattle.gc_cycle.specs.Polling.{saw_full}
-use Rattle.gc_cycle.specs.Sorts.{makes, polls, raises_flag, reads_phase, stores}
+use Rattle.gc_cycle.specs.Sorts.{stores_new, polls, raises_flag, reads_phase, mutator_stores}
 use Rattle.gc_cycle.specs.Sparing.{spares_part}
 use Rattle.gc_cycle.specs.Standing.{KeepsSeat, Mutates, is_at_rest}
-use Rattle.gc_cycle.specs.Stops.{stops_without_cause}
+use Rattle.cache_refills.specs.Stops.{stops_without_cause}
 use Rattle.warehouse.proofs.Acting.{acts-join, waits-join}
 use Rattle.warehouse.proofs.Fulls.{counted-kept}
 use Rattle.warehouse.proofs.Others.{has-cache}
@@ -99,7 +99,7 @@ module _ (n : ℕ) (w x : View) (found : Found ReadSeason n w x) where
   season_stays : Stays w x
   season_stays = subst (Stays w) (sym found.0) (record { still = record { heap = refl; turns = refl; places = refl; full = refl }; made = refl; shape = refl })
 
-  season_waits : Waits w x
+  season_waits : DoesNothing w x
   season_waits season =
       let one = events-after w x ReadSeason n found.0 in
       record {
@@ -129,8 +129,8 @@ module _ (w x : View) (looks : LooksAtSeason w x) where
   pub looks-stays : Stays w x
   looks-stays = looks_by (λ y. Stays w y) (stays-none w) (λ n found. season_stays n w x found)
 
-  pub looks-waits : Waits w x
-  looks-waits = looks_by (λ y. Waits w y) (waits-none w) (λ n found. season_waits n w x found)
+  pub looks-waits : DoesNothing w x
+  looks-waits = looks_by (λ y. DoesNothing w y) (waits-none w) (λ n found. season_waits n w x found)
 
   pub looks-mutates : Mutates w → Mutates x
   looks-mutates m = looks_by Mutates m (λ n found. season_mutates n w x found m)
@@ -142,7 +142,7 @@ module _ (w x : View) (looks : LooksAtSeason w x) where
   looks-cache kept h = looks_by (λ y. HasCache kept y) h (λ n found. season_cache n w x found kept h)
 
 -- a mutator that knows the phase and its turn
-known_ready : (turn : ℕ) (x : View) → Mutates x → HasSeenPhase x.state → IsCounted x → has_turn x.state.section (Some turn) ≡ true → x.state.season_seen ≡ Some turn → IsInTurn turn x
+known_ready : (turn : ℕ) (x : View) → Mutates x → HasSeenPhase x.state → ObjectsHaveCells x → has_turn x.state.section (Some turn) ≡ true → x.state.season_seen ≡ Some turn → IsInTurn turn x
 known_ready turn x m seen counted t is =
     let rest = at-rest x.shape x.state m.rest in
     record {
@@ -163,12 +163,12 @@ known_ready turn x m seen counted t is =
     }
 
 -- of events that store nothing, the polls alone matter
-some_poll : (es : List Entry) → all_steps stores_none es ≡ true → some_event (λ step n. stores step n || polls step n) es ≡ some_event polls es
+some_poll : (es : List Entry) → all_steps stores_none es ≡ true → some_event (λ step n. mutator_stores step n || polls step n) es ≡ some_event polls es
 some_poll [] b = refl
 some_poll (e ∷ es) b =
     let p = and_parts (stores_none e.step) (all_steps stores_none es) b in
-    let none = or_parts (stores e.step e.found) (makes e.step e.found) (writes-none e.step e.found p.0) in
-    ap (λ s. s || polls e.step e.found || some_event (λ step n. stores step n || polls step n) es) none.0 ∙ ap (λ s. polls e.step e.found || s) (some_poll es p.1)
+    let none = or_parts (mutator_stores e.step e.found) (stores_new e.step e.found) (writes-none e.step e.found p.0) in
+    ap (λ s. s || polls e.step e.found || some_event (λ step n. mutator_stores step n || polls step n) es) none.0 ∙ ap (λ s. polls e.step e.found || s) (some_poll es p.1)
 
 one_of : (x y : Bool) → (x || y) ≡ true → y ≡ false → x ≡ true
 one_of true y h none = refl
@@ -182,12 +182,12 @@ pub polled-calm : (es : List Entry) → all_steps stores_none es ≡ true → so
 polled-calm [] b h = absurd (false≢true h)
 polled-calm (e ∷ es) b h =
     let p = and_parts (stores_none e.step) (all_steps stores_none es) b in
-    ap (λ c. if c then polled_last es else (stores e.step e.found || polls e.step e.found) && polls e.step e.found) (some_poll es p.1)
-    ∙ last_of (some_event polls es) (stores e.step e.found) (polls e.step e.found) (polled_last es) (polled-calm es p.1) h
+    ap (λ c. if c then polled_last es else (mutator_stores e.step e.found || polls e.step e.found) && polls e.step e.found) (some_poll es p.1)
+    ∙ last_of (some_event polls es) (mutator_stores e.step e.found) (polls e.step e.found) (polled_last es) (polled-calm es p.1) h
 
 pub polled-right : (xs ys : List Entry) → polled_last ys ≡ true → polled_last (xs ++ ys) ≡ true
 polled-right xs ys h =
-    last-right (λ step n. stores step n || polls step n) polls xs ys (last-some (λ step n. stores step n || polls step n) polls ys h) ∙ h
+    last-right (λ step n. mutator_stores step n || polls step n) polls xs ys (last-some (λ step n. mutator_stores step n || polls step n) polls ys h) ∙ h
 
 pub polled-join : (u v w : View) → Ran u v → Ran v w → polled_last (events v w) ≡ true → polled_last (events u w) ≡ true
 polled-join u v w r s h = ap polled_last (ran-events u v w r s) ∙ polled-right (events u v) (events v w) h
@@ -200,14 +200,14 @@ pub polled-read : (v w x : View) → Ran v w → Ran w x → Only spares_part v 
 polled-read v w x r s a b h =
     polled-calm (events v x) (ran-only stores_none v w x r s (spares-none v w a) b) (ap (some_event polls) (ran-events v w x r s) ∙ some-left polls (events v w) (events w x) h)
 
-pub acts-polled : (v w : View) → Waits v w → some_event polls (events v w) ≡ true → (season : ℕ) → Acts season 1 0 0 v w
+pub acts-polled : (v w : View) → DoesNothing v w → some_event polls (events v w) ≡ true → (season : ℕ) → Acts season 1 0 0 v w
 acts-polled v w a h season =
     let k = a season in
     record { ran = k.ran; polled = some-count polls (events v w) h; collected = omega arith; stopped = k.stopped; stored = k.stored; uncounted = k.uncounted; seasons = k.seasons }
 
 -- so a safe point and the season make ready, where it is the turn
 pub reads-ready :
-    (turn : ℕ) (kept : Option Cache) (v w x : View) → Ran v w → Only spares_part v w → never raises_flag (events v w) ≡ true → KeepsSeat v w → some_event polls (events v w) ≡ true → GoesOn v w → HasCache kept w → IsCounted v
+    (turn : ℕ) (kept : Option Cache) (v w x : View) → Ran v w → Only spares_part v w → never raises_flag (events v w) ≡ true → KeepsSeat v w → some_event polls (events v w) ≡ true → GoesOn v w → HasCache kept w → ObjectsHaveCells v
     → has_turn v.state.section (Some turn) ≡ true → LooksAtSeason w x → x.state.season_seen ≡ Some turn → GetsReady turn kept v x
 reads-ready turn kept v w x ran spares calm keeps poll goes cached counted t looks is =
     let stays = stays-join v w x (stays-spared v w ran spares keeps) (looks-stays w x looks) in
@@ -227,7 +227,7 @@ reads-ready turn kept v w x ran spares calm keeps poll goes cached counted t loo
     }
 
 -- after a wait
-pub ready-after : (turn : ℕ) (kept : Option Cache) (u v w : View) → Stays u v → Waits u v → GetsReady turn kept v w → GetsReady turn kept u w
+pub ready-after : (turn : ℕ) (kept : Option Cache) (u v w : View) → Stays u v → DoesNothing u v → GetsReady turn kept v w → GetsReady turn kept u w
 ready-after turn kept u v w stays waits k =
     record {
       mutates = k.mutates;
@@ -239,5 +239,5 @@ ready-after turn kept u v w stays waits k =
     }
 
 -- what made it ready was a wait too
-pub ready-waits : (turn : ℕ) (kept : Option Cache) (v w : View) → GetsReady turn kept v w → Waits v w
+pub ready-waits : (turn : ℕ) (kept : Option Cache) (v w : View) → GetsReady turn kept v w → DoesNothing v w
 ready-waits turn kept v w k = λ season. let a = k.acts season in record { ran = a.ran; polled = omega arith; collected = omega arith; stopped = a.stopped; stored = a.stored; uncounted = a.uncounted; seasons = a.seasons }

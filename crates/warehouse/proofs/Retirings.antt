@@ -13,7 +13,7 @@ use Rattle.gc_table.proofs.Running.{ran-shape}
 use Rattle.gc_cycle.specs.Answering.{retires}
 use Rattle.gc_cycle.specs.Sorts.{raises_flag}
 use Rattle.gc_cycle.specs.Sparing.{spares_part}
-use Rattle.warehouse.specs.Playing.{Stays, Waits}
+use Rattle.warehouse.specs.Playing.{Stays, DoesNothing}
 use Rattle.warehouse.proofs.Seen.{never-of}
 use Rattle.warehouse.proofs.Sparings.{waits-calm}
 
@@ -27,7 +27,7 @@ retires-calm : (step : Step) (n : ℕ) → retires step ≡ true → raises_flag
 retires-calm RaiseStep n e = absurd (false≢true e)
 retires-calm step n e = refl
 
-pub retired-waits : (v w : View) → Ran v w → Only retires v w → Waits v w
+pub retired-waits : (v w : View) → Ran v w → Only retires v w → DoesNothing v w
 retired-waits v w ran only = waits-calm v w ran (only-more retires spares_part retires-spares v w only) (never-of retires raises_flag retires-calm (events v w) only)
 
 pub retired-stays : (v w : View) → Ran v w → w.state ≡ record v.state { cache = None } → w.own ≡ v.own → Stays v w

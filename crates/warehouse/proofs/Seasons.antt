@@ -87,7 +87,7 @@ since-more f (x ∷ xs) ys a b =
     by false true zs ms ls ys h a = refl
     by false false zs ms ls ys h a = absurd (false≢true a)
 
--- and after the last one come those
+-- after the last such event come those that came since
 pub since-here : (f : Sort) (xs ys : List Entry) (e : Entry) → f e.step e.found ≡ true → some_event f ys ≡ false → since_last f (xs ++ e ∷ ys) ≡ ys
 since-here f [] ys e a b = ap (λ c. if c && not (some_event f ys) then ys else since_last f ys) a ∙ ap (λ c. if not c then ys else since_last f ys) b
 since-here f (x ∷ xs) ys e a b =

@@ -14,14 +14,14 @@ use Rattle.packet_pools.specs.Seeking.{some_event}
 use Rattle.play_end.specs.Playing.{leaves_play}
 use Rattle.play_end.proofs.Runs.{still-run}
 use Rattle.gc_cycle.specs.Events.{never}
-use Rattle.warehouse.specs.Playing.{Acts, Stays, Waits}
-use Rattle.gc_cycle.specs.Sorts.{makes, raises_flag}
+use Rattle.warehouse.specs.Playing.{Acts, Stays, DoesNothing}
+use Rattle.gc_cycle.specs.Sorts.{stores_new, raises_flag}
 use Rattle.gc_cycle.specs.Sparing.{fills_part, spares_part}
 use Rattle.warehouse.proofs.Counting.{fills-stores, fills-uncounted, spares-fills, spares-seasons}
 use Rattle.warehouse.specs.Storing.{stores_in}
 use Rattle.warehouse.proofs.Storing.{stored-none, stores_none}
 use Rattle.gc_cycle.specs.Standing.{KeepsSeat}
-use Rattle.gc_cycle.specs.Stops.{may_stop, stops_without_cause}
+use Rattle.cache_refills.specs.Stops.{may_stop, stops_without_cause}
 
 pub spares-leaves : (fields : ℕ) (step : Step) → spares_part step ≡ true → leaves_play fields step ≡ true
 spares-leaves fields (StoreField v i w) b = absurd (false≢true b)
@@ -50,8 +50,8 @@ calm : (sh : Shape) (since es : List Entry) → never raises_flag es ≡ true �
 calm sh since [] b = refl
 calm sh since (e ∷ es) b =
     let p = or_none (raises_flag e.step e.found) (some_event raises_flag es) b in
-    let later = stops_without_cause sh (if makes e.step e.found then [] else since ++ e ∷ []) es in
-    ap (λ r. (if r && not (may_stop sh since) then 1 else 0) + later) p.0 ∙ plus later ∙ calm sh (if makes e.step e.found then [] else since ++ e ∷ []) es p.1
+    let later = stops_without_cause sh (if stores_new e.step e.found then [] else since ++ e ∷ []) es in
+    ap (λ r. (if r && not (may_stop sh since) then 1 else 0) + later) p.0 ∙ plus later ∙ calm sh (if stores_new e.step e.found then [] else since ++ e ∷ []) es p.1
   where
     plus : (m : ℕ) → 0 + m ≡ m
     plus m = omega arith
@@ -76,11 +76,11 @@ acts-calm season v w ran only b =
     }
 
 -- a call that leaves the part, and asks for no stop
-pub waits-calm : (v w : View) → Ran v w → Only spares_part v w → never raises_flag (events v w) ≡ true → Waits v w
+pub waits-calm : (v w : View) → Ran v w → Only spares_part v w → never raises_flag (events v w) ≡ true → DoesNothing v w
 waits-calm v w ran only b = λ season. acts-calm season v w ran only b
 
 pub stays-none : (v : View) → Stays v v
 stays-none v = record { still = record { heap = refl; turns = refl; places = refl; full = refl }; made = refl; shape = refl }
 
-pub waits-none : (v : View) → Waits v v
+pub waits-none : (v : View) → DoesNothing v v
 waits-none v = waits-calm v v (ran-refl v) (only-none spares_part v) (ap (λ (es : List Entry). never raises_flag es) (events-none v))

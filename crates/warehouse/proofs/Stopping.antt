@@ -38,7 +38,7 @@ use Rattle.gc_cycle.specs.Polling.{saw_full}
 use Rattle.gc_cycle.specs.Sorts.{raises_flag, reads_phase}
 use Rattle.gc_cycle.specs.Sparing.{spares_part}
 use Rattle.gc_cycle.specs.Standing.{IsAlone, IsOut}
-use Rattle.warehouse.specs.Turns.{EndsCycle, KeepsPart, LeavesStop, StopsAt, in_stop, turns_season}
+use Rattle.warehouse.specs.Turns.{LeavesNoCycle, KeepsPart, LeavesStop, StopsAt, in_stop, turns_season}
 use Rattle.warehouse.proofs.Counting.{spares-seasons}
 use Rattle.warehouse.proofs.Seasons.{keeps-join, neither, since-here, spared-keeps, spared-turns}
 use Rattle.warehouse.proofs.Seen.{never-join, none-of}
@@ -48,14 +48,14 @@ use Rattle.warehouse.proofs.InTheStop.{helping_same}
 pub finishes-unhelped : (v w : View) → Ran v w → Only finishes v w → w.state.helping ≡ v.state.helping
 finishes-unhelped v w ran only = state-kept (λ (s : SeatState). s.helping) finishes helping_same v w ran only
 
--- so does a seat that waits outside
+-- calm steps are none of a part's, and don't say that the heap is full
 pub calm-spares : (v w : View) → Only stays_calm v w → Only spares_part v w
 calm-spares v w only = only-more stays_calm spares_part calm_spares v w only
 
 -- a cycle ends after it
 pub ends-after :
-    (v w x : View) → EndsCycle false v w → Ran w x → Only spares_part w x → IsAlone x → never raises_flag (events w x) ≡ true → saw_full (events w x) ≡ false → x.own.position ≡ w.own.position → x.state.helping ≡ w.state.helping
-    → EndsCycle false v x
+    (v w x : View) → LeavesNoCycle false v w → Ran w x → Only spares_part w x → IsAlone x → never raises_flag (events w x) ≡ true → saw_full (events w x) ≡ false → x.own.position ≡ w.own.position → x.state.helping ≡ w.state.helping
+    → LeavesNoCycle false v x
 ends-after v w x e ran only alone calm going position helping =
     record {
       keeps = keeps-join v w x e.keeps (spared-keeps w x ran only position);

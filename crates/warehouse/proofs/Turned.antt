@@ -34,7 +34,7 @@ use Rattle.gc_cycle.specs.Cycles.{never_fills}
 use Rattle.gc_cycle.specs.Events.{never}
 use Rattle.gc_cycle.specs.Polling.{saw_full}
 use Rattle.gc_cycle.specs.Sorts.{raises_flag, reads_phase}
-use Rattle.warehouse.specs.Turns.{AloneAfter, EndsCycle, EndsTurn, KeepsPart, LeavesStop, MayTurnSeason, StopsAt, TurnEnds, in_stop, turns_season}
+use Rattle.warehouse.specs.Turns.{AloneAfter, LeavesNoCycle, EndsTurn, KeepsPart, LeavesStop, MayTurnSeason, StopsAt, TurnEnds, in_stop, turns_season}
 use Rattle.warehouse.proofs.Seasons.{keeps-join, neither, since-more}
 use Rattle.warehouse.proofs.Seen.{never-join, none-count}
 
@@ -43,7 +43,7 @@ season_there : (x : TableState) (i : ℕ) (v : View) → IsState x → Agrees x 
 season_there x i v st a e = st.told.seasons.moved ∙ ap (λ (s : SectionState). s.seasons) (get_or_from_slice_get x.sections 0 v.own no_section (a.own 0 e))
 
 module _ (u v w : View) (may : MayTurnSeason u) (stop : StopsAt u v) where
-  module _ (b : Bool) (end : EndsCycle b v w) where
+  module _ (b : Bool) (end : LeavesNoCycle b v w) where
     both : KeepsPart u w
     both = keeps-join u v w stop.keeps end.keeps
 
@@ -68,7 +68,7 @@ module _ (u v w : View) (may : MayTurnSeason u) (stop : StopsAt u v) where
     )
 
   -- the phase was read as Full
-  turned_full : (z : View) → EndsCycle true v w → Alone Full w → LeavesStop w z → KeepsPart u z × TurnEnds plays.Full u z
+  turned_full : (z : View) → LeavesNoCycle true v w → Alone Full w → LeavesStop w z → KeepsPart u z × TurnEnds plays.Full u z
   turned_full z end alone leaves =
       let later : KeepsPart v z = keeps-join v w z end.keeps leaves.keeps in
       let calm : never raises_flag (events v z) ≡ true = never-join raises_flag v w z end.keeps.ran leaves.keeps.ran end.calm leaves.calm in
@@ -85,7 +85,7 @@ module _ (u v w : View) (may : MayTurnSeason u) (stop : StopsAt u v) where
       )
 
   -- the season moved on
-  module _ (x : View) (end : EndsCycle false v w) (took : Took NextSeason w x) where
+  module _ (x : View) (end : LeavesNoCycle false v w) (took : Took NextSeason w x) where
     turn_ran : Ran w x
     turn_ran = ran-took w x NextSeason refl took
 
@@ -160,7 +160,7 @@ module _ (u v w : View) (may : MayTurnSeason u) (stop : StopsAt u v) where
           ends = turned_done;
         }
 
-  pub ends-full : EndsCycle true v w → Alone Full w → EndsTurn plays.Full u w
+  pub ends-full : LeavesNoCycle true v w → Alone Full w → EndsTurn plays.Full u w
   ends-full end alone =
       record {
         rest = end.rest;

@@ -5,7 +5,7 @@ use Rattle.std.specs.List.{list_any}
 use Rattle.plain_heap.specs.declared.operation.Op.{Op}
 use Rattle.plain_heap.specs.declared.operation.Op.TheVariants as ops
 use Rattle.plain_heap.specs.PlainStep.{IsInRange}
-use Rattle.plain_heap.specs.Sections.{Execution, Parts, Sections, joined}
+use Rattle.plain_heap.specs.Sections.{Execution, Parts, Sections, joined, lends}
 use Rattle.plain_heap.specs.Placement.{IsNew}
 use Rattle.gc_table.specs.declared.seat.Heap.{Heap}
 use Rattle.gc_table.specs.declared.view.View.{View}
@@ -19,15 +19,14 @@ use Rattle.warehouse.specs.declared.mutator.Mutator.{Mutator}
 use Rattle.gc_cycle.specs.declared.counts.Safe.{Safe}
 use Rattle.gc_cycle.specs.declared.counts.Safe.TheVariants as safes
 use Rattle.plain_heap.specs.Sections.{makes_object}
-use Rattle.warehouse.specs.Playing.{HasFree, HasRoom, Acts, IsInTurn, IsPlaying, MayPass, Stays, collects_by, counts_part, part_at, player_of}
+use Rattle.warehouse.specs.Playing.{HasFree, HasRoomForCommands, Acts, IsInTurn, IsPlaying, MayPass, Stays, collects_by, counts_part, commands_of_part, player_of}
 use Rattle.gc_cycle.specs.Standing.{IsOut}
-use Rattle.gc_cycle.specs.Stops.{stops_without_cause}
+use Rattle.cache_refills.specs.Stops.{stops_without_cause}
 use Rattle.warehouse.specs.Storing.{stores_in}
 use Rattle.gc_table.specs.declared.view.Entry.{Entry}
 use Rattle.gc_table.specs.Log.{events}
 use Rattle.gc_table.specs.Seats.{Sits}
 use Rattle.packet_pools.specs.Counts.{count_of}
-use Rattle.mutator_ops.specs.Doing.{lends}
 
 -- neither `new` nor `collect`
 abbrev pub is_other : Op → Bool
@@ -46,9 +45,9 @@ pub record IsNextOf (p : Parts) (turn : ℕ) (e : Execution) (m : Mutator) : Typ
   -- the catalogue reads no variable of the catalogue
   pub lends_is : IsTrue (lends e.op) → p.number ≢ 0
   pub later : List Execution
-  pub room : HasRoom (e ∷ later) m
+  pub room : HasRoomForCommands (e ∷ later) m
 
--- so it is, and the mutator is in its turn
+-- the command is the next of the section, and the mutator is in its turn
 pub record MayDo (p : Parts) (e : Execution) (m : Mutator) : Type 0 where
   pub turn : ℕ
   pub in_turn : IsInTurn turn (view_of m.seat)
@@ -58,6 +57,7 @@ pub record MayDo (p : Parts) (e : Execution) (m : Mutator) : Type 0 where
 abbrev pub ActsIn : ℕ → ℕ → Mutator → Mutator → Type 0
 ActsIn collects stops x y = (season : ℕ) → (view_of x.seat).state.season_seen ≡ Some season → Acts season 0 collects stops (view_of x.seat) (view_of y.seat)
 
+-- the season word is that of the section's turn in some season
 abbrev pub IsTurn : Parts → ℕ → Mutator → Type 0
 IsTurn p turn m = (z : ℕ) × (0 < z) × (turn ≡ turn_word p.number z)
 
@@ -65,7 +65,7 @@ IsTurn p turn m = (z : ℕ) × (0 < z) × (turn ≡ turn_word p.number z)
 pub record DoesOne (h : Heap) (p : Parts) (kept : Option Cache) (e : Execution) (x y : Mutator) : Type 0 where
   pub playing : IsPlaying h p kept y
   pub does : DoesCommand e (player_of x) (player_of y)
-  pub room : (later : List Execution) → HasRoom (e ∷ later) x → HasRoom later y
+  pub room : (later : List Execution) → HasRoomForCommands (e ∷ later) x → HasRoomForCommands later y
   pub acts : ActsIn (collects_by (e ∷ [])) (collects_by (e ∷ [])) x y
 
 -- the heap was found full before the command was done: the section is kept, and where its own seat found that, the command makes an object
@@ -79,14 +79,14 @@ pub record StopsBefore (h : Heap) (p : Parts) (e : Execution) (x y : Mutator) : 
   pub acts : (season : ℕ) → Acts season 0 0 (collects_by (e ∷ [])) (view_of x.seat) (view_of y.seat)
 
 -- the mutator is at the command, and the section is as it was
-pub record IsAt (h : Heap) (p : Parts) (turn : ℕ) (kept : Option Cache) (e : Execution) (x y : Mutator) : Type 0 where
+pub record IsAtCommand (h : Heap) (p : Parts) (turn : ℕ) (kept : Option Cache) (e : Execution) (x y : Mutator) : Type 0 where
   pub playing : IsPlaying h p kept y
   pub stays : Stays (view_of x.seat) (view_of y.seat)
   pub says : SaysSame (player_of x) (player_of y)
   pub acts : (season : ℕ) → Acts season 1 0 0 (view_of x.seat) (view_of y.seat)
   pub may : MayDo p e y
   pub season : (view_of y.seat).state.season_seen ≡ Some turn
-  pub room : (left : List Execution) → HasRoom left x → HasRoom left y
+  pub room : (left : List Execution) → HasRoomForCommands left x → HasRoomForCommands left y
   pub pass : MayPass y.seat p y.count
   pub free : IsTrue (makes_object e.op) → HasFree kept
 
@@ -95,7 +95,7 @@ pub record PlaysOne (h : Heap) (p : Parts) (turn : ℕ) (kept : Option Cache) (e
   pub playing : IsPlaying h p kept y
   pub left : (old : Player) (z : ℕ) (rest : List Execution) → (0 < z) → (turn ≡ turn_word p.number z) → HasLeft p z (e ∷ rest) old (player_of x) → HasLeft p z rest old (player_of y)
   pub count : y.count ≡ x.count + 1
-  pub room : (later : List Execution) → HasRoom (e ∷ later) x → HasRoom later y
+  pub room : (later : List Execution) → HasRoomForCommands (e ∷ later) x → HasRoomForCommands later y
   pub acts : Acts turn 1 (collects_by (e ∷ [])) (collects_by (e ∷ [])) (view_of x.seat) (view_of y.seat)
 
 -- all commands that were left were done
@@ -103,7 +103,7 @@ pub record PlaysAll (h : Heap) (p : Parts) (z : ℕ) (kept : Option Cache) (part
   pub playing : IsPlaying h p kept y
   pub left : HasLeft p z [] (player_of x) (player_of y)
   pub count : y.count ≡ x.count + length part
-  pub room : (later : List Execution) → HasRoom (part ++ later) x → HasRoom later y
+  pub room : (later : List Execution) → HasRoomForCommands (part ++ later) x → HasRoomForCommands later y
   pub acts : Acts (turn_word p.number z) (length part) (collects_by part) (collects_by part) (view_of x.seat) (view_of y.seat)
 
 -- the heap was found full before one of them
@@ -118,6 +118,7 @@ pub record StopsWithin (h : Heap) (p : Parts) (z : ℕ) (part : List Execution) 
   pub count : y.count ≡ x.count + done
   pub acts : Acts (turn_word p.number z) done (collects_by (take done part)) (collects_by (take done part) + collects_by (e ∷ [])) (view_of x.seat) (view_of y.seat)
 
+-- how the commands of a part end: all were played, or the heap was found full and the rest is left
 abbrev pub AllEnds : Safe → Heap → Parts → ℕ → List Execution → Mutator → Mutator → Type 0
 AllEnds (safes.Going kept) h p z part x y = PlaysAll h p z kept part x y
 AllEnds safes.Full h p z part x y = StopsWithin h p z part x y
@@ -125,7 +126,7 @@ AllEnds safes.Full h p z part x y = StopsWithin h p z part x y
 -- the mutator may play the part: by some script with this section the parts before it were played
 pub record MayPlayPart (p : Parts) (z : ℕ) (m : Mutator) : Type 0 where
   pub lends_is : IsTrue (p.number == 0) → IsFalse (list_any (λ e. lends e.op) (joined p.parts))
-  pub room : HasRoom (joined (drop (z - 1) p.parts)) m
+  pub room : HasRoomForCommands (joined (drop (z - 1) p.parts)) m
   pub season : 0 < z
   pub sections : Sections
   pub of : AreOf sections p (view_of m.seat)
@@ -139,7 +140,7 @@ pub record Leaves (times : ℕ) (v w : View) : Type 0 where
   pub counted : count_of counts_part (events v w) ≡ times
   pub seasons : w.own.seasons ≡ v.own.seasons
 
--- so it did, with its position stored, and the section is as it was
+-- the mutator left with its position stored, after its part was counted so often, and its section is as it was
 pub record CountsPart (times : ℕ) (h : Heap) (p : Parts) (x y : Mutator) : Type 0 where
   pub sits : Sits h y.seat
   pub out : IsOut (view_of y.seat)
@@ -147,15 +148,15 @@ pub record CountsPart (times : ℕ) (h : Heap) (p : Parts) (x y : Mutator) : Typ
   pub says : SaysSame (player_of x) (player_of y)
   pub position : (view_of y.seat).own.position ≡ y.count
   pub leaves : Leaves times (view_of x.seat) (view_of y.seat)
-  pub room : (left : List Execution) → HasRoom left x → HasRoom left y
+  pub room : (left : List Execution) → HasRoomForCommands left x → HasRoomForCommands left y
 
--- some front of the part was done, and these commands are left, from a player that stood before the first
+-- a prefix of the part was done, and these commands are left, from a player that stood before the first
 pub record HasPlayedSoFar (h : Heap) (p : Parts) (z turn : ℕ) (kept : Option Cache) (rest : List Execution) (x y : Mutator) : Type 0 where
   pub turn_is : turn ≡ turn_word p.number z
   pub playing : IsPlaying h p kept y
   pub left : HasLeft p z rest (player_of x) (player_of y)
   pub front : List Execution
-  pub part : part_at p z ≡ front ++ rest
+  pub part : commands_of_part p z ≡ front ++ rest
   pub count : y.count ≡ x.count + length front
-  pub room : (later : List Execution) → HasRoom (part_at p z ++ later) x → HasRoom (rest ++ later) y
+  pub room : (later : List Execution) → HasRoomForCommands (commands_of_part p z ++ later) x → HasRoomForCommands (rest ++ later) y
   pub acts : Acts (turn_word p.number z) (length front) (collects_by front) (collects_by front) (view_of x.seat) (view_of y.seat)

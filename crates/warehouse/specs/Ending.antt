@@ -14,7 +14,7 @@ abbrev pub PlaySettles : Played → View → View → Type 0
 PlaySettles plays.Done v w = (w.own.seasons ≡ v.own.seasons + 1) × (IsTrue (v.own.seasons % 2 == 1) → IsTrue w.own.settled)
 PlaySettles plays.Full v w = KnowsFull w
 
--- one part was counted, and the section has come to what it had come to
+-- one part was counted, and what the section has come to is as it was
 pub record CountsAbsent (v w : View) : Type 0 where
   pub keeps : KeepsPart v w
   pub counted : count_of counts_part (events v w) ≡ 1

@@ -5,7 +5,7 @@ use Rattle.mark_core.specs.declared.kinds.Step.{Step}
 use Rattle.mark_core.specs.declared.kinds.Step.TheVariants.{AddStat}
 use Rattle.plain_heap.specs.declared.operation.Op.{Op}
 use Rattle.plain_heap.specs.declared.operation.Op.TheVariants as ops
-use Rattle.plain_heap.specs.Sections.{Execution, Sections, Parts, joined, made_by, printed_by}
+use Rattle.plain_heap.specs.Sections.{Execution, Sections, Parts, joined, made_by, printed_by, lends}
 use Rattle.plain_heap.specs.PlainRun.{plain}
 use Rattle.play_report.specs.Report.{printed_of}
 use Rattle.gc_table.specs.declared.seat.Heap.{Heap}
@@ -19,7 +19,6 @@ use Rattle.packet_pools.specs.Counts.{count_of}
 use Rattle.packet_pools.specs.Seeking.{some_event}
 use Rattle.alloc_cache.specs.declared.cache.Cache.{Cache}
 use Rattle.std.specs.List.{list_any}
-use Rattle.mutator_ops.specs.Doing.{lends}
 use Rattle.mutator_ops.specs.Ready.{IsReady}
 use Rattle.play_end.specs.Alike.{AreAlike}
 use Rattle.play_end.specs.Done.{IsStill, turn_word}
@@ -31,11 +30,11 @@ use Rattle.gc_cycle.specs.Answering.{EndsFull, HasCache}
 use Rattle.gc_cycle.specs.Cycles.{never_fills}
 use Rattle.gc_cycle.specs.Events.{never}
 use Rattle.gc_cycle.specs.Mutating.{GoesOut}
-use Rattle.gc_cycle.specs.PartEvents.{PlaysCommands, StopsAtFull, polled_last}
+use Rattle.cache_refills.specs.PartEvents.{PlaysCommands, StopsAtFull, polled_last}
 use Rattle.gc_cycle.specs.Polling.{poll_found_stop, saw_full}
 use Rattle.gc_cycle.specs.Sorts.{ends_cycle, polls}
 use Rattle.gc_cycle.specs.Standing.{IsOut, Mutates}
-use Rattle.gc_cycle.specs.Stops.{stops_without_cause}
+use Rattle.cache_refills.specs.Stops.{stops_without_cause}
 use Rattle.mark_core.specs.Numbers.{done_count}
 use Rattle.warehouse.specs.Storing.{stores_in}
 use Rattle.gc_table.specs.Rule.{KnowsFull}
@@ -45,7 +44,7 @@ abbrev pub player_of : Mutator → Player
 player_of m = record { view = view_of m.seat; count = m.count; said = map printed_of m.said.items; dropped = m.dropped; cells = m.places.items }
 
 -- room for all that these commands print and make, so that none takes memory, and no number passes its bound
-pub record HasRoom (left : List Execution) (m : Mutator) : Type 0 where
+pub record HasRoomForCommands (left : List Execution) (m : Mutator) : Type 0 where
   pub said : length m.said.items + printed_by left ≤ vec_capacity m.said
   pub places : length m.places.items + made_by left ≤ vec_capacity m.places
   pub count : m.count + length left ≤ 2000000
@@ -67,8 +66,8 @@ pub record IsInTurn (turn : ℕ) (v : View) : Type 0 where
   pub season : v.state.season_seen ≡ Some turn
 
 -- each object has its cell
-abbrev pub IsCounted : View → Type 0
-IsCounted v = length v.own.meaning.heap.objects ≡ v.state.made
+abbrev pub ObjectsHaveCells : View → Type 0
+ObjectsHaveCells v = length v.own.meaning.heap.objects ≡ v.state.made
 
 -- a part that was played was counted
 abbrev pub counts_part : Step → ℕ → Bool
@@ -84,7 +83,7 @@ pub record Acts (season commands collects stops : ℕ) (v w : View) : Type 0 whe
   pub stored : IsTrue (stores_in season v (events v w))
   -- none of it counted a part
   pub uncounted : IsTrue (never counts_part (events v w))
-  -- nor moved the season on
+  -- none of it moved the season on
   pub seasons : w.own.seasons ≡ v.own.seasons
 
 -- the section stays as the player left it
@@ -94,8 +93,8 @@ pub record Stays (v w : View) : Type 0 where
   pub shape : w.shape ≡ v.shape
 
 -- nothing was done that a part tells of
-abbrev pub Waits : View → View → Type 0
-Waits v w = (season : ℕ) → Acts season 0 0 0 v w
+abbrev pub DoesNothing : View → View → Type 0
+DoesNothing v w = (season : ℕ) → Acts season 0 0 0 v w
 
 -- the first poll found a stop under way, or the phase was read as Full
 abbrev pub IsHindered : View → View → Type 0
@@ -124,7 +123,7 @@ pub record FindsFull (done : ℕ) (v w : View) : Type 0 where
   pub ends : EndsFull done v w
   pub known : KnowsFull w
   pub made : w.state.made ≡ v.state.made
-  pub acts : Waits v w
+  pub acts : DoesNothing v w
 
 -- the cache has a free cell
 abbrev pub HasFree : Option Cache → Type 0
@@ -141,15 +140,15 @@ pub record IsPlaying (h : Heap) (p : Parts) (kept : Option Cache) (m : Mutator) 
   pub sits : Sits h m.seat
   pub mutates : Mutates (view_of m.seat)
   pub cached : HasCache kept (view_of m.seat)
-  pub counted : IsCounted (view_of m.seat)
+  pub counted : ObjectsHaveCells (view_of m.seat)
 
 -- the mutator was made for the section, is outside, and played the parts before part z
 pub record MayPlay (h : Heap) (p : Parts) (z : ℕ) (m : Mutator) : Type 0 where
   pub season : 0 < z
   pub sits : Sits h m.seat
   pub out : IsOut (view_of m.seat)
-  pub counted : IsCounted (view_of m.seat)
-  pub room : HasRoom (joined (drop (z - 1) p.parts)) m
+  pub counted : ObjectsHaveCells (view_of m.seat)
+  pub room : HasRoomForCommands (joined (drop (z - 1) p.parts)) m
   -- the catalogue reads no variable of the catalogue
   pub lends_is : IsTrue (p.number == 0) → IsFalse (list_any (λ e. lends e.op) (joined p.parts))
   pub sections : Sections
@@ -157,42 +156,44 @@ pub record MayPlay (h : Heap) (p : Parts) (z : ℕ) (m : Mutator) : Type 0 where
   pub before : IsAfterParts sections p.number (z - 1) (player_of m)
 
 -- the commands of the part
-abbrev pub part_at : Parts → ℕ → List Execution
-part_at p z = slice_index_or p.parts (z - 1) []
+abbrev pub commands_of_part : Parts → ℕ → List Execution
+commands_of_part p z = slice_index_or p.parts (z - 1) []
 
--- what the events of a part say that was played to its end, by so many commands
+-- what the events of a part say, where it was played to its end by n commands
 pub record TellsDone (p : Parts) (z n : ℕ) (v w : View) : Type 0 where
-  pub plays : PlaysCommands v.shape n (collects_by (part_at p z)) (events v w)
-  pub all : n ≡ length (part_at p z)
+  pub plays : PlaysCommands v.shape n (collects_by (commands_of_part p z)) (events v w)
+  pub all : n ≡ length (commands_of_part p z)
   pub counted : count_of counts_part (events v w) ≡ 1
   pub stored : IsTrue (stores_in (turn_word p.number z) v (events v w))
-  -- nor did it say that the heap is full
+  -- none of it said that the heap is full
   pub unfilled : IsTrue (never_fills (events v w))
 
--- and of one that stopped after so many, where the heap was found full
-pub record TellsFull (p : Parts) (z n : ℕ) (v w : View) : Type 0 where
-  pub stops : StopsAtFull v.shape n (collects_by (take n (part_at p z))) (collects_by (take 1 (drop n (part_at p z)))) (events v w)
+-- what the events of a part say, where it stopped after n commands because the heap was found full
+pub record PartTellsFull (p : Parts) (z n : ℕ) (v w : View) : Type 0 where
+  pub stops : StopsAtFull v.shape n (collects_by (take n (commands_of_part p z))) (collects_by (take 1 (drop n (commands_of_part p z)))) (events v w)
   pub counted : count_of counts_part (events v w) ≡ 0
   pub stored : IsTrue (stores_in (turn_word p.number z) v (events v w))
 
+-- what the events of a part say, where it was played to its end or the heap was found full
 abbrev pub PartTells : Played → Parts → ℕ → ℕ → View → View → Type 0
 PartTells plays.Done p z n v w = TellsDone p z n v w
-PartTells plays.Full p z n v w = TellsFull p z n v w
+PartTells plays.Full p z n v w = PartTellsFull p z n v w
 
 -- the whole of it
-pub record IsPart (played : Played) (h : Heap) (p : Parts) (z : ℕ) (x y : Mutator) : Type 0 where
+pub record IsPartPlayed (played : Played) (h : Heap) (p : Parts) (z : ℕ) (x y : Mutator) : Type 0 where
   pub sits : Sits h y.seat
   pub out : IsOut (view_of y.seat)
   pub ran : Ran (view_of x.seat) (view_of y.seat)
-  pub counted : IsCounted (view_of y.seat)
+  pub counted : ObjectsHaveCells (view_of y.seat)
   pub seasons : (view_of y.seat).own.seasons ≡ (view_of x.seat).own.seasons
-  pub room : played ≡ plays.Done → HasRoom (joined (drop z p.parts)) y
+  pub room : played ≡ plays.Done → HasRoomForCommands (joined (drop z p.parts)) y
   pub plays : PlaysPart played p z (player_of x) (player_of y)
   -- however it ended, the section stands at as many commands as the mutator counted
   pub position : (view_of y.seat).own.position ≡ y.count
   pub tells : PartTells played p z (y.count - x.count) (view_of x.seat) (view_of y.seat)
 
--- when a gate may be passed: the seat is active and the section's, its plain heap is that of any script with this section after so many commands, and of the seat's stores and polls the last is a poll
+-- when a gate may be passed: the seat is active and the section's, its plain heap is that of any script with this section after so many commands, and of the
+-- seat's stores and polls the last is a poll
 pub record MayPass (s : HeapSeat) (p : Parts) (command : ℕ) : Type 0 where
   pub active : IsTrue (view_of s).state.active
   pub section : (view_of s).state.section ≡ Some p.number

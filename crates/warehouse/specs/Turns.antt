@@ -39,7 +39,8 @@ pub record KeepsPart (v w : View) : Type 0 where
   pub made : w.state.made ≡ v.state.made
   pub unfilled : IsTrue (never_fills (events v w))
 
--- the season may move on: it is the catalogue's seat, the season is among those of a script, and at the end of the catalogue's turn the plain heap is what the plan says
+-- the season may move on: it is the catalogue's seat, the season is among those of a script, and at the end of the catalogue's turn the plain heap is what the
+-- plan says
 pub record MayTurnSeason (v : View) : Type 0 where
   pub catalogue : v.state.section ≡ Some 0
   pub early : v.own.seasons < 128
@@ -57,7 +58,7 @@ pub record StopsAt (v w : View) : Type 0 where
   pub told : IsTrue (saw_full (in_stop (events v w))) → KnowsFull w
 
 -- in the stop, no cycle is under way any more, or the heap is full
-pub record EndsCycle (full : Bool) (v w : View) : Type 0 where
+pub record LeavesNoCycle (full : Bool) (v w : View) : Type 0 where
   pub keeps : KeepsPart v w
   pub seasons : w.own.seasons ≡ v.own.seasons
   pub rest : IsAlone w

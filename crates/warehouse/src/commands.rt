@@ -6,20 +6,19 @@ ghost use Rattle.plain_heap.specs.Sections.{makes_object};
 ghost use Rattle.plain_heap.specs.declared.operation.Op.TheVariants as ops;
 ghost use Rattle.play_report.specs.Report.{printed_of};
 ghost use Rattle.gc_script.specs.Shown.{execution_of};
-ghost use Rattle.warehouse.specs.Commands.{DoesOne, IsAt, IsNextOf, IsTurn, MayDo, PlaysOne, StopsBefore, is_other};
+ghost use Rattle.warehouse.specs.Commands.{DoesOne, IsAtCommand, IsNextOf, IsTurn, MayDo, PlaysOne, StopsBefore, is_other};
 ghost use Rattle.warehouse.specs.Playing.{HasFree, HasNoFree, IsPlaying};
 
 use crate::gate::Gate;
 use crate::mutator::Mutator;
 use crate::turn::{await_cell, await_turn, has_free, is_ready, spend_none};
 use alloc_cache::Cache;
-use gc_cycle::{Safe, collect};
+use gc_cycle::{Safe, collect, retire_some};
 use gc_script::{Command, Section};
 use gc_table::Heap;
 use mutator_ops::create;
 use plain_heap::{Line, Op};
 use play_report::Said;
-use seat_turns::retire_some;
 use std::sync::Wait;
 
 /// Notes what a command printed, in room that was taken before.
@@ -180,7 +179,7 @@ fn come_late<'a, R: Wait>(
     requires playing { IsPlaying heap.now section.now cache.old mutator.old }
     requires turn { IsTurn section.now turn mutator.old }
     requires left { IsNextOf section.now turn (execution_of command.now) mutator.old }
-    ensures at { OnTrue result (IsAt heap.now section.now turn cache.new (execution_of command.now) mutator.old mutator.new) }
+    ensures at { OnTrue result (IsAtCommand heap.now section.now turn cache.new (execution_of command.now) mutator.old mutator.new) }
     ensures stops { OnFalse result (StopsBefore heap.now section.now (execution_of command.now) mutator.old mutator.new × (cache.new ≡ None)) }
 {
     if makes(command.op) {
@@ -212,7 +211,7 @@ fn come_to<'a, R: Wait>(
     requires playing { IsPlaying heap.now section.now cache.old mutator.old }
     requires turn { IsTurn section.now turn mutator.old }
     requires left { IsNextOf section.now turn (execution_of command.now) mutator.old }
-    ensures at { OnTrue result (IsAt heap.now section.now turn cache.new (execution_of command.now) mutator.old mutator.new) }
+    ensures at { OnTrue result (IsAtCommand heap.now section.now turn cache.new (execution_of command.now) mutator.old mutator.new) }
     ensures stops { OnFalse result (StopsBefore heap.now section.now (execution_of command.now) mutator.old mutator.new × (cache.new ≡ None)) }
 {
     let ready = is_ready(heap, &mut mutator.seat, cache, turn);

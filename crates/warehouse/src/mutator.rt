@@ -2,7 +2,7 @@
 ghost use Rattle.std.specs.Prelude.{◌≡◌, ◌≤◌, [], length, IfOk, IfErr};
 ghost use Rattle.gc_table.specs.Seats.{Sits, state_of, view_of};
 ghost use Rattle.plain_heap.specs.Sections.{joined};
-ghost use Rattle.warehouse.specs.Playing.{HasRoom};
+ghost use Rattle.warehouse.specs.Playing.{HasRoomForCommands};
 ghost use Rattle.gc_cycle.specs.Standing.{IsOut};
 ghost use Rattle.warehouse.specs.Ending.{PlaySettles};
 ghost use Rattle.warehouse.specs.Turns.{KeepsPart, MayTurnSeason, TurnEnds};
@@ -19,7 +19,9 @@ use std::sync::Wait;
 /// A section's seat, with its lines so far and the cells of its objects. It goes from thread to thread.
 #[derive(Drop)]
 pub struct Mutator<'a> {
+    /// The section's seat.
     pub(crate) seat: HeapSeat,
+    /// The lines that it printed, in order.
     pub(crate) said: Vec<Said<'a>>,
     /// The cell of each object, by its number.
     pub(crate) places: Vec<u32>,
@@ -44,7 +46,7 @@ impl<'a> Mutator<'a> {
         section: &Section<'a>,
     ) -> Result<Mutator<'a>, (HeapSeat, OutOfMemory)>
         ensures made { IfOk result (λ m. (m.seat ≡ seat) × (m.said.items ≡ []) × (m.places.items ≡ []) × (m.dropped ≡ 0) × (m.count ≡ 0)) }
-        ensures room { (state_of seat).made ≡ 0 → 2000000 ≤ (view_of seat).shape.objects → IfOk result (λ m. HasRoom (joined section.now.parts) m) }
+        ensures room { (state_of seat).made ≡ 0 → 2000000 ≤ (view_of seat).shape.objects → IfOk result (λ m. HasRoomForCommands (joined section.now.parts) m) }
         ensures refused { IfErr result (λ e. e.0 ≡ seat) }
     {
         see_few(section);
@@ -70,8 +72,8 @@ impl<'a> Mutator<'a> {
         self.seat.number()
     }
 
-    /// Moves the season on, with the catalogue's seat, between two turns: in a stop, once a cycle that was marking has ended. Full comes where the heap was found
-    /// full in the stop; the season then stays.
+    /// Moves the season on, with the catalogue's seat, between two turns: in a stop, once a cycle that was marking has ended. Full comes where the heap was
+    /// found full in the stop; the season then stays.
     pub fn next_turn<R: Wait>(&mut self, rt: &R, heap: &Heap) -> Played
         requires seat { Sits heap.now self.old.seat × IsOut (view_of self.old.seat) }
         requires turn { MayTurnSeason (view_of self.old.seat) }

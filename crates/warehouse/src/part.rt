@@ -5,19 +5,18 @@ ghost use Rattle.gc_cycle.specs.Standing.{IsOut};
 ghost use Rattle.play_end.specs.Done.{turn_word};
 ghost use Rattle.warehouse.specs.Commands.{AllEnds, CountsPart, MayPlayPart};
 ghost use Rattle.warehouse.specs.Ending.{CountsAbsent};
-ghost use Rattle.warehouse.specs.Playing.{IsPart, IsPlaying, MayPlay, part_at};
+ghost use Rattle.warehouse.specs.Playing.{IsPartPlayed, IsPlaying, MayPlay, commands_of_part};
 
 use crate::commands::play_command;
 use crate::gate::Gate;
 use crate::mutator::Mutator;
 use crate::turn::spend_none;
 use alloc_cache::Cache;
-use gc_cycle::{Safe, go_in, go_out};
+use gc_cycle::{Safe, go_in, go_out, retire_some};
 use gc_script::Section;
 use gc_table::{Heap, HeapSeat};
 use mark_core::DONE;
 use play_end::Played;
-use seat_turns::retire_some;
 use std::sync::Wait;
 use stop_world::leave;
 
@@ -41,7 +40,7 @@ fn play_commands<'a, R: Wait, G: Gate>(
 ) -> Safe
     requires playing { IsPlaying heap.now section.now None mutator.old }
     requires before { MayPlayPart section.now season mutator.old }
-    ensures { AllEnds result heap.now section.now season (part_at section.now season) mutator.old mutator.new }
+    ensures { AllEnds result heap.now section.now season (commands_of_part section.now season) mutator.old mutator.new }
 {
     let turn = turn_of(section.number(), season);
     let mut cache: Option<Cache> = None;
@@ -55,13 +54,7 @@ fn play_commands<'a, R: Wait, G: Gate>(
 }
 
 /// Counts the part, gives the cache up, and leaves with the position stored.
-fn end_part<'a, R: Wait>(
-    rt: &R,
-    heap: &Heap,
-    mutator: &mut Mutator<'a>,
-    section: &Section<'a>,
-    cache: Option<Cache>,
-)
+fn end_part<'a>(heap: &Heap, mutator: &mut Mutator<'a>, section: &Section<'a>, cache: Option<Cache>)
     requires playing { IsPlaying heap.now section.now cache mutator.old }
     ensures { CountsPart 1 heap.now section.now mutator.old mutator.new }
 {
@@ -81,7 +74,7 @@ pub fn play_part<'a, R: Wait, G: Gate>(
     gate: &G,
 ) -> Played
     requires { MayPlay heap.now section.now season mutator.old }
-    ensures { IsPart result heap.now section.now season mutator.old mutator.new }
+    ensures { IsPartPlayed result heap.now section.now season mutator.old mutator.new }
 {
     go_in(rt, heap, &mut mutator.seat);
     match play_commands(rt, heap, mutator, section, season, gate) {
@@ -90,7 +83,7 @@ pub fn play_part<'a, R: Wait, G: Gate>(
             Played::Full
         }
         Safe::Going(cache) => {
-            end_part(rt, heap, mutator, section, cache);
+            end_part(heap, mutator, section, cache);
             Played::Done
         }
     }

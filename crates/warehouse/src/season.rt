@@ -9,7 +9,7 @@ ghost use Rattle.gc_table.specs.Seats.{Across, Sits, state_of, view_of};
 ghost use Rattle.stop_world.specs.Waiting.{HasStopped};
 ghost use Rattle.gc_cycle.specs.Standing.{IsAlone, IsOut};
 ghost use Rattle.warehouse.specs.Ending.{PlaySettles};
-ghost use Rattle.warehouse.specs.Turns.{AloneAt, EndsCycle, EndsTurn, KeepsPart, LeavesStop, MayTurnSeason, StopsAt, TurnEnds};
+ghost use Rattle.warehouse.specs.Turns.{AloneAt, LeavesNoCycle, EndsTurn, KeepsPart, LeavesStop, MayTurnSeason, StopsAt, TurnEnds};
 
 use gc_cycle::{await_resumed_helping, finish_cycle, precise};
 use gc_table::{Heap, HeapSeat};
@@ -42,7 +42,7 @@ fn end_cycle<R: Wait>(rt: &R, heap: &Heap, seat: &mut HeapSeat) -> bool
     requires stopped { HasStopped (view_of seat.old) }
     requires rest { IsTrue (has_nothing (view_of seat.old).shape (state_of seat.old)) }
     ensures seat { Sits heap.now seat.new }
-    ensures ends { Across (EndsCycle result) seat.old seat.new }
+    ensures ends { Across (LeavesNoCycle result) seat.old seat.new }
     ensures alone { AloneAt result (view_of seat.new) }
 {
     match heap.read_phase(seat) {
@@ -68,8 +68,8 @@ fn leave_stop(heap: &Heap, seat: &mut HeapSeat)
     leave(heap, seat);
 }
 
-/// Ends a turn in a stop of this seat, which stays in it: the season moves on, once no cycle is under way. Full comes where the heap was found full in the stop:
-/// the season then stays.
+/// Ends a turn in a stop of this seat, which stays in it: the season moves on, once no cycle is under way. Full comes where the heap was found full in the
+/// stop: the season then stays.
 fn end_turn<R: Wait>(rt: &R, heap: &Heap, seat: &mut HeapSeat) -> Played
     requires seat { Sits heap.now seat.old × IsOut (view_of seat.old) }
     requires turn { MayTurnSeason (view_of seat.old) }

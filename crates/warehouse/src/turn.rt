@@ -6,15 +6,16 @@ ghost use Rattle.mark_core.specs.declared.kinds.Phase.TheVariants.{Full};
 ghost use Rattle.gc_table.specs.Seats.{Across, did, Sits, state_of, view_of};
 ghost use Rattle.gc_cycle.specs.Answering.{GoesOn, HasCache};
 ghost use Rattle.seat_turns.specs.Turning.{SeesOther};
-ghost use Rattle.warehouse.specs.Playing.{FindsFull, GetsReady, Glances, HasFree, HasNoFree, IsCounted, IsHindered, Stays, Waits};
+ghost use Rattle.warehouse.specs.Playing.{FindsFull, GetsReady, Glances, HasFree, HasNoFree, ObjectsHaveCells, IsHindered, Stays, DoesNothing};
 ghost use Rattle.gc_cycle.specs.Polling.{poll_found_stop};
 ghost use Rattle.gc_cycle.specs.Standing.{Mutates};
 
 use alloc_cache::Cache;
-use gc_cycle::{Refill, go_in, go_out, pass_safe_point, refill};
+use cache_refills::refill;
+use gc_cycle::{Refill, go_in, go_out, pass_safe_point, retire_some};
 use gc_table::{Heap, HeapSeat};
 use mark_core::Phase;
-use seat_turns::{is_turn, retire_some};
+use seat_turns::is_turn;
 use std::sync::Wait;
 use stop_world::poll;
 
@@ -46,7 +47,7 @@ fn go_round<R: Wait>(
     ensures cache { (state_of seat.new).cache ≡ None }
     ensures none { cache.new ≡ None }
     ensures stays { Across Stays seat.old seat.new }
-    ensures acts { Across Waits seat.old seat.new }
+    ensures acts { Across DoesNothing seat.old seat.new }
 {
     retire_some(heap, seat, cache.take());
     go_out(heap, seat, done);
@@ -85,14 +86,14 @@ fn sees_clear(heap: &Heap, seat: &mut HeapSeat) -> bool
 pub(crate) fn is_ready(heap: &Heap, seat: &mut HeapSeat, _cache: &Option<Cache>, turn: u64) -> bool
     requires seat { Sits heap.now seat.old × Mutates (view_of seat.old) }
     requires cache { HasCache _cache.now (view_of seat.old) }
-    requires counted { IsCounted (view_of seat.old) }
+    requires counted { ObjectsHaveCells (view_of seat.old) }
     requires turn { IsTrue (has_turn (state_of seat.old).section (Some turn)) }
     ensures seat { Sits heap.now seat.new × Mutates (view_of seat.new) }
     ensures cache { HasCache _cache.now (view_of seat.new) }
     ensures ready { IsTrue result → Across (GetsReady turn _cache.now) seat.old seat.new }
     ensures late { OnFalse result (Across IsHindered seat.old seat.new ⊎ SeesOther turn (view_of seat.new)) }
     ensures stays { Across Stays seat.old seat.new }
-    ensures waits { Across Waits seat.old seat.new }
+    ensures waits { Across DoesNothing seat.old seat.new }
 {
     if !sees_clear(heap, seat) {
         return false;
@@ -112,7 +113,7 @@ pub(crate) fn await_turn<R: Wait>(
 ) -> bool
     requires seat { Sits heap.now seat.old × Mutates (view_of seat.old) }
     requires cache { HasCache cache.old (view_of seat.old) }
-    requires counted { IsCounted (view_of seat.old) }
+    requires counted { ObjectsHaveCells (view_of seat.old) }
     requires turn { IsTrue (has_turn (state_of seat.old).section (Some turn)) }
     ensures seat { Sits heap.now seat.new }
     ensures ready { OnTrue result (Across (GetsReady turn cache.new) seat.old seat.new) }
@@ -170,7 +171,7 @@ pub(crate) fn await_cell<R: Wait>(
 ) -> bool
     requires seat { Sits heap.now seat.old × Mutates (view_of seat.old) }
     requires cache { HasCache cache.old (view_of seat.old) }
-    requires counted { IsCounted (view_of seat.old) }
+    requires counted { ObjectsHaveCells (view_of seat.old) }
     requires turn { IsTrue (has_turn (state_of seat.old).section (Some turn)) }
     ensures seat { Sits heap.now seat.new }
     ensures ready { OnTrue result (Across (GetsReady turn cache.new) seat.old seat.new × HasFree cache.new) }

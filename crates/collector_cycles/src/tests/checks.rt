@@ -3,14 +3,12 @@ ghost use Rattle.std.specs.Prelude.{◌≡◌};
 ghost use Rattle.std.specs.Bool.{OnTrue};
 ghost use Rattle.mark_core.specs.Steps.WorldSteps.{has_nothing as has_nothing_of};
 ghost use Rattle.gc_table.specs.Seats.{Sits, state_of, view_of};
-ghost use Rattle.mutator_ops.specs.Ready.{IsReady};
 ghost use Rattle.stop_world.specs.Gates.{IsDone};
 ghost use Rattle.gc_cycle.specs.Standing.{Helps, IsOut, Mutates, is_at_rest as is_at_rest_of};
-ghost use Rattle.collector_cycles.specs.Seats.{Carries};
 
 use gc_table::{Heap, HeapSeat};
 use mark_core::Phase;
-use test_heaps::{empty_handed, has_making, has_seen_phase, is_bare, may_mutate, work_in_hand};
+use test_heaps::{empty_handed, has_making, is_bare, work_in_hand};
 
 /// The seat has nothing in hand, but perhaps a cache.
 fn is_at_rest(heap: &Heap, seat: &HeapSeat) -> bool
@@ -47,18 +45,6 @@ pub fn may_call(heap: &Heap, seat: &HeapSeat) -> bool
 {
     let s = seat.state();
     s.active && !s.helping && s.section.is_some() && is_at_rest(heap, seat)
-}
-
-/// The seat may store in its section's turn.
-pub fn is_ready(heap: &Heap, seat: &HeapSeat) -> bool
-    requires { Carries heap.now seat.now }
-    ensures { OnTrue result (IsReady (view_of seat.now)) }
-{
-    let s = seat.state();
-    (may_mutate(seat) && has_seen_phase(seat) && s.owes.is_none())
-        && !work_in_hand(heap.shape().fields, seat)
-        && !has_making(seat)
-        && s.got == 0
 }
 
 /// The seat is outside with nothing in hand.

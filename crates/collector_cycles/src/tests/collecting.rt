@@ -1,17 +1,17 @@
 //! A mutator that finds no block collects: what it doesn't reach is free again, and where it reaches all the heap is full.
 ghost use Rattle.std.specs.Prelude.{IfNone, IfSome};
-ghost use Rattle.collector_cycles.specs.Seats.{Carries, Fills};
+ghost use Rattle.test_heaps.specs.Seats.{HasEachObject, IsReadyWithCache};
 
-use super::SMALL;
-use super::checks::{is_ready, may_call};
-use super::objects::{chain, forget, free_cells, link, make, take};
+use super::checks::may_call;
+use super::objects::{chain, free_cells, link};
 use super::seasons::begin;
 use alloc_cache::{Cache, retire};
-use gc_cycle::{Paid, Refill, Safe, collect, refill};
+use cache_refills::refill;
+use gc_cycle::{Paid, Refill, Safe, collect};
 use gc_table::{Heap, HeapSeat};
-use mark_core::Phase;
+use mark_core::{BLOCK_CELLS, FIRST_POSITION, NAMED_SECTION, Phase};
 use std::sync::Wait;
-use test_heaps::{next_seat, open};
+use test_heaps::{SMALL, forget, is_ready, make, next_seat, open, take};
 
 /// A cache and what was paid for it, for a mutator that has done `done` commands.
 pub fn refills<R: Wait>(
@@ -20,9 +20,9 @@ pub fn refills<R: Wait>(
     seat: &mut HeapSeat,
     done: u32,
 ) -> Option<(Cache, Paid)>
-    requires { Carries heap.now seat.old }
-    ensures some { IfSome result (λ r. Fills heap.now seat.new r.0) }
-    ensures none { IfNone result (Carries heap.now seat.new) }
+    requires { HasEachObject heap.now seat.old }
+    ensures some { IfSome result (λ r. IsReadyWithCache heap.now seat.new r.0) }
+    ensures none { IfNone result (HasEachObject heap.now seat.new) }
 {
     if !may_call(heap, seat) || seat.state().cache.is_some() {
         return None;
@@ -42,8 +42,8 @@ pub fn refills<R: Wait>(
 
 /// Whether the heap is full for a mutator that has done `done` commands.
 fn finds_full<R: Wait>(rt: &R, heap: &Heap, seat: &mut HeapSeat, done: u32) -> bool
-    requires { Carries heap.now seat.old }
-    ensures { Carries heap.now seat.new }
+    requires { HasEachObject heap.now seat.old }
+    ensures { HasEachObject heap.now seat.new }
 {
     if !may_call(heap, seat) || seat.state().cache.is_some() {
         return false;
@@ -59,8 +59,8 @@ fn finds_full<R: Wait>(rt: &R, heap: &Heap, seat: &mut HeapSeat, done: u32) -> b
 
 /// A collection: true where the mutator goes on.
 pub fn collects<R: Wait>(rt: &R, heap: &Heap, seat: &mut HeapSeat) -> bool
-    requires { Carries heap.now seat.old }
-    ensures { Carries heap.now seat.new }
+    requires { HasEachObject heap.now seat.old }
+    ensures { HasEachObject heap.now seat.new }
 {
     if !may_call(heap, seat) || seat.state().cache.is_some() {
         return false;
@@ -77,11 +77,11 @@ pub fn collects<R: Wait>(rt: &R, heap: &Heap, seat: &mut HeapSeat) -> bool
 
 /// Makes 64 objects, each stored in variable 0: how many were made.
 fn fill(heap: &Heap, seat: &mut HeapSeat, cache: &mut Cache) -> u32
-    requires { Fills heap.now seat.old cache.old }
-    ensures { Fills heap.now seat.new cache.new }
+    requires { IsReadyWithCache heap.now seat.old cache.old }
+    ensures { IsReadyWithCache heap.now seat.new cache.new }
 {
     let mut made = 0u32;
-    for n in 0..64 {
+    for n in 0..BLOCK_CELLS {
         if make(heap, seat, cache, 0, n) {
             made = made.wrapping_add(1);
         }
@@ -91,12 +91,12 @@ fn fill(heap: &Heap, seat: &mut HeapSeat, cache: &mut Cache) -> u32
 
 /// The free cells of the cache that a mutator gets when all but one object of the block are garbage.
 fn refills_after_garbage<R: Wait>(rt: &R, heap: &Heap, seat: &mut HeapSeat) -> Option<u32>
-    requires { Carries heap.now seat.old }
+    requires { HasEachObject heap.now seat.old }
 {
     let mut cache = take(heap, seat)?;
     let made = fill(heap, seat, &mut cache);
     retire(heap, seat, cache);
-    if made != 64 {
+    if made != BLOCK_CELLS {
         return None;
     }
     let (cache, _paid) = refills(rt, heap, seat, 193)?;
@@ -107,24 +107,24 @@ fn refills_after_garbage<R: Wait>(rt: &R, heap: &Heap, seat: &mut HeapSeat) -> O
 
 /// The phase, the section that is named, and its position, once all 64 objects of a chain fill the heap.
 fn fills_up<R: Wait>(rt: &R, heap: &Heap, seat: &mut HeapSeat) -> Option<(Phase, u64, u64)>
-    requires { Carries heap.now seat.old }
+    requires { HasEachObject heap.now seat.old }
 {
     if heap.shape().sections < 2
-        || chain(heap, seat, 64) != 64
+        || chain(heap, seat, BLOCK_CELLS) != BLOCK_CELLS
         || !finds_full(rt, heap, seat, 193)
     {
         return None;
     }
     let phase = heap.read_phase(seat);
-    let named = heap.read_stat(seat, 7);
-    let position = heap.read_stat(seat, 9);
+    let named = heap.read_stat(seat, NAMED_SECTION);
+    let position = heap.read_stat(seat, FIRST_POSITION + 1);
     Some((phase, named, position))
 }
 
 /// Makes two objects that refer to each other, which no variable names.
 pub fn make_ring(heap: &Heap, seat: &mut HeapSeat) -> bool
-    requires { Carries heap.now seat.old }
-    ensures { Carries heap.now seat.new }
+    requires { HasEachObject heap.now seat.old }
+    ensures { HasEachObject heap.now seat.new }
 {
     let Some(mut cache) = take(heap, seat) else {
         return false;
@@ -141,7 +141,7 @@ pub fn make_ring(heap: &Heap, seat: &mut HeapSeat) -> bool
 
 /// The free cells before a collection and after it.
 fn frees_ring<R: Wait>(rt: &R, heap: &Heap, seat: &mut HeapSeat) -> Option<(u32, u32)>
-    requires { Carries heap.now seat.old }
+    requires { HasEachObject heap.now seat.old }
 {
     if !make_ring(heap, seat) {
         return None;

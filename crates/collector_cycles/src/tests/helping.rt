@@ -1,16 +1,15 @@
 //! A seat outside helps a stop: it traces in its drain, and sweeps in its sweep.
-ghost use Rattle.std.specs.Prelude.{◌<◌, ◌*◌, IsFalse, IsTrue};
+ghost use Rattle.std.specs.Prelude.{◌<◌, IsFalse, IsTrue};
 ghost use Rattle.std.specs.Bool.{OnTrue};
 ghost use Rattle.mark_core.specs.Places.{the_phase};
 ghost use Rattle.mark_core.specs.declared.kinds.Phase.TheVariants.{Drain, Marking, Sweep};
 ghost use Rattle.gc_table.specs.Running.{Alone, Known};
-ghost use Rattle.gc_table.specs.Seats.{did, Sits, state_of, view_of};
+ghost use Rattle.gc_table.specs.Seats.{Sits, state_of, view_of};
 ghost use Rattle.gc_table.specs.Stopping.{has_moved};
 ghost use Rattle.gc_table.specs.SeatRecords.{At, resting};
-ghost use Rattle.collector_cycles.specs.Seats.{Carries};
-ghost use Rattle.test_heaps.specs.Seats.{flagged};
+ghost use Rattle.test_heaps.specs.Seats.{HasEachObject};
+ghost use Rattle.stop_world.specs.StopRecords.{flagged};
 
-use super::SMALL;
 use super::checks::{is_done, may_help};
 use super::objects::chain;
 use super::seasons::{begin, marks};
@@ -18,9 +17,10 @@ use gc_cycle::{HelpEnd, Helped, help};
 use gc_table::{Heap, HeapSeat};
 use mark_core::Phase;
 use std::sync::Wait;
-use stop_world::{await_stopped, close_help, join_help, leave, leave_help, open_help};
+use stop_world::{await_stopped, close_help, join_help, leave_help, open_help};
 use test_heaps::{
-    begins_sweep, drained, drains, is_bare, is_free, next_seat, open, raises_own, resets, scans_all,
+    SMALL, begins_sweep, drained, drains, is_bare, leaves, next_seat, open, raises_own, resets,
+    scans_all,
 };
 
 /// What a seat did that was let in to help: nothing where help was closed.
@@ -41,17 +41,13 @@ pub fn helps(heap: &Heap, seat: &mut HeapSeat, quota: u32) -> Option<Helped>
 
 /// Makes a chain of ten objects, begins marking, and leaves.
 fn leaves_marking(heap: &Heap, seat: &mut HeapSeat) -> bool
-    requires { Carries heap.now seat.old }
+    requires { HasEachObject heap.now seat.old }
     ensures { Sits heap.now seat.new }
 {
     if chain(heap, seat, 10) != 10 || !marks(heap, seat) {
         return false;
     }
-    if !seat.state().active || !is_free(heap, seat) {
-        return false;
-    }
-    leave(heap, seat);
-    true
+    leaves(heap, seat)
 }
 
 /// Waits for the stop: true where a cycle was marking.
@@ -133,7 +129,7 @@ fn shares<R: Wait>(
     zero: &mut HeapSeat,
     one: &mut HeapSeat,
 ) -> Option<(Helped, Helped)>
-    requires { At heap.now resting 0 zero.old × Carries heap.now one.old }
+    requires { At heap.now resting 0 zero.old × HasEachObject heap.now one.old }
 {
     if !leaves_marking(heap, one) || !raises_own(heap, zero, 0) || !stops_marking(rt, heap, zero) {
         return None;

@@ -1,22 +1,21 @@
 //! A store hides an unmarked object behind a clean card, while a cycle is marking: the end of the cycle keeps it.
-ghost use Rattle.collector_cycles.specs.Seats.{Carries, Fills};
+ghost use Rattle.test_heaps.specs.Seats.{HasEachObject, IsReadyWithCache};
 
-use super::SMALL;
 use super::collecting::refills;
-use super::objects::{forget, link, make, take, walk};
+use super::objects::{link, walk};
 use super::seasons::{begin, marks};
 use alloc_cache::{Cache, retire};
 use card_clean::next_card;
 use gc_table::{Heap, HeapSeat};
 use mark_core::Phase;
 use std::sync::Wait;
-use test_heaps::{may_trace, next_seat, open};
+use test_heaps::{SMALL, forget, make, marks_as_mutator, next_seat, open, take};
 use tracer::{scan_roots, trace};
 
 /// Makes an object with value 7 in variable 0.
 fn make_first(heap: &Heap, seat: &mut HeapSeat) -> bool
-    requires { Carries heap.now seat.old }
-    ensures { Carries heap.now seat.new }
+    requires { HasEachObject heap.now seat.old }
+    ensures { HasEachObject heap.now seat.new }
 {
     let Some(mut cache) = take(heap, seat) else {
         return false;
@@ -28,14 +27,14 @@ fn make_first(heap: &Heap, seat: &mut HeapSeat) -> bool
 
 /// Marks the roots and traces: how many objects were scanned.
 fn traces(heap: &Heap, seat: &mut HeapSeat) -> Option<u32>
-    requires { Carries heap.now seat.old }
-    ensures { Carries heap.now seat.new }
+    requires { HasEachObject heap.now seat.old }
+    ensures { HasEachObject heap.now seat.new }
 {
-    if heap.shape().sections < 2 || !may_trace(heap, seat) {
+    if heap.shape().sections < 2 || !marks_as_mutator(heap, seat) {
         return None;
     }
     scan_roots(heap, seat, 1);
-    if !may_trace(heap, seat) {
+    if !marks_as_mutator(heap, seat) {
         return None;
     }
     Some(trace(heap, seat, 100).done)
@@ -43,10 +42,10 @@ fn traces(heap: &Heap, seat: &mut HeapSeat) -> Option<u32>
 
 /// The next card of the pass.
 fn draws(heap: &Heap, seat: &mut HeapSeat) -> Option<u32>
-    requires { Carries heap.now seat.old }
-    ensures { Carries heap.now seat.new }
+    requires { HasEachObject heap.now seat.old }
+    ensures { HasEachObject heap.now seat.new }
 {
-    if !may_trace(heap, seat) {
+    if !marks_as_mutator(heap, seat) {
         return None;
     }
     next_card(heap, seat)
@@ -54,8 +53,8 @@ fn draws(heap: &Heap, seat: &mut HeapSeat) -> Option<u32>
 
 /// The pass over the four cards ends: whether each was given out.
 fn passes(heap: &Heap, seat: &mut HeapSeat) -> bool
-    requires { Carries heap.now seat.old }
-    ensures { Carries heap.now seat.new }
+    requires { HasEachObject heap.now seat.old }
+    ensures { HasEachObject heap.now seat.new }
 {
     draws(heap, seat) == Some(0)
         && draws(heap, seat) == Some(1)
@@ -66,16 +65,16 @@ fn passes(heap: &Heap, seat: &mut HeapSeat) -> bool
 
 /// Whether the first card is dirty.
 fn is_dirty(heap: &Heap, seat: &mut HeapSeat) -> bool
-    requires { Carries heap.now seat.old }
-    ensures { Carries heap.now seat.new }
+    requires { HasEachObject heap.now seat.old }
+    ensures { HasEachObject heap.now seat.new }
 {
     heap.shape().cells >= 64 && seat.state().active && heap.read_card(seat, 0)
 }
 
 /// Makes a garbage object, and one with value 9 that only a field of the first object leads to.
 fn hide(heap: &Heap, seat: &mut HeapSeat, cache: &mut Cache) -> bool
-    requires { Fills heap.now seat.old cache.old }
-    ensures { Fills heap.now seat.new cache.new }
+    requires { IsReadyWithCache heap.now seat.old cache.old }
+    ensures { IsReadyWithCache heap.now seat.new cache.new }
 {
     let garbage = make(heap, seat, cache, 1, 8);
     let hidden = make(heap, seat, cache, 1, 9);
@@ -84,10 +83,10 @@ fn hide(heap: &Heap, seat: &mut HeapSeat, cache: &mut Cache) -> bool
     garbage && hidden
 }
 
-/// The same in a block of its own.
+/// In a block of its own, makes a garbage object, and one with value 9 that only a field of the first object leads to.
 fn hides(heap: &Heap, seat: &mut HeapSeat) -> bool
-    requires { Carries heap.now seat.old }
-    ensures { Carries heap.now seat.new }
+    requires { HasEachObject heap.now seat.old }
+    ensures { HasEachObject heap.now seat.new }
 {
     let Some(mut cache) = take(heap, seat) else {
         return false;
@@ -99,8 +98,8 @@ fn hides(heap: &Heap, seat: &mut HeapSeat) -> bool
 
 /// Whether the first object was scanned, no card was dirty after that, and the store of the second one dirtied its card.
 fn hides_behind(heap: &Heap, seat: &mut HeapSeat) -> bool
-    requires { Carries heap.now seat.old }
-    ensures { Carries heap.now seat.new }
+    requires { HasEachObject heap.now seat.old }
+    ensures { HasEachObject heap.now seat.new }
 {
     make_first(heap, seat)
         && marks(heap, seat)
@@ -113,7 +112,7 @@ fn hides_behind(heap: &Heap, seat: &mut HeapSeat) -> bool
 
 /// The free cells of the cache with which the cycle ends, the phase then, and the objects that are left with the sum of their values.
 fn keeps<R: Wait>(rt: &R, heap: &Heap, seat: &mut HeapSeat) -> Option<(u32, Phase, u32, u64)>
-    requires { Carries heap.now seat.old }
+    requires { HasEachObject heap.now seat.old }
 {
     if !hides_behind(heap, seat) {
         return None;

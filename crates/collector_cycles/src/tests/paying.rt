@@ -1,5 +1,5 @@
 //! A mutator that takes the last block of a heap begins a cycle, and traces in it.
-ghost use Rattle.collector_cycles.specs.Seats.{Carries};
+ghost use Rattle.test_heaps.specs.Seats.{HasEachObject};
 
 use super::LARGE;
 use super::collecting::{collects, refills};
@@ -8,7 +8,7 @@ use super::seasons::begin;
 use alloc_cache::retire;
 use gc_cycle::Paid;
 use gc_table::{Heap, HeapSeat};
-use mark_core::Phase;
+use mark_core::{FREE, Phase};
 use std::sync::Wait;
 use test_heaps::{next_seat, open};
 use tracer::Stopped;
@@ -24,8 +24,8 @@ struct Came {
 
 /// Makes a chain of 576 objects in nine blocks: whether all were made.
 fn make_chain(heap: &Heap, seat: &mut HeapSeat) -> bool
-    requires { Carries heap.now seat.old }
-    ensures { Carries heap.now seat.new }
+    requires { HasEachObject heap.now seat.old }
+    ensures { HasEachObject heap.now seat.new }
 {
     for _block in 0..9 {
         if chain(heap, seat, 64) != 64 {
@@ -37,7 +37,7 @@ fn make_chain(heap: &Heap, seat: &mut HeapSeat) -> bool
 
 /// What the refill after a collection comes to.
 fn refills_last<R: Wait>(rt: &R, heap: &Heap, seat: &mut HeapSeat) -> Option<Came>
-    requires { Carries heap.now seat.old }
+    requires { HasEachObject heap.now seat.old }
 {
     if !make_chain(heap, seat) || !collects(rt, heap, seat) {
         return None;
@@ -45,7 +45,7 @@ fn refills_last<R: Wait>(rt: &R, heap: &Heap, seat: &mut HeapSeat) -> Option<Cam
     let (cache, paid) = refills(rt, heap, seat, 0)?;
     let cells = cache.free();
     let phase = heap.read_phase(seat);
-    let free = heap.read_stat(seat, 5);
+    let free = heap.read_stat(seat, FREE);
     retire(heap, seat, cache);
     Some(Came {
         cells,

@@ -1,5 +1,5 @@
 //! The quota of a cache: the work that is left, shared among the free cells.
-use gc_cycle::quota_of;
+use cache_refills::quota_of;
 
 #[test]
 fn work_is_shared_among_free_cells(rt: HostRuntime) {

@@ -1,25 +1,27 @@
 //! A thread that waits for the stops of another helps in them: it traces, and it sweeps.
 ghost use Rattle.std.specs.Prelude.{◌<◌};
+ghost use Rattle.mark_core.specs.Numbers.{section_variables};
 ghost use Rattle.gc_table.specs.Seats.{Sits};
-ghost use Rattle.collector_cycles.specs.Seats.{Carries, Fills};
+ghost use Rattle.test_heaps.specs.Seats.{HasEachObject, IsReadyWithCache};
 
 use super::BROAD;
 use super::collecting::collects;
 use super::helping::helps;
-use super::objects::{assign_to, link, make, take, walk};
+use super::objects::{assign_to, link, walk};
 use super::seasons::begin;
 use alloc_cache::{Cache, retire};
 use gc_table::{Heap, HeapSeat};
+use mark_core::FREE;
 use std::sync::Wait;
 use std::sync::atomic::{AtomicBool, Ordering};
 use std::thread::{Threads, join_mut, yield_now};
-use test_heaps::{next_seat, open};
+use test_heaps::{make, next_seat, open, take};
 
 /// Puts a new object with value n before the chain from variable v along field 0.
 fn grow(heap: &Heap, seat: &mut HeapSeat, cache: &mut Cache, v: u8, n: u32) -> bool
-    requires range { v < 32 }
-    requires fills { Fills heap.now seat.old cache.old }
-    ensures { Fills heap.now seat.new cache.new }
+    requires range { v < section_variables }
+    requires fills { IsReadyWithCache heap.now seat.old cache.old }
+    ensures { IsReadyWithCache heap.now seat.new cache.new }
 {
     if !make(heap, seat, cache, 31, n) {
         return false;
@@ -31,8 +33,8 @@ fn grow(heap: &Heap, seat: &mut HeapSeat, cache: &mut Cache, v: u8, n: u32) -> b
 
 /// Puts four objects before each of the chains of variables 0 to 15: how many were made.
 fn grow_all(heap: &Heap, seat: &mut HeapSeat, cache: &mut Cache) -> u32
-    requires { Fills heap.now seat.old cache.old }
-    ensures { Fills heap.now seat.new cache.new }
+    requires { IsReadyWithCache heap.now seat.old cache.old }
+    ensures { IsReadyWithCache heap.now seat.new cache.new }
 {
     let mut made = 0u32;
     for n in 0..64 {
@@ -45,8 +47,8 @@ fn grow_all(heap: &Heap, seat: &mut HeapSeat, cache: &mut Cache) -> u32
 
 /// Grows all chains in a block of its own: whether all objects were made.
 fn grow_block(heap: &Heap, seat: &mut HeapSeat) -> bool
-    requires { Carries heap.now seat.old }
-    ensures { Carries heap.now seat.new }
+    requires { HasEachObject heap.now seat.old }
+    ensures { HasEachObject heap.now seat.new }
 {
     let Some(mut cache) = take(heap, seat) else {
         return false;
@@ -58,8 +60,8 @@ fn grow_block(heap: &Heap, seat: &mut HeapSeat) -> bool
 
 /// Makes sixteen chains of 36 objects: whether all were made.
 fn make_chains(heap: &Heap, seat: &mut HeapSeat) -> bool
-    requires { Carries heap.now seat.old }
-    ensures { Carries heap.now seat.new }
+    requires { HasEachObject heap.now seat.old }
+    ensures { HasEachObject heap.now seat.new }
 {
     for _block in 0..9 {
         if !grow_block(heap, seat) {
@@ -71,8 +73,8 @@ fn make_chains(heap: &Heap, seat: &mut HeapSeat) -> bool
 
 /// Collects until it is over, but at most 20,000 times: whether the mutator went on each time.
 fn collects_on<R: Wait>(rt: &R, heap: &Heap, seat: &mut HeapSeat, over: &AtomicBool) -> bool
-    requires { Carries heap.now seat.old }
-    ensures { Carries heap.now seat.new }
+    requires { HasEachObject heap.now seat.old }
+    ensures { HasEachObject heap.now seat.new }
 {
     let mut goes_on = true;
     for _round in 0..20_000 {
@@ -84,10 +86,10 @@ fn collects_on<R: Wait>(rt: &R, heap: &Heap, seat: &mut HeapSeat, over: &AtomicB
     goes_on
 }
 
-/// The same, and says that it is over.
+/// Collects until it is over or a collection fails, 20,000 times at most, and then tells the other threads that it is over.
 fn collects_last<R: Wait>(rt: &R, heap: &Heap, seat: &mut HeapSeat, over: &AtomicBool) -> bool
-    requires { Carries heap.now seat.old }
-    ensures { Carries heap.now seat.new }
+    requires { HasEachObject heap.now seat.old }
+    ensures { HasEachObject heap.now seat.new }
 {
     let goes_on = collects_on(rt, heap, seat, over);
     over.store(true, Ordering::SeqCst);
@@ -114,7 +116,7 @@ fn helps_on(heap: &Heap, seat: &mut HeapSeat, over: &AtomicBool) -> bool
     false
 }
 
-/// The same, and says that it is over.
+/// Helps until it has traced and swept, or it is over, and then tells the other threads that it is over.
 fn helps_last(heap: &Heap, seat: &mut HeapSeat, over: &AtomicBool) -> bool
     requires { Sits heap.now seat.old }
     ensures { Sits heap.now seat.new }
@@ -140,7 +142,7 @@ fn shares<R: Threads + Wait + Sync>(
     zero: &mut HeapSeat,
     one: &mut HeapSeat,
 ) -> Option<Left>
-    requires { Sits heap.now zero.old × Carries heap.now one.old }
+    requires { Sits heap.now zero.old × HasEachObject heap.now one.old }
 {
     if !make_chains(heap, one) {
         return None;
@@ -152,7 +154,7 @@ fn shares<R: Threads + Wait + Sync>(
         &mut || helps_last(heap, zero, &over),
     );
     let chain = walk(heap, one)?;
-    let free = heap.read_stat(one, 5);
+    let free = heap.read_stat(one, FREE);
     Some(Left {
         goes_on,
         has_helped,

@@ -3,21 +3,21 @@ ghost use Rattle.std.specs.Prelude.{◌≡◌, None, IfSome};
 ghost use Rattle.std.specs.Bool.{OnFalse, OnTrue};
 ghost use Rattle.gc_table.specs.Seats.{Sits, view_of};
 ghost use Rattle.gc_cycle.specs.Collecting.{HoldsWorld};
-ghost use Rattle.gc_cycle.specs.Stepping.{Asks, Drains, HasDrained, SeesRoots};
-ghost use Rattle.collector_cycles.specs.Seats.{Carries};
+ghost use Rattle.gc_cycle.specs.Stepping.{AwaitsStop, Drains, HasMarkedAll, IsAtRoots};
+ghost use Rattle.test_heaps.specs.Seats.{HasEachObject};
 
-use super::SMALL;
 use super::checks::{is_out, may_call};
 use super::collecting::make_ring;
 use super::objects::{chain, free_cells, walk};
 use super::seasons::begin;
 use alloc_cache::Cache;
+use cache_refills::{Pass, try_enter, try_safe_point};
 use gc_cycle::{
-    Counts, Pass, ask_to_stop, begin_collection, drain_again, drain_step, end_collection,
-    finds_stopped, root_step, try_enter, try_safe_point,
+    Counts, ask_to_stop, begin_collection, drain_again, drain_step, end_collection, finds_stopped,
+    root_step,
 };
 use gc_table::{Heap, HeapSeat};
-use test_heaps::{next_seat, open};
+use test_heaps::{SMALL, next_seat, open};
 
 /// What a seat outside is told that tries once to enter.
 fn tries_entering(heap: &Heap, seat: &mut HeapSeat) -> Option<Pass>
@@ -56,8 +56,8 @@ fn passes_point(heap: &Heap, seat: &mut HeapSeat) -> Option<Pass>
 
 /// Asks for a stop: true where the flag is the mutator's own.
 fn asks(heap: &Heap, seat: &mut HeapSeat) -> bool
-    requires { Carries heap.now seat.old }
-    ensures { OnTrue result (Carries heap.now seat.new × Asks (view_of seat.new)) }
+    requires { HasEachObject heap.now seat.old }
+    ensures { OnTrue result (HasEachObject heap.now seat.new × AwaitsStop (view_of seat.new)) }
 {
     if !may_call(heap, seat) || seat.state().cache.is_some() {
         return false;
@@ -67,25 +67,25 @@ fn asks(heap: &Heap, seat: &mut HeapSeat) -> bool
 
 /// Whether the world has stopped.
 fn stops(heap: &Heap, seat: &mut HeapSeat) -> bool
-    requires { Carries heap.now seat.old × Asks (view_of seat.old) }
-    ensures yes { OnTrue result (Carries heap.now seat.new × HoldsWorld (view_of seat.new)) }
-    ensures no { OnFalse result (Carries heap.now seat.new × Asks (view_of seat.new)) }
+    requires { HasEachObject heap.now seat.old × AwaitsStop (view_of seat.old) }
+    ensures yes { OnTrue result (HasEachObject heap.now seat.new × HoldsWorld (view_of seat.new)) }
+    ensures no { OnFalse result (HasEachObject heap.now seat.new × AwaitsStop (view_of seat.new)) }
 {
     finds_stopped(heap, seat)
 }
 
 /// Begins to mark: false where the heap is full.
 fn begins(heap: &Heap, seat: &mut HeapSeat) -> bool
-    requires { Carries heap.now seat.old × HoldsWorld (view_of seat.old) }
-    ensures { OnTrue result (Carries heap.now seat.new × SeesRoots (view_of seat.new)) }
+    requires { HasEachObject heap.now seat.old × HoldsWorld (view_of seat.old) }
+    ensures { OnTrue result (HasEachObject heap.now seat.new × IsAtRoots (view_of seat.new)) }
 {
     begin_collection(heap, seat)
 }
 
 /// Sees to the roots, in at most 100 steps.
 fn sees_roots(heap: &Heap, seat: &mut HeapSeat) -> bool
-    requires { Carries heap.now seat.old × SeesRoots (view_of seat.old) }
-    ensures { OnTrue result (Carries heap.now seat.new × Drains (view_of seat.new)) }
+    requires { HasEachObject heap.now seat.old × IsAtRoots (view_of seat.old) }
+    ensures { OnTrue result (HasEachObject heap.now seat.new × Drains (view_of seat.new)) }
 {
     for _step in 0..100 {
         if root_step(heap, seat) {
@@ -97,8 +97,8 @@ fn sees_roots(heap: &Heap, seat: &mut HeapSeat) -> bool
 
 /// Drains, one object a step, in at most 1,000 steps.
 fn drains(heap: &Heap, seat: &mut HeapSeat) -> bool
-    requires { Carries heap.now seat.old × Drains (view_of seat.old) }
-    ensures { OnTrue result (Carries heap.now seat.new × HasDrained (view_of seat.new)) }
+    requires { HasEachObject heap.now seat.old × Drains (view_of seat.old) }
+    ensures { OnTrue result (HasEachObject heap.now seat.new × HasMarkedAll (view_of seat.new)) }
 {
     for _step in 0..1_000 {
         if drain_step(heap, seat, 1) {
@@ -110,8 +110,8 @@ fn drains(heap: &Heap, seat: &mut HeapSeat) -> bool
 
 /// Takes all marks away, and marks once more.
 fn drains_again(heap: &Heap, seat: &mut HeapSeat) -> bool
-    requires { Carries heap.now seat.old × HasDrained (view_of seat.old) }
-    ensures { OnTrue result (Carries heap.now seat.new × HasDrained (view_of seat.new)) }
+    requires { HasEachObject heap.now seat.old × HasMarkedAll (view_of seat.old) }
+    ensures { OnTrue result (HasEachObject heap.now seat.new × HasMarkedAll (view_of seat.new)) }
 {
     drain_again(heap, seat);
     sees_roots(heap, seat) && drains(heap, seat)
@@ -119,8 +119,8 @@ fn drains_again(heap: &Heap, seat: &mut HeapSeat) -> bool
 
 /// Collects in the stop, and marks twice: what was found.
 fn collects_in_steps(heap: &Heap, seat: &mut HeapSeat) -> Option<Counts>
-    requires { Carries heap.now seat.old × HoldsWorld (view_of seat.old) }
-    ensures { IfSome result (λ counts. Carries heap.now seat.new) }
+    requires { HasEachObject heap.now seat.old × HoldsWorld (view_of seat.old) }
+    ensures { IfSome result (λ counts. HasEachObject heap.now seat.new) }
 {
     if !begins(heap, seat) || !sees_roots(heap, seat) || !drains(heap, seat) {
         return None;
@@ -133,8 +133,8 @@ fn collects_in_steps(heap: &Heap, seat: &mut HeapSeat) -> Option<Counts>
 
 /// Reads the phase, as a mutator does before it stores.
 fn looks(heap: &Heap, seat: &mut HeapSeat)
-    requires { Carries heap.now seat.old }
-    ensures { Carries heap.now seat.new }
+    requires { HasEachObject heap.now seat.old }
+    ensures { HasEachObject heap.now seat.new }
 {
     heap.read_phase(seat);
 }
@@ -153,7 +153,7 @@ struct Told {
 
 /// One seat collects in steps, while the other comes to a safe point, and tries to enter.
 fn collects_beside(heap: &Heap, zero: &mut HeapSeat, one: &mut HeapSeat) -> Option<Told>
-    requires { Sits heap.now zero.old × Carries heap.now one.old }
+    requires { Sits heap.now zero.old × HasEachObject heap.now one.old }
 {
     if !make_ring(heap, one) || chain(heap, one, 3) != 3 {
         return None;

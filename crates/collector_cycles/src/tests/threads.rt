@@ -1,22 +1,22 @@
 //! Two mutators play in two threads: each makes objects and garbage, and collects where it finds no block.
-ghost use Rattle.collector_cycles.specs.Seats.{Carries, Fills};
+ghost use Rattle.test_heaps.specs.Seats.{HasEachObject, IsReadyWithCache};
 
 use super::THREE;
 use super::checks::{is_out, may_call};
 use super::collecting::refills;
-use super::objects::{forget, lengthen, make, walk};
+use super::objects::{lengthen, walk};
 use super::seasons::{begin, joins};
 use alloc_cache::{Cache, retire};
 use gc_cycle::{Safe, go_in, go_out, safe_point};
 use gc_table::{Heap, HeapSeat};
 use std::sync::Wait;
 use std::thread::{Threads, join_mut};
-use test_heaps::{next_seat, open};
+use test_heaps::{forget, make, next_seat, open};
 
 /// Comes to a safe point: true where the mutator goes on.
 fn passes<R: Wait>(rt: &R, heap: &Heap, seat: &mut HeapSeat) -> bool
-    requires { Carries heap.now seat.old }
-    ensures { Carries heap.now seat.new }
+    requires { HasEachObject heap.now seat.old }
+    ensures { HasEachObject heap.now seat.new }
 {
     if !may_call(heap, seat) || seat.state().cache.is_some() {
         return false;
@@ -33,8 +33,8 @@ fn passes<R: Wait>(rt: &R, heap: &Heap, seat: &mut HeapSeat) -> bool
 
 /// Fills what is left of the cache with garbage.
 fn litter(heap: &Heap, seat: &mut HeapSeat, cache: &mut Cache)
-    requires { Fills heap.now seat.old cache.old }
-    ensures { Fills heap.now seat.new cache.new }
+    requires { IsReadyWithCache heap.now seat.old cache.old }
+    ensures { IsReadyWithCache heap.now seat.new cache.new }
 {
     for n in 0..64 {
         make(heap, seat, cache, 2, n);
@@ -44,8 +44,8 @@ fn litter(heap: &Heap, seat: &mut HeapSeat, cache: &mut Cache)
 
 /// Ends the chain in each twelfth round, so that it begins again.
 fn end_chain(heap: &Heap, seat: &mut HeapSeat, cache: &Cache, round: u32)
-    requires { Fills heap.now seat.old cache.now }
-    ensures { Fills heap.now seat.new cache.now }
+    requires { IsReadyWithCache heap.now seat.old cache.now }
+    ensures { IsReadyWithCache heap.now seat.new cache.now }
 {
     if round % 12 != 0 {
         return;
@@ -56,8 +56,8 @@ fn end_chain(heap: &Heap, seat: &mut HeapSeat, cache: &Cache, round: u32)
 
 /// Puts 16 objects before the chain, which begins again in each twelfth round, and makes garbage.
 fn plays_round<R: Wait>(rt: &R, heap: &Heap, seat: &mut HeapSeat, round: u32) -> bool
-    requires { Carries heap.now seat.old }
-    ensures { Carries heap.now seat.new }
+    requires { HasEachObject heap.now seat.old }
+    ensures { HasEachObject heap.now seat.new }
 {
     let Some((mut cache, _paid)) = refills(rt, heap, seat, round) else {
         return false;
@@ -71,8 +71,8 @@ fn plays_round<R: Wait>(rt: &R, heap: &Heap, seat: &mut HeapSeat, round: u32) ->
 
 /// Plays 120 rounds: how many went well.
 fn plays_on<R: Wait>(rt: &R, heap: &Heap, seat: &mut HeapSeat) -> u32
-    requires { Carries heap.now seat.old }
-    ensures { Carries heap.now seat.new }
+    requires { HasEachObject heap.now seat.old }
+    ensures { HasEachObject heap.now seat.new }
 {
     let mut done = 0u32;
     for round in 0..120 {
@@ -83,10 +83,10 @@ fn plays_on<R: Wait>(rt: &R, heap: &Heap, seat: &mut HeapSeat) -> u32
     done
 }
 
-/// The same, and leaves the world at last, so that the other isn't kept waiting.
+/// Plays 120 rounds, and then leaves the world, so that the other thread isn't kept waiting: how many rounds went well.
 fn plays_and_leaves<R: Wait>(rt: &R, heap: &Heap, seat: &mut HeapSeat) -> u32
-    requires { Carries heap.now seat.old }
-    ensures { Carries heap.now seat.new }
+    requires { HasEachObject heap.now seat.old }
+    ensures { HasEachObject heap.now seat.new }
 {
     let done = plays_on(rt, heap, seat);
     if !may_call(heap, seat) || seat.state().cache.is_some() {
@@ -103,8 +103,8 @@ fn both_play<R: Threads + Wait + Sync>(
     one: &mut HeapSeat,
     two: &mut HeapSeat,
 ) -> (u32, u32)
-    requires { Carries heap.now one.old × Carries heap.now two.old }
-    ensures { Carries heap.now one.new × Carries heap.now two.new }
+    requires { HasEachObject heap.now one.old × HasEachObject heap.now two.old }
+    ensures { HasEachObject heap.now one.new × HasEachObject heap.now two.new }
 {
     join_mut(
         rt,
@@ -115,8 +115,8 @@ fn both_play<R: Threads + Wait + Sync>(
 
 /// The chain of a mutator that comes back.
 fn comes_back<R: Wait>(rt: &R, heap: &Heap, seat: &mut HeapSeat) -> Option<(u32, u64)>
-    requires { Carries heap.now seat.old }
-    ensures { Carries heap.now seat.new }
+    requires { HasEachObject heap.now seat.old }
+    ensures { HasEachObject heap.now seat.new }
 {
     if !is_out(heap, seat) || seat.state().section.is_none() {
         return None;
@@ -133,7 +133,7 @@ fn plays_together<R: Threads + Wait + Sync>(
     one: &mut HeapSeat,
     two: &mut HeapSeat,
 ) -> Option<((u32, u32), (u32, u64), (u32, u64))>
-    requires { Carries heap.now one.old × Carries heap.now two.old }
+    requires { HasEachObject heap.now one.old × HasEachObject heap.now two.old }
 {
     let rounds = both_play(rt, heap, one, two);
     let first = comes_back(rt, heap, one)?;

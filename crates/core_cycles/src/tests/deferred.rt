@@ -3,8 +3,8 @@ use super::events::{
     ALLOC, DEFERRED, EMPTY, HEAD, MARK, OWNER, PHASE, begin, forgets, gives, greys, has, loads,
     makes, mutates, names, publishes, ran, scans, takes,
 };
-use super::{by, stopped, swept};
-use mark_core::{Cell, CoreState, Event, Phase, Step};
+use super::{by, stopped, swept, takes_out};
+use mark_core::{Cell, CoreState, DEFERRED_POOL, Event, Phase, Step};
 
 /// Variable 0 names cell 0, whose field names cell 1. Both are the mutator's alone, so no card is owed.
 fn two_unpublished(core: &mut CoreState) -> bool {
@@ -49,9 +49,13 @@ fn put_off(core: &mut CoreState) -> bool {
 
 /// The deferred packet is taken again, and its cell leads to the other one.
 fn recycled(core: &mut CoreState) -> bool {
-    let take = Step::Take { q: 3, p: 0 };
-    ran(core, &[by(1, take), by(1, Step::ReadLength { p: 0 })])
-        && ran(core, &scans(1, 0, 0))
+    ran(
+        core,
+        &[
+            takes_out(1, DEFERRED_POOL, 0),
+            by(1, Step::ReadLength { p: 0 }),
+        ],
+    ) && ran(core, &scans(1, 0, 0))
         && ran(core, &greys(1, 1, 0))
         && ran(core, &scans(1, 1, 0))
         && ran(core, &gives(1))

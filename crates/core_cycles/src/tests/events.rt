@@ -1,10 +1,11 @@
 //! Short lists of events that whole cycles are made of, over a small heap: 64 cells in one block of four cards,
 //! two packets of two cells, and one field an object. Seat 0 has the catalogue, seat 1 a section, seat 2 none.
-use super::{DONE, by};
-use mark_core::{Cell, CoreState, Event, Shape, Step};
+use super::{DONE, by, takes_out};
+use mark_core::{BLOCK_CELLS, Cell, CoreState, EMPTY_POOL, Event, SECTION_SPAN, Shape, Step};
 use plain_heap::OutOfMemory;
 use std::alloc::Global;
 
+/// One block of 64 cells, two packets of two entries, two sections, and one field an object.
 pub const SMALL: Shape = Shape {
     cells: 64,
     packets: 2,
@@ -18,24 +19,34 @@ pub const SMALL: Shape = Shape {
 /// cards, two heads, four entries, 64 identities, 64 values, 64 fields, four pools, the word of help and the season.
 pub const WORLD: u32 = 0;
 
+/// The word of the phase.
 pub const PHASE: u32 = 1;
 
+/// The word that counts empty packets.
 pub const EMPTY: u32 = 2;
 
+/// The word of the section that is named in a full heap.
 pub const NAMED: u32 = 5;
 
+/// The owner of block 0.
 pub const OWNER: u32 = 77;
 
+/// The allocation bits of block 0.
 pub const ALLOC: u32 = 78;
 
+/// The mark bits of block 0.
 pub const MARK: u32 = 79;
 
+/// Card 0.
 pub const CARD: u32 = 80;
 
+/// The head of packet 0.
 pub const HEAD: u32 = 84;
 
+/// Field 0 of cell 0.
 pub const FIELD: u32 = 218;
 
+/// The head of the deferred pool.
 pub const DEFERRED: u32 = 285;
 
 /// Three seats that have done nothing.
@@ -83,7 +94,7 @@ pub fn makes(c: u32, number: u32) -> [Event; 3] {
     [
         part(c, 0, 0),
         part(c, 1, 5),
-        part(c, 2, 4_294_967_296 + u64::from(number)),
+        part(c, 2, SECTION_SPAN + u64::from(number)),
     ]
 }
 
@@ -107,7 +118,7 @@ pub fn publishes() -> [Event; 2] {
 pub fn takes(seat: u32) -> [Event; 3] {
     [
         by(seat, Step::Reserve),
-        by(seat, Step::Take { q: 0, p: 0 }),
+        takes_out(seat, EMPTY_POOL, 0),
         by(seat, Step::ReadLength { p: 0 }),
     ]
 }
@@ -140,7 +151,7 @@ pub fn loads(seat: u32, v: u8) -> Event {
 pub fn scans(seat: u32, c: u32, p: u32) -> [Event; 3] {
     [
         by(seat, Step::Pop { p }),
-        by(seat, Step::ReadAlloc { b: c / 64 }),
+        by(seat, Step::ReadAlloc { b: c / BLOCK_CELLS }),
         reads_field(seat, c),
     ]
 }

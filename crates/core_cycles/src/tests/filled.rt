@@ -3,7 +3,7 @@ use super::events::{
     ALLOC, EMPTY, MARK, NAMED, PHASE, WORLD, begin, gives, greys, has, loads, makes, mutates,
     names, publishes, ran, scans, takes,
 };
-use super::{by, refusal, stopped, swept};
+use super::{by, refusal, resets_blocks, stopped, swept};
 use mark_core::{CoreState, Event, Phase, Step};
 
 /// The cell's field names the cell of variable 0, which then names this cell.
@@ -52,13 +52,8 @@ fn collects_anew(core: &mut CoreState) -> bool {
     let to = Phase::Drain;
     let sweep = swept();
     let (up_to_idle, _) = sweep.split_at(8);
-    ran(
-        core,
-        &[
-            by(1, Step::Reset { which: 1 }),
-            by(1, Step::StorePhase { to }),
-        ],
-    ) && traces(core)
+    ran(core, &[resets_blocks(1), by(1, Step::StorePhase { to })])
+        && traces(core)
         && ran(core, up_to_idle)
 }
 

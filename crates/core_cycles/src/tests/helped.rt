@@ -3,8 +3,8 @@ use super::events::{
     EMPTY, PHASE, WORLD, forgets, gives, greys, has, loads, makes, mutates, names, publishes, ran,
     scans, takes,
 };
-use super::{by, refusal};
-use mark_core::{CoreState, Event, Phase, Shape, Step};
+use super::{by, reads_blocks, refusal, takes_out};
+use mark_core::{CoreState, Event, FLAG, HIGH_POOL, Phase, Shape, Step};
 use plain_heap::OutOfMemory;
 use std::alloc::Global;
 
@@ -28,7 +28,7 @@ const HIGH: u32 = 483;
 const HELP: u32 = 485;
 
 /// The word of help while it is open, with nobody who helps.
-const OPEN: u64 = 4_294_967_296;
+const OPEN: u64 = FLAG;
 
 /// Four seats that have done nothing.
 fn begin(alloc: Global) -> Result<CoreState, OutOfMemory> {
@@ -107,18 +107,16 @@ fn traces_near(core: &mut CoreState) -> bool {
 
 /// Seat 3 takes this packet from the high pool, since one of two cells is half of it, and traces cell 64.
 fn traces_far(core: &mut CoreState) -> bool {
-    let take = Step::Take { q: 2, p: 0 };
-    ran(core, &[by(3, take), by(3, Step::ReadLength { p: 0 })])
-        && ran(core, &scans(3, 64, 0))
+    ran(
+        core,
+        &[takes_out(3, HIGH_POOL, 0), by(3, Step::ReadLength { p: 0 })],
+    ) && ran(core, &scans(3, 64, 0))
         && ran(core, &gives(3))
 }
 
 /// The seat takes the next block in hand.
 fn hands_out(seat: u32) -> [Event; 2] {
-    [
-        by(seat, Step::ReadStat { which: 1 }),
-        by(seat, Step::NextBlock),
-    ]
+    [reads_blocks(seat), by(seat, Step::NextBlock)]
 }
 
 /// The seat frees the white cells of its block, and clears the marks.

@@ -3,8 +3,8 @@ use super::events::{
     ALLOC, CARD, EMPTY, MARK, PHASE, WORLD, begin, cleans, forgets, gives, greys, has, loads,
     makes, mutates, names, publishes, ran, reads_field, scans, takes,
 };
-use super::{by, refusal, stopped, swept};
-use mark_core::{Cell, CoreState, Event, Phase, Step};
+use super::{by, refusal, stopped, swept, takes_out};
+use mark_core::{Cell, CoreState, EMPTY_POOL, Event, Phase, Step};
 
 /// Variables 0 to 3 name cells 0 to 3, and variable 4 names cell 16, on the next card.
 fn makes_all(core: &mut CoreState) -> bool {
@@ -34,10 +34,7 @@ fn takes_both(core: &mut CoreState) -> bool {
         core,
         &[by(1, Step::StorePhase { to }), by(1, Step::ReadPhase)],
     ) && ran(core, &takes(1))
-        && ran(
-            core,
-            &[by(1, Step::Reserve), by(1, Step::Take { q: 0, p: 1 })],
-        )
+        && ran(core, &[by(1, Step::Reserve), takes_out(1, EMPTY_POOL, 1)])
         && ran(core, &[by(1, Step::ReadLength { p: 1 })])
 }
 

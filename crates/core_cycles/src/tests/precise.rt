@@ -4,7 +4,7 @@ use super::events::{
     ALLOC, EMPTY, MARK, PHASE, WORLD, begin, forgets, gives, greys, has, loads, makes, mutates,
     names, publishes, ran, scans, takes,
 };
-use super::{by, stopped, swept};
+use super::{by, reads_blocks, resets_blocks, stopped, swept};
 use mark_core::{CoreState, Event, Phase, Step};
 
 /// Variable 0 names cell 0, and variable 1 cell 1; both are published.
@@ -43,11 +43,11 @@ fn marks_second() -> [Event; 3] {
 fn clears() -> [Event; 6] {
     [
         by(1, Step::StorePhase { to: Phase::Clear }),
-        by(1, Step::ReadStat { which: 1 }),
+        reads_blocks(1),
         by(1, Step::NextBlock),
         by(1, Step::ClearMarks),
         by(1, Step::StorePhase { to: Phase::Drain }),
-        by(1, Step::Reset { which: 1 }),
+        resets_blocks(1),
     ]
 }
 

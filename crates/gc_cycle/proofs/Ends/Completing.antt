@@ -19,12 +19,12 @@ use Rattle.gc_table.specs.Running.{after_all, Ran}
 use Rattle.gc_table.proofs.Running.{ran-events, ran-join, ran-only, state-kept}
 use Rattle.gc_cycle.specs.Cycles.{ends_exactly, opens_in_sweep}
 use Rattle.gc_cycle.specs.DrainRounds.{DrainsAlone, DrainsTogether, DrainsToSweep}
-use Rattle.gc_cycle.specs.Events.{Sort, followed, never, since_last}
+use Rattle.gc_cycle.specs.Events.{Sort, followed_by, never, since_last}
 use Rattle.gc_cycle.specs.Finishing.{Completes, finishes, IsMove, IsPart, stays, stays_in}
 use Rattle.card_clean.specs.Leaving.{rescans, rescanned_in}
 use Rattle.sweeper.specs.Freeing.{frees, freed_in}
 use Rattle.gc_cycle.specs.Moments.{at_some_moment, begins, total_of}
-use Rattle.gc_cycle.specs.Sorts.{ends_cycle, moves_to, opens, tells_full}
+use Rattle.gc_cycle.specs.Sorts.{ends_cycle, moves_to, opens_help, tells_full}
 use Rattle.gc_cycle.proofs.Parts.{move-finishes, part-finishes, part-stays}
 use Rattle.gc_cycle.proofs.Sequences.{followed-across, moments, moments-state, none-of-steps, since-this, some-moment-later, some-none, this-moment, total-join, total-none, freed-same}
 
@@ -36,7 +36,7 @@ no-move p step n e = refl
 pub part-no-move : (q : Phase) (p : Phase) (v w : View) → IsPart p v w → some_event (moves_to q) (events v w) ≡ false
 part-no-move q p v w h = none-of-steps stays (moves_to q) (no-move q) (events v w) (part-stays p v w h)
 
--- nor does it tell that the heap is full
+-- a step that stays doesn't tell that the heap is full
 pub no-tell : (step : Step) (n : ℕ) → stays step ≡ true → tells_full step n ≡ false
 no-tell (StorePhase to) n e = absurd (true≢false (sym e))
 no-tell ReadPhase n e = absurd (true≢false (sym e))
@@ -77,7 +77,7 @@ course-none f a b d e ha hb hd he s i =
     either true y h k = absurd (true≢false h)
     either false y h k = k
 
-module _ (v0 v1 v2 v3 v4 v5 v6 : View) (p1 : IsPart Drain v0 v1) (o1 : some_event opens (events v0 v1) ≡ true) (p2 : IsPart Drain v1 v2) (m3 : IsMove Drain Sweep v2 v3) (p4 : IsPart Sweep v3 v4) (o4 : some_event opens (events v3 v4) ≡ true) (m5 : IsMove Sweep Idle v4 v5) (p6 : IsPart Idle v5 v6) where
+module _ (v0 v1 v2 v3 v4 v5 v6 : View) (p1 : IsPart Drain v0 v1) (o1 : some_event opens_help (events v0 v1) ≡ true) (p2 : IsPart Drain v1 v2) (m3 : IsMove Drain Sweep v2 v3) (p4 : IsPart Sweep v3 v4) (o4 : some_event opens_help (events v3 v4) ≡ true) (m5 : IsMove Sweep Idle v4 v5) (p6 : IsPart Idle v5 v6) where
   first : Ran v0 v2
   first = ran-join v0 v1 v2 p1.ran p2.ran
 
@@ -108,19 +108,19 @@ module _ (v0 v1 v2 v3 v4 v5 v6 : View) (p1 : IsPart Drain v0 v1) (o1 : some_even
   nowhere f none s i =
       ap (some_event f) all-events ∙ course-none f (events v0 v1) (events v1 v2) (events v3 v4) (events v5 v6) (none Drain v0 v1 p1) (none Drain v1 v2 p2) (none Sweep v3 v4 p4) (none Idle v5 v6 p6) s i
 
-  drain-help : followed opens (moves_to Sweep) (events v0 v6) ≡ true
+  drain-help : followed_by opens_help (moves_to Sweep) (events v0 v6) ≡ true
   drain-help =
-      ap (followed opens (moves_to Sweep)) all-events
-      ∙ followed-across opens (moves_to Sweep) (events v0 v1 ++ events v1 v2) (event (StorePhase Sweep) 2 ∷ (events v3 v4 ++ (event (StorePhase Idle) 3 ∷ events v5 v6))) (some-left opens (events v0 v1) (events v1 v2) o1) refl
+      ap (followed_by opens_help (moves_to Sweep)) all-events
+      ∙ followed-across opens_help (moves_to Sweep) (events v0 v1 ++ events v1 v2) (event (StorePhase Sweep) 2 ∷ (events v3 v4 ++ (event (StorePhase Idle) 3 ∷ events v5 v6))) (some-left opens_help (events v0 v1) (events v1 v2) o1) refl
 
   no-sweep : some_event (moves_to Sweep) (events v3 v4 ++ (event (StorePhase Idle) 3 ∷ events v5 v6)) ≡ false
   no-sweep = some-none (moves_to Sweep) (events v3 v4) (event (StorePhase Idle) 3 ∷ events v5 v6) (part-no-move Sweep Sweep v3 v4 p4) (part-no-move Sweep Idle v5 v6 p6)
 
   sweep-help : opens_in_sweep (events v0 v6) ≡ true
   sweep-help =
-      ap (λ es. followed opens (moves_to Idle) (since_last (moves_to Sweep) es)) all-events
-      ∙ (ap (followed opens (moves_to Idle)) (since-this (moves_to Sweep) (events v0 v1 ++ events v1 v2) (event (StorePhase Sweep) 2) (events v3 v4 ++ (event (StorePhase Idle) 3 ∷ events v5 v6)) refl no-sweep)
-      ∙ followed-across opens (moves_to Idle) (events v3 v4) (event (StorePhase Idle) 3 ∷ events v5 v6) o4 refl)
+      ap (λ es. followed_by opens_help (moves_to Idle) (since_last (moves_to Sweep) es)) all-events
+      ∙ (ap (followed_by opens_help (moves_to Idle)) (since-this (moves_to Sweep) (events v0 v1 ++ events v1 v2) (event (StorePhase Sweep) 2) (events v3 v4 ++ (event (StorePhase Idle) 3 ∷ events v5 v6)) refl no-sweep)
+      ∙ followed-across opens_help (moves_to Idle) (events v3 v4) (event (StorePhase Idle) 3 ∷ events v5 v6) o4 refl)
 
   ends : some_event ends_cycle (events v0 v6) ≡ true
   ends =

@@ -7,6 +7,7 @@ use Rattle.std.proofs.lemmas.Bool.{eqb-true, not-false, or_from}
 use Rattle.std.proofs.lemmas.Nat.{ones-le}
 use Rattle.std.proofs.lemmas.Nat.Bits.{bit_at_lowest, bit_at-suc, bit_at-zero}
 use Rattle.mark_core.specs.Bits.{cell_bit, has_bit}
+use Rattle.mark_core.specs.Cards.{block_cells}
 use Rattle.mark_core.specs.Cells.{used_by}
 use Rattle.mark_core.specs.Places.{alloc_at}
 use Rattle.mark_core.specs.Seats.{has_used, used_in}
@@ -72,32 +73,32 @@ bits-count (suc k) n h =
     omega (arith, low, first, shift, same, rest, step)
 
 -- the bits of the cells of block b
-block-count : (ws : List ℕ) (b : ℕ) → slice_index ws b < 18446744073709551616 → count_by (cell_bit ws) (range_with_len (b * 64) 64) ≡ ones (slice_index ws b)
+block-count : (ws : List ℕ) (b : ℕ) → slice_index ws b < 18446744073709551616 → count_by (cell_bit ws) (range_with_len (b * block_cells) block_cells) ≡ ones (slice_index ws b)
 block-count ws b h =
     let word = slice_index ws b in
-    let from : b * 64 ≡ 0 + b * 64 = omega arith in
-    ap (λ k. count_by (cell_bit ws) (range_with_len k 64)) from
-    ∙ (count-shift (cell_bit ws) 0 (b * 64) 64
-    ∙ (count-same (has_bit word) (λ i. cell_bit ws (i + b * 64)) 0 64
+    let from : b * block_cells ≡ 0 + b * block_cells = omega arith in
+    ap (λ k. count_by (cell_bit ws) (range_with_len k block_cells)) from
+    ∙ (count-shift (cell_bit ws) 0 (b * block_cells) block_cells
+    ∙ (count-same (has_bit word) (λ i. cell_bit ws (i + b * block_cells)) 0 block_cells
     (λ i l m.
-    let block : (i + b * 64) / 64 ≡ b = omega (arith, m) in
-    let place : (i + b * 64) % 64 ≡ i = omega (arith, m) in
-    ap (λ k. has_bit (slice_index ws k) ((i + b * 64) % 64)) block ∙ ap (has_bit word) place)
+    let block : (i + b * block_cells) / block_cells ≡ b = omega (arith, m) in
+    let place : (i + b * block_cells) % block_cells ≡ i = omega (arith, m) in
+    ap (λ k. has_bit (slice_index ws k) ((i + b * block_cells) % block_cells)) block ∙ ap (has_bit word) place)
     ∙ bits-count 64 word h))
 
 -- the words as noted are those of the list
 abbrev pub Reads : ℕ → List ℕ → View → Type 0
 Reads n ws v = (b : ℕ) → b < n → (unwrap_or (look (alloc_at b) v.known) 0 ≡ slice_index ws b) × (slice_index ws b < 18446744073709551616)
 
-pub blocks-count : (n : ℕ) (ws : List ℕ) (v : View) → Reads n ws v → count_by (cell_bit ws) (range_with_len 0 (n * 64)) ≡ ones_noted n v
+pub blocks-count : (n : ℕ) (ws : List ℕ) (v : View) → Reads n ws v → count_by (cell_bit ws) (range_with_len 0 (n * block_cells)) ≡ ones_noted n v
 blocks-count zero ws v h = refl
 blocks-count (suc n) ws v h =
     let one = h n (omega arith) in
-    let all : suc n * 64 ≡ n * 64 + 64 = omega arith in
-    let from : 0 + n * 64 ≡ n * 64 = omega arith in
-    let split : count_by (cell_bit ws) (range_with_len 0 (suc n * 64)) ≡ count_by (cell_bit ws) (range_with_len 0 (n * 64)) + count_by (cell_bit ws) (range_with_len (n * 64) 64) =
+    let all : suc n * block_cells ≡ n * block_cells + block_cells = omega arith in
+    let from : 0 + n * block_cells ≡ n * block_cells = omega arith in
+    let split : count_by (cell_bit ws) (range_with_len 0 (suc n * block_cells)) ≡ count_by (cell_bit ws) (range_with_len 0 (n * block_cells)) + count_by (cell_bit ws) (range_with_len (n * block_cells) block_cells) =
     ap (λ k. count_by (cell_bit ws) (range_with_len 0 k)) all
-    ∙ (count-parts (cell_bit ws) 0 (n * 64) 64 ∙ ap (λ k. count_by (cell_bit ws) (range_with_len 0 (n * 64)) + count_by (cell_bit ws) (range_with_len k 64)) from) in
+    ∙ (count-parts (cell_bit ws) 0 (n * block_cells) block_cells ∙ ap (λ k. count_by (cell_bit ws) (range_with_len 0 (n * block_cells)) + count_by (cell_bit ws) (range_with_len k block_cells)) from) in
     let rest = blocks-count n ws v (λ b l. h b (omega (arith, l))) in
     let here = block-count ws n one.1 in
     let noted = ap ones one.0 in
@@ -113,7 +114,7 @@ unused : (o : Option CacheState) (c : ℕ) → has_used o ≡ false → used_in 
 unused None c e = refl
 unused (Some x) c e =
     let none : x.used ≡ 0 = eqb-true x.used 0 (not-false (x.used == 0) e) in
-    and-none (x.block == c / 64) (has_bit x.used (c % 64)) (ap (λ k. has_bit k (c % 64)) none ∙ ap (λ r. r == 1) (bit_at-zero (c % 64)))
+    and-none (x.block == c / block_cells) (has_bit x.used (c % block_cells)) (ap (λ k. has_bit k (c % block_cells)) none ∙ ap (λ r. r == 1) (bit_at-zero (c % block_cells)))
 
 pub none-used : (c : ℕ) (ss : List SeatState) → ((k : ℕ) (d : SeatState) → k < length ss → has_used (get_or ss k d).cache ≡ false) → list_any (used_by c) (makers ss) ≡ false
 none-used c [] h = refl

@@ -5,7 +5,7 @@ use Rattle.mark_core.specs.declared.kinds.Shape.{Shape}
 use Rattle.gc_table.specs.Log.{events}
 use Rattle.gc_table.specs.Running.{Ran}
 use Rattle.gc_table.specs.declared.view.View.{View}
-use Rattle.card_clean.specs.Drained.{FindsNone, FindsWork}
+use Rattle.card_clean.specs.Drained.{FindsNoDirtyCard, FindsWork}
 use Rattle.gc_cycle.specs.DrainRounds.{DrainsAlone, GoesInRounds, GoesRound}
 use Rattle.gc_cycle.specs.Drained.{DrainedAlone, RootedAlone}
 use Rattle.gc_cycle.specs.Finishing.{IsPart}
@@ -31,8 +31,8 @@ one-more : (xs : List View) (v w x : View) → HasGone xs v w → GoesRound w x 
 one-more [] v w x h g = (subst (λ y. GoesRound y x) h g, refl)
 one-more (y ∷ ys) v w x h g = (h.0, one-more ys y w x h.1 g)
 
-at-last : (xs : List View) (v w x : View) → HasGone xs v w → Ran w x × FindsNone w.shape (events w x) → GoesInRounds xs v x
-at-last [] v w x h e = subst (λ y. Ran y x × FindsNone y.shape (events y x)) h e
+at-last : (xs : List View) (v w x : View) → HasGone xs v w → Ran w x × FindsNoDirtyCard w.shape (events w x) → GoesInRounds xs v x
+at-last [] v w x h e = subst (λ y. Ran y x × FindsNoDirtyCard y.shape (events y x)) h e
 at-last (y ∷ ys) v w x h e = (h.0, at-last ys y w x h.1 e)
 
 -- after a look that found something left, a round was made
@@ -43,14 +43,14 @@ pub goes-on : (u v w : View) → IsDraining u v → GoesRound v w → IsDraining
 goes-on u v w d g = record { rooted = d.rooted; first = d.first; roots = d.roots; rounds = d.rounds ++ w ∷ []; gone = one-more d.rounds d.rooted v w d.gone g }
 
 -- a look found nothing left
-pub drains-alone : (sh : Shape) (u v w : View) → IsDraining u v → v.shape ≡ sh → Ran v w → FindsNone sh (events v w) → IsPart Drain u w → DrainedAlone w → DrainsAlone u w
+pub drains-alone : (sh : Shape) (u v w : View) → IsDraining u v → v.shape ≡ sh → Ran v w → FindsNoDirtyCard sh (events v w) → IsPart Drain u w → DrainedAlone w → DrainsAlone u w
 drains-alone sh u v w d e r n p i =
     record {
       rooted = d.rooted;
       first = d.first;
       roots = d.roots;
       rounds = d.rounds;
-      goes = at-last d.rounds d.rooted v w d.gone (r, subst (λ s. FindsNone s (events v w)) (sym e) n);
+      goes = at-last d.rounds d.rooted v w d.gone (r, subst (λ s. FindsNoDirtyCard s (events v w)) (sym e) n);
       part = p;
       drained = i;
     }

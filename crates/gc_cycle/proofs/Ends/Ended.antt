@@ -4,8 +4,10 @@ use Rattle.std.specs.Prelude.{slice_index, unwrap_or}
 use Rattle.std.specs.List.{count_by, range_with_len}
 use Rattle.std.proofs.lemmas.List.{get_or-map, length-map}
 use Rattle.mark_core.specs.Bits.{cell_bit}
+use Rattle.mark_core.specs.Cards.{block_cells}
 use Rattle.mark_core.specs.Layout.{address, block_count, words_of}
 use Rattle.mark_core.specs.Notes.{word_at}
+use Rattle.mark_core.specs.Numbers.{card_counter, free_count, last_count, rescanned_count, traced_count}
 use Rattle.mark_core.specs.Places.{alloc_at, counter_at}
 use Rattle.mark_core.specs.Seats.{has_used}
 use Rattle.mark_core.specs.Views.{Standing, standing_of, standings}
@@ -17,12 +19,13 @@ use Rattle.mark_core.proofs.Count.CountRange.{count-same}
 use Rattle.mark_core.proofs.Formed.FormedWords.{word-in}
 use Rattle.mark_core.proofs.Notes.NotesBeside.{Sits, sits}
 use Rattle.mark_core.proofs.Notes.NotesKept.{single-word, word-found}
+use Rattle.mark_core.specs.Summary.{used_cells}
 use Rattle.gc_table.specs.Rule.{Agrees, IsState}
 use Rattle.gc_table.specs.TableState.{TableState}
 use Rattle.gc_table.specs.declared.view.View.{View}
 use Rattle.gc_table.specs.Running.{Known}
 use Rattle.stop_world.proofs.Phases.{phase-is}
-use Rattle.gc_cycle.specs.Ending.{InEach, is_used, IsCycleEnd, published_cells, used_cells}
+use Rattle.gc_cycle.specs.Ending.{InEach, is_used, IsCycleEnd, published_count}
 use Rattle.gc_cycle.specs.Finishing.{AllocsNoted, IsAloneIn, ones_noted}
 use Rattle.gc_cycle.specs.declared.counts.Counts.{Counts}
 use Rattle.gc_cycle.proofs.Ends.Counted.{blocks-count, none-used, Reads}
@@ -43,7 +46,7 @@ module _ (x : TableState) (i : ℕ) (v : View) (k : IsState x) (a : Agrees x i v
       let calm : IsCalm (get_or x.core.seats j d) = k.core.sound.world.inactive_calm j d l (sym (ap (λ (t : Standing). t.active) at) ∙ still) in
       calm.no_used_cell
 
-  published-used : v.state.knows ≡ true → used_cells x.core ≡ published_cells x.core
+  published-used : v.state.knows ≡ true → used_cells x.core ≡ published_count x.core
   published-used h =
       count-same (cell_bit (words_of x.core.shape x.core.words).allocs) (is_used x.core) 0 x.core.shape.cells
       (λ c l m. ap (λ b. cell_bit (words_of x.core.shape x.core.words).allocs c || b) (none-used c x.core.seats (none-has h)) ∙ or-none (cell_bit (words_of x.core.shape x.core.words).allocs c))
@@ -65,25 +68,25 @@ module _ (x : TableState) (i : ℕ) (v : View) (k : IsState x) (a : Agrees x i v
       )
 
   cycle-end : (counts : Counts) → IsAloneIn Idle v → AllocsNoted (block_count v.shape) v → counts.marked ≡ ones_noted (block_count v.shape) v
-      → Known v (counter_at 2) counts.marked → Known v (counter_at 3) counts.rescanned → Known v (counter_at 4) 0 → Known v (counter_at 0) 0 → Known v (counter_at 5) (v.shape.cells - counts.marked) → IsCycleEnd counts x.core
+      → Known v (counter_at last_count) counts.marked → Known v (counter_at rescanned_count) counts.rescanned → Known v (counter_at traced_count) 0 → Known v (counter_at card_counter) 0 → Known v (counter_at free_count) (v.shape.cells - counts.marked) → IsCycleEnd counts x.core
   cycle-end counts h noted marked last rescanned traced card free =
       let sh : Shape = x.core.shape in
       let phase = phase-is x i v 0 a h.alone.phase in
       let whole = k.core.formed.shaped.whole_blocks in
-      let cells : sh.cells ≡ block_count sh * 64 = omega (arith, whole) in
-      let published : published_cells x.core ≡ counts.marked =
+      let cells : sh.cells ≡ block_count sh * block_cells = omega (arith, whole) in
+      let published : published_count x.core ≡ counts.marked =
       ap (λ n. count_by (cell_bit (words_of sh x.core.words).allocs) (range_with_len 0 n)) cells
       ∙ (blocks-count (block_count sh) (words_of sh x.core.words).allocs v (reads-noted noted) ∙ (ap (λ (s : Shape). ones_noted (block_count s) v) (sym a.shape) ∙ sym marked)) in
       record {
         white = k.core.sound.phases.resting_white (ap is_resting phase);
         used = published-used h.rest.knows ∙ published;
-        last = statistic-is 2 6 counts.marked refl (omega arith) last;
-        rescanned = statistic-is 3 7 counts.rescanned refl (omega arith) rescanned;
-        traced = statistic-is 4 8 0 refl (omega arith) traced;
-        next_card = statistic-is 0 3 0 refl (omega arith) card;
-        free = statistic-is 5 9 (v.shape.cells - counts.marked) refl (omega arith) free ∙ (ap (λ (s : Shape). s.cells - counts.marked) a.shape ∙ ap (λ n. sh.cells - n) (sym published));
+        last = statistic-is last_count 6 counts.marked refl (omega arith) last;
+        rescanned = statistic-is rescanned_count 7 counts.rescanned refl (omega arith) rescanned;
+        traced = statistic-is traced_count 8 0 refl (omega arith) traced;
+        next_card = statistic-is card_counter 3 0 refl (omega arith) card;
+        free = statistic-is free_count 9 (v.shape.cells - counts.marked) refl (omega arith) free ∙ (ap (λ (s : Shape). s.cells - counts.marked) a.shape ∙ ap (λ n. sh.cells - n) (sym published));
       }
 
 pub cycle-ends : (counts : Counts) (v : View) → IsAloneIn Idle v → AllocsNoted (block_count v.shape) v → counts.marked ≡ ones_noted (block_count v.shape) v
-    → Known v (counter_at 2) counts.marked → Known v (counter_at 3) counts.rescanned → Known v (counter_at 4) 0 → Known v (counter_at 0) 0 → Known v (counter_at 5) (v.shape.cells - counts.marked) → InEach (IsCycleEnd counts) v
+    → Known v (counter_at last_count) counts.marked → Known v (counter_at rescanned_count) counts.rescanned → Known v (counter_at traced_count) 0 → Known v (counter_at card_counter) 0 → Known v (counter_at free_count) (v.shape.cells - counts.marked) → InEach (IsCycleEnd counts) v
 cycle-ends counts v h noted marked last rescanned traced card free x i k a = cycle-end x i v k a counts h noted marked last rescanned traced card free

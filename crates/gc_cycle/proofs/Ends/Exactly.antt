@@ -59,7 +59,7 @@ exact-since u v w k r h =
     ap (collects_exactly sh (begins u)) (ran-events u v w k.ran r)
     ∙ collects-since sh (events u v) (events v w) (begins u) k.began (subst (λ (s : Shape). at_some_moment s ends_exactly m (events v w) ≡ true) (ran-shape u v k.ran) (h m state))
 
--- and so it is after more events
+-- a cycle that ended exactly by these events did so by more events after them
 ends-earlier : (sh : Shape) (m : Moment) (es ys : List Entry) → at_some_moment sh ends_exactly m es ≡ true → at_some_moment sh ends_exactly m (es ++ ys) ≡ true
 ends-earlier sh m [] ys h = absurd (false≢true h)
 ends-earlier sh m (e ∷ es) ys h =

@@ -7,6 +7,7 @@ use Rattle.std.proofs.lemmas.List.Folds.{list_any_at}
 use Rattle.std.proofs.lemmas.Option.{slice_get_within, get_or_from_slice_get}
 use Rattle.mark_core.specs.Effects.{seat_after}
 use Rattle.mark_core.specs.Layout.{words_of}
+use Rattle.mark_core.specs.Numbers.{card_counter}
 use Rattle.mark_core.specs.Seats.{is_phase}
 use Rattle.mark_core.specs.declared.kinds.Phase.TheVariants.{Idle, Marking, Drain, Sweep, Clear, Full}
 use Rattle.mark_core.specs.declared.kinds.Shape.{Shape}
@@ -26,22 +27,22 @@ use Rattle.stop_world.proofs.Phases.{phase-is}
 use Rattle.gc_cycle.specs.Cycles.{collects_exactly, ends_exactly, lets_help, opens_in_sweep}
 use Rattle.gc_cycle.specs.DrainRounds.{DrainsBefore}
 use Rattle.gc_cycle.specs.Ending.{InEach, IsExact}
-use Rattle.gc_cycle.specs.Events.{Sort, followed, never, since_last}
+use Rattle.gc_cycle.specs.Events.{Sort, followed_by, never, since_last}
 use Rattle.gc_cycle.specs.Finishing.{BeginsExactly, Completes, finishes, IsAloneIn, stays}
 use Rattle.gc_cycle.specs.Moments.{Moment, after_moment, at_some_moment, begins, total_of}
-use Rattle.gc_cycle.specs.Sorts.{begins_exactly, ends_cycle, moves, moves_to, opens, tells_full}
+use Rattle.gc_cycle.specs.Sorts.{begins_exactly, ends_cycle, moves, moves_to, opens_help, tells_full}
 use Rattle.gc_cycle.proofs.Sequences.{followed-later, moments, moments-state, none-of-steps, since-this, some-moment-later, some-none}
 use Rattle.gc_cycle.proofs.Ends.Completing.{no-move, no-tell, total-run}
 
 -- an event like g, where one is after one like f
-some-of-followed : (f g : Sort) (es : List Entry) → followed f g es ≡ true → some_event g es ≡ true
+some-of-followed : (f g : Sort) (es : List Entry) → followed_by f g es ≡ true → some_event g es ≡ true
 some-of-followed f g [] h = absurd (false≢true h)
 some-of-followed f g (e ∷ es) h =
     or_right (g e.step e.found) (some_event g es)
     (⊎_elim
     (λ (a : (f e.step e.found && some_event g es) ≡ true). (and_parts (f e.step e.found) (some_event g es) a).1)
-    (λ (a : followed f g es ≡ true). some-of-followed f g es a)
-    (or_cases (f e.step e.found && some_event g es) (followed f g es) h))
+    (λ (a : followed_by f g es ≡ true). some-of-followed f g es a)
+    (or_cases (f e.step e.found && some_event g es) (followed_by f g es) h))
 
 -- what comes before an event like f doesn't count after the last one
 pub since-later : (f : Sort) (xs ys : List Entry) → some_event f ys ≡ true → since_last f (xs ++ ys) ≡ since_last f ys
@@ -55,30 +56,30 @@ since-later f (x ∷ xs) ys h =
     off p false e = absurd (false≢true e)
 
 -- a move to Drain, steps that stay, and the rest of the cycle: help was let in for both parts
-lets-help : (xs : List Entry) (e : Entry) (ys es : List Entry) → moves_to Drain e.step e.found ≡ true → all_steps stays ys ≡ true → never (moves_to Drain) es ≡ true → followed opens (moves_to Sweep) es ≡ true → opens_in_sweep es ≡ true
+lets-help : (xs : List Entry) (e : Entry) (ys es : List Entry) → moves_to Drain e.step e.found ≡ true → all_steps stays ys ≡ true → never (moves_to Drain) es ≡ true → followed_by opens_help (moves_to Sweep) es ≡ true → opens_in_sweep es ≡ true
     → lets_help (xs ++ (e ∷ (ys ++ es))) ≡ true
 lets-help xs e ys es move still none drain sweep =
     let later = some-none (moves_to Drain) ys es (none-of-steps stays (moves_to Drain) (no-move Drain) ys still) (not-true _ none) in
-    let some : some_event (moves_to Sweep) es ≡ true = some-of-followed opens (moves_to Sweep) es drain in
+    let some : some_event (moves_to Sweep) es ≡ true = some-of-followed opens_help (moves_to Sweep) es drain in
     and_from _ _
-    (ap (followed opens (moves_to Sweep)) (since-this (moves_to Drain) xs e (ys ++ es) move later) ∙ followed-later opens (moves_to Sweep) ys es drain)
-    (ap (followed opens (moves_to Idle)) (since-later (moves_to Sweep) xs (e ∷ (ys ++ es)) (or_right _ _ (some-right (moves_to Sweep) ys es some)) ∙ since-later (moves_to Sweep) (e ∷ ys) es some) ∙ sweep)
+    (ap (followed_by opens_help (moves_to Sweep)) (since-this (moves_to Drain) xs e (ys ++ es) move later) ∙ followed-later opens_help (moves_to Sweep) ys es drain)
+    (ap (followed_by opens_help (moves_to Idle)) (since-later (moves_to Sweep) xs (e ∷ (ys ++ es)) (or_right _ _ (some-right (moves_to Sweep) ys es some)) ∙ since-later (moves_to Sweep) (e ∷ ys) es some) ∙ sweep)
 
 pub never-both : (f : Sort) (xs ys : List Entry) → never f xs ≡ true → never f ys ≡ true → never f (xs ++ ys) ≡ true
 never-both f xs ys a b = ap not (some-none f xs ys (not-true _ a) (not-true _ b))
 
 -- an ordinary cycle
-module _ (v0 v1 v2 : View) (r : Ran v0 v1) (is : events v0 v1 ≡ event (StorePhase Drain) 1 ∷ event (Reset 0) 0 ∷ []) (k : Completes v1 v2) where
-  all-events : events v0 v2 ≡ event (StorePhase Drain) 1 ∷ event (Reset 0) 0 ∷ events v1 v2
+module _ (v0 v1 v2 : View) (r : Ran v0 v1) (is : events v0 v1 ≡ event (StorePhase Drain) 1 ∷ event (Reset card_counter) 0 ∷ []) (k : Completes v1 v2) where
+  all-events : events v0 v2 ≡ event (StorePhase Drain) 1 ∷ event (Reset card_counter) 0 ∷ events v1 v2
   all-events = ran-events v0 v1 v2 r k.ran ∙ ap (λ es. es ++ events v1 v2) is
 
   pub cycle-help : lets_help (events v0 v2) ≡ true
-  cycle-help = ap lets_help all-events ∙ lets-help [] (event (StorePhase Drain) 1) (event (Reset 0) 0 ∷ []) (events v1 v2) refl refl k.no_drain k.drain_help k.sweep_help
+  cycle-help = ap lets_help all-events ∙ lets-help [] (event (StorePhase Drain) 1) (event (Reset card_counter) 0 ∷ []) (events v1 v2) refl refl k.no_drain k.drain_help k.sweep_help
 
   pub cycle-not-full : never tells_full (events v0 v2) ≡ true
-  cycle-not-full = ap (never tells_full) all-events ∙ never-both tells_full (event (StorePhase Drain) 1 ∷ event (Reset 0) 0 ∷ []) (events v1 v2) refl k.not_full
+  cycle-not-full = ap (never tells_full) all-events ∙ never-both tells_full (event (StorePhase Drain) 1 ∷ event (Reset card_counter) 0 ∷ []) (events v1 v2) refl k.not_full
 
-  pub cycle-total : (f : SeatState → Step → ℕ → ℕ) → ((s : SeatState) → f s (StorePhase Drain) 1 ≡ 0) → ((s : SeatState) → f s (Reset 0) 0 ≡ 0) → total_of f v0 (events v0 v2) ≡ total_of f v1 (events v1 v2)
+  pub cycle-total : (f : SeatState → Step → ℕ → ℕ) → ((s : SeatState) → f s (StorePhase Drain) 1 ≡ 0) → ((s : SeatState) → f s (Reset card_counter) 0 ≡ 0) → total_of f v0 (events v0 v2) ≡ total_of f v1 (events v1 v2)
   cycle-total f a b =
       total-run f v0 v1 v2 r k.ran
       ∙ (let first = ap (total_of f v0) is in
@@ -183,7 +184,7 @@ begins-later u v w r o n b =
     }
 
 -- since a drain began exactly only the counter of cards was set
-pub exact-fresh : (v w : View) (b : BeginsExactly v w) → since_last (moves_to Drain) (events v w) ≡ event (Reset 0) 0 ∷ []
+pub exact-fresh : (v w : View) (b : BeginsExactly v w) → since_last (moves_to Drain) (events v w) ≡ event (Reset card_counter) 0 ∷ []
 exact-fresh v w b =
     ap (since_last (moves_to Drain)) b.all
     ∙ (since-this (moves_to Drain) b.before b.move b.rest (exact-moves b.move.step b.move.found b.begins) (none-of-steps stays (moves_to Drain) (no-move Drain) b.rest b.stayed) ∙ b.fresh)

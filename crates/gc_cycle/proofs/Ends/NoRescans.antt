@@ -110,7 +110,7 @@ trace-step (SetMark c) e = refl
 trace-step (DirtyCard card) e = refl
 trace-step step e = absurd (false≢true e)
 
--- nor does a trace
+-- a trace cleans no card
 pub traces-begin_none : (es : List Entry) → all_steps is_trace_step es ≡ true → all_steps begins_none es ≡ true
 traces-begin_none [] a = refl
 traces-begin_none (x ∷ es) a = let h = and_parts (is_trace_step x.step) (all_steps is_trace_step es) a in and_from _ _ (trace-step x.step h.0) (traces-begin_none es h.1)

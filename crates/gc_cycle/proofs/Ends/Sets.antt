@@ -28,7 +28,7 @@ use Rattle.gc_table.proofs.Noticing.{alone-steady, alone-step, found-noted, know
 use Rattle.gc_table.proofs.Running.{ran-found, ran-only}
 use Rattle.gc_cycle.specs.Finishing.{AllocsNoted, IsAloneIn, IsPart, ones_noted, stays_in}
 use Rattle.gc_cycle.specs.Settling.{adjusts, Sets}
-use Rattle.mark_core.specs.Numbers.{done_count}
+use Rattle.mark_core.specs.Numbers.{done_count, free_count, last_count, traced_count}
 use Rattle.gc_cycle.specs.Standing.{IsAlone}
 use Rattle.gc_cycle.proofs.Ends.Moving.{may-reset_idle, no-block}
 use Rattle.gc_cycle.proofs.Parts.{part-join, part-reset, part-step}
@@ -197,10 +197,10 @@ abbrev pub changed : Bool → ℕ → ℕ → ℕ
 changed down m by = if down then wrapped_difference m by else wrapped_sum m by
 
 -- none of them is the count of parts that were played
-pub apart : (which : ℕ) → which ≤ 5 → not (which == done_count) ≡ true
+pub apart : (which : ℕ) → which ≤ free_count → not (which == done_count) ≡ true
 apart which l = ap not (ne_eqb which done_count (λ e. omega (arith, l, e)))
 
-pub sets-add : (which by : ℕ) (down : Bool) (v w : View) (m : ℕ) → which ≤ 5 → Took (AddStat which by down) v w → IsAloneIn Idle v → Known v (counter_at which) m → Sets which (changed down m by) v w
+pub sets-add : (which by : ℕ) (down : Bool) (v w : View) (m : ℕ) → which ≤ free_count → Took (AddStat which by down) v w → IsAloneIn Idle v → Known v (counter_at which) m → Sets which (changed down m by) v w
 sets-add which by down v w m low t a k =
     let n = t.0 in
     let f = t.1 in
@@ -216,26 +216,26 @@ sets-add which by down v w m low t a k =
           (known-here v step n (counter_at which) (same-here (counter_at which)) (steady-here v.state which (changed down n by) a.rest.alone)));
     }
 
-pub sets-read : (v w : View) (n : ℕ) → Found (ReadStat 5) n v w → IsAloneIn Idle v → Sets 5 n v w
+pub sets-read : (v w : View) (n : ℕ) → Found (ReadStat free_count) n v w → IsAloneIn Idle v → Sets free_count n v w
 sets-read v w n f a =
-    let step : Step = ReadStat 5 in
+    let step : Step = ReadStat free_count in
     let seen : IsSeen step n v = record { found = λ e. f.1; stored = λ e. absurd (false≢true e) } in
     record {
       part = part-step Idle v w step n refl refl refl seen f.0 a;
-      only = only-after (adjusts 5) v w step n refl f.0;
+      only = only-after (adjusts free_count) v w step n refl f.0;
       known =
-          subst (λ (x : View). Known x (counter_at 5) n) (sym f.0)
-          (known-here v step n (counter_at 5) refl (steady-here v.state 5 n a.rest.alone));
+          subst (λ (x : View). Known x (counter_at free_count) n) (sym f.0)
+          (known-here v step n (counter_at free_count) refl (steady-here v.state free_count n a.rest.alone));
     }
 
-pub may-add : (which by : ℕ) (down : Bool) (v : View) → IsAlone v → 2 ≤ which → which ≤ 5 → May (AddStat which by down) v
+pub may-add : (which by : ℕ) (down : Bool) (v : View) → IsAlone v → last_count ≤ which → which ≤ free_count → May (AddStat which by down) v
 may-add which by down v h l m x i k a = (
   and_from _ _ (and_from _ _ (le-leb _ _ l) (le-leb _ _ (omega (arith, m)))) (takes v h),
-  (or_left (not (which == 6)) _ (apart which m), tt),
+  (or_left (not (which == done_count)) _ (apart which m), tt),
 )
 
-pub may-read_free : (v : View) → May (ReadStat 5) v
+pub may-read_free : (v : View) → May (ReadStat free_count) v
 may-read_free v x i k a = (lt-ltb _ _ (omega arith), tt)
 
-pub may-clear : (which : ℕ) (v : View) → which ≤ 4 → IsAloneIn Idle v → May (Reset which) v
+pub may-clear : (which : ℕ) (v : View) → which ≤ traced_count → IsAloneIn Idle v → May (Reset which) v
 may-clear which v l a = may-reset_idle which v (le-leb _ _ l) a

@@ -62,7 +62,7 @@ untold-fills es h = ap not (untold es (not-true _ h)).0
 pub untold-sees : (es : List Entry) → never tells_full es ≡ true → saw_full es ≡ false
 untold-sees es h = (untold es (not-true _ h)).1
 
--- nor is the flag raised
+-- a step that finishes a cycle raises no flag
 no-raise : (step : Step) (n : ℕ) → finishes step ≡ true → raises_flag step n ≡ false
 no-raise RaiseStep n e = absurd (false≢true e)
 no-raise step n e = refl

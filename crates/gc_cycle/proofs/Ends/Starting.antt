@@ -1,6 +1,7 @@
 -- The phase that a seat finds which is alone in the stop, and the drain that it begins.
 use Rattle.std.proofs.Common.{ℕ, ◌≡◌, [], ◌∷◌, ◌++◌, refl, sym, ap, ◌∙◌, subst, true, not, ◌⊎◌, ⊎_elim, arith, inl, inr}
 use Rattle.std.proofs.lemmas.Bool.{true≢false}
+use Rattle.mark_core.specs.Numbers.{card_counter}
 use Rattle.mark_core.specs.Places.{the_phase}
 use Rattle.mark_core.specs.Seats.{is_the, phase_number, phase_of}
 use Rattle.mark_core.specs.declared.kinds.Phase.{Phase}
@@ -30,14 +31,14 @@ looked p v w n f a =
       alone = alone-step p v ReadPhase n refl (record { found = λ e. f.1; stored = λ e. absurd (true≢false (sym e)) }) a.alone;
     })
 
--- and finds it
+-- a seat that is alone in a phase finds that phase
 pub found-phase : (p : Phase) (v w : View) (n : ℕ) → Found ReadPhase n v w → IsAloneIn p v → n ≡ phase_number p
 found-phase p v w n f a = found-noted v ReadPhase n (phase_number p) the_phase f.1 refl a.alone.phase
 
 -- a drain that begins where no cycle is under way
-pub idle-begins : (v w : View) → Ran v w → events v w ≡ event (StorePhase Drain) 0 ∷ event (Reset 0) 0 ∷ [] → IsAloneIn Drain w → w.state.exact ≡ true → BeginsExactly v w
+pub idle-begins : (v w : View) → Ran v w → events v w ≡ event (StorePhase Drain) 0 ∷ event (Reset card_counter) 0 ∷ [] → IsAloneIn Drain w → w.state.exact ≡ true → BeginsExactly v w
 idle-begins v w r e a x =
-    record { ran = r; only = ap (all_steps finishes) e; alone = a; exact = x; before = []; rest = event (Reset 0) 0 ∷ []; move = event (StorePhase Drain) 0; all = e; begins = refl; stayed = refl; fresh = refl; not_full = refl }
+    record { ran = r; only = ap (all_steps finishes) e; alone = a; exact = x; before = []; rest = event (Reset card_counter) 0 ∷ []; move = event (StorePhase Drain) 0; all = e; begins = refl; stayed = refl; fresh = refl; not_full = refl }
 
 pub look-event : (v w : View) (t : Took ReadPhase v w) → events v w ≡ event ReadPhase t.0 ∷ []
 look-event v w t = events-after v w ReadPhase t.0 t.1.0
@@ -63,7 +64,7 @@ marking-found v w n f h e =
 pub marking-ran : (v w x : View) → Took ReadPhase v w → Ran w x → Ran v x
 marking-ran v w x t r = ran-join v w x (look-ran v w t) r
 
-pub look-drain-events : (v w x : View) (n : ℕ) (t : Took ReadPhase v w) → Ran w x → events w x ≡ event (StorePhase Drain) n ∷ event (Reset 0) 0 ∷ [] → events v x ≡ event ReadPhase t.0 ∷ event (StorePhase Drain) n ∷ event (Reset 0) 0 ∷ []
+pub look-drain-events : (v w x : View) (n : ℕ) (t : Took ReadPhase v w) → Ran w x → events w x ≡ event (StorePhase Drain) n ∷ event (Reset card_counter) 0 ∷ [] → events v x ≡ event ReadPhase t.0 ∷ event (StorePhase Drain) n ∷ event (Reset card_counter) 0 ∷ []
 look-drain-events v w x n t r e = ran-events v w x (look-ran v w t) r ∙ (ap (λ es. es ++ events w x) (look-event v w t) ∙ ap (λ es. event ReadPhase t.0 ∷ es) e)
 
 -- what it reads there tells of no full heap
@@ -75,7 +76,7 @@ look-untold p v w t a h =
 pub either-untold : (v w : View) (t : Took ReadPhase v w) → IsAloneIn Idle v ⊎ IsAloneIn Marking v → never tells_full (events v w) ≡ true
 either-untold v w t h = ⊎_elim (λ (a : IsAloneIn Idle v). look-untold Idle v w t a (inl refl)) (λ (a : IsAloneIn Marking v). look-untold Marking v w t a (inr refl)) h
 
-pub drain-no-full : (v w x y : View) (n : ℕ) (t : Took ReadPhase v w) (r : Ran w x) → never tells_full (events v w) ≡ true → events w x ≡ event (StorePhase Drain) n ∷ event (Reset 0) 0 ∷ [] → IsPart Drain x y → never tells_full (events v y) ≡ true
+pub drain-no-full : (v w x y : View) (n : ℕ) (t : Took ReadPhase v w) (r : Ran w x) → never tells_full (events v w) ≡ true → events w x ≡ event (StorePhase Drain) n ∷ event (Reset card_counter) 0 ∷ [] → IsPart Drain x y → never tells_full (events v y) ≡ true
 drain-no-full v w x y n t r u e p =
     ap (never tells_full) (ran-events v x y (marking-ran v w x t r) p.ran)
     ∙ never-both tells_full (events v x) (events x y) (ap (never tells_full) (ran-events v w x (look-ran v w t) r) ∙ never-both tells_full (events v w) (events w x) u (ap (never tells_full) e)) (ap not (part-untold Drain x y p))
@@ -83,7 +84,7 @@ drain-no-full v w x y n t r u e p =
 pub look-finishes : (v w : View) → Took ReadPhase v w → Only finishes v w
 look-finishes v w t = ap (all_steps finishes) (look-event v w t)
 
-pub look-drain-finishes : (v w x : View) (n : ℕ) (t : Took ReadPhase v w) → Ran w x → events w x ≡ event (StorePhase Drain) n ∷ event (Reset 0) 0 ∷ [] → Only finishes v x
+pub look-drain-finishes : (v w x : View) (n : ℕ) (t : Took ReadPhase v w) → Ran w x → events w x ≡ event (StorePhase Drain) n ∷ event (Reset card_counter) 0 ∷ [] → Only finishes v x
 look-drain-finishes v w x n t r e = ap (all_steps finishes) (look-drain-events v w x n t r e)
 
 -- the phase in which a seat is alone is one

@@ -133,7 +133,7 @@ ends-full v w x y done t saw seen r o m none same s =
       (full-seen v y all (only-more answers tries_stopping answers-try v y only) read).0,
     )
 
--- so it is after whatever was done before
+-- a heap found full by the last call of two was found full by both
 pub full-later : (done : ℕ) (u v w : View) → Ran u v → Ran v w → EndsFull done v w → EndsFull done u w
 full-later done u v w r q e =
     record {

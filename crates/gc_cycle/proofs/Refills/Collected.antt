@@ -24,7 +24,7 @@ use Rattle.packet_pools.specs.Seeking.{some_event}
 use Rattle.packet_pools.proofs.Searches.{some-left}
 use Rattle.gc_cycle.specs.Answering.{answers, Collects, KeepsOn, TellsFull}
 use Rattle.gc_cycle.specs.Cycles.{never_fills, collects, collects_exactly, ends_exactly}
-use Rattle.gc_cycle.specs.Events.{followed, never, Sort}
+use Rattle.gc_cycle.specs.Events.{followed_by, never, Sort}
 use Rattle.gc_cycle.specs.Finishing.{finishes, IsAloneIn}
 use Rattle.gc_cycle.specs.Moments.{Moment, after_moment, at_some_moment}
 use Rattle.gc_cycle.specs.Polling.{saw_full}
@@ -127,15 +127,15 @@ exactly-collects sh m (e ∷ es) h =
     (λ (b : collects_exactly sh (after_moment sh m e) es ≡ true). or_right (begins_exactly e.step e.found && some_event ends_cycle es) (collects es) (exactly-collects sh (after_moment sh m e) es b))
     (or_cases (begins_exactly e.step e.found && at_some_moment sh ends_exactly (after_moment sh m e) es) (collects_exactly sh (after_moment sh m e) es) h)
 
-pub followed-earlier : (f g : Sort) (xs ys : List Entry) → followed f g xs ≡ true → followed f g (xs ++ ys) ≡ true
+pub followed-earlier : (f g : Sort) (xs ys : List Entry) → followed_by f g xs ≡ true → followed_by f g (xs ++ ys) ≡ true
 followed-earlier f g [] ys h = absurd (false≢true h)
 followed-earlier f g (x ∷ xs) ys h =
     ⊎_elim
     (λ (a : (f x.step x.found && some_event g xs) ≡ true).
     let p = and_parts (f x.step x.found) (some_event g xs) a in
-    or_left (f x.step x.found && some_event g (xs ++ ys)) (followed f g (xs ++ ys)) (and_from (f x.step x.found) (some_event g (xs ++ ys)) p.0 (some-left g xs ys p.1)))
-    (λ (b : followed f g xs ≡ true). or_right (f x.step x.found && some_event g (xs ++ ys)) (followed f g (xs ++ ys)) (followed-earlier f g xs ys b))
-    (or_cases (f x.step x.found && some_event g xs) (followed f g xs) h)
+    or_left (f x.step x.found && some_event g (xs ++ ys)) (followed_by f g (xs ++ ys)) (and_from (f x.step x.found) (some_event g (xs ++ ys)) p.0 (some-left g xs ys p.1)))
+    (λ (b : followed_by f g xs ≡ true). or_right (f x.step x.found && some_event g (xs ++ ys)) (followed_by f g (xs ++ ys)) (followed-earlier f g xs ys b))
+    (or_cases (f x.step x.found && some_event g xs) (followed_by f g xs) h)
 
 -- the seat that resumed the world is a mutator again
 pub resumed-mutates : (v w : View) → IsAlone v → is_some v.state.section ≡ true → v.state.helping ≡ false → Took DropStep v w → Mutates w × (w.state.cache ≡ None)

@@ -3,6 +3,7 @@ use Rattle.std.proofs.Common.{ℕ, ◌≡◌, List, [], ◌∷◌, ◌++◌, ref
 use Rattle.std.specs.Prelude.{◌==◌, if◌then◌else◌, is_none, is_some}
 use Rattle.std.specs.Int.Count.{ones}
 use Rattle.std.proofs.lemmas.Bool.{and_from, and_parts, false≢true}
+use Rattle.mark_core.specs.Numbers.{free_count}
 use Rattle.mark_core.specs.Seats.{empty_handed, has_making, work_in_hand}
 use Rattle.mark_core.specs.declared.kinds.Shape.{Shape}
 use Rattle.mark_core.specs.declared.kinds.Step.{Step}
@@ -29,7 +30,7 @@ by-steps P (e ∷ es) = ap (λ b. P e.step && b) (by-steps P es)
 retiring-all : (h : Cache) (used : ℕ) → all_of retires (retiring_steps h used) ≡ true
 retiring-all h used = either (used == 0) (ones h.cells)
   where
-    either : (b : Bool) (n : ℕ) → all_of retires ((if b then [] else PublishCells ∷ []) ++ AddStat 5 n false ∷ ReleaseBlock ∷ []) ≡ true
+    either : (b : Bool) (n : ℕ) → all_of retires ((if b then [] else PublishCells ∷ []) ++ AddStat free_count n false ∷ ReleaseBlock ∷ []) ≡ true
     either true n = refl
     either false n = refl
 

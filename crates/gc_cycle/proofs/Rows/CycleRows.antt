@@ -38,7 +38,7 @@ precise_from_idle = refl
 precise_from_marking : collects_exactly small (at_rest stopper) (did (StorePhase Drain) 1 ∷ helped ++ (did (StorePhase Clear) 2 ∷ did (StorePhase Drain) 4 ∷ ending)) ≡ true
 precise_from_marking = refl
 
--- or the cycle is ended, and another follows
+-- the cycle is ended, and another follows
 two_cycles : collects_exactly small (at_rest stopper) (did (StorePhase Drain) 1 ∷ ending ++ (did (StorePhase Drain) 0 ∷ ending)) ≡ true
 two_cycles = refl
 

@@ -2,6 +2,7 @@
 use Rattle.std.proofs.Common.{ℕ, ◌≡◌, refl, sym, ap, List, [], ◌∷◌, ◌++◌, true, false}
 use Rattle.std.specs.Prelude.{◌==◌}
 use Rattle.std.proofs.lemmas.Bool.{true≢false}
+use Rattle.mark_core.specs.Numbers.{block_counter, card_counter, high_pool_number, low_pool_number}
 use Rattle.mark_core.specs.declared.kinds.Step.TheVariants.{ClearCard, JoinHelpStep, LeaveHelpStep, Look, NextOfCards, Observe, ReadCard, ReadPhase, ReadStat, Take}
 use Rattle.gc_table.specs.declared.view.Entry.{Entry}
 use Rattle.gc_cycle.specs.declared.counts.Helped.{Helped}
@@ -15,7 +16,7 @@ nothing_to_do = record { traced = 0; rescanned = 0; swept = 0; ended = NoWork }
 
 -- one card is left in the pass, and is clean; no packet has work
 abbrev cleans_the_last : List Entry
-cleans_the_last = did NextOfCards 3 ∷ did (ClearCard 3) 0 ∷ did (ReadStat 0) 4 ∷ no_input_looks
+cleans_the_last = did NextOfCards 3 ∷ did (ClearCard 3) 0 ∷ did (ReadStat card_counter) 4 ∷ no_input_looks
 
 to_the_end : helped_to_the_end small (at_rest drainer) cleans_the_last ≡ true
 to_the_end = refl
@@ -31,50 +32,50 @@ does_nothing : helped_to_the_end small (at_rest drainer) [] ≡ false
 does_nothing = refl
 
 -- the card that was given out wasn't cleared
-leaves_a_card : helped_to_the_end small (at_rest drainer) (did NextOfCards 3 ∷ did (ReadStat 0) 4 ∷ no_input_looks) ≡ false
+leaves_a_card : helped_to_the_end small (at_rest drainer) (did NextOfCards 3 ∷ did (ReadStat card_counter) 4 ∷ no_input_looks) ≡ false
 leaves_a_card = refl
 
 -- the card that was given out was found clean by a look
-finds_it_clean : helped_to_the_end small (at_rest drainer) (did NextOfCards 3 ∷ did (ReadCard 3) 0 ∷ did (ReadStat 0) 4 ∷ no_input_looks) ≡ true
+finds_it_clean : helped_to_the_end small (at_rest drainer) (did NextOfCards 3 ∷ did (ReadCard 3) 0 ∷ did (ReadStat card_counter) 4 ∷ no_input_looks) ≡ true
 finds_it_clean = refl
 
 -- it was found dirty, and wasn't cleaned
-leaves_it_dirty : helped_to_the_end small (at_rest drainer) (did NextOfCards 3 ∷ did (ReadCard 3) 1 ∷ did (ReadStat 0) 4 ∷ no_input_looks) ≡ false
+leaves_it_dirty : helped_to_the_end small (at_rest drainer) (did NextOfCards 3 ∷ did (ReadCard 3) 1 ∷ did (ReadStat card_counter) 4 ∷ no_input_looks) ≡ false
 leaves_it_dirty = refl
 
 -- another card was found clean
-looks_at_another : helped_to_the_end small (at_rest drainer) (did NextOfCards 3 ∷ did (ReadCard 2) 0 ∷ did (ReadStat 0) 4 ∷ no_input_looks) ≡ false
+looks_at_another : helped_to_the_end small (at_rest drainer) (did NextOfCards 3 ∷ did (ReadCard 2) 0 ∷ did (ReadStat card_counter) 4 ∷ no_input_looks) ≡ false
 looks_at_another = refl
 
 -- a card was cleared after the end was seen
-cleans_afterwards : helped_to_the_end small (at_rest drainer) (did (ReadStat 0) 4 ∷ no_input_looks ++ did (ClearCard 3) 0 ∷ []) ≡ false
+cleans_afterwards : helped_to_the_end small (at_rest drainer) (did (ReadStat card_counter) 4 ∷ no_input_looks ++ did (ClearCard 3) 0 ∷ []) ≡ false
 cleans_afterwards = refl
 
 -- packets were looked for before the last card was cleared, and not after
-looks_too_soon : helped_to_the_end small (at_rest drainer) (no_input_looks ++ (did NextOfCards 3 ∷ did (ClearCard 3) 0 ∷ did (ReadStat 0) 4 ∷ [])) ≡ false
+looks_too_soon : helped_to_the_end small (at_rest drainer) (no_input_looks ++ (did NextOfCards 3 ∷ did (ClearCard 3) 0 ∷ did (ReadStat card_counter) 4 ∷ [])) ≡ false
 looks_too_soon = refl
 
 -- a pool wasn't looked at
-leaves_a_pool : helped_to_the_end small (at_rest drainer) (did (ReadStat 0) 4 ∷ did (Look 2 0) 0 ∷ []) ≡ false
+leaves_a_pool : helped_to_the_end small (at_rest drainer) (did (ReadStat card_counter) 4 ∷ did (Look high_pool_number 0) 0 ∷ []) ≡ false
 leaves_a_pool = refl
 
 -- a packet was there
-leaves_a_packet : helped_to_the_end small (at_rest drainer) (did (ReadStat 0) 4 ∷ did (Look 2 0) 2 ∷ did (Look 1 0) 0 ∷ []) ≡ false
+leaves_a_packet : helped_to_the_end small (at_rest drainer) (did (ReadStat card_counter) 4 ∷ did (Look high_pool_number 0) 2 ∷ did (Look low_pool_number 0) 0 ∷ []) ≡ false
 leaves_a_packet = refl
 
 -- the packets lie in the low pool, and each was taken there by another seat before
-loses_each : helped_to_the_end small (at_rest drainer) (did (ReadStat 0) 4 ∷ did (Look 2 0) 0 ∷ did (Look 1 0) 3 ∷ did (Take 1 0) 0 ∷ did (Take 1 1) 0 ∷ []) ≡ true
+loses_each : helped_to_the_end small (at_rest drainer) (did (ReadStat card_counter) 4 ∷ did (Look high_pool_number 0) 0 ∷ did (Look low_pool_number 0) 3 ∷ did (Take low_pool_number 0) 0 ∷ did (Take low_pool_number 1) 0 ∷ []) ≡ true
 loses_each = refl
 
 -- it takes them out of the high pool, where they aren't
-takes_elsewhere : helped_to_the_end small (at_rest drainer) (did (ReadStat 0) 4 ∷ did (Look 2 0) 0 ∷ did (Look 1 0) 3 ∷ did (Take 2 0) 0 ∷ did (Take 2 1) 0 ∷ []) ≡ false
+takes_elsewhere : helped_to_the_end small (at_rest drainer) (did (ReadStat card_counter) 4 ∷ did (Look high_pool_number 0) 0 ∷ did (Look low_pool_number 0) 3 ∷ did (Take high_pool_number 0) 0 ∷ did (Take high_pool_number 1) 0 ∷ []) ≡ false
 takes_elsewhere = refl
 
 -- a sweep to its end
 abbrev all_swept : Helped
 all_swept = record { traced = 0; rescanned = 0; swept = 0; ended = Swept }
 
-sweeps : HelpsAs 100 all_swept (seen_by sweeper) (did (ReadStat 1) 1 ∷ [])
+sweeps : HelpsAs 100 all_swept (seen_by sweeper) (did (ReadStat block_counter) 1 ∷ [])
 sweeps = record { traced = refl; rescanned = refl; swept = refl; drain = λ e. absurd (true≢false (sym e)); sweep = λ e. (refl, record { ended = refl; end = refl }) }
 
 refused-sweep : HelpsAs 100 all_swept (seen_by sweeper) [] → ⊥

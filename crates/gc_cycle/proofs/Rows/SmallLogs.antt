@@ -2,6 +2,7 @@
 use Rattle.std.proofs.Common.{ℕ, ◌+◌, List, [], ◌∷◌, true, Some}
 use Rattle.std.specs.Prelude.{map}
 use Rattle.std.specs.List.{range_with_len}
+use Rattle.mark_core.specs.Numbers.{free_count, high_pool_number, low_pool_number, section_variables}
 use Rattle.mark_core.specs.Start.{start_seat}
 use Rattle.mark_core.specs.declared.kinds.Phase.TheVariants.{Drain, Sweep, Marking}
 use Rattle.mark_core.specs.declared.kinds.Shape.{Shape}
@@ -54,15 +55,15 @@ stopper = record (start_seat small 1) { raised = true; knows = true; alone = tru
 
 -- all variables of the warehouse are read as nil
 abbrev pub nil_roots : List Entry
-nil_roots = map (λ v. did (ReadRoot 1 v) 0) (range_with_len 0 32)
+nil_roots = map (λ v. did (ReadRoot 1 v) 0) (range_with_len 0 section_variables)
 
 -- block 0 is claimed, with this allocation word and so many free cells
 abbrev pub claiming : ℕ → ℕ → List Entry
-claiming word free = did (ClaimBlock 0) 0 ∷ did ReadFree word ∷ did (AddStat 5 free true) 100 ∷ []
+claiming word free = did (ClaimBlock 0) 0 ∷ did ReadFree word ∷ did (AddStat free_count free true) 100 ∷ []
 
 -- no packet is found to read from
 abbrev pub no_input_looks : List Entry
-no_input_looks = did (Look 2 0) 0 ∷ did (Look 1 0) 0 ∷ []
+no_input_looks = did (Look high_pool_number 0) 0 ∷ did (Look low_pool_number 0) 0 ∷ []
 
 -- the view of a seat with this record, which has done nothing yet
 abbrev pub seen_by : SeatState → View

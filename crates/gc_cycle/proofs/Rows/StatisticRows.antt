@@ -3,6 +3,7 @@ use Rattle.std.proofs.Common.{◌≡◌, refl, sym, ap, List, [], ◌∷◌, ◌
 use Rattle.std.specs.Prelude.{◌==◌, ◌&&◌}
 use Rattle.std.specs.Int.Count.{ones}
 use Rattle.std.proofs.lemmas.Bool.{true≢false}
+use Rattle.mark_core.specs.Numbers.{free_count, last_count, rescanned_count, traced_count}
 use Rattle.mark_core.specs.declared.kinds.Phase.TheVariants.{Drain}
 use Rattle.mark_core.specs.declared.kinds.Step.{Step}
 use Rattle.mark_core.specs.declared.kinds.Step.TheVariants.{AddStat, ClaimBlock, PublishCells, ReadFree, ReadPhase, ReadStat, ReleaseBlock, Reset, StorePhase}
@@ -32,35 +33,35 @@ claims_and_returns : numbers_changed (claims ++ did PublishCells 0 ∷ did (give
 claims_and_returns = refl
 
 -- by how much the free cells fall
-two_fewer : takes_off two_cells ≡ AddStat 5 2 true
+two_fewer : takes_off two_cells ≡ AddStat free_count 2 true
 unfolding lib.Count.ones
 two_fewer = refl
 
 -- whether a change is one of a claim alone, as far as numbers go
 abbrev claims_two : List Step → Bool
-claims_two (AddStat which by down ∷ []) = (which == 5) && (by == 2) && down
+claims_two (AddStat which by down ∷ []) = (which == free_count) && (by == 2) && down
 claims_two steps = false
 
-of_claim : claims_two (numbers_changed (did (AddStat 5 2 true) 100 ∷ [])) ≡ true
+of_claim : claims_two (numbers_changed (did (AddStat free_count 2 true) 100 ∷ [])) ≡ true
 of_claim = refl
 
 -- the numbers of the last cycle fall below 0 before they are read, so that no cycle is due
-lowers_last : claims_two (numbers_changed (did (AddStat 2 4294967295 true) 576 ∷ did (AddStat 3 4294967295 true) 0 ∷ did (ReadStat 2) 18446744069414584897 ∷ did (AddStat 5 2 true) 100 ∷ [])) ≡ false
+lowers_last : claims_two (numbers_changed (did (AddStat last_count 4294967295 true) 576 ∷ did (AddStat rescanned_count 4294967295 true) 0 ∷ did (ReadStat last_count) 18446744069414584897 ∷ did (AddStat free_count 2 true) 100 ∷ [])) ≡ false
 lowers_last = refl
 
 -- the number of traced cells is raised before the claim, so that each quota is 0
-raises_traced : claims_two (numbers_changed (did (AddStat 4 10000000 false) 40 ∷ did (AddStat 5 2 true) 100 ∷ [])) ≡ false
+raises_traced : claims_two (numbers_changed (did (AddStat traced_count 10000000 false) 40 ∷ did (AddStat free_count 2 true) 100 ∷ [])) ≡ false
 raises_traced = refl
 
 -- what a cycle marked is taken off again
-lowers_marked : claims_two (numbers_changed (did (AddStat 2 20 true) 20 ∷ did (AddStat 5 2 true) 100 ∷ [])) ≡ false
+lowers_marked : claims_two (numbers_changed (did (AddStat last_count 20 true) 20 ∷ did (AddStat free_count 2 true) 100 ∷ [])) ≡ false
 lowers_marked = refl
 
 -- the number of free cells is raised while it is read
-raises_free : claims_two (numbers_changed (did (AddStat 5 1000 false) 10 ∷ did (ReadStat 5) 1010 ∷ did (AddStat 5 1000 true) 1010 ∷ did (AddStat 5 2 true) 100 ∷ [])) ≡ false
+raises_free : claims_two (numbers_changed (did (AddStat free_count 1000 false) 10 ∷ did (ReadStat free_count) 1010 ∷ did (AddStat free_count 1000 true) 1010 ∷ did (AddStat free_count 2 true) 100 ∷ [])) ≡ false
 raises_free = refl
 
-resets_last : claims_two (numbers_changed (did (Reset 2) 0 ∷ did (AddStat 5 2 true) 100 ∷ [])) ≡ false
+resets_last : claims_two (numbers_changed (did (Reset last_count) 0 ∷ did (AddStat free_count 2 true) 100 ∷ [])) ≡ false
 resets_last = refl
 
 -- a mutator that keeps its cache changes nothing, and one that gives it up counts its free cells again
@@ -77,10 +78,10 @@ found_none : taken None ≡ []
 found_none = refl
 
 -- looks change nothing
-looks_only : all_steps leaves_numbers (did (ReadStat 5) 10 ∷ did ReadPhase 0 ∷ []) ≡ true
+looks_only : all_steps leaves_numbers (did (ReadStat free_count) 10 ∷ did ReadPhase 0 ∷ []) ≡ true
 looks_only = refl
 
-tells_some : all_steps leaves_numbers (did (ReadStat 5) 10 ∷ did (AddStat 4 0 false) 0 ∷ []) ≡ false
+tells_some : all_steps leaves_numbers (did (ReadStat free_count) 10 ∷ did (AddStat traced_count 0 false) 0 ∷ []) ≡ false
 tells_some = refl
 
 -- a call without steps

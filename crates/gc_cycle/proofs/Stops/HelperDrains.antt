@@ -38,7 +38,7 @@ use Rattle.gc_cycle.proofs.Ends.Completing.{total-run}
 use Rattle.gc_cycle.proofs.Stops.Admitted.{count-none, count-run, idle-grows, idle-longer, late, longer, meets-join, never-join, not-followed-later, room-grows, seen-last, traced-idle, undrawn}
 use Rattle.mark_core.specs.declared.kinds.Step.TheVariants.{ReadCard}
 use Rattle.gc_table.proofs.History.Log.{events-after}
-use Rattle.gc_cycle.specs.Draining.{CleansDirty, SeesToCard}
+use Rattle.gc_cycle.specs.Draining.{CleansFoundCard, SeesToCard}
 use Rattle.gc_cycle.proofs.Stops.Looked.{has-looked}
 use Rattle.gc_cycle.proofs.Traced.{nothing-rest}
 
@@ -209,7 +209,7 @@ seen-clean quota card n h w x helps e f c =
       goes = λ u k i. helped-still quota h u w x k i t (ap (never pops) one) (ap (never clears) one) (ap (total_of rescans w) one);
     }
 
-seen-dirty : (quota card : ℕ) (before after : Helped) (w x : View) → Helps w → CleansDirty quota card before after w x → HasSeen quota card before after w x
+seen-dirty : (quota card : ℕ) (before after : Helped) (w x : View) → Helps w → CleansFoundCard quota card before after w x → HasSeen quota card before after w x
 seen-dirty quota card before after w x helps d =
     let v : View = d.looked in
     let l = d.looks in

@@ -27,7 +27,7 @@ use Rattle.stop_world.specs.Waiting.{StaysIn, closes}
 use Rattle.sweeper.specs.Freeing.{block_floor}
 use Rattle.gc_cycle.specs.Finishing.{IsAloneIn, IsOpen, IsPart, stays_in}
 use Rattle.gc_cycle.specs.Moments.{total_of}
-use Rattle.gc_cycle.specs.Sorts.{opens}
+use Rattle.gc_cycle.specs.Sorts.{opens_help}
 use Rattle.gc_cycle.proofs.Ends.Completing.{total-run}
 use Rattle.gc_cycle.proofs.Sequences.{total-none}
 
@@ -78,10 +78,10 @@ open-part p v0 v1 v2 v3 t r o q d a =
     open-stays : (x : Phase) → stays_in x OpenStep ≡ true
     open-stays x = refl
 
-pub open-event : (v0 v1 v3 : View) → Took OpenStep v0 v1 → Ran v1 v3 → some_event opens (events v0 v3) ≡ true
+pub open-event : (v0 v1 v3 : View) → Took OpenStep v0 v1 → Ran v1 v3 → some_event opens_help (events v0 v3) ≡ true
 open-event v0 v1 v3 t r =
-    ap (some_event opens) (ran-events v0 v1 v3 (open-ran v0 v1 t) r)
-    ∙ some-left opens (events v0 v1) (events v1 v3) (ap (some_event opens) (events-after v0 v1 OpenStep t.0 t.1.0))
+    ap (some_event opens_help) (ran-events v0 v1 v3 (open-ran v0 v1 t) r)
+    ∙ some-left opens_help (events v0 v1) (events v1 v3) (ap (some_event opens_help) (events-after v0 v1 OpenStep t.0 t.1.0))
 
 -- what neither opening nor closing does
 pub open-total : (f : SeatState → Step → ℕ → ℕ) → ((s : SeatState) (n : ℕ) → f s OpenStep n ≡ 0) → ((s : SeatState) (step : Step) (n : ℕ) → closes step ≡ true → f s step n ≡ 0) → (v0 v1 v2 v3 : View) → Took OpenStep v0 v1 → Ran v1 v2 → Ran v2 v3 → Only closes v2 v3

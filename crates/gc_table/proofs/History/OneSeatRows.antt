@@ -16,6 +16,7 @@ use Rattle.gc_table.specs.Taking.{after}
 use Rattle.gc_table.proofs.History.OneSeat.{by_first, one-told}
 use Rattle.gc_table.proofs.Opening.{starts}
 use Rattle.gc_table.proofs.Rows.{small}
+use Rattle.mark_core.specs.Bits.{flag}
 
 -- a table with one seat
 abbrev table : List ℕ → View → State (Unit {0}) View
@@ -55,8 +56,8 @@ answers_one : Holds small [] (table (start_words small) (after (ReadStat 4) 1 ne
 answers_one h = let e : 1 ≡ 0 = ap (λ es. slice_index (map (λ (x : Entry). x.found) es) 0) (one-told small [] _ (after (ReadStat 4) 1 new) h refl refl).1 in absurd (omega (arith, e))
 
 -- it raised the flag, looked at WORLD, and answered a word without the flag
-sees_no_flag : Holds small [] (table (set (start_words small) (address small the_world) 4294967296) (after Observe 0 (after RaiseStep 0 new))) → ⊥
-sees_no_flag h = let e : 0 ≡ 4294967296 = ap (λ es. slice_index (map (λ (x : Entry). x.found) es) 1) (one-told small [] _ (after Observe 0 (after RaiseStep 0 new)) h refl refl).1 in absurd (omega (arith, e))
+sees_no_flag : Holds small [] (table (set (start_words small) (address small the_world) flag) (after Observe 0 (after RaiseStep 0 new))) → ⊥
+sees_no_flag h = let e : 0 ≡ flag = ap (λ es. slice_index (map (λ (x : Entry). x.found) es) 1) (one-told small [] _ (after Observe 0 (after RaiseStep 0 new)) h refl refl).1 in absurd (omega (arith, e))
 
 shaped : IsShape small
 shaped = grind arith
@@ -71,7 +72,7 @@ refuses_one f =
     let told : (after (ReadStat 4) 1 new).log ≡ log_of small (by_first (after (ReadStat 4) 1 new).log) 0 = subst (λ (v : View). v.log ≡ log_of small (by_first v.log) 0) r.4 (one-told small [] _ r.0 r.3 refl (ap (λ (v : View). v.state.spent) r.4)).1 in
     let e : 1 ≡ 0 = ap (λ es. slice_index (map (λ (x : Entry). x.found) es) 0) told in absurd (omega (arith, e))
 
--- nor what it asks of a step that adds 1 to TRACED and leaves the view
+-- no view and no act meets what the table asks of a step that adds 1 to TRACED and leaves the view
 refuses_more : Allows (Holds small []) 0 0 (new, []) (at 4) (λ n. (n + 1) % 2 ^ 64) (λ n m. m.0 ≡ new) → ⊥
 refuses_more f =
     let r = f (table (start_words small) new) begun refl refl (omega arith) in

@@ -85,7 +85,7 @@ log-own sh es c e s l got told =
     ∙ (ap (λ (b : Bool). cond b (entries_of c (slice_get c.seats e.seat) e.step) []) (eq-eqb e.seat e.seat refl)
     ∙ (ap (λ (o : Option SeatState). entries_of c o e.step) got ∙ ap (λ (b : Bool). cond b (event e.step (word_told c s e.step) ∷ []) []) told)))
 
--- and it adds nothing to another
+-- an event adds nothing to the log of another seat
 pub log-other : (sh : Shape) (es : List Event) (c : Core) (e : Event) (i : ℕ) → LeadTo sh es c → (e.seat ≡ i → ⊥) → log_of sh (es ++ e ∷ []) i ≡ log_of sh es i
 log-other sh es c e i l far =
     log_more 0 i es (start_core sh 1) e l.allowed
@@ -99,7 +99,7 @@ none_either : (b : Bool) (l : List Entry) → l ≡ [] → cond b l [] ≡ []
 none_either true l e = e
 none_either false l e = refl
 
--- nor to any, where a seat is made or joined
+-- an event that makes or joins a seat adds nothing to any log
 pub log-still : (sh : Shape) (es : List Event) (c : Core) (e : Event) (i : ℕ) → LeadTo sh es c → is_logged e.step ≡ false → log_of sh (es ++ e ∷ []) i ≡ log_of sh es i
 log-still sh es c e i l untold =
     log_more 0 i es (start_core sh 1) e l.allowed

@@ -4,14 +4,14 @@ use Rattle.std.specs.Prelude.{slice_get, slice_index, slice_index_or, IfSome}
 use Rattle.mark_core.specs.Bits.{flag}
 use Rattle.mark_core.specs.Seats.{makes, last_made}
 use Rattle.mark_core.specs.Cells.{field}
-use Rattle.mark_core.specs.Rules.HeapRules.{section_of, number_of}
+use Rattle.mark_core.specs.Rules.HeapRules.{section_of_cell, number_of_cell}
 use Rattle.mark_core.specs.declared.kinds.Shape.{Shape}
 use Rattle.mark_core.specs.declared.seat.SeatState.{SeatState}
 use Rattle.plain_heap.specs.declared.object.Ref.{Ref}
 use Rattle.plain_heap.specs.declared.object.Ref.TheVariants as refs
 use Rattle.plain_heap.specs.Paths.{Names}
 use Rattle.plain_heap.specs.PlainStep.{lent}
-use Rattle.gc_table.specs.StandsFor.{WordAgrees, HoldsObject, IsNext, SeatStands}
+use Rattle.gc_table.specs.StandsFor.{WordAgrees, HoldsObject, IsForNextObject, SeatStands}
 use Rattle.gc_table.specs.declared.view.Meaning.{Meaning}
 
 -- a word and a reference agree as before, where the cell that is named keeps its identity, and no object goes
@@ -19,7 +19,7 @@ pub agrees-on : (ids ids' : List ℕ) (p q : ℕ → ℕ) (w word : ℕ) (ref : 
 agrees-on ids ids' p q w word ref same more (inl z) = inl z
 agrees-on ids ids' p q w word ref same more (inr (some, names, there)) =
     let P : ℕ → Type 0 = λ n. Names w ref (record { section = n / flag; number = n % flag }) × (n % flag < q (n / flag)) in
-    let now : P (slice_index ids' (word - 1)) = subst P (sym (same some)) (names, omega (arith, there, more (section_of ids (word - 1)))) in
+    let now : P (slice_index ids' (word - 1)) = subst P (sym (same some)) (names, omega (arith, there, more (section_of_cell ids (word - 1)))) in
     inr (some, now.0, now.1)
 
 -- nil agrees with nil alone
@@ -50,15 +50,15 @@ pub record Stays (sh : Shape) (ids ids' values values' fields fields' : List ℕ
   pub targets : (i : ℕ) → i < sh.fields → 0 < field sh fields c i → slice_index ids' (field sh fields c i - 1) ≡ slice_index ids (field sh fields c i - 1)
   pub more : (k : ℕ) → p k ≤ q k
 
-pub number-same : (ids ids' : List ℕ) (c : ℕ) → slice_index ids' c ≡ slice_index ids c → number_of ids' c ≡ number_of ids c
+pub number-same : (ids ids' : List ℕ) (c : ℕ) → slice_index ids' c ≡ slice_index ids c → number_of_cell ids' c ≡ number_of_cell ids c
 number-same ids ids' c e = ap (λ (n : ℕ). n % flag) e
 
-pub section-same : (ids ids' : List ℕ) (c : ℕ) → slice_index ids' c ≡ slice_index ids c → section_of ids' c ≡ section_of ids c
+pub section-same : (ids ids' : List ℕ) (c : ℕ) → slice_index ids' c ≡ slice_index ids c → section_of_cell ids' c ≡ section_of_cell ids c
 section-same ids ids' c e = ap (λ (n : ℕ). n / flag) e
 
 -- a cell that stays holds its object, where this stays too
 pub holds-on : (sh : Shape) (ids ids' values values' fields fields' : List ℕ) (p q : ℕ → ℕ) (m n : Meaning) (c : ℕ) → Stays sh ids ids' values values' fields fields' p q c
-    → slice_get n.heap.objects (number_of ids c) ≡ slice_get m.heap.objects (number_of ids c) → HoldsObject sh ids values fields p m c → HoldsObject sh ids' values' fields' q n c
+    → slice_get n.heap.objects (number_of_cell ids c) ≡ slice_get m.heap.objects (number_of_cell ids c) → HoldsObject sh ids values fields p m c → HoldsObject sh ids' values' fields' q n c
 holds-on sh ids ids' values values' fields fields' p q m n c k same h =
     record {
       object = h.object;
@@ -69,13 +69,13 @@ holds-on sh ids ids' values values' fields fields' p q m n c k same h =
       each_field =
           λ i l.
           subst (λ (w : ℕ). WordAgrees ids' q w (field sh fields' c i) (slice_index_or h.object.refs i refs.Nil)) (sym (section-same ids ids' c k.identity))
-          (subst (λ (word : ℕ). WordAgrees ids' q (section_of ids c) word (slice_index_or h.object.refs i refs.Nil)) (sym (k.each_field i l))
-          (agrees-on ids ids' p q (section_of ids c) (field sh fields c i) (slice_index_or h.object.refs i refs.Nil) (k.targets i l) k.more (h.each_field i l)));
+          (subst (λ (word : ℕ). WordAgrees ids' q (section_of_cell ids c) word (slice_index_or h.object.refs i refs.Nil)) (sym (k.each_field i l))
+          (agrees-on ids ids' p q (section_of_cell ids c) (field sh fields c i) (slice_index_or h.object.refs i refs.Nil) (k.targets i l) k.more (h.each_field i l)));
     }
 
 -- a cell that is made for the next object still is, where no object came
 pub next-on : (sh : Shape) (ids ids' values values' fields fields' : List ℕ) (p q : ℕ → ℕ) (m n : Meaning) (c : ℕ) → Stays sh ids ids' values values' fields fields' p q c
-    → length n.heap.objects ≡ length m.heap.objects → n.value ≡ m.value → IsNext sh ids values fields m c → IsNext sh ids' values' fields' n c
+    → length n.heap.objects ≡ length m.heap.objects → n.value ≡ m.value → IsForNextObject sh ids values fields m c → IsForNextObject sh ids' values' fields' n c
 next-on sh ids ids' values values' fields fields' p q m n c k same value h =
     record {
       number = number-same ids ids' c k.identity ∙ h.number ∙ sym same;

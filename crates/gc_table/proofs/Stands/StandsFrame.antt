@@ -4,7 +4,7 @@ use Rattle.std.specs.Prelude.{slice_get, slice_index, IsFalse}
 use Rattle.std.proofs.lemmas.Bool.{cases_eq}
 use Rattle.std.proofs.lemmas.List.{length-set}
 use Rattle.mark_core.specs.Seats.{makes, last_made}
-use Rattle.mark_core.specs.Rules.HeapRules.{section_of}
+use Rattle.mark_core.specs.Rules.HeapRules.{section_of_cell}
 use Rattle.mark_core.proofs.Formed.FormedAfter.{set-cases, set-here, set-there}
 use Rattle.mark_core.specs.declared.kinds.Shape.{Shape}
 use Rattle.mark_core.specs.declared.seat.SeatState.{SeatState}
@@ -62,7 +62,7 @@ pub record Changes (sh : Shape) (roots roots' ids ids' values values' fields' : 
   pub roots_used : (k : ℕ) → 0 < slice_index roots k → used (slice_index roots k - 1)
   pub other_roots : (w v : ℕ) → w ≢ i → v < 32 → slice_index roots' (w * 32 + v) ≡ slice_index roots (w * 32 + v)
   pub own_roots : (v : ℕ) → v < 32 → WordAgrees ids' (object_count (set ms i n)) i (slice_index roots' (i * 32 + v)) (variable n.heap v)
-  pub cells : (c : ℕ) → c < sh.cells → used' c → (x : Meaning) × (slice_get (set ms i n) (section_of ids' c) ≡ Some x) × IsCellOf sh ids' values' fields' (object_count (set ms i n)) x c
+  pub cells : (c : ℕ) → c < sh.cells → used' c → (x : Meaning) × (slice_get (set ms i n) (section_of_cell ids' c) ≡ Some x) × IsCellOf sh ids' values' fields' (object_count (set ms i n)) x c
   pub other_got : (w : ℕ) (s : SeatState) → w ≢ i → slice_get seats w ≡ Some s → IsFalse s.spent → 0 < s.got → used (s.got - 1)
   pub other_making : (w : ℕ) (s : SeatState) → w ≢ i → slice_get seats w ≡ Some s → IsFalse s.spent → (c part : ℕ) → makes s.cache c part ≡ true → slice_index values' c ≡ slice_index values c
   pub other_last : (w : ℕ) (s : SeatState) → w ≢ i → slice_get seats w ≡ Some s → IsFalse s.spent → (c : ℕ) → last_made s.cache ≡ Some c → used c

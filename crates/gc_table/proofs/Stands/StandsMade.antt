@@ -7,7 +7,7 @@ use Rattle.mark_core.specs.Layout.{Words, words_of, region_sizes}
 use Rattle.mark_core.specs.Bits.{flag}
 use Rattle.mark_core.specs.Seats.{free_in, has_making, makes, last_made}
 use Rattle.mark_core.specs.Cells.{field}
-use Rattle.mark_core.specs.Rules.HeapRules.{section_of, number_of}
+use Rattle.mark_core.specs.Rules.HeapRules.{section_of_cell, number_of_cell}
 use Rattle.mark_core.specs.Steps.MutatorSteps.{with_made}
 use Rattle.mark_core.specs.Steps.{Core}
 use Rattle.mark_core.specs.Laws.{IsCore}
@@ -97,10 +97,10 @@ made-moves c i s x part word ms k st a free next room here last identity = recor
     kept : (y : ℕ) → Used c y ≡ true → slice_index ids y ≡ slice_index w.identities y
     kept y u = get_or-set_other w.identities x y word 0 (used_other y u)
 
-    section : section_of ids x ≡ i
+    section : section_of_cell ids x ≡ i
     section = omega (arith, now, identity, few)
 
-    number : number_of ids x ≡ length m.heap.objects
+    number : number_of_cell ids x ≡ length m.heap.objects
     number = omega (arith, now, identity, few, room)
 
     cell : (y : ℕ) → y < c.shape.cells → (Used c y ≡ true) ⊎ IsMadeBy c.shape step y → HasMeaning c.shape ids w.values w.fields (set ms i m) y

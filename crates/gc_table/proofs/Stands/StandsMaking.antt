@@ -3,11 +3,10 @@ use Rattle.std.proofs.Common.{ℕ, ◌≡◌, ◌≢◌, ◌+◌, ◌*◌, ◌<�
 use Rattle.std.specs.Prelude.{IsFalse, IfSome, slice_index}
 use Rattle.std.proofs.lemmas.Bool.{true≢false, false≢true, and_parts, eqb-true, eq-eqb}
 use Rattle.mark_core.specs.Layout.{Words, words_of}
-use Rattle.mark_core.specs.Bits.{flag}
 use Rattle.mark_core.specs.Seats.{is_the, free_in, has_making, makes, scans, last_made}
 use Rattle.mark_core.specs.Views.{makers, maker_of}
 use Rattle.mark_core.specs.Cells.{field}
-use Rattle.mark_core.specs.Rules.HeapRules.{section_of, NumbersBelow}
+use Rattle.mark_core.specs.Rules.HeapRules.{section_of_cell, NumbersBelow}
 use Rattle.mark_core.specs.Steps.MutatorSteps.{with_making}
 use Rattle.mark_core.specs.Steps.{Core}
 use Rattle.mark_core.proofs.Blocks.BlocksTaken.{Taken}
@@ -19,7 +18,7 @@ use Rattle.mark_core.specs.declared.kinds.Step.{Step}
 use Rattle.mark_core.specs.declared.kinds.Step.TheVariants.{ReadCount, StoreNew}
 use Rattle.mark_core.specs.declared.seat.SeatState.{SeatState}
 use Rattle.mark_core.specs.declared.seat.CacheState.{CacheState}
-use Rattle.gc_table.specs.StandsFor.{object_count, IsNext, SeatStands, StandsFor}
+use Rattle.gc_table.specs.StandsFor.{object_count, IsForNextObject, SeatStands, StandsFor}
 use Rattle.gc_table.specs.declared.view.Meaning.{Meaning}
 use Rattle.gc_table.specs.PlainSteps.{meaning_of}
 use Rattle.gc_table.proofs.Stands.StandsAgree.{Stays, agrees-on}
@@ -27,6 +26,7 @@ use Rattle.gc_table.proofs.Stands.StandsCells.{cell-on}
 use Rattle.gc_table.proofs.Stands.StandsFrame.{counts-grow}
 use Rattle.gc_table.proofs.Stands.StandsMoves.{Moves, had-meaning}
 use Rattle.gc_table.proofs.Stands.StandsSeat.{Mutates, looks, making-is-free, free-not-used, free-apart}
+use Rattle.mark_core.specs.Numbers.{value_bound, section_span}
 
 scanning : (o : Option (ℕ × ℕ)) (c part : ℕ) → scans o c part ≡ true → (y : ℕ × ℕ) × (o ≡ Some y)
 scanning None c part e = absurd (false≢true e)
@@ -45,12 +45,12 @@ all-made sh ids values p i s m x part k e =
     k.made
 
 -- then no cell in use is made for the next object
-pub no-next : (c : Core) (i : ℕ) (s : SeatState) (step : Step) (ms : List Meaning) (y : ℕ) → Taken c i s step → Mutates c i s ms → length (meaning_of ms i).heap.objects ≡ s.made → y < c.shape.cells → Used c y ≡ true → section_of (words_of c.shape c.words).identities y ≡ i
-    → IsNext c.shape (words_of c.shape c.words).identities (words_of c.shape c.words).values (words_of c.shape c.words).fields (meaning_of ms i) y → ⊥
+pub no-next : (c : Core) (i : ℕ) (s : SeatState) (step : Step) (ms : List Meaning) (y : ℕ) → Taken c i s step → Mutates c i s ms → length (meaning_of ms i).heap.objects ≡ s.made → y < c.shape.cells → Used c y ≡ true → section_of_cell (words_of c.shape c.words).identities y ≡ i
+    → IsForNextObject c.shape (words_of c.shape c.words).identities (words_of c.shape c.words).values (words_of c.shape c.words).fields (meaning_of ms i) y → ⊥
 no-next c i s step ms y k a room h u e o =
     let w : Words = words_of c.shape c.words in
     let below : NumbersBelow c.shape w.allocs w.identities (makers c.seats) (maker_of s) = one-of (NumbersBelow c.shape w.allocs w.identities (makers c.seats)) (makers c.seats) i (maker_of s) (maker-at c.seats i s k.got) k.core.sound.caches.numbers_below in
-    let mine : is_the s.section (section_of w.identities y) ≡ true = subst (λ (z : Option ℕ). is_the z (section_of w.identities y) ≡ true) (sym a.section) (eq-eqb i (section_of w.identities y) (sym e)) in
+    let mine : is_the s.section (section_of_cell w.identities y) ≡ true = subst (λ (z : Option ℕ). is_the z (section_of_cell w.identities y) ≡ true) (sym a.section) (eq-eqb i (section_of_cell w.identities y) (sym e)) in
     omega (arith, below k.live y h u mine, o.number, room)
 
 making_is : (o : Option CacheState) (x p y part : ℕ) → makes (with_making o x p) y part ≡ true → (y ≡ x) × (part ≡ p)
@@ -66,7 +66,7 @@ pub record NewWords (c : Core) (x part : ℕ) (values fields : List ℕ) (value 
   pub other_values : (y : ℕ) → y ≢ x → slice_index values y ≡ slice_index (words_of c.shape c.words).values y
   pub other_fields : (y j : ℕ) → y ≢ x → j < c.shape.fields → field c.shape fields y j ≡ field c.shape (words_of c.shape c.words).fields y j
   pub stored : part ≡ c.shape.fields → slice_index values x ≡ value
-  pub fits : value < flag
+  pub fits : value < value_bound
 
 -- a part of a new cell that isn't the last
 pub part-moves : (c : Core) (i : ℕ) (s : SeatState) (x part word : ℕ) (ms : List Meaning) (values fields : List ℕ) (value : ℕ) → Taken c i s (StoreNew x part word) → StandsFor c ms → (a : Mutates c i s ms) → free_in s.cache x ≡ true → length (meaning_of ms i).heap.objects ≡ s.made
@@ -94,7 +94,7 @@ part-moves c i s x part word ms values fields value k st a free room few r = rec
         got = agrees-on w.identities w.identities (object_count ms) q i s.got m.got (λ some. refl) more mine.got;
         made = inl room;
         making = λ y p e l. let b = making_is s.cache x (part + 1) y p e in ap (λ j. slice_index values j) b.0 ∙ r.stored (omega (arith, b.1, l, few));
-        last = subst (λ (o : Option ℕ). IfSome o (λ y. (slice_index w.identities y + 1 ≡ i * flag + s.made) × (0 < s.made))) (sym (making_last s.cache x (part + 1))) mine.last;
+        last = subst (λ (o : Option ℕ). IfSome o (λ y. (slice_index w.identities y + 1 ≡ i * section_span + s.made) × (0 < s.made))) (sym (making_last s.cache x (part + 1))) mine.last;
       };
 }
   where

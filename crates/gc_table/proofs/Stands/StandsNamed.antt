@@ -5,7 +5,7 @@ use Rattle.std.specs.Option.{option_map}
 use Rattle.std.proofs.lemmas.List.{length-map}
 use Rattle.std.proofs.lemmas.Option.{same_Some, slice_get-map, slice_get_within, slice_get-get_or, get_or_from_slice_get}
 use Rattle.mark_core.specs.Layout.{words_of}
-use Rattle.mark_core.specs.Rules.HeapRules.{section_of, number_of}
+use Rattle.mark_core.specs.Rules.HeapRules.{section_of_cell, number_of_cell}
 use Rattle.mark_core.specs.Steps.{Core}
 use Rattle.plain_heap.specs.declared.object.Ref.{Ref}
 use Rattle.plain_heap.specs.declared.object.Ref.TheVariants as refs
@@ -29,15 +29,15 @@ names-one (suc w) (refs.Cat n) a b x y = same a b (x.0 ∙ sym y.0) (x.1 ∙ sym
     same a b s n = ap (λ (k : ℕ). record { section = k; number = a.number }) s ∙ ap (λ (k : ℕ). record { section = b.section; number = k }) n
 
 -- the word of a reference that names an object names the object's cell
-pub word-of : (ids : List ℕ) (p : ℕ → ℕ) (w word : ℕ) (ref : Ref) (name : Name) → WordAgrees ids p w word ref → Names w ref name → (x : ℕ) × (word ≡ x + 1) × (name_at ids x ≡ name) × (number_of ids x < p (section_of ids x))
+pub word-of : (ids : List ℕ) (p : ℕ → ℕ) (w word : ℕ) (ref : Ref) (name : Name) → WordAgrees ids p w word ref → Names w ref name → (x : ℕ) × (word ≡ x + 1) × (name_at ids x ≡ name) × (number_of_cell ids x < p (section_of_cell ids x))
 word-of ids p w word ref name (inl z) names = absurd (subst (λ (r : Ref). Names w r name) z.1 names)
 word-of ids p w word ref name (inr (some, own, below)) names = (word - 1, omega (arith, some), names-one w ref (name_at ids (word - 1)) name own names, below)
 
 -- the reference of a word that names a cell names the cell's object
-pub ref-of : (ids : List ℕ) (p : ℕ → ℕ) (w word x : ℕ) (ref : Ref) → word ≡ x + 1 → WordAgrees ids p w word ref → Names w ref (name_at ids x) × (number_of ids x < p (section_of ids x))
+pub ref-of : (ids : List ℕ) (p : ℕ → ℕ) (w word x : ℕ) (ref : Ref) → word ≡ x + 1 → WordAgrees ids p w word ref → Names w ref (name_at ids x) × (number_of_cell ids x < p (section_of_cell ids x))
 ref-of ids p w word x ref e (inl z) = absurd (omega (arith, e, z.0))
 ref-of ids p w word x ref e (inr (some, own, below)) =
-    let at : word - 1 ≡ x = omega (arith, e) in subst (λ y. Names w ref (name_at ids y) × (number_of ids y < p (section_of ids y))) at (own, below)
+    let at : word - 1 ≡ x = omega (arith, e) in subst (λ y. Names w ref (name_at ids y) × (number_of_cell ids y < p (section_of_cell ids y))) at (own, below)
 
 -- the heap of a section is one of all
 pub heap-there : (ms : List Meaning) (w : ℕ) (m : Meaning) → slice_get ms w ≡ Some m → Contains (heaps_of ms) m.heap
@@ -45,7 +45,7 @@ heap-there ms w m g =
     let at : slice_get (heaps_of ms) w ≡ Some m.heap = slice_get-map (λ (x : Meaning). x.heap) ms w ∙ ap (option_map (λ (x : Meaning). x.heap)) g in
     (w, slice_get_within (heaps_of ms) w m.heap at, get_or_from_slice_get (heaps_of ms) w m.heap m.heap at)
 
--- and each of them is that of its section
+-- each of all heaps is the heap of its section
 pub there-heap : (c : Core) (ms : List Meaning) (heap : Heap) → StandsFor c ms → Contains (heaps_of ms) heap → (m : Meaning) × (slice_get ms heap.section ≡ Some m) × (m.heap ≡ heap)
 there-heap c ms heap st (k, below, e) =
     let inside : k < length ms = subst (λ l. k < l) (length-map ms (λ (x : Meaning). x.heap)) below in
@@ -58,9 +58,9 @@ there-heap c ms heap st (k, below, e) =
     (m, ap (λ j. slice_get ms j) (sym place) ∙ g, same)
 
 -- the object of a cell is one of the heaps
-pub has-object : (c : Core) (ms : List Meaning) (x : ℕ) (m : Meaning) → StandsFor c ms → slice_get ms (section_of (words_of c.shape c.words).identities x) ≡ Some m
+pub has-object : (c : Core) (ms : List Meaning) (x : ℕ) (m : Meaning) → StandsFor c ms → slice_get ms (section_of_cell (words_of c.shape c.words).identities x) ≡ Some m
     → (h : HoldsObject c.shape (words_of c.shape c.words).identities (words_of c.shape c.words).values (words_of c.shape c.words).fields (object_count ms) m x) → HasObject (heaps_of ms) (name_at (words_of c.shape c.words).identities x) h.object
-has-object c ms x m st g h = (m.heap, heap-there ms (section_of (words_of c.shape c.words).identities x) m g, (st.numbered (section_of (words_of c.shape c.words).identities x) m g).0, h.there)
+has-object c ms x m st g h = (m.heap, heap-there ms (section_of_cell (words_of c.shape c.words).identities x) m g, (st.numbered (section_of_cell (words_of c.shape c.words).identities x) m g).0, h.there)
 
 -- an object of the heaps is the one in the heap of its section
 pub object-in : (c : Core) (ms : List Meaning) (name : Name) (object : Object) (m : Meaning) → StandsFor c ms → slice_get ms name.section ≡ Some m → HasObject (heaps_of ms) name object → slice_get m.heap.objects name.number ≡ Some object

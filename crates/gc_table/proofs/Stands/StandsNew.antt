@@ -107,7 +107,7 @@ part_kinds c i s x part word ms k identity = of (cases_Bool (nat_lt part c.shape
 last_fits : (field_part value_part : Bool) (a b e : Bool) → field_part ≡ false → value_part ≡ false → cond field_part a (cond value_part b e) ≡ true → e ≡ true
 last_fits field_part value_part a b e f g h = sym (ap (λ (z : Bool). cond z b e) g) ∙ (sym (ap (λ (z : Bool). cond z a (cond value_part b e)) f) ∙ h)
 
--- and the value fits a value
+-- what fits the part of the value is a value
 value_fits : (field_part value_part : Bool) (a b e : Bool) → field_part ≡ false → value_part ≡ true → cond field_part a (cond value_part b e) ≡ true → b ≡ true
 value_fits field_part value_part a b e f g h = sym (ap (λ (z : Bool). cond z b e) g) ∙ (sym (ap (λ (z : Bool). cond z a (cond value_part b e)) f) ∙ h)
 

@@ -5,13 +5,13 @@ use Rattle.std.proofs.lemmas.Bool.{true≢false, and_parts, not-true, eqb-true, 
 use Rattle.std.proofs.lemmas.List.{length-set}
 use Rattle.std.proofs.lemmas.Option.{same_Some}
 use Rattle.mark_core.specs.Layout.{Words, words_of}
-use Rattle.mark_core.specs.Bits.{flag, cell_of}
+use Rattle.mark_core.specs.Bits.{cell_of}
 use Rattle.mark_core.proofs.Formed.FormedAfter.{set-cases}
 use Rattle.mark_core.specs.Seats.{is_the, has_making}
 use Rattle.mark_core.specs.Views.{makers}
 use Rattle.mark_core.specs.Cells.{field}
-use Rattle.mark_core.specs.Rules.HeapRules.{section_of, number_of, NamesInUse}
-use Rattle.mark_core.specs.Steps.MutatorSteps.{has_own, variable as word_in}
+use Rattle.mark_core.specs.Rules.HeapRules.{section_of_cell, number_of_cell, NamesInUse}
+use Rattle.mark_core.specs.Steps.MutatorSteps.{has_own, seat_variable as word_in}
 use Rattle.mark_core.specs.Steps.{Core}
 use Rattle.mark_core.proofs.Blocks.BlocksTaken.{Taken, mine as own-fact}
 use Rattle.mark_core.proofs.References.ReferencesRoots.{Used, seat-formed}
@@ -32,18 +32,19 @@ use Rattle.gc_table.proofs.Stands.StandsCells.{HasMeaning, cell-on, named-object
 use Rattle.gc_table.proofs.Stands.StandsFrame.{get-set_same, get-set_other, counts-grow}
 use Rattle.gc_table.proofs.Stands.StandsMoves.{Moves, had-meaning}
 use Rattle.gc_table.proofs.Stands.StandsSeat.{Mutates, env-agrees, looks, names-used, making-is-free, free-not-used}
+use Rattle.mark_core.specs.Numbers.{value_bound}
 
 -- the object in cell y of the seat's own section
 pub record Owns (c : Core) (i : ℕ) (s : SeatState) (v : ℕ) (ms : List Meaning) (y : ℕ) : Type 0 where
   pub cell : cell_of (word_in s v) ≡ y
   pub used : Used c y ≡ true
   pub exists : y < c.shape.cells
-  pub section : section_of (words_of c.shape c.words).identities y ≡ i
-  pub ref : variable (meaning_of ms i).heap v ≡ refs.Own (number_of (words_of c.shape c.words).identities y)
+  pub section : section_of_cell (words_of c.shape c.words).identities y ≡ i
+  pub ref : variable (meaning_of ms i).heap v ≡ refs.Own (number_of_cell (words_of c.shape c.words).identities y)
   pub holds : HoldsObject c.shape (words_of c.shape c.words).identities (words_of c.shape c.words).values (words_of c.shape c.words).fields (object_count ms) (meaning_of ms i) y
 
 -- a reference to a cell of the own section
-own_ref : (ids : List ℕ) (p : ℕ → ℕ) (i word : ℕ) (ref : Ref) → 0 < word → section_of ids (word - 1) ≡ i → WordAgrees ids p i word ref → (ref ≡ refs.Own (number_of ids (word - 1))) × (number_of ids (word - 1) < p (section_of ids (word - 1)))
+own_ref : (ids : List ℕ) (p : ℕ → ℕ) (i word : ℕ) (ref : Ref) → 0 < word → section_of_cell ids (word - 1) ≡ i → WordAgrees ids p i word ref → (ref ≡ refs.Own (number_of_cell ids (word - 1))) × (number_of_cell ids (word - 1) < p (section_of_cell ids (word - 1)))
 own_ref ids p i word ref some e (inl z) = absurd (omega (arith, z.0, some))
 own_ref ids p i word refs.Nil some e (inr (nonzero, names, below)) = absurd names
 own_ref ids p i word (refs.Own n) some e (inr (nonzero, names, below)) = (ap (λ k. refs.Own k) (sym names.1), below)
@@ -64,8 +65,8 @@ owns c i s step v ms k st a exist hv e = record { cell = whole; used = used; exi
     y : ℕ
     y = word - 1
 
-    both : (not (eqb word 0) ≡ true) × (is_the s.section (section_of w.identities y) ≡ true)
-    both = and_parts (not (eqb word 0)) (is_the s.section (section_of w.identities y)) e
+    both : (not (eqb word 0) ≡ true) × (is_the s.section (section_of_cell w.identities y) ≡ true)
+    both = and_parts (not (eqb word 0)) (is_the s.section (section_of_cell w.identities y)) e
 
     not_nil : word ≡ 0 → ⊥
     not_nil = eqb-false word 0 (not-true (eqb word 0) both.0)
@@ -82,13 +83,13 @@ owns c i s step v ms k st a exist hv e = record { cell = whole; used = used; exi
     whole : cell_of word ≡ y
     whole = omega (arith, exists, k.core.formed.shaped.cells)
 
-    section : section_of w.identities y ≡ i
-    section = sym (eqb-true i (section_of w.identities y) (subst (λ (o : Option ℕ). is_the o (section_of w.identities y) ≡ true) a.section both.1))
+    section : section_of_cell w.identities y ≡ i
+    section = sym (eqb-true i (section_of_cell w.identities y) (subst (λ (o : Option ℕ). is_the o (section_of_cell w.identities y) ≡ true) a.section both.1))
 
-    ref : (variable (meaning_of ms i).heap v ≡ refs.Own (number_of w.identities y)) × (number_of w.identities y < object_count ms (section_of w.identities y))
+    ref : (variable (meaning_of ms i).heap v ≡ refs.Own (number_of_cell w.identities y)) × (number_of_cell w.identities y < object_count ms (section_of_cell w.identities y))
     ref = own_ref w.identities (object_count ms) i word (variable (meaning_of ms i).heap v) some section (env-agrees c i s step ms v k st a hv)
 
-    o : (x : Meaning) × (slice_get ms (section_of w.identities y) ≡ Some x) × HoldsObject c.shape w.identities w.values w.fields (object_count ms) x y
+    o : (x : Meaning) × (slice_get ms (section_of_cell w.identities y) ≡ Some x) × HoldsObject c.shape w.identities w.values w.fields (object_count ms) x y
     o = named-object c.shape w.identities w.values w.fields ms y ref.1 (st.cells_agree y exists used)
 
     same : meaning_of ms i ≡ o.0
@@ -96,21 +97,21 @@ owns c i s step v ms k st a exist hv e = record { cell = whole; used = used; exi
 
 -- a store through that variable changes this object
 pub stored-object : (c : Core) (i : ℕ) (s : SeatState) (v : ℕ) (ms : List Meaning) (y : ℕ) (change : Object → Object) → (b : Owns c i s v ms y)
-    → stored_at (meaning_of ms i).heap (variable (meaning_of ms i).heap v) change ≡ replaced (meaning_of ms i).heap (number_of (words_of c.shape c.words).identities y) (change b.holds.object)
+    → stored_at (meaning_of ms i).heap (variable (meaning_of ms i).heap v) change ≡ replaced (meaning_of ms i).heap (number_of_cell (words_of c.shape c.words).identities y) (change b.holds.object)
 stored-object c i s v ms y change b =
     let heap : Heap = (meaning_of ms i).heap in
-    ap (λ (r : Ref). stored_at heap r change) b.ref ∙ ap (λ (o : Option Object). replaced_by heap (number_of (words_of c.shape c.words).identities y) change o) b.holds.there
+    ap (λ (r : Ref). stored_at heap r change) b.ref ∙ ap (λ (o : Option Object). replaced_by heap (number_of_cell (words_of c.shape c.words).identities y) change o) b.holds.there
 
 -- the meaning in which the object became this
 abbrev pub with_object : Core → ℕ → List Meaning → ℕ → Object → Meaning
-with_object c i ms y object = record (meaning_of ms i) { heap = replaced (meaning_of ms i).heap (number_of (words_of c.shape c.words).identities y) object }
+with_object c i ms y object = record (meaning_of ms i) { heap = replaced (meaning_of ms i).heap (number_of_cell (words_of c.shape c.words).identities y) object }
 
 -- what the words say of the object that changed, and of the other cells
 pub record Rewrites (c : Core) (i : ℕ) (ms : List Meaning) (y : ℕ) (values fields : List ℕ) (object : Object) : Type 0 where
   pub room : length object.refs ≡ 16
   pub rest : (j : ℕ) → c.shape.fields ≤ j → slice_index_or object.refs j refs.Nil ≡ refs.Nil
   pub value : slice_index values y ≡ object.value
-  pub fits : object.value < flag
+  pub fits : object.value < value_bound
   pub each_field : (j : ℕ) → j < c.shape.fields → WordAgrees (words_of c.shape c.words).identities (object_count ms) i (field c.shape fields y j) (slice_index_or object.refs j refs.Nil)
   pub other_values : (z : ℕ) → z ≢ y → slice_index values z ≡ slice_index (words_of c.shape c.words).values z
   pub other_fields : (z j : ℕ) → z ≢ y → j < c.shape.fields → field c.shape fields z j ≡ field c.shape (words_of c.shape c.words).fields z j
@@ -118,7 +119,7 @@ pub record Rewrites (c : Core) (i : ℕ) (ms : List Meaning) (y : ℕ) (values f
 pub object-moves : (c : Core) (i : ℕ) (s : SeatState) (step : Step) (v : ℕ) (ms : List Meaning) (y : ℕ) (values fields : List ℕ) (object : Object) (owed : Option ℕ) → Taken c i s step → StandsFor c ms → (a : Mutates c i s ms) → ((z : ℕ) → IsMadeBy c.shape step z → ⊥)
     → Owns c i s v ms y → Rewrites c i ms y values fields object → Moves c i s step (record (words_of c.shape c.words) { values = values; fields = fields }) (record s { owes = owed }) (with_object c i ms y object) ms
 object-moves c i s step v ms y values fields object owed k st a none b r = record {
-  numbered = let before = st.numbered i m a.there in (before.0, before.1, before.2, before.3, λ j o e. ⊎_elim (λ x. subst (λ (z : Object). z.value < flag) x.1 r.fits) (λ x. before.4 j o x) (set-cases m.heap.objects number j object o e));
+  numbered = let before = st.numbered i m a.there in (before.0, before.1, before.2, before.3, λ j o e. ⊎_elim (λ x. subst (λ (z : Object). z.value < value_bound) x.1 r.fits) (λ x. before.4 j o x) (set-cases m.heap.objects number j object o e));
   more = omega (arith, long);
   identities_kept = λ z u. refl;
   other_roots = λ j u d h. refl;
@@ -145,7 +146,7 @@ object-moves c i s step v ms y values fields object owed k st a none b r = recor
     n = with_object c i ms y object
 
     number : ℕ
-    number = number_of w.identities y
+    number = number_of_cell w.identities y
 
     long : length n.heap.objects ≡ length m.heap.objects
     long = length-set m.heap.objects number object
@@ -162,7 +163,7 @@ object-moves c i s step v ms y values fields object owed k st a none b r = recor
     unused : (z : ℕ) → z ≡ y → {F : Type 0} → F → (F → Used c z ≡ false) → ⊥
     unused z same f g = true≢false (sym b.used ∙ ap (Used c) (sym same) ∙ g f)
 
-    apart : (z : ℕ) → z < c.shape.cells → Used c z ≡ true → z ≢ y → section_of w.identities z ≡ i → number_of w.identities z ≢ number
+    apart : (z : ℕ) → z < c.shape.cells → Used c z ≡ true → z ≢ y → section_of_cell w.identities z ≡ i → number_of_cell w.identities z ≢ number
     apart z h u d e same = d (k.core.sound.caches.distinct z h y b.exists u b.used (omega (arith, e, b.section, same)))
 
     cell : (z : ℕ) → z < c.shape.cells → Used c z ≡ true → HasMeaning c.shape w.identities w.values w.fields ms z → (z ≡ y) ⊎ (z ≢ y) → HasMeaning c.shape w.identities values fields (set ms i n) z
@@ -184,5 +185,5 @@ object-moves c i s step v ms y values fields object owed k st a none b r = recor
     cell z h u before (inr d) =
         let stays : Stays c.shape w.identities w.identities w.values values w.fields fields (object_count ms) q z =
         record { identity = refl; value = r.other_values z d; each_field = λ j l. r.other_fields z j d l; targets = λ j l some. refl; more = more } in
-        cell-on c.shape w.identities w.identities w.values values w.fields fields ms i m n z a.there stays (λ e o. get-set_other m.heap.objects number (number_of w.identities z) object (apart z h u d e))
+        cell-on c.shape w.identities w.identities w.values values w.fields fields ms i m n z a.there stays (λ e o. get-set_other m.heap.objects number (number_of_cell w.identities z) object (apart z h u d e))
         (λ e o. inr (next-on c.shape w.identities w.identities w.values values w.fields fields (object_count ms) q m n z stays long refl o)) before

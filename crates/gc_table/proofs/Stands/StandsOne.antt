@@ -9,16 +9,16 @@ use Rattle.mark_core.specs.declared.kinds.Step.TheVariants.{ReadOwn, ReadCat, St
 use Rattle.mark_core.specs.declared.seat.SeatState.{SeatState}
 use Rattle.plain_heap.specs.declared.operation.Op.{Op}
 use Rattle.gc_table.specs.declared.view.Meaning.{Meaning}
-use Rattle.gc_table.specs.PlainSteps.{own_section, meaning_of, no_meaning, seen_in, changed_by, meaning_after}
+use Rattle.gc_table.specs.PlainSteps.{own_section, meaning_of, no_meaning, catalogue_seen, changed_by, meaning_after}
 use Rattle.gc_table.specs.Laws.{OneMeaningChanges, OneCellIsNext}
 use Rattle.gc_table.proofs.Stands.StandsStores.{used-exists}
 
 -- the section that changes is the seat's own
-own_changes : (sh : Shape) (s : SeatState) (step : Step) (op : Op) (ms : List Meaning) (w : ℕ) (m : Meaning) → s.section ≡ Some w → slice_get ms w ≡ Some m → changed_by sh s step op ms ≡ set ms w (meaning_after sh s (seen_in ms w) step op m)
+own_changes : (sh : Shape) (s : SeatState) (step : Step) (op : Op) (ms : List Meaning) (w : ℕ) (m : Meaning) → s.section ≡ Some w → slice_get ms w ≡ Some m → changed_by sh s step op ms ≡ set ms w (meaning_after sh s (catalogue_seen ms w) step op m)
 own_changes sh s step op ms w m e g =
     let own : own_section s ≡ w = ap (λ (o : Option ℕ). unwrap_or o 0) e in
     let mine : meaning_of ms w ≡ m = get_or_from_slice_get ms w m no_meaning g in
-    ap (λ (k : ℕ). set ms k (meaning_after sh s (seen_in ms k) step op (meaning_of ms k))) own ∙ ap (λ (x : Meaning). set ms w (meaning_after sh s (seen_in ms w) step op x)) mine
+    ap (λ (k : ℕ). set ms k (meaning_after sh s (catalogue_seen ms k) step op (meaning_of ms k))) own ∙ ap (λ (x : Meaning). set ms w (meaning_after sh s (catalogue_seen ms w) step op x)) mine
 
 pub one-changes : OneMeaningChanges
 one-changes sh s (StoreField v i o) op ms w m e g = own_changes sh s (StoreField v i o) op ms w m e g

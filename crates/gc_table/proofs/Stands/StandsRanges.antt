@@ -18,15 +18,16 @@ use Rattle.plain_heap.specs.PlainHeap.{Heap}
 use Rattle.plain_heap.specs.PlainStep.{IsInRange}
 use Rattle.gc_table.specs.StandsFor.{IsSection, StandsFor}
 use Rattle.gc_table.specs.declared.view.Meaning.{Meaning}
-use Rattle.gc_table.specs.PlainSteps.{seen_in, own_section, meaning_of, IsSet, IsAssignment, AsksIn, changes_heap}
+use Rattle.gc_table.specs.PlainSteps.{catalogue_seen, own_section, meaning_of, IsSet, IsAssignment, AsksIn, changes_heap}
 use Rattle.gc_table.specs.Laws.{PlainStepsAreInRange}
 use Rattle.gc_table.proofs.Stands.StandsSeat.{Mutates, mutates}
+use Rattle.mark_core.specs.Numbers.{value_bound}
 
 set_range : (fields v i : ℕ) (heap : Heap) (o : Option ℕ) (op : Op) → v < 32 → i < fields → in_variables o ≡ true → IsSet heap v i o op → IsInRange fields op
 set_range fields v i heap None op hv hi h (u, below, nil, is) = subst (IsInRange fields) (sym is) (hv, hi, below)
 set_range fields v i heap (Some w) op hv hi h is = subst (IsInRange fields) (sym is) (hv, hi, ltb-true w 32 h)
 
-assignment_range : (fields v r : ℕ) (s : SeatState) (m : Meaning) (catalogue : Option Heap) (op : Op) → v < 32 → m.heap.fields ≡ fields → m.value < 4294967296 → IsAssignment s m catalogue v r op → IsInRange fields op
+assignment_range : (fields v r : ℕ) (s : SeatState) (m : Meaning) (catalogue : Option Heap) (op : Op) → v < 32 → m.heap.fields ≡ fields → m.value < value_bound → IsAssignment s m catalogue v r op → IsInRange fields op
 assignment_range fields v r s m catalogue (ops.New u n) hv f few (e, value, last, room) = (omega (arith, e, hv), omega (arith, value, few))
 assignment_range fields v r s m catalogue (ops.Nil u) hv f few (e, nil) = omega (arith, e, hv)
 assignment_range fields v r s m catalogue (ops.Let u x) hv f few (e, h, word) = (omega (arith, e, hv), h)
@@ -48,9 +49,9 @@ range_at c i s (StoreValue v n) op ms k st asks e = let a = and_parts (nat_lt v 
 range_at c i s (StoreRoot v r) op ms k st asks e =
     let a = and_parts (nat_lt v 32) (may_mutate s) k.ok.0 in
     let own : Mutates c i s ms = mutates c i s (StoreRoot v r) ms k st a.1 in
-    let asked : IsAssignment s (meaning_of ms i) (seen_in ms i) v r op = subst (λ (o : ℕ). IsAssignment s (meaning_of ms o) (seen_in ms o) v r op) own.own asks.1 in
+    let asked : IsAssignment s (meaning_of ms i) (catalogue_seen ms i) v r op = subst (λ (o : ℕ). IsAssignment s (meaning_of ms o) (catalogue_seen ms o) v r op) own.own asks.1 in
     let formed : IsSection c.shape i (meaning_of ms i) = st.numbered i (meaning_of ms i) own.there in
-    assignment_range c.shape.fields v r s (meaning_of ms i) (seen_in ms i) op (ltb-true v 32 a.0) formed.2 formed.3 asked
+    assignment_range c.shape.fields v r s (meaning_of ms i) (catalogue_seen ms i) op (ltb-true v 32 a.0) formed.2 formed.3 asked
 range_at c i s step op ms k st asks e = absurd (false≢true e)
 
 pub steps-in-range : PlainStepsAreInRange

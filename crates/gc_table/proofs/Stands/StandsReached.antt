@@ -6,9 +6,9 @@ use Rattle.std.proofs.lemmas.List.{get_or_default}
 use Rattle.std.proofs.lemmas.List.Elements.{Contains-get_or}
 use Rattle.std.proofs.lemmas.Option.{same_Some, slice_get_within, slice_get-get_or}
 use Rattle.mark_core.specs.Layout.{Words, words_of}
-use Rattle.mark_core.specs.Cells.{field, IsPath as IsCellPath}
+use Rattle.mark_core.specs.Cells.{field, IsCellPath}
 use Rattle.mark_core.specs.Closed.{IsReachableIn}
-use Rattle.mark_core.specs.Rules.HeapRules.{section_of, number_of}
+use Rattle.mark_core.specs.Rules.HeapRules.{section_of_cell, number_of_cell}
 use Rattle.mark_core.specs.Steps.{Core}
 use Rattle.mark_core.specs.Laws.{IsCore}
 use Rattle.mark_core.proofs.AtSeat.{roots-length}
@@ -30,7 +30,7 @@ use Rattle.gc_table.proofs.Stands.StandsUsed.{reachable-used}
 
 -- the number in the cell is that of an object of its section
 abbrev IsGiven : Core → List Meaning → ℕ → Type 0
-IsGiven c ms x = number_of (words_of c.shape c.words).identities x < object_count ms (section_of (words_of c.shape c.words).identities x)
+IsGiven c ms x = number_of_cell (words_of c.shape c.words).identities x < object_count ms (section_of_cell (words_of c.shape c.words).identities x)
 
 -- a reachable cell with the number of an object holds this object
 cell_holds : (c : Core) (ms : List Meaning) (x : ℕ) → IsCore c → StandsFor c ms → IsReachableIn c x → IsGiven c ms x → IsCellOfObject c ms (name_at (words_of c.shape c.words).identities x) x
@@ -106,8 +106,8 @@ fielded c ms x d i core st reach from h e = (named.1, reach_on (heaps_of ms) (na
     ref : Ref
     ref = slice_index_or o.refs i refs.Nil
 
-    named : Names (section_of ids d) ref (name_at ids x) × IsGiven c ms x
-    named = ref-of ids (object_count ms) (section_of ids d) (field c.shape w.fields d i) x ref e (source.2.2.each_field i h)
+    named : Names (section_of_cell ids d) ref (name_at ids x) × IsGiven c ms x
+    named = ref-of ids (object_count ms) (section_of_cell ids d) (field c.shape w.fields d i) x ref e (source.2.2.each_field i h)
 
     holds : IsCellOfObject c ms (name_at ids x) x
     holds = cell_holds c ms x core st (reach-field c.shape w.roots w.fields d i x reach h e) named.1
@@ -147,7 +147,7 @@ held_cell c ms name core st (heap, there, ref, (v, below, is), names) =
     let inside : heap.section * 32 + v < length w.roots = omega (arith, low, section, roots-length c core, st.sections) in
     found_cell c ms name x.0 core st (reach-root c.shape w.roots w.fields (heap.section * 32 + v) x.0 inside x.1) x.2 x.3
 
--- so has one that an object with a cell refers to
+-- an object that an object with a cell refers to has a cell
 referred_cell : (c : Core) (ms : List Meaning) (from to : Name) → IsCore c → StandsFor c ms → HasCell c ms from → RefersTo (heaps_of ms) from to → HasCell c ms to
 referred_cell c ms from to core st (x, cell, reach) (object, has, ref, (j, below, is), names) = of (cases_lt j c.shape.fields)
   where
@@ -165,10 +165,10 @@ referred_cell c ms from to core st (x, cell, reach) (object, has, ref, (j, below
 
     of : (j < c.shape.fields) ⊎ (c.shape.fields ≤ j) → HasCell c ms to
     of (inl l) =
-        let section : section_of w.identities x ≡ from.section = ap (λ (n : Name). n.section) cell.1 in
+        let section : section_of_cell w.identities x ≡ from.section = ap (λ (n : Name). n.section) cell.1 in
         let agrees : WordAgrees w.identities (object_count ms) from.section (field c.shape w.fields x j) ref =
         subst (λ s. WordAgrees w.identities (object_count ms) s (field c.shape w.fields x j) ref) section
-        (subst (λ (r : Ref). WordAgrees w.identities (object_count ms) (section_of w.identities x) (field c.shape w.fields x j) r) ref_is (h.each_field j l)) in
+        (subst (λ (r : Ref). WordAgrees w.identities (object_count ms) (section_of_cell w.identities x) (field c.shape w.fields x j) r) ref_is (h.each_field j l)) in
         let z = word-of w.identities (object_count ms) from.section (field c.shape w.fields x j) ref to agrees names in
         found_cell c ms to z.0 core st (reach-field c.shape w.roots w.fields x j z.0 reach l z.1) z.2 z.3
     of (inr l) = absurd (subst (λ (r : Ref). Names from.section r to) (sym ref_is ∙ h.rest j l) names)

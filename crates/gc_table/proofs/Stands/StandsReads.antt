@@ -24,7 +24,7 @@ use Rattle.plain_heap.specs.PlainHeap.{variable}
 use Rattle.plain_heap.specs.PlainStep.{followed, lent_variable}
 use Rattle.gc_table.specs.StandsFor.{object_count, WordAgrees, SeatStands, Stands, StandsIn, StandsFor}
 use Rattle.gc_table.specs.declared.view.Meaning.{Meaning}
-use Rattle.gc_table.specs.PlainSteps.{heap_in, seen_in, own_section, meaning_of, no_meaning, changed, with_got, known_as}
+use Rattle.gc_table.specs.PlainSteps.{heap_in, catalogue_seen, own_section, meaning_of, no_meaning, changed, with_got, known_as}
 use Rattle.gc_table.proofs.Stands.StandsAgree.{Stays, next-on, agrees-on, lent-agrees}
 use Rattle.gc_table.proofs.Stands.StandsCells.{cell-on, field-agrees}
 use Rattle.gc_table.proofs.Stands.StandsFrame.{counts-grow}
@@ -71,7 +71,7 @@ got-read c i s step ms word ref k st a none reads is got =
 
 -- the word in a field of an object that the seat knows agrees with what the plain heap has there
 pub own-found : (c : Core) (i : ℕ) (s : SeatState) (x j : ℕ) (ms : List Meaning) → Taken c i s (ReadOwn x j) → StandsFor c ms → Mutates c i s ms
-    → (reference_in (found c s (ReadOwn x j)) ≡ found c s (ReadOwn x j)) × WordAgrees (words_of c.shape c.words).identities (object_count ms) i (found c s (ReadOwn x j)) (followed (meaning_of ms i).heap (seen_in ms i) (known_as s (meaning_of ms i) x) j)
+    → (reference_in (found c s (ReadOwn x j)) ≡ found c s (ReadOwn x j)) × WordAgrees (words_of c.shape c.words).identities (object_count ms) i (found c s (ReadOwn x j)) (followed (meaning_of ms i).heap (catalogue_seen ms i) (known_as s (meaning_of ms i) x) j)
 own-found c i s x j ms k st a =
     let w : Words = words_of c.shape c.words in
     let step : Step = ReadOwn x j in
@@ -80,7 +80,7 @@ own-found c i s x j ms k st a =
     let hj : j < c.shape.fields = ltb-true j c.shape.fields d.1 in
     let m : Meaning = meaning_of ms i in
     let known : Used c x ≡ true = known-used c i s step x k k.ok.1.0 in
-    let ref : Ref = followed m.heap (seen_in ms i) (known_as s m x) j in
+    let ref : Ref = followed m.heap (catalogue_seen ms i) (known_as s m x) j in
     let agrees : WordAgrees w.identities (object_count ms) i (field c.shape w.fields x j) ref =
     field-agrees c.shape w.identities w.values w.fields ms i x j m (known_as s m x) a.there hj (known-agrees c i s step ms x k st a k.ok.1.0) (st.cells_agree x hx known) in
     let old : found c s step ≡ field c.shape w.fields x j = words-get (region_sizes c.shape) 11 c.words (x * c.shape.fields + j) 0 (in-place c i s step k) in
@@ -89,26 +89,26 @@ own-found c i s x j ms k st a =
 
 -- 17: a field of an object that the seat knows
 pub read-own : (c : Core) (i : ℕ) (s : SeatState) (x j : ℕ) (ms : List Meaning) → Taken c i s (ReadOwn x j) → StandsFor c ms
-    → StandsIn c.shape (words_left c s (ReadOwn x j)) (seats_left c i s (ReadOwn x j)) (changed ms (own_section s) (λ m. with_got (followed m.heap (seen_in ms (own_section s)) (known_as s m x) j) m))
+    → StandsIn c.shape (words_left c s (ReadOwn x j)) (seats_left c i s (ReadOwn x j)) (changed ms (own_section s) (λ m. with_got (followed m.heap (catalogue_seen ms (own_section s)) (known_as s m x) j) m))
 read-own c i s x j ms k st =
     let step : Step = ReadOwn x j in
     let a : Mutates c i s ms = mutates c i s step ms k st (and_parts (nat_lt x c.shape.cells && nat_lt j c.shape.fields) (may_mutate s) k.ok.0).1 in
     let m : Meaning = meaning_of ms i in
-    let ref : Ref = followed m.heap (seen_in ms i) (known_as s m x) j in
+    let ref : Ref = followed m.heap (catalogue_seen ms i) (known_as s m x) j in
     let r = own-found c i s x j ms k st a in
-    subst (λ (o : ℕ). StandsIn c.shape (words_left c s step) (seats_left c i s step) (changed ms o (λ n. with_got (followed n.heap (seen_in ms o) (known_as s n x) j) n))) (sym a.own)
+    subst (λ (o : ℕ). StandsIn c.shape (words_left c s step) (seats_left c i s step) (changed ms o (λ n. with_got (followed n.heap (catalogue_seen ms o) (known_as s n x) j) n))) (sym a.own)
     (got-read c i s step ms (reference_in (found c s step)) ref k st a (λ y e. e) refl refl (subst (λ (word : ℕ). WordAgrees (words_of c.shape c.words).identities (object_count ms) i word ref) (sym r.0) r.1))
 
 -- a variable of the catalogue, as a warehouse sees it
 cat_agrees : (ids : List ℕ) (ms : List Meaning) (i v : ℕ) (word : ℕ) → is_the (Some i) 0 ≡ false → WordAgrees ids (object_count ms) 0 word (variable (meaning_of ms 0).heap v) → slice_get ms 0 ≡ Some (meaning_of ms 0)
-    → WordAgrees ids (object_count ms) i word (lent_variable (seen_in ms i) v)
+    → WordAgrees ids (object_count ms) i word (lent_variable (catalogue_seen ms i) v)
 cat_agrees ids ms zero v word e h g = absurd (true≢false e)
 cat_agrees ids ms (suc i) v word e h g =
     subst (λ (r : Ref). WordAgrees ids (object_count ms) (suc i) word r) (sym (ap (λ o. lent_variable (heap_in o) v) g)) (lent-agrees ids (object_count ms) i word (variable (meaning_of ms 0).heap v) h)
 
 -- the word in a variable of the catalogue agrees with what a warehouse sees there
 pub cat-found : (c : Core) (i : ℕ) (s : SeatState) (v : ℕ) (ms : List Meaning) → Taken c i s (ReadCat v) → StandsFor c ms → Mutates c i s ms
-    → (reference_in (found c s (ReadCat v)) ≡ found c s (ReadCat v)) × WordAgrees (words_of c.shape c.words).identities (object_count ms) i (found c s (ReadCat v)) (lent_variable (seen_in ms i) v)
+    → (reference_in (found c s (ReadCat v)) ≡ found c s (ReadCat v)) × WordAgrees (words_of c.shape c.words).identities (object_count ms) i (found c s (ReadCat v)) (lent_variable (catalogue_seen ms i) v)
 cat-found c i s v ms k st a =
     let w : Words = words_of c.shape c.words in
     let step : Step = ReadCat v in
@@ -118,16 +118,16 @@ cat-found c i s v ms k st a =
     let old : found c s step ≡ slice_index w.roots (0 * 32 + v) = words-get (region_sizes c.shape) 2 c.words (0 * 32 + v) 0 h in
     let goes : nil_or (Used c) (found c s step) ≡ true = subst (λ (r : ℕ). nil_or (Used c) r ≡ true) (sym old) (k.core.sound.references.roots_in_use (0 * 32 + v) 0 (subst (λ (n : ℕ). 0 * 32 + v < n) (sym (roots-length c k.core)) h)) in
     let other : is_the (Some i) 0 ≡ false = subst (λ (o : Option ℕ). is_the o 0 ≡ false) a.section (not-true (is_the s.section 0) k.ok.1.0) in
-    let agrees : WordAgrees w.identities (object_count ms) i (slice_index w.roots (0 * 32 + v)) (lent_variable (seen_in ms i) v) = cat_agrees w.identities ms i v _ other (st.roots_agree 0 (meaning_of ms 0) first v hv) first in
-    (read-whole c i s step (found c s step) k goes, subst (λ (word : ℕ). WordAgrees w.identities (object_count ms) i word (lent_variable (seen_in ms i) v)) (sym old) agrees)
+    let agrees : WordAgrees w.identities (object_count ms) i (slice_index w.roots (0 * 32 + v)) (lent_variable (catalogue_seen ms i) v) = cat_agrees w.identities ms i v _ other (st.roots_agree 0 (meaning_of ms 0) first v hv) first in
+    (read-whole c i s step (found c s step) k goes, subst (λ (word : ℕ). WordAgrees w.identities (object_count ms) i word (lent_variable (catalogue_seen ms i) v)) (sym old) agrees)
 
 -- 17: a variable of the catalogue
 pub read-cat : (c : Core) (i : ℕ) (s : SeatState) (v : ℕ) (ms : List Meaning) → Taken c i s (ReadCat v) → StandsFor c ms
-    → StandsIn c.shape (words_left c s (ReadCat v)) (seats_left c i s (ReadCat v)) (changed ms (own_section s) (with_got (lent_variable (seen_in ms (own_section s)) v)))
+    → StandsIn c.shape (words_left c s (ReadCat v)) (seats_left c i s (ReadCat v)) (changed ms (own_section s) (with_got (lent_variable (catalogue_seen ms (own_section s)) v)))
 read-cat c i s v ms k st =
     let step : Step = ReadCat v in
     let a : Mutates c i s ms = mutates c i s step ms k st (and_parts (nat_lt v 32) (may_mutate s) k.ok.0).1 in
-    let ref : Ref = lent_variable (seen_in ms i) v in
+    let ref : Ref = lent_variable (catalogue_seen ms i) v in
     let r = cat-found c i s v ms k st a in
-    subst (λ (o : ℕ). StandsIn c.shape (words_left c s step) (seats_left c i s step) (changed ms o (with_got (lent_variable (seen_in ms o) v)))) (sym a.own)
+    subst (λ (o : ℕ). StandsIn c.shape (words_left c s step) (seats_left c i s step) (changed ms o (with_got (lent_variable (catalogue_seen ms o) v)))) (sym a.own)
     (got-read c i s step ms (reference_in (found c s step)) ref k st a (λ y e. e) refl refl (subst (λ (word : ℕ). WordAgrees (words_of c.shape c.words).identities (object_count ms) i word ref) (sym r.0) r.1))

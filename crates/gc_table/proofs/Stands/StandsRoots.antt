@@ -5,9 +5,8 @@ use Rattle.std.proofs.lemmas.Bool.{true≢false, and_parts, not-true, eqb-true, 
 use Rattle.std.proofs.lemmas.List.{get_or-set_same, get_or-set_other, get_or-replicate, length-set, length-append}
 use Rattle.std.proofs.lemmas.Option.{same_Some, slice_get_within}
 use Rattle.mark_core.specs.Layout.{Words, words_of}
-use Rattle.mark_core.specs.Bits.{flag}
 use Rattle.mark_core.specs.Seats.{is_the, last_made, has_making, may_mutate}
-use Rattle.mark_core.specs.Rules.HeapRules.{section_of, number_of}
+use Rattle.mark_core.specs.Rules.HeapRules.{section_of_cell, number_of_cell}
 use Rattle.mark_core.specs.Steps.MutatorSteps.{names_last}
 use Rattle.mark_core.specs.Effects.{seat_after}
 use Rattle.mark_core.specs.Steps.{Core}
@@ -25,14 +24,15 @@ use Rattle.plain_heap.specs.declared.operation.Op.{Op}
 use Rattle.plain_heap.specs.declared.operation.Op.TheVariants as ops
 use Rattle.plain_heap.specs.PlainHeap.{Heap, variable}
 use Rattle.plain_heap.specs.PlainStep.{heap_after, assigned, with_new, new_object, followed, lent_variable}
-use Rattle.gc_table.specs.StandsFor.{object_count, objects_in, WordAgrees, IsNext, IsCellOf, ValuesFit, SeatStands, StandsIn, StandsFor}
+use Rattle.gc_table.specs.StandsFor.{object_count, objects_in, WordAgrees, IsForNextObject, IsCellOf, ValuesFit, SeatStands, StandsIn, StandsFor}
 use Rattle.gc_table.specs.declared.view.Meaning.{Meaning}
-use Rattle.gc_table.specs.PlainSteps.{seen_in, own_section, meaning_of, changed, with_got, stepped, IsAssignment, AsksIn}
+use Rattle.gc_table.specs.PlainSteps.{catalogue_seen, own_section, meaning_of, changed, with_got, stepped, IsAssignment, AsksIn}
 use Rattle.gc_table.proofs.Stands.StandsAgree.{Stays, next-on, agrees-on}
 use Rattle.gc_table.proofs.Stands.StandsCells.{cell-on}
 use Rattle.gc_table.proofs.Stands.StandsFrame.{get-set_same, counts-grow}
 use Rattle.gc_table.proofs.Stands.StandsMoves.{Moves, moved, had-meaning}
 use Rattle.gc_table.proofs.Stands.StandsSeat.{Mutates, mutates, env-agrees}
+use Rattle.mark_core.specs.Numbers.{value_bound, section_span}
 
 -- each root of the section agrees, where one is stored beside its variable
 own_root : (ids : List ℕ) (q : ℕ → ℕ) (i v r : ℕ) (roots : List ℕ) (vars : List Ref) (ref : Ref) → length vars ≡ 32 → i * 32 + v < length roots → v < 32 → WordAgrees ids q i r ref
@@ -49,13 +49,13 @@ pub record Assigns (c : Core) (i : ℕ) (s : SeatState) (v r : ℕ) (m n : Meani
   pub section : n.heap.section ≡ m.heap.section
   pub fields : n.heap.fields ≡ m.heap.fields
   pub value : n.value ≡ m.value
-  pub fit : ValuesFit m.heap → m.value < flag → ValuesFit n.heap
+  pub fit : ValuesFit m.heap → m.value < value_bound → ValuesFit n.heap
   pub got : n.got ≡ refs.Nil
   pub more : length m.heap.objects ≤ length n.heap.objects
   pub agrees : WordAgrees (words_of c.shape c.words).identities (object_count (set ms i n)) i r ref
   pub made : (length n.heap.objects ≡ s.made) ⊎ ((length n.heap.objects + 1 ≡ s.made) × IsFalse (has_making s.cache))
   pub held : (y : ℕ) → y < length m.heap.objects → slice_get n.heap.objects y ≡ slice_get m.heap.objects y
-  pub next : (y : ℕ) → IsNext c.shape (words_of c.shape c.words).identities (words_of c.shape c.words).values (words_of c.shape c.words).fields m y
+  pub next : (y : ℕ) → IsForNextObject c.shape (words_of c.shape c.words).identities (words_of c.shape c.words).values (words_of c.shape c.words).fields m y
       → IsCellOf c.shape (words_of c.shape c.words).identities (words_of c.shape c.words).values (words_of c.shape c.words).fields (object_count (set ms i n)) n y
 
 root_moves : (c : Core) (i : ℕ) (s : SeatState) (v r : ℕ) (ms : List Meaning) (n : Meaning) (ref : Ref) → Taken c i s (StoreRoot v r) → StandsFor c ms → (a : Mutates c i s ms) → v < 32 → Assigns c i s v r (meaning_of ms i) n ms ref
@@ -81,7 +81,7 @@ root_moves c i s v r ms n ref k st a hv x = record {
       λ y h u.
       let before = had-meaning c i s (StoreRoot v r) ms y k st (λ e. e) h u in
       let stays : Stays c.shape w.identities w.identities w.values w.values w.fields w.fields (object_count ms) q y = record { identity = refl; value = refl; each_field = λ j l. refl; targets = λ j l some. refl; more = more } in
-      cell-on c.shape w.identities w.identities w.values w.values w.fields w.fields ms i m n y a.there stays (λ e o. x.held (number_of w.identities y) (slice_get_within m.heap.objects (number_of w.identities y) o.object o.there)) (λ e o. x.next y o) before.1;
+      cell-on c.shape w.identities w.identities w.values w.values w.fields w.fields ms i m n y a.there stays (λ e o. x.held (number_of_cell w.identities y) (slice_get_within m.heap.objects (number_of_cell w.identities y) o.object o.there)) (λ e o. x.next y o) before.1;
   other_making = λ j o d g live y part e. refl;
   own_seat =
       λ live.
@@ -153,8 +153,8 @@ get-added [] y = refl
 get-added (x ∷ xs) y = get-added xs y
 
 -- values that fit, and one more
-fit-added : (xs : List Object) (y : Object) → ((k : ℕ) (x : Object) → slice_get xs k ≡ Some x → x.value < flag) → y.value < flag → (k : ℕ) (x : Object) → slice_get (xs ++ y ∷ []) k ≡ Some x → x.value < flag
-fit-added [] y f small zero x e = subst (λ (z : Object). z.value < flag) (same_Some y x e) small
+fit-added : (xs : List Object) (y : Object) → ((k : ℕ) (x : Object) → slice_get xs k ≡ Some x → x.value < value_bound) → y.value < value_bound → (k : ℕ) (x : Object) → slice_get (xs ++ y ∷ []) k ≡ Some x → x.value < value_bound
+fit-added [] y f small zero x e = subst (λ (z : Object). z.value < value_bound) (same_Some y x e) small
 fit-added [] y f small (suc k) x e = absurd (cc)
 fit-added (z ∷ xs) y f small zero x e = f 0 x e
 fit-added (z ∷ xs) y f small (suc k) x e = fit-added xs y (λ j w h. f (suc j) w h) small k x e
@@ -215,19 +215,19 @@ assigns_new c i s v r ms k st a last room = record {
     mine : SeatStands c.shape w.identities w.values (object_count ms) i s m
     mine = st.seats_agree i s m k.got a.there k.live
 
-    identity : (slice_index w.identities (r - 1) + 1 ≡ i * flag + s.made) × (0 < s.made)
-    identity = subst (λ (o : Option ℕ). IfSome o (λ x. (slice_index w.identities x + 1 ≡ i * flag + s.made) × (0 < s.made))) (last-is (last_made s.cache) (r - 1) parts.1) mine.last
+    identity : (slice_index w.identities (r - 1) + 1 ≡ i * section_span + s.made) × (0 < s.made)
+    identity = subst (λ (o : Option ℕ). IfSome o (λ x. (slice_index w.identities x + 1 ≡ i * section_span + s.made) × (0 < s.made))) (last-is (last_made s.cache) (r - 1) parts.1) mine.last
 
-    few : s.made < flag
+    few : s.made < section_span
     few = omega (arith, (seat-formed c i s (StoreRoot v r) k).made, k.core.formed.shaped.objects)
 
-    section : section_of w.identities (r - 1) ≡ i
+    section : section_of_cell w.identities (r - 1) ≡ i
     section = omega (arith, identity.0, identity.1, few)
 
-    number : number_of w.identities (r - 1) ≡ length m.heap.objects
+    number : number_of_cell w.identities (r - 1) ≡ length m.heap.objects
     number = omega (arith, identity.0, identity.1, few, room)
 
-    count : object_count (set ms i n) (section_of w.identities (r - 1)) ≡ length n.heap.objects
+    count : object_count (set ms i n) (section_of_cell w.identities (r - 1)) ≡ length n.heap.objects
     count = ap (λ j. object_count (set ms i n) j) section ∙ ap objects_in (get-set_same ms i m n a.there)
 
 -- which reference the variable gets
@@ -243,8 +243,8 @@ from_register c i s v r ms u ref k st a e word is =
     let agrees : WordAgrees w.identities (object_count ms) i r ref = subst (λ (y : ℕ). WordAgrees w.identities (object_count ms) i y ref) (sym word) (subst (λ (z : Ref). WordAgrees w.identities (object_count ms) i s.got z) is mine.got) in
     subst (λ (z : ℕ). AssignsSome c i s v r ms (assigned (meaning_of ms i).heap z ref)) (sym e) (ref, assigns_known c i s v r ms ref k st a agrees)
 
-assigns : (c : Core) (i : ℕ) (s : SeatState) (v r : ℕ) (op : Op) (ms : List Meaning) → Taken c i s (StoreRoot v r) → StandsFor c ms → (a : Mutates c i s ms) → IsAssignment s (meaning_of ms i) (seen_in ms i) v r op
-    → AssignsSome c i s v r ms (heap_after (meaning_of ms i).heap (seen_in ms i) op)
+assigns : (c : Core) (i : ℕ) (s : SeatState) (v r : ℕ) (op : Op) (ms : List Meaning) → Taken c i s (StoreRoot v r) → StandsFor c ms → (a : Mutates c i s ms) → IsAssignment s (meaning_of ms i) (catalogue_seen ms i) v r op
+    → AssignsSome c i s v r ms (heap_after (meaning_of ms i).heap (catalogue_seen ms i) op)
 assigns c i s v r (ops.New u n) ms k st a (e, value, last, room) =
     subst (λ (z : ℕ). AssignsSome c i s v r ms (with_new (meaning_of ms i).heap z n)) (sym e)
     (subst (λ (z : ℕ). AssignsSome c i s v r ms (with_new (meaning_of ms i).heap v z)) (sym value) (refs.Own (length (meaning_of ms i).heap.objects), assigns_new c i s v r ms k st a last room))
@@ -254,8 +254,8 @@ assigns c i s v r (ops.Let u x) ms k st a (e, h, word) =
     let ref : Ref = variable (meaning_of ms i).heap x in
     subst (λ (z : ℕ). AssignsSome c i s v r ms (assigned (meaning_of ms i).heap z ref)) (sym e)
     (ref, assigns_known c i s v r ms ref k st a (subst (λ (y : ℕ). WordAgrees (words_of c.shape c.words).identities (object_count ms) i y ref) (sym word) (env-agrees c i s (StoreRoot v r) ms x k st a h)))
-assigns c i s v r (ops.Get u x j) ms k st a (e, word, is, x_below, j_below) = from_register c i s v r ms u (followed (meaning_of ms i).heap (seen_in ms i) (variable (meaning_of ms i).heap x) j) k st a e word is
-assigns c i s v r (ops.Cat u x) ms k st a (e, word, is, x_below) = from_register c i s v r ms u (lent_variable (seen_in ms i) x) k st a e word is
+assigns c i s v r (ops.Get u x j) ms k st a (e, word, is, x_below, j_below) = from_register c i s v r ms u (followed (meaning_of ms i).heap (catalogue_seen ms i) (variable (meaning_of ms i).heap x) j) k st a e word is
+assigns c i s v r (ops.Cat u x) ms k st a (e, word, is, x_below) = from_register c i s v r ms u (lent_variable (catalogue_seen ms i) x) k st a e word is
 assigns c i s v r (ops.Set u x y) ms k st a z = absurd z
 assigns c i s v r (ops.Put u x) ms k st a y = absurd y
 assigns c i s v r (ops.Say u) ms k st a z = absurd z
@@ -264,13 +264,13 @@ assigns c i s v r ops.Collect ms k st a z = absurd z
 
 -- 19: a root is stored
 pub store-root : (c : Core) (i : ℕ) (s : SeatState) (v r : ℕ) (op : Op) (ms : List Meaning) → Taken c i s (StoreRoot v r) → StandsFor c ms → AsksIn s ms (StoreRoot v r) op
-    → StandsIn c.shape (words_left c s (StoreRoot v r)) (seats_left c i s (StoreRoot v r)) (changed ms (own_section s) (λ m. with_got refs.Nil (stepped (seen_in ms (own_section s)) op m)))
+    → StandsIn c.shape (words_left c s (StoreRoot v r)) (seats_left c i s (StoreRoot v r)) (changed ms (own_section s) (λ m. with_got refs.Nil (stepped (catalogue_seen ms (own_section s)) op m)))
 store-root c i s v r op ms k st asks =
     let step : Step = StoreRoot v r in
     let b = and_parts (nat_lt v 32) (may_mutate s) k.ok.0 in
     let a : Mutates c i s ms = mutates c i s step ms k st b.1 in
-    let mine : IsAssignment s (meaning_of ms i) (seen_in ms i) v r op = subst (λ (o : ℕ). IsAssignment s (meaning_of ms o) (seen_in ms o) v r op) a.own asks.1 in
+    let mine : IsAssignment s (meaning_of ms i) (catalogue_seen ms i) v r op = subst (λ (o : ℕ). IsAssignment s (meaning_of ms o) (catalogue_seen ms o) v r op) a.own asks.1 in
     let x = assigns c i s v r op ms k st a mine in
-    let n : Meaning = with_got refs.Nil (stepped (seen_in ms i) op (meaning_of ms i)) in
-    subst (λ (o : ℕ). StandsIn c.shape (words_left c s step) (seats_left c i s step) (changed ms o (λ m. with_got refs.Nil (stepped (seen_in ms o) op m)))) (sym a.own)
+    let n : Meaning = with_got refs.Nil (stepped (catalogue_seen ms i) op (meaning_of ms i)) in
+    subst (λ (o : ℕ). StandsIn c.shape (words_left c s step) (seats_left c i s step) (changed ms o (λ m. with_got refs.Nil (stepped (catalogue_seen ms o) op m)))) (sym a.own)
     (moved c i s step (words_left c s step) (seat_after c.shape s step (found c s step)) n ms k st a (root_moves c i s v r ms n x.0 k st a (ltb-true v 32 b.0) x.1))

@@ -74,7 +74,7 @@ free-not-used c i s step x k e =
     free-unused c.shape (words_of c.shape c.words).owners (words_of c.shape c.words).allocs (makers c.seats) i x (maker_of s) r.shaped r.caches.owned r.caches.unpublished (own_facts c i s step k) (maker-at c.seats i s k.got)
     (free-below c i s step x k e) e
 
--- and is free for one seat alone
+-- two seats in whose caches one cell is free are one seat
 pub free-apart : (c : Core) (i j : ℕ) (s t : SeatState) (a b : Step) (x : ℕ) → Taken c i s a → Taken c j t b → free_in s.cache x ≡ true → free_in t.cache x ≡ true → j ≡ i
 free-apart c i j s t a b x k l e f =
     let r = caching c k.core in

@@ -4,11 +4,11 @@ use Rattle.std.specs.Prelude.{IsTrue, slice_index_or, nat_lt}
 use Rattle.std.proofs.lemmas.Bool.{and_parts, ltb-true, cases_eq}
 use Rattle.std.proofs.lemmas.List.{get_or-set_same, get_or-set_other, length-set}
 use Rattle.mark_core.specs.Layout.{Words, words_of, region_sizes}
-use Rattle.mark_core.specs.Bits.{flag, cell_of}
+use Rattle.mark_core.specs.Bits.{cell_of}
 use Rattle.mark_core.specs.Seats.{may_mutate}
 use Rattle.mark_core.specs.Cells.{field}
-use Rattle.mark_core.specs.Rules.HeapRules.{number_of}
-use Rattle.mark_core.specs.Steps.MutatorSteps.{in_variables, variable_or_nil, variable as word_in}
+use Rattle.mark_core.specs.Rules.HeapRules.{number_of_cell}
+use Rattle.mark_core.specs.Steps.MutatorSteps.{in_variables, variable_or_nil, seat_variable as word_in}
 use Rattle.mark_core.specs.Effects.{seat_after}
 use Rattle.mark_core.specs.Steps.{Core}
 use Rattle.mark_core.specs.Laws.{IsCore}
@@ -33,10 +33,11 @@ use Rattle.plain_heap.specs.PlainHeap.{Heap, variable}
 use Rattle.plain_heap.specs.PlainStep.{heap_after, replaced, with_field, with_value}
 use Rattle.gc_table.specs.StandsFor.{object_count, WordAgrees, Stands, StandsIn, StandsFor}
 use Rattle.gc_table.specs.declared.view.Meaning.{Meaning}
-use Rattle.gc_table.specs.PlainSteps.{seen_in, own_section, meaning_of, changed, stepped, IsSet, AsksIn}
+use Rattle.gc_table.specs.PlainSteps.{catalogue_seen, own_section, meaning_of, changed, stepped, IsSet, AsksIn}
 use Rattle.gc_table.proofs.Stands.StandsMoves.{moved}
 use Rattle.gc_table.proofs.Stands.StandsObjects.{Owns, owns, stored-object, with_object, Rewrites, object-moves}
 use Rattle.gc_table.proofs.Stands.StandsSeat.{Mutates, mutates, env-agrees}
+use Rattle.mark_core.specs.Numbers.{value_bound}
 
 -- a cell in use exists
 pub used-exists : (c : Core) → IsCore c → (x : ℕ) → Used c x ≡ true → x < c.shape.cells
@@ -54,7 +55,7 @@ fields-length c k = region-length (region_sizes c.shape) 11 c.words (omega (arit
 pub values-length : (c : Core) → IsCore c → length (words_of c.shape c.words).values ≡ c.shape.cells
 values-length c k = region-length (region_sizes c.shape) 10 c.words (omega (arith, k.formed.words))
 
-field_rewrites : (c : Core) (i : ℕ) (s : SeatState) (v j y : ℕ) (o : Option ℕ) (ref : Ref) (ms : List Meaning) → Taken c i s (StoreField v j o) → j < c.shape.fields → (b : Owns c i s v ms y) → b.holds.object.value < flag → WordAgrees (words_of c.shape c.words).identities (object_count ms) i (variable_or_nil s o) ref
+field_rewrites : (c : Core) (i : ℕ) (s : SeatState) (v j y : ℕ) (o : Option ℕ) (ref : Ref) (ms : List Meaning) → Taken c i s (StoreField v j o) → j < c.shape.fields → (b : Owns c i s v ms y) → b.holds.object.value < value_bound → WordAgrees (words_of c.shape c.words).identities (object_count ms) i (variable_or_nil s o) ref
     → Rewrites c i ms y (words_of c.shape c.words).values (set (words_of c.shape c.words).fields (y * c.shape.fields + j) (variable_or_nil s o)) (with_field b.holds.object j ref)
 field_rewrites c i s v j y o ref ms k hj b small agrees = record {
   room = length-set b.holds.object.refs j ref ∙ b.holds.room;
@@ -92,7 +93,7 @@ field_rewrites c i s v j y o ref ms k hj b small agrees = record {
 
 -- a reference is stored
 pub store-field : (c : Core) (i : ℕ) (s : SeatState) (v j : ℕ) (o : Option ℕ) (op : Op) (ms : List Meaning) → Taken c i s (StoreField v j o) → StandsFor c ms → AsksIn s ms (StoreField v j o) op
-    → StandsIn c.shape (words_left c s (StoreField v j o)) (seats_left c i s (StoreField v j o)) (changed ms (own_section s) (stepped (seen_in ms (own_section s)) op))
+    → StandsIn c.shape (words_left c s (StoreField v j o)) (seats_left c i s (StoreField v j o)) (changed ms (own_section s) (stepped (catalogue_seen ms (own_section s)) op))
 store-field c i s v j o op ms k st asks =
     let w : Words = words_of c.shape c.words in
     let step : Step = StoreField v j o in
@@ -107,17 +108,17 @@ store-field c i s v j o op ms k st asks =
     let m : Meaning = meaning_of ms i in
     let ref : Ref = variable m.heap x.0 in
     let object : Object = with_field own.holds.object j ref in
-    let heap_is : heap_after m.heap (seen_in ms i) op ≡ replaced m.heap (number_of w.identities y) object =
-    ap (λ (z : Op). heap_after m.heap (seen_in ms i) z) x.1 ∙ stored-object c i s v ms y (λ z. with_field z j ref) own in
+    let heap_is : heap_after m.heap (catalogue_seen ms i) op ≡ replaced m.heap (number_of_cell w.identities y) object =
+    ap (λ (z : Op). heap_after m.heap (catalogue_seen ms i) z) x.1 ∙ stored-object c i s v ms y (λ z. with_field z j ref) own in
     let t : SeatState = seat_after c.shape s step (found c s step) in
     let P : ℕ → Heap → Type 0 = λ cell heap. Stands c.shape w.roots w.identities w.values (set w.fields (cell * c.shape.fields + j) (variable_or_nil s o)) (λ z. IsTrue (UsedAfter c i s step z)) (set c.seats i t) (set ms i (record m { heap = heap })) in
-    let base : P y (replaced m.heap (number_of w.identities y) object) =
+    let base : P y (replaced m.heap (number_of_cell w.identities y) object) =
     moved c i s step (record w { values = w.values; fields = set w.fields (y * c.shape.fields + j) (variable_or_nil s o) }) t (with_object c i ms y object) ms k st a
-    (object-moves c i s step v ms y w.values (set w.fields (y * c.shape.fields + j) (variable_or_nil s o)) object t.owes k st a (λ z f. f) own (field_rewrites c i s v j y o ref ms k (ltb-true j c.shape.fields e.1) own ((st.numbered i m a.there).4 (number_of w.identities y) own.holds.object own.holds.there) x.2)) in
-    subst (λ (z : ℕ). StandsIn c.shape (words_left c s step) (seats_left c i s step) (changed ms z (stepped (seen_in ms z) op))) (sym a.own)
-    (subst (λ (z : ℕ). P z (heap_after m.heap (seen_in ms i) op)) (sym own.cell) (subst (P y) (sym heap_is) base))
+    (object-moves c i s step v ms y w.values (set w.fields (y * c.shape.fields + j) (variable_or_nil s o)) object t.owes k st a (λ z f. f) own (field_rewrites c i s v j y o ref ms k (ltb-true j c.shape.fields e.1) own ((st.numbered i m a.there).4 (number_of_cell w.identities y) own.holds.object own.holds.there) x.2)) in
+    subst (λ (z : ℕ). StandsIn c.shape (words_left c s step) (seats_left c i s step) (changed ms z (stepped (catalogue_seen ms z) op))) (sym a.own)
+    (subst (λ (z : ℕ). P z (heap_after m.heap (catalogue_seen ms i) op)) (sym own.cell) (subst (P y) (sym heap_is) base))
 
-value_rewrites : (c : Core) (i : ℕ) (s : SeatState) (v n y : ℕ) (ms : List Meaning) → IsCore c → n < flag → (b : Owns c i s v ms y) → Rewrites c i ms y (set (words_of c.shape c.words).values y n) (words_of c.shape c.words).fields (with_value b.holds.object n)
+value_rewrites : (c : Core) (i : ℕ) (s : SeatState) (v n y : ℕ) (ms : List Meaning) → IsCore c → n < value_bound → (b : Owns c i s v ms y) → Rewrites c i ms y (set (words_of c.shape c.words).values y n) (words_of c.shape c.words).fields (with_value b.holds.object n)
 value_rewrites c i s v n y ms k small b =
     let w : Words = words_of c.shape c.words in
     record {
@@ -132,7 +133,7 @@ value_rewrites c i s v n y ms k small b =
 
 -- a value is stored
 pub store-value : (c : Core) (i : ℕ) (s : SeatState) (v n : ℕ) (op : Op) (ms : List Meaning) → Taken c i s (StoreValue v n) → StandsFor c ms → AsksIn s ms (StoreValue v n) op
-    → StandsIn c.shape (words_left c s (StoreValue v n)) (seats_left c i s (StoreValue v n)) (changed ms (own_section s) (stepped (seen_in ms (own_section s)) op))
+    → StandsIn c.shape (words_left c s (StoreValue v n)) (seats_left c i s (StoreValue v n)) (changed ms (own_section s) (stepped (catalogue_seen ms (own_section s)) op))
 store-value c i s v n op ms k st asks =
     let w : Words = words_of c.shape c.words in
     let step : Step = StoreValue v n in
@@ -142,12 +143,12 @@ store-value c i s v n op ms k st asks =
     let own : Owns c i s v ms y = owns c i s step v ms k st a (used-exists c k.core) (ltb-true v 32 b.0) k.ok.1.0 in
     let m : Meaning = meaning_of ms i in
     let object : Object = with_value own.holds.object n in
-    let small : n < flag = asks.2 in
-    let heap_is : heap_after m.heap (seen_in ms i) op ≡ replaced m.heap (number_of w.identities y) object =
-    ap (λ (z : Op). heap_after m.heap (seen_in ms i) z) asks.1 ∙ stored-object c i s v ms y (λ z. with_value z n) own in
+    let small : n < value_bound = asks.2 in
+    let heap_is : heap_after m.heap (catalogue_seen ms i) op ≡ replaced m.heap (number_of_cell w.identities y) object =
+    ap (λ (z : Op). heap_after m.heap (catalogue_seen ms i) z) asks.1 ∙ stored-object c i s v ms y (λ z. with_value z n) own in
     let P : ℕ → Heap → Type 0 = λ cell heap. Stands c.shape w.roots w.identities (set w.values cell n) w.fields (λ z. IsTrue (UsedAfter c i s step z)) (set c.seats i s) (set ms i (record m { heap = heap })) in
-    let base : P y (replaced m.heap (number_of w.identities y) object) =
+    let base : P y (replaced m.heap (number_of_cell w.identities y) object) =
     moved c i s step (record w { values = set w.values y n; fields = w.fields }) s (with_object c i ms y object) ms k st a
     (object-moves c i s step v ms y (set w.values y n) w.fields object s.owes k st a (λ z f. f) own (value_rewrites c i s v n y ms k.core small own)) in
-    subst (λ (z : ℕ). StandsIn c.shape (words_left c s step) (seats_left c i s step) (changed ms z (stepped (seen_in ms z) op))) (sym a.own)
-    (subst (λ (z : ℕ). P z (heap_after m.heap (seen_in ms i) op)) (sym own.cell) (subst (P y) (sym heap_is) base))
+    subst (λ (z : ℕ). StandsIn c.shape (words_left c s step) (seats_left c i s step) (changed ms z (stepped (catalogue_seen ms z) op))) (sym a.own)
+    (subst (λ (z : ℕ). P z (heap_after m.heap (catalogue_seen ms i) op)) (sym own.cell) (subst (P y) (sym heap_is) base))

@@ -6,7 +6,7 @@ use Rattle.mark_core.specs.Layout.{Words, words_of}
 use Rattle.mark_core.specs.Bits.{cell_bit}
 use Rattle.mark_core.specs.Seats.{is_phase}
 use Rattle.mark_core.specs.Views.{blocks}
-use Rattle.mark_core.specs.Cells.{field, is_swept_block, IsPath}
+use Rattle.mark_core.specs.Cells.{field, is_swept_block, IsCellPath}
 use Rattle.mark_core.specs.Closed.{IsReachableIn}
 use Rattle.mark_core.specs.Steps.{Core}
 use Rattle.mark_core.specs.Laws.{IsCore}
@@ -26,7 +26,7 @@ kept_used c x k e =
     let w : Words = words_of c.shape c.words in
     either_used (is_swept_block w.next_block (blocks c.seats) (x / 64)) (Used c x) (cell_bit w.marks x) (k.sound.marks.marked_in_use x (kept-below c x k e)) e
 
-path_used : (c : Core) → IsCore c → is_phase (words_of c.shape c.words).phase Sweep ≡ false → (x : ℕ) (ds : List ℕ) → IsPath c.shape (words_of c.shape c.words).roots (words_of c.shape c.words).fields (x ∷ ds) → Used c x ≡ true
+path_used : (c : Core) → IsCore c → is_phase (words_of c.shape c.words).phase Sweep ≡ false → (x : ℕ) (ds : List ℕ) → IsCellPath c.shape (words_of c.shape c.words).roots (words_of c.shape c.words).fields (x ∷ ds) → Used c x ≡ true
 path_used c k e x [] p = goes-to (Used c) (slice_index (words_of c.shape c.words).roots p.0) x p.2 (k.sound.references.roots_in_use p.0 0 p.1)
 path_used c k e x (d ∷ ds) p =
     let u : Used c d ≡ true = path_used c k e d ds p.1 in

@@ -25,7 +25,7 @@ identities-same c i s (ReadIdent x) k e = ap (λ (w : Words). w.identities) (wor
 identities-same c i s (StoreNew x part word) k e = absurd (true≢false e)
 identities-same c i s step k e = identities-kept c.shape s step (written c.shape s step (found c s step)) (words_of c.shape c.words) refl
 
--- and the fields
+-- a step that stores in no cell leaves the fields
 pub fields-same : (c : Core) (i : ℕ) (s : SeatState) (step : Step) → Taken c i s step → stores_cell step ≡ false → (words_left c s step).fields ≡ (words_of c.shape c.words).fields
 fields-same c i s (ReadField x j) k e = ap (λ (w : Words). w.fields) (words-read c i s (ReadField x j) k refl)
 fields-same c i s (ReadOwn x j) k e = ap (λ (w : Words). w.fields) (words-read c i s (ReadOwn x j) k refl)
@@ -33,7 +33,7 @@ fields-same c i s (StoreField v j o) k e = absurd (true≢false e)
 fields-same c i s (StoreNew x part word) k e = absurd (true≢false e)
 fields-same c i s step k e = fields-kept c.shape s step (written c.shape s step (found c s step)) (words_of c.shape c.words) refl
 
--- and the values
+-- a step that stores in no cell leaves the values
 pub values-same : (c : Core) (i : ℕ) (s : SeatState) (step : Step) → Taken c i s step → stores_cell step ≡ false → (words_left c s step).values ≡ (words_of c.shape c.words).values
 values-same c i s (ReadValue x) k e = ap (λ (w : Words). w.values) (words-read c i s (ReadValue x) k refl)
 values-same c i s (StoreValue v n) k e = absurd (true≢false e)

@@ -16,7 +16,7 @@ use Rattle.plain_heap.specs.PlainHeap.{Heap}
 use Rattle.plain_heap.specs.PlainStep.{heap_after}
 use Rattle.gc_table.specs.declared.view.Meaning.{Meaning}
 use Rattle.gc_table.specs.declared.view.View.{View}
-use Rattle.gc_table.specs.PlainSteps.{seen_in, meaning_of, meaning_after, changes_heap, Asks}
+use Rattle.gc_table.specs.PlainSteps.{catalogue_seen, meaning_of, meaning_after, changes_heap, Asks}
 use Rattle.gc_table.specs.Sections.{seen_by, meaning_by, section_after}
 use Rattle.gc_table.specs.TableState.{TableState, no_section, meanings_of, section_at}
 use Rattle.gc_table.specs.Rule.{IsState, Agrees}
@@ -42,7 +42,7 @@ own-section x i w v k e = get_or_from_slice_get x.sections w v.own no_section (k
 pub record Views (x : TableState) (i : ℕ) (v : View) : Type 0 where
   pub mutates : Mutates x.core i v.state (meanings_of x.sections)
   pub meaning : meaning_of (meanings_of x.sections) i ≡ v.own.meaning
-  pub seen : seen_by v.shape v.plan v.state ≡ seen_in (meanings_of x.sections) i
+  pub seen : seen_by v.shape v.plan v.state ≡ catalogue_seen (meanings_of x.sections) i
 
 pub views : (x : TableState) (i : ℕ) (v : View) (step : Step) → Acts x i v step → may_mutate v.state ≡ true → Views x i v
 views x i v step k may =
@@ -52,7 +52,7 @@ views x i v step k may =
       meaning = meaning-at x.sections i ∙ ap (λ y. y.meaning) (own-section x i i v k.agrees a.section);
       seen =
           ap (λ (sh : Shape). seen_by sh v.plan v.state) k.agrees.shape ∙ ap (λ (p : List (List Op)). seen_by x.core.shape p v.state) k.agrees.plan
-          ∙ seen-is x i v.state k.whole k.agrees.seat k.live may ∙ ap (λ n. seen_in (meanings_of x.sections) n) a.own;
+          ∙ seen-is x i v.state k.whole k.agrees.seat k.live may ∙ ap (λ n. catalogue_seen (meanings_of x.sections) n) a.own;
     }
 
 -- the meaning after a step of a mutator, told with its plain step

@@ -5,10 +5,9 @@ use Rattle.std.proofs.lemmas.Bool.{and_parts, ltb-true, false_from_ne_true, ne_e
 use Rattle.std.proofs.lemmas.Option.{same_Some}
 use Rattle.mark_core.specs.Layout.{Words, words_of, region_sizes, address}
 use Rattle.mark_core.specs.Places.{the_named, position_at, counter_at}
-use Rattle.mark_core.specs.Bits.{flag}
 use Rattle.mark_core.specs.Parts.{parts}
 use Rattle.mark_core.specs.Seats.{may_mutate}
-use Rattle.mark_core.specs.Rules.HeapRules.{section_of, number_of}
+use Rattle.mark_core.specs.Rules.HeapRules.{section_of_cell, number_of_cell}
 use Rattle.mark_core.specs.Steps.{Core, AllTrue}
 use Rattle.mark_core.proofs.Acting.{found}
 use Rattle.mark_core.proofs.Blocks.BlocksTaken.{Taken, in-place}
@@ -27,7 +26,7 @@ use Rattle.plain_heap.specs.Paths.{Names}
 use Rattle.gc_table.specs.StandsFor.{object_count, name_at, WordAgrees, StandsFor}
 use Rattle.gc_table.specs.declared.view.Meaning.{Meaning}
 use Rattle.gc_table.specs.declared.view.View.{View}
-use Rattle.gc_table.specs.PlainSteps.{heap_in, seen_in, meaning_of, known_as}
+use Rattle.gc_table.specs.PlainSteps.{heap_in, catalogue_seen, meaning_of, known_as}
 use Rattle.gc_table.specs.Reads.{Reads}
 use Rattle.gc_table.specs.TableState.{TableState, meanings_of}
 use Rattle.gc_table.specs.Rule.{IsState, Agrees}
@@ -36,26 +35,26 @@ use Rattle.gc_table.proofs.Stands.StandsNamed.{ref-of}
 use Rattle.gc_table.proofs.Stands.StandsReads.{own-found, cat-found}
 use Rattle.gc_table.proofs.Stands.StandsSeat.{Mutates, known-agrees}
 use Rattle.gc_table.proofs.State.StatePlain.{Acts, acts-taken, own-section, Views, views}
-use Rattle.mark_core.specs.Numbers.{first_position, last_count, named_number}
+use Rattle.mark_core.specs.Numbers.{first_position, last_count, named_number, section_span}
 
 -- the object that a reference to a cell names has the cell's value
 object_agrees : (sh : Shape) (ids values fields : List ℕ) (ms : List Meaning) (i c : ℕ) (m : Meaning) (ref : Ref) → slice_get ms i ≡ Some m → WordAgrees ids (object_count ms) i (c + 1) ref → HasMeaning sh ids values fields ms c
-    → (o : Object) × (object_of m.heap (seen_in ms i) ref ≡ Some o) × (slice_index values c ≡ o.value)
+    → (o : Object) × (object_of m.heap (catalogue_seen ms i) ref ≡ Some o) × (slice_index values c ≡ o.value)
 object_agrees sh ids values fields ms i c m ref g (inl z) cell = absurd (omega (arith, z.0))
 object_agrees sh ids values fields ms i c m refs.Nil g (inr (some, names, below)) cell = absurd names
 object_agrees sh ids values fields ms i c m (refs.Own n) g (inr (some, names, below)) cell =
     let at : c + 1 - 1 ≡ c = omega arith in
-    let section : section_of ids c ≡ i = subst (λ d. section_of ids d ≡ i) at names.0 in
-    let number : number_of ids c ≡ n = subst (λ d. number_of ids d ≡ n) at names.1 in
-    let o = named-object sh ids values fields ms c (subst (λ d. number_of ids d < object_count ms (section_of ids d)) at below) cell in
+    let section : section_of_cell ids c ≡ i = subst (λ d. section_of_cell ids d ≡ i) at names.0 in
+    let number : number_of_cell ids c ≡ n = subst (λ d. number_of_cell ids d ≡ n) at names.1 in
+    let o = named-object sh ids values fields ms c (subst (λ d. number_of_cell ids d < object_count ms (section_of_cell ids d)) at below) cell in
     let same : m ≡ o.0 = same_Some m o.0 (sym g ∙ ap (λ k. slice_get ms k) (sym section) ∙ o.1) in
     (o.2.object, ap (λ (x : Meaning). slice_get x.heap.objects n) same ∙ ap (λ k. slice_get o.0.heap.objects k) (sym number) ∙ o.2.there, o.2.value)
 object_agrees sh ids values fields ms zero c m (refs.Cat n) g (inr (some, names, below)) cell = absurd names
 object_agrees sh ids values fields ms (suc i) c m (refs.Cat n) g (inr (some, names, below)) cell =
     let at : c + 1 - 1 ≡ c = omega arith in
-    let section : section_of ids c ≡ 0 = subst (λ d. section_of ids d ≡ 0) at names.0 in
-    let number : number_of ids c ≡ n = subst (λ d. number_of ids d ≡ n) at names.1 in
-    let o = named-object sh ids values fields ms c (subst (λ d. number_of ids d < object_count ms (section_of ids d)) at below) cell in
+    let section : section_of_cell ids c ≡ 0 = subst (λ d. section_of_cell ids d ≡ 0) at names.0 in
+    let number : number_of_cell ids c ≡ n = subst (λ d. number_of_cell ids d ≡ n) at names.1 in
+    let o = named-object sh ids values fields ms c (subst (λ d. number_of_cell ids d < object_count ms (section_of_cell ids d)) at below) cell in
     let seen : slice_get ms 0 ≡ Some o.0 = ap (λ k. slice_get ms k) (sym section) ∙ o.1 in
     (o.2.object, ap (λ y. object_of m.heap (heap_in y) (refs.Cat n)) seen ∙ ap (λ k. slice_get o.0.heap.objects k) (sym number) ∙ o.2.there, o.2.value)
 
@@ -65,7 +64,7 @@ nil_both ids p w word ref (inl z) = (λ e. z.1, λ e. z.0)
 nil_both ids p w word ref (inr (some, names, below)) = (λ e. absurd (omega (arith, e, some)), λ e. absurd (subst (λ (r : Ref). Names w r (name_at ids (word - 1))) e names))
 
 value_found : (c : Core) (i : ℕ) (s : SeatState) (x : ℕ) (ms : List Meaning) → Taken c i s (ReadValue x) → StandsFor c ms → Mutates c i s ms
-    → (o : Object) × (object_of (meaning_of ms i).heap (seen_in ms i) (known_as s (meaning_of ms i) x) ≡ Some o) × (found c s (ReadValue x) ≡ o.value)
+    → (o : Object) × (object_of (meaning_of ms i).heap (catalogue_seen ms i) (known_as s (meaning_of ms i) x) ≡ Some o) × (found c s (ReadValue x) ≡ o.value)
 value_found c i s x ms k st a =
     let w : Words = words_of c.shape c.words in
     let step : Step = ReadValue x in
@@ -77,7 +76,7 @@ value_found c i s x ms k st a =
 
 -- the object that a seat knows by a cell is named by the cell's identity
 abbrev IsNamed : ℕ → Ref → ℕ → Type 0
-IsNamed w ref n = Names w ref (record { section = n / flag; number = n % flag })
+IsNamed w ref n = Names w ref (record { section = n / section_span; number = n % section_span })
 
 ident_found : (c : Core) (i : ℕ) (s : SeatState) (x : ℕ) (ms : List Meaning) → Taken c i s (ReadIdent x) → StandsFor c ms → Mutates c i s ms → IsNamed i (known_as s (meaning_of ms i) x) (found c s (ReadIdent x))
 ident_found c i s x ms k st a =
@@ -103,7 +102,7 @@ position_counter w =
 value_read : (x : TableState) (i : ℕ) (v : View) (c : ℕ) → Acts x i v (ReadValue c) → Views x i v → Reads (ReadValue c) (found x.core v.state (ReadValue c)) v
 value_read x i v c k a =
     subst (λ (o : Option Heap). (object : Object) × (object_of v.own.meaning.heap o (known_as v.state v.own.meaning c) ≡ Some object) × (found x.core v.state (ReadValue c) ≡ object.value)) (sym a.seen)
-    (subst (λ (m : Meaning). (object : Object) × (object_of m.heap (seen_in (meanings_of x.sections) i) (known_as v.state m c) ≡ Some object) × (found x.core v.state (ReadValue c) ≡ object.value)) a.meaning
+    (subst (λ (m : Meaning). (object : Object) × (object_of m.heap (catalogue_seen (meanings_of x.sections) i) (known_as v.state m c) ≡ Some object) × (found x.core v.state (ReadValue c) ≡ object.value)) a.meaning
     (value_found x.core i v.state c (meanings_of x.sections) (acts-taken x i v (ReadValue c) k) k.whole.stands a.mutates))
 
 ident_read : (x : TableState) (i : ℕ) (v : View) (c : ℕ) → Acts x i v (ReadIdent c) → Views x i v → Reads (ReadIdent c) (found x.core v.state (ReadIdent c)) v
@@ -117,7 +116,7 @@ own_read x i v c j k a =
     let ms : List Meaning = meanings_of x.sections in
     let n : ℕ = found x.core v.state (ReadOwn c j) in
     subst (λ (o : Option Heap). (n ≡ 0) ↔ (followed v.own.meaning.heap o (known_as v.state v.own.meaning c) j ≡ refs.Nil)) (sym a.seen)
-    (subst (λ (m : Meaning). (n ≡ 0) ↔ (followed m.heap (seen_in ms i) (known_as v.state m c) j ≡ refs.Nil)) a.meaning
+    (subst (λ (m : Meaning). (n ≡ 0) ↔ (followed m.heap (catalogue_seen ms i) (known_as v.state m c) j ≡ refs.Nil)) a.meaning
     (nil_both (words_of x.core.shape x.core.words).identities (object_count ms) i n _ (own-found x.core i v.state c j ms (acts-taken x i v (ReadOwn c j) k) k.whole.stands a.mutates).1))
 
 cat_read : (x : TableState) (i : ℕ) (v : View) (u : ℕ) → Acts x i v (ReadCat u) → Views x i v → Reads (ReadCat u) (found x.core v.state (ReadCat u)) v

@@ -11,7 +11,7 @@ use Rattle.mark_core.proofs.Blocks.BlocksTaken.{Taken, mine as own-fact}
 use Rattle.mark_core.specs.declared.kinds.Step.TheVariants.{ReadCount}
 use Rattle.mark_core.specs.declared.seat.SeatState.{SeatState}
 use Rattle.gc_table.specs.declared.view.SectionState.{SectionState}
-use Rattle.gc_table.specs.PlainSteps.{heap_in, seen_in, own_section, meaning_of}
+use Rattle.gc_table.specs.PlainSteps.{heap_in, catalogue_seen, own_section, meaning_of}
 use Rattle.gc_table.specs.Sections.{planned, seen_of, season_of, seen_by}
 use Rattle.gc_table.specs.TableState.{TableState, meanings_of, no_section, section_at}
 use Rattle.gc_table.specs.Rule.{IsState}
@@ -42,7 +42,7 @@ season-read x i s z k a e =
     subst (λ (o : Option ℕ). IfSome o (λ y. season ≡ y)) e (known a)
 
 seen_at : (x : TableState) (i w : ℕ) (s : SeatState) → IsState x → Taken x.core i s ReadCount → s.active ≡ true → s.section ≡ Some w → has_turn (Some w) s.season_seen ≡ true → w < length x.sections
-    → seen_of x.core.shape x.plan (Some w) (season_of s) ≡ seen_in (meanings_of x.sections) w
+    → seen_of x.core.shape x.plan (Some w) (season_of s) ≡ catalogue_seen (meanings_of x.sections) w
 seen_at x i zero s k t a e turn h = refl
 seen_at x i (suc w) s k t a e turn h =
     let seen = warehouse_turn w s.season_seen turn in
@@ -53,11 +53,11 @@ seen_at x i (suc w) s k t a e turn h =
     ap (λ n. Some (planned x.core.shape x.plan n)) read ∙ ap (λ n. Some n) (sym there) ∙ sym (ap heap_in (meaning-there x.sections 0 (omega (arith, h))))
 
 -- a mutator sees the catalogue as it is
-pub seen-is : (x : TableState) (i : ℕ) (s : SeatState) → IsState x → slice_get x.core.seats i ≡ Some s → IsFalse s.spent → may_mutate s ≡ true → seen_by x.core.shape x.plan s ≡ seen_in (meanings_of x.sections) (own_section s)
+pub seen-is : (x : TableState) (i : ℕ) (s : SeatState) → IsState x → slice_get x.core.seats i ≡ Some s → IsFalse s.spent → may_mutate s ≡ true → seen_by x.core.shape x.plan s ≡ catalogue_seen (meanings_of x.sections) (own_section s)
 seen-is x i s k g live may =
     let t : Taken x.core i s ReadCount = looks x.core i s k.core g live in
     let a : Mutates x.core i s (meanings_of x.sections) = mutates x.core i s ReadCount (meanings_of x.sections) t k.stands may in
     let b = and_parts s.active (has_turn s.section s.season_seen) may in
     let turn : has_turn (Some i) s.season_seen ≡ true = subst (λ (o : Option ℕ). has_turn o s.season_seen ≡ true) a.section b.1 in
     ap (λ (o : Option ℕ). seen_of x.core.shape x.plan o (season_of s)) a.section
-    ∙ seen_at x i i s k t a.active a.section turn (omega (arith, a.inside, sections-length x k)) ∙ ap (λ n. seen_in (meanings_of x.sections) n) (sym a.own)
+    ∙ seen_at x i i s k t a.active a.section turn (omega (arith, a.inside, sections-length x k)) ∙ ap (λ n. catalogue_seen (meanings_of x.sections) n) (sym a.own)

@@ -12,7 +12,7 @@ use Rattle.plain_heap.specs.PlainHeap.{Heap}
 use Rattle.gc_table.specs.StandsFor.{StandsFor}
 use Rattle.gc_table.specs.declared.view.Meaning.{Meaning}
 use Rattle.gc_table.specs.declared.view.SectionState.{SectionState}
-use Rattle.gc_table.specs.PlainSteps.{seen_in, own_section, meaning_of, no_meaning, meaning_after, changed_by, meanings_after, Asks, AsksIn}
+use Rattle.gc_table.specs.PlainSteps.{catalogue_seen, own_section, meaning_of, no_meaning, meaning_after, changed_by, meanings_after, Asks, AsksIn}
 use Rattle.gc_table.specs.Sections.{seen_by, meaning_by, section_after}
 use Rattle.gc_table.specs.TableState.{TableState, meanings_of, section_at, with_section, state_after}
 use Rattle.gc_table.proofs.Stands.StandsKept.{stands-kept}
@@ -51,16 +51,16 @@ mutating x i s step op g may asked means = (op, asks, meanings)
     a : Mutates x.core i s ms
     a = mutates x.core i s step ms (taken x i s step g) g.whole.stands may
 
-    seen : seen_by x.core.shape x.plan s ≡ seen_in ms w
+    seen : seen_by x.core.shape x.plan s ≡ catalogue_seen ms w
     seen = seen-is x i s g.whole g.got g.live may
 
     asks : AsksIn s ms step op
     asks = subst (λ (c : Option Heap). Asks s (meaning_of ms w) c step op) seen (subst (λ (m : Meaning). Asks s m (seen_by x.core.shape x.plan s) step op) (sym (meaning-at x.sections w)) asked)
 
-    told : meaning_after x.core.shape s (seen_in ms w) step op (meaning_of ms w) ≡ meaning_by x.core.shape s (seen_in ms w) step (meaning_of ms w)
+    told : meaning_after x.core.shape s (catalogue_seen ms w) step op (meaning_of ms w) ≡ meaning_by x.core.shape s (catalogue_seen ms w) step (meaning_of ms w)
     told =
-        subst (λ (k : ℕ). meaning_after x.core.shape s (seen_in ms w) step op (meaning_of ms k) ≡ meaning_by x.core.shape s (seen_in ms w) step (meaning_of ms k)) (sym a.own)
-        (meaning-told x.core i s step op ms (seen_in ms w) (taken x i s step g) g.whole.stands (subst (λ (k : ℕ). Asks s (meaning_of ms k) (seen_in ms w) step op) a.own asks))
+        subst (λ (k : ℕ). meaning_after x.core.shape s (catalogue_seen ms w) step op (meaning_of ms k) ≡ meaning_by x.core.shape s (catalogue_seen ms w) step (meaning_of ms k)) (sym a.own)
+        (meaning-told x.core i s step op ms (catalogue_seen ms w) (taken x i s step g) g.whole.stands (subst (λ (k : ℕ). Asks s (meaning_of ms k) (catalogue_seen ms w) step op) a.own asks))
 
     section : s.section ≡ Some w
     section = a.section ∙ ap (λ k. Some k) (sym a.own)
@@ -68,10 +68,10 @@ mutating x i s step op g may asked means = (op, asks, meanings)
     after : SectionState
     after = section_after x.core.shape x.plan s step (section_at x.sections w)
 
-    mine : after.meaning ≡ meaning_after x.core.shape s (seen_in ms w) step op (meaning_of ms w)
+    mine : after.meaning ≡ meaning_after x.core.shape s (catalogue_seen ms w) step op (meaning_of ms w)
     mine =
         means (section_at x.sections w) ∙ ap (λ c. meaning_by x.core.shape s c step (section_at x.sections w).meaning) seen
-        ∙ ap (λ m. meaning_by x.core.shape s (seen_in ms w) step m) (sym (meaning-at x.sections w)) ∙ sym told
+        ∙ ap (λ m. meaning_by x.core.shape s (catalogue_seen ms w) step m) (sym (meaning-at x.sections w)) ∙ sym told
 
     meanings : meanings_of (sections_left x s step) ≡ changed_by x.core.shape s step op ms
     meanings =

@@ -5,10 +5,9 @@ use Rattle.std.specs.List.{list_any}
 use Rattle.std.proofs.lemmas.Bool.{and_parts, or_left, or_right, not-true, eqb-true, eqb-false, eq-eqb, false_from_ne_true}
 use Rattle.std.proofs.lemmas.List.Folds.{list_any_at}
 use Rattle.mark_core.specs.Layout.{words_of}
-use Rattle.mark_core.specs.Bits.{flag}
 use Rattle.mark_core.specs.Seats.{is_the, last_made, may_mutate}
-use Rattle.mark_core.specs.Rules.HeapRules.{section_of, number_of}
-use Rattle.mark_core.specs.Steps.MutatorSteps.{names_last, knows_cell, variable as word_in}
+use Rattle.mark_core.specs.Rules.HeapRules.{section_of_cell, number_of_cell}
+use Rattle.mark_core.specs.Steps.MutatorSteps.{names_last, knows_cell, seat_variable as word_in}
 use Rattle.mark_core.specs.Steps.{Core}
 use Rattle.mark_core.proofs.Blocks.BlocksTaken.{Taken}
 use Rattle.mark_core.proofs.References.ReferencesRoots.{seat-formed}
@@ -29,6 +28,7 @@ use Rattle.gc_table.specs.Sections.{named_by, stored_ref, rooted, meaning_by}
 use Rattle.gc_table.proofs.Stands.StandsAgree.{nil-is}
 use Rattle.gc_table.proofs.Stands.StandsRoots.{last-is}
 use Rattle.gc_table.proofs.Stands.StandsSeat.{Mutates, mutates, env-agrees, known-agrees}
+use Rattle.mark_core.specs.Numbers.{section_span}
 
 -- an object has one reference in a section
 pub names-ref : (w : ℕ) (a b : Ref) (name : Name) → Names w a name → Names w b name → a ≡ b
@@ -71,12 +71,12 @@ has_object c i s step ms r ref k st a h = false_from_ne_true (is_next s m r) (λ
     of (inl z) e = eqb-false r 0 (not-true (eqb r 0) (and_parts (not (eqb r 0)) (is_the (last_made s.cache) (r - 1)) e.0).0) z.0
     of (inr (some, names, below)) e =
         let last = last-is (last_made s.cache) (r - 1) (and_parts (not (eqb r 0)) (is_the (last_made s.cache) (r - 1)) e.0).1 in
-        let identity : (slice_index ids (r - 1) + 1 ≡ i * flag + s.made) × (0 < s.made) = subst (λ (o : Option ℕ). IfSome o (λ x. (slice_index ids x + 1 ≡ i * flag + s.made) × (0 < s.made))) last mine.last in
-        let few : s.made < flag = omega (arith, (seat-formed c i s step k).made, k.core.formed.shaped.objects) in
+        let identity : (slice_index ids (r - 1) + 1 ≡ i * section_span + s.made) × (0 < s.made) = subst (λ (o : Option ℕ). IfSome o (λ x. (slice_index ids x + 1 ≡ i * section_span + s.made) × (0 < s.made))) last mine.last in
+        let few : s.made < section_span = omega (arith, (seat-formed c i s step k).made, k.core.formed.shaped.objects) in
         let room : length m.heap.objects + 1 ≡ s.made = eqb-true (length m.heap.objects + 1) s.made e.1 in
-        let section : section_of ids (r - 1) ≡ i = omega (arith, identity.0, identity.1, few) in
-        let number : number_of ids (r - 1) ≡ length m.heap.objects = omega (arith, identity.0, identity.1, few, room) in
-        let count : object_count ms (section_of ids (r - 1)) ≡ length m.heap.objects = ap (λ j. object_count ms j) section ∙ ap objects_in a.there in
+        let section : section_of_cell ids (r - 1) ≡ i = omega (arith, identity.0, identity.1, few) in
+        let number : number_of_cell ids (r - 1) ≡ length m.heap.objects = omega (arith, identity.0, identity.1, few, room) in
+        let count : object_count ms (section_of_cell ids (r - 1)) ≡ length m.heap.objects = ap (λ j. object_count ms j) section ∙ ap objects_in a.there in
         omega (arith, below, number, count)
 
 -- a seat knows a word that it has by the reference that agrees with it

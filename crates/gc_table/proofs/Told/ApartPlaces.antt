@@ -6,7 +6,7 @@ use Rattle.std.proofs.lemmas.Option.{same_Some, slice_get_within, slice_get-map}
 use Rattle.std.specs.Option.{option_map}
 use Rattle.mark_core.specs.Layout.{words_of}
 use Rattle.mark_core.specs.Seats.{has_turn, may_mutate}
-use Rattle.mark_core.specs.Rules.HeapRules.{section_of, number_of}
+use Rattle.mark_core.specs.Rules.HeapRules.{section_of_cell, number_of_cell}
 use Rattle.mark_core.proofs.Blocks.BlocksTaken.{mine}
 use Rattle.mark_core.proofs.Caches.CachesNext.{next-makes}
 use Rattle.mark_core.proofs.References.ReferencesRoots.{Used}
@@ -126,8 +126,8 @@ reached_lies x i s step w m y o g there at reach =
     let d = objects-have-cells x.core (meanings_of x.sections) g.whole.core g.whole.stands (record { section = w; number = m }) reach in
     let used : Used x.core d.0 ≡ true = d.1.0 in
     let lies = g.whole.told.placed.at_place d.0 (used-exists x.core g.whole.core d.0 used) used in
-    let section : section_of ids d.0 ≡ w = ap (λ (n : Name). n.section) d.1.1 in
-    let number : number_of ids d.0 ≡ m = ap (λ (n : Name). n.number) d.1.1 in
+    let section : section_of_cell ids d.0 ≡ w = ap (λ (n : Name). n.section) d.1.1 in
+    let number : number_of_cell ids d.0 ≡ m = ap (λ (n : Name). n.number) d.1.1 in
     let same : lies.0 ≡ y = same_Some lies.0 y (sym lies.1 ∙ ap (λ k. slice_get x.sections k) section ∙ there) in
     let place : lies.2.0 ≡ o = same_Some lies.2.0 o (sym lies.2.1 ∙ ap (λ k. slice_get lies.0.places k) number ∙ ap (λ (u : SectionState). slice_get u.places m) same ∙ at) in
     subst (λ k. Used x.core k ≡ true) (sym lies.2.2 ∙ ap (λ (p : Place). p.cell) place) used

@@ -56,7 +56,7 @@ seen-on c i s step k e a =
 inactive_sees : (s : SeatState) → IsFalse s.active → SeesFull s
 inactive_sees s f a = absurd (true≢false (sym a ∙ f))
 
--- and where it is found full, while no seat is active
+-- all seats, where the heap is found full now, while no seat is active
 pub seen-first : (c : Core) (i : ℕ) (s : SeatState) → Taken c i s (StorePhase Full) → AllStill c → All SeesFull (seats_left c i s (StorePhase Full))
 seen-first c i s k still =
     let step : Step = StorePhase Full in

@@ -6,7 +6,7 @@ use Rattle.std.proofs.lemmas.Option.{get_or_from_slice_get}
 use Rattle.mark_core.specs.Layout.{Words}
 use Rattle.mark_core.specs.Views.{makers}
 use Rattle.mark_core.specs.Cells.{in_use}
-use Rattle.mark_core.specs.Rules.HeapRules.{section_of, number_of}
+use Rattle.mark_core.specs.Rules.HeapRules.{section_of_cell, number_of_cell}
 use Rattle.mark_core.specs.Start.{start_seat, spent_seat}
 use Rattle.mark_core.proofs.Formed.FormedAfter.{set-cases, push-cases}
 use Rattle.mark_core.specs.declared.kinds.Shape.{Shape}
@@ -55,7 +55,7 @@ counted-split sh seats xs unseated k w x g u a alive =
     (λ (e : slice_get seats w ≡ Some u). k w x g u e alive)
     (push-cases seats w (start_seat sh (length seats)) u a)
 
--- and one that was ended counts no more
+-- a seat that was ended counts no more
 pub counted-join : (sh : Shape) (seats : List SeatState) (other : ℕ) (xs : List SectionState) → Counted seats xs → Counted (set seats other (spent_seat sh other)) xs
 counted-join sh seats other xs k w x g u a alive =
     ⊎_elim
@@ -67,7 +67,7 @@ counted-join sh seats other xs k w x g u a alive =
 pub placed-same : (sh : Shape) (ids : List ℕ) (used used' : ℕ → Type 0) (seats seats' : List SeatState) (o : Option ℕ) (f : SectionState → SectionState) (xs : List SectionState) → ((y : SectionState) → (f y).places ≡ y.places)
     → ((c : ℕ) → c < sh.cells → used' c → used c) → Counted seats' xs → length seats ≤ length seats' → Placed sh ids used seats xs → Placed sh ids used' seats' (with_section o f xs)
 placed-same sh ids used used' seats seats' o f xs same fewer counted longer k = record {
-  at_place = λ c h u. let a = k.at_place c h (fewer c h u) in lies c a.0 a.2 (left-there o f xs (section_of ids c) a.0 a.1);
+  at_place = λ c h u. let a = k.at_place c h (fewer c h u) in lies c a.0 a.2 (left-there o f xs (section_of_cell ids c) a.0 a.1);
   counted =
       each-left (λ w x. (s : SeatState) → slice_get seats' w ≡ Some s → IsFalse s.spent → length x.places ≡ s.made) f o xs (λ w y g d. counted w y g)
       (λ w y g e s a live. ap (λ (ps : List Place). length ps) (same y) ∙ counted w y g s a live);
@@ -77,7 +77,7 @@ placed-same sh ids used used' seats seats' o f xs same fewer counted longer k = 
       (λ w y g e n p h. k.below w y g n p (ap (λ (ps : List Place). slice_get ps n) (sym (same y)) ∙ h));
 }
   where
-    lies : (c : ℕ) (y : SectionState) → LiesAt y (number_of ids c) c → (slice_get (with_section o f xs) (section_of ids c) ≡ Some y) ⊎ ((o ≡ Some (section_of ids c)) × (slice_get (with_section o f xs) (section_of ids c) ≡ Some (f y)))
-        → (x : SectionState) × (slice_get (with_section o f xs) (section_of ids c) ≡ Some x) × LiesAt x (number_of ids c) c
+    lies : (c : ℕ) (y : SectionState) → LiesAt y (number_of_cell ids c) c → (slice_get (with_section o f xs) (section_of_cell ids c) ≡ Some y) ⊎ ((o ≡ Some (section_of_cell ids c)) × (slice_get (with_section o f xs) (section_of_cell ids c) ≡ Some (f y)))
+        → (x : SectionState) × (slice_get (with_section o f xs) (section_of_cell ids c) ≡ Some x) × LiesAt x (number_of_cell ids c) c
     lies c y at (inl e) = (y, e, at)
-    lies c y at (inr e) = (f y, e.1, (at.0, ap (λ (ps : List Place). slice_get ps (number_of ids c)) (same y) ∙ at.1, at.2))
+    lies c y at (inr e) = (f y, e.1, (at.0, ap (λ (ps : List Place). slice_get ps (number_of_cell ids c)) (same y) ∙ at.1, at.2))

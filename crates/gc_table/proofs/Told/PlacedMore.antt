@@ -4,7 +4,7 @@ use Rattle.std.specs.Prelude.{IsFalse, slice_get, slice_index}
 use Rattle.std.proofs.lemmas.List.{length-set, length-append, get_or-set_same, get_or-set_other}
 use Rattle.std.proofs.lemmas.Option.{slice_get-get_or}
 use Rattle.mark_core.specs.Bits.{flag}
-use Rattle.mark_core.specs.Rules.HeapRules.{section_of, number_of}
+use Rattle.mark_core.specs.Rules.HeapRules.{section_of_cell, number_of_cell}
 use Rattle.mark_core.proofs.Acting.{some_none}
 use Rattle.mark_core.proofs.Formed.FormedAfter.{set-here, set-there, push-cases}
 use Rattle.mark_core.specs.declared.kinds.Shape.{Shape}
@@ -60,7 +60,7 @@ placed-more sh ids used used' seats xs i c word s t f p a k = record {
     xs' = with_section (Some i) f xs
 
     Lies : ℕ → Type 0
-    Lies d = (x : SectionState) × (slice_get xs' (section_of ids' d) ≡ Some x) × LiesAt x (number_of ids' d) d
+    Lies d = (x : SectionState) × (slice_get xs' (section_of_cell ids' d) ≡ Some x) × LiesAt x (number_of_cell ids' d) d
 
     is : (w : ℕ) → Some i ≡ Some w → i ≡ w
     is w e = cc
@@ -92,12 +92,12 @@ placed-more sh ids used used' seats xs i c word s t f p a k = record {
     old d h u =
         let kept : slice_index ids' d ≡ slice_index ids d = get_or-set_other ids c d word 0 (λ e. a.unused (subst used e u)) in
         let b = k.at_place d h u in
-        subst (λ (w : ℕ). (x : SectionState) × (slice_get xs' (w / flag) ≡ Some x) × LiesAt x (w % flag) d) (sym kept) (lies d (section_of ids d) (number_of ids d) b.0 b.2 (left-there (Some i) f xs (section_of ids d) b.0 b.1))
+        subst (λ (w : ℕ). (x : SectionState) × (slice_get xs' (w / flag) ≡ Some x) × LiesAt x (w % flag) d) (sym kept) (lies d (section_of_cell ids d) (number_of_cell ids d) b.0 b.2 (left-there (Some i) f xs (section_of_cell ids d) b.0 b.1))
 
     new : Lies c
     new =
         let now : slice_index ids' c ≡ word = get_or-set_same ids c word 0 a.cell.1 in
         let y : SectionState = section_at xs i in
-        let section : section_of ids' c ≡ i = omega (arith, now, a.identity, a.few) in
-        let number : number_of ids' c ≡ length y.places = omega (arith, now, a.identity, a.few, full i y there refl) in
+        let section : section_of_cell ids' c ≡ i = omega (arith, now, a.identity, a.few) in
+        let number : number_of_cell ids' c ≡ length y.places = omega (arith, now, a.identity, a.few, full i y there refl) in
         (f y, ap (λ j. slice_get xs' j) section ∙ get-set_same xs i y (f y) there, (p y, ap (λ j. slice_get (f y).places j) number ∙ (ap (λ (ps : List Place). slice_get ps (length y.places)) (a.places y) ∙ get_pushed y.places (p y)), a.at y))

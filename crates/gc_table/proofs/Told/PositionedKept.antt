@@ -55,7 +55,7 @@ positions_same c i s (AddStat which by down) k e =
     single (λ at. (put_word at (written c.shape s (AddStat which by down) (found c s (AddStat which by down))) w).positions ≡ w.positions) which (omega (arith, h)) (λ i. refl)
 positions_same c i s step k e = refl
 
--- and its section's own
+-- every step but the store of a position leaves its section's own position
 position_same : (sh : Shape) (plan : List (List Op)) (s : SeatState) (step : Step) (y : SectionState) → stores_position step ≡ false → (section_after sh plan s step y).position ≡ y.position
 position_same sh plan s (StorePosition done) y e = absurd (true≢false e)
 position_same sh plan s step y e = refl

@@ -64,7 +64,7 @@ storer-mutates c i s (StoreValue v n) k e = (and_parts (nat_lt v 32) (may_mutate
 storer-mutates c i s (StoreRoot v r) k e = (and_parts (nat_lt v 32) (may_mutate s) k.ok.0).1
 storer-mutates c i s step k e = absurd (false≢true e)
 
--- and every other step leaves the plain heap
+-- every step that is no store leaves the plain heap
 pub heap-same : (sh : Shape) (plan : List (List Op)) (s : SeatState) (step : Step) (y : SectionState) → changes_heap step ≡ false → (section_after sh plan s step y).meaning.heap ≡ y.meaning.heap
 heap-same sh plan s (StoreField v j o) y e = absurd (true≢false e)
 heap-same sh plan s (StoreValue v n) y e = absurd (true≢false e)

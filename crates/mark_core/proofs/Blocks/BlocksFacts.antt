@@ -1,4 +1,5 @@
--- A seat is exact while it knows that the world is stopped, and a seat that is spent or has no section has no variable and no cache: kept by each step that is allowed.
+-- A seat is exact while it knows that the world is stopped, and a seat that is spent or has no section has no variable and no cache: kept by each step that is
+-- allowed.
 use Rattle.std.proofs.Common.{ℕ, ◌≡◌, ◌<◌, replicate, get_or, length, refl, sym, ap, ◌∙◌, Bool, true, false, ◌||◌, Option, Some, None, ⊎_elim}
 use Rattle.std.specs.Prelude.{IsTrue, IsFalse, is_none, is_some}
 use Rattle.std.specs.List.{All}

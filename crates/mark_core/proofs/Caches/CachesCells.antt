@@ -4,12 +4,12 @@ use Rattle.std.specs.Prelude.{IfSome, IsTrue, slice_get, slice_index, unwrap_or,
 use Rattle.std.proofs.lemmas.Bool.{and_parts, or_cases, cases_lt, ltb-true, ltb-false, le-leb, lt-leb, eqb-true, eqb-false, not-true, false≢true}
 use Rattle.std.proofs.lemmas.List.{get_or_past}
 use Rattle.mark_core.specs.Layout.{Words, words_of, put_word}
-use Rattle.mark_core.specs.Bits.{flag, cell_of, nil_or}
+use Rattle.mark_core.specs.Bits.{cell_of, nil_or}
 use Rattle.mark_core.specs.Seats.{is_the, may_store, may_mutate, block_in_hand}
 use Rattle.mark_core.specs.Views.{Maker, makers, maker_of}
 use Rattle.mark_core.specs.Cells.{in_use}
 use Rattle.mark_core.specs.Rules.HeapRules.{NamesInUse}
-use Rattle.mark_core.specs.Steps.MutatorSteps.{variable, with_making, with_made, part_at}
+use Rattle.mark_core.specs.Steps.MutatorSteps.{seat_variable, with_making, with_made, part_at}
 use Rattle.mark_core.specs.Steps.SweepSteps.{survivors, own_block}
 use Rattle.mark_core.specs.Parts.{parts}
 use Rattle.mark_core.specs.Effects.{seat_after}
@@ -28,6 +28,7 @@ use Rattle.mark_core.specs.declared.kinds.Shape.{Shape}
 use Rattle.mark_core.specs.declared.kinds.Step.TheVariants.{StoreField, StoreNew, StoreAlloc}
 use Rattle.mark_core.specs.declared.seat.SeatState.{SeatState}
 use Rattle.mark_core.specs.declared.seat.BlockState.{BlockState}
+use Rattle.mark_core.specs.Numbers.{section_span, value_bound}
 
 -- seat z alone has section z
 pub section-seat : (n j z : ℕ) (b : Bool) → is_the (cond b (Some j) None) z ≡ true → z ≡ j
@@ -45,15 +46,15 @@ maker_after m c part z = record m { cache = cond z (with_making m.cache c (part 
 
 -- what fits the last part
 abbrev fits_last : Shape → Maker → ℕ → Bool
-fits_last sh m word = is_some m.section && nat_lt m.made sh.objects && eqb word (unwrap_or m.section 0 * flag + m.made)
+fits_last sh m word = is_some m.section && nat_lt m.made sh.objects && eqb word (unwrap_or m.section 0 * section_span + m.made)
 
 -- the last part of a new cell
 last_stored : (sh : Shape) (w : Words) (ms : List Maker) (i c part word : ℕ) (m : Maker) → Storing sh w.owners w.allocs w.identities w.fields ms i c part m → m.spent ≡ false → fits_last sh m word ≡ true → CachesOf sh (put_word (9, c) word w) (set ms i (maker_after m c part false))
 last_stored sh w ms i c part word m k live e =
-    let a = and_parts (is_some m.section && nat_lt m.made sh.objects) (eqb word (unwrap_or m.section 0 * flag + m.made)) e in
+    let a = and_parts (is_some m.section && nat_lt m.made sh.objects) (eqb word (unwrap_or m.section 0 * section_span + m.made)) e in
     let b = and_parts (is_some m.section) (nat_lt m.made sh.objects) a.0 in
     let section : m.section ≡ Some i = own_section i (nat_lt i sh.sections) m.section (k.rule.sections i m k.seat) b.0 in
-    let identity : word ≡ i * flag + m.made = eqb-true _ _ a.1 ∙ ap (λ o. unwrap_or o 0 * flag + m.made) section in
+    let identity : word ≡ i * section_span + m.made = eqb-true _ _ a.1 ∙ ap (λ o. unwrap_or o 0 * section_span + m.made) section in
     made-kept sh w.owners w.allocs w.identities w.fields ms i c part word m k live section identity (omega (arith, ltb-true m.made sh.objects b.1))
     (λ j x z g f. section-seat sh.sections j z (nat_lt j sh.sections) (ap (λ o. is_the o z) (sym (k.rule.sections j x g)) ∙ f))
 
@@ -70,7 +71,7 @@ value_stored sh w ms i c part word m k e = part-kept sh w.owners w.allocs w.iden
 
 -- 23: a part of a new cell
 part_stored : (sh : Shape) (w : Words) (ms : List Maker) (i c part word : ℕ) (m : Maker) → Storing sh w.owners w.allocs w.identities w.fields ms i c part m → m.spent ≡ false
-    → cond (nat_lt part sh.fields) (eqb word 0) (cond (eqb part sh.fields) (nat_lt word flag) (fits_last sh m word)) ≡ true → CachesOf sh (put_word (part_at sh c part) word w) (set ms i (maker_after m c part (nat_le part sh.fields)))
+    → cond (nat_lt part sh.fields) (eqb word 0) (cond (eqb part sh.fields) (nat_lt word value_bound) (fits_last sh m word)) ≡ true → CachesOf sh (put_word (part_at sh c part) word w) (set ms i (maker_after m c part (nat_le part sh.fields)))
 part_stored sh w ms i c part word m k live e =
     let P : ℕ × ℕ → Bool → Type 0 = λ at z. CachesOf sh (put_word at word w) (set ms i (maker_after m c part z)) in
     either (λ at. P at (nat_le part sh.fields)) (nat_lt part sh.fields) _ _
@@ -102,7 +103,7 @@ named_used sh p r h few e f =
     ⊎_elim (λ (z : eqb r 0 ≡ true). absurd (some (eqb-true r 0 z))) (λ (u : p (r - 1) ≡ true). subst (λ y. p y ≡ true) same u) (or_cases (eqb r 0) (p (r - 1)) f)
 
 -- each variable is nil or names a cell in use
-variable_goes : (p : ℕ → Bool) (s : SeatState) (v : ℕ) → ((j d : ℕ) → j < length s.env → IsTrue (nil_or p (get_or s.env j d))) → nil_or p (variable s v) ≡ true
+variable_goes : (p : ℕ → Bool) (s : SeatState) (v : ℕ) → ((j d : ℕ) → j < length s.env → IsTrue (nil_or p (get_or s.env j d))) → nil_or p (seat_variable s v) ≡ true
 variable_goes p s v a =
     ⊎_elim (λ (h : v < length s.env). a v 0 h) (λ (h : length s.env ≤ v). ap (nil_or p) (get_or_past s.env v 0 h)) (cases_lt v (length s.env))
 
@@ -112,9 +113,9 @@ store_field-at c i v f o s k g ok =
     let w : Words = words_of c.shape c.words in
     let p : ℕ → Bool = in_use w.allocs (makers c.seats) in
     let names : NamesInUse w.allocs (makers c.seats) s = one-of (NamesInUse w.allocs (makers c.seats)) c.seats i s g k.sound.references.seats_in_use in
-    let used : p (cell_of (variable s v)) ≡ true = named_used c.shape p (variable s v) ((in_range c i s k g).env v) k.formed.shaped.cells.1 (and_parts _ _ ok.1.0).0 (variable_goes p s v names.0) in
+    let used : p (cell_of (seat_variable s v)) ≡ true = named_used c.shape p (seat_variable s v) ((in_range c i s k g).env v) k.formed.shaped.cells.1 (and_parts _ _ ok.1.0).0 (variable_goes p s v names.0) in
     let hf : f < c.shape.fields = ltb-true f c.shape.fields (and_parts (nat_lt v 32) (nat_lt f c.shape.fields) (and_parts _ _ (and_parts _ (may_mutate s) ok.0).0).0).1 in
-    field-kept c.shape w.owners w.allocs w.identities w.fields (makers c.seats) (cell_of (variable s v)) f _ (caching c k) used hf
+    field-kept c.shape w.owners w.allocs w.identities w.fields (makers c.seats) (cell_of (seat_variable s v)) f _ (caching c k) used hf
 
 -- the word that the seat keeps is the present one
 kept_word : (allocs : List ℕ) (b : ℕ) (a : Option ℕ) → is_some a ≡ true → IfSome a (λ word. slice_index allocs b ≡ word) → unwrap_or a 0 ≡ slice_index allocs b

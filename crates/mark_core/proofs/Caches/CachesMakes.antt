@@ -46,7 +46,7 @@ zero_stays xs k j e = ⊎_elim (λ (s : j ≡ k). ap (λ i. get_or (set xs k 0) 
 pub making-zero : (sh : Shape) (fields : List ℕ) (k : ℕ) (m : Maker) → MakesNil sh fields m → MakesNil sh (set fields k 0) m
 making-zero sh fields k m h c part i e l f = zero_stays fields k (c * sh.fields + i) (h c part i e l f)
 
--- or where a field of another cell is written
+-- the fields of a cell being made stay nil, where a field of another cell is written
 pub making-other : (sh : Shape) (fields : List ℕ) (d f v : ℕ) (m : Maker) → f < sh.fields → ((c part : ℕ) → makes m.cache c part ≡ true → c ≢ d) → MakesNil sh fields m → MakesNil sh (set fields (d * sh.fields + f) v) m
 making-other sh fields d f v m hf apart h c part i e l g =
     get_or-set_other fields (d * sh.fields + f) (c * sh.fields + i) v 0 (λ s. apart c part e (same_place sh.fields c d i f g hf s).0) ∙ h c part i e l g

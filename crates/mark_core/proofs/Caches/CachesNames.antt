@@ -8,20 +8,20 @@ use Rattle.std.proofs.lemmas.List.Elements.{All-set}
 use Rattle.mark_core.specs.Shapes.{EachCell}
 use Rattle.mark_core.specs.Seats.{is_the}
 use Rattle.mark_core.specs.Views.{Maker}
-use Rattle.mark_core.specs.Rules.HeapRules.{section_of, number_of}
+use Rattle.mark_core.specs.Rules.HeapRules.{section_of_cell, number_of_cell}
 use Rattle.mark_core.proofs.Locals.{all-push}
 use Rattle.mark_core.proofs.Formed.FormedAfter.{one-of}
 use Rattle.mark_core.specs.declared.kinds.Shape.{Shape}
 
 -- the number of each cell in use of the seat's section was given
 abbrev pub Given : Shape → List ℕ → (ℕ → Bool) → Maker → Type 0
-Given sh ids used m = IsFalse m.spent → EachCell sh (λ c. IsTrue (used c) → IsTrue (is_the m.section (section_of ids c)) → number_of ids c < m.made)
+Given sh ids used m = IsFalse m.spent → EachCell sh (λ c. IsTrue (used c) → IsTrue (is_the m.section (section_of_cell ids c)) → number_of_cell ids c < m.made)
 
 -- the rules of identities, over any set of cells in use
 pub record Names (sh : Shape) (ids : List ℕ) (used : ℕ → Bool) (ms : List Maker) : Type 0 where
   pub distinct : EachCell sh (λ c. EachCell sh (λ d. IsTrue (used c) → IsTrue (used d) → slice_index ids c ≡ slice_index ids d → c ≡ d))
   pub numbers_below : All (Given sh ids used) ms
-  pub sections_seated : EachCell sh (λ c. IsTrue (used c) → section_of ids c < sh.sections → section_of ids c < length ms)
+  pub sections_seated : EachCell sh (λ c. IsTrue (used c) → section_of_cell ids c < sh.sections → section_of_cell ids c < length ms)
 
 -- what the rules read of the seat stays
 abbrev pub SameName : Maker → Maker → Type 0
@@ -29,7 +29,7 @@ SameName m n = (n.section ≡ m.section) × (n.made ≡ m.made) × (n.spent ≡ 
 
 given_fewer : (sh : Shape) (ids : List ℕ) (used used' : ℕ → Bool) (m n : Maker) → ((c : ℕ) → c < sh.cells → used' c ≡ true → used c ≡ true) → SameName m n → Given sh ids used m → Given sh ids used' n
 given_fewer sh ids used used' m n less same k live c h u s =
-    let a : number_of ids c < m.made = k (sym same.2 ∙ live) c h (less c h u) (ap (λ o. is_the o (section_of ids c)) (sym same.0) ∙ s) in
+    let a : number_of_cell ids c < m.made = k (sym same.2 ∙ live) c h (less c h u) (ap (λ o. is_the o (section_of_cell ids c)) (sym same.0) ∙ s) in
     omega (arith, a, same.1)
 
 -- no further cell is in use
@@ -59,7 +59,7 @@ pub names-push : (sh : Shape) (ids : List ℕ) (used used' : ℕ → Bool) (ms :
     → Names sh ids used' (ms ++ n ∷ [])
 names-push sh ids used used' ms n less next k =
     let after : Names sh ids used' ms = names-less sh ids used used' ms less k in
-    let mine : Given sh ids used' n = λ live c h u s. let a = next (section_of ids c) s in absurd (omega (arith, a.0, after.sections_seated c h u a.1)) in
+    let mine : Given sh ids used' n = λ live c h u s. let a = next (section_of_cell ids c) s in absurd (omega (arith, a.0, after.sections_seated c h u a.1)) in
     record {
       distinct = after.distinct;
       numbers_below = all-push (Given sh ids used') ms n after.numbers_below mine;

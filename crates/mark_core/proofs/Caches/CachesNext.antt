@@ -38,7 +38,7 @@ next-free o c part h e =
 pub next-makes : (o : Option CacheState) (c part : ℕ) → part ≢ 0 → is_next o c part ≡ true → makes o c part ≡ true
 next-makes o c part n e = ap (λ b. cond b (free_in o c && not (has_making o)) (makes o c part)) (sym (ne_eqb part 0 n)) ∙ e
 
--- so it is a cell of the cache's block
+-- a free cell of the cache is a cell of its block
 pub free-block : (x : CacheState) (c : ℕ) → free_in (Some x) c ≡ true → x.block ≡ c / 64
 free-block x c e = eqb-true x.block (c / 64) (and_parts _ _ e).0
 

@@ -1,4 +1,5 @@
--- What a seat's cache says of itself after each step that is allowed: an unread cache is empty, free and used cells are apart, and a cell is made from a free one.
+-- What a seat's cache says of itself after each step that is allowed: an unread cache is empty, free and used cells are apart, and a cell is made from a free
+-- one.
 use Rattle.std.proofs.Common.{ℕ, ◌≡◌, ◌≢◌, ◌+◌, ◌/◌, ◌%◌, ◌<◌, List, arith, refl, sym, ap, ◌∙◌, Bool, true, false, ◌&&◌, Option, Some, None, eqb, ⊎_elim}
 use Rattle.std.specs.Prelude.{IfSome, IsTrue, IsFalse, nat_le}
 use Rattle.std.proofs.lemmas.Bool.{and_right, cases_eq, true≢false, false≢true}

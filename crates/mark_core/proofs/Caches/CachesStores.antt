@@ -3,7 +3,7 @@ use Rattle.std.proofs.Common.{ℕ, ◌≡◌, ◌≢◌, ◌+◌, ◌*◌, ◌/�
 use Rattle.std.specs.Prelude.{slice_get}
 use Rattle.std.specs.List.{All}
 use Rattle.std.proofs.lemmas.Bool.{and_parts, and_from, or_cases, or_left, or_right, cases_eq, eqb-true, false≢true}
-use Rattle.mark_core.specs.Bits.{flag, has_bit, with_bit, without_bit, complement}
+use Rattle.mark_core.specs.Bits.{has_bit, with_bit, without_bit, complement}
 use Rattle.mark_core.specs.Seats.{is_the, free_in, used_in}
 use Rattle.mark_core.specs.Views.{Maker}
 use Rattle.mark_core.specs.Cells.{in_use, field}
@@ -23,6 +23,7 @@ use Rattle.mark_core.proofs.Writing.CellBits.{with_other, bit-first}
 use Rattle.mark_core.proofs.Used.UsedBits.{making-used}
 use Rattle.mark_core.specs.declared.kinds.Shape.{Shape}
 use Rattle.mark_core.specs.declared.seat.CacheState.{CacheState}
+use Rattle.mark_core.specs.Numbers.{section_span}
 
 -- seat i may store this part of cell c next
 pub record Storing (sh : Shape) (owners allocs ids fields : List ℕ) (ms : List Maker) (i c part : ℕ) (m : Maker) : Type 0 where
@@ -79,7 +80,7 @@ made_used (Some x) d c f e =
     (λ (n : c % 64 ≢ d % 64). inr (and_from _ _ a.0 (sym (with_other x.used (d % 64) (c % 64) n) ∙ a.1)))
     (cases_eq (c % 64) (d % 64))
 
--- and no cell became free
+-- no cell became free by the making of one
 made_free : (o : Option CacheState) (d c : ℕ) → free_in (with_made o d) c ≡ true → free_in o c ≡ true
 made_free None d c e = e
 made_free (Some x) d c e =
@@ -101,7 +102,7 @@ abbrev pub maker_made : Maker → ℕ → Maker
 maker_made m c = record m { cache = with_made m.cache c; made = m.made + 1 }
 
 -- the last part: the identity
-pub made-kept : (sh : Shape) (owners allocs ids fields : List ℕ) (ms : List Maker) (i c part word : ℕ) (m : Maker) → Storing sh owners allocs ids fields ms i c part m → m.spent ≡ false → m.section ≡ Some i → word ≡ i * flag + m.made → m.made < flag
+pub made-kept : (sh : Shape) (owners allocs ids fields : List ℕ) (ms : List Maker) (i c part word : ℕ) (m : Maker) → Storing sh owners allocs ids fields ms i c part m → m.spent ≡ false → m.section ≡ Some i → word ≡ i * section_span + m.made → m.made < section_span
     → ((j : ℕ) (x : Maker) (z : ℕ) → slice_get ms j ≡ Some x → is_the x.section z ≡ true → z ≡ j) → Caches sh owners allocs (set ids c word) fields (set ms i (maker_made m c))
 made-kept sh owners allocs ids fields ms i c part word m k live section identity room others =
     let n : Maker = maker_made m c in

@@ -30,7 +30,7 @@ pub use-fewer : (allocs allocs' : List ℕ) (ms : List Maker) (i c : ℕ) (m n :
     → in_use allocs ms c ≡ true
 use-fewer allocs allocs' ms i c m n g used bits e = use-set (in_use allocs ms c ≡ true) allocs' ms i c n bits (λ a. use-mine allocs ms i c m g (used a)) (use-made allocs ms c) e
 
--- nor where a seat without a cache is added
+-- no further cell is in use, where a seat without a cache is added
 pub use-push : (allocs : List ℕ) (ms : List Maker) (c : ℕ) (n : Maker) → used_in n.cache c ≡ false → in_use allocs (ms ++ n ∷ []) c ≡ true → in_use allocs ms c ≡ true
 use-push allocs ms c n none e =
     ⊎_elim

@@ -14,7 +14,7 @@ use Rattle.mark_core.specs.Views.{makers, maker_of, grasps, hands}
 use Rattle.mark_core.specs.Cells.{field}
 use Rattle.mark_core.specs.Rules.HeapRules.{CachesUnpublished}
 use Rattle.mark_core.specs.Rules.WorldRules.{is_tracing}
-use Rattle.mark_core.specs.Steps.MutatorSteps.{variable, variable_or_nil, in_variables}
+use Rattle.mark_core.specs.Steps.MutatorSteps.{seat_variable, variable_or_nil, in_variables}
 use Rattle.mark_core.specs.Rules.ColourRules.{owes_card, PublishedColour}
 use Rattle.mark_core.specs.Rules.ColourRules.IsWaiting.{dirty}
 use Rattle.mark_core.specs.Rules.ColourRules.IsAccounted.{waiting, owed, scanned}
@@ -92,7 +92,7 @@ stored_field c i s v k r x a t h p f =
     let step : Step = StoreField v k r in
     let sh : Shape = c.shape in
     let w : Words = words_of sh c.words in
-    let y : ℕ = cell_of (variable s v) in
+    let y : ℕ = cell_of (seat_variable s v) in
     let first = and_parts (nat_lt v 32 && nat_lt k sh.fields) (in_variables r) (and_parts (nat_lt v 32 && nat_lt k sh.fields && in_variables r) (may_mutate s) a.ok.0).0 in
     let hk : k < sh.fields = ltb-true k sh.fields (and_parts (nat_lt v 32) (nat_lt k sh.fields) first.0).1 in
     ⊎_elim

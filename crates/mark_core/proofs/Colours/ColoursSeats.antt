@@ -50,7 +50,7 @@ idle-tends fields s x P e =
     (λ h. absurd (true≢false (sym (some-number s.fresh x h) ∙ free.fresh)))
     (λ h. left-works s.cleaning x P (idle-cleaning fields s e) h)
 
--- and it cleans no card
+-- a seat without work cleans no card
 pub idle-cleans : (fields : ℕ) (s : SeatState) (card : ℕ) (P : Type 0) → work_in_hand fields s ≡ false → cleans_card card (grasp_of s) ≡ true → P
 idle-cleans fields s card P e f = absurd (true≢false (sym f ∙ done-cleans s.cleaning card (idle-cleaning fields s e)))
 

@@ -11,7 +11,7 @@ use Rattle.mark_core.specs.Layout.{Words, words_of, region_sizes, block_count}
 use Rattle.mark_core.specs.Bits.{cell_bit, nil_or}
 use Rattle.mark_core.specs.Seats.{is_the, scan_left, cleaning_left, work_in_hand, is_phase}
 use Rattle.mark_core.specs.Views.{Grasp, grasps, grasp_of, hands, standings, Standing}
-use Rattle.mark_core.specs.Cells.{packet_length, field, IsPath}
+use Rattle.mark_core.specs.Cells.{packet_length, field, IsCellPath}
 use Rattle.mark_core.specs.Rules.WorldRules.{is_tracing, NoneActive}
 use Rattle.mark_core.specs.Steps.WorldSteps.{is_quiet, cards_clean, roots_marked}
 use Rattle.mark_core.specs.Rules.ColourRules.{popped_is, tends, cleans_card, owes_card, will_read, has_value, is_marked_soon, IsWaiting, IsAccounted}
@@ -135,7 +135,7 @@ names_marked sh w seats c i k h (IsAccounted.owed e) =
 names_marked sh w seats c i k h (IsAccounted.scanned f) = scanned_goes sh w seats c i (field sh w.fields c i) k h (f i h)
 
 -- every path leads to marked cells
-path_marked : (c : Core) → IsWellFormed c → IsSoundCore c → IsDone c.shape (words_of c.shape c.words) c.seats → (x : ℕ) (ds : List ℕ) → IsPath c.shape (words_of c.shape c.words).roots (words_of c.shape c.words).fields (x ∷ ds)
+path_marked : (c : Core) → IsWellFormed c → IsSoundCore c → IsDone c.shape (words_of c.shape c.words) c.seats → (x : ℕ) (ds : List ℕ) → IsCellPath c.shape (words_of c.shape c.words).roots (words_of c.shape c.words).fields (x ∷ ds)
     → cell_bit (words_of c.shape c.words).marks x ≡ true
 path_marked c formed k done x [] p =
     let w : Words = words_of c.shape c.words in

@@ -42,7 +42,7 @@ any-unset f (x ∷ xs) (suc i) y e =
     (λ (a : list_any f (set xs i y) ≡ true). ⊎_elim (λ (b : f y ≡ true). inl b) (λ (b : list_any f xs ≡ true). inr (or_right (f x) (list_any f xs) b)) (any-unset f xs i y a))
     (or_cases (f x) (list_any f (set xs i y)) e)
 
--- and where one is added
+-- where some element passes after one was added, the added one does, or some did before
 pub any-push : {X : Type 0} (f : X → Bool) (xs : List X) (y : X) → list_any f (xs ++ y ∷ []) ≡ true → (f y ≡ true) ⊎ (list_any f xs ≡ true)
 any-push f [] y e = ⊎_elim (λ (a : f y ≡ true). inl a) (λ (a : false ≡ true). inr a) (or_cases (f y) false e)
 any-push f (x ∷ xs) y e =

@@ -10,7 +10,7 @@ use Rattle.mark_core.specs.Layout.{Words, words_of}
 use Rattle.mark_core.specs.Bits.{cell_bit, has_bit}
 use Rattle.mark_core.specs.Seats.{is_phase, may_store, block_in_hand}
 use Rattle.mark_core.specs.Views.{Maker, makers, blocks}
-use Rattle.mark_core.specs.Cells.{field, in_use, is_kept, is_swept_block, is_unswept, IsPath}
+use Rattle.mark_core.specs.Cells.{field, in_use, is_kept, is_swept_block, is_unswept, IsCellPath}
 use Rattle.mark_core.specs.Strong.{IsStrongBlock}
 use Rattle.mark_core.specs.Steps.SweepSteps.{survivors}
 use Rattle.mark_core.specs.Steps.{Core}
@@ -48,7 +48,7 @@ kept-below c x k e =
     (either-way (is_swept_block w.next_block (blocks c.seats) (x / 64)) (in_use w.allocs (makers c.seats) x) (cell_bit w.marks x) e)
 
 -- in the sweep every cell on a path is kept
-pub path-kept : (c : Core) → IsCore c → IsTrue (is_phase (words_of c.shape c.words).phase Sweep) → (x : ℕ) (ds : List ℕ) → IsPath c.shape (words_of c.shape c.words).roots (words_of c.shape c.words).fields (x ∷ ds)
+pub path-kept : (c : Core) → IsCore c → IsTrue (is_phase (words_of c.shape c.words).phase Sweep) → (x : ℕ) (ds : List ℕ) → IsCellPath c.shape (words_of c.shape c.words).roots (words_of c.shape c.words).fields (x ∷ ds)
     → Kept c x ≡ true
 path-kept c k e x [] p =
     let w : Words = words_of c.shape c.words in

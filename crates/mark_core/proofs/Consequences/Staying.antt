@@ -4,7 +4,7 @@ use Rattle.mark_core.specs.Layout.{Words, words_of}
 use Rattle.mark_core.specs.Bits.{cell_bit}
 use Rattle.mark_core.specs.Seats.{is_phase}
 use Rattle.mark_core.specs.Views.{makers, blocks}
-use Rattle.mark_core.specs.Cells.{is_unswept, IsReachable}
+use Rattle.mark_core.specs.Cells.{is_unswept, IsReachableCell}
 use Rattle.mark_core.specs.Steps.SweepSteps.{survivors, own_block}
 use Rattle.mark_core.specs.Steps.{Core, after_event}
 use Rattle.mark_core.specs.Laws.{ReachableStay}
@@ -24,14 +24,14 @@ use Rattle.mark_core.specs.declared.kinds.Step.TheVariants.{StoreAlloc}
 use Rattle.mark_core.specs.declared.seat.SeatState.{SeatState}
 
 -- a reachable cell of the block whose bits are stored is marked
-stored_marked : (c : Core) (i : ℕ) (s : SeatState) (x : ℕ) → Taken c i s StoreAlloc → IsReachable c.shape (words_of c.shape c.words).roots (words_of c.shape c.words).fields x → is_unswept (x / 64) s.block ≡ true
+stored_marked : (c : Core) (i : ℕ) (s : SeatState) (x : ℕ) → Taken c i s StoreAlloc → IsReachableCell c.shape (words_of c.shape c.words).roots (words_of c.shape c.words).fields x → is_unswept (x / 64) s.block ≡ true
     → cell_bit (words_of c.shape c.words).marks x ≡ true
 stored_marked c i s x k p e =
     let w : Words = words_of c.shape c.words in
     let sweep : is_phase w.phase Sweep ≡ true = rw (sweeping c i s StoreAlloc k k.ok.0) refl in
     sym (kept-unswept w.next_block (blocks c.seats) w.allocs w.marks (makers c.seats) x (own-unswept c i s StoreAlloc (x / 64) k e)) ∙ path-kept c k.core sweep x p.0 p.1
 
-stays_at : (c : Core) (i : ℕ) (s : SeatState) (step : Step) (x : ℕ) → Taken c i s step → IsReachable c.shape (words_of c.shape c.words).roots (words_of c.shape c.words).fields x
+stays_at : (c : Core) (i : ℕ) (s : SeatState) (step : Step) (x : ℕ) → Taken c i s step → IsReachableCell c.shape (words_of c.shape c.words).roots (words_of c.shape c.words).fields x
     → cell_bit (words_of c.shape c.words).allocs x ≡ true → cell_bit (words_left c s step).allocs x ≡ true
 stays_at c i s StoreAlloc x k p e =
     let w : Words = words_of c.shape c.words in

@@ -156,6 +156,6 @@ work-reads sh s c i h e =
     (cleaning_on s.cleaning c (and_parts (eqb i 0) (may_scan s.cleaning c) (and_parts _ _ a).0).1))
     (or_cases (scans s.scan c i) _ e)
 
--- so has a seat that may mark
+-- a seat that may mark has work in hand
 pub work-marks : (fields : ℕ) (s : SeatState) (c : ℕ) → is_the s.value c ≡ true → work_in_hand fields s ≡ true
 work-marks fields s c e = any_value (is_some s.popped) (scan_left fields s.scan) (is_some s.value) (is_some s.fresh) (cleaning_left s.cleaning) (some-number s.value c e)

@@ -8,7 +8,7 @@ use Rattle.mark_core.specs.Layout.{Words, words_of, region_sizes, block_count}
 use Rattle.mark_core.specs.Bits.{has_bit, with_bit, cell_bit, nil_or, cell_named}
 use Rattle.mark_core.specs.Seats.{is_the, scans, scan_left, may_scan, left_in}
 use Rattle.mark_core.specs.Views.{Grasp, grasp_of, makers}
-use Rattle.mark_core.specs.Cells.{in_use, field, IsReachable}
+use Rattle.mark_core.specs.Cells.{in_use, field, IsReachableCell}
 use Rattle.mark_core.specs.Steps.ColourSteps.{may_read_field}
 use Rattle.mark_core.specs.Rules.WorldRules.{is_tracing}
 use Rattle.mark_core.specs.Effects.{seat_after}
@@ -34,7 +34,7 @@ use Rattle.mark_core.specs.declared.seat.SeatState.{SeatState}
 
 -- cell x is reachable now
 abbrev pub Reached : Core → ℕ → Type 0
-Reached c x = IsReachable c.shape (words_of c.shape c.words).roots (words_of c.shape c.words).fields x
+Reached c x = IsReachableCell c.shape (words_of c.shape c.words).roots (words_of c.shape c.words).fields x
 
 -- each cell that is marked is reachable
 abbrev pub MarksReached : Core → List ℕ → Type 0

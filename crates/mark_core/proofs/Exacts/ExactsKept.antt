@@ -10,7 +10,7 @@ use Rattle.mark_core.specs.Layout.{Words, words_of}
 use Rattle.mark_core.specs.Bits.{cell_bit}
 use Rattle.mark_core.specs.Seats.{is_phase}
 use Rattle.mark_core.specs.Views.{Grasp, grasps, grasp_of, makers, blocks}
-use Rattle.mark_core.specs.Cells.{in_use, IsReachable}
+use Rattle.mark_core.specs.Cells.{in_use, IsReachableCell}
 use Rattle.mark_core.specs.Rules.HeapRules.{Exact}
 use Rattle.mark_core.specs.Sound.{some_exact}
 use Rattle.mark_core.specs.Steps.WorldSteps.{begins_exact}
@@ -45,15 +45,15 @@ ExactSound sh w seats = Exact sh (some_exact seats) w.phase w.next_block w.roots
 
 -- cell x is reachable by these words
 abbrev pub ReachedBy : Shape → Words → ℕ → Type 0
-ReachedBy sh w x = IsReachable sh w.roots w.fields x
+ReachedBy sh w x = IsReachableCell sh w.roots w.fields x
 
 -- what was reachable is, while no seat is active
 same_reach : (c : Core) (i : ℕ) (s : SeatState) (step : Step) (x : ℕ) → Taken c i s step → AllStill c → Reached c x → ReachedBy c.shape (words_left c s step) x
 same_reach c i s step x t still r =
     let w : Words = words_of c.shape c.words in
     let same = references-left c i s step t still in
-    let P : List ℕ → Type 0 = λ roots. IsReachable c.shape roots w.fields x in
-    let Q : List ℕ → Type 0 = λ fields. IsReachable c.shape (words_left c s step).roots fields x in
+    let P : List ℕ → Type 0 = λ roots. IsReachableCell c.shape roots w.fields x in
+    let Q : List ℕ → Type 0 = λ fields. IsReachableCell c.shape (words_left c s step).roots fields x in
     subst Q (sym same.1) (subst P (sym same.0) r)
 
 -- a seat was exact before a step that isn't the beginning of a drain

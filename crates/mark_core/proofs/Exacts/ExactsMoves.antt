@@ -1,4 +1,5 @@
--- The moves of the phase in an exact stop: a drain begins with no mark and no value, a sweep keeps what was marked, and what is in use after a sweep is what it kept.
+-- The moves of the phase in an exact stop: a drain begins with no mark and no value, a sweep keeps what was marked, and what is in use after a sweep is what it
+-- kept.
 use Rattle.std.proofs.Common.{ℕ, ◌≡◌, ◌/◌, ◌<◌, ◌≤◌, get_or, arith, refl, sym, ap, ◌∙◌, subst, true, false, ◌&&◌, ◌||◌, eqb, None, ⊎_elim}
 use Rattle.std.specs.Prelude.{IsFalse, is_some, is_none, nat_le}
 use Rattle.std.specs.List.{All, list_any}

@@ -3,13 +3,13 @@ use Rattle.std.proofs.Common.{ℕ, zero, suc, ◌≡◌, ◌+◌, ◌<◌, ◌�
 use Rattle.std.specs.Prelude.{IfSome, slice_index}
 use Rattle.std.proofs.lemmas.Bool.{eqb-false}
 use Rattle.mark_core.specs.Bits.{cell_of, cell_named}
-use Rattle.mark_core.specs.Cells.{IsReachable, field}
+use Rattle.mark_core.specs.Cells.{IsReachableCell, field}
 use Rattle.mark_core.specs.declared.kinds.Shape.{Shape}
 
-pub reach-root : (sh : Shape) (roots fields : List ℕ) (k x : ℕ) → k < length roots → slice_index roots k ≡ x + 1 → IsReachable sh roots fields x
+pub reach-root : (sh : Shape) (roots fields : List ℕ) (k x : ℕ) → k < length roots → slice_index roots k ≡ x + 1 → IsReachableCell sh roots fields x
 reach-root sh roots fields k x h e = ([], (k, h, e))
 
-pub reach-field : (sh : Shape) (roots fields : List ℕ) (d i x : ℕ) → IsReachable sh roots fields d → i < sh.fields → field sh fields d i ≡ x + 1 → IsReachable sh roots fields x
+pub reach-field : (sh : Shape) (roots fields : List ℕ) (d i x : ℕ) → IsReachableCell sh roots fields d → i < sh.fields → field sh fields d i ≡ x + 1 → IsReachableCell sh roots fields x
 reach-field sh roots fields d i x r h e = (d ∷ r.0, ((i, h, e), r.1))
 
 cell_after : (word : ℕ) → (word ≡ 0 → ⊥) → word ≤ 16777216 → word ≡ cell_of word + 1

@@ -7,7 +7,7 @@ use Rattle.mark_core.specs.Layout.{Words, card_count}
 use Rattle.mark_core.specs.Bits.{has_bit, cell_of}
 use Rattle.mark_core.specs.Seats.{is_the, used_in}
 use Rattle.mark_core.specs.Steps.ColourSteps.{may_read_field, popped_after, scan_after, seen_in, cleaning_after, without_cell, fresh_off, popped_off, redirty_off, known_in}
-use Rattle.mark_core.specs.Steps.MutatorSteps.{variable}
+use Rattle.mark_core.specs.Steps.MutatorSteps.{seat_variable}
 use Rattle.mark_core.specs.Parts.{parts}
 use Rattle.mark_core.specs.Effects.{seat_after}
 use Rattle.mark_core.specs.Steps.{AllTrue}
@@ -94,10 +94,10 @@ Owed sh o = IfSome o (λ card. card < card_count sh)
 card_fits : (sh : Shape) (word : ℕ) → IsShape sh → word ≤ sh.cells → (eqb word 0 ≡ false) → card_of (cell_of word) < card_count sh
 card_fits sh word k h e = omega (arith, k.cells, k.whole_blocks, h, positive word e)
 
-pub owes-after : (sh : Shape) (w : Words) (seats : List SeatState) (s : SeatState) (step : Step) (old : ℕ) → IsShape sh → ((v : ℕ) → variable s v ≤ sh.cells) → Owed sh s.owes → AllTrue (parts sh w seats s step) → Owed sh (seat_after sh s step old).owes
+pub owes-after : (sh : Shape) (w : Words) (seats : List SeatState) (s : SeatState) (step : Step) (old : ℕ) → IsShape sh → ((v : ℕ) → seat_variable s v ≤ sh.cells) → Owed sh s.owes → AllTrue (parts sh w seats s step) → Owed sh (seat_after sh s step old).owes
 owes-after sh w seats s (DirtyCard card) old k n h ok = choose (Owed sh) (is_the s.owes card) None s.owes tt h
 owes-after sh w seats s (StoreField v i x) old k n h ok =
-    choose (Owed sh) (used_in s.cache (cell_of (variable s v))) s.owes (Some (card_of (cell_of (variable s v)))) h (card_fits sh (variable s v) k (n v) (not-true _ (and_parts _ _ ok.1.0).0))
+    choose (Owed sh) (used_in s.cache (cell_of (seat_variable s v))) s.owes (Some (card_of (cell_of (seat_variable s v)))) h (card_fits sh (seat_variable s v) k (n v) (not-true _ (and_parts _ _ ok.1.0).0))
 owes-after sh w seats s step old k n h ok = h
 
 abbrev Cleaned : Shape → Option Cleaning → Type 0

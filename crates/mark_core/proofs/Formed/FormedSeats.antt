@@ -10,7 +10,7 @@ use Rattle.mark_core.specs.Shapes.{IsShape}
 use Rattle.mark_core.specs.Layout.{Words}
 use Rattle.mark_core.specs.Bits.{has_bit, reference_in}
 use Rattle.mark_core.specs.Held.{Slot, Slots, put_packet, length_in_hand}
-use Rattle.mark_core.specs.Steps.MutatorSteps.{variable}
+use Rattle.mark_core.specs.Steps.MutatorSteps.{seat_variable}
 use Rattle.mark_core.specs.Parts.{parts}
 use Rattle.mark_core.specs.Effects.{seat_after}
 use Rattle.mark_core.specs.Start.{start_seat, spent_seat}
@@ -44,7 +44,7 @@ env-after sh s (StoreRoot v r) old k = rw length-set k
 env-after sh s step old k = k
 
 -- the record of a seat after its step is in range, where what it read is
-pub seat-kept : (sh : Shape) (w : Words) (seats : List SeatState) (i : ℕ) (s : SeatState) (step : Step) (old : ℕ) → IsShape sh → IsSeat sh i s → ((v : ℕ) → variable s v ≤ sh.cells) → IfSome s.cache MakesFree → Learns sh step old → AllTrue (parts sh w seats s step)
+pub seat-kept : (sh : Shape) (w : Words) (seats : List SeatState) (i : ℕ) (s : SeatState) (step : Step) (old : ℕ) → IsShape sh → IsSeat sh i s → ((v : ℕ) → seat_variable s v ≤ sh.cells) → IfSome s.cache MakesFree → Learns sh step old → AllTrue (parts sh w seats s step)
     → IsSeat sh i (seat_after sh s step old)
 seat-kept sh w seats i s step old k a n m l ok =
     record {

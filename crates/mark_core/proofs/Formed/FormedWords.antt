@@ -29,6 +29,7 @@ use Rattle.mark_core.specs.declared.kinds.Step.TheVariants.{Reserve, Take, Give,
 use Rattle.mark_core.specs.declared.seat.SeatState.{SeatState}
 use Rattle.mark_core.specs.declared.seat.CacheState.{CacheState}
 use Rattle.mark_core.specs.declared.seat.BlockState.{BlockState}
+use Rattle.mark_core.specs.Numbers.{section_span, value_bound}
 
 -- a word of sixty-four bits
 abbrev pub IsWord : ℕ → Type 0
@@ -68,15 +69,15 @@ variable_fits : (sh : Shape) (s : SeatState) (o : Option ℕ) → InRange sh s �
 variable_fits sh s None k = omega arith
 variable_fits sh s (Some v) k = omega (arith, k.shaped.cells, k.env v)
 
-identity_fits : (sh : Shape) (section made word : ℕ) → IsShape sh → section < sh.sections → made ≤ sh.objects → word ≡ section * flag + made → IsWord word
+identity_fits : (sh : Shape) (section made word : ℕ) → IsShape sh → section < sh.sections → made ≤ sh.objects → word ≡ section * section_span + made → IsWord word
 identity_fits sh section made word k h m e = omega (arith, k.sections, k.objects, h, m, e)
 
 -- a word of a new cell
-new_fits : (sh : Shape) (s : SeatState) (a b : Bool) (word : ℕ) → Writer sh s → cond a (eqb word 0) (cond b (nat_lt word flag) (is_some s.section && nat_lt s.made sh.objects && eqb word (unwrap_or s.section 0 * flag + s.made))) ≡ true → IsWord word
+new_fits : (sh : Shape) (s : SeatState) (a b : Bool) (word : ℕ) → Writer sh s → cond a (eqb word 0) (cond b (nat_lt word value_bound) (is_some s.section && nat_lt s.made sh.objects && eqb word (unwrap_or s.section 0 * section_span + s.made))) ≡ true → IsWord word
 new_fits sh s true b word k e = omega (arith, eqb-true word 0 e)
-new_fits sh s false true word k e = omega (arith, ltb-true word flag e)
+new_fits sh s false true word k e = omega (arith, ltb-true word value_bound e)
 new_fits sh s false false word k e =
-    identity_fits sh (unwrap_or s.section 0) s.made word k.range.shaped k.range.section k.made (eqb-true word (unwrap_or s.section 0 * flag + s.made) (and_parts (is_some s.section && nat_lt s.made sh.objects) (eqb word (unwrap_or s.section 0 * flag + s.made)) e).1)
+    identity_fits sh (unwrap_or s.section 0) s.made word k.range.shaped k.range.section k.made (eqb-true word (unwrap_or s.section 0 * section_span + s.made) (and_parts (is_some s.section && nat_lt s.made sh.objects) (eqb word (unwrap_or s.section 0 * section_span + s.made)) e).1)
 
 used_fits : (sh : Shape) (o : Option CacheState) → IfSome o (IsCache sh) → IsWord (used_bits o)
 used_fits sh None k = omega arith

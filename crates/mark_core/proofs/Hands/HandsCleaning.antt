@@ -32,7 +32,7 @@ pub left-read : (o : Option Cleaning) (b word c : ℕ) → left_in (cleaning_aft
 left-read None b word c e = e
 left-read (Some x) b word c e = left_seen x (x.known && eqb (block_of_card x.card) b) word c e
 
--- and what may be scanned has its bit in the word, unless it might be before
+-- 9: what may be scanned has its bit in the word, unless it might be scanned before
 scan_seen : (x : Cleaning) (t : Bool) (b word c : ℕ) → (t ≡ true → block_of_card x.card ≡ b) → may_scan (Some (cond t (seen_in x word) x)) c ≡ true → (may_scan (Some x) c ≡ true) ⊎ ((b ≡ c / 64) × (has_bit word (c % 64) ≡ true))
 scan_seen x true b word c f e =
     let a = and_parts (eqb (block_of_card x.card) (c / 64)) _ (and_parts (in_set (block_of_card x.card) _ c) _ e).0 in

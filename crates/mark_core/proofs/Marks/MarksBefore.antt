@@ -12,7 +12,7 @@ use Rattle.mark_core.specs.Seats.{scan_left, left_in, may_scan, work_in_hand}
 use Rattle.mark_core.specs.Views.{Grasp, grasps, grasp_of, hands, makers}
 use Rattle.mark_core.specs.Cells.{in_use}
 use Rattle.mark_core.specs.Rules.WorldRules.{is_tracing}
-use Rattle.mark_core.specs.Rules.ColourRules.{Marks}
+use Rattle.mark_core.specs.Rules.ColourRules.{AreMarksSound}
 use Rattle.mark_core.specs.Start.{start_seat, spent_seat}
 use Rattle.mark_core.specs.Steps.{Core}
 use Rattle.mark_core.specs.Laws.{IsCore}
@@ -58,7 +58,7 @@ marked-now c k i d h =
     let m : ℕ → Bool = cell_bit w.marks in
     ⊎_elim
     (λ (t : is_tracing w.phase ≡ true).
-    let r : Marks c.shape w.phase w.allocs w.marks w.heads w.entries (hands c.seats) (grasps c.seats) (makers c.seats) = k.sound.marks in
+    let r : AreMarksSound c.shape w.phase w.allocs w.marks w.heads w.entries (hands c.seats) (grasps c.seats) (makers c.seats) = k.sound.marks in
     record {
       popped = at_grasp (λ (g : Grasp). IfSome g.popped (λ x. IsTrue (m x.0))) c.seats i d h (r.popped_marked t);
       fresh = at_grasp (λ (g : Grasp). IfSome g.fresh (λ x. IsTrue (m x))) c.seats i d h (r.fresh_marked t);
@@ -92,7 +92,7 @@ entries-now c k p hp j hj =
 
 -- the rule of marks of these words and seats
 abbrev pub MarksOf : Shape → Words → List SeatState → Type 0
-MarksOf sh w seats = Marks sh w.phase w.allocs w.marks w.heads w.entries (hands seats) (grasps seats) (makers seats)
+MarksOf sh w seats = AreMarksSound sh w.phase w.allocs w.marks w.heads w.entries (hands seats) (grasps seats) (makers seats)
 
 -- the rule of marks, with what it says of seats said of each seat
 pub record MarksHeld (sh : Shape) (phase : ℕ) (allocs marks heads entries : List ℕ) (seats : List SeatState) : Type 0 where
@@ -102,7 +102,7 @@ pub record MarksHeld (sh : Shape) (phase : ℕ) (allocs marks heads entries : Li
   pub published : All (HandPublished sh.fields (cell_bit allocs)) seats
   pub used : All (HandUsed (in_use allocs (makers seats))) seats
 
-pub marks-of : (sh : Shape) (phase : ℕ) (allocs marks heads entries : List ℕ) (seats : List SeatState) → MarksHeld sh phase allocs marks heads entries seats → Marks sh phase allocs marks heads entries (hands seats) (grasps seats) (makers seats)
+pub marks-of : (sh : Shape) (phase : ℕ) (allocs marks heads entries : List ℕ) (seats : List SeatState) → MarksHeld sh phase allocs marks heads entries seats → AreMarksSound sh phase allocs marks heads entries (hands seats) (grasps seats) (makers seats)
 marks-of sh phase allocs marks heads entries seats k =
     record {
       marked_in_use = k.marked_in_use;

@@ -25,7 +25,7 @@ pub record HandMarked (fields : ℕ) (m : ℕ → Bool) (s : SeatState) : Type 0
   pub scan : IsTrue (scan_left fields s.scan) → IfSome s.scan (λ x. IsTrue (m x.0))
   pub left : (c : ℕ) → IsTrue (left_in s.cleaning c) → IsTrue (m c)
 
--- so do the cells that it scans, and those that it may
+-- the cells that a seat scans, and those that it may, pass the test
 pub record HandPublished (fields : ℕ) (a : ℕ → Bool) (s : SeatState) : Type 0 where
   pub scan : IsTrue (scan_left fields s.scan) → IfSome s.scan (λ x. IsTrue (a x.0))
   pub left : (c : ℕ) → IsTrue (may_scan s.cleaning c) → IsTrue (a c)

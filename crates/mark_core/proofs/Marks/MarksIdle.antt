@@ -79,7 +79,7 @@ left-works (Some x) c P e f =
     let none : x.left ≡ 0 = eqb-true x.left 0 (zero_left x.known (eqb x.left 0) x.redirty e) in
     in_set-none (block_of_card x.card) c P (rw none at f)
 
--- nor is a seat with work idle
+-- a seat without work in hand has no cell left in a cleaning
 pub idle-cleaning : (fields : ℕ) (s : SeatState) → work_in_hand fields s ≡ false → cleaning_left s.cleaning ≡ false
 idle-cleaning fields s e = (or_parts _ (cleaning_left s.cleaning) e).1
 

@@ -27,7 +27,7 @@ sits c i s g = record { within = slice_get_within c.seats i s g; is = get_or_fro
 pub of-sits : (P : SeatState → Type 0) (c : Core) (i : ℕ) (s : SeatState) → Sits c i s → All P c.seats → P s
 of-sits P c i s k a = subst P k.is (a i s k.within)
 
--- and a fact of how every seat stands
+-- a fact of how every seat stands, at this one
 standing_at : (P : Standing → Type 0) (c : Core) (i : ℕ) (s : SeatState) → Sits c i s → All P (standings c.seats) → P (standing_of s)
 standing_at P c i s k a = subst (λ (x : SeatState). P (standing_of x)) k.is (at-standing P c.seats i s k.within a)
 

@@ -85,7 +85,7 @@ own_word sh p h =
 starts_in : (sh : Shape) (p : ℕ) → p < sh.packets → in_pool sh (words_of sh (start_words sh)).pools 0 p ≡ true
 starts_in sh p h = ap (λ (w : ℕ). has_bit w (p % 64)) (own_word sh p (word-below sh p h)) ∙ own_bit sh.packets p h
 
--- and the word has no bit past the packets
+-- the word of the empty pool has no bit past the packets
 past_bit : (n p : ℕ) → n ≤ p → has_bit (packet_bits n (p / 64)) (p % 64) ≡ false
 past_bit n p h = ne_eqb _ _ (λ e. omega (arith, bit_at_ones_above (min 64 (n - 64 * (p / 64))) (p % 64) (omega (arith, h)), e))
 

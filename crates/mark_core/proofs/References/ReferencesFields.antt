@@ -9,7 +9,7 @@ use Rattle.mark_core.specs.Seats.{is_phase, free_in, makes, has_making, may_muta
 use Rattle.mark_core.specs.Views.{makers, maker_of}
 use Rattle.mark_core.specs.Cells.{field, FieldsGo}
 use Rattle.mark_core.specs.Rules.HeapRules.{MakesNil, NamesInUse}
-use Rattle.mark_core.specs.Steps.MutatorSteps.{variable, variable_or_nil, in_variables}
+use Rattle.mark_core.specs.Steps.MutatorSteps.{seat_variable, variable_or_nil, in_variables}
 use Rattle.mark_core.specs.Effects.{written}
 use Rattle.mark_core.specs.Steps.{Core}
 use Rattle.mark_core.proofs.Acting.{found, words_left}
@@ -25,6 +25,7 @@ use Rattle.mark_core.specs.declared.kinds.Phase.TheVariants.{Sweep}
 use Rattle.mark_core.specs.declared.kinds.Step.{Step}
 use Rattle.mark_core.specs.declared.kinds.Step.TheVariants.{ReadField, ReadOwn, StoreField, StoreNew, StoreAlloc}
 use Rattle.mark_core.specs.declared.seat.SeatState.{SeatState}
+use Rattle.mark_core.specs.Numbers.{value_bound, section_span}
 
 -- the fields of cells in use go to cells in use
 abbrev pub FieldsUsed : Core → ℕ → SeatState → Step → Type 0
@@ -62,7 +63,7 @@ stored_goes c i s v j (Some w) k e =
     let step : Step = StoreField v j (Some w) in
     let names = k.core.sound.references.seats_in_use in
     let h : w < length s.env = omega (arith, ltb-true w 32 e, (seat-formed c i s step k).env) in
-    nil-on (Used c) (UsedAfter c i s step) (variable s w) (λ y a. used-on c i s step y k refl a) ((own-fact c i s step (λ (t : SeatState). NamesInUse (words_of c.shape c.words).allocs (makers c.seats) t) k names).0 w 0 h)
+    nil-on (Used c) (UsedAfter c i s step) (seat_variable s w) (λ y a. used-on c i s step y k refl a) ((own-fact c i s step (λ (t : SeatState). NamesInUse (words_of c.shape c.words).allocs (makers c.seats) t) k names).0 w 0 h)
 
 -- the fields of a new cell are nil
 pub new-fields : (c : Core) (i : ℕ) (s : SeatState) (x part word : ℕ) → Taken c i s (StoreNew x part word) → c.shape.fields < part → (j : ℕ) → j < c.shape.fields → field c.shape (words_of c.shape c.words).fields x j ≡ 0
@@ -94,7 +95,7 @@ new_at c i s y part word k p x h u j l =
     let after : List ℕ → Type 0 = λ fs. nil_or (UsedAfter c i s step) (field c.shape fs x j) ≡ true in
     ⊎_elim
     (λ (b : nat_lt part c.shape.fields ≡ true).
-    let zero : word ≡ 0 = eqb-true word 0 (subst (λ (t : Bool). cond t (eqb word 0) (cond (eqb part c.shape.fields) (nat_lt word 4294967296) (is_some s.section && nat_lt s.made c.shape.objects && eqb word (unwrap_or s.section 0 * 4294967296 + s.made))) ≡ true) b k.ok.1.1.0) in
+    let zero : word ≡ 0 = eqb-true word 0 (subst (λ (t : Bool). cond t (eqb word 0) (cond (eqb part c.shape.fields) (nat_lt word value_bound) (is_some s.section && nat_lt s.made c.shape.objects && eqb word (unwrap_or s.section 0 * section_span + s.made))) ≡ true) b k.ok.1.1.0) in
     let before : Used c x ≡ true = no_made c i s step x k (λ m. omega (arith, m.1, ltb-true part c.shape.fields b)) u in
     subst after (sym (made_field c s y part word b))
     (field-set w.fields (y * c.shape.fields + part) (x * c.shape.fields + j) word (UsedAfter c i s step) (rw zero refl) (old_field c i s step x j k refl p h before l)))
@@ -114,7 +115,7 @@ stored_at c i s v q o k p x h u j l =
     let a = and_parts (nat_lt v 32 && nat_lt q c.shape.fields && in_variables o) (may_mutate s) k.ok.0 in
     let b = and_parts (nat_lt v 32 && nat_lt q c.shape.fields) (in_variables o) a.0 in
     let before : Used c x ≡ true = no_made c i s step x k (λ m. m) u in
-    field-set w.fields (cell_of (variable s v) * c.shape.fields + q) (x * c.shape.fields + j) (variable_or_nil s o) (UsedAfter c i s step) (stored_goes c i s v q o k b.1) (old_field c i s step x j k refl p h before l)
+    field-set w.fields (cell_of (seat_variable s v) * c.shape.fields + q) (x * c.shape.fields + j) (variable_or_nil s o) (UsedAfter c i s step) (stored_goes c i s v q o k b.1) (old_field c i s step x j k refl p h before l)
 
 -- the fields of cells in use go to cells in use after a step outside the sweep
 pub fields-used : (c : Core) (i : ℕ) (s : SeatState) (step : Step) → Taken c i s step → frees step ≡ false → is_phase (words_of c.shape c.words).phase Sweep ≡ false → FieldsUsed c i s step

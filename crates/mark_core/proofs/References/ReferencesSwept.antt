@@ -45,7 +45,7 @@ kept-used c x k e =
     (λ (a : cell_bit w.marks x ≡ true). k.sound.marks.marked_in_use x (kept-below c x k e) a)
     (either-way (is_swept_block w.next_block (blocks c.seats) (x / 64)) (Used c x) (cell_bit w.marks x) e)
 
--- and stays in use when the bits of a block are stored
+-- a cell that is kept stays in use when the bits of a block are stored
 pub kept-on : (c : Core) (i : ℕ) (s : SeatState) (x : ℕ) → Taken c i s StoreAlloc → Kept c x ≡ true → UsedAfter c i s StoreAlloc x ≡ true
 kept-on c i s x k e =
     let w : Words = words_of c.shape c.words in
@@ -78,7 +78,7 @@ some_of (Some w) e = (w, refl)
 at_section : (env roots : List ℕ) (o : Option ℕ) (w : ℕ) → o ≡ Some w → IfSome o (λ x. (v : ℕ) → v < 32 → slice_index env v ≡ slice_index roots (x * 32 + v)) → (v : ℕ) → v < 32 → slice_index env v ≡ slice_index roots (w * 32 + v)
 at_section env roots o w e k = subst (λ (y : Option ℕ). IfSome y (λ x. (v : ℕ) → v < 32 → slice_index env v ≡ slice_index roots (x * 32 + v))) e k
 
--- and what each seat names, since its variables are roots or nil
+-- what each seat names is in use, since its variables are roots or nil
 swept_env : (c : Core) (p : ℕ → Bool) (t : SeatState) → AllGo p (words_of c.shape c.words).roots → EnvIsRoots (words_of c.shape c.words).roots t → (IsTrue (t.spent || is_none t.section) → All (λ r. r ≡ 0) t.env) → length t.env ≡ 32
     → ((w : ℕ) → t.section ≡ Some w → w * 32 + 32 ≤ length (words_of c.shape c.words).roots) → AllGo p t.env
 swept_env c p t a f z l q j d h =

@@ -96,11 +96,11 @@ of_cards = record { number = card_counter; word = λ w. w.next_card; end = card_
 abbrev IsUnreadAtFirst : Counter → Type 0
 IsUnreadAtFirst q = (sh : Shape) (k : ℕ) → (q.below (start_seat sh k) ≡ false) × (q.below (spent_seat sh k) ≡ false)
 
--- the counter doesn't run away, before the step
+-- before the step the counter, with a raise for each seat that has read it below its end, is past its end by 41 at most
 abbrev IsBounded : Counter → Core → Type 0
 IsBounded q c = q.word (words_of c.shape c.words) + count_by q.below c.seats ≤ q.end c.shape + 41
 
--- nor after it
+-- after the step the counter, with a raise for each seat that has read it below its end, is past its end by 41 at most
 abbrev StaysBounded : Counter → Core → ℕ → SeatState → Step → Type 0
 StaysBounded q c i s step = q.word (words_left c s step) + count_by q.below (seats_left c i s step) ≤ q.end c.shape + 41
 

@@ -56,7 +56,7 @@ push_unswept : (b : ℕ) (sh : Shape) (seats : List SeatState) (k : ℕ) → lis
 push_unswept b sh seats k =
     ap (list_any (is_unswept b)) (map_push (λ (y : SeatState). y.block) seats (start_seat sh k)) ∙ (list_any-append (is_unswept b) (blocks seats) (None ∷ []) ∙ or-false (list_any (is_unswept b) (blocks seats)))
 
--- nor the end of a record that has no block
+-- the end of a record that has no block leaves the blocks in hand
 end_unswept : (b : ℕ) (sh : Shape) (seats : List SeatState) (j : ℕ) (o : Option SeatState) → slice_get seats j ≡ o → other_has_nothing sh o ≡ true → list_any (is_unswept b) (blocks (set seats j (spent_seat sh j))) ≡ list_any (is_unswept b) (blocks seats)
 end_unswept b sh seats j None g e = absurd (false≢true e)
 end_unswept b sh seats j (Some o) g e =

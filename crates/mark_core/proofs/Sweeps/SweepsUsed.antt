@@ -28,6 +28,6 @@ none-used sh world help seats k still x =
 pub use-published : (allocs : List ℕ) (seats : List SeatState) (x : ℕ) → NoneUsed seats → in_use allocs (makers seats) x ≡ cell_bit allocs x
 use-published allocs seats x n = rw (n x) (or-false (cell_bit allocs x))
 
--- and the sweep keeps it where it is spared
+-- where no seat has a used cell, the sweep keeps just the cells that it spares
 pub kept-spared : (nb : ℕ) (bs : List (Option BlockState)) (allocs marks : List ℕ) (seats : List SeatState) (x : ℕ) → NoneUsed seats → is_kept nb bs allocs marks (makers seats) x ≡ is_spared nb bs allocs marks x
 kept-spared nb bs allocs marks seats x n = rw (use-published allocs seats x n) refl

@@ -50,7 +50,7 @@ WasNot s o = (b : ℕ) → IsNot b o → IsNot b s.block
 none_had : (c : Core) (i : ℕ) (s : SeatState) (step : Step) (o : Option BlockState) (b : ℕ) → Taken c i s step → IsNot b s.block → NoneHas b (set (blocks c.seats) i o) → NoneHas b (blocks c.seats)
 none_had c i s step o b t own a = all-back (IsNot b) (blocks c.seats) i o (λ d h. subst (IsNot b) (sym (own-block c i s step d t)) own) a
 
--- nor has that seat now
+-- the seat that acts has no block b in hand after the step, where it had none before
 own_now : (c : Core) (i : ℕ) (s : SeatState) (step : Step) (o : Option BlockState) (b : ℕ) → Taken c i s step → NoneHas b (set (blocks c.seats) i o) → IsNot b o
 own_now c i s step o b t a =
     let h : i < length (blocks c.seats) = rw length-map (within c i s step t) in

@@ -22,6 +22,7 @@ use Rattle.mark_core.specs.declared.kinds.Step.{Step}
 use Rattle.mark_core.specs.declared.kinds.Step.TheVariants.{Reserve, Take, Give, Credit, Push, Pop, ReadAlloc, ReadField, ReadRoot, SetMark, DirtyCard, ClearCard, ReadMarks, ReadPhase, ReadOwn, ReadCat, StoreField, StoreRoot, ClaimBlock, ReleaseBlock, ReadFree, StoreNew, PublishCells, EnterStep, LeaveStep, Observe, DropStep, NextBlock, ReadBlockMarks, StoreAlloc, ClearMarks, StoreLength, ReadLength, JoinHelpStep, LeaveHelpStep}
 use Rattle.mark_core.specs.declared.seat.SeatState.{SeatState}
 use Rattle.mark_core.specs.declared.seat.CacheState.{CacheState}
+use Rattle.mark_core.specs.Bits.{flag}
 
 -- an admitted seat is neither active nor knows that the world is stopped
 not_admitted : (s : SeatState) (P : Type 0) → Fits (standing_of s) → (s.active || s.knows) ≡ true → IsTrue s.admitted → P
@@ -178,7 +179,7 @@ local-at sh w seats s LeaveStep old k f b ok =
       uncached = λ e. cache;
     }
 local-at sh w seats s Observe old k f b ok =
-    let still = λ (e : IsFalse (s.active || (s.knows || (s.raised && eqb old 4294967296)) || s.admitted)). observed_out s.active s.knows s.admitted (s.raised && eqb old 4294967296) e in
+    let still = λ (e : IsFalse (s.active || (s.knows || (s.raised && eqb old flag)) || s.admitted)). observed_out s.active s.knows s.admitted (s.raised && eqb old flag) e in
     record { outside = λ e. k.outside (still e); calm = k.calm; unseen = λ e. k.unseen (still e); uncached = k.uncached }
 local-at sh w seats s DropStep old k f b ok = record { outside = λ e. absurd (true≢false e); calm = λ e. absurd (true≢false e); unseen = λ e. absurd (true≢false e); uncached = k.uncached }
 local-at sh w seats s NextBlock old k f b ok =

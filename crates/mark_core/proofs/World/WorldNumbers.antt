@@ -27,7 +27,7 @@ stands world help ss i x k few h is =
       few = others-few ss i few;
     }
 
--- the others and seat i as it stands now
+-- the numbers count the other seats, and seat i as it stands now
 pub numbers-moved : (world help world' help' : ℕ) (ss : List Standing) (i : ℕ) (y : Standing) → Numbers world help ss → i < length ss → Stands world' help' (others ss i) y → Numbers world' help' (set ss i y)
 numbers-moved world help world' help' ss i y k h m =
     record {

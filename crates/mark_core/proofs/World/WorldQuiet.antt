@@ -45,7 +45,7 @@ hand-after sh w seats s (StoreLength p) old k e h ok = absent s p _ h (and_parts
 hand-after sh w seats s (ReadLength p) old k e h ok = absent s p _ h (and_parts _ _ ok.0).1
 hand-after sh w seats s step old k e h ok = h
 
--- and the heads stay
+-- outside tracing the heads of packets stay
 pub heads-after : (sh : Shape) (w : Words) (seats : List SeatState) (s : SeatState) (step : Step) (v : ℕ) → IsFalse (holds_any s.held) → AllTrue (parts sh w seats s step) → (put_word (place sh s step) v w).heads ≡ w.heads
 heads-after sh w seats s (StoreLength p) v h ok = absent s p _ h (and_parts _ _ ok.0).1
 heads-after sh w seats s (ReadLength p) v h ok = absent s p _ h (and_parts _ _ ok.0).1

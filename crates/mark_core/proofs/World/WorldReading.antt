@@ -6,9 +6,9 @@ use Rattle.std.proofs.lemmas.Bool.{cases_Bool, false≢true, or_cases}
 use Rattle.std.proofs.lemmas.List.{length-map, get_or-map}
 use Rattle.std.proofs.lemmas.List.Elements.{All-map}
 use Rattle.std.proofs.lemmas.List.Sums.{get_or-le-sum_by}
-use Rattle.mark_core.specs.Bits.{flag_where}
+use Rattle.mark_core.specs.Bits.{flag_where, flag}
 use Rattle.mark_core.specs.Views.{Standing, standings, standing_of, some_knows}
-use Rattle.mark_core.specs.Rules.WorldRules.{World, NoneActive, NoneAdmitted, HelpsOnly, is_counted, is_raised, is_helping, is_opened}
+use Rattle.mark_core.specs.Rules.WorldRules.{World, NoneActive, NoneAdmitted, HelpsOnly, is_in_world, is_raised, is_helping, is_opened}
 use Rattle.mark_core.specs.Strong.{IsStrongSeat}
 use Rattle.mark_core.proofs.Count.CountTests.{bit, bit-below, bit-zero}
 use Rattle.mark_core.proofs.Count.CountRange.{count-cons, count-none}
@@ -66,7 +66,7 @@ passes-counted f xs k d h e = omega (arith, get_or-le-sum_by (λ x. bit (f x)) x
 none_passes : {X : Type 0} (f : X → Bool) (xs : List X) → count_by f xs ≡ 0 → All (λ x. f x ≡ false) xs
 none_passes f xs e k d h = bit-zero (f (get_or xs k d)) (omega (arith, get_or-le-sum_by (λ x. bit (f x)) xs k d h, e))
 
-flag_bit : (b : Bool) → flag_where b ≡ 4294967296 * bit b
+flag_bit : (b : Bool) → flag_where b ≡ flag * bit b
 flag_bit true = refl
 flag_bit false = refl
 
@@ -140,7 +140,7 @@ numbers-of sh world help seats w k =
 
 -- the rule of the world of the standings alone, and what is true of each besides
 pub record StandsRight (world help : ℕ) (ss : List Standing) : Type 0 where
-  pub world_word : world ≡ count_by is_counted ss + flag_where (list_any is_raised ss)
+  pub world_word : world ≡ count_by is_in_world ss + flag_where (list_any is_raised ss)
   pub one_raised : count_by is_raised ss ≤ 1
   pub help_word : help ≡ count_by is_helping ss + flag_where (list_any is_opened ss)
   pub opened_knows : All (λ (s : Standing). IsTrue s.opened → IsTrue s.knows × IsFalse s.alone) ss

@@ -7,6 +7,7 @@ use Rattle.std.proofs.lemmas.List.Sums.{sum_by-set, count_by-le-length}
 use Rattle.mark_core.specs.Views.{Standing}
 use Rattle.mark_core.proofs.Count.CountTests.{bit}
 use Rattle.mark_core.proofs.Count.CountRange.{count-cons}
+use Rattle.mark_core.specs.Bits.{flag}
 
 -- how many seats stand how
 pub record Census : Type 0 where
@@ -76,9 +77,9 @@ census-fits (x ∷ ss) a =
 
 -- the rule of the world on the numbers
 pub record IsTally (world help : ℕ) (t : Census) : Type 0 where
-  pub world_word : world ≡ t.counted + 4294967296 * t.raised
+  pub world_word : world ≡ t.counted + flag * t.raised
   pub one_raised : t.raised ≤ 1
-  pub help_word : help ≡ t.helping + 4294967296 * t.opened
+  pub help_word : help ≡ t.helping + flag * t.opened
   pub admitted_stopped : 0 < t.admitted → 0 < t.knows
   pub knows_stopped : 0 < t.knows → t.active ≡ 0
   pub alone_unhelped : 0 < t.alone → t.admitted ≡ 0

@@ -7,7 +7,7 @@ use Rattle.std.proofs.lemmas.Nat.Bits.{bit_at_or, bit_at-pow_same, bit_at-pow_ot
 use Rattle.mark_core.specs.Bits.{flag, has_flag}
 use Rattle.mark_core.proofs.Count.CountTests.{bit}
 
-pub flag-is : (word c r : ℕ) → word ≡ c + 4294967296 * r → c ≤ 42 → r ≤ 1 → bit (has_flag word) ≡ r
+pub flag-is : (word c r : ℕ) → word ≡ c + flag * r → c ≤ 42 → r ≤ 1 → bit (has_flag word) ≡ r
 flag-is word c r e h l =
     ⊎_elim
     (λ (b : word < flag). ap (λ x. bit (not x)) (lt-ltb word flag b) ∙ omega arith)
@@ -31,7 +31,7 @@ or_bits a b i h l =
     (cases_lt i 32)
 
 -- the flag is set beside the count
-pub or-flag : (word c r : ℕ) → word ≡ c + 4294967296 * r → c ≤ 42 → r ≤ 1 → bit_or word flag ≡ c + 4294967296
+pub or-flag : (word c r : ℕ) → word ≡ c + flag * r → c ≤ 42 → r ≤ 1 → bit_or word flag ≡ c + flag
 or-flag word c r e h l =
     let at : word ≡ r * 2 ^ 32 + c = omega (arith, e) in
     rw at (same_from_bits (bit_or (r * 2 ^ 32 + c) (2 ^ 32)) (1 * 2 ^ 32 + c) (λ i. or_bits r c i l (omega arith)) ∙ omega arith)

@@ -9,7 +9,7 @@ use Rattle.mark_core.specs.Places.{counter_at}
 use Rattle.mark_core.specs.Bits.{cell_of}
 use Rattle.mark_core.specs.Held.{length_in_hand}
 use Rattle.mark_core.specs.Steps.PacketSteps.{pool_for}
-use Rattle.mark_core.specs.Steps.MutatorSteps.{cached_block, variable, part_at}
+use Rattle.mark_core.specs.Steps.MutatorSteps.{cached_block, seat_variable, part_at}
 use Rattle.mark_core.specs.Steps.SweepSteps.{own_block}
 use Rattle.mark_core.specs.Parts.{parts}
 use Rattle.mark_core.specs.Effects.{place}
@@ -47,7 +47,7 @@ pub record InRange (sh : Shape) (s : SeatState) : Type 0 where
   pub shaped : IsShape sh
   pub section : unwrap_or s.section 0 < sh.sections
   pub lengths : (p : ℕ) → p < sh.packets → length_in_hand s.held p ≤ sh.entries
-  pub env : (v : ℕ) → variable s v ≤ sh.cells
+  pub env : (v : ℕ) → seat_variable s v ≤ sh.cells
   pub cache : cached_block s < block_count sh
   pub block : own_block s < block_count sh
 
@@ -56,7 +56,7 @@ pub record Reaches (sh : Shape) (s : SeatState) (step : Step) : Type 0 where
   pub shaped : IsShape sh
   pub section : unwrap_or s.section 0 < sh.sections
   pub lengths : (p : ℕ) → p < sh.packets → length_in_hand s.held p ≤ sh.entries
-  pub env : IsTrue (stores_in_object step) → (v : ℕ) → variable s v ≤ sh.cells
+  pub env : IsTrue (stores_in_object step) → (v : ℕ) → seat_variable s v ≤ sh.cells
   pub cache : cached_block s < block_count sh
   pub block : own_block s < block_count sh
 
@@ -129,8 +129,8 @@ placed-by sh w seats s (ReadValue c) k ok = first c sh.cells _ ok.0
 placed-by sh w seats s (ReadIdent c) k ok = first c sh.cells _ ok.0
 placed-by sh w seats s (ReadCat v) k ok = in-row 0 sh.sections 32 v (omega (arith, k.shaped.sections)) (first v 32 _ ok.0)
 placed-by sh w seats s (StoreField v i x) k ok =
-    let a = first_two v 32 i sh.fields _ (and_parts _ _ ok.0).0 in in-row (cell_of (variable s v)) sh.cells sh.fields i (variable_cell sh (variable s v) _ k.shaped (k.env refl v) ok.1.0) a.1
-placed-by sh w seats s (StoreValue v n) k ok = variable_cell sh (variable s v) _ k.shaped (k.env refl v) ok.1.0
+    let a = first_two v 32 i sh.fields _ (and_parts _ _ ok.0).0 in in-row (cell_of (seat_variable s v)) sh.cells sh.fields i (variable_cell sh (seat_variable s v) _ k.shaped (k.env refl v) ok.1.0) a.1
+placed-by sh w seats s (StoreValue v n) k ok = variable_cell sh (seat_variable s v) _ k.shaped (k.env refl v) ok.1.0
 placed-by sh w seats s (StoreRoot v r) k ok = in-row (unwrap_or s.section 0) sh.sections 32 v k.section (first v 32 _ ok.0)
 placed-by sh w seats s (ClaimBlock b) k ok = first b (block_count sh) _ ok.0
 placed-by sh w seats s ReleaseBlock k ok = k.cache

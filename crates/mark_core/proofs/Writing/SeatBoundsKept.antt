@@ -11,7 +11,7 @@ use Rattle.mark_core.specs.Bits.{has_bit, reference_in}
 use Rattle.mark_core.specs.Held.{has_length, length_in_hand, put_packet}
 use Rattle.mark_core.specs.Seats.{is_the, last_made}
 use Rattle.mark_core.specs.Bounds.{IsReference, SlotFits, CacheFits, SeatBounds}
-use Rattle.mark_core.specs.Steps.MutatorSteps.{fits_part, has_reference, names_last, variable, variable_or_nil, with_free, with_making, with_made, without_used}
+use Rattle.mark_core.specs.Steps.MutatorSteps.{fits_part, has_reference, names_last, seat_variable, variable_or_nil, with_free, with_making, with_made, without_used}
 use Rattle.mark_core.specs.Steps.ColourSteps.{with_alloc_word}
 use Rattle.mark_core.specs.Steps.SweepSteps.{with_mark_word, with_stored}
 use Rattle.mark_core.specs.Parts.{parts}
@@ -86,7 +86,7 @@ pub root-fits : (sh : Shape) (s : SeatState) (r : ℕ) → SeatBounds sh s → h
 root-fits sh s r k e = reference-fits sh s r k.env k.got k.cache e
 
 -- each variable is nil, or names a cell that exists
-pub variable-fits : (sh : Shape) (s : SeatState) (v : ℕ) → All (IsReference sh) s.env → IsReference sh (variable s v)
+pub variable-fits : (sh : Shape) (s : SeatState) (v : ℕ) → All (IsReference sh) s.env → IsReference sh (seat_variable s v)
 variable-fits sh s v k =
     ⊎_elim
     (λ (h : v < length s.env). All-get_or (IsReference sh) s.env v 0 h k)

@@ -51,12 +51,12 @@ has_value c g = is_the g.value c
 abbrev pub is_marked_soon : List ℕ → List Grasp → ℕ → Bool
 is_marked_soon marks gs c = cell_bit marks c || list_any (has_value c) gs
 
--- the word isn't nil, and goes to a cell with this property
+-- the word isn't nil, and names a cell with this property
 abbrev pub goes_to : (ℕ → Bool) → ℕ → Bool
 goes_to p word = not (word == 0) && p (word - 1)
 
 -- what is marked
-pub record Marks (sh : Shape) (phase : ℕ) (allocs marks heads entries : List ℕ) (hs : List Slots) (gs : List Grasp) (ms : List Maker) : Type 0 where
+pub record AreMarksSound (sh : Shape) (phase : ℕ) (allocs marks heads entries : List ℕ) (hs : List Slots) (gs : List Grasp) (ms : List Maker) : Type 0 where
   pub marked_in_use : EachCell sh (λ c. IsTrue (cell_bit marks c) → IsTrue (in_use allocs ms c))
   pub entries_marked : IsTrue (is_tracing phase) → EachPacket sh (λ p. (k : ℕ) → k < packet_length heads hs p → IsTrue (goes_to (cell_bit marks) (entry sh entries p k)))
   pub popped_marked : IsTrue (is_tracing phase) → All (λ (g : Grasp). IfSome g.popped (λ x. IsTrue (cell_bit marks x.0))) gs
@@ -76,7 +76,7 @@ pub data IsWaiting (sh : Shape) (cards heads entries : List ℕ) (hs : List Slot
   dirty : slice_index cards (card_of c) ≡ 1 → IsWaiting sh cards heads entries hs gs c
   cleaned : IsTrue (list_any (cleans_card (card_of c)) gs) → IsWaiting sh cards heads entries hs gs c
 
--- a black cell, or one that a scan is turning black: each field is nil, goes to a marked cell or a value in hand, or is still to be read
+-- a black cell, or one that a scan is turning black: each field is nil, names a marked cell or a value in hand, or is still to be read
 abbrev pub IsScanned : Shape → List ℕ → List ℕ → List Grasp → ℕ → Type 0
 IsScanned sh marks fields gs c =
     EachField sh (λ i. IsTrue (nil_or (is_marked_soon marks gs) (field sh fields c i) || list_any (will_read c i) gs))

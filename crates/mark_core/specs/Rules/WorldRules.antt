@@ -12,8 +12,8 @@ use Rattle.mark_core.specs.declared.kinds.Phase.TheVariants.{Idle, Marking, Drai
 use Rattle.mark_core.specs.declared.seat.SeatState.{SeatState}
 
 -- the seat is in the world's number
-abbrev pub is_counted : Standing → Bool
-is_counted s = s.counted
+abbrev pub is_in_world : Standing → Bool
+is_in_world s = s.counted
 
 -- the flag of the world is the seat's own
 abbrev pub is_raised : Standing → Bool
@@ -58,7 +58,7 @@ pub record IsCalm (s : SeatState) : Type 0 where
 -- who is inside the world, who stopped it, and who helps
 pub record World (sh : Shape) (world help : ℕ) (ss : List Standing) (seats : List SeatState) : Type 0 where
   -- the world's number is that of the counted seats, and its flag is set where a seat is raised
-  pub world_word : world ≡ count_by is_counted ss + flag_where (list_any is_raised ss)
+  pub world_word : world ≡ count_by is_in_world ss + flag_where (list_any is_raised ss)
   pub one_raised : count_by is_raised ss ≤ 1
   -- the number of help is that of the helping seats, and its flag is set where a seat has opened
   pub help_word : help ≡ count_by is_helping ss + flag_where (list_any is_opened ss)

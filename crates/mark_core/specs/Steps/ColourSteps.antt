@@ -11,6 +11,7 @@ use Rattle.mark_core.specs.declared.seat.SeatState.{SeatState}
 use Rattle.mark_core.specs.declared.seat.Cleaning.{Cleaning}
 use Rattle.mark_core.specs.declared.seat.BlockState.{BlockState}
 use Rattle.mark_core.specs.Cards.{block_cells, block_of_card, card_bits, card_of}
+use Rattle.mark_core.specs.Numbers.{section_variables}
 
 -- a popped cell of block b, once the block's allocation bits were read: it stays only where its bit is clear
 abbrev pub popped_after : Option (ℕ × Bool) → ℕ → ℕ → Option (ℕ × Bool)
@@ -41,6 +42,7 @@ with_alloc_word (Some x) b word = Some (if x.block == b then record x { alloc_wo
 abbrev pub read_alloc_parts : Shape → SeatState → ℕ → List Bool
 read_alloc_parts sh s b = (nat_lt b (block_count sh) && takes_part s) ∷ []
 
+-- 9: a popped cell of the block comes into scan where its bit is set; a cleaning loses its unpublished cells; a block in hand keeps the word
 abbrev pub read_alloc_effect : SeatState → ℕ → Effect
 read_alloc_effect s b =
     reads
@@ -67,6 +69,7 @@ abbrev pub read_field_parts : Shape → SeatState → ℕ → ℕ → List Bool
 read_field_parts sh s c i =
     (nat_lt c sh.cells && nat_lt i sh.fields && may_read_field sh s c i) ∷ not (is_some s.popped || is_some s.value || is_some s.fresh) ∷ []
 
+-- 10: the cell in scan is read up to this field, and the cell that the field names is the value to mark
 abbrev pub read_field_effect : Shape → SeatState → ℕ → ℕ → Effect
 read_field_effect sh s c i =
     reads (field_at sh c i) (λ old. record s { scan = Some (c, i + 1); cleaning = without_cell s.cleaning c; value = cell_named old })
@@ -74,8 +77,9 @@ read_field_effect sh s c i =
 -- 10: a tracer loads a root
 abbrev pub read_root_parts : Shape → ℕ → SeatState → ℕ → ℕ → List Bool
 read_root_parts sh phase s section v =
-    (nat_lt section sh.sections && nat_lt v 32 && may_trace phase s && holds_any s.held) ∷ not (work_in_hand sh.fields s) ∷ []
+    (nat_lt section sh.sections && nat_lt v section_variables && may_trace phase s && holds_any s.held) ∷ not (work_in_hand sh.fields s) ∷ []
 
+-- 10: the cell that the root names is the value to mark
 abbrev pub read_root_effect : SeatState → ℕ → ℕ → Effect
 read_root_effect s section v = reads (root_at section v) (λ old. record s { value = cell_named old })
 
@@ -83,6 +87,7 @@ read_root_effect s section v = reads (root_at section v) (λ old. record s { val
 abbrev pub set_mark_parts : Shape → ℕ → SeatState → ℕ → List Bool
 set_mark_parts sh phase s c = (nat_lt c sh.cells && is_the s.value c) ∷ may_trace phase s ∷ []
 
+-- 11: the mark bit is set; a cell that was white is fresh, and no value is left to mark
 abbrev pub set_mark_effect : SeatState → ℕ → Effect
 set_mark_effect s c =
     changes
@@ -109,6 +114,7 @@ redirty_off (Some x) card = Some (if x.card == card then record x { redirty = fa
 abbrev pub dirty_card_parts : Shape → SeatState → ℕ → List Bool
 dirty_card_parts sh s card = (nat_lt card (card_count sh) && takes_part s) ∷ []
 
+-- 12: the card is dirty, and the seat owes it nothing more
 abbrev pub dirty_card_effect : SeatState → ℕ → Effect
 dirty_card_effect s card =
     stores
@@ -125,6 +131,7 @@ dirty_card_effect s card =
 abbrev pub clear_card_parts : Shape → ℕ → SeatState → ℕ → List Bool
 clear_card_parts sh phase s card = (nat_lt card (card_count sh) && may_trace phase s && holds_any s.held) ∷ not (work_in_hand sh.fields s) ∷ []
 
+-- 13: the card is clean; where it was dirty, its cleaning begins
 abbrev pub clear_card_effect : SeatState → ℕ → Effect
 clear_card_effect s card =
     changes
@@ -145,6 +152,7 @@ known_in (Some x) b word =
 abbrev pub read_marks_parts : Shape → SeatState → ℕ → List Bool
 read_marks_parts sh s b = (nat_lt b (block_count sh) && takes_part s) ∷ []
 
+-- 14: a cleaning of a card in the block learns which cells are marked
 abbrev pub read_marks_effect : SeatState → ℕ → Effect
 read_marks_effect s b = reads (mark_at b) (λ old. record s { cleaning = known_in s.cleaning b old })
 
@@ -152,6 +160,7 @@ read_marks_effect s b = reads (mark_at b) (λ old. record s { cleaning = known_i
 abbrev pub read_card_parts : Shape → ℕ → List Bool
 read_card_parts sh card = nat_lt card (card_count sh) ∷ []
 
+-- 15: nothing changes
 abbrev pub read_card_effect : SeatState → ℕ → Effect
 read_card_effect s card = reads (card_at card) (λ old. s)
 

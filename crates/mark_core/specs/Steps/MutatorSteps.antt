@@ -3,7 +3,7 @@ use Rattle.std.specs.Prelude.{ℕ, ◌+◌, ◌-◌, ◌*◌, ◌/◌, ◌%◌, 
 use Rattle.std.specs.List.{list_any}
 use Rattle.mark_core.specs.Layout.{block_count}
 use Rattle.mark_core.specs.Places.{root_at, owner_at, alloc_at, identity_at, value_at, field_at}
-use Rattle.mark_core.specs.Bits.{with_bit, without_bit, complement, cell_of, reference_in, flag}
+use Rattle.mark_core.specs.Bits.{with_bit, without_bit, complement, cell_of, reference_in}
 use Rattle.mark_core.specs.Seats.{is_phase, is_the, may_mutate, free_in, used_in, has_used, is_unread, has_making, makes, last_made, cache_block}
 use Rattle.mark_core.specs.Effect.{Effect, reads, stores, changes}
 use Rattle.mark_core.specs.declared.kinds.Shape.{Shape}
@@ -11,6 +11,7 @@ use Rattle.mark_core.specs.declared.kinds.Phase.TheVariants.{Idle}
 use Rattle.mark_core.specs.declared.seat.SeatState.{SeatState}
 use Rattle.mark_core.specs.declared.seat.CacheState.{CacheState}
 use Rattle.mark_core.specs.Cards.{block_cells, card_of}
+use Rattle.mark_core.specs.Numbers.{section_variables, section_span, value_bound}
 
 -- the seat's variables or its register name cell c
 abbrev pub knows_cell : SeatState → ℕ → Bool
@@ -20,59 +21,66 @@ knows_cell s c = (s.got == c + 1) || list_any (λ x. x == c + 1) s.env
 abbrev pub read_object_parts : Shape → SeatState → ℕ → List Bool
 read_object_parts sh s c = (nat_lt c sh.cells && may_mutate s) ∷ knows_cell s c ∷ []
 
+-- 17: a mutator reads a field of an object that it knows
 abbrev pub read_own_parts : Shape → SeatState → ℕ → ℕ → List Bool
 read_own_parts sh s c i = (nat_lt c sh.cells && nat_lt i sh.fields && may_mutate s) ∷ knows_cell s c ∷ []
 
+-- 17: the register has the reference in the field
 abbrev pub read_own_effect : Shape → SeatState → ℕ → ℕ → Effect
 read_own_effect sh s c i = reads (field_at sh c i) (λ old. record s { got = reference_in old })
 
+-- 17: nothing changes
 abbrev pub read_value_effect : SeatState → ℕ → Effect
 read_value_effect s c = reads (value_at c) (λ old. s)
 
+-- 17: nothing changes
 abbrev pub read_identity_effect : SeatState → ℕ → Effect
 read_identity_effect s c = reads (identity_at c) (λ old. s)
 
 -- 17: a warehouse reads a variable of the catalogue
 abbrev pub read_cat_parts : SeatState → ℕ → List Bool
-read_cat_parts s v = (nat_lt v 32 && may_mutate s) ∷ not (is_the s.section 0) ∷ []
+read_cat_parts s v = (nat_lt v section_variables && may_mutate s) ∷ not (is_the s.section 0) ∷ []
 
+-- 17: the register has the reference in the catalogue's variable
 abbrev pub read_cat_effect : SeatState → ℕ → Effect
 read_cat_effect s v = reads (root_at 0 v) (λ old. record s { got = reference_in old })
 
 -- variable v of the seat
-abbrev pub variable : SeatState → ℕ → ℕ
-variable s v = slice_index s.env v
+abbrev pub seat_variable : SeatState → ℕ → ℕ
+seat_variable s v = slice_index s.env v
 
 -- variable v names an object of the seat's section
 abbrev pub has_own : List ℕ → SeatState → ℕ → Bool
-has_own identities s v = not (variable s v == 0) && is_the s.section (slice_index identities (variable s v - 1) / flag)
+has_own identities s v = not (seat_variable s v == 0) && is_the s.section (slice_index identities (seat_variable s v - 1) / section_span)
 
 -- no variable, or one that exists
 abbrev pub in_variables : Option ℕ → Bool
 in_variables None = true
-in_variables (Some w) = nat_lt w 32
+in_variables (Some w) = nat_lt w section_variables
 
 -- what variable w holds, or nil where none is named
 abbrev pub variable_or_nil : SeatState → Option ℕ → ℕ
 variable_or_nil s None = 0
-variable_or_nil s (Some w) = variable s w
+variable_or_nil s (Some w) = seat_variable s w
 
 -- 18: a mutator stores a reference in an object, and owes its card unless nobody else can know the object
 abbrev pub store_field_parts : Shape → List ℕ → SeatState → ℕ → ℕ → Option ℕ → List Bool
 store_field_parts sh identities s v i w =
-    (nat_lt v 32 && nat_lt i sh.fields && in_variables w && may_mutate s) ∷ has_own identities s v ∷ is_none s.owes ∷ []
+    (nat_lt v section_variables && nat_lt i sh.fields && in_variables w && may_mutate s) ∷ has_own identities s v ∷ is_none s.owes ∷ []
 
+-- 18: the field has the reference; the seat owes the card, unless the object is a used cell of its cache
 abbrev pub store_field_effect : Shape → SeatState → ℕ → ℕ → Option ℕ → Effect
 store_field_effect sh s v i w =
-    let c = cell_of (variable s v) in
+    let c = cell_of (seat_variable s v) in
     stores (field_at sh c i) (variable_or_nil s w) (record s { owes = if used_in s.cache c then s.owes else Some (card_of c) })
 
 -- 18: a mutator stores a value in an object
 abbrev pub store_value_parts : List ℕ → SeatState → ℕ → List Bool
-store_value_parts identities s v = (nat_lt v 32 && may_mutate s) ∷ has_own identities s v ∷ is_none s.owes ∷ []
+store_value_parts identities s v = (nat_lt v section_variables && may_mutate s) ∷ has_own identities s v ∷ is_none s.owes ∷ []
 
+-- 18: the object has the value
 abbrev pub store_value_effect : SeatState → ℕ → ℕ → Effect
-store_value_effect s v n = stores (value_at (cell_of (variable s v))) n s
+store_value_effect s v n = stores (value_at (cell_of (seat_variable s v))) n s
 
 -- the reference names the used cell made last
 abbrev pub names_last : Option CacheState → ℕ → Bool
@@ -84,8 +92,9 @@ has_reference s r = (r == 0) || (r == s.got) || list_any (λ x. x == r) s.env ||
 
 -- 19: a mutator stores a reference in a root of its section
 abbrev pub store_root_parts : SeatState → ℕ → ℕ → List Bool
-store_root_parts s v r = (nat_lt v 32 && may_mutate s) ∷ has_reference s r ∷ (is_none s.owes && not (has_making s.cache)) ∷ []
+store_root_parts s v r = (nat_lt v section_variables && may_mutate s) ∷ has_reference s r ∷ (is_none s.owes && not (has_making s.cache)) ∷ []
 
+-- 19: the root has the reference, as has the copy of the variable in the record, and the register is empty
 abbrev pub store_root_effect : SeatState → ℕ → ℕ → Effect
 store_root_effect s v r = stores (root_at (unwrap_or s.section 0) v) r (record s { env = slice_set s.env v (reference_in r); got = 0 })
 
@@ -94,6 +103,7 @@ abbrev pub claim_block_parts : Shape → ℕ → SeatState → ℕ → List Bool
 claim_block_parts sh phase s b =
     (nat_lt b (block_count sh) && is_none s.cache) ∷ ((s.active || s.knows) && is_some s.section) ∷ (not s.knows || is_phase phase Idle) ∷ []
 
+-- 20: where the block had no owner it is the seat's cache, unread
 abbrev pub claim_block_effect : SeatState → ℕ → Effect
 claim_block_effect s b =
     changes
@@ -112,6 +122,7 @@ cached_block s = unwrap_or (cache_block s.cache) 0
 abbrev pub release_block_parts : SeatState → List Bool
 release_block_parts s = is_some s.cache ∷ (not (has_used s.cache) && not (has_making s.cache)) ∷ []
 
+-- 21: the block has no owner, and the seat no cache
 abbrev pub release_block_effect : SeatState → Effect
 release_block_effect s = stores (owner_at (cached_block s)) 0 (record s { cache = None })
 
@@ -124,10 +135,11 @@ with_free (Some x) word = Some (record x { unread = false; free = complement wor
 abbrev pub read_free_parts : SeatState → List Bool
 read_free_parts s = is_unread s.cache ∷ []
 
+-- 22: the free cells of the cache are known
 abbrev pub read_free_effect : SeatState → Effect
 read_free_effect s = reads (alloc_at (cached_block s)) (λ old. record s { cache = with_free s.cache old })
 
--- the first word goes to a free cell, and each further one to the cell being made
+-- the first word is stored in a free cell, and each further one in the cell being made
 abbrev pub is_next_part : SeatState → ℕ → ℕ → Bool
 is_next_part s c part = if part == 0 then free_in s.cache c && not (has_making s.cache) else makes s.cache c part
 
@@ -135,10 +147,10 @@ is_next_part s c part = if part == 0 then free_in s.cache c && not (has_making s
 abbrev pub fits_part : Shape → SeatState → ℕ → ℕ → Bool
 fits_part sh s part word =
     if nat_lt part sh.fields then word == 0
-    else if part == sh.fields then nat_lt word flag
-    else is_some s.section && nat_lt s.made sh.objects && (word == unwrap_or s.section 0 * flag + s.made)
+    else if part == sh.fields then nat_lt word value_bound
+    else is_some s.section && nat_lt s.made sh.objects && (word == unwrap_or s.section 0 * section_span + s.made)
 
--- where a word of a new cell goes
+-- the place where a word of a new cell is stored
 abbrev pub part_at : Shape → ℕ → ℕ → ℕ × ℕ
 part_at sh c part = if nat_lt part sh.fields then field_at sh c part else if part == sh.fields then value_at c else identity_at c
 
@@ -156,6 +168,7 @@ with_made (Some x) c = Some (record x { free = without_bit x.free (c % block_cel
 abbrev pub store_new_parts : Shape → SeatState → ℕ → ℕ → ℕ → List Bool
 store_new_parts sh s c part word = (nat_lt c sh.cells && nat_le part (sh.fields + 1) && may_mutate s) ∷ is_next_part s c part ∷ fits_part sh s part word ∷ []
 
+-- 23: the part is stored; with the last part, the identity, the cell is made and used
 abbrev pub store_new_effect : Shape → SeatState → ℕ → ℕ → ℕ → Effect
 store_new_effect sh s c part word =
     stores
@@ -180,6 +193,7 @@ without_used (Some x) = Some (record x { used = 0; last = None })
 abbrev pub publish_cells_parts : SeatState → List Bool
 publish_cells_parts s = is_some s.cache ∷ (is_none s.owes && not (has_making s.cache)) ∷ []
 
+-- 24: the allocation bits of the used cells are set, and no cell is used any more
 abbrev pub publish_cells_effect : SeatState → Effect
 publish_cells_effect s =
     changes (alloc_at (cached_block s)) (λ old. bit_or old (used_bits s.cache)) (λ old. record s { cache = without_used s.cache })

@@ -6,9 +6,10 @@ ghost use Rattle.mark_core.specs.Seats.{is_the as is_the_number};
 ghost use Rattle.mark_core.specs.Steps.{first_false as first_false_of};
 
 use crate::cards::{BLOCK_CELLS, card_of};
+use crate::failing_part::first_false;
 use crate::kinds::{Cell, Shape};
 use crate::layout::{block_count, card_count};
-use crate::parts::first_false;
+use crate::numbers::VARIABLES;
 use crate::seat::{BlockState, Cleaning, SeatState};
 use crate::standing::{is_the, may_trace, phase_of, takes_part};
 use crate::steps::cleaning;
@@ -48,7 +49,8 @@ pub fn check_read_alloc(shape: &Shape, s: &SeatState, b: u32) -> Option<u8>
     first_false(&[b < block_count(shape) && takes_part(s)])
 }
 
-/// Kind 9: a popped cell of the block is in scan where its bit is set, and else known to be unpublished; of a cleaning the published cells alone are left; a block in hand keeps the word.
+/// Kind 9: a popped cell of the block is in scan where its bit is set, and else known to be unpublished; of a cleaning the published cells alone are left; a
+/// block in hand keeps the word.
 pub fn read_alloc(s: &mut SeatState, b: u32, old: u64) -> u64
     ensures word { result ≡ (read_alloc_effect s.old b).written old }
     ensures seat { s.new ≡ (read_alloc_effect s.old b).seat old }
@@ -100,7 +102,10 @@ pub fn check_read_root(shape: &Shape, phase: u64, s: &SeatState, section: u32, v
     ensures { result ≡ first_false_of 1 (read_root_parts shape.now phase s.now section v) }
 {
     first_false(&[
-        section < shape.sections && v < 32 && may_trace(phase, s) && slots::holds_any(s.held),
+        section < shape.sections
+            && v < VARIABLES
+            && may_trace(phase, s)
+            && slots::holds_any(s.held),
         !hand::work_in_hand(shape.fields, s),
     ])
 }

@@ -3,8 +3,8 @@ ghost use Rattle.std.specs.Prelude.{◌≡◌};
 ghost use Rattle.mark_core.specs.Steps.HelpSteps.{open_parts, open_effect, join_help_parts, join_help_effect, leave_help_parts, leave_help_effect, close_parts, close_effect, see_help_effect};
 ghost use Rattle.mark_core.specs.Steps.{first_false as first_false_of};
 
+use crate::failing_part::first_false;
 use crate::kinds::{Phase, Shape};
-use crate::parts::first_false;
 use crate::seat::SeatState;
 use crate::standing::{is_bare, is_phase};
 use crate::{bits, hand};

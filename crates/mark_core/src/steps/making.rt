@@ -1,13 +1,14 @@
 //! The steps by which a seat makes cells: it takes a block, fills free cells of it, and publishes them.
 ghost use Rattle.std.specs.Prelude.{◌≡◌, ◌<◌, ◌+◌, ◌*◌, nat_le, if◌then◌else◌};
-ghost use Rattle.mark_core.specs.Bits.{flag};
 ghost use Rattle.mark_core.specs.Steps.MutatorSteps.{claim_block_parts, claim_block_effect, cached_block as cached_block_of, release_block_parts, with_free as with_free_of, read_free_parts, read_free_effect, is_next_part as is_next_part_of, fits_part as fits_part_of, with_making as with_making_of, with_made as with_made_of, store_new_parts, used_bits as used_bits_of, without_used as without_used_of, publish_cells_parts, publish_cells_effect};
 ghost use Rattle.mark_core.specs.Steps.{first_false as first_false_of};
+ghost use Rattle.mark_core.specs.Numbers.{section_span};
 
 use crate::cards::BLOCK_CELLS;
+use crate::failing_part::first_false;
 use crate::kinds::{Cell, Phase, Shape};
 use crate::layout::block_count;
-use crate::parts::first_false;
+use crate::numbers::{SECTION_SPAN, VALUE_BOUND};
 use crate::seat::{CacheState, SeatState};
 use crate::standing::{is_phase, may_mutate};
 use crate::{bits, hand};
@@ -98,7 +99,7 @@ pub fn read_free(s: &mut SeatState, old: u64) -> u64
     old
 }
 
-/// The first word goes to a free cell, and each further one to the cell being made.
+/// The first word is stored in a free cell, and each further one in the cell being made.
 fn is_next_part(s: &SeatState, c: Cell, part: u8) -> bool
     ensures { result ≡ is_next_part_of s.now c part }
 {
@@ -111,9 +112,9 @@ fn is_next_part(s: &SeatState, c: Cell, part: u8) -> bool
 
 /// The section and the number of the seat's next cell, where the seat has a section.
 fn identity_of(section: u32, number: u32) -> u64
-    ensures { result ≡ section * flag + number }
+    ensures { result ≡ section * section_span + number }
 {
-    u64::from(section) * bits::FLAG + u64::from(number)
+    u64::from(section) * SECTION_SPAN + u64::from(number)
 }
 
 /// Nil fields, then the value, then the identity.
@@ -123,7 +124,7 @@ fn fits_part(shape: &Shape, s: &SeatState, part: u8, word: u64) -> bool
     if u32::from(part) < shape.fields {
         word == 0
     } else if u32::from(part) == shape.fields {
-        word < bits::FLAG
+        word < VALUE_BOUND
     } else {
         s.section.is_some()
             && s.made < shape.objects

@@ -4,13 +4,15 @@ ghost use Rattle.std.specs.List.{list_any};
 ghost use Rattle.mark_core.specs.Bits.{cell_of, reference_in};
 ghost use Rattle.mark_core.specs.Cards.{card_of as card_of_cell};
 ghost use Rattle.mark_core.specs.Steps.MutatorSteps.{read_object_parts, read_own_parts, read_cat_parts, store_field_parts, store_value_parts, store_root_parts};
-ghost use Rattle.mark_core.specs.Steps.MutatorSteps.{knows_cell as knows_cell_of, variable as variable_of, has_own as has_own_of, in_variables as in_variables_of, variable_or_nil as variable_or_nil_of, names_last as names_last_of, has_reference as has_reference_of};
+ghost use Rattle.mark_core.specs.Steps.MutatorSteps.{knows_cell as knows_cell_of, seat_variable as variable_of, has_own as has_own_of, in_variables as in_variables_of, variable_or_nil as variable_or_nil_of, names_last as names_last_of, has_reference as has_reference_of};
 ghost use Rattle.mark_core.specs.Seats.{used_in};
 ghost use Rattle.mark_core.specs.Steps.{first_false as first_false_of};
+ghost use Rattle.mark_core.specs.Numbers.{section_variables};
 
 use crate::cards::card_of;
+use crate::failing_part::first_false;
 use crate::kinds::{Cell, Shape};
-use crate::parts::first_false;
+use crate::numbers::VARIABLES;
 use crate::seat::{CacheState, SeatState};
 use crate::standing::{is_the, may_mutate};
 use crate::{bits, hand};
@@ -60,7 +62,7 @@ pub fn read_reference(s: &mut SeatState, old: u64) -> u64
 pub fn check_read_cat(s: &SeatState, v: u8) -> Option<u8>
     ensures { result ≡ first_false_of 1 (read_cat_parts s.now v) }
 {
-    first_false(&[v < 32 && may_mutate(s), !is_the(s.section, 0)])
+    first_false(&[v < VARIABLES && may_mutate(s), !is_the(s.section, 0)])
 }
 
 /// What variable v of the seat refers to.
@@ -89,7 +91,7 @@ fn in_variables(w: Option<u8>) -> bool
 {
     match w {
         None => true,
-        Some(x) => x < 32,
+        Some(x) => x < VARIABLES,
     }
 }
 
@@ -114,7 +116,7 @@ pub fn check_store_field(
     ensures { (ids : List ℕ) → slice_index ids (variable_of s.now v - 1) ≡ identity → result ≡ first_false_of 1 (store_field_parts shape.now ids s.now v i w) }
 {
     first_false(&[
-        v < 32 && u32::from(i) < shape.fields && in_variables(w) && may_mutate(s),
+        v < VARIABLES && u32::from(i) < shape.fields && in_variables(w) && may_mutate(s),
         has_own(s, v, identity),
         s.owes.is_none(),
     ])
@@ -137,7 +139,7 @@ pub fn check_store_value(identity: u64, s: &SeatState, v: u8) -> Option<u8>
     ensures { (ids : List ℕ) → slice_index ids (variable_of s.now v - 1) ≡ identity → result ≡ first_false_of 1 (store_value_parts ids s.now v) }
 {
     first_false(&[
-        v < 32 && may_mutate(s),
+        v < VARIABLES && may_mutate(s),
         has_own(s, v, identity),
         s.owes.is_none(),
     ])
@@ -168,14 +170,14 @@ pub fn check_store_root(s: &SeatState, v: u8, r: u64) -> Option<u8>
     ensures { result ≡ first_false_of 1 (store_root_parts s.now v r) }
 {
     first_false(&[
-        v < 32 && may_mutate(s),
+        v < VARIABLES && may_mutate(s),
         has_reference(s, r),
         s.owes.is_none() && !hand::has_making(s.cache),
     ])
 }
 
 fn set_variable(env: &mut [u32; 32], v: u8, reference: u32)
-    requires { v < 32 }
+    requires { v < section_variables }
     ensures { env.new ≡ slice_set env.old v reference }
 {
     env[v as usize] = reference;
@@ -183,7 +185,7 @@ fn set_variable(env: &mut [u32; 32], v: u8, reference: u32)
 
 /// Kind 19: the seat's own copy of the variable is the same, and its register is nil.
 pub fn store_root(s: &mut SeatState, v: u8, r: u64) -> u64
-    requires { v < 32 }
+    requires { v < section_variables }
     ensures word { result ≡ r }
     ensures seat { s.new ≡ record s.old { env = slice_set s.old.env v (reference_in r); got = 0 } }
 {

@@ -2,15 +2,15 @@
 ghost use Rattle.std.specs.Prelude.{◌≡◌, ◌<◌, ◌+◌, ◌-◌, ◌%◌, ◌==◌, ◌&&◌, not, if◌then◌else◌, true, false};
 ghost use Rattle.mark_core.specs.Bits.{has_bit, with_bit, without_bit, cell_of};
 ghost use Rattle.mark_core.specs.Held.{length_in_hand, has_entry, put_packet, drop_packet, set_length};
-ghost use Rattle.mark_core.specs.Numbers.{empty_pool_number, pools_in_all};
+ghost use Rattle.mark_core.specs.Numbers.{empty_pool_number, pools_in_all, word_bits};
 ghost use Rattle.mark_core.specs.Steps.PacketSteps.{reserve_parts, reserve_effect, take_parts, pool_for as pool_for_of, give_parts, credit_parts, credit_effect, push_parts, pop_parts, look_parts, store_length_parts, read_length_parts, read_length_effect};
 ghost use Rattle.mark_core.specs.Seats.{is_the};
 ghost use Rattle.mark_core.specs.Steps.{first_false as first_false_of};
 
+use crate::failing_part::first_false;
 use crate::kinds::{Cell, Shape};
 use crate::layout::pool_words;
-use crate::numbers::{DEFERRED_POOL, EMPTY_POOL, HIGH_POOL, LOW_POOL, POOLS};
-use crate::parts::first_false;
+use crate::numbers::{DEFERRED_POOL, EMPTY_POOL, HIGH_POOL, LOW_POOL, POOLS, WORD_BITS};
 use crate::seat::SeatState;
 use crate::standing::may_trace;
 use crate::{bits, hand, slots};
@@ -45,15 +45,15 @@ pub fn check_take(shape: &Shape, phase: u64, s: &SeatState, q: u8, p: u32) -> Op
 
 /// Kind 2: where the bit was set the packet is in hand, with its length unknown, and an empty one spends the reservation. The bit is clear.
 pub fn take(s: &mut SeatState, q: u8, p: u32, old: u64) -> u64
-    ensures word { result ≡ without_bit old (p % 64) }
-    ensures seat { let found = has_bit old (p % 64) in s.new ≡ record s.old { held = if found then put_packet s.old.held p else s.old.held; reserved = s.old.reserved && not ((q == empty_pool_number) && found) } }
+    ensures word { result ≡ without_bit old (p % word_bits) }
+    ensures seat { let found = has_bit old (p % word_bits) in s.new ≡ record s.old { held = if found then put_packet s.old.held p else s.old.held; reserved = s.old.reserved && not ((q == empty_pool_number) && found) } }
 {
-    let found = bits::has_bit(old, p % 64);
+    let found = bits::has_bit(old, p % WORD_BITS);
     if found {
         slots::put_packet(&mut s.held, p);
     }
     s.reserved = s.reserved && !(q == EMPTY_POOL && found);
-    bits::without_bit(old, p % 64)
+    bits::without_bit(old, p % WORD_BITS)
 }
 
 /// The pool to which a packet of this length goes back.
@@ -87,13 +87,13 @@ pub fn check_give(shape: &Shape, s: &SeatState, p: u32, deferred: bool) -> Optio
 
 /// Kind 3: the packet is out of hand, and an empty one leaves a credit. Its bit is set.
 pub fn give(s: &mut SeatState, p: u32, old: u64) -> u64
-    ensures word { result ≡ with_bit old (p % 64) }
+    ensures word { result ≡ with_bit old (p % word_bits) }
     ensures seat { s.new ≡ record s.old { held = drop_packet s.old.held p; credit = not (has_entry s.old.held p) } }
 {
     let has_entry = slots::has_entry(&s.held, p);
     slots::drop_packet(&mut s.held, p);
     s.credit = !has_entry;
-    bits::with_bit(old, p % 64)
+    bits::with_bit(old, p % WORD_BITS)
 }
 
 /// Kind 4: a count that rises for no packet would say too early that all are empty.

@@ -8,14 +8,15 @@ ghost use Rattle.mark_core.specs.Steps.WorldSteps.{is_quiet as is_quiet_of, card
 ghost use Rattle.mark_core.specs.Steps.{first_false as first_false_of};
 
 use crate::cards::BLOCK_CELLS;
+use crate::failing_part::first_false;
 use crate::kinds::{Phase, Shape};
-use crate::parts::first_false;
+use crate::numbers::EMPTY_OFFSET;
 use crate::seat::SeatState;
 use crate::standing::is_phase;
 use crate::words::read;
 use crate::{bits, hand, layout};
 
-/// All words are this one.
+/// Whether all words are this one.
 pub fn all_are(words: &[u64], word: u64) -> bool
     ensures { result ≡ list_all (λ x. x == word) words.now }
 {
@@ -34,18 +35,18 @@ fn is_marked(marks: &[u64], reference: u64) -> bool
     bits::has_bit(read(marks, (c / block) as usize), (c % block) as u32)
 }
 
-/// Each root is nil, or refers to a marked cell.
+/// Whether each root is nil, or refers to a marked cell.
 pub fn roots_marked(roots: &[u64], marks: &[u64]) -> bool
     ensures { result ≡ roots_marked_of roots.now marks.now }
 {
     roots.iter().all(|x| is_marked(marks, *x))
 }
 
-/// All packets are in the empty pool, and the seat has no work in hand.
+/// Whether all packets are in the empty pool, and the seat has no work in hand.
 pub fn is_quiet(shape: &Shape, words: &[u64], s: &SeatState) -> bool
     ensures { result ≡ is_quiet_of shape.now (words_of shape.now words.now) s.now }
 {
-    read(words, layout::EMPTY) == 64 + u64::from(shape.packets)
+    read(words, layout::EMPTY) == EMPTY_OFFSET + u64::from(shape.packets)
         && !hand::work_in_hand(shape.fields, s)
 }
 

@@ -4,8 +4,8 @@ ghost use Rattle.mark_core.specs.Bits.{wrapped_sum};
 ghost use Rattle.mark_core.specs.Steps.HelpSteps.{read_season_parts, read_season_effect, next_season_parts};
 ghost use Rattle.mark_core.specs.Steps.{first_false as first_false_of};
 
+use crate::failing_part::first_false;
 use crate::kinds::Phase;
-use crate::parts::first_false;
 use crate::seat::SeatState;
 use crate::standing::is_phase;
 

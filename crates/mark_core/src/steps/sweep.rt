@@ -1,14 +1,15 @@
 //! The steps of the sweep and of the counters.
-ghost use Rattle.std.specs.Prelude.{◌≡◌, ◌<◌, if◌then◌else◌, true};
+ghost use Rattle.std.specs.Prelude.{◌≡◌, ◌<◌, ◌+◌, if◌then◌else◌, true};
 ghost use Rattle.mark_core.specs.Bits.{wrapped_sum, wrapped_difference};
 ghost use Rattle.mark_core.specs.Steps.SweepSteps.{next_block_parts, next_block_effect, next_of_cards_parts, next_of_cards_effect, own_block as own_block_of, with_mark_word as with_mark_word_of, read_block_marks_parts, read_block_marks_effect, survivors as survivors_of, with_stored as with_stored_of, store_alloc_parts, clear_marks_parts, wipe_card_parts, store_position_parts, store_named_parts, reset_parts, add_stat_parts, read_stat_parts, read_stat_effect};
 ghost use Rattle.mark_core.specs.Steps.{first_false as first_false_of};
+ghost use Rattle.mark_core.specs.Numbers.{first_position};
 
+use crate::failing_part::first_false;
 use crate::hand;
 use crate::kinds::{Phase, Shape};
 use crate::layout::{block_count, card_count};
 use crate::numbers::{BLOCK_COUNTER, CARD_COUNTER, DONE, FIRST_POSITION, LAST, TRACED};
-use crate::parts::first_false;
 use crate::seat::{BlockState, SeatState};
 use crate::standing::{is_phase, may_clear, may_sweep, may_trace, takes_part};
 
@@ -194,7 +195,7 @@ pub fn add_stat(by: u32, down: bool, old: u64) -> u64
 
 /// Kind 40: there has to be such a word.
 pub fn check_read_stat(shape: &Shape, which: u8) -> Option<u8>
-    requires { shape.now.sections < 4294967288 }
+    requires { first_position + shape.now.sections < 4294967296 }
     ensures { result ≡ first_false_of 1 (read_stat_parts shape.now which) }
 {
     first_false(&[u32::from(which) < u32::from(FIRST_POSITION) + shape.sections])

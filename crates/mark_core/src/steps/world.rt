@@ -5,8 +5,9 @@ ghost use Rattle.mark_core.specs.Steps.WorldSteps.{enter_parts, enter_effect, le
 ghost use Rattle.mark_core.specs.Steps.WorldSteps.{is_stopped as is_stopped_word, is_plain_standing as is_plain_standing_of, has_nothing as has_nothing_of, is_new as is_new_of, may_be_joined as may_be_joined_of, other_has_nothing as other_has_nothing_of};
 ghost use Rattle.mark_core.specs.Steps.{first_false as first_false_of};
 
+use crate::failing_part::first_false;
 use crate::kinds::{Phase, Shape};
-use crate::parts::first_false;
+use crate::numbers::SEATS;
 use crate::seat::SeatState;
 use crate::standing::{is_bare, is_phase};
 use crate::{bits, hand};
@@ -162,11 +163,11 @@ fn is_new(shape: &Shape, s: &SeatState) -> bool
         && !s.below_block
 }
 
-/// Kind 31: there is room for 41 records, and all seats are made before the first one does anything.
+/// Kind 31: there is room for [`SEATS`](crate::SEATS) records, and all seats are made before the first one does anything.
 pub fn check_split(shape: &Shape, seats: &[SeatState], s: &SeatState) -> Option<u8>
     ensures { result ≡ first_false_of 1 (split_parts shape.now seats.now s.now) }
 {
-    first_false(&[s.number == 0 && is_new(shape, s) && seats.len() < 41])
+    first_false(&[s.number == 0 && is_new(shape, s) && seats.len() < SEATS as usize])
 }
 
 /// The other seat exists and is outside.

@@ -1,14 +1,14 @@
 //! A block has one owner, has room for its cells, and the barrier dirties the cards of published objects alone.
 ghost use Rattle.std.specs.Prelude.{◌<◌};
-ghost use Rattle.gc_table.specs.SeatRecords.{At, inside, resting};
-ghost use Rattle.operation_cycles.specs.Seats.{Fills, Mutates};
+ghost use Rattle.gc_table.specs.SeatRecords.{At, inside};
+ghost use Rattle.operation_cycles.specs.Seats.{IsReadyMutator};
+ghost use Rattle.test_heaps.specs.Seats.{IsReadyWithCache};
 
-use super::SMALL;
-use super::objects::{gives_up, link, make, publish, take};
+use super::objects::{gives_up, link, publish, take};
 use super::seasons::begin;
 use alloc_cache::{Cache, claim, retire};
 use gc_table::{Heap, HeapSeat};
-use test_heaps::{next_seat, open};
+use test_heaps::{SMALL, make, next_seat, open};
 
 /// Whether the catalogue's seat finds no block.
 fn finds_none(heap: &Heap, seat: &mut HeapSeat) -> bool
@@ -28,7 +28,7 @@ fn finds_none(heap: &Heap, seat: &mut HeapSeat) -> bool
 
 /// The block that one seat claims, its free cells, and whether the other then finds none.
 fn claims(heap: &Heap, zero: &mut HeapSeat, one: &mut HeapSeat) -> Option<(u32, u32, bool)>
-    requires { At heap.now inside 0 zero.old × Mutates heap.now one.old }
+    requires { At heap.now inside 0 zero.old × IsReadyMutator heap.now one.old }
 {
     let cache = take(heap, one)?;
     let block = cache.block();
@@ -40,8 +40,8 @@ fn claims(heap: &Heap, zero: &mut HeapSeat, one: &mut HeapSeat) -> Option<(u32, 
 
 /// Makes 65 objects, one after another, each in variable 0: how many were made.
 fn fill(heap: &Heap, seat: &mut HeapSeat, cache: &mut Cache) -> u32
-    requires { Fills heap.now seat.old cache.old }
-    ensures { Fills heap.now seat.new cache.new }
+    requires { IsReadyWithCache heap.now seat.old cache.old }
+    ensures { IsReadyWithCache heap.now seat.new cache.new }
 {
     let mut made = 0u32;
     for n in 0..65 {
@@ -53,7 +53,7 @@ fn fill(heap: &Heap, seat: &mut HeapSeat, cache: &mut Cache) -> u32
 }
 
 fn fills(heap: &Heap, seat: &mut HeapSeat) -> Option<u32>
-    requires { Mutates heap.now seat.old }
+    requires { IsReadyMutator heap.now seat.old }
 {
     let mut cache = take(heap, seat)?;
     let made = fill(heap, seat, &mut cache);
@@ -63,7 +63,7 @@ fn fills(heap: &Heap, seat: &mut HeapSeat) -> Option<u32>
 
 /// How many cells are free in a block that was given up with two objects in it.
 fn claims_rest(heap: &Heap, seat: &mut HeapSeat) -> Option<(u32, u32)>
-    requires { Mutates heap.now seat.old }
+    requires { IsReadyMutator heap.now seat.old }
 {
     let mut first = take(heap, seat)?;
     make(heap, seat, &mut first, 0, 1);
@@ -78,8 +78,8 @@ fn claims_rest(heap: &Heap, seat: &mut HeapSeat) -> Option<(u32, u32)>
 /// Stores variable 1 in field 0 of variable 0's object: whether the first card is dirty after that.
 fn dirties(heap: &Heap, seat: &mut HeapSeat, cache: &Cache) -> bool
     requires fields { 0 < heap.now.shape.fields }
-    requires fills { Fills heap.now seat.old cache.now }
-    ensures { Fills heap.now seat.new cache.now }
+    requires fills { IsReadyWithCache heap.now seat.old cache.now }
+    ensures { IsReadyWithCache heap.now seat.new cache.now }
 {
     link(heap, seat, cache, 0, 0, 1);
     heap.read_card(seat, 0)
@@ -87,7 +87,7 @@ fn dirties(heap: &Heap, seat: &mut HeapSeat, cache: &Cache) -> bool
 
 /// The card of an object that isn't published, and of one that is, after a store in it.
 fn links(heap: &Heap, seat: &mut HeapSeat) -> Option<(bool, bool)>
-    requires { Mutates heap.now seat.old }
+    requires { IsReadyMutator heap.now seat.old }
 {
     if heap.shape().fields == 0 {
         return None;

@@ -2,7 +2,7 @@
 ghost use Rattle.std.specs.Prelude.{◌<◌};
 ghost use Rattle.std.specs.Bool.{OnTrue};
 ghost use Rattle.gc_table.specs.SeatRecords.{At};
-ghost use Rattle.operation_cycles.specs.Seats.{Mutates, playing};
+ghost use Rattle.operation_cycles.specs.Seats.{IsReadyMutator, playing};
 
 use super::FOUR;
 use super::objects::{gives_up, link, make_three, publish, take};
@@ -47,8 +47,8 @@ fn clean_third(heap: &Heap, seat: &mut HeapSeat) -> Option<Cleaned>
 
 /// Three objects on card 0 are marked, and then one of them is stored in: whether a block was had for them.
 fn dirties(heap: &Heap, seat: &mut HeapSeat) -> bool
-    requires { Mutates heap.now seat.old × (1 < heap.now.shape.fields) }
-    ensures { OnTrue result (Mutates heap.now seat.new) }
+    requires { IsReadyMutator heap.now seat.old × (1 < heap.now.shape.fields) }
+    ensures { OnTrue result (IsReadyMutator heap.now seat.new) }
 {
     let Some(mut cache) = take(heap, seat) else {
         return false;
@@ -64,7 +64,7 @@ fn dirties(heap: &Heap, seat: &mut HeapSeat) -> bool
 
 /// What cleaning card 0 comes to, and then how many objects a pass over the dirty cards scans again.
 fn cleans_one(heap: &Heap, seat: &mut HeapSeat) -> Option<(Option<Cleaned>, u32)>
-    requires { Mutates heap.now seat.old }
+    requires { IsReadyMutator heap.now seat.old }
 {
     if heap.shape().fields < 2 || heap.shape().cells < 64 {
         return None;
@@ -79,7 +79,7 @@ fn cleans_one(heap: &Heap, seat: &mut HeapSeat) -> Option<(Option<Cleaned>, u32)
 
 /// How many objects one pass over the dirty cards scans again, and a second.
 fn cleans_dirty(heap: &Heap, seat: &mut HeapSeat) -> Option<(u32, u32)>
-    requires { Mutates heap.now seat.old }
+    requires { IsReadyMutator heap.now seat.old }
 {
     if heap.shape().fields < 2 || !dirties(heap, seat) || !is_idle(seat) {
         return None;

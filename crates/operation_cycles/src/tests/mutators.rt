@@ -2,15 +2,14 @@
 ghost use Rattle.std.specs.Prelude.{◌≢◌, ◌<◌, Some};
 ghost use Rattle.std.specs.Bool.{OnTrue};
 ghost use Rattle.gc_table.specs.Seats.{state_of};
-ghost use Rattle.operation_cycles.specs.Seats.{Mutates};
+ghost use Rattle.operation_cycles.specs.Seats.{IsReadyMutator};
 
-use super::SMALL;
-use super::objects::{gives_up, make, take};
+use super::objects::{gives_up, take};
 use super::seasons::begin;
 use gc_table::{Heap, HeapSeat};
 use mutator_ops::{assign, clear, command, follow, lend, put, say, set, sum};
 use plain_heap::{Line, Op};
-use test_heaps::{next_seat, open};
+use test_heaps::{SMALL, make, next_seat, open};
 
 /// Whether the seat is a warehouse's.
 fn is_warehouse(seat: &HeapSeat) -> bool
@@ -24,8 +23,8 @@ fn is_warehouse(seat: &HeapSeat) -> bool
 
 /// An object of value 7 in variable 0, whose field 0 leads to one of value 8 in variable 1.
 fn makes_two(heap: &Heap, seat: &mut HeapSeat) -> bool
-    requires { Mutates heap.now seat.old × (0 < heap.now.shape.fields) }
-    ensures { OnTrue result (Mutates heap.now seat.new) }
+    requires { IsReadyMutator heap.now seat.old × (0 < heap.now.shape.fields) }
+    ensures { OnTrue result (IsReadyMutator heap.now seat.new) }
 {
     let Some(mut cache) = take(heap, seat) else {
         return false;
@@ -39,8 +38,8 @@ fn makes_two(heap: &Heap, seat: &mut HeapSeat) -> bool
 
 /// A second variable leads to the same object, and a value that is stored by one way is read by the other.
 fn stores_by_another_way(heap: &Heap, seat: &mut HeapSeat) -> bool
-    requires { Mutates heap.now seat.old × (0 < heap.now.shape.fields) }
-    ensures { Mutates heap.now seat.new }
+    requires { IsReadyMutator heap.now seat.old × (0 < heap.now.shape.fields) }
+    ensures { IsReadyMutator heap.now seat.new }
 {
     assign(heap, seat, 2, 0);
     follow(heap, seat, 3, 2, 0);
@@ -50,7 +49,7 @@ fn stores_by_another_way(heap: &Heap, seat: &mut HeapSeat) -> bool
 
 /// A walk visits both objects, or as many as it may, and a variable of the catalogue that is nil is nil here.
 fn reads(heap: &Heap, seat: &mut HeapSeat) -> [Line; 4]
-    requires { Mutates heap.now seat.old × (0 < heap.now.shape.fields) × ((state_of seat.old).section ≢ Some 0) }
+    requires { IsReadyMutator heap.now seat.old × (0 < heap.now.shape.fields) × ((state_of seat.old).section ≢ Some 0) }
 {
     let whole = sum(heap, seat, 0, 0, 5);
     let part = sum(heap, seat, 0, 0, 1);
@@ -62,7 +61,7 @@ fn reads(heap: &Heap, seat: &mut HeapSeat) -> [Line; 4]
 }
 
 fn plays(heap: &Heap, seat: &mut HeapSeat) -> Option<[Line; 4]>
-    requires { Mutates heap.now seat.old }
+    requires { IsReadyMutator heap.now seat.old }
 {
     if heap.shape().fields == 0 || !makes_two(heap, seat) || !stores_by_another_way(heap, seat) {
         return None;
@@ -74,9 +73,9 @@ fn plays(heap: &Heap, seat: &mut HeapSeat) -> Option<[Line; 4]>
     }
 }
 
-/// The same by commands: a store, and the line that says it.
+/// A store and a walk, each as a command of a script: whether the store was dropped, and what the walk printed.
 fn commands(heap: &Heap, seat: &mut HeapSeat) -> Option<(bool, Option<Line>)>
-    requires { Mutates heap.now seat.old }
+    requires { IsReadyMutator heap.now seat.old }
 {
     if heap.shape().fields == 0 || !makes_two(heap, seat) {
         return None;

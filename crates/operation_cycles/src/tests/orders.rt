@@ -2,20 +2,20 @@
 ghost use Rattle.std.specs.Prelude.{◌<◌};
 ghost use Rattle.std.specs.Bool.{OnTrue};
 ghost use Rattle.gc_table.specs.SeatRecords.{At, inside};
-ghost use Rattle.operation_cycles.specs.Seats.{Mutates};
+ghost use Rattle.operation_cycles.specs.Seats.{IsReadyMutator};
 
 use super::DEEP;
-use super::objects::{gives_up, make, make_three, publish, take};
+use super::objects::{gives_up, make_three, publish, take};
 use super::seasons::begin;
 use super::tracing::{scans, traces};
 use gc_table::{Heap, HeapSeat};
 use packet_pools::{give, take_input, take_output};
-use test_heaps::{next_seat, open};
+use test_heaps::{make, next_seat, open};
 
 /// Two objects are put in one packet, and a third in the other.
 fn fills_both(heap: &Heap, seat: &mut HeapSeat) -> bool
-    requires { Mutates heap.now seat.old × (1 < heap.now.shape.fields) }
-    ensures { OnTrue result (Mutates heap.now seat.new) }
+    requires { IsReadyMutator heap.now seat.old × (1 < heap.now.shape.fields) }
+    ensures { OnTrue result (IsReadyMutator heap.now seat.new) }
 {
     let Some(mut cache) = take(heap, seat) else {
         return false;

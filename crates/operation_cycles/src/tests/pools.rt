@@ -7,12 +7,10 @@ ghost use Rattle.gc_table.specs.Seats.{state_of, view_of};
 ghost use Rattle.gc_table.specs.SeatRecords.{At, inside, resting};
 ghost use Rattle.packet_pools.specs.Tracing.{IsTracer};
 
-use super::SMALL;
-use super::seasons::{sees_marking, try_marking};
 use gc_table::{Heap, HeapSeat};
 use packet_pools::{all_empty, give, pop, take_deferred, take_input, take_output};
 use std::thread::{Threads, join_mut};
-use test_heaps::{enters, next_seat, open};
+use test_heaps::{SMALL, enters, next_seat, open, sees_marking, try_marking};
 
 /// The seat begins to mark.
 fn begin(heap: &Heap, seat: &mut HeapSeat, k: u32) -> bool
@@ -108,7 +106,7 @@ fn pops_nothing(heap: &Heap, seat: &mut HeapSeat, k: u32) -> Option<bool>
     Some(popped.is_none())
 }
 
-/// The same of a seat with nothing in hand.
+/// Takes a packet and gives it back, by a seat that has no packet: whether there was one.
 fn round(heap: &Heap, seat: &mut HeapSeat, k: u32) -> bool
     requires { At heap.now inside k seat.old }
     ensures { At heap.now inside k seat.new }

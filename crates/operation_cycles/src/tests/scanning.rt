@@ -1,25 +1,26 @@
 //! What is left of an object in scan is marked, and goes into a packet.
-ghost use Rattle.std.specs.Prelude.{◌≡◌, ◌<◌, None, false, IsFalse, IsTrue};
+ghost use Rattle.std.specs.Prelude.{◌<◌, None, false, IsFalse, IsTrue};
 ghost use Rattle.std.specs.Bool.{OnTrue};
 ghost use Rattle.mark_core.specs.Held.{has_free_slot};
 ghost use Rattle.mark_core.specs.Seats.{cleaning_left, work_in_hand};
 ghost use Rattle.gc_table.specs.Seats.{state_of, view_of};
-ghost use Rattle.packet_pools.specs.Hands.{IsHeld};
+ghost use Rattle.packet_pools.specs.Hands.{HoldsPacket};
 ghost use Rattle.packet_pools.specs.Scanning.{InHand};
 ghost use Rattle.packet_pools.specs.Tracing.{IsTracer};
 ghost use Rattle.tracer.specs.Parts.{HasPopped};
-ghost use Rattle.operation_cycles.specs.Seats.{Fills, Mutates};
+ghost use Rattle.operation_cycles.specs.Seats.{IsReadyMutator};
+ghost use Rattle.test_heaps.specs.Seats.{IsReadyWithCache};
 
 use super::FOUR;
-use super::objects::{forget, gives_up, link, make, make_three, publish, take};
+use super::objects::{gives_up, link, make_three, publish, take};
 use super::seasons::begin;
 use super::tracing::{is_idle, scans};
 use alloc_cache::Cache;
 use gc_table::{Heap, HeapSeat};
-use mark_core::{Cell, has_bit};
+use mark_core::{BLOCK_CELLS, Cell, has_bit};
 use packet_pools::{Held, Scanned, give, pop, scan_cell, take_input};
 use std::process::Abort;
-use test_heaps::{next_seat, open};
+use test_heaps::{forget, make, next_seat, open};
 
 /// What a scan came to, and how many cells were in the packet after it.
 type Filled = (Scanned, u32);
@@ -27,8 +28,8 @@ type Filled = (Scanned, u32);
 /// An object in variable 0, whose fields 0 and 1 both lead to one that no variable names.
 fn make_two(heap: &Heap, seat: &mut HeapSeat, cache: &mut Cache)
     requires fields { 1 < heap.now.shape.fields }
-    requires fills { Fills heap.now seat.old cache.old }
-    ensures { Fills heap.now seat.new cache.new }
+    requires fills { IsReadyWithCache heap.now seat.old cache.old }
+    ensures { IsReadyWithCache heap.now seat.new cache.new }
 {
     make(heap, seat, cache, 0, 7);
     make(heap, seat, cache, 1, 8);
@@ -40,8 +41,8 @@ fn make_two(heap: &Heap, seat: &mut HeapSeat, cache: &mut Cache)
 /// An object in variable 0, whose fields 0 and 1 lead to two others, or both to one.
 fn make_linked(heap: &Heap, seat: &mut HeapSeat, cache: &mut Cache, two: bool)
     requires fields { 1 < heap.now.shape.fields }
-    requires fills { Fills heap.now seat.old cache.old }
-    ensures { Fills heap.now seat.new cache.new }
+    requires fills { IsReadyWithCache heap.now seat.old cache.old }
+    ensures { IsReadyWithCache heap.now seat.new cache.new }
 {
     if two {
         make_three(heap, seat, cache);
@@ -52,8 +53,8 @@ fn make_linked(heap: &Heap, seat: &mut HeapSeat, cache: &mut Cache, two: bool)
 
 /// The object in variable 0 is marked, and is put in a packet.
 fn marks_root(heap: &Heap, seat: &mut HeapSeat, two: bool) -> bool
-    requires { Mutates heap.now seat.old × (1 < heap.now.shape.fields) }
-    ensures { OnTrue result (Mutates heap.now seat.new) }
+    requires { IsReadyMutator heap.now seat.old × (1 < heap.now.shape.fields) }
+    ensures { OnTrue result (IsReadyMutator heap.now seat.new) }
 {
     let Some(mut cache) = take(heap, seat) else {
         return false;
@@ -68,14 +69,14 @@ fn marks_root(heap: &Heap, seat: &mut HeapSeat, two: bool) -> bool
 /// Reads the allocation bit of the object that was popped. It is published, and so it is in scan afterwards.
 fn begins_scan<R: Abort>(rt: &R, heap: &Heap, seat: &mut HeapSeat, held: &Held, cell: Cell)
     requires seat { IsTracer heap.now seat.old }
-    requires held { IsHeld held.now (view_of seat.old) × IsTrue (has_free_slot (state_of seat.old).held) }
+    requires held { HoldsPacket held.now (view_of seat.old) × IsTrue (has_free_slot (state_of seat.old).held) }
     requires cell { HasPopped cell false (view_of seat.old) }
     ensures seat { IsTracer heap.now seat.new }
-    ensures held { IsHeld held.now (view_of seat.new) × IsTrue (has_free_slot (state_of seat.new).held) }
+    ensures held { HoldsPacket held.now (view_of seat.new) × IsTrue (has_free_slot (state_of seat.new).held) }
     ensures hand { InHand None None (state_of seat.new) × IsFalse (cleaning_left (state_of seat.new).cleaning) }
 {
-    let word = heap.read_alloc(seat, cell.number() / 64);
-    if !has_bit(word, cell.number() % 64) {
+    let word = heap.read_alloc(seat, cell.number() / BLOCK_CELLS);
+    if !has_bit(word, cell.number() % BLOCK_CELLS) {
         panic!(rt; "it isn't published");
     }
 }
@@ -83,10 +84,10 @@ fn begins_scan<R: Abort>(rt: &R, heap: &Heap, seat: &mut HeapSeat, held: &Held, 
 /// Scans what is left of the object in scan, and again, where nothing is left.
 fn scans_twice(heap: &Heap, seat: &mut HeapSeat, held: &mut Held) -> (Filled, Filled)
     requires seat { IsTracer heap.now seat.old }
-    requires held { IsHeld held.old (view_of seat.old) × IsTrue (has_free_slot (state_of seat.old).held) }
+    requires held { HoldsPacket held.old (view_of seat.old) × IsTrue (has_free_slot (state_of seat.old).held) }
     requires hand { InHand None None (state_of seat.old) × IsFalse (cleaning_left (state_of seat.old).cleaning) }
     ensures seat { IsTracer heap.now seat.new }
-    ensures held { IsHeld held.new (view_of seat.new) }
+    ensures held { HoldsPacket held.new (view_of seat.new) }
     ensures work { IsFalse (work_in_hand heap.now.shape.fields (state_of seat.new)) }
 {
     let first = scan_cell(heap, seat, held);
@@ -97,7 +98,7 @@ fn scans_twice(heap: &Heap, seat: &mut HeapSeat, held: &mut Held) -> (Filled, Fi
 
 /// What is marked where the object is popped out of its packet and scanned into the same one.
 fn scans_popped<R: Abort>(rt: &R, heap: &Heap, seat: &mut HeapSeat) -> Option<(Filled, Filled)>
-    requires { Mutates heap.now seat.old }
+    requires { IsReadyMutator heap.now seat.old }
 {
     if !is_idle(seat) {
         return None;
@@ -113,14 +114,14 @@ fn scans_popped<R: Abort>(rt: &R, heap: &Heap, seat: &mut HeapSeat) -> Option<(F
     Some(found)
 }
 
-/// The same for an object that leads to two others, or to one.
+/// What is marked of an object that leads to two others, or to one, where it is popped and scanned into the same packet.
 fn answers<R: Abort>(
     rt: &R,
     heap: &Heap,
     seat: &mut HeapSeat,
     two: bool,
 ) -> Option<(Filled, Filled)>
-    requires { Mutates heap.now seat.old }
+    requires { IsReadyMutator heap.now seat.old }
 {
     if heap.shape().fields < 2 || !marks_root(heap, seat, two) {
         return None;

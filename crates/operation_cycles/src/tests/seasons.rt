@@ -3,40 +3,19 @@ ghost use Rattle.std.specs.Prelude.{◌≡◌, ◌<◌, length};
 ghost use Rattle.std.specs.Bool.{OnTrue};
 ghost use Rattle.gc_table.specs.Seats.{Across, view_of};
 ghost use Rattle.gc_table.specs.SeatRecords.{At, entered, inside, resting};
-ghost use Rattle.operation_cycles.specs.Seats.{Mutates, playing};
-ghost use Rattle.test_heaps.specs.Seats.{Keeps, New};
+ghost use Rattle.operation_cycles.specs.Seats.{IsReadyMutator, playing};
+ghost use Rattle.test_heaps.specs.Seats.{New};
+ghost use Rattle.stop_world.specs.StopRecords.{KeepsMeaningAndPlan};
 
 use gc_table::{Heap, HeapSeat};
-use mark_core::Phase;
 use std::sync::Wait;
-use test_heaps::{enters, next_turn};
-
-/// Begins marking, where no cycle is under way.
-pub fn try_marking(heap: &Heap, seat: &mut HeapSeat, k: u32)
-    requires { At heap.now entered k seat.old }
-    ensures seat { At heap.now entered k seat.new }
-    ensures keeps { Across Keeps seat.old seat.new }
-{
-    heap.store_phase(seat, Phase::Marking);
-}
-
-/// Whether the seat finds that marking is under way.
-pub fn sees_marking(heap: &Heap, seat: &mut HeapSeat, k: u32) -> bool
-    requires { At heap.now entered k seat.old }
-    ensures sees { OnTrue result (At heap.now inside k seat.new) }
-    ensures keeps { Across Keeps seat.old seat.new }
-{
-    match heap.read_phase(seat) {
-        Phase::Marking => true,
-        _ => false,
-    }
-}
+use test_heaps::{enters, next_turn, sees_marking, try_marking};
 
 /// Whether the seat finds that the first season of the warehouses has begun.
 fn sees_turn(heap: &Heap, seat: &mut HeapSeat, k: u32) -> bool
     requires { At heap.now inside k seat.old }
     ensures sees { OnTrue result (At heap.now playing k seat.new) }
-    ensures keeps { Across Keeps seat.old seat.new }
+    ensures keeps { Across KeepsMeaningAndPlan seat.old seat.new }
 {
     heap.read_season(seat) == 1
 }
@@ -45,7 +24,7 @@ fn sees_turn(heap: &Heap, seat: &mut HeapSeat, k: u32) -> bool
 fn plays(heap: &Heap, seat: &mut HeapSeat) -> bool
     requires seat { At heap.now entered 1 seat.old × (1 < heap.now.shape.sections) }
     requires blank { length (view_of seat.old).own.meaning.heap.objects ≡ 0 }
-    ensures { OnTrue result (At heap.now playing 1 seat.new × Mutates heap.now seat.new) }
+    ensures { OnTrue result (At heap.now playing 1 seat.new × IsReadyMutator heap.now seat.new) }
 {
     sees_marking(heap, seat, 1) && sees_turn(heap, seat, 1)
 }
@@ -54,7 +33,7 @@ fn plays(heap: &Heap, seat: &mut HeapSeat) -> bool
 pub fn begin<R: Wait>(rt: &R, heap: &Heap, zero: &mut HeapSeat, one: &mut HeapSeat) -> bool
     requires shape { 1 < heap.now.shape.sections }
     requires seats { New heap.now resting 0 zero.old × New heap.now resting 1 one.old }
-    ensures { OnTrue result (At heap.now inside 0 zero.new × At heap.now playing 1 one.new × Mutates heap.now one.new) }
+    ensures { OnTrue result (At heap.now inside 0 zero.new × At heap.now playing 1 one.new × IsReadyMutator heap.now one.new) }
 {
     if !next_turn(rt, heap, zero) || !enters(heap, zero, 0) || !enters(heap, one, 1) {
         return false;

@@ -5,17 +5,16 @@ ghost use Rattle.mark_core.specs.declared.kinds.Phase.TheVariants.{Idle};
 ghost use Rattle.gc_table.specs.Running.{Alone};
 ghost use Rattle.gc_table.specs.Seats.{Sits, state_of, view_of};
 ghost use Rattle.gc_table.specs.SeatRecords.{At, resting};
-ghost use Rattle.test_heaps.specs.Seats.{stopped};
 ghost use Rattle.stop_world.specs.Gates.{IsOpenable};
+ghost use Rattle.stop_world.specs.StopRecords.{stopped};
 
-use super::SMALL;
 use gc_table::{Heap, HeapSeat};
 use mark_core::Phase;
 use std::sync::Wait;
 use stop_world::{
     Raised, await_resumed, close_help, enter, join_help, leave_help, open_help, poll, raise,
 };
-use test_heaps::{drains, goes_on, next_seat, next_turn, open, raises_own, stops_idle};
+use test_heaps::{SMALL, drains, goes_on, next_seat, next_turn, open, raises_own, stops_idle};
 
 /// What becomes of the flag when a seat finds it free.
 fn raises(heap: &Heap, seat: &mut HeapSeat) -> bool

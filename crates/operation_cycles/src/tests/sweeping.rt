@@ -1,7 +1,7 @@
 //! A stop in which a drain ends, and then every block is swept, or cleared of its marks.
 ghost use Rattle.std.specs.Prelude.{◌<◌};
 ghost use Rattle.std.specs.Bool.{OnTrue};
-ghost use Rattle.mark_core.specs.declared.kinds.Phase.TheVariants.{Clear, Idle, Sweep};
+ghost use Rattle.mark_core.specs.declared.kinds.Phase.TheVariants.{Clear, Sweep};
 ghost use Rattle.gc_table.specs.Running.{Alone};
 ghost use Rattle.gc_table.specs.Seats.{Sits, view_of};
 ghost use Rattle.gc_table.specs.SeatRecords.{resting};
@@ -9,13 +9,13 @@ ghost use Rattle.card_clean.specs.Drained.{IsDrained};
 ghost use Rattle.sweeper.specs.Sweepers.{Clears, Sweeps};
 ghost use Rattle.test_heaps.specs.Seats.{New};
 
-use super::SMALL;
 use gc_table::{Heap, HeapSeat};
 use mark_core::Phase;
 use std::sync::Wait;
 use sweeper::{Swept, clear_marks_next, clear_rest, end_clear, end_sweep, sweep_next, sweep_rest};
 use test_heaps::{
-    begins_sweep, drained, drains, next_seat, next_turn, open, raises_own, resets, stops_idle,
+    SMALL, begins_sweep, drained, drains, next_seat, next_turn, open, raises_own, resets,
+    stops_idle,
 };
 
 fn begins_clear(heap: &Heap, seat: &mut HeapSeat)

@@ -4,18 +4,19 @@ ghost use Rattle.gc_table.specs.Seats.{Sits, view_of};
 ghost use Rattle.gc_table.specs.SeatRecords.{At, inside, resting};
 ghost use Rattle.packet_pools.specs.Tracing.{Traces};
 ghost use Rattle.std.specs.Bool.{OnTrue};
-ghost use Rattle.operation_cycles.specs.Seats.{Fills, Mutates};
+ghost use Rattle.operation_cycles.specs.Seats.{IsReadyMutator};
+ghost use Rattle.test_heaps.specs.Seats.{IsReadyWithCache};
 ghost use Rattle.tracer.specs.Hands.{IsIdle};
 
 use super::FOUR;
 use super::objects::{link, make_three, publish, take};
-use super::seasons::{begin, sees_marking};
+use super::seasons::begin;
 use super::tracing::{recycles, scans, traces};
 use alloc_cache::{Cache, retire};
 use gc_table::{Heap, HeapSeat};
 use packet_pools::all_empty;
 use std::thread::{Threads, join_mut};
-use test_heaps::{enters, next_seat, open};
+use test_heaps::{enters, next_seat, open, sees_marking};
 use tracer::trace;
 
 /// A tracer's seat enters, and sees that marking is under way.
@@ -38,7 +39,7 @@ fn traces_on(heap: &Heap, seat: &mut HeapSeat) -> u32
     done
 }
 
-/// The same for a seat that has just begun.
+/// Traces in 200 turns of at most 4 objects each, by a seat that has just begun: how many objects that were.
 fn begins_tracing(heap: &Heap, seat: &mut HeapSeat, k: u32) -> u32
     requires { At heap.now inside k seat.old }
     ensures { Sits heap.now seat.new × Traces (view_of seat.new) × IsIdle (view_of seat.new) }
@@ -48,8 +49,8 @@ fn begins_tracing(heap: &Heap, seat: &mut HeapSeat, k: u32) -> u32
 
 /// Stores in a published object, 200 times each of two fields.
 fn stores_on(heap: &Heap, seat: &mut HeapSeat, cache: &Cache)
-    requires { Fills heap.now seat.old cache.now × (1 < heap.now.shape.fields) }
-    ensures { Fills heap.now seat.new cache.now }
+    requires { IsReadyWithCache heap.now seat.old cache.now × (1 < heap.now.shape.fields) }
+    ensures { IsReadyWithCache heap.now seat.new cache.now }
 {
     for _turn in 0..200 {
         link(heap, seat, cache, 0, 0, 0);
@@ -79,9 +80,9 @@ fn three_threads<R: Threads + Sync>(
     cache: &Cache,
 )
     requires tracers { At heap.now inside 0 zero.old × At heap.now inside 2 two.old }
-    requires mutator { Fills heap.now one.old cache.now × (1 < heap.now.shape.fields) }
+    requires mutator { IsReadyWithCache heap.now one.old cache.now × (1 < heap.now.shape.fields) }
     ensures tracers { Sits heap.now zero.new × Sits heap.now two.new }
-    ensures mutator { Fills heap.now one.new cache.now }
+    ensures mutator { IsReadyWithCache heap.now one.new cache.now }
 {
     join_mut(
         rt,
@@ -94,8 +95,8 @@ fn three_threads<R: Threads + Sync>(
 
 /// What was left is traced by one seat.
 fn settles(heap: &Heap, seat: &mut HeapSeat, cache: &Cache)
-    requires { Fills heap.now seat.old cache.now }
-    ensures { Fills heap.now seat.new cache.now }
+    requires { IsReadyWithCache heap.now seat.old cache.now }
+    ensures { IsReadyWithCache heap.now seat.new cache.now }
 {
     scans(heap, seat, cache);
     recycles(heap, seat, cache);
@@ -111,7 +112,7 @@ fn ends_empty<R: Threads + Sync>(
     two: &mut HeapSeat,
 ) -> Option<[bool; 3]>
     requires tracers { At heap.now inside 0 zero.old × At heap.now inside 2 two.old }
-    requires mutator { Mutates heap.now one.old }
+    requires mutator { IsReadyMutator heap.now one.old }
 {
     if heap.shape().fields < 2 {
         return None;
@@ -138,7 +139,7 @@ fn hands_over<R: Threads + Sync>(
     one: &mut HeapSeat,
     two: &mut HeapSeat,
 ) -> Option<u32>
-    requires { Mutates heap.now one.old × At heap.now inside 2 two.old }
+    requires { IsReadyMutator heap.now one.old × At heap.now inside 2 two.old }
 {
     if heap.shape().fields < 2 {
         return None;

@@ -1,7 +1,8 @@
 //! A warehouse's seat scans its roots and traces what they lead to.
 ghost use Rattle.std.specs.Bool.{OnTrue};
 ghost use Rattle.gc_table.specs.Seats.{state_of};
-ghost use Rattle.operation_cycles.specs.Seats.{Fills, Mutates, MayTrace};
+ghost use Rattle.operation_cycles.specs.Seats.{IsReadyMutator, MayTrace};
+ghost use Rattle.test_heaps.specs.Seats.{IsReadyWithCache};
 
 use super::FOUR;
 use super::objects::{make_three, publish, take};
@@ -22,8 +23,8 @@ pub fn is_idle(seat: &HeapSeat) -> bool
 
 /// What a scan of the roots of section 1 came to.
 pub fn scans(heap: &Heap, seat: &mut HeapSeat, cache: &Cache) -> Option<RootScan>
-    requires { Fills heap.now seat.old cache.now }
-    ensures { Fills heap.now seat.new cache.now }
+    requires { IsReadyWithCache heap.now seat.old cache.now }
+    ensures { IsReadyWithCache heap.now seat.new cache.now }
 {
     if !is_idle(seat) || heap.shape().sections < 2 {
         return None;
@@ -33,8 +34,8 @@ pub fn scans(heap: &Heap, seat: &mut HeapSeat, cache: &Cache) -> Option<RootScan
 
 /// What a trace of so many objects came to.
 pub fn traces(heap: &Heap, seat: &mut HeapSeat, cache: &Cache, quota: u32) -> Option<Traced>
-    requires { Fills heap.now seat.old cache.now }
-    ensures { Fills heap.now seat.new cache.now }
+    requires { IsReadyWithCache heap.now seat.old cache.now }
+    ensures { IsReadyWithCache heap.now seat.new cache.now }
 {
     if !is_idle(seat) {
         return None;
@@ -44,8 +45,8 @@ pub fn traces(heap: &Heap, seat: &mut HeapSeat, cache: &Cache, quota: u32) -> Op
 
 /// How many packets were moved out of the deferred pool.
 pub fn recycles(heap: &Heap, seat: &mut HeapSeat, cache: &Cache) -> Option<u32>
-    requires { Fills heap.now seat.old cache.now }
-    ensures { Fills heap.now seat.new cache.now }
+    requires { IsReadyWithCache heap.now seat.old cache.now }
+    ensures { IsReadyWithCache heap.now seat.new cache.now }
 {
     if !is_idle(seat) {
         return None;
@@ -55,8 +56,8 @@ pub fn recycles(heap: &Heap, seat: &mut HeapSeat, cache: &Cache) -> Option<u32>
 
 /// The number and the length of the packet that was put off. It goes back to where it was.
 fn finds_deferred(heap: &Heap, seat: &mut HeapSeat, cache: &Cache) -> Option<(u32, u32)>
-    requires { Fills heap.now seat.old cache.now }
-    ensures { Fills heap.now seat.new cache.now }
+    requires { IsReadyWithCache heap.now seat.old cache.now }
+    ensures { IsReadyWithCache heap.now seat.new cache.now }
 {
     if !is_idle(seat) {
         return None;
@@ -78,8 +79,8 @@ fn done(done: u32, deferred: u32, stopped: Stopped) -> Option<Traced> {
 
 /// All objects are published: three are traced.
 fn traces_all(heap: &Heap, seat: &mut HeapSeat, cache: &mut Cache) -> bool
-    requires { Fills heap.now seat.old cache.old }
-    ensures { Fills heap.now seat.new cache.new }
+    requires { IsReadyWithCache heap.now seat.old cache.old }
+    ensures { IsReadyWithCache heap.now seat.new cache.new }
 {
     publish(heap, seat, cache);
     let scanned = scans(heap, seat, cache);
@@ -89,8 +90,8 @@ fn traces_all(heap: &Heap, seat: &mut HeapSeat, cache: &mut Cache) -> bool
 
 /// None is published: one is put off, and traced later with the others.
 fn puts_off(heap: &Heap, seat: &mut HeapSeat, cache: &mut Cache) -> bool
-    requires { Fills heap.now seat.old cache.old }
-    ensures { Fills heap.now seat.new cache.new }
+    requires { IsReadyWithCache heap.now seat.old cache.old }
+    ensures { IsReadyWithCache heap.now seat.new cache.new }
 {
     let scanned = scans(heap, seat, cache);
     let first = traces(heap, seat, cache, 10);
@@ -109,8 +110,8 @@ fn puts_off(heap: &Heap, seat: &mut HeapSeat, cache: &mut Cache) -> bool
 
 /// The quota is spent before the work is.
 fn spends(heap: &Heap, seat: &mut HeapSeat, cache: &mut Cache) -> bool
-    requires { Fills heap.now seat.old cache.old }
-    ensures { Fills heap.now seat.new cache.new }
+    requires { IsReadyWithCache heap.now seat.old cache.old }
+    ensures { IsReadyWithCache heap.now seat.new cache.new }
 {
     publish(heap, seat, cache);
     let scanned = scans(heap, seat, cache);
@@ -127,7 +128,7 @@ fn spends(heap: &Heap, seat: &mut HeapSeat, cache: &mut Cache) -> bool
 
 /// The three answers: of one heap each.
 fn answers(heap: &Heap, seat: &mut HeapSeat, which: u32) -> Option<bool>
-    requires { Mutates heap.now seat.old }
+    requires { IsReadyMutator heap.now seat.old }
 {
     if heap.shape().fields < 2 {
         return None;

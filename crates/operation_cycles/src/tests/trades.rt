@@ -2,11 +2,10 @@
 ghost use Rattle.std.specs.Bool.{OnTrue, OnFalse};
 ghost use Rattle.gc_table.specs.SeatRecords.{At, inside, reserved, holding, measured, returned, resting};
 
-use super::SMALL;
-use super::seasons::{sees_marking, try_marking};
 use gc_table::{Heap, HeapSeat};
+use mark_core::EMPTY_POOL;
 use std::thread::{Threads, join_mut};
-use test_heaps::{enters, next_seat, open};
+use test_heaps::{SMALL, enters, next_seat, open, sees_marking, try_marking};
 
 fn reserve(heap: &Heap, seat: &mut HeapSeat, k: u32)
     requires { At heap.now inside k seat.old }
@@ -20,7 +19,7 @@ fn take(heap: &Heap, seat: &mut HeapSeat, k: u32) -> bool
     ensures taken { OnTrue result (At heap.now holding k seat.new) }
     ensures lost { OnFalse result (At heap.now reserved k seat.new) }
 {
-    heap.take(seat, 0, 0)
+    heap.take(seat, EMPTY_POOL, 0)
 }
 
 fn is_empty(heap: &Heap, seat: &mut HeapSeat, k: u32) -> bool

@@ -1,7 +1,7 @@
 //! What an operation reads: objects, their fields, and walks from field to field.
 ghost use Rattle.std.specs.Prelude.{◌≡◌, ◌<◌, ◌≤◌};
 ghost use Rattle.std.specs.Option.{option_copied};
-ghost use Rattle.plain_heap.specs.PlainHeap.{variable};
+ghost use Rattle.plain_heap.specs.PlainHeap.{heap_variables, variable};
 ghost use Rattle.plain_heap.specs.PlainStep.{field_of, followed, lent, lent_variable};
 ghost use Rattle.plain_heap.specs.PlainStep.{object_of, value_line, value_of, walk, walk_line};
 
@@ -22,7 +22,7 @@ fn lent(reference: Ref) -> Ref
 
 /// What variable `c` of the catalogue holds, as a warehouse sees it.
 pub(super) fn lent_variable(cat: Option<&PlainHeap>, c: u8) -> Ref
-    requires { c < 32 }
+    requires { c < heap_variables }
     ensures { result ≡ lent_variable (option_copied cat.entry) c }
 {
     match cat {
@@ -71,7 +71,7 @@ impl PlainHeap {
 
     /// The value of the object that variable `v` refers to, as a line.
     pub(super) fn value_line(&self, cat: Option<&PlainHeap>, v: u8) -> Line
-        requires { v < 32 }
+        requires { v < heap_variables }
         ensures { result ≡ value_line
             (object_of self.now (option_copied cat.entry) (variable self.now v)) }
     {
@@ -93,7 +93,7 @@ impl PlainHeap {
 
     /// A walk from variable `v` along field `i` over at most `limit` objects, each visit counted.
     pub(super) fn walk(&self, cat: Option<&PlainHeap>, v: u8, i: u8, limit: u32) -> Line
-        requires v { v < 32 }
+        requires v { v < heap_variables }
         requires i { i < 16 }
         requires limit { limit ≤ 65536 }
         ensures { result ≡ walk_line

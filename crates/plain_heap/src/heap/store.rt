@@ -1,6 +1,6 @@
 //! The operations that change a heap.
 ghost use Rattle.std.specs.Prelude.{◌≡◌, ◌<◌, length, IfOk, None, OnErr, OnOk};
-ghost use Rattle.plain_heap.specs.PlainHeap.{variable};
+ghost use Rattle.plain_heap.specs.PlainHeap.{heap_variables, variable};
 ghost use Rattle.plain_heap.specs.PlainStep.{assigned, stored_at, with_field, with_new, with_value};
 
 use super::PlainHeap;
@@ -11,7 +11,7 @@ use crate::operation::Line;
 impl PlainHeap {
     /// Makes an object with value `n` and nil fields, to which variable `v` refers from then on.
     pub(super) fn make(&mut self, v: u8, n: u32) -> Result<Option<Line>, OutOfMemory>
-        requires name { v < 32 }
+        requires name { v < heap_variables }
         requires room { length self.old.objects < 2000000 }
         ensures heap { OnOk result (self.new ≡ with_new self.old v n) }
         ensures line { IfOk result (λ line. line ≡ None) }
@@ -31,7 +31,7 @@ impl PlainHeap {
 
     /// Makes variable `v` hold this reference.
     pub(super) fn assign(&mut self, v: u8, reference: Ref)
-        requires { v < 32 }
+        requires { v < heap_variables }
         ensures { self.new ≡ assigned self.old v reference }
     {
         self.variables[v as usize] = reference;
@@ -39,9 +39,9 @@ impl PlainHeap {
 
     /// Makes field `i` of the object that `v` refers to hold what `w` does.
     pub(super) fn store_field(&mut self, v: u8, i: u8, w: u8)
-        requires v { v < 32 }
+        requires v { v < heap_variables }
         requires i { i < 16 }
-        requires w { w < 32 }
+        requires w { w < heap_variables }
         requires drops { self.old.dropped < 2000000 }
         ensures { self.new ≡ stored_at self.old (variable self.old v)
             (λ object. with_field object i (variable self.old w)) }
@@ -60,7 +60,7 @@ impl PlainHeap {
 
     /// Makes `n` the value of the object that `v` refers to.
     pub(super) fn store_value(&mut self, v: u8, n: u32)
-        requires v { v < 32 }
+        requires v { v < heap_variables }
         requires drops { self.old.dropped < 2000000 }
         ensures { self.new ≡ stored_at self.old (variable self.old v)
             (λ object. with_value object n) }

@@ -1,8 +1,7 @@
 //! Each command under every disturbance: each read and each write that fails, reads and writes in parts, sinks with every room.
-use crate::tests::cases::{Case, case_of};
 use crate::tests::commands::COMMANDS;
 use crate::tests::faults::FAULTS;
-use crate::tests::{Outside, answer_of, sure};
+use run_cases::{Case, Outside, answer_of, case_of, sure};
 use std::alloc::Global;
 use std::process::Abort;
 use std::sync::Wait;
@@ -40,7 +39,7 @@ fn ends_of(alloc: Global, case: &Case<'_>, part: usize) -> Result<Vec<usize>, Fa
     Ok(ends)
 }
 
-/// Fails where the case so disturbed doesn't end with this status and this front of its text.
+/// Fails where the case so disturbed doesn't end with this status and this prefix of its text.
 fn ends_with<R: Abort + AllocGlobal + Threads + Wait + Sync>(
     rt: &R,
     case: &Case<'_>,

@@ -2,11 +2,11 @@
 //!
 //! - `player`: plays one script over memory. - `text`: the jobs' results, and the faults of a batch.
 ghost use Rattle.std.specs.Prelude.{◌≢◌, ◌≤◌, IfSome, Ok};
-ghost use Rattle.job_pool.specs.Batch.{fault_of};
+ghost use Rattle.job_pool.specs.Batch.{batch_fault_of};
 ghost use Rattle.command_words.specs.Commands.{options_of};
 ghost use Rattle.play_contract.specs.Playing.{AreInRange};
 ghost use Rattle.play_words.specs.Batching.{IsBatchAnswer, IsBatchFault, BatchesTo};
-ghost use Rattle.play_words.specs.Ending.{CommandEnds, TextEnds, code_of};
+ghost use Rattle.play_words.specs.Ending.{CommandEnds, TextEnds, number_of_status};
 ghost use Rattle.play_words.specs.Promise.{HasItsText, OfSource};
 ghost use Rattle.play_words.specs.Reading.{IsSpent, TakesAtMost};
 ghost use Rattle.play_report.specs.Causes.{AcrossSink};
@@ -48,7 +48,7 @@ fn play_jobs<R: Threads + Wait + Sync, K: Sink>(
 /// Writes a fault; out of memory is none.
 fn tell_batch_fault<K: Sink>(fault: &BatchError, sink: &mut K) -> Status
     requires { fault.now ≢ BatchError.OutOfMemory }
-    ensures { AcrossSink K.written K.faults (TextEnds (IsBatchFault (fault_of fault.now)) result) sink.old sink.new }
+    ensures { AcrossSink K.written K.faults (TextEnds (IsBatchFault (batch_fault_of fault.now)) result) sink.old sink.new }
 {
     Status::InputFault.after(write_batch_fault(fault, sink))
 }
@@ -86,7 +86,7 @@ pub fn play_batch<R: Threads + Wait + Sync, S: Source, K: Sink>(
     requires runners { (1 ≤ runners) × (runners ≤ 8) }
     ensures ends { AcrossSink K.written K.faults (CommandEnds (OfSource (IsBatchAnswer (options_of options.now)) (S.left source.old)) result
         (S.faults source.old) (S.faults source.new)) sink.old sink.new }
-    ensures spent { HasItsText (code_of result) → IfSome (S.left source.old) (λ bytes. IsSpent BATCH bytes (S.left source.new)) }
+    ensures spent { HasItsText (number_of_status result) → IfSome (S.left source.old) (λ bytes. IsSpent BATCH bytes (S.left source.new)) }
     ensures most { TakesAtMost BATCH (S.left source.old) (S.left source.new) }
 {
     match read_source(alloc, source, BATCH) {

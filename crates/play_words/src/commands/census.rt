@@ -1,8 +1,8 @@
 //! The command `census`: counts the records of the source's dump.
 ghost use Rattle.std.specs.Prelude.{IfSome};
-ghost use Rattle.heap_dump.specs.Reading.{heap_of};
+ghost use Rattle.heap_dump.specs.Reading.{heap_of_dump};
 ghost use Rattle.play_words.specs.Counting.{IsCensusAnswer, IsCountOf};
-ghost use Rattle.play_words.specs.Ending.{CommandEnds, TextEnds, code_of};
+ghost use Rattle.play_words.specs.Ending.{CommandEnds, TextEnds, number_of_status};
 ghost use Rattle.play_words.specs.Promise.{HasItsText, OfSource};
 ghost use Rattle.play_words.specs.Reading.{IsSpent, TakesAtMost};
 ghost use Rattle.play_report.specs.Causes.{AcrossSink};
@@ -22,7 +22,7 @@ fn count_records<R: Threads + Sync, K: Sink>(
     dump: &Dump<'_>,
     sink: &mut K,
 ) -> Status
-    ensures { AcrossSink K.written K.faults (TextEnds (IsCountOf (heap_of dump.now)) result) sink.old sink.new }
+    ensures { AcrossSink K.written K.faults (TextEnds (IsCountOf (heap_of_dump dump.now)) result) sink.old sink.new }
 {
     match census(rt, alloc, dump) {
         Err(_) => Status::Memory,
@@ -54,7 +54,7 @@ pub fn census_source<R: Threads + Sync, S: Source, K: Sink>(
 ) -> Status
     ensures ends { AcrossSink K.written K.faults (CommandEnds (OfSource IsCensusAnswer (S.left source.old)) result
         (S.faults source.old) (S.faults source.new)) sink.old sink.new }
-    ensures spent { HasItsText (code_of result) → IfSome (S.left source.old) (λ bytes. IsSpent DUMP bytes (S.left source.new)) }
+    ensures spent { HasItsText (number_of_status result) → IfSome (S.left source.old) (λ bytes. IsSpent DUMP bytes (S.left source.new)) }
     ensures most { TakesAtMost DUMP (S.left source.old) (S.left source.new) }
 {
     match read_source(alloc, source, DUMP) {

@@ -4,7 +4,7 @@ ghost use Rattle.gc_script.specs.Convert.{added_lines, converted_text};
 ghost use Rattle.gc_script.specs.Converting.{conversion_of};
 ghost use Rattle.play_report.specs.Causes.{AcrossSink, WritesTo};
 ghost use Rattle.play_words.specs.Converting.{IsConvertAnswer};
-ghost use Rattle.play_words.specs.Ending.{CommandEnds, TextEnds, code_of};
+ghost use Rattle.play_words.specs.Ending.{CommandEnds, TextEnds, number_of_status};
 ghost use Rattle.play_words.specs.Promise.{HasItsText, OfSource};
 ghost use Rattle.play_words.specs.Reading.{IsSpent, TakesAtMost};
 
@@ -51,7 +51,7 @@ fn convert_bytes<K: Sink>(alloc: Global, bytes: &[u8], sink: &mut K) -> Status
 pub fn convert_source<S: Source, K: Sink>(alloc: Global, source: &mut S, sink: &mut K) -> Status
     ensures ends { AcrossSink K.written K.faults (CommandEnds (OfSource IsConvertAnswer (S.left source.old)) result
         (S.faults source.old) (S.faults source.new)) sink.old sink.new }
-    ensures spent { HasItsText (code_of result) → IfSome (S.left source.old) (λ bytes. IsSpent SCRIPT bytes (S.left source.new)) }
+    ensures spent { HasItsText (number_of_status result) → IfSome (S.left source.old) (λ bytes. IsSpent SCRIPT bytes (S.left source.new)) }
     ensures most { TakesAtMost SCRIPT (S.left source.old) (S.left source.new) }
 {
     match read_source(alloc, source, SCRIPT) {

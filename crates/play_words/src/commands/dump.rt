@@ -3,8 +3,8 @@ ghost use Rattle.std.specs.Prelude.{IfSome};
 ghost use Rattle.command_words.specs.Commands.{options_of};
 ghost use Rattle.play_contract.specs.Playing.{AreInRange};
 ghost use Rattle.play_dump.specs.Ending.{IsEndOf};
-ghost use Rattle.play_words.specs.Dumping.{EndsIn, IsDumpAnswer, IsEndAnswer};
-ghost use Rattle.play_words.specs.Ending.{CommandEnds, TextEnds, code_of};
+ghost use Rattle.play_words.specs.Dumping.{EndsDoneOrFull, IsDumpAnswer, IsEndAnswer};
+ghost use Rattle.play_words.specs.Ending.{CommandEnds, TextEnds, number_of_status};
 ghost use Rattle.play_words.specs.Promise.{HasItsText, OfSource};
 ghost use Rattle.play_words.specs.Reading.{IsSpent, TakesAtMost};
 ghost use Rattle.play_report.specs.Causes.{AcrossSink};
@@ -50,7 +50,7 @@ fn dump_script<R: Threads + Wait + Sync, K: Sink, G: Gate + Sync>(
     gate: &G,
 ) -> Status
     requires { AreInRange options.now }
-    ensures { AcrossSink K.written K.faults (TextEnds (EndsIn (options_of options.now) script.now) result) sink.old sink.new }
+    ensures { AcrossSink K.written K.faults (TextEnds (EndsDoneOrFull (options_of options.now) script.now) result) sink.old sink.new }
 {
     match play_final(rt, alloc, script, options, gate) {
         Err(error) => tell_stop(error, sink),
@@ -89,7 +89,7 @@ pub fn dump_source<R: Threads + Wait + Sync, S: Source, K: Sink, G: Gate + Sync>
     requires { AreInRange options.now }
     ensures ends { AcrossSink K.written K.faults (CommandEnds (OfSource (IsDumpAnswer (options_of options.now)) (S.left source.old)) result
         (S.faults source.old) (S.faults source.new)) sink.old sink.new }
-    ensures spent { HasItsText (code_of result) → IfSome (S.left source.old) (λ bytes. IsSpent SCRIPT bytes (S.left source.new)) }
+    ensures spent { HasItsText (number_of_status result) → IfSome (S.left source.old) (λ bytes. IsSpent SCRIPT bytes (S.left source.new)) }
     ensures most { TakesAtMost SCRIPT (S.left source.old) (S.left source.new) }
 {
     match read_source(alloc, source, SCRIPT) {

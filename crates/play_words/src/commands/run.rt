@@ -2,7 +2,7 @@
 ghost use Rattle.std.specs.Prelude.{IfSome};
 ghost use Rattle.play_words.specs.RunAnswers.{IsRunAnswer, PlaysTo};
 ghost use Rattle.command_words.specs.Commands.{options_of};
-ghost use Rattle.play_words.specs.Ending.{CommandEnds, TextEnds, code_of};
+ghost use Rattle.play_words.specs.Ending.{CommandEnds, TextEnds, number_of_status};
 ghost use Rattle.play_words.specs.Promise.{HasItsText, OfSource};
 ghost use Rattle.play_contract.specs.Playing.{AreInRange};
 ghost use Rattle.play_words.specs.Reading.{IsSpent, TakesAtMost};
@@ -69,7 +69,7 @@ pub fn play_source<R: Threads + Wait + Sync, S: Source, K: Sink, G: Gate + Sync>
     requires { AreInRange options.now }
     ensures ends { AcrossSink K.written K.faults (CommandEnds (OfSource (IsRunAnswer (options_of options.now)) (S.left source.old)) result
         (S.faults source.old) (S.faults source.new)) sink.old sink.new }
-    ensures spent { HasItsText (code_of result) → IfSome (S.left source.old) (λ bytes. IsSpent SCRIPT bytes (S.left source.new)) }
+    ensures spent { HasItsText (number_of_status result) → IfSome (S.left source.old) (λ bytes. IsSpent SCRIPT bytes (S.left source.new)) }
     ensures most { TakesAtMost SCRIPT (S.left source.old) (S.left source.new) }
 {
     match read_source(alloc, source, SCRIPT) {

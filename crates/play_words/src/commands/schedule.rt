@@ -1,7 +1,7 @@
 //! The command `schedule`: checks the schedule of the source.
 ghost use Rattle.std.specs.Prelude.{IfSome};
-ghost use Rattle.schedule_check.specs.Telling.{IsAnswer as IsScheduleAnswer};
-ghost use Rattle.play_words.specs.Ending.{CommandEnds, TextEnds, code_of};
+ghost use Rattle.schedule_check.specs.Telling.{IsScheduleAnswer};
+ghost use Rattle.play_words.specs.Ending.{CommandEnds, TextEnds, number_of_status};
 ghost use Rattle.play_words.specs.Promise.{HasItsText, OfSource};
 ghost use Rattle.play_words.specs.Reading.{IsSpent, TakesAtMost};
 ghost use Rattle.play_report.specs.Causes.{AcrossSink};
@@ -29,7 +29,7 @@ fn check_bytes<K: Sink>(alloc: Global, bytes: &[u8], sink: &mut K) -> Status
 pub fn check_source<S: Source, K: Sink>(alloc: Global, source: &mut S, sink: &mut K) -> Status
     ensures ends { AcrossSink K.written K.faults (CommandEnds (OfSource IsScheduleAnswer (S.left source.old)) result
         (S.faults source.old) (S.faults source.new)) sink.old sink.new }
-    ensures spent { HasItsText (code_of result) → IfSome (S.left source.old) (λ bytes. IsSpent SCHEDULE bytes (S.left source.new)) }
+    ensures spent { HasItsText (number_of_status result) → IfSome (S.left source.old) (λ bytes. IsSpent SCHEDULE bytes (S.left source.new)) }
     ensures most { TakesAtMost SCHEDULE (S.left source.old) (S.left source.new) }
 {
     match read_source(alloc, source, SCHEDULE) {

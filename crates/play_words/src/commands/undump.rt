@@ -1,7 +1,7 @@
 //! The command `undump`: writes the records of the source's dump.
 ghost use Rattle.std.specs.Prelude.{IfSome};
 ghost use Rattle.play_words.specs.Undumping.{IsUndumpAnswer};
-ghost use Rattle.play_words.specs.Ending.{CommandEnds, TextEnds, code_of};
+ghost use Rattle.play_words.specs.Ending.{CommandEnds, TextEnds, number_of_status};
 ghost use Rattle.play_words.specs.Promise.{HasItsText, OfSource};
 ghost use Rattle.play_words.specs.Reading.{IsSpent, TakesAtMost};
 ghost use Rattle.play_report.specs.Causes.{AcrossSink};
@@ -26,7 +26,7 @@ fn undump_bytes<K: Sink>(bytes: &[u8], sink: &mut K) -> Status
 pub fn undump_source<S: Source, K: Sink>(alloc: Global, source: &mut S, sink: &mut K) -> Status
     ensures ends { AcrossSink K.written K.faults (CommandEnds (OfSource IsUndumpAnswer (S.left source.old)) result
         (S.faults source.old) (S.faults source.new)) sink.old sink.new }
-    ensures spent { HasItsText (code_of result) → IfSome (S.left source.old) (λ bytes. IsSpent DUMP bytes (S.left source.new)) }
+    ensures spent { HasItsText (number_of_status result) → IfSome (S.left source.old) (λ bytes. IsSpent DUMP bytes (S.left source.new)) }
     ensures most { TakesAtMost DUMP (S.left source.old) (S.left source.new) }
 {
     match read_source(alloc, source, DUMP) {

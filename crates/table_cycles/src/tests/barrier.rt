@@ -1,34 +1,37 @@
 //! A mutator stores a reference in an object, and then dirties the object's card, unless nobody else can know the object.
-ghost use Rattle.std.specs.Prelude.{◌≡◌, is_none, true};
+ghost use Rattle.std.specs.Prelude.{◌≡◌, ◌<◌, is_none, true};
 ghost use Rattle.std.specs.Bool.{OnTrue};
 ghost use Rattle.gc_table.specs.Seats.{state_of};
-ghost use Rattle.table_cycles.specs.Owned.{HasOwn, may_link as may_link_of};
-ghost use Rattle.table_cycles.specs.Ready.{Ready, IsBlank};
+ghost use Rattle.table_cycles.specs.Owned.{SeatHasOwn, may_link as may_link_of};
+ghost use Rattle.gc_table.specs.SeatRecords.{resting};
+ghost use Rattle.table_cycles.specs.Ready.{Ready};
+ghost use Rattle.test_heaps.specs.Seats.{New};
 
-use super::SMALL;
 use super::blocks::{publish, take_block};
 use super::cells::make_cell;
-use super::checks::{is_marking, may_mutate, takes_part};
+use super::checks::takes_part;
 use super::claims::release;
 use super::seasons::begin;
-use super::seats::{close, open};
+use super::seats::{close, open_two};
 use super::world::leave;
 use gc_table::{Heap, HeapSeat, Words};
-use mark_core::{CARD_CELLS, Phase, Shape};
+use mark_core::{CARD_CELLS, Phase, Shape, VARIABLES};
 use std::alloc::Global;
+use std::sync::Wait;
+use test_heaps::{SMALL, is_marking, may_mutate};
 
 fn may_link(shape: &Shape, seat: &HeapSeat, v: u8, i: u8, w: u8) -> bool
     ensures { result ≡ may_link_of shape.now (state_of seat.now) v i w }
 {
     let s = seat.state();
-    (v < 32 && u32::from(i) < shape.fields && w < 32 && may_mutate(seat))
+    (v < VARIABLES && u32::from(i) < shape.fields && w < VARIABLES && may_mutate(seat))
         && (s.owes.is_none() && !s.spent)
 }
 
 /// Stores variable w in field i of variable 0's object: true where the seat owed no card, and has read that marking is under way.
 fn link(heap: &Heap, seat: &mut HeapSeat, i: u8, w: u8) -> bool
-    requires { Ready heap.now seat.old × HasOwn seat.old 0 }
-    ensures { Ready heap.now seat.new × HasOwn seat.new 0 }
+    requires { Ready heap.now seat.old × SeatHasOwn seat.old 0 }
+    ensures { Ready heap.now seat.new × SeatHasOwn seat.new 0 }
 {
     let shape = heap.shape();
     if may_link(&shape, seat, 0, i, w) && is_marking(seat) {
@@ -48,8 +51,8 @@ fn owed(seat: &HeapSeat) -> Option<u32>
 
 /// Dirties the card that the seat owes: true where it owed one, and owes none now.
 fn dirty_owed(heap: &Heap, seat: &mut HeapSeat) -> bool
-    requires { Ready heap.now seat.old × HasOwn seat.old 0 }
-    ensures ready { Ready heap.now seat.new × HasOwn seat.new 0 }
+    requires { Ready heap.now seat.old × SeatHasOwn seat.old 0 }
+    ensures ready { Ready heap.now seat.new × SeatHasOwn seat.new 0 }
     ensures paid { OnTrue result (is_none (state_of seat.new).owes ≡ true) }
 {
     let Some(card) = owed(seat) else {
@@ -65,8 +68,8 @@ fn dirty_owed(heap: &Heap, seat: &mut HeapSeat) -> bool
 
 /// Whether the first card is dirty.
 fn is_dirty(heap: &Heap, seat: &mut HeapSeat) -> Option<bool>
-    requires { Ready heap.now seat.old × HasOwn seat.old 0 }
-    ensures { Ready heap.now seat.new × HasOwn seat.new 0 }
+    requires { Ready heap.now seat.old × SeatHasOwn seat.old 0 }
+    ensures { Ready heap.now seat.new × SeatHasOwn seat.new 0 }
 {
     if heap.shape().cells >= CARD_CELLS {
         Some(heap.read_card(seat, 0))
@@ -77,8 +80,8 @@ fn is_dirty(heap: &Heap, seat: &mut HeapSeat) -> Option<bool>
 
 /// The whole barrier: the field is stored, and then its card is dirtied, so that no card is owed.
 fn store(heap: &Heap, seat: &mut HeapSeat, i: u8, w: u8) -> bool
-    requires { Ready heap.now seat.old × HasOwn seat.old 0 }
-    ensures ready { Ready heap.now seat.new × HasOwn seat.new 0 }
+    requires { Ready heap.now seat.old × SeatHasOwn seat.old 0 }
+    ensures ready { Ready heap.now seat.new × SeatHasOwn seat.new 0 }
     ensures paid { OnTrue result (is_none (state_of seat.new).owes ≡ true) }
 {
     link(heap, seat, i, w) && dirty_owed(heap, seat)
@@ -86,24 +89,24 @@ fn store(heap: &Heap, seat: &mut HeapSeat, i: u8, w: u8) -> bool
 
 /// An object that isn't published owes no card.
 fn links_new(heap: &Heap, seat: &mut HeapSeat) -> bool
-    requires { Ready heap.now seat.old × HasOwn seat.old 0 }
-    ensures { Ready heap.now seat.new × HasOwn seat.new 0 }
+    requires { Ready heap.now seat.old × SeatHasOwn seat.old 0 }
+    ensures { Ready heap.now seat.new × SeatHasOwn seat.new 0 }
 {
     link(heap, seat, 0, 1) && owed(seat).is_none() && is_dirty(heap, seat) == Some(false)
 }
 
 /// Publishes the two cells.
 fn publish_both(heap: &Heap, seat: &mut HeapSeat) -> bool
-    requires { Ready heap.now seat.old × HasOwn seat.old 0 }
-    ensures { Ready heap.now seat.new × HasOwn seat.new 0 }
+    requires { Ready heap.now seat.old × SeatHasOwn seat.old 0 }
+    ensures { Ready heap.now seat.new × SeatHasOwn seat.new 0 }
 {
     publish(heap, seat) == Some(0)
 }
 
 /// One that is published owes its card, which is clean until it is dirtied.
 fn links_published(heap: &Heap, seat: &mut HeapSeat) -> bool
-    requires { Ready heap.now seat.old × HasOwn seat.old 0 }
-    ensures { Ready heap.now seat.new × HasOwn seat.new 0 }
+    requires { Ready heap.now seat.old × SeatHasOwn seat.old 0 }
+    ensures { Ready heap.now seat.new × SeatHasOwn seat.new 0 }
 {
     link(heap, seat, 0, 1)
         && owed(seat) == Some(0)
@@ -112,9 +115,9 @@ fn links_published(heap: &Heap, seat: &mut HeapSeat) -> bool
         && is_dirty(heap, seat) == Some(true)
 }
 
-/// The same, one step after another.
+/// The barrier before and after two cells are published: what each store owes, and when a card is dirty.
 fn links(heap: &Heap, seat: &mut HeapSeat) -> bool
-    requires { Ready heap.now seat.old × HasOwn seat.old 0 }
+    requires { Ready heap.now seat.old × SeatHasOwn seat.old 0 }
     ensures { Ready heap.now seat.new }
 {
     links_new(heap, seat)
@@ -124,12 +127,12 @@ fn links(heap: &Heap, seat: &mut HeapSeat) -> bool
         && release(heap, seat)
 }
 
-fn stores(heap: &Heap, zero: &mut HeapSeat, one: &mut HeapSeat) -> bool
-    requires zero { Ready heap.now zero.old × IsBlank heap.now zero.old }
+fn stores<R: Wait>(rt: &R, heap: &Heap, zero: &mut HeapSeat, one: &mut HeapSeat) -> bool
+    requires zero { New heap.now resting 0 zero.old × (0 < heap.now.shape.sections) }
     requires one { Ready heap.now one.old }
     ensures { OnTrue result (Ready heap.now zero.new × Ready heap.now one.new) }
 {
-    if !begin(heap, zero, one) || !take_block(heap, one, 0) || !make_cell(heap, one, 1, 8, 1) {
+    if !begin(rt, heap, zero, one) || !take_block(heap, one, 0) || !make_cell(heap, one, 1, 8, 1) {
         return false;
     }
     if !make_cell(heap, one, 0, 7, 0) {
@@ -138,9 +141,9 @@ fn stores(heap: &Heap, zero: &mut HeapSeat, one: &mut HeapSeat) -> bool
     links(heap, one) && leave(heap, zero) && leave(heap, one)
 }
 
-fn stored(alloc: Global) -> Option<Words> {
-    let (heap, mut zero, mut one) = open(alloc, SMALL)?;
-    if stores(&heap, &mut zero, &mut one) {
+fn stored<R: Wait>(rt: &R, alloc: Global) -> Option<Words> {
+    let (heap, mut zero, mut one) = open_two(alloc, SMALL)?;
+    if stores(rt, &heap, &mut zero, &mut one) {
         close(alloc, heap, zero, one)
     } else {
         None
@@ -149,7 +152,7 @@ fn stored(alloc: Global) -> Option<Words> {
 
 #[test]
 fn owed_card(rt: HostRuntime) {
-    let Some(words) = stored(rt.alloc()) else {
+    let Some(words) = stored(&rt, rt.alloc()) else {
         panic!(&rt; "a step")
     };
     assert!(&rt; words.phase == Phase::Marking && words.named == 0, "phase");

@@ -1,25 +1,28 @@
 //! All cells of a block are made, and published.
-ghost use Rattle.std.specs.Prelude.{◌≡◌};
+ghost use Rattle.std.specs.Prelude.{◌≡◌, ◌<◌};
 ghost use Rattle.std.specs.Bool.{OnTrue};
 ghost use Rattle.gc_table.specs.Seats.{view_of};
-ghost use Rattle.table_cycles.specs.Ready.{Ready, IsBlank};
+ghost use Rattle.gc_table.specs.SeatRecords.{resting};
+ghost use Rattle.table_cycles.specs.Ready.{Ready};
+ghost use Rattle.test_heaps.specs.Seats.{New};
 
-use super::SMALL;
 use super::cells::make_cell;
-use super::claims::{cached, claim, has_making, read_free, release};
+use super::claims::{cached, claim, read_free, release};
 use super::seasons::begin;
-use super::seats::{close, open};
+use super::seats::{close, open_two};
 use super::world::leave;
 use gc_table::{Heap, HeapSeat, Words};
-use mark_core::Phase;
+use mark_core::{BLOCK_CELLS, Phase, SECTION_SPAN};
 use std::alloc::Global;
+use std::sync::Wait;
+use test_heaps::{SMALL, has_making};
 
 /// Makes cells 0 to 63, each with its number as its value, and stores each in variable 0.
 fn fill(heap: &Heap, seat: &mut HeapSeat) -> bool
     requires { Ready heap.now seat.old }
     ensures { OnTrue result (Ready heap.now seat.new) }
 {
-    for number in 0..64 {
+    for number in 0..BLOCK_CELLS {
         if !make_cell(heap, seat, number, number, 0) {
             return false;
         }
@@ -62,20 +65,20 @@ fn publishes(heap: &Heap, seat: &mut HeapSeat) -> bool
         && release(heap, seat)
 }
 
-fn fills(heap: &Heap, zero: &mut HeapSeat, one: &mut HeapSeat) -> bool
-    requires zero { Ready heap.now zero.old × IsBlank heap.now zero.old }
+fn fills<R: Wait>(rt: &R, heap: &Heap, zero: &mut HeapSeat, one: &mut HeapSeat) -> bool
+    requires zero { New heap.now resting 0 zero.old × (0 < heap.now.shape.sections) }
     requires one { Ready heap.now one.old }
     ensures { OnTrue result (Ready heap.now zero.new × Ready heap.now one.new) }
 {
-    if !begin(heap, zero, one) || !take_block(heap, one, 0) || !fill(heap, one) {
+    if !begin(rt, heap, zero, one) || !take_block(heap, one, 0) || !fill(heap, one) {
         return false;
     }
     publishes(heap, one) && leave(heap, zero) && leave(heap, one)
 }
 
-fn filled(alloc: Global) -> Option<Words> {
-    let (heap, mut zero, mut one) = open(alloc, SMALL)?;
-    if fills(&heap, &mut zero, &mut one) {
+fn filled<R: Wait>(rt: &R, alloc: Global) -> Option<Words> {
+    let (heap, mut zero, mut one) = open_two(alloc, SMALL)?;
+    if fills(rt, &heap, &mut zero, &mut one) {
         close(alloc, heap, zero, one)
     } else {
         None
@@ -96,7 +99,7 @@ fn count_from(words: &[u64], first: u64, count: usize) -> bool {
 
 #[test]
 fn whole_block(rt: HostRuntime) {
-    let Some(words) = filled(rt.alloc()) else {
+    let Some(words) = filled(&rt, rt.alloc()) else {
         panic!(&rt; "a step")
     };
     assert!(&rt; words.phase == Phase::Marking && words.named == 0, "phase");
@@ -105,7 +108,7 @@ fn whole_block(rt: HostRuntime) {
         "allocation bits"
     );
     assert!(&rt;
-        count_from(words.idents.as_slice(), 1 << 32, 64),
+        count_from(words.idents.as_slice(), SECTION_SPAN, 64),
         "identities"
     );
     assert!(&rt; count_from(words.values.as_slice(), 0, 64), "values");

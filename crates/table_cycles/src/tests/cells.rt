@@ -1,27 +1,16 @@
 //! Cells are made in a claimed block.
 ghost use Rattle.std.specs.Prelude.{◌≡◌, ◌≤◌, ◌+◌, ◌*◌};
 ghost use Rattle.std.specs.Bool.{OnTrue};
+ghost use Rattle.mark_core.specs.Numbers.{section_span};
 ghost use Rattle.mark_core.specs.Steps.MutatorSteps.{is_next_part, fits_part as fits_part_of, names_last as names_last_of};
-ghost use Rattle.mark_core.specs.Seats.{free_in, makes as makes_part};
+ghost use Rattle.mark_core.specs.Seats.{makes as makes_part};
 ghost use Rattle.gc_table.specs.Seats.{state_of};
-ghost use Rattle.table_cycles.specs.Owned.{HasOwn};
+ghost use Rattle.table_cycles.specs.Owned.{SeatHasOwn};
 ghost use Rattle.table_cycles.specs.Ready.{Ready, Unnamed, may_store_new, may_name as may_name_of};
 
-use super::checks::{is_marking, may_mutate};
-use super::claims::has_making;
 use gc_table::{Heap, HeapSeat};
-use mark_core::{Cell, Shape, has_bit};
-
-const FLAG: u64 = 4_294_967_296;
-
-fn is_free(seat: &HeapSeat, c: Cell) -> bool
-    ensures { result ≡ free_in (state_of seat.now).cache c }
-{
-    match seat.state().cache {
-        None => false,
-        Some(cache) => cache.block == c.number() / 64 && has_bit(cache.free, c.number() % 64),
-    }
-}
+use mark_core::{Cell, SECTION_SPAN, Shape, VALUE_BOUND, VARIABLES};
+use test_heaps::{has_free, has_making, is_marking, may_mutate};
 
 fn makes(seat: &HeapSeat, c: Cell, part: u8) -> bool
     ensures { result ≡ makes_part (state_of seat.now).cache c part }
@@ -39,16 +28,16 @@ fn is_next(seat: &HeapSeat, c: Cell, part: u8) -> bool
     ensures { result ≡ is_next_part (state_of seat.now) c part }
 {
     if part == 0 {
-        is_free(seat, c) && !has_making(seat)
+        has_free(seat, c) && !has_making(seat)
     } else {
         makes(seat, c, part)
     }
 }
 
 fn identity_of(section: u32, number: u32) -> u64
-    ensures { result ≡ section * 4294967296 + number }
+    ensures { result ≡ section * section_span + number }
 {
-    u64::from(section) * FLAG + u64::from(number)
+    u64::from(section) * SECTION_SPAN + u64::from(number)
 }
 
 fn fits_part(shape: &Shape, seat: &HeapSeat, part: u8, word: u64) -> bool
@@ -58,7 +47,7 @@ fn fits_part(shape: &Shape, seat: &HeapSeat, part: u8, word: u64) -> bool
     if u32::from(part) < shape.fields {
         word == 0
     } else if u32::from(part) == shape.fields {
-        word < FLAG
+        word < VALUE_BOUND
     } else {
         s.section.is_some()
             && s.made < shape.objects
@@ -118,7 +107,7 @@ fn names_last(seat: &HeapSeat, r: u64) -> bool
 fn may_name(seat: &HeapSeat, v: u8, r: u64) -> bool
     ensures { result ≡ may_name_of (state_of seat.now) v r }
 {
-    (v < 32 && may_mutate(seat))
+    (v < VARIABLES && may_mutate(seat))
         && names_last(seat, r)
         && (seat.state().owes.is_none() && !has_making(seat))
 }
@@ -126,7 +115,7 @@ fn may_name(seat: &HeapSeat, v: u8, r: u64) -> bool
 /// Stores the cell made last in a variable: true where the seat has read that marking is under way.
 fn name(heap: &Heap, seat: &mut HeapSeat, v: u8, r: u64) -> bool
     requires { Unnamed heap.now seat.old }
-    ensures { OnTrue result (Ready heap.now seat.new × HasOwn seat.new v) }
+    ensures { OnTrue result (Ready heap.now seat.new × SeatHasOwn seat.new v) }
 {
     if may_name(seat, v, r) && is_marking(seat) {
         heap.store_root(seat, v, r);
@@ -139,7 +128,7 @@ fn name(heap: &Heap, seat: &mut HeapSeat, v: u8, r: u64) -> bool
 /// Makes a cell of four fields with this value, and stores it in a variable.
 pub fn make_cell(heap: &Heap, seat: &mut HeapSeat, number: u32, value: u32, v: u8) -> bool
     requires { Ready heap.now seat.old }
-    ensures { OnTrue result (Ready heap.now seat.new × HasOwn seat.new v) }
+    ensures { OnTrue result (Ready heap.now seat.new × SeatHasOwn seat.new v) }
 {
     let c = Cell::make(number);
     let identity = identity_of(seat.state().section.unwrap_or(0), seat.state().made);

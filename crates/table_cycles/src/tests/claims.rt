@@ -1,17 +1,22 @@
 //! Blocks are claimed, each by one seat at a time.
-ghost use Rattle.std.specs.Prelude.{◌≡◌};
-ghost use Rattle.mark_core.specs.Seats.{is_unread as is_unread_cache, has_used as has_used_cell, has_making as has_making_cell};
+ghost use Rattle.std.specs.Prelude.{◌≡◌, ◌<◌};
+ghost use Rattle.std.specs.Bool.{OnTrue};
+ghost use Rattle.mark_core.specs.Seats.{is_unread as is_unread_cache, has_used as has_used_cell};
 ghost use Rattle.gc_table.specs.Seats.{state_of};
-ghost use Rattle.table_cycles.specs.Ready.{Ready, IsBlank};
+ghost use Rattle.gc_table.specs.SeatRecords.{resting};
+ghost use Rattle.table_cycles.specs.Ready.{Ready};
+ghost use Rattle.test_heaps.specs.Seats.{New};
 
+use super::are_zero;
 use super::checks::is_running;
 use super::seasons::begin;
-use super::seats::{close, open};
+use super::seats::{close, open_two};
 use super::world::leave;
-use super::{SMALL, are_zero};
 use gc_table::{Heap, HeapSeat, Words};
-use mark_core::Phase;
+use mark_core::{BLOCK_CELLS, Phase};
 use std::alloc::Global;
+use std::sync::Wait;
+use test_heaps::{SMALL, has_making};
 
 /// Claims the first block, where the seat may claim one: true where nobody had it.
 pub fn claim(heap: &Heap, seat: &mut HeapSeat) -> Option<bool>
@@ -19,7 +24,7 @@ pub fn claim(heap: &Heap, seat: &mut HeapSeat) -> Option<bool>
     ensures { Ready heap.now seat.new }
 {
     if is_running(seat)
-        && heap.shape().cells >= 64
+        && heap.shape().cells >= BLOCK_CELLS
         && seat.state().cache.is_none()
         && seat.state().section.is_some()
     {
@@ -59,15 +64,6 @@ fn has_used(seat: &HeapSeat) -> bool
     }
 }
 
-pub fn has_making(seat: &HeapSeat) -> bool
-    ensures { result ≡ has_making_cell (state_of seat.now).cache }
-{
-    match seat.state().cache {
-        None => false,
-        Some(cache) => cache.making.is_some(),
-    }
-}
-
 /// Gives the block up: true where the seat had one, and no cell that isn't published.
 pub fn release(heap: &Heap, seat: &mut HeapSeat) -> bool
     requires { Ready heap.now seat.old }
@@ -90,13 +86,12 @@ pub fn cached(seat: &HeapSeat) -> Option<(u32, u64, u64)> {
 }
 
 /// The second seat claims the block, in which all cells are free, and the first one doesn't get it.
-fn claims(heap: &Heap, zero: &mut HeapSeat, one: &mut HeapSeat) -> bool
-    requires zero { Ready heap.now zero.old × IsBlank heap.now zero.old }
+fn claims<R: Wait>(rt: &R, heap: &Heap, zero: &mut HeapSeat, one: &mut HeapSeat) -> bool
+    requires zero { New heap.now resting 0 zero.old × (0 < heap.now.shape.sections) }
     requires one { Ready heap.now one.old }
-    ensures zero { Ready heap.now zero.new }
-    ensures one { Ready heap.now one.new }
+    ensures { OnTrue result (Ready heap.now zero.new × Ready heap.now one.new) }
 {
-    begin(heap, zero, one)
+    begin(rt, heap, zero, one)
         && claim(heap, one) == Some(true)
         && read_free(heap, one) == Some(0)
         && cached(one) == Some((0, u64::MAX, 0))
@@ -107,9 +102,9 @@ fn claims(heap: &Heap, zero: &mut HeapSeat, one: &mut HeapSeat) -> bool
         && leave(heap, one)
 }
 
-fn claimed(alloc: Global) -> Option<Words> {
-    let (heap, mut zero, mut one) = open(alloc, SMALL)?;
-    if claims(&heap, &mut zero, &mut one) {
+fn claimed<R: Wait>(rt: &R, alloc: Global) -> Option<Words> {
+    let (heap, mut zero, mut one) = open_two(alloc, SMALL)?;
+    if claims(rt, &heap, &mut zero, &mut one) {
         close(alloc, heap, zero, one)
     } else {
         None
@@ -118,7 +113,7 @@ fn claimed(alloc: Global) -> Option<Words> {
 
 #[test]
 fn one_owner(rt: HostRuntime) {
-    let Some(words) = claimed(rt.alloc()) else {
+    let Some(words) = claimed(&rt, rt.alloc()) else {
         panic!(&rt; "a step")
     };
     assert!(&rt; words.phase == Phase::Marking && words.named == 0, "phase");

@@ -1,7 +1,7 @@
 //! What the largest heap hands out when it is closed at once.
 use super::are_zero;
 use gc_table::{Heap, Words};
-use mark_core::{Phase, Shape};
+use mark_core::{Phase, SEATS, Shape};
 use plain_heap::NoPlan;
 use std::alloc::Global;
 
@@ -14,7 +14,7 @@ fn words_of_largest(alloc: Global) -> Option<Words> {
         fields: 16,
         objects: 2_000_000,
     };
-    let Ok((heap, seats)) = Heap::create(alloc, shape, 41, &NoPlan) else {
+    let Ok((heap, seats)) = Heap::create(alloc, shape, SEATS, &NoPlan) else {
         return None;
     };
     match heap.close(alloc, seats) {

@@ -2,20 +2,16 @@
 ghost use Rattle.table_cycles.specs.Ready.{Ready};
 
 use super::are_zero;
-use super::checks::{is_marking, work_in_hand};
-use super::seats::{close, open};
+use super::seats::{close, open_two};
 use super::world::{both_mark, leave};
 use gc_table::{Heap, HeapSeat, Words};
-use mark_core::{Phase, Shape};
+use mark_core::{EMPTY_POOL, Phase, Shape};
 use std::alloc::Global;
+use test_heaps::{SMALL, is_marking, work_in_hand};
 
 const WIDE: Shape = Shape {
-    cells: 64,
     packets: 65,
-    entries: 2,
-    sections: 2,
-    fields: 4,
-    objects: 2_000_000,
+    ..SMALL
 };
 
 /// The second word of the empty pool.
@@ -24,7 +20,7 @@ fn second_word(heap: &Heap, seat: &mut HeapSeat) -> Option<u64>
     ensures { Ready heap.now seat.new }
 {
     if heap.shape().packets == 65 {
-        Some(heap.look(seat, 0, 1))
+        Some(heap.look(seat, EMPTY_POOL, 1))
     } else {
         None
     }
@@ -54,7 +50,7 @@ fn take_last(heap: &Heap, seat: &mut HeapSeat) -> bool
         && seat.state().has_free_slot()
         && seat.state().reserved
     {
-        heap.take(seat, 0, 64)
+        heap.take(seat, EMPTY_POOL, 64)
     } else {
         false
     }
@@ -125,7 +121,7 @@ fn takes(heap: &Heap, zero: &mut HeapSeat, one: &mut HeapSeat) -> bool
 }
 
 fn taken(alloc: Global) -> Option<Words> {
-    let (heap, mut zero, mut one) = open(alloc, WIDE)?;
+    let (heap, mut zero, mut one) = open_two(alloc, WIDE)?;
     if takes(&heap, &mut zero, &mut one) {
         close(alloc, heap, zero, one)
     } else {

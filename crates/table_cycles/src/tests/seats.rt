@@ -1,24 +1,25 @@
 //! A heap with two seats, made and closed.
 ghost use Rattle.std.specs.Prelude.{◌≡◌, IfSome};
-ghost use Rattle.table_cycles.specs.Ready.{Ready, IsBlank};
+ghost use Rattle.gc_table.specs.SeatRecords.{resting};
 ghost use Rattle.mark_core.specs.Shapes.{IsShape};
+ghost use Rattle.table_cycles.specs.Ready.{Ready};
+ghost use Rattle.test_heaps.specs.Seats.{New};
 
-use super::checks::is_bare;
 use gc_table::{Heap, HeapSeat, Words};
 use mark_core::Shape;
-use plain_heap::NoPlan;
 use std::alloc::Global;
+use test_heaps::{is_bare, next_seat, open};
 
 /// A heap in which nothing has happened, with its seats 0 and 1.
-pub fn open(alloc: Global, shape: Shape) -> Option<(Heap, HeapSeat, HeapSeat)>
+pub fn open_two(alloc: Global, shape: Shape) -> Option<(Heap, HeapSeat, HeapSeat)>
     requires { IsShape shape }
-    ensures { IfSome result (λ r. (r.0.shape ≡ shape) × Ready r.0 r.1 × Ready r.0 r.2 × IsBlank r.0 r.1) }
+    ensures { IfSome result (λ r. (r.0.shape ≡ shape) × New r.0 resting 0 r.1 × Ready r.0 r.1 × Ready r.0 r.2) }
 {
-    let Ok((heap, mut seats)) = Heap::create(alloc, shape, 2, &NoPlan) else {
+    let Some((heap, mut seats)) = open(alloc, shape, 2) else {
         return None;
     };
-    let zero = seats.remove(0);
-    let one = seats.remove(0);
+    let zero = next_seat(&heap, &mut seats, 0);
+    let one = next_seat(&heap, &mut seats, 1);
     Some((heap, zero, one))
 }
 

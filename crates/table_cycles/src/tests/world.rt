@@ -1,10 +1,10 @@
 //! The seats come and go.
-ghost use Rattle.std.specs.Prelude.{◌≡◌};
-ghost use Rattle.table_cycles.specs.Ready.{Ready, IsBlank};
+ghost use Rattle.table_cycles.specs.Ready.{Ready};
 
-use super::checks::{empty_handed, is_bare, is_running, owns_nothing, work_in_hand};
+use super::checks::is_running;
 use gc_table::{Heap, HeapSeat};
 use mark_core::Phase;
+use test_heaps::{is_bare, leaves};
 
 /// Enters: true where the seat was outside, and is active now.
 pub fn enter(heap: &Heap, seat: &mut HeapSeat) -> bool
@@ -19,16 +19,7 @@ pub fn leave(heap: &Heap, seat: &mut HeapSeat) -> bool
     requires { Ready heap.now seat.old }
     ensures { Ready heap.now seat.new }
 {
-    if seat.state().counted
-        && empty_handed(seat)
-        && !work_in_hand(heap.shape().fields, seat)
-        && owns_nothing(seat)
-    {
-        heap.leave_step(seat);
-        true
-    } else {
-        false
-    }
+    leaves(heap, seat)
 }
 
 /// Whether the seat finds this phase.

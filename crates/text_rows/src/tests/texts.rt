@@ -70,7 +70,8 @@ fn report(alloc: Global) -> Result<Report<'static>, AllocError>
 }
 
 /// Texts. Behind a `$ ` stand which it is, the room of the sink, how much it takes in a call, the call that fails, and whether all is done; in the
-/// next lines stands what the sink has. `ends` and `placed` are the report, without places and with them, and `load` its five lines: 4,294,967,295 and 5 survive.
+/// next lines stands what the sink has. `ends` and `placed` are the report, without places and with them, and `load` its five lines: 4,294,967,295 and 5
+/// survive.
 const TEXTS: &str = "$ ends 200 200 0 done
 warehouse 1
 a 5

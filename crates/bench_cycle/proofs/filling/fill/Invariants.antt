@@ -1,5 +1,5 @@
-use Rattle.bench_cycle.specs.Standing.{Fills}
+use Rattle.test_heaps.specs.Seats.{IsReadyWithCache}
 use Rattle.bench_cycle.proofs.filling.fill.Given as goal
 
 abbrev pub invariant-loop-i : goal.invariant-loop-i
-invariant-loop-i l = Fills l.heap l.seat l.cache
+invariant-loop-i l = IsReadyWithCache l.heap l.seat l.cache

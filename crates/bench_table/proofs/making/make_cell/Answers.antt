@@ -6,7 +6,7 @@ use Rattle.mark_core.specs.declared.kinds.Step.TheVariants.{StoreNew, StoreRoot}
 use Rattle.mark_core.specs.declared.seat.SeatState.{SeatState}
 use Rattle.plain_heap.specs.declared.operation.Op.TheVariants.{New}
 use Rattle.gc_table.specs.Seats.{view_of}
-use Rattle.bench_table.specs.Making.{Makes, maker}
+use Rattle.bench_table.specs.Making.{MayMakeCells, maker}
 use Rattle.bench_table.proofs.Makers.{made-whole, made-some, four-at, asks-new, one-more}
 use Rattle.bench_table.proofs.Stepping.{may-at, at-after}
 use Rattle.bench_table.proofs.NewCells.{three_stored, identity-met, root-met, free-there, three-at}
@@ -68,5 +68,5 @@ returns c =
     let cache = with_made (three_stored m.cache d) d in
     let at = at-after h (maker m.phase m.season m.env cache (m.made + 1)) y z (StoreRoot 0 r) _ four.0 c.store_root.ensures.seat c.store_root.ensures.view in
     let objects = one-more y z r (view_of y).own.meaning.value asks c.store_root.ensures.plain ∙ ap (λ k. k + 1) four.1 in
-    let makes : Makes h z = record { phase = m.phase; season = m.season; env = slice_set m.env 0 (reference_in r); cache = cache; made = m.made + 1; seen = m.seen; turn = m.turn; whole = made-whole m.cache d; at = at; objects = objects } in
+    let makes : MayMakeCells h z = record { phase = m.phase; season = m.season; env = slice_set m.env 0 (reference_in r); cache = cache; made = m.made + 1; seen = m.seen; turn = m.turn; whole = made-whole m.cache d; at = at; objects = objects } in
     (makes, ap (λ (s : SeatState). is_some s.cache) at.2 ∙ made-some m.cache d free, ap (λ (s : SeatState). s.made) at.2 ∙ ap (λ k. k + 1) (sym (ap (λ (s : SeatState). s.made) m.at.2)))

@@ -1,18 +1,12 @@
-use Rattle.std.proofs.Common.{◌<◌, length, arith, ap}
-use Rattle.gc_table.specs.declared.view.SectionState.{SectionState}
-use Rattle.gc_table.proofs.Records.{first-of}
+use Rattle.std.proofs.Common.{length, ap, ◌∙◌}
+use Rattle.std.proofs.lemmas.Option.{IfSome_then}
+use Rattle.mark_core.specs.Start.{start_seat}
+use Rattle.mark_core.specs.declared.kinds.Shape.{Shape}
+use Rattle.gc_table.specs.declared.view.Meaning.{Meaning}
 use Rattle.bench_table.proofs.opening.open.Goals as goal
 
 pub returns-clause-rests : goal.returns-clause-rests
-returns-clause-rests c =
-    let e = c.in-Ok.ensures in
-    let some_left : 0 < length c.in-Ok.seats.items = omega (arith, c.in-Ok.seats.ok, e.1) in
-    let q = e.2 0 c.remove-seat.result (first-of c.in-Ok.seats.items c.remove-seat.result some_left c.remove-seat.ensures.value) in
-    (e.0, q.0, q.1.state)
+returns-clause-rests c = IfSome_then c.open_one.result c.open_one.ensures (λ r e. (e.0, e.1.0.0, e.1.0.1 ∙ ap (λ (x : Shape). start_seat x 0) e.0))
 
 pub returns-clause-objects : goal.returns-clause-objects
-returns-clause-objects c =
-    let e = c.in-Ok.ensures in
-    let some_left : 0 < length c.in-Ok.seats.items = omega (arith, c.in-Ok.seats.ok, e.1) in
-    let q = e.2 0 c.remove-seat.result (first-of c.in-Ok.seats.items c.remove-seat.result some_left c.remove-seat.ensures.value) in
-    ap (λ (s : SectionState). length s.meaning.heap.objects) q.1.own
+returns-clause-objects c = IfSome_then c.open_one.result c.open_one.ensures (λ r e. ap (λ (m : Meaning). length m.heap.objects) e.1.1)

@@ -4,7 +4,7 @@ use Rattle.std.specs.List.{insert}
 use Rattle.std.proofs.lemmas.List.{length_push}
 use Rattle.std.proofs.lemmas.List.Elements.{All-cons, All-pop, All-same}
 use Rattle.managed_heap.specs.declared.mutator.Mutator.{Mutator}
-use Rattle.binary_trees.specs.Standing.{Waits}
+use Rattle.binary_trees.specs.Standing.{WorkerWaits}
 use Rattle.binary_trees.specs.declared.threads.Worker.{Worker}
 use Rattle.binary_trees.proofs.crew.hire_workers.Goals as goal
 
@@ -19,10 +19,10 @@ loop-mutator-preserved c =
     let ys : List Mutator = c.mutator.new.self.mutators.items in
     let m : Mutator = c.in-Some.mutator in
     let taken : xs ≡ ys ++ m ∷ [] = c.in-Some.ensures.some in
-    let left = All-pop Waits xs ys (Some m) taken i.left in
+    let left = All-pop WorkerWaits xs ys (Some m) taken i.left in
     let fewer : length xs ≡ length ys + 1 = ap length taken ∙ length_push ys m in
     record {
       left = left.0;
-      waits = all-first (λ (x : Worker). Waits x.mutator) c.loop-mutator.workers.items c.insert.new.self.items _ c.in_ok-insert.ensures.items i.waits left.1;
+      waits = all-first (λ (x : Worker). WorkerWaits x.mutator) c.loop-mutator.workers.items c.insert.new.self.items _ c.in_ok-insert.ensures.items i.waits left.1;
       count = omega (arith, i.count, c.in_ok-insert.ensures.len, fewer, c.loop-mutator.world.mutators.ok, c.mutator.new.self.mutators.ok);
     }

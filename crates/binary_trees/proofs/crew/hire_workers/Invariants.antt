@@ -1,13 +1,13 @@
 use Rattle.std.proofs.Common.{◌≡◌, ◌+◌, All}
 use Rattle.std.specs.Prelude.{vec_len}
-use Rattle.binary_trees.specs.Standing.{Waits}
+use Rattle.binary_trees.specs.Standing.{WorkerWaits}
 use Rattle.binary_trees.specs.declared.threads.Worker.{Worker}
 use Rattle.binary_trees.proofs.crew.hire_workers.Given as goal
 
 abbrev pub invariant-loop-mutator : goal.invariant-loop-mutator
 invariant-loop-mutator l = record {
-  left : All Waits l.world.mutators.items;
-  waits : All (λ (x : Worker). Waits x.mutator) l.workers.items;
+  left : All WorkerWaits l.world.mutators.items;
+  waits : All (λ (x : Worker). WorkerWaits x.mutator) l.workers.items;
   count : vec_len l.workers + vec_len l.world.mutators ≡ vec_len l.fn.world.mutators;
 }
 

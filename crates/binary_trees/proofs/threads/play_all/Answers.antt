@@ -1,7 +1,7 @@
 use Rattle.std.proofs.Common.{◌≡◌, ◌<◌, List, length, get_or, take, drop, ◌++◌, sym, ap, ◌∙◌, subst, arith, rules}
 use Rattle.std.proofs.lemmas.Grind.{common_steps}
-use Rattle.binary_trees.specs.Playing.{HasPlayed}
-use Rattle.binary_trees.specs.Standing.{Waits}
+use Rattle.binary_trees.specs.Playing.{WorkerPlayed}
+use Rattle.binary_trees.specs.Standing.{WorkerWaits}
 use Rattle.binary_trees.specs.declared.threads.Worker.{Worker}
 use Rattle.binary_trees.proofs.threads.play_all.Goals as goal
 
@@ -13,7 +13,7 @@ for_each_mut-requires-clause-accepts g c = λ κs lives i p low is.
       (
         c.requires.range,
         omega (arith, low', c.requires.some.1, c.args.workers.now.ok),
-        subst (λ (x : Worker). Waits x.mutator) (sym (is ∙ ap (λ (l : List Worker). get_or l i p.now) v)) (c.requires.waits i p.now low'),
+        subst (λ (x : Worker). WorkerWaits x.mutator) (sym (is ∙ ap (λ (l : List Worker). get_or l i p.now) v)) (c.requires.waits i p.now low'),
       ),
       search rules,
     )
@@ -31,8 +31,8 @@ returns g c =
           λ i d low.
           let low' : i < length c.as_mut_slice.result.now = subst (λ (l : List Worker). i < length l) (sym v) low in
           let t = (c.for_each_mut.ensures i d low').1 in
-          let one : HasPlayed a i (get_or xs i d) (get_or ys i d) =
-          subst (λ (x : Worker). HasPlayed a i x (get_or ys i d)) (t.argument_is ∙ ap (λ (l : List Worker). get_or l i d) v) (subst (HasPlayed a i t.argument.now) t.left t.call) in
+          let one : WorkerPlayed a i (get_or xs i d) (get_or ys i d) =
+          subst (λ (x : Worker). WorkerPlayed a i x (get_or ys i d)) (t.argument_is ∙ ap (λ (l : List Worker). get_or l i d) v) (subst (WorkerPlayed a i t.argument.now) t.left t.call) in
           let same : get_or (take c.args.workers.now.len (ys ++ drop (length ys) xs)) i d ≡ get_or ys i d = grind (arith, common_steps) in
-          subst (HasPlayed a i (get_or xs i d)) (sym same) one;
+          subst (WorkerPlayed a i (get_or xs i d)) (sym same) one;
     }

@@ -2,7 +2,7 @@ use Rattle.std.proofs.Common.{◌≡◌, ◌-◌, suc, sym, subst, arith}
 use Rattle.std.specs.Prelude.{IfOk}
 use Rattle.std.proofs.lemmas.Result.{IfOk-weaker}
 use Rattle.managed_heap.specs.Calls.{heap_of}
-use Rattle.binary_trees.specs.Trees.{Builds, Joins}
+use Rattle.binary_trees.specs.Trees.{Builds, JoinsTrees}
 use Rattle.binary_trees.proofs.Building.{tree-built}
 use Rattle.binary_trees.proofs.trees.+build.Goals as goal
 
@@ -19,5 +19,5 @@ returns-clause-builds g t c =
     let v = c.args.v in
     let d = c.args.depth - 1 in
     let whole : suc d ≡ c.args.depth = omega (arith, c.if-depth-eq0.false) in
-    IfOk-weaker c.node.result (λ _. Joins v b w) (λ _. Builds c.args.depth v x w)
+    IfOk-weaker c.node.result (λ _. JoinsTrees v b w) (λ _. Builds c.args.depth v x w)
     (λ _ joins. subst (λ n. Builds n v x w) whole (tree-built d v x a b w c.in_ok-build.ensures.builds c.in_ok-build-2.ensures.builds joins)) c.node.ensures.joins

@@ -1,11 +1,11 @@
 use Rattle.std.proofs.Common.{ℕ, suc, ◌≡◌, ◌+◌, ◌-◌, ◌<◌, ◌≤◌, ap, ◌∙◌, arith}
-use Rattle.plain_heap.specs.PlainHeap.{Heap, variable}
+use Rattle.plain_heap.specs.PlainHeap.{Heap, heap_variables, variable}
 use Rattle.plain_heap.specs.declared.object.Ref.{Ref}
 use Rattle.plain_heap.specs.declared.object.Ref.TheVariants.{Nil}
 use Rattle.plain_heap.specs.declared.operation.Op.TheVariants as ops
 use Rattle.managed_heap.specs.Calls.{heap_of}
-use Rattle.managed_heap.specs.Plain.{Steps}
-use Rattle.binary_trees.specs.Trees.{Leaves, full, nodes}
+use Rattle.mutator_turns.specs.Plain.{Steps}
+use Rattle.binary_trees.specs.Trees.{LeavesObjects, full, nodes}
 use Rattle.binary_trees.proofs.Counting.{full-small, nodes-few}
 use Rattle.binary_trees.proofs.Walking.{counted-both}
 use Rattle.binary_trees.proofs.trees.+count.Goals as goal
@@ -14,8 +14,8 @@ small : (x : Heap) (k n : ℕ) (ref : Ref) → k ≤ 31 → n ≡ nodes x k ref 
 small x k n ref low e = let p : full k < 4294967296 = full-small k 31 low in omega (arith, e, nodes-few x k ref, p)
 
 both :
-    (x y z w q : Heap) (v k l r : ℕ) → v + k < 32 → 0 < k → (variable x v ≡ Nil → ⊥) → Steps (ops.Get (v + 1) v 0) x y → l ≡ nodes y (k - 1) (variable y (v + 1)) → Leaves (v + 1 + 1) y z → Steps (ops.Get (v + 1) v 1) z w
-    → r ≡ nodes w (k - 1) (variable w (v + 1)) → Leaves (v + 1 + 1) w q → (1 + l + r ≡ nodes x k (variable x v)) × Leaves (v + 1) x q
+    (x y z w q : Heap) (v k l r : ℕ) → v + k < heap_variables → 0 < k → (variable x v ≡ Nil → ⊥) → Steps (ops.Get (v + 1) v 0) x y → l ≡ nodes y (k - 1) (variable y (v + 1)) → LeavesObjects (v + 1 + 1) y z → Steps (ops.Get (v + 1) v 1) z w
+    → r ≡ nodes w (k - 1) (variable w (v + 1)) → LeavesObjects (v + 1 + 1) w q → (1 + l + r ≡ nodes x k (variable x v)) × LeavesObjects (v + 1) x q
 both x y z w q v k l r fits deep some first left leaves second right leaves' =
     let j : suc (k - 1) ≡ k = omega (arith, deep) in
     let m = counted-both v (k - 1) l r x y z w q some (omega (arith, fits, deep)) first left leaves second right leaves' in

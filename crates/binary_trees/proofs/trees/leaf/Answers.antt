@@ -1,7 +1,7 @@
 use Rattle.std.proofs.lemmas.Result.{IfOk-weaker}
 use Rattle.plain_heap.specs.declared.operation.Op.TheVariants as ops
 use Rattle.managed_heap.specs.Calls.{heap_of}
-use Rattle.managed_heap.specs.Plain.{Steps}
+use Rattle.mutator_turns.specs.Plain.{Steps}
 use Rattle.binary_trees.specs.Trees.{Builds}
 use Rattle.binary_trees.proofs.Building.{leaf-built}
 use Rattle.binary_trees.proofs.trees.leaf.Goals as goal

@@ -1,14 +1,14 @@
 use Rattle.std.proofs.Common.{◌≡◌, length}
 use Rattle.managed_heap.specs.Calls.{heap_of}
 use Rattle.binary_trees.specs.Counts.{AreChecked}
-use Rattle.binary_trees.specs.Standing.{Plays}
-use Rattle.binary_trees.specs.Trees.{Grows}
+use Rattle.binary_trees.specs.Standing.{WorkerPlays}
+use Rattle.binary_trees.specs.Trees.{GrowsHeap}
 use Rattle.binary_trees.proofs.workers.all_depths.Given as goal
 
 abbrev pub invariant-loop-i : goal.invariant-loop-i
 invariant-loop-i g l = record {
-  plays : Plays l.m;
+  plays : WorkerPlays l.m;
   long : length l.checks ≡ 5;
   checked : AreChecked l.asked l.at l.i l.checks;
-  grows : Grows 1 (heap_of l.fn.m) (heap_of l.m);
+  grows : GrowsHeap 1 (heap_of l.fn.m) (heap_of l.m);
 }

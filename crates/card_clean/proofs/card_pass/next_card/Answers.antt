@@ -1,6 +1,7 @@
 use Rattle.std.proofs.Common.{ℕ, ◌≡◌, ◌<◌, ◌≤◌, arith, sym, ap, ◌∙◌, subst, cond, Some, None, [], ◌∷◌, ◌++◌, refl, inl, inr}
 use Rattle.std.proofs.lemmas.Bool.{lt-ltb, le-ltb}
 use Rattle.mark_core.specs.Layout.{card_count}
+use Rattle.mark_core.specs.Numbers.{card_counter}
 use Rattle.mark_core.specs.declared.kinds.Shape.{Shape}
 use Rattle.mark_core.specs.declared.kinds.Step.TheVariants.{NextOfCards, ReadStat}
 use Rattle.gc_table.specs.declared.view.View.{View}
@@ -15,22 +16,22 @@ use Rattle.card_clean.specs.Passing.{card_floor, draws_card}
 use Rattle.card_clean.proofs.Drawing.{looked-traces, drawn-traces, may-draw, rises}
 use Rattle.card_clean.proofs.card_pass.next_card.Goals as goal
 
-both-ran : (v w x : View) (seen n : ℕ) → Found (ReadStat 0) seen v w → Found NextOfCards n w x → Ran v x
-both-ran v w x seen n e f = ran-join v w x (ran-found v w (ReadStat 0) seen refl e) (ran-found w x NextOfCards n refl f)
+both-ran : (v w x : View) (seen n : ℕ) → Found (ReadStat card_counter) seen v w → Found NextOfCards n w x → Ran v x
+both-ran v w x seen n e f = ran-join v w x (ran-found v w (ReadStat card_counter) seen refl e) (ran-found w x NextOfCards n refl f)
 
-both-only : (v w x : View) (seen n : ℕ) → Found (ReadStat 0) seen v w → Found NextOfCards n w x → Only draws_card v x
-both-only v w x seen n e f = ran-only draws_card v w x (ran-found v w (ReadStat 0) seen refl e) (ran-found w x NextOfCards n refl f) (only-after draws_card v w (ReadStat 0) seen refl e.0) (only-after draws_card w x NextOfCards n refl f.0)
+both-only : (v w x : View) (seen n : ℕ) → Found (ReadStat card_counter) seen v w → Found NextOfCards n w x → Only draws_card v x
+both-only v w x seen n e f = ran-only draws_card v w x (ran-found v w (ReadStat card_counter) seen refl e) (ran-found w x NextOfCards n refl f) (only-after draws_card v w (ReadStat card_counter) seen refl e.0) (only-after draws_card w x NextOfCards n refl f.0)
 
-both-events : (v w x : View) (seen n : ℕ) → Found (ReadStat 0) seen v w → Found NextOfCards n w x → events v x ≡ event (ReadStat 0) seen ∷ event NextOfCards n ∷ []
+both-events : (v w x : View) (seen n : ℕ) → Found (ReadStat card_counter) seen v w → Found NextOfCards n w x → events v x ≡ event (ReadStat card_counter) seen ∷ event NextOfCards n ∷ []
 both-events v w x seen n e f =
-    ran-events v w x (ran-found v w (ReadStat 0) seen refl e) (ran-found w x NextOfCards n refl f)
-    ∙ (λ i. events-after v w (ReadStat 0) seen e.0 i ++ events-after w x NextOfCards n f.0 i)
+    ran-events v w x (ran-found v w (ReadStat card_counter) seen refl e) (ran-found w x NextOfCards n refl f)
+    ∙ (λ i. events-after v w (ReadStat card_counter) seen e.0 i ++ events-after w x NextOfCards n f.0 i)
 
 pub returns-then-read_stat-end-clause-ran : goal.returns-then-read_stat-end-clause-ran
-returns-then-read_stat-end-clause-ran c = ran-found (view_of c.args.seat.now) (view_of c.read_stat.new.seat) (ReadStat 0) c.read_stat.result refl c.read_stat.ensures.view
+returns-then-read_stat-end-clause-ran c = ran-found (view_of c.args.seat.now) (view_of c.read_stat.new.seat) (ReadStat card_counter) c.read_stat.result refl c.read_stat.ensures.view
 
 pub returns-then-read_stat-end-clause-only : goal.returns-then-read_stat-end-clause-only
-returns-then-read_stat-end-clause-only c = only-after draws_card (view_of c.args.seat.now) (view_of c.read_stat.new.seat) (ReadStat 0) c.read_stat.result refl c.read_stat.ensures.view.0
+returns-then-read_stat-end-clause-only c = only-after draws_card (view_of c.args.seat.now) (view_of c.read_stat.new.seat) (ReadStat card_counter) c.read_stat.result refl c.read_stat.ensures.view.0
 
 pub returns-then-read_stat-end-clause-draws : goal.returns-then-read_stat-end-clause-draws
 returns-then-read_stat-end-clause-draws c =
@@ -38,7 +39,7 @@ returns-then-read_stat-end-clause-draws c =
     let e = c.read_stat.ensures.view in
     let cells : c.shape.result.cells ≡ v.shape.cells = ap (λ (s : Shape). s.cells) (c.shape.ensures ∙ sym c.requires.seat.0.1) in
     let over : card_count v.shape ≤ c.read_stat.result = omega (arith, c.if-read_stat-end.true, c.from-end.ensures, cells) in
-    inl (record { seen = c.read_stat.result; finds = e.1; over = over; view = e.0; events_are = events-after v (view_of c.read_stat.new.seat) (ReadStat 0) c.read_stat.result e.0 }, refl)
+    inl (record { seen = c.read_stat.result; finds = e.1; over = over; view = e.0; events_are = events-after v (view_of c.read_stat.new.seat) (ReadStat card_counter) c.read_stat.result e.0 }, refl)
 
 pub returns-then-number-end-clause-ran : goal.returns-then-number-end-clause-ran
 returns-then-number-end-clause-ran c = both-ran (view_of c.args.seat.now) (view_of c.read_stat.new.seat) (view_of c.next_of_cards-number.new.seat) c.read_stat.result c.next_of_cards-number.result c.read_stat.ensures.view c.next_of_cards-number.ensures.view

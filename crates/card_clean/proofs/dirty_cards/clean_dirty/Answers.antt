@@ -1,4 +1,4 @@
-use Rattle.std.proofs.Common.{◌≡◌, [], ◌∷◌, ◌++◌, ◌≤◌, ◌==◌, arith, refl, sym, ap, ◌∙◌, subst, inl, inr}
+use Rattle.std.proofs.Common.{◌≡◌, ◌++◌, ◌≤◌, ◌==◌, arith, refl, sym, ap, ◌∙◌, subst, inl, inr}
 use Rattle.mark_core.specs.Held.{has_free_slot, drop_packet}
 use Rattle.mark_core.specs.Layout.{card_count}
 use Rattle.mark_core.specs.declared.seat.SeatState.{SeatState}
@@ -9,9 +9,10 @@ use Rattle.gc_table.proofs.History.Log.{events-join}
 use Rattle.packet_pools.proofs.Counting.{given-moves}
 use Rattle.packet_pools.proofs.Doing.{traces-on}
 use Rattle.packet_pools.proofs.InHand.{drop-with}
-use Rattle.packet_pools.proofs.TracedSteps.{cleaned-join, later-cleaned, later-join}
+use Rattle.packet_pools.proofs.TracedSteps.{cleaned-join, traced-cleaned, traced-join}
 use Rattle.card_clean.specs.Leaving.{rescanned_in}
 use Rattle.packet_pools.specs.Hands.{free_slots}
+use Rattle.packet_pools.specs.Seeking.{output_pools}
 use Rattle.card_clean.proofs.Leavings.{rescanned-join, rescanned-moves}
 use Rattle.card_clean.proofs.Takings.{some-free, with-free}
 use Rattle.card_clean.proofs.CardLooks.{rescanned-clean, rescanned-dirty}
@@ -20,7 +21,7 @@ use Rattle.card_clean.proofs.dirty_cards.clean_dirty.Goals as goal
 pub returns-in_default-clause-seat : goal.returns-in_default-clause-seat
 returns-in_default-clause-seat c =
     let e = c.first_dirty.ensures in
-    (e.seat, traces-on (view_of c.args.seat.now) (view_of c.first_dirty.new.seat) e.later c.requires.seat.1 (ap (λ (s : SeatState). s.reserved) e.state) (ap (λ (s : SeatState). s.credit) e.state))
+    (e.seat, traces-on (view_of c.args.seat.now) (view_of c.first_dirty.new.seat) e.only c.requires.seat.1 (ap (λ (s : SeatState). s.reserved) e.state) (ap (λ (s : SeatState). s.credit) e.state))
 
 pub returns-in_default-clause-left : goal.returns-in_default-clause-left
 returns-in_default-clause-left c =
@@ -30,21 +31,21 @@ returns-in_default-clause-left c =
 pub take_some-requires-clause-seat : goal.take_some-requires-clause-seat
 take_some-requires-clause-seat c =
     let e = c.first_dirty.ensures in
-    (e.seat, traces-on (view_of c.args.seat.now) (view_of c.first_dirty.new.seat) e.later c.requires.seat.1 (ap (λ (s : SeatState). s.reserved) e.state) (ap (λ (s : SeatState). s.credit) e.state))
+    (e.seat, traces-on (view_of c.args.seat.now) (view_of c.first_dirty.new.seat) e.only c.requires.seat.1 (ap (λ (s : SeatState). s.reserved) e.state) (ap (λ (s : SeatState). s.credit) e.state))
 
 pub take_some-requires-clause-free : goal.take_some-requires-clause-free
 take_some-requires-clause-free c =
     let v : View = view_of c.args.seat.now in
     ap (λ (s : SeatState). has_free_slot s.held) c.first_dirty.ensures.state ∙ some-free v.state.held (omega (arith, c.requires.free))
 
-pub returns-in_default-take_some-clause-later : goal.returns-in_default-take_some-clause-later
-returns-in_default-take_some-clause-later c =
+pub returns-in_default-take_some-clause-only : goal.returns-in_default-take_some-clause-only
+returns-in_default-take_some-clause-only c =
     let v : View = view_of c.args.seat.now in
     let x : View = view_of c.take_some.new.seat in
-    later-cleaned v x (later-join v (view_of c.first_dirty.new.seat) x c.first_dirty.ensures.later c.take_some.ensures.later)
+    traced-cleaned v x (traced-join v (view_of c.first_dirty.new.seat) x c.first_dirty.ensures.only c.take_some.ensures.only)
 
-pub returns-in_default-clause-later : goal.returns-in_default-clause-later
-returns-in_default-clause-later c = later-cleaned (view_of c.args.seat.now) (view_of c.first_dirty.new.seat) c.first_dirty.ensures.later
+pub returns-in_default-clause-only : goal.returns-in_default-clause-only
+returns-in_default-clause-only c = traced-cleaned (view_of c.args.seat.now) (view_of c.first_dirty.new.seat) c.first_dirty.ensures.only
 
 pub returns-in_default-take_some-clause-left : goal.returns-in_default-take_some-clause-left
 returns-in_default-take_some-clause-left c =
@@ -52,8 +53,8 @@ returns-in_default-take_some-clause-left c =
     let w : View = view_of c.first_dirty.new.seat in
     let x : View = view_of c.take_some.new.seat in
     let first : rescanned_in v (events v w) ≡ 0 = rescanned-dirty v w 0 c.in-Some.card c.in-Some.ensures.dirty.2 in
-    let second : rescanned_in w (events w x) ≡ 0 = rescanned-moves (0 ∷ 1 ∷ 2 ∷ []) (events w x) w c.take_some.ensures.moves in
-    let j = rescanned-join v w x c.first_dirty.ensures.later.ran c.take_some.ensures.later.ran in
+    let second : rescanned_in w (events w x) ≡ 0 = rescanned-moves output_pools (events w x) w c.take_some.ensures.moves in
+    let j = rescanned-join v w x c.first_dirty.ensures.only.ran c.take_some.ensures.only.ran in
     omega (arith, j, first, second)
 
 pub clean_from-rescanned-requires-clause-out : goal.clean_from-rescanned-requires-clause-out
@@ -65,15 +66,15 @@ clean_from-rescanned-requires-clause-out c =
     let many : 2 ≤ free_slots w.state.held = subst (λ (t : SeatState). 2 ≤ free_slots t.held) (sym c.first_dirty.ensures.state) c.requires.free in
     (s.1, ap (λ (t : SeatState). has_free_slot t.held) s.2 ∙ with-free w.state.held h.packet h.length many)
 
-pub returns-clause-later : goal.returns-clause-later
-returns-clause-later c =
+pub returns-clause-only : goal.returns-clause-only
+returns-clause-only c =
     let v : View = view_of c.args.seat.now in
     let w : View = view_of c.first_dirty.new.seat in
     let x : View = view_of c.take_some.new.seat in
     let y : View = view_of c.clean_from-rescanned.new.seat in
     let z : View = view_of c.give.new.seat in
-    cleaned-join v w z (later-cleaned v w c.first_dirty.ensures.later)
-    (cleaned-join w x z (later-cleaned w x c.take_some.ensures.later) (cleaned-join x y z c.clean_from-rescanned.ensures.later (later-cleaned y z c.give.ensures.later)))
+    cleaned-join v w z (traced-cleaned v w c.first_dirty.ensures.only)
+    (cleaned-join w x z (traced-cleaned w x c.take_some.ensures.only) (cleaned-join x y z c.clean_from-rescanned.ensures.only (traced-cleaned y z c.give.ensures.only)))
 
 pub returns-clause-held : goal.returns-clause-held
 returns-clause-held c =
@@ -92,17 +93,17 @@ returns-clause-left c =
     let y : View = view_of c.clean_from-rescanned.new.seat in
     let z : View = view_of c.give.new.seat in
     let k = c.clean_from-rescanned.new.out in
-    let a = c.first_dirty.ensures.later in
-    let b = c.take_some.ensures.later in
+    let a = c.first_dirty.ensures.only in
+    let b = c.take_some.ensures.only in
     let d = c.clean_from-rescanned.ensures in
     let g = c.give.ensures in
-    let end = cleaned-join x y z d.later (later-cleaned y z g.later) in
+    let end = cleaned-join x y z d.only (traced-cleaned y z g.only) in
     let first : rescanned_in v (events v w) ≡ 0 = rescanned-dirty v w 0 c.in-Some.card c.in-Some.ensures.dirty.2 in
-    let second : rescanned_in w (events w x) ≡ 0 = rescanned-moves (0 ∷ 1 ∷ 2 ∷ []) (events w x) w c.take_some.ensures.moves in
-    let last : rescanned_in y (events y z) ≡ 0 = rescanned-moves (0 ∷ 1 ∷ 2 ∷ []) (events y z) y (given-moves (0 ∷ 1 ∷ 2 ∷ []) k.packet (k.length == 0) (events y z) g.steps) in
-    let i = rescanned-join v w z a.ran (cleaned-join w x z (later-cleaned w x b) end).ran in
+    let second : rescanned_in w (events w x) ≡ 0 = rescanned-moves output_pools (events w x) w c.take_some.ensures.moves in
+    let last : rescanned_in y (events y z) ≡ 0 = rescanned-moves output_pools (events y z) y (given-moves output_pools k.packet (k.length == 0) (events y z) g.steps) in
+    let i = rescanned-join v w z a.ran (cleaned-join w x z (traced-cleaned w x b) end).ran in
     let j = rescanned-join w x z b.ran end.ran in
-    let l = rescanned-join x y z d.later.ran g.later.ran in
+    let l = rescanned-join x y z d.only.ran g.only.ran in
     omega (arith, i, j, l, first, second, last, d.left)
 
 pub returns-in_default-clause-cleans : goal.returns-in_default-clause-cleans
@@ -114,7 +115,7 @@ returns-in_default-take_some-clause-cleans c =
     let w : View = view_of c.first_dirty.new.seat in
     let x : View = view_of c.take_some.new.seat in
     let d = c.in-Some.ensures.dirty in
-    inr (c.in-Some.card, d.1, events w x, events-join v w x c.first_dirty.ensures.later.log c.take_some.ensures.later.log ∙ ap (λ es. es ++ events w x) d.2, inl (refl, c.in_default-take_some.ensures.none.1))
+    inr (c.in-Some.card, d.1, events w x, events-join v w x c.first_dirty.ensures.only.log c.take_some.ensures.only.log ∙ ap (λ es. es ++ events w x) d.2, inl (refl, c.in_default-take_some.ensures.none.1))
 
 pub returns-clause-cleans : goal.returns-clause-cleans
 returns-clause-cleans c =
@@ -124,12 +125,12 @@ returns-clause-cleans c =
     let y : View = view_of c.clean_from-rescanned.new.seat in
     let z : View = view_of c.give.new.seat in
     let k = c.clean_from-rescanned.new.out in
-    let a = c.first_dirty.ensures.later in
+    let a = c.first_dirty.ensures.only in
     let b = c.take_some.ensures in
     let d = c.clean_from-rescanned.ensures in
     let g = c.give.ensures in
-    let end = cleaned-join x y z d.later (later-cleaned y z g.later) in
-    let rest = cleaned-join w x z (later-cleaned w x b.later) end in
+    let end = cleaned-join x y z d.only (traced-cleaned y z g.only) in
+    let rest = cleaned-join w x z (traced-cleaned w x b.only) end in
     inr (
       c.in-Some.card,
       c.in-Some.ensures.dirty.1,
@@ -140,10 +141,10 @@ returns-clause-cleans c =
             taking = events w x;
             cleaning = events x y;
             giving = events y z;
-            events_are = events-join w x z b.later.log end.log ∙ ap (λ es. events w x ++ es) (events-join x y z d.later.log g.later.log);
+            events_are = events-join w x z b.only.log end.log ∙ ap (λ es. events w x ++ es) (events-join x y z d.only.log g.only.log);
             takes = b.moves;
             cleans = d.cleans;
-            gives = given-moves (0 ∷ 1 ∷ 2 ∷ []) k.packet (k.length == 0) (events y z) g.steps;
+            gives = given-moves output_pools k.packet (k.length == 0) (events y z) g.steps;
           }
           ),
     )

@@ -43,12 +43,12 @@ loop-card-preserved c =
       traces = e.seat.1;
       order = omega (arith, i.order);
       still = λ l. absurd (omega (arith, c.loop-card-test.true, l, i.order));
-      later = cleaned-join v w x i.later e.later;
+      only = cleaned-join v w x i.only e.only;
       packet = fills-join v w x c.args.out.now c.loop-card.out c.clean_where_dirty-rescanned.new.out i.packet e.out;
       work = e.work;
       most = omega (arith, i.most, e.most, i.order);
-      left = let j = rescanned-join v w x i.later.ran e.later.ran in omega (arith, j, i.left, e.left);
+      left = let j = rescanned-join v w x i.only.ran e.only.ran in omega (arith, j, i.left, e.left);
       cleans =
           subst (λ k. CleanedFrom sh from k (done + one) (events v x)) more
-          (done, one, events v w, events w x, events-join v w x i.later.log e.later.log, refl, i.cleans, subst (λ k. CleanedWhereDirty sh k one (events w x)) at e.cleans);
+          (done, one, events v w, events w x, events-join v w x i.only.log e.only.log, refl, i.cleans, subst (λ k. CleanedWhereDirty sh k one (events w x)) at e.cleans);
     }

@@ -17,7 +17,7 @@ invariant-loop-card l = record {
   traces : Traces (view_of l.seat);
   order : l.fn.from ≤ l.card;
   still : l.card-end ≤ l.fn.from → l.card ≡ l.fn.from;
-  later : OnlyCleaned (view_of l.fn.seat) (view_of l.seat);
+  only : OnlyCleaned (view_of l.fn.seat) (view_of l.seat);
   packet : Fills l.fn.out l.out (view_of l.fn.seat) (view_of l.seat);
   work : IsFalse (work_in_hand l.heap.shape.fields (view_of l.seat).state);
   most : l.rescanned ≤ card_cells * (l.card - l.fn.from);

@@ -7,24 +7,24 @@ use Rattle.gc_table.specs.declared.view.View.{View}
 use Rattle.gc_table.specs.Seats.{view_of}
 use Rattle.gc_table.specs.Log.{events, event}
 use Rattle.packet_pools.proofs.Doing.{traces-on}
-use Rattle.packet_pools.proofs.TracedSteps.{cleaned-join, later-cleaned}
+use Rattle.packet_pools.proofs.TracedSteps.{cleaned-join, traced-cleaned}
 use Rattle.gc_table.proofs.History.Log.{events-after, events-join}
 use Rattle.card_clean.specs.Leaving.{rescanned_in}
 use Rattle.card_clean.proofs.Leavings.{rescanned-join}
-use Rattle.card_clean.proofs.Steps.{later-read_card, card-small}
+use Rattle.card_clean.proofs.Steps.{traced-read_card, card-small}
 use Rattle.card_clean.proofs.dirty_cards.clean_where_dirty.Goals as goal
 
-pub returns-then-not-read_card-clause-later : goal.returns-then-not-read_card-clause-later
-returns-then-not-read_card-clause-later c =
+pub returns-then-not-read_card-clause-only : goal.returns-then-not-read_card-clause-only
+returns-then-not-read_card-clause-only c =
     let e = c.read_card.ensures.view in
-    later-cleaned (view_of c.args.seat.now) (view_of c.read_card.new.seat) (later-read_card (view_of c.args.seat.now) (view_of c.read_card.new.seat) e.0 c.args.card e.2 e.1)
+    traced-cleaned (view_of c.args.seat.now) (view_of c.read_card.new.seat) (traced-read_card (view_of c.args.seat.now) (view_of c.read_card.new.seat) e.0 c.args.card e.2 e.1)
 
 pub returns-then-not-read_card-clause-seat : goal.returns-then-not-read_card-clause-seat
 returns-then-not-read_card-clause-seat c =
     let v : View = view_of c.args.seat.now in
     let w : View = view_of c.read_card.new.seat in
     let e = c.read_card.ensures.view in
-    (c.read_card.ensures.seat, traces-on v w (later-read_card v w e.0 c.args.card e.2 e.1) c.requires.seat.1 (ap (λ (z : View). z.state.reserved) e.1) (ap (λ (z : View). z.state.credit) e.1))
+    (c.read_card.ensures.seat, traces-on v w (traced-read_card v w e.0 c.args.card e.2 e.1) c.requires.seat.1 (ap (λ (z : View). z.state.reserved) e.1) (ap (λ (z : View). z.state.credit) e.1))
 
 pub returns-then-not-read_card-clause-cleans : goal.returns-then-not-read_card-clause-cleans
 returns-then-not-read_card-clause-cleans c =
@@ -43,14 +43,14 @@ clean_card-cleaned-requires-clause-seat c =
     let v : View = view_of c.args.seat.now in
     let w : View = view_of c.read_card.new.seat in
     let e = c.read_card.ensures.view in
-    (c.read_card.ensures.seat, traces-on v w (later-read_card v w e.0 c.args.card e.2 e.1) c.requires.seat.1 (ap (λ (z : View). z.state.reserved) e.1) (ap (λ (z : View). z.state.credit) e.1))
+    (c.read_card.ensures.seat, traces-on v w (traced-read_card v w e.0 c.args.card e.2 e.1) c.requires.seat.1 (ap (λ (z : View). z.state.reserved) e.1) (ap (λ (z : View). z.state.credit) e.1))
 
-pub returns-clause-later : goal.returns-clause-later
-returns-clause-later c =
+pub returns-clause-only : goal.returns-clause-only
+returns-clause-only c =
     let v : View = view_of c.args.seat.now in
     let w : View = view_of c.read_card.new.seat in
     let e = c.read_card.ensures.view in
-    cleaned-join v w (view_of c.clean_card-cleaned.new.seat) (later-cleaned v w (later-read_card v w e.0 c.args.card e.2 e.1)) c.clean_card-cleaned.ensures.later
+    cleaned-join v w (view_of c.clean_card-cleaned.new.seat) (traced-cleaned v w (traced-read_card v w e.0 c.args.card e.2 e.1)) c.clean_card-cleaned.ensures.only
 
 pub returns-clause-cleans : goal.returns-clause-cleans
 returns-clause-cleans c =
@@ -65,7 +65,7 @@ returns-clause-cleans c =
           inr (
             c.clean_card-cleaned.result,
             refl,
-            events-join v w x (later-read_card v w e.0 c.args.card e.2 e.1).log c.clean_card-cleaned.ensures.later.log
+            events-join v w x (traced-read_card v w e.0 c.args.card e.2 e.1).log c.clean_card-cleaned.ensures.only.log
                 ∙ (λ i. (events-after v w (ReadCard c.args.card) e.0 e.1 ∙ ap (λ n. event (ReadCard c.args.card) n ∷ []) one) i ++ events w x),
             c.clean_card-cleaned.ensures.cleans,
           );
@@ -84,5 +84,5 @@ returns-clause-left c =
     let x : View = view_of c.clean_card-cleaned.new.seat in
     let e = c.read_card.ensures.view in
     let first : rescanned_in v (events v w) ≡ 0 = ap (rescanned_in v) (events-after v w (ReadCard c.args.card) e.0 e.1) in
-    let j = rescanned-join v w x (later-read_card v w e.0 c.args.card e.2 e.1).ran c.clean_card-cleaned.ensures.later.ran in
+    let j = rescanned-join v w x (traced-read_card v w e.0 c.args.card e.2 e.1).ran c.clean_card-cleaned.ensures.only.ran in
     omega (arith, j, first, c.clean_card-cleaned.ensures.left)

@@ -12,7 +12,7 @@ invariant-loop-card l = record {
   sits : Sits l.heap l.seat;
   order : l.fn.from ≤ l.card;
   still : l.card-end ≤ l.fn.from → l.card ≡ l.fn.from;
-  later : OnlyTraced (view_of l.fn.seat) (view_of l.seat);
+  only : OnlyTraced (view_of l.fn.seat) (view_of l.seat);
   state : (view_of l.seat).state ≡ (view_of l.fn.seat).state;
   notes : KeepsAllNotes (view_of l.fn.seat) (view_of l.seat);
   looked : events (view_of l.fn.seat) (view_of l.seat) ≡ looks_clean l.fn.from l.card;

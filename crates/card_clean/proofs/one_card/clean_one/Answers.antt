@@ -1,4 +1,5 @@
-use Rattle.std.proofs.Common.{◌≡◌, [], ◌∷◌, ◌++◌, ◌==◌, arith, ap, ◌∙◌}
+use Rattle.std.proofs.Common.{◌≡◌, ◌++◌, ◌==◌, arith, ap, ◌∙◌}
+use Rattle.packet_pools.specs.Seeking.{output_pools}
 use Rattle.mark_core.specs.Held.{has_free_slot, drop_packet}
 use Rattle.mark_core.specs.declared.seat.SeatState.{SeatState}
 use Rattle.gc_table.specs.declared.view.View.{View}
@@ -7,7 +8,7 @@ use Rattle.gc_table.specs.Log.{events}
 use Rattle.gc_table.proofs.History.Log.{events-join}
 use Rattle.packet_pools.proofs.Counting.{given-moves}
 use Rattle.packet_pools.proofs.InHand.{drop-with}
-use Rattle.packet_pools.proofs.TracedSteps.{cleaned-join, later-cleaned}
+use Rattle.packet_pools.proofs.TracedSteps.{cleaned-join, traced-cleaned}
 use Rattle.card_clean.specs.Leaving.{rescanned_in}
 use Rattle.card_clean.proofs.Leavings.{rescanned-join, rescanned-moves}
 use Rattle.card_clean.proofs.Takings.{some-free, with-free}
@@ -22,13 +23,13 @@ clean_card-cleaned-requires-clause-out c =
     let t = c.in-Some.ensures.some.0 in
     (t.held, ap (λ (s : SeatState). has_free_slot s.held) t.state ∙ with-free (view_of c.args.seat.now).state.held h.packet h.length c.requires.free)
 
-pub returns-clause-later : goal.returns-clause-later
-returns-clause-later c =
+pub returns-clause-only : goal.returns-clause-only
+returns-clause-only c =
     let v : View = view_of c.args.seat.now in
     let w : View = view_of c.take_output.new.seat in
     let x : View = view_of c.clean_card-cleaned.new.seat in
     let y : View = view_of c.give.new.seat in
-    cleaned-join v w y (later-cleaned v w c.take_output.ensures.later) (cleaned-join w x y c.clean_card-cleaned.ensures.later (later-cleaned x y c.give.ensures.later))
+    cleaned-join v w y (traced-cleaned v w c.take_output.ensures.only) (cleaned-join w x y c.clean_card-cleaned.ensures.only (traced-cleaned x y c.give.ensures.only))
 
 pub returns-clause-held : goal.returns-clause-held
 returns-clause-held c =
@@ -45,20 +46,20 @@ returns-clause-some c =
     let y : View = view_of c.give.new.seat in
     let k = c.clean_card-cleaned.new.out in
     let t = c.in-Some.ensures.some.0 in
-    let a = c.take_output.ensures.later in
+    let a = c.take_output.ensures.only in
     let d = c.clean_card-cleaned.ensures in
     let g = c.give.ensures in
-    let gives = given-moves (0 ∷ 1 ∷ 2 ∷ []) k.packet (k.length == 0) (events x y) g.steps in
-    let end = cleaned-join w x y d.later (later-cleaned x y g.later) in
-    let first : rescanned_in v (events v w) ≡ 0 = rescanned-moves (0 ∷ 1 ∷ 2 ∷ []) (events v w) v t.moves in
-    let last : rescanned_in x (events x y) ≡ 0 = rescanned-moves (0 ∷ 1 ∷ 2 ∷ []) (events x y) x gives in
+    let gives = given-moves output_pools k.packet (k.length == 0) (events x y) g.steps in
+    let end = cleaned-join w x y d.only (traced-cleaned x y g.only) in
+    let first : rescanned_in v (events v w) ≡ 0 = rescanned-moves output_pools (events v w) v t.moves in
+    let last : rescanned_in x (events x y) ≡ 0 = rescanned-moves output_pools (events x y) x gives in
     let i = rescanned-join v w y a.ran end.ran in
-    let j = rescanned-join w x y d.later.ran g.later.ran in (
+    let j = rescanned-join w x y d.only.ran g.only.ran in (
       record {
         taking = events v w;
         cleaning = events w x;
         giving = events x y;
-        events_are = events-join v w y a.log end.log ∙ ap (λ es. events v w ++ es) (events-join w x y d.later.log g.later.log);
+        events_are = events-join v w y a.log end.log ∙ ap (λ es. events v w ++ es) (events-join w x y d.only.log g.only.log);
         takes = t.moves;
         cleans = d.cleans;
         gives = gives;
@@ -71,4 +72,4 @@ pub returns-in_default-clause-none : goal.returns-in_default-clause-none
 returns-in_default-clause-none c =
     let v : View = view_of c.args.seat.now in
     let e = c.in_default.ensures.none in
-    (e.0, e.1, e.2, rescanned-moves (0 ∷ 1 ∷ 2 ∷ []) (events v (view_of c.take_output.new.seat)) v e.2)
+    (e.0, e.1, e.2, rescanned-moves output_pools (events v (view_of c.take_output.new.seat)) v e.2)

@@ -1,11 +1,12 @@
 use Rattle.std.proofs.Common.{◌≡◌, ◌≢◌, ◌<◌, ◌*◌, ◌+◌, arith, sym, ap, ◌∙◌, subst, true, ⊎_elim}
 use Rattle.std.proofs.lemmas.Bool.{cases_eq}
+use Rattle.mark_core.specs.Numbers.{section_variables}
 use Rattle.mark_core.specs.declared.kinds.Shape.{Shape}
 use Rattle.mark_core.specs.declared.seat.SeatState.{SeatState}
 use Rattle.gc_table.specs.declared.view.View.{View}
 use Rattle.gc_table.specs.Seats.{view_of}
 use Rattle.packet_pools.proofs.Filled.{fills-join}
-use Rattle.packet_pools.proofs.TracedSteps.{later-join}
+use Rattle.packet_pools.proofs.TracedSteps.{traced-join}
 use Rattle.card_clean.specs.Drained.{RootsNoted}
 use Rattle.card_clean.proofs.Staying.{root-stays}
 use Rattle.card_clean.proofs.Rooting.{roots-all}
@@ -31,16 +32,16 @@ loop-section-preserved c =
     record {
       sits = e.seat.0;
       traces = e.seat.1;
-      later = later-join v w x i.later e.later;
+      only = traced-join v w x i.only e.only;
       packet = fills-join v w x c.args.out.now c.loop-section.out c.mark_roots.new.out i.packet e.out;
       work = e.work;
-      left = let j = rescanned-join v w x i.later.ran e.later.ran in omega (arith, j, i.left, e.left);
+      left = let j = rescanned-join v w x i.only.ran e.only.ran in omega (arith, j, i.left, e.left);
       noted =
           λ alone k l.
-          let now_alone : w.state.alone ≡ true = ap (λ (s : SeatState). s.alone) i.later.rest ∙ alone in
+          let now_alone : w.state.alone ≡ true = ap (λ (s : SeatState). s.alone) i.only.rest ∙ alone in
           ⊎_elim
-          (λ (s : k ≡ c.loop-section.section). subst (λ n. RootsNoted n 32 x) (sym s) (e.noted now_alone))
-          (λ (d : k ≢ c.loop-section.section). λ u h. root-stays w x e.later.ran e.later.only (k * 32 + u) now_alone (i.noted alone k (omega (arith, l, d)) u h))
+          (λ (s : k ≡ c.loop-section.section). subst (λ n. RootsNoted n section_variables x) (sym s) (e.noted now_alone))
+          (λ (d : k ≢ c.loop-section.section). λ u h. root-stays w x e.only.ran e.only.only (k * section_variables + u) now_alone (i.noted alone k (omega (arith, l, d)) u h))
           (cases_eq k c.loop-section.section);
     }
 

@@ -1,5 +1,6 @@
 use Rattle.std.proofs.Common.{ℕ, ◌≡◌, ◌<◌}
 use Rattle.std.specs.Prelude.{IsTrue, IsFalse}
+use Rattle.mark_core.specs.Numbers.{section_variables}
 use Rattle.mark_core.specs.Seats.{work_in_hand}
 use Rattle.gc_table.specs.Seats.{Sits, view_of}
 use Rattle.packet_pools.specs.OnlyTraced.{OnlyTraced}
@@ -14,9 +15,9 @@ abbrev pub invariant-loop-section : goal.invariant-loop-section
 invariant-loop-section l = record {
   sits : Sits l.heap l.seat;
   traces : Traces (view_of l.seat);
-  later : OnlyTraced (view_of l.fn.seat) (view_of l.seat);
+  only : OnlyTraced (view_of l.fn.seat) (view_of l.seat);
   packet : Fills l.fn.out l.out (view_of l.fn.seat) (view_of l.seat);
   work : IsFalse (work_in_hand l.heap.shape.fields (view_of l.seat).state);
   left : rescanned_in (view_of l.fn.seat) (events (view_of l.fn.seat) (view_of l.seat)) ≡ 0;
-  noted : IsTrue (view_of l.fn.seat).state.alone → (k : ℕ) → k < l.section → RootsNoted k 32 (view_of l.seat);
+  noted : IsTrue (view_of l.fn.seat).state.alone → (k : ℕ) → k < l.section → RootsNoted k section_variables (view_of l.seat);
 }

@@ -1,6 +1,7 @@
 use Rattle.std.proofs.Common.{ℕ, ◌≡◌, ◌<◌, ◌+◌, ◌*◌, arith, sym, ap, ◌∙◌, subst, Bool, cond, Some, None, inl, inr}
 use Rattle.std.proofs.lemmas.Bool.{ne_eqb}
 use Rattle.mark_core.specs.Bits.{cell_of}
+use Rattle.mark_core.specs.Numbers.{section_variables}
 use Rattle.mark_core.specs.Seats.{work_in_hand, scan_left, cleaning_left}
 use Rattle.mark_core.specs.declared.kinds.Shape.{Shape}
 use Rattle.mark_core.specs.declared.kinds.Step.TheVariants.{ReadRoot}
@@ -9,10 +10,10 @@ use Rattle.gc_table.specs.Seats.{view_of}
 use Rattle.gc_table.specs.Taking.{after}
 use Rattle.packet_pools.specs.OnlyTraced.{OnlyTraced, IsNotedMarked}
 use Rattle.packet_pools.proofs.Doing.{traces-on}
-use Rattle.packet_pools.proofs.TracedSteps.{later-join, later-refl}
+use Rattle.packet_pools.proofs.TracedSteps.{traced-join, traced-refl}
 use Rattle.card_clean.specs.Drained.{IsNotedRoot}
 use Rattle.card_clean.proofs.Rooting.{may-read_root, root-noted, marked-work}
-use Rattle.packet_pools.proofs.ScanSteps.{later-read_root}
+use Rattle.packet_pools.proofs.ScanSteps.{traced-read_root}
 use Rattle.card_clean.proofs.Steps.{idle-hand}
 use Rattle.card_clean.proofs.Leavings.{rescanned-join, rescanned-unread}
 use Rattle.card_clean.specs.Leaving.{rescanned_in}
@@ -26,15 +27,15 @@ read_root-word-requires-clause-may c =
     let shape : v.shape ≡ c.args.heap.now.shape = c.requires.seat.0.1 in
     may-read_root v c.args.section c.args.v c.args.out.now c.requires.seat.1.may (subst (λ (sh : Shape). c.args.section < sh.sections) (sym shape) c.requires.root.0) c.requires.root.1 c.requires.out.0 (ap (λ (sh : Shape). work_in_hand sh.fields v.state) shape ∙ c.requires.work)
 
-pub returns-else-word-ne0-clause-later : goal.returns-else-word-ne0-clause-later
-returns-else-word-ne0-clause-later c = let e = c.read_root-word.ensures.view in later-read_root (view_of c.args.seat.now) (view_of c.read_root-word.new.seat) c.read_root-word.result c.args.section c.args.v e.1 e.0
+pub returns-else-word-ne0-clause-only : goal.returns-else-word-ne0-clause-only
+returns-else-word-ne0-clause-only c = let e = c.read_root-word.ensures.view in traced-read_root (view_of c.args.seat.now) (view_of c.read_root-word.new.seat) c.read_root-word.result c.args.section c.args.v e.1 e.0
 
 pub returns-else-word-ne0-clause-seat : goal.returns-else-word-ne0-clause-seat
 returns-else-word-ne0-clause-seat c =
     let v : View = view_of c.args.seat.now in
     let w : View = view_of c.read_root-word.new.seat in
     let e = c.read_root-word.ensures.view in
-    (c.read_root-word.ensures.seat, traces-on v w (later-read_root v w c.read_root-word.result c.args.section c.args.v e.1 e.0) c.requires.seat.1 (ap (λ (z : View). z.state.reserved) e.0) (ap (λ (z : View). z.state.credit) e.0))
+    (c.read_root-word.ensures.seat, traces-on v w (traced-read_root v w c.read_root-word.result c.args.section c.args.v e.1 e.0) c.requires.seat.1 (ap (λ (z : View). z.state.reserved) e.0) (ap (λ (z : View). z.state.credit) e.0))
 
 pub returns-else-word-ne0-clause-noted : goal.returns-else-word-ne0-clause-noted
 returns-else-word-ne0-clause-noted c alone =
@@ -42,15 +43,15 @@ returns-else-word-ne0-clause-noted c alone =
     let n : ℕ = c.read_root-word.result in
     let e = c.read_root-word.ensures.view in
     let x : View = after (ReadRoot c.args.section c.args.v) n v in
-    subst (IsNotedRoot (c.args.section * 32 + c.args.v)) (sym e.0)
-    (root-noted v x n c.args.section c.args.v (subst (λ (sh : Shape). c.args.section < sh.sections) (sym c.requires.seat.0.1) c.requires.root.0) c.requires.root.1 alone e.1 (later-refl x) (inl c.if-word-ne0.false))
+    subst (IsNotedRoot (c.args.section * section_variables + c.args.v)) (sym e.0)
+    (root-noted v x n c.args.section c.args.v (subst (λ (sh : Shape). c.args.section < sh.sections) (sym c.requires.seat.0.1) c.requires.root.0) c.requires.root.1 alone e.1 (traced-refl x) (inl c.if-word-ne0.false))
 
 pub mark_cell-requires-clause-seat : goal.mark_cell-requires-clause-seat
 mark_cell-requires-clause-seat c =
     let v : View = view_of c.args.seat.now in
     let w : View = view_of c.read_root-word.new.seat in
     let e = c.read_root-word.ensures.view in
-    (c.read_root-word.ensures.seat, traces-on v w (later-read_root v w c.read_root-word.result c.args.section c.args.v e.1 e.0) c.requires.seat.1 (ap (λ (z : View). z.state.reserved) e.0) (ap (λ (z : View). z.state.credit) e.0))
+    (c.read_root-word.ensures.seat, traces-on v w (traced-read_root v w c.read_root-word.result c.args.section c.args.v e.1 e.0) c.requires.seat.1 (ap (λ (z : View). z.state.reserved) e.0) (ap (λ (z : View). z.state.credit) e.0))
 
 pub mark_cell-requires-clause-hand : goal.mark_cell-requires-clause-hand
 mark_cell-requires-clause-hand c =
@@ -63,12 +64,12 @@ mark_cell-requires-clause-hand c =
       fresh = ap (λ (z : View). z.state.fresh) e ∙ h.fresh;
     }
 
-pub returns-then-word-ne0-clause-later : goal.returns-then-word-ne0-clause-later
-returns-then-word-ne0-clause-later c =
+pub returns-then-word-ne0-clause-only : goal.returns-then-word-ne0-clause-only
+returns-then-word-ne0-clause-only c =
     let v : View = view_of c.args.seat.now in
     let w : View = view_of c.read_root-word.new.seat in
     let e = c.read_root-word.ensures.view in
-    later-join v w (view_of c.mark_cell.new.seat) (later-read_root v w c.read_root-word.result c.args.section c.args.v e.1 e.0) c.mark_cell.ensures.later
+    traced-join v w (view_of c.mark_cell.new.seat) (traced-read_root v w c.read_root-word.result c.args.section c.args.v e.1 e.0) c.mark_cell.ensures.only
 
 pub returns-then-word-ne0-clause-work : goal.returns-then-word-ne0-clause-work
 returns-then-word-ne0-clause-work c =
@@ -86,7 +87,7 @@ returns-then-word-ne0-clause-noted c alone =
     let n : ℕ = c.read_root-word.result in
     let e = c.read_root-word.ensures.view in
     let m = c.mark_cell.ensures in
-    root-noted v x n c.args.section c.args.v (subst (λ (sh : Shape). c.args.section < sh.sections) (sym c.requires.seat.0.1) c.requires.root.0) c.requires.root.1 alone e.1 (subst (λ z. OnlyTraced z x) e.0 m.later)
+    root-noted v x n c.args.section c.args.v (subst (λ (sh : Shape). c.args.section < sh.sections) (sym c.requires.seat.0.1) c.requires.root.0) c.requires.root.1 alone e.1 (subst (λ z. OnlyTraced z x) e.0 m.only)
     (inr (subst (IsNotedMarked x) c.cell_of.ensures (m.noted (ap (λ (z : View). z.state.alone) e.0 ∙ alone))))
 
 pub returns-else-word-ne0-clause-left : goal.returns-else-word-ne0-clause-left
@@ -103,5 +104,5 @@ returns-then-word-ne0-clause-left c =
     let e = c.read_root-word.ensures.view in
     let first : rescanned_in v (events v w) ≡ 0 = ap (rescanned_in v) (events-after v w (ReadRoot c.args.section c.args.v) c.read_root-word.result e.0) in
     let second = rescanned-unread (events w x) w c.mark_cell.ensures.asks.read in
-    let j = rescanned-join v w x (later-read_root v w c.read_root-word.result c.args.section c.args.v e.1 e.0).ran c.mark_cell.ensures.later.ran in
+    let j = rescanned-join v w x (traced-read_root v w c.read_root-word.result c.args.section c.args.v e.1 e.0).ran c.mark_cell.ensures.only.ran in
     omega (arith, j, first, second)

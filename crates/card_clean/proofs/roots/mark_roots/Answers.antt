@@ -1,9 +1,10 @@
 use Rattle.std.proofs.Common.{◌≡◌, arith, ap, ◌∙◌, subst, true}
+use Rattle.mark_core.specs.Numbers.{section_variables}
 use Rattle.mark_core.specs.declared.seat.SeatState.{SeatState}
 use Rattle.gc_table.specs.declared.view.View.{View}
 use Rattle.gc_table.specs.Seats.{view_of}
 use Rattle.packet_pools.proofs.Filled.{fills-join}
-use Rattle.packet_pools.proofs.TracedSteps.{later-join}
+use Rattle.packet_pools.proofs.TracedSteps.{traced-join}
 use Rattle.card_clean.specs.Drained.{RootsNoted}
 use Rattle.card_clean.proofs.Staying.{root-stays}
 use Rattle.card_clean.proofs.Rooting.{roots-next}
@@ -29,17 +30,17 @@ loop-v-preserved c =
     record {
       sits = e.seat.0;
       traces = e.seat.1;
-      later = later-join v w x i.later e.later;
+      only = traced-join v w x i.only e.only;
       packet = fills-join v w x c.args.out.now c.loop-v.out c.mark_root.new.out i.packet e.out;
       work = e.work;
-      left = let j = rescanned-join v w x i.later.ran e.later.ran in omega (arith, j, i.left, e.left);
+      left = let j = rescanned-join v w x i.only.ran e.only.ran in omega (arith, j, i.left, e.left);
       noted =
           λ alone.
-          let now_alone : w.state.alone ≡ true = ap (λ (s : SeatState). s.alone) i.later.rest ∙ alone in
-          roots-next c.args.section c.loop-v.v w x (λ k r. root-stays w x e.later.ran e.later.only k now_alone r) (i.noted alone) (e.noted now_alone);
+          let now_alone : w.state.alone ≡ true = ap (λ (s : SeatState). s.alone) i.only.rest ∙ alone in
+          roots-next c.args.section c.loop-v.v w x (λ k r. root-stays w x e.only.ran e.only.only k now_alone r) (i.noted alone) (e.noted now_alone);
     }
 
 pub returns-clause-noted : goal.returns-clause-noted
 returns-clause-noted c alone =
-    let last : c.loop-v.v ≡ 32 = omega (arith, c.loop-v-test.false, c.loop-v.auto.v-end) in
+    let last : c.loop-v.v ≡ section_variables = omega (arith, c.loop-v-test.false, c.loop-v.auto.v-end) in
     subst (λ n. RootsNoted c.args.section n (view_of c.loop-v.seat)) last (c.loop-v.invariant.noted alone)

@@ -1,14 +1,16 @@
 use Rattle.std.proofs.Common.{◌≡◌, ◌<◌, ◌*◌, arith, ap, ◌∙◌, subst, true}
 use Rattle.mark_core.specs.Held.{has_free_slot, drop_packet}
+use Rattle.mark_core.specs.Numbers.{section_variables}
 use Rattle.mark_core.specs.declared.kinds.Shape.{Shape}
 use Rattle.mark_core.specs.declared.seat.SeatState.{SeatState}
 use Rattle.gc_table.specs.declared.view.View.{View}
 use Rattle.gc_table.specs.Seats.{view_of}
 use Rattle.packet_pools.proofs.InHand.{drop-with}
-use Rattle.packet_pools.proofs.TracedSteps.{later-join}
+use Rattle.packet_pools.proofs.TracedSteps.{traced-join}
 use Rattle.card_clean.proofs.Staying.{ready-stays, root-stays}
 use Rattle.card_clean.proofs.Takings.{some-free, with-free}
-use Rattle.std.specs.Prelude.{[], ◌∷◌, ◌==◌}
+use Rattle.std.specs.Prelude.{◌==◌}
+use Rattle.packet_pools.specs.Seeking.{output_pools}
 use Rattle.gc_table.specs.Log.{events}
 use Rattle.packet_pools.proofs.Counting.{given-moves}
 use Rattle.card_clean.specs.Leaving.{rescanned_in}
@@ -24,13 +26,13 @@ mark_all-requires-clause-out c =
     let s = c.in-Some.ensures.some in
     (s.1, ap (λ (t : SeatState). has_free_slot t.held) s.2 ∙ with-free (view_of c.args.seat.now).state.held h.packet h.length c.requires.free)
 
-pub returns-clause-later : goal.returns-clause-later
-returns-clause-later c =
+pub returns-clause-only : goal.returns-clause-only
+returns-clause-only c =
     let v : View = view_of c.args.seat.now in
     let w : View = view_of c.take_some.new.seat in
     let x : View = view_of c.mark_all.new.seat in
     let y : View = view_of c.give.new.seat in
-    later-join v w y c.take_some.ensures.later (later-join w x y c.mark_all.ensures.later c.give.ensures.later)
+    traced-join v w y c.take_some.ensures.only (traced-join w x y c.mark_all.ensures.only c.give.ensures.only)
 
 pub returns-clause-held : goal.returns-clause-held
 returns-clause-held c =
@@ -40,24 +42,24 @@ returns-clause-held c =
     ap (λ (t : SeatState). t.held) c.give.ensures.state ∙ (c.mark_all.ensures.out.slots ∙ (ap (λ (t : SeatState). drop_packet t.held h.packet) s.2 ∙ drop-with v.state.held h.packet h.length s.0))
 
 pub returns-clause-rooted : goal.returns-clause-rooted
-unfolding returns-clause-later
+unfolding returns-clause-only
 returns-clause-rooted c found =
     let v : View = view_of c.args.seat.now in
     let w : View = view_of c.take_some.new.seat in
     let x : View = view_of c.mark_all.new.seat in
     let y : View = view_of c.give.new.seat in
-    let a : w.state.alone ≡ true = ap (λ (s : SeatState). s.alone) c.take_some.ensures.later.rest ∙ c.requires.ready.drains.alone in
-    let b : x.state.alone ≡ true = ap (λ (s : SeatState). s.alone) c.mark_all.ensures.later.rest ∙ a in
+    let a : w.state.alone ≡ true = ap (λ (s : SeatState). s.alone) c.take_some.ensures.only.rest ∙ c.requires.ready.drains.alone in
+    let b : x.state.alone ≡ true = ap (λ (s : SeatState). s.alone) c.mark_all.ensures.only.rest ∙ a in
     let shape : y.shape ≡ c.args.heap.now.shape = c.give.ensures.seat.0.1 in
     record {
-      ready = ready-stays v y (returns-clause-later c).ran (returns-clause-later c).only c.requires.ready;
-      roots = λ i l. root-stays x y c.give.ensures.later.ran c.give.ensures.later.only i b (c.mark_all.ensures.noted a i (subst (λ (sh : Shape). i < sh.sections * 32) shape l));
+      ready = ready-stays v y (returns-clause-only c).ran (returns-clause-only c).only c.requires.ready;
+      roots = λ i l. root-stays x y c.give.ensures.only.ran c.give.ensures.only.only i b (c.mark_all.ensures.noted a i (subst (λ (sh : Shape). i < sh.sections * section_variables) shape l));
     }
 
 pub returns-in_default-clause-left : goal.returns-in_default-clause-left
 returns-in_default-clause-left c =
     let v : View = view_of c.args.seat.now in
-    rescanned-moves (0 ∷ 1 ∷ 2 ∷ []) (events v (view_of c.take_some.new.seat)) v c.take_some.ensures.moves
+    rescanned-moves output_pools (events v (view_of c.take_some.new.seat)) v c.take_some.ensures.moves
 
 pub returns-clause-left : goal.returns-clause-left
 returns-clause-left c =
@@ -69,9 +71,9 @@ returns-clause-left c =
     let a = c.take_some.ensures in
     let b = c.mark_all.ensures in
     let g = c.give.ensures in
-    let first : rescanned_in v (events v w) ≡ 0 = rescanned-moves (0 ∷ 1 ∷ 2 ∷ []) (events v w) v a.moves in
-    let last : rescanned_in x (events x y) ≡ 0 = rescanned-moves (0 ∷ 1 ∷ 2 ∷ []) (events x y) x (given-moves (0 ∷ 1 ∷ 2 ∷ []) k.packet (k.length == 0) (events x y) g.steps) in
-    let end = later-join w x y b.later g.later in
-    let i = rescanned-join v w y a.later.ran end.ran in
-    let j = rescanned-join w x y b.later.ran g.later.ran in
+    let first : rescanned_in v (events v w) ≡ 0 = rescanned-moves output_pools (events v w) v a.moves in
+    let last : rescanned_in x (events x y) ≡ 0 = rescanned-moves output_pools (events x y) x (given-moves output_pools k.packet (k.length == 0) (events x y) g.steps) in
+    let end = traced-join w x y b.only g.only in
+    let i = rescanned-join v w y a.only.ran end.ran in
+    let j = rescanned-join w x y b.only.ran g.only.ran in
     omega (arith, i, j, first, last, b.left)

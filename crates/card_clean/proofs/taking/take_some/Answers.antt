@@ -1,4 +1,4 @@
-use Rattle.std.proofs.Common.{ℕ, ◌≡◌, ◌<◌, List, [], ◌∷◌, ap, ◌∙◌, refl, Bool, true, false, eqb, Option, Some, None}
+use Rattle.std.proofs.Common.{ℕ, ◌≡◌, ◌<◌, List, ap, ◌∙◌, refl, Bool, true, false, eqb, Option, Some, None}
 use Rattle.std.specs.Prelude.{IfSome, IfNone, IsTrue, ◌||◌}
 use Rattle.std.proofs.lemmas.Bool.{false≢true, or_right}
 use Rattle.gc_table.specs.declared.view.Entry.{Entry}
@@ -8,8 +8,8 @@ use Rattle.packet_pools.specs.Gains.{Takes}
 use Rattle.gc_table.specs.declared.view.View.{View}
 use Rattle.gc_table.specs.Seats.{view_of}
 use Rattle.gc_table.specs.Log.{events}
-use Rattle.packet_pools.specs.Seeking.{NoInput, NoOutput, only_moves}
-use Rattle.packet_pools.proofs.TracedSteps.{later-join}
+use Rattle.packet_pools.specs.Seeking.{NoInput, NoOutput, input_pools, only_moves, output_pools}
+use Rattle.packet_pools.proofs.TracedSteps.{traced-join}
 use Rattle.gc_table.proofs.History.Log.{events-join}
 use Rattle.packet_pools.proofs.Searches.{moves-join, moves-more}
 use Rattle.packet_pools.specs.OnlyTraced.{OnlyTraced}
@@ -17,8 +17,8 @@ use Rattle.card_clean.specs.Taking.{NoPacket}
 use Rattle.card_clean.proofs.taking.take_some.Goals as goal
 
 -- the pools of an input are among those of an output
-widened : (es : List Entry) → only_moves (2 ∷ 1 ∷ []) es ≡ true → only_moves (0 ∷ 1 ∷ 2 ∷ []) es ≡ true
-widened es m = moves-more (2 ∷ 1 ∷ []) (0 ∷ 1 ∷ 2 ∷ []) (λ x e. turned x (eqb 2 x) (eqb 1 x) e) es m
+widened : (es : List Entry) → only_moves input_pools es ≡ true → only_moves output_pools es ≡ true
+widened es m = moves-more input_pools output_pools (λ x e. turned x (eqb 2 x) (eqb 1 x) e) es m
   where
     turned : (x : ℕ) (a b : Bool) → (a || (b || false)) ≡ true → (eqb 0 x || (b || (a || false))) ≡ true
     turned x true true e = or_right (eqb 0 x) _ refl
@@ -27,25 +27,25 @@ widened es m = moves-more (2 ∷ 1 ∷ []) (0 ∷ 1 ∷ 2 ∷ []) (λ x e. turne
     turned x false false e = absurd (false≢true e)
 
 -- the search moved packets alone, whether it found one or not
-input-moves : (sh : Shape) (o : Option Held) (v w : View) → IfSome o (λ h. Takes (2 ∷ 1 ∷ []) h v w × (0 < h.length)) → IfNone o ((w.state ≡ v.state) × NoInput sh (events v w) × IsTrue (only_moves (2 ∷ 1 ∷ []) (events v w))) → IsTrue (only_moves (0 ∷ 1 ∷ 2 ∷ []) (events v w))
+input-moves : (sh : Shape) (o : Option Held) (v w : View) → IfSome o (λ h. Takes input_pools h v w × (0 < h.length)) → IfNone o ((w.state ≡ v.state) × NoInput sh (events v w) × IsTrue (only_moves input_pools (events v w))) → IsTrue (only_moves output_pools (events v w))
 input-moves sh None v w s n = widened (events v w) n.2
 input-moves sh (Some h) v w s n = widened (events v w) s.0.moves
 
 -- both searches failed
-both-none : (sh : Shape) (o : Option Held) (v w x : View) → w.state ≡ v.state → NoOutput sh (events v w) → OnlyTraced v w → OnlyTraced w x → IfNone o ((x.state ≡ w.state) × NoInput sh (events w x) × IsTrue (only_moves (2 ∷ 1 ∷ []) (events w x))) → IfNone o ((x.state ≡ v.state) × NoPacket sh (events v x))
+both-none : (sh : Shape) (o : Option Held) (v w x : View) → w.state ≡ v.state → NoOutput sh (events v w) → OnlyTraced v w → OnlyTraced w x → IfNone o ((x.state ≡ w.state) × NoInput sh (events w x) × IsTrue (only_moves input_pools (events w x))) → IfNone o ((x.state ≡ v.state) × NoPacket sh (events v x))
 both-none sh (Some h) v w x e out a b n = n
 both-none sh None v w x e out a b n = (n.0 ∙ e, record { first = events v w; second = events w x; events_are = events-join v w x a.log b.log; no_output = out; no_input = n.1 })
 
 pub returns-in-None-clause-none : goal.returns-in-None-clause-none
 returns-in-None-clause-none c =
-    both-none c.args.heap.now.shape c.take_input.result (view_of c.args.seat.now) (view_of c.take_output.new.seat) (view_of c.take_input.new.seat) c.in-None.ensures.none.0 c.in-None.ensures.none.1 c.take_output.ensures.later c.take_input.ensures.later c.take_input.ensures.none
+    both-none c.args.heap.now.shape c.take_input.result (view_of c.args.seat.now) (view_of c.take_output.new.seat) (view_of c.take_input.new.seat) c.in-None.ensures.none.0 c.in-None.ensures.none.1 c.take_output.ensures.only c.take_input.ensures.only c.take_input.ensures.none
 
-pub returns-in-None-clause-later : goal.returns-in-None-clause-later
-returns-in-None-clause-later c = later-join (view_of c.args.seat.now) (view_of c.take_output.new.seat) (view_of c.take_input.new.seat) c.take_output.ensures.later c.take_input.ensures.later
+pub returns-in-None-clause-only : goal.returns-in-None-clause-only
+returns-in-None-clause-only c = traced-join (view_of c.args.seat.now) (view_of c.take_output.new.seat) (view_of c.take_input.new.seat) c.take_output.ensures.only c.take_input.ensures.only
 
 pub returns-in-None-clause-moves : goal.returns-in-None-clause-moves
 returns-in-None-clause-moves c =
     let v : View = view_of c.args.seat.now in
     let w : View = view_of c.take_output.new.seat in
     let x : View = view_of c.take_input.new.seat in
-    ap (only_moves (0 ∷ 1 ∷ 2 ∷ [])) (events-join v w x c.take_output.ensures.later.log c.take_input.ensures.later.log) ∙ moves-join (0 ∷ 1 ∷ 2 ∷ []) (events v w) (events w x) c.in-None.ensures.none.2 (input-moves c.args.heap.now.shape c.take_input.result w x c.take_input.ensures.some c.take_input.ensures.none)
+    ap (only_moves output_pools) (events-join v w x c.take_output.ensures.only.log c.take_input.ensures.only.log) ∙ moves-join output_pools (events v w) (events w x) c.in-None.ensures.none.2 (input-moves c.args.heap.now.shape c.take_input.result w x c.take_input.ensures.some c.take_input.ensures.none)

@@ -1,7 +1,7 @@
 use Rattle.std.proofs.Common.{◌∙◌, ◌<◌, ◌^◌, List, ℕ, All, map, ap, sym, subst}
 use Rattle.std.specs.Prelude.{count_by}
 use Rattle.std.specs.List.{range_with_len}
-use Rattle.heap_dump.specs.Reading.{heap_of}
+use Rattle.heap_dump.specs.Reading.{heap_of_dump}
 use Rattle.dump_census.specs.declared.entries.Entry.{Entry}
 use Rattle.dump_census.specs.Entries.{entry_of, entry_count}
 use Rattle.dump_census.specs.Rounds.{is_unknown}
@@ -11,11 +11,11 @@ use Rattle.dump_census.proofs.counting.census.Goals as goal
 
 pub count_sections-requires-clause-small : goal.count_sections-requires-clause-small
 count_sections-requires-clause-small g c κs within =
-    subst (λ (es : List Entry). All (λ (e : Entry). e.value < 2 ^ 32) es) (sym (c.as_slice.ensures.value ∙ c.in-Ok.ensures)) (values_below (heap_of c.args.dump.now) c.records-records.ensures.legal)
+    subst (λ (es : List Entry). All (λ (e : Entry). e.value < 2 ^ 32) es) (sym (c.as_slice.ensures.value ∙ c.in-Ok.ensures)) (values_below (heap_of_dump c.args.dump.now) c.records-records.ensures.legal)
 
 pub returns-in-Ok-count_values : goal.returns-in-Ok-count_values
 returns-in-Ok-count_values g c =
-    let h = heap_of c.args.dump.now in
+    let h = heap_of_dump c.args.dump.now in
     let entries = c.as_slice.ensures.value ∙ c.in-Ok.ensures in
     let entries_again = c.as_slice-2.ensures.value ∙ c.in-Ok.ensures in
     record {

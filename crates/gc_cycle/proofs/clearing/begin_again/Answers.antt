@@ -1,6 +1,7 @@
 use Rattle.std.proofs.Common.{◌≡◌, ◌≤◌, [], ◌∷◌, refl, sym, ap, ◌∙◌, subst}
 use Rattle.std.proofs.lemmas.Bool.{or_right}
 use Rattle.mark_core.specs.Layout.{block_count}
+use Rattle.mark_core.specs.Numbers.{card_counter}
 use Rattle.mark_core.specs.Places.{the_phase}
 use Rattle.mark_core.specs.Steps.WorldSteps.{begins_exact}
 use Rattle.mark_core.specs.declared.kinds.Phase.TheVariants.{Clear, Drain}
@@ -46,7 +47,7 @@ returns-clause-begun c =
           ap (λ (y : View). y.state.exact) c.reset.ensures.view
           ∙ (ap (λ (y : View). y.state.exact) t.1 ∙ or_right v.state.exact (begins_exact t.0 Drain) (ap (λ n. begins_exact n Drain) from));
       before = [];
-      rest = event (Reset 0) 0 ∷ [];
+      rest = event (Reset card_counter) 0 ∷ [];
       move = event (StorePhase Drain) 4;
       all = move-events Clear Drain 0 v w x m c.reset.ensures.view;
       begins = refl;

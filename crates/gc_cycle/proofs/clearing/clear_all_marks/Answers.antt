@@ -15,7 +15,7 @@ use Rattle.gc_cycle.proofs.Parts.{move-finishes, part-finishes}
 use Rattle.gc_cycle.proofs.clearing.clear_all_marks.Goals as goal
 
 pub returns-clause-begun : goal.returns-clause-begun
-returns-clause-begun g c =
+returns-clause-begun c =
     let v : View = view_of c.args.seat.now in
     let w : View = view_of c.begin_clear.new.seat in
     let x : View = view_of c.clear_rest.new.seat in
@@ -28,7 +28,7 @@ returns-clause-begun g c =
     c.begin_again.ensures.begun
 
 pub returns-clause-rescanned : goal.returns-clause-rescanned
-returns-clause-rescanned g c =
+returns-clause-rescanned c =
     let v : View = view_of c.args.seat.now in
     let w : View = view_of c.begin_clear.new.seat in
     let x : View = view_of c.clear_rest.new.seat in
@@ -44,7 +44,7 @@ returns-clause-rescanned g c =
     omega (arith, all, later, one, two, three)
 
 pub returns-clause-freed : goal.returns-clause-freed
-returns-clause-freed g c =
+returns-clause-freed c =
     let v : View = view_of c.args.seat.now in
     let w : View = view_of c.begin_clear.new.seat in
     let x : View = view_of c.clear_rest.new.seat in
@@ -60,7 +60,7 @@ returns-clause-freed g c =
     omega (arith, all, later, one, two, three)
 
 pub returns-clause-clears : goal.returns-clause-clears
-returns-clause-clears g c =
+returns-clause-clears c =
     let v : View = view_of c.args.seat.now in
     let w : View = view_of c.begin_clear.new.seat in
     let x : View = view_of c.clear_rest.new.seat in

@@ -1,7 +1,8 @@
-use Rattle.std.proofs.Common.{◌∙◌, sym, ap, subst, is_some, refl, []}
+use Rattle.std.proofs.Common.{◌∙◌, sym, ap, subst, is_some, refl, [], None}
 use Rattle.gc_table.specs.Seats.{view_of}
 use Rattle.gc_table.specs.declared.view.View.{View}
-use Rattle.gc_cycle.specs.Answering.{GivesWay}
+use Rattle.gc_cycle.specs.Answering.{GivesWay, HasCache}
+use Rattle.gc_cycle.specs.Statistics.{GivesUp}
 use Rattle.gc_cycle.proofs.Refills.Answered.{cached-still, gave-way, kept-way, polled-mutates}
 use Rattle.mark_core.specs.declared.kinds.Step.TheVariants.{Observe}
 use Rattle.gc_cycle.proofs.Changes.{by-join, changes-after, gives-join, keeps-up, only-changes}
@@ -23,7 +24,9 @@ retire_some-requires-clause-seat g c =
     (c.poll.ensures.seat, polled-mutates (view_of c.args.seat.now) (view_of c.poll.new.seat) t.0 t.1 c.requires.seat.1)
 
 pub retire_some-requires-clause-cache : goal.retire_some-requires-clause-cache
-retire_some-requires-clause-cache g c = cached-still c.args.cache.now (view_of c.args.seat.now) (view_of c.poll.new.seat) (ap (λ (x : View). x.state.cache) c.poll.ensures.step.1) c.requires.cache
+retire_some-requires-clause-cache g c =
+    subst (λ o. HasCache o (view_of c.poll.new.seat)) (sym c.take.ensures.value)
+    (cached-still c.args.cache.now (view_of c.args.seat.now) (view_of c.poll.new.seat) (ap (λ (x : View). x.state.cache) c.poll.ensures.step.1) c.requires.cache)
 
 pub go_in-requires-clause-section : goal.go_in-requires-clause-section
 go_in-requires-clause-section g c = ap (λ o. is_some o) c.go_out.ensures.out.seat.section ∙ c.retire_some.ensures.seat.1.section
@@ -34,7 +37,7 @@ returns-clause-gives g c =
     let r = c.retire_some.ensures in
     let o = c.go_out.ensures in
     let i = c.go_in.ensures in
-    subst (λ kept. GivesWay c.args.cache.now kept c.args.done (view_of c.args.seat.now) (view_of c.go_in.new.seat)) (sym r.none)
+    subst (λ kept. GivesWay c.args.cache.now kept c.args.done (view_of c.args.seat.now) (view_of c.go_in.new.seat)) (sym c.take.ensures.after)
     (gave-way (view_of c.args.seat.now) (view_of c.poll.new.seat) (view_of c.retire_some.new.seat) (view_of c.go_out.new.seat) (view_of c.go_in.new.seat) c.args.cache.now c.args.done t.0 o.left.0 c.poll.ensures.ran t.1 (sym t.3 ∙ c.if-not-poll.false) r.ran r.only o.out o.left.1 o.position i.entered i.waits i.offered)
 
 pub returns-then-not-poll-clause-numbers : goal.returns-then-not-poll-clause-numbers
@@ -55,7 +58,8 @@ returns-clause-numbers g c =
     let o = c.go_out.ensures in
     let i = c.go_in.ensures in
     let old = c.args.cache.now in
-    let new = c.retire_some.new.cache in
-    gives-join old old new u v y (keeps-up old u v (changes-after u v Observe t.0 refl c.poll.ensures.ran t.1))
-    (gives-join old new new v w y c.retire_some.ensures.numbers
-    (keeps-up new w y (by-join [] [] w x y (only-changes w x o.out.ran o.numbers) (only-changes x y i.entered.out.ran i.numbers))))
+    let given = subst (λ k. GivesUp k None v w) c.take.ensures.value c.retire_some.ensures.numbers in
+    subst (λ k. GivesUp old k u y) (sym c.take.ensures.after)
+    (gives-join old old None u v y (keeps-up old u v (changes-after u v Observe t.0 refl c.poll.ensures.ran t.1))
+    (gives-join old None None v w y given
+    (keeps-up None w y (by-join [] [] w x y (only-changes w x o.out.ran o.numbers) (only-changes x y i.entered.out.ran i.numbers)))))

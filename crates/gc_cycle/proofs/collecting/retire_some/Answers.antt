@@ -2,7 +2,7 @@ use Rattle.gc_table.specs.Seats.{view_of}
 use Rattle.gc_table.specs.declared.view.View.{View}
 use Rattle.mark_core.specs.Steps.MutatorSteps.{used_bits}
 use Rattle.gc_cycle.proofs.Refills.Retired.{retired-only}
-use Rattle.std.proofs.Common.{sym, ◌∙◌, subst, None}
+use Rattle.std.proofs.Common.{sym, subst, None}
 use Rattle.alloc_cache.specs.declared.cache.Cache.{Cache}
 use Rattle.gc_cycle.proofs.Numbers.{retire-up}
 use Rattle.gc_cycle.specs.Statistics.{GivesUp}
@@ -19,5 +19,4 @@ returns-in-Some-clause-numbers c =
     let w : View = view_of c.retire.new.seat in
     let e = c.retire.ensures in
     let h : Cache = c.in-Some.cache in
-    subst (λ k. GivesUp c.args.cache.now k v w) (sym c.take.ensures.after)
-    (subst (λ o. GivesUp o None v w) (sym (sym c.take.ensures.value ∙ c.in-Some.is)) (retire-up h (used_bits v.state.cache) v w e.ran e.steps))
+    subst (λ o. GivesUp o None v w) (sym c.in-Some.is) (retire-up h (used_bits v.state.cache) v w e.ran e.steps)

@@ -15,7 +15,7 @@ use Rattle.gc_table.specs.Running.{Ran}
 use Rattle.gc_table.proofs.Noticing.{alone-phase}
 use Rattle.gc_table.proofs.Running.{ran-events, ran-join}
 use Rattle.card_clean.specs.Leaving.{rescans}
-use Rattle.gc_cycle.specs.Sorts.{opens}
+use Rattle.gc_cycle.specs.Sorts.{opens_help}
 use Rattle.gc_cycle.proofs.Ends.Completing.{total-run}
 use Rattle.gc_cycle.proofs.Stops.Opened.{closed, open-event, open-part, open-ran, open-total, opened}
 use Rattle.gc_cycle.proofs.Parts.{part-join}
@@ -72,7 +72,7 @@ returns-clause-drains g c =
       part = part-join Drain v w z scanned.part (open-part Drain w x y z c.open_help.ensures.step o.ran o.only q.ran q.only (closed Drain y z o.still q.ran q.state q.phase));
       roots = λ s l. roots-earlier s v w z scanned.part.ran rest (scanned.roots s (subst (λ (sh : Shape). s < sh.sections) c.requires.seat.1 l));
       opened =
-          ap (some_event opens) (ran-events v w z scanned.part.ran rest)
-          ∙ some-right opens (events v w) (events w z) (open-event w x z c.open_help.ensures.step later);
+          ap (some_event opens_help) (ran-events v w z scanned.part.ran rest)
+          ∙ some-right opens_help (events v w) (events w z) (open-event w x z c.open_help.ensures.step later);
       worked = drained-within round_quota v x y z (ran-join v w x scanned.part.ran opening) o.ran q.ran c.drain_round-rescanned.ensures.worked;
     }

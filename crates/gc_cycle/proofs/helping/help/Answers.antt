@@ -2,6 +2,7 @@ use Rattle.std.proofs.Common.{ℕ, eqb-true, ◌≡◌, ◌∙◌, refl, sym, ap
 use Rattle.std.specs.Prelude.{◌==◌}
 use Rattle.std.proofs.lemmas.Bool.{false≢true, true≢false}
 use Rattle.mark_core.specs.Layout.{block_count}
+use Rattle.mark_core.specs.Numbers.{block_counter, card_counter, done_count}
 use Rattle.mark_core.specs.Seats.{saw}
 use Rattle.mark_core.specs.declared.kinds.Phase.{Phase}
 use Rattle.mark_core.specs.declared.kinds.Phase.TheVariants.{Drain, Sweep}
@@ -24,7 +25,7 @@ use Rattle.gc_cycle.specs.Helping.{DrainsTo, HelpsAs}
 use Rattle.gc_cycle.specs.Lower.{sweeps_next, traces_or_cleans}
 use Rattle.gc_cycle.specs.Moments.{begins}
 use Rattle.gc_cycle.specs.Mutating.{GoesOut, stays_calm}
-use Rattle.gc_cycle.specs.Sorts.{gets_block, joins, leaves, pops}
+use Rattle.gc_cycle.specs.Sorts.{draws_block, joins, leaves, pops}
 use Rattle.gc_cycle.proofs.Stops.Admitted.{count-none, traces-kept}
 use Rattle.gc_cycle.proofs.SectionKept.{goes-out}
 use Rattle.gc_cycle.specs.Statistics.{leaves_numbers}
@@ -38,7 +39,7 @@ sweeps-calm (ReadAlloc b) e = refl
 sweeps-calm ReadBlockMarks e = refl
 sweeps-calm StoreAlloc e = refl
 sweeps-calm ClearMarks e = refl
-sweeps-calm (ReadStat which) e = ap (λ n. not (n == 6)) (eqb-true which 1 e)
+sweeps-calm (ReadStat which) e = ap (λ n. not (n == done_count)) (eqb-true which block_counter e)
 sweeps-calm step e = absurd (false≢true e)
 
 sweeps-kept : (step : Step) → sweeps_next step ≡ true → changes_section step ≡ false
@@ -79,7 +80,7 @@ traces-calm (StoreNew c part word) e = absurd (false≢true e)
 traces-calm ReadSeason e = absurd (false≢true e)
 traces-calm NextSeason e = absurd (false≢true e)
 traces-calm (AddStat which by down) e = absurd (false≢true e)
-traces-calm (ReadStat which) e = ap (λ n. not (n == 6)) (eqb-true which 0 e)
+traces-calm (ReadStat which) e = ap (λ n. not (n == done_count)) (eqb-true which card_counter e)
 traces-calm step e = refl
 
 traces-inside : (step : Step) (n : ℕ) → traces_or_cleans step ≡ true → leaves step n ≡ false
@@ -90,7 +91,7 @@ traces-unjoined : (step : Step) (n : ℕ) → traces_or_cleans step ≡ true →
 traces-unjoined JoinHelpStep n e = absurd (false≢true e)
 traces-unjoined step n e = refl
 
-traces-unswept : (blocks : ℕ) (step : Step) (n : ℕ) → traces_or_cleans step ≡ true → gets_block blocks step n ≡ false
+traces-unswept : (blocks : ℕ) (step : Step) (n : ℕ) → traces_or_cleans step ≡ true → draws_block blocks step n ≡ false
 traces-unswept blocks NextBlock n e = absurd (false≢true e)
 traces-unswept blocks step n e = refl
 
@@ -135,7 +136,7 @@ drained-as quota helped v w p h e =
     record {
       traced = h.traced;
       rescanned = h.rescanned;
-      swept = count-none (gets_block (block_count v.shape)) (events v w) (ap not (none-of-steps traces_or_cleans (gets_block (block_count v.shape)) (traces-unswept (block_count v.shape)) (events v w) h.drained.only)) ∙ sym h.swept;
+      swept = count-none (draws_block (block_count v.shape)) (events v w) (ap not (none-of-steps traces_or_cleans (draws_block (block_count v.shape)) (traces-unswept (block_count v.shape)) (events v w) h.drained.only)) ∙ sym h.swept;
       drain = λ _. drains-to helped.ended quota helped.traced v w h.stops e;
       sweep = λ k. absurd (true≢false (sym k ∙ ap (λ o. saw o Sweep) p));
     }

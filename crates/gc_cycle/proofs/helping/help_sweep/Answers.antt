@@ -16,7 +16,7 @@ use Rattle.packet_pools.specs.Counts.{count_of}
 use Rattle.packet_pools.specs.Seeking.{some_event}
 use Rattle.packet_pools.proofs.Searches.{some-right}
 use Rattle.gc_cycle.specs.Lower.{sweeps_next}
-use Rattle.gc_cycle.specs.Sorts.{gets_block, sees_last_block}
+use Rattle.gc_cycle.specs.Sorts.{draws_block, sees_last_block}
 use Rattle.gc_cycle.specs.Standing.{Helps}
 use Rattle.gc_cycle.proofs.Stops.Admitted.{count-run}
 use Rattle.gc_cycle.proofs.helping.help_sweep.Goals as goal
@@ -50,7 +50,7 @@ loop-swept-preserved c =
     let w : View = view_of c.sweep_next.new.seat in
     let i = c.loop-swept.invariant in
     let e = c.in-Some.ensures in
-    let counts = count-run (gets_block (block_count c.args.heap.now.shape)) u v w i.ran e.ran in
+    let counts = count-run (draws_block (block_count c.args.heap.now.shape)) u v w i.ran e.ran in
     let one = e.some.3 in
     let so_far = i.count in
     let few = i.few in
@@ -73,10 +73,10 @@ returns-clause-swept c =
     let i = c.loop-swept.invariant in
     let e = c.in_default.ensures in
     let back = sym c.requires.seat.0.1 in
-    let counts = count-run (gets_block (block_count c.args.heap.now.shape)) u v w i.ran e.ran in
+    let counts = count-run (draws_block (block_count c.args.heap.now.shape)) u v w i.ran e.ran in
     let none = e.none.2 in
     let so_far = i.count in
-    let all : count_of (gets_block (block_count c.args.heap.now.shape)) (events u w) ≡ c.loop-swept.swept = omega (arith, counts, none, so_far) in
+    let all : count_of (draws_block (block_count c.args.heap.now.shape)) (events u w) ≡ c.loop-swept.swept = omega (arith, counts, none, so_far) in
     record {
       ran = ran-join u v w i.ran e.ran;
       only = ran-only sweeps_next u v w i.ran e.ran i.only e.only;
@@ -84,7 +84,7 @@ returns-clause-swept c =
       phase = ap (λ (s : SeatState). s.phase_seen) e.state ∙ i.phase;
       traced = refl;
       rescanned = refl;
-      swept = subst (λ (sh : Shape). count_of (gets_block (block_count sh)) (events u w) ≡ c.loop-swept.swept) back all;
+      swept = subst (λ (sh : Shape). count_of (draws_block (block_count sh)) (events u w) ≡ c.loop-swept.swept) back all;
       ended = refl;
       end =
           subst (λ (sh : Shape). some_event (sees_last_block (block_count sh)) (events u w) ≡ true) back

@@ -6,7 +6,7 @@ use Rattle.gc_table.specs.Seats.{Sits, view_of}
 use Rattle.packet_pools.specs.Counts.{count_of}
 use Rattle.sweeper.specs.Freeing.{block_floor}
 use Rattle.gc_cycle.specs.Lower.{sweeps_next}
-use Rattle.gc_cycle.specs.Sorts.{gets_block}
+use Rattle.gc_cycle.specs.Sorts.{draws_block}
 use Rattle.gc_cycle.specs.Standing.{Helps}
 use Rattle.gc_cycle.proofs.helping.help_sweep.Given as goal
 
@@ -17,7 +17,7 @@ invariant-loop-swept l = record {
   ran : Ran (view_of l.fn.seat) (view_of l.seat);
   only : Only sweeps_next (view_of l.fn.seat) (view_of l.seat);
   phase : (view_of l.seat).state.phase_seen ≡ (view_of l.fn.seat).state.phase_seen;
-  count : count_of (gets_block (block_count l.heap.shape)) (events (view_of l.fn.seat) (view_of l.seat)) ≡ l.swept;
+  count : count_of (draws_block (block_count l.heap.shape)) (events (view_of l.fn.seat) (view_of l.seat)) ≡ l.swept;
   few : l.swept ≤ block_floor (view_of l.seat);
 }
 

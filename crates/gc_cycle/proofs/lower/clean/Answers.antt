@@ -11,7 +11,7 @@ use Rattle.gc_table.specs.declared.view.Entry.{Entry}
 use Rattle.gc_table.specs.declared.view.View.{View}
 use Rattle.packet_pools.specs.Counts.{scans_object}
 use Rattle.packet_pools.specs.OnlyTraced.{OnlyCleaned, traces_cells}
-use Rattle.packet_pools.specs.Seeking.{moves_packet, no_output, NoOutput, only_moves, some_event}
+use Rattle.packet_pools.specs.Seeking.{moves_packet, no_output, NoOutput, only_moves, some_event, output_pools}
 use Rattle.packet_pools.specs.Tracing.{Traces}
 use Rattle.packet_pools.proofs.Searches.{some-left, some-right}
 use Rattle.tracer.specs.Moments.{front}
@@ -50,7 +50,7 @@ abbrev ending : ℕ → Bool → List Entry
 ending card b = if b then event (DirtyCard card) 1 ∷ [] else []
 
 -- what is neither a move of packets nor a step of a scan, and isn't one of the steps of cleaning itself, isn't there
-module _ (f : Sort) (h : Spares (moves_packet (0 ∷ 1 ∷ 2 ∷ [])) f) (k : Spares scans_object f) (cleared : (card n : ℕ) → f (ClearCard card) n ≡ false) (marks : (b n : ℕ) → f (ReadMarks b) n ≡ false) (allocs : (b n : ℕ) → f (ReadAlloc b) n ≡ false) (dirtied : (card n : ℕ) → f (DirtyCard card) n ≡ false) where
+module _ (f : Sort) (h : Spares (moves_packet output_pools) f) (k : Spares scans_object f) (cleared : (card n : ℕ) → f (ClearCard card) n ≡ false) (marks : (b n : ℕ) → f (ReadMarks b) n ≡ false) (allocs : (b n : ℕ) → f (ReadAlloc b) n ≡ false) (dirtied : (card n : ℕ) → f (DirtyCard card) n ≡ false) where
   one : (step : Step) (n : ℕ) (es : List Entry) → f step n ≡ false → never f es ≡ true → never f (event step n ∷ es) ≡ true
   one step n es a b = ap not (or_from (f step n) (some_event f es) a (not-true _ b))
 
@@ -75,17 +75,17 @@ module _ (f : Sort) (h : Spares (moves_packet (0 ∷ 1 ∷ 2 ∷ [])) f) (k : Sp
   none-one : (sh : Shape) (card : ℕ) (r : Cleaned) (es : List Entry) → CleansOne sh card r es → never f es ≡ true
   none-one sh card r es c =
       ap (never f) c.events_are
-      ∙ never-both f c.taking (c.cleaning ++ c.giving) (moved-untaken (0 ∷ 1 ∷ 2 ∷ []) f h c.taking c.takes)
-      (never-both f c.cleaning c.giving (none-cleaning sh card r c.cleaning c.cleans) (moved-untaken (0 ∷ 1 ∷ 2 ∷ []) f h c.giving c.gives))
+      ∙ never-both f c.taking (c.cleaning ++ c.giving) (moved-untaken output_pools f h c.taking c.takes)
+      (never-both f c.cleaning c.giving (none-cleaning sh card r c.cleaning c.cleans) (moved-untaken output_pools f h c.giving c.gives))
 
 undraws : Spares traces_cells draws
 undraws NextOfCards n e = absurd (false≢true e)
 undraws step n e = refl
 
 -- no packet with room was found, from the beginning on
-roomless : (sh : Shape) (v : View) (es : List Entry) → holds_one v.state.held ≡ true → NoOutput sh es → only_moves (0 ∷ 1 ∷ 2 ∷ []) es ≡ true → at_some_moment sh (finds_no_room sh) (begins v) es ≡ true
+roomless : (sh : Shape) (v : View) (es : List Entry) → holds_one v.state.held ≡ true → NoOutput sh es → only_moves output_pools es ≡ true → at_some_moment sh (finds_no_room sh) (begins v) es ≡ true
 roomless sh v es one none moves =
-    this-moment sh (finds_no_room sh) es (begins v) (and_from _ _ one (sym (ap (λ l. no_output sh (front (moves_packet (0 ∷ 1 ∷ 2 ∷ [])) l)) (append-nil es)) ∙ output-front sh es [] none moves))
+    this-moment sh (finds_no_room sh) es (begins v) (and_from _ _ one (sym (ap (λ l. no_output sh (front (moves_packet output_pools) l)) (append-nil es)) ∙ output-front sh es [] none moves))
 
 pub clean_one-requires-clause-seat : goal.clean_one-requires-clause-seat
 clean_one-requires-clause-seat c = (c.requires.seat.0, traces-of c.args.heap.now.shape (view_of c.args.seat.now) c.requires.seat.1 c.requires.rest)
@@ -103,7 +103,7 @@ traced sh v w ve we r l t h k = traced-held v w l t h (ap (λ (x : Shape). work_
 pub returns-in-Some-clause-traced : goal.returns-in-Some-clause-traced
 returns-in-Some-clause-traced c =
     let e = c.in-Some.ensures in
-    traced c.args.heap.now.shape (view_of c.args.seat.now) (view_of c.clean_one.new.seat) c.requires.seat.0.1 e.seat.0.1 c.requires.rest e.later e.seat.1 e.held e.work
+    traced c.args.heap.now.shape (view_of c.args.seat.now) (view_of c.clean_one.new.seat) c.requires.seat.0.1 e.seat.0.1 c.requires.rest e.only e.seat.1 e.held e.work
 
 pub returns-in-Some-clause-some : goal.returns-in-Some-clause-some
 returns-in-Some-clause-some c =
@@ -117,19 +117,19 @@ returns-in-Some-clause-most c = c.in-Some.ensures.some.1
 
 pub returns-in-Some-clause-unpopped : goal.returns-in-Some-clause-unpopped
 returns-in-Some-clause-unpopped c =
-    none-one pops (moves-unpopped (0 ∷ 1 ∷ 2 ∷ [])) scan-unpopped (λ k n. refl) (λ k n. refl) (λ k n. refl) (λ k n. refl) c.args.heap.now.shape c.args.card c.in-Some.cleaned (events (view_of c.args.seat.now) (view_of c.clean_one.new.seat)) c.in-Some.ensures.some.0
+    none-one pops (moves-unpopped output_pools) scan-unpopped (λ k n. refl) (λ k n. refl) (λ k n. refl) (λ k n. refl) c.args.heap.now.shape c.args.card c.in-Some.cleaned (events (view_of c.args.seat.now) (view_of c.clean_one.new.seat)) c.in-Some.ensures.some.0
 
 pub returns-in-Some-clause-unrooted : goal.returns-in-Some-clause-unrooted
 returns-in-Some-clause-unrooted c =
-    none-one reads_root (moves-unrooted (0 ∷ 1 ∷ 2 ∷ [])) scan-unrooted (λ k n. refl) (λ k n. refl) (λ k n. refl) (λ k n. refl) c.args.heap.now.shape c.args.card c.in-Some.cleaned (events (view_of c.args.seat.now) (view_of c.clean_one.new.seat)) c.in-Some.ensures.some.0
+    none-one reads_root (moves-unrooted output_pools) scan-unrooted (λ k n. refl) (λ k n. refl) (λ k n. refl) (λ k n. refl) c.args.heap.now.shape c.args.card c.in-Some.cleaned (events (view_of c.args.seat.now) (view_of c.clean_one.new.seat)) c.in-Some.ensures.some.0
 
 pub returns-in-Some-clause-undrawn : goal.returns-in-Some-clause-undrawn
-returns-in-Some-clause-undrawn c = untaken traces_cells draws undraws (events (view_of c.args.seat.now) (view_of c.clean_one.new.seat)) c.in-Some.ensures.later.only
+returns-in-Some-clause-undrawn c = untaken traces_cells draws undraws (events (view_of c.args.seat.now) (view_of c.clean_one.new.seat)) c.in-Some.ensures.only.only
 
 pub returns-in-None-clause-traced : goal.returns-in-None-clause-traced
 returns-in-None-clause-traced c =
     let e = c.in-None.ensures in
-    traced c.args.heap.now.shape (view_of c.args.seat.now) (view_of c.clean_one.new.seat) c.requires.seat.0.1 e.seat.0.1 c.requires.rest e.later e.seat.1 e.held e.work
+    traced c.args.heap.now.shape (view_of c.args.seat.now) (view_of c.clean_one.new.seat) c.requires.seat.0.1 e.seat.0.1 c.requires.rest e.only e.seat.1 e.held e.work
 
 pub returns-in-None-clause-none : goal.returns-in-None-clause-none
 returns-in-None-clause-none c =
@@ -143,16 +143,16 @@ pub returns-in-None-clause-left : goal.returns-in-None-clause-left
 returns-in-None-clause-left c = c.in-None.ensures.none.3
 
 pub returns-in-None-clause-unpopped : goal.returns-in-None-clause-unpopped
-returns-in-None-clause-unpopped c = moved-untaken (0 ∷ 1 ∷ 2 ∷ []) pops (moves-unpopped (0 ∷ 1 ∷ 2 ∷ [])) (events (view_of c.args.seat.now) (view_of c.clean_one.new.seat)) c.in-None.ensures.none.2
+returns-in-None-clause-unpopped c = moved-untaken output_pools pops (moves-unpopped output_pools) (events (view_of c.args.seat.now) (view_of c.clean_one.new.seat)) c.in-None.ensures.none.2
 
 pub returns-in-None-clause-unrooted : goal.returns-in-None-clause-unrooted
-returns-in-None-clause-unrooted c = moved-untaken (0 ∷ 1 ∷ 2 ∷ []) reads_root (moves-unrooted (0 ∷ 1 ∷ 2 ∷ [])) (events (view_of c.args.seat.now) (view_of c.clean_one.new.seat)) c.in-None.ensures.none.2
+returns-in-None-clause-unrooted c = moved-untaken output_pools reads_root (moves-unrooted output_pools) (events (view_of c.args.seat.now) (view_of c.clean_one.new.seat)) c.in-None.ensures.none.2
 
 pub returns-in-None-clause-undrawn : goal.returns-in-None-clause-undrawn
-returns-in-None-clause-undrawn c = untaken traces_cells draws undraws (events (view_of c.args.seat.now) (view_of c.clean_one.new.seat)) c.in-None.ensures.later.only
+returns-in-None-clause-undrawn c = untaken traces_cells draws undraws (events (view_of c.args.seat.now) (view_of c.clean_one.new.seat)) c.in-None.ensures.only.only
 
 pub returns-in-Some-clause-unread : goal.returns-in-Some-clause-unread
-returns-in-Some-clause-unread c = unread-of (view_of c.args.seat.now) (view_of c.clean_one.new.seat) c.in-Some.ensures.later
+returns-in-Some-clause-unread c = unread-of (view_of c.args.seat.now) (view_of c.clean_one.new.seat) c.in-Some.ensures.only
 
 pub returns-in-None-clause-unread : goal.returns-in-None-clause-unread
-returns-in-None-clause-unread c = unread-of (view_of c.args.seat.now) (view_of c.clean_one.new.seat) c.in-None.ensures.later
+returns-in-None-clause-unread c = unread-of (view_of c.args.seat.now) (view_of c.clean_one.new.seat) c.in-None.ensures.only

@@ -28,7 +28,7 @@ returns-clause-traced c =
     let before : is_at_rest v.shape v.state ≡ true = subst (λ (sh : Shape). is_at_rest sh v.state ≡ true) (sym c.requires.seat.0.1) c.requires.rest in
     let packets : holds_any w.state.held ≡ false = ap holds_any e.held ∙ (rest-parts v.shape v.state before).packets in
     let work : work_in_hand w.shape.fields w.state ≡ false = ap (λ (sh : Shape). work_in_hand sh.fields w.state) e.seat.0.1 ∙ e.work in
-    traced-of v w e.later (rest-again v w e.later e.seat.1 packets work before)
+    traced-of v w e.only (rest-again v w e.only e.seat.1 packets work before)
 
 pub returns-clause-rescanned : goal.returns-clause-rescanned
 returns-clause-rescanned c = c.clean_dirty.ensures.left

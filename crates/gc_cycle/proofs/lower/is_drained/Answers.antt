@@ -27,15 +27,15 @@ returns-clause-seat c =
     let v : View = view_of c.args.seat.now in
     let w : View = view_of c.is_drained.new.seat in
     let e = c.is_drained.ensures in
-    let rest : is_at_rest w.shape w.state ≡ true = (λ i. is_at_rest (e.later.shape i) (e.state i)) ∙ nothing-rest v.shape v.state c.requires.seat.1.rest.rest in
-    (e.seat, rooted-by v w e.later rest c.requires.seat.1)
+    let rest : is_at_rest w.shape w.state ≡ true = (λ i. is_at_rest (e.only.shape i) (e.state i)) ∙ nothing-rest v.shape v.state c.requires.seat.1.rest.rest in
+    (e.seat, rooted-by v w e.only rest c.requires.seat.1)
 
 pub returns-clause-traced : goal.returns-clause-traced
 returns-clause-traced c =
     let v : View = view_of c.args.seat.now in
     let w : View = view_of c.is_drained.new.seat in
     let e = c.is_drained.ensures in
-    traced-of v w e.later ((λ i. is_at_rest (e.later.shape i) (e.state i)) ∙ nothing-rest v.shape v.state c.requires.seat.1.rest.rest)
+    traced-of v w e.only ((λ i. is_at_rest (e.only.shape i) (e.state i)) ∙ nothing-rest v.shape v.state c.requires.seat.1.rest.rest)
 
 pub returns-clause-rescanned : goal.returns-clause-rescanned
 returns-clause-rescanned c = c.is_drained.ensures.left

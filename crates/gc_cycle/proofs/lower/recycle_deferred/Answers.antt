@@ -1,4 +1,5 @@
-use Rattle.std.proofs.Common.{◌≡◌, [], ◌∷◌, sym, ◌∙◌, subst, true}
+use Rattle.std.proofs.Common.{◌≡◌, sym, ◌∙◌, subst, true}
+use Rattle.packet_pools.specs.Seeking.{deferred_pools}
 use Rattle.mark_core.specs.declared.kinds.Shape.{Shape}
 use Rattle.gc_table.specs.Log.{events}
 use Rattle.gc_table.specs.Seats.{view_of}
@@ -23,21 +24,21 @@ returns-clause-traced c =
     let w : View = view_of c.recycle_deferred.new.seat in
     let e = c.recycle_deferred.ensures in
     let before : is_at_rest v.shape v.state ≡ true = subst (λ (sh : Shape). is_at_rest sh v.state ≡ true) (sym c.requires.seat.0.1) c.requires.rest in
-    traced-of v w e.later ((λ i. is_at_rest (e.later.shape i) (e.state i)) ∙ before)
+    traced-of v w e.only ((λ i. is_at_rest (e.only.shape i) (e.state i)) ∙ before)
 
 pub returns-clause-rescanned : goal.returns-clause-rescanned
 returns-clause-rescanned c =
     let v : View = view_of c.args.seat.now in
-    moves-quiet (3 ∷ []) (events v (view_of c.recycle_deferred.new.seat)) v c.recycle_deferred.ensures.recycled.moves
+    moves-quiet deferred_pools (events v (view_of c.recycle_deferred.new.seat)) v c.recycle_deferred.ensures.recycled.moves
 
 pub returns-clause-uncleaned : goal.returns-clause-uncleaned
-returns-clause-uncleaned c = moved-untaken (3 ∷ []) draws_or_clears (moves-uncleaned (3 ∷ [])) (events (view_of c.args.seat.now) (view_of c.recycle_deferred.new.seat)) c.recycle_deferred.ensures.recycled.moves
+returns-clause-uncleaned c = moved-untaken deferred_pools draws_or_clears (moves-uncleaned deferred_pools) (events (view_of c.args.seat.now) (view_of c.recycle_deferred.new.seat)) c.recycle_deferred.ensures.recycled.moves
 
 pub returns-clause-unpopped : goal.returns-clause-unpopped
-returns-clause-unpopped c = moved-untaken (3 ∷ []) pops (moves-unpopped (3 ∷ [])) (events (view_of c.args.seat.now) (view_of c.recycle_deferred.new.seat)) c.recycle_deferred.ensures.recycled.moves
+returns-clause-unpopped c = moved-untaken deferred_pools pops (moves-unpopped deferred_pools) (events (view_of c.args.seat.now) (view_of c.recycle_deferred.new.seat)) c.recycle_deferred.ensures.recycled.moves
 
 pub returns-clause-unrooted : goal.returns-clause-unrooted
-returns-clause-unrooted c = moved-untaken (3 ∷ []) reads_root (moves-unrooted (3 ∷ [])) (events (view_of c.args.seat.now) (view_of c.recycle_deferred.new.seat)) c.recycle_deferred.ensures.recycled.moves
+returns-clause-unrooted c = moved-untaken deferred_pools reads_root (moves-unrooted deferred_pools) (events (view_of c.args.seat.now) (view_of c.recycle_deferred.new.seat)) c.recycle_deferred.ensures.recycled.moves
 
 pub returns-clause-unread : goal.returns-clause-unread
-returns-clause-unread c = unread-of (view_of c.args.seat.now) (view_of c.recycle_deferred.new.seat) c.recycle_deferred.ensures.later
+returns-clause-unread c = unread-of (view_of c.args.seat.now) (view_of c.recycle_deferred.new.seat) c.recycle_deferred.ensures.only

@@ -1,4 +1,4 @@
-use Rattle.std.proofs.Common.{◌≡◌, ◌∷◌, [], sym, ap, ◌∙◌, subst, true, false}
+use Rattle.std.proofs.Common.{◌≡◌, sym, ap, ◌∙◌, subst, true, false}
 use Rattle.std.proofs.lemmas.Bool.{not-true}
 use Rattle.mark_core.specs.Seats.{work_in_hand}
 use Rattle.mark_core.specs.declared.kinds.Phase.TheVariants.{Drain}
@@ -7,6 +7,7 @@ use Rattle.gc_table.specs.Log.{events}
 use Rattle.gc_table.specs.Seats.{view_of}
 use Rattle.gc_table.specs.declared.view.View.{View}
 use Rattle.packet_pools.specs.OnlyTraced.{OnlyTraced}
+use Rattle.packet_pools.specs.Seeking.{deferred_pools}
 use Rattle.packet_pools.specs.Tracing.{Traces}
 use Rattle.card_clean.specs.Taking.{NoPacket}
 use Rattle.card_clean.proofs.Staying.{ready-stays}
@@ -47,13 +48,13 @@ returns-then-see_to_roots-clause-part c =
     let v : View = view_of c.args.seat.now in
     let w : View = view_of c.see_to_roots.new.seat in
     let e = c.see_to_roots.ensures in
-    traced-part v w c.requires.alone.0 (seen c.args.heap.now.shape v w e.seat.0.1 c.requires.alone.0 e.later e.seat.1 e.held e.work)
+    traced-part v w c.requires.alone.0 (seen c.args.heap.now.shape v w e.seat.0.1 c.requires.alone.0 e.only e.seat.1 e.held e.work)
 
 pub returns-then-see_to_roots-clause-next : goal.returns-then-see_to_roots-clause-next
 returns-then-see_to_roots-clause-next c =
     let v : View = view_of c.args.seat.now in
     let e = c.see_to_roots.ensures in
-    (ready-stays v (view_of c.see_to_roots.new.seat) e.later.ran e.later.only (ready-of v c.requires.alone.0 c.requires.alone.1)).next_block
+    (ready-stays v (view_of c.see_to_roots.new.seat) e.only.ran e.only.only (ready-of v c.requires.alone.0 c.requires.alone.1)).next_block
 
 pub returns-then-see_to_roots-clause-rescanned : goal.returns-then-see_to_roots-clause-rescanned
 returns-then-see_to_roots-clause-rescanned c = c.see_to_roots.ensures.left
@@ -71,7 +72,7 @@ recycle_deferred-requires-clause-idle c =
     let v : View = view_of c.args.seat.now in
     let w : View = view_of c.see_to_roots.new.seat in
     let e = c.see_to_roots.ensures in
-    idle-of w c.see_to_roots.new.seat.possible (seen c.args.heap.now.shape v w e.seat.0.1 c.requires.alone.0 e.later e.seat.1 e.held e.work).rest
+    idle-of w c.see_to_roots.new.seat.possible (seen c.args.heap.now.shape v w e.seat.0.1 c.requires.alone.0 e.only e.seat.1 e.held e.work).rest
 
 pub returns-clause-part : goal.returns-clause-part
 returns-clause-part c =
@@ -80,9 +81,9 @@ returns-clause-part c =
     let x : View = view_of c.recycle_deferred.new.seat in
     let e = c.see_to_roots.ensures in
     let r = c.recycle_deferred.ensures in
-    let t = seen c.args.heap.now.shape v w e.seat.0.1 c.requires.alone.0 e.later e.seat.1 e.held e.work in
+    let t = seen c.args.heap.now.shape v w e.seat.0.1 c.requires.alone.0 e.only e.seat.1 e.held e.work in
     let p = traced-part v w c.requires.alone.0 t in
-    part-join Drain v w x p (traced-part w x p.alone (traced-of w x r.later ((λ i. is_at_rest (r.later.shape i) (r.state i)) ∙ t.rest)))
+    part-join Drain v w x p (traced-part w x p.alone (traced-of w x r.only ((λ i. is_at_rest (r.only.shape i) (r.state i)) ∙ t.rest)))
 
 pub returns-clause-next : goal.returns-clause-next
 returns-clause-next c =
@@ -90,7 +91,7 @@ returns-clause-next c =
     let w : View = view_of c.see_to_roots.new.seat in
     let e = c.see_to_roots.ensures in
     let r = c.recycle_deferred.ensures in
-    (ready-stays w (view_of c.recycle_deferred.new.seat) r.later.ran r.later.only (ready-stays v w e.later.ran e.later.only (ready-of v c.requires.alone.0 c.requires.alone.1))).next_block
+    (ready-stays w (view_of c.recycle_deferred.new.seat) r.only.ran r.only.only (ready-stays v w e.only.ran e.only.only (ready-of v c.requires.alone.0 c.requires.alone.1))).next_block
 
 pub returns-clause-rescanned : goal.returns-clause-rescanned
 returns-clause-rescanned c =
@@ -99,7 +100,7 @@ returns-clause-rescanned c =
     let x : View = view_of c.recycle_deferred.new.seat in
     let e = c.see_to_roots.ensures in
     let r = c.recycle_deferred.ensures in
-    rescans-none v w x e.later.ran r.later.ran e.left (moves-quiet (3 ∷ []) (events w x) w r.recycled.moves)
+    rescans-none v w x e.only.ran r.only.ran e.left (moves-quiet deferred_pools (events w x) w r.recycled.moves)
 
 pub returns-clause-lacks : goal.returns-clause-lacks
 returns-clause-lacks c t =
@@ -108,8 +109,8 @@ returns-clause-lacks c t =
     let r = c.recycle_deferred.ensures in
     record {
       looked = view_of c.see_to_roots.new.seat;
-      looks = e.later.ran;
+      looks = e.only.ran;
       lacks = subst (λ (sh : Shape). NoPacket sh (events v (view_of c.see_to_roots.new.seat))) (sym c.requires.seat.1) (e.none c.if-see_to_roots.false).1;
-      ran = r.later.ran;
+      ran = r.only.ran;
       brings = r.recycled.moves;
     }

@@ -3,6 +3,7 @@ use Rattle.std.specs.Prelude.{if◌then◌else◌, ◌<◌, ◌++◌}
 use Rattle.std.proofs.lemmas.Bool.{and_from, and_parts, le-leb, le-ltb, lt-ltb, or_left, or_right}
 use Rattle.mark_core.specs.Layout.{block_count}
 use Rattle.mark_core.specs.Notes.{keeps_bound}
+use Rattle.mark_core.specs.Numbers.{block_counter}
 use Rattle.mark_core.specs.Places.{the_next_block}
 use Rattle.mark_core.specs.declared.kinds.Shape.{Shape}
 use Rattle.mark_core.specs.declared.kinds.Step.TheVariants.{ReadStat}
@@ -12,10 +13,10 @@ use Rattle.gc_table.specs.Seats.{view_of}
 use Rattle.gc_table.specs.declared.view.View.{View}
 use Rattle.packet_pools.specs.Counts.{count_of}
 use Rattle.packet_pools.specs.Seeking.{some_event}
-use Rattle.sweeper.specs.Blocks.{Ended, drawn, swept_events}
+use Rattle.sweeper.specs.Blocks.{SeesNoBlockLeft, block_drawn, swept_events}
 use Rattle.sweeper.specs.Freeing.{freed_in, block_floor}
 use Rattle.gc_cycle.specs.Lower.{sweeps_next}
-use Rattle.gc_cycle.specs.Sorts.{gets_block, sees_last_block}
+use Rattle.gc_cycle.specs.Sorts.{draws_block, sees_last_block}
 use Rattle.gc_cycle.proofs.Ends.Swept.{cleaning-done, floor-above, floor-low, floor-rises}
 use Rattle.gc_cycle.proofs.lower.sweep_next.Goals as goal
 
@@ -26,23 +27,23 @@ abbrev one_if : Bool → ℕ
 one_if b = if b then 1 else 0
 
 -- one block came in hand
-got-one : (n b seen alloc mark : ℕ) → b < n → count_of (gets_block n) (drawn seen b ++ swept_events b alloc mark) ≡ 1
+got-one : (n b seen alloc mark : ℕ) → b < n → count_of (draws_block n) (block_drawn seen b ++ swept_events b alloc mark) ≡ 1
 got-one n b seen alloc mark l = let h = ap one_if (lt-ltb b n l) in omega (arith, h)
 
-got-none : (n : ℕ) (v w : View) (e : Ended v w) → n ≤ e.number → count_of (gets_block n) (events v w) ≡ 0
+got-none : (n : ℕ) (v w : View) (e : SeesNoBlockLeft v w) → n ≤ e.number → count_of (draws_block n) (events v w) ≡ 0
 got-none n v w e l =
     ⊎_elim
-    (λ (x : events v w ≡ event (ReadStat 1) e.number ∷ []). ap (count_of (gets_block n)) x)
-    (λ (x : (seen : ℕ) × (events v w ≡ drawn seen e.number)).
-    ap (count_of (gets_block n)) x.1 ∙ (let h = ap one_if (le-ltb e.number n l) in omega (arith, h)))
+    (λ (x : events v w ≡ event (ReadStat block_counter) e.number ∷ []). ap (count_of (draws_block n)) x)
+    (λ (x : (seen : ℕ) × (events v w ≡ block_drawn seen e.number)).
+    ap (count_of (draws_block n)) x.1 ∙ (let h = ap one_if (le-ltb e.number n l) in omega (arith, h)))
     e.events
 
 -- the end was seen
-end-seen : (n : ℕ) (v w : View) (e : Ended v w) → n ≤ e.number → some_event (sees_last_block n) (events v w) ≡ true
+end-seen : (n : ℕ) (v w : View) (e : SeesNoBlockLeft v w) → n ≤ e.number → some_event (sees_last_block n) (events v w) ≡ true
 end-seen n v w e h =
     ⊎_elim
-    (λ (x : events v w ≡ event (ReadStat 1) e.number ∷ []). ap (some_event (sees_last_block n)) x ∙ or_left _ _ (and_from _ _ refl (le-leb n e.number h)))
-    (λ (x : (seen : ℕ) × (events v w ≡ drawn seen e.number)). ap (some_event (sees_last_block n)) x.1 ∙ or_right _ _ (or_left _ _ (le-leb n e.number h)))
+    (λ (x : events v w ≡ event (ReadStat block_counter) e.number ∷ []). ap (some_event (sees_last_block n)) x ∙ or_left _ _ (and_from _ _ refl (le-leb n e.number h)))
+    (λ (x : (seen : ℕ) × (events v w ≡ block_drawn seen e.number)). ap (some_event (sees_last_block n)) x.1 ∙ or_right _ _ (or_left _ _ (le-leb n e.number h)))
     e.events
 
 pub sweep_next-requires : goal.sweep_next-requires
@@ -70,7 +71,7 @@ returns-in-Some-clause-some c =
       s.counted,
       floor-rises v w c.in-Some.swept.block keeps s.order s.above,
       subst (λ (sh : Shape). block_floor v < block_count sh) shape (omega (arith, low, there)),
-      ap (count_of (gets_block (block_count c.args.heap.now.shape))) s.events ∙ got-one (block_count c.args.heap.now.shape) c.in-Some.swept.block s.seen s.alloc s.mark (subst (λ (sh : Shape). c.in-Some.swept.block < block_count sh) shape there),
+      ap (count_of (draws_block (block_count c.args.heap.now.shape))) s.events ∙ got-one (block_count c.args.heap.now.shape) c.in-Some.swept.block s.seen s.alloc s.mark (subst (λ (sh : Shape). c.in-Some.swept.block < block_count sh) shape there),
     )
 
 pub returns-in-None-clause-only : goal.returns-in-None-clause-only
@@ -79,8 +80,8 @@ returns-in-None-clause-only c =
     let w : View = view_of c.sweep_next.new.seat in
     let e = c.in-None.ensures.none in
     ⊎_elim
-    (λ (x : events v w ≡ event (ReadStat 1) e.number ∷ []). ap (all_steps sweeps_next) x)
-    (λ (x : (seen : ℕ) × (events v w ≡ drawn seen e.number)). ap (all_steps sweeps_next) x.1)
+    (λ (x : events v w ≡ event (ReadStat block_counter) e.number ∷ []). ap (all_steps sweeps_next) x)
+    (λ (x : (seen : ℕ) × (events v w ≡ block_drawn seen e.number)). ap (all_steps sweeps_next) x.1)
     e.events
 
 pub returns-in-None-clause-state : goal.returns-in-None-clause-state
@@ -106,6 +107,6 @@ returns-in-None-clause-unfreed c =
     let w : View = view_of c.sweep_next.new.seat in
     let e = c.in-None.ensures.none in
     ⊎_elim
-    (λ (x : events v w ≡ event (ReadStat 1) e.number ∷ []). ap (freed_in v) x)
-    (λ (x : (seen : ℕ) × (events v w ≡ drawn seen e.number)). ap (freed_in v) x.1)
+    (λ (x : events v w ≡ event (ReadStat block_counter) e.number ∷ []). ap (freed_in v) x)
+    (λ (x : (seen : ℕ) × (events v w ≡ block_drawn seen e.number)). ap (freed_in v) x.1)
     e.events

@@ -61,7 +61,7 @@ returns-clause-traced c =
     let w : View = view_of c.trace.new.seat in
     let e = c.trace.ensures in
     let before : is_at_rest v.shape v.state ≡ true = subst (λ (sh : Shape). is_at_rest sh v.state ≡ true) (sym c.requires.seat.0.1) c.requires.rest in
-    traced-of v w e.later (rest-again v w e.later e.seat.1 (ap holds_any e.idle.held) e.idle.work before)
+    traced-of v w e.only (rest-again v w e.only e.seat.1 (ap holds_any e.idle.held) e.idle.work before)
 
 pub returns-clause-ends : goal.returns-clause-ends
 returns-clause-ends c = ends c.args.quota c.trace.result (view_of c.args.seat.now) (view_of c.trace.new.seat) c.trace.ensures.stopped c.trace.ensures.tally
@@ -86,4 +86,4 @@ pub returns-clause-most : goal.returns-clause-most
 returns-clause-most c = ⊎_elim (λ a. let k = a.1 in omega (arith, k)) (λ b. let k = b.1 in omega (arith, k)) c.trace.ensures.stopped
 
 pub returns-clause-unread : goal.returns-clause-unread
-returns-clause-unread c = unread-of (view_of c.args.seat.now) (view_of c.trace.new.seat) c.trace.ensures.later
+returns-clause-unread c = unread-of (view_of c.args.seat.now) (view_of c.trace.new.seat) c.trace.ensures.only

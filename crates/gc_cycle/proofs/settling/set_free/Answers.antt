@@ -3,6 +3,7 @@ use Rattle.gc_table.specs.Seats.{view_of}
 use Rattle.gc_table.specs.declared.view.View.{View}
 use Rattle.gc_cycle.specs.Settling.{Sets}
 use Rattle.mark_core.specs.Bits.{wrapped_difference}
+use Rattle.mark_core.specs.Numbers.{free_count}
 use Rattle.gc_cycle.proofs.Ends.Sets.{sets-add, sets-join, sets-read}
 use Rattle.gc_cycle.proofs.settling.set_free.Goals as goal
 
@@ -17,13 +18,13 @@ returns-then-above-le4294967295-clause-sets c =
     let from = c.read_stat-from.result in
     let s = sets-read u v from c.read_stat-from.ensures.view c.requires.alone in
     let above : ℕ = (from + (18446744073709551616 - c.from.result)) % 18446744073709551616 in
-    let t = sets-add 5 above true v w from (omega arith) c.add_stat.ensures.view s.part.alone s.known in
+    let t = sets-add free_count above true v w from (omega arith) c.add_stat.ensures.view s.part.alone s.known in
     let is = c.from.ensures in
     let few = c.if-above-le4294967295.true in
     let fits = c.from.type_inv in
     let word = c.read_stat-from.type_inv in
     let same : wrapped_difference from above ≡ c.args.number = omega (arith, is, few, fits, word) in
-    sets-join 5 from c.args.number u v w s (subst (λ n. Sets 5 n v w) same t)
+    sets-join free_count from c.args.number u v w s (subst (λ n. Sets free_count n v w) same t)
 
 pub returns-else-above-le4294967295-clause-sets : goal.returns-else-above-le4294967295-clause-sets
 returns-else-above-le4294967295-clause-sets c =
@@ -31,5 +32,5 @@ returns-else-above-le4294967295-clause-sets c =
     let v : View = view_of c.read_stat-from.new.seat in
     let w : View = view_of c.raise_free.new.seat in
     let from = c.read_stat-from.result in
-    sets-join 5 from c.args.number u v w (sets-read u v from c.read_stat-from.ensures.view c.requires.alone)
-    (subst (λ n. Sets 5 n v w) c.from-else-above-le4294967295.ensures c.raise_free.ensures.sets)
+    sets-join free_count from c.args.number u v w (sets-read u v from c.read_stat-from.ensures.view c.requires.alone)
+    (subst (λ n. Sets free_count n v w) c.from-else-above-le4294967295.ensures c.raise_free.ensures.sets)

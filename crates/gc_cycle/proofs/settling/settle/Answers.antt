@@ -1,5 +1,6 @@
 use Rattle.std.proofs.Common.{ℕ, ◌-◌, refl, sym, ap, ◌∙◌, subst}
 use Rattle.mark_core.specs.Layout.{block_count}
+use Rattle.mark_core.specs.Numbers.{card_counter, free_count, last_count, rescanned_count, traced_count}
 use Rattle.mark_core.specs.Places.{alloc_at, counter_at}
 use Rattle.mark_core.specs.declared.kinds.Phase.TheVariants.{Idle}
 use Rattle.mark_core.specs.declared.kinds.Shape.{Shape}
@@ -44,22 +45,22 @@ returns-clause-end c =
     let s0 = c.clear_statistic-2.ensures.sets in
     let keeps : KeepsAllocs v w0 =
     λ b word k.
-    sets-kept 0 0 w4 w0 (alloc_at b) word refl refl s4.part.alone s0
-    (sets-kept 4 0 w5 w4 (alloc_at b) word refl refl s5.part.alone s4
-    (sets-kept 5 _ w3 w5 (alloc_at b) word refl refl s3.part.alone s5
-    (sets-kept 3 _ w2 w3 (alloc_at b) word refl refl s2.part.alone s3 (sets-kept 2 _ v w2 (alloc_at b) word refl refl p.part.alone s2 k)))) in
+    sets-kept card_counter 0 w4 w0 (alloc_at b) word refl refl s4.part.alone s0
+    (sets-kept traced_count 0 w5 w4 (alloc_at b) word refl refl s5.part.alone s4
+    (sets-kept free_count _ w3 w5 (alloc_at b) word refl refl s3.part.alone s5
+    (sets-kept rescanned_count _ w2 w3 (alloc_at b) word refl refl s2.part.alone s3 (sets-kept last_count _ v w2 (alloc_at b) word refl refl p.part.alone s2 k)))) in
     let last =
-    sets-kept 0 0 w4 w0 (counter_at 2) _ refl refl s4.part.alone s0
-    (sets-kept 4 0 w5 w4 (counter_at 2) _ refl refl s5.part.alone s4
-    (sets-kept 5 _ w3 w5 (counter_at 2) _ refl refl s3.part.alone s5 (sets-kept 3 _ w2 w3 (counter_at 2) _ refl refl s2.part.alone s3 s2.known))) in
+    sets-kept card_counter 0 w4 w0 (counter_at last_count) _ refl refl s4.part.alone s0
+    (sets-kept traced_count 0 w5 w4 (counter_at last_count) _ refl refl s5.part.alone s4
+    (sets-kept free_count _ w3 w5 (counter_at last_count) _ refl refl s3.part.alone s5 (sets-kept rescanned_count _ w2 w3 (counter_at last_count) _ refl refl s2.part.alone s3 s2.known))) in
     let rescanned =
-    sets-kept 0 0 w4 w0 (counter_at 3) _ refl refl s4.part.alone s0
-    (sets-kept 4 0 w5 w4 (counter_at 3) _ refl refl s5.part.alone s4 (sets-kept 5 _ w3 w5 (counter_at 3) _ refl refl s3.part.alone s5 s3.known)) in
-    let free = sets-kept 0 0 w4 w0 (counter_at 5) _ refl refl s4.part.alone s0 (sets-kept 4 0 w5 w4 (counter_at 5) _ refl refl s5.part.alone s4 s5.known) in
-    let traced = sets-kept 0 0 w4 w0 (counter_at 4) _ refl refl s4.part.alone s0 s4.known in
+    sets-kept card_counter 0 w4 w0 (counter_at rescanned_count) _ refl refl s4.part.alone s0
+    (sets-kept traced_count 0 w5 w4 (counter_at rescanned_count) _ refl refl s5.part.alone s4 (sets-kept free_count _ w3 w5 (counter_at rescanned_count) _ refl refl s3.part.alone s5 s3.known)) in
+    let free = sets-kept card_counter 0 w4 w0 (counter_at free_count) _ refl refl s4.part.alone s0 (sets-kept traced_count 0 w5 w4 (counter_at free_count) _ refl refl s5.part.alone s4 s5.known) in
+    let traced = sets-kept card_counter 0 w4 w0 (counter_at traced_count) _ refl refl s4.part.alone s0 s4.known in
     let shape = c.clear_statistic-2.ensures.seat.1 in
     cycle-ends (record { marked = marked; freed = c.args.freed; rescanned = c.args.rescanned }) w0 s0.part.alone
     (subst (λ (sh : Shape). AllocsNoted (block_count sh) w0) (sym shape) (allocs-kept n v w0 p.noted keeps))
     (p.count ∙ (sym (ones-kept n v w0 p.noted keeps) ∙ ap (λ (sh : Shape). ones_noted (block_count sh) w0) (sym shape)))
     last rescanned traced s0.known
-    (subst (λ (m : ℕ). Known w0 (counter_at 5) m) (ap (λ (sh : Shape). sh.cells - marked) (c.shape.ensures ∙ sym shape)) free)
+    (subst (λ (m : ℕ). Known w0 (counter_at free_count) m) (ap (λ (sh : Shape). sh.cells - marked) (c.shape.ensures ∙ sym shape)) free)

@@ -6,7 +6,7 @@ use Rattle.sweeper.specs.Freeing.{freed_in}
 use Rattle.gc_table.specs.Seats.{view_of}
 use Rattle.gc_table.specs.declared.view.View.{View}
 use Rattle.gc_table.proofs.History.Log.{events-none}
-use Rattle.gc_cycle.specs.Sorts.{gets_block}
+use Rattle.gc_cycle.specs.Sorts.{draws_block}
 use Rattle.gc_cycle.proofs.Stops.Admitted.{count-run}
 use Rattle.gc_cycle.proofs.Ends.Completing.{freed-run}
 use Rattle.gc_cycle.proofs.Ends.Exactly.{exact-part}
@@ -21,7 +21,7 @@ loop-blocks-init c =
     record {
       sits = c.requires.seat;
       part = part-none Sweep v c.requires.sweeps.alone;
-      count = ap (count_of (gets_block (block_count c.args.heap.now.shape))) (events-none v);
+      count = ap (count_of (draws_block (block_count c.args.heap.now.shape))) (events-none v);
       freed = omega (arith, none);
     }
 
@@ -39,7 +39,7 @@ loop-blocks-preserved c =
     let i = c.loop-blocks.invariant in
     let e = c.in-Some.ensures in
     let p = next-alone v w i.part.alone e.ran e.only e.state e.left in
-    let counts = count-run (gets_block (block_count c.args.heap.now.shape)) u v w i.part.ran e.ran in
+    let counts = count-run (draws_block (block_count c.args.heap.now.shape)) u v w i.part.ran e.ran in
     let one = e.some.3 in
     let so_far = i.count in
     let total = freed-run u v w i.part.ran e.ran in
@@ -61,7 +61,7 @@ returns-in_default c =
     let i = c.loop-blocks.invariant in
     let e = c.in_default.ensures in
     let p = part-join Sweep u v w i.part (next-alone v w i.part.alone e.ran e.only e.state e.left) in
-    let counts = count-run (gets_block (block_count c.args.heap.now.shape)) u v w i.part.ran e.ran in
+    let counts = count-run (draws_block (block_count c.args.heap.now.shape)) u v w i.part.ran e.ran in
     let none = e.none.2 in
     let so_far = i.count in
     let total = freed-run u v w i.part.ran e.ran in

@@ -7,13 +7,13 @@ use Rattle.gc_table.specs.Seats.{Sits, view_of}
 use Rattle.packet_pools.specs.Counts.{count_of}
 use Rattle.sweeper.specs.Freeing.{freed_in}
 use Rattle.gc_cycle.specs.Finishing.{IsPart}
-use Rattle.gc_cycle.specs.Sorts.{gets_block}
+use Rattle.gc_cycle.specs.Sorts.{draws_block}
 use Rattle.gc_cycle.proofs.sweep_steps.sweep_step.Given as goal
 
 abbrev pub invariant-loop-blocks : goal.invariant-loop-blocks
 invariant-loop-blocks l = record {
   sits : Sits l.heap l.seat;
   part : IsPart Sweep (view_of l.fn.seat) (view_of l.seat);
-  count : count_of (gets_block (block_count l.heap.shape)) (events (view_of l.fn.seat) (view_of l.seat)) ≡ l.blocks;
+  count : count_of (draws_block (block_count l.heap.shape)) (events (view_of l.fn.seat) (view_of l.seat)) ≡ l.blocks;
   freed : l.freed ≡ min (freed_in (view_of l.fn.seat) (events (view_of l.fn.seat) (view_of l.seat))) 4294967295;
 }

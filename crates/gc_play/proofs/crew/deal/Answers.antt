@@ -1,6 +1,6 @@
 use Rattle.std.proofs.Common.{◌≡◌, ◌+◌, length, subst, arith}
 use Rattle.std.specs.Prelude.{vec_len}
-use Rattle.gc_play.specs.Crews.{IsNew, Numbered}
+use Rattle.gc_play.specs.Crews.{IsNewSeatOfPlay, Numbered}
 use Rattle.gc_play.specs.Dealing.{IsDealt}
 use Rattle.gc_play.proofs.Counting.{warehouse-count}
 use Rattle.gc_play.proofs.crew.deal.Goals as goal
@@ -18,7 +18,7 @@ pub returns-clause-dealt : goal.returns-clause-dealt
 returns-clause-dealt c = subst (λ k. IsDealt (vec_len c.args.workers.now) k c.loop-at.workers.items) (all-dealt c) c.loop-at.invariant.dealt
 
 pub returns-clause-seats : goal.returns-clause-seats
-returns-clause-seats c = subst (λ k. Numbered (IsNew c.args.heap.now c.args.script.now.sections) (1 + k) c.loop-at.seats.items) (all-dealt c) c.loop-at.invariant.seats
+returns-clause-seats c = subst (λ k. Numbered (IsNewSeatOfPlay c.args.heap.now c.args.script.now.sections) (1 + k) c.loop-at.seats.items) (all-dealt c) c.loop-at.invariant.seats
 
 pub returns-clause-rest : goal.returns-clause-rest
 returns-clause-rest c = subst (λ k. vec_len c.loop-at.seats + k ≡ vec_len c.args.seats.now) (all-dealt c) c.loop-at.invariant.rest

@@ -1,7 +1,7 @@
 use Rattle.std.proofs.Common.{ℕ, ◌∷◌, length, sym, subst, add_comm}
 use Rattle.play_report.specs.declared.report.Part.{Part}
 use Rattle.gc_table.specs.declared.seat.HeapSeat.{HeapSeat}
-use Rattle.gc_play.specs.Crews.{AreAfter, AreSaid, IsLeft, KnowsEnd, Numbered, SettlesEnd}
+use Rattle.gc_play.specs.Crews.{AreAfter, AreSaid, IsSeatLeftBy, KnowsEnd, Numbered, SettlesEnd}
 use Rattle.gc_play.proofs.Counting.{numbered-front, one-before}
 use Rattle.gc_play.proofs.Leaving.{catalogue-left, catalogue-says, crew-knows, crew-settles, handed-seat, said-front}
 use Rattle.gc_play.proofs.gathering.put_away.Goals as goal
@@ -13,7 +13,7 @@ returns-in-Ok-hand_over-clause-left c =
     let s = c.args.script.now.sections in
     let z = c.args.season in
     let x : HeapSeat = c.hand_catalogue-first.result.0 in
-    let P : ℕ → HeapSeat → Type 0 = IsLeft r h s z in
+    let P : ℕ → HeapSeat → Type 0 = IsSeatLeftBy r h s z in
     subst (Numbered P 0) (sym c.in-Ok-hand_over.ensures.seats)
     (numbered-front P 0 x c.gather.new.seats.items (catalogue-left r h s c.args._workers z c.args.crew x (handed-seat c.args.crew.catalogue c.hand_catalogue-first.result.0 c.hand_catalogue-first.result.1.items c.hand_catalogue-first.result.2.items c.hand_catalogue-first.result.3 c.hand_catalogue-first.ensures) c.requires.crew) c.in-Ok.ensures.seats)
 

@@ -1,15 +1,9 @@
-use Rattle.std.proofs.Common.{◌≡◌, ◌+◌, ◌%◌, ◌<◌, List, [], ◌∷◌, ◌++◌, length, map, All, get_or, refl, sym, ap, ◌∙◌, subst}
+use Rattle.std.proofs.Common.{◌≡◌, ◌+◌, ◌%◌, ◌<◌, List, [], ◌∷◌, ◌++◌, length, map, get_or, set, sym, ap, ◌∙◌, subst}
 use Rattle.std.specs.Prelude.{vec_len}
-use Rattle.std.proofs.lemmas.List.{map-append}
-use Rattle.std.proofs.lemmas.List.Elements.{All-set}
-use Rattle.warehouse.specs.declared.mutator.Mutator.{Mutator}
+use Rattle.std.proofs.lemmas.List.{length-set, get_or-set_same, get_or-set_other, get_or_default, map-append}
 use Rattle.gc_play.specs.declared.workers.Worker.{Worker}
-use Rattle.gc_table.specs.Rule.{KnowsFull}
-use Rattle.gc_table.specs.Seats.{view_of}
-use Rattle.gc_play.specs.Crews.{EndsAt}
-use Rattle.gc_play.specs.Dealing.{number_of, numbers_of, share}
-use Rattle.gc_play.proofs.Dealt.{undealt-at, turn-low, last-share, last-same, all-front}
-use Rattle.gc_play.proofs.Handing.{some-taken}
+use Rattle.gc_play.specs.Dealing.{TakesLast, seat_number, sections_of_worker, share}
+use Rattle.gc_play.proofs.Dealt.{undealt-at, turn-low, last-share, last-same}
 use Rattle.gc_play.proofs.gathering.take_back.Goals as goal
 
 abbrev left-of : goal.In-Some → Worker
@@ -18,47 +12,39 @@ left-of c = record { mutators = c.pop.new.self; full = c.index_mut.result.now.fu
 turn-is : (c : goal.In-Some) → c.args.at % c.len.result ≡ c.args.at % vec_len c.args.workers.now
 turn-is c = ap (λ i. c.args.at % i) c.len.ensures
 
-numbers-are : (c : goal.In-Some) → numbers_of c.index_mut.result.now ≡ numbers_of (left-of c) ++ number_of c.in-Some.mutator ∷ []
-numbers-are c = ap (map number_of) c.in-Some.ensures.items ∙ map-append number_of c.pop.new.self.items (c.in-Some.mutator ∷ [])
+numbers-are : (c : goal.In-Some) → sections_of_worker c.index_mut.result.now ≡ sections_of_worker (left-of c) ++ seat_number c.in-Some.mutator ∷ []
+numbers-are c = ap (map seat_number) c.in-Some.ensures.items ∙ map-append seat_number c.pop.new.self.items (c.in-Some.mutator ∷ [])
 
-number-is : (c : goal.In-Some) → number_of c.in-Some.mutator ≡ c.args.at + 1
+number-is : (c : goal.In-Some) → seat_number c.in-Some.mutator ≡ c.args.at + 1
 number-is c =
     let n = vec_len c.args.workers.now in
     let ws : List Worker = c.args.workers.now.items in
     let x : Worker = c.index_mut.result.now in
-    last-same (numbers_of (left-of c)) (share n (c.args.at % n) c.args.at) _ _
+    last-same (sections_of_worker (left-of c)) (share n (c.args.at % n) c.args.at) _ _
     (sym (numbers-are c) ∙ last-share n c.args.at ws x c.requires.some c.requires.dealt (c.index_mut.ensures.value ∙ ap (λ i. get_or ws i x) (turn-is c)))
-
-both : (c : goal.In-Some) → All (EndsAt c.args._ended c.args._heap.now c.args._script.now.sections c.args._season) c.pop.new.self.items × EndsAt c.args._ended c.args._heap.now c.args._script.now.sections c.args._season c.in-Some.mutator
-both c =
-    let P : Mutator → Type 0 = EndsAt c.args._ended c.args._heap.now c.args._script.now.sections c.args._season in
-    let ws : List Worker = c.args.workers.now.items in
-    let x : Worker = c.index_mut.result.now in
-    let low : c.args.at % c.len.result < length ws = turn-low (vec_len c.args.workers.now) c.args.at (c.args.at + 1) (c.args.at % c.len.result) ws c.requires.some (turn-is c) c.requires.dealt in
-    let all : All P x.mutators.items = subst (λ (y : Worker). All P y.mutators.items) (sym c.index_mut.ensures.value) (c.requires.ends (c.args.at % c.len.result) x low) in
-    all-front P c.pop.new.self.items c.in-Some.mutator (subst (All P) c.in-Some.ensures.items all)
 
 pub returns-clause-dealt : goal.returns-clause-dealt
 returns-clause-dealt c =
     undealt-at (vec_len c.args.workers.now) c.args.at (c.args.at % c.len.result) c.args.workers.now.items c.index_mut.result.now (left-of c) c.requires.some (turn-is c) c.requires.dealt c.index_mut.ensures.value
-    (numbers-are c ∙ ap (λ v. numbers_of (left-of c) ++ v ∷ []) (number-is c))
-
-pub returns-clause-ends : goal.returns-clause-ends
-returns-clause-ends c =
-    let P : Mutator → Type 0 = EndsAt c.args._ended c.args._heap.now c.args._script.now.sections c.args._season in
-    All-set (λ (y : Worker). All P y.mutators.items) c.args.workers.now.items (c.args.at % c.len.result) (left-of c) (both c).0 c.requires.ends
+    (numbers-are c ∙ ap (λ v. sections_of_worker (left-of c) ++ v ∷ []) (number-is c))
 
 pub returns-clause-number : goal.returns-clause-number
 returns-clause-number c = number-is c
 
-pub returns-clause-one : goal.returns-clause-one
-returns-clause-one c = (both c).1
-
-pub returns-clause-knows : goal.returns-clause-knows
-returns-clause-knows c =
+pub returns-clause-takes : goal.returns-clause-takes
+returns-clause-takes c =
     let ws : List Worker = c.args.workers.now.items in
     let x : Worker = c.index_mut.result.now in
     let t = c.args.at % c.len.result in
     let low : t < length ws = turn-low (vec_len c.args.workers.now) c.args.at (c.args.at + 1) t ws c.requires.some (turn-is c) c.requires.dealt in
-    some-taken (λ (m : Mutator). KnowsFull (view_of m.seat)) (λ (y : Worker). y.mutators.items) ws t x c.pop.new.self.items c.in-Some.mutator low
-    (ap (λ (y : Worker). y.mutators.items) (sym c.index_mut.ensures.value) ∙ c.in-Some.ensures.items) (left-of c) refl
+    let new : List Worker = set ws t (left-of c) in
+    subst (λ i. TakesLast i c.in-Some.mutator ws new) (turn-is c)
+    (record {
+      turn = low;
+      count = length-set ws t (left-of c);
+      last =
+          λ d.
+          ap (λ (y : Worker). y.mutators.items) (get_or_default ws t d x low ∙ sym c.index_mut.ensures.value)
+          ∙ (c.in-Some.ensures.items ∙ ap (λ (y : Worker). y.mutators.items ++ c.in-Some.mutator ∷ []) (sym (get_or-set_same ws t (left-of c) d low)));
+      others = λ j d apart. get_or-set_other ws t j (left-of c) d apart;
+    })

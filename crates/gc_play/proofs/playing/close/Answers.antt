@@ -4,7 +4,7 @@ use Rattle.plain_heap.specs.Sections.{Sections}
 use Rattle.gc_table.specs.declared.seat.HeapSeat.{HeapSeat}
 use Rattle.gc_play.specs.declared.season.Ended.{Ended}
 use Rattle.gc_play.specs.declared.season.Ended.TheVariants.{Done, First, Later}
-use Rattle.gc_play.specs.Crews.{AreSaid, IsLeft, Numbered, SettlesEnd}
+use Rattle.gc_play.specs.Crews.{AreSaid, IsSeatLeftBy, Numbered, SettlesEnd}
 use Rattle.gc_play.specs.Traced.{EndTraced, TracersRan}
 use Rattle.gc_play.proofs.Ending.{all-played, are-parts, are-ready, are-seated, have-stopped, some-knows}
 use Rattle.gc_play.proofs.playing.close.Goals as goal
@@ -18,7 +18,7 @@ close_played-requires-clause-played c =
     let s = c.args.script.now.sections in
     let z = c.args._season in
     let xs = c.args.seats.items in
-    all-played h s z xs c.requires.made (subst (λ r. Numbered (IsLeft r h s z) 0 xs) c.in-Done.is c.requires.left) (c.requires.all c.in-Done.is) (subst (λ r. SettlesEnd r xs) c.in-Done.is c.requires.settles)
+    all-played h s z xs c.requires.made (subst (λ r. Numbered (IsSeatLeftBy r h s z) 0 xs) c.in-Done.is c.requires.left) (c.requires.all c.in-Done.is) (subst (λ r. SettlesEnd r xs) c.in-Done.is c.requires.settles)
 
 pub close_played-requires-clause-parts : goal.close_played-requires-clause-parts
 close_played-requires-clause-parts c =
@@ -38,7 +38,7 @@ returns-in-Ok-clause-ends c =
     let z = c.args._season in
     let xs = c.args.seats.items in
     let all = c.requires.all c.in-Done.is in
-    let left : Numbered (IsLeft Done h s z) 0 xs = subst (λ r. Numbered (IsLeft r h s z) 0 xs) c.in-Done.is c.requires.left in
+    let left : Numbered (IsSeatLeftBy Done h s z) 0 xs = subst (λ r. Numbered (IsSeatLeftBy r h s z) 0 xs) c.in-Done.is c.requires.left in
     record {
       seats = xs;
       closed = record { end = c.in-Ok.ensures.words; made = are-seated Done h s z xs c.requires.made left };

@@ -1,17 +1,32 @@
-use Rattle.std.proofs.Common.{◌≡◌, ◌-◌, ◌*◌, inl, inr, subst, arith}
-use Rattle.gc_play.specs.Crews.{CatalogueAt, PlaySettles}
+use Rattle.std.proofs.Common.{◌≡◌, ◌-◌, ◌*◌, ◌<◌, inl, inr, refl, subst, arith}
+use Rattle.gc_play.specs.Crews.{CatalogueAt, CatalogueSettles}
 use Rattle.gc_play.specs.Dealing.{EachOne, StandsAt}
+use Rattle.gc_play.proofs.Catalogues.{may-move, settled}
 use Rattle.gc_play.proofs.Counting.{some-season}
 use Rattle.gc_play.proofs.Seasons.{seasons-more, play-traced}
 use Rattle.gc_play.proofs.playing.play_seasons.Goals as goal
 
-pub settle-requires-clause-parts : goal.settle-requires-clause-parts
-settle-requires-clause-parts g c κs within = (omega (arith, some-season c.args.script.now.sections, c.seasons-all.ensures.same), omega (arith, c.requires.script.few, c.seasons-all.ensures.same))
+pub settle-requires-clause-seat : goal.settle-requires-clause-seat
+settle-requires-clause-seat g c κs within =
+    let h = c.args.heap.now in
+    let s = c.args.script.now.sections in
+    let n = c.seasons-all.result in
+    let first : 0 < n = omega (arith, some-season s, c.seasons-all.ensures.same) in
+    let few : 2 * n - 1 < 128 = omega (arith, c.requires.script.few, c.seasons-all.ensures.same) in
+    let all : c.loop-before.before ≡ n = omega (arith, c.loop-before-test.false, c.loop-before.auto.before-end) in
+    let at = subst (λ k. CatalogueAt h s k (2 * k - 1) c.loop-before.crew.catalogue) all c.loop-before.invariant.crew.catalogue in
+    (may-move h s n (2 * n - 1) c.loop-before.crew.catalogue first few (inr refl) at).0
 
-pub settle-requires-clause-at : goal.settle-requires-clause-at
-settle-requires-clause-at g c κs within =
-    let all : c.loop-before.before ≡ c.seasons-all.result = omega (arith, c.loop-before-test.false, c.loop-before.auto.before-end) in
-    subst (λ n. CatalogueAt c.args.heap.now c.args.script.now.sections n (2 * n - 1) c.loop-before.crew.catalogue) all c.loop-before.invariant.crew.catalogue
+pub settle-requires-clause-turn : goal.settle-requires-clause-turn
+settle-requires-clause-turn g c κs within =
+    let h = c.args.heap.now in
+    let s = c.args.script.now.sections in
+    let n = c.seasons-all.result in
+    let first : 0 < n = omega (arith, some-season s, c.seasons-all.ensures.same) in
+    let few : 2 * n - 1 < 128 = omega (arith, c.requires.script.few, c.seasons-all.ensures.same) in
+    let all : c.loop-before.before ≡ n = omega (arith, c.loop-before-test.false, c.loop-before.auto.before-end) in
+    let at = subst (λ k. CatalogueAt h s k (2 * k - 1) c.loop-before.crew.catalogue) all c.loop-before.invariant.crew.catalogue in
+    (may-move h s n (2 * n - 1) c.loop-before.crew.catalogue first few (inr refl) at).1
 
 pub returns-in-Done-settle-clause-ends : goal.returns-in-Done-settle-clause-ends
 returns-in-Done-settle-clause-ends g c =
@@ -19,7 +34,10 @@ returns-in-Done-settle-clause-ends g c =
     let s = c.args.script.now.sections in
     let i = c.loop-before.invariant.crew in
     let all : c.loop-before.before ≡ c.seasons-all.result = omega (arith, c.loop-before-test.false, c.loop-before.auto.before-end) in
-    let e = subst (λ r. PlaySettles r h s c.seasons-all.result c.settle.new.catalogue) c.in-Done-settle.is c.settle.ensures in
+    let n = c.seasons-all.result in
+    let first : 0 < n = omega (arith, some-season s, c.seasons-all.ensures.same) in
+    let at = subst (λ k. CatalogueAt h s k (2 * k - 1) c.loop-before.crew.catalogue) all i.catalogue in
+    let e = subst (λ r. CatalogueSettles r h s n c.settle.new.catalogue) c.in-Done-settle.is (settled h s n c.settle.result c.loop-before.crew.catalogue c.settle.new.catalogue first c.settle.ensures.leaves c.settle.ensures.settles at) in
     (record { catalogue = e.0; dealt = i.dealt; played = subst (λ n. EachOne (StandsAt h s n) c.loop-before.crew.workers.items) all i.played; going = i.going; tracers = i.tracers }, e.1)
 
 pub returns-in-Done-settle-clause-season : goal.returns-in-Done-settle-clause-season
@@ -31,7 +49,10 @@ returns-in-Full-clause-ends g c =
     let s = c.args.script.now.sections in
     let i = c.loop-before.invariant.crew in
     let all : c.loop-before.before ≡ c.seasons-all.result = omega (arith, c.loop-before-test.false, c.loop-before.auto.before-end) in
-    let e = subst (λ r. PlaySettles r h s c.seasons-all.result c.settle.new.catalogue) c.in-Full.is c.settle.ensures in
+    let n = c.seasons-all.result in
+    let first : 0 < n = omega (arith, some-season s, c.seasons-all.ensures.same) in
+    let at = subst (λ k. CatalogueAt h s k (2 * k - 1) c.loop-before.crew.catalogue) all i.catalogue in
+    let e = subst (λ r. CatalogueSettles r h s n c.settle.new.catalogue) c.in-Full.is (settled h s n c.settle.result c.loop-before.crew.catalogue c.settle.new.catalogue first c.settle.ensures.leaves c.settle.ensures.settles at) in
     let played : EachOne (StandsAt h s c.seasons-all.result) c.loop-before.crew.workers.items = subst (λ n. EachOne (StandsAt h s n) c.loop-before.crew.workers.items) all i.played in
     record {
       season = omega (arith, some-season s, c.seasons-all.ensures.same);

@@ -3,7 +3,7 @@ use Rattle.std.proofs.lemmas.List.{length-map}
 use Rattle.std.proofs.lemmas.Bool.{true≢false, ne_eqb}
 use Rattle.plain_heap.specs.Sections.{Sections, Parts, section_of, counted, warehouse_sections}
 use Rattle.warehouse.specs.Playing.{MayPlay}
-use Rattle.gc_play.specs.Dealing.{number_of, OneEnds}
+use Rattle.gc_play.specs.Dealing.{seat_number, OneEnds}
 use Rattle.gc_play.proofs.Parts.{counted-long, counted-at, may-play, one-ends}
 use Rattle.gc_play.proofs.workers.play_one.Goals as goal
 
@@ -24,16 +24,16 @@ pub play_part-requires : goal.play_part-requires
 play_part-requires g c =
     let s = c.args.script.now.sections in
     let b = c.requires.before in
-    let w = number_of c.args.mutator.now in
+    let w = seat_number c.args.mutator.now in
     let place = at-place s w c.number.result c.index-warehouses-number.result c.warehouses.result.now c.warehouses.ensures.same b.warehouse.first b.warehouse.last c.number.ensures c.index-warehouses-number.is in
     subst (λ (a : Parts). MayPlay c.args.heap.now a c.args.season c.args.mutator.now) (sym place)
     (may-play c.args.heap.now s w c.args.season c.args.mutator.now c.requires.season (λ none. absurd (true≢false (sym none ∙ ne_eqb w 0 (λ z. omega (arith, z, b.warehouse.first))))) b.played)
 
-ends : (g : _) (c : goal.After-play_part g) → OneEnds c.play_part.result c.args.heap.now c.args.script.now.sections c.args.season c.play_part.new.mutator × (number_of c.play_part.new.mutator ≡ number_of c.args.mutator.now)
+ends : (g : _) (c : goal.After-play_part g) → OneEnds c.play_part.result c.args.heap.now c.args.script.now.sections c.args.season c.play_part.new.mutator × (seat_number c.play_part.new.mutator ≡ seat_number c.args.mutator.now)
 ends g c =
     let s = c.args.script.now.sections in
     let b = c.requires.before in
-    let place = at-place s (number_of c.args.mutator.now) c.number.result c.index-warehouses-number.result c.warehouses.result.now c.warehouses.ensures.same b.warehouse.first b.warehouse.last c.number.ensures c.index-warehouses-number.is in
+    let place = at-place s (seat_number c.args.mutator.now) c.number.result c.index-warehouses-number.result c.warehouses.result.now c.warehouses.ensures.same b.warehouse.first b.warehouse.last c.number.ensures c.index-warehouses-number.is in
     one-ends c.play_part.result c.args.heap.now s c.args.season c.args.mutator.now c.play_part.new.mutator c.index-warehouses-number.result place b.warehouse b.played c.play_part.ensures
 
 pub returns-clause-part : goal.returns-clause-part

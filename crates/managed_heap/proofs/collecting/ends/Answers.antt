@@ -1,5 +1,5 @@
 use Rattle.gc_table.specs.Seats.{view_of}
-use Rattle.managed_heap.proofs.Seats.{mutator-kept}
+use Rattle.mutator_turns.proofs.Seats.{mutator-kept}
 use Rattle.managed_heap.proofs.collecting.ends.Goals as goal
 
 pub returns-clause-halts : goal.returns-clause-halts

@@ -1,5 +1,5 @@
 use Rattle.gc_table.specs.Seats.{view_of}
-use Rattle.managed_heap.proofs.Seats.{mutator-kept}
+use Rattle.mutator_turns.proofs.Seats.{mutator-kept}
 use Rattle.managed_heap.proofs.collecting.marks_again.Goals as goal
 
 pub returns-clause-rooting : goal.returns-clause-rooting

@@ -1,6 +1,6 @@
 use Rattle.std.proofs.lemmas.Bool.{OnFalse_at, OnFalse_from, OnTrue_at, OnTrue_from}
 use Rattle.gc_table.specs.Seats.{view_of}
-use Rattle.managed_heap.proofs.Seats.{mutator-kept}
+use Rattle.mutator_turns.proofs.Seats.{mutator-kept}
 use Rattle.managed_heap.proofs.collecting.roots.Goals as goal
 
 pub returns-clause-rooted : goal.returns-clause-rooted

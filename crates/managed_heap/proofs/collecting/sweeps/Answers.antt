@@ -1,6 +1,6 @@
 use Rattle.std.proofs.Common.{arith}
 use Rattle.gc_table.specs.Seats.{view_of}
-use Rattle.managed_heap.proofs.Seats.{mutator-kept}
+use Rattle.mutator_turns.proofs.Seats.{mutator-kept}
 use Rattle.managed_heap.proofs.collecting.sweeps.Goals as goal
 
 pub returns-clause-sweeping : goal.returns-clause-sweeping

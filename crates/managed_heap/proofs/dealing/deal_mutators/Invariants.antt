@@ -1,7 +1,7 @@
 use Rattle.std.proofs.Common.{◌≡◌, ◌+◌, All}
 use Rattle.std.specs.Prelude.{vec_len}
 use Rattle.std.specs.Arc.{arc_value}
-use Rattle.managed_heap.specs.Lending.{IsFresh}
+use Rattle.managed_heap.specs.Lending.{IsFreshMutator}
 use Rattle.managed_heap.specs.Opening.{AreNew}
 use Rattle.managed_heap.proofs.dealing.deal_mutators.Given as goal
 
@@ -9,6 +9,6 @@ abbrev pub invariant-loop-at : goal.invariant-loop-at
 invariant-loop-at l = record {
   new : AreNew (arc_value l.heap) (1 + l.at) l.seats.items;
   rest : vec_len l.seats + l.at ≡ vec_len l.fn.seats;
-  fresh : All (IsFresh (arc_value l.heap) l.name) l.all.items;
+  fresh : All (IsFreshMutator (arc_value l.heap) l.name) l.all.items;
   count : vec_len l.all ≡ l.at;
 }

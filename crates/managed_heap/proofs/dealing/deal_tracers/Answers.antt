@@ -4,6 +4,7 @@ use Rattle.std.specs.Arc.{arc_value}
 use Rattle.gc_table.specs.declared.seat.Heap.{Heap}
 use Rattle.gc_table.specs.declared.seat.HeapSeat.{HeapSeat}
 use Rattle.managed_heap.specs.Opening.{AreNew}
+use Rattle.managed_heap.proofs.Beginning.{first-new, rest-new}
 use Rattle.managed_heap.proofs.dealing.deal_tracers.Goals as goal
 
 pub loop-at-preserved : goal.loop-at-preserved
@@ -12,9 +13,12 @@ loop-at-preserved c =
     let i = c.loop-at.invariant in
     let xs : List HeapSeat = c.next_seat-seat.new.seats.items in
     let next : c.args.first + c.loop-at.at + 1 ≡ c.args.first + (c.loop-at.at + 1) = omega arith in
-    let rest = c.next_seat-seat.ensures.rest in
+    let rest = rest-new h (c.args.first + c.loop-at.at) c.next_seat-seat.result xs c.loop-at.seats.items c.next_seat-seat.ensures.first i.new in
     record {
-      new = subst (λ n. AreNew h n xs) next (subst (λ (g : Heap). AreNew g (c.args.first + c.loop-at.at + 1) xs) c.deref.ensures rest);
+      new = subst (λ n. AreNew h n xs) next rest;
       rest = omega (arith, i.rest, c.next_seat-seat.ensures.count);
       count = grind (arith, common_steps);
     }
+
+pub tracer_of-requires : goal.tracer_of-requires
+tracer_of-requires c = record { seat = first-new (arc_value c.args.heap.now) (c.args.first + c.loop-at.at) c.next_seat-seat.result c.next_seat-seat.new.seats.items c.loop-at.seats.items c.next_seat-seat.ensures.first c.loop-at.invariant.new }

@@ -1,21 +1,10 @@
-use Rattle.std.proofs.Common.{ℕ, ◌≡◌, ◌+◌, ◌<◌, List, length, sym, ap, ◌∙◌, subst, arith}
-use Rattle.std.specs.Prelude.{slice_get}
+use Rattle.std.proofs.Common.{ℕ, ◌<◌, List, length, arith}
 use Rattle.gc_table.specs.declared.seat.HeapSeat.{HeapSeat}
-use Rattle.gc_table.proofs.Records.{first-of, rest-at}
-use Rattle.managed_heap.specs.Opening.{IsNew}
+use Rattle.managed_heap.proofs.Beginning.{first-and-rest}
 use Rattle.managed_heap.proofs.opening.next_seat.Goals as goal
 
-pub returns-clause-seat : goal.returns-clause-seat
-returns-clause-seat c =
+pub returns-clause-first : goal.returns-clause-first
+returns-clause-first c =
     let xs : List HeapSeat = c.args.seats.now.items in
-    let k : ℕ = c.args._k in
-    let none : k + 0 ≡ k = omega arith in
     let some : 0 < length xs = omega (arith, c.requires.some, c.args.seats.now.ok) in
-    subst (λ n. IsNew c.args.heap.now n c.remove.result) none (c.requires.new 0 c.remove.result (first-of xs c.remove.result some c.remove.ensures.value))
-
-pub returns-clause-rest : goal.returns-clause-rest
-returns-clause-rest c = λ i s h.
-    let xs : List HeapSeat = c.args.seats.now.items in
-    let k : ℕ = c.args._k in
-    let next : k + (i + 1) ≡ k + 1 + i = omega arith in
-    subst (λ n. IsNew c.args.heap.now n s) next (c.requires.new (i + 1) s (rest-at xs i s (ap (λ (l : List HeapSeat). slice_get l i) (sym c.remove.ensures.items) ∙ h)))
+    first-and-rest xs c.remove.result c.remove.new.self.items some c.remove.ensures.value c.remove.ensures.items

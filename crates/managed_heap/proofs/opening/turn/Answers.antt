@@ -6,10 +6,10 @@ use Rattle.gc_table.specs.Seats.{view_of}
 use Rattle.gc_table.specs.Sections.{planned}
 use Rattle.gc_table.specs.declared.view.Meaning.{Meaning}
 use Rattle.gc_table.specs.declared.view.View.{View}
-use Rattle.managed_heap.specs.Opening.{stopped}
 use Rattle.managed_heap.proofs.Turning.{alone-turn, first-section, may-turn}
 use Rattle.gc_table.proofs.RecordSteps.{state-after}
 use Rattle.managed_heap.proofs.opening.turn.Goals as goal
+use Rattle.stop_world.specs.StopRecords.{stopped}
 
 pub next_season-requires-clause-may : goal.next_season-requires-clause-may
 next_season-requires-clause-may c =

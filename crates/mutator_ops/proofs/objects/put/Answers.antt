@@ -10,7 +10,7 @@ use Rattle.gc_table.specs.declared.view.View.{View}
 use Rattle.gc_table.proofs.History.Log.{only-after}
 use Rattle.gc_table.proofs.Running.{ran-stored}
 use Rattle.mutator_ops.specs.Doing.{belongs, with_dropped, Does}
-use Rattle.mutator_ops.specs.Holding.{holding}
+use Rattle.mutator_ops.specs.Holding.{held_kind}
 use Rattle.mutator_ops.proofs.Holdings.{stored-nothing, stored-lent, stored-own, own-undropped}
 use Rattle.mutator_ops.proofs.Once.{once-after}
 use Rattle.mutator_ops.proofs.Readying.{ready-does}
@@ -49,7 +49,7 @@ done c =
     ∙ ap (λ (y : SectionState). with_dropped (d + 0) (stored_at y.meaning.heap (variable y.meaning.heap c.args.v) (λ (o : Object). with_value o c.args.n))) k.own
     ∙ stored-own d v.own.meaning.heap (variable v.own.meaning.heap c.args.v) (λ (o : Object). with_value o c.args.n) (sym c.in-OwnObject.is ∙ c.look_at.ensures.answer))
     (ap (λ (h : Heap). h.dropped) e.plain
-    ∙ own-undropped x.own.meaning.heap (variable x.own.meaning.heap c.args.v) (λ (o : Object). with_value o c.args.n) (sym c.in-OwnObject.is ∙ c.look_at.ensures.answer ∙ ap (λ (y : SectionState). holding (variable y.meaning.heap c.args.v)) (sym k.own)))
+    ∙ own-undropped x.own.meaning.heap (variable x.own.meaning.heap c.args.v) (λ (o : Object). with_value o c.args.n) (sym c.in-OwnObject.is ∙ c.look_at.ensures.answer ∙ ap (λ (y : SectionState). held_kind (variable y.meaning.heap c.args.v)) (sym k.own)))
 
 pub returns-in-OwnObject-clause-does : goal.returns-in-OwnObject-clause-does
 returns-in-OwnObject-clause-does c = done c

@@ -7,7 +7,7 @@ use Rattle.gc_table.specs.Seats.{view_of}
 use Rattle.gc_table.specs.declared.view.SectionState.{SectionState}
 use Rattle.gc_table.specs.declared.view.View.{View}
 use Rattle.mutator_ops.specs.Doing.{with_dropped, Does}
-use Rattle.mutator_ops.specs.Holding.{holding}
+use Rattle.mutator_ops.specs.Holding.{held_kind}
 use Rattle.mutator_ops.proofs.Holdings.{stored-nothing, stored-lent, stored-own, own-undropped}
 use Rattle.mutator_ops.proofs.Readying.{ready-does}
 use Rattle.mutator_ops.proofs.Storing.{once-barrier, stored-same, only-barrier, looks-does, stores-does, reads-set}
@@ -45,7 +45,7 @@ done c =
     ∙ ap (λ (y : SectionState). with_dropped (d + 0) (stored_at y.meaning.heap (variable y.meaning.heap c.args.v) (λ (o : Object). with_field o c.args.i (variable y.meaning.heap c.args.w)))) k.own
     ∙ stored-own d v.own.meaning.heap (variable v.own.meaning.heap c.args.v) (λ (o : Object). with_field o c.args.i (variable v.own.meaning.heap c.args.w)) (sym c.in-OwnObject.is ∙ c.look_at.ensures.answer))
     (ap (λ (h : Heap). h.dropped) e.plain
-    ∙ own-undropped x.own.meaning.heap (variable x.own.meaning.heap c.args.v) (λ (o : Object). with_field o c.args.i (variable x.own.meaning.heap c.args.w)) (sym c.in-OwnObject.is ∙ c.look_at.ensures.answer ∙ ap (λ (y : SectionState). holding (variable y.meaning.heap c.args.v)) (sym k.own)))
+    ∙ own-undropped x.own.meaning.heap (variable x.own.meaning.heap c.args.v) (λ (o : Object). with_field o c.args.i (variable x.own.meaning.heap c.args.w)) (sym c.in-OwnObject.is ∙ c.look_at.ensures.answer ∙ ap (λ (y : SectionState). held_kind (variable y.meaning.heap c.args.v)) (sym k.own)))
 
 pub returns-in-OwnObject-clause-does : goal.returns-in-OwnObject-clause-does
 returns-in-OwnObject-clause-does c = done c

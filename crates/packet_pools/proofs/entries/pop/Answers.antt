@@ -6,7 +6,7 @@ use Rattle.gc_table.specs.declared.view.View.{View}
 use Rattle.gc_table.specs.Seats.{view_of}
 use Rattle.packet_pools.proofs.Conditions.{may-pop}
 use Rattle.packet_pools.proofs.InHand.{known-held, known-entry, known-length, idle-popped}
-use Rattle.packet_pools.proofs.Doing.{later-pop, traces-on, held-less}
+use Rattle.packet_pools.proofs.Doing.{traced-pop, traces-on, held-less}
 use Rattle.packet_pools.proofs.entries.pop.Goals as goal
 
 pub pop_at-cell-requires-clause-may : goal.pop_at-cell-requires-clause-may
@@ -26,10 +26,10 @@ returns-clause-seat c =
     let v : View = view_of c.args.seat.now in
     let w : View = view_of c.pop_at-cell.new.seat in
     let e = c.pop_at-cell.ensures.view.1 in
-    (c.pop_at-cell.ensures.seat, traces-on v w (later-pop v w _ c.args.held.now.packet c.pop_at-cell.ensures.view.2 (idle-popped c.args.heap.now.shape.fields v.state c.requires.work) e) c.requires.seat.1 (ap (λ (x : View). x.state.reserved) e) (ap (λ (x : View). x.state.credit) e))
+    (c.pop_at-cell.ensures.seat, traces-on v w (traced-pop v w _ c.args.held.now.packet c.pop_at-cell.ensures.view.2 (idle-popped c.args.heap.now.shape.fields v.state c.requires.work) e) c.requires.seat.1 (ap (λ (x : View). x.state.reserved) e) (ap (λ (x : View). x.state.credit) e))
 
-pub returns-clause-later : goal.returns-clause-later
-returns-clause-later c = later-pop (view_of c.args.seat.now) (view_of c.pop_at-cell.new.seat) _ c.args.held.now.packet c.pop_at-cell.ensures.view.2 (idle-popped c.args.heap.now.shape.fields (view_of c.args.seat.now).state c.requires.work) c.pop_at-cell.ensures.view.1
+pub returns-clause-only : goal.returns-clause-only
+returns-clause-only c = traced-pop (view_of c.args.seat.now) (view_of c.pop_at-cell.new.seat) _ c.args.held.now.packet c.pop_at-cell.ensures.view.2 (idle-popped c.args.heap.now.shape.fields (view_of c.args.seat.now).state c.requires.work) c.pop_at-cell.ensures.view.1
 
 pub returns-clause-held : goal.returns-clause-held
 returns-clause-held c =

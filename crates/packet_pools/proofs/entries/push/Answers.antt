@@ -4,7 +4,7 @@ use Rattle.gc_table.specs.declared.view.View.{View}
 use Rattle.gc_table.specs.Seats.{view_of}
 use Rattle.packet_pools.proofs.Conditions.{may-push-in}
 use Rattle.packet_pools.proofs.InHand.{known-held, known-has, known-length}
-use Rattle.packet_pools.proofs.Doing.{later-push, traces-on, held-again}
+use Rattle.packet_pools.proofs.Doing.{traced-push, traces-on, held-again}
 use Rattle.packet_pools.proofs.entries.push.Goals as goal
 
 pub push_at-requires-clause-may : goal.push_at-requires-clause-may
@@ -25,10 +25,10 @@ returns-clause-seat c =
     let v : View = view_of c.args.seat.now in
     let w : View = view_of c.push_at.new.seat in
     let e = c.push_at.ensures.view in
-    (c.push_at.ensures.seat, traces-on v w (later-push v w _ c.args.held.now.packet c.args.cell refl c.requires.cell e) c.requires.seat.1 (ap (λ (x : View). x.state.reserved) e) (ap (λ (x : View). x.state.credit) e))
+    (c.push_at.ensures.seat, traces-on v w (traced-push v w _ c.args.held.now.packet c.args.cell refl c.requires.cell e) c.requires.seat.1 (ap (λ (x : View). x.state.reserved) e) (ap (λ (x : View). x.state.credit) e))
 
-pub returns-clause-later : goal.returns-clause-later
-returns-clause-later c = later-push (view_of c.args.seat.now) (view_of c.push_at.new.seat) _ c.args.held.now.packet c.args.cell refl c.requires.cell c.push_at.ensures.view
+pub returns-clause-only : goal.returns-clause-only
+returns-clause-only c = traced-push (view_of c.args.seat.now) (view_of c.push_at.new.seat) _ c.args.held.now.packet c.args.cell refl c.requires.cell c.push_at.ensures.view
 
 pub returns-clause-held : goal.returns-clause-held
 returns-clause-held c =

@@ -53,11 +53,11 @@ returns-then-length-eq0-clause-state c = counted-state c.requires.seat.1 c.requi
 pub returns-else-length-eq0-clause-state : goal.returns-else-length-eq0-clause-state
 returns-else-length-eq0-clause-state c = gave-full c.requires.seat.1 c.requires.held.known c.store_length.ensures.view c.give.ensures.view.1 (let d = c.if-length-eq0.false in omega (arith, d))
 
-pub returns-then-length-eq0-clause-later : goal.returns-then-length-eq0-clause-later
-returns-then-length-eq0-clause-later c = counted-later c.requires.seat.1 c.requires.held.known c.store_length.ensures.view c.give.ensures.view.1 c.credit.ensures.view.1
+pub returns-then-length-eq0-clause-only : goal.returns-then-length-eq0-clause-only
+returns-then-length-eq0-clause-only c = counted-later c.requires.seat.1 c.requires.held.known c.store_length.ensures.view c.give.ensures.view.1 c.credit.ensures.view.1
 
-pub returns-else-length-eq0-clause-later : goal.returns-else-length-eq0-clause-later
-returns-else-length-eq0-clause-later c = gave-later c.requires.seat.1 c.requires.held.known c.store_length.ensures.view c.give.ensures.view.1
+pub returns-else-length-eq0-clause-only : goal.returns-else-length-eq0-clause-only
+returns-else-length-eq0-clause-only c = gave-later c.requires.seat.1 c.requires.held.known c.store_length.ensures.view c.give.ensures.view.1
 
 pub returns-then-length-eq0-clause-seat : goal.returns-then-length-eq0-clause-seat
 returns-then-length-eq0-clause-seat c = (c.credit.ensures.seat, counted-traces c.requires.seat.1 c.requires.held.known c.store_length.ensures.view c.give.ensures.view.1 c.credit.ensures.view.1)

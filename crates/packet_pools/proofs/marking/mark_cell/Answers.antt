@@ -2,6 +2,7 @@ use Rattle.std.proofs.Common.{◌-◌, ◌≡◌, ◌+◌, ◌%◌, [], ◌∷�
 use mir.Val.{bool_byte}
 use Rattle.std.proofs.lemmas.Bool.{true≢false, false≢true}
 use Rattle.mark_core.specs.Bits.{has_bit}
+use Rattle.mark_core.specs.Cards.{block_cells}
 use Rattle.mark_core.specs.declared.kinds.Shape.{Shape}
 use Rattle.mark_core.specs.declared.kinds.Step.TheVariants.{SetMark}
 use Rattle.gc_table.specs.declared.view.Entry.{Entry}
@@ -9,14 +10,14 @@ use Rattle.gc_table.specs.declared.view.View.{View}
 use Rattle.gc_table.specs.Seats.{view_of}
 use Rattle.gc_table.specs.Log.{events}
 use Rattle.packet_pools.specs.OnlyTraced.{IsNotedMarked}
-use Rattle.packet_pools.specs.Counts.{Counts}
+use Rattle.packet_pools.specs.Counts.{CountsMarked}
 use Rattle.gc_table.proofs.History.Log.{entry_of, events-after, events-join}
 use Rattle.packet_pools.proofs.Marked.{marked-stays}
-use Rattle.packet_pools.proofs.TracedSteps.{later-join, marks-noted}
+use Rattle.packet_pools.proofs.TracedSteps.{traced-join, marks-noted}
 use Rattle.packet_pools.proofs.Doing.{traces-on}
-use Rattle.packet_pools.proofs.ScanSteps.{may-set_mark, later-set_mark}
+use Rattle.packet_pools.proofs.ScanSteps.{may-set_mark, traced-set_mark}
 use Rattle.packet_pools.proofs.Counting.{counts-join, counts-mark}
-use Rattle.packet_pools.specs.Fields.{Asks}
+use Rattle.packet_pools.specs.Fields.{AsksToMark}
 use Rattle.packet_pools.proofs.Reading.{asks-join}
 use Rattle.packet_pools.proofs.Pushed.{black, white, pushes-after}
 use Rattle.packet_pools.proofs.marking.mark_cell.Goals as goal
@@ -43,17 +44,17 @@ returns-then-not-set_mark-clause-seat c =
     let v : View = view_of c.args.seat.now in
     let w : View = view_of c.set_mark.new.seat in
     let e = c.set_mark.ensures.view.1 in
-    (c.set_mark.ensures.seat, traces-on v w (later-set_mark v w _ c.args.cell c.set_mark.ensures.view.2 c.requires.hand.fresh e) c.requires.seat.1 (ap (λ (z : View). z.state.reserved) e) (ap (λ (z : View). z.state.credit) e))
+    (c.set_mark.ensures.seat, traces-on v w (traced-set_mark v w _ c.args.cell c.set_mark.ensures.view.2 c.requires.hand.fresh e) c.requires.seat.1 (ap (λ (z : View). z.state.reserved) e) (ap (λ (z : View). z.state.credit) e))
 
-pub returns-then-not-set_mark-clause-later : goal.returns-then-not-set_mark-clause-later
-returns-then-not-set_mark-clause-later c = later-set_mark (view_of c.args.seat.now) (view_of c.set_mark.new.seat) _ c.args.cell c.set_mark.ensures.view.2 c.requires.hand.fresh c.set_mark.ensures.view.1
+pub returns-then-not-set_mark-clause-only : goal.returns-then-not-set_mark-clause-only
+returns-then-not-set_mark-clause-only c = traced-set_mark (view_of c.args.seat.now) (view_of c.set_mark.new.seat) _ c.args.cell c.set_mark.ensures.view.2 c.requires.hand.fresh c.set_mark.ensures.view.1
 
 pub returns-then-not-set_mark-clause-pushes : goal.returns-then-not-set_mark-clause-pushes
 returns-then-not-set_mark-clause-pushes c =
     let v : View = view_of c.args.seat.now in
     let w : View = view_of c.set_mark.new.seat in
     let s = c.set_mark.ensures.view in
-    let bit : has_bit s.0 (c.args.cell % 64) ≡ true = from_not _ true (sym s.3 ∙ c.if-not-set_mark.true) in
+    let bit : has_bit s.0 (c.args.cell % block_cells) ≡ true = from_not _ true (sym s.3 ∙ c.if-not-set_mark.true) in
     black v w c.args.out.now c.args.cell s.0 s.1 bit c.requires.hand c.requires.out.0 c.requires.out.1
 
 pub returns-then-not-set_mark-clause-counts : goal.returns-then-not-set_mark-clause-counts
@@ -62,27 +63,27 @@ returns-then-not-set_mark-clause-counts c =
     let v : View = view_of c.args.seat.now in
     let w : View = view_of c.set_mark.new.seat in
     let s = c.set_mark.ensures.view in
-    let bit : has_bit s.0 (c.args.cell % 64) ≡ true = from_not _ true (sym s.3 ∙ c.if-not-set_mark.true) in
-    subst (λ z. Counts sh z.marked (z.marked - z.overflowed) z.overflowed (events v w)) (sym c.none.ensures)
-    (subst (Counts sh 0 0 0) (sym (events-after v w (SetMark c.args.cell) s.0 s.1)) (counts-mark sh c.args.cell s.0 true bit))
+    let bit : has_bit s.0 (c.args.cell % block_cells) ≡ true = from_not _ true (sym s.3 ∙ c.if-not-set_mark.true) in
+    subst (λ z. CountsMarked sh z.marked (z.marked - z.overflowed) z.overflowed (events v w)) (sym c.none.ensures)
+    (subst (CountsMarked sh 0 0 0) (sym (events-after v w (SetMark c.args.cell) s.0 s.1)) (counts-mark sh c.args.cell s.0 true bit))
 
 pub push_marked-overflowed-requires-clause-seat : goal.push_marked-overflowed-requires-clause-seat
 push_marked-overflowed-requires-clause-seat c =
     let v : View = view_of c.args.seat.now in
     let w : View = view_of c.set_mark.new.seat in
     let e = c.set_mark.ensures.view.1 in
-    (c.set_mark.ensures.seat, traces-on v w (later-set_mark v w _ c.args.cell c.set_mark.ensures.view.2 c.requires.hand.fresh e) c.requires.seat.1 (ap (λ (z : View). z.state.reserved) e) (ap (λ (z : View). z.state.credit) e))
+    (c.set_mark.ensures.seat, traces-on v w (traced-set_mark v w _ c.args.cell c.set_mark.ensures.view.2 c.requires.hand.fresh e) c.requires.seat.1 (ap (λ (z : View). z.state.reserved) e) (ap (λ (z : View). z.state.credit) e))
 
 pub push_marked-overflowed-requires-clause-hand : goal.push_marked-overflowed-requires-clause-hand
 push_marked-overflowed-requires-clause-hand c =
     let s = c.set_mark.ensures.view in
     white (view_of c.args.seat.now) (view_of c.set_mark.new.seat) c.args.cell s.0 s.1 (from_not _ false (sym s.3 ∙ c.if-not-set_mark.false)) c.requires.hand
 
-pub returns-clause-later : goal.returns-clause-later
-returns-clause-later c =
+pub returns-clause-only : goal.returns-clause-only
+returns-clause-only c =
     let v : View = view_of c.args.seat.now in
     let w : View = view_of c.set_mark.new.seat in
-    later-join v w (view_of c.push_marked-overflowed.new.seat) (later-set_mark v w _ c.args.cell c.set_mark.ensures.view.2 c.requires.hand.fresh c.set_mark.ensures.view.1) c.push_marked-overflowed.ensures.later
+    traced-join v w (view_of c.push_marked-overflowed.new.seat) (traced-set_mark v w _ c.args.cell c.set_mark.ensures.view.2 c.requires.hand.fresh c.set_mark.ensures.view.1) c.push_marked-overflowed.ensures.only
 
 pub returns-clause-pushes : goal.returns-clause-pushes
 returns-clause-pushes c =
@@ -96,9 +97,9 @@ returns-clause-counts c =
     let x : View = view_of c.push_marked-overflowed.new.seat in
     let s = c.set_mark.ensures.view in
     let p = c.push_marked-overflowed.ensures in
-    let bit : has_bit s.0 (c.args.cell % 64) ≡ false = from_not _ false (sym s.3 ∙ c.if-not-set_mark.false) in
+    let bit : has_bit s.0 (c.args.cell % block_cells) ≡ false = from_not _ false (sym s.3 ∙ c.if-not-set_mark.false) in
     counts-join sh 1 0 1 0 _ _ 0 _ _ (entry_of (SetMark c.args.cell) s.0 ∷ []) (events w x) (events v x)
-    (events-join v w x (later-set_mark v w _ c.args.cell s.2 c.requires.hand.fresh s.1).log p.later.log ∙ ap (λ (l : List Entry). l ++ events w x) (events-after v w _ _ s.1))
+    (events-join v w x (traced-set_mark v w _ c.args.cell s.2 c.requires.hand.fresh s.1).log p.only.log ∙ ap (λ (l : List Entry). l ++ events w x) (events-after v w _ _ s.1))
     refl
     (one-less c.push_marked-overflowed.result ∙ ap (λ n. 1 - n) (sym c.from.ensures))
     (one-byte c.push_marked-overflowed.result ∙ sym c.from.ensures)
@@ -109,7 +110,7 @@ pub returns-then-not-set_mark-clause-asks : goal.returns-then-not-set_mark-claus
 returns-then-not-set_mark-clause-asks c =
     let v : View = view_of c.args.seat.now in
     let w : View = view_of c.set_mark.new.seat in
-    subst (Asks (c.args.cell ∷ [])) (sym (events-after v w (SetMark c.args.cell) _ c.set_mark.ensures.view.1)) (record { read = refl; named = refl; asked = refl })
+    subst (AsksToMark (c.args.cell ∷ [])) (sym (events-after v w (SetMark c.args.cell) _ c.set_mark.ensures.view.1)) (record { read = refl; named = refl; asked = refl })
 
 pub returns-clause-asks : goal.returns-clause-asks
 returns-clause-asks c =
@@ -119,7 +120,7 @@ returns-clause-asks c =
     let s = c.set_mark.ensures.view in
     let p = c.push_marked-overflowed.ensures in
     asks-join (c.args.cell ∷ []) [] (entry_of (SetMark c.args.cell) s.0 ∷ []) (events w x) (events v x)
-    (events-join v w x (later-set_mark v w _ c.args.cell s.2 c.requires.hand.fresh s.1).log p.later.log ∙ ap (λ (l : List Entry). l ++ events w x) (events-after v w _ _ s.1))
+    (events-join v w x (traced-set_mark v w _ c.args.cell s.2 c.requires.hand.fresh s.1).log p.only.log ∙ ap (λ (l : List Entry). l ++ events w x) (events-after v w _ _ s.1))
     (record { read = refl; named = refl; asked = refl })
     p.asks
 
@@ -133,4 +134,4 @@ pub returns-clause-noted : goal.returns-clause-noted
 returns-clause-noted c alone =
     let v : View = view_of c.args.seat.now in
     let s = c.set_mark.ensures.view in
-    marked-stays (view_of c.set_mark.new.seat) (view_of c.push_marked-overflowed.new.seat) c.push_marked-overflowed.ensures.later.ran c.push_marked-overflowed.ensures.later.only c.args.cell (ap (λ (z : View). z.state.alone) s.1 ∙ alone) (subst (λ (z : View). IsNotedMarked z c.args.cell) (sym s.1) (marks-noted v c.args.cell s.0 alone))
+    marked-stays (view_of c.set_mark.new.seat) (view_of c.push_marked-overflowed.new.seat) c.push_marked-overflowed.ensures.only.ran c.push_marked-overflowed.ensures.only.only c.args.cell (ap (λ (z : View). z.state.alone) s.1 ∙ alone) (subst (λ (z : View). IsNotedMarked z c.args.cell) (sym s.1) (marks-noted v c.args.cell s.0 alone))

@@ -10,9 +10,9 @@ use Rattle.packet_pools.specs.declared.held.Held.{Held}
 use Rattle.gc_table.specs.Log.{events}
 use Rattle.packet_pools.specs.Scanning.{InHand, Pushes}
 use Rattle.gc_table.proofs.History.Log.{entry_of, events-after, events-join}
-use Rattle.packet_pools.proofs.TracedSteps.{later-join}
+use Rattle.packet_pools.proofs.TracedSteps.{traced-join}
 use Rattle.packet_pools.proofs.Doing.{traces-on}
-use Rattle.packet_pools.proofs.ScanSteps.{fresh-answers, may-dirty_card, later-dirty_card}
+use Rattle.packet_pools.proofs.ScanSteps.{fresh-answers, may-dirty_card, traced-dirty_card}
 use Rattle.packet_pools.proofs.Counting.{counts-join, counts-lost, counts-moves, counts-push}
 use Rattle.packet_pools.proofs.Reading.{asks-join, asks-moves}
 use Rattle.packet_pools.proofs.Pushed.{dirtied, pushed, pushes-from}
@@ -23,8 +23,8 @@ use Rattle.packet_pools.proofs.marking.push_marked.Goals as goal
 same-hand : (v w : View) (c : ℕ) → w.state ≡ record v.state { held = w.state.held } → InHand None (Some c) v.state → InHand None (Some c) w.state
 same-hand v w c e h = record { popped = ap (λ (s : SeatState). s.popped) e ∙ h.popped; value = ap (λ (s : SeatState). s.value) e ∙ h.value; fresh = ap (λ (s : SeatState). s.fresh) e ∙ h.fresh }
 
-pub returns-in-Ok-clause-later : goal.returns-in-Ok-clause-later
-returns-in-Ok-clause-later c = later-join (view_of c.args.seat.now) (view_of c.make_room.new.seat) (view_of c.push.new.seat) c.make_room.ensures.later c.in-Ok.ensures.later
+pub returns-in-Ok-clause-only : goal.returns-in-Ok-clause-only
+returns-in-Ok-clause-only c = traced-join (view_of c.args.seat.now) (view_of c.make_room.new.seat) (view_of c.push.new.seat) c.make_room.ensures.only c.in-Ok.ensures.only
 
 pub returns-in-Ok-clause-pushes : goal.returns-in-Ok-clause-pushes
 returns-in-Ok-clause-pushes c =
@@ -50,7 +50,7 @@ returns-in-Ok-clause-counts c =
     let m = c.make_room.ensures in
     let p = c.in-Ok.ensures.pushed in
     counts-join sh 0 0 0 0 1 1 0 0 0 (events v w) (entry_of (Push c.make_room.new.out.packet c.args.cell) _ ∷ []) (events v x)
-    (events-join v w x m.later.log c.in-Ok.ensures.later.log ∙ ap (λ (l : List Entry). events v w ++ l) (events-after w x _ _ p.2))
+    (events-join v w x m.only.log c.in-Ok.ensures.only.log ∙ ap (λ (l : List Entry). events v w ++ l) (events-after w x _ _ p.2))
     refl
     refl
     refl
@@ -70,12 +70,12 @@ dirty_card-requires-clause-may c =
 lost-step : (w x y : View) (k card : ℕ) (n : ℕ) → x ≡ w → k ≡ card → y ≡ after (DirtyCard k) n x → y ≡ after (DirtyCard card) n w
 lost-step w x y k card n a b e = e ∙ (λ i. after (DirtyCard (b i)) n (a i))
 
-pub returns-in-Err-clause-later : goal.returns-in-Err-clause-later
-returns-in-Err-clause-later c =
+pub returns-in-Err-clause-only : goal.returns-in-Err-clause-only
+returns-in-Err-clause-only c =
     let v : View = view_of c.args.seat.now in
     let w : View = view_of c.make_room.new.seat in
     let y : View = view_of c.dirty_card.new.seat in
-    later-join v w y c.make_room.ensures.later (later-dirty_card w y _ (card_of c.args.cell) refl (fresh-answers w.state c.args.cell (card_of c.args.cell) (same-hand v w c.args.cell c.make_room.ensures.state c.requires.hand).fresh refl) (lost-step w (view_of c.push.new.seat) y c.card_of.result (card_of c.args.cell) _ c.in-Err.ensures.full.2 c.card_of.ensures c.dirty_card.ensures.view))
+    traced-join v w y c.make_room.ensures.only (traced-dirty_card w y _ (card_of c.args.cell) refl (fresh-answers w.state c.args.cell (card_of c.args.cell) (same-hand v w c.args.cell c.make_room.ensures.state c.requires.hand).fresh refl) (lost-step w (view_of c.push.new.seat) y c.card_of.result (card_of c.args.cell) _ c.in-Err.ensures.full.2 c.card_of.ensures c.dirty_card.ensures.view))
 
 pub returns-in-Err-clause-seat : goal.returns-in-Err-clause-seat
 returns-in-Err-clause-seat c =
@@ -83,7 +83,7 @@ returns-in-Err-clause-seat c =
     let y : View = view_of c.dirty_card.new.seat in
     let e = c.dirty_card.ensures.view in
     let fresh = ap (λ (z : View). z.state.fresh) c.in-Err.ensures.full.2 ∙ (same-hand (view_of c.args.seat.now) (view_of c.make_room.new.seat) c.args.cell c.make_room.ensures.state c.requires.hand).fresh in
-    (c.dirty_card.ensures.seat, traces-on x y (later-dirty_card x y _ c.card_of.result refl (fresh-answers x.state c.args.cell c.card_of.result fresh (sym c.card_of.ensures)) e) c.in-Err.ensures.seat.1 (ap (λ (z : View). z.state.reserved) e) (ap (λ (z : View). z.state.credit) e))
+    (c.dirty_card.ensures.seat, traces-on x y (traced-dirty_card x y _ c.card_of.result refl (fresh-answers x.state c.args.cell c.card_of.result fresh (sym c.card_of.ensures)) e) c.in-Err.ensures.seat.1 (ap (λ (z : View). z.state.reserved) e) (ap (λ (z : View). z.state.credit) e))
 
 pub returns-in-Err-clause-pushes : goal.returns-in-Err-clause-pushes
 returns-in-Err-clause-pushes c =
@@ -110,7 +110,7 @@ returns-in-Err-clause-counts c =
     let f = c.in-Err.ensures.full in
     let e = lost-step w (view_of c.push.new.seat) y c.card_of.result (card_of c.args.cell) _ f.2 c.card_of.ensures c.dirty_card.ensures.view in
     counts-lost sh (card_of c.args.cell) _ (events v w) (events v y)
-    (events-join v w y m.later.log (later-dirty_card w y _ (card_of c.args.cell) refl (fresh-answers w.state c.args.cell (card_of c.args.cell) (same-hand v w c.args.cell m.state c.requires.hand).fresh refl) e).log ∙ ap (λ (l : List Entry). events v w ++ l) (events-after w y _ _ e))
+    (events-join v w y m.only.log (traced-dirty_card w y _ (card_of c.args.cell) refl (fresh-answers w.state c.args.cell (card_of c.args.cell) (same-hand v w c.args.cell m.state c.requires.hand).fresh refl) e).log ∙ ap (λ (l : List Entry). events v w ++ l) (events-after w y _ _ e))
     (m.full f.0)
     m.moves
 
@@ -121,7 +121,7 @@ returns-in-Ok-clause-asks c =
     let x : View = view_of c.push.new.seat in
     let m = c.make_room.ensures in
     asks-join [] [] (events v w) (entry_of (Push c.make_room.new.out.packet c.args.cell) _ ∷ []) (events v x)
-    (events-join v w x m.later.log c.in-Ok.ensures.later.log ∙ ap (λ (l : List Entry). events v w ++ l) (events-after w x _ _ c.in-Ok.ensures.pushed.2))
+    (events-join v w x m.only.log c.in-Ok.ensures.only.log ∙ ap (λ (l : List Entry). events v w ++ l) (events-after w x _ _ c.in-Ok.ensures.pushed.2))
     (asks-moves (events v w) m.moves)
     (record { read = refl; named = refl; asked = refl })
 
@@ -133,6 +133,6 @@ returns-in-Err-clause-asks c =
     let m = c.make_room.ensures in
     let e = lost-step w (view_of c.push.new.seat) y c.card_of.result (card_of c.args.cell) _ c.in-Err.ensures.full.2 c.card_of.ensures c.dirty_card.ensures.view in
     asks-join [] [] (events v w) (entry_of (DirtyCard (card_of c.args.cell)) _ ∷ []) (events v y)
-    (events-join v w y m.later.log (later-dirty_card w y _ (card_of c.args.cell) refl (fresh-answers w.state c.args.cell (card_of c.args.cell) (same-hand v w c.args.cell m.state c.requires.hand).fresh refl) e).log ∙ ap (λ (l : List Entry). events v w ++ l) (events-after w y _ _ e))
+    (events-join v w y m.only.log (traced-dirty_card w y _ (card_of c.args.cell) refl (fresh-answers w.state c.args.cell (card_of c.args.cell) (same-hand v w c.args.cell m.state c.requires.hand).fresh refl) e).log ∙ ap (λ (l : List Entry). events v w ++ l) (events-after w y _ _ e))
     (asks-moves (events v w) m.moves)
     (record { read = refl; named = refl; asked = refl })

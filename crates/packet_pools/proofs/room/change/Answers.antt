@@ -1,8 +1,9 @@
-use Rattle.std.proofs.Common.{[], ◌∷◌, sym, subst}
+use Rattle.std.proofs.Common.{sym, subst}
 use Rattle.std.specs.Prelude.{IsTrue, ◌==◌}
 use Rattle.mark_core.specs.Held.{holds_another}
 use Rattle.gc_table.specs.declared.view.View.{View}
 use Rattle.gc_table.specs.Seats.{view_of}
+use Rattle.packet_pools.specs.Seeking.{output_pools}
 use Rattle.packet_pools.specs.declared.held.Held.{Held}
 use Rattle.gc_table.specs.Log.{events}
 use Rattle.packet_pools.proofs.InHand.{known-held}
@@ -20,4 +21,4 @@ give-requires-clause-work c =
     (another-held v.state.held c.args.out.now.packet k.packet o.1 (known-held v.state.held k.packet k.length o.0.known))
 
 pub returns-clause-moves : goal.returns-clause-moves
-returns-clause-moves c = given-moves (0 ∷ 1 ∷ 2 ∷ []) c.replace-full.result.packet (c.replace-full.result.length == 0) (events (view_of c.args.seat.now) (view_of c.give.new.seat)) c.give.ensures.steps
+returns-clause-moves c = given-moves output_pools c.replace-full.result.packet (c.replace-full.result.length == 0) (events (view_of c.args.seat.now) (view_of c.give.new.seat)) c.give.ensures.steps

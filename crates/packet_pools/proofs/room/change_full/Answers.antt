@@ -1,12 +1,12 @@
-use Rattle.std.proofs.Common.{[], ◌∷◌, sym, ap, ◌∙◌, subst}
+use Rattle.std.proofs.Common.{sym, ap, ◌∙◌, subst}
 use Rattle.gc_table.specs.declared.view.View.{View}
 use Rattle.gc_table.specs.Seats.{view_of}
 use Rattle.packet_pools.specs.declared.held.Held.{Held}
 use Rattle.gc_table.specs.Log.{events}
-use Rattle.packet_pools.specs.Seeking.{only_moves}
+use Rattle.packet_pools.specs.Seeking.{only_moves, output_pools}
 use Rattle.packet_pools.specs.Scanning.{Fills}
 use Rattle.gc_table.proofs.History.Log.{events-join}
-use Rattle.packet_pools.proofs.TracedSteps.{later-join}
+use Rattle.packet_pools.proofs.TracedSteps.{traced-join}
 use Rattle.packet_pools.proofs.Searches.{moves-join}
 use Rattle.packet_pools.proofs.Filled.{apart, fills-other, kept}
 use Rattle.packet_pools.proofs.room.change_full.Goals as goal
@@ -14,15 +14,15 @@ use Rattle.packet_pools.proofs.room.change_full.Goals as goal
 pub change-requires-clause-out : goal.change-requires-clause-out
 change-requires-clause-out c =
     let e = c.in-Some.ensures in
-    kept (view_of c.args.seat.now) (view_of c.take_output.new.seat) (0 ∷ 1 ∷ 2 ∷ []) c.args.out.now c.in-Some.other e.later.shape c.requires.out.0 e.some.0
+    kept (view_of c.args.seat.now) (view_of c.take_output.new.seat) output_pools c.args.out.now c.in-Some.other e.only.shape c.requires.out.0 e.some.0
 
 pub change-requires-clause-other : goal.change-requires-clause-other
 change-requires-clause-other c =
     let e = c.in-Some.ensures in
-    (e.some.0.held, apart (view_of c.args.seat.now) (view_of c.take_output.new.seat) (0 ∷ 1 ∷ 2 ∷ []) c.args.out.now c.in-Some.other e.later.shape c.requires.out.0 e.some.0)
+    (e.some.0.held, apart (view_of c.args.seat.now) (view_of c.take_output.new.seat) output_pools c.args.out.now c.in-Some.other e.only.shape c.requires.out.0 e.some.0)
 
-pub returns-in-Some-clause-later : goal.returns-in-Some-clause-later
-returns-in-Some-clause-later c = later-join (view_of c.args.seat.now) (view_of c.take_output.new.seat) (view_of c.change.new.seat) c.in-Some.ensures.later c.change.ensures.later
+pub returns-in-Some-clause-only : goal.returns-in-Some-clause-only
+returns-in-Some-clause-only c = traced-join (view_of c.args.seat.now) (view_of c.take_output.new.seat) (view_of c.change.new.seat) c.in-Some.ensures.only c.change.ensures.only
 
 pub returns-in-Some-clause-out : goal.returns-in-Some-clause-out
 returns-in-Some-clause-out c =
@@ -31,7 +31,7 @@ returns-in-Some-clause-out c =
     let e = c.in-Some.ensures in
     let f = c.change.ensures in
     subst (λ (k : Held). Fills c.args.out.now k v x) (sym f.out)
-    (fills-other v (view_of c.take_output.new.seat) (0 ∷ 1 ∷ 2 ∷ []) c.args.out.now c.in-Some.other e.later.shape c.requires.out.0 e.some.0 c.requires.out.1 x f.later.shape f.state)
+    (fills-other v (view_of c.take_output.new.seat) output_pools c.args.out.now c.in-Some.other e.only.shape c.requires.out.0 e.some.0 c.requires.out.1 x f.only.shape f.state)
 
 pub returns-in-Some-clause-moves : goal.returns-in-Some-clause-moves
 returns-in-Some-clause-moves c =
@@ -40,4 +40,4 @@ returns-in-Some-clause-moves c =
     let x : View = view_of c.change.new.seat in
     let e = c.in-Some.ensures in
     let f = c.change.ensures in
-    ap (only_moves (0 ∷ 1 ∷ 2 ∷ [])) (events-join v w x e.later.log f.later.log) ∙ moves-join (0 ∷ 1 ∷ 2 ∷ []) (events v w) (events w x) e.some.0.moves f.moves
+    ap (only_moves output_pools) (events-join v w x e.only.log f.only.log) ∙ moves-join output_pools (events v w) (events w x) e.some.0.moves f.moves

@@ -4,7 +4,7 @@ use Rattle.gc_table.specs.declared.view.View.{View}
 use Rattle.gc_table.specs.Seats.{view_of}
 use Rattle.gc_table.specs.Log.{events}
 use Rattle.gc_table.proofs.History.Log.{events-join}
-use Rattle.packet_pools.proofs.TracedSteps.{later-join}
+use Rattle.packet_pools.proofs.TracedSteps.{traced-join}
 use Rattle.packet_pools.specs.Fields.{Follows, fields_from}
 use Rattle.packet_pools.proofs.Reading.{fields-first, follows-join}
 use Rattle.packet_pools.proofs.Counting.{counts-join}
@@ -19,8 +19,8 @@ scan_field-first-requires-clause-field c =
 pub scan_fields-rest-requires-clause-out : goal.scan_fields-rest-requires-clause-out
 scan_fields-rest-requires-clause-out c = let p = c.scan_field-first.ensures.pushes.packet in (p.held, p.free)
 
-pub returns-clause-later : goal.returns-clause-later
-returns-clause-later c = later-join (view_of c.args.seat.now) (view_of c.scan_field-first.new.seat) (view_of c.scan_fields-rest.new.seat) c.scan_field-first.ensures.later c.scan_fields-rest.ensures.later
+pub returns-clause-only : goal.returns-clause-only
+returns-clause-only c = traced-join (view_of c.args.seat.now) (view_of c.scan_field-first.new.seat) (view_of c.scan_fields-rest.new.seat) c.scan_field-first.ensures.only c.scan_fields-rest.ensures.only
 
 pub returns-clause-pushes : goal.returns-clause-pushes
 returns-clause-pushes c =
@@ -36,7 +36,7 @@ returns-clause-counts c =
     let x : View = view_of c.scan_fields-rest.new.seat in
     let e = c.scan_field-first.ensures in
     let f = c.scan_fields-rest.ensures in
-    counts-join sh _ _ _ _ _ _ _ _ _ (events v w) (events w x) (events v x) (events-join v w x e.later.log f.later.log) refl (omega (arith, e.most.0, f.most.0)) refl e.counts f.counts
+    counts-join sh _ _ _ _ _ _ _ _ _ (events v w) (events w x) (events v x) (events-join v w x e.only.log f.only.log) refl (omega (arith, e.most.0, f.most.0)) refl e.counts f.counts
 
 pub returns-clause-follows : goal.returns-clause-follows
 returns-clause-follows c =
@@ -47,4 +47,4 @@ returns-clause-follows c =
     let e = c.scan_field-first.ensures in
     let f = c.scan_fields-rest.ensures in
     subst (λ l. Follows l (events v x)) (fields-first c.args.cell n c.args.heap.now.shaped.fields.0)
-    (follows-join ((c.args.cell, 0) ∷ []) (fields_from c.args.cell 1 (n - 1)) (events v w) (events w x) (events v x) (events-join v w x e.later.log f.later.log) e.follows f.follows)
+    (follows-join ((c.args.cell, 0) ∷ []) (fields_from c.args.cell 1 (n - 1)) (events v w) (events w x) (events v x) (events-join v w x e.only.log f.only.log) e.follows f.follows)

@@ -8,12 +8,12 @@ use Rattle.gc_table.specs.declared.view.View.{View}
 use Rattle.gc_table.specs.Seats.{view_of}
 use Rattle.gc_table.specs.Log.{events}
 use Rattle.packet_pools.specs.Scanning.{Pushes}
-use Rattle.packet_pools.specs.Counts.{Counts}
+use Rattle.packet_pools.specs.Counts.{CountsMarked}
 use Rattle.gc_table.proofs.History.Log.{entry_of, events-after, events-join}
-use Rattle.packet_pools.proofs.TracedSteps.{later-join}
+use Rattle.packet_pools.proofs.TracedSteps.{traced-join}
 use Rattle.packet_pools.proofs.Doing.{traces-on}
-use Rattle.packet_pools.proofs.ScanSteps.{may-read_field, later-read_field}
-use Rattle.packet_pools.specs.Fields.{Asks}
+use Rattle.packet_pools.proofs.ScanSteps.{may-read_field, traced-read_field}
+use Rattle.packet_pools.specs.Fields.{AsksToMark}
 use Rattle.std.proofs.lemmas.Bool.{ne_eqb}
 use Rattle.packet_pools.proofs.Reading.{follows-cell, follows-nil}
 use Rattle.packet_pools.proofs.Counting.{counts-join, counts-read}
@@ -30,12 +30,12 @@ returns-then-word-eq0-clause-seat c =
     let v : View = view_of c.args.seat.now in
     let w : View = view_of c.read_field-word.new.seat in
     let e = c.read_field-word.ensures.view in
-    (c.read_field-word.ensures.seat, traces-on v w (later-read_field v w _ c.args.cell c.args.i e.1 e.0) c.requires.seat.1 (ap (λ (z : View). z.state.reserved) e.0) (ap (λ (z : View). z.state.credit) e.0))
+    (c.read_field-word.ensures.seat, traces-on v w (traced-read_field v w _ c.args.cell c.args.i e.1 e.0) c.requires.seat.1 (ap (λ (z : View). z.state.reserved) e.0) (ap (λ (z : View). z.state.credit) e.0))
 
-pub returns-then-word-eq0-clause-later : goal.returns-then-word-eq0-clause-later
-returns-then-word-eq0-clause-later c =
+pub returns-then-word-eq0-clause-only : goal.returns-then-word-eq0-clause-only
+returns-then-word-eq0-clause-only c =
     let e = c.read_field-word.ensures.view in
-    later-read_field (view_of c.args.seat.now) (view_of c.read_field-word.new.seat) _ c.args.cell c.args.i e.1 e.0
+    traced-read_field (view_of c.args.seat.now) (view_of c.read_field-word.new.seat) _ c.args.cell c.args.i e.1 e.0
 
 pub returns-then-word-eq0-clause-counts : goal.returns-then-word-eq0-clause-counts
 returns-then-word-eq0-clause-counts c =
@@ -43,22 +43,22 @@ returns-then-word-eq0-clause-counts c =
     let v : View = view_of c.args.seat.now in
     let w : View = view_of c.read_field-word.new.seat in
     let e = c.read_field-word.ensures.view in
-    subst (λ z. Counts sh z.marked (z.marked - z.overflowed) z.overflowed (events v w)) (sym c.none.ensures)
-    (subst (Counts sh 0 0 0) (sym (events-after v w (ReadField c.args.cell c.args.i) _ e.0)) (counts-read sh c.args.cell c.args.i _))
+    subst (λ z. CountsMarked sh z.marked (z.marked - z.overflowed) z.overflowed (events v w)) (sym c.none.ensures)
+    (subst (CountsMarked sh 0 0 0) (sym (events-after v w (ReadField c.args.cell c.args.i) _ e.0)) (counts-read sh c.args.cell c.args.i _))
 
 pub mark_cell-requires-clause-seat : goal.mark_cell-requires-clause-seat
 mark_cell-requires-clause-seat c =
     let v : View = view_of c.args.seat.now in
     let w : View = view_of c.read_field-word.new.seat in
     let e = c.read_field-word.ensures.view in
-    (c.read_field-word.ensures.seat, traces-on v w (later-read_field v w _ c.args.cell c.args.i e.1 e.0) c.requires.seat.1 (ap (λ (z : View). z.state.reserved) e.0) (ap (λ (z : View). z.state.credit) e.0))
+    (c.read_field-word.ensures.seat, traces-on v w (traced-read_field v w _ c.args.cell c.args.i e.1 e.0) c.requires.seat.1 (ap (λ (z : View). z.state.reserved) e.0) (ap (λ (z : View). z.state.credit) e.0))
 
-pub returns-clause-later : goal.returns-clause-later
-returns-clause-later c =
+pub returns-clause-only : goal.returns-clause-only
+returns-clause-only c =
     let v : View = view_of c.args.seat.now in
     let w : View = view_of c.read_field-word.new.seat in
     let e = c.read_field-word.ensures.view in
-    later-join v w (view_of c.mark_cell.new.seat) (later-read_field v w _ c.args.cell c.args.i e.1 e.0) c.mark_cell.ensures.later
+    traced-join v w (view_of c.mark_cell.new.seat) (traced-read_field v w _ c.args.cell c.args.i e.1 e.0) c.mark_cell.ensures.only
 
 pub returns-clause-pushes : goal.returns-clause-pushes
 returns-clause-pushes c =
@@ -82,7 +82,7 @@ returns-clause-counts c =
     let e = c.read_field-word.ensures.view in
     let m = c.mark_cell.ensures in
     counts-join sh 0 _ _ 0 _ _ 0 _ _ (entry_of (ReadField c.args.cell c.args.i) c.read_field-word.result ∷ []) (events w x) (events v x)
-    (events-join v w x (later-read_field v w _ c.args.cell c.args.i e.1 e.0).log m.later.log ∙ ap (λ (l : List Entry). l ++ events w x) (events-after v w _ _ e.0))
+    (events-join v w x (traced-read_field v w _ c.args.cell c.args.i e.1 e.0).log m.only.log ∙ ap (λ (l : List Entry). l ++ events w x) (events-after v w _ _ e.0))
     (omega arith)
     (omega arith)
     (omega arith)
@@ -104,6 +104,6 @@ returns-clause-follows c =
     let e = c.read_field-word.ensures.view in
     let m = c.mark_cell.ensures in
     follows-cell c.args.cell c.args.i n (events w x) (events v x)
-    (events-join v w x (later-read_field v w n c.args.cell c.args.i e.1 e.0).log m.later.log ∙ ap (λ (l : List Entry). l ++ events w x) (events-after v w _ _ e.0))
+    (events-join v w x (traced-read_field v w n c.args.cell c.args.i e.1 e.0).log m.only.log ∙ ap (λ (l : List Entry). l ++ events w x) (events-after v w _ _ e.0))
     (ne_eqb n 0 c.if-word-eq0.false)
-    (subst (λ (k : ℕ). Asks (k ∷ []) (events w x)) c.cell_of.ensures m.asks)
+    (subst (λ (k : ℕ). AsksToMark (k ∷ []) (events w x)) c.cell_of.ensures m.asks)

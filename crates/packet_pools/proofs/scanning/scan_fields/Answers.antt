@@ -4,7 +4,7 @@ use Rattle.gc_table.specs.declared.view.View.{View}
 use Rattle.gc_table.specs.Seats.{view_of}
 use Rattle.gc_table.specs.Log.{events}
 use Rattle.gc_table.proofs.History.Log.{events-join}
-use Rattle.packet_pools.proofs.TracedSteps.{later-join}
+use Rattle.packet_pools.proofs.TracedSteps.{traced-join}
 use Rattle.packet_pools.specs.Fields.{Follows, fields_from}
 use Rattle.packet_pools.proofs.Reading.{fields-next, follows-join}
 use Rattle.packet_pools.proofs.Counting.{counts-join}
@@ -33,13 +33,13 @@ loop-i-preserved c =
     record {
       sits = e.seat.0;
       traces = e.seat.1;
-      later = later-join v w x i.later e.later;
+      only = traced-join v w x i.only e.only;
       order = omega (arith, i.order);
       still = λ l. absurd (omega (arith, below, fields, l, i.order));
       pushes = round v w x c.args.out.now c.loop-i.out c.scan_field-one.new.out c.args.cell c.args.next c.loop-i.i i.order i.pushes e.pushes;
       most = (omega (arith, i.most.0, e.most.0), omega (arith, i.most.1, e.most.1));
-      counts = counts-join sh _ _ _ _ _ _ _ _ _ (events v w) (events w x) (events v x) (events-join v w x i.later.log e.later.log) refl (omega (arith, i.most.0, e.most.0)) refl i.counts e.counts;
+      counts = counts-join sh _ _ _ _ _ _ _ _ _ (events v w) (events w x) (events v x) (events-join v w x i.only.log e.only.log) refl (omega (arith, i.most.0, e.most.0)) refl i.counts e.counts;
       follows =
           subst (λ l. Follows l (events v x)) (fields-next c.args.cell c.args.next c.loop-i.i i.order)
-          (follows-join (fields_from c.args.cell c.args.next (c.loop-i.i - c.args.next)) ((c.args.cell, c.loop-i.i) ∷ []) (events v w) (events w x) (events v x) (events-join v w x i.later.log e.later.log) i.follows e.follows);
+          (follows-join (fields_from c.args.cell c.args.next (c.loop-i.i - c.args.next)) ((c.args.cell, c.loop-i.i) ∷ []) (events v w) (events w x) (events v x) (events-join v w x i.only.log e.only.log) i.follows e.follows);
     }

@@ -1,27 +1,28 @@
 use Rattle.std.proofs.Common.{ℕ, ◌≡◌, ◌+◌, ◌*◌, arith, subst, sym, ap, ◌∙◌, List}
 use Rattle.mark_core.specs.Layout.{pool_words}
+use Rattle.mark_core.specs.Numbers.{word_bits}
 use Rattle.mark_core.specs.declared.kinds.Shape.{Shape}
 use Rattle.gc_table.specs.declared.view.Entry.{Entry}
 use Rattle.gc_table.specs.declared.view.View.{View}
 use Rattle.gc_table.specs.Seats.{view_of}
 use Rattle.gc_table.specs.Log.{events}
-use Rattle.packet_pools.specs.Gains.{Misses}
+use Rattle.packet_pools.specs.Gains.{MissesPackets}
 use Rattle.gc_table.proofs.History.Log.{events-join}
-use Rattle.packet_pools.proofs.TracedSteps.{later-join}
+use Rattle.packet_pools.proofs.TracedSteps.{traced-join}
 use Rattle.packet_pools.proofs.Searches.{misses-join}
 use Rattle.packet_pools.proofs.WordSearch.{seeks-on, gains-from}
 use Rattle.packet_pools.proofs.seeking.take_any.Goals as goal
 
 pub take_in_word-requires-clause-seat : goal.take_in_word-requires-clause-seat
-take_in_word-requires-clause-seat c = let i = c.loop-g.invariant in (i.sits, seeks-on c.args.q (view_of c.args.seat.now) (view_of c.loop-g.seat) i.later i.state c.requires.seat.1)
+take_in_word-requires-clause-seat c = let i = c.loop-g.invariant in (i.sits, seeks-on c.args.q (view_of c.args.seat.now) (view_of c.loop-g.seat) i.only i.state c.requires.seat.1)
 
-pub returns-in-Some-clause-later : goal.returns-in-Some-clause-later
-returns-in-Some-clause-later c = later-join (view_of c.args.seat.now) (view_of c.loop-g.seat) (view_of c.take_in_word.new.seat) c.loop-g.invariant.later c.in-Some.ensures.later
+pub returns-in-Some-clause-only : goal.returns-in-Some-clause-only
+returns-in-Some-clause-only c = traced-join (view_of c.args.seat.now) (view_of c.loop-g.seat) (view_of c.take_in_word.new.seat) c.loop-g.invariant.only c.in-Some.ensures.only
 
 pub returns-in-Some-clause-some : goal.returns-in-Some-clause-some
 returns-in-Some-clause-some c =
     let i = c.loop-g.invariant in
-    gains-from c.args.q c.args.room c.in-Some.held (view_of c.args.seat.now) (view_of c.loop-g.seat) (view_of c.take_in_word.new.seat) i.later c.in-Some.ensures.later i.state i.misses.moves c.in-Some.ensures.some
+    gains-from c.args.q c.args.not_full c.in-Some.held (view_of c.args.seat.now) (view_of c.loop-g.seat) (view_of c.take_in_word.new.seat) i.only c.in-Some.ensures.only i.state i.misses.moves c.in-Some.ensures.some
 
 pub loop-g-preserved : goal.loop-g-preserved
 loop-g-preserved c =
@@ -32,14 +33,14 @@ loop-g-preserved c =
     let w : View = view_of c.loop-g.seat in
     let u : View = view_of c.take_in_word.new.seat in
     let g : ℕ = c.loop-g.g in
-    let next : 64 * g + 64 ≡ 64 * (g + 1) = omega arith in
+    let next : word_bits * g + word_bits ≡ word_bits * (g + 1) = omega arith in
     record {
       sits = e.seat;
-      later = later-join v w u i.later e.later;
+      only = traced-join v w u i.only e.only;
       state = e.none.0 ∙ i.state;
       misses =
-          subst (λ (x : ℕ × List Entry). Misses sh c.args.q c.args.room 0 x.0 x.1) (λ y. (next y, sym (events-join v w u i.later.log e.later.log) y))
-          (misses-join sh c.args.q c.args.room 0 (64 * g) (64 * g + 64) (events v w) (events w u) (omega arith) i.misses e.none.1);
+          subst (λ (x : ℕ × List Entry). MissesPackets sh c.args.q c.args.not_full 0 x.0 x.1) (λ y. (next y, sym (events-join v w u i.only.log e.only.log) y))
+          (misses-join sh c.args.q c.args.not_full 0 (word_bits * g) (word_bits * g + word_bits) (events v w) (events w u) (omega arith) i.misses e.none.1);
     }
 
 pub returns-clause-none : goal.returns-clause-none
@@ -52,4 +53,4 @@ returns-clause-none c =
     let end = c.div_ceil-g-end.ensures in
     let packets : c.shape.result.packets ≡ sh.packets = ap (λ (x : Shape). x.packets) c.shape.ensures in
     let last : g ≡ pool_words sh = omega (arith, past, most, end, packets) in
-    (i.state, subst (λ x. Misses sh c.args.q c.args.room 0 (64 * x) (events (view_of c.args.seat.now) (view_of c.loop-g.seat))) last i.misses)
+    (i.state, subst (λ x. MissesPackets sh c.args.q c.args.not_full 0 (word_bits * x) (events (view_of c.args.seat.now) (view_of c.loop-g.seat))) last i.misses)

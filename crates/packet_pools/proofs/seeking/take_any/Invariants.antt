@@ -1,14 +1,15 @@
 use Rattle.std.proofs.Common.{◌≡◌, ◌*◌}
+use Rattle.mark_core.specs.Numbers.{word_bits}
 use Rattle.gc_table.specs.Seats.{Sits, view_of}
 use Rattle.packet_pools.specs.OnlyTraced.{OnlyTraced}
 use Rattle.gc_table.specs.Log.{events}
-use Rattle.packet_pools.specs.Gains.{Misses}
+use Rattle.packet_pools.specs.Gains.{MissesPackets}
 use Rattle.packet_pools.proofs.seeking.take_any.Given as goal
 
 abbrev pub invariant-loop-g : goal.invariant-loop-g
 invariant-loop-g l = record {
   sits : Sits l.heap l.seat;
-  later : OnlyTraced (view_of l.fn.seat) (view_of l.seat);
+  only : OnlyTraced (view_of l.fn.seat) (view_of l.seat);
   state : (view_of l.seat).state ≡ (view_of l.fn.seat).state;
-  misses : Misses l.heap.shape l.fn.q l.fn.room 0 (64 * l.g) (events (view_of l.fn.seat) (view_of l.seat));
+  misses : MissesPackets l.heap.shape l.fn.q l.fn.not_full 0 (word_bits * l.g) (events (view_of l.fn.seat) (view_of l.seat));
 }

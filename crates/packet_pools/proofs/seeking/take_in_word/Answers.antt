@@ -1,12 +1,13 @@
 use Rattle.std.proofs.Common.{ℕ, ◌≡◌, ◌+◌, ◌*◌, ◌/◌, ◌∙◌, ap, arith, refl, subst}
 use Rattle.std.proofs.lemmas.Nat.{trailing_le}
 use Rattle.mark_core.specs.Held.{holds}
+use Rattle.mark_core.specs.Numbers.{word_bits}
 use Rattle.mark_core.specs.declared.seat.SeatState.{SeatState}
 use Rattle.gc_table.specs.declared.view.View.{View}
 use Rattle.gc_table.specs.Seats.{view_of}
 use Rattle.gc_table.specs.Log.{events}
-use Rattle.packet_pools.specs.Gains.{Misses}
-use Rattle.packet_pools.proofs.TracedSteps.{later-join}
+use Rattle.packet_pools.specs.Gains.{MissesPackets}
+use Rattle.packet_pools.proofs.TracedSteps.{traced-join}
 use Rattle.packet_pools.proofs.WordSearch.{seeks-on, gains-from, word-begins, word-starts, word-next}
 use Rattle.packet_pools.proofs.seeking.take_in_word.Goals as goal
 
@@ -17,27 +18,27 @@ loop-p-init c =
     record {
       sits = l.seat;
       seeks =
-          word-begins c.args.heap.now.shape c.args.q c.args.room c.args.g c.look-word.result _ v (view_of c.look-word.new.seat) c.look-word.type_inv refl
-          (word-starts c.args.heap.now.shape c.args.q c.args.room c.args.g c.look-word.result v (view_of c.look-word.new.seat) c.requires.seat.0.1 c.requires.seat.1.pool l.view.0 l.view.1);
+          word-begins c.args.heap.now.shape c.args.q c.args.not_full c.args.g c.look-word.result _ v (view_of c.look-word.new.seat) c.look-word.type_inv refl
+          (word-starts c.args.heap.now.shape c.args.q c.args.not_full c.args.g c.look-word.result v (view_of c.look-word.new.seat) c.requires.seat.0.1 c.requires.seat.1.pool l.view.0 l.view.1);
     }
 
 pub take_shown-requires-clause-seat : goal.take_shown-requires-clause-seat
-take_shown-requires-clause-seat c = let i = c.loop-p.invariant in (i.sits, seeks-on c.args.q (view_of c.args.seat.now) (view_of c.loop-p.seat) i.seeks.later i.seeks.state c.requires.seat.1)
+take_shown-requires-clause-seat c = let i = c.loop-p.invariant in (i.sits, seeks-on c.args.q (view_of c.args.seat.now) (view_of c.loop-p.seat) i.seeks.only i.seeks.state c.requires.seat.1)
 
 pub take_shown-requires-clause-shown : goal.take_shown-requires-clause-shown
 take_shown-requires-clause-shown c = λ there bit.
     let k = c.loop-p.invariant.seeks in
     let p : ℕ = c.loop-p.p in
-    let here : p / 64 ≡ c.args.g = omega (arith, c.loop-p.auto.p, c.loop-p-test.true) in
+    let here : p / word_bits ≡ c.args.g = omega (arith, c.loop-p.auto.p, c.loop-p-test.true) in
     ap (λ (s : SeatState). holds s.held p) k.state ∙ k.unheld p there here bit
 
-pub returns-in-Some-clause-later : goal.returns-in-Some-clause-later
-returns-in-Some-clause-later c = later-join (view_of c.args.seat.now) (view_of c.loop-p.seat) (view_of c.take_shown.new.seat) c.loop-p.invariant.seeks.later c.in-Some.ensures.later
+pub returns-in-Some-clause-only : goal.returns-in-Some-clause-only
+returns-in-Some-clause-only c = traced-join (view_of c.args.seat.now) (view_of c.loop-p.seat) (view_of c.take_shown.new.seat) c.loop-p.invariant.seeks.only c.in-Some.ensures.only
 
 pub returns-in-Some-clause-some : goal.returns-in-Some-clause-some
 returns-in-Some-clause-some c =
     let k = c.loop-p.invariant.seeks in
-    gains-from c.args.q c.args.room c.in-Some.held (view_of c.args.seat.now) (view_of c.loop-p.seat) (view_of c.take_shown.new.seat) k.later c.in-Some.ensures.later k.state k.misses.moves c.in-Some.ensures.some
+    gains-from c.args.q c.args.not_full c.in-Some.held (view_of c.args.seat.now) (view_of c.loop-p.seat) (view_of c.take_shown.new.seat) k.only c.in-Some.ensures.only k.state k.misses.moves c.in-Some.ensures.some
 
 pub loop-p-preserved : goal.loop-p-preserved
 loop-p-preserved c =
@@ -45,7 +46,7 @@ loop-p-preserved c =
     let e = c.in_default.ensures in
     record {
       sits = e.seat;
-      seeks = word-next c.args.heap.now.shape c.args.q c.args.room c.args.g c.look-word.result c.loop-p.p (view_of c.args.seat.now) (view_of c.loop-p.seat) (view_of c.take_shown.new.seat) (omega (arith, c.loop-p.auto.p)) c.loop-p-test.true i.seeks e.later e.none.0 e.none.1 e.none.2 e.none.3;
+      seeks = word-next c.args.heap.now.shape c.args.q c.args.not_full c.args.g c.look-word.result c.loop-p.p (view_of c.args.seat.now) (view_of c.loop-p.seat) (view_of c.take_shown.new.seat) (omega (arith, c.loop-p.auto.p)) c.loop-p-test.true i.seeks e.only e.none.0 e.none.1 e.none.2 e.none.3;
     }
 
 pub returns-clause-none : goal.returns-clause-none
@@ -56,5 +57,5 @@ returns-clause-none c =
     let few = trailing_le 64 c.look-word.result in
     let most = c.loop-p.auto.p-end (omega (arith, few)) in
     let past = c.loop-p-test.false in
-    let last : p ≡ 64 * g + 64 = omega (arith, most, past) in
-    (k.state, subst (λ x. Misses c.args.heap.now.shape c.args.q c.args.room (64 * g) x (events (view_of c.args.seat.now) (view_of c.loop-p.seat))) last k.misses)
+    let last : p ≡ word_bits * g + word_bits = omega (arith, most, past) in
+    (k.state, subst (λ x. MissesPackets c.args.heap.now.shape c.args.q c.args.not_full (word_bits * g) x (events (view_of c.args.seat.now) (view_of c.loop-p.seat))) last k.misses)

@@ -2,20 +2,21 @@ use Rattle.std.proofs.Common.{ℕ, ◌≡◌, ◌<◌, ◌≤◌, ◌+◌, ◌%�
 use Rattle.std.specs.Prelude.{IsTrue}
 use Rattle.std.proofs.lemmas.Bool.{true≢false}
 use Rattle.mark_core.specs.Bits.{has_bit}
+use Rattle.mark_core.specs.Numbers.{high_pool_number, word_bits}
 use Rattle.mark_core.specs.Seats.{work_in_hand}
 use Rattle.mark_core.specs.declared.kinds.Shape.{Shape}
 use Rattle.mark_core.specs.declared.kinds.Step.TheVariants.{Take}
 use Rattle.gc_table.specs.declared.view.View.{View}
 use Rattle.gc_table.specs.Seats.{view_of}
 use Rattle.gc_table.specs.Log.{events}
-use Rattle.packet_pools.specs.Gains.{Misses}
+use Rattle.packet_pools.specs.Gains.{MissesPackets}
 use Rattle.gc_table.proofs.History.Log.{events-after}
-use Rattle.packet_pools.proofs.TracedSteps.{later-join}
+use Rattle.packet_pools.proofs.TracedSteps.{traced-join}
 use Rattle.packet_pools.proofs.Conditions.{may-take, may-read_length}
-use Rattle.packet_pools.proofs.Doing.{later-take}
+use Rattle.packet_pools.proofs.Doing.{traced-take}
 use Rattle.packet_pools.proofs.TakenOne.{lost-state, lost-misses, work-holds}
-use Rattle.packet_pools.proofs.TakenRead.{w-there, w-holds, w-unread, later, held, gains, traces, keeps-another, back-state, back-misses, fits}
-use Rattle.packet_pools.proofs.seeking.take_packet.Goals.{else-room-via-then-room+else-length-shape, else-room-via-else-room}
+use Rattle.packet_pools.proofs.TakenRead.{w-there, w-holds, w-unread, only-traced, held, gains, traces, keeps-another, back-state, back-misses, fits}
+use Rattle.packet_pools.proofs.seeking.take_packet.Goals.{else-not_full-via-then-not_full+else-length-shape, else-not_full-via-else-not_full}
 use Rattle.packet_pools.proofs.seeking.take_packet.Goals as goal
 
 there : (sh : Shape) (v : View) (p : ℕ) → v.shape ≡ sh → p < sh.packets → p < v.shape.packets
@@ -27,17 +28,17 @@ take-requires-clause-may c =
     let k = c.requires.seat.1 in
     may-take v c.args.q c.args.p k.may k.pool (there c.args.heap.now.shape v c.args.p c.requires.seat.0.1 c.requires.packet.0) c.requires.packet.1 k.reserved k.free
 
-pub returns-then-not-take-clause-later : goal.returns-then-not-take-clause-later
-returns-then-not-take-clause-later c = later-take (view_of c.args.seat.now) (view_of c.take.new.seat) _ c.args.q c.args.p c.take.ensures.view.2 c.take.ensures.view.1
+pub returns-then-not-take-clause-only : goal.returns-then-not-take-clause-only
+returns-then-not-take-clause-only c = traced-take (view_of c.args.seat.now) (view_of c.take.new.seat) _ c.args.q c.args.p c.take.ensures.view.2 c.take.ensures.view.1
 
 pub returns-then-not-take-clause-none : goal.returns-then-not-take-clause-none
 returns-then-not-take-clause-none c =
     let v : View = view_of c.args.seat.now in
     let w : View = view_of c.take.new.seat in
     let t = c.take.ensures.view in
-    let lost : has_bit t.0 (c.args.p % 64) ≡ false = sym t.3 ∙ c.if-not-take.true in (
+    let lost : has_bit t.0 (c.args.p % word_bits) ≡ false = sym t.3 ∙ c.if-not-take.true in (
       ap (λ (x : View). x.state) t.1 ∙ lost-state v.shape v.state c.args.q c.args.p t.0 lost,
-      subst (Misses c.args.heap.now.shape c.args.q c.args.room c.args.p (c.args.p + 1)) (sym (events-after v w (Take c.args.q c.args.p) t.0 t.1)) (lost-misses c.args.heap.now.shape c.args.q c.args.room c.args.p t.0 lost),
+      subst (MissesPackets c.args.heap.now.shape c.args.q c.args.not_full c.args.p (c.args.p + 1)) (sym (events-after v w (Take c.args.q c.args.p) t.0 t.1)) (lost-misses c.args.heap.now.shape c.args.q c.args.not_full c.args.p t.0 lost),
     )
 
 pub read_length-length-requires-clause-may : goal.read_length-length-requires-clause-may
@@ -48,7 +49,7 @@ read_length-length-requires-clause-may c =
     let t = c.take.ensures.view in
     let p : ℕ = c.args.p in
     let low = there c.args.heap.now.shape v p c.requires.seat.0.1 c.requires.packet.0 in
-    let bit : has_bit t.0 (p % 64) ≡ true = sym t.3 ∙ c.if-not-take.false in
+    let bit : has_bit t.0 (p % word_bits) ≡ true = sym t.3 ∙ c.if-not-take.false in
     may-read_length w p (w-there v w c.args.q p t.0 k low c.requires.packet.1 t.1 bit) (w-holds v w c.args.q p t.0 k low c.requires.packet.1 t.1 bit) (w-unread v w c.args.q p t.0 k low c.requires.packet.1 t.1 bit)
 
 pub give-requires-clause-seat : goal.give-requires-clause-seat
@@ -76,14 +77,14 @@ give-requires-clause-work c =
     let low = there c.args.heap.now.shape v c.args.p c.requires.seat.0.1 c.requires.packet.0 in
     λ e. keeps-another v (view_of c.take.new.seat) c.args.q c.args.p t.0 c.requires.seat.1 low c.requires.packet.1 t.1 (sym t.3 ∙ c.if-not-take.false) x r.0 c.read_length-length.result r.1 r.2 r.3 (work-holds (Take c.args.q c.args.p) t.0 v t.2) (ap (λ (s : Shape). work_in_hand s.fields x.state) c.read_length-length.ensures.seat.1 ∙ e)
 
-pub returns-then-length-shape-clause-later : goal.returns-then-length-shape-clause-later
-returns-then-length-shape-clause-later c =
+pub returns-then-length-shape-clause-only : goal.returns-then-length-shape-clause-only
+returns-then-length-shape-clause-only c =
     let v : View = view_of c.args.seat.now in
     let x : View = view_of c.read_length-length.new.seat in
     let t = c.take.ensures.view in
     let r = c.read_length-length.ensures.view in
     let low = there c.args.heap.now.shape v c.args.p c.requires.seat.0.1 c.requires.packet.0 in
-    later-join v x (view_of c.give.new.seat) (later v (view_of c.take.new.seat) c.args.q c.args.p t.0 c.requires.seat.1 low c.requires.packet.1 t.1 (sym t.3 ∙ c.if-not-take.false) x r.0 c.read_length-length.result r.1 r.2 r.3 t.2) c.give.ensures.later
+    traced-join v x (view_of c.give.new.seat) (only-traced v (view_of c.take.new.seat) c.args.q c.args.p t.0 c.requires.seat.1 low c.requires.packet.1 t.1 (sym t.3 ∙ c.if-not-take.false) x r.0 c.read_length-length.result r.1 r.2 r.3 t.2) c.give.ensures.only
 
 pub returns-then-length-shape-clause-none : goal.returns-then-length-shape-clause-none
 returns-then-length-shape-clause-none c =
@@ -98,23 +99,23 @@ returns-then-length-shape-clause-none c =
     let r = c.read_length-length.ensures.view in
     let k = c.requires.seat.1 in
     let low = there sh v p c.requires.seat.0.1 c.requires.packet.0 in
-    let bit : has_bit t.0 (p % 64) ≡ true = sym t.3 ∙ c.if-not-take.false in
-    let high : q ≡ 2 = c.requires.high c.if-room.true in
+    let bit : has_bit t.0 (p % word_bits) ≡ true = sym t.3 ∙ c.if-not-take.false in
+    let high : q ≡ high_pool_number = c.requires.high c.if-not_full.true in
     let n : ℕ = c.read_length-length.result in
     let full : n ≡ v.shape.entries = c.if-length-shape.true ∙ ap (λ (s : Shape). s.entries) (c.shape.ensures ∙ sym c.requires.seat.0.1) in
     let g = c.give.ensures in (
-      back-state v w q p t.0 k low c.requires.packet.1 t.1 bit x r.0 n r.1 r.2 r.3 y high g.state g.later (eqb n 0) g.steps full,
-      subst (λ (z : Shape × Bool). Misses z.0 q z.1 p (p + 1) (events v y)) (λ i. (c.requires.seat.0.1 i, sym c.if-room.true i)) (back-misses v w q p t.0 k low c.requires.packet.1 t.1 bit x r.0 n r.1 r.2 r.3 y high g.state g.later (eqb n 0) g.steps full),
+      back-state v w q p t.0 k low c.requires.packet.1 t.1 bit x r.0 n r.1 r.2 r.3 y high g.state g.only (eqb n 0) g.steps full,
+      subst (λ (z : Shape × Bool). MissesPackets z.0 q z.1 p (p + 1) (events v y)) (λ i. (c.requires.seat.0.1 i, sym c.if-not_full.true i)) (back-misses v w q p t.0 k low c.requires.packet.1 t.1 bit x r.0 n r.1 r.2 r.3 y high g.state g.only (eqb n 0) g.steps full),
     )
 
-pub returns-clause-later : goal.returns-clause-later
-returns-clause-later c =
+pub returns-clause-only : goal.returns-clause-only
+returns-clause-only c =
     let v : View = view_of c.args.seat.now in
     let x : View = view_of c.read_length-length.new.seat in
     let t = c.take.ensures.view in
     let r = c.read_length-length.ensures.view in
     let low = there c.args.heap.now.shape v c.args.p c.requires.seat.0.1 c.requires.packet.0 in
-    later v (view_of c.take.new.seat) c.args.q c.args.p t.0 c.requires.seat.1 low c.requires.packet.1 t.1 (sym t.3 ∙ c.if-not-take.false) x r.0 c.read_length-length.result r.1 r.2 r.3 t.2
+    only-traced v (view_of c.take.new.seat) c.args.q c.args.p t.0 c.requires.seat.1 low c.requires.packet.1 t.1 (sym t.3 ∙ c.if-not-take.false) x r.0 c.read_length-length.result r.1 r.2 r.3 t.2
 
 pub returns-clause-some : goal.returns-clause-some
 returns-clause-some c =
@@ -128,12 +129,12 @@ returns-clause-some c =
     let r = c.read_length-length.ensures.view in
     let k = c.requires.seat.1 in
     let low = there sh v p c.requires.seat.0.1 c.requires.packet.0 in
-    let bit : has_bit t.0 (p % 64) ≡ true = sym t.3 ∙ c.if-not-take.false in
+    let bit : has_bit t.0 (p % word_bits) ≡ true = sym t.3 ∙ c.if-not-take.false in
     let n : ℕ = c.read_length-length.result in
     let most : n ≤ v.shape.entries = fits v w q p t.0 k low c.requires.packet.1 t.1 bit x r.0 n r.1 r.2 r.3 in
-    let roomy : IsTrue c.args.room → n < v.shape.entries = λ e. elim c.else-room.branch [
-      | else-room-via-then-room+else-length-shape u ↦
+    let roomy : IsTrue c.args.not_full → n < v.shape.entries = λ e. elim c.else-not_full.branch [
+      | else-not_full-via-then-not_full+else-length-shape u ↦
           (let e : v.shape.entries ≡ u.shape.result.entries = ap (λ (s : Shape). s.entries) (c.requires.seat.0.1 ∙ sym u.shape.ensures) in let d = u.if-length-shape.false in omega (arith, most, e, d))
-      | else-room-via-else-room u ↦ absurd (true≢false (sym e ∙ u.if-room.false))
+      | else-not_full-via-else-not_full u ↦ absurd (true≢false (sym e ∙ u.if-not_full.false))
     ] in
-    gains v w q p t.0 k low c.requires.packet.1 t.1 bit x r.0 n r.1 r.2 r.3 c.args.room roomy
+    gains v w q p t.0 k low c.requires.packet.1 t.1 bit x r.0 n r.1 r.2 r.3 c.args.not_full roomy

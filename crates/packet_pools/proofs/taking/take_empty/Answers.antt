@@ -1,6 +1,7 @@
 use Rattle.std.proofs.Common.{ℕ, ◌≡◌, ◌*◌, ◌++◌, [], ◌∷◌, sym, ap, ◌∙◌, subst, arith, false, inl}
 use Rattle.mark_core.specs.Layout.{pool_words}
 use Rattle.mark_core.specs.Held.{has_free_slot, holds}
+use Rattle.mark_core.specs.Numbers.{empty_pool_number, word_bits}
 use Rattle.gc_table.specs.Fetching.{is_in_range}
 use Rattle.packet_pools.specs.declared.held.Held.{Held}
 use Rattle.packet_pools.specs.Hands.{with_packet}
@@ -14,11 +15,11 @@ use Rattle.gc_table.specs.Taking.{after}
 use Rattle.packet_pools.specs.OnlyTraced.{OnlyTraced}
 use Rattle.gc_table.specs.Log.{events}
 use Rattle.packet_pools.specs.Seeking.{gets_from, was_got, was_got_from, only_moves}
-use Rattle.packet_pools.specs.Gains.{Misses}
+use Rattle.packet_pools.specs.Gains.{MissesPackets}
 use Rattle.gc_table.proofs.History.Log.{events-after, events-join}
-use Rattle.packet_pools.proofs.TracedSteps.{later-join}
+use Rattle.packet_pools.proofs.TracedSteps.{traced-join}
 use Rattle.packet_pools.proofs.Conditions.{may-reserve, traces-later}
-use Rattle.packet_pools.proofs.Doing.{later-reserve, later-credit, traces-on}
+use Rattle.packet_pools.proofs.Doing.{traced-reserve, traced-credit, traces-on}
 use Rattle.packet_pools.proofs.PoolSearch.{misses-within}
 use Rattle.packet_pools.proofs.Choices.{traces-gained}
 use Rattle.packet_pools.proofs.taking.take_empty.Goals as goal
@@ -34,7 +35,7 @@ take_any-requires-clause-seat c =
     let t = c.requires.seat.1 in (
       c.reserve.ensures.seat,
       record {
-        may = traces-later v w (later-reserve v w _ c.reserve.ensures.view.1.1 e) t.may;
+        may = traces-later v w (traced-reserve v w _ c.reserve.ensures.view.1.1 e) t.may;
         pool = omega arith;
         reserved = ap (λ (x : View). x.state.reserved) e;
         uncredited = ap (λ (x : View). x.state.credit) e ∙ t.uncredited;
@@ -49,13 +50,13 @@ returns-in-Some-clause-seat c =
     let e = c.reserve.ensures.view.1.0 in
     let t = c.requires.seat.1 in
     let f = c.in-Some.ensures in
-    (f.seat, traces-gained 0 false c.in-Some.held w (view_of c.take_any.new.seat) f.later f.some (traces-later v w (later-reserve v w _ c.reserve.ensures.view.1.1 e) t.may) (ap (λ (x : View). x.state.credit) e ∙ t.uncredited))
+    (f.seat, traces-gained empty_pool_number false c.in-Some.held w (view_of c.take_any.new.seat) f.only f.some (traces-later v w (traced-reserve v w _ c.reserve.ensures.view.1.1 e) t.may) (ap (λ (x : View). x.state.credit) e ∙ t.uncredited))
 
-pub returns-in-Some-clause-later : goal.returns-in-Some-clause-later
-returns-in-Some-clause-later c =
+pub returns-in-Some-clause-only : goal.returns-in-Some-clause-only
+returns-in-Some-clause-only c =
     let v : View = view_of c.args.seat.now in
     let w : View = view_of c.reserve.new.seat in
-    later-join v w (view_of c.take_any.new.seat) (later-reserve v w _ c.reserve.ensures.view.1.1 c.reserve.ensures.view.1.0) c.in-Some.ensures.later
+    traced-join v w (view_of c.take_any.new.seat) (traced-reserve v w _ c.reserve.ensures.view.1.1 c.reserve.ensures.view.1.0) c.in-Some.ensures.only
 
 pub returns-in-Some-clause-some : goal.returns-in-Some-clause-some
 returns-in-Some-clause-some c =
@@ -66,7 +67,7 @@ returns-in-Some-clause-some c =
     let e = c.reserve.ensures.view.1.0 in
     let f = c.in-Some.ensures in
     let g = f.some in
-    let es = events-join v w x (later-reserve v w _ c.reserve.ensures.view.1.1 e).log f.later.log in
+    let es = events-join v w x (traced-reserve v w _ c.reserve.ensures.view.1.1 e).log f.only.log in
     let first = events-after v w Reserve _ e in
     record {
       unheld = ap (λ (y : View). holds y.state.held h.packet) (sym e) ∙ g.unheld;
@@ -75,12 +76,12 @@ returns-in-Some-clause-some c =
           g.state
           ∙ (ap (λ (y : View). record y.state { held = with_packet y.state.held h.packet h.length; reserved = false }) e
           ∙ (λ i. record v.state { held = with_packet v.state.held h.packet h.length; reserved = sym c.requires.seat.1.unreserved i }));
-      from = inl (ap (λ (y : View). is_in_range y.shape 0 h.length) (sym e) ∙ g.range, ap (was_got_from 0 h.packet) es ∙ some-right (gets_from 0 h.packet) (events v w) (events w x) g.got);
+      from = inl (ap (λ (y : View). is_in_range y.shape 0 h.length) (sym e) ∙ g.range, ap (was_got_from empty_pool_number h.packet) es ∙ some-right (gets_from empty_pool_number h.packet) (events v w) (events w x) g.got);
       moves = ap (only_moves (0 ∷ [])) es ∙ moves-join (0 ∷ []) (events v w) (events w x) (ap (only_moves (0 ∷ [])) first) g.moves;
     }
 
 all-later : (v w u x : View) (m n : ℕ) → Found Reserve m v w → OnlyTraced w u → Found Credit n u x → OnlyTraced v x
-all-later v w u x m n a b d = later-join v w x (later-reserve v w m a.1 a.0) (later-join w u x b (later-credit u x n d.1 d.0))
+all-later v w u x m n a b d = traced-join v w x (traced-reserve v w m a.1 a.0) (traced-join w u x b (traced-credit u x n d.1 d.0))
 
 -- the reservation is given up again
 same-state : (v w u x : View) (m n : ℕ) → v.state.reserved ≡ false → v.state.credit ≡ false → w ≡ after Reserve m v → u.state ≡ w.state → x ≡ after Credit n u → x.state ≡ v.state
@@ -88,8 +89,8 @@ same-state v w u x m n r c a b d =
     ap (λ (z : View). z.state) d
     ∙ (ap (λ (s : SeatState). record s { credit = false; reserved = false }) (b ∙ ap (λ (z : View). z.state) a) ∙ (λ i. record v.state { credit = sym c i; reserved = sym r i }))
 
-pub returns-in-None-clause-later : goal.returns-in-None-clause-later
-returns-in-None-clause-later c = all-later (view_of c.args.seat.now) (view_of c.reserve.new.seat) (view_of c.take_any.new.seat) (view_of c.credit.new.seat) _ _ c.reserve.ensures.view.1 c.in-None.ensures.later c.credit.ensures.view.1
+pub returns-in-None-clause-only : goal.returns-in-None-clause-only
+returns-in-None-clause-only c = all-later (view_of c.args.seat.now) (view_of c.reserve.new.seat) (view_of c.take_any.new.seat) (view_of c.credit.new.seat) _ _ c.reserve.ensures.view.1 c.in-None.ensures.only c.credit.ensures.view.1
 
 pub returns-in-None-clause-seat : goal.returns-in-None-clause-seat
 returns-in-None-clause-seat c =
@@ -101,7 +102,7 @@ returns-in-None-clause-seat c =
     let e = c.reserve.ensures.view.1.0 in
     let d = c.credit.ensures.view.1.0 in
     let same = same-state v w u x _ _ t.unreserved t.uncredited e c.in-None.ensures.none.0 d in
-    (c.credit.ensures.seat, traces-on v x (all-later v w u x _ _ c.reserve.ensures.view.1 c.in-None.ensures.later c.credit.ensures.view.1) t (ap (λ (s : SeatState). s.reserved) same) (ap (λ (s : SeatState). s.credit) same))
+    (c.credit.ensures.seat, traces-on v x (all-later v w u x _ _ c.reserve.ensures.view.1 c.in-None.ensures.only c.credit.ensures.view.1) t (ap (λ (s : SeatState). s.reserved) same) (ap (λ (s : SeatState). s.credit) same))
 
 pub returns-in-None-clause-none : goal.returns-in-None-clause-none
 returns-in-None-clause-none c =
@@ -114,10 +115,10 @@ returns-in-None-clause-none c =
     let e = c.reserve.ensures.view.1.0 in
     let d = c.credit.ensures.view.1.0 in
     let f = c.in-None.ensures in
-    let last = later-credit u x _ c.credit.ensures.view.1.1 d in
-    let es = events-join v w x (later-reserve v w _ c.reserve.ensures.view.1.1 e).log (later-join w u x f.later last).log ∙ ap (λ ys. events v w ++ ys) (events-join w u x f.later.log last.log) in
+    let last = traced-credit u x _ c.credit.ensures.view.1.1 d in
+    let es = events-join v w x (traced-reserve v w _ c.reserve.ensures.view.1.1 e).log (traced-join w u x f.only last).log ∙ ap (λ ys. events v w ++ ys) (events-join w u x f.only.log last.log) in
     let first_none : (p : ℕ) → was_got p (events v w) ≡ false = λ p. ap (was_got p) (events-after v w Reserve _ e) in
     let last_none : (p : ℕ) → was_got p (events u x) ≡ false = λ p. ap (was_got p) (events-after u x Credit _ d) in (
       same-state v w u x _ _ t.unreserved t.uncredited e f.none.0 d,
-      subst (Misses sh 0 false 0 (64 * pool_words sh)) (sym es) (misses-within sh 0 false 0 (64 * pool_words sh) (events v w) (events w u) (events u x) first_none last_none (ap (only_moves (0 ∷ [])) (events-after v w Reserve _ e)) (ap (only_moves (0 ∷ [])) (events-after u x Credit _ d)) f.none.1),
+      subst (MissesPackets sh empty_pool_number false 0 (word_bits * pool_words sh)) (sym es) (misses-within sh 0 false 0 (word_bits * pool_words sh) (events v w) (events w u) (events u x) first_none last_none (ap (only_moves (0 ∷ [])) (events-after v w Reserve _ e)) (ap (only_moves (0 ∷ [])) (events-after u x Credit _ d)) f.none.1),
     )

@@ -2,6 +2,7 @@ use Rattle.std.specs.Prelude.{IsTrue}
 use Rattle.gc_table.specs.Fetching.{is_in_range}
 use Rattle.std.proofs.Common.{ℕ, inl, ⊎_elim, eqb-true, ◌≡◌, ◌≤◌, ◌<◌, ◌*◌, ◌++◌, [], ◌∷◌, refl, sym, ap, ◌∙◌, subst, arith, true, false, List}
 use Rattle.mark_core.specs.Layout.{pool_words}
+use Rattle.mark_core.specs.Numbers.{empty_pool_number, high_pool_number, low_pool_number, word_bits}
 use Rattle.mark_core.specs.declared.kinds.Shape.{Shape}
 use Rattle.mark_core.specs.declared.seat.SeatState.{SeatState}
 use Rattle.gc_table.specs.declared.view.Entry.{Entry}
@@ -9,10 +10,10 @@ use Rattle.gc_table.specs.declared.view.View.{View}
 use Rattle.gc_table.specs.Seats.{view_of}
 use Rattle.packet_pools.specs.declared.held.Held.{Held}
 use Rattle.gc_table.specs.Log.{events}
-use Rattle.packet_pools.specs.Seeking.{NoOutput, was_got, was_got_from, was_roomless, only_moves}
-use Rattle.packet_pools.specs.Gains.{ComesFrom, Gains, Misses, Takes}
+use Rattle.packet_pools.specs.Seeking.{NoOutput, was_got, was_got_from, was_roomless, only_moves, output_pools}
+use Rattle.packet_pools.specs.Gains.{ComesFrom, Gains, MissesPackets, Takes}
 use Rattle.gc_table.proofs.History.Log.{events-join}
-use Rattle.packet_pools.proofs.TracedSteps.{later-join}
+use Rattle.packet_pools.proofs.TracedSteps.{traced-join}
 use Rattle.std.proofs.lemmas.Bool.{and_from}
 use Rattle.packet_pools.proofs.AllMissed.{all-range}
 use Rattle.packet_pools.proofs.Searches.{missed-right, none-got, first-pool, moves-join, next-pools, was-missed-left, was-missed-right}
@@ -26,11 +27,11 @@ returns-in-Some-take_any-clause-seat c =
     let a : View = view_of c.take_empty.new.seat in
     let e = c.in_default.ensures in
     let f = c.in-Some-take_any.ensures in
-    let t = traces-same v a e.later e.none.0 c.requires.seat.1 in
-    (f.seat, traces-gained 1 false c.in-Some-take_any.held a (view_of c.take_any.new.seat) f.later f.some t.may t.uncredited)
+    let t = traces-same v a e.only e.none.0 c.requires.seat.1 in
+    (f.seat, traces-gained low_pool_number false c.in-Some-take_any.held a (view_of c.take_any.new.seat) f.only f.some t.may t.uncredited)
 
-pub returns-in-Some-take_any-clause-later : goal.returns-in-Some-take_any-clause-later
-returns-in-Some-take_any-clause-later c = later-join (view_of c.args.seat.now) (view_of c.take_empty.new.seat) (view_of c.take_any.new.seat) c.in_default.ensures.later c.in-Some-take_any.ensures.later
+pub returns-in-Some-take_any-clause-only : goal.returns-in-Some-take_any-clause-only
+returns-in-Some-take_any-clause-only c = traced-join (view_of c.args.seat.now) (view_of c.take_empty.new.seat) (view_of c.take_any.new.seat) c.in_default.ensures.only c.in-Some-take_any.ensures.only
 
 pub returns-in-Some-take_any-clause-some : goal.returns-in-Some-take_any-clause-some
 returns-in-Some-take_any-clause-some c =
@@ -42,7 +43,7 @@ returns-in-Some-take_any-clause-some c =
     let e = c.in_default.ensures in
     let f = c.in-Some-take_any.ensures in
     let unreserved = ap (λ (s : SeatState). s.reserved) e.none.0 ∙ c.requires.seat.1.unreserved in (
-      takes-next sh 0 (1 ∷ 2 ∷ []) h v a b c.requires.seat.0.1 e.later f.later e.none.0 e.none.1 (takes-first 1 (2 ∷ []) false h a b unreserved f.some),
+      takes-next sh empty_pool_number (low_pool_number ∷ high_pool_number ∷ []) h v a b c.requires.seat.0.1 e.only f.only e.none.0 e.none.1 (takes-first low_pool_number (high_pool_number ∷ []) false h a b unreserved f.some),
       subst (λ (s : Shape). h.length < s.entries) e.seat.0.1 (low-room a.shape h.length f.some.range),
     )
 
@@ -53,7 +54,7 @@ take_any-requires-2-clause-seat c =
     let b : View = view_of c.take_any.new.seat in
     let e = c.in_default.ensures in
     let f = c.in_default-take_any.ensures in
-    (f.seat, seeks-from 2 v b (omega arith) refl (later-join v a b e.later f.later) (f.none.0 ∙ e.none.0) c.requires.seat.1 c.requires.free)
+    (f.seat, seeks-from high_pool_number v b (omega arith) refl (traced-join v a b e.only f.only) (f.none.0 ∙ e.none.0) c.requires.seat.1 c.requires.free)
 
 pub returns-clause-seat : goal.returns-clause-seat
 returns-clause-seat c =
@@ -63,15 +64,15 @@ returns-clause-seat c =
     let e = c.in_default.ensures in
     let f = c.in_default-take_any.ensures in
     let g = c.take_any-2.ensures in
-    (g.seat, traces-either 2 true _ c.take_any-2.result b (view_of c.take_any-2.new.seat) g.later (traces-same v b (later-join v a b e.later f.later) (f.none.0 ∙ e.none.0) c.requires.seat.1) g.some g.none)
+    (g.seat, traces-either high_pool_number true _ c.take_any-2.result b (view_of c.take_any-2.new.seat) g.only (traces-same v b (traced-join v a b e.only f.only) (f.none.0 ∙ e.none.0) c.requires.seat.1) g.some g.none)
 
-pub returns-clause-later : goal.returns-clause-later
-returns-clause-later c =
+pub returns-clause-only : goal.returns-clause-only
+returns-clause-only c =
     let v : View = view_of c.args.seat.now in
     let a : View = view_of c.take_empty.new.seat in
     let b : View = view_of c.take_any.new.seat in
     let d : View = view_of c.take_any-2.new.seat in
-    later-join v a d c.in_default.ensures.later (later-join a b d c.in_default-take_any.ensures.later c.take_any-2.ensures.later)
+    traced-join v a d c.in_default.ensures.only (traced-join a b d c.in_default-take_any.ensures.only c.take_any-2.ensures.only)
 
 pub returns-clause-some : goal.returns-clause-some
 returns-clause-some c =
@@ -84,10 +85,10 @@ returns-clause-some c =
     let f = c.in_default-take_any.ensures in
     let g = c.take_any-2.ensures in
     let unreserved = ap (λ (s : SeatState). s.reserved) (f.none.0 ∙ e.none.0) ∙ c.requires.seat.1.unreserved in
-    if-some c.take_any-2.result (λ h. Gains 2 true h b d) (λ h. Takes (0 ∷ 1 ∷ 2 ∷ []) h v d × (h.length < sh.entries))
+    if-some c.take_any-2.result (λ h. Gains high_pool_number true h b d) (λ h. Takes output_pools h v d × (h.length < sh.entries))
     (λ h k. (
-      takes-next sh 0 (1 ∷ 2 ∷ []) h v a d c.requires.seat.0.1 e.later (later-join a b d f.later g.later) e.none.0 e.none.1
-          (takes-next sh 1 (2 ∷ []) h a b d e.seat.0.1 f.later g.later f.none.0 f.none.1 (takes-first 2 [] true h b d unreserved k)),
+      takes-next sh empty_pool_number (low_pool_number ∷ high_pool_number ∷ []) h v a d c.requires.seat.0.1 e.only (traced-join a b d f.only g.only) e.none.0 e.none.1
+          (takes-next sh low_pool_number (high_pool_number ∷ []) h a b d e.seat.0.1 f.only g.only f.none.0 f.none.1 (takes-first high_pool_number [] true h b d unreserved k)),
       subst (λ (s : Shape). h.length < s.entries) f.seat.1 (k.roomy refl),
     ))
     g.some
@@ -105,11 +106,11 @@ returns-clause-none c =
     let xs : List Entry = events v a in
     let ys : List Entry = events a b in
     let zs : List Entry = events b d in
-    let qs : List ℕ = 0 ∷ 1 ∷ 2 ∷ [] in
-    let es : events v d ≡ xs ++ (ys ++ zs) = events-join v a d e.later.log (later-join a b d f.later g.later).log ∙ ap (λ l. xs ++ l) (events-join a b d f.later.log g.later.log) in
-    let no_x : (p : ℕ) → was_got p xs ≡ false = λ p. none-got sh 0 0 (64 * pool_words sh) p xs e.none.1 in
-    let no_y : (p : ℕ) → was_got p ys ≡ false = λ p. none-got sh 1 0 (64 * pool_words sh) p ys f.none.1 in
-    if-none c.take_any-2.result ((d.state ≡ b.state) × Misses sh 2 true 0 (64 * pool_words sh) zs) ((d.state ≡ v.state) × NoOutput sh (events v d) × IsTrue (only_moves (0 ∷ 1 ∷ 2 ∷ []) (events v d)))
+    let qs : List ℕ = output_pools in
+    let es : events v d ≡ xs ++ (ys ++ zs) = events-join v a d e.only.log (traced-join a b d f.only g.only).log ∙ ap (λ l. xs ++ l) (events-join a b d f.only.log g.only.log) in
+    let no_x : (p : ℕ) → was_got p xs ≡ false = λ p. none-got sh empty_pool_number 0 (word_bits * pool_words sh) p xs e.none.1 in
+    let no_y : (p : ℕ) → was_got p ys ≡ false = λ p. none-got sh low_pool_number 0 (word_bits * pool_words sh) p ys f.none.1 in
+    if-none c.take_any-2.result ((d.state ≡ b.state) × MissesPackets sh high_pool_number true 0 (word_bits * pool_words sh) zs) ((d.state ≡ v.state) × NoOutput sh (events v d) × IsTrue (only_moves output_pools (events v d)))
     (λ n. (
       n.0 ∙ (f.none.0 ∙ e.none.0),
       subst (NoOutput sh) (sym es)
@@ -117,18 +118,18 @@ returns-clause-none c =
           (λ p l.
           let low : p < sh.packets = omega (arith, l) in
           and_from _ _
-          (and_from _ _ (was-missed-left 0 p xs (ys ++ zs) (pool-missed sh 0 xs e.none.1 p low))
-          (and_from _ _ (was-missed-right 1 p xs (ys ++ zs) (no_x p) (was-missed-left 1 p ys zs (pool-missed sh 1 ys f.none.1 p low))) refl))
-          (missed-right sh.entries 2 true p xs (ys ++ zs) (no_x p) (missed-right sh.entries 2 true p ys zs (no_y p) (n.1.all p (omega arith) (below-words sh p low) low))))),
-      ap (only_moves qs) es ∙ moves-join qs xs (ys ++ zs) (first-pool 0 (1 ∷ 2 ∷ []) xs e.none.1.moves) (moves-join qs ys zs (next-pools 0 (1 ∷ 2 ∷ []) ys (first-pool 1 (2 ∷ []) ys f.none.1.moves)) (next-pools 0 (1 ∷ 2 ∷ []) zs (next-pools 1 (2 ∷ []) zs n.1.moves))),
+          (and_from _ _ (was-missed-left empty_pool_number p xs (ys ++ zs) (pool-missed sh empty_pool_number xs e.none.1 p low))
+          (and_from _ _ (was-missed-right low_pool_number p xs (ys ++ zs) (no_x p) (was-missed-left low_pool_number p ys zs (pool-missed sh low_pool_number ys f.none.1 p low))) refl))
+          (missed-right sh.entries high_pool_number true p xs (ys ++ zs) (no_x p) (missed-right sh.entries high_pool_number true p ys zs (no_y p) (n.1.all p (omega arith) (below-words sh p low) low))))),
+      ap (only_moves qs) es ∙ moves-join qs xs (ys ++ zs) (first-pool empty_pool_number (low_pool_number ∷ high_pool_number ∷ []) xs e.none.1.moves) (moves-join qs ys zs (next-pools empty_pool_number (low_pool_number ∷ high_pool_number ∷ []) ys (first-pool low_pool_number (high_pool_number ∷ []) ys f.none.1.moves)) (next-pools empty_pool_number (low_pool_number ∷ high_pool_number ∷ []) zs (next-pools low_pool_number (high_pool_number ∷ []) zs n.1.moves))),
     ))
     g.none
 
-empty-room : (sh : Shape) (n : ℕ) → 2 ≤ sh.entries → is_in_range sh 0 n ≡ true → n < sh.entries
+empty-room : (sh : Shape) (n : ℕ) → 2 ≤ sh.entries → is_in_range sh empty_pool_number n ≡ true → n < sh.entries
 empty-room sh n two e = let z = eqb-true n 0 e in omega (arith, two, z)
 
 -- an empty packet came from the first pool
-first-of : (sh : Shape) (h : Held) (es : List Entry) → ComesFrom sh (0 ∷ []) h es → IsTrue (is_in_range sh 0 h.length) × IsTrue (was_got_from 0 h.packet es)
+first-of : (sh : Shape) (h : Held) (es : List Entry) → ComesFrom sh (0 ∷ []) h es → IsTrue (is_in_range sh empty_pool_number h.length) × IsTrue (was_got_from empty_pool_number h.packet es)
 first-of sh h es c = ⊎_elim (λ a. a) (λ b. absurd b.1) c
 
 pub returns-in-Some-clause-some : goal.returns-in-Some-clause-some
@@ -139,6 +140,6 @@ returns-in-Some-clause-some c =
     let t = c.in-Some.ensures.some in
     let two : 2 ≤ v.shape.entries = subst (λ (s : Shape). 2 ≤ s.entries) (sym c.requires.seat.0.1) c.args.heap.now.shaped.entries.0 in
     let from = first-of v.shape h (events v w) t.from in (
-      record { unheld = t.unheld; held = t.held; state = t.state; from = inl from; moves = first-pool 0 (1 ∷ 2 ∷ []) (events v w) t.moves },
+      record { unheld = t.unheld; held = t.held; state = t.state; from = inl from; moves = first-pool empty_pool_number (low_pool_number ∷ high_pool_number ∷ []) (events v w) t.moves },
       subst (λ (s : Shape). h.length < s.entries) c.requires.seat.0.1 (empty-room v.shape h.length two from.0),
     )

@@ -2,16 +2,16 @@
 ghost use Rattle.std.specs.Prelude.{◌≢◌};
 ghost use Rattle.std.specs.List.{flat_map};
 ghost use Rattle.play_report.specs.Causes.{WritesTo};
-ghost use Rattle.play_words.specs.Batching.{job_line, job_text, batch_error_text};
+ghost use Rattle.play_words.specs.Batching.{job_line_text, job_text, batch_error_text};
 
 use crate::lines::write_lines;
 use job_pool::{BatchError, JobDone};
 use play_report::{Failed, Sink, TextLine, write_all, write_named};
 
-/// The line in front of a job's text: the job, its status, and how many bytes the text has.
-#[tactic(auto, unfolding(crate::specs::Batching::job_line))]
+/// The line before a job's text: the job, its status, and how many bytes the text has.
+#[tactic(auto, unfolding(crate::specs::Batching::job_line_text))]
 fn write_job_line<K: Sink>(job: u32, status: u8, bytes: usize, sink: &mut K) -> Result<(), Failed>
-    ensures { WritesTo K.written K.faults result sink.old sink.new (job_line job status bytes) }
+    ensures { WritesTo K.written K.faults result sink.old sink.new (job_line_text job status bytes) }
 {
     let mut line = TextLine::new();
     line.push("job ");
@@ -35,7 +35,7 @@ fn write_job<K: Sink>(done: &JobDone, sink: &mut K) -> Result<(), Failed>
     }
 }
 
-/// The results of jobs, in the order given.
+/// The results of jobs, in the order given. Failed only where the sink's count of faults rose in this call, and a prefix of the text was then written.
 pub fn write_jobs<K: Sink>(done: &[JobDone], sink: &mut K) -> Result<(), Failed>
     ensures { WritesTo K.written K.faults result sink.old sink.new (flat_map job_text done.now) }
 {

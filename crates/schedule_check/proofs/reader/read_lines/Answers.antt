@@ -1,29 +1,26 @@
-use Rattle.std.proofs.Common.{◌≡◌, ◌<◌, ◌+◌, ℕ, List, length, subst, sym, refl, arith}
-use Rattle.std.specs.Prelude.{Ok}
-use Rattle.schedule_check.specs.Reading.{after_line}
-use Rattle.schedule_check.specs.Shown.{is_refused, fault_of}
-use Rattle.schedule_check.proofs.Lines.{worded, line_at, line_count, next_line, bad_line}
-use Rattle.schedule_check.proofs.Same.{body_is}
+use Rattle.std.proofs.Common.{◌≡◌, ◌<◌, length, subst, rules, arith}
+use Rattle.std.proofs.lemmas.Bool.Decides.{nat_tests}
+use Rattle.schedule_check.specs.Shown.{ScheduleReadAnswers, schedule_fault_of}
+use Rattle.schedule_check.proofs.Lines.{goes_on_at_first, goes_on, refused_here, at_end, fewer_left, few_at_first}
 use Rattle.schedule_check.proofs.reader.read_lines.Goals as goal
 
-pub loop-line-init : goal.loop-line-init
-loop-line-init c = (refl, body_is 2 (worded c.args.lines.now))
+pub lines-init : goal.lines-init
+lines-init c = (c.utf8.text, goes_on_at_first c.args.text.now, few_at_first c.args.text.now c.requires)
 
-pub loop-line-preserved : goal.loop-line-preserved
-loop-line-preserved c =
-    let all : List (List (List ℕ)) = worded c.args.lines.now in
-    let i : ℕ = c.loop-line.line-index in
-    let within : i < length all = subst (λ (n : ℕ). i < n) (sym (line_count c.args.lines.now)) c.loop-line-test.true in
-    let number : c.loop-line.number ≡ i + 2 = c.loop-line.invariant.0 in (
-      omega arith,
-      next_line all i c.loop-line.number c.loop-line.state c.in-Ok.state _ within c.loop-line.invariant.1
-          (subst (λ (ws : List (List ℕ)). after_line c.loop-line.state c.loop-line.number ws ≡ Ok c.in-Ok.state) (sym (line_at c.args.lines.now i _ c.loop-line-test.true)) c.in-Ok.ensures),
+pub lines-preserved : goal.lines-preserved
+lines-preserved c =
+    let some : 0 < length c.lines.rest.now = grind (arith, nat_tests, c.is_empty.ensures, c.lines-test.true) in (
+      search rules,
+      goes_on c.args.text.now c.lines.rest.now c.in-Ok.left.now c.lines.line c.lines.state c.in-Ok.next some c.lines.invariant.1 c.in-Ok.ensures.state c.in-Ok.ensures.rest,
+      fewer_left c.lines.rest.now c.in-Ok.left.now c.lines.line 8388611 some c.in-Ok.ensures.rest c.lines.invariant.2,
     )
 
 pub returns-in-Err : goal.returns-in-Err
 returns-in-Err c =
-    let all : List (List (List ℕ)) = worded c.args.lines.now in
-    let i : ℕ = c.loop-line.line-index in
-    let within : i < length all = subst (λ (n : ℕ). i < n) (sym (line_count c.args.lines.now)) c.loop-line-test.true in
-    bad_line all i c.loop-line.number c.loop-line.state _ (fault_of c.in-Err.e) within c.loop-line.invariant.1
-    (subst (λ (ws : List (List ℕ)). is_refused (fault_of c.in-Err.e) (after_line c.loop-line.state c.loop-line.number ws)) (sym (line_at c.args.lines.now i _ c.loop-line-test.true)) c.in-Err.ensures)
+    let some : 0 < length c.lines.rest.now = grind (arith, nat_tests, c.is_empty.ensures, c.lines-test.true) in
+    refused_here c.args.text.now c.lines.rest.now c.lines.line c.lines.state (schedule_fault_of c.in-Err.e) some c.lines.invariant.1 c.in-Err.ensures.state
+
+pub returns : goal.returns
+returns c =
+    let none : length c.lines.rest.now ≡ 0 = grind (arith, nat_tests, c.is_empty.ensures, c.lines-test.false) in
+    subst (ScheduleReadAnswers (λ s. s) c.ended.result) (at_end c.args.text.now c.lines.rest.now c.lines.line c.lines.state none c.lines.invariant.1) c.ended.ensures

@@ -1,9 +1,10 @@
-use Rattle.std.proofs.Common.{arith, ◌≤◌, [], ◌∷◌, sym, subst}
+use Rattle.std.proofs.Common.{arith, ◌≤◌, sym, subst}
 use Rattle.mark_core.specs.Held.{Slots}
 use Rattle.gc_table.specs.Log.{events}
 use Rattle.gc_table.specs.Seats.{view_of}
 use Rattle.gc_table.specs.declared.view.View.{View}
 use Rattle.packet_pools.specs.Hands.{free_slots}
+use Rattle.packet_pools.specs.Seeking.{output_pools}
 use Rattle.seat_turns.proofs.Standing.{empty-of, marks-cleaned, marks-idle, marks-trace}
 use Rattle.seat_turns.proofs.Tending.{moves-pop, one-pops, tends-by}
 use Rattle.seat_turns.proofs.marking.clean.Goals as goal
@@ -19,20 +20,20 @@ clean_one-requires-clause-work c = (empty-of c.args.heap.now.shape (view_of c.ar
 
 pub returns-in-Some-clause-seat : goal.returns-in-Some-clause-seat
 returns-in-Some-clause-seat c =
-    let e = c.clean_one.ensures in marks-cleaned c.args.heap.now c.args.seat.now c.clean_one.new.seat c.requires.seat e.later e.seat.0 e.seat.1 e.held e.work e.owes
+    let e = c.clean_one.ensures in marks-cleaned c.args.heap.now c.args.seat.now c.clean_one.new.seat c.requires.seat e.only e.seat.0 e.seat.1 e.held e.work e.owes
 
 pub returns-in-None-clause-seat : goal.returns-in-None-clause-seat
 returns-in-None-clause-seat c =
-    let e = c.clean_one.ensures in marks-cleaned c.args.heap.now c.args.seat.now c.clean_one.new.seat c.requires.seat e.later e.seat.0 e.seat.1 e.held e.work e.owes
+    let e = c.clean_one.ensures in marks-cleaned c.args.heap.now c.args.seat.now c.clean_one.new.seat c.requires.seat e.only e.seat.0 e.seat.1 e.held e.work e.owes
 
 pub returns-in-Some-clause-tends : goal.returns-in-Some-clause-tends
 returns-in-Some-clause-tends c =
     let v : View = view_of c.args.seat.now in
     let w : View = view_of c.clean_one.new.seat in
-    tends-by 0 v w c.clean_one.ensures.later (one-pops c.args.heap.now.shape c.args.card _ (events v w) c.in-Some.ensures.some.0)
+    tends-by 0 v w c.clean_one.ensures.only (one-pops c.args.heap.now.shape c.args.card _ (events v w) c.in-Some.ensures.some.0)
 
 pub returns-in-None-clause-tends : goal.returns-in-None-clause-tends
 returns-in-None-clause-tends c =
     let v : View = view_of c.args.seat.now in
     let w : View = view_of c.clean_one.new.seat in
-    tends-by 0 v w c.clean_one.ensures.later (moves-pop (0 ∷ 1 ∷ 2 ∷ []) (events v w) c.in-None.ensures.none.2)
+    tends-by 0 v w c.clean_one.ensures.only (moves-pop output_pools (events v w) c.in-None.ensures.none.2)

@@ -1,5 +1,6 @@
-use Rattle.std.proofs.Common.{[], ◌∷◌, ap, ◌∙◌}
+use Rattle.std.proofs.Common.{ap, ◌∙◌}
 use Rattle.std.specs.Prelude.{is_none}
+use Rattle.packet_pools.specs.Seeking.{deferred_pools}
 use Rattle.mark_core.specs.Held.{holds_any}
 use Rattle.mark_core.specs.Seats.{work_in_hand}
 use Rattle.mark_core.specs.declared.seat.SeatState.{SeatState}
@@ -22,7 +23,7 @@ returns-clause-seat c =
     let x = c.args.seat.now in
     let e = c.recycle_deferred.ensures in
     let n = empty-of h.shape (view_of x).state c.requires.goes.idle in
-    marks-later h x c.recycle_deferred.new.seat c.requires e.later e.seat.0 e.seat.1 (ap (λ (s : SeatState). holds_any s.held) e.state ∙ n.held)
+    marks-later h x c.recycle_deferred.new.seat c.requires e.only e.seat.0 e.seat.1 (ap (λ (s : SeatState). holds_any s.held) e.state ∙ n.held)
     (ap (λ (s : SeatState). work_in_hand h.shape.fields s) e.state ∙ n.work) (ap (λ (s : SeatState). is_none s.owes) e.state ∙ n.owes)
 
 pub returns-clause-tends : goal.returns-clause-tends
@@ -30,4 +31,4 @@ returns-clause-tends c =
     let v : View = view_of c.args.seat.now in
     let w : View = view_of c.recycle_deferred.new.seat in
     let e = c.recycle_deferred.ensures in
-    tends-by 0 v w e.later (moves-pop (3 ∷ []) (events v w) e.recycled.moves)
+    tends-by 0 v w e.only (moves-pop deferred_pools (events v w) e.recycled.moves)

@@ -20,13 +20,13 @@ returns-clause-seat c =
     let x = c.args.seat.now in
     let y = c.trace.new.seat in
     let e = c.trace.ensures in
-    marks-later h x y c.requires e.later e.seat.0 e.seat.1 (ap holds_any e.idle.held) (ap (λ (sh : Shape). work_in_hand sh.fields (view_of y).state) (sym e.seat.0.1) ∙ e.idle.work)
+    marks-later h x y c.requires e.only e.seat.0 e.seat.1 (ap holds_any e.idle.held) (ap (λ (sh : Shape). work_in_hand sh.fields (view_of y).state) (sym e.seat.0.1) ∙ e.idle.work)
     (ap is_none (e.state.owes (is-none (view_of x).state.owes (empty-of h.shape (view_of x).state c.requires.goes.idle).owes)))
 
 pub returns-clause-traces : goal.returns-clause-traces
 returns-clause-traces c =
     let e = c.trace.ensures in
     record {
-      tends = tends-by c.trace.result.done (view_of c.args.seat.now) (view_of c.trace.new.seat) e.later e.tally.done;
+      tends = tends-by c.trace.result.done (view_of c.args.seat.now) (view_of c.trace.new.seat) e.only e.tally.done;
       ends = ⊎_elim (λ q. inl q.1) (λ q. inr (q.1, q.2)) e.stopped;
     }

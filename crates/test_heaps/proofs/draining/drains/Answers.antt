@@ -3,7 +3,7 @@ use Rattle.mark_core.specs.declared.kinds.Phase.TheVariants.{Idle, Marking}
 use Rattle.gc_table.specs.Running.{Alone}
 use Rattle.gc_table.specs.Seats.{view_of}
 use Rattle.gc_table.specs.declared.view.View.{View}
-use Rattle.test_heaps.proofs.Ended.{alone-drains, may-drain}
+use Rattle.test_heaps.proofs.DrainBegins.{alone-drains, may-drain}
 use Rattle.test_heaps.proofs.draining.drains.Goals as goal
 
 pub store_phase-requires-clause-may : goal.store_phase-requires-clause-may

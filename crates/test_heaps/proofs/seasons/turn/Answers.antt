@@ -6,10 +6,10 @@ use Rattle.gc_table.specs.Seats.{view_of}
 use Rattle.gc_table.specs.Sections.{planned}
 use Rattle.gc_table.specs.declared.view.Meaning.{Meaning}
 use Rattle.gc_table.specs.declared.view.View.{View}
-use Rattle.test_heaps.specs.Seats.{stopped}
 use Rattle.test_heaps.proofs.Turning.{alone-turn, first-section, may-turn}
 use Rattle.gc_table.proofs.RecordSteps.{state-after}
 use Rattle.test_heaps.proofs.seasons.turn.Goals as goal
+use Rattle.stop_world.specs.StopRecords.{stopped}
 
 pub next_season-requires-clause-may : goal.next_season-requires-clause-may
 next_season-requires-clause-may c =
@@ -25,8 +25,8 @@ next_season-requires-clause-asked c =
       λ even. ap (λ (m : Meaning). m.heap) q.0.1 ∙ sym (λ y. planned (q.0.0.0.1 y) (q.0.3 y) (q.0.2 y + 1)),
     )
 
-pub returns : goal.returns
-returns c =
+pub returns-clause-stopped : goal.returns-clause-stopped
+returns-clause-stopped c =
     let sh : Shape = c.args.heap.now.shape in
     let v : View = view_of c.args.seat.now in
     let w : View = view_of c.next_season.new.seat in

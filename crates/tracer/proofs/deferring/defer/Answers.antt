@@ -5,10 +5,10 @@ use Rattle.mark_core.specs.declared.kinds.Step.TheVariants.{DirtyCard}
 use Rattle.mark_core.specs.declared.seat.SeatState.{SeatState}
 use Rattle.gc_table.specs.Taking.{May}
 use Rattle.packet_pools.proofs.Doing.{traces-on}
-use Rattle.packet_pools.proofs.TracedSteps.{later-join}
-use Rattle.packet_pools.proofs.ScanSteps.{later-dirty_card}
+use Rattle.packet_pools.proofs.TracedSteps.{traced-join}
+use Rattle.packet_pools.proofs.ScanSteps.{traced-dirty_card}
 use Rattle.tracer.specs.declared.packets.Packets.{Packets}
-use Rattle.tracer.specs.Hands.{Carries, HasRoom, in_front, packet_of, packets_of}
+use Rattle.tracer.specs.Hands.{Carries, HasCellAndRoom, in_front, packet_of, packets_of}
 use Rattle.tracer.specs.Parts.{Part}
 use Rattle.tracer.proofs.Carried.{deferred-back}
 use Rattle.tracer.proofs.Hand.{may-dirty_popped, popped-answers}
@@ -34,15 +34,15 @@ returns-in_default-clause-seat c =
     let e = c.in_default.ensures in
     let d = c.dirty_card.ensures.view in
     let answers = popped-answers w.state c.args.cell c.card_of.result (ap (λ (s : SeatState). s.popped) e.state ∙ c.requires.cell.popped) (sym c.card_of.ensures) in
-    (c.dirty_card.ensures.seat, traces-on w y (later-dirty_card w y _ c.card_of.result refl answers d) e.seat.1 (ap (λ (z : View). z.state.reserved) d) (ap (λ (z : View). z.state.credit) d))
+    (c.dirty_card.ensures.seat, traces-on w y (traced-dirty_card w y _ c.card_of.result refl answers d) e.seat.1 (ap (λ (z : View). z.state.reserved) d) (ap (λ (z : View). z.state.credit) d))
 
-pub returns-in_default-clause-later : goal.returns-in_default-clause-later
-returns-in_default-clause-later c =
+pub returns-in_default-clause-only : goal.returns-in_default-clause-only
+returns-in_default-clause-only c =
     let w : View = view_of c.take_deferring.new.seat in
     let y : View = view_of c.dirty_card.new.seat in
     let e = c.in_default.ensures in
     let answers = popped-answers w.state c.args.cell c.card_of.result (ap (λ (s : SeatState). s.popped) e.state ∙ c.requires.cell.popped) (sym c.card_of.ensures) in
-    later-join (view_of c.args.seat.now) w y e.later (later-dirty_card w y _ c.card_of.result refl answers c.dirty_card.ensures.view)
+    traced-join (view_of c.args.seat.now) w y e.only (traced-dirty_card w y _ c.card_of.result refl answers c.dirty_card.ensures.view)
 
 pub returns-in_default-clause-part : goal.returns-in_default-clause-part
 returns-in_default-clause-part c =
@@ -54,14 +54,14 @@ returns-in_default-clause-part c =
     let e = c.in_default.ensures in
     let answers = popped-answers w.state c.args.cell c.card_of.result (ap (λ (s : SeatState). s.popped) e.state ∙ c.requires.cell.popped) (sym c.card_of.ensures) in
     subst (λ q. Part sh o q 0 0 1 v (events v y)) (ap packet_of e.none.0 ∙ sym (ap (λ (x : Packets). packet_of x.deferred) e.packets.0))
-    (part-spill sh o c.card_of.result _ v w y e.later (later-dirty_card w y _ c.card_of.result refl answers c.dirty_card.ensures.view) e.moves e.none.1 c.dirty_card.ensures.view)
+    (part-spill sh o c.card_of.result _ v w y e.only (traced-dirty_card w y _ c.card_of.result refl answers c.dirty_card.ensures.view) e.moves e.none.1 c.dirty_card.ensures.view)
 
-pub returns-clause-later : goal.returns-clause-later
-returns-clause-later c =
+pub returns-clause-only : goal.returns-clause-only
+returns-clause-only c =
     let w : View = view_of c.take_deferring.new.seat in
     let x : View = view_of c.put_into-rest.new.seat in
     let y : View = view_of c.give_some.new.seat in
-    later-join (view_of c.args.seat.now) w y c.in-Some.ensures.later (later-join w x y c.put_into-rest.ensures.later c.give_some.ensures.later)
+    traced-join (view_of c.args.seat.now) w y c.in-Some.ensures.only (traced-join w x y c.put_into-rest.ensures.only c.give_some.ensures.only)
 
 pub returns-clause-packets : goal.returns-clause-packets
 returns-clause-packets c =
@@ -77,7 +77,7 @@ returns-clause-packets c =
     let all : Carries (in_front rest (packets_of t)) y = c.give_some.ensures.packets (in_front rest (packets_of t)) (subst (λ r. Carries (in_front r (in_front rest (packets_of t))) x) (sym nothing) (p.packets (packets_of t) e.packets.1)) in (
       subst (λ r. Carries (t.input ∷ in_front t.output (in_front r [])) y) (sym c.replace-nothing.ensures.after)
           (deferred-back t.input t.output rest y (subst (λ d. Carries (in_front rest (t.input ∷ in_front t.output (in_front d []))) y) none all)),
-      subst (HasRoom c.args.heap.now.shape) (sym c.replace-nothing.ensures.after) p.room,
+      subst (HasCellAndRoom c.args.heap.now.shape) (sym c.replace-nothing.ensures.after) p.room,
     )
 
 pub returns-clause-part : goal.returns-clause-part
@@ -93,6 +93,6 @@ returns-clause-part c =
     let p = c.put_into-rest.ensures in
     let g = c.give_some.ensures in
     subst (λ r. Part sh o (packet_of r) 0 1 0 v (events v y)) (sym c.replace-nothing.ensures.after)
-    (part-then sh o o q 0 0 0 1 0 0 0 1 0 v w y e.later (later-join w x y p.later g.later) refl refl refl
+    (part-then sh o o q 0 0 0 1 0 0 0 1 0 v w y e.only (traced-join w x y p.only g.only) refl refl refl
     (part-moves sh o v (events v w) e.moves)
-    (part-then sh o q q 0 0 1 0 0 0 0 1 0 w x y p.later g.later refl refl refl (p.part o e.some.1) (g.part q (λ d. absurd (false≢true d)))))
+    (part-then sh o q q 0 0 1 0 0 0 0 1 0 w x y p.only g.only refl refl refl (p.part o e.some.1) (g.part q (λ d. absurd (false≢true d)))))

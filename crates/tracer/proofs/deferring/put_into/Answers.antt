@@ -5,8 +5,8 @@ use Rattle.mark_core.specs.declared.kinds.Shape.{Shape}
 use Rattle.mark_core.specs.declared.kinds.Step.TheVariants.{Push}
 use Rattle.mark_core.specs.declared.seat.SeatState.{SeatState}
 use Rattle.gc_table.specs.Seats.{Stored, view_of}
-use Rattle.packet_pools.specs.Hands.{IsHeld}
-use Rattle.packet_pools.proofs.TracedSteps.{later-join}
+use Rattle.packet_pools.specs.Hands.{HoldsPacket}
+use Rattle.packet_pools.proofs.TracedSteps.{traced-join}
 use Rattle.tracer.specs.Hands.{Carries}
 use Rattle.tracer.specs.Parts.{Part}
 use Rattle.tracer.proofs.Carried.{carries-give, carries-set}
@@ -23,7 +23,7 @@ sure : {A E : Type 0} (r : Result A E) (P Q : Type 0) → OnOk r P → OnErr r Q
 sure (Ok x) P Q p q n = p
 sure (Err x) P Q p q n = absurd (n q)
 
-filled : (v w : View) (h k : Held) (x : ℕ) (hs : List Held) → k ≡ record h { length = h.length + 1 } → Stored (Push h.packet x) v w → IsHeld k w → Carries (h ∷ hs) v → Carries (k ∷ hs) w
+filled : (v w : View) (h k : Held) (x : ℕ) (hs : List Held) → k ≡ record h { length = h.length + 1 } → Stored (Push h.packet x) v w → HoldsPacket k w → Carries (h ∷ hs) v → Carries (k ∷ hs) w
 filled v w h k x hs is e held c = carries-set v w (ap (λ (z : View). z.shape) e) h k _ _ hs (ap (λ (h : Held). h.packet) is) held (ap (λ (z : View). z.state.held) e) c
 
 pub returns-clause-packets : goal.returns-clause-packets
@@ -42,8 +42,8 @@ returns-clause-work c =
     let p = sure c.push-pushed.result _ _ e.pushed e.full (λ q. let r = c.requires.held.1 in let l = q.0 in absurd (omega (arith, r, l))) in
     ap (λ (sh : Shape). work_in_hand sh.fields w.state) (sym e.seat.0.1) ∙ pushed-work v w c.args.held.packet c.args.cell _ c.requires.cell p.2
 
-pub returns-then-length-shape-clause-later : goal.returns-then-length-shape-clause-later
-returns-then-length-shape-clause-later c = later-join (view_of c.args.seat.now) (view_of c.push-pushed.new.seat) (view_of c.give.new.seat) c.push-pushed.ensures.later c.give.ensures.later
+pub returns-then-length-shape-clause-only : goal.returns-then-length-shape-clause-only
+returns-then-length-shape-clause-only c = traced-join (view_of c.args.seat.now) (view_of c.push-pushed.new.seat) (view_of c.give.new.seat) c.push-pushed.ensures.only c.give.ensures.only
 
 pub returns-then-length-shape-clause-packets : goal.returns-then-length-shape-clause-packets
 returns-then-length-shape-clause-packets c =
@@ -52,7 +52,7 @@ returns-then-length-shape-clause-packets c =
     let x : View = view_of c.give.new.seat in
     let e = c.push-pushed.ensures in
     let p = sure c.push-pushed.result _ _ e.pushed e.full (λ q. let r = c.requires.held.1 in let l = q.0 in absurd (omega (arith, r, l))) in
-    λ hs k. carries-give w x c.give.ensures.later.shape c.push-pushed.new.held hs (ap (λ (s : SeatState). s.held) c.give.ensures.state) (filled v w c.args.held c.push-pushed.new.held c.args.cell hs p.1 p.2 e.held k)
+    λ hs k. carries-give w x c.give.ensures.only.shape c.push-pushed.new.held hs (ap (λ (s : SeatState). s.held) c.give.ensures.state) (filled v w c.args.held c.push-pushed.new.held c.args.cell hs p.1 p.2 e.held k)
 
 pub returns-then-length-shape-clause-work : goal.returns-then-length-shape-clause-work
 returns-then-length-shape-clause-work c =
@@ -74,6 +74,6 @@ returns-then-length-shape-clause-part c =
     let e = c.push-pushed.ensures in
     let p = sure c.push-pushed.result _ _ e.pushed e.full (λ q. let r = c.requires.held.1 in let l = q.0 in absurd (omega (arith, r, l))) in
     λ o either.
-    part-then sh o (Some h.packet) None 0 0 1 0 0 0 0 1 0 v w x e.later c.give.ensures.later refl refl refl
+    part-then sh o (Some h.packet) None 0 0 1 0 0 0 0 1 0 v w x e.only c.give.ensures.only refl refl refl
     (part-push sh o h.packet c.args.cell _ v w p.2 (popped-fresh v w h.packet c.args.cell _ c.requires.cell p.2) either)
     (subst (λ q. Part sh (Some q) None 0 0 0 w (events w x)) (ap (λ (h : Held). h.packet) p.1) (part-deferred sh k.packet (k.length == 0) w (events w x) c.give.ensures.steps))

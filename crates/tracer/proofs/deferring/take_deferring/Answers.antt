@@ -1,6 +1,7 @@
 use Rattle.std.proofs.Common.{[], ◌∷◌, ◌≡◌, sym, ◌∙◌, subst}
 use Rattle.gc_table.specs.declared.view.View.{View}
 use Rattle.gc_table.specs.Seats.{view_of}
+use Rattle.packet_pools.specs.Seeking.{output_pools}
 use Rattle.packet_pools.specs.declared.held.Held.{Held}
 use Rattle.packet_pools.specs.Gains.{Takes}
 use Rattle.packet_pools.proofs.Choices.{if-none, if-some}
@@ -31,9 +32,9 @@ returns-in-None-clause-packets c =
     let e = c.take_output.ensures in
     let was = sym c.replace.ensures.value ∙ (c.in-None.is ∙ sym c.replace.ensures.after) in (
       λ j. record { input = i; output = o; deferred = c.replace.ensures.after j },
-      taken-either (0 ∷ 1 ∷ 2 ∷ []) c.take_output.result (i ∷ in_front o (in_front c.replace.new.dest [])) v w e.later.shape
+      taken-either output_pools c.take_output.result (i ∷ in_front o (in_front c.replace.new.dest [])) v w e.only.shape
           (carries-free (packets_of c.args.packets.now) v (packets-three c.args.packets.now) c.requires.packets.0)
-          (if-some c.take_output.result _ (λ h. Takes (0 ∷ 1 ∷ 2 ∷ []) h v w) (λ h t. t.0) e.some)
+          (if-some c.take_output.result _ (λ h. Takes output_pools h v w) (λ h t. t.0) e.some)
           (if-none c.take_output.result _ (w.state ≡ v.state) (λ n. n.0) e.none)
           (subst (λ d. Carries (i ∷ in_front o (in_front d [])) v) was c.requires.packets.0),
     )

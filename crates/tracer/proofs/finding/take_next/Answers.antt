@@ -1,7 +1,7 @@
 use Rattle.std.proofs.Common.{◌≡◌, Option, List, [], ◌∷◌, sym, ap, ◌∙◌, subst, refl}
 use Rattle.std.proofs.lemmas.Bool.{false≢true}
 use Rattle.mark_core.specs.declared.kinds.Shape.{Shape}
-use Rattle.packet_pools.proofs.TracedSteps.{later-join}
+use Rattle.packet_pools.proofs.TracedSteps.{traced-join}
 use Rattle.tracer.specs.declared.packets.Packets.{Packets}
 use Rattle.tracer.specs.Hands.{Carries, in_front, packets_of}
 use Rattle.tracer.proofs.Carried.{carries-free, carries-take, front-held, packets-three, second-front}
@@ -10,6 +10,7 @@ use Rattle.tracer.proofs.Moves.{input-moves}
 use Rattle.tracer.proofs.Quiet.{part-moves}
 use Rattle.gc_table.specs.declared.view.View.{View}
 use Rattle.gc_table.specs.Seats.{view_of}
+use Rattle.packet_pools.specs.Seeking.{input_pools}
 use Rattle.packet_pools.specs.declared.held.Held.{Held}
 use Rattle.gc_table.specs.Log.{events}
 use Rattle.tracer.proofs.finding.take_next.Goals as goal
@@ -35,13 +36,13 @@ give_some-requires-clause-held c =
     let e = c.in-Some.ensures in
     let free = carries-free (packets_of x) v (packets-three x) c.requires.packets.0 in
     front-held c.keep-spare.result _ w
-    (spared v w x.input c.in-Some.next c.replace-empty.result x.output c.keep-spare.new.place c.keep-spare.result (in_front x.deferred []) e.later.shape c.requires.packets.0
-    (λ k. carries-take v w e.later.shape (2 ∷ 1 ∷ []) c.in-Some.next (packets_of x) e.some.0 free k)
+    (spared v w x.input c.in-Some.next c.replace-empty.result x.output c.keep-spare.new.place c.keep-spare.result (in_front x.deferred []) e.only.shape c.requires.packets.0
+    (λ k. carries-take v w e.only.shape input_pools c.in-Some.next (packets_of x) e.some.0 free k)
     c.replace-empty.ensures.value
     (c.keep-spare.ensures (in_front x.deferred [])))
 
-pub returns-clause-later : goal.returns-clause-later
-returns-clause-later c = later-join (view_of c.args.seat.now) (view_of c.take_input.new.seat) (view_of c.give_some.new.seat) c.in-Some.ensures.later c.give_some.ensures.later
+pub returns-clause-only : goal.returns-clause-only
+returns-clause-only c = traced-join (view_of c.args.seat.now) (view_of c.take_input.new.seat) (view_of c.give_some.new.seat) c.in-Some.ensures.only c.give_some.ensures.only
 
 pub returns-clause-packets : goal.returns-clause-packets
 returns-clause-packets c =
@@ -54,8 +55,8 @@ returns-clause-packets c =
     let free = carries-free (packets_of x) v (packets-three x) c.requires.packets.0 in (
       subst (λ i. Carries (i ∷ in_front o (in_front x.deferred [])) y) (sym c.replace-empty.ensures.after)
           (c.give_some.ensures.packets (c.in-Some.next ∷ in_front o (in_front x.deferred []))
-          (spared v w x.input c.in-Some.next c.replace-empty.result x.output o c.keep-spare.result (in_front x.deferred []) e.later.shape c.requires.packets.0
-          (λ k. carries-take v w e.later.shape (2 ∷ 1 ∷ []) c.in-Some.next (packets_of x) e.some.0 free k)
+          (spared v w x.input c.in-Some.next c.replace-empty.result x.output o c.keep-spare.result (in_front x.deferred []) e.only.shape c.requires.packets.0
+          (λ k. carries-take v w e.only.shape input_pools c.in-Some.next (packets_of x) e.some.0 free k)
           c.replace-empty.ensures.value
           (c.keep-spare.ensures (in_front x.deferred [])))),
       refl,
@@ -70,6 +71,6 @@ returns-clause-part c =
     let e = c.in-Some.ensures in
     let g = c.give_some.ensures in
     λ o.
-    part-then sh o o o 0 0 0 0 0 0 0 0 0 v w y e.later g.later refl refl refl
+    part-then sh o o o 0 0 0 0 0 0 0 0 0 v w y e.only g.only refl refl refl
     (part-moves sh o v (events v w) (input-moves (events v w) e.some.0.moves))
     (g.part o (λ d. absurd (false≢true d)))

@@ -13,12 +13,13 @@ use Rattle.tracer.proofs.Quiet.{part-moves}
 use Rattle.tracer.proofs.OneStep.{part-none, part-deferred}
 use Rattle.gc_table.specs.declared.view.View.{View}
 use Rattle.gc_table.specs.Seats.{view_of}
+use Rattle.packet_pools.specs.Seeking.{output_pools}
 use Rattle.packet_pools.specs.declared.held.Held.{Held}
 use Rattle.tracer.proofs.packets.give_some.Goals as goal
 
 either : (sh : Shape) (d : Bool) (o : Option ℕ) (p : ℕ) (b : Bool) (v : View) (es : List Entry) → steps_of es ≡ StoreLength p ∷ Give p d ∷ (cond b (Credit ∷ []) []) → (d ≡ true → o ≡ Some p) → Part sh o (cond d None o) 0 0 0 v es
 either sh true o p b v es e is = subst (λ x. Part sh x None 0 0 0 v es) (sym (is refl)) (part-deferred sh p b v es e)
-either sh false o p b v es e is = part-moves sh o v es (given-moves (0 ∷ 1 ∷ 2 ∷ []) p b es e)
+either sh false o p b v es e is = part-moves sh o v es (given-moves output_pools p b es e)
 
 nothing : (sh : Shape) (d : Bool) (o : Option ℕ) (v : View) (es : List Entry) → es ≡ [] → (d ≡ true → o ≡ None) → Part sh o (cond d None o) 0 0 0 v es
 nothing sh true o v es e is = subst (λ x. Part sh x None 0 0 0 v es) (sym (is refl)) (part-none sh None v es e)
@@ -29,7 +30,7 @@ returns-in-Some-clause-packets c =
     let v : View = view_of c.args.seat.now in
     let w : View = view_of c.give.new.seat in
     let e = c.give.ensures in
-    λ hs k. carries-give v w e.later.shape c.in-Some.held hs (ap (λ (s : SeatState). s.held) e.state) (subst (λ r. Carries (in_front r hs) v) c.in-Some.is k)
+    λ hs k. carries-give v w e.only.shape c.in-Some.held hs (ap (λ (s : SeatState). s.held) e.state) (subst (λ r. Carries (in_front r hs) v) c.in-Some.is k)
 
 pub returns-in-Some-clause-part : goal.returns-in-Some-clause-part
 returns-in-Some-clause-part c =

@@ -1,6 +1,6 @@
 use Rattle.std.proofs.Common.{◌≡◌, ◌≤◌, ◌+◌, Bool, true, false, cond, sym, ap, ◌∙◌, refl, arith, subst}
 use mir.Val.{bool_byte}
-use Rattle.packet_pools.proofs.TracedSteps.{later-join}
+use Rattle.packet_pools.proofs.TracedSteps.{traced-join}
 use Rattle.gc_table.proofs.History.Log.{events-join}
 use Rattle.tracer.specs.Recycling.{Recycles}
 use Rattle.tracer.proofs.Recycled.{recycles-join, idle-still}
@@ -10,7 +10,7 @@ use Rattle.gc_table.specs.Log.{events}
 use Rattle.tracer.proofs.recycling.recycle_between.Goals as goal
 
 pub recycle-requires-clause-idle : goal.recycle-requires-clause-idle
-recycle-requires-clause-idle c = let i = c.loop-p.invariant in idle-still (view_of c.args.seat.now) (view_of c.loop-p.seat) i.later.shape i.state c.requires.idle
+recycle-requires-clause-idle c = let i = c.loop-p.invariant in idle-still (view_of c.args.seat.now) (view_of c.loop-p.seat) i.only.shape i.state c.requires.idle
 
 one-byte : (b : Bool) → bool_byte b ≡ cond b 1 0
 one-byte true = refl
@@ -33,11 +33,11 @@ loop-p-preserved c =
     record {
       sits = e.seat.0;
       traces = e.seat.1;
-      later = later-join v w x i.later e.later;
+      only = traced-join v w x i.only e.only;
       state = e.state ∙ i.state;
       most = omega (arith, i.most, byte, one);
       recycles =
-          recycles-join c.args.first c.loop-p.p (c.loop-p.p + 1) c.loop-p.moved (cond b 1 0) _ (events v w) (events w x) (events v x) (events-join v w x i.later.log e.later.log) (let m = i.most in omega (arith, m)) (omega arith) (ap (λ n. c.loop-p.moved + n) (sym (byte ∙ one-byte b))) i.recycles e.recycles;
+          recycles-join c.args.first c.loop-p.p (c.loop-p.p + 1) c.loop-p.moved (cond b 1 0) _ (events v w) (events w x) (events v x) (events-join v w x i.only.log e.only.log) (let m = i.most in omega (arith, m)) (omega arith) (ap (λ n. c.loop-p.moved + n) (sym (byte ∙ one-byte b))) i.recycles e.recycles;
     }
 
 pub returns-clause-recycles : goal.returns-clause-recycles

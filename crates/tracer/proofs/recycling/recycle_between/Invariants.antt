@@ -10,7 +10,7 @@ abbrev pub invariant-loop-p : goal.invariant-loop-p
 invariant-loop-p l = record {
   sits : Sits l.heap l.seat;
   traces : Traces (view_of l.seat);
-  later : OnlyTraced (view_of l.fn.seat) (view_of l.seat);
+  only : OnlyTraced (view_of l.fn.seat) (view_of l.seat);
   state : (view_of l.seat).state ≡ (view_of l.fn.seat).state;
   most : l.moved + l.fn.first ≤ l.p;
   recycles : Recycles l.fn.first l.p l.moved (events (view_of l.fn.seat) (view_of l.seat));

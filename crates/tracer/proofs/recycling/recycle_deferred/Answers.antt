@@ -1,6 +1,7 @@
 use Rattle.std.proofs.Common.{ℕ, ◌≡◌, ◌≤◌, ◌*◌, ◌/◌, List, ap, subst, refl, arith}
+use Rattle.mark_core.specs.Numbers.{word_bits}
 use Rattle.mark_core.specs.declared.kinds.Shape.{Shape}
-use Rattle.packet_pools.proofs.TracedSteps.{later-join}
+use Rattle.packet_pools.proofs.TracedSteps.{traced-join}
 use Rattle.gc_table.proofs.History.Log.{events-join}
 use Rattle.tracer.specs.Recycling.{Recycled, Recycles}
 use Rattle.tracer.proofs.Recycled.{recycles-join, idle-still}
@@ -19,13 +20,13 @@ returns-then-packets-eq0-clause-recycled c =
     let sh : Shape = c.args.heap.now.shape in
     let packets : c.shape-packets.result.packets ≡ sh.packets = ap (λ (s : Shape). s.packets) c.shape-packets.ensures in
     let whole = c.if-packets-eq0.true in
-    all-seen sh (64 * (sh.packets / 64)) _ _ (omega (arith, packets, whole)) c.recycle_words-moved.ensures.recycles
+    all-seen sh (word_bits * (sh.packets / word_bits)) _ _ (omega (arith, packets, whole)) c.recycle_words-moved.ensures.recycles
 
 pub recycle_in_word-requires-clause-idle : goal.recycle_in_word-requires-clause-idle
-recycle_in_word-requires-clause-idle c = let e = c.recycle_words-moved.ensures in idle-still (view_of c.args.seat.now) (view_of c.recycle_words-moved.new.seat) e.later.shape e.state c.requires.idle
+recycle_in_word-requires-clause-idle c = let e = c.recycle_words-moved.ensures in idle-still (view_of c.args.seat.now) (view_of c.recycle_words-moved.new.seat) e.only.shape e.state c.requires.idle
 
-pub returns-clause-later : goal.returns-clause-later
-returns-clause-later c = later-join (view_of c.args.seat.now) (view_of c.recycle_words-moved.new.seat) (view_of c.recycle_in_word.new.seat) c.recycle_words-moved.ensures.later c.recycle_in_word.ensures.later
+pub returns-clause-only : goal.returns-clause-only
+returns-clause-only c = traced-join (view_of c.args.seat.now) (view_of c.recycle_words-moved.new.seat) (view_of c.recycle_in_word.new.seat) c.recycle_words-moved.ensures.only c.recycle_in_word.ensures.only
 
 pub returns-clause-recycled : goal.returns-clause-recycled
 returns-clause-recycled c =
@@ -37,6 +38,6 @@ returns-clause-recycled c =
     let b = c.recycle_in_word.ensures in
     let packets : c.shape-packets.result.packets ≡ sh.packets = ap (λ (s : Shape). s.packets) c.shape-packets.ensures in
     all-seen sh sh.packets _ _ (omega arith)
-    (recycles-join 0 (64 * (sh.packets / 64)) sh.packets c.recycle_words-moved.result c.recycle_in_word.result _ (events v w) (events w x) (events v x)
-    (events-join v w x a.later.log b.later.log) (omega arith) (omega arith) refl a.recycles
-    (subst (λ (k : ℕ). Recycles (64 * (k / 64)) k c.recycle_in_word.result (events w x)) packets b.recycles))
+    (recycles-join 0 (word_bits * (sh.packets / word_bits)) sh.packets c.recycle_words-moved.result c.recycle_in_word.result _ (events v w) (events w x) (events v x)
+    (events-join v w x a.only.log b.only.log) (omega arith) (omega arith) refl a.recycles
+    (subst (λ (k : ℕ). Recycles (word_bits * (k / word_bits)) k c.recycle_in_word.result (events w x)) packets b.recycles))

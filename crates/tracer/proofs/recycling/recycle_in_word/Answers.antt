@@ -1,10 +1,11 @@
 use Rattle.std.proofs.Common.{◌≤◌, ◌*◌, ap, sym, ◌∙◌, subst, arith}
+use Rattle.mark_core.specs.Numbers.{deferred_pool_number, word_bits}
 use Rattle.mark_core.specs.declared.kinds.Shape.{Shape}
 use Rattle.mark_core.specs.declared.kinds.Step.TheVariants.{Look}
 use Rattle.packet_pools.proofs.Choices.{traces-same}
 use Rattle.packet_pools.proofs.Conditions.{may-look}
-use Rattle.packet_pools.proofs.Doing.{later-look}
-use Rattle.packet_pools.proofs.TracedSteps.{later-join}
+use Rattle.packet_pools.proofs.Doing.{traced-look}
+use Rattle.packet_pools.proofs.TracedSteps.{traced-join}
 use Rattle.gc_table.proofs.History.Log.{events-after, events-join}
 use Rattle.tracer.proofs.Recycled.{recycles-empty, recycles-join, recycles-look, idle-still}
 use Rattle.gc_table.specs.declared.view.View.{View}
@@ -18,30 +19,30 @@ look-requires-clause-may c =
     let q = c.requires.packets in
     let low : c.args.end ≤ v.shape.packets = subst (λ (s : Shape). c.args.end ≤ s.packets) (sym c.requires.seat.0.1) q.2 in
     let some = q.0 in
-    may-look v 3 c.args.g (omega arith) (omega (arith, low, some))
+    may-look v deferred_pool_number c.args.g (omega arith) (omega (arith, low, some))
 
 pub returns-then-look-eq0-clause-seat : goal.returns-then-look-eq0-clause-seat
 returns-then-look-eq0-clause-seat c =
     let v : View = view_of c.args.seat.now in
     let w : View = view_of c.look.new.seat in
     let e = c.look.ensures.view.0 in
-    (c.look.ensures.seat, traces-same v w (later-look v w _ 3 c.args.g c.look.ensures.view.1 e) (ap (λ (z : View). z.state) e) c.requires.seat.1)
+    (c.look.ensures.seat, traces-same v w (traced-look v w _ deferred_pool_number c.args.g c.look.ensures.view.1 e) (ap (λ (z : View). z.state) e) c.requires.seat.1)
 
-pub returns-then-look-eq0-clause-later : goal.returns-then-look-eq0-clause-later
-returns-then-look-eq0-clause-later c = later-look (view_of c.args.seat.now) (view_of c.look.new.seat) _ 3 c.args.g c.look.ensures.view.1 c.look.ensures.view.0
+pub returns-then-look-eq0-clause-only : goal.returns-then-look-eq0-clause-only
+returns-then-look-eq0-clause-only c = traced-look (view_of c.args.seat.now) (view_of c.look.new.seat) _ deferred_pool_number c.args.g c.look.ensures.view.1 c.look.ensures.view.0
 
 pub returns-then-look-eq0-clause-recycles : goal.returns-then-look-eq0-clause-recycles
 returns-then-look-eq0-clause-recycles c =
     let v : View = view_of c.args.seat.now in
     let w : View = view_of c.look.new.seat in
-    recycles-empty c.args.g c.args.end c.look.result (events v w) c.requires.packets.1 c.if-look-eq0.true (events-after v w (Look 3 c.args.g) c.look.result c.look.ensures.view.0)
+    recycles-empty c.args.g c.args.end c.look.result (events v w) c.requires.packets.1 c.if-look-eq0.true (events-after v w (Look deferred_pool_number c.args.g) c.look.result c.look.ensures.view.0)
 
 pub recycle_between-requires-clause-seat : goal.recycle_between-requires-clause-seat
 recycle_between-requires-clause-seat c =
     let v : View = view_of c.args.seat.now in
     let w : View = view_of c.look.new.seat in
     let e = c.look.ensures.view.0 in
-    (c.look.ensures.seat, traces-same v w (later-look v w _ 3 c.args.g c.look.ensures.view.1 e) (ap (λ (z : View). z.state) e) c.requires.seat.1)
+    (c.look.ensures.seat, traces-same v w (traced-look v w _ deferred_pool_number c.args.g c.look.ensures.view.1 e) (ap (λ (z : View). z.state) e) c.requires.seat.1)
 
 pub recycle_between-requires-clause-idle : goal.recycle_between-requires-clause-idle
 recycle_between-requires-clause-idle c =
@@ -53,11 +54,11 @@ recycle_between-requires-clause-idle c =
 pub recycle_between-requires-clause-packets : goal.recycle_between-requires-clause-packets
 recycle_between-requires-clause-packets c = let q = c.requires.packets in let some = q.0 in (omega (arith, some), q.2)
 
-pub returns-clause-later : goal.returns-clause-later
-returns-clause-later c =
+pub returns-clause-only : goal.returns-clause-only
+returns-clause-only c =
     let v : View = view_of c.args.seat.now in
     let w : View = view_of c.look.new.seat in
-    later-join v w (view_of c.recycle_between.new.seat) (later-look v w _ 3 c.args.g c.look.ensures.view.1 c.look.ensures.view.0) c.recycle_between.ensures.later
+    traced-join v w (view_of c.recycle_between.new.seat) (traced-look v w _ deferred_pool_number c.args.g c.look.ensures.view.1 c.look.ensures.view.0) c.recycle_between.ensures.only
 
 pub returns-clause-state : goal.returns-clause-state
 returns-clause-state c = c.recycle_between.ensures.state ∙ ap (λ (z : View). z.state) c.look.ensures.view.0
@@ -70,8 +71,8 @@ returns-clause-recycles c =
     let e = c.look.ensures.view in
     let r = c.recycle_between.ensures in
     let some = c.requires.packets.0 in
-    recycles-join (64 * c.args.g) (64 * c.args.g) c.args.end 0 c.recycle_between.result c.recycle_between.result (events v w) (events w x) (events v x)
-    (events-join v w x (later-look v w _ 3 c.args.g e.1 e.0).log r.later.log)
+    recycles-join (word_bits * c.args.g) (word_bits * c.args.g) c.args.end 0 c.recycle_between.result c.recycle_between.result (events v w) (events w x) (events v x)
+    (events-join v w x (traced-look v w _ deferred_pool_number c.args.g e.1 e.0).log r.only.log)
     (omega arith) (omega (arith, some)) (omega arith)
-    (recycles-look (64 * c.args.g) c.args.g c.look.result (events v w) (events-after v w (Look 3 c.args.g) c.look.result e.0))
+    (recycles-look (word_bits * c.args.g) c.args.g c.look.result (events v w) (events-after v w (Look deferred_pool_number c.args.g) c.look.result e.0))
     r.recycles

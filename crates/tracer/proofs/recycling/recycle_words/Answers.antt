@@ -1,6 +1,7 @@
 use Rattle.std.proofs.Common.{ℕ, ◌≡◌, ◌+◌, ◌*◌, ◌/◌, ap, ◌∙◌, refl, arith, subst}
+use Rattle.mark_core.specs.Numbers.{word_bits}
 use Rattle.mark_core.specs.declared.kinds.Shape.{Shape}
-use Rattle.packet_pools.proofs.TracedSteps.{later-join}
+use Rattle.packet_pools.proofs.TracedSteps.{traced-join}
 use Rattle.gc_table.proofs.History.Log.{events-join}
 use Rattle.tracer.specs.Recycling.{Recycles}
 use Rattle.tracer.proofs.Recycled.{recycles-join, idle-still}
@@ -10,7 +11,7 @@ use Rattle.gc_table.specs.Log.{events}
 use Rattle.tracer.proofs.recycling.recycle_words.Goals as goal
 
 pub recycle_in_word-moved-requires-clause-idle : goal.recycle_in_word-moved-requires-clause-idle
-recycle_in_word-moved-requires-clause-idle c = let i = c.loop-g.invariant in idle-still (view_of c.args.seat.now) (view_of c.loop-g.seat) i.later.shape i.state c.requires.idle
+recycle_in_word-moved-requires-clause-idle c = let i = c.loop-g.invariant in idle-still (view_of c.args.seat.now) (view_of c.loop-g.seat) i.only.shape i.state c.requires.idle
 
 pub recycle_in_word-moved-requires-clause-packets : goal.recycle_in_word-moved-requires-clause-packets
 recycle_in_word-moved-requires-clause-packets c =
@@ -26,14 +27,14 @@ loop-g-preserved c =
     let i = c.loop-g.invariant in
     let e = c.recycle_in_word-moved.ensures in
     let g : ℕ = c.loop-g.g in
-    let next : 64 * g + 64 ≡ 64 * (g + 1) = omega arith in
+    let next : word_bits * g + word_bits ≡ word_bits * (g + 1) = omega arith in
     record {
       sits = e.seat.0;
       traces = e.seat.1;
-      later = later-join v w x i.later e.later;
+      only = traced-join v w x i.only e.only;
       state = e.state ∙ i.state;
       most = let m = i.most in let n = e.most in omega (arith, m, n);
-      recycles = subst (λ h. Recycles 0 h (c.loop-g.moved + c.recycle_in_word-moved.result) (events v x)) next (recycles-join 0 (64 * g) (64 * g + 64) c.loop-g.moved c.recycle_in_word-moved.result _ (events v w) (events w x) (events v x) (events-join v w x i.later.log e.later.log) (omega arith) (omega arith) refl i.recycles e.recycles);
+      recycles = subst (λ h. Recycles 0 h (c.loop-g.moved + c.recycle_in_word-moved.result) (events v x)) next (recycles-join 0 (word_bits * g) (word_bits * g + word_bits) c.loop-g.moved c.recycle_in_word-moved.result _ (events v w) (events w x) (events v x) (events-join v w x i.only.log e.only.log) (omega arith) (omega arith) refl i.recycles e.recycles);
     }
 
 pub returns-clause-recycles : goal.returns-clause-recycles
@@ -42,5 +43,5 @@ returns-clause-recycles c =
     let past = c.loop-g-test.false in
     let most = c.loop-g.auto.g-end in
     let packets : c.shape-g-end.result.packets ≡ c.args.heap.now.shape.packets = ap (λ (s : Shape). s.packets) c.shape-g-end.ensures in
-    let last : c.loop-g.g ≡ c.args.heap.now.shape.packets / 64 = omega (arith, past, most, packets) in
-    subst (λ h. Recycles 0 (64 * h) c.loop-g.moved (events (view_of c.args.seat.now) (view_of c.loop-g.seat))) last i.recycles
+    let last : c.loop-g.g ≡ c.args.heap.now.shape.packets / word_bits = omega (arith, past, most, packets) in
+    subst (λ h. Recycles 0 (word_bits * h) c.loop-g.moved (events (view_of c.args.seat.now) (view_of c.loop-g.seat))) last i.recycles

@@ -1,4 +1,5 @@
 use Rattle.std.proofs.Common.{◌≡◌, ◌≤◌, ◌*◌}
+use Rattle.mark_core.specs.Numbers.{word_bits}
 use Rattle.gc_table.specs.Seats.{Sits, view_of}
 use Rattle.packet_pools.specs.OnlyTraced.{OnlyTraced}
 use Rattle.gc_table.specs.Log.{events}
@@ -10,8 +11,8 @@ abbrev pub invariant-loop-g : goal.invariant-loop-g
 invariant-loop-g l = record {
   sits : Sits l.heap l.seat;
   traces : Traces (view_of l.seat);
-  later : OnlyTraced (view_of l.fn.seat) (view_of l.seat);
+  only : OnlyTraced (view_of l.fn.seat) (view_of l.seat);
   state : (view_of l.seat).state ≡ (view_of l.fn.seat).state;
-  most : l.moved ≤ 64 * l.g;
-  recycles : Recycles 0 (64 * l.g) l.moved (events (view_of l.fn.seat) (view_of l.seat));
+  most : l.moved ≤ word_bits * l.g;
+  recycles : Recycles 0 (word_bits * l.g) l.moved (events (view_of l.fn.seat) (view_of l.seat));
 }

@@ -4,13 +4,13 @@ use Rattle.mark_core.specs.Seats.{work_in_hand}
 use Rattle.mark_core.specs.declared.kinds.Shape.{Shape}
 use Rattle.mark_core.specs.declared.kinds.Step.TheVariants.{ReadRoot}
 use Rattle.gc_table.specs.declared.view.Entry.{Entry}
-use Rattle.packet_pools.specs.Fields.{Asks}
+use Rattle.packet_pools.specs.Fields.{AsksToMark}
 use Rattle.packet_pools.specs.Scanning.{InHand}
 use Rattle.packet_pools.proofs.Doing.{traces-on}
-use Rattle.packet_pools.proofs.TracedSteps.{later-join}
+use Rattle.packet_pools.proofs.TracedSteps.{traced-join}
 use Rattle.gc_table.proofs.History.Log.{events-after, events-join}
 use Rattle.tracer.proofs.Carried.{carries-fill, carries-free, carries-head, carries-same}
-use Rattle.packet_pools.proofs.ScanSteps.{later-read_root}
+use Rattle.packet_pools.proofs.ScanSteps.{traced-read_root}
 use Rattle.tracer.proofs.RootScans.{cell-seen, holds-one, loaded, marked-work, may-read_root, nil-seen, nil-work, root-cell, root-nil}
 use Rattle.gc_table.specs.declared.view.View.{View}
 use Rattle.gc_table.specs.Seats.{view_of}
@@ -32,12 +32,12 @@ returns-then-word-eq0-clause-seat c =
     let v : View = view_of c.args.seat.now in
     let w : View = view_of c.read_root-word.new.seat in
     let e = c.read_root-word.ensures.view in
-    (c.read_root-word.ensures.seat, traces-on v w (later-read_root v w _ c.args.section c.args.variable e.1 e.0) c.requires.seat.1 (ap (λ (z : View). z.state.reserved) e.0) (ap (λ (z : View). z.state.credit) e.0))
+    (c.read_root-word.ensures.seat, traces-on v w (traced-read_root v w _ c.args.section c.args.variable e.1 e.0) c.requires.seat.1 (ap (λ (z : View). z.state.reserved) e.0) (ap (λ (z : View). z.state.credit) e.0))
 
-pub returns-then-word-eq0-clause-later : goal.returns-then-word-eq0-clause-later
-returns-then-word-eq0-clause-later c =
+pub returns-then-word-eq0-clause-only : goal.returns-then-word-eq0-clause-only
+returns-then-word-eq0-clause-only c =
     let e = c.read_root-word.ensures.view in
-    later-read_root (view_of c.args.seat.now) (view_of c.read_root-word.new.seat) _ c.args.section c.args.variable e.1 e.0
+    traced-read_root (view_of c.args.seat.now) (view_of c.read_root-word.new.seat) _ c.args.section c.args.variable e.1 e.0
 
 pub returns-then-word-eq0-clause-out : goal.returns-then-word-eq0-clause-out
 returns-then-word-eq0-clause-out c =
@@ -62,7 +62,7 @@ mark_cell-requires-clause-seat c =
     let v : View = view_of c.args.seat.now in
     let w : View = view_of c.read_root-word.new.seat in
     let e = c.read_root-word.ensures.view in
-    (c.read_root-word.ensures.seat, traces-on v w (later-read_root v w _ c.args.section c.args.variable e.1 e.0) c.requires.seat.1 (ap (λ (z : View). z.state.reserved) e.0) (ap (λ (z : View). z.state.credit) e.0))
+    (c.read_root-word.ensures.seat, traces-on v w (traced-read_root v w _ c.args.section c.args.variable e.1 e.0) c.requires.seat.1 (ap (λ (z : View). z.state.reserved) e.0) (ap (λ (z : View). z.state.credit) e.0))
 
 pub mark_cell-requires-clause-out : goal.mark_cell-requires-clause-out
 mark_cell-requires-clause-out c =
@@ -79,12 +79,12 @@ mark_cell-requires-clause-hand c =
     subst (λ k. InHand (Some k) None w.state) (sym c.cell_of.ensures)
     (loaded (view_of c.args.seat.now) w c.args.section c.args.variable _ e.0 c.args.heap.now.shape.fields c.requires.work (ne_eqb c.read_root-word.result 0 c.if-word-eq0.false))
 
-pub returns-clause-later : goal.returns-clause-later
-returns-clause-later c =
+pub returns-clause-only : goal.returns-clause-only
+returns-clause-only c =
     let v : View = view_of c.args.seat.now in
     let w : View = view_of c.read_root-word.new.seat in
     let e = c.read_root-word.ensures.view in
-    later-join v w (view_of c.mark_cell.new.seat) (later-read_root v w _ c.args.section c.args.variable e.1 e.0) c.mark_cell.ensures.later
+    traced-join v w (view_of c.mark_cell.new.seat) (traced-read_root v w _ c.args.section c.args.variable e.1 e.0) c.mark_cell.ensures.only
 
 pub returns-clause-out : goal.returns-clause-out
 returns-clause-out c =
@@ -93,7 +93,7 @@ returns-clause-out c =
     let x : View = view_of c.mark_cell.new.seat in
     let e = c.read_root-word.ensures.view in
     let m = c.mark_cell.ensures in
-    carries-fill w x m.later.shape c.args.out.now c.mark_cell.new.out [] m.pushes.packet
+    carries-fill w x m.only.shape c.args.out.now c.mark_cell.new.out [] m.pushes.packet
     (carries-same v w (ap (λ (z : View). z.shape) e.0) (c.args.out.now ∷ []) (ap (λ (z : View). z.state.held) e.0) c.requires.out)
 
 pub returns-clause-work : goal.returns-clause-work
@@ -110,9 +110,9 @@ returns-clause-follows c =
     let e = c.read_root-word.ensures.view in
     let m = c.mark_cell.ensures in
     root-cell c.args.heap.now.shape c.args.section c.args.variable n _ _ _ (events w x) (events v x)
-    (events-join v w x (later-read_root v w n c.args.section c.args.variable e.1 e.0).log m.later.log ∙ ap (λ (l : List Entry). l ++ events w x) (events-after v w _ _ e.0))
+    (events-join v w x (traced-read_root v w n c.args.section c.args.variable e.1 e.0).log m.only.log ∙ ap (λ (l : List Entry). l ++ events w x) (events-after v w _ _ e.0))
     (ne_eqb n 0 c.if-word-eq0.false)
-    (subst (λ (k : ℕ). Asks (k ∷ []) (events w x)) c.cell_of.ensures m.asks)
+    (subst (λ (k : ℕ). AsksToMark (k ∷ []) (events w x)) c.cell_of.ensures m.asks)
     m.counts
 
 pub returns-then-word-eq0-clause-seen : goal.returns-then-word-eq0-clause-seen
@@ -130,5 +130,5 @@ returns-clause-seen c =
     let e = c.read_root-word.ensures.view in
     let m = c.mark_cell.ensures in
     cell-seen c.args.section c.args.variable n (events w x) (events v x)
-    (events-join v w x (later-read_root v w n c.args.section c.args.variable e.1 e.0).log m.later.log ∙ ap (λ (l : List Entry). l ++ events w x) (events-after v w _ _ e.0))
-    (subst (λ (k : ℕ). Asks (k ∷ []) (events w x)) c.cell_of.ensures m.asks).asked
+    (events-join v w x (traced-read_root v w n c.args.section c.args.variable e.1 e.0).log m.only.log ∙ ap (λ (l : List Entry). l ++ events w x) (events-after v w _ _ e.0))
+    (subst (λ (k : ℕ). AsksToMark (k ∷ []) (events w x)) c.cell_of.ensures m.asks).asked

@@ -1,19 +1,21 @@
 use Rattle.std.proofs.Common.{ℕ, ◌≡◌, ◌+◌, [], ◌∷◌, sym, ap, ◌∙◌, subst, refl, arith}
 use Rattle.std.specs.Prelude.{◌==◌}
+use Rattle.mark_core.specs.Numbers.{section_variables}
 use Rattle.mark_core.specs.Seats.{work_in_hand}
 use Rattle.mark_core.specs.declared.kinds.Shape.{Shape}
 use Rattle.mark_core.specs.declared.seat.SeatState.{SeatState}
 use Rattle.packet_pools.proofs.Counting.{given-moves}
-use Rattle.packet_pools.proofs.TracedSteps.{later-join}
+use Rattle.packet_pools.proofs.TracedSteps.{traced-join}
 use Rattle.gc_table.proofs.History.Log.{events-join}
 use Rattle.tracer.specs.Hands.{IsIdle}
-use Rattle.tracer.specs.Roots.{Follows, roots_of}
+use Rattle.tracer.specs.Roots.{FollowsRoots, roots_of}
 use Rattle.tracer.proofs.Carried.{carries-give}
 use Rattle.tracer.proofs.RootScans.{roots-join, roots-moves, roots-next, roots-owe, seen-all, seen-next}
 use Rattle.tracer.proofs.Whole.{append-none, keeps-record}
 use Rattle.gc_table.specs.declared.view.View.{View}
 use Rattle.gc_table.specs.Seats.{view_of}
 use Rattle.packet_pools.specs.OnlyTraced.{OnlyTraced}
+use Rattle.packet_pools.specs.Seeking.{output_pools}
 use Rattle.gc_table.specs.Log.{events}
 use Rattle.tracer.proofs.roots.scan_roots.Goals as goal
 
@@ -25,7 +27,7 @@ loop-variable-init c =
     record {
       sits = e.seat.0;
       traces = e.seat.1;
-      later = e.later;
+      only = e.only;
       out = e.some;
       work = e.work;
       most = omega arith;
@@ -45,26 +47,26 @@ loop-variable-preserved c =
     record {
       sits = e.seat.0;
       traces = e.seat.1;
-      later = later-join v w x i.later e.later;
+      only = traced-join v w x i.only e.only;
       out = e.out;
       work = e.work;
       most = omega (arith, i.most, e.most.1);
       follows = (
         i.follows.0 + c.scan_root-marked.result.overflowed,
         (let a = i.follows.1 in let b = e.most.0 in omega (arith, a, b)),
-        subst (λ l. Follows sh l (c.loop-variable.marked + c.scan_root-marked.result.marked) (i.follows.0 + c.scan_root-marked.result.overflowed) (events v x)) (roots-next c.args.section n)
-            (roots-join sh (roots_of c.args.section n) ((c.args.section, n) ∷ []) _ _ _ _ _ _ (events v w) (events w x) (events v x) (events-join v w x i.later.log e.later.log) refl refl i.follows.2 e.follows),
+        subst (λ l. FollowsRoots sh l (c.loop-variable.marked + c.scan_root-marked.result.marked) (i.follows.0 + c.scan_root-marked.result.overflowed) (events v x)) (roots-next c.args.section n)
+            (roots-join sh (roots_of c.args.section n) ((c.args.section, n) ∷ []) _ _ _ _ _ _ (events v w) (events w x) (events v x) (events-join v w x i.only.log e.only.log) refl refl i.follows.2 e.follows),
       );
-      seen = seen-next c.args.section n (events v w) (events w x) (events v x) (events-join v w x i.later.log e.later.log) i.seen e.seen;
+      seen = seen-next c.args.section n (events v w) (events w x) (events v x) (events-join v w x i.only.log e.only.log) i.seen e.seen;
     }
 
-pub returns-clause-later : goal.returns-clause-later
-returns-clause-later c = later-join (view_of c.args.seat.now) (view_of c.loop-variable.seat) (view_of c.give.new.seat) c.loop-variable.invariant.later c.give.ensures.later
+pub returns-clause-only : goal.returns-clause-only
+returns-clause-only c = traced-join (view_of c.args.seat.now) (view_of c.loop-variable.seat) (view_of c.give.new.seat) c.loop-variable.invariant.only c.give.ensures.only
 
 -- all roots were scanned, and the packet was given back
-ended : (sh : Shape) (section n marked lost : ℕ) (v w x : View) → OnlyTraced v w → OnlyTraced w x → n ≡ 32 → Follows sh (roots_of section n) marked lost (events v w) → Follows sh [] 0 0 (events w x) → Follows sh (roots_of section 32) marked lost (events v x)
+ended : (sh : Shape) (section n marked lost : ℕ) (v w x : View) → OnlyTraced v w → OnlyTraced w x → n ≡ section_variables → FollowsRoots sh (roots_of section n) marked lost (events v w) → FollowsRoots sh [] 0 0 (events w x) → FollowsRoots sh (roots_of section section_variables) marked lost (events v x)
 ended sh section n marked lost v w x a b all f g =
-    subst (λ l. Follows sh l marked lost (events v x)) (sym (append-none (roots_of section n)) ∙ ap (roots_of section) all)
+    subst (λ l. FollowsRoots sh l marked lost (events v x)) (sym (append-none (roots_of section n)) ∙ ap (roots_of section) all)
     (roots-join sh (roots_of section n) [] marked 0 marked lost 0 lost (events v w) (events w x) (events v x) (events-join v w x a.log b.log) (omega arith) (omega arith) f g)
 
 pub returns-clause-scanned : goal.returns-clause-scanned
@@ -77,12 +79,12 @@ returns-clause-scanned c =
     let g = c.give.ensures in
     let past = c.loop-variable-test.false in
     let most = c.loop-variable.auto.variable-end in
-    let all : c.loop-variable.variable ≡ 32 = omega (arith, past, most) in (
+    let all : c.loop-variable.variable ≡ section_variables = omega (arith, past, most) in (
       i.follows.0,
       i.follows.1,
-      subst (λ s. Follows s (roots_of c.args.section 32) c.loop-variable.marked i.follows.0 (events v x)) (sym c.requires.seat.0.1)
-          (ended sh c.args.section c.loop-variable.variable c.loop-variable.marked i.follows.0 v w x i.later g.later all i.follows.2
-          (roots-moves sh (events w x) (given-moves (0 ∷ 1 ∷ 2 ∷ []) c.loop-variable.out.packet (c.loop-variable.out.length == 0) (events w x) g.steps))),
+      subst (λ s. FollowsRoots s (roots_of c.args.section section_variables) c.loop-variable.marked i.follows.0 (events v x)) (sym c.requires.seat.0.1)
+          (ended sh c.args.section c.loop-variable.variable c.loop-variable.marked i.follows.0 v w x i.only g.only all i.follows.2
+          (roots-moves sh (events w x) (given-moves output_pools c.loop-variable.out.packet (c.loop-variable.out.length == 0) (events w x) g.steps))),
     )
 
 pub returns-clause-idle : goal.returns-clause-idle
@@ -92,9 +94,9 @@ returns-clause-idle c =
     let x : View = view_of c.give.new.seat in
     let i = c.loop-variable.invariant in
     let g = c.give.ensures in
-    let later : OnlyTraced v x = later-join v w x i.later g.later in
+    let later : OnlyTraced v x = traced-join v w x i.only g.only in
     record {
-      held = (carries-give w x g.later.shape c.loop-variable.out [] (ap (λ (s : SeatState). s.held) g.state) i.out).held;
+      held = (carries-give w x g.only.shape c.loop-variable.out [] (ap (λ (s : SeatState). s.held) g.state) i.out).held;
       work = ap (λ (s : Shape). work_in_hand s.fields x.state) g.seat.0.1 ∙ (ap (work_in_hand c.args.heap.now.shape.fields) g.state ∙ i.work);
       block = ap (λ (s : SeatState). s.block) later.rest ∙ c.requires.idle.block;
     }
@@ -107,20 +109,20 @@ returns-clause-state c =
     let x : View = view_of c.give.new.seat in
     let i = c.loop-variable.invariant in
     let g = c.give.ensures in
-    let later : OnlyTraced v x = later-join v w x i.later g.later in
+    let later : OnlyTraced v x = traced-join v w x i.only g.only in
     let idle : IsIdle x =
     record {
-      held = (carries-give w x g.later.shape c.loop-variable.out [] (ap (λ (s : SeatState). s.held) g.state) i.out).held;
+      held = (carries-give w x g.only.shape c.loop-variable.out [] (ap (λ (s : SeatState). s.held) g.state) i.out).held;
       work = ap (λ (s : Shape). work_in_hand s.fields x.state) g.seat.0.1 ∙ (ap (work_in_hand sh.fields) g.state ∙ i.work);
       block = ap (λ (s : SeatState). s.block) later.rest ∙ c.requires.idle.block;
     } in
     let past = c.loop-variable-test.false in
     let most = c.loop-variable.auto.variable-end in
-    let all : c.loop-variable.variable ≡ 32 = omega (arith, past, most) in
+    let all : c.loop-variable.variable ≡ section_variables = omega (arith, past, most) in
     keeps-record v x later c.requires.seat.1 g.seat.1 c.requires.idle idle
     (roots-owe v x later
-    (ended sh c.args.section c.loop-variable.variable c.loop-variable.marked i.follows.0 v w x i.later g.later all i.follows.2
-    (roots-moves sh (events w x) (given-moves (0 ∷ 1 ∷ 2 ∷ []) c.loop-variable.out.packet (c.loop-variable.out.length == 0) (events w x) g.steps))).steps)
+    (ended sh c.args.section c.loop-variable.variable c.loop-variable.marked i.follows.0 v w x i.only g.only all i.follows.2
+    (roots-moves sh (events w x) (given-moves output_pools c.loop-variable.out.packet (c.loop-variable.out.length == 0) (events w x) g.steps))).steps)
 
 pub returns-clause-seen : goal.returns-clause-seen
 returns-clause-seen c =
@@ -130,4 +132,4 @@ returns-clause-seen c =
     let i = c.loop-variable.invariant in
     let past = c.loop-variable-test.false in
     let most = c.loop-variable.auto.variable-end in
-    seen-all c.args.section c.loop-variable.variable (events v w) (events w x) (events v x) (events-join v w x i.later.log c.give.ensures.later.log) (omega (arith, past, most)) i.seen
+    seen-all c.args.section c.loop-variable.variable (events v w) (events w x) (events v x) (events-join v w x i.only.log c.give.ensures.only.log) (omega (arith, past, most)) i.seen

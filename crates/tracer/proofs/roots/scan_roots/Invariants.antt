@@ -6,17 +6,17 @@ use Rattle.packet_pools.specs.OnlyTraced.{OnlyTraced}
 use Rattle.gc_table.specs.Log.{events}
 use Rattle.packet_pools.specs.Tracing.{Traces}
 use Rattle.tracer.specs.Hands.{Carries}
-use Rattle.tracer.specs.Roots.{Follows, root_marked, roots_of}
+use Rattle.tracer.specs.Roots.{FollowsRoots, root_marked, roots_of}
 use Rattle.tracer.proofs.roots.scan_roots.Given as goal
 
 abbrev pub invariant-loop-variable : goal.invariant-loop-variable
 invariant-loop-variable l = record {
   sits : Sits l.heap l.seat;
   traces : Traces (view_of l.seat);
-  later : OnlyTraced (view_of l.fn.seat) (view_of l.seat);
+  only : OnlyTraced (view_of l.fn.seat) (view_of l.seat);
   out : Carries (l.out ∷ []) (view_of l.seat);
   work : IsFalse (work_in_hand l.heap.shape.fields (view_of l.seat).state);
   most : l.marked ≤ l.variable;
-  follows : (lost : ℕ) × (lost ≤ l.marked) × Follows l.heap.shape (roots_of l.fn.section l.variable) l.marked lost (events (view_of l.fn.seat) (view_of l.seat));
+  follows : (lost : ℕ) × (lost ≤ l.marked) × FollowsRoots l.heap.shape (roots_of l.fn.section l.variable) l.marked lost (events (view_of l.fn.seat) (view_of l.seat));
   seen : (v : ℕ) → v < l.variable → IsTrue (root_marked l.fn.section v (events (view_of l.fn.seat) (view_of l.seat)));
 }

@@ -2,9 +2,9 @@ use Rattle.std.proofs.Common.{◌≡◌, Option, [], ◌∷◌, ◌++◌, sym, a
 use Rattle.std.specs.Prelude.{IsTrue}
 use Rattle.mark_core.specs.declared.kinds.Shape.{Shape}
 use Rattle.mark_core.specs.declared.seat.SeatState.{SeatState}
-use Rattle.packet_pools.specs.Seeking.{NoInput, NoOutput, only_moves}
+use Rattle.packet_pools.specs.Seeking.{NoInput, NoOutput, input_pools, only_moves, output_pools}
 use Rattle.packet_pools.proofs.Choices.{if-none, if-some}
-use Rattle.packet_pools.proofs.TracedSteps.{later-join}
+use Rattle.packet_pools.proofs.TracedSteps.{traced-join}
 use Rattle.gc_table.proofs.History.Log.{events-join}
 use Rattle.packet_pools.proofs.Searches.{moves-join}
 use Rattle.tracer.specs.Hands.{Carries}
@@ -32,7 +32,7 @@ returns-in-Some-clause-some c =
     let w : View = view_of c.take_output.new.seat in
     let e = c.in-Some.ensures in
     let none = carries-none v c.requires.idle.held in
-    carries-take v w e.later.shape (0 ∷ 1 ∷ 2 ∷ []) c.in-Some.held [] e.some.0 (carries-free [] v (omega arith) none) none
+    carries-take v w e.only.shape output_pools c.in-Some.held [] e.some.0 (carries-free [] v (omega arith) none) none
 
 pub take_input-requires-clause-free : goal.take_input-requires-clause-free
 take_input-requires-clause-free c =
@@ -40,11 +40,11 @@ take_input-requires-clause-free c =
     let e = c.in-None.ensures in
     carries-free [] w (omega arith) (carries-none w (ap (λ (s : SeatState). s.held) e.none.0 ∙ c.requires.idle.held))
 
-pub returns-in-None-clause-later : goal.returns-in-None-clause-later
-returns-in-None-clause-later c = later-join (view_of c.args.seat.now) (view_of c.take_output.new.seat) (view_of c.take_input.new.seat) c.in-None.ensures.later c.take_input.ensures.later
+pub returns-in-None-clause-only : goal.returns-in-None-clause-only
+returns-in-None-clause-only c = traced-join (view_of c.args.seat.now) (view_of c.take_output.new.seat) (view_of c.take_input.new.seat) c.in-None.ensures.only c.take_input.ensures.only
 
-both-move : (v w x : View) (r : Option Held) → OnlyTraced v w → OnlyTraced w x → only_moves (0 ∷ 1 ∷ 2 ∷ []) (events v w) ≡ true → only_moves (2 ∷ 1 ∷ []) (events w x) ≡ true → only_moves (0 ∷ 1 ∷ 2 ∷ []) (events v x) ≡ true
-both-move v w x r a b m n = ap (only_moves (0 ∷ 1 ∷ 2 ∷ [])) (events-join v w x a.log b.log) ∙ moves-join (0 ∷ 1 ∷ 2 ∷ []) (events v w) (events w x) m (input-moves (events w x) n)
+both-move : (v w x : View) (r : Option Held) → OnlyTraced v w → OnlyTraced w x → only_moves output_pools (events v w) ≡ true → only_moves input_pools (events w x) ≡ true → only_moves output_pools (events v x) ≡ true
+both-move v w x r a b m n = ap (only_moves output_pools) (events-join v w x a.log b.log) ∙ moves-join output_pools (events v w) (events w x) m (input-moves (events w x) n)
 
 pub returns-in-None-clause-moves : goal.returns-in-None-clause-moves
 returns-in-None-clause-moves c =
@@ -54,8 +54,8 @@ returns-in-None-clause-moves c =
     let r : Option Held = c.take_input.result in
     let e = c.in-None.ensures in
     let f = c.take_input.ensures in
-    both-move v w x r e.later f.later e.none.2
-    (either-way r (IsTrue (only_moves (2 ∷ 1 ∷ []) (events w x))) (if-some r _ (λ h. IsTrue (only_moves (2 ∷ 1 ∷ []) (events w x))) (λ h t. t.0.moves) f.some) (if-none r _ (IsTrue (only_moves (2 ∷ 1 ∷ []) (events w x))) (λ n. n.2) f.none))
+    both-move v w x r e.only f.only e.none.2
+    (either-way r (IsTrue (only_moves input_pools (events w x))) (if-some r _ (λ h. IsTrue (only_moves input_pools (events w x))) (λ h t. t.0.moves) f.some) (if-none r _ (IsTrue (only_moves input_pools (events w x))) (λ n. n.2) f.none))
 
 pub returns-in-None-clause-some : goal.returns-in-None-clause-some
 returns-in-None-clause-some c =
@@ -64,10 +64,10 @@ returns-in-None-clause-some c =
     let e = c.in-None.ensures in
     let f = c.take_input.ensures in
     let none = carries-none w (ap (λ (s : SeatState). s.held) e.none.0 ∙ c.requires.idle.held) in
-    if-some c.take_input.result _ (λ h. Carries (h ∷ []) x) (λ h t. carries-take w x f.later.shape (2 ∷ 1 ∷ []) h [] t.0 (carries-free [] w (omega arith) none) none) f.some
+    if-some c.take_input.result _ (λ h. Carries (h ∷ []) x) (λ h t. carries-take w x f.only.shape input_pools h [] t.0 (carries-free [] w (omega arith) none) none) f.some
 
 -- both searches are told by the events of the call
-found : (v w x : View) → holds_any v.state.held ≡ false → holds_any w.state.held ≡ false → OnlyTraced v w → OnlyTraced w x → NoOutput v.shape (events v w) → only_moves (0 ∷ 1 ∷ 2 ∷ []) (events v w) ≡ true → NoInput v.shape (events w x) → only_moves (2 ∷ 1 ∷ []) (events w x) ≡ true → only_moves (0 ∷ 1 ∷ 2 ∷ []) (events v x) ≡ true → FoundNoPacket v x
+found : (v w x : View) → holds_any v.state.held ≡ false → holds_any w.state.held ≡ false → OnlyTraced v w → OnlyTraced w x → NoOutput v.shape (events v w) → only_moves output_pools (events v w) ≡ true → NoInput v.shape (events w x) → only_moves input_pools (events w x) ≡ true → only_moves output_pools (events v x) ≡ true → FoundNoPacket v x
 found v w x bare still a b output outward input inward moves =
     let all : events v x ≡ events v w ++ (events w x ++ []) = events-join v w x a.log b.log ∙ ap (λ es. events v w ++ es) (append-none (events w x)) in
     let fills = at-moment v.shape (finds_none_to_fill v.shape) (begins v) [] (events v w ++ (events w x ++ [])) (and_from _ _ (not_from_false _ bare) (output-front v.shape (events v w) (events w x ++ []) output outward)) in
@@ -88,6 +88,6 @@ returns-in-None-clause-none c =
     if-none r _ ((x.state ≡ v.state) × FoundNoPacket v x)
     (λ n. (
       n.0 ∙ e.none.0,
-      found v w x (subst (λ (h : Slots). holds_any h ≡ false) (sym c.requires.idle.held) refl) (subst (λ (h : Slots). holds_any h ≡ false) (sym held) refl) e.later f.later (subst (λ (s : Shape). NoOutput s (events v w)) (sym shape) e.none.1) e.none.2 (subst (λ (s : Shape). NoInput s (events w x)) (sym shape) n.1) n.2 (both-move v w x r e.later f.later e.none.2 n.2),
+      found v w x (subst (λ (h : Slots). holds_any h ≡ false) (sym c.requires.idle.held) refl) (subst (λ (h : Slots). holds_any h ≡ false) (sym held) refl) e.only f.only (subst (λ (s : Shape). NoOutput s (events v w)) (sym shape) e.none.1) e.none.2 (subst (λ (s : Shape). NoInput s (events w x)) (sym shape) n.1) n.2 (both-move v w x r e.only f.only e.none.2 n.2),
     ))
     f.none

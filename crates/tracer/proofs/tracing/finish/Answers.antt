@@ -4,7 +4,7 @@ use Rattle.std.proofs.lemmas.Bool.{false≢true}
 use Rattle.mark_core.specs.declared.kinds.Shape.{Shape}
 use Rattle.mark_core.specs.declared.seat.SeatState.{SeatState}
 use Rattle.packet_pools.proofs.Counting.{given-moves}
-use Rattle.packet_pools.proofs.TracedSteps.{later-join}
+use Rattle.packet_pools.proofs.TracedSteps.{traced-join}
 use Rattle.tracer.specs.declared.packets.Packets.{Packets}
 use Rattle.tracer.specs.Hands.{Carries, in_front, packet_of, packets_of}
 use Rattle.tracer.proofs.Carried.{carries-give, carries-head, deferred-front, front-held, second-front}
@@ -12,6 +12,7 @@ use Rattle.tracer.proofs.Joined.{part-then}
 use Rattle.tracer.proofs.Quiet.{part-moves}
 use Rattle.gc_table.specs.declared.view.View.{View}
 use Rattle.gc_table.specs.Seats.{view_of}
+use Rattle.packet_pools.specs.Seeking.{output_pools}
 use Rattle.packet_pools.specs.declared.held.Held.{Held}
 use Rattle.gc_table.specs.Log.{events}
 use Rattle.tracer.proofs.tracing.finish.Goals as goal
@@ -41,13 +42,13 @@ give-requires-clause-held c =
     let x : Packets = c.args.packets in
     carries-head x.input [] y (c.give_some-2.ensures.packets (x.input ∷ []) (without x v w c.give_some.ensures.packets c.requires.packets.0))
 
-pub returns-clause-later : goal.returns-clause-later
-returns-clause-later c =
+pub returns-clause-only : goal.returns-clause-only
+returns-clause-only c =
     let v : View = view_of c.args.seat.now in
     let w : View = view_of c.give_some.new.seat in
     let y : View = view_of c.give_some-2.new.seat in
     let z : View = view_of c.give.new.seat in
-    later-join v w z c.give_some.ensures.later (later-join w y z c.give_some-2.ensures.later c.give.ensures.later)
+    traced-join v w z c.give_some.ensures.only (traced-join w y z c.give_some-2.ensures.only c.give.ensures.only)
 
 pub returns-clause-held : goal.returns-clause-held
 returns-clause-held c =
@@ -57,7 +58,7 @@ returns-clause-held c =
     let z : View = view_of c.give.new.seat in
     let x : Packets = c.args.packets in
     let all = c.give_some-2.ensures.packets (x.input ∷ []) (without x v w c.give_some.ensures.packets c.requires.packets.0) in
-    (carries-give y z c.give.ensures.later.shape x.input [] (ap (λ (s : SeatState). s.held) c.give.ensures.state) all).held
+    (carries-give y z c.give.ensures.only.shape x.input [] (ap (λ (s : SeatState). s.held) c.give.ensures.state) all).held
 
 pub returns-clause-part : goal.returns-clause-part
 returns-clause-part c =
@@ -71,8 +72,8 @@ returns-clause-part c =
     let e = c.give_some.ensures in
     let f = c.give_some-2.ensures in
     let g = c.give.ensures in
-    part-then sh o None None 0 0 0 0 0 0 0 0 0 v w z e.later (later-join w y z f.later g.later) refl refl refl
+    part-then sh o None None 0 0 0 0 0 0 0 0 0 v w z e.only (traced-join w y z f.only g.only) refl refl refl
     (e.part o (λ d. refl))
-    (part-then sh None None None 0 0 0 0 0 0 0 0 0 w y z f.later g.later refl refl refl
+    (part-then sh None None None 0 0 0 0 0 0 0 0 0 w y z f.only g.only refl refl refl
     (f.part None (λ d. absurd (false≢true d)))
-    (part-moves sh None y (events y z) (given-moves (0 ∷ 1 ∷ 2 ∷ []) x.input.packet (x.input.length == 0) (events y z) g.steps)))
+    (part-moves sh None y (events y z) (given-moves output_pools x.input.packet (x.input.length == 0) (events y z) g.steps)))

@@ -33,7 +33,7 @@ returns-in-Some-clause-packets c =
     let x : Packets = c.args.packets.now in
     let e = c.scan_whole.ensures in
     let k = output-front x c.in-Some.output v c.in-Some.is c.requires.packets in
-    (carries-back (x.input ∷ []) c.scan_whole.new.out (in_front x.deferred []) w (carries-fill v w e.later.shape c.in-Some.output c.scan_whole.new.out (x.input ∷ in_front x.deferred []) e.pushes.packet k), refl)
+    (carries-back (x.input ∷ []) c.scan_whole.new.out (in_front x.deferred []) w (carries-fill v w e.only.shape c.in-Some.output c.scan_whole.new.out (x.input ∷ in_front x.deferred []) e.pushes.packet k), refl)
 
 pub returns-in-None-clause-packets : goal.returns-in-None-clause-packets
 returns-in-None-clause-packets c =
@@ -41,18 +41,18 @@ returns-in-None-clause-packets c =
     let w : View = view_of c.scan_whole-in-None.new.seat in
     let x : Packets = c.args.packets.now in
     let e = c.scan_whole-in-None.ensures in
-    (carries-fill v w e.later.shape x.input c.scan_whole-in-None.new.out (in_front x.output (in_front x.deferred [])) e.pushes.packet c.requires.packets, refl)
+    (carries-fill v w e.only.shape x.input c.scan_whole-in-None.new.out (in_front x.output (in_front x.deferred [])) e.pushes.packet c.requires.packets, refl)
 
 pub returns-in-Some-clause-part : goal.returns-in-Some-clause-part
 returns-in-Some-clause-part c =
     let v : View = view_of c.args.seat.now in
     let w : View = view_of c.scan_whole.new.seat in
     let e = c.scan_whole.ensures in
-    λ o. part-scan c.args.heap.now.shape o _ _ _ v (events v w) c.requires.hand.0.popped (e.later.cells refl) e.counts
+    λ o. part-scan c.args.heap.now.shape o _ _ _ v (events v w) c.requires.hand.0.popped (e.only.cells refl) e.counts
 
 pub returns-in-None-clause-part : goal.returns-in-None-clause-part
 returns-in-None-clause-part c =
     let v : View = view_of c.args.seat.now in
     let w : View = view_of c.scan_whole-in-None.new.seat in
     let e = c.scan_whole-in-None.ensures in
-    λ o. part-scan c.args.heap.now.shape o _ _ _ v (events v w) c.requires.hand.0.popped (e.later.cells refl) e.counts
+    λ o. part-scan c.args.heap.now.shape o _ _ _ v (events v w) c.requires.hand.0.popped (e.only.cells refl) e.counts

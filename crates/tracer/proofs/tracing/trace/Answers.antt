@@ -2,7 +2,7 @@ use Rattle.std.proofs.Common.{ℕ, ◌≡◌, ◌+◌, inl, inr, None, Option, s
 use Rattle.mark_core.specs.Seats.{work_in_hand}
 use Rattle.mark_core.specs.declared.kinds.Shape.{Shape}
 use Rattle.mark_core.specs.declared.seat.SeatState.{SeatState}
-use Rattle.packet_pools.proofs.TracedSteps.{later-join}
+use Rattle.packet_pools.proofs.TracedSteps.{traced-join}
 use Rattle.tracer.specs.declared.packets.Packets.{Packets}
 use Rattle.tracer.specs.declared.traced.Traced.{Traced}
 use Rattle.tracer.specs.Hands.{IsIdle, no_packets, packet_of}
@@ -32,7 +32,7 @@ returns-in_default-clause-tally c =
     let v : View = view_of c.args.seat.now in
     let w : View = view_of c.begin.new.seat in
     let e = c.in_default.ensures in
-    subst (λ (t : Traced). Tally t.done t.deferred t.overflowed v w) (sym c.without_work.ensures) (tally-of c.args.heap.now.shape 0 0 0 v w c.requires.seat.0.1 e.later e.part)
+    subst (λ (t : Traced). Tally t.done t.deferred t.overflowed v w) (sym c.without_work.ensures) (tally-of c.args.heap.now.shape 0 0 0 v w c.requires.seat.0.1 e.only e.part)
 
 zero-plus : (n : ℕ) → 0 + n ≡ n
 zero-plus n = omega arith
@@ -43,15 +43,15 @@ plus-none n = omega arith
 -- packets are taken, cells are traced, and the packets are given back
 whole : (sh : Shape) (d f l : ℕ) (o q : Option ℕ) (v w x y : View) → OnlyTraced v w → OnlyTraced w x → OnlyTraced x y → o ≡ None → Part sh None None 0 0 0 v (events v w) → Part sh o q d f l w (events w x) → Part sh q None 0 0 0 x (events x y) → Part sh None None d f l v (events v y)
 whole sh d f l o q v w x y a b c none first main last =
-    part-then sh None None None 0 d 0 f 0 l d f l v w y a (later-join w x y b c) (zero-plus d) (zero-plus f) (zero-plus l) first
+    part-then sh None None None 0 d 0 f 0 l d f l v w y a (traced-join w x y b c) (zero-plus d) (zero-plus f) (zero-plus l) first
     (part-then sh None q None d 0 f 0 l 0 d f l w x y b c (plus-none d) (plus-none f) (plus-none l) (subst (λ z. Part sh z q d f l w (events w x)) none main) last)
 
-pub returns-clause-later : goal.returns-clause-later
-returns-clause-later c =
+pub returns-clause-only : goal.returns-clause-only
+returns-clause-only c =
     let w : View = view_of c.begin.new.seat in
     let x : View = view_of c.trace_all-traced.new.seat in
     let y : View = view_of c.finish.new.seat in
-    later-join (view_of c.args.seat.now) w y c.in-Some.ensures.later (later-join w x y c.trace_all-traced.ensures.later c.finish.ensures.later)
+    traced-join (view_of c.args.seat.now) w y c.in-Some.ensures.only (traced-join w x y c.trace_all-traced.ensures.only c.finish.ensures.only)
 
 pub returns-clause-tally : goal.returns-clause-tally
 returns-clause-tally c =
@@ -64,8 +64,8 @@ returns-clause-tally c =
     let e = c.in-Some.ensures in
     let f = c.trace_all-traced.ensures in
     let g = c.finish.ensures in
-    tally-of sh t.done t.deferred t.overflowed v y c.requires.seat.0.1 (later-join v w y e.later (later-join w x y f.later g.later))
-    (whole sh t.done t.deferred t.overflowed _ _ v w x y e.later f.later g.later (ap packet_of e.some.1) e.part f.part g.part)
+    tally-of sh t.done t.deferred t.overflowed v y c.requires.seat.0.1 (traced-join v w y e.only (traced-join w x y f.only g.only))
+    (whole sh t.done t.deferred t.overflowed _ _ v w x y e.only f.only g.only (ap packet_of e.some.1) e.part f.part g.part)
 
 pub returns-clause-deferral : goal.returns-clause-deferral
 returns-clause-deferral c =
@@ -78,8 +78,8 @@ returns-clause-deferral c =
     let e = c.in-Some.ensures in
     let f = c.trace_all-traced.ensures in
     let g = c.finish.ensures in
-    deferral-of sh t.done t.deferred t.overflowed v y c.requires.seat.0.1 (later-join v w y e.later (later-join w x y f.later g.later))
-    (whole sh t.done t.deferred t.overflowed _ _ v w x y e.later f.later g.later (ap packet_of e.some.1) e.part f.part g.part)
+    deferral-of sh t.done t.deferred t.overflowed v y c.requires.seat.0.1 (traced-join v w y e.only (traced-join w x y f.only g.only))
+    (whole sh t.done t.deferred t.overflowed _ _ v w x y e.only f.only g.only (ap packet_of e.some.1) e.part f.part g.part)
 
 -- nothing is held, and nothing is in hand
 idle-end : (sh : Shape) (v y : View) → y.shape ≡ sh → OnlyTraced v y → v.state.block ≡ None → y.state.held ≡ no_packets → work_in_hand sh.fields y.state ≡ false → IsIdle y
@@ -97,9 +97,9 @@ returns-clause-state c =
     let e = c.in-Some.ensures in
     let f = c.trace_all-traced.ensures in
     let g = c.finish.ensures in
-    let later : OnlyTraced v y = later-join v w y e.later (later-join w x y f.later g.later) in
+    let later : OnlyTraced v y = traced-join v w y e.only (traced-join w x y f.only g.only) in
     keeps-record v y later c.requires.seat.1 g.seat.1 c.requires.idle (idle-end sh v y g.seat.0.1 later c.requires.idle.block g.held g.work)
-    (traces-owe v y later (whole sh t.done t.deferred t.overflowed _ _ v w x y e.later f.later g.later (ap packet_of e.some.1) e.part f.part g.part).did.steps)
+    (traces-owe v y later (whole sh t.done t.deferred t.overflowed _ _ v w x y e.only f.only g.only (ap packet_of e.some.1) e.part f.part g.part).did.steps)
 
 pub returns-clause-stopped : goal.returns-clause-stopped
 returns-clause-stopped c =
@@ -118,7 +118,7 @@ returns-clause-stopped c =
     (λ b. inr (
       b.0,
       b.1,
-      found-end sh p None t.done t.deferred t.overflowed v w x y c.requires.seat.0.1 e.later f.later g.later e.part
+      found-end sh p None t.done t.deferred t.overflowed v w x y c.requires.seat.0.1 e.only f.only g.only e.part
           (subst (λ z. Part sh z (packet_of p.deferred) t.done t.deferred t.overflowed w (events w x)) (ap packet_of e.some.1) f.part)
           b.2
           f.packets.0
@@ -131,7 +131,7 @@ pub returns-in_default-clause-ends : goal.returns-in_default-clause-ends
 returns-in_default-clause-ends c =
     let v : View = view_of c.args.seat.now in
     let e = c.in_default.ensures in
-    all-end v (events v (view_of c.begin.new.seat)) (e.later.cells refl) e.part.did.steps
+    all-end v (events v (view_of c.begin.new.seat)) (e.only.cells refl) e.part.did.steps
 
 pub returns-clause-ends : goal.returns-clause-ends
 returns-clause-ends c =
@@ -144,5 +144,5 @@ returns-clause-ends c =
     let e = c.in-Some.ensures in
     let f = c.trace_all-traced.ensures in
     let g = c.finish.ensures in
-    let later : OnlyTraced v y = later-join v w y e.later (later-join w x y f.later g.later) in
-    all-end v (events v y) (later.cells refl) (whole sh t.done t.deferred t.overflowed _ _ v w x y e.later f.later g.later (ap packet_of e.some.1) e.part f.part g.part).did.steps
+    let later : OnlyTraced v y = traced-join v w y e.only (traced-join w x y f.only g.only) in
+    all-end v (events v y) (later.cells refl) (whole sh t.done t.deferred t.overflowed _ _ v w x y e.only f.only g.only (ap packet_of e.some.1) e.part f.part g.part).did.steps

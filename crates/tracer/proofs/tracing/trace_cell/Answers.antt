@@ -1,17 +1,18 @@
 use Rattle.std.proofs.Common.{ℕ, ◌≡◌, ◌/◌, ◌%◌, ◌+◌, arith, Option, Bool, true, false, not, cond, sym, ap, ◌∙◌, subst, refl}
 use mir.Val.{bool_byte}
 use Rattle.mark_core.specs.Bits.{has_bit}
+use Rattle.mark_core.specs.Cards.{block_cells}
 use Rattle.mark_core.specs.declared.kinds.Shape.{Shape}
 use Rattle.mark_core.specs.declared.kinds.Step.TheVariants.{ReadAlloc}
 use Rattle.gc_table.specs.Seats.{Found, view_of}
 use Rattle.gc_table.specs.Taking.{May, Finds, after}
 use Rattle.packet_pools.specs.Tracing.{Traces}
 use Rattle.packet_pools.proofs.Doing.{traces-on}
-use Rattle.packet_pools.proofs.TracedSteps.{later-join}
+use Rattle.packet_pools.proofs.TracedSteps.{traced-join}
 use Rattle.tracer.specs.Hands.{packet_of, packets_of}
 use Rattle.tracer.specs.Parts.{HasPopped, Part}
 use Rattle.tracer.proofs.Carried.{carries-same}
-use Rattle.tracer.proofs.Hand.{alloc-cleaning, later-read_alloc, may-read_alloc, published, scanned, unpublished}
+use Rattle.tracer.proofs.Hand.{alloc-cleaning, traced-read_alloc, may-read_alloc, published, scanned, unpublished}
 use Rattle.tracer.proofs.Joined.{part-then}
 use Rattle.tracer.proofs.OneStep.{part-alloc}
 use Rattle.gc_table.specs.declared.view.View.{View}
@@ -22,19 +23,19 @@ use Rattle.tracer.proofs.tracing.trace_cell.Goals as goal
 pub read_alloc-word-requires-clause-may : goal.read_alloc-word-requires-clause-may
 read_alloc-word-requires-clause-may c =
     let v : View = view_of c.args.seat.now in
-    subst (λ k. May (ReadAlloc (k / 64)) v) (sym c.number.ensures) (may-read_alloc v c.args.cell false c.requires.seat.1.may c.requires.cell.popped)
+    subst (λ k. May (ReadAlloc (k / block_cells)) v) (sym c.number.ensures) (may-read_alloc v c.args.cell false c.requires.seat.1.may c.requires.cell.popped)
 
 -- the word of the cell's block was read
 pub record WasRead (cell n : ℕ) (v w : View) : Type 0 where
-  pub view : w ≡ after (ReadAlloc (cell / 64)) n v
-  pub later : OnlyTraced v w
+  pub view : w ≡ after (ReadAlloc (cell / block_cells)) n v
+  pub only : OnlyTraced v w
   pub traces : Traces w
 
-was-read : (cell k n : ℕ) (v w : View) → HasPopped cell false v → Traces v → k ≡ cell → Found (ReadAlloc (k / 64)) n v w → WasRead cell n v w
+was-read : (cell k n : ℕ) (v w : View) → HasPopped cell false v → Traces v → k ≡ cell → Found (ReadAlloc (k / block_cells)) n v w → WasRead cell n v w
 was-read cell k n v w p t is f =
-    let e : w ≡ after (ReadAlloc (cell / 64)) n v = f.0 ∙ ap (λ x. after (ReadAlloc (x / 64)) n v) is in
-    let later : OnlyTraced v w = later-read_alloc v w cell n p e (subst (λ x. Finds (ReadAlloc (x / 64)) n v) is f.1) in
-    record { view = e; later = later; traces = traces-on v w later t (ap (λ (z : View). z.state.reserved) e) (ap (λ (z : View). z.state.credit) e) }
+    let e : w ≡ after (ReadAlloc (cell / block_cells)) n v = f.0 ∙ ap (λ x. after (ReadAlloc (x / block_cells)) n v) is in
+    let later : OnlyTraced v w = traced-read_alloc v w cell n p e (subst (λ x. Finds (ReadAlloc (x / block_cells)) n v) is f.1) in
+    record { view = e; only = later; traces = traces-on v w later t (ap (λ (z : View). z.state.reserved) e) (ap (λ (z : View). z.state.credit) e) }
 
 pub scan-scanned-requires-clause-seat : goal.scan-scanned-requires-clause-seat
 scan-scanned-requires-clause-seat c =
@@ -45,13 +46,13 @@ scan-scanned-requires-clause-packets c =
     let v : View = view_of c.args.seat.now in
     let w : View = view_of c.read_alloc-word.new.seat in
     let r = was-read c.args.cell c.number.result c.read_alloc-word.result v w c.requires.cell c.requires.seat.1 c.number.ensures c.read_alloc-word.ensures.view in
-    carries-same v w r.later.shape (packets_of c.args.packets.now) (ap (λ (z : View). z.state.held) r.view) c.requires.packets.0
+    carries-same v w r.only.shape (packets_of c.args.packets.now) (ap (λ (z : View). z.state.held) r.view) c.requires.packets.0
 
 zero-plus : (n : ℕ) → 0 + n ≡ n
 zero-plus n = omega arith
 
-bit-of : (n a b : ℕ) (d e : Bool) → a ≡ b → d ≡ has_bit n (a % 64) → d ≡ e → has_bit n (b % 64) ≡ e
-bit-of n a b d e is h t = ap (λ x. has_bit n (x % 64)) (sym is) ∙ (sym h ∙ t)
+bit-of : (n a b : ℕ) (d e : Bool) → a ≡ b → d ≡ has_bit n (a % block_cells) → d ≡ e → has_bit n (b % block_cells) ≡ e
+bit-of n a b d e is h t = ap (λ x. has_bit n (x % block_cells)) (sym is) ∙ (sym h ∙ t)
 
 pub scan-scanned-requires-clause-hand : goal.scan-scanned-requires-clause-hand
 scan-scanned-requires-clause-hand c =
@@ -69,12 +70,12 @@ scan-scanned-requires-clause-scan c =
     let r = was-read c.args.cell c.number.result n v w c.requires.cell c.requires.seat.1 c.number.ensures c.read_alloc-word.ensures.view in
     scanned v w c.args.cell n c.requires.cell r.view (bit-of n c.number-2.result c.args.cell c.has_bit.result true c.number-2.ensures c.has_bit.ensures c.if-has_bit.true)
 
-pub returns-then-has_bit-clause-later : goal.returns-then-has_bit-clause-later
-returns-then-has_bit-clause-later c =
+pub returns-then-has_bit-clause-only : goal.returns-then-has_bit-clause-only
+returns-then-has_bit-clause-only c =
     let v : View = view_of c.args.seat.now in
     let w : View = view_of c.read_alloc-word.new.seat in
     let r = was-read c.args.cell c.number.result c.read_alloc-word.result v w c.requires.cell c.requires.seat.1 c.number.ensures c.read_alloc-word.ensures.view in
-    later-join v w (view_of c.scan-scanned.new.seat) r.later c.scan-scanned.ensures.later
+    traced-join v w (view_of c.scan-scanned.new.seat) r.only c.scan-scanned.ensures.only
 
 pub returns-then-has_bit-clause-part : goal.returns-then-has_bit-clause-part
 returns-then-has_bit-clause-part c =
@@ -87,7 +88,7 @@ returns-then-has_bit-clause-part c =
     let r = was-read c.args.cell c.number.result c.read_alloc-word.result v w c.requires.cell c.requires.seat.1 c.number.ensures c.read_alloc-word.ensures.view in
     let s = c.scan-scanned.ensures in
     subst (λ q. Part sh o q 0 0 n v (events v x)) (sym (ap packet_of s.packets.1))
-    (part-then sh o o o 0 0 0 0 0 n 0 0 n v w x r.later s.later refl refl (zero-plus n) (part-alloc sh o (c.args.cell / 64) _ v w r.view) (s.part o))
+    (part-then sh o o o 0 0 0 0 0 n 0 0 n v w x r.only s.only refl refl (zero-plus n) (part-alloc sh o (c.args.cell / block_cells) _ v w r.view) (s.part o))
 
 pub defer-overflowed-requires-clause-seat : goal.defer-overflowed-requires-clause-seat
 defer-overflowed-requires-clause-seat c =
@@ -98,7 +99,7 @@ defer-overflowed-requires-clause-packets c =
     let v : View = view_of c.args.seat.now in
     let w : View = view_of c.read_alloc-word.new.seat in
     let r = was-read c.args.cell c.number.result c.read_alloc-word.result v w c.requires.cell c.requires.seat.1 c.number.ensures c.read_alloc-word.ensures.view in
-    (carries-same v w r.later.shape (packets_of c.args.packets.now) (ap (λ (z : View). z.state.held) r.view) c.requires.packets.0, c.requires.packets.1)
+    (carries-same v w r.only.shape (packets_of c.args.packets.now) (ap (λ (z : View). z.state.held) r.view) c.requires.packets.0, c.requires.packets.1)
 
 pub defer-overflowed-requires-clause-cell : goal.defer-overflowed-requires-clause-cell
 defer-overflowed-requires-clause-cell c =
@@ -108,12 +109,12 @@ defer-overflowed-requires-clause-cell c =
     let r = was-read c.args.cell c.number.result n v w c.requires.cell c.requires.seat.1 c.number.ensures c.read_alloc-word.ensures.view in
     unpublished v w c.args.cell n c.requires.cell r.view (bit-of n c.number-2.result c.args.cell c.has_bit.result false c.number-2.ensures c.has_bit.ensures c.if-has_bit.false)
 
-pub returns-clause-later : goal.returns-clause-later
-returns-clause-later c =
+pub returns-clause-only : goal.returns-clause-only
+returns-clause-only c =
     let v : View = view_of c.args.seat.now in
     let w : View = view_of c.read_alloc-word.new.seat in
     let r = was-read c.args.cell c.number.result c.read_alloc-word.result v w c.requires.cell c.requires.seat.1 c.number.ensures c.read_alloc-word.ensures.view in
-    later-join v w (view_of c.defer-overflowed.new.seat) r.later c.defer-overflowed.ensures.later
+    traced-join v w (view_of c.defer-overflowed.new.seat) r.only c.defer-overflowed.ensures.only
 
 kept-byte : (b : Bool) → cond b 0 1 ≡ bool_byte (not b)
 kept-byte true = refl
@@ -134,8 +135,8 @@ returns-clause-part c =
     let q : Option ℕ = packet_of c.defer-overflowed.new.packets.deferred in
     let r = was-read c.args.cell c.number.result c.read_alloc-word.result v w c.requires.cell c.requires.seat.1 c.number.ensures c.read_alloc-word.ensures.view in
     let p = c.defer-overflowed.ensures in
-    part-then sh o o q 0 0 0 (cond b 0 1) 0 (cond b 1 0) 0 c.from.result c.from-2.result v w x r.later p.later refl
+    part-then sh o o q 0 0 0 (cond b 0 1) 0 (cond b 1 0) 0 c.from.result c.from-2.result v w x r.only p.only refl
     (zero-plus (cond b 0 1) ∙ (kept-byte b ∙ sym c.from.ensures))
     (zero-plus (cond b 1 0) ∙ (lost-byte b ∙ sym c.from-2.ensures))
-    (part-alloc sh o (c.args.cell / 64) _ v w r.view)
+    (part-alloc sh o (c.args.cell / block_cells) _ v w r.view)
     p.part

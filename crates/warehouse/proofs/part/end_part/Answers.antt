@@ -8,7 +8,7 @@ use Rattle.warehouse.proofs.Sparings.{stays-join, stays-spared}
 use Rattle.warehouse.proofs.part.end_part.Goals as goal
 
 pub returns : goal.returns
-returns g c =
+returns c =
     let m = c.args.mutator.now in
     let u : View = view_of m.seat in
     let v : View = view_of c.retire_some.new.seat in

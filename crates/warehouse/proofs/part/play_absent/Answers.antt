@@ -1,6 +1,6 @@
 use Rattle.gc_table.specs.Seats.{view_of}
 use Rattle.warehouse.proofs.Absent.{absent-out, counted-active, counted-nothing, counts-absent}
-use Rattle.warehouse.proofs.InTheStop.{free-to-leave}
+use Rattle.gc_cycle.proofs.Stops.OutAndIn.{free-to-leave}
 use Rattle.warehouse.proofs.part.play_absent.Goals as goal
 
 pub leave-requires-clause-active : goal.leave-requires-clause-active

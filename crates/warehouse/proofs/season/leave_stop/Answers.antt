@@ -1,6 +1,6 @@
 use Rattle.gc_table.specs.Seats.{view_of}
 use Rattle.warehouse.proofs.Stopping.{leaves-stop, left-out}
-use Rattle.warehouse.proofs.InTheStop.{free-to-leave}
+use Rattle.gc_cycle.proofs.Stops.OutAndIn.{free-to-leave}
 use Rattle.std.proofs.Common.{sym, subst, ◌≡◌, true}
 use Rattle.gc_table.specs.declared.view.View.{View}
 use Rattle.mark_core.specs.Steps.WorldSteps.{has_nothing}

@@ -6,7 +6,7 @@ use Rattle.gc_table.specs.declared.view.View.{View}
 use Rattle.gc_table.proofs.Running.{ran-section}
 use Rattle.mark_core.specs.Seats.{has_turn}
 use Rattle.mark_core.specs.declared.kinds.Shape.{Shape}
-use Rattle.gc_cycle.specs.Stops.{stops_with_cause}
+use Rattle.cache_refills.specs.Stops.{stops_with_cause}
 use Rattle.gc_cycle.specs.Answering.{HasCache}
 use Rattle.warehouse.proofs.Acting.{waits-join, waits-ran}
 use Rattle.warehouse.proofs.Causes.{waits-caused}

@@ -1,6 +1,6 @@
 use Rattle.gc_table.specs.Seats.{Sits, view_of}
 use Rattle.gc_cycle.specs.Answering.{HasCache}
-use Rattle.warehouse.specs.Playing.{Stays, Waits}
+use Rattle.warehouse.specs.Playing.{Stays, DoesNothing}
 use Rattle.gc_cycle.specs.Standing.{Mutates}
 use Rattle.warehouse.proofs.turn.await_cell.Given as goal
 
@@ -13,5 +13,5 @@ invariant-loop g l = record {
   mutates : Mutates (view_of l.seat);
   cached : HasCache l.cache (view_of l.seat);
   stays : Stays (view_of l.fn.seat) (view_of l.seat);
-  waits : Waits (view_of l.fn.seat) (view_of l.seat);
+  waits : DoesNothing (view_of l.fn.seat) (view_of l.seat);
 }

@@ -1,5 +1,5 @@
-use Rattle.collector_cycles.specs.Seats.{Fills}
+use Rattle.test_heaps.specs.Seats.{IsReadyWithCache}
 use Rattle.collector_cycles.proofs.tests.objects.lengthen.Given as goal
 
 abbrev pub invariant-loop-n : goal.invariant-loop-n
-invariant-loop-n l = Fills l.heap l.seat l.cache
+invariant-loop-n l = IsReadyWithCache l.heap l.seat l.cache

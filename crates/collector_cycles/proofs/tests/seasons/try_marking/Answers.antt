@@ -1,5 +1,5 @@
 use Rattle.gc_table.specs.Seats.{view_of}
-use Rattle.gc_cycle.proofs.Kicking.{may-try}
+use Rattle.cache_refills.proofs.Kicking.{may-try}
 use Rattle.collector_cycles.proofs.tests.seasons.try_marking.Goals as goal
 
 pub store_phase-requires-clause-may : goal.store_phase-requires-clause-may

@@ -1,5 +1,5 @@
-use Rattle.collector_cycles.specs.Seats.{Carries}
+use Rattle.test_heaps.specs.Seats.{HasEachObject}
 use Rattle.collector_cycles.proofs.tests.sharing.make_chains.Given as goal
 
 abbrev pub invariant-loop-block : goal.invariant-loop-block
-invariant-loop-block l = Carries l.heap l.seat
+invariant-loop-block l = HasEachObject l.heap l.seat

@@ -2,9 +2,9 @@ use Rattle.std.proofs.Common.{ℕ, ◌≡◌, Option, None}
 use Rattle.gc_table.specs.Seats.{view_of}
 use Rattle.gc_table.specs.declared.view.View.{View}
 use Rattle.alloc_cache.specs.declared.cache.Cache.{Cache}
-use Rattle.gc_cycle.specs.Trying.{PassesTo}
-use Rattle.gc_cycle.specs.declared.trying.Pass.{Pass}
-use Rattle.gc_cycle.specs.declared.trying.Pass.TheVariants as passes
+use Rattle.cache_refills.specs.Trying.{PassesTo}
+use Rattle.cache_refills.specs.declared.trying.Pass.{Pass}
+use Rattle.cache_refills.specs.declared.trying.Pass.TheVariants as passes
 use Rattle.collector_cycles.proofs.tests.stepping.passes_point.Goals as goal
 
 -- a mutator that came without a cache has none

@@ -1,7 +1,7 @@
 use Rattle.std.proofs.Common.{◌≡◌, take, length}
-use Rattle.heap_dump.specs.Reading.{heap_of}
+use Rattle.heap_dump.specs.Reading.{heap_of_dump}
 use Rattle.dump_census.specs.Rounds.{reach_all}
 use Rattle.dump_census.proofs.search.Search.reach_variables.Given as goal
 
 abbrev pub invariant-loop-i : goal.invariant-loop-i
-invariant-loop-i l = (l.self ≡ reach_all 0 l.initial.self (take l.i (heap_of l.dump).roots)) × (length l.self.found ≡ length (heap_of l.dump).records)
+invariant-loop-i l = (l.self ≡ reach_all 0 l.initial.self (take l.i (heap_of_dump l.dump).roots)) × (length l.self.found ≡ length (heap_of_dump l.dump).records)

@@ -1,5 +1,5 @@
 use Rattle.std.proofs.Common.{sym}
-use Rattle.gc_script.specs.Said.{said}
+use Rattle.script_lines.specs.Said.{said}
 use Rattle.gc_script.specs.Kept.{context_shown}
 use Rattle.gc_script.specs.Content.{kept_shown}
 use Rattle.gc_script.proofs.Clear.{is_clear}

@@ -1,6 +1,6 @@
 use Rattle.std.proofs.Common.{◌∷◌, [], refl, subst, ◌∙◌}
 use Rattle.gc_table.specs.Seats.{view_of}
-use Rattle.managed_heap.specs.Tracing.{TakesTurn}
+use Rattle.managed_heap.specs.Tracing.{TracerTakesTurn}
 use Rattle.managed_heap.specs.declared.background.Turn.{Turn}
 use Rattle.managed_heap.proofs.background.Tracer.run.Goals as goal
 
@@ -15,7 +15,7 @@ loop-preserved g c =
     record {
       can = tt;
       ends = tt;
-      turns = (u ∷ i.turns.0, (i.turns.1, subst (λ (t : Turn). TakesTurn t u (view_of c.trace_turn.new.self.seat)) c.in-Going.is e.turn));
+      turns = (u ∷ i.turns.0, (i.turns.1, subst (λ (t : Turn). TracerTakesTurn t u (view_of c.trace_turn.new.self.seat)) c.in-Going.is e.turn));
       world = (e.world.0 ∙ i.world.0, e.world.1 ∙ i.world.1);
     }
 

@@ -1,11 +1,12 @@
 use Rattle.std.proofs.Common.{◌≡◌, ◌%◌, refl, sym, ap, ◌∙◌, Bool, true, false, not}
 use Rattle.std.proofs.lemmas.Bool.{false≢true, true≢false}
 use Rattle.mark_core.specs.Bits.{has_bit}
+use Rattle.mark_core.specs.Cards.{block_cells}
 use Rattle.gc_table.specs.Seats.{view_of}
 use Rattle.gc_table.specs.declared.view.View.{View}
 use Rattle.packet_pools.proofs.Doing.{traces-on}
 use Rattle.packet_pools.proofs.Pushed.{black, pushes-after, white}
-use Rattle.packet_pools.proofs.ScanSteps.{later-set_mark, may-set_mark}
+use Rattle.packet_pools.proofs.ScanSteps.{traced-set_mark, may-set_mark}
 use Rattle.operation_cycles.proofs.tests.packets.marks.Goals as goal
 
 from_not : (b d : Bool) → not b ≡ not d → b ≡ d
@@ -22,12 +23,12 @@ returns-then-not-set_mark-clause-seat c =
     let v : View = view_of c.args.seat.now in
     let w : View = view_of c.set_mark.new.seat in
     let e = c.set_mark.ensures.view.1 in
-    (c.set_mark.ensures.seat, traces-on v w (later-set_mark v w _ c.args.cell c.set_mark.ensures.view.2 c.requires.hand.fresh e) c.requires.seat.1 (ap (λ (z : View). z.state.reserved) e) (ap (λ (z : View). z.state.credit) e))
+    (c.set_mark.ensures.seat, traces-on v w (traced-set_mark v w _ c.args.cell c.set_mark.ensures.view.2 c.requires.hand.fresh e) c.requires.seat.1 (ap (λ (z : View). z.state.reserved) e) (ap (λ (z : View). z.state.credit) e))
 
 pub returns-then-not-set_mark-clause-pushes : goal.returns-then-not-set_mark-clause-pushes
 returns-then-not-set_mark-clause-pushes c =
     let s = c.set_mark.ensures.view in
-    let bit : has_bit s.0 (c.args.cell % 64) ≡ true = from_not _ true (sym s.3 ∙ c.if-not-set_mark.true) in
+    let bit : has_bit s.0 (c.args.cell % block_cells) ≡ true = from_not _ true (sym s.3 ∙ c.if-not-set_mark.true) in
     black (view_of c.args.seat.now) (view_of c.set_mark.new.seat) c.args.held.now c.args.cell s.0 s.1 bit c.requires.hand c.requires.held.0 c.requires.held.1
 
 pub pushes-requires-clause-seat : goal.pushes-requires-clause-seat
@@ -35,7 +36,7 @@ pushes-requires-clause-seat c =
     let v : View = view_of c.args.seat.now in
     let w : View = view_of c.set_mark.new.seat in
     let e = c.set_mark.ensures.view.1 in
-    (c.set_mark.ensures.seat, traces-on v w (later-set_mark v w _ c.args.cell c.set_mark.ensures.view.2 c.requires.hand.fresh e) c.requires.seat.1 (ap (λ (z : View). z.state.reserved) e) (ap (λ (z : View). z.state.credit) e))
+    (c.set_mark.ensures.seat, traces-on v w (traced-set_mark v w _ c.args.cell c.set_mark.ensures.view.2 c.requires.hand.fresh e) c.requires.seat.1 (ap (λ (z : View). z.state.reserved) e) (ap (λ (z : View). z.state.credit) e))
 
 pub pushes-requires-clause-hand : goal.pushes-requires-clause-hand
 pushes-requires-clause-hand c =

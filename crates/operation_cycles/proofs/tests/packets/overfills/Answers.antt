@@ -6,7 +6,7 @@ use Rattle.mark_core.specs.declared.kinds.Shape.{Shape}
 use Rattle.gc_table.specs.Seats.{view_of}
 use Rattle.gc_table.specs.declared.view.View.{View}
 use Rattle.packet_pools.proofs.Doing.{traces-on}
-use Rattle.packet_pools.proofs.ScanSteps.{later-read_root}
+use Rattle.packet_pools.proofs.ScanSteps.{traced-read_root}
 use Rattle.operation_cycles.proofs.Packets.{idle-hand, marked-work, may-read_root}
 use Rattle.operation_cycles.proofs.tests.packets.overfills.Goals as goal
 
@@ -21,14 +21,14 @@ returns-then-word-eq0-clause-seat c =
     let v : View = view_of c.args.seat.now in
     let w : View = view_of c.read_root-word.new.seat in
     let e = c.read_root-word.ensures.view in
-    (c.read_root-word.ensures.seat, traces-on v w (later-read_root v w c.read_root-word.result 1 3 e.1 e.0) c.requires.seat.1 (ap (λ (z : View). z.state.reserved) e.0) (ap (λ (z : View). z.state.credit) e.0))
+    (c.read_root-word.ensures.seat, traces-on v w (traced-read_root v w c.read_root-word.result 1 3 e.1 e.0) c.requires.seat.1 (ap (λ (z : View). z.state.reserved) e.0) (ap (λ (z : View). z.state.credit) e.0))
 
 pub marks-requires-clause-seat : goal.marks-requires-clause-seat
 marks-requires-clause-seat c =
     let v : View = view_of c.args.seat.now in
     let w : View = view_of c.read_root-word.new.seat in
     let e = c.read_root-word.ensures.view in
-    (c.read_root-word.ensures.seat, traces-on v w (later-read_root v w c.read_root-word.result 1 3 e.1 e.0) c.requires.seat.1 (ap (λ (z : View). z.state.reserved) e.0) (ap (λ (z : View). z.state.credit) e.0))
+    (c.read_root-word.ensures.seat, traces-on v w (traced-read_root v w c.read_root-word.result 1 3 e.1 e.0) c.requires.seat.1 (ap (λ (z : View). z.state.reserved) e.0) (ap (λ (z : View). z.state.credit) e.0))
 
 pub marks-requires-clause-hand : goal.marks-requires-clause-hand
 marks-requires-clause-hand c =

@@ -1,4 +1,4 @@
-use Rattle.std.proofs.Common.{ℕ, ◌≡◌, ◌≤◌, ◌+◌, ◌/◌, refl, sym, ap, ◌∙◌, subst, arith}
+use Rattle.std.proofs.Common.{ℕ, ◌≡◌, ◌≤◌, ◌+◌, refl, sym, ap, ◌∙◌, subst, arith}
 use Rattle.mark_core.specs.declared.kinds.Shape.{Shape}
 use Rattle.mark_core.specs.declared.kinds.Step.TheVariants.{DirtyCard}
 use Rattle.gc_table.specs.Seats.{view_of}
@@ -8,7 +8,7 @@ use Rattle.packet_pools.specs.Scanning.{Pushes}
 use Rattle.packet_pools.specs.declared.held.Held.{Held}
 use Rattle.packet_pools.proofs.Doing.{traces-on}
 use Rattle.packet_pools.proofs.Pushed.{dirtied, pushed}
-use Rattle.packet_pools.proofs.ScanSteps.{fresh-answers, later-dirty_card, may-dirty_card}
+use Rattle.packet_pools.proofs.ScanSteps.{fresh-answers, traced-dirty_card, may-dirty_card}
 use Rattle.mark_core.specs.Cards.{card_of}
 use Rattle.operation_cycles.proofs.tests.packets.pushes.Goals as goal
 
@@ -38,7 +38,7 @@ returns-in-Err-clause-seat c =
     let y : View = view_of c.dirty_card.new.seat in
     let e = c.dirty_card.ensures.view in
     let fresh = ap (λ (z : View). z.state.fresh) c.in-Err.ensures.full.2 ∙ c.requires.hand.fresh in
-    (c.dirty_card.ensures.seat, traces-on x y (later-dirty_card x y _ c.card_of.result refl (fresh-answers x.state c.args.cell c.card_of.result fresh (sym c.card_of.ensures)) e) c.in-Err.ensures.seat.1 (ap (λ (z : View). z.state.reserved) e) (ap (λ (z : View). z.state.credit) e))
+    (c.dirty_card.ensures.seat, traces-on x y (traced-dirty_card x y _ c.card_of.result refl (fresh-answers x.state c.args.cell c.card_of.result fresh (sym c.card_of.ensures)) e) c.in-Err.ensures.seat.1 (ap (λ (z : View). z.state.reserved) e) (ap (λ (z : View). z.state.credit) e))
 
 pub returns-in-Err-clause-pushes : goal.returns-in-Err-clause-pushes
 returns-in-Err-clause-pushes c =

@@ -1,10 +1,11 @@
-use Rattle.std.proofs.Common.{ℕ, ◌≡◌, List, [], ◌∷◌, None, false, ap, ◌∙◌}
+use Rattle.std.proofs.Common.{ℕ, ◌≡◌, List, None, false, ap, ◌∙◌}
 use Rattle.mark_core.specs.Seats.{work_in_hand}
 use Rattle.mark_core.specs.declared.seat.SeatState.{SeatState}
 use Rattle.gc_table.specs.Seats.{view_of}
 use Rattle.gc_table.specs.declared.view.View.{View}
 use Rattle.packet_pools.specs.Gains.{Takes}
 use Rattle.packet_pools.specs.OnlyTraced.{OnlyTraced}
+use Rattle.packet_pools.specs.Seeking.{input_pools}
 use Rattle.packet_pools.specs.declared.held.Held.{Held}
 use Rattle.tracer.proofs.Hand.{was-popped}
 use Rattle.operation_cycles.proofs.tests.scanning.scans_popped.Goals as goal
@@ -19,5 +20,5 @@ begins_scan-requires-clause-cell g c =
     let e = c.in_ok-held.ensures in
     let p = c.in-Some.ensures.popped.2 in
     let h : Held = c.in_ok-held.held in
-    let t = taken (view_of c.args.seat.now) w (2 ∷ 1 ∷ []) h e.later e.some.0 c.requires.1.idle c.if-not-is_idle.ensures.block in
+    let t = taken (view_of c.args.seat.now) w input_pools h e.only e.some.0 c.requires.1.idle c.if-not-is_idle.ensures.block in
     was-popped w (view_of c.pop.new.seat) h.packet c.in-Some.cell _ t.0 t.1 p.3 p.1

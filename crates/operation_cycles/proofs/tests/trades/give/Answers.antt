@@ -1,7 +1,4 @@
-use Rattle.std.proofs.Common.{refl, ap, sym, ◌∙◌, Bool, true, false, ◌&&◌}
-use Rattle.std.proofs.lemmas.Bool.{OnTrue_from, OnFalse_from}
-use Rattle.mark_core.specs.Start.{start_seat}
-use Rattle.mark_core.specs.declared.kinds.Phase.TheVariants.{Marking}
+use Rattle.std.proofs.Common.{refl, ap, Bool, true, false, ◌&&◌}
 use Rattle.mark_core.specs.declared.kinds.Step.TheVariants.{Give}
 use Rattle.gc_table.specs.SeatRecords.{measured}
 use Rattle.gc_table.proofs.RecordSteps.{may-by, state-after, first-packet}

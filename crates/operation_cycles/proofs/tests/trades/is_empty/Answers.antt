@@ -1,10 +1,7 @@
-use Rattle.std.proofs.Common.{refl, ap, sym, ◌∙◌, Bool, true, false, ◌&&◌}
-use Rattle.std.proofs.lemmas.Bool.{OnTrue_from, OnFalse_from}
-use Rattle.mark_core.specs.Start.{start_seat}
-use Rattle.mark_core.specs.declared.kinds.Phase.TheVariants.{Marking}
+use Rattle.std.proofs.Common.{refl, ap, Bool, true, ◌&&◌}
 use Rattle.mark_core.specs.declared.kinds.Step.TheVariants.{ReadLength}
 use Rattle.gc_table.specs.SeatRecords.{holding}
-use Rattle.gc_table.proofs.RecordSteps.{may-by, state-after, first-packet}
+use Rattle.gc_table.proofs.RecordSteps.{may-by, first-packet}
 use Rattle.operation_cycles.proofs.tests.trades.is_empty.Goals as goal
 
 pub read_length-requires-clause-may : goal.read_length-requires-clause-may

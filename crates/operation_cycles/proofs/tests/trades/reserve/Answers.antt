@@ -1,10 +1,7 @@
-use Rattle.std.proofs.Common.{refl, ap, sym, ◌∙◌, Bool, true, false, ◌&&◌}
-use Rattle.std.proofs.lemmas.Bool.{OnTrue_from, OnFalse_from}
-use Rattle.mark_core.specs.Start.{start_seat}
-use Rattle.mark_core.specs.declared.kinds.Phase.TheVariants.{Marking}
+use Rattle.std.proofs.Common.{refl}
 use Rattle.mark_core.specs.declared.kinds.Step.TheVariants.{Reserve}
 use Rattle.gc_table.specs.SeatRecords.{inside}
-use Rattle.gc_table.proofs.RecordSteps.{may-by, state-after, first-packet}
+use Rattle.gc_table.proofs.RecordSteps.{may-by, state-after}
 use Rattle.operation_cycles.proofs.tests.trades.reserve.Goals as goal
 
 pub reserve-requires-clause-may : goal.reserve-requires-clause-may

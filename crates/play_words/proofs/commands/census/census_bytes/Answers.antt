@@ -1,4 +1,4 @@
-use Rattle.heap_dump.specs.Reading.{heap_of}
+use Rattle.heap_dump.specs.Reading.{heap_of_dump}
 use Rattle.play_words.specs.Counting.{IsCensusAnswer, IsCensusText, IsCountOf}
 use Rattle.play_words.proofs.Ends.{text_ends, other_ends}
 use Rattle.play_words.proofs.ReadDumps.{count_answer, read_fault}
@@ -10,5 +10,5 @@ returns-in-Err g c =
 
 pub returns-in-Ok : goal.returns-in-Ok
 returns-in-Ok g c =
-    other_ends (IsCountOf (heap_of c.in-Ok.dump)) (IsCensusAnswer c.args.bytes.now) _ _ _ _ _
+    other_ends (IsCountOf (heap_of_dump c.in-Ok.dump)) (IsCensusAnswer c.args.bytes.now) _ _ _ _ _
     (count_answer c.args.bytes.now c.in-Ok.dump c.in-Ok.ensures.exact c.in-Ok.ensures.found.0) c.count_records.ensures

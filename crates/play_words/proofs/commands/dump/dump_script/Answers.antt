@@ -1,5 +1,5 @@
 use Rattle.std.proofs.Common.{inr}
-use Rattle.play_words.specs.Dumping.{EndsIn, IsEndAnswer}
+use Rattle.play_words.specs.Dumping.{EndsDoneOrFull, IsEndAnswer}
 use Rattle.play_words.specs.Ending.{IsStopAnswer}
 use Rattle.command_words.specs.Commands.{options_of}
 use Rattle.play_words.proofs.Ends.{other_ends}
@@ -14,10 +14,10 @@ write_end-requires g c =
 
 pub returns-in-Ok : goal.returns-in-Ok
 returns-in-Ok g c =
-    other_ends (IsEndAnswer c.args.script.now) (EndsIn (options_of c.args.options.now) c.args.script.now) _ _ _ _ _
+    other_ends (IsEndAnswer c.args.script.now) (EndsDoneOrFull (options_of c.args.options.now) c.args.script.now) _ _ _ _ _
     (dump_answer (options_of c.args.options.now) c.args.script.now) c.write_end.ensures
 
 pub returns-in-Err : goal.returns-in-Err
 returns-in-Err g c =
-    other_ends (IsStopAnswer c.in-Err.error) (EndsIn (options_of c.args.options.now) c.args.script.now) _ _ _ _ _
+    other_ends (IsStopAnswer c.in-Err.error) (EndsDoneOrFull (options_of c.args.options.now) c.args.script.now) _ _ _ _ _
     (λ status text a. inr (stopped c.args.script.now.sections c.args.options.now.cells c.in-Err.error c.in-Err.ensures.answers status text a)) c.tell_stop.ensures

@@ -1,6 +1,6 @@
 use Rattle.gc_script.specs.Script.{script}
 use Rattle.gc_script.specs.Shown.{fault_of}
-use Rattle.play_words.specs.RunAnswers.{IsRunAnswer, RunsTo}
+use Rattle.play_words.specs.RunAnswers.{IsRunAnswer, RunAnswersTo}
 use Rattle.command_words.specs.Commands.{options_of}
 use Rattle.play_words.specs.Ending.{IsFaultAnswer}
 use Rattle.play_words.proofs.Ends.{other_ends, read_ends}
@@ -13,4 +13,4 @@ returns-in-Err g c =
     (run_fault (options_of c.args.options.now) (fault_of c.in-Err.fault) (script c.args.bytes.now) c.in-Err.ensures.answers) c.tell_fault.ensures
 
 pub returns-in-Ok : goal.returns-in-Ok
-returns-in-Ok g c = read_ends (RunsTo (options_of c.args.options.now)) (script c.args.bytes.now) c.in-Ok.script _ _ _ _ _ c.in-Ok.ensures.answers c.play_script.ensures
+returns-in-Ok g c = read_ends (RunAnswersTo (options_of c.args.options.now)) (script c.args.bytes.now) c.in-Ok.script _ _ _ _ _ c.in-Ok.ensures.answers c.play_script.ensures

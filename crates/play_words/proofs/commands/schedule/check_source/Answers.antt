@@ -1,4 +1,4 @@
-use Rattle.schedule_check.specs.Telling.{IsAnswer as IsScheduleAnswer}
+use Rattle.schedule_check.specs.Telling.{IsScheduleAnswer}
 use Rattle.play_words.proofs.Taking.{source_ends, source_spent, schedule_of_whole}
 use Rattle.play_words.proofs.commands.schedule.check_source.Goals as goal
 

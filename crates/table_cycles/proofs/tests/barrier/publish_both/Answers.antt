@@ -1,7 +1,6 @@
 use Rattle.std.proofs.Common.{ap, ◌∙◌}
-use Rattle.plain_heap.specs.PlainHeap.{variable}
+use Rattle.plain_heap.specs.PlainHeap.{variable, is_own}
 use Rattle.gc_table.specs.declared.view.SectionState.{SectionState}
-use Rattle.table_cycles.specs.Owned.{is_own}
 use Rattle.table_cycles.proofs.tests.barrier.publish_both.Goals as goal
 
 pub returns : goal.returns

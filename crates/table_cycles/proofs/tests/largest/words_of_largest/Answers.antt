@@ -1,4 +1,4 @@
-use Rattle.std.proofs.Common.{ap, ◌∙◌}
+use Rattle.std.proofs.Common.{ap}
 use Rattle.mark_core.specs.Seats.{is_bare}
 use Rattle.mark_core.specs.declared.seat.SeatState.{SeatState}
 use Rattle.table_cycles.proofs.tests.largest.words_of_largest.Goals as goal

@@ -1,0 +1,6 @@
+mod Rows
+pub mod Kicking
+pub mod Positions
+pub mod Causes
+pub mod Refills
+pub mod Stops

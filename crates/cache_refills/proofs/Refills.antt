@@ -1,0 +1,12 @@
+-- A mutator on its way to a cache: what it claims, pays and answers.
+pub mod RoundNumbers
+pub mod Payment
+pub mod PaidFor
+pub mod Paced
+pub mod Rounds
+pub mod Claimed
+pub mod RoundsSoFar
+pub mod Refilled
+pub mod Filling
+pub mod Passed
+pub mod Leaves

@@ -1,0 +1,286 @@
+-- A mutator's answer, once it has claimed a block and looked at the phase: it paid while a cycle was marking, and owed nothing where none was.
+use Rattle.std.proofs.Common.{ℕ, ◌≡◌, List, [], ◌∷◌, ◌++◌, ◌+◌, arith, refl, sym, ap, ◌∙◌, subst, Bool, true, false, not, ◌&&◌, ◌||◌, Some, None, Option, ⊎_elim, ◌⊎◌, eqb-true}
+use Rattle.std.specs.Prelude.{◌==◌, if◌then◌else◌, is_some, unwrap_or}
+use Rattle.std.specs.Int.Count.{ones}
+use Rattle.std.proofs.lemmas.Bool.{and_parts, false≢true, not-true, or_cases, or_left, or_right}
+use Rattle.std.proofs.lemmas.List.{append_assoc}
+use Rattle.mark_core.specs.Cells.{or_else}
+use Rattle.mark_core.specs.Steps.MutatorSteps.{used_bits}
+use Rattle.mark_core.specs.Places.{the_phase}
+use Rattle.mark_core.specs.Seats.{phase_of, saw}
+use Rattle.mark_core.specs.declared.kinds.Phase.{Phase}
+use Rattle.mark_core.specs.declared.kinds.Phase.TheVariants.{Full, Idle, Marking}
+use Rattle.mark_core.specs.declared.kinds.Shape.{Shape}
+use Rattle.mark_core.specs.declared.kinds.Step.{Step}
+use Rattle.mark_core.specs.declared.kinds.Step.TheVariants.{AddStat, ClaimBlock, DropStep, NextSeason, RaiseStep, ReadCat, ReadFree, ReadOwn, ReadPhase, ReadSeason, ReadStat, StoreField, StoreNew, StorePhase, StorePosition, StoreRoot, StoreValue}
+use Rattle.mark_core.specs.declared.seat.SeatState.{SeatState}
+use Rattle.gc_table.specs.Log.{all_steps, event, events, Only, steps_of}
+use Rattle.gc_table.specs.PlainSteps.{own_section}
+use Rattle.gc_table.specs.Rule.{KnowsFull}
+use Rattle.gc_table.specs.Running.{Known, Ran}
+use Rattle.gc_table.specs.Seats.{Found, Stored}
+use Rattle.gc_table.specs.Taking.{Finds}
+use Rattle.gc_table.specs.declared.view.Entry.{Entry}
+use Rattle.gc_table.specs.declared.view.View.{View}
+use Rattle.gc_table.proofs.History.Log.{events-after, only-after, only-more}
+use Rattle.gc_table.proofs.Noticing.{found-noted}
+use Rattle.gc_table.proofs.Running.{ran-events, ran-found, ran-join, ran-only, ran-section, ran-shape}
+use Rattle.packet_pools.specs.Counts.{count_of}
+use Rattle.packet_pools.specs.Fields.{picked}
+use Rattle.packet_pools.specs.Seeking.{some_event}
+use Rattle.packet_pools.proofs.Searches.{some-right}
+use Rattle.tracer.specs.declared.traced.Stopped.{Stopped}
+use Rattle.tracer.specs.declared.traced.Stopped.TheVariants.{Quota, NoWork, NoPacket}
+use Rattle.alloc_cache.specs.Caching.{IsCached}
+use Rattle.mark_core.specs.Numbers.{done_count, free_count, last_count, rescanned_count, traced_count}
+use Rattle.alloc_cache.specs.Claiming.{claimed_by}
+use Rattle.alloc_cache.specs.Retiring.{retiring_steps}
+use Rattle.alloc_cache.specs.declared.cache.Cache.{Cache}
+use Rattle.cache_refills.specs.Getting.{GetsCache}
+use Rattle.gc_cycle.specs.Answering.{answers, EndsFull, GoesOn, last_phase, later_or, phase_read}
+use Rattle.gc_cycle.specs.declared.counts.Paid.{Paid}
+use Rattle.gc_cycle.specs.Events.{before_last, never, Sort}
+use Rattle.gc_cycle.specs.Moments.{at_some_moment, begins, finds_no_packet, finds_no_room, finds_no_work}
+use Rattle.gc_cycle.specs.Mutating.{stays_calm}
+use Rattle.cache_refills.specs.Pace.Pacing.{last_read, quota_by, quota_seen, was_not_due}
+use Rattle.cache_refills.specs.Pace.Paying.{claimed_in_stop, IsFree, Pays, PaysInIdle, PaysInMarking, roots_are_read, since_claim, StopsAs}
+use Rattle.cache_refills.specs.Pace.Paying.Pays.{in_idle, in_marking}
+use Rattle.cache_refills.specs.Pace.Payment.{HasPaid, pays_cells}
+use Rattle.gc_cycle.specs.Polling.{saw_full}
+use Rattle.cache_refills.specs.Refilling.{HasClaimed}
+use Rattle.gc_cycle.specs.Roots.{roots_scanned}
+use Rattle.gc_cycle.specs.Sorts.{claims, lowers_free, pops, raises_flag, raises_traced, reads_phase, resumes}
+use Rattle.gc_cycle.specs.Standing.{Mutates}
+use Rattle.gc_cycle.proofs.Refills.Answered.{cached-still, ends-full}
+use Rattle.gc_cycle.proofs.Refills.KnownFull.{goes-on, mutates-still, phase-seen}
+use Rattle.cache_refills.proofs.Refills.Paced.{active-read}
+use Rattle.gc_cycle.proofs.Picked.{picked-none}
+use Rattle.cache_refills.proofs.Refills.PaidFor.{pays-unclaimed}
+use Rattle.gc_cycle.proofs.Longer.{later-moment, packet-widens, roots-right}
+use Rattle.cache_refills.proofs.Positions.{pays-inside, stays_inside, stored-more}
+use Rattle.gc_cycle.proofs.Refills.Retired.{retired-mutates, retired-only}
+use Rattle.gc_cycle.proofs.Searched.{both-widen, room-widens, work-widens}
+use Rattle.gc_cycle.proofs.Sequences.{none-of-steps, since-this, some-none}
+use Rattle.gc_cycle.proofs.TracingSpares.{Spares, untaken}
+
+-- what a payment doesn't do
+
+pays-calm : (step : Step) → pays_cells step ≡ true → stays_calm step ≡ true
+pays-calm (AddStat which by down) e = ap (λ n. not (n == done_count)) (eqb-true which traced_count (and_parts (which == traced_count) (not down) e).0)
+pays-calm (ClaimBlock b) e = absurd (false≢true e)
+pays-calm RaiseStep e = absurd (false≢true e)
+pays-calm (StorePhase to) e = absurd (false≢true e)
+pays-calm (ReadOwn c i) e = absurd (false≢true e)
+pays-calm (ReadCat v) e = absurd (false≢true e)
+pays-calm (StoreField v i w) e = absurd (false≢true e)
+pays-calm (StoreValue v n) e = absurd (false≢true e)
+pays-calm (StoreRoot v r) e = absurd (false≢true e)
+pays-calm (StoreNew c part word) e = absurd (false≢true e)
+pays-calm ReadSeason e = absurd (false≢true e)
+pays-calm NextSeason e = absurd (false≢true e)
+pays-calm (ReadStat which) e = e
+pays-calm step e = refl
+
+pays-unresumed : Spares pays_cells resumes
+pays-unresumed DropStep n e = absurd (false≢true e)
+pays-unresumed step n e = refl
+
+pays-unlooked : Spares pays_cells (reads_phase Full)
+pays-unlooked ReadPhase n e = absurd (false≢true e)
+pays-unlooked step n e = refl
+
+phase-unread : (step : Step) (n : ℕ) → pays_cells step ≡ true → phase_read step n ≡ None
+phase-unread ReadPhase n e = absurd (false≢true e)
+phase-unread step n e = refl
+
+pays-unlowered : (step : Step) (n : ℕ) → pays_cells step ≡ true → lowers_free step n ≡ []
+pays-unlowered (AddStat which by true) n e = absurd (false≢true (and_parts (which == traced_count) false e).1)
+pays-unlowered (AddStat which by false) n e = neither (which == free_count)
+  where
+    neither : (b : Bool) → (if b && false then by ∷ [] else []) ≡ []
+    neither true = refl
+    neither false = refl
+pays-unlowered step n e = refl
+
+none-looked : (es : List Entry) → all_steps pays_cells es ≡ true → last_phase es ≡ None
+none-looked [] o = refl
+none-looked (e ∷ es) o = let p = and_parts (pays_cells e.step) (all_steps pays_cells es) o in λ i. later_or (none-looked es p.1 i) (phase-unread e.step e.found p.0 i)
+
+-- the phase as read last is that which was read before the payment
+looked-before : (xs ys : List Entry) → all_steps pays_cells ys ≡ true → last_phase (xs ++ ys) ≡ last_phase xs
+looked-before [] ys o = none-looked ys o
+looked-before (x ∷ xs) ys o = ap (λ q. later_or q (phase_read x.step x.found)) (looked-before xs ys o)
+
+-- before the last event like f
+before-this : (f : Sort) (xs : List Entry) (e : Entry) (ys : List Entry) → f e.step e.found ≡ true → some_event f ys ≡ false → before_last f (xs ++ (e ∷ ys)) ≡ xs
+before-this f [] e ys here none = ap (λ (b : Bool). if b then e ∷ before_last f ys else []) none
+before-this f (x ∷ xs) e ys here none =
+    ap (λ (b : Bool). if b then x ∷ before_last f (xs ++ (e ∷ ys)) else []) (some-right f xs (e ∷ ys) (or_left _ _ here)) ∙ ap (λ es. x ∷ es) (before-this f xs e ys here none)
+
+-- why it stopped to trace is so after whatever was done before
+stops-after : (s : Stopped) (quota done : ℕ) (u v w : View) → Ran u v → Ran v w → StopsAs s v.shape quota done (begins v) (events v w) → StopsAs s u.shape quota done (begins u) (events u w)
+stops-after Quota quota done u v w r q h = h
+stops-after NoWork quota done u v w r q h = (
+  h.0,
+  later-moment (λ m later. roots_are_read later && finds_no_work u.shape m later) (both-widen roots_are_read (finds_no_work u.shape) (work-widens u.shape)) u v w r q
+      (subst (λ (sh : Shape). at_some_moment v.shape (λ m later. roots_are_read later && finds_no_work sh m later) (begins v) (events v w) ≡ true) (ran-shape u v r) h.1),
+)
+stops-after NoPacket quota done u v w r q h = (
+  h.0,
+  later-moment (λ m later. roots_are_read later && finds_no_room u.shape m later) (both-widen roots_are_read (finds_no_room u.shape) (room-widens u.shape)) u v w r q
+      (subst (λ (sh : Shape). at_some_moment v.shape (λ m later. roots_are_read later && finds_no_room sh m later) (begins v) (events v w) ≡ true) (ran-shape u v r) h.1),
+)
+
+-- an event that reads no number leaves that which was read last
+or-none : (o : Option ℕ) → or_else o None ≡ o
+or-none None = refl
+or-none (Some n) = refl
+
+-- it claimed this block by the call from u to v, read the phase as n, and paid by the call from w to x
+module _ (h : Cache) (done : ℕ) (u v w x : View) (n : ℕ) (k : HasClaimed h done u v) (f : Found ReadPhase n v w) (r : Ran w x) (o : Only pays_cells w x) where
+  looked : Ran v w
+  looked = ran-found v w ReadPhase n refl f
+
+  before : Ran u w
+  before = ran-join u v w k.ran looked
+
+  later : Ran v x
+  later = ran-join v w x looked r
+
+  -- from the claim of the block to the payment
+  abbrev first : List Entry
+  first = record { step = ReadFree; found = k.claimed.word; won = true } ∷ record { step = AddStat free_count (ones h.cells) true; found = k.claimed.count; won = true } ∷ event ReadPhase n ∷ []
+
+  whole : events u x ≡ k.first ++ (record { step = ClaimBlock h.block; found = 0; won = true } ∷ (first ++ events w x))
+  whole =
+      ran-events u v x k.ran later
+      ∙ ((λ i. k.claimed.all i ++ (ran-events v w x looked r ∙ ap (λ es. es ++ events w x) (events-after v w ReadPhase n f.0)) i)
+      ∙ append_assoc k.first (claimed_by h k.claimed.word k.claimed.count) (event ReadPhase n ∷ events w x))
+
+  unclaimed : some_event claims (first ++ events w x) ≡ false
+  unclaimed = not-true _ (untaken pays_cells claims pays-unclaimed (events w x) o)
+
+  since : since_claim (events u x) ≡ first ++ events w x
+  since = ap since_claim whole ∙ since-this claims k.first (record { step = ClaimBlock h.block; found = 0; won = true }) (first ++ events w x) refl unclaimed
+
+  ahead : before_last claims (events u x) ≡ k.first
+  ahead = ap (before_last claims) whole ∙ before-this claims k.first (record { step = ClaimBlock h.block; found = 0; won = true }) (first ++ events w x) refl unclaimed
+
+  outside : claimed_in_stop (events u x) ≡ false
+  outside = ap (some_event resumes) since ∙ none-of-steps pays_cells resumes pays-unresumed (events w x) o
+
+  goes : Mutates v → Mutates x → x.state.phase_seen ≡ w.state.phase_seen → saw (Some (phase_of n)) Full ≡ false → GoesOn u x
+  goes m now seen low =
+      let g : GoesOn u w = goes-on u v w n k.ran k.tells f m low in
+      let es : events u x ≡ events u w ++ events w x = ran-events u w x before r in
+      let last : last_phase (events u x) ≡ last_phase (events u w) = ap last_phase es ∙ looked-before (events u w) (events w x) o in
+      record {
+        mutates = now;
+        read = ap (λ p. is_some p) last ∙ g.read;
+        seen = seen ∙ (g.seen ∙ sym last);
+        going = ap saw_full es ∙ some-none (reads_phase Full) (events u w) (events w x) g.going (none-of-steps pays_cells (reads_phase Full) pays-unlooked (events w x) o);
+      }
+
+  inside : Only stays_inside v x
+  inside = ran-only stays_inside v w x looked r (only-after stays_inside v w ReadPhase n refl f.0) (only-more pays_cells stays_inside pays-inside w x o)
+
+  told : picked lowers_free (since_claim (events u x)) ≡ ones h.cells ∷ []
+  told = ap (picked lowers_free) since ∙ ap (λ l. ones h.cells ∷ l) (picked-none pays_cells lowers_free pays-unlowered (events w x) o)
+
+  gets-cache : (p : Paid) → Mutates v → IsCached h v → Mutates x → x.state.cache ≡ w.state.cache → x.state.phase_seen ≡ w.state.phase_seen → saw (Some (phase_of n)) Full ≡ false → Pays u.shape (own_section u.state) (ones h.cells) p (begins u) (events u x) → GetsCache h p done u x
+  gets-cache p m cached now kept seen low pays =
+      record {
+        goes_on = goes m now seen low;
+        cached = cached-still (Some h) v x (kept ∙ ap (λ (z : View). z.state.cache) f.0) cached;
+        position = stored-more done u v x k.ran later inside k.position;
+        free = k.claimed.free;
+        told = told;
+        pays = pays;
+      }
+
+  section : own_section w.state ≡ own_section u.state
+  section = ap (λ (s : Option ℕ). unwrap_or s 0) (ran-section u w before)
+
+  read-after : (which : ℕ) → last_read which (first ++ events w x) ≡ last_read which (events w x)
+  read-after which = or-none (or_else (or_else (last_read which (events w x)) None) None) ∙ (or-none (or_else (last_read which (events w x)) None) ∙ or-none (last_read which (events w x)))
+
+  -- while a cycle was marking
+  pays-marking : (p : Paid) → HasPaid (ones h.cells) p w x → phase_of n ≡ Marking → PaysInMarking u.shape (own_section u.state) (ones h.cells) p (begins u) (events u x)
+  pays-marking p q e =
+      record {
+        outside = outside;
+        read = ap (some_event (reads_phase Marking)) since ∙ or_left (saw (Some (phase_of n)) Marking) _ (ap (λ z. saw (Some z) Marking) e);
+        roots =
+            ⊎_elim
+            (λ (a : roots_scanned (own_section w.state) (events w x) ≡ true).
+            or_left (roots_scanned (own_section u.state) (since_claim (events u x))) _
+            (ap (roots_scanned (own_section u.state)) since ∙ roots-right (own_section u.state) first (events w x) (subst (λ s. roots_scanned s (events w x) ≡ true) section a)))
+            (λ (b : at_some_moment w.shape (λ m later. never claims later && finds_no_packet w.shape m later) (begins w) (events w x) ≡ true).
+            or_right (roots_scanned (own_section u.state) (since_claim (events u x))) _
+            (later-moment (λ m later. never claims later && finds_no_packet u.shape m later) (both-widen (never claims) (finds_no_packet u.shape) (packet-widens u.shape)) u w x before r
+            (subst (λ (sh : Shape). at_some_moment w.shape (λ m later. never claims later && finds_no_packet sh m later) (begins w) (events w x) ≡ true) (ran-shape u w before) b)))
+            (or_cases (roots_scanned (own_section w.state) (events w x)) _ q.roots);
+        quota = ap (quota_seen (ones h.cells)) since ∙ ((λ i. quota_by (ones h.cells) (read-after last_count i) (read-after rescanned_count i) (read-after traced_count i) (read-after free_count i)) ∙ q.quota);
+        done = let s : count_of pops (since_claim (events u x)) ≡ 0 + (0 + (0 + count_of pops (events w x))) = ap (count_of pops) since in let d = q.done in omega (arith, s, d);
+        stopped = stops-after p.stopped p.quota p.done u w x before r q.stopped;
+        told = ap (picked raises_traced) since ∙ q.told;
+      }
+
+  -- while none was
+  pays-idle : (p : Paid) → IsFree p → n ≡ 0 → events w x ≡ [] → PaysInIdle p (events u x)
+  pays-idle p free e none =
+      record {
+        outside = outside;
+        read = ap (some_event (reads_phase Idle)) since ∙ or_left (saw (Some (phase_of n)) Idle) _ (ap (λ m. saw (Some (phase_of m)) Idle) e);
+        unmarked = ap (never (reads_phase Marking)) alone ∙ ap (λ m. not (saw (Some (phase_of m)) Marking || false)) e;
+        untold = ap (picked raises_traced) alone;
+        free = free;
+        cause = or_left (was_not_due (before_last claims (events u x))) (some_event raises_flag (events u x)) (ap was_not_due ahead ∙ due);
+      }
+    where
+      alone : since_claim (events u x) ≡ first
+      alone = since ∙ ap (λ es. first ++ es) none
+
+      other : (m : ℕ) → Known v the_phase (1 + m) → ⊥
+      other m t = let is : n ≡ 1 + m = found-noted v ReadPhase n (1 + m) the_phase f.1 refl t.0 in absurd (omega (arith, is, e))
+
+      due : was_not_due k.first ≡ true
+      due =
+          ⊎_elim
+          (λ (a : was_not_due k.first ≡ true). a)
+          (λ c. absurd (⊎_elim (λ (a : Known v the_phase 1). other 0 a) (λ (b : Known v the_phase 5). other 4 b) c))
+          k.paced
+
+  pub gets-paid : (p : Paid) → Mutates v → IsCached h v → HasPaid (ones h.cells) p w x → phase_of n ≡ Marking → GetsCache h p done u x
+  gets-paid p m cached q e = gets-cache p m cached q.mutates q.cache q.seen (ap (λ z. saw (Some z) Full) e) (in_marking (pays-marking p q e))
+
+  pub gets-free : (p : Paid) → Mutates v → IsCached h v → IsFree p → n ≡ 0 → events w x ≡ [] → Mutates x → x.state.cache ≡ w.state.cache → x.state.phase_seen ≡ w.state.phase_seen → GetsCache h p done u x
+  gets-free p m cached free e none now kept seen = gets-cache p m cached now kept seen (ap (λ i. saw (Some (phase_of i)) Full) e) (in_idle (pays-idle p free e none))
+
+-- it looked at the phase, and paid
+pub looked-ran : (v w x : View) (n : ℕ) → Found ReadPhase n v w → Ran w x → Ran v x
+looked-ran v w x n f r = ran-join v w x (ran-found v w ReadPhase n refl f) r
+
+pub looked-calm : (v w x : View) (n : ℕ) → Found ReadPhase n v w → Ran w x → Only pays_cells w x → Only stays_calm v x
+looked-calm v w x n f r o = ran-only stays_calm v w x (ran-found v w ReadPhase n refl f) r (only-after stays_calm v w ReadPhase n refl f.0) (only-more pays_cells stays_calm pays-calm w x o)
+
+-- an active mutator that reads the phase neither as Marking nor as Full reads it as Idle
+pub read-idle : (v : View) (n : ℕ) (p : Phase) → Finds ReadPhase n v → v.state.active ≡ true → p ≡ phase_of n → (p ≡ Marking → ⊥) → (p ≡ Full → ⊥) → n ≡ 0
+read-idle v n p f a is unmarking unfull =
+    ⊎_elim
+    (λ (z : n ≡ 0). z)
+    (λ (y : (n ≡ 1) ⊎ (n ≡ 5)). absurd (⊎_elim (λ (z : n ≡ 1). unmarking (is ∙ ap phase_of z)) (λ (z : n ≡ 5). unfull (is ∙ ap phase_of z)) y))
+    (active-read v n f a)
+
+-- where the heap is full by then, the cache is given up
+pub gives-up : (v w x y : View) (h : Cache) (done n : ℕ) → Mutates v → Found ReadPhase n v w → phase_of n ≡ Full → Ran w x → x.state ≡ record w.state { cache = None } → steps_of (events w x) ≡ retiring_steps h (used_bits w.state.cache) → Stored (StorePosition done) x y → Ran v y × Only answers v y × EndsFull done v y × KnowsFull y
+gives-up v w x y h done n m f e r none steps stored =
+    ends-full v w x y done (n, f)
+    (ap saw_full (events-after v w ReadPhase n f.0) ∙ ap (λ z. saw (Some z) Full || false) e)
+    (phase-seen v w n f m ∙ ap (λ z. Some z) e)
+    r
+    (retired-only w x h (used_bits w.state.cache) steps)
+    (retired-mutates w x (mutates-still v w n f m) r none)
+    (ap (λ (s : SeatState). s.cache) none)
+    (ap (λ (s : SeatState). s.phase_seen) none)
+    stored

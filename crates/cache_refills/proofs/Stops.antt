@@ -1,0 +1,5 @@
+-- A stop: how it is asked for, waited for, opened to helpers and left.
+pub mod StopsAgain
+pub mod InStops
+pub mod InStop
+pub mod AfterStop

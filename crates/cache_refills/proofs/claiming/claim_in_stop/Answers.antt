@@ -1,0 +1,105 @@
+use Rattle.std.proofs.Common.{refl, sym, ap, ◌∙◌, subst, Some, inr, []}
+use Rattle.mark_core.specs.declared.kinds.Shape.{Shape}
+use Rattle.mark_core.specs.declared.seat.SeatState.{SeatState}
+use Rattle.gc_table.specs.Log.{events}
+use Rattle.gc_table.specs.Seats.{view_of}
+use Rattle.gc_table.specs.declared.view.View.{View}
+use Rattle.gc_table.proofs.Running.{ran-events}
+use Rattle.cache_refills.specs.Refilling.{HasMissed}
+use Rattle.cache_refills.proofs.Stops.StopsAgain.{none-later}
+use Rattle.gc_cycle.specs.Moments.{begins}
+use Rattle.gc_cycle.proofs.Refills.Collected.{exactly-collects, full-alone}
+use Rattle.cache_refills.proofs.Stops.InStop.{claims-later, claims-none, fills-caused, fills-own, quiet-finish, rests-held, rests-later}
+use Rattle.gc_cycle.proofs.Changes.{by-none, numbers-after, numbers-one}
+use Rattle.gc_cycle.specs.Statistics.{EndsCycle, taken}
+use Rattle.cache_refills.proofs.claiming.claim_in_stop.Goals as goal
+
+pub claim_or_collect-requires-clause-alone : goal.claim_or_collect-requires-clause-alone
+claim_or_collect-requires-clause-alone g c =
+    let u : View = view_of c.args.seat.now in
+    let p = c.finish_cycle.ensures in
+    (p.alone, rests-later u (view_of c.finish_cycle.new.seat) p.ran p.only u refl refl (rests-held u c.requires.stopped))
+
+pub claim_or_fill-requires-clause-alone : goal.claim_or_fill-requires-clause-alone
+claim_or_fill-requires-clause-alone g c =
+    let u : View = view_of c.args.seat.now in
+    let p = c.precise.ensures in
+    (p.alone.0, rests-later u (view_of c.precise.new.seat) p.ran p.only u refl refl (rests-held u c.requires.stopped))
+
+pub returns-in-Some-Full-clause-claims : goal.returns-in-Some-Full-clause-claims
+returns-in-Some-Full-clause-claims g c =
+    let is = rw c.in-Some-Full.is at c.in-Some-Full.field-0-is in
+    claims-none (view_of c.args.seat.now) c.requires.stopped (ap (λ (s : SeatState). s.phase_seen) (sym c.state.ensures) ∙ (c.in-Some-Full.is ∙ ap Some is))
+
+pub returns-in-Some-Full-clause-missed : goal.returns-in-Some-Full-clause-missed
+returns-in-Some-Full-clause-missed g c =
+    let is = rw c.in-Some-Full.is at c.in-Some-Full.field-0-is in
+    inr (full-alone (view_of c.args.seat.now) c.requires.stopped (ap (λ (s : SeatState). s.phase_seen) (sym c.state.ensures) ∙ (c.in-Some-Full.is ∙ ap Some is))).phase
+
+pub returns-in-Some-Marking-clause-missed : goal.returns-in-Some-Marking-clause-missed
+returns-in-Some-Marking-clause-missed g c =
+    let u : View = view_of c.args.seat.now in
+    let v : View = view_of c.finish_cycle.new.seat in
+    let w : View = view_of c.claim_or_collect.new.seat in
+    let sh : Shape = c.args.heap.now.shape in
+    let e = c.claim_or_collect.ensures in
+    subst (λ es. HasMissed sh c.claim_or_collect.result es w) (sym (ran-events u v w c.finish_cycle.ensures.ran e.claims.ran)) (none-later sh c.claim_or_collect.result (events u v) (events v w) w e.missed)
+
+pub returns-in_default-clause-missed : goal.returns-in_default-clause-missed
+returns-in_default-clause-missed g c =
+    let u : View = view_of c.args.seat.now in
+    let v : View = view_of c.precise.new.seat in
+    let w : View = view_of c.claim_or_fill.new.seat in
+    let sh : Shape = c.args.heap.now.shape in
+    let p = c.precise.ensures in
+    let e = c.claim_or_fill.ensures in
+    subst (λ es. HasMissed sh c.claim_or_fill.result es w) (sym (ran-events u v w p.ran e.claims.ran)) (e.missed (events u v) (exactly-collects sh (begins u) (events u v) p.collects))
+
+pub returns-in-Some-Marking-clause-claims : goal.returns-in-Some-Marking-clause-claims
+returns-in-Some-Marking-clause-claims g c =
+    let u : View = view_of c.args.seat.now in
+    let v : View = view_of c.finish_cycle.new.seat in
+    let p = c.finish_cycle.ensures in
+    claims-later c.claim_or_collect.result u v (view_of c.claim_or_collect.new.seat) (quiet-finish u v p.ran p.only p.spares p.going) c.claim_or_collect.ensures.claims
+
+pub returns-in-Some-Marking-clause-fills : goal.returns-in-Some-Marking-clause-fills
+returns-in-Some-Marking-clause-fills g c =
+    let u : View = view_of c.args.seat.now in
+    let v : View = view_of c.finish_cycle.new.seat in
+    let p = c.finish_cycle.ensures in
+    fills-own c.args.heap.now.shape u v (view_of c.claim_or_collect.new.seat) (quiet-finish u v p.ran p.only p.spares p.going) c.claim_or_collect.ensures.claims.ran c.claim_or_collect.ensures.fills
+
+pub returns-in_default-clause-claims : goal.returns-in_default-clause-claims
+returns-in_default-clause-claims g c =
+    let u : View = view_of c.args.seat.now in
+    let v : View = view_of c.precise.new.seat in
+    let p = c.precise.ensures in
+    claims-later c.claim_or_fill.result u v (view_of c.claim_or_fill.new.seat) (quiet-finish u v p.ran p.only p.spares p.going) c.claim_or_fill.ensures.claims
+
+pub returns-in_default-clause-fills : goal.returns-in_default-clause-fills
+returns-in_default-clause-fills g c =
+    let u : View = view_of c.args.seat.now in
+    let v : View = view_of c.precise.new.seat in
+    let p = c.precise.ensures in
+    let f = c.claim_or_fill.ensures in
+    fills-caused c.args.heap.now.shape u v (view_of c.claim_or_fill.new.seat) (quiet-finish u v p.ran p.only p.spares p.going) f.claims.ran
+    (f.fills (events u v) (exactly-collects c.args.heap.now.shape (begins u) (events u v) p.collects))
+
+pub returns-in-Some-Full-clause-numbers : goal.returns-in-Some-Full-clause-numbers
+returns-in-Some-Full-clause-numbers g c = let v : View = view_of c.args.seat.now in numbers-one [] v v (by-none v)
+
+pub returns-in-Some-Marking-clause-numbers : goal.returns-in-Some-Marking-clause-numbers
+returns-in-Some-Marking-clause-numbers g c =
+    let u : View = view_of c.args.seat.now in
+    let v : View = view_of c.finish_cycle.new.seat in
+    let p = c.finish_cycle.ensures in
+    let e : EndsCycle u v = record { ran = p.ran; only = p.only; alone = c.requires.stopped.rest; idle = p.alone; drains = p.drains; help = p.help; counts = c.finish_cycle.result; end = p.end; rescanned = p.rescanned; freed = p.freed } in
+    numbers-after (taken c.claim_or_collect.result) u v (view_of c.claim_or_collect.new.seat) e c.claim_or_collect.ensures.numbers
+
+pub returns-in_default-clause-numbers : goal.returns-in_default-clause-numbers
+returns-in_default-clause-numbers g c =
+    let u : View = view_of c.args.seat.now in
+    let v : View = view_of c.precise.new.seat in
+    let p = c.precise.ensures in
+    let e : EndsCycle u v = record { ran = p.ran; only = p.only; alone = c.requires.stopped.rest; idle = p.alone.0; drains = p.drains; help = p.help; counts = c.precise.result; end = p.end; rescanned = p.rescanned; freed = p.freed } in
+    numbers-after (taken c.claim_or_fill.result) u v (view_of c.claim_or_fill.new.seat) e c.claim_or_fill.ensures.numbers

@@ -1,0 +1,90 @@
+use Rattle.std.proofs.Common.{[], None, Some, inl, ap, ◌≡◌, ◌∙◌, true, sym, subst}
+use Rattle.mark_core.specs.declared.kinds.Shape.{Shape}
+use Rattle.mark_core.specs.declared.seat.SeatState.{SeatState}
+use Rattle.gc_table.specs.Log.{events}
+use Rattle.gc_table.specs.Seats.{view_of}
+use Rattle.gc_table.specs.declared.view.View.{View}
+use Rattle.gc_table.specs.Running.{Ran}
+use Rattle.gc_table.proofs.Running.{ran-events, ran-join}
+use Rattle.gc_cycle.specs.Cycles.{collects, collects_exactly}
+use Rattle.gc_cycle.specs.Moments.{begins}
+use Rattle.cache_refills.specs.Refilling.{HasMissed}
+use Rattle.gc_cycle.specs.Sorts.{begins_exactly, ends_cycle}
+use Rattle.gc_cycle.proofs.Refills.Collected.{exactly-collects}
+use Rattle.cache_refills.proofs.Stops.InStop.{alone-same, claims-alone, claims-later, fills-caused, quiet-claim, quiet-finish, quiet-join, rests-later, unfills}
+use Rattle.gc_cycle.proofs.Sequences.{followed-later}
+use Rattle.gc_cycle.proofs.Changes.{numbers-after, numbers-join, numbers-one}
+use Rattle.gc_cycle.specs.Statistics.{EndsCycle, taken}
+use Rattle.gc_cycle.proofs.Numbers.{claim-by, seeks-by}
+use Rattle.cache_refills.proofs.claiming.claim_or_collect.Goals as goal
+
+collected-after : (sh : Shape) (u v w : View) → Ran u v → Ran v w → collects_exactly sh (begins v) (events v w) ≡ true → collects (events u w) ≡ true
+collected-after sh u v w r q c = ap collects (ran-events u v w r q) ∙ followed-later begins_exactly ends_cycle (events u v) (events v w) (exactly-collects sh (begins v) (events v w) c)
+
+pub returns-in-Some-clause-claims : goal.returns-in-Some-clause-claims
+returns-in-Some-clause-claims g c =
+    claims-alone (Some c.in-Some.cache) c.args.heap.now.shape (view_of c.args.seat.now) (view_of c.claim.new.seat) c.requires.alone.0 c.requires.alone.1 c.claim.ensures.ran c.in-Some.ensures.some tt
+
+pub returns-in-Some-clause-fills : goal.returns-in-Some-clause-fills
+returns-in-Some-clause-fills g c =
+    let u : View = view_of c.args.seat.now in
+    let v : View = view_of c.claim.new.seat in
+    let sh : Shape = c.args.heap.now.shape in
+    unfills sh [] u v (quiet-claim (Some c.in-Some.cache) sh u v c.claim.ensures.ran c.in-Some.ensures.some tt).spares
+
+pub precise-requires-clause-alone : goal.precise-requires-clause-alone
+precise-requires-clause-alone g c = let n = c.in_default.ensures.none in inl (alone-same (view_of c.args.seat.now) (view_of c.claim.new.seat) n.0 c.claim.ensures.ran n.3 c.requires.alone.0)
+
+pub claim_or_fill-requires-clause-alone : goal.claim_or_fill-requires-clause-alone
+claim_or_fill-requires-clause-alone g c = let n = c.in_default.ensures.none in let p = c.precise.ensures in (p.alone.0, rests-later (view_of c.claim.new.seat) (view_of c.precise.new.seat) p.ran p.only (view_of c.args.seat.now) (ap (λ (s : SeatState). s.section) n.0) (ap (λ (s : SeatState). s.helping) n.0) c.requires.alone.1)
+
+pub returns-clause-claims : goal.returns-clause-claims
+returns-clause-claims g c =
+    let u : View = view_of c.args.seat.now in
+    let v : View = view_of c.claim.new.seat in
+    let w : View = view_of c.precise.new.seat in
+    let p = c.precise.ensures in
+    claims-later c.claim_or_fill.result u w (view_of c.claim_or_fill.new.seat)
+    (quiet-join u v w (quiet-claim None c.args.heap.now.shape u v c.claim.ensures.ran tt c.in_default.ensures.none) (quiet-finish v w p.ran p.only p.spares p.going))
+    c.claim_or_fill.ensures.claims
+
+pub returns-clause-missed : goal.returns-clause-missed
+returns-clause-missed g c =
+    let u : View = view_of c.args.seat.now in
+    let v : View = view_of c.claim.new.seat in
+    let w : View = view_of c.precise.new.seat in
+    let x : View = view_of c.claim_or_fill.new.seat in
+    let sh : Shape = c.args.heap.now.shape in
+    let p = c.precise.ensures in
+    let f = c.claim_or_fill.ensures in
+    subst (λ es. HasMissed sh c.claim_or_fill.result es x) (sym (ran-events u w x (ran-join u v w c.claim.ensures.ran p.ran) f.claims.ran)) (f.missed (events u w) (collected-after sh u v w c.claim.ensures.ran p.ran p.collects))
+
+pub returns-clause-fills : goal.returns-clause-fills
+returns-clause-fills g c =
+    let u : View = view_of c.args.seat.now in
+    let v : View = view_of c.claim.new.seat in
+    let w : View = view_of c.precise.new.seat in
+    let sh : Shape = c.args.heap.now.shape in
+    let p = c.precise.ensures in
+    let f = c.claim_or_fill.ensures in
+    fills-caused sh u w (view_of c.claim_or_fill.new.seat)
+    (quiet-join u v w (quiet-claim None sh u v c.claim.ensures.ran tt c.in_default.ensures.none) (quiet-finish v w p.ran p.only p.spares p.going))
+    f.claims.ran (f.fills (events u w) (collected-after sh u v w c.claim.ensures.ran p.ran p.collects))
+
+pub returns-in-Some-clause-numbers : goal.returns-in-Some-clause-numbers
+returns-in-Some-clause-numbers g c =
+    let u : View = view_of c.args.seat.now in
+    let v : View = view_of c.claim.new.seat in
+    numbers-one (taken (Some c.in-Some.cache)) u v (claim-by c.in-Some.cache u v c.claim.ensures.ran c.in-Some.ensures.some)
+
+pub returns-clause-numbers : goal.returns-clause-numbers
+returns-clause-numbers g c =
+    let u : View = view_of c.args.seat.now in
+    let v : View = view_of c.claim.new.seat in
+    let w : View = view_of c.precise.new.seat in
+    let x : View = view_of c.claim_or_fill.new.seat in
+    let n = c.in_default.ensures.none in
+    let p = c.precise.ensures in
+    let alone = (alone-same u v n.0 c.claim.ensures.ran n.3 c.requires.alone.0).rest in
+    let e : EndsCycle v w = record { ran = p.ran; only = p.only; alone = alone; idle = p.alone.0; drains = p.drains; help = p.help; counts = c.precise.result; end = p.end; rescanned = p.rescanned; freed = p.freed } in
+    numbers-join (taken c.claim_or_fill.result) u v x (numbers-one [] u v (seeks-by u v c.claim.ensures.ran n.3)) (numbers-after (taken c.claim_or_fill.result) v w x e c.claim_or_fill.ensures.numbers)

@@ -1,0 +1,17 @@
+use Rattle.std.proofs.Common.{[], true, ◌≡◌}
+use Rattle.gc_table.specs.Log.{events}
+use Rattle.cache_refills.specs.InStops.{begins_none}
+use Rattle.gc_table.specs.Seats.{Sits, view_of}
+use Rattle.gc_cycle.specs.Statistics.{ChangesNumbers}
+use Rattle.cache_refills.proofs.Refills.RoundsSoFar.{HasTried}
+use Rattle.cache_refills.proofs.in_stops.refill_in_stops.Given as goal
+
+abbrev pub invariant-loop : goal.invariant-loop
+invariant-loop g l = record {
+  next : (goal.iterator-loop g).can_next l.iterator';
+  finite : (goal.iterator-loop g).is_finite l.iterator';
+  sits : Sits l.heap l.seat;
+  numbers : ChangesNumbers [] (view_of l.fn.seat) (view_of l.seat);
+  tried : HasTried l.fn.done (view_of l.fn.seat) (view_of l.seat);
+  unbegun : begins_none (events (view_of l.fn.seat) (view_of l.seat)) ≡ true;
+}

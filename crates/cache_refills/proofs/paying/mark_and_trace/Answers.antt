@@ -1,0 +1,34 @@
+use Rattle.std.proofs.Common.{◌≡◌, ◌<◌, sym, ap, ◌∙◌, subst, true}
+use Rattle.mark_core.specs.declared.kinds.Shape.{Shape}
+use Rattle.mark_core.specs.declared.seat.SeatState.{SeatState}
+use Rattle.gc_table.specs.PlainSteps.{own_section}
+use Rattle.gc_table.specs.Log.{events}
+use Rattle.gc_table.specs.Seats.{view_of}
+use Rattle.gc_table.specs.declared.view.View.{View}
+use Rattle.cache_refills.specs.Pace.Payment.{MarksAndTraces}
+use Rattle.gc_cycle.specs.Roots.{roots_scanned}
+use Rattle.cache_refills.proofs.Refills.Payment.{marks-none, marks-traces, section-below}
+use Rattle.cache_refills.proofs.paying.mark_and_trace.Goals as goal
+
+pub scan_roots-requires-clause-section : goal.scan_roots-requires-clause-section
+scan_roots-requires-clause-section c =
+    let v : View = view_of c.args.seat.now in
+    subst (λ n. n < c.args.heap.now.shape.sections) (sym (c.unwrap_or-section.ensures ∙ ap (λ (s : SeatState). own_section s) c.state.ensures))
+    (subst (λ (sh : Shape). own_section v.state < sh.sections) c.requires.seat.0.1 (section-below v c.args.seat.now.possible c.requires.seat.1.section))
+
+pub returns-in-NoPacket-clause-pays : goal.returns-in-NoPacket-clause-pays
+returns-in-NoPacket-clause-pays c =
+    let u : View = view_of c.args.seat.now in
+    let v : View = view_of c.scan_roots.new.seat in
+    let e = c.in-NoPacket.ensures in
+    subst (λ s. MarksAndTraces (own_section u.state) c.args.quota (record { quota = c.args.quota; done = 0; stopped = s }) u v) (sym c.stopped_at.ensures)
+    (marks-none (own_section u.state) c.args.quota u v e.traced e.unpopped e.unread e.scans.0 e.scans.1)
+
+pub returns-in-Done-clause-pays : goal.returns-in-Done-clause-pays
+returns-in-Done-clause-pays c =
+    let u : View = view_of c.args.seat.now in
+    let v : View = view_of c.scan_roots.new.seat in
+    let w : View = view_of c.pay_quota.new.seat in
+    let e = c.in-Done.ensures in
+    marks-traces (own_section u.state) c.args.quota c.pay_quota.result u v w e.traced e.unpopped e.unread
+    (subst (λ n. roots_scanned n (events u v) ≡ true) (c.unwrap_or-section.ensures ∙ ap (λ (s : SeatState). own_section s) c.state.ensures) e.scans) c.pay_quota.ensures.traces

@@ -1,0 +1,81 @@
+use Rattle.std.proofs.Common.{◌∙◌, [], ◌∷◌, inl, inr, refl, subst, sym}
+use Rattle.gc_table.specs.Seats.{view_of}
+use Rattle.gc_table.specs.declared.view.View.{View}
+use Rattle.gc_table.proofs.History.Log.{events-none, only-more, only-none}
+use Rattle.gc_table.proofs.Running.{ran-refl, ran-stored, ran-found}
+use Rattle.gc_cycle.specs.Answering.{answers}
+use Rattle.gc_cycle.specs.Mutating.{stays_calm}
+use Rattle.cache_refills.specs.Pace.Payment.{HasPaid, pays_cells}
+use Rattle.gc_cycle.specs.Sparing.{spares_part}
+use Rattle.gc_cycle.proofs.Refills.Answered.{answers-calm, full-later}
+use Rattle.gc_cycle.proofs.Refills.Collected.{calm-spares}
+use Rattle.gc_cycle.proofs.Refills.KnownFull.{mutates-still}
+use Rattle.cache_refills.proofs.Refills.Refilled.{gets-free, gets-paid, gives-up, looked-calm, looked-ran, read-idle}
+use Rattle.gc_cycle.proofs.Refills.Retired.{owes-none}
+use Rattle.mark_core.specs.declared.kinds.Step.TheVariants.{StorePosition, ReadPhase}
+use Rattle.gc_cycle.proofs.Changes.{by-join, changes-after}
+use Rattle.gc_cycle.proofs.Numbers.{retire-by}
+use Rattle.gc_cycle.specs.Statistics.{gives_back}
+use Rattle.mark_core.specs.Steps.MutatorSteps.{used_bits}
+use Rattle.cache_refills.proofs.refilling.pay_for.Goals as goal
+
+pub retire-requires-clause-owes : goal.retire-requires-clause-owes
+retire-requires-clause-owes c =
+    let w : View = view_of c.read_phase.new.seat in
+    let t = c.read_phase.ensures.view in
+    owes-none w (mutates-still (view_of c.args.seat.now) w t.0 (t.1, t.2) c.requires.seat.1)
+
+pub returns-in-Full : goal.returns-in-Full
+returns-in-Full c =
+    let v : View = view_of c.args.seat.now in
+    let w : View = view_of c.read_phase.new.seat in
+    let x : View = view_of c.retire.new.seat in
+    let y : View = view_of c.store_position.new.seat in
+    let t = c.read_phase.ensures.view in
+    let e = c.retire.ensures in
+    let g = gives-up v (view_of c.read_phase.new.seat) (view_of c.retire.new.seat) y c.args.cache c.args.done t.0 c.requires.seat.1 (t.1, t.2) (sym t.3 ∙ c.in-Full.is) e.ran e.state e.steps c.store_position.ensures.view in
+    record {
+      seat = c.store_position.ensures.seat;
+      ran = g.0;
+      only = only-more answers stays_calm answers-calm v y g.1;
+      numbers =
+          by-join [] (gives_back c.args.cache ∷ []) v w y (changes-after v w ReadPhase t.0 refl (ran-found v w ReadPhase t.0 refl (t.1, t.2)) t.1)
+          (by-join (gives_back c.args.cache ∷ []) [] w x y (retire-by c.args.cache (used_bits w.state.cache) w x e.ran e.steps)
+          (changes-after x y (StorePosition c.args.done) c.args.done refl (ran-stored x y (StorePosition c.args.done) refl c.store_position.ensures.view) c.store_position.ensures.view));
+      known = g.3;
+      refills = λ u k. full-later c.args.done u v y k.ran g.0 g.2;
+    }
+
+pub returns-in-Marking : goal.returns-in-Marking
+returns-in-Marking c =
+    let v : View = view_of c.args.seat.now in
+    let w : View = view_of c.read_phase.new.seat in
+    let x : View = view_of c.pay-paid.new.seat in
+    let t = c.read_phase.ensures.view in
+    let q = subst (λ n. HasPaid n c.pay-paid.result w x) c.free.ensures c.pay-paid.ensures.paid in
+    let calm = looked-calm v w x t.0 (t.1, t.2) q.ran q.only in
+    record {
+      seat = c.pay-paid.ensures.seat;
+      ran = looked-ran v w x t.0 (t.1, t.2) q.ran;
+      only = calm;
+      numbers = (refl, inr (by-join [] _ v w x (changes-after v w ReadPhase t.0 refl (ran-found v w ReadPhase t.0 refl (t.1, t.2)) t.1) q.changed));
+      known = only-more stays_calm spares_part calm-spares v x calm;
+      refills = λ u k. gets-paid c.args.cache c.args.done u v w x t.0 k (t.1, t.2) q.ran q.only c.pay-paid.result c.requires.seat.1 c.requires.cache q (sym t.3 ∙ c.in-Marking.is);
+    }
+
+pub returns-in_default : goal.returns-in_default
+returns-in_default c =
+    let v : View = view_of c.args.seat.now in
+    let w : View = view_of c.read_phase.new.seat in
+    let t = c.read_phase.ensures.view in
+    let m = c.requires.seat.1 in
+    let calm = looked-calm v w w t.0 (t.1, t.2) (ran-refl w) (only-none pays_cells w) in
+    let idle = read-idle v t.0 c.read_phase.result t.2 m.active t.3 c.in_default.not-Marking c.in_default.not-Full in
+    record {
+      seat = c.read_phase.ensures.seat;
+      ran = looked-ran v w w t.0 (t.1, t.2) (ran-refl w);
+      only = calm;
+      numbers = (refl, inl (changes-after v w ReadPhase t.0 refl (ran-found v w ReadPhase t.0 refl (t.1, t.2)) t.1));
+      known = only-more stays_calm spares_part calm-spares v w calm;
+      refills = λ u k. gets-free c.args.cache c.args.done u v w w t.0 k (t.1, t.2) (ran-refl w) (only-none pays_cells w) c.nothing_paid.result m c.requires.cache c.nothing_paid.ensures idle (events-none w) (mutates-still v w t.0 (t.1, t.2) m) refl refl;
+    }

@@ -1,0 +1,43 @@
+use Rattle.gc_table.specs.Seats.{view_of}
+use Rattle.gc_table.specs.declared.view.View.{View}
+use Rattle.mark_core.specs.declared.kinds.Shape.{Shape}
+use Rattle.gc_table.specs.Log.{events}
+use Rattle.gc_cycle.specs.Cycles.{fills_with_cause}
+use Rattle.cache_refills.specs.Stops.{stops_again_with_cause, stops_with_cause}
+use Rattle.std.proofs.Common.{sym, subst, true, ◌≡◌, []}
+use Rattle.gc_table.proofs.Running.{ran-refl}
+use Rattle.gc_cycle.proofs.Refills.KnownFull.{tells-none}
+use Rattle.cache_refills.proofs.Refills.RoundsSoFar.{ends-round, tried-more, tried-none}
+use Rattle.cache_refills.proofs.Refills.RoundNumbers.{refills-later}
+use Rattle.gc_cycle.proofs.Changes.{by-none, numbers-join, numbers-one}
+use Rattle.cache_refills.proofs.refilling.refill_watched.Goals as goal
+
+pub loop-init : goal.loop-init
+loop-init g c = record { next = tt; finite = tt; sits = c.requires.seat.0; numbers = numbers-one [] (view_of c.args.seat.now) (view_of c.args.seat.now) (by-none (view_of c.args.seat.now)); tried = tried-none c.args.done (view_of c.args.seat.now) c.requires.seat.1 c.requires.cache }
+
+pub loop-preserved : goal.loop-preserved
+loop-preserved g c =
+    let i = c.loop.invariant in
+    let e = c.refill_once.ensures in
+    record { next = tt; finite = tt; sits = e.seat; numbers = numbers-join [] (view_of c.args.seat.now) (view_of c.loop.seat) (view_of c.refill_once.new.seat) i.numbers c.in_default.ensures.numbers; tried = tried-more c.args.done (view_of c.args.seat.now) (view_of c.loop.seat) (view_of c.refill_once.new.seat) i.tried c.in_default.ensures.round (subst (λ (sh : Shape). stops_with_cause sh (events (view_of c.loop.seat) (view_of c.refill_once.new.seat)) ≡ true) (sym i.sits.1) e.stops) }
+
+pub returns-in-Some-refill_once : goal.returns-in-Some-refill_once
+returns-in-Some-refill_once g c =
+    let u : View = view_of c.args.seat.now in
+    let v : View = view_of c.loop.seat in
+    let w : View = view_of c.refill_once.new.seat in
+    let t = c.loop.invariant.tried in
+    let e = c.in-Some-refill_once.ensures in
+    let d = ends-round _ c.args.done u v w t e.round (subst (λ (sh : Shape). stops_with_cause sh (events v w) ≡ true) (sym c.loop.invariant.sits.1) e.stops) in
+    record {
+      seat = e.seat;
+      ran = d.ran;
+      refills = e.some u t.ran (t.tells u (ran-refl u) (tells-none u)) t.position;
+      stops = subst (λ (sh : Shape). stops_with_cause sh (events u w) ≡ true) c.requires.seat.0.1 d.stops;
+      again = subst (λ (sh : Shape). stops_again_with_cause sh (events u w) ≡ true) c.requires.seat.0.1 d.again;
+      fills = subst (λ (sh : Shape). fills_with_cause sh (events u w) ≡ true) c.requires.seat.0.1 d.fills;
+      keeps = d.keeps;
+      only = d.only;
+      numbers = refills-later _ u v w c.loop.invariant.numbers e.numbers;
+      spares = d.spares;
+    }

@@ -1,0 +1,87 @@
+use Rattle.std.proofs.Common.{◌≡◌, [], ◌∙◌, subst, sym, true}
+use Rattle.mark_core.specs.declared.kinds.Shape.{Shape}
+use Rattle.gc_table.specs.Log.{events}
+use Rattle.gc_table.specs.Seats.{view_of}
+use Rattle.gc_table.specs.declared.view.View.{View}
+use Rattle.gc_table.proofs.History.Log.{only-more}
+use Rattle.gc_table.proofs.Running.{ran-join, ran-refl}
+use Rattle.gc_cycle.specs.Answering.{answers}
+use Rattle.gc_cycle.specs.Mutating.{stays_calm}
+use Rattle.cache_refills.specs.Stops.{may_stop}
+use Rattle.gc_cycle.proofs.Refills.Answered.{answers-calm}
+use Rattle.gc_cycle.proofs.Changes.{by-join, numbers-one}
+use Rattle.gc_cycle.proofs.Refills.KnownFull.{tells-none}
+use Rattle.cache_refills.proofs.Refills.Passed.{both-some, none-calls, plays-calm, plays-join, plays-keeps, plays-leads, unseen-full, unseen-join}
+use Rattle.cache_refills.proofs.Positions.{stored-more, stored-none}
+use Rattle.cache_refills.proofs.Refills.Rounds.{later-some, leads-join, leads-looked, leads-prepared, looked-seen, marked-stops, marking-known, paced-after, spares-refill}
+use Rattle.cache_refills.proofs.Refills.RoundNumbers.{leaves-first, leaves-full}
+use Rattle.cache_refills.proofs.trying.try_refill.Goals as goal
+
+pub returns-then-ends_full : goal.returns-then-ends_full
+returns-then-ends_full c =
+    let v : View = view_of c.args.seat.now in
+    let w : View = view_of c.ends_full.new.seat in
+    let e = c.ends_full.ensures in
+    let f = c.if-ends_full.ensures.full in
+    let p = plays-calm v w e.ran (only-more answers stays_calm answers-calm v w e.only) in
+    record { seat = e.seat.0; plays = p; refills = (f.0, f.1); calls = tt; keeps = plays-keeps v w p; numbers = leaves-full v w e.numbers }
+
+pub begins_or_ends-requires-clause-marking : goal.begins_or_ends-requires-clause-marking
+begins_or_ends-requires-clause-marking c =
+    let v : View = view_of c.args.seat.now in
+    let w : View = view_of c.ends_full.new.seat in
+    let t = c.if-ends_full.ensures.going.looked in
+    λ h. marking-known v w t c.ends_full.ensures.seat.1.active (looked-seen v w t c.requires.seat.1 h)
+
+pub returns-then-begins_or_ends : goal.returns-then-begins_or_ends
+returns-then-begins_or_ends c =
+    let v : View = view_of c.args.seat.now in
+    let w : View = view_of c.ends_full.new.seat in
+    let x : View = view_of c.begins_or_ends.new.seat in
+    let e = c.ends_full.ensures in
+    let k = c.if-ends_full.ensures.going in
+    let s = c.begins_or_ends.ensures in
+    let d = c.if-begins_or_ends.ensures.done in
+    let l = leads-looked v w k in
+    let p = plays-leads v x (leads-join v w x l (leads-prepared w x s.ran s.only)) in
+    record {
+      seat = s.seat.0;
+      plays = p;
+      refills = tt;
+      calls =
+          record {
+            mutates = s.seat.1;
+            cache = s.cache ∙ k.cached;
+            going = unseen-join v w x l.ran s.ran (k.going v (ran-refl v) (tells-none v)).going (unseen-full w x s.only);
+            cause = subst (λ (sh : Shape). may_stop sh (events v x) ≡ true) (sym c.requires.seat.0.1) (marked-stops c.args.heap.now.shape v w x k.looked (looked-seen v w k.looked c.requires.seat.1 d.0) s.ran d.1);
+          };
+      keeps = plays-keeps v x p;
+      numbers = numbers-one [] v x (by-join [] [] v w x e.numbers s.numbers);
+    }
+
+pub returns : goal.returns
+returns c =
+    let v : View = view_of c.args.seat.now in
+    let w : View = view_of c.ends_full.new.seat in
+    let x : View = view_of c.begins_or_ends.new.seat in
+    let y : View = view_of c.try_claim.new.seat in
+    let e = c.ends_full.ensures in
+    let k = c.if-ends_full.ensures.going in
+    let s = c.begins_or_ends.ensures in
+    let t = c.try_claim.ensures in
+    let a = leads-looked v w k in
+    let l = leads-join v w x a (leads-prepared w x s.ran s.only) in
+    let p = plays-join v x y (plays-leads v x l) t.plays in
+    let unseen = unseen-join v w x a.ran s.ran (k.going v (ran-refl v) (tells-none v)).going (unseen-full w x s.only) in
+    let all = ran-join v v x (ran-refl v) l.ran in
+    record {
+      seat = t.seat;
+      plays = p;
+      refills =
+          both-some _ _ c.try_claim.result
+          (later-some c.try_claim.result (λ r f. f v all (l.tells v (ran-refl v) (tells-none v)) (stored-more c.args.done v v x (ran-refl v) l.ran l.inside (stored-none c.args.done v)) (paced-after v w x a.ran s.ran c.if-begins_or_ends.ensures.paced)) t.some)
+          (later-some c.try_claim.result (λ r f. spares-refill r v x y l.ran t.plays.ran l.spares f) t.spares);
+      calls = none-calls c.try_claim.result v x y l.ran t.plays.ran unseen t.none;
+      keeps = plays-keeps v y p;
+      numbers = leaves-first c.try_claim.result v x y (by-join [] [] v w x e.numbers s.numbers) t.numbers;
+    }

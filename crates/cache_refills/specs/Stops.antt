@@ -1,0 +1,55 @@
+-- Why a mutator stops the world.
+use Rattle.std.specs.Prelude.{ℕ, ◌+◌, ◌&&◌, ◌||◌, not, if◌then◌else◌, List, [], ◌∷◌, ◌++◌, Bool, false}
+use Rattle.std.specs.List.{list_all, range_with_len}
+use Rattle.mark_core.specs.Layout.{block_count, card_count}
+use Rattle.mark_core.specs.Numbers.{empty_offset}
+use Rattle.mark_core.specs.declared.kinds.Phase.TheVariants.{Marking}
+use Rattle.mark_core.specs.declared.kinds.Shape.{Shape}
+use Rattle.gc_table.specs.declared.view.Entry.{Entry}
+use Rattle.packet_pools.specs.Seeking.{some_event}
+use Rattle.alloc_cache.specs.Claiming.{seeks_block, seen_taken}
+use Rattle.gc_cycle.specs.Cycles.{sees_free_cell}
+use Rattle.gc_cycle.specs.Events.{front, each_after, never, since_last}
+use Rattle.gc_cycle.specs.Sorts.{ends_cycle, raises_flag, reads_phase, sees_last_card, sees_all_empty, stores_new}
+
+-- each block was seen claimed, or was got and seen with all allocation bits set
+abbrev pub no_block : Shape → List Entry → Bool
+no_block sh es = list_all (λ b. seen_taken b es) (range_with_len 0 (block_count sh))
+
+-- a search for a block found none: so it is of consecutive steps of searching
+abbrev pub claim_failed : Shape → List Entry → Bool
+claim_failed sh [] = false
+claim_failed sh (e ∷ es) = no_block sh (front seeks_block (e ∷ es)) || claim_failed sh es
+
+-- the phase was read as Marking, and after that the counter of cards at its end and the count of empty packets as all
+abbrev pub marking_done : Shape → List Entry → Bool
+marking_done sh [] = false
+marking_done sh (e ∷ es) =
+    (reads_phase Marking e.step e.found && some_event (sees_last_card (card_count sh)) es && some_event (sees_all_empty (empty_offset + sh.packets)) es) || marking_done sh es
+
+-- these events give cause to stop the world: there was no block to make cells in, or marking was done
+abbrev pub may_stop : Shape → List Entry → Bool
+may_stop sh es = claim_failed sh es || marking_done sh es
+
+-- the flag was raised only where the events of the call before gave cause
+abbrev pub stops_with_cause : Shape → List Entry → Bool
+stops_with_cause sh es = each_after (may_stop sh) raises_flag [] es
+
+-- a block with a free cell was read, and a search for a block found none
+abbrev pub misses_block : Shape → List Entry → Bool
+misses_block sh es = sees_free_cell sh es && claim_failed sh es
+
+-- these events neither stopped the world nor ended a cycle, or a block was missed so since the last cycle ended
+abbrev pub may_stop_again : Shape → List Entry → Bool
+may_stop_again sh es = (never raises_flag es && never ends_cycle es) || misses_block sh (since_last ends_cycle es)
+
+-- after a stop of the same call the flag was raised again only so
+abbrev pub stops_again_with_cause : Shape → List Entry → Bool
+stops_again_with_cause sh es = each_after (may_stop_again sh) raises_flag [] es
+
+-- how often the flag was raised where the events since the last store into a new cell gave no cause; `since` are those before the list
+abbrev pub stops_without_cause : Shape → List Entry → List Entry → ℕ
+stops_without_cause sh since [] = 0
+stops_without_cause sh since (e ∷ es) =
+    (if raises_flag e.step e.found && not (may_stop sh since) then 1 else 0)
+    + stops_without_cause sh (if stores_new e.step e.found then [] else since ++ e ∷ []) es

@@ -1,0 +1,110 @@
+//! A cache for a mutator that has stopped the world: after the cycle that was marking, or after a precise collection.
+ghost use Rattle.std.specs.Prelude.{[], ◌++◌, List, None, Some, IsTrue};
+ghost use Rattle.std.specs.Bool.{OnFalse};
+ghost use Rattle.mark_core.specs.declared.kinds.Phase.TheVariants.{Full, Idle, Marking};
+ghost use Rattle.gc_table.specs.Log.{Only};
+ghost use Rattle.gc_table.specs.Rule.{KnowsFull};
+ghost use Rattle.gc_table.specs.Seats.{Across, did, Sits, state_of, view_of};
+ghost use Rattle.gc_table.specs.declared.view.Entry.{Entry};
+ghost use Rattle.gc_cycle.specs.Collecting.{HoldsWorld};
+ghost use Rattle.gc_cycle.specs.Cycles.{collects, may_fill, sees_free_cell};
+ghost use Rattle.gc_cycle.specs.Events.{each_after};
+ghost use Rattle.gc_cycle.specs.Finishing.{IsAloneIn, IsPart};
+ghost use Rattle.cache_refills.specs.Refilling.{ClaimsAlone, HasMissed, RestsAlone, SeesFull};
+ghost use Rattle.gc_cycle.specs.Sorts.{moves_to};
+ghost use Rattle.gc_cycle.specs.Statistics.{ChangesNumbers, leaves_numbers, taken};
+
+use crate::watching::Watch;
+use alloc_cache::{Cache, claim};
+use gc_cycle::{finish_cycle, precise};
+use gc_table::{Heap, HeapSeat};
+use mark_core::{BLOCK_CELLS, Phase};
+use std::sync::Wait;
+
+/// Ends the cycle that is marking, or collects precisely, and claims a block. There is none where the heap is full.
+pub(crate) fn claim_in_stop<R: Wait, W: Watch>(
+    rt: &R,
+    heap: &Heap,
+    seat: &mut HeapSeat,
+    watch: &mut W,
+) -> Option<Cache>
+    requires seat { Sits heap.now seat.old }
+    requires stopped { HoldsWorld (view_of seat.old) }
+    ensures seat { Sits heap.now seat.new }
+    ensures claims { Across (ClaimsAlone result) seat.old seat.new }
+    ensures numbers { Across (ChangesNumbers (taken result)) seat.old seat.new }
+    ensures full { KnowsFull (view_of seat.old) → KnowsFull (view_of seat.new) }
+    ensures missed { HasMissed heap.now.shape result (did seat.old seat.new) (view_of seat.new) }
+    ensures fills { IsTrue (each_after (may_fill heap.now.shape) (moves_to Full) [] (did seat.old seat.new)) }
+{
+    match seat.state().phase_seen {
+        Some(Phase::Full) => None,
+        Some(Phase::Marking) => {
+            watch.finishes(finish_cycle(rt, heap, seat));
+            claim_or_collect(rt, heap, seat, watch)
+        }
+        _ => {
+            watch.collects(precise(rt, heap, seat));
+            claim_or_fill(heap, seat)
+        }
+    }
+}
+
+/// A cache after an ordinary cycle, or else after a precise collection.
+fn claim_or_collect<R: Wait, W: Watch>(
+    rt: &R,
+    heap: &Heap,
+    seat: &mut HeapSeat,
+    watch: &mut W,
+) -> Option<Cache>
+    requires seat { Sits heap.now seat.old }
+    requires alone { IsAloneIn Idle (view_of seat.old) × RestsAlone (view_of seat.old) }
+    ensures seat { Sits heap.now seat.new }
+    ensures claims { Across (ClaimsAlone result) seat.old seat.new }
+    ensures numbers { Across (ChangesNumbers (taken result)) seat.old seat.new }
+    ensures missed { HasMissed heap.now.shape result (did seat.old seat.new) (view_of seat.new) }
+    ensures fills { IsTrue (each_after (may_fill heap.now.shape) (moves_to Full) [] (did seat.old seat.new)) }
+{
+    if let Some(cache) = claim(heap, seat) {
+        return Some(cache);
+    }
+    watch.collects(precise(rt, heap, seat));
+    claim_or_fill(heap, seat)
+}
+
+/// A cache after a precise collection. Where every allocation word is all ones, the heap is said to be full.
+fn claim_or_fill(heap: &Heap, seat: &mut HeapSeat) -> Option<Cache>
+    requires seat { Sits heap.now seat.old }
+    requires alone { IsAloneIn Idle (view_of seat.old) × RestsAlone (view_of seat.old) }
+    requires exact { IsTrue (state_of seat.old).exact }
+    ensures seat { Sits heap.now seat.new }
+    ensures claims { Across (ClaimsAlone result) seat.old seat.new }
+    ensures numbers { Across (ChangesNumbers (taken result)) seat.old seat.new }
+    ensures missed { (before : List Entry) → IsTrue (collects before) → HasMissed heap.now.shape result (before ++ did seat.old seat.new) (view_of seat.new) }
+    ensures fills { (before : List Entry) → IsTrue (collects before) → IsTrue (each_after (may_fill heap.now.shape) (moves_to Full) before (did seat.old seat.new)) }
+{
+    if all_allocated(heap, seat) {
+        heap.store_named(seat);
+        heap.store_phase(seat, Phase::Full);
+        return None;
+    }
+    claim(heap, seat)
+}
+
+/// Whether every cell is published, as a seat that is alone reads it.
+fn all_allocated(heap: &Heap, seat: &mut HeapSeat) -> bool
+    requires seat { Sits heap.now seat.old }
+    requires alone { IsAloneIn Idle (view_of seat.old) }
+    ensures seat { Sits heap.now seat.new }
+    ensures part { Across (IsPart Idle) seat.old seat.new }
+    ensures numbers { Across (Only leaves_numbers) seat.old seat.new }
+    ensures full { IsTrue result → Across (SeesFull heap.now.shape) seat.old seat.new }
+    ensures free { OnFalse result (IsTrue (sees_free_cell heap.now.shape (did seat.old seat.new))) }
+{
+    for b in 0..heap.shape().cells / BLOCK_CELLS {
+        if heap.read_alloc(seat, b) != u64::MAX {
+            return false;
+        }
+    }
+    true
+}

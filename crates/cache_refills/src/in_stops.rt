@@ -1,0 +1,96 @@
+//! A cache for a mutator that collects in stops alone: a cycle is never begun, so nothing is marked beside the mutators.
+ghost use Rattle.std.specs.Prelude.{◌≡◌, [], None, IfSome, IsTrue};
+ghost use Rattle.gc_table.specs.Log.{Only};
+ghost use Rattle.gc_table.specs.Running.{Ran};
+ghost use Rattle.gc_table.specs.Seats.{Across, did, Sits, state_of, view_of};
+ghost use Rattle.gc_table.specs.declared.view.View.{View};
+ghost use Rattle.alloc_cache.specs.Caching.{IsCached};
+ghost use Rattle.gc_cycle.specs.Answering.{StoredAt, TellsFull, answers};
+ghost use Rattle.gc_cycle.specs.Cycles.{fills_with_cause};
+ghost use Rattle.cache_refills.specs.InStops.{FillsTo, HasSearched, begins_none};
+ghost use Rattle.cache_refills.specs.Refilling.{IsRound};
+ghost use Rattle.gc_cycle.specs.Sparing.{SparesRefill, fills_part};
+ghost use Rattle.gc_cycle.specs.Standing.{KeepsSeat, KeepsSection, Mutates};
+ghost use Rattle.gc_cycle.specs.Statistics.{PaysNumbers, RefillsNumbers, RoundNumbers};
+ghost use Rattle.cache_refills.specs.Stops.{stops_again_with_cause, stops_with_cause};
+
+use crate::refilling::{nothing_paid, refill_in_stop};
+use crate::watching::Watch;
+use alloc_cache::{Cache, claim};
+use gc_cycle::{Refill, Safe, go_on};
+use gc_table::{Heap, HeapSeat};
+use std::sync::Wait;
+
+/// A cache for a mutator without one, as [`refill`](crate::refill) gets it, but that it begins no cycle and pays nothing: where no block has a free cell it
+/// stops the world, and all that is marked is marked there. So it is compared with a collector that marks beside the mutators.
+///
+/// Where another mutator has begun a cycle, the stop ends it.
+pub fn refill_in_stops<R: Wait, W: Watch>(
+    rt: &R,
+    heap: &Heap,
+    seat: &mut HeapSeat,
+    done: u32,
+    watch: &mut W,
+) -> Refill
+    requires seat { Sits heap.now seat.old × Mutates (view_of seat.old) }
+    requires cache { (state_of seat.old).cache ≡ None }
+    ensures seat { Sits heap.now seat.new }
+    ensures ran { Across Ran seat.old seat.new }
+    ensures fills { Across (FillsTo result done) seat.old seat.new }
+    ensures stops { IsTrue (stops_with_cause heap.now.shape (did seat.old seat.new)) }
+    ensures again { IsTrue (stops_again_with_cause heap.now.shape (did seat.old seat.new)) }
+    ensures full { IsTrue (fills_with_cause heap.now.shape (did seat.old seat.new)) }
+    ensures unbegun { IsTrue (begins_none (did seat.old seat.new)) }
+    ensures keeps { Across KeepsSeat seat.old seat.new × Across KeepsSection seat.old seat.new }
+    ensures only { Across (Only fills_part) seat.old seat.new }
+    ensures numbers { Across (RefillsNumbers result) seat.old seat.new }
+    ensures spares { Across (SparesRefill result) seat.old seat.new }
+{
+    for _ in rt.forever() {
+        if let Some(refill) = fill_once(rt, heap, seat, done, watch) {
+            return refill;
+        }
+    }
+    unreachable!()
+}
+
+/// One round, which ends without an answer where another seat's stop came first.
+fn fill_once<R: Wait, W: Watch>(
+    rt: &R,
+    heap: &Heap,
+    seat: &mut HeapSeat,
+    done: u32,
+    watch: &mut W,
+) -> Option<Refill>
+    requires seat { Sits heap.now seat.old × Mutates (view_of seat.old) }
+    requires cache { (state_of seat.old).cache ≡ None }
+    ensures seat { Sits heap.now seat.new }
+    ensures round { Across (IsRound result done) seat.old seat.new }
+    ensures numbers { Across (RoundNumbers result) seat.old seat.new }
+    ensures stops { IsTrue (stops_with_cause heap.now.shape (did seat.old seat.new)) }
+    ensures unbegun { IsTrue (begins_none (did seat.old seat.new)) }
+    ensures some { IfSome result (λ r. (u : View) → Ran u (view_of seat.old) → TellsFull u (view_of seat.old) → StoredAt done u (view_of seat.old) → FillsTo r done u (view_of seat.new)) }
+{
+    match claim(heap, seat) {
+        None => refill_in_stop(rt, heap, seat, done, watch),
+        Some(cache) => Some(keep_cache(heap, seat, cache, done)),
+    }
+}
+
+/// A cache that was claimed. Where the heap is full by then, it is given up.
+fn keep_cache(heap: &Heap, seat: &mut HeapSeat, cache: Cache, done: u32) -> Refill
+    requires seat { Sits heap.now seat.old × Mutates (view_of seat.old) }
+    requires cache { IsCached cache (view_of seat.old) }
+    ensures seat { Sits heap.now seat.new }
+    ensures ran { Across Ran seat.old seat.new }
+    ensures only { Across (Only answers) seat.old seat.new }
+    ensures numbers { Across (PaysNumbers cache result) seat.old seat.new }
+    ensures known { Across (SparesRefill result) seat.old seat.new }
+    ensures fills { (u : View) → HasSearched cache done u (view_of seat.old) → FillsTo result done u (view_of seat.new) }
+{
+    match go_on(heap, seat, Some(cache), done) {
+        Safe::Full => Refill::Full,
+        Safe::Going(Some(kept)) => Refill::Cache(kept, nothing_paid()),
+        Safe::Going(None) => unreachable!(),
+    }
+}

@@ -1,0 +1,95 @@
+//! The numbers that pace a cycle, and its beginning.
+ghost use Rattle.std.specs.Prelude.{◌≡◌, ◌≤◌, ◌∷◌, [], Some, IsTrue};
+ghost use Rattle.mark_core.specs.Numbers.{free_count, last_count};
+ghost use Rattle.mark_core.specs.declared.kinds.Step.TheVariants.{ReadStat};
+ghost use Rattle.gc_table.specs.Seats.{Across, Answered, did, Sits, state_of};
+ghost use Rattle.gc_table.specs.Log.{Only};
+ghost use Rattle.gc_table.specs.Running.{Ran};
+ghost use Rattle.cache_refills.specs.Pace.Pacing.{KicksOff, kicks, late, late_seen, statistic as statistic_of};
+ghost use Rattle.cache_refills.specs.Pace.Payment.{reads_number};
+
+use gc_table::{Heap, HeapSeat};
+use mark_core::{FREE, LAST, Phase, RESCANNED, TRACED};
+
+/// The number in the word of a statistic, which is bounded, and 0 where the word fell below 0.
+fn statistic(word: u64) -> u32
+    ensures value { result ≡ statistic_of word }
+    ensures bound { result ≤ 16777216 }
+{
+    if word >= 9_223_372_036_854_775_808 {
+        return 0;
+    }
+    word.min(16_777_216) as u32
+}
+
+/// One of the statistics from `LAST` to `FREE`.
+pub(crate) fn read_statistic(heap: &Heap, seat: &mut HeapSeat, which: u8) -> u32
+    requires seat { Sits heap.now seat.old }
+    requires which { (last_count ≤ which) × (which ≤ free_count) }
+    ensures seat { Sits heap.now seat.new }
+    ensures ran { Across Ran seat.old seat.new }
+    ensures read { Across (Answered (ReadStat which) (λ n. result ≡ statistic_of n)) seat.old seat.new }
+    ensures state { state_of seat.new ≡ state_of seat.old }
+    ensures bound { result ≤ 16777216 }
+{
+    statistic(heap.read_stat(seat, which))
+}
+
+/// Whether a cycle is far on by these numbers: seven eighths of what the last one traced are traced, or hardly a cell is free.
+pub(crate) fn is_late(last: u32, traced: u32, free: u32) -> bool
+    ensures { result ≡ late last traced free }
+{
+    7 * u64::from(last) <= 8 * u64::from(traced) || 64 * u64::from(free) <= u64::from(last)
+}
+
+/// Whether the cycle under way is far on, so that cards are worth cleaning: one that is cleaned early is dirtied again, and then the stop cleans it.
+pub fn is_far_on(heap: &Heap, seat: &mut HeapSeat) -> bool
+    requires seat { Sits heap.now seat.old }
+    ensures seat { Sits heap.now seat.new }
+    ensures ran { Across Ran seat.old seat.new }
+    ensures only { Across (Only reads_number) seat.old seat.new }
+    ensures state { state_of seat.new ≡ state_of seat.old }
+    ensures late { late_seen (did seat.old seat.new) ≡ Some result }
+{
+    let last = read_statistic(heap, seat, LAST);
+    let traced = read_statistic(heap, seat, TRACED);
+    let free = read_statistic(heap, seat, FREE);
+    is_late(last, traced, free)
+}
+
+/// Begins a cycle where one is due, and wakes nobody: for a caller that can't, as a C program's thread.
+pub(crate) fn begin_due(heap: &Heap, seat: &mut HeapSeat) -> bool
+    requires seat { Sits heap.now seat.old }
+    requires active { IsTrue (state_of seat.old).active }
+    ensures seat { Sits heap.now seat.new }
+    ensures ran { Across Ran seat.old seat.new }
+    ensures begins { KicksOff result (did seat.old seat.new) }
+    ensures state { state_of seat.new ≡ state_of seat.old }
+    ensures only { Across (Only kicks) seat.old seat.new }
+{
+    let last = read_statistic(heap, seat, LAST);
+    let rescanned = read_statistic(heap, seat, RESCANNED);
+    let free = read_statistic(heap, seat, FREE);
+    if 8 * free >= last + rescanned {
+        return false;
+    }
+    heap.store_phase(seat, Phase::Marking)
+}
+
+/// Begins a cycle where one is due: where the free cells are fewer than an eighth of the work of the last one. True where it began it, and false where none was
+/// due or one was under way. Tracers that rest are woken.
+pub fn kick_off(heap: &Heap, seat: &mut HeapSeat) -> bool
+    requires seat { Sits heap.now seat.old }
+    requires active { IsTrue (state_of seat.old).active }
+    ensures seat { Sits heap.now seat.new }
+    ensures ran { Across Ran seat.old seat.new }
+    ensures begins { KicksOff result (did seat.old seat.new) }
+    ensures state { state_of seat.new ≡ state_of seat.old }
+    ensures only { Across (Only kicks) seat.old seat.new }
+{
+    if begin_due(heap, seat) {
+        heap.wake_resting();
+        return true;
+    }
+    false
+}

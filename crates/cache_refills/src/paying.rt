@@ -1,0 +1,187 @@
+//! What a mutator pays for its cache while a cycle is marking.
+//!
+//! It marks the roots of its own section and traces a quota of objects, which is larger the fewer cells are free. So marking keeps pace with allocation:
+//! Barabash and others, *A parallel, incremental, mostly concurrent garbage collector for servers*, 2005. Where it finds no packet to trace from, and the cycle
+//! is far on, it cleans cards, which fills packets again; and at last it brings back what was deferred. A card that is cleaned early is dirtied again, and then
+//! the stop cleans it.
+ghost use Rattle.std.specs.Prelude.{◌≡◌, ◌<◌, ◌≤◌, Some, IfSome, IfNone};
+ghost use Rattle.mark_core.specs.Cards.{block_cells};
+ghost use Rattle.mark_core.specs.Layout.{card_count};
+ghost use Rattle.mark_core.specs.declared.kinds.Phase.TheVariants.{Marking};
+ghost use Rattle.gc_table.specs.Log.{Only};
+ghost use Rattle.gc_table.specs.PlainSteps.{own_section};
+ghost use Rattle.gc_table.specs.Running.{Ran};
+ghost use Rattle.gc_table.specs.Seats.{Across, did, Sits, state_of, view_of};
+ghost use Rattle.cache_refills.specs.Pace.Payment.{HasPaid, MarksAndTraces, TracesNone, TracesOn, reads_number, stop_of};
+ghost use Rattle.cache_refills.specs.Pace.Pacing.{late_seen, quota_seen};
+ghost use Rattle.gc_cycle.specs.Standing.{Mutates};
+
+use crate::pace::{is_late, read_statistic};
+use crate::quota::quota_of;
+use gc_cycle::{Paid, clean, next_card, recycle_deferred, scan_roots, trace};
+use gc_table::{Heap, HeapSeat};
+use mark_core::{CARD_CELLS, FREE, LAST, RESCANNED, TRACED};
+use tracer::{RootScan, Stopped};
+
+/// What the mutator pays for a cache of `cells` free cells, at most 64, where it has read last that a cycle is marking: it marks its roots and traces its quota
+/// of objects, as [`quota_of`] has it of the numbers read now. How many it traced is told to the others once.
+///
+/// In the answer, `stopped` is Quota exactly where it traced its quota. NoWork comes only where, after its roots were read, no packet to read from was found
+/// while nothing was left in hand, and NoPacket only where none with room was found. Where no packet could be taken at all, neither roots nor objects were
+/// marked.
+pub(crate) fn pay(heap: &Heap, seat: &mut HeapSeat, cells: u32) -> Paid
+    requires seat { Sits heap.now seat.old × Mutates (view_of seat.old) }
+    requires marking { (state_of seat.old).phase_seen ≡ Some Marking }
+    requires cells { cells ≤ block_cells }
+    ensures seat { Sits heap.now seat.new }
+    ensures paid { Across (HasPaid cells result) seat.old seat.new }
+    ensures own { (view_of seat.new).own ≡ (view_of seat.old).own }
+{
+    let (quota, late) = quota_now(heap, seat, cells);
+    let paid = mark_and_trace(heap, seat, quota, late);
+    heap.add_stat(seat, TRACED, paid.done, false);
+    paid
+}
+
+/// The quota for a cache of `cells` free cells, and whether the cycle is far on, by the numbers as they are now.
+fn quota_now(heap: &Heap, seat: &mut HeapSeat, cells: u32) -> (u32, bool)
+    requires seat { Sits heap.now seat.old }
+    requires cells { cells ≤ block_cells }
+    ensures seat { Sits heap.now seat.new }
+    ensures ran { Across Ran seat.old seat.new }
+    ensures only { Across (Only reads_number) seat.old seat.new }
+    ensures state { state_of seat.new ≡ state_of seat.old }
+    ensures quota { quota_seen cells (did seat.old seat.new) ≡ Some result.0 }
+    ensures late { late_seen (did seat.old seat.new) ≡ Some result.1 }
+{
+    let last = read_statistic(heap, seat, LAST);
+    let rescanned = read_statistic(heap, seat, RESCANNED);
+    let traced = read_statistic(heap, seat, TRACED);
+    let free = read_statistic(heap, seat, FREE);
+    (
+        quota_of(cells, last, rescanned, traced, free),
+        is_late(last, traced, free),
+    )
+}
+
+/// Marks the roots of the seat's section, and traces a quota. Where no packet can be taken, nothing is done.
+fn mark_and_trace(heap: &Heap, seat: &mut HeapSeat, quota: u32, late: bool) -> Paid
+    requires seat { Sits heap.now seat.old × Mutates (view_of seat.old) }
+    requires marking { (state_of seat.old).phase_seen ≡ Some Marking }
+    ensures seat { Sits heap.now seat.new }
+    ensures pays { Across (MarksAndTraces (own_section (state_of seat.old)) quota result) seat.old seat.new }
+{
+    let section = seat.state().section.unwrap_or(0);
+    match scan_roots(heap, seat, section) {
+        RootScan::NoPacket => Paid {
+            quota,
+            done: 0,
+            stopped: stopped_at(quota),
+        },
+        RootScan::Done { marked: _ } => pay_quota(heap, seat, quota, late),
+    }
+}
+
+/// Why nothing was traced, where no packet could be taken.
+fn stopped_at(quota: u32) -> Stopped
+    ensures { result ≡ stop_of quota }
+{
+    if quota == 0 {
+        Stopped::Quota
+    } else {
+        Stopped::NoPacket
+    }
+}
+
+/// Traces a quota. Where there is no packet to trace from in the end, what was deferred is brought back.
+fn pay_quota(heap: &Heap, seat: &mut HeapSeat, quota: u32, late: bool) -> Paid
+    requires seat { Sits heap.now seat.old × Mutates (view_of seat.old) }
+    requires marking { (state_of seat.old).phase_seen ≡ Some Marking }
+    ensures seat { Sits heap.now seat.new }
+    ensures traces { Across (TracesOn quota 0 result) seat.old seat.new }
+{
+    let paid = trace_and_clean(heap, seat, quota, late);
+    if let Stopped::NoWork = paid.stopped {
+        recycle_deferred(heap, seat);
+    }
+    paid
+}
+
+/// Traces a quota. Where there is no packet to trace from and the cycle is far on, cards are cleaned until there is one: each at most once, since the counter
+/// of cards may be reset meanwhile.
+fn trace_and_clean(heap: &Heap, seat: &mut HeapSeat, quota: u32, late: bool) -> Paid
+    requires seat { Sits heap.now seat.old × Mutates (view_of seat.old) }
+    requires marking { (state_of seat.old).phase_seen ≡ Some Marking }
+    ensures seat { Sits heap.now seat.new }
+    ensures traces { Across (TracesOn quota 0 result) seat.old seat.new }
+{
+    let first = trace(heap, seat, quota);
+    let mut paid = Paid {
+        quota,
+        done: first.done,
+        stopped: first.stopped,
+    };
+    let most = if late {
+        heap.shape().cells / CARD_CELLS
+    } else {
+        0
+    };
+    for _card in 0..most {
+        let Stopped::NoWork = paid.stopped else {
+            return paid;
+        };
+        let Some(more) = clean_next(heap, seat, paid) else {
+            return paid;
+        };
+        paid = more;
+    }
+    paid
+}
+
+/// Whether a card is dirty: one look, and no packet.
+fn is_dirty(heap: &Heap, seat: &mut HeapSeat, card: u32) -> bool
+    requires seat { Sits heap.now seat.old × Mutates (view_of seat.old) }
+    requires card { card < card_count heap.now.shape }
+    ensures seat { Sits heap.now seat.new }
+    ensures none { Across TracesNone seat.old seat.new }
+{
+    heap.read_card(seat, card)
+}
+
+/// The next card of the pass that is found dirty: those before it cost one look each, and no packet. None where no card is left.
+fn next_dirty(heap: &Heap, seat: &mut HeapSeat) -> Option<u32>
+    requires seat { Sits heap.now seat.old × Mutates (view_of seat.old) }
+    requires marking { (state_of seat.old).phase_seen ≡ Some Marking }
+    ensures seat { Sits heap.now seat.new }
+    ensures none { Across TracesNone seat.old seat.new }
+    ensures there { IfSome result (λ card. card < card_count heap.now.shape) }
+{
+    for _card in 0..heap.shape().cells / CARD_CELLS {
+        let Some(card) = next_card(heap, seat) else {
+            return None;
+        };
+        if is_dirty(heap, seat, card) {
+            return Some(card);
+        }
+    }
+    None
+}
+
+/// Cleans the next dirty card and traces on, after what was paid before. None where no card is left, or no packet to clean it with.
+fn clean_next(heap: &Heap, seat: &mut HeapSeat, before: Paid) -> Option<Paid>
+    requires seat { Sits heap.now seat.old × Mutates (view_of seat.old) }
+    requires marking { (state_of seat.old).phase_seen ≡ Some Marking }
+    requires quota { before.done ≤ before.quota }
+    ensures seat { Sits heap.now seat.new }
+    ensures some { IfSome result (λ paid. Across (TracesOn before.quota before.done paid) seat.old seat.new) }
+    ensures none { IfNone result (Across TracesNone seat.old seat.new) }
+{
+    let card = next_dirty(heap, seat)?;
+    clean(heap, seat, card)?;
+    let more = trace(heap, seat, before.quota - before.done);
+    Some(Paid {
+        quota: before.quota,
+        done: before.done + more.done,
+        stopped: more.stopped,
+    })
+}

@@ -1,0 +1,257 @@
+//! A cache for a mutator, and its tracing increment.
+ghost use Rattle.std.specs.Prelude.{◌≡◌, [], None, Some, IfSome, IsTrue};
+ghost use Rattle.std.specs.Bool.{OnFalse, OnTrue};
+ghost use Rattle.mark_core.specs.Places.{the_phase};
+ghost use Rattle.mark_core.specs.Seats.{phase_number};
+ghost use Rattle.mark_core.specs.declared.kinds.Phase.TheVariants.{Full, Idle, Marking};
+ghost use Rattle.gc_table.specs.Log.{Only, events};
+ghost use Rattle.gc_table.specs.Running.{Known, Ran};
+ghost use Rattle.gc_table.specs.Seats.{Across, did, Sits, state_of, view_of};
+ghost use Rattle.gc_table.specs.declared.view.View.{View};
+ghost use Rattle.alloc_cache.specs.Caching.{IsCached};
+ghost use Rattle.cache_refills.specs.Getting.{RefillsTo};
+ghost use Rattle.gc_cycle.specs.Answering.{StoredAt, TellsFull};
+ghost use Rattle.gc_cycle.specs.Cycles.{fills_with_cause};
+ghost use Rattle.cache_refills.specs.InStops.{begins_none};
+ghost use Rattle.gc_cycle.specs.Mutating.{stays_calm};
+ghost use Rattle.cache_refills.specs.Pace.Paying.{IsFree};
+ghost use Rattle.cache_refills.specs.Refilling.{HasClaimed, IsPaced, IsRound, SeesEnd, looks_for_end, prepares};
+ghost use Rattle.gc_cycle.specs.Sparing.{SparesRefill, fills_part};
+ghost use Rattle.gc_cycle.specs.Standing.{KeepsSeat, KeepsSection, Mutates};
+ghost use Rattle.gc_cycle.specs.Statistics.{ChangesBy, PaysNumbers, RefillsNumbers, RoundNumbers};
+ghost use Rattle.cache_refills.specs.Stops.{stops_again_with_cause, stops_with_cause};
+
+use crate::claiming::claim_in_stop;
+use crate::pace::kick_off;
+use crate::paying::pay;
+use crate::watching::{Unwatched, Watch};
+use alloc_cache::{Cache, claim, retire};
+use gc_cycle::{Paid, Refill, Safe, ends_full, go_on, stop};
+use gc_table::{Heap, HeapSeat};
+use mark_core::{CARD_CELLS, CARD_COUNTER, Phase};
+use packet_pools::all_empty;
+use std::sync::Wait;
+use stop_world::resume;
+use tracer::Stopped;
+
+/// What is paid where nothing was owed.
+pub(crate) fn nothing_paid() -> Paid
+    ensures { IsFree result }
+{
+    Paid {
+        quota: 0,
+        done: 0,
+        stopped: Stopped::Quota,
+    }
+}
+
+/// A cache for a mutator without one, that has done `done` commands. While a cycle is marking, the mutator pays for it: it marks its roots, and traces
+/// a quota of objects.
+///
+/// The world is stopped only where no block has a free cell, or marking is done, and once more only where a collection left a cell free. Full comes only
+/// where the phase says so; this call says it only after a precise collection in its own stop that left no cell free.
+pub fn refill<R: Wait>(rt: &R, heap: &Heap, seat: &mut HeapSeat, done: u32) -> Refill
+    requires seat { Sits heap.now seat.old × Mutates (view_of seat.old) }
+    requires cache { (state_of seat.old).cache ≡ None }
+    ensures seat { Sits heap.now seat.new }
+    ensures ran { Across Ran seat.old seat.new }
+    ensures refills { Across (RefillsTo result done) seat.old seat.new }
+    ensures stops { IsTrue (stops_with_cause heap.now.shape (did seat.old seat.new)) }
+    ensures again { IsTrue (stops_again_with_cause heap.now.shape (did seat.old seat.new)) }
+    ensures fills { IsTrue (fills_with_cause heap.now.shape (did seat.old seat.new)) }
+    ensures keeps { Across KeepsSeat seat.old seat.new × Across KeepsSection seat.old seat.new }
+    ensures only { Across (Only fills_part) seat.old seat.new }
+    ensures numbers { Across (RefillsNumbers result) seat.old seat.new }
+    ensures spares { Across (SparesRefill result) seat.old seat.new }
+{
+    refill_watched(rt, heap, seat, done, &mut Unwatched)
+}
+
+/// A cache as [`refill`] gives it, and `watch` is told of each stop that the call makes.
+pub fn refill_watched<R: Wait, W: Watch>(
+    rt: &R,
+    heap: &Heap,
+    seat: &mut HeapSeat,
+    done: u32,
+    watch: &mut W,
+) -> Refill
+    requires seat { Sits heap.now seat.old × Mutates (view_of seat.old) }
+    requires cache { (state_of seat.old).cache ≡ None }
+    ensures seat { Sits heap.now seat.new }
+    ensures ran { Across Ran seat.old seat.new }
+    ensures refills { Across (RefillsTo result done) seat.old seat.new }
+    ensures stops { IsTrue (stops_with_cause heap.now.shape (did seat.old seat.new)) }
+    ensures again { IsTrue (stops_again_with_cause heap.now.shape (did seat.old seat.new)) }
+    ensures fills { IsTrue (fills_with_cause heap.now.shape (did seat.old seat.new)) }
+    ensures keeps { Across KeepsSeat seat.old seat.new × Across KeepsSection seat.old seat.new }
+    ensures only { Across (Only fills_part) seat.old seat.new }
+    ensures numbers { Across (RefillsNumbers result) seat.old seat.new }
+    ensures spares { Across (SparesRefill result) seat.old seat.new }
+{
+    for _ in rt.forever() {
+        if let Some(refill) = refill_once(rt, heap, seat, done, watch) {
+            return refill;
+        }
+    }
+    unreachable!()
+}
+
+/// One round, which ends without an answer where another seat's stop came first.
+fn refill_once<R: Wait, W: Watch>(
+    rt: &R,
+    heap: &Heap,
+    seat: &mut HeapSeat,
+    done: u32,
+    watch: &mut W,
+) -> Option<Refill>
+    requires seat { Sits heap.now seat.old × Mutates (view_of seat.old) }
+    requires cache { (state_of seat.old).cache ≡ None }
+    ensures seat { Sits heap.now seat.new }
+    ensures round { Across (IsRound result done) seat.old seat.new }
+    ensures numbers { Across (RoundNumbers result) seat.old seat.new }
+    ensures stops { IsTrue (stops_with_cause heap.now.shape (did seat.old seat.new)) }
+    ensures some { IfSome result (λ r. (u : View) → Ran u (view_of seat.old) → TellsFull u (view_of seat.old) → StoredAt done u (view_of seat.old) → RefillsTo r done u (view_of seat.new)) }
+{
+    if ends_full(heap, seat, done) {
+        return Some(Refill::Full);
+    }
+    if sees_to_cycle(heap, seat) {
+        return refill_in_stop(rt, heap, seat, done, watch);
+    }
+    claim_or_stop(rt, heap, seat, done, watch)
+}
+
+/// Begins a cycle, where the phase was read as Idle and one is due, and wakes the tracers that rest. Whether the cycle under way is done with marking.
+///
+/// `begins_or_ends` in `trying` does the same and wakes none: a static library calls that one, since it may not link what wakes a thread.
+fn sees_to_cycle(heap: &Heap, seat: &mut HeapSeat) -> bool
+    requires seat { Sits heap.now seat.old × Mutates (view_of seat.old) }
+    requires marking { (state_of seat.old).phase_seen ≡ Some Marking → Known (view_of seat.old) the_phase (phase_number Marking) }
+    ensures seat { Sits heap.now seat.new × Mutates (view_of seat.new) }
+    ensures ran { Across Ran seat.old seat.new }
+    ensures only { Across (Only prepares) seat.old seat.new }
+    ensures numbers { Across (ChangesBy []) seat.old seat.new }
+    ensures cache { (state_of seat.new).cache ≡ (state_of seat.old).cache }
+    ensures done { OnTrue result (((state_of seat.old).phase_seen ≡ Some Marking) × SeesEnd heap.now.shape (did seat.old seat.new)) }
+    ensures paced { OnFalse result (IsPaced (did seat.old seat.new) (view_of seat.new)) }
+{
+    if has_seen_marking(seat) {
+        return marking_is_done(heap, seat);
+    }
+    kick_off(heap, seat);
+    false
+}
+
+/// Whether the seat has read the phase last as Marking.
+pub(crate) fn has_seen_marking(seat: &HeapSeat) -> bool
+    ensures seen { OnTrue result ((state_of seat.now).phase_seen ≡ Some Marking) }
+{
+    match seat.state().phase_seen {
+        Some(Phase::Marking) => true,
+        _ => false,
+    }
+}
+
+/// A cache where a block can be claimed, and what is paid for it. Where none can, the mutator stops the world.
+fn claim_or_stop<R: Wait, W: Watch>(
+    rt: &R,
+    heap: &Heap,
+    seat: &mut HeapSeat,
+    done: u32,
+    watch: &mut W,
+) -> Option<Refill>
+    requires seat { Sits heap.now seat.old × Mutates (view_of seat.old) }
+    requires cache { (state_of seat.old).cache ≡ None }
+    ensures seat { Sits heap.now seat.new }
+    ensures round { Across (IsRound result done) seat.old seat.new }
+    ensures numbers { Across (RoundNumbers result) seat.old seat.new }
+    ensures stops { IsTrue (stops_with_cause heap.now.shape (did seat.old seat.new)) }
+    ensures some { IfSome result (λ r. (u : View) → Ran u (view_of seat.old) → TellsFull u (view_of seat.old) → StoredAt done u (view_of seat.old) → IsPaced (events u (view_of seat.old)) (view_of seat.old) → RefillsTo r done u (view_of seat.new)) }
+{
+    match claim(heap, seat) {
+        None => refill_in_stop(rt, heap, seat, done, watch),
+        Some(cache) => {
+            let refill = pay_for(heap, seat, cache, done);
+            tell_paid(&refill, watch);
+            Some(refill)
+        }
+    }
+}
+
+/// Tells what was paid for a cache.
+fn tell_paid<W: Watch>(refill: &Refill, watch: &mut W) {
+    if let Refill::Cache(_, paid) = refill {
+        watch.pays(*paid);
+    }
+}
+
+/// Whether the pass over the cards has ended and all packets are empty. Then marking is done, but for what mutators still do.
+pub(crate) fn marking_is_done(heap: &Heap, seat: &mut HeapSeat) -> bool
+    requires seat { Sits heap.now seat.old × Mutates (view_of seat.old) }
+    ensures seat { Sits heap.now seat.new × Mutates (view_of seat.new) }
+    ensures ran { Across Ran seat.old seat.new }
+    ensures only { Across (Only looks_for_end) seat.old seat.new }
+    ensures cache { (state_of seat.new).cache ≡ (state_of seat.old).cache }
+    ensures done { IsTrue result → SeesEnd heap.now.shape (did seat.old seat.new) }
+{
+    let seen = heap.read_stat(seat, CARD_COUNTER);
+    if seen < u64::from(heap.shape().cells / CARD_CELLS) {
+        return false;
+    }
+    all_empty(heap, seat)
+}
+
+/// What is paid for a cache, by the phase after its claim. Where the heap is full by then, the cache is given up.
+pub(crate) fn pay_for(heap: &Heap, seat: &mut HeapSeat, cache: Cache, done: u32) -> Refill
+    requires seat { Sits heap.now seat.old × Mutates (view_of seat.old) }
+    requires cache { IsCached cache (view_of seat.old) }
+    ensures seat { Sits heap.now seat.new }
+    ensures ran { Across Ran seat.old seat.new }
+    ensures only { Across (Only stays_calm) seat.old seat.new }
+    ensures numbers { Across (PaysNumbers cache result) seat.old seat.new }
+    ensures known { Across (SparesRefill result) seat.old seat.new }
+    ensures refills { (u : View) → HasClaimed cache done u (view_of seat.old) → RefillsTo result done u (view_of seat.new) }
+{
+    match heap.read_phase(seat) {
+        Phase::Full => {
+            retire(heap, seat, cache);
+            heap.store_position(seat, done);
+            Refill::Full
+        }
+        Phase::Marking => {
+            let paid = pay(heap, seat, cache.free());
+            Refill::Cache(cache, paid)
+        }
+        _ => Refill::Cache(cache, nothing_paid()),
+    }
+}
+
+/// A round in a stop of its own. Where another seat's flag is up it waits, and has no answer.
+pub(crate) fn refill_in_stop<R: Wait, W: Watch>(
+    rt: &R,
+    heap: &Heap,
+    seat: &mut HeapSeat,
+    done: u32,
+    watch: &mut W,
+) -> Option<Refill>
+    requires seat { Sits heap.now seat.old × Mutates (view_of seat.old) }
+    requires cache { (state_of seat.old).cache ≡ None }
+    ensures seat { Sits heap.now seat.new }
+    ensures round { Across (IsRound result done) seat.old seat.new }
+    ensures numbers { Across (RoundNumbers result) seat.old seat.new }
+    ensures some { IfSome result (λ r. (u : View) → Ran u (view_of seat.old) → TellsFull u (view_of seat.old) → StoredAt done u (view_of seat.old) → RefillsTo r done u (view_of seat.new)) }
+    ensures unbegun { IsTrue (begins_none (did seat.old seat.new)) }
+{
+    watch.asks();
+    if !stop(rt, heap, seat, done) {
+        return None;
+    }
+    let cache = claim_in_stop(rt, heap, seat, watch);
+    resume(heap, seat);
+    watch.resumes();
+    match go_on(heap, seat, cache, done) {
+        Safe::Full => Some(Refill::Full),
+        Safe::Going(Some(cache)) => Some(Refill::Cache(cache, nothing_paid())),
+        Safe::Going(None) => None,
+    }
+}

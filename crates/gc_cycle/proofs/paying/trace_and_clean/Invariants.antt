@@ -1,6 +1,0 @@
-use Rattle.gc_table.specs.Seats.{Sits, view_of}
-use Rattle.gc_cycle.specs.Pace.Payment.{TracesOn}
-use Rattle.gc_cycle.proofs.paying.trace_and_clean.Given as goal
-
-abbrev pub invariant-loop-card : goal.invariant-loop-card
-invariant-loop-card l = record { sits : Sits l.heap l.seat; traces : TracesOn l.fn.quota 0 l.paid (view_of l.fn.seat) (view_of l.seat) }

@@ -1,6 +1,0 @@
-use Rattle.gc_table.specs.Seats.{view_of}
-use Rattle.gc_table.proofs.Running.{ran-join}
-use Rattle.managed_heap.proofs.gates.come_to_turn.Goals as goal
-
-pub returns-in-Err-clause-ran : goal.returns-in-Err-clause-ran
-returns-in-Err-clause-ran g c = ran-join (view_of c.args.seat.now) (view_of c.pass.new.seat) (view_of c.leave_full.new.seat) c.pass.ensures.ran c.leave_full.ensures.ran

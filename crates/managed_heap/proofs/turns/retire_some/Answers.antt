@@ -1,7 +1,0 @@
-use Rattle.managed_heap.proofs.Seats.{retired-halts}
-use Rattle.managed_heap.proofs.turns.retire_some.Goals as goal
-
-pub returns-clause-halts : goal.returns-clause-halts
-returns-clause-halts c =
-    let e = c.retire_some.ensures in
-    retired-halts c.args.heap.now c.args.seat.now c.retire_some.new.seat c.requires.works e.seat.0 e.seat.1 e.ran e.state e.own

@@ -1,0 +1,5 @@
+mod Done
+mod Fulls
+mod Naming
+pub mod Seats
+mod Uncatalogued

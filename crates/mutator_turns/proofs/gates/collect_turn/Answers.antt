@@ -1,0 +1,41 @@
+use Rattle.std.proofs.Common.{ℕ, ◌≡◌, ◌++◌, Option, Some, None, true, ap, ◌∙◌}
+use Rattle.std.proofs.lemmas.Result.{IfOk-weaker}
+use Rattle.gc_table.specs.Log.{events}
+use Rattle.gc_table.specs.Seats.{view_of}
+use Rattle.gc_table.specs.declared.view.View.{View}
+use Rattle.gc_table.proofs.Running.{ran-events, ran-join}
+use Rattle.alloc_cache.specs.declared.cache.Cache.{Cache}
+use Rattle.gc_cycle.specs.Answering.{CollectsTo}
+use Rattle.gc_cycle.specs.Cycles.{collects}
+use Rattle.gc_cycle.specs.Sorts.{begins_exactly, ends_cycle}
+use Rattle.gc_cycle.specs.declared.counts.Safe.TheVariants as safes
+use Rattle.gc_cycle.proofs.Refills.Collected.{followed-earlier}
+use Rattle.gc_cycle.proofs.Sequences.{followed-later}
+use Rattle.mutator_turns.proofs.Seats.{collected-mutates, kept-works}
+use Rattle.mutator_turns.proofs.gates.collect_turn.Goals as goal
+
+pub come_to_turn-requires-clause-works : goal.come_to_turn-requires-clause-works
+come_to_turn-requires-clause-works g c =
+    let r = c.in-Going.ensures in
+    kept-works c.args.heap.now c.retire_own_cache.new.seat c.collect.new.seat c.retire_own_cache.ensures.halts.works r.seat (collected-mutates c.in-Going.cache _ (view_of c.retire_own_cache.new.seat) (view_of c.collect.new.seat) r.collects) r.ran r.keeps.0 r.keeps.1
+
+pub leave_full-requires-clause-halts : goal.leave_full-requires-clause-halts
+leave_full-requires-clause-halts g c =
+    let r = c.in-Full.ensures in
+    record { works = kept-works c.args.heap.now c.retire_own_cache.new.seat c.collect.new.seat c.retire_own_cache.ensures.halts.works r.seat r.collects.mutates r.ran r.keeps.0 r.keeps.1; cache = r.collects.cache }
+
+collected : (kept : Option Cache) (done : ℕ) (v w : View) → CollectsTo (safes.Going kept) done v w → collects (events v w) ≡ true
+collected None done v w c = c.collected
+collected (Some h) done v w c = absurd c
+
+pub returns-in-Going-clause-ok : goal.returns-in-Going-clause-ok
+returns-in-Going-clause-ok g c =
+    let x = view_of c.args.seat.now in
+    let y = view_of c.retire_own_cache.new.seat in
+    let z = view_of c.collect.new.seat in
+    let w = view_of c.come_to_turn.new.seat in
+    let r = c.in-Going.ensures in
+    let rest = followed-earlier begins_exactly ends_cycle (events y z) (events z w) (collected c.in-Going.cache _ y z r.collects) in
+    let parts : events x w ≡ events x y ++ (events y z ++ events z w) = ran-events x y w c.retire_own_cache.ensures.ran (ran-join y z w r.ran c.come_to_turn.ensures.ran) ∙ ap (λ es. events x y ++ es) (ran-events y z w r.ran c.come_to_turn.ensures.ran) in
+    let all : collects (events x w) ≡ true = ap collects parts ∙ followed-later begins_exactly ends_cycle (events x y) (events y z ++ events z w) rest in
+    IfOk-weaker c.come_to_turn.result _ _ (λ _ turn. (turn, all)) c.come_to_turn.ensures.ok

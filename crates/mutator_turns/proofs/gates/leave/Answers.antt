@@ -1,0 +1,18 @@
+use Rattle.gc_table.specs.Seats.{view_of}
+use Rattle.mutator_turns.proofs.Fulls.{out-full}
+use Rattle.mutator_turns.proofs.Seats.{kept-heap, mutator-kept}
+use Rattle.mutator_turns.proofs.gates.leave.Goals as goal
+
+pub returns-clause-waits : goal.returns-clause-waits
+returns-clause-waits c =
+    let e = c.go_out.ensures in
+    record { sits = e.seat.0; out = e.seat.1; mutator = mutator-kept (view_of c.args.seat.now) (view_of c.go_out.new.seat) c.requires.halts.works.mutator e.out.ran e.out.seat e.out.section }
+
+pub returns-clause-same : goal.returns-clause-same
+returns-clause-same c = kept-heap (view_of c.args.seat.now) (view_of c.go_out.new.seat) c.go_out.ensures.out.section
+
+pub returns-clause-full : goal.returns-clause-full
+returns-clause-full c = out-full (view_of c.args.seat.now) (view_of c.go_out.new.seat) c.go_out.ensures.out
+
+pub returns-clause-ran : goal.returns-clause-ran
+returns-clause-ran c = c.go_out.ensures.out.ran

@@ -1,0 +1,15 @@
+use Rattle.gc_table.specs.Seats.{view_of}
+use Rattle.std.proofs.Common.{Some}
+use Rattle.mutator_turns.proofs.Done.{plays-creates, steps-creates}
+use Rattle.mutator_turns.proofs.Seats.{plays-turn, whole-cache}
+use Rattle.mutator_turns.proofs.operations.make_in.Goals as goal
+
+pub returns-clause-turn : goal.returns-clause-turn
+returns-clause-turn c =
+    let y = c.create.new.seat in
+    let e = c.create.ensures in
+    plays-turn c.args.heap.now y (plays-creates c.args.heap.now c.args.v c.args.value c.in-Some._cell c.args.seat.now y c.requires.plays e.seat.0 e.seat.1 c.in-Some.ensures.creates.1)
+    (whole-cache (Some c.create.new.cache) (view_of y) e.cache)
+
+pub returns-clause-steps : goal.returns-clause-steps
+returns-clause-steps c = steps-creates c.args.v c.args.value c.in-Some._cell c.args.heap.now c.args.seat.now c.create.new.seat c.requires.plays c.in-Some.ensures.creates.1

@@ -1,0 +1,12 @@
+use Rattle.mutator_turns.proofs.Seats.{kept-works}
+use Rattle.mutator_turns.proofs.turns.fill_beside.Goals as goal
+
+pub returns-in-Cache-clause-ok : goal.returns-in-Cache-clause-ok
+returns-in-Cache-clause-ok g c =
+    let r = c.in-Cache.ensures in
+    (kept-works c.args.heap.now c.args.seat.now c.refill_watched.new.seat c.requires.halts.works r.seat r.refills.goes_on.mutates r.ran r.keeps.0 r.keeps.1, r.refills.cached)
+
+pub returns-in-Full-clause-err : goal.returns-in-Full-clause-err
+returns-in-Full-clause-err g c =
+    let r = c.in-Full.ensures in
+    (record { works = kept-works c.args.heap.now c.args.seat.now c.refill_watched.new.seat c.requires.halts.works r.seat r.refills.mutates r.ran r.keeps.0 r.keeps.1; cache = r.refills.cache }, r.spares)

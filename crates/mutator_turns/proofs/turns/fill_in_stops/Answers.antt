@@ -1,0 +1,12 @@
+use Rattle.mutator_turns.proofs.Seats.{kept-works}
+use Rattle.mutator_turns.proofs.turns.fill_in_stops.Goals as goal
+
+pub returns-in-Cache-clause-ok : goal.returns-in-Cache-clause-ok
+returns-in-Cache-clause-ok g c =
+    let r = c.in-Cache.ensures in
+    (kept-works c.args.heap.now c.args.seat.now c.refill_in_stops.new.seat c.requires.halts.works r.seat r.fills.goes_on.mutates r.ran r.keeps.0 r.keeps.1, r.fills.cached)
+
+pub returns-in-Full-clause-err : goal.returns-in-Full-clause-err
+returns-in-Full-clause-err g c =
+    let r = c.in-Full.ensures in
+    (record { works = kept-works c.args.heap.now c.args.seat.now c.refill_in_stops.new.seat c.requires.halts.works r.seat r.fills.mutates r.ran r.keeps.0 r.keeps.1; cache = r.fills.cache }, r.spares)

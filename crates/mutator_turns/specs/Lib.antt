@@ -1,0 +1,3 @@
+pub mod Halting
+pub mod Plain
+pub mod Standing

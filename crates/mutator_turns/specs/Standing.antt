@@ -1,0 +1,64 @@
+-- Where a mutator's seat stands: outside the world, in it between two calls, and at its turn; and where a tracer's does between two turns.
+use Rattle.std.specs.Prelude.{◌≡◌, [], length, Bool, true, false, Option, Some, None, IsTrue}
+use Rattle.mark_core.specs.Seats.{has_turn}
+use Rattle.mark_core.specs.declared.kinds.Phase.{Phase}
+use Rattle.mark_core.specs.declared.kinds.Phase.TheVariants.{Full}
+use Rattle.plain_heap.specs.PlainHeap.{Heap as PlainHeap}
+use Rattle.gc_table.specs.declared.seat.Heap.{Heap}
+use Rattle.gc_table.specs.declared.seat.HeapSeat.{HeapSeat}
+use Rattle.gc_table.specs.declared.view.View.{View}
+use Rattle.gc_table.specs.Seats.{Sits, view_of}
+use Rattle.alloc_cache.specs.Caching.{is_whole}
+use Rattle.mutator_ops.specs.Ready.{IsReady}
+use Rattle.gc_cycle.specs.Standing.{IsOut, Mutates}
+
+-- the plain heap of the seat's section
+abbrev pub plain_of : HeapSeat → PlainHeap
+plain_of s = (view_of s).own.meaning.heap
+
+-- what is so of a mutator's seat from the first step to the last: there is no catalogue, its section plays in season 1, and each cell that it made has its
+-- object
+pub record IsMutator (v : View) : Type 0 where
+  pub plan : v.plan ≡ []
+  pub section : IsTrue (has_turn v.state.section (Some 1))
+  pub counted : length v.own.meaning.heap.objects ≡ v.state.made
+
+-- a mutator outside the world
+pub record IsMutatorOutside (h : Heap) (s : HeapSeat) : Type 0 where
+  pub sits : Sits h s
+  pub out : IsOut (view_of s)
+  pub mutator : IsMutator (view_of s)
+
+-- a mutator in the world, between two calls
+pub record Works (h : Heap) (s : HeapSeat) : Type 0 where
+  pub sits : Sits h s
+  pub mutates : Mutates (view_of s)
+  pub mutator : IsMutator (view_of s)
+
+-- a mutator in the world, at its turn, with the phase read: it may do an operation
+pub record Plays (h : Heap) (s : HeapSeat) : Type 0 where
+  pub works : Works h s
+  pub ready : IsReady (view_of s)
+
+-- a mutator in the world without a cache
+pub record Halts (h : Heap) (s : HeapSeat) : Type 0 where
+  pub works : Works h s
+  pub cache : (view_of s).state.cache ≡ None
+
+-- a phase was read, and the heap isn't full
+abbrev pub saw_going : Option Phase → Bool
+saw_going None = false
+saw_going (Some Full) = false
+saw_going (Some p) = true
+
+-- a mutator at its turn, with the phase read, and with a cache or without: it may do an operation
+pub record IsAtTurn (h : Heap) (s : HeapSeat) : Type 0 where
+  pub works : Works h s
+  pub turn : IsTrue (has_turn (view_of s).state.section (view_of s).state.season_seen)
+  pub phase : IsTrue (saw_going (view_of s).state.phase_seen)
+  pub cache : IsTrue (is_whole (view_of s).state.cache)
+
+-- a seat outside the world
+pub record RestsOutside (h : Heap) (s : HeapSeat) : Type 0 where
+  pub sits : Sits h s
+  pub out : IsOut (view_of s)

@@ -1,0 +1,23 @@
+//! A mutator's seat between its calls: into the world and out of it, to its turn, and one operation at a time.
+//!
+//! `managed_heap` has two types that own such a seat: one for threads that may wait, and one for those that may not. What they have in common stands here as calls on the
+//! heap and the seat, which ask for the facts that those types keep (`specs/Standing.antt`): the seat waits outside the world, is inside without a cache, or is at its turn.
+//!
+//! - `gates`: in and out of the world, a safe point, and a collection
+//! - `turns`: to the mutator's turn, and to a free cell
+//! - `operations`: one operation, at its turn
+//! - `refused`: why a call did nothing
+#![tactic(auto)]
+
+mod gates;
+mod operations;
+mod refused;
+mod turns;
+
+pub use gates::{collect_turn, enter_turn, leave, leave_turn, pass_turn, retire_own_cache};
+pub use operations::{
+    copy_variable, forget_variable, get_field, make_in, make_object, put_value, read_value,
+    refer_to_one, refers_to_nothing, set_field,
+};
+pub use refused::{NotOpened, Refused};
+pub use turns::{TURN, keep_some, retire_some, with_free};

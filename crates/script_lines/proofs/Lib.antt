@@ -1,0 +1,4 @@
+pub mod Positions
+pub mod Bytes
+pub mod Cuts
+pub mod FirstLine

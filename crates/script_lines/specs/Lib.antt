@@ -1,0 +1,4 @@
+pub mod ScriptText
+pub mod FirstLine
+pub mod Statement
+pub mod Said

@@ -1,0 +1,39 @@
+//! What the words of a bench's command line say, and what a bench writes.
+use std::rt::{Env, Runtime};
+use std::{env, io};
+
+/// The words of the command line, without the program's own name.
+pub fn command_words<R: Env + AllocGlobal>(rt: &R) -> io::Result<Vec<String>> {
+    let mut words = Vec::new(rt.alloc());
+    let mut is_name = true;
+    for word in env::args(rt)? {
+        if is_name {
+            is_name = false;
+        } else {
+            words.push(word)?;
+        }
+    }
+    Ok(words)
+}
+
+/// How many rounds the word asks for, or nothing.
+pub fn rounds_of(word: &String) -> Option<u64> {
+    word.as_str().parse::<u64>().ok()
+}
+
+/// The name and the number of rounds that two words say, or nothing.
+pub fn named_rounds(words: &[String]) -> Option<(&str, u64)> {
+    let [name, rounds] = words else {
+        return None;
+    };
+    Some((name.as_str(), rounds_of(rounds)?))
+}
+
+/// Writes what was done so many times, or that it failed.
+pub fn report<R: Runtime>(rt: &R, name: &str, rounds: u64, is_done: bool) -> io::Result<()> {
+    if is_done {
+        println!(rt; "{name} {rounds}")
+    } else {
+        println!(rt; "{name} failed")
+    }
+}
