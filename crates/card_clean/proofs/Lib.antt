@@ -1,4 +1,5 @@
 pub mod Owned
+pub mod Exchanging
 mod Words
 mod CardCells
 mod Steps

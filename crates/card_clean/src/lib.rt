@@ -50,7 +50,7 @@ mod rescanning;
 mod roots;
 mod taking;
 
-pub use barrier::{store_ref, store_value};
+pub use barrier::{exchange_ref, exchange_value, share_ref, share_value, store_ref, store_value};
 pub use card_pass::next_card;
 pub use cleaned::Cleaned;
 pub use cleaning::clean_card;

@@ -13,7 +13,7 @@ use Rattle.mark_core.proofs.References.ReferencesEnv.{section-is}
 use Rattle.mark_core.proofs.Notes.NotesKept.{single-word}
 use Rattle.mark_core.specs.declared.kinds.Shape.{Shape}
 use Rattle.mark_core.specs.declared.kinds.Step.{Step}
-use Rattle.mark_core.specs.declared.kinds.Step.TheVariants.{StoreField, StoreValue, StoreRoot, StoreNew, StorePhase, NextSeason}
+use Rattle.mark_core.specs.declared.kinds.Step.TheVariants.{StoreField, StoreValue, StoreRoot, StoreNew, StorePhase, NextSeason, ExchangeField, ExchangeValue}
 use Rattle.mark_core.specs.declared.seat.SeatState.{SeatState}
 use Rattle.plain_heap.specs.declared.operation.Op.{Op}
 use Rattle.gc_table.specs.declared.view.SectionState.{SectionState}
@@ -59,4 +59,6 @@ asked-in x i v (StoreRoot u r) k a ok h = let m = has-section v.state (and_parts
 asked-in x i v (StoreNew c part word) k a ok h = let m = has-section v.state (and_parts _ (may_mutate v.state) ok.0).1 in asked_same x i v m.0 (StoreNew c part word) a m.1 h
 asked-in x i v (StorePhase to) k a ok h = λ full. let q = h full in (q.0, q.1, named_there x i v q.0 a q.2)
 asked-in x i v NextSeason k a ok h = asked_same x i v 0 NextSeason a h.0 h
+asked-in x i v (ExchangeField u j w y) k a ok h = h
+asked-in x i v (ExchangeValue u m n) k a ok h = h
 asked-in x i v step k a ok h = tt

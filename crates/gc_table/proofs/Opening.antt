@@ -244,7 +244,7 @@ splits sh plan id v shaped planned first opened s o me =
             own = λ w e.
                 let mine : (start_seat sh n).section ≡ Some w = (λ y. (start_seat (sym shaped y) (sym all y)).section) ∙ (ap (λ (z : View). z.state.section) p.1 ∙ e) in
                 let q = section_there sh n w mine in
-                let inside : w < length o.sections = omega (arith, q.0, q.1, o.whole.stands.sections, length-map o.sections (λ (y : SectionState). y.meaning)) in
+                let inside : w < length o.sections = omega (arith, q.0, q.1, o.whole.sections) in
                 let got : slice_get o.sections w ≡ Some (section_at o.sections w) = slice_get-get_or o.sections w no_section inside in
                 let still : section_at o.sections w ≡ start_section sh w = o.whole.told.unseated w (section_at o.sections w) got (omega (arith, q.0, records-length sh 0 s.views)) in
                 got ∙ (ap Some still ∙ ((λ y. Some (start_section (sym shaped y) ((q.0 ∙ sym all) y))) ∙ ap (λ (z : View). Some z.own) p.1));

@@ -1,5 +1,5 @@
 -- A short run of events, with the plain heap that it leaves.
-use Rattle.std.specs.Prelude.{ℕ, ◌≡◌, List, [], ◌∷◌, map, refl, Some, None, Option, slice_get, slice_index_or}
+use Rattle.std.specs.Prelude.{ℕ, false, ◌≡◌, List, [], ◌∷◌, map, refl, Some, None, Option, slice_get, slice_index_or}
 use Rattle.mark_core.specs.Start.{start_seat}
 use Rattle.mark_core.specs.Steps.{Core, start_core, after_event, first_refused}
 use Rattle.mark_core.specs.declared.seat.SeatState.{SeatState}
@@ -37,7 +37,7 @@ run_both [] b = b
 run_both (x ∷ xs) b = run_both xs (after_of (slice_get b.0.seats x.0.seat) x.0 x.1 b)
 
 abbrev pub small : Shape
-small = record { cells = 64; packets = 2; entries = 2; sections = 2; fields = 1; objects = 2000000 }
+small = record { cells = 64; packets = 2; entries = 2; sections = 2; fields = 1; objects = 2000000; sharing = false }
 
 abbrev begin : Both
 begin = (start_core small 2, start_meanings small)

@@ -6,7 +6,7 @@ use Rattle.mark_core.specs.Seats.{is_phase}
 use Rattle.mark_core.specs.declared.kinds.Phase.{Phase}
 use Rattle.mark_core.specs.declared.kinds.Phase.TheVariants.{Idle, Marking}
 use Rattle.mark_core.specs.declared.kinds.Step.{Step}
-use Rattle.mark_core.specs.declared.kinds.Step.TheVariants.{Take, SetMark, ClearCard, ReadCard, ClaimBlock, EnterStep, RaiseStep, StorePhase, JoinHelpStep, Split, Join, Push, DirtyCard, StoreField, StoreValue, StoreRoot, ReleaseBlock, StoreNew, StoreAlloc, ClearMarks, WipeCard, StorePosition, StoreNamed, Reset, StoreLength}
+use Rattle.mark_core.specs.declared.kinds.Step.TheVariants.{Take, SetMark, ClearCard, ReadCard, ClaimBlock, EnterStep, RaiseStep, StorePhase, JoinHelpStep, Split, Join, Push, DirtyCard, StoreField, StoreValue, StoreRoot, ReleaseBlock, StoreNew, StoreAlloc, ClearMarks, WipeCard, StorePosition, StoreNamed, Reset, StoreLength, ExchangeValue}
 use Rattle.gc_table.specs.declared.view.Entry.{Entry}
 use Rattle.mark_core.specs.Numbers.{word_bits}
 
@@ -15,7 +15,7 @@ abbrev pub moves_from : ℕ → Phase → Bool
 moves_from n Marking = is_phase n Idle
 moves_from n to = true
 
--- the step got what it tried to get, where it found this word
+-- the step got what it tried to get, where it found this word; whether an exchange of a field did, its seat tells by its variables
 abbrev pub won : Step → ℕ → Bool
 won (Take q p) n = has_bit n (p % word_bits)
 won (SetMark c) n = not (has_bit n (c % block_cells))
@@ -26,6 +26,7 @@ won EnterStep n = not (has_flag n)
 won RaiseStep n = not (has_flag n)
 won JoinHelpStep n = has_flag n
 won (StorePhase to) n = moves_from n to
+won (ExchangeValue v m x) n = n == m
 won step n = true
 
 -- the event of a step that found n

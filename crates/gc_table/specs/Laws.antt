@@ -1,5 +1,5 @@
 -- What is claimed of the plain heaps for which the words stand, as statements for proofs to meet.
-use Rattle.std.specs.Prelude.{ℕ, ◌≤◌, ◌≡◌, List, [], None, Some, IsTrue, length, slice_get, slice_set, take}
+use Rattle.std.specs.Prelude.{ℕ, ◌≤◌, ◌≡◌, List, [], None, Some, IsTrue, IsFalse, length, slice_get, slice_set, take}
 use Rattle.mark_core.specs.Shapes.{IsShape}
 use Rattle.mark_core.specs.Steps.{Core, failing_part, after_event, first_refused, run_of, start_core}
 use Rattle.mark_core.specs.Layout.{words_of}
@@ -43,7 +43,7 @@ StartStands = (sh : Shape) (n : ℕ) → IsShape sh → StandsFor (start_core sh
 -- each event that is allowed, and whose step meets what is asked besides, keeps it: the words stand for the heaps after the step
 abbrev pub EventsKeepStands : Type 0
 EventsKeepStands =
-    (c : Core) (e : Event) (s : SeatState) (op : Op) (ms : List Meaning) → IsCore c → StandsFor c ms → slice_get c.seats e.seat ≡ Some s → AsksIn s ms e.step op → failing_part c e ≡ None
+    (c : Core) (e : Event) (s : SeatState) (op : Op) (ms : List Meaning) → IsFalse c.shape.sharing → IsCore c → StandsFor c ms → slice_get c.seats e.seat ≡ Some s → AsksIn s ms e.step op → failing_part c e ≡ None
     → StandsFor (after_event c e) (meanings_after c.shape s e.step op ms)
 
 -- the plain step of a store is one of a script: its variables, fields and values are in range

@@ -1,5 +1,5 @@
 -- What a seat reads, in the words of the plain heaps.
-use Rattle.std.specs.Prelude.{ℕ, ◌≡◌, ◌+◌, ◌/◌, ◌%◌, ◌↔◌, Some}
+use Rattle.std.specs.Prelude.{ℕ, ◌≡◌, ◌+◌, ◌/◌, ◌%◌, ◌↔◌, IsFalse, Some}
 use Rattle.mark_core.specs.Numbers.{first_position}
 use Rattle.mark_core.specs.Bits.{flag}
 use Rattle.mark_core.specs.declared.kinds.Step.{Step}
@@ -15,12 +15,12 @@ use Rattle.gc_table.specs.Sections.{seen_by, section_after}
 -- what n is, where a step of the seat with this view found it
 abbrev pub Reads : Step → ℕ → View → Type 0
 -- the value of the object that the seat knows by this cell
-Reads (ReadValue c) n v = (o : Object) × (object_of v.own.meaning.heap (seen_by v.shape v.plan v.state) (known_as v.state v.own.meaning c) ≡ Some o) × (n ≡ o.value)
+Reads (ReadValue c) n v = IsFalse v.shape.sharing → (o : Object) × (object_of v.own.meaning.heap (seen_by v.shape v.plan v.state) (known_as v.state v.own.meaning c) ≡ Some o) × (n ≡ o.value)
 -- the section and the number of this object
-Reads (ReadIdent c) n v = Names (own_section v.state) (known_as v.state v.own.meaning c) (record { section = n / flag; number = n % flag })
+Reads (ReadIdent c) n v = IsFalse v.shape.sharing → Names (own_section v.state) (known_as v.state v.own.meaning c) (record { section = n / flag; number = n % flag })
 -- nil exactly where the plain heap has nil
-Reads (ReadOwn c i) n v = (n ≡ 0) ↔ ((section_after v.shape v.plan v.state (ReadOwn c i) v.own).meaning.got ≡ refs.Nil)
-Reads (ReadCat u) n v = (n ≡ 0) ↔ ((section_after v.shape v.plan v.state (ReadCat u) v.own).meaning.got ≡ refs.Nil)
+Reads (ReadOwn c i) n v = IsFalse v.shape.sharing → (n ≡ 0) ↔ ((section_after v.shape v.plan v.state (ReadOwn c i) v.own).meaning.got ≡ refs.Nil)
+Reads (ReadCat u) n v = IsFalse v.shape.sharing → (n ≡ 0) ↔ ((section_after v.shape v.plan v.state (ReadCat u) v.own).meaning.got ≡ refs.Nil)
 -- how many times the catalogue's seat moved the season on
 Reads ReadSeason n v = v.state.section ≡ Some 0 → n ≡ v.own.seasons
 -- how many commands the seat's own section has done

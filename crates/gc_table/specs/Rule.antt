@@ -1,6 +1,6 @@
 -- The rule of the table. It speaks of a state of the core, made of the words and of the records of all seats, of what each section has come to, and of how each
 -- seat's view agrees with them.
-use Rattle.std.specs.Prelude.{ℕ, ◌≡◌, ◌⊎◌, ◌≤◌, ◌+◌, List, [], ◌∷◌, ◌++◌, if◌then◌else◌, ◌==◌, slice_get, length, IsTrue, IsFalse, Option, None, Some, Contains}
+use Rattle.std.specs.Prelude.{ℕ, false, ◌≡◌, ◌⊎◌, ◌≤◌, ◌+◌, List, [], ◌∷◌, ◌++◌, if◌then◌else◌, ◌==◌, slice_get, length, IsTrue, IsFalse, Option, None, Some, Contains}
 use mathlib.Core.Option.{some}
 use lib.ListN.{get_elem?}
 use Rattle.atomic_table.specs.Table.{State}
@@ -47,7 +47,9 @@ table_state sh plan xs s = record { core = core_of sh s; plan = plan; sections =
 pub record IsState (x : TableState) : Type 0 where
   pub core : IsCore x.core
   pub swept : IsSweptCore x.core
-  pub stands : StandsFor x.core (meanings_of x.sections)
+  pub sections : length x.sections ≡ x.core.shape.sections
+  -- where objects aren't shared, the words of each section stand for a plain heap of its own
+  pub stands : IsFalse x.core.shape.sharing → StandsFor x.core (meanings_of x.sections)
   pub told : IsTold x
 
 -- each note may be kept while others step, and is true
@@ -134,7 +136,7 @@ takes_in v w =
 
 -- no sizes
 abbrev pub no_shape : Shape
-no_shape = record { cells = 0; packets = 0; entries = 0; sections = 0; fields = 0; objects = 0 }
+no_shape = record { cells = 0; packets = 0; entries = 0; sections = 0; fields = 0; objects = 0; sharing = false }
 
 -- what is left of a seat that was joined into another
 abbrev pub nobody : View

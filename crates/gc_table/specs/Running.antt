@@ -6,7 +6,7 @@ use Rattle.mark_core.specs.Places.{the_phase}
 use Rattle.mark_core.specs.Seats.{phase_number}
 use Rattle.mark_core.specs.declared.kinds.Phase.{Phase}
 use Rattle.mark_core.specs.declared.kinds.Step.{Step}
-use Rattle.mark_core.specs.declared.kinds.Step.TheVariants.{StoreField, StoreValue, StoreRoot, StoreNew, StorePosition, OpenStep, DropStep, StorePhase, ReadOwn, ReadCat, NextSeason}
+use Rattle.mark_core.specs.declared.kinds.Step.TheVariants.{StoreField, StoreValue, StoreRoot, StoreNew, StorePosition, OpenStep, DropStep, StorePhase, ReadOwn, ReadCat, NextSeason, ExchangeField, ExchangeValue}
 use Rattle.gc_table.specs.declared.view.Entry.{Entry}
 use Rattle.gc_table.specs.declared.view.View.{View}
 pub use Rattle.gc_table.specs.Entries.{is_store}
@@ -65,6 +65,8 @@ changes_section (ReadCat v) = true
 changes_section (StoreField v i w) = true
 changes_section (StoreValue v n) = true
 changes_section (StoreRoot v r) = true
+changes_section (ExchangeField v i x y) = true
+changes_section (ExchangeValue v m n) = true
 changes_section (StoreNew c part word) = true
 changes_section (StorePosition done) = true
 changes_section (StorePhase to) = true

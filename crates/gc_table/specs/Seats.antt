@@ -1,5 +1,5 @@
 -- A seat of a heap.
-use Rattle.std.specs.Prelude.{ℕ, ◌≡◌, List, [], IsTrue}
+use Rattle.std.specs.Prelude.{ℕ, ◌≡◌, List, [], IsTrue, IsFalse}
 use Rattle.plain_heap.specs.declared.operation.Op.{Op}
 use Rattle.plain_heap.specs.PlainStep.{heap_after}
 use Rattle.gc_table.specs.PlainSteps.{Asks}
@@ -72,4 +72,4 @@ IsOutside v = IsTrue (is_bare v.state)
 -- the store was one plain step: each that could be meant by it
 abbrev pub IsPlainStep : Step → View → View → Type 0
 IsPlainStep step v w =
-    (op : Op) → Asks v.state v.own.meaning (seen_by v.shape v.plan v.state) step op → w.own.meaning.heap ≡ heap_after v.own.meaning.heap (seen_by v.shape v.plan v.state) op
+    IsFalse v.shape.sharing → (op : Op) → Asks v.state v.own.meaning (seen_by v.shape v.plan v.state) step op → w.own.meaning.heap ≡ heap_after v.own.meaning.heap (seen_by v.shape v.plan v.state) op

@@ -1,13 +1,13 @@
 -- What a section comes to by the steps of its seat: its plain heap, where its objects were made, and what its seat did besides. A seat can tell all of it by
 -- itself.
-use Rattle.std.specs.Prelude.{ℕ, zero, suc, ◌≡◌, ◌+◌, ◌/◌, ◌%◌, ◌==◌, ◌&&◌, ◌||◌, if◌then◌else◌, List, [], ◌∷◌, ◌++◌, length, map, false, Option, Some, None, IsTrue, unwrap_or}
+use Rattle.std.specs.Prelude.{ℕ, zero, suc, ◌≡◌, ◌+◌, ◌/◌, ◌%◌, ◌==◌, ◌&&◌, ◌||◌, if◌then◌else◌, List, [], ◌∷◌, ◌++◌, length, map, false, Option, Some, None, IsTrue, IsFalse, unwrap_or}
 use Rattle.std.specs.List.{range_with_len}
 use Rattle.mark_core.specs.Steps.MutatorSteps.{names_last}
 use Rattle.mark_core.specs.Seats.{is_the, saw}
 use Rattle.mark_core.specs.declared.kinds.Shape.{Shape}
 use Rattle.mark_core.specs.declared.kinds.Phase.TheVariants.{Idle, Full}
 use Rattle.mark_core.specs.declared.kinds.Step.{Step}
-use Rattle.mark_core.specs.declared.kinds.Step.TheVariants.{ReadOwn, ReadCat, StoreField, StoreValue, StoreRoot, StoreNew, StorePosition, StorePhase, NextSeason}
+use Rattle.mark_core.specs.declared.kinds.Step.TheVariants.{ReadOwn, ReadCat, StoreField, StoreValue, StoreRoot, StoreNew, StorePosition, StorePhase, NextSeason, ExchangeField, ExchangeValue}
 use Rattle.mark_core.specs.declared.seat.SeatState.{SeatState}
 use Rattle.plain_heap.specs.declared.object.Ref.{Ref}
 use Rattle.plain_heap.specs.declared.object.Ref.TheVariants as refs
@@ -18,7 +18,7 @@ use Rattle.plain_heap.specs.PlainRun.{plan_end}
 use Rattle.gc_table.specs.declared.view.Meaning.{Meaning}
 use Rattle.gc_table.specs.declared.view.SectionState.{SectionState}
 use Rattle.gc_table.specs.StandsFor.{start_meaning}
-use Rattle.gc_table.specs.PlainSteps.{known_as, with_got, with_part, Asks}
+use Rattle.gc_table.specs.PlainSteps.{known_as, with_got, with_part, Asks, HasSeenPhase}
 
 -- what a warehouse sees of the catalogue in season z, where the season word is 2z - 1: what the plan says of the end of part z
 abbrev pub planned : Shape → List (List Op) → ℕ → Heap
@@ -76,6 +76,8 @@ abbrev pub noted : Shape → SeatState → Step → SectionState → SectionStat
 noted sh s (StoreField v i w) x = with_plain_step s x
 noted sh s (StoreValue v n) x = with_plain_step s x
 noted sh s (StoreRoot v r) x = with_plain_step s x
+noted sh s (ExchangeField v i y z) x = record x { settled = false }
+noted sh s (ExchangeValue v m n) x = record x { settled = false }
 noted sh s (StoreNew c part word) x = placed sh s c part x
 noted sh s (StorePosition done) x = record x { position = done }
 noted sh s (StorePhase to) x =
@@ -89,9 +91,11 @@ section_after sh plan s step x = noted sh s step (record x { meaning = meaning_b
 
 -- what is asked of a step besides its own condition, by the seat's record, its section and what it knows of the section that is named when the heap is full
 abbrev pub AskedOf : Shape → List (List Op) → SeatState → SectionState → Option ℕ → Step → Type 0
-AskedOf sh plan s x named (StoreField v i w) = (op : Op) × Asks s x.meaning (seen_by sh plan s) (StoreField v i w) op
-AskedOf sh plan s x named (StoreValue v n) = (op : Op) × Asks s x.meaning (seen_by sh plan s) (StoreValue v n) op
-AskedOf sh plan s x named (StoreRoot v r) = (op : Op) × Asks s x.meaning (seen_by sh plan s) (StoreRoot v r) op
+AskedOf sh plan s x named (StoreField v i w) = HasSeenPhase s × (IsFalse sh.sharing → (op : Op) × Asks s x.meaning (seen_by sh plan s) (StoreField v i w) op)
+AskedOf sh plan s x named (StoreValue v n) = HasSeenPhase s × (IsFalse sh.sharing → (op : Op) × Asks s x.meaning (seen_by sh plan s) (StoreValue v n) op)
+AskedOf sh plan s x named (StoreRoot v r) = HasSeenPhase s × (IsFalse sh.sharing → (op : Op) × Asks s x.meaning (seen_by sh plan s) (StoreRoot v r) op)
+AskedOf sh plan s x named (ExchangeField v i y z) = HasSeenPhase s
+AskedOf sh plan s x named (ExchangeValue v m n) = HasSeenPhase s
 AskedOf sh plan s x named (StoreNew c part word) = part ≡ 0 → length x.meaning.heap.objects ≡ s.made
 -- the seat has named its section before it says that the heap is full
 AskedOf sh plan s x named (StorePhase to) = IsTrue (saw (Some to) Full) → (w : ℕ) × (s.section ≡ Some w) × (named ≡ Some w)

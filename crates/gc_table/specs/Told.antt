@@ -98,7 +98,7 @@ pub record Tells (sh : Shape) (w : Words) (seats : List SeatState) (plan : List 
   pub positioned : Positioned w.positions xs
   pub seasons : Seasons sh plan w.season xs
   pub turns : Turns sh w.season xs
-  pub apart : AreApart sh plan xs
+  pub apart : IsFalse sh.sharing → AreApart sh plan xs
   pub fullness : Fullness sh w seats xs
   pub settled : IsSettled sh w seats (section_at xs 0)
 

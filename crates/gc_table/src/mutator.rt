@@ -4,7 +4,7 @@ ghost use Rattle.gc_table.specs.Seats.{Across, Answered, Found, IsPlainStep, Sit
 ghost use Rattle.gc_table.specs.Taking.{Asked, May, won};
 
 use crate::seat::{Heap, HeapSeat};
-use mark_core::{Cell, Step, used_bits};
+use mark_core::{Cell, Step, used_bits, variable_or_nil};
 
 impl Heap {
     /// Field i of an object that the seat's variables or register name. The register has what was read.
@@ -70,6 +70,46 @@ impl Heap {
         ensures plain { Across (IsPlainStep (Step.StoreValue v n)) seat.old seat.new }
     {
         self.store_step(seat, Step::StoreValue { v, n });
+    }
+
+    /// Where field i of variable v's object is what variable `expected` is, or nil, stores variable `new`, or nil, there. Answers the word that it found: it has won
+    /// where this is the word of variable `expected`, and then owes the object's card as after a store. Only where objects are shared.
+    pub fn exchange_field(
+        &self,
+        seat: &mut HeapSeat,
+        v: u8,
+        i: u8,
+        expected: Option<u8>,
+        new: Option<u8>,
+    ) -> u64
+        requires seat { Sits self.now seat.old }
+        requires may { May (Step.ExchangeField v i expected new) (view_of seat.old) }
+        requires asked { Asked (Step.ExchangeField v i expected new) (view_of seat.old) }
+        ensures seat { Sits self.now seat.new }
+        ensures view { Across (Found (Step.ExchangeField v i expected new) result) seat.old seat.new }
+    {
+        let old = u64::from(variable_or_nil(&seat.state, expected));
+        let word = u64::from(variable_or_nil(&seat.state, new));
+        let step = Step::ExchangeField {
+            v,
+            i,
+            expected,
+            new,
+        };
+        self.compare_exchange_step(seat, old, word, step)
+    }
+
+    /// Where the value of variable v's object is the expected one, stores a new one there: true where it was. Only where objects are shared.
+    pub fn exchange_value(&self, seat: &mut HeapSeat, v: u8, expected: u32, new: u32) -> bool
+        requires seat { Sits self.now seat.old }
+        requires may { May (Step.ExchangeValue v expected new) (view_of seat.old) }
+        requires asked { Asked (Step.ExchangeValue v expected new) (view_of seat.old) }
+        ensures seat { Sits self.now seat.new }
+        ensures view { Across (Answered (Step.ExchangeValue v expected new) (λ n. result ≡ won (Step.ExchangeValue v expected new) n)) seat.old seat.new }
+    {
+        let step = Step::ExchangeValue { v, expected, new };
+        let found = self.compare_exchange_step(seat, u64::from(expected), u64::from(new), step);
+        found == u64::from(expected)
     }
 
     /// Stores a reference in variable v: nil, or that of a variable, of the register, or of the cell that was made last. No card may be owed.

@@ -9,7 +9,7 @@ use Rattle.heap_runs.specs.Runs.{AreAllowed}
 use Rattle.heap_runs.specs.Threads.{ThreadsFreeNone}
 use Rattle.heap_runs.proofs.Freeing.{stays}
 
-allowed : (i : ℕ) (es : List Event) (c : Core) → first_refused i es c ≡ None → AreAllowed c es
+pub allowed : (i : ℕ) (es : List Event) (c : Core) → first_refused i es c ≡ None → AreAllowed c es
 allowed i [] c h = tt
 allowed i (e ∷ es) c h = let first = first-allowed i e es c h in (first.0, allowed (i + 1) es _ first.1)
 

@@ -6,6 +6,7 @@
 #![tactic(auto)]
 
 ghost use Rattle.heap_runs.specs.Runs.{NoneFreed};
+ghost use Rattle.heap_runs.specs.Sharing.{ThreadsShareOneHeap};
 ghost use Rattle.heap_runs.specs.Threads.{ThreadsFreeNone};
 
 /// On each run of the core, whichever seats act and in whatever order, no event frees a cell that is reachable just before it.
@@ -17,4 +18,10 @@ pub fn none_freed()
 /// before it.
 pub fn threads_free_none()
     ensures { ThreadsFreeNone }
+{}
+
+/// Whatever threads did with the seats of a heap that was closed, also where they shared its objects, it is one run of the core, in which each thread's steps
+/// come in their order. After each step the words agree with one plain heap that forgets nothing, and whatever a step read is what this heap had just before.
+pub fn threads_share_one_heap()
+    ensures { ThreadsShareOneHeap }
 {}

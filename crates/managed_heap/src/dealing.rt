@@ -1,5 +1,5 @@
 //! The seats of a new heap are dealt out to mutators and tracers.
-ghost use Rattle.std.specs.Prelude.{◌≡◌, ◌+◌, ◌<◌, ◌≤◌, All, IfErr, IfOk, IsTrue, is_some, vec_len};
+ghost use Rattle.std.specs.Prelude.{◌≡◌, ◌+◌, ◌<◌, ◌≤◌, All, IfErr, IfOk, IsFalse, IsTrue, is_some, vec_len};
 ghost use Rattle.std.specs.Arc.{arc_value};
 ghost use Rattle.gc_table.specs.Seats.{state_of};
 ghost use Rattle.managed_heap.specs.Lending.{IsFreshMutator, IsOpened};
@@ -28,6 +28,7 @@ fn mutator_of(
 ) -> Result<Mutator, AllocError>
     requires seat { IsNewSeat (arc_value heap.now) _k seat }
     requires section { (0 < _k) × (_k < (arc_value heap.now).shape.sections) }
+    requires owned { IsFalse (arc_value heap.now).shape.sharing }
     ensures fresh { IfOk result (IsFreshMutator (arc_value heap.now) name) }
 {
     Ok(Mutator {
@@ -69,6 +70,7 @@ fn deal_mutators(
     requires new { AreNew (arc_value heap.now) 1 seats.old.items }
     requires enough { mutators ≤ vec_len seats.old }
     requires sections { ((arc_value heap.now).shape.sections ≡ 1 + mutators) × (mutators ≤ 32) }
+    requires owned { IsFalse (arc_value heap.now).shape.sharing }
     ensures fresh { IfOk result (λ r. All (IsFreshMutator (arc_value heap.now) name) r.items) }
     ensures count { IfOk result (λ r. vec_len r ≡ mutators) }
     ensures rest { IfOk result (λ _. AreNew (arc_value heap.now) (1 + mutators) seats.new.items) }
@@ -117,6 +119,7 @@ fn share(
     requires zero { RestsOutside heap zero × IsTrue (is_some (state_of zero).section) }
     requires new { AreNew heap 1 seats.old.items }
     requires count { vec_len seats.old ≡ sizes.mutators + sizes.tracers }
+    requires owned { IsFalse heap.shape.sharing }
     requires shape { (heap.shape.fields ≡ sizes.fields) × (heap.shape.sections ≡ 1 + sizes.mutators) × (heap.shape.objects ≡ 4294967295) }
     ensures opened { IfOk result (λ w. IsOpened sizes w) }
 {

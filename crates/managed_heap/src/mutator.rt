@@ -1,6 +1,6 @@
 //! A mutator in the hand of one thread.
 ghost use Rattle.std.specs.Arc.{arc_value};
-ghost use Rattle.std.specs.Prelude.{◌≡◌};
+ghost use Rattle.std.specs.Prelude.{◌≡◌, IsFalse};
 ghost use Rattle.mutator_turns.specs.Standing.{IsAtTurn, IsMutatorOutside};
 ghost use Rattle.managed_heap.specs.declared.mutator.Place.TheVariants as places;
 
@@ -31,6 +31,7 @@ pub struct Mutator {
     pub(crate) name: u32,
     /// It collects in stops alone.
     pub(crate) in_stops: bool,
+    ghost owned: { IsFalse (arc_value heap).shape.sharing },
     ghost outside: { place ≡ places.Outside → IsMutatorOutside (arc_value heap) seat },
     ghost inside: { place ≡ places.Inside → IsAtTurn (arc_value heap) seat },
 }

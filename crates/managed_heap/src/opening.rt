@@ -25,6 +25,7 @@ fn shape_of(sizes: &Sizes) -> Shape
     ensures shape { IsShape result }
     ensures fields { result.fields ≡ sizes.now.fields }
     ensures objects { result.objects ≡ 4294967295 }
+    ensures owned { IsFalse result.sharing }
     ensures sections { result.sections ≡ 1 + sizes.now.mutators }
 {
     Shape {
@@ -34,6 +35,7 @@ fn shape_of(sizes: &Sizes) -> Shape
         sections: 1 + sizes.mutators,
         fields: sizes.fields,
         objects: u32::MAX,
+        sharing: false,
     }
 }
 
@@ -42,6 +44,7 @@ pub fn open(alloc: Global, sizes: &Sizes) -> Result<(Heap, Vec<HeapSeat>), NotOp
     requires fits { Fits sizes.now }
     ensures fields { IfOk result (λ r. r.0.shape.fields ≡ sizes.now.fields) }
     ensures objects { IfOk result (λ r. r.0.shape.objects ≡ 4294967295) }
+    ensures owned { IfOk result (λ r. IsFalse r.0.shape.sharing) }
     ensures sections { IfOk result (λ r. r.0.shape.sections ≡ 1 + sizes.now.mutators) }
     ensures count { IfOk result (λ r. vec_len r.1 ≡ 1 + sizes.now.mutators + sizes.now.tracers) }
     ensures seats { IfOk result (λ r. AreNew r.0 0 r.1.items) }

@@ -1,6 +1,6 @@
 //! A mutator in the hand of one thread that doesn't wait.
 ghost use Rattle.std.specs.Arc.{arc_value};
-ghost use Rattle.std.specs.Prelude.{◌≡◌};
+ghost use Rattle.std.specs.Prelude.{◌≡◌, IsFalse};
 ghost use Rattle.managed_heap.specs.Collecting.{AsksStop, SitsAtDrain, SitsSweptAll, SitsAtRoots, SitsAtSweep};
 ghost use Rattle.mutator_turns.specs.Standing.{IsAtTurn, IsMutatorOutside};
 ghost use Rattle.managed_heap.specs.declared.stepper.Stage.TheVariants as stages;
@@ -71,6 +71,7 @@ pub struct Stepper {
     pub(crate) again: bool,
     /// How many cells its sweep has freed.
     pub(crate) freed: u32,
+    ghost owned: { IsFalse (arc_value heap).shape.sharing },
     ghost outside: { stage ≡ stages.Outside → IsMutatorOutside (arc_value heap) seat },
     ghost inside: { stage ≡ stages.Inside → IsAtTurn (arc_value heap) seat },
     ghost stopping: { stage ≡ stages.Stopping → AsksStop (arc_value heap) seat },

@@ -1,5 +1,5 @@
 //! What a mutator does with its seat without waiting.
-ghost use Rattle.std.specs.Prelude.{◌≡◌, ◌<◌, length, IfErr, IfNone, IfOk, IfSome, None};
+ghost use Rattle.std.specs.Prelude.{◌≡◌, ◌<◌, length, IfErr, IfNone, IfOk, IfSome, IsFalse, None};
 ghost use Rattle.std.specs.Bool.{OnTrue};
 ghost use Rattle.std.specs.Int.Count.{ones};
 ghost use Rattle.mark_core.specs.Numbers.{section_variables};
@@ -234,6 +234,7 @@ fn come_once(heap: &Heap, seat: &mut HeapSeat) -> Result<Cache, Came>
 /// Makes an object in variable v, after a safe point. The section hasn't made all its objects.
 pub fn make_once(heap: &Heap, seat: &mut HeapSeat, v: u8, value: u32) -> Came
     requires turn { IsAtTurn heap.now seat.old }
+    requires owned { IsFalse heap.now.shape.sharing }
     requires room { length (plain_of seat.old).objects < heap.now.shape.objects }
     requires range { v < section_variables }
     ensures makes { MakesOne result (ops.New v value) heap.now seat.old seat.new }

@@ -106,6 +106,17 @@ fn of_mutator(bases: &Bases, s: &SeatState, step: &Step) -> usize
         Step::StoreField { v, i, w: _ } => bases.field_at(own_cell(s, v), i),
         Step::StoreValue { v, n: _ } => bases.value_at(own_cell(s, v)),
         Step::StoreRoot { v, r: _ } => bases.root_at(s.section.unwrap_or(0), v),
+        Step::ExchangeField {
+            v,
+            i,
+            expected: _,
+            new: _,
+        } => bases.field_at(own_cell(s, v), i),
+        Step::ExchangeValue {
+            v,
+            expected: _,
+            new: _,
+        } => bases.value_at(own_cell(s, v)),
         _ => unreachable!(),
     }
 }

@@ -95,9 +95,20 @@ fn of_mutator(shape: &Shape, words: &[u64], s: &SeatState, step: &Step) -> Optio
         }
         Step::StoreValue { v, n: _ } => {
             let identity = identity_of(shape, words, mutator::variable_cell(s, v));
-            mutator::check_store_value(identity, s, v)
+            mutator::check_store_value(shape, identity, s, v)
         }
         Step::StoreRoot { v, r } => mutator::check_store_root(s, v, r),
+        Step::ExchangeField {
+            v,
+            i,
+            expected,
+            new,
+        } => mutator::check_exchange_field(shape, s, v, i, expected, new),
+        Step::ExchangeValue {
+            v,
+            expected: _,
+            new,
+        } => mutator::check_exchange_value(shape, s, v, new),
         _ => unreachable!(),
     }
 }

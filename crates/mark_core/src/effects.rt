@@ -85,6 +85,17 @@ fn of_mutator(s: &mut SeatState, step: &Step, old: u64) -> u64
         Step::StoreField { v, i: _, w } => mutator::store_field(s, v, w),
         Step::StoreValue { v: _, n } => u64::from(n),
         Step::StoreRoot { v, r } => mutator::store_root(s, v, r),
+        Step::ExchangeField {
+            v,
+            i: _,
+            expected,
+            new,
+        } => mutator::exchange_field(s, v, expected, new, old),
+        Step::ExchangeValue {
+            v: _,
+            expected,
+            new,
+        } => mutator::exchange_value(expected, new, old),
         _ => unreachable!(),
     }
 }

@@ -49,7 +49,18 @@ pub fn pass_of(step: &Step) -> Pass
         | Step::ReadCat { v: _ }
         | Step::StoreField { v: _, i: _, w: _ }
         | Step::StoreValue { v: _, n: _ }
-        | Step::StoreRoot { v: _, r: _ } => Pass::Mutator,
+        | Step::StoreRoot { v: _, r: _ }
+        | Step::ExchangeField {
+            v: _,
+            i: _,
+            expected: _,
+            new: _,
+        }
+        | Step::ExchangeValue {
+            v: _,
+            expected: _,
+            new: _,
+        } => Pass::Mutator,
         Step::ClaimBlock { b: _ }
         | Step::ReleaseBlock
         | Step::ReadFree
@@ -155,6 +166,17 @@ fn of_mutator(step: &Step) -> u8
         | Step::ReadCat { v: _ } => 17,
         Step::StoreField { v: _, i: _, w: _ } | Step::StoreValue { v: _, n: _ } => 18,
         Step::StoreRoot { v: _, r: _ } => 19,
+        Step::ExchangeField {
+            v: _,
+            i: _,
+            expected: _,
+            new: _,
+        } => 50,
+        Step::ExchangeValue {
+            v: _,
+            expected: _,
+            new: _,
+        } => 51,
         _ => unreachable!(),
     }
 }

@@ -12,6 +12,7 @@ use Rattle.mark_core.specs.declared.kinds.Identity.{Identity}
 use Rattle.mark_core.specs.declared.kinds.Step.{Step}
 use Rattle.mark_core.specs.declared.kinds.Step.TheVariants.{StoreNew, StoreRoot}
 use Rattle.mark_core.specs.declared.seat.CacheState.{CacheState}
+use Rattle.mark_core.specs.declared.kinds.Shape.{Shape}
 use Rattle.mark_core.specs.declared.seat.SeatState.{SeatState}
 use Rattle.plain_heap.specs.PlainHeap.{Heap}
 use Rattle.plain_heap.specs.PlainStep.{heap_after, new_object}
@@ -35,11 +36,11 @@ use Rattle.mutator_ops.proofs.Stepping.{stepped-none, undropped-root}
 use Rattle.mutator_ops.proofs.Storing.{all-by}
 
 -- the new cell is the one made last, and none is half made
-last_cell : (o : Option CacheState) (c r : ℕ) → free_in o c ≡ true → r ≡ c + 1 → names_last (with_made o c) r ≡ true
+pub last_cell : (o : Option CacheState) (c r : ℕ) → free_in o c ≡ true → r ≡ c + 1 → names_last (with_made o c) r ≡ true
 last_cell None c r free e = absurd (false≢true free)
 last_cell (Some x) c r free e = and_from (not (r == 0)) (c == r - 1) (not_from_false _ (ne_eqb r 0 (λ z. omega (arith, z, e)))) (eq-eqb c (r - 1) (omega (arith, e)))
 
-whole_cell : (o : Option CacheState) (c : ℕ) → has_making (with_made o c) ≡ false
+pub whole_cell : (o : Option CacheState) (c : ℕ) → has_making (with_made o c) ≡ false
 whole_cell None c = refl
 whole_cell (Some x) c = refl
 
@@ -86,7 +87,7 @@ module _ (u n c r : ℕ) (id : Identity) (v x : View) (ready : IsReady v) (ran :
         only = ran-only (belongs (ops.New u n)) v x w ran named_ran (making_only (belongs (ops.New u n)) (λ i word. refl)) (only-after (belongs (ops.New u n)) x w (StoreRoot u r) r refl e);
         once = once-last v x w ran named_ran (making_only spares_plain (λ i word. refl)) (once-after x w (StoreRoot u r) _ e);
         undropped = ap (λ (y : SectionState). y.meaning.heap.dropped) own ∙ undropped-root x u r ∙ ap (λ (y : SectionState). y.meaning.heap.dropped) k.own;
-        heap = stepped-none (ops.New u n) v w (λ d. refl) (plain (ops.New u n) asks-name ∙ (λ i. heap_after (k.own i).meaning.heap (sees i) (ops.New u n)));
+        heap = stepped-none (ops.New u n) v w (λ d. refl) (plain (ap (λ (sh : Shape). sh.sharing) (ran-shape v x ran) ∙ ready.owned) (ops.New u n) asks-name ∙ (λ i. heap_after (k.own i).meaning.heap (sees i) (ops.New u n)));
         state =
             ap (λ (y : View). y.state) e
             ∙ (λ i. record (k.state i) { env = slice_set (k.state i).env u (reference_in r); got = 0 })
@@ -104,6 +105,7 @@ module _ (u n c r : ℕ) (id : Identity) (v x : View) (ready : IsReady v) (ran :
   ready-creates w d =
       let s = d.state in
       record {
+        owned = ap (λ (sh : Shape). sh.sharing) (ran-shape v w d.ran) ∙ ready.owned;
         stores = record { turn = ap may_mutate s ∙ ready.stores.turn; seen = (ready.stores.seen.0, ap (λ (t : SeatState). t.phase_seen) s ∙ ready.stores.seen.1, ready.stores.seen.2); owes = ap (λ (t : SeatState). t.owes) s ∙ ready.stores.owes };
         idle = (λ i. work_in_hand (ran-shape v w d.ran i).fields (s i)) ∙ ready.idle;
         whole = ap (λ (t : SeatState). has_making t.cache) s ∙ whole_cell v.state.cache c;

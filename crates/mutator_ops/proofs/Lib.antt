@@ -1,8 +1,12 @@
+pub mod Creating
+pub mod Exchanging
+pub mod Holdings
 pub mod Knowing
 pub mod Once
-mod Stepping
+mod Places
 pub mod Readying
-pub mod Holdings
+mod ShareCreating
+pub mod ShareReady
+mod Stepping
 pub mod Storing
 pub mod Walking
-pub mod Creating

@@ -1,6 +1,7 @@
 -- A command that ends with the store of a variable.
 use Rattle.std.proofs.Common.{ℕ, ◌≡◌, ◌+◌, ◌<◌, ◌==◌, ◌&&◌, if◌then◌else◌, length, arith, refl, sym, ap, ◌∙◌, subst, Bool, true, false, Some, None, Option}
-use Rattle.std.specs.Prelude.{slice_set}
+use Rattle.std.specs.Prelude.{slice_set, IsFalse}
+use Rattle.mark_core.specs.declared.kinds.Shape.{Shape}
 use Rattle.mark_core.specs.Bits.{reference_in}
 use Rattle.mark_core.specs.Numbers.{section_variables}
 use Rattle.mark_core.specs.Steps.MutatorSteps.{names_last}
@@ -57,6 +58,7 @@ beside x y = record x { meaning = y.meaning; history = y.history; settled = y.se
 -- the whole command, where `same` is what the store is called
 pub root-does :
     (op same : Op) (u r : ℕ) (v x w : View)
+    → IsFalse v.shape.sharing
     → v.state.got ≡ 0
     → HasRead (belongs op) v x
     → belongs op (StoreRoot u r) ≡ true
@@ -64,7 +66,7 @@ pub root-does :
     → heap_after v.own.meaning.heap (seen v) same ≡ heap_after v.own.meaning.heap (seen v) op
     → Asks x.state x.own.meaning (seen x) (StoreRoot u r) same
     → Stored (StoreRoot u r) x w → IsPlainStep (StoreRoot u r) x w → Does op 0 v w
-root-does op same u r v x w none k b indep is asks e plain =
+root-does op same u r v x w alone none k b indep is asks e plain =
     let ran : Ran x w = ran-stored x w (StoreRoot u r) refl e in
     let catalogue : seen x ≡ seen v = λ i. seen_by (k.shape i) (k.plan i) (k.state i) in
     record {
@@ -72,7 +74,7 @@ root-does op same u r v x w none k b indep is asks e plain =
       only = ran-only (belongs op) v x w k.ran ran k.only (only-after (belongs op) x w (StoreRoot u r) _ b e);
       once = once-last v x w k.ran ran k.spares (once-after x w (StoreRoot u r) _ e);
       undropped = ap (λ (y : View). y.own.meaning.heap.dropped) e ∙ undropped-root x u r ∙ ap (λ (y : SectionState). y.meaning.heap.dropped) k.own;
-      heap = stepped-none op v w indep (plain same asks ∙ (λ i. heap_after (k.own i).meaning.heap (catalogue i) same) ∙ is);
+      heap = stepped-none op v w indep (plain (ap (λ (sh : Shape). sh.sharing) k.shape ∙ alone) same asks ∙ (λ i. heap_after (k.own i).meaning.heap (catalogue i) same) ∙ is);
       state =
           ap (λ (y : View). y.state) e
           ∙ (λ i. record (k.state i) { env = slice_set (k.state i).env u (reference_in r); got = 0 })

@@ -30,17 +30,17 @@ pub hand-at : (u word : ℕ) (ref : Ref) (v : View) → InHand u word ref v → 
 hand-at u word ref v (inl x) = inl (x.0, x.1)
 hand-at u word ref v (inr x) = inr x.0
 
-pub hand-nil : (u word : ℕ) (ref : Ref) (v : View) → ∥ IsPossible v ∥₁ → may_mutate v.state ≡ true → u < section_variables → InHand u word ref v → word ≡ 0 → ref ≡ refs.Nil
-hand-nil u word ref v p turn below (inl x) e = x.2 ∙ nil-variable v u p turn below (sym x.0 ∙ e)
-hand-nil u word ref v p turn below (inr x) e = x.1 ∙ nil-register v p turn (sym x.0 ∙ e)
+pub hand-nil : (u word : ℕ) (ref : Ref) (v : View) → IsFalse v.shape.sharing → ∥ IsPossible v ∥₁ → may_mutate v.state ≡ true → u < section_variables → InHand u word ref v → word ≡ 0 → ref ≡ refs.Nil
+hand-nil u word ref v alone p turn below (inl x) e = x.2 ∙ nil-variable v u alone p turn below (sym x.0 ∙ e)
+hand-nil u word ref v alone p turn below (inr x) e = x.1 ∙ nil-register v alone p turn (sym x.0 ∙ e)
 
-pub hand-some : (u word : ℕ) (ref : Ref) (v : View) → ∥ IsPossible v ∥₁ → may_mutate v.state ≡ true → u < section_variables → InHand u word ref v → 0 < word → ref ≡ refs.Nil → ⊥
-hand-some u word ref v p turn below (inl x) some e = some-variable v u p turn below (subst (λ n. 0 < n) x.0 some) (sym x.2 ∙ e)
-hand-some u word ref v p turn below (inr x) some e = some-register v p turn (subst (λ n. 0 < n) x.0 some) (sym x.1 ∙ e)
+pub hand-some : (u word : ℕ) (ref : Ref) (v : View) → IsFalse v.shape.sharing → ∥ IsPossible v ∥₁ → may_mutate v.state ≡ true → u < section_variables → InHand u word ref v → 0 < word → ref ≡ refs.Nil → ⊥
+hand-some u word ref v alone p turn below (inl x) some e = some-variable v u alone p turn below (subst (λ n. 0 < n) x.0 some) (sym x.2 ∙ e)
+hand-some u word ref v alone p turn below (inr x) some e = some-register v alone p turn (subst (λ n. 0 < n) x.0 some) (sym x.1 ∙ e)
 
-pub hand-known : (u word : ℕ) (ref : Ref) (v : View) → ∥ IsPossible v ∥₁ → may_mutate v.state ≡ true → u < section_variables → InHand u word ref v → 0 < word → ref_at word v ≡ ref
-hand-known u word ref v p turn below (inl x) some = known-variable v u (word - 1) p turn below (let e = x.0 in omega (arith, e, some)) ∙ sym x.2
-hand-known u word ref v p turn below (inr x) some = known-register v (word - 1) (let e = x.0 in omega (arith, e, some)) ∙ sym x.1
+pub hand-known : (u word : ℕ) (ref : Ref) (v : View) → IsFalse v.shape.sharing → ∥ IsPossible v ∥₁ → may_mutate v.state ≡ true → u < section_variables → InHand u word ref v → 0 < word → ref_at word v ≡ ref
+hand-known u word ref v alone p turn below (inl x) some = known-variable v u (word - 1) alone p turn below (let e = x.0 in omega (arith, e, some)) ∙ sym x.2
+hand-known u word ref v alone p turn below (inr x) some = known-register v (word - 1) (let e = x.0 in omega (arith, e, some)) ∙ sym x.1
 
 -- the seat knows the cell in hand
 pub at-knows : (u word c : ℕ) (v : View) → IsFalse v.state.spent → u < section_variables → IsAt u word v → word ≡ c + 1 → Knows v c
@@ -76,9 +76,9 @@ walks-none u i limit word v k got e = record { read = k; ref = variable v.own.me
     none w = let a : w.0 ≡ 0 + w.0 = omega arith in let b : w.1 ≡ 0 + w.1 = omega arith in λ j. (a j, b j)
 
 -- the walk has met nil
-pub walks-nil : (u i limit count total word : ℕ) (v x : View) → ∥ IsPossible x ∥₁ → may_mutate x.state ≡ true → u < section_variables → Walks u i limit count total word v x → word ≡ 0 → (count, total) ≡ walk v.own.meaning.heap (seen v) i limit (variable v.own.meaning.heap u)
-walks-nil u i limit count total word v x p turn below k e =
-    let none = hand-nil u word k.ref x p turn below k.hand e in
+pub walks-nil : (u i limit count total word : ℕ) (v x : View) → IsFalse x.shape.sharing → ∥ IsPossible x ∥₁ → may_mutate x.state ≡ true → u < section_variables → Walks u i limit count total word v x → word ≡ 0 → (count, total) ≡ walk v.own.meaning.heap (seen v) i limit (variable v.own.meaning.heap u)
+walks-nil u i limit count total word v x alone p turn below k e =
+    let none = hand-nil u word k.ref x alone p turn below k.hand e in
     let same : (count, total) ≡ plus count total (0, 0) = let a : count ≡ count + 0 = omega arith in let b : total ≡ total + 0 = omega arith in λ j. (a j, b j) in
     same ∙ ap (plus count total) (sym (ap (λ r. walk v.own.meaning.heap (seen v) i (limit - count) r) none ∙ walk-nil v.own.meaning.heap (seen v) i (limit - count))) ∙ sym k.rest
 
@@ -90,17 +90,17 @@ walks-all u i limit count total word v x k e =
     same ∙ ap (plus count total) (sym (ap (λ n. walk v.own.meaning.heap (seen v) i n k.ref) none)) ∙ sym k.rest
 
 -- it goes on
-pub walks-more : (u i limit count total word value next : ℕ) (v x w : View) → ∥ IsPossible x ∥₁ → may_mutate x.state ≡ true → u < section_variables → count < limit → 0 < word → Walks u i limit count total word v x → Visits u word i value x w → next ≡ w.state.got
+pub walks-more : (u i limit count total word value next : ℕ) (v x w : View) → IsFalse x.shape.sharing → ∥ IsPossible x ∥₁ → may_mutate x.state ≡ true → u < section_variables → count < limit → 0 < word → Walks u i limit count total word v x → Visits u word i value x w → next ≡ w.state.got
     → Walks u i limit (count + 1) (total + value) next v w
-walks-more u i limit count total word value next v x w p turn below more some k visit is =
+walks-more u i limit count total word value next v x w alone p turn below more some k visit is =
     let heap : Heap = v.own.meaning.heap in
     let same : x.own.meaning.heap ≡ heap = ap (λ (o : SectionState). o.meaning.heap) k.read.own in
     let sees : seen x ≡ seen v = reads-seen walks_step v x k.read in
-    let known : ref_at word x ≡ k.ref = hand-known u word k.ref x p turn below k.hand some in
+    let known : ref_at word x ≡ k.ref = hand-known u word k.ref x alone p turn below k.hand some in
     let value_is : value ≡ value_of (object_of heap (seen v) k.ref) = visit.read ∙ (λ j. value_of (object_of (same j) (sees j) (known j))) in
     let next_is : w.own.meaning.got ≡ followed heap (seen v) k.ref i = visit.next ∙ (λ j. followed (same j) (sees j) (known j) i) in
     let left : limit - count ≡ suc (limit - (count + 1)) = omega (arith, more) in
-    let step = walk-more heap (seen v) i (limit - (count + 1)) k.ref (hand-some u word k.ref x p turn below k.hand some) in
+    let step = walk-more heap (seen v) i (limit - (count + 1)) k.ref (hand-some u word k.ref x alone p turn below k.hand some) in
     let rest : ℕ × ℕ = walk heap (seen v) i (limit - (count + 1)) (w.own.meaning.got) in
     let sum : plus count total (onto value rest) ≡ plus (count + 1) (total + value) rest = let a : count + (1 + rest.0) ≡ count + 1 + rest.0 = omega arith in let b : total + (value + rest.1) ≡ total + value + rest.1 = omega arith in λ j. (a j, b j) in
     record {

@@ -27,11 +27,18 @@
 mod commands;
 mod making;
 mod objects;
+mod placing;
 mod reading;
+mod sharing;
 mod variables;
 
 pub use commands::{Done, command};
 pub use making::create;
 pub use objects::{put, set};
+pub use placing::cell_of_variable;
 pub use reading::{say, sum};
+pub use sharing::{
+    share_copy, share_count, share_create, share_exchange, share_follow, share_forget, share_lend,
+    share_put, share_set, share_value_of,
+};
 pub use variables::{assign, clear, follow, lend};

@@ -1,5 +1,5 @@
 -- An operation leaves the mutator at its turn, and is the one of the plain heap.
-use Rattle.std.proofs.Common.{ℕ, ◌≡◌, ◌+◌, ◌==◌, ◌&&◌, [], length, arith, ap, ◌∙◌, refl, sym, Bool, not, false, Option, None, Some}
+use Rattle.std.proofs.Common.{ℕ, ◌≡◌, ◌+◌, ◌==◌, ◌&&◌, [], length, arith, ap, ◌∙◌, refl, sym, Bool, not, false, true, Option, None, Some}
 use Rattle.std.specs.Prelude.{is_none, is_some}
 use Rattle.mark_core.specs.Numbers.{section_variables}
 use Rattle.mark_core.specs.Seats.{empty_handed, has_making, has_turn, work_in_hand}
@@ -25,44 +25,44 @@ use Rattle.mutator_ops.specs.Ready.{IsReady}
 use Rattle.gc_cycle.specs.Standing.{is_at_rest}
 use Rattle.mutator_turns.specs.Plain.{Steps, value_in, value_of_some}
 use Rattle.mutator_ops.proofs.Knowing.{variables-count}
-use Rattle.mutator_turns.specs.Standing.{IsAtTurn, Plays, plain_of}
-use Rattle.mutator_turns.proofs.Seats.{plays-turn, turn-plays}
+use Rattle.mutator_turns.specs.Standing.{IsAtTurn, MayOperate, Plays, plain_of}
+use Rattle.mutator_ops.specs.Sharing.{SharesReady}
+use Rattle.gc_table.specs.Running.{Ran}
+use Rattle.mutator_turns.proofs.Seats.{plays-made, plays-on, plays-turn, turn-plays}
 use Rattle.mutator_turns.proofs.Uncatalogued.{after-none, object-none, objects_of, sees-none}
+
+-- what a mutator has that may do an operation, where objects aren't shared
+pub operates-ready : (v : View) → MayOperate v → v.shape.sharing ≡ false → IsReady v
+operates-ready v k alone = record { owned = alone; stores = k.stores; idle = k.idle; whole = k.whole; register = k.register; counted = k.counted }
+
+pub ready-operates : (v : View) → IsReady v → MayOperate v
+ready-operates v k = record { stores = k.stores; idle = k.idle; whole = k.whole; register = k.register; counted = k.counted }
+
+pub shares-operates : (v : View) → SharesReady v → MayOperate v
+shares-operates v k = record { stores = k.stores; idle = k.idle; whole = k.whole; register = k.register; counted = k.counted }
+
+pub operates-shares : (h : Heap) (x : HeapSeat) → Sits h x → MayOperate (view_of x) → h.shape.sharing ≡ true → SharesReady (view_of x)
+operates-shares h x sits k shared = record { shared = ap (λ (sh : Shape). sh.sharing) sits.1 ∙ shared; stores = k.stores; idle = k.idle; whole = k.whole; register = k.register; counted = k.counted }
+
+-- what the heap says of its shape, the seat knows
+pub alone-there : (h : Heap) (x : HeapSeat) → Sits h x → h.shape.sharing ≡ false → (view_of x).shape.sharing ≡ false
+alone-there h x sits alone = ap (λ (sh : Shape). sh.sharing) sits.1 ∙ alone
 
 -- an operation leaves the mutator at its turn
 pub plays-does : (h : Heap) (op : Op) (d : ℕ) (x y : HeapSeat) → Plays h x → Sits h y → IsReady (view_of y) → Does op d (view_of x) (view_of y) → Plays h y
-plays-does h op d x y p sits ready k =
-    let v : View = view_of x in
-    let w : View = view_of y in
-    let m = p.works.mutates in
-    let u = p.works.mutator in
-    record {
-      works =
-          record {
-            sits = sits;
-            mutates =
-                record {
-                  active = ap (λ (s : SeatState). s.active) k.state ∙ m.active;
-                  unhelping = ap (λ (s : SeatState). s.helping) k.state ∙ m.unhelping;
-                  section = ap (λ (s : SeatState). is_some s.section) k.state ∙ m.section;
-                  rest = (λ i. is_at_rest (ran-shape v w k.ran i) (k.state i)) ∙ m.rest;
-                };
-            mutator = record { plan = ran-plan v w k.ran ∙ u.plan; section = ap (λ (s : SeatState). has_turn s.section (Some 1)) k.state ∙ u.section; counted = ready.counted };
-          };
-      ready = ready;
-    }
+plays-does h op d x y p sits ready k = plays-on h x y p sits (ready-operates (view_of y) ready) k.ran k.state
 
 -- what an operation makes of the plain heap
-pub turn-count : (h : Heap) (x : HeapSeat) → IsAtTurn h x → length (plain_of x).variables ≡ section_variables
-turn-count h x t = variables-count (view_of x) x.possible (turn-plays h x t).ready.stores.turn
+pub turn-count : (h : Heap) (x : HeapSeat) → IsAtTurn h x → h.shape.sharing ≡ false → length (plain_of x).variables ≡ section_variables
+turn-count h x t alone = variables-count (view_of x) (alone-there h x t.works.sits alone) x.possible (turn-plays h x t).operates.stores.turn
 
-pub steps-does : (op : Op) (d : ℕ) (h : Heap) (x y : HeapSeat) → IsAtTurn h x → lends op ≡ false → Does op d (view_of x) (view_of y) → Steps op (plain_of x) (plain_of y)
-steps-does op d h s t turn own k =
+pub steps-does : (op : Op) (d : ℕ) (h : Heap) (x y : HeapSeat) → IsAtTurn h x → h.shape.sharing ≡ false → lends op ≡ false → Does op d (view_of x) (view_of y) → Steps op (plain_of x) (plain_of y)
+steps-does op d h s t turn alone own k =
     let v : View = view_of s in
     let w : View = view_of t in
     let x : PlainHeap = v.own.meaning.heap in
-    let e = k.heap x.dropped ∙ after-none x (seen v) (sees-none v turn.works.mutator.plan) op own in
-    record { objects = ap (λ (y : PlainHeap). y.objects) e; variables = ap (λ (y : PlainHeap). y.variables) e; count = turn-count h s turn }
+    let e = k.heap x.dropped ∙ after-none x (seen v) (sees-none v (turn.works.mutator.uncatalogued (alone-there h s turn.works.sits alone))) op own in
+    record { objects = ap (λ (y : PlainHeap). y.objects) e; variables = ap (λ (y : PlainHeap). y.variables) e; count = turn-count h s turn alone }
 
 -- what changes nothing of the plain heap leaves it
 pub same-does : (op : Op) (v w : View) → ((x : PlainHeap) → heap_after x (seen v) op ≡ x) → Does op 0 v w → w.own.meaning.heap ≡ v.own.meaning.heap
@@ -72,43 +72,17 @@ same-does op v w fixed k =
     let none : x.dropped + 0 ≡ x.dropped = omega arith in
     ap (λ d. with_dropped d y) (k.undropped ∙ sym none) ∙ (k.heap x.dropped ∙ fixed x)
 
--- nothing in hand, but for whether a cell is half made
-abbrev rests : Shape → SeatState → Bool → Bool
-rests sh s making = empty_handed s && not (work_in_hand sh.fields s) && is_none s.owes && is_none s.block && (s.got == 0) && not making
-
 -- after the making of an object the mutator may do an operation again
 pub plays-creates : (h : Heap) (u n cell : ℕ) (x y : HeapSeat) → Plays h x → Sits h y → IsReady (view_of y) → Creates u n cell (view_of x) (view_of y) → Plays h y
-plays-creates h u n cell x y p sits ready k =
-    let v : View = view_of x in
-    let w : View = view_of y in
-    let m = p.works.mutates in
-    let q = p.works.mutator in
-    record {
-      works =
-          record {
-            sits = sits;
-            mutates =
-                record {
-                  active = ap (λ (s : SeatState). s.active) k.state ∙ m.active;
-                  unhelping = ap (λ (s : SeatState). s.helping) k.state ∙ m.unhelping;
-                  section = ap (λ (s : SeatState). is_some s.section) k.state ∙ m.section;
-                  rest =
-                      (λ i. rests (ran-shape v w k.ran i) (record (k.state i) { cache = w.state.cache }) (has_making w.state.cache))
-                      ∙ ap (rests v.shape v.state) (ready.whole ∙ sym p.ready.whole)
-                      ∙ m.rest;
-                };
-            mutator = record { plan = ran-plan v w k.ran ∙ q.plan; section = ap (λ (s : SeatState). has_turn s.section (Some 1)) k.state ∙ q.section; counted = ready.counted };
-          };
-      ready = ready;
-    }
+plays-creates h u n cell x y p sits ready k = plays-made h cell x y p sits (ready-operates (view_of y) ready) k.ran k.state
 
-pub steps-creates : (u n cell : ℕ) (h : Heap) (x y : HeapSeat) → Plays h x → Creates u n cell (view_of x) (view_of y) → Steps (ops.New u n) (plain_of x) (plain_of y)
-steps-creates u n cell h x y p k =
+pub steps-creates : (u n cell : ℕ) (h : Heap) (x y : HeapSeat) → Plays h x → h.shape.sharing ≡ false → Creates u n cell (view_of x) (view_of y) → Steps (ops.New u n) (plain_of x) (plain_of y)
+steps-creates u n cell h x y p alone k =
     let e = k.heap (plain_of x).dropped in
     record {
       objects = ap (λ (z : PlainHeap). z.objects) e;
       variables = ap (λ (z : PlainHeap). z.variables) e;
-      count = variables-count (view_of x) x.possible p.ready.stores.turn;
+      count = variables-count (view_of x) (alone-there h x p.works.sits alone) x.possible p.operates.stores.turn;
     }
 
 -- an operation leaves the mutator at its turn
@@ -117,8 +91,17 @@ turn-does h op d x y t sits ready k =
     plays-turn h y (plays-does h op d x y (turn-plays h x t) sits ready k) (ap (λ (s : SeatState). is_whole s.cache) k.state ∙ t.cache)
 
 -- a mutator at its turn may do what needs a seat that is ready
-pub turn-ready : (h : Heap) (x : HeapSeat) → IsAtTurn h x → Sits h x × IsReady (view_of x)
-turn-ready h x t = (t.works.sits, (turn-plays h x t).ready)
+pub turn-ready : (h : Heap) (x : HeapSeat) → IsAtTurn h x → h.shape.sharing ≡ false → Sits h x × IsReady (view_of x)
+turn-ready h x t alone = (t.works.sits, operates-ready (view_of x) (turn-plays h x t).operates (alone-there h x t.works.sits alone))
+
+-- a mutator at its turn may do what needs a seat that shares and is ready
+pub turn-shares : (h : Heap) (x : HeapSeat) → IsAtTurn h x → h.shape.sharing ≡ true → Sits h x × SharesReady (view_of x)
+turn-shares h x t shared = (t.works.sits, operates-shares h x t.works.sits (turn-plays h x t).operates shared)
+
+-- an operation on shared objects leaves the mutator at its turn
+pub turn-shared : (h : Heap) (x y : HeapSeat) → IsAtTurn h x → Sits h y → SharesReady (view_of y) → Ran (view_of x) (view_of y) → (view_of y).state ≡ record (view_of x).state { env = (view_of y).state.env } → IsAtTurn h y
+turn-shared h x y t sits ready ran state =
+    plays-turn h y (plays-on h x y (turn-plays h x t) sits (shares-operates (view_of y) ready) ran state) (ap (λ (s : SeatState). is_whole s.cache) state ∙ t.cache)
 
 -- the value that a line says
 abbrev pub value_said : Line → Option ℕ

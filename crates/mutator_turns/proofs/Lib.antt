@@ -1,5 +1,6 @@
 mod Done
 mod Fulls
+mod Leaving
 mod Naming
 pub mod Seats
 mod Uncatalogued

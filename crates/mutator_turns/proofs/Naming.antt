@@ -46,9 +46,9 @@ ids_of x = (words_of x.core.shape x.core.words).identities
 
 -- in a state that agrees with the view, the words of two variables with one reference are the same
 words-there :
-    (x : TableState) (i : ℕ) (v : View) (u t : ℕ) → IsState x → Agrees x i v → IsFalse v.state.spent → may_mutate v.state ≡ true → u < section_variables → t < section_variables → variable v.own.meaning.heap u ≡ variable v.own.meaning.heap t
+    (x : TableState) (i : ℕ) (v : View) (u t : ℕ) → IsFalse v.shape.sharing → IsState x → Agrees x i v → IsFalse v.state.spent → may_mutate v.state ≡ true → u < section_variables → t < section_variables → variable v.own.meaning.heap u ≡ variable v.own.meaning.heap t
     → word_in v.state u ≡ word_in v.state t
-words-there x i v u t st a live turn low below same =
+words-there x i v u t alone st a live turn low below same =
     ⊎_elim (λ (e : word_in v.state u ≡ word_in v.state t). e)
     (λ (q : (0 < word_in v.state u) × (0 < word_in v.state t) × (slice_index (ids_of x) (word_in v.state u - 1) ≡ slice_index (ids_of x) (word_in v.state t - 1))).
     let c = word_in v.state u - 1 in
@@ -58,21 +58,21 @@ words-there x i v u t st a live turn low below same =
     let one : c ≡ d = st.core.sound.caches.distinct c (used-exists x.core c st.core.formed p) d (used-exists x.core d st.core.formed r) p r q.2 in
     omega (arith, one, q.0, q.1))
     (agreed (ids_of x) (object_count (meanings_of x.sections)) i (word_in v.state u) (word_in v.state t) (variable v.own.meaning.heap t)
-    (subst (λ (ref : Ref). WordAgrees (ids_of x) (object_count (meanings_of x.sections)) i (word_in v.state u) ref) same (variable-there x i v u st a live turn low)) (variable-there x i v t st a live turn below))
+    (subst (λ (ref : Ref). WordAgrees (ids_of x) (object_count (meanings_of x.sections)) i (word_in v.state u) ref) same (variable-there x i v u alone st a live turn low)) (variable-there x i v t alone st a live turn below))
   where
     used : (k c : ℕ) → k < section_variables → word_in v.state k ≡ c + 1 → Used x.core c ≡ true
     used k c l e = known-used x.core i v.state ReadCount c (looks x.core i v.state st.core a.seat live) (or_right (v.state.got == c + 1) (list_any (λ (y : ℕ). y == c + 1) v.state.env) (any-at v.state.env k (c + 1) (omega (arith, l, (st.core.formed.seats i v.state a.seat).env)) e))
 
 -- variables with one reference have one word
-pub one-word : (v : View) (u t : ℕ) → ∥ IsPossible v ∥₁ → may_mutate v.state ≡ true → u < section_variables → t < section_variables → variable v.own.meaning.heap u ≡ variable v.own.meaning.heap t → word_in v.state u ≡ word_in v.state t
-one-word v u t p turn low below same = ∥∥₁_elim p (Prim.hlevel props) (λ (q : IsPossible v). words-there q.state q.index v u t q.whole q.agrees q.live turn low below same)
+pub one-word : (v : View) (u t : ℕ) → IsFalse v.shape.sharing → ∥ IsPossible v ∥₁ → may_mutate v.state ≡ true → u < section_variables → t < section_variables → variable v.own.meaning.heap u ≡ variable v.own.meaning.heap t → word_in v.state u ≡ word_in v.state t
+one-word v u t alone p turn low below same = ∥∥₁_elim p (Prim.hlevel props) (λ (q : IsPossible v). words-there q.state q.index v u t alone q.whole q.agrees q.live turn low below same)
 
 -- variables with one word have one reference
-pub one-reference : (v : View) (u t : ℕ) → ∥ IsPossible v ∥₁ → may_mutate v.state ≡ true → u < section_variables → t < section_variables → word_in v.state u ≡ word_in v.state t → variable v.own.meaning.heap u ≡ variable v.own.meaning.heap t
-one-reference v u t p turn low below same = by (word_in v.state u) refl (sym same)
+pub one-reference : (v : View) (u t : ℕ) → IsFalse v.shape.sharing → ∥ IsPossible v ∥₁ → may_mutate v.state ≡ true → u < section_variables → t < section_variables → word_in v.state u ≡ word_in v.state t → variable v.own.meaning.heap u ≡ variable v.own.meaning.heap t
+one-reference v u t alone p turn low below same = by (word_in v.state u) refl (sym same)
   where
     by : (word : ℕ) → word_in v.state u ≡ word → word_in v.state t ≡ word_in v.state u → variable v.own.meaning.heap u ≡ variable v.own.meaning.heap t
-    by zero e f = nil-variable v u p turn low e ∙ sym (nil-variable v t p turn below (f ∙ e))
+    by zero e f = nil-variable v u alone p turn low e ∙ sym (nil-variable v t alone p turn below (f ∙ e))
     by (suc c) e f =
         let one : suc c ≡ c + 1 = omega arith in
-        sym (known-variable v u c p turn low (e ∙ one)) ∙ known-variable v t c p turn below (f ∙ (e ∙ one))
+        sym (known-variable v u c alone p turn low (e ∙ one)) ∙ known-variable v t c alone p turn below (f ∙ (e ∙ one))

@@ -11,7 +11,7 @@ use Rattle.mark_core.specs.declared.kinds.Step.TheVariants.{ReadPhase, ReadSeaso
 use Rattle.mark_core.specs.declared.seat.SeatState.{SeatState}
 use Rattle.gc_table.specs.Log.{events}
 use Rattle.gc_table.specs.Running.{Ran}
-use Rattle.gc_table.proofs.Running.{ran-found, ran-plan, ran-refl}
+use Rattle.gc_table.proofs.Running.{ran-found, ran-plan, ran-refl, ran-shape}
 use Rattle.alloc_cache.specs.Caching.{is_whole}
 use Rattle.gc_table.specs.PlainSteps.{HasSeenPhase}
 use Rattle.gc_table.specs.Seats.{Found, Sits, view_of}
@@ -29,7 +29,8 @@ use Rattle.gc_cycle.specs.Sorts.{reads_phase}
 use Rattle.gc_cycle.specs.Standing.{KeepsSeat, KeepsSection, Mutates, is_at_rest}
 use Rattle.gc_cycle.proofs.Refills.Answered.{cached-still}
 use Rattle.seat_turns.specs.Turning.{LooksAtSeason}
-use Rattle.mutator_turns.specs.Standing.{Halts, IsAtTurn, IsMutator, Plays, Works, saw_going}
+use Rattle.mutator_turns.specs.Standing.{Halts, IsAtTurn, IsMutator, MayOperate, Plays, Works, saw_going}
+use Rattle.alloc_cache.specs.Making.{with_cell}
 
 -- the phase that was read last isn't Full, where none was read as Full
 none_some : (p : Phase) → None ≡ Some p → ⊥
@@ -80,11 +81,15 @@ at_rest sh s e =
     none_of None h = refl
     none_of (Some x) h = absurd (false≢true h)
 
+-- no catalogue comes by any step
+pub plan-kept : (v w : View) → Ran v w → (v.shape.sharing ≡ false → v.plan ≡ []) → w.shape.sharing ≡ false → w.plan ≡ []
+plan-kept v w ran k alone = ran-plan v w ran ∙ k (ap (λ (sh : Shape). sh.sharing) (sym (ran-shape v w ran)) ∙ alone)
+
 -- what isn't this seat's work leaves it a mutator's
 pub mutator-kept : (v w : View) → IsMutator v → Ran v w → KeepsSeat v w → KeepsSection v w → IsMutator w
 mutator-kept v w k ran seat section =
     record {
-      plan = ran-plan v w ran ∙ k.plan;
+      uncatalogued = plan-kept v w ran k.uncatalogued;
       section = ap (λ (o : Option ℕ). has_turn o (Some 1)) seat.section ∙ k.section;
       counted = ap (λ (m : Meaning). length m.heap.objects) section.meaning ∙ (k.counted ∙ sym seat.made);
     }
@@ -100,7 +105,7 @@ looks-works h x y k sits looks =
     record {
       sits = sits;
       mutates = subst Mutates (sym read.1.0) (record { active = m.active; unhelping = m.unhelping; section = m.section; rest = m.rest });
-      mutator = subst IsMutator (sym read.1.0) (record { plan = w.plan; section = w.section; counted = w.counted });
+      mutator = subst IsMutator (sym read.1.0) (record { uncatalogued = w.uncatalogued; section = w.section; counted = w.counted });
     })
     looks
 
@@ -129,7 +134,7 @@ works-ready h x k seen turn =
     let rest = at_rest (view_of x).shape s k.mutates.rest in
     record {
       works = k;
-      ready =
+      operates =
           record {
             stores =
                 record {
@@ -165,7 +170,7 @@ retired-halts h x y k sits mutates ran state own =
             mutates = mutates;
             mutator =
                 record {
-                  plan = ran-plan (view_of x) (view_of y) ran ∙ k.mutator.plan;
+                  uncatalogued = plan-kept (view_of x) (view_of y) ran k.mutator.uncatalogued;
                   section = ap (λ (s : SeatState). has_turn s.section (Some 1)) state ∙ k.mutator.section;
                   counted = ap (λ (o : SectionState). length o.meaning.heap.objects) own ∙ (k.mutator.counted ∙ sym (ap (λ (s : SeatState). s.made) state));
                 };
@@ -202,9 +207,62 @@ whole-cache (Some h) v e = ap is_whole e
 pub plays-turn : (h : Heap) (x : HeapSeat) → Plays h x → is_whole (view_of x).state.cache ≡ true → IsAtTurn h x
 plays-turn h x p cache =
     let s : SeatState = (view_of x).state in
-    record { works = p.works; turn = (and_parts s.active (has_turn s.section s.season_seen) p.ready.stores.turn).1; phase = seen-saw s p.ready.stores.seen; cache = cache }
+    record { works = p.works; turn = (and_parts s.active (has_turn s.section s.season_seen) p.operates.stores.turn).1; phase = seen-saw s p.operates.stores.seen; cache = cache }
 
 -- a mutator that collected is one between two calls
 pub collected-mutates : (kept : Option Cache) (done : ℕ) (v w : View) → CollectsTo (safes.Going kept) done v w → Mutates w
 collected-mutates None done v w c = c.goes_on.mutates
 collected-mutates (Some h) done v w c = absurd c
+
+-- an operation leaves the mutator where it may do another
+pub plays-on : (h : Heap) (x y : HeapSeat) → Plays h x → Sits h y → MayOperate (view_of y) → Ran (view_of x) (view_of y) → (view_of y).state ≡ record (view_of x).state { env = (view_of y).state.env } → Plays h y
+plays-on h x y p sits operates ran state =
+    let v : View = view_of x in
+    let w : View = view_of y in
+    let m = p.works.mutates in
+    let u = p.works.mutator in
+    record {
+      works =
+          record {
+            sits = sits;
+            mutates =
+                record {
+                  active = ap (λ (s : SeatState). s.active) state ∙ m.active;
+                  unhelping = ap (λ (s : SeatState). s.helping) state ∙ m.unhelping;
+                  section = ap (λ (s : SeatState). is_some s.section) state ∙ m.section;
+                  rest = (λ i. is_at_rest (ran-shape v w ran i) (state i)) ∙ m.rest;
+                };
+            mutator = record { uncatalogued = plan-kept v w ran u.uncatalogued; section = ap (λ (s : SeatState). has_turn s.section (Some 1)) state ∙ u.section; counted = operates.counted };
+          };
+      operates = operates;
+    }
+
+-- nothing in hand, but for whether a cell is half made
+abbrev rests : Shape → SeatState → Bool → Bool
+rests sh s making = empty_handed s && not (work_in_hand sh.fields s) && is_none s.owes && is_none s.block && (s.got == 0) && not making
+
+-- so does the making of an object
+pub plays-made : (h : Heap) (cell : ℕ) (x y : HeapSeat) → Plays h x → Sits h y → MayOperate (view_of y) → Ran (view_of x) (view_of y) → (view_of y).state ≡ record (with_cell (view_of x).state cell) { env = (view_of y).state.env } → Plays h y
+plays-made h cell x y p sits operates ran state =
+    let v : View = view_of x in
+    let w : View = view_of y in
+    let m = p.works.mutates in
+    let q = p.works.mutator in
+    record {
+      works =
+          record {
+            sits = sits;
+            mutates =
+                record {
+                  active = ap (λ (s : SeatState). s.active) state ∙ m.active;
+                  unhelping = ap (λ (s : SeatState). s.helping) state ∙ m.unhelping;
+                  section = ap (λ (s : SeatState). is_some s.section) state ∙ m.section;
+                  rest =
+                      (λ i. rests (ran-shape v w ran i) (record (state i) { cache = w.state.cache }) (has_making w.state.cache))
+                      ∙ ap (rests v.shape v.state) (operates.whole ∙ sym p.operates.whole)
+                      ∙ m.rest;
+                };
+            mutator = record { uncatalogued = plan-kept v w ran q.uncatalogued; section = ap (λ (s : SeatState). has_turn s.section (Some 1)) state ∙ q.section; counted = operates.counted };
+          };
+      operates = operates;
+    }

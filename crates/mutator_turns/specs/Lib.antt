@@ -1,3 +1,4 @@
 pub mod Halting
 pub mod Plain
+pub mod Sharing
 pub mod Standing

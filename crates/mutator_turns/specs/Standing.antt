@@ -1,6 +1,6 @@
 -- Where a mutator's seat stands: outside the world, in it between two calls, and at its turn; and where a tracer's does between two turns.
-use Rattle.std.specs.Prelude.{◌≡◌, [], length, Bool, true, false, Option, Some, None, IsTrue}
-use Rattle.mark_core.specs.Seats.{has_turn}
+use Rattle.std.specs.Prelude.{◌≡◌, [], length, Bool, true, false, Option, Some, None, IsTrue, IsFalse}
+use Rattle.mark_core.specs.Seats.{has_making, has_turn, work_in_hand}
 use Rattle.mark_core.specs.declared.kinds.Phase.{Phase}
 use Rattle.mark_core.specs.declared.kinds.Phase.TheVariants.{Full}
 use Rattle.plain_heap.specs.PlainHeap.{Heap as PlainHeap}
@@ -9,17 +9,17 @@ use Rattle.gc_table.specs.declared.seat.HeapSeat.{HeapSeat}
 use Rattle.gc_table.specs.declared.view.View.{View}
 use Rattle.gc_table.specs.Seats.{Sits, view_of}
 use Rattle.alloc_cache.specs.Caching.{is_whole}
-use Rattle.mutator_ops.specs.Ready.{IsReady}
+use Rattle.card_clean.specs.Barrier.{MayStore}
 use Rattle.gc_cycle.specs.Standing.{IsOut, Mutates}
 
 -- the plain heap of the seat's section
 abbrev pub plain_of : HeapSeat → PlainHeap
 plain_of s = (view_of s).own.meaning.heap
 
--- what is so of a mutator's seat from the first step to the last: there is no catalogue, its section plays in season 1, and each cell that it made has its
--- object
+-- what is so of a mutator's seat from the first step to the last: where objects aren't shared there is no catalogue; its section plays in season 1, and each cell
+-- that it made has its object
 pub record IsMutator (v : View) : Type 0 where
-  pub plan : v.plan ≡ []
+  pub uncatalogued : IsFalse v.shape.sharing → v.plan ≡ []
   pub section : IsTrue (has_turn v.state.section (Some 1))
   pub counted : length v.own.meaning.heap.objects ≡ v.state.made
 
@@ -35,10 +35,18 @@ pub record Works (h : Heap) (s : HeapSeat) : Type 0 where
   pub mutates : Mutates (view_of s)
   pub mutator : IsMutator (view_of s)
 
+-- the seat may store, has nothing in hand, makes no cell, has nothing in its register, and each cell that it made has its object
+pub record MayOperate (v : View) : Type 0 where
+  pub stores : MayStore v
+  pub idle : IsFalse (work_in_hand v.shape.fields v.state)
+  pub whole : IsFalse (has_making v.state.cache)
+  pub register : v.state.got ≡ 0
+  pub counted : length v.own.meaning.heap.objects ≡ v.state.made
+
 -- a mutator in the world, at its turn, with the phase read: it may do an operation
 pub record Plays (h : Heap) (s : HeapSeat) : Type 0 where
   pub works : Works h s
-  pub ready : IsReady (view_of s)
+  pub operates : MayOperate (view_of s)
 
 -- a mutator in the world without a cache
 pub record Halts (h : Heap) (s : HeapSeat) : Type 0 where

@@ -7,6 +7,7 @@ ghost use Rattle.gc_table.specs.Running.{Ran};
 ghost use Rattle.gc_table.specs.Seats.{Across, did, view_of};
 ghost use Rattle.mutator_turns.specs.Halting.{LeftFull};
 ghost use Rattle.mutator_turns.specs.declared.refused.Refused.TheVariants as refusals;
+ghost use Rattle.mutator_turns.specs.Sharing.{LeavesHeap};
 ghost use Rattle.mutator_turns.specs.Standing.{Halts, IsAtTurn, IsMutatorOutside, Works, plain_of};
 
 use crate::refused::Refused;
@@ -21,6 +22,7 @@ fn enter<R: Wait>(rt: &R, heap: &Heap, seat: &mut HeapSeat)
     requires waits { IsMutatorOutside heap.now seat.old }
     ensures halts { Halts heap.now seat.new }
     ensures same { plain_of seat.new ≡ plain_of seat.old }
+    ensures leaves { Across LeavesHeap seat.old seat.new }
 {
     go_in(rt, heap, seat);
 }
@@ -30,6 +32,7 @@ pub fn leave(heap: &Heap, seat: &mut HeapSeat)
     requires halts { Halts heap.now seat.old }
     ensures waits { IsMutatorOutside heap.now seat.new }
     ensures same { plain_of seat.new ≡ plain_of seat.old }
+    ensures leaves { Across LeavesHeap seat.old seat.new }
     ensures full { KnowsFull (view_of seat.old) → KnowsFull (view_of seat.new) }
     ensures ran { Across Ran seat.old seat.new }
 {
@@ -43,6 +46,7 @@ pub fn leave_full(heap: &Heap, seat: &mut HeapSeat) -> Refused
     requires full { KnowsFull (view_of seat.old) }
     ensures left { LeftFull result heap.now seat.new }
     ensures same { plain_of seat.new ≡ plain_of seat.old }
+    ensures leaves { Across LeavesHeap seat.old seat.new }
     ensures answer { result ≡ refusals.Full }
     ensures ran { Across Ran seat.old seat.new }
 {
@@ -55,6 +59,7 @@ pub fn retire_own_cache(heap: &Heap, seat: &mut HeapSeat)
     requires turn { IsAtTurn heap.now seat.old }
     ensures halts { Halts heap.now seat.new }
     ensures same { plain_of seat.new ≡ plain_of seat.old }
+    ensures leaves { Across LeavesHeap seat.old seat.new }
     ensures ran { Across Ran seat.old seat.new }
 {
     let cache = cache_of(seat);
@@ -66,6 +71,7 @@ pub fn leave_turn(heap: &Heap, seat: &mut HeapSeat)
     requires turn { IsAtTurn heap.now seat.old }
     ensures waits { IsMutatorOutside heap.now seat.new }
     ensures same { plain_of seat.new ≡ plain_of seat.old }
+    ensures leaves { Across LeavesHeap seat.old seat.new }
 {
     retire_own_cache(heap, seat);
     leave(heap, seat);
@@ -83,6 +89,7 @@ fn come_to_turn<R: Wait>(
     ensures ok { IfOk result (λ _. IsAtTurn heap.now seat.new) }
     ensures err { IfErr result (λ e. LeftFull e heap.now seat.new) }
     ensures same { plain_of seat.new ≡ plain_of seat.old }
+    ensures leaves { Across LeavesHeap seat.old seat.new }
     ensures ran { Across Ran seat.old seat.new }
 {
     match pass(rt, heap, seat, cache) {
@@ -100,6 +107,7 @@ pub fn enter_turn<R: Wait>(rt: &R, heap: &Heap, seat: &mut HeapSeat) -> Result<(
     ensures ok { IfOk result (λ _. IsAtTurn heap.now seat.new) }
     ensures err { IfErr result (λ e. LeftFull e heap.now seat.new) }
     ensures same { plain_of seat.new ≡ plain_of seat.old }
+    ensures leaves { Across LeavesHeap seat.old seat.new }
 {
     enter(rt, heap, seat);
     come_to_turn(rt, heap, seat, None)
@@ -111,6 +119,7 @@ pub fn pass_turn<R: Wait>(rt: &R, heap: &Heap, seat: &mut HeapSeat) -> Result<()
     ensures ok { IfOk result (λ _. IsAtTurn heap.now seat.new) }
     ensures err { IfErr result (λ e. LeftFull e heap.now seat.new) }
     ensures same { plain_of seat.new ≡ plain_of seat.old }
+    ensures leaves { Across LeavesHeap seat.old seat.new }
 {
     let cache = cache_of(seat);
     come_to_turn(rt, heap, seat, cache)
@@ -122,6 +131,7 @@ pub fn collect_turn<R: Wait>(rt: &R, heap: &Heap, seat: &mut HeapSeat) -> Result
     ensures ok { IfOk result (λ _. IsAtTurn heap.now seat.new × IsTrue (collects (did seat.old seat.new))) }
     ensures err { IfErr result (λ e. LeftFull e heap.now seat.new) }
     ensures same { plain_of seat.new ≡ plain_of seat.old }
+    ensures leaves { Across LeavesHeap seat.old seat.new }
 {
     retire_own_cache(heap, seat);
     let made = seat.state().made;

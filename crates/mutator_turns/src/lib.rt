@@ -6,12 +6,14 @@
 //! - `gates`: in and out of the world, a safe point, and a collection
 //! - `turns`: to the mutator's turn, and to a free cell
 //! - `operations`: one operation, at its turn
+//! - `sharing`: one operation in a heap whose objects are shared
 //! - `refused`: why a call did nothing
 #![tactic(auto)]
 
 mod gates;
 mod operations;
 mod refused;
+mod sharing;
 mod turns;
 
 pub use gates::{collect_turn, enter_turn, leave, leave_turn, pass_turn, retire_own_cache};
@@ -20,4 +22,8 @@ pub use operations::{
     refer_to_one, refers_to_nothing, set_field,
 };
 pub use refused::{NotOpened, Refused};
+pub use sharing::{
+    copy_shared, forget_shared, get_shared, lend_shared, make_shared, make_shared_in, put_shared,
+    set_shared, value_shared, word_of,
+};
 pub use turns::{TURN, keep_some, retire_some, with_free};

@@ -1,5 +1,5 @@
 //! One operation of a mutator at its turn.
-ghost use Rattle.std.specs.Prelude.{◌≡◌, ◌<◌, IfErr, IfOk, slice_index};
+ghost use Rattle.std.specs.Prelude.{◌≡◌, ◌<◌, IfErr, IfOk, IsFalse, slice_index};
 ghost use Rattle.std.specs.Bool.{OnFalse, OnTrue};
 ghost use Rattle.std.specs.Int.Count.{ones};
 ghost use Rattle.mark_core.specs.Numbers.{section_variables};
@@ -25,6 +25,7 @@ use std::sync::Wait;
 /// Makes an object in variable v. The cache, which has a free cell, stays the seat's.
 pub fn make_in(heap: &Heap, seat: &mut HeapSeat, cache: Cache, v: u8, value: u32)
     requires plays { Plays heap.now seat.old }
+    requires owned { IsFalse heap.now.shape.sharing }
     requires cache { IsCached cache (view_of seat.old) }
     requires free { 0 < ones cache.cells }
     requires room { (state_of seat.old).made < heap.now.shape.objects }
@@ -50,6 +51,7 @@ pub fn make_object<R: Wait, W: Watch>(
     watch: &mut W,
 ) -> Result<(), Refused>
     requires turn { IsAtTurn heap.now seat.old }
+    requires owned { IsFalse heap.now.shape.sharing }
     requires range { v < section_variables }
     ensures ok { IfOk result (λ _. IsAtTurn heap.now seat.new × Steps (ops.New v value) (plain_of seat.old) (plain_of seat.new)) }
     ensures err { IfErr result (λ e. MadeNone e heap.now seat.new × (plain_of seat.new ≡ plain_of seat.old)) }
@@ -68,6 +70,7 @@ pub fn make_object<R: Wait, W: Watch>(
 /// Reference i of variable v's object becomes what variable w is, by the barrier.
 pub fn set_field(heap: &Heap, seat: &mut HeapSeat, v: u8, i: u8, w: u8)
     requires turn { IsAtTurn heap.now seat.old }
+    requires owned { IsFalse heap.now.shape.sharing }
     requires range { (v < section_variables) × (i < heap.now.shape.fields) × (w < section_variables) }
     ensures turn { IsAtTurn heap.now seat.new }
     ensures steps { Steps (ops.Set v i w) (plain_of seat.old) (plain_of seat.new) }
@@ -78,6 +81,7 @@ pub fn set_field(heap: &Heap, seat: &mut HeapSeat, v: u8, i: u8, w: u8)
 /// The value of variable v's object becomes this one, by the barrier.
 pub fn put_value(heap: &Heap, seat: &mut HeapSeat, v: u8, value: u32)
     requires turn { IsAtTurn heap.now seat.old }
+    requires owned { IsFalse heap.now.shape.sharing }
     requires range { v < section_variables }
     ensures turn { IsAtTurn heap.now seat.new }
     ensures steps { Steps (ops.Put v value) (plain_of seat.old) (plain_of seat.new) }
@@ -88,6 +92,7 @@ pub fn put_value(heap: &Heap, seat: &mut HeapSeat, v: u8, value: u32)
 /// Variable w becomes reference i of variable v's object.
 pub fn get_field(heap: &Heap, seat: &mut HeapSeat, w: u8, v: u8, i: u8)
     requires turn { IsAtTurn heap.now seat.old }
+    requires owned { IsFalse heap.now.shape.sharing }
     requires range { (w < section_variables) × (v < section_variables) × (i < heap.now.shape.fields) }
     ensures turn { IsAtTurn heap.now seat.new }
     ensures steps { Steps (ops.Get w v i) (plain_of seat.old) (plain_of seat.new) }
@@ -98,6 +103,7 @@ pub fn get_field(heap: &Heap, seat: &mut HeapSeat, w: u8, v: u8, i: u8)
 /// Variable w becomes what variable v is.
 pub fn copy_variable(heap: &Heap, seat: &mut HeapSeat, w: u8, v: u8)
     requires turn { IsAtTurn heap.now seat.old }
+    requires owned { IsFalse heap.now.shape.sharing }
     requires range { (w < section_variables) × (v < section_variables) }
     ensures turn { IsAtTurn heap.now seat.new }
     ensures steps { Steps (ops.Let w v) (plain_of seat.old) (plain_of seat.new) }
@@ -108,6 +114,7 @@ pub fn copy_variable(heap: &Heap, seat: &mut HeapSeat, w: u8, v: u8)
 /// Variable v refers to nothing any more.
 pub fn forget_variable(heap: &Heap, seat: &mut HeapSeat, v: u8)
     requires turn { IsAtTurn heap.now seat.old }
+    requires owned { IsFalse heap.now.shape.sharing }
     requires range { v < section_variables }
     ensures turn { IsAtTurn heap.now seat.new }
     ensures steps { Steps (ops.Nil v) (plain_of seat.old) (plain_of seat.new) }
@@ -118,6 +125,7 @@ pub fn forget_variable(heap: &Heap, seat: &mut HeapSeat, v: u8)
 /// The value of variable v's object. None where it refers to nothing.
 pub fn read_value(heap: &Heap, seat: &mut HeapSeat, v: u8) -> Option<u32>
     requires turn { IsAtTurn heap.now seat.old }
+    requires owned { IsFalse heap.now.shape.sharing }
     requires range { v < section_variables }
     ensures turn { IsAtTurn heap.now seat.new }
     ensures same { plain_of seat.new ≡ plain_of seat.old }
@@ -141,6 +149,7 @@ fn word_of(seat: &HeapSeat, v: u8) -> u32
 /// Whether variable v refers to nothing.
 pub fn refers_to_nothing(_heap: &Heap, seat: &HeapSeat, v: u8) -> bool
     requires turn { IsAtTurn _heap.now seat.now }
+    requires owned { IsFalse _heap.now.shape.sharing }
     requires range { v < section_variables }
     ensures nil { OnTrue result (variable (plain_of seat.now) v ≡ Nil) }
     ensures some { OnFalse result (variable (plain_of seat.now) v ≡ Nil → ⊥) }
@@ -151,6 +160,7 @@ pub fn refers_to_nothing(_heap: &Heap, seat: &HeapSeat, v: u8) -> bool
 /// Whether two variables refer to one object, or both to nothing.
 pub fn refer_to_one(_heap: &Heap, seat: &HeapSeat, v: u8, w: u8) -> bool
     requires turn { IsAtTurn _heap.now seat.now }
+    requires owned { IsFalse _heap.now.shape.sharing }
     requires range { (v < section_variables) × (w < section_variables) }
     ensures one { OnTrue result (variable (plain_of seat.now) v ≡ variable (plain_of seat.now) w) }
     ensures two { OnFalse result (variable (plain_of seat.now) v ≡ variable (plain_of seat.now) w → ⊥) }

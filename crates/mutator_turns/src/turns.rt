@@ -6,6 +6,7 @@ ghost use Rattle.gc_table.specs.Seats.{Across, state_of, view_of};
 ghost use Rattle.alloc_cache.specs.Caching.{IsCached};
 ghost use Rattle.gc_cycle.specs.Answering.{HasCache};
 ghost use Rattle.mutator_turns.specs.Halting.{EndsFullOrSpent, HaltsFull};
+ghost use Rattle.mutator_turns.specs.Sharing.{LeavesHeap};
 ghost use Rattle.mutator_turns.specs.Standing.{Halts, IsAtTurn, Plays, Works, plain_of};
 
 use crate::refused::Refused;
@@ -25,6 +26,7 @@ pub fn retire_some(heap: &Heap, seat: &mut HeapSeat, cache: Option<Cache>)
     requires cache { HasCache cache (view_of seat.old) }
     ensures halts { Halts heap.now seat.new }
     ensures same { plain_of seat.new ≡ plain_of seat.old }
+    ensures leaves { Across LeavesHeap seat.old seat.new }
     ensures ran { Across Ran seat.old seat.new }
 {
     gc_cycle::retire_some(heap, seat, cache);
@@ -51,6 +53,7 @@ pub fn pass<R: Wait>(
     ensures turn { IfOk result (λ _. IsAtTurn heap.now seat.new) }
     ensures err { IfErr result (λ e. HaltsFull e heap.now seat.new) }
     ensures same { plain_of seat.new ≡ plain_of seat.old }
+    ensures leaves { Across LeavesHeap seat.old seat.new }
     ensures ran { Across Ran seat.old seat.new }
 {
     let mut cache = cache;
@@ -80,6 +83,7 @@ fn fill_beside<R: Wait, W: Watch>(
     ensures ok { IfOk result (λ kept. Works heap.now seat.new × HasCache kept (view_of seat.new)) }
     ensures err { IfErr result (λ e. HaltsFull e heap.now seat.new) }
     ensures same { plain_of seat.new ≡ plain_of seat.old }
+    ensures leaves { Across LeavesHeap seat.old seat.new }
 {
     let made = seat.state().made;
     match refill_watched(rt, heap, seat, made, watch) {
@@ -99,6 +103,7 @@ fn fill_in_stops<R: Wait, W: Watch>(
     ensures ok { IfOk result (λ kept. Works heap.now seat.new × HasCache kept (view_of seat.new)) }
     ensures err { IfErr result (λ e. HaltsFull e heap.now seat.new) }
     ensures same { plain_of seat.new ≡ plain_of seat.old }
+    ensures leaves { Across LeavesHeap seat.old seat.new }
 {
     let made = seat.state().made;
     match refill_in_stops(rt, heap, seat, made, watch) {
@@ -121,6 +126,7 @@ fn fill<R: Wait, W: Watch>(
     ensures ok { IfOk result (λ kept. Works heap.now seat.new × HasCache kept (view_of seat.new)) }
     ensures err { IfErr result (λ e. HaltsFull e heap.now seat.new) }
     ensures same { plain_of seat.new ≡ plain_of seat.old }
+    ensures leaves { Across LeavesHeap seat.old seat.new }
 {
     retire_some(heap, seat, cache);
     if in_stops {
@@ -164,6 +170,7 @@ pub fn come_to<R: Wait, W: Watch>(
     ensures room { IfOk result (λ _. (state_of seat.new).made < heap.now.shape.objects) }
     ensures err { IfErr result (λ e. EndsFullOrSpent e heap.now seat.new) }
     ensures same { plain_of seat.new ≡ plain_of seat.old }
+    ensures leaves { Across LeavesHeap seat.old seat.new }
 {
     let mut cache = cache;
     for _ in rt.forever() {

@@ -14,10 +14,9 @@ use Rattle.mark_core.specs.declared.kinds.Shape.{Shape}
 use Rattle.mark_core.specs.declared.kinds.Step.{Step}
 use Rattle.mark_core.specs.declared.kinds.Step.TheVariants.{Reset, StorePhase}
 use Rattle.mark_core.specs.declared.seat.SeatState.{SeatState}
-use Rattle.gc_table.specs.TableState.{meanings_of}
 use Rattle.gc_table.specs.declared.view.Entry.{Entry}
 use Rattle.gc_table.specs.declared.view.View.{View}
-use Rattle.gc_table.proofs.Stands.StandsReached.{cells-have-objects}
+use Rattle.gc_table.proofs.Stands.StandsUsed.{reachable-used}
 use Rattle.packet_pools.specs.Seeking.{some_event}
 use Rattle.packet_pools.proofs.Searches.{some-right}
 use Rattle.gc_table.specs.Log.{all_steps, event, events, Only}
@@ -162,7 +161,7 @@ exact-end v a e x i k g c low =
     let is : get_or x.core.seats i v.state ≡ v.state = get_or_from_slice_get x.core.seats i v.state v.state g.seat in
     let exact : list_any (λ (t : SeatState). t.exact) x.core.seats ≡ true = list_any_at (λ (t : SeatState). t.exact) x.core.seats i v.state there (ap (λ (t : SeatState). t.exact) is ∙ e) in (
       λ u. k.core.sound.exact.idle_in_use exact (ap (λ n. is_phase n Idle) phase) c low u,
-      λ r. (cells-have-objects x.core (meanings_of x.sections) k.core k.stands c r).0.0,
+      λ r. reachable-used x.core c k.core r,
     )
 
 -- a drain began exactly after other events, among which nothing told that the heap is full

@@ -1,5 +1,5 @@
 -- Small logs, of which the rows compute what the definitions say.
-use Rattle.std.proofs.Common.{ℕ, ◌+◌, List, [], ◌∷◌, true, Some}
+use Rattle.std.proofs.Common.{false, ℕ, ◌+◌, List, [], ◌∷◌, true, Some}
 use Rattle.std.specs.Prelude.{map}
 use Rattle.std.specs.List.{range_with_len}
 use Rattle.mark_core.specs.Numbers.{free_count, high_pool_number, low_pool_number, section_variables}
@@ -16,7 +16,7 @@ use Rattle.gc_cycle.specs.Moments.{Moment}
 
 -- one block, four cards, two packets of two entries, and one warehouse
 abbrev pub small : Shape
-small = record { cells = 64; packets = 2; entries = 2; sections = 2; fields = 1; objects = 2000000 }
+small = record { cells = 64; packets = 2; entries = 2; sections = 2; fields = 1; objects = 2000000; sharing = false }
 
 -- two blocks
 abbrev pub double : Shape

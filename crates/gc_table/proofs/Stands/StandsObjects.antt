@@ -1,6 +1,6 @@
 -- An object changes in its cell and in its plain heap.
-use Rattle.std.proofs.Common.{ℕ, ◌≡◌, ◌≢◌, ◌+◌, ◌-◌, ◌<◌, ◌≤◌, zero, suc, List, set, length, arith, refl, sym, ap, ◌∙◌, subst, true, false, not, eqb, Option, Some, ◌⊎◌, inl, inr, ⊎_elim}
-use Rattle.std.specs.Prelude.{IsFalse, slice_get, slice_index, slice_index_or}
+use Rattle.std.proofs.Common.{Bool, ℕ, ◌≡◌, ◌≢◌, ◌+◌, ◌-◌, ◌<◌, ◌≤◌, zero, suc, List, set, length, arith, refl, sym, ap, ◌∙◌, subst, true, false, not, eqb, Option, Some, ◌⊎◌, inl, inr, ⊎_elim}
+use Rattle.std.specs.Prelude.{IsFalse, ◌&&◌, ◌||◌, slice_get, slice_index, slice_index_or}
 use Rattle.std.proofs.lemmas.Bool.{true≢false, and_parts, not-true, eqb-true, eqb-false, cases_eq}
 use Rattle.std.proofs.lemmas.List.{length-set}
 use Rattle.std.proofs.lemmas.Option.{same_Some}
@@ -11,13 +11,14 @@ use Rattle.mark_core.specs.Seats.{is_the, has_making}
 use Rattle.mark_core.specs.Views.{makers}
 use Rattle.mark_core.specs.Cells.{field}
 use Rattle.mark_core.specs.Rules.HeapRules.{section_of_cell, number_of_cell, NamesInUse}
-use Rattle.mark_core.specs.Steps.MutatorSteps.{has_own, seat_variable as word_in}
+use Rattle.mark_core.specs.Steps.MutatorSteps.{has_own, may_change, seat_variable as word_in}
 use Rattle.mark_core.specs.Steps.{Core}
 use Rattle.mark_core.proofs.Blocks.BlocksTaken.{Taken, mine as own-fact}
 use Rattle.mark_core.proofs.References.ReferencesRoots.{Used, seat-formed}
 use Rattle.mark_core.proofs.Used.UsedSeats.{IsMadeBy}
 use Rattle.mark_core.specs.declared.kinds.Step.{Step}
 use Rattle.mark_core.specs.declared.kinds.Step.TheVariants.{ReadCount}
+use Rattle.mark_core.specs.declared.kinds.Shape.{Shape}
 use Rattle.mark_core.specs.declared.seat.SeatState.{SeatState}
 use Rattle.plain_heap.specs.declared.object.Ref.{Ref}
 use Rattle.plain_heap.specs.declared.object.Ref.TheVariants as refs
@@ -50,6 +51,10 @@ own_ref ids p i word refs.Nil some e (inr (nonzero, names, below)) = absurd name
 own_ref ids p i word (refs.Own n) some e (inr (nonzero, names, below)) = (ap (λ k. refs.Own k) (sym names.1), below)
 own_ref ids p zero word (refs.Cat n) some e (inr (nonzero, names, below)) = absurd names
 own_ref ids p (suc i) word (refs.Cat n) some e (inr (nonzero, names, below)) = absurd (omega (arith, e, names.0))
+
+-- where objects aren't shared a seat stores in its own section's alone
+pub owned : (sh : Shape) (ids : List ℕ) (s : SeatState) (v : ℕ) → IsFalse sh.sharing → may_change sh ids s v ≡ true → has_own ids s v ≡ true
+owned sh ids s v alone e = ap (λ (b : Bool). not (eqb (word_in s v) 0) && (b || is_the s.section (section_of_cell ids (word_in s v - 1)))) (sym alone) ∙ e
 
 -- a variable whose object is of the own section names the cell of an object of the own plain heap
 pub owns : (c : Core) (i : ℕ) (s : SeatState) (step : Step) (v : ℕ) (ms : List Meaning) → Taken c i s step → StandsFor c ms → (a : Mutates c i s ms) → ((x : ℕ) → Used c x ≡ true → x < c.shape.cells) → v < 32 → has_own (words_of c.shape c.words).identities s v ≡ true

@@ -107,8 +107,8 @@ inside_by : (b : Bool) (i w : ℕ) (o : Option ℕ) → o ≡ cond b (Some i) No
 inside_by true i w o e f = refl
 inside_by false i w o e f = absurd (true≢false (ap is_none (sym e ∙ f)))
 
-pub mutates : (c : Core) (i : ℕ) (s : SeatState) (step : Step) (ms : List Meaning) → Taken c i s step → StandsFor c ms → may_mutate s ≡ true → Mutates c i s ms
-mutates c i s step ms k st e =
+pub mutates-in : (c : Core) (i : ℕ) (s : SeatState) (step : Step) (ms : List Meaning) → Taken c i s step → length ms ≡ c.shape.sections → may_mutate s ≡ true → Mutates c i s ms
+mutates-in c i s step ms k long e =
     let a = mutator-is s e in
     let formed = (seat-formed c i s step k).section in
     let at : a.1.0 ≡ i = section-is c.shape.sections i a.1.0 s.section formed a.1.1 in
@@ -118,8 +118,11 @@ mutates c i s step ms k st e =
       section = a.1.1 ∙ ap (λ j. Some j) at;
       own = ap (λ o. unwrap_or o 0) a.1.1 ∙ at;
       inside = inside;
-      there = slice_get-get_or ms i no_meaning (omega (arith, inside, st.sections));
+      there = slice_get-get_or ms i no_meaning (omega (arith, inside, long));
     }
+
+pub mutates : (c : Core) (i : ℕ) (s : SeatState) (step : Step) (ms : List Meaning) → Taken c i s step → StandsFor c ms → may_mutate s ≡ true → Mutates c i s ms
+mutates c i s step ms k st e = mutates-in c i s step ms k st.sections e
 
 -- each variable of a mutator agrees with that of its plain heap
 pub env-agrees : (c : Core) (i : ℕ) (s : SeatState) (step : Step) (ms : List Meaning) (v : ℕ) → Taken c i s step → StandsFor c ms → Mutates c i s ms → v < 32

@@ -1,6 +1,6 @@
 -- 18: a field or the value of an object is stored.
 use Rattle.std.proofs.Common.{ℕ, ◌≡◌, ◌≢◌, ◌+◌, ◌-◌, ◌*◌, ◌<◌, List, set, get_or, length, arith, refl, sym, ap, ◌∙◌, subst, true, ◌&&◌, Option, Some, None, inl, ⊎_elim}
-use Rattle.std.specs.Prelude.{IsTrue, slice_index_or, nat_lt}
+use Rattle.std.specs.Prelude.{IsFalse, IsTrue, slice_index_or, nat_lt}
 use Rattle.std.proofs.lemmas.Bool.{and_parts, ltb-true, cases_eq}
 use Rattle.std.proofs.lemmas.List.{get_or-set_same, get_or-set_other, length-set}
 use Rattle.mark_core.specs.Layout.{Words, words_of, region_sizes}
@@ -35,7 +35,7 @@ use Rattle.gc_table.specs.StandsFor.{object_count, WordAgrees, Stands, StandsIn,
 use Rattle.gc_table.specs.declared.view.Meaning.{Meaning}
 use Rattle.gc_table.specs.PlainSteps.{catalogue_seen, own_section, meaning_of, changed, stepped, IsSet, AsksIn}
 use Rattle.gc_table.proofs.Stands.StandsMoves.{moved}
-use Rattle.gc_table.proofs.Stands.StandsObjects.{Owns, owns, stored-object, with_object, Rewrites, object-moves}
+use Rattle.gc_table.proofs.Stands.StandsObjects.{owned, Owns, owns, stored-object, with_object, Rewrites, object-moves}
 use Rattle.gc_table.proofs.Stands.StandsSeat.{Mutates, mutates, env-agrees}
 use Rattle.mark_core.specs.Numbers.{value_bound}
 
@@ -92,9 +92,9 @@ field_rewrites c i s v j y o ref ms k hj b small agrees = record {
         (cases_eq l j)
 
 -- a reference is stored
-pub store-field : (c : Core) (i : ℕ) (s : SeatState) (v j : ℕ) (o : Option ℕ) (op : Op) (ms : List Meaning) → Taken c i s (StoreField v j o) → StandsFor c ms → AsksIn s ms (StoreField v j o) op
+pub store-field : (c : Core) (i : ℕ) (s : SeatState) (v j : ℕ) (o : Option ℕ) (op : Op) (ms : List Meaning) → IsFalse c.shape.sharing → Taken c i s (StoreField v j o) → StandsFor c ms → AsksIn s ms (StoreField v j o) op
     → StandsIn c.shape (words_left c s (StoreField v j o)) (seats_left c i s (StoreField v j o)) (changed ms (own_section s) (stepped (catalogue_seen ms (own_section s)) op))
-store-field c i s v j o op ms k st asks =
+store-field c i s v j o op ms alone k st asks =
     let w : Words = words_of c.shape c.words in
     let step : Step = StoreField v j o in
     let b = and_parts (nat_lt v 32 && nat_lt j c.shape.fields && in_variables o) (may_mutate s) k.ok.0 in
@@ -102,7 +102,7 @@ store-field c i s v j o op ms k st asks =
     let e = and_parts (nat_lt v 32) (nat_lt j c.shape.fields) d.0 in
     let a : Mutates c i s ms = mutates c i s step ms k st b.1 in
     let y : ℕ = word_in s v - 1 in
-    let own : Owns c i s v ms y = owns c i s step v ms k st a (used-exists c k.core) (ltb-true v 32 e.0) k.ok.1.0 in
+    let own : Owns c i s v ms y = owns c i s step v ms k st a (used-exists c k.core) (ltb-true v 32 e.0) (owned c.shape w.identities s v alone k.ok.1.0) in
     let asked : IsSet (meaning_of ms i).heap v j o op = subst (λ (z : ℕ). IsSet (meaning_of ms z).heap v j o op) a.own asks.1 in
     let x = set_agrees c i s step v j o op ms k st a d.1 asked in
     let m : Meaning = meaning_of ms i in
@@ -132,15 +132,15 @@ value_rewrites c i s v n y ms k small b =
     }
 
 -- a value is stored
-pub store-value : (c : Core) (i : ℕ) (s : SeatState) (v n : ℕ) (op : Op) (ms : List Meaning) → Taken c i s (StoreValue v n) → StandsFor c ms → AsksIn s ms (StoreValue v n) op
+pub store-value : (c : Core) (i : ℕ) (s : SeatState) (v n : ℕ) (op : Op) (ms : List Meaning) → IsFalse c.shape.sharing → Taken c i s (StoreValue v n) → StandsFor c ms → AsksIn s ms (StoreValue v n) op
     → StandsIn c.shape (words_left c s (StoreValue v n)) (seats_left c i s (StoreValue v n)) (changed ms (own_section s) (stepped (catalogue_seen ms (own_section s)) op))
-store-value c i s v n op ms k st asks =
+store-value c i s v n op ms alone k st asks =
     let w : Words = words_of c.shape c.words in
     let step : Step = StoreValue v n in
     let b = and_parts (nat_lt v 32) (may_mutate s) k.ok.0 in
     let a : Mutates c i s ms = mutates c i s step ms k st b.1 in
     let y : ℕ = word_in s v - 1 in
-    let own : Owns c i s v ms y = owns c i s step v ms k st a (used-exists c k.core) (ltb-true v 32 b.0) k.ok.1.0 in
+    let own : Owns c i s v ms y = owns c i s step v ms k st a (used-exists c k.core) (ltb-true v 32 b.0) (owned c.shape w.identities s v alone k.ok.1.0) in
     let m : Meaning = meaning_of ms i in
     let object : Object = with_value own.holds.object n in
     let small : n < value_bound = asks.2 in

@@ -3,7 +3,9 @@ use Rattle.std.proofs.Common.{ℕ, ◌≡◌, ◌≤◌, ◌∷◌, [], List, se
 use Rattle.mark_core.specs.Start.{start_seat, spent_seat}
 use Rattle.mark_core.specs.Effects.{seat_after}
 use Rattle.mark_core.specs.Steps.{Core}
-use Rattle.std.proofs.Common.{subst, false}
+use Rattle.std.proofs.Common.{subst, false, refl, Option, Some, None}
+use Rattle.std.specs.Prelude.{IsFalse}
+use Rattle.mark_core.proofs.Pool.PoolsKept.{shape-kept}
 use Rattle.mark_core.specs.Layout.{words_of}
 use Rattle.mark_core.specs.Parts.{parts}
 use Rattle.mark_core.specs.Steps.{AllTrue}
@@ -19,7 +21,7 @@ use Rattle.mark_core.specs.declared.kinds.Step.TheVariants.{Split, Join}
 use Rattle.mark_core.specs.declared.seat.SeatState.{SeatState}
 use Rattle.gc_table.specs.declared.view.SectionState.{SectionState}
 use Rattle.gc_table.specs.Sections.{section_after, start_section}
-use Rattle.gc_table.specs.TableState.{TableState, state_after}
+use Rattle.gc_table.specs.TableState.{TableState, section_at, state_after, with_section}
 use Rattle.gc_table.specs.Told.{EachSection}
 use Rattle.gc_table.specs.Rule.{IsState}
 use Rattle.gc_table.proofs.Told.ApartKept.{apart-kept}
@@ -55,20 +57,30 @@ unseated-kept x i s step g =
     (λ k y e n l. g.whole.told.unseated k y e (omega (arith, l, more)))
     (λ k y e mine l. absurd (omega (arith, l, more, own-number x.core i k s g.whole.core g.got mine, within x.core i s step (taken x i s step g)))))
 
+-- a step leaves as many sections
+sections_long : (o : Option ℕ) (f : SectionState → SectionState) (xs : List SectionState) → length (with_section o f xs) ≡ length xs
+sections_long None f xs = refl
+sections_long (Some w) f xs = length-set xs w (f (section_at xs w))
+
+-- and the sizes
+still_alone : (x : TableState) (i : ℕ) (step : Step) → IsFalse (state_after x (event i step)).core.shape.sharing → IsFalse x.core.shape.sharing
+still_alone x i step alone = subst (λ (sh : Shape). IsFalse sh.sharing) (shape-kept x.core (event i step)) alone
+
 pub whole-kept : (x : TableState) (i : ℕ) (s : SeatState) (step : Step) → Goes x i s step → IsState (state_after x (event i step))
 whole-kept x i s step g =
     let f = may-happen x i s step g in
     record {
       core = core-kept x.core (event i step) g.whole.core g.fits f;
       swept = swept-kept_by x.core (event i step) g.whole.core g.whole.swept f;
-      stands = stands-whole x i s step g;
+      sections = kept-whole (λ sh w seats xs. length xs ≡ sh.sections) x i s step g (sections_long s.section (section_after x.core.shape x.plan s step) x.sections ∙ g.whole.sections);
+      stands = λ alone. stands-whole x i s step (still_alone x i step alone) g;
       told = record {
         unseated = unseated-kept x i s step g;
         placed = placed-kept x i s step g;
         positioned = positioned-kept x i s step g;
         seasons = seasons-kept x i s step g;
         turns = turns-kept x i s step g;
-        apart = apart-kept x i s step g;
+        apart = λ alone. apart-kept x i s step (still_alone x i step alone) g;
         fullness = fullness-kept x i s step g;
         settled = settled-kept x i s step g;
       };

@@ -20,8 +20,8 @@ use Rattle.gc_table.specs.PlainSteps.{catalogue_seen, meaning_of, meaning_after,
 use Rattle.gc_table.specs.Sections.{seen_by, meaning_by, section_after}
 use Rattle.gc_table.specs.TableState.{TableState, no_section, meanings_of, section_at}
 use Rattle.gc_table.specs.Rule.{IsState, Agrees}
-use Rattle.gc_table.proofs.Stands.StandsSeat.{Mutates, mutates}
-use Rattle.gc_table.proofs.State.StateSeen.{meaning-at, seen-is}
+use Rattle.gc_table.proofs.Stands.StandsSeat.{Mutates, mutates-in}
+use Rattle.gc_table.proofs.State.StateSeen.{meaning-at, meanings-length, seen-is}
 use Rattle.gc_table.proofs.State.StateStores.{meaning-told}
 
 -- the seat of this view may take the step
@@ -46,7 +46,7 @@ pub record Views (x : TableState) (i : ℕ) (v : View) : Type 0 where
 
 pub views : (x : TableState) (i : ℕ) (v : View) (step : Step) → Acts x i v step → may_mutate v.state ≡ true → Views x i v
 views x i v step k may =
-    let a : Mutates x.core i v.state (meanings_of x.sections) = mutates x.core i v.state step (meanings_of x.sections) (acts-taken x i v step k) k.whole.stands may in
+    let a : Mutates x.core i v.state (meanings_of x.sections) = mutates-in x.core i v.state step (meanings_of x.sections) (acts-taken x i v step k) (meanings-length x k.whole) may in
     record {
       mutates = a;
       meaning = meaning-at x.sections i ∙ ap (λ y. y.meaning) (own-section x i i v k.agrees a.section);
@@ -56,22 +56,22 @@ views x i v step k may =
     }
 
 -- the meaning after a step of a mutator, told with its plain step
-told_by : (x : TableState) (i : ℕ) (v : View) (step : Step) (op : Op) → Acts x i v step → may_mutate v.state ≡ true → Asks v.state v.own.meaning (seen_by v.shape v.plan v.state) step op
+told_by : (x : TableState) (i : ℕ) (v : View) (step : Step) (op : Op) → IsFalse x.core.shape.sharing → Acts x i v step → may_mutate v.state ≡ true → Asks v.state v.own.meaning (seen_by v.shape v.plan v.state) step op
     → meaning_after x.core.shape v.state (seen_by v.shape v.plan v.state) step op v.own.meaning ≡ meaning_by x.core.shape v.state (seen_by v.shape v.plan v.state) step v.own.meaning
-told_by x i v step op k may asks =
+told_by x i v step op alone k may asks =
     let catalogue : Option Heap = seen_by v.shape v.plan v.state in
     let same : meaning_of (meanings_of x.sections) i ≡ v.own.meaning = (views x i v step k may).meaning in
     subst (λ (m : Meaning). meaning_after x.core.shape v.state catalogue step op m ≡ meaning_by x.core.shape v.state catalogue step m) same
-    (meaning-told x.core i v.state step op (meanings_of x.sections) catalogue (acts-taken x i v step k) k.whole.stands (subst (λ (m : Meaning). Asks v.state m catalogue step op) (sym same) asks))
+    (meaning-told x.core i v.state step op (meanings_of x.sections) catalogue (acts-taken x i v step k) (k.whole.stands alone) (subst (λ (m : Meaning). Asks v.state m catalogue step op) (sym same) asks))
 
-plain_of : (x : TableState) (i : ℕ) (v : View) (step : Step) (op : Op) → Acts x i v step → Asks v.state v.own.meaning (seen_by v.shape v.plan v.state) step op → IsTrue (changes_heap step)
+plain_of : (x : TableState) (i : ℕ) (v : View) (step : Step) (op : Op) → IsFalse x.core.shape.sharing → Acts x i v step → Asks v.state v.own.meaning (seen_by v.shape v.plan v.state) step op → IsTrue (changes_heap step)
     → (section_after v.shape v.plan v.state step v.own).meaning.heap ≡ heap_after v.own.meaning.heap (seen_by v.shape v.plan v.state) op
-plain_of x i v (StoreField a j o) op k asks c = sym (ap (λ (m : Meaning). m.heap) (told_by x i v (StoreField a j o) op k (and_parts _ (may_mutate v.state) k.ok.0).1 asks))
-plain_of x i v (StoreValue a n) op k asks c = sym (ap (λ (m : Meaning). m.heap) (told_by x i v (StoreValue a n) op k (and_parts _ (may_mutate v.state) k.ok.0).1 asks))
-plain_of x i v (StoreRoot a r) op k asks c = sym (ap (λ (m : Meaning). m.heap) (told_by x i v (StoreRoot a r) op k (and_parts _ (may_mutate v.state) k.ok.0).1 asks))
-plain_of x i v step op k asks c = absurd (true≢false (sym c))
+plain_of x i v (StoreField a j o) op alone k asks c = sym (ap (λ (m : Meaning). m.heap) (told_by x i v (StoreField a j o) op alone k (and_parts _ (may_mutate v.state) k.ok.0).1 asks))
+plain_of x i v (StoreValue a n) op alone k asks c = sym (ap (λ (m : Meaning). m.heap) (told_by x i v (StoreValue a n) op alone k (and_parts _ (may_mutate v.state) k.ok.0).1 asks))
+plain_of x i v (StoreRoot a r) op alone k asks c = sym (ap (λ (m : Meaning). m.heap) (told_by x i v (StoreRoot a r) op alone k (and_parts _ (may_mutate v.state) k.ok.0).1 asks))
+plain_of x i v step op alone k asks c = absurd (true≢false (sym c))
 
 -- a store changes the plain heap by its plain step
-pub plain-by : (x : TableState) (i : ℕ) (v : View) (step : Step) (op : Op) → IsState x → Agrees x i v → IsFalse v.state.spent → AllTrue (parts x.core.shape (words_of x.core.shape x.core.words) x.core.seats v.state step)
+pub plain-by : (x : TableState) (i : ℕ) (v : View) (step : Step) (op : Op) → IsFalse v.shape.sharing → IsState x → Agrees x i v → IsFalse v.state.spent → AllTrue (parts x.core.shape (words_of x.core.shape x.core.words) x.core.seats v.state step)
     → Asks v.state v.own.meaning (seen_by v.shape v.plan v.state) step op → IsTrue (changes_heap step) → (section_after v.shape v.plan v.state step v.own).meaning.heap ≡ heap_after v.own.meaning.heap (seen_by v.shape v.plan v.state) op
-plain-by x i v step op whole agrees live ok asks c = plain_of x i v step op (record { whole = whole; agrees = agrees; live = live; ok = ok }) asks c
+plain-by x i v step op alone whole agrees live ok asks c = plain_of x i v step op (subst (λ (sh : Shape). IsFalse sh.sharing) agrees.shape alone) (record { whole = whole; agrees = agrees; live = live; ok = ok }) asks c

@@ -26,7 +26,9 @@ use Rattle.plain_heap.specs.Paths.{Names}
 use Rattle.gc_table.specs.StandsFor.{object_count, name_at, WordAgrees, StandsFor}
 use Rattle.gc_table.specs.declared.view.Meaning.{Meaning}
 use Rattle.gc_table.specs.declared.view.View.{View}
-use Rattle.gc_table.specs.PlainSteps.{heap_in, catalogue_seen, meaning_of, known_as}
+use Rattle.gc_table.specs.PlainSteps.{heap_in, catalogue_seen, meaning_of, known_as, own_section}
+use Rattle.gc_table.specs.Sections.{seen_by}
+use Rattle.mark_core.specs.declared.kinds.Shape.{Shape}
 use Rattle.gc_table.specs.Reads.{Reads}
 use Rattle.gc_table.specs.TableState.{TableState, meanings_of}
 use Rattle.gc_table.specs.Rule.{IsState, Agrees}
@@ -99,32 +101,32 @@ position_counter w =
     (false_from_ne_true (nat_lt (first_position + w) named_number) (λ e. omega (arith, ltb-true (first_position + w) named_number e))) (ne_eqb (first_position + w) named_number (λ e. omega (arith, e))) (omega arith)
 
 -- what a mutator reads of a section's words, in the words of its view
-value_read : (x : TableState) (i : ℕ) (v : View) (c : ℕ) → Acts x i v (ReadValue c) → Views x i v → Reads (ReadValue c) (found x.core v.state (ReadValue c)) v
-value_read x i v c k a =
+value_read : (x : TableState) (i : ℕ) (v : View) (c : ℕ) → IsFalse x.core.shape.sharing → Acts x i v (ReadValue c) → Views x i v → (o : Object) × (object_of v.own.meaning.heap (seen_by v.shape v.plan v.state) (known_as v.state v.own.meaning c) ≡ Some o) × (found x.core v.state (ReadValue c) ≡ o.value)
+value_read x i v c alone k a =
     subst (λ (o : Option Heap). (object : Object) × (object_of v.own.meaning.heap o (known_as v.state v.own.meaning c) ≡ Some object) × (found x.core v.state (ReadValue c) ≡ object.value)) (sym a.seen)
     (subst (λ (m : Meaning). (object : Object) × (object_of m.heap (catalogue_seen (meanings_of x.sections) i) (known_as v.state m c) ≡ Some object) × (found x.core v.state (ReadValue c) ≡ object.value)) a.meaning
-    (value_found x.core i v.state c (meanings_of x.sections) (acts-taken x i v (ReadValue c) k) k.whole.stands a.mutates))
+    (value_found x.core i v.state c (meanings_of x.sections) (acts-taken x i v (ReadValue c) k) (k.whole.stands alone) a.mutates))
 
-ident_read : (x : TableState) (i : ℕ) (v : View) (c : ℕ) → Acts x i v (ReadIdent c) → Views x i v → Reads (ReadIdent c) (found x.core v.state (ReadIdent c)) v
-ident_read x i v c k a =
+ident_read : (x : TableState) (i : ℕ) (v : View) (c : ℕ) → IsFalse x.core.shape.sharing → Acts x i v (ReadIdent c) → Views x i v → IsNamed (own_section v.state) (known_as v.state v.own.meaning c) (found x.core v.state (ReadIdent c))
+ident_read x i v c alone k a =
     subst (λ (w : ℕ). IsNamed w (known_as v.state v.own.meaning c) (found x.core v.state (ReadIdent c))) (sym a.mutates.own)
     (subst (λ (m : Meaning). IsNamed i (known_as v.state m c) (found x.core v.state (ReadIdent c))) a.meaning
-    (ident_found x.core i v.state c (meanings_of x.sections) (acts-taken x i v (ReadIdent c) k) k.whole.stands a.mutates))
+    (ident_found x.core i v.state c (meanings_of x.sections) (acts-taken x i v (ReadIdent c) k) (k.whole.stands alone) a.mutates))
 
-own_read : (x : TableState) (i : ℕ) (v : View) (c j : ℕ) → Acts x i v (ReadOwn c j) → Views x i v → Reads (ReadOwn c j) (found x.core v.state (ReadOwn c j)) v
-own_read x i v c j k a =
+own_read : (x : TableState) (i : ℕ) (v : View) (c j : ℕ) → IsFalse x.core.shape.sharing → Acts x i v (ReadOwn c j) → Views x i v → (found x.core v.state (ReadOwn c j) ≡ 0) ↔ (followed v.own.meaning.heap (seen_by v.shape v.plan v.state) (known_as v.state v.own.meaning c) j ≡ refs.Nil)
+own_read x i v c j alone k a =
     let ms : List Meaning = meanings_of x.sections in
     let n : ℕ = found x.core v.state (ReadOwn c j) in
     subst (λ (o : Option Heap). (n ≡ 0) ↔ (followed v.own.meaning.heap o (known_as v.state v.own.meaning c) j ≡ refs.Nil)) (sym a.seen)
     (subst (λ (m : Meaning). (n ≡ 0) ↔ (followed m.heap (catalogue_seen ms i) (known_as v.state m c) j ≡ refs.Nil)) a.meaning
-    (nil_both (words_of x.core.shape x.core.words).identities (object_count ms) i n _ (own-found x.core i v.state c j ms (acts-taken x i v (ReadOwn c j) k) k.whole.stands a.mutates).1))
+    (nil_both (words_of x.core.shape x.core.words).identities (object_count ms) i n _ (own-found x.core i v.state c j ms (acts-taken x i v (ReadOwn c j) k) (k.whole.stands alone) a.mutates).1))
 
-cat_read : (x : TableState) (i : ℕ) (v : View) (u : ℕ) → Acts x i v (ReadCat u) → Views x i v → Reads (ReadCat u) (found x.core v.state (ReadCat u)) v
-cat_read x i v u k a =
+cat_read : (x : TableState) (i : ℕ) (v : View) (u : ℕ) → IsFalse x.core.shape.sharing → Acts x i v (ReadCat u) → Views x i v → (found x.core v.state (ReadCat u) ≡ 0) ↔ (lent_variable (seen_by v.shape v.plan v.state) u ≡ refs.Nil)
+cat_read x i v u alone k a =
     let ms : List Meaning = meanings_of x.sections in
     let n : ℕ = found x.core v.state (ReadCat u) in
     subst (λ (o : Option Heap). (n ≡ 0) ↔ (lent_variable o u ≡ refs.Nil)) (sym a.seen)
-    (nil_both (words_of x.core.shape x.core.words).identities (object_count ms) i n _ (cat-found x.core i v.state u ms (acts-taken x i v (ReadCat u) k) k.whole.stands a.mutates).1)
+    (nil_both (words_of x.core.shape x.core.words).identities (object_count ms) i n _ (cat-found x.core i v.state u ms (acts-taken x i v (ReadCat u) k) (k.whole.stands alone) a.mutates).1)
 
 season_read : (x : TableState) (i : ℕ) (v : View) → Acts x i v ReadSeason → Reads ReadSeason (found x.core v.state ReadSeason) v
 season_read x i v k e =
@@ -139,10 +141,10 @@ position_read x i v which k w e at =
     ∙ k.whole.told.positioned w v.own (k.agrees.own w e)
 
 reads_of : (x : TableState) (i : ℕ) (v : View) (step : Step) → Acts x i v step → Reads step (found x.core v.state step) v
-reads_of x i v (ReadValue c) k = value_read x i v c k (views x i v (ReadValue c) k (and_parts _ (may_mutate v.state) k.ok.0).1)
-reads_of x i v (ReadIdent c) k = ident_read x i v c k (views x i v (ReadIdent c) k (and_parts _ (may_mutate v.state) k.ok.0).1)
-reads_of x i v (ReadOwn c j) k = own_read x i v c j k (views x i v (ReadOwn c j) k (and_parts _ (may_mutate v.state) k.ok.0).1)
-reads_of x i v (ReadCat u) k = cat_read x i v u k (views x i v (ReadCat u) k (and_parts _ (may_mutate v.state) k.ok.0).1)
+reads_of x i v (ReadValue c) k = λ alone. value_read x i v c (subst (λ (sh : Shape). IsFalse sh.sharing) k.agrees.shape alone) k (views x i v (ReadValue c) k (and_parts _ (may_mutate v.state) k.ok.0).1)
+reads_of x i v (ReadIdent c) k = λ alone. ident_read x i v c (subst (λ (sh : Shape). IsFalse sh.sharing) k.agrees.shape alone) k (views x i v (ReadIdent c) k (and_parts _ (may_mutate v.state) k.ok.0).1)
+reads_of x i v (ReadOwn c j) k = λ alone. own_read x i v c j (subst (λ (sh : Shape). IsFalse sh.sharing) k.agrees.shape alone) k (views x i v (ReadOwn c j) k (and_parts _ (may_mutate v.state) k.ok.0).1)
+reads_of x i v (ReadCat u) k = λ alone. cat_read x i v u (subst (λ (sh : Shape). IsFalse sh.sharing) k.agrees.shape alone) k (views x i v (ReadCat u) k (and_parts _ (may_mutate v.state) k.ok.0).1)
 reads_of x i v ReadSeason k = season_read x i v k
 reads_of x i v (ReadStat which) k = position_read x i v which k
 reads_of x i v step k = tt

@@ -15,7 +15,7 @@ use Rattle.gc_table.specs.PlainSteps.{heap_in, catalogue_seen, own_section, mean
 use Rattle.gc_table.specs.Sections.{planned, seen_of, season_of, seen_by}
 use Rattle.gc_table.specs.TableState.{TableState, meanings_of, no_section, section_at}
 use Rattle.gc_table.specs.Rule.{IsState}
-use Rattle.gc_table.proofs.Stands.StandsSeat.{Mutates, mutates, looks}
+use Rattle.gc_table.proofs.Stands.StandsSeat.{Mutates, mutates-in, looks}
 
 -- what the words of a section mean, looked up in either order
 pub meaning-at : (xs : List SectionState) (w : ℕ) → meaning_of (meanings_of xs) w ≡ (section_at xs w).meaning
@@ -27,7 +27,11 @@ pub meaning-there : (xs : List SectionState) (w : ℕ) → w < length xs → sli
 meaning-there xs w h = slice_get-map (λ (x : SectionState). x.meaning) xs w ∙ ap (option_map (λ (x : SectionState). x.meaning)) (slice_get-get_or xs w no_section h)
 
 pub sections-length : (x : TableState) → IsState x → length x.sections ≡ x.core.shape.sections
-sections-length x k = sym (length-map x.sections (λ (y : SectionState). y.meaning)) ∙ k.stands.sections
+sections-length x k = k.sections
+
+-- there is a meaning for each section
+pub meanings-length : (x : TableState) → IsState x → length (meanings_of x.sections) ≡ x.core.shape.sections
+meanings-length x k = length-map x.sections (λ (y : SectionState). y.meaning) ∙ k.sections
 
 -- a warehouse has its turn in odd seasons
 warehouse_turn : (w : ℕ) (o : Option ℕ) → has_turn (Some (suc w)) o ≡ true → (z : ℕ) × (o ≡ Some z) × (z % 2 ≡ 1)
@@ -56,7 +60,7 @@ seen_at x i (suc w) s k t a e turn h =
 pub seen-is : (x : TableState) (i : ℕ) (s : SeatState) → IsState x → slice_get x.core.seats i ≡ Some s → IsFalse s.spent → may_mutate s ≡ true → seen_by x.core.shape x.plan s ≡ catalogue_seen (meanings_of x.sections) (own_section s)
 seen-is x i s k g live may =
     let t : Taken x.core i s ReadCount = looks x.core i s k.core g live in
-    let a : Mutates x.core i s (meanings_of x.sections) = mutates x.core i s ReadCount (meanings_of x.sections) t k.stands may in
+    let a : Mutates x.core i s (meanings_of x.sections) = mutates-in x.core i s ReadCount (meanings_of x.sections) t (meanings-length x k) may in
     let b = and_parts s.active (has_turn s.section s.season_seen) may in
     let turn : has_turn (Some i) s.season_seen ≡ true = subst (λ (o : Option ℕ). has_turn o s.season_seen ≡ true) a.section b.1 in
     ap (λ (o : Option ℕ). seen_of x.core.shape x.plan o (season_of s)) a.section

@@ -1,5 +1,6 @@
 -- The words stand for what the sections say after each step that a seat may take.
 use Rattle.std.proofs.Common.{ℕ, ◌≡◌, zero, suc, List, [], ◌∷◌, set, refl, sym, ap, ◌∙◌, subst, true, Option, Some, None}
+use Rattle.std.specs.Prelude.{IsFalse}
 use Rattle.std.proofs.lemmas.Bool.{and_parts}
 use Rattle.std.proofs.lemmas.List.{set-get_or}
 use Rattle.mark_core.specs.Seats.{may_mutate}
@@ -37,10 +38,10 @@ abbrev pub Means : TableState → SeatState → Step → Type 0
 Means x s step = (op : Op) × AsksIn s (meanings_of x.sections) step op × (meanings_of (sections_left x s step) ≡ meanings_after x.core.shape s step op (meanings_of x.sections))
 
 -- a step of a mutator
-mutating : (x : TableState) (i : ℕ) (s : SeatState) (step : Step) (op : Op) → Goes x i s step → may_mutate s ≡ true → Asks s (section_at x.sections (own_section s)).meaning (seen_by x.core.shape x.plan s) step op
+mutating : (x : TableState) (i : ℕ) (s : SeatState) (step : Step) (op : Op) → IsFalse x.core.shape.sharing → Goes x i s step → may_mutate s ≡ true → Asks s (section_at x.sections (own_section s)).meaning (seen_by x.core.shape x.plan s) step op
     → ((y : SectionState) → (section_after x.core.shape x.plan s step y).meaning ≡ meaning_by x.core.shape s (seen_by x.core.shape x.plan s) step y.meaning)
     → (o : Op) × AsksIn s (meanings_of x.sections) step o × (meanings_of (sections_left x s step) ≡ changed_by x.core.shape s step o (meanings_of x.sections))
-mutating x i s step op g may asked means = (op, asks, meanings)
+mutating x i s step op alone g may asked means = (op, asks, meanings)
   where
     ms : List Meaning
     ms = meanings_of x.sections
@@ -49,7 +50,7 @@ mutating x i s step op g may asked means = (op, asks, meanings)
     w = own_section s
 
     a : Mutates x.core i s ms
-    a = mutates x.core i s step ms (taken x i s step g) g.whole.stands may
+    a = mutates x.core i s step ms (taken x i s step g) (g.whole.stands alone) may
 
     seen : seen_by x.core.shape x.plan s ≡ catalogue_seen ms w
     seen = seen-is x i s g.whole g.got g.live may
@@ -60,7 +61,7 @@ mutating x i s step op g may asked means = (op, asks, meanings)
     told : meaning_after x.core.shape s (catalogue_seen ms w) step op (meaning_of ms w) ≡ meaning_by x.core.shape s (catalogue_seen ms w) step (meaning_of ms w)
     told =
         subst (λ (k : ℕ). meaning_after x.core.shape s (catalogue_seen ms w) step op (meaning_of ms k) ≡ meaning_by x.core.shape s (catalogue_seen ms w) step (meaning_of ms k)) (sym a.own)
-        (meaning-told x.core i s step op ms (catalogue_seen ms w) (taken x i s step g) g.whole.stands (subst (λ (k : ℕ). Asks s (meaning_of ms k) (catalogue_seen ms w) step op) a.own asks))
+        (meaning-told x.core i s step op ms (catalogue_seen ms w) (taken x i s step g) (g.whole.stands alone) (subst (λ (k : ℕ). Asks s (meaning_of ms k) (catalogue_seen ms w) step op) a.own asks))
 
     section : s.section ≡ Some w
     section = a.section ∙ ap (λ k. Some k) (sym a.own)
@@ -77,19 +78,19 @@ mutating x i s step op g may asked means = (op, asks, meanings)
     meanings =
         ap (λ o. meanings_of (with_section o (section_after x.core.shape x.plan s step) x.sections)) section ∙ meanings-set x.sections w after ∙ ap (λ m. set ms w m) mine
 
-means-left : (x : TableState) (i : ℕ) (s : SeatState) (step : Step) → Goes x i s step → Means x s step
-means-left x i s (ReadOwn c j) g = mutating x i s (ReadOwn c j) ops.Collect g (and_parts _ (may_mutate s) g.ok.0).1 tt (λ y. refl)
-means-left x i s (ReadCat v) g = mutating x i s (ReadCat v) ops.Collect g (and_parts _ (may_mutate s) g.ok.0).1 tt (λ y. refl)
-means-left x i s (StoreField v j o) g = mutating x i s (StoreField v j o) g.asks.0 g (and_parts _ (may_mutate s) g.ok.0).1 g.asks.1 (λ y. refl)
-means-left x i s (StoreValue v n) g = mutating x i s (StoreValue v n) g.asks.0 g (and_parts _ (may_mutate s) g.ok.0).1 g.asks.1 (λ y. refl)
-means-left x i s (StoreRoot v r) g = mutating x i s (StoreRoot v r) g.asks.0 g (and_parts _ (may_mutate s) g.ok.0).1 g.asks.1 (λ y. refl)
-means-left x i s (StoreNew c part word) g = mutating x i s (StoreNew c part word) ops.Collect g (and_parts _ (may_mutate s) g.ok.0).1 g.asks (λ y. refl)
-means-left x i s step g = (ops.Collect, tt, still_means x.sections (section_after x.core.shape x.plan s step) s.section (λ y. refl))
+means-left : (x : TableState) (i : ℕ) (s : SeatState) (step : Step) → IsFalse x.core.shape.sharing → Goes x i s step → Means x s step
+means-left x i s (ReadOwn c j) alone g = mutating x i s (ReadOwn c j) ops.Collect alone g (and_parts _ (may_mutate s) g.ok.0).1 tt (λ y. refl)
+means-left x i s (ReadCat v) alone g = mutating x i s (ReadCat v) ops.Collect alone g (and_parts _ (may_mutate s) g.ok.0).1 tt (λ y. refl)
+means-left x i s (StoreField v j o) alone g = mutating x i s (StoreField v j o) (g.asks.1 alone).0 alone g (and_parts _ (may_mutate s) g.ok.0).1 (g.asks.1 alone).1 (λ y. refl)
+means-left x i s (StoreValue v n) alone g = mutating x i s (StoreValue v n) (g.asks.1 alone).0 alone g (and_parts _ (may_mutate s) g.ok.0).1 (g.asks.1 alone).1 (λ y. refl)
+means-left x i s (StoreRoot v r) alone g = mutating x i s (StoreRoot v r) (g.asks.1 alone).0 alone g (and_parts _ (may_mutate s) g.ok.0).1 (g.asks.1 alone).1 (λ y. refl)
+means-left x i s (StoreNew c part word) alone g = mutating x i s (StoreNew c part word) ops.Collect alone g (and_parts _ (may_mutate s) g.ok.0).1 g.asks (λ y. refl)
+means-left x i s step alone g = (ops.Collect, tt, still_means x.sections (section_after x.core.shape x.plan s step) s.section (λ y. refl))
 
 -- each step keeps that the words stand for what the sections say
-pub stands-whole : (x : TableState) (i : ℕ) (s : SeatState) (step : Step) → Goes x i s step → StandsFor (state_after x (event i step)).core (meanings_of (state_after x (event i step)).sections)
-stands-whole x i s step g =
-    let m : Means x s step = means-left x i s step g in
+pub stands-whole : (x : TableState) (i : ℕ) (s : SeatState) (step : Step) → IsFalse x.core.shape.sharing → Goes x i s step → StandsFor (state_after x (event i step)).core (meanings_of (state_after x (event i step)).sections)
+stands-whole x i s step alone g =
+    let m : Means x s step = means-left x i s step alone g in
     let after : meanings_of (state_after x (event i step)).sections ≡ meanings_after x.core.shape s step m.0 (meanings_of x.sections) = ap meanings_of (sections-left x i s step g) ∙ m.2 in
     subst (λ (ms : List Meaning). StandsFor (state_after x (event i step)).core ms) (sym after)
-    (stands-kept x.core (event i step) s m.0 (meanings_of x.sections) g.whole.core g.whole.stands g.got m.1 (may-happen x i s step g))
+    (stands-kept x.core (event i step) s m.0 (meanings_of x.sections) alone g.whole.core (g.whole.stands alone) g.got m.1 (may-happen x i s step g))

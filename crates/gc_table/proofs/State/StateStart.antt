@@ -82,7 +82,7 @@ told-starts sh plan n z some few = record {
         places_past = each_starts sh _ (λ w k p e. absurd (some_none p (sym e)));
         last = each_starts sh _ (λ w. refl);
       };
-  apart = each_starts sh _ (λ w k m p o l e f r same. absurd (some_none p (sym e)));
+  apart = λ alone. each_starts sh _ (λ w k m p o l e f r same. absurd (some_none p (sym e)));
   fullness =
       record {
         found_by = each_starts sh _ (λ w e. absurd (true≢false (sym e)));
@@ -103,6 +103,7 @@ whole-starts sh plan n z some few =
     record {
       core = core-starts sh n z some few;
       swept = swept-starts sh n z;
-      stands = subst (λ (ms : List Meaning). StandsFor (start_state sh plan n).core ms) (sym (meanings_from sh 0 sh.sections)) (stands-starts sh n z);
+      sections = length-map-range_with_len (start_section sh) 0 sh.sections;
+      stands = λ alone. subst (λ (ms : List Meaning). StandsFor (start_state sh plan n).core ms) (sym (meanings_from sh 0 sh.sections)) (stands-starts sh n z);
       told = told-starts sh plan n z some few;
     }

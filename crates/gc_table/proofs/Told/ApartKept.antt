@@ -1,6 +1,6 @@
 -- Each step that a seat may take keeps objects apart: none was made in the cell of an older one that was reachable.
 use Rattle.std.proofs.Common.{ℕ, ◌≡◌, ◌+◌, ◌<◌, ◌≤◌, zero, suc, List, [], ◌∷◌, ◌++◌, length, arith, refl, sym, ap, ◌∙◌, subst, Bool, true, false, eqb, Option, Some, None, ◌⊎◌, inl, inr, ⊎_elim}
-use Rattle.std.specs.Prelude.{slice_get, if◌then◌else◌}
+use Rattle.std.specs.Prelude.{IsFalse, slice_get, if◌then◌else◌}
 use Rattle.std.proofs.lemmas.Bool.{and_parts, eqb-true}
 use Rattle.std.proofs.lemmas.Option.{slice_get_within, get_or_from_slice_get}
 use Rattle.mark_core.specs.Seats.{may_mutate}
@@ -95,8 +95,8 @@ new_places ps true new n m p q l a c =
     earlier h = ⊎_elim (λ (k : (m ≡ length ps) × (new ≡ q)). absurd (omega (arith, h, k.0))) (λ (k : slice_get ps m ≡ Some q). k) (push-cases ps m new q c)
 
 -- a new object lies apart
-made_apart : (x : TableState) (i : ℕ) (s : SeatState) (c part word : ℕ) → Goes x i s (StoreNew c part word) → StaysApart x s (section_after x.core.shape x.plan s (StoreNew c part word))
-made_apart x i s c part word g = (λ w z y e there l base. refl, adds)
+made_apart : (x : TableState) (i : ℕ) (s : SeatState) (c part word : ℕ) → IsFalse x.core.shape.sharing → Goes x i s (StoreNew c part word) → StaysApart x s (section_after x.core.shape x.plan s (StoreNew c part word))
+made_apart x i s c part word alone g = (λ w z y e there l base. refl, adds)
   where
     step : Step
     step = StoreNew c part word
@@ -114,22 +114,22 @@ made_apart x i s c part word g = (λ w z y e there l base. refl, adds)
         (λ (h : (last ≡ true) × (made_place s c y ≡ p) × (slice_get y.places m ≡ Some q)).
         let late : 0 < part = omega (arith, eqb-true part (x.core.shape.fields + 1) h.0) in
         let now : season_of s ≤ season_in x = omega (arith, (in-turn x i s step w g may e).0) in
-        inr (subst (λ (r : Place). (r.season ≤ season_in x) × IsApart x.core.shape x.plan x.sections w m r q) h.1 (now, new-apart x i s c part word w m y q g e late there h.2)))
+        inr (subst (λ (r : Place). (r.season ≤ season_in x) × IsApart x.core.shape x.plan x.sections w m r q) h.1 (now, new-apart x i s c part word w m y q alone g e late there h.2)))
         (new_places y.places last (made_place s c y) n m p q l a b)
 
-stays_apart : (x : TableState) (i : ℕ) (s : SeatState) (step : Step) → Goes x i s step → StaysApart x s (section_after x.core.shape x.plan s step)
-stays_apart x i s (StoreField v j o) g =
+stays_apart : (x : TableState) (i : ℕ) (s : SeatState) (step : Step) → IsFalse x.core.shape.sharing → Goes x i s step → StaysApart x s (section_after x.core.shape x.plan s step)
+stays_apart x i s (StoreField v j o) alone g =
     (λ w z y e there l base. turn_late x i s (StoreField v j o) w z y _ base g (and_parts _ (may_mutate s) g.ok.0).1 e l, λ w y e there n m p q l a b. inl (a, b))
-stays_apart x i s (StoreValue v n) g =
+stays_apart x i s (StoreValue v n) alone g =
     (λ w z y e there l base. turn_late x i s (StoreValue v n) w z y _ base g (and_parts _ (may_mutate s) g.ok.0).1 e l, λ w y e there n m p q l a b. inl (a, b))
-stays_apart x i s (StoreRoot v r) g =
+stays_apart x i s (StoreRoot v r) alone g =
     (λ w z y e there l base. turn_late x i s (StoreRoot v r) w z y _ base g (and_parts _ (may_mutate s) g.ok.0).1 e l, λ w y e there n m p q l a b. inl (a, b))
-stays_apart x i s (StoreNew c part word) g = made_apart x i s c part word g
-stays_apart x i s step g = (λ w z y e there l base. refl, λ w y e there n m p q l a b. inl (a, b))
+stays_apart x i s (StoreNew c part word) alone g = made_apart x i s c part word alone g
+stays_apart x i s step alone g = (λ w z y e there l base. refl, λ w y e there n m p q l a b. inl (a, b))
 
 -- each step that a seat may take keeps objects apart
-pub apart-kept : (x : TableState) (i : ℕ) (s : SeatState) (step : Step) → Goes x i s step → AreApart (state_after x (event i step)).core.shape (state_after x (event i step)).plan (state_after x (event i step)).sections
-apart-kept x i s step g =
-    let a = stays_apart x i s step g in
+pub apart-kept : (x : TableState) (i : ℕ) (s : SeatState) (step : Step) → IsFalse x.core.shape.sharing → Goes x i s step → AreApart (state_after x (event i step)).core.shape (state_after x (event i step)).plan (state_after x (event i step)).sections
+apart-kept x i s step alone g =
+    let a = stays_apart x i s step alone g in
     kept-whole (λ sh words seats xs. AreApart sh x.plan xs) x i s step g
-    (apart_left x.core.shape x.plan (season_in x) s.section (section_after x.core.shape x.plan s step) x.sections g.whole.told.turns g.whole.told.apart a.0 a.1)
+    (apart_left x.core.shape x.plan (season_in x) s.section (section_after x.core.shape x.plan s step) x.sections g.whole.told.turns (g.whole.told.apart alone) a.0 a.1)

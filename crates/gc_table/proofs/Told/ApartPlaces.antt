@@ -1,6 +1,6 @@
 -- A new object isn't made in the cell of an object of its section that is reachable just before: that cell is in use, and the one being made is free.
 use Rattle.std.proofs.Common.{ℕ, ◌≡◌, ◌+◌, ◌%◌, ◌<◌, ◌≤◌, zero, suc, List, [], ◌∷◌, arith, refl, sym, ap, ◌∙◌, subst, Bool, true, false, ◌&&◌, eqb, Option, Some, None}
-use Rattle.std.specs.Prelude.{IsTrue, IfSome, nat_lt, nat_le, slice_get, unwrap_or, drop, if◌then◌else◌, Contains}
+use Rattle.std.specs.Prelude.{IsFalse, IsTrue, IfSome, nat_lt, nat_le, slice_get, unwrap_or, drop, if◌then◌else◌, Contains}
 use Rattle.std.proofs.lemmas.Bool.{true≢false, and_parts, eqb-true, ne_eqb}
 use Rattle.std.proofs.lemmas.Option.{same_Some, slice_get_within, slice_get-map}
 use Rattle.std.specs.Option.{option_map}
@@ -119,11 +119,11 @@ beside_now x i s step zero c y g m e there h a =
 beside_now x i s step (suc w) c y g m e there h a = beside_warehouse x i s step w c y g m e there h a
 
 -- where an object lies that is reachable: its cell is in use
-reached_lies : (x : TableState) (i : ℕ) (s : SeatState) (step : Step) (w m : ℕ) (y : SectionState) (o : Place) → Goes x i s step → slice_get x.sections w ≡ Some y → slice_get y.places m ≡ Some o
+reached_lies : (x : TableState) (i : ℕ) (s : SeatState) (step : Step) (w m : ℕ) (y : SectionState) (o : Place) → IsFalse x.core.shape.sharing → Goes x i s step → slice_get x.sections w ≡ Some y → slice_get y.places m ≡ Some o
     → IsReachable (heaps_of (meanings_of x.sections)) (record { section = w; number = m }) → Used x.core o.cell ≡ true
-reached_lies x i s step w m y o g there at reach =
+reached_lies x i s step w m y o alone g there at reach =
     let ids : List ℕ = (words_of x.core.shape x.core.words).identities in
-    let d = objects-have-cells x.core (meanings_of x.sections) g.whole.core g.whole.stands (record { section = w; number = m }) reach in
+    let d = objects-have-cells x.core (meanings_of x.sections) g.whole.core (g.whole.stands alone) (record { section = w; number = m }) reach in
     let used : Used x.core d.0 ≡ true = d.1.0 in
     let lies = g.whole.told.placed.at_place d.0 (used-exists x.core g.whole.core d.0 used) used in
     let section : section_of_cell ids d.0 ≡ w = ap (λ (n : Name). n.section) d.1.1 in
@@ -133,13 +133,13 @@ reached_lies x i s step w m y o g there at reach =
     subst (λ k. Used x.core k ≡ true) (sym lies.2.2 ∙ ap (λ (p : Place). p.cell) place) used
 
 -- the cell to which the last part goes isn't that of an object that is reachable just before
-pub new-apart : (x : TableState) (i : ℕ) (s : SeatState) (c part word w m : ℕ) (y : SectionState) (o : Place) → Goes x i s (StoreNew c part word) → s.section ≡ Some w → 0 < part → slice_get x.sections w ≡ Some y → slice_get y.places m ≡ Some o
+pub new-apart : (x : TableState) (i : ℕ) (s : SeatState) (c part word w m : ℕ) (y : SectionState) (o : Place) → IsFalse x.core.shape.sharing → Goes x i s (StoreNew c part word) → s.section ≡ Some w → 0 < part → slice_get x.sections w ≡ Some y → slice_get y.places m ≡ Some o
     → IsReachable (heaps_beside x.core.shape x.plan x.sections w (made_place s c y)) (record { section = w; number = m }) → c ≡ o.cell → ⊥
-new-apart x i s c part word w m y o g e late there at reach same =
+new-apart x i s c part word w m y o alone g e late there at reach same =
     let step : Step = StoreNew c part word in
     let may : may_mutate s ≡ true = (and_parts (nat_lt c x.core.shape.cells && nat_le part (x.core.shape.fields + 1)) (may_mutate s) g.ok.0).1 in
     let free = making-is-free x.core i s step c part (taken x i s step g) (next-makes s.cache c part (λ z. omega (arith, z, late)) g.ok.1.0) in
     let unused : Used x.core c ≡ false = free-not-used x.core i s step c (taken x i s step g) free in
     let now = reach-more (heaps_beside x.core.shape x.plan x.sections w (made_place s c y)) (heaps_of (meanings_of x.sections)) (beside_now x i s step w c y g may e there) (record { section = w; number = m }) reach in
-    let used : Used x.core o.cell ≡ true = reached_lies x i s step w m y o g there at now in
+    let used : Used x.core o.cell ≡ true = reached_lies x i s step w m y o alone g there at now in
     absurd (true≢false (sym used ∙ ap (Used x.core) (sym same) ∙ unused))

@@ -76,7 +76,7 @@ section_there : (x : TableState) (i : ℕ) (s : SeatState) (step : Step) (w : �
 section_there x i s step w g e =
     let k : Taken x.core i s step = taken x i s step g in
     let below : w < x.core.shape.sections = own_below (nat_lt i x.core.shape.sections) x.core.shape.sections i w refl (sym e ∙ (seat-formed x.core i s step k).section) in
-    let long : length x.sections ≡ x.core.shape.sections = sym (length-map x.sections (λ (y : SectionState). y.meaning)) ∙ g.whole.stands.sections in
+    let long : length x.sections ≡ x.core.shape.sections = g.whole.sections in
     slice_get-get_or x.sections w no_section (omega (arith, below, long))
 
 -- the first finding: every cell is reachable, so it is in use, and published

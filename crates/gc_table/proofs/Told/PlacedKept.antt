@@ -9,7 +9,7 @@ use Rattle.mark_core.proofs.References.ReferencesRoots.{Used, UsedAfter}
 use Rattle.mark_core.proofs.Used.UsedKept.{used-back}
 use Rattle.mark_core.proofs.Used.UsedSeats.{IsMadeBy}
 use Rattle.mark_core.specs.declared.kinds.Step.{Step}
-use Rattle.mark_core.specs.declared.kinds.Step.TheVariants.{StoreField, StoreValue, StoreNew, Split, Join}
+use Rattle.mark_core.specs.declared.kinds.Step.TheVariants.{StoreField, StoreValue, StoreNew, Split, Join, ExchangeField, ExchangeValue}
 use Rattle.mark_core.specs.declared.seat.SeatState.{SeatState}
 use Rattle.gc_table.specs.declared.view.SectionState.{SectionState}
 use Rattle.gc_table.specs.Sections.{section_after}
@@ -59,7 +59,9 @@ placed_left x i s (StoreNew c part word) g = placed-new x i s c part word g
 placed_left x i s Split g = placed_split x i s g
 placed_left x i s (Join other) g = placed_join x i s other g
 placed_left x i s (StoreField v j w) g = placed_seat x i s (StoreField v j w) g refl (λ y e. e) (λ y. refl) refl refl
+placed_left x i s (ExchangeField v j y w) g = placed_seat x i s (ExchangeField v j y w) g refl (λ y e. e) (λ y. refl) refl refl
 placed_left x i s (StoreValue v n) g = placed_seat x i s (StoreValue v n) g refl (λ y e. e) (λ y. refl) refl refl
+placed_left x i s (ExchangeValue v m n) g = placed_seat x i s (ExchangeValue v m n) g refl (λ y e. e) (λ y. refl) refl refl
 placed_left x i s step g = placed_seat x i s step g (identities-same x.core i s step (taken x i s step g) refl) (λ y e. e) (λ y. refl) refl refl
 
 pub placed-kept : (x : TableState) (i : ℕ) (s : SeatState) (step : Step) → Goes x i s step

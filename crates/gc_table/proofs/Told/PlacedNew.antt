@@ -28,8 +28,9 @@ use Rattle.gc_table.specs.TableState.{TableState, meanings_of, with_section}
 use Rattle.gc_table.specs.Told.{Placed}
 use Rattle.gc_table.proofs.Told.PlacedLeft.{PlacedIn, counted-seat, placed-same}
 use Rattle.gc_table.proofs.Told.PlacedMore.{Adds, placed-more}
-use Rattle.gc_table.proofs.Stands.StandsSeat.{Mutates, mutates, free-below, free-not-used}
+use Rattle.gc_table.proofs.Stands.StandsSeat.{Mutates, mutates-in, free-below, free-not-used}
 use Rattle.gc_table.proofs.State.StateSteps.{Goes, taken, sections_left}
+use Rattle.gc_table.proofs.State.StateSeen.{meanings-length}
 
 -- the place of an object that is made next
 abbrev new_place : SeatState → ℕ → SectionState → Place
@@ -85,7 +86,7 @@ last_part x i s c part word g h =
     t = record s { cache = with_made s.cache c; made = s.made + 1 }
 
     a : Mutates x.core i s (meanings_of x.sections)
-    a = mutates x.core i s step (meanings_of x.sections) k g.whole.stands (and_parts (nat_lt c x.core.shape.cells && nat_le part (x.core.shape.fields + 1)) (may_mutate s) k.ok.0).1
+    a = mutates-in x.core i s step (meanings_of x.sections) k (meanings-length x g.whole) (and_parts (nat_lt c x.core.shape.cells && nat_le part (x.core.shape.fields + 1)) (may_mutate s) k.ok.0).1
 
     facts : CacheFacts s.cache
     facts = own-fact x.core i s step (λ (u : SeatState). CacheFacts u.cache) k (all-facts x.core k.core)
@@ -101,7 +102,7 @@ last_part x i s c part word g h =
       got = g.got;
       live = g.live;
       within = within x.core i s step k;
-      inside = omega (arith, a.inside, g.whole.stands.sections, length-map x.sections (λ (y : SectionState). y.meaning));
+      inside = omega (arith, a.inside, g.whole.sections);
       cell = (here, omega (arith, here, region-length (region_sizes x.core.shape) 9 x.core.words (omega (arith, k.core.formed.words))));
       more = λ d u. ⊎_elim (λ (b : Used x.core d ≡ true). inl b) (λ (b : IsMadeBy x.core.shape step d). inr b.0) (used-back x.core i s step d k u);
       unused = λ u. true≢false (sym u ∙ free-not-used x.core i s step c k free);

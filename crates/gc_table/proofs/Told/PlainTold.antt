@@ -1,6 +1,6 @@
 -- A store of a mutator is the plain step that it was asked for, as the views alone tell.
 use Rattle.std.proofs.Common.{◌≡◌}
-use Rattle.std.specs.Prelude.{IsTrue}
+use Rattle.std.specs.Prelude.{IsTrue, IsFalse}
 use Rattle.std.proofs.Math.Logic.{∥∥₁_elim}
 use Rattle.std.proofs.Props.{props}
 use Rattle.mark_core.specs.declared.kinds.Step.{Step}
@@ -13,6 +13,6 @@ use Rattle.gc_table.specs.Rule.{IsPossible}
 use Rattle.gc_table.specs.Taking.{May}
 use Rattle.gc_table.proofs.State.StatePlain.{plain-by}
 
-pub plain-told : (v : View) (step : Step) (op : Op) → ∥ IsPossible v ∥₁ → May step v → Asks v.state v.own.meaning (seen_by v.shape v.plan v.state) step op → IsTrue (changes_heap step)
+pub plain-told : (v : View) (step : Step) (op : Op) → IsFalse v.shape.sharing → ∥ IsPossible v ∥₁ → May step v → Asks v.state v.own.meaning (seen_by v.shape v.plan v.state) step op → IsTrue (changes_heap step)
     → (section_after v.shape v.plan v.state step v.own).meaning.heap ≡ heap_after v.own.meaning.heap (seen_by v.shape v.plan v.state) op
-plain-told v step op h may asks e = ∥∥₁_elim h (Prim.hlevel props) (λ p. plain-by p.state p.index v step op p.whole p.agrees p.live (may p.state p.index p.whole p.agrees) asks e)
+plain-told v step op alone h may asks e = ∥∥₁_elim h (Prim.hlevel props) (λ p. plain-by p.state p.index v step op alone p.whole p.agrees p.live (may p.state p.index p.whole p.agrees) asks e)

@@ -83,7 +83,7 @@ position_stored x i s done g =
     let at : own_section s ≡ own.0 = ap (λ (o : Option ℕ). unwrap_or o 0) own.1 in
     let before : Positioned ps x.sections = g.whole.told.positioned in
     let within : (w : ℕ) (y : SectionState) → slice_get x.sections w ≡ Some y → w < length ps
-    = λ w y h. omega (arith, slice_get_within x.sections w y h, positions_length x.core g.whole.core, g.whole.stands.sections, length-map x.sections (λ (z : SectionState). z.meaning)) in
+    = λ w y h. omega (arith, slice_get_within x.sections w y h, positions_length x.core g.whole.core, g.whole.sections) in
     each-left (λ w y. slice_index (set ps (own_section s) done) w ≡ y.position) (section_after x.core.shape x.plan s (StorePosition done)) s.section x.sections
     (λ w y h d. get_or-set_other ps (own_section s) w done 0 (λ e. d (own.1 ∙ ap Some (sym (e ∙ at)))) ∙ before w y h)
     (λ w y h e.

@@ -89,7 +89,7 @@ before : (x : TableState) (i : ℕ) (s : SeatState) (step : Step) → Goes x i s
 before x i s step g = (g.whole.told.seasons.moved, g.whole.told.seasons.planned_there)
 
 some_sections : (x : TableState) (i : ℕ) (s : SeatState) (step : Step) → Goes x i s step → 0 < length x.sections
-some_sections x i s step g = omega (arith, g.whole.core.formed.shaped.sections, g.whole.stands.sections, length-map x.sections (λ (z : SectionState). z.meaning))
+some_sections x i s step g = omega (arith, g.whole.core.formed.shaped.sections, g.whole.sections)
 
 -- a store of the catalogue's seat is in an even season
 even_there : (c : Core) (i : ℕ) (s : SeatState) (step : Step) → Taken c i s step → changes_heap step ≡ true → s.section ≡ Some 0 → season_in c % 2 ≡ 0

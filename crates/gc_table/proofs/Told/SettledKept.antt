@@ -21,7 +21,7 @@ use Rattle.mark_core.specs.declared.kinds.Shape.{Shape}
 use Rattle.mark_core.specs.declared.kinds.Phase.{Phase}
 use Rattle.mark_core.specs.declared.kinds.Phase.TheVariants.{Idle, Marking, Drain, Sweep, Clear, Full}
 use Rattle.mark_core.specs.declared.kinds.Step.{Step}
-use Rattle.mark_core.specs.declared.kinds.Step.TheVariants.{StoreField, StoreValue, StoreRoot, StoreNew, StorePhase, NextSeason}
+use Rattle.mark_core.specs.declared.kinds.Step.TheVariants.{StoreField, StoreValue, StoreRoot, StoreNew, StorePhase, NextSeason, ExchangeField, ExchangeValue}
 use Rattle.mark_core.specs.declared.seat.SeatState.{SeatState}
 use Rattle.plain_heap.specs.declared.operation.Op.{Op}
 use Rattle.gc_table.specs.declared.view.SectionState.{SectionState}
@@ -82,6 +82,8 @@ others_wait c i s step x k d moved st m e =
 -- a step of a seat that isn't the catalogue's
 others : (c : Core) (i : ℕ) (s : SeatState) (step : Step) (x : SectionState) → Taken c i s step → (s.section ≡ Some 0 → ⊥) → (words_of c.shape c.words).season ≡ x.seasons → Settled c x → SettledAfter c i s step x
 others c i s (StoreField v j o) x k d moved st = others_wait c i s (StoreField v j o) x k d moved st (and_parts _ _ k.ok.0).1
+others c i s (ExchangeField v j y o) x k d moved st = others_wait c i s (ExchangeField v j y o) x k d moved st (and_parts _ _ k.ok.0).1
+others c i s (ExchangeValue v m n) x k d moved st = others_wait c i s (ExchangeValue v m n) x k d moved st (and_parts _ _ k.ok.0).1
 others c i s (StoreValue v n) x k d moved st = others_wait c i s (StoreValue v n) x k d moved st (and_parts _ _ k.ok.0).1
 others c i s (StoreRoot v r) x k d moved st = others_wait c i s (StoreRoot v r) x k d moved st (and_parts _ _ k.ok.0).1
 others c i s (StoreNew y part word) x k d moved st = others_wait c i s (StoreNew y part word) x k d moved st (and_parts _ _ k.ok.0).1
@@ -114,6 +116,8 @@ phase_moves c i s Full x k exact e = absurd (false≢true e)
 -- a step of the catalogue's seat
 own : (c : Core) (i : ℕ) (s : SeatState) (step : Step) (plan : List (List Op)) (x : SectionState) → Taken c i s step → ExactSound c.shape (words_left c s step) (seats_left c i s step) → Settled c x → SettledAfter c i s step (section_after c.shape plan s step x)
 own c i s (StoreField v j o) plan x k exact st e = absurd (false≢true e)
+own c i s (ExchangeField v j y o) plan x k exact st e = absurd (false≢true e)
+own c i s (ExchangeValue v m n) plan x k exact st e = absurd (false≢true e)
 own c i s (StoreValue v n) plan x k exact st e = absurd (false≢true e)
 own c i s (StoreRoot v r) plan x k exact st e = absurd (false≢true e)
 own c i s (StoreNew y part word) plan x k exact st e = absurd (false≢true e)

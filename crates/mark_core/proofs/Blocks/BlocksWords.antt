@@ -11,7 +11,7 @@ use Rattle.mark_core.proofs.Writing.Writes.{phase-kept, next_block-kept}
 use Rattle.mark_core.proofs.Writing.RegionWrites.{roots-kept, allocs-kept, marks-kept, fields-kept}
 use Rattle.mark_core.proofs.Blocks.BlocksTaken.{Taken, words-read}
 use Rattle.mark_core.specs.declared.kinds.Step.{Step}
-use Rattle.mark_core.specs.declared.kinds.Step.TheVariants.{ReadAlloc, ReadField, ReadRoot, SetMark, ReadMarks, ReadPhase, ReadOwn, ReadCat, StoreField, StoreRoot, ReadFree, StoreNew, PublishCells, StorePhase, NextBlock, ReadBlockMarks, StoreAlloc, ClearMarks, Reset, AddStat, ReadStat}
+use Rattle.mark_core.specs.declared.kinds.Step.TheVariants.{ReadAlloc, ReadField, ReadRoot, SetMark, ReadMarks, ReadPhase, ReadOwn, ReadCat, StoreField, StoreRoot, ReadFree, StoreNew, PublishCells, StorePhase, NextBlock, ReadBlockMarks, StoreAlloc, ClearMarks, Reset, AddStat, ReadStat, ExchangeField}
 use Rattle.mark_core.specs.declared.seat.SeatState.{SeatState}
 use Rattle.mark_core.specs.Numbers.{done_count, last_count, named_number}
 
@@ -49,6 +49,7 @@ same_statistic w which v h g =
 abbrev pub changes_heap : Step → Bool
 changes_heap (SetMark c) = true
 changes_heap (StoreField v i x) = true
+changes_heap (ExchangeField v i x y) = true
 changes_heap (StoreRoot v r) = true
 changes_heap (StoreNew c part word) = true
 changes_heap PublishCells = true
@@ -63,6 +64,7 @@ changes_heap step = false
 pub heap-left : (c : Core) (i : ℕ) (s : SeatState) (step : Step) → Taken c i s step → changes_heap step ≡ false → SameHeap (words_of c.shape c.words) (words_left c s step)
 heap-left c i s (SetMark x) t e = absurd (true≢false e)
 heap-left c i s (StoreField v x y) t e = absurd (true≢false e)
+heap-left c i s (ExchangeField v x y z) t e = absurd (true≢false e)
 heap-left c i s (StoreRoot v r) t e = absurd (true≢false e)
 heap-left c i s (StoreNew x part word) t e = absurd (true≢false e)
 heap-left c i s PublishCells t e = absurd (true≢false e)

@@ -25,7 +25,7 @@ use Rattle.mark_core.proofs.Caches.CachesStores.{Storing, part-kept, made-kept}
 use Rattle.mark_core.proofs.Caches.CachesPublish.{free-kept, field-kept}
 use Rattle.mark_core.proofs.Caches.CachesAt.{CachesOf, caching, maker-at}
 use Rattle.mark_core.specs.declared.kinds.Shape.{Shape}
-use Rattle.mark_core.specs.declared.kinds.Step.TheVariants.{StoreField, StoreNew, StoreAlloc}
+use Rattle.mark_core.specs.declared.kinds.Step.TheVariants.{StoreField, StoreNew, StoreAlloc, ExchangeField}
 use Rattle.mark_core.specs.declared.seat.SeatState.{SeatState}
 use Rattle.mark_core.specs.declared.seat.BlockState.{BlockState}
 use Rattle.mark_core.specs.Numbers.{section_span, value_bound}
@@ -110,6 +110,16 @@ variable_goes p s v a =
 -- 18: a field of an object
 pub store_field-at : (c : Core) (i v f : ℕ) (o : Option ℕ) (s : SeatState) → IsCore c → slice_get c.seats i ≡ Some s → AllTrue (parts c.shape (words_of c.shape c.words) c.seats s (StoreField v f o)) → CachesOf c.shape (words_left c s (StoreField v f o)) (makers c.seats)
 store_field-at c i v f o s k g ok =
+    let w : Words = words_of c.shape c.words in
+    let p : ℕ → Bool = in_use w.allocs (makers c.seats) in
+    let names : NamesInUse w.allocs (makers c.seats) s = one-of (NamesInUse w.allocs (makers c.seats)) c.seats i s g k.sound.references.seats_in_use in
+    let used : p (cell_of (seat_variable s v)) ≡ true = named_used c.shape p (seat_variable s v) ((in_range c i s k g).env v) k.formed.shaped.cells.1 (and_parts _ _ ok.1.0).0 (variable_goes p s v names.0) in
+    let hf : f < c.shape.fields = ltb-true f c.shape.fields (and_parts (nat_lt v 32) (nat_lt f c.shape.fields) (and_parts _ _ (and_parts _ (may_mutate s) ok.0).0).0).1 in
+    field-kept c.shape w.owners w.allocs w.identities w.fields (makers c.seats) (cell_of (seat_variable s v)) f _ (caching c k) used hf
+
+-- 50: the same field
+pub exchange_field-at : (c : Core) (i v f : ℕ) (o q : Option ℕ) (s : SeatState) → IsCore c → slice_get c.seats i ≡ Some s → AllTrue (parts c.shape (words_of c.shape c.words) c.seats s (ExchangeField v f o q)) → CachesOf c.shape (words_left c s (ExchangeField v f o q)) (makers c.seats)
+exchange_field-at c i v f o q s k g ok =
     let w : Words = words_of c.shape c.words in
     let p : ℕ → Bool = in_use w.allocs (makers c.seats) in
     let names : NamesInUse w.allocs (makers c.seats) s = one-of (NamesInUse w.allocs (makers c.seats)) c.seats i s g k.sound.references.seats_in_use in

@@ -22,12 +22,12 @@ use Rattle.mark_core.proofs.Writing.RegionWrites.{owners-kept, allocs-kept, iden
 use Rattle.mark_core.proofs.Pool.PoolsKept.{shape-kept}
 use Rattle.mark_core.proofs.Caches.CachesPublish.{push-kept, end-kept}
 use Rattle.mark_core.proofs.Caches.CachesAt.{CachesOf, maker-at, claim-at, release-at, read_free-at, publish-at}
-use Rattle.mark_core.proofs.Caches.CachesCells.{section-seat, store_new-at, store_field-at, store_alloc-at}
+use Rattle.mark_core.proofs.Caches.CachesCells.{section-seat, store_new-at, store_field-at, exchange_field-at, store_alloc-at}
 use Rattle.mark_core.proofs.Basics.{none-is}
 use Rattle.mark_core.specs.declared.kinds.Shape.{Shape}
 use Rattle.mark_core.specs.declared.kinds.Event.{Event}
 use Rattle.mark_core.specs.declared.kinds.Step.{Step}
-use Rattle.mark_core.specs.declared.kinds.Step.TheVariants.{ReadAlloc, ReadField, ReadOwn, ReadIdent, StoreField, ClaimBlock, ReleaseBlock, ReadFree, StoreNew, PublishCells, Split, Join, StoreAlloc}
+use Rattle.mark_core.specs.declared.kinds.Step.TheVariants.{ReadAlloc, ReadField, ReadOwn, ReadIdent, StoreField, ClaimBlock, ReleaseBlock, ReadFree, StoreNew, PublishCells, Split, Join, StoreAlloc, ExchangeField}
 use Rattle.mark_core.specs.declared.seat.SeatState.{SeatState}
 
 -- the rule after a step
@@ -94,6 +94,7 @@ caches_at c i s ReadFree k g live ok at = changed c.shape (words_left c s ReadFr
 caches_at c i s (StoreNew x part word) k g live ok at = changed c.shape (words_left c s (StoreNew x part word)) c.seats i _ (store_new-at c i x part word s k g live ok)
 caches_at c i s PublishCells k g live ok at = changed c.shape (words_left c s PublishCells) c.seats i _ (publish-at c i s k g ok)
 caches_at c i s (StoreField v f o) k g live ok at = unmoved c.shape (words_left c s (StoreField v f o)) c.seats i s _ g refl (store_field-at c i v f o s k g ok)
+caches_at c i s (ExchangeField v f o q) k g live ok at = unmoved c.shape (words_left c s (ExchangeField v f o q)) c.seats i s _ g refl (exchange_field-at c i v f o q s k g ok)
 caches_at c i s StoreAlloc k g live ok at = unmoved c.shape (words_left c s StoreAlloc) c.seats i s _ g refl (store_alloc-at c i s k g ok)
 caches_at c i s Split k g live ok at = split_at c i s k g
 caches_at c i s (Join other) k g live ok at = join_at c i other s k g ok

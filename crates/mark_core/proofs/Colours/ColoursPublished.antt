@@ -33,12 +33,12 @@ use Rattle.mark_core.proofs.Colours.ColoursWaiting.{seat_left}
 use Rattle.mark_core.proofs.Colours.ColoursWaits.{waiting-after}
 use Rattle.mark_core.proofs.Colours.ColoursUnpublished.{tracing-before, waits-new}
 use Rattle.mark_core.proofs.Colours.ColoursFields.{done-nil}
-use Rattle.mark_core.proofs.Colours.ColoursScanned.{AccountedNow, AccountedAfter, ScannedNow, ScannedAfter, field-after, scanned-stays, leaves-scanned}
+use Rattle.mark_core.proofs.Colours.ColoursScanned.{AccountedNow, AccountedAfter, ScannedNow, ScannedAfter, field-after, scanned-stays, leaves-scanned, lost-fields}
 use Rattle.mark_core.proofs.Blocks.BlocksTaken.{Taken, kept-after}
 use Rattle.mark_core.specs.declared.kinds.Shape.{Shape}
 use Rattle.mark_core.specs.declared.kinds.Event.{Event}
 use Rattle.mark_core.specs.declared.kinds.Step.{Step}
-use Rattle.mark_core.specs.declared.kinds.Step.TheVariants.{DirtyCard, StoreField, StoreNew}
+use Rattle.mark_core.specs.declared.kinds.Step.TheVariants.{DirtyCard, StoreField, StoreNew, ExchangeField}
 use Rattle.mark_core.specs.declared.seat.SeatState.{SeatState}
 use Rattle.mark_core.specs.Cards.{card_of}
 
@@ -67,6 +67,8 @@ owed_after c i s (DirtyCard card) x a e =
     (cases_eq (card_of x) card)
 owed_after c i s (StoreField v j r) x a e =
     grasp-moved (owes_card (card_of x)) c.seats i s (seat_left c s (StoreField v j r)) (AccountedAfter c i s (StoreField v j r) x) a.got (λ h. absurd (none_is s.owes (card_of x) a.ok.1.1.0 h)) owed e
+owed_after c i s (ExchangeField v j r q) x a e =
+    grasp-moved (owes_card (card_of x)) c.seats i s (seat_left c s (ExchangeField v j r q)) (AccountedAfter c i s (ExchangeField v j r q) x) a.got (λ h. absurd (none_is s.owes (card_of x) a.ok.1.1.0 h)) owed e
 owed_after c i s step x a e =
     owed
     (grasp-after (owes_card (card_of x)) c.shape step c.seats i s (seat_left c s step) a.got (λ h. h)
@@ -108,6 +110,37 @@ stored_field c i s v k r x a t h p f =
     rw same (field-after c i s step x j (field sh w.fields x j) a t hj (λ l. absurd l) (f j hj))))
     (cases_eq x y)
 
+-- 50: the same where the exchange was won, and else no field changed
+exchanged_field : (c : Core) (i : ℕ) (s : SeatState) (v k : ℕ) (r q : Option ℕ) (x : ℕ) → Taken c i s (ExchangeField v k r q) → IsTrue (is_tracing (words_left c s (ExchangeField v k r q)).phase) → x < c.shape.cells → cell_bit (words_of c.shape c.words).allocs x ≡ true → ScannedNow c x
+    → AccountedAfter c i s (ExchangeField v k r q) x
+exchanged_field c i s v k r q x a t h p f =
+    let step : Step = ExchangeField v k r q in
+    let sh : Shape = c.shape in
+    let w : Words = words_of sh c.words in
+    let y : ℕ = cell_of (seat_variable s v) in
+    let first = and_parts (nat_lt v 32 && nat_lt k sh.fields) (in_variables r && in_variables q) (and_parts (nat_lt v 32 && nat_lt k sh.fields && (in_variables r && in_variables q)) (may_mutate s) a.ok.0).0 in
+    let hk : k < sh.fields = ltb-true k sh.fields (and_parts (nat_lt v 32) (nat_lt k sh.fields) first.0).1 in
+    ⊎_elim
+    (λ (won : eqb (found c s step) (variable_or_nil s r) ≡ true).
+    ⊎_elim
+    (λ (e : x ≡ y).
+    ⊎_elim
+    (λ (u : used_in s.cache y ≡ true). used_unpublished c i s x (AccountedAfter c i s step x) a.core a.got h (rw e u) p)
+    (λ (u : used_in s.cache y ≡ false). owed (grasp-new (owes_card (card_of x)) c.seats i s (seat_left c s step) a.got (rw (won, u) (eq-eqb (card_of y) (card_of x) (ap card_of (sym e))))))
+    (cases_Bool (used_in s.cache y)))
+    (λ (d : x ≡ y → ⊥).
+    scanned
+    (λ j hj.
+    let same : field sh (words_left c s step).fields x j ≡ field sh w.fields x j = get_or-set_other w.fields (y * sh.fields + k) (x * sh.fields + j) _ 0 (other_field sh.fields x y j k hj hk d) in
+    rw same (field-after c i s step x j (field sh w.fields x j) a t hj (λ l. absurd l) (f j hj))))
+    (cases_eq x y))
+    (λ (lost : eqb (found c s step) (variable_or_nil s r) ≡ false).
+    scanned
+    (λ j hj.
+    let same : field sh (words_left c s step).fields x j ≡ field sh w.fields x j = ap (λ (fs : List ℕ). field sh fs x j) (lost-fields c i s v k r q a lost) in
+    rw same (field-after c i s step x j (field sh w.fields x j) a t hj (λ l. absurd l) (f j hj))))
+    (cases_Bool (eqb (found c s step) (variable_or_nil s r)))
+
 -- 23: a part of a new cell that is a field is nil
 set_or : (ws : List ℕ) (a b : ℕ) → (get_or (set ws a 0) b 0 ≡ get_or ws b 0) ⊎ (get_or (set ws a 0) b 0 ≡ 0)
 set_or ws a b =
@@ -144,6 +177,7 @@ stored_part c i s y part word x a t f j hj =
 -- a scanned cell after a step
 scanned_after : (c : Core) (i : ℕ) (s : SeatState) (step : Step) (x : ℕ) → Taken c i s step → IsTrue (is_tracing (words_left c s step).phase) → x < c.shape.cells → cell_bit (words_of c.shape c.words).allocs x ≡ true → ScannedNow c x → AccountedAfter c i s step x
 scanned_after c i s (StoreField v k r) x a t h p f = stored_field c i s v k r x a t h p f
+scanned_after c i s (ExchangeField v k r q) x a t h p f = exchanged_field c i s v k r q x a t h p f
 scanned_after c i s (StoreNew y part word) x a t h p f = scanned (stored_part c i s y part word x a t f)
 scanned_after c i s step x a t h p f = scanned (scanned-stays c i s step x a t refl f)
 

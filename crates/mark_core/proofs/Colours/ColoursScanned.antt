@@ -1,10 +1,11 @@
 -- A black cell stays black over each step of tracing, or its card is owed; and a grey one that a seat begins to scan becomes so.
-use Rattle.std.proofs.Common.{ℕ, ◌≡◌, ◌+◌, ◌-◌, ◌*◌, ◌/◌, ◌%◌, ◌<◌, List, set, arith, refl, sym, ap, ◌∙◌, subst, Bool, true, false, not, eqb, ◌&&◌, Option, Some, None, ⊎_elim}
+use Rattle.mark_core.specs.Steps.MutatorSteps.{seat_variable, variable_or_nil}
+use Rattle.std.proofs.Common.{ℕ, ◌≡◌, ◌+◌, ◌-◌, ◌*◌, ◌/◌, ◌%◌, ◌<◌, List, set, arith, refl, sym, ap, ◌∙◌, subst, Bool, true, false, not, eqb, ◌&&◌, Option, Some, None, ⊎_elim, cond}
 use Rattle.std.specs.Prelude.{IsTrue, IfSome, nat_le}
 use Rattle.std.proofs.lemmas.Bool.{true≢false, false≢true, cases_eq, and_parts, and_from, or_cases, eqb-true, eq-eqb, le-leb}
 use Rattle.std.proofs.lemmas.List.{set-get_or}
 use Rattle.mark_core.specs.Layout.{Words, words_of}
-use Rattle.mark_core.specs.Bits.{has_bit}
+use Rattle.mark_core.specs.Bits.{has_bit, cell_of}
 use Rattle.mark_core.specs.Seats.{scans, scan_left, left_in, may_scan}
 use Rattle.mark_core.specs.Views.{grasps, hands}
 use Rattle.mark_core.specs.Cells.{field}
@@ -27,7 +28,7 @@ use Rattle.mark_core.proofs.Colours.ColoursFields.{is_done, done-cases, done-nil
 use Rattle.mark_core.proofs.Blocks.BlocksTaken.{Taken}
 use Rattle.mark_core.specs.declared.kinds.Shape.{Shape}
 use Rattle.mark_core.specs.declared.kinds.Step.{Step}
-use Rattle.mark_core.specs.declared.kinds.Step.TheVariants.{ReadAlloc, ReadField, ReadOwn, StoreField, StoreNew}
+use Rattle.mark_core.specs.declared.kinds.Step.TheVariants.{ReadAlloc, ReadField, ReadOwn, StoreField, StoreNew, ExchangeField}
 use Rattle.mark_core.specs.declared.seat.SeatState.{SeatState}
 
 -- what accounts for a cell, and after a step
@@ -47,12 +48,14 @@ ScannedAfter c i s step x = IsScanned c.shape (words_left c s step).marks (words
 -- the step stores a field
 abbrev pub writes_field : Step → Bool
 writes_field (StoreField v j r) = true
+writes_field (ExchangeField v j r q) = true
 writes_field (StoreNew y part word) = true
 writes_field step = false
 
 -- no other step changes one
 pub fields-stay : (c : Core) (i : ℕ) (s : SeatState) (step : Step) → Taken c i s step → writes_field step ≡ false → (words_left c s step).fields ≡ (words_of c.shape c.words).fields
 fields-stay c i s (StoreField v j r) a f = absurd (true≢false f)
+fields-stay c i s (ExchangeField v j r q) a f = absurd (true≢false f)
 fields-stay c i s (StoreNew y part word) a f = absurd (true≢false f)
 fields-stay c i s (ReadField y j) a f =
     let fields : List ℕ = (words_of c.shape c.words).fields in
@@ -63,6 +66,15 @@ fields-stay c i s (ReadOwn y j) a f =
     let at : ℕ = y * c.shape.fields + j in
     subst (λ (v : ℕ). set fields at v ≡ fields) (sym (found-word c i s (ReadOwn y j) a.core a.got a.ok)) (set-get_or fields at 0)
 fields-stay c i s step a f = fields-kept c.shape s step (written c.shape s step (found c s step)) (words_of c.shape c.words) refl
+
+-- an exchange that finds another word than the expected one changes none
+pub lost-fields : (c : Core) (i : ℕ) (s : SeatState) (v j : ℕ) (r q : Option ℕ) → Taken c i s (ExchangeField v j r q) → eqb (found c s (ExchangeField v j r q)) (variable_or_nil s r) ≡ false → (words_left c s (ExchangeField v j r q)).fields ≡ (words_of c.shape c.words).fields
+lost-fields c i s v j r q a lost =
+    let fields : List ℕ = (words_of c.shape c.words).fields in
+    let step : Step = ExchangeField v j r q in
+    let at : ℕ = cell_of (seat_variable s v) * c.shape.fields + j in
+    ap (λ (b : Bool). set fields at (cond b (variable_or_nil s q) (found c s step))) lost
+    ∙ subst (λ (word : ℕ). set fields at word ≡ fields) (sym (found-word c i s step a.core a.got a.ok)) (set-get_or fields at 0)
 
 -- a field that stays is done after a step, where it was before
 pub field-after : (c : Core) (i : ℕ) (s : SeatState) (step : Step) (x j word : ℕ) → Taken c i s step → IsTrue (is_tracing (words_left c s step).phase) → j < c.shape.fields → (Loads step x j → is_done (words_left c s step).marks (seats_left c i s step) word x j ≡ true)

@@ -37,7 +37,7 @@ use Rattle.mark_core.specs.declared.kinds.Shape.{Shape}
 use Rattle.mark_core.specs.declared.kinds.Phase.{Phase}
 use Rattle.mark_core.specs.declared.kinds.Phase.TheVariants.{Sweep}
 use Rattle.mark_core.specs.declared.kinds.Step.{Step}
-use Rattle.mark_core.specs.declared.kinds.Step.TheVariants.{Push, Pop, ReadAlloc, ReadField, ReadRoot, SetMark, DirtyCard, ClearCard, ReadMarks, ReadCard, StoreField, WipeCard}
+use Rattle.mark_core.specs.declared.kinds.Step.TheVariants.{Push, Pop, ReadAlloc, ReadField, ReadRoot, SetMark, DirtyCard, ClearCard, ReadMarks, ReadCard, StoreField, WipeCard, ExchangeField}
 use Rattle.mark_core.specs.declared.seat.SeatState.{SeatState}
 use Rattle.mark_core.specs.Cards.{card_of}
 
@@ -282,6 +282,9 @@ waiting-after c i s (ReadMarks b) x P a t h m done out k = done (found_waits c i
 waiting-after c i s (ReadCard card) x P a t h m done out k = done (read_waits c i s card x a k)
 waiting-after c i s (StoreField v j r) x P a t h m done out k =
     let step : Step = StoreField v j r in
+    done (waits-handed c i s step x (WaitsAfter c i s step x) a refl refl refl (λ w. w) (λ e. tends-now c i s step x a refl e) (λ e. cleans-now c i s step x a refl e) k)
+waiting-after c i s (ExchangeField v j r q) x P a t h m done out k =
+    let step : Step = ExchangeField v j r q in
     done (waits-handed c i s step x (WaitsAfter c i s step x) a refl refl refl (λ w. w) (λ e. tends-now c i s step x a refl e) (λ e. cleans-now c i s step x a refl e) k)
 waiting-after c i s (WipeCard card) x P a t h m done out k = absurd (true≢false (sym t ∙ wiper_phase c i s a.core a.got (and_parts _ _ a.ok.0).1))
 waiting-after c i s step x P a t h m done out k = done (waits-still c i s step x a refl refl refl k)

@@ -29,7 +29,7 @@ use Rattle.mark_core.proofs.Writing.CellBits.{with_other, same-index, bit-there}
 use Rattle.mark_core.proofs.Hands.HandsCleaning.{scan-left}
 use Rattle.mark_core.proofs.AtSeat.{of-view}
 use Rattle.mark_core.specs.declared.kinds.Step.{Step}
-use Rattle.mark_core.specs.declared.kinds.Step.TheVariants.{ReadField, ReadRoot, SetMark, StoreField, StoreRoot, StoreNew, PublishCells, StorePhase, NextBlock, StoreAlloc, ClearMarks, Reset}
+use Rattle.mark_core.specs.declared.kinds.Step.TheVariants.{ReadField, ReadRoot, SetMark, StoreField, StoreRoot, StoreNew, PublishCells, StorePhase, NextBlock, StoreAlloc, ClearMarks, Reset, ExchangeField}
 use Rattle.mark_core.specs.declared.seat.SeatState.{SeatState}
 
 -- cell x is reachable now
@@ -85,6 +85,7 @@ marks-reached c i s ClearMarks t p a own =
     let none : s.block ≡ None = sym (own-block c i s ClearMarks None t) ∙ none-in-hand c t.core (ap (λ n. eqb n 3 || eqb n 4) p) i None (rw length-map (within c i s ClearMarks t)) in
     absurd (true≢false (sym t.ok.0 ∙ ap is_some none))
 marks-reached c i s (StoreField v f x) t p a own = a
+marks-reached c i s (ExchangeField v f x y) t p a own = a
 marks-reached c i s (StoreRoot v r) t p a own = a
 marks-reached c i s (StoreNew x part word) t p a own = rw (marks-kept c.shape s (StoreNew x part word) word (words_of c.shape c.words) refl) a
 marks-reached c i s PublishCells t p a own = a

@@ -7,7 +7,7 @@ use Rattle.mark_core.specs.Layout.{Words, card_count}
 use Rattle.mark_core.specs.Bits.{has_bit, cell_of}
 use Rattle.mark_core.specs.Seats.{is_the, used_in}
 use Rattle.mark_core.specs.Steps.ColourSteps.{may_read_field, popped_after, scan_after, seen_in, cleaning_after, without_cell, fresh_off, popped_off, redirty_off, known_in}
-use Rattle.mark_core.specs.Steps.MutatorSteps.{seat_variable}
+use Rattle.mark_core.specs.Steps.MutatorSteps.{seat_variable, variable_or_nil}
 use Rattle.mark_core.specs.Parts.{parts}
 use Rattle.mark_core.specs.Effects.{seat_after}
 use Rattle.mark_core.specs.Steps.{AllTrue}
@@ -17,7 +17,7 @@ use Rattle.mark_core.proofs.Formed.FormedBits.{and-left_fits, and-right_fits, wi
 use Rattle.mark_core.proofs.Basics.{positive}
 use Rattle.mark_core.specs.declared.kinds.Shape.{Shape}
 use Rattle.mark_core.specs.declared.kinds.Step.{Step}
-use Rattle.mark_core.specs.declared.kinds.Step.TheVariants.{Push, Pop, ReadAlloc, ReadField, ReadRoot, SetMark, DirtyCard, ClearCard, ReadMarks, StoreField}
+use Rattle.mark_core.specs.declared.kinds.Step.TheVariants.{Push, Pop, ReadAlloc, ReadField, ReadRoot, SetMark, DirtyCard, ClearCard, ReadMarks, StoreField, ExchangeField}
 use Rattle.mark_core.specs.declared.seat.SeatState.{SeatState}
 use Rattle.mark_core.specs.declared.seat.Cleaning.{Cleaning}
 use Rattle.mark_core.specs.Cards.{block_of_card, card_bits, card_of}
@@ -98,6 +98,10 @@ pub owes-after : (sh : Shape) (w : Words) (seats : List SeatState) (s : SeatStat
 owes-after sh w seats s (DirtyCard card) old k n h ok = choose (Owed sh) (is_the s.owes card) None s.owes tt h
 owes-after sh w seats s (StoreField v i x) old k n h ok =
     choose (Owed sh) (used_in s.cache (cell_of (seat_variable s v))) s.owes (Some (card_of (cell_of (seat_variable s v)))) h (card_fits sh (seat_variable s v) k (n v) (not-true _ (and_parts _ _ ok.1.0).0))
+owes-after sh w seats s (ExchangeField v i x y) old k n h ok =
+    let card : ℕ = card_of (cell_of (seat_variable s v)) in
+    let used : Bool = used_in s.cache (cell_of (seat_variable s v)) in
+    choose (Owed sh) (eqb old (variable_or_nil s x)) (cond used s.owes (Some card)) s.owes (choose (Owed sh) used s.owes (Some card) h (card_fits sh (seat_variable s v) k (n v) (not-true _ (and_parts _ _ ok.1.0).0))) h
 owes-after sh w seats s step old k n h ok = h
 
 abbrev Cleaned : Shape → Option Cleaning → Type 0

@@ -28,7 +28,7 @@ use Rattle.mark_core.proofs.Writing.Ranges.{word-below, in-row, pool_for-below}
 use Rattle.mark_core.specs.declared.kinds.Shape.{Shape}
 use Rattle.mark_core.specs.declared.kinds.Event.{Event}
 use Rattle.mark_core.specs.declared.kinds.Step.{Step}
-use Rattle.mark_core.specs.declared.kinds.Step.TheVariants.{Reserve, Take, Give, Credit, Push, Pop, Look, ReadCount, ReadAlloc, ReadField, ReadRoot, SetMark, DirtyCard, ClearCard, ReadMarks, StoreField, Split, Join, StoreLength, ReadLength}
+use Rattle.mark_core.specs.declared.kinds.Step.TheVariants.{Reserve, Take, Give, Credit, Push, Pop, Look, ReadCount, ReadAlloc, ReadField, ReadRoot, SetMark, DirtyCard, ClearCard, ReadMarks, StoreField, Split, Join, StoreLength, ReadLength, ExchangeField}
 use Rattle.mark_core.specs.declared.seat.SeatState.{SeatState}
 
 -- what the proof needs of the state before
@@ -101,6 +101,10 @@ packets_at c i s (ReadMarks b) a ok = tracing c i s (ReadMarks b) a (refl, refl,
 packets_at c i s (StoreField v f x) a ok =
     let w : Words = words_of c.shape c.words in
     let step : Step = StoreField v f x in
+    sound-work c.shape w (words_left c s step) c.seats i s (seat_after c.shape s step (found c s step)) a (refl, refl, refl) refl refl (work-holds c.shape w c.seats i s a)
+packets_at c i s (ExchangeField v f x y) a ok =
+    let w : Words = words_of c.shape c.words in
+    let step : Step = ExchangeField v f x y in
     sound-work c.shape w (words_left c s step) c.seats i s (seat_after c.shape s step (found c s step)) a (refl, refl, refl) refl refl (work-holds c.shape w c.seats i s a)
 packets_at c i s Split a ok =
     let w : Words = words_of c.shape c.words in

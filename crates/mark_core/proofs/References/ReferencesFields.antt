@@ -1,4 +1,5 @@
 -- After a step the fields of each cell in use still name cells in use, outside the sweep.
+use Rattle.mark_core.proofs.Colours.ColoursScanned.{lost-fields}
 use Rattle.std.proofs.Common.{ℕ, ◌≡◌, ◌+◌, ◌*◌, ◌<◌, ◌≤◌, List, set, get_or, length, arith, refl, sym, ap, ◌∙◌, subst, Bool, true, false, not, ◌&&◌, eqb, cond, Option, Some, None, ⊎_elim}
 use Rattle.std.specs.Prelude.{unwrap_or, is_some, nat_lt}
 use Rattle.std.proofs.lemmas.Bool.{true≢false, and_parts, eqb-true, ltb-true, cases_eq, cases_lt, cases_Bool, ne_eqb}
@@ -23,7 +24,7 @@ use Rattle.mark_core.proofs.Used.UsedKept.{used-on, used-back}
 use Rattle.mark_core.specs.declared.kinds.Shape.{Shape}
 use Rattle.mark_core.specs.declared.kinds.Phase.TheVariants.{Sweep}
 use Rattle.mark_core.specs.declared.kinds.Step.{Step}
-use Rattle.mark_core.specs.declared.kinds.Step.TheVariants.{ReadField, ReadOwn, StoreField, StoreNew, StoreAlloc}
+use Rattle.mark_core.specs.declared.kinds.Step.TheVariants.{ReadField, ReadOwn, StoreField, StoreNew, StoreAlloc, ExchangeField}
 use Rattle.mark_core.specs.declared.seat.SeatState.{SeatState}
 use Rattle.mark_core.specs.Numbers.{value_bound, section_span}
 
@@ -57,13 +58,12 @@ fields_stay c i s step k f n e p x h u j l =
     subst (λ (fs : List ℕ). nil_or (UsedAfter c i s step) (field c.shape fs x j) ≡ true) (sym e) (old_field c i s step x j k f p h (no_made c i s step x k (n x) u) l)
 
 -- the value that is stored in a field
-stored_goes : (c : Core) (i : ℕ) (s : SeatState) (v j : ℕ) (w : Option ℕ) → Taken c i s (StoreField v j w) → in_variables w ≡ true → nil_or (UsedAfter c i s (StoreField v j w)) (variable_or_nil s w) ≡ true
-stored_goes c i s v j None k e = refl
-stored_goes c i s v j (Some w) k e =
-    let step : Step = StoreField v j (Some w) in
+stored_goes : (c : Core) (i : ℕ) (s : SeatState) (step : Step) (w : Option ℕ) → Taken c i s step → frees step ≡ false → in_variables w ≡ true → nil_or (UsedAfter c i s step) (variable_or_nil s w) ≡ true
+stored_goes c i s step None k f e = refl
+stored_goes c i s step (Some w) k f e =
     let names = k.core.sound.references.seats_in_use in
     let h : w < length s.env = omega (arith, ltb-true w 32 e, (seat-formed c i s step k).env) in
-    nil-on (Used c) (UsedAfter c i s step) (seat_variable s w) (λ y a. used-on c i s step y k refl a) ((own-fact c i s step (λ (t : SeatState). NamesInUse (words_of c.shape c.words).allocs (makers c.seats) t) k names).0 w 0 h)
+    nil-on (Used c) (UsedAfter c i s step) (seat_variable s w) (λ y a. used-on c i s step y k f a) ((own-fact c i s step (λ (t : SeatState). NamesInUse (words_of c.shape c.words).allocs (makers c.seats) t) k names).0 w 0 h)
 
 -- the fields of a new cell are nil
 pub new-fields : (c : Core) (i : ℕ) (s : SeatState) (x part word : ℕ) → Taken c i s (StoreNew x part word) → c.shape.fields < part → (j : ℕ) → j < c.shape.fields → field c.shape (words_of c.shape c.words).fields x j ≡ 0
@@ -115,13 +115,32 @@ stored_at c i s v q o k p x h u j l =
     let a = and_parts (nat_lt v 32 && nat_lt q c.shape.fields && in_variables o) (may_mutate s) k.ok.0 in
     let b = and_parts (nat_lt v 32 && nat_lt q c.shape.fields) (in_variables o) a.0 in
     let before : Used c x ≡ true = no_made c i s step x k (λ m. m) u in
-    field-set w.fields (cell_of (seat_variable s v) * c.shape.fields + q) (x * c.shape.fields + j) (variable_or_nil s o) (UsedAfter c i s step) (stored_goes c i s v q o k b.1) (old_field c i s step x j k refl p h before l)
+    field-set w.fields (cell_of (seat_variable s v) * c.shape.fields + q) (x * c.shape.fields + j) (variable_or_nil s o) (UsedAfter c i s step) (stored_goes c i s step o k refl b.1) (old_field c i s step x j k refl p h before l)
+
+-- a reference is exchanged for another where it was the expected one, and else no field changes
+exchanged_at : (c : Core) (i : ℕ) (s : SeatState) (v q : ℕ) (r o : Option ℕ) → Taken c i s (ExchangeField v q r o) → is_phase (words_of c.shape c.words).phase Sweep ≡ false → FieldsUsed c i s (ExchangeField v q r o)
+exchanged_at c i s v q r o k p x h u j l =
+    let step : Step = ExchangeField v q r o in
+    let w : Words = words_of c.shape c.words in
+    let a = and_parts (nat_lt v 32 && nat_lt q c.shape.fields && (in_variables r && in_variables o)) (may_mutate s) k.ok.0 in
+    let b = and_parts (in_variables r) (in_variables o) (and_parts (nat_lt v 32 && nat_lt q c.shape.fields) (in_variables r && in_variables o) a.0).1 in
+    let at : ℕ = cell_of (seat_variable s v) * c.shape.fields + q in
+    let before : Used c x ≡ true = no_made c i s step x k (λ m. m) u in
+    let after : List ℕ → Type 0 = λ fs. nil_or (UsedAfter c i s step) (field c.shape fs x j) ≡ true in
+    let old : nil_or (UsedAfter c i s step) (field c.shape w.fields x j) ≡ true = old_field c i s step x j k refl p h before l in
+    ⊎_elim
+    (λ (won : eqb (found c s step) (variable_or_nil s r) ≡ true).
+    subst after (sym (ap (λ (t : Bool). set w.fields at (cond t (variable_or_nil s o) (found c s step))) won))
+    (field-set w.fields at (x * c.shape.fields + j) (variable_or_nil s o) (UsedAfter c i s step) (stored_goes c i s step o k refl b.1) old))
+    (λ (lost : eqb (found c s step) (variable_or_nil s r) ≡ false). subst after (sym (lost-fields c i s v q r o k lost)) old)
+    (cases_Bool (eqb (found c s step) (variable_or_nil s r)))
 
 -- the fields of cells in use go to cells in use after a step outside the sweep
 pub fields-used : (c : Core) (i : ℕ) (s : SeatState) (step : Step) → Taken c i s step → frees step ≡ false → is_phase (words_of c.shape c.words).phase Sweep ≡ false → FieldsUsed c i s step
 fields-used c i s StoreAlloc k f p = absurd (true≢false f)
 fields-used c i s (StoreNew y part word) k f p = new_at c i s y part word k p
 fields-used c i s (StoreField v q o) k f p = stored_at c i s v q o k p
+fields-used c i s (ExchangeField v q r o) k f p = exchanged_at c i s v q r o k p
 fields-used c i s (ReadField y q) k f p = fields_stay c i s (ReadField y q) k f (λ x e. e) (ap (λ (w : Words). w.fields) (words-read c i s (ReadField y q) k refl)) p
 fields-used c i s (ReadOwn y q) k f p = fields_stay c i s (ReadOwn y q) k f (λ x e. e) (ap (λ (w : Words). w.fields) (words-read c i s (ReadOwn y q) k refl)) p
 fields-used c i s step k f p = fields_stay c i s step k f (λ x e. e) (fields-kept c.shape s step (written c.shape s step (found c s step)) (words_of c.shape c.words) refl) p

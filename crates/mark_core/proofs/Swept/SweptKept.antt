@@ -27,7 +27,7 @@ use Rattle.mark_core.specs.declared.kinds.Shape.{Shape}
 use Rattle.mark_core.specs.declared.kinds.Phase.{Phase}
 use Rattle.mark_core.specs.declared.kinds.Phase.TheVariants.{Idle, Marking, Drain, Sweep, Clear, Full}
 use Rattle.mark_core.specs.declared.kinds.Step.{Step}
-use Rattle.mark_core.specs.declared.kinds.Step.TheVariants.{ReadAlloc, SetMark, StoreField, StoreRoot, StoreNew, PublishCells, StorePhase, Split, Join, NextBlock, ReadBlockMarks, StoreAlloc, ClearMarks, Reset}
+use Rattle.mark_core.specs.declared.kinds.Step.TheVariants.{ReadAlloc, SetMark, StoreField, StoreRoot, StoreNew, PublishCells, StorePhase, Split, Join, NextBlock, ReadBlockMarks, StoreAlloc, ClearMarks, Reset, ExchangeField}
 use Rattle.mark_core.specs.declared.seat.SeatState.{SeatState}
 use Rattle.mark_core.specs.declared.seat.BlockState.{BlockState}
 
@@ -150,6 +150,7 @@ swept_at c i s ReadBlockMarks t k =
     let same = heap-left c i s ReadBlockMarks t refl in
     stays c i s ReadBlockMarks (words_left c s ReadBlockMarks) _ t k same.phase same.next_block same.marks (λ b h. same-marks b (found c s ReadBlockMarks) s.block h)
 swept_at c i s (StoreField v f x) t k = unswept c i s (StoreField v f x) t k refl refl refl refl
+swept_at c i s (ExchangeField v f x y) t k = unswept c i s (ExchangeField v f x y) t k refl refl refl refl
 swept_at c i s (StoreRoot v r) t k = unswept c i s (StoreRoot v r) t k refl refl refl refl
 swept_at c i s (StoreNew x part word) t k = unswept c i s (StoreNew x part word) t k refl refl refl refl
 swept_at c i s PublishCells t k = unswept c i s PublishCells t k refl refl refl refl

@@ -19,7 +19,7 @@ use Rattle.mark_core.proofs.World.WorldSeats.{Local, inside, stays, mutates, tra
 use Rattle.mark_core.proofs.Basics.{none-is, or-second}
 use Rattle.mark_core.specs.declared.kinds.Shape.{Shape}
 use Rattle.mark_core.specs.declared.kinds.Step.{Step}
-use Rattle.mark_core.specs.declared.kinds.Step.TheVariants.{Reserve, Take, Give, Credit, Push, Pop, ReadAlloc, ReadField, ReadRoot, SetMark, DirtyCard, ClearCard, ReadMarks, ReadPhase, ReadOwn, ReadCat, StoreField, StoreRoot, ClaimBlock, ReleaseBlock, ReadFree, StoreNew, PublishCells, EnterStep, LeaveStep, Observe, DropStep, NextBlock, ReadBlockMarks, StoreAlloc, ClearMarks, StoreLength, ReadLength, JoinHelpStep, LeaveHelpStep}
+use Rattle.mark_core.specs.declared.kinds.Step.TheVariants.{Reserve, Take, Give, Credit, Push, Pop, ReadAlloc, ReadField, ReadRoot, SetMark, DirtyCard, ClearCard, ReadMarks, ReadPhase, ReadOwn, ReadCat, StoreField, StoreRoot, ClaimBlock, ReleaseBlock, ReadFree, StoreNew, PublishCells, EnterStep, LeaveStep, Observe, DropStep, NextBlock, ReadBlockMarks, StoreAlloc, ClearMarks, StoreLength, ReadLength, JoinHelpStep, LeaveHelpStep, ExchangeField}
 use Rattle.mark_core.specs.declared.seat.SeatState.{SeatState}
 use Rattle.mark_core.specs.declared.seat.CacheState.{CacheState}
 use Rattle.mark_core.specs.Bits.{flag}
@@ -122,6 +122,9 @@ local-at sh w seats s (ReadCat v) old k f b ok =
 local-at sh w seats s (StoreField v i x) old k f b ok =
     let run = (and_parts s.active _ (and_parts _ _ ok.0).1).0 in
     mutates sh s (seat_after sh s (StoreField v i x) old) k run (runner-in s run) refl refl k.uncached refl
+local-at sh w seats s (ExchangeField v i x y) old k f b ok =
+    let run = (and_parts s.active _ (and_parts _ _ ok.0).1).0 in
+    mutates sh s (seat_after sh s (ExchangeField v i x y) old) k run (runner-in s run) refl refl k.uncached refl
 local-at sh w seats s (StoreRoot v r) old k f b ok =
     let run = (and_parts s.active _ (and_parts _ _ ok.0).1).0 in
     mutates sh s (seat_after sh s (StoreRoot v r) old) k run (runner-in s run) refl refl k.uncached refl

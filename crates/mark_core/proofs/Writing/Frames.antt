@@ -8,7 +8,7 @@ use Rattle.mark_core.specs.Effects.{seat_after}
 use Rattle.mark_core.specs.declared.kinds.Shape.{Shape}
 use Rattle.mark_core.specs.declared.kinds.Phase.{Phase}
 use Rattle.mark_core.specs.declared.kinds.Step.{Step}
-use Rattle.mark_core.specs.declared.kinds.Step.TheVariants.{Reserve, Take, Give, Credit, Push, Pop, ReadAlloc, ReadField, ReadRoot, SetMark, DirtyCard, ClearCard, ReadMarks, ReadPhase, ReadOwn, ReadCat, StoreField, StoreRoot, ClaimBlock, ReleaseBlock, ReadFree, StoreNew, PublishCells, EnterStep, LeaveStep, RaiseStep, Observe, DropStep, StorePhase, NextBlock, NextOfCards, ReadBlockMarks, StoreAlloc, ClearMarks, ReadStat, StoreLength, ReadLength, OpenStep, JoinHelpStep, LeaveHelpStep, CloseStep, SeeHelp, ReadSeason}
+use Rattle.mark_core.specs.declared.kinds.Step.TheVariants.{Reserve, Take, Give, Credit, Push, Pop, ReadAlloc, ReadField, ReadRoot, SetMark, DirtyCard, ClearCard, ReadMarks, ReadPhase, ReadOwn, ReadCat, StoreField, StoreRoot, ClaimBlock, ReleaseBlock, ReadFree, StoreNew, PublishCells, EnterStep, LeaveStep, RaiseStep, Observe, DropStep, StorePhase, NextBlock, NextOfCards, ReadBlockMarks, StoreAlloc, ClearMarks, ReadStat, StoreLength, ReadLength, OpenStep, JoinHelpStep, LeaveHelpStep, CloseStep, SeeHelp, ReadSeason, ExchangeField}
 use Rattle.mark_core.specs.declared.seat.SeatState.{SeatState}
 use Rattle.mark_core.specs.declared.seat.BlockState.{BlockState}
 
@@ -99,6 +99,7 @@ changes_grasp (DirtyCard card) = true
 changes_grasp (ClearCard card) = true
 changes_grasp (ReadMarks b) = true
 changes_grasp (StoreField v i x) = true
+changes_grasp (ExchangeField v i x y) = true
 changes_grasp step = false
 
 pub grasp-kept : (sh : Shape) (s : SeatState) (step : Step) (old : ℕ) → changes_grasp step ≡ false → grasp_of (seat_after sh s step old) ≡ grasp_of s
@@ -112,6 +113,7 @@ grasp-kept sh s (DirtyCard card) old e = absurd (true≢false e)
 grasp-kept sh s (ClearCard card) old e = absurd (true≢false e)
 grasp-kept sh s (ReadMarks b) old e = absurd (true≢false e)
 grasp-kept sh s (StoreField v i x) old e = absurd (true≢false e)
+grasp-kept sh s (ExchangeField v i x y) old e = absurd (true≢false e)
 grasp-kept sh s step old e = refl
 
 -- the cells that it makes

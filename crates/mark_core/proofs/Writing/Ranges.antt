@@ -18,7 +18,7 @@ use Rattle.mark_core.specs.Laws.{stores_in_object}
 use Rattle.mark_core.specs.Seats.{block_in_hand}
 use Rattle.mark_core.specs.declared.kinds.Shape.{Shape}
 use Rattle.mark_core.specs.declared.kinds.Step.{Step}
-use Rattle.mark_core.specs.declared.kinds.Step.TheVariants.{Reserve, Take, Give, Push, Pop, Look, ReadAlloc, ReadField, ReadRoot, SetMark, DirtyCard, ClearCard, ReadMarks, ReadCard, ReadOwn, ReadValue, ReadIdent, ReadCat, StoreField, StoreValue, StoreRoot, ClaimBlock, ReleaseBlock, ReadFree, StoreNew, PublishCells, ReadBlockMarks, StoreAlloc, ClearMarks, WipeCard, StorePosition, Reset, AddStat, ReadStat, StoreLength, ReadLength}
+use Rattle.mark_core.specs.declared.kinds.Step.TheVariants.{Reserve, Take, Give, Push, Pop, Look, ReadAlloc, ReadField, ReadRoot, SetMark, DirtyCard, ClearCard, ReadMarks, ReadCard, ReadOwn, ReadValue, ReadIdent, ReadCat, StoreField, StoreValue, StoreRoot, ClaimBlock, ReleaseBlock, ReadFree, StoreNew, PublishCells, ReadBlockMarks, StoreAlloc, ClearMarks, WipeCard, StorePosition, Reset, AddStat, ReadStat, StoreLength, ReadLength, ExchangeField, ExchangeValue}
 use Rattle.mark_core.specs.declared.seat.SeatState.{SeatState}
 use Rattle.mark_core.specs.declared.seat.BlockState.{BlockState}
 use Rattle.mark_core.specs.Numbers.{done_count, first_position, last_count, named_number, traced_count}
@@ -130,7 +130,10 @@ placed-by sh w seats s (ReadIdent c) k ok = first c sh.cells _ ok.0
 placed-by sh w seats s (ReadCat v) k ok = in-row 0 sh.sections 32 v (omega (arith, k.shaped.sections)) (first v 32 _ ok.0)
 placed-by sh w seats s (StoreField v i x) k ok =
     let a = first_two v 32 i sh.fields _ (and_parts _ _ ok.0).0 in in-row (cell_of (seat_variable s v)) sh.cells sh.fields i (variable_cell sh (seat_variable s v) _ k.shaped (k.env refl v) ok.1.0) a.1
+placed-by sh w seats s (ExchangeField v i x y) k ok =
+    let a = first_two v 32 i sh.fields _ (and_parts _ _ ok.0).0 in in-row (cell_of (seat_variable s v)) sh.cells sh.fields i (variable_cell sh (seat_variable s v) _ k.shaped (k.env refl v) ok.1.0) a.1
 placed-by sh w seats s (StoreValue v n) k ok = variable_cell sh (seat_variable s v) _ k.shaped (k.env refl v) ok.1.0
+placed-by sh w seats s (ExchangeValue v m n) k ok = variable_cell sh (seat_variable s v) _ k.shaped (k.env refl v) ok.1.0
 placed-by sh w seats s (StoreRoot v r) k ok = in-row (unwrap_or s.section 0) sh.sections 32 v k.section (first v 32 _ ok.0)
 placed-by sh w seats s (ClaimBlock b) k ok = first b (block_count sh) _ ok.0
 placed-by sh w seats s ReleaseBlock k ok = k.cache

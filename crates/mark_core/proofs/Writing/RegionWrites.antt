@@ -6,7 +6,7 @@ use Rattle.mark_core.specs.Effects.{place}
 use Rattle.mark_core.proofs.Writing.Writes.{at_part, at_counter}
 use Rattle.mark_core.specs.declared.kinds.Shape.{Shape}
 use Rattle.mark_core.specs.declared.kinds.Step.{Step}
-use Rattle.mark_core.specs.declared.kinds.Step.TheVariants.{Take, Give, Push, Pop, Look, ReadAlloc, ReadField, ReadRoot, SetMark, DirtyCard, ClearCard, ReadMarks, ReadCard, ReadOwn, ReadIdent, ReadCat, StoreField, StoreRoot, ClaimBlock, ReleaseBlock, ReadFree, StoreNew, PublishCells, ReadBlockMarks, StoreAlloc, ClearMarks, WipeCard, Reset, AddStat, ReadStat, StoreLength, ReadLength}
+use Rattle.mark_core.specs.declared.kinds.Step.TheVariants.{Take, Give, Push, Pop, Look, ReadAlloc, ReadField, ReadRoot, SetMark, DirtyCard, ClearCard, ReadMarks, ReadCard, ReadOwn, ReadIdent, ReadCat, StoreField, StoreRoot, ClaimBlock, ReleaseBlock, ReadFree, StoreNew, PublishCells, ReadBlockMarks, StoreAlloc, ClearMarks, WipeCard, Reset, AddStat, ReadStat, StoreLength, ReadLength, ExchangeField}
 use Rattle.mark_core.specs.declared.seat.SeatState.{SeatState}
 
 -- the roots
@@ -147,6 +147,7 @@ abbrev pub touches_fields : Step → Bool
 touches_fields (ReadField c i) = true
 touches_fields (ReadOwn c i) = true
 touches_fields (StoreField v i x) = true
+touches_fields (ExchangeField v i x y) = true
 touches_fields (StoreNew c part word) = true
 touches_fields step = false
 
@@ -154,6 +155,7 @@ pub fields-kept : (sh : Shape) (s : SeatState) (step : Step) (v : ℕ) (w : Word
 fields-kept sh s (ReadField c i) x w e = absurd (true≢false e)
 fields-kept sh s (ReadOwn c i) x w e = absurd (true≢false e)
 fields-kept sh s (StoreField v i y) x w e = absurd (true≢false e)
+fields-kept sh s (ExchangeField v i y z) x w e = absurd (true≢false e)
 fields-kept sh s (StoreNew c part word) x w e = absurd (true≢false e)
 fields-kept sh s (Reset which) x w e = at_counter (λ at. (put_word at x w).fields ≡ w.fields) which (λ i h. refl) (λ i. refl)
 fields-kept sh s (AddStat which by down) x w e = at_counter (λ at. (put_word at x w).fields ≡ w.fields) which (λ i h. refl) (λ i. refl)

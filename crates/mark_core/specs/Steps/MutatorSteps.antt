@@ -1,4 +1,4 @@
--- The steps of a mutator: kinds 17 to 24. They read and change objects and roots, and make cells in a cached block.
+-- The steps of a mutator: kinds 17 to 24, 50 and 51. They read and change objects and roots, and make cells in a cached block.
 use Rattle.std.specs.Prelude.{ℕ, ◌+◌, ◌-◌, ◌*◌, ◌/◌, ◌%◌, List, [], ◌∷◌, Bool, true, false, not, ◌&&◌, ◌||◌, if◌then◌else◌, ◌==◌, nat_lt, nat_le, is_some, is_none, Some, None, Option, unwrap_or, slice_index, slice_set, bit_or}
 use Rattle.std.specs.List.{list_any}
 use Rattle.mark_core.specs.Layout.{block_count}
@@ -53,6 +53,10 @@ seat_variable s v = slice_index s.env v
 abbrev pub has_own : List ℕ → SeatState → ℕ → Bool
 has_own identities s v = not (seat_variable s v == 0) && is_the s.section (slice_index identities (seat_variable s v - 1) / section_span)
 
+-- a mutator may store in what variable v names: an object of its section, or any object where the heap shares them
+abbrev pub may_change : Shape → List ℕ → SeatState → ℕ → Bool
+may_change sh identities s v = not (seat_variable s v == 0) && (sh.sharing || is_the s.section (slice_index identities (seat_variable s v - 1) / section_span))
+
 -- no variable, or one that exists
 abbrev pub in_variables : Option ℕ → Bool
 in_variables None = true
@@ -66,7 +70,7 @@ variable_or_nil s (Some w) = seat_variable s w
 -- 18: a mutator stores a reference in an object, and owes its card unless nobody else can know the object
 abbrev pub store_field_parts : Shape → List ℕ → SeatState → ℕ → ℕ → Option ℕ → List Bool
 store_field_parts sh identities s v i w =
-    (nat_lt v section_variables && nat_lt i sh.fields && in_variables w && may_mutate s) ∷ has_own identities s v ∷ is_none s.owes ∷ []
+    (nat_lt v section_variables && nat_lt i sh.fields && in_variables w && may_mutate s) ∷ may_change sh identities s v ∷ is_none s.owes ∷ []
 
 -- 18: the field has the reference; the seat owes the card, unless the object is a used cell of its cache
 abbrev pub store_field_effect : Shape → SeatState → ℕ → ℕ → Option ℕ → Effect
@@ -75,8 +79,8 @@ store_field_effect sh s v i w =
     stores (field_at sh c i) (variable_or_nil s w) (record s { owes = if used_in s.cache c then s.owes else Some (card_of c) })
 
 -- 18: a mutator stores a value in an object
-abbrev pub store_value_parts : List ℕ → SeatState → ℕ → List Bool
-store_value_parts identities s v = (nat_lt v section_variables && may_mutate s) ∷ has_own identities s v ∷ is_none s.owes ∷ []
+abbrev pub store_value_parts : Shape → List ℕ → SeatState → ℕ → List Bool
+store_value_parts sh identities s v = (nat_lt v section_variables && may_mutate s) ∷ may_change sh identities s v ∷ is_none s.owes ∷ []
 
 -- 18: the object has the value
 abbrev pub store_value_effect : SeatState → ℕ → ℕ → Effect
@@ -97,6 +101,28 @@ store_root_parts s v r = (nat_lt v section_variables && may_mutate s) ∷ has_re
 -- 19: the root has the reference, as has the copy of the variable in the record, and the register is empty
 abbrev pub store_root_effect : SeatState → ℕ → ℕ → Effect
 store_root_effect s v r = stores (root_at (unwrap_or s.section 0) v) r (record s { env = slice_set s.env v (reference_in r); got = 0 })
+
+-- 50: where objects are shared a mutator compares a field of one with what a variable holds, and stores what another holds where they are equal; it owes no card
+abbrev pub exchange_field_parts : Shape → SeatState → ℕ → ℕ → Option ℕ → Option ℕ → List Bool
+exchange_field_parts sh s v i x y =
+    (nat_lt v section_variables && nat_lt i sh.fields && (in_variables x && in_variables y) && may_mutate s) ∷ (not (seat_variable s v == 0) && sh.sharing) ∷ is_none s.owes ∷ []
+
+-- 50: where the field was what x holds it is what y holds, and the seat owes the card as after a store; else nothing changes
+abbrev pub exchange_field_effect : Shape → SeatState → ℕ → ℕ → Option ℕ → Option ℕ → Effect
+exchange_field_effect sh s v i x y =
+    let c = cell_of (seat_variable s v) in
+    changes
+    (field_at sh c i)
+    (λ old. if old == variable_or_nil s x then variable_or_nil s y else old)
+    (λ old. record s { owes = if old == variable_or_nil s x then (if used_in s.cache c then s.owes else Some (card_of c)) else s.owes })
+
+-- 51: where objects are shared a mutator compares the value of one with a number, and stores another where they are equal
+abbrev pub exchange_value_parts : Shape → SeatState → ℕ → ℕ → List Bool
+exchange_value_parts sh s v n = (nat_lt v section_variables && nat_lt n value_bound && may_mutate s) ∷ (not (seat_variable s v == 0) && sh.sharing) ∷ is_none s.owes ∷ []
+
+-- 51: where the value was m it is n
+abbrev pub exchange_value_effect : SeatState → ℕ → ℕ → ℕ → Effect
+exchange_value_effect s v m n = changes (value_at (cell_of (seat_variable s v))) (λ old. if old == m then n else old) (λ old. s)
 
 -- 20: a seat with a section takes a block for itself to make cells in
 abbrev pub claim_block_parts : Shape → ℕ → SeatState → ℕ → List Bool

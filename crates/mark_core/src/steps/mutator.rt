@@ -3,8 +3,8 @@ ghost use Rattle.std.specs.Prelude.{◌≡◌, ◌<◌, ◌-◌, ◌/◌, ◌==�
 ghost use Rattle.std.specs.List.{list_any};
 ghost use Rattle.mark_core.specs.Bits.{cell_of, reference_in};
 ghost use Rattle.mark_core.specs.Cards.{card_of as card_of_cell};
-ghost use Rattle.mark_core.specs.Steps.MutatorSteps.{read_object_parts, read_own_parts, read_cat_parts, store_field_parts, store_value_parts, store_root_parts};
-ghost use Rattle.mark_core.specs.Steps.MutatorSteps.{knows_cell as knows_cell_of, seat_variable as variable_of, has_own as has_own_of, in_variables as in_variables_of, variable_or_nil as variable_or_nil_of, names_last as names_last_of, has_reference as has_reference_of};
+ghost use Rattle.mark_core.specs.Steps.MutatorSteps.{read_object_parts, read_own_parts, read_cat_parts, store_field_parts, store_value_parts, store_root_parts, exchange_field_parts, exchange_value_parts};
+ghost use Rattle.mark_core.specs.Steps.MutatorSteps.{knows_cell as knows_cell_of, seat_variable as variable_of, may_change as may_change_of, in_variables as in_variables_of, variable_or_nil as variable_or_nil_of, names_last as names_last_of, has_reference as has_reference_of};
 ghost use Rattle.mark_core.specs.Seats.{used_in};
 ghost use Rattle.mark_core.specs.Steps.{first_false as first_false_of};
 ghost use Rattle.mark_core.specs.Numbers.{section_variables};
@@ -79,11 +79,11 @@ pub fn variable_cell(s: &SeatState, v: u8) -> u32
     variable(s, v).saturating_sub(1)
 }
 
-/// Variable v names an object of the seat's section; its cell has this identity.
-fn has_own(s: &SeatState, v: u8, identity: u64) -> bool
-    ensures { (ids : List ℕ) → slice_index ids (variable_of s.now v - 1) ≡ identity → result ≡ has_own_of ids s.now v }
+/// The seat may store in the object that variable v names; its cell has this identity.
+fn may_change(shape: &Shape, s: &SeatState, v: u8, identity: u64) -> bool
+    ensures { (ids : List ℕ) → slice_index ids (variable_of s.now v - 1) ≡ identity → result ≡ may_change_of shape.now ids s.now v }
 {
-    !(variable(s, v) == 0) && is_the(s.section, (identity / bits::FLAG) as u32)
+    !(variable(s, v) == 0) && (shape.sharing || is_the(s.section, (identity / bits::FLAG) as u32))
 }
 
 fn in_variables(w: Option<u8>) -> bool
@@ -95,7 +95,8 @@ fn in_variables(w: Option<u8>) -> bool
     }
 }
 
-fn variable_or_nil(s: &SeatState, w: Option<u8>) -> u32
+/// What variable w of the seat refers to, or nil where none is named.
+pub fn variable_or_nil(s: &SeatState, w: Option<u8>) -> u32
     ensures { result ≡ variable_or_nil_of s.now w }
 {
     match w {
@@ -104,7 +105,7 @@ fn variable_or_nil(s: &SeatState, w: Option<u8>) -> u32
     }
 }
 
-/// Kind 18: another section's object would be stored in by two seats, and a card that is still owed would be forgotten.
+/// Kind 18: where objects aren't shared another section's would be stored in by two seats, and a card that is still owed would be forgotten.
 pub fn check_store_field(
     shape: &Shape,
     identity: u64,
@@ -117,7 +118,7 @@ pub fn check_store_field(
 {
     first_false(&[
         v < VARIABLES && u32::from(i) < shape.fields && in_variables(w) && may_mutate(s),
-        has_own(s, v, identity),
+        may_change(shape, s, v, identity),
         s.owes.is_none(),
     ])
 }
@@ -134,15 +135,76 @@ pub fn store_field(s: &mut SeatState, v: u8, w: Option<u8>) -> u64
     u64::from(variable_or_nil(s, w))
 }
 
-/// Kind 18: another section's object would be stored in by two seats, and a store whose card is still owed ends first.
-pub fn check_store_value(identity: u64, s: &SeatState, v: u8) -> Option<u8>
-    ensures { (ids : List ℕ) → slice_index ids (variable_of s.now v - 1) ≡ identity → result ≡ first_false_of 1 (store_value_parts ids s.now v) }
+/// Kind 18: where objects aren't shared another section's would be stored in by two seats, and a store whose card is still owed ends first.
+pub fn check_store_value(shape: &Shape, identity: u64, s: &SeatState, v: u8) -> Option<u8>
+    ensures { (ids : List ℕ) → slice_index ids (variable_of s.now v - 1) ≡ identity → result ≡ first_false_of 1 (store_value_parts shape.now ids s.now v) }
 {
     first_false(&[
         v < VARIABLES && may_mutate(s),
-        has_own(s, v, identity),
+        may_change(shape, s, v, identity),
         s.owes.is_none(),
     ])
+}
+
+/// Kind 50: where objects aren't shared nobody else changes the field, and a card that is still owed would be forgotten.
+pub fn check_exchange_field(
+    shape: &Shape,
+    s: &SeatState,
+    v: u8,
+    i: u8,
+    expected: Option<u8>,
+    new: Option<u8>,
+) -> Option<u8>
+    ensures { result ≡ first_false_of 1 (exchange_field_parts shape.now s.now v i expected new) }
+{
+    first_false(&[
+        v < VARIABLES
+            && u32::from(i) < shape.fields
+            && (in_variables(expected) && in_variables(new))
+            && may_mutate(s),
+        !(variable(s, v) == 0) && shape.sharing,
+        s.owes.is_none(),
+    ])
+}
+
+/// Where the field was the expected reference it is stored as by a store, and else the seat has done nothing.
+pub fn exchange_field(
+    s: &mut SeatState,
+    v: u8,
+    expected: Option<u8>,
+    new: Option<u8>,
+    old: u64,
+) -> u64
+    ensures word { result ≡ if old == variable_or_nil_of s.old expected then variable_or_nil_of s.old new else old }
+    ensures seat { let c = cell_of (variable_of s.old v) in s.new ≡ record s.old { owes = if old == variable_or_nil_of s.old expected then (if used_in s.old.cache c then s.old.owes else Some (card_of_cell c)) else s.old.owes } }
+{
+    if old == u64::from(variable_or_nil(s, expected)) {
+        store_field(s, v, new)
+    } else {
+        old
+    }
+}
+
+/// Kind 51: as an exchange of a field.
+pub fn check_exchange_value(shape: &Shape, s: &SeatState, v: u8, new: u32) -> Option<u8>
+    ensures { result ≡ first_false_of 1 (exchange_value_parts shape.now s.now v new) }
+{
+    first_false(&[
+        v < VARIABLES && u64::from(new) < bits::FLAG && may_mutate(s),
+        !(variable(s, v) == 0) && shape.sharing,
+        s.owes.is_none(),
+    ])
+}
+
+/// The new value where the present one was expected.
+pub fn exchange_value(expected: u32, new: u32, old: u64) -> u64
+    ensures { result ≡ if old == expected then new else old }
+{
+    if old == u64::from(expected) {
+        u64::from(new)
+    } else {
+        old
+    }
 }
 
 /// The reference names the used cell made last.

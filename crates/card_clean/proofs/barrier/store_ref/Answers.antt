@@ -15,11 +15,11 @@ use Rattle.card_clean.proofs.barrier.store_ref.Goals as goal
 pub store_field-requires-clause-may : goal.store_field-requires-clause-may
 store_field-requires-clause-may c =
     let v : View = view_of c.args.seat.now in
-    may-store_field v c.args.v c.args.field c.args.w (possible-live v c.args.seat.now.possible) c.requires.seat.1 c.requires.own (subst (λ (sh : Shape). c.args.field < sh.fields) (sym c.requires.seat.0.1) c.requires.field) c.requires.stored
+    may-store_field v c.args.v c.args.field c.args.w c.requires.alone (possible-live v c.args.seat.now.possible) c.requires.seat.1 c.requires.own (subst (λ (sh : Shape). c.args.field < sh.fields) (sym c.requires.seat.0.1) c.requires.field) c.requires.stored
 
 asked : (v : View) (u i : ℕ) (w : Option ℕ) → MayStore v → IsStorable v w → Asked (StoreField u i w) v
-asked v u i None m h = (ops.Set u i h.0, (m.seen, (h.0, h.1, h.2, refl)))
-asked v u i (Some w) m h = (ops.Set u i w, (m.seen, refl))
+asked v u i None m h = (m.seen, λ alone. (ops.Set u i h.0, (m.seen, (h.0, h.1, h.2, refl))))
+asked v u i (Some w) m h = (m.seen, λ alone. (ops.Set u i w, (m.seen, refl)))
 
 pub store_field-requires-clause-asked : goal.store_field-requires-clause-asked
 store_field-requires-clause-asked c = asked (view_of c.args.seat.now) c.args.v c.args.field c.args.w c.requires.seat.1 c.requires.stored

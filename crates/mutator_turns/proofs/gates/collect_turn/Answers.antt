@@ -12,6 +12,8 @@ use Rattle.gc_cycle.specs.declared.counts.Safe.TheVariants as safes
 use Rattle.gc_cycle.proofs.Refills.Collected.{followed-earlier}
 use Rattle.gc_cycle.proofs.Sequences.{followed-later}
 use Rattle.mutator_turns.proofs.Seats.{collected-mutates, kept-works}
+use Rattle.mutator_turns.proofs.Leaving.{leaves-join, leaves-spared}
+use Rattle.mutator_turns.specs.Sharing.{LeavesHeap}
 use Rattle.mutator_turns.proofs.gates.collect_turn.Goals as goal
 
 pub come_to_turn-requires-clause-works : goal.come_to_turn-requires-clause-works
@@ -39,3 +41,21 @@ returns-in-Going-clause-ok g c =
     let parts : events x w ≡ events x y ++ (events y z ++ events z w) = ran-events x y w c.retire_own_cache.ensures.ran (ran-join y z w r.ran c.come_to_turn.ensures.ran) ∙ ap (λ es. events x y ++ es) (ran-events y z w r.ran c.come_to_turn.ensures.ran) in
     let all : collects (events x w) ≡ true = ap collects parts ∙ followed-later begins_exactly ends_cycle (events x y) (events y z ++ events z w) rest in
     IfOk-weaker c.come_to_turn.result _ _ (λ _ turn. (turn, all)) c.come_to_turn.ensures.ok
+
+pub returns-in-Going-clause-leaves : goal.returns-in-Going-clause-leaves
+returns-in-Going-clause-leaves g c =
+    let x = view_of c.args.seat.now in
+    let y = view_of c.retire_own_cache.new.seat in
+    let z = view_of c.collect.new.seat in
+    let w = view_of c.come_to_turn.new.seat in
+    let r = c.in-Going.ensures in
+    leaves-join x y w c.retire_own_cache.ensures.leaves (leaves-join y z w (leaves-spared y z r.ran r.spares r.keeps.0) c.come_to_turn.ensures.leaves)
+
+pub returns-in-Full-clause-leaves : goal.returns-in-Full-clause-leaves
+returns-in-Full-clause-leaves g c =
+    let x = view_of c.args.seat.now in
+    let y = view_of c.retire_own_cache.new.seat in
+    let z = view_of c.collect.new.seat in
+    let w = view_of c.leave_full.new.seat in
+    let r = c.in-Full.ensures in
+    leaves-join x y w c.retire_own_cache.ensures.leaves (leaves-join y z w (leaves-spared y z r.ran r.spares r.keeps.0) c.leave_full.ensures.leaves)

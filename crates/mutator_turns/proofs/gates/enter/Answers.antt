@@ -4,6 +4,7 @@ use Rattle.std.proofs.lemmas.Bool.{false≢true}
 use Rattle.mark_core.specs.Seats.{has_turn}
 use Rattle.gc_table.specs.Seats.{view_of}
 use Rattle.mutator_turns.proofs.Seats.{kept-heap, mutator-kept}
+use Rattle.mutator_turns.proofs.Leaving.{leaves-spared}
 use Rattle.mutator_turns.proofs.gates.enter.Goals as goal
 
 has-section : (o season : Option ℕ) → has_turn o season ≡ true → is_some o ≡ true
@@ -24,3 +25,6 @@ returns-clause-halts g c =
 
 pub returns-clause-same : goal.returns-clause-same
 returns-clause-same g c = kept-heap (view_of c.args.seat.now) (view_of c.go_in.new.seat) c.go_in.ensures.entered.out.section
+
+pub returns-clause-leaves : goal.returns-clause-leaves
+returns-clause-leaves g c = let e = c.go_in.ensures in leaves-spared (view_of c.args.seat.now) (view_of c.go_in.new.seat) e.entered.out.ran e.spares e.entered.out.seat

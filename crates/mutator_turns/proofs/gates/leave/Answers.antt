@@ -1,6 +1,7 @@
 use Rattle.gc_table.specs.Seats.{view_of}
 use Rattle.mutator_turns.proofs.Fulls.{out-full}
 use Rattle.mutator_turns.proofs.Seats.{kept-heap, mutator-kept}
+use Rattle.mutator_turns.proofs.Leaving.{leaves-spared}
 use Rattle.mutator_turns.proofs.gates.leave.Goals as goal
 
 pub returns-clause-waits : goal.returns-clause-waits
@@ -16,3 +17,6 @@ returns-clause-full c = out-full (view_of c.args.seat.now) (view_of c.go_out.new
 
 pub returns-clause-ran : goal.returns-clause-ran
 returns-clause-ran c = c.go_out.ensures.out.ran
+
+pub returns-clause-leaves : goal.returns-clause-leaves
+returns-clause-leaves c = let e = c.go_out.ensures in leaves-spared (view_of c.args.seat.now) (view_of c.go_out.new.seat) e.out.ran e.spares e.out.seat

@@ -4,10 +4,10 @@ use Rattle.mutator_turns.proofs.Done.{steps-does, turn-does, turn-ready}
 use Rattle.mutator_turns.proofs.operations.copy_variable.Goals as goal
 
 pub assign-requires-clause-seat : goal.assign-requires-clause-seat
-assign-requires-clause-seat c = turn-ready c.args.heap.now c.args.seat.now c.requires.turn
+assign-requires-clause-seat c = turn-ready c.args.heap.now c.args.seat.now c.requires.turn c.requires.owned
 
 pub returns-clause-turn : goal.returns-clause-turn
 returns-clause-turn c = let e = c.assign.ensures in turn-does c.args.heap.now (ops.Let c.args.w c.args.v) 0 c.args.seat.now c.assign.new.seat c.requires.turn e.seat.0 e.seat.1 e.does
 
 pub returns-clause-steps : goal.returns-clause-steps
-returns-clause-steps c = steps-does (ops.Let c.args.w c.args.v) 0 c.args.heap.now c.args.seat.now c.assign.new.seat c.requires.turn refl c.assign.ensures.does
+returns-clause-steps c = steps-does (ops.Let c.args.w c.args.v) 0 c.args.heap.now c.args.seat.now c.assign.new.seat c.requires.turn c.requires.owned refl c.assign.ensures.does

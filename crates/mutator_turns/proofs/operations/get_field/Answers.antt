@@ -4,10 +4,10 @@ use Rattle.mutator_turns.proofs.Done.{steps-does, turn-does, turn-ready}
 use Rattle.mutator_turns.proofs.operations.get_field.Goals as goal
 
 pub follow-requires-clause-seat : goal.follow-requires-clause-seat
-follow-requires-clause-seat c = turn-ready c.args.heap.now c.args.seat.now c.requires.turn
+follow-requires-clause-seat c = turn-ready c.args.heap.now c.args.seat.now c.requires.turn c.requires.owned
 
 pub returns-clause-turn : goal.returns-clause-turn
 returns-clause-turn c = let e = c.follow.ensures in turn-does c.args.heap.now (ops.Get c.args.w c.args.v c.args.i) 0 c.args.seat.now c.follow.new.seat c.requires.turn e.seat.0 e.seat.1 e.does
 
 pub returns-clause-steps : goal.returns-clause-steps
-returns-clause-steps c = steps-does (ops.Get c.args.w c.args.v c.args.i) 0 c.args.heap.now c.args.seat.now c.follow.new.seat c.requires.turn refl c.follow.ensures.does
+returns-clause-steps c = steps-does (ops.Get c.args.w c.args.v c.args.i) 0 c.args.heap.now c.args.seat.now c.follow.new.seat c.requires.turn c.requires.owned refl c.follow.ensures.does

@@ -12,4 +12,4 @@ returns-clause-turn c =
     (whole-cache (Some c.create.new.cache) (view_of y) e.cache)
 
 pub returns-clause-steps : goal.returns-clause-steps
-returns-clause-steps c = steps-creates c.args.v c.args.value c.in-Some._cell c.args.heap.now c.args.seat.now c.create.new.seat c.requires.plays c.in-Some.ensures.creates.1
+returns-clause-steps c = steps-creates c.args.v c.args.value c.in-Some._cell c.args.heap.now c.args.seat.now c.create.new.seat c.requires.plays c.requires.owned c.in-Some.ensures.creates.1

@@ -4,10 +4,10 @@ use Rattle.mutator_turns.proofs.Done.{steps-does, turn-does, turn-ready}
 use Rattle.mutator_turns.proofs.operations.put_value.Goals as goal
 
 pub put-requires-clause-seat : goal.put-requires-clause-seat
-put-requires-clause-seat c = turn-ready c.args.heap.now c.args.seat.now c.requires.turn
+put-requires-clause-seat c = turn-ready c.args.heap.now c.args.seat.now c.requires.turn c.requires.owned
 
 pub returns-clause-turn : goal.returns-clause-turn
 returns-clause-turn c = let e = c.put.ensures in turn-does c.args.heap.now (ops.Put c.args.v c.args.value) _ c.args.seat.now c.put.new.seat c.requires.turn e.seat.0 e.seat.1 e.does
 
 pub returns-clause-steps : goal.returns-clause-steps
-returns-clause-steps c = steps-does (ops.Put c.args.v c.args.value) _ c.args.heap.now c.args.seat.now c.put.new.seat c.requires.turn refl c.put.ensures.does
+returns-clause-steps c = steps-does (ops.Put c.args.v c.args.value) _ c.args.heap.now c.args.seat.now c.put.new.seat c.requires.turn c.requires.owned refl c.put.ensures.does

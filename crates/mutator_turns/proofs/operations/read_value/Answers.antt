@@ -3,12 +3,12 @@ use Rattle.plain_heap.specs.declared.operation.Op.TheVariants as ops
 use Rattle.gc_table.specs.Seats.{view_of}
 use Rattle.mutator_ops.specs.Doing.{seen}
 use Rattle.mutator_turns.specs.Standing.{plain_of}
-use Rattle.mutator_turns.proofs.Done.{same-does, turn-does, turn-ready, value-read, value_said}
+use Rattle.mutator_turns.proofs.Done.{alone-there, same-does, turn-does, turn-ready, value-read, value_said}
 use Rattle.mutator_turns.proofs.Uncatalogued.{sees-none}
 use Rattle.mutator_turns.proofs.operations.read_value.Goals as goal
 
 pub say-requires-clause-seat : goal.say-requires-clause-seat
-say-requires-clause-seat c = turn-ready c.args.heap.now c.args.seat.now c.requires.turn
+say-requires-clause-seat c = turn-ready c.args.heap.now c.args.seat.now c.requires.turn c.requires.owned
 
 pub returns-in-Value-clause-turn : goal.returns-in-Value-clause-turn
 returns-in-Value-clause-turn c = let e = c.say.ensures in turn-does c.args.heap.now (ops.Say c.args.v) 0 c.args.seat.now c.say.new.seat c.requires.turn e.seat.0 e.seat.1 e.does
@@ -19,7 +19,7 @@ returns-in-Value-clause-same c = same-does (ops.Say c.args.v) (view_of c.args.se
 pub returns-in-Value-clause-value : goal.returns-in-Value-clause-value
 returns-in-Value-clause-value c =
     let v = view_of c.args.seat.now in
-    sym (ap value_said c.in-Value.is) ∙ value-read (plain_of c.args.seat.now) c.args.v (seen v) c.say.result (sees-none v c.requires.turn.works.mutator.plan) c.say.ensures.line
+    sym (ap value_said c.in-Value.is) ∙ value-read (plain_of c.args.seat.now) c.args.v (seen v) c.say.result (sees-none v (c.requires.turn.works.mutator.uncatalogued (alone-there c.args.heap.now c.args.seat.now c.requires.turn.works.sits c.requires.owned))) c.say.ensures.line
 
 pub returns-in-Nil : goal.returns-in-Nil
 returns-in-Nil c =
@@ -28,7 +28,7 @@ returns-in-Nil c =
     record {
       turn = turn-does c.args.heap.now (ops.Say c.args.v) 0 c.args.seat.now c.say.new.seat c.requires.turn e.seat.0 e.seat.1 e.does;
       same = same-does (ops.Say c.args.v) v (view_of c.say.new.seat) (λ x. refl) e.does;
-      value = sym (ap value_said c.in-Nil.is) ∙ value-read (plain_of c.args.seat.now) c.args.v (seen v) c.say.result (sees-none v c.requires.turn.works.mutator.plan) e.line;
+      value = sym (ap value_said c.in-Nil.is) ∙ value-read (plain_of c.args.seat.now) c.args.v (seen v) c.say.result (sees-none v (c.requires.turn.works.mutator.uncatalogued (alone-there c.args.heap.now c.args.seat.now c.requires.turn.works.sits c.requires.owned))) e.line;
     }
 
 pub returns-in-Walk : goal.returns-in-Walk
@@ -38,5 +38,5 @@ returns-in-Walk c =
     record {
       turn = turn-does c.args.heap.now (ops.Say c.args.v) 0 c.args.seat.now c.say.new.seat c.requires.turn e.seat.0 e.seat.1 e.does;
       same = same-does (ops.Say c.args.v) v (view_of c.say.new.seat) (λ x. refl) e.does;
-      value = sym (ap value_said c.in-Walk.is) ∙ value-read (plain_of c.args.seat.now) c.args.v (seen v) c.say.result (sees-none v c.requires.turn.works.mutator.plan) e.line;
+      value = sym (ap value_said c.in-Walk.is) ∙ value-read (plain_of c.args.seat.now) c.args.v (seen v) c.say.result (sees-none v (c.requires.turn.works.mutator.uncatalogued (alone-there c.args.heap.now c.args.seat.now c.requires.turn.works.sits c.requires.owned))) e.line;
     }

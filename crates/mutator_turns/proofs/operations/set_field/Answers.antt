@@ -4,10 +4,10 @@ use Rattle.mutator_turns.proofs.Done.{steps-does, turn-does, turn-ready}
 use Rattle.mutator_turns.proofs.operations.set_field.Goals as goal
 
 pub set-requires-clause-seat : goal.set-requires-clause-seat
-set-requires-clause-seat c = turn-ready c.args.heap.now c.args.seat.now c.requires.turn
+set-requires-clause-seat c = turn-ready c.args.heap.now c.args.seat.now c.requires.turn c.requires.owned
 
 pub returns-clause-turn : goal.returns-clause-turn
 returns-clause-turn c = let e = c.set.ensures in turn-does c.args.heap.now (ops.Set c.args.v c.args.i c.args.w) _ c.args.seat.now c.set.new.seat c.requires.turn e.seat.0 e.seat.1 e.does
 
 pub returns-clause-steps : goal.returns-clause-steps
-returns-clause-steps c = steps-does (ops.Set c.args.v c.args.i c.args.w) _ c.args.heap.now c.args.seat.now c.set.new.seat c.requires.turn refl c.set.ensures.does
+returns-clause-steps c = steps-does (ops.Set c.args.v c.args.i c.args.w) _ c.args.heap.now c.args.seat.now c.set.new.seat c.requires.turn c.requires.owned refl c.set.ensures.does

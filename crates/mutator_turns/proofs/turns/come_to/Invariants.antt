@@ -1,6 +1,7 @@
 use Rattle.std.proofs.Common.{◌≡◌}
 use Rattle.gc_table.specs.Seats.{view_of}
 use Rattle.gc_cycle.specs.Answering.{HasCache}
+use Rattle.mutator_turns.specs.Sharing.{LeavesHeap}
 use Rattle.mutator_turns.specs.Standing.{Works, plain_of}
 use Rattle.mutator_turns.proofs.turns.come_to.Given as goal
 
@@ -11,4 +12,5 @@ invariant-loop g l = record {
   works : Works l.heap l.seat;
   cached : HasCache l.cache (view_of l.seat);
   same : plain_of l.seat ≡ plain_of l.fn.seat;
+  leaves : LeavesHeap (view_of l.fn.seat) (view_of l.seat);
 }

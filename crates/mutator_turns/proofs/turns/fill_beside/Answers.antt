@@ -1,4 +1,6 @@
 use Rattle.mutator_turns.proofs.Seats.{kept-works}
+use Rattle.gc_table.specs.Seats.{view_of}
+use Rattle.mutator_turns.proofs.Leaving.{leaves-filled}
 use Rattle.mutator_turns.proofs.turns.fill_beside.Goals as goal
 
 pub returns-in-Cache-clause-ok : goal.returns-in-Cache-clause-ok
@@ -10,3 +12,9 @@ pub returns-in-Full-clause-err : goal.returns-in-Full-clause-err
 returns-in-Full-clause-err g c =
     let r = c.in-Full.ensures in
     (record { works = kept-works c.args.heap.now c.args.seat.now c.refill_watched.new.seat c.requires.halts.works r.seat r.refills.mutates r.ran r.keeps.0 r.keeps.1; cache = r.refills.cache }, r.spares)
+
+pub returns-in-Cache-clause-leaves : goal.returns-in-Cache-clause-leaves
+returns-in-Cache-clause-leaves g c = let r = c.in-Cache.ensures in leaves-filled (view_of c.args.seat.now) (view_of c.refill_watched.new.seat) r.ran r.only r.keeps.0
+
+pub returns-in-Full-clause-leaves : goal.returns-in-Full-clause-leaves
+returns-in-Full-clause-leaves g c = let r = c.in-Full.ensures in leaves-filled (view_of c.args.seat.now) (view_of c.refill_watched.new.seat) r.ran r.only r.keeps.0

@@ -1,9 +1,10 @@
-use Rattle.std.proofs.Common.{◌∙◌}
+use Rattle.std.proofs.Common.{◌∙◌, refl}
 use Rattle.gc_table.specs.Seats.{view_of}
 use Rattle.gc_cycle.specs.Answering.{HasCache}
 use Rattle.mutator_turns.specs.Standing.{Plays, Works}
-use Rattle.gc_table.proofs.Running.{ran-join}
+use Rattle.gc_table.proofs.Running.{ran-join, ran-refl}
 use Rattle.mutator_turns.proofs.Seats.{first-turn, going-seen, kept-heap, kept-works, looks-cached, looks-heap, looks-ran, looks-seen, looks-works, plays-turn, whole-cache, works-ready}
+use Rattle.mutator_turns.proofs.Leaving.{leaves-join, leaves-looked, leaves-none, leaves-spared}
 use Rattle.mutator_turns.proofs.turns.pass.Goals as goal
 
 pub returns-in-Full-clause-err : goal.returns-in-Full-clause-err
@@ -68,4 +69,23 @@ loop-preserved g c =
       cached = looks-cached c.in-Going.kept (view_of y) (view_of z) safe.cached t.looks;
       same = looks-heap (view_of y) (view_of z) t.looks ∙ (kept-heap (view_of x) (view_of y) s.keeps.1 ∙ c.loop.invariant.same);
       ran = ran-join (view_of c.args.seat.now) (view_of x) (view_of z) c.loop.invariant.ran (ran-join (view_of x) (view_of y) (view_of z) s.ran (looks-ran (view_of y) (view_of z) t.looks));
+      leaves =
+          leaves-join (view_of c.args.seat.now) (view_of x) (view_of z) c.loop.invariant.leaves
+          (leaves-join (view_of x) (view_of y) (view_of z) (leaves-spared (view_of x) (view_of y) s.ran s.spares s.keeps.0) (leaves-looked (view_of y) (view_of z) t.looks));
     }
+
+pub returns-in-Full-clause-leaves : goal.returns-in-Full-clause-leaves
+returns-in-Full-clause-leaves g c =
+    let s = c.safe_point.ensures in
+    leaves-join (view_of c.args.seat.now) (view_of c.loop.seat) (view_of c.safe_point.new.seat) c.loop.invariant.leaves (leaves-spared (view_of c.loop.seat) (view_of c.safe_point.new.seat) s.ran s.spares s.keeps.0)
+
+pub returns-then-is_turn-clause-leaves : goal.returns-then-is_turn-clause-leaves
+returns-then-is_turn-clause-leaves g c =
+    let x = view_of c.loop.seat in
+    let y = view_of c.safe_point.new.seat in
+    let z = view_of c.is_turn.new.seat in
+    let s = c.safe_point.ensures in
+    leaves-join (view_of c.args.seat.now) x z c.loop.invariant.leaves (leaves-join x y z (leaves-spared x y s.ran s.spares s.keeps.0) (leaves-looked y z c.is_turn.ensures.looks))
+
+pub loop-init : goal.loop-init
+loop-init g c = record { next = tt; finite = tt; works = c.requires.works; cached = c.requires.cache; same = refl; ran = ran-refl (view_of c.args.seat.now); leaves = leaves-none (view_of c.args.seat.now) }

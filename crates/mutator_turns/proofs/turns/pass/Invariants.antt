@@ -2,6 +2,7 @@ use Rattle.std.proofs.Common.{◌≡◌}
 use Rattle.gc_table.specs.Running.{Ran}
 use Rattle.gc_table.specs.Seats.{view_of}
 use Rattle.gc_cycle.specs.Answering.{HasCache}
+use Rattle.mutator_turns.specs.Sharing.{LeavesHeap}
 use Rattle.mutator_turns.specs.Standing.{Works, plain_of}
 use Rattle.mutator_turns.proofs.turns.pass.Given as goal
 
@@ -13,4 +14,5 @@ invariant-loop g l = record {
   cached : HasCache l.cache (view_of l.seat);
   same : plain_of l.seat ≡ plain_of l.fn.seat;
   ran : Ran (view_of l.fn.seat) (view_of l.seat);
+  leaves : LeavesHeap (view_of l.fn.seat) (view_of l.seat);
 }

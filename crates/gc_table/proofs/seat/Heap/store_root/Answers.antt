@@ -5,6 +5,6 @@ use Rattle.gc_table.proofs.Told.PlainTold.{plain-told}
 use Rattle.gc_table.proofs.seat.Heap.store_root.Goals as goal
 
 pub returns-clause-plain : goal.returns-clause-plain
-returns-clause-plain c op asks =
+returns-clause-plain c alone op asks =
     let s = c.args.seat.now in
-    ap (λ (v : View). v.own.meaning.heap) c.store_step.ensures.view ∙ plain-told (s.token.me.0) (StoreRoot c.args.v c.args.r) op s.possible c.requires.may asks refl
+    ap (λ (v : View). v.own.meaning.heap) c.store_step.ensures.view ∙ plain-told (s.token.me.0) (StoreRoot c.args.v c.args.r) op alone s.possible c.requires.may asks refl

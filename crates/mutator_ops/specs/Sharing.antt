@@ -1,0 +1,73 @@
+-- A mutator of a heap whose objects are shared: what it is between two calls, and which steps a call takes.
+use Rattle.std.specs.Prelude.{ℕ, ◌≡◌, ◌+◌, ◌*◌, ◌-◌, ◌==◌, if◌then◌else◌, List, [], ◌∷◌, ◌++◌, length, None, Some, IsTrue, IsFalse, slice_set}
+use Rattle.mark_core.specs.Bits.{reference_in}
+use Rattle.mark_core.specs.Numbers.{section_span}
+use Rattle.mark_core.specs.Seats.{has_making, work_in_hand}
+use Rattle.mark_core.specs.Steps.MutatorSteps.{seat_variable as word_in}
+use Rattle.mark_core.specs.declared.kinds.Step.{Step}
+use Rattle.mark_core.specs.declared.kinds.Step.TheVariants.{ReadCat, ReadOwn, StoreRoot, StoreValue}
+use Rattle.mark_core.specs.declared.seat.SeatState.{SeatState}
+use Rattle.plain_heap.specs.PlainStep.{heap_after}
+use Rattle.plain_heap.specs.declared.operation.Op.TheVariants as ops
+use Rattle.alloc_cache.specs.Making.{making_steps, with_cell}
+use Rattle.gc_table.specs.PlainSteps.{own_section}
+use Rattle.gc_table.specs.declared.view.View.{View}
+use Rattle.gc_table.specs.Log.{event, events, steps_of}
+use Rattle.gc_table.specs.Running.{Ran}
+use Rattle.card_clean.specs.Barrier.{MayStore, barrier_steps}
+
+-- the heap's objects are shared; the seat may store, has nothing in hand, makes no cell, has nothing in its register, and each cell that it made has its object
+pub record SharesReady (v : View) : Type 0 where
+  pub shared : IsTrue v.shape.sharing
+  pub stores : MayStore v
+  pub idle : IsFalse (work_in_hand v.shape.fields v.state)
+  pub whole : IsFalse (has_making v.state.cache)
+  pub register : v.state.got ≡ 0
+  pub counted : length v.own.meaning.heap.objects ≡ v.state.made
+
+-- these steps were taken, in this order, and nothing else; the seat's record is as it was
+pub record TakesSteps (steps : List Step) (v w : View) : Type 0 where
+  pub ran : Ran v w
+  pub steps_are : steps_of (events v w) ≡ steps
+  pub state : w.state ≡ v.state
+
+-- the steps of a store in variable u's object: none where the variable is nil
+abbrev pub setting_steps : SeatState → ℕ → ℕ → ℕ → List Step
+setting_steps s u i w = if word_in s u == 0 then [] else barrier_steps s u i (Some w)
+
+-- variable u became what field i of variable w's object was found to be, by one read; w isn't nil
+pub record FollowsFound (u w i : ℕ) (v x : View) : Type 0 where
+  pub ran : Ran v x
+  pub found : ℕ
+  pub events_are : events v x ≡ event (ReadOwn (word_in v.state w - 1) i) found ∷ event (StoreRoot u (reference_in found)) (reference_in found) ∷ []
+  pub state : x.state ≡ record v.state { env = slice_set v.state.env u (reference_in found) }
+
+-- the step of a store of a value in variable u's object: none where the variable is nil
+abbrev pub putting_steps : SeatState → ℕ → ℕ → List Step
+putting_steps s u n = if word_in s u == 0 then [] else StoreValue u n ∷ []
+
+-- variable u became this word, by one step
+pub record SetsVariable (u r : ℕ) (v x : View) : Type 0 where
+  pub ran : Ran v x
+  pub events_are : events v x ≡ event (StoreRoot u r) r ∷ []
+  pub state : x.state ≡ record v.state { env = slice_set v.state.env u (reference_in r) }
+
+-- variable u became what variable c of section 0 was found to be, by one read
+pub record LendsFound (u c : ℕ) (v x : View) : Type 0 where
+  pub ran : Ran v x
+  pub found : ℕ
+  pub events_are : events v x ≡ event (ReadCat c) found ∷ event (StoreRoot u (reference_in found)) (reference_in found) ∷ []
+  pub state : x.state ≡ record v.state { env = slice_set v.state.env u (reference_in found) }
+
+-- the identity of the seat's next object, as a word
+abbrev pub next_word : SeatState → ℕ
+next_word s = own_section s * section_span + s.made
+
+-- an object was made in this cell with this value, and variable u refers to it
+pub record ShareCreates (u n cell : ℕ) (v w : View) : Type 0 where
+  pub ran : Ran v w
+  pub steps_are : steps_of (events v w) ≡ making_steps v.shape.fields cell n (next_word v.state) ++ StoreRoot u (cell + 1) ∷ []
+  pub state : w.state ≡ record (with_cell v.state cell) { env = slice_set v.state.env u (reference_in (cell + 1)) }
+  -- what the seat keeps of its own section counts one more
+  pub heap : w.own.meaning.heap ≡ heap_after v.own.meaning.heap None (ops.New u n)
+  pub seasons : w.own.seasons ≡ v.own.seasons

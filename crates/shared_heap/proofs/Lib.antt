@@ -1,0 +1,3 @@
+mod Beginning
+mod Gathering
+mod Rooting

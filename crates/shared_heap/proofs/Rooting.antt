@@ -1,0 +1,183 @@
+-- The seat of section 0 makes the root, and then the season moves on.
+use Rattle.std.proofs.Common.{ℕ, ◌≡◌, ◌+◌, ◌<◌, ◌==◌, ◌&&◌, ◌∙◌, List, [], ◌∷◌, length, ap, arith, refl, sym, subst, cond, Bool, true, false, not, Option, None, Some, eqb-true, ⊎_elim}
+use Rattle.std.specs.Prelude.{is_none, is_some, nat_lt}
+use Rattle.std.proofs.lemmas.Bool.{and_from, and_parts, eq-eqb, false≢true, lt-ltb, not-true}
+use Rattle.std.proofs.lemmas.Option.{get_or_from_slice_get}
+use Rattle.mark_core.specs.Places.{the_phase}
+use Rattle.mark_core.specs.Seats.{empty_handed, has_making, has_turn, may_mutate, work_in_hand}
+use Rattle.mark_core.specs.Steps.WorldSteps.{has_nothing}
+use Rattle.mark_core.specs.declared.kinds.Phase.TheVariants.{Idle}
+use Rattle.mark_core.specs.declared.kinds.Shape.{Shape}
+use Rattle.mark_core.specs.declared.kinds.Step.TheVariants.{NextSeason, ReadSeason}
+use Rattle.mark_core.specs.declared.seat.CacheState.{CacheState}
+use Rattle.mark_core.specs.declared.seat.SeatState.{SeatState}
+use Rattle.mark_core.proofs.Notes.NotesKept.{single-word}
+use Rattle.plain_heap.specs.PlainHeap.{Heap as PlainHeap}
+use Rattle.plain_heap.specs.PlainStep.{heap_after}
+use Rattle.plain_heap.specs.declared.operation.Op.TheVariants as ops
+use Rattle.alloc_cache.specs.Caching.{IsCached, cached}
+use Rattle.alloc_cache.specs.Claiming.{Claims}
+use Rattle.alloc_cache.specs.Making.{with_cell}
+use Rattle.alloc_cache.specs.declared.cache.Cache.{Cache}
+use Rattle.gc_table.specs.Running.{Alone, Ran}
+use Rattle.gc_table.specs.Seats.{Found, Sits, Took, view_of}
+use Rattle.gc_table.specs.TableState.{no_section}
+use Rattle.gc_table.specs.Taking.{May}
+use Rattle.gc_table.specs.declared.seat.Heap.{Heap}
+use Rattle.gc_table.specs.declared.seat.HeapSeat.{HeapSeat}
+use Rattle.gc_table.specs.declared.view.Meaning.{Meaning}
+use Rattle.gc_table.specs.declared.view.SectionState.{SectionState}
+use Rattle.gc_table.specs.declared.view.View.{View}
+use Rattle.gc_table.proofs.Noticing.{alone-step}
+use Rattle.gc_table.proofs.Running.{ran-join, ran-plan, ran-shape}
+use Rattle.gc_cycle.specs.Standing.{IsAlone, KeepsSeat, KeepsSection, Mutates, is_at_rest}
+use Rattle.mutator_ops.specs.Sharing.{ShareCreates, SharesReady}
+use Rattle.seat_turns.specs.Turning.{LooksAtSeason}
+use Rattle.shared_heap.specs.Opening.{HasFirstCache, HasRoot, IsAloneInIdle, IsAtFirstTurn, IsFirst, IsNewSeat, StopsWithRoot, empty_in, rooted_in}
+
+first_section : (sh : Shape) → 0 < sh.sections → cond {A = Option ℕ} (nat_lt 0 sh.sections) (Some 0) None ≡ Some 0
+first_section sh l = ap (λ (b : Bool). cond {A = Option ℕ} b (Some 0) None) (lt-ltb 0 sh.sections l)
+
+-- a seat that has done nothing
+pub first-start : (h : Heap) (x : HeapSeat) → IsNewSeat h 0 x → 0 < h.shape.sections → IsFirst (empty_in h.shape) (view_of x)
+first-start h x new l =
+    record {
+      section = ap (λ (s : SeatState). s.section) new.1.state ∙ first_section h.shape l;
+      plan = new.1.plan_is;
+      seasons = ap (λ (o : SectionState). o.seasons) new.1.own;
+      heap = ap (λ (o : SectionState). o.meaning.heap) new.1.own;
+      counted = sym (ap (λ (s : SeatState). s.made) new.1.state);
+    }
+
+-- what isn't a mutator's work leaves it so
+pub first-kept : (p : PlainHeap) (v w : View) → IsFirst p v → Ran v w → KeepsSeat v w → KeepsSection v w → IsFirst p w
+first-kept p v w f ran seat section =
+    record {
+      section = seat.section ∙ f.section;
+      plan = ran-plan v w ran ∙ f.plan;
+      seasons = section.seasons ∙ f.seasons;
+      heap = ap (λ (m : Meaning). m.heap) section.meaning ∙ f.heap;
+      counted = f.counted ∙ sym seat.made;
+    }
+
+pub first-looked : (p : PlainHeap) (v w : View) → IsFirst p v → LooksAtSeason v w → IsFirst p w
+first-looked p v w f looks =
+    ⊎_elim (λ (same : w ≡ v). subst (IsFirst p) (sym same) f)
+    (λ (read : (n : ℕ) × Found ReadSeason n v w). subst (IsFirst p) (sym read.1.0) (record { section = f.section; plan = f.plan; seasons = f.seasons; heap = f.heap; counted = f.counted }))
+    looks
+
+pub mutates-looked : (v w : View) → Mutates v → LooksAtSeason v w → Mutates w
+mutates-looked v w m looks =
+    ⊎_elim (λ (same : w ≡ v). subst Mutates (sym same) m)
+    (λ (read : (n : ℕ) × Found ReadSeason n v w). subst Mutates (sym read.1.0) (record { active = m.active; unhelping = m.unhelping; section = m.section; rest = m.rest }))
+    looks
+
+pub cache-looked : (v w : View) → v.state.cache ≡ None → LooksAtSeason v w → w.state.cache ≡ None
+cache-looked v w e looks =
+    ⊎_elim (λ (same : w ≡ v). ap (λ (y : View). y.state.cache) same ∙ e) (λ (read : (n : ℕ) × Found ReadSeason n v w). ap (λ (y : View). y.state.cache) read.1.0 ∙ e) looks
+
+-- at rest, part by part
+record AtRest (sh : Shape) (s : SeatState) : Type 0 where
+  idle : work_in_hand sh.fields s ≡ false
+  owes : s.owes ≡ None
+  register : s.got ≡ 0
+
+at_rest : (sh : Shape) (s : SeatState) → is_at_rest sh s ≡ true → AtRest sh s
+at_rest sh s e =
+    let p5 = and_parts (empty_handed s && not (work_in_hand sh.fields s) && is_none s.owes && is_none s.block && (s.got == 0)) (not (has_making s.cache)) e in
+    let p4 = and_parts (empty_handed s && not (work_in_hand sh.fields s) && is_none s.owes && is_none s.block) (s.got == 0) p5.0 in
+    let p3 = and_parts (empty_handed s && not (work_in_hand sh.fields s) && is_none s.owes) (is_none s.block) p4.0 in
+    let p2 = and_parts (empty_handed s && not (work_in_hand sh.fields s)) (is_none s.owes) p3.0 in
+    let p1 = and_parts (empty_handed s) (not (work_in_hand sh.fields s)) p2.0 in
+    record { idle = not-true (work_in_hand sh.fields s) p1.1; owes = none_of s.owes p2.1; register = eqb-true s.got 0 p4.1 }
+  where
+    none_of : (o : Option ℕ) → is_none o ≡ true → o ≡ None
+    none_of None h = refl
+    none_of (Some x) h = absurd (false≢true h)
+
+-- a cache was claimed
+pub first-cached : (h : Heap) (cache : Cache) (x y : HeapSeat) → IsAtFirstTurn h x → h.shape.sharing ≡ true → Sits h y → Ran (view_of x) (view_of y) → Claims cache (view_of x) (view_of y) → HasFirstCache h cache y
+first-cached h cache x y t shared sits ran k =
+    let v : View = view_of x in
+    let w : View = view_of y in
+    let f = t.first in
+    let m = t.mutates in
+    let rest = at_rest v.shape v.state m.rest in
+    record {
+      sits = sits;
+      first =
+          record {
+            section = ap (λ (s : SeatState). s.section) k.state ∙ f.section;
+            plan = ran-plan v w ran ∙ f.plan;
+            seasons = ap (λ (o : SectionState). o.seasons) k.own ∙ f.seasons;
+            heap = ap (λ (o : SectionState). o.meaning.heap) k.own ∙ f.heap;
+            counted = f.counted ∙ sym (ap (λ (s : SeatState). s.made) k.state);
+          };
+      cached = subst (λ (s : SeatState). IsCached cache (record w { state = s })) (sym k.state) refl;
+      ready =
+          record {
+            shared = ap (λ (sh : Shape). sh.sharing) sits.1 ∙ shared;
+            stores =
+                record {
+                  turn = ap may_mutate k.state ∙ and_from v.state.active (has_turn v.state.section v.state.season_seen) m.active ((λ i. has_turn (f.section i) (t.turn i)));
+                  seen = (t.seen.0, ap (λ (s : SeatState). s.phase_seen) k.state ∙ t.seen.1, t.seen.2);
+                  owes = ap (λ (s : SeatState). s.owes) k.state ∙ rest.owes;
+                };
+            idle = (λ i. work_in_hand (ran-shape v w ran i).fields (k.state i)) ∙ rest.idle;
+            whole = ap (λ (s : SeatState). has_making s.cache) k.state;
+            register = ap (λ (s : SeatState). s.got) k.state ∙ rest.register;
+            counted = ap (λ (o : SectionState). length o.meaning.heap.objects) k.own ∙ (ap (λ (p : PlainHeap). length p.objects) f.heap ∙ (f.counted ∙ sym (ap (λ (s : SeatState). s.made) k.state)));
+          };
+      mutates = λ z shape state.
+          let s : z.state ≡ record v.state { cache = None; made = z.state.made; env = z.state.env } = state ∙ ap (λ (q : SeatState). record q { cache = None; made = z.state.made; env = z.state.env }) k.state in
+          record {
+            active = ap (λ (q : SeatState). q.active) s ∙ m.active;
+            unhelping = ap (λ (q : SeatState). q.helping) s ∙ m.unhelping;
+            section = ap (λ (q : SeatState). is_some q.section) s ∙ m.section;
+            rest =
+                (λ i. is_at_rest ((shape ∙ ran-shape v w ran) i) (s i))
+                ∙ ap (λ (c : Option CacheState). is_at_rest v.shape (record v.state { cache = c })) (sym t.cache)
+                ∙ m.rest;
+          };
+    }
+
+-- the root was made, and the cache given up
+pub rooted : (h : Heap) (cache : Cache) (cell : ℕ) (x y z : HeapSeat) → HasFirstCache h cache x → Sits h z → Ran (view_of y) (view_of z) → ShareCreates 0 0 cell (view_of x) (view_of y) → (view_of z).state ≡ record (view_of y).state { cache = None } → (view_of z).own ≡ (view_of y).own → HasRoot h z
+rooted h cache cell x y z t sits later d state own =
+    let v : View = view_of x in
+    let w : View = view_of z in
+    let f = t.first in
+    let ran : Ran v w = ran-join v (view_of y) w d.ran later in
+    let s = state ∙ ap (λ (q : SeatState). record q { cache = None }) d.state in
+    record {
+      sits = sits;
+      first =
+          record {
+            section = ap (λ (q : SeatState). q.section) s ∙ f.section;
+            plan = ran-plan v w ran ∙ f.plan;
+            seasons = ap (λ (o : SectionState). o.seasons) own ∙ (d.seasons ∙ f.seasons);
+            heap = ap (λ (o : SectionState). o.meaning.heap) own ∙ (d.heap ∙ ap (λ (p : PlainHeap). heap_after p None (ops.New 0 0)) f.heap);
+            counted = ap (λ m. m + 1) f.counted ∙ sym (ap (λ (q : SeatState). q.made) s);
+          };
+      mutates = t.mutates w (ran-shape v w ran) (s ∙ ap (λ (q : SeatState). record v.state { cache = None; made = q.made; env = q.env }) (sym s));
+      cache = ap (λ (q : SeatState). q.cache) s;
+    }
+
+-- the phase is Idle, and the season the first one
+pub may-turn : (v : View) → Alone Idle v → v.state.section ≡ Some 0 → v.own.seasons ≡ 0 → May NextSeason v
+may-turn v l first none x i st a =
+    let phase = sym (single-word x.core.shape x.core.words 1 (omega arith)) ∙ (a.noted the_phase 0 l.phase).1 in
+    let season = st.told.seasons.moved ∙ (ap (λ (s : SectionState). s.seasons) (get_or_from_slice_get x.sections 0 v.own no_section (a.own 0 first)) ∙ none) in
+    (l.knows, (eq-eqb _ 0 phase, (lt-ltb _ 128 (omega (arith, season)), tt)))
+
+-- the season moved on, and the seat is alone still
+pub turned : (h : Heap) (x y : HeapSeat) → IsAloneInIdle h x → Sits h y → Took NextSeason (view_of x) (view_of y) → IsAloneInIdle h y
+turned h x y k sits took =
+    let v : View = view_of x in
+    let e = took.1.0 in
+    record {
+      sits = sits;
+      rest = record { knows = ap (λ (q : View). q.state.knows) e ∙ k.rest.knows; alone = ap (λ (q : View). q.state.alone) e ∙ k.rest.alone; rest = subst (λ (q : View). has_nothing q.shape q.state ≡ true) (sym e) k.rest.rest };
+      unhelping = ap (λ (q : View). q.state.helping) e ∙ k.unhelping;
+      alone = subst (Alone Idle) (sym e) (alone-step Idle v NextSeason took.0 refl (record { found = λ s. took.1.1; stored = λ s. absurd (false≢true s) }) k.alone);
+    }

@@ -1,0 +1,15 @@
+use Rattle.std.proofs.Common.{◌≡◌, ◌+◌, All}
+use Rattle.std.specs.Prelude.{vec_len}
+use Rattle.std.specs.Arc.{arc_value}
+use Rattle.mutator_turns.specs.Standing.{RestsOutside}
+use Rattle.shared_heap.specs.Closing.{Gathers}
+use Rattle.shared_heap.specs.declared.mutator.SharedMutator.{SharedMutator}
+use Rattle.shared_heap.proofs.closing.gather.Given as goal
+
+abbrev pub invariant-loop-at : goal.invariant-loop-at
+invariant-loop-at l = record {
+  gathers : Gathers l.fn.mutators.items l.mutators.items l.fn.zero l.seats.items;
+  rest : All (RestsOutside (arc_value l._heap)) l.seats.items;
+  same : All (λ (m : SharedMutator). arc_value m.heap ≡ arc_value l._heap) l.mutators.items;
+  count : vec_len l.mutators + l._at ≡ l.count;
+}

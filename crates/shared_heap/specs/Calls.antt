@@ -1,0 +1,99 @@
+-- What a call of a mutator does whose world shares its objects. A call is told by its events: the steps that it added to the log of its seat, with what each found.
+use Rattle.std.specs.Prelude.{ℕ, ◌≡◌, ◌≤◌, ◌<◌, ◌-◌, List, [], ◌∷◌, length, IsTrue}
+use Rattle.std.specs.Arc.{arc_value}
+use Rattle.mark_core.specs.Numbers.{section_variables}
+use Rattle.mark_core.specs.Steps.MutatorSteps.{seat_variable as word_in}
+use Rattle.mark_core.specs.declared.kinds.Step.TheVariants.{ReadValue}
+use Rattle.plain_heap.specs.PlainStep.{IsInRange}
+use Rattle.plain_heap.specs.declared.operation.Op.{Op}
+use Rattle.gc_table.specs.Rule.{KnowsFull}
+use Rattle.gc_table.specs.Seats.{Across, Found, did, state_of, view_of}
+use Rattle.gc_table.specs.declared.view.View.{View}
+use Rattle.gc_cycle.specs.Cycles.{collects}
+use Rattle.mutator_turns.specs.Sharing.{LeavesHeap}
+use Rattle.mutator_turns.specs.declared.refused.Refused.{Refused}
+use Rattle.mutator_turns.specs.declared.refused.Refused.TheVariants as refusals
+use Rattle.shared_heap.specs.declared.mutator.Place.TheVariants.{Inside, Outside}
+use Rattle.shared_heap.specs.declared.mutator.SharedMutator.{SharedMutator}
+
+-- how many references an object has
+abbrev pub field_count_of : SharedMutator → ℕ
+field_count_of m = (arc_value m.heap).shape.fields
+
+-- the call went so, from what the seat knew before to what it knows after; the mutator was inside and is
+pub record SharerDoes (P : View → View → Type 0) (op : Op) (x y : SharedMutator) : Type 0 where
+  pub range : IsInRange (field_count_of x) op
+  pub was : x.place ≡ Inside
+  pub inside : y.place ≡ Inside
+  pub does : Across P x.seat y.seat
+  pub world : arc_value y.heap ≡ arc_value x.heap
+
+-- why an operation isn't done: a number is out of range, or the mutator is outside
+abbrev pub Refuses : Refused → Op → SharedMutator → Type 0
+Refuses refusals.OutOfRange op x = IsInRange (field_count_of x) op → ⊥
+Refuses refusals.Outside op x = x.place ≡ Outside
+Refuses e op x = ⊥
+
+-- the operation wasn't done: no step was taken
+pub record SharerRefused (e : Refused) (op : Op) (x y : SharedMutator) : Type 0 where
+  pub why : Refuses e op x
+  pub same : y ≡ x
+
+-- no step was taken that a plain heap sees; the variables are as they were
+pub record IsSame (x y : SharedMutator) : Type 0 where
+  pub leaves : Across LeavesHeap x.seat y.seat
+  pub world : arc_value y.heap ≡ arc_value x.heap
+
+-- the heap was found full, for good
+abbrev pub IsFull : SharedMutator → Type 0
+IsFull m = KnowsFull (view_of m.seat)
+
+-- the mutator entered, or was inside already
+pub record SharerEntered (x y : SharedMutator) : Type 0 where
+  pub inside : y.place ≡ Inside
+  pub same : IsSame x y
+
+-- the mutator didn't enter, since the heap is full
+abbrev pub CantEnter : Refused → SharedMutator → SharedMutator → Type 0
+CantEnter refusals.Full x y = IsFull y × (x.place ≡ Outside) × (y.place ≡ Outside) × IsSame x y
+CantEnter e x y = ⊥
+
+-- the mutator is outside
+pub record SharerLeft (x y : SharedMutator) : Type 0 where
+  pub outside : y.place ≡ Outside
+  pub same : IsSame x y
+
+-- the mutator was inside the world and is
+pub record HasPassed (x y : SharedMutator) : Type 0 where
+  pub was : x.place ≡ Inside
+  pub inside : y.place ≡ Inside
+  pub same : IsSame x y
+
+-- the mutator was outside, or found the heap full and is outside now
+abbrev pub StaysOut : Refused → SharedMutator → SharedMutator → Type 0
+StaysOut refusals.Outside x y = (x.place ≡ Outside) × (y ≡ x)
+StaysOut refusals.Full x y = IsFull y × (x.place ≡ Inside) × (y.place ≡ Outside) × IsSame x y
+StaysOut e x y = ⊥
+
+-- the mutator collected: in a stop of its own a drain began in which no cell was marked, and after it the cycle ended
+abbrev pub SharerCollected : SharedMutator → SharedMutator → Type 0
+SharerCollected x y = IsTrue (collects (did x.seat y.seat))
+
+-- why none was made: besides, the heap is full, and the mutator outside, or it has made all objects that have numbers
+abbrev pub MakesNone : Refused → Op → SharedMutator → SharedMutator → Type 0
+MakesNone refusals.OutOfRange op x y = (IsInRange (field_count_of x) op → ⊥) × (y ≡ x)
+MakesNone refusals.Outside op x y = (x.place ≡ Outside) × (y ≡ x)
+MakesNone refusals.Full op x y = IsFull y × (x.place ≡ Inside) × (y.place ≡ Outside) × IsSame x y
+MakesNone refusals.Spent op x y = (x.place ≡ Inside) × (y.place ≡ Inside) × IsSame x y
+MakesNone refusals.Nil op x y = ⊥
+
+-- one read found this value in variable v's object
+abbrev pub FindsValue : ℕ → ℕ → View → View → Type 0
+FindsValue v n x y = (0 < word_in x.state v) × Found (ReadValue (word_in x.state v - 1)) n x y
+
+-- why no value is read: besides, the variable refers to nothing
+abbrev pub ReadsNone : Refused → ℕ → SharedMutator → SharedMutator → Type 0
+ReadsNone refusals.OutOfRange v x y = (v < section_variables → ⊥) × (y ≡ x)
+ReadsNone refusals.Outside v x y = (x.place ≡ Outside) × (y ≡ x)
+ReadsNone refusals.Nil v x y = (v < section_variables) × (x.place ≡ Inside) × (y.place ≡ Inside) × (word_in (state_of x.seat) v ≡ 0) × IsSame x y
+ReadsNone e v x y = ⊥

@@ -1,0 +1,10 @@
+-- The sizes that a shared world may have.
+use Rattle.std.specs.Prelude.{◌≡◌, ◌%◌, ◌≤◌}
+use Rattle.mark_core.specs.Cards.{block_cells}
+use Rattle.shared_heap.specs.declared.sizes.SharedSizes.{SharedSizes}
+
+-- each size is in its range
+pub record Fits (s : SharedSizes) : Type 0 where
+  pub cells : (block_cells ≤ s.cells) × (s.cells ≤ 16777216) × (s.cells % block_cells ≡ 0)
+  pub fields : (1 ≤ s.fields) × (s.fields ≤ 16)
+  pub mutators : (1 ≤ s.mutators) × (s.mutators ≤ 32)

@@ -1,0 +1,277 @@
+//! What a mutator of a shared world does.
+ghost use Rattle.std.specs.Arc.{arc_value};
+ghost use Rattle.std.specs.Prelude.{◌≡◌, IfErr, IfOk, IsFalse, IsTrue};
+ghost use Rattle.mark_core.specs.Steps.MutatorSteps.{seat_variable as word_in};
+ghost use Rattle.plain_heap.specs.declared.operation.Op.TheVariants as ops;
+ghost use Rattle.gc_table.specs.Seats.{state_of};
+ghost use Rattle.mutator_ops.specs.Sharing.{LendsFound, SetsVariable, TakesSteps, putting_steps, setting_steps};
+ghost use Rattle.mutator_turns.specs.Sharing.{FollowsField, MakesSharedAfter};
+ghost use Rattle.shared_heap.specs.Calls.{CantEnter, FindsValue, HasPassed, MakesNone, ReadsNone, Refuses, SharerCollected, SharerDoes, SharerEntered, SharerLeft, SharerRefused, StaysOut};
+
+use crate::mutator::{Place, SharedMutator};
+use cache_refills::Unwatched;
+use mark_core::VARIABLES;
+use mutator_turns::{
+    Refused, collect_turn, copy_shared, enter_turn, forget_shared, get_shared, leave_turn,
+    lend_shared, make_shared, pass_turn, put_shared, set_shared, value_shared, word_of,
+};
+use std::sync::Wait;
+
+/// The variable of section 0 that refers to the root.
+const ROOT: u8 = 0;
+
+impl SharedMutator {
+    /// Enters the world, as soon as no collection is under way. Meanwhile it helps to collect. Full comes where the heap is full.
+    pub fn enter<R: Wait>(&mut self, rt: &R) -> Result<(), Refused>
+        ensures entered { IfOk result (λ _. SharerEntered self.old self.new) }
+        ensures refused { IfErr result (λ e. CantEnter e self.old self.new) }
+        ensures world { arc_value self.new.heap ≡ arc_value self.old.heap }
+    {
+        match self.place {
+            Place::Inside => Ok(()),
+            Place::Outside => match enter_turn(rt, &self.heap, &mut self.seat) {
+                Ok(()) => {
+                    self.place = Place::Inside;
+                    Ok(())
+                }
+                Err(full) => Err(full),
+            },
+        }
+    }
+
+    /// Leaves the world, if it is inside. What its variables refer to is kept. It leaves before it waits for anything, since a collection waits for it.
+    pub fn leave(&mut self)
+        ensures left { SharerLeft self.old self.new }
+        ensures world { arc_value self.new.heap ≡ arc_value self.old.heap }
+    {
+        match self.place {
+            Place::Outside => {}
+            Place::Inside => {
+                leave_turn(&self.heap, &mut self.seat);
+                self.place = Place::Outside;
+            }
+        }
+    }
+
+    /// A safe point, which each loop has that runs long and makes nothing. Where a collection is under way the mutator helps until that has ended.
+    pub fn safe_point<R: Wait>(&mut self, rt: &R) -> Result<(), Refused>
+        ensures passed { IfOk result (λ _. HasPassed self.old self.new) }
+        ensures refused { IfErr result (λ e. StaysOut e self.old self.new) }
+        ensures world { arc_value self.new.heap ≡ arc_value self.old.heap }
+    {
+        match self.place {
+            Place::Outside => Err(Refused::Outside),
+            Place::Inside => match pass_turn(rt, &self.heap, &mut self.seat) {
+                Ok(()) => Ok(()),
+                Err(full) => {
+                    self.place = Place::Outside;
+                    Err(full)
+                }
+            },
+        }
+    }
+
+    /// A precise collection: afterwards the cells in use are those of the objects that were reachable while the world stood still. It is a safe point too.
+    pub fn collect<R: Wait>(&mut self, rt: &R) -> Result<(), Refused>
+        ensures passed { IfOk result (λ _. HasPassed self.old self.new) }
+        ensures collected { IfOk result (λ _. SharerCollected self.old self.new) }
+        ensures refused { IfErr result (λ e. StaysOut e self.old self.new) }
+        ensures world { arc_value self.new.heap ≡ arc_value self.old.heap }
+    {
+        match self.place {
+            Place::Outside => Err(Refused::Outside),
+            Place::Inside => match collect_turn(rt, &self.heap, &mut self.seat) {
+                Ok(()) => Ok(()),
+                Err(full) => {
+                    self.place = Place::Outside;
+                    Err(full)
+                }
+            },
+        }
+    }
+
+    /// Makes an object with this value, whose references refer to nothing, and lets variable v refer to it. It is a safe point.
+    pub fn make<R: Wait>(&mut self, rt: &R, v: u8, value: u32) -> Result<(), Refused>
+        ensures made { IfOk result (λ _. SharerDoes (MakesSharedAfter v value) (ops.New v value) self.old self.new) }
+        ensures refused { IfErr result (λ e. MakesNone e (ops.New v value) self.old self.new) }
+        ensures world { arc_value self.new.heap ≡ arc_value self.old.heap }
+    {
+        if v >= VARIABLES {
+            return Err(Refused::OutOfRange);
+        }
+        match self.place {
+            Place::Outside => Err(Refused::Outside),
+            Place::Inside => match make_shared(
+                rt,
+                &self.heap,
+                &mut self.seat,
+                v,
+                value,
+                &mut Unwatched,
+            ) {
+                Ok(()) => Ok(()),
+                Err(Refused::Full) => {
+                    self.place = Place::Outside;
+                    Err(Refused::Full)
+                }
+                Err(other) => Err(other),
+            },
+        }
+    }
+
+    /// Variable w becomes the root: the object that the world made when it was opened, by which its mutators find each other's objects.
+    pub fn root(&mut self, w: u8) -> Result<(), Refused>
+        ensures done { IfOk result (λ _. SharerDoes (LendsFound w 0) (ops.Cat w 0) self.old self.new) }
+        ensures refused { IfErr result (λ e. SharerRefused e (ops.Cat w 0) self.old self.new) }
+        ensures world { arc_value self.new.heap ≡ arc_value self.old.heap }
+    {
+        if w >= VARIABLES {
+            return Err(Refused::OutOfRange);
+        }
+        match self.place {
+            Place::Outside => Err(Refused::Outside),
+            Place::Inside => {
+                lend_shared(&self.heap, &mut self.seat, w, ROOT);
+                Ok(())
+            }
+        }
+    }
+
+    /// Reference i of variable v's object, whoever made it, becomes what variable w refers to. Nothing happens where v refers to nothing.
+    pub fn set(&mut self, v: u8, i: u8, w: u8) -> Result<(), Refused>
+        ensures done { IfOk result (λ _. SharerDoes (TakesSteps (setting_steps (state_of self.old.seat) v i w)) (ops.Set v i w) self.old self.new) }
+        ensures refused { IfErr result (λ e. SharerRefused e (ops.Set v i w) self.old self.new) }
+        ensures world { arc_value self.new.heap ≡ arc_value self.old.heap }
+    {
+        if v >= VARIABLES || w >= VARIABLES || u32::from(i) >= self.heap.shape().fields {
+            return Err(Refused::OutOfRange);
+        }
+        match self.place {
+            Place::Outside => Err(Refused::Outside),
+            Place::Inside => {
+                set_shared(&self.heap, &mut self.seat, v, i, w);
+                Ok(())
+            }
+        }
+    }
+
+    /// Variable w becomes what reference i of variable v's object is found to refer to, or refers to nothing where v does.
+    pub fn get(&mut self, w: u8, v: u8, i: u8) -> Result<(), Refused>
+        ensures done { IfOk result (λ _. SharerDoes (FollowsField w v i) (ops.Get w v i) self.old self.new) }
+        ensures refused { IfErr result (λ e. SharerRefused e (ops.Get w v i) self.old self.new) }
+        ensures world { arc_value self.new.heap ≡ arc_value self.old.heap }
+    {
+        if w >= VARIABLES || v >= VARIABLES || u32::from(i) >= self.heap.shape().fields {
+            return Err(Refused::OutOfRange);
+        }
+        match self.place {
+            Place::Outside => Err(Refused::Outside),
+            Place::Inside => {
+                get_shared(&self.heap, &mut self.seat, w, v, i);
+                Ok(())
+            }
+        }
+    }
+
+    /// Variable w becomes what variable v is.
+    pub fn copy(&mut self, w: u8, v: u8) -> Result<(), Refused>
+        ensures done { IfOk result (λ _. SharerDoes (SetsVariable w (word_in (state_of self.old.seat) v)) (ops.Let w v) self.old self.new) }
+        ensures refused { IfErr result (λ e. SharerRefused e (ops.Let w v) self.old self.new) }
+        ensures world { arc_value self.new.heap ≡ arc_value self.old.heap }
+    {
+        if w >= VARIABLES || v >= VARIABLES {
+            return Err(Refused::OutOfRange);
+        }
+        match self.place {
+            Place::Outside => Err(Refused::Outside),
+            Place::Inside => {
+                copy_shared(&self.heap, &mut self.seat, w, v);
+                Ok(())
+            }
+        }
+    }
+
+    /// Variable v refers to nothing any more.
+    pub fn forget(&mut self, v: u8) -> Result<(), Refused>
+        ensures done { IfOk result (λ _. SharerDoes (SetsVariable v 0) (ops.Nil v) self.old self.new) }
+        ensures refused { IfErr result (λ e. SharerRefused e (ops.Nil v) self.old self.new) }
+        ensures world { arc_value self.new.heap ≡ arc_value self.old.heap }
+    {
+        if v >= VARIABLES {
+            return Err(Refused::OutOfRange);
+        }
+        match self.place {
+            Place::Outside => Err(Refused::Outside),
+            Place::Inside => {
+                forget_shared(&self.heap, &mut self.seat, v);
+                Ok(())
+            }
+        }
+    }
+
+    /// The value of variable v's object, whoever made it, becomes this one. Nothing happens where v refers to nothing.
+    pub fn put(&mut self, v: u8, value: u32) -> Result<(), Refused>
+        ensures done { IfOk result (λ _. SharerDoes (TakesSteps (putting_steps (state_of self.old.seat) v value)) (ops.Put v value) self.old self.new) }
+        ensures refused { IfErr result (λ e. SharerRefused e (ops.Put v value) self.old self.new) }
+        ensures world { arc_value self.new.heap ≡ arc_value self.old.heap }
+    {
+        if v >= VARIABLES {
+            return Err(Refused::OutOfRange);
+        }
+        match self.place {
+            Place::Outside => Err(Refused::Outside),
+            Place::Inside => {
+                put_shared(&self.heap, &mut self.seat, v, value);
+                Ok(())
+            }
+        }
+    }
+
+    /// The value of variable v's object, as one read finds it. Nil where it refers to nothing.
+    pub fn value(&mut self, v: u8) -> Result<u64, Refused>
+        ensures value { IfOk result (λ n. SharerDoes (FindsValue v n) (ops.Say v) self.old self.new) }
+        ensures refused { IfErr result (λ e. ReadsNone e v self.old self.new) }
+        ensures world { arc_value self.new.heap ≡ arc_value self.old.heap }
+    {
+        if v >= VARIABLES {
+            return Err(Refused::OutOfRange);
+        }
+        match self.place {
+            Place::Outside => Err(Refused::Outside),
+            Place::Inside => match value_shared(&self.heap, &mut self.seat, v) {
+                Some(value) => Ok(value),
+                None => Err(Refused::Nil),
+            },
+        }
+    }
+
+    /// Whether variable v refers to nothing.
+    pub fn is_nil(&self, v: u8) -> Result<bool, Refused>
+        ensures nil { IfOk result (λ nil. IsTrue nil → word_in (state_of self.now.seat) v ≡ 0) }
+        ensures some { IfOk result (λ nil. IsFalse nil → word_in (state_of self.now.seat) v ≡ 0 → ⊥) }
+        ensures refused { IfErr result (λ e. Refuses e (ops.Say v) self.now) }
+    {
+        if v >= VARIABLES {
+            return Err(Refused::OutOfRange);
+        }
+        match self.place {
+            Place::Outside => Err(Refused::Outside),
+            Place::Inside => Ok(word_of(&self.seat, v) == 0),
+        }
+    }
+
+    /// Whether variables v and w refer to one object, or both to nothing: their words are the same.
+    pub fn same(&self, v: u8, w: u8) -> Result<bool, Refused>
+        ensures one { IfOk result (λ one. IsTrue one → word_in (state_of self.now.seat) v ≡ word_in (state_of self.now.seat) w) }
+        ensures two { IfOk result (λ one. IsFalse one → word_in (state_of self.now.seat) v ≡ word_in (state_of self.now.seat) w → ⊥) }
+        ensures refused { IfErr result (λ e. Refuses e (ops.Let v w) self.now) }
+    {
+        if v >= VARIABLES || w >= VARIABLES {
+            return Err(Refused::OutOfRange);
+        }
+        match self.place {
+            Place::Outside => Err(Refused::Outside),
+            Place::Inside => Ok(word_of(&self.seat, v) == word_of(&self.seat, w)),
+        }
+    }
+}

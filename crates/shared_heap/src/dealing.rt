@@ -1,0 +1,97 @@
+//! The seats of a new heap are dealt out to mutators.
+ghost use Rattle.std.specs.Arc.{arc_value};
+ghost use Rattle.std.specs.Prelude.{◌≡◌, ◌+◌, ◌<◌, ◌≤◌, All, IfOk, IsTrue, vec_len};
+ghost use Rattle.mutator_turns.specs.Standing.{RestsOutside};
+ghost use Rattle.shared_heap.specs.Lending.{IsFreshSharer, IsSharedOpened};
+ghost use Rattle.shared_heap.specs.Opening.{AreNew, IsNewSeat};
+ghost use Rattle.shared_heap.specs.Sizing.{Fits};
+
+use crate::mutator::{Place, SharedMutator};
+use crate::opening::{next_seat, open, open_turn};
+use crate::sizes::SharedSizes;
+use crate::world::SharedWorld;
+use gc_table::{Heap, HeapSeat};
+use mutator_turns::NotOpened;
+use std::alloc::{AllocError, Global};
+use std::sync::Arc;
+
+/// A mutator that has done nothing.
+fn mutator_of(heap: &Arc<Heap, Global>, seat: HeapSeat, _k: u32) -> Result<SharedMutator, AllocError>
+    requires seat { IsNewSeat (arc_value heap.now) _k seat }
+    requires section { (0 < _k) × (_k < (arc_value heap.now).shape.sections) }
+    requires shared { IsTrue (arc_value heap.now).shape.sharing }
+    ensures fresh { IfOk result (IsFreshSharer (arc_value heap.now)) }
+{
+    Ok(SharedMutator {
+        heap: Arc::try_clone(heap)?,
+        seat,
+        place: Place::Outside,
+    })
+}
+
+/// Deals so many seats out to mutators, one after the other.
+fn deal_mutators(
+    alloc: Global,
+    heap: &Arc<Heap, Global>,
+    mutators: u32,
+    seats: &mut Vec<HeapSeat>,
+) -> Result<Vec<SharedMutator>, AllocError>
+    requires new { AreNew (arc_value heap.now) 1 seats.old.items }
+    requires enough { mutators ≤ vec_len seats.old }
+    requires sections { ((arc_value heap.now).shape.sections ≡ 1 + mutators) × (mutators ≤ 32) }
+    requires shared { IsTrue (arc_value heap.now).shape.sharing }
+    ensures fresh { IfOk result (λ r. All (IsFreshSharer (arc_value heap.now)) r.items) }
+    ensures count { IfOk result (λ r. vec_len r ≡ mutators) }
+{
+    let mut all = Vec::new(alloc);
+    for at in 0..mutators {
+        let seat = next_seat(seats);
+        let mutator = mutator_of(heap, seat, 1 + at)?;
+        all.push(mutator)?;
+    }
+    Ok(all)
+}
+
+/// A world over this heap.
+fn share(
+    alloc: Global,
+    heap: Heap,
+    zero: HeapSeat,
+    seats: &mut Vec<HeapSeat>,
+    sizes: SharedSizes,
+) -> Result<SharedWorld, AllocError>
+    requires fits { Fits sizes }
+    requires zero { RestsOutside heap zero }
+    requires new { AreNew heap 1 seats.old.items }
+    requires count { vec_len seats.old ≡ sizes.mutators }
+    requires shared { IsTrue heap.shape.sharing }
+    requires shape { (heap.shape.fields ≡ sizes.fields) × (heap.shape.sections ≡ 1 + sizes.mutators) }
+    ensures opened { IfOk result (λ w. IsSharedOpened sizes w) }
+{
+    let heap = Arc::new(alloc, heap)?;
+    let mutators = deal_mutators(alloc, &heap, sizes.mutators, seats)?;
+    Ok(SharedWorld {
+        heap,
+        zero,
+        mutators,
+    })
+}
+
+/// A world of these sizes, which fit.
+pub fn open_fitting(alloc: Global, sizes: SharedSizes) -> Result<SharedWorld, NotOpened>
+    requires fits { Fits sizes }
+    ensures opened { IfOk result (λ w. IsSharedOpened sizes w) }
+{
+    let (heap, mut seats) = match open(alloc, &sizes) {
+        Ok(made) => made,
+        Err(_) => return Err(NotOpened::OutOfMemory),
+    };
+    let mut zero = next_seat(&mut seats);
+    if !open_turn(&heap, &mut zero) {
+        return Err(NotOpened::OutOfMemory);
+    }
+    match share(alloc, heap, zero, &mut seats, sizes) {
+        Ok(world) => Ok(world),
+        Err(_) => Err(NotOpened::OutOfMemory),
+    }
+}

@@ -1,0 +1,40 @@
+//! A heap whose objects all its mutators share, and which collects its own garbage.
+//!
+//! A [`SharedWorld`] is a heap; a thread acts on it through a [`SharedMutator`], which has 32 variables of its own. All mutators begin at one object, the
+//! *root*, which the world makes when it is opened ([`SharedMutator::root`]). What one stores in a field, the others find there.
+//!
+//!     let mut world = SharedWorld::open(alloc, SharedSizes::of_cells(1024).fields(2).mutators(2))?;
+//!     let mut m = world.mutator()?;
+//!     m.enter(&rt)?;
+//!     m.root(0)?;              // variable 0 refers to the root
+//!     m.make(&rt, 1, 7)?;      // variable 1 refers to a new object with value 7
+//!     m.set(0, 1, 1)?;         // field 1 of the root refers to it: from now on any mutator may find it there
+//!     m.leave();
+//!
+//! # What a mutator is told
+//!
+//! A call is told by the *steps* that it takes, each an atomic operation on one word, and by what they found. There is one order of all steps of all
+//! mutators, in which each mutator's come in its own order, and which a plain heap explains that forgets nothing: the crate `shared_runs` proves this of every run.
+//! It is sequential consistency: what a thread learns of another outside the heap says nothing about that order.
+//!
+//! # Where things are
+//!
+//! `sizes` has the sizes, `opening` makes a heap with its root, `lending` opens it and deals its mutators out, `world` is the type, `closing` closes it, and `calls` has what a mutator does.
+#![tactic(auto)]
+
+mod calls;
+mod closing;
+mod dealing;
+mod lending;
+mod mutator;
+mod opening;
+mod planning;
+mod sizes;
+mod world;
+
+pub use closing::NotClosed;
+pub use gc_table::Words;
+pub use mutator::{Place, SharedMutator};
+pub use mutator_turns::{NotOpened, Refused};
+pub use sizes::SharedSizes;
+pub use world::SharedWorld;

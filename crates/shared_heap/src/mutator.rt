@@ -1,0 +1,33 @@
+//! A mutator of a shared world in the hand of one thread.
+ghost use Rattle.std.specs.Arc.{arc_value};
+ghost use Rattle.std.specs.Prelude.{◌≡◌, IsTrue};
+ghost use Rattle.mutator_turns.specs.Standing.{IsAtTurn, IsMutatorOutside};
+ghost use Rattle.shared_heap.specs.declared.mutator.Place.TheVariants as places;
+
+use gc_table::{Heap, HeapSeat};
+use std::alloc::Global;
+use std::sync::Arc;
+
+/// Where a mutator stands.
+#[derive(Clone, Copy, Debug, PartialEq, Eq, Drop)]
+pub enum Place {
+    /// Outside the world: a stop doesn't wait for it.
+    Outside,
+    /// In the world, at its turn.
+    Inside,
+}
+
+/// What one thread acts on the shared objects with: 32 variables, 0 to 31, which are its roots. It begins outside the world. Before it is let go it is to
+/// leave: a stop waits for each mutator that is inside.
+#[derive(Drop)]
+pub struct SharedMutator {
+    /// The world's heap.
+    pub(crate) heap: Arc<Heap, Global>,
+    /// The seat of its section, which has its variables.
+    pub(crate) seat: HeapSeat,
+    /// Whether it is in the world.
+    pub(crate) place: Place,
+    ghost shared: { IsTrue (arc_value heap).shape.sharing },
+    ghost outside: { place ≡ places.Outside → IsMutatorOutside (arc_value heap) seat },
+    ghost inside: { place ≡ places.Inside → IsAtTurn (arc_value heap) seat },
+}

@@ -1,0 +1,160 @@
+//! A heap with its seats, the root, and the mutators' turn. Nothing waits: in a new heap nobody is inside.
+ghost use Rattle.std.specs.Prelude.{◌≡◌, ◌+◌, ◌<◌, ◌∷◌, IfOk, IsTrue, vec_len};
+ghost use Rattle.std.specs.Bool.{OnTrue};
+ghost use Rattle.mark_core.specs.Shapes.{IsShape};
+ghost use Rattle.mutator_turns.specs.Standing.{RestsOutside};
+ghost use Rattle.shared_heap.specs.Opening.{AreNew, HasFirstCache, HasRoot, IsAloneInIdle, IsAtFirstTurn, IsNewSeat, StopsWithRoot};
+ghost use Rattle.shared_heap.specs.Sizing.{Fits};
+
+use crate::planning::RootPlan;
+use crate::sizes::SharedSizes;
+use alloc_cache::{Cache, claim, leave_with_seat, retire};
+use cache_refills::{Pass, try_enter};
+use gc_cycle::{ask_to_stop, finds_stopped};
+use gc_table::{Heap, HeapSeat};
+use mark_core::{Phase, Shape};
+use mutator_ops::share_create;
+use mutator_turns::NotOpened;
+use seat_turns::is_turn;
+use std::alloc::Global;
+use stop_world::{leave, resume};
+
+/// How many packets there are, and how many cells each has room for.
+const PACKETS: u32 = 64;
+const ENTRIES: u32 = 32;
+
+/// The sizes of the heap: a section for each mutator besides section 0, which has the root.
+fn shape_of(sizes: &SharedSizes) -> Shape
+    requires fits { Fits sizes.now }
+    ensures shape { IsShape result }
+    ensures fields { result.fields ≡ sizes.now.fields }
+    ensures shared { IsTrue result.sharing }
+    ensures sections { result.sections ≡ 1 + sizes.now.mutators }
+    ensures objects { result.objects ≡ 4294967295 }
+{
+    Shape {
+        cells: sizes.cells,
+        packets: PACKETS,
+        entries: ENTRIES,
+        sections: 1 + sizes.mutators,
+        fields: sizes.fields,
+        objects: u32::MAX,
+        sharing: true,
+    }
+}
+
+/// The heap, with a seat for each section.
+pub fn open(alloc: Global, sizes: &SharedSizes) -> Result<(Heap, Vec<HeapSeat>), NotOpened>
+    requires fits { Fits sizes.now }
+    ensures fields { IfOk result (λ r. r.0.shape.fields ≡ sizes.now.fields) }
+    ensures shared { IfOk result (λ r. IsTrue r.0.shape.sharing) }
+    ensures objects { IfOk result (λ r. r.0.shape.objects ≡ 4294967295) }
+    ensures sections { IfOk result (λ r. r.0.shape.sections ≡ 1 + sizes.now.mutators) }
+    ensures count { IfOk result (λ r. vec_len r.1 ≡ 1 + sizes.now.mutators) }
+    ensures seats { IfOk result (λ r. AreNew r.0 0 r.1.items) }
+{
+    let shape = shape_of(sizes);
+    match Heap::create(alloc, shape, shape.sections, &RootPlan) {
+        Ok(made) => Ok(made),
+        Err(_) => Err(NotOpened::OutOfMemory),
+    }
+}
+
+/// The first of the seats that are left.
+pub fn next_seat(seats: &mut Vec<HeapSeat>) -> HeapSeat
+    requires some { 0 < vec_len seats.old }
+    ensures first { seats.old.items ≡ result ∷ seats.new.items }
+    ensures count { vec_len seats.new + 1 ≡ vec_len seats.old }
+{
+    seats.remove(0)
+}
+
+/// Goes in at the turn of section 0. False where the heap isn't new.
+fn goes_in(heap: &Heap, seat: &mut HeapSeat) -> bool
+    requires new { IsNewSeat heap.now 0 seat.old × (0 < heap.now.shape.sections) }
+    ensures { OnTrue result (IsAtFirstTurn heap.now seat.new) }
+{
+    match try_enter(heap, seat) {
+        Pass::Going => is_turn(heap, seat, 0),
+        _ => false,
+    }
+}
+
+/// Makes the root in this cache, which it gives up.
+fn makes_in(heap: &Heap, seat: &mut HeapSeat, cache: Cache) -> bool
+    requires turn { HasFirstCache heap.now cache seat.old }
+    requires shared { IsTrue heap.now.shape.sharing }
+    requires room { 0 < heap.now.shape.objects }
+    ensures { OnTrue result (HasRoot heap.now seat.new) }
+{
+    let mut cache = cache;
+    match share_create(heap, seat, &mut cache, 0, 0) {
+        None => {
+            leave_with_seat(cache);
+            false
+        }
+        Some(_) => {
+            retire(heap, seat, cache);
+            true
+        }
+    }
+}
+
+/// Makes the root in variable 0 of section 0. False where no cell is free.
+fn makes_root(heap: &Heap, seat: &mut HeapSeat) -> bool
+    requires turn { IsAtFirstTurn heap.now seat.old }
+    requires shared { IsTrue heap.now.shape.sharing }
+    requires room { 0 < heap.now.shape.objects }
+    ensures { OnTrue result (HasRoot heap.now seat.new) }
+{
+    match claim(heap, seat) {
+        None => false,
+        Some(cache) => makes_in(heap, seat, cache),
+    }
+}
+
+/// Stops the world, as it is found at once: true where no cycle is under way.
+fn stops(heap: &Heap, seat: &mut HeapSeat) -> bool
+    requires root { HasRoot heap.now seat.old }
+    ensures { OnTrue result (StopsWithRoot heap.now seat.new) }
+{
+    if !ask_to_stop(heap, seat, 0) || !finds_stopped(heap, seat) {
+        return false;
+    }
+    match seat.state().phase_seen {
+        Some(Phase::Idle) => true,
+        _ => false,
+    }
+}
+
+/// Section 0 ends its turn.
+fn turn(heap: &Heap, seat: &mut HeapSeat)
+    requires { StopsWithRoot heap.now seat.old }
+    ensures { IsAloneInIdle heap.now seat.new }
+{
+    heap.next_season(seat);
+}
+
+/// The world goes on, and the seat is outside.
+fn goes_on(heap: &Heap, seat: &mut HeapSeat)
+    requires { IsAloneInIdle heap.now seat.old }
+    ensures { RestsOutside heap.now seat.new }
+{
+    resume(heap, seat);
+    leave(heap, seat);
+}
+
+/// Makes the root and opens the mutators' turn with the seat of section 0. False where another seat is at work, which is not so in a new heap.
+pub fn open_turn(heap: &Heap, seat: &mut HeapSeat) -> bool
+    requires new { IsNewSeat heap.now 0 seat.old × (0 < heap.now.shape.sections) }
+    requires shared { IsTrue heap.now.shape.sharing }
+    requires room { 0 < heap.now.shape.objects }
+    ensures { OnTrue result (RestsOutside heap.now seat.new) }
+{
+    if !goes_in(heap, seat) || !makes_root(heap, seat) || !stops(heap, seat) {
+        return false;
+    }
+    turn(heap, seat);
+    goes_on(heap, seat);
+    true
+}

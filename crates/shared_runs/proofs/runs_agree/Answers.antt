@@ -1,0 +1,5 @@
+use Rattle.shared_runs.proofs.Kept.{runs-agree}
+use Rattle.shared_runs.proofs.runs_agree.Goals as goal
+
+pub returns : goal.returns
+returns c = runs-agree
