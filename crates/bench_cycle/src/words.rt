@@ -59,6 +59,7 @@ fn shape_of(cells: u32) -> Shape
         sections: 1,
         fields: 4,
         objects: 2_000_000,
+        sharing: false,
     }
 }
 

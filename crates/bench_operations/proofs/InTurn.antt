@@ -3,6 +3,7 @@ use Rattle.std.proofs.Common.{ℕ, ◌≡◌, ◌≤◌, ◌%◌, length, arith,
 use Rattle.mark_core.specs.Seats.{has_making, may_mutate, work_in_hand}
 use Rattle.mark_core.specs.declared.kinds.Phase.TheVariants.{Marking}
 use Rattle.mark_core.specs.declared.kinds.Step.TheVariants.{ReadSeason}
+use Rattle.mark_core.specs.declared.kinds.Shape.{Shape}
 use Rattle.mark_core.specs.declared.seat.SeatState.{SeatState}
 use Rattle.gc_table.specs.declared.view.View.{View}
 use Rattle.gc_table.specs.PlainSteps.{HasSeenPhase}
@@ -20,6 +21,7 @@ in-turn v w n shaped is none e even =
     let s = state-after sizes v w (inside sizes 0) ReadSeason n shaped is e in
     let made : w.state.made ≡ 0 = ap (λ (t : SeatState). t.made) s in (
       record {
+        owned = ap (λ (u : View). u.shape.sharing) e ∙ ap (λ (sh : Shape). sh.sharing) shaped;
         stores =
             record {
               turn = ap (λ (t : SeatState). may_mutate t) s ∙ even;

@@ -23,6 +23,7 @@ pub const SIZES: Shape = Shape {
     sections: 1,
     fields: 4,
     objects: 2_000_000,
+    sharing: false,
 };
 
 /// A heap in which nothing has happened, and its seat, which is the catalogue's. None where there is no memory.

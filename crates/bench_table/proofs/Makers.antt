@@ -97,7 +97,8 @@ asks-new h y p t env cache made c r seen at objects free is =
 -- there is one object more after it
 pub one-more :
     (y z : HeapSeat) (r n : ℕ)
+    → IsFalse (view_of y).shape.sharing
     → Asks (view_of y).state (view_of y).own.meaning (seen_by (view_of y).shape (view_of y).plan (view_of y).state) (StoreRoot 0 r) (New 0 n)
     → IsPlainStep (StoreRoot 0 r) (view_of y) (view_of z)
     → objects_of z ≡ objects_of y + 1
-one-more y z r n asks plain = ap (λ (x : Plain). length x.objects) (plain (New 0 n) asks) ∙ length-append (view_of y).own.meaning.heap.objects (new_object n ∷ [])
+one-more y z r n alone asks plain = ap (λ (x : Plain). length x.objects) (plain alone (New 0 n) asks) ∙ length-append (view_of y).own.meaning.heap.objects (new_object n ∷ [])

@@ -1,5 +1,5 @@
 -- The records of the seat, as it takes the steps that are timed.
-use Rattle.std.specs.Prelude.{ℕ, ◌≡◌, ◌/◌, true, Some}
+use Rattle.std.specs.Prelude.{ℕ, ◌≡◌, ◌/◌, true, false, Some}
 use Rattle.mark_core.specs.Cards.{card_cells}
 use Rattle.mark_core.specs.Start.{start_seat}
 use Rattle.mark_core.specs.declared.kinds.Phase.TheVariants.{Marking}
@@ -11,7 +11,7 @@ use Rattle.gc_table.specs.Seats.{Sits, view_of}
 
 -- 64 blocks of 64 cells, and objects of two fields
 abbrev pub sizes : Shape
-sizes = record { cells = 4096; packets = 2; entries = 2; sections = 1; fields = 2; objects = 2000000 }
+sizes = record { cells = 4096; packets = 2; entries = 2; sections = 1; fields = 2; objects = 2000000; sharing = false }
 
 -- how many blocks a heap has
 abbrev pub blocks_in_all : ℕ

@@ -25,6 +25,7 @@ pub const SIZES: Shape = Shape {
     sections: 1,
     fields: 2,
     objects: 2_000_000,
+    sharing: false,
 };
 
 /// A heap in which nothing has happened, and its seat. None where there is no memory.

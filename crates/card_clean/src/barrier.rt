@@ -1,17 +1,13 @@
 //! A mutator's stores in objects.
-ghost use Rattle.std.specs.Prelude.{◌≡◌, ◌<◌, None, IsFalse, IsTrue};
-ghost use Rattle.mark_core.specs.declared.kinds.Step.TheVariants.{StoreField, StoreValue, ExchangeValue};
-ghost use Rattle.gc_table.specs.Seats.{Across, Answered, did, Sits, state_of, Stored, view_of};
-ghost use Rattle.gc_table.specs.Taking.{won};
+ghost use Rattle.std.specs.Prelude.{◌≡◌, ◌<◌, None, IsFalse};
+ghost use Rattle.mark_core.specs.declared.kinds.Step.TheVariants.{StoreField, StoreValue};
+ghost use Rattle.gc_table.specs.Seats.{Across, did, Sits, state_of, Stored, view_of};
 ghost use Rattle.gc_table.specs.Sections.{section_after};
-ghost use Rattle.card_clean.specs.Barrier.{Exchanged, HasOwn, IsStorable, MayStore, barrier_steps, field_stored, record_stored, value_stored};
+ghost use Rattle.card_clean.specs.Barrier.{HasOwn, IsStorable, MayStore, barrier_steps, field_stored, record_stored, value_stored};
 ghost use Rattle.gc_table.specs.Log.{steps_of};
-ghost use Rattle.mark_core.specs.Numbers.{section_variables};
-ghost use Rattle.mark_core.specs.Steps.MutatorSteps.{in_variables, seat_variable as word_in};
 ghost use Rattle.gc_table.specs.Running.{Ran};
 
 use gc_table::{Heap, HeapSeat};
-use mark_core::variable_or_nil;
 
 /// The barrier: field `field` of variable v's object becomes what variable w is, or nil where `w` is None, and then the object's card is dirtied. The
 /// seat owes no card when the call returns.
@@ -64,82 +60,4 @@ pub fn store_value(heap: &Heap, seat: &mut HeapSeat, v: u8, value: u32)
     ensures plain { (view_of seat.new).own.meaning.heap ≡ value_stored (view_of seat.old).own.meaning.heap v value }
 {
     heap.store_value(seat, v, value);
-}
-
-/// The barrier where objects are shared: field `field` of variable v's object, whoever made it, becomes what variable w is, or nil where `w` is None, and
-/// then the object's card is dirtied, as [`store_ref`] does it. Variable v isn't nil.
-///
-/// The store is done at the first of its steps. Other mutators may read and store in the object before and after it, and between it and the step that
-/// dirties the card; no collection ends between the two, since the seat is inside.
-pub fn share_ref(heap: &Heap, seat: &mut HeapSeat, v: u8, field: u8, w: Option<u8>)
-    requires seat { Sits heap.now seat.old × MayStore (view_of seat.old) }
-    requires shared { IsTrue (view_of seat.old).shape.sharing }
-    requires some { (v < section_variables) × (0 < word_in (state_of seat.old) v) }
-    requires field { field < heap.now.shape.fields }
-    requires stored { IsTrue (in_variables w) }
-    ensures seat { Sits heap.now seat.new × MayStore (view_of seat.new) }
-    ensures ran { Across Ran seat.old seat.new }
-    ensures steps { steps_of (did seat.old seat.new) ≡ barrier_steps (state_of seat.old) v field w }
-    ensures state { state_of seat.new ≡ record_stored (state_of seat.old) v }
-    ensures own { (view_of seat.new).own ≡ section_after (view_of seat.old).shape (view_of seat.old).plan (state_of seat.old) (StoreField v field w) (view_of seat.old).own }
-{
-    heap.store_field(seat, v, field, w);
-    if let Some(card) = seat.state().owes {
-        heap.dirty_card(seat, card);
-    }
-}
-
-/// The value of variable v's object, whoever made it, becomes this one. Of the seat and of variable v it asks what [`share_ref`] asks.
-pub fn share_value(heap: &Heap, seat: &mut HeapSeat, v: u8, value: u32)
-    requires seat { Sits heap.now seat.old × MayStore (view_of seat.old) }
-    requires shared { IsTrue (view_of seat.old).shape.sharing }
-    requires some { (v < section_variables) × (0 < word_in (state_of seat.old) v) }
-    ensures seat { Sits heap.now seat.new × MayStore (view_of seat.new) }
-    ensures ran { Across Ran seat.old seat.new }
-    ensures view { Across (Stored (StoreValue v value)) seat.old seat.new }
-{
-    heap.store_value(seat, v, value);
-}
-
-/// The barrier of an exchange, where objects are shared: where field `field` of variable v's object is what variable `expected` is, or nil, it becomes what
-/// variable `new` is, or nil, and then the object's card is dirtied, as [`share_ref`] does it; else nothing is done. True where it was as expected.
-///
-/// Of several mutators that expect the same one alone gets true: the exchange is one step, its first.
-pub fn exchange_ref(
-    heap: &Heap,
-    seat: &mut HeapSeat,
-    v: u8,
-    field: u8,
-    expected: Option<u8>,
-    new: Option<u8>,
-) -> bool
-    requires seat { Sits heap.now seat.old × MayStore (view_of seat.old) }
-    requires shared { IsTrue (view_of seat.old).shape.sharing }
-    requires some { (v < section_variables) × (0 < word_in (state_of seat.old) v) }
-    requires field { field < heap.now.shape.fields }
-    requires expected { IsTrue (in_variables expected) }
-    requires stored { IsTrue (in_variables new) }
-    ensures seat { Sits heap.now seat.new × MayStore (view_of seat.new) }
-    ensures ran { Across Ran seat.old seat.new }
-    ensures exchanged { Across (Exchanged v field expected new result) seat.old seat.new }
-{
-    let word = u64::from(variable_or_nil(seat.state(), expected));
-    let found = heap.exchange_field(seat, v, field, expected, new);
-    if let Some(card) = seat.state().owes {
-        heap.dirty_card(seat, card);
-    }
-    found == word
-}
-
-/// Where the value of variable v's object is the expected one it becomes the new one: true where it was. Of the seat and of variable v it asks what
-/// [`share_ref`] asks.
-pub fn exchange_value(heap: &Heap, seat: &mut HeapSeat, v: u8, expected: u32, new: u32) -> bool
-    requires seat { Sits heap.now seat.old × MayStore (view_of seat.old) }
-    requires shared { IsTrue (view_of seat.old).shape.sharing }
-    requires some { (v < section_variables) × (0 < word_in (state_of seat.old) v) }
-    ensures seat { Sits heap.now seat.new × MayStore (view_of seat.new) }
-    ensures ran { Across Ran seat.old seat.new }
-    ensures view { Across (Answered (ExchangeValue v expected new) (λ n. result ≡ won (ExchangeValue v expected new) n)) seat.old seat.new }
-{
-    heap.exchange_value(seat, v, expected, new)
 }

@@ -30,7 +30,7 @@
 //!
 //! # Where things are
 //!
-//! - `barrier`: a mutator's stores;
+//! - `barrier`: a mutator's stores; `sharing`: its stores and exchanges where objects are shared;
 //! - `cleaning`: one card is cleaned; `rescanning` scans its cells; `cleaned` has the answers; `one_card` takes a packet for it;
 //! - `card_pass`: the next card of the cycle's pass; `dirty_cards`: all cards, and those that are dirty;
 //! - `roots` and `drain_end`: what the end of a drain needs besides cards; `taking` takes a packet for a cleaning.
@@ -48,9 +48,10 @@ mod drain_end;
 mod one_card;
 mod rescanning;
 mod roots;
+mod sharing;
 mod taking;
 
-pub use barrier::{exchange_ref, exchange_value, share_ref, share_value, store_ref, store_value};
+pub use barrier::{store_ref, store_value};
 pub use card_pass::next_card;
 pub use cleaned::Cleaned;
 pub use cleaning::clean_card;
@@ -58,3 +59,4 @@ pub use dirty_cards::clean_dirty;
 pub use drain_end::is_drained;
 pub use one_card::clean_one;
 pub use roots::see_to_roots;
+pub use sharing::{exchange_ref, exchange_value, share_ref, share_value};

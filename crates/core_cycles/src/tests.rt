@@ -21,6 +21,7 @@ const SMALL: Shape = Shape {
     sections: 2,
     fields: 4,
     objects: 2_000_000,
+    sharing: false,
 };
 
 /// One packet more than fit into a word of a pool.

@@ -43,6 +43,7 @@ seated-ran h s w x y r sits out p =
     let u : View = view_of y in
     record {
       rests = out-rests h y sits out;
+      owned = ap (λ (sh : Shape). sh.sharing) (ran-shape v u r) ∙ p.owned;
       number = ran-number v u r ∙ p.number;
       section = ran-section v u r ∙ p.section;
       plan_is = ran-plan v u r ∙ p.plan_is;
@@ -50,7 +51,7 @@ seated-ran h s w x y r sits out p =
     }
 
 pub are-of : (h : Heap) (s : Sections) (w : ℕ) (x : HeapSeat) → IsSeated h s w x → AreOf s (section_of s w) (view_of x)
-are-of h s w x p = record { same = refl; plan = p.plan_is; fields = p.fields; own = p.section }
+are-of h s w x p = record { owned = p.owned; same = refl; plan = p.plan_is; fields = p.fields; own = p.section }
 
 -- a section that played the parts before may play the next
 pub may-play : (h : Heap) (s : Sections) (w z : ℕ) (m : Mutator) → 0 < z → (IsTrue (w == 0) → IsFalse (list_any (λ e. lends e.op) (joined (parts_of s w)))) → PlayedTo h s w (z - 1) m → MayPlay h (section_of s w) z m

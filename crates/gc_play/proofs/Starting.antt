@@ -31,6 +31,7 @@ module _ (h : Heap) (s : Sections) (n : ℕ) (x : HeapSeat) (new : IsNewSeatOfPl
   new-seated low =
       record {
         rests = new-rests;
+        owned = ap (λ (y : Shape). y.sharing) new.fresh.shape ∙ new.owned;
         number = ap (λ (y : SeatState). y.number) new.fresh.state;
         section = ap (λ (y : SeatState). y.section) new.fresh.state ∙ ap (λ (b : Bool). cond b (Some n) None) (lt-ltb n h.shape.sections (omega (arith, low, new.sections)));
         plan_is = new.fresh.plan_is;

@@ -1,5 +1,5 @@
 -- All seats of a play, in the hands of those that play.
-use Rattle.std.specs.Prelude.{ℕ, zero, suc, ◌≡◌, ◌+◌, ◌-◌, ◌*◌, ◌<◌, ◌≤◌, ◌⊎◌, List, [], ◌++◌, length, map, All, false, None, Some, IsNone, IsTrue, slice_index_or}
+use Rattle.std.specs.Prelude.{ℕ, zero, suc, ◌≡◌, ◌+◌, ◌-◌, ◌*◌, ◌<◌, ◌≤◌, ◌⊎◌, List, [], ◌++◌, length, map, All, false, None, Some, IsNone, IsTrue, IsFalse, slice_index_or}
 use Rattle.plain_heap.specs.Sections.{Sections, end_of}
 use Rattle.plain_heap.specs.PlainRun.{plan_of}
 use Rattle.play_report.specs.Report.{printed_of}
@@ -34,12 +34,14 @@ Numbered {X} P n xs = (i : ℕ) (d : X) → i < length xs → P (n + i) (slice_i
 pub record IsNewSeatOfPlay (h : Heap) (s : Sections) (n : ℕ) (x : HeapSeat) : Type 0 where
   pub sits : Sits h x
   pub fresh : IsFresh h.shape (plan_of s) n (view_of x)
+  pub owned : IsFalse h.shape.sharing
   pub sections : h.shape.sections ≡ 1 + length s.warehouses
   pub fields : h.shape.fields ≡ s.fields
   pub objects : h.shape.objects ≡ 2000000
 
 -- a heap that was made for a script, with all its seats
 pub record IsMadeForScript (s : Sections) (h : Heap) (xs : List HeapSeat) : Type 0 where
+  pub owned : IsFalse h.shape.sharing
   pub fields : h.shape.fields ≡ s.fields
   pub sections : h.shape.sections ≡ 1 + length s.warehouses
   pub enough : 1 + length s.warehouses ≤ length xs

@@ -1,5 +1,5 @@
 -- Where a section stands between two parts.
-use Rattle.std.specs.Prelude.{ℕ, ◌≡◌, drop, IsTrue, None, Some}
+use Rattle.std.specs.Prelude.{ℕ, ◌≡◌, drop, IsTrue, IsFalse, None, Some}
 use Rattle.mark_core.specs.Steps.WorldSteps.{has_nothing}
 use Rattle.plain_heap.specs.Sections.{Sections, joined, parts_of}
 use Rattle.plain_heap.specs.PlainRun.{plan_of}
@@ -18,9 +18,10 @@ pub record Rests (h : Heap) (s : HeapSeat) : Type 0 where
   pub outside : IsOutside (view_of s)
   pub idle : IsTrue (has_nothing h.shape (view_of s).state)
 
--- the seat of section w, at rest
+-- the seat of section w, at rest, in a heap whose objects aren't shared
 pub record IsSeated (h : Heap) (s : Sections) (w : ℕ) (x : HeapSeat) : Type 0 where
   pub rests : Rests h x
+  pub owned : IsFalse (view_of x).shape.sharing
   pub number : (view_of x).state.number ≡ w
   pub section : (view_of x).state.section ≡ Some w
   pub plan_is : (view_of x).plan ≡ plan_of s

@@ -48,6 +48,7 @@ fn shape_of(script: &Script<'_>, options: &Options) -> Shape
         sections: count_sections(script),
         fields: script.fields(),
         objects: 2_000_000,
+        sharing: false,
     }
 }
 

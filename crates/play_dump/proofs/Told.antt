@@ -100,7 +100,7 @@ module _ (s : Sections) (r : Report) (w : Words) (e : IsEndOf s r w) where
       ap (slice_index (the_words x).roots) place ∙ ap (λ (l : List ℕ). slice_index l (32 * i + v)) (sym (roots-are s e.shape e.seats w e.closed)) in
       told numbers h n held i (slice_index w.roots.items (32 * i + v)) (variable (last_heap s i) v)
       (subst (λ (t : Ref). WordAgrees (the_words x).identities (object_count (meanings_of x.sections)) i (slice_index w.roots.items (32 * i + v)) t) same
-      (subst (λ (t : ℕ). WordAgrees (the_words x).identities (object_count (meanings_of x.sections)) i t (variable m.heap v)) word (e.closed.end.whole.stands.roots_agree i m there v low)))
+      (subst (λ (t : ℕ). WordAgrees (the_words x).identities (object_count (meanings_of x.sections)) i t (variable m.heap v)) word ((e.closed.end.whole.stands o.heap.owned).roots_agree i m there v low)))
       (λ c goes. root-reaches (32 * i + v) c inside goes)
 
   -- so many fields
@@ -176,4 +176,4 @@ module _ (s : Sections) (r : Report) (w : Words) (e : IsEndOf s r w) where
       let cell = (survivor-cell s r w e j y at).0 in
       let m : Meaning = cell.2.0 in
       let alike = last-alike s e.shape.cells x y.section m (stands s r w e) cell.2.1 in
-      (e.closed.end.whole.stands.numbered y.section m cell.2.1).4 y.number o (ap (λ (os : List Object). slice_get os y.number) (alike-objects m.heap (last_heap s y.section) alike) ∙ there)
+      ((e.closed.end.whole.stands (stands s r w e).heap.owned).numbered y.section m cell.2.1).4 y.number o (ap (λ (os : List Object). slice_get os y.number) (alike-objects m.heap (last_heap s y.section) alike) ∙ there)

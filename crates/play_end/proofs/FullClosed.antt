@@ -2,7 +2,7 @@
 use Rattle.std.proofs.Common.{◌≡◌, inl, inr, ℕ, zero, suc, ◌-◌, ◌<◌, ◌≤◌, ap, sym, ◌∙◌, arith, List, length}
 use Rattle.std.specs.Prelude.{slice_index}
 use Rattle.std.specs.List.{All}
-use Rattle.std.proofs.lemmas.List.{length-map, get_or_default}
+use Rattle.std.proofs.lemmas.List.{get_or_default}
 use Rattle.std.proofs.lemmas.List.Sums.{get_or-le-sum_by}
 use Rattle.std.proofs.lemmas.Option.{slice_get-get_or}
 use Rattle.mark_core.specs.Bits.{reference_in}
@@ -89,7 +89,7 @@ ends-full s cells sh seats w z k stopped full = record { count = p.sections; few
     }
       where
         sections-count : length x.sections ≡ length (section_numbers s)
-        sections-count = sym (length-map x.sections (λ (y : SectionState). y.meaning)) ∙ (h.whole.stands.sections ∙ h.sections)
+        sections-count = h.whole.sections ∙ h.sections
 
     few : All (λ q. q ≤ executed_total s) w.positions.items
     few j d inside =

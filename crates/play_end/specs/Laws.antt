@@ -87,7 +87,7 @@ pub record FullIsKnown : Type 0 where
 -- by a seat's own view, its section's places so far are legal on what the seat can tell
 abbrev pub PlacesSoFarAreLegal : Type 0
 PlacesSoFarAreLegal =
-    (s : Sections) (w k cells : ℕ) (v : View) → IsPossible v → v.shape.cells ≡ cells → v.shape.fields ≡ s.fields → v.plan ≡ plan_of s → v.state.section ≡ Some w → HasDone s w k v.own
+    (s : Sections) (w k cells : ℕ) (v : View) → IsPossible v → IsFalse v.shape.sharing → v.shape.cells ≡ cells → v.shape.fields ≡ s.fields → v.plan ≡ plan_of s → v.state.section ≡ Some w → HasDone s w k v.own
     → PlacedSoFar s w k cells (map (λ (p : Place). p.cell) v.own.places)
 
 -- the steps of a seat make up its section's commands
@@ -99,7 +99,7 @@ pub record StepsMakeCommands : Type 0 where
   pub still_call : (v w : View) → Ran v w → Only (leaves_play v.shape.fields) v w → IsStill v.own w.own
   pub kept_call : (v w : View) → Ran v w → Only (keeps_play v.shape.fields) v w → IsKept v.own w.own
   -- a store of a mutator is one plain step
-  pub stores : (v w : View) (step : Step) (n : ℕ) (op : Op) → changes_heap step ≡ true → w ≡ after step n v → Asks v.state v.own.meaning (seen_by v.shape v.plan v.state) step op → IsPlainStep step v w
+  pub stores : (v w : View) (step : Step) (n : ℕ) (op : Op) → IsFalse v.shape.sharing → changes_heap step ≡ true → w ≡ after step n v → Asks v.state v.own.meaning (seen_by v.shape v.plan v.state) step op → IsPlainStep step v w
       → Stores (seen_by v.shape v.plan v.state) (season_of v.state) op v.own w.own
   -- the last word of a new cell gives the next object its place
   pub places : (v : View) (c part word n : ℕ) → part ≡ v.shape.fields + 1 → Places (season_of v.state) c v.own (after (StoreNew c part word) n v).own
@@ -120,7 +120,7 @@ pub record StepsMakeCommands : Type 0 where
 -- the state in which nothing has happened is that of each script, at the start of each section
 abbrev pub StartIsState : Type 0
 StartIsState =
-    (s : Sections) (sh : Shape) (n : ℕ) → IsShape sh → 1 ≤ n → n ≤ most_seats → sh.fields ≡ s.fields → sh.sections ≡ length (section_numbers s) → IsStateOf s sh.cells [] (start_state sh (plan_of s) n)
+    (s : Sections) (sh : Shape) (n : ℕ) → IsShape sh → IsFalse sh.sharing → 1 ≤ n → n ≤ most_seats → sh.fields ≡ s.fields → sh.sections ≡ length (section_numbers s) → IsStateOf s sh.cells [] (start_state sh (plan_of s) n)
 
 -- where each cell in use is published and reachable, the objects in allocated cells are exactly the reachable ones, with their values
 abbrev pub ListedSurvive : Type 0

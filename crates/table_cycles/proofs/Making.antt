@@ -82,4 +82,5 @@ seen_marking (Some p) e = (p, refl, λ f. false≢true (sym (ap (λ (q : Phase).
 -- the object for which the cell was made is the section's new one
 pub asked-new : (h : Heap) (x : HeapSeat) (v r : ℕ) → Unnamed h x → ((view_of x).state.active && saw (view_of x).state.phase_seen Marking) ≡ true → names_last (view_of x).state.cache r ≡ true → Asked (StoreRoot v r) (view_of x)
 asked-new h x v r a seen last =
-    (ops.New v (view_of x).own.meaning.value, (seen_marking (view_of x).state.phase_seen (and_parts _ _ seen).1, (refl, refl, last, a.1)))
+    let marking = seen_marking (view_of x).state.phase_seen (and_parts _ _ seen).1 in
+    (marking, λ alone. (ops.New v (view_of x).own.meaning.value, (marking, (refl, refl, last, a.1))))

@@ -1,13 +1,13 @@
 -- A variable whose plain reference is to an own object names a cell of the own section, so a field of that object may be stored.
 use Rattle.std.proofs.Common.{ℕ, ◌≡◌, ◌-◌, ◌<◌, List, length, true, refl, sym, ap, subst, ◌∙◌, arith, inl, inr, Option, Some, None}
 use Rattle.std.specs.Prelude.{not, ◌==◌, ◌&&◌, nat_lt, slice_get, slice_index_or, IsFalse, option_map}
-use Rattle.std.proofs.lemmas.Bool.{and_parts, and_from, eq-eqb, ne_eqb, not-true, ltb-true, false≢true}
+use Rattle.std.proofs.lemmas.Bool.{and_parts, and_from, or_right, eq-eqb, ne_eqb, not-true, ltb-true, false≢true}
 use Rattle.std.proofs.lemmas.List.{length-set, get_or-set_same}
 use Rattle.std.proofs.lemmas.Option.{get_or_from_slice_get, slice_get-map}
 use Rattle.mark_core.specs.Numbers.{section_variables}
 use Rattle.mark_core.specs.Rules.HeapRules.{section_of_cell}
 use Rattle.mark_core.specs.Layout.{words_of}
-use Rattle.mark_core.specs.Steps.MutatorSteps.{has_own, seat_variable as word_in, names_last}
+use Rattle.mark_core.specs.Steps.MutatorSteps.{may_change, seat_variable as word_in, names_last}
 use Rattle.mark_core.specs.Seats.{is_the, may_mutate, saw}
 use Rattle.mark_core.specs.declared.kinds.Phase.TheVariants.{Marking}
 use Rattle.mark_core.specs.declared.kinds.Shape.{Shape}
@@ -44,9 +44,9 @@ owned-word ids p i word (refs.Own k) is (inl z) = absurd (cc)
 owned-word ids p i word (refs.Own k) is (inr (some, names, below)) = (some, names.0)
 
 -- in each state that agrees with the view, the variable's word names a cell of the own section
-own-there : (y : TableState) (i : ℕ) (v : View) (u : ℕ) → IsState y → Agrees y i v → IsFalse v.state.spent → may_mutate v.state ≡ true → u < section_variables → is_own (variable v.own.meaning.heap u) ≡ true
-    → has_own (words_of y.core.shape y.core.words).identities v.state u ≡ true
-own-there y i v u st a live acts below own = and_from _ _ not_nil here
+own-there : (y : TableState) (i : ℕ) (v : View) (u : ℕ) → IsFalse y.core.shape.sharing → IsState y → Agrees y i v → IsFalse v.state.spent → may_mutate v.state ≡ true → u < section_variables → is_own (variable v.own.meaning.heap u) ≡ true
+    → may_change y.core.shape (words_of y.core.shape y.core.words).identities v.state u ≡ true
+own-there y i v u alone st a live acts below own = and_from _ _ not_nil (or_right _ _ here)
   where
     ms : List Meaning
     ms = meanings_of y.sections
@@ -61,7 +61,7 @@ own-there y i v u st a live acts below own = and_from _ _ not_nil here
     k = looks y.core i s st.core a.seat live
 
     m : Mutates y.core i s ms
-    m = mutates y.core i s ReadCount ms k st.stands acts
+    m = mutates y.core i s ReadCount ms k (st.stands alone) acts
 
     same : meaning_of ms i ≡ v.own.meaning
     same = get_or_from_slice_get ms i v.own.meaning no_meaning (slice_get-map (λ (x : SectionState). x.meaning) y.sections i ∙ ap (option_map (λ (x : SectionState). x.meaning)) (a.own i m.section))
@@ -70,7 +70,7 @@ own-there y i v u st a live acts below own = and_from _ _ not_nil here
     word = word_in s u
 
     names : (0 < word) × (section_of_cell ids (word - 1) ≡ i)
-    names = owned-word ids (object_count ms) i word (variable (meaning_of ms i).heap u) (ap (λ (n : Meaning). is_own (variable n.heap u)) same ∙ own) (env-agrees y.core i s ReadCount ms u k st.stands m below)
+    names = owned-word ids (object_count ms) i word (variable (meaning_of ms i).heap u) (ap (λ (n : Meaning). is_own (variable n.heap u)) same ∙ own) (env-agrees y.core i s ReadCount ms u k (st.stands alone) m below)
 
     not_nil : not (word == 0) ≡ true
     not_nil = ap not (ne_eqb word 0 (λ e. omega (arith, e, names.0)))
@@ -84,12 +84,14 @@ may-link h x sh u i w sits is own e =
     λ y k st a.
     let v : View = view_of x in
     let p = and_parts _ _ e in
-    let q = and_parts _ _ p.1 in
+    let t = and_parts _ _ p.1 in
+    let q = and_parts _ _ t.0 in
     let f = and_parts _ _ p.0 in
     let g = and_parts _ _ (and_parts _ _ f.0).0 in
     let same : sh ≡ y.core.shape = is ∙ sym sits.1 ∙ a.shape in
+    let alone : IsFalse y.core.shape.sharing = ap (λ (z : Shape). z.sharing) (sym same) ∙ not-true sh.sharing t.1 in
     let first : (nat_lt u section_variables && nat_lt i y.core.shape.fields && nat_lt w section_variables && may_mutate v.state) ≡ true = subst (λ (z : Shape). (nat_lt u section_variables && nat_lt i z.fields && nat_lt w section_variables && may_mutate v.state) ≡ true) same p.0 in
-    (first, (own-there y k v u st a (not-true v.state.spent q.1) f.1 (ltb-true u section_variables g.0) own, (q.0, tt)))
+    (first, (own-there y k v u alone st a (not-true v.state.spent q.1) f.1 (ltb-true u section_variables g.0) own, (q.0, tt)))
 
 -- a store in a field leaves the variables, and how many objects there are
 same_variables : (heap : PlainHeap) (change : Object → Object) (o : Option Object) (n : ℕ) → (replaced_by heap n change o).variables ≡ heap.variables
@@ -129,7 +131,7 @@ ready-linked h x y u i w n r sits is =
 
 -- where the seat has read that marking is under way, the store is the operation `set`
 pub asked-set : (x : HeapSeat) (u i w : ℕ) → ((view_of x).state.active && saw (view_of x).state.phase_seen Marking) ≡ true → Asked (StoreField u i (Some w)) (view_of x)
-asked-set x u i w seen = (ops.Set u i w, (seen_marking (view_of x).state.phase_seen (and_parts _ _ seen).1, refl))
+asked-set x u i w seen = let marking = seen_marking (view_of x).state.phase_seen (and_parts _ _ seen).1 in (marking, λ alone. (ops.Set u i w, (marking, refl)))
 
 -- the variable that got a new cell names an own object
 pub own-named : (h : Heap) (x y : HeapSeat) (u r n : ℕ) → u < section_variables → names_last (view_of x).state.cache r ≡ true → Unnamed h x → view_of y ≡ after (StoreRoot u r) n (view_of x) → SeatHasOwn y u

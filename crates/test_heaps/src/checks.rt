@@ -124,14 +124,16 @@ pub fn is_free(heap: &Heap, seat: &HeapSeat) -> bool
         && s.got == 0
 }
 
-/// Whether the seat may store in its section's turn.
+/// Whether the seat may store in its section's turn, in a heap whose objects aren't shared.
 pub fn is_ready(heap: &Heap, seat: &HeapSeat) -> bool
     requires { HasEachObject heap.now seat.now }
     ensures { OnTrue result (IsReady (view_of seat.now)) }
 {
     let s = seat.state();
-    (may_mutate(seat) && has_seen_phase(seat) && s.owes.is_none())
-        && !work_in_hand(heap.shape().fields, seat)
+    let shape = heap.shape();
+    !shape.sharing
+        && (may_mutate(seat) && has_seen_phase(seat) && s.owes.is_none())
+        && !work_in_hand(shape.fields, seat)
         && !has_making(seat)
         && s.got == 0
 }

@@ -9,4 +9,5 @@ pub const SMALL: Shape = Shape {
     sections: 2,
     fields: 4,
     objects: 2_000_000,
+    sharing: false,
 };

@@ -2,7 +2,7 @@
 use Rattle.std.proofs.Common.{ℕ, ◌≡◌, ◌==◌, List, refl, Bool, true, false, not}
 use Rattle.std.proofs.lemmas.Bool.{and_left, false≢true, not-true}
 use Rattle.mark_core.specs.declared.kinds.Step.{Step}
-use Rattle.mark_core.specs.declared.kinds.Step.TheVariants.{AddStat, NextSeason, StoreField, StoreValue, StoreRoot, StoreNew, StorePhase}
+use Rattle.mark_core.specs.declared.kinds.Step.TheVariants.{AddStat, NextSeason, StoreField, StoreValue, StoreRoot, StoreNew, StorePhase, ExchangeField, ExchangeValue}
 use Rattle.gc_table.specs.Log.{Only, all_steps}
 use Rattle.gc_table.specs.Running.{Ran}
 use Rattle.gc_table.specs.Taking.{after}
@@ -29,6 +29,8 @@ pub fills-stores : (step : Step) → fills_part step ≡ true → stores_none st
 fills-stores (StoreField v i w) b = absurd (false≢true b)
 fills-stores (StoreValue v n) b = absurd (false≢true b)
 fills-stores (StoreRoot v r) b = absurd (false≢true b)
+fills-stores (ExchangeField v i x y) b = absurd (false≢true b)
+fills-stores (ExchangeValue v m n) b = absurd (false≢true b)
 fills-stores (StoreNew c part word) b = absurd (false≢true b)
 fills-stores step b = refl
 

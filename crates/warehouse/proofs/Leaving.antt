@@ -10,7 +10,7 @@ use Rattle.play_end.specs.Parts.{AreOf, DoesCommand, HasLeft, IsWithin, Player, 
 
 -- the section that these sections have stays
 pub of-stays : (s : Sections) (p : Parts) (v w : View) → StaysOf v w → AreOf s p v → AreOf s p w
-of-stays s p v w k a = record { same = a.same; plan = k.plan ∙ a.plan; fields = ap (λ sh. sh.fields) k.shape ∙ a.fields; own = k.section ∙ a.own }
+of-stays s p v w k a = record { owned = ap (λ sh. sh.sharing) k.shape ∙ a.owned; same = a.same; plan = k.plan ∙ a.plan; fields = ap (λ sh. sh.fields) k.shape ∙ a.fields; own = k.section ∙ a.own }
 
 -- a player that waits is where it was
 pub within-still : (s : Sections) (p : Parts) (z : ℕ) (rest : List Execution) (x y : Player) → StaysOf x.view y.view → IsStill x.view.own y.view.own → SaysSame x y → IsWithin s p z rest x → IsWithin s p z rest y

@@ -1,6 +1,6 @@
 -- A mutator polls, reads the season, and is ready for a command.
 use Rattle.std.proofs.Common.{ℕ, ◌≡◌, ◌==◌, ◌&&◌, ◌||◌, List, [], ◌∷◌, ◌++◌, refl, sym, ap, ◌∙◌, subst, Bool, true, false, not, Option, Some, None, if◌then◌else◌, arith, eqb-true, ⊎_elim}
-use Rattle.std.specs.Prelude.{is_none, is_some}
+use Rattle.std.specs.Prelude.{IsFalse, is_none, is_some}
 use Rattle.std.proofs.lemmas.Bool.{and_from, and_parts, false≢true, true≢false, not-true, or_left, or_parts, or_right}
 use Rattle.mark_core.specs.Seats.{empty_handed, has_making, has_turn, saw, work_in_hand}
 use Rattle.mark_core.specs.declared.kinds.Phase.{Phase}
@@ -142,12 +142,13 @@ module _ (w x : View) (looks : LooksAtSeason w x) where
   looks-cache kept h = looks_by (λ y. HasCache kept y) h (λ n found. season_cache n w x found kept h)
 
 -- a mutator that knows the phase and its turn
-known_ready : (turn : ℕ) (x : View) → Mutates x → HasSeenPhase x.state → ObjectsHaveCells x → has_turn x.state.section (Some turn) ≡ true → x.state.season_seen ≡ Some turn → IsInTurn turn x
-known_ready turn x m seen counted t is =
+known_ready : (turn : ℕ) (x : View) → IsFalse x.shape.sharing → Mutates x → HasSeenPhase x.state → ObjectsHaveCells x → has_turn x.state.section (Some turn) ≡ true → x.state.season_seen ≡ Some turn → IsInTurn turn x
+known_ready turn x owned m seen counted t is =
     let rest = at-rest x.shape x.state m.rest in
     record {
       ready =
           record {
+            owned = owned;
             stores =
                 record {
                   turn = and_from x.state.active (has_turn x.state.section x.state.season_seen) m.active (ap (λ o. has_turn x.state.section o) is ∙ t);
@@ -207,9 +208,9 @@ acts-polled v w a h season =
 
 -- so a safe point and the season make ready, where it is the turn
 pub reads-ready :
-    (turn : ℕ) (kept : Option Cache) (v w x : View) → Ran v w → Only spares_part v w → never raises_flag (events v w) ≡ true → KeepsSeat v w → some_event polls (events v w) ≡ true → GoesOn v w → HasCache kept w → ObjectsHaveCells v
+    (turn : ℕ) (kept : Option Cache) (v w x : View) → IsFalse v.shape.sharing → Ran v w → Only spares_part v w → never raises_flag (events v w) ≡ true → KeepsSeat v w → some_event polls (events v w) ≡ true → GoesOn v w → HasCache kept w → ObjectsHaveCells v
     → has_turn v.state.section (Some turn) ≡ true → LooksAtSeason w x → x.state.season_seen ≡ Some turn → GetsReady turn kept v x
-reads-ready turn kept v w x ran spares calm keeps poll goes cached counted t looks is =
+reads-ready turn kept v w x owned ran spares calm keeps poll goes cached counted t looks is =
     let stays = stays-join v w x (stays-spared v w ran spares keeps) (looks-stays w x looks) in
     let waits = waits-join v w x (waits-calm v w ran spares calm) (looks-waits w x looks) in
     let later : Ran w x = looks-ran w x looks in
@@ -220,7 +221,7 @@ reads-ready turn kept v w x ran spares calm keeps poll goes cached counted t loo
       acts = acts-polled v x waits polled;
       stays = stays;
       turn_is =
-          known_ready turn x mutates (looks_seen w x looks (going-seen v w goes)) (counted-kept v x stays.still.heap stays.made counted)
+          known_ready turn x (ap (λ (sh : Shape). sh.sharing) stays.shape ∙ owned) mutates (looks_seen w x looks (going-seen v w goes)) (counted-kept v x stays.still.heap stays.made counted)
           (ap (λ (o : Option ℕ). has_turn o (Some turn)) (ran-section v x (waits 0).ran) ∙ t) is;
       cached = looks-cache w x looks kept cached;
       polled = polled-read v w x ran later spares (looks-spares w x looks) poll;

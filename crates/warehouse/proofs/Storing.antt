@@ -3,7 +3,7 @@ use Rattle.std.proofs.Common.{ℕ, ◌≡◌, ◌==◌, ◌&&◌, ◌||◌, List
 use Rattle.std.proofs.lemmas.Bool.{and_from, and_parts, or_right, false≢true}
 use Rattle.mark_core.specs.Seats.{is_the}
 use Rattle.mark_core.specs.declared.kinds.Step.{Step}
-use Rattle.mark_core.specs.declared.kinds.Step.TheVariants.{StoreField, StoreValue, StoreRoot, StoreNew}
+use Rattle.mark_core.specs.declared.kinds.Step.TheVariants.{StoreField, StoreValue, StoreRoot, StoreNew, ExchangeField, ExchangeValue}
 use Rattle.gc_table.specs.Log.{all_steps, events}
 use Rattle.gc_table.specs.Running.{Ran, after_all}
 use Rattle.gc_table.specs.Taking.{after}
@@ -13,11 +13,13 @@ use Rattle.gc_table.proofs.Running.{ran-events}
 use Rattle.warehouse.specs.Storing.{stores_in, writes}
 use Rattle.warehouse.proofs.Turning.{is_of_command, season-step}
 
--- the step stores no object, no variable and no new cell
+-- the step stores or exchanges no object, no variable and no new cell
 abbrev pub stores_none : Step → Bool
 stores_none (StoreField v i w) = false
 stores_none (StoreValue v n) = false
 stores_none (StoreRoot v r) = false
+stores_none (ExchangeField v i x y) = false
+stores_none (ExchangeValue v m n) = false
 stores_none (StoreNew c part word) = false
 stores_none step = true
 
@@ -25,6 +27,8 @@ pub writes-none : (step : Step) (n : ℕ) → stores_none step ≡ true → writ
 writes-none (StoreField v i w) n b = absurd (false≢true b)
 writes-none (StoreValue v m) n b = absurd (false≢true b)
 writes-none (StoreRoot v r) n b = absurd (false≢true b)
+writes-none (ExchangeField v i x y) n b = absurd (false≢true b)
+writes-none (ExchangeValue v m k) n b = absurd (false≢true b)
 writes-none (StoreNew c part word) n b = absurd (false≢true b)
 writes-none step n b = refl
 

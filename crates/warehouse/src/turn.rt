@@ -86,6 +86,7 @@ fn sees_clear(heap: &Heap, seat: &mut HeapSeat) -> bool
 pub(crate) fn is_ready(heap: &Heap, seat: &mut HeapSeat, _cache: &Option<Cache>, turn: u64) -> bool
     requires seat { Sits heap.now seat.old × Mutates (view_of seat.old) }
     requires cache { HasCache _cache.now (view_of seat.old) }
+    requires owned { IsFalse (view_of seat.old).shape.sharing }
     requires counted { ObjectsHaveCells (view_of seat.old) }
     requires turn { IsTrue (has_turn (state_of seat.old).section (Some turn)) }
     ensures seat { Sits heap.now seat.new × Mutates (view_of seat.new) }
@@ -113,6 +114,7 @@ pub(crate) fn await_turn<R: Wait>(
 ) -> bool
     requires seat { Sits heap.now seat.old × Mutates (view_of seat.old) }
     requires cache { HasCache cache.old (view_of seat.old) }
+    requires owned { IsFalse (view_of seat.old).shape.sharing }
     requires counted { ObjectsHaveCells (view_of seat.old) }
     requires turn { IsTrue (has_turn (state_of seat.old).section (Some turn)) }
     ensures seat { Sits heap.now seat.new }
@@ -171,6 +173,7 @@ pub(crate) fn await_cell<R: Wait>(
 ) -> bool
     requires seat { Sits heap.now seat.old × Mutates (view_of seat.old) }
     requires cache { HasCache cache.old (view_of seat.old) }
+    requires owned { IsFalse (view_of seat.old).shape.sharing }
     requires counted { ObjectsHaveCells (view_of seat.old) }
     requires turn { IsTrue (has_turn (state_of seat.old).section (Some turn)) }
     ensures seat { Sits heap.now seat.new }

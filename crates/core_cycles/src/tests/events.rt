@@ -13,6 +13,7 @@ pub const SMALL: Shape = Shape {
     sections: 2,
     fields: 1,
     objects: 2_000_000,
+    sharing: false,
 };
 
 /// Where the words stand: 11 single words, 2 positions, 64 roots, and then a word for the one block each time, four

@@ -15,6 +15,7 @@ const TWO_BLOCKS: Shape = Shape {
     sections: 2,
     fields: 1,
     objects: 2_000_000,
+    sharing: false,
 };
 
 /// There are two words of owners, at 77, before those of allocation bits; two of mark bits and eight cards follow, and

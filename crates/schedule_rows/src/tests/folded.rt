@@ -10,6 +10,7 @@ const SHAPE: Shape = Shape {
     sections: 2,
     fields: 4,
     objects: 2_000_000,
+    sharing: false,
 };
 
 /// A step, and its words.

@@ -25,7 +25,7 @@ fn may_link(shape: &Shape, seat: &HeapSeat, v: u8, i: u8, w: u8) -> bool
 {
     let s = seat.state();
     (v < VARIABLES && u32::from(i) < shape.fields && w < VARIABLES && may_mutate(seat))
-        && (s.owes.is_none() && !s.spent)
+        && (s.owes.is_none() && !s.spent && !shape.sharing)
 }
 
 /// Stores variable w in field i of variable 0's object: true where the seat owed no card, and has read that marking is under way.

@@ -13,6 +13,7 @@ fn words_of_largest(alloc: Global) -> Option<Words> {
         sections: 33,
         fields: 16,
         objects: 2_000_000,
+        sharing: false,
     };
     let Ok((heap, seats)) = Heap::create(alloc, shape, SEATS, &NoPlan) else {
         return None;

@@ -7,10 +7,16 @@ use Rattle.mark_core.specs.Seats.{has_turn}
 use Rattle.warehouse.proofs.Coming.{comes-full, comes-going, makes-new, own-turn}
 use Rattle.warehouse.proofs.commands.come_late.Goals as goal
 
+pub await_cell-requires-clause-owned : goal.await_cell-requires-clause-owned
+await_cell-requires-clause-owned g c = c.requires.left.left.of.owned
+
 pub await_cell-requires-clause-turn : goal.await_cell-requires-clause-turn
 await_cell-requires-clause-turn g c =
     let t = c.requires.turn in
     subst (λ n. has_turn (view_of c.args.mutator.now.seat).state.section (Some n) ≡ true) (sym t.2) (own-turn c.args.section.now.number t.0 _ t.1 c.requires.left.left.of.own)
+
+pub await_turn-requires-clause-owned : goal.await_turn-requires-clause-owned
+await_turn-requires-clause-owned g c = c.requires.left.left.of.owned
 
 pub await_turn-requires-clause-turn : goal.await_turn-requires-clause-turn
 await_turn-requires-clause-turn g c =

@@ -9,6 +9,9 @@ use Rattle.warehouse.proofs.Coming.{at-later, comes-going, next-moved, own-turn,
 use Rattle.warehouse.proofs.Fulls.{counted-kept}
 use Rattle.warehouse.proofs.commands.come_to.Goals as goal
 
+pub is_ready-ready-requires-clause-owned : goal.is_ready-ready-requires-clause-owned
+is_ready-ready-requires-clause-owned g c = c.requires.left.left.of.owned
+
 pub is_ready-ready-requires-clause-turn : goal.is_ready-ready-requires-clause-turn
 is_ready-ready-requires-clause-turn g c =
     let t = c.requires.turn in

@@ -28,6 +28,9 @@ loop-init g c =
       waits = waits-none (view_of c.args.seat.now);
     }
 
+pub await_turn-requires-clause-owned : goal.await_turn-requires-clause-owned
+await_turn-requires-clause-owned g c = ap (λ (sh : Shape). sh.sharing) c.loop.invariant.stays.shape ∙ c.requires.owned
+
 pub await_turn-requires-clause-counted : goal.await_turn-requires-clause-counted
 await_turn-requires-clause-counted g c =
     let i = c.loop.invariant in

@@ -4,6 +4,7 @@ use Rattle.gc_cycle.specs.Answering.{HasCache}
 use Rattle.gc_table.specs.declared.view.View.{View}
 use Rattle.gc_table.proofs.Running.{ran-section}
 use Rattle.mark_core.specs.Seats.{has_turn}
+use Rattle.mark_core.specs.declared.kinds.Shape.{Shape}
 use Rattle.std.specs.Prelude.{Some}
 use Rattle.warehouse.proofs.Acting.{waits-join, waits-ran}
 use Rattle.warehouse.proofs.Fulls.{counted-kept, finds-after}
@@ -70,7 +71,7 @@ returns-then-is_turn-clause-ready g c =
     let k = c.if-not-pass_safe_point.ensures.going in
     let looks = c.is_turn.ensures.looks in
     ready-after c.args.turn c.pass_safe_point.new.cache u v x i.stays i.waits
-    (reads-ready c.args.turn c.pass_safe_point.new.cache v w x s.ran s.spares s.calm s.keeps.0 s.polled k.goes_on k.cached
+    (reads-ready c.args.turn c.pass_safe_point.new.cache v w x (ap (λ (sh : Shape). sh.sharing) i.stays.shape ∙ c.requires.owned) s.ran s.spares s.calm s.keeps.0 s.polled k.goes_on k.cached
     (counted-kept u v i.stays.still.heap i.stays.made c.requires.counted) (ap (λ o. has_turn o (Some c.args.turn)) (ran-section u v (waits-ran u v i.waits)) ∙ c.requires.turn) looks
     (c.is_turn.ensures.turn c.if-is_turn.true))
 

@@ -44,7 +44,7 @@ returns-clause-ready c =
     let w : View = view_of c.sees_clear.new.seat in
     let g = c.sees_clear.ensures.glances in
     λ is.
-    reads-ready c.args.turn c.args._cache.now v w (view_of c.is_turn.new.seat) g.out.ran (only-more stays_calm spares_part calm-spares v w g.out.only) g.out.calm g.out.seat g.polled
+    reads-ready c.args.turn c.args._cache.now v w (view_of c.is_turn.new.seat) c.requires.owned g.out.ran (only-more stays_calm spares_part calm-spares v w g.out.only) g.out.calm g.out.seat g.polled
     (c.sees_clear.ensures.clear c.if-not-sees_clear.false) (has-cache c.args._cache.now v w g.cache c.requires.cache) c.requires.counted c.requires.turn c.is_turn.ensures.looks (c.is_turn.ensures.turn is)
 
 pub returns-clause-stays : goal.returns-clause-stays

@@ -6,7 +6,7 @@ use Rattle.mark_core.specs.declared.seat.SeatState.{SeatState}
 use Rattle.gc_table.specs.declared.view.View.{View}
 use Rattle.gc_table.specs.Seats.{view_of}
 use Rattle.card_clean.proofs.Owned.{may-share_field, may-dirty_owed}
-use Rattle.card_clean.proofs.barrier.share_ref.Goals as goal
+use Rattle.card_clean.proofs.sharing.share_ref.Goals as goal
 
 pub store_field-requires-clause-may : goal.store_field-requires-clause-may
 store_field-requires-clause-may c =

@@ -9,8 +9,8 @@ use Rattle.gc_table.specs.Seats.{Sits, view_of}
 use Rattle.card_clean.specs.Barrier.{Exchanged}
 use Rattle.card_clean.proofs.Exchanging.{Done, done-clean, done-dirty}
 use Rattle.card_clean.proofs.Owned.{may-exchange_field, may-dirty_owed}
-use Rattle.card_clean.proofs.barrier.exchange_ref.Goals.{in-Some, in_default}
-use Rattle.card_clean.proofs.barrier.exchange_ref.Goals as goal
+use Rattle.card_clean.proofs.sharing.exchange_ref.Goals.{in-Some, in_default}
+use Rattle.card_clean.proofs.sharing.exchange_ref.Goals as goal
 
 pub dirty_card-requires-clause-may : goal.dirty_card-requires-clause-may
 dirty_card-requires-clause-may c =

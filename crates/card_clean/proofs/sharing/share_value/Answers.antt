@@ -5,7 +5,7 @@ use Rattle.gc_table.specs.declared.view.View.{View}
 use Rattle.gc_table.specs.Seats.{view_of}
 use Rattle.gc_table.proofs.Running.{ran-stored}
 use Rattle.card_clean.proofs.Owned.{may-share_value}
-use Rattle.card_clean.proofs.barrier.share_value.Goals as goal
+use Rattle.card_clean.proofs.sharing.share_value.Goals as goal
 
 pub store_value-requires-clause-may : goal.store_value-requires-clause-may
 store_value-requires-clause-may c = let q = c.requires in may-share_value (view_of c.args.seat.now) c.args.v c.args.value q.shared q.seat.1 q.some.0 q.some.1
