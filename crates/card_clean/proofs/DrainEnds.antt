@@ -1,14 +1,14 @@
 -- The end of a drain: the counter of blocks is set to 0 before it, and where nothing is left the seat may go on to the sweep, or to the clearing of marks.
-use Rattle.std.proofs.Common.{ℕ, suc, ◌≡◌, ◌<◌, ◌+◌, ◌-◌, ◌*◌, ◌/◌, ◌%◌, List, [], ◌∷◌, length, get_or, arith, refl, sym, ap, ◌∙◌, subst, Bool, true, not, Some, eq-eqb, ⊎_elim}
+use Rattle.std.proofs.Common.{ℕ, suc, ◌≡◌, ◌<◌, ◌+◌, ◌-◌, ◌/◌, ◌%◌, List, [], ◌∷◌, length, get_or, arith, refl, sym, ap, ◌∙◌, subst, Bool, true, not, Some, eq-eqb, ⊎_elim}
 use Rattle.std.specs.Prelude.{◌==◌}
 use Rattle.std.specs.List.{list_all}
 use Rattle.std.proofs.lemmas.Bool.{and_from, or_left, or_right, true≢false}
 use Rattle.mark_core.specs.Bits.{cell_bit, has_bit, nil_or}
 use Rattle.mark_core.specs.Cards.{block_cells}
 use Rattle.mark_core.specs.Effects.{seat_after}
-use Rattle.mark_core.specs.Layout.{card_count, region_sizes, words_of}
+use Rattle.mark_core.specs.Layout.{card_count, region_sizes, words_of, root_count}
 use Rattle.mark_core.specs.Places.{card_at, mark_at, the_next_block, the_phase}
-use Rattle.mark_core.specs.Numbers.{block_counter, empty_offset, section_variables}
+use Rattle.mark_core.specs.Numbers.{block_counter, empty_offset}
 use Rattle.mark_core.specs.Seats.{work_in_hand}
 use Rattle.mark_core.specs.Steps.WorldSteps.{cards_clean, is_quiet, roots_marked}
 use Rattle.mark_core.specs.declared.kinds.Phase.TheVariants.{Clear, Drain, Sweep}
@@ -67,8 +67,8 @@ module _ (x : TableState) (i : ℕ) (v : View) (k : IsState x) (a : Agrees x i v
   all-marked =
       all-from (nil_or (cell_bit (words_of x.core.shape x.core.words).marks)) (words_of x.core.shape x.core.words).roots
       (λ j l.
-      let long : length (words_of x.core.shape x.core.words).roots ≡ x.core.shape.sections * section_variables = region-length (region_sizes x.core.shape) 2 x.core.words (omega (arith, k.core.formed.words)) in
-      root-marked j (d.rooted.roots j (subst (λ (sh : Shape). j < sh.sections * section_variables) (sym a.shape) (subst (λ n. j < n) long l))))
+      let long : length (words_of x.core.shape x.core.words).roots ≡ root_count x.core.shape = region-length (region_sizes x.core.shape) 2 x.core.words (omega (arith, k.core.formed.words)) in
+      root-marked j (d.rooted.roots j (subst (λ (sh : Shape). j < root_count sh) (sym a.shape) (subst (λ n. j < n) long l))))
 
   quiet : is_quiet x.core.shape (words_of x.core.shape x.core.words) v.state ≡ true
   quiet =

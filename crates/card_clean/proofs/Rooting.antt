@@ -1,8 +1,10 @@
 -- A root is read, and what it refers to is marked.
-use Rattle.std.proofs.Common.{ℕ, ◌≡◌, ◌≢◌, ◌<◌, ◌≤◌, ◌+◌, ◌-◌, ◌*◌, ◌/◌, ◌%◌, List, length, arith, refl, sym, ap, ◌∙◌, subst, Bool, true, false, inl, inr, ◌⊎◌, ⊎_elim}
+use Rattle.std.proofs.Math.Nat.{div-lt_iff_lt-mul, div-mul-le_self, mod-eq-sub-div-mul, mod-lt}
+use Rattle.mark_core.proofs.Writing.Ranges.{in-row}
+use Rattle.std.proofs.Common.{ℕ, ◌≡◌, ◌≢◌, ◌<◌, ◌≤◌, ◌+◌, ◌-◌, ◌*◌, ◌/◌, ◌%◌, List, length, arith, refl, sym, ap, ◌∙◌, subst, Bool, true, false, inl, inr, ◌⊎◌, ⊎_elim, zero, suc}
 use Rattle.std.specs.Prelude.{◌||◌, is_some}
-use Rattle.std.proofs.lemmas.Bool.{and_from, lt-ltb, cases_eq, not_from_false}
-use Rattle.mark_core.specs.Layout.{words_of, region_sizes}
+use Rattle.std.proofs.lemmas.Bool.{and_from, lt-ltb, cases_eq, not_from_false, cases_lt}
+use Rattle.mark_core.specs.Layout.{words_of, region_sizes, root_count}
 use Rattle.mark_core.specs.Bits.{cell_of, nil_or}
 use Rattle.mark_core.specs.Cells.{in_use}
 use Rattle.mark_core.specs.Numbers.{section_variables}
@@ -10,7 +12,7 @@ use Rattle.mark_core.specs.Views.{makers}
 use Rattle.mark_core.specs.Notes.{steady}
 use Rattle.mark_core.specs.Seats.{work_in_hand, scan_left, cleaning_left}
 use Rattle.mark_core.specs.declared.kinds.Shape.{Shape}
-use Rattle.mark_core.specs.declared.kinds.Step.TheVariants.{ReadRoot}
+use Rattle.mark_core.specs.declared.kinds.Step.TheVariants.{ReadRoot, LoadSlot}
 use Rattle.mark_core.proofs.Formed.FormedLearns.{goes-within}
 use Rattle.mark_core.proofs.Writing.Places.{region-length}
 use Rattle.mark_core.proofs.Pool.PoolSlots.{any-held}
@@ -24,7 +26,7 @@ use Rattle.packet_pools.specs.Tracing.{traces}
 use Rattle.packet_pools.proofs.Conditions.{may-trace}
 use Rattle.packet_pools.proofs.InHand.{known-held}
 use Rattle.packet_pools.proofs.Settled.{settles-left}
-use Rattle.card_clean.specs.Drained.{IsNotedRoot, RootsNoted, RootsTo}
+use Rattle.card_clean.specs.Drained.{IsNotedRoot, RootsNoted, RootsTo, slot_index, SlotsNoted, AllSlotsNoted}
 use Rattle.gc_table.proofs.Noticing.{alone-steady}
 use Rattle.card_clean.proofs.Noted.{noted-here}
 
@@ -44,7 +46,7 @@ root-small v n section u there low f =
     let p : ℕ → Bool = in_use (words_of sh ws).allocs (makers f.state.core.seats) in
     let i : ℕ = section * section_variables + u in
     let there_too : section < sh.sections = subst (λ (s : Shape). section < s.sections) f.agrees.shape there in
-    let long : length (words_of sh ws).roots ≡ sh.sections * section_variables = region-length (region_sizes sh) 2 ws (omega (arith, f.whole.core.formed.words)) in
+    let long : length (words_of sh ws).roots ≡ root_count sh = region-length (region_sizes sh) 2 ws (omega (arith, f.whole.core.formed.words)) in
     let within : i < length (words_of sh ws).roots = omega (arith, long, there_too, low) in
     let goes : nil_or p n ≡ true = subst (λ r. nil_or p r ≡ true) f.word (f.whole.core.sound.references.roots_in_use i 0 within) in
     let most : n ≤ sh.cells = goes-within f.state.core n f.whole.core.formed goes in
@@ -91,3 +93,81 @@ roots-all sections v each i l =
     let u : ℕ = i % section_variables in
     let at : section * section_variables + u ≡ i = omega arith in
     subst (λ j. IsNotedRoot j v) at (each section (omega (arith, l)) u (omega arith))
+
+pub may-load_slot : (v : View) (section q : ℕ) (h : Held) → traces v ≡ true → section < v.shape.sections → q < v.shape.slots → HoldsPacket h v → work_in_hand v.shape.fields v.state ≡ false → May (LoadSlot section q) v
+may-load_slot v section q h t there low held work c k w a = (
+  and_from _ _
+      (and_from _ _
+      (and_from _ _ (lt-ltb section c.core.shape.sections (subst (λ (sh : Shape). section < sh.sections) a.shape there)) (lt-ltb q c.core.shape.slots (subst (λ (sh : Shape). q < sh.slots) a.shape low))) (may-trace c k v a t))
+      (any-held v.state.held h.packet (known-held v.state.held h.packet h.length held.known)),
+  (not_from_false _ (sym (ap (λ (sh : Shape). work_in_hand sh.fields v.state) a.shape) ∙ work), tt),
+)
+
+-- a slot is nil or names a cell that exists
+slot-small : (v : View) (n section q : ℕ) → section < v.shape.sections → q < v.shape.slots → Finds (LoadSlot section q) n v → n ≤ 16777216
+slot-small v n section q there low f =
+    let sh : Shape = f.state.core.shape in
+    let ws : List ℕ = f.state.core.words in
+    let p : ℕ → Bool = in_use (words_of sh ws).allocs (makers f.state.core.seats) in
+    let i : ℕ = slot_index sh section q in
+    let there_too : section < sh.sections = subst (λ (s : Shape). section < s.sections) f.agrees.shape there in
+    let low_too : q < sh.slots = subst (λ (s : Shape). q < s.slots) f.agrees.shape low in
+    let long : length (words_of sh ws).roots ≡ root_count sh = region-length (region_sizes sh) 2 ws (omega (arith, f.whole.core.formed.words)) in
+    let within : i < length (words_of sh ws).roots = omega (arith, long, in-row section sh.sections sh.slots q there_too low_too) in
+    let goes : nil_or p n ≡ true = subst (λ r. nil_or p r ≡ true) f.word (f.whole.core.sound.references.roots_in_use i 0 within) in
+    let most : n ≤ sh.cells = goes-within f.state.core n f.whole.core.formed goes in
+    omega (arith, most, f.whole.core.formed.shaped.cells.1)
+
+-- a slot that was read, and whose cell was marked after
+pub slot-noted : (v x : View) (n section q : ℕ) → section < v.shape.sections → q < v.shape.slots → v.state.alone ≡ true → Finds (LoadSlot section q) n v → OnlyTraced (after (LoadSlot section q) n v) x → (n ≡ 0) ⊎ IsNotedMarked x (cell_of n) → IsNotedRoot (slot_index v.shape section q) x
+slot-noted v x n section q there low alone f k marked =
+    let w : View = after (LoadSlot section q) n v in
+    let at : ℕ × ℕ = (2, slot_index v.shape section q) in
+    record {
+      word = n;
+      noted = k.notes at n refl (alone-steady w.state at n refl alone) (noted-here (steady w.state) at n v.known (alone-steady w.state at n refl alone));
+      marked =
+          ⊎_elim
+          (λ (z : n ≡ 0). inl z)
+          (λ (m : IsNotedMarked x (cell_of n)).
+          ⊎_elim
+          (λ (z : n ≡ 0). inl z)
+          (λ (d : n ≢ 0). let same : cell_of n ≡ n - 1 = omega (arith, d, slot-small v n section q there low f) in inr (subst (IsNotedMarked x) same m))
+          (cases_eq n 0))
+          marked;
+    }
+
+-- the slots of a section so far, and the next one
+pub slots-next : (sh : Shape) (section q : ℕ) (v w : View) → ((i : ℕ) → IsNotedRoot i v → IsNotedRoot i w) → SlotsNoted sh section q v → IsNotedRoot (slot_index sh section q) w → SlotsNoted sh section (q + 1) w
+slots-next sh section q v w kept so_far one i l =
+    ⊎_elim
+    (λ (s : i ≡ q). subst (λ j. IsNotedRoot (slot_index sh section j) w) (sym s) one)
+    (λ (d : i ≢ q). kept (slot_index sh section i) (so_far i (omega (arith, l, d))))
+    (cases_eq i q)
+
+-- row and column of a place among rows
+row_back : (a i q : ℕ) → a ≤ i → q ≡ i - a → a + q ≡ i
+row_back a i q h e = omega (arith, h, e)
+
+row_of : (n m i : ℕ) → i < n * m → (p : ℕ) × (q : ℕ) × (p < n) × (q < m) × (p * m + q ≡ i)
+row_of n zero i h = absurd (omega (arith, h))
+row_of n (suc m) i h =
+    let some : 0 < suc m = omega arith in (
+      i / suc m,
+      i % suc m,
+      (div-lt_iff_lt-mul some).1 h,
+      mod-lt i some,
+      row_back (i / suc m * suc m) i (i % suc m) (div-mul-le_self i (suc m)) (mod-eq-sub-div-mul i (suc m)),
+    )
+
+-- the variables and the slots of all sections are all roots
+pub roots-both : (sh : Shape) (v : View) → RootsTo (sh.sections * section_variables) v → AllSlotsNoted sh v → RootsTo (root_count sh) v
+roots-both sh v variables slots i l =
+    ⊎_elim
+    (λ (h : i < sh.sections * section_variables). variables i h)
+    (λ (h : sh.sections * section_variables ≤ i).
+    let j : ℕ = i - sh.sections * section_variables in
+    let r = row_of sh.sections sh.slots j (omega (arith, h, l)) in
+    let same : slot_index sh r.0 r.1 ≡ i = omega (arith, h, r.4) in
+    subst (λ z. IsNotedRoot z v) same (slots r.0 r.2 r.1 r.3))
+    (cases_lt i (sh.sections * section_variables))

@@ -1,12 +1,12 @@
 -- What a seat that is alone in a drain has noted stays while it traces: by the steps that it takes alone.
-use Rattle.std.proofs.Common.{ℕ, ◌≡◌, ◌*◌, ◌-◌, ◌<◌, inl, inr, refl, subst, Bool, true, false, ⊎_elim}
+use Rattle.mark_core.specs.Layout.{root_count}
+use Rattle.std.proofs.Common.{ℕ, ◌≡◌, ◌-◌, ◌<◌, inl, inr, refl, subst, Bool, true, false, ⊎_elim}
 use Rattle.std.proofs.lemmas.Bool.{false≢true}
-use Rattle.mark_core.specs.Numbers.{section_variables}
 use Rattle.mark_core.specs.Places.{the_next_block}
 use Rattle.mark_core.specs.declared.kinds.Phase.TheVariants.{Drain}
 use Rattle.mark_core.specs.declared.kinds.Shape.{Shape}
 use Rattle.mark_core.specs.declared.kinds.Step.{Step}
-use Rattle.mark_core.specs.declared.kinds.Step.TheVariants.{ReadRoot, ReadCat, StoreRoot, Reset, AddStat, ReadStat, StoreNew, NextBlock}
+use Rattle.mark_core.specs.declared.kinds.Step.TheVariants.{ReadRoot, ReadCat, StoreRoot, Reset, AddStat, ReadStat, StoreNew, NextBlock, LoadSlot, ReadSlot, StoreSlot}
 use Rattle.gc_table.specs.declared.view.View.{View}
 use Rattle.gc_table.specs.Log.{Only}
 use Rattle.gc_table.specs.Running.{Ran, ends_alone}
@@ -35,7 +35,7 @@ module _ (P : Step → Bool) (quiet : (step : Step) → P step ≡ true → ends
       }
 
   pub rooted-by : IsRooted v → IsRooted w
-  rooted-by k = record { ready = ready-by k.ready; roots = λ i h. root-by i k.ready.drains.alone (k.roots i (subst (λ (sh : Shape). i < sh.sections * section_variables) (ran-shape v w r) h)) }
+  rooted-by k = record { ready = ready-by k.ready; roots = λ i h. root-by i k.ready.drains.alone (k.roots i (subst (λ (sh : Shape). i < root_count sh) (ran-shape v w r) h)) }
 
 spares-block : Spares traces_cells the_next_block
 spares-block sh s NextBlock p = absurd (false≢true p)
@@ -47,6 +47,9 @@ spares-block sh s step p = inl refl
 
 spares-root : (i : ℕ) → Spares traces_cells (2, i)
 spares-root i sh s (ReadRoot section v) p = inr refl
+spares-root i sh s (LoadSlot section k) p = inr refl
+spares-root i sh s (ReadSlot k) p = absurd (false≢true p)
+spares-root i sh s (StoreSlot k q) p = absurd (false≢true p)
 spares-root i sh s (ReadCat v) p = absurd (false≢true p)
 spares-root i sh s (StoreRoot v r) p = absurd (false≢true p)
 spares-root i sh s (Reset which) p = absurd (false≢true p)

@@ -1,6 +1,6 @@
 -- What a seat that is alone has noted by the end of a drain.
 use Rattle.std.specs.Prelude.{ℕ, ◌≡◌, ◌≢◌, ◌≤◌, ◌<◌, ◌+◌, ◌-◌, ◌*◌, ◌⊎◌, List, [], ◌∷◌, ◌++◌, Some, IsFalse}
-use Rattle.mark_core.specs.Layout.{card_count}
+use Rattle.mark_core.specs.Layout.{card_count, root_count}
 use Rattle.mark_core.specs.Numbers.{empty_offset, section_variables}
 use Rattle.mark_core.specs.Places.{the_empty_count, the_next_block, card_at}
 use Rattle.mark_core.specs.Seats.{work_in_hand}
@@ -29,6 +29,18 @@ pub record IsNotedRoot (i : ℕ) (v : View) : Type 0 where
 abbrev pub RootsNoted : ℕ → ℕ → View → Type 0
 RootsNoted section to v = (u : ℕ) → u < to → IsNotedRoot (section * section_variables + u) v
 
+-- the root word of slot k of a section
+abbrev pub slot_index : Shape → ℕ → ℕ → ℕ
+slot_index sh section k = sh.sections * section_variables + (section * sh.slots + k)
+
+-- each slot of a section, below this one, is noted as nil, or as naming a cell that is noted as marked
+abbrev pub SlotsNoted : Shape → ℕ → ℕ → View → Type 0
+SlotsNoted sh section to v = (k : ℕ) → k < to → IsNotedRoot (slot_index sh section k) v
+
+-- so are the slots of all sections
+abbrev pub AllSlotsNoted : Shape → View → Type 0
+AllSlotsNoted sh v = (section : ℕ) → section < sh.sections → SlotsNoted sh section sh.slots v
+
 -- each of the first n root words is noted as nil, or as naming a cell that is noted as marked
 abbrev pub RootsTo : ℕ → View → Type 0
 RootsTo n v = (i : ℕ) → i < n → IsNotedRoot i v
@@ -41,7 +53,7 @@ pub record IsBeforeSweep (v : View) : Type 0 where
 -- the seat is alone in a drain before the sweep, and has noted that every root is nil or names a marked cell
 pub record IsRooted (v : View) : Type 0 where
   pub ready : IsBeforeSweep v
-  pub roots : RootsTo (v.shape.sections * section_variables) v
+  pub roots : RootsTo (root_count v.shape) v
 
 -- the seat has noted that every root is nil or names a marked cell, that each card is clean, and that all packets are empty; it has no work in hand
 pub record IsDrained (v : View) : Type 0 where

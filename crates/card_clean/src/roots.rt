@@ -8,7 +8,7 @@ ghost use Rattle.packet_pools.specs.OnlyTraced.{OnlyTraced};
 ghost use Rattle.packet_pools.specs.Tracing.{IsTracer};
 ghost use Rattle.packet_pools.specs.Hands.{HoldsPacket};
 ghost use Rattle.packet_pools.specs.Scanning.{Fills};
-ghost use Rattle.card_clean.specs.Drained.{IsNotedRoot, IsBeforeSweep, IsRooted, RootsNoted, RootsTo};
+ghost use Rattle.card_clean.specs.Drained.{AllSlotsNoted, IsNotedRoot, IsBeforeSweep, IsRooted, RootsNoted, RootsTo, SlotsNoted, slot_index};
 ghost use Rattle.packet_pools.specs.Hands.{free_slots};
 ghost use Rattle.card_clean.specs.Leaving.{rescanned_in};
 ghost use Rattle.card_clean.specs.Taking.{NoPacket};
@@ -77,6 +77,7 @@ pub fn see_to_roots(heap: &Heap, seat: &mut HeapSeat) -> bool
         return false;
     };
     mark_all(heap, seat, &mut out);
+    mark_all_slots(heap, seat, &mut out);
     give(heap, seat, out, false);
     true
 }
@@ -95,5 +96,59 @@ fn mark_all(heap: &Heap, seat: &mut HeapSeat, out: &mut Held)
 {
     for section in 0..heap.shape().sections {
         mark_roots(heap, seat, out, section);
+    }
+}
+
+/// Marks what slot k of a section refers to. A seat that is alone then knows that the slot is seen to.
+fn mark_slot(heap: &Heap, seat: &mut HeapSeat, out: &mut Held, section: u32, k: u16)
+    requires seat { IsTracer heap.now seat.old }
+    requires out { HoldsPacket out.old (view_of seat.old) × IsTrue (has_free_slot (state_of seat.old).held) }
+    requires root { (section < heap.now.shape.sections) × (k < heap.now.shape.slots) }
+    requires work { IsFalse (work_in_hand heap.now.shape.fields (state_of seat.old)) }
+    ensures seat { IsTracer heap.now seat.new }
+    ensures only { Across OnlyTraced seat.old seat.new }
+    ensures out { Across (Fills out.old out.new) seat.old seat.new }
+    ensures work { IsFalse (work_in_hand heap.now.shape.fields (state_of seat.new)) }
+    ensures left { rescanned_in (view_of seat.old) (did seat.old seat.new) ≡ 0 }
+    ensures noted { IsTrue (state_of seat.old).alone → IsNotedRoot (slot_index heap.now.shape section k) (view_of seat.new) }
+{
+    let word = heap.load_slot(seat, section, k);
+    if word != 0 {
+        mark_cell(heap, seat, out, cell_of(word));
+    }
+}
+
+/// Marks what the slots of a section refer to. A seat that is alone then knows that these roots are seen to.
+fn mark_slots(heap: &Heap, seat: &mut HeapSeat, out: &mut Held, section: u32)
+    requires seat { IsTracer heap.now seat.old }
+    requires out { HoldsPacket out.old (view_of seat.old) × IsTrue (has_free_slot (state_of seat.old).held) }
+    requires section { section < heap.now.shape.sections }
+    requires work { IsFalse (work_in_hand heap.now.shape.fields (state_of seat.old)) }
+    ensures seat { IsTracer heap.now seat.new }
+    ensures only { Across OnlyTraced seat.old seat.new }
+    ensures out { Across (Fills out.old out.new) seat.old seat.new }
+    ensures work { IsFalse (work_in_hand heap.now.shape.fields (state_of seat.new)) }
+    ensures left { rescanned_in (view_of seat.old) (did seat.old seat.new) ≡ 0 }
+    ensures noted { IsTrue (state_of seat.old).alone → SlotsNoted heap.now.shape section heap.now.shape.slots (view_of seat.new) }
+{
+    for k in 0..heap.shape().slots {
+        mark_slot(heap, seat, out, section, k as u16);
+    }
+}
+
+/// Marks what the slots of all sections refer to.
+fn mark_all_slots(heap: &Heap, seat: &mut HeapSeat, out: &mut Held)
+    requires seat { IsTracer heap.now seat.old }
+    requires out { HoldsPacket out.old (view_of seat.old) × IsTrue (has_free_slot (state_of seat.old).held) }
+    requires work { IsFalse (work_in_hand heap.now.shape.fields (state_of seat.old)) }
+    ensures seat { IsTracer heap.now seat.new }
+    ensures only { Across OnlyTraced seat.old seat.new }
+    ensures out { Across (Fills out.old out.new) seat.old seat.new }
+    ensures work { IsFalse (work_in_hand heap.now.shape.fields (state_of seat.new)) }
+    ensures left { rescanned_in (view_of seat.old) (did seat.old seat.new) ≡ 0 }
+    ensures noted { IsTrue (state_of seat.old).alone → AllSlotsNoted heap.now.shape (view_of seat.new) }
+{
+    for section in 0..heap.shape().sections {
+        mark_slots(heap, seat, out, section);
     }
 }

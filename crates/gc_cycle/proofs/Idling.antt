@@ -1,4 +1,5 @@
 -- A seat at rest may trace with nothing in hand, and is at rest again where its record is as before.
+use Rattle.mark_core.specs.Layout.{root_count}
 use Rattle.std.proofs.Common.{ℕ, ◌≡◌, [], ◌∷◌, List, length, refl, sym, ap, ◌∙◌, subst, arith, cond, Bool, true, false, not, ◌*◌, ◌<◌, ◌&&◌, Some, None, Option}
 use Rattle.std.specs.Prelude.{is_some, is_none, ◌==◌}
 use Rattle.std.proofs.Math.Logic.{∥∥₁_elim}
@@ -11,7 +12,7 @@ use Rattle.mark_core.specs.Places.{the_next_block}
 use Rattle.mark_core.specs.declared.kinds.Phase.TheVariants.{Drain}
 use Rattle.mark_core.specs.declared.kinds.Shape.{Shape}
 use Rattle.mark_core.specs.declared.kinds.Step.{Step}
-use Rattle.mark_core.specs.declared.kinds.Step.TheVariants.{Reserve, Take, Give, Credit, Push, Pop, Look, ReadAlloc, ReadField, ReadRoot, SetMark, DirtyCard, ClearCard, ReadMarks, ReadCard, ReadCount, StoreLength, ReadLength}
+use Rattle.mark_core.specs.declared.kinds.Step.TheVariants.{Reserve, Take, Give, Credit, Push, Pop, Look, ReadAlloc, ReadField, ReadRoot, SetMark, DirtyCard, ClearCard, ReadMarks, ReadCard, ReadCount, StoreLength, ReadLength, LoadSlot}
 use Rattle.mark_core.specs.declared.seat.BlockState.{BlockState}
 use Rattle.mark_core.specs.declared.seat.SeatState.{SeatState}
 use Rattle.gc_table.specs.Rule.{IsPossible}
@@ -118,6 +119,7 @@ widened ReadCount e = refl
 widened (ReadAlloc b) e = refl
 widened (ReadField c i) e = refl
 widened (ReadRoot section v) e = refl
+widened (LoadSlot section k) e = refl
 widened (SetMark c) e = refl
 widened (DirtyCard card) e = refl
 widened (ClearCard card) e = refl
@@ -150,6 +152,7 @@ owes-step x ReadCount n p s e = e
 owes-step x (ReadAlloc b) n p s e = e
 owes-step x (ReadField c i) n p s e = e
 owes-step x (ReadRoot section v) n p s e = e
+owes-step x (LoadSlot section k) n p s e = e
 owes-step x (SetMark c) n p s e = e
 owes-step x (ClearCard card) n p s e = e
 owes-step x (ReadMarks b) n p s e = e
@@ -180,7 +183,7 @@ rooted-by v w l rest r =
       rooted =
           record {
             ready = record { drains = drain; next_block = l.notes the_next_block 0 refl (alone-steady v.state the_next_block 0 refl r.rest.alone) before.next_block };
-            roots = λ i h. root-stays v w l.ran l.only i r.rest.alone (r.rooted.roots i (subst (λ (sh : Shape). i < sh.sections * section_variables) l.shape h));
+            roots = λ i h. root-stays v w l.ran l.only i r.rest.alone (r.rooted.roots i (subst (λ (sh : Shape). i < root_count sh) l.shape h));
           };
     }
 

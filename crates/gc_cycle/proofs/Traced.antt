@@ -8,7 +8,7 @@ use Rattle.mark_core.specs.Steps.WorldSteps.{has_nothing}
 use Rattle.mark_core.specs.declared.kinds.Phase.TheVariants.{Drain, Marking}
 use Rattle.mark_core.specs.declared.kinds.Shape.{Shape}
 use Rattle.mark_core.specs.declared.kinds.Step.{Step}
-use Rattle.mark_core.specs.declared.kinds.Step.TheVariants.{Reserve, Take, Give, Credit, Push, Pop, Look, ReadAlloc, ReadField, ReadRoot, SetMark, DirtyCard, ClearCard, ReadMarks, ReadCard, ReadCount, StoreLength, ReadLength, NextOfCards, ReadStat}
+use Rattle.mark_core.specs.declared.kinds.Step.TheVariants.{Reserve, Take, Give, Credit, Push, Pop, Look, ReadAlloc, ReadField, ReadRoot, SetMark, DirtyCard, ClearCard, ReadMarks, ReadCard, ReadCount, StoreLength, ReadLength, NextOfCards, ReadStat, LoadSlot}
 use Rattle.mark_core.specs.declared.seat.SeatState.{SeatState}
 use Rattle.gc_table.specs.Notes.{look}
 use Rattle.gc_table.specs.declared.view.View.{View}
@@ -75,6 +75,7 @@ quiet ReadCount e = refl
 quiet (ReadAlloc b) e = refl
 quiet (ReadField c i) e = refl
 quiet (ReadRoot s v) e = refl
+quiet (LoadSlot s k) e = refl
 quiet (SetMark c) e = refl
 quiet (DirtyCard card) e = refl
 quiet (ClearCard card) e = refl
@@ -98,6 +99,7 @@ traces-stay ReadCount e = refl
 traces-stay (ReadAlloc b) e = refl
 traces-stay (ReadField c i) e = refl
 traces-stay (ReadRoot s v) e = refl
+traces-stay (LoadSlot s k) e = refl
 traces-stay (SetMark c) e = refl
 traces-stay (DirtyCard card) e = refl
 traces-stay (ClearCard card) e = refl

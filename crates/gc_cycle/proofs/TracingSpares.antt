@@ -2,7 +2,7 @@
 use Rattle.std.proofs.Common.{ℕ, ◌≡◌, List, [], ◌∷◌, refl, sym, ap, ◌∙◌, Bool, true, false, not, ◌&&◌}
 use Rattle.std.proofs.lemmas.Bool.{false≢true}
 use Rattle.mark_core.specs.declared.kinds.Step.{Step}
-use Rattle.mark_core.specs.declared.kinds.Step.TheVariants.{ClearCard, NextOfCards, Pop, ReadRoot, ReadStat}
+use Rattle.mark_core.specs.declared.kinds.Step.TheVariants.{ClearCard, NextOfCards, Pop, ReadRoot, ReadStat, LoadSlot}
 use Rattle.gc_table.specs.Log.{all_steps, events}
 use Rattle.gc_table.specs.declared.view.Entry.{Entry}
 use Rattle.gc_table.specs.declared.view.View.{View}
@@ -47,6 +47,7 @@ trace-uncleaned step n e = refl
 
 pub trace-unrooted : Spares is_trace_step reads_root
 trace-unrooted (ReadRoot section v) n e = absurd (false≢true e)
+trace-unrooted (LoadSlot section k) n e = absurd (false≢true e)
 trace-unrooted step n e = refl
 
 pub roots-uncleaned : Spares scans_roots draws_or_clears
@@ -64,6 +65,7 @@ scan-unpopped step n e = refl
 
 pub scan-unrooted : Spares scans_object reads_root
 scan-unrooted (ReadRoot section v) n e = absurd (false≢true e)
+scan-unrooted (LoadSlot section k) n e = absurd (false≢true e)
 scan-unrooted step n e = refl
 
 pub moves-uncleaned : (qs : List ℕ) → Spares (moves_packet qs) draws_or_clears
@@ -77,6 +79,7 @@ moves-unpopped qs step n e = refl
 
 pub moves-unrooted : (qs : List ℕ) → Spares (moves_packet qs) reads_root
 moves-unrooted qs (ReadRoot section v) n e = absurd (false≢true e)
+moves-unrooted qs (LoadSlot section k) n e = absurd (false≢true e)
 moves-unrooted qs step n e = refl
 
 -- moves of packets alone

@@ -6,7 +6,7 @@ use Rattle.mark_core.specs.Seats.{is_phase, phase_of, saw}
 use Rattle.mark_core.specs.declared.kinds.Phase.{Phase}
 use Rattle.mark_core.specs.declared.kinds.Phase.TheVariants.{Idle, Drain, Sweep, Clear, Full}
 use Rattle.mark_core.specs.declared.kinds.Step.{Step}
-use Rattle.mark_core.specs.declared.kinds.Step.TheVariants.{ReadCount, ReadAlloc, ReadRoot, ClearCard, ReadCard, ReadPhase, StoreField, StoreValue, StoreRoot, StoreNew, ClaimBlock, EnterStep, LeaveStep, RaiseStep, Observe, DropStep, StorePhase, NextBlock, NextOfCards, StoreNamed, AddStat, ReadStat, OpenStep, JoinHelpStep, ExchangeField, ExchangeValue}
+use Rattle.mark_core.specs.declared.kinds.Step.TheVariants.{ReadCount, ReadAlloc, ReadRoot, ClearCard, ReadCard, ReadPhase, StoreField, StoreValue, StoreRoot, StoreNew, ClaimBlock, EnterStep, LeaveStep, RaiseStep, Observe, DropStep, StorePhase, NextBlock, NextOfCards, StoreNamed, AddStat, ReadStat, OpenStep, JoinHelpStep, ExchangeField, ExchangeValue, LoadSlot, StoreSlot}
 use Rattle.gc_table.specs.Taking.{moves_from, won}
 pub use Rattle.tracer.specs.Roots.{shows_marked}
 pub use Rattle.tracer.specs.Tally.{pops}
@@ -100,6 +100,7 @@ claims step found = false
 -- a root was read
 abbrev pub reads_root : Step → ℕ → Bool
 reads_root (ReadRoot section v) found = true
+reads_root (LoadSlot section k) found = true
 reads_root step found = false
 
 -- the count of empty packets was read, and said all packets
@@ -181,6 +182,7 @@ abbrev pub mutator_stores : Step → ℕ → Bool
 mutator_stores (StoreField v i w) found = true
 mutator_stores (StoreValue v n) found = true
 mutator_stores (StoreRoot v r) found = true
+mutator_stores (StoreSlot k r) found = true
 mutator_stores (ExchangeField v i x y) found = true
 mutator_stores (ExchangeValue v m n) found = true
 mutator_stores step found = false

@@ -2,7 +2,7 @@
 use Rattle.std.specs.Prelude.{ℕ, ◌≡◌, ◌==◌, ◌||◌, ◌<◌, ◌≤◌, ◌-◌, ◌*◌, ◌/◌, ◌%◌, not, [], ◌∷◌, Bool, false, is_some, Option, Some, None, IsTrue, IsFalse}
 use Rattle.mark_core.specs.Bits.{has_bit, has_flag}
 use Rattle.mark_core.specs.Cards.{block_cells}
-use Rattle.mark_core.specs.Layout.{block_count}
+use Rattle.mark_core.specs.Layout.{block_count, root_count}
 use Rattle.mark_core.specs.Numbers.{section_variables}
 use Rattle.mark_core.specs.Places.{mark_at, the_next_block}
 use Rattle.mark_core.specs.Steps.WorldSteps.{has_nothing, is_stopped}
@@ -65,7 +65,7 @@ pub record Drains (v : View) : Type 0 where
   pub rest : IsAlone v
   pub drain : Alone Drain v
   pub next_block : look the_next_block v.known ≡ Some 0
-  pub roots : (i : ℕ) → i < v.shape.sections * section_variables → IsTrue (notes_root i v)
+  pub roots : (i : ℕ) → i < root_count v.shape → IsTrue (notes_root i v)
 
 -- the seat is alone at the end of a drain: it has noted that every root is nil or names a marked cell, each card is clean and all packets are empty
 pub record HasMarkedAll (v : View) : Type 0 where

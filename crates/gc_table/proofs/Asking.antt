@@ -1,6 +1,6 @@
 -- What is asked of a step by its seat's view holds in the state.
 use Rattle.std.proofs.Common.{ℕ, ◌≡◌, refl, sym, ap, ◌∙◌, subst, arith, true, true≢false, Option, Some, None}
-use Rattle.std.specs.Prelude.{slice_get, unwrap_or, List}
+use Rattle.std.specs.Prelude.{slice_get, unwrap_or, List, IsTrue}
 use Rattle.std.proofs.lemmas.Bool.{and_parts}
 use Rattle.std.proofs.lemmas.Option.{get_or_from_slice_get}
 use Rattle.mark_core.specs.Layout.{words_of}
@@ -13,13 +13,13 @@ use Rattle.mark_core.proofs.References.ReferencesEnv.{section-is}
 use Rattle.mark_core.proofs.Notes.NotesKept.{single-word}
 use Rattle.mark_core.specs.declared.kinds.Shape.{Shape}
 use Rattle.mark_core.specs.declared.kinds.Step.{Step}
-use Rattle.mark_core.specs.declared.kinds.Step.TheVariants.{StoreField, StoreValue, StoreRoot, StoreNew, StorePhase, NextSeason, ExchangeField, ExchangeValue}
+use Rattle.mark_core.specs.declared.kinds.Step.TheVariants.{StoreField, StoreValue, StoreRoot, StoreNew, StorePhase, NextSeason, ExchangeField, ExchangeValue, StoreSlot}
 use Rattle.mark_core.specs.declared.seat.SeatState.{SeatState}
 use Rattle.plain_heap.specs.declared.operation.Op.{Op}
 use Rattle.gc_table.specs.declared.view.SectionState.{SectionState}
 use Rattle.gc_table.specs.declared.view.View.{View}
 use Rattle.gc_table.specs.Notes.{look}
-use Rattle.gc_table.specs.PlainSteps.{own_section}
+use Rattle.gc_table.specs.PlainSteps.{own_section, HasSeenPhase}
 use Rattle.gc_table.specs.Sections.{AskedOf}
 use Rattle.gc_table.specs.TableState.{TableState, no_section, section_at, AskedIn}
 use Rattle.gc_table.specs.Rule.{IsState, Agrees}
@@ -61,4 +61,5 @@ asked-in x i v (StorePhase to) k a ok h = λ full. let q = h full in (q.0, q.1, 
 asked-in x i v NextSeason k a ok h = asked_same x i v 0 NextSeason a h.0 h
 asked-in x i v (ExchangeField u j w y) k a ok h = h
 asked-in x i v (ExchangeValue u m n) k a ok h = h
+asked-in x i v (StoreSlot u r) k a ok h = subst (λ (sh : Shape). HasSeenPhase v.state × IsTrue sh.sharing) a.shape h
 asked-in x i v step k a ok h = tt

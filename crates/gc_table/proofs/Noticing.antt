@@ -1,17 +1,14 @@
 -- What a seat has noted, and what of it a call keeps.
-use Rattle.std.proofs.Common.{ℕ, ◌≡◌, ◌≤◌, ◌∷◌, ◌⊎◌, inl, inr, arith, refl, sym, ap, ◌∙◌, subst, Bool, true, false, true≢false, cond, not, ◌&&◌, ◌||◌, Some, None, ⊎_elim}
-use Rattle.std.specs.Prelude.{if◌then◌else◌}
+use Rattle.std.proofs.Common.{ℕ, ◌≡◌, ◌≤◌, ◌∷◌, ◌⊎◌, inl, inr, arith, refl, sym, ap, ◌∙◌, subst, Bool, true, false, true≢false, cond, ◌||◌, Some, None, ⊎_elim}
 use Rattle.std.proofs.lemmas.Bool.{cases_Bool, ne_eqb}
 use Rattle.mark_core.specs.Effects.{place, written, seat_after}
 use Rattle.mark_core.specs.Notes.{same_place, is_gate, steady, keeps_bound, word_at}
-use Rattle.mark_core.specs.Places.{the_phase, the_named, the_season}
-use Rattle.mark_core.specs.Seats.{is_phase, phase_number}
-use Rattle.mark_core.specs.Views.{Standing, standing_of}
+use Rattle.mark_core.specs.Places.{the_phase}
+use Rattle.mark_core.specs.Seats.{phase_number}
 use Rattle.mark_core.specs.declared.kinds.Phase.{Phase}
-use Rattle.mark_core.specs.declared.kinds.Phase.TheVariants.{Marking, Full}
 use Rattle.mark_core.specs.declared.kinds.Shape.{Shape}
 use Rattle.mark_core.specs.declared.kinds.Step.{Step}
-use Rattle.mark_core.specs.declared.kinds.Step.TheVariants.{Pop, Look, ReadCount, ReadLength, ReadAlloc, ReadField, ReadRoot, ReadMarks, ReadCard, ReadPhase, ReadOwn, ReadValue, ReadIdent, ReadCat, ReadFree, StoreNew, Observe, DropStep, StorePhase, ReadBlockMarks, Reset, AddStat, ReadStat, OpenStep, SeeHelp, ReadSeason}
+use Rattle.mark_core.specs.declared.kinds.Step.TheVariants.{Pop, Look, ReadCount, ReadLength, ReadAlloc, ReadField, ReadRoot, ReadMarks, ReadCard, ReadPhase, ReadOwn, ReadValue, ReadIdent, ReadCat, ReadFree, StoreNew, Observe, DropStep, StorePhase, ReadBlockMarks, Reset, AddStat, ReadStat, OpenStep, SeeHelp, ReadSeason, LoadSlot, ReadSlot}
 use Rattle.mark_core.specs.declared.seat.SeatState.{SeatState}
 use Rattle.mark_core.proofs.Writing.Writes.{at_part, at_counter}
 use Rattle.gc_table.specs.declared.view.View.{View}
@@ -40,6 +37,8 @@ is_load (ReadOwn c i) = true
 is_load (ReadValue c) = true
 is_load (ReadIdent c) = true
 is_load (ReadCat v) = true
+is_load (ReadSlot k) = true
+is_load (LoadSlot section k) = true
 is_load ReadFree = true
 is_load Observe = true
 is_load ReadBlockMarks = true
@@ -63,6 +62,8 @@ load-leaves sh s (ReadOwn c i) n e = refl
 load-leaves sh s (ReadValue c) n e = refl
 load-leaves sh s (ReadIdent c) n e = refl
 load-leaves sh s (ReadCat v) n e = refl
+load-leaves sh s (ReadSlot k) n e = refl
+load-leaves sh s (LoadSlot section k) n e = refl
 load-leaves sh s ReadFree n e = refl
 load-leaves sh s Observe n e = refl
 load-leaves sh s ReadBlockMarks n e = refl
@@ -86,6 +87,8 @@ load-found (ReadOwn c i) e = refl
 load-found (ReadValue c) e = refl
 load-found (ReadIdent c) e = refl
 load-found (ReadCat v) e = refl
+load-found (ReadSlot k) e = refl
+load-found (LoadSlot section k) e = refl
 load-found ReadFree e = refl
 load-found Observe e = refl
 load-found ReadBlockMarks e = refl

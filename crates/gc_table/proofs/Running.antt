@@ -4,7 +4,7 @@ use Rattle.std.proofs.lemmas.Bool.{and_parts}
 use Rattle.mark_core.specs.Effects.{seat_after, written}
 use Rattle.mark_core.specs.declared.kinds.Shape.{Shape}
 use Rattle.mark_core.specs.declared.kinds.Step.{Step}
-use Rattle.mark_core.specs.declared.kinds.Step.TheVariants.{ReadOwn, ReadCat, StoreField, StoreValue, StoreRoot, StoreNew, StorePosition, StorePhase, NextSeason, ExchangeField, ExchangeValue}
+use Rattle.mark_core.specs.declared.kinds.Step.TheVariants.{ReadOwn, ReadCat, StoreField, StoreValue, StoreRoot, StoreNew, StorePosition, StorePhase, NextSeason, ExchangeField, ExchangeValue, StoreSlot, ReadSlot}
 use Rattle.mark_core.specs.declared.seat.SeatState.{SeatState}
 use Rattle.mark_core.proofs.Writing.Frames.{identity_of, identity-kept}
 use Rattle.plain_heap.specs.declared.operation.Op.{Op}
@@ -125,6 +125,8 @@ state-kept f P h v w r o = run-keeps P (λ (x : View). f x.state ≡ f v.state) 
 section-kept : (sh : Shape) (plan : List (List Op)) (s : SeatState) (step : Step) (x : SectionState) → changes_section step ≡ false → section_after sh plan s step x ≡ x
 section-kept sh plan s (ReadOwn c i) x e = absurd (true≢false e)
 section-kept sh plan s (ReadCat v) x e = absurd (true≢false e)
+section-kept sh plan s (ReadSlot k) x e = absurd (true≢false e)
+section-kept sh plan s (StoreSlot k r) x e = absurd (true≢false e)
 section-kept sh plan s (StoreField v i w) x e = absurd (true≢false e)
 section-kept sh plan s (ExchangeField v i y z) x e = absurd (true≢false e)
 section-kept sh plan s (ExchangeValue v m n) x e = absurd (true≢false e)

@@ -6,7 +6,7 @@ use Rattle.mark_core.specs.declared.kinds.Shape.{Shape}
 use Rattle.mark_core.specs.declared.kinds.Phase.{Phase}
 use Rattle.mark_core.specs.declared.kinds.Phase.TheVariants.{Full}
 use Rattle.mark_core.specs.declared.kinds.Step.{Step}
-use Rattle.mark_core.specs.declared.kinds.Step.TheVariants.{ReadOwn, ReadCat, StoreField, StoreValue, StoreRoot, StoreNew}
+use Rattle.mark_core.specs.declared.kinds.Step.TheVariants.{ReadOwn, ReadCat, StoreField, StoreValue, StoreRoot, StoreNew, StoreSlot, ReadSlot}
 use Rattle.mark_core.specs.declared.seat.SeatState.{SeatState}
 use Rattle.plain_heap.specs.declared.object.Ref.{Ref}
 use Rattle.plain_heap.specs.declared.object.Ref.TheVariants as refs
@@ -71,6 +71,7 @@ meaning_after sh s catalogue (StoreValue v n) op m = stepped catalogue op m
 meaning_after sh s catalogue (StoreRoot v r) op m = with_got refs.Nil (stepped catalogue op m)
 meaning_after sh s catalogue (ReadOwn c i) op m = with_got (followed m.heap catalogue (known_as s m c) i) m
 meaning_after sh s catalogue (ReadCat v) op m = with_got (lent_variable catalogue v) m
+meaning_after sh s catalogue (ReadSlot k) op m = with_got refs.Nil m
 meaning_after sh s catalogue (StoreNew c part word) op m = with_part sh part word m
 meaning_after sh s catalogue step op m = m
 
@@ -85,6 +86,7 @@ meanings_after sh s (StoreValue v n) op ms = changed_by sh s (StoreValue v n) op
 meanings_after sh s (StoreRoot v r) op ms = changed_by sh s (StoreRoot v r) op ms
 meanings_after sh s (ReadOwn c i) op ms = changed_by sh s (ReadOwn c i) op ms
 meanings_after sh s (ReadCat v) op ms = changed_by sh s (ReadCat v) op ms
+meanings_after sh s (ReadSlot k) op ms = changed_by sh s (ReadSlot k) op ms
 meanings_after sh s (StoreNew c part word) op ms = changed_by sh s (StoreNew c part word) op ms
 meanings_after sh s step op ms = ms
 
@@ -112,6 +114,8 @@ abbrev pub Asks : SeatState → Meaning → Option Heap → Step → Op → Type
 Asks s m catalogue (StoreField v i w) op = HasSeenPhase s × IsSet m.heap v i w op
 Asks s m catalogue (StoreValue v n) op = HasSeenPhase s × (op ≡ ops.Put v n) × (n < flag)
 Asks s m catalogue (StoreRoot v r) op = HasSeenPhase s × IsAssignment s m catalogue v r op
+-- a plain heap has no slots
+Asks s m catalogue (StoreSlot k r) op = ⊥
 Asks s m catalogue (StoreNew c part word) op = part ≡ 0 → length m.heap.objects ≡ s.made
 Asks s m catalogue step op = Unit {0}
 

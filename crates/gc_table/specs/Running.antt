@@ -6,7 +6,7 @@ use Rattle.mark_core.specs.Places.{the_phase}
 use Rattle.mark_core.specs.Seats.{phase_number}
 use Rattle.mark_core.specs.declared.kinds.Phase.{Phase}
 use Rattle.mark_core.specs.declared.kinds.Step.{Step}
-use Rattle.mark_core.specs.declared.kinds.Step.TheVariants.{StoreField, StoreValue, StoreRoot, StoreNew, StorePosition, OpenStep, DropStep, StorePhase, ReadOwn, ReadCat, NextSeason, ExchangeField, ExchangeValue}
+use Rattle.mark_core.specs.declared.kinds.Step.TheVariants.{StoreField, StoreValue, StoreRoot, StoreNew, StorePosition, OpenStep, DropStep, StorePhase, ReadOwn, ReadCat, NextSeason, ExchangeField, ExchangeValue, StoreSlot, ReadSlot}
 use Rattle.gc_table.specs.declared.view.Entry.{Entry}
 use Rattle.gc_table.specs.declared.view.View.{View}
 pub use Rattle.gc_table.specs.Entries.{is_store}
@@ -62,9 +62,11 @@ ends_alone step = false
 abbrev pub changes_section : Step → Bool
 changes_section (ReadOwn c i) = true
 changes_section (ReadCat v) = true
+changes_section (ReadSlot k) = true
 changes_section (StoreField v i w) = true
 changes_section (StoreValue v n) = true
 changes_section (StoreRoot v r) = true
+changes_section (StoreSlot k r) = true
 changes_section (ExchangeField v i x y) = true
 changes_section (ExchangeValue v m n) = true
 changes_section (StoreNew c part word) = true

@@ -7,7 +7,7 @@ use Rattle.mark_core.specs.Seats.{is_the, saw}
 use Rattle.mark_core.specs.declared.kinds.Shape.{Shape}
 use Rattle.mark_core.specs.declared.kinds.Phase.TheVariants.{Idle, Full}
 use Rattle.mark_core.specs.declared.kinds.Step.{Step}
-use Rattle.mark_core.specs.declared.kinds.Step.TheVariants.{ReadOwn, ReadCat, StoreField, StoreValue, StoreRoot, StoreNew, StorePosition, StorePhase, NextSeason, ExchangeField, ExchangeValue}
+use Rattle.mark_core.specs.declared.kinds.Step.TheVariants.{ReadOwn, ReadCat, StoreField, StoreValue, StoreRoot, StoreNew, StorePosition, StorePhase, NextSeason, ExchangeField, ExchangeValue, StoreSlot, ReadSlot}
 use Rattle.mark_core.specs.declared.seat.SeatState.{SeatState}
 use Rattle.plain_heap.specs.declared.object.Ref.{Ref}
 use Rattle.plain_heap.specs.declared.object.Ref.TheVariants as refs
@@ -59,6 +59,8 @@ meaning_by sh s catalogue (StoreValue v n) m = record m { heap = stored_at m.hea
 meaning_by sh s catalogue (StoreRoot v r) m = with_got refs.Nil (record m { heap = rooted s m v r })
 meaning_by sh s catalogue (ReadOwn c i) m = with_got (followed m.heap catalogue (known_as s m c) i) m
 meaning_by sh s catalogue (ReadCat v) m = with_got (lent_variable catalogue v) m
+-- where objects aren't shared slots are nil, and elsewhere nothing is told of the register
+meaning_by sh s catalogue (ReadSlot k) m = with_got refs.Nil m
 meaning_by sh s catalogue (StoreNew c part word) m = with_part sh part word m
 meaning_by sh s catalogue step m = m
 
@@ -78,6 +80,7 @@ noted sh s (StoreValue v n) x = with_plain_step s x
 noted sh s (StoreRoot v r) x = with_plain_step s x
 noted sh s (ExchangeField v i y z) x = record x { settled = false }
 noted sh s (ExchangeValue v m n) x = record x { settled = false }
+noted sh s (StoreSlot k r) x = record x { settled = false }
 noted sh s (StoreNew c part word) x = placed sh s c part x
 noted sh s (StorePosition done) x = record x { position = done }
 noted sh s (StorePhase to) x =
@@ -96,6 +99,8 @@ AskedOf sh plan s x named (StoreValue v n) = HasSeenPhase s × (IsFalse sh.shari
 AskedOf sh plan s x named (StoreRoot v r) = HasSeenPhase s × (IsFalse sh.sharing → (op : Op) × Asks s x.meaning (seen_by sh plan s) (StoreRoot v r) op)
 AskedOf sh plan s x named (ExchangeField v i y z) = HasSeenPhase s
 AskedOf sh plan s x named (ExchangeValue v m n) = HasSeenPhase s
+-- slots are for heaps whose objects are shared
+AskedOf sh plan s x named (StoreSlot k r) = HasSeenPhase s × IsTrue sh.sharing
 AskedOf sh plan s x named (StoreNew c part word) = part ≡ 0 → length x.meaning.heap.objects ≡ s.made
 -- the seat has named its section before it says that the heap is full
 AskedOf sh plan s x named (StorePhase to) = IsTrue (saw (Some to) Full) → (w : ℕ) × (s.section ≡ Some w) × (named ≡ Some w)

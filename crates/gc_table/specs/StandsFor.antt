@@ -82,6 +82,8 @@ pub record Stands (sh : Shape) (roots identities values fields : List ℕ) (used
   pub numbered : (w : ℕ) (m : Meaning) → slice_get ms w ≡ Some m → IsSection sh w m
   -- each root agrees with its variable
   pub roots_agree : (w : ℕ) (m : Meaning) → slice_get ms w ≡ Some m → (v : ℕ) → v < section_variables → WordAgrees identities (object_count ms) w (slice_index roots (w * section_variables + v)) (variable m.heap v)
+  -- a plain heap has no slots: those of its words stay nil
+  pub slots_nil : (k : ℕ) → slice_index roots (sh.sections * section_variables + k) ≡ 0
   -- each cell in use belongs to a section
   pub cells_agree : EachCell sh (λ c. used c → (m : Meaning) × (slice_get ms (section_of_cell identities c) ≡ Some m) × IsCellOf sh identities values fields (object_count ms) m c)
   pub seats_agree : (w : ℕ) (s : SeatState) (m : Meaning) → slice_get seats w ≡ Some s → slice_get ms w ≡ Some m → IsFalse s.spent → SeatStands sh identities values (object_count ms) w s m

@@ -124,6 +124,27 @@ impl Heap {
         self.store_step(seat, Step::StoreRoot { v, r });
     }
 
+    /// Stores a reference in slot k of the seat's section, as in a variable; the seat keeps no copy of it. Only where objects are shared.
+    pub fn store_slot(&self, seat: &mut HeapSeat, k: u16, r: u64)
+        requires seat { Sits self.now seat.old }
+        requires may { May (Step.StoreSlot k r) (view_of seat.old) }
+        requires asked { Asked (Step.StoreSlot k r) (view_of seat.old) }
+        ensures seat { Sits self.now seat.new }
+        ensures view { Across (Stored (Step.StoreSlot k r)) seat.old seat.new }
+    {
+        self.store_step(seat, Step::StoreSlot { k, r });
+    }
+
+    /// Slot k of the seat's section. The register has what was read.
+    pub fn read_slot(&self, seat: &mut HeapSeat, k: u16) -> u64
+        requires seat { Sits self.now seat.old }
+        requires may { May (Step.ReadSlot k) (view_of seat.old) }
+        ensures seat { Sits self.now seat.new }
+        ensures view { Across (Found (Step.ReadSlot k) result) seat.old seat.new }
+    {
+        self.load_step(seat, Step::ReadSlot { k })
+    }
+
     /// Claims block b to make cells in, for a seat without a cache: true where nobody had it.
     pub fn claim_block(&self, seat: &mut HeapSeat, b: u32) -> bool
         requires seat { Sits self.now seat.old }

@@ -39,6 +39,16 @@ impl Heap {
         self.load_step(seat, Step::ReadRoot { section, v })
     }
 
+    /// Slot k of a section, for a tracer that holds a packet, as a variable.
+    pub fn load_slot(&self, seat: &mut HeapSeat, section: u32, k: u16) -> u64
+        requires seat { Sits self.now seat.old }
+        requires may { May (Step.LoadSlot section k) (view_of seat.old) }
+        ensures seat { Sits self.now seat.new }
+        ensures view { Across (Found (Step.LoadSlot section k) result) seat.old seat.new }
+    {
+        self.load_step(seat, Step::LoadSlot { section, k })
+    }
+
     /// Marks the cell that was loaded: true where it was white, and then it is in hand until it is pushed or its card is dirty.
     pub fn set_mark(&self, seat: &mut HeapSeat, c: Cell) -> bool
         requires seat { Sits self.now seat.old }

@@ -1,9 +1,9 @@
 -- The seat that acts in a state that meets the rule, and what it finds in a region of the words.
-use Rattle.std.proofs.Common.{ℕ, ◌≡◌, ◌*◌, ◌<◌, map, length, arith, ap, ◌∙◌, subst}
+use Rattle.std.proofs.Common.{ℕ, ◌≡◌, ◌<◌, map, length, arith, ap, ◌∙◌, subst}
 use Rattle.std.specs.Prelude.{slice_index}
 use Rattle.std.specs.List.{All}
 use Rattle.std.proofs.lemmas.List.{get_or-map, length-map}
-use Rattle.mark_core.specs.Layout.{words_of, address, region_sizes, block_count}
+use Rattle.mark_core.specs.Layout.{words_of, address, region_sizes, block_count, root_count}
 use Rattle.mark_core.specs.Steps.{Core}
 use Rattle.mark_core.specs.Laws.{IsCore}
 use Rattle.mark_core.proofs.Blocks.BlocksTaken.{Taken, within, own-record}
@@ -20,7 +20,7 @@ of-view f P c i s step k a = subst P (get_or-map f c.seats i s (f s) (within c i
 pub allocs-length : (c : Core) → IsCore c → length (words_of c.shape c.words).allocs ≡ block_count c.shape
 allocs-length c k = region-length (region_sizes c.shape) 4 c.words (omega (arith, k.formed.words))
 
-pub roots-length : (c : Core) → IsCore c → length (words_of c.shape c.words).roots ≡ c.shape.sections * 32
+pub roots-length : (c : Core) → IsCore c → length (words_of c.shape c.words).roots ≡ root_count c.shape
 roots-length c k = region-length (region_sizes c.shape) 2 c.words (omega (arith, k.formed.words))
 
 pub marks-length : (c : Core) → IsCore c → length (words_of c.shape c.words).marks ≡ block_count c.shape

@@ -12,7 +12,7 @@ use Rattle.mark_core.specs.Seats.{may_mutate, cache_block}
 use Rattle.mark_core.specs.Steps.ColourSteps.{may_read_field}
 use Rattle.mark_core.specs.Parts.{parts}
 use Rattle.mark_core.specs.Effects.{place, written, seat_after}
-use Rattle.mark_core.specs.Room.{HasNumber, HasRoom}
+use Rattle.mark_core.specs.Room.{HasNumber, HasRoom, HasValue}
 use Rattle.mark_core.specs.Bounds.{CacheFits, SeatBounds, IsBounded}
 use Rattle.mark_core.specs.Steps.{Core, first_false, AllTrue, failing_of, failing_part, others_after, after_of, after_event}
 use Rattle.mark_core.specs.Laws.{NumbersFit}
@@ -128,10 +128,10 @@ done c e s t at old word others r is ha ho hw ht hs =
     rw (hs, ht, hw, found, ha) refl
 
 -- a number that a step stores fits a word where what is stored does
-pub numbers-fit : (sh : Shape) (s : SeatState) (step : Step) (old word : ℕ) → word ≡ written sh s step old → word < 18446744073709551616 → NumbersFit step
-numbers-fit sh s (StorePosition done) old word e h = subst (λ (n : ℕ). n < 18446744073709551616) e h
-numbers-fit sh s (StoreValue v n) old word e h = subst (λ (m : ℕ). m < 18446744073709551616) e h
-numbers-fit sh s step old word e h = tt
+pub numbers-fit : (sh : Shape) (s : SeatState) (step : Step) (old word : ℕ) → word ≡ written sh s step old → word < 18446744073709551616 → HasValue step → NumbersFit step
+numbers-fit sh s (StorePosition done) old word e h v = subst (λ (n : ℕ). n < 18446744073709551616) e h
+numbers-fit sh s (StoreValue v n) old word e h b = b
+numbers-fit sh s step old word e h v = tt
 
 -- what refuses an event of a seat that doesn't exist, or of one that was joined into another
 pub failing_past : (c : Core) (e : Event) → length c.seats ≤ e.seat → Some 0 ≡ failing_part c e

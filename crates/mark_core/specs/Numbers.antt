@@ -38,11 +38,11 @@ last_count = 2
 abbrev pub rescanned_count : ℕ
 rescanned_count = 3
 
--- the objects that were traced in this cycle: the last number that can be reset
+-- the objects that were traced in this cycle
 abbrev pub traced_count : ℕ
 traced_count = 4
 
--- the free cells
+-- the free cells: the last number that can be reset
 abbrev pub free_count : ℕ
 free_count = 5
 

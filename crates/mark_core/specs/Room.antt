@@ -3,9 +3,9 @@ use Rattle.std.specs.Prelude.{◌<◌}
 use Rattle.mark_core.specs.Held.{length_in_hand}
 use Rattle.mark_core.specs.declared.kinds.Shape.{Shape}
 use Rattle.mark_core.specs.declared.kinds.Step.{Step}
-use Rattle.mark_core.specs.declared.kinds.Step.TheVariants.{Push, ReadField, StoreRoot, StoreNew}
+use Rattle.mark_core.specs.declared.kinds.Step.TheVariants.{Push, ReadField, StoreRoot, StoreNew, StoreValue}
 use Rattle.mark_core.specs.declared.seat.SeatState.{SeatState}
-use Rattle.mark_core.specs.Numbers.{section_variables}
+use Rattle.mark_core.specs.Numbers.{section_variables, value_bound}
 
 -- what the step adds one to has room for it, and the variable that it sets exists
 abbrev pub HasRoom : SeatState → Step → Type 0
@@ -19,3 +19,8 @@ HasRoom s step = Unit {0}
 abbrev pub HasNumber : Shape → SeatState → Step → Type 0
 HasNumber sh s (StoreNew c part word) = sh.fields < part → s.made < 4294967295
 HasNumber sh s step = Unit {0}
+
+-- the value that the step stores is a number of thirty-two bits
+abbrev pub HasValue : Step → Type 0
+HasValue (StoreValue v n) = n < value_bound
+HasValue step = Unit {0}

@@ -77,6 +77,7 @@ fn of_colour(bases: &Bases, s: &SeatState, step: &Step) -> usize
         Step::ReadAlloc { b } => bases.alloc_at(b),
         Step::ReadField { c, i } => bases.field_at(c.number(), i),
         Step::ReadRoot { section, v } => bases.root_at(section, v),
+        Step::LoadSlot { section, k } => bases.slot_at(section, k),
         Step::SetMark { c } => bases.mark_at(c.number() / BLOCK_CELLS),
         Step::DirtyCard { card } | Step::ClearCard { card } | Step::ReadCard { card } =>
             bases.card_at(card),
@@ -106,6 +107,10 @@ fn of_mutator(bases: &Bases, s: &SeatState, step: &Step) -> usize
         Step::StoreField { v, i, w: _ } => bases.field_at(own_cell(s, v), i),
         Step::StoreValue { v, n: _ } => bases.value_at(own_cell(s, v)),
         Step::StoreRoot { v, r: _ } => bases.root_at(s.section.unwrap_or(0), v),
+        Step::StoreSlot { k, r: _ } | Step::ReadSlot { k } => bases.slot_at(
+            s.section.unwrap_or(0),
+            k,
+        ),
         Step::ExchangeField {
             v,
             i,

@@ -1,8 +1,9 @@
 //! The address of each word in the list of all words, with where the regions begin worked out once.
-ghost use Rattle.std.specs.Prelude.{◌≡◌, ◌<◌};
+ghost use Rattle.std.specs.Prelude.{◌≡◌, ◌<◌, ◌+◌, ◌*◌};
 ghost use Rattle.mark_core.specs.Layout.{pool_words as pool_words_of, region_sizes, region_base, address};
-ghost use Rattle.mark_core.specs.Places.{position_at as position_place, root_at as root_place, owner_at as owner_place, alloc_at as alloc_place, mark_at as mark_place, card_at as card_place, head_at as head_place, entry_at as entry_place, identity_at as identity_place, value_at as value_place, field_at as field_place, pool_at as pool_place, counter_at as counter_place};
+ghost use Rattle.mark_core.specs.Places.{position_at as position_place, root_at as root_place, slot_at as slot_place, owner_at as owner_place, alloc_at as alloc_place, mark_at as mark_place, card_at as card_place, head_at as head_place, entry_at as entry_place, identity_at as identity_place, value_at as value_place, field_at as field_place, pool_at as pool_place, counter_at as counter_place};
 ghost use Rattle.mark_core.specs.Shapes.{IsShape};
+ghost use Rattle.mark_core.specs.Numbers.{section_variables};
 
 use crate::kinds::Shape;
 use crate::layout::{self, NAMED, NEXT_CARD};
@@ -14,6 +15,7 @@ pub struct Bases {
     pub(crate) shape: Shape,
     positions: usize,
     roots: usize,
+    slots: usize,
     owners: usize,
     allocs: usize,
     marks: usize,
@@ -29,6 +31,7 @@ pub struct Bases {
     ghost shaped: { IsShape shape },
     ghost positions_begin: { positions ≡ region_base (region_sizes shape) 1 },
     ghost roots_begin: { roots ≡ region_base (region_sizes shape) 2 },
+    ghost slots_begin: { slots ≡ region_base (region_sizes shape) 2 + shape.sections * section_variables },
     ghost owners_begin: { owners ≡ region_base (region_sizes shape) 3 },
     ghost allocs_begin: { allocs ≡ region_base (region_sizes shape) 4 },
     ghost marks_begin: { marks ≡ region_base (region_sizes shape) 5 },
@@ -54,6 +57,7 @@ impl Bases {
             shape: *shape,
             positions: layout::positions(shape),
             roots: layout::roots(shape),
+            slots: layout::slots(shape),
             owners: layout::owners(shape),
             allocs: layout::allocs(shape),
             marks: layout::marks(shape),
@@ -83,6 +87,14 @@ impl Bases {
         ensures { result ≡ address self.now.shape (root_place section v) }
     {
         self.roots + (section as usize * VARIABLES as usize + v as usize)
+    }
+
+    /// The address of slot k of this section.
+    #[inline(always)]
+    pub fn slot_at(&self, section: u32, k: u16) -> usize
+        ensures { result ≡ address self.now.shape (slot_place self.now.shape section k) }
+    {
+        self.slots + (section as usize * self.shape.slots as usize + k as usize)
     }
 
     /// The address of the word that says who makes cells in block b.

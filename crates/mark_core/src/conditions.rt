@@ -68,6 +68,7 @@ fn of_colour(shape: &Shape, phase: u64, s: &SeatState, step: &Step) -> Option<u8
         Step::ReadAlloc { b } => colour::check_read_alloc(shape, s, b),
         Step::ReadField { c, i } => colour::check_read_field(shape, s, c, i),
         Step::ReadRoot { section, v } => colour::check_read_root(shape, phase, s, section, v),
+        Step::LoadSlot { section, k } => colour::check_load_slot(shape, phase, s, section, k),
         Step::SetMark { c } => colour::check_set_mark(shape, phase, s, c),
         Step::DirtyCard { card } => colour::check_dirty_card(shape, s, card),
         Step::ClearCard { card } => colour::check_clear_card(shape, phase, s, card),
@@ -98,6 +99,8 @@ fn of_mutator(shape: &Shape, words: &[u64], s: &SeatState, step: &Step) -> Optio
             mutator::check_store_value(shape, identity, s, v)
         }
         Step::StoreRoot { v, r } => mutator::check_store_root(s, v, r),
+        Step::StoreSlot { k, r } => mutator::check_store_slot(shape, s, k, r),
+        Step::ReadSlot { k } => mutator::check_read_slot(shape, s, k),
         Step::ExchangeField {
             v,
             i,

@@ -2,7 +2,7 @@
 ghost use Rattle.std.specs.Prelude.{◌≡◌};
 ghost use Rattle.mark_core.specs.Effects.{written, seat_after};
 ghost use Rattle.mark_core.specs.Passes.{pass_of as pass_of_step};
-ghost use Rattle.mark_core.specs.Room.{HasNumber, HasRoom};
+ghost use Rattle.mark_core.specs.Room.{HasNumber, HasRoom, HasValue};
 ghost use Rattle.mark_core.specs.declared.kinds.Shape.{Shape};
 
 use crate::kinds::{Shape, Step};
@@ -27,6 +27,19 @@ pub fn act(shape: &Shape, s: &mut SeatState, step: &Step, old: u64) -> u64
         Pass::Sweep => of_sweep(shape, s, step, old),
         Pass::Counters => of_counters(shape, s, step, old),
         Pass::Help => of_help(s, step, old),
+    }
+}
+
+/// A value has the thirty-two bits of its type.
+#[inline(always)]
+pub fn has_value(step: &Step)
+    ensures { HasValue step.now }
+{
+    match *step {
+        Step::StoreValue { v: _, n } => {
+            prove!(n <= 4_294_967_295);
+        }
+        _ => {}
     }
 }
 
@@ -61,7 +74,8 @@ fn of_colour(s: &mut SeatState, step: &Step, old: u64) -> u64
     match *step {
         Step::ReadAlloc { b } => colour::read_alloc(s, b, old),
         Step::ReadField { c, i } => colour::read_field(s, c, i, old),
-        Step::ReadRoot { section: _, v: _ } => colour::read_root(s, old),
+        Step::ReadRoot { section: _, v: _ } | Step::LoadSlot { section: _, k: _ } =>
+            colour::read_root(s, old),
         Step::SetMark { c } => colour::set_mark(s, c, old),
         Step::DirtyCard { card } => colour::dirty_card(s, card),
         Step::ClearCard { card } => colour::clear_card(s, card, old),
@@ -80,11 +94,13 @@ fn of_mutator(s: &mut SeatState, step: &Step, old: u64) -> u64
     ensures seat { (sh : Shape) → s.new ≡ seat_after sh s.old step.now old }
 {
     match *step {
-        Step::ReadOwn { c: _, i: _ } | Step::ReadCat { v: _ } => mutator::read_reference(s, old),
+        Step::ReadOwn { c: _, i: _ } | Step::ReadCat { v: _ } | Step::ReadSlot { k: _ } =>
+            mutator::read_reference(s, old),
         Step::ReadValue { c: _ } | Step::ReadIdent { c: _ } => old,
         Step::StoreField { v, i: _, w } => mutator::store_field(s, v, w),
         Step::StoreValue { v: _, n } => u64::from(n),
         Step::StoreRoot { v, r } => mutator::store_root(s, v, r),
+        Step::StoreSlot { k: _, r } => mutator::store_slot(s, r),
         Step::ExchangeField {
             v,
             i: _,

@@ -1,8 +1,9 @@
 //! Where each region of words begins in the list of all words.
-ghost use Rattle.std.specs.Prelude.{◌≡◌, ◌<◌, ◌+◌, ◌-◌, ◌≤◌, ◌^◌, length, take, drop};
+ghost use Rattle.std.specs.Prelude.{◌≡◌, ◌<◌, ◌+◌, ◌*◌, ◌-◌, ◌≤◌, ◌^◌, length, take, drop};
 ghost use Rattle.mark_core.specs.Layout.{pool_words as pool_words_of, block_count as block_count_of, card_count as card_count_of, region_sizes, region_base, total_words as total_words_of, address, words_of};
 ghost use Rattle.mark_core.specs.Places.{identity_at as identity_place};
 ghost use Rattle.mark_core.specs.Shapes.{IsShape};
+ghost use Rattle.mark_core.specs.Numbers.{section_variables};
 
 use crate::cards::{BLOCK_CELLS, CARD_CELLS};
 use crate::kinds::Shape;
@@ -59,22 +60,31 @@ pub fn positions(shape: &Shape) -> usize
     SINGLE_WORDS
 }
 
-/// Where the roots begin, [`VARIABLES`](crate::VARIABLES) for each section.
+/// Where the roots begin: [`VARIABLES`](crate::VARIABLES) for each section, and the slots behind.
 pub fn roots(shape: &Shape) -> usize
     ensures { result ≡ region_base (region_sizes shape.now) 2 }
 {
     positions(shape) + shape.sections as usize
 }
 
-/// Where the owners begin, one for each block.
-pub fn owners(shape: &Shape) -> usize
-    ensures { result ≡ region_base (region_sizes shape.now) 3 }
+/// Where the slots begin, as many for each section as the shape says.
+pub fn slots(shape: &Shape) -> usize
+    ensures { result ≡ region_base (region_sizes shape.now) 2 + shape.now.sections * section_variables }
 {
     roots(shape) + shape.sections as usize * VARIABLES as usize
 }
 
+/// Where the owners begin, one for each block.
+pub fn owners(shape: &Shape) -> usize
+    requires { IsShape shape.now }
+    ensures { result ≡ region_base (region_sizes shape.now) 3 }
+{
+    slots(shape) + shape.sections as usize * shape.slots as usize
+}
+
 /// Where the allocation bits begin, a word for each block.
 pub fn allocs(shape: &Shape) -> usize
+    requires { IsShape shape.now }
     ensures { result ≡ region_base (region_sizes shape.now) 4 }
 {
     owners(shape) + block_count(shape) as usize
@@ -82,6 +92,7 @@ pub fn allocs(shape: &Shape) -> usize
 
 /// Where the mark bits begin, a word for each block.
 pub fn marks(shape: &Shape) -> usize
+    requires { IsShape shape.now }
     ensures { result ≡ region_base (region_sizes shape.now) 5 }
 {
     allocs(shape) + block_count(shape) as usize
@@ -89,6 +100,7 @@ pub fn marks(shape: &Shape) -> usize
 
 /// Where the cards begin, a word for each.
 pub fn cards(shape: &Shape) -> usize
+    requires { IsShape shape.now }
     ensures { result ≡ region_base (region_sizes shape.now) 6 }
 {
     marks(shape) + block_count(shape) as usize
@@ -96,6 +108,7 @@ pub fn cards(shape: &Shape) -> usize
 
 /// Where the heads of packets begin, a word for each packet.
 pub fn heads(shape: &Shape) -> usize
+    requires { IsShape shape.now }
     ensures { result ≡ region_base (region_sizes shape.now) 7 }
 {
     cards(shape) + card_count(shape) as usize
@@ -103,6 +116,7 @@ pub fn heads(shape: &Shape) -> usize
 
 /// Where the entries begin, packet by packet.
 pub fn entries(shape: &Shape) -> usize
+    requires { IsShape shape.now }
     ensures { result ≡ region_base (region_sizes shape.now) 8 }
 {
     heads(shape) + shape.packets as usize
@@ -172,7 +186,7 @@ pub fn positions_of<'a>(shape: &Shape, words: &'a [u64]) -> &'a [u64]
     &words[positions(shape)..roots(shape)]
 }
 
-/// The words of the roots: 32 for each section, section by section.
+/// The words of the roots: the 32 variables of each section, section by section, and the slots of each section behind.
 pub fn roots_of<'a>(shape: &Shape, words: &'a [u64]) -> &'a [u64]
     requires shaped { IsShape shape.now }
     requires whole { length words.now ≡ total_words_of (region_sizes shape.now) }

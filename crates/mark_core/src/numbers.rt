@@ -30,12 +30,11 @@ pub const LAST: u8 = 2;
 /// How many objects were scanned again in the last cycle's stop. It is set as `LAST` is.
 pub const RESCANNED: u8 = 3;
 
-/// How many objects were traced in this cycle. Mutators and tracers raise it by what they traced; it falls to 0 as a cycle ends. It is the last number that
-/// `Reset` takes.
+/// How many objects were traced in this cycle. Mutators and tracers raise it by what they traced; it falls to 0 as a cycle ends.
 pub const TRACED: u8 = 4;
 
 /// How many cells are free. A mutator lowers it by the free cells of a block that it claims, and raises it by those that it gives back; as a cycle ends it is
-/// set to what was counted, by `AddStat` alone. It starts as the number of cells.
+/// set to what was counted: `Reset`, and then `AddStat`. It starts as the number of cells. It is the last number that `Reset` takes.
 pub const FREE: u8 = 5;
 
 /// How many parts the sections have played. A section raises it by 1 at the end of its part, and it never falls. It is the last statistic.

@@ -37,6 +37,7 @@ pub fn pass_of(step: &Step) -> Pass
         Step::ReadAlloc { b: _ }
         | Step::ReadField { c: _, i: _ }
         | Step::ReadRoot { section: _, v: _ }
+        | Step::LoadSlot { section: _, k: _ }
         | Step::SetMark { c: _ }
         | Step::DirtyCard { card: _ }
         | Step::ClearCard { card: _ }
@@ -50,6 +51,8 @@ pub fn pass_of(step: &Step) -> Pass
         | Step::StoreField { v: _, i: _, w: _ }
         | Step::StoreValue { v: _, n: _ }
         | Step::StoreRoot { v: _, r: _ }
+        | Step::StoreSlot { k: _, r: _ }
+        | Step::ReadSlot { k: _ }
         | Step::ExchangeField {
             v: _,
             i: _,
@@ -144,7 +147,9 @@ fn of_colour(step: &Step) -> u8
 {
     match *step {
         Step::ReadAlloc { b: _ } => 9,
-        Step::ReadField { c: _, i: _ } | Step::ReadRoot { section: _, v: _ } => 10,
+        Step::ReadField { c: _, i: _ }
+        | Step::ReadRoot { section: _, v: _ }
+        | Step::LoadSlot { section: _, k: _ } => 10,
         Step::SetMark { c: _ } => 11,
         Step::DirtyCard { card: _ } => 12,
         Step::ClearCard { card: _ } => 13,
@@ -177,6 +182,8 @@ fn of_mutator(step: &Step) -> u8
             expected: _,
             new: _,
         } => 51,
+        Step::StoreSlot { k: _, r: _ } => 52,
+        Step::ReadSlot { k: _ } => 53,
         _ => unreachable!(),
     }
 }

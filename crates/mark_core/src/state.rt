@@ -95,6 +95,7 @@ impl CoreState {
         let mut s = self.seats[i];
         let at = address(&self.shape, &s, &event.step);
         let old = self.words[at];
+        effects::has_value(&event.step);
         let word = effects::act(&self.shape, &mut s, &event.step, old);
         self.words[at] = word;
         self.seats[i] = s;

@@ -1,12 +1,13 @@
 -- A seat that shares objects is ready again after a call.
-use Rattle.std.proofs.Common.{ℕ, ◌≡◌, ◌<◌, ◌+◌, length, arith, sym, ap, ◌∙◌, Bool, false, ◌&&◌, ◌||◌, not, Option, is_none}
+use Rattle.std.proofs.lemmas.List.Folds.{list_any_at}
+use Rattle.std.proofs.Common.{ℕ, ◌≡◌, ◌<◌, ◌+◌, length, arith, sym, ap, ◌∙◌, Bool, false, ◌&&◌, ◌||◌, not, Option, is_none, subst}
 use Rattle.std.specs.Prelude.{◌==◌, if◌then◌else◌, slice_set}
 use Rattle.std.specs.List.{list_any}
 use Rattle.std.proofs.lemmas.Bool.{and_from, or_left, or_right, lt-ltb, eq-eqb, ne_eqb, not_from_false}
 use Rattle.mark_core.specs.Bits.{reference_in}
 use Rattle.mark_core.specs.Numbers.{section_variables}
-use Rattle.mark_core.specs.Steps.MutatorSteps.{names_last}
-use Rattle.mark_core.specs.declared.kinds.Step.TheVariants.{StoreRoot}
+use Rattle.mark_core.specs.Steps.MutatorSteps.{names_last, seat_variable as word_in}
+use Rattle.mark_core.specs.declared.kinds.Step.TheVariants.{StoreRoot, ReadSlot, StoreSlot}
 use Rattle.plain_heap.specs.PlainHeap.{Heap}
 use Rattle.plain_heap.specs.PlainStep.{assigned, with_new}
 use Rattle.gc_table.specs.Seats.{Stored}
@@ -66,3 +67,28 @@ count-read u r x w counted e =
     ap (λ (y : View). length y.own.meaning.heap.objects) e
     ∙ count-rooted (names_last x.state.cache r && (length m.heap.objects + 1 == x.state.made)) (with_new m.heap u m.value) (assigned m.heap u (named_by x.state m r))
     (none-last (names_last x.state.cache r) (length m.heap.objects + 1 == x.state.made) (ne_eqb (length m.heap.objects + 1) x.state.made (λ z. omega (arith, z, counted))))
+
+-- a slot that exists may be read
+pub may-read_slot : (k : ℕ) (v : View) → SharesReady v → k < v.shape.slots → May (ReadSlot k) v
+may-read_slot k v ready low y i st a = (and_from _ _ (lt-ltb k y.core.shape.slots (subst (λ (sh : Shape). k < sh.slots) a.shape low)) ready.stores.turn, tt)
+
+-- what a variable holds may be stored in a slot
+pub may-spill : (k r u : ℕ) (v : View) → SharesReady v → k < v.shape.slots → u < section_variables → r ≡ word_in v.state u → May (StoreSlot k r) v
+may-spill k r u v ready low below is y i st a = (
+  and_from _ _ (lt-ltb k y.core.shape.slots (subst (λ (sh : Shape). k < sh.slots) a.shape low)) ready.stores.turn,
+  (
+    or_left ((r == 0) || (r == v.state.got) || list_any (λ n. n == r) v.state.env) (names_last v.state.cache r)
+        (or_right ((r == 0) || (r == v.state.got)) (list_any (λ n. n == r) v.state.env)
+        (list_any_at (λ n. n == r) v.state.env u 0 (omega (arith, below, (st.core.formed.seats i v.state a.seat).env)) (eq-eqb (word_in v.state u) r (sym is)))),
+    (and_from _ _ (ap is_none ready.stores.owes) (not_from_false _ ready.whole), tt),
+  ),
+)
+
+-- the record after a spill
+pub state-spilled : (k r : ℕ) (v w : View) → v.state.got ≡ 0 → Stored (StoreSlot k r) v w → w.state ≡ record v.state { env = w.state.env }
+state-spilled k r v w none e =
+    ap (λ (y : View). y.state) e ∙ (λ i. record v.state { got = sym none i }) ∙ (λ i. record v.state { env = sym (ap (λ (y : View). y.state.env) e) i })
+
+-- a spill leaves the record as it was
+pub state-kept : (k r : ℕ) (v w : View) → v.state.got ≡ 0 → Stored (StoreSlot k r) v w → w.state ≡ v.state
+state-kept k r v w none e = ap (λ (y : View). y.state) e ∙ (λ i. record v.state { got = sym none i })

@@ -5,7 +5,7 @@ use Rattle.mark_core.specs.Numbers.{section_span}
 use Rattle.mark_core.specs.Seats.{has_making, work_in_hand}
 use Rattle.mark_core.specs.Steps.MutatorSteps.{seat_variable as word_in}
 use Rattle.mark_core.specs.declared.kinds.Step.{Step}
-use Rattle.mark_core.specs.declared.kinds.Step.TheVariants.{ReadCat, ReadOwn, StoreRoot, StoreValue}
+use Rattle.mark_core.specs.declared.kinds.Step.TheVariants.{ReadCat, ReadOwn, ReadSlot, StoreRoot, StoreValue}
 use Rattle.mark_core.specs.declared.seat.SeatState.{SeatState}
 use Rattle.plain_heap.specs.PlainStep.{heap_after}
 use Rattle.plain_heap.specs.declared.operation.Op.TheVariants as ops
@@ -71,3 +71,10 @@ pub record ShareCreates (u n cell : ℕ) (v w : View) : Type 0 where
   -- what the seat keeps of its own section counts one more
   pub heap : w.own.meaning.heap ≡ heap_after v.own.meaning.heap None (ops.New u n)
   pub seasons : w.own.seasons ≡ v.own.seasons
+
+-- variable u became what slot k was found to be, by one read
+pub record FillsFound (u k : ℕ) (v x : View) : Type 0 where
+  pub ran : Ran v x
+  pub found : ℕ
+  pub events_are : events v x ≡ event (ReadSlot k) found ∷ event (StoreRoot u (reference_in found)) (reference_in found) ∷ []
+  pub state : x.state ≡ record v.state { env = slice_set v.state.env u (reference_in found) }

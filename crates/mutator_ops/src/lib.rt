@@ -38,7 +38,7 @@ pub use objects::{put, set};
 pub use placing::cell_of_variable;
 pub use reading::{say, sum};
 pub use sharing::{
-    share_copy, share_count, share_create, share_exchange, share_follow, share_forget, share_lend,
-    share_put, share_set, share_value_of,
+    share_copy, share_count, share_create, share_exchange, share_fill, share_follow, share_forget,
+    share_lend, share_put, share_set, share_spill, share_value_of,
 };
 pub use variables::{assign, clear, follow, lend};

@@ -1,15 +1,15 @@
 //! Calls of a mutator whose heap shares its objects: each is told by the steps that it takes, and each takes effect at one of them.
-ghost use Rattle.std.specs.Prelude.{◌≡◌, ◌≢◌, ◌<◌, ◌-◌, IfNone, IfSome, IsTrue, Some};
+ghost use Rattle.std.specs.Prelude.{◌≡◌, ◌≢◌, ◌<◌, ◌-◌, ◌∷◌, [], IfNone, IfSome, IsTrue, Some};
 ghost use Rattle.std.specs.Int.Count.{ones};
 ghost use Rattle.mark_core.specs.Numbers.{section_variables};
 ghost use Rattle.mark_core.specs.Steps.MutatorSteps.{in_variables, seat_variable as word_in};
-ghost use Rattle.mark_core.specs.declared.kinds.Step.TheVariants.{ExchangeValue, ReadValue};
+ghost use Rattle.mark_core.specs.declared.kinds.Step.TheVariants.{ExchangeValue, ReadValue, StoreSlot};
 ghost use Rattle.alloc_cache.specs.Caching.{IsCached};
 ghost use Rattle.card_clean.specs.Barrier.{Exchanged};
 ghost use Rattle.gc_table.specs.Running.{Ran};
 ghost use Rattle.gc_table.specs.Taking.{won};
 ghost use Rattle.gc_table.specs.Seats.{Across, Answered, Found, Sits, state_of, view_of};
-ghost use Rattle.mutator_ops.specs.Sharing.{FollowsFound, LendsFound, ShareCreates, SharesReady, SetsVariable, TakesSteps, putting_steps, setting_steps};
+ghost use Rattle.mutator_ops.specs.Sharing.{FillsFound, FollowsFound, LendsFound, ShareCreates, SharesReady, SetsVariable, TakesSteps, putting_steps, setting_steps};
 
 use crate::making::next_identity;
 use crate::variables::word_of;
@@ -163,4 +163,27 @@ pub fn share_create(
     let cell = new_cell(heap, seat, cache, id, n)?;
     heap.store_root(seat, v, u64::from(cell.number()) + 1);
     Some(cell)
+}
+
+/// Slot k of the seat's section becomes what variable v is: a spill.
+pub fn share_spill(heap: &Heap, seat: &mut HeapSeat, v: u8, k: u16)
+    requires seat { Sits heap.now seat.old × SharesReady (view_of seat.old) }
+    requires range { (v < section_variables) × (k < heap.now.shape.slots) }
+    ensures seat { Sits heap.now seat.new × SharesReady (view_of seat.new) }
+    ensures takes { Across (TakesSteps (StoreSlot k (word_in (state_of seat.old) v) ∷ [])) seat.old seat.new }
+{
+    let word = word_of(seat, v);
+    heap.store_slot(seat, k, u64::from(word));
+}
+
+/// Variable v becomes what slot k of the seat's section is: a fill.
+pub fn share_fill(heap: &Heap, seat: &mut HeapSeat, v: u8, k: u16)
+    requires seat { Sits heap.now seat.old × SharesReady (view_of seat.old) }
+    requires range { (v < section_variables) × (k < heap.now.shape.slots) }
+    ensures seat { Sits heap.now seat.new × SharesReady (view_of seat.new) }
+    ensures fills { Across (FillsFound v k) seat.old seat.new }
+{
+    heap.read_slot(seat, k);
+    let reference = seat.state().got;
+    heap.store_root(seat, v, u64::from(reference));
 }

@@ -9,7 +9,7 @@ use Rattle.mark_core.specs.Seats.{takes_part, is_the, scans, may_scan, scan_left
 use Rattle.mark_core.specs.WellFormed.{IsSeat, IsCleaning}
 use Rattle.mark_core.specs.declared.kinds.Shape.{Shape}
 use Rattle.mark_core.specs.declared.kinds.Phase.TheVariants.{Marking, Drain}
-use Rattle.mark_core.specs.declared.kinds.Step.TheVariants.{ReadField, ReadRoot, SetMark, DirtyCard}
+use Rattle.mark_core.specs.declared.kinds.Step.TheVariants.{ReadField, ReadRoot, SetMark, DirtyCard, LoadSlot}
 use Rattle.mark_core.specs.declared.seat.Cleaning.{Cleaning}
 use Rattle.mark_core.specs.declared.seat.SeatState.{SeatState}
 use Rattle.gc_table.specs.declared.view.View.{View}
@@ -93,6 +93,9 @@ module _ (v w : View) (n : ℕ) where
 
   pub traced-read_root : (section u : ℕ) → Finds (ReadRoot section u) n v → w ≡ after (ReadRoot section u) n v → OnlyTraced v w
   traced-read_root section u f e = traced-to v w (ReadRoot section u) n e (traced-read v (ReadRoot section u) n refl refl f refl refl refl refl refl)
+
+  pub traced-load_slot : (section k : ℕ) → Finds (LoadSlot section k) n v → w ≡ after (LoadSlot section k) n v → OnlyTraced v w
+  traced-load_slot section k f e = traced-to v w (LoadSlot section k) n e (traced-read v (LoadSlot section k) n refl refl f refl refl refl refl refl)
 
 -- the card of a fresh cell
 pub fresh-answers : (s : SeatState) (x card : ℕ) → s.fresh ≡ Some x → card_of x ≡ card → answers_for s card ≡ true

@@ -5,7 +5,7 @@ use Rattle.mark_core.specs.Cards.{block_cells}
 use Rattle.mark_core.specs.Places.{the_empty_count, mark_at, card_at, head_at}
 use Rattle.mark_core.specs.Notes.{same_place, steady, keeps_bound}
 use Rattle.mark_core.specs.declared.kinds.Step.{Step}
-use Rattle.mark_core.specs.declared.kinds.Step.TheVariants.{Reserve, Take, Give, Credit, Push, Pop, Look, ReadCount, ReadAlloc, ReadField, ReadRoot, SetMark, DirtyCard, ClearCard, ReadMarks, ReadCard, StoreLength, ReadLength}
+use Rattle.mark_core.specs.declared.kinds.Step.TheVariants.{Reserve, Take, Give, Credit, Push, Pop, Look, ReadCount, ReadAlloc, ReadField, ReadRoot, SetMark, DirtyCard, ClearCard, ReadMarks, ReadCard, StoreLength, ReadLength, LoadSlot}
 use Rattle.mark_core.specs.declared.seat.SeatState.{SeatState}
 use Rattle.gc_table.specs.declared.view.View.{View}
 use Rattle.gc_table.specs.Notes.{look}
@@ -67,6 +67,7 @@ traces_cells ReadCount = true
 traces_cells (ReadAlloc b) = true
 traces_cells (ReadField c i) = true
 traces_cells (ReadRoot section v) = true
+traces_cells (LoadSlot section k) = true
 traces_cells (SetMark c) = true
 traces_cells (DirtyCard card) = true
 traces_cells (ClearCard card) = true

@@ -61,6 +61,7 @@ agrees-same sh roots ids values fields used used' seats seats' world fewer each 
       sections = k.sections;
       variables = k.variables;
       roots_agree = k.roots_agree;
+      slots_agree = k.slots_agree;
       cells_agree = λ c h u. k.cells_agree c h (fewer c h u);
       seats_agree = each;
       unseated = λ w l h. k.unseated w (omega (arith, l, longer)) h;
@@ -72,6 +73,7 @@ pub record Moves (c : Core) (i : ℕ) (s : SeatState) (step : Step) (x : Words) 
   pub variables : (w : ℕ) → w < c.shape.sections → length (section_of after w).variables ≡ length (section_of world w).variables
   pub identities_kept : (y : ℕ) → Used c y ≡ true → slice_index x.identities y ≡ slice_index (words_of c.shape c.words).identities y
   pub roots : (w v : ℕ) → w < c.shape.sections → v < 32 → referred x.identities (slice_index x.roots (w * 32 + v)) ≡ variable_of after w v
+  pub slots : (w k : ℕ) → w < c.shape.sections → k < c.shape.slots → referred x.identities (slice_index x.roots (c.shape.sections * 32 + (w * c.shape.slots + k))) ≡ variable_of after w (32 + k)
   pub cells : (y : ℕ) → y < c.shape.cells → UsedAfter c i s step y ≡ true → HoldsObject c.shape x.identities x.values x.fields after y
   pub other_register : (w : ℕ) → w ≢ i → (section_of after w).register ≡ (section_of world w).register
   pub other_made : (w : ℕ) → w ≢ i → length (section_of after w).objects ≡ length (section_of world w).objects
@@ -85,6 +87,7 @@ moved c i s step x t world after k a m = record {
   sections = m.sections ∙ a.sections;
   variables = λ w h. m.variables w h ∙ a.variables w h;
   roots_agree = m.roots;
+  slots_agree = m.slots;
   cells_agree = m.cells;
   seats_agree = λ w o g h live. seated w o g h live (cases_eq w i);
   unseated =

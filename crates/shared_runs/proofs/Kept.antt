@@ -1,6 +1,6 @@
 -- Each event that is allowed leads to a state that agrees with the heap after it, and so does every run.
 use Rattle.shared_runs.proofs.Exchanges.{exchange-field, exchange-value}
-use Rattle.std.proofs.Common.{ℕ, ◌≡◌, ◌∙◌, ◌+◌, ◌*◌, ◌<◌, List, [], ◌∷◌, length, refl, sym, ap, subst, eqb, Option, Some, None}
+use Rattle.std.proofs.Common.{ℕ, ◌≡◌, ◌∙◌, ◌+◌, ◌*◌, ◌<◌, List, [], ◌∷◌, length, refl, sym, ap, subst, eqb, Option, Some, None, arith}
 use Rattle.std.specs.Prelude.{is_none, if◌then◌else◌, slice_index_or}
 use Rattle.std.proofs.lemmas.Bool.{true≢false, false≢true}
 use Rattle.std.proofs.lemmas.List.{get_or-replicate, length-replicate}
@@ -18,15 +18,15 @@ use Rattle.mark_core.proofs.References.ReferencesStart.{no-root, none-used}
 use Rattle.mark_core.specs.declared.kinds.Event.{Event}
 use Rattle.mark_core.specs.declared.kinds.Shape.{Shape}
 use Rattle.mark_core.specs.declared.kinds.Step.{Step}
-use Rattle.mark_core.specs.declared.kinds.Step.TheVariants.{ReadOwn, ReadCat, StoreField, StoreValue, StoreRoot, ClaimBlock, ReleaseBlock, ReadFree, StoreNew, PublishCells, Split, Join, ExchangeField, ExchangeValue}
+use Rattle.mark_core.specs.declared.kinds.Step.TheVariants.{ReadOwn, ReadCat, StoreField, StoreValue, StoreRoot, ClaimBlock, ReleaseBlock, ReadFree, StoreNew, PublishCells, Split, Join, ExchangeField, ExchangeValue, StoreSlot, ReadSlot}
 use Rattle.mark_core.specs.declared.seat.SeatState.{SeatState}
-use Rattle.shared_runs.specs.World.{World, WorldSection, section_of, new_section, referred, world_by, start_world}
+use Rattle.shared_runs.specs.World.{World, WorldSection, section_of, new_section, referred, world_by, start_world, start_section}
 use Rattle.shared_runs.specs.Agreement.{SeatAgrees, AgreesIn, AgreesWith}
 use Rattle.shared_runs.specs.Laws.{StartAgrees, EventsAgree, RunsAgree, world_of, world_after, world_run}
 use Rattle.shared_runs.proofs.Making.{same-making, none-making, free-making, published-making, claimed-making}
 use Rattle.shared_runs.proofs.NewObjects.{store-new}
-use Rattle.shared_runs.proofs.Reading.{read-own, read-cat}
-use Rattle.shared_runs.proofs.Roots.{store-root}
+use Rattle.shared_runs.proofs.Reading.{read-own, read-cat, read-slot}
+use Rattle.shared_runs.proofs.Roots.{store-root, store-slot}
 use Rattle.shared_runs.proofs.Still.{still-seat, still-split, still-join}
 use Rattle.shared_runs.proofs.Stores.{store-field, store-value}
 
@@ -38,6 +38,8 @@ agrees_at c i s (StoreValue v n) world k a = store-value c i s v n world k a
 agrees_at c i s (ExchangeField v j x o) world k a = exchange-field c i s v j x o world k a
 agrees_at c i s (ExchangeValue v m n) world k a = exchange-value c i s v m n world k a
 agrees_at c i s (StoreRoot v r) world k a = store-root c i s v r world k a
+agrees_at c i s (StoreSlot j r) world k a = store-slot c i s j r world k a
+agrees_at c i s (ReadSlot j) world k a = read-slot c i s j world k a
 agrees_at c i s (StoreNew x part word) world k a = store-new c i s x part word world k a
 agrees_at c i s Split world k a = still-split c i s world k a
 agrees_at c i s (Join other) world k a = still-join c i s other world k a
@@ -53,21 +55,24 @@ agrees-kept c e world k a f =
     (λ s acted t. subst (λ (o : Option SeatState). AgreesIn c.shape (words_left c s e.step) (seats_left c e.seat s e.step) (world_of c o e.step world)) (sym acted.seat) (agrees_at c e.seat s e.step world t a))
 
 -- each section at the start
-start-section : (sh : Shape) (w : ℕ) → w < sh.sections → section_of (start_world sh) w ≡ new_section
-start-section sh w h = get_or-replicate sh.sections w new_section new_section h
+start-section : (sh : Shape) (w : ℕ) → w < sh.sections → section_of (start_world sh) w ≡ start_section sh
+start-section sh w h = get_or-replicate sh.sections w (start_section sh) new_section h
 
-none_name : Option Name
+abbrev none_name : Option Name
 none_name = None
 
 pub agrees-starts : StartAgrees
 agrees-starts sh n z =
     let w : Words = words_of sh (start_words sh) in
     record {
-      sections = length-replicate sh.sections new_section;
-      variables = λ j h. ap (λ (x : WorldSection). length x.variables) (start-section sh j h) ∙ length-replicate 32 (none_name);
+      sections = length-replicate sh.sections (start_section sh);
+      variables = λ j h. ap (λ (x : WorldSection). length x.variables) (start-section sh j h) ∙ length-replicate (32 + sh.slots) (none_name);
       roots_agree =
           λ j v h hv.
-          ap (referred w.identities) (no-root sh (j * 32 + v)) ∙ sym (ap (λ (x : WorldSection). slice_index_or x.variables v None) (start-section sh j h) ∙ get_or-replicate 32 v None None hv);
+          ap (referred w.identities) (no-root sh (j * 32 + v)) ∙ sym (ap (λ (x : WorldSection). slice_index_or x.variables v None) (start-section sh j h) ∙ get_or-replicate (32 + sh.slots) v None None (omega (arith, hv)));
+      slots_agree =
+          λ j q h hq.
+          ap (referred w.identities) (no-root sh (sh.sections * 32 + (j * sh.slots + q))) ∙ sym (ap (λ (x : WorldSection). slice_index_or x.variables (32 + q) None) (start-section sh j h) ∙ get_or-replicate (32 + sh.slots) (32 + q) None None (omega (arith, hq)));
       cells_agree = λ y h u. absurd (true≢false (sym u ∙ none-used sh n z y h));
       seats_agree =
           λ j s f h live.

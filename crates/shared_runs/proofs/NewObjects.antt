@@ -76,6 +76,7 @@ part_moves c i s x part word world values fields f p few r keeps value = record 
   variables = λ j h. view-kept (λ (z : WorldSection). length z.variables) world i j f inside (ap (λ (vs : List (Option Name)). length vs) keeps.variables);
   identities_kept = λ y u. refl;
   roots = λ j v h hv. a.roots_agree j v h hv ∙ sym (view-kept (λ (z : WorldSection). slice_index_or z.variables v None) world i j f inside (ap (λ (vs : List (Option Name)). slice_index_or vs v None) keeps.variables));
+  slots = λ j q h hq. a.slots_agree j q h hq ∙ sym (view-kept (λ (z : WorldSection). slice_index_or z.variables (32 + q) None) world i j f inside (ap (λ (vs : List (Option Name)). slice_index_or vs (32 + q) None) keeps.variables));
   cells =
       λ y h u.
       let before = had-object c i s step world y k a (λ z. omega (arith, z.1, few)) h u in
@@ -158,6 +159,11 @@ made_moves c i s x part word world p last identity = record {
       λ j v h hv.
       referred-on w.identities ids (slice_index w.roots (j * 32 + v)) (λ y e. kept y (root-used c (j * 32 + v) y k.core e)) ∙ a.roots_agree j v h hv
       ∙ sym (view-kept (λ (z : WorldSection). slice_index_or z.variables v None) world i j f inside refl);
+  slots =
+      λ j q h hq.
+      let at : ℕ = c.shape.sections * 32 + (j * c.shape.slots + q) in
+      referred-on w.identities ids (slice_index w.roots at) (λ y e. kept y (root-used c at y k.core e)) ∙ a.slots_agree j q h hq
+      ∙ sym (view-kept (λ (z : WorldSection). slice_index_or z.variables (32 + q) None) world i j f inside refl);
   cells = λ y h u. cell y h (used-back c i s step y k u);
   other_register = λ j d. ap (λ (z : WorldSection). z.register) (section-other world i j f d);
   other_made = λ j d. ap (λ (z : WorldSection). length z.objects) (section-other world i j f d);

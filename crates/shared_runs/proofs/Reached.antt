@@ -1,10 +1,11 @@
 -- Each object that variables reach has a cell, whatever was swept.
-use Rattle.std.proofs.Common.{ℕ, ◌≡◌, ◌+◌, ◌*◌, ◌/◌, ◌<◌, zero, suc, List, [], ◌∷◌, length, arith, refl, sym, ap, ◌∙◌, Bool, true, false, cond, Some, ⊎_elim}
+use Rattle.mark_core.proofs.Writing.Ranges.{in-row}
+use Rattle.std.proofs.Common.{ℕ, ◌≡◌, ◌+◌, ◌*◌, ◌/◌, ◌<◌, zero, suc, List, [], ◌∷◌, length, arith, refl, sym, ap, ◌∙◌, Bool, true, false, cond, Some, ⊎_elim, ◌-◌, ◌≤◌}
 use Rattle.std.specs.Prelude.{slice_index}
-use Rattle.std.proofs.lemmas.Bool.{cases_Bool}
+use Rattle.std.proofs.lemmas.Bool.{cases_Bool, cases_lt}
 use Rattle.std.proofs.lemmas.Option.{same_Some}
 use Rattle.plain_heap.specs.Paths.{Name}
-use Rattle.mark_core.specs.Layout.{Words, words_of}
+use Rattle.mark_core.specs.Layout.{Words, words_of, root_count}
 use Rattle.mark_core.specs.Bits.{cell_bit}
 use Rattle.mark_core.specs.Seats.{is_phase}
 use Rattle.mark_core.specs.Views.{blocks}
@@ -19,7 +20,7 @@ use Rattle.mark_core.proofs.AtSeat.{roots-length}
 use Rattle.mark_core.proofs.CoreKept.{runs-sound}
 use Rattle.mark_core.proofs.Exacts.ExactsReach.{reach-root, reach-field}
 use Rattle.mark_core.specs.declared.kinds.Phase.TheVariants.{Sweep}
-use Rattle.shared_runs.specs.World.{World, WorldObject, object_of, reference_of, name_at, referred, start_world}
+use Rattle.shared_runs.specs.World.{World, WorldObject, object_of, reference_of, name_at, referred, start_world, variable_of}
 use Rattle.shared_runs.specs.Agreement.{HoldsObject, AgreesWith}
 use Rattle.shared_runs.specs.Laws.{IsWorldPath, IsCellFor, ReachedHaveCells, world_run}
 use Rattle.shared_runs.proofs.Heap.{none-some}
@@ -58,13 +59,25 @@ word_names ids (suc x) name e = (x, refl, same_Some (name_at ids x) name e)
 cell_for : (c : Core) (world : World) (name : Name) (x : ℕ) → IsCore c → AgreesWith c world → IsReachableIn c x → name_at (words_of c.shape c.words).identities x ≡ name → IsCellFor c world name x
 cell_for c world name x k a reach e = let u : Used c x ≡ true = reachable-used c x k reach in (u, reach, e, a.cells_agree x (used-exists c k x u) u)
 
+-- a root that refers to an object names a cell that is reachable
+from_root : (c : Core) (world : World) (name : Name) (at : ℕ) → IsCore c → AgreesWith c world → at < root_count c.shape → referred (words_of c.shape c.words).identities (slice_index (words_of c.shape c.words).roots at) ≡ Some name → (x : ℕ) × IsCellFor c world name x
+from_root c world name at k a h e =
+    let w : Words = words_of c.shape c.words in
+    let r = word_names w.identities (slice_index w.roots at) name e in
+    let there : at < length w.roots = omega (arith, h, roots-length c k) in
+    (r.0, cell_for c world name r.0 k a (reach-root c.shape w.roots w.fields at r.0 there (omega (arith, r.1))) r.2)
+
 along : (c : Core) (world : World) (name : Name) (path : List Name) → IsCore c → AgreesWith c world → IsWorldPath world name path → (x : ℕ) × IsCellFor c world name x
 along c world name [] k a (j, v, hj, hv, e) =
-    let w : Words = words_of c.shape c.words in
     let inside : j < c.shape.sections = omega (arith, hj, a.sections) in
-    let r = word_names w.identities (slice_index w.roots (j * 32 + v)) name (a.roots_agree j v inside hv ∙ e) in
-    let there : j * 32 + v < length w.roots = omega (arith, inside, hv, roots-length c k) in
-    (r.0, cell_for c world name r.0 k a (reach-root c.shape w.roots w.fields (j * 32 + v) r.0 there (omega (arith, r.1))) r.2)
+    ⊎_elim
+    (λ (h : v < 32). from_root c world name (j * 32 + v) k a (omega (arith, in-row j c.shape.sections 32 v inside h)) (a.roots_agree j v inside h ∙ e))
+    (λ (h : 32 ≤ v).
+    let q : ℕ = v - 32 in
+    let hq : q < c.shape.slots = omega (arith, h, hv, a.variables j inside) in
+    let is : 32 + q ≡ v = omega (arith, h) in
+    from_root c world name (c.shape.sections * 32 + (j * c.shape.slots + q)) k a (omega (arith, in-row j c.shape.sections c.shape.slots q inside hq)) (a.slots_agree j q inside hq ∙ ap (variable_of world j) is ∙ e))
+    (cases_lt v 32)
 along c world name (before ∷ path) k a (leads, p) =
     let w : Words = words_of c.shape c.words in
     let d = along c world before path k a p in

@@ -3,7 +3,7 @@ use Rattle.std.proofs.Common.{ℕ, ◌≡◌, ◌+◌, ◌*◌, ◌<◌, List, s
 use Rattle.std.specs.Prelude.{IsTrue, slice_index, slice_index_or, nat_lt}
 use Rattle.std.proofs.lemmas.Bool.{and_parts, ltb-true}
 use Rattle.plain_heap.specs.Paths.{Name}
-use Rattle.mark_core.specs.Layout.{Words, words_of, region_sizes}
+use Rattle.mark_core.specs.Layout.{Words, words_of, region_sizes, root_count}
 use Rattle.mark_core.specs.Bits.{nil_or, reference_in}
 use Rattle.mark_core.specs.Seats.{may_mutate}
 use Rattle.mark_core.specs.Cells.{field}
@@ -17,7 +17,7 @@ use Rattle.mark_core.proofs.References.ReferencesNames.{known-used}
 use Rattle.mark_core.proofs.References.ReferencesRoots.{Used, UsedAfter, read-whole, read-field}
 use Rattle.mark_core.proofs.Used.UsedSeats.{IsMadeBy}
 use Rattle.mark_core.specs.declared.kinds.Step.{Step}
-use Rattle.mark_core.specs.declared.kinds.Step.TheVariants.{ReadOwn, ReadCat}
+use Rattle.mark_core.specs.declared.kinds.Step.TheVariants.{ReadOwn, ReadCat, ReadSlot}
 use Rattle.mark_core.specs.declared.seat.SeatState.{SeatState}
 use Rattle.shared_runs.specs.World.{World, WorldObject, WorldSection, variable_of, object_of, followed, in_section, with_register, name_at, referred, own_section}
 use Rattle.shared_runs.specs.Agreement.{HoldsObject, SeatAgrees, Agrees, AgreesIn, AgreesWith}
@@ -38,6 +38,7 @@ got_moves c i s step world word to k a mu none is =
       variables = λ j h. view-kept (λ (x : WorldSection). length x.variables) world i j f inside refl;
       identities_kept = λ y u. refl;
       roots = λ j v h hv. a.roots_agree j v h hv ∙ sym (view-kept (λ (x : WorldSection). slice_index_or x.variables v None) world i j f inside refl);
+      slots = λ j q h hq. a.slots_agree j q h hq ∙ sym (view-kept (λ (x : WorldSection). slice_index_or x.variables (32 + q) None) world i j f inside refl);
       cells =
           λ y h u.
           holds-on c.shape w.identities w.identities w.values w.values w.fields w.fields world (in_section world i f) y
@@ -104,7 +105,7 @@ cat-found c i s v world k a =
     let b = and_parts (nat_lt v 32) (may_mutate s) k.ok.0 in
     let mu : Mutates c i s = mutates c i s step k b.1 in
     let hv : v < 32 = ltb-true v 32 b.0 in
-    let h : 0 * 32 + v < c.shape.sections * 32 = in-place c i s step k in
+    let h : 0 * 32 + v < root_count c.shape = in-place c i s step k in
     let old : found c s step ≡ slice_index w.roots (0 * 32 + v) = words-get (region_sizes c.shape) 2 c.words (0 * 32 + v) 0 h in
     let goes : nil_or (Used c) (found c s step) ≡ true = subst (λ (r : ℕ). nil_or (Used c) r ≡ true) (sym old) (k.core.sound.references.roots_in_use (0 * 32 + v) 0 (subst (λ (n : ℕ). 0 * 32 + v < n) (sym (roots-length c k.core)) h)) in
     (read-whole c i s step (found c s step) k goes, ap (referred w.identities) old ∙ a.roots_agree 0 v (omega (arith, mu.inside)) hv)
@@ -117,3 +118,26 @@ read-cat c i s v world k a =
     let mu : Mutates c i s = mutates c i s step k (and_parts (nat_lt v 32) (may_mutate s) k.ok.0).1 in
     let r = cat-found c i s v world k a in
     got_read c i s step world (reference_in (found c s step)) (variable_of world 0 v) k a mu (λ y e. e) refl refl (ap (referred (words_of c.shape c.words).identities) r.0 ∙ r.1)
+
+-- a slot of the section is read whole, and refers to what the heap has there
+pub slot-found : (c : Core) (i : ℕ) (s : SeatState) (j : ℕ) (world : World) → Taken c i s (ReadSlot j) → AgreesWith c world
+    → (reference_in (found c s (ReadSlot j)) ≡ found c s (ReadSlot j)) × (referred (words_of c.shape c.words).identities (found c s (ReadSlot j)) ≡ variable_of world (own_section s) (32 + j))
+slot-found c i s j world k a =
+    let w : Words = words_of c.shape c.words in
+    let step : Step = ReadSlot j in
+    let b = and_parts (nat_lt j c.shape.slots) (may_mutate s) k.ok.0 in
+    let mu : Mutates c i s = mutates c i s step k b.1 in
+    let at : ℕ = c.shape.sections * 32 + (own_section s * c.shape.slots + j) in
+    let h : at < root_count c.shape = in-place c i s step k in
+    let old : found c s step ≡ slice_index w.roots at = words-get (region_sizes c.shape) 2 c.words at 0 h in
+    let goes : nil_or (Used c) (found c s step) ≡ true = subst (λ (r : ℕ). nil_or (Used c) r ≡ true) (sym old) (k.core.sound.references.roots_in_use at 0 (subst (λ (n : ℕ). at < n) (sym (roots-length c k.core)) h)) in
+    (read-whole c i s step (found c s step) k goes, ap (referred w.identities) old ∙ a.slots_agree (own_section s) j (omega (arith, mu.own, mu.inside)) (ltb-true j c.shape.slots b.0))
+
+-- 53: a slot of the section
+pub read-slot : (c : Core) (i : ℕ) (s : SeatState) (j : ℕ) (world : World) → Taken c i s (ReadSlot j) → AgreesWith c world
+    → AgreesIn c.shape (words_left c s (ReadSlot j)) (seats_left c i s (ReadSlot j)) (in_section world (own_section s) (with_register (variable_of world (own_section s) (32 + j))))
+read-slot c i s j world k a =
+    let step : Step = ReadSlot j in
+    let mu : Mutates c i s = mutates c i s step k (and_parts (nat_lt j c.shape.slots) (may_mutate s) k.ok.0).1 in
+    let r = slot-found c i s j world k a in
+    got_read c i s step world (reference_in (found c s step)) (variable_of world (own_section s) (32 + j)) k a mu (λ y e. e) refl refl (ap (referred (words_of c.shape c.words).identities) r.0 ∙ r.1)

@@ -101,6 +101,7 @@ object-moves c i s step v world y values fields f owed k a none b r = record {
   variables = λ j h. view-kept (λ (x : WorldSection). length x.variables) world at j g inside refl;
   identities_kept = λ z u. refl;
   roots = λ j u h hu. a.roots_agree j u h hu ∙ sym (view-kept (λ (x : WorldSection). slice_index_or x.variables u None) world at j g inside refl);
+  slots = λ j q h hq. a.slots_agree j q h hq ∙ sym (view-kept (λ (x : WorldSection). slice_index_or x.variables (32 + q) None) world at j g inside refl);
   cells = λ z h u. let before = had-object c i s step world z k a (none z) h u in cell z h before.0 before.1 (cases_eq z y);
   other_register = λ j d. register j;
   other_made = λ j d. made j;

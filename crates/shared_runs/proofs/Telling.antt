@@ -20,14 +20,14 @@ use Rattle.mark_core.proofs.References.ReferencesNames.{known-used}
 use Rattle.mark_core.proofs.References.ReferencesRoots.{seat-formed}
 use Rattle.mark_core.specs.declared.kinds.Event.{Event}
 use Rattle.mark_core.specs.declared.kinds.Step.{Step}
-use Rattle.mark_core.specs.declared.kinds.Step.TheVariants.{ReadOwn, ReadValue, ReadIdent, ReadCat, StoreRoot, ExchangeField, ExchangeValue}
+use Rattle.mark_core.specs.declared.kinds.Step.TheVariants.{ReadOwn, ReadValue, ReadIdent, ReadCat, StoreRoot, ExchangeField, ExchangeValue, StoreSlot, ReadSlot}
 use Rattle.mark_core.specs.declared.seat.SeatState.{SeatState}
 use Rattle.shared_runs.specs.World.{World, WorldObject, section_of, variable_of, object_of, followed, name_in, name_at, referred, own_section, start_world}
 use Rattle.shared_runs.specs.Agreement.{HoldsObject, SeatAgrees, AgreesWith}
 use Rattle.shared_runs.specs.Laws.{KnowsName, MayHold, TellsIn, TellsOf, ReadsTell, world_run}
 use Rattle.shared_runs.proofs.Frame.{IsLast}
 use Rattle.shared_runs.proofs.Kept.{runs-agree}
-use Rattle.shared_runs.proofs.Reading.{own-found, cat-found}
+use Rattle.shared_runs.proofs.Reading.{own-found, cat-found, slot-found}
 use Rattle.shared_runs.proofs.Seats.{Mutates, mutates}
 use Rattle.shared_runs.proofs.Stores.{env-agrees, not-nil}
 
@@ -130,6 +130,10 @@ tells_at c i s (ReadCat v) world k a = (cat-found c i s v world k a).1
 tells_at c i s (StoreRoot v r) world k a =
     let mu : Mutates c i s = mutates c i s (StoreRoot v r) k (and_parts (nat_lt v 32) (may_mutate s) k.ok.0).1 in
     subst (λ (o : ℕ). MayHold world o (referred (words_of c.shape c.words).identities r)) (sym mu.own) (held c i s (StoreRoot v r) world r k a mu k.ok.1.0)
+tells_at c i s (StoreSlot j r) world k a =
+    let mu : Mutates c i s = mutates c i s (StoreSlot j r) k (and_parts (nat_lt j c.shape.slots) (may_mutate s) k.ok.0).1 in
+    subst (λ (o : ℕ). MayHold world o (referred (words_of c.shape c.words).identities r)) (sym mu.own) (held c i s (StoreSlot j r) world r k a mu k.ok.1.0)
+tells_at c i s (ReadSlot j) world k a = (slot-found c i s j world k a).1
 tells_at c i s (ExchangeField v j x o) world k a = finds-reference c i s v j x o world k a
 tells_at c i s (ExchangeValue v m n) world k a = finds-value c i s v m n world k a
 tells_at c i s step world k a = tt

@@ -31,8 +31,9 @@ pub record SeatAgrees (sh : Shape) (identities values : List ℕ) (world : World
 -- the words, the cells in use and the seats agree with the heap
 pub record Agrees (sh : Shape) (roots identities values fields : List ℕ) (used : ℕ → Type 0) (seats : List SeatState) (world : World) : Type 0 where
   pub sections : length world ≡ sh.sections
-  pub variables : (w : ℕ) → w < sh.sections → length (section_of world w).variables ≡ section_variables
+  pub variables : (w : ℕ) → w < sh.sections → length (section_of world w).variables ≡ section_variables + sh.slots
   pub roots_agree : (w v : ℕ) → w < sh.sections → v < section_variables → referred identities (slice_index roots (w * section_variables + v)) ≡ variable_of world w v
+  pub slots_agree : (w k : ℕ) → w < sh.sections → k < sh.slots → referred identities (slice_index roots (sh.sections * section_variables + (w * sh.slots + k))) ≡ variable_of world w (section_variables + k)
   pub cells_agree : EachCell sh (λ c. used c → HoldsObject sh identities values fields world c)
   pub seats_agree : (w : ℕ) (s : SeatState) → slice_get seats w ≡ Some s → w < sh.sections → IsFalse s.spent → SeatAgrees sh identities values world w s
   -- a section without a seat has done nothing

@@ -15,7 +15,7 @@ use Rattle.mark_core.specs.Laws.{IsCore, NumbersFit, AllNumbersFit}
 use Rattle.mark_core.specs.declared.kinds.Event.{Event}
 use Rattle.mark_core.specs.declared.kinds.Shape.{Shape}
 use Rattle.mark_core.specs.declared.kinds.Step.{Step}
-use Rattle.mark_core.specs.declared.kinds.Step.TheVariants.{ReadOwn, ReadValue, ReadIdent, ReadCat, StoreField, StoreValue, StoreRoot, ExchangeField, ExchangeValue}
+use Rattle.mark_core.specs.declared.kinds.Step.TheVariants.{ReadOwn, ReadValue, ReadIdent, ReadCat, StoreField, StoreValue, StoreRoot, ExchangeField, ExchangeValue, StoreSlot, ReadSlot}
 use Rattle.mark_core.specs.declared.seat.SeatState.{SeatState}
 use Rattle.shared_runs.specs.World.{World, WorldObject, section_of, variable_of, object_of, reference_of, name_in, name_at, referred, own_section, world_by, start_world, stored, is_same, with_reference, with_value}
 use Rattle.shared_runs.specs.Agreement.{HoldsObject, AgreesWith}
@@ -138,6 +138,8 @@ TellsIn c world s (ReadOwn x i) word =
 TellsIn c world s (ReadIdent x) word = (object : WorldObject) × KnownObject world (own_section s) (name_in word) object
 TellsIn c world s (ReadCat v) word = referred (words_of c.shape c.words).identities word ≡ variable_of world 0 v
 TellsIn c world s (StoreRoot v r) word = MayHold world (own_section s) (referred (words_of c.shape c.words).identities r)
+TellsIn c world s (StoreSlot k r) word = MayHold world (own_section s) (referred (words_of c.shape c.words).identities r)
+TellsIn c world s (ReadSlot k) word = referred (words_of c.shape c.words).identities word ≡ variable_of world (own_section s) (section_variables + k)
 TellsIn c world s (ExchangeField v i x y) word = FindsReference c world s v i x y word
 TellsIn c world s (ExchangeValue v m n) word = FindsValue c world s v m n word
 TellsIn c world s step word = Unit {0}
@@ -197,9 +199,9 @@ FieldWonOnce =
 abbrev pub LeadsTo : World → Name → Name → Type 0
 LeadsTo world from to = (object : WorldObject) × (object_of world from ≡ Some object) × ((i : ℕ) × (i < length object.refs) × (reference_of object i ≡ Some to))
 
--- a path from a variable of some section, with its last object first
+-- a path from a variable or a slot of some section, with its last object first
 abbrev pub IsWorldPath : World → Name → List Name → Type 0
-IsWorldPath world name [] = (w v : ℕ) × (w < length world) × (v < section_variables) × (variable_of world w v ≡ Some name)
+IsWorldPath world name [] = (w v : ℕ) × (w < length world) × (v < length (section_of world w).variables) × (variable_of world w v ≡ Some name)
 IsWorldPath world name (before ∷ path) = LeadsTo world before name × IsWorldPath world before path
 
 -- a path ends with this object

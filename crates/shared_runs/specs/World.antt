@@ -1,12 +1,12 @@
 -- One heap of all sections that forgets nothing: each object that was ever made, by its name, and for each section its variables and its register. And what a
 -- step does to it.
-use Rattle.std.specs.Prelude.{ℕ, zero, suc, ◌/◌, ◌%◌, ◌==◌, nat_lt, if◌then◌else◌, List, [], ◌∷◌, ◌++◌, replicate, Option, Some, None, unwrap_or, slice_get, slice_set, slice_index, slice_index_or, Bool, true, false, ◌&&◌}
+use Rattle.std.specs.Prelude.{ℕ, zero, suc, ◌/◌, ◌%◌, ◌==◌, nat_lt, if◌then◌else◌, List, [], ◌∷◌, ◌++◌, replicate, Option, Some, None, unwrap_or, slice_get, slice_set, slice_index, slice_index_or, Bool, true, false, ◌&&◌, ◌+◌}
 use Rattle.plain_heap.specs.Paths.{Name}
 use Rattle.mark_core.specs.Layout.{Words}
 use Rattle.mark_core.specs.Numbers.{section_variables, section_span}
 use Rattle.mark_core.specs.declared.kinds.Shape.{Shape}
 use Rattle.mark_core.specs.declared.kinds.Step.{Step}
-use Rattle.mark_core.specs.declared.kinds.Step.TheVariants.{ReadOwn, ReadCat, StoreField, StoreValue, StoreRoot, StoreNew, ExchangeField, ExchangeValue}
+use Rattle.mark_core.specs.declared.kinds.Step.TheVariants.{ReadOwn, ReadCat, StoreField, StoreValue, StoreRoot, StoreNew, ExchangeField, ExchangeValue, StoreSlot, ReadSlot}
 use Rattle.mark_core.specs.declared.seat.SeatState.{SeatState}
 
 -- an object: its value, and what each of its fields refers to, if it isn't nil
@@ -18,6 +18,7 @@ pub record WorldObject : Type 0 where
 pub record WorldSection : Type 0 where
   -- the objects that its seat made, in order
   pub objects : List WorldObject
+  -- the variables, and the slots behind
   pub variables : List (Option Name)
   pub register : Option Name
   -- the value that its seat stored last in a cell that it makes
@@ -27,19 +28,23 @@ pub record WorldSection : Type 0 where
 abbrev pub World : Type 0
 World = List WorldSection
 
--- a section that has done nothing
+-- what stands where no section is
 abbrev pub new_section : WorldSection
 new_section = record { objects = []; variables = replicate section_variables None; register = None; coming = 0 }
 
+-- a section that has done nothing, with its slots behind the variables
+abbrev pub start_section : Shape → WorldSection
+start_section sh = record new_section { variables = replicate (section_variables + sh.slots) None }
+
 -- a heap in which nothing was made
 abbrev pub start_world : Shape → World
-start_world sh = replicate sh.sections new_section
+start_world sh = replicate sh.sections (start_section sh)
 
 -- section w
 abbrev pub section_of : World → ℕ → WorldSection
 section_of world w = slice_index_or world w new_section
 
--- what variable v of section w refers to
+-- what variable v of section w refers to; slot k is variable section_variables + k
 abbrev pub variable_of : World → ℕ → ℕ → Option Name
 variable_of world w v = slice_index_or (section_of world w).variables v None
 
@@ -143,6 +148,8 @@ world_by sh w s (ExchangeField v i x y) world =
     with_object world (variable_of world (own_section s) v) (with_exchanged i (stored world (own_section s) x) (stored world (own_section s) y))
 world_by sh w s (ExchangeValue v m n) world = with_object world (variable_of world (own_section s) v) (with_exchanged_value m n)
 world_by sh w s (StoreRoot v r) world = in_section world (own_section s) (with_variable v (referred w.identities r))
+world_by sh w s (StoreSlot k r) world = in_section world (own_section s) (with_variable (section_variables + k) (referred w.identities r))
+world_by sh w s (ReadSlot k) world = in_section world (own_section s) (with_register (variable_of world (own_section s) (section_variables + k)))
 world_by sh w s (ReadOwn c i) world = in_section world (own_section s) (with_register (followed (object_of world (name_at w.identities c)) i))
 world_by sh w s (ReadCat v) world = in_section world (own_section s) (with_register (variable_of world 0 v))
 world_by sh w s (StoreNew c part word) world = in_section world (own_section s) (with_part sh.fields part word)

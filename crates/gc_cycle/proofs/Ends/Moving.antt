@@ -3,7 +3,7 @@ use Rattle.std.proofs.Common.{ℕ, ◌≡◌, ◌≤◌, arith, refl, sym, ap, �
 use Rattle.std.specs.Prelude.{◌==◌, nat_le, is_none, unwrap_or}
 use Rattle.std.proofs.lemmas.Bool.{and_from, and_parts, le-leb, or_right, true≢false}
 use Rattle.mark_core.specs.Layout.{words_of, block_count}
-use Rattle.mark_core.specs.Numbers.{traced_count}
+use Rattle.mark_core.specs.Numbers.{free_count}
 use Rattle.mark_core.specs.Places.{the_next_block, the_phase}
 use Rattle.mark_core.specs.Seats.{is_phase, phase_number, work_in_hand}
 use Rattle.mark_core.specs.Swept.{IsSweepingPhase}
@@ -118,12 +118,12 @@ may-begin_again v h all x i k a =
     )
 
 -- a counter or statistic may be reset in a drain, and where no cycle is under way
-pub may-reset_drain : (which : ℕ) (v : View) → nat_le which traced_count ≡ true → IsAloneIn Drain v → May (Reset which) v
+pub may-reset_drain : (which : ℕ) (v : View) → nat_le which free_count ≡ true → IsAloneIn Drain v → May (Reset which) v
 may-reset_drain which v low h x i k a =
     let phase = at-phase Drain x i v a h.alone in
     (and_from _ _ (and_from _ _ low h.rest.alone) (ap (λ n. is_phase n Idle || is_phase n Drain) phase), tt)
 
-pub may-reset_idle : (which : ℕ) (v : View) → nat_le which traced_count ≡ true → IsAloneIn Idle v → May (Reset which) v
+pub may-reset_idle : (which : ℕ) (v : View) → nat_le which free_count ≡ true → IsAloneIn Idle v → May (Reset which) v
 may-reset_idle which v low h x i k a =
     let phase = at-phase Idle x i v a h.alone in
     (and_from _ _ (and_from _ _ low h.rest.alone) (ap (λ n. is_phase n Idle || is_phase n Drain) phase), tt)

@@ -238,4 +238,4 @@ pub may-read_free : (v : View) → May (ReadStat free_count) v
 may-read_free v x i k a = (lt-ltb _ _ (omega arith), tt)
 
 pub may-clear : (which : ℕ) (v : View) → which ≤ traced_count → IsAloneIn Idle v → May (Reset which) v
-may-clear which v l a = may-reset_idle which v (le-leb _ _ l) a
+may-clear which v l a = may-reset_idle which v (le-leb _ _ (omega (arith, l))) a

@@ -39,7 +39,7 @@ use Rattle.gc_cycle.proofs.Sequences.{followed-later, none-of-steps, some-none}
 use Rattle.gc_cycle.proofs.Ends.Spared.{finish-position}
 use Rattle.gc_cycle.proofs.Traced.{nothing-rest}
 use Rattle.mark_core.specs.declared.kinds.Step.{Step}
-use Rattle.mark_core.specs.declared.kinds.Step.TheVariants.{ClaimBlock, DropStep, JoinHelpStep, LeaveHelpStep, RaiseStep, ReadCat, ReadOwn, ReadPhase, StorePhase, StorePosition, ReadStat}
+use Rattle.mark_core.specs.declared.kinds.Step.TheVariants.{ClaimBlock, DropStep, JoinHelpStep, LeaveHelpStep, RaiseStep, ReadCat, ReadOwn, ReadPhase, StorePhase, StorePosition, ReadStat, ReadSlot}
 use Rattle.gc_cycle.specs.Collecting.{EndsStop, HoldsWorld, spares_section, TriesAgain}
 use Rattle.gc_cycle.specs.Mutating.{keeps_section, stays_calm, StopsWorld, tries_stopping, TriesToStop}
 use Rattle.gc_cycle.specs.Sparing.{fills_part, spares_part}
@@ -50,12 +50,14 @@ some-same {X} {x} {y} e = cc
 keeps-fill : (step : Step) → keeps_section step ≡ true → fills_part step ≡ true
 keeps-fill (ReadOwn c i) e = absurd (false≢true e)
 keeps-fill (ReadCat v) e = absurd (false≢true e)
+keeps-fill (ReadSlot k) e = absurd (false≢true e)
 keeps-fill step e = e
 
 pub section-spares : (step : Step) → spares_section step ≡ true → spares_part step ≡ true
 section-spares (StorePhase to) e = e
 section-spares (ReadOwn c i) e = absurd (false≢true e)
 section-spares (ReadCat v) e = absurd (false≢true e)
+section-spares (ReadSlot k) e = absurd (false≢true e)
 section-spares step e = e
 
 pub section-keeps : (step : Step) → spares_section step ≡ true → keeps_section step ≡ true
@@ -75,6 +77,7 @@ calm-spares RaiseStep e = absurd (false≢true e)
 calm-spares (StorePhase to) e = absurd (false≢true e)
 calm-spares (ReadOwn c i) e = absurd (false≢true e)
 calm-spares (ReadCat v) e = absurd (false≢true e)
+calm-spares (ReadSlot k) e = absurd (false≢true e)
 calm-spares (ReadStat which) e = refl
 calm-spares step e = e
 

@@ -10,7 +10,7 @@ use Rattle.mark_core.specs.Places.{the_next_card}
 use Rattle.mark_core.specs.Seats.{work_in_hand}
 use Rattle.mark_core.specs.declared.kinds.Shape.{Shape}
 use Rattle.mark_core.specs.declared.kinds.Step.{Step}
-use Rattle.mark_core.specs.declared.kinds.Step.TheVariants.{AddStat, ClearCard, Give, JoinHelpStep, LeaveHelpStep, NextOfCards, NextSeason, Push, ReadCat, ReadOwn, ReadStat, Reset, StoreField, StoreNew, StorePhase, StorePosition, StoreRoot, StoreValue, ExchangeField, ExchangeValue}
+use Rattle.mark_core.specs.declared.kinds.Step.TheVariants.{AddStat, ClearCard, Give, JoinHelpStep, LeaveHelpStep, NextOfCards, NextSeason, Push, ReadCat, ReadOwn, ReadStat, Reset, StoreField, StoreNew, StorePhase, StorePosition, StoreRoot, StoreValue, ReadSlot, StoreSlot, ExchangeField, ExchangeValue}
 use Rattle.mark_core.specs.declared.seat.SeatState.{SeatState}
 use Rattle.gc_table.specs.Notes.{look}
 use Rattle.gc_table.specs.Taking.{after}
@@ -251,10 +251,12 @@ floor-kept v w r o n h = by_floor (look the_next_card v.floors) refl
 pub traces-kept : (step : Step) → traces_or_cleans step ≡ true → changes_section step ≡ false
 traces-kept (ReadOwn c i) e = absurd (false≢true e)
 traces-kept (ReadCat v) e = absurd (false≢true e)
-traces-kept (StoreField v i w) e = absurd (false≢true e)
-traces-kept (StoreValue v n) e = absurd (false≢true e)
+traces-kept (ReadSlot k) e = absurd (false≢true e)
+traces-kept (StoreSlot k r) e = absurd (false≢true e)
 traces-kept (ExchangeField v i x y) e = absurd (false≢true e)
 traces-kept (ExchangeValue v m n) e = absurd (false≢true e)
+traces-kept (StoreField v i w) e = absurd (false≢true e)
+traces-kept (StoreValue v n) e = absurd (false≢true e)
 traces-kept (StoreRoot v r) e = absurd (false≢true e)
 traces-kept (StoreNew c part word) e = absurd (false≢true e)
 traces-kept (StorePosition done) e = absurd (false≢true e)

@@ -47,6 +47,7 @@ stands-same sh roots ids values fields used used' seats seats' ms fewer each lon
       sections = k.sections;
       numbered = k.numbered;
       roots_agree = k.roots_agree;
+      slots_nil = k.slots_nil;
       cells_agree = λ c h u. k.cells_agree c h (fewer c h u);
       seats_agree = each;
       unseated = λ w m l g. k.unseated w m (omega (arith, l, longer)) g;
@@ -61,6 +62,7 @@ pub record Changes (sh : Shape) (roots roots' ids ids' values values' fields' : 
   pub identities : (c : ℕ) → used c → slice_index ids' c ≡ slice_index ids c
   pub roots_used : (k : ℕ) → 0 < slice_index roots k → used (slice_index roots k - 1)
   pub other_roots : (w v : ℕ) → w ≢ i → v < 32 → slice_index roots' (w * 32 + v) ≡ slice_index roots (w * 32 + v)
+  pub slots_nil : (j : ℕ) → slice_index roots' (sh.sections * 32 + j) ≡ 0
   pub own_roots : (v : ℕ) → v < 32 → WordAgrees ids' (object_count (set ms i n)) i (slice_index roots' (i * 32 + v)) (variable n.heap v)
   pub cells : (c : ℕ) → c < sh.cells → used' c → (x : Meaning) × (slice_get (set ms i n) (section_of_cell ids' c) ≡ Some x) × IsCellOf sh ids' values' fields' (object_count (set ms i n)) x c
   pub other_got : (w : ℕ) (s : SeatState) → w ≢ i → slice_get seats w ≡ Some s → IsFalse s.spent → 0 < s.got → used (s.got - 1)
@@ -75,6 +77,7 @@ stands-changed sh roots roots' ids ids' values values' fields fields' used used'
   sections = length-set ms i n ∙ k.sections;
   numbered = λ w y g. numbered w y (set-cases ms i w n y g);
   roots_agree = λ w y g v h. rooted w y v h g (cases_eq w i);
+  slots_nil = x.slots_nil;
   cells_agree = x.cells;
   seats_agree = λ w s y f g live. seated w s y f g live (cases_eq w i);
   unseated = λ w y l g. k.unseated w y (omega (arith, l, length-set seats i t)) (set-there ms i w n y (λ e. omega (arith, e, l, length-set seats i t, x.within)) g);

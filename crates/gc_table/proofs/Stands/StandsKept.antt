@@ -7,7 +7,7 @@ use Rattle.mark_core.specs.Steps.{Core}
 use Rattle.mark_core.proofs.Acting.{found, words_left, seats_left}
 use Rattle.mark_core.proofs.Blocks.BlocksTaken.{Taken, kept-after}
 use Rattle.mark_core.specs.declared.kinds.Step.{Step}
-use Rattle.mark_core.specs.declared.kinds.Step.TheVariants.{ReadOwn, ReadCat, StoreField, StoreValue, StoreRoot, ClaimBlock, ReleaseBlock, ReadFree, StoreNew, PublishCells, Split, Join, ExchangeField, ExchangeValue}
+use Rattle.mark_core.specs.declared.kinds.Step.TheVariants.{ReadOwn, ReadCat, StoreField, StoreValue, StoreRoot, ClaimBlock, ReleaseBlock, ReadFree, StoreNew, PublishCells, Split, Join, ExchangeField, ExchangeValue, StoreSlot, ReadSlot}
 use Rattle.mark_core.specs.declared.seat.SeatState.{SeatState}
 use Rattle.plain_heap.specs.declared.operation.Op.{Op}
 use Rattle.gc_table.specs.StandsFor.{StandsIn, StandsFor}
@@ -15,7 +15,7 @@ use Rattle.gc_table.specs.declared.view.Meaning.{Meaning}
 use Rattle.gc_table.specs.PlainSteps.{meanings_after, AsksIn}
 use Rattle.gc_table.specs.Laws.{EventsKeepStands}
 use Rattle.gc_table.proofs.Stands.StandsNew.{store-new}
-use Rattle.gc_table.proofs.Stands.StandsReads.{read-own, read-cat}
+use Rattle.gc_table.proofs.Stands.StandsReads.{read-own, read-cat, read-slot}
 use Rattle.gc_table.proofs.Stands.StandsRoots.{store-root}
 use Rattle.gc_table.proofs.Stands.StandsSeats.{same-making, none-making, free-making, published-making, claimed-making}
 use Rattle.gc_table.proofs.Stands.StandsStill.{still-seat, still-split, still-join}
@@ -24,6 +24,8 @@ use Rattle.gc_table.proofs.Stands.StandsStores.{store-field, store-value}
 stands_at : (c : Core) (i : ℕ) (s : SeatState) (step : Step) (op : Op) (ms : List Meaning) → IsFalse c.shape.sharing → Taken c i s step → StandsFor c ms → AsksIn s ms step op → StandsIn c.shape (words_left c s step) (seats_left c i s step) (meanings_after c.shape s step op ms)
 stands_at c i s (ReadOwn x j) op ms alone k st asks = read-own c i s x j ms k st
 stands_at c i s (ReadCat v) op ms alone k st asks = read-cat c i s v ms k st
+stands_at c i s (ReadSlot j) op ms alone k st asks = read-slot c i s j ms k st
+stands_at c i s (StoreSlot j r) op ms alone k st asks = absurd asks
 stands_at c i s (StoreField v j o) op ms alone k st asks = store-field c i s v j o op ms alone k st asks
 stands_at c i s (StoreValue v n) op ms alone k st asks = store-value c i s v n op ms alone k st asks
 stands_at c i s (ExchangeField v j y o) op ms alone k st asks = absurd (true≢false (sym (and_parts _ c.shape.sharing k.ok.1.0).1 ∙ alone))

@@ -51,6 +51,7 @@ made-moves c i s x part word ms k st a free next room here last identity = recor
   more = omega arith;
   identities_kept = kept;
   other_roots = λ j u d h. refl;
+  slots_nil = st.slots_nil;
   own_roots = λ u h. agrees-on w.identities ids (object_count ms) q i _ _ (λ some. kept (slice_index w.roots (i * 32 + u) - 1) (root-used c (i * 32 + u) k.core some)) more (st.roots_agree i m a.there u h);
   cells = λ y h u. cell y h (used-back c i s step y k u);
   other_making = λ j o d g live y part' e. refl;

@@ -77,6 +77,7 @@ part-moves c i s x part word ms values fields value k st a free room few r = rec
   more = omega arith;
   identities_kept = λ y u. refl;
   other_roots = λ j u d h. refl;
+  slots_nil = st.slots_nil;
   own_roots = λ u h. agrees-on w.identities w.identities (object_count ms) q i _ _ (λ some. refl) more (st.roots_agree i m a.there u h);
   cells =
       λ y h u.

@@ -25,6 +25,7 @@ pub record Moves (c : Core) (i : ℕ) (s : SeatState) (step : Step) (x : Words) 
   pub more : length (meaning_of ms i).heap.objects ≤ length n.heap.objects
   pub identities_kept : (y : ℕ) → Used c y ≡ true → slice_index x.identities y ≡ slice_index (words_of c.shape c.words).identities y
   pub other_roots : (w v : ℕ) → w ≢ i → v < 32 → slice_index x.roots (w * 32 + v) ≡ slice_index (words_of c.shape c.words).roots (w * 32 + v)
+  pub slots_nil : (j : ℕ) → slice_index x.roots (c.shape.sections * 32 + j) ≡ 0
   pub own_roots : (v : ℕ) → v < 32 → WordAgrees x.identities (object_count (set ms i n)) i (slice_index x.roots (i * 32 + v)) (variable n.heap v)
   pub cells : (y : ℕ) → y < c.shape.cells → UsedAfter c i s step y ≡ true → HasMeaning c.shape x.identities x.values x.fields (set ms i n) y
   pub other_making : (w : ℕ) (o : SeatState) → w ≢ i → slice_get c.seats w ≡ Some o → IsFalse o.spent → (y part : ℕ) → makes o.cache y part ≡ true → slice_index x.values y ≡ slice_index (words_of c.shape c.words).values y
@@ -45,6 +46,7 @@ moved c i s step x t n ms k st a move =
       identities = move.identities_kept;
       roots_used = λ j some. root-used c j k.core some;
       other_roots = move.other_roots;
+      slots_nil = move.slots_nil;
       own_roots = move.own_roots;
       cells = move.cells;
       other_got = λ v o d g live some. got-used c v o ReadCount (looks c v o k.core g live) some;

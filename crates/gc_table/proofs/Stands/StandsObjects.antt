@@ -128,6 +128,7 @@ object-moves c i s step v ms y values fields object owed k st a none b r = recor
   more = omega (arith, long);
   identities_kept = λ z u. refl;
   other_roots = λ j u d h. refl;
+  slots_nil = st.slots_nil;
   own_roots = λ u h. agrees-on w.identities w.identities (object_count ms) q i _ _ (λ some. refl) more (st.roots_agree i m a.there u h);
   cells = λ z h u. let before = had-meaning c i s step ms z k st (none z) h u in cell z h before.0 before.1 (cases_eq z y);
   other_making = λ j o d g live z part e. r.other_values z (λ same. unused z same (making-is-free c j o ReadCount z part (looks c j o k.core g live) e) (free-not-used c j o ReadCount z (looks c j o k.core g live)));

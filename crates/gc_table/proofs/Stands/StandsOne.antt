@@ -5,7 +5,7 @@ use Rattle.std.proofs.lemmas.List.{set-get_or}
 use Rattle.std.proofs.lemmas.Option.{get_or_from_slice_get}
 use Rattle.mark_core.specs.declared.kinds.Shape.{Shape}
 use Rattle.mark_core.specs.declared.kinds.Step.{Step}
-use Rattle.mark_core.specs.declared.kinds.Step.TheVariants.{ReadOwn, ReadCat, StoreField, StoreValue, StoreRoot, StoreNew}
+use Rattle.mark_core.specs.declared.kinds.Step.TheVariants.{ReadOwn, ReadCat, StoreField, StoreValue, StoreRoot, StoreNew, ReadSlot}
 use Rattle.mark_core.specs.declared.seat.SeatState.{SeatState}
 use Rattle.plain_heap.specs.declared.operation.Op.{Op}
 use Rattle.gc_table.specs.declared.view.Meaning.{Meaning}
@@ -26,6 +26,7 @@ one-changes sh s (StoreValue v n) op ms w m e g = own_changes sh s (StoreValue v
 one-changes sh s (StoreRoot v r) op ms w m e g = own_changes sh s (StoreRoot v r) op ms w m e g
 one-changes sh s (ReadOwn x i) op ms w m e g = own_changes sh s (ReadOwn x i) op ms w m e g
 one-changes sh s (ReadCat v) op ms w m e g = own_changes sh s (ReadCat v) op ms w m e g
+one-changes sh s (ReadSlot k) op ms w m e g = own_changes sh s (ReadSlot k) op ms w m e g
 one-changes sh s (StoreNew x part word) op ms w m e g = own_changes sh s (StoreNew x part word) op ms w m e g
 one-changes sh s step op ms w m e g = sym (subst (λ (x : Meaning). set ms w x ≡ ms) (get_or_from_slice_get ms w m m g) (set-get_or ms w m))
 

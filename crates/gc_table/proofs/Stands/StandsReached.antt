@@ -1,5 +1,5 @@
 -- The reachable objects and the reachable cells: each has the other.
-use Rattle.std.proofs.Common.{ℕ, ◌≡◌, ◌+◌, ◌*◌, ◌/◌, ◌%◌, ◌<◌, ◌≤◌, List, [], ◌∷◌, length, arith, refl, sym, ap, ◌∙◌, subst, Some, ◌⊎◌, inl, inr}
+use Rattle.std.proofs.Common.{ℕ, ◌≡◌, ◌+◌, ◌*◌, ◌/◌, ◌%◌, ◌<◌, ◌≤◌, List, [], ◌∷◌, length, arith, refl, sym, ap, ◌∙◌, subst, Some, ◌⊎◌, inl, inr, ◌-◌, ⊎_elim}
 use Rattle.std.specs.Prelude.{slice_get, slice_index, slice_index_or}
 use Rattle.std.proofs.lemmas.Bool.{cases_lt}
 use Rattle.std.proofs.lemmas.List.{get_or_default}
@@ -53,8 +53,17 @@ rooted c ms x k core st h e = (named.1, (object, [], held))
     section : ℕ
     section = k / 32
 
+    variable_there : k < c.shape.sections * 32
+    variable_there =
+        ⊎_elim
+        (λ (l : k < c.shape.sections * 32). l)
+        (λ (l : c.shape.sections * 32 ≤ k).
+        let same : c.shape.sections * 32 + (k - c.shape.sections * 32) ≡ k = omega (arith, l) in
+        absurd (omega (arith, e, sym (ap (slice_index (words_of c.shape c.words).roots) same) ∙ st.slots_nil (k - c.shape.sections * 32))))
+        (cases_lt k (c.shape.sections * 32))
+
     inside : section < length ms
-    inside = omega (arith, h, roots-length c core, st.sections)
+    inside = omega (arith, variable_there, st.sections)
 
     m : Meaning
     m = meaning_of ms section

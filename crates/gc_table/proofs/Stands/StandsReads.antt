@@ -1,9 +1,10 @@
 -- What a mutator reads into its register agrees with what the plain heap has there.
-use Rattle.std.proofs.Common.{ℕ, ◌≡◌, ◌+◌, ◌*◌, ◌<◌, ◌≤◌, zero, suc, List, set, arith, refl, sym, ap, subst, true, false, ◌&&◌, Option, Some, inr}
-use Rattle.std.specs.Prelude.{IsTrue, slice_get, slice_index, nat_lt}
+use Rattle.plain_heap.specs.declared.object.Ref.TheVariants as refs
+use Rattle.std.proofs.Common.{ℕ, ◌≡◌, ◌+◌, ◌*◌, ◌<◌, ◌≤◌, zero, suc, List, set, arith, refl, sym, ap, subst, true, false, ◌&&◌, Option, Some, inr, inl, ◌∙◌}
+use Rattle.std.specs.Prelude.{IsTrue, slice_get, slice_index, nat_lt, unwrap_or}
 use Rattle.std.proofs.lemmas.Bool.{true≢false, and_parts, not-true, ltb-true}
 use Rattle.std.proofs.lemmas.Option.{slice_get-get_or}
-use Rattle.mark_core.specs.Layout.{Words, words_of, region_sizes}
+use Rattle.mark_core.specs.Layout.{Words, words_of, region_sizes, root_count}
 use Rattle.mark_core.specs.Bits.{nil_or, reference_in}
 use Rattle.mark_core.specs.Seats.{is_the, may_mutate}
 use Rattle.mark_core.specs.Cells.{field}
@@ -17,7 +18,7 @@ use Rattle.mark_core.proofs.References.ReferencesRoots.{Used, UsedAfter, read-wh
 use Rattle.mark_core.proofs.Used.UsedSeats.{IsMadeBy}
 use Rattle.mark_core.proofs.Writing.Writes.{only_reads}
 use Rattle.mark_core.specs.declared.kinds.Step.{Step}
-use Rattle.mark_core.specs.declared.kinds.Step.TheVariants.{ReadOwn, ReadCat}
+use Rattle.mark_core.specs.declared.kinds.Step.TheVariants.{ReadOwn, ReadCat, ReadSlot}
 use Rattle.mark_core.specs.declared.seat.SeatState.{SeatState}
 use Rattle.plain_heap.specs.declared.object.Ref.{Ref}
 use Rattle.plain_heap.specs.PlainHeap.{variable}
@@ -45,6 +46,7 @@ got_moves c i s step ms word ref k st a none got =
       more = omega arith;
       identities_kept = λ y u. refl;
       other_roots = λ v u d h. refl;
+      slots_nil = st.slots_nil;
       own_roots = λ v h. agrees-on w.identities w.identities (object_count ms) (object_count (set ms i n)) i _ _ (λ some. refl) more (st.roots_agree i m a.there v h);
       cells =
           λ y h u.
@@ -114,7 +116,7 @@ cat-found c i s v ms k st a =
     let step : Step = ReadCat v in
     let hv : v < 32 = ltb-true v 32 (and_parts (nat_lt v 32) (may_mutate s) k.ok.0).0 in
     let first : slice_get ms 0 ≡ Some (meaning_of ms 0) = slice_get-get_or ms 0 no_meaning (omega (arith, st.sections, a.inside)) in
-    let h : 0 * 32 + v < c.shape.sections * 32 = in-place c i s step k in
+    let h : 0 * 32 + v < root_count c.shape = in-place c i s step k in
     let old : found c s step ≡ slice_index w.roots (0 * 32 + v) = words-get (region_sizes c.shape) 2 c.words (0 * 32 + v) 0 h in
     let goes : nil_or (Used c) (found c s step) ≡ true = subst (λ (r : ℕ). nil_or (Used c) r ≡ true) (sym old) (k.core.sound.references.roots_in_use (0 * 32 + v) 0 (subst (λ (n : ℕ). 0 * 32 + v < n) (sym (roots-length c k.core)) h)) in
     let other : is_the (Some i) 0 ≡ false = subst (λ (o : Option ℕ). is_the o 0 ≡ false) a.section (not-true (is_the s.section 0) k.ok.1.0) in
@@ -131,3 +133,14 @@ read-cat c i s v ms k st =
     let r = cat-found c i s v ms k st a in
     subst (λ (o : ℕ). StandsIn c.shape (words_left c s step) (seats_left c i s step) (changed ms o (with_got (lent_variable (catalogue_seen ms o) v)))) (sym a.own)
     (got-read c i s step ms (reference_in (found c s step)) ref k st a (λ y e. e) refl refl (subst (λ (word : ℕ). WordAgrees (words_of c.shape c.words).identities (object_count ms) i word ref) (sym r.0) r.1))
+
+-- 53: a slot, which is nil
+pub read-slot : (c : Core) (i : ℕ) (s : SeatState) (j : ℕ) (ms : List Meaning) → Taken c i s (ReadSlot j) → StandsFor c ms
+    → StandsIn c.shape (words_left c s (ReadSlot j)) (seats_left c i s (ReadSlot j)) (changed ms (own_section s) (with_got refs.Nil))
+read-slot c i s j ms k st =
+    let step : Step = ReadSlot j in
+    let a : Mutates c i s ms = mutates c i s step ms k st (and_parts (nat_lt j c.shape.slots) (may_mutate s) k.ok.0).1 in
+    let at : ℕ = unwrap_or s.section 0 * c.shape.slots + j in
+    let nil : found c s step ≡ 0 = words-get (region_sizes c.shape) 2 c.words (c.shape.sections * 32 + at) 0 (in-place c i s step k) ∙ st.slots_nil at in
+    subst (λ (o : ℕ). StandsIn c.shape (words_left c s step) (seats_left c i s step) (changed ms o (with_got refs.Nil))) (sym a.own)
+    (got-read c i s step ms (reference_in (found c s step)) refs.Nil k st a (λ y e. e) refl refl (inl (ap reference_in nil, refl)))

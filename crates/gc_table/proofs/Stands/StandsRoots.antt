@@ -71,6 +71,7 @@ root_moves c i s v r ms n ref k st a hv x = record {
   more = x.more;
   identities_kept = λ y u. refl;
   other_roots = λ j u d hu. ap (λ (rs : List ℕ). slice_index rs (j * 32 + u)) roots_are ∙ get_or-set_other w.roots (i * 32 + v) (j * 32 + u) r 0 (λ e. d (omega (arith, e, hu, hv)));
+  slots_nil = λ j. ap (λ (rs : List ℕ). slice_index rs (c.shape.sections * 32 + j)) roots_are ∙ get_or-set_other w.roots (i * 32 + v) (c.shape.sections * 32 + j) r 0 (λ e. omega (arith, e, hv, a.inside, st.sections)) ∙ st.slots_nil j;
   own_roots =
       λ u hu.
       subst (λ (rs : List ℕ). WordAgrees w.identities q i (slice_index rs (i * 32 + u)) (variable n.heap u)) (sym roots_are)

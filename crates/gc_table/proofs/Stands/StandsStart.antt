@@ -38,6 +38,7 @@ stands-starts sh n z =
       roots_agree =
           λ k m g v h.
           inl (no-root sh (k * 32 + v), subst (λ (x : Meaning). variable x.heap v ≡ refs.Nil) (sym (meaning_is sh k m g)) (get_or-replicate 32 v refs.Nil refs.Nil h));
+      slots_nil = λ k. no-root sh (sh.sections * 32 + k);
       cells_agree = λ y h u. absurd (true≢false (sym u ∙ none-used sh n z y h));
       seats_agree =
           λ k s m f g live.

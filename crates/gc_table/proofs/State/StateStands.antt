@@ -1,11 +1,11 @@
 -- The words stand for what the sections say after each step that a seat may take.
 use Rattle.std.proofs.Common.{ℕ, ◌≡◌, zero, suc, List, [], ◌∷◌, set, refl, sym, ap, ◌∙◌, subst, true, Option, Some, None}
 use Rattle.std.specs.Prelude.{IsFalse}
-use Rattle.std.proofs.lemmas.Bool.{and_parts}
+use Rattle.std.proofs.lemmas.Bool.{and_parts, true≢false}
 use Rattle.std.proofs.lemmas.List.{set-get_or}
 use Rattle.mark_core.specs.Seats.{may_mutate}
 use Rattle.mark_core.specs.declared.kinds.Step.{Step}
-use Rattle.mark_core.specs.declared.kinds.Step.TheVariants.{ReadOwn, ReadCat, StoreField, StoreValue, StoreRoot, StoreNew}
+use Rattle.mark_core.specs.declared.kinds.Step.TheVariants.{ReadOwn, ReadCat, StoreField, StoreValue, StoreRoot, StoreNew, StoreSlot, ReadSlot}
 use Rattle.mark_core.specs.declared.seat.SeatState.{SeatState}
 use Rattle.plain_heap.specs.declared.operation.Op.{Op}
 use Rattle.plain_heap.specs.declared.operation.Op.TheVariants as ops
@@ -81,6 +81,8 @@ mutating x i s step op alone g may asked means = (op, asks, meanings)
 means-left : (x : TableState) (i : ℕ) (s : SeatState) (step : Step) → IsFalse x.core.shape.sharing → Goes x i s step → Means x s step
 means-left x i s (ReadOwn c j) alone g = mutating x i s (ReadOwn c j) ops.Collect alone g (and_parts _ (may_mutate s) g.ok.0).1 tt (λ y. refl)
 means-left x i s (ReadCat v) alone g = mutating x i s (ReadCat v) ops.Collect alone g (and_parts _ (may_mutate s) g.ok.0).1 tt (λ y. refl)
+means-left x i s (ReadSlot j) alone g = mutating x i s (ReadSlot j) ops.Collect alone g (and_parts _ (may_mutate s) g.ok.0).1 tt (λ y. refl)
+means-left x i s (StoreSlot j r) alone g = absurd (true≢false (sym g.asks.1 ∙ alone))
 means-left x i s (StoreField v j o) alone g = mutating x i s (StoreField v j o) (g.asks.1 alone).0 alone g (and_parts _ (may_mutate s) g.ok.0).1 (g.asks.1 alone).1 (λ y. refl)
 means-left x i s (StoreValue v n) alone g = mutating x i s (StoreValue v n) (g.asks.1 alone).0 alone g (and_parts _ (may_mutate s) g.ok.0).1 (g.asks.1 alone).1 (λ y. refl)
 means-left x i s (StoreRoot v r) alone g = mutating x i s (StoreRoot v r) (g.asks.1 alone).0 alone g (and_parts _ (may_mutate s) g.ok.0).1 (g.asks.1 alone).1 (λ y. refl)

@@ -3,7 +3,6 @@ use Rattle.std.proofs.Common.{ℕ, ◌≡◌, ◌≢◌, ◌<◌, List, length, 
 use Rattle.std.specs.Prelude.{IsTrue, slice_get, nat_lt}
 use Rattle.std.specs.List.{All}
 use Rattle.std.proofs.lemmas.Bool.{false≢true, and_parts, or_cases, or_left, or_right, ltb-true, cases_eq}
-use Rattle.std.proofs.lemmas.List.{length-map}
 use Rattle.std.proofs.lemmas.Option.{same_Some, slice_get-get_or, get_or_from_slice_get}
 use Rattle.mark_core.specs.Shapes.{EachCell}
 use Rattle.mark_core.specs.Layout.{Words, words_of}

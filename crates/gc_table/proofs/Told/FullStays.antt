@@ -24,7 +24,7 @@ use Rattle.mark_core.proofs.Writing.Writes.{phase-kept, at_part}
 use Rattle.mark_core.specs.declared.kinds.Phase.{Phase}
 use Rattle.mark_core.specs.declared.kinds.Phase.TheVariants.{Idle, Marking, Drain, Sweep, Clear, Full}
 use Rattle.mark_core.specs.declared.kinds.Step.{Step}
-use Rattle.mark_core.specs.declared.kinds.Step.TheVariants.{ReadPhase, StoreField, StoreValue, StoreRoot, StoreNew, StorePhase, StoreAlloc, StoreNamed, Reset, AddStat, ReadStat, ExchangeField, ExchangeValue}
+use Rattle.mark_core.specs.declared.kinds.Step.TheVariants.{ReadPhase, StoreField, StoreValue, StoreRoot, StoreNew, StorePhase, StoreAlloc, StoreNamed, Reset, AddStat, ReadStat, ExchangeField, ExchangeValue, StoreSlot}
 use Rattle.mark_core.specs.declared.seat.SeatState.{SeatState}
 use Rattle.gc_table.specs.PlainSteps.{HasSeenPhase}
 use Rattle.gc_table.specs.TableState.{TableState}
@@ -108,5 +108,6 @@ reached-on x i s (ExchangeField v j y o) g seen a r = no_mutator x.core i s (Exc
 reached-on x i s (StoreValue v n) g seen a r = no_mutator x.core i s (StoreValue v n) _ (taken x i s (StoreValue v n) g) seen (and_parts _ _ g.ok.0).1 g.asks.0
 reached-on x i s (ExchangeValue v m n) g seen a r = no_mutator x.core i s (ExchangeValue v m n) _ (taken x i s (ExchangeValue v m n) g) seen (and_parts _ _ g.ok.0).1 g.asks
 reached-on x i s (StoreRoot v t) g seen a r = no_mutator x.core i s (StoreRoot v t) _ (taken x i s (StoreRoot v t) g) seen (and_parts _ _ g.ok.0).1 g.asks.0
+reached-on x i s (StoreSlot j t) g seen a r = no_mutator x.core i s (StoreSlot j t) _ (taken x i s (StoreSlot j t) g) seen (and_parts _ _ g.ok.0).1 g.asks.0
 reached-on x i s (StoreNew y part word) g seen a r = no_cell x.core i s y part word _ (taken x i s (StoreNew y part word) g) a
 reached-on x i s step g seen a r = λ y h. reach-still x.core i s step y (taken x i s step g) refl refl (r y h)

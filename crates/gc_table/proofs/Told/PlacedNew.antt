@@ -2,7 +2,7 @@
 use Rattle.std.proofs.Common.{ℕ, ◌≡◌, ◌≢◌, ◌+◌, ◌*◌, ◌<◌, ◌≤◌, List, [], ◌∷◌, ◌++◌, set, arith, refl, sym, ap, ◌∙◌, subst, Bool, true, false, cond, eqb, ◌&&◌, ◌⊎◌, inl, inr, ⊎_elim}
 use Rattle.std.specs.Prelude.{IsTrue, nat_lt, nat_le, is_some, unwrap_or}
 use Rattle.std.proofs.lemmas.Bool.{true≢false, and_parts, eqb-true, ne_eqb, eq-eqb, le-ltb, le-leb, lt-leb, leb-true, lt-ltb, cases_eq, cases_lt}
-use Rattle.std.proofs.lemmas.List.{length-set, length-map}
+use Rattle.std.proofs.lemmas.List.{length-set}
 use Rattle.mark_core.specs.Layout.{Words, words_of, put_word, region_sizes}
 use Rattle.mark_core.specs.Bits.{flag}
 use Rattle.mark_core.specs.Seats.{free_in, may_mutate}

@@ -2,7 +2,7 @@
 use Rattle.std.proofs.Common.{ℕ, ◌≡◌, ◌<◌, ◌≤◌, List, set, length, arith, refl, sym, ap, ◌∙◌, subst, Bool, true, false, ◌&&◌, Option, Some, None}
 use Rattle.std.specs.Prelude.{slice_get, slice_index, unwrap_or, is_some, nat_lt, nat_le}
 use Rattle.std.proofs.lemmas.Bool.{true≢false, false≢true, and_parts, ltb-false, leb-true}
-use Rattle.std.proofs.lemmas.List.{get_or-set_same, get_or-set_other, length-map}
+use Rattle.std.proofs.lemmas.List.{get_or-set_same, get_or-set_other}
 use Rattle.std.proofs.lemmas.Option.{slice_get_within}
 use Rattle.mark_core.specs.Layout.{Words, words_of, put_word, region_sizes}
 use Rattle.mark_core.specs.Places.{counter_at}
@@ -26,7 +26,7 @@ use Rattle.gc_table.specs.Sections.{section_after}
 use Rattle.gc_table.specs.TableState.{TableState, state_after}
 use Rattle.gc_table.specs.Told.{Positioned}
 use Rattle.gc_table.proofs.State.StateSteps.{Goes, event, taken, sections_left, kept-whole, each-left}
-use Rattle.mark_core.specs.Numbers.{done_count, last_count, named_number, traced_count}
+use Rattle.mark_core.specs.Numbers.{done_count, last_count, named_number, free_count}
 
 -- the counters below the named section are single words
 single : (P : ℕ × ℕ → Type 0) (which : ℕ) → which < named_number → ((i : ℕ) → P (0, i)) → P (counter_at which)
@@ -45,8 +45,8 @@ positions_same c i s (StoreNew x part word) k e =
     let w : Words = words_of c.shape c.words in at_part (λ at. (put_word at (written c.shape s (StoreNew x part word) (found c s (StoreNew x part word))) w).positions ≡ w.positions) c.shape x part (λ i. refl) (λ i. refl) (λ i. refl)
 positions_same c i s (Reset which) k e =
     let w : Words = words_of c.shape c.words in
-    let a = and_parts (nat_le which traced_count && s.alone) _ k.ok.0 in
-    let h : which ≤ 4 = leb-true which traced_count (and_parts (nat_le which traced_count) s.alone a.0).0 in
+    let a = and_parts (nat_le which free_count && s.alone) _ k.ok.0 in
+    let h : which ≤ 5 = leb-true which free_count (and_parts (nat_le which free_count) s.alone a.0).0 in
     single (λ at. (put_word at (written c.shape s (Reset which) (found c s (Reset which))) w).positions ≡ w.positions) which (omega (arith, h)) (λ i. refl)
 positions_same c i s (AddStat which by down) k e =
     let w : Words = words_of c.shape c.words in

@@ -2,7 +2,7 @@
 use Rattle.std.proofs.Common.{ℕ, ◌≡◌, ◌+◌, ◌%◌, ◌<◌, zero, suc, List, length, arith, refl, sym, ap, ◌∙◌, subst, Bool, true, false, ◌&&◌, eqb, Option, Some, None, ⊎_elim}
 use Rattle.std.specs.Prelude.{IsTrue, IfSome, nat_lt, unwrap_or}
 use Rattle.std.proofs.lemmas.Bool.{true≢false, false≢true, and_parts, ltb-true, eqb-true, eq-eqb, cases_Bool}
-use Rattle.std.proofs.lemmas.List.{get_or-set_same, get_or-set_other, length-map}
+use Rattle.std.proofs.lemmas.List.{get_or-set_same, get_or-set_other}
 use Rattle.std.proofs.lemmas.Option.{same_Some}
 use Rattle.mark_core.specs.Layout.{Words, words_of, region_sizes}
 use Rattle.mark_core.specs.Seats.{has_turn, may_mutate}

@@ -21,7 +21,7 @@ use Rattle.mark_core.specs.declared.kinds.Shape.{Shape}
 use Rattle.mark_core.specs.declared.kinds.Phase.{Phase}
 use Rattle.mark_core.specs.declared.kinds.Phase.TheVariants.{Idle, Marking, Drain, Sweep, Clear, Full}
 use Rattle.mark_core.specs.declared.kinds.Step.{Step}
-use Rattle.mark_core.specs.declared.kinds.Step.TheVariants.{StoreField, StoreValue, StoreRoot, StoreNew, StorePhase, NextSeason, ExchangeField, ExchangeValue}
+use Rattle.mark_core.specs.declared.kinds.Step.TheVariants.{StoreField, StoreValue, StoreRoot, StoreNew, StorePhase, NextSeason, ExchangeField, ExchangeValue, StoreSlot}
 use Rattle.mark_core.specs.declared.seat.SeatState.{SeatState}
 use Rattle.plain_heap.specs.declared.operation.Op.{Op}
 use Rattle.gc_table.specs.declared.view.SectionState.{SectionState}
@@ -86,6 +86,7 @@ others c i s (ExchangeField v j y o) x k d moved st = others_wait c i s (Exchang
 others c i s (ExchangeValue v m n) x k d moved st = others_wait c i s (ExchangeValue v m n) x k d moved st (and_parts _ _ k.ok.0).1
 others c i s (StoreValue v n) x k d moved st = others_wait c i s (StoreValue v n) x k d moved st (and_parts _ _ k.ok.0).1
 others c i s (StoreRoot v r) x k d moved st = others_wait c i s (StoreRoot v r) x k d moved st (and_parts _ _ k.ok.0).1
+others c i s (StoreSlot j r) x k d moved st = others_wait c i s (StoreSlot j r) x k d moved st (and_parts _ _ k.ok.0).1
 others c i s (StoreNew y part word) x k d moved st = others_wait c i s (StoreNew y part word) x k d moved st (and_parts _ _ k.ok.0).1
 others c i s step x k d moved st = still_settled c i s step x k refl refl (λ y e. e) st
 
@@ -120,6 +121,7 @@ own c i s (ExchangeField v j y o) plan x k exact st e = absurd (false≢true e)
 own c i s (ExchangeValue v m n) plan x k exact st e = absurd (false≢true e)
 own c i s (StoreValue v n) plan x k exact st e = absurd (false≢true e)
 own c i s (StoreRoot v r) plan x k exact st e = absurd (false≢true e)
+own c i s (StoreSlot j r) plan x k exact st e = absurd (false≢true e)
 own c i s (StoreNew y part word) plan x k exact st e = absurd (false≢true e)
 own c i s NextSeason plan x k exact st e = absurd (false≢true e)
 own c i s (StorePhase to) plan x k exact st e =

@@ -11,7 +11,7 @@ use Rattle.mark_core.proofs.Writing.Writes.{phase-kept, next_block-kept}
 use Rattle.mark_core.proofs.Writing.RegionWrites.{roots-kept, allocs-kept, marks-kept, fields-kept}
 use Rattle.mark_core.proofs.Blocks.BlocksTaken.{Taken, words-read}
 use Rattle.mark_core.specs.declared.kinds.Step.{Step}
-use Rattle.mark_core.specs.declared.kinds.Step.TheVariants.{ReadAlloc, ReadField, ReadRoot, SetMark, ReadMarks, ReadPhase, ReadOwn, ReadCat, StoreField, StoreRoot, ReadFree, StoreNew, PublishCells, StorePhase, NextBlock, ReadBlockMarks, StoreAlloc, ClearMarks, Reset, AddStat, ReadStat, ExchangeField}
+use Rattle.mark_core.specs.declared.kinds.Step.TheVariants.{ReadAlloc, ReadField, ReadRoot, SetMark, ReadMarks, ReadPhase, ReadOwn, ReadCat, StoreField, StoreRoot, ReadFree, StoreNew, PublishCells, StorePhase, NextBlock, ReadBlockMarks, StoreAlloc, ClearMarks, Reset, AddStat, ReadStat, ExchangeField, LoadSlot, StoreSlot, ReadSlot}
 use Rattle.mark_core.specs.declared.seat.SeatState.{SeatState}
 use Rattle.mark_core.specs.Numbers.{done_count, last_count, named_number}
 
@@ -51,6 +51,7 @@ changes_heap (SetMark c) = true
 changes_heap (StoreField v i x) = true
 changes_heap (ExchangeField v i x y) = true
 changes_heap (StoreRoot v r) = true
+changes_heap (StoreSlot k r) = true
 changes_heap (StoreNew c part word) = true
 changes_heap PublishCells = true
 changes_heap (StorePhase to) = true
@@ -66,6 +67,7 @@ heap-left c i s (SetMark x) t e = absurd (true≢false e)
 heap-left c i s (StoreField v x y) t e = absurd (true≢false e)
 heap-left c i s (ExchangeField v x y z) t e = absurd (true≢false e)
 heap-left c i s (StoreRoot v r) t e = absurd (true≢false e)
+heap-left c i s (StoreSlot k r) t e = absurd (true≢false e)
 heap-left c i s (StoreNew x part word) t e = absurd (true≢false e)
 heap-left c i s PublishCells t e = absurd (true≢false e)
 heap-left c i s (StorePhase to) t e = absurd (true≢false e)
@@ -76,10 +78,12 @@ heap-left c i s (Reset which) t e = absurd (true≢false e)
 heap-left c i s (ReadAlloc b) t e = same_words _ _ (words-read c i s (ReadAlloc b) t refl)
 heap-left c i s (ReadField x f) t e = same_words _ _ (words-read c i s (ReadField x f) t refl)
 heap-left c i s (ReadRoot section v) t e = same_words _ _ (words-read c i s (ReadRoot section v) t refl)
+heap-left c i s (LoadSlot section k) t e = same_words _ _ (words-read c i s (LoadSlot section k) t refl)
 heap-left c i s (ReadMarks b) t e = same_words _ _ (words-read c i s (ReadMarks b) t refl)
 heap-left c i s ReadPhase t e = same_words _ _ (words-read c i s ReadPhase t refl)
 heap-left c i s (ReadOwn x f) t e = same_words _ _ (words-read c i s (ReadOwn x f) t refl)
 heap-left c i s (ReadCat v) t e = same_words _ _ (words-read c i s (ReadCat v) t refl)
+heap-left c i s (ReadSlot k) t e = same_words _ _ (words-read c i s (ReadSlot k) t refl)
 heap-left c i s ReadFree t e = same_words _ _ (words-read c i s ReadFree t refl)
 heap-left c i s ReadBlockMarks t e = same_words _ _ (words-read c i s ReadBlockMarks t refl)
 heap-left c i s (ReadStat which) t e = same_words _ _ (words-read c i s (ReadStat which) t refl)

@@ -36,8 +36,12 @@ number_made i made h = omega (arith, h)
 new_word : (sh : Shape) (ids : List ℕ) (used used' : ℕ → Bool) (ms : List Maker) (i c word : ℕ) (m n : Maker) → Naming sh ids used used' ms i c word m n → slice_index (set ids c word) c ≡ i * section_span + m.made
 new_word sh ids used used' ms i c word m n k = get_or-set_same ids c word 0 k.stored ∙ k.identity
 
-other_word : (ids : List ℕ) (c word d : ℕ) (used : ℕ → Bool) → used c ≡ false → used d ≡ true → slice_index (set ids c word) d ≡ slice_index ids d
-other_word ids c word d used f e = get_or-set_other ids c d word 0 (λ s. true≢false (sym e ∙ ap used s ∙ f))
+pub other-word : (ids : List ℕ) (c word d : ℕ) (used : ℕ → Bool) → used c ≡ false → used d ≡ true → slice_index (set ids c word) d ≡ slice_index ids d
+other-word ids c word d used f e = get_or-set_other ids c d word 0 (λ s. true≢false (sym e ∙ ap used s ∙ f))
+
+-- the section of the new cell
+pub new-section : (sh : Shape) (ids : List ℕ) (used used' : ℕ → Bool) (ms : List Maker) (i c word : ℕ) (m n : Maker) → Naming sh ids used used' ms i c word m n → section_of_cell (set ids c word) c ≡ i
+new-section sh ids used used' ms i c word m n k = ap (λ x. x / section_span) (new_word sh ids used used' ms i c word m n k) ∙ section_made i m.made k.room
 
 -- no cell in use has the new identity
 unique : (sh : Shape) (ids : List ℕ) (used used' : ℕ → Bool) (ms : List Maker) (i c word d : ℕ) (m n : Maker) → Naming sh ids used used' ms i c word m n → Names sh ids used ms → d < sh.cells → used d ≡ true → slice_index ids d ≡ i * section_span + m.made → ⊥
@@ -52,9 +56,9 @@ pub names-new : (sh : Shape) (ids : List ℕ) (used used' : ℕ → Bool) (ms : 
 names-new sh ids used used' ms i c word m n k names =
     let ids' : List ℕ = set ids c word in
     let fresh : slice_index ids' c ≡ i * section_span + m.made = new_word sh ids used used' ms i c word m n k in
-    let keep = λ (d : ℕ) (u : used d ≡ true). other_word ids c word d used k.unused u in
+    let keep = λ (d : ℕ) (u : used d ≡ true). other-word ids c word d used k.unused u in
     let never = λ (d : ℕ) (h : d < sh.cells) (u : used d ≡ true) (e : slice_index ids d ≡ i * section_span + m.made). unique sh ids used used' ms i c word d m n k names h u e in
-    let section : section_of_cell ids' c ≡ i = ap (λ x. x / section_span) fresh ∙ section_made i m.made k.room in
+    let section : section_of_cell ids' c ≡ i = new-section sh ids used used' ms i c word m n k in
     let number : number_of_cell ids' c ≡ m.made = ap (λ x. x % section_span) fresh ∙ number_made i m.made k.room in
     record {
       distinct =

@@ -10,7 +10,7 @@ use Rattle.mark_core.specs.Bits.{has_bit, cell_bit}
 use Rattle.mark_core.specs.Seats.{is_the, cache_block, free_in, used_in, makes}
 use Rattle.mark_core.specs.Views.{Maker}
 use Rattle.mark_core.specs.Cells.{in_use}
-use Rattle.mark_core.specs.Rules.HeapRules.{Caches, CachesUnpublished, MakesNil}
+use Rattle.mark_core.specs.Rules.HeapRules.{Caches, CachesUnpublished, MakesNil, UsedOwn}
 use Rattle.mark_core.specs.Steps.MutatorSteps.{used_bits, without_used}
 use Rattle.mark_core.specs.WellFormed.{IsCache}
 use Rattle.mark_core.proofs.Acting.{some_none}
@@ -81,6 +81,8 @@ publish-kept sh owners allocs ids fields ms i b m k g hb some =
     (one-of (CachesUnpublished sh allocs) ms j x e a.unpublished))
     (λ c part x e l f. nil c part x (sym (published_makes m.cache c part) ∙ e) l f)
     (λ j x d e. one-of (MakesNil sh fields) ms j x e a.making_nil)
+    (λ c h e. absurd (false≢true (sym (published-none m.cache c) ∙ e)))
+    (λ j x d e. one-of (UsedOwn sh ids) ms j x e a.used_own)
     (names-fewer sh ids (in_use allocs ms) (in_use allocs' (set ms i n)) ms i m n g (refl, refl, refl) less (names-of sh owners allocs ids fields ms a))
 
 -- 35: the allocation bits of cells that aren't marked are cleared
@@ -98,6 +100,7 @@ free-kept sh owners allocs ids fields ms b mask k hb =
       owners_exist = a.owners_exist;
       unpublished = λ j d h. unpublished-fewer sh allocs allocs' (get_or ms j d) (λ c hc f e. bits c e) (a.unpublished j d h);
       making_nil = a.making_nil;
+      used_own = a.used_own;
       distinct = names.distinct;
       numbers_below = names.numbers_below;
       sections_seated = names.sections_seated;
@@ -128,6 +131,7 @@ field-kept sh owners allocs ids fields ms d f v k used hf =
           let x : Maker = get_or ms j e in
           let at : slice_get ms j ≡ Some x = slice_get-get_or ms j e h in
           making-other sh fields d f v x hf (λ c part m s. true≢false (sym used ∙ sym (ap (in_use allocs ms) s) ∙ making_unused sh owners allocs ids fields ms j c part x k at m)) (a.making_nil j e h);
+      used_own = a.used_own;
       distinct = a.distinct;
       numbers_below = a.numbers_below;
       sections_seated = a.sections_seated;
@@ -152,6 +156,7 @@ push-kept sh owners allocs ids fields ms n a none next =
       owners_exist = λ b h. rw length-append (omega (arith, a.owners_exist b h));
       unpublished = all-push (CachesUnpublished sh allocs) ms n a.unpublished (λ c h e. no_cells n.cache c _ none e);
       making_nil = all-push (MakesNil sh fields) ms n a.making_nil (λ c part i e l f. no_making n.cache c part _ none e);
+      used_own = all-push (UsedOwn sh ids) ms n a.used_own (λ c h e. absurd (false≢true (sym (unused c) ∙ e)));
       distinct = names.distinct;
       numbers_below = names.numbers_below;
       sections_seated = names.sections_seated;
@@ -167,4 +172,6 @@ end-kept sh owners allocs ids fields ms i m n a g before none ended =
     (λ j x d e. one-of (CachesUnpublished sh allocs) ms j x e a.unpublished)
     (λ c part x e l f. no_making n.cache c part _ none e)
     (λ j x d e. one-of (MakesNil sh fields) ms j x e a.making_nil)
+    (λ c h e. absurd (false≢true (sym (unused c) ∙ e)))
+    (λ j x d e. one-of (UsedOwn sh ids) ms j x e a.used_own)
     (names-spent sh ids (in_use allocs ms) (in_use allocs (set ms i n)) ms i n less ended (names-of sh owners allocs ids fields ms a))

@@ -6,7 +6,7 @@ use Rattle.std.proofs.lemmas.Bool.{ne_eqb, true≢false, false≢true}
 use Rattle.std.proofs.lemmas.List.Elements.{All-map}
 use Rattle.mark_core.specs.Shapes.{IsShape}
 use Rattle.mark_core.specs.Layout.{Words, words_of, region_base, region_sizes, block_count}
-use Rattle.mark_core.specs.Seats.{is_the, cache_block, makes}
+use Rattle.mark_core.specs.Seats.{is_the, cache_block, makes, used_in}
 use Rattle.mark_core.specs.Views.{Maker, makers, maker_of}
 use Rattle.mark_core.specs.Cells.{in_use}
 use Rattle.mark_core.specs.Start.{start_words, start_seats, full_pool}
@@ -41,6 +41,7 @@ caches-starts sh n k =
       owners_exist = λ b h. omega (arith, no_owner sh b h);
       unpublished = λ i d l c h e. unpublished sh k c h;
       making_nil = λ i d l c part j e. absurd (false≢true (sym (ap (λ o. makes o c part) (all_bare sh n i d l)) ∙ e));
+      used_own = λ i d l c h e. absurd (false≢true (sym (ap (λ o. used_in o c) (all_bare sh n i d l)) ∙ e));
       distinct = λ c h d g u. never c h _ u;
       numbers_below = λ i d l live c h u. never c h _ u;
       sections_seated = λ c h u. never c h _ u;

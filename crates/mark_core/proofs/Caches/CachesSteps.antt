@@ -9,7 +9,7 @@ use Rattle.mark_core.specs.Layout.{block_count}
 use Rattle.mark_core.specs.Seats.{cache_block, free_in, used_in}
 use Rattle.mark_core.specs.Views.{Maker}
 use Rattle.mark_core.specs.Cells.{in_use}
-use Rattle.mark_core.specs.Rules.HeapRules.{Caches, CachesUnpublished, MakesNil}
+use Rattle.mark_core.specs.Rules.HeapRules.{Caches, CachesUnpublished, MakesNil, UsedOwn}
 use Rattle.mark_core.specs.Steps.MutatorSteps.{with_free}
 use Rattle.mark_core.proofs.Known.{HasCache}
 use Rattle.mark_core.proofs.Formed.FormedAfter.{EachAt, one-of, all-but}
@@ -44,13 +44,14 @@ names-of sh owners allocs ids fields ms k = record { distinct = k.distinct; numb
 
 -- the rule of caches, put together where one seat's record changed
 pub caches-set : (sh : Shape) (owners allocs ids fields : List ℕ) (ms : List Maker) (i : ℕ) (n : Maker) → EachAt (Owns sh owners) (set ms i n) → EachBlock sh (λ b. slice_index owners b ≤ length ms) → CachesUnpublished sh allocs n → ((j : ℕ) (x : Maker) → j ≢ i → slice_get ms j ≡ Some x → CachesUnpublished sh allocs x)
-    → MakesNil sh fields n → ((j : ℕ) (x : Maker) → j ≢ i → slice_get ms j ≡ Some x → MakesNil sh fields x) → Names sh ids (in_use allocs (set ms i n)) (set ms i n) → Caches sh owners allocs ids fields (set ms i n)
-caches-set sh owners allocs ids fields ms i n own exist mine others nil nils names =
+    → MakesNil sh fields n → ((j : ℕ) (x : Maker) → j ≢ i → slice_get ms j ≡ Some x → MakesNil sh fields x) → UsedOwn sh ids n → ((j : ℕ) (x : Maker) → j ≢ i → slice_get ms j ≡ Some x → UsedOwn sh ids x) → Names sh ids (in_use allocs (set ms i n)) (set ms i n) → Caches sh owners allocs ids fields (set ms i n)
+caches-set sh owners allocs ids fields ms i n own exist mine others nil nils made makes names =
     record {
       owned = own;
       owners_exist = λ b h. rw length-set (exist b h);
       unpublished = all-but (CachesUnpublished sh allocs) ms i n mine others;
       making_nil = all-but (MakesNil sh fields) ms i n nil nils;
+      used_own = all-but (UsedOwn sh ids) ms i n made makes;
       distinct = names.distinct;
       numbers_below = names.numbers_below;
       sections_seated = names.sections_seated;
@@ -62,6 +63,8 @@ pub cache-set : (sh : Shape) (owners owners' allocs ids fields : List ℕ) (ms :
 cache-set sh owners owners' allocs ids fields ms i m o k g own exist mine nil used =
     let less = λ (c : ℕ) (h : c < sh.cells) (u : in_use allocs (set ms i (with_cache m o)) c ≡ true). use-fewer allocs allocs ms i c m (with_cache m o) g (used c) (use-published allocs ms c) u in
     caches-set sh owners' allocs ids fields ms i (with_cache m o) own exist mine (λ j x d e. one-of (CachesUnpublished sh allocs) ms j x e k.caches.unpublished) nil (λ j x d e. one-of (MakesNil sh fields) ms j x e k.caches.making_nil)
+    (λ c h e. one-of (UsedOwn sh ids) ms i m g k.caches.used_own c h (used c e))
+    (λ j x d e. one-of (UsedOwn sh ids) ms j x e k.caches.used_own)
     (names-fewer sh ids (in_use allocs ms) (in_use allocs (set ms i (with_cache m o))) ms i m (with_cache m o) g (refl, refl, refl) less (names-of sh owners allocs ids fields ms k.caches))
 
 -- a claimed block, of which nothing is known

@@ -1,13 +1,13 @@
 -- The rule of caches after a part of a new cell was stored.
-use Rattle.std.proofs.Common.{ℕ, ◌≡◌, ◌≢◌, ◌+◌, ◌*◌, ◌/◌, ◌%◌, ◌^◌, ◌<◌, List, set, get_or, arith, refl, sym, ◌∙◌, subst, true, false, ◌||◌, Option, Some, None, eqb, ◌⊎◌, inl, inr, ⊎_elim}
+use Rattle.std.proofs.Common.{ℕ, ◌≡◌, ◌≢◌, ◌+◌, ◌*◌, ◌/◌, ◌%◌, ◌^◌, ◌<◌, List, set, get_or, arith, refl, sym, ◌∙◌, subst, true, false, ◌||◌, Option, Some, None, eqb, ◌⊎◌, inl, inr, ⊎_elim, ap}
 use Rattle.std.specs.Prelude.{slice_get}
 use Rattle.std.specs.List.{All}
-use Rattle.std.proofs.lemmas.Bool.{and_parts, and_from, or_cases, or_left, or_right, cases_eq, eqb-true, false≢true}
+use Rattle.std.proofs.lemmas.Bool.{and_parts, and_from, or_cases, or_left, or_right, cases_eq, eqb-true, false≢true, eq-eqb}
 use Rattle.mark_core.specs.Bits.{has_bit, with_bit, without_bit, complement}
 use Rattle.mark_core.specs.Seats.{is_the, free_in, used_in}
 use Rattle.mark_core.specs.Views.{Maker}
 use Rattle.mark_core.specs.Cells.{in_use, field}
-use Rattle.mark_core.specs.Rules.HeapRules.{Caches, CachesUnpublished, MakesNil}
+use Rattle.mark_core.specs.Rules.HeapRules.{Caches, CachesUnpublished, MakesNil, UsedOwn, section_of_cell}
 use Rattle.mark_core.specs.Steps.MutatorSteps.{with_making, with_made}
 use Rattle.mark_core.proofs.Formed.FormedAfter.{one-of}
 use Rattle.mark_core.proofs.Caches.CachesNext.{is_next, next-free, next-makes, free-block}
@@ -16,7 +16,7 @@ use Rattle.mark_core.proofs.Caches.CachesOwners.{free-unused}
 use Rattle.mark_core.proofs.Caches.CachesClaims.{owns-same}
 use Rattle.mark_core.proofs.Caches.CachesNames.{Names}
 use Rattle.mark_core.proofs.Caches.CachesUses.{use-set, use-published, use-mine, use-made}
-use Rattle.mark_core.proofs.Caches.CachesNew.{Naming, names-new}
+use Rattle.mark_core.proofs.Caches.CachesNew.{Naming, names-new, other-word, new-section}
 use Rattle.mark_core.proofs.Caches.CachesMakes.{making-next, making_block, made_block, made_makes}
 use Rattle.mark_core.proofs.Caches.CachesSteps.{Caching, with_cache, names-of, caches-set, cache-set}
 use Rattle.mark_core.proofs.Writing.CellBits.{with_other, bit-first}
@@ -57,7 +57,7 @@ part-kept sh owners allocs ids fields fields' ms i c part m k stays nil now =
       allocs_long = k.rule.allocs_long;
       ids_long = k.rule.ids_long;
       caches =
-          record { owned = a.owned; owners_exist = a.owners_exist; unpublished = a.unpublished; making_nil = now_nil; distinct = a.distinct; numbers_below = a.numbers_below; sections_seated = a.sections_seated };
+          record { owned = a.owned; owners_exist = a.owners_exist; unpublished = a.unpublished; making_nil = now_nil; used_own = a.used_own; distinct = a.distinct; numbers_below = a.numbers_below; sections_seated = a.sections_seated };
       facts = k.rule.facts;
       ranges = k.rule.ranges;
       sections = k.rule.sections;
@@ -135,4 +135,14 @@ made-kept sh owners allocs ids fields ms i c part word m k live section identity
     (λ j x d e. one-of (CachesUnpublished sh allocs) ms j x e a.unpublished)
     (λ x q j e l f. absurd (false≢true (sym (made_makes m.cache c x q) ∙ e)))
     (λ j x d e. one-of (MakesNil sh fields) ms j x e a.making_nil)
+    (λ d h e.
+    ⊎_elim
+    (λ (s : d ≡ c). rw (section, ap (section_of_cell (set ids c word)) s, new-section sh ids (in_use allocs ms) (in_use allocs (set ms i n)) ms i c word m n naming) (eq-eqb i i refl))
+    (λ (u : used_in m.cache d ≡ true).
+    subst (λ (y : ℕ). is_the m.section (y / section_span) ≡ true) (sym (other-word ids c word d (in_use allocs ms) naming.unused (use-mine allocs ms i d m k.seat u)))
+    (one-of (UsedOwn sh ids) ms i m k.seat a.used_own d h u))
+    (made_used m.cache c d free e))
+    (λ j x ne g d h u.
+    subst (λ (y : ℕ). is_the x.section (y / section_span) ≡ true) (sym (other-word ids c word d (in_use allocs ms) naming.unused (use-mine allocs ms j d x g u)))
+    (one-of (UsedOwn sh ids) ms j x g a.used_own d h u))
     (names-new sh ids (in_use allocs ms) (in_use allocs (set ms i n)) ms i c word m n naming names)

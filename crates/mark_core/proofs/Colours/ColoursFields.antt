@@ -25,7 +25,7 @@ use Rattle.mark_core.proofs.Basics.{some-number}
 use Rattle.mark_core.proofs.Blocks.BlocksTaken.{Taken}
 use Rattle.mark_core.specs.declared.kinds.Shape.{Shape}
 use Rattle.mark_core.specs.declared.kinds.Step.{Step}
-use Rattle.mark_core.specs.declared.kinds.Step.TheVariants.{ReadAlloc, ReadField, ReadRoot, SetMark}
+use Rattle.mark_core.specs.declared.kinds.Step.TheVariants.{ReadAlloc, ReadField, ReadRoot, SetMark, LoadSlot}
 use Rattle.mark_core.specs.declared.seat.SeatState.{SeatState}
 
 -- field j of cell x, which holds this word, is done or will be read
@@ -74,6 +74,9 @@ value-after c i s (ReadField x j) y P a stays marked e =
 value-after c i s (ReadRoot section v) y P a stays marked e =
     let none : is_some s.value ≡ false = (free-from c.shape.fields s (not-true _ a.ok.1.0)).value in
     grasp-moved (has_value y) c.seats i s (seat_left c s (ReadRoot section v)) P a.got (λ h. absurd (true≢false (sym (some-number s.value y h) ∙ none))) stays e
+value-after c i s (LoadSlot section k) y P a stays marked e =
+    let none : is_some s.value ≡ false = (free-from c.shape.fields s (not-true _ a.ok.1.0)).value in
+    grasp-moved (has_value y) c.seats i s (seat_left c s (LoadSlot section k)) P a.got (λ h. absurd (true≢false (sym (some-number s.value y h) ∙ none))) stays e
 value-after c i s step y P a stays marked e =
     stays
     (grasp-after (has_value y) c.shape step c.seats i s (seat_left c s step) a.got (λ h. h)

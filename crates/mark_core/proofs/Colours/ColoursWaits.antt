@@ -37,7 +37,7 @@ use Rattle.mark_core.specs.declared.kinds.Shape.{Shape}
 use Rattle.mark_core.specs.declared.kinds.Phase.{Phase}
 use Rattle.mark_core.specs.declared.kinds.Phase.TheVariants.{Sweep}
 use Rattle.mark_core.specs.declared.kinds.Step.{Step}
-use Rattle.mark_core.specs.declared.kinds.Step.TheVariants.{Push, Pop, ReadAlloc, ReadField, ReadRoot, SetMark, DirtyCard, ClearCard, ReadMarks, ReadCard, StoreField, WipeCard, ExchangeField}
+use Rattle.mark_core.specs.declared.kinds.Step.TheVariants.{Push, Pop, ReadAlloc, ReadField, ReadRoot, SetMark, DirtyCard, ClearCard, ReadMarks, ReadCard, StoreField, WipeCard, ExchangeField, LoadSlot}
 use Rattle.mark_core.specs.declared.seat.SeatState.{SeatState}
 use Rattle.mark_core.specs.Cards.{card_of}
 
@@ -274,6 +274,9 @@ waiting-after c i s (ReadAlloc b) x P a t h m done out k = alloc_waits c i s b x
 waiting-after c i s (ReadField y j) x P a t h m done out k = field_waits c i s y j x P a done out k
 waiting-after c i s (ReadRoot section v) x P a t h m done out k =
     let step : Step = ReadRoot section v in
+    done (waits-handed c i s step x (WaitsAfter c i s step x) a refl refl refl (λ w. w) (λ e. tends-now c i s step x a refl e) (λ e. cleans-now c i s step x a refl e) k)
+waiting-after c i s (LoadSlot section j) x P a t h m done out k =
+    let step : Step = LoadSlot section j in
     done (waits-handed c i s step x (WaitsAfter c i s step x) a refl refl refl (λ w. w) (λ e. tends-now c i s step x a refl e) (λ e. cleans-now c i s step x a refl e) k)
 waiting-after c i s (SetMark y) x P a t h m done out k = done (mark_waits c i s y x a k)
 waiting-after c i s (DirtyCard card) x P a t h m done out k = done (dirtied_waits c i s card x a k)

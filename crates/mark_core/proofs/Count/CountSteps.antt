@@ -20,7 +20,7 @@ use Rattle.mark_core.proofs.Writing.RegionWrites.{touches_heads, touches_pools, 
 use Rattle.mark_core.proofs.Pool.PoolSteps.{At, sound-still, one-debt, work-holds}
 use Rattle.mark_core.specs.declared.kinds.Shape.{Shape}
 use Rattle.mark_core.specs.declared.kinds.Step.{Step}
-use Rattle.mark_core.specs.declared.kinds.Step.TheVariants.{Reserve, Credit, ReadAlloc, ReadField, ReadRoot, SetMark, DirtyCard, ClearCard, ReadMarks}
+use Rattle.mark_core.specs.declared.kinds.Step.TheVariants.{Reserve, Credit, ReadAlloc, ReadField, ReadRoot, SetMark, DirtyCard, ClearCard, ReadMarks, LoadSlot}
 use Rattle.mark_core.specs.declared.seat.SeatState.{SeatState}
 
 taken_one : (e c : ℕ) → 1 ≤ e → e < 18446744073709551616 → (e + 18446744073709551615) % 18446744073709551616 + 1 + c ≡ e + 0 + c
@@ -97,6 +97,7 @@ abbrev pub is_tracing : Step → Bool
 is_tracing (ReadAlloc b) = true
 is_tracing (ReadField c i) = true
 is_tracing (ReadRoot section v) = true
+is_tracing (LoadSlot section k) = true
 is_tracing (SetMark c) = true
 is_tracing (DirtyCard card) = true
 is_tracing (ClearCard card) = true
@@ -112,6 +113,7 @@ work-after sh w seats i s (ReadField c f) old a ok _ e =
     let cell = and_parts (nat_lt c sh.cells) (nat_lt f sh.fields) range.0 in
     work-holds sh w seats i s a (work-reads sh s c f (ltb-true f sh.fields cell.1) range.1)
 work-after sh w seats i s (ReadRoot section v) old a ok _ e = (and_parts _ _ ok.0).1
+work-after sh w seats i s (LoadSlot section k) old a ok _ e = (and_parts _ _ ok.0).1
 work-after sh w seats i s (SetMark c) old a ok _ e = work-holds sh w seats i s a (work-marks sh.fields s c (and_parts _ _ ok.0).1)
 work-after sh w seats i s (DirtyCard card) old a ok _ e = work-holds sh w seats i s a (work-before sh.fields s (seat_after sh s (DirtyCard card) old) (idle-dirty_card sh s card old) e)
 work-after sh w seats i s (ClearCard card) old a ok _ e = (and_parts _ _ ok.0).1

@@ -4,7 +4,7 @@ use Rattle.std.specs.Prelude.{IsTrue, IfSome, is_some, nat_lt}
 use Rattle.std.proofs.lemmas.Bool.{cases_eq, and_parts, or_cases, eqb-true, ltb-true, lt-ltb, true≢false, false≢true}
 use Rattle.std.proofs.lemmas.List.{length-map, get_or-set_same}
 use Rattle.mark_core.specs.Shapes.{EachCell}
-use Rattle.mark_core.specs.Layout.{Words, words_of, region_sizes, block_count}
+use Rattle.mark_core.specs.Layout.{Words, words_of, region_sizes, block_count, root_count, address}
 use Rattle.mark_core.specs.Bits.{has_bit, with_bit, cell_bit, nil_or, cell_named}
 use Rattle.mark_core.specs.Seats.{is_the, scans, scan_left, may_scan, left_in}
 use Rattle.mark_core.specs.Views.{Grasp, grasp_of, makers}
@@ -29,7 +29,7 @@ use Rattle.mark_core.proofs.Writing.CellBits.{with_other, same-index, bit-there}
 use Rattle.mark_core.proofs.Hands.HandsCleaning.{scan-left}
 use Rattle.mark_core.proofs.AtSeat.{of-view}
 use Rattle.mark_core.specs.declared.kinds.Step.{Step}
-use Rattle.mark_core.specs.declared.kinds.Step.TheVariants.{ReadField, ReadRoot, SetMark, StoreField, StoreRoot, StoreNew, PublishCells, StorePhase, NextBlock, StoreAlloc, ClearMarks, Reset, ExchangeField}
+use Rattle.mark_core.specs.declared.kinds.Step.TheVariants.{ReadField, ReadRoot, SetMark, StoreField, StoreRoot, StoreNew, PublishCells, StorePhase, NextBlock, StoreAlloc, ClearMarks, Reset, ExchangeField, LoadSlot, StoreSlot}
 use Rattle.mark_core.specs.declared.seat.SeatState.{SeatState}
 
 -- cell x is reachable now
@@ -87,6 +87,7 @@ marks-reached c i s ClearMarks t p a own =
 marks-reached c i s (StoreField v f x) t p a own = a
 marks-reached c i s (ExchangeField v f x y) t p a own = a
 marks-reached c i s (StoreRoot v r) t p a own = a
+marks-reached c i s (StoreSlot k r) t p a own = a
 marks-reached c i s (StoreNew x part word) t p a own = rw (marks-kept c.shape s (StoreNew x part word) word (words_of c.shape c.words) refl) a
 marks-reached c i s PublishCells t p a own = a
 marks-reached c i s (StorePhase to) t p a own = a
@@ -104,16 +105,14 @@ small_reference c r k none e =
     omega (arith, reference-within c.shape (in_use w.allocs (makers c.seats)) r below e, k.formed.shaped.cells)
 
 -- the cell that a root names is loaded
-root_value : (c : Core) (i : ℕ) (s : SeatState) (section v : ℕ) → Taken c i s (ReadRoot section v) → NoneUsed c.seats → IfSome (cell_named (found c s (ReadRoot section v))) (Reached c)
-root_value c i s section v t none =
+root_value : (c : Core) (k word : ℕ) → IsCore c → NoneUsed c.seats → k < root_count c.shape → word ≡ get_or c.words (address c.shape (2, k)) 0 → IfSome (cell_named word) (Reached c)
+root_value c k word core none at e =
     let w : Words = words_of c.shape c.words in
-    let k : ℕ = section * 32 + v in
-    let at = in-place c i s (ReadRoot section v) t in
-    let here : found c s (ReadRoot section v) ≡ get_or w.roots k 0 = words-get (region_sizes c.shape) 2 c.words k 0 at in
-    let long : length w.roots ≡ c.shape.sections * 32 = region-length (region_sizes c.shape) 2 c.words (omega (arith, t.core.formed.words)) in
+    let here : word ≡ get_or w.roots k 0 = e ∙ words-get (region_sizes c.shape) 2 c.words k 0 at in
+    let long : length w.roots ≡ root_count c.shape = region-length (region_sizes c.shape) 2 c.words (omega (arith, core.formed.words)) in
     let h : k < length w.roots = rw long at in
-    let small : get_or w.roots k 0 ≤ 16777216 = small_reference c (get_or w.roots k 0) t.core none (t.core.sound.references.roots_in_use k 0 h) in
-    named-cell (found c s (ReadRoot section v)) (Reached c) (omega (arith, here, small)) (λ x e. reach-root c.shape w.roots w.fields k x h (sym here ∙ e))
+    let small : get_or w.roots k 0 ≤ 16777216 = small_reference c (get_or w.roots k 0) core none (core.sound.references.roots_in_use k 0 h) in
+    named-cell word (Reached c) (omega (arith, here, small)) (λ x f. reach-root c.shape w.roots w.fields k x h (sym here ∙ f))
 
 scan_there : (fields : ℕ) (o : Option (ℕ × ℕ)) (x i : ℕ) (P : ℕ → Type 0) → scans o x i ≡ true → i < fields → (IsTrue (scan_left fields o) → IfSome o (λ z. P z.0)) → P x
 scan_there fields None x i P e h f = absurd (false≢true e)
@@ -153,6 +152,7 @@ field_value c i s x f t p none a =
 -- what a step loads in a drain
 pub value-reached : (c : Core) (i : ℕ) (s : SeatState) (step : Step) → Taken c i s step → (words_of c.shape c.words).phase ≡ 2 → NoneUsed c.seats → MarksReached c (words_of c.shape c.words).marks → ValueReached c s → ValueReached c (seat_after c.shape s step (found c s step))
 value-reached c i s (ReadField x f) t p none a own = field_value c i s x f t p none a
-value-reached c i s (ReadRoot section v) t p none a own = root_value c i s section v t none
+value-reached c i s (ReadRoot section v) t p none a own = root_value c (section * 32 + v) (found c s (ReadRoot section v)) t.core none (in-place c i s (ReadRoot section v) t) refl
+value-reached c i s (LoadSlot section k) t p none a own = root_value c (c.shape.sections * 32 + (section * c.shape.slots + k)) (found c s (LoadSlot section k)) t.core none (in-place c i s (LoadSlot section k) t) refl
 value-reached c i s (SetMark y) t p none a own = tt
 value-reached c i s step t p none a own = own

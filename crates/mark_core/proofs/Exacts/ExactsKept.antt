@@ -36,7 +36,7 @@ use Rattle.mark_core.specs.declared.kinds.Shape.{Shape}
 use Rattle.mark_core.specs.declared.kinds.Event.{Event}
 use Rattle.mark_core.specs.declared.kinds.Phase.TheVariants.{Idle, Drain, Sweep}
 use Rattle.mark_core.specs.declared.kinds.Step.{Step}
-use Rattle.mark_core.specs.declared.kinds.Step.TheVariants.{SetMark, StoreField, StoreRoot, StoreNew, PublishCells, StorePhase, NextBlock, StoreAlloc, ClearMarks, Reset, ExchangeField}
+use Rattle.mark_core.specs.declared.kinds.Step.TheVariants.{SetMark, StoreField, StoreRoot, StoreNew, PublishCells, StorePhase, NextBlock, StoreAlloc, ClearMarks, Reset, ExchangeField, StoreSlot}
 use Rattle.mark_core.specs.declared.seat.SeatState.{SeatState}
 
 -- the rule of an exact stop, by the words and the seats
@@ -151,6 +151,7 @@ idle_allocs c i s (SetMark x) t still p = refl
 idle_allocs c i s (StoreField v f x) t still p = refl
 idle_allocs c i s (ExchangeField v f x y) t still p = refl
 idle_allocs c i s (StoreRoot v r) t still p = refl
+idle_allocs c i s (StoreSlot k r) t still p = refl
 idle_allocs c i s (StoreNew x part word) t still p = allocs-kept c.shape s (StoreNew x part word) word (words_of c.shape c.words) refl
 idle_allocs c i s (StorePhase to) t still p = refl
 idle_allocs c i s NextBlock t still p = refl

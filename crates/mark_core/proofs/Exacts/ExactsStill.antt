@@ -22,7 +22,7 @@ use Rattle.mark_core.proofs.Sweeps.SweepsUsed.{NoneUsed, none-used}
 use Rattle.mark_core.specs.declared.kinds.Phase.{Phase}
 use Rattle.mark_core.specs.declared.kinds.Phase.TheVariants.{Idle, Marking, Drain, Sweep, Clear, Full}
 use Rattle.mark_core.specs.declared.kinds.Step.{Step}
-use Rattle.mark_core.specs.declared.kinds.Step.TheVariants.{SetMark, StoreField, StoreRoot, StoreNew, PublishCells, DropStep, StorePhase, NextBlock, StoreAlloc, ClearMarks, Reset, ExchangeField}
+use Rattle.mark_core.specs.declared.kinds.Step.TheVariants.{SetMark, StoreField, StoreRoot, StoreNew, PublishCells, DropStep, StorePhase, NextBlock, StoreAlloc, ClearMarks, Reset, ExchangeField, StoreSlot}
 use Rattle.mark_core.specs.declared.seat.SeatState.{SeatState}
 
 none_pass : {X : Type 0} (p : X → Bool) (xs : List X) → list_any p xs ≡ false → All (λ x. p x ≡ false) xs
@@ -79,6 +79,7 @@ pub references-left : (c : Core) (i : ℕ) (s : SeatState) (step : Step) → Tak
 references-left c i s (StoreField v f x) t still = not-still c i s (StoreField v f x) _ t still (and_parts s.active _ (and_parts _ _ t.ok.0).1).0
 references-left c i s (ExchangeField v f x y) t still = not-still c i s (ExchangeField v f x y) _ t still (and_parts s.active _ (and_parts _ _ t.ok.0).1).0
 references-left c i s (StoreRoot v r) t still = not-still c i s (StoreRoot v r) _ t still (and_parts s.active _ (and_parts _ _ t.ok.0).1).0
+references-left c i s (StoreSlot k r) t still = not-still c i s (StoreSlot k r) _ t still (and_parts s.active _ (and_parts _ _ t.ok.0).1).0
 references-left c i s (StoreNew x part word) t still = not-still c i s (StoreNew x part word) _ t still (and_parts s.active _ (and_parts _ _ t.ok.0).1).0
 references-left c i s (SetMark x) t still = (refl, refl)
 references-left c i s PublishCells t still = (refl, refl)

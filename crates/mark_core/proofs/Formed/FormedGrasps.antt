@@ -17,7 +17,7 @@ use Rattle.mark_core.proofs.Formed.FormedBits.{and-left_fits, and-right_fits, wi
 use Rattle.mark_core.proofs.Basics.{positive}
 use Rattle.mark_core.specs.declared.kinds.Shape.{Shape}
 use Rattle.mark_core.specs.declared.kinds.Step.{Step}
-use Rattle.mark_core.specs.declared.kinds.Step.TheVariants.{Push, Pop, ReadAlloc, ReadField, ReadRoot, SetMark, DirtyCard, ClearCard, ReadMarks, StoreField, ExchangeField}
+use Rattle.mark_core.specs.declared.kinds.Step.TheVariants.{Push, Pop, ReadAlloc, ReadField, ReadRoot, SetMark, DirtyCard, ClearCard, ReadMarks, StoreField, ExchangeField, LoadSlot}
 use Rattle.mark_core.specs.declared.seat.SeatState.{SeatState}
 use Rattle.mark_core.specs.declared.seat.Cleaning.{Cleaning}
 use Rattle.mark_core.specs.Cards.{block_of_card, card_bits, card_of}
@@ -28,6 +28,7 @@ abbrev pub Learns : Shape → Step → ℕ → Type 0
 Learns sh (Pop p) old = (0 < old) × (old ≤ sh.cells)
 Learns sh (ReadField c i) old = old ≤ sh.cells
 Learns sh (ReadRoot section v) old = old ≤ sh.cells
+Learns sh (LoadSlot section k) old = old ≤ sh.cells
 Learns sh step old = Unit {0}
 
 abbrev Popped : Shape → Option (ℕ × Bool) → Type 0
@@ -75,6 +76,7 @@ scan-after sh w seats s step old p h ok = h
 pub value-after : (sh : Shape) (s : SeatState) (step : Step) (old : ℕ) → IsShape sh → Known sh s.value → Learns sh step old → Known sh (seat_after sh s step old).value
 value-after sh s (ReadField c i) old k h l = named_fits sh old (eqb old 0) k (λ e. positive old e) l
 value-after sh s (ReadRoot section v) old k h l = named_fits sh old (eqb old 0) k (λ e. positive old e) l
+value-after sh s (LoadSlot section j) old k h l = named_fits sh old (eqb old 0) k (λ e. positive old e) l
 value-after sh s (SetMark c) old k h l = tt
 value-after sh s step old k h l = h
 

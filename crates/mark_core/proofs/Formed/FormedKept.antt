@@ -1,11 +1,17 @@
 -- Each event that is allowed, and whose numbers fit their types, leaves a state whose words and records are in range.
-use Rattle.std.proofs.Common.{ℕ, ◌≡◌, ◌<◌, ◌≤◌, get_or, length, arith, refl, sym, ap, ◌∙◌, subst, Option, Some, None}
-use Rattle.std.specs.Prelude.{IfSome, slice_get, slice_index}
+use Rattle.std.proofs.lemmas.Bool.{and_parts, ltb-true}
+use Rattle.mark_core.proofs.Writing.SlotBounds.{choose}
+use Rattle.mark_core.specs.Steps.MutatorSteps.{seat_variable, fits_part}
+use Rattle.mark_core.specs.Seats.{may_mutate}
+use Rattle.mark_core.specs.Bits.{cell_of}
+use Rattle.mark_core.specs.Numbers.{value_bound}
+use Rattle.std.proofs.Common.{ℕ, ◌≡◌, ◌<◌, ◌≤◌, get_or, length, arith, refl, sym, ap, ◌∙◌, subst, Option, Some, None, eqb, cond, ◌&&◌, true}
+use Rattle.std.specs.Prelude.{IfSome, slice_get, slice_index, nat_lt}
 use Rattle.std.specs.List.{All}
 use Rattle.std.proofs.lemmas.List.{length-set}
 use Rattle.std.proofs.lemmas.List.Elements.{All-get_or, All-set}
 use Rattle.std.proofs.lemmas.Option.{IfSome_then, slice_get_within}
-use Rattle.mark_core.specs.Layout.{Words, words_of, address, region_sizes, block_count}
+use Rattle.mark_core.specs.Layout.{Words, words_of, address, region_sizes, block_count, put_word}
 use Rattle.mark_core.specs.Views.{makers}
 use Rattle.mark_core.specs.Rules.HeapRules.{NamesInUse}
 use Rattle.mark_core.specs.Parts.{parts}
@@ -17,11 +23,11 @@ use Rattle.mark_core.specs.Bounds.{IsReference, CacheFits}
 use Rattle.mark_core.specs.Laws.{IsCore, NumbersFit}
 use Rattle.mark_core.proofs.Writing.Places.{word-put, region-length}
 use Rattle.mark_core.proofs.Writing.Regions.{words-get}
-use Rattle.mark_core.proofs.Writing.Ranges.{IsPlace, placed}
+use Rattle.mark_core.proofs.Writing.Ranges.{IsPlace, placed, either}
 use Rattle.mark_core.proofs.Acting.{Acted, found, words_left}
 use Rattle.mark_core.proofs.Core.{in_range, acts}
 use Rattle.mark_core.proofs.Known.{used-below}
-use Rattle.mark_core.proofs.Writing.Writes.{phase-kept}
+use Rattle.mark_core.proofs.Writing.Writes.{phase-kept, at_counter}
 use Rattle.mark_core.proofs.Writing.RegionWrites.{cards-kept}
 use Rattle.mark_core.proofs.Writing.SeatBoundsKept.{reference-fits}
 use Rattle.mark_core.proofs.Doing.{count-after}
@@ -32,7 +38,7 @@ use Rattle.mark_core.proofs.Formed.FormedWords.{IsWord, word-in, KeepsBits, Writ
 use Rattle.mark_core.specs.declared.kinds.Shape.{Shape}
 use Rattle.mark_core.specs.declared.kinds.Event.{Event}
 use Rattle.mark_core.specs.declared.kinds.Step.{Step}
-use Rattle.mark_core.specs.declared.kinds.Step.TheVariants.{DirtyCard, ClearCard, ReadCard, WipeCard, ReadPhase, StorePhase}
+use Rattle.mark_core.specs.declared.kinds.Step.TheVariants.{DirtyCard, ClearCard, ReadCard, WipeCard, ReadPhase, StorePhase, ReadValue, StoreValue, StoreNew, Reset, AddStat, ReadStat, ExchangeValue}
 use Rattle.mark_core.specs.declared.seat.SeatState.{SeatState}
 use Rattle.mark_core.specs.declared.seat.CacheState.{CacheState}
 use Rattle.mark_core.specs.declared.seat.BlockState.{BlockState}
@@ -91,6 +97,51 @@ cards_at c s (ReadCard card) k h =
     All-set IsFlag w.cards card (found c s (ReadCard card)) (subst IsFlag word (All-get_or IsFlag w.cards card 0 long k.formed.cards)) k.formed.cards
 cards_at c s step k h = rw (cards-kept c.shape s step (written c.shape s step (found c s step)) (words_of c.shape c.words) refl) k.formed.cards
 
+-- a value
+abbrev IsValue : ℕ → Type 0
+IsValue n = n < value_bound
+
+-- the value that a step finds in a cell
+value_found : (c : Core) (x : ℕ) → IsCore c → x < c.shape.cells → IsValue (slice_index c.words (address c.shape (10, x)))
+value_found c x k h =
+    let w : Words = words_of c.shape c.words in
+    let long : x < length w.values = omega (arith, h, region-length (region_sizes c.shape) 10 c.words (omega (arith, k.formed.words))) in
+    let word : get_or w.values x 0 ≡ slice_index c.words (address c.shape (10, x)) = sym (words-get (region_sizes c.shape) 10 c.words x 0 h) in
+    subst IsValue word (All-get_or IsValue w.values x 0 long k.formed.values)
+
+values_at : (c : Core) (s : SeatState) (step : Step) → IsCore c → NumbersFit step → AllTrue (parts c.shape (words_of c.shape c.words) c.seats s step) → IsPlace c.shape (place c.shape s step) → All IsValue (words_left c s step).values
+values_at c s (StoreValue v m) k n ok h = All-set IsValue (words_of c.shape c.words).values (cell_of (seat_variable s v)) m n k.formed.values
+values_at c s (ExchangeValue v m q) k n ok h =
+    let x : ℕ = cell_of (seat_variable s v) in
+    let old : ℕ = found c s (ExchangeValue v m q) in
+    let below : IsValue q = ltb-true q value_bound (and_parts (nat_lt v 32) (nat_lt q value_bound) (and_parts (nat_lt v 32 && nat_lt q value_bound) (may_mutate s) ok.0).0).1 in
+    All-set IsValue (words_of c.shape c.words).values x (cond (eqb old m) q old) (choose IsValue (eqb old m) q old below (value_found c x k h)) k.formed.values
+values_at c s (ReadValue x) k n ok h = All-set IsValue (words_of c.shape c.words).values x (found c s (ReadValue x)) (value_found c x k h) k.formed.values
+values_at c s (StoreNew x part word) k n ok h =
+    let w : Words = words_of c.shape c.words in
+    either
+    (λ at. All IsValue (put_word at word w).values)
+    (nat_lt part c.shape.fields)
+    _
+    _
+    (λ e. k.formed.values)
+    (λ e.
+    either
+    (λ at. All IsValue (put_word at word w).values)
+    (eqb part c.shape.fields)
+    _
+    _
+    (λ g.
+    let f : fits_part c.shape s part word ≡ true = ok.1.1.0 in
+    let below : nat_lt word value_bound ≡ true = rw (e, g) at f in
+    All-set IsValue w.values x word (ltb-true word value_bound below) k.formed.values)
+    (λ g. k.formed.values))
+values_at c s (Reset which) k n ok h = at_counter (λ at. All IsValue (put_word at (written c.shape s (Reset which) (found c s (Reset which))) (words_of c.shape c.words)).values) which (λ i g. k.formed.values) (λ i. k.formed.values)
+values_at c s (AddStat which by down) k n ok h =
+    at_counter (λ at. All IsValue (put_word at (written c.shape s (AddStat which by down) (found c s (AddStat which by down))) (words_of c.shape c.words)).values) which (λ i g. k.formed.values) (λ i. k.formed.values)
+values_at c s (ReadStat which) k n ok h = at_counter (λ at. All IsValue (put_word at (written c.shape s (ReadStat which) (found c s (ReadStat which))) (words_of c.shape c.words)).values) which (λ i g. k.formed.values) (λ i. k.formed.values)
+values_at c s step k n ok h = k.formed.values
+
 formed_at : (c : Core) (i : ℕ) (s : SeatState) (step : Step) → IsCore c → NumbersFit step → slice_get c.seats i ≡ Some s → AllTrue (parts c.shape (words_of c.shape c.words) c.seats s step) → IsWellFormed (after_of c i (Some s) step)
 formed_at c i s step k n g ok =
     let sh : Shape = c.shape in
@@ -105,6 +156,7 @@ formed_at c i s step k n g ok =
       words_in_range = All-set IsWord c.words (address sh (place sh s step)) (written sh s step (found c s step)) word k.formed.words_in_range;
       phase = subst (λ (x : Words). x.phase ≤ 5) (sym after) (phase_at c s step k);
       cards = subst (λ (x : Words). All IsFlag x.cards) (sym after) (cards_at c s step k at);
+      values = subst (λ (x : Words). All IsValue x.values) (sym after) (values_at c s step k n ok at);
       seat_count = count-after sh w c.seats _ s step (length-set c.seats _ _) k.formed.seat_count ok;
       seats = each-kept (IsSeat sh) sh step c.seats i (seat_after sh s step (found c s step)) (new-seat sh) (ended-seat sh) k.formed.seats
           (seat-kept sh w c.seats i s step (found c s step) k.formed.shaped (k.formed.seats i s g) (in_range c i s k g).env facts.made_from_free (learns c i s step k g ok) ok);

@@ -1,12 +1,12 @@
 -- What a step reads of cells goes to cells that exist: in a state that meets the rule.
 use Rattle.std.proofs.Common.{ℕ, ◌≡◌, ◌+◌, ◌-◌, ◌*◌, ◌<◌, ◌≤◌, List, get_or, length, arith, refl, sym, ap, ◌∙◌, subst, true, false, not, ◌&&◌, Option, Some, None, eqb, ⊎_elim}
-use Rattle.std.specs.Prelude.{IfSome, IsTrue, IsFalse, slice_get, unwrap_or, nat_lt}
+use Rattle.std.specs.Prelude.{IfSome, IsTrue, IsFalse, slice_get, unwrap_or, nat_lt, slice_index}
 use Rattle.std.specs.List.{All}
 use Rattle.std.proofs.lemmas.Bool.{and_parts, or_cases, or_left, cases_Bool, ltb-true, lt-ltb, eqb-true, eqb-false, not-true, true≢false, false≢true}
 use Rattle.std.proofs.lemmas.List.{get_or-map, length-map}
 use Rattle.std.proofs.lemmas.List.Elements.{All-map, All-get_or}
 use Rattle.std.proofs.lemmas.Option.{slice_get-get_or, slice_get_within, get_or_from_slice_get}
-use Rattle.mark_core.specs.Layout.{Words, words_of, region_sizes}
+use Rattle.mark_core.specs.Layout.{Words, words_of, region_sizes, root_count, address}
 use Rattle.mark_core.specs.Bits.{cell_bit, nil_or}
 use Rattle.mark_core.specs.Held.{holds, holds_any, known_length, has_entry, length_in_hand}
 use Rattle.mark_core.specs.Seats.{work_in_hand, scan_left, scans, may_scan, is_phase}
@@ -32,7 +32,7 @@ use Rattle.mark_core.proofs.Count.CountWork.{work-reads}
 use Rattle.mark_core.proofs.Formed.FormedAfter.{one-of, one-read}
 use Rattle.mark_core.proofs.Formed.FormedGrasps.{Learns}
 use Rattle.mark_core.specs.declared.kinds.Step.{Step}
-use Rattle.mark_core.specs.declared.kinds.Step.TheVariants.{Pop, ReadField, ReadRoot}
+use Rattle.mark_core.specs.declared.kinds.Step.TheVariants.{Pop, ReadField, ReadRoot, LoadSlot}
 use Rattle.mark_core.specs.declared.seat.SeatState.{SeatState}
 
 -- a cell in use exists
@@ -107,6 +107,15 @@ scanned_published c i x f s k g hf e =
     one-read grasp_of Q c.seats i s g (k.sound.marks.left_published x) (and_parts (eqb f 0) (may_scan s.cleaning x) (and_parts _ _ a).0).1)
     (or_cases (scans s.scan x f) (eqb f 0 && may_scan s.cleaning x && not (scan_left c.shape.fields s.scan)) e)
 
+-- what a root names exists
+learns_root : (c : Core) (j : ℕ) → IsCore c → j < root_count c.shape → slice_index c.words (address c.shape (2, j)) ≤ c.shape.cells
+learns_root c j k at =
+    let w : Words = words_of c.shape c.words in
+    let long : j < length w.roots = omega (arith, at, region-length (region_sizes c.shape) 2 c.words (omega (arith, k.formed.words))) in
+    let P : ℕ → Type 0 = λ r. IsTrue (nil_or (in_use w.allocs (makers c.seats)) r) in
+    let word : get_or w.roots j 0 ≡ slice_index c.words (address c.shape (2, j)) = sym (words-get (region_sizes c.shape) 2 c.words j 0 at) in
+    subst (λ r. r ≤ c.shape.cells) word (goes-within c (get_or w.roots j 0) k.formed (All-get_or P w.roots j 0 long k.sound.references.roots_in_use))
+
 -- what a step learns exists
 pub learns : (c : Core) (i : ℕ) (s : SeatState) (step : Step) → IsCore c → slice_get c.seats i ≡ Some s → AllTrue (parts c.shape (words_of c.shape c.words) c.seats s step) → Learns c.shape step (found c s step)
 learns c i s (Pop p) k g ok =
@@ -133,11 +142,7 @@ learns c i s (ReadField x f) k g ok =
     let goes : FieldsGo c.shape w.fields (in_use w.allocs (makers c.seats)) x = k.sound.references.fields_in_use awake x hx used in
     let word : field c.shape w.fields x f ≡ found c s (ReadField x f) = sym (words-get (region_sizes c.shape) 11 c.words (x * c.shape.fields + f) 0 at) in
     subst (λ v. v ≤ c.shape.cells) word (goes-within c (field c.shape w.fields x f) k.formed (goes f hf))
-learns c i s (ReadRoot section v) k g ok =
-    let w : Words = words_of c.shape c.words in
-    let at : IsPlace c.shape (place c.shape s (ReadRoot section v)) = placed c.shape w c.seats s (ReadRoot section v) (in_range c i s k g) ok in
-    let long : section * 32 + v < length w.roots = omega (arith, at, region-length (region_sizes c.shape) 2 c.words (omega (arith, k.formed.words))) in
-    let P : ℕ → Type 0 = λ r. IsTrue (nil_or (in_use w.allocs (makers c.seats)) r) in
-    let word : get_or w.roots (section * 32 + v) 0 ≡ found c s (ReadRoot section v) = sym (words-get (region_sizes c.shape) 2 c.words (section * 32 + v) 0 at) in
-    subst (λ r. r ≤ c.shape.cells) word (goes-within c (get_or w.roots (section * 32 + v) 0) k.formed (All-get_or P w.roots (section * 32 + v) 0 long k.sound.references.roots_in_use))
+learns c i s (ReadRoot section v) k g ok = learns_root c (section * 32 + v) k (placed c.shape (words_of c.shape c.words) c.seats s (ReadRoot section v) (in_range c i s k g) ok)
+learns c i s (LoadSlot section j) k g ok =
+    learns_root c (c.shape.sections * 32 + (section * c.shape.slots + j)) k (placed c.shape (words_of c.shape c.words) c.seats s (LoadSlot section j) (in_range c i s k g) ok)
 learns c i s step k g ok = tt

@@ -60,6 +60,7 @@ formed-starts sh n k some few =
       words_in_range = words_fit sh k;
       phase = omega arith;
       cards = start_region sh 5 1 (omega arith);
+      values = λ i d h. omega (arith, start_region sh 9 0 (omega arith) i d h);
       seat_count = (omega (arith, l), omega (arith, l));
       seats = seat_in sh n;
     }

@@ -13,7 +13,7 @@ use Rattle.mark_core.specs.Steps.{AllTrue}
 use Rattle.mark_core.proofs.Hands.HandsCleaning.{IsOfCard, in_set-none, card-read, card-without, card-dirtied, card-known}
 use Rattle.mark_core.specs.declared.kinds.Shape.{Shape}
 use Rattle.mark_core.specs.declared.kinds.Step.{Step}
-use Rattle.mark_core.specs.declared.kinds.Step.TheVariants.{Push, Pop, ReadAlloc, ReadField, ReadRoot, SetMark, DirtyCard, ClearCard, ReadMarks}
+use Rattle.mark_core.specs.declared.kinds.Step.TheVariants.{Push, Pop, ReadAlloc, ReadField, ReadRoot, SetMark, DirtyCard, ClearCard, ReadMarks, LoadSlot}
 use Rattle.mark_core.specs.declared.seat.SeatState.{SeatState}
 use Rattle.mark_core.specs.declared.seat.Cleaning.{Cleaning}
 use Rattle.mark_core.specs.Cards.{block_of_card, card_of}
@@ -106,6 +106,9 @@ hand-right sh w seats s (ReadField c i) old k ok =
       left_of_the_card = card-without s.cleaning c k.left_of_the_card;
     }
 hand-right sh w seats s (ReadRoot section v) old k ok =
+    let free = free-from sh.fields s (not-true _ ok.1.0) in
+    record { popped_alone = k.popped_alone; value_or_fresh = and_right (is_some (cell_named old)) (is_some s.fresh) free.fresh; left_of_the_card = k.left_of_the_card }
+hand-right sh w seats s (LoadSlot section j) old k ok =
     let free = free-from sh.fields s (not-true _ ok.1.0) in
     record { popped_alone = k.popped_alone; value_or_fresh = and_right (is_some (cell_named old)) (is_some s.fresh) free.fresh; left_of_the_card = k.left_of_the_card }
 hand-right sh w seats s (SetMark c) old k ok = record { popped_alone = k.popped_alone; value_or_fresh = refl; left_of_the_card = k.left_of_the_card }

@@ -6,7 +6,7 @@ use Rattle.std.proofs.lemmas.Bool.{false≢true, and_parts, or_cases, or_left, e
 use Rattle.std.proofs.lemmas.List.{set-get_or}
 use Rattle.std.proofs.lemmas.List.Elements.{All-map, All-get_or}
 use Rattle.std.proofs.lemmas.Option.{slice_get-get_or}
-use Rattle.mark_core.specs.Layout.{Words, words_of, region_sizes, block_count}
+use Rattle.mark_core.specs.Layout.{Words, words_of, region_sizes, block_count, root_count}
 use Rattle.mark_core.specs.Bits.{has_bit, with_bit, cell_bit, cell_of, nil_or}
 use Rattle.mark_core.specs.Seats.{is_the, is_phase, is_unpublished}
 use Rattle.mark_core.specs.Held.{length_in_hand}
@@ -31,7 +31,7 @@ use Rattle.mark_core.proofs.Marks.MarksBefore.{published-now, entries-now}
 use Rattle.mark_core.specs.declared.kinds.Shape.{Shape}
 use Rattle.mark_core.specs.declared.kinds.Phase.TheVariants.{Sweep}
 use Rattle.mark_core.specs.declared.kinds.Step.{Step}
-use Rattle.mark_core.specs.declared.kinds.Step.TheVariants.{Push, Pop, ReadAlloc, ReadField, ReadRoot, SetMark, ReadMarks}
+use Rattle.mark_core.specs.declared.kinds.Step.TheVariants.{Push, Pop, ReadAlloc, ReadField, ReadRoot, SetMark, ReadMarks, LoadSlot}
 use Rattle.mark_core.specs.declared.seat.SeatState.{SeatState}
 
 -- 6: the entry that is popped is marked
@@ -112,14 +112,12 @@ loaded-field c i s x f k g ok =
     rw (found-word c i s (ReadField x f) k g ok)
     (k.sound.references.fields_in_use (not_sweep w.phase tracing) x a.0 (or_left (cell_bit w.allocs x) (list_any (used_by x) (makers c.seats)) there) f a.1)
 
-loaded_root : (c : Core) (i : ℕ) (s : SeatState) (section v : ℕ) → IsCore c → slice_get c.seats i ≡ Some s → AllTrue (parts c.shape (words_of c.shape c.words) c.seats s (ReadRoot section v))
-    → nil_or (in_use (words_of c.shape c.words).allocs (makers c.seats)) (found c s (ReadRoot section v)) ≡ true
-loaded_root c i s section v k g ok =
-    let sh : Shape = c.shape in
-    let w : Words = words_of sh c.words in
-    let long : length w.roots ≡ sh.sections * 32 = region-length (region_sizes sh) 2 c.words (omega (arith, k.formed.words)) in
-    let h : section * 32 + v < length w.roots = rw long (placed sh w c.seats s (ReadRoot section v) (in_range c i s k g) ok) in
-    rw (found-word c i s (ReadRoot section v) k g ok) (All-get_or (λ r. IsTrue (nil_or (in_use w.allocs (makers c.seats)) r)) w.roots (section * 32 + v) 0 h k.sound.references.roots_in_use)
+loaded_root : (c : Core) (j : ℕ) → IsCore c → j < root_count c.shape → nil_or (in_use (words_of c.shape c.words).allocs (makers c.seats)) (get_or (words_of c.shape c.words).roots j 0) ≡ true
+loaded_root c j k at =
+    let w : Words = words_of c.shape c.words in
+    let long : length w.roots ≡ root_count c.shape = region-length (region_sizes c.shape) 2 c.words (omega (arith, k.formed.words)) in
+    let h : j < length w.roots = rw long at in
+    All-get_or (λ r. IsTrue (nil_or (in_use w.allocs (makers c.seats)) r)) w.roots j 0 h k.sound.references.roots_in_use
 
 -- the cell that is loaded is in use
 pub comes-used : (c : Core) (i : ℕ) (s : SeatState) (step : Step) → IsCore c → slice_get c.seats i ≡ Some s → AllTrue (parts c.shape (words_of c.shape c.words) c.seats s step)
@@ -127,7 +125,14 @@ pub comes-used : (c : Core) (i : ℕ) (s : SeatState) (step : Step) → IsCore c
 comes-used c i s (ReadField x f) k g ok = let word : ℕ = found c s (ReadField x f) in named (in_use (words_of c.shape c.words).allocs (makers c.seats)) word (eqb word 0) (use-below c k) (loaded-field c i s x f k g ok)
 comes-used c i s (ReadRoot section v) k g ok =
     let word : ℕ = found c s (ReadRoot section v) in
-    named (in_use (words_of c.shape c.words).allocs (makers c.seats)) word (eqb word 0) (use-below c k) (loaded_root c i s section v k g ok)
+    let step : Step = ReadRoot section v in
+    let at = placed c.shape (words_of c.shape c.words) c.seats s step (in_range c i s k g) ok in
+    named (in_use (words_of c.shape c.words).allocs (makers c.seats)) word (eqb word 0) (use-below c k) (rw (found-word c i s step k g ok) (loaded_root c (section * 32 + v) k at))
+comes-used c i s (LoadSlot section j) k g ok =
+    let step : Step = LoadSlot section j in
+    let word : ℕ = found c s step in
+    let at = placed c.shape (words_of c.shape c.words) c.seats s step (in_range c i s k g) ok in
+    named (in_use (words_of c.shape c.words).allocs (makers c.seats)) word (eqb word 0) (use-below c k) (rw (found-word c i s step k g ok) (loaded_root c (c.shape.sections * 32 + (section * c.shape.slots + j)) k at))
 comes-used c i s step k g ok = tt
 
 -- a cell that is pushed is fresh or popped

@@ -13,7 +13,7 @@ use Rattle.mark_core.proofs.Writing.SlotBounds.{choose}
 use Rattle.mark_core.proofs.Hands.HandsCleaning.{in_set-none, scan-left, left-read, left-without, left-dirtied, left-known, scan-read, scan-without, scan-dirtied, scan-known}
 use Rattle.mark_core.specs.declared.kinds.Shape.{Shape}
 use Rattle.mark_core.specs.declared.kinds.Step.{Step}
-use Rattle.mark_core.specs.declared.kinds.Step.TheVariants.{Push, Pop, ReadAlloc, ReadField, ReadRoot, SetMark, DirtyCard, ClearCard, ReadMarks}
+use Rattle.mark_core.specs.declared.kinds.Step.TheVariants.{Push, Pop, ReadAlloc, ReadField, ReadRoot, SetMark, DirtyCard, ClearCard, ReadMarks, LoadSlot}
 use Rattle.mark_core.specs.declared.seat.SeatState.{SeatState}
 use Rattle.mark_core.specs.declared.seat.Cleaning.{Cleaning}
 use Rattle.mark_core.specs.Cards.{block_of_card, card_of}
@@ -192,10 +192,12 @@ published-after sh w seats s step old a k ok f = record { scan = k.scan; left = 
 abbrev pub ComesUsed : (ℕ → Bool) → Step → ℕ → Type 0
 ComesUsed u (ReadField c i) old = IfSome (cell_named old) (λ x. IsTrue (u x))
 ComesUsed u (ReadRoot section v) old = IfSome (cell_named old) (λ x. IsTrue (u x))
+ComesUsed u (LoadSlot section k) old = IfSome (cell_named old) (λ x. IsTrue (u x))
 ComesUsed u step old = Unit {0}
 
 pub used-after : (sh : Shape) (s : SeatState) (step : Step) (old : ℕ) (u : ℕ → Bool) → HandUsed u s → ComesUsed u step old → HandUsed u (seat_after sh s step old)
 used-after sh s (ReadField c i) old u k f = f
 used-after sh s (ReadRoot section v) old u k f = f
+used-after sh s (LoadSlot section j) old u k f = f
 used-after sh s (SetMark c) old u k f = tt
 used-after sh s step old u k f = k

@@ -18,7 +18,7 @@ use Rattle.mark_core.proofs.Notes.NotesKept.{single-word, pairs}
 use Rattle.mark_core.specs.declared.kinds.Step.{Step}
 use Rattle.mark_core.specs.declared.kinds.Step.TheVariants.{NextBlock, NextOfCards, Reset, AddStat, ReadStat}
 use Rattle.mark_core.specs.declared.seat.SeatState.{SeatState}
-use Rattle.mark_core.specs.Numbers.{done_count, last_count, traced_count}
+use Rattle.mark_core.specs.Numbers.{done_count, last_count, free_count}
 
 -- the counters after a step are no less
 abbrev CardsGrow : Core → SeatState → Step → Type 0
@@ -73,7 +73,7 @@ part_of false false false e = absurd (false≢true e)
 -- another seat doesn't reset a counter while this one helps or knows
 none_resets : (s t : SeatState) (c : Core) (i : ℕ) (step : Step) (at : ℕ × ℕ) → Taken c i s step → Beside s t → (t.admitted || t.knows) ≡ true → resets step at ≡ false
 none_resets s t c i (Reset which) at k b e =
-    let alone = (and_parts (nat_le which traced_count) s.alone (and_parts _ _ k.ok.0).0).1 in
+    let alone = (and_parts (nat_le which free_count) s.alone (and_parts _ _ k.ok.0).0).1 in
     absurd (true≢false (sym (part_of t.active t.knows t.admitted e) ∙ b.alone_quiet alone))
 none_resets s t c i step at k b e = refl
 

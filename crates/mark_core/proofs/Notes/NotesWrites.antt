@@ -21,9 +21,9 @@ use Rattle.mark_core.proofs.Basics.{or-second}
 use Rattle.mark_core.specs.declared.kinds.Phase.{Phase}
 use Rattle.mark_core.specs.declared.kinds.Phase.TheVariants.{Idle, Marking, Drain, Sweep, Clear, Full}
 use Rattle.mark_core.specs.declared.kinds.Step.{Step}
-use Rattle.mark_core.specs.declared.kinds.Step.TheVariants.{Reserve, Take, Give, Credit, Push, SetMark, DirtyCard, ClearCard, StoreField, StoreValue, StoreRoot, ClaimBlock, ReleaseBlock, StoreNew, PublishCells, EnterStep, LeaveStep, RaiseStep, DropStep, StorePhase, NextBlock, NextOfCards, StoreAlloc, ClearMarks, WipeCard, StorePosition, StoreNamed, Reset, AddStat, StoreLength, OpenStep, JoinHelpStep, LeaveHelpStep, CloseStep, NextSeason, ExchangeField, ExchangeValue}
+use Rattle.mark_core.specs.declared.kinds.Step.TheVariants.{Reserve, Take, Give, Credit, Push, SetMark, DirtyCard, ClearCard, StoreField, StoreValue, StoreRoot, ClaimBlock, ReleaseBlock, StoreNew, PublishCells, EnterStep, LeaveStep, RaiseStep, DropStep, StorePhase, NextBlock, NextOfCards, StoreAlloc, ClearMarks, WipeCard, StorePosition, StoreNamed, Reset, AddStat, StoreLength, OpenStep, JoinHelpStep, LeaveHelpStep, CloseStep, NextSeason, ExchangeField, ExchangeValue, StoreSlot}
 use Rattle.mark_core.specs.declared.seat.SeatState.{SeatState}
-use Rattle.mark_core.specs.Numbers.{done_count, last_count, traced_count}
+use Rattle.mark_core.specs.Numbers.{done_count, last_count, free_count}
 
 -- a word for which the seat is steady only where it is alone
 abbrev IsPlain : SeatState → ℕ × ℕ → ℕ → Type 0
@@ -180,6 +180,7 @@ leaves c i s (ExchangeField v f x y) t a = works c i s (ExchangeField v f x y) t
 leaves c i s (StoreValue v n) t a = works c i s (StoreValue v n) t a (λ e. e) (mutator_in s _ (and_parts _ _ a.taken.ok.0).1)
 leaves c i s (ExchangeValue v m n) t a = works c i s (ExchangeValue v m n) t a (λ e. e) (mutator_in s _ (and_parts _ _ a.taken.ok.0).1)
 leaves c i s (StoreRoot v r) t a = works c i s (StoreRoot v r) t a (λ e. e) (mutator_in s _ (and_parts _ _ a.taken.ok.0).1)
+leaves c i s (StoreSlot k r) t a = works c i s (StoreSlot k r) t a (λ e. e) (mutator_in s _ (and_parts _ _ a.taken.ok.0).1)
 leaves c i s (ClaimBlock b) t a = works c i s (ClaimBlock b) t a (λ e. e) (part-from_active s.active s.knows s.admitted (and_parts _ _ a.taken.ok.1.0).0)
 leaves c i s ReleaseBlock t a = works c i s ReleaseBlock t a (λ e. e) (has_in c i s ReleaseBlock (is_some s.cache) a.taken (λ k. ap is_some k.no_cache) a.taken.ok.0)
 leaves c i s (StoreNew x part word) t a =
@@ -192,8 +193,8 @@ leaves c i s ClearMarks t a = works c i s ClearMarks t a (λ e. e) (has_in c i s
 leaves c i s (WipeCard card) t a = works c i s (WipeCard card) t a (λ e. e) (sweep_or_clear _ s (and_parts _ _ a.taken.ok.0).1)
 leaves c i s (StorePosition done) t a = works c i s (StorePosition done) t a (λ e. e) (part-from_active s.active s.knows s.admitted a.taken.ok.1.0)
 leaves c i s (Reset which) t a =
-    let few = and_parts (nat_le which traced_count) s.alone (and_parts _ _ a.taken.ok.0).0 in
-    works c i s (Reset which) t a (counter_plain t which _ (omega (arith, leb-true which traced_count few.0))) (knower_in s (alone_knows c i s (Reset which) a.taken few.1))
+    let few = and_parts (nat_le which free_count) s.alone (and_parts _ _ a.taken.ok.0).0 in
+    works c i s (Reset which) t a (counter_plain t which _ (omega (arith, leb-true which free_count few.0))) (knower_in s (alone_knows c i s (Reset which) a.taken few.1))
 leaves c i s (AddStat which by down) t a =
     let range = and_parts (nat_le last_count which && nat_le which done_count) (takes_part s) a.taken.ok.0 in
     works c i s (AddStat which by down) t a (counter_plain t which _ (leb-true which done_count (and_parts _ _ range.0).1)) range.1

@@ -28,7 +28,7 @@ use Rattle.mark_core.proofs.Writing.Ranges.{word-below, in-row, pool_for-below}
 use Rattle.mark_core.specs.declared.kinds.Shape.{Shape}
 use Rattle.mark_core.specs.declared.kinds.Event.{Event}
 use Rattle.mark_core.specs.declared.kinds.Step.{Step}
-use Rattle.mark_core.specs.declared.kinds.Step.TheVariants.{Reserve, Take, Give, Credit, Push, Pop, Look, ReadCount, ReadAlloc, ReadField, ReadRoot, SetMark, DirtyCard, ClearCard, ReadMarks, StoreField, Split, Join, StoreLength, ReadLength, ExchangeField}
+use Rattle.mark_core.specs.declared.kinds.Step.TheVariants.{Reserve, Take, Give, Credit, Push, Pop, Look, ReadCount, ReadAlloc, ReadField, ReadRoot, SetMark, DirtyCard, ClearCard, ReadMarks, StoreField, Split, Join, StoreLength, ReadLength, ExchangeField, LoadSlot}
 use Rattle.mark_core.specs.declared.seat.SeatState.{SeatState}
 
 -- what the proof needs of the state before
@@ -94,6 +94,7 @@ packets_at c i s ReadCount a ok =
 packets_at c i s (ReadAlloc b) a ok = tracing c i s (ReadAlloc b) a (refl, refl, refl) refl refl ok refl
 packets_at c i s (ReadField x f) a ok = tracing c i s (ReadField x f) a (refl, refl, refl) refl refl ok refl
 packets_at c i s (ReadRoot section v) a ok = tracing c i s (ReadRoot section v) a (refl, refl, refl) refl refl ok refl
+packets_at c i s (LoadSlot section k) a ok = tracing c i s (LoadSlot section k) a (refl, refl, refl) refl refl ok refl
 packets_at c i s (SetMark x) a ok = tracing c i s (SetMark x) a (refl, refl, refl) refl refl ok refl
 packets_at c i s (DirtyCard card) a ok = tracing c i s (DirtyCard card) a (refl, refl, refl) refl refl ok refl
 packets_at c i s (ClearCard card) a ok = tracing c i s (ClearCard card) a (refl, refl, refl) refl refl ok refl

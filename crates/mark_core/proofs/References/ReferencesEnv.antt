@@ -1,12 +1,15 @@
 -- After a step the variables of a seat are still the roots of its section, and the roots of sections that have had no seat are nil.
-use Rattle.std.proofs.Common.{ℕ, ◌≡◌, ◌≢◌, ◌+◌, ◌*◌, ◌<◌, ◌≤◌, List, [], ◌∷◌, set, get_or, length, arith, refl, sym, ap, ◌∙◌, subst, Bool, true, false, cond, Option, Some, None, ⊎_elim}
+use Rattle.std.proofs.Math.Nat.{mul-le-mul_right}
+use Rattle.mark_core.proofs.Writing.Ranges.{in-row}
+use Rattle.mark_core.proofs.Core.{in_range}
+use Rattle.std.proofs.Common.{ℕ, ◌≡◌, ◌≢◌, ◌+◌, ◌*◌, ◌<◌, ◌≤◌, List, [], ◌∷◌, set, get_or, length, arith, refl, sym, ap, ◌∙◌, subst, Bool, true, false, cond, Option, Some, None, ⊎_elim, ◌++◌}
 use Rattle.std.specs.Prelude.{IfSome, slice_index, unwrap_or, nat_lt, is_none}
 use Rattle.std.specs.List.{All}
 use Rattle.std.proofs.lemmas.Bool.{true≢false, and_parts, ltb-true, cases_eq}
 use Rattle.std.proofs.lemmas.List.{get_or-replicate, get_or-set_same, get_or-set_other, length-set, length-append}
 use Rattle.std.proofs.lemmas.List.Elements.{All-set}
 use Rattle.std.proofs.lemmas.Option.{slice_get-get_or}
-use Rattle.mark_core.specs.Layout.{Words, words_of}
+use Rattle.mark_core.specs.Layout.{Words, words_of, root_count}
 use Rattle.mark_core.specs.Bits.{reference_in}
 use Rattle.mark_core.specs.Seats.{may_mutate}
 use Rattle.mark_core.specs.Rules.HeapRules.{EnvIsRoots}
@@ -21,7 +24,7 @@ use Rattle.mark_core.proofs.Locals.{all-push}
 use Rattle.mark_core.proofs.References.ReferencesRoots.{mutator-is, has-use, read-whole, roots-same, seat-formed}
 use Rattle.mark_core.specs.declared.kinds.Shape.{Shape}
 use Rattle.mark_core.specs.declared.kinds.Step.{Step}
-use Rattle.mark_core.specs.declared.kinds.Step.TheVariants.{StoreRoot, Split, Join}
+use Rattle.mark_core.specs.declared.kinds.Step.TheVariants.{StoreRoot, Split, Join, StoreSlot}
 use Rattle.mark_core.specs.declared.seat.SeatState.{SeatState}
 
 by_place : (b : Bool) (i w : ℕ) → Some w ≡ cond b (Some i) None → w ≡ i
@@ -31,6 +34,11 @@ by_place false i w e = absurd (true≢false (sym (ap is_none e)))
 -- the section of a seat is its number
 pub section-is : (n i w : ℕ) (o : Option ℕ) → o ≡ cond (nat_lt i n) (Some i) None → o ≡ Some w → w ≡ i
 section-is n i w o e f = by_place (nat_lt i n) i w (sym f ∙ e)
+
+-- the section of a seat exists
+within_sections : (n j w : ℕ) (b : Bool) → nat_lt j n ≡ b → Some w ≡ cond b (Some j) None → w < n
+within_sections n j w true e f = omega (arith, by_place true j w f, ltb-true j n e)
+within_sections n j w false e f = absurd (true≢false (sym (ap is_none f)))
 
 -- a root of another section stays where one is stored
 other_root : (roots : List ℕ) (i j u v r : ℕ) → i ≢ j → u < 32 → v < 32 → get_or (set roots (i * 32 + v) r) (j * 32 + u) 0 ≡ get_or roots (j * 32 + u) 0
@@ -53,9 +61,15 @@ stored_root roots env w u v r hu hv l h e =
     (cases_eq u v)
 
 -- the roots of a section without a seat are those of a new seat
-new_env : (sh : Shape) (roots : List ℕ) (n : ℕ) (b : Bool) → ((k : ℕ) → n * 32 ≤ k → get_or roots k 0 ≡ 0) → IfSome (cond b (Some n) None) (λ w. (v : ℕ) → v < 32 → get_or (start_seat sh n).env v 0 ≡ get_or roots (w * 32 + v) 0)
-new_env sh roots n true k = λ v h. get_or-replicate 32 v 0 0 h ∙ sym (k (n * 32 + v) (omega arith))
-new_env sh roots n false k = tt
+new_env : (sh : Shape) (roots : List ℕ) (n m : ℕ) (b : Bool) → (b ≡ true → n < m) → ((k : ℕ) → n * 32 ≤ k → k < m * 32 → get_or roots k 0 ≡ 0) → IfSome (cond b (Some n) None) (λ w. (v : ℕ) → v < 32 → get_or (start_seat sh n).env v 0 ≡ get_or roots (w * 32 + v) 0)
+new_env sh roots n m true l k = λ v h. get_or-replicate 32 v 0 0 h ∙ sym (k (n * 32 + v) (omega arith) (omega (arith, l refl, h)))
+new_env sh roots n m false l k = tt
+
+-- a slot is stored, which is no variable
+env_slot : (roots : List ℕ) (n j k r : ℕ) (env : List ℕ) (o : Option ℕ) → o ≡ cond (nat_lt j n) (Some j) None → IfSome o (λ w. (u : ℕ) → u < 32 → slice_index env u ≡ slice_index roots (w * 32 + u))
+    → IfSome o (λ w. (u : ℕ) → u < 32 → slice_index env u ≡ slice_index (set roots (n * 32 + k) r) (w * 32 + u))
+env_slot roots n j k r env None e f = tt
+env_slot roots n j k r env (Some w) e f = λ u hu. f u hu ∙ sym (get_or-set_other roots (n * 32 + k) (w * 32 + u) r 0 (λ z. omega (arith, z, hu, within_sections n j w (nat_lt j n) refl e)))
 
 store_at : (roots env : List ℕ) (o : Option ℕ) (i v x r : ℕ) → x ≡ r → v < 32 → length env ≡ 32 → unwrap_or o 0 * 32 + v < length roots → o ≡ Some i → IfSome o (λ w. (u : ℕ) → u < 32 → slice_index env u ≡ slice_index roots (w * 32 + u))
     → IfSome o (λ w. (u : ℕ) → u < 32 → slice_index (set env v x) u ≡ slice_index (set roots (unwrap_or o 0 * 32 + v) r) (w * 32 + u))
@@ -69,7 +83,7 @@ store_env c i s v r k f =
     let step : Step = StoreRoot v r in
     let a = and_parts (nat_lt v 32) (may_mutate s) k.ok.0 in
     let place = (mutator-is s a.1).1 in
-    let h : unwrap_or s.section 0 * 32 + v < c.shape.sections * 32 = in-place c i s step k in
+    let h : unwrap_or s.section 0 * 32 + v < root_count c.shape = in-place c i s step k in
     let whole : reference_in r ≡ r = read-whole c i s step r k (has-use c i s step r k k.ok.1.0) in
     let before : EnvIsRoots w.roots s = own-fact c i s step (EnvIsRoots w.roots) k k.core.sound.references.env_is_roots in
     store_at w.roots s.env s.section place.0 v (reference_in r) r whole (ltb-true v 32 a.0) (seat-formed c i s step k).env (subst (λ (n : ℕ). unwrap_or s.section 0 * 32 + v < n) (sym (roots-length c k.core)) h) place.1 (before f)
@@ -99,13 +113,21 @@ stored_envs c i s v r k j d h =
 -- the variables of each seat are the roots of its section after the step
 pub env-roots : (c : Core) (i : ℕ) (s : SeatState) (step : Step) → Taken c i s step → All (EnvIsRoots (words_left c s step).roots) (seats_left c i s step)
 env-roots c i s (StoreRoot v r) k = stored_envs c i s v r k
+env-roots c i s (StoreSlot j r) k =
+    let w : Words = words_of c.shape c.words in
+    let step : Step = StoreSlot j r in
+    let P : SeatState → Type 0 = EnvIsRoots (words_left c s step).roots in
+    let all : All P c.seats =
+    λ q d h f. let t : SeatState = get_or c.seats q d in env_slot w.roots c.shape.sections q (unwrap_or s.section 0 * c.shape.slots + j) r t.env t.section (seat-section c q d k.core h) (k.core.sound.references.env_is_roots q d h f) in
+    let mine : P s = own-fact c i s step P k all in
+    All-set P c.seats i (seat_after c.shape s step (found c s step)) mine all
 env-roots c i s Split k =
     let w : Words = words_of c.shape c.words in
     let P : SeatState → Type 0 = EnvIsRoots w.roots in
     let n : ℕ = length (set c.seats i s) in
     let before : All P c.seats = k.core.sound.references.env_is_roots in
     all-push P (set c.seats i s) (start_seat c.shape n) (All-set P c.seats i s (own-fact c i s Split P k before) before)
-    (λ f. new_env c.shape w.roots n (nat_lt n c.shape.sections) (λ j h. k.core.sound.references.unseated_nil j (subst (λ (m : ℕ). m * 32 ≤ j) (length-set c.seats i s) h)))
+    (λ f. new_env c.shape w.roots n c.shape.sections (nat_lt n c.shape.sections) (λ e. ltb-true n c.shape.sections e) (λ j h l. k.core.sound.references.unseated_nil j (subst (λ (m : ℕ). m * 32 ≤ j) (length-set c.seats i s) h) l))
 env-roots c i s (Join other) k =
     let w : Words = words_of c.shape c.words in
     let P : SeatState → Type 0 = EnvIsRoots w.roots in
@@ -118,20 +140,61 @@ env-roots c i s step k =
     let mine : P s = own-fact c i s step P k before in
     subst (λ (rs : List ℕ). All (EnvIsRoots rs) (set c.seats i t)) (sym (roots-same c i s step k refl)) (All-set P c.seats i t mine before)
 
--- the roots of a section that has had no seat stay nil
-pub unseated-nil : (c : Core) (i : ℕ) (s : SeatState) (step : Step) → Taken c i s step → (j : ℕ) → length (seats_left c i s step) * 32 ≤ j → slice_index (words_left c s step).roots j ≡ 0
-unseated-nil c i s (StoreRoot v r) k j h =
+-- a mutator's section is its number
+own_section : (c : Core) (i : ℕ) (s : SeatState) (step : Step) → Taken c i s step → may_mutate s ≡ true → unwrap_or s.section 0 ≡ i
+own_section c i s step k e =
+    let place = (mutator-is s e).1 in
+    ap (λ (o : Option ℕ). unwrap_or o 0) place.1 ∙ section-is c.shape.sections i place.0 s.section (seat-formed c i s step k).section place.1
+
+-- the variables of a section that has had no seat stay nil
+pub unseated-nil : (c : Core) (i : ℕ) (s : SeatState) (step : Step) → Taken c i s step → (j : ℕ) → length (seats_left c i s step) * 32 ≤ j → j < c.shape.sections * 32 → slice_index (words_left c s step).roots j ≡ 0
+unseated-nil c i s (StoreRoot v r) k j h b =
     let w : Words = words_of c.shape c.words in
     let step : Step = StoreRoot v r in
     let a = and_parts (nat_lt v 32) (may_mutate s) k.ok.0 in
-    let place = (mutator-is s a.1).1 in
     let t : SeatState = seat_after c.shape s step (found c s step) in
     let l : length (set c.seats i t) ≡ length c.seats = length-set c.seats i t in
-    let at : unwrap_or s.section 0 ≡ i = ap (λ (o : Option ℕ). unwrap_or o 0) place.1 ∙ section-is c.shape.sections i place.0 s.section (seat-formed c i s step k).section place.1 in
-    get_or-set_other w.roots (unwrap_or s.section 0 * 32 + v) j r 0 (λ e. omega (arith, e, at, h, l, within c i s step k, ltb-true v 32 a.0))
-    ∙ k.core.sound.references.unseated_nil j (omega (arith, h, l))
-unseated-nil c i s Split k j h = k.core.sound.references.unseated_nil j (omega (arith, h, length-set c.seats i s, length-append (set c.seats i s) (start_seat c.shape (length (set c.seats i s)) ∷ [])))
-unseated-nil c i s (Join other) k j h = k.core.sound.references.unseated_nil j (omega (arith, h, length-set c.seats i s, length-set (set c.seats i s) other (spent_seat c.shape other)))
-unseated-nil c i s step k j h =
+    get_or-set_other w.roots (unwrap_or s.section 0 * 32 + v) j r 0 (λ e. omega (arith, e, own_section c i s step k a.1, h, l, within c i s step k, ltb-true v 32 a.0))
+    ∙ k.core.sound.references.unseated_nil j (omega (arith, h, l)) b
+unseated-nil c i s (StoreSlot q r) k j h b =
+    let w : Words = words_of c.shape c.words in
+    let t : SeatState = seat_after c.shape s (StoreSlot q r) (found c s (StoreSlot q r)) in
+    get_or-set_other w.roots (c.shape.sections * 32 + (unwrap_or s.section 0 * c.shape.slots + q)) j r 0 (λ e. omega (arith, e, b)) ∙ k.core.sound.references.unseated_nil j (omega (arith, h, length-set c.seats i t)) b
+unseated-nil c i s Split k j h b = k.core.sound.references.unseated_nil j (omega (arith, h, length-set c.seats i s, length-append (set c.seats i s) (start_seat c.shape (length (set c.seats i s)) ∷ []))) b
+unseated-nil c i s (Join other) k j h b = k.core.sound.references.unseated_nil j (omega (arith, h, length-set c.seats i s, length-set (set c.seats i s) other (spent_seat c.shape other))) b
+unseated-nil c i s step k j h b =
     let t : SeatState = seat_after c.shape s step (found c s step) in
-    ap (λ (rs : List ℕ). slice_index rs j) (roots-same c i s step k refl) ∙ k.core.sound.references.unseated_nil j (omega (arith, h, length-set c.seats i t))
+    ap (λ (rs : List ℕ). slice_index rs j) (roots-same c i s step k refl) ∙ k.core.sound.references.unseated_nil j (omega (arith, h, length-set c.seats i t)) b
+
+-- more seats have more slots
+fewer : (m n d j : ℕ) → m ≤ n → n * d ≤ j → m * d ≤ j
+fewer m n d j h l = omega (arith, mul-le-mul_right d h, l)
+
+-- the slots of a section that has had no seat stay nil
+pub unseated-slots : (c : Core) (i : ℕ) (s : SeatState) (step : Step) → Taken c i s step → (j : ℕ) → length (seats_left c i s step) * c.shape.slots ≤ j → slice_index (words_left c s step).roots (c.shape.sections * 32 + j) ≡ 0
+unseated-slots c i s (StoreRoot v r) k j h =
+    let w : Words = words_of c.shape c.words in
+    let step : Step = StoreRoot v r in
+    let t : SeatState = seat_after c.shape s step (found c s step) in
+    let hv : v < 32 = ltb-true v 32 (and_parts (nat_lt v 32) (may_mutate s) k.ok.0).0 in
+    get_or-set_other w.roots (unwrap_or s.section 0 * 32 + v) (c.shape.sections * 32 + j) r 0 (λ e. omega (arith, e, hv, (in_range c i s k.core k.got).section))
+    ∙ k.core.sound.references.unseated_slots_nil j (fewer (length c.seats) (length (set c.seats i t)) c.shape.slots j (omega (arith, length-set c.seats i t)) h)
+unseated-slots c i s (StoreSlot q r) k j h =
+    let w : Words = words_of c.shape c.words in
+    let step : Step = StoreSlot q r in
+    let a = and_parts (nat_lt q c.shape.slots) (may_mutate s) k.ok.0 in
+    let t : SeatState = seat_after c.shape s step (found c s step) in
+    let below : length c.seats * c.shape.slots ≤ j = fewer (length c.seats) (length (set c.seats i t)) c.shape.slots j (omega (arith, length-set c.seats i t)) h in
+    let own : unwrap_or s.section 0 < length c.seats = omega (arith, own_section c i s step k a.1, within c i s step k) in
+    let row = in-row (unwrap_or s.section 0) (length c.seats) c.shape.slots q own (ltb-true q c.shape.slots a.0) in
+    get_or-set_other w.roots (c.shape.sections * 32 + (unwrap_or s.section 0 * c.shape.slots + q)) (c.shape.sections * 32 + j) r 0 (λ e. omega (arith, e, row, below)) ∙ k.core.sound.references.unseated_slots_nil j below
+unseated-slots c i s Split k j h =
+    let n : ℕ = length (set c.seats i s) in
+    k.core.sound.references.unseated_slots_nil j (fewer (length c.seats) (length (set c.seats i s ++ start_seat c.shape n ∷ [])) c.shape.slots j (omega (arith, length-set c.seats i s, length-append (set c.seats i s) (start_seat c.shape n ∷ []))) h)
+unseated-slots c i s (Join other) k j h =
+    let ended : List SeatState = set (set c.seats i s) other (spent_seat c.shape other) in
+    k.core.sound.references.unseated_slots_nil j (fewer (length c.seats) (length ended) c.shape.slots j (omega (arith, length-set c.seats i s, length-set (set c.seats i s) other (spent_seat c.shape other))) h)
+unseated-slots c i s step k j h =
+    let t : SeatState = seat_after c.shape s step (found c s step) in
+    ap (λ (rs : List ℕ). slice_index rs (c.shape.sections * 32 + j)) (roots-same c i s step k refl)
+    ∙ k.core.sound.references.unseated_slots_nil j (fewer (length c.seats) (length (set c.seats i t)) c.shape.slots j (omega (arith, length-set c.seats i t)) h)

@@ -15,7 +15,7 @@ use Rattle.mark_core.proofs.Core.{acts}
 use Rattle.mark_core.proofs.Blocks.BlocksTaken.{Taken, words-read}
 use Rattle.mark_core.proofs.Blocks.BlocksStopped.{sweeping}
 use Rattle.mark_core.proofs.Pool.PoolsKept.{shape-kept}
-use Rattle.mark_core.proofs.References.ReferencesEnv.{env-roots, unseated-nil}
+use Rattle.mark_core.proofs.References.ReferencesEnv.{env-roots, unseated-nil, unseated-slots}
 use Rattle.mark_core.proofs.References.ReferencesFields.{FieldsUsed, fields-used}
 use Rattle.mark_core.proofs.References.ReferencesNames.{names-used}
 use Rattle.mark_core.proofs.References.ReferencesRoots.{roots-used}
@@ -57,6 +57,7 @@ references_at c i s StoreAlloc k =
       seats_in_use = swept-names c i s k;
       env_is_roots = env-roots c i s StoreAlloc k;
       unseated_nil = unseated-nil c i s StoreAlloc k;
+      unseated_slots_nil = unseated-slots c i s StoreAlloc k;
       fields_in_use = λ e. absurd (true≢false (sym (ap (λ (n : ℕ). is_phase n Sweep) (sweeping c i s StoreAlloc k k.ok.0)) ∙ e));
     }
 references_at c i s (StorePhase to) k =
@@ -65,6 +66,7 @@ references_at c i s (StorePhase to) k =
       seats_in_use = names-used c i s (StorePhase to) k refl;
       env_is_roots = env-roots c i s (StorePhase to) k;
       unseated_nil = unseated-nil c i s (StorePhase to) k;
+      unseated_slots_nil = unseated-slots c i s (StorePhase to) k;
       fields_in_use = moved c i s to k;
     }
 references_at c i s ReadPhase k =
@@ -73,6 +75,7 @@ references_at c i s ReadPhase k =
       seats_in_use = names-used c i s ReadPhase k refl;
       env_is_roots = env-roots c i s ReadPhase k;
       unseated_nil = unseated-nil c i s ReadPhase k;
+      unseated_slots_nil = unseated-slots c i s ReadPhase k;
       fields_in_use = λ e. fields-used c i s ReadPhase k refl (sym (ap (λ (w : Words). is_phase w.phase Sweep) (words-read c i s ReadPhase k refl)) ∙ e);
     }
 references_at c i s step k =
@@ -81,6 +84,7 @@ references_at c i s step k =
       seats_in_use = names-used c i s step k refl;
       env_is_roots = env-roots c i s step k;
       unseated_nil = unseated-nil c i s step k;
+      unseated_slots_nil = unseated-slots c i s step k;
       fields_in_use = λ e. fields-used c i s step k refl (sym (ap (λ (n : ℕ). is_phase n Sweep) (phase-kept c.shape s step (written c.shape s step (found c s step)) (words_of c.shape c.words) refl)) ∙ e);
     }
 

@@ -1,11 +1,11 @@
 -- Variables and registers name cells in use after a step, and the variables are the roots of their section, unless the sweep stores allocation bits.
-use Rattle.std.proofs.Common.{ℕ, ◌≡◌, ◌+◌, ◌*◌, ◌<◌, List, get_or, arith, refl, sym, ap, subst, Bool, true, false, ◌&&◌, eqb, ⊎_elim}
-use Rattle.std.specs.Prelude.{IsTrue, nat_lt}
+use Rattle.std.proofs.Common.{ℕ, ◌≡◌, ◌+◌, ◌*◌, ◌<◌, List, get_or, arith, refl, sym, ap, subst, Bool, true, false, ◌&&◌, eqb, ⊎_elim, ◌∙◌}
+use Rattle.std.specs.Prelude.{IsTrue, nat_lt, unwrap_or}
 use Rattle.std.specs.List.{All, list_any}
 use Rattle.std.proofs.lemmas.Bool.{and_parts, or_cases, eqb-true, ltb-true}
 use Rattle.std.proofs.lemmas.List.{get_or-replicate}
 use Rattle.std.proofs.lemmas.List.Elements.{All-set}
-use Rattle.mark_core.specs.Layout.{Words, words_of, region_sizes}
+use Rattle.mark_core.specs.Layout.{Words, words_of, region_sizes, root_count, address}
 use Rattle.mark_core.specs.Bits.{nil_or, reference_in}
 use Rattle.mark_core.specs.Seats.{may_mutate}
 use Rattle.mark_core.specs.Views.{makers}
@@ -13,7 +13,7 @@ use Rattle.mark_core.specs.Cells.{field, AllGo}
 use Rattle.mark_core.specs.Rules.HeapRules.{NamesInUse}
 use Rattle.mark_core.specs.Steps.MutatorSteps.{knows_cell}
 use Rattle.mark_core.specs.Start.{start_seat}
-use Rattle.mark_core.specs.Effects.{seat_after}
+use Rattle.mark_core.specs.Effects.{seat_after, place}
 use Rattle.mark_core.specs.Steps.{Core}
 use Rattle.mark_core.proofs.Writing.Regions.{words-get}
 use Rattle.mark_core.proofs.Acting.{found, words_left, seats_left}
@@ -27,7 +27,7 @@ use Rattle.mark_core.proofs.Used.UsedCells.{frees}
 use Rattle.mark_core.proofs.Used.UsedKept.{used-on}
 use Rattle.mark_core.specs.declared.kinds.Shape.{Shape}
 use Rattle.mark_core.specs.declared.kinds.Step.{Step}
-use Rattle.mark_core.specs.declared.kinds.Step.TheVariants.{ReadOwn, ReadCat, StoreRoot}
+use Rattle.mark_core.specs.declared.kinds.Step.TheVariants.{ReadOwn, ReadCat, StoreRoot, StoreSlot, ReadSlot}
 use Rattle.mark_core.specs.declared.seat.SeatState.{SeatState}
 
 -- a seat whose variables and register are nil or go where the property holds
@@ -54,6 +54,14 @@ known-used c i s step x k e =
     (λ (a : list_any (λ (y : ℕ). eqb y (x + 1)) s.env ≡ true). goes-to (Used c) (x + 1) x refl (in-env s.env (x + 1) (Used c) n.0 a))
     (or_cases (eqb s.got (x + 1)) (list_any (λ (y : ℕ). eqb y (x + 1)) s.env) e)
 
+-- a root is read into the register
+root_read : (c : Core) (i : ℕ) (s : SeatState) (step : Step) (at : ℕ) → Taken c i s step → at < root_count c.shape → place c.shape s step ≡ (2, at) → Goes (Used c) (s.env, reference_in (found c s step))
+root_read c i s step at k h p =
+    let w : Words = words_of c.shape c.words in
+    let old : found c s step ≡ get_or w.roots at 0 = ap (λ (x : ℕ × ℕ). get_or c.words (address c.shape x) 0) p ∙ words-get (region_sizes c.shape) 2 c.words at 0 h in
+    let e : nil_or (Used c) (found c s step) ≡ true = subst (λ (r : ℕ). nil_or (Used c) r ≡ true) (sym old) (k.core.sound.references.roots_in_use at 0 (subst (λ (n : ℕ). at < n) (sym (roots-length c k.core)) h)) in
+    ((own_names c i s step k).0, subst (λ (r : ℕ). nil_or (Used c) r ≡ true) (sym (read-whole c i s step (found c s step) k e)) e)
+
 -- what the seat names before, by the record that it has afterwards
 names_then : (c : Core) (i : ℕ) (s : SeatState) (step : Step) → Taken c i s step → Goes (Used c) (names_of (seat_after c.shape s step (found c s step)))
 names_then c i s (ReadOwn x j) k =
@@ -65,13 +73,9 @@ names_then c i s (ReadOwn x j) k =
     let e : nil_or (Used c) (found c s step) ≡ true =
     subst (λ (r : ℕ). nil_or (Used c) r ≡ true) (sym old) (read-field c i s step x j k (mutator-is s a.1).0 (ltb-true x c.shape.cells b.0) (known-used c i s step x k k.ok.1.0) (ltb-true j c.shape.fields b.1)) in
     ((own_names c i s step k).0, subst (λ (r : ℕ). nil_or (Used c) r ≡ true) (sym (read-whole c i s step (found c s step) k e)) e)
-names_then c i s (ReadCat v) k =
-    let w : Words = words_of c.shape c.words in
-    let step : Step = ReadCat v in
-    let h : 0 * 32 + v < c.shape.sections * 32 = in-place c i s step k in
-    let old : found c s step ≡ get_or w.roots (0 * 32 + v) 0 = words-get (region_sizes c.shape) 2 c.words (0 * 32 + v) 0 h in
-    let e : nil_or (Used c) (found c s step) ≡ true = subst (λ (r : ℕ). nil_or (Used c) r ≡ true) (sym old) (k.core.sound.references.roots_in_use (0 * 32 + v) 0 (subst (λ (n : ℕ). 0 * 32 + v < n) (sym (roots-length c k.core)) h)) in
-    ((own_names c i s step k).0, subst (λ (r : ℕ). nil_or (Used c) r ≡ true) (sym (read-whole c i s step (found c s step) k e)) e)
+names_then c i s (ReadCat v) k = root_read c i s (ReadCat v) (0 * 32 + v) k (in-place c i s (ReadCat v) k) refl
+names_then c i s (ReadSlot j) k = root_read c i s (ReadSlot j) (c.shape.sections * 32 + (unwrap_or s.section 0 * c.shape.slots + j)) k (in-place c i s (ReadSlot j) k) refl
+names_then c i s (StoreSlot j r) k = ((own_names c i s (StoreSlot j r) k).0, refl)
 names_then c i s (StoreRoot v r) k =
     let e : nil_or (Used c) r ≡ true = has-use c i s (StoreRoot v r) r k k.ok.1.0 in
     let whole : nil_or (Used c) (reference_in r) ≡ true = subst (λ (y : ℕ). nil_or (Used c) y ≡ true) (sym (read-whole c i s (StoreRoot v r) r k e)) e in

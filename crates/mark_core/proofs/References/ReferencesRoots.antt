@@ -1,5 +1,5 @@
 -- Roots, variables and registers name cells in use after a step, unless the sweep stores allocation bits.
-use Rattle.std.proofs.Common.{ℕ, ◌≡◌, ◌+◌, ◌*◌, ◌-◌, ◌<◌, ◌≤◌, List, get_or, length, arith, refl, sym, ap, ◌∙◌, subst, Bool, true, false, not, ◌||◌, eqb, Option, Some, None, ⊎_elim}
+use Rattle.std.proofs.Common.{ℕ, ◌≡◌, ◌+◌, ◌*◌, ◌-◌, ◌<◌, ◌≤◌, List, get_or, length, arith, refl, sym, ap, ◌∙◌, subst, Bool, true, false, not, ◌||◌, eqb, Option, Some, None, ⊎_elim, set}
 use Rattle.std.specs.Prelude.{IsTrue, IsFalse, IfSome, unwrap_or}
 use Rattle.std.specs.List.{All, list_any}
 use Rattle.std.proofs.lemmas.Bool.{true≢false, and_parts, or_cases, or_left, or_right, eqb-true, cases_Bool}
@@ -31,7 +31,7 @@ use Rattle.mark_core.proofs.World.WorldReading.{any-passes, some-passes}
 use Rattle.mark_core.specs.declared.kinds.Shape.{Shape}
 use Rattle.mark_core.specs.declared.kinds.Phase.TheVariants.{Sweep}
 use Rattle.mark_core.specs.declared.kinds.Step.{Step}
-use Rattle.mark_core.specs.declared.kinds.Step.TheVariants.{ReadRoot, ReadCat, StoreRoot}
+use Rattle.mark_core.specs.declared.kinds.Step.TheVariants.{ReadRoot, ReadCat, StoreRoot, LoadSlot, StoreSlot, ReadSlot}
 use Rattle.mark_core.specs.declared.seat.SeatState.{SeatState}
 use Rattle.mark_core.specs.declared.seat.CacheState.{CacheState}
 
@@ -57,6 +57,7 @@ names-cell p r e = or_right (eqb r 0) (p (r - 1)) e
 -- the step stores a root
 abbrev pub stores_root : Step → Bool
 stores_root (StoreRoot v r) = true
+stores_root (StoreSlot k r) = true
 stores_root step = false
 
 -- every step but the store of a root leaves the roots
@@ -64,6 +65,9 @@ pub roots-same : (c : Core) (i : ℕ) (s : SeatState) (step : Step) → Taken c 
 roots-same c i s (ReadRoot section v) k f = ap (λ (w : Words). w.roots) (words-read c i s (ReadRoot section v) k refl)
 roots-same c i s (ReadCat v) k f = ap (λ (w : Words). w.roots) (words-read c i s (ReadCat v) k refl)
 roots-same c i s (StoreRoot v r) k f = absurd (true≢false f)
+roots-same c i s (StoreSlot j r) k f = absurd (true≢false f)
+roots-same c i s (LoadSlot section j) k f = ap (λ (w : Words). w.roots) (words-read c i s (LoadSlot section j) k refl)
+roots-same c i s (ReadSlot j) k f = ap (λ (w : Words). w.roots) (words-read c i s (ReadSlot j) k refl)
 roots-same c i s step k f = roots-kept c.shape s step (written c.shape s step (found c s step)) (words_of c.shape c.words) refl
 
 last_at : (y : CacheState) (o : Option ℕ) (x : ℕ) → IfSome o (λ c. IsTrue (used_in (Some y) c)) → is_the o x ≡ true → used_in (Some y) x ≡ true
@@ -129,13 +133,18 @@ not-sweep c i s step k a =
     (λ (e : is_phase (words_of c.shape c.words).phase Sweep ≡ false). e)
     (cases_Bool (is_phase (words_of c.shape c.words).phase Sweep))
 
+-- a reference that the seat has is stored in a root
+root_used : (c : Core) (i : ℕ) (s : SeatState) (step : Step) (at r : ℕ) → Taken c i s step → frees step ≡ false → has_reference s r ≡ true → AllGo (UsedAfter c i s step) (set (words_of c.shape c.words).roots at r)
+root_used c i s step at r k f e =
+    let on : (x : ℕ) → Used c x ≡ true → UsedAfter c i s step x ≡ true = λ x u. used-on c i s step x k f u in
+    let Goes : ℕ → Type 0 = λ y. IsTrue (nil_or (UsedAfter c i s step) y) in
+    let before : All Goes (words_of c.shape c.words).roots = λ j d h. nil-on (Used c) (UsedAfter c i s step) (get_or (words_of c.shape c.words).roots j d) on (k.core.sound.references.roots_in_use j d h) in
+    All-set Goes (words_of c.shape c.words).roots at r (nil-on (Used c) (UsedAfter c i s step) r on (has-use c i s step r k e)) before
+
 -- the cells that roots name are in use after the step
 pub roots-used : (c : Core) (i : ℕ) (s : SeatState) (step : Step) → Taken c i s step → frees step ≡ false → AllGo (UsedAfter c i s step) (words_left c s step).roots
-roots-used c i s (StoreRoot v r) k f =
-    let on : (x : ℕ) → Used c x ≡ true → UsedAfter c i s (StoreRoot v r) x ≡ true = λ x e. used-on c i s (StoreRoot v r) x k f e in
-    let Goes : ℕ → Type 0 = λ y. IsTrue (nil_or (UsedAfter c i s (StoreRoot v r)) y) in
-    let before : All Goes (words_of c.shape c.words).roots = λ j d h. nil-on (Used c) (UsedAfter c i s (StoreRoot v r)) (get_or (words_of c.shape c.words).roots j d) on (k.core.sound.references.roots_in_use j d h) in
-    All-set Goes (words_of c.shape c.words).roots (unwrap_or s.section 0 * 32 + v) r (nil-on (Used c) (UsedAfter c i s (StoreRoot v r)) r on (has-use c i s (StoreRoot v r) r k k.ok.1.0)) before
+roots-used c i s (StoreRoot v r) k f = root_used c i s (StoreRoot v r) (unwrap_or s.section 0 * 32 + v) r k f k.ok.1.0
+roots-used c i s (StoreSlot j r) k f = root_used c i s (StoreSlot j r) (c.shape.sections * 32 + (unwrap_or s.section 0 * c.shape.slots + j)) r k f k.ok.1.0
 roots-used c i s step k f = roots_stay c i s step k f (roots-same c i s step k refl)
 
 -- a reference to a cell in use is at most the number of cells, and so is read whole

@@ -8,7 +8,7 @@ use Rattle.std.proofs.lemmas.List.{get_or-replicate, get_or_past}
 use Rattle.std.proofs.lemmas.List.Elements.{All-map}
 use Rattle.std.proofs.lemmas.List.Folds.{list_any_none}
 use Rattle.mark_core.specs.Shapes.{IsShape}
-use Rattle.mark_core.specs.Layout.{Words, words_of, region_base, region_sizes, block_count}
+use Rattle.mark_core.specs.Layout.{Words, words_of, region_base, region_sizes, block_count, root_count}
 use Rattle.mark_core.specs.Bits.{cell_bit, has_bit, nil_or}
 use Rattle.mark_core.specs.Views.{Maker, makers, maker_of}
 use Rattle.mark_core.specs.Cells.{in_use, used_by}
@@ -23,17 +23,17 @@ use Rattle.mark_core.proofs.Writing.CellBits.{no-bit}
 use Rattle.mark_core.specs.declared.kinds.Shape.{Shape}
 use Rattle.mark_core.specs.declared.seat.SeatState.{SeatState}
 
-roots_end : (sh : Shape) (k : ℕ) → sh.sections * 32 ≤ k → length (words_of sh (start_words sh)).roots ≤ k
+roots_end : (sh : Shape) (k : ℕ) → root_count sh ≤ k → length (words_of sh (start_words sh)).roots ≤ k
 roots_end sh k h = omega (arith, h, region-length (region_sizes sh) 2 (start_words sh) (omega (arith, start-length sh)))
 
 -- every root is nil
 pub no-root : (sh : Shape) (k : ℕ) → slice_index (words_of sh (start_words sh)).roots k ≡ 0
 no-root sh k =
     ⊎_elim
-    (λ (h : k < sh.sections * 32).
+    (λ (h : k < root_count sh).
     sym (words-get (region_sizes sh) 2 (start_words sh) k 0 h) ∙ in-gap (singles sh) (full_pool sh) (tail_words sh) 11 (gap sh) (region_base (region_sizes sh) 2 + k) refl (omega arith) (omega (arith, h)))
-    (λ (h : sh.sections * 32 ≤ k). get_or_past (words_of sh (start_words sh)).roots k 0 (roots_end sh k h))
-    (cases_lt k (sh.sections * 32))
+    (λ (h : root_count sh ≤ k). get_or_past (words_of sh (start_words sh)).roots k 0 (roots_end sh k h))
+    (cases_lt k (root_count sh))
 
 -- no cell is published
 pub unpublished : (sh : Shape) → IsShape sh → (x : ℕ) → x < sh.cells → cell_bit (words_of sh (start_words sh)).allocs x ≡ false
@@ -63,6 +63,7 @@ references-starts sh n z =
       roots_in_use = λ j d h. ap (nil_or p) (get_or_default_zero w.roots j d h ∙ no-root sh j);
       seats_in_use = each-seat (λ (s : SeatState). NamesInUse w.allocs (makers (start_seats sh n)) s) sh n (λ k. new-names p sh k);
       env_is_roots = each-seat (λ (s : SeatState). EnvIsRoots w.roots s) sh n (λ k e. start_env sh k (nat_lt k sh.sections));
-      unseated_nil = λ k h. no-root sh k;
+      unseated_nil = λ k h l. no-root sh k;
+      unseated_slots_nil = λ k h. no-root sh (sh.sections * 32 + k);
       fields_in_use = λ e x h u. absurd (true≢false (sym u ∙ none-used sh n z x h));
     }

@@ -91,13 +91,13 @@ swept_env c p t a f z l q j d h =
     subst (λ (r : ℕ). nil_or p r ≡ true) (sym same) (a (s.0 * 32 + j) 0 (omega (arith, q s.0 s.1, h, l))))
     (cases_Bool (t.spent || is_none t.section))
 
-section_fits : (n j w l : ℕ) (b : Bool) → nat_lt j n ≡ b → Some w ≡ cond b (Some j) None → l ≡ n * 32 → w * 32 + 32 ≤ l
+section_fits : (n j w l : ℕ) (b : Bool) → nat_lt j n ≡ b → Some w ≡ cond b (Some j) None → n * 32 ≤ l → w * 32 + 32 ≤ l
 section_fits n j w l true e f g = let z : w ≡ j = ap (λ (o : Option ℕ). unwrap_or o 0) f in omega (arith, z, g, ltb-true j n e)
 section_fits n j w l false e f g = absurd (true≢false (ap is_some f))
 
 -- the sections' roots are there
 section_roots : (c : Core) (j : ℕ) (d : SeatState) (w : ℕ) → IsCore c → j < length c.seats → (get_or c.seats j d).section ≡ Some w → w * 32 + 32 ≤ length (words_of c.shape c.words).roots
-section_roots c j d w k h e = section_fits c.shape.sections j w (length (words_of c.shape c.words).roots) (nat_lt j c.shape.sections) refl (sym e ∙ seat-section c j d k h) (roots-length c k)
+section_roots c j d w k h e = section_fits c.shape.sections j w (length (words_of c.shape c.words).roots) (nat_lt j c.shape.sections) refl (sym e ∙ seat-section c j d k h) (omega (arith, roots-length c k))
 
 pub swept-names : (c : Core) (i : ℕ) (s : SeatState) → Taken c i s StoreAlloc → All (NamesInUse (words_left c s StoreAlloc).allocs (makers (seats_left c i s StoreAlloc))) (seats_left c i s StoreAlloc)
 swept-names c i s k =

@@ -19,7 +19,7 @@ use Rattle.mark_core.proofs.World.WorldSeats.{Local, inside, stays, mutates, tra
 use Rattle.mark_core.proofs.Basics.{none-is, or-second}
 use Rattle.mark_core.specs.declared.kinds.Shape.{Shape}
 use Rattle.mark_core.specs.declared.kinds.Step.{Step}
-use Rattle.mark_core.specs.declared.kinds.Step.TheVariants.{Reserve, Take, Give, Credit, Push, Pop, ReadAlloc, ReadField, ReadRoot, SetMark, DirtyCard, ClearCard, ReadMarks, ReadPhase, ReadOwn, ReadCat, StoreField, StoreRoot, ClaimBlock, ReleaseBlock, ReadFree, StoreNew, PublishCells, EnterStep, LeaveStep, Observe, DropStep, NextBlock, ReadBlockMarks, StoreAlloc, ClearMarks, StoreLength, ReadLength, JoinHelpStep, LeaveHelpStep, ExchangeField}
+use Rattle.mark_core.specs.declared.kinds.Step.TheVariants.{Reserve, Take, Give, Credit, Push, Pop, ReadAlloc, ReadField, ReadRoot, SetMark, DirtyCard, ClearCard, ReadMarks, ReadPhase, ReadOwn, ReadCat, StoreField, StoreRoot, ClaimBlock, ReleaseBlock, ReadFree, StoreNew, PublishCells, EnterStep, LeaveStep, Observe, DropStep, NextBlock, ReadBlockMarks, StoreAlloc, ClearMarks, StoreLength, ReadLength, JoinHelpStep, LeaveHelpStep, ExchangeField, LoadSlot, StoreSlot, ReadSlot}
 use Rattle.mark_core.specs.declared.seat.SeatState.{SeatState}
 use Rattle.mark_core.specs.declared.seat.CacheState.{CacheState}
 use Rattle.mark_core.specs.Bits.{flag}
@@ -106,6 +106,7 @@ local-at sh w seats s (ReadField c i) old k f b ok =
     let cell = and_parts (nat_lt c sh.cells) (nat_lt i sh.fields) range.0 in
     stays sh s (seat_after sh s (ReadField c i) old) k (worker-in sh s k (work-reads sh s c i (ltb-true i sh.fields cell.1) range.1)) refl refl refl (λ a. (k.calm a).0) refl refl
 local-at sh w seats s (ReadRoot section v) old k f b ok = stays sh s (seat_after sh s (ReadRoot section v) old) k (tracer-in w.phase s (and_parts _ _ (and_parts _ _ ok.0).0).1) refl refl refl (λ a. (k.calm a).0) refl refl
+local-at sh w seats s (LoadSlot section j) old k f b ok = stays sh s (seat_after sh s (LoadSlot section j) old) k (tracer-in w.phase s (and_parts _ _ (and_parts _ _ ok.0).0).1) refl refl refl (λ a. (k.calm a).0) refl refl
 local-at sh w seats s (SetMark c) old k f b ok = stays sh s (seat_after sh s (SetMark c) old) k (tracer-in w.phase s ok.1.0) refl refl refl (λ a. (k.calm a).0) refl refl
 local-at sh w seats s (DirtyCard card) old k f b ok =
     stays sh s (seat_after sh s (DirtyCard card) old) k (and_parts _ _ ok.0).1 refl refl refl (λ a. rw (k.calm a).0 refl) refl refl
@@ -128,6 +129,12 @@ local-at sh w seats s (ExchangeField v i x y) old k f b ok =
 local-at sh w seats s (StoreRoot v r) old k f b ok =
     let run = (and_parts s.active _ (and_parts _ _ ok.0).1).0 in
     mutates sh s (seat_after sh s (StoreRoot v r) old) k run (runner-in s run) refl refl k.uncached refl
+local-at sh w seats s (StoreSlot j r) old k f b ok =
+    let run = (and_parts s.active _ (and_parts _ _ ok.0).1).0 in
+    mutates sh s (seat_after sh s (StoreSlot j r) old) k run (runner-in s run) refl refl k.uncached refl
+local-at sh w seats s (ReadSlot j) old k f b ok =
+    let run = (and_parts s.active _ (and_parts _ _ ok.0).1).0 in
+    mutates sh s (seat_after sh s (ReadSlot j) old) k run (runner-in s run) refl refl k.uncached refl
 local-at sh w seats s (ClaimBlock g) old k f b ok =
     let who = (and_parts (s.active || s.knows) _ ok.1.0).0 in
     record {

@@ -8,7 +8,7 @@ use Rattle.mark_core.specs.Effects.{seat_after}
 use Rattle.mark_core.specs.declared.kinds.Shape.{Shape}
 use Rattle.mark_core.specs.declared.kinds.Phase.{Phase}
 use Rattle.mark_core.specs.declared.kinds.Step.{Step}
-use Rattle.mark_core.specs.declared.kinds.Step.TheVariants.{Reserve, Take, Give, Credit, Push, Pop, ReadAlloc, ReadField, ReadRoot, SetMark, DirtyCard, ClearCard, ReadMarks, ReadPhase, ReadOwn, ReadCat, StoreField, StoreRoot, ClaimBlock, ReleaseBlock, ReadFree, StoreNew, PublishCells, EnterStep, LeaveStep, RaiseStep, Observe, DropStep, StorePhase, NextBlock, NextOfCards, ReadBlockMarks, StoreAlloc, ClearMarks, ReadStat, StoreLength, ReadLength, OpenStep, JoinHelpStep, LeaveHelpStep, CloseStep, SeeHelp, ReadSeason, ExchangeField}
+use Rattle.mark_core.specs.declared.kinds.Step.TheVariants.{Reserve, Take, Give, Credit, Push, Pop, ReadAlloc, ReadField, ReadRoot, SetMark, DirtyCard, ClearCard, ReadMarks, ReadPhase, ReadOwn, ReadCat, StoreField, StoreRoot, ClaimBlock, ReleaseBlock, ReadFree, StoreNew, PublishCells, EnterStep, LeaveStep, RaiseStep, Observe, DropStep, StorePhase, NextBlock, NextOfCards, ReadBlockMarks, StoreAlloc, ClearMarks, ReadStat, StoreLength, ReadLength, OpenStep, JoinHelpStep, LeaveHelpStep, CloseStep, SeeHelp, ReadSeason, ExchangeField, LoadSlot, StoreSlot, ReadSlot}
 use Rattle.mark_core.specs.declared.seat.SeatState.{SeatState}
 use Rattle.mark_core.specs.declared.seat.BlockState.{BlockState}
 
@@ -94,6 +94,7 @@ changes_grasp (Pop p) = true
 changes_grasp (ReadAlloc b) = true
 changes_grasp (ReadField c i) = true
 changes_grasp (ReadRoot section v) = true
+changes_grasp (LoadSlot section k) = true
 changes_grasp (SetMark c) = true
 changes_grasp (DirtyCard card) = true
 changes_grasp (ClearCard card) = true
@@ -108,6 +109,7 @@ grasp-kept sh s (Pop p) old e = absurd (true≢false e)
 grasp-kept sh s (ReadAlloc b) old e = absurd (true≢false e)
 grasp-kept sh s (ReadField c i) old e = absurd (true≢false e)
 grasp-kept sh s (ReadRoot section v) old e = absurd (true≢false e)
+grasp-kept sh s (LoadSlot section k) old e = absurd (true≢false e)
 grasp-kept sh s (SetMark c) old e = absurd (true≢false e)
 grasp-kept sh s (DirtyCard card) old e = absurd (true≢false e)
 grasp-kept sh s (ClearCard card) old e = absurd (true≢false e)
@@ -170,12 +172,16 @@ abbrev pub changes_names : Step → Bool
 changes_names (ReadOwn c i) = true
 changes_names (ReadCat v) = true
 changes_names (StoreRoot v r) = true
+changes_names (StoreSlot k r) = true
+changes_names (ReadSlot k) = true
 changes_names step = false
 
 pub names-kept : (sh : Shape) (s : SeatState) (step : Step) (old : ℕ) → changes_names step ≡ false → names_of (seat_after sh s step old) ≡ names_of s
 names-kept sh s (ReadOwn c i) old e = absurd (true≢false e)
 names-kept sh s (ReadCat v) old e = absurd (true≢false e)
 names-kept sh s (StoreRoot v r) old e = absurd (true≢false e)
+names-kept sh s (StoreSlot k r) old e = absurd (true≢false e)
+names-kept sh s (ReadSlot k) old e = absurd (true≢false e)
 names-kept sh s step old e = refl
 
 -- the phase and the season that it has seen

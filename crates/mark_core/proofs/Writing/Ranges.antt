@@ -18,14 +18,21 @@ use Rattle.mark_core.specs.Laws.{stores_in_object}
 use Rattle.mark_core.specs.Seats.{block_in_hand}
 use Rattle.mark_core.specs.declared.kinds.Shape.{Shape}
 use Rattle.mark_core.specs.declared.kinds.Step.{Step}
-use Rattle.mark_core.specs.declared.kinds.Step.TheVariants.{Reserve, Take, Give, Push, Pop, Look, ReadAlloc, ReadField, ReadRoot, SetMark, DirtyCard, ClearCard, ReadMarks, ReadCard, ReadOwn, ReadValue, ReadIdent, ReadCat, StoreField, StoreValue, StoreRoot, ClaimBlock, ReleaseBlock, ReadFree, StoreNew, PublishCells, ReadBlockMarks, StoreAlloc, ClearMarks, WipeCard, StorePosition, Reset, AddStat, ReadStat, StoreLength, ReadLength, ExchangeField, ExchangeValue}
+use Rattle.mark_core.specs.declared.kinds.Step.TheVariants.{Reserve, Take, Give, Push, Pop, Look, ReadAlloc, ReadField, ReadRoot, SetMark, DirtyCard, ClearCard, ReadMarks, ReadCard, ReadOwn, ReadValue, ReadIdent, ReadCat, StoreField, StoreValue, StoreRoot, ClaimBlock, ReleaseBlock, ReadFree, StoreNew, PublishCells, ReadBlockMarks, StoreAlloc, ClearMarks, WipeCard, StorePosition, Reset, AddStat, ReadStat, StoreLength, ReadLength, ExchangeField, ExchangeValue, LoadSlot, StoreSlot, ReadSlot}
 use Rattle.mark_core.specs.declared.seat.SeatState.{SeatState}
 use Rattle.mark_core.specs.declared.seat.BlockState.{BlockState}
-use Rattle.mark_core.specs.Numbers.{done_count, first_position, last_count, named_number, traced_count}
+use Rattle.mark_core.specs.Numbers.{done_count, first_position, last_count, named_number, free_count}
 
 -- column l of row p, where there are n rows of e columns
 pub in-row : (p n e l : ℕ) → p < n → l < e → p * e + l < n * e
 in-row p n e l hp hl = grind (arith, mul-add-lt)
+
+-- a variable and a slot are roots
+in_roots : (sh : Shape) (section v : ℕ) → section < sh.sections → v < 32 → section * 32 + v < sh.sections * 32 + sh.sections * sh.slots
+in_roots sh section v h l = omega (arith, in-row section sh.sections 32 v h l)
+
+in_slots : (sh : Shape) (section k : ℕ) → section < sh.sections → k < sh.slots → sh.sections * 32 + (section * sh.slots + k) < sh.sections * 32 + sh.sections * sh.slots
+in_slots sh section k h l = omega (arith, in-row section sh.sections sh.slots k h l)
 
 -- the place exists
 abbrev pub IsPlace : Shape → ℕ × ℕ → Type 0
@@ -118,7 +125,8 @@ placed-by sh w seats s (Pop p) k ok =
 placed-by sh w seats s (Look q g) k ok = let a = and_parts _ _ ok.0 in in-row q 4 (pool_words sh) g (ltb-true _ _ a.0) (ltb-true _ _ a.1)
 placed-by sh w seats s (ReadAlloc b) k ok = first b (block_count sh) _ ok.0
 placed-by sh w seats s (ReadField c i) k ok = let a = first_two c sh.cells i sh.fields _ ok.0 in in-row c sh.cells sh.fields i a.0 a.1
-placed-by sh w seats s (ReadRoot section v) k ok = let a = first_two section sh.sections v 32 _ (and_parts _ _ ok.0).0 in in-row section sh.sections 32 v a.0 a.1
+placed-by sh w seats s (ReadRoot section v) k ok = let a = first_two section sh.sections v 32 _ (and_parts _ _ ok.0).0 in in_roots sh section v a.0 a.1
+placed-by sh w seats s (LoadSlot section j) k ok = let a = first_two section sh.sections j sh.slots _ (and_parts _ _ ok.0).0 in in_slots sh section j a.0 a.1
 placed-by sh w seats s (SetMark c) k ok = block-exists sh c k.shaped (first c sh.cells _ ok.0)
 placed-by sh w seats s (DirtyCard card) k ok = first card (card_count sh) _ ok.0
 placed-by sh w seats s (ClearCard card) k ok = first card (card_count sh) _ (and_parts _ _ ok.0).0
@@ -127,14 +135,16 @@ placed-by sh w seats s (ReadCard card) k ok = ltb-true _ _ ok.0
 placed-by sh w seats s (ReadOwn c i) k ok = let a = first_two c sh.cells i sh.fields _ ok.0 in in-row c sh.cells sh.fields i a.0 a.1
 placed-by sh w seats s (ReadValue c) k ok = first c sh.cells _ ok.0
 placed-by sh w seats s (ReadIdent c) k ok = first c sh.cells _ ok.0
-placed-by sh w seats s (ReadCat v) k ok = in-row 0 sh.sections 32 v (omega (arith, k.shaped.sections)) (first v 32 _ ok.0)
+placed-by sh w seats s (ReadCat v) k ok = in_roots sh 0 v (omega (arith, k.shaped.sections)) (first v 32 _ ok.0)
 placed-by sh w seats s (StoreField v i x) k ok =
     let a = first_two v 32 i sh.fields _ (and_parts _ _ ok.0).0 in in-row (cell_of (seat_variable s v)) sh.cells sh.fields i (variable_cell sh (seat_variable s v) _ k.shaped (k.env refl v) ok.1.0) a.1
 placed-by sh w seats s (ExchangeField v i x y) k ok =
     let a = first_two v 32 i sh.fields _ (and_parts _ _ ok.0).0 in in-row (cell_of (seat_variable s v)) sh.cells sh.fields i (variable_cell sh (seat_variable s v) _ k.shaped (k.env refl v) ok.1.0) a.1
 placed-by sh w seats s (StoreValue v n) k ok = variable_cell sh (seat_variable s v) _ k.shaped (k.env refl v) ok.1.0
 placed-by sh w seats s (ExchangeValue v m n) k ok = variable_cell sh (seat_variable s v) _ k.shaped (k.env refl v) ok.1.0
-placed-by sh w seats s (StoreRoot v r) k ok = in-row (unwrap_or s.section 0) sh.sections 32 v k.section (first v 32 _ ok.0)
+placed-by sh w seats s (StoreRoot v r) k ok = in_roots sh (unwrap_or s.section 0) v k.section (first v 32 _ ok.0)
+placed-by sh w seats s (StoreSlot j r) k ok = in_slots sh (unwrap_or s.section 0) j k.section (first j sh.slots _ ok.0)
+placed-by sh w seats s (ReadSlot j) k ok = in_slots sh (unwrap_or s.section 0) j k.section (first j sh.slots _ ok.0)
 placed-by sh w seats s (ClaimBlock b) k ok = first b (block_count sh) _ ok.0
 placed-by sh w seats s ReleaseBlock k ok = k.cache
 placed-by sh w seats s ReadFree k ok = k.cache
@@ -145,7 +155,7 @@ placed-by sh w seats s StoreAlloc k ok = k.block
 placed-by sh w seats s ClearMarks k ok = k.block
 placed-by sh w seats s (WipeCard card) k ok = first card (card_count sh) _ ok.0
 placed-by sh w seats s (StorePosition done) k ok = k.section
-placed-by sh w seats s (Reset which) k ok = counter_placed sh which k.shaped (omega (arith, leb-true which traced_count (and_parts _ _ (and_parts _ _ ok.0).0).0))
+placed-by sh w seats s (Reset which) k ok = counter_placed sh which k.shaped (omega (arith, leb-true which free_count (and_parts _ _ (and_parts _ _ ok.0).0).0))
 placed-by sh w seats s (AddStat which by down) k ok = counter_placed sh which k.shaped (omega (arith, leb-true which done_count (and_parts _ _ (and_parts _ _ ok.0).0).1))
 placed-by sh w seats s (ReadStat which) k ok = counter_placed sh which k.shaped (ltb-true _ _ ok.0)
 placed-by sh w seats s (StoreLength p) k ok = first p sh.packets _ ok.0

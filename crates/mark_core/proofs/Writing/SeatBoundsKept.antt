@@ -22,7 +22,7 @@ use Rattle.mark_core.proofs.Writing.SlotBounds.{choose, length-fits, put-fits, d
 use Rattle.mark_core.proofs.Writing.Ranges.{section-below}
 use Rattle.mark_core.specs.declared.kinds.Shape.{Shape}
 use Rattle.mark_core.specs.declared.kinds.Step.{Step}
-use Rattle.mark_core.specs.declared.kinds.Step.TheVariants.{Take, Give, Push, Pop, ReadAlloc, ReadOwn, ReadCat, StoreRoot, ClaimBlock, ReleaseBlock, ReadFree, StoreNew, PublishCells, NextBlock, ReadBlockMarks, StoreAlloc, ClearMarks, StoreLength, ReadLength, Reserve, ExchangeField}
+use Rattle.mark_core.specs.declared.kinds.Step.TheVariants.{Take, Give, Push, Pop, ReadAlloc, ReadOwn, ReadCat, StoreRoot, ClaimBlock, ReleaseBlock, ReadFree, StoreNew, PublishCells, NextBlock, ReadBlockMarks, StoreAlloc, ClearMarks, StoreLength, ReadLength, Reserve, ExchangeField, StoreSlot, ReadSlot}
 use Rattle.mark_core.specs.declared.seat.SeatState.{SeatState}
 use Rattle.mark_core.specs.declared.seat.CacheState.{CacheState}
 use Rattle.mark_core.specs.declared.seat.BlockState.{BlockState}
@@ -32,6 +32,7 @@ abbrev pub Finds : Shape → Step → ℕ → Type 0
 Finds sh (ReadLength p) old = old ≤ sh.entries
 Finds sh (ReadOwn c i) old = IsReference sh old
 Finds sh (ReadCat v) old = IsReference sh old
+Finds sh (ReadSlot k) old = IsReference sh old
 Finds sh (ExchangeField v i x y) old = IsReference sh old
 Finds sh step old = Unit {0}
 
@@ -106,6 +107,8 @@ got-after : (sh : Shape) (s : SeatState) (step : Step) (old : ℕ) → IsReferen
 got-after sh s (ReadOwn c i) old k f = reference_fits sh old f
 got-after sh s (ReadCat v) old k f = reference_fits sh old f
 got-after sh s (StoreRoot v r) old k f = omega arith
+got-after sh s (StoreSlot j r) old k f = omega arith
+got-after sh s (ReadSlot j) old k f = reference_fits sh old f
 got-after sh s step old k f = k
 
 free_fits : (sh : Shape) (o : Option CacheState) (old : ℕ) → IfSome o (CacheFits sh) → IfSome (with_free o old) (CacheFits sh)

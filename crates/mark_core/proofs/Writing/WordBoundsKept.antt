@@ -1,7 +1,7 @@
 -- The words from which seats learn lengths and references stay in range over a step that is allowed.
 use Rattle.mark_core.specs.Bits.{cell_of}
 use Rattle.std.proofs.Common.{ℕ, ◌≡◌, ◌+◌, ◌*◌, ◌<◌, ◌≤◌, List, set, get_or, length, arith, sym, ap, ◌∙◌, subst, true, false, eqb, ⊎_elim}
-use Rattle.std.specs.Prelude.{nat_lt}
+use Rattle.std.specs.Prelude.{nat_lt, unwrap_or}
 use Rattle.std.specs.List.{All}
 use Rattle.std.proofs.lemmas.Bool.{eqb-true, true≢false, cases_Bool}
 use Rattle.std.proofs.lemmas.List.{set-get_or}
@@ -22,7 +22,7 @@ use Rattle.mark_core.proofs.Writing.SlotBounds.{length-fits, choose}
 use Rattle.mark_core.proofs.Writing.SeatBoundsKept.{Finds, root-fits, or-nil-fits}
 use Rattle.mark_core.specs.declared.kinds.Shape.{Shape}
 use Rattle.mark_core.specs.declared.kinds.Step.{Step}
-use Rattle.mark_core.specs.declared.kinds.Step.TheVariants.{ReadField, ReadRoot, ReadOwn, ReadCat, StoreField, StoreRoot, StoreNew, Reset, AddStat, ReadStat, StoreLength, ReadLength, ExchangeField}
+use Rattle.mark_core.specs.declared.kinds.Step.TheVariants.{ReadField, ReadRoot, ReadOwn, ReadCat, StoreField, StoreRoot, StoreNew, Reset, AddStat, ReadStat, StoreLength, ReadLength, ExchangeField, LoadSlot, StoreSlot, ReadSlot}
 use Rattle.mark_core.specs.declared.seat.SeatState.{SeatState}
 
 -- a word of a region where all are in range
@@ -38,6 +38,7 @@ finds sh ws s (ReadLength p) k h l = read_fits sh ws 7 p sh.entries k.heads h l
 finds sh ws s (ReadOwn c i) k h l = read_fits sh ws 11 (c * sh.fields + i) sh.cells k.fields h l
 finds sh ws s (ExchangeField v i x y) k h l = read_fits sh ws 11 (cell_of (seat_variable s v) * sh.fields + i) sh.cells k.fields h l
 finds sh ws s (ReadCat v) k h l = read_fits sh ws 2 (0 * 32 + v) sh.cells k.roots h l
+finds sh ws s (ReadSlot j) k h l = read_fits sh ws 2 (sh.sections * 32 + (unwrap_or s.section 0 * sh.slots + j)) sh.cells k.roots h l
 finds sh ws s step k h l = tt
 
 field_kept : (sh : Shape) (w : Words) (i v : ℕ) → WordBounds sh w → IsReference sh v → WordBounds sh (put_word (11, i) v w)
@@ -59,6 +60,7 @@ counter_kept sh w which v k = at_counter (λ at. WordBounds sh (put_word at v w)
 write_kept : (sh : Shape) (w : Words) (seats : List SeatState) (s : SeatState) (step : Step) (old : ℕ) → Finds sh step old → WordBounds sh w → SeatBounds sh s → AllTrue (parts sh w seats s step) → only_reads step ≡ false → WordBounds sh (put_word (place sh s step) (written sh s step old) w)
 write_kept sh w seats s (StoreLength p) old g k b ok e = record { heads = All-set (λ n. n ≤ sh.entries) w.heads p (length_in_hand s.held p) (length-fits sh.entries s.held p b.held) k.heads; roots = k.roots; fields = k.fields }
 write_kept sh w seats s (StoreRoot v r) old g k b ok e = record { heads = k.heads; roots = All-set (IsReference sh) w.roots _ r (root-fits sh s r b ok.1.0) k.roots; fields = k.fields }
+write_kept sh w seats s (StoreSlot j r) old g k b ok e = record { heads = k.heads; roots = All-set (IsReference sh) w.roots _ r (root-fits sh s r b ok.1.0) k.roots; fields = k.fields }
 write_kept sh w seats s (StoreField v i x) old g k b ok e = field_kept sh w _ (variable_or_nil s x) k (or-nil-fits sh s x b.env)
 write_kept sh w seats s (ExchangeField v i x y) old g k b ok e = field_kept sh w _ _ k (choose (IsReference sh) (eqb old (variable_or_nil s x)) (variable_or_nil s y) old (or-nil-fits sh s y b.env) g)
 write_kept sh w seats s (StoreNew c part word) old g k b ok e = new_kept sh w s c part word k ok.1.1.0
@@ -70,6 +72,8 @@ write_kept sh w seats s (ReadField c i) old g k b ok e = absurd (true≢false e)
 write_kept sh w seats s (ReadOwn c i) old g k b ok e = absurd (true≢false e)
 write_kept sh w seats s (ReadRoot section v) old g k b ok e = absurd (true≢false e)
 write_kept sh w seats s (ReadCat v) old g k b ok e = absurd (true≢false e)
+write_kept sh w seats s (LoadSlot section j) old g k b ok e = absurd (true≢false e)
+write_kept sh w seats s (ReadSlot j) old g k b ok e = absurd (true≢false e)
 write_kept sh w seats s step old g k b ok e = record { heads = k.heads; roots = k.roots; fields = k.fields }
 
 -- the words after a step

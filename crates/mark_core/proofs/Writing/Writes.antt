@@ -9,7 +9,7 @@ use Rattle.mark_core.specs.Effects.{place, written}
 use Rattle.mark_core.proofs.Writing.Ranges.{either}
 use Rattle.mark_core.specs.declared.kinds.Shape.{Shape}
 use Rattle.mark_core.specs.declared.kinds.Step.{Step}
-use Rattle.mark_core.specs.declared.kinds.Step.TheVariants.{Reserve, Credit, Pop, Look, ReadCount, ReadAlloc, ReadField, ReadRoot, ReadMarks, ReadCard, ReadPhase, ReadOwn, ReadValue, ReadIdent, ReadCat, ReadFree, StoreNew, EnterStep, LeaveStep, RaiseStep, Observe, DropStep, StorePhase, Split, Join, NextBlock, NextOfCards, ReadBlockMarks, Reset, AddStat, ReadStat, ReadLength, OpenStep, JoinHelpStep, LeaveHelpStep, CloseStep, SeeHelp, ReadSeason, NextSeason}
+use Rattle.mark_core.specs.declared.kinds.Step.TheVariants.{Reserve, Credit, Pop, Look, ReadCount, ReadAlloc, ReadField, ReadRoot, ReadMarks, ReadCard, ReadPhase, ReadOwn, ReadValue, ReadIdent, ReadCat, ReadFree, StoreNew, EnterStep, LeaveStep, RaiseStep, Observe, DropStep, StorePhase, Split, Join, NextBlock, NextOfCards, ReadBlockMarks, Reset, AddStat, ReadStat, ReadLength, OpenStep, JoinHelpStep, LeaveHelpStep, CloseStep, SeeHelp, ReadSeason, NextSeason, LoadSlot, ReadSlot}
 use Rattle.mark_core.specs.declared.seat.SeatState.{SeatState}
 use Rattle.mark_core.specs.Numbers.{last_count, named_number}
 
@@ -21,6 +21,7 @@ only_reads ReadCount = true
 only_reads (ReadAlloc b) = true
 only_reads (ReadField c i) = true
 only_reads (ReadRoot section v) = true
+only_reads (LoadSlot section k) = true
 only_reads (ReadMarks b) = true
 only_reads (ReadCard card) = true
 only_reads ReadPhase = true
@@ -28,6 +29,7 @@ only_reads (ReadOwn c i) = true
 only_reads (ReadValue c) = true
 only_reads (ReadIdent c) = true
 only_reads (ReadCat v) = true
+only_reads (ReadSlot k) = true
 only_reads ReadFree = true
 only_reads Observe = true
 only_reads Split = true
@@ -46,6 +48,7 @@ read-written sh s ReadCount old e = refl
 read-written sh s (ReadAlloc b) old e = refl
 read-written sh s (ReadField c i) old e = refl
 read-written sh s (ReadRoot section v) old e = refl
+read-written sh s (LoadSlot section k) old e = refl
 read-written sh s (ReadMarks b) old e = refl
 read-written sh s (ReadCard card) old e = refl
 read-written sh s ReadPhase old e = refl
@@ -53,6 +56,7 @@ read-written sh s (ReadOwn c i) old e = refl
 read-written sh s (ReadValue c) old e = refl
 read-written sh s (ReadIdent c) old e = refl
 read-written sh s (ReadCat v) old e = refl
+read-written sh s (ReadSlot k) old e = refl
 read-written sh s ReadFree old e = refl
 read-written sh s Observe old e = refl
 read-written sh s Split old e = refl

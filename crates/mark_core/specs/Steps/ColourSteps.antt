@@ -1,7 +1,7 @@
 -- The steps of tracing: kinds 9 to 16. They turn white cells grey and grey cells black, and clean cards.
 use Rattle.std.specs.Prelude.{ℕ, ◌+◌, ◌/◌, ◌%◌, List, [], ◌∷◌, Bool, true, false, not, ◌&&◌, ◌||◌, if◌then◌else◌, ◌==◌, nat_lt, is_some, Some, None, Option, bit_and}
 use Rattle.mark_core.specs.Layout.{block_count, card_count}
-use Rattle.mark_core.specs.Places.{the_phase, root_at, alloc_at, mark_at, card_at, field_at}
+use Rattle.mark_core.specs.Places.{the_phase, root_at, slot_at, alloc_at, mark_at, card_at, field_at}
 use Rattle.mark_core.specs.Bits.{has_bit, with_bit, without_bit, complement, cell_named}
 use Rattle.mark_core.specs.Held.{holds_any}
 use Rattle.mark_core.specs.Seats.{phase_of, may_trace, work_in_hand, takes_part, is_the, scan_left, scans, may_scan}
@@ -82,6 +82,15 @@ read_root_parts sh phase s section v =
 -- 10: the cell that the root names is the value to mark
 abbrev pub read_root_effect : SeatState → ℕ → ℕ → Effect
 read_root_effect s section v = reads (root_at section v) (λ old. record s { value = cell_named old })
+
+-- 10: a tracer loads a slot
+abbrev pub load_slot_parts : Shape → ℕ → SeatState → ℕ → ℕ → List Bool
+load_slot_parts sh phase s section k =
+    (nat_lt section sh.sections && nat_lt k sh.slots && may_trace phase s && holds_any s.held) ∷ not (work_in_hand sh.fields s) ∷ []
+
+-- 10: the cell that the slot names is the value to mark
+abbrev pub load_slot_effect : Shape → SeatState → ℕ → ℕ → Effect
+load_slot_effect sh s section k = reads (slot_at sh section k) (λ old. record s { value = cell_named old })
 
 -- 11: a tracer marks the cell that it loaded, which is fresh where it was white
 abbrev pub set_mark_parts : Shape → ℕ → SeatState → ℕ → List Bool

@@ -1,8 +1,8 @@
--- The steps of a mutator: kinds 17 to 24, 50 and 51. They read and change objects and roots, and make cells in a cached block.
+-- The steps of a mutator: kinds 17 to 24, and 50 to 53. They read and change objects and roots, and make cells in a cached block.
 use Rattle.std.specs.Prelude.{ℕ, ◌+◌, ◌-◌, ◌*◌, ◌/◌, ◌%◌, List, [], ◌∷◌, Bool, true, false, not, ◌&&◌, ◌||◌, if◌then◌else◌, ◌==◌, nat_lt, nat_le, is_some, is_none, Some, None, Option, unwrap_or, slice_index, slice_set, bit_or}
 use Rattle.std.specs.List.{list_any}
 use Rattle.mark_core.specs.Layout.{block_count}
-use Rattle.mark_core.specs.Places.{root_at, owner_at, alloc_at, identity_at, value_at, field_at}
+use Rattle.mark_core.specs.Places.{root_at, slot_at, owner_at, alloc_at, identity_at, value_at, field_at}
 use Rattle.mark_core.specs.Bits.{with_bit, without_bit, complement, cell_of, reference_in}
 use Rattle.mark_core.specs.Seats.{is_phase, is_the, may_mutate, free_in, used_in, has_used, is_unread, has_making, makes, last_made, cache_block}
 use Rattle.mark_core.specs.Effect.{Effect, reads, stores, changes}
@@ -123,6 +123,22 @@ exchange_value_parts sh s v n = (nat_lt v section_variables && nat_lt n value_bo
 -- 51: where the value was m it is n
 abbrev pub exchange_value_effect : SeatState → ℕ → ℕ → ℕ → Effect
 exchange_value_effect s v m n = changes (value_at (cell_of (seat_variable s v))) (λ old. if old == m then n else old) (λ old. s)
+
+-- 52: a mutator stores a reference in a slot of its section
+abbrev pub store_slot_parts : Shape → SeatState → ℕ → ℕ → List Bool
+store_slot_parts sh s k r = (nat_lt k sh.slots && may_mutate s) ∷ has_reference s r ∷ (is_none s.owes && not (has_making s.cache)) ∷ []
+
+-- 52: the slot has the reference, and the register is empty
+abbrev pub store_slot_effect : Shape → SeatState → ℕ → ℕ → Effect
+store_slot_effect sh s k r = stores (slot_at sh (unwrap_or s.section 0) k) r (record s { got = 0 })
+
+-- 53: a mutator reads a slot of its section
+abbrev pub read_slot_parts : Shape → SeatState → ℕ → List Bool
+read_slot_parts sh s k = (nat_lt k sh.slots && may_mutate s) ∷ []
+
+-- 53: the register has the reference in the slot
+abbrev pub read_slot_effect : Shape → SeatState → ℕ → Effect
+read_slot_effect sh s k = reads (slot_at sh (unwrap_or s.section 0) k) (λ old. record s { got = reference_in old })
 
 -- 20: a seat with a section takes a block for itself to make cells in
 abbrev pub claim_block_parts : Shape → ℕ → SeatState → ℕ → List Bool

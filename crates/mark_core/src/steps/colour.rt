@@ -1,7 +1,7 @@
 //! The steps of tracing. They turn white cells grey and grey cells black, and clean cards.
 ghost use Rattle.std.specs.Prelude.{◌≡◌, ◌<◌, ◌+◌, if◌then◌else◌};
 ghost use Rattle.mark_core.specs.Bits.{cell_named};
-ghost use Rattle.mark_core.specs.Steps.ColourSteps.{without_cell, redirty_off, popped_after as popped_after_of, scan_after as scan_after_of, with_alloc_word as with_alloc_word_of, fresh_off as fresh_off_of, popped_off as popped_off_of, read_alloc_parts, read_alloc_effect, read_field_parts, read_root_parts, set_mark_parts, set_mark_effect, dirty_card_parts, clear_card_parts, clear_card_effect, read_marks_parts, read_marks_effect, read_card_parts, read_phase_effect};
+ghost use Rattle.mark_core.specs.Steps.ColourSteps.{without_cell, redirty_off, popped_after as popped_after_of, scan_after as scan_after_of, with_alloc_word as with_alloc_word_of, fresh_off as fresh_off_of, popped_off as popped_off_of, read_alloc_parts, read_alloc_effect, read_field_parts, read_root_parts, load_slot_parts, set_mark_parts, set_mark_effect, dirty_card_parts, clear_card_parts, clear_card_effect, read_marks_parts, read_marks_effect, read_card_parts, read_phase_effect};
 ghost use Rattle.mark_core.specs.Seats.{is_the as is_the_number};
 ghost use Rattle.mark_core.specs.Steps.{first_false as first_false_of};
 
@@ -104,6 +104,19 @@ pub fn check_read_root(shape: &Shape, phase: u64, s: &SeatState, section: u32, v
     first_false(&[
         section < shape.sections
             && v < VARIABLES
+            && may_trace(phase, s)
+            && slots::holds_any(s.held),
+        !hand::work_in_hand(shape.fields, s),
+    ])
+}
+
+/// Kind 10: as a root that is a variable.
+pub fn check_load_slot(shape: &Shape, phase: u64, s: &SeatState, section: u32, k: u16) -> Option<u8>
+    ensures { result ≡ first_false_of 1 (load_slot_parts shape.now phase s.now section k) }
+{
+    first_false(&[
+        section < shape.sections
+            && u32::from(k) < shape.slots
             && may_trace(phase, s)
             && slots::holds_any(s.held),
         !hand::work_in_hand(shape.fields, s),

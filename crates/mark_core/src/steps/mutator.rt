@@ -3,7 +3,7 @@ ghost use Rattle.std.specs.Prelude.{◌≡◌, ◌<◌, ◌-◌, ◌/◌, ◌==�
 ghost use Rattle.std.specs.List.{list_any};
 ghost use Rattle.mark_core.specs.Bits.{cell_of, reference_in};
 ghost use Rattle.mark_core.specs.Cards.{card_of as card_of_cell};
-ghost use Rattle.mark_core.specs.Steps.MutatorSteps.{read_object_parts, read_own_parts, read_cat_parts, store_field_parts, store_value_parts, store_root_parts, exchange_field_parts, exchange_value_parts};
+ghost use Rattle.mark_core.specs.Steps.MutatorSteps.{read_object_parts, read_own_parts, read_cat_parts, store_field_parts, store_value_parts, store_root_parts, store_slot_parts, read_slot_parts, exchange_field_parts, exchange_value_parts};
 ghost use Rattle.mark_core.specs.Steps.MutatorSteps.{knows_cell as knows_cell_of, seat_variable as variable_of, may_change as may_change_of, in_variables as in_variables_of, variable_or_nil as variable_or_nil_of, names_last as names_last_of, has_reference as has_reference_of};
 ghost use Rattle.mark_core.specs.Seats.{used_in};
 ghost use Rattle.mark_core.specs.Steps.{first_false as first_false_of};
@@ -254,4 +254,31 @@ pub fn store_root(s: &mut SeatState, v: u8, r: u64) -> u64
     set_variable(&mut s.env, v, bits::reference_in(r));
     s.got = 0;
     r
+}
+
+/// Kind 52: as a store in a variable.
+pub fn check_store_slot(shape: &Shape, s: &SeatState, k: u16, r: u64) -> Option<u8>
+    ensures { result ≡ first_false_of 1 (store_slot_parts shape.now s.now k r) }
+{
+    first_false(&[
+        u32::from(k) < shape.slots && may_mutate(s),
+        has_reference(s, r),
+        s.owes.is_none() && !hand::has_making(s.cache),
+    ])
+}
+
+/// Kind 52: the register is nil.
+pub fn store_slot(s: &mut SeatState, r: u64) -> u64
+    ensures word { result ≡ r }
+    ensures seat { s.new ≡ record s.old { got = 0 } }
+{
+    s.got = 0;
+    r
+}
+
+/// Kind 53: outside its turn a seat has no register that would keep what was read.
+pub fn check_read_slot(shape: &Shape, s: &SeatState, k: u16) -> Option<u8>
+    ensures { result ≡ first_false_of 1 (read_slot_parts shape.now s.now k) }
+{
+    first_false(&[u32::from(k) < shape.slots && may_mutate(s)])
 }

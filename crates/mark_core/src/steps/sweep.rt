@@ -9,7 +9,7 @@ use crate::failing_part::first_false;
 use crate::hand;
 use crate::kinds::{Phase, Shape};
 use crate::layout::{block_count, card_count};
-use crate::numbers::{BLOCK_COUNTER, CARD_COUNTER, DONE, FIRST_POSITION, LAST, TRACED};
+use crate::numbers::{BLOCK_COUNTER, CARD_COUNTER, DONE, FIRST_POSITION, FREE, LAST};
 use crate::seat::{BlockState, SeatState};
 use crate::standing::{is_phase, may_clear, may_sweep, may_trace, takes_part};
 
@@ -169,7 +169,7 @@ pub fn check_reset(phase: u64, s: &SeatState, which: u8) -> Option<u8>
     ensures { result ≡ first_false_of 1 (reset_parts phase s.now which) }
 {
     let in_time = is_phase(phase, Phase::Idle) || is_phase(phase, Phase::Drain);
-    first_false(&[which <= TRACED && s.alone && in_time])
+    first_false(&[which <= FREE && s.alone && in_time])
 }
 
 /// Kind 39: a statistic would change under the seat that has stopped the world, and DONE counts parts, which end one at a time.

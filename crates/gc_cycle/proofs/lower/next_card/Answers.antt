@@ -3,7 +3,7 @@ use Rattle.std.specs.Prelude.{nat_le, nat_lt, if◌then◌else◌, ◌||◌, ◌
 use Rattle.std.proofs.lemmas.Bool.{and_from, false≢true, le-leb, ltb-false, ltb-true, or_left, or_right}
 use Rattle.mark_core.specs.Layout.{card_count}
 use Rattle.mark_core.specs.declared.kinds.Step.{Step}
-use Rattle.mark_core.specs.declared.kinds.Step.TheVariants.{ClearCard, NextOfCards, Pop, ReadField, ReadRoot}
+use Rattle.mark_core.specs.declared.kinds.Step.TheVariants.{ClearCard, NextOfCards, Pop, ReadField, ReadRoot, LoadSlot}
 use Rattle.mark_core.specs.Steps.WorldSteps.{has_nothing}
 use Rattle.mark_core.specs.declared.kinds.Shape.{Shape}
 use Rattle.mark_core.specs.declared.seat.SeatState.{SeatState}
@@ -73,6 +73,7 @@ unpops step n e = refl
 
 unroots : Spares draws_card reads_root
 unroots (ReadRoot section v) n e = absurd (false≢true e)
+unroots (LoadSlot section k) n e = absurd (false≢true e)
 unroots step n e = refl
 
 by_test : (n : ℕ) (v w : View) → Draws n v w → (b : Bool) → nat_lt n (card_count v.shape) ≡ b → GivesCard (if b then Some n else None) v w

@@ -55,7 +55,7 @@ invariant_of-self c =
     let r : Ready core c.args.event.now c.index.result.now = ready core c.args.event.now c.index.result.now c.self.invariant.0 (subst P (sym c.self.view_is) c.requires) c.index.ensures in
     let d = done core c.args.event.now c.index.result.now c.act-word.new.s c.address-at.result c.index-old.result.now c.act-word.result c.change_others.new.seats.items r c.index.ensures c.address-at.ensures c.index-old.ensures c.act-word.ensures.word c.act-word.ensures.seat c.change_others.ensures.seats in
     let after : core_of c.self.inside.shape (set c.self.inside.words.items c.address-at.result c.act-word.result) c.change_others.new.seats.items ≡ after_event core c.args.event.now = d ∙ sym r.after in
-    let fits : NumbersFit c.args.event.now.step = numbers-fit c.self.inside.shape c.index.result.now c.args.event.now.step c.index-old.result.now c.act-word.result c.act-word.ensures.word c.act-word.type_inv in
+    let fits : NumbersFit c.args.event.now.step = numbers-fit c.self.inside.shape c.index.result.now c.args.event.now.step c.index-old.result.now c.act-word.result c.act-word.ensures.word c.act-word.type_inv c.has_value.ensures in
     (subst IsBounded (sym d) r.bounded, c.change_others.ensures.room, subst IsCore (sym after) (core-kept core c.args.event.now c.self.invariant.2 fits (subst P (sym c.self.view_is) c.requires)))
 
 pub returns : goal.returns
