@@ -1,10 +1,11 @@
 -- What the events of a pass over cards tell that cleans the dirty ones.
-use Rattle.std.specs.Prelude.{ℕ, zero, suc, ◌≡◌, ◌<◌, ◌+◌, ◌-◌, ◌⊎◌, List, [], ◌∷◌, ◌++◌}
+use Rattle.std.specs.Prelude.{ℕ, zero, suc, ◌≡◌, ◌<◌, ◌+◌, ◌-◌, ◌*◌, ◌/◌, ◌%◌, ◌⊎◌, min, List, [], ◌∷◌, ◌++◌, IsTrue}
 use Rattle.mark_core.specs.Layout.{card_count}
 use Rattle.mark_core.specs.declared.kinds.Shape.{Shape}
 use Rattle.mark_core.specs.declared.kinds.Step.TheVariants.{ReadCard}
 use Rattle.gc_table.specs.declared.view.Entry.{Entry}
 use Rattle.gc_table.specs.Log.{event}
+use Rattle.packet_pools.specs.Seeking.{only_moves, output_pools}
 use Rattle.card_clean.specs.declared.cleaned.Cleaned.{Cleaned}
 use Rattle.card_clean.specs.Cleaning.{Cleans}
 use Rattle.card_clean.specs.Looking.{looks_clean, looks_dirty}
@@ -25,3 +26,28 @@ abbrev pub CleansDirty : Shape → ℕ → List Entry → Type 0
 CleansDirty sh n es =
     ((n ≡ 0) × (es ≡ looks_clean 0 (card_count sh)))
     ⊎ ((card : ℕ) × (card < card_count sh) × (rest : List Entry) × (es ≡ looks_dirty 0 card ++ rest) × (((n ≡ 0) × NoPacket sh rest) ⊎ CleansWithPacket (CleanedFrom sh card (card_count sh - card) n) rest))
+
+-- so many cards are passed with one packet
+abbrev pub stretch_cards : ℕ
+stretch_cards = 4096
+
+-- so many stretches have all cards of a heap
+abbrev pub stretch_count : Shape → ℕ
+stretch_count sh = (card_count sh + (stretch_cards - 1)) / stretch_cards
+
+-- stretch s was passed with a packet, and each of its cards was seen clean, or seen dirty and cleaned; or no packet was found for it
+abbrev pub CleansStretch : Shape → ℕ → ℕ → List Entry → Type 0
+CleansStretch sh s n es =
+    ((n ≡ 0) × NoPacket sh es × IsTrue (only_moves output_pools es))
+    ⊎ CleansWithPacket (CleanedFrom sh (s * stretch_cards) (min (s * stretch_cards + stretch_cards) (card_count sh) - s * stretch_cards) n) es
+
+-- so many stretches from this one on, and round where the cards end, were passed in order; in all, n cells were scanned again
+abbrev pub CleansStretches : Shape → ℕ → ℕ → ℕ → List Entry → Type 0
+CleansStretches sh first zero n es = (n ≡ 0) × (es ≡ [])
+CleansStretches sh first (suc k) n es =
+    (a b : ℕ) × (xs ys : List Entry) × (es ≡ xs ++ ys) × (n ≡ a + b) × CleansStretches sh first k a xs × CleansStretch sh ((first + k) % stretch_count sh) b ys
+
+-- all stretches were passed, from one of them on and round
+pub record CleansRound (sh : Shape) (n : ℕ) (es : List Entry) : Type 0 where
+  pub first : ℕ
+  pub passed : CleansStretches sh first (stretch_count sh) n es

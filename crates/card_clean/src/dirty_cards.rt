@@ -1,5 +1,5 @@
 //! A look at every card, and a pass over all cards that cleans the dirty ones.
-ghost use Rattle.std.specs.Prelude.{◌≡◌, ◌<◌, ◌≤◌, ◌-◌, IsTrue, IsFalse, IfSome, IfNone};
+ghost use Rattle.std.specs.Prelude.{◌≡◌, ◌<◌, ◌≤◌, ◌-◌, ◌*◌, IsTrue, IsFalse, IfSome, IfNone};
 ghost use Rattle.mark_core.specs.Cards.{card_cells};
 ghost use Rattle.mark_core.specs.Layout.{card_count};
 ghost use Rattle.mark_core.specs.Held.{has_free_slot};
@@ -10,7 +10,7 @@ ghost use Rattle.packet_pools.specs.Tracing.{IsTracer};
 ghost use Rattle.packet_pools.specs.Hands.{HoldsPacket};
 ghost use Rattle.packet_pools.specs.Scanning.{Fills};
 ghost use Rattle.card_clean.specs.Leaving.{rescanned_in};
-ghost use Rattle.card_clean.specs.DirtyCards.{CleanedFrom, CleanedWhereDirty, CleansDirty};
+ghost use Rattle.card_clean.specs.DirtyCards.{CleanedFrom, CleanedWhereDirty, CleansDirty, CleansRound, CleansStretch, stretch_cards, stretch_count};
 ghost use Rattle.card_clean.specs.Drained.{AreNotedClean};
 ghost use Rattle.card_clean.specs.Looking.{KeepsAllNotes, looks_clean, looks_dirty};
 ghost use Rattle.packet_pools.specs.Hands.{free_slots};
@@ -61,21 +61,22 @@ fn clean_where_dirty(heap: &Heap, seat: &mut HeapSeat, card: u32, out: &mut Held
     cleaned.rescanned
 }
 
-/// Looks at each card from this one on, and cleans those that are dirty: how many cells were scanned again. A clean card costs one look.
-fn clean_from(heap: &Heap, seat: &mut HeapSeat, from: u32, out: &mut Held) -> u32
+/// Looks at each of these cards, and cleans those that are dirty: how many cells were scanned again. A clean card costs one look.
+fn clean_between(heap: &Heap, seat: &mut HeapSeat, first: u32, end: u32, out: &mut Held) -> u32
     requires seat { IsTracer heap.now seat.old }
+    requires cards { (first ≤ end) × (end ≤ card_count heap.now.shape) }
     requires out { HoldsPacket out.old (view_of seat.old) × IsTrue (has_free_slot (state_of seat.old).held) }
     requires work { IsFalse (work_in_hand heap.now.shape.fields (state_of seat.old)) }
     ensures seat { IsTracer heap.now seat.new }
     ensures only { Across OnlyCleaned seat.old seat.new }
     ensures out { Across (Fills out.old out.new) seat.old seat.new }
     ensures work { IsFalse (work_in_hand heap.now.shape.fields (state_of seat.new)) }
-    ensures most { result ≤ heap.now.shape.cells }
+    ensures most { result ≤ card_cells * (end - first) }
     ensures left { rescanned_in (view_of seat.old) (did seat.old seat.new) ≡ result }
-    ensures cleans { CleanedFrom heap.now.shape from (card_count heap.now.shape - from) result (did seat.old seat.new) }
+    ensures cleans { CleanedFrom heap.now.shape first (end - first) result (did seat.old seat.new) }
 {
     let mut rescanned = 0;
-    for card in from..heap.shape().cells / CARD_CELLS {
+    for card in first..end {
         rescanned += clean_where_dirty(heap, seat, card, out);
     }
     rescanned
@@ -102,7 +103,68 @@ pub fn clean_dirty(heap: &Heap, seat: &mut HeapSeat) -> u32
     let Some(mut out) = take_some(heap, seat) else {
         return 0;
     };
-    let rescanned = clean_from(heap, seat, card, &mut out);
+    let rescanned = clean_between(heap, seat, card, heap.shape().cells / CARD_CELLS, &mut out);
     give(heap, seat, out, false);
+    rescanned
+}
+
+/// How many cards are passed with one packet.
+const STRETCH: u32 = 4_096;
+
+/// Looks at each card of a stretch, and cleans those that are dirty, with a packet that it takes for it: how many cells were scanned again.
+fn clean_stretch(heap: &Heap, seat: &mut HeapSeat, s: u32) -> u32
+    requires seat { IsTracer heap.now seat.old }
+    requires stretch { s < stretch_count heap.now.shape }
+    requires free { 2 ≤ free_slots (state_of seat.old).held }
+    requires work { IsFalse (work_in_hand heap.now.shape.fields (state_of seat.old)) }
+    ensures seat { IsTracer heap.now seat.new }
+    ensures only { Across OnlyCleaned seat.old seat.new }
+    ensures held { (state_of seat.new).held ≡ (state_of seat.old).held }
+    ensures work { IsFalse (work_in_hand heap.now.shape.fields (state_of seat.new)) }
+    ensures most { result ≤ card_cells * stretch_cards }
+    ensures left { rescanned_in (view_of seat.old) (did seat.old seat.new) ≡ result }
+    ensures cleans { CleansStretch heap.now.shape s result (did seat.old seat.new) }
+{
+    let Some(mut out) = take_some(heap, seat) else {
+        return 0;
+    };
+    let first = s * STRETCH;
+    let end = (first + STRETCH).min(heap.shape().cells / CARD_CELLS);
+    let rescanned = clean_between(heap, seat, first, end, &mut out);
+    give(heap, seat, out, false);
+    rescanned
+}
+
+/// The stretch with which a seat begins: seats spread over all of them.
+fn first_stretch(number: u32, sections: u32, stretches: u32) -> u32
+    requires stretches { 0 < stretches }
+    ensures { result < stretches }
+{
+    let spread = u64::from(number) * u64::from(stretches) / u64::from(sections.max(1));
+    (spread % u64::from(stretches)) as u32
+}
+
+/// Looks at each card, from one of its own on and round, and cleans those that are dirty, beside others that begin elsewhere: how many cells were scanned
+/// again. A stretch of cards for which no packet is found is left as it is. The seat may trace, has no work in hand, and holds at most two packets.
+///
+/// A clean card costs one look, and no seat waits for another: a card that two of them find dirty is cleaned twice. A card may be dirty again afterwards, as
+/// [`clean_card`](crate::clean_card) says.
+pub fn clean_dirty_round(heap: &Heap, seat: &mut HeapSeat) -> u32
+    requires seat { IsTracer heap.now seat.old }
+    requires free { 2 ≤ free_slots (state_of seat.old).held }
+    requires work { IsFalse (work_in_hand heap.now.shape.fields (state_of seat.old)) }
+    ensures seat { IsTracer heap.now seat.new }
+    ensures only { Across OnlyCleaned seat.old seat.new }
+    ensures held { (state_of seat.new).held ≡ (state_of seat.old).held }
+    ensures work { IsFalse (work_in_hand heap.now.shape.fields (state_of seat.new)) }
+    ensures left { rescanned_in (view_of seat.old) (did seat.old seat.new) ≡ result }
+    ensures cleans { CleansRound heap.now.shape result (did seat.old seat.new) }
+{
+    let stretches = (heap.shape().cells / CARD_CELLS).div_ceil(STRETCH);
+    let begin = first_stretch(seat.state().number, heap.shape().sections, stretches);
+    let mut rescanned = 0;
+    for i in 0..stretches {
+        rescanned += clean_stretch(heap, seat, (begin + i) % stretches);
+    }
     rescanned
 }

@@ -55,7 +55,7 @@ pub use barrier::{store_ref, store_value};
 pub use card_pass::next_card;
 pub use cleaned::Cleaned;
 pub use cleaning::clean_card;
-pub use dirty_cards::clean_dirty;
+pub use dirty_cards::{clean_dirty, clean_dirty_round};
 pub use drain_end::is_drained;
 pub use one_card::clean_one;
 pub use roots::see_to_roots;

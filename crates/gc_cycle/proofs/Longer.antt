@@ -1,5 +1,5 @@
 -- What holds at a moment of one call holds of it and a further call together.
-use Rattle.std.proofs.Common.{ℕ, ◌≡◌, ◌+◌, List, ◌++◌, refl, ap, ◌∙◌, subst, Bool, true, not, ◌&&◌}
+use Rattle.std.proofs.Common.{ℕ, ◌≡◌, List, ◌++◌, refl, ap, ◌∙◌, subst, Bool, true, not, ◌&&◌}
 use Rattle.std.specs.List.{range_with_len}
 use Rattle.std.proofs.lemmas.Bool.{and_from, and_parts}
 use Rattle.mark_core.specs.Held.{holds_any}

@@ -15,9 +15,9 @@ use Rattle.gc_table.specs.declared.view.View.{View}
 use Rattle.packet_pools.specs.Tracing.{traces}
 use Rattle.gc_table.specs.Running.{ends_alone, Ran}
 use Rattle.gc_table.specs.Log.{events}
-use Rattle.gc_table.proofs.History.Log.{only-more}
+use Rattle.gc_table.proofs.History.Log.{only-more, only-none}
 use Rattle.gc_table.proofs.Noticing.{alone-kept}
-use Rattle.gc_table.proofs.Running.{ran-join}
+use Rattle.gc_table.proofs.Running.{ran-join, ran-refl}
 use Rattle.gc_cycle.specs.Finishing.{DrainsInStop, IsAloneIn, IsOpen, IsOpenPart, IsPart, stays_in}
 use Rattle.gc_cycle.specs.Lower.{HasTraced, traces_or_cleans}
 use Rattle.gc_cycle.specs.Standing.{is_at_rest}
@@ -151,6 +151,10 @@ drains-rest v d = nothing-rest v.shape v.state (⊎_elim (λ (a : IsAloneIn Drai
 
 pub drains-on : (v w : View) → DrainsInStop v → HasTraced v w → DrainsInStop w
 drains-on v w d t = ⊎_elim (λ (a : IsAloneIn Drain v). inl (traced-part v w a t).alone) (λ (o : IsOpen Drain v). inr (traced-open v w o t).still) d
+
+-- nothing was done
+pub traced-nothing-done : (v : View) → is_at_rest v.shape v.state ≡ true → HasTraced v v
+traced-nothing-done v r = record { ran = ran-refl v; only = only-none traces_or_cleans v; rest = r; record_is = refl; rooted = λ k. k }
 
 -- the third of three calls rescans, as one
 pub rescans-last : (u v w x : View) (n : ℕ) → Ran u v → Ran v w → Ran w x → rescanned_in u (events u v) ≡ 0 → rescanned_in v (events v w) ≡ 0 → rescanned_in w (events w x) ≡ n → rescanned_in u (events u x) ≡ n

@@ -1,11 +1,14 @@
 -- How a drain goes: the roots are seen to, and it goes in rounds, each of which works.
-use Rattle.std.specs.Prelude.{ℕ, ◌≡◌, ◌<◌, List, [], ◌∷◌, IsTrue}
-use Rattle.mark_core.specs.Numbers.{card_counter}
+use Rattle.std.specs.Prelude.{ℕ, ◌≡◌, ◌<◌, ◌+◌, List, [], ◌∷◌, IsTrue}
+use Rattle.mark_core.specs.Numbers.{card_counter, empty_offset}
 use Rattle.mark_core.specs.Seats.{phase_number}
 use Rattle.mark_core.specs.declared.kinds.Phase.{Phase}
 use Rattle.mark_core.specs.declared.kinds.Phase.TheVariants.{Clear, Drain, Sweep}
-use Rattle.mark_core.specs.declared.kinds.Step.TheVariants.{Reset, StorePhase}
-use Rattle.gc_table.specs.Log.{event, events}
+use Rattle.mark_core.specs.declared.kinds.Step.TheVariants.{OpenStep, Reset, StorePhase}
+use Rattle.gc_table.specs.Log.{Only, event, events}
+use Rattle.gc_table.specs.Seats.{Took}
+use Rattle.stop_world.specs.Waiting.{closes}
+use Rattle.card_clean.specs.DirtyCards.{CleansRound}
 use Rattle.gc_table.specs.Running.{Ran}
 use Rattle.gc_table.specs.declared.view.Entry.{Entry}
 use Rattle.gc_table.specs.declared.view.View.{View}
@@ -14,17 +17,19 @@ use Rattle.card_clean.specs.Drained.{FindsNoDirtyCard, FindsWork}
 use Rattle.gc_cycle.specs.Drained.{DrainedAlone, RootedAlone}
 use Rattle.gc_cycle.specs.Events.{never, since_last}
 use Rattle.gc_cycle.specs.Finishing.{IsPart}
-use Rattle.gc_cycle.specs.Sorts.{moves_to, opens_help}
+use Rattle.gc_cycle.specs.Sorts.{moves_to, sees_all_empty}
+use Rattle.gc_cycle.specs.Stepping.{CleansLast}
 use Rattle.gc_cycle.specs.Turns.{DrainsFor, SeesToRoots, round_quota}
 
 -- a look at the cards and at the count of packets found something left; and after it a round was made, in which so many cells were popped, or at some moment
--- nothing was left in hand and there was no packet to read from
+-- nothing was left in hand and there was no packet to read from, and at last the cards were cleaned
 pub record GoesRound (v w : View) : Type 0 where
   pub looked : View
   pub looks : Ran v looked
   pub left : FindsWork v.shape (events v looked)
   pub ran : Ran looked w
   pub worked : DrainsFor round_quota looked w
+  pub cleans : CleansLast looked w
 
 -- such rounds and nothing else, each up to the next of these views, and at last a look that found each card clean and all packets empty
 abbrev pub GoesInRounds : List View → View → View → Type 0
@@ -41,12 +46,23 @@ pub record DrainsAlone (v w : View) : Type 0 where
   pub part : IsPart Drain v w
   pub drained : DrainedAlone w
 
--- a drain with helpers: the roots of all sections were seen to as far as packets could be had, helpers were let in, and the seat made a round
+-- a drain with helpers, part by part: help was opened before all else; then all cards were passed, and cleaned where they were dirty; then the roots of all
+-- sections were seen to, as far as packets could be had; then the seat traced, until the count said that all packets are empty; and only then help was closed
 pub record DrainsTogether (v w : View) : Type 0 where
+  pub let_in : View
+  pub cleaned : View
+  pub rooted : View
+  pub traced : View
   pub part : IsPart Drain v w
-  pub roots : (section : ℕ) → section < v.shape.sections → SeesToRoots section v w
-  pub opened : IsTrue (some_event opens_help (events v w))
-  pub worked : DrainsFor round_quota v w
+  pub opens : Took OpenStep v let_in
+  pub cleans : Ran let_in cleaned
+  pub cards : (n : ℕ) × CleansRound v.shape n (events let_in cleaned)
+  pub sees : Ran cleaned rooted
+  pub roots : (section : ℕ) → section < v.shape.sections → SeesToRoots section cleaned rooted
+  pub traces : Ran rooted traced
+  pub worked : DrainsFor round_quota rooted traced
+  pub emptied : IsTrue (some_event (sees_all_empty (empty_offset + v.shape.packets)) (events rooted traced))
+  pub closes : Ran traced w × Only closes traced w
 
 -- the first step moved the phase from Drain to this one
 abbrev pub LeavesDrain : Phase → View → View → Type 0

@@ -1,15 +1,11 @@
 -- What a helper does of a drain and of a sweep.
-use Rattle.std.specs.Prelude.{ℕ, ◌≡◌, ◌≢◌, ◌≤◌, ◌+◌, ◌&&◌, ◌⊎◌, List, Bool, IsTrue, IsFalse}
-use Rattle.mark_core.specs.Cards.{card_cells}
+use Rattle.std.specs.Prelude.{ℕ, ◌≡◌, ◌≢◌, ◌≤◌, ◌&&◌, List, Bool, IsTrue}
 use Rattle.mark_core.specs.Layout.{block_count}
 use Rattle.mark_core.specs.declared.kinds.Shape.{Shape}
-use Rattle.mark_core.specs.declared.kinds.Step.TheVariants.{ReadCard}
 use Rattle.gc_table.specs.declared.view.Entry.{Entry}
 use Rattle.gc_table.specs.declared.view.View.{View}
 use Rattle.gc_table.specs.Log.{Only, events}
 use Rattle.gc_table.specs.Running.{Ran}
-use Rattle.gc_table.specs.Seats.{Answered}
-use Rattle.gc_table.specs.Taking.{won}
 use Rattle.packet_pools.specs.Counts.{count_of}
 use Rattle.packet_pools.specs.Seeking.{some_event}
 use Rattle.tracer.specs.declared.traced.Stopped.{Stopped}
@@ -19,10 +15,10 @@ use Rattle.gc_cycle.specs.declared.counts.Helped.{Helped}
 use Rattle.gc_cycle.specs.declared.counts.HelpEnd.{HelpEnd}
 use Rattle.gc_cycle.specs.declared.counts.HelpEnd.TheVariants.{Quota, NoWork, NoPacket, Swept}
 use Rattle.gc_cycle.specs.Events.{never}
-use Rattle.gc_cycle.specs.Helping.{helped_to_the_end}
+use Rattle.gc_cycle.specs.Helping.{waited}
 use Rattle.gc_cycle.specs.Lower.{sweeps_next, traces_or_cleans}
 use Rattle.gc_cycle.specs.Moments.{Moment, at_some_moment, begins, finds_no_room, finds_no_work}
-use Rattle.gc_cycle.specs.Sorts.{clears, clears_card, draws, draws_block, pops, sees_last_block}
+use Rattle.gc_cycle.specs.Sorts.{clears, draws_block, pops, sees_last_block}
 use Rattle.gc_cycle.specs.Standing.{Helps}
 
 -- why a helper ended, where its tracing stopped for this
@@ -58,37 +54,14 @@ pub record HelpsOn (quota : ℕ) (helped : Helped) (v w : View) : Type 0 where
   pub most : helped.traced ≤ quota
   pub stops : StopsFor helped.ended quota helped.traced v w
 
--- where there was no work left, each card given out was cleaned or found clean, and the pass was at its end
+-- where there was no work left, the count said that all packets are empty, or it was read as often as a helper waits
 abbrev pub EndsAt : HelpEnd → View → View → Type 0
-EndsAt NoWork v w = IsTrue (helped_to_the_end v.shape (begins v) (events v w))
+EndsAt NoWork v w = IsTrue (waited v.shape (events v w))
 EndsAt ended v w = Unit {0}
 
--- what holds of the cards where a helper ended as its answer says
+-- what holds where a helper ended as its answer says
 abbrev pub EndsAs : Helped → View → View → Type 0
 EndsAs helped v w = EndsAt helped.ended v w
-
--- a card was cleaned and tracing went on, after what was done before
-pub record CleansOn (quota card : ℕ) (before after : Helped) (v w : View) : Type 0 where
-  pub drained : DrainsOn v w
-  pub traced : before.traced + count_of pops (events v w) ≡ after.traced
-  pub rescanned : before.rescanned + rescanned_in v (events v w) ≡ after.rescanned
-  pub few : after.rescanned ≤ before.rescanned + card_cells
-  pub swept : after.swept ≡ before.swept
-  pub most : after.traced ≤ quota
-  pub stops : StopsFor after.ended quota after.traced v w
-  pub undrawn : IsTrue (never draws (events v w))
-  pub cleaned : after.ended ≡ NoWork → IsTrue (some_event (clears_card card) (events v w))
-
--- the card was found dirty by one look, and cleaned, and tracing went on
-pub record CleansFoundCard (quota card : ℕ) (before after : Helped) (v w : View) : Type 0 where
-  pub looked : View
-  pub looks : Answered (ReadCard card) (λ n. IsTrue (won (ReadCard card) n)) v looked
-  pub cleans : CleansOn quota card before after looked w
-
--- the card was found clean by one look, and nothing else was done; or it was dirty, and seen to
-abbrev pub SeesToCard : ℕ → ℕ → Helped → Helped → View → View → Type 0
-SeesToCard quota card before after v w =
-    ((after ≡ before) × Answered (ReadCard card) (λ n. IsFalse (won (ReadCard card) n)) v w) ⊎ CleansFoundCard quota card before after v w
 
 -- blocks were swept until none was left
 pub record SweepsOn (helped : Helped) (v w : View) : Type 0 where

@@ -1,6 +1,7 @@
 -- What a helper does in a stop, and why it ends.
-use Rattle.std.specs.Prelude.{ℕ, ◌≡◌, ◌≢◌, ◌&&◌, ◌||◌, not, List, [], ◌∷◌, Bool, true, nat_lt, IsTrue}
-use Rattle.mark_core.specs.Layout.{block_count, card_count}
+use Rattle.std.specs.Prelude.{ℕ, ◌≡◌, ◌≢◌, ◌+◌, ◌&&◌, ◌||◌, not, List, [], ◌∷◌, Bool, true, nat_le, nat_lt, IsTrue}
+use Rattle.mark_core.specs.Layout.{block_count}
+use Rattle.mark_core.specs.Numbers.{empty_offset}
 use Rattle.mark_core.specs.Seats.{saw}
 use Rattle.mark_core.specs.declared.kinds.Phase.TheVariants.{Drain, Sweep}
 use Rattle.mark_core.specs.declared.kinds.Shape.{Shape}
@@ -14,8 +15,8 @@ use Rattle.card_clean.specs.Leaving.{rescanned_in}
 use Rattle.gc_cycle.specs.declared.counts.Helped.{Helped}
 use Rattle.gc_cycle.specs.declared.counts.HelpEnd.{HelpEnd}
 use Rattle.gc_cycle.specs.declared.counts.HelpEnd.TheVariants.{Quota, NoWork, NoPacket, Swept}
-use Rattle.gc_cycle.specs.Events.{never, not_followed}
-use Rattle.gc_cycle.specs.Sorts.{clears, draws_block, pops, sees_last_block, sees_last_card, sees_to_card}
+use Rattle.gc_cycle.specs.Events.{never}
+use Rattle.gc_cycle.specs.Sorts.{clears, draws_block, pops, reads_count, sees_all_empty, sees_last_block, sees_to_card}
 use Rattle.gc_cycle.specs.Moments.{Moment, at_some_moment, begins, finds_no_room, finds_no_work}
 
 -- the event gave out a card, which these later events clear, or find clean
@@ -28,18 +29,22 @@ abbrev pub meets_cards : ℕ → List Entry → Bool
 meets_cards cards [] = true
 meets_cards cards (e ∷ es) = meets_card cards e.step e.found es && meets_cards cards es
 
--- after the last card that was cleared, the counter of cards was at its end; nothing was left in hand and there was no packet to read from; and each card given
--- out was cleared, or found clean
+-- after the last card that was cleared nothing was left in hand, and there was no packet to read from
 abbrev pub helped_to_the_end : Shape → Moment → List Entry → Bool
-helped_to_the_end sh m es =
-    not_followed (sees_last_card (card_count sh)) clears es
-    && at_some_moment sh (λ n later. never clears later && finds_no_work sh n later) m es
-    && meets_cards (card_count sh) es
+helped_to_the_end sh m es = at_some_moment sh (λ n later. never clears later && finds_no_work sh n later) m es
 
--- why a helper ended that traces: Quota exactly where it traced as many as it should
+-- how often a helper without work looks whether others give it some
+abbrev pub help_looks : ℕ
+help_looks = 64
+
+-- the count said that all packets are empty, or it was read so often
+abbrev pub waited : Shape → List Entry → Bool
+waited sh es = some_event (sees_all_empty (empty_offset + sh.packets)) es || nat_le help_looks (count_of reads_count es)
+
+-- why a helper ended that traces: Quota exactly where it traced as many as it should, and NoWork only once it had waited for work
 abbrev pub DrainsTo : HelpEnd → Shape → ℕ → ℕ → Moment → List Entry → Type 0
 DrainsTo Quota sh quota done m es = done ≡ quota
-DrainsTo NoWork sh quota done m es = (done ≢ quota) × IsTrue (helped_to_the_end sh m es)
+DrainsTo NoWork sh quota done m es = (done ≢ quota) × IsTrue (helped_to_the_end sh m es) × IsTrue (waited sh es)
 DrainsTo NoPacket sh quota done m es = (done ≢ quota) × IsTrue (at_some_moment sh (finds_no_room sh) m es)
 DrainsTo Swept sh quota done m es = ⊥
 

@@ -108,6 +108,11 @@ abbrev pub sees_all_empty : ℕ → Step → ℕ → Bool
 sees_all_empty all ReadCount found = found == all
 sees_all_empty all step found = false
 
+-- the count of empty packets was read
+abbrev pub reads_count : Step → ℕ → Bool
+reads_count ReadCount found = true
+reads_count step found = false
+
 -- the counter of cards was seen at its end, or raised there
 abbrev pub sees_last_card : ℕ → Step → ℕ → Bool
 sees_last_card cards (ReadStat which) found = (which == card_counter) && nat_le cards found

@@ -1,6 +1,6 @@
 //! The drain: what the mutators left is marked, first with the helpers and then alone.
 ghost use Rattle.std.specs.Prelude.{ℕ, ◌≡◌, ◌<◌, ◌+◌, ◌⊎◌, [], ◌∷◌, min, IsTrue};
-ghost use Rattle.mark_core.specs.Numbers.{card_counter};
+ghost use Rattle.mark_core.specs.Numbers.{card_counter, empty_offset};
 ghost use Rattle.mark_core.specs.Places.{the_next_card};
 ghost use Rattle.mark_core.specs.Seats.{phase_number};
 ghost use Rattle.mark_core.specs.declared.kinds.Phase.{Phase};
@@ -15,17 +15,18 @@ ghost use Rattle.gc_cycle.specs.DrainRounds.{DrainsAlone, DrainsTogether};
 ghost use Rattle.gc_cycle.specs.Drained.{DrainedAlone};
 ghost use Rattle.gc_cycle.specs.Finishing.{DrainsInStop, IsAloneIn, IsMove, IsPart, most};
 ghost use Rattle.gc_cycle.specs.Lower.{HasTraced};
-ghost use Rattle.gc_cycle.specs.Sorts.{opens_help};
+ghost use Rattle.gc_cycle.specs.Sorts.{sees_all_empty as says_all_empty};
 ghost use Rattle.gc_cycle.specs.Stepping.{CleansLast};
-ghost use Rattle.gc_cycle.specs.Turns.{DrainsFor, SeesToRoots};
+ghost use Rattle.gc_cycle.specs.Turns.{DrainsFor, SeesToRoots, round_quota};
 
 use crate::lower::{
-    clean_dirty, close_help, is_drained, open_help, recycle_deferred, scan_roots, see_to_roots,
-    trace,
+    clean_dirty, clean_dirty_round, close_help, is_drained, open_help, recycle_deferred,
+    scan_roots, see_to_roots, sees_all_empty, trace,
 };
 use gc_table::{Heap, HeapSeat};
 use mark_core::{BLOCK_COUNTER, CARD_COUNTER, Phase as CyclePhase};
 use std::sync::Wait;
+use std::thread;
 
 /// How many objects a round of the drain pops at most: all that there are. A round passes over all cards at its end, so it would cost too much to make one
 /// before there is nothing left to trace.
@@ -60,12 +61,12 @@ pub(crate) fn drain_round(heap: &Heap, seat: &mut HeapSeat, quota: u32) -> u32
     clean_dirty(heap, seat)
 }
 
-/// Marks what the roots of all sections refer to, as far as packets can be had.
+/// Marks what the roots of all sections refer to, as far as packets can be had, alone or beside helpers.
 fn scan_all_roots(heap: &Heap, seat: &mut HeapSeat)
     requires seat { Sits heap.now seat.old }
-    requires alone { IsAloneIn Drain (view_of seat.old) }
+    requires drains { DrainsInStop (view_of seat.old) }
     ensures seat { Sits heap.now seat.new }
-    ensures part { Across (IsPart Drain) seat.old seat.new }
+    ensures traced { Across HasTraced seat.old seat.new }
     ensures rescanned { rescanned_in (view_of seat.old) (did seat.old seat.new) ≡ 0 }
     ensures roots { (section : ℕ) → section < heap.now.shape.sections → Across (SeesToRoots section) seat.old seat.new }
 {
@@ -74,7 +75,42 @@ fn scan_all_roots(heap: &Heap, seat: &mut HeapSeat)
     }
 }
 
-/// Marks together with helpers. How many objects this seat scanned again.
+/// Traces what there is, what was deferred too, and looks whether all packets are empty then.
+fn trace_and_look(heap: &Heap, seat: &mut HeapSeat) -> bool
+    requires seat { Sits heap.now seat.old }
+    requires drains { DrainsInStop (view_of seat.old) }
+    ensures seat { Sits heap.now seat.new }
+    ensures traced { Across HasTraced seat.old seat.new }
+    ensures rescanned { rescanned_in (view_of seat.old) (did seat.old seat.new) ≡ 0 }
+    ensures worked { Across (DrainsFor round_quota) seat.old seat.new }
+    ensures empty { IsTrue result → IsTrue (some_event (says_all_empty (empty_offset + heap.now.shape.packets)) (did seat.old seat.new)) }
+{
+    recycle_deferred(heap, seat);
+    trace(heap, seat, ROUND);
+    sees_all_empty(heap, seat)
+}
+
+/// Traces beside helpers, until all packets are empty: so nobody has work in hand then.
+fn trace_to_end<R: Wait>(rt: &R, heap: &Heap, seat: &mut HeapSeat)
+    requires seat { Sits heap.now seat.old }
+    requires drains { DrainsInStop (view_of seat.old) }
+    ensures seat { Sits heap.now seat.new }
+    ensures traced { Across HasTraced seat.old seat.new }
+    ensures rescanned { rescanned_in (view_of seat.old) (did seat.old seat.new) ≡ 0 }
+    ensures worked { Across (DrainsFor round_quota) seat.old seat.new }
+    ensures empty { IsTrue (some_event (says_all_empty (empty_offset + heap.now.shape.packets)) (did seat.old seat.new)) }
+{
+    for _ in rt.forever() {
+        if trace_and_look(heap, seat) {
+            return;
+        }
+        thread::yield_now();
+    }
+    unreachable!()
+}
+
+/// Marks together with helpers, which are let in first: passes all cards, marks what the roots refer to, and traces until all packets are empty. How many
+/// objects this seat scanned again.
 pub(crate) fn drain_together<R: Wait>(rt: &R, heap: &Heap, seat: &mut HeapSeat) -> u32
     requires seat { Sits heap.now seat.old }
     requires alone { IsAloneIn Drain (view_of seat.old) }
@@ -82,9 +118,10 @@ pub(crate) fn drain_together<R: Wait>(rt: &R, heap: &Heap, seat: &mut HeapSeat) 
     ensures drains { Across DrainsTogether seat.old seat.new }
     ensures rescanned { rescanned_in (view_of seat.old) (did seat.old seat.new) ≡ result }
 {
-    scan_all_roots(heap, seat);
     open_help(heap, seat);
-    let rescanned = drain_round(heap, seat, ROUND);
+    let rescanned = clean_dirty_round(heap, seat);
+    scan_all_roots(heap, seat);
+    trace_to_end(rt, heap, seat);
     close_help(rt, heap, seat);
     rescanned
 }

@@ -1,19 +1,21 @@
 //! The calls of the crates below, told in the words of this one: what each asks of a seat at rest, and what it leaves of it.
-ghost use Rattle.std.specs.Prelude.{ℕ, ◌≡◌, ◌<◌, ◌≤◌, ◌+◌, ◌*◌, ◌&&◌, ◌⊎◌, List, ◌++◌, Some, None, IsTrue, IsFalse, IfSome, IfNone, false};
+ghost use Rattle.std.specs.Prelude.{◌==◌, ℕ, ◌≡◌, ◌<◌, ◌≤◌, ◌+◌, ◌*◌, ◌&&◌, ◌⊎◌, List, ◌++◌, Some, None, IsTrue, IsFalse, IfSome, IfNone, false};
 ghost use Rattle.mark_core.specs.Cards.{card_cells};
 ghost use Rattle.mark_core.specs.Layout.{block_count, card_count};
+ghost use Rattle.mark_core.specs.Numbers.{empty_offset};
+ghost use Rattle.mark_core.specs.declared.kinds.Step.TheVariants.{ReadCount};
 ghost use Rattle.mark_core.specs.Places.{the_next_block, the_phase};
 ghost use Rattle.mark_core.specs.Seats.{cleaning_left, is_the, phase_number, saw};
 ghost use Rattle.mark_core.specs.declared.kinds.Phase.TheVariants.{Clear, Drain, Sweep};
 ghost use Rattle.gc_table.specs.Log.{Only};
 ghost use Rattle.gc_table.specs.Notes.{look};
 ghost use Rattle.gc_table.specs.Running.{Known, Ran};
-ghost use Rattle.gc_table.specs.Seats.{Across, did, Sits, state_of, view_of};
+ghost use Rattle.gc_table.specs.Seats.{Across, Answered, did, Sits, state_of, view_of};
 ghost use Rattle.gc_table.specs.declared.view.Entry.{Entry};
 ghost use Rattle.packet_pools.specs.Counts.{count_of};
 ghost use Rattle.packet_pools.specs.Seeking.{some_event};
 ghost use Rattle.packet_pools.specs.Tracing.{traces};
-ghost use Rattle.card_clean.specs.DirtyCards.{CleansDirty};
+ghost use Rattle.card_clean.specs.DirtyCards.{CleansDirty, CleansRound};
 ghost use Rattle.card_clean.specs.Drained.{FindsNoDirtyCard, FindsWork};
 ghost use Rattle.card_clean.specs.Passing.{card_floor};
 ghost use Rattle.sweeper.specs.Freeing.{freed_in, block_floor};
@@ -25,7 +27,7 @@ ghost use Rattle.gc_cycle.specs.Finishing.{IsAloneIn, IsPart};
 ghost use Rattle.gc_cycle.specs.Helping.{meets_cards};
 ghost use Rattle.gc_cycle.specs.Lower.{GivesCard, EndsTrace, HasTraced, ScansRoots, sweeps_next, traces_or_cleans};
 ghost use Rattle.gc_cycle.specs.Moments.{at_some_moment, begins, finds_no_room};
-ghost use Rattle.gc_cycle.specs.Sorts.{clears, clears_card, draws, draws_or_clears, draws_block, pops, reads_pace, reads_root, sees_last_block, sees_to_card};
+ghost use Rattle.gc_cycle.specs.Sorts.{sees_all_empty as says_all_empty, clears, clears_card, draws, draws_or_clears, draws_block, pops, reads_pace, reads_root, sees_last_block, sees_to_card};
 ghost use Rattle.gc_cycle.specs.Standing.{is_at_rest};
 ghost use Rattle.gc_cycle.specs.Stepping.{LacksPacket};
 
@@ -94,6 +96,47 @@ pub(crate) fn clean_dirty(heap: &Heap, seat: &mut HeapSeat) -> u32
     ensures cleans { CleansDirty heap.now.shape result (did seat.old seat.new) }
 {
     card_clean::clean_dirty(heap, seat)
+}
+
+/// Looks at each card, from one of its own on and round, and cleans those that are dirty, beside others: how many objects were scanned again.
+pub(crate) fn clean_dirty_round(heap: &Heap, seat: &mut HeapSeat) -> u32
+    requires seat { Sits heap.now seat.old × IsTrue (traces (view_of seat.old)) }
+    requires rest { IsTrue (is_at_rest heap.now.shape (state_of seat.old)) }
+    ensures seat { Sits heap.now seat.new }
+    ensures traced { Across HasTraced seat.old seat.new }
+    ensures rescanned { rescanned_in (view_of seat.old) (did seat.old seat.new) ≡ result }
+    ensures cleans { CleansRound heap.now.shape result (did seat.old seat.new) }
+    ensures unpopped { IsTrue (never pops (did seat.old seat.new)) }
+{
+    card_clean::clean_dirty_round(heap, seat)
+}
+
+/// Whether no packet with a cell shows in a pool.
+pub(crate) fn lacks_work(heap: &Heap, seat: &mut HeapSeat) -> bool
+    requires seat { Sits heap.now seat.old × IsTrue (traces (view_of seat.old)) }
+    requires rest { IsTrue (is_at_rest heap.now.shape (state_of seat.old)) }
+    ensures seat { Sits heap.now seat.new }
+    ensures traced { Across HasTraced seat.old seat.new }
+    ensures rescanned { rescanned_in (view_of seat.old) (did seat.old seat.new) ≡ 0 }
+    ensures uncleared { IsTrue (never clears (did seat.old seat.new)) }
+    ensures unpopped { IsTrue (never pops (did seat.old seat.new)) }
+{
+    tracer::lacks_work(heap, seat)
+}
+
+/// Whether the count of empty packets says all packets, so that nothing is left to trace.
+pub(crate) fn sees_all_empty(heap: &Heap, seat: &mut HeapSeat) -> bool
+    requires seat { Sits heap.now seat.old }
+    requires rest { IsTrue (is_at_rest heap.now.shape (state_of seat.old)) }
+    ensures seat { Sits heap.now seat.new }
+    ensures traced { Across HasTraced seat.old seat.new }
+    ensures rescanned { rescanned_in (view_of seat.old) (did seat.old seat.new) ≡ 0 }
+    ensures uncleared { IsTrue (never clears (did seat.old seat.new)) }
+    ensures unpopped { IsTrue (never pops (did seat.old seat.new)) }
+    ensures empty { IsTrue result → IsTrue (some_event (says_all_empty (empty_offset + heap.now.shape.packets)) (did seat.old seat.new)) }
+    ensures looks { Across (Answered ReadCount (λ n. result ≡ (n == empty_offset + heap.now.shape.packets))) seat.old seat.new }
+{
+    packet_pools::all_empty(heap, seat)
 }
 
 /// Whether the drain is at its end, where all roots are seen to.

@@ -18,10 +18,11 @@ ghost use Rattle.gc_cycle.specs.Standing.{IsAdmitted, IsOut, KeepsSeat, KeepsSec
 ghost use Rattle.gc_cycle.specs.Statistics.{leaves_numbers};
 ghost use Rattle.gc_cycle.specs.Turns.{HelpsFor, HelpsInTurns, HelpsOnce, help_quota};
 
-use crate::helping::help;
+use crate::helping::help_with;
 use crate::lower::{await_stopped, enter, join_help, leave, leave_help, poll, raise};
 use gc_table::{Heap, HeapSeat};
-use mark_core::Phase;
+use mark_core::{Phase, has_flag};
+use packet_pools::all_empty;
 use std::sync::Wait;
 use std::thread;
 use stop_world::Raised;
@@ -29,12 +30,12 @@ use stop_world::Raised;
 /// How many objects a waiting seat traces before it looks again whether the stop has ended.
 const TURN: u32 = 1_024;
 
-/// How often a waiting seat looks whether the stop has ended before it helps again. Most stops are shorter than that, and helpers that find no work
-/// hold them up: each looks through the pools, and takes a card of the pass, where the seat that stopped the world does the same.
-const PAUSE: u32 = 512;
+/// How often a waiting seat looks whether the stop has ended, or its help is wanted, before it offers it unasked: seldom, since in a sweep helpers hold each
+/// other up.
+const PAUSE: u32 = 65_536;
 
-/// Helps, where the stop is in a drain or a sweep.
-fn help_joined(heap: &Heap, seat: &mut HeapSeat)
+/// Helps, where the stop is in a drain or a sweep. In a drain all cards are passed before, where this is asked for.
+fn help_joined(heap: &Heap, seat: &mut HeapSeat, cards: bool)
     requires seat { Sits heap.now seat.old × IsAdmitted (view_of seat.old) }
     ensures seat { Sits heap.now seat.new × IsAdmitted (view_of seat.new) }
     ensures out { Across GoesOut seat.old seat.new }
@@ -46,17 +47,17 @@ fn help_joined(heap: &Heap, seat: &mut HeapSeat)
 {
     match seat.state().phase_seen {
         Some(Phase::Drain) => {
-            help(heap, seat, TURN);
+            help_with(heap, seat, TURN, cards);
         }
         Some(Phase::Sweep) => {
-            help(heap, seat, TURN);
+            help_with(heap, seat, TURN, false);
         }
         _ => {}
     }
 }
 
 /// Joins the helpers once, where help is open, and helps.
-fn help_once(heap: &Heap, seat: &mut HeapSeat)
+fn help_once(heap: &Heap, seat: &mut HeapSeat, cards: bool) -> bool
     requires seat { Sits heap.now seat.old × IsOut (view_of seat.old) }
     ensures seat { Sits heap.now seat.new × IsOut (view_of seat.new) }
     ensures out { Across GoesOut seat.old seat.new }
@@ -67,12 +68,57 @@ fn help_once(heap: &Heap, seat: &mut HeapSeat)
     ensures helps { Across (HelpsOnce help_quota) seat.old seat.new }
 {
     if join_help(heap, seat) {
-        help_joined(heap, seat);
+        help_joined(heap, seat, cards);
         leave_help(heap, seat);
+        return true;
+    }
+    false
+}
+
+/// How often a waiting seat yields between two looks: the word that it looks at stands beside those that the seat which stopped the world counts with.
+const YIELDS: u32 = 16;
+
+/// Whether help is open, and the count doesn't say that all packets are empty: so there is something to trace. There is none in a sweep, for which nobody is
+/// called.
+fn is_wanted(heap: &Heap, seat: &mut HeapSeat) -> bool
+    requires seat { Sits heap.now seat.old × IsOut (view_of seat.old) }
+    ensures seat { Sits heap.now seat.new × IsOut (view_of seat.new) }
+    ensures out { Across GoesOut seat.old seat.new }
+    ensures own { (view_of seat.new).own ≡ (view_of seat.old).own }
+    ensures numbers { Across (Only leaves_numbers) seat.old seat.new }
+    ensures inside { IsTrue (never leaves (did seat.old seat.new)) }
+    ensures apart { IsTrue (never joins (did seat.old seat.new)) }
+{
+    if !has_flag(heap.see_help(seat)) {
+        return false;
+    }
+    !all_empty(heap, seat)
+}
+
+/// Looks whether the stop has ended, or the seat's help is wanted.
+fn is_over_or_wanted(heap: &Heap, seat: &mut HeapSeat) -> bool
+    requires seat { Sits heap.now seat.old × IsOut (view_of seat.old) }
+    ensures seat { Sits heap.now seat.new × IsOut (view_of seat.new) }
+    ensures out { Across GoesOut seat.old seat.new }
+    ensures own { (view_of seat.new).own ≡ (view_of seat.old).own }
+    ensures numbers { Across (Only leaves_numbers) seat.old seat.new }
+    ensures inside { IsTrue (never leaves (did seat.old seat.new)) }
+    ensures apart { IsTrue (never joins (did seat.old seat.new)) }
+{
+    if !poll(heap, seat) {
+        return true;
+    }
+    is_wanted(heap, seat)
+}
+
+/// Yields some times.
+fn yield_some() {
+    for _ in 0..YIELDS {
+        thread::yield_now();
     }
 }
 
-/// Looks some times whether the stop has ended, and no longer once it has.
+/// Looks some times whether the stop has ended, and no longer once it has, or once its help is wanted.
 fn pause(heap: &Heap, seat: &mut HeapSeat)
     requires seat { Sits heap.now seat.old × IsOut (view_of seat.old) }
     ensures seat { Sits heap.now seat.new × IsOut (view_of seat.new) }
@@ -83,10 +129,10 @@ fn pause(heap: &Heap, seat: &mut HeapSeat)
     ensures apart { IsTrue (never joins (did seat.old seat.new)) }
 {
     for _ in 0..PAUSE {
-        if !poll(heap, seat) {
+        if is_over_or_wanted(heap, seat) {
             return;
         }
-        thread::yield_now();
+        yield_some();
     }
 }
 
@@ -105,11 +151,13 @@ pub fn await_resumed_helping<R: Wait>(rt: &R, heap: &Heap, seat: &mut HeapSeat)
     ensures inside { IsTrue (never leaves (did seat.old seat.new)) }
     ensures helps { Across HelpsInTurns seat.old seat.new }
 {
+    let mut cards = true;
     for _ in rt.forever() {
         if !poll(heap, seat) {
             return;
         }
-        help_once(heap, seat);
+        let helped = help_once(heap, seat, cards);
+        cards = cards && !helped;
         pause(heap, seat);
     }
     unreachable!()

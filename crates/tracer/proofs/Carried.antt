@@ -172,6 +172,10 @@ pub second-front : (a : Held) (r : Option Held) (hs : List Held) (v : View) → 
 second-front a None hs v c = c
 second-front a (Some h) hs v c = carries-front (a ∷ []) h hs v c
 
+pub second-back : (a : Held) (r : Option Held) (hs : List Held) (v : View) → Carries (in_front r (a ∷ hs)) v → Carries (a ∷ in_front r hs) v
+second-back a None hs v c = c
+second-back a (Some h) hs v c = carries-back (a ∷ []) h hs v c
+
 pub front-held : (r : Option Held) (hs : List Held) (v : View) → Carries (in_front r hs) v → IfSome r (λ h. HoldsPacket h v)
 front-held None hs v c = tt
 front-held (Some h) hs v c = carries-head h hs v c

@@ -9,7 +9,7 @@
 //!
 //! 1. A cell is *popped* out of the input packet. It is grey: marked, and its fields aren't read.
 //! 2. Its allocation bit is read. Only a published object is scanned, since the words of one that is still being made are its mutator's alone.
-//! 3. Where the bit is set, the cell is in *scan*: each field is read, what it names is marked, and what was white is pushed into the output packet.
+//! 3. Where the bit is set, the cell is in *scan*: each field is read, what it names is marked, and what was white is pushed into a packet.
 //! 4. Where it is clear, the cell is *deferred*: it is pushed into a third packet, which goes into the deferred pool. Nobody pops out of that pool, so a
 //!    tracer doesn't spend its quota on cells that it can't scan. [`recycle_deferred`] moves the packets back once caches were published.
 //! 5. A cell that finds no packet with room isn't lost either: its card is dirtied, and cleaning that card will find it. So a full set of packets costs
@@ -19,9 +19,10 @@
 //!
 //! # Packets
 //!
-//! A tracer pops out of one packet and pushes into another, so that the input becomes empty while the output fills, and both go to the pools where
-//! others look for them. An output with cells becomes the input before the pools are searched. Where no second packet can be had, the seat pushes into the
-//! packet it pops from, which has room after each pop: so two packets suffice for a heap of any size, and a trace never ends for lack of a packet.
+//! A tracer pops out of one packet and pushes into it, which has room after each pop: what was found last is traced first, and its words are still near. So one
+//! packet suffices for a heap of any size, and a trace never ends for lack of a packet. A packet used so seldom fills. So that others find work all the same,
+//! the tracer looks now and then whether the pools have a packet with cells ([`lacks_work`]); where they have none and it has cells to spare, it pushes into a
+//! second packet from then on, and at its next look goes on with that one alone and gives the first away (`sharing`).
 //!
 //! # Why it ends, and what an answer says
 //!
@@ -36,7 +37,7 @@
 //! # Where things are
 //!
 //! `tracing` has the loop, `finding` the next cell, `deferring` defers cells, `packets` has the packets of a tracer, `recycling` moves deferred packets back,
-//! `roots` scans a section's variables, and `traced` has the answers.
+//! `sharing` gives work to others, `roots` scans a section's variables, and `traced` has the answers.
 #![tactic(auto)]
 
 mod deferring;
@@ -44,10 +45,12 @@ mod finding;
 mod packets;
 mod recycling;
 mod roots;
+mod sharing;
 mod traced;
 mod tracing;
 
 pub use recycling::recycle_deferred;
 pub use roots::scan_roots;
+pub use sharing::lacks_work;
 pub use traced::{RootScan, Stopped, Traced};
 pub use tracing::trace;

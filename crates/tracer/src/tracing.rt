@@ -16,10 +16,11 @@ ghost use Rattle.tracer.specs.Tally.{Tally};
 use crate::deferring::defer;
 use crate::finding::next_cell;
 use crate::packets::{Packets, give_some};
+use crate::sharing::share_in_turn;
 use crate::traced::{Passed, Stopped, Traced};
 use gc_table::{Heap, HeapSeat};
 use mark_core::{BLOCK_CELLS, Cell, has_bit};
-use packet_pools::{Scanned, give, scan_whole, take_input, take_output};
+use packet_pools::{Scanned, give, scan_whole, take_input};
 
 /// Scans the object in scan, which is this one, into the output, or into the input where there is none.
 fn scan(heap: &Heap, seat: &mut HeapSeat, packets: &mut Packets, cell: Cell) -> Scanned
@@ -80,7 +81,8 @@ fn trace_all(heap: &Heap, seat: &mut HeapSeat, packets: &mut Packets, quota: u32
     ensures stopped { ((result.stopped ≡ Stopped.Quota) × (result.done ≡ quota)) ⊎ ((result.stopped ≡ Stopped.NoWork) × (result.done < quota) × Across (SearchedInVain heap.now.shape packets.new) seat.old seat.new) }
 {
     let mut traced = Traced::started();
-    for _turn in 0..quota {
+    for turn in 0..quota {
+        share_in_turn(heap, seat, packets, turn);
         let Some(cell) = next_cell(heap, seat, packets) else {
             traced.stopped = Stopped::NoWork;
             return traced;
@@ -93,7 +95,7 @@ fn trace_all(heap: &Heap, seat: &mut HeapSeat, packets: &mut Packets, quota: u32
     traced
 }
 
-/// Takes packets to trace with. None comes only where no packet with a cell was found.
+/// Takes a packet to trace with. None comes only where no packet with a cell was found.
 fn begin(heap: &Heap, seat: &mut HeapSeat) -> Option<Packets>
     requires seat { IsTracer heap.now seat.old }
     requires idle { IsIdle (view_of seat.old) }
@@ -105,10 +107,9 @@ fn begin(heap: &Heap, seat: &mut HeapSeat) -> Option<Packets>
     ensures none { IfNone result ((state_of seat.new ≡ state_of seat.old) × NoInput heap.now.shape (did seat.old seat.new) × IsTrue (only_moves input_pools (did seat.old seat.new))) }
 {
     let input = take_input(heap, seat)?;
-    let output = take_output(heap, seat);
     Some(Packets {
         input,
-        output,
+        output: None,
         deferred: None,
     })
 }

@@ -1,28 +1,28 @@
 -- Helpers, computed.
-use Rattle.std.proofs.Common.{ℕ, ◌≡◌, refl, sym, ap, List, [], ◌∷◌, ◌++◌, true, false}
+use Rattle.std.proofs.Common.{ℕ, ◌≡◌, ◌+◌, ◌-◌, refl, sym, ap, List, [], ◌∷◌, ◌++◌, true, false}
 use Rattle.std.specs.Prelude.{◌==◌}
 use Rattle.std.proofs.lemmas.Bool.{true≢false}
-use Rattle.mark_core.specs.Numbers.{block_counter, card_counter, high_pool_number, low_pool_number}
-use Rattle.mark_core.specs.declared.kinds.Step.TheVariants.{ClearCard, JoinHelpStep, LeaveHelpStep, Look, NextOfCards, Observe, ReadCard, ReadPhase, ReadStat, Take}
+use Rattle.mark_core.specs.Numbers.{block_counter, card_counter, empty_offset, high_pool_number, low_pool_number}
+use Rattle.mark_core.specs.declared.kinds.Step.TheVariants.{ClearCard, JoinHelpStep, LeaveHelpStep, Look, NextOfCards, Observe, ReadCount, ReadPhase, ReadStat, Take}
 use Rattle.gc_table.specs.declared.view.Entry.{Entry}
 use Rattle.gc_cycle.specs.declared.counts.Helped.{Helped}
 use Rattle.gc_cycle.specs.declared.counts.HelpEnd.TheVariants.{NoWork, Swept}
-use Rattle.gc_cycle.specs.Helping.{HelpsAs, helped_to_the_end}
+use Rattle.gc_cycle.specs.Helping.{HelpsAs, helped_to_the_end, waited}
 use Rattle.gc_cycle.specs.Polling.{offered_help, saw_resumed}
 use Rattle.gc_cycle.proofs.Rows.SmallLogs.{small, did, at_rest, drainer, flagged, no_input_looks, seen_by, sweeper}
 
 abbrev nothing_to_do : Helped
 nothing_to_do = record { traced = 0; rescanned = 0; swept = 0; ended = NoWork }
 
--- one card is left in the pass, and is clean; no packet has work
+-- a card is cleaned; no packet has work, and the count says that all are empty
 abbrev cleans_the_last : List Entry
-cleans_the_last = did NextOfCards 3 ∷ did (ClearCard 3) 0 ∷ did (ReadStat card_counter) 4 ∷ no_input_looks
+cleans_the_last = did (ClearCard 3) 0 ∷ no_input_looks ++ (did ReadCount (empty_offset + small.packets) ∷ [])
 
 to_the_end : helped_to_the_end small (at_rest drainer) cleans_the_last ≡ true
 to_the_end = refl
 
 help_ends : HelpsAs 100 nothing_to_do (seen_by drainer) cleans_the_last
-help_ends = record { traced = refl; rescanned = refl; swept = refl; drain = λ e. (differ, refl); sweep = λ e. absurd (true≢false (sym e)) }
+help_ends = record { traced = refl; rescanned = refl; swept = refl; drain = λ e. (differ, refl, refl); sweep = λ e. absurd (true≢false (sym e)) }
   where
     differ : (◌≡◌ {A = ℕ} 0 100) → ⊥
     differ e = absurd (true≢false (sym (ap (λ n. n == 100) e)))
@@ -31,21 +31,13 @@ help_ends = record { traced = refl; rescanned = refl; swept = refl; drain = λ e
 does_nothing : helped_to_the_end small (at_rest drainer) [] ≡ false
 does_nothing = refl
 
--- the card that was given out wasn't cleared
-leaves_a_card : helped_to_the_end small (at_rest drainer) (did NextOfCards 3 ∷ did (ReadStat card_counter) 4 ∷ no_input_looks) ≡ false
-leaves_a_card = refl
+-- it didn't wait for work
+hurries : waited small no_input_looks ≡ false
+hurries = refl
 
--- the card that was given out was found clean by a look
-finds_it_clean : helped_to_the_end small (at_rest drainer) (did NextOfCards 3 ∷ did (ReadCard 3) 0 ∷ did (ReadStat card_counter) 4 ∷ no_input_looks) ≡ true
-finds_it_clean = refl
-
--- it was found dirty, and wasn't cleaned
-leaves_it_dirty : helped_to_the_end small (at_rest drainer) (did NextOfCards 3 ∷ did (ReadCard 3) 1 ∷ did (ReadStat card_counter) 4 ∷ no_input_looks) ≡ false
-leaves_it_dirty = refl
-
--- another card was found clean
-looks_at_another : helped_to_the_end small (at_rest drainer) (did NextOfCards 3 ∷ did (ReadCard 2) 0 ∷ did (ReadStat card_counter) 4 ∷ no_input_looks) ≡ false
-looks_at_another = refl
+-- the count said that a packet isn't empty
+sees_one_filled : waited small (did ReadCount (empty_offset + small.packets - 1) ∷ []) ≡ false
+sees_one_filled = refl
 
 -- a card was cleared after the end was seen
 cleans_afterwards : helped_to_the_end small (at_rest drainer) (did (ReadStat card_counter) 4 ∷ no_input_looks ++ did (ClearCard 3) 0 ∷ []) ≡ false

@@ -25,6 +25,7 @@ use Rattle.gc_table.proofs.Noticing.{known-step, knows-stays, knows-steady, note
 use Rattle.gc_table.proofs.Running.{ran-events, ran-join, ran-only, ran-shape, ran-took, run-keeps}
 use Rattle.stop_world.specs.Waiting.{StaysIn, closes}
 use Rattle.sweeper.specs.Freeing.{block_floor}
+use Rattle.gc_cycle.specs.DrainRounds.{DrainsTogether}
 use Rattle.gc_cycle.specs.Finishing.{IsAloneIn, IsOpen, IsPart, stays_in}
 use Rattle.gc_cycle.specs.Moments.{total_of}
 use Rattle.gc_cycle.specs.Sorts.{opens_help}
@@ -82,6 +83,10 @@ pub open-event : (v0 v1 v3 : View) → Took OpenStep v0 v1 → Ran v1 v3 → som
 open-event v0 v1 v3 t r =
     ap (some_event opens_help) (ran-events v0 v1 v3 (open-ran v0 v1 t) r)
     ∙ some-left opens_help (events v0 v1) (events v1 v3) (ap (some_event opens_help) (events-after v0 v1 OpenStep t.0 t.1.0))
+
+-- help was opened in a drain with helpers
+pub together-opened : (v w : View) → DrainsTogether v w → some_event opens_help (events v w) ≡ true
+together-opened v w d = open-event v d.let_in w d.opens (ran-join d.let_in d.cleaned w d.cleans (ran-join d.cleaned d.rooted w d.sees (ran-join d.rooted d.traced w d.traces d.closes.0)))
 
 -- what neither opening nor closing does
 pub open-total : (f : SeatState → Step → ℕ → ℕ) → ((s : SeatState) (n : ℕ) → f s OpenStep n ≡ 0) → ((s : SeatState) (step : Step) (n : ℕ) → closes step ≡ true → f s step n ≡ 0) → (v0 v1 v2 v3 : View) → Took OpenStep v0 v1 → Ran v1 v2 → Ran v2 v3 → Only closes v2 v3

@@ -1,5 +1,5 @@
 -- A mutator goes out of the world and in again, joins the helpers and leaves them, and looks whether a stop is under way.
-use Rattle.std.proofs.Common.{ℕ, ◌≡◌, ◌+◌, List, [], ◌∷◌, ◌++◌, refl, sym, ap, ◌∙◌, subst, Bool, true, false, not, ◌&&◌, Some, None, Option, is_some, ⊎_elim, ◌⊎◌, eqb-true}
+use Rattle.std.proofs.Common.{ℕ, ◌≡◌, List, [], ◌∷◌, ◌++◌, refl, sym, ap, ◌∙◌, subst, Bool, true, false, not, ◌&&◌, Some, None, Option, is_some, ⊎_elim, ◌⊎◌, eqb-true}
 use Rattle.std.specs.Prelude.{◌==◌, if◌then◌else◌, is_none}
 use Rattle.std.proofs.lemmas.Bool.{and_from, and_parts, false≢true, not-true, or_left, or_right}
 use Rattle.mark_core.specs.Bits.{has_flag}

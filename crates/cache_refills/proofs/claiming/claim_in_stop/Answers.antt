@@ -1,4 +1,13 @@
-use Rattle.std.proofs.Common.{refl, sym, ap, ◌∙◌, subst, Some, inr, []}
+use Rattle.std.proofs.Common.{rules, ℕ, ◌≡◌, ◌⊎◌, refl, sym, ap, ◌∙◌, subst, Option, Some, inr, [], arith}
+use Rattle.std.specs.Prelude.{unwrap_or}
+use Rattle.mark_core.specs.declared.kinds.Phase.TheVariants.{Clear, Drain, Full, Idle, Marking, Sweep}
+use Rattle.gc_table.specs.Rule.{KnowsFull}
+use Rattle.gc_cycle.specs.Collecting.{HoldsWorld}
+use Rattle.gc_table.specs.Notes.{look}
+use Rattle.mark_core.specs.Places.{the_phase}
+use Rattle.mark_core.specs.Seats.{phase_number}
+use Rattle.mark_core.specs.declared.kinds.Phase.{Phase}
+use Rattle.cache_refills.proofs.claiming.claim_in_stop.Goals.{in_default-via-in-Some+in_default, in_default-via-in_default}
 use Rattle.mark_core.specs.declared.kinds.Shape.{Shape}
 use Rattle.mark_core.specs.declared.seat.SeatState.{SeatState}
 use Rattle.gc_table.specs.Log.{events}
@@ -103,3 +112,24 @@ returns-in_default-clause-numbers g c =
     let p = c.precise.ensures in
     let e : EndsCycle u v = record { ran = p.ran; only = p.only; alone = c.requires.stopped.rest; idle = p.alone.0; drains = p.drains; help = p.help; counts = c.precise.result; end = p.end; rescanned = p.rescanned; freed = p.freed } in
     numbers-after (taken c.claim_or_fill.result) u v (view_of c.claim_or_fill.new.seat) e c.claim_or_fill.ensures.numbers
+
+-- a seat that holds the world, and read the phase as another, doesn't know the heap as full
+not-full : (v : View) → HoldsWorld v → KnowsFull v → v.state.phase_seen ≡ Some Full
+not-full v h k = by_phase h.phase h.left h.seen h.alone.phase
+  where
+    other : (n : ℕ) → look the_phase v.known ≡ Some n → 5 ≡ n
+    other n e = ap (λ (o : Option ℕ). unwrap_or o 0) (sym k ∙ e)
+
+    by_phase : (p : Phase) → (p ≡ Idle) ⊎ (p ≡ Marking) ⊎ (p ≡ Full) → v.state.phase_seen ≡ Some p → look the_phase v.known ≡ Some (phase_number p) → v.state.phase_seen ≡ Some Full
+    by_phase Idle l s e = let x = other (phase_number Idle) e in absurd (omega (arith, x))
+    by_phase Marking l s e = let x = other (phase_number Marking) e in absurd (omega (arith, x))
+    by_phase Drain l s e = let x = other (phase_number Drain) e in absurd (omega (arith, x))
+    by_phase Sweep l s e = let x = other (phase_number Sweep) e in absurd (omega (arith, x))
+    by_phase Clear l s e = let x = other (phase_number Clear) e in absurd (omega (arith, x))
+    by_phase Full l s e = s
+
+pub returns-in_default-clause-full : goal.returns-in_default-clause-full
+returns-in_default-clause-full g c = λ k.
+    let u : View = view_of c.args.seat.now in
+    let seen : u.state.phase_seen ≡ Some Full = not-full u c.requires.stopped k in
+    elim c.in_default.branch [ in_default-via-in-Some+in_default w ↦ search rules | in_default-via-in_default w ↦ search rules ]

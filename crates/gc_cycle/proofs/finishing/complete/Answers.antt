@@ -1,12 +1,13 @@
 use Rattle.std.proofs.Common.{sym, ◌∙◌, arith}
 use Rattle.gc_table.specs.Seats.{view_of}
 use Rattle.gc_cycle.proofs.Ends.Completing.{completes, drains-sweep, freed-in-all, rescanned-in-all}
+use Rattle.gc_cycle.proofs.Stops.Opened.{together-opened}
 use Rattle.gc_cycle.proofs.finishing.complete.Goals as goal
 
 pub returns-clause-completes : goal.returns-clause-completes
 returns-clause-completes g c =
     completes (view_of c.args.seat.now) (view_of c.drain_together.new.seat) (view_of c.drain_alone.new.seat) (view_of c.begin_sweep.new.seat) (view_of c.sweep_together-freed.new.seat) (view_of c.end_sweep.new.seat) (view_of c.settle.new.seat)
-    c.drain_together.ensures.drains.part c.drain_together.ensures.drains.opened c.drain_alone.ensures.drains.part c.begin_sweep.ensures.moved c.sweep_together-freed.ensures.part c.sweep_together-freed.ensures.opened c.end_sweep.ensures.moved c.settle.ensures.part
+    c.drain_together.ensures.drains.part (together-opened (view_of c.args.seat.now) (view_of c.drain_together.new.seat) c.drain_together.ensures.drains) c.drain_alone.ensures.drains.part c.begin_sweep.ensures.moved c.sweep_together-freed.ensures.part c.sweep_together-freed.ensures.opened c.end_sweep.ensures.moved c.settle.ensures.part
 
 pub returns-clause-freed : goal.returns-clause-freed
 returns-clause-freed g c =
@@ -30,4 +31,4 @@ returns-clause-drains g c =
     let t = c.drain_together.ensures.drains in
     let a = c.drain_alone.ensures.drains in
     drains-sweep (view_of c.args.seat.now) (view_of c.drain_together.new.seat) (view_of c.drain_alone.new.seat) (view_of c.begin_sweep.new.seat) (view_of c.sweep_together-freed.new.seat) (view_of c.end_sweep.new.seat) (view_of c.settle.new.seat)
-    t.part t.opened a.part c.begin_sweep.ensures.moved c.sweep_together-freed.ensures.part c.sweep_together-freed.ensures.opened c.end_sweep.ensures.moved c.settle.ensures.part t a
+    t.part (together-opened (view_of c.args.seat.now) (view_of c.drain_together.new.seat) t) a.part c.begin_sweep.ensures.moved c.sweep_together-freed.ensures.part c.sweep_together-freed.ensures.opened c.end_sweep.ensures.moved c.settle.ensures.part t a

@@ -1,22 +1,24 @@
-use Rattle.std.proofs.Common.{◌≡◌, ◌∙◌, ◌<◌, ◌++◌, arith, sym, ap, subst, true}
-use Rattle.mark_core.specs.Layout.{card_count}
+use Rattle.std.proofs.Common.{◌≡◌, ◌∙◌, ◌+◌, arith, sym, ap, subst, true, refl}
+use Rattle.mark_core.specs.Numbers.{empty_offset}
 use Rattle.mark_core.specs.declared.kinds.Shape.{Shape}
+use Rattle.mark_core.specs.declared.kinds.Step.TheVariants.{ReadCount}
 use Rattle.gc_table.specs.Log.{events}
 use Rattle.gc_table.specs.Seats.{view_of}
 use Rattle.gc_table.specs.declared.view.View.{View}
-use Rattle.gc_table.proofs.Running.{ran-events, ran-join, ran-shape}
+use Rattle.gc_table.proofs.History.Log.{events-after}
+use Rattle.packet_pools.specs.Counts.{count_of}
 use Rattle.packet_pools.specs.Seeking.{some_event}
-use Rattle.gc_cycle.specs.Draining.{HelpsOn}
-use Rattle.gc_cycle.specs.Helping.{meets_cards}
-use Rattle.gc_cycle.specs.Sorts.{sees_last_card}
+use Rattle.gc_cycle.specs.Draining.{HelpsOn, StopsFor}
+use Rattle.gc_cycle.specs.Sorts.{reads_count, sees_all_empty}
 use Rattle.gc_cycle.specs.Standing.{is_at_rest}
-use Rattle.gc_cycle.proofs.Stops.Admitted.{floor-kept, meets-join, undrawn, undrawn-meets}
-use Rattle.gc_cycle.proofs.Stops.HelperDrains.{helped-last, helped-still, seen-to, traced-first, traced-helps}
+use Rattle.gc_cycle.specs.declared.counts.HelpEnd.TheVariants.{NoWork}
+use Rattle.gc_cycle.proofs.Stops.Admitted.{count-run}
+use Rattle.gc_cycle.proofs.Stops.HelperDrains.{helped-still, traced-first, traced-helps, waited-empty, waited-long}
 use Rattle.gc_cycle.proofs.Traced.{nothing-rest}
 use Rattle.gc_cycle.proofs.helping.help_drain.Goals as goal
 
-pub loop-helped-init : goal.loop-helped-init
-loop-helped-init c =
+pub loop-look-init : goal.loop-look-init
+loop-look-init c =
     let u : View = view_of c.args.seat.now in
     let v : View = view_of c.trace-first.new.seat in
     let t = c.trace-first.ensures in
@@ -25,82 +27,64 @@ loop-helped-init c =
       helps =
           subst (λ h. HelpsOn c.args.quota (record { traced = c.trace-first.result.done; rescanned = 0; swept = 0; ended = h }) u v) (sym c.end_of.ensures)
           (traced-first c.args.quota c.trace-first.result u v c.requires.seat.1 t.traced t.ends t.most t.rescanned t.uncleaned);
-      met = λ e. undrawn-meets (card_count c.args.heap.now.shape) (events u v) (undrawn (events u v) t.uncleaned);
-      room = omega arith;
+      none = refl;
+      looked = omega arith;
     }
 
-pub next_card-requires-clause-rest : goal.next_card-requires-clause-rest
-next_card-requires-clause-rest c =
-    let v : View = view_of c.loop-helped.seat in
-    let i = c.loop-helped.invariant in
+pub sees_all_empty-requires-clause-rest : goal.sees_all_empty-requires-clause-rest
+sees_all_empty-requires-clause-rest c =
+    let v : View = view_of c.loop-look.seat in
+    let i = c.loop-look.invariant in
     subst (λ (sh : Shape). is_at_rest sh v.state ≡ true) i.sits.1 (nothing-rest v.shape v.state i.helps.drained.helps.rest)
 
-pub loop-helped-preserved : goal.loop-helped-preserved
-loop-helped-preserved c =
-    let u : View = view_of c.args.seat.now in
-    let v : View = view_of c.loop-helped.seat in
-    let w : View = view_of c.next_card.new.seat in
-    let x : View = view_of c.see_to_card-helped.new.seat in
-    let i = c.loop-helped.invariant in
-    let n = c.in-Some.ensures in
-    let first = traced-helps v w i.helps.drained.helps n.traced in
-    let k = seen-to c.args.quota c.in-Some.card c.loop-helped.helped c.see_to_card-helped.result w x first.helps c.see_to_card-helped.ensures.sees in
-    let rise = n.rises i.helps.drained.helps.admitted in
-    let r0 = rise.0 in
-    let r1 = rise.1 in
-    let kept = floor-kept w x k.drained.ran k.drained.only k.undrawn first.helps.admitted in
-    let few = k.few in
-    let room = i.room in
-    let later = ran-join v w x n.traced.ran k.drained.ran in
-    record {
-      sits = c.see_to_card-helped.ensures.seat;
-      helps = k.goes u (helped-still c.args.quota c.loop-helped.helped u v w i.helps c.in-NoWork.is n.traced n.unpopped n.uncleared n.rescanned) c.in-NoWork.is;
-      met =
-          λ e.
-          ap (meets_cards (card_count c.args.heap.now.shape)) (ran-events u v x i.helps.drained.ran later ∙ ap (λ es. events u v ++ es) (ran-events v w x n.traced.ran k.drained.ran))
-          ∙ meets-join (card_count c.args.heap.now.shape) (events u v) (events v w ++ events w x) (i.met c.in-NoWork.is)
-          (n.met (events w x) (k.met e) (undrawn-meets (card_count c.args.heap.now.shape) (events w x) k.undrawn));
-      room = omega (arith, few, room, r0, r1, kept);
-    }
+pub trace_on-helped-requires-clause-seat : goal.trace_on-helped-requires-clause-seat
+trace_on-helped-requires-clause-seat c =
+    let e = c.sees_all_empty.ensures in
+    (e.seat, (traced-helps (view_of c.loop-look.seat) (view_of c.sees_all_empty.new.seat) c.loop-look.invariant.helps.drained.helps e.traced).helps)
 
-pub loop-helped-smaller : goal.loop-helped-smaller
-loop-helped-smaller c =
-    let v : View = view_of c.loop-helped.seat in
-    let w : View = view_of c.next_card.new.seat in
-    let x : View = view_of c.see_to_card-helped.new.seat in
-    let i = c.loop-helped.invariant in
-    let n = c.in-Some.ensures in
-    let first = traced-helps v w i.helps.drained.helps n.traced in
-    let k = seen-to c.args.quota c.in-Some.card c.loop-helped.helped c.see_to_card-helped.result w x first.helps c.see_to_card-helped.ensures.sees in
-    let rise = n.rises i.helps.drained.helps.admitted in
-    let r0 = rise.0 in
-    let r1 = rise.1 in
-    let kept = floor-kept w x k.drained.ran k.drained.only k.undrawn first.helps.admitted in
-    let there : c.in-Some.card < card_count c.args.heap.now.shape = subst (λ (sh : Shape). c.in-Some.card < card_count sh) i.sits.1 n.draws.0 in
-    omega (arith, r0, r1, kept, there)
+pub trace_on-helped-requires-clause-drain : goal.trace_on-helped-requires-clause-drain
+trace_on-helped-requires-clause-drain c =
+    let e = c.sees_all_empty.ensures in
+    let d = c.loop-look.invariant.helps.drained in
+    (traced-helps (view_of c.loop-look.seat) (view_of c.sees_all_empty.new.seat) d.helps e.traced).phase ∙ (d.phase ∙ c.requires.drain)
 
-pub returns-in_default-next_card-clause-helps : goal.returns-in_default-next_card-clause-helps
-returns-in_default-next_card-clause-helps c =
-    let u : View = view_of c.args.seat.now in
-    let v : View = view_of c.loop-helped.seat in
-    let w : View = view_of c.next_card.new.seat in
-    let i = c.loop-helped.invariant in
-    let n = c.in_default-next_card.ensures in
-    let back = sym c.requires.seat.0.1 in
-    (helped-last c.args.quota c.loop-helped.helped u v w i.helps c.in-NoWork.is
-    (subst (λ (sh : Shape). meets_cards (card_count sh) (events u v) ≡ true) back (i.met c.in-NoWork.is)) n.traced n.unpopped n.uncleared n.rescanned
-    (subst (λ (sh : Shape). some_event (sees_last_card (card_count sh)) (events v w) ≡ true) (ran-shape u v i.helps.drained.ran) n.draws)
-    (subst (λ (sh : Shape). meets_cards (card_count sh) (events v w) ≡ true) back n.over)).0
+pub trace_on-helped-requires-clause-quota : goal.trace_on-helped-requires-clause-quota
+trace_on-helped-requires-clause-quota c =
+    let i = c.loop-look.invariant in
+    let stops : StopsFor NoWork c.args.quota c.loop-look.helped.traced (view_of c.args.seat.now) (view_of c.loop-look.seat) = subst (λ x. StopsFor x c.args.quota c.loop-look.helped.traced (view_of c.args.seat.now) (view_of c.loop-look.seat)) c.in-NoWork.is i.helps.stops in
+    (i.helps.most, stops.0)
 
-pub returns-in_default-next_card-clause-ends : goal.returns-in_default-next_card-clause-ends
-returns-in_default-next_card-clause-ends c =
+pub loop-look-preserved : goal.loop-look-preserved
+loop-look-preserved c =
     let u : View = view_of c.args.seat.now in
-    let v : View = view_of c.loop-helped.seat in
-    let w : View = view_of c.next_card.new.seat in
-    let i = c.loop-helped.invariant in
-    let n = c.in_default-next_card.ensures in
-    let back = sym c.requires.seat.0.1 in
-    (helped-last c.args.quota c.loop-helped.helped u v w i.helps c.in-NoWork.is
-    (subst (λ (sh : Shape). meets_cards (card_count sh) (events u v) ≡ true) back (i.met c.in-NoWork.is)) n.traced n.unpopped n.uncleared n.rescanned
-    (subst (λ (sh : Shape). some_event (sees_last_card (card_count sh)) (events v w) ≡ true) (ran-shape u v i.helps.drained.ran) n.draws)
-    (subst (λ (sh : Shape). meets_cards (card_count sh) (events v w) ≡ true) back n.over)).1
+    let v : View = view_of c.loop-look.seat in
+    let w : View = view_of c.sees_all_empty.new.seat in
+    let x : View = view_of c.trace_on-helped.new.seat in
+    let i = c.loop-look.invariant in
+    let e = c.sees_all_empty.ensures in
+    let t = c.trace_on-helped.ensures in
+    let still = helped-still c.args.quota c.loop-look.helped u v w i.helps c.in-NoWork.is e.traced e.unpopped e.uncleared e.rescanned in
+    let k = count-run reads_count u v w i.helps.drained.ran e.traced.ran in
+    let m = count-run reads_count u w x still.drained.ran t.ran in
+    let one : count_of reads_count (events v w) ≡ 1 = ap (count_of reads_count) (events-after v w ReadCount e.looks.0 e.looks.1) in
+    let before = i.looked in
+    record { sits = t.seat; helps = t.helps u still; none = t.none ∙ i.none; looked = omega (arith, k, m, one, before) }
+
+pub returns-then-sees_all_empty-clause-helps : goal.returns-then-sees_all_empty-clause-helps
+returns-then-sees_all_empty-clause-helps c =
+    let e = c.sees_all_empty.ensures in
+    helped-still c.args.quota c.loop-look.helped (view_of c.args.seat.now) (view_of c.loop-look.seat) (view_of c.sees_all_empty.new.seat) c.loop-look.invariant.helps c.in-NoWork.is e.traced e.unpopped e.uncleared e.rescanned
+
+pub returns-then-sees_all_empty-clause-ends : goal.returns-then-sees_all_empty-clause-ends
+returns-then-sees_all_empty-clause-ends c =
+    let v : View = view_of c.loop-look.seat in
+    let w : View = view_of c.sees_all_empty.new.seat in
+    let e = c.sees_all_empty.ensures in
+    waited-empty c.loop-look.helped.ended (view_of c.args.seat.now) v w c.loop-look.invariant.helps.drained.ran e.traced.ran
+    (subst (λ (sh : Shape). some_event (sees_all_empty (empty_offset + sh.packets)) (events v w) ≡ true) (sym c.requires.seat.0.1) (e.empty c.if-sees_all_empty.true))
+
+pub returns-clause-ends : goal.returns-clause-ends
+returns-clause-ends c =
+    let before = c.loop-look.invariant.looked in
+    let past = c.loop-look-test.false in
+    waited-long c.loop-look.helped.ended (view_of c.args.seat.now) (view_of c.loop-look.seat) (omega (arith, before, past))

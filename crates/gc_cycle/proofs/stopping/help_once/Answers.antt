@@ -58,17 +58,17 @@ returns-then-join_help-clause-offered c =
     ap (some_event joins) (ran-events v w y c.join_help.ensures.ran (ran-join w x y c.help_joined.ensures.out.ran c.leave_help.ensures.ran))
     ∙ some-left joins (events v w) (events w y) j.2
 
-pub returns-else-join_help-clause-seat : goal.returns-else-join_help-clause-seat
-returns-else-join_help-clause-seat c = (c.join_help.ensures.seat, (declines-out (view_of c.args.seat.now) (view_of c.join_help.new.seat) c.requires.seat.1 c.join_help.ensures.ran c.if-join_help.ensures.declines).0)
+pub returns-clause-seat : goal.returns-clause-seat
+returns-clause-seat c = (c.join_help.ensures.seat, (declines-out (view_of c.args.seat.now) (view_of c.join_help.new.seat) c.requires.seat.1 c.join_help.ensures.ran c.if-join_help.ensures.declines).0)
 
-pub returns-else-join_help-clause-out : goal.returns-else-join_help-clause-out
-returns-else-join_help-clause-out c = (declines-out (view_of c.args.seat.now) (view_of c.join_help.new.seat) c.requires.seat.1 c.join_help.ensures.ran c.if-join_help.ensures.declines).1
+pub returns-clause-out : goal.returns-clause-out
+returns-clause-out c = (declines-out (view_of c.args.seat.now) (view_of c.join_help.new.seat) c.requires.seat.1 c.join_help.ensures.ran c.if-join_help.ensures.declines).1
 
-pub returns-else-join_help-clause-own : goal.returns-else-join_help-clause-own
-returns-else-join_help-clause-own c = (declines-out (view_of c.args.seat.now) (view_of c.join_help.new.seat) c.requires.seat.1 c.join_help.ensures.ran c.if-join_help.ensures.declines).2
+pub returns-clause-own : goal.returns-clause-own
+returns-clause-own c = (declines-out (view_of c.args.seat.now) (view_of c.join_help.new.seat) c.requires.seat.1 c.join_help.ensures.ran c.if-join_help.ensures.declines).2
 
-pub returns-else-join_help-clause-offered : goal.returns-else-join_help-clause-offered
-returns-else-join_help-clause-offered c = (declines-out (view_of c.args.seat.now) (view_of c.join_help.new.seat) c.requires.seat.1 c.join_help.ensures.ran c.if-join_help.ensures.declines).3
+pub returns-clause-offered : goal.returns-clause-offered
+returns-clause-offered c = (declines-out (view_of c.args.seat.now) (view_of c.join_help.new.seat) c.requires.seat.1 c.join_help.ensures.ran c.if-join_help.ensures.declines).3
 
 pub returns-then-join_help-clause-inside : goal.returns-then-join_help-clause-inside
 returns-then-join_help-clause-inside c =
@@ -95,8 +95,8 @@ returns-then-join_help-clause-helps c =
       once = inr (record { joined = w; helped = x; enters = c.join_help.ensures.ran; let_in = c.if-join_help.ensures.joins; ran = h.out.ran; stays = h.stays; helps = h.helps; leaves = c.leave_help.ensures.step });
     }
 
-pub returns-else-join_help-clause-helps : goal.returns-else-join_help-clause-helps
-returns-else-join_help-clause-helps c = record { ran = c.join_help.ensures.ran; once = inl c.if-join_help.ensures.declines }
+pub returns-clause-helps : goal.returns-clause-helps
+returns-clause-helps c = record { ran = c.join_help.ensures.ran; once = inl c.if-join_help.ensures.declines }
 
 pub returns-then-join_help-clause-numbers : goal.returns-then-join_help-clause-numbers
 returns-then-join_help-clause-numbers c =
@@ -109,5 +109,5 @@ returns-then-join_help-clause-numbers c =
     ran-only leaves_numbers v w y c.join_help.ensures.ran (ran-join w x y h.out.ran c.leave_help.ensures.ran) (ap (all_steps leaves_numbers) c.if-join_help.ensures.joins.events)
     (ran-only leaves_numbers w x y h.out.ran c.leave_help.ensures.ran h.numbers (only-after leaves_numbers x y LeaveHelpStep t.0 refl t.1.0))
 
-pub returns-else-join_help-clause-numbers : goal.returns-else-join_help-clause-numbers
-returns-else-join_help-clause-numbers c = ap (all_steps leaves_numbers) c.if-join_help.ensures.declines.events
+pub returns-clause-numbers : goal.returns-clause-numbers
+returns-clause-numbers c = ap (all_steps leaves_numbers) c.if-join_help.ensures.declines.events

@@ -1,16 +1,15 @@
 use Rattle.std.proofs.Common.{refl, ap, ◌∙◌}
 use Rattle.gc_table.specs.Seats.{view_of}
 use Rattle.gc_table.specs.declared.view.View.{View}
-use Rattle.gc_table.proofs.History.Log.{events-none, only-after, only-none}
+use Rattle.gc_table.proofs.History.Log.{events-none, only-none}
 use Rattle.gc_cycle.specs.Events.{never}
 use Rattle.gc_cycle.specs.Sorts.{joins, leaves}
 use Rattle.gc_cycle.proofs.SectionKept.{out-join, out-none}
-use Rattle.gc_cycle.proofs.Stops.OutAndIn.{looked-out, polled-out}
-use Rattle.gc_cycle.proofs.Stops.Waits.{stays-look}
-use Rattle.gc_cycle.proofs.Turns.{apart-join, apart-look}
+use Rattle.gc_cycle.proofs.Stops.Waits.{stays-join}
+use Rattle.gc_cycle.proofs.Turns.{apart-join}
 use Rattle.gc_cycle.specs.Statistics.{leaves_numbers}
-use Rattle.gc_table.proofs.Running.{ran-only}
-use Rattle.mark_core.specs.declared.kinds.Step.TheVariants.{Observe}
+use Rattle.gc_table.proofs.Running.{ran-events, ran-only}
+use Rattle.gc_table.specs.Log.{events}
 use Rattle.gc_cycle.proofs.stopping.pause.Goals as goal
 
 pub loop-init : goal.loop-init
@@ -22,52 +21,39 @@ pub loop-preserved : goal.loop-preserved
 loop-preserved c =
     let u : View = view_of c.args.seat.now in
     let v : View = view_of c.loop.seat in
-    let w : View = view_of c.poll.new.seat in
+    let w : View = view_of c.is_over_or_wanted.new.seat in
     let i = c.loop.invariant in
-    let t = c.poll.ensures.step in
-    let p = polled-out v w t.0 c.poll.ensures.ran t.1 in
+    let e = c.is_over_or_wanted.ensures in
     record {
-      sits = c.poll.ensures.seat;
-      out = looked-out v w i.out c.poll.ensures.ran c.poll.ensures.state;
-      goes = out-join u v w i.goes p.0;
-      own = p.1 ∙ i.own;
-      inside = stays-look u v w t.0 i.goes.ran c.poll.ensures.ran t.1 i.inside;
-      numbers = ran-only leaves_numbers u v w i.goes.ran c.poll.ensures.ran i.numbers (only-after leaves_numbers v w Observe t.0 refl t.1);
-      apart = (apart-join u v w (record { ran = i.goes.ran; apart = i.apart }) (apart-look v w t.0 c.poll.ensures.ran t.1)).apart;
+      sits = e.seat.0;
+      out = e.seat.1;
+      goes = out-join u v w i.goes e.out;
+      own = e.own ∙ i.own;
+      inside = ap (never leaves) (ran-events u v w i.goes.ran e.out.ran) ∙ stays-join (events u v) (events v w) i.inside e.inside;
+      numbers = ran-only leaves_numbers u v w i.goes.ran e.out.ran i.numbers e.numbers;
+      apart = (apart-join u v w (record { ran = i.goes.ran; apart = i.apart }) (record { ran = e.out.ran; apart = e.apart })).apart;
     }
 
-pub returns-then-not-poll-clause-seat : goal.returns-then-not-poll-clause-seat
-returns-then-not-poll-clause-seat c = (c.poll.ensures.seat, looked-out (view_of c.loop.seat) (view_of c.poll.new.seat) c.loop.invariant.out c.poll.ensures.ran c.poll.ensures.state)
+pub returns-then-is_over_or_wanted-clause-out : goal.returns-then-is_over_or_wanted-clause-out
+returns-then-is_over_or_wanted-clause-out c = out-join (view_of c.args.seat.now) (view_of c.loop.seat) (view_of c.is_over_or_wanted.new.seat) c.loop.invariant.goes c.is_over_or_wanted.ensures.out
 
-pub returns-then-not-poll-clause-out : goal.returns-then-not-poll-clause-out
-returns-then-not-poll-clause-out c =
-    let v : View = view_of c.loop.seat in
-    let w : View = view_of c.poll.new.seat in
-    let t = c.poll.ensures.step in
-    out-join (view_of c.args.seat.now) v w c.loop.invariant.goes (polled-out v w t.0 c.poll.ensures.ran t.1).0
-
-pub returns-then-not-poll-clause-own : goal.returns-then-not-poll-clause-own
-returns-then-not-poll-clause-own c =
-    let t = c.poll.ensures.step in
-    (polled-out (view_of c.loop.seat) (view_of c.poll.new.seat) t.0 c.poll.ensures.ran t.1).1 ∙ c.loop.invariant.own
-
-pub returns-then-not-poll-clause-inside : goal.returns-then-not-poll-clause-inside
-returns-then-not-poll-clause-inside c =
-    let t = c.poll.ensures.step in
-    stays-look (view_of c.args.seat.now) (view_of c.loop.seat) (view_of c.poll.new.seat) t.0 c.loop.invariant.goes.ran c.poll.ensures.ran t.1 c.loop.invariant.inside
-
-pub returns-then-not-poll-clause-apart : goal.returns-then-not-poll-clause-apart
-returns-then-not-poll-clause-apart c =
-    let v : View = view_of c.loop.seat in
-    let w : View = view_of c.poll.new.seat in
+pub returns-then-is_over_or_wanted-clause-numbers : goal.returns-then-is_over_or_wanted-clause-numbers
+returns-then-is_over_or_wanted-clause-numbers c =
     let i = c.loop.invariant in
-    let t = c.poll.ensures.step in
-    (apart-join (view_of c.args.seat.now) v w (record { ran = i.goes.ran; apart = i.apart }) (apart-look v w t.0 c.poll.ensures.ran t.1)).apart
+    let e = c.is_over_or_wanted.ensures in
+    ran-only leaves_numbers (view_of c.args.seat.now) (view_of c.loop.seat) (view_of c.is_over_or_wanted.new.seat) i.goes.ran e.out.ran i.numbers e.numbers
 
-pub returns-then-not-poll-clause-numbers : goal.returns-then-not-poll-clause-numbers
-returns-then-not-poll-clause-numbers c =
+pub returns-then-is_over_or_wanted-clause-inside : goal.returns-then-is_over_or_wanted-clause-inside
+returns-then-is_over_or_wanted-clause-inside c =
+    let u : View = view_of c.args.seat.now in
     let v : View = view_of c.loop.seat in
-    let w : View = view_of c.poll.new.seat in
+    let w : View = view_of c.is_over_or_wanted.new.seat in
     let i = c.loop.invariant in
-    let t = c.poll.ensures.step in
-    ran-only leaves_numbers (view_of c.args.seat.now) v w i.goes.ran c.poll.ensures.ran i.numbers (only-after leaves_numbers v w Observe t.0 refl t.1)
+    let e = c.is_over_or_wanted.ensures in
+    ap (never leaves) (ran-events u v w i.goes.ran e.out.ran) ∙ stays-join (events u v) (events v w) i.inside e.inside
+
+pub returns-then-is_over_or_wanted-clause-apart : goal.returns-then-is_over_or_wanted-clause-apart
+returns-then-is_over_or_wanted-clause-apart c =
+    let i = c.loop.invariant in
+    let e = c.is_over_or_wanted.ensures in
+    (apart-join (view_of c.args.seat.now) (view_of c.loop.seat) (view_of c.is_over_or_wanted.new.seat) (record { ran = i.goes.ran; apart = i.apart }) (record { ran = e.out.ran; apart = e.apart })).apart

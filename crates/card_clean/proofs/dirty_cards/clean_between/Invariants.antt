@@ -9,18 +9,18 @@ use Rattle.packet_pools.specs.Tracing.{Traces}
 use Rattle.packet_pools.specs.Scanning.{Fills}
 use Rattle.card_clean.specs.Leaving.{rescanned_in}
 use Rattle.card_clean.specs.DirtyCards.{CleanedFrom}
-use Rattle.card_clean.proofs.dirty_cards.clean_from.Given as goal
+use Rattle.card_clean.proofs.dirty_cards.clean_between.Given as goal
 
 abbrev pub invariant-loop-card : goal.invariant-loop-card
 invariant-loop-card l = record {
   sits : Sits l.heap l.seat;
   traces : Traces (view_of l.seat);
-  order : l.fn.from ≤ l.card;
-  still : l.card-end ≤ l.fn.from → l.card ≡ l.fn.from;
+  order : l.fn.first ≤ l.card;
+  end : l.card ≤ l.fn.end;
   only : OnlyCleaned (view_of l.fn.seat) (view_of l.seat);
   packet : Fills l.fn.out l.out (view_of l.fn.seat) (view_of l.seat);
   work : IsFalse (work_in_hand l.heap.shape.fields (view_of l.seat).state);
-  most : l.rescanned ≤ card_cells * (l.card - l.fn.from);
+  most : l.rescanned ≤ card_cells * (l.card - l.fn.first);
   left : rescanned_in (view_of l.fn.seat) (events (view_of l.fn.seat) (view_of l.seat)) ≡ l.rescanned;
-  cleans : CleanedFrom l.heap.shape l.fn.from (l.card - l.fn.from) l.rescanned (events (view_of l.fn.seat) (view_of l.seat));
+  cleans : CleanedFrom l.heap.shape l.fn.first (l.card - l.fn.first) l.rescanned (events (view_of l.fn.seat) (view_of l.seat));
 }

@@ -8,15 +8,13 @@ use Rattle.packet_pools.proofs.TracedSteps.{cleaned-join}
 use Rattle.gc_table.proofs.History.Log.{events-join}
 use Rattle.card_clean.specs.DirtyCards.{CleanedFrom, CleanedWhereDirty}
 use Rattle.card_clean.proofs.Leavings.{rescanned-join}
-use Rattle.card_clean.proofs.dirty_cards.clean_from.Goals as goal
+use Rattle.card_clean.proofs.dirty_cards.clean_between.Goals as goal
 
 pub clean_where_dirty-rescanned-requires-clause-seat : goal.clean_where_dirty-rescanned-requires-clause-seat
 clean_where_dirty-rescanned-requires-clause-seat c = let i = c.loop-card.invariant in (i.sits, i.traces)
 
 pub clean_where_dirty-rescanned-requires-clause-card : goal.clean_where_dirty-rescanned-requires-clause-card
-clean_where_dirty-rescanned-requires-clause-card c =
-    let cells : c.shape-card-end.result.cells ≡ c.args.heap.now.shape.cells = ap (λ (s : Shape). s.cells) c.shape-card-end.ensures in
-    omega (arith, c.loop-card-test.true, cells)
+clean_where_dirty-rescanned-requires-clause-card c = omega (arith, c.loop-card-test.true, c.requires.cards.1)
 
 pub clean_where_dirty-rescanned-requires-clause-out : goal.clean_where_dirty-rescanned-requires-clause-out
 clean_where_dirty-rescanned-requires-clause-out c = let i = c.loop-card.invariant in (i.packet.held, i.packet.free)
@@ -32,7 +30,7 @@ loop-card-preserved c =
     let x : View = view_of c.clean_where_dirty-rescanned.new.seat in
     let i = c.loop-card.invariant in
     let e = c.clean_where_dirty-rescanned.ensures in
-    let from : ℕ = c.args.from in
+    let from : ℕ = c.args.first in
     let card : ℕ = c.loop-card.card in
     let done : ℕ = c.loop-card.rescanned in
     let one : ℕ = c.clean_where_dirty-rescanned.result in
@@ -42,7 +40,7 @@ loop-card-preserved c =
       sits = e.seat.0;
       traces = e.seat.1;
       order = omega (arith, i.order);
-      still = λ l. absurd (omega (arith, c.loop-card-test.true, l, i.order));
+      end = omega (arith, c.loop-card-test.true);
       only = cleaned-join v w x i.only e.only;
       packet = fills-join v w x c.args.out.now c.loop-card.out c.clean_where_dirty-rescanned.new.out i.packet e.out;
       work = e.work;

@@ -31,7 +31,7 @@ use Rattle.gc_cycle.proofs.SectionKept.{goes-out}
 use Rattle.gc_cycle.specs.Statistics.{leaves_numbers}
 use Rattle.gc_cycle.proofs.Leaving.{sweeps-leave, traces-leave}
 use Rattle.gc_cycle.proofs.Sequences.{none-of-steps, total-none}
-use Rattle.gc_cycle.proofs.helping.help.Goals as goal
+use Rattle.gc_cycle.proofs.helping.help_with.Goals as goal
 
 sweeps-calm : (step : Step) → sweeps_next step ≡ true → stays_calm step ≡ true
 sweeps-calm NextBlock e = refl
@@ -107,7 +107,7 @@ drain-of (Some p) e n = absurd (false≢true e)
 
 drains-to : (h : HelpEnd) (quota done : ℕ) (v w : View) → StopsFor h quota done v w → EndsAt h v w → DrainsTo h v.shape quota done (begins v) (events v w)
 drains-to Quota quota done v w s e = s
-drains-to NoWork quota done v w s e = (s.0, e)
+drains-to NoWork quota done v w s e = (s.0, s.1, e)
 drains-to NoPacket quota done v w s e = s
 drains-to Swept quota done v w s e = s
 
@@ -167,6 +167,29 @@ returns-then-sees_sweep c =
 
 pub help_drain-requires-clause-drain : goal.help_drain-requires-clause-drain
 help_drain-requires-clause-drain c = drain-of (view_of c.args.seat.now).state.phase_seen c.requires.seat.1.phase c.if-sees_sweep.ensures.other
+
+pub help_anew-requires-clause-drain : goal.help_anew-requires-clause-drain
+help_anew-requires-clause-drain c = drain-of (view_of c.args.seat.now).state.phase_seen c.requires.seat.1.phase c.if-sees_sweep.ensures.other
+
+pub returns-then-cards : goal.returns-then-cards
+returns-then-cards c =
+    let v : View = view_of c.args.seat.now in
+    let w : View = view_of c.help_anew.new.seat in
+    let h = c.help_anew.ensures.helps in
+    let o = drained-out c.args.quota c.help_anew.result v w h in
+    record {
+      seat = (c.help_anew.ensures.seat, h.drained.helps);
+      ran = h.drained.ran;
+      helps = drained-as c.args.quota c.help_anew.result v w (drain-of v.state.phase_seen c.requires.seat.1.phase c.if-sees_sweep.ensures.other) h c.help_anew.ensures.ends;
+      not_full = o.0.not_full;
+      only = o.0.only;
+      numbers = only-more traces_or_cleans leaves_numbers traces-leave v w h.drained.only;
+      inside = o.1;
+      stays = ap not (none-of-steps traces_or_cleans joins traces-unjoined (events v w) h.drained.only);
+      phase = h.drained.phase;
+      keeps = o.0.seat;
+      own = o.2;
+    }
 
 pub returns : goal.returns
 returns c =

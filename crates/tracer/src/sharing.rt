@@ -1,0 +1,136 @@
+//! A tracer gives some of its work to others where they lack it.
+ghost use Rattle.std.specs.Prelude.{ℕ, ◌≡◌, ◌<◌, ◌==◌, ◌∷◌, List, Option, None, IsTrue, IsFalse};
+ghost use Rattle.mark_core.specs.Layout.{pool_words};
+ghost use Rattle.mark_core.specs.Numbers.{pools_in_all};
+ghost use Rattle.mark_core.specs.Seats.{work_in_hand};
+ghost use Rattle.mark_core.specs.declared.kinds.Step.TheVariants.{Look};
+ghost use Rattle.gc_table.specs.Seats.{Across, Answered, did, state_of, view_of};
+ghost use Rattle.packet_pools.specs.OnlyTraced.{OnlyTraced};
+ghost use Rattle.packet_pools.specs.Seeking.{input_pools, only_moves};
+ghost use Rattle.packet_pools.specs.Tracing.{IsTracer};
+ghost use Rattle.tracer.specs.Hands.{Carries, packets_of};
+ghost use Rattle.tracer.specs.Parts.{Part};
+
+use crate::packets::{Packets, give_some, go_on};
+use gc_table::{Heap, HeapSeat};
+use mark_core::{HIGH_POOL, LOW_POOL, WORD_BITS};
+use packet_pools::take_output;
+use std::mem;
+
+/// How many cells a packet has at least that is given away.
+const SHARE_CELLS: u32 = 4;
+
+/// How often a tracer looks whether others lack work: once in so many objects.
+const SHARE_EACH: u32 = 64;
+
+/// Whether word g of pool q shows no packet.
+fn is_bare(heap: &Heap, seat: &mut HeapSeat, q: u8, g: u32) -> bool
+    requires seat { IsTracer heap.now seat.old }
+    requires word { (q < pools_in_all) × (g < pool_words heap.now.shape) }
+    ensures seat { IsTracer heap.now seat.new }
+    ensures only { Across OnlyTraced seat.old seat.new }
+    ensures state { state_of seat.new ≡ state_of seat.old }
+    ensures looks { Across (Answered (Look q g) (λ n. result ≡ (n == 0))) seat.old seat.new }
+    ensures moves { (qs : List ℕ) → IsTrue (only_moves qs (did seat.old seat.new)) }
+{
+    heap.look(seat, q, g) == 0
+}
+
+/// Whether word g shows no packet in either pool that has packets with cells.
+fn are_bare(heap: &Heap, seat: &mut HeapSeat, g: u32) -> bool
+    requires seat { IsTracer heap.now seat.old }
+    requires word { g < pool_words heap.now.shape }
+    ensures seat { IsTracer heap.now seat.new }
+    ensures only { Across OnlyTraced seat.old seat.new }
+    ensures state { state_of seat.new ≡ state_of seat.old }
+    ensures moves { IsTrue (only_moves input_pools (did seat.old seat.new)) }
+{
+    if !is_bare(heap, seat, HIGH_POOL, g) {
+        return false;
+    }
+    is_bare(heap, seat, LOW_POOL, g)
+}
+
+/// Whether no packet with a cell shows in a pool, so that whoever looks for work finds none.
+pub fn lacks_work(heap: &Heap, seat: &mut HeapSeat) -> bool
+    requires seat { IsTracer heap.now seat.old }
+    ensures seat { IsTracer heap.now seat.new }
+    ensures only { Across OnlyTraced seat.old seat.new }
+    ensures state { state_of seat.new ≡ state_of seat.old }
+    ensures moves { IsTrue (only_moves input_pools (did seat.old seat.new)) }
+{
+    for g in 0..heap.shape().packets.div_ceil(WORD_BITS) {
+        if !are_bare(heap, seat, g) {
+            return false;
+        }
+    }
+    true
+}
+
+/// Takes a packet to push into from now on. There is none yet.
+fn fill_another(heap: &Heap, seat: &mut HeapSeat, packets: &mut Packets)
+    requires seat { IsTracer heap.now seat.old }
+    requires packets { Carries (packets_of packets.old) (view_of seat.old) × (packets.old.output ≡ None) }
+    requires work { IsFalse (work_in_hand heap.now.shape.fields (state_of seat.old)) }
+    ensures seat { IsTracer heap.now seat.new }
+    ensures only { Across OnlyTraced seat.old seat.new }
+    ensures packets { Carries (packets_of packets.new) (view_of seat.new) × (packets.new.deferred ≡ packets.old.deferred) }
+    ensures work { IsFalse (work_in_hand heap.now.shape.fields (state_of seat.new)) }
+    ensures part { (o : Option ℕ) → Part heap.now.shape o o 0 0 0 (view_of seat.old) (did seat.old seat.new) }
+{
+    let fresh = take_output(heap, seat);
+    let nothing = mem::replace(&mut packets.output, fresh);
+    give_some(heap, seat, nothing, false);
+}
+
+/// Where others lack work and the input has cells to spare, the seat goes on with a second packet.
+fn part_with(heap: &Heap, seat: &mut HeapSeat, packets: &mut Packets)
+    requires seat { IsTracer heap.now seat.old }
+    requires packets { Carries (packets_of packets.old) (view_of seat.old) × (packets.old.output ≡ None) }
+    requires work { IsFalse (work_in_hand heap.now.shape.fields (state_of seat.old)) }
+    ensures seat { IsTracer heap.now seat.new }
+    ensures only { Across OnlyTraced seat.old seat.new }
+    ensures packets { Carries (packets_of packets.new) (view_of seat.new) × (packets.new.deferred ≡ packets.old.deferred) }
+    ensures work { IsFalse (work_in_hand heap.now.shape.fields (state_of seat.new)) }
+    ensures part { (o : Option ℕ) → Part heap.now.shape o o 0 0 0 (view_of seat.old) (did seat.old seat.new) }
+{
+    if packets.input.length() <= SHARE_CELLS {
+        return;
+    }
+    if lacks_work(heap, seat) {
+        fill_another(heap, seat, packets);
+    }
+}
+
+/// Where there is a second packet, the seat goes on with it and gives the first away; else it takes one where others lack work.
+fn share(heap: &Heap, seat: &mut HeapSeat, packets: &mut Packets)
+    requires seat { IsTracer heap.now seat.old }
+    requires packets { Carries (packets_of packets.old) (view_of seat.old) }
+    requires work { IsFalse (work_in_hand heap.now.shape.fields (state_of seat.old)) }
+    ensures seat { IsTracer heap.now seat.new }
+    ensures only { Across OnlyTraced seat.old seat.new }
+    ensures packets { Carries (packets_of packets.new) (view_of seat.new) × (packets.new.deferred ≡ packets.old.deferred) }
+    ensures work { IsFalse (work_in_hand heap.now.shape.fields (state_of seat.new)) }
+    ensures part { (o : Option ℕ) → Part heap.now.shape o o 0 0 0 (view_of seat.old) (did seat.old seat.new) }
+{
+    match mem::replace(&mut packets.output, None) {
+        Some(output) => go_on(heap, seat, packets, output),
+        None => part_with(heap, seat, packets),
+    }
+}
+
+/// Shares once in some turns.
+pub(crate) fn share_in_turn(heap: &Heap, seat: &mut HeapSeat, packets: &mut Packets, turn: u32)
+    requires seat { IsTracer heap.now seat.old }
+    requires packets { Carries (packets_of packets.old) (view_of seat.old) }
+    requires work { IsFalse (work_in_hand heap.now.shape.fields (state_of seat.old)) }
+    ensures seat { IsTracer heap.now seat.new }
+    ensures only { Across OnlyTraced seat.old seat.new }
+    ensures packets { Carries (packets_of packets.new) (view_of seat.new) × (packets.new.deferred ≡ packets.old.deferred) }
+    ensures work { IsFalse (work_in_hand heap.now.shape.fields (state_of seat.new)) }
+    ensures part { (o : Option ℕ) → Part heap.now.shape o o 0 0 0 (view_of seat.old) (did seat.old seat.new) }
+{
+    if turn % SHARE_EACH == SHARE_EACH - 1 {
+        share(heap, seat, packets);
+    }
+}
