@@ -60,6 +60,7 @@ fn shape_of(cells: u32) -> Shape
         fields: 4,
         objects: 2_000_000,
         sharing: false,
+        slots: 0,
     }
 }
 

@@ -24,6 +24,7 @@ pub const SIZES: Shape = Shape {
     fields: 4,
     objects: 2_000_000,
     sharing: false,
+    slots: 0,
 };
 
 /// A heap in which nothing has happened, and its seat, which is the catalogue's. None where there is no memory.

@@ -26,6 +26,7 @@ pub const SIZES: Shape = Shape {
     fields: 2,
     objects: 2_000_000,
     sharing: false,
+    slots: 0,
 };
 
 /// A heap in which nothing has happened, and its seat. None where there is no memory.

@@ -22,6 +22,7 @@ const SMALL: Shape = Shape {
     fields: 4,
     objects: 2_000_000,
     sharing: false,
+    slots: 0,
 };
 
 /// One packet more than fit into a word of a pool.

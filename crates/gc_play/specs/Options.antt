@@ -15,4 +15,4 @@ pub record IsPlayable (s : Sections) : Type 0 where
 
 -- the sizes of the heap in which a script is played
 abbrev pub shape_for : Options → Sections → Shape
-shape_for o s = record { cells = o.cells; packets = o.packets; entries = o.entries; sections = 1 + length s.warehouses; fields = s.fields; objects = 2000000; sharing = false }
+shape_for o s = record { cells = o.cells; packets = o.packets; entries = o.entries; sections = 1 + length s.warehouses; fields = s.fields; objects = 2000000; sharing = false; slots = 0 }

@@ -49,6 +49,7 @@ fn shape_of(script: &Script<'_>, options: &Options) -> Shape
         fields: script.fields(),
         objects: 2_000_000,
         sharing: false,
+        slots: 0,
     }
 }
 

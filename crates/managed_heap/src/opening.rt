@@ -36,6 +36,7 @@ fn shape_of(sizes: &Sizes) -> Shape
         fields: sizes.fields,
         objects: u32::MAX,
         sharing: false,
+        slots: 0,
     }
 }
 

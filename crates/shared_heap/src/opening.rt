@@ -40,6 +40,7 @@ fn shape_of(sizes: &SharedSizes) -> Shape
         fields: sizes.fields,
         objects: u32::MAX,
         sharing: true,
+        slots: 0,
     }
 }
 

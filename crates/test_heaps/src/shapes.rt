@@ -10,4 +10,5 @@ pub const SMALL: Shape = Shape {
     fields: 4,
     objects: 2_000_000,
     sharing: false,
+    slots: 0,
 };

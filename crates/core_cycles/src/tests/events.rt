@@ -14,6 +14,7 @@ pub const SMALL: Shape = Shape {
     fields: 1,
     objects: 2_000_000,
     sharing: false,
+    slots: 0,
 };
 
 /// Where the words stand: 11 single words, 2 positions, 64 roots, and then a word for the one block each time, four

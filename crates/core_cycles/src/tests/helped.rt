@@ -16,6 +16,7 @@ const TWO_BLOCKS: Shape = Shape {
     fields: 1,
     objects: 2_000_000,
     sharing: false,
+    slots: 0,
 };
 
 /// There are two words of owners, at 77, before those of allocation bits; two of mark bits and eight cards follow, and

@@ -11,6 +11,7 @@ const SHAPE: Shape = Shape {
     fields: 4,
     objects: 2_000_000,
     sharing: false,
+    slots: 0,
 };
 
 /// A step, and its words.

@@ -14,6 +14,7 @@ fn words_of_largest(alloc: Global) -> Option<Words> {
         fields: 16,
         objects: 2_000_000,
         sharing: false,
+        slots: 0,
     };
     let Ok((heap, seats)) = Heap::create(alloc, shape, SEATS, &NoPlan) else {
         return None;
