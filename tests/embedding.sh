@@ -11,7 +11,7 @@ mkdir -p "$folder/crates/first_hour/src"
 
 # The crates that the program stands on, with their lines.
 : >"$folder/crates.txt"
-left="managed_heap plain_heap"
+left=$(sed -n 's/^    first_hour: //p' "$page")
 while [ -n "$left" ]; do
     name=${left%% *}
     left=${left#"$name"}
