@@ -43,6 +43,19 @@ def defined(text):
     return [name for name in names if f"\n{name} = refl" not in text]
 
 
+def heads(text):
+    """How many lines begin with each word, or have it behind words of small letters alone: those that define it, or go on with its definition."""
+    found = collections.Counter()
+    for line in text.split("\n"):
+        words = set()
+        for word in line.split(" "):
+            words.add(word)
+            if not re.fullmatch("[a-z]+", word):
+                break
+        found.update(words)
+    return found
+
+
 def main():
     counts = collections.Counter()
     texts = {}
@@ -55,9 +68,9 @@ def main():
     for path, text in sorted(texts.items()):
         if not path.endswith(".antt") or not is_looked_at(path):
             continue
+        own = heads(text)
         for name in defined(text):
-            own = sum(1 for line in text.split("\n") if re.match(r"(?:[a-z]+ )*" + re.escape(name) + r"( |$)", line))
-            if counts[name] <= own and name not in named:
+            if counts[name] <= own[name] and name not in named:
                 print(f"{os.path.relpath(path, TOP)}: {name}")
                 left += 1
     print(f"{left} without a user", file=sys.stderr)

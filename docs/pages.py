@@ -1,0 +1,52 @@
+"""Numbers in the prose of pages and in their tables, for the checks in docs/check/ that compare them."""
+import functools
+import re
+import sys
+
+sys.path.insert(0, "bench")
+import figures  # noqa: E402
+
+WORDS = {"nine": 9, "sixteen": 16, "seventeen": 17, "eighteen": 18, "nineteen": 19, "twenty": 20, "fifty-three": 53, "fifty-four": 54, "fifty-five": 55}
+
+table = figures.table
+tables = figures.tables
+number = figures.number
+
+
+@functools.lru_cache(maxsize=None)
+def text_of(page):
+    with open(page, encoding="utf-8") as it:
+        return it.read()
+
+
+def value(told):
+    """The number that digits or a word say."""
+    told = told.lower()
+    return WORDS[told] if told in WORDS else float(told.replace(",", ""))
+
+
+def says(what, page, pattern, *expected, near=0.0):
+    """Tells where a page doesn't have these numbers, each as near as this, wherever it has this pattern; and where it nowhere has it."""
+    found = re.findall(pattern, text_of(page))
+    if not found:
+        print(f"{page}: {what} isn't told as {pattern}")
+    for groups in found:
+        told = groups if isinstance(groups, tuple) else (groups,)
+        for it, number_there in zip(told, expected):
+            try:
+                right = abs(value(it) - number_there) <= near
+            except ValueError:
+                right = False
+            if not right:
+                print(f"{page}: {what}: {it}, where it is {number_there:g}")
+
+
+def rows_of(page, *columns):
+    """The rows of the one table with these columns, each as the cells of these columns."""
+    header, rows = table(page, *columns)
+    return [[row[header.index(it)] for it in columns] for row in rows]
+
+
+def label(cell):
+    """What a row is of: a script's name without what is told of it."""
+    return cell.split(":")[0].strip("`* ")
