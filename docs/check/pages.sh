@@ -14,4 +14,4 @@ END { if (open) print "docs/EMBEDDING.md: nothing is told of what the program wr
 
 grep -l '^<!-- closure: ' docs/*.md | xargs python3 docs/closure.py || true
 python3 bench/figures.py --check || true
-python3 tests/shown.py >/dev/null || true
+python3 tests/shown.py | grep -v ' named, ' | sed 's|^|docs/SHOWN.md: |' || true
