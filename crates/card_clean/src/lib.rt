@@ -18,9 +18,9 @@
 //! A marked cell whose allocation bit is clear is still being written by its maker, without a barrier. It isn't scanned, and its card is dirtied
 //! again. So is the card where a cell that was marked found no packet with room.
 //!
-//! Cards are given out in two ways. While mutators run, and among the helpers of a stop, they are drawn from one counter ([`next_card`]), and
-//! [`clean_one`] cleans one with a packet of its own. The seat that stopped the world and is alone looks at each and cleans the dirty ones
-//! ([`clean_dirty`]); a clean card costs it one load.
+//! Cards are given out in two ways. While mutators run they are drawn from one counter ([`next_card`]), and [`clean_one`] cleans one with a packet of its
+//! own. In a stop each seat looks at every card and cleans the dirty ones, and a clean card costs it one load: the seat that drains and its helpers each from a
+//! stretch of its own on ([`clean_dirty_round`]), so that they meet seldom, and the seat that is alone from the first one on ([`clean_dirty`]).
 //!
 //! # The end of a drain
 //!
