@@ -12,7 +12,7 @@ use Rattle.mark_core.specs.declared.kinds.Phase.{Phase}
 use Rattle.mark_core.specs.declared.kinds.Phase.TheVariants.{Full, Idle, Marking}
 use Rattle.mark_core.specs.declared.kinds.Shape.{Shape}
 use Rattle.mark_core.specs.declared.kinds.Step.{Step}
-use Rattle.mark_core.specs.declared.kinds.Step.TheVariants.{AddStat, ClaimBlock, DropStep, NextSeason, RaiseStep, ReadCat, ReadFree, ReadOwn, ReadPhase, ReadSeason, ReadStat, StoreField, StoreNew, StorePhase, StorePosition, StoreRoot, StoreValue, ExchangeField, ExchangeValue}
+use Rattle.mark_core.specs.declared.kinds.Step.TheVariants.{AddStat, ClaimBlock, DropStep, NextSeason, RaiseStep, ReadCat, ReadFree, ReadOwn, ReadPhase, ReadSeason, ReadStat, StoreField, StoreNew, StorePhase, StorePosition, StoreRoot, StoreValue, ExchangeField, ExchangeValue, ReadSlot, StoreSlot}
 use Rattle.mark_core.specs.declared.seat.SeatState.{SeatState}
 use Rattle.gc_table.specs.Log.{all_steps, event, events, Only, steps_of}
 use Rattle.gc_table.specs.PlainSteps.{own_section}
@@ -76,6 +76,8 @@ pays-calm (StoreField v i w) e = absurd (false≢true e)
 pays-calm (StoreValue v n) e = absurd (false≢true e)
 pays-calm (ExchangeField v i x y) e = absurd (false≢true e)
 pays-calm (ExchangeValue v m n) e = absurd (false≢true e)
+pays-calm (ReadSlot k) e = absurd (false≢true e)
+pays-calm (StoreSlot k r) e = absurd (false≢true e)
 pays-calm (StoreRoot v r) e = absurd (false≢true e)
 pays-calm (StoreNew c part word) e = absurd (false≢true e)
 pays-calm ReadSeason e = absurd (false≢true e)

@@ -3,7 +3,7 @@ use Rattle.std.proofs.Common.{ℕ, ◌≡◌, ap, ◌∙◌, subst, true, Some, 
 use Rattle.std.proofs.lemmas.Bool.{false≢true}
 use Rattle.mark_core.specs.declared.kinds.Shape.{Shape}
 use Rattle.mark_core.specs.declared.kinds.Step.{Step}
-use Rattle.mark_core.specs.declared.kinds.Step.TheVariants.{ReadCat, ReadOwn}
+use Rattle.mark_core.specs.declared.kinds.Step.TheVariants.{ReadCat, ReadOwn, ReadSlot}
 use Rattle.gc_table.specs.Log.{events, Only}
 use Rattle.gc_table.specs.Running.{Ran}
 use Rattle.gc_table.specs.declared.view.View.{View}
@@ -76,6 +76,7 @@ tried-more done u v w a r s =
 keeps-fill : (step : Step) → keeps_section step ≡ true → fills_part step ≡ true
 keeps-fill (ReadOwn c i) e = absurd (false≢true e)
 keeps-fill (ReadCat v) e = absurd (false≢true e)
+keeps-fill (ReadSlot k) e = absurd (false≢true e)
 keeps-fill step e = e
 
 -- what a call of rounds leaves, once one of them has an answer
