@@ -31,6 +31,7 @@ module _ (r : Ended) (h : Heap) (s : Sections) (z : ℕ) (xs : List HeapSeat) (m
   pub are-seated : AreSeated s h.shape.cells h.shape xs
   are-seated = record {
     owned = made.owned;
+    slots = made.slots;
     cell_count = refl;
     fields = made.fields;
     sections = omega (arith, made.sections, section-count s);

@@ -42,6 +42,7 @@ pub record IsNewSeatOfPlay (h : Heap) (s : Sections) (n : ℕ) (x : HeapSeat) : 
 -- a heap that was made for a script, with all its seats
 pub record IsMadeForScript (s : Sections) (h : Heap) (xs : List HeapSeat) : Type 0 where
   pub owned : IsFalse h.shape.sharing
+  pub slots : h.shape.slots ≡ 0
   pub fields : h.shape.fields ≡ s.fields
   pub sections : h.shape.sections ≡ 1 + length s.warehouses
   pub enough : 1 + length s.warehouses ≤ length xs

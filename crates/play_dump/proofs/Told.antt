@@ -75,8 +75,11 @@ module _ (s : Sections) (r : Report) (w : Words) (e : IsEndOf s r w) where
   pub root-count : length w.roots.items ≡ length (section_numbers s) * 32
   root-count =
       let x : TableState = end_state s r w e in
+      let none : x.core.shape.slots ≡ 0 = ap (λ (h : Shape). h.slots) e.closed.end.shape ∙ e.closed.made.slots in
+      let all : x.core.shape.sections ≡ length (section_numbers s) = ap (λ (h : Shape). h.sections) e.closed.end.shape ∙ e.closed.made.sections in
+      let spare : (n : ℕ) → n * 32 + n * 0 ≡ n * 32 = λ n. omega arith in
       ap length (roots-are s e.shape e.seats w e.closed)
-      ∙ (roots-length x.core e.closed.end.whole.core ∙ ap (λ (n : ℕ). n * 32) (ap (λ (h : Shape). h.sections) e.closed.end.shape ∙ e.closed.made.sections))
+      ∙ (roots-length x.core e.closed.end.whole.core ∙ (ap (λ (k : ℕ). x.core.shape.sections * 32 + x.core.shape.sections * k) none ∙ (spare x.core.shape.sections ∙ ap (λ (n : ℕ). n * 32) all)))
 
   pub root-within : (k d : ℕ) → k < length w.roots.items → get_or w.roots.items k d ≤ length w.idents.items
   root-within k d inside = of (slice_index w.roots.items k) refl

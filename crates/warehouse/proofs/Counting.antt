@@ -2,7 +2,7 @@
 use Rattle.std.proofs.Common.{ℕ, ◌≡◌, ◌==◌, List, refl, Bool, true, false, not}
 use Rattle.std.proofs.lemmas.Bool.{and_left, false≢true, not-true}
 use Rattle.mark_core.specs.declared.kinds.Step.{Step}
-use Rattle.mark_core.specs.declared.kinds.Step.TheVariants.{AddStat, NextSeason, StoreField, StoreValue, StoreRoot, StoreNew, StorePhase, ExchangeField, ExchangeValue}
+use Rattle.mark_core.specs.declared.kinds.Step.TheVariants.{AddStat, NextSeason, StoreField, StoreValue, StoreRoot, StoreNew, StorePhase, ExchangeField, ExchangeValue, StoreSlot}
 use Rattle.gc_table.specs.Log.{Only, all_steps}
 use Rattle.gc_table.specs.Running.{Ran}
 use Rattle.gc_table.specs.Taking.{after}
@@ -31,6 +31,7 @@ fills-stores (StoreValue v n) b = absurd (false≢true b)
 fills-stores (StoreRoot v r) b = absurd (false≢true b)
 fills-stores (ExchangeField v i x y) b = absurd (false≢true b)
 fills-stores (ExchangeValue v m n) b = absurd (false≢true b)
+fills-stores (StoreSlot k r) b = absurd (false≢true b)
 fills-stores (StoreNew c part word) b = absurd (false≢true b)
 fills-stores step b = refl
 

@@ -3,7 +3,7 @@ use Rattle.std.proofs.Common.{ℕ, ◌≡◌, ◌+◌, ◌&&◌, ◌||◌, List,
 use Rattle.std.proofs.lemmas.Bool.{false≢true}
 use Rattle.mark_core.specs.declared.kinds.Shape.{Shape}
 use Rattle.mark_core.specs.declared.kinds.Step.{Step}
-use Rattle.mark_core.specs.declared.kinds.Step.TheVariants.{StoreField, StoreValue, StoreRoot, StoreNew, StorePhase, ExchangeField, ExchangeValue}
+use Rattle.mark_core.specs.declared.kinds.Step.TheVariants.{StoreField, StoreValue, StoreRoot, StoreNew, StorePhase, ExchangeField, ExchangeValue, StoreSlot}
 use Rattle.gc_table.specs.declared.view.Entry.{Entry}
 use Rattle.gc_table.specs.declared.view.View.{View}
 use Rattle.gc_table.specs.Log.{Only, events}
@@ -29,6 +29,7 @@ spares-leaves fields (StoreValue v n) b = absurd (false≢true b)
 spares-leaves fields (StoreRoot v r) b = absurd (false≢true b)
 spares-leaves fields (ExchangeField v i x y) b = absurd (false≢true b)
 spares-leaves fields (ExchangeValue v m n) b = absurd (false≢true b)
+spares-leaves fields (StoreSlot k r) b = absurd (false≢true b)
 spares-leaves fields (StoreNew c part word) b = absurd (false≢true b)
 spares-leaves fields (StorePhase to) b = b
 spares-leaves fields step b = refl

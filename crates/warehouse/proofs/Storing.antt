@@ -3,7 +3,7 @@ use Rattle.std.proofs.Common.{ℕ, ◌≡◌, ◌==◌, ◌&&◌, ◌||◌, List
 use Rattle.std.proofs.lemmas.Bool.{and_from, and_parts, or_right, false≢true}
 use Rattle.mark_core.specs.Seats.{is_the}
 use Rattle.mark_core.specs.declared.kinds.Step.{Step}
-use Rattle.mark_core.specs.declared.kinds.Step.TheVariants.{StoreField, StoreValue, StoreRoot, StoreNew, ExchangeField, ExchangeValue}
+use Rattle.mark_core.specs.declared.kinds.Step.TheVariants.{StoreField, StoreValue, StoreRoot, StoreNew, ExchangeField, ExchangeValue, StoreSlot}
 use Rattle.gc_table.specs.Log.{all_steps, events}
 use Rattle.gc_table.specs.Running.{Ran, after_all}
 use Rattle.gc_table.specs.Taking.{after}
@@ -20,6 +20,7 @@ stores_none (StoreValue v n) = false
 stores_none (StoreRoot v r) = false
 stores_none (ExchangeField v i x y) = false
 stores_none (ExchangeValue v m n) = false
+stores_none (StoreSlot k r) = false
 stores_none (StoreNew c part word) = false
 stores_none step = true
 
@@ -29,6 +30,7 @@ writes-none (StoreValue v m) n b = absurd (false≢true b)
 writes-none (StoreRoot v r) n b = absurd (false≢true b)
 writes-none (ExchangeField v i x y) n b = absurd (false≢true b)
 writes-none (ExchangeValue v m k) n b = absurd (false≢true b)
+writes-none (StoreSlot k r) n b = absurd (false≢true b)
 writes-none (StoreNew c part word) n b = absurd (false≢true b)
 writes-none step n b = refl
 
