@@ -74,8 +74,8 @@ void settle(const Heap &heap) {
     heap.words[kLast].fetch_add(marked);
     heap.words[kRescanned].store(0);
     heap.words[kRescanned].fetch_add(0);
-    uint64_t above = heap.words[kFree].load() - (heap.sizes.cells - marked);
-    heap.words[kFree].fetch_sub(above);
+    heap.words[kFree].store(0);
+    heap.words[kFree].fetch_add(heap.sizes.cells - marked);
     heap.words[kTraced].store(0);
     heap.words[kNextCard].store(0);
 }

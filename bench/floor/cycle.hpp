@@ -87,7 +87,7 @@ inline void settle(const Heap &heap, uint64_t rescanned) {
     for (uint64_t b = 0; b < heap.blocks; b++) used += std::popcount(heap.words[heap.allocs + b].load());
     set_statistic(heap, kLast, used);
     set_statistic(heap, kRescanned, rescanned);
-    heap.words[kFree].fetch_add(heap.sizes.cells - used - heap.words[kFree].load());
+    set_statistic(heap, kFree, heap.sizes.cells - used);
     heap.words[kTraced].store(0);
     heap.words[kNextCard].store(0);
 }

@@ -3,7 +3,7 @@ use Rattle.std.specs.Prelude.{ℕ, ◌==◌, Bool, false}
 use Rattle.mark_core.specs.Places.{counter_at}
 use Rattle.mark_core.specs.declared.kinds.Phase.TheVariants.{Idle}
 use Rattle.mark_core.specs.declared.kinds.Step.{Step}
-use Rattle.mark_core.specs.declared.kinds.Step.TheVariants.{AddStat, ReadStat, Reset}
+use Rattle.mark_core.specs.declared.kinds.Step.TheVariants.{AddStat, Reset}
 use Rattle.gc_table.specs.declared.view.View.{View}
 use Rattle.gc_table.specs.Log.{Only}
 use Rattle.gc_table.specs.Running.{Known}
@@ -13,7 +13,6 @@ use Rattle.gc_cycle.specs.Finishing.{IsPart}
 abbrev pub adjusts : ℕ → Step → Bool
 adjusts which (Reset w) = w == which
 adjusts which (AddStat w by down) = w == which
-adjusts which (ReadStat w) = w == which
 adjusts which step = false
 
 -- the counter or statistic has come to this number, and no other word was touched

@@ -1,10 +1,10 @@
 -- The steps of a seat that is alone, and counts and sets the numbers for the next cycle.
 use Rattle.std.proofs.Common.{ℕ, ◌≡◌, ◌≤◌, ◌+◌, suc, zero, arith, refl, sym, ap, ◌∙◌, subst, Bool, true, false, not, ◌&&◌, ◌||◌, Some, None, Option, is_some, cond, eqb, eq-eqb, eqb-true, ⊎_elim, inl, inr}
-use Rattle.std.specs.Prelude.{◌==◌, if◌then◌else◌, bit_and, is_none, unwrap_or}
+use Rattle.std.specs.Prelude.{◌==◌, bit_and, is_none, unwrap_or}
 use Rattle.std.specs.Int.Count.{ones}
-use Rattle.std.proofs.lemmas.Bool.{and_from, and_parts, cases_eq, false≢true, le-leb, lt-ltb, ne_eqb, not-false, not-true, or_from, or_left, or_parts, or_right, true≢false}
+use Rattle.std.proofs.lemmas.Bool.{and_from, and_parts, cases_eq, false≢true, le-leb, ne_eqb, not-false, not-true, or_from, or_left, or_parts, or_right, true≢false}
 use Rattle.std.proofs.lemmas.Nat.{and_le_l}
-use Rattle.mark_core.specs.Bits.{complement, wrapped_difference, wrapped_sum}
+use Rattle.mark_core.specs.Bits.{complement, wrapped_sum}
 use Rattle.mark_core.specs.Steps.ColourSteps.{cleaning_after, popped_after, scan_after, seen_in, with_alloc_word}
 use Rattle.mark_core.specs.Effects.{seat_after}
 use Rattle.mark_core.specs.Notes.{is_gate, same_place, steady}
@@ -15,7 +15,7 @@ use Rattle.mark_core.proofs.Writing.Writes.{at_counter}
 use Rattle.mark_core.specs.declared.kinds.Phase.TheVariants.{Idle}
 use Rattle.mark_core.specs.declared.kinds.Shape.{Shape}
 use Rattle.mark_core.specs.declared.kinds.Step.{Step}
-use Rattle.mark_core.specs.declared.kinds.Step.TheVariants.{AddStat, ReadAlloc, ReadStat, Reset}
+use Rattle.mark_core.specs.declared.kinds.Step.TheVariants.{AddStat, ReadAlloc, Reset}
 use Rattle.mark_core.specs.declared.seat.BlockState.{BlockState}
 use Rattle.mark_core.specs.declared.seat.Cleaning.{Cleaning}
 use Rattle.mark_core.specs.declared.seat.SeatState.{SeatState}
@@ -28,7 +28,7 @@ use Rattle.gc_table.proofs.Noticing.{alone-steady, alone-step, found-noted, know
 use Rattle.gc_table.proofs.Running.{ran-found, ran-only}
 use Rattle.gc_cycle.specs.Finishing.{AllocsNoted, IsAloneIn, IsPart, ones_noted, stays_in}
 use Rattle.gc_cycle.specs.Settling.{adjusts, Sets}
-use Rattle.mark_core.specs.Numbers.{done_count, free_count, last_count, traced_count}
+use Rattle.mark_core.specs.Numbers.{done_count, free_count, last_count}
 use Rattle.gc_cycle.specs.Standing.{IsAlone}
 use Rattle.gc_cycle.proofs.Ends.Moving.{may-reset_idle, no-block}
 use Rattle.gc_cycle.proofs.Parts.{part-join, part-reset, part-step}
@@ -157,13 +157,11 @@ ones-more v w b n f a h =
 adjusts-quiet : (which : ℕ) (step : Step) → adjusts which step ≡ true → ends_alone step ≡ false
 adjusts-quiet which (Reset w) e = refl
 adjusts-quiet which (AddStat w by down) e = refl
-adjusts-quiet which (ReadStat w) e = refl
 adjusts-quiet which step e = absurd (false≢true e)
 
 adjusts-elsewhere : (which : ℕ) (at : ℕ × ℕ) → same_place (counter_at which) at ≡ false → Spares (adjusts which) at
 adjusts-elsewhere which at h sh s (Reset w) e = inl (ap (λ k. same_place (counter_at k) at) (eqb-true w which e) ∙ h)
 adjusts-elsewhere which at h sh s (AddStat w by down) e = inl (ap (λ k. same_place (counter_at k) at) (eqb-true w which e) ∙ h)
-adjusts-elsewhere which at h sh s (ReadStat w) e = inl (ap (λ k. same_place (counter_at k) at) (eqb-true w which e) ∙ h)
 adjusts-elsewhere which at h sh s step e = absurd (false≢true e)
 
 -- what was noted of another word stays
@@ -193,49 +191,31 @@ sets-clear which v w is a =
           (known-here v (Reset which) 0 (counter_at which) (same-here (counter_at which)) (steady-here v.state which 0 a.rest.alone));
     }
 
-abbrev pub changed : Bool → ℕ → ℕ → ℕ
-changed down m by = if down then wrapped_difference m by else wrapped_sum m by
-
 -- none of them is the count of parts that were played
 pub apart : (which : ℕ) → which ≤ free_count → not (which == done_count) ≡ true
 apart which l = ap not (ne_eqb which done_count (λ e. omega (arith, l, e)))
 
-pub sets-add : (which by : ℕ) (down : Bool) (v w : View) (m : ℕ) → which ≤ free_count → Took (AddStat which by down) v w → IsAloneIn Idle v → Known v (counter_at which) m → Sets which (changed down m by) v w
-sets-add which by down v w m low t a k =
+pub sets-add : (which by : ℕ) (v w : View) (m : ℕ) → which ≤ free_count → Took (AddStat which by false) v w → IsAloneIn Idle v → Known v (counter_at which) m → Sets which (wrapped_sum m by) v w
+sets-add which by v w m low t a k =
     let n = t.0 in
     let f = t.1 in
-    let step : Step = AddStat which by down in
+    let step : Step = AddStat which by false in
     let same : n ≡ m = found-noted v step n m (counter_at which) f.1 (same-here (counter_at which)) k.0 in
     let seen : IsSeen step n v = record { found = λ e. f.1; stored = λ e. absurd (false≢true e) } in
     record {
       part = part-step Idle v w step n refl (apart which low) refl seen f.0 a;
       only = only-after (adjusts which) v w step n (eq-eqb which which refl) f.0;
       known =
-          subst (λ (x : View). Known x (counter_at which) (changed down m by)) (sym f.0)
-          (subst (λ z. Known (after step n v) (counter_at which) (changed down z by)) same
-          (known-here v step n (counter_at which) (same-here (counter_at which)) (steady-here v.state which (changed down n by) a.rest.alone)));
+          subst (λ (x : View). Known x (counter_at which) (wrapped_sum m by)) (sym f.0)
+          (subst (λ z. Known (after step n v) (counter_at which) (wrapped_sum z by)) same
+          (known-here v step n (counter_at which) (same-here (counter_at which)) (steady-here v.state which (wrapped_sum n by) a.rest.alone)));
     }
 
-pub sets-read : (v w : View) (n : ℕ) → Found (ReadStat free_count) n v w → IsAloneIn Idle v → Sets free_count n v w
-sets-read v w n f a =
-    let step : Step = ReadStat free_count in
-    let seen : IsSeen step n v = record { found = λ e. f.1; stored = λ e. absurd (false≢true e) } in
-    record {
-      part = part-step Idle v w step n refl refl refl seen f.0 a;
-      only = only-after (adjusts free_count) v w step n refl f.0;
-      known =
-          subst (λ (x : View). Known x (counter_at free_count) n) (sym f.0)
-          (known-here v step n (counter_at free_count) refl (steady-here v.state free_count n a.rest.alone));
-    }
-
-pub may-add : (which by : ℕ) (down : Bool) (v : View) → IsAlone v → last_count ≤ which → which ≤ free_count → May (AddStat which by down) v
-may-add which by down v h l m x i k a = (
+pub may-add : (which by : ℕ) (v : View) → IsAlone v → last_count ≤ which → which ≤ free_count → May (AddStat which by false) v
+may-add which by v h l m x i k a = (
   and_from _ _ (and_from _ _ (le-leb _ _ l) (le-leb _ _ (omega (arith, m)))) (takes v h),
   (or_left (not (which == done_count)) _ (apart which m), tt),
 )
 
-pub may-read_free : (v : View) → May (ReadStat free_count) v
-may-read_free v x i k a = (lt-ltb _ _ (omega arith), tt)
-
-pub may-clear : (which : ℕ) (v : View) → which ≤ traced_count → IsAloneIn Idle v → May (Reset which) v
-may-clear which v l a = may-reset_idle which v (le-leb _ _ (omega (arith, l))) a
+pub may-clear : (which : ℕ) (v : View) → which ≤ free_count → IsAloneIn Idle v → May (Reset which) v
+may-clear which v l a = may-reset_idle which v (le-leb _ _ l) a

@@ -1,4 +1,4 @@
-use Rattle.std.proofs.Common.{◌≡◌, ◌+◌, ◌%◌, subst, arith, false}
+use Rattle.std.proofs.Common.{◌≡◌, ◌+◌, ◌%◌, subst, arith}
 use Rattle.gc_table.specs.Seats.{view_of}
 use Rattle.gc_table.specs.declared.view.View.{View}
 use Rattle.gc_cycle.specs.Settling.{Sets}
@@ -11,8 +11,7 @@ reset-requires-clause-may c = may-clear c.args.which (view_of c.args.seat.now) c
 pub add_stat-requires-clause-may : goal.add_stat-requires-clause-may
 add_stat-requires-clause-may c =
     let s = sets-clear c.args.which (view_of c.args.seat.now) (view_of c.reset.new.seat) c.reset.ensures.view c.requires.alone in
-    let high = c.requires.which.1 in
-    may-add c.args.which c.args.number false (view_of c.reset.new.seat) s.part.alone.rest c.requires.which.0 (omega (arith, high))
+    may-add c.args.which c.args.number (view_of c.reset.new.seat) s.part.alone.rest c.requires.which.0 c.requires.which.1
 
 pub returns-clause-sets : goal.returns-clause-sets
 returns-clause-sets c =
@@ -22,8 +21,7 @@ returns-clause-sets c =
     let which = c.args.which in
     let number = c.args.number in
     let s = sets-clear which u v c.reset.ensures.view c.requires.alone in
-    let high = c.requires.which.1 in
-    let t = sets-add which number false v w 0 (omega (arith, high)) c.add_stat.ensures.view s.part.alone s.known in
+    let t = sets-add which number v w 0 c.requires.which.1 c.add_stat.ensures.view s.part.alone s.known in
     let fits = c.ranges.number.fits in
     let same : (0 + number) % 18446744073709551616 ≡ number = omega (arith, fits) in
     sets-join which 0 number u v w s (subst (λ n. Sets which n v w) same t)

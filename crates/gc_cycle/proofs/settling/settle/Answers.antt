@@ -19,20 +19,20 @@ returns-clause-part c =
     let v : View = view_of c.count_published-marked.new.seat in
     let w2 : View = view_of c.set_statistic.new.seat in
     let w3 : View = view_of c.set_statistic-2.new.seat in
-    let w5 : View = view_of c.set_free.new.seat in
+    let w5 : View = view_of c.set_statistic-3.new.seat in
     let w4 : View = view_of c.clear_statistic.new.seat in
     let w0 : View = view_of c.clear_statistic-2.new.seat in
     part-join Idle u v w0 c.count_published-marked.ensures.part
     (part-join Idle v w2 w0 c.set_statistic.ensures.sets.part
     (part-join Idle w2 w3 w0 c.set_statistic-2.ensures.sets.part
-    (part-join Idle w3 w5 w0 c.set_free.ensures.sets.part (part-join Idle w5 w4 w0 c.clear_statistic.ensures.sets.part c.clear_statistic-2.ensures.sets.part))))
+    (part-join Idle w3 w5 w0 c.set_statistic-3.ensures.sets.part (part-join Idle w5 w4 w0 c.clear_statistic.ensures.sets.part c.clear_statistic-2.ensures.sets.part))))
 
 pub returns-clause-end : goal.returns-clause-end
 returns-clause-end c =
     let v : View = view_of c.count_published-marked.new.seat in
     let w2 : View = view_of c.set_statistic.new.seat in
     let w3 : View = view_of c.set_statistic-2.new.seat in
-    let w5 : View = view_of c.set_free.new.seat in
+    let w5 : View = view_of c.set_statistic-3.new.seat in
     let w4 : View = view_of c.clear_statistic.new.seat in
     let w0 : View = view_of c.clear_statistic-2.new.seat in
     let marked = c.count_published-marked.result in
@@ -40,7 +40,7 @@ returns-clause-end c =
     let p = c.count_published-marked.ensures in
     let s2 = c.set_statistic.ensures.sets in
     let s3 = c.set_statistic-2.ensures.sets in
-    let s5 = c.set_free.ensures.sets in
+    let s5 = c.set_statistic-3.ensures.sets in
     let s4 = c.clear_statistic.ensures.sets in
     let s0 = c.clear_statistic-2.ensures.sets in
     let keeps : KeepsAllocs v w0 =
