@@ -25,7 +25,7 @@ CleanedFrom sh from (suc k) n es = (a b : ℕ) × (xs ys : List Entry) × (es �
 abbrev pub CleansDirty : Shape → ℕ → List Entry → Type 0
 CleansDirty sh n es =
     ((n ≡ 0) × (es ≡ looks_clean 0 (card_count sh)))
-    ⊎ ((card : ℕ) × (card < card_count sh) × (rest : List Entry) × (es ≡ looks_dirty 0 card ++ rest) × (((n ≡ 0) × NoPacket sh rest) ⊎ CleansWithPacket (CleanedFrom sh card (card_count sh - card) n) rest))
+    ⊎ ((card : ℕ) × (card < card_count sh) × (rest : List Entry) × (es ≡ looks_dirty 0 card ++ rest) × (((n ≡ 0) × NoPacket sh rest × IsTrue (only_moves output_pools rest)) ⊎ CleansWithPacket (CleanedFrom sh card (card_count sh - card) n) rest))
 
 -- so many cards are passed with one packet
 abbrev pub stretch_cards : ℕ

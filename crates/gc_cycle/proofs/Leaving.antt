@@ -3,9 +3,16 @@ use Rattle.std.proofs.Common.{◌≡◌, refl, true}
 use Rattle.std.proofs.lemmas.Bool.{false≢true}
 use Rattle.mark_core.specs.declared.kinds.Step.{Step}
 use Rattle.mark_core.specs.declared.kinds.Step.TheVariants.{AddStat, Reset}
+use Rattle.packet_pools.specs.OnlyTraced.{traces_cells}
 use Rattle.stop_world.specs.Waiting.{watches}
+use Rattle.sweeper.specs.Sweepers.{is_sweeping}
 use Rattle.gc_cycle.specs.Lower.{sweeps_next, traces_or_cleans}
 use Rattle.gc_cycle.specs.Statistics.{leaves_numbers}
+
+pub cells-leave : (step : Step) → traces_cells step ≡ true → leaves_numbers step ≡ true
+cells-leave (AddStat which by down) e = absurd (false≢true e)
+cells-leave (Reset which) e = absurd (false≢true e)
+cells-leave step e = refl
 
 pub traces-leave : (step : Step) → traces_or_cleans step ≡ true → leaves_numbers step ≡ true
 traces-leave (AddStat which by down) e = absurd (false≢true e)
@@ -16,6 +23,11 @@ pub sweeps-leave : (step : Step) → sweeps_next step ≡ true → leaves_number
 sweeps-leave (AddStat which by down) e = absurd (false≢true e)
 sweeps-leave (Reset which) e = absurd (false≢true e)
 sweeps-leave step e = refl
+
+pub sweeping-leaves : (step : Step) → is_sweeping step ≡ true → leaves_numbers step ≡ true
+sweeping-leaves (AddStat which by down) e = absurd (false≢true e)
+sweeping-leaves (Reset which) e = absurd (false≢true e)
+sweeping-leaves step e = refl
 
 pub watches-leave : (step : Step) → watches step ≡ true → leaves_numbers step ≡ true
 watches-leave (AddStat which by down) e = absurd (false≢true e)

@@ -26,6 +26,7 @@ use Rattle.gc_table.specs.declared.view.View.{View}
 use Rattle.gc_table.proofs.History.Log.{only-more}
 use Rattle.gc_table.proofs.Noticing.{alone-kept, alone-steady, known-here}
 use Rattle.gc_table.proofs.Running.{ran-shape, state-kept}
+use Rattle.packet_pools.specs.Counts.{count_of}
 use Rattle.packet_pools.specs.OnlyTraced.{IsNotedMarked}
 use Rattle.card_clean.specs.Drained.{FindsWork, IsNotedRoot}
 use Rattle.stop_world.specs.Waiting.{HasStopped, Waits}
@@ -38,7 +39,8 @@ use Rattle.gc_cycle.specs.Finishing.{finishes, IsAloneIn, IsPart, stays_in}
 use Rattle.gc_cycle.specs.Lower.{sweeps_next}
 use Rattle.gc_cycle.specs.Mutating.{keeps_section, tries_stopping}
 use Rattle.gc_cycle.specs.Standing.{IsAlone}
-use Rattle.gc_cycle.specs.Stepping.{AwaitsStop, CleansLast, Drains, IsOwner, HasSwept, Keeps, MakesRound, RunsAgain, says_marked, says_root, IsAtRoots, IsAtSweep}
+use Rattle.gc_cycle.specs.Sorts.{pops}
+use Rattle.gc_cycle.specs.Stepping.{AwaitsStop, BringsBack, CleansLast, Drains, IsOwner, HasSwept, Keeps, MakesRound, RunsAgain, says_marked, says_root, IsAtRoots, IsAtSweep}
 use Rattle.gc_cycle.specs.Turns.{DrainsFor}
 use Rattle.gc_cycle.proofs.Refills.Collected.{full-alone, only-drop, resumed-mutates}
 use Rattle.gc_cycle.proofs.Refills.KnownFull.{full-known}
@@ -221,5 +223,6 @@ rooted-back v d =
     record { rest = d.rest; rooted = record { ready = record { drains = d.drain; next_block = d.next_block }; roots = λ i h. root-from i v (look (2, i) v.known) refl (d.roots i h) } }
 
 -- after a look that found something left, a round was made
-pub makes-round : (most : ℕ) (sh : Shape) (v w x : View) → v.shape ≡ sh → Ran v w → FindsWork sh (events v w) → Ran w x → DrainsFor most w x → CleansLast w x → MakesRound most v x
-makes-round most sh v w x e r f q d k = record { looked = w; looks = r; left = subst (λ s. FindsWork s (events v w)) (sym e) f; ran = q; worked = d; cleans = k }
+pub makes-round : (most : ℕ) (sh : Shape) (v w x : View) → v.shape ≡ sh → Ran v w → FindsWork sh (events v w) → Ran w x → BringsBack w x → DrainsFor most w x → count_of pops (events w x) ≤ most → CleansLast w x → MakesRound most v x
+makes-round most sh v w x e r f q b d m k =
+    record { looked = w; looks = r; left = subst (λ s. FindsWork s (events v w)) (sym e) f; ran = q; brings = b; worked = d; at_most = m; cleans = k }

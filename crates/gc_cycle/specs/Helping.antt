@@ -1,5 +1,5 @@
 -- What a helper does in a stop, and why it ends.
-use Rattle.std.specs.Prelude.{ℕ, ◌≡◌, ◌≢◌, ◌+◌, ◌&&◌, ◌||◌, not, List, [], ◌∷◌, Bool, true, nat_le, nat_lt, IsTrue}
+use Rattle.std.specs.Prelude.{ℕ, ◌≡◌, ◌≢◌, ◌≤◌, ◌+◌, ◌&&◌, ◌||◌, not, List, [], ◌∷◌, Bool, true, nat_le, nat_lt, IsTrue}
 use Rattle.mark_core.specs.Layout.{block_count}
 use Rattle.mark_core.specs.Numbers.{empty_offset}
 use Rattle.mark_core.specs.Seats.{saw}
@@ -56,6 +56,7 @@ pub record SweepsAll (sh : Shape) (helped : Helped) (es : List Entry) : Type 0 w
 -- what it did is what it says, by the phase in which it helped
 pub record HelpsAs (quota : ℕ) (helped : Helped) (v : View) (es : List Entry) : Type 0 where
   pub traced : count_of pops es ≡ helped.traced
+  pub most : helped.traced ≤ quota
   pub rescanned : rescanned_in v es ≡ helped.rescanned
   pub swept : count_of (draws_block (block_count v.shape)) es ≡ helped.swept
   pub drain : IsTrue (saw v.state.phase_seen Drain) → DrainsTo helped.ended v.shape quota helped.traced (begins v) es

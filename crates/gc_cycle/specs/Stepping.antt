@@ -12,7 +12,9 @@ use Rattle.gc_table.specs.Log.{event, events}
 use Rattle.gc_table.specs.Notes.{look}
 use Rattle.gc_table.specs.Seats.{Took}
 use Rattle.gc_table.specs.declared.view.View.{View}
-use Rattle.packet_pools.specs.Seeking.{deferred_pools, only_moves, some_event}
+use Rattle.packet_pools.specs.Counts.{count_of}
+use Rattle.packet_pools.specs.Seeking.{some_event}
+use Rattle.tracer.specs.Recycling.{Recycled}
 use Rattle.card_clean.specs.DirtyCards.{CleansDirty}
 use Rattle.card_clean.specs.Drained.{FindsWork}
 use Rattle.card_clean.specs.Taking.{NoPacket}
@@ -22,7 +24,7 @@ use Rattle.sweeper.specs.Freeing.{block_floor}
 use Rattle.gc_cycle.specs.Drained.{DrainedAlone}
 use Rattle.gc_cycle.specs.Ending.{InEach, IsCycleEnd, IsExact}
 use Rattle.gc_cycle.specs.Finishing.{IsAloneIn}
-use Rattle.gc_cycle.specs.Sorts.{begins_exactly}
+use Rattle.gc_cycle.specs.Sorts.{begins_exactly, pops}
 use Rattle.gc_cycle.specs.Standing.{IsAlone, KeepsSeat, KeepsSection, Mutates}
 use Rattle.gc_cycle.specs.Turns.{DrainsFor}
 use Rattle.gc_cycle.specs.declared.counts.Counts.{Counts}
@@ -117,7 +119,8 @@ pub record LacksPacket (v w : View) : Type 0 where
   pub looks : Ran v looked
   pub lacks : NoPacket v.shape (events v looked)
   pub ran : Ran looked w
-  pub brings : IsTrue (only_moves deferred_pools (events looked w))
+  pub count : ℕ
+  pub brings : Recycled v.shape count (events looked w)
 
 -- after whatever was done first, every card was seen clean, or one was seen dirty, and then no packet was found, or each card from it on was cleaned where it
 -- was dirty
@@ -128,14 +131,24 @@ pub record CleansLast (v w : View) : Type 0 where
   pub count : ℕ
   pub cleans : CleansDirty v.shape count (events traced w)
 
--- a look at the cards and at the count of packets found something left; and after it a round was made, in which so many cells were popped, or at some moment
--- nothing was left in hand and there was no packet to read from, and at last the cards were cleaned
+-- what was deferred was brought back before all else
+pub record BringsBack (v w : View) : Type 0 where
+  pub brought : View
+  pub first : Ran v brought
+  pub count : ℕ
+  pub brings : Recycled v.shape count (events v brought)
+  pub last : Ran brought w
+
+-- a look at the cards and at the count of packets found something left; and after it a round was made: first what was deferred was brought back; then so many
+-- cells were popped and no more, or fewer, and at some moment nothing was left in hand and there was no packet to read from; and at last the cards were cleaned
 pub record MakesRound (most : ℕ) (v w : View) : Type 0 where
   pub looked : View
   pub looks : Ran v looked
   pub left : FindsWork v.shape (events v looked)
   pub ran : Ran looked w
+  pub brings : BringsBack looked w
   pub worked : DrainsFor most looked w
+  pub at_most : count_of pops (events looked w) ≤ most
   pub cleans : CleansLast looked w
 
 -- since then a drain began with no cell marked, and the seat is in it or in what follows it

@@ -1,5 +1,5 @@
 //! The drain: what the mutators left is marked, first with the helpers and then alone.
-ghost use Rattle.std.specs.Prelude.{ℕ, ◌≡◌, ◌<◌, ◌+◌, ◌⊎◌, [], ◌∷◌, min, IsTrue};
+ghost use Rattle.std.specs.Prelude.{ℕ, ◌≡◌, ◌<◌, ◌≤◌, ◌+◌, ◌⊎◌, [], ◌∷◌, min, IsTrue};
 ghost use Rattle.mark_core.specs.Numbers.{card_counter, empty_offset};
 ghost use Rattle.mark_core.specs.Places.{the_next_card};
 ghost use Rattle.mark_core.specs.Seats.{phase_number};
@@ -7,16 +7,17 @@ ghost use Rattle.mark_core.specs.declared.kinds.Phase.{Phase};
 ghost use Rattle.mark_core.specs.declared.kinds.Phase.TheVariants.{Idle, Marking, Drain, Sweep};
 ghost use Rattle.mark_core.specs.declared.kinds.Step.TheVariants.{Reset, StorePhase};
 ghost use Rattle.gc_table.specs.Seats.{Across, did, Sits, state_of, view_of};
+ghost use Rattle.packet_pools.specs.Counts.{count_of};
 ghost use Rattle.packet_pools.specs.Seeking.{some_event};
 ghost use Rattle.gc_table.specs.Log.{event, events};
 ghost use Rattle.gc_table.specs.Running.{Ran};
 ghost use Rattle.card_clean.specs.Leaving.{rescanned_in};
-ghost use Rattle.gc_cycle.specs.DrainRounds.{DrainsAlone, DrainsTogether};
+ghost use Rattle.gc_cycle.specs.DrainRounds.{BringsAtLast, DrainsAlone, DrainsTogether};
 ghost use Rattle.gc_cycle.specs.Drained.{DrainedAlone};
 ghost use Rattle.gc_cycle.specs.Finishing.{DrainsInStop, IsAloneIn, IsMove, IsPart, most};
 ghost use Rattle.gc_cycle.specs.Lower.{HasTraced};
-ghost use Rattle.gc_cycle.specs.Sorts.{sees_all_empty as says_all_empty};
-ghost use Rattle.gc_cycle.specs.Stepping.{CleansLast};
+ghost use Rattle.gc_cycle.specs.Sorts.{pops, sees_all_empty as says_all_empty};
+ghost use Rattle.gc_cycle.specs.Stepping.{BringsBack, CleansLast};
 ghost use Rattle.gc_cycle.specs.Turns.{DrainsFor, SeesToRoots, round_quota};
 
 use crate::lower::{
@@ -54,6 +55,8 @@ pub(crate) fn drain_round(heap: &Heap, seat: &mut HeapSeat, quota: u32) -> u32
     ensures traced { Across HasTraced seat.old seat.new }
     ensures rescanned { rescanned_in (view_of seat.old) (did seat.old seat.new) ≡ result }
     ensures worked { Across (DrainsFor quota) seat.old seat.new }
+    ensures brings { Across BringsBack seat.old seat.new }
+    ensures most { count_of pops (did seat.old seat.new) ≤ quota }
     ensures cleans { Across CleansLast seat.old seat.new }
 {
     recycle_deferred(heap, seat);
@@ -83,6 +86,7 @@ fn trace_and_look(heap: &Heap, seat: &mut HeapSeat) -> bool
     ensures traced { Across HasTraced seat.old seat.new }
     ensures rescanned { rescanned_in (view_of seat.old) (did seat.old seat.new) ≡ 0 }
     ensures worked { Across (DrainsFor round_quota) seat.old seat.new }
+    ensures brings { Across BringsBack seat.old seat.new }
     ensures empty { IsTrue result → IsTrue (some_event (says_all_empty (empty_offset + heap.now.shape.packets)) (did seat.old seat.new)) }
 {
     recycle_deferred(heap, seat);
@@ -98,6 +102,7 @@ fn trace_to_end<R: Wait>(rt: &R, heap: &Heap, seat: &mut HeapSeat)
     ensures traced { Across HasTraced seat.old seat.new }
     ensures rescanned { rescanned_in (view_of seat.old) (did seat.old seat.new) ≡ 0 }
     ensures worked { Across (DrainsFor round_quota) seat.old seat.new }
+    ensures brings { Across BringsAtLast seat.old seat.new }
     ensures empty { IsTrue (some_event (says_all_empty (empty_offset + heap.now.shape.packets)) (did seat.old seat.new)) }
 {
     for _ in rt.forever() {

@@ -15,6 +15,11 @@ ghost use Rattle.gc_table.specs.declared.view.Entry.{Entry};
 ghost use Rattle.packet_pools.specs.Counts.{count_of};
 ghost use Rattle.packet_pools.specs.Seeking.{some_event};
 ghost use Rattle.packet_pools.specs.Tracing.{traces};
+ghost use Rattle.tracer.specs.Deferral.{Defers};
+ghost use Rattle.tracer.specs.Recycling.{Recycled};
+ghost use Rattle.tracer.specs.Tally.{Tally};
+ghost use Rattle.card_clean.specs.declared.cleaned.Cleaned.{Cleaned};
+ghost use Rattle.card_clean.specs.Cleaning.{CleansOne};
 ghost use Rattle.card_clean.specs.DirtyCards.{CleansDirty, CleansRound};
 ghost use Rattle.card_clean.specs.Drained.{FindsNoDirtyCard, FindsWork};
 ghost use Rattle.card_clean.specs.Passing.{card_floor};
@@ -29,6 +34,7 @@ ghost use Rattle.gc_cycle.specs.Lower.{GivesCard, EndsTrace, HasTraced, ScansRoo
 ghost use Rattle.gc_cycle.specs.Moments.{at_some_moment, begins, finds_no_room};
 ghost use Rattle.gc_cycle.specs.Sorts.{sees_all_empty as says_all_empty, clears, clears_card, draws, draws_or_clears, draws_block, pops, reads_pace, reads_root, sees_last_block, sees_to_card};
 ghost use Rattle.gc_cycle.specs.Standing.{is_at_rest};
+ghost use Rattle.gc_cycle.specs.Statistics.{leaves_numbers};
 ghost use Rattle.gc_cycle.specs.Stepping.{LacksPacket};
 
 pub(crate) use alloc_cache::retire;
@@ -47,6 +53,8 @@ pub fn trace(heap: &Heap, seat: &mut HeapSeat, quota: u32) -> Traced
     ensures traced { Across HasTraced seat.old seat.new }
     ensures ends { Across (EndsTrace quota result) seat.old seat.new }
     ensures most { result.done ≤ quota }
+    ensures tally { Across (Tally result.done result.deferred result.overflowed) seat.old seat.new }
+    ensures deferral { Across Defers seat.old seat.new }
     ensures rescanned { rescanned_in (view_of seat.old) (did seat.old seat.new) ≡ 0 }
     ensures uncleaned { IsTrue (never draws_or_clears (did seat.old seat.new)) }
     ensures unrooted { IsTrue (never reads_root (did seat.old seat.new)) }
@@ -60,6 +68,7 @@ pub fn recycle_deferred(heap: &Heap, seat: &mut HeapSeat) -> u32
     requires seat { Sits heap.now seat.old × IsTrue (traces (view_of seat.old)) }
     requires rest { IsTrue (is_at_rest heap.now.shape (state_of seat.old)) }
     ensures seat { Sits heap.now seat.new }
+    ensures recycled { Recycled heap.now.shape result (did seat.old seat.new) }
     ensures traced { Across HasTraced seat.old seat.new }
     ensures rescanned { rescanned_in (view_of seat.old) (did seat.old seat.new) ≡ 0 }
     ensures uncleaned { IsTrue (never draws_or_clears (did seat.old seat.new)) }
@@ -94,6 +103,7 @@ pub(crate) fn clean_dirty(heap: &Heap, seat: &mut HeapSeat) -> u32
     ensures traced { Across HasTraced seat.old seat.new }
     ensures rescanned { rescanned_in (view_of seat.old) (did seat.old seat.new) ≡ result }
     ensures cleans { CleansDirty heap.now.shape result (did seat.old seat.new) }
+    ensures unpopped { IsTrue (never pops (did seat.old seat.new)) }
 {
     card_clean::clean_dirty(heap, seat)
 }
@@ -160,6 +170,7 @@ pub(crate) fn sees_to_roots(heap: &Heap, seat: &mut HeapSeat) -> bool
     ensures seat { Sits heap.now seat.new }
     ensures part { Across (IsPart Drain) seat.old seat.new }
     ensures next { look the_next_block (view_of seat.new).known ≡ Some 0 }
+    ensures numbers { Across (Only leaves_numbers) seat.old seat.new }
     ensures rescanned { rescanned_in (view_of seat.old) (did seat.old seat.new) ≡ 0 }
     ensures rooted { IsTrue result → RootedAlone (view_of seat.new) }
     ensures lacks { IsFalse result → Across LacksPacket seat.old seat.new }
@@ -219,6 +230,7 @@ pub fn clean(heap: &Heap, seat: &mut HeapSeat, card: u32) -> Option<u32>
     ensures seat { Sits heap.now seat.new }
     ensures traced { Across HasTraced seat.old seat.new }
     ensures some { IfSome result (λ n. (rescanned_in (view_of seat.old) (did seat.old seat.new) ≡ n) × IsTrue (some_event (clears_card card) (did seat.old seat.new))) }
+    ensures cleans { IfSome result (λ n. (r : Cleaned) × (r.rescanned ≡ n) × CleansOne heap.now.shape card r (did seat.old seat.new)) }
     ensures most { IfSome result (λ n. n ≤ card_cells) }
     ensures left { IfNone result (rescanned_in (view_of seat.old) (did seat.old seat.new) ≡ 0) }
     ensures none { IfNone result (IsTrue (at_some_moment heap.now.shape (finds_no_room heap.now.shape) (begins (view_of seat.old)) (did seat.old seat.new))) }
@@ -240,6 +252,7 @@ pub(crate) fn clear_rest(heap: &Heap, seat: &mut HeapSeat)
     ensures seat { Sits heap.now seat.new }
     ensures part { Across (IsPart Clear) seat.old seat.new }
     ensures end { block_count heap.now.shape ≤ block_floor (view_of seat.new) }
+    ensures numbers { Across (Only leaves_numbers) seat.old seat.new }
     ensures rescanned { rescanned_in (view_of seat.old) (did seat.old seat.new) ≡ 0 }
 {
     sweeper::clear_rest(heap, seat);

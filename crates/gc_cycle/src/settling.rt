@@ -1,12 +1,16 @@
 //! The numbers for the next cycle.
-ghost use Rattle.std.specs.Prelude.{◌≡◌, ◌≤◌};
+ghost use Rattle.std.specs.Prelude.{◌≡◌, ◌≤◌, [], ◌∷◌, false};
 ghost use Rattle.mark_core.specs.Numbers.{free_count, last_count};
 ghost use Rattle.mark_core.specs.Layout.{block_count};
 ghost use Rattle.mark_core.specs.declared.kinds.Phase.TheVariants.{Idle};
+ghost use Rattle.mark_core.specs.declared.kinds.Step.TheVariants.{AddStat, Reset};
+ghost use Rattle.gc_table.specs.Log.{Only};
 ghost use Rattle.gc_table.specs.Seats.{Across, Sits, view_of};
+ghost use Rattle.gc_cycle.specs.Courses.{sets_numbers};
 ghost use Rattle.gc_cycle.specs.Ending.{InEach, IsCycleEnd};
 ghost use Rattle.gc_cycle.specs.Finishing.{AllocsNoted, IsAloneIn, IsPart, ones_noted};
 ghost use Rattle.gc_cycle.specs.Settling.{Sets};
+ghost use Rattle.gc_cycle.specs.Statistics.{ChangesBy, leaves_numbers};
 
 use crate::counts::Counts;
 use gc_table::{Heap, HeapSeat};
@@ -18,6 +22,7 @@ fn count_published(heap: &Heap, seat: &mut HeapSeat) -> u32
     requires alone { IsAloneIn Idle (view_of seat.old) }
     ensures seat { Sits heap.now seat.new }
     ensures part { Across (IsPart Idle) seat.old seat.new }
+    ensures numbers { Across (Only leaves_numbers) seat.old seat.new }
     ensures noted { AllocsNoted (block_count heap.now.shape) (view_of seat.new) }
     ensures count { result ≡ ones_noted (block_count heap.now.shape) (view_of seat.new) }
     ensures bound { result ≤ heap.now.shape.cells }
@@ -36,6 +41,7 @@ fn set_statistic(heap: &Heap, seat: &mut HeapSeat, which: u8, number: u32)
     requires which { (last_count ≤ which) × (which ≤ free_count) }
     ensures seat { Sits heap.now seat.new }
     ensures sets { Across (Sets which number) seat.old seat.new }
+    ensures numbers { Across (ChangesBy (Reset which ∷ AddStat which number false ∷ [])) seat.old seat.new }
 {
     heap.reset(seat, which);
     heap.add_stat(seat, which, number, false);
@@ -48,6 +54,7 @@ fn clear_statistic(heap: &Heap, seat: &mut HeapSeat, which: u8)
     requires which { which ≤ free_count }
     ensures seat { Sits heap.now seat.new }
     ensures sets { Across (Sets which 0) seat.old seat.new }
+    ensures numbers { Across (ChangesBy (Reset which ∷ [])) seat.old seat.new }
 {
     heap.reset(seat, which);
 }
@@ -58,6 +65,7 @@ pub(crate) fn settle(heap: &Heap, seat: &mut HeapSeat, rescanned: u32, freed: u3
     requires alone { IsAloneIn Idle (view_of seat.old) }
     ensures seat { Sits heap.now seat.new }
     ensures part { Across (IsPart Idle) seat.old seat.new }
+    ensures numbers { Across (ChangesBy (sets_numbers heap.now.shape result)) seat.old seat.new }
     ensures counts { (result.rescanned ≡ rescanned) × (result.freed ≡ freed) }
     ensures end { InEach (IsCycleEnd result) (view_of seat.new) }
 {

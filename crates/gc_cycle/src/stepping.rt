@@ -16,17 +16,22 @@
 //!
 //! A collection that began in Idle, or that drained again, is precise: the cells in use at its end are exactly the reachable ones. `IsExactSince` is handed
 //! from step to step, and [`end_collection`](crate::end_collection) says of all of them together what [`precise`](crate::precise) says of itself.
-ghost use Rattle.std.specs.Prelude.{◌≡◌, ◌≢◌, None, Some};
+ghost use Rattle.std.specs.Prelude.{◌≡◌, ◌≢◌, [], ◌∷◌, None, Some};
 ghost use Rattle.std.specs.Bool.{OnFalse, OnTrue};
-ghost use Rattle.mark_core.specs.declared.kinds.Phase.TheVariants.{Drain, Full, Idle};
+ghost use Rattle.mark_core.specs.declared.kinds.Phase.TheVariants.{Clear, Drain, Full, Idle};
+ghost use Rattle.mark_core.specs.declared.kinds.Step.TheVariants.{Reset};
+ghost use Rattle.mark_core.specs.Numbers.{block_counter, card_counter};
+ghost use Rattle.gc_table.specs.Log.{Only};
 ghost use Rattle.gc_table.specs.Rule.{KnowsFull};
 ghost use Rattle.gc_table.specs.Running.{Ran};
 ghost use Rattle.gc_table.specs.Seats.{Across, did, Sits, state_of, view_of};
 ghost use Rattle.gc_table.specs.declared.view.View.{View};
 ghost use Rattle.card_clean.specs.Drained.{FindsNoDirtyCard};
 ghost use Rattle.gc_cycle.specs.Collecting.{HoldsWorld};
+ghost use Rattle.gc_cycle.specs.Courses.{TakesCourse};
 ghost use Rattle.gc_cycle.specs.Finishing.{IsAloneIn, IsPart};
 ghost use Rattle.gc_cycle.specs.Standing.{IsOut, Mutates};
+ghost use Rattle.gc_cycle.specs.Statistics.{leaves_numbers};
 ghost use Rattle.gc_cycle.specs.Stepping.{AwaitsStop, AsksOnce, Drains, FindsRunning, FindsStopped, HasMarkedAll, IsExactSince, IsOwner, Keeps, LacksPacket, MakesRound, RunsAgain, IsAtRoots};
 
 use crate::clearing::{begin_again, begin_clear};
@@ -83,6 +88,7 @@ fn reset_blocks(heap: &Heap, seat: &mut HeapSeat)
     requires alone { IsAloneIn Drain (view_of seat.old) }
     ensures seat { Sits heap.now seat.new }
     ensures part { Across (IsPart Drain) seat.old seat.new }
+    ensures course { Across (TakesCourse [] (Reset block_counter ∷ [])) seat.old seat.new }
     ensures roots { IsAtRoots (view_of seat.new) }
 {
     heap.reset(seat, BLOCK_COUNTER);
@@ -97,6 +103,8 @@ pub fn begin_collection(heap: &Heap, seat: &mut HeapSeat) -> bool
     ensures begun { OnTrue result (IsAtRoots (view_of seat.new) × ((state_of seat.old).phase_seen ≢ Some Full)) }
     ensures exact { OnTrue result ((state_of seat.old).phase_seen ≡ Some Idle → (u : View) → Ran u (view_of seat.old) → IsExactSince u (view_of seat.new)) }
     ensures full { OnFalse result (RunsAgain (view_of seat.new) × KnowsFull (view_of seat.new)) }
+    ensures course { OnTrue result (Across (TakesCourse (Drain ∷ []) (Reset card_counter ∷ Reset block_counter ∷ [])) seat.old seat.new) }
+    ensures over { OnFalse result (Across (TakesCourse [] []) seat.old seat.new) }
     ensures keeps { Across Keeps seat.old seat.new }
 {
     if has_seen_full(seat) {
@@ -117,6 +125,7 @@ pub fn root_step(heap: &Heap, seat: &mut HeapSeat) -> bool
     ensures rooted { OnTrue result (Drains (view_of seat.new)) }
     ensures not_yet { OnFalse result (IsAtRoots (view_of seat.new) × Across LacksPacket seat.old seat.new) }
     ensures exact { (u : View) → IsExactSince u (view_of seat.old) → IsExactSince u (view_of seat.new) }
+    ensures numbers { Across (Only leaves_numbers) seat.old seat.new }
     ensures keeps { Across Keeps seat.old seat.new }
 {
     sees_to_roots(heap, seat)
@@ -132,6 +141,7 @@ pub fn drain_step(heap: &Heap, seat: &mut HeapSeat, most: u32) -> bool
     ensures drained { OnTrue result (HasMarkedAll (view_of seat.new) × FindsNoDirtyCard heap.now.shape (did seat.old seat.new)) }
     ensures not_yet { OnFalse result (Drains (view_of seat.new) × Across (MakesRound most) seat.old seat.new) }
     ensures exact { (u : View) → IsExactSince u (view_of seat.old) → IsExactSince u (view_of seat.new) }
+    ensures numbers { Across (Only leaves_numbers) seat.old seat.new }
     ensures keeps { Across Keeps seat.old seat.new }
 {
     if is_drained(heap, seat) {
@@ -149,6 +159,7 @@ pub fn drain_again(heap: &Heap, seat: &mut HeapSeat)
     ensures ran { Across Ran seat.old seat.new }
     ensures roots { IsAtRoots (view_of seat.new) }
     ensures exact { (u : View) → Ran u (view_of seat.old) → IsExactSince u (view_of seat.new) }
+    ensures course { Across (TakesCourse (Clear ∷ Drain ∷ []) (Reset card_counter ∷ Reset block_counter ∷ [])) seat.old seat.new }
     ensures keeps { Across Keeps seat.old seat.new }
 {
     begin_clear(heap, seat);

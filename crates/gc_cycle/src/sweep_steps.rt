@@ -1,17 +1,19 @@
 //! The end of a collection in steps: the sweep, whole or in pieces of so many blocks, and the end of the cycle.
-ghost use Rattle.std.specs.Prelude.{◌≡◌, ◌≢◌, ◌≤◌, min, IsTrue};
+ghost use Rattle.std.specs.Prelude.{◌≡◌, ◌≢◌, ◌≤◌, [], ◌∷◌, min, IsTrue};
 ghost use Rattle.mark_core.specs.Layout.{block_count};
-ghost use Rattle.mark_core.specs.declared.kinds.Phase.TheVariants.{Drain, Sweep};
-ghost use Rattle.gc_table.specs.Log.{events};
+ghost use Rattle.mark_core.specs.declared.kinds.Phase.TheVariants.{Drain, Idle, Sweep};
+ghost use Rattle.gc_table.specs.Log.{Only, events};
 ghost use Rattle.gc_table.specs.Running.{Ran};
 ghost use Rattle.gc_table.specs.Seats.{Across, did, Sits, view_of};
 ghost use Rattle.gc_table.specs.declared.view.View.{View};
 ghost use Rattle.packet_pools.specs.Counts.{count_of};
 ghost use Rattle.sweeper.specs.Freeing.{freed_in, block_floor};
+ghost use Rattle.gc_cycle.specs.Courses.{TakesCourse, sets_numbers};
 ghost use Rattle.gc_cycle.specs.Cycles.{collects_exactly};
 ghost use Rattle.gc_cycle.specs.Finishing.{IsAloneIn, IsMove, IsPart, most as greatest};
 ghost use Rattle.gc_cycle.specs.Moments.{begins};
 ghost use Rattle.gc_cycle.specs.Sorts.{draws_block};
+ghost use Rattle.gc_cycle.specs.Statistics.{leaves_numbers};
 ghost use Rattle.gc_cycle.specs.Stepping.{EndsCollection, HasMarkedAll, HasSwept, IsExactSince, Keeps, RunsAgain, IsAtSweep};
 
 use crate::counts::Counts;
@@ -54,6 +56,7 @@ pub fn sweep_step(heap: &Heap, seat: &mut HeapSeat, most: u32) -> SweepStep
     ensures blocks { (result.blocks ≤ most) × (count_of (draws_block (block_count heap.now.shape)) (did seat.old seat.new) ≡ result.blocks) }
     ensures freed { result.freed ≡ min (freed_in (view_of seat.old) (did seat.old seat.new)) greatest }
     ensures exact { (u : View) → IsExactSince u (view_of seat.old) → IsExactSince u (view_of seat.new) }
+    ensures numbers { Across (Only leaves_numbers) seat.old seat.new }
     ensures keeps { Across Keeps seat.old seat.new }
 {
     let mut freed: u32 = 0;
@@ -80,6 +83,7 @@ pub fn finish_collection(heap: &Heap, seat: &mut HeapSeat, freed: u32) -> Counts
     ensures ends { Across (EndsCollection result) seat.old seat.new }
     ensures counts { (result.freed ≡ freed) × (result.rescanned ≡ 0) }
     ensures collects { (u : View) → IsExactSince u (view_of seat.old) → IsTrue (collects_exactly heap.now.shape (begins u) (events u (view_of seat.new))) }
+    ensures course { Across (TakesCourse (Idle ∷ []) (sets_numbers heap.now.shape result)) seat.old seat.new }
     ensures keeps { Across Keeps seat.old seat.new }
 {
     end_sweep(heap, seat);
@@ -95,6 +99,7 @@ fn sweep_alone(heap: &Heap, seat: &mut HeapSeat) -> u32
     ensures seat { Sits heap.now seat.new }
     ensures part { Across (IsPart Sweep) seat.old seat.new }
     ensures end { block_count heap.now.shape ≤ block_floor (view_of seat.new) }
+    ensures numbers { Across (Only leaves_numbers) seat.old seat.new }
     ensures freed { freed_in (view_of seat.old) (did seat.old seat.new) ≡ result }
 {
     sweep_rest(heap, seat)
@@ -110,6 +115,7 @@ pub fn end_collection(heap: &Heap, seat: &mut HeapSeat) -> Counts
     ensures runs { RunsAgain (view_of seat.new) }
     ensures ends { Across (EndsCollection result) seat.old seat.new }
     ensures collects { (u : View) → IsExactSince u (view_of seat.old) → IsTrue (collects_exactly heap.now.shape (begins u) (events u (view_of seat.new))) }
+    ensures course { Across (TakesCourse (Sweep ∷ Idle ∷ []) (sets_numbers heap.now.shape result)) seat.old seat.new }
     ensures keeps { Across Keeps seat.old seat.new }
 {
     start_sweep(heap, seat);

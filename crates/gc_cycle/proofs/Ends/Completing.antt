@@ -18,7 +18,7 @@ use Rattle.gc_table.specs.Log.{event, events}
 use Rattle.gc_table.specs.Running.{after_all, Ran}
 use Rattle.gc_table.proofs.Running.{ran-events, ran-join, ran-only, state-kept}
 use Rattle.gc_cycle.specs.Cycles.{ends_exactly, opens_in_sweep}
-use Rattle.gc_cycle.specs.DrainRounds.{DrainsAlone, DrainsTogether, DrainsToSweep}
+use Rattle.gc_cycle.specs.DrainRounds.{DrainsAlone, DrainsTogether, DrainsToSweep, SweepsTogether}
 use Rattle.gc_cycle.specs.Events.{Sort, followed_by, never, since_last}
 use Rattle.gc_cycle.specs.Finishing.{Completes, finishes, IsMove, IsPart, stays, stays_in}
 use Rattle.card_clean.specs.Leaving.{rescans, rescanned_in}
@@ -159,8 +159,8 @@ module _ (v0 v1 v2 v3 v4 v5 v6 : View) (p1 : IsPart Drain v0 v1) (o1 : some_even
       }
 
   -- the drain that it goes on with
-  pub drains-sweep : DrainsTogether v0 v1 → DrainsAlone v1 v2 → DrainsToSweep v0 v6
-  drains-sweep t a =
+  pub drains-sweep : DrainsTogether v0 v1 → DrainsAlone v1 v2 → SweepsTogether v3 v4 → DrainsToSweep v0 v6
+  drains-sweep t a s =
       record {
         shared = v1;
         drained = v2;
@@ -168,6 +168,11 @@ module _ (v0 v1 v2 v3 v4 v5 v6 : View) (p1 : IsPart Drain v0 v1) (o1 : some_even
         alone = a;
         after = rest;
         sweeps = (events v3 v4 ++ (event (StorePhase Idle) 3 ∷ events v5 v6), rest-events);
+        moved = v3;
+        swept = v4;
+        moves = m3;
+        shares = s;
+        ends = last;
         last =
             ap (never (moves_to Drain)) rest-events
             ∙ ap not (some-none (moves_to Drain) (events v3 v4) (event (StorePhase Idle) 3 ∷ events v5 v6) (part-no-move Drain Sweep v3 v4 p4) (part-no-move Drain Idle v5 v6 p6));

@@ -9,7 +9,7 @@ use Rattle.card_clean.specs.Drained.{FindsNoDirtyCard, FindsWork}
 use Rattle.gc_cycle.specs.DrainRounds.{DrainsAlone, GoesInRounds, GoesRound}
 use Rattle.gc_cycle.specs.Drained.{DrainedAlone, RootedAlone}
 use Rattle.gc_cycle.specs.Finishing.{IsPart}
-use Rattle.gc_cycle.specs.Stepping.{CleansLast}
+use Rattle.gc_cycle.specs.Stepping.{BringsBack, CleansLast}
 use Rattle.gc_cycle.specs.Turns.{DrainsFor, round_quota}
 
 -- the rounds up to now
@@ -37,8 +37,8 @@ at-last [] v w x h e = subst (λ y. Ran y x × FindsNoDirtyCard y.shape (events 
 at-last (y ∷ ys) v w x h e = (h.0, at-last ys y w x h.1 e)
 
 -- after a look that found something left, a round was made
-pub goes-round : (sh : Shape) (v w x : View) → v.shape ≡ sh → Ran v w → FindsWork sh (events v w) → Ran w x → DrainsFor round_quota w x → CleansLast w x → GoesRound v x
-goes-round sh v w x e r f q d c = record { looked = w; looks = r; left = subst (λ s. FindsWork s (events v w)) (sym e) f; ran = q; worked = d; cleans = c }
+pub goes-round : (sh : Shape) (v w x : View) → v.shape ≡ sh → Ran v w → FindsWork sh (events v w) → Ran w x → BringsBack w x → DrainsFor round_quota w x → CleansLast w x → GoesRound v x
+goes-round sh v w x e r f q b d c = record { looked = w; looks = r; left = subst (λ s. FindsWork s (events v w)) (sym e) f; ran = q; brings = b; worked = d; cleans = c }
 
 pub goes-on : (u v w : View) → IsDraining u v → GoesRound v w → IsDraining u w
 goes-on u v w d g = record { rooted = d.rooted; first = d.first; roots = d.roots; rounds = d.rounds ++ w ∷ []; gone = one-more d.rounds d.rooted v w d.gone g }

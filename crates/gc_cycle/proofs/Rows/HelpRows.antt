@@ -1,5 +1,5 @@
 -- Helpers, computed.
-use Rattle.std.proofs.Common.{ℕ, ◌≡◌, ◌+◌, ◌-◌, refl, sym, ap, List, [], ◌∷◌, ◌++◌, true, false}
+use Rattle.std.proofs.Common.{ℕ, ◌≡◌, ◌+◌, ◌-◌, arith, refl, sym, ap, List, [], ◌∷◌, ◌++◌, true, false}
 use Rattle.std.specs.Prelude.{◌==◌}
 use Rattle.std.proofs.lemmas.Bool.{true≢false}
 use Rattle.mark_core.specs.Numbers.{block_counter, card_counter, empty_offset, high_pool_number, low_pool_number}
@@ -22,7 +22,7 @@ to_the_end : helped_to_the_end small (at_rest drainer) cleans_the_last ≡ true
 to_the_end = refl
 
 help_ends : HelpsAs 100 nothing_to_do (seen_by drainer) cleans_the_last
-help_ends = record { traced = refl; rescanned = refl; swept = refl; drain = λ e. (differ, refl, refl); sweep = λ e. absurd (true≢false (sym e)) }
+help_ends = record { traced = refl; most = omega arith; rescanned = refl; swept = refl; drain = λ e. (differ, refl, refl); sweep = λ e. absurd (true≢false (sym e)) }
   where
     differ : (◌≡◌ {A = ℕ} 0 100) → ⊥
     differ e = absurd (true≢false (sym (ap (λ n. n == 100) e)))
@@ -68,7 +68,7 @@ abbrev all_swept : Helped
 all_swept = record { traced = 0; rescanned = 0; swept = 0; ended = Swept }
 
 sweeps : HelpsAs 100 all_swept (seen_by sweeper) (did (ReadStat block_counter) 1 ∷ [])
-sweeps = record { traced = refl; rescanned = refl; swept = refl; drain = λ e. absurd (true≢false (sym e)); sweep = λ e. (refl, record { ended = refl; end = refl }) }
+sweeps = record { traced = refl; most = omega arith; rescanned = refl; swept = refl; drain = λ e. absurd (true≢false (sym e)); sweep = λ e. (refl, record { ended = refl; end = refl }) }
 
 refused-sweep : HelpsAs 100 all_swept (seen_by sweeper) [] → ⊥
 refused-sweep h = absurd (true≢false (sym (h.sweep refl).1.end))

@@ -117,7 +117,7 @@ returns-in_default-take_some-clause-cleans c =
     let w : View = view_of c.first_dirty.new.seat in
     let x : View = view_of c.take_some.new.seat in
     let d = c.in-Some.ensures.dirty in
-    inr (c.in-Some.card, d.1, events w x, events-join v w x c.first_dirty.ensures.only.log c.take_some.ensures.only.log ∙ ap (λ es. es ++ events w x) d.2, inl (refl, c.in_default-take_some.ensures.none.1))
+    inr (c.in-Some.card, d.1, events w x, events-join v w x c.first_dirty.ensures.only.log c.take_some.ensures.only.log ∙ ap (λ es. es ++ events w x) d.2, inl (refl, c.in_default-take_some.ensures.none.1, c.take_some.ensures.moves))
 
 pub returns-clause-cleans : goal.returns-clause-cleans
 returns-clause-cleans c =

@@ -56,7 +56,7 @@ loop-preserved g c =
       sits = c.drain_round.ensures.seat;
       part = part-join Drain v w y i.part (part-join Drain w x y p q);
       rooted = c.drain_round.ensures.traced.rooted c.is_drained.ensures.seat.1;
-      draining = goes-on v w y i.draining (goes-round c.args.heap.now.shape w x y i.sits.1 p.ran (c.is_drained.ensures.undrained c.if-is_drained.false) q.ran c.drain_round.ensures.worked c.drain_round.ensures.cleans);
+      draining = goes-on v w y i.draining (goes-round c.args.heap.now.shape w x y i.sits.1 p.ran (c.is_drained.ensures.undrained c.if-is_drained.false) q.ran c.drain_round.ensures.brings c.drain_round.ensures.worked c.drain_round.ensures.cleans);
       count = omega (arith, all, last, none, some, sum, before);
     }
 

@@ -109,6 +109,7 @@ returns-clause-drains g c =
       roots = λ s l. t2.roots s (subst (λ (sh : Shape). s < sh.sections) c.requires.seat.1 l);
       traces = t3.traced.ran;
       worked = t3.worked;
+      brings = t3.brings;
       emptied = subst (λ (sh : Shape). some_event (sees_all_empty (empty_offset + sh.packets)) (events y z) ≡ true) (sym c.requires.seat.1) t3.empty;
       closes = (e.ran, e.only);
     }

@@ -12,7 +12,7 @@ use Rattle.gc_cycle.specs.Standing.{is_at_rest}
 use Rattle.gc_cycle.specs.Turns.{round_quota}
 use Rattle.gc_cycle.proofs.Longer.{has-traced}
 use Rattle.gc_cycle.proofs.Traced.{drains-on, drains-rest, drains-trace, rescans-last}
-use Rattle.gc_cycle.proofs.Turns.{traced-within}
+use Rattle.gc_cycle.proofs.Turns.{brings-back, traced-within}
 use Rattle.gc_cycle.proofs.draining.trace_and_look.Goals as goal
 
 pub recycle_deferred-requires-clause-seat : goal.recycle_deferred-requires-clause-seat
@@ -54,3 +54,12 @@ returns-clause-empty c = λ yes.
     let f = sees_all_empty (empty_offset + c.args.heap.now.shape.packets) in
     ap (some_event f) (ran-events v x y (ran-join v w x c.recycle_deferred.ensures.traced.ran c.trace.ensures.traced.ran) c.sees_all_empty.ensures.traced.ran)
     ∙ some-right f (events v x) (events x y) (c.sees_all_empty.ensures.empty yes)
+
+pub returns-clause-brings : goal.returns-clause-brings
+returns-clause-brings c =
+    let v : View = view_of c.args.seat.now in
+    let w : View = view_of c.recycle_deferred.new.seat in
+    let x : View = view_of c.trace.new.seat in
+    let y : View = view_of c.sees_all_empty.new.seat in
+    let r = c.recycle_deferred.ensures in
+    brings-back c.args.heap.now.shape c.recycle_deferred.result v w y c.requires.seat.1 r.traced.ran r.recycled (ran-join w x y c.trace.ensures.traced.ran c.sees_all_empty.ensures.traced.ran)

@@ -59,3 +59,6 @@ returns-then-trace_and_look-clause-empty g c =
     let e = c.trace_and_look.ensures in
     let f = sees_all_empty (empty_offset + c.args.heap.now.shape.packets) in
     ap (some_event f) (ran-events v w x c.loop.invariant.traced.ran e.traced.ran) ∙ some-right f (events v w) (events w x) (e.empty c.if-trace_and_look.true)
+
+pub returns-then-trace_and_look-clause-brings : goal.returns-then-trace_and_look-clause-brings
+returns-then-trace_and_look-clause-brings g c = record { begun = view_of c.loop.seat; before = c.loop.invariant.traced.ran; round = c.trace_and_look.ensures.brings }

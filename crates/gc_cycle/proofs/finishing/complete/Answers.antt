@@ -31,4 +31,4 @@ returns-clause-drains g c =
     let t = c.drain_together.ensures.drains in
     let a = c.drain_alone.ensures.drains in
     drains-sweep (view_of c.args.seat.now) (view_of c.drain_together.new.seat) (view_of c.drain_alone.new.seat) (view_of c.begin_sweep.new.seat) (view_of c.sweep_together-freed.new.seat) (view_of c.end_sweep.new.seat) (view_of c.settle.new.seat)
-    t.part (together-opened (view_of c.args.seat.now) (view_of c.drain_together.new.seat) t) a.part c.begin_sweep.ensures.moved c.sweep_together-freed.ensures.part c.sweep_together-freed.ensures.opened c.end_sweep.ensures.moved c.settle.ensures.part t a
+    t.part (together-opened (view_of c.args.seat.now) (view_of c.drain_together.new.seat) t) a.part c.begin_sweep.ensures.moved c.sweep_together-freed.ensures.part c.sweep_together-freed.ensures.opened c.end_sweep.ensures.moved c.settle.ensures.part t a c.sweep_together-freed.ensures.sweeps

@@ -1,4 +1,4 @@
-use Rattle.std.proofs.Common.{ℕ, eqb-true, ◌≡◌, ◌∙◌, refl, sym, ap, true, false, not, Option, Some, None, ◌||◌}
+use Rattle.std.proofs.Common.{ℕ, arith, eqb-true, ◌≡◌, ◌∙◌, refl, sym, ap, true, false, not, Option, Some, None, ◌||◌}
 use Rattle.std.specs.Prelude.{◌==◌}
 use Rattle.std.proofs.lemmas.Bool.{false≢true, true≢false}
 use Rattle.mark_core.specs.Layout.{block_count}
@@ -130,6 +130,7 @@ swept-as quota helped v w p s =
     record {
       traced = count-none pops (events v w) (ap not (none-of-steps sweeps_next pops sweeps-unpopped (events v w) s.only)) ∙ sym s.traced;
       rescanned = total-none rescans sweeps_next sweeps-unscanned (events v w) v s.only ∙ sym s.rescanned;
+      most = let none = s.traced in omega (arith, none);
       swept = s.swept;
       drain = λ h. absurd (true≢false (sym h ∙ ap (λ o. saw o Drain) p));
       sweep = λ _. (s.traced, record { ended = s.ended; end = s.end });
@@ -139,6 +140,7 @@ drained-as : (quota : ℕ) (helped : Helped) (v w : View) → v.state.phase_seen
 drained-as quota helped v w p h e =
     record {
       traced = h.traced;
+      most = h.most;
       rescanned = h.rescanned;
       swept = count-none (draws_block (block_count v.shape)) (events v w) (ap not (none-of-steps traces_or_cleans (draws_block (block_count v.shape)) (traces-unswept (block_count v.shape)) (events v w) h.drained.only)) ∙ sym h.swept;
       drain = λ _. drains-to helped.ended quota helped.traced v w h.stops e;

@@ -156,3 +156,6 @@ returns-in-Some-clause-unread c = unread-of (view_of c.args.seat.now) (view_of c
 
 pub returns-in-None-clause-unread : goal.returns-in-None-clause-unread
 returns-in-None-clause-unread c = unread-of (view_of c.args.seat.now) (view_of c.clean_one.new.seat) c.in-None.ensures.only
+
+pub returns-in-Some-clause-cleans : goal.returns-in-Some-clause-cleans
+returns-in-Some-clause-cleans c = (c.in-Some.cleaned, refl, c.in-Some.ensures.some.0)

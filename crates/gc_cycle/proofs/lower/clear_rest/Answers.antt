@@ -21,6 +21,7 @@ use Rattle.card_clean.specs.Leaving.{rescans}
 use Rattle.gc_cycle.proofs.Ends.Moving.{no-block}
 use Rattle.gc_cycle.proofs.Sequences.{total-none}
 use Rattle.gc_cycle.proofs.Ends.Swept.{floor-above}
+use Rattle.gc_cycle.specs.Statistics.{leaves_numbers}
 use Rattle.gc_cycle.proofs.lower.clear_rest.Goals as goal
 
 clearing-stays : (step : Step) → is_clearing step ≡ true → stays_in Clear step ≡ true
@@ -75,3 +76,12 @@ returns-clause-rescanned c =
     let v : View = view_of c.args.seat.now in
     let w : View = view_of c.clear_rest.new.seat in
     total-none rescans is_clearing clearing-rescans (events v w) v c.clear_rest.ensures.only
+
+clearing-leaves : (step : Step) → is_clearing step ≡ true → leaves_numbers step ≡ true
+clearing-leaves NextBlock e = refl
+clearing-leaves ClearMarks e = refl
+clearing-leaves (ReadStat which) e = refl
+clearing-leaves step e = absurd (false≢true e)
+
+pub returns-clause-numbers : goal.returns-clause-numbers
+returns-clause-numbers c = only-more is_clearing leaves_numbers clearing-leaves (view_of c.args.seat.now) (view_of c.clear_rest.new.seat) c.clear_rest.ensures.only

@@ -6,11 +6,15 @@ use Rattle.mark_core.specs.declared.kinds.Shape.{Shape}
 use Rattle.gc_table.specs.Log.{events}
 use Rattle.gc_table.specs.Seats.{view_of}
 use Rattle.gc_table.specs.declared.view.View.{View}
-use Rattle.packet_pools.specs.OnlyTraced.{OnlyTraced}
+use Rattle.packet_pools.specs.OnlyTraced.{OnlyTraced, traces_cells}
 use Rattle.packet_pools.specs.Seeking.{deferred_pools}
 use Rattle.packet_pools.specs.Tracing.{Traces}
 use Rattle.card_clean.specs.Taking.{NoPacket}
 use Rattle.card_clean.proofs.Staying.{ready-stays}
+use Rattle.gc_table.proofs.History.Log.{only-more}
+use Rattle.gc_table.proofs.Running.{ran-only}
+use Rattle.gc_cycle.specs.Statistics.{leaves_numbers}
+use Rattle.gc_cycle.proofs.Leaving.{cells-leave}
 use Rattle.gc_cycle.specs.Finishing.{IsAloneIn}
 use Rattle.gc_cycle.specs.Lower.{HasTraced}
 use Rattle.gc_cycle.specs.Standing.{is_at_rest}
@@ -19,6 +23,7 @@ use Rattle.gc_cycle.proofs.Ends.Moving.{no-work}
 use Rattle.gc_cycle.proofs.Parts.{part-join}
 use Rattle.gc_cycle.proofs.Ends.Rooted.{ready-of, rest-room}
 use Rattle.gc_cycle.proofs.Traced.{alone-traces, nothing-rest, rescans-none, traced-part}
+use Rattle.tracer.specs.Recycling.{Recycled}
 use Rattle.gc_cycle.proofs.lower.sees_to_roots.Goals as goal
 
 rest-of : (v : View) → IsAloneIn Drain v → is_at_rest v.shape v.state ≡ true
@@ -112,5 +117,18 @@ returns-clause-lacks c t =
       looks = e.only.ran;
       lacks = subst (λ (sh : Shape). NoPacket sh (events v (view_of c.see_to_roots.new.seat))) (sym c.requires.seat.1) (e.none c.if-see_to_roots.false).1;
       ran = r.only.ran;
-      brings = r.recycled.moves;
+      count = c.recycle_deferred.result;
+      brings = subst (λ (sh : Shape). Recycled sh c.recycle_deferred.result (events (view_of c.see_to_roots.new.seat) (view_of c.recycle_deferred.new.seat))) (sym c.requires.seat.1) r.recycled;
     }
+
+pub returns-then-see_to_roots-clause-numbers : goal.returns-then-see_to_roots-clause-numbers
+returns-then-see_to_roots-clause-numbers c = only-more traces_cells leaves_numbers cells-leave (view_of c.args.seat.now) (view_of c.see_to_roots.new.seat) c.see_to_roots.ensures.only.only
+
+pub returns-clause-numbers : goal.returns-clause-numbers
+returns-clause-numbers c =
+    let v : View = view_of c.args.seat.now in
+    let w : View = view_of c.see_to_roots.new.seat in
+    let x : View = view_of c.recycle_deferred.new.seat in
+    let e = c.see_to_roots.ensures.only in
+    let r = c.recycle_deferred.ensures.only in
+    ran-only leaves_numbers v w x e.ran r.ran (only-more traces_cells leaves_numbers cells-leave v w e.only) (only-more traces_cells leaves_numbers cells-leave w x r.only)

@@ -1,10 +1,14 @@
-use Rattle.std.proofs.Common.{arith}
+use Rattle.std.proofs.Common.{arith, refl}
 use Rattle.gc_table.specs.Seats.{view_of}
 use Rattle.gc_table.specs.declared.view.View.{View}
 use Rattle.mark_core.specs.declared.kinds.Phase.TheVariants.{Idle}
 use Rattle.std.proofs.lemmas.Nat.{ones-le}
 use Rattle.gc_cycle.proofs.Parts.{part-join}
 use Rattle.gc_cycle.proofs.Ends.Sets.{allocs-more, ones-more, part-read}
+use Rattle.mark_core.specs.declared.kinds.Step.TheVariants.{ReadAlloc}
+use Rattle.gc_table.proofs.History.Log.{only-after}
+use Rattle.gc_table.proofs.Running.{ran-found, ran-only}
+use Rattle.gc_cycle.specs.Statistics.{leaves_numbers}
 use Rattle.gc_cycle.proofs.settling.count_published.Goals as goal
 
 pub loop-b-preserved : goal.loop-b-preserved
@@ -23,6 +27,7 @@ loop-b-preserved c =
     record {
       sits = c.read_alloc.ensures.seat;
       part = part-join Idle u v w i.part (part-read v w b n f i.part.alone);
+      numbers = ran-only leaves_numbers u v w i.part.ran (ran-found v w (ReadAlloc b) n refl f) i.numbers (only-after leaves_numbers v w (ReadAlloc b) n refl f.0);
       noted = allocs-more v w b n f i.part.alone.rest i.noted;
       count = omega (arith, one, count);
       bound = omega (arith, few, bound);

@@ -1,8 +1,11 @@
-use Rattle.std.proofs.Common.{◌≡◌, ◌+◌, ◌%◌, subst, arith}
+use Rattle.std.proofs.Common.{◌≡◌, ◌+◌, ◌%◌, [], ◌∷◌, false, subst, arith}
 use Rattle.gc_table.specs.Seats.{view_of}
 use Rattle.gc_table.specs.declared.view.View.{View}
 use Rattle.gc_cycle.specs.Settling.{Sets}
 use Rattle.gc_cycle.proofs.Ends.Sets.{may-add, may-clear, sets-add, sets-clear, sets-join}
+use Rattle.mark_core.specs.declared.kinds.Step.TheVariants.{AddStat, Reset}
+use Rattle.gc_cycle.proofs.Changes.{by-join}
+use Rattle.gc_cycle.proofs.Courses.{add-changes, reset-changes}
 use Rattle.gc_cycle.proofs.settling.set_statistic.Goals as goal
 
 pub reset-requires-clause-may : goal.reset-requires-clause-may
@@ -25,3 +28,12 @@ returns-clause-sets c =
     let fits = c.ranges.number.fits in
     let same : (0 + number) % 18446744073709551616 ≡ number = omega (arith, fits) in
     sets-join which 0 number u v w s (subst (λ n. Sets which n v w) same t)
+
+pub returns-clause-numbers : goal.returns-clause-numbers
+returns-clause-numbers c =
+    let u : View = view_of c.args.seat.now in
+    let v : View = view_of c.reset.new.seat in
+    let w : View = view_of c.add_stat.new.seat in
+    let which = c.args.which in
+    let number = c.args.number in
+    by-join (Reset which ∷ []) (AddStat which number false ∷ []) u v w (reset-changes which u v c.reset.ensures.view) (add-changes which number v w c.add_stat.ensures.view)

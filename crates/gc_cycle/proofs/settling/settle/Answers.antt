@@ -11,6 +11,10 @@ use Rattle.gc_cycle.specs.Finishing.{AllocsNoted, ones_noted}
 use Rattle.gc_cycle.proofs.Ends.Ended.{cycle-ends}
 use Rattle.gc_cycle.proofs.Parts.{part-join}
 use Rattle.gc_cycle.proofs.Ends.Sets.{allocs-kept, KeepsAllocs, ones-kept, sets-kept}
+use Rattle.gc_cycle.specs.Courses.{sets_numbers}
+use Rattle.gc_cycle.specs.Statistics.{ChangesBy}
+use Rattle.gc_cycle.proofs.Changes.{only-changes}
+use Rattle.gc_cycle.proofs.Courses.{settled-changes}
 use Rattle.gc_cycle.proofs.settling.settle.Goals as goal
 
 pub returns-clause-part : goal.returns-clause-part
@@ -64,3 +68,17 @@ returns-clause-end c =
     (p.count ∙ (sym (ones-kept n v w0 p.noted keeps) ∙ ap (λ (sh : Shape). ones_noted (block_count sh) w0) (sym shape)))
     last rescanned traced s0.known
     (subst (λ (m : ℕ). Known w0 (counter_at free_count) m) (ap (λ (sh : Shape). sh.cells - marked) (c.shape.ensures ∙ sym shape)) free)
+
+pub returns-clause-numbers : goal.returns-clause-numbers
+returns-clause-numbers c =
+    let u : View = view_of c.args.seat.now in
+    let v : View = view_of c.count_published-marked.new.seat in
+    let w2 : View = view_of c.set_statistic.new.seat in
+    let w3 : View = view_of c.set_statistic-2.new.seat in
+    let w5 : View = view_of c.set_statistic-3.new.seat in
+    let w4 : View = view_of c.clear_statistic.new.seat in
+    let w0 : View = view_of c.clear_statistic-2.new.seat in
+    let p = c.count_published-marked.ensures in
+    let marked = c.count_published-marked.result in
+    subst (λ (sh : Shape). ChangesBy (sets_numbers sh (record { marked = marked; freed = c.args.freed; rescanned = c.args.rescanned })) u w0) c.shape.ensures
+    (settled-changes marked c.args.rescanned _ u v w2 w3 w5 w4 w0 (only-changes u v p.part.ran p.numbers) c.set_statistic.ensures.numbers c.set_statistic-2.ensures.numbers c.set_statistic-3.ensures.numbers c.clear_statistic.ensures.numbers c.clear_statistic-2.ensures.numbers)

@@ -1,5 +1,5 @@
 use Rattle.std.proofs.Common.{◌≡◌, ◌∷◌, [], ap, ◌∙◌, ◌⊎◌, ⊎_elim}
-use Rattle.mark_core.specs.Numbers.{card_counter}
+use Rattle.mark_core.specs.Numbers.{block_counter, card_counter}
 use Rattle.mark_core.specs.Seats.{phase_number}
 use Rattle.mark_core.specs.declared.kinds.Phase.{Phase}
 use Rattle.mark_core.specs.declared.kinds.Phase.TheVariants.{Drain, Idle, Marking}
@@ -17,6 +17,9 @@ use Rattle.gc_cycle.proofs.Ends.Completing.{part-exact}
 use Rattle.gc_cycle.proofs.Ends.Spared.{finish-keeps}
 use Rattle.gc_cycle.proofs.Ends.Exactly.{exact-begun}
 use Rattle.gc_cycle.proofs.Stepped.{full-resumed, holds-idle, keeps-join, part-keeps, resumed-runs}
+use Rattle.gc_table.specs.Running.{Ran}
+use Rattle.gc_cycle.specs.Courses.{TakesCourse}
+use Rattle.gc_cycle.proofs.Courses.{course-begun, course-drop, course-join}
 use Rattle.gc_cycle.proofs.stepping.begin_collection.Goals as goal
 
 pub returns-then-has_seen_full-clause-full : goal.returns-then-has_seen_full-clause-full
@@ -54,3 +57,18 @@ returns-clause-keeps c =
     let b = c.begin_drain.ensures in
     let a = (holds-phase v c.requires.stopped c.if-has_seen_full.ensures.other).0 in
     keeps-join v w x (finish-keeps v w b.ran (begun-only v w a b.events)) (part-keeps Drain w x c.reset_blocks.ensures.part)
+
+begun-course : (v w : View) → Ran v w → IsAloneIn Idle v ⊎ IsAloneIn Marking v → ((p : Phase) → IsAloneIn p v → events v w ≡ event (StorePhase Drain) (phase_number p) ∷ event (Reset card_counter) 0 ∷ []) → TakesCourse (Drain ∷ []) (Reset card_counter ∷ []) v w
+begun-course v w r h e = ⊎_elim (λ a. course-begun 0 v w r (e Idle a)) (λ a. course-begun 1 v w r (e Marking a)) h
+
+pub returns-clause-course : goal.returns-clause-course
+returns-clause-course c =
+    let v : View = view_of c.args.seat.now in
+    let w : View = view_of c.begin_drain.new.seat in
+    let x : View = view_of c.reset_blocks.new.seat in
+    let b = c.begin_drain.ensures in
+    let a = (holds-phase v c.requires.stopped c.if-has_seen_full.ensures.other).0 in
+    course-join (Drain ∷ []) [] (Reset card_counter ∷ []) (Reset block_counter ∷ []) v w x (begun-course v w b.ran a b.events) c.reset_blocks.ensures.course
+
+pub returns-then-has_seen_full-clause-over : goal.returns-then-has_seen_full-clause-over
+returns-then-has_seen_full-clause-over c = course-drop (view_of c.args.seat.now) (view_of c.resume.new.seat) c.resume.ensures.ran c.resume.ensures.step

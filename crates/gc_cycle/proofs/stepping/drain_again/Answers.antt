@@ -1,4 +1,4 @@
-use Rattle.std.proofs.Common.{ap, ◌∙◌}
+use Rattle.std.proofs.Common.{[], ◌∷◌, ap, ◌∙◌}
 use Rattle.mark_core.specs.declared.kinds.Phase.TheVariants.{Clear, Drain}
 use Rattle.packet_pools.specs.Seeking.{some_event}
 use Rattle.packet_pools.proofs.Searches.{some-left}
@@ -12,6 +12,10 @@ use Rattle.gc_cycle.proofs.Ends.Exactly.{exact-again, exact-begun}
 use Rattle.gc_cycle.proofs.Parts.{move-finishes}
 use Rattle.gc_cycle.proofs.Ends.Spared.{finish-keeps}
 use Rattle.gc_cycle.proofs.Stepped.{keeps-join, owner-kept, part-keeps, part-owner}
+use Rattle.mark_core.specs.Numbers.{block_counter, card_counter}
+use Rattle.mark_core.specs.declared.kinds.Step.TheVariants.{Reset}
+use Rattle.gc_cycle.proofs.Changes.{only-changes}
+use Rattle.gc_cycle.proofs.Courses.{course-join, course-move, course-part}
 use Rattle.gc_cycle.proofs.stepping.drain_again.Goals as goal
 
 pub reset_blocks-requires-clause-owner : goal.reset_blocks-requires-clause-owner
@@ -58,3 +62,15 @@ returns-clause-keeps c =
     let m = c.begin_clear.ensures.moved in
     let b = c.begin_again.ensures.begun in
     keeps-join v w z (finish-keeps v w m.ran (move-finishes Drain Clear v w m)) (keeps-join w x z (part-keeps Clear w x c.clear_rest.ensures.part) (keeps-join x y z (finish-keeps x y b.ran b.only) (part-keeps Drain y z c.reset_blocks.ensures.part)))
+
+pub returns-clause-course : goal.returns-clause-course
+returns-clause-course c =
+    let v : View = view_of c.args.seat.now in
+    let w : View = view_of c.begin_clear.new.seat in
+    let x : View = view_of c.clear_rest.new.seat in
+    let y : View = view_of c.begin_again.new.seat in
+    let z : View = view_of c.reset_blocks.new.seat in
+    let p = c.clear_rest.ensures in
+    course-join (Clear ∷ []) (Drain ∷ []) [] (Reset card_counter ∷ Reset block_counter ∷ []) v w z (course-move Drain Clear v w c.begin_clear.ensures.moved)
+    (course-join [] (Drain ∷ []) [] (Reset card_counter ∷ Reset block_counter ∷ []) w x z (course-part Clear [] w x p.part (only-changes w x p.part.ran p.numbers))
+    (course-join (Drain ∷ []) [] (Reset card_counter ∷ []) (Reset block_counter ∷ []) x y z c.begin_again.ensures.course c.reset_blocks.ensures.course))

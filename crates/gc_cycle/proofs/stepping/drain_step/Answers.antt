@@ -8,6 +8,11 @@ use Rattle.gc_cycle.proofs.Ends.Exactly.{exact-part}
 use Rattle.gc_cycle.proofs.Parts.{part-join}
 use Rattle.gc_cycle.proofs.Stepped.{drains-of, makes-round, part-keeps, part-owner, rooted-back}
 use Rattle.gc_cycle.proofs.Traced.{traced-part}
+use Rattle.gc_table.proofs.History.Log.{only-more}
+use Rattle.gc_table.proofs.Running.{ran-only}
+use Rattle.gc_cycle.specs.Lower.{traces_or_cleans}
+use Rattle.gc_cycle.specs.Statistics.{leaves_numbers}
+use Rattle.gc_cycle.proofs.Leaving.{traces-leave}
 use Rattle.gc_cycle.proofs.stepping.drain_step.Goals as goal
 
 alone-of : (v : View) → Drains v → IsAloneIn Drain v
@@ -55,7 +60,7 @@ returns-clause-not_yet c =
     let e = c.is_drained.ensures in
     let d = c.drain_round.ensures in (
       drains-of x (part-owner Drain v x (returns-clause-part c) c.requires.drains.owner) (d.traced.rooted e.seat.1),
-      makes-round c.args.most c.args.heap.now.shape v w x c.requires.seat.1 e.traced.ran (e.undrained c.if-is_drained.false) d.traced.ran d.worked d.cleans,
+      makes-round c.args.most c.args.heap.now.shape v w x c.requires.seat.1 e.traced.ran (e.undrained c.if-is_drained.false) d.traced.ran d.brings d.worked d.most d.cleans,
     )
 
 pub returns-clause-exact : goal.returns-clause-exact
@@ -65,3 +70,15 @@ returns-clause-exact c u k = exact-part Drain u (view_of c.args.seat.now) (view_
 pub returns-clause-keeps : goal.returns-clause-keeps
 unfolding returns-clause-part
 returns-clause-keeps c = part-keeps Drain (view_of c.args.seat.now) (view_of c.drain_round.new.seat) (returns-clause-part c)
+
+pub returns-then-is_drained-clause-numbers : goal.returns-then-is_drained-clause-numbers
+returns-then-is_drained-clause-numbers c = only-more traces_or_cleans leaves_numbers traces-leave (view_of c.args.seat.now) (view_of c.is_drained.new.seat) c.is_drained.ensures.traced.only
+
+pub returns-clause-numbers : goal.returns-clause-numbers
+returns-clause-numbers c =
+    let v : View = view_of c.args.seat.now in
+    let w : View = view_of c.is_drained.new.seat in
+    let x : View = view_of c.drain_round.new.seat in
+    let t = c.is_drained.ensures.traced in
+    let d = c.drain_round.ensures.traced in
+    only-more traces_or_cleans leaves_numbers traces-leave v x (ran-only traces_or_cleans v w x t.ran d.ran t.only d.only)

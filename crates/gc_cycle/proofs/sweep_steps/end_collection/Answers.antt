@@ -1,11 +1,14 @@
-use Rattle.std.proofs.Common.{◌∙◌}
-use Rattle.mark_core.specs.declared.kinds.Phase.TheVariants.{Drain, Sweep}
+use Rattle.std.proofs.Common.{[], ◌∷◌, ◌∙◌}
+use Rattle.mark_core.specs.declared.kinds.Phase.TheVariants.{Drain, Idle, Sweep}
 use Rattle.gc_table.specs.Seats.{view_of}
 use Rattle.gc_table.specs.declared.view.View.{View}
 use Rattle.gc_table.proofs.Running.{ran-join}
 use Rattle.gc_cycle.proofs.Ends.Completing.{move-exact, part-exact}
 use Rattle.gc_cycle.proofs.Ends.Exactly.{exact-part}
 use Rattle.gc_cycle.proofs.Stepped.{has-swept, keeps-join, part-keeps, sweeps-on}
+use Rattle.gc_cycle.specs.Courses.{sets_numbers}
+use Rattle.gc_cycle.proofs.Changes.{only-changes}
+use Rattle.gc_cycle.proofs.Courses.{course-join, course-move, course-part}
 use Rattle.gc_cycle.proofs.sweep_steps.end_collection.Goals as goal
 
 pub finish_collection-requires-clause-swept : goal.finish_collection-requires-clause-swept
@@ -53,3 +56,14 @@ returns-clause-keeps c =
     let x : View = view_of c.sweep_alone-freed.new.seat in
     let y : View = view_of c.finish_collection.new.seat in
     keeps-join v w y c.start_sweep.ensures.keeps (keeps-join w x y (part-keeps Sweep w x c.sweep_alone-freed.ensures.part) c.finish_collection.ensures.keeps)
+
+pub returns-clause-course : goal.returns-clause-course
+returns-clause-course c =
+    let v : View = view_of c.args.seat.now in
+    let w : View = view_of c.start_sweep.new.seat in
+    let x : View = view_of c.sweep_alone-freed.new.seat in
+    let y : View = view_of c.finish_collection.new.seat in
+    let p = c.sweep_alone-freed.ensures in
+    let set = sets_numbers c.args.heap.now.shape c.finish_collection.result in
+    course-join (Sweep ∷ []) (Idle ∷ []) [] set v w y (course-move Drain Sweep v w c.start_sweep.ensures.moved)
+    (course-join [] (Idle ∷ []) [] set w x y (course-part Sweep [] w x p.part (only-changes w x p.part.ran p.numbers)) c.finish_collection.ensures.course)

@@ -1,4 +1,4 @@
-use Rattle.std.proofs.Common.{◌≡◌, ◌≤◌, ◌∙◌, subst, sym, true}
+use Rattle.std.proofs.Common.{◌≡◌, ◌≤◌, [], ◌∷◌, ◌∙◌, subst, sym, true}
 use Rattle.mark_core.specs.Layout.{block_count}
 use Rattle.mark_core.specs.declared.kinds.Phase.TheVariants.{Idle, Sweep}
 use Rattle.mark_core.specs.declared.kinds.Shape.{Shape}
@@ -16,6 +16,8 @@ use Rattle.gc_cycle.proofs.Stops.OutAndIn.{is-done}
 use Rattle.gc_cycle.proofs.Parts.{move-finishes}
 use Rattle.gc_cycle.proofs.Ends.Spared.{finish-keeps}
 use Rattle.gc_cycle.proofs.Stepped.{keeps-join, owner-kept, part-keeps, part-owner, resumed-keeps, resumed-runs}
+use Rattle.gc_cycle.specs.Courses.{sets_numbers}
+use Rattle.gc_cycle.proofs.Courses.{course-drop, course-join, course-move, course-part}
 use Rattle.gc_cycle.proofs.sweep_steps.finish_collection.Goals as goal
 
 pub end_sweep-requires-clause-end : goal.end_sweep-requires-clause-end
@@ -80,3 +82,14 @@ returns-clause-keeps c =
     let m = c.end_sweep.ensures.moved in
     let p = c.settle-counts.ensures.part in
     keeps-join v w y (finish-keeps v w m.ran (move-finishes Sweep Idle v w m)) (keeps-join w x y (part-keeps Idle w x p) (resumed-keeps x y c.resume.ensures.ran c.resume.ensures.step))
+
+pub returns-clause-course : goal.returns-clause-course
+returns-clause-course c =
+    let v : View = view_of c.args.seat.now in
+    let w : View = view_of c.end_sweep.new.seat in
+    let x : View = view_of c.settle-counts.new.seat in
+    let y : View = view_of c.resume.new.seat in
+    let s = c.settle-counts.ensures in
+    let set = sets_numbers c.args.heap.now.shape c.settle-counts.result in
+    course-join (Idle ∷ []) [] [] set v w y (course-move Sweep Idle v w c.end_sweep.ensures.moved)
+    (course-join [] [] set [] w x y (course-part Idle set w x s.part s.numbers) (course-drop x y c.resume.ensures.ran c.resume.ensures.step))

@@ -5,7 +5,11 @@ use Rattle.packet_pools.specs.Counts.{count_of}
 use Rattle.sweeper.specs.Freeing.{freed_in}
 use Rattle.gc_table.specs.Seats.{view_of}
 use Rattle.gc_table.specs.declared.view.View.{View}
-use Rattle.gc_table.proofs.History.Log.{events-none}
+use Rattle.gc_table.proofs.History.Log.{events-none, only-more, only-none}
+use Rattle.gc_table.proofs.Running.{ran-only}
+use Rattle.gc_cycle.specs.Lower.{sweeps_next}
+use Rattle.gc_cycle.specs.Statistics.{leaves_numbers}
+use Rattle.gc_cycle.proofs.Leaving.{sweeps-leave}
 use Rattle.gc_cycle.specs.Sorts.{draws_block}
 use Rattle.gc_cycle.proofs.Stops.Admitted.{count-run}
 use Rattle.gc_cycle.proofs.Ends.Completing.{freed-run}
@@ -21,6 +25,7 @@ loop-blocks-init c =
     record {
       sits = c.requires.seat;
       part = part-none Sweep v c.requires.sweeps.alone;
+      numbers = only-none leaves_numbers v;
       count = ap (count_of (draws_block (block_count c.args.heap.now.shape))) (events-none v);
       freed = omega (arith, none);
     }
@@ -49,6 +54,7 @@ loop-blocks-preserved c =
     record {
       sits = e.seat;
       part = part-join Sweep u v w i.part p;
+      numbers = ran-only leaves_numbers u v w i.part.ran e.ran i.numbers (only-more sweeps_next leaves_numbers sweeps-leave v w e.only);
       count = omega (arith, counts, one, so_far);
       freed = omega (arith, total, more, before, sum);
     }
@@ -77,6 +83,7 @@ returns-in_default c =
       blocks = (omega (arith, few), omega (arith, counts, none, so_far));
       freed = omega (arith, total, unfreed, before);
       exact = λ x k. exact-part Sweep x u w p k;
+      numbers = ran-only leaves_numbers u v w i.part.ran e.ran i.numbers (only-more sweeps_next leaves_numbers sweeps-leave v w e.only);
       keeps = part-keeps Sweep u w p;
     }
 
@@ -95,5 +102,6 @@ returns c =
       blocks = (omega arith, omega (arith, far, count));
       freed = i.freed;
       exact = λ x k. exact-part Sweep x u v i.part k;
+      numbers = i.numbers;
       keeps = part-keeps Sweep u v i.part;
     }

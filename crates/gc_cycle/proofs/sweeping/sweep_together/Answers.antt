@@ -1,4 +1,4 @@
-use Rattle.std.proofs.Common.{ℕ, ◌≡◌, refl, sym, ap, ◌∙◌, Bool, true, false, Option}
+use Rattle.std.proofs.Common.{ℕ, ◌≡◌, ◌≤◌, refl, sym, subst, ap, ◌∙◌, Bool, true, false, Option}
 use Rattle.std.proofs.lemmas.Bool.{false≢true}
 use Rattle.mark_core.specs.Layout.{block_count}
 use Rattle.mark_core.specs.Places.{the_phase}
@@ -19,7 +19,7 @@ use Rattle.gc_table.proofs.Noticing.{alone-phase}
 use Rattle.gc_table.proofs.Running.{ran-join, ran-shape}
 use Rattle.sweeper.specs.Sweepers.{is_sweeping}
 use Rattle.gc_cycle.specs.Finishing.{IsAloneIn, IsOpen, stays_in}
-use Rattle.sweeper.specs.Freeing.{frees}
+use Rattle.sweeper.specs.Freeing.{block_floor, frees}
 use Rattle.gc_cycle.proofs.Ends.Moving.{no-block}
 use Rattle.gc_cycle.proofs.Stops.Opened.{closed, closes-block_floor, open-event, open-part, open-total, opened, phase-kept}
 use Rattle.gc_cycle.proofs.Stops.Unopened.{openable}
@@ -97,3 +97,19 @@ returns-clause-freed g c =
     let y : View = view_of c.close_help.new.seat in
     let same = open-total frees (λ s n. refl) closes-none v w x y c.open_help.ensures.step c.sweep_rest-freed.ensures.ran c.close_help.ensures.ran c.close_help.ensures.only in
     sym (freed-same (events v y) v) ∙ (same ∙ (freed-same (events w x) w ∙ c.sweep_rest-freed.ensures.freed))
+
+pub returns-clause-sweeps : goal.returns-clause-sweeps
+unfolding returns-clause-part
+returns-clause-sweeps g c =
+    let x : View = view_of c.sweep_rest-freed.new.seat in
+    let r = c.sweep_rest-freed.ensures in
+    let q = c.close_help.ensures in
+    record {
+      let_in = view_of c.open_help.new.seat;
+      swept = x;
+      part = returns-clause-part g c;
+      opens = c.open_help.ensures.step;
+      sweeps = (r.ran, r.only);
+      end = subst (λ (sh : Shape). block_count sh ≤ block_floor x) (sym c.requires.seat.1) r.end;
+      closes = (q.ran, q.only);
+    }
