@@ -15,11 +15,6 @@ abbrev pub followed_by : Sort → Sort → List Entry → Bool
 followed_by f g [] = false
 followed_by f g (e ∷ es) = (f e.step e.found && some_event g es) || followed_by f g es
 
--- an event like f, and after it none like g
-abbrev pub not_followed : Sort → Sort → List Entry → Bool
-not_followed f g [] = false
-not_followed f g (e ∷ es) = (f e.step e.found && not (some_event g es)) || not_followed f g es
-
 -- the events after the last one like f, and none where no event is like it
 abbrev pub since_last : Sort → List Entry → List Entry
 since_last f [] = []

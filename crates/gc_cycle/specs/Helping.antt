@@ -1,12 +1,10 @@
 -- What a helper does in a stop, and why it ends.
-use Rattle.std.specs.Prelude.{ℕ, ◌≡◌, ◌≢◌, ◌≤◌, ◌+◌, ◌&&◌, ◌||◌, not, List, [], ◌∷◌, Bool, true, nat_le, nat_lt, IsTrue}
+use Rattle.std.specs.Prelude.{ℕ, ◌≡◌, ◌≢◌, ◌≤◌, ◌+◌, ◌&&◌, ◌||◌, List, Bool, nat_le, IsTrue}
 use Rattle.mark_core.specs.Layout.{block_count}
 use Rattle.mark_core.specs.Numbers.{empty_offset}
 use Rattle.mark_core.specs.Seats.{saw}
 use Rattle.mark_core.specs.declared.kinds.Phase.TheVariants.{Drain, Sweep}
 use Rattle.mark_core.specs.declared.kinds.Shape.{Shape}
-use Rattle.mark_core.specs.declared.kinds.Step.{Step}
-use Rattle.mark_core.specs.declared.kinds.Step.TheVariants.{NextOfCards}
 use Rattle.gc_table.specs.declared.view.Entry.{Entry}
 use Rattle.gc_table.specs.declared.view.View.{View}
 use Rattle.packet_pools.specs.Counts.{count_of}
@@ -16,18 +14,8 @@ use Rattle.gc_cycle.specs.declared.counts.Helped.{Helped}
 use Rattle.gc_cycle.specs.declared.counts.HelpEnd.{HelpEnd}
 use Rattle.gc_cycle.specs.declared.counts.HelpEnd.TheVariants.{Quota, NoWork, NoPacket, Swept}
 use Rattle.gc_cycle.specs.Events.{never}
-use Rattle.gc_cycle.specs.Sorts.{clears, draws_block, pops, reads_count, sees_all_empty, sees_last_block, sees_to_card}
+use Rattle.gc_cycle.specs.Sorts.{clears, draws_block, pops, reads_count, sees_all_empty, sees_last_block}
 use Rattle.gc_cycle.specs.Moments.{Moment, at_some_moment, begins, finds_no_room, finds_no_work}
-
--- the event gave out a card, which these later events clear, or find clean
-abbrev pub meets_card : ℕ → Step → ℕ → List Entry → Bool
-meets_card cards NextOfCards found later = not (nat_lt found cards) || some_event (sees_to_card found) later
-meets_card cards step found later = true
-
--- each card that was given out was cleared later, or found clean
-abbrev pub meets_cards : ℕ → List Entry → Bool
-meets_cards cards [] = true
-meets_cards cards (e ∷ es) = meets_card cards e.step e.found es && meets_cards cards es
 
 -- after the last card that was cleared nothing was left in hand, and there was no packet to read from
 abbrev pub helped_to_the_end : Shape → Moment → List Entry → Bool

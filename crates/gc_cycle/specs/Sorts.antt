@@ -1,13 +1,13 @@
 -- Sorts of events: what one step did, by the word that it found.
 use Rattle.std.specs.Prelude.{ℕ, ◌==◌, ◌&&◌, ◌||◌, not, if◌then◌else◌, List, [], ◌∷◌, Bool, true, false, nat_le, nat_lt, Some}
-use Rattle.mark_core.specs.Numbers.{block_counter, card_counter, done_count, free_count, last_count, traced_count}
+use Rattle.mark_core.specs.Numbers.{block_counter, card_counter, free_count, last_count, traced_count}
 use Rattle.mark_core.specs.Bits.{all_ones, has_flag}
 use Rattle.mark_core.specs.Seats.{is_phase, phase_of, saw}
 use Rattle.mark_core.specs.declared.kinds.Phase.{Phase}
 use Rattle.mark_core.specs.declared.kinds.Phase.TheVariants.{Idle, Drain, Sweep, Clear, Full}
 use Rattle.mark_core.specs.declared.kinds.Step.{Step}
-use Rattle.mark_core.specs.declared.kinds.Step.TheVariants.{ReadCount, ReadAlloc, ReadRoot, ClearCard, ReadCard, ReadPhase, StoreField, StoreValue, StoreRoot, StoreNew, ClaimBlock, EnterStep, LeaveStep, RaiseStep, Observe, DropStep, StorePhase, NextBlock, NextOfCards, StoreNamed, AddStat, ReadStat, OpenStep, JoinHelpStep, ExchangeField, ExchangeValue, LoadSlot, StoreSlot}
-use Rattle.gc_table.specs.Taking.{moves_from, won}
+use Rattle.mark_core.specs.declared.kinds.Step.TheVariants.{ReadCount, ReadAlloc, ReadRoot, ClearCard, ReadPhase, StoreField, StoreValue, StoreRoot, StoreNew, ClaimBlock, EnterStep, LeaveStep, RaiseStep, Observe, DropStep, StorePhase, NextBlock, NextOfCards, StoreNamed, AddStat, ReadStat, OpenStep, JoinHelpStep, ExchangeField, ExchangeValue, LoadSlot, StoreSlot}
+use Rattle.gc_table.specs.Taking.{moves_from}
 pub use Rattle.tracer.specs.Roots.{shows_marked}
 pub use Rattle.tracer.specs.Tally.{pops}
 
@@ -135,12 +135,6 @@ abbrev pub clears_card : ℕ → Step → ℕ → Bool
 clears_card card (ClearCard c) found = c == card
 clears_card card step found = false
 
--- this card was cleared, or a look found it clean
-abbrev pub sees_to_card : ℕ → Step → ℕ → Bool
-sees_to_card card (ClearCard c) found = c == card
-sees_to_card card (ReadCard c) found = (c == card) && not (won (ReadCard c) found)
-sees_to_card card step found = false
-
 -- the counter of cards was raised
 abbrev pub draws : Step → ℕ → Bool
 draws NextOfCards found = true
@@ -191,16 +185,6 @@ mutator_stores (StoreSlot k r) found = true
 mutator_stores (ExchangeField v i x y) found = true
 mutator_stores (ExchangeValue v m n) found = true
 mutator_stores step found = false
-
--- the count of parts that were played was read
-abbrev pub reads_done : Step → ℕ → Bool
-reads_done (ReadStat which) found = which == done_count
-reads_done step found = false
-
--- the count of parts that were played was read, and was below this number
-abbrev pub reads_done_below : ℕ → Step → ℕ → Bool
-reads_done_below until (ReadStat which) found = (which == done_count) && nat_lt found until
-reads_done_below until step found = false
 
 -- a number was read that paces a cycle
 abbrev pub reads_pace : Step → ℕ → Bool

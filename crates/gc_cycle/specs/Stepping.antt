@@ -1,9 +1,8 @@
 -- A collection in steps that doesn't wait: where the seat stands between them, and what each of them did.
-use Rattle.std.specs.Prelude.{ℕ, ◌≡◌, ◌==◌, ◌||◌, ◌<◌, ◌≤◌, ◌-◌, ◌*◌, ◌/◌, ◌%◌, not, [], ◌∷◌, Bool, false, is_some, Option, Some, None, IsTrue, IsFalse}
+use Rattle.std.specs.Prelude.{ℕ, ◌≡◌, ◌==◌, ◌||◌, ◌<◌, ◌≤◌, ◌-◌, ◌/◌, ◌%◌, not, [], ◌∷◌, Bool, false, is_some, Option, Some, None, IsTrue, IsFalse}
 use Rattle.mark_core.specs.Bits.{has_bit, has_flag}
 use Rattle.mark_core.specs.Cards.{block_cells}
 use Rattle.mark_core.specs.Layout.{block_count, root_count}
-use Rattle.mark_core.specs.Numbers.{section_variables}
 use Rattle.mark_core.specs.Places.{mark_at, the_next_block}
 use Rattle.mark_core.specs.Steps.WorldSteps.{has_nothing, is_stopped}
 use Rattle.mark_core.specs.declared.kinds.Phase.TheVariants.{Drain, Idle, Sweep}

@@ -1,7 +1,6 @@
 //! The drain: what the mutators left is marked, first with the helpers and then alone.
 ghost use Rattle.std.specs.Prelude.{ℕ, ◌≡◌, ◌<◌, ◌≤◌, ◌+◌, ◌⊎◌, [], ◌∷◌, min, IsTrue};
 ghost use Rattle.mark_core.specs.Numbers.{card_counter, empty_offset};
-ghost use Rattle.mark_core.specs.Places.{the_next_card};
 ghost use Rattle.mark_core.specs.Seats.{phase_number};
 ghost use Rattle.mark_core.specs.declared.kinds.Phase.{Phase};
 ghost use Rattle.mark_core.specs.declared.kinds.Phase.TheVariants.{Idle, Marking, Drain, Sweep};
@@ -14,7 +13,7 @@ ghost use Rattle.gc_table.specs.Running.{Ran};
 ghost use Rattle.card_clean.specs.Leaving.{rescanned_in};
 ghost use Rattle.gc_cycle.specs.DrainRounds.{BringsAtLast, DrainsAlone, DrainsTogether};
 ghost use Rattle.gc_cycle.specs.Drained.{DrainedAlone};
-ghost use Rattle.gc_cycle.specs.Finishing.{DrainsInStop, IsAloneIn, IsMove, IsPart, most};
+ghost use Rattle.gc_cycle.specs.Finishing.{DrainsInStop, IsAloneIn, IsMove, most};
 ghost use Rattle.gc_cycle.specs.Lower.{HasTraced};
 ghost use Rattle.gc_cycle.specs.Sorts.{pops, sees_all_empty as says_all_empty};
 ghost use Rattle.gc_cycle.specs.Stepping.{BringsBack, CleansLast};

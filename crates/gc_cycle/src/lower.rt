@@ -1,5 +1,5 @@
 //! The calls of the crates below, told in the words of this one: what each asks of a seat at rest, and what it leaves of it.
-ghost use Rattle.std.specs.Prelude.{◌==◌, ℕ, ◌≡◌, ◌<◌, ◌≤◌, ◌+◌, ◌*◌, ◌&&◌, ◌⊎◌, List, ◌++◌, Some, None, IsTrue, IsFalse, IfSome, IfNone, false};
+ghost use Rattle.std.specs.Prelude.{◌==◌, ◌≡◌, ◌<◌, ◌≤◌, ◌+◌, ◌&&◌, ◌⊎◌, Some, None, IsTrue, IsFalse, IfSome, IfNone, false};
 ghost use Rattle.mark_core.specs.Cards.{card_cells};
 ghost use Rattle.mark_core.specs.Layout.{block_count, card_count};
 ghost use Rattle.mark_core.specs.Numbers.{empty_offset};
@@ -11,7 +11,6 @@ ghost use Rattle.gc_table.specs.Log.{Only};
 ghost use Rattle.gc_table.specs.Notes.{look};
 ghost use Rattle.gc_table.specs.Running.{Known, Ran};
 ghost use Rattle.gc_table.specs.Seats.{Across, Answered, did, Sits, state_of, view_of};
-ghost use Rattle.gc_table.specs.declared.view.Entry.{Entry};
 ghost use Rattle.packet_pools.specs.Counts.{count_of};
 ghost use Rattle.packet_pools.specs.Seeking.{some_event};
 ghost use Rattle.packet_pools.specs.Tracing.{traces};
@@ -29,10 +28,9 @@ ghost use Rattle.sweeper.specs.Sweepers.{is_sweeping};
 ghost use Rattle.gc_cycle.specs.Drained.{DrainedAlone, RootedAlone};
 ghost use Rattle.gc_cycle.specs.Events.{never};
 ghost use Rattle.gc_cycle.specs.Finishing.{IsAloneIn, IsPart};
-ghost use Rattle.gc_cycle.specs.Helping.{meets_cards};
 ghost use Rattle.gc_cycle.specs.Lower.{GivesCard, EndsTrace, HasTraced, ScansRoots, sweeps_next, traces_or_cleans};
 ghost use Rattle.gc_cycle.specs.Moments.{at_some_moment, begins, finds_no_room};
-ghost use Rattle.gc_cycle.specs.Sorts.{sees_all_empty as says_all_empty, clears, clears_card, draws, draws_or_clears, draws_block, pops, reads_pace, reads_root, sees_last_block, sees_to_card};
+ghost use Rattle.gc_cycle.specs.Sorts.{sees_all_empty as says_all_empty, clears, clears_card, draws, draws_or_clears, draws_block, pops, reads_pace, reads_root, sees_last_block};
 ghost use Rattle.gc_cycle.specs.Standing.{is_at_rest};
 ghost use Rattle.gc_cycle.specs.Statistics.{leaves_numbers};
 ghost use Rattle.gc_cycle.specs.Stepping.{LacksPacket};
@@ -211,8 +209,6 @@ pub fn next_card(heap: &Heap, seat: &mut HeapSeat) -> Option<u32>
     ensures state { state_of seat.new ≡ record (state_of seat.old) { below_card = false } }
     ensures draws { Across (GivesCard result) seat.old seat.new }
     ensures rises { IfSome result (λ card. IsTrue (state_of seat.old).admitted → (card_floor (view_of seat.old) ≤ card) × (card_floor (view_of seat.new) ≡ card + 1)) }
-    ensures met { IfSome result (λ card. (later : List Entry) → IsTrue (some_event (sees_to_card card) later) → IsTrue (meets_cards (card_count heap.now.shape) later) → IsTrue (meets_cards (card_count heap.now.shape) (did seat.old seat.new ++ later))) }
-    ensures over { IfNone result (IsTrue (meets_cards (card_count heap.now.shape) (did seat.old seat.new))) }
     ensures rescanned { rescanned_in (view_of seat.old) (did seat.old seat.new) ≡ 0 }
     ensures uncleared { IsTrue (never clears (did seat.old seat.new)) }
     ensures unpopped { IsTrue (never pops (did seat.old seat.new)) }

@@ -1,39 +1,31 @@
 -- What an admitted helper does of a drain and of a sweep.
-use Rattle.std.proofs.Common.{ℕ, ◌≡◌, ◌≤◌, ◌+◌, zero-add, List, [], ◌∷◌, ◌++◌, arith, refl, sym, ap, ◌∙◌, subst, Bool, true, false, not, ◌&&◌, Some, None, Option, ⊎_elim}
-use Rattle.std.specs.Prelude.{◌==◌, if◌then◌else◌, nat_lt, unwrap_or}
+use Rattle.std.proofs.Common.{ℕ, ◌≡◌, ◌+◌, zero-add, List, [], ◌∷◌, ◌++◌, refl, sym, ap, ◌∙◌, subst, Bool, true, false, not, ◌&&◌, Some, None, ⊎_elim}
+use Rattle.std.specs.Prelude.{◌==◌, if◌then◌else◌}
 use Rattle.std.specs.List.{list_all, list_any}
-use Rattle.std.proofs.lemmas.Bool.{and_from, and_parts, cases_Bool, false≢true, not-true, or_cases, or_from, or_left, or_parts, or_right, true≢false}
-use Rattle.mark_core.specs.Effects.{place, seat_after}
+use Rattle.std.proofs.lemmas.Bool.{and_from, and_parts, false≢true, not-true, or_cases, or_from, or_left, or_parts, or_right, true≢false}
 use Rattle.mark_core.specs.Held.{Slot, Slots}
-use Rattle.mark_core.specs.Notes.{keeps_bound, same_place}
-use Rattle.mark_core.specs.Places.{the_next_card}
 use Rattle.mark_core.specs.Seats.{work_in_hand}
 use Rattle.mark_core.specs.declared.kinds.Shape.{Shape}
 use Rattle.mark_core.specs.declared.kinds.Step.{Step}
-use Rattle.mark_core.specs.declared.kinds.Step.TheVariants.{AddStat, ClearCard, Give, JoinHelpStep, LeaveHelpStep, NextOfCards, NextSeason, Push, ReadCat, ReadOwn, ReadStat, Reset, StoreField, StoreNew, StorePhase, StorePosition, StoreRoot, StoreValue, ReadSlot, StoreSlot, ExchangeField, ExchangeValue}
+use Rattle.mark_core.specs.declared.kinds.Step.TheVariants.{ClearCard, Give, NextOfCards, NextSeason, Push, ReadCat, ReadOwn, StoreField, StoreNew, StorePhase, StorePosition, StoreRoot, StoreValue, ReadSlot, StoreSlot, ExchangeField, ExchangeValue}
 use Rattle.mark_core.specs.declared.seat.SeatState.{SeatState}
-use Rattle.gc_table.specs.Notes.{look}
 use Rattle.gc_table.specs.Taking.{after}
 use Rattle.gc_table.specs.declared.view.Entry.{Entry}
 use Rattle.gc_table.specs.declared.view.View.{View}
-use Rattle.gc_table.specs.Log.{all_steps, events, Only}
-use Rattle.gc_table.specs.Running.{AtLeast, changes_section, IsSeen, Ran}
-use Rattle.gc_table.proofs.Noticing.{floor-elsewhere, floor-here, found-above}
-use Rattle.gc_table.proofs.Running.{ran-events, ran-shape, run-keeps}
+use Rattle.gc_table.specs.Log.{events}
+use Rattle.gc_table.specs.Running.{changes_section, Ran}
+use Rattle.gc_table.proofs.Running.{ran-events, ran-shape}
 use Rattle.packet_pools.specs.Counts.{count_of}
 use Rattle.packet_pools.specs.Seeking.{some_event}
 use Rattle.packet_pools.proofs.Counting.{count-join}
-use Rattle.packet_pools.proofs.Searches.{some-left}
 use Rattle.tracer.specs.Deferral.{waits_on}
 use Rattle.tracer.specs.Moments.{deferring_after, is_spent_slot}
 use Rattle.tracer.proofs.Moments.{moment_of, moment-waits}
-use Rattle.gc_cycle.specs.Events.{never, not_followed, Sort}
-use Rattle.gc_cycle.specs.Helping.{meets_card, meets_cards}
+use Rattle.gc_cycle.specs.Events.{never, Sort}
 use Rattle.gc_cycle.specs.Lower.{traces_or_cleans}
 use Rattle.gc_cycle.specs.Moments.{Moment, after_moment, at_some_moment, begins, finds_no_room, finds_no_work}
-use Rattle.card_clean.specs.Passing.{card_floor}
 use Rattle.gc_cycle.specs.Draining.{is_idle_now}
-use Rattle.gc_cycle.specs.Sorts.{clears, draws, draws_or_clears, sees_to_card}
+use Rattle.gc_cycle.specs.Sorts.{clears, draws, draws_or_clears}
 use Rattle.gc_cycle.proofs.Sequences.{moments, moments-state, some-moment-later, some-none, this-moment}
 use Rattle.gc_cycle.proofs.Searched.{work-longer}
 
@@ -150,40 +142,6 @@ idle-now sh (e ∷ es) m n h =
 pub traced-idle : (sh : Shape) (es : List Entry) (m : Moment) → never draws_or_clears es ≡ true → at_some_moment sh (finds_no_work sh) m es ≡ true → at_some_moment sh (is_idle_now sh) m es ≡ true
 traced-idle sh es m n h = idle-now sh es m (uncleared es n) h
 
--- cards that are given out are met
-meets-more : (cards : ℕ) (step : Step) (n : ℕ) (xs ys : List Entry) → meets_card cards step n xs ≡ true → meets_card cards step n (xs ++ ys) ≡ true
-meets-more cards NextOfCards n xs ys e =
-    ⊎_elim (λ (a : not (nat_lt n cards) ≡ true). or_left (not (nat_lt n cards)) _ a) (λ b. or_right (not (nat_lt n cards)) _ (some-left (sees_to_card n) xs ys b)) (or_cases (not (nat_lt n cards)) _ e)
-meets-more cards step n xs ys e = refl
-
-pub meets-join : (cards : ℕ) (xs ys : List Entry) → meets_cards cards xs ≡ true → meets_cards cards ys ≡ true → meets_cards cards (xs ++ ys) ≡ true
-meets-join cards [] ys a b = b
-meets-join cards (x ∷ xs) ys a b =
-    let k = and_parts (meets_card cards x.step x.found xs) (meets_cards cards xs) a in and_from _ _ (meets-more cards x.step x.found xs ys k.0) (meets-join cards xs ys k.1 b)
-
-pub undrawn-meets : (cards : ℕ) (es : List Entry) → never draws es ≡ true → meets_cards cards es ≡ true
-undrawn-meets cards [] h = refl
-undrawn-meets cards (e ∷ es) h =
-    let p = or_parts (draws e.step e.found) (some_event draws es) (not-true _ h) in and_from _ _ (one e.step e.found es p.0) (undrawn-meets cards es (ap not p.1))
-  where
-    one : (step : Step) (n : ℕ) (xs : List Entry) → draws step n ≡ false → meets_card cards step n xs ≡ true
-    one NextOfCards n xs k = absurd (true≢false k)
-    one step n xs k = refl
-
--- the end of the pass was seen after the last card that was cleared
-pub seen-last : (f g : Sort) (es : List Entry) → some_event f es ≡ true → never g es ≡ true → not_followed f g es ≡ true
-seen-last f g [] h n = absurd (false≢true h)
-seen-last f g (e ∷ es) h n =
-    let p = or_parts (g e.step e.found) (some_event g es) (not-true _ n) in
-    ⊎_elim
-    (λ (a : f e.step e.found ≡ true). or_left (f e.step e.found && not (some_event g es)) _ (and_from _ _ a (ap not p.1)))
-    (λ (b : some_event f es ≡ true). or_right (f e.step e.found && not (some_event g es)) _ (seen-last f g es b (ap not p.1)))
-    (or_cases (f e.step e.found) (some_event f es) h)
-
-pub not-followed-later : (f g : Sort) (xs ys : List Entry) → not_followed f g ys ≡ true → not_followed f g (xs ++ ys) ≡ true
-not-followed-later f g [] ys h = h
-not-followed-later f g (x ∷ xs) ys h = or_right (f x.step x.found && not (some_event g (xs ++ ys))) _ (not-followed-later f g xs ys h)
-
 pub count-none : (f : Sort) (es : List Entry) → never f es ≡ true → count_of f es ≡ 0
 count-none f [] h = refl
 count-none f (e ∷ es) h =
@@ -191,61 +149,6 @@ count-none f (e ∷ es) h =
 
 pub count-run : (f : Sort) (u v w : View) → Ran u v → Ran v w → count_of f (events u w) ≡ count_of f (events u v) + count_of f (events v w)
 count-run f u v w r q = ap (count_of f) (ran-events u v w r q) ∙ count-join f (events u v) (events v w)
-
--- the floor of the counter of cards
-stills : Step → Bool
-stills NextOfCards = false
-stills step = traces_or_cleans step
-
-still-one : (step : Step) (n : ℕ) → traces_or_cleans step ≡ true → draws step n ≡ false → stills step ≡ true
-unfolding stills
-still-one NextOfCards n a b = absurd (true≢false b)
-still-one step n a b = a
-
-still-all : (es : List Entry) → all_steps traces_or_cleans es ≡ true → never draws es ≡ true → all_steps stills es ≡ true
-still-all [] a b = refl
-still-all (e ∷ es) a b =
-    let p = and_parts (traces_or_cleans e.step) (all_steps traces_or_cleans es) a in
-    let q = or_parts (draws e.step e.found) (some_event draws es) (not-true _ b) in
-    and_from (stills e.step) (all_steps stills es) (still-one e.step e.found p.0 q.0) (still-all es p.1 (ap not q.1))
-
-admitted-kept : (sh : Shape) (s : SeatState) (step : Step) (old : ℕ) → stills step ≡ true → (seat_after sh s step old).admitted ≡ s.admitted
-unfolding stills
-admitted-kept sh s JoinHelpStep old e = absurd (false≢true e)
-admitted-kept sh s LeaveHelpStep old e = absurd (false≢true e)
-admitted-kept sh s step old e = refl
-
-floor-one : (v : View) (step : Step) (n m : ℕ) → stills step ≡ true → IsSeen step n v → keeps_bound (seat_after v.shape v.state step n) the_next_card ≡ true → AtLeast v the_next_card m → AtLeast (after step n v) the_next_card m
-unfolding stills
-floor-one v NextOfCards n m e s k a = absurd (false≢true e)
-floor-one v (StoreNew c part word) n m e s k a = absurd (false≢true e)
-floor-one v (Reset which) n m e s k a = absurd (false≢true e)
-floor-one v (AddStat which by down) n m e s k a = absurd (false≢true e)
-floor-one v (ReadStat which) n m e s k a =
-    ⊎_elim
-    (λ (here : same_place (place v.shape v.state (ReadStat which)) the_next_card ≡ true). floor-here v (ReadStat which) n the_next_card m here k (found-above v (ReadStat which) n the_next_card m (s.found refl) here a))
-    (λ (apart : same_place (place v.shape v.state (ReadStat which)) the_next_card ≡ false). floor-elsewhere v (ReadStat which) n the_next_card m apart k a)
-    (cases_Bool (same_place (place v.shape v.state (ReadStat which)) the_next_card))
-floor-one v step n m e s k a = floor-elsewhere v step n the_next_card m refl k a
-
-floor-run : (v w : View) (m : ℕ) → Ran v w → Only stills v w → v.state.admitted ≡ true → AtLeast v the_next_card m → AtLeast w the_next_card m
-floor-run v w m r o h a =
-    (run-keeps stills (λ (x : View). (x.state.admitted ≡ true) × AtLeast x the_next_card m)
-    (λ x step n p s q.
-    let on = admitted-kept x.shape x.state step n p ∙ q.0 in
-    (on, floor-one x step n m p s (or_left (seat_after x.shape x.state step n).admitted (seat_after x.shape x.state step n).knows on) q.1))
-    v w r o (h, a)).1
-
-floor-is : (w : View) (m : ℕ) → AtLeast w the_next_card m → m ≤ card_floor w
-floor-is w m a = let f : card_floor w ≡ a.floor = ap (λ o. unwrap_or o 0) a.noted in let g = a.above in omega (arith, f, g)
-
-pub floor-kept : (v w : View) → Ran v w → Only traces_or_cleans v w → never draws (events v w) ≡ true → v.state.admitted ≡ true → card_floor v ≤ card_floor w
-floor-kept v w r o n h = by_floor (look the_next_card v.floors) refl
-  where
-    by_floor : (f : Option ℕ) → look the_next_card v.floors ≡ f → unwrap_or f 0 ≤ card_floor w
-    by_floor None e = omega arith
-    by_floor (Some m) e =
-        floor-is w m (floor-run v w m r (still-all (events v w) o n) h (record { floor = m; noted = e; above = omega arith; kept = or_left v.state.admitted v.state.knows h }))
 
 -- what both parts of a help leave
 pub traces-kept : (step : Step) → traces_or_cleans step ≡ true → changes_section step ≡ false

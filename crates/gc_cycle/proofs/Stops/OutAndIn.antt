@@ -182,12 +182,6 @@ leaves-help v w a n t =
 
 -- polling
 
--- a seat that is out, and looked whether a stop is under way
-pub looked-out : (v w : View) → IsOut v → Ran v w → (v.state.raised ≡ false → w.state ≡ v.state) → IsOut w
-looked-out v w o r e =
-    let state = e (bare-parts v.state o.bare).1 in
-    record { bare = ap is_bare state ∙ o.bare; rest = ap (λ (sh : Shape). has_nothing sh w.state) (ran-shape v w r) ∙ (ap (λ (x : SeatState). has_nothing v.shape x) state ∙ o.rest) }
-
 pub polled-out : (v w : View) (n : ℕ) → Ran v w → w ≡ after Observe n v → GoesOut v w × (w.own ≡ v.own)
 polled-out v w n r e = (goes-out v w r (only-after stays_calm v w Observe n refl e), ap (λ (x : View). x.own) e)
 

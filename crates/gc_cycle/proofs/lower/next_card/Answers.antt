@@ -1,6 +1,6 @@
 use Rattle.std.proofs.Common.{ℕ, ◌≡◌, ◌≤◌, refl, sym, ap, ◌∙◌, subst, Bool, true, false, Option, Some, None, inl, inr, eq-eqb}
-use Rattle.std.specs.Prelude.{nat_le, nat_lt, if◌then◌else◌, ◌||◌, ◌+◌, ◌++◌, IfNone, IfSome, List, not}
-use Rattle.std.proofs.lemmas.Bool.{and_from, false≢true, le-leb, ltb-false, ltb-true, or_left, or_right}
+use Rattle.std.specs.Prelude.{nat_le, nat_lt, if◌then◌else◌, ◌||◌, ◌+◌, IfSome}
+use Rattle.std.proofs.lemmas.Bool.{false≢true, le-leb, ltb-false, ltb-true, or_left, or_right}
 use Rattle.mark_core.specs.Layout.{card_count}
 use Rattle.mark_core.specs.declared.kinds.Step.{Step}
 use Rattle.mark_core.specs.declared.kinds.Step.TheVariants.{ClearCard, NextOfCards, Pop, ReadField, ReadRoot, LoadSlot}
@@ -17,11 +17,9 @@ use Rattle.gc_table.specs.Seats.{view_of}
 use Rattle.gc_table.specs.declared.view.View.{View}
 use Rattle.packet_pools.specs.Seeking.{some_event}
 use Rattle.card_clean.specs.Passing.{card_floor, Draws, DrawsCard, draws_card, keeps_floor}
-use Rattle.gc_table.specs.declared.view.Entry.{Entry}
 use Rattle.gc_cycle.specs.Events.{never}
-use Rattle.gc_cycle.specs.Helping.{meets_cards}
 use Rattle.gc_cycle.specs.Lower.{GivesCard, HasTraced, traces_or_cleans}
-use Rattle.gc_cycle.specs.Sorts.{clears, gives_card, pops, reads_pace, reads_root, sees_last_card, sees_to_card}
+use Rattle.gc_cycle.specs.Sorts.{clears, gives_card, pops, reads_pace, reads_root, sees_last_card}
 use Rattle.gc_cycle.specs.Standing.{is_at_rest}
 use Rattle.gc_cycle.proofs.Idling.{traces-of}
 use Rattle.gc_cycle.proofs.Sequences.{total-none}
@@ -90,27 +88,6 @@ drawn r v w (inl over) =
     (ap (some_event (sees_last_card (card_count v.shape))) over.0.events_are ∙ or_left (nat_le (card_count v.shape) over.0.seen) false (le-leb (card_count v.shape) over.0.seen over.0.over))
 drawn r v w (inr gives) = subst (λ (o : Option ℕ). GivesCard o v w) (sym gives.2) (by_test gives.0 v w gives.1 (nat_lt gives.0 (card_count v.shape)) refl)
 
--- the card that was given out is met by whoever sees to it later
-met-by : (cards n : ℕ) (v w : View) → Draws n v w → (b : Bool) → IfSome (if b then Some n else None) (λ card. (later : List Entry) → some_event (sees_to_card card) later ≡ true → meets_cards cards later ≡ true → meets_cards cards (events v w ++ later) ≡ true)
-met-by cards n v w d true = λ later a m. ap (λ es. meets_cards cards (es ++ later)) d.events_are ∙ and_from _ _ refl (and_from _ _ (or_right (not (nat_lt n cards)) (some_event (sees_to_card n) later) a) m)
-met-by cards n v w d false = tt
-
-met-drawn : (cards : ℕ) (r : Option ℕ) (v w : View) → DrawsCard r v w → IfSome r (λ card. (later : List Entry) → some_event (sees_to_card card) later ≡ true → meets_cards cards later ≡ true → meets_cards cards (events v w ++ later) ≡ true)
-met-drawn cards r v w (inl over) =
-    subst (λ (o : Option ℕ). IfSome o (λ card. (later : List Entry) → some_event (sees_to_card card) later ≡ true → meets_cards cards later ≡ true → meets_cards cards (events v w ++ later) ≡ true)) (sym over.1) tt
-met-drawn cards r v w (inr gives) =
-    subst (λ (o : Option ℕ). IfSome o (λ card. (later : List Entry) → some_event (sees_to_card card) later ≡ true → meets_cards cards later ≡ true → meets_cards cards (events v w ++ later) ≡ true)) (sym gives.2)
-    (met-by cards gives.0 v w gives.1 (nat_lt gives.0 (card_count v.shape)))
-
-over-by : (cards n : ℕ) (v w : View) → Draws n v w → (b : Bool) → nat_lt n cards ≡ b → IfNone (if b then Some n else None) (meets_cards cards (events v w) ≡ true)
-over-by cards n v w d true h = tt
-over-by cards n v w d false h = ap (meets_cards cards) d.events_are ∙ and_from _ _ refl (and_from _ _ (or_left (not (nat_lt n cards)) false (ap not h)) refl)
-
-over-drawn : (r : Option ℕ) (v w : View) → DrawsCard r v w → IfNone r (meets_cards (card_count v.shape) (events v w) ≡ true)
-over-drawn r v w (inl over) = subst (λ (o : Option ℕ). IfNone o (meets_cards (card_count v.shape) (events v w) ≡ true)) (sym over.1) (ap (meets_cards (card_count v.shape)) over.0.events_are)
-over-drawn r v w (inr gives) =
-    subst (λ (o : Option ℕ). IfNone o (meets_cards (card_count v.shape) (events v w) ≡ true)) (sym gives.2) (over-by (card_count v.shape) gives.0 v w gives.1 (nat_lt gives.0 (card_count v.shape)) refl)
-
 pub next_card-requires : goal.next_card-requires
 next_card-requires c = record { seat = (c.requires.seat.0, traces-of c.args.heap.now.shape (view_of c.args.seat.now) c.requires.seat.1 c.requires.rest) }
 
@@ -143,15 +120,6 @@ returns-clause-unpopped c = untaken draws_card pops unpops (events (view_of c.ar
 
 pub returns-clause-unrooted : goal.returns-clause-unrooted
 returns-clause-unrooted c = untaken draws_card reads_root unroots (events (view_of c.args.seat.now) (view_of c.next_card.new.seat)) c.next_card.ensures.only
-
-pub returns-clause-met : goal.returns-clause-met
-returns-clause-met c = met-drawn (card_count c.args.heap.now.shape) c.next_card.result (view_of c.args.seat.now) (view_of c.next_card.new.seat) c.next_card.ensures.draws
-
-pub returns-clause-over : goal.returns-clause-over
-returns-clause-over c =
-    let v : View = view_of c.args.seat.now in
-    let w : View = view_of c.next_card.new.seat in
-    subst (λ (sh : Shape). IfNone c.next_card.result (meets_cards (card_count sh) (events v w) ≡ true)) c.requires.seat.0.1 (over-drawn c.next_card.result v w c.next_card.ensures.draws)
 
 -- the counter of cards is no number that paces a cycle
 unread-drawn : (r : Option ℕ) (v w : View) → DrawsCard r v w → never reads_pace (events v w) ≡ true
