@@ -18,7 +18,7 @@ use Rattle.gc_table.specs.Running.{Alone, Known, Ran}
 use Rattle.gc_cycle.specs.Cycles.{ends_exactly, opens_in_sweep}
 use Rattle.gc_cycle.specs.Events.{followed_by, never}
 use Rattle.gc_cycle.specs.Moments.{at_some_moment, begins}
-use Rattle.gc_cycle.specs.Sorts.{begins_exactly, ends_cycle, moves_to, opens_help, tells_full}
+use Rattle.gc_cycle.specs.Sorts.{begins_exactly, ends_cycle, moves_to, opens_help, tells_full, tries_marking}
 use Rattle.gc_cycle.specs.Mutating.{keeps_section}
 use Rattle.gc_cycle.specs.Standing.{IsAlone}
 
@@ -100,6 +100,7 @@ pub record Completes (v w : View) : Type 0 where
   pub sweep_help : IsTrue (opens_in_sweep (events v w))
   pub ends : IsTrue (some_event ends_cycle (events v w))
   pub not_full : IsTrue (never tells_full (events v w))
+  pub unbegun : IsTrue (never tries_marking (events v w))
   -- where it began exactly it ended so
   pub exactly : IsTrue v.state.exact → IsTrue (at_some_moment v.shape ends_exactly (begins v) (events v w)) × IsTrue w.state.exact
 
@@ -117,6 +118,7 @@ pub record BeginsExactly (v w : View) : Type 0 where
   pub stayed : IsTrue (all_steps stays rest)
   pub fresh : rest ≡ event (Reset card_counter) 0 ∷ []
   pub not_full : IsTrue (never tells_full before)
+  pub unbegun : IsTrue (never tries_marking before)
 
 -- the greatest number that is counted
 abbrev pub most : ℕ

@@ -4,7 +4,7 @@ use Rattle.mark_core.specs.Numbers.{block_counter, card_counter, free_count, las
 use Rattle.mark_core.specs.Bits.{all_ones, has_flag}
 use Rattle.mark_core.specs.Seats.{is_phase, phase_of, saw}
 use Rattle.mark_core.specs.declared.kinds.Phase.{Phase}
-use Rattle.mark_core.specs.declared.kinds.Phase.TheVariants.{Idle, Drain, Sweep, Clear, Full}
+use Rattle.mark_core.specs.declared.kinds.Phase.TheVariants.{Idle, Marking, Drain, Sweep, Clear, Full}
 use Rattle.mark_core.specs.declared.kinds.Step.{Step}
 use Rattle.mark_core.specs.declared.kinds.Step.TheVariants.{ReadCount, ReadAlloc, ReadRoot, ClearCard, ReadPhase, StoreField, StoreValue, StoreRoot, StoreNew, ClaimBlock, EnterStep, LeaveStep, RaiseStep, Observe, DropStep, StorePhase, NextBlock, NextOfCards, StoreNamed, AddStat, ReadStat, OpenStep, JoinHelpStep, ExchangeField, ExchangeValue, LoadSlot, StoreSlot}
 use Rattle.gc_table.specs.Taking.{moves_from}
@@ -87,6 +87,11 @@ moves from to step found = moves_to to step found && is_phase found from
 -- a drain began in which no cell was marked
 abbrev pub begins_exactly : Step → ℕ → Bool
 begins_exactly step found = moves Idle Drain step found || moves Clear Drain step found
+
+-- a try to begin a cycle
+abbrev pub tries_marking : Step → ℕ → Bool
+tries_marking (StorePhase Marking) found = true
+tries_marking step found = false
 
 -- a cycle ended
 abbrev pub ends_cycle : Step → ℕ → Bool

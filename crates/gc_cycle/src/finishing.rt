@@ -15,7 +15,7 @@ ghost use Rattle.gc_cycle.specs.Finishing.{BeginsExactly, Completes, IsAloneIn, 
 ghost use Rattle.gc_cycle.specs.Events.{never};
 ghost use Rattle.gc_cycle.specs.Moments.{begins};
 ghost use Rattle.gc_cycle.specs.Polling.{saw_full};
-ghost use Rattle.gc_cycle.specs.Sorts.{raises_flag};
+ghost use Rattle.gc_cycle.specs.Sorts.{raises_flag, tries_marking};
 ghost use Rattle.gc_cycle.specs.Sparing.{spares_part};
 ghost use Rattle.gc_cycle.specs.Standing.{KeepsSeat, KeepsSection};
 
@@ -101,6 +101,7 @@ pub fn finish_cycle<R: Wait>(rt: &R, heap: &Heap, seat: &mut HeapSeat) -> Counts
     // what it never did
     ensures spares { Across (Only spares_part) seat.old seat.new }
     ensures not_full { IsTrue (never_fills (did seat.old seat.new)) }
+    ensures unbegun { IsTrue (never tries_marking (did seat.old seat.new)) }
     ensures calm { IsTrue (never raises_flag (did seat.old seat.new)) }
     ensures going { IsFalse (saw_full (did seat.old seat.new)) }
     // what the cells are
@@ -135,6 +136,7 @@ pub fn precise<R: Wait>(rt: &R, heap: &Heap, seat: &mut HeapSeat) -> Counts
     // what it never did
     ensures spares { Across (Only spares_part) seat.old seat.new }
     ensures not_full { IsTrue (never_fills (did seat.old seat.new)) }
+    ensures unbegun { IsTrue (never tries_marking (did seat.old seat.new)) }
     ensures calm { IsTrue (never raises_flag (did seat.old seat.new)) }
     ensures going { IsFalse (saw_full (did seat.old seat.new)) }
     // what the cells are

@@ -24,7 +24,7 @@ use Rattle.gc_cycle.specs.Finishing.{Completes, finishes, IsMove, IsPart, stays,
 use Rattle.card_clean.specs.Leaving.{rescans, rescanned_in}
 use Rattle.sweeper.specs.Freeing.{frees, freed_in}
 use Rattle.gc_cycle.specs.Moments.{at_some_moment, begins, total_of}
-use Rattle.gc_cycle.specs.Sorts.{ends_cycle, moves_to, opens_help, tells_full}
+use Rattle.gc_cycle.specs.Sorts.{ends_cycle, moves_to, opens_help, tells_full, tries_marking}
 use Rattle.gc_cycle.proofs.Parts.{move-finishes, part-finishes, part-stays}
 use Rattle.gc_cycle.proofs.Sequences.{followed-across, moments, moments-state, none-of-steps, since-this, some-moment-later, some-none, this-moment, total-join, total-none, freed-same}
 
@@ -44,6 +44,14 @@ no-tell step n e = refl
 
 pub part-untold : (p : Phase) (v w : View) → IsPart p v w → some_event tells_full (events v w) ≡ false
 part-untold p v w h = none-of-steps stays tells_full no-tell (events v w) (part-stays p v w h)
+
+-- a step that stays begins no cycle
+pub no-try : (step : Step) (n : ℕ) → stays step ≡ true → tries_marking step n ≡ false
+no-try (StorePhase to) n e = absurd (true≢false (sym e))
+no-try step n e = refl
+
+pub part-untried : (p : Phase) (v w : View) → IsPart p v w → some_event tries_marking (events v w) ≡ false
+part-untried p v w h = none-of-steps stays tries_marking no-try (events v w) (part-stays p v w h)
 
 keeps-exact : (step : Step) (sh : Shape) (s : SeatState) (old : ℕ) → stays step ≡ true → exact_of (seat_after sh s step old) ≡ exact_of s
 keeps-exact (StorePhase to) sh s old e = absurd (true≢false (sym e))
@@ -155,6 +163,7 @@ module _ (v0 v1 v2 v3 v4 v5 v6 : View) (p1 : IsPart Drain v0 v1) (o1 : some_even
         sweep_help = sweep-help;
         ends = ends;
         not_full = ap not (nowhere tells_full part-untold refl refl);
+        unbegun = ap not (nowhere tries_marking part-untried refl refl);
         exactly = λ h. (ends-exactly h, part-exact Idle v5 v6 p6 ∙ move-exact Sweep Idle v4 v5 m5 (exact-there h));
       }
 

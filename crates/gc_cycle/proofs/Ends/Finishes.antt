@@ -29,9 +29,9 @@ use Rattle.gc_cycle.specs.Ending.{InEach, IsExact}
 use Rattle.gc_cycle.specs.Events.{Sort, followed_by, never, since_last}
 use Rattle.gc_cycle.specs.Finishing.{BeginsExactly, Completes, finishes, IsAloneIn, stays}
 use Rattle.gc_cycle.specs.Moments.{Moment, after_moment, at_some_moment, begins, total_of}
-use Rattle.gc_cycle.specs.Sorts.{begins_exactly, ends_cycle, moves, moves_to, opens_help, tells_full}
+use Rattle.gc_cycle.specs.Sorts.{begins_exactly, ends_cycle, moves, moves_to, opens_help, tells_full, tries_marking}
 use Rattle.gc_cycle.proofs.Sequences.{followed-later, moments, moments-state, none-of-steps, since-this, some-moment-later, some-none}
-use Rattle.gc_cycle.proofs.Ends.Completing.{no-move, no-tell, total-run}
+use Rattle.gc_cycle.proofs.Ends.Completing.{no-move, no-tell, total-run, no-try}
 
 -- an event like g, where one is after one like f
 some-of-followed : (f g : Sort) (es : List Entry) → followed_by f g es ≡ true → some_event g es ≡ true
@@ -77,6 +77,9 @@ module _ (v0 v1 v2 : View) (r : Ran v0 v1) (is : events v0 v1 ≡ event (StorePh
 
   pub cycle-not-full : never tells_full (events v0 v2) ≡ true
   cycle-not-full = ap (never tells_full) all-events ∙ never-both tells_full (event (StorePhase Drain) 1 ∷ event (Reset card_counter) 0 ∷ []) (events v1 v2) refl k.not_full
+
+  pub cycle-unbegun : never tries_marking (events v0 v2) ≡ true
+  cycle-unbegun = ap (never tries_marking) all-events ∙ never-both tries_marking (event (StorePhase Drain) 1 ∷ event (Reset card_counter) 0 ∷ []) (events v1 v2) refl k.unbegun
 
   pub cycle-total : (f : SeatState → Step → ℕ → ℕ) → ((s : SeatState) → f s (StorePhase Drain) 1 ≡ 0) → ((s : SeatState) → f s (Reset card_counter) 0 ≡ 0) → total_of f v0 (events v0 v2) ≡ total_of f v1 (events v1 v2)
   cycle-total f a b =
@@ -153,6 +156,21 @@ module _ (v0 v1 v2 : View) (b : BeginsExactly v0 v1) (k : Completes v1 v2) where
       ∙ never-both tells_full b.before (b.move ∷ (b.rest ++ events v1 v2)) b.not_full
       (ap not (or_from _ _ (exact-no-full b.move.step b.move.found b.begins) (some-none tells_full b.rest (events v1 v2) (none-of-steps stays tells_full no-tell b.rest b.stayed) (not-true _ k.not_full))))
 
+  exact-untried : (step : Step) (n : ℕ) → begins_exactly step n ≡ true → tries_marking step n ≡ false
+  exact-untried (StorePhase Drain) n h = refl
+  exact-untried (StorePhase Idle) n h = absurd (false≢true h)
+  exact-untried (StorePhase Marking) n h = absurd (false≢true h)
+  exact-untried (StorePhase Sweep) n h = absurd (false≢true h)
+  exact-untried (StorePhase Clear) n h = absurd (false≢true h)
+  exact-untried (StorePhase Full) n h = absurd (false≢true h)
+  exact-untried step n h = absurd (false≢true h)
+
+  pub exact-unbegun : never tries_marking (events v0 v2) ≡ true
+  exact-unbegun =
+      ap (never tries_marking) split
+      ∙ never-both tries_marking b.before (b.move ∷ (b.rest ++ events v1 v2)) b.unbegun
+      (ap not (or_from _ _ (exact-untried b.move.step b.move.found b.begins) (some-none tries_marking b.rest (events v1 v2) (none-of-steps stays tries_marking no-try b.rest b.stayed) (not-true _ k.unbegun))))
+
 -- where the stop began exactly, no cycle is under way, and the seat is alone, the cells in use are the reachable ones
 pub exact-end : (v : View) → IsAloneIn Idle v → v.state.exact ≡ true → InEach IsExact v
 exact-end v a e x i k g c low =
@@ -164,9 +182,9 @@ exact-end v a e x i k g c low =
       λ r. reachable-used x.core c k.core r,
     )
 
--- a drain began exactly after other events, among which nothing told that the heap is full
-pub begins-later : (u v w : View) → Ran u v → Only finishes u v → never tells_full (events u v) ≡ true → BeginsExactly v w → BeginsExactly u w
-begins-later u v w r o n b =
+-- a drain began exactly after other events, among which nothing told that the heap is full, and no cycle was begun
+pub begins-later : (u v w : View) → Ran u v → Only finishes u v → never tells_full (events u v) ≡ true → never tries_marking (events u v) ≡ true → BeginsExactly v w → BeginsExactly u w
+begins-later u v w r o n m b =
     record {
       ran = ran-join u v w r b.ran;
       only = ran-only finishes u v w r b.ran o b.only;
@@ -180,6 +198,7 @@ begins-later u v w r o n b =
       stayed = b.stayed;
       fresh = b.fresh;
       not_full = never-both tells_full (events u v) b.before n b.not_full;
+      unbegun = never-both tries_marking (events u v) b.before m b.unbegun;
     }
 
 -- since a drain began exactly only the counter of cards was set

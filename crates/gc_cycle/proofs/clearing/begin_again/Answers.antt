@@ -55,6 +55,7 @@ returns-clause-begun c =
       stayed = refl;
       fresh = refl;
       not_full = refl;
+      unbegun = refl;
     }
 
 pub returns-clause-rescanned : goal.returns-clause-rescanned

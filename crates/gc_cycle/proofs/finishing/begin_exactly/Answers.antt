@@ -1,17 +1,18 @@
-use Rattle.std.proofs.Common.{refl, ap, arith}
+use Rattle.std.proofs.Common.{refl, ap, ◌∙◌, not, arith}
 use Rattle.mark_core.specs.declared.kinds.Phase.TheVariants.{Drain, Idle, Marking}
 use Rattle.gc_table.specs.Seats.{view_of}
 use Rattle.gc_table.specs.declared.view.View.{View}
-use Rattle.gc_table.proofs.Running.{ran-join, ran-only}
+use Rattle.gc_table.proofs.Running.{ran-events, ran-join, ran-only}
+use Rattle.gc_table.specs.Log.{events}
 use Rattle.card_clean.specs.Leaving.{rescans, rescanned_in}
 use Rattle.sweeper.specs.Freeing.{freed_in}
-use Rattle.gc_cycle.proofs.Ends.Completing.{freed-none, freed-run, total-run}
-use Rattle.gc_cycle.specs.Events.{since_last}
+use Rattle.gc_cycle.proofs.Ends.Completing.{freed-none, freed-run, part-untried, total-run}
+use Rattle.gc_cycle.specs.Events.{never, since_last}
 use Rattle.gc_cycle.specs.Finishing.{finishes}
-use Rattle.gc_cycle.specs.Sorts.{moves_to}
+use Rattle.gc_cycle.specs.Sorts.{moves_to, tries_marking}
 use Rattle.gc_cycle.proofs.Parts.{part-finishes}
-use Rattle.gc_cycle.proofs.Ends.Finishes.{begins-later}
-use Rattle.gc_cycle.proofs.Ends.Starting.{drain-no-full, either-untold, idle-begins, look-drain-events, look-drain-finishes, look-finishes, look-ran, looked, idle-or-marking, marking-ran}
+use Rattle.gc_cycle.proofs.Ends.Finishes.{begins-later, never-both}
+use Rattle.gc_cycle.proofs.Ends.Starting.{drain-no-full, either-untold, idle-begins, look-drain-events, look-drain-finishes, look-event, look-finishes, look-ran, looked, idle-or-marking, marking-ran}
 use Rattle.gc_cycle.proofs.finishing.begin_exactly.Goals as goal
 
 pub returns-then-idle-clause-begun : goal.returns-then-idle-clause-begun
@@ -22,7 +23,7 @@ returns-then-idle-clause-begun g c =
     let t = c.finds_idle-idle.ensures.read in
     let a = c.if-idle.ensures.idle in
     let b = c.begin_drain.ensures in
-    begins-later v w x (look-ran v w t) (look-finishes v w t) (either-untold v w t c.requires.alone) (idle-begins w x b.ran (b.events Idle a) b.alone (b.exact a))
+    begins-later v w x (look-ran v w t) (look-finishes v w t) (either-untold v w t c.requires.alone) (ap (never tries_marking) (look-event v w t)) (idle-begins w x b.ran (b.events Idle a) b.alone (b.exact a))
 
 pub returns-then-idle-clause-rescanned : goal.returns-then-idle-clause-rescanned
 returns-then-idle-clause-rescanned g c =
@@ -53,7 +54,10 @@ returns-clause-begun g c =
     let p = c.drain_alone-rescanned.ensures.drains.part in
     begins-later v y z (ran-join v x y (marking-ran v w x t b.ran) p.ran)
     (ran-only finishes v x y (marking-ran v w x t b.ran) p.ran (look-drain-finishes v w x 1 t b.ran (b.events Marking c.if-idle.ensures.marking)) (part-finishes Drain x y p))
-    (drain-no-full v w x y 1 t b.ran (either-untold v w t c.requires.alone) (b.events Marking c.if-idle.ensures.marking) p) c.clear_all_marks.ensures.begun
+    (drain-no-full v w x y 1 t b.ran (either-untold v w t c.requires.alone) (b.events Marking c.if-idle.ensures.marking) p)
+    (ap (never tries_marking) (ran-events v x y (marking-ran v w x t b.ran) p.ran)
+    ∙ never-both tries_marking (events v x) (events x y) (ap (never tries_marking) (look-drain-events v w x 1 t b.ran (b.events Marking c.if-idle.ensures.marking))) (ap not (part-untried Drain x y p)))
+    c.clear_all_marks.ensures.begun
 
 pub returns-clause-rescanned : goal.returns-clause-rescanned
 returns-clause-rescanned g c =

@@ -9,7 +9,7 @@ use Rattle.gc_cycle.specs.Finishing.{finishes}
 use Rattle.gc_cycle.specs.Sorts.{moves_to}
 use Rattle.card_clean.specs.Leaving.{rescans}
 use Rattle.sweeper.specs.Freeing.{frees}
-use Rattle.gc_cycle.proofs.Ends.Finishes.{cycle-help, cycle-not-full, cycle-total}
+use Rattle.gc_cycle.proofs.Ends.Finishes.{cycle-help, cycle-not-full, cycle-total, cycle-unbegun}
 use Rattle.gc_cycle.proofs.Ends.Spared.{finish-calm, finish-keeps, finish-position, finish-spares, untold-fills, untold-sees}
 use Rattle.gc_cycle.proofs.Sequences.{freed-same}
 use Rattle.gc_cycle.proofs.finishing.finish_cycle.Goals as goal
@@ -22,6 +22,9 @@ returns-clause-alone g c = c.complete.ensures.completes.alone
 
 pub returns-clause-help : goal.returns-clause-help
 returns-clause-help g c = cycle-help (view_of c.args.seat.now) (view_of c.begin_drain.new.seat) (view_of c.complete.new.seat) c.begin_drain.ensures.ran (c.begin_drain.ensures.events Marking c.requires.alone) c.complete.ensures.completes
+
+pub returns-clause-unbegun : goal.returns-clause-unbegun
+returns-clause-unbegun g c = cycle-unbegun (view_of c.args.seat.now) (view_of c.begin_drain.new.seat) (view_of c.complete.new.seat) c.begin_drain.ensures.ran (c.begin_drain.ensures.events Marking c.requires.alone) c.complete.ensures.completes
 
 pub returns-clause-not_full : goal.returns-clause-not_full
 returns-clause-not_full g c = untold-fills (events (view_of c.args.seat.now) (view_of c.complete.new.seat)) (cycle-not-full (view_of c.args.seat.now) (view_of c.begin_drain.new.seat) (view_of c.complete.new.seat) c.begin_drain.ensures.ran (c.begin_drain.ensures.events Marking c.requires.alone) c.complete.ensures.completes)

@@ -9,7 +9,7 @@ use Rattle.gc_cycle.specs.Moments.{begins}
 use Rattle.gc_table.proofs.Running.{ran-only}
 use Rattle.gc_cycle.specs.Finishing.{finishes}
 use Rattle.gc_cycle.proofs.Ends.Completing.{freed-run, total-run}
-use Rattle.gc_cycle.proofs.Ends.Finishes.{before-more, exact-collects, exact-end, exact-fresh, exact-help, exact-not-full, exact-ran}
+use Rattle.gc_cycle.proofs.Ends.Finishes.{before-more, exact-collects, exact-end, exact-fresh, exact-help, exact-not-full, exact-ran, exact-unbegun}
 use Rattle.gc_cycle.proofs.Ends.Spared.{finish-calm, finish-keeps, finish-position, finish-spares, untold-fills, untold-sees}
 use Rattle.gc_cycle.proofs.finishing.precise.Goals as goal
 
@@ -27,6 +27,9 @@ returns-clause-collects g c =
 
 pub returns-clause-help : goal.returns-clause-help
 returns-clause-help g c = exact-help (view_of c.args.seat.now) (view_of c.begin_exactly-first.new.seat) (view_of c.complete.new.seat) c.begin_exactly-first.ensures.begun c.complete.ensures.completes
+
+pub returns-clause-unbegun : goal.returns-clause-unbegun
+returns-clause-unbegun g c = exact-unbegun (view_of c.args.seat.now) (view_of c.begin_exactly-first.new.seat) (view_of c.complete.new.seat) c.begin_exactly-first.ensures.begun c.complete.ensures.completes
 
 pub returns-clause-not_full : goal.returns-clause-not_full
 returns-clause-not_full g c = untold-fills (events (view_of c.args.seat.now) (view_of c.complete.new.seat)) (exact-not-full (view_of c.args.seat.now) (view_of c.begin_exactly-first.new.seat) (view_of c.complete.new.seat) c.begin_exactly-first.ensures.begun c.complete.ensures.completes)
