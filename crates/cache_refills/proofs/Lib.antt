@@ -1,5 +1,6 @@
 mod Rows
 pub mod Kicking
+pub mod Due
 pub mod Positions
 pub mod Causes
 pub mod Refills

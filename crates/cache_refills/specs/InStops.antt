@@ -11,15 +11,15 @@ use Rattle.alloc_cache.specs.declared.cache.Cache.{Cache}
 use Rattle.gc_cycle.specs.declared.counts.Refill.{Refill}
 use Rattle.gc_cycle.specs.declared.counts.Refill.TheVariants as refills
 use Rattle.gc_cycle.specs.Answering.{EndsFull, GoesOn, StoredAt, TellsFull}
-use Rattle.gc_cycle.specs.Events.{never, until_first}
+use Rattle.gc_cycle.specs.Events.{never}
 use Rattle.cache_refills.specs.Pace.Pacing.{tries_marking}
 use Rattle.cache_refills.specs.Pace.Paying.{since_claim}
 use Rattle.cache_refills.specs.Refilling.{EndsClaimed}
-use Rattle.gc_cycle.specs.Sorts.{lowers_free, raises_flag}
+use Rattle.gc_cycle.specs.Sorts.{lowers_free}
 
--- before it raised the flag, or in all of it, the call didn't try to begin a cycle
+-- the call didn't try to begin a cycle
 abbrev pub begins_none : List Entry → Bool
-begins_none es = never tries_marking (until_first raises_flag es)
+begins_none es = never tries_marking es
 
 -- the mutator has claimed this cache outside a stop, with its position stored where it left the world before
 pub record HasSearched (h : Cache) (done : ℕ) (v w : View) : Type 0 where

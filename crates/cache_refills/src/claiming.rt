@@ -10,6 +10,7 @@ ghost use Rattle.gc_cycle.specs.Collecting.{HoldsWorld};
 ghost use Rattle.gc_cycle.specs.Cycles.{collects, may_fill, sees_free_cell};
 ghost use Rattle.gc_cycle.specs.Events.{each_after};
 ghost use Rattle.gc_cycle.specs.Finishing.{IsAloneIn, IsPart};
+ghost use Rattle.cache_refills.specs.InStops.{begins_none};
 ghost use Rattle.cache_refills.specs.Refilling.{ClaimsAlone, HasMissed, RestsAlone, SeesFull};
 ghost use Rattle.gc_cycle.specs.Sorts.{moves_to};
 ghost use Rattle.gc_cycle.specs.Statistics.{ChangesNumbers, leaves_numbers, taken};
@@ -34,6 +35,7 @@ pub(crate) fn claim_in_stop<R: Wait, W: Watch>(
     ensures claims { Across (ClaimsAlone result) seat.old seat.new }
     ensures numbers { Across (ChangesNumbers (taken result)) seat.old seat.new }
     ensures full { KnowsFull (view_of seat.old) → KnowsFull (view_of seat.new) }
+    ensures unbegun { IsTrue (begins_none (did seat.old seat.new)) }
     ensures missed { HasMissed heap.now.shape result (did seat.old seat.new) (view_of seat.new) }
     ensures fills { IsTrue (each_after (may_fill heap.now.shape) (moves_to Full) [] (did seat.old seat.new)) }
 {
@@ -62,6 +64,7 @@ fn claim_or_collect<R: Wait, W: Watch>(
     ensures seat { Sits heap.now seat.new }
     ensures claims { Across (ClaimsAlone result) seat.old seat.new }
     ensures numbers { Across (ChangesNumbers (taken result)) seat.old seat.new }
+    ensures unbegun { IsTrue (begins_none (did seat.old seat.new)) }
     ensures missed { HasMissed heap.now.shape result (did seat.old seat.new) (view_of seat.new) }
     ensures fills { IsTrue (each_after (may_fill heap.now.shape) (moves_to Full) [] (did seat.old seat.new)) }
 {
@@ -80,6 +83,7 @@ fn claim_or_fill(heap: &Heap, seat: &mut HeapSeat) -> Option<Cache>
     ensures seat { Sits heap.now seat.new }
     ensures claims { Across (ClaimsAlone result) seat.old seat.new }
     ensures numbers { Across (ChangesNumbers (taken result)) seat.old seat.new }
+    ensures unbegun { IsTrue (begins_none (did seat.old seat.new)) }
     ensures missed { (before : List Entry) → IsTrue (collects before) → HasMissed heap.now.shape result (before ++ did seat.old seat.new) (view_of seat.new) }
     ensures fills { (before : List Entry) → IsTrue (collects before) → IsTrue (each_after (may_fill heap.now.shape) (moves_to Full) before (did seat.old seat.new)) }
 {

@@ -5,7 +5,7 @@ ghost use Rattle.mark_core.specs.declared.kinds.Step.TheVariants.{ReadStat};
 ghost use Rattle.gc_table.specs.Seats.{Across, Answered, did, Sits, state_of};
 ghost use Rattle.gc_table.specs.Log.{Only};
 ghost use Rattle.gc_table.specs.Running.{Ran};
-ghost use Rattle.cache_refills.specs.Pace.Pacing.{KicksOff, kicks, late, late_seen, statistic as statistic_of};
+ghost use Rattle.cache_refills.specs.Pace.Pacing.{KicksOff, begins_where_due, kicks, late, late_seen, statistic as statistic_of};
 ghost use Rattle.cache_refills.specs.Pace.Payment.{reads_number};
 
 use gc_table::{Heap, HeapSeat};
@@ -64,6 +64,7 @@ pub(crate) fn begin_due(heap: &Heap, seat: &mut HeapSeat) -> bool
     ensures seat { Sits heap.now seat.new }
     ensures ran { Across Ran seat.old seat.new }
     ensures begins { KicksOff result (did seat.old seat.new) }
+    ensures due { IsTrue (begins_where_due (did seat.old seat.new)) }
     ensures state { state_of seat.new ≡ state_of seat.old }
     ensures only { Across (Only kicks) seat.old seat.new }
 {
@@ -84,6 +85,7 @@ pub fn kick_off(heap: &Heap, seat: &mut HeapSeat) -> bool
     ensures seat { Sits heap.now seat.new }
     ensures ran { Across Ran seat.old seat.new }
     ensures begins { KicksOff result (did seat.old seat.new) }
+    ensures due { IsTrue (begins_where_due (did seat.old seat.new)) }
     ensures state { state_of seat.new ≡ state_of seat.old }
     ensures only { Across (Only kicks) seat.old seat.new }
 {

@@ -14,6 +14,7 @@ ghost use Rattle.gc_cycle.specs.Answering.{StoredAt, TellsFull};
 ghost use Rattle.gc_cycle.specs.Cycles.{fills_with_cause};
 ghost use Rattle.cache_refills.specs.InStops.{begins_none};
 ghost use Rattle.gc_cycle.specs.Mutating.{stays_calm};
+ghost use Rattle.cache_refills.specs.Pace.Pacing.{begins_where_due};
 ghost use Rattle.cache_refills.specs.Pace.Paying.{IsFree};
 ghost use Rattle.cache_refills.specs.Refilling.{HasClaimed, IsPaced, IsRound, SeesEnd, looks_for_end, prepares};
 ghost use Rattle.gc_cycle.specs.Sparing.{SparesRefill, fills_part};
@@ -59,6 +60,7 @@ pub fn refill<R: Wait>(rt: &R, heap: &Heap, seat: &mut HeapSeat, done: u32) -> R
     ensures stops { IsTrue (stops_with_cause heap.now.shape (did seat.old seat.new)) }
     ensures again { IsTrue (stops_again_with_cause heap.now.shape (did seat.old seat.new)) }
     ensures fills { IsTrue (fills_with_cause heap.now.shape (did seat.old seat.new)) }
+    ensures due { IsTrue (begins_where_due (did seat.old seat.new)) }
     ensures keeps { Across KeepsSeat seat.old seat.new × Across KeepsSection seat.old seat.new }
     ensures only { Across (Only fills_part) seat.old seat.new }
     ensures numbers { Across (RefillsNumbers result) seat.old seat.new }
@@ -83,6 +85,7 @@ pub fn refill_watched<R: Wait, W: Watch>(
     ensures stops { IsTrue (stops_with_cause heap.now.shape (did seat.old seat.new)) }
     ensures again { IsTrue (stops_again_with_cause heap.now.shape (did seat.old seat.new)) }
     ensures fills { IsTrue (fills_with_cause heap.now.shape (did seat.old seat.new)) }
+    ensures due { IsTrue (begins_where_due (did seat.old seat.new)) }
     ensures keeps { Across KeepsSeat seat.old seat.new × Across KeepsSection seat.old seat.new }
     ensures only { Across (Only fills_part) seat.old seat.new }
     ensures numbers { Across (RefillsNumbers result) seat.old seat.new }
@@ -110,6 +113,7 @@ fn refill_once<R: Wait, W: Watch>(
     ensures round { Across (IsRound result done) seat.old seat.new }
     ensures numbers { Across (RoundNumbers result) seat.old seat.new }
     ensures stops { IsTrue (stops_with_cause heap.now.shape (did seat.old seat.new)) }
+    ensures due { IsTrue (begins_where_due (did seat.old seat.new)) }
     ensures some { IfSome result (λ r. (u : View) → Ran u (view_of seat.old) → TellsFull u (view_of seat.old) → StoredAt done u (view_of seat.old) → RefillsTo r done u (view_of seat.new)) }
 {
     if ends_full(heap, seat, done) {
@@ -133,6 +137,7 @@ fn sees_to_cycle(heap: &Heap, seat: &mut HeapSeat) -> bool
     ensures numbers { Across (ChangesBy []) seat.old seat.new }
     ensures cache { (state_of seat.new).cache ≡ (state_of seat.old).cache }
     ensures done { OnTrue result (((state_of seat.old).phase_seen ≡ Some Marking) × SeesEnd heap.now.shape (did seat.old seat.new)) }
+    ensures due { IsTrue (begins_where_due (did seat.old seat.new)) }
     ensures paced { OnFalse result (IsPaced (did seat.old seat.new) (view_of seat.new)) }
 {
     if has_seen_marking(seat) {
@@ -166,6 +171,7 @@ fn claim_or_stop<R: Wait, W: Watch>(
     ensures round { Across (IsRound result done) seat.old seat.new }
     ensures numbers { Across (RoundNumbers result) seat.old seat.new }
     ensures stops { IsTrue (stops_with_cause heap.now.shape (did seat.old seat.new)) }
+    ensures due { IsTrue (begins_where_due (did seat.old seat.new)) }
     ensures some { IfSome result (λ r. (u : View) → Ran u (view_of seat.old) → TellsFull u (view_of seat.old) → StoredAt done u (view_of seat.old) → IsPaced (events u (view_of seat.old)) (view_of seat.old) → RefillsTo r done u (view_of seat.new)) }
 {
     match claim(heap, seat) {

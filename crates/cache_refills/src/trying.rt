@@ -16,6 +16,7 @@ ghost use Rattle.gc_cycle.specs.Answering.{HasCache, StoredAt, TellsFull};
 ghost use Rattle.gc_cycle.specs.Cycles.{never_fills};
 ghost use Rattle.gc_cycle.specs.Events.{never};
 ghost use Rattle.gc_cycle.specs.Mutating.{GoesOut};
+ghost use Rattle.cache_refills.specs.Pace.Pacing.{begins_where_due};
 ghost use Rattle.cache_refills.specs.Refilling.{IsPaced, SeesEnd, prepares};
 ghost use Rattle.gc_cycle.specs.Sorts.{polls, raises_flag};
 ghost use Rattle.gc_cycle.specs.Sparing.{SparesRefill, spares_part};
@@ -104,6 +105,7 @@ fn begins_or_ends(heap: &Heap, seat: &mut HeapSeat) -> bool
     ensures numbers { Across (ChangesBy []) seat.old seat.new }
     ensures cache { (state_of seat.new).cache ≡ (state_of seat.old).cache }
     ensures done { OnTrue result (((state_of seat.old).phase_seen ≡ Some Marking) × SeesEnd heap.now.shape (did seat.old seat.new)) }
+    ensures due { IsTrue (begins_where_due (did seat.old seat.new)) }
     ensures paced { OnFalse result (IsPaced (did seat.old seat.new) (view_of seat.new)) }
 {
     if has_seen_marking(seat) {
@@ -123,6 +125,7 @@ pub fn try_refill(heap: &Heap, seat: &mut HeapSeat, done: u32) -> Option<Refill>
     ensures refills { IfSome result (λ r. Across (RefillsTo r done) seat.old seat.new × Across (SparesRefill r) seat.old seat.new) }
     ensures calls { IfNone result (Across CallsForCollection seat.old seat.new) }
     ensures keeps { Across KeepsSeat seat.old seat.new × Across KeepsSection seat.old seat.new }
+    ensures due { IsTrue (begins_where_due (did seat.old seat.new)) }
     ensures numbers { Across (RoundNumbers result) seat.old seat.new }
 {
     if ends_full(heap, seat, done) {
@@ -143,6 +146,7 @@ fn try_claim(heap: &Heap, seat: &mut HeapSeat, done: u32) -> Option<Refill>
     ensures some { IfSome result (λ r. (u : View) → Ran u (view_of seat.old) → TellsFull u (view_of seat.old) → StoredAt done u (view_of seat.old) → IsPaced (events u (view_of seat.old)) (view_of seat.old) → RefillsTo r done u (view_of seat.new)) }
     ensures spares { IfSome result (λ r. Across (SparesRefill r) seat.old seat.new) }
     ensures none { IfNone result (Across FindsNoBlock seat.old seat.new) }
+    ensures due { IsTrue (begins_where_due (did seat.old seat.new)) }
     ensures numbers { Across (RoundNumbers result) seat.old seat.new }
 {
     match claim(heap, seat) {

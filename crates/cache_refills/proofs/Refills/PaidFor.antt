@@ -1,7 +1,7 @@
 -- What a mutator paid, over all events of its payment.
 use Rattle.std.proofs.Common.{ℕ, ◌≡◌, ◌≤◌, List, [], ◌∷◌, ◌++◌, arith, refl, sym, ap, ◌∙◌, subst, Bool, true, false, not, ◌&&◌, ◌||◌, Some, None, Option, ⊎_elim, eqb-true}
 use Rattle.std.specs.Prelude.{◌==◌, if◌then◌else◌, is_some, nat_le}
-use Rattle.std.proofs.lemmas.Bool.{cases_Bool, false≢true, leb-false, not-true, or_cases, or_left, or_parts, or_right}
+use Rattle.std.proofs.lemmas.Bool.{cases_Bool, false≢true, leb-false, not-true, or_cases, or_from, or_left, or_parts, or_right}
 use Rattle.mark_core.specs.Cells.{or_else}
 use Rattle.mark_core.specs.Numbers.{card_counter, done_count, free_count, last_count, rescanned_count, traced_count}
 use Rattle.mark_core.specs.declared.kinds.Shape.{Shape}
@@ -23,7 +23,7 @@ use Rattle.packet_pools.proofs.Reading.{picked-join}
 use Rattle.tracer.specs.declared.traced.Stopped.{Stopped}
 use Rattle.tracer.specs.declared.traced.Stopped.TheVariants.{Quota, NoWork, NoPacket}
 use Rattle.gc_cycle.specs.declared.counts.Paid.{Paid}
-use Rattle.gc_cycle.specs.Events.{never}
+use Rattle.gc_cycle.specs.Events.{never, Sort, until_first}
 use Rattle.gc_cycle.specs.Lower.{traces_or_cleans}
 use Rattle.gc_cycle.specs.Moments.{at_some_moment, begins, finds_no_packet, finds_no_room, finds_no_work}
 use Rattle.cache_refills.specs.Pace.Pacing.{last_read, quota_by, quota_seen, read_of, statistic}
@@ -100,6 +100,22 @@ read-before which (x ∷ xs) ys h = ap (λ (o : Option ℕ). or_else o (read_of 
 quota-before : (cells : ℕ) (xs ys : List Entry) → never reads_pace ys ≡ true → quota_seen cells (xs ++ ys) ≡ quota_seen cells xs
 quota-before cells xs ys h =
     λ i. quota_by cells (read-before last_count xs ys (none-read last_count ys (omega arith) h) i) (read-before rescanned_count xs ys (none-read rescanned_count ys (omega arith) h) i) (read-before traced_count xs ys (none-read traced_count ys (omega arith) h) i) (read-before free_count xs ys (none-read free_count ys (omega arith) h) i)
+
+-- up to the first event like f, where the first of two lists has none
+until-longer : (f : Sort) (xs ys : List Entry) → never f xs ≡ true → until_first f (xs ++ ys) ≡ xs ++ until_first f ys
+until-longer f [] ys h = refl
+until-longer f (x ∷ xs) ys h =
+    let p = or_parts (f x.step x.found) (some_event f xs) (not-true _ h) in
+    ap (λ (b : Bool). if b then [] else x ∷ until_first f (xs ++ ys)) p.0 ∙ ap (λ es. x ∷ es) (until-longer f xs ys (ap not p.1))
+
+-- what never happens doesn't happen up to there
+until-never : (f g : Sort) (es : List Entry) → never g es ≡ true → never g (until_first f es) ≡ true
+until-never f g [] h = refl
+until-never f g (e ∷ es) h = let p = or_parts (g e.step e.found) (some_event g es) (not-true _ h) in split (f e.step e.found) p.0 (until-never f g es (ap not p.1))
+  where
+    split : (b : Bool) → g e.step e.found ≡ false → never g (until_first f es) ≡ true → never g (if b then [] else e ∷ until_first f es) ≡ true
+    split true k rest = refl
+    split false k rest = ap not (or_from _ _ k (not-true _ rest))
 
 -- why it stopped, where no block was claimed either
 regroup : (a b d : Bool) → (a && (b && d)) ≡ true → ((a && b) && d) ≡ true
@@ -220,6 +236,10 @@ module _ (cells quota : ℕ) (p : Paid) (u v w x : View) (m : Mutates u) (r : Ra
         seen = ap (λ (s : SeatState). s.phase_seen) kept ∙ (ap (λ (s : SeatState). s.phase_seen) k.traced.record_is ∙ ap (λ (s : SeatState). s.phase_seen) same);
         roots = roots;
         quota = ap (quota_seen cells) all ∙ (quota-before cells (events u v) (events v w ++ events w x) (never-join reads_pace (events v w) (events w x) k.unread last-unread) ∙ (q ∙ ap Some (sym k.quota_is)));
+        early =
+            ap (λ es. quota_seen cells (until_first pops es)) all
+            ∙ (ap (quota_seen cells) (until-longer pops (events u v) (events v w ++ events w x) (untaken reads_number pops number-unpopped (events u v) o))
+            ∙ (quota-before cells (events u v) (until_first pops (events v w ++ events w x)) (until-never pops reads_pace (events v w ++ events w x) (never-join reads_pace (events v w) (events w x) k.unread last-unread)) ∙ (q ∙ ap Some (sym k.quota_is))));
         most = subst (λ n. p.done ≤ n) (sym k.quota_is) k.most;
         done = counted;
         stopped = stops-as p.stopped p.quota p.done u x unclaimed stops;

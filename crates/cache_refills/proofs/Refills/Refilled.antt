@@ -39,7 +39,7 @@ use Rattle.alloc_cache.specs.declared.cache.Cache.{Cache}
 use Rattle.cache_refills.specs.Getting.{GetsCache}
 use Rattle.gc_cycle.specs.Answering.{answers, EndsFull, GoesOn, last_phase, later_or, phase_read}
 use Rattle.gc_cycle.specs.declared.counts.Paid.{Paid}
-use Rattle.gc_cycle.specs.Events.{before_last, never, Sort}
+use Rattle.gc_cycle.specs.Events.{before_last, never, Sort, until_first}
 use Rattle.gc_cycle.specs.Moments.{at_some_moment, begins, finds_no_packet, finds_no_room, finds_no_work}
 use Rattle.gc_cycle.specs.Mutating.{stays_calm}
 use Rattle.cache_refills.specs.Pace.Pacing.{last_read, quota_by, quota_seen, was_not_due}
@@ -207,8 +207,11 @@ module _ (h : Cache) (done : ℕ) (u v w x : View) (n : ℕ) (k : HasClaimed h d
   section : own_section w.state ≡ own_section u.state
   section = ap (λ (s : Option ℕ). unwrap_or s 0) (ran-section u w before)
 
-  read-after : (which : ℕ) → last_read which (first ++ events w x) ≡ last_read which (events w x)
-  read-after which = or-none (or_else (or_else (last_read which (events w x)) None) None) ∙ (or-none (or_else (last_read which (events w x)) None) ∙ or-none (last_read which (events w x)))
+  read-after : (which : ℕ) (es : List Entry) → last_read which (first ++ es) ≡ last_read which es
+  read-after which es = or-none (or_else (or_else (last_read which es) None) None) ∙ (or-none (or_else (last_read which es) None) ∙ or-none (last_read which es))
+
+  quota-after : (cells : ℕ) (es : List Entry) → quota_seen cells (first ++ es) ≡ quota_seen cells es
+  quota-after cells es = λ i. quota_by cells (read-after last_count es i) (read-after rescanned_count es i) (read-after traced_count es i) (read-after free_count es i)
 
   -- while a cycle was marking
   pays-marking : (p : Paid) → HasPaid (ones h.cells) p w x → phase_of n ≡ Marking → PaysInMarking u.shape (own_section u.state) (ones h.cells) p (begins u) (events u x)
@@ -226,7 +229,9 @@ module _ (h : Cache) (done : ℕ) (u v w x : View) (n : ℕ) (k : HasClaimed h d
             (later-moment (λ m later. never claims later && finds_no_packet u.shape m later) (both-widen (never claims) (finds_no_packet u.shape) (packet-widens u.shape)) u w x before r
             (subst (λ (sh : Shape). at_some_moment w.shape (λ m later. never claims later && finds_no_packet sh m later) (begins w) (events w x) ≡ true) (ran-shape u w before) b)))
             (or_cases (roots_scanned (own_section w.state) (events w x)) _ q.roots);
-        quota = ap (quota_seen (ones h.cells)) since ∙ ((λ i. quota_by (ones h.cells) (read-after last_count i) (read-after rescanned_count i) (read-after traced_count i) (read-after free_count i)) ∙ q.quota);
+        quota = ap (quota_seen (ones h.cells)) since ∙ (quota-after (ones h.cells) (events w x) ∙ q.quota);
+        early = ap (λ es. quota_seen (ones h.cells) (until_first pops es)) since ∙ (quota-after (ones h.cells) (until_first pops (events w x)) ∙ q.early);
+        most = q.most;
         done = let s : count_of pops (since_claim (events u x)) ≡ 0 + (0 + (0 + count_of pops (events w x))) = ap (count_of pops) since in let d = q.done in omega (arith, s, d);
         stopped = stops-after p.stopped p.quota p.done u w x before r q.stopped;
         told = ap (picked raises_traced) since ∙ q.told;
@@ -239,6 +244,7 @@ module _ (h : Cache) (done : ℕ) (u v w x : View) (n : ℕ) (k : HasClaimed h d
         outside = outside;
         read = ap (some_event (reads_phase Idle)) since ∙ or_left (saw (Some (phase_of n)) Idle) _ (ap (λ m. saw (Some (phase_of m)) Idle) e);
         unmarked = ap (never (reads_phase Marking)) alone ∙ ap (λ m. not (saw (Some (phase_of m)) Marking || false)) e;
+        unpopped = ap (never pops) alone;
         untold = ap (picked raises_traced) alone;
         free = free;
         cause = or_left (was_not_due (before_last claims (events u x))) (some_event raises_flag (events u x)) (ap was_not_due ahead ∙ due);

@@ -1,5 +1,5 @@
 -- What mutators pay, computed.
-use Rattle.std.proofs.Common.{ℕ, ◌≡◌, refl, sym, ap, ◌∙◌, List, [], ◌∷◌, ◌++◌, Bool, true, false, Option, Some, None}
+use Rattle.std.proofs.Common.{ℕ, ◌≡◌, arith, refl, sym, ap, ◌∙◌, List, [], ◌∷◌, ◌++◌, Bool, true, false, Option, Some, None}
 use Rattle.std.specs.Prelude.{◌==◌}
 use Rattle.mark_core.specs.Numbers.{free_count, last_count, rescanned_count, traced_count}
 use Rattle.mark_core.specs.Seats.{is_the}
@@ -27,7 +27,7 @@ abbrev in_peace : List Entry
 in_peace = did (ReadStat last_count) 0 ∷ did (ReadStat rescanned_count) 0 ∷ did (ReadStat free_count) 64 ∷ claiming 0 64 ++ did ReadPhase 0 ∷ []
 
 pays_nothing : Pays small 1 64 free_of_charge (at_rest marker) in_peace
-pays_nothing = in_idle (record { outside = refl; read = refl; unmarked = refl; untold = refl; free = (refl, refl, refl); cause = refl })
+pays_nothing = in_idle (record { outside = refl; read = refl; unmarked = refl; unpopped = refl; untold = refl; free = (refl, refl, refl); cause = refl })
 
 -- a cycle was due, and the mutator began none
 abbrev never_begins : List Entry
@@ -89,7 +89,7 @@ refused-blind (in_stop p) = absurd (true≢false (sym p.inside))
 
 -- in its own stop it pays nothing
 pays_in_stop : Pays small 1 64 free_of_charge (at_rest marker) in_own_stop
-pays_in_stop = in_stop (record { inside = refl; untold = refl; free = (refl, refl, refl) })
+pays_in_stop = in_stop (record { inside = refl; unpopped = refl; untold = refl; free = (refl, refl, refl) })
 
 -- in Marking: the roots are nil, so there is no work
 abbrev with_roots : List Entry
@@ -99,7 +99,7 @@ abbrev no_work : Paid
 no_work = record { quota = 32; done = 0; stopped = NoWork }
 
 pays_for_work : Pays small 1 64 no_work (at_rest marker) with_roots
-pays_for_work = in_marking (record { outside = refl; read = refl; roots = refl; quota = refl; done = refl; stopped = (differ, refl); told = refl })
+pays_for_work = in_marking (record { outside = refl; read = refl; roots = refl; quota = refl; early = refl; done = refl; most = omega arith; stopped = (differ, refl); told = refl })
   where
     differ : (◌≡◌ {A = ℕ} 0 32) → ⊥
     differ e = absurd (true≢false (sym (ap (λ n. n == 32) e)))

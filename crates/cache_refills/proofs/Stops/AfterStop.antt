@@ -36,7 +36,7 @@ use Rattle.gc_cycle.specs.Mutating.{keeps_section, tries_stopping, TriesToStop}
 use Rattle.cache_refills.specs.Pace.Paying.{in_stop, IsFree, since_claim}
 use Rattle.gc_cycle.specs.Polling.{saw_full}
 use Rattle.cache_refills.specs.Refilling.{ClaimsAlone, EndsClaimed, HasMissed, IsRound, MayResume}
-use Rattle.gc_cycle.specs.Sorts.{claims, ends_cycle, lowers_free, moves_to, raises_flag, raises_traced, reads_phase, resumes}
+use Rattle.gc_cycle.specs.Sorts.{claims, ends_cycle, lowers_free, moves_to, pops, raises_flag, raises_traced, reads_phase, resumes}
 use Rattle.gc_cycle.specs.Sparing.{spares_part}
 use Rattle.gc_cycle.specs.Standing.{Mutates}
 use Rattle.cache_refills.specs.Stops.{may_stop_again, misses_block, stops_again_with_cause}
@@ -254,5 +254,5 @@ module _ (o : Option Cache) (u v w x y : View) (t : TriesToStop u v) (once : cou
         position = λ left. position-end (Some h) k ∙ at;
         free = e.free;
         told = ap (picked lowers_free) since;
-        pays = in_stop (record { inside = ap (some_event resumes) since; untold = ap (picked raises_traced) since; free = free });
+        pays = in_stop (record { inside = ap (some_event resumes) since; unpopped = ap (never pops) since; untold = ap (picked raises_traced) since; free = free });
       }

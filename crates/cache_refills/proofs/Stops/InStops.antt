@@ -1,15 +1,19 @@
 -- A cache without a cycle: what was looked at and claimed, and that no cycle was begun.
-use Rattle.std.proofs.Common.{ℕ, ◌≡◌, List, [], ◌∷◌, ◌++◌, refl, sym, ap, ◌∙◌, subst, Bool, true, false, not, ◌||◌, Some}
-use Rattle.std.specs.Prelude.{if◌then◌else◌, IfSome}
+use Rattle.std.proofs.Common.{ℕ, ◌≡◌, List, [], ◌∷◌, ◌++◌, refl, sym, ap, ◌∙◌, subst, Bool, true, false, not, ◌||◌, Some, None, Option}
+use Rattle.std.specs.Prelude.{IfNone, IfSome}
 use Rattle.std.specs.Int.Count.{ones}
-use Rattle.std.proofs.lemmas.Bool.{false≢true, not-true, or_from, or_parts}
+use Rattle.std.proofs.lemmas.Bool.{false≢true, not-true}
 use Rattle.std.proofs.lemmas.List.{append_assoc}
 use Rattle.mark_core.specs.Numbers.{free_count}
 use Rattle.mark_core.specs.declared.kinds.Step.{Step}
-use Rattle.mark_core.specs.declared.kinds.Step.TheVariants.{AddStat, ClaimBlock, ReadFree, ReadPhase, StorePhase}
+use Rattle.mark_core.specs.declared.kinds.Step.TheVariants.{AddStat, ClaimBlock, DropStep, ReadFree, ReadPhase, StorePhase}
+use Rattle.mark_core.specs.declared.kinds.Phase.{Phase}
+use Rattle.mark_core.specs.declared.kinds.Shape.{Shape}
 use Rattle.gc_table.specs.Log.{event, events, Only}
 use Rattle.gc_table.specs.Running.{Ran}
 use Rattle.gc_table.specs.declared.view.Entry.{Entry}
+use Rattle.gc_table.specs.Seats.{Took}
+use Rattle.gc_table.specs.Taking.{after}
 use Rattle.gc_table.specs.declared.view.View.{View}
 use Rattle.gc_table.proofs.History.Log.{events-after, events-none, only-after, only-more}
 use Rattle.gc_table.proofs.Running.{ran-events, ran-join, ran-took}
@@ -21,43 +25,20 @@ use Rattle.gc_cycle.specs.Answering.{answers, KeepsOn, StoredAt, TellsFull}
 use Rattle.gc_cycle.specs.declared.counts.Refill.{Refill}
 use Rattle.gc_cycle.specs.declared.counts.Refill.TheVariants as refills
 use Rattle.cache_refills.specs.Getting.{RefillsTo}
-use Rattle.gc_cycle.specs.Events.{never, Sort, until_first}
 use Rattle.cache_refills.specs.InStops.{begins_none, FillsCache, FillsTo, HasSearched}
+use Rattle.gc_cycle.specs.Finishing.{IsPart}
 use Rattle.gc_cycle.specs.Mutating.{tries_stopping}
+use Rattle.gc_cycle.proofs.Ends.Completing.{part-untried}
+use Rattle.cache_refills.proofs.Stops.InStop.{ClaimsNone}
 use Rattle.cache_refills.specs.Pace.Pacing.{tries_marking}
 use Rattle.cache_refills.specs.Pace.Paying.{since_claim}
 use Rattle.cache_refills.specs.Refilling.{EndsClaimed}
-use Rattle.gc_cycle.specs.Sorts.{claims, lowers_free, raises_flag}
+use Rattle.gc_cycle.specs.Sorts.{claims, lowers_free}
 use Rattle.gc_cycle.proofs.Refills.Answered.{answers-try}
 use Rattle.cache_refills.proofs.Refills.Claimed.{claim-only, claims_block, claims-end, claims-only}
 use Rattle.cache_refills.proofs.Positions.{stays_inside, stored-more}
 use Rattle.cache_refills.proofs.Refills.Rounds.{leads-prepared}
-use Rattle.gc_cycle.proofs.Sequences.{none-of-steps, since-this}
-
--- what never happens doesn't happen before the first event like another
-none-until : (f g : Sort) (es : List Entry) → some_event g es ≡ false → some_event g (until_first f es) ≡ false
-none-until f g [] h = refl
-none-until f g (e ∷ es) h = let p = or_parts (g e.step e.found) (some_event g es) h in split (f e.step e.found) p.0 (none-until f g es p.1)
-  where
-    split : (a : Bool) → g e.step e.found ≡ false → some_event g (until_first f es) ≡ false → some_event g (if a then [] else e ∷ until_first f es) ≡ false
-    split true k rest = refl
-    split false k rest = or_from _ _ k rest
-
-until-more : (f : Sort) (xs ys : List Entry) → some_event f xs ≡ true → until_first f (xs ++ ys) ≡ until_first f xs
-until-more f [] ys h = absurd (false≢true h)
-until-more f (x ∷ xs) ys h = split (f x.step x.found) h (until-more f xs ys)
-  where
-    split : (a : Bool) → a || some_event f xs ≡ true → (some_event f xs ≡ true → until_first f (xs ++ ys) ≡ until_first f xs) → (if a then [] else x ∷ until_first f (xs ++ ys)) ≡ (if a then [] else x ∷ until_first f xs)
-    split true k rest = refl
-    split false k rest = ap (λ es. x ∷ es) (rest k)
-
-until-join : (f g : Sort) (xs ys : List Entry) → some_event g (until_first f xs) ≡ false → some_event g (until_first f ys) ≡ false → some_event g (until_first f (xs ++ ys)) ≡ false
-until-join f g [] ys a b = b
-until-join f g (x ∷ xs) ys a b = split (f x.step x.found) a (λ k. until-join f g xs ys k b)
-  where
-    split : (t : Bool) → some_event g (if t then [] else x ∷ until_first f xs) ≡ false → (some_event g (until_first f xs) ≡ false → some_event g (until_first f (xs ++ ys)) ≡ false) → some_event g (if t then [] else x ∷ until_first f (xs ++ ys)) ≡ false
-    split true h rest = refl
-    split false h rest = let p = or_parts (g x.step x.found) (some_event g (until_first f xs)) h in or_from _ _ p.0 (rest p.1)
+use Rattle.gc_cycle.proofs.Sequences.{none-of-steps, since-this, some-none}
 
 -- steps that begin no cycle
 
@@ -74,14 +55,13 @@ claims-unbegun (StorePhase to) n e = absurd (false≢true e)
 claims-unbegun step n e = refl
 
 unbegun-none : (es : List Entry) → some_event tries_marking es ≡ false → begins_none es ≡ true
-unbegun-none es h = ap not (none-until raises_flag tries_marking es h)
+unbegun-none es h = ap not h
 
 pub unbegun-empty : (v : View) → begins_none (events v v) ≡ true
 unbegun-empty v = ap begins_none (events-none v)
 
 pub unbegun-join : (u v w : View) → Ran u v → Ran v w → begins_none (events u v) ≡ true → begins_none (events v w) ≡ true → begins_none (events u w) ≡ true
-unbegun-join u v w r q a b =
-    ap begins_none (ran-events u v w r q) ∙ ap not (until-join raises_flag tries_marking (events u v) (events v w) (not-true _ a) (not-true _ b))
+unbegun-join u v w r q a b = ap begins_none (ran-events u v w r q) ∙ ap not (some-none tries_marking (events u v) (events v w) (not-true _ a) (not-true _ b))
 
 pub unbegun-tries : (v w : View) → Only tries_stopping v w → begins_none (events v w) ≡ true
 unbegun-tries v w o = unbegun-none (events v w) (none-of-steps tries_stopping tries_marking tries-unbegun (events v w) o)
@@ -95,10 +75,24 @@ unbegun-claims h v w k = unbegun-none (events v w) (none-of-steps claims_block t
 pub unbegun-answers : (v w : View) → Only answers v w → begins_none (events v w) ≡ true
 unbegun-answers v w o = unbegun-tries v w (only-more answers tries_stopping answers-try v w o)
 
--- nothing after the flag was raised is asked
-pub unbegun-stop : (u v w : View) → Ran u v → Ran v w → Only tries_stopping u v → some_event raises_flag (events u v) ≡ true → begins_none (events u w) ≡ true
-unbegun-stop u v w r q o raised =
-    ap begins_none (ran-events u v w r q) ∙ (ap (λ es. never tries_marking es) (until-more raises_flag (events u v) (events v w) raised) ∙ unbegun-tries u v o)
+-- one step
+pub unbegun-after : (v w : View) (step : Step) (n : ℕ) → tries_marking step n ≡ false → w ≡ after step n v → begins_none (events v w) ≡ true
+unbegun-after v w step n h e = ap begins_none (events-after v w step n e) ∙ ap (λ (b : Bool). not (b || false)) h
+
+-- a claim, whatever its answer
+pub unbegun-any : (sh : Shape) (o : Option Cache) (v w : View) → IfSome o (λ h. Claims h v w) → IfNone o (ClaimsNone sh v w) → begins_none (events v w) ≡ true
+unbegun-any sh None v w s n = unbegun-seeks v w n.3
+unbegun-any sh (Some h) v w s n = unbegun-claims h v w s
+
+-- a part of a stop
+pub unbegun-part : (p : Phase) (v w : View) → IsPart p v w → begins_none (events v w) ≡ true
+unbegun-part p v w h = ap not (part-untried p v w h)
+
+-- a stop, what was done in it, its end, and a look at the phase after it
+pub unbegun-stop : (u v w x y : View) → Ran u v → Ran v w → Ran w x → Ran x y → Only tries_stopping u v → begins_none (events v w) ≡ true → Took DropStep w x → Only answers x y → begins_none (events u y) ≡ true
+unbegun-stop u v w x y r q d l o k t a =
+    unbegun-join u v y r (ran-join v w y q (ran-join w x y d l)) (unbegun-tries u v o)
+    (unbegun-join v w y q (ran-join w x y d l) k (unbegun-join w x y d l (unbegun-after w x DropStep t.0 refl t.1.0) (unbegun-answers x y a)))
 
 -- the answer
 

@@ -8,7 +8,9 @@ use Rattle.mark_core.specs.declared.kinds.Step.TheVariants.{ReadStat, StorePhase
 use Rattle.gc_table.specs.declared.view.Entry.{Entry}
 use Rattle.packet_pools.specs.Seeking.{some_event}
 use Rattle.cache_refills.specs.Pace.Quota.{quota}
+use Rattle.gc_cycle.specs.Events.{each_after}
 use Rattle.gc_cycle.specs.Sorts.{moves}
+pub use Rattle.gc_cycle.specs.Sorts.{tries_marking}
 
 -- the number in the word of a statistic, which is bounded, and 0 where the word fell below 0
 abbrev pub statistic : ℕ → ℕ
@@ -64,10 +66,18 @@ late_by last traced free = None
 abbrev pub late_seen : List Entry → Option Bool
 late_seen es = late_by (last_read last_count es) (last_read traced_count es) (last_read free_count es)
 
--- a try to begin a cycle
-abbrev pub tries_marking : Step → ℕ → Bool
-tries_marking (StorePhase Marking) found = true
-tries_marking step found = false
+-- the numbers were read, and a cycle was due by them
+abbrev pub is_due : Option Bool → Bool
+is_due None = false
+is_due (Some due) = due
+
+-- the numbers were read by these events, and a cycle was due by them
+abbrev pub was_due : List Entry → Bool
+was_due es = is_due (due_seen es)
+
+-- a try to begin a cycle came only where one was due, by the numbers as read last before it
+abbrev pub begins_where_due : List Entry → Bool
+begins_where_due es = each_after was_due tries_marking [] es
 
 -- a step of beginning a cycle
 abbrev pub kicks : Step → Bool

@@ -1,5 +1,5 @@
 -- What a mutator pays for its cache.
-use Rattle.std.specs.Prelude.{ℕ, ◌≡◌, ◌≢◌, ◌&&◌, ◌||◌, List, [], ◌∷◌, Bool, Some, IsTrue, IsFalse}
+use Rattle.std.specs.Prelude.{ℕ, ◌≡◌, ◌≢◌, ◌≤◌, ◌&&◌, ◌||◌, List, [], ◌∷◌, Bool, Some, IsTrue, IsFalse}
 use Rattle.mark_core.specs.declared.kinds.Phase.TheVariants.{Idle, Marking}
 use Rattle.mark_core.specs.declared.kinds.Shape.{Shape}
 use Rattle.gc_table.specs.declared.view.Entry.{Entry}
@@ -9,7 +9,7 @@ use Rattle.packet_pools.specs.Seeking.{some_event}
 use Rattle.tracer.specs.declared.traced.Stopped.{Stopped}
 use Rattle.tracer.specs.declared.traced.Stopped.TheVariants.{Quota, NoWork, NoPacket}
 use Rattle.gc_cycle.specs.declared.counts.Paid.{Paid}
-use Rattle.gc_cycle.specs.Events.{before_last, never, since_last}
+use Rattle.gc_cycle.specs.Events.{before_last, never, since_last, until_first}
 use Rattle.gc_cycle.specs.Sorts.{claims, pops, raises_flag, raises_traced, reads_phase, reads_root, resumes}
 use Rattle.gc_cycle.specs.Moments.{Moment, at_some_moment, finds_no_packet, finds_no_room, finds_no_work}
 use Rattle.cache_refills.specs.Pace.Pacing.{quota_seen, was_not_due}
@@ -47,9 +47,11 @@ pub record PaysInMarking (sh : Shape) (section cells : ℕ) (paid : Paid) (m : M
   pub read : IsTrue (some_event (reads_phase Marking) (since_claim es))
   -- the roots were marked, or no packet could be taken
   pub roots : IsTrue (roots_scanned section (since_claim es) || at_some_moment sh (λ n later. never claims later && finds_no_packet sh n later) m es)
-  -- the numbers were read after the claim
+  -- the numbers were read after the claim, and before a cell was popped
   pub quota : quota_seen cells (since_claim es) ≡ Some paid.quota
+  pub early : quota_seen cells (until_first pops (since_claim es)) ≡ Some paid.quota
   pub done : count_of pops (since_claim es) ≡ paid.done
+  pub most : paid.done ≤ paid.quota
   pub stopped : StopsAs paid.stopped sh paid.quota paid.done m es
   -- the number of traced cells was raised once, by as many
   pub told : picked raises_traced (since_claim es) ≡ paid.done ∷ []
@@ -65,7 +67,8 @@ pub record PaysInIdle (paid : Paid) (es : List Entry) : Type 0 where
   pub read : IsTrue (some_event (reads_phase Idle) (since_claim es))
   -- at no look since the claim was a cycle marking
   pub unmarked : IsTrue (never (reads_phase Marking) (since_claim es))
-  -- the number of traced cells was not raised
+  -- no cell was popped, and the number of traced cells was not raised
+  pub unpopped : IsTrue (never pops (since_claim es))
   pub untold : picked raises_traced (since_claim es) ≡ []
   pub free : IsFree paid
   pub cause : IsTrue (was_not_due (before_last claims es) || some_event raises_flag es)
@@ -73,6 +76,7 @@ pub record PaysInIdle (paid : Paid) (es : List Entry) : Type 0 where
 -- the block was claimed in a stop of the call
 pub record PaysInStop (paid : Paid) (es : List Entry) : Type 0 where
   pub inside : IsTrue (claimed_in_stop es)
+  pub unpopped : IsTrue (never pops (since_claim es))
   pub untold : picked raises_traced (since_claim es) ≡ []
   pub free : IsFree paid
 

@@ -13,7 +13,7 @@ use Rattle.packet_pools.specs.Fields.{picked}
 use Rattle.tracer.specs.declared.traced.Stopped.{Stopped}
 use Rattle.tracer.specs.declared.traced.Stopped.TheVariants.{Quota, NoWork, NoPacket}
 use Rattle.gc_cycle.specs.declared.counts.Paid.{Paid}
-use Rattle.gc_cycle.specs.Events.{never}
+use Rattle.gc_cycle.specs.Events.{never, until_first}
 use Rattle.gc_cycle.specs.Lower.{HasTraced, traces_or_cleans}
 use Rattle.gc_cycle.specs.Moments.{Moment, at_some_moment, begins, finds_no_packet, finds_no_room, finds_no_work}
 use Rattle.cache_refills.specs.Pace.Pacing.{quota_seen}
@@ -90,6 +90,7 @@ pub record HasPaid (cells : ℕ) (paid : Paid) (v w : View) : Type 0 where
   pub seen : w.state.phase_seen ≡ v.state.phase_seen
   pub roots : IsTrue (roots_scanned (own_section v.state) (events v w) || at_some_moment v.shape (λ n later. never claims later && finds_no_packet v.shape n later) (begins v) (events v w))
   pub quota : quota_seen cells (events v w) ≡ Some paid.quota
+  pub early : quota_seen cells (until_first pops (events v w)) ≡ Some paid.quota
   pub most : paid.done ≤ paid.quota
   pub done : count_of pops (events v w) ≡ paid.done
   pub stopped : StopsAs paid.stopped v.shape paid.quota paid.done (begins v) (events v w)

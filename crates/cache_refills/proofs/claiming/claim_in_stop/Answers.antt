@@ -1,5 +1,6 @@
-use Rattle.std.proofs.Common.{rules, ℕ, ◌≡◌, ◌⊎◌, refl, sym, ap, ◌∙◌, subst, Option, Some, inr, [], arith}
-use Rattle.std.specs.Prelude.{unwrap_or}
+use Rattle.std.proofs.Common.{ℕ, ◌≡◌, ◌⊎◌, refl, sym, ap, ◌∙◌, subst, Option, Some, inr, [], arith}
+use Rattle.std.specs.Prelude.{is_some, unwrap_or}
+use Rattle.std.proofs.lemmas.Bool.{true≢false}
 use Rattle.mark_core.specs.declared.kinds.Phase.TheVariants.{Clear, Drain, Full, Idle, Marking, Sweep}
 use Rattle.gc_table.specs.Rule.{KnowsFull}
 use Rattle.gc_cycle.specs.Collecting.{HoldsWorld}
@@ -21,6 +22,7 @@ use Rattle.gc_cycle.proofs.Refills.Collected.{exactly-collects, full-alone}
 use Rattle.cache_refills.proofs.Stops.InStop.{claims-later, claims-none, fills-caused, fills-own, quiet-finish, rests-held, rests-later}
 use Rattle.gc_cycle.proofs.Changes.{by-none, numbers-after, numbers-one}
 use Rattle.gc_cycle.specs.Statistics.{EndsCycle, taken}
+use Rattle.cache_refills.proofs.Stops.InStops.{unbegun-empty, unbegun-join}
 use Rattle.cache_refills.proofs.claiming.claim_in_stop.Goals as goal
 
 pub claim_or_collect-requires-clause-alone : goal.claim_or_collect-requires-clause-alone
@@ -113,6 +115,21 @@ returns-in_default-clause-numbers g c =
     let e : EndsCycle u v = record { ran = p.ran; only = p.only; alone = c.requires.stopped.rest; idle = p.alone.0; drains = p.drains; help = p.help; counts = c.precise.result; end = p.end; rescanned = p.rescanned; freed = p.freed } in
     numbers-after (taken c.claim_or_fill.result) u v (view_of c.claim_or_fill.new.seat) e c.claim_or_fill.ensures.numbers
 
+pub returns-in-Some-Full-clause-unbegun : goal.returns-in-Some-Full-clause-unbegun
+returns-in-Some-Full-clause-unbegun g c = unbegun-empty (view_of c.args.seat.now)
+
+pub returns-in-Some-Marking-clause-unbegun : goal.returns-in-Some-Marking-clause-unbegun
+returns-in-Some-Marking-clause-unbegun g c =
+    let p = c.finish_cycle.ensures in
+    let e = c.claim_or_collect.ensures in
+    unbegun-join (view_of c.args.seat.now) (view_of c.finish_cycle.new.seat) (view_of c.claim_or_collect.new.seat) p.ran e.claims.ran p.unbegun e.unbegun
+
+pub returns-in_default-clause-unbegun : goal.returns-in_default-clause-unbegun
+returns-in_default-clause-unbegun g c =
+    let p = c.precise.ensures in
+    let e = c.claim_or_fill.ensures in
+    unbegun-join (view_of c.args.seat.now) (view_of c.precise.new.seat) (view_of c.claim_or_fill.new.seat) p.ran e.claims.ran p.unbegun e.unbegun
+
 -- a seat that holds the world, and read the phase as another, doesn't know the heap as full
 not-full : (v : View) → HoldsWorld v → KnowsFull v → v.state.phase_seen ≡ Some Full
 not-full v h k = by_phase h.phase h.left h.seen h.alone.phase
@@ -131,5 +148,8 @@ not-full v h k = by_phase h.phase h.left h.seen h.alone.phase
 pub returns-in_default-clause-full : goal.returns-in_default-clause-full
 returns-in_default-clause-full g c = λ k.
     let u : View = view_of c.args.seat.now in
-    let seen : u.state.phase_seen ≡ Some Full = not-full u c.requires.stopped k in
-    elim c.in_default.branch [ in_default-via-in-Some+in_default w ↦ search rules | in_default-via-in_default w ↦ search rules ]
+    let full : c.state.result.now.phase_seen ≡ Some Full = ap (λ (s : SeatState). s.phase_seen) c.state.ensures ∙ not-full u c.requires.stopped k in
+    elim c.in_default.branch [
+      | in_default-via-in-Some+in_default w ↦ absurd ((rw full at w.in_default.in-Idle-own.refused-1).2 refl)
+      | in_default-via-in_default w ↦ absurd (true≢false (ap (λ (o : Option Phase). is_some o) (sym full ∙ w.in_default.is)))
+    ]

@@ -16,6 +16,7 @@ use Rattle.gc_cycle.proofs.Sequences.{followed-later}
 use Rattle.gc_cycle.proofs.Changes.{numbers-after, numbers-join, numbers-one}
 use Rattle.gc_cycle.specs.Statistics.{EndsCycle, taken}
 use Rattle.gc_cycle.proofs.Numbers.{claim-by, seeks-by}
+use Rattle.cache_refills.proofs.Stops.InStops.{unbegun-claims, unbegun-join, unbegun-seeks}
 use Rattle.cache_refills.proofs.claiming.claim_or_collect.Goals as goal
 
 collected-after : (sh : Shape) (u v w : View) → Ran u v → Ran v w → collects_exactly sh (begins v) (events v w) ≡ true → collects (events u w) ≡ true
@@ -88,3 +89,16 @@ returns-clause-numbers g c =
     let alone = (alone-same u v n.0 c.claim.ensures.ran n.3 c.requires.alone.0).rest in
     let e : EndsCycle v w = record { ran = p.ran; only = p.only; alone = alone; idle = p.alone.0; drains = p.drains; help = p.help; counts = c.precise.result; end = p.end; rescanned = p.rescanned; freed = p.freed } in
     numbers-join (taken c.claim_or_fill.result) u v x (numbers-one [] u v (seeks-by u v c.claim.ensures.ran n.3)) (numbers-after (taken c.claim_or_fill.result) v w x e c.claim_or_fill.ensures.numbers)
+
+pub returns-in-Some-clause-unbegun : goal.returns-in-Some-clause-unbegun
+returns-in-Some-clause-unbegun g c = unbegun-claims c.in-Some.cache (view_of c.args.seat.now) (view_of c.claim.new.seat) c.in-Some.ensures.some
+
+pub returns-clause-unbegun : goal.returns-clause-unbegun
+returns-clause-unbegun g c =
+    let u : View = view_of c.args.seat.now in
+    let v : View = view_of c.claim.new.seat in
+    let w : View = view_of c.precise.new.seat in
+    let x : View = view_of c.claim_or_fill.new.seat in
+    let p = c.precise.ensures in
+    let f = c.claim_or_fill.ensures in
+    unbegun-join u v x c.claim.ensures.ran (ran-join v w x p.ran f.claims.ran) (unbegun-seeks u v c.in_default.ensures.none.3) (unbegun-join v w x p.ran f.claims.ran p.unbegun f.unbegun)

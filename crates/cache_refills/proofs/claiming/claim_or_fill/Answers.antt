@@ -5,7 +5,7 @@ use Rattle.mark_core.specs.declared.kinds.Phase.TheVariants.{Idle, Full}
 use Rattle.mark_core.specs.declared.kinds.Shape.{Shape}
 use Rattle.gc_table.specs.Seats.{view_of}
 use Rattle.gc_table.specs.declared.view.View.{View}
-use Rattle.gc_table.proofs.Running.{ran-section, ran-stored, ran-found}
+use Rattle.gc_table.proofs.Running.{ran-join, ran-section, ran-stored, ran-found}
 use Rattle.gc_cycle.proofs.Ends.Completing.{part-exact}
 use Rattle.cache_refills.proofs.Refills.Filling.{full-claims, full-fills, full-told, looked-missed, may-fill, may-name, named-asked, named-kept, named-part}
 use Rattle.cache_refills.proofs.Stops.InStop.{claims-alone, claims-later, may-claim, quiet-claim, quiet-join, quiet-part, rests-later, unfills, ClaimsNone}
@@ -19,6 +19,7 @@ use Rattle.alloc_cache.specs.declared.cache.Cache.{Cache}
 use Rattle.gc_cycle.proofs.Changes.{by-join, changes-after, numbers-one, only-changes}
 use Rattle.gc_cycle.specs.Statistics.{taken}
 use Rattle.gc_cycle.proofs.Numbers.{claim-any}
+use Rattle.cache_refills.proofs.Stops.InStops.{unbegun-after, unbegun-any, unbegun-join, unbegun-part}
 use Rattle.cache_refills.proofs.claiming.claim_or_fill.Goals as goal
 
 pub store_named-requires-clause-may : goal.store_named-requires-clause-may
@@ -118,3 +119,26 @@ returns-clause-numbers c =
     let e = c.claim.ensures in
     let o = c.claim.result in
     numbers-one (taken o) u w (by-join [] (taken o) u v w (only-changes u v a.part.ran a.numbers) (claim-any o v w e.ran e.some (none-only c.args.heap.now.shape o v w e.none)))
+
+pub returns-then-all_allocated-clause-unbegun : goal.returns-then-all_allocated-clause-unbegun
+returns-then-all_allocated-clause-unbegun c =
+    let u : View = view_of c.args.seat.now in
+    let v : View = view_of c.all_allocated.new.seat in
+    let w : View = view_of c.store_named.new.seat in
+    let x : View = view_of c.store_phase.new.seat in
+    let a = c.all_allocated.ensures.part in
+    let s = c.store_named.ensures.view in
+    let t = c.store_phase.ensures.view in
+    let named = ran-stored v w StoreNamed refl s in
+    let full = ran-found w x (StorePhase Full) t.0 refl (t.1, t.2) in
+    unbegun-join u v x a.ran (ran-join v w x named full) (unbegun-part Idle u v a)
+    (unbegun-join v w x named full (unbegun-after v w StoreNamed (written v.shape v.state StoreNamed 0) refl s) (unbegun-after w x (StorePhase Full) t.0 refl t.1))
+
+pub returns-clause-unbegun : goal.returns-clause-unbegun
+returns-clause-unbegun c =
+    let u : View = view_of c.args.seat.now in
+    let v : View = view_of c.all_allocated.new.seat in
+    let w : View = view_of c.claim.new.seat in
+    let a = c.all_allocated.ensures.part in
+    let e = c.claim.ensures in
+    unbegun-join u v w a.ran e.ran (unbegun-part Idle u v a) (unbegun-any c.args.heap.now.shape c.claim.result v w e.some e.none)

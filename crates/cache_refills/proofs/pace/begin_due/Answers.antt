@@ -11,7 +11,8 @@ use Rattle.gc_table.specs.Log.{events}
 use Rattle.gc_table.specs.Running.{Ran}
 use Rattle.gc_table.proofs.History.Log.{events-after}
 use Rattle.gc_table.proofs.Running.{ran-answered, ran-events, ran-join}
-use Rattle.cache_refills.specs.Pace.Pacing.{KicksOff, statistic}
+use Rattle.cache_refills.specs.Pace.Pacing.{begins_where_due, KicksOff, statistic}
+use Rattle.cache_refills.proofs.Due.{due-begun}
 use Rattle.cache_refills.proofs.Kicking.{may-try, none-due, one-due, three, three-events, tried-state}
 use Rattle.cache_refills.proofs.pace.begin_due.Goals as goal
 
@@ -84,3 +85,38 @@ returns-clause-begins c =
     let f = r.read.3 in
     lt-ltb _ _ (omega (arith, e, l, k, f)) in
     subst (KicksOff c.store_phase.result) (sym all) (one-due p.read.0 q.read.0 r.read.0 t.0 c.store_phase.result due t.3)
+
+pub returns-then-free-last-clause-due : goal.returns-then-free-last-clause-due
+returns-then-free-last-clause-due c =
+    let v : View = view_of c.args.seat.now in
+    let u : View = view_of c.read_statistic-last.new.seat in
+    let w : View = view_of c.read_statistic-rescanned.new.seat in
+    let x : View = view_of c.read_statistic-free.new.seat in
+    let p = c.read_statistic-last.ensures in
+    let q = c.read_statistic-rescanned.ensures in
+    let r = c.read_statistic-free.ensures in
+    let all = three-events v u w x p.read.0 q.read.0 r.read.0 p.ran q.ran r.ran p.read.1 q.read.1 r.read.1 in
+    ap begins_where_due all
+
+pub returns-clause-due : goal.returns-clause-due
+returns-clause-due c =
+    let v : View = view_of c.args.seat.now in
+    let u : View = view_of c.read_statistic-last.new.seat in
+    let w : View = view_of c.read_statistic-rescanned.new.seat in
+    let x : View = view_of c.read_statistic-free.new.seat in
+    let y : View = view_of c.store_phase.new.seat in
+    let p = c.read_statistic-last.ensures in
+    let q = c.read_statistic-rescanned.ensures in
+    let r = c.read_statistic-free.ensures in
+    let t = c.store_phase.ensures.view in
+    let first : Ran v x = ran-join v u x p.ran (ran-join u w x q.ran r.ran) in
+    let last : Ran x y = ran-answered x y (StorePhase Marking) (λ n. c.store_phase.result ≡ won (StorePhase Marking) n) refl t in
+    let reads = three-events v u w x p.read.0 q.read.0 r.read.0 p.ran q.ran r.ran p.read.1 q.read.1 r.read.1 in
+    let all = ran-events v x y first last ∙ (ap (λ es. es ++ events x y) reads ∙ ap (λ es. three p.read.0 q.read.0 r.read.0 ++ es) (events-after x y (StorePhase Marking) t.0 t.1)) in
+    let due : nat_lt (8 * statistic r.read.0) (statistic p.read.0 + statistic q.read.0) ≡ true =
+    let e = c.if-free-last.false in
+    let l = p.read.3 in
+    let k = q.read.3 in
+    let f = r.read.3 in
+    lt-ltb _ _ (omega (arith, e, l, k, f)) in
+    ap begins_where_due all ∙ due-begun p.read.0 q.read.0 r.read.0 t.0 due

@@ -13,6 +13,9 @@ use Rattle.cache_refills.proofs.Refills.Claimed.{claims-cached, claims-claimed, 
 use Rattle.cache_refills.proofs.Refills.Rounds.{calm-stops, leads-caused, leads-prepared, leads-stops, later-some, round-calm, round-later, searched-stops, some-blocks}
 use Rattle.cache_refills.proofs.Refills.RoundNumbers.{claims-refill, leaves-first}
 use Rattle.gc_cycle.proofs.Numbers.{seeks-by}
+use Rattle.gc_table.specs.Log.{events}
+use Rattle.cache_refills.proofs.Due.{due-calm, due-join, due-none}
+use Rattle.cache_refills.proofs.Stops.InStops.{unbegun-claims, unbegun-seeks}
 use Rattle.cache_refills.proofs.refilling.claim_or_stop.Goals as goal
 
 pub returns-in-None-clause-round : goal.returns-in-None-clause-round
@@ -72,3 +75,19 @@ returns-in-None-clause-numbers g c =
 pub returns-in-Some-clause-numbers : goal.returns-in-Some-clause-numbers
 returns-in-Some-clause-numbers g c =
     claims-refill c.pay_for-refill.result c.in-Some.cache (view_of c.args.seat.now) (view_of c.claim.new.seat) (view_of c.pay_for-refill.new.seat) c.claim.ensures.ran c.in-Some.ensures.some c.pay_for-refill.ensures.numbers
+
+pub returns-in-None-clause-due : goal.returns-in-None-clause-due
+returns-in-None-clause-due g c =
+    let v : View = view_of c.args.seat.now in
+    let x : View = view_of c.claim.new.seat in
+    let y : View = view_of c.refill_in_stop.new.seat in
+    let r = c.refill_in_stop.ensures in
+    due-join v x y c.claim.ensures.ran r.round.ran (due-none (events v x) (unbegun-seeks v x c.in-None.ensures.none.3)) (due-none (events x y) r.unbegun)
+
+pub returns-in-Some-clause-due : goal.returns-in-Some-clause-due
+returns-in-Some-clause-due g c =
+    let v : View = view_of c.args.seat.now in
+    let x : View = view_of c.claim.new.seat in
+    let w : View = view_of c.pay_for-refill.new.seat in
+    let p = c.pay_for-refill.ensures in
+    due-join v x w c.claim.ensures.ran p.ran (due-none (events v x) (unbegun-claims c.in-Some.cache v x c.in-Some.ensures.some)) (due-calm x w p.only)

@@ -4,7 +4,6 @@ use Rattle.gc_table.specs.Seats.{view_of}
 use Rattle.gc_table.specs.declared.view.View.{View}
 use Rattle.cache_refills.proofs.Stops.AfterStop.{done-resuming, round-cache, round-full, round-gets, round-none, round-theirs, to-drop}
 use Rattle.gc_cycle.proofs.Refills.Answered.{full-later}
-use Rattle.gc_table.proofs.Running.{ran-join}
 use Rattle.cache_refills.proofs.Stops.InStops.{unbegun-stop, unbegun-tries}
 use Rattle.gc_cycle.proofs.Changes.{numbers-one, only-changes}
 use Rattle.gc_cycle.specs.Statistics.{taken}
@@ -135,30 +134,24 @@ returns-then-not-stop-clause-unbegun g c = unbegun-tries (view_of c.args.seat.no
 
 pub returns-in-Full-clause-unbegun : goal.returns-in-Full-clause-unbegun
 returns-in-Full-clause-unbegun g c =
-    let u : View = view_of c.args.seat.now in
-    let v : View = view_of c.stop.new.seat in
-    let w : View = view_of c.claim_in_stop-cache.new.seat in
-    let x : View = view_of c.resume.new.seat in
-    let y : View = view_of c.go_on.new.seat in
     let t = c.stop.ensures.tries in
-    unbegun-stop u v y t.ran (ran-join v w y c.claim_in_stop-cache.ensures.claims.ran (ran-join w x y c.resume.ensures.ran c.go_on.ensures.ran)) t.only c.if-not-stop.ensures.yours.raised
+    let i = c.claim_in_stop-cache.ensures in
+    let e = c.go_on.ensures in
+    unbegun-stop (view_of c.args.seat.now) (view_of c.stop.new.seat) (view_of c.claim_in_stop-cache.new.seat) (view_of c.resume.new.seat) (view_of c.go_on.new.seat) t.ran i.claims.ran c.resume.ensures.ran e.ran t.only i.unbegun
+    c.resume.ensures.step e.only
 
 pub returns-in-Going-Some-clause-unbegun : goal.returns-in-Going-Some-clause-unbegun
 returns-in-Going-Some-clause-unbegun g c =
-    let u : View = view_of c.args.seat.now in
-    let v : View = view_of c.stop.new.seat in
-    let w : View = view_of c.claim_in_stop-cache.new.seat in
-    let x : View = view_of c.resume.new.seat in
-    let y : View = view_of c.go_on.new.seat in
     let t = c.stop.ensures.tries in
-    unbegun-stop u v y t.ran (ran-join v w y c.claim_in_stop-cache.ensures.claims.ran (ran-join w x y c.resume.ensures.ran c.go_on.ensures.ran)) t.only c.if-not-stop.ensures.yours.raised
+    let i = c.claim_in_stop-cache.ensures in
+    let e = c.go_on.ensures in
+    unbegun-stop (view_of c.args.seat.now) (view_of c.stop.new.seat) (view_of c.claim_in_stop-cache.new.seat) (view_of c.resume.new.seat) (view_of c.go_on.new.seat) t.ran i.claims.ran c.resume.ensures.ran e.ran t.only i.unbegun
+    c.resume.ensures.step e.only
 
 pub returns-in-Going-None-clause-unbegun : goal.returns-in-Going-None-clause-unbegun
 returns-in-Going-None-clause-unbegun g c =
-    let u : View = view_of c.args.seat.now in
-    let v : View = view_of c.stop.new.seat in
-    let w : View = view_of c.claim_in_stop-cache.new.seat in
-    let x : View = view_of c.resume.new.seat in
-    let y : View = view_of c.go_on.new.seat in
     let t = c.stop.ensures.tries in
-    unbegun-stop u v y t.ran (ran-join v w y c.claim_in_stop-cache.ensures.claims.ran (ran-join w x y c.resume.ensures.ran c.go_on.ensures.ran)) t.only c.if-not-stop.ensures.yours.raised
+    let i = c.claim_in_stop-cache.ensures in
+    let e = c.go_on.ensures in
+    unbegun-stop (view_of c.args.seat.now) (view_of c.stop.new.seat) (view_of c.claim_in_stop-cache.new.seat) (view_of c.resume.new.seat) (view_of c.go_on.new.seat) t.ran i.claims.ran c.resume.ensures.ran e.ran t.only i.unbegun
+    c.resume.ensures.step e.only

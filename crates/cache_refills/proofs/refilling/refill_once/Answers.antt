@@ -10,6 +10,8 @@ use Rattle.cache_refills.proofs.Refills.Rounds.{calm-stops, later-some, leads-ca
 use Rattle.cache_refills.proofs.Refills.RoundNumbers.{leaves-first, leaves-full}
 use Rattle.gc_cycle.proofs.Changes.{by-join}
 use Rattle.std.proofs.Common.{[]}
+use Rattle.gc_table.specs.Log.{events}
+use Rattle.cache_refills.proofs.Due.{due-calm, due-join, due-none}
 use Rattle.cache_refills.proofs.refilling.refill_once.Goals as goal
 
 pub returns-then-ends_full-clause-round : goal.returns-then-ends_full-clause-round
@@ -106,3 +108,31 @@ returns-clause-numbers g c =
     let w : View = view_of c.ends_full.new.seat in
     let x : View = view_of c.sees_to_cycle.new.seat in
     leaves-first c.claim_or_stop.result v x (view_of c.claim_or_stop.new.seat) (by-join [] [] v w x c.ends_full.ensures.numbers c.sees_to_cycle.ensures.numbers) c.claim_or_stop.ensures.numbers
+
+pub returns-then-ends_full-clause-due : goal.returns-then-ends_full-clause-due
+returns-then-ends_full-clause-due g c =
+    let v : View = view_of c.args.seat.now in
+    let w : View = view_of c.ends_full.new.seat in
+    due-calm v w (only-more answers stays_calm answers-calm v w c.ends_full.ensures.only)
+
+pub returns-then-sees_to_cycle-clause-due : goal.returns-then-sees_to_cycle-clause-due
+returns-then-sees_to_cycle-clause-due g c =
+    let v : View = view_of c.args.seat.now in
+    let w : View = view_of c.ends_full.new.seat in
+    let x : View = view_of c.sees_to_cycle.new.seat in
+    let y : View = view_of c.refill_in_stop.new.seat in
+    let e = c.ends_full.ensures in
+    let s = c.sees_to_cycle.ensures in
+    let r = c.refill_in_stop.ensures in
+    due-join v w y e.ran (ran-join w x y s.ran r.round.ran) (due-calm v w (only-more answers stays_calm answers-calm v w e.only)) (due-join w x y s.ran r.round.ran s.due (due-none (events x y) r.unbegun))
+
+pub returns-clause-due : goal.returns-clause-due
+returns-clause-due g c =
+    let v : View = view_of c.args.seat.now in
+    let w : View = view_of c.ends_full.new.seat in
+    let x : View = view_of c.sees_to_cycle.new.seat in
+    let y : View = view_of c.claim_or_stop.new.seat in
+    let e = c.ends_full.ensures in
+    let s = c.sees_to_cycle.ensures in
+    let r = c.claim_or_stop.ensures in
+    due-join v w y e.ran (ran-join w x y s.ran r.round.ran) (due-calm v w (only-more answers stays_calm answers-calm v w e.only)) (due-join w x y s.ran r.round.ran s.due r.due)

@@ -10,16 +10,17 @@ use Rattle.gc_cycle.proofs.Refills.KnownFull.{tells-none}
 use Rattle.cache_refills.proofs.Refills.RoundsSoFar.{ends-round, tried-more, tried-none}
 use Rattle.cache_refills.proofs.Refills.RoundNumbers.{refills-later}
 use Rattle.gc_cycle.proofs.Changes.{by-none, numbers-join, numbers-one}
+use Rattle.cache_refills.proofs.Due.{due-empty, due-join}
 use Rattle.cache_refills.proofs.refilling.refill_watched.Goals as goal
 
 pub loop-init : goal.loop-init
-loop-init g c = record { next = tt; finite = tt; sits = c.requires.seat.0; numbers = numbers-one [] (view_of c.args.seat.now) (view_of c.args.seat.now) (by-none (view_of c.args.seat.now)); tried = tried-none c.args.done (view_of c.args.seat.now) c.requires.seat.1 c.requires.cache }
+loop-init g c = record { next = tt; finite = tt; sits = c.requires.seat.0; numbers = numbers-one [] (view_of c.args.seat.now) (view_of c.args.seat.now) (by-none (view_of c.args.seat.now)); due = due-empty (view_of c.args.seat.now); tried = tried-none c.args.done (view_of c.args.seat.now) c.requires.seat.1 c.requires.cache }
 
 pub loop-preserved : goal.loop-preserved
 loop-preserved g c =
     let i = c.loop.invariant in
     let e = c.refill_once.ensures in
-    record { next = tt; finite = tt; sits = e.seat; numbers = numbers-join [] (view_of c.args.seat.now) (view_of c.loop.seat) (view_of c.refill_once.new.seat) i.numbers c.in_default.ensures.numbers; tried = tried-more c.args.done (view_of c.args.seat.now) (view_of c.loop.seat) (view_of c.refill_once.new.seat) i.tried c.in_default.ensures.round (subst (λ (sh : Shape). stops_with_cause sh (events (view_of c.loop.seat) (view_of c.refill_once.new.seat)) ≡ true) (sym i.sits.1) e.stops) }
+    record { next = tt; finite = tt; sits = e.seat; numbers = numbers-join [] (view_of c.args.seat.now) (view_of c.loop.seat) (view_of c.refill_once.new.seat) i.numbers c.in_default.ensures.numbers; due = due-join (view_of c.args.seat.now) (view_of c.loop.seat) (view_of c.refill_once.new.seat) i.tried.ran e.round.ran i.due e.due; tried = tried-more c.args.done (view_of c.args.seat.now) (view_of c.loop.seat) (view_of c.refill_once.new.seat) i.tried c.in_default.ensures.round (subst (λ (sh : Shape). stops_with_cause sh (events (view_of c.loop.seat) (view_of c.refill_once.new.seat)) ≡ true) (sym i.sits.1) e.stops) }
 
 pub returns-in-Some-refill_once : goal.returns-in-Some-refill_once
 returns-in-Some-refill_once g c =
@@ -36,6 +37,7 @@ returns-in-Some-refill_once g c =
       stops = subst (λ (sh : Shape). stops_with_cause sh (events u w) ≡ true) c.requires.seat.0.1 d.stops;
       again = subst (λ (sh : Shape). stops_again_with_cause sh (events u w) ≡ true) c.requires.seat.0.1 d.again;
       fills = subst (λ (sh : Shape). fills_with_cause sh (events u w) ≡ true) c.requires.seat.0.1 d.fills;
+      due = due-join u v w t.ran e.round.ran c.loop.invariant.due e.due;
       keeps = d.keeps;
       only = d.only;
       numbers = refills-later _ u v w c.loop.invariant.numbers e.numbers;

@@ -9,6 +9,7 @@ use Rattle.cache_refills.proofs.Refills.Rounds.{on-false}
 use Rattle.cache_refills.proofs.Refills.Leaves.{kicks-leave, looks-leave}
 use Rattle.gc_cycle.proofs.Changes.{only-changes}
 use Rattle.gc_cycle.specs.Statistics.{leaves_numbers}
+use Rattle.cache_refills.proofs.Due.{due-looks}
 use Rattle.cache_refills.proofs.trying.begins_or_ends.Goals as goal
 
 pub returns-then-has_seen_marking-clause-only : goal.returns-then-has_seen_marking-clause-only
@@ -35,3 +36,6 @@ returns-then-has_seen_marking-clause-numbers c =
 pub returns-clause-numbers : goal.returns-clause-numbers
 returns-clause-numbers c =
     let k = c.begin_due.ensures in only-changes (view_of c.args.seat.now) (view_of c.begin_due.new.seat) k.ran (only-more kicks leaves_numbers kicks-leave (view_of c.args.seat.now) (view_of c.begin_due.new.seat) k.only)
+
+pub returns-then-has_seen_marking-clause-due : goal.returns-then-has_seen_marking-clause-due
+returns-then-has_seen_marking-clause-due c = due-looks (view_of c.args.seat.now) (view_of c.marking_is_done.new.seat) c.marking_is_done.ensures.only

@@ -11,6 +11,9 @@ use Rattle.cache_refills.proofs.Refills.Paced.{seeks-prepare}
 use Rattle.cache_refills.proofs.Refills.Passed.{found-none, plays-calm, plays-join, plays-leads}
 use Rattle.cache_refills.proofs.Refills.RoundNumbers.{claims-refill}
 use Rattle.cache_refills.proofs.Refills.Rounds.{leads-prepared, some-blocks, spares-refill}
+use Rattle.gc_table.specs.Log.{events}
+use Rattle.cache_refills.proofs.Due.{due-calm, due-join, due-none}
+use Rattle.cache_refills.proofs.Stops.InStops.{unbegun-claims, unbegun-seeks}
 use Rattle.cache_refills.proofs.trying.try_claim.Goals as goal
 
 pub returns-in-None-clause-plays : goal.returns-in-None-clause-plays
@@ -60,3 +63,17 @@ returns-in-Some-clause-spares c =
 pub returns-in-Some-clause-numbers : goal.returns-in-Some-clause-numbers
 returns-in-Some-clause-numbers c =
     claims-refill c.pay_for.result c.in-Some.cache (view_of c.args.seat.now) (view_of c.claim.new.seat) (view_of c.pay_for.new.seat) c.claim.ensures.ran c.in-Some.ensures.some c.pay_for.ensures.numbers
+
+pub returns-in-None-clause-due : goal.returns-in-None-clause-due
+returns-in-None-clause-due c =
+    let v : View = view_of c.args.seat.now in
+    let x : View = view_of c.claim.new.seat in
+    due-none (events v x) (unbegun-seeks v x c.in-None.ensures.none.3)
+
+pub returns-in-Some-clause-due : goal.returns-in-Some-clause-due
+returns-in-Some-clause-due c =
+    let v : View = view_of c.args.seat.now in
+    let x : View = view_of c.claim.new.seat in
+    let w : View = view_of c.pay_for.new.seat in
+    let p = c.pay_for.ensures in
+    due-join v x w c.claim.ensures.ran p.ran (due-none (events v x) (unbegun-claims c.in-Some.cache v x c.in-Some.ensures.some)) (due-calm x w p.only)

@@ -15,6 +15,7 @@ use Rattle.cache_refills.proofs.Refills.Passed.{both-some, none-calls, plays-cal
 use Rattle.cache_refills.proofs.Positions.{stored-more, stored-none}
 use Rattle.cache_refills.proofs.Refills.Rounds.{later-some, leads-join, leads-looked, leads-prepared, looked-seen, marked-stops, marking-known, paced-after, spares-refill}
 use Rattle.cache_refills.proofs.Refills.RoundNumbers.{leaves-first, leaves-full}
+use Rattle.cache_refills.proofs.Due.{due-calm, due-join}
 use Rattle.cache_refills.proofs.trying.try_refill.Goals as goal
 
 pub returns-then-ends_full : goal.returns-then-ends_full
@@ -24,7 +25,7 @@ returns-then-ends_full c =
     let e = c.ends_full.ensures in
     let f = c.if-ends_full.ensures.full in
     let p = plays-calm v w e.ran (only-more answers stays_calm answers-calm v w e.only) in
-    record { seat = e.seat.0; plays = p; refills = (f.0, f.1); calls = tt; keeps = plays-keeps v w p; numbers = leaves-full v w e.numbers }
+    record { seat = e.seat.0; plays = p; refills = (f.0, f.1); calls = tt; keeps = plays-keeps v w p; due = due-calm v w (only-more answers stays_calm answers-calm v w e.only); numbers = leaves-full v w e.numbers }
 
 pub begins_or_ends-requires-clause-marking : goal.begins_or_ends-requires-clause-marking
 begins_or_ends-requires-clause-marking c =
@@ -56,6 +57,7 @@ returns-then-begins_or_ends c =
             cause = subst (λ (sh : Shape). may_stop sh (events v x) ≡ true) (sym c.requires.seat.0.1) (marked-stops c.args.heap.now.shape v w x k.looked (looked-seen v w k.looked c.requires.seat.1 d.0) s.ran d.1);
           };
       keeps = plays-keeps v x p;
+      due = due-join v w x e.ran s.ran (due-calm v w (only-more answers stays_calm answers-calm v w e.only)) s.due;
       numbers = numbers-one [] v x (by-join [] [] v w x e.numbers s.numbers);
     }
 
@@ -83,5 +85,6 @@ returns c =
           (later-some c.try_claim.result (λ r f. spares-refill r v x y l.ran t.plays.ran l.spares f) t.spares);
       calls = none-calls c.try_claim.result v x y l.ran t.plays.ran unseen t.none;
       keeps = plays-keeps v y p;
+      due = due-join v w y e.ran (ran-join w x y s.ran t.plays.ran) (due-calm v w (only-more answers stays_calm answers-calm v w e.only)) (due-join w x y s.ran t.plays.ran s.due t.due);
       numbers = leaves-first c.try_claim.result v x y (by-join [] [] v w x e.numbers s.numbers) t.numbers;
     }
