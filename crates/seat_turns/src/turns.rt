@@ -1,5 +1,5 @@
 //! A mutator at its turn: whether it is.
-ghost use Rattle.std.specs.Prelude.{◌≡◌, Some, IsTrue};
+ghost use Rattle.std.specs.Prelude.{◌≡◌, Some, IsTrue, is_some};
 ghost use Rattle.std.specs.Bool.{OnFalse};
 ghost use Rattle.gc_table.specs.Seats.{Across, Sits, state_of, view_of};
 ghost use Rattle.gc_cycle.specs.Standing.{Mutates};
@@ -13,6 +13,7 @@ pub fn is_turn(heap: &Heap, seat: &mut HeapSeat, turn: u64) -> bool
     requires seat { Sits heap.now seat.old × Mutates (view_of seat.old) }
     ensures seat { Sits heap.now seat.new }
     ensures looks { Across LooksAtSeason seat.old seat.new }
+    ensures known { IsTrue (is_some (state_of seat.old).season_seen) → view_of seat.new ≡ view_of seat.old }
     ensures turn { IsTrue result → (state_of seat.new).season_seen ≡ Some turn }
     ensures other { OnFalse result (SeesOther turn (view_of seat.new)) }
 {
