@@ -1,8 +1,10 @@
-use Rattle.std.proofs.Common.{refl, ap}
+use Rattle.std.proofs.Common.{refl, ap, not, ◌∙◌}
+use Rattle.mark_core.specs.Bits.{has_flag}
 use Rattle.gc_table.specs.Seats.{view_of}
 use Rattle.gc_table.specs.declared.view.View.{View}
 use Rattle.gc_table.proofs.History.Log.{only-none}
 use Rattle.gc_table.proofs.Running.{ran-refl}
+use Rattle.gc_cycle.proofs.Stops.FlagRaised.{yours-free}
 use Rattle.gc_cycle.specs.Sparing.{spares_part}
 use Rattle.warehouse.proofs.Seasons.{spared-keeps, spared-turns}
 use Rattle.warehouse.proofs.Stopping.{raise-unaware, calm-spares, stops-at, theirs-keeps, theirs-out, theirs-seasons, theirs-turns}
@@ -23,6 +25,11 @@ loop-init g c =
 
 pub raise-requires-clause-bare : goal.raise-requires-clause-bare
 raise-requires-clause-bare g c = c.loop.invariant.out.bare
+
+pub await_stopped-requires-clause-raised : goal.await_stopped-requires-clause-raised
+await_stopped-requires-clause-raised g c =
+    let t = c.in-Yours.ensures.step in
+    (ap (λ (x : View). x.state.raised) t.1 ∙ ap not (yours-free (has_flag t.0) t.3), c.raise.ensures.unmoved)
 
 pub await_stopped-requires-clause-unaware : goal.await_stopped-requires-clause-unaware
 await_stopped-requires-clause-unaware g c =
