@@ -17,6 +17,7 @@ use Rattle.gc_table.specs.Running.{changes_section, Ran}
 use Rattle.gc_table.proofs.History.Log.{events-after, only-after, only-more}
 use Rattle.gc_table.proofs.Running.{own-kept, ran-events}
 use Rattle.stop_world.proofs.Standing.{strong, unless}
+use Rattle.stop_world.proofs.Flagged.{yours-free}
 use Rattle.gc_cycle.specs.Events.{never, Sort}
 use Rattle.stop_world.specs.Waiting.{is_mutators, watches}
 use Rattle.stop_world.specs.declared.Raised.{Raised}
@@ -30,14 +31,6 @@ use Rattle.gc_cycle.proofs.Stops.OutAndIn.{bare-from, bare-parts}
 use Rattle.gc_cycle.proofs.SectionKept.{keeps-seat, keeps-section, tries-keep, tries-never-claim, tries-never-fill}
 
 -- raising the flag
-
-pub yours-free : (b : Bool) → Yours ≡ (if b then Theirs else Yours) → b ≡ false
-yours-free false e = refl
-yours-free true e = absurd (true≢false (ap is_yours e))
-  where
-    is_yours : Raised → Bool
-    is_yours Yours = true
-    is_yours Theirs = false
 
 theirs-up : (b : Bool) → Theirs ≡ (if b then Theirs else Yours) → b ≡ true
 theirs-up true e = refl

@@ -10,7 +10,8 @@ use Rattle.gc_table.specs.declared.view.View.{View}
 use Rattle.stop_world.proofs.Standing.{unaware-alone}
 use Rattle.stop_world.proofs.Waits.{aware-at}
 use Rattle.gc_cycle.proofs.Stops.OutAndIn.{bare-parts}
-use Rattle.gc_cycle.proofs.Stops.FlagRaised.{out-unaware, theirs-out, yours-free}
+use Rattle.gc_cycle.proofs.Stops.FlagRaised.{out-unaware, theirs-out}
+use Rattle.stop_world.proofs.Flagged.{yours-free}
 use Rattle.mark_core.specs.declared.kinds.Step.TheVariants.{LeaveStep, RaiseStep, StorePosition}
 use Rattle.gc_table.specs.Log.{event, events}
 use Rattle.gc_table.specs.Running.{Ran}

@@ -15,7 +15,8 @@ use Rattle.gc_cycle.specs.Mutating.{stays_calm, tries_stopping}
 use Rattle.gc_cycle.specs.Sorts.{raises_flag}
 use Rattle.gc_cycle.proofs.SectionKept.{calm-tries}
 use Rattle.gc_cycle.proofs.Stops.OutAndIn.{bare-parts, no-cache}
-use Rattle.gc_cycle.proofs.Stops.FlagRaised.{calm-count, count-calls, mutators-left, out-unaware, raised-event, raised-never, raised-once, raised-only, theirs-out, tries, watches-own, watches-try, yours-free}
+use Rattle.gc_cycle.proofs.Stops.FlagRaised.{calm-count, count-calls, mutators-left, out-unaware, raised-event, raised-never, raised-once, raised-only, theirs-out, tries, watches-own, watches-try}
+use Rattle.stop_world.proofs.Flagged.{yours-free}
 use Rattle.gc_cycle.specs.Statistics.{leaves_numbers}
 use Rattle.gc_cycle.proofs.Leaving.{watches-leave}
 use Rattle.mark_core.specs.declared.kinds.Step.TheVariants.{RaiseStep}

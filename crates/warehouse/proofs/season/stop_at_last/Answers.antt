@@ -4,7 +4,7 @@ use Rattle.gc_table.specs.Seats.{view_of}
 use Rattle.gc_table.specs.declared.view.View.{View}
 use Rattle.gc_table.proofs.History.Log.{only-none}
 use Rattle.gc_table.proofs.Running.{ran-refl}
-use Rattle.gc_cycle.proofs.Stops.FlagRaised.{yours-free}
+use Rattle.stop_world.proofs.Flagged.{yours-free}
 use Rattle.gc_cycle.specs.Sparing.{spares_part}
 use Rattle.warehouse.proofs.Seasons.{spared-keeps, spared-turns}
 use Rattle.warehouse.proofs.Stopping.{raise-unaware, calm-spares, stops-at, theirs-keeps, theirs-out, theirs-seasons, theirs-turns}
