@@ -1,7 +1,9 @@
 pub mod Creating
 pub mod Exchanging
+pub mod Few
 pub mod Holdings
 pub mod Knowing
+mod Listing
 pub mod Once
 mod Places
 pub mod Readying

@@ -1,40 +1,31 @@
 -- An object is made in a new cell of a shared heap, and a variable refers to it.
-use Rattle.std.proofs.Common.{ℕ, ◌≡◌, ◌+◌, ◌*◌, ◌-◌, ◌<◌, List, [], ◌∷◌, ◌++◌, length, map, arith, refl, sym, ap, ◌∙◌, Bool, true, false, ◌&&◌, ◌||◌, Option, None, Some, is_none}
-use Rattle.std.specs.Prelude.{◌==◌, if◌then◌else◌, slice_set, not}
+use Rattle.std.proofs.Common.{ℕ, ◌≡◌, ◌+◌, ◌<◌, [], ◌∷◌, length, refl, sym, ap, ◌∙◌, Bool, true, ◌&&◌, ◌||◌, None, is_none}
+use Rattle.std.specs.Prelude.{◌==◌, if◌then◌else◌, slice_set}
 use Rattle.std.specs.List.{list_any}
 use Rattle.std.proofs.lemmas.Bool.{and_from, eq-eqb, lt-ltb, not_from_false, or_right}
 use Rattle.std.proofs.lemmas.List.{length-append}
 use Rattle.mark_core.specs.Bits.{reference_in}
-use Rattle.mark_core.specs.Numbers.{section_span, section_variables}
+use Rattle.mark_core.specs.Numbers.{section_variables}
 use Rattle.mark_core.specs.Seats.{free_in, has_making, may_mutate, work_in_hand}
 use Rattle.mark_core.specs.Steps.MutatorSteps.{names_last}
 use Rattle.mark_core.specs.declared.kinds.Identity.{Identity}
 use Rattle.mark_core.specs.declared.kinds.Shape.{Shape}
-use Rattle.mark_core.specs.declared.kinds.Step.{Step}
 use Rattle.mark_core.specs.declared.kinds.Step.TheVariants.{StoreRoot}
 use Rattle.mark_core.specs.declared.seat.SeatState.{SeatState}
 use Rattle.plain_heap.specs.PlainHeap.{Heap}
 use Rattle.plain_heap.specs.PlainStep.{assigned, heap_after, new_object, with_new}
 use Rattle.plain_heap.specs.declared.operation.Op.TheVariants as ops
-use Rattle.gc_table.specs.PlainSteps.{own_section}
 use Rattle.gc_table.specs.Seats.{Stored}
 use Rattle.gc_table.specs.Sections.{named_by}
 use Rattle.gc_table.specs.Taking.{May}
-use Rattle.gc_table.specs.Log.{event, events, steps_of}
 use Rattle.gc_table.specs.Running.{Ran}
-use Rattle.gc_table.specs.declared.view.Entry.{Entry}
 use Rattle.gc_table.specs.declared.view.SectionState.{SectionState}
 use Rattle.gc_table.specs.declared.view.View.{View}
-use Rattle.gc_table.proofs.History.Log.{events-after}
-use Rattle.gc_table.proofs.Running.{ran-events, ran-join, ran-shape, ran-stored}
-use Rattle.alloc_cache.specs.Making.{Makes, identity_word, making_steps, with_cell, with_place}
+use Rattle.gc_table.proofs.Running.{ran-join, ran-shape, ran-stored}
+use Rattle.alloc_cache.specs.Making.{Makes, identity_word, with_cell}
 use Rattle.mutator_ops.specs.Sharing.{ShareCreates, SharesReady, next_word}
 use Rattle.mutator_ops.proofs.Creating.{last_cell, whole_cell}
-
--- the steps of two parts
-steps_joined : (xs ys : List Entry) → steps_of (xs ++ ys) ≡ steps_of xs ++ steps_of ys
-steps_joined [] ys = refl
-steps_joined (x ∷ xs) ys = ap (λ (zs : List Step). x.step ∷ zs) (steps_joined xs ys)
+use Rattle.mutator_ops.proofs.Listing.{creates-steps}
 
 -- it is a new object that the store makes
 rooted_new : (b : Bool) (h k : Heap) → b ≡ true → (if b then h else k) ≡ h
@@ -68,10 +59,7 @@ module _ (u n c r : ℕ) (id : Identity) (v x : View) (ready : SharesReady v) (r
       let two : Ran x w = ran-stored x w (StoreRoot u r) refl e in
       record {
         ran = ran-join v x w ran two;
-        steps_are =
-            ap steps_of (ran-events v x w ran two) ∙ steps_joined (events v x) (events x w)
-            ∙ (λ i. k.steps i ++ steps_of (events-after x w (StoreRoot u r) r e i))
-            ∙ (λ i. making_steps v.shape.fields c n (ident i) ++ StoreRoot u (is i) ∷ []);
+        steps_are = creates-steps u n c r v.shape.fields id v x w ran k is refl ident e;
         state =
             ap (λ (y : View). y.state) e
             ∙ (λ i. record (k.state i) { env = slice_set (k.state i).env u (reference_in (is i)); got = 0 })

@@ -5,3 +5,5 @@ pub mod Creating
 pub mod Walking
 pub mod Sharing
 pub mod Placing
+pub mod Listing
+pub mod Few

@@ -21,7 +21,8 @@
 //!
 //! `variables` has the commands that change a variable alone, `objects` those that store in an object, `reading` those that
 //! print, and `making` the one that makes an object. `commands` does any of them by its operation. In `specs/`, `Ready` says what a mutator is between
-//! two commands, `Doing` and `Creating` what a command does, `Holding` whose object a variable holds, and `Walking` what a walk has read.
+//! two commands, `Doing` and `Creating` what a command does, `Listing` which steps it takes, in order, and `Few` how many at most, `Holding` whose object a
+//! variable holds, and `Walking` what a walk has read.
 #![tactic(auto)]
 
 mod commands;

@@ -15,6 +15,7 @@ use Rattle.mutator_ops.proofs.Holdings.{stored-nothing, stored-lent, stored-own,
 use Rattle.mutator_ops.proofs.Once.{once-after}
 use Rattle.mutator_ops.proofs.Readying.{ready-does}
 use Rattle.mutator_ops.proofs.Storing.{looks-does, stores-does, reads-put}
+use Rattle.mutator_ops.proofs.Listing.{looked-lent, looked-nothing, looked-own, steps-after}
 use Rattle.mutator_ops.proofs.objects.put.Goals as goal
 
 pub returns-in-Nothing-clause-does : goal.returns-in-Nothing-clause-does
@@ -56,3 +57,16 @@ returns-in-OwnObject-clause-does c = done c
 
 pub returns-in-OwnObject-clause-seat : goal.returns-in-OwnObject-clause-seat
 returns-in-OwnObject-clause-seat c = (c.store_value.ensures.seat.0, ready-does (ops.Put c.args.v c.args.n) 0 (view_of c.args.seat.now) (view_of c.store_value.new.seat) refl c.requires.seat.1 (done c))
+
+pub returns-in-Nothing-clause-steps : goal.returns-in-Nothing-clause-steps
+returns-in-Nothing-clause-steps c = looked-nothing _ _ (view_of c.args.seat.now) (view_of c.look_at.new.seat) c.look_at.result _ c.look_at.ensures.steps c.in-Nothing.is c.look_at.ensures.answer
+
+pub returns-in-LentObject-clause-steps : goal.returns-in-LentObject-clause-steps
+returns-in-LentObject-clause-steps c = looked-lent _ _ (view_of c.args.seat.now) (view_of c.look_at.new.seat) c.look_at.result _ c.look_at.ensures.steps c.in-LentObject.is c.look_at.ensures.answer
+
+pub returns-in-OwnObject-clause-steps : goal.returns-in-OwnObject-clause-steps
+returns-in-OwnObject-clause-steps c =
+    let x : View = view_of c.look_at.new.seat in
+    let w : View = view_of c.store_value.new.seat in
+    let e = c.store_value.ensures in
+    looked-own _ _ (view_of c.args.seat.now) x w c.look_at.result _ c.look_at.ensures.looks.ran e.ran c.look_at.ensures.steps c.in-OwnObject.is c.look_at.ensures.answer (steps-after x w (StoreValue c.args.v c.args.n) _ e.view)

@@ -1,4 +1,4 @@
-use Rattle.std.proofs.Common.{◌+◌, ◌∙◌, ap, refl, sym}
+use Rattle.std.proofs.Common.{◌+◌, ◌∙◌, ap, refl, sym, Some}
 use Rattle.plain_heap.specs.PlainHeap.{Heap, variable}
 use Rattle.plain_heap.specs.PlainStep.{stored_at, with_field}
 use Rattle.plain_heap.specs.declared.object.Object.{Object}
@@ -11,6 +11,9 @@ use Rattle.mutator_ops.specs.Holding.{held_kind}
 use Rattle.mutator_ops.proofs.Holdings.{stored-nothing, stored-lent, stored-own, own-undropped}
 use Rattle.mutator_ops.proofs.Readying.{ready-does}
 use Rattle.mutator_ops.proofs.Storing.{once-barrier, stored-same, only-barrier, looks-does, stores-does, reads-set}
+use Rattle.mark_core.specs.declared.seat.SeatState.{SeatState}
+use Rattle.card_clean.specs.Barrier.{barrier_steps}
+use Rattle.mutator_ops.proofs.Listing.{looked-lent, looked-nothing, looked-own}
 use Rattle.mutator_ops.proofs.objects.set.Goals as goal
 
 pub returns-in-Nothing-clause-does : goal.returns-in-Nothing-clause-does
@@ -52,3 +55,16 @@ returns-in-OwnObject-clause-does c = done c
 
 pub returns-in-OwnObject-clause-seat : goal.returns-in-OwnObject-clause-seat
 returns-in-OwnObject-clause-seat c = (c.store_ref.ensures.seat.0, ready-does (ops.Set c.args.v c.args.i c.args.w) 0 (view_of c.args.seat.now) (view_of c.store_ref.new.seat) refl c.requires.seat.1 (done c))
+
+pub returns-in-Nothing-clause-steps : goal.returns-in-Nothing-clause-steps
+returns-in-Nothing-clause-steps c = looked-nothing _ _ (view_of c.args.seat.now) (view_of c.look_at.new.seat) c.look_at.result _ c.look_at.ensures.steps c.in-Nothing.is c.look_at.ensures.answer
+
+pub returns-in-LentObject-clause-steps : goal.returns-in-LentObject-clause-steps
+returns-in-LentObject-clause-steps c = looked-lent _ _ (view_of c.args.seat.now) (view_of c.look_at.new.seat) c.look_at.result _ c.look_at.ensures.steps c.in-LentObject.is c.look_at.ensures.answer
+
+pub returns-in-OwnObject-clause-steps : goal.returns-in-OwnObject-clause-steps
+returns-in-OwnObject-clause-steps c =
+    let k = c.look_at.ensures.looks in
+    let e = c.store_ref.ensures in
+    looked-own _ _ (view_of c.args.seat.now) (view_of c.look_at.new.seat) (view_of c.store_ref.new.seat) c.look_at.result _ k.ran e.ran c.look_at.ensures.steps c.in-OwnObject.is c.look_at.ensures.answer
+    (e.steps ∙ ap (λ (s : SeatState). barrier_steps s c.args.v c.args.i (Some c.args.w)) k.state)
