@@ -1,5 +1,6 @@
 //! Two threads that pass objects to each other through the root's fields, in a heap of 128 cells that is collected many times.
 #![tactic(auto)]
+
 ghost use Rattle.std.specs.Prelude.{◌≡◌};
 ghost use Rattle.std.specs.Arc.{arc_value};
 
@@ -10,9 +11,13 @@ use std::thread::{Threads, join_mut};
 
 /// The variables: the root, and four to work with.
 const ROOT: u8 = 0;
+
 const MADE: u8 = 1;
+
 const FOUND: u8 = 2;
+
 const NEXT: u8 = 3;
+
 const NONE: u8 = 4;
 
 /// How many objects each passes on.

@@ -16,7 +16,11 @@ use std::alloc::{AllocError, Global};
 use std::sync::Arc;
 
 /// A mutator that has done nothing.
-fn mutator_of(heap: &Arc<Heap, Global>, seat: HeapSeat, _k: u32) -> Result<SharedMutator, AllocError>
+fn mutator_of(
+    heap: &Arc<Heap, Global>,
+    seat: HeapSeat,
+    _k: u32,
+) -> Result<SharedMutator, AllocError>
     requires seat { IsNewSeat (arc_value heap.now) _k seat }
     requires section { (0 < _k) × (_k < (arc_value heap.now).shape.sections) }
     requires shared { IsTrue (arc_value heap.now).shape.sharing }

@@ -21,6 +21,7 @@ use stop_world::{leave, resume};
 
 /// How many packets there are, and how many cells each has room for.
 const PACKETS: u32 = 64;
+
 const ENTRIES: u32 = 32;
 
 /// The sizes of the heap: a section for each mutator besides section 0, which has the root.

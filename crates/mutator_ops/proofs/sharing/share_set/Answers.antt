@@ -19,6 +19,8 @@ returns-clause-seat c =
     let w : View = view_of c.share_ref.new.seat in
     let e = c.share_ref.ensures in
     let q = c.requires.seat.1 in
-    let same = e.state ∙ stored-same v.shape.fields v.state c.args.v q.idle q.stores.owes in
-    (e.seat.0, shares-on v w q (ran-shape v w e.ran) (same ∙ ap (λ (s : SeatState). record v.state { env = s.env }) (sym same))
-    (ap (λ (y : SectionState). length y.meaning.heap.objects) e.own ∙ stored-count v.own.meaning.heap (variable v.own.meaning.heap c.args.v) (λ o. with_field o c.args.i (stored_ref v.own.meaning.heap (Some c.args.w)))))
+    let same = e.state ∙ stored-same v.shape.fields v.state c.args.v q.idle q.stores.owes in (
+      e.seat.0,
+      shares-on v w q (ran-shape v w e.ran) (same ∙ ap (λ (s : SeatState). record v.state { env = s.env }) (sym same))
+          (ap (λ (y : SectionState). length y.meaning.heap.objects) e.own ∙ stored-count v.own.meaning.heap (variable v.own.meaning.heap c.args.v) (λ o. with_field o c.args.i (stored_ref v.own.meaning.heap (Some c.args.w)))),
+    )
