@@ -1,3 +1,4 @@
 pub mod Freeing
 pub mod Threads
 pub mod Sharing
+pub mod Lending

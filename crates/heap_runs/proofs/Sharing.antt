@@ -1,5 +1,5 @@
 -- Threads that share objects act on one plain heap.
-use Rattle.std.proofs.Common.{ℕ, zero, suc, ◌≡◌, ◌∙◌, List, [], ◌∷◌, take, ap, sym, subst, Option, None, Some}
+use Rattle.std.proofs.Common.{ℕ, zero, suc, ◌≡◌, List, [], ◌∷◌, take, ap, sym, subst, Option, None, Some}
 use Rattle.std.specs.Prelude.{slice_get, if◌then◌else◌, is_none}
 use Rattle.mark_core.specs.Laws.{IsCore}
 use Rattle.mark_core.specs.Steps.{Core, after_event, failing_part, run_of, start_core}
@@ -16,15 +16,15 @@ use Rattle.heap_runs.specs.Sharing.{ThreadsShareOneHeap}
 use Rattle.heap_runs.proofs.Threads.{allowed}
 
 -- the heap after a first event that is allowed, and more
-world-first : (c : Core) (e : Event) (es : List Event) (world : World) → failing_part c e ≡ None → world_run (e ∷ es) c world ≡ world_run es (after_event c e) (world_after c e world)
+pub world-first : (c : Core) (e : Event) (es : List Event) (world : World) → failing_part c e ≡ None → world_run (e ∷ es) c world ≡ world_run es (after_event c e) (world_after c e world)
 world-first c e es world ok = ap (λ (o : Option ℕ). if is_none o then world_run es (after_event c e) (world_after c e world) else world) ok
 
 -- each state of a run meets the rule of the core
 abbrev pub Sound : Core → List Event → Type 0
 Sound c es = (n : ℕ) → IsCore (run_of (take n es) c)
 
-later_sound : (c : Core) (e : Event) (es : List Event) → failing_part c e ≡ None → Sound c (e ∷ es) → Sound (after_event c e) es
-later_sound c e es ok core n = subst IsCore (run-first c e (take n es) ok) (core (suc n))
+pub later-sound : (c : Core) (e : Event) (es : List Event) → failing_part c e ≡ None → Sound c (e ∷ es) → Sound (after_event c e) es
+later-sound c e es ok core n = subst IsCore (run-first c e (take n es) ok) (core (suc n))
 
 -- after the first k events they agree
 pub agree-on : (es : List Event) (c : Core) (world : World) → Sound c es → AreAllowed c es → AgreesWith c world → (k : ℕ) → AgreesWith (run_of (take k es) c) (world_run (take k es) c world)
@@ -32,7 +32,7 @@ agree-on es c world core ok a zero = a
 agree-on [] c world core ok a (suc k) = a
 agree-on (e ∷ es) c world core ok a (suc k) =
     let rest : AgreesWith (run_of (take k es) (after_event c e)) (world_run (take k es) (after_event c e) (world_after c e world)) =
-    agree-on es (after_event c e) (world_after c e world) (later_sound c e es ok.0 core) ok.1 (agrees-kept c e world (core 0) a ok.0) k in
+    agree-on es (after_event c e) (world_after c e world) (later-sound c e es ok.0 core) ok.1 (agrees-kept c e world (core 0) a ok.0) k in
     subst (λ (x : Core). AgreesWith x (world_run (e ∷ take k es) c world)) (sym (run-first c e (take k es) ok.0))
     (subst (AgreesWith (run_of (take k es) (after_event c e))) (sym (world-first c e (take k es) world ok.0)) rest)
 
@@ -51,7 +51,7 @@ tells-on (e ∷ es) c world core ok a zero f at =
         event_or z None = z
         event_or z (Some y) = y
 tells-on (e ∷ es) c world core ok a (suc k) f at =
-    let rest = tells-on es (after_event c e) (world_after c e world) (later_sound c e es ok.0 core) ok.1 (agrees-kept c e world (core 0) a ok.0) k f at in
+    let rest = tells-on es (after_event c e) (world_after c e world) (later-sound c e es ok.0 core) ok.1 (agrees-kept c e world (core 0) a ok.0) k f at in
     subst (λ (x : Core). TellsOf x (world_run (e ∷ take k es) c world) (slice_get x.seats f.seat) f.step) (sym (run-first c e (take k es) ok.0))
     (subst (λ (y : World). TellsOf (run_of (take k es) (after_event c e)) y (slice_get (run_of (take k es) (after_event c e)).seats f.seat) f.step) (sym (world-first c e (take k es) world ok.0)) rest)
 

@@ -1,6 +1,5 @@
 -- What threads do to a heap whose objects they share: they act on one plain heap.
 use Rattle.std.specs.Prelude.{ℕ, ◌≡◌, List, take, Some, slice_get}
-use Rattle.mark_core.specs.Shapes.{IsShape}
 use Rattle.mark_core.specs.Steps.{start_core}
 use Rattle.mark_core.specs.declared.kinds.Event.{Event}
 use Rattle.mark_core.specs.declared.kinds.Shape.{Shape}

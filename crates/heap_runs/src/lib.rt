@@ -5,6 +5,7 @@
 //! [`threads_free_none`] that what threads do to a heap is such an interleaving. `docs/INTERLEAVINGS.md` walks through it.
 #![tactic(auto)]
 
+ghost use Rattle.heap_runs.specs.Lending.{OneObjectLent};
 ghost use Rattle.heap_runs.specs.Runs.{NoneFreed};
 ghost use Rattle.heap_runs.specs.Sharing.{ThreadsShareOneHeap};
 ghost use Rattle.heap_runs.specs.Threads.{ThreadsFreeNone};
@@ -24,4 +25,10 @@ pub fn threads_free_none()
 /// come in their order. After each step the words agree with one plain heap that forgets nothing, and whatever a step read is what this heap had just before.
 pub fn threads_share_one_heap()
     ensures { ThreadsShareOneHeap }
+{}
+
+/// Where the seat of section 0 stores once at most in one of its variables, this variable refers to one object in the whole run, or to nothing until that store:
+/// so whoever is lent it finds the same object.
+pub fn one_object_lent()
+    ensures { OneObjectLent }
 {}
