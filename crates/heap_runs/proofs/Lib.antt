@@ -2,3 +2,4 @@ pub mod Freeing
 pub mod Threads
 pub mod Sharing
 pub mod Lending
+pub mod Counting

@@ -5,6 +5,7 @@
 //! [`threads_free_none`] that what threads do to a heap is such an interleaving. `docs/INTERLEAVINGS.md` walks through it.
 #![tactic(auto)]
 
+ghost use Rattle.heap_runs.specs.Counting.{RaisesCounted, WinsTold};
 ghost use Rattle.heap_runs.specs.Lending.{OneObjectLent};
 ghost use Rattle.heap_runs.specs.Runs.{NoneFreed};
 ghost use Rattle.heap_runs.specs.Sharing.{ThreadsShareOneHeap};
@@ -31,4 +32,15 @@ pub fn threads_share_one_heap()
 /// so whoever is lent it finds the same object.
 pub fn one_object_lent()
     ensures { OneObjectLent }
+{}
+
+/// An object in which nobody stores but by exchanges, each of a number for the next, is a counter: its value has grown by the number of exchanges that were won,
+/// whichever threads took them and in whatever order.
+pub fn raises_counted()
+    ensures { RaisesCounted }
+{}
+
+/// Whether an exchange of a value was won, as the log of the thread has it, is whether the plain heap had the expected value just before.
+pub fn wins_told()
+    ensures { WinsTold }
 {}
