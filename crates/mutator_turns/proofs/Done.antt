@@ -1,8 +1,6 @@
 -- An operation leaves the mutator at its turn, and is the one of the plain heap.
-use Rattle.std.proofs.Common.{ℕ, ◌≡◌, ◌+◌, ◌==◌, ◌&&◌, [], length, arith, ap, ◌∙◌, refl, sym, Bool, not, false, true, Option, None, Some}
-use Rattle.std.specs.Prelude.{is_none, is_some}
+use Rattle.std.proofs.Common.{ℕ, ◌≡◌, ◌+◌, [], length, arith, ap, ◌∙◌, refl, sym, false, true, Option, None, Some}
 use Rattle.mark_core.specs.Numbers.{section_variables}
-use Rattle.mark_core.specs.Seats.{empty_handed, has_making, has_turn, work_in_hand}
 use Rattle.mark_core.specs.declared.kinds.Shape.{Shape}
 use Rattle.mark_core.specs.declared.seat.SeatState.{SeatState}
 use Rattle.plain_heap.specs.PlainHeap.{Heap as PlainHeap, variable}
@@ -18,11 +16,9 @@ use Rattle.gc_table.specs.declared.seat.Heap.{Heap}
 use Rattle.gc_table.specs.declared.seat.HeapSeat.{HeapSeat}
 use Rattle.gc_table.specs.declared.view.View.{View}
 use Rattle.alloc_cache.specs.Caching.{is_whole}
-use Rattle.gc_table.proofs.Running.{ran-plan, ran-shape}
 use Rattle.mutator_ops.specs.Creating.{Creates}
 use Rattle.mutator_ops.specs.Doing.{Does, seen, with_dropped}
 use Rattle.mutator_ops.specs.Ready.{IsReady}
-use Rattle.gc_cycle.specs.Standing.{is_at_rest}
 use Rattle.mutator_turns.specs.Plain.{Steps, value_in, value_of_some}
 use Rattle.mutator_ops.proofs.Knowing.{variables-count}
 use Rattle.mutator_turns.specs.Standing.{IsAtTurn, MayOperate, Plays, plain_of}

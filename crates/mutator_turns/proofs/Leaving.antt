@@ -1,8 +1,8 @@
 -- What a seat does on its way that no plain heap sees.
-use Rattle.std.proofs.Common.{ℕ, ◌≡◌, ◌∙◌, ap, refl, subst, sym, true, false, None, ⊎_elim}
+use Rattle.std.proofs.Common.{ℕ, ◌≡◌, ◌∙◌, ap, refl, subst, sym, true, None, ⊎_elim}
 use Rattle.std.proofs.lemmas.Bool.{false≢true}
 use Rattle.mark_core.specs.declared.kinds.Step.{Step}
-use Rattle.mark_core.specs.declared.kinds.Step.TheVariants.{ExchangeField, ExchangeValue, ReadSeason, StoreField, StoreNew, StorePhase, StoreRoot, StoreValue}
+use Rattle.mark_core.specs.declared.kinds.Step.TheVariants.{ExchangeField, ExchangeValue, ReadSeason, StoreField, StoreNew, StoreRoot, StoreSlot, StoreValue}
 use Rattle.mark_core.specs.declared.seat.SeatState.{SeatState}
 use Rattle.gc_table.specs.Log.{Only}
 use Rattle.gc_table.specs.Running.{Ran}
@@ -20,6 +20,7 @@ fills_spares : (step : Step) → fills_part step ≡ true → spares_heap step �
 fills_spares (StoreField v i w) e = absurd (false≢true e)
 fills_spares (StoreValue v n) e = absurd (false≢true e)
 fills_spares (StoreRoot v r) e = absurd (false≢true e)
+fills_spares (StoreSlot k r) e = absurd (false≢true e)
 fills_spares (ExchangeField v i x y) e = absurd (false≢true e)
 fills_spares (ExchangeValue v m n) e = absurd (false≢true e)
 fills_spares (StoreNew c part word) e = absurd (false≢true e)
@@ -29,6 +30,7 @@ spared : (step : Step) → spares_part step ≡ true → spares_heap step ≡ tr
 spared (StoreField v i w) e = absurd (false≢true e)
 spared (StoreValue v n) e = absurd (false≢true e)
 spared (StoreRoot v r) e = absurd (false≢true e)
+spared (StoreSlot k r) e = absurd (false≢true e)
 spared (ExchangeField v i x y) e = absurd (false≢true e)
 spared (ExchangeValue v m n) e = absurd (false≢true e)
 spared (StoreNew c part word) e = absurd (false≢true e)
@@ -38,6 +40,7 @@ retired : (step : Step) → retires step ≡ true → spares_heap step ≡ true
 retired (StoreField v i w) e = absurd (false≢true e)
 retired (StoreValue v n) e = absurd (false≢true e)
 retired (StoreRoot v r) e = absurd (false≢true e)
+retired (StoreSlot k r) e = absurd (false≢true e)
 retired (ExchangeField v i x y) e = absurd (false≢true e)
 retired (ExchangeValue v m n) e = absurd (false≢true e)
 retired (StoreNew c part word) e = absurd (false≢true e)

@@ -1,3 +1,4 @@
+mod Clearing
 mod Done
 mod Fulls
 mod Leaving

@@ -1,3 +1,5 @@
+pub mod Clearing
+pub mod Exchanging
 pub mod Halting
 pub mod Plain
 pub mod Sharing

@@ -2,7 +2,7 @@
 use Rattle.std.specs.Prelude.{ℕ, ◌≡◌, ◌⊎◌, ◌<◌, Bool, true, false}
 use Rattle.mark_core.specs.Steps.MutatorSteps.{seat_variable as word_in}
 use Rattle.mark_core.specs.declared.kinds.Step.{Step}
-use Rattle.mark_core.specs.declared.kinds.Step.TheVariants.{ExchangeField, ExchangeValue, StoreField, StoreNew, StoreRoot, StoreValue}
+use Rattle.mark_core.specs.declared.kinds.Step.TheVariants.{ExchangeField, ExchangeValue, StoreField, StoreNew, StoreRoot, StoreSlot, StoreValue}
 use Rattle.gc_table.specs.declared.view.View.{View}
 use Rattle.gc_table.specs.Log.{Only}
 use Rattle.gc_table.specs.Running.{Ran}
@@ -15,13 +15,15 @@ FollowsField u w i v x = ((word_in v.state w ≡ 0) × SetsVariable u 0 v x) ⊎
 -- an object was made in some cell
 pub record MakesShared (u n : ℕ) (v x : View) : Type 0 where
   pub cell : ℕ
+  pub inside : cell < v.shape.cells
   pub creates : ShareCreates u n cell v x
 
--- the step is none that a plain heap sees: it stores or exchanges no field, value or variable, and no word of a new object
+-- the step is none that a plain heap sees: it stores or exchanges no field, value, variable or slot, and no word of a new object
 abbrev pub spares_heap : Step → Bool
 spares_heap (StoreField v i w) = false
 spares_heap (StoreValue v n) = false
 spares_heap (StoreRoot v r) = false
+spares_heap (StoreSlot k r) = false
 spares_heap (ExchangeField v i x y) = false
 spares_heap (ExchangeValue v m n) = false
 spares_heap (StoreNew c part word) = false

@@ -6,17 +6,22 @@
 //! - `gates`: in and out of the world, a safe point, and a collection
 //! - `turns`: to the mutator's turn, and to a free cell
 //! - `operations`: one operation, at its turn
-//! - `sharing`: one operation in a heap whose objects are shared
+//! - `sharing`: one operation in a heap whose objects are shared; `exchanging` has its exchanges, `slots` its other roots, and `identity` which object it is
 //! - `refused`: why a call did nothing
 #![tactic(auto)]
 
+mod exchanging;
 mod gates;
+mod identity;
 mod operations;
 mod refused;
 mod sharing;
+mod slots;
 mod turns;
 
+pub use exchanging::{exchange_shared, exchange_value_shared};
 pub use gates::{collect_turn, enter_turn, leave, leave_turn, pass_turn, retire_own_cache};
+pub use identity::identity_shared;
 pub use operations::{
     copy_variable, forget_variable, get_field, make_in, make_object, put_value, read_value,
     refer_to_one, refers_to_nothing, set_field,
@@ -26,4 +31,5 @@ pub use sharing::{
     copy_shared, forget_shared, get_shared, lend_shared, make_shared, make_shared_in, put_shared,
     set_shared, value_shared, word_of,
 };
+pub use slots::{clear_slots_shared, fill_shared, spill_shared};
 pub use turns::{TURN, keep_some, retire_some, with_free};

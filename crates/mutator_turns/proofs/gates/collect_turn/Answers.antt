@@ -13,7 +13,6 @@ use Rattle.gc_cycle.proofs.Refills.Collected.{followed-earlier}
 use Rattle.gc_cycle.proofs.Sequences.{followed-later}
 use Rattle.mutator_turns.proofs.Seats.{collected-mutates, kept-works}
 use Rattle.mutator_turns.proofs.Leaving.{leaves-join, leaves-spared}
-use Rattle.mutator_turns.specs.Sharing.{LeavesHeap}
 use Rattle.mutator_turns.proofs.gates.collect_turn.Goals as goal
 
 pub come_to_turn-requires-clause-works : goal.come_to_turn-requires-clause-works
