@@ -1,25 +1,26 @@
-//! The line of job numbers that runners draw from, and its rule.
+//! The line of jobs that runners draw from, and its rule.
+use crate::reader::Job;
 use crossbeam_queue::protocol::{Join, Lesson, Outcome, Protocol, Split};
 use crossbeam_queue::{Pass, RuledArrayQueue};
 use std::collections::LinkedList;
 
-/// What a runner drew, how many numbers were put in line, and its parts of the right to know the whole. No value of it is made.
+/// The numbers that a runner drew, the scripts of the jobs that were put in line, and its parts of the right to know the whole. No value of it is made.
 pub struct Hand {
     pub parts: u8,
-    pub below: u32,
+    pub scripts: LinkedList<LinkedList<u8>>,
     pub drawn: LinkedList<u32>,
 }
 
-/// The line of job numbers, by its rule.
+/// The line of jobs, by its rule.
 pub struct Draws;
 
-impl Protocol<u32, Hand> for Draws {
+impl<'a> Protocol<Job<'a>, Hand> for Draws {
     ghost use Rattle.std.specs.Prelude.{[]};
     ghost use Rattle.job_pool.specs.Draws.{hand, Drawn};
 
     ghost holds = { Drawn };
 
-    ghost first = { hand 8 0 [] };
+    ghost first = { hand 8 [] [] };
 }
 
 /// A runner more, with one part.
@@ -29,9 +30,9 @@ impl Split<Hand> for Another {
     ghost use Rattle.std.specs.Prelude.{◌-◌, []};
     ghost use Rattle.job_pool.specs.Draws.{hand};
 
-    ghost left = { λ v. hand (v.parts - 1) v.below v.drawn };
+    ghost left = { λ v. hand (v.parts - 1) v.scripts v.drawn };
 
-    ghost right = { λ v. hand 1 v.below [] };
+    ghost right = { λ v. hand 1 v.scripts [] };
 }
 
 /// A runner gives back what it drew.
@@ -41,46 +42,46 @@ impl Join<Hand> for Back {
     ghost use Rattle.std.specs.Prelude.{◌+◌, ◌++◌, []};
     ghost use Rattle.job_pool.specs.Draws.{hand};
 
-    ghost both = { λ v w. hand (v.parts + w.parts) v.below (v.drawn ++ w.drawn) };
+    ghost both = { λ v w. hand (v.parts + w.parts) v.scripts (v.drawn ++ w.drawn) };
 
-    ghost spent = { hand 0 0 [] };
+    ghost spent = { hand 0 [] [] };
 }
 
-/// The next number is put in line.
+/// The next job is put in line.
 pub struct Put;
 
-impl Outcome<u32, Hand> for Put {
-    ghost use Rattle.std.specs.Prelude.{◌≡◌, ◌+◌};
+impl<'a> Outcome<Job<'a>, Hand> for Put {
+    ghost use Rattle.std.specs.Prelude.{◌≡◌, ◌++◌, [], ◌∷◌};
     ghost use Rattle.job_pool.specs.Draws.{hand};
 
-    ghost then = { λ v x w. w ≡ hand v.parts (x + 1) v.drawn };
+    ghost then = { λ v x w. w ≡ hand v.parts (v.scripts ++ x.script ∷ []) v.drawn };
 }
 
-impl Lesson<u32, Hand> for Put {
+impl<'a> Lesson<Job<'a>, Hand> for Put {
     ghost use Rattle.std.specs.Prelude.{◌≡◌, length};
 
-    ghost fact = { λ v items. length items ≡ v.below };
+    ghost fact = { λ v items. length items ≡ length v.scripts };
 }
 
-/// A number is drawn. Where none is in line, who has every part knows that all were drawn.
+/// A job is drawn. Where none is in line, who has every part knows that all were drawn.
 pub struct Draw;
 
-impl Outcome<u32, Hand> for Draw {
-    ghost use Rattle.std.specs.Prelude.{◌≡◌, ◌<◌, ◌++◌, [], ◌∷◌};
-    ghost use Rattle.job_pool.specs.Draws.{hand};
+impl<'a> Outcome<Job<'a>, Hand> for Draw {
+    ghost use Rattle.std.specs.Prelude.{◌≡◌, ◌++◌, [], ◌∷◌};
+    ghost use Rattle.job_pool.specs.Draws.{hand, IsOneOf};
 
-    ghost then = { λ v x w. (x < v.below) × (w ≡ hand v.parts v.below (v.drawn ++ x ∷ [])) };
+    ghost then = { λ v x w. IsOneOf v.scripts x × (w ≡ hand v.parts v.scripts (v.drawn ++ x.number ∷ [])) };
 }
 
-impl Lesson<u32, Hand> for Draw {
-    ghost use Rattle.std.specs.Prelude.{◌≡◌, ℕ, ◌+◌};
+impl<'a> Lesson<Job<'a>, Hand> for Draw {
+    ghost use Rattle.std.specs.Prelude.{◌≡◌, ℕ, ◌+◌, length};
     ghost use Rattle.job_pool.specs.Draws.{total, total_from};
 
-    ghost fact = { λ v items. v.parts ≡ 8 → (h : ℕ → ℕ) → total h v.drawn + total h items ≡ total_from h 0 v.below };
+    ghost fact = { λ v items. v.parts ≡ 8 → (h : ℕ → ℕ) → total h v.drawn + total (λ j. h j.number) items ≡ total_from h 0 (length v.scripts) };
 }
 
-/// The numbers that are in line.
-pub type Line = RuledArrayQueue<u32, Hand, Draws>;
+/// The jobs that are in line.
+pub type Line<'a> = RuledArrayQueue<Job<'a>, Hand, Draws>;
 
 /// What one runner knows of the line.
-pub type Drawer = Pass<u32, Hand>;
+pub type Drawer<'a> = Pass<Job<'a>, Hand>;

@@ -1,45 +1,48 @@
 //! A pool of jobs: many jobs played by several runners, each job once.
 //!
-//! A batch is one source with many scripts ([`read_batch`]), and each of them is a job. A runner is a thread that draws the number of a job from
-//! a line, plays it, and draws again until none is in line. [`run_jobs`] plays a batch on so many runners: entry j of what it answers is the result
-//! of job j, whichever runner played it and in whatever order they were played. What a result may be says the [`Player`] that is handed in, by its
-//! relation `fits`; this crate knows nothing of scripts.
+//! A batch is one source with many scripts ([`read_batch`]), and each of them is a [`Job`]. A runner is a thread that draws a job from a line, plays it,
+//! and draws again until none is in line. [`run_jobs`] plays a batch on so many runners: entry j of what it answers is the result of job j, whichever
+//! runner played it and in whatever order they were played. What a result may be says the [`Player`] that is handed in, by its relation `fits`; this
+//! crate knows nothing of scripts.
 //!
 //! # Why each job is played once
 //!
-//! The line is a queue under a rule (`specs/Draws.antt`), which holds between any two steps of any threads: the numbers that all runners have drawn,
-//! together with those that are in line, are the numbers of the jobs, each once. That is said by weights: however a number is weighed, the drawn
-//! ones and those in line weigh as much as all numbers below that of the jobs.
+//! A [`Job`] has the script that it plays in it. Only `read_batch` makes jobs, one for each script (clause `reads`), and nothing copies one. `run_jobs`
+//! takes the batch by value, and a play spends the job that it plays. So no job of the batch is played twice. Nothing but a play makes a [`JobDone`],
+//! and `run_jobs` answers as many as there are jobs; so each job is played. The types say how often, and no clause: a body that plays a job twice, or
+//! makes up a result, does not compile. They don't keep a body from reading the same bytes as another batch, which has jobs of its own.
+//!
+//! That entry j is a result of job j is a clause of `run_jobs`. The line is a queue under a rule (`specs/Draws.antt`), which holds between any two steps
+//! of any threads: the numbers of the jobs that all runners have drawn, together with those that are in line, are the numbers of all jobs, each once;
+//! and a job in line has the script of its number. The first is said by weights: however a number is weighed, the drawn ones and those in line weigh as
+//! much as all numbers below that of the jobs.
 //!
 //! A runner knows only what it drew itself. The right to know the whole is cut into eight parts, one a runner at most, and a part comes back with
-//! what was drawn. Whoever has all eight parts and finds no number in line knows that each number was drawn once; so the results, sorted by their
-//! jobs, are those of job 0, 1, 2 and so on.
-//!
-//! A draw makes a [`Turn`], and a play spends it. Nothing else makes one and nothing copies it, so no number that was drawn is played twice. This
-//! the types say, and no clause: a body that plays a job twice does not compile.
+//! what was drawn. Whoever has all eight parts and finds no job in line knows that each was drawn once; so the results, sorted by their jobs, are those
+//! of job 0, 1, 2 and so on.
 //!
 //! # Where things are
 //!
-//! `batch` and `reader` have the batch and its faults, in their order; what bytes are a batch is a function of them, `batch` in `specs/Batch.antt`.
-//! `draws` has the line of numbers and its rule, `turn` the draw and the right to play that it makes, `run` the runners, `player` who plays a job, and `text`
-//! and `done` what a job answers. Each runner keeps its own results on a cache line of its own (`CachePadded`), of which nothing is claimed.
+//! `batch` and `reader` have the batch with its jobs, and its faults, in their order; what bytes are a batch is a function of them, `batch` in
+//! `specs/Batch.antt`. `draws` has the line of jobs and its rule, `line` how jobs are put in line and drawn, `run` the runners, `player` who plays a job,
+//! `done` the play and its result, and `text` the text of a result. Each runner keeps its own results on a cache line of its own (`CachePadded`), of
+//! which nothing is claimed.
 #![tactic(auto)]
 
 mod batch;
 mod done;
 mod draws;
 mod fault;
+mod line;
 mod player;
 mod reader;
 mod run;
 mod text;
-mod turn;
 
 pub use batch::Batch;
 pub use done::JobDone;
 pub use fault::BatchError;
 pub use player::Player;
-pub use reader::read_batch;
+pub use reader::{Job, read_batch};
 pub use run::run_jobs;
 pub use text::Text;
-pub use turn::Turn;

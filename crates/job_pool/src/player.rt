@@ -2,8 +2,8 @@
 ghost use Rattle.std.specs.Prelude.{ℕ, List};
 ghost use Rattle.std.specs.Thread.{IsSync};
 
+use crate::reader::Job;
 use crate::text::Text;
-use crate::turn::Turn;
 use std::alloc::Global;
 use std::sync::Wait;
 use std::thread::Threads;
@@ -13,14 +13,8 @@ pub trait Player {
     /// Which status and text this player may answer for a script.
     ghost fits: { Self → List ℕ → ℕ → List ℕ → Type 0 };
 
-    /// Plays one job, and spends its turn: its status and its text. Each answer is one that fits. It may start threads that share the runtime.
-    fn play_job<R: Threads + Wait + Sync>(
-        &self,
-        rt: &R,
-        alloc: Global,
-        turn: Turn,
-        script: &[u8],
-    ) -> (u8, Text)
+    /// Plays one job, and spends it: its status and its text. Each answer is one that fits the job's script. It may start threads that share the runtime.
+    fn play_job<R: Threads + Wait + Sync>(&self, rt: &R, alloc: Global, job: Job<'_>) -> (u8, Text)
         requires { IsSync R.row }
-        ensures { Self.fits self.now script.now result.0 result.1 };
+        ensures { Self.fits self.now job.entry.script result.0 result.1 };
 }

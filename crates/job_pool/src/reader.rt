@@ -1,11 +1,15 @@
 //! Reads a batch.
-ghost use Rattle.std.specs.Prelude.{◌≡◌, ◌≤◌, [], true, min, length, position, not, option_map, IfSome};
+ghost use Rattle.std.specs.Prelude.{◌≡◌, ◌≤◌, [], true, min, length, position, not, option_map, IfSome, Err};
 ghost use Rattle.std.specs.Char.{is_ascii_digit};
 ghost use Rattle.job_pool.specs.Batch.{ReadsBatch, batch, jobs_from, job_line as job_line_of, digits_line as digits_line_of, decimal_value, begins_with as begins_of};
 
 use crate::batch::Batch;
 use crate::fault::BatchError;
 use std::alloc::Global;
+
+mod job;
+
+pub use job::Job;
 
 /// The greatest number of bytes of a batch, and of a job.
 const LONGEST: usize = 16_777_216;
@@ -89,7 +93,10 @@ fn read_jobs<'a>(alloc: Global, all: u32, first: &'a [u8]) -> Result<Batch<'a>, 
             return Err(BatchError::CutJob { job });
         }
         let (script, after) = next.split_at(size);
-        match jobs.push(script) {
+        match jobs.push(Job {
+            number: job,
+            script,
+        }) {
             Ok(()) => rest = after,
             Err(_) => return Err(BatchError::OutOfMemory),
         }
@@ -107,10 +114,11 @@ fn read_jobs<'a>(alloc: Global, all: u32, first: &'a [u8]) -> Result<Batch<'a>, 
 /// The batch that the bytes are, or their first fault.
 ///
 /// A batch is the line `gcbatch 1`, and for each job the line `job n` and then n bytes, which the next job line follows at once. It has at most
-/// 16,777,216 bytes, which is told first, and at most 64 jobs. Of one line a wrong form is told first, then that there are too many jobs, then that
-/// fewer than n bytes are left. Only the list of jobs takes memory.
+/// 16,777,216 bytes, which is told first, before out of memory too, and at most 64 jobs. Of one line a wrong form is told first, then that there are too
+/// many jobs, then that fewer than n bytes are left. Only the list of jobs takes memory.
 pub fn read_batch<'a>(alloc: Global, source: &'a [u8]) -> Result<Batch<'a>, BatchError>
-    ensures { ReadsBatch result (batch source.now) }
+    ensures reads { ReadsBatch result (batch source.now) }
+    ensures memory { result ≡ Err BatchError.OutOfMemory → length source.now ≤ 16777216 }
 {
     if source.len() > LONGEST {
         return Err(BatchError::BatchTooLong);

@@ -29,14 +29,14 @@ use text::{write_batch_fault, write_jobs};
 fn play_jobs<R: Threads + Wait + Sync, K: Sink>(
     rt: &R,
     alloc: Global,
-    batch: &Batch<'_>,
+    batch: Batch<'_>,
     options: &Options,
     runners: u32,
     sink: &mut K,
 ) -> Status
     requires range { AreInRange options.now }
     requires runners { (1 ≤ runners) × (runners ≤ 8) }
-    ensures { AcrossSink K.written K.faults (TextEnds (BatchesTo (options_of options.now) (Ok batch.now)) result) sink.old sink.new }
+    ensures { AcrossSink K.written K.faults (TextEnds (BatchesTo (options_of options.now) (Ok batch.entry)) result) sink.old sink.new }
 {
     let player = ScriptPlayer { options: *options };
     match run_jobs(rt, alloc, batch, runners, &player) {
@@ -69,7 +69,7 @@ fn batch_bytes<R: Threads + Wait + Sync, K: Sink>(
     match read_batch(alloc, bytes) {
         Err(BatchError::OutOfMemory) => Status::Memory,
         Err(fault) => tell_batch_fault(&fault, sink),
-        Ok(batch) => play_jobs(rt, alloc, &batch, options, runners, sink),
+        Ok(batch) => play_jobs(rt, alloc, batch, options, runners, sink),
     }
 }
 

@@ -2,7 +2,7 @@
 ghost use Rattle.std.specs.Prelude.{◌≤◌};
 
 use super::cases::{Kind, all_hold};
-use job_pool::{Player, Text, Turn, read_batch, run_jobs};
+use job_pool::{Job, Player, Text, read_batch, run_jobs};
 use std::alloc::Global;
 use std::sync::Wait;
 use std::sync::atomic::{AtomicU64, Ordering};
@@ -27,9 +27,9 @@ impl Player for Holding {
         &self,
         _rt: &R,
         alloc: Global,
-        _turn: Turn,
-        script: &[u8],
+        job: Job<'_>,
     ) -> (u8, Text) {
+        let script = job.script();
         if script == [b'0'].as_slice() {
             self.hold();
         }
@@ -55,7 +55,8 @@ impl Holding {
     }
 }
 
-/// How many results there are of the batch, and how many of them are of the job whose turn it is, and its own script.
+/// How many results there are of the batch, and how many of them are of the job of their place, and its own script. A play spends its job, so the scripts
+/// are those of a second reading.
 fn echoed<P: Player + Sync, R: AllocGlobal + Threads + Wait + Sync>(
     rt: &R,
     source: &[u8],
@@ -64,13 +65,14 @@ fn echoed<P: Player + Sync, R: AllocGlobal + Threads + Wait + Sync>(
 ) -> Result<(usize, usize), Fail>
     requires { (1 ≤ runners) × (runners ≤ 8) }
 {
+    let played = read_batch(rt.alloc(), source).ok().ok_or("batch")?;
     let batch = read_batch(rt.alloc(), source).ok().ok_or("batch")?;
-    let done = run_jobs(rt, rt.alloc(), &batch, runners, player)
+    let done = run_jobs(rt, rt.alloc(), played, runners, player)
         .ok()
         .ok_or("memory")?;
     let mut echoed = 0usize;
     for (j, result) in done.iter().enumerate() {
-        let script = batch.jobs().get(j).copied();
+        let script = batch.jobs().get(j).map(|job| job.script());
         if result.job as usize == j && result.status == 0 && script == Some(result.text.bytes()) {
             echoed = echoed.saturating_add(1);
         }
@@ -102,11 +104,10 @@ impl Player for Echo {
         &self,
         _rt: &R,
         alloc: Global,
-        _turn: Turn,
-        script: &[u8],
+        job: Job<'_>,
     ) -> (u8, Text) {
         let mut text = Text::make(alloc);
-        match text.append(script) {
+        match text.append(job.script()) {
             Ok(()) => (0, text),
             Err(_) => (6, text),
         }
@@ -143,13 +144,12 @@ impl Player for Counting {
         &self,
         rt: &R,
         alloc: Global,
-        turn: Turn,
-        script: &[u8],
+        job: Job<'_>,
     ) -> (u8, Text) {
         self.plays.fetch_add(1, Ordering::SeqCst);
         self.numbers
-            .fetch_add(u64::from(turn.job()), Ordering::SeqCst);
-        Echo.play_job(rt, alloc, turn, script)
+            .fetch_add(u64::from(job.number()), Ordering::SeqCst);
+        Echo.play_job(rt, alloc, job)
     }
 }
 
@@ -189,7 +189,7 @@ pub fn said(alloc: Global, source: &[u8]) -> Result<String, Fail> {
     let mut text = format!(in alloc; "{} jobs:", batch.jobs().len())?;
     for job in batch.jobs() {
         text.push_str(" [")?;
-        text.push_str(str::from_utf8(job)?)?;
+        text.push_str(str::from_utf8(job.script())?)?;
         text.push(']')?;
     }
     Ok(text)

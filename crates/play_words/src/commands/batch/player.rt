@@ -4,7 +4,7 @@ ghost use Rattle.play_contract.specs.Playing.{AreInRange};
 use crate::commands::run::play_bytes;
 use crate::status::Status;
 use gc_play::OpenGate;
-use job_pool::{Player, Text, Turn};
+use job_pool::{Job, Player, Text};
 use play_contract::Options;
 use play_report::{Failed, Sink};
 use std::alloc::Global;
@@ -54,14 +54,13 @@ impl Player for ScriptPlayer {
         &self,
         rt: &R,
         alloc: Global,
-        _turn: Turn,
-        script: &[u8],
+        job: Job<'_>,
     ) -> (u8, Text) {
         let mut sink = TextSink {
             text: Text::make(alloc),
             faults: 0,
         };
-        match play_bytes(rt, alloc, script, &self.options, &mut sink, &OpenGate) {
+        match play_bytes(rt, alloc, job.script(), &self.options, &mut sink, &OpenGate) {
             Status::WriteFault | Status::Memory => (Status::Memory.code(), Text::make(alloc)),
             status => (status.code(), sink.text),
         }

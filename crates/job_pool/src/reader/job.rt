@@ -1,0 +1,35 @@
+//! One job of a batch.
+ghost use Rattle.std.specs.Prelude.{◌≡◌};
+
+use std::marker::Model;
+
+/// A job: its number, and the script that it plays, a slice of the source. Only the reader of batches makes one, and nothing copies it. A play spends it.
+#[derive(Drop)]
+pub struct Job<'a> {
+    pub(super) number: u32,
+    pub(super) script: &'a [u8],
+}
+
+impl<'a> Model for Job<'a> {
+    ghost use Rattle.job_pool.specs.Scripts.{Scripted, scripted};
+
+    ghost Value = { Scripted };
+
+    ghost view = { λ j. scripted j.number j.script.now };
+}
+
+impl<'a> Job<'a> {
+    /// The number of the job, counted from 0.
+    pub fn number(&self) -> u32
+        ensures { result ≡ self.now.number }
+    {
+        self.number
+    }
+
+    /// The script of the job.
+    pub fn script(&self) -> &[u8]
+        ensures { result.now ≡ self.now.script }
+    {
+        self.script
+    }
+}
