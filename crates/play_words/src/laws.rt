@@ -1,10 +1,20 @@
 // Laws over what `play_words` promises: each is the contract of a function that does nothing.
 ghost use Rattle.play_words.specs.Following.{AnswersFollow, StatusesFollow};
-ghost use Rattle.play_words.specs.Laws.{DumpsAlike, DumpsAreReached, FinalHeapsAreReached, LoadsAlike, RunsAlike};
+ghost use Rattle.play_words.specs.Laws.{ConversionsAnswer, ConversionsRunAlike, DumpsAlike, DumpsAreReached, DumpsTellSurvivors, FinalHeapsAreReached, LoadsAlike, RunsAlike};
 
 /// Two runs of one script that are done, without `--place`, write the same bytes, whatever their cells, workers, tracers, packets and entries.
 pub fn runs_alike()
     ensures { RunsAlike }
+{}
+
+/// Of a conversion `run` may write what it may write of the source, with the same status, whatever the options.
+pub fn conversions_answer()
+    ensures { ConversionsAnswer }
+{}
+
+/// A run of a conversion and one of its source that are done, without `--place`, write the same bytes.
+pub fn conversions_run_alike()
+    ensures { ConversionsRunAlike }
 {}
 
 /// Two dumps of one script are the same bytes.
@@ -25,6 +35,11 @@ pub fn final_heaps_are_reached()
 /// In what `dump` writes of a play that is done, `census` counts no record that isn't reached.
 pub fn dumps_are_reached()
     ensures { DumpsAreReached }
+{}
+
+/// Of what `dump` writes of a play that is done, `undump` lists the survivors that `run` prints, and `census` counts them by section and by value.
+pub fn dumps_tell_survivors()
+    ensures { DumpsTellSurvivors }
 {}
 
 /// What is written answers what the words ask for, by one relation for all commands: it follows from their clauses.

@@ -20,8 +20,8 @@ mod source;
 mod status;
 
 pub use laws::{
-    answers_follow, dumps_alike, dumps_are_reached, final_heaps_are_reached, loads_alike,
-    runs_alike, statuses_follow,
+    answers_follow, conversions_answer, conversions_run_alike, dumps_alike, dumps_are_reached,
+    dumps_tell_survivors, final_heaps_are_reached, loads_alike, runs_alike, statuses_follow,
 };
 pub use program::play_words;
 pub use settling::settle;

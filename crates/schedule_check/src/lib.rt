@@ -26,7 +26,7 @@
 //!
 //! # Where things are
 //!
-//! The words of a line and numbers of 32 bits are cut and read by `gc_script`. `forms` and `parameters` read numbers by their types, `table` has the names of all steps
+//! The words of a line and numbers of 32 bits are cut and read by `script_lines`. `forms` and `parameters` read numbers by their types, `table` has the names of all steps
 //! with the forms of their parameters (`specs/Table.antt` is the same table, against which each row is proved),
 //! `shape_line` the first two lines, and `reader` goes line by line. `play` takes the events on a core, `judge` tells the
 //! verdict, `writer` writes, and `tell` puts all together.

@@ -1,0 +1,83 @@
+-- Scripts that play alike have the same texts.
+use Rattle.std.proofs.Common.{◌≡◌, ℕ, zero, suc, ◌-◌, ◌≤◌, refl, ap, ap₂, sym, ◌∙◌, subst, List, [], ◌∷◌, length, map}
+use Rattle.std.specs.Prelude.{Bool, true, false, MatchBool, slice_index_or}
+use Rattle.plain_heap.specs.PlainHeap.{Heap}
+use Rattle.plain_heap.specs.Sections.{Sections, section_numbers}
+use Rattle.plain_heap.specs.PlainRun.{Printed, plain, last_heap, last_heaps}
+use Rattle.plain_heap.specs.Paths.{IsReachable, AreReachable, AreSurvivors}
+use Rattle.plain_heap.specs.Placement.{IsPlaced, IsFilled, IsNew, AreOfTurn, position, LiesIn}
+use Rattle.play_report.specs.Report.{Outcome}
+use Rattle.play_report.specs.Text.{IsReportText, IsFullText, outcome, report_text}
+use Rattle.play_words.proofs.Unlined.{PlaysAlike}
+
+module _ (s t : Sections) (same : PlaysAlike s t) (back : PlaysAlike t s) where
+  map-alike : {X : Type 0} (f g : ℕ → X) → ((w : ℕ) → f w ≡ g w) → (ws : List ℕ) → map f ws ≡ map g ws
+  map-alike f g each [] = refl
+  map-alike {X} f g each (w ∷ ws) = ap₂ (λ (x : X) (l : List X). x ∷ l) (each w) (map-alike f g each ws)
+
+  over : {X : Type 0} (f g : ℕ → X) → ((w : ℕ) → f w ≡ g w) → map f (section_numbers s) ≡ map g (section_numbers t)
+  over f g each = map-alike f g each (section_numbers s) ∙ ap (map g) same.numbers
+
+  lasts : last_heaps s ≡ last_heaps t
+  lasts = over (last_heap s) (last_heap t) same.last
+
+  outcome-alike : (places : List (List ℕ)) (w : ℕ) → outcome s places w ≡ outcome t places w
+  outcome-alike places w =
+      ap₂ (λ (said : List Printed) (h : Heap). record { said = said; dropped = h.dropped; places = slice_index_or places w [] }) (same.said w) (same.last w)
+
+  placed-alike : (cells : ℕ) (places : List (List ℕ)) → IsPlaced s cells places → IsPlaced t cells places
+  placed-alike cells places p = record {
+    sections = p.sections ∙ ap length same.numbers;
+    each = λ w low. p.each w low ∙ ap (λ (h : Heap). length h.objects) (same.last w);
+    below = p.below;
+    free = λ w low k z e next new name cell reachable own lies made.
+        let found = back.next w k z e next in
+        p.free w low k z found.0 found.1 (subst IsNew (sym found.2) new) name cell (subst (λ (l : List Heap). IsReachable l name) (sym (same.beside w k z)) reachable) own lies
+        (subst (λ (h : Heap). LiesIn places (record { section = w; number = length h.objects }) cell) (sym (same.heaps w k)) made);
+    apart = λ a b cell x y. p.apart a b cell (subst (λ (l : List Heap). IsReachable l a) (sym lasts) x) (subst (λ (l : List Heap). IsReachable l b) (sym lasts) y);
+  }
+
+  placed-where : (cells : ℕ) (place : Bool) (places : List (List ℕ)) → MatchBool place (IsPlaced s cells places) (Unit {0}) → MatchBool place (IsPlaced t cells places) (Unit {0})
+  placed-where cells true places p = placed-alike cells places p
+  placed-where cells false places p = p
+
+  pub report-alike : (cells : ℕ) (place : Bool) (text : List ℕ) → IsReportText s cells place text → IsReportText t cells place text
+  report-alike cells place text r = record {
+    survivors = r.survivors;
+    reached = subst (λ (l : List Heap). AreSurvivors l r.survivors) lasts r.reached;
+    places = r.places;
+    placed = placed-where cells place r.places r.placed;
+    written = r.written ∙ ap (λ (os : List Outcome). report_text os r.survivors place) (over (outcome s r.places) (outcome t r.places) (outcome-alike r.places));
+  }
+
+  turn-alike : (done : List ℕ) (section z : ℕ) → AreOfTurn s done section z → AreOfTurn t done section z
+  turn-alike done zero z a = (
+    subst (λ (n : ℕ). n ≤ position done 0) (same.ends 0 (z - 1)) a.0,
+    subst (λ (n : ℕ). position done 0 ≤ n) (same.ends 0 z) a.1,
+    λ w some low. a.2 w some low ∙ same.ends w (z - 1),
+  )
+  turn-alike done (suc section) z a = (
+    a.0 ∙ same.ends 0 z,
+    λ w some low. let both = a.1 w some low in
+        (subst (λ (n : ℕ). n ≤ position done w) (same.ends w (z - 1)) both.0, subst (λ (n : ℕ). position done w ≤ n) (same.ends w z) both.1),
+  )
+
+  filled-alike : (cells section : ℕ) (done : List ℕ) → IsFilled s cells section done → IsFilled t cells section done
+  filled-alike cells section done f =
+      let found = same.next section (position done section) f.season f.next f.is_next in
+      record {
+        sections = f.sections ∙ ap length same.numbers;
+        is_section = f.is_section;
+        names = f.names;
+        reachable = subst (λ (l : List Heap). AreReachable l f.names)
+            (over (λ w. plain s w (position done w)) (λ w. plain t w (position done w)) (λ w. same.heaps w (position done w))) f.reachable;
+        full = f.full;
+        season = f.season;
+        next = found.0;
+        is_next = found.1;
+        is_new = subst IsNew (sym found.2) f.is_new;
+        turn = turn-alike done section f.season f.turn;
+      }
+
+  pub full-alike : (cells : ℕ) (text : List ℕ) → IsFullText s cells text → IsFullText t cells text
+  full-alike cells text r = record { section = r.section; positions = r.positions; filled = filled-alike cells r.section r.positions r.filled; written = r.written }

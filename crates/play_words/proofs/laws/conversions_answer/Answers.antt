@@ -1,0 +1,5 @@
+use Rattle.play_words.proofs.Conversions.{conversions-answer}
+use Rattle.play_words.proofs.laws.conversions_answer.Goals as goal
+
+pub returns : goal.returns
+returns c = conversions-answer
