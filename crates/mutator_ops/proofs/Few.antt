@@ -1,5 +1,5 @@
 -- How many steps calls take, one after another, and by their lists.
-use Rattle.std.proofs.Common.{ℕ, ◌≡◌, ◌≤◌, ◌+◌, List, [], ◌∷◌, length, arith, sym, ap, ◌∙◌, Bool, true, false, Option}
+use Rattle.std.proofs.Common.{ℕ, ◌≡◌, ◌≤◌, ◌+◌, List, [], ◌∷◌, length, arith, sym, ap, ◌∙◌, Bool, true, false, Option, Some}
 use Rattle.std.specs.Prelude.{◌==◌, if◌then◌else◌}
 use Rattle.std.proofs.lemmas.List.{length-append, length-map}
 use Rattle.std.proofs.lemmas.List.FromFn.{length-map-range_with_len}
@@ -22,7 +22,7 @@ use Rattle.mutator_ops.specs.Few.{AtMost}
 use Rattle.mutator_ops.specs.Listing.{creating_steps, following_events, saying_steps, storing_steps}
 use Rattle.mutator_ops.specs.declared.objects.Holds.{Holds}
 use Rattle.mutator_ops.specs.declared.objects.Holds.TheVariants.{LentObject, Nothing, OwnObject}
-use Rattle.mutator_ops.specs.Sharing.{next_word}
+use Rattle.mutator_ops.specs.Sharing.{next_word, putting_steps, setting_steps}
 
 -- one call after another
 pub at-most-join : (j k : ℕ) (u v w : View) → Ran u v → Ran v w → AtMost j u v → AtMost k v w → AtMost (j + k) u w
@@ -73,3 +73,10 @@ creating-long fields s u n cell =
     let made = length-append (nil_fields cell fields) (StoreNew cell fields n ∷ StoreNew cell (fields + 1) (next_word s) ∷ []) in
     let all = length-append (making_steps fields cell n (next_word s)) (StoreRoot u (cell + 1) ∷ []) in
     omega (arith, nils, made, all)
+
+-- where objects are shared nobody is asked first
+pub setting-long : (s : SeatState) (u i w : ℕ) → length (setting_steps s u i w) ≤ 2
+setting-long s u i w = either_long {X = Step} (word_in s u == 0) [] (barrier_steps s u i (Some w)) 2 (omega arith) (barrier-long s u i (Some w))
+
+pub putting-long : (s : SeatState) (u n : ℕ) → length (putting_steps s u n) ≤ 1
+putting-long s u n = either_long {X = Step} (word_in s u == 0) [] _ 1 (omega arith) (omega arith)

@@ -1,5 +1,6 @@
 mod Clearing
 mod Done
+mod Few
 mod Fulls
 mod Leaving
 mod Naming

@@ -5,6 +5,7 @@ ghost use Rattle.gc_cycle.specs.Cycles.{collects};
 ghost use Rattle.gc_table.specs.Rule.{KnowsFull};
 ghost use Rattle.gc_table.specs.Running.{Ran};
 ghost use Rattle.gc_table.specs.Seats.{Across, did, view_of};
+ghost use Rattle.mutator_ops.specs.Few.{AtMost};
 ghost use Rattle.mutator_turns.specs.Halting.{LeftFull};
 ghost use Rattle.mutator_turns.specs.declared.refused.Refused.TheVariants as refusals;
 ghost use Rattle.mutator_turns.specs.Sharing.{LeavesHeap};
@@ -35,6 +36,7 @@ pub fn leave(heap: &Heap, seat: &mut HeapSeat)
     ensures leaves { Across LeavesHeap seat.old seat.new }
     ensures full { KnowsFull (view_of seat.old) → KnowsFull (view_of seat.new) }
     ensures ran { Across Ran seat.old seat.new }
+    ensures few { Across (AtMost 2) seat.old seat.new }
 {
     let made = seat.state().made;
     go_out(heap, seat, made);
@@ -49,6 +51,7 @@ pub fn leave_full(heap: &Heap, seat: &mut HeapSeat) -> Refused
     ensures leaves { Across LeavesHeap seat.old seat.new }
     ensures answer { result ≡ refusals.Full }
     ensures ran { Across Ran seat.old seat.new }
+    ensures few { Across (AtMost 2) seat.old seat.new }
 {
     leave(heap, seat);
     Refused::Full

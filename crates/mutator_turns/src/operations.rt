@@ -1,13 +1,15 @@
 //! One operation of a mutator at its turn.
-ghost use Rattle.std.specs.Prelude.{◌≡◌, ◌<◌, IfErr, IfOk, IsFalse, slice_index};
+ghost use Rattle.std.specs.Prelude.{◌≡◌, ◌<◌, ◌+◌, IfErr, IfOk, IsFalse, slice_index};
 ghost use Rattle.std.specs.Bool.{OnFalse, OnTrue};
 ghost use Rattle.std.specs.Int.Count.{ones};
 ghost use Rattle.mark_core.specs.Numbers.{section_variables};
 ghost use Rattle.plain_heap.specs.PlainHeap.{variable};
 ghost use Rattle.plain_heap.specs.declared.object.Ref.TheVariants.{Nil};
 ghost use Rattle.plain_heap.specs.declared.operation.Op.TheVariants as ops;
-ghost use Rattle.gc_table.specs.Seats.{state_of, view_of};
+ghost use Rattle.gc_table.specs.Running.{Ran};
+ghost use Rattle.gc_table.specs.Seats.{Across, state_of, view_of};
 ghost use Rattle.alloc_cache.specs.Caching.{IsCached};
+ghost use Rattle.mutator_ops.specs.Few.{AtMost};
 ghost use Rattle.mutator_turns.specs.Halting.{MadeNone};
 ghost use Rattle.mutator_turns.specs.Plain.{Steps, value_in};
 ghost use Rattle.mutator_turns.specs.Standing.{IsAtTurn, Plays, plain_of};
@@ -32,6 +34,8 @@ pub fn make_in(heap: &Heap, seat: &mut HeapSeat, cache: Cache, v: u8, value: u32
     requires range { v < section_variables }
     ensures turn { IsAtTurn heap.now seat.new }
     ensures steps { Steps (ops.New v value) (plain_of seat.old) (plain_of seat.new) }
+    ensures ran { Across Ran seat.old seat.new }
+    ensures few { Across (AtMost (heap.now.shape.fields + 3)) seat.old seat.new }
 {
     let mut cache = cache;
     let Some(_cell) = create(heap, seat, &mut cache, v, value) else {
@@ -74,6 +78,7 @@ pub fn set_field(heap: &Heap, seat: &mut HeapSeat, v: u8, i: u8, w: u8)
     requires range { (v < section_variables) × (i < heap.now.shape.fields) × (w < section_variables) }
     ensures turn { IsAtTurn heap.now seat.new }
     ensures steps { Steps (ops.Set v i w) (plain_of seat.old) (plain_of seat.new) }
+    ensures few { Across (AtMost 3) seat.old seat.new }
 {
     set(heap, seat, v, i, w);
 }
@@ -85,6 +90,7 @@ pub fn put_value(heap: &Heap, seat: &mut HeapSeat, v: u8, value: u32)
     requires range { v < section_variables }
     ensures turn { IsAtTurn heap.now seat.new }
     ensures steps { Steps (ops.Put v value) (plain_of seat.old) (plain_of seat.new) }
+    ensures few { Across (AtMost 2) seat.old seat.new }
 {
     put(heap, seat, v, value);
 }
@@ -96,6 +102,7 @@ pub fn get_field(heap: &Heap, seat: &mut HeapSeat, w: u8, v: u8, i: u8)
     requires range { (w < section_variables) × (v < section_variables) × (i < heap.now.shape.fields) }
     ensures turn { IsAtTurn heap.now seat.new }
     ensures steps { Steps (ops.Get w v i) (plain_of seat.old) (plain_of seat.new) }
+    ensures few { Across (AtMost 2) seat.old seat.new }
 {
     follow(heap, seat, w, v, i);
 }
@@ -107,6 +114,7 @@ pub fn copy_variable(heap: &Heap, seat: &mut HeapSeat, w: u8, v: u8)
     requires range { (w < section_variables) × (v < section_variables) }
     ensures turn { IsAtTurn heap.now seat.new }
     ensures steps { Steps (ops.Let w v) (plain_of seat.old) (plain_of seat.new) }
+    ensures few { Across (AtMost 1) seat.old seat.new }
 {
     assign(heap, seat, w, v);
 }
@@ -118,6 +126,7 @@ pub fn forget_variable(heap: &Heap, seat: &mut HeapSeat, v: u8)
     requires range { v < section_variables }
     ensures turn { IsAtTurn heap.now seat.new }
     ensures steps { Steps (ops.Nil v) (plain_of seat.old) (plain_of seat.new) }
+    ensures few { Across (AtMost 1) seat.old seat.new }
 {
     clear(heap, seat, v);
 }
@@ -130,6 +139,7 @@ pub fn read_value(heap: &Heap, seat: &mut HeapSeat, v: u8) -> Option<u32>
     ensures turn { IsAtTurn heap.now seat.new }
     ensures same { plain_of seat.new ≡ plain_of seat.old }
     ensures value { result ≡ value_in (plain_of seat.old) v }
+    ensures few { Across (AtMost 1) seat.old seat.new }
 {
     match say(heap, seat, v) {
         Line::Value(value) => Some(value),

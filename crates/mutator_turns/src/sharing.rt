@@ -1,11 +1,12 @@
 //! One operation of a mutator at its turn, in a heap whose objects are shared.
-ghost use Rattle.std.specs.Prelude.{◌≡◌, ◌<◌, ◌-◌, [], ◌∷◌, IfErr, IfNone, IfOk, IfSome, IsTrue, slice_index};
+ghost use Rattle.std.specs.Prelude.{◌≡◌, ◌<◌, ◌+◌, ◌-◌, [], ◌∷◌, IfErr, IfNone, IfOk, IfSome, IsTrue, slice_index};
 ghost use Rattle.std.specs.Int.Count.{ones};
 ghost use Rattle.mark_core.specs.Numbers.{section_variables};
 ghost use Rattle.mark_core.specs.Steps.MutatorSteps.{seat_variable as word_in};
 ghost use Rattle.mark_core.specs.declared.kinds.Step.TheVariants.{ReadValue};
 ghost use Rattle.gc_table.specs.Seats.{Across, Found, state_of, view_of};
 ghost use Rattle.alloc_cache.specs.Caching.{IsCached};
+ghost use Rattle.mutator_ops.specs.Few.{AtMost};
 ghost use Rattle.mutator_ops.specs.Sharing.{LendsFound, SetsVariable, TakesSteps, putting_steps, setting_steps};
 ghost use Rattle.mutator_turns.specs.Halting.{MadeNone};
 ghost use Rattle.mutator_turns.specs.Sharing.{FollowsField, LeavesHeap, MakesShared, MakesSharedAfter};
@@ -30,6 +31,7 @@ pub fn set_shared(heap: &Heap, seat: &mut HeapSeat, v: u8, i: u8, w: u8)
     requires range { (v < section_variables) × (i < heap.now.shape.fields) × (w < section_variables) }
     ensures turn { IsAtTurn heap.now seat.new }
     ensures takes { Across (TakesSteps (setting_steps (state_of seat.old) v i w)) seat.old seat.new }
+    ensures few { Across (AtMost 2) seat.old seat.new }
 {
     share_set(heap, seat, v, i, w);
 }
@@ -41,6 +43,7 @@ pub fn put_shared(heap: &Heap, seat: &mut HeapSeat, v: u8, value: u32)
     requires range { v < section_variables }
     ensures turn { IsAtTurn heap.now seat.new }
     ensures takes { Across (TakesSteps (putting_steps (state_of seat.old) v value)) seat.old seat.new }
+    ensures few { Across (AtMost 1) seat.old seat.new }
 {
     share_put(heap, seat, v, value);
 }
@@ -52,6 +55,7 @@ pub fn get_shared(heap: &Heap, seat: &mut HeapSeat, w: u8, v: u8, i: u8)
     requires range { (w < section_variables) × (v < section_variables) × (i < heap.now.shape.fields) }
     ensures turn { IsAtTurn heap.now seat.new }
     ensures follows { Across (FollowsField w v i) seat.old seat.new }
+    ensures few { Across (AtMost 2) seat.old seat.new }
 {
     if word_of(seat, v) == 0 {
         share_forget(heap, seat, w);
@@ -67,6 +71,7 @@ pub fn copy_shared(heap: &Heap, seat: &mut HeapSeat, w: u8, v: u8)
     requires range { (w < section_variables) × (v < section_variables) }
     ensures turn { IsAtTurn heap.now seat.new }
     ensures sets { Across (SetsVariable w (word_in (state_of seat.old) v)) seat.old seat.new }
+    ensures few { Across (AtMost 1) seat.old seat.new }
 {
     share_copy(heap, seat, w, v);
 }
@@ -78,6 +83,7 @@ pub fn forget_shared(heap: &Heap, seat: &mut HeapSeat, v: u8)
     requires range { v < section_variables }
     ensures turn { IsAtTurn heap.now seat.new }
     ensures sets { Across (SetsVariable v 0) seat.old seat.new }
+    ensures few { Across (AtMost 1) seat.old seat.new }
 {
     share_forget(heap, seat, v);
 }
@@ -89,6 +95,7 @@ pub fn lend_shared(heap: &Heap, seat: &mut HeapSeat, w: u8, c: u8)
     requires range { (w < section_variables) × (c < section_variables) }
     ensures turn { IsAtTurn heap.now seat.new }
     ensures lends { Across (LendsFound w c) seat.old seat.new }
+    ensures few { Across (AtMost 2) seat.old seat.new }
 {
     share_lend(heap, seat, w, c);
 }
@@ -101,6 +108,7 @@ pub fn value_shared(heap: &Heap, seat: &mut HeapSeat, v: u8) -> Option<u64>
     ensures turn { IsAtTurn heap.now seat.new }
     ensures some { IfSome result (λ n. (0 < word_in (state_of seat.old) v) × Across (Found (ReadValue (word_in (state_of seat.old) v - 1)) n) seat.old seat.new) }
     ensures none { IfNone result ((word_in (state_of seat.old) v ≡ 0) × (view_of seat.new ≡ view_of seat.old)) }
+    ensures few { Across (AtMost 1) seat.old seat.new }
 {
     share_value_of(heap, seat, v)
 }
@@ -123,6 +131,7 @@ pub fn make_shared_in(heap: &Heap, seat: &mut HeapSeat, cache: Cache, v: u8, val
     requires range { v < section_variables }
     ensures turn { IsAtTurn heap.now seat.new }
     ensures makes { Across (MakesShared v value) seat.old seat.new }
+    ensures few { Across (AtMost (heap.now.shape.fields + 3)) seat.old seat.new }
 {
     let mut cache = cache;
     let Some(_cell) = share_create(heap, seat, &mut cache, v, value) else {

@@ -1,7 +1,9 @@
+use Rattle.std.proofs.Common.{arith}
 use Rattle.gc_table.specs.Seats.{view_of}
 use Rattle.mutator_turns.proofs.Fulls.{out-full}
 use Rattle.mutator_turns.proofs.Seats.{kept-heap, mutator-kept}
 use Rattle.mutator_turns.proofs.Leaving.{leaves-spared}
+use Rattle.mutator_ops.proofs.Few.{at-most-events}
 use Rattle.mutator_turns.proofs.gates.leave.Goals as goal
 
 pub returns-clause-waits : goal.returns-clause-waits
@@ -20,3 +22,6 @@ returns-clause-ran c = c.go_out.ensures.out.ran
 
 pub returns-clause-leaves : goal.returns-clause-leaves
 returns-clause-leaves c = let e = c.go_out.ensures in leaves-spared (view_of c.args.seat.now) (view_of c.go_out.new.seat) e.out.ran e.spares e.out.seat
+
+pub returns-clause-few : goal.returns-clause-few
+returns-clause-few c = at-most-events 2 (view_of c.args.seat.now) (view_of c.go_out.new.seat) _ c.go_out.ensures.left.1 (omega arith)

@@ -1,6 +1,8 @@
 use Rattle.std.proofs.Common.{refl}
 use Rattle.plain_heap.specs.declared.operation.Op.TheVariants as ops
 use Rattle.mutator_turns.proofs.Done.{steps-does, turn-does, turn-ready}
+use Rattle.gc_table.specs.Seats.{view_of}
+use Rattle.mutator_ops.proofs.Few.{at-most-events, following-long}
 use Rattle.mutator_turns.proofs.operations.get_field.Goals as goal
 
 pub follow-requires-clause-seat : goal.follow-requires-clause-seat
@@ -11,3 +13,6 @@ returns-clause-turn c = let e = c.follow.ensures in turn-does c.args.heap.now (o
 
 pub returns-clause-steps : goal.returns-clause-steps
 returns-clause-steps c = steps-does (ops.Get c.args.w c.args.v c.args.i) 0 c.args.heap.now c.args.seat.now c.follow.new.seat c.requires.turn c.requires.owned refl c.follow.ensures.does
+
+pub returns-clause-few : goal.returns-clause-few
+returns-clause-few c = let e = c.follow.ensures.events in at-most-events 2 (view_of c.args.seat.now) (view_of c.follow.new.seat) _ e.1 (following-long (view_of c.args.seat.now).state c.args.w c.args.v c.args.i e.0)

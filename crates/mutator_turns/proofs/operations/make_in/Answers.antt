@@ -1,7 +1,8 @@
 use Rattle.gc_table.specs.Seats.{view_of}
-use Rattle.std.proofs.Common.{Some}
+use Rattle.std.proofs.Common.{◌+◌, arith, Some}
 use Rattle.mutator_turns.proofs.Done.{plays-creates, steps-creates}
 use Rattle.mutator_turns.proofs.Seats.{plays-turn, whole-cache}
+use Rattle.mutator_ops.proofs.Few.{at-most-steps, creating-long}
 use Rattle.mutator_turns.proofs.operations.make_in.Goals as goal
 
 pub returns-clause-turn : goal.returns-clause-turn
@@ -13,3 +14,11 @@ returns-clause-turn c =
 
 pub returns-clause-steps : goal.returns-clause-steps
 returns-clause-steps c = steps-creates c.args.v c.args.value c.in-Some._cell c.args.heap.now c.args.seat.now c.create.new.seat c.requires.plays c.requires.owned c.in-Some.ensures.creates.1
+
+pub returns-clause-ran : goal.returns-clause-ran
+returns-clause-ran c = c.in-Some.ensures.creates.1.ran
+
+pub returns-clause-few : goal.returns-clause-few
+returns-clause-few c =
+    let long = creating-long c.args.heap.now.shape.fields (view_of c.args.seat.now).state c.args.v c.args.value c.in-Some._cell in
+    at-most-steps (c.args.heap.now.shape.fields + 3) (view_of c.args.seat.now) (view_of c.create.new.seat) _ c.in-Some.ensures.steps (omega (arith, long))

@@ -1,6 +1,8 @@
-use Rattle.std.proofs.Common.{refl}
+use Rattle.std.proofs.Common.{arith, refl}
 use Rattle.plain_heap.specs.declared.operation.Op.TheVariants as ops
 use Rattle.mutator_turns.proofs.Done.{steps-does, turn-does, turn-ready}
+use Rattle.gc_table.specs.Seats.{view_of}
+use Rattle.mutator_ops.proofs.Few.{at-most-steps, storing-long}
 use Rattle.mutator_turns.proofs.operations.put_value.Goals as goal
 
 pub put-requires-clause-seat : goal.put-requires-clause-seat
@@ -11,3 +13,6 @@ returns-clause-turn c = let e = c.put.ensures in turn-does c.args.heap.now (ops.
 
 pub returns-clause-steps : goal.returns-clause-steps
 returns-clause-steps c = steps-does (ops.Put c.args.v c.args.value) _ c.args.heap.now c.args.seat.now c.put.new.seat c.requires.turn c.requires.owned refl c.put.ensures.does
+
+pub returns-clause-few : goal.returns-clause-few
+returns-clause-few c = at-most-steps 2 (view_of c.args.seat.now) (view_of c.put.new.seat) _ c.put.ensures.steps (storing-long _ _ 1 _ (omega arith))

@@ -5,6 +5,7 @@ use Rattle.mutator_ops.specs.Doing.{seen}
 use Rattle.mutator_turns.specs.Standing.{plain_of}
 use Rattle.mutator_turns.proofs.Done.{alone-there, same-does, turn-does, turn-ready, value-read, value_said}
 use Rattle.mutator_turns.proofs.Uncatalogued.{sees-none}
+use Rattle.mutator_ops.proofs.Few.{at-most-steps, saying-long}
 use Rattle.mutator_turns.proofs.operations.read_value.Goals as goal
 
 pub say-requires-clause-seat : goal.say-requires-clause-seat
@@ -29,6 +30,7 @@ returns-in-Nil c =
       turn = turn-does c.args.heap.now (ops.Say c.args.v) 0 c.args.seat.now c.say.new.seat c.requires.turn e.seat.0 e.seat.1 e.does;
       same = same-does (ops.Say c.args.v) v (view_of c.say.new.seat) (λ x. refl) e.does;
       value = sym (ap value_said c.in-Nil.is) ∙ value-read (plain_of c.args.seat.now) c.args.v (seen v) c.say.result (sees-none v (c.requires.turn.works.mutator.uncatalogued (alone-there c.args.heap.now c.args.seat.now c.requires.turn.works.sits c.requires.owned))) e.line;
+      few = at-most-steps 1 (view_of c.args.seat.now) (view_of c.say.new.seat) _ c.say.ensures.steps (saying-long (view_of c.args.seat.now).state c.args.v);
     }
 
 pub returns-in-Walk : goal.returns-in-Walk
@@ -39,4 +41,8 @@ returns-in-Walk c =
       turn = turn-does c.args.heap.now (ops.Say c.args.v) 0 c.args.seat.now c.say.new.seat c.requires.turn e.seat.0 e.seat.1 e.does;
       same = same-does (ops.Say c.args.v) v (view_of c.say.new.seat) (λ x. refl) e.does;
       value = sym (ap value_said c.in-Walk.is) ∙ value-read (plain_of c.args.seat.now) c.args.v (seen v) c.say.result (sees-none v (c.requires.turn.works.mutator.uncatalogued (alone-there c.args.heap.now c.args.seat.now c.requires.turn.works.sits c.requires.owned))) e.line;
+      few = at-most-steps 1 (view_of c.args.seat.now) (view_of c.say.new.seat) _ c.say.ensures.steps (saying-long (view_of c.args.seat.now).state c.args.v);
     }
+
+pub returns-in-Value-clause-few : goal.returns-in-Value-clause-few
+returns-in-Value-clause-few c = at-most-steps 1 (view_of c.args.seat.now) (view_of c.say.new.seat) _ c.say.ensures.steps (saying-long (view_of c.args.seat.now).state c.args.v)

@@ -1,6 +1,8 @@
-use Rattle.std.proofs.Common.{refl}
+use Rattle.std.proofs.Common.{Some, arith, refl}
 use Rattle.plain_heap.specs.declared.operation.Op.TheVariants as ops
 use Rattle.mutator_turns.proofs.Done.{steps-does, turn-does, turn-ready}
+use Rattle.gc_table.specs.Seats.{view_of}
+use Rattle.mutator_ops.proofs.Few.{at-most-steps, barrier-long, storing-long}
 use Rattle.mutator_turns.proofs.operations.set_field.Goals as goal
 
 pub set-requires-clause-seat : goal.set-requires-clause-seat
@@ -11,3 +13,6 @@ returns-clause-turn c = let e = c.set.ensures in turn-does c.args.heap.now (ops.
 
 pub returns-clause-steps : goal.returns-clause-steps
 returns-clause-steps c = steps-does (ops.Set c.args.v c.args.i c.args.w) _ c.args.heap.now c.args.seat.now c.set.new.seat c.requires.turn c.requires.owned refl c.set.ensures.does
+
+pub returns-clause-few : goal.returns-clause-few
+returns-clause-few c = at-most-steps 3 (view_of c.args.seat.now) (view_of c.set.new.seat) _ c.set.ensures.steps (storing-long _ _ 2 _ (barrier-long (view_of c.args.seat.now).state c.args.v c.args.i (Some c.args.w)))
