@@ -15,7 +15,8 @@ use std::thread::Threads;
 
 /// Holds sections in their first command, until commands of others were passed, and a tracer's seat has had a turn.
 #[derive(Drop)]
-struct Holding<'a> {
+struct Holding<'a, R: Wait + Sync> {
+    rt: &'a R,
     held: &'a [u32],
     /// By section and number.
     awaited: &'a [(u32, u64)],
@@ -25,7 +26,7 @@ struct Holding<'a> {
     own: AtomicU64,
 }
 
-impl Gate for Holding<'_> {
+impl<R: Wait + Sync> Gate for Holding<'_, R> {
     fn pass(&self, seat: &HeapSeat, section: &Section<'_>, command: u64) {
         let number = section.number();
         if seat.state().active && seat.state().section == Some(number) {
@@ -35,8 +36,8 @@ impl Gate for Holding<'_> {
             self.passed.tell();
         }
         if command == 0 && self.held.contains(&number) {
-            self.passed.wait();
-            self.turned.wait();
+            self.passed.wait(self.rt);
+            self.turned.wait(self.rt);
         }
     }
 
@@ -97,6 +98,7 @@ fn meets<R: Abort + AllocGlobal + Threads + Wait + Sync>(rt: &R, row: &Row) -> R
     let options = Options { workers, ..USUAL };
     let script = read(rt.alloc(), script)?;
     let gate = Holding {
+        rt,
         held,
         awaited,
         passed: Signal::of(awaited.len() as u64),

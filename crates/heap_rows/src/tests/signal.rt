@@ -1,10 +1,14 @@
 //! What a gate waits for, but not forever.
+use std::sync::Wait;
 use std::sync::atomic::AtomicU64;
 use std::sync::atomic::Ordering::SeqCst;
-use std::thread::yield_now;
+use std::time::Duration;
 
-/// How many times a thread looks before it gives up.
-const LOOKS: u32 = 1_000_000_000;
+/// How many times a thread looks before it gives up, which is after five seconds or more.
+const LOOKS: u32 = 5_000;
+
+/// How long a thread sleeps between two looks, in microseconds, where nothing is told.
+const SLEEP: u64 = 1_000;
 
 /// Comes when it was told often enough. When one thread gave it up, no other waits for it any more.
 #[derive(Drop)]
@@ -29,13 +33,20 @@ impl Signal {
         self.told.fetch_add(1, SeqCst);
     }
 
+    /// Whether it was told often enough.
+    pub fn has_come(&self) -> bool {
+        self.told.load(SeqCst) >= self.wanted
+    }
+
     /// Waits until it was told often enough, or a thread gave it up; gives it up after many looks.
-    pub fn wait(&self) {
+    pub fn wait<R: Wait>(&self, rt: &R) {
         for _ in 0..LOOKS {
-            if self.told.load(SeqCst) >= self.wanted || self.was_given_up() {
+            if self.has_come() || self.was_given_up() {
                 return;
             }
-            yield_now();
+            let low = (self.told.load(SeqCst) % 0x1_0000_0000) as u32;
+            self.told
+                .park_timeout(rt, low, Duration::from_micros(SLEEP));
         }
         self.given_up.fetch_add(1, SeqCst);
     }
