@@ -3,7 +3,7 @@ use Rattle.std.specs.Prelude.{ℕ, ◌≡◌, ◌&&◌, true, Some, None, IsTrue
 use Rattle.mark_core.specs.Start.{start_seat}
 use Rattle.mark_core.specs.Seats.{saw}
 use Rattle.tracer.specs.Hands.{no_packets}
-use Rattle.mark_core.specs.declared.kinds.Phase.TheVariants.{Marking}
+use Rattle.mark_core.specs.declared.kinds.Phase.TheVariants.{Idle, Marking}
 use Rattle.mark_core.specs.declared.kinds.Shape.{Shape}
 use Rattle.mark_core.specs.declared.seat.SeatState.{SeatState}
 use Rattle.gc_table.specs.Seats.{Sits, view_of}
@@ -14,6 +14,10 @@ use Rattle.mutator_ops.specs.Ready.{IsReady}
 -- it has read that marking is under way, in the first season of the warehouses
 abbrev pub playing : Shape → ℕ → SeatState
 playing sh k = record (start_seat sh k) { counted = true; active = true; phase_seen = Some Marking; season_seen = Some 1 }
+
+-- it is active, and has read that no cycle is under way
+abbrev pub waiting : Shape → ℕ → SeatState
+waiting sh k = record (start_seat sh k) { counted = true; active = true; phase_seen = Some Idle }
 
 -- the seat is a mutator's between two commands
 abbrev pub IsReadyMutator : Heap → HeapSeat → Type 0

@@ -1,6 +1,7 @@
 //! Small heaps with two or three seats: seat 0 is the catalogue's, seat 1 a warehouse's, and seat 2 a tracer's.
 mod blocks;
 mod cleaning;
+mod meeting;
 mod mutators;
 mod objects;
 mod orders;

@@ -7,8 +7,10 @@ ghost use Rattle.gc_table.specs.Seats.{state_of, view_of};
 ghost use Rattle.gc_table.specs.SeatRecords.{At, inside, resting};
 ghost use Rattle.packet_pools.specs.Tracing.{IsTracer};
 
+use super::meeting::Meeting;
 use gc_table::{Heap, HeapSeat};
 use packet_pools::{all_empty, give, pop, take_deferred, take_input, take_output};
+use std::sync::Wait;
 use std::thread::{Threads, join_mut};
 use test_heaps::{SMALL, enters, next_seat, open, sees_marking, try_marking};
 
@@ -122,7 +124,7 @@ fn rounds(heap: &Heap, seat: &mut HeapSeat, k: u32, count: u32) -> u32
         return 0;
     }
     let mut done = 0;
-    for _attempt in 0..100_000_000_u32 {
+    for _attempt in 0..10_000_000_u32 {
         if done == count {
             return done;
         }
@@ -133,21 +135,36 @@ fn rounds(heap: &Heap, seat: &mut HeapSeat, k: u32, count: u32) -> u32
     done
 }
 
-/// The rounds of two seats, each in a thread of its own.
-fn both<R: Threads + Sync>(
+/// Takes and gives 1,000 packets, once the other thread was there: how many it got.
+fn meets_and_exchanges<R: Wait>(
+    rt: &R,
+    heap: &Heap,
+    seat: &mut HeapSeat,
+    k: u32,
+    meeting: &Meeting,
+) -> u32
+    requires { At heap.now resting k seat.old }
+{
+    meeting.come(rt);
+    rounds(heap, seat, k, 1000)
+}
+
+/// The rounds of two seats, each in a thread of its own, which begin together.
+fn both<R: Threads + Wait + Sync>(
     rt: &R,
     heap: &Heap,
     one: &mut HeapSeat,
     two: &mut HeapSeat,
     j: u32,
     k: u32,
+    meeting: &Meeting,
 ) -> u32
     requires { At heap.now resting j one.old × At heap.now resting k two.old }
 {
     let (a, b) = join_mut(
         rt,
-        &mut || rounds(heap, one, j, 1000),
-        &mut || rounds(heap, two, k, 1000),
+        &mut || meets_and_exchanges(rt, heap, one, j, meeting),
+        &mut || meets_and_exchanges(rt, heap, two, k, meeting),
     );
     a.saturating_add(b)
 }
@@ -199,6 +216,8 @@ fn two_threads(rt: HostRuntime) {
     let mut one = next_seat(&heap, &mut seats, 0);
     let mut two = next_seat(&heap, &mut seats, 1);
     let mut other = next_seat(&heap, &mut seats, 2);
-    let done = both(&rt, &heap, &mut one, &mut two, 0, 1);
+    let meeting = Meeting::of(2);
+    let done = both(&rt, &heap, &mut one, &mut two, 0, 1, &meeting);
+    assert!(&rt; meeting.is_met());
     assert!(&rt; done == 2000 && all_empty(&heap, &mut other), "{done}");
 }

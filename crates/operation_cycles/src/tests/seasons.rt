@@ -3,11 +3,12 @@ ghost use Rattle.std.specs.Prelude.{◌≡◌, ◌<◌, length};
 ghost use Rattle.std.specs.Bool.{OnTrue};
 ghost use Rattle.gc_table.specs.Seats.{Across, view_of};
 ghost use Rattle.gc_table.specs.SeatRecords.{At, entered, inside, resting};
-ghost use Rattle.operation_cycles.specs.Seats.{IsReadyMutator, playing};
-ghost use Rattle.test_heaps.specs.Seats.{New};
+ghost use Rattle.operation_cycles.specs.Seats.{IsReadyMutator, playing, waiting};
+ghost use Rattle.test_heaps.specs.Seats.{HasEachObject, New};
 ghost use Rattle.stop_world.specs.StopRecords.{KeepsMeaningAndPlan};
 
 use gc_table::{Heap, HeapSeat};
+use mark_core::Phase;
 use std::sync::Wait;
 use test_heaps::{enters, next_turn, sees_marking, try_marking};
 
@@ -27,6 +28,26 @@ fn plays(heap: &Heap, seat: &mut HeapSeat) -> bool
     ensures { OnTrue result (At heap.now playing 1 seat.new × IsReadyMutator heap.now seat.new) }
 {
     sees_marking(heap, seat, 1) && sees_turn(heap, seat, 1)
+}
+
+/// Whether the seat finds that no cycle is under way.
+fn sees_idle(heap: &Heap, seat: &mut HeapSeat, k: u32) -> bool
+    requires { At heap.now entered k seat.old }
+    ensures sees { OnTrue result (At heap.now waiting k seat.new) }
+    ensures keeps { Across KeepsMeaningAndPlan seat.old seat.new }
+{
+    match heap.read_phase(seat) {
+        Phase::Idle => true,
+        _ => false,
+    }
+}
+
+/// The warehouse's seat enters, where no cycle is under way.
+pub fn joins(heap: &Heap, seat: &mut HeapSeat) -> bool
+    requires { New heap.now resting 1 seat.old }
+    ensures { OnTrue result (HasEachObject heap.now seat.new) }
+{
+    enters(heap, seat, 1) && sees_idle(heap, seat, 1)
 }
 
 /// The warehouses' first season has begun, and both seats mark in it.

@@ -4,19 +4,25 @@ ghost use Rattle.std.specs.Bool.{OnTrue};
 ghost use Rattle.mark_core.specs.declared.kinds.Phase.TheVariants.{Clear, Sweep};
 ghost use Rattle.gc_table.specs.Running.{Alone};
 ghost use Rattle.gc_table.specs.Seats.{Sits, view_of};
-ghost use Rattle.gc_table.specs.SeatRecords.{resting};
-ghost use Rattle.card_clean.specs.Drained.{IsDrained};
+ghost use Rattle.gc_table.specs.SeatRecords.{At, resting};
+ghost use Rattle.card_clean.specs.Drained.{IsBeforeSweep, IsDrained, IsRooted};
 ghost use Rattle.sweeper.specs.Sweepers.{Clears, Sweeps};
-ghost use Rattle.test_heaps.specs.Seats.{New};
+ghost use Rattle.test_heaps.specs.Seats.{HasEachObject, IsReadyWithCache, New};
 
+use super::FOUR;
+use super::objects::make_three;
+use super::seasons::joins;
+use alloc_cache::{Cache, retire};
+use card_clean::{is_drained, see_to_roots};
 use gc_table::{Heap, HeapSeat};
 use mark_core::Phase;
 use std::sync::Wait;
 use sweeper::{Swept, clear_marks_next, clear_rest, end_clear, end_sweep, sweep_next, sweep_rest};
 use test_heaps::{
-    SMALL, begins_sweep, drained, drains, next_seat, next_turn, open, raises_own, resets,
-    stops_idle,
+    SMALL, are_bare, begins_sweep, drains, forget, holds_nothing, leaves, make, next_seat,
+    next_turn, open, raises_own, resets, scans_all, stops_idle, take, work_in_hand,
 };
+use tracer::trace;
 
 fn begins_clear(heap: &Heap, seat: &mut HeapSeat)
     requires { Sits heap.now seat.old × IsDrained (view_of seat.old) }
@@ -81,30 +87,87 @@ fn clears_all(heap: &Heap, seat: &mut HeapSeat) -> Option<(Option<u32>, Option<u
     Some((first, second))
 }
 
-/// A stop by seat 1, in which a drain ends.
-fn ends_drain<R: Wait>(rt: &R, heap: &Heap, zero: &mut HeapSeat, one: &mut HeapSeat) -> bool
-    requires { New heap.now resting 0 zero.old × New heap.now resting 1 one.old × (0 < heap.now.shape.sections) }
-    ensures { OnTrue result (Sits heap.now one.new × IsDrained (view_of one.new)) }
+/// Makes an object that leads to two more, and two that no variable names in the end.
+fn make_five(heap: &Heap, seat: &mut HeapSeat, cache: &mut Cache)
+    requires fields { 1 < heap.now.shape.fields }
+    requires fills { IsReadyWithCache heap.now seat.old cache.old }
+    ensures { IsReadyWithCache heap.now seat.new cache.new }
 {
-    if !next_turn(rt, heap, zero) || !raises_own(heap, one, 1) || !stops_idle(rt, heap, one, 1) {
-        return false;
-    }
-    drains(heap, one);
-    resets(heap, one);
-    drained(heap, one)
+    make(heap, seat, cache, 3, 1);
+    make_three(heap, seat, cache);
+    make(heap, seat, cache, 3, 2);
+    forget(heap, seat, cache, 3);
 }
 
+/// A mutator enters, makes five objects of which three stay reachable, and leaves.
+fn plays(heap: &Heap, seat: &mut HeapSeat) -> bool
+    requires { New heap.now resting 1 seat.old }
+    ensures { Sits heap.now seat.new }
+{
+    if heap.shape().fields < 2 || !joins(heap, seat) {
+        return false;
+    }
+    let Some(mut cache) = take(heap, seat) else {
+        return false;
+    };
+    make_five(heap, seat, &mut cache);
+    retire(heap, seat, cache);
+    leaves(heap, seat)
+}
+
+/// Traces what the roots lead to, in a stop: false where something is in hand.
+fn traces_in_stop(heap: &Heap, seat: &mut HeapSeat) -> bool
+    requires { Sits heap.now seat.old × IsRooted (view_of seat.old) }
+    ensures { Sits heap.now seat.new × IsBeforeSweep (view_of seat.new) }
+{
+    if !holds_nothing(seat) || seat.state().block.is_some() {
+        return false;
+    }
+    trace(heap, seat, 100);
+    true
+}
+
+/// Whether the drain ends there: nothing is in hand, all roots are seen to, every card is clean, and every packet is empty.
+fn drained_after_tracing(heap: &Heap, seat: &mut HeapSeat) -> bool
+    requires { Sits heap.now seat.old × IsBeforeSweep (view_of seat.old) }
+    ensures { OnTrue result (Sits heap.now seat.new × IsDrained (view_of seat.new)) }
+{
+    are_bare(seat.state().held)
+        && !work_in_hand(heap.shape().fields, seat)
+        && see_to_roots(heap, seat)
+        && is_drained(heap, seat)
+}
+
+/// A stop by seat k, in which a drain ends.
+fn ends_drain<R: Wait>(rt: &R, heap: &Heap, seat: &mut HeapSeat, k: u32) -> bool
+    requires { At heap.now resting k seat.old }
+    ensures { OnTrue result (Sits heap.now seat.new × IsDrained (view_of seat.new)) }
+{
+    if !raises_own(heap, seat, k) || !stops_idle(rt, heap, seat, k) {
+        return false;
+    }
+    drains(heap, seat);
+    resets(heap, seat);
+    scans_all(heap, seat) && traces_in_stop(heap, seat) && drained_after_tracing(heap, seat)
+}
+
+/// Of five objects three stay: two cells of the block are freed.
 #[test]
 fn each_block_is_swept_once(rt: HostRuntime) {
-    let Some((heap, mut seats)) = open(rt.alloc(), SMALL, 3) else {
+    let Some((heap, mut seats)) = open(rt.alloc(), FOUR, 3) else {
         panic!(&rt; "memory")
     };
     let mut zero = next_seat(&heap, &mut seats, 0);
     let mut one = next_seat(&heap, &mut seats, 1);
-    let ended = ends_drain(&rt, &heap, &mut zero, &mut one);
+    let mut two = next_seat(&heap, &mut seats, 2);
+    let turned = next_turn(&rt, &heap, &mut zero);
+    assert!(&rt; turned);
+    let played = plays(&heap, &mut one);
+    assert!(&rt; played);
+    let ended = ends_drain(&rt, &heap, &mut two, 2);
     assert!(&rt; ended);
-    begins_sweep(&heap, &mut one);
-    assert!(&rt; sweeps_all(&heap, &mut one) == Some((Some((0, 0)), None, 0)));
+    begins_sweep(&heap, &mut two);
+    assert!(&rt; sweeps_all(&heap, &mut two) == Some((Some((0, 2)), None, 0)));
 }
 
 #[test]
@@ -114,7 +177,9 @@ fn each_block_is_cleared_once(rt: HostRuntime) {
     };
     let mut zero = next_seat(&heap, &mut seats, 0);
     let mut one = next_seat(&heap, &mut seats, 1);
-    let ended = ends_drain(&rt, &heap, &mut zero, &mut one);
+    let turned = next_turn(&rt, &heap, &mut zero);
+    assert!(&rt; turned);
+    let ended = ends_drain(&rt, &heap, &mut one, 1);
     assert!(&rt; ended);
     begins_clear(&heap, &mut one);
     assert!(&rt; clears_all(&heap, &mut one) == Some((Some(0), None)));

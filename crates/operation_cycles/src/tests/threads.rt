@@ -9,12 +9,14 @@ ghost use Rattle.test_heaps.specs.Seats.{IsReadyWithCache};
 ghost use Rattle.tracer.specs.Hands.{IsIdle};
 
 use super::FOUR;
+use super::meeting::Meeting;
 use super::objects::{link, make_three, publish, take};
 use super::seasons::begin;
 use super::tracing::{recycles, scans, traces};
 use alloc_cache::{Cache, retire};
 use gc_table::{Heap, HeapSeat};
 use packet_pools::all_empty;
+use std::sync::Wait;
 use std::thread::{Threads, join_mut};
 use test_heaps::{enters, next_seat, open, sees_marking};
 use tracer::trace;
@@ -39,11 +41,18 @@ fn traces_on(heap: &Heap, seat: &mut HeapSeat) -> u32
     done
 }
 
-/// Traces in 200 turns of at most 4 objects each, by a seat that has just begun: how many objects that were.
-fn begins_tracing(heap: &Heap, seat: &mut HeapSeat, k: u32) -> u32
+/// Traces in 200 turns of at most 4 objects each, by a seat that has just begun, once the other threads are there: how many objects that were.
+fn begins_tracing<R: Wait>(
+    rt: &R,
+    heap: &Heap,
+    seat: &mut HeapSeat,
+    k: u32,
+    meeting: &Meeting,
+) -> u32
     requires { At heap.now inside k seat.old }
     ensures { Sits heap.now seat.new × Traces (view_of seat.new) × IsIdle (view_of seat.new) }
 {
+    meeting.come(rt);
     traces_on(heap, seat)
 }
 
@@ -58,26 +67,48 @@ fn stores_on(heap: &Heap, seat: &mut HeapSeat, cache: &Cache)
     }
 }
 
+/// Stores in a published object, once the other threads are there.
+fn meets_and_stores<R: Wait>(
+    rt: &R,
+    heap: &Heap,
+    seat: &mut HeapSeat,
+    cache: &Cache,
+    meeting: &Meeting,
+)
+    requires { IsReadyWithCache heap.now seat.old cache.now × (1 < heap.now.shape.fields) }
+    ensures { IsReadyWithCache heap.now seat.new cache.now }
+{
+    meeting.come(rt);
+    stores_on(heap, seat, cache);
+}
+
 /// Two seats trace, each in a thread of its own.
-fn both_trace<R: Threads + Sync>(rt: &R, heap: &Heap, zero: &mut HeapSeat, two: &mut HeapSeat)
+fn both_trace<R: Threads + Wait + Sync>(
+    rt: &R,
+    heap: &Heap,
+    zero: &mut HeapSeat,
+    two: &mut HeapSeat,
+    meeting: &Meeting,
+)
     requires { At heap.now inside 0 zero.old × At heap.now inside 2 two.old }
     ensures { Sits heap.now zero.new × Sits heap.now two.new }
 {
     join_mut(
         rt,
-        &mut || begins_tracing(heap, zero, 0),
-        &mut || begins_tracing(heap, two, 2),
+        &mut || begins_tracing(rt, heap, zero, 0, meeting),
+        &mut || begins_tracing(rt, heap, two, 2, meeting),
     );
 }
 
-/// One thread stores while two others trace.
-fn three_threads<R: Threads + Sync>(
+/// One thread stores while two others trace: all three begin together.
+fn three_threads<R: Threads + Wait + Sync>(
     rt: &R,
     heap: &Heap,
     zero: &mut HeapSeat,
     one: &mut HeapSeat,
     two: &mut HeapSeat,
     cache: &Cache,
+    meeting: &Meeting,
 )
     requires tracers { At heap.now inside 0 zero.old × At heap.now inside 2 two.old }
     requires mutator { IsReadyWithCache heap.now one.old cache.now × (1 < heap.now.shape.fields) }
@@ -88,8 +119,8 @@ fn three_threads<R: Threads + Sync>(
         rt,
         &mut ||
             requires { At heap.now inside 0 zero.now × At heap.now inside 2 two.now }
-        { both_trace(rt, heap, zero, two) },
-        &mut || stores_on(heap, one, cache),
+        { both_trace(rt, heap, zero, two, meeting) },
+        &mut || meets_and_stores(rt, heap, one, cache, meeting),
     );
 }
 
@@ -104,12 +135,13 @@ fn settles(heap: &Heap, seat: &mut HeapSeat, cache: &Cache)
 }
 
 /// Whether each seat finds all packets empty, once the threads are joined and what they left was traced.
-fn ends_empty<R: Threads + Sync>(
+fn ends_empty<R: Threads + Wait + Sync>(
     rt: &R,
     heap: &Heap,
     zero: &mut HeapSeat,
     one: &mut HeapSeat,
     two: &mut HeapSeat,
+    meeting: &Meeting,
 ) -> Option<[bool; 3]>
     requires tracers { At heap.now inside 0 zero.old × At heap.now inside 2 two.old }
     requires mutator { IsReadyMutator heap.now one.old }
@@ -121,7 +153,7 @@ fn ends_empty<R: Threads + Sync>(
     make_three(heap, one, &mut cache);
     publish(heap, one, &mut cache);
     scans(heap, one, &cache);
-    three_threads(rt, heap, zero, one, two, &cache);
+    three_threads(rt, heap, zero, one, two, &cache, meeting);
     settles(heap, one, &cache);
     let answers = [
         all_empty(heap, zero),
@@ -132,8 +164,40 @@ fn ends_empty<R: Threads + Sync>(
     Some(answers)
 }
 
-/// A root is scanned in one thread, and what it leads to is traced in another: how many objects were.
-fn hands_over<R: Threads + Sync>(
+/// The roots are scanned, and the thread stays until another has traced what they lead to.
+fn scans_and_waits<R: Wait>(
+    rt: &R,
+    heap: &Heap,
+    seat: &mut HeapSeat,
+    cache: &Cache,
+    scanned: &Meeting,
+    traced: &Meeting,
+)
+    requires { IsReadyWithCache heap.now seat.old cache.now }
+    ensures { IsReadyWithCache heap.now seat.new cache.now }
+{
+    scans(heap, seat, cache);
+    scanned.come(rt);
+    traced.come(rt);
+}
+
+/// Traces once another thread has scanned the roots: how many objects.
+fn waits_and_traces<R: Wait>(
+    rt: &R,
+    heap: &Heap,
+    seat: &mut HeapSeat,
+    scanned: &Meeting,
+    traced: &Meeting,
+) -> u32
+    requires { At heap.now inside 2 seat.old }
+{
+    let done = begins_tracing(rt, heap, seat, 2, scanned);
+    traced.come(rt);
+    done
+}
+
+/// The roots are scanned in one thread, and what they lead to is traced in another while the first still runs: how many objects were.
+fn hands_over<R: Threads + Wait + Sync>(
     rt: &R,
     heap: &Heap,
     one: &mut HeapSeat,
@@ -147,10 +211,19 @@ fn hands_over<R: Threads + Sync>(
     let mut cache = take(heap, one)?;
     make_three(heap, one, &mut cache);
     publish(heap, one, &mut cache);
-    let (_scanned, done) = join_mut(rt, &mut || scans(heap, one, &cache), &mut || 0);
-    let (_none, traced) = join_mut(rt, &mut || done, &mut || begins_tracing(heap, two, 2));
+    let scanned = Meeting::of(2);
+    let traced = Meeting::of(2);
+    let (_scanned, done) = join_mut(
+        rt,
+        &mut || scans_and_waits(rt, heap, one, &cache, &scanned, &traced),
+        &mut || waits_and_traces(rt, heap, two, &scanned, &traced),
+    );
     retire(heap, one, cache);
-    Some(traced)
+    if scanned.is_met() && traced.is_met() {
+        Some(done)
+    } else {
+        None
+    }
 }
 
 #[test]
@@ -180,5 +253,7 @@ fn all_packets_are_empty_in_the_end(rt: HostRuntime) {
     assert!(&rt; begun);
     let joined = joins(&heap, &mut two, 2);
     assert!(&rt; joined);
-    assert!(&rt; ends_empty(&rt, &heap, &mut zero, &mut one, &mut two) == Some([true, true, true]));
+    let meeting = Meeting::of(3);
+    let empty = ends_empty(&rt, &heap, &mut zero, &mut one, &mut two, &meeting);
+    assert!(&rt; meeting.is_met() && empty == Some([true, true, true]));
 }

@@ -2,8 +2,10 @@
 ghost use Rattle.std.specs.Bool.{OnTrue, OnFalse};
 ghost use Rattle.gc_table.specs.SeatRecords.{At, inside, reserved, holding, measured, returned, resting};
 
+use super::meeting::Meeting;
 use gc_table::{Heap, HeapSeat};
 use mark_core::EMPTY_POOL;
+use std::sync::Wait;
 use std::thread::{Threads, join_mut};
 use test_heaps::{SMALL, enters, next_seat, open, sees_marking, try_marking};
 
@@ -95,20 +97,35 @@ fn rounds(heap: &Heap, seat: &mut HeapSeat, k: u32, count: u32) -> u32
     count
 }
 
-/// The rounds of two seats, each in a thread of its own.
-fn both<R: Threads + Sync>(
+/// How many of 1,000 rounds were done, once the other thread was there.
+fn meets_and_trades<R: Wait>(
+    rt: &R,
+    heap: &Heap,
+    seat: &mut HeapSeat,
+    k: u32,
+    meeting: &Meeting,
+) -> u32
+    requires { At heap.now resting k seat.old }
+{
+    meeting.come(rt);
+    rounds(heap, seat, k, 1000)
+}
+
+/// The rounds of two seats, each in a thread of its own, which begin together.
+fn both<R: Threads + Wait + Sync>(
     rt: &R,
     heap: &Heap,
     one: &mut HeapSeat,
     two: &mut HeapSeat,
+    meeting: &Meeting,
 ) -> (u32, u32)
     requires one { At heap.now resting 0 one.old }
     requires two { At heap.now resting 1 two.old }
 {
     join_mut(
         rt,
-        &mut || rounds(heap, one, 0, 1000),
-        &mut || rounds(heap, two, 1, 1000),
+        &mut || meets_and_trades(rt, heap, one, 0, meeting),
+        &mut || meets_and_trades(rt, heap, two, 1, meeting),
     )
 }
 
@@ -119,6 +136,8 @@ fn two_threads(rt: HostRuntime) {
     };
     let mut one = next_seat(&heap, &mut seats, 0);
     let mut two = next_seat(&heap, &mut seats, 1);
-    let (a, b) = both(&rt, &heap, &mut one, &mut two);
+    let meeting = Meeting::of(2);
+    let (a, b) = both(&rt, &heap, &mut one, &mut two, &meeting);
+    assert!(&rt; meeting.is_met());
     assert!(&rt; a == 1000 && b == 1000, "{a} {b}");
 }

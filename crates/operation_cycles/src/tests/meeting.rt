@@ -1,0 +1,48 @@
+//! Threads that wait for each other, so that they run at the same time. A thread that waits in vain gives up after some seconds.
+use std::sync::Wait;
+use std::sync::atomic::AtomicU64;
+use std::sync::atomic::Ordering::SeqCst;
+use std::time::Duration;
+
+/// How many times a thread looks whether the others came. Between two looks it sleeps, for a millisecond at most.
+const LOOKS: u32 = 5_000;
+
+/// Where so many threads meet.
+#[derive(Drop)]
+pub struct Meeting {
+    wanted: u64,
+    come: AtomicU64,
+    missed: AtomicU64,
+}
+
+impl Meeting {
+    /// A meeting of so many threads.
+    pub fn of(wanted: u64) -> Meeting {
+        Meeting {
+            wanted,
+            come: AtomicU64::new(0),
+            missed: AtomicU64::new(0),
+        }
+    }
+
+    /// Comes, and waits until all have come, or it is given up.
+    pub fn come<R: Wait>(&self, rt: &R) {
+        self.come.fetch_add(1, SeqCst);
+        self.come.wake_all();
+        for _look in 0..LOOKS {
+            let come = self.come.load(SeqCst);
+            if come >= self.wanted || self.missed.load(SeqCst) > 0 {
+                return;
+            }
+            let low = (come % 0x1_0000_0000) as u32;
+            self.come
+                .park_timeout(rt, low, Duration::from_micros(1_000));
+        }
+        self.missed.fetch_add(1, SeqCst);
+    }
+
+    /// Whether all have come while those that were there before waited.
+    pub fn is_met(&self) -> bool {
+        self.come.load(SeqCst) >= self.wanted && self.missed.load(SeqCst) == 0
+    }
+}
