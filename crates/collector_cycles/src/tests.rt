@@ -6,6 +6,7 @@ mod hiding;
 mod objects;
 mod paying;
 mod quotas;
+mod resting;
 mod seasons;
 mod sharing;
 mod stepping;

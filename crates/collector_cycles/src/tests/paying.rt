@@ -23,7 +23,7 @@ struct Came {
 }
 
 /// Makes a chain of 576 objects in nine blocks: whether all were made.
-fn make_chain(heap: &Heap, seat: &mut HeapSeat) -> bool
+pub fn make_chain(heap: &Heap, seat: &mut HeapSeat) -> bool
     requires { HasEachObject heap.now seat.old }
     ensures { HasEachObject heap.now seat.new }
 {
