@@ -8,6 +8,7 @@ mod filled;
 mod helped;
 mod overflow;
 mod precise;
+mod shared;
 
 use mark_core::{
     BLOCK_COUNTER, Cell, CoreState, EMPTY_POOL, Event, Phase, Rule, SECTION_SPAN, Shape, Step,

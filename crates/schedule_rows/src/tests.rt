@@ -2,6 +2,7 @@
 mod faults;
 mod folded;
 mod limits;
+mod refused;
 mod steps;
 
 use play_report::MemorySink;
