@@ -8,8 +8,10 @@ use std::sync::Wait;
 use std::sync::atomic::{AtomicU64, Ordering};
 use std::test::*;
 use std::thread::Threads;
+use std::time::Duration;
 
-const TURNS: u64 = 1_000_000_000;
+/// How many times a held job looks before it gives up. Between two looks its thread sleeps, for a millisecond at most.
+const LOOKS: u64 = 5_000;
 
 /// Answers with the script itself. It holds a job whose script is `0` until one whose script is `1` was played.
 #[derive(Drop)]
@@ -25,13 +27,13 @@ impl Player for Holding {
 
     fn play_job<R: Threads + Wait + Sync>(
         &self,
-        _rt: &R,
+        rt: &R,
         alloc: Global,
         job: Job<'_>,
     ) -> (u8, Text) {
         let script = job.script();
         if script == [b'0'].as_slice() {
-            self.hold();
+            self.hold(rt);
         }
         if script == [b'1'].as_slice() {
             self.played.store(1, Ordering::SeqCst);
@@ -45,11 +47,13 @@ impl Player for Holding {
 }
 
 impl Holding {
-    fn hold(&self) {
-        for _ in 0..TURNS {
+    fn hold<R: Wait>(&self, rt: &R) {
+        for _ in 0..LOOKS {
             if self.played.load(Ordering::SeqCst) == 1 {
                 return;
             }
+            self.played
+                .park_timeout(rt, 0, Duration::from_micros(1_000));
         }
         self.late.store(1, Ordering::SeqCst);
     }

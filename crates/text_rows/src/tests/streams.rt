@@ -1,5 +1,9 @@
 //! Sources and sinks, over fakes of a reader and a writer, and in memory.
-use play_report::{Failed, MemorySource, Source, StdSink, StdSource, SureSource, write_all};
+use play_report::{
+    Failed, GatheredSink, MemorySink, MemorySource, Source, StdSink, StdSource, SureSource,
+    write_all,
+};
+use std::alloc::Global;
 use std::io;
 use std::io::{ErrorKind, Read, Write};
 use std::test::Fail;
@@ -159,6 +163,68 @@ fn sources_in_memory_give_their_bytes(rt: HostRuntime) -> Result<(), Fail> {
         let mut buf = [0; 4];
         assert_eq!(rt; sure.read(&mut buf), answer);
         assert_eq!(rt; &buf, bytes);
+    }
+    Ok(())
+}
+
+/// So many bytes, each with the number of its thousand.
+fn thousands(alloc: Global, count: u8) -> Result<Vec<u8>, Fail> {
+    let mut bytes = Vec::new(alloc);
+    for k in 0..count {
+        bytes.resize(bytes.len().saturating_add(1_000), k)?;
+    }
+    Ok(bytes)
+}
+
+/// The call that fails of a sink behind one that gathers; whether more bytes are taken then, and how many were handed on; whether the end goes well after that, and
+/// how many were handed on in the end.
+type Gathered = (u32, bool, usize, bool, usize);
+
+/// 60,000 bytes are gathered, and 10,000 more have no room beside them. So the first go on in three calls, of 25,000 bytes at most, and the others in a fourth
+/// one at the end. Nothing is lost where a call fails: what is written again goes where it belongs.
+const GATHERED: [Gathered; 5] = [
+    (1, false, 0, true, 70_000),
+    (2, false, 25_000, true, 70_000),
+    (3, false, 50_000, true, 70_000),
+    (4, true, 60_000, false, 60_000),
+    (5, true, 60_000, true, 70_000),
+];
+
+/// A sink that gathers over one whose call fails, after it was handed these bytes.
+fn gathering(alloc: Global, failing: u32, bytes: &[u8]) -> Result<GatheredSink<MemorySink>, Fail> {
+    let inner = MemorySink::make(alloc, 70_000, 25_000, &[failing])?;
+    let mut sink = GatheredSink::make(alloc, inner).ok().ok_or("memory")?;
+    write_all(&mut sink, bytes).ok().ok_or("gathered")?;
+    Ok(sink)
+}
+
+/// Whether so much is handed on when more is written.
+fn hands_on(alloc: Global, whole: &[u8], row: &Gathered) -> Result<bool, Fail> {
+    let (failing, is_taken, handed, _, _) = *row;
+    let first = whole.get(..60_000).ok_or("first")?;
+    let second = whole.get(60_000..).ok_or("second")?;
+    let mut sink = gathering(alloc, failing, first)?;
+    let is_so = write_all(&mut sink, second).is_ok() == is_taken;
+    Ok(is_so && Some(sink.abandon().bytes()) == whole.get(..handed))
+}
+
+/// Whether so much is handed on in the end, where what wasn't taken is written again.
+fn ends_with(alloc: Global, whole: &[u8], row: &Gathered) -> Result<bool, Fail> {
+    let (failing, _, _, ends_well, handed) = *row;
+    let first = whole.get(..60_000).ok_or("first")?;
+    let second = whole.get(60_000..).ok_or("second")?;
+    let mut sink = gathering(alloc, failing, first)?;
+    let is_taken = write_all(&mut sink, second).is_ok() || write_all(&mut sink, second).is_ok();
+    let (ended, inner) = sink.finish();
+    Ok(is_taken && ended.is_ok() == ends_well && Some(inner.bytes()) == whole.get(..handed))
+}
+
+#[test]
+fn what_is_gathered_is_handed_on_once(rt: HostRuntime) -> Result<(), Fail> {
+    let whole = thousands(rt.alloc(), 70)?;
+    for row in &GATHERED {
+        assert!(rt; hands_on(rt.alloc(), whole.as_slice(), row)?, "{}", row.0);
+        assert!(rt; ends_with(rt.alloc(), whole.as_slice(), row)?, "{}", row.0);
     }
     Ok(())
 }
