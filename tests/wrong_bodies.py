@@ -11,8 +11,10 @@ empty line between two:
 
 More lines old and new may follow. A line `free: REASON` says that the body is right too, or free on purpose, and a line `test: CRATE NAME` that no
 clause can refuse it and which test does: it isn't tried here, but has to be a change that can be made, and the test has to be there. All others are put into a copy of the crate, at
-most one a function at a time, and `rt check` tells which functions it still proves. The status is 1 where a body got through that isn't free, or where
-one couldn't be judged. The crate and those below are best proved before, by `rt check` in the crate's folder: what that left is copied.
+most one a function at a time, and `rt check` tells which functions it still proves. Refused is a body of which the check names a goal that it doesn't prove. Where a proof
+fails only because a name in it is gone, that is told as `by names`: it says nothing of a clause. A body that doesn't compile is an error of its file, and ends the run. The
+status is 1 where a body got through that isn't free, or where one couldn't be judged. The crate and those below are best proved before, by `rt check` in the crate's folder: what
+that left is copied.
 """
 import os
 import re
@@ -111,11 +113,12 @@ def check(folder):
     return ran.stdout
 
 
-def apply_some(bodies, folder):
-    """Puts in as many as go together, at most one a function. Which those are, and which are left."""
+def apply_some(bodies, folder, most):
+    """Puts in as many as go together, at most one a function and so many in all. Which those are, and which are left."""
     done, left = [], []
     for body in bodies:
-        texts = None if body.function in [it.function for it in done] else body.texts(folder)
+        is_free = len(done) < most and body.function not in [it.function for it in done]
+        texts = body.texts(folder) if is_free else None
         if texts is None:
             left.append(body)
             continue
@@ -126,8 +129,13 @@ def apply_some(bodies, folder):
     return done, left
 
 
+def compile_fault(said):
+    """What the compiler says where the crate doesn't compile, or nothing."""
+    return next((it for it in said if re.match(r"(\./)?src/\S+\.rt:\d+:\d+: error", it)), "")
+
+
 def reasons_of(body, said):
-    """The goals of the function that weren't proved, and whether a name alone was missing."""
+    """The goals of the function that weren't proved, or what else is wrong in its proof, and whether a name alone was missing."""
     path = body.function.split("::", 1)[1].replace("::", "/")
     line = next((it for it in said if it.startswith(f"fn {body.function}: ")), "")
     goals = re.findall(r"`([^`]+)`", line.partition("did not prove")[2].partition("; it calls")[0])
@@ -136,8 +144,8 @@ def reasons_of(body, said):
         found = re.match(rf"\./proofs/{re.escape(path)}/\S+ error: (?:`([^`]+)`)?(.*)", it)
         if found and re.search(r"has no field|is not in scope|has no `|was not admitted", it):
             names = True
-        elif found and found[1]:
-            goals.append(found[1])
+        elif found:
+            goals.append(found[1] or found[2].strip())
     return list(dict.fromkeys(goals)), names
 
 
@@ -150,7 +158,7 @@ def unproved_closure(body, said):
 
 
 def judge(body, said):
-    """What became of a body: refused, with the goals; proved; or unknown."""
+    """What became of a body: refused, with the goals; refused by names alone; proved; or unknown."""
     line = next((it for it in said if it.startswith(f"fn {body.function}: ")), "")
     if line.partition(": ")[2].startswith("proved"):
         return "free" if body.free else "PROVED", body.free
@@ -160,26 +168,28 @@ def judge(body, said):
     if goals:
         return "refused", ", ".join(goals)
     if names:
-        return "refused", "by names alone"
+        return "by names", "a name in its proof is gone"
     if "the borrow checker does not cover" in line:
-        return "UNKNOWN", "it doesn't compile"
+        return "NO BODY", line.partition(": ")[2]
     if re.search("which (is|are) not proved|which has no proof", line) and "did not prove" not in line:
         closure = unproved_closure(body, said)
         return ("refused", closure) if closure else ("again", "")
-    return "refused", line.partition(": ")[2]
+    return "UNKNOWN", line.partition(": ")[2]
 
 
-def try_some(crate, bodies):
-    """Tries as many bodies as go together. What became of each of these, and those that are left."""
+def try_some(crate, bodies, most):
+    """Tries as many bodies as go together, and so many at most. What became of each of these, and those that are left."""
     with tempfile.TemporaryDirectory() as copy:
         copy_crates(crate, copy)
         folder = os.path.join(copy, "crates", crate)
         for body in bodies:
             if body.texts(folder) is None:
                 sys.exit(f"{crate}, {body.what}: an old text doesn't stand once in {body.function}")
-        done, left = apply_some(bodies, folder)
+        done, left = apply_some(bodies, folder, most)
         said = check(folder).split("\n")
-    return [(body, *judge(body, said)) for body in done], left
+    fault = compile_fault(said)
+    judged = [(body, "NO BODY", fault) if fault else (body, *judge(body, said)) for body in done]
+    return judged, left
 
 
 def look_at(crate, body):
@@ -197,15 +207,20 @@ def try_crate(crate):
         came, why = look_at(crate, body)
         print(f"{crate}: {came}: {body.what} ({body.function}): {why}", flush=True)
         wrong += came == "UNKNOWN"
-    left = [it for it in bodies if not it.test]
+    left, most = [it for it in bodies if not it.test], len(bodies)
     while left:
-        judged, left = try_some(crate, left)
+        judged, left = try_some(crate, left, most)
+        # (which of several doesn't compile is seen where each is tried alone)
+        if any(came == "NO BODY" for _, came, _ in judged):
+            most = 1
         for body, came, why in judged:
-            if came == "again" and len(judged) > 1:
+            if came in ("again", "NO BODY") and len(judged) > 1:
                 left.append(body)
                 continue
+            if came == "NO BODY":
+                sys.exit(f"{crate}, {body.what}: it doesn't compile: {why}")
             print(f"{crate}: {came}: {body.what} ({body.function}): {why}", flush=True)
-            wrong += came not in ("refused", "free")
+            wrong += came not in ("refused", "by names", "free")
     return wrong
 
 
