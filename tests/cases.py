@@ -62,6 +62,9 @@ TANGLED = dumps.MAGIC + dumps.numbers([2, 3, 4] + 64 * [0] + [2] + 31 * [0] + [0
 
 USAGE = b"usage: gcplay command [options]\n"
 
+# Of the runs, and of what else is tried in turn, each so many is taken.
+EVERY = int(os.environ.get("EVERY", "1"))
+
 GENERATED = b"gcscript 1\n" + 4 * b"warehouse\nnil a\nnil b\nnil c\nnil d\nnil e\nnil f\nnil g\nnil h\n"
 LOADED = b"commands 32\nobjects 0\nlines 0\nsurvivors 0\ntotal 0\n"
 
@@ -127,7 +130,7 @@ def expected(command, source):
         return 2, f"{fault}\n".encode()
 
 
-def runs():
+def every_run():
     return [
         Run(["run"], FIRST),
         Run(["run"] + NARROW, FIRST),
@@ -169,3 +172,8 @@ def runs():
         Run(["batch", "--runners=1", "--cells=64"], batches.of([FULL]), 0, batches.written([(3, FULL_TEXT)])),
         Run(["batch"], batches.of([FIRST])[:-1]),
     ]
+
+
+def runs():
+    """All of them, or each EVERY-th alone, for a short look."""
+    return every_run()[::EVERY]

@@ -25,6 +25,7 @@ from disturbed import BOUND, PROGRAM
 from verdict import Case
 
 JOBS = 8
+SCRIPTS = float(os.environ.get("SCRIPTS", "inf"))
 CELLS = (64, 128, 4096, 65536, "tight")
 WORKERS = (1, 2, 4, 32)
 TRACERS = (0, 1, 8)
@@ -168,12 +169,12 @@ def rest_if_ahead(began):
 
 
 def play_scripts(program, folder, number, minutes):
-    """Plays every JOBS-th script from this number on, for so many minutes."""
+    """Plays every JOBS-th script from this number on, for so many minutes, and no more than SCRIPTS."""
     began = told = time.monotonic()
     draw = random.Random(number)
     tally = Tally(folder)
     order = shapes(draw)
-    while time.monotonic() < began + 60 * minutes:
+    while tally.counts["scripts"] < SCRIPTS and time.monotonic() < began + 60 * minutes:
         case = Case(generate.script(number, number % 16 == 15))
         tally.counts["scripts"] += 1
         for shape in itertools.islice(order, 4 if case.play.clock > 50_000 else 24):

@@ -13,7 +13,7 @@ import threading
 
 import batches
 import schedules
-from cases import CHURN, FIRST, SEASONS, TANGLED, TWO, Run, example, runs
+from cases import CHURN, EVERY, FIRST, SEASONS, TANGLED, TWO, Run, example, runs
 from disturbed import BOUND, Disturbed, each
 
 # How many bytes the program gathers before it hands them on.
@@ -184,10 +184,10 @@ def main():
     each(lambda item: item[0](judge, disturbed, item[1]), list(itertools.product(ways, runs())))
     each(lambda run: files_that_fail(judge, disturbed.program, run), runs())
     endless(judge, disturbed.program)
-    cuts = [(command, source, size) for command, source in CUT for size in range(len(source) + 1)]
+    cuts = [(command, source, size) for command, source in CUT for size in range(len(source) + 1)][::EVERY]
     each(lambda item: cut(judge, disturbed, *item), cuts)
     accepted = example("published", "gs")
-    each(lambda size: cut_schedule(judge, disturbed, accepted, size), range(len(accepted) + 1))
+    each(lambda size: cut_schedule(judge, disturbed, accepted, size), range(len(accepted) + 1)[::EVERY])
     for sort, count in sorted(judge.counts.items()):
         print(f"{sort}: {count}")
     print(f"{sum(judge.counts.values())} runs, {judge.wrong} wrong")

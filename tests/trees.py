@@ -12,6 +12,7 @@ import subprocess
 import sys
 
 BOUND = float(os.environ.get("BOUND", "120"))
+EVERY = int(os.environ.get("EVERY", "1"))
 USAGE = b"usage: binary_trees [--depth n] [--cells n] [--workers k] [--tracers t]\n"
 
 
@@ -56,7 +57,7 @@ def rows():
 def main():
     program = sys.argv[1] if len(sys.argv) > 1 else "crates/binary_trees/out/binary_trees"
     wrong, done = 0, 0
-    for given, status, texts in rows():
+    for given, status, texts in itertools.islice(rows(), 0, None, EVERY):
         try:
             ended = subprocess.run([program, *given], stdin=subprocess.DEVNULL, stdout=subprocess.PIPE, timeout=BOUND)
             found = ended.returncode, ended.stdout

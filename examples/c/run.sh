@@ -85,6 +85,8 @@ if command -v rustc >"$work/log" 2>&1; then
     links=""
     for each in $libraries; do links="$links -C link-arg=$each"; done
     rustc --edition 2021 -O -D warnings -o "$work/rust" "$here/rust_main.rs" $links -C link-arg=-lpthread && run 120 rust || fail "the Rust program"
+else
+    echo "== no rustc here: the program in Rust is left out"
 fi
 
 for kind in address,undefined thread; do

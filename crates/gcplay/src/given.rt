@@ -1,41 +1,20 @@
 //! From what the program is given to what it hands on.
-ghost use Rattle.std.specs.Prelude.{◌≡◌, ◌<◌, ◌-◌, ◌^◌, ◌⊎◌, Some, IfSome, map};
-ghost use Rattle.std.specs.String.{string_bytes};
+ghost use Rattle.std.specs.Prelude.{◌≡◌, ◌<◌, ◌-◌, ◌^◌, ◌⊎◌, Some};
 ghost use Rattle.std.specs.Io.KnownBytes.{Keeps};
 ghost use Rattle.command_words.specs.Words.{Options, Run};
-ghost use Rattle.play_words.specs.Promise.{FromSource, HasItsText, WritesSome, wanted};
+ghost use Rattle.play_run.specs.Promise.{FromSource, HasItsText, WritesSome, wanted};
 ghost use Rattle.play_words.specs.Answers.{IsAnswer};
 ghost use Rattle.play_words.specs.Running.{IsRunText};
-ghost use Rattle.gcplay.specs.Given.{words_behind};
+ghost use Rattle.play_run.specs.Given.{words_behind};
 
 use gc_play::OpenGate;
 use play_report::{GatheredSink, Sink, Source};
-use play_words::{play_words, settle};
+use play_words::{given_words, play_words, settle};
 use std::alloc::Global;
 use std::env::Args;
 use std::io;
 use std::sync::Wait;
 use std::thread::Threads;
-
-/// The words behind the program's name, or none where memory ran out. Where one isn't UTF-8 there are no words.
-fn words_of(alloc: Global, given: io::Result<Args>) -> Option<Vec<String>>
-    ensures { IfSome result (λ words. map string_bytes words.items ≡ words_behind given) }
-{
-    let mut words = Vec::new(alloc);
-    let mut given = match given {
-        Ok(given) => given,
-        Err(e) if e.kind() == io::ErrorKind::InvalidData => return Some(words),
-        Err(_) => return None,
-    };
-    given.next();
-    for word in given {
-        match words.push(word) {
-            Ok(()) => {}
-            Err(_) => return None,
-        }
-    }
-    Some(words)
-}
 
 /// Does what the words behind the program's name ask for. All that it writes it gathers, and hands on to the sink, which it gives back with the status.
 /// Where std tells no words, they ask for nothing.
@@ -55,7 +34,7 @@ pub fn play_given<R: Threads + Wait + Sync, S: Source, K: Sink + Drop>(
         → WritesSome (K.written sink) (K.written result.1) (FromSource (IsRunText o) (S.left source.old)) }
     ensures silent { (result.0 ≡ 4) ⊎ (result.0 ≡ 6) → Keeps (K.written sink) (K.written result.1) }
 {
-    let Some(words) = words_of(alloc, given) else {
+    let Some(words) = given_words(alloc, given) else {
         return (6, sink);
     };
     let mut gathered = match GatheredSink::make(alloc, sink) {

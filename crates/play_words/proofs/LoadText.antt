@@ -1,8 +1,8 @@
 -- A report in five lines.
-use Rattle.std.proofs.Common.{◌≡◌, ℕ, ◌+◌, List, [], ◌∷◌, ◌++◌, length, get_or, map, refl, sym, ap, ◌∙◌, arith, append_assoc, codes, sum_by}
+use Rattle.std.proofs.Common.{◌≡◌, ℕ, ◌+◌, List, [], ◌∷◌, ◌++◌, length, get_or, map, refl, sym, ap, ◌∙◌, arith, append_assoc, codes, inl, sum_by}
 use Rattle.std.proofs.lemmas.List.Elements.{All-head, All-tail}
 use Rattle.std.specs.List.{fold}
-use Rattle.std.specs.Prelude.{All}
+use Rattle.std.specs.Prelude.{All, Ok}
 use Rattle.plain_heap.specs.Sections.{Sections, executed_total, section_numbers}
 use Rattle.plain_heap.specs.PlainRun.{last_heap}
 use Rattle.plain_heap.specs.Paths.{Survivor}
@@ -12,6 +12,9 @@ use Rattle.play_report.specs.Text.{named_text, brief_text, load_text, outcomes, 
 use Rattle.play_report.specs.declared.report.Report.{Report}
 use Rattle.play_contract.specs.Playing.{IsReport, places_of}
 use Rattle.plain_heap.proofs.Counted.{section-at}
+use Rattle.gc_script.specs.Script.{Script}
+use Rattle.command_words.specs.Words.{Options}
+use Rattle.play_words.specs.Loading.{LoadsTo}
 use Rattle.play_words.proofs.LoadFits.{lines_of, cells_counted}
 
 sum_same : {X : Type 0} (f g : X → ℕ) (a : ℕ) (xs : List X) → All (λ x. f x ≡ g x) xs → fold (λ a x. a + f x) a xs ≡ fold (λ a x. a + g x) a xs
@@ -56,3 +59,8 @@ load_text_of s cells commands r report count = record {
       ∙ ap (λ (os : List Outcome). brief_text (executed_total s) os (map survivor_of r.survivors.items)) report.outcomes
       ∙ five_lines s cells (places_of r) (map survivor_of r.survivors.items) report.placed;
 }
+
+-- the five lines of a report answer `load`
+pub five_answer : (o : Options) (s : Script) (commands : ℕ) (r : Report) → IsReport s.sections o.cells r → commands ≡ executed_total s.sections
+    → LoadsTo o (Ok s) 0 (brief_text commands (map outcome_of r.parts.items) (map survivor_of r.survivors.items))
+five_answer o s commands r report count = inl (refl, load_text_of s.sections o.cells commands r report count)

@@ -21,7 +21,7 @@ use Rattle.dump_census.specs.Values.{AreValueCounts}
 use Rattle.dump_census.specs.declared.counts.SectionCount.{SectionCount}
 use Rattle.play_dump.specs.Final.{survivor_in}
 use Rattle.command_words.specs.Words.{Options}
-use Rattle.play_words.specs.RunAnswers.{RunAnswersTo}
+use Rattle.play_run.specs.RunAnswers.{RunAnswersTo}
 use Rattle.play_words.specs.Dumping.{DumpsTo, IsDumpText}
 use Rattle.play_words.specs.DumpReading.{OfDump}
 use Rattle.play_words.specs.Undumping.{IsUndumpText, IsUndumpAnswer}

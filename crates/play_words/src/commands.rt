@@ -1,36 +1,31 @@
-//! The commands, each in a file of its own.
+//! The commands, each in a file of its own, but for `run`, which stands in the crate `play_run` with what it shares with them.
 //!
-//! - `run` plays the script of the source. `load` makes a script and plays it, and writes five lines of it.
+//! - `load` makes a script and plays it, and writes five lines of it.
 //! - `generate` is the command `gen`: it makes that script and writes it.
 //! - `convert` writes the script of the source in the second version of the language.
 //! - `schedule` checks the schedule of the source. `dump` plays the script of the source and writes the heap at its end;
 //!   `undump` writes the records of such a dump, and `census` counts them.
 //! - `batch` plays the scripts of the source's batch on several runners, each as `run` does.
-//! - `fault` is what a script with a fault is answered, whichever command read it, and `stopped` what a play without a report is.
 //!
 //! A command takes its input whole before it writes, so a source that fails or a script with a fault leaves nothing written but
-//! the fault's text. How each ends is `CommandEnds` in `specs/Ending.antt`, for the texts that `specs/Answers.antt` allows it.
+//! the fault's text. How each ends is `CommandEnds` in `specs/Ending.antt` of `play_run`, for the texts that `specs/Answers.antt` allows it.
 ghost use Rattle.std.specs.Prelude.{◌≡◌, IfSome, Some, true, false};
 ghost use Rattle.command_words.specs.Commands.{IsCommandInRange, command_of};
-ghost use Rattle.play_words.specs.Ending.{CommandEnds, number_of_status};
-ghost use Rattle.play_words.specs.Promise.{HasItsText, enough_for, reads_source};
+ghost use Rattle.play_run.specs.Ending.{CommandEnds, number_of_status};
+ghost use Rattle.play_run.specs.Promise.{HasItsText, enough_for, reads_source};
 ghost use Rattle.play_words.specs.Answers.{IsAnswer};
-ghost use Rattle.play_words.specs.Reading.{IsSpent, TakesAtMost};
+ghost use Rattle.play_run.specs.Reading.{IsSpent, TakesAtMost};
 ghost use Rattle.play_report.specs.Causes.{AcrossSink};
 
 mod batch;
 mod census;
 mod convert;
 mod dump;
-mod fault;
 mod generate;
 mod load;
-mod run;
 mod schedule;
-mod stopped;
 mod undump;
 
-use crate::status::Status;
 use batch::play_batch;
 use census::census_source;
 use command_words::Asked;
@@ -40,7 +35,7 @@ use gc_play::Gate;
 use generate::write_generated;
 use load::load_generated;
 use play_report::{Sink, Source};
-use run::play_source;
+use play_run::{Status, play_source};
 use schedule::check_source;
 use std::alloc::Global;
 use std::sync::Wait;

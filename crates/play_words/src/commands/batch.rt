@@ -6,19 +6,18 @@ ghost use Rattle.job_pool.specs.Batch.{batch_fault_of};
 ghost use Rattle.command_words.specs.Commands.{options_of};
 ghost use Rattle.play_contract.specs.Playing.{AreInRange};
 ghost use Rattle.play_words.specs.Batching.{IsBatchAnswer, IsBatchFault, BatchesTo};
-ghost use Rattle.play_words.specs.Ending.{CommandEnds, TextEnds, number_of_status};
-ghost use Rattle.play_words.specs.Promise.{HasItsText, OfSource};
-ghost use Rattle.play_words.specs.Reading.{IsSpent, TakesAtMost};
+ghost use Rattle.play_run.specs.Ending.{CommandEnds, TextEnds, number_of_status};
+ghost use Rattle.play_run.specs.Promise.{HasItsText, OfSource};
+ghost use Rattle.play_run.specs.Reading.{IsSpent, TakesAtMost};
 ghost use Rattle.play_report.specs.Causes.{AcrossSink};
 
 mod player;
 mod text;
 
-use crate::source::{BATCH, Unread, read_source};
-use crate::status::Status;
 use job_pool::{Batch, BatchError, read_batch, run_jobs};
 use play_contract::Options;
 use play_report::{Sink, Source};
+use play_run::{BATCH, Status, Unread, read_source};
 use player::ScriptPlayer;
 use std::alloc::Global;
 use std::sync::Wait;

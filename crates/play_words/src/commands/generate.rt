@@ -1,13 +1,13 @@
 //! The command `gen`: writes a generated script.
 ghost use Rattle.std.specs.Prelude.{◌≤◌};
 ghost use Rattle.play_words.specs.Generating.{IsGenAnswer};
-ghost use Rattle.play_words.specs.Ending.{TextEnds};
+ghost use Rattle.play_run.specs.Ending.{TextEnds};
 ghost use Rattle.play_report.specs.Causes.{AcrossSink};
 
 use crate::lines::write_lines;
-use crate::status::Status;
 use load_gen::generate;
 use play_report::Sink;
+use play_run::Status;
 use std::alloc::Global;
 
 /// Writes the generated script of this number, with so many lines a warehouse, each line as one piece.

@@ -1,14 +1,13 @@
 //! The command `schedule`: checks the schedule of the source.
 ghost use Rattle.std.specs.Prelude.{IfSome};
 ghost use Rattle.schedule_check.specs.Telling.{IsScheduleAnswer};
-ghost use Rattle.play_words.specs.Ending.{CommandEnds, TextEnds, number_of_status};
-ghost use Rattle.play_words.specs.Promise.{HasItsText, OfSource};
-ghost use Rattle.play_words.specs.Reading.{IsSpent, TakesAtMost};
+ghost use Rattle.play_run.specs.Ending.{CommandEnds, TextEnds, number_of_status};
+ghost use Rattle.play_run.specs.Promise.{HasItsText, OfSource};
+ghost use Rattle.play_run.specs.Reading.{IsSpent, TakesAtMost};
 ghost use Rattle.play_report.specs.Causes.{AcrossSink};
 
-use crate::source::{SCHEDULE, Unread, read_source};
-use crate::status::Status;
 use play_report::{Sink, Source};
+use play_run::{SCHEDULE, Status, Unread, read_source};
 use schedule_check::{Told, Untold, tell_schedule};
 use std::alloc::Global;
 

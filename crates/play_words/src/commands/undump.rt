@@ -1,15 +1,14 @@
 //! The command `undump`: writes the records of the source's dump.
 ghost use Rattle.std.specs.Prelude.{IfSome};
 ghost use Rattle.play_words.specs.Undumping.{IsUndumpAnswer};
-ghost use Rattle.play_words.specs.Ending.{CommandEnds, TextEnds, number_of_status};
-ghost use Rattle.play_words.specs.Promise.{HasItsText, OfSource};
-ghost use Rattle.play_words.specs.Reading.{IsSpent, TakesAtMost};
+ghost use Rattle.play_run.specs.Ending.{CommandEnds, TextEnds, number_of_status};
+ghost use Rattle.play_run.specs.Promise.{HasItsText, OfSource};
+ghost use Rattle.play_run.specs.Reading.{IsSpent, TakesAtMost};
 ghost use Rattle.play_report.specs.Causes.{AcrossSink};
 
-use crate::source::{DUMP, Unread, read_source};
-use crate::status::Status;
 use heap_dump::{read_dump, write_dump_fault, write_undump};
 use play_report::{Sink, Source};
+use play_run::{DUMP, Status, Unread, read_source};
 use std::alloc::Global;
 
 /// Writes the records of a dump, or its fault.

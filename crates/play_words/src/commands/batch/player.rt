@@ -1,12 +1,11 @@
 //! Plays a job of a batch: its script, as `run` plays one, with the text in memory.
 ghost use Rattle.play_contract.specs.Playing.{AreInRange};
 
-use crate::commands::run::play_bytes;
-use crate::status::Status;
 use gc_play::OpenGate;
 use job_pool::{Job, Player, Text};
 use play_contract::Options;
 use play_report::{Failed, Sink};
+use play_run::{Status, play_bytes};
 use std::alloc::Global;
 use std::sync::Wait;
 use std::thread::Threads;

@@ -2,9 +2,9 @@ use Rattle.gc_script.specs.Convert.{convert}
 use Rattle.gc_script.specs.Converting.{conversion_of}
 use Rattle.gc_script.specs.Shown.{fault_of}
 use Rattle.play_words.specs.Converting.{IsConvertAnswer}
-use Rattle.play_words.specs.Ending.{IsFaultAnswer}
-use Rattle.play_words.proofs.Ends.{text_ends, other_ends}
-use Rattle.play_words.proofs.Faulted.{conversion_fault, conversion_done}
+use Rattle.play_run.specs.Ending.{IsFaultAnswer}
+use Rattle.play_run.proofs.Ends.{text_ends, other_ends}
+use Rattle.play_words.proofs.Converted.{conversion_fault, conversion_done}
 use Rattle.play_words.proofs.commands.convert.convert_bytes.Goals as goal
 
 pub returns-in-Err : goal.returns-in-Err

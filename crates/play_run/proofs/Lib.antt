@@ -1,0 +1,5 @@
+pub mod Ends
+pub mod Taking
+pub mod Plays
+pub mod Faulted
+pub mod Asking

@@ -1,0 +1,5 @@
+pub mod Promise
+pub mod RunAnswers
+pub mod Ending
+pub mod Reading
+pub mod Given
