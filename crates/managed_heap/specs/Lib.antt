@@ -8,3 +8,4 @@ pub mod Sizing
 pub mod Stepping
 pub mod Tracing
 pub mod Trying
+pub mod Waiting

@@ -1,10 +1,11 @@
-//! What a stepper is asked of its variables.
+//! What a stepper is asked of its variables, and of the stop that it waits for.
 ghost use Rattle.std.specs.Prelude.{◌≡◌, IfErr, IfOk, IsFalse, IsTrue};
 ghost use Rattle.plain_heap.specs.PlainHeap.{variable};
 ghost use Rattle.plain_heap.specs.declared.object.Ref.TheVariants.{Nil};
 ghost use Rattle.plain_heap.specs.declared.operation.Op.TheVariants as ops;
 ghost use Rattle.managed_heap.specs.Asking.{DeclinesToTell, MayAsk};
 ghost use Rattle.managed_heap.specs.Stepping.{heap_of_stepper};
+ghost use Rattle.managed_heap.specs.Waiting.{is_stopping_at};
 
 use crate::stepper::{Came, Stage, Stepper};
 use mark_core::VARIABLES;
@@ -42,6 +43,16 @@ impl Stepper {
             Stage::Outside => Err(Came::Outside),
             Stage::Inside => Ok(refer_to_one(&self.heap, &self.seat, v, w)),
             _ => Err(Came::Collecting),
+        }
+    }
+
+    /// Whether it has asked for a stop, to collect, and others may be inside still: then its next step may do nothing, and its thread may rest before it.
+    pub fn is_stopping(&self) -> bool
+        ensures stopping { result ≡ is_stopping_at self.now.stage }
+    {
+        match self.stage {
+            Stage::Stopping => true,
+            _ => false,
         }
     }
 }
