@@ -19,7 +19,7 @@ int main(int count_of, char **words) {
     MUST(mh_enter(&m));
     from = lap = now();
     for (k = 0; k < many; k++) {
-        MUST(k % 64 ? mh_alloc(&m, NEW, (uint32_t)k) : timed_alloc(&pause, &m, NEW, (uint32_t)k));
+        MUST(k % 64 ? mh_make(&m, NEW, (uint32_t)k) : timed_make(&pause, &m, NEW, (uint32_t)k));
         if (k == 0) MUST(mh_copy(&m, FIRST, NEW));
         else MUST(mh_set(&m, LAST, 0, NEW));
         MUST(mh_copy(&m, LAST, NEW));

@@ -16,33 +16,34 @@ struct marker { mh_tracer t; uint64_t marked, idle; };
 /* Marks turn by turn, as mh_trace does, and counts the turns in which a cycle was marking, and those in which none was. */
 static void *mark(void *p) {
     struct marker *r = p;
+    uint32_t rests = 0;
     mh_status s;
     while ((s = mh_trace_turn(&r->t)) == MH_OK || s == MH_IDLE || s == MH_STOPPED) {
         r->marked += s == MH_OK;
         r->idle += s == MH_IDLE;
-        mh_rest(s);
+        mh_rest_turn(s, &rests);
     }
     must(s, MH_DISMISSED, "mh_trace_turn", __FILE__, __LINE__);
     return 0;
 }
 
 /* A tree of this depth in variable v, made from the top; variables above v are used. */
-static void build(struct job *j, uint8_t v, uint32_t depth) {
-    MUST(timed_alloc(&j->pause, &j->m, v, depth));
+static void build(struct job *j, uint32_t v, uint32_t depth) {
+    MUST(timed_make(&j->pause, &j->m, v, depth));
     j->made++;
     if (!depth) return;
-    build(j, (uint8_t)(v + 1), depth - 1);
-    MUST(mh_set(&j->m, v, 0, (uint8_t)(v + 1)));
-    build(j, (uint8_t)(v + 1), depth - 1);
-    MUST(mh_set(&j->m, v, 1, (uint8_t)(v + 1)));
-    MUST(mh_forget(&j->m, (uint8_t)(v + 1)));
+    build(j, v + 1, depth - 1);
+    MUST(mh_set(&j->m, v, 0, v + 1));
+    build(j, v + 1, depth - 1);
+    MUST(mh_set(&j->m, v, 1, v + 1));
+    MUST(mh_forget(&j->m, v + 1));
 }
 
 /* How many objects the tree in variable v has. Each has its depth as its value. */
-static uint64_t count(struct job *j, uint8_t v, uint32_t depth) {
+static uint64_t count(struct job *j, uint32_t v, uint32_t depth) {
     uint32_t value = 0, nil = 0;
     uint64_t n = 1;
-    uint8_t i, w = (uint8_t)(v + 1);
+    uint32_t i, w = v + 1;
     MUST(mh_value(&j->m, v, &value));
     wrong("depth", value, depth);
     for (i = 0; i < 2; i++) {
@@ -56,7 +57,7 @@ static uint64_t count(struct job *j, uint8_t v, uint32_t depth) {
     return n;
 }
 
-static void one(struct job *j, uint8_t v, uint32_t depth) {
+static void one(struct job *j, uint32_t v, uint32_t depth) {
     build(j, v, depth);
     wrong("objects of a tree", count(j, v, depth), (2ull << depth) - 1);
     MUST(mh_forget(&j->m, v));
@@ -107,7 +108,7 @@ int main(int count_of, char **words) {
     MUST(mh_dismiss(&world));
     for (k = 0; k < tracers; k++) {
         pthread_join(marking[k], 0);
-        MUST_BE(MH_IN_USE, mh_close(&world));
+        MUST_BE(MH_STILL_LENT, mh_close(&world));
         MUST(mh_give_back_tracer(&world, &markers[k].t));
         marked += markers[k].marked; idle += markers[k].idle;
     }

@@ -7,7 +7,7 @@
 #include "heap.h"
 #include <string.h>
 
-enum { FIELDS = 3, OBJECTS = 500, VARIABLES = 32, FOUND = 31, NEXT = 30, STATUSES = 17, TRACERS = 8 };
+enum { FIELDS = 3, OBJECTS = 500, VARIABLES = 32, FOUND = 31, NEXT = 30, STATUSES = 19, TRACERS = 8 };
 enum place { OUTSIDE, INSIDE, COLLECTING };
 
 struct shadow {
@@ -35,8 +35,18 @@ static uint32_t random_below(struct job *j, uint32_t n) {
     return (uint32_t)(j->seed >> 32) % n;
 }
 
-static uint8_t some_variable(struct job *j) { return (uint8_t)random_below(j, random_below(j, 8) ? NEXT : 256); }
-static uint8_t some_field(struct job *j) { return (uint8_t)random_below(j, random_below(j, 8) ? FIELDS : 256); }
+/* A number below this, or now and then any: one of a byte, one that has the number in its lowest byte, or one of 32 bits. */
+static uint32_t some_number(struct job *j, uint32_t below) {
+    switch (random_below(j, 24)) {
+    case 0: return random_below(j, 256);
+    case 1: return (1 + random_below(j, 0xffffff)) << 8 | random_below(j, below);
+    case 2: return random_below(j, 0xffffffff) + random_below(j, 2);
+    default: return random_below(j, below);
+    }
+}
+
+static uint32_t some_variable(struct job *j) { return some_number(j, NEXT); }
+static uint32_t some_field(struct job *j) { return some_number(j, FIELDS); }
 
 /* The shadow's own collection: how many objects are reachable, each marked with this round. What is found is listed in waiting. */
 static uint32_t reach(struct job *j) {
@@ -69,11 +79,11 @@ static int32_t unreached(struct job *j) {
 /* FOUND becomes the object, by the way on which the shadow was found. */
 static void follow(struct job *j, int32_t o) {
     if (j->of[o].from < 0) {
-        MUST(mh_copy(&j->m, FOUND, (uint8_t)j->of[o].by));
+        MUST(mh_copy(&j->m, FOUND, (uint32_t)j->of[o].by));
         return;
     }
     follow(j, j->of[o].from);
-    MUST(mh_get(&j->m, FOUND, FOUND, (uint8_t)j->of[o].by));
+    MUST(mh_get(&j->m, FOUND, FOUND, (uint32_t)j->of[o].by));
 }
 
 /* Each reachable object is as its shadow. */
@@ -87,17 +97,17 @@ static void compare(struct job *j) {
         MUST(mh_value(&j->m, FOUND, &value));
         wrong("a value", value, j->of[o].value);
         for (k = 0; k < FIELDS; k++) {
-            MUST(mh_get(&j->m, NEXT, FOUND, (uint8_t)k));
+            MUST(mh_get(&j->m, NEXT, FOUND, (uint32_t)k));
             MUST(mh_is_nil(&j->m, NEXT, &nil));
             wrong("whether a field is nil", nil, j->of[o].field[k] < 0);
         }
         k = random_below(j, NEXT);
-        MUST(mh_same(&j->m, FOUND, (uint8_t)k, &one));
+        MUST(mh_same(&j->m, FOUND, (uint32_t)k, &one));
         wrong("whether two variables refer to one object", one, j->variable[k] == o);
         if (j->variable[k] < 0) continue;
         /* A value that is put into the object that was found is read by the variable where it refers to that object, and else not. */
         MUST(mh_put(&j->m, FOUND, 1u << 31));
-        MUST(mh_value(&j->m, (uint8_t)k, &value));
+        MUST(mh_value(&j->m, (uint32_t)k, &value));
         wrong("what is read by another variable", value, j->variable[k] == o ? 1u << 31 : j->of[j->variable[k]].value);
         MUST(mh_put(&j->m, FOUND, j->of[o].value));
     }
@@ -119,6 +129,9 @@ static mh_status expected(struct job *j, int in_range) {
     return j->place == OUTSIDE ? MH_OUTSIDE : j->place == COLLECTING ? MH_COLLECTING : MH_OK;
 }
 
+/* The same of an operation that wants an object, where the variable's is this one. */
+static mh_status unless_nil(mh_status s, int32_t o) { return s == MH_OK && o < 0 ? MH_NIL : s; }
+
 #define SAYS(wanted, call) must(told(j, (call)), (wanted), #call, __FILE__, __LINE__)
 
 static void come_in(struct job *j) {
@@ -136,36 +149,36 @@ static void come_in(struct job *j) {
 }
 
 static void make(struct job *j) {
-    uint8_t v = some_variable(j);
+    uint32_t v = some_variable(j);
     uint32_t value = random_below(j, 1u << 30);
     mh_status wanted = expected(j, v < VARIABLES), s;
     int32_t o;
-    if (wanted != MH_OK) { SAYS(wanted, mh_make(&j->m, v, value)); return; }
+    if (wanted != MH_OK) { SAYS(wanted, mh_make_step(&j->m, v, value)); return; }
     while ((o = unreached(j)) < 0) {
-        uint8_t w = (uint8_t)random_below(j, VARIABLES);
+        uint32_t w = random_below(j, VARIABLES);
         SAYS(MH_OK, mh_forget(&j->m, w));
         j->variable[w] = -1;
     }
-    s = told(j, mh_make(&j->m, v, value));
+    s = told(j, mh_make_step(&j->m, v, value));
     if (s == MH_STOPPED) { j->place = OUTSIDE; return; }
     if (s == MH_NO_CELL) return;
-    must(s, MH_OK, "mh_make", __FILE__, __LINE__);
+    must(s, MH_OK, "mh_make_step", __FILE__, __LINE__);
     j->of[o].value = value;
     j->of[o].field[0] = j->of[o].field[1] = j->of[o].field[2] = -1;
     j->variable[v] = o;
 }
 
 static void operate(struct job *j, uint32_t which) {
-    uint8_t v = some_variable(j), w = some_variable(j), i = some_field(j);
+    uint32_t v = some_variable(j), w = some_variable(j), i = some_field(j);
     uint32_t out = 77, value = random_below(j, 1u << 30);
     int one = v < VARIABLES, two = one && w < VARIABLES, three = two && i < FIELDS;
     int32_t o = one ? j->variable[v] : -1;
     mh_status wanted;
     switch (which) {
     case 0:
-        wanted = expected(j, three);
+        wanted = unless_nil(expected(j, three), o);
         SAYS(wanted, mh_set(&j->m, v, i, w));
-        if (wanted == MH_OK && o >= 0) j->of[o].field[i] = j->variable[w];
+        if (wanted == MH_OK) j->of[o].field[i] = j->variable[w];
         return;
     case 1:
         wanted = expected(j, three);
@@ -183,13 +196,12 @@ static void operate(struct job *j, uint32_t which) {
         if (wanted == MH_OK) j->variable[v] = -1;
         return;
     case 4:
-        wanted = expected(j, one);
+        wanted = unless_nil(expected(j, one), o);
         SAYS(wanted, mh_put(&j->m, v, value));
-        if (wanted == MH_OK && o >= 0) j->of[o].value = value;
+        if (wanted == MH_OK) j->of[o].value = value;
         return;
     case 5:
-        wanted = expected(j, one);
-        if (wanted == MH_OK && o < 0) wanted = MH_NIL;
+        wanted = unless_nil(expected(j, one), o);
         SAYS(wanted, mh_value(&j->m, v, &out));
         wrong("what mh_value wrote", out, wanted == MH_OK ? j->of[o].value : 77);
         return;
@@ -206,7 +218,10 @@ static void operate(struct job *j, uint32_t which) {
 }
 
 static void move(struct job *j, uint32_t which) {
+    uint32_t stopping = 77;
     mh_status s;
+    SAYS(MH_OK, mh_is_stopping(&j->m, &stopping));
+    if (j->place != COLLECTING || stopping > 1) wrong("whether it waits for a stop", stopping, 0);
     switch (which) {
     case 0:
         s = told(j, mh_enter_step(&j->m));
@@ -220,10 +235,10 @@ static void move(struct job *j, uint32_t which) {
         if (j->place == INSIDE) j->place = OUTSIDE;
         return;
     case 2:
-        s = told(j, mh_pass(&j->m));
-        if (j->place != INSIDE) must(s, expected(j, 1), "mh_pass", __FILE__, __LINE__);
+        s = told(j, mh_safe_point_step(&j->m));
+        if (j->place != INSIDE) must(s, expected(j, 1), "mh_safe_point_step", __FILE__, __LINE__);
         else if (s == MH_STOPPED) j->place = OUTSIDE;
-        else must(s, MH_OK, "mh_pass", __FILE__, __LINE__);
+        else must(s, MH_OK, "mh_safe_point_step", __FILE__, __LINE__);
         return;
     case 3:
         SAYS(MH_OUT_OF_RANGE, mh_collect_step(&j->m, 0));
@@ -240,15 +255,15 @@ static void move(struct job *j, uint32_t which) {
 /* A handle that was given back, or was never taken. */
 static void use_gone(struct job *j, uint32_t which) {
     uint32_t out = 77;
-    uint8_t v = some_variable(j), w = some_variable(j), i = some_field(j);
+    uint32_t v = some_variable(j), w = some_variable(j), i = some_field(j);
     mh_mutator *g = &j->gone;
     switch (which) {
     case 0: SAYS(MH_GIVEN_BACK, mh_set(g, v, i, w)); break;
     case 1: SAYS(MH_GIVEN_BACK, mh_get(g, w, v, i)); break;
-    case 2: SAYS(MH_GIVEN_BACK, mh_make(g, v, 1)); break;
+    case 2: SAYS(MH_GIVEN_BACK, mh_make_step(g, v, 1)); break;
     case 3: SAYS(MH_GIVEN_BACK, mh_enter_step(g)); break;
     case 4: SAYS(MH_GIVEN_BACK, mh_leave(g)); break;
-    case 5: SAYS(MH_GIVEN_BACK, mh_pass(g)); break;
+    case 5: SAYS(MH_GIVEN_BACK, mh_safe_point_step(g)); break;
     case 6: SAYS(MH_GIVEN_BACK, mh_collect_step(g, 1)); break;
     case 7: SAYS(MH_GIVEN_BACK, mh_value(g, v, &out)); break;
     case 8: SAYS(MH_GIVEN_BACK, mh_copy(g, v, w)); break;
@@ -256,6 +271,7 @@ static void use_gone(struct job *j, uint32_t which) {
     case 10: SAYS(MH_GIVEN_BACK, mh_is_nil(g, v, &out)); break;
     case 11: SAYS(MH_GIVEN_BACK, mh_same(g, v, w, &out)); break;
     case 12: SAYS(MH_GIVEN_BACK, mh_trace_turn(&j->none)); break;
+    case 14: SAYS(MH_GIVEN_BACK, mh_is_stopping(g, &out)); break;
     case 13: SAYS(MH_GIVEN_BACK, mh_give_back_tracer(&world, &j->none)); break;
     default: SAYS(MH_GIVEN_BACK, mh_forget(g, v));
     }
@@ -275,9 +291,9 @@ static void lend_tracer(struct job *j) {
     mh_tracer empty = {0};
     pthread_mutex_lock(&lending);
     if (j->t.at) {
-        SAYS(MH_IN_USE, mh_take_tracer(&world, &j->t));
+        SAYS(MH_TAKEN, mh_take_tracer(&world, &j->t));
         SAYS(MH_NONE_LEFT, mh_take_tracer(&world, &empty));
-        SAYS(MH_IN_USE, mh_close(&world));
+        SAYS(MH_STILL_LENT, mh_close(&world));
         SAYS(MH_OK, mh_give_back_tracer(&world, &j->t));
         SAYS(MH_GIVEN_BACK, mh_give_back_tracer(&world, &j->t));
         SAYS(MH_OK, mh_take_tracer(&world, &j->t));
@@ -289,9 +305,9 @@ static void lend_tracer(struct job *j) {
 static void lend(struct job *j) {
     mh_mutator empty = {0};
     pthread_mutex_lock(&lending);
-    SAYS(MH_IN_USE, mh_take_mutator(&world, &j->m));
+    SAYS(MH_TAKEN, mh_take_mutator(&world, &j->m));
     SAYS(MH_NONE_LEFT, mh_take_mutator(&world, &empty));
-    SAYS(MH_IN_USE, mh_close(&world));
+    SAYS(MH_STILL_LENT, mh_close(&world));
     if (j->place == COLLECTING) {
         SAYS(MH_COLLECTING, mh_give_back(&world, &j->m));
     } else {
@@ -316,10 +332,10 @@ static void *work(void *p) {
         if (which < 30) make(j);
         else if (which < 50) operate(j, 0);
         else if (which < 80) operate(j, which % 8 == 3 && which % 16 == 3 ? 0 : which % 8);
-        else if (which < 82) move(j, which % 2 + 3 * !random_below(j, 8));
+        else if (which < 82) move(j, which % 2 + (random_below(j, 8) ? 0 : 3));
         else if (which < 92) move(j, 2);
         else if (which < 96) move(j, j->place == INSIDE ? 2 : which % 4 + (which % 4 == 3));
-        else if (which < 99) use_gone(j, random_below(j, 15));
+        else if (which < 99) use_gone(j, random_below(j, 16));
         else if (!random_below(j, 20)) lend(j);
         else if (!random_below(j, 20)) lend_tracer(j);
         if (j->calls >= next) {

@@ -11,14 +11,14 @@ static mh_mutator m;
 static struct pause pause_;
 static uint64_t made;
 
-static void object(uint8_t v, uint32_t value) {
-    MUST(timed_alloc(&pause_, &m, v, value));
+static void object(uint32_t v, uint32_t value) {
+    MUST(timed_make(&pause_, &m, v, value));
     made++;
 }
 
 /* From the top: the object in v gets two trees of this depth below it. */
-static void populate(uint32_t depth, uint8_t v) {
-    uint8_t w = (uint8_t)(v + 1), i;
+static void populate(uint32_t depth, uint32_t v) {
+    uint32_t w = v + 1, i;
     if (!depth) return;
     for (i = 0; i < 2; i++) {
         object(w, depth);
@@ -32,9 +32,9 @@ static void populate(uint32_t depth, uint8_t v) {
 }
 
 /* From the bottom: the two trees below are made first, in v and in the variable after it, and the object above takes them. */
-static void make_tree(uint32_t depth, uint8_t v) {
+static void make_tree(uint32_t depth, uint32_t v) {
     if (depth) {
-        uint8_t w = (uint8_t)(v + 1);
+        uint32_t w = v + 1;
         make_tree(depth - 1, v);
         make_tree(depth - 1, w);
         object(ABOVE, depth);
@@ -48,8 +48,8 @@ static void make_tree(uint32_t depth, uint8_t v) {
     }
 }
 
-static uint64_t size(uint8_t v) {
-    uint8_t w = (uint8_t)(v + 1), i;
+static uint64_t size(uint32_t v) {
+    uint32_t w = v + 1, i;
     uint64_t n = 1;
     uint32_t nil = 0;
     for (i = 0; i < 2; i++) {
@@ -63,8 +63,8 @@ static uint64_t size(uint8_t v) {
 }
 
 /* A table of 2^bits entries in v, each with its number times a factor. */
-static void fill(uint8_t v, uint32_t bits, uint32_t number_of, uint32_t factor) {
-    uint8_t w = (uint8_t)(v + 1), i;
+static void fill(uint32_t v, uint32_t bits, uint32_t number_of, uint32_t factor) {
+    uint32_t w = v + 1, i;
     object(v, number_of * factor);
     if (!bits) return;
     for (i = 0; i < 2; i++) {
@@ -74,10 +74,10 @@ static void fill(uint8_t v, uint32_t bits, uint32_t number_of, uint32_t factor) 
     MUST(mh_forget(&m, w));
 }
 
-static uint32_t entry(uint8_t v, uint32_t bits, uint32_t number_of) {
+static uint32_t entry(uint32_t v, uint32_t bits, uint32_t number_of) {
     uint32_t value = 0, b;
     MUST(mh_copy(&m, ENTRY, v));
-    for (b = bits; b-- > 0;) MUST(mh_get(&m, ENTRY, ENTRY, (uint8_t)((number_of >> b) & 1)));
+    for (b = bits; b-- > 0;) MUST(mh_get(&m, ENTRY, ENTRY, (uint32_t)((number_of >> b) & 1)));
     MUST(mh_value(&m, ENTRY, &value));
     MUST(mh_forget(&m, ENTRY));
     return value;

@@ -55,9 +55,9 @@ static inline double processor(void) {
 /* The longest time that one call took, in seconds: what a thread waited for the collector. */
 struct pause { double longest; };
 
-static inline mh_status timed_alloc(struct pause *p, mh_mutator *m, uint8_t v, uint32_t value) {
+static inline mh_status timed_make(struct pause *p, mh_mutator *m, uint32_t v, uint32_t value) {
     double from = now(), took;
-    mh_status s = mh_alloc(m, v, value);
+    mh_status s = mh_make(m, v, value);
     took = now() - from;
     if (took > p->longest) p->longest = took;
     return s;

@@ -11,7 +11,7 @@
 
 typedef enum mh_status {
     MH_OK, MH_NOT_YET, MH_STOPPED, MH_NO_CELL, MH_OUTSIDE, MH_COLLECTING, MH_OUT_OF_RANGE, MH_NIL, MH_FULL, MH_SPENT, MH_OUT_OF_MEMORY, MH_GIVEN_BACK,
-    MH_IN_USE, MH_NONE_LEFT, MH_REFUSED, MH_IDLE, MH_DISMISSED
+    MH_IN_USE, MH_NONE_LEFT, MH_REFUSED, MH_IDLE, MH_DISMISSED, MH_STILL_LENT, MH_TAKEN
 } mh_status;
 
 typedef struct mh_sizes { uint32_t cells, fields, mutators, name, tracers; } mh_sizes;
@@ -31,7 +31,7 @@ static inline mh_status mh_open(const mh_sizes *sizes, mh_world *w) {
 static inline mh_status mh_take_mutator(mh_world *w, mh_mutator *m) {
     uint32_t k;
     if (!w->at) return MH_GIVEN_BACK;
-    if (m->at) return MH_IN_USE;
+    if (m->at) return MH_TAKEN;
     if (w->taken == w->sizes.mutators) return MH_NONE_LEFT;
     w->taken++; m->at = w; m->inside = 0; m->fields = w->sizes.fields;
     for (k = 0; k < 32; k++) m->v[k] = 0;
@@ -50,7 +50,7 @@ static inline mh_status mh_statistics(mh_world *w, mh_numbers *n) {
 }
 static inline mh_status mh_close(mh_world *w) {
     if (!w->at) return MH_GIVEN_BACK;
-    if (w->taken) return MH_IN_USE;
+    if (w->taken) return MH_STILL_LENT;
     w->at = 0;
     return MH_OK;
 }
@@ -61,7 +61,7 @@ static inline mh_status mh_enter(mh_mutator *m) { if (!m->at) return MH_GIVEN_BA
 static inline mh_status mh_leave(mh_mutator *m) { if (!m->at) return MH_GIVEN_BACK; m->inside = 0; return MH_OK; }
 static inline mh_status mh_safe_point(mh_mutator *m) { MH_AT(m, 1); return MH_OK; }
 static inline mh_status mh_collect(mh_mutator *m) { MH_AT(m, 1); GC_gcollect(); return MH_OK; }
-static inline mh_status mh_alloc(mh_mutator *m, uint8_t v, uint32_t value) {
+static inline mh_status mh_make(mh_mutator *m, uint32_t v, uint32_t value) {
     struct mh_block *b;
     MH_AT(m, v < 32);
     b = GC_MALLOC(sizeof(struct mh_block) + m->fields * sizeof(void *));
@@ -69,27 +69,33 @@ static inline mh_status mh_alloc(mh_mutator *m, uint8_t v, uint32_t value) {
     b->value = value; m->v[v] = b;
     return MH_OK;
 }
-static inline mh_status mh_set(mh_mutator *m, uint8_t v, uint8_t i, uint8_t w) {
+static inline mh_status mh_set(mh_mutator *m, uint32_t v, uint32_t i, uint32_t w) {
     MH_AT(m, v < 32 && w < 32 && i < m->fields);
-    if (m->v[v]) m->v[v]->field[i] = m->v[w];
+    if (!m->v[v]) return MH_NIL;
+    m->v[v]->field[i] = m->v[w];
     return MH_OK;
 }
-static inline mh_status mh_get(mh_mutator *m, uint8_t w, uint8_t v, uint8_t i) {
+static inline mh_status mh_get(mh_mutator *m, uint32_t w, uint32_t v, uint32_t i) {
     MH_AT(m, v < 32 && w < 32 && i < m->fields);
     m->v[w] = m->v[v] ? m->v[v]->field[i] : 0;
     return MH_OK;
 }
-static inline mh_status mh_copy(mh_mutator *m, uint8_t w, uint8_t v) { MH_AT(m, v < 32 && w < 32); m->v[w] = m->v[v]; return MH_OK; }
-static inline mh_status mh_forget(mh_mutator *m, uint8_t v) { MH_AT(m, v < 32); m->v[v] = 0; return MH_OK; }
-static inline mh_status mh_put(mh_mutator *m, uint8_t v, uint32_t value) { MH_AT(m, v < 32); if (m->v[v]) m->v[v]->value = value; return MH_OK; }
-static inline mh_status mh_value(mh_mutator *m, uint8_t v, uint32_t *out) {
+static inline mh_status mh_copy(mh_mutator *m, uint32_t w, uint32_t v) { MH_AT(m, v < 32 && w < 32); m->v[w] = m->v[v]; return MH_OK; }
+static inline mh_status mh_forget(mh_mutator *m, uint32_t v) { MH_AT(m, v < 32); m->v[v] = 0; return MH_OK; }
+static inline mh_status mh_put(mh_mutator *m, uint32_t v, uint32_t value) {
+    MH_AT(m, v < 32);
+    if (!m->v[v]) return MH_NIL;
+    m->v[v]->value = value;
+    return MH_OK;
+}
+static inline mh_status mh_value(mh_mutator *m, uint32_t v, uint32_t *out) {
     MH_AT(m, v < 32);
     if (!m->v[v]) return MH_NIL;
     *out = (uint32_t)m->v[v]->value;
     return MH_OK;
 }
-static inline mh_status mh_is_nil(mh_mutator *m, uint8_t v, uint32_t *out) { MH_AT(m, v < 32); *out = !m->v[v]; return MH_OK; }
-static inline mh_status mh_same(mh_mutator *m, uint8_t v, uint8_t w, uint32_t *out) {
+static inline mh_status mh_is_nil(mh_mutator *m, uint32_t v, uint32_t *out) { MH_AT(m, v < 32); *out = !m->v[v]; return MH_OK; }
+static inline mh_status mh_same(mh_mutator *m, uint32_t v, uint32_t w, uint32_t *out) {
     MH_AT(m, v < 32 && w < 32);
     *out = m->v[v] == m->v[w];
     return MH_OK;
@@ -101,6 +107,6 @@ static inline mh_status mh_take_tracer(mh_world *w, mh_tracer *t) { (void)w; (vo
 static inline mh_status mh_give_back_tracer(mh_world *w, mh_tracer *t) { (void)w; (void)t; return MH_GIVEN_BACK; }
 static inline mh_status mh_trace_turn(mh_tracer *t) { (void)t; return MH_GIVEN_BACK; }
 static inline mh_status mh_dismiss(mh_world *w) { (void)w; return MH_OK; }
-static inline void mh_rest(mh_status s) { (void)s; }
+static inline void mh_rest_turn(mh_status s, uint32_t *count) { (void)s; (void)count; }
 
 #endif

@@ -21,13 +21,13 @@ static uint64_t made, rewritten;
 static uint32_t plus(uint32_t a, uint32_t b) { return (uint32_t)(((uint64_t)a + b) % prime); }
 static uint32_t times(uint32_t a, uint32_t b) { return (uint32_t)((uint64_t)a * b % prime); }
 
-static void object(uint8_t v, uint32_t kind, uint32_t number_of) {
-    MUST(timed_alloc(&pause_, &m, v, kind << 28 | number_of));
+static void object(uint32_t v, uint32_t kind, uint32_t number_of) {
+    MUST(timed_make(&pause_, &m, v, kind << 28 | number_of));
     made++;
 }
 
 /* v becomes a term of this kind with these parts. */
-static void term(uint8_t v, uint32_t kind, uint8_t left, uint8_t right) {
+static void term(uint32_t v, uint32_t kind, uint32_t left, uint32_t right) {
     object(SCRATCH, kind, 0);
     MUST(mh_set(&m, SCRATCH, 0, left));
     MUST(mh_set(&m, SCRATCH, 1, right));
@@ -35,22 +35,22 @@ static void term(uint8_t v, uint32_t kind, uint8_t left, uint8_t right) {
     MUST(mh_forget(&m, SCRATCH));
 }
 
-static void push(uint8_t v) { term(STACK, CELL, v, STACK); }
-static void pop(uint8_t v) {
+static void push(uint32_t v) { term(STACK, CELL, v, STACK); }
+static void pop(uint32_t v) {
     MUST(mh_get(&m, v, STACK, 0));
     MUST(mh_get(&m, STACK, STACK, 1));
 }
 
-static uint32_t kind_of(uint8_t v, uint32_t *number_of) {
+static uint32_t kind_of(uint32_t v, uint32_t *number_of) {
     uint32_t value = 0;
     MUST(mh_value(&m, v, &value));
     if (number_of) *number_of = value & 0xfffffffu;
     return value >> 28;
 }
 
-static int is_constant(uint8_t v, uint32_t *number_of) { return kind_of(v, number_of) == CONSTANT; }
+static int is_constant(uint32_t v, uint32_t *number_of) { return kind_of(v, number_of) == CONSTANT; }
 
-static void parts(uint8_t v, uint8_t left, uint8_t right) {
+static void parts(uint32_t v, uint32_t left, uint32_t right) {
     MUST(mh_get(&m, SCRATCH, v, 0));
     MUST(mh_get(&m, right, v, 1));
     MUST(mh_copy(&m, left, SCRATCH));
@@ -138,9 +138,9 @@ static void differentiate(void) {
 }
 
 /* The value of the term in v at x. */
-static uint32_t value_at(uint8_t v, uint32_t x) {
+static uint32_t value_at(uint32_t v, uint32_t x) {
     uint32_t number_of = 0, kind = kind_of(v, &number_of), a, b;
-    uint8_t w = (uint8_t)(v + 1);
+    uint32_t w = v + 1;
     if (kind == CONSTANT) return number_of;
     if (kind == VARIABLE) return x;
     MUST(mh_get(&m, w, v, 1));

@@ -5,17 +5,16 @@
 #     sh examples/c/run.sh             everything but the long run
 #     sh examples/c/run.sh --long      besides, 10^9 objects in 65,536 cells
 #
-# The library is first built by `rt lib` in crates/managed_heap_c, which proves it. LIBRARY names another archive, KIT the folder of the kit.
+# The library is the one that c/install.sh installs: it is proved and built where it isn't there. LIBRARY names another archive, KIT the folder of the kit.
 here=$(cd "$(dirname "$0")" && pwd)
 top=$(cd "$here/../.." && pwd)
-library=${LIBRARY:-$top/crates/managed_heap_c/out/libmanaged_heap_c.a}
-kit=${KIT:-/opt/rattle}
 work=$(mktemp -d)
 trap 'rm -rf "$work"' EXIT
 bad=0
-warnings="-std=c11 -D_GNU_SOURCE -Wall -Wextra -Werror"
+warnings="-std=c11 -D_GNU_SOURCE -Wall -Wextra -Wconversion -Werror"
+sh "$top/c/install.sh" "$work/prefix" || exit 1
+library="-I$work/prefix/include $work/prefix/lib/libmanaged_heap.a"
 libraries="$library"
-[ -f "$kit/c/liblibc_c.a" ] && libraries="$libraries $kit/c/liblibc_c.a"
 
 fail() {
     echo "WRONG: $*"
@@ -37,9 +36,7 @@ run() {
     timeout "$seconds" "$work/$program" "$@" || fail "$program $* ended with status $?"
 }
 
-[ -f "$library" ] || { echo "no $library: run 'rt lib' in crates/managed_heap_c first"; exit 1; }
-
-programs="binary_trees gcbench rewriter fuzz fills_up billion speed"
+programs="binary_trees gcbench rewriter fuzz fills_up edges billion speed"
 for name in $programs; do build "$name" "$name"; done
 
 echo "== trees on 1, 2, 4 threads beside 0, 1, 2 tracers, and terms"
@@ -52,7 +49,8 @@ run 300 binary_trees 16 1
 run 300 gcbench 16
 run 300 rewriter 7 20
 
-echo "== full heaps, and calls at random"
+echo "== full heaps, calls at the edge, and calls at random"
+run 60 edges
 for threads in 1 2 4; do run 120 fills_up $threads; done
 run 300 fuzz 1000000 1 1
 run 300 fuzz 1000000 4 3
@@ -75,30 +73,28 @@ then
     run 300 billion.boehm 20
     run 300 speed.boehm 10
     libraries="$library"
-    [ -f "$kit/c/liblibc_c.a" ] && libraries="$libraries $kit/c/liblibc_c.a"
 else
     echo "== no libgc here: the same over Boehm's collector is left out (Debian: libgc-dev)"
 fi
 
-if command -v rustc >"$work/log" 2>&1; then
+if command -v cargo >"$work/log" 2>&1; then
     echo "== from Rust"
-    links=""
-    for each in $libraries; do links="$links -C link-arg=$each"; done
-    rustc --edition 2021 -O -D warnings -o "$work/rust" "$here/rust_main.rs" $links -C link-arg=-lpthread && run 120 rust || fail "the Rust program"
+    MANAGED_HEAP_PREFIX=$work/prefix CARGO_TARGET_DIR=$work/target timeout 300 cargo run --offline --quiet --release --manifest-path "$top/rust/managed_heap/Cargo.toml" --example queues || fail "the Rust program"
 else
-    echo "== no rustc here: the program in Rust is left out"
+    echo "== no cargo here: the program in Rust is left out"
 fi
 
 for kind in address,undefined thread; do
     if echo 'int main(void) { return 0; }' | cc -fsanitize=$kind -o "$work/there" -x c - 2>"$work/log" && "$work/there"; then
         echo "== under -fsanitize=$kind"
-        for name in binary_trees gcbench rewriter fuzz fills_up; do build "$name" "$name.checked" -g -fsanitize=$kind -fno-sanitize-recover=all; done
+        for name in binary_trees gcbench rewriter fuzz fills_up edges; do build "$name" "$name.checked" -g -fsanitize=$kind -fno-sanitize-recover=all; done
         run 600 binary_trees.checked 10 2 1 16384
         run 600 gcbench.checked 10
         run 600 rewriter.checked 5 5
         run 600 fuzz.checked 1000000 1 4
         run 600 fuzz.checked 1000000 4 5
         run 600 fills_up.checked 4
+        run 600 edges.checked
     else
         echo "== no -fsanitize=$kind here"
     fi

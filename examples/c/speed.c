@@ -15,14 +15,14 @@ int main(int count_of, char **words) {
     MUST(mh_take_mutator(&world, &m));
     MUST(mh_enter(&m));
     from = now();
-    for (k = 0; k < many; k++) MUST(mh_alloc(&m, 0, (uint32_t)k));
+    for (k = 0; k < many; k++) MUST(mh_make(&m, 0, (uint32_t)k));
     tell("make", from, many);
-    MUST(mh_alloc(&m, 1, 5));
+    MUST(mh_make(&m, 1, 5));
     from = now();
-    for (k = 0; k < many; k++) MUST(mh_set(&m, 0, (uint8_t)(k & 1), 1));
+    for (k = 0; k < many; k++) MUST(mh_set(&m, 0, (uint32_t)(k & 1), 1));
     tell("set", from, many);
     from = now();
-    for (k = 0; k < many; k++) MUST(mh_get(&m, 2, 0, (uint8_t)(k & 1)));
+    for (k = 0; k < many; k++) MUST(mh_get(&m, 2, 0, (uint32_t)(k & 1)));
     tell("get", from, many);
     from = now();
     for (k = 0; k < many; k++) {
@@ -32,7 +32,7 @@ int main(int count_of, char **words) {
     tell("value", from, many);
     wrong("the sum", sum, (uint32_t)(5 * many));
     from = now();
-    for (k = 0; k < many; k++) MUST(mh_copy(&m, (uint8_t)(3 + (k & 7)), 2));
+    for (k = 0; k < many; k++) MUST(mh_copy(&m, (uint32_t)(3 + (k & 7)), 2));
     tell("copy", from, many);
     from = now();
     for (k = 0; k < many; k++) MUST(mh_safe_point(&m));

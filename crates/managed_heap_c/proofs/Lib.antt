@@ -1,4 +1,6 @@
 pub mod Answered
+pub mod Stored
 pub mod Tested
 pub mod Turned
 pub mod Values
+pub mod Widened

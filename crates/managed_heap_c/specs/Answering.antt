@@ -77,7 +77,7 @@ GivesOnce n w x s t = Gives n w x s t ⊎ ((n ≡ 12) × (x ≡ w) × (t ≡ s))
 abbrev pub ClosesWorld : ℕ → Option World → Option World → Type 0
 ClosesWorld n None y = (n ≡ 11) × (y ≡ None)
 ClosesWorld n (Some w) None = (n ≡ 0) × AreAllBack w
-ClosesWorld n (Some w) (Some x) = (n ≡ 12) × (x ≡ w) × (AreAllBack w → ⊥)
+ClosesWorld n (Some w) (Some x) = (n ≡ 17) × (x ≡ w) × (AreAllBack w → ⊥)
 
 -- the numbers that C has
 abbrev pub statistics_of : CNumbers → Statistics

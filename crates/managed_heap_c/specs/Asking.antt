@@ -5,6 +5,7 @@ use Rattle.plain_heap.specs.declared.object.Ref.TheVariants.{Nil}
 use Rattle.plain_heap.specs.declared.operation.Op.{Op}
 use Rattle.managed_heap.specs.Asking.{DeclinesToTell, MayAsk}
 use Rattle.managed_heap.specs.Stepping.{heap_of_stepper}
+use Rattle.managed_heap.specs.Waiting.{is_stopping_at}
 use Rattle.managed_heap.specs.declared.stepper.Came.{Came}
 use Rattle.managed_heap.specs.declared.stepper.Came.TheVariants as cames
 use Rattle.managed_heap.specs.declared.stepper.Stepper.{Stepper}
@@ -35,3 +36,7 @@ SaysWhether P n = ((n ≡ 1) × P) ⊎ ((n ≡ 0) × (P → ⊥))
 abbrev pub TestsTo : (Stepper → Type 0) → Op → ℕ → ℕ → Came → Stepper → Stepper → Type 0
 TestsTo P op before after cames.Done x y = SaysWhether (P x) after × MayAsk op x × (y ≡ x)
 TestsTo P op before after came x y = DeclinesToTell came op x × (y ≡ x) × (after ≡ before)
+
+-- it is written whether the mutator waits for a stop that it asked for; the mutator is as it was
+abbrev pub TellsStopping : ℕ → Came → Stepper → Stepper → Type 0
+TellsStopping after came x y = (came ≡ cames.Done) × (y ≡ x) × (after ≡ number_of_answer (is_stopping_at x.stage))

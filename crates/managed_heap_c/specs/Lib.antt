@@ -1,7 +1,9 @@
 pub mod Answering
 pub mod Asking
+pub mod Bytes
 pub mod Filled
 pub mod Lent
 pub mod Owned
+pub mod Storing
 pub mod Taking
 pub mod Tracers

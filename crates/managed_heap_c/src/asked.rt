@@ -1,11 +1,20 @@
 //! What the mutator behind a handle is asked of its variables.
+ghost use Rattle.std.specs.Prelude.{◌≡◌};
 ghost use Rattle.plain_heap.specs.declared.operation.Op.TheVariants as ops;
 ghost use Rattle.managed_heap_c.specs.Answering.{Answers, SparesGone};
-ghost use Rattle.managed_heap_c.specs.Asking.{IsNil, RefersToOne, TestsTo, WritesAnswer};
+ghost use Rattle.managed_heap_c.specs.Asking.{IsNil, RefersToOne, TellsStopping, TestsTo, WritesAnswer, number_of_answer};
 
+use crate::bytes::byte_of;
 use crate::hands::Hand;
-use crate::statuses::{GIVEN_BACK, status};
+use crate::statuses::{GIVEN_BACK, OK, status};
 use managed_heap::Came;
+
+/// An answer as C has it.
+fn number_of(told: bool) -> u32
+    ensures number { result ≡ number_of_answer told }
+{
+    if told { 1 } else { 0 }
+}
 
 /// Writes 1 where the answer is yes and 0 where it is no, and nothing where there is none.
 fn write_answer(answer: Result<bool, Came>, out: &mut u32) -> Came
@@ -13,7 +22,7 @@ fn write_answer(answer: Result<bool, Came>, out: &mut u32) -> Came
 {
     match answer {
         Ok(told) => {
-            *out = u32::from(told);
+            *out = number_of(told);
             Came::Done
         }
         Err(came) => came,
@@ -21,23 +30,44 @@ fn write_answer(answer: Result<bool, Came>, out: &mut u32) -> Came
 }
 
 /// Writes whether v refers to nothing.
-pub fn is_nil_by(hand: &mut Hand, v: u8, out: &mut u32) -> u32
+pub fn is_nil_by(hand: &mut Hand, v: u32, out: &mut u32) -> u32
     ensures answers { Answers (TestsTo (IsNil v) (ops.Say v) out.old out.new) result hand.old.stepper hand.new.stepper }
     ensures quiet { SparesGone hand.old.stepper out.old out.new }
 {
     match &mut hand.stepper {
         None => GIVEN_BACK,
-        Some(stepper) => status(write_answer(stepper.is_nil(v), out)),
+        Some(stepper) => {
+            let v = byte_of(v);
+            status(write_answer(stepper.is_nil(v), out))
+        }
     }
 }
 
 /// Writes whether v and w refer to one object, or both to nothing.
-pub fn same_by(hand: &mut Hand, v: u8, w: u8, out: &mut u32) -> u32
+pub fn same_by(hand: &mut Hand, v: u32, w: u32, out: &mut u32) -> u32
     ensures answers { Answers (TestsTo (RefersToOne v w) (ops.Let v w) out.old out.new) result hand.old.stepper hand.new.stepper }
     ensures quiet { SparesGone hand.old.stepper out.old out.new }
 {
     match &mut hand.stepper {
         None => GIVEN_BACK,
-        Some(stepper) => status(write_answer(stepper.same(v, w), out)),
+        Some(stepper) => {
+            let v = byte_of(v);
+            let w = byte_of(w);
+            status(write_answer(stepper.same(v, w), out))
+        }
+    }
+}
+
+/// Writes whether the mutator has asked for a stop and others may be inside still.
+pub fn stopping_by(hand: &mut Hand, out: &mut u32) -> u32
+    ensures answers { Answers (TellsStopping out.new) result hand.old.stepper hand.new.stepper }
+    ensures quiet { SparesGone hand.old.stepper out.old out.new }
+{
+    match &mut hand.stepper {
+        None => GIVEN_BACK,
+        Some(stepper) => {
+            *out = number_of(stepper.is_stopping());
+            OK
+        }
     }
 }

@@ -1,9 +1,9 @@
-//! Questions about variables, for programs in C.
+//! Questions about variables, and about a stop, for programs in C.
 ghost use Rattle.plain_heap.specs.declared.operation.Op.TheVariants as ops;
 ghost use Rattle.managed_heap_c.specs.Answering.{AnswersOnce};
-ghost use Rattle.managed_heap_c.specs.Asking.{IsNil, RefersToOne, TestsTo};
+ghost use Rattle.managed_heap_c.specs.Asking.{IsNil, RefersToOne, TellsStopping, TestsTo};
 
-use crate::asked::{is_nil_by, same_by};
+use crate::asked::{is_nil_by, same_by, stopping_by};
 use crate::handles::MutatorHandle;
 use crate::lending::lend_hand;
 use crate::statuses::IN_USE;
@@ -11,7 +11,7 @@ use crate::using::{begins, ends};
 
 /// Writes 1 where variable v refers to nothing, else 0.
 #[unsafe(no_mangle)]
-pub extern "C" fn mhl_is_nil(h: &mut MutatorHandle, v: u8, out: &mut u32) -> u32
+pub extern "C" fn mhl_is_nil(h: &mut MutatorHandle, v: u32, out: &mut u32) -> u32
     ensures answers { AnswersOnce (TestsTo (IsNil v) (ops.Say v) out.old out.new) result h.old.hand.stepper h.new.hand.stepper }
 {
     let hand = lend_hand(h);
@@ -25,7 +25,7 @@ pub extern "C" fn mhl_is_nil(h: &mut MutatorHandle, v: u8, out: &mut u32) -> u32
 
 /// Writes 1 where variables v and w refer to one object, or both to nothing, else 0.
 #[unsafe(no_mangle)]
-pub extern "C" fn mhl_same(h: &mut MutatorHandle, v: u8, w: u8, out: &mut u32) -> u32
+pub extern "C" fn mhl_same(h: &mut MutatorHandle, v: u32, w: u32, out: &mut u32) -> u32
     ensures answers { AnswersOnce (TestsTo (RefersToOne v w) (ops.Let v w) out.old out.new) result h.old.hand.stepper h.new.hand.stepper }
 {
     let hand = lend_hand(h);
@@ -33,6 +33,20 @@ pub extern "C" fn mhl_same(h: &mut MutatorHandle, v: u8, w: u8, out: &mut u32) -
         return IN_USE;
     }
     let answer = same_by(hand, v, w, out);
+    ends(hand);
+    answer
+}
+
+/// Writes 1 where the mutator has asked for a stop, to collect, and others may be inside still, else 0.
+#[unsafe(no_mangle)]
+pub extern "C" fn mhl_is_stopping(h: &mut MutatorHandle, out: &mut u32) -> u32
+    ensures answers { AnswersOnce (TellsStopping out.new) result h.old.hand.stepper h.new.hand.stepper }
+{
+    let hand = lend_hand(h);
+    if !begins(hand) {
+        return IN_USE;
+    }
+    let answer = stopping_by(hand, out);
     ends(hand);
     answer
 }

@@ -3,9 +3,12 @@ ghost use Rattle.plain_heap.specs.declared.operation.Op.TheVariants as ops;
 ghost use Rattle.managed_heap.specs.Bounds.{CollectsAtMost};
 ghost use Rattle.managed_heap.specs.Stepping.{Entered, Left, StepperMakes, Operates, Passed};
 ghost use Rattle.managed_heap_c.specs.Answering.{Answers, ReadsTo, SparesGone};
+ghost use Rattle.managed_heap_c.specs.Storing.{Stores};
 
+use crate::bytes::byte_of;
 use crate::hands::Hand;
 use crate::statuses::{GIVEN_BACK, status};
+use crate::storing::{put_in, set_in};
 
 /// One try to enter the world: the status of the mutator's call, as done, or a stop under way. `GIVEN_BACK` where the handle is empty.
 pub fn enter_by(hand: &mut Hand) -> u32
@@ -49,72 +52,98 @@ pub fn collect_by(hand: &mut Hand, most: u32) -> u32
 }
 
 /// Makes an object of this value in variable v, if a cell is free: the status of the mutator's call. `GIVEN_BACK` where the handle is empty.
-pub fn make_by(hand: &mut Hand, v: u8, value: u32) -> u32
+pub fn make_by(hand: &mut Hand, v: u32, value: u32) -> u32
     ensures answers { Answers (λ came. StepperMakes came (ops.New v value)) result hand.old.stepper hand.new.stepper }
 {
     match &mut hand.stepper {
         None => GIVEN_BACK,
-        Some(stepper) => status(stepper.make(v, value)),
+        Some(stepper) => {
+            let v = byte_of(v);
+            status(stepper.make(v, value))
+        }
     }
 }
 
 /// Field i of variable v's object becomes what variable w is: the status of the mutator's call. `GIVEN_BACK` where the handle is empty.
-pub fn set_by(hand: &mut Hand, v: u8, i: u8, w: u8) -> u32
-    ensures answers { Answers (λ came. Operates came (ops.Set v i w)) result hand.old.stepper hand.new.stepper }
+pub fn set_by(hand: &mut Hand, v: u32, i: u32, w: u32) -> u32
+    ensures answers { Answers (Stores v (ops.Set v i w)) result hand.old.stepper hand.new.stepper }
 {
     match &mut hand.stepper {
         None => GIVEN_BACK,
-        Some(stepper) => status(stepper.set(v, i, w)),
+        Some(stepper) => {
+            let v = byte_of(v);
+            let i = byte_of(i);
+            let w = byte_of(w);
+            status(set_in(stepper, v, i, w))
+        }
     }
 }
 
 /// Variable w becomes what field i of variable v's object is: the status of the mutator's call. `GIVEN_BACK` where the handle is empty.
-pub fn get_by(hand: &mut Hand, w: u8, v: u8, i: u8) -> u32
+pub fn get_by(hand: &mut Hand, w: u32, v: u32, i: u32) -> u32
     ensures answers { Answers (λ came. Operates came (ops.Get w v i)) result hand.old.stepper hand.new.stepper }
 {
     match &mut hand.stepper {
         None => GIVEN_BACK,
-        Some(stepper) => status(stepper.get(w, v, i)),
+        Some(stepper) => {
+            let w = byte_of(w);
+            let v = byte_of(v);
+            let i = byte_of(i);
+            status(stepper.get(w, v, i))
+        }
     }
 }
 
 /// Variable w becomes what variable v is: the status of the mutator's call. `GIVEN_BACK` where the handle is empty.
-pub fn copy_by(hand: &mut Hand, w: u8, v: u8) -> u32
+pub fn copy_by(hand: &mut Hand, w: u32, v: u32) -> u32
     ensures answers { Answers (λ came. Operates came (ops.Let w v)) result hand.old.stepper hand.new.stepper }
 {
     match &mut hand.stepper {
         None => GIVEN_BACK,
-        Some(stepper) => status(stepper.copy(w, v)),
+        Some(stepper) => {
+            let w = byte_of(w);
+            let v = byte_of(v);
+            status(stepper.copy(w, v))
+        }
     }
 }
 
 /// Variable v becomes nil: the status of the mutator's call. `GIVEN_BACK` where the handle is empty.
-pub fn forget_by(hand: &mut Hand, v: u8) -> u32
+pub fn forget_by(hand: &mut Hand, v: u32) -> u32
     ensures answers { Answers (λ came. Operates came (ops.Nil v)) result hand.old.stepper hand.new.stepper }
 {
     match &mut hand.stepper {
         None => GIVEN_BACK,
-        Some(stepper) => status(stepper.forget(v)),
+        Some(stepper) => {
+            let v = byte_of(v);
+            status(stepper.forget(v))
+        }
     }
 }
 
 /// The value of variable v's object becomes this one: the status of the mutator's call. `GIVEN_BACK` where the handle is empty.
-pub fn put_by(hand: &mut Hand, v: u8, value: u32) -> u32
-    ensures answers { Answers (λ came. Operates came (ops.Put v value)) result hand.old.stepper hand.new.stepper }
+pub fn put_by(hand: &mut Hand, v: u32, value: u32) -> u32
+    ensures answers { Answers (Stores v (ops.Put v value)) result hand.old.stepper hand.new.stepper }
 {
     match &mut hand.stepper {
         None => GIVEN_BACK,
-        Some(stepper) => status(stepper.put(v, value)),
+        Some(stepper) => {
+            let v = byte_of(v);
+            status(put_in(stepper, v, value))
+        }
     }
 }
 
 /// Writes the value of variable v's object, where the status of the mutator's call is done, and else nothing. `GIVEN_BACK` where the handle is empty.
-pub fn value_by(hand: &mut Hand, v: u8, out: &mut u32) -> u32
+pub fn value_by(hand: &mut Hand, v: u32, out: &mut u32) -> u32
     ensures answers { Answers (ReadsTo v out.old out.new) result hand.old.stepper hand.new.stepper }
     ensures quiet { SparesGone hand.old.stepper out.old out.new }
 {
     match &mut hand.stepper {
         None => GIVEN_BACK,
-        Some(stepper) => status(stepper.value(v, out)),
+        Some(stepper) => {
+            let v = byte_of(v);
+            status(stepper.value(v, out))
+        }
     }
 }

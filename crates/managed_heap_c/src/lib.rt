@@ -1,4 +1,4 @@
-//! The heap for programs in C: handles of worlds, mutators and tracers, whose calls answer a status (`examples/c/managed_heap.h`).
+//! The heap for programs in C: handles of worlds, mutators and tracers, whose calls answer a status (`c/include/managed_heap.h`).
 //!
 //! A handle is a struct of C that has the address of what lies behind it. C gives each handle to one call at a time; a word behind it refuses a second call
 //! beside the first, as long as the handle isn't given back meanwhile. Each export's contract says what its answer tells: `Answers` over the mutator before and
@@ -7,6 +7,7 @@
 
 mod asked;
 mod asking;
+mod bytes;
 mod calls;
 mod handles;
 mod hands;
@@ -14,6 +15,7 @@ mod lending;
 mod loose;
 mod slots;
 mod statuses;
+mod storing;
 mod tracers;
 mod tracing;
 mod using;
@@ -23,6 +25,8 @@ ghost use Rattle.plain_heap.specs.declared.operation.Op.TheVariants as ops;
 ghost use Rattle.managed_heap.specs.Bounds.{CollectsAtMost};
 ghost use Rattle.managed_heap.specs.Stepping.{Entered, Left, StepperMakes, Operates, Passed};
 ghost use Rattle.managed_heap_c.specs.Answering.{AnswersOnce, ClosesWorld, CountsWorld, GivesOnce, ReadsTo};
+ghost use Rattle.managed_heap_c.specs.Storing.{Stores};
+ghost use Rattle.managed_heap_c.specs.Storing.{Stores};
 ghost use Rattle.managed_heap_c.specs.Taking.{OpensWorld, TakesMutator};
 
 use calls::{
@@ -81,7 +85,7 @@ pub extern "C" fn mhl_pass(h: &mut MutatorHandle) -> u32
 
 /// Makes an object in variable v.
 #[unsafe(no_mangle)]
-pub extern "C" fn mhl_make(h: &mut MutatorHandle, v: u8, value: u32) -> u32
+pub extern "C" fn mhl_make(h: &mut MutatorHandle, v: u32, value: u32) -> u32
     ensures answers { AnswersOnce (λ came. StepperMakes came (ops.New v value)) result h.old.hand.stepper h.new.hand.stepper }
 {
     let hand = lend_hand(h);
@@ -93,10 +97,10 @@ pub extern "C" fn mhl_make(h: &mut MutatorHandle, v: u8, value: u32) -> u32
     answer
 }
 
-/// Field i of the object of v becomes w.
+/// Field i of the object of v becomes w, where v refers to one.
 #[unsafe(no_mangle)]
-pub extern "C" fn mhl_set(h: &mut MutatorHandle, v: u8, i: u8, w: u8) -> u32
-    ensures answers { AnswersOnce (λ came. Operates came (ops.Set v i w)) result h.old.hand.stepper h.new.hand.stepper }
+pub extern "C" fn mhl_set(h: &mut MutatorHandle, v: u32, i: u32, w: u32) -> u32
+    ensures answers { AnswersOnce (Stores v (ops.Set v i w)) result h.old.hand.stepper h.new.hand.stepper }
 {
     let hand = lend_hand(h);
     if !begins(hand) {
@@ -109,7 +113,7 @@ pub extern "C" fn mhl_set(h: &mut MutatorHandle, v: u8, i: u8, w: u8) -> u32
 
 /// Variable w becomes field i of the object of v.
 #[unsafe(no_mangle)]
-pub extern "C" fn mhl_get(h: &mut MutatorHandle, w: u8, v: u8, i: u8) -> u32
+pub extern "C" fn mhl_get(h: &mut MutatorHandle, w: u32, v: u32, i: u32) -> u32
     ensures answers { AnswersOnce (λ came. Operates came (ops.Get w v i)) result h.old.hand.stepper h.new.hand.stepper }
 {
     let hand = lend_hand(h);
@@ -123,7 +127,7 @@ pub extern "C" fn mhl_get(h: &mut MutatorHandle, w: u8, v: u8, i: u8) -> u32
 
 /// Variable w becomes v.
 #[unsafe(no_mangle)]
-pub extern "C" fn mhl_copy(h: &mut MutatorHandle, w: u8, v: u8) -> u32
+pub extern "C" fn mhl_copy(h: &mut MutatorHandle, w: u32, v: u32) -> u32
     ensures answers { AnswersOnce (λ came. Operates came (ops.Let w v)) result h.old.hand.stepper h.new.hand.stepper }
 {
     let hand = lend_hand(h);
@@ -137,7 +141,7 @@ pub extern "C" fn mhl_copy(h: &mut MutatorHandle, w: u8, v: u8) -> u32
 
 /// Variable v becomes nil.
 #[unsafe(no_mangle)]
-pub extern "C" fn mhl_forget(h: &mut MutatorHandle, v: u8) -> u32
+pub extern "C" fn mhl_forget(h: &mut MutatorHandle, v: u32) -> u32
     ensures answers { AnswersOnce (λ came. Operates came (ops.Nil v)) result h.old.hand.stepper h.new.hand.stepper }
 {
     let hand = lend_hand(h);
@@ -149,10 +153,10 @@ pub extern "C" fn mhl_forget(h: &mut MutatorHandle, v: u8) -> u32
     answer
 }
 
-/// The value of the object of v becomes this one.
+/// The value of the object of v becomes this one, where v refers to one.
 #[unsafe(no_mangle)]
-pub extern "C" fn mhl_put(h: &mut MutatorHandle, v: u8, value: u32) -> u32
-    ensures answers { AnswersOnce (λ came. Operates came (ops.Put v value)) result h.old.hand.stepper h.new.hand.stepper }
+pub extern "C" fn mhl_put(h: &mut MutatorHandle, v: u32, value: u32) -> u32
+    ensures answers { AnswersOnce (Stores v (ops.Put v value)) result h.old.hand.stepper h.new.hand.stepper }
 {
     let hand = lend_hand(h);
     if !begins(hand) {
@@ -165,7 +169,7 @@ pub extern "C" fn mhl_put(h: &mut MutatorHandle, v: u8, value: u32) -> u32
 
 /// Writes the value of the object of v.
 #[unsafe(no_mangle)]
-pub extern "C" fn mhl_value(h: &mut MutatorHandle, v: u8, out: &mut u32) -> u32
+pub extern "C" fn mhl_value(h: &mut MutatorHandle, v: u32, out: &mut u32) -> u32
     ensures answers { AnswersOnce (ReadsTo v out.old out.new) result h.old.hand.stepper h.new.hand.stepper }
 {
     let hand = lend_hand(h);

@@ -23,7 +23,7 @@ pub const OUT_OF_MEMORY: u32 = 10;
 /// The handle was given back.
 pub const GIVEN_BACK: u32 = 11;
 
-/// A call of another thread uses the handle, or not all handles are back.
+/// A call of another thread uses the handle.
 pub const IN_USE: u32 = 12;
 
 /// All mutators, or all tracers, are taken.
@@ -31,6 +31,9 @@ pub const NONE_LEFT: u32 = 13;
 
 /// The world doesn't take the mutator or the tracer back.
 pub const REFUSED: u32 = 14;
+
+/// Not all mutators and tracers are back.
+pub const STILL_LENT: u32 = 17;
 
 /// The number of what a mutator's call came to, 0 to 9, as the header has them.
 pub fn status(came: Came) -> u32

@@ -9,7 +9,7 @@ ghost use Rattle.managed_heap_c.specs.Taking.{HasNone, HoldsMutator, Lends, Open
 use crate::hands::{Hand, Whole};
 use crate::slots::{MutatorSlot, WorldSlot, hand_slot, whole_slot};
 use crate::statuses::{
-    COLLECTING, GIVEN_BACK, IN_USE, NONE_LEFT, OK, OUT_OF_MEMORY, OUT_OF_RANGE, REFUSED,
+    COLLECTING, GIVEN_BACK, NONE_LEFT, OK, OUT_OF_MEMORY, OUT_OF_RANGE, REFUSED, STILL_LENT,
 };
 use managed_heap::{Mutator, NotOpened, Sizes, Stepper, World};
 use std::alloc::{AllocError, Global};
@@ -162,7 +162,7 @@ pub fn give_by(whole: &mut Whole, hand: &mut Hand) -> u32
     }
 }
 
-/// Closes a world: done where all mutators and tracers are back, else `IN_USE`, or `GIVEN_BACK` where it was closed before.
+/// Closes a world: done where all mutators and tracers are back, else `STILL_LENT`, or `GIVEN_BACK` where it was closed before.
 pub fn close_by(whole: &mut Whole) -> u32
     ensures closes { ClosesWorld result whole.old.world whole.new.world }
 {
@@ -172,7 +172,7 @@ pub fn close_by(whole: &mut Whole) -> u32
             Ok(()) => OK,
             Err(world) => {
                 whole.world = Some(world);
-                IN_USE
+                STILL_LENT
             }
         },
     }

@@ -1,6 +1,6 @@
 use Rattle.std.proofs.Common.{ap, ◌∙◌}
 use Rattle.plain_heap.specs.declared.operation.Op.TheVariants as ops
-use Rattle.managed_heap.specs.Stepping.{Operates}
+use Rattle.managed_heap_c.specs.Storing.{Stores}
 use Rattle.managed_heap_c.specs.declared.hands.Hand.{Hand}
 use Rattle.managed_heap_c.proofs.Answered.{once}
 use Rattle.managed_heap_c.proofs.mhl_set.Goals as goal
@@ -9,7 +9,7 @@ pub returns : goal.returns
 returns c =
     record {
       answers =
-          once (λ came. Operates came (ops.Set c.args.v c.args.i c.args.w)) c.set_by-answer.result c.args.h.now.hand.stepper c.begins.new.hand.stepper c.set_by-answer.new.hand.stepper c.ends.new.hand.stepper
+          once (Stores c.args.v (ops.Set c.args.v c.args.i c.args.w)) c.set_by-answer.result c.args.h.now.hand.stepper c.begins.new.hand.stepper c.set_by-answer.new.hand.stepper c.ends.new.hand.stepper
           (c.begins.ensures.same ∙ ap (λ (h : Hand). h.stepper) c.lend_hand-hand.ensures.value)
           c.ends.ensures.same
           c.set_by-answer.ensures.answers;

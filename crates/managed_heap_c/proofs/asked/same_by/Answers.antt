@@ -1,13 +1,18 @@
-use Rattle.std.proofs.Common.{refl}
 use Rattle.plain_heap.specs.declared.operation.Op.TheVariants as ops
 use Rattle.managed_heap_c.specs.Asking.{RefersToOne, TestsTo}
 use Rattle.managed_heap_c.proofs.Answered.{answered}
 use Rattle.managed_heap_c.proofs.Tested.{tested}
+use Rattle.managed_heap_c.proofs.Widened.{one-by}
 use Rattle.managed_heap_c.proofs.asked.same_by.Goals as goal
 
 pub returns-in-Some-clause-answers : goal.returns-in-Some-clause-answers
 returns-in-Some-clause-answers c =
+    let a = c.args in
+    let x = c.in-Some.stepper in
     let e = c.same.ensures in
-    let P = RefersToOne c.args.v c.args.w in
-    answered (TestsTo P (ops.Let c.args.v c.args.w) c.args.out.now c.write_answer.new.out) c.status.result c.args.hand.now.stepper c.in-Some.stepper c.in-Some.stepper c.write_answer.result c.in-Some.is c.status.ensures.number
-    (tested P (ops.Let c.args.v c.args.w) c.args.out.now c.write_answer.new.out c.write_answer.result c.same.result c.in-Some.stepper e.one e.two e.may e.refused c.write_answer.ensures.writes)
+    let b = c.byte_of-v.result in
+    let d = c.byte_of-w.result in
+    let w = c.write_answer in
+    answered (TestsTo (RefersToOne a.v a.w) (ops.Let a.v a.w) a.out.now w.new.out) c.status.result a.hand.now.stepper x x w.result c.in-Some.is c.status.ensures.number
+    (one-by w.result a.v a.w b d a.out.now w.new.out x x c.byte_of-v.ensures.byte c.byte_of-w.ensures.byte
+    (tested (RefersToOne b d) (ops.Let b d) a.out.now w.new.out w.result c.same.result x e.one e.two e.may e.refused w.ensures.writes))

@@ -1,0 +1,304 @@
+/*
+ * managed_heap.h: a heap that collects its own garbage, for programs in C and whatever calls C.
+ *
+ * A *world* is a heap that threads share. A thread acts on it through a *mutator* of its own, which has 32 variables, 0 to 31. They are its roots: what
+ * can be reached from them is kept, and all else is garbage. An object has a value of 32 bits and as many references as the world's sizes say. No call
+ * hands out an address of an object, so the collector misses none. Each mutator has objects of its own. Marking
+ * goes on as the mutators make objects. Where a processor is free, a thread marks beside them with a *tracer*.
+ *
+ * No call of the library waits. What may take long is done in steps: the functions whose names end in _step or _turn do one and return. The others of the same
+ * name go on until it is done, and rest meanwhile: they yield some times, and then sleep.
+ *
+ * The header compiles as C99, C11 and C++17, by gcc and clang, and includes what it needs.
+ */
+#ifndef MANAGED_HEAP_H
+#define MANAGED_HEAP_H
+
+#include <sched.h>
+#include <stdint.h>
+#include <stdlib.h>
+#include <sys/select.h>
+
+#ifdef __cplusplus
+extern "C" {
+#endif
+
+/* The version of these calls. The first number rises where a program has to be changed or compiled again. */
+#define MH_VERSION "1.0"
+
+/* What a call came to. Where it isn't MH_OK, objects and variables are as before, but for what a line here says. */
+typedef enum mh_status {
+    MH_OK = 0,            /* it is done */
+    MH_NOT_YET = 1,       /* a step more is to be made: call again */
+    MH_STOPPED = 2,       /* another's collection is under way: the mutator is outside now, or stays there. Rest, and enter again. A tracer rests, and takes
+                             its next turn */
+    MH_NO_CELL = 3,       /* no cell is free for this mutator now: collect. Of mh_make: its collections left none for it; forget something, or try later */
+    MH_OUTSIDE = 4,       /* the mutator is outside the world: enter first */
+    MH_COLLECTING = 5,    /* the mutator is between two steps of its collection: mh_collect_step first */
+    MH_OUT_OF_RANGE = 6,  /* a variable is not below 32, a field not below the world's, a size not in its range, or the bound of a step is 0 */
+    MH_NIL = 7,           /* the variable refers to no object: there is no value, and nothing is stored */
+    MH_FULL = 8,          /* the reachable objects fill all cells, for good, as a mutator in Rattle has found: none enters any more. Where C has all mutators,
+                             MH_NO_CELL comes instead, and isn't final */
+    MH_SPENT = 9,         /* the mutator has made 4,294,967,295 objects, which are all that have numbers */
+    MH_OUT_OF_MEMORY = 10, /* there is no memory for the world or the handle */
+    MH_GIVEN_BACK = 11,   /* the handle was given back, or was never taken */
+    MH_IN_USE = 12,       /* another call uses this handle now */
+    MH_NONE_LEFT = 13,    /* all mutators, or all tracers, are taken */
+    MH_REFUSED = 14,      /* the world doesn't take the mutator or the tracer back: it has another world's name, all are back, or there is no memory. It stays
+                             the handle's */
+    MH_IDLE = 15,         /* of a tracer: no cycle is marking, so there is nothing to do now */
+    MH_DISMISSED = 16,    /* of a tracer: the world has dismissed its tracers */
+    MH_STILL_LENT = 17,   /* of mh_close: not all mutators and tracers are given back */
+    MH_TAKEN = 18         /* the handle that is to be filled is filled already */
+} mh_status;
+
+/* A status in words. */
+static inline const char *mh_status_text(mh_status s) {
+    switch (s) {
+    case MH_OK: return "done";
+    case MH_NOT_YET: return "a step more is to be made";
+    case MH_STOPPED: return "another's collection is under way";
+    case MH_NO_CELL: return "no cell is free for this mutator now";
+    case MH_OUTSIDE: return "the mutator is outside the world";
+    case MH_COLLECTING: return "the mutator is between two steps of its collection";
+    case MH_OUT_OF_RANGE: return "a number is out of range";
+    case MH_NIL: return "the variable refers to no object";
+    case MH_FULL: return "the reachable objects fill all cells, for good";
+    case MH_SPENT: return "the mutator has made all objects that it can";
+    case MH_OUT_OF_MEMORY: return "there is no memory";
+    case MH_GIVEN_BACK: return "the handle was given back, or was never taken";
+    case MH_IN_USE: return "another call uses the handle";
+    case MH_NONE_LEFT: return "all are taken";
+    case MH_REFUSED: return "the world doesn't take it back";
+    case MH_IDLE: return "no cycle is marking";
+    case MH_DISMISSED: return "the tracers are dismissed";
+    case MH_STILL_LENT: return "not all mutators and tracers are given back";
+    case MH_TAKEN: return "the handle is filled already";
+    }
+    return "no status of managed_heap";
+}
+
+/* Handles. One that is all zero is given back, or was never taken. A handle is not copied: a copy doesn't know that the other was given back. */
+typedef struct mh_world { void *at; } mh_world;
+typedef struct mh_mutator { void *at; } mh_mutator;
+typedef struct mh_tracer { void *at; } mh_tracer;
+
+/* Names from this one on are those that mh_open gives. */
+#define MH_NAMES 0x80000000u
+
+/* Sizes of a world: cells 64 to 16,777,216, a multiple of 64; references in an object 1 to 16; mutators 1 to 32; a name below MH_NAMES; and tracers 0 to 8.
+   A world takes no mutator and no tracer back from a world with another name. One whose name is 0 here gets a name that no other has. */
+typedef struct mh_sizes {
+    uint32_t cells;
+    uint32_t fields;
+    uint32_t mutators;
+    uint32_t name;
+    uint32_t tracers;
+} mh_sizes;
+
+/* Numbers of a world, each as it was read. */
+typedef struct mh_numbers {
+    uint32_t cells;  /* cells in all */
+    uint64_t free;   /* cells free in blocks that no mutator has claimed */
+    uint64_t marked; /* cells that the last cycle marked */
+} mh_numbers;
+
+/* What the library exports. Each takes a handle that isn't all zero: call the functions below. */
+mh_status mhl_open(const mh_sizes *sizes, mh_world *world);
+mh_status mhl_take_mutator(mh_world *world, mh_mutator *m);
+mh_status mhl_give_back(mh_world *world, mh_mutator *m);
+mh_status mhl_statistics(mh_world *world, mh_numbers *numbers);
+mh_status mhl_close(mh_world *world);
+mh_status mhl_enter_step(mh_mutator *m);
+mh_status mhl_leave(mh_mutator *m);
+mh_status mhl_pass(mh_mutator *m);
+mh_status mhl_make(mh_mutator *m, uint32_t v, uint32_t value);
+mh_status mhl_set(mh_mutator *m, uint32_t v, uint32_t i, uint32_t w);
+mh_status mhl_get(mh_mutator *m, uint32_t w, uint32_t v, uint32_t i);
+mh_status mhl_copy(mh_mutator *m, uint32_t w, uint32_t v);
+mh_status mhl_forget(mh_mutator *m, uint32_t v);
+mh_status mhl_put(mh_mutator *m, uint32_t v, uint32_t value);
+mh_status mhl_value(mh_mutator *m, uint32_t v, uint32_t *out);
+mh_status mhl_is_nil(mh_mutator *m, uint32_t v, uint32_t *out);
+mh_status mhl_same(mh_mutator *m, uint32_t v, uint32_t w, uint32_t *out);
+mh_status mhl_collect_step(mh_mutator *m, uint32_t most);
+mh_status mhl_is_stopping(mh_mutator *m, uint32_t *out);
+mh_status mhl_take_tracer(mh_world *world, mh_tracer *t);
+mh_status mhl_give_back_tracer(mh_world *world, mh_tracer *t);
+mh_status mhl_trace_turn(mh_tracer *t);
+mh_status mhl_dismiss_step(mh_world *world);
+
+/* The world: for one thread at a time. */
+
+/* How many worlds got their names here. Each file that includes this has the variable, and the linker keeps one. */
+extern uint32_t mh_names_given;
+__attribute__((weak)) uint32_t mh_names_given = 0;
+
+/* Opens a world. */
+static inline mh_status mh_open(const mh_sizes *sizes, mh_world *w) {
+    mh_sizes named = *sizes;
+    if (w->at) return MH_TAKEN;
+    if (named.name >= MH_NAMES) return MH_OUT_OF_RANGE;
+    if (!named.name) named.name = MH_NAMES + __atomic_fetch_add(&mh_names_given, 1u, __ATOMIC_RELAXED) % (MH_NAMES / 2u);
+    return mhl_open(&named, w);
+}
+/* Takes one of its mutators: it is outside, with the variables as who had it last left them, or all nil. */
+static inline mh_status mh_take_mutator(mh_world *w, mh_mutator *m) { return !w->at ? MH_GIVEN_BACK : m->at ? MH_TAKEN : mhl_take_mutator(w, m); }
+/* Gives a mutator back, which leaves first. Its handle is all zero afterwards. What its variables refer to is kept, for whoever takes it next. */
+static inline mh_status mh_give_back(mh_world *w, mh_mutator *m) {
+    mh_status s = w->at && m->at ? mhl_give_back(w, m) : MH_GIVEN_BACK;
+    if (s == MH_OK) { free(m->at); m->at = 0; }
+    return s;
+}
+static inline mh_status mh_statistics(mh_world *w, mh_numbers *numbers) { return w->at ? mhl_statistics(w, numbers) : MH_GIVEN_BACK; }
+/* Takes one of its tracers. */
+static inline mh_status mh_take_tracer(mh_world *w, mh_tracer *t) { return !w->at ? MH_GIVEN_BACK : t->at ? MH_TAKEN : mhl_take_tracer(w, t); }
+/* Gives a tracer back. Its handle is all zero afterwards. */
+static inline mh_status mh_give_back_tracer(mh_world *w, mh_tracer *t) {
+    mh_status s = w->at && t->at ? mhl_give_back_tracer(w, t) : MH_GIVEN_BACK;
+    if (s == MH_OK) { free(t->at); t->at = 0; }
+    return s;
+}
+/* Tells the tracers that they are dismissed, for good; MH_STOPPED where a stop is under way, and nothing is told. */
+static inline mh_status mh_dismiss_step(mh_world *w) { return w->at ? mhl_dismiss_step(w) : MH_GIVEN_BACK; }
+/* Frees the heap; MH_STILL_LENT where a mutator or a tracer isn't back. The handle is all zero afterwards. */
+static inline mh_status mh_close(mh_world *w) {
+    mh_status s = w->at ? mhl_close(w) : MH_GIVEN_BACK;
+    if (s == MH_OK) { free(w->at); w->at = 0; }
+    return s;
+}
+
+/* A mutator: for one thread at a time. */
+
+#define MH_BY(m, call) ((m)->at ? (call) : MH_GIVEN_BACK)
+
+/* Enters the world, where no stop is under way. */
+static inline mh_status mh_enter_step(mh_mutator *m) { return MH_BY(m, mhl_enter_step(m)); }
+/* Leaves the world. What its variables refer to is kept. */
+static inline mh_status mh_leave(mh_mutator *m) { return MH_BY(m, mhl_leave(m)); }
+/* A safe point: MH_STOPPED where the mutator left, as a stop is under way. */
+static inline mh_status mh_safe_point_step(mh_mutator *m) { return MH_BY(m, mhl_pass(m)); }
+/* v refers to a new object, whose fields are nil; MH_NO_CELL where no cell is free. It is a safe point too. */
+static inline mh_status mh_make_step(mh_mutator *m, uint32_t v, uint32_t value) { return MH_BY(m, mhl_make(m, v, value)); }
+/* Field i of v's object becomes w; MH_NIL where v is nil. */
+static inline mh_status mh_set(mh_mutator *m, uint32_t v, uint32_t i, uint32_t w) { return MH_BY(m, mhl_set(m, v, i, w)); }
+/* w becomes field i of v's object; nil where v is. */
+static inline mh_status mh_get(mh_mutator *m, uint32_t w, uint32_t v, uint32_t i) { return MH_BY(m, mhl_get(m, w, v, i)); }
+/* w becomes v. */
+static inline mh_status mh_copy(mh_mutator *m, uint32_t w, uint32_t v) { return MH_BY(m, mhl_copy(m, w, v)); }
+/* v becomes nil. */
+static inline mh_status mh_forget(mh_mutator *m, uint32_t v) { return MH_BY(m, mhl_forget(m, v)); }
+/* The value of v's object becomes this; MH_NIL where v is nil. */
+static inline mh_status mh_put(mh_mutator *m, uint32_t v, uint32_t value) { return MH_BY(m, mhl_put(m, v, value)); }
+/* The value of v's object; MH_NIL where v is nil. */
+static inline mh_status mh_value(mh_mutator *m, uint32_t v, uint32_t *out) { return MH_BY(m, mhl_value(m, v, out)); }
+/* 1 where v refers to nothing, else 0. */
+static inline mh_status mh_is_nil(mh_mutator *m, uint32_t v, uint32_t *out) { return MH_BY(m, mhl_is_nil(m, v, out)); }
+/* 1 where v and w refer to one object, or both to nothing, else 0. */
+static inline mh_status mh_same(mh_mutator *m, uint32_t v, uint32_t w, uint32_t *out) { return MH_BY(m, mhl_same(m, v, w, out)); }
+/* The next step of a collection of the mutator's own: it marks so many objects, or sweeps at most so many blocks of 64 cells. */
+static inline mh_status mh_collect_step(mh_mutator *m, uint32_t most) { return MH_BY(m, mhl_collect_step(m, most)); }
+/* 1 where its collection waits for the mutators that are inside, so that a rest is due before its next step, else 0. */
+static inline mh_status mh_is_stopping(mh_mutator *m, uint32_t *out) { return MH_BY(m, mhl_is_stopping(m, out)); }
+
+/* A tracer: for one thread at a time. */
+
+/* One turn, which marks at most 64 objects and passes at most 1,024 cards: MH_OK where a cycle is marking, MH_IDLE where none is, MH_STOPPED where a stop is
+   under way, MH_DISMISSED and MH_FULL where no turn is to follow. */
+static inline mh_status mh_trace_turn(mh_tracer *t) { return t->at ? mhl_trace_turn(t) : MH_GIVEN_BACK; }
+
+/* The calls that wait. Each goes on until it is done, and so rests on the other threads' safe points. */
+
+/* How often a thread that waits yields, and how long it sleeps from then on, at first and at most, in microseconds. */
+enum { MH_YIELDS = 16, MH_SHORTEST = 50, MH_LONGEST = 1000 };
+
+static inline void mh_sleep(uint32_t microseconds) {
+    struct timeval t;
+    t.tv_sec = 0;
+    t.tv_usec = (suseconds_t)microseconds;
+    select(0, 0, 0, 0, &t);
+}
+
+/* One rest of a thread that waits. The count says how many went before, and is 0 at first. */
+static inline void mh_rest(uint32_t *count) {
+    uint32_t sleep = MH_LONGEST;
+    if (*count < MH_YIELDS) sched_yield();
+    else {
+        if (*count < MH_YIELDS + 5) sleep = (uint32_t)MH_SHORTEST << (*count - MH_YIELDS);
+        mh_sleep(sleep);
+    }
+    if (*count < MH_YIELDS + 5) ++*count;
+}
+
+/* Enters the world, as soon as no stop is under way. */
+static inline mh_status mh_enter(mh_mutator *m) {
+    uint32_t rests = 0;
+    mh_status s;
+    while ((s = mh_enter_step(m)) == MH_STOPPED) mh_rest(&rests);
+    return s;
+}
+
+/* A safe point: each loop that runs long and makes nothing has one. */
+static inline mh_status mh_safe_point(mh_mutator *m) {
+    mh_status s = mh_safe_point_step(m);
+    return s == MH_STOPPED ? mh_enter(m) : s;
+}
+
+/* How many objects, or blocks, a step of mh_collect does. */
+enum { MH_STEP = 4096 };
+
+/* A collection of the mutator's own; MH_OK too where another's came first. */
+static inline mh_status mh_collect(mh_mutator *m) {
+    uint32_t rests = 0, stopping;
+    mh_status s;
+    while ((s = mh_collect_step(m, MH_STEP)) == MH_NOT_YET)
+        if (mh_is_stopping(m, &stopping) == MH_OK && stopping) mh_rest(&rests);
+    return s == MH_STOPPED ? mh_enter(m) : s;
+}
+
+/* How many collections of its own mh_make makes for one object, before it answers MH_NO_CELL. */
+enum { MH_TRIES = 3 };
+
+/* v refers to a new object, whose fields are nil, with a collection where no cell is free. MH_NO_CELL: the collections left none for this mutator; others have
+   taken what they freed. */
+static inline mh_status mh_make(mh_mutator *m, uint32_t v, uint32_t value) {
+    int tries = 0;
+    for (;;) {
+        mh_status s = mh_make_step(m, v, value);
+        if (s == MH_STOPPED) s = mh_enter(m);
+        else if (s != MH_NO_CELL || tries++ == MH_TRIES) return s;
+        else s = mh_collect(m);
+        if (s != MH_OK) return s;
+    }
+}
+
+/* What a tracer does between two turns, the first of which came to s: it yields where a cycle is marking, rests where a stop is under way, and sleeps longest
+   where there is nothing to do. The count is as for mh_rest. */
+static inline void mh_rest_turn(mh_status s, uint32_t *count) {
+    int k;
+    if (s == MH_STOPPED) { mh_rest(count); return; }
+    *count = 0;
+    if (s == MH_IDLE) mh_sleep(MH_LONGEST);
+    else for (k = 0; k < MH_YIELDS; k++) sched_yield();
+}
+
+/* Marks beside the mutators, turn by turn, until the world dismisses its tracers (MH_DISMISSED) or the heap is full (MH_FULL): what a thread with a tracer runs. */
+static inline mh_status mh_trace(mh_tracer *t) {
+    uint32_t rests = 0;
+    mh_status s;
+    while ((s = mh_trace_turn(t)) == MH_OK || s == MH_IDLE || s == MH_STOPPED) mh_rest_turn(s, &rests);
+    return s;
+}
+
+/* Tells the tracers that they are dismissed: each mh_trace ends, and so does each later one. */
+static inline mh_status mh_dismiss(mh_world *w) {
+    uint32_t rests = 0;
+    mh_status s;
+    while ((s = mh_dismiss_step(w)) == MH_STOPPED) mh_rest(&rests);
+    return s;
+}
+
+#ifdef __cplusplus
+}
+#endif
+#endif

@@ -1,0 +1,23 @@
+use Rattle.std.proofs.Common.{ap}
+use Rattle.plain_heap.specs.PlainStep.{stored_at, with_value}
+use Rattle.plain_heap.specs.declared.operation.Op.TheVariants as ops
+use Rattle.managed_heap.specs.Stepping.{heap_of_stepper}
+use Rattle.managed_heap_c.proofs.Stored.{stored}
+use Rattle.managed_heap_c.proofs.storing.put_in.Goals as goal
+
+pub returns : goal.returns
+returns c =
+    let a = c.args in
+    let h = heap_of_stepper a.stepper.now in
+    let e = c.is_nil-nil.ensures in
+    record {
+      stores =
+          stored a.v (ops.Put a.v a.value) c.unless_nil.result c.put.result c.is_nil-nil.result a.stepper.now c.put.new.self
+          (λ r. r.0)
+          (λ n. ap (λ ref. stored_at h ref (λ object. with_value object a.value)) n)
+          e.nil
+          e.some
+          e.refused
+          c.put.ensures.operates
+          c.unless_nil.ensures.tells;
+    }

@@ -1,0 +1,33 @@
+-- What a store into an object came to.
+use Rattle.std.specs.Prelude.{ℕ, ◌≡◌, Bool, true, false, Result, Ok, Err}
+use Rattle.std.specs.Arc.{arc_value}
+use Rattle.plain_heap.specs.PlainStep.{IsInRange}
+use Rattle.plain_heap.specs.declared.operation.Op.{Op}
+use Rattle.managed_heap.specs.Stepping.{Operates, StepperDoes, fields_in, heap_of_stepper}
+use Rattle.managed_heap.specs.declared.stepper.Came.{Came}
+use Rattle.managed_heap.specs.declared.stepper.Came.TheVariants as cames
+use Rattle.managed_heap.specs.declared.stepper.Stage.TheVariants.{Inside}
+use Rattle.managed_heap.specs.declared.stepper.Stepper.{Stepper}
+use Rattle.managed_heap_c.specs.Asking.{IsNil}
+
+-- the variable refers to nothing, so nothing was stored: objects and variables are as they were, inside the world
+pub record StoresNothing (v : ℕ) (op : Op) (x y : Stepper) : Type 0 where
+  pub nil : IsNil v x
+  pub range : IsInRange (fields_in x) op
+  pub was : x.stage ≡ Inside
+  pub inside : y.stage ≡ Inside
+  pub objects : (heap_of_stepper y).objects ≡ (heap_of_stepper x).objects
+  pub variables : (heap_of_stepper y).variables ≡ (heap_of_stepper x).variables
+  pub world : arc_value y.heap ≡ arc_value x.heap
+  pub name_is : y.name ≡ x.name
+
+-- a store through variable v was done, or v refers to nothing, or the call was refused
+abbrev pub Stores : ℕ → Op → Came → Stepper → Stepper → Type 0
+Stores v op cames.Done x y = StepperDoes op x y × (IsNil v x → ⊥)
+Stores v op cames.Nil x y = StoresNothing v op x y
+Stores v op came x y = Operates came op x y
+
+-- what is answered of a store, by what it came to and whether the variable refers to nothing
+abbrev pub TellsNil : Came → Came → Result Bool Came → Type 0
+TellsNil told cames.Done (Ok true) = told ≡ cames.Nil
+TellsNil told came nil = told ≡ came
