@@ -1,0 +1,179 @@
+//! The exports of the library, and its handles. All that isn't safe is here.
+
+use crate::error::Error;
+use std::os::raw::c_void;
+use std::ptr::null_mut;
+
+/// Sizes, as the library reads them.
+#[repr(C)]
+pub(crate) struct RawSizes {
+    pub cells: u32,
+    pub fields: u32,
+    pub mutators: u32,
+    pub name: u32,
+    pub tracers: u32,
+}
+
+/// Numbers, as the library writes them.
+#[repr(C)]
+#[derive(Default)]
+pub(crate) struct RawNumbers {
+    pub cells: u32,
+    pub free: u64,
+    pub marked: u64,
+}
+
+/// A handle: the address of what the library keeps behind it.
+#[repr(C)]
+pub(crate) struct Handle {
+    at: *mut c_void,
+}
+
+// What is behind a handle is used by one call at a time, since each call takes the handle by `&mut`; the library lets it move to another thread. The address
+// keeps it from being shared.
+unsafe impl Send for Handle {}
+
+extern "C" {
+    fn mhl_open(sizes: *const RawSizes, world: *mut Handle) -> u32;
+    fn mhl_close(world: *mut Handle) -> u32;
+    fn mhl_take_mutator(world: *mut Handle, m: *mut Handle) -> u32;
+    fn mhl_give_back(world: *mut Handle, m: *mut Handle) -> u32;
+    fn mhl_take_tracer(world: *mut Handle, t: *mut Handle) -> u32;
+    fn mhl_give_back_tracer(world: *mut Handle, t: *mut Handle) -> u32;
+    fn mhl_statistics(world: *mut Handle, numbers: *mut RawNumbers) -> u32;
+    fn mhl_dismiss_step(world: *mut Handle) -> u32;
+    fn mhl_enter_step(m: *mut Handle) -> u32;
+    fn mhl_leave(m: *mut Handle) -> u32;
+    fn mhl_pass(m: *mut Handle) -> u32;
+    fn mhl_make(m: *mut Handle, v: u32, value: u32) -> u32;
+    fn mhl_set(m: *mut Handle, v: u32, i: u32, w: u32) -> u32;
+    fn mhl_get(m: *mut Handle, w: u32, v: u32, i: u32) -> u32;
+    fn mhl_copy(m: *mut Handle, w: u32, v: u32) -> u32;
+    fn mhl_forget(m: *mut Handle, v: u32) -> u32;
+    fn mhl_put(m: *mut Handle, v: u32, value: u32) -> u32;
+    fn mhl_value(m: *mut Handle, v: u32, out: *mut u32) -> u32;
+    fn mhl_is_nil(m: *mut Handle, v: u32, out: *mut u32) -> u32;
+    fn mhl_same(m: *mut Handle, v: u32, w: u32, out: *mut u32) -> u32;
+    fn mhl_collect_step(m: *mut Handle, most: u32) -> u32;
+    fn mhl_is_stopping(m: *mut Handle, out: *mut u32) -> u32;
+    fn mhl_trace_turn(t: *mut Handle) -> u32;
+    fn free(at: *mut c_void);
+}
+
+// Each call below is by a handle that is filled: `open`, `take_mutator` and `take_tracer` are the only ways to one, and `spend` takes it. A handle that is
+// handed in to be filled is empty. What is written through is a whole value of the type that the library writes.
+impl Handle {
+    fn filled(by: impl FnOnce(*mut Handle) -> u32) -> Result<Handle, Error> {
+        let mut handle = Handle { at: null_mut() };
+        Error::of(by(&mut handle)).map(|()| handle)
+    }
+
+    pub fn open(sizes: &RawSizes) -> Result<Handle, Error> {
+        Handle::filled(|out| unsafe { mhl_open(sizes, out) })
+    }
+
+    pub fn take_mutator(&mut self) -> Result<Handle, Error> {
+        Handle::filled(|out| unsafe { mhl_take_mutator(self, out) })
+    }
+
+    pub fn take_tracer(&mut self) -> Result<Handle, Error> {
+        Handle::filled(|out| unsafe { mhl_take_tracer(self, out) })
+    }
+
+    /// Frees what was behind a handle that is given back, or of a world that is closed. Where it isn't, nobody could use it any more, and it is left.
+    fn spend(&mut self, status: u32) {
+        if status == 0 {
+            unsafe { free(self.at) };
+            self.at = null_mut();
+        }
+    }
+
+    pub fn close(&mut self) {
+        let status = unsafe { mhl_close(self) };
+        self.spend(status);
+    }
+
+    pub fn give_back(&mut self, world: &mut Handle) {
+        let status = unsafe { mhl_give_back(world, self) };
+        self.spend(status);
+    }
+
+    pub fn give_back_tracer(&mut self, world: &mut Handle) {
+        let status = unsafe { mhl_give_back_tracer(world, self) };
+        self.spend(status);
+    }
+
+    pub fn statistics(&mut self) -> Result<RawNumbers, Error> {
+        let mut numbers = RawNumbers::default();
+        Error::of(unsafe { mhl_statistics(self, &mut numbers) }).map(|()| numbers)
+    }
+
+    pub fn dismiss_step(&mut self) -> u32 {
+        unsafe { mhl_dismiss_step(self) }
+    }
+
+    pub fn enter_step(&mut self) -> u32 {
+        unsafe { mhl_enter_step(self) }
+    }
+
+    pub fn leave(&mut self) -> u32 {
+        unsafe { mhl_leave(self) }
+    }
+
+    pub fn pass(&mut self) -> u32 {
+        unsafe { mhl_pass(self) }
+    }
+
+    pub fn make(&mut self, v: u32, value: u32) -> u32 {
+        unsafe { mhl_make(self, v, value) }
+    }
+
+    pub fn set(&mut self, v: u32, i: u32, w: u32) -> u32 {
+        unsafe { mhl_set(self, v, i, w) }
+    }
+
+    pub fn get(&mut self, w: u32, v: u32, i: u32) -> u32 {
+        unsafe { mhl_get(self, w, v, i) }
+    }
+
+    pub fn copy(&mut self, w: u32, v: u32) -> u32 {
+        unsafe { mhl_copy(self, w, v) }
+    }
+
+    pub fn forget(&mut self, v: u32) -> u32 {
+        unsafe { mhl_forget(self, v) }
+    }
+
+    pub fn put(&mut self, v: u32, value: u32) -> u32 {
+        unsafe { mhl_put(self, v, value) }
+    }
+
+    fn written(by: impl FnOnce(*mut u32) -> u32) -> Result<u32, Error> {
+        let mut out = 0;
+        Error::of(by(&mut out)).map(|()| out)
+    }
+
+    pub fn value(&mut self, v: u32) -> Result<u32, Error> {
+        Handle::written(|out| unsafe { mhl_value(self, v, out) })
+    }
+
+    pub fn is_nil(&mut self, v: u32) -> Result<bool, Error> {
+        Handle::written(|out| unsafe { mhl_is_nil(self, v, out) }).map(|told| told == 1)
+    }
+
+    pub fn same(&mut self, v: u32, w: u32) -> Result<bool, Error> {
+        Handle::written(|out| unsafe { mhl_same(self, v, w, out) }).map(|told| told == 1)
+    }
+
+    pub fn collect_step(&mut self, most: u32) -> u32 {
+        unsafe { mhl_collect_step(self, most) }
+    }
+
+    pub fn is_stopping(&mut self) -> bool {
+        Handle::written(|out| unsafe { mhl_is_stopping(self, out) }) == Ok(1)
+    }
+
+    pub fn trace_turn(&mut self) -> u32 {
+        unsafe { mhl_trace_turn(self) }
+    }
+}

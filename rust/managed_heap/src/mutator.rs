@@ -1,0 +1,140 @@
+//! Mutators.
+
+use crate::error::{Error, NOT_YET, NO_CELL, STOPPED};
+use crate::library::Handle;
+use crate::resting::Rests;
+use crate::world::Shared;
+use std::sync::Arc;
+
+/// How many variables a mutator has.
+pub const VARIABLES: u32 = 32;
+
+/// How many objects it marks, or blocks it sweeps, between two looks at what it waits for.
+const STEP: u32 = 4096;
+
+/// How many collections it makes for one object.
+const TRIES: u32 = 3;
+
+/// What a thread acts on a world through. It has 32 variables, 0 to 31, which are its roots: an object that can be reached from them is kept, and all else is
+/// garbage. It may move to another thread, and is used by one at a time.
+///
+/// ```compile_fail
+/// fn shared<T: Sync>() {}
+/// shared::<managed_heap::Mutator>();
+/// ```
+pub struct Mutator {
+    handle: Handle,
+    shared: Arc<Shared>,
+}
+
+impl Mutator {
+    pub(crate) fn new(handle: Handle, shared: Arc<Shared>) -> Mutator {
+        Mutator { handle, shared }
+    }
+
+    /// Enters the world, as soon as no collection is under way.
+    pub fn enter(&mut self) -> Result<(), Error> {
+        let mut rests = Rests::default();
+        loop {
+            match self.handle.enter_step() {
+                STOPPED => rests.rest(),
+                other => return Error::of(other),
+            }
+        }
+    }
+
+    /// Leaves the world. What its variables refer to is kept. A thread leaves before it waits for anything: others' collections wait for whoever is inside.
+    pub fn leave(&mut self) -> Result<(), Error> {
+        Error::of(self.handle.leave())
+    }
+
+    /// A safe point, at which another's collection may go on. A loop that runs long and makes nothing has one.
+    pub fn safe_point(&mut self) -> Result<(), Error> {
+        match self.handle.pass() {
+            STOPPED => self.enter(),
+            other => Error::of(other),
+        }
+    }
+
+    /// Variable v refers to a new object of this value, whose fields refer to nothing. Where no cell is free it collects. It is a safe point too.
+    pub fn make(&mut self, v: u32, value: u32) -> Result<(), Error> {
+        let mut tries = 0;
+        loop {
+            match self.handle.make(v, value) {
+                STOPPED => self.enter()?,
+                NO_CELL if tries < TRIES => {
+                    tries += 1;
+                    self.collect()?;
+                }
+                other => return Error::of(other),
+            }
+        }
+    }
+
+    /// Field i of variable v's object becomes what variable w refers to. [`Error::Nil`] where v refers to nothing.
+    pub fn set(&mut self, v: u32, i: u32, w: u32) -> Result<(), Error> {
+        Error::of(self.handle.set(v, i, w))
+    }
+
+    /// Variable w becomes what field i of variable v's object refers to; nothing, where v refers to nothing.
+    pub fn get(&mut self, w: u32, v: u32, i: u32) -> Result<(), Error> {
+        Error::of(self.handle.get(w, v, i))
+    }
+
+    /// Variable w becomes what variable v is.
+    pub fn copy(&mut self, w: u32, v: u32) -> Result<(), Error> {
+        Error::of(self.handle.copy(w, v))
+    }
+
+    /// Variable v refers to nothing any more.
+    pub fn forget(&mut self, v: u32) -> Result<(), Error> {
+        Error::of(self.handle.forget(v))
+    }
+
+    /// The value of variable v's object becomes this one. [`Error::Nil`] where v refers to nothing.
+    pub fn put(&mut self, v: u32, value: u32) -> Result<(), Error> {
+        Error::of(self.handle.put(v, value))
+    }
+
+    /// The value of variable v's object. [`Error::Nil`] where v refers to nothing.
+    pub fn value(&mut self, v: u32) -> Result<u32, Error> {
+        self.handle.value(v)
+    }
+
+    /// Whether variable v refers to nothing.
+    pub fn is_nil(&mut self, v: u32) -> Result<bool, Error> {
+        self.handle.is_nil(v)
+    }
+
+    /// Whether variables v and w refer to one object, or both to nothing.
+    pub fn same(&mut self, v: u32, w: u32) -> Result<bool, Error> {
+        self.handle.same(v, w)
+    }
+
+    /// A collection, after which exactly the objects that can be reached are kept; or another's, where that comes first.
+    pub fn collect(&mut self) -> Result<(), Error> {
+        let mut rests = Rests::default();
+        loop {
+            match self.handle.collect_step(STEP) {
+                NOT_YET if self.handle.is_stopping() => rests.rest(),
+                NOT_YET => (),
+                STOPPED => return self.enter(),
+                other => return Error::of(other),
+            }
+        }
+    }
+}
+
+impl Drop for Mutator {
+    /// Its variables are forgotten, and it is the world's again.
+    fn drop(&mut self) {
+        if self.enter().is_ok() {
+            for v in 0..VARIABLES {
+                self.handle.forget(v);
+            }
+        }
+        self.handle.leave();
+        let mut world = self.shared.lock();
+        self.handle.give_back(&mut world);
+    }
+}

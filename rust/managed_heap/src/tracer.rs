@@ -1,0 +1,72 @@
+//! Tracers.
+
+use crate::error::{Error, DISMISSED, IDLE, STOPPED};
+use crate::library::Handle;
+use crate::resting::{Rests, LONGEST};
+use crate::world::Shared;
+use std::sync::Arc;
+use std::thread::{sleep, yield_now};
+use std::time::Duration;
+
+/// What a turn of a tracer came to.
+#[derive(Clone, Copy, Debug, PartialEq, Eq)]
+pub enum Turn {
+    /// It marked, beside the mutators.
+    Marked,
+    /// No cycle is marking.
+    Idle,
+    /// A collection is under way, and it did nothing.
+    Stopped,
+    /// The tracers are dismissed, and it did nothing.
+    Dismissed,
+}
+
+/// What a thread marks through beside the mutators, where a processor is free for it.
+///
+/// ```compile_fail
+/// fn shared<T: Sync>() {}
+/// shared::<managed_heap::Tracer>();
+/// ```
+pub struct Tracer {
+    handle: Handle,
+    shared: Arc<Shared>,
+}
+
+impl Tracer {
+    pub(crate) fn new(handle: Handle, shared: Arc<Shared>) -> Tracer {
+        Tracer { handle, shared }
+    }
+
+    /// One turn, which waits for nobody and marks at most 64 objects.
+    pub fn turn(&mut self) -> Result<Turn, Error> {
+        match self.handle.trace_turn() {
+            STOPPED => Ok(Turn::Stopped),
+            IDLE => Ok(Turn::Idle),
+            DISMISSED => Ok(Turn::Dismissed),
+            other => Error::of(other).map(|()| Turn::Marked),
+        }
+    }
+
+    /// Turn by turn, until the tracers are dismissed: what a thread with a tracer runs.
+    pub fn trace(&mut self) -> Result<(), Error> {
+        let mut rests = Rests::default();
+        loop {
+            match self.turn()? {
+                Turn::Dismissed => return Ok(()),
+                Turn::Stopped => rests.rest(),
+                Turn::Idle => sleep(Duration::from_micros(LONGEST)),
+                Turn::Marked => {
+                    rests = Rests::default();
+                    (0..16).for_each(|_| yield_now());
+                }
+            }
+        }
+    }
+}
+
+impl Drop for Tracer {
+    fn drop(&mut self) {
+        let mut world = self.shared.lock();
+        self.handle.give_back_tracer(&mut world);
+    }
+}

@@ -1,0 +1,167 @@
+//! The crate over the library: each call once, each refusal, and what dropping gives back.
+
+use managed_heap::{Error, Mutator, Sizes, Tracer, Turn, World, VARIABLES};
+use std::thread;
+
+fn inside(world: &World) -> Mutator {
+    let mut m = world.mutator().unwrap();
+    m.enter().unwrap();
+    m
+}
+
+#[test]
+fn handles_may_move_to_other_threads() {
+    fn moves<T: Send>() {}
+    moves::<World>();
+    moves::<Mutator>();
+    moves::<Tracer>();
+}
+
+#[test]
+fn sizes_out_of_range_are_refused() {
+    for sizes in [
+        Sizes::of_cells(0),
+        Sizes::of_cells(65),
+        Sizes::of_cells(16_777_280),
+        Sizes::of_cells(64).fields(0),
+        Sizes::of_cells(64).fields(17),
+        Sizes::of_cells(64).mutators(33),
+        Sizes::of_cells(64).tracers(9),
+    ] {
+        assert_eq!(World::open(sizes).err(), Some(Error::OutOfRange));
+    }
+}
+
+#[test]
+fn each_call_does_what_it_says() {
+    let world = World::open(Sizes::of_cells(64).fields(3)).unwrap();
+    let mut m = inside(&world);
+    m.make(0, 7).unwrap();
+    m.make(1, 8).unwrap();
+    m.set(0, 2, 1).unwrap();
+    m.get(3, 0, 2).unwrap();
+    assert_eq!(m.same(1, 3), Ok(true));
+    assert_eq!(m.same(0, 3), Ok(false));
+    m.put(3, 9).unwrap();
+    assert_eq!(m.value(1), Ok(9));
+    m.copy(4, 0).unwrap();
+    m.forget(0).unwrap();
+    assert_eq!((m.is_nil(0), m.is_nil(4)), (Ok(true), Ok(false)));
+    m.get(5, 4, 0).unwrap();
+    assert_eq!(m.is_nil(5), Ok(true));
+    m.collect().unwrap();
+    m.safe_point().unwrap();
+    assert_eq!(m.value(4), Ok(7));
+    m.leave().unwrap();
+    assert_eq!(world.statistics().unwrap().cells, 64);
+    assert_eq!(world.statistics().unwrap().marked, 2);
+}
+
+#[test]
+fn wrong_calls_are_refused_by_name() {
+    let world = World::open(Sizes::of_cells(64)).unwrap();
+    let mut m = world.mutator().unwrap();
+    assert_eq!(world.mutator().err(), Some(Error::NoneLeft));
+    assert_eq!(world.tracer().err(), Some(Error::NoneLeft));
+    assert_eq!(m.make(0, 7), Err(Error::Outside));
+    m.enter().unwrap();
+    for v in [32, 255, 256, 288, u32::MAX] {
+        assert_eq!(m.make(v, 7), Err(Error::OutOfRange));
+        assert_eq!(m.copy(v, 0), Err(Error::OutOfRange));
+        assert_eq!(m.value(v), Err(Error::OutOfRange));
+    }
+    m.make(0, 7).unwrap();
+    assert_eq!(m.set(0, 2, 0), Err(Error::OutOfRange));
+    assert_eq!(m.set(0, 256, 0), Err(Error::OutOfRange));
+    assert_eq!(m.set(1, 0, 0), Err(Error::Nil));
+    assert_eq!(m.put(1, 5), Err(Error::Nil));
+    assert_eq!(m.value(1), Err(Error::Nil));
+    assert_eq!(m.value(0), Ok(7));
+}
+
+#[test]
+fn what_a_dropped_mutator_referred_to_is_garbage() {
+    let world = World::open(Sizes::of_cells(64)).unwrap();
+    for _ in 0..3 {
+        let mut m = inside(&world);
+        for v in 0..VARIABLES {
+            assert_eq!(m.is_nil(v), Ok(true));
+            m.make(v, v).unwrap();
+        }
+    }
+    let mut m = inside(&world);
+    m.collect().unwrap();
+    assert_eq!(world.statistics().unwrap().marked, 0);
+}
+
+#[test]
+fn a_heap_without_a_free_cell_goes_on_once_something_is_forgotten() {
+    let world = World::open(Sizes::of_cells(64).fields(1)).unwrap();
+    let mut m = inside(&world);
+    for value in 0..64 {
+        m.make(1, value).unwrap();
+        m.set(1, 0, 0).unwrap();
+        m.copy(0, 1).unwrap();
+    }
+    assert_eq!(m.make(1, 64), Err(Error::NoCell));
+    assert_eq!(m.value(0), Ok(63));
+    m.get(0, 0, 0).unwrap();
+    m.forget(1).unwrap();
+    m.make(1, 64).unwrap();
+    assert_eq!((m.value(0), m.value(1)), (Ok(62), Ok(64)));
+}
+
+#[test]
+fn a_world_outlives_its_handle_while_a_mutator_is_out() {
+    let world = World::open(Sizes::of_cells(64)).unwrap();
+    let mut m = inside(&world);
+    drop(world);
+    m.make(0, 5).unwrap();
+    assert_eq!(m.value(0), Ok(5));
+}
+
+#[test]
+fn threads_collect_beside_a_tracer() {
+    let world = World::open(Sizes::of_cells(1024).mutators(3).tracers(1)).unwrap();
+    let mut tracer = world.tracer().unwrap();
+    let tracing = thread::spawn(move || {
+        tracer.trace().unwrap();
+        tracer.turn()
+    });
+    let working: Vec<_> = (0..3)
+        .map(|_| {
+            let mut m = world.mutator().unwrap();
+            thread::spawn(move || {
+                m.enter().unwrap();
+                for n in 0..50_000 {
+                    m.make(0, n).unwrap();
+                    if n % 100 == 0 {
+                        m.copy(1, 0).unwrap();
+                    } else {
+                        m.set(0, 0, 1).unwrap();
+                        m.copy(1, 0).unwrap();
+                    }
+                }
+                let mut count = 1;
+                loop {
+                    m.get(1, 1, 0).unwrap();
+                    if m.is_nil(1).unwrap() {
+                        return count;
+                    }
+                    count += 1;
+                }
+            })
+        })
+        .collect();
+    for each in working {
+        assert_eq!(each.join().unwrap(), 100);
+    }
+    world.dismiss_tracers().unwrap();
+    assert_eq!(tracing.join().unwrap(), Ok(Turn::Dismissed));
+}
+
+#[test]
+fn an_error_is_an_error_of_std() {
+    let error: Box<dyn std::error::Error + Send + Sync> = Box::new(Error::Nil);
+    assert_eq!(error.to_string(), "the variable refers to no object");
+}
