@@ -53,4 +53,5 @@ for program in "$folder"/*.rt; do
         (cd "$folder/crates/first_hour" && rt check >"$folder/proved" 2>&1) || { tail -5 "$folder/proved"; wrong=1; }
     fi
 done
+[ $wrong = 0 ] && echo "all right: the programs of $page"
 exit $wrong
