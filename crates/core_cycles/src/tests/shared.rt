@@ -53,7 +53,7 @@ fn refuses_outside(core: &mut CoreState) -> bool {
             (raises(0), 51, 1),
             (Step::StoreSlot { k: 0, r: 0 }, 52, 1),
             (Step::ReadSlot { k: 0 }, 53, 1),
-            (Step::LoadSlot { section: 1, k: 0 }, 10, 1),
+            (loads(1, 0), 10, 1),
         ],
     )
 }
@@ -120,29 +120,30 @@ fn refuses_a_third_object(core: &mut CoreState) -> bool {
     ran(core, &[first_part(2), second]) && refuses(core, 1, &[(third, 23, 3)])
 }
 
-/// Seat 2 loads slot 1 of section 1, which names cell 0.
-fn loads_a_slot(core: &mut CoreState) -> bool {
+/// Seat 2 enters while a cycle marks.
+fn traces_beside(core: &mut CoreState) -> bool {
     let to = Phase::Marking;
-    let load = Step::LoadSlot { section: 1, k: 1 };
     let begins = [
         by(1, Step::StorePhase { to }),
         by(2, Step::EnterStep),
         by(2, Step::ReadPhase),
     ];
     ran(core, &begins)
-        && refuses(core, 2, &[(load, 10, 1)])
-        && ran(core, &takes(2))
-        && refuses(
-            core,
-            2,
-            &[
-                (Step::LoadSlot { section: 2, k: 1 }, 10, 1),
-                (Step::LoadSlot { section: 1, k: 2 }, 10, 1),
-            ],
-        )
-        && ran(core, &[by(2, load)])
-        && refuses(core, 2, &[(load, 10, 2)])
-        && ran(core, &[by(2, Step::SetMark { c: Cell::make(0) })])
+}
+
+fn loads(section: u32, k: u16) -> Step {
+    Step::LoadSlot { section, k }
+}
+
+/// Seat 2 loads slot 1 of section 1, which names cell 0, once it has a packet.
+fn loads_a_slot(core: &mut CoreState) -> bool {
+    let bare = refuses(core, 2, &[(loads(1, 1), 10, 1)]);
+    let takes = ran(core, &takes(2));
+    let past = refuses(core, 2, &[(loads(2, 1), 10, 1), (loads(1, 2), 10, 1)]);
+    let loaded = ran(core, &[by(2, loads(1, 1))]);
+    let again = refuses(core, 2, &[(loads(1, 1), 10, 2)]);
+    let marked = ran(core, &[by(2, Step::SetMark { c: Cell::make(0) })]);
+    bare && takes && past && loaded && again && marked
 }
 
 #[test]
@@ -183,7 +184,7 @@ fn an_exchange_owes_its_card(rt: HostRuntime) {
             &[by(1, raises(0)), by(1, Step::StoreSlot { k: 1, r: 1 })]
         )
     );
-    assert!(rt; loads_a_slot(&mut core));
+    assert!(rt; traces_beside(&mut core) && loads_a_slot(&mut core));
 }
 
 #[test]

@@ -1,10 +1,10 @@
 //! An object that a store hides from a tracer, in a play whose threads are held around that store.
 //!
 //! The first warehouse has a chain of 890 objects, and behind the last one an object that nothing else leads to. It leaves 8 cells of a block of 64 free, so
-//! that it traces fewer than 128 objects for the cache with which a cycle begins. Then it is held until the tracer has had two turns of 64 objects, and the tracer
-//! is held in its third one: the head of the chain was scanned, and its end wasn't. Now the warehouse walks to the end, stores the last object in the head, and
-//! takes it off the end. So nothing leads to it but a field that was scanned before the store: it is kept by the card that the store dirtied, and else its cell
-//! is freed and used again.
+//! that it traces fewer than 128 objects for the cache with which a cycle begins. Then it is held until the tracer, which is held until then, has had two turns
+//! of 64 objects, and the tracer is held in its third one: the head of the chain was scanned, and its end wasn't. Now the warehouse walks to the end, stores the
+//! last object in the head, and takes it off the end. So nothing leads to it but a field that was scanned before the store: it is kept by the card that the store
+//! dirtied, and else its cell is freed and used again.
 use crate::tests::marking::{CHAIN, is_marking};
 use crate::tests::signal::Signal;
 use gc_play::{Gate, OpenGate, play};
@@ -75,6 +75,7 @@ const OTHER: (u32, u64) = (2, 0);
 #[derive(Drop)]
 struct Hiding<'a, R: Wait + Sync> {
     rt: &'a R,
+    walks: Signal,
     /// Turns of the tracer while a cycle marks.
     turns: Signal,
     hidden: Signal,
@@ -94,6 +95,7 @@ impl<R: Wait + Sync> Gate for Hiding<'_, R> {
     fn pass(&self, seat: &HeapSeat, section: &Section<'_>, command: u64) {
         let place = (section.number(), command);
         if place == WALK {
+            self.walks.tell();
             self.turns.wait(self.rt);
             self.look(seat);
         } else if place == HIDDEN {
@@ -108,6 +110,7 @@ impl<R: Wait + Sync> Gate for Hiding<'_, R> {
         if !is_marking(seat) {
             return;
         }
+        self.walks.wait(self.rt);
         self.turns.tell();
         if self.turns.has_come() {
             self.hidden.wait(self.rt);
@@ -144,12 +147,14 @@ fn is_written<R: Abort + AllocGlobal + Threads + Wait + Sync, G: Gate + Sync>(
 fn what_is_hidden_from_a_tracer_is_kept(rt: HostRuntime) -> Result<(), Fail> {
     let gate = Hiding {
         rt: &rt,
+        walks: Signal::of(1),
         turns: Signal::of(3),
         hidden: Signal::of(1),
         marking: AtomicU64::new(0),
     };
     let is_kept = is_written(&rt, 2, 1, &gate)?;
-    assert!(&rt; !gate.turns.was_given_up() && !gate.hidden.was_given_up());
+    assert!(&rt; !gate.walks.was_given_up() && !gate.turns.was_given_up());
+    assert!(&rt; !gate.hidden.was_given_up());
     assert_eq!(&rt; gate.marking.load(SeqCst), 2);
     assert!(&rt; is_kept);
     Ok(())

@@ -1,9 +1,9 @@
 //! A tracer that traces while a warehouse is held: the chain of the warehouse is traced without it.
 //!
 //! A warehouse makes a chain of 890 objects, which leaves 8 cells of a block of 64 free, and collects. Four caches later a cycle begins, and for the fourth
-//! cache the warehouse traces fewer than 128 objects. It is held at the next command until the tracer has had twenty turns, each of 64 objects or of the cards.
-//! So nothing is left to trace when it takes its fifth cache, and the cycle ends there. Where the tracer traces nothing, the warehouse goes on in the cycle for
-//! some twelve caches.
+//! cache the warehouse traces fewer than 128 objects. It is held at the next command until the tracer, which is held until then, has had twenty turns, each of 64
+//! objects or of the cards. So nothing is left to trace when it takes its fifth cache, and the cycle ends there: a tracer that finds no work holds no packet.
+//! Where the tracer traces nothing, the warehouse goes on in the cycle for some nine caches.
 use crate::tests::signal::Signal;
 use gc_play::{Gate, play};
 use gc_script::{Section, read};
@@ -48,10 +48,11 @@ pub fn is_marking(seat: &HeapSeat) -> bool {
     matches!(seat.state().phase_seen, Some(Phase::Marking))
 }
 
-/// Holds the warehouse in a cycle until the tracer has had some turns in it.
+/// Holds the warehouse in a cycle until the tracer has had some turns in it, and the tracer until then.
 #[derive(Drop)]
 struct Tracing<'a, R: Wait + Sync> {
     rt: &'a R,
+    held: Signal,
     turns: Signal,
     /// How many commands were passed in the first cycle.
     marking: AtomicU64,
@@ -62,6 +63,7 @@ struct Tracing<'a, R: Wait + Sync> {
 impl<R: Wait + Sync> Gate for Tracing<'_, R> {
     fn pass(&self, seat: &HeapSeat, _section: &Section<'_>, _command: u64) {
         if is_marking(seat) && self.after.load(SeqCst) == 0 {
+            self.held.tell();
             self.turns.wait(self.rt);
             self.marking.fetch_add(1, SeqCst);
         } else if self.marking.load(SeqCst) > 0 {
@@ -71,12 +73,13 @@ impl<R: Wait + Sync> Gate for Tracing<'_, R> {
 
     fn turn(&self, seat: &HeapSeat) {
         if is_marking(seat) {
+            self.held.wait(self.rt);
             self.turns.tell();
         }
     }
 }
 
-/// The warehouse passes the eight commands of its fourth cache in the cycle, and where the tracer is just looking for work, those of one or two more.
+/// The warehouse passes the eight commands of its fourth cache in the cycle, and no more.
 #[test]
 fn a_tracer_traces_while_a_warehouse_is_held(rt: HostRuntime) -> Result<(), Fail> {
     let options = Options {
@@ -90,6 +93,7 @@ fn a_tracer_traces_while_a_warehouse_is_held(rt: HostRuntime) -> Result<(), Fail
     let script = read(alloc, source.as_bytes())?;
     let gate = Tracing {
         rt: &rt,
+        held: Signal::of(1),
         turns: Signal::of(20),
         marking: AtomicU64::new(0),
         after: AtomicU64::new(0),
