@@ -1,4 +1,4 @@
-use Rattle.std.proofs.Common.{◌≡◌, sym, ◌∙◌, subst, map, refl, ℕ, List}
+use Rattle.std.proofs.Common.{◌≡◌, sym, ◌∙◌, subst, map, refl}
 use Rattle.std.specs.Prelude.{Option, Some}
 use Rattle.std.specs.String.{string_bytes}
 use Rattle.play_report.specs.Text.{usage_text}
