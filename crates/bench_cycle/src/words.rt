@@ -1,4 +1,5 @@
 //! What the words of the command line ask for.
+ghost use Rattle.std.specs.Prelude.{false};
 ghost use Rattle.mark_core.specs.Shapes.{IsShape};
 
 use mark_core::{BLOCK_CELLS, Shape};
@@ -49,7 +50,7 @@ impl Size {
 
 /// Eight packets of 64 entries, one section, and objects of four fields.
 fn shape_of(cells: u32) -> Shape
-    requires { IsShape (record { cells = cells; packets = 8; entries = 64; sections = 1; fields = 4; objects = 2000000 }) }
+    requires { IsShape (record { cells = cells; packets = 8; entries = 64; sections = 1; fields = 4; objects = 2000000; sharing = false; slots = 0 }) }
     ensures { IsShape result }
 {
     Shape {
