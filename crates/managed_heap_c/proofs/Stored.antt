@@ -16,16 +16,16 @@ use Rattle.managed_heap.specs.declared.stepper.Stepper.{Stepper}
 use Rattle.managed_heap_c.specs.Asking.{IsNil}
 use Rattle.managed_heap_c.specs.Storing.{Stores, StoresNothing, TellsNil}
 
-is_out : Stage → Bool
+abbrev is_out : Stage → Bool
 is_out Outside = true
 is_out stage = false
 
 -- whoever is inside is told of its variables
 refused : (why : Came) (v : ℕ) (x : Stepper) → v < heap_variables → x.stage ≡ Inside → DeclinesToTell why (ops.Say v) x → ⊥
-refused cames.OutOfRange v x low was no = no low
+refused cames.OutOfRange v x low was told = told low
 refused cames.Outside v x low was out = false≢true (sym (ap is_out was) ∙ ap is_out out)
 refused cames.Collecting v x low was e = false≢true (sym (ap is_collecting was) ∙ e)
-refused why v x low was no = no
+refused why v x low was told = told
 
 nothing : (v : ℕ) (op : Op) (x y : Stepper) → StepperDoes op x y → IsNil v x → heap_after (heap_of_stepper x) None op ≡ heap_of_stepper x → StoresNothing v op x y
 nothing v op x y d nil same =
