@@ -27,7 +27,7 @@ fn plays(heap: &Heap, seat: &mut HeapSeat) -> bool
     requires blank { length (view_of seat.old).own.meaning.heap.objects ≡ 0 }
     ensures { OnTrue result (At heap.now playing 1 seat.new × IsReadyMutator heap.now seat.new) }
 {
-    sees_marking(heap, seat, 1) && sees_turn(heap, seat, 1)
+    !heap.shape().sharing && sees_marking(heap, seat, 1) && sees_turn(heap, seat, 1)
 }
 
 /// Whether the seat finds that no cycle is under way.

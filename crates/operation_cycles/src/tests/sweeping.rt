@@ -102,7 +102,6 @@ fn make_five(heap: &Heap, seat: &mut HeapSeat, cache: &mut Cache)
 /// A mutator enters, makes five objects of which three stay reachable, and leaves.
 fn plays(heap: &Heap, seat: &mut HeapSeat) -> bool
     requires { New heap.now resting 1 seat.old }
-    ensures { Sits heap.now seat.new }
 {
     if heap.shape().fields < 2 || !joins(heap, seat) {
         return false;
@@ -133,6 +132,8 @@ fn drained_after_tracing(heap: &Heap, seat: &mut HeapSeat) -> bool
     ensures { OnTrue result (Sits heap.now seat.new × IsDrained (view_of seat.new)) }
 {
     are_bare(seat.state().held)
+        && !seat.state().reserved
+        && !seat.state().credit
         && !work_in_hand(heap.shape().fields, seat)
         && see_to_roots(heap, seat)
         && is_drained(heap, seat)
