@@ -1,12 +1,15 @@
 -- The seats of a world are gathered when it is closed.
-use Rattle.std.proofs.Common.{ℕ, zero, suc, ◌≡◌, ◌<◌, ◌+◌, ◌⊎◌, ⊎_elim, inl, inr, arith, ◌∙◌, List, [], ◌∷◌, ◌++◌, All, ap, refl, sym, subst, Some}
+use Rattle.std.proofs.Common.{ℕ, zero, suc, ◌≡◌, ◌<◌, ◌+◌, ◌⊎◌, ⊎_elim, inl, inr, arith, ◌∙◌, List, [], ◌∷◌, ◌++◌, All, ap, length, refl, sym, subst, Some}
 use Rattle.std.specs.Prelude.{slice_get}
 use Rattle.std.specs.Arc.{arc_value}
-use Rattle.std.proofs.lemmas.Option.{get_or_from_slice_get, slice_get_within}
+use Rattle.std.proofs.lemmas.Option.{get_or_from_slice_get, same_Some, slice_get_within}
 use Rattle.gc_table.specs.Ends.{IsEnd}
+use Rattle.gc_table.specs.Seats.{state_of, view_of}
+use Rattle.gc_table.specs.declared.seat.Heap.{Heap}
 use Rattle.gc_table.specs.declared.seat.HeapSeat.{HeapSeat}
 use Rattle.gc_table.specs.declared.words.Words.{Words}
-use Rattle.shared_heap.specs.Closing.{AreLeft, Gathers, HasLeft, IsSharedEnd}
+use Rattle.gc_table.proofs.Running.{ran-number}
+use Rattle.shared_heap.specs.Closing.{AreAll, AreLeft, AreNumbered, Gathers, HasLeft, IsSharedEnd}
 use Rattle.shared_heap.specs.declared.mutator.SharedMutator.{SharedMutator}
 use Rattle.shared_heap.specs.declared.world.SharedWorld.{SharedWorld}
 
@@ -29,9 +32,6 @@ none_more : (front : List SharedMutator) → front ++ [] ≡ front
 none_more [] = refl
 none_more (n ∷ ns) = ap (λ (l : List SharedMutator). n ∷ l) (none_more ns)
 
-pub gathers-none : (all : List SharedMutator) (root : HeapSeat) (seats : List HeapSeat) → seats ≡ root ∷ [] → Gathers all all root seats
-gathers-none all root seats e = record { front = []; parts = refl; rest = []; left = tt; seats_are = e }
-
 pub gathers-more : (all old more : List SharedMutator) (root s : HeapSeat) (m : SharedMutator) (seats after : List HeapSeat) → Gathers all old root seats → old ≡ m ∷ more → HasLeft m s → after ≡ seats ++ s ∷ [] → Gathers all more root after
 gathers-more all old more root s m seats after g first left pushed =
     record {
@@ -42,13 +42,44 @@ gathers-more all old more root s m seats after g first left pushed =
       seats_are = pushed ∙ ap (λ (l : List HeapSeat). l ++ s ∷ []) g.seats_are;
     }
 
+left_length : (ms : List SharedMutator) (ss : List HeapSeat) → AreLeft ms ss → length ss ≡ length ms
+left_length [] [] k = refl
+left_length [] (t ∷ ts) k = absurd k
+left_length (n ∷ ns) [] k = absurd k
+left_length (n ∷ ns) (t ∷ ts) k = ap suc (left_length ns ts k.1)
+
+left_number : (m : SharedMutator) (s : HeapSeat) → HasLeft m s → (state_of s).number ≡ (state_of m.seat).number
+left_number m s k = ap (λ (t : HeapSeat). (state_of t).number) k.seat_is ∙ ran-number (view_of m.seat) (view_of k.left.seat) k.leaves.same.leaves.ran
+
+left_at : (ms : List SharedMutator) (ss : List HeapSeat) → AreLeft ms ss → (i : ℕ) (s : HeapSeat) → slice_get ss i ≡ Some s → (m : SharedMutator) × (slice_get ms i ≡ Some m) × HasLeft m s
+left_at [] [] k i s e = absurd (cc)
+left_at [] (t ∷ ts) k i s e = absurd k
+left_at (n ∷ ns) [] k i s e = absurd k
+left_at (n ∷ ns) (t ∷ ts) k zero s e = (n, refl, subst (HasLeft n) (same_Some t s e) k.0)
+left_at (n ∷ ns) (t ∷ ts) k (suc i) s e = left_at ns ts k.1 i s e
+
+-- the seats of all mutators that have left stand in the order of their numbers, behind section 0's
+pub gathers-numbered : (n : ℕ) (all : List SharedMutator) (root : HeapSeat) (seats : List HeapSeat) → AreAll n all → (state_of root).number ≡ 0 → Gathers all [] root seats → AreNumbered seats
+gathers-numbered n all root seats are first g =
+    subst AreNumbered (sym g.seats_are) numbered
+  where
+    left : AreLeft all g.rest
+    left = subst (λ (l : List SharedMutator). AreLeft l g.rest) (sym (g.parts ∙ none_more g.front)) g.left
+
+    numbered : AreNumbered (root ∷ g.rest)
+    numbered zero s e = ap (λ (t : HeapSeat). (state_of t).number) (sym (same_Some root s e)) ∙ first
+    numbered (suc i) s e = let at = left_at all g.rest left i s e in let one : i + 1 ≡ suc i = omega arith in left_number at.0 s at.2 ∙ (are.1 i at.0 at.1 ∙ one)
+
 -- all have left, and the heap was closed with their seats
-pub shared-end : (world : SharedWorld) (all : List SharedMutator) (seats : List HeapSeat) (w : Words) → Gathers all [] world.zero seats → IsEnd (arc_value world.heap).shape seats w → IsSharedEnd world all w
-shared-end world all seats w g end =
+pub shared-end : (world : SharedWorld) (all : List SharedMutator) (seats : List HeapSeat) (h : Heap) (w : Words) → arc_value world.heap ≡ h → AreAll (arc_value world.heap).shape.sections all → Gathers all [] world.zero seats → IsEnd h.shape seats w
+    → IsSharedEnd world all w
+shared-end world all seats h w same are g end =
+    let left = subst (λ (l : List SharedMutator). AreLeft l g.rest) (sym (g.parts ∙ none_more g.front)) g.left in
     record {
       rest = g.rest;
-      left = subst (λ (l : List SharedMutator). AreLeft l g.rest) (sym (g.parts ∙ none_more g.front)) g.left;
-      ends = subst (λ (l : List HeapSeat). IsEnd (arc_value world.heap).shape l w) g.seats_are end;
+      left = left;
+      ends = subst (λ (q : Heap × List HeapSeat). IsEnd q.0.shape q.1 w) (λ i. (sym same i, g.seats_are i)) end;
+      all = let long = left_length all g.rest left in omega (arith, world.first.opened, are.0, long);
     }
 
 pub below-or-last : (k n : ℕ) → k < n + 1 → (k < n) ⊎ (k ≡ n)

@@ -1,3 +1,8 @@
 mod Beginning
+mod Dealt
 mod Gathering
+mod Once
+mod Places
+mod Rooted
 mod Rooting
+mod Threads

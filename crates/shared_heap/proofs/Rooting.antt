@@ -1,5 +1,5 @@
 -- The seat of section 0 makes the root, and then the season moves on.
-use Rattle.std.proofs.Common.{ℕ, ◌≡◌, ◌+◌, ◌<◌, ◌==◌, ◌&&◌, ◌∙◌, List, [], ◌∷◌, length, ap, arith, refl, sym, subst, cond, Bool, true, false, not, Option, None, Some, eqb-true, ⊎_elim}
+use Rattle.std.proofs.Common.{ℕ, ◌≡◌, ◌+◌, ◌<◌, ◌==◌, ◌&&◌, ◌∙◌, length, ap, arith, refl, sym, subst, cond, Bool, true, false, not, Option, None, Some, eqb-true, ⊎_elim}
 use Rattle.std.specs.Prelude.{is_none, is_some, nat_lt}
 use Rattle.std.proofs.lemmas.Bool.{and_from, and_parts, eq-eqb, false≢true, lt-ltb, not-true}
 use Rattle.std.proofs.lemmas.Option.{get_or_from_slice_get}
@@ -15,9 +15,8 @@ use Rattle.mark_core.proofs.Notes.NotesKept.{single-word}
 use Rattle.plain_heap.specs.PlainHeap.{Heap as PlainHeap}
 use Rattle.plain_heap.specs.PlainStep.{heap_after}
 use Rattle.plain_heap.specs.declared.operation.Op.TheVariants as ops
-use Rattle.alloc_cache.specs.Caching.{IsCached, cached}
+use Rattle.alloc_cache.specs.Caching.{IsCached}
 use Rattle.alloc_cache.specs.Claiming.{Claims}
-use Rattle.alloc_cache.specs.Making.{with_cell}
 use Rattle.alloc_cache.specs.declared.cache.Cache.{Cache}
 use Rattle.gc_table.specs.Running.{Alone, Ran}
 use Rattle.gc_table.specs.Seats.{Found, Sits, Took, view_of}
@@ -30,10 +29,10 @@ use Rattle.gc_table.specs.declared.view.SectionState.{SectionState}
 use Rattle.gc_table.specs.declared.view.View.{View}
 use Rattle.gc_table.proofs.Noticing.{alone-step}
 use Rattle.gc_table.proofs.Running.{ran-join, ran-plan, ran-shape}
-use Rattle.gc_cycle.specs.Standing.{IsAlone, KeepsSeat, KeepsSection, Mutates, is_at_rest}
-use Rattle.mutator_ops.specs.Sharing.{ShareCreates, SharesReady}
+use Rattle.gc_cycle.specs.Standing.{KeepsSeat, KeepsSection, Mutates, is_at_rest}
+use Rattle.mutator_ops.specs.Sharing.{ShareCreates}
 use Rattle.seat_turns.specs.Turning.{LooksAtSeason}
-use Rattle.shared_heap.specs.Opening.{HasFirstCache, HasRoot, IsAloneInIdle, IsAtFirstTurn, IsFirst, IsNewSeat, StopsWithRoot, empty_in, rooted_in}
+use Rattle.shared_heap.specs.Opening.{HasFirstCache, HasRoot, IsAloneInIdle, IsAtFirstTurn, IsFirst, IsNewSeat, empty_in}
 
 first_section : (sh : Shape) → 0 < sh.sections → cond {A = Option ℕ} (nat_lt 0 sh.sections) (Some 0) None ≡ Some 0
 first_section sh l = ap (λ (b : Bool). cond {A = Option ℕ} b (Some 0) None) (lt-ltb 0 sh.sections l)

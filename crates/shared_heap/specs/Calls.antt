@@ -1,15 +1,17 @@
 -- What a call of a mutator does whose world shares its objects. A call is told by its events: the steps that it added to the log of its seat, with what each found.
-use Rattle.std.specs.Prelude.{ℕ, ◌≡◌, ◌≤◌, ◌<◌, ◌-◌, List, [], ◌∷◌, length, IsTrue}
+use Rattle.std.specs.Prelude.{ℕ, ◌≡◌, ◌<◌, ◌-◌, IsTrue}
 use Rattle.std.specs.Arc.{arc_value}
 use Rattle.mark_core.specs.Numbers.{section_variables}
 use Rattle.mark_core.specs.Steps.MutatorSteps.{seat_variable as word_in}
 use Rattle.mark_core.specs.declared.kinds.Step.TheVariants.{ReadValue}
 use Rattle.plain_heap.specs.PlainStep.{IsInRange}
 use Rattle.plain_heap.specs.declared.operation.Op.{Op}
+use Rattle.plain_heap.specs.declared.operation.Op.TheVariants as ops
 use Rattle.gc_table.specs.Rule.{KnowsFull}
 use Rattle.gc_table.specs.Seats.{Across, Found, did, state_of, view_of}
 use Rattle.gc_table.specs.declared.view.View.{View}
 use Rattle.gc_cycle.specs.Cycles.{collects}
+use Rattle.mutator_ops.specs.Sharing.{LendsFound}
 use Rattle.mutator_turns.specs.Sharing.{LeavesHeap}
 use Rattle.mutator_turns.specs.declared.refused.Refused.{Refused}
 use Rattle.mutator_turns.specs.declared.refused.Refused.TheVariants as refusals
@@ -20,24 +22,36 @@ use Rattle.shared_heap.specs.declared.mutator.SharedMutator.{SharedMutator}
 abbrev pub field_count_of : SharedMutator → ℕ
 field_count_of m = (arc_value m.heap).shape.fields
 
--- the call went so, from what the seat knew before to what it knows after; the mutator was inside and is
-pub record SharerDoes (P : View → View → Type 0) (op : Op) (x y : SharedMutator) : Type 0 where
-  pub range : IsInRange (field_count_of x) op
+-- the call went so, from what the seat knew before to what it knows after: its numbers were in range; the mutator was inside and is
+pub record SharerActs (range : Type 0) (P : View → View → Type 0) (x y : SharedMutator) : Type 0 where
+  pub in_range : range
   pub was : x.place ≡ Inside
   pub inside : y.place ≡ Inside
   pub does : Across P x.seat y.seat
   pub world : arc_value y.heap ≡ arc_value x.heap
 
--- why an operation isn't done: a number is out of range, or the mutator is outside
+-- an operation went so
+abbrev pub SharerDoes : (View → View → Type 0) → Op → SharedMutator → SharedMutator → Type 0
+SharerDoes P op x y = SharerActs (IsInRange (field_count_of x) op) P x y
+
+-- why a call isn't done: a number is out of range, or the mutator is outside
+abbrev pub CantAct : Refused → Type 0 → SharedMutator → Type 0
+CantAct refusals.OutOfRange range x = range → ⊥
+CantAct refusals.Outside range x = x.place ≡ Outside
+CantAct e range x = ⊥
+
+-- why an operation isn't done
 abbrev pub Refuses : Refused → Op → SharedMutator → Type 0
-Refuses refusals.OutOfRange op x = IsInRange (field_count_of x) op → ⊥
-Refuses refusals.Outside op x = x.place ≡ Outside
-Refuses e op x = ⊥
+Refuses e op x = CantAct e (IsInRange (field_count_of x) op) x
+
+-- the call wasn't done: no step was taken
+pub record ActRefused (e : Refused) (range : Type 0) (x y : SharedMutator) : Type 0 where
+  pub why : CantAct e range x
+  pub same : y ≡ x
 
 -- the operation wasn't done: no step was taken
-pub record SharerRefused (e : Refused) (op : Op) (x y : SharedMutator) : Type 0 where
-  pub why : Refuses e op x
-  pub same : y ≡ x
+abbrev pub SharerRefused : Refused → Op → SharedMutator → SharedMutator → Type 0
+SharerRefused e op x y = ActRefused e (IsInRange (field_count_of x) op) x y
 
 -- no step was taken that a plain heap sees; the variables are as they were
 pub record IsSame (x y : SharedMutator) : Type 0 where
@@ -97,3 +111,8 @@ ReadsNone refusals.OutOfRange v x y = (v < section_variables → ⊥) × (y ≡ 
 ReadsNone refusals.Outside v x y = (x.place ≡ Outside) × (y ≡ x)
 ReadsNone refusals.Nil v x y = (v < section_variables) × (x.place ≡ Inside) × (y.place ≡ Inside) × (word_in (state_of x.seat) v ≡ 0) × IsSame x y
 ReadsNone e v x y = ⊥
+
+-- why the root isn't had: besides, the variable of section 0 was read, and found nil
+abbrev pub HasNoRoot : Refused → ℕ → SharedMutator → SharedMutator → Type 0
+HasNoRoot refusals.Nil w x y = SharerDoes (LendsFound w 0) (ops.Cat w 0) x y × (word_in (state_of y.seat) w ≡ 0)
+HasNoRoot e w x y = SharerRefused e (ops.Cat w 0) x y

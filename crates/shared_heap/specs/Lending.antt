@@ -1,20 +1,60 @@
--- What is so of a new shared world.
-use Rattle.std.specs.Prelude.{◌≡◌, All, IsTrue, vec_len}
+-- What is so of a new shared world, and of one that lends its mutators and takes them back.
+use Rattle.std.specs.Prelude.{ℕ, ◌≡◌, ◌<◌, ◌+◌, ◌++◌, List, [], ◌∷◌, IsTrue, Some, replicate, slice_get, vec_len}
 use Rattle.std.specs.Arc.{arc_value}
+use Rattle.mark_core.specs.Numbers.{free_count, last_count, section_variables}
+use Rattle.mark_core.specs.declared.kinds.Step.TheVariants.{ReadStat}
+use Rattle.gc_table.specs.Seats.{Found, state_of, view_of}
 use Rattle.gc_table.specs.declared.seat.Heap.{Heap}
+use Rattle.gc_table.specs.declared.view.View.{View}
+use Rattle.shared_heap.specs.Calls.{SharerLeft}
 use Rattle.shared_heap.specs.declared.mutator.Place.TheVariants.{Outside}
 use Rattle.shared_heap.specs.declared.mutator.SharedMutator.{SharedMutator}
 use Rattle.shared_heap.specs.declared.sizes.SharedSizes.{SharedSizes}
+use Rattle.shared_heap.specs.declared.world.SharedStatistics.{SharedStatistics}
 use Rattle.shared_heap.specs.declared.world.SharedWorld.{SharedWorld}
 
--- a mutator of this heap that has done nothing
-pub record IsFreshSharer (h : Heap) (m : SharedMutator) : Type 0 where
+-- mutator k of this heap, counted from 1, with this name, which has done nothing: all its variables are nil
+pub record IsFreshSharer (h : Heap) (name k : ℕ) (m : SharedMutator) : Type 0 where
   pub heap : arc_value m.heap ≡ h
   pub place : m.place ≡ Outside
+  pub name_is : m.name ≡ name
+  pub number : (state_of m.seat).number ≡ k
+  pub section : (state_of m.seat).section ≡ Some k
+  pub variables : (state_of m.seat).env ≡ replicate section_variables 0
+  pub made : (state_of m.seat).made ≡ 0
+  pub log : (view_of m.seat).log ≡ []
+
+-- none of these has done anything; they stand in the order of their numbers, the first of which is k
+abbrev pub AreFresh : Heap → ℕ → ℕ → List SharedMutator → Type 0
+AreFresh h name k ms = (i : ℕ) (m : SharedMutator) → slice_get ms i ≡ Some m → IsFreshSharer h name (k + i) m
 
 -- a new world of these sizes: nobody has one of its mutators
 pub record IsSharedOpened (sizes : SharedSizes) (w : SharedWorld) : Type 0 where
+  pub sizes_are : w.sizes ≡ sizes
+  pub cells : (arc_value w.heap).shape.cells ≡ sizes.cells
   pub fields : (arc_value w.heap).shape.fields ≡ sizes.fields
+  pub slots : (arc_value w.heap).shape.slots ≡ sizes.slots
   pub shared : IsTrue (arc_value w.heap).shape.sharing
-  pub fresh : All (IsFreshSharer (arc_value w.heap)) w.mutators.items
+  pub fresh : AreFresh (arc_value w.heap) sizes.name 1 w.mutators.items
   pub count : vec_len w.mutators ≡ sizes.mutators
+
+-- the heap, its sizes and what is known of it are as before
+pub record KeepsRest (x y : SharedWorld) : Type 0 where
+  pub heap : y.heap ≡ x.heap
+  pub zero : y.zero ≡ x.zero
+  pub sizes_are : y.sizes ≡ x.sizes
+
+-- the mutator has the world's name, one was out, and it left and is the world's
+pub record IsBack (m : SharedMutator) (x y : SharedWorld) : Type 0 where
+  pub name_is : m.name ≡ x.sizes.name
+  pub out : vec_len x.mutators < x.sizes.mutators
+  pub left : SharedMutator
+  pub has_left : SharerLeft m left
+  pub items : y.mutators.items ≡ x.mutators.items ++ left ∷ []
+
+-- the number of free cells was read, and then the number of those that the last cycle marked
+pub record ReadsNumbers (s : SharedStatistics) (h : Heap) (v w : View) : Type 0 where
+  pub cells : s.cells ≡ h.shape.cells
+  pub between : View
+  pub free : Found (ReadStat free_count) s.free v between
+  pub marked : Found (ReadStat last_count) s.marked between w

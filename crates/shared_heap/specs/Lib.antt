@@ -3,4 +3,8 @@ pub mod Closing
 pub mod Lending
 pub mod Opening
 pub mod Planning
+pub mod Rooting
 pub mod Sizing
+pub mod Spilling
+pub mod Threads
+pub mod Wanting

@@ -1,5 +1,5 @@
 -- The seats of a new shared heap, and what the seat of section 0 comes to while it makes the root and moves the season on.
-use Rattle.std.specs.Prelude.{ℕ, ◌≡◌, ◌+◌, [], List, None, Some, IsFalse, IsTrue, length, slice_get}
+use Rattle.std.specs.Prelude.{ℕ, ◌≡◌, ◌+◌, List, None, Some, IsFalse, length, slice_get}
 use Rattle.mark_core.specs.declared.kinds.Phase.TheVariants.{Idle}
 use Rattle.mark_core.specs.declared.kinds.Shape.{Shape}
 use Rattle.plain_heap.specs.PlainHeap.{Heap as PlainHeap, empty_heap}

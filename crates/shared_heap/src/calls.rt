@@ -1,12 +1,12 @@
 //! What a mutator of a shared world does.
 ghost use Rattle.std.specs.Arc.{arc_value};
-ghost use Rattle.std.specs.Prelude.{◌≡◌, IfErr, IfOk, IsFalse, IsTrue};
+ghost use Rattle.std.specs.Prelude.{◌≡◌, ◌<◌, ◌+◌, IfErr, IfOk, IsFalse, IsTrue};
 ghost use Rattle.mark_core.specs.Steps.MutatorSteps.{seat_variable as word_in};
 ghost use Rattle.plain_heap.specs.declared.operation.Op.TheVariants as ops;
 ghost use Rattle.gc_table.specs.Seats.{state_of};
 ghost use Rattle.mutator_ops.specs.Sharing.{LendsFound, SetsVariable, TakesSteps, putting_steps, setting_steps};
 ghost use Rattle.mutator_turns.specs.Sharing.{FollowsField, MakesSharedAfter};
-ghost use Rattle.shared_heap.specs.Calls.{CantEnter, FindsValue, HasPassed, MakesNone, ReadsNone, Refuses, SharerCollected, SharerDoes, SharerEntered, SharerLeft, SharerRefused, StaysOut};
+ghost use Rattle.shared_heap.specs.Calls.{CantEnter, FindsValue, HasNoRoot, HasPassed, MakesNone, ReadsNone, Refuses, SharerCollected, SharerDoes, SharerEntered, SharerLeft, SharerRefused, StaysOut};
 
 use crate::mutator::{Place, SharedMutator};
 use cache_refills::Unwatched;
@@ -90,9 +90,11 @@ impl SharedMutator {
         }
     }
 
-    /// Makes an object with this value, whose references refer to nothing, and lets variable v refer to it. It is a safe point.
-    pub fn make<R: Wait>(&mut self, rt: &R, v: u8, value: u32) -> Result<(), Refused>
-        ensures made { IfOk result (λ _. SharerDoes (MakesSharedAfter v value) (ops.New v value) self.old self.new) }
+    /// Makes an object with this value, whose references refer to nothing, and lets variable v refer to it. It is a safe point. The answer is the cell in which
+    /// the object lies for as long as it is reachable.
+    pub fn make<R: Wait>(&mut self, rt: &R, v: u8, value: u32) -> Result<u32, Refused>
+        ensures made { IfOk result (λ c. SharerDoes (MakesSharedAfter v value) (ops.New v value) self.old self.new) }
+        ensures place { IfOk result (λ c. word_in (state_of self.new.seat) v ≡ c + 1) }
         ensures refused { IfErr result (λ e. MakesNone e (ops.New v value) self.old self.new) }
         ensures world { arc_value self.new.heap ≡ arc_value self.old.heap }
     {
@@ -109,7 +111,7 @@ impl SharedMutator {
                 value,
                 &mut Unwatched,
             ) {
-                Ok(()) => Ok(()),
+                Ok(()) => Ok(word_of(&self.seat, v) - 1),
                 Err(Refused::Full) => {
                     self.place = Place::Outside;
                     Err(Refused::Full)
@@ -119,10 +121,12 @@ impl SharedMutator {
         }
     }
 
-    /// Variable w becomes the root: the object that the world made when it was opened, by which its mutators find each other's objects.
+    /// Variable w becomes the root: the object that the world made when it was opened, by which its mutators find each other's objects. It is looked at before
+    /// it is told: Nil says that nothing was found, of which the contracts alone don't say that it can't be.
     pub fn root(&mut self, w: u8) -> Result<(), Refused>
         ensures done { IfOk result (λ _. SharerDoes (LendsFound w 0) (ops.Cat w 0) self.old self.new) }
-        ensures refused { IfErr result (λ e. SharerRefused e (ops.Cat w 0) self.old self.new) }
+        ensures some { IfOk result (λ _. 0 < word_in (state_of self.new.seat) w) }
+        ensures refused { IfErr result (λ e. HasNoRoot e w self.old self.new) }
         ensures world { arc_value self.new.heap ≡ arc_value self.old.heap }
     {
         if w >= VARIABLES {
@@ -132,6 +136,9 @@ impl SharedMutator {
             Place::Outside => Err(Refused::Outside),
             Place::Inside => {
                 lend_shared(&self.heap, &mut self.seat, w, ROOT);
+                if word_of(&self.seat, w) == 0 {
+                    return Err(Refused::Nil);
+                }
                 Ok(())
             }
         }

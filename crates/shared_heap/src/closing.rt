@@ -1,28 +1,37 @@
 //! A shared world is closed, and the run of its threads is handed out.
-ghost use Rattle.std.specs.Prelude.{◌≡◌, ◌<◌, All, IfOk, [], vec_len};
-ghost use Rattle.std.specs.Bool.{OnTrue};
+ghost use Rattle.std.specs.Prelude.{◌≡◌, ◌<◌, ◌≤◌, ◌+◌, [], All, IfErr, IfOk, vec_capacity, vec_len};
+ghost use Rattle.std.specs.Bool.{OnFalse, OnTrue};
 ghost use Rattle.std.specs.Arc.{arc_value};
 ghost use Rattle.gc_table.specs.Ends.{IsEnd};
 ghost use Rattle.mutator_turns.specs.Standing.{RestsOutside};
-ghost use Rattle.shared_heap.specs.Closing.{AreNumbered, Gathers, HasLeft, IsSharedEnd};
+ghost use Rattle.shared_heap.specs.declared.closing.NotClosed.TheVariants.{Gone};
+ghost use Rattle.shared_heap.specs.Closing.{AreAll, AreNumbered, Gathers, HasLeft, IsSharedEnd, IsUnclosed};
 
 use crate::lending::first_of;
 use crate::mutator::SharedMutator;
 use crate::world::SharedWorld;
 use gc_table::{Heap, HeapSeat, Words};
-use std::alloc::{AllocError, Global};
+use std::alloc::Global;
 use std::sync::Arc;
-use thiserror::Error;
 
-/// Why a world gave no words when it was closed. It is gone then.
-#[derive(Clone, Copy, Debug, PartialEq, Eq, Drop, Error)]
+/// A world that wasn't closed, and the mutators that were handed in.
+#[derive(Drop)]
+pub struct Unclosed {
+    /// The world, as it was.
+    pub world: SharedWorld,
+    /// The mutators, as they were.
+    pub mutators: Vec<SharedMutator>,
+}
+
+/// Why a world gave no words when it was closed.
+#[derive(Drop)]
 pub enum NotClosed {
-    /// Some mutator wasn't handed in, or they came in another order than they were taken in.
-    #[error("a mutator is missing, or not in its place")]
-    Missing,
-    /// There is no memory for the words.
-    #[error("out of memory")]
-    OutOfMemory,
+    /// A mutator wasn't handed in, or they stand in another order than that of their numbers. All is handed back.
+    Missing(Unclosed),
+    /// There is no memory to gather the mutators in. All is handed back.
+    NoRoom(Unclosed),
+    /// There is no memory for the words. The world is gone.
+    Gone,
 }
 
 /// The seat of a mutator, which leaves first.
@@ -36,38 +45,44 @@ fn seat_of(mutator: SharedMutator) -> HeapSeat
         heap: _,
         seat,
         place: _,
+        name: _,
     } = mutator;
     seat
 }
 
 /// The seat of section 0, and behind it those of the mutators, which leave first.
 fn gather(
-    alloc: Global,
     _heap: &Arc<Heap, Global>,
     zero: HeapSeat,
     mutators: &mut Vec<SharedMutator>,
-) -> Result<Vec<HeapSeat>, AllocError>
+    room: Vec<HeapSeat>,
+) -> Vec<HeapSeat>
     requires same { All (λ m. arc_value m.heap ≡ arc_value _heap.now) mutators.old.items }
     requires zero { RestsOutside (arc_value _heap.now) zero }
-    ensures rest { IfOk result (λ r. All (RestsOutside (arc_value _heap.now)) r.items) }
-    ensures gathers { IfOk result (λ r. Gathers mutators.old.items [] zero r.items) }
+    requires room { (room.items ≡ []) × (vec_len mutators.old + 1 ≤ vec_capacity room) }
+    ensures rest { All (RestsOutside (arc_value _heap.now)) result.items }
+    ensures gathers { Gathers mutators.old.items [] zero result.items }
 {
-    let mut seats = Vec::new(alloc);
-    seats.push(zero)?;
+    let mut seats = room;
+    seats.push_reserved(zero);
     let count = mutators.len();
     for _at in 0..count {
         let mutator = first_of(mutators);
-        seats.push(seat_of(mutator))?;
+        seats.push_reserved(seat_of(mutator));
     }
-    Ok(seats)
+    seats
 }
 
-/// Whether the seats stand in the order of their numbers.
-fn are_numbered(seats: &[HeapSeat]) -> bool
-    ensures { OnTrue result (AreNumbered seats.now) }
+/// Whether these are all mutators of a heap of so many sections, in the order of their numbers.
+fn are_all(sections: u32, mutators: &[SharedMutator]) -> bool
+    ensures all { OnTrue result (AreAll sections mutators.now) }
+    ensures missing { OnFalse result (AreAll sections mutators.now → ⊥) }
 {
-    for at in 0..seats.len() {
-        if seats[at].number() as usize != at {
+    if mutators.len() + 1 != sections as usize {
+        return false;
+    }
+    for at in 0..mutators.len() {
+        if mutators[at].seat.number() as usize != at + 1 {
             return false;
         }
     }
@@ -79,37 +94,63 @@ fn close_heap(heap: Heap, alloc: Global, seats: Vec<HeapSeat>) -> Result<Words, 
     requires some { 0 < vec_len seats }
     requires rest { All (RestsOutside heap) seats.items }
     requires numbered { AreNumbered seats.items }
-    ensures { IfOk result (λ w. IsEnd heap.shape seats.items w) }
+    ensures closed { IfOk result (λ w. IsEnd heap.shape seats.items w) }
+    ensures gone { IfErr result (λ e. e ≡ Gone) }
 {
     match heap.close(alloc, seats) {
         Ok(words) => Ok(words),
-        Err(_) => Err(NotClosed::OutOfMemory),
+        Err(_) => Err(NotClosed::Gone),
+    }
+}
+
+/// The words of a world all of whose mutators are there.
+fn close_all(
+    world: SharedWorld,
+    alloc: Global,
+    mutators: Vec<SharedMutator>,
+    room: Vec<HeapSeat>,
+) -> Result<Words, NotClosed>
+    requires same { All (λ m. arc_value m.heap ≡ arc_value world.heap) mutators.items }
+    requires all { AreAll (arc_value world.heap).shape.sections mutators.items }
+    requires room { (room.items ≡ []) × (vec_len mutators + 1 ≤ vec_capacity room) }
+    ensures closed { IfOk result (λ w. IsSharedEnd world mutators.items w) }
+    ensures gone { IfErr result (λ e. e ≡ Gone) }
+{
+    let SharedWorld {
+        heap,
+        zero,
+        mutators: untaken,
+        sizes: _,
+    } = world;
+    drop(untaken);
+    let mut mutators = mutators;
+    let seats = gather(&heap, zero, &mut mutators, room);
+    match Arc::into_inner(heap) {
+        Some(heap) => close_heap(heap, alloc, seats),
+        None => Err(NotClosed::Gone),
     }
 }
 
 impl SharedWorld {
-    /// Closes the world with all its mutators, in the order in which they were taken, and hands out what its words say. What the threads did is then one run:
-    /// the law `threads_share_one_heap` of the crate `heap_runs` speaks of it.
+    /// Closes the world with all its mutators, in the order of their numbers, and hands out what its words say. What the threads did is then one run, in which
+    /// nobody else took part: the law [`threads_run`](crate::threads_run) speaks of it. Where a mutator is missing, or where there is no memory to gather them
+    /// in, all is handed back.
     pub fn close(self, alloc: Global, mutators: Vec<SharedMutator>) -> Result<Words, NotClosed>
         requires same { All (λ m. arc_value m.heap ≡ arc_value self.heap) mutators.items }
         ensures closed { IfOk result (λ w. IsSharedEnd self mutators.items w) }
+        ensures unclosed { IfErr result (λ e. IsUnclosed e self mutators.items) }
     {
-        let SharedWorld {
-            heap,
-            zero,
-            mutators: untaken,
-        } = self;
-        drop(untaken);
-        let mut mutators = mutators;
-        let Ok(seats) = gather(alloc, &heap, zero, &mut mutators) else {
-            return Err(NotClosed::OutOfMemory);
-        };
-        if seats.is_empty() || !are_numbered(seats.as_slice()) {
-            return Err(NotClosed::Missing);
+        let sections = self.heap.shape().sections;
+        if !are_all(sections, mutators.as_slice()) {
+            let world = self;
+            return Err(NotClosed::Missing(Unclosed { world, mutators }));
         }
-        match Arc::into_inner(heap) {
-            Some(heap) => close_heap(heap, alloc, seats),
-            None => Err(NotClosed::Missing),
+        match Vec::with_capacity(alloc, sections as usize) {
+            Ok(room) => close_all(self, alloc, mutators, room),
+            Err(_) => {
+                let world = self;
+                Err(NotClosed::NoRoom(Unclosed { world, mutators }))
+            }
         }
     }
 }

@@ -1,9 +1,10 @@
 //! The seats of a new heap are dealt out to mutators.
 ghost use Rattle.std.specs.Arc.{arc_value};
-ghost use Rattle.std.specs.Prelude.{◌≡◌, ◌+◌, ◌<◌, ◌≤◌, All, IfOk, IsTrue, vec_len};
+ghost use Rattle.std.specs.Prelude.{◌≡◌, ◌+◌, ◌<◌, ◌≤◌, IfOk, IsTrue, vec_len};
 ghost use Rattle.mutator_turns.specs.Standing.{RestsOutside};
-ghost use Rattle.shared_heap.specs.Lending.{IsFreshSharer, IsSharedOpened};
+ghost use Rattle.shared_heap.specs.Lending.{AreFresh, IsFreshSharer, IsSharedOpened};
 ghost use Rattle.shared_heap.specs.Opening.{AreNew, IsNewSeat};
+ghost use Rattle.shared_heap.specs.Rooting.{IsRootSeat};
 ghost use Rattle.shared_heap.specs.Sizing.{Fits};
 
 use crate::mutator::{Place, SharedMutator};
@@ -20,16 +21,18 @@ fn mutator_of(
     heap: &Arc<Heap, Global>,
     seat: HeapSeat,
     _k: u32,
+    name: u32,
 ) -> Result<SharedMutator, AllocError>
     requires seat { IsNewSeat (arc_value heap.now) _k seat }
     requires section { (0 < _k) × (_k < (arc_value heap.now).shape.sections) }
     requires shared { IsTrue (arc_value heap.now).shape.sharing }
-    ensures fresh { IfOk result (IsFreshSharer (arc_value heap.now)) }
+    ensures fresh { IfOk result (IsFreshSharer (arc_value heap.now) name _k) }
 {
     Ok(SharedMutator {
         heap: Arc::try_clone(heap)?,
         seat,
         place: Place::Outside,
+        name,
     })
 }
 
@@ -37,20 +40,20 @@ fn mutator_of(
 fn deal_mutators(
     alloc: Global,
     heap: &Arc<Heap, Global>,
-    mutators: u32,
+    sizes: SharedSizes,
     seats: &mut Vec<HeapSeat>,
 ) -> Result<Vec<SharedMutator>, AllocError>
     requires new { AreNew (arc_value heap.now) 1 seats.old.items }
-    requires enough { mutators ≤ vec_len seats.old }
-    requires sections { ((arc_value heap.now).shape.sections ≡ 1 + mutators) × (mutators ≤ 32) }
+    requires enough { sizes.mutators ≤ vec_len seats.old }
+    requires sections { ((arc_value heap.now).shape.sections ≡ 1 + sizes.mutators) × (sizes.mutators ≤ 32) }
     requires shared { IsTrue (arc_value heap.now).shape.sharing }
-    ensures fresh { IfOk result (λ r. All (IsFreshSharer (arc_value heap.now)) r.items) }
-    ensures count { IfOk result (λ r. vec_len r ≡ mutators) }
+    ensures fresh { IfOk result (λ r. AreFresh (arc_value heap.now) sizes.name 1 r.items) }
+    ensures count { IfOk result (λ r. vec_len r ≡ sizes.mutators) }
 {
     let mut all = Vec::new(alloc);
-    for at in 0..mutators {
+    for at in 0..sizes.mutators {
         let seat = next_seat(seats);
-        let mutator = mutator_of(heap, seat, 1 + at)?;
+        let mutator = mutator_of(heap, seat, 1 + at, sizes.name)?;
         all.push(mutator)?;
     }
     Ok(all)
@@ -65,19 +68,21 @@ fn share(
     sizes: SharedSizes,
 ) -> Result<SharedWorld, AllocError>
     requires fits { Fits sizes }
-    requires zero { RestsOutside heap zero }
+    requires zero { RestsOutside heap zero × IsRootSeat heap zero }
     requires new { AreNew heap 1 seats.old.items }
     requires count { vec_len seats.old ≡ sizes.mutators }
     requires shared { IsTrue heap.shape.sharing }
-    requires shape { (heap.shape.fields ≡ sizes.fields) × (heap.shape.sections ≡ 1 + sizes.mutators) }
+    requires cells { heap.shape.cells ≡ sizes.cells }
+    requires shape { (heap.shape.fields ≡ sizes.fields) × (heap.shape.sections ≡ 1 + sizes.mutators) × (heap.shape.slots ≡ sizes.slots) }
     ensures opened { IfOk result (λ w. IsSharedOpened sizes w) }
 {
     let heap = Arc::new(alloc, heap)?;
-    let mutators = deal_mutators(alloc, &heap, sizes.mutators, seats)?;
+    let mutators = deal_mutators(alloc, &heap, sizes, seats)?;
     Ok(SharedWorld {
         heap,
         zero,
         mutators,
+        sizes,
     })
 }
 

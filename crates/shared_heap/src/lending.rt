@@ -1,11 +1,19 @@
 //! A shared world is opened, and lends its mutators.
-ghost use Rattle.std.specs.Prelude.{◌≡◌, ◌<◌, ◌+◌, [], ◌∷◌, IfNone, IfOk, IfSome, vec_len};
-ghost use Rattle.shared_heap.specs.Lending.{IsSharedOpened};
+ghost use Rattle.std.specs.Prelude.{◌≡◌, ◌<◌, ◌+◌, [], ◌∷◌, IfErr, IfNone, IfOk, IfSome, OnOk, vec_len};
+ghost use Rattle.std.specs.Arc.{arc_value};
+ghost use Rattle.std.specs.Bool.{OnTrue};
+ghost use Rattle.gc_table.specs.Seats.{Across, view_of};
+ghost use Rattle.mutator_turns.specs.Standing.{RestsOutside};
+ghost use Rattle.shared_heap.specs.Calls.{SharerLeft};
+ghost use Rattle.shared_heap.specs.Lending.{IsBack, IsSharedOpened, KeepsRest, ReadsNumbers};
+ghost use Rattle.shared_heap.specs.Rooting.{IsRootSeat};
 
 use crate::dealing::open_fitting;
 use crate::mutator::SharedMutator;
 use crate::sizes::SharedSizes;
-use crate::world::SharedWorld;
+use crate::world::{SharedStatistics, SharedWorld};
+use gc_table::{Heap, HeapSeat};
+use mark_core::{FREE, LAST};
 use mutator_turns::NotOpened;
 use std::alloc::Global;
 
@@ -16,6 +24,23 @@ pub(crate) fn first_of(mutators: &mut Vec<SharedMutator>) -> SharedMutator
     ensures count { vec_len mutators.new + 1 ≡ vec_len mutators.old }
 {
     mutators.remove(0)
+}
+
+/// Reads the numbers of the heap.
+fn read_numbers(heap: &Heap, seat: &mut HeapSeat) -> SharedStatistics
+    requires rests { RestsOutside heap.now seat.old }
+    requires first { IsRootSeat heap.now seat.old }
+    ensures rests { RestsOutside heap.now seat.new }
+    ensures first { IsRootSeat heap.now seat.new }
+    ensures read { Across (ReadsNumbers result heap.now) seat.old seat.new }
+{
+    let free = heap.read_stat(seat, FREE);
+    let marked = heap.read_stat(seat, LAST);
+    SharedStatistics {
+        cells: heap.shape().cells,
+        free,
+        marked,
+    }
 }
 
 impl SharedWorld {
@@ -34,11 +59,45 @@ impl SharedWorld {
     pub fn mutator(&mut self) -> Option<SharedMutator>
         ensures some { IfSome result (λ m. self.old.mutators.items ≡ m ∷ self.new.mutators.items) }
         ensures none { IfNone result (self.old.mutators.items ≡ []) }
-        ensures rest { self.new.heap ≡ self.old.heap }
+        ensures rest { KeepsRest self.old self.new }
     {
         if self.mutators.is_empty() {
             return None;
         }
         Some(first_of(&mut self.mutators))
+    }
+
+    /// Whether a mutator of this name may be one that is out.
+    fn lacks_mutator(&self, name: u32) -> bool
+        ensures lacks { OnTrue result ((name ≡ self.now.sizes.name) × (vec_len self.now.mutators < self.now.sizes.mutators)) }
+    {
+        name == self.sizes.name && self.mutators.len() < self.sizes.mutators as usize
+    }
+
+    /// Takes a mutator back, which leaves first. Its variables and slots stay, and what they refer to is kept: who takes it next finds them. It is handed back
+    /// where it has the name of another world, where all of this world's are back, or where there is no memory to note it.
+    pub fn take_mutator(&mut self, mutator: SharedMutator) -> Result<(), SharedMutator>
+        ensures back { OnOk result (IsBack mutator self.old self.new) }
+        ensures refused { IfErr result (SharerLeft mutator) }
+        ensures rest { KeepsRest self.old self.new }
+    {
+        let name = mutator.name;
+        let mut mutator = mutator;
+        mutator.leave();
+        if !self.lacks_mutator(name) {
+            return Err(mutator);
+        }
+        match self.mutators.push(mutator) {
+            Ok(()) => Ok(()),
+            Err(failed) => Err(failed.value),
+        }
+    }
+
+    /// Numbers of the heap. Where others act on it meanwhile, each is of another moment.
+    pub fn statistics(&mut self) -> SharedStatistics
+        ensures read { ReadsNumbers result (arc_value self.old.heap) (view_of self.old.zero) (view_of self.new.zero) }
+        ensures rest { (self.new.heap ≡ self.old.heap) × (self.new.mutators ≡ self.old.mutators) × (self.new.sizes ≡ self.old.sizes) }
+    {
+        read_numbers(&self.heap, &mut self.zero)
     }
 }

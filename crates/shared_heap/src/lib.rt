@@ -19,22 +19,34 @@
 //!
 //! # Where things are
 //!
-//! `sizes` has the sizes, `opening` makes a heap with its root, `lending` opens it and deals its mutators out, `world` is the type, `closing` closes it, and `calls` has what a mutator does.
+//! `world` and `mutator` have the two types, and `sizes` the sizes. `opening` makes a heap with its root, `dealing` deals its seats out to mutators, `lending`
+//! lends these and takes them back, and `closing` closes the world. What a mutator does is in `calls`, `exchanging`, `slots` and `identity`.
 #![tactic(auto)]
+
+ghost use Rattle.shared_heap.specs.Threads.{ThreadsRun};
 
 mod calls;
 mod closing;
 mod dealing;
+mod exchanging;
+mod identity;
 mod lending;
 mod mutator;
 mod opening;
 mod planning;
 mod sizes;
+mod slots;
 mod world;
 
-pub use closing::NotClosed;
+pub use closing::{NotClosed, Unclosed};
 pub use gc_table::Words;
 pub use mutator::{Place, SharedMutator};
 pub use mutator_turns::{NotOpened, Refused};
 pub use sizes::SharedSizes;
-pub use world::SharedWorld;
+pub use world::{SharedStatistics, SharedWorld};
+
+/// Whatever the threads of a closed world did, it is one run, in which each thread's steps come in their order and nobody else takes part. After each step the
+/// words agree with one plain heap that forgets nothing, whatever a step found is what this heap had just before, and there is one root.
+pub fn threads_run()
+    ensures { ThreadsRun }
+{}

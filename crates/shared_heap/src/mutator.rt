@@ -18,7 +18,7 @@ pub enum Place {
 }
 
 /// What one thread acts on the shared objects with: 32 variables, 0 to 31, which are its roots. It begins outside the world. Before it is let go it is to
-/// leave: a stop waits for each mutator that is inside.
+/// leave, or to be given back: a stop waits for each mutator that is inside.
 #[derive(Drop)]
 pub struct SharedMutator {
     /// The world's heap.
@@ -27,6 +27,8 @@ pub struct SharedMutator {
     pub(crate) seat: HeapSeat,
     /// Whether it is in the world.
     pub(crate) place: Place,
+    /// The name of the world that lends it.
+    pub(crate) name: u32,
     ghost shared: { IsTrue (arc_value heap).shape.sharing },
     ghost outside: { place ≡ places.Outside → IsMutatorOutside (arc_value heap) seat },
     ghost inside: { place ≡ places.Inside → IsAtTurn (arc_value heap) seat },

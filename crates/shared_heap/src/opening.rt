@@ -1,9 +1,12 @@
 //! A heap with its seats, the root, and the mutators' turn. Nothing waits: in a new heap nobody is inside.
-ghost use Rattle.std.specs.Prelude.{◌≡◌, ◌+◌, ◌<◌, ◌∷◌, IfOk, IsTrue, vec_len};
+ghost use Rattle.std.specs.Prelude.{◌≡◌, ◌+◌, ◌<◌, ◌∷◌, IfOk, IsTrue, Some, slice_get, vec_len};
 ghost use Rattle.std.specs.Bool.{OnTrue};
 ghost use Rattle.mark_core.specs.Shapes.{IsShape};
+ghost use Rattle.gc_table.specs.Seats.{Across, view_of};
+ghost use Rattle.gc_table.specs.declared.seat.HeapSeat.{HeapSeat};
 ghost use Rattle.mutator_turns.specs.Standing.{RestsOutside};
 ghost use Rattle.shared_heap.specs.Opening.{AreNew, HasFirstCache, HasRoot, IsAloneInIdle, IsAtFirstTurn, IsNewSeat, StopsWithRoot};
+ghost use Rattle.shared_heap.specs.Rooting.{MakesRoot, Spares, SparesSeason};
 ghost use Rattle.shared_heap.specs.Sizing.{Fits};
 
 use crate::planning::RootPlan;
@@ -19,41 +22,41 @@ use seat_turns::is_turn;
 use std::alloc::Global;
 use stop_world::{leave, resume};
 
-/// How many packets there are, and how many cells each has room for.
-const PACKETS: u32 = 64;
-
-const ENTRIES: u32 = 32;
-
 /// The sizes of the heap: a section for each mutator besides section 0, which has the root.
 fn shape_of(sizes: &SharedSizes) -> Shape
     requires fits { Fits sizes.now }
     ensures shape { IsShape result }
+    ensures cells { result.cells ≡ sizes.now.cells }
     ensures fields { result.fields ≡ sizes.now.fields }
     ensures shared { IsTrue result.sharing }
     ensures sections { result.sections ≡ 1 + sizes.now.mutators }
+    ensures slots { result.slots ≡ sizes.now.slots }
     ensures objects { result.objects ≡ 4294967295 }
 {
     Shape {
         cells: sizes.cells,
-        packets: PACKETS,
-        entries: ENTRIES,
+        packets: sizes.packets,
+        entries: sizes.entries,
         sections: 1 + sizes.mutators,
         fields: sizes.fields,
         objects: u32::MAX,
         sharing: true,
-        slots: 0,
+        slots: sizes.slots,
     }
 }
 
 /// The heap, with a seat for each section.
 pub fn open(alloc: Global, sizes: &SharedSizes) -> Result<(Heap, Vec<HeapSeat>), NotOpened>
     requires fits { Fits sizes.now }
+    ensures cells { IfOk result (λ r. r.0.shape.cells ≡ sizes.now.cells) }
     ensures fields { IfOk result (λ r. r.0.shape.fields ≡ sizes.now.fields) }
     ensures shared { IfOk result (λ r. IsTrue r.0.shape.sharing) }
     ensures objects { IfOk result (λ r. r.0.shape.objects ≡ 4294967295) }
     ensures sections { IfOk result (λ r. r.0.shape.sections ≡ 1 + sizes.now.mutators) }
     ensures count { IfOk result (λ r. vec_len r.1 ≡ 1 + sizes.now.mutators) }
+    ensures slots { IfOk result (λ r. r.0.shape.slots ≡ sizes.now.slots) }
     ensures seats { IfOk result (λ r. AreNew r.0 0 r.1.items) }
+    ensures first { IfOk result (λ r. (s : HeapSeat) → slice_get r.1.items 0 ≡ Some s → (view_of s).opened ≡ r.0.shape.sections) }
 {
     let shape = shape_of(sizes);
     match Heap::create(alloc, shape, shape.sections, &RootPlan) {
@@ -74,7 +77,8 @@ pub fn next_seat(seats: &mut Vec<HeapSeat>) -> HeapSeat
 /// Goes in at the turn of section 0. False where the heap isn't new.
 fn goes_in(heap: &Heap, seat: &mut HeapSeat) -> bool
     requires new { IsNewSeat heap.now 0 seat.old × (0 < heap.now.shape.sections) }
-    ensures { OnTrue result (IsAtFirstTurn heap.now seat.new) }
+    ensures turn { OnTrue result (IsAtFirstTurn heap.now seat.new) }
+    ensures comes { OnTrue result (Across SparesSeason seat.old seat.new) }
 {
     match try_enter(heap, seat) {
         Pass::Going => is_turn(heap, seat, 0),
@@ -87,7 +91,8 @@ fn makes_in(heap: &Heap, seat: &mut HeapSeat, cache: Cache) -> bool
     requires turn { HasFirstCache heap.now cache seat.old }
     requires shared { IsTrue heap.now.shape.sharing }
     requires room { 0 < heap.now.shape.objects }
-    ensures { OnTrue result (HasRoot heap.now seat.new) }
+    ensures root { OnTrue result (HasRoot heap.now seat.new) }
+    ensures makes { OnTrue result (Across MakesRoot seat.old seat.new) }
 {
     let mut cache = cache;
     match share_create(heap, seat, &mut cache, 0, 0) {
@@ -107,7 +112,8 @@ fn makes_root(heap: &Heap, seat: &mut HeapSeat) -> bool
     requires turn { IsAtFirstTurn heap.now seat.old }
     requires shared { IsTrue heap.now.shape.sharing }
     requires room { 0 < heap.now.shape.objects }
-    ensures { OnTrue result (HasRoot heap.now seat.new) }
+    ensures root { OnTrue result (HasRoot heap.now seat.new) }
+    ensures makes { OnTrue result (Across MakesRoot seat.old seat.new) }
 {
     match claim(heap, seat) {
         None => false,
@@ -118,7 +124,8 @@ fn makes_root(heap: &Heap, seat: &mut HeapSeat) -> bool
 /// Stops the world, as it is found at once: true where no cycle is under way.
 fn stops(heap: &Heap, seat: &mut HeapSeat) -> bool
     requires root { HasRoot heap.now seat.old }
-    ensures { OnTrue result (StopsWithRoot heap.now seat.new) }
+    ensures stops { OnTrue result (StopsWithRoot heap.now seat.new) }
+    ensures spares { OnTrue result (Across Spares seat.old seat.new) }
 {
     if !ask_to_stop(heap, seat, 0) || !finds_stopped(heap, seat) {
         return false;
@@ -132,7 +139,8 @@ fn stops(heap: &Heap, seat: &mut HeapSeat) -> bool
 /// Section 0 ends its turn.
 fn turn(heap: &Heap, seat: &mut HeapSeat)
     requires { StopsWithRoot heap.now seat.old }
-    ensures { IsAloneInIdle heap.now seat.new }
+    ensures alone { IsAloneInIdle heap.now seat.new }
+    ensures spares { Across Spares seat.old seat.new }
 {
     heap.next_season(seat);
 }
@@ -140,7 +148,8 @@ fn turn(heap: &Heap, seat: &mut HeapSeat)
 /// The world goes on, and the seat is outside.
 fn goes_on(heap: &Heap, seat: &mut HeapSeat)
     requires { IsAloneInIdle heap.now seat.old }
-    ensures { RestsOutside heap.now seat.new }
+    ensures rests { RestsOutside heap.now seat.new }
+    ensures spares { Across Spares seat.old seat.new }
 {
     resume(heap, seat);
     leave(heap, seat);
@@ -151,7 +160,8 @@ pub fn open_turn(heap: &Heap, seat: &mut HeapSeat) -> bool
     requires new { IsNewSeat heap.now 0 seat.old × (0 < heap.now.shape.sections) }
     requires shared { IsTrue heap.now.shape.sharing }
     requires room { 0 < heap.now.shape.objects }
-    ensures { OnTrue result (RestsOutside heap.now seat.new) }
+    ensures rests { OnTrue result (RestsOutside heap.now seat.new) }
+    ensures makes { OnTrue result (Across MakesRoot seat.old seat.new) }
 {
     if !goes_in(heap, seat) || !makes_root(heap, seat) || !stops(heap, seat) {
         return false;

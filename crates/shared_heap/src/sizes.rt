@@ -11,17 +11,26 @@ pub struct SharedSizes {
     pub(crate) cells: u32,
     pub(crate) fields: u32,
     pub(crate) mutators: u32,
+    pub(crate) slots: u32,
+    pub(crate) packets: u32,
+    pub(crate) entries: u32,
+    pub(crate) name: u32,
 }
 
 impl SharedSizes {
-    /// A heap of so many cells, 64 to 16,777,216, a multiple of 64. Objects have two references, and there is one mutator, unless other numbers are given.
+    /// A heap of so many cells, 64 to 16,777,216, a multiple of 64. Objects have two references, and there is one mutator, without slots, unless other numbers
+    /// are given.
     pub fn of_cells(cells: u32) -> SharedSizes
-        ensures { result ≡ record { cells = cells; fields = 2; mutators = 1 } }
+        ensures { result ≡ record { cells = cells; fields = 2; mutators = 1; slots = 0; packets = 64; entries = 32; name = 0 } }
     {
         SharedSizes {
             cells,
             fields: 2,
             mutators: 1,
+            slots: 0,
+            packets: 64,
+            entries: 32,
+            name: 0,
         }
     }
 
@@ -39,6 +48,33 @@ impl SharedSizes {
         SharedSizes { mutators, ..self }
     }
 
+    /// With so many slots for each mutator, 0 to 65,536: roots besides its 32 variables, for the frames of a stack.
+    pub fn slots(self, slots: u32) -> SharedSizes
+        ensures { result ≡ record self { slots = slots } }
+    {
+        SharedSizes { slots, ..self }
+    }
+
+    /// With so many packets, 2 to 1,024, each with room for so many cells, 2 to 512, that wait to be scanned. Where more wait, cards take the place of
+    /// packets: too few cost time and nothing else.
+    pub fn packets(self, packets: u32, entries: u32) -> SharedSizes
+        ensures { result ≡ record self { packets = packets; entries = entries } }
+    {
+        SharedSizes {
+            packets,
+            entries,
+            ..self
+        }
+    }
+
+    /// With this name, which the world's mutators have too: where a program has several worlds, each with a name of its own, none takes back what another
+    /// lent. Any number will do; 0 where none is given.
+    pub fn named(self, name: u32) -> SharedSizes
+        ensures { result ≡ record self { name = name } }
+    {
+        SharedSizes { name, ..self }
+    }
+
     /// Whether each is in its range.
     pub fn fit(&self) -> bool
         ensures fits { OnTrue result (Fits self.now) }
@@ -51,5 +87,10 @@ impl SharedSizes {
             && self.fields <= 16
             && 1 <= self.mutators
             && self.mutators <= 32
+            && self.slots <= 65_536
+            && 2 <= self.packets
+            && self.packets <= 1024
+            && 2 <= self.entries
+            && self.entries <= 512
     }
 }

@@ -1,20 +1,36 @@
 //! A heap whose objects threads share, with those of its mutators that nobody has.
 ghost use Rattle.std.specs.Arc.{arc_value};
 ghost use Rattle.mutator_turns.specs.Standing.{RestsOutside};
+ghost use Rattle.shared_heap.specs.Rooting.{IsRootSeat};
 
 use crate::mutator::SharedMutator;
+use crate::sizes::SharedSizes;
 use gc_table::{Heap, HeapSeat};
 use std::alloc::Global;
 use std::sync::Arc;
+
+/// Numbers of a world, each as it was read.
+#[derive(Clone, Copy, Debug, PartialEq, Eq, Drop)]
+pub struct SharedStatistics {
+    /// How many cells there are.
+    pub cells: u32,
+    /// How many cells are free in blocks that no mutator has claimed.
+    pub free: u64,
+    /// How many cells the last cycle marked.
+    pub marked: u64,
+}
 
 /// A heap whose objects threads share. It has those of its mutators that nobody has taken.
 #[derive(Drop)]
 pub struct SharedWorld {
     /// The heap, which its mutators share.
     pub(crate) heap: Arc<Heap, Global>,
-    /// The seat of section 0, which has the root in its variable 0, and nothing to do any more.
+    /// The seat of section 0, which has the root in its variable 0. From then on it reads and tells.
     pub(crate) zero: HeapSeat,
     /// The mutators that nobody has taken.
     pub(crate) mutators: Vec<SharedMutator>,
+    /// The sizes that it was opened with.
+    pub(crate) sizes: SharedSizes,
     ghost rests: { RestsOutside (arc_value heap) zero },
+    ghost first: { IsRootSeat (arc_value heap) zero },
 }

@@ -1,4 +1,4 @@
-use Rattle.std.proofs.Common.{◌≡◌, ◌+◌, All, arith, subst, sym}
+use Rattle.std.proofs.Common.{◌≡◌, All, arith, subst, sym}
 use Rattle.std.proofs.lemmas.List.Elements.{All-head, All-push, All-rest}
 use Rattle.std.specs.Arc.{arc_value}
 use Rattle.gc_table.specs.declared.seat.Heap.{Heap}
@@ -16,8 +16,9 @@ loop-at-preserved c =
     let first = c.first_of-mutator.ensures.first in
     let here : arc_value m.heap ≡ h = All-head (λ (x : SharedMutator). arc_value x.heap ≡ h) m more (subst (All (λ (x : SharedMutator). arc_value x.heap ≡ h)) first i.same) in
     record {
-      gathers = gathers-more c.args.mutators.now.items c.loop-at.mutators.items more c.args.zero c.seat_of.result m c.loop-at.seats.items c.push-in-loop-at.new.self.items i.gathers first c.seat_of.ensures.left c.in_ok-push-2.ensures.items;
-      rest = subst (All (RestsOutside h)) (sym c.in_ok-push-2.ensures.items) (All-push (RestsOutside h) c.loop-at.seats.items c.seat_of.result i.rest (subst (λ (x : Heap). RestsOutside x c.seat_of.result) here c.seat_of.ensures.out));
+      gathers = gathers-more c.args.mutators.now.items c.loop-at.mutators.items more c.args.zero c.seat_of.result m c.loop-at.seats.items c.push_reserved-in-loop-at.new.self.items i.gathers first c.seat_of.ensures.left c.push_reserved-in-loop-at.ensures.items;
+      rest = subst (All (RestsOutside h)) (sym c.push_reserved-in-loop-at.ensures.items) (All-push (RestsOutside h) c.loop-at.seats.items c.seat_of.result i.rest (subst (λ (x : Heap). RestsOutside x c.seat_of.result) here c.seat_of.ensures.out));
       same = All-rest (λ (x : SharedMutator). arc_value x.heap ≡ h) m more c.loop-at.mutators.items first i.same;
       count = omega (arith, i.count, c.first_of-mutator.ensures.count);
+      room = omega (arith, i.room, c.first_of-mutator.ensures.count, c.push_reserved-in-loop-at.ensures.len, c.push_reserved-in-loop-at.ensures.capacity);
     }

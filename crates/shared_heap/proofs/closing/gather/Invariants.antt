@@ -1,5 +1,5 @@
-use Rattle.std.proofs.Common.{◌≡◌, ◌+◌, All}
-use Rattle.std.specs.Prelude.{vec_len}
+use Rattle.std.proofs.Common.{◌≡◌, ◌≤◌, ◌+◌, All}
+use Rattle.std.specs.Prelude.{vec_capacity, vec_len}
 use Rattle.std.specs.Arc.{arc_value}
 use Rattle.mutator_turns.specs.Standing.{RestsOutside}
 use Rattle.shared_heap.specs.Closing.{Gathers}
@@ -12,4 +12,5 @@ invariant-loop-at l = record {
   rest : All (RestsOutside (arc_value l._heap)) l.seats.items;
   same : All (λ (m : SharedMutator). arc_value m.heap ≡ arc_value l._heap) l.mutators.items;
   count : vec_len l.mutators + l._at ≡ l.count;
+  room : vec_len l.mutators + vec_len l.seats ≤ vec_capacity l.seats;
 }

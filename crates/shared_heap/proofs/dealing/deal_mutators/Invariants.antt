@@ -1,7 +1,7 @@
-use Rattle.std.proofs.Common.{◌≡◌, ◌+◌, All}
-use Rattle.std.specs.Prelude.{vec_len}
+use Rattle.std.proofs.Common.{◌≡◌, ◌+◌}
+use Rattle.std.specs.Prelude.{length, vec_len}
 use Rattle.std.specs.Arc.{arc_value}
-use Rattle.shared_heap.specs.Lending.{IsFreshSharer}
+use Rattle.shared_heap.specs.Lending.{AreFresh}
 use Rattle.shared_heap.specs.Opening.{AreNew}
 use Rattle.shared_heap.proofs.dealing.deal_mutators.Given as goal
 
@@ -9,6 +9,7 @@ abbrev pub invariant-loop-at : goal.invariant-loop-at
 invariant-loop-at l = record {
   new : AreNew (arc_value l.heap) (1 + l.at) l.seats.items;
   rest : vec_len l.seats + l.at ≡ vec_len l.fn.seats;
-  fresh : All (IsFreshSharer (arc_value l.heap)) l.all.items;
+  fresh : AreFresh (arc_value l.heap) l.fn.sizes.name 1 l.all.items;
   count : vec_len l.all ≡ l.at;
+  long : length l.all.items ≡ l.at;
 }

@@ -1,4 +1,4 @@
-use Rattle.std.proofs.Common.{ℕ, ◌<◌, List, length, arith}
+use Rattle.std.proofs.Common.{◌<◌, List, length, arith}
 use Rattle.shared_heap.specs.declared.mutator.SharedMutator.{SharedMutator}
 use Rattle.shared_heap.proofs.Beginning.{first-and-rest}
 use Rattle.shared_heap.proofs.lending.first_of.Goals as goal

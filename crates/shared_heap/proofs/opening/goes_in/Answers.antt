@@ -3,11 +3,12 @@ use Rattle.std.proofs.lemmas.Bool.{OnTrue_from}
 use Rattle.gc_table.specs.Seats.{view_of}
 use Rattle.mutator_turns.proofs.Seats.{going-seen, looks-seen}
 use Rattle.shared_heap.specs.Opening.{IsAtFirstTurn}
+use Rattle.shared_heap.proofs.Rooted.{season-entered}
 use Rattle.shared_heap.proofs.Rooting.{cache-looked, first-kept, first-looked, first-start, mutates-looked}
 use Rattle.shared_heap.proofs.opening.goes_in.Goals as goal
 
-pub returns-in-Going : goal.returns-in-Going
-returns-in-Going c =
+pub returns-in-Going-clause-turn : goal.returns-in-Going-clause-turn
+returns-in-Going-clause-turn c =
     let h = c.args.heap.now in
     let x = view_of c.args.seat.now in
     let y = view_of c.try_enter.new.seat in
@@ -26,3 +27,8 @@ returns-in-Going c =
       turn = t.turn is;
     } in
     OnTrue_from _ _ done
+
+pub returns-in-Going-clause-comes : goal.returns-in-Going-clause-comes
+returns-in-Going-clause-comes c =
+    let e = c.in-Going.ensures in
+    OnTrue_from _ _ (λ _. season-entered (view_of c.args.seat.now) (view_of c.try_enter.new.seat) (view_of c.is_turn.new.seat) e.out.ran e.spares c.is_turn.ensures.looks)

@@ -1,4 +1,4 @@
-use Rattle.std.proofs.Common.{ℕ, ◌<◌, List, length, arith}
+use Rattle.std.proofs.Common.{◌<◌, List, length, arith}
 use Rattle.gc_table.specs.declared.seat.HeapSeat.{HeapSeat}
 use Rattle.shared_heap.proofs.Beginning.{first-and-rest}
 use Rattle.shared_heap.proofs.opening.next_seat.Goals as goal

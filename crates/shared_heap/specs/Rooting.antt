@@ -1,0 +1,44 @@
+-- The root: the seat of section 0 makes it before anybody else acts, and keeps it in its variable 0.
+use Rattle.std.specs.Prelude.{ℕ, ◌≡◌, ◌<◌, Bool, false, IsTrue}
+use Rattle.mark_core.specs.declared.kinds.Step.{Step}
+use Rattle.mark_core.specs.declared.kinds.Step.TheVariants.{NextSeason}
+use Rattle.gc_table.specs.Log.{Only}
+use Rattle.gc_table.specs.Running.{Ran}
+use Rattle.gc_table.specs.Seats.{state_of, view_of}
+use Rattle.gc_table.specs.declared.seat.Heap.{Heap}
+use Rattle.gc_table.specs.declared.seat.HeapSeat.{HeapSeat}
+use Rattle.gc_table.specs.declared.view.View.{View}
+use Rattle.heap_runs.specs.Lending.{stores_once}
+use Rattle.mutator_ops.specs.Sharing.{ShareCreates}
+use Rattle.mutator_turns.specs.Sharing.{spares_heap}
+
+-- what the seat did, no plain heap sees
+pub record Spares (v w : View) : Type 0 where
+  pub ran : Ran v w
+  pub only : Only spares_heap v w
+
+-- the step is none that a plain heap sees, and doesn't move the season on
+abbrev pub spares_season : Step → Bool
+spares_season NextSeason = false
+spares_season step = spares_heap step
+
+-- what the seat did, no plain heap sees, and the season is as before
+pub record SparesSeason (v w : View) : Type 0 where
+  pub ran : Ran v w
+  pub only : Only spares_season v w
+
+-- before the season moved on an object with value 0 was made in this cell, and variable 0 refers to it; whatever else was done, no plain heap sees
+pub record MakesRoot (v w : View) : Type 0 where
+  pub before : View
+  pub comes : SparesSeason v before
+  pub cell : ℕ
+  pub inside : cell < before.shape.cells
+  pub made : View
+  pub creates : ShareCreates 0 0 cell before made
+  pub rest : Spares made w
+
+-- the seat of section 0 in a heap that was opened with a seat for each section; it has stored in its variable 0 once at most: where it made the root
+pub record IsRootSeat (h : Heap) (s : HeapSeat) : Type 0 where
+  pub number : (state_of s).number ≡ 0
+  pub opened : (view_of s).opened ≡ h.shape.sections
+  pub once : IsTrue (stores_once 0 (view_of s).log)

@@ -1,0 +1,34 @@
+-- What the threads of a closed world did.
+use Rattle.std.specs.Prelude.{ℕ, ◌≡◌, ◌≤◌, List, [], ◌∷◌, Some, length, slice_get}
+use Rattle.std.specs.Arc.{arc_value}
+use Rattle.plain_heap.specs.Paths.{Name}
+use Rattle.mark_core.specs.declared.kinds.Event.{Event}
+use Rattle.mark_core.specs.declared.kinds.Shape.{Shape}
+use Rattle.gc_table.specs.Laws.{IsRunOf}
+use Rattle.gc_table.specs.Past.{log_of}
+use Rattle.gc_table.specs.declared.seat.HeapSeat.{HeapSeat}
+use Rattle.gc_table.specs.declared.words.Words.{Words}
+use Rattle.shared_runs.specs.Agreement.{AgreesWith}
+use Rattle.shared_runs.specs.Laws.{TellsOf}
+use Rattle.heap_runs.specs.Lending.{RefersTo}
+use Rattle.heap_runs.specs.Runs.{core_after}
+use Rattle.heap_runs.specs.Sharing.{heap_after_events}
+use Rattle.shared_heap.specs.Closing.{IsSharedEnd}
+use Rattle.shared_heap.specs.declared.mutator.SharedMutator.{SharedMutator}
+use Rattle.shared_heap.specs.declared.world.SharedWorld.{SharedWorld}
+
+-- these events are what the seats did, and nobody else did anything
+pub record IsWhole (sh : Shape) (seats : List HeapSeat) (w : Words) (es : List Event) : Type 0 where
+  pub run : IsRunOf sh seats w es
+  pub no_others : (i : ℕ) → length seats ≤ i → log_of sh es i ≡ []
+  -- after each event the words agree with one plain heap
+  pub agrees : (k : ℕ) → AgreesWith (core_after sh 1 es k) (heap_after_events sh es k)
+  -- and each found what this heap had just before it
+  pub tells : (k : ℕ) (e : Event) → slice_get es k ≡ Some e → TellsOf (core_after sh 1 es k) (heap_after_events sh es k) (slice_get (core_after sh 1 es k).seats e.seat) e.step
+  -- there is one root: whoever is lent it, whenever, finds this object, or nothing
+  pub root : Name
+  pub one_root : (k : ℕ) → RefersTo sh es 0 root k
+
+-- whatever the threads of a closed world did, it is such a run
+abbrev pub ThreadsRun : Type 0
+ThreadsRun = (world : SharedWorld) (mutators : List SharedMutator) (w : Words) → (end : IsSharedEnd world mutators w) → (es : List Event) × IsWhole (arc_value world.heap).shape (world.zero ∷ end.rest) w es

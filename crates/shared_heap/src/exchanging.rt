@@ -1,0 +1,55 @@
+//! Exchanges in a shared world: of several mutators that expect the same one alone succeeds.
+ghost use Rattle.std.specs.Arc.{arc_value};
+ghost use Rattle.std.specs.Prelude.{◌≡◌, IfErr, IfOk};
+ghost use Rattle.mutator_turns.specs.Exchanging.{ExchangesField, ExchangesValue};
+ghost use Rattle.shared_heap.specs.Calls.{SharerActs};
+ghost use Rattle.shared_heap.specs.Wanting.{CanExchange, IsVariable, WantsObject};
+
+use crate::mutator::{Place, SharedMutator};
+use mark_core::VARIABLES;
+use mutator_turns::{Refused, exchange_shared, exchange_value_shared, word_of};
+
+impl SharedMutator {
+    /// Where reference i of variable v's object is what variable `expected` is, it becomes what variable `new` is: true where it was. A variable that refers to
+    /// nothing may stand for nothing.
+    pub fn exchange(&mut self, v: u8, i: u8, expected: u8, new: u8) -> Result<bool, Refused>
+        ensures done { IfOk result (λ won. SharerActs (CanExchange self.old v i expected new) (ExchangesField v i expected new won) self.old self.new) }
+        ensures refused { IfErr result (λ e. WantsObject e (CanExchange self.old v i expected new) v self.old self.new) }
+        ensures world { arc_value self.new.heap ≡ arc_value self.old.heap }
+    {
+        let fields = self.heap.shape().fields;
+        if v >= VARIABLES || u32::from(i) >= fields || expected >= VARIABLES || new >= VARIABLES {
+            return Err(Refused::OutOfRange);
+        }
+        match self.place {
+            Place::Outside => Err(Refused::Outside),
+            Place::Inside => {
+                if word_of(&self.seat, v) == 0 {
+                    return Err(Refused::Nil);
+                }
+                Ok(exchange_shared(&self.heap, &mut self.seat, v, i, expected, new))
+            }
+        }
+    }
+
+    /// Where the value of variable v's object is the expected one it becomes the new one: true where it was. So threads count together, and take and free
+    /// locks.
+    pub fn exchange_value(&mut self, v: u8, expected: u32, new: u32) -> Result<bool, Refused>
+        ensures done { IfOk result (λ won. SharerActs (IsVariable v) (ExchangesValue v expected new won) self.old self.new) }
+        ensures refused { IfErr result (λ e. WantsObject e (IsVariable v) v self.old self.new) }
+        ensures world { arc_value self.new.heap ≡ arc_value self.old.heap }
+    {
+        if v >= VARIABLES {
+            return Err(Refused::OutOfRange);
+        }
+        match self.place {
+            Place::Outside => Err(Refused::Outside),
+            Place::Inside => {
+                if word_of(&self.seat, v) == 0 {
+                    return Err(Refused::Nil);
+                }
+                Ok(exchange_value_shared(&self.heap, &mut self.seat, v, expected, new))
+            }
+        }
+    }
+}

@@ -1,0 +1,70 @@
+//! Slots of a mutator of a shared world: roots that it names by a number, for the frames of a stack.
+ghost use Rattle.std.specs.Arc.{arc_value};
+ghost use Rattle.std.specs.Prelude.{◌≡◌, ◌-◌, ◌∷◌, [], IfErr, IfOk};
+ghost use Rattle.mark_core.specs.Steps.MutatorSteps.{seat_variable as word_in};
+ghost use Rattle.mark_core.specs.declared.kinds.Step.TheVariants.{StoreSlot};
+ghost use Rattle.gc_table.specs.Seats.{state_of};
+ghost use Rattle.mutator_ops.specs.Sharing.{FillsFound, TakesSteps};
+ghost use Rattle.mutator_turns.specs.Clearing.{clearing_steps};
+ghost use Rattle.shared_heap.specs.Calls.{ActRefused, SharerActs};
+ghost use Rattle.shared_heap.specs.Spilling.{HasSlots, IsSlot};
+
+use crate::mutator::{Place, SharedMutator};
+use mark_core::VARIABLES;
+use mutator_turns::{Refused, clear_slots_shared, fill_shared, spill_shared};
+
+impl SharedMutator {
+    /// Slot k becomes what variable v is, and keeps that reachable.
+    pub fn spill(&mut self, v: u8, k: u16) -> Result<(), Refused>
+        ensures done { IfOk result (λ _. SharerActs (IsSlot self.old v k) (TakesSteps (StoreSlot k (word_in (state_of self.old.seat) v) ∷ [])) self.old self.new) }
+        ensures refused { IfErr result (λ e. ActRefused e (IsSlot self.old v k) self.old self.new) }
+        ensures world { arc_value self.new.heap ≡ arc_value self.old.heap }
+    {
+        if v >= VARIABLES || u32::from(k) >= self.heap.shape().slots {
+            return Err(Refused::OutOfRange);
+        }
+        match self.place {
+            Place::Outside => Err(Refused::Outside),
+            Place::Inside => {
+                spill_shared(&self.heap, &mut self.seat, v, k);
+                Ok(())
+            }
+        }
+    }
+
+    /// Variable v becomes what slot k is.
+    pub fn fill(&mut self, v: u8, k: u16) -> Result<(), Refused>
+        ensures done { IfOk result (λ _. SharerActs (IsSlot self.old v k) (FillsFound v k) self.old self.new) }
+        ensures refused { IfErr result (λ e. ActRefused e (IsSlot self.old v k) self.old self.new) }
+        ensures world { arc_value self.new.heap ≡ arc_value self.old.heap }
+    {
+        if v >= VARIABLES || u32::from(k) >= self.heap.shape().slots {
+            return Err(Refused::OutOfRange);
+        }
+        match self.place {
+            Place::Outside => Err(Refused::Outside),
+            Place::Inside => {
+                fill_shared(&self.heap, &mut self.seat, v, k);
+                Ok(())
+            }
+        }
+    }
+
+    /// The slots from number `from` on and below `to` refer to nothing any more. Whoever leaves a frame lets go of its slots so.
+    pub fn forget_slots(&mut self, from: u32, to: u32) -> Result<(), Refused>
+        ensures done { IfOk result (λ _. SharerActs (HasSlots self.old from to) (TakesSteps (clearing_steps from (to - from))) self.old self.new) }
+        ensures refused { IfErr result (λ e. ActRefused e (HasSlots self.old from to) self.old self.new) }
+        ensures world { arc_value self.new.heap ≡ arc_value self.old.heap }
+    {
+        if from > to || to > self.heap.shape().slots {
+            return Err(Refused::OutOfRange);
+        }
+        match self.place {
+            Place::Outside => Err(Refused::Outside),
+            Place::Inside => {
+                clear_slots_shared(&self.heap, &mut self.seat, from, to);
+                Ok(())
+            }
+        }
+    }
+}
