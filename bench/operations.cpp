@@ -10,7 +10,7 @@
 namespace {
 
 // 64 blocks of 64 cells, and objects of four fields.
-constexpr Sizes kSizes = {4096, 8, 64, 1, 4};
+constexpr Sizes kSizes = {4096, 64, 64, 1, 4};
 bool begin(const Heap &heap) {
     heap.words[kWorld].fetch_add(1);
     uint64_t idle = 0;

@@ -18,7 +18,7 @@ pub const CELLS: u32 = BLOCKS * BLOCK_CELLS;
 /// Objects of four fields.
 pub const SIZES: Shape = Shape {
     cells: CELLS,
-    packets: 8,
+    packets: 64,
     entries: 64,
     sections: 1,
     fields: 4,

@@ -1,4 +1,6 @@
 //! Runs through a sink that gathers what is written, as the program's own do, over one that fails.
+ghost use Rattle.std.specs.Prelude.{◌≡◌, IfOk};
+
 use gc_play::OpenGate;
 use play_report::{GatheredSink, MemorySink, SureSource, write_all};
 use play_words::{play_words, settle};
@@ -10,18 +12,19 @@ use std::test::Fail;
 use std::thread::Threads;
 
 /// A sink that gathers over one that has room, takes so many bytes a call and fails in this call.
-fn gathering(
-    alloc: Global,
-    per_call: usize,
-    failing: u32,
-) -> Result<GatheredSink<MemorySink>, Fail> {
+fn gathering(alloc: Global, per_call: usize, failing: u32) -> Result<GatheredSink<MemorySink>, Fail>
+    ensures { IfOk result (λ sink. sink.faults ≡ 0) }
+{
     if per_call == 0 {
         return Err("no byte".into());
     }
-    let inner = MemorySink::make(alloc, 100_000, per_call, &[failing])
-        .ok()
-        .ok_or("memory")?;
-    Ok(GatheredSink::make(alloc, inner).ok().ok_or("memory")?)
+    let Ok(inner) = MemorySink::make(alloc, 100_000, per_call, &[failing]) else {
+        return Err("memory".into());
+    };
+    match GatheredSink::make(alloc, inner) {
+        Ok(sink) => Ok(sink),
+        Err(_) => Err("memory".into()),
+    }
 }
 
 /// What is gathered at the end goes on, and where that fails the status is 5. After status 5 nothing goes on.

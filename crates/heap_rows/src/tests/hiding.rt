@@ -83,11 +83,10 @@ struct Hiding<'a, R: Wait + Sync> {
     marking: AtomicU64,
 }
 
-impl<R: Wait + Sync> Hiding<'_, R> {
-    fn look(&self, seat: &HeapSeat) {
-        if is_marking(seat) {
-            self.marking.fetch_add(1, SeqCst);
-        }
+/// Counts that a cycle was marking.
+fn look(marking: &AtomicU64, seat: &HeapSeat) {
+    if is_marking(seat) {
+        marking.fetch_add(1, SeqCst);
     }
 }
 
@@ -97,9 +96,9 @@ impl<R: Wait + Sync> Gate for Hiding<'_, R> {
         if place == WALK {
             self.walks.tell();
             self.turns.wait(self.rt);
-            self.look(seat);
+            look(&self.marking, seat);
         } else if place == HIDDEN {
-            self.look(seat);
+            look(&self.marking, seat);
             self.hidden.tell();
         } else if place == OTHER {
             self.hidden.wait(self.rt);
