@@ -1,0 +1,34 @@
+/* The heap over Boehm's collector: the variables are an array, which it finds as a root. It gets as many bytes as a world with so many cells takes, at once. */
+#include "heap.h"
+
+#include <stdio.h>
+#include <stdlib.h>
+
+/* What a cell with four fields takes in the managed heap, with all that lies beside it, in bytes. */
+enum { CELL = 49 };
+
+struct object *heap_at[VARIABLES];
+
+void heap_refused(int status) { exit(status); }
+
+static void *out_of_memory(size_t bytes) {
+    (void)bytes;
+    return 0;
+}
+
+static void nothing(char *message, GC_word argument) { (void)message, (void)argument; }
+
+void heap_open(uint32_t cells) {
+    size_t bytes = (size_t)cells * CELL;
+    GC_INIT();
+    GC_set_oom_fn(out_of_memory);
+    GC_set_warn_proc(nothing);
+    GC_set_max_heap_size(bytes);
+    if (bytes > GC_get_heap_size()) GC_expand_hp(bytes - GC_get_heap_size());
+}
+
+void heap_close(void) {}
+
+void heap_collect(void) { GC_gcollect(); }
+
+uint64_t heap_free(void) { return GC_get_free_bytes(); }

@@ -1,0 +1,44 @@
+/* What the machine's parts share: where it is, and how it goes on. */
+#ifndef MACHINE_H
+#define MACHINE_H
+
+#include "scheme.h"
+
+/* The variables that have the environment and the continuation, and those that get the next ones. */
+extern uint32_t env, new_env, k, new_k;
+/* The value that was computed last. It lies in VAL, or in no variable. */
+extern value val;
+
+/* Where the machine goes on instead of a node, and where operands come from instead of a call's: a list in T7, of which the last is first, or the value. */
+#define RETURN NONE
+#define HALT (NONE - 1u)
+#define FROM_LIST (NONE - 2u)
+#define FROM_VALUE (NONE - 3u)
+
+static inline void swap(uint32_t *a, uint32_t *b) {
+    uint32_t it = *a;
+    *a = *b;
+    *b = it;
+}
+
+static inline void at_line(const struct node *n) {
+    if (n->line) line_now = n->line;
+}
+
+/* The node of the operand at a position of a call; position 0 is the operator. */
+static inline uint32_t part_of(const struct node *call, uint32_t i) { return i ? operands[call->b + i - 1] : call->a; }
+
+/* simple.c */
+value simple(uint32_t pc, uint32_t t);
+value settled(value v, uint32_t t);
+value invoke(uint32_t primitive, value *a, uint32_t n, uint32_t t);
+void assign(const struct node *n, value v);
+uint32_t give(value v);
+
+/* calls.c. The ribs of a new environment, and a call all of whose operands are simple or have been computed. */
+void begin_ribs(uint32_t variables);
+void bind(value v);
+void end_ribs(uint32_t parent);
+uint32_t complete(uint32_t pc, int has_frame);
+
+#endif

@@ -1,0 +1,23 @@
+/* What is written in Scheme, compiled at the start. */
+static const char prelude[] =
+    "(define (apply f x . more)"
+    "  (define (spread l) (if (null? (cdr l)) (car l) (cons (car l) (spread (cdr l)))))"
+    "  (%apply f (spread (cons x more))))\n"
+    "(define (map f l . more)"
+    "  (define (one l) (if (null? l) '() (cons (f (car l)) (one (cdr l)))))"
+    "  (define (all ls) (if (null? (car ls)) '() (cons (%apply f (map car ls)) (all (map cdr ls)))))"
+    "  (if (null? more) (one l) (all (cons l more))))\n"
+    "(define (for-each f l . more)"
+    "  (define (one l) (if (pair? l) (begin (f (car l)) (one (cdr l)))))"
+    "  (define (all ls) (if (pair? (car ls)) (begin (%apply f (map car ls)) (all (map cdr ls)))))"
+    "  (if (null? more) (one l) (all (cons l more))))\n"
+    "(define (even? n) (= (remainder n 2) 0))\n"
+    "(define (odd? n) (not (= (remainder n 2) 0)))\n"
+    "(define (abs x) (if (< x 0) (- x) x))\n"
+    "(define (gcd a b) (if (= b 0) (abs a) (gcd b (remainder a b))))\n"
+    "(define (expt b n)"
+    "  (cond ((= n 0) 1) ((even? n) (expt (* b b) (quotient n 2))) (else (* b (expt b (- n 1))))))\n"
+    "(define (string-copy s) (substring s 0 (string-length s)))\n"
+    "(define (vector-fill! v x)"
+    "  (do ((i 0 (+ i 1))) ((= i (vector-length v))) (vector-set! v i x)))\n"
+    "(define (list-copy l) (append l '()))\n";

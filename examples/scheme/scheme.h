@@ -1,0 +1,143 @@
+/* What the parts of the interpreter share: what a word of an object says, which variable is for what, the nodes of compiled code, and the parts' functions. */
+#ifndef SCHEME_H
+#define SCHEME_H
+
+#include "heap.h"
+
+#include <stdint.h>
+#include <stdio.h>
+
+/* What an object is: the lower four bits of its word. The upper 28 are its data: a number, a symbol's or a primitive's index, a length, a node. Up to EMPTY the
+   word says all, and nil is the empty list. A WIDE integer and a FLONUM lie in the words of RAW objects behind theirs. A pair's data is the line it was read from. */
+enum kind { INTEGER, CONSTANT, CHARACTER, SYMBOL, PRIMITIVE, EMPTY, PAIR, CLOSURE, FRAME, CONTINUATION, STRING, VECTOR, WIDE, FLONUM, RIB };
+
+enum { NO = 0, YES = 1, NOTHING = 2, END_OF_INPUT = 3 };
+
+#define WORD(kind, data) ((uint32_t)(data) << 4 | (uint32_t)(kind))
+#define KIND(word) ((word) & 15u)
+#define DATA(word) ((word) >> 4)
+
+/* No number of a place, a primitive, a symbol or a node. */
+#define NONE 0xffffffffu
+
+/* The variables. The places' tree, #f, #t, what is always nil, and a stack for the reader, the compiler and the printer; two for the continuation and two for
+   the environment, of which the machine uses one and fills the other; a closure's environment; the outermost rib of a new one; a list of operands; scratch; the
+   value; eight for operands; and from CACHE on the places that were used last. */
+enum {
+    PLACES, FALSE_, TRUE_, NIL, STACK, K0, K1, ENV0, ENV1, FN, OUTER, OPERANDS, S0, S1, S2, VAL, T0, T1, T2, T3, T4, T5, T6, T7, S3, S4, CACHE
+};
+
+/* A value as C has it: in a variable, or, where that is NOWHERE, a word that no object holds yet. */
+typedef struct value { uint32_t reg, word; } value;
+enum { NOWHERE = 255 };
+
+static inline uint32_t word(uint32_t v) { return word_or(v, EMPTY); }
+static inline value here(uint32_t reg) { value v = {reg, 0}; v.reg = reg; return v; }
+static inline value plain(uint32_t word_) { value v = {NOWHERE, 0}; v.word = word_; return v; }
+static inline value truth(int it) { return plain(WORD(CONSTANT, it ? YES : NO)); }
+static inline value nothing_(void) { return plain(WORD(CONSTANT, NOTHING)); }
+static inline uint32_t word_of(value v) { return v.reg == NOWHERE ? v.word : word(v.reg); }
+static inline int is_true(value v) { return word_of(v) != WORD(CONSTANT, NO); }
+
+/* The variable that has the value: t, with a new object in it, where none had. */
+static inline uint32_t in_variable(value v, uint32_t t) {
+    if (v.reg != NOWHERE) return v.reg;
+    if (v.word == EMPTY) return NIL;
+    if (v.word == WORD(CONSTANT, NO)) return FALSE_;
+    if (v.word == WORD(CONSTANT, YES)) return TRUE_;
+    make(t, v.word, 0);
+    return t;
+}
+
+/* t becomes a new pair, of values that aren't in t. */
+static inline void pair(uint32_t t, uint32_t first, uint32_t rest, uint32_t line) {
+    make(t, WORD(PAIR, line), 2);
+    set(t, 0, first);
+    set(t, 1, rest);
+}
+
+/* Uses S2. */
+static inline void push(uint32_t v) {
+    pair(S2, v, STACK, 0);
+    copy(STACK, S2);
+}
+static inline void drop(void) { get(STACK, STACK, 1); }
+static inline void pop(uint32_t v) {
+    get(v, STACK, 0);
+    drop();
+}
+
+/* Compiled code: nodes, which lie in C's memory, each by its number.
+       QUOTE word                      LOCAL links field             GLOBAL place                LAMBDA body arity variables
+       PRIM primitive operands count   CALL operator operands count  LET lambda operands count   ARGUMENT call position next
+       IF test then else               AND, OR, SEQ first second     EXTEND variables body       SETLOCAL value links field    SETGLOBAL value place */
+enum op { QUOTE, LOCAL, GLOBAL, LAMBDA, PRIM, CALL, LET, ARGUMENT, IF, AND, OR, SEQ, EXTEND, SETLOCAL, SETGLOBAL };
+
+/* How many variables a node needs to be computed without a frame. One that needs more than SIMPLE, or calls a closure, takes frames. */
+enum { SIMPLE = 6, COMPLEX = 200 };
+
+struct node { uint8_t op, needs; uint32_t line, a, b, c; };
+extern struct node *code;
+extern uint32_t *operands;
+
+/* Ribs: an environment is a chain of objects with three variables each, from field 1 on; field 0 is the next. An arity is its least number of operands,
+   LISTED where a list of the others follows, and TOP where no variables are around the lambda. */
+enum { IN_RIB = 3, LISTED = 1u << 16, TOP = 1u << 17, LEAST = LISTED - 1, MOST = 128 };
+
+/* Primitives: those of one to three operands, those that go on with two until none is left, that compare each two neighbours, that take the list of all
+   operands, and the two that the machine does itself. */
+enum mode { FIXED, FOLDED, CHAINED, WHOLE, APPLY, CALLCC };
+struct primitive { const char *name; uint32_t least, most; enum mode mode; value (*call)(value *a, uint32_t n, uint32_t t); };
+extern const struct primitive primitives[];
+extern const uint32_t primitive_count;
+/* The primitive that runs, for what it says where it fails. */
+extern uint32_t running;
+
+/* main.c: ends what is under way, and goes on with what is read next. Where: the line that the machine is at. */
+extern uint32_t line_now;
+void fail(const char *format, ...);
+void fail_at(value v, const char *wanted);
+
+/* primitives.c */
+uint32_t primitive_named(const char *name);
+
+/* names.c */
+uint32_t symbol(const char *name, uint32_t length);
+const char *symbol_name(uint32_t symbol);
+uint32_t *symbol_place(uint32_t symbol);
+uint32_t *symbol_primitive(uint32_t symbol);
+uint32_t new_place(void);
+void bind_place(uint32_t place, uint32_t v);
+int is_bound(uint32_t place);
+uint32_t place(uint32_t place);
+void forget_cached(void);
+void names_open(void);
+
+/* reader.c: VAL becomes what is read next; 0 at the end of the input. */
+struct source { FILE *file; const char *text; uint32_t line; int is_ours; };
+int read_next(struct source *from);
+void print(value v, int is_written);
+
+/* compile.c: an expression in VAL becomes nodes. */
+uint32_t compile_top(void);
+
+/* machine.c */
+value run(uint32_t pc);
+void machine_reset(void);
+
+/* What the primitives share. */
+value integer(int64_t n, uint32_t t);
+value flonum(double d, uint32_t t);
+value number_read(const char *text, uint32_t t);
+void number_text(value v, char *to);
+int is_number(value v);
+int are_eqv(value a, value b);
+void tree_get(uint32_t to, uint32_t tree, uint32_t length, uint32_t i);
+void tree_set(uint32_t tree, uint32_t length, uint32_t i, uint32_t v);
+void vector_list(uint32_t to, uint32_t vector);
+void new_string(uint32_t t, const char *text, uint32_t length);
+int string_byte(uint32_t string, uint32_t i);
+uint32_t list_length(value list);
+void reversed(uint32_t to, uint32_t list);
+
+#endif
