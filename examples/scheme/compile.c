@@ -1,5 +1,5 @@
-/* Compiles an expression to nodes. The expression is in VAL; the form whose parts are compiled is on top of the stack in the heap. Variables are found by how many
-   ribs up and in which field they lie; global ones and constants have places. */
+/* Compiles an expression to nodes. The expression is in VAL; the form whose parts are compiled is on top of the stack in the heap. Variables are found by how
+   many ribs up and in which field they lie; global ones and constants have places. */
 #include "forms.h"
 
 #include <stdlib.h>
@@ -50,8 +50,8 @@ static uint32_t primitive_needs(const uint32_t *args, uint32_t n) {
     return all > SIMPLE ? COMPLEX : all;
 }
 
-/* A call of a closure, of a lambda that let makes, or of a primitive. An operand that isn't simple has an ARGUMENT behind the operands, at which the machine goes
-   on when it has its value; the first of these is once more behind them. Position 0 is the operator. */
+/* A call of a closure, of a lambda that let makes, or of a primitive. An operand that isn't simple has an ARGUMENT behind the operands, at which the machine
+   goes on when it has its value; the first of these is once more behind them. Position 0 is the operator. */
 uint32_t call(enum op op, uint32_t a, const uint32_t *args, uint32_t n) {
     uint32_t first = operand_count, it, i, later = 0;
     for (i = 0; i < n; i++) add_operand(args[i]);

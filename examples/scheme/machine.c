@@ -1,5 +1,5 @@
-/* The machine. It goes from node to node. What is left to do is a chain of frames in the heap, so that a recursion is as deep as the heap, and a continuation is
-   kept by keeping a reference. No frame changes once it is made: field 0 is the next one, field 1 the environment; those of a call have in field 2 the value
+/* The machine. It goes from node to node. What is left to do is a chain of frames in the heap, so that a recursion is as deep as the heap, and a continuation
+   is kept by keeping a reference. No frame changes once it is made: field 0 is the next one, field 1 the environment; those of a call have in field 2 the value
    that was computed last, and in field 3 the frame with the values before. What is simple is computed without frames. */
 #include "machine.h"
 

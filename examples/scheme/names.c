@@ -1,5 +1,5 @@
-/* Symbols, and the places of global variables and constants. A symbol is its index in a table in C. The values of the places are the leaves of a tree in the heap;
-   the places used last lie in variables, from CACHE on, so that most are read without a call. */
+/* Symbols, and the places of global variables and constants. A symbol is its index in a table in C. The values of the places are the leaves of a tree in the
+   heap; the places used last lie in variables, from CACHE on, so that most are read without a call. */
 #include "scheme.h"
 
 #include <stdlib.h>

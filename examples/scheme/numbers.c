@@ -1,5 +1,5 @@
-/* Numbers: integers of 32 bits, which fail by name where a result has more, and flonums. An integer of 28 bits is a word; a wider one, and a flonum, is an object
-   with one or two more behind it, whose words have its bits. */
+/* Numbers: integers of 32 bits, which fail by name where a result has more, and flonums. An integer of 28 bits is a word; a wider one, and a flonum, is an
+   object with one or two more behind it, whose words have its bits. */
 #include "primitives.h"
 
 #include <math.h>

@@ -21,7 +21,7 @@ static void print_character(uint32_t c, int is_written) {
 }
 
 static void print_leaf(value v, int is_written) {
-    static const char *constants[] = {"#f", "#t", "#<nothing>", "#<end of input>"};
+    static const char *constants[] = {"#f", "#t", "#<nothing>"};
     uint32_t w = word_of(v);
     char text[64];
     switch (KIND(w)) {

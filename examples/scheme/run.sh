@@ -1,9 +1,9 @@
 #!/bin/sh
-# Builds the interpreter over the library and over Boehm's collector, runs the test of the language and the programs, and compares what they print with what
-# is known. Ends with status 1 where something differs.
+# Builds the interpreter over the library and over Boehm's collector, runs the test of the language and the programs, and compares what they print with
+# what is known. Ends with status 1 where something differs.
 #
 #     sh examples/scheme/run.sh            each program once
-#     sh examples/scheme/run.sh --times    besides, how long each takes: seconds of a processor, medians of five in turns, and with real-time priority if allowed
+#     sh examples/scheme/run.sh --times    besides, how long each takes: seconds of a processor, medians of five in turns, real-time priority if allowed
 #
 # The library is the proved one where it is built, and else one that c/unproved.sh makes. LIBRARY names another archive. CELLS is the size of the heap.
 here=$(cd "$(dirname "$0")" && pwd)
@@ -32,8 +32,8 @@ fail() {
 build() {
     compiler=$1 out=$2
     shift 2
-    "$compiler" -O2 $warnings "$@" -I "$work/prefix/include" -o "$work/$out" $sources "$here/heap_managed.c" "$work/prefix/lib/libmanaged_heap.a" -lpthread -lm ||
-        fail "$out isn't built by $compiler"
+    "$compiler" -O2 $warnings "$@" -I "$work/prefix/include" -o "$work/$out" $sources "$here/heap_managed.c" \
+        "$work/prefix/lib/libmanaged_heap.a" -lpthread -lm || fail "$out isn't built by $compiler"
 }
 over_boehm() { cc -O2 $warnings -DOVER_BOEHM -o "$work/$1" $sources "$here/heap_boehm.c" -lgc -lm || fail "$1 isn't built"; }
 

@@ -7,11 +7,12 @@
 #include <stdint.h>
 #include <stdio.h>
 
-/* What an object is: the lower four bits of its word. The upper 28 are its data: a number, a symbol's or a primitive's index, a length, a node. Up to EMPTY the
-   word says all, and nil is the empty list. A WIDE integer and a FLONUM lie in the words of RAW objects behind theirs. A pair's data is the line it was read from. */
+/* What an object is: the lower four bits of its word. The upper 28 are its data: a number, a symbol's or a primitive's index, a length, a node, the line from
+   which a pair was read. Up to EMPTY the word says all, and nil is the empty list. A WIDE integer and a FLONUM lie in the words of objects behind theirs. */
 enum kind { INTEGER, CONSTANT, CHARACTER, SYMBOL, PRIMITIVE, EMPTY, PAIR, CLOSURE, FRAME, CONTINUATION, STRING, VECTOR, WIDE, FLONUM, RIB };
 
-enum { NO = 0, YES = 1, NOTHING = 2, END_OF_INPUT = 3 };
+/* Constants: #f, #t, and what an expression for its effect comes to. */
+enum { NO, YES, NOTHING };
 
 #define WORD(kind, data) ((uint32_t)(data) << 4 | (uint32_t)(kind))
 #define KIND(word) ((word) & 15u)
@@ -93,50 +94,61 @@ extern const uint32_t primitive_count;
 /* The primitive that runs, for what it says where it fails. */
 extern uint32_t running;
 
-/* main.c: ends what is under way, and goes on with what is read next. Where: the line that the machine is at. */
+/* main.c. The line that the machine is at. */
 extern uint32_t line_now;
+/* Says what is wrong, and ends what is under way. */
 void fail(const char *format, ...);
+/* The value isn't what is wanted; where nothing is, it is the list of a message and of what that is about. */
 void fail_at(value v, const char *wanted);
 
 /* primitives.c */
 uint32_t primitive_named(const char *name);
 
-/* names.c */
+/* names.c. The number of a symbol; its name, its place and its primitive, or NONE. */
 uint32_t symbol(const char *name, uint32_t length);
 const char *symbol_name(uint32_t symbol);
 uint32_t *symbol_place(uint32_t symbol);
 uint32_t *symbol_primitive(uint32_t symbol);
+/* A place: a new one, its value, and whether it has one; the variable that has the value until another place is asked for. */
 uint32_t new_place(void);
 void bind_place(uint32_t place, uint32_t v);
 int is_bound(uint32_t place);
 uint32_t place(uint32_t place);
+/* Forgets what lies in the variables from CACHE on. */
 void forget_cached(void);
+/* The primitives get their names. */
 void names_open(void);
 
-/* reader.c: VAL becomes what is read next; 0 at the end of the input. */
+/* reader.c. VAL becomes what is read next from a file or a text, whose lines count where it isn't the interpreter's own; 0 at the end of the input. */
 struct source { FILE *file; const char *text; uint32_t line; int is_ours; };
 int read_next(struct source *from);
+
+/* printer.c */
 void print(value v, int is_written);
 
-/* compile.c: an expression in VAL becomes nodes. */
+/* compile.c. The node of the expression in VAL. */
 uint32_t compile_top(void);
 
-/* machine.c */
+/* machine.c. The value of a node; after a failure, all variables but the places are forgotten. */
 value run(uint32_t pc);
 void machine_reset(void);
 
-/* What the primitives share. */
+/* numbers.c */
 value integer(int64_t n, uint32_t t);
 value flonum(double d, uint32_t t);
 value number_read(const char *text, uint32_t t);
 void number_text(value v, char *to);
 int is_number(value v);
 int are_eqv(value a, value b);
+
+/* vectors.c. A leaf of a tree with so many of them; the elements of a vector as a list; strings. */
 void tree_get(uint32_t to, uint32_t tree, uint32_t length, uint32_t i);
 void tree_set(uint32_t tree, uint32_t length, uint32_t i, uint32_t v);
 void vector_list(uint32_t to, uint32_t vector);
 void new_string(uint32_t t, const char *text, uint32_t length);
 int string_byte(uint32_t string, uint32_t i);
+
+/* lists.c */
 uint32_t list_length(value list);
 void reversed(uint32_t to, uint32_t list);
 

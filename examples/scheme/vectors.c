@@ -1,5 +1,5 @@
-/* Vectors and strings. Both are trees: a head with the length and up to four parts, each a tree of a fourth. The leaves of a vector are its elements, those of a
-   string are objects whose words have four bytes each. */
+/* Vectors and strings. Both are trees: a head with the length and up to four parts, each a tree of a fourth. The leaves of a vector are its elements, those of
+   a string are objects whose words have four bytes each. */
 #include "primitives.h"
 
 #include <string.h>
