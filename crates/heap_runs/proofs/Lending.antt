@@ -85,7 +85,7 @@ logged_leaves c s (Join other) v h = refl
 logged_leaves c s step v h = (and_parts (leaves_variable v step) true h).0
 
 -- and so does an event whose entry in that seat's log is none there
-event_keeps : (c : Core) (e : Event) (world : World) (v : ℕ) → IsCore c → failing_part c e ≡ None → v < 32 → all_steps (leaves_variable v) (adds 0 c e) ≡ true → variable_of (world_after c e world) 0 v ≡ variable_of world 0 v
+pub event_keeps : (c : Core) (e : Event) (world : World) (v : ℕ) → IsCore c → failing_part c e ≡ None → v < 32 → all_steps (leaves_variable v) (adds 0 c e) ≡ true → variable_of (world_after c e world) 0 v ≡ variable_of world 0 v
 event_keeps c e world v k f below all =
     let r : (s : SeatState) × Acted c e s = acts c e k f in
     let t : Taken c e.seat r.0 e.step = record { core = k; got = r.1.seat; live = r.1.live; ok = r.1.ok } in
@@ -95,7 +95,7 @@ event_keeps c e world v k f below all =
     (sym (ap (λ (b : Bool). all_steps (leaves_variable v) (if b then entries_of c (slice_get c.seats e.seat) e.step else [])) (eq-eqb e.seat 0 first) ∙ ap (λ (o : Option SeatState). all_steps (leaves_variable v) (entries_of c o e.step)) r.1.seat) ∙ all) in
     subst (λ (o : Option SeatState). variable_of (world_of c o e.step world) 0 v ≡ variable_of world 0 v) (sym r.1.seat) (step_keeps c e.seat r.0 e.step world v t leaves below)
 
-all_split : (P : Step → Bool) (xs ys : List Entry) → all_steps P (xs ++ ys) ≡ true → (all_steps P xs ≡ true) × (all_steps P ys ≡ true)
+pub all_split : (P : Step → Bool) (xs ys : List Entry) → all_steps P (xs ++ ys) ≡ true → (all_steps P xs ≡ true) × (all_steps P ys ≡ true)
 all_split P [] ys h = (refl, h)
 all_split P (x ∷ xs) ys h = let p = and_parts (P x.step) (all_steps P (xs ++ ys)) h in let q = all_split P xs ys p.1 in (and_from (P x.step) (all_steps P xs) p.0 q.0, q.1)
 
@@ -116,14 +116,14 @@ once_now v [] ys a h = absurd (false≢true (sym a))
 once_now v (x ∷ xs) ys a h = once_by v x xs ys (leaves_variable v x.step) refl (once_now v xs ys) a h
 
 -- variable v of section 0 after the first k events
-abbrev after_some : List Event → Core → World → ℕ → ℕ → Option Name
+abbrev pub after_some : List Event → Core → World → ℕ → ℕ → Option Name
 after_some es c world v k = variable_of (world_run (take k es) c world) 0 v
 
-first_more : (e : Event) (es : List Event) (c : Core) (world : World) (v k : ℕ) → failing_part c e ≡ None → after_some (e ∷ es) c world v (suc k) ≡ after_some es (after_event c e) (world_after c e world) v k
+pub first_more : (e : Event) (es : List Event) (c : Core) (world : World) (v k : ℕ) → failing_part c e ≡ None → after_some (e ∷ es) c world v (suc k) ≡ after_some es (after_event c e) (world_after c e world) v k
 first_more e es c world v k ok = ap (λ (x : World). variable_of x 0 v) (world-first c e (take k es) world ok)
 
 -- no event stores there
-none_stores : (es : List Event) (c : Core) (world : World) (v : ℕ) → Sound c es → AreAllowed c es → v < 32 → all_steps (leaves_variable v) (log_from 0 c es) ≡ true → (k : ℕ) → after_some es c world v k ≡ variable_of world 0 v
+pub none_stores : (es : List Event) (c : Core) (world : World) (v : ℕ) → Sound c es → AreAllowed c es → v < 32 → all_steps (leaves_variable v) (log_from 0 c es) ≡ true → (k : ℕ) → after_some es c world v k ≡ variable_of world 0 v
 none_stores es c world v sound ok below all zero = refl
 none_stores [] c world v sound ok below all (suc k) = refl
 none_stores (e ∷ es) c world v sound ok below all (suc k) =
@@ -135,7 +135,7 @@ none_stores (e ∷ es) c world v sound ok below all (suc k) =
 abbrev IsOne : List Event → Core → World → ℕ → Name → ℕ → Type 0
 IsOne es c world v name k = (after_some es c world v k ≡ None) ⊎ (after_some es c world v k ≡ Some name)
 
-abbrev some_name : Name
+abbrev pub some_name : Name
 some_name = record { section = 0; number = 0 }
 
 one_stores : (es : List Event) (c : Core) (world : World) (v : ℕ) → Sound c es → AreAllowed c es → v < 32 → stores_once v (log_from 0 c es) ≡ true → variable_of world 0 v ≡ None → (name : Name) × ((k : ℕ) → IsOne es c world v name k)
@@ -183,7 +183,7 @@ none_at zero v = refl
 none_at (suc n) zero = refl
 none_at (suc n) (suc v) = none_at n v
 
-none_starts : (n : ℕ) (sh : Shape) (v : ℕ) → slice_index_or (section_of (replicate n (start_section sh)) 0).variables v None ≡ None
+pub none_starts : (n : ℕ) (sh : Shape) (v : ℕ) → slice_index_or (section_of (replicate n (start_section sh)) 0).variables v None ≡ None
 none_starts zero sh v = none_at 32 v
 none_starts (suc n) sh v = none_at (32 + sh.slots) v
 

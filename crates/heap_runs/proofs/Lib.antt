@@ -2,4 +2,5 @@ pub mod Freeing
 pub mod Threads
 pub mod Sharing
 pub mod Lending
+pub mod Rooted
 pub mod Counting

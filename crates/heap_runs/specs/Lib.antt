@@ -2,4 +2,5 @@ pub mod Runs
 pub mod Threads
 pub mod Sharing
 pub mod Lending
+pub mod Rooted
 pub mod Counting

@@ -7,6 +7,7 @@
 
 ghost use Rattle.heap_runs.specs.Counting.{RaisesCounted, WinsTold};
 ghost use Rattle.heap_runs.specs.Lending.{OneObjectLent};
+ghost use Rattle.heap_runs.specs.Rooted.{RootFound};
 ghost use Rattle.heap_runs.specs.Runs.{NoneFreed};
 ghost use Rattle.heap_runs.specs.Sharing.{ThreadsShareOneHeap};
 ghost use Rattle.heap_runs.specs.Threads.{ThreadsFreeNone};
@@ -32,6 +33,12 @@ pub fn threads_share_one_heap()
 /// so whoever is lent it finds the same object.
 pub fn one_object_lent()
     ensures { OneObjectLent }
+{}
+
+/// Where the seat of section 0 stores an object in one of its variables before it moves the season on, and nothing there any more, no seat that reads this variable
+/// finds nil, in whatever run.
+pub fn root_found()
+    ensures { RootFound }
 {}
 
 /// An object in which nobody stores but by exchanges, each of a number for the next, is a counter: its value has grown by the number of exchanges that were won,
