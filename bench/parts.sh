@@ -22,6 +22,15 @@ build_peer() {
     fi
 }
 
+# Boehm's collector in its default mode, and the same program incremental.
+build_boehm() {
+    build_peer boehm bench/peers/boehm.cpp -lgc
+    [ -x "$folder/boehm" ] || return 0
+    printf '#!/bin/sh\nGC_ENABLE_INCREMENTAL=1 exec %s "$@"\n' "$folder/boehm" >"$folder/incremental"
+    chmod +x "$folder/incremental"
+    printf 'incremental;%s\n' "$folder/incremental" >>"$folder/programs"
+}
+
 build_go() {
     if command -v go >/dev/null 2>&1 && go build -o "$folder/go" bench/peers/play.go 2>/dev/null; then
         printf 'go;%s\n' "$folder/go" >>"$folder/programs"
@@ -30,7 +39,7 @@ build_go() {
     fi
 }
 
-# A program of its own name that starts Java with what was compiled.
+# A program of its own name that starts Java with what was compiled. It measures its last play by itself, and is told first where to write that.
 build_java() {
     if command -v javac >/dev/null 2>&1 && javac -d "$folder" bench/peers/Plain.java 2>/dev/null; then
         printf '#!/bin/sh\nexec java -cp %s Plain "$@"\n' "$folder" >"$folder/java"
@@ -49,7 +58,7 @@ build_floor() {
 build_peers() {
     build_floor
     build_peer plain bench/peers/plain.cpp
-    build_peer boehm bench/peers/boehm.cpp -lgc
+    build_boehm
     build_go
     build_java
 }
@@ -59,7 +68,11 @@ build_peers() {
 once() {
     name=$1 file=$2 script=$3
     shift 3
-    "$folder/measure" "$folder/$name.$script.$(echo "$*" | tr -d ' ')" "$file" run "$@" <"$folder/$script" >"$folder/text"
+    told=$folder/$name.$script.$(echo "$*" | tr -d ' ')
+    case $name in
+        java) "$file" "$told" run "$@" <"$folder/$script" >"$folder/text" ;;
+        *) "$folder/measure" "$told" "$file" run "$@" <"$folder/$script" >"$folder/text" ;;
+    esac
     [ -f "$folder/$script.text" ] || cp "$folder/text" "$folder/$script.text"
     cmp "$folder/text" "$folder/$script.text"
 }

@@ -1,20 +1,22 @@
 #!/bin/sh
 # Times the steps of bench_table, the operations of bench_operations and the collections of bench_cycle beside the same steps on bare atomic words, and
-# prints the ratio of each. From the top of the repository: sh bench/table.sh [RUNS]. The least time of so many runs counts, 40 if no number is given.
+# prints the ratio of each. From the top of the repository: chrt -f 10 sh bench/table.sh [RUNS [FOLDER]]. The least time of so many runs counts, 40 if no number
+# is given. The three programs are taken from the folder, or proved and built.
 # What a run takes besides what is measured, as the making and closing of heaps, is timed alone and taken off. A collection is timed by the program itself,
 # since the heap that it finds takes longer to make.
 set -eu
 cd "$(dirname "$0")/.."
 runs=${1:-40}
+built=${2:-}
 folder=${TMPDIR:-/tmp}/bench.$$
 mkdir "$folder"
 trap 'rm -rf "$folder"' EXIT
 
 # A program of the repository, and the same loops in C++.
 build() {
-    (cd "crates/$1" && rt run >/dev/null 2>&1)
+    [ -n "$built" ] || (cd "crates/$1" && rt run >/dev/null 2>&1)
     g++ -O2 -o "$folder/$1" "$2"
-    program=crates/$1/out/$1
+    program=${built:-crates/$1/out}/$1
     bare=$folder/$1
 }
 

@@ -1,26 +1,27 @@
 #!/bin/sh
-# Times crates/binary_trees beside the same work over Boehm's collector and in Go, compares their texts, and prints one table. From the top of the
-# repository: sh bench/trees.sh [RUNS [PROGRAM]]. Medians of so many runs in turns, 5 if no number is given. Without a program, ours is proved and built.
-# A peer that can't be built is left out with a word. Seconds by the clock say something only where as many processors are free as threads run.
+# Times binary trees in C over managed_heap beside the same work over Boehm's collector and in Go, compares their texts, and prints one table. From the top of
+# the repository: chrt -f 10 sh bench/trees.sh [RUNS [ARCHIVE]]. Medians of so many runs in turns, 5 if no number is given. Without the library's archive it is
+# proved and built. DEPTH in the environment is 16 if it isn't given. A peer that can't be built is left out with a word.
 set -eu
 cd "$(dirname "$0")/.."
 runs=${1:-5}
-program=${2:-}
-depth=${DEPTH:-12}
+archive=${2:-}
+depth=${DEPTH:-16}
+cells=1048576
 folder=${TMPDIR:-/tmp}/trees.$$
 mkdir "$folder"
 trap 'rm -rf "$folder"' EXIT
 
 g++ -std=c++20 -O2 -o "$folder/measure" bench/measure.cpp
-[ -n "$program" ] || (cd crates/binary_trees && rt run >/dev/null 2>&1)
-program=${program:-crates/binary_trees/out/binary_trees}
+LIBRARY=$archive sh c/install.sh "$folder/library" >/dev/null
+cc -O2 -I c/include -o "$folder/ours" bench/trees/trees.c "$folder/library/lib/libmanaged_heap.a" -lpthread
 g++ -std=c++20 -O2 -pthread -o "$folder/boehm" bench/trees/trees.cpp -lgc 2>/dev/null || echo 'boehm left out: bench/trees/trees.cpp is built where there is libgc'
 { command -v go >/dev/null 2>&1 && go build -o "$folder/go" bench/trees/trees.go 2>/dev/null; } || echo 'go left out: bench/trees/trees.go is built where there is Go'
 
-# One run: a program's name, how many workers and tracers, and the command. Its text has to be that of all others.
+# One run: a program's name, how many workers, and the command. Its text has to be that of all others.
 once() {
-    key=$1.$2.$3
-    shift 3
+    key=$1.$2
+    shift 2
     "$folder/measure" "$folder/$key" "$@" >"$folder/text"
     [ -f "$folder/first" ] || cp "$folder/text" "$folder/first"
     cmp "$folder/text" "$folder/first"
@@ -30,29 +31,28 @@ median() {
     sort -n -k "$1" "$folder/$2" | awk -v column="$1" '{ found[NR] = $column } END { print found[int((NR + 1) / 2)] }'
 }
 
+# The cells of a line: milliseconds by the clock and of all processors, and MB, of each program.
 line() {
-    [ -f "$folder/$1.$2.$3" ] || return 0
-    awk -v name="$1" -v workers="$2" -v tracers="$3" -v clock="$(median 1 "$1.$2.$3")" -v cpu="$(median 2 "$1.$2.$3")" -v kb="$(median 3 "$1.$2.$3")" \
-        'BEGIN { printf "| %s | %s | %s | %.1f | %.1f | %.1f |\n", name, workers, tracers, cpu / 1e3, clock / 1e3, kb / 1024 }'
+    for name in tracers-0 tracers-1 boehm incremental go; do
+        if [ -f "$folder/$name.$1" ]; then
+            awk -v clock="$(median 1 "$name.$1")" -v cpu="$(median 2 "$name.$1")" -v kb="$(median 3 "$name.$1")" 'BEGIN {
+                printf " %.0f (%.0f) | %.0f |", clock / 1e3, cpu / 1e3, kb / 1024 }'
+        else
+            printf ' | |'
+        fi
+    done
 }
 
-echo "Depth $depth, $(nproc) processors, load $(cut -d ' ' -f 1 /proc/loadavg) at the start."
 left=$runs
 while [ "$left" -gt 0 ]; do
     for workers in 1 2 4; do
-        for tracers in 0 1; do
-            once ours $workers $tracers "$program" --depth "$depth" --cells 65536 --workers $workers --tracers $tracers
-        done
-        [ ! -x "$folder/boehm" ] || once boehm $workers - "$folder/boehm" "$depth" $workers
-        [ ! -x "$folder/go" ] || once go $workers - "$folder/go" "$depth" $workers
+        for tracers in 0 1; do once tracers-$tracers $workers "$folder/ours" "$depth" $workers $tracers $cells; done
+        [ ! -x "$folder/boehm" ] || once boehm $workers "$folder/boehm" "$depth" $workers
+        [ ! -x "$folder/boehm" ] || once incremental $workers env GC_ENABLE_INCREMENTAL=1 "$folder/boehm" "$depth" $workers
+        [ ! -x "$folder/go" ] || once go $workers "$folder/go" "$depth" $workers
     done
     left=$((left - 1))
 done
-echo "| Program | Workers | Tracers | Processor, ms | Clock, ms | MB |"
-echo "|---|---|---|---|---|---|"
-for workers in 1 2 4; do
-    line ours $workers 0
-    line ours $workers 1
-    line boehm $workers -
-    line go $workers -
-done
+echo "| Workers | managed_heap, no tracer, ms | MB | a tracer, ms | MB | Boehm, ms | MB | Boehm, incremental, ms | MB | Go, ms | MB |"
+echo "|---|---|---|---|---|---|---|---|---|---|---|"
+for workers in 1 2 4; do echo "| $workers |$(line $workers)"; done

@@ -1,7 +1,12 @@
 // The interpreter of objects.hpp in Java, over Java's own collector: the same text, for scripts whose objects have four fields, as all of the bench's.
+// Plain FILE run WORDS... appends to the file what the play took: microseconds by the clock and of all processors, and kilobytes at most in memory.
 import java.io.IOException;
 import java.io.PrintStream;
+import java.lang.management.ManagementFactory;
 import java.nio.charset.StandardCharsets;
+import java.nio.file.Files;
+import java.nio.file.Path;
+import java.nio.file.StandardOpenOption;
 import java.util.ArrayList;
 import java.util.Comparator;
 import java.util.HashMap;
@@ -190,16 +195,40 @@ final class Plain {
         for (Cell cell : found) text.append(cell.section).append(' ').append(cell.number).append(' ').append(Integer.toUnsignedString(cell.value)).append('\n');
     }
 
+    // One play of a script: its text.
+    static StringBuilder text(String source, int workers) throws InterruptedException {
+        Plain plain = new Plain(source);
+        int seasons = plain.sections.stream().mapToInt(section -> section.parts.size()).max().orElse(1);
+        for (int season = 0; season < seasons; season++) plain.season(season, workers);
+        StringBuilder text = new StringBuilder();
+        plain.write(text);
+        return text;
+    }
+
+    // The greatest number of kilobytes in memory, as the system tells it.
+    static long kilobytes() throws IOException {
+        return Files.lines(Path.of("/proc/self/status")).filter(line -> line.startsWith("VmHWM")).mapToLong(line -> Long.parseLong(line.replaceAll("[^0-9]", ""))).sum();
+    }
+
+    // The script is played so many times before, so that it is compiled; then so many plays are measured, since the time of processors is told in
+    // hundredths of a second, and the last is written.
+    static final int WARM = 10, MEASURED = 10;
+
     public static void main(String[] words) throws IOException, InterruptedException {
         int workers = 4;
         for (int k = 0; k + 1 < words.length; k++) {
             if (words[k].equals("--workers")) workers = Integer.parseInt(words[k + 1]);
         }
-        Plain plain = new Plain(new String(System.in.readAllBytes(), StandardCharsets.UTF_8));
-        int seasons = plain.sections.stream().mapToInt(section -> section.parts.size()).max().orElse(1);
-        for (int season = 0; season < seasons; season++) plain.season(season, workers);
+        String source = new String(System.in.readAllBytes(), StandardCharsets.UTF_8);
+        for (int k = 0; k < WARM; k++) text(source, workers);
+        var system = (com.sun.management.OperatingSystemMXBean) ManagementFactory.getOperatingSystemMXBean();
+        long processors = system.getProcessCpuTime(), clock = System.nanoTime();
         StringBuilder text = new StringBuilder();
-        plain.write(text);
+        for (int k = 0; k < MEASURED; k++) text = text(source, workers);
+        clock = System.nanoTime() - clock;
+        processors = system.getProcessCpuTime() - processors;
+        String told = clock / 1000 / MEASURED + " " + processors / 1000 / MEASURED + " " + kilobytes() + "\n";
+        Files.writeString(Path.of(words[0]), told, StandardOpenOption.CREATE, StandardOpenOption.APPEND);
         PrintStream out = new PrintStream(System.out, false, StandardCharsets.UTF_8);
         out.print(text);
         out.flush();

@@ -1,8 +1,6 @@
-// The same interpreter over the collector of Boehm, Demers and Weiser, incremental unless GC_DISABLE_INCREMENTAL is set in the environment.
+// The same interpreter over the collector of Boehm, Demers and Weiser: incremental where GC_ENABLE_INCREMENTAL is in the environment.
 #define GC_THREADS
 #include <gc.h>
-
-#include <cstdlib>
 
 #include "objects.hpp"
 
@@ -41,6 +39,5 @@ struct Boehm {
 int main(int count, char **words) {
     GC_INIT();
     GC_allow_register_threads();
-    if (getenv("GC_DISABLE_INCREMENTAL") == nullptr) GC_enable_incremental();
     return objects::play_input<Boehm>(count, words);
 }

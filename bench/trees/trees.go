@@ -1,10 +1,9 @@
-// Binary trees in Go: the work of crates/binary_trees, line by line. go DEPTH WORKERS
+// Binary trees in Go: the work of crates/binary_trees, line by line. go DEPTH WORKERS. Its collector has all processors, as others here have.
 package main
 
 import (
 	"fmt"
 	"os"
-	"runtime"
 	"strconv"
 	"sync"
 )
@@ -45,7 +44,6 @@ func play(depth, workers, at int, checks *[5]uint64) {
 func main() {
 	depth, _ := strconv.Atoi(os.Args[1])
 	workers, _ := strconv.Atoi(os.Args[2])
-	runtime.GOMAXPROCS(workers)
 	fmt.Printf("stretch tree of depth %d\t check: %d\n", depth+1, count(grow(depth+1)))
 	kept := grow(depth)
 	checks := make([][5]uint64, workers)
