@@ -1,7 +1,7 @@
 -- What a mutator is answered that doesn't wait.
-use Rattle.std.specs.Prelude.{ℕ, ◌≡◌, Option, None, IsTrue, IsFalse}
-use Rattle.mark_core.specs.declared.kinds.Step.TheVariants.{ReadPhase}
-use Rattle.gc_table.specs.Log.{Only, events}
+use Rattle.std.specs.Prelude.{ℕ, ◌≡◌, [], ◌∷◌, Option, None, IsTrue, IsFalse}
+use Rattle.mark_core.specs.declared.kinds.Step.TheVariants.{Observe, ReadPhase}
+use Rattle.gc_table.specs.Log.{Only, event, events}
 use Rattle.gc_table.specs.Rule.{KnowsFull}
 use Rattle.gc_table.specs.Running.{Ran}
 use Rattle.gc_table.specs.Seats.{Took}
@@ -19,9 +19,10 @@ use Rattle.cache_refills.specs.Stops.{claim_failed, may_stop}
 use Rattle.cache_refills.specs.declared.trying.Pass.{Pass}
 use Rattle.cache_refills.specs.declared.trying.Pass.TheVariants as passes
 
--- no stop was found under way: the mutator goes on, with the cache that it had
+-- one look at the world found no stop under way, and one at the phase followed: the mutator goes on, with the cache that it had
 pub record GoesPast (handed kept : Option Cache) (v w : View) : Type 0 where
   pub clear : IsFalse (poll_found_stop (events v w))
+  pub looks : (found : ℕ) × (phase : ℕ) × (events v w ≡ event Observe found ∷ event ReadPhase phase ∷ [])
   pub goes_on : GoesOn v w
   pub cached : HasCache kept w
   pub same : kept ≡ handed

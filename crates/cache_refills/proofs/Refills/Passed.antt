@@ -1,5 +1,5 @@
 -- A mutator that doesn't wait: at a safe point, at the gate, and on the way to a cache.
-use Rattle.std.proofs.Common.{ℕ, ◌≡◌, ◌<◌, ◌∷◌, ◌++◌, refl, sym, ap, ◌∙◌, subst, Bool, true, false, not, Some, None, Option, is_some}
+use Rattle.std.proofs.Common.{ℕ, ◌≡◌, ◌<◌, [], ◌∷◌, ◌++◌, refl, sym, ap, ◌∙◌, subst, Bool, true, false, not, Some, None, Option, is_some}
 use Rattle.std.specs.Prelude.{if◌then◌else◌, IfNone, IfSome}
 use Rattle.std.proofs.lemmas.Bool.{not-true}
 use Rattle.mark_core.specs.Bits.{has_flag}
@@ -59,10 +59,14 @@ module _ (u v w : View) (n done : ℕ) (handed : Option Cache) (r : Ran u v) (e 
       let es = events-after u v Observe n e in
       ap poll_found_stop (ran-events u v w r q) ∙ (first-left polls sees_flag (events u v) (events v w) (ap (some_event polls) es) ∙ (ap poll_found_stop es ∙ f))
 
+  -- the look at the world, and the one at the phase
+  two-looks : (t : Took ReadPhase v w) → events u w ≡ event Observe n ∷ event ReadPhase t.0 ∷ []
+  two-looks t = ran-events u v w r q ∙ (ap (λ es. es ++ events v w) (events-after u v Observe n e) ∙ ap (λ es. event Observe n ∷ es) (events-after v w ReadPhase t.0 t.1.0))
+
   pub gone-past : (kept : Option Cache) → AnswersTo (safes.Going kept) handed done v w → GoesPast handed kept u w
   gone-past kept a =
       let s = passes u v w handed handed done (safes.Going kept) (kept-way u v handed done n r e f h) q a in
-      record { clear = unseen; goes_on = s.goes_on; cached = s.cached; same = s.same ∙ ap (λ (b : Bool). if b then None else handed) unseen }
+      record { clear = unseen; looks = (n, a.looked.0, two-looks a.looked); goes_on = s.goes_on; cached = s.cached; same = s.same ∙ ap (λ (b : Bool). if b then None else handed) unseen }
 
   pub gone-full : (kept : Option Cache) → AnswersTo safes.Full handed done v w × (kept ≡ None) → PassesFull kept done u w
   gone-full kept a = record { clear = unseen; ends = passes u v w handed handed done safes.Full (kept-way u v handed done n r e f h) q a.0; known = a.0.1; none = a.1 }
