@@ -88,12 +88,12 @@ static uint32_t apply_primitive(uint32_t primitive, uint32_t n);
 static uint32_t apply(void) {
     uint32_t w = word(T0), n = list_length(here(OPERANDS));
     if (KIND(w) == PRIMITIVE) return apply_primitive(DATA(w), n);
+    if (KIND(w) != CLOSURE && KIND(w) != CONTINUATION) fail_at(here(T0), "a procedure");
     get(FN, T0, 0);
     if (KIND(w) == CLOSURE) {
         reversed(T7, OPERANDS);
         return enter(&code[DATA(w)], FN, FROM_LIST, n, 0);
     }
-    if (KIND(w) != CONTINUATION) fail_at(here(T0), "a procedure");
     check_arity(1, n);
     get(VAL, OPERANDS, 0);
     copy(k, FN);

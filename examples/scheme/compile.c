@@ -96,10 +96,10 @@ int element(uint32_t i) {
     return 1;
 }
 
-/* VAL becomes the list of the form's parts from i on. */
+/* VAL becomes the list of the form's parts from i on, or what the form ends with before. */
 void rest_from(uint32_t i) {
     get(VAL, STACK, 0);
-    while (i--) get(VAL, VAL, 1);
+    for (; i && KIND(word(VAL)) == PAIR; i--) get(VAL, VAL, 1);
 }
 
 uint32_t form_length(void) {
@@ -199,6 +199,7 @@ uint32_t compile(struct scope *scope) {
 
 uint32_t compile_top(void) {
     nesting = 0;
+    running = primitive_count;
     form_line = line_now;
     if (!node_count) node(QUOTE, EMPTY, 0, 0);
     return compile(0);

@@ -38,12 +38,10 @@ uint32_t sequence(struct scope *scope, uint32_t from) {
 
 /* The name that is defined by the definition in VAL. VAL becomes it. */
 static void defined_name(void) {
-    do {
-        get(VAL, VAL, 1);
-        get(VAL, VAL, 0);
-        if (KIND(word(VAL)) != PAIR) return;
-        get(VAL, VAL, 0);
-    } while (KIND(word(VAL)) == PAIR);
+    get(VAL, VAL, 1);
+    if (KIND(word(VAL)) != PAIR) fail("define: a part is missing");
+    get(VAL, VAL, 0);
+    if (KIND(word(VAL)) == PAIR) get(VAL, VAL, 0);
 }
 
 /* A body from part i on: what is defined in it are variables of its scope. */
