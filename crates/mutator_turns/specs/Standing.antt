@@ -1,4 +1,5 @@
 -- Where a mutator's seat stands: outside the world, in it between two calls, and at its turn; and where a tracer's does between two turns.
+use Rattle.std.specs.Int.Count.{ones}
 use Rattle.std.specs.Prelude.{◌≡◌, [], length, Bool, true, false, Option, Some, None, IsTrue, IsFalse}
 use Rattle.mark_core.specs.Seats.{has_making, has_turn, work_in_hand}
 use Rattle.mark_core.specs.declared.kinds.Phase.{Phase}
@@ -9,6 +10,7 @@ use Rattle.gc_table.specs.declared.seat.HeapSeat.{HeapSeat}
 use Rattle.gc_table.specs.declared.view.View.{View}
 use Rattle.gc_table.specs.Seats.{Sits, view_of}
 use Rattle.alloc_cache.specs.Caching.{is_whole}
+use Rattle.alloc_cache.specs.declared.cache.Cache.{Cache}
 use Rattle.card_clean.specs.Barrier.{MayStore}
 use Rattle.gc_cycle.specs.Standing.{IsOut, Mutates}
 
@@ -70,3 +72,8 @@ pub record IsAtTurn (h : Heap) (s : HeapSeat) : Type 0 where
 pub record RestsOutside (h : Heap) (s : HeapSeat) : Type 0 where
   pub sits : Sits h s
   pub out : IsOut (view_of s)
+
+-- there is no cache, or none of its cells is free
+abbrev pub LacksFree : Option Cache → Type 0
+LacksFree None = Unit {0}
+LacksFree (Some h) = ones h.cells ≡ 0

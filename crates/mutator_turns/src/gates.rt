@@ -1,7 +1,9 @@
 //! A mutator goes into the world and out of it.
 ghost use Rattle.std.specs.Prelude.{◌≡◌, IfErr, IfOk, IsTrue};
 ghost use Rattle.gc_cycle.specs.Answering.{HasCache};
+ghost use Rattle.gc_cycle.specs.Answering.{retires};
 ghost use Rattle.gc_cycle.specs.Cycles.{collects};
+ghost use Rattle.gc_table.specs.Log.{Only};
 ghost use Rattle.gc_table.specs.Rule.{KnowsFull};
 ghost use Rattle.gc_table.specs.Running.{Ran};
 ghost use Rattle.gc_table.specs.Seats.{Across, did, view_of};
@@ -61,6 +63,7 @@ pub fn leave_full(heap: &Heap, seat: &mut HeapSeat) -> Refused
 pub fn retire_own_cache(heap: &Heap, seat: &mut HeapSeat)
     requires turn { IsAtTurn heap.now seat.old }
     ensures halts { Halts heap.now seat.new }
+    ensures only { Across (Only retires) seat.old seat.new }
     ensures same { plain_of seat.new ≡ plain_of seat.old }
     ensures leaves { Across LeavesHeap seat.old seat.new }
     ensures ran { Across Ran seat.old seat.new }

@@ -1,13 +1,15 @@
 //! A mutator comes to its turn, and to a cell to make an object in.
 ghost use Rattle.std.specs.Prelude.{◌≡◌, ◌<◌, Some, IfOk, IfErr};
 ghost use Rattle.std.specs.Int.Count.{ones};
+ghost use Rattle.gc_table.specs.Log.{Only};
+ghost use Rattle.gc_cycle.specs.Answering.{retires};
 ghost use Rattle.gc_table.specs.Running.{Ran};
 ghost use Rattle.gc_table.specs.Seats.{Across, state_of, view_of};
 ghost use Rattle.alloc_cache.specs.Caching.{IsCached};
 ghost use Rattle.gc_cycle.specs.Answering.{HasCache};
 ghost use Rattle.mutator_turns.specs.Halting.{EndsFullOrSpent, HaltsFull};
 ghost use Rattle.mutator_turns.specs.Sharing.{LeavesHeap};
-ghost use Rattle.mutator_turns.specs.Standing.{Halts, IsAtTurn, Plays, Works, plain_of};
+ghost use Rattle.mutator_turns.specs.Standing.{Halts, IsAtTurn, LacksFree, Plays, Works, plain_of};
 
 use crate::refused::Refused;
 use alloc_cache::{Cache, leave_with_seat};
@@ -25,6 +27,7 @@ pub fn retire_some(heap: &Heap, seat: &mut HeapSeat, cache: Option<Cache>)
     requires works { Works heap.now seat.old }
     requires cache { HasCache cache (view_of seat.old) }
     ensures halts { Halts heap.now seat.new }
+    ensures only { Across (Only retires) seat.old seat.new }
     ensures same { plain_of seat.new ≡ plain_of seat.old }
     ensures leaves { Across LeavesHeap seat.old seat.new }
     ensures ran { Across Ran seat.old seat.new }
@@ -139,6 +142,7 @@ fn fill<R: Wait, W: Watch>(
 /// The cache, where a cell can be made in it.
 pub fn with_free(cache: Option<Cache>) -> Result<Cache, Option<Cache>>
     ensures ok { IfOk result (λ free. (cache ≡ Some free) × (0 < ones free.cells)) }
+    ensures lacks { IfErr result (λ none. LacksFree none) }
     ensures err { IfErr result (λ none. none ≡ cache) }
 {
     match cache {
