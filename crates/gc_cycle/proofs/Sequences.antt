@@ -1,7 +1,7 @@
 -- Tests over the events of two calls, one after the other.
 use Rattle.std.proofs.Common.{ℕ, ◌≡◌, ◌+◌, List, [], ◌∷◌, ◌++◌, refl, sym, ap, ◌∙◌, Bool, true, false, not, ◌&&◌, ◌||◌, ⊎_elim, arith, zero-add}
 use Rattle.std.specs.Prelude.{if◌then◌else◌}
-use Rattle.std.proofs.lemmas.Bool.{and_from, and_parts, or_cases, or_from, or_left, or_right, true≢false, false≢true}
+use Rattle.std.proofs.lemmas.Bool.{and_from, and_parts, or_cases, or_from, or_left, or_parts, or_right, true≢false, false≢true}
 use Rattle.mark_core.specs.Effects.{seat_after}
 use Rattle.mark_core.specs.declared.kinds.Shape.{Shape}
 use Rattle.mark_core.specs.declared.kinds.Step.{Step}
@@ -9,6 +9,7 @@ use Rattle.mark_core.specs.declared.seat.SeatState.{SeatState}
 use Rattle.gc_table.specs.Taking.{after}
 use Rattle.gc_table.specs.declared.view.Entry.{Entry}
 use Rattle.gc_table.specs.declared.view.View.{View}
+use Rattle.packet_pools.specs.Counts.{count_of}
 use Rattle.packet_pools.specs.Seeking.{some_event}
 use Rattle.packet_pools.proofs.Searches.{some-right}
 use Rattle.gc_table.specs.Log.{all_steps}
@@ -30,6 +31,12 @@ some-none f (x ∷ xs) ys a b =
     tail : (p q : Bool) → (p || q) ≡ false → q ≡ false
     tail true q e = absurd (true≢false e)
     tail false q e = e
+
+-- so none is counted
+pub count-none : (f : Sort) (es : List Entry) → some_event f es ≡ false → count_of f es ≡ 0
+count-none f [] h = refl
+count-none f (e ∷ es) h =
+    let p = or_parts (f e.step e.found) (some_event f es) h in ap (λ (b : Bool). (if b then 1 else 0) + count_of f es) p.0 ∙ (zero-add (count_of f es) ∙ count-none f es p.1)
 
 -- none, where no step of this sort is like it
 pub none-of-steps : (P : Step → Bool) (f : Sort) → ((step : Step) (n : ℕ) → P step ≡ true → f step n ≡ false) → (es : List Entry) → all_steps P es ≡ true → some_event f es ≡ false

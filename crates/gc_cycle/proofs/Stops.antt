@@ -1,6 +1,8 @@
 -- A stop: how it is asked for, waited for, opened to helpers and left.
 pub mod Opened
 pub mod OutAndIn
+pub mod Outside
+pub mod Away
 pub mod FlagRaised
 pub mod Waits
 pub mod Admitted

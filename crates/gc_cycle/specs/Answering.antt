@@ -9,6 +9,7 @@ use Rattle.gc_table.specs.declared.view.Entry.{Entry}
 use Rattle.gc_table.specs.declared.view.View.{View}
 use Rattle.packet_pools.specs.Seeking.{some_event}
 use Rattle.alloc_cache.specs.Caching.{IsCached}
+use Rattle.alloc_cache.specs.Retiring.{retiring_steps}
 use Rattle.alloc_cache.specs.declared.cache.Cache.{Cache}
 use Rattle.gc_table.specs.Log.{events}
 use Rattle.gc_table.specs.Rule.{KnowsFull}
@@ -86,6 +87,11 @@ retires PublishCells = true
 retires (AddStat which by down) = not (which == done_count)
 retires ReleaseBlock = true
 retires step = false
+
+-- the steps that give up this cache, in which these cells were made since the last were published; none where there is none
+abbrev pub giving_up : Option Cache → ℕ → List Step
+giving_up None used = []
+giving_up (Some h) used = retiring_steps h used
 
 -- the phase was read once, and not as Full; the mutator keeps its cache, and goes on after whatever it did before
 pub record KeepsOn (handed kept : Option Cache) (v w : View) : Type 0 where

@@ -20,6 +20,10 @@ abbrev pub since_last : Sort → List Entry → List Entry
 since_last f [] = []
 since_last f (e ∷ es) = if f e.step e.found && not (some_event f es) then es else since_last f es
 
+-- the events after the last one like f, and all where no event is like it
+abbrev pub since_or_all : Sort → List Entry → List Entry
+since_or_all f es = if some_event f es then since_last f es else es
+
 -- the events before the last one like f, and none where no event is like it
 abbrev pub before_last : Sort → List Entry → List Entry
 before_last f [] = []

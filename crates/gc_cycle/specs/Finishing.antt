@@ -12,6 +12,7 @@ use Rattle.mark_core.specs.declared.kinds.Step.TheVariants.{DropStep, JoinHelpSt
 use Rattle.gc_table.specs.Notes.{look}
 use Rattle.gc_table.specs.declared.view.Entry.{Entry}
 use Rattle.gc_table.specs.declared.view.View.{View}
+use Rattle.packet_pools.specs.Counts.{count_of}
 use Rattle.packet_pools.specs.Seeking.{some_event}
 use Rattle.gc_table.specs.Log.{all_steps, events, event, Only}
 use Rattle.gc_table.specs.Running.{Alone, Known, Ran}
@@ -99,6 +100,7 @@ pub record Completes (v w : View) : Type 0 where
   pub drain_help : IsTrue (followed_by opens_help (moves_to Sweep) (events v w))
   pub sweep_help : IsTrue (opens_in_sweep (events v w))
   pub ends : IsTrue (some_event ends_cycle (events v w))
+  pub once : count_of ends_cycle (events v w) ≡ 1
   pub not_full : IsTrue (never tells_full (events v w))
   pub unbegun : IsTrue (never tries_marking (events v w))
   -- where it began exactly it ended so
@@ -119,6 +121,7 @@ pub record BeginsExactly (v w : View) : Type 0 where
   pub fresh : rest ≡ event (Reset card_counter) 0 ∷ []
   pub not_full : IsTrue (never tells_full before)
   pub unbegun : IsTrue (never tries_marking before)
+  pub unended : IsTrue (never ends_cycle before)
 
 -- the greatest number that is counted
 abbrev pub most : ℕ

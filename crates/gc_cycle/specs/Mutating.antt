@@ -1,16 +1,17 @@
 -- How a mutator goes out of the world and in again, and stops it.
-use Rattle.std.specs.Prelude.{Bool, true, false, not, ◌==◌, ◌≡◌, ◌⊎◌, Some, None, IsTrue, IsFalse}
+use Rattle.std.specs.Prelude.{Bool, true, false, not, ◌==◌, ◌≡◌, ◌⊎◌, ◌||◌, [], List, Some, None, IsTrue, IsFalse}
 use Rattle.mark_core.specs.declared.kinds.Phase.{Phase}
 use Rattle.mark_core.specs.declared.kinds.Phase.TheVariants.{Idle, Marking, Full}
 use Rattle.mark_core.specs.declared.kinds.Step.{Step}
 use Rattle.mark_core.specs.declared.kinds.Step.TheVariants.{ClaimBlock, RaiseStep, ReadCat, ReadOwn, ReadStat, StorePhase, ReadSlot}
+use Rattle.gc_table.specs.declared.view.Entry.{Entry}
 use Rattle.gc_table.specs.declared.view.View.{View}
 use Rattle.packet_pools.specs.Seeking.{some_event}
 use Rattle.gc_table.specs.Log.{events, Only}
 use Rattle.gc_table.specs.Running.{Alone, Ran}
 use Rattle.gc_cycle.specs.Cycles.{never_fills}
-use Rattle.gc_cycle.specs.Events.{never}
-use Rattle.gc_cycle.specs.Sorts.{claims, raises_flag}
+use Rattle.gc_cycle.specs.Events.{each_after, never, since_or_all}
+use Rattle.gc_cycle.specs.Sorts.{claims, comes_in, leaves, pops, raises_flag, resumes}
 use Rattle.mark_core.specs.Numbers.{done_count}
 use Rattle.gc_cycle.specs.Sparing.{fills_part}
 use Rattle.gc_cycle.specs.Standing.{IsAlone, KeepsSeat, KeepsSection}
@@ -36,6 +37,14 @@ stays_calm step = keeps_section step
 abbrev pub tries_stopping : Step → Bool
 tries_stopping RaiseStep = true
 tries_stopping step = stays_calm step
+
+-- the seat has left the running world since it came in last, or has raised its flag since it resumed the world last: it waits in a stop, or holds one
+abbrev pub is_in_stop : List Entry → Bool
+is_in_stop es = some_event leaves (since_or_all comes_in es) || some_event raises_flag (since_or_all resumes es)
+
+-- cells were popped in such stops alone
+abbrev pub pops_in_stops : List Entry → Bool
+pops_in_stops es = each_after is_in_stop pops [] es
 
 -- the seat and its section are as they were, and the heap wasn't said to be full
 pub record GoesOut (v w : View) : Type 0 where

@@ -46,6 +46,12 @@ abbrev pub leaves : Step → ℕ → Bool
 leaves LeaveStep found = true
 leaves step found = false
 
+-- the seat came into the running world: it entered, whether a stop was under way or not, or resumed the world
+abbrev pub comes_in : Step → ℕ → Bool
+comes_in EnterStep found = true
+comes_in DropStep found = true
+comes_in step found = false
+
 -- the world was resumed
 abbrev pub resumes : Step → ℕ → Bool
 resumes DropStep found = true

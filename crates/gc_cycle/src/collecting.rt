@@ -1,6 +1,7 @@
 //! Safe points, and collections that a mutator asks for.
-ghost use Rattle.std.specs.Prelude.{[], ◌≡◌, ◌≢◌, ◌≤◌, ◌⊎◌, None, Some, IfNone, IfSome, IsTrue};
+ghost use Rattle.std.specs.Prelude.{[], ◌≡◌, ◌≢◌, ◌≤◌, ◌⊎◌, length, None, Some, IfNone, IfSome, IsTrue};
 ghost use Rattle.std.specs.Bool.{OnFalse, OnTrue};
+ghost use Rattle.mark_core.specs.Steps.MutatorSteps.{used_bits};
 ghost use Rattle.mark_core.specs.declared.kinds.Phase.TheVariants.{Full};
 ghost use Rattle.mark_core.specs.declared.kinds.Step.TheVariants.{ReadPhase};
 ghost use Rattle.gc_table.specs.declared.view.View.{View};
@@ -9,9 +10,9 @@ ghost use Rattle.packet_pools.specs.Counts.{count_of};
 ghost use Rattle.gc_cycle.specs.Events.{never};
 ghost use Rattle.gc_table.specs.Seats.{Across, did, Sits, state_of, Took, view_of};
 ghost use Rattle.packet_pools.specs.Seeking.{some_event};
-ghost use Rattle.gc_table.specs.Log.{Only};
+ghost use Rattle.gc_table.specs.Log.{Only, steps_of};
 ghost use Rattle.gc_table.specs.Running.{Ran};
-ghost use Rattle.gc_cycle.specs.Answering.{AnswersTo, CollectsTo, EndsFull, GivesWay, GoesOn, HasCache, KeepsOn, SafeTo, TellsFull, answers, retires, waits_helping};
+ghost use Rattle.gc_cycle.specs.Answering.{AnswersTo, CollectsTo, EndsFull, GivesWay, GoesOn, HasCache, KeepsOn, SafeTo, TellsFull, answers, giving_up, retires, waits_helping};
 ghost use Rattle.gc_cycle.specs.Collecting.{EndsStop, HoldsWorld, TriesAgain, spares_section};
 ghost use Rattle.gc_cycle.specs.Cycles.{never_fills};
 ghost use Rattle.gc_cycle.specs.Polling.{saw_full};
@@ -212,6 +213,7 @@ pub fn goes_on(heap: &Heap, seat: &mut HeapSeat, cache: &mut Option<Cache>, done
     ensures numbers { Across (GivesUp cache.old cache.new) seat.old seat.new }
     ensures going { OnTrue result (Across (AnswersTo (safes.Going cache.new) cache.old done) seat.old seat.new) }
     ensures full { OnFalse result (Across (AnswersTo safes.Full cache.old done) seat.old seat.new × (cache.new ≡ None)) }
+    ensures few { length (did seat.old seat.new) ≤ 5 }
 {
     if !finds_full(heap, seat) {
         return true;
@@ -241,6 +243,7 @@ pub fn ends_full(heap: &Heap, seat: &mut HeapSeat, done: u32) -> bool
     ensures numbers { Across (ChangesBy []) seat.old seat.new }
     ensures full { OnTrue result (Across (EndsFull done) seat.old seat.new × KnowsFull (view_of seat.new)) }
     ensures going { OnFalse result (Across (KeepsOn None None) seat.old seat.new) }
+    ensures few { length (did seat.old seat.new) ≤ 2 }
 {
     if !finds_full(heap, seat) {
         return false;
@@ -264,7 +267,8 @@ pub fn finds_full(heap: &Heap, seat: &mut HeapSeat) -> bool
     }
 }
 
-/// Gives a cache up, if there is one: of the seat's record it takes the cache alone, and its section stays.
+/// Gives a cache up, if there is one: of the seat's record it takes the cache alone, and its section stays. That takes two steps, and one more where objects
+/// were made that aren't published; none where there is no cache.
 #[cold]
 #[inline(never)]
 pub fn retire_some(heap: &Heap, seat: &mut HeapSeat, cache: Option<Cache>)
@@ -274,6 +278,8 @@ pub fn retire_some(heap: &Heap, seat: &mut HeapSeat, cache: Option<Cache>)
     ensures ran { Across Ran seat.old seat.new }
     ensures only { Across (Only retires) seat.old seat.new }
     ensures numbers { Across (GivesUp cache None) seat.old seat.new }
+    ensures steps { steps_of (did seat.old seat.new) ≡ giving_up cache (used_bits (state_of seat.old).cache) }
+    ensures few { length (did seat.old seat.new) ≤ 3 }
     ensures state { state_of seat.new ≡ record (state_of seat.old) { cache = None } }
     ensures own { (view_of seat.new).own ≡ (view_of seat.old).own }
 {

@@ -6,6 +6,7 @@ ghost use Rattle.mark_core.specs.declared.kinds.Step.TheVariants.{ReadPhase};
 ghost use Rattle.gc_table.specs.Seats.{Across, did, Sits, state_of, Took, view_of};
 ghost use Rattle.gc_table.specs.Log.{Only};
 ghost use Rattle.gc_table.specs.Running.{Ran};
+ghost use Rattle.packet_pools.specs.Counts.{count_of};
 ghost use Rattle.sweeper.specs.Freeing.{freed_in};
 ghost use Rattle.card_clean.specs.Leaving.{rescanned_in};
 ghost use Rattle.gc_cycle.specs.Cycles.{collects_exactly, lets_help, never_fills};
@@ -15,7 +16,7 @@ ghost use Rattle.gc_cycle.specs.Finishing.{BeginsExactly, Completes, IsAloneIn, 
 ghost use Rattle.gc_cycle.specs.Events.{never};
 ghost use Rattle.gc_cycle.specs.Moments.{begins};
 ghost use Rattle.gc_cycle.specs.Polling.{saw_full};
-ghost use Rattle.gc_cycle.specs.Sorts.{raises_flag, tries_marking};
+ghost use Rattle.gc_cycle.specs.Sorts.{ends_cycle, raises_flag, tries_marking};
 ghost use Rattle.gc_cycle.specs.Sparing.{spares_part};
 ghost use Rattle.gc_cycle.specs.Standing.{KeepsSeat, KeepsSection};
 
@@ -98,6 +99,7 @@ pub fn finish_cycle<R: Wait>(rt: &R, heap: &Heap, seat: &mut HeapSeat) -> Counts
     ensures only { Across (Only finishes) seat.old seat.new }
     ensures drains { Across HasDrained seat.old seat.new }
     ensures help { IsTrue (lets_help (did seat.old seat.new)) }
+    ensures once { count_of ends_cycle (did seat.old seat.new) ≡ 1 }
     // what it never did
     ensures spares { Across (Only spares_part) seat.old seat.new }
     ensures not_full { IsTrue (never_fills (did seat.old seat.new)) }
@@ -133,6 +135,7 @@ pub fn precise<R: Wait>(rt: &R, heap: &Heap, seat: &mut HeapSeat) -> Counts
     ensures first { IsAloneIn Marking (view_of seat.old) → Across DrainsBefore seat.old seat.new }
     ensures collects { IsTrue (collects_exactly heap.now.shape (begins (view_of seat.old)) (did seat.old seat.new)) }
     ensures help { IsTrue (lets_help (did seat.old seat.new)) }
+    ensures once { count_of ends_cycle (did seat.old seat.new) ≡ 1 }
     // what it never did
     ensures spares { Across (Only spares_part) seat.old seat.new }
     ensures not_full { IsTrue (never_fills (did seat.old seat.new)) }

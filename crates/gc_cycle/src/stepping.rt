@@ -16,7 +16,7 @@
 //!
 //! A collection that began in Idle, or that drained again, is precise: the cells in use at its end are exactly the reachable ones. `IsExactSince` is handed
 //! from step to step, and [`end_collection`](crate::end_collection) says of all of them together what [`precise`](crate::precise) says of itself.
-ghost use Rattle.std.specs.Prelude.{◌≡◌, ◌≢◌, [], ◌∷◌, None, Some};
+ghost use Rattle.std.specs.Prelude.{◌≡◌, ◌≢◌, [], ◌∷◌, None, Some, ◌≤◌, length};
 ghost use Rattle.std.specs.Bool.{OnFalse, OnTrue};
 ghost use Rattle.mark_core.specs.declared.kinds.Phase.TheVariants.{Clear, Drain, Full, Idle};
 ghost use Rattle.mark_core.specs.declared.kinds.Step.TheVariants.{Reset};
@@ -54,6 +54,7 @@ pub fn ask_to_stop(heap: &Heap, seat: &mut HeapSeat, done: u32) -> bool
     ensures yours { OnTrue result (AwaitsStop (view_of seat.new)) }
     ensures theirs { OnFalse result (IsOut (view_of seat.new)) }
     ensures position { (view_of seat.new).own.position ≡ done }
+    ensures few { length (did seat.old seat.new) ≤ 3 }
     ensures keeps { Across Keeps seat.old seat.new }
 {
     go_out(heap, seat, done);
@@ -71,6 +72,7 @@ pub fn finds_stopped(heap: &Heap, seat: &mut HeapSeat) -> bool
     ensures ran { Across Ran seat.old seat.new }
     ensures stopped { OnTrue result (HoldsWorld (view_of seat.new) × Across FindsStopped seat.old seat.new) }
     ensures not_yet { OnFalse result (AwaitsStop (view_of seat.new) × Across FindsRunning seat.old seat.new) }
+    ensures few { length (did seat.old seat.new) ≤ 2 }
     ensures keeps { Across Keeps seat.old seat.new }
 {
     heap.observe(seat);

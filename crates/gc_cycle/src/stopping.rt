@@ -1,5 +1,5 @@
 //! A mutator stops the world, and waits for the stop of another.
-ghost use Rattle.std.specs.Prelude.{ℕ, ◌≡◌, ◌∷◌, [], if◌then◌else◌, None, is_some, IsTrue};
+ghost use Rattle.std.specs.Prelude.{ℕ, ◌≡◌, ◌∷◌, [], if◌then◌else◌, List, None, is_some, IsTrue};
 ghost use Rattle.std.specs.Bool.{OnTrue, OnFalse};
 ghost use Rattle.gc_table.specs.Seats.{Across, did, Sits, state_of, view_of};
 ghost use Rattle.packet_pools.specs.Seeking.{some_event};
@@ -7,12 +7,13 @@ ghost use Rattle.mark_core.specs.declared.kinds.Step.TheVariants.{LeaveStep, Sto
 ghost use Rattle.packet_pools.specs.Counts.{count_of};
 ghost use Rattle.gc_table.specs.Log.{event, Only};
 ghost use Rattle.gc_table.specs.Running.{Ran};
+ghost use Rattle.gc_table.specs.declared.view.Entry.{Entry};
 ghost use Rattle.gc_cycle.specs.Answering.{waits_helping};
 ghost use Rattle.gc_cycle.specs.Cycles.{never_fills};
-ghost use Rattle.gc_cycle.specs.Events.{never};
-ghost use Rattle.gc_cycle.specs.Mutating.{GoesOut, HasEntered, StopsWorld, TriesToStop, stays_calm};
+ghost use Rattle.gc_cycle.specs.Events.{each_after, never};
+ghost use Rattle.gc_cycle.specs.Mutating.{GoesOut, HasEntered, StopsWorld, TriesToStop, is_in_stop, pops_in_stops, stays_calm};
 ghost use Rattle.gc_cycle.specs.Polling.{offered_help, saw_resumed};
-ghost use Rattle.gc_cycle.specs.Sorts.{joins, leaves, raises_flag};
+ghost use Rattle.gc_cycle.specs.Sorts.{comes_in, joins, leaves, pops, raises_flag, resumes};
 ghost use Rattle.gc_cycle.specs.Sparing.{spares_part};
 ghost use Rattle.gc_cycle.specs.Standing.{IsAdmitted, IsOut, KeepsSeat, KeepsSection, Mutates};
 ghost use Rattle.gc_cycle.specs.Statistics.{leaves_numbers};
@@ -189,6 +190,8 @@ pub fn go_in<R: Wait>(rt: &R, heap: &Heap, seat: &mut HeapSeat)
     ensures waits { IsTrue (waits_helping (did seat.old seat.new)) }
     ensures offered { IsTrue (offered_help (did seat.old seat.new)) }
     ensures helps { Across HelpsInTurns seat.old seat.new }
+    ensures unresumed { IsTrue (never resumes (did seat.old seat.new)) }
+    ensures away { (before : List Entry) → IsTrue (is_in_stop before) → IsTrue (each_after is_in_stop pops before (did seat.old seat.new)) }
     ensures spares { Across (Only spares_part) seat.old seat.new }
     ensures numbers { Across (Only leaves_numbers) seat.old seat.new }
 {
@@ -212,6 +215,9 @@ pub fn stop<R: Wait>(rt: &R, heap: &Heap, seat: &mut HeapSeat, done: u32) -> boo
     ensures theirs { OnFalse result (Mutates (view_of seat.new)) }
     ensures position { (view_of seat.new).own.position ≡ done }
     ensures raises { count_of raises_flag (did seat.old seat.new) ≡ (if result then 1 else 0) }
+    ensures outside { IsTrue (each_after (never comes_in) raises_flag [] (did seat.old seat.new)) }
+    ensures unresumed { IsTrue (never resumes (did seat.old seat.new)) }
+    ensures pops { IsTrue (pops_in_stops (did seat.old seat.new)) }
     ensures numbers { Across (Only leaves_numbers) seat.old seat.new }
 {
     go_out(heap, seat, done);

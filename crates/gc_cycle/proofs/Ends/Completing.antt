@@ -12,7 +12,9 @@ use Rattle.mark_core.specs.Effects.{seat_after}
 use Rattle.mark_core.proofs.Writing.Frames.{changes_exact, exact_of, exact-kept}
 use Rattle.gc_table.specs.declared.view.Entry.{Entry}
 use Rattle.gc_table.specs.declared.view.View.{View}
+use Rattle.packet_pools.specs.Counts.{count_of}
 use Rattle.packet_pools.specs.Seeking.{some_event}
+use Rattle.packet_pools.proofs.Counting.{count-join}
 use Rattle.packet_pools.proofs.Searches.{some-left, some-right}
 use Rattle.gc_table.specs.Log.{event, events}
 use Rattle.gc_table.specs.Running.{after_all, Ran}
@@ -26,7 +28,7 @@ use Rattle.sweeper.specs.Freeing.{frees, freed_in}
 use Rattle.gc_cycle.specs.Moments.{at_some_moment, begins, total_of}
 use Rattle.gc_cycle.specs.Sorts.{ends_cycle, moves_to, opens_help, tells_full, tries_marking}
 use Rattle.gc_cycle.proofs.Parts.{move-finishes, part-finishes, part-stays}
-use Rattle.gc_cycle.proofs.Sequences.{followed-across, moments, moments-state, none-of-steps, since-this, some-moment-later, some-none, this-moment, total-join, total-none, freed-same}
+use Rattle.gc_cycle.proofs.Sequences.{count-none, followed-across, moments, moments-state, none-of-steps, since-this, some-moment-later, some-none, this-moment, total-join, total-none, freed-same}
 
 -- a step that stays is no move
 pub no-move : (p : Phase) (step : Step) (n : ℕ) → stays step ≡ true → moves_to p step n ≡ false
@@ -52,6 +54,14 @@ no-try step n e = refl
 
 pub part-untried : (p : Phase) (v w : View) → IsPart p v w → some_event tries_marking (events v w) ≡ false
 part-untried p v w h = none-of-steps stays tries_marking no-try (events v w) (part-stays p v w h)
+
+-- a step that stays ends no cycle
+pub no-end : (step : Step) (n : ℕ) → stays step ≡ true → ends_cycle step n ≡ false
+no-end (StorePhase to) n e = absurd (true≢false (sym e))
+no-end step n e = refl
+
+pub part-unended : (p : Phase) (v w : View) → IsPart p v w → some_event ends_cycle (events v w) ≡ false
+part-unended p v w h = none-of-steps stays ends_cycle no-end (events v w) (part-stays p v w h)
 
 keeps-exact : (step : Step) (sh : Shape) (s : SeatState) (old : ℕ) → stays step ≡ true → exact_of (seat_after sh s step old) ≡ exact_of s
 keeps-exact (StorePhase to) sh s old e = absurd (true≢false (sym e))
@@ -135,6 +145,18 @@ module _ (v0 v1 v2 v3 v4 v5 v6 : View) (p1 : IsPart Drain v0 v1) (o1 : some_even
       ap (some_event ends_cycle) all-events
       ∙ some-right ends_cycle (events v0 v1 ++ events v1 v2) (event (StorePhase Sweep) 2 ∷ (events v3 v4 ++ (event (StorePhase Idle) 3 ∷ events v5 v6))) (some-right ends_cycle (events v3 v4) (event (StorePhase Idle) 3 ∷ events v5 v6) refl)
 
+  once : count_of ends_cycle (events v0 v6) ≡ 1
+  once =
+      let drained : List Entry = events v0 v1 ++ events v1 v2 in
+      let settled : List Entry = event (StorePhase Idle) 3 ∷ events v5 v6 in
+      let all = ap (count_of ends_cycle) all-events in
+      let two : count_of ends_cycle (drained ++ (event (StorePhase Sweep) 2 ∷ (events v3 v4 ++ settled))) ≡ count_of ends_cycle drained + (0 + count_of ends_cycle (events v3 v4 ++ settled)) = count-join ends_cycle drained (event (StorePhase Sweep) 2 ∷ (events v3 v4 ++ settled)) in
+      let three : count_of ends_cycle (events v3 v4 ++ settled) ≡ count_of ends_cycle (events v3 v4) + (1 + count_of ends_cycle (events v5 v6)) = count-join ends_cycle (events v3 v4) settled in
+      let a = count-none ends_cycle drained (some-none ends_cycle (events v0 v1) (events v1 v2) (part-unended Drain v0 v1 p1) (part-unended Drain v1 v2 p2)) in
+      let b = count-none ends_cycle (events v3 v4) (part-unended Sweep v3 v4 p4) in
+      let d = count-none ends_cycle (events v5 v6) (part-unended Idle v5 v6 p6) in
+      omega (arith, all, two, three, a, b, d)
+
   to-sweep : Ran v0 v4
   to-sweep = ran-join v0 v2 v4 first (ran-join v2 v3 v4 m3.ran p4.ran)
 
@@ -162,6 +184,7 @@ module _ (v0 v1 v2 v3 v4 v5 v6 : View) (p1 : IsPart Drain v0 v1) (o1 : some_even
         drain_help = drain-help;
         sweep_help = sweep-help;
         ends = ends;
+        once = once;
         not_full = ap not (nowhere tells_full part-untold refl refl);
         unbegun = ap not (nowhere tries_marking part-untried refl refl);
         exactly = λ h. (ends-exactly h, part-exact Idle v5 v6 p6 ∙ move-exact Sweep Idle v4 v5 m5 (exact-there h));

@@ -1,5 +1,5 @@
 -- An ordinary cycle, and a precise one, from their first move to their end.
-use Rattle.std.proofs.Common.{ℕ, ◌≡◌, ◌<◌, List, [], ◌∷◌, ◌++◌, append_assoc, get_or, length, refl, sym, ap, ◌∙◌, subst, Bool, true, false, not, ◌&&◌, ⊎_elim, arith}
+use Rattle.std.proofs.Common.{ℕ, ◌≡◌, ◌<◌, ◌+◌, List, [], ◌∷◌, ◌++◌, append_assoc, get_or, length, refl, sym, ap, ◌∙◌, subst, Bool, true, false, not, ◌&&◌, ⊎_elim, arith}
 use Rattle.std.specs.Prelude.{if◌then◌else◌}
 use Rattle.std.specs.List.{list_any}
 use Rattle.std.proofs.lemmas.Bool.{and_from, and_parts, false≢true, not-true, or_cases, or_from, or_left, or_right}
@@ -17,7 +17,9 @@ use Rattle.mark_core.specs.declared.seat.SeatState.{SeatState}
 use Rattle.gc_table.specs.declared.view.Entry.{Entry}
 use Rattle.gc_table.specs.declared.view.View.{View}
 use Rattle.gc_table.proofs.Stands.StandsUsed.{reachable-used}
+use Rattle.packet_pools.specs.Counts.{count_of}
 use Rattle.packet_pools.specs.Seeking.{some_event}
+use Rattle.packet_pools.proofs.Counting.{count-join}
 use Rattle.packet_pools.proofs.Searches.{some-right}
 use Rattle.gc_table.specs.Log.{all_steps, event, events, Only}
 use Rattle.gc_table.specs.Running.{Ran}
@@ -30,8 +32,8 @@ use Rattle.gc_cycle.specs.Events.{Sort, followed_by, never, since_last}
 use Rattle.gc_cycle.specs.Finishing.{BeginsExactly, Completes, finishes, IsAloneIn, stays}
 use Rattle.gc_cycle.specs.Moments.{Moment, after_moment, at_some_moment, begins, total_of}
 use Rattle.gc_cycle.specs.Sorts.{begins_exactly, ends_cycle, moves, moves_to, opens_help, tells_full, tries_marking}
-use Rattle.gc_cycle.proofs.Sequences.{followed-later, moments, moments-state, none-of-steps, since-this, some-moment-later, some-none}
-use Rattle.gc_cycle.proofs.Ends.Completing.{no-move, no-tell, total-run, no-try}
+use Rattle.gc_cycle.proofs.Sequences.{count-none, followed-later, moments, moments-state, none-of-steps, since-this, some-moment-later, some-none}
+use Rattle.gc_cycle.proofs.Ends.Completing.{no-end, no-move, no-tell, total-run, no-try}
 
 -- an event like g, where one is after one like f
 some-of-followed : (f g : Sort) (es : List Entry) → followed_by f g es ≡ true → some_event g es ≡ true
@@ -80,6 +82,9 @@ module _ (v0 v1 v2 : View) (r : Ran v0 v1) (is : events v0 v1 ≡ event (StorePh
 
   pub cycle-unbegun : never tries_marking (events v0 v2) ≡ true
   cycle-unbegun = ap (never tries_marking) all-events ∙ never-both tries_marking (event (StorePhase Drain) 1 ∷ event (Reset card_counter) 0 ∷ []) (events v1 v2) refl k.unbegun
+
+  pub cycle-once : count_of ends_cycle (events v0 v2) ≡ 1
+  cycle-once = let all = ap (count_of ends_cycle) all-events in let one = k.once in omega (arith, all, one)
 
   pub cycle-total : (f : SeatState → Step → ℕ → ℕ) → ((s : SeatState) → f s (StorePhase Drain) 1 ≡ 0) → ((s : SeatState) → f s (Reset card_counter) 0 ≡ 0) → total_of f v0 (events v0 v2) ≡ total_of f v1 (events v1 v2)
   cycle-total f a b =
@@ -171,6 +176,26 @@ module _ (v0 v1 v2 : View) (b : BeginsExactly v0 v1) (k : Completes v1 v2) where
       ∙ never-both tries_marking b.before (b.move ∷ (b.rest ++ events v1 v2)) b.unbegun
       (ap not (or_from _ _ (exact-untried b.move.step b.move.found b.begins) (some-none tries_marking b.rest (events v1 v2) (none-of-steps stays tries_marking no-try b.rest b.stayed) (not-true _ k.unbegun))))
 
+  exact-unended : (step : Step) (n : ℕ) → begins_exactly step n ≡ true → ends_cycle step n ≡ false
+  exact-unended (StorePhase Drain) n h = refl
+  exact-unended (StorePhase Idle) n h = absurd (false≢true h)
+  exact-unended (StorePhase Marking) n h = absurd (false≢true h)
+  exact-unended (StorePhase Sweep) n h = absurd (false≢true h)
+  exact-unended (StorePhase Clear) n h = absurd (false≢true h)
+  exact-unended (StorePhase Full) n h = absurd (false≢true h)
+  exact-unended step n h = absurd (false≢true h)
+
+  pub exact-once : count_of ends_cycle (events v0 v2) ≡ 1
+  exact-once =
+      let first : List Entry = b.move ∷ b.rest in
+      let all = ap (count_of ends_cycle) split in
+      let two = count-join ends_cycle b.before (first ++ events v1 v2) in
+      let three = count-join ends_cycle first (events v1 v2) in
+      let before = count-none ends_cycle b.before (not-true _ b.unended) in
+      let begun = count-none ends_cycle first (or_from _ _ (exact-unended b.move.step b.move.found b.begins) (none-of-steps stays ends_cycle no-end b.rest b.stayed)) in
+      let one = k.once in
+      omega (arith, all, two, three, before, begun, one)
+
 -- where the stop began exactly, no cycle is under way, and the seat is alone, the cells in use are the reachable ones
 pub exact-end : (v : View) → IsAloneIn Idle v → v.state.exact ≡ true → InEach IsExact v
 exact-end v a e x i k g c low =
@@ -182,9 +207,9 @@ exact-end v a e x i k g c low =
       λ r. reachable-used x.core c k.core r,
     )
 
--- a drain began exactly after other events, among which nothing told that the heap is full, and no cycle was begun
-pub begins-later : (u v w : View) → Ran u v → Only finishes u v → never tells_full (events u v) ≡ true → never tries_marking (events u v) ≡ true → BeginsExactly v w → BeginsExactly u w
-begins-later u v w r o n m b =
+-- a drain began exactly after other events, among which nothing told that the heap is full, and no cycle was begun or ended
+pub begins-later : (u v w : View) → Ran u v → Only finishes u v → never tells_full (events u v) ≡ true → never tries_marking (events u v) ≡ true → never ends_cycle (events u v) ≡ true → BeginsExactly v w → BeginsExactly u w
+begins-later u v w r o n m d b =
     record {
       ran = ran-join u v w r b.ran;
       only = ran-only finishes u v w r b.ran o b.only;
@@ -199,6 +224,7 @@ begins-later u v w r o n m b =
       fresh = b.fresh;
       not_full = never-both tells_full (events u v) b.before n b.not_full;
       unbegun = never-both tries_marking (events u v) b.before m b.unbegun;
+      unended = never-both ends_cycle (events u v) b.before d b.unended;
     }
 
 -- since a drain began exactly only the counter of cards was set

@@ -38,7 +38,7 @@ found-phase p v w n f a = found-noted v ReadPhase n (phase_number p) the_phase f
 -- a drain that begins where no cycle is under way
 pub idle-begins : (v w : View) → Ran v w → events v w ≡ event (StorePhase Drain) 0 ∷ event (Reset card_counter) 0 ∷ [] → IsAloneIn Drain w → w.state.exact ≡ true → BeginsExactly v w
 idle-begins v w r e a x =
-    record { ran = r; only = ap (all_steps finishes) e; alone = a; exact = x; before = []; rest = event (Reset card_counter) 0 ∷ []; move = event (StorePhase Drain) 0; all = e; begins = refl; stayed = refl; fresh = refl; not_full = refl; unbegun = refl }
+    record { ran = r; only = ap (all_steps finishes) e; alone = a; exact = x; before = []; rest = event (Reset card_counter) 0 ∷ []; move = event (StorePhase Drain) 0; all = e; begins = refl; stayed = refl; fresh = refl; not_full = refl; unbegun = refl; unended = refl }
 
 pub look-event : (v w : View) (t : Took ReadPhase v w) → events v w ≡ event ReadPhase t.0 ∷ []
 look-event v w t = events-after v w ReadPhase t.0 t.1.0

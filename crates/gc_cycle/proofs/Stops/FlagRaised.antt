@@ -26,7 +26,7 @@ use Rattle.gc_cycle.specs.Mutating.{keeps_section, tries_stopping, TriesToStop}
 use Rattle.gc_cycle.specs.Sorts.{raises_flag}
 use Rattle.mark_core.specs.declared.kinds.Phase.TheVariants.{Clear, Drain, Full, Idle, Marking, Sweep}
 use Rattle.gc_cycle.specs.Standing.{IsOut}
-use Rattle.gc_cycle.proofs.Sequences.{none-of-steps}
+use Rattle.gc_cycle.proofs.Sequences.{count-none, none-of-steps}
 use Rattle.gc_cycle.proofs.Stops.OutAndIn.{bare-from, bare-parts}
 use Rattle.gc_cycle.proofs.SectionKept.{keeps-seat, keeps-section, tries-keep, tries-never-claim, tries-never-fill}
 
@@ -52,11 +52,6 @@ pub theirs-out : (v w : View) (n : ℕ) → IsOut v → w ≡ after RaiseStep n 
 theirs-out v w n o e h =
     let b = bare-parts v.state o.bare in
     subst IsOut (sym e) (record { bare = bare-from v.state.counted (not (has_flag n)) v.state.helping b.0 (ap not (theirs-up (has_flag n) h)) b.2; rest = o.rest })
-
-count-none : (f : Sort) (es : List Entry) → some_event f es ≡ false → count_of f es ≡ 0
-count-none f [] h = refl
-count-none f (e ∷ es) h =
-    let p = or_parts (f e.step e.found) (some_event f es) h in ap (λ (b : Bool). (if b then 1 else 0) + count_of f es) p.0 ∙ (zero-add (count_of f es) ∙ count-none f es p.1)
 
 -- no flag was raised
 pub calm-count : (es : List Entry) → never raises_flag es ≡ true → count_of raises_flag es ≡ 0

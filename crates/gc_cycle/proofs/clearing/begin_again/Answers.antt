@@ -56,6 +56,7 @@ returns-clause-begun c =
       fresh = refl;
       not_full = refl;
       unbegun = refl;
+      unended = refl;
     }
 
 pub returns-clause-rescanned : goal.returns-clause-rescanned

@@ -8,8 +8,8 @@ use Rattle.gc_table.proofs.Running.{ran-events, ran-join, ran-only}
 use Rattle.gc_cycle.specs.Events.{never}
 use Rattle.gc_cycle.specs.Finishing.{finishes}
 use Rattle.card_clean.specs.Leaving.{rescans}
-use Rattle.gc_cycle.specs.Sorts.{tells_full, tries_marking}
-use Rattle.gc_cycle.proofs.Ends.Completing.{freed-move, freed-none, freed-run, move-total, part-untold, part-untried, total-run}
+use Rattle.gc_cycle.specs.Sorts.{ends_cycle, tells_full, tries_marking}
+use Rattle.gc_cycle.proofs.Ends.Completing.{freed-move, freed-none, freed-run, move-total, part-unended, part-untold, part-untried, total-run}
 use Rattle.gc_cycle.proofs.Ends.Finishes.{begins-later, never-both}
 use Rattle.gc_cycle.proofs.Parts.{move-finishes, part-finishes}
 use Rattle.gc_cycle.proofs.clearing.clear_all_marks.Goals as goal
@@ -26,6 +26,7 @@ returns-clause-begun c =
     (ran-only finishes v w x m.ran p.ran (move-finishes Drain Clear v w m) (part-finishes Clear w x p))
     (ap (never tells_full) (ran-events v w x m.ran p.ran) ∙ never-both tells_full (events v w) (events w x) (ap (never tells_full) m.events_are) (ap not (part-untold Clear w x p)))
     (ap (never tries_marking) (ran-events v w x m.ran p.ran) ∙ never-both tries_marking (events v w) (events w x) (ap (never tries_marking) m.events_are) (ap not (part-untried Clear w x p)))
+    (ap (never ends_cycle) (ran-events v w x m.ran p.ran) ∙ never-both ends_cycle (events v w) (events w x) (ap (never ends_cycle) m.events_are) (ap not (part-unended Clear w x p)))
     c.begin_again.ensures.begun
 
 pub returns-clause-rescanned : goal.returns-clause-rescanned

@@ -1,4 +1,4 @@
-use Rattle.std.proofs.Common.{◌∙◌, None, refl, ap, []}
+use Rattle.std.proofs.Common.{◌∙◌, None, arith, refl, ap, []}
 use Rattle.mark_core.specs.declared.kinds.Step.TheVariants.{ReadPhase, StorePosition}
 use Rattle.gc_table.specs.Seats.{view_of}
 use Rattle.gc_table.specs.declared.view.View.{View}
@@ -7,6 +7,7 @@ use Rattle.gc_table.proofs.Running.{ran-refl, ran-took, ran-stored}
 use Rattle.gc_cycle.specs.Answering.{retires}
 use Rattle.gc_cycle.proofs.Refills.Answered.{cached-still, ends-full}
 use Rattle.gc_cycle.proofs.Changes.{by-join, changes-after}
+use Rattle.gc_cycle.proofs.Few.{few-after, few-join}
 use Rattle.gc_cycle.proofs.collecting.ends_full.Goals as goal
 
 pub returns-then-not-finds_full-clause-ran : goal.returns-then-not-finds_full-clause-ran
@@ -52,3 +53,17 @@ returns-clause-numbers c =
     let s = c.store_position.ensures.view in
     by-join [] [] v w x (changes-after v w ReadPhase t.0 refl (ran-took v w ReadPhase refl t) t.1.0)
     (changes-after w x (StorePosition c.args.done) c.args.done refl (ran-stored w x (StorePosition c.args.done) refl s) s)
+
+pub returns-then-not-finds_full-clause-few : goal.returns-then-not-finds_full-clause-few
+returns-then-not-finds_full-clause-few c =
+    let t = c.finds_full.ensures.read in let one = few-after (view_of c.args.seat.now) (view_of c.finds_full.new.seat) ReadPhase t.0 t.1.0 in omega (arith, one)
+
+pub returns-clause-few : goal.returns-clause-few
+returns-clause-few c =
+    let v : View = view_of c.args.seat.now in
+    let w : View = view_of c.finds_full.new.seat in
+    let x : View = view_of c.store_position.new.seat in
+    let t = c.finds_full.ensures.read in
+    let s = c.store_position.ensures.view in
+    let done = c.args.done in
+    few-join 1 1 v w x (ran-took v w ReadPhase refl t) (ran-stored w x (StorePosition done) refl s) (few-after v w ReadPhase t.0 t.1.0) (few-after w x (StorePosition done) done s)

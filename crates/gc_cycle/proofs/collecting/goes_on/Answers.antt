@@ -2,12 +2,14 @@ use Rattle.std.proofs.Common.{None, refl, ap, sym, subst}
 use Rattle.mark_core.specs.declared.kinds.Step.TheVariants.{ReadPhase, StorePosition}
 use Rattle.gc_table.specs.Seats.{view_of}
 use Rattle.gc_table.specs.declared.view.View.{View}
-use Rattle.gc_table.proofs.Running.{ran-took, ran-stored}
+use Rattle.gc_table.proofs.Running.{ran-join, ran-took, ran-stored}
 use Rattle.mark_core.specs.declared.seat.SeatState.{SeatState}
 use Rattle.gc_cycle.specs.Answering.{HasCache}
 use Rattle.gc_cycle.specs.Statistics.{GivesUp}
 use Rattle.gc_cycle.proofs.Refills.Answered.{cached-still, ends-full}
 use Rattle.gc_cycle.proofs.Changes.{changes-after, gives-join, keeps-up}
+use Rattle.std.proofs.Common.{arith}
+use Rattle.gc_cycle.proofs.Few.{few-after, few-join}
 use Rattle.gc_cycle.proofs.collecting.goes_on.Goals as goal
 
 pub returns-then-not-finds_full-clause-ran : goal.returns-then-not-finds_full-clause-ran
@@ -66,3 +68,20 @@ returns-clause-numbers c =
     subst (λ k. GivesUp old k v y) (sym c.take.ensures.after)
     (gives-join old old None v w y (keeps-up old v w (changes-after v w ReadPhase t.0 refl (ran-took v w ReadPhase refl t) t.1.0))
     (gives-join old None None w x y given (keeps-up None x y (changes-after x y (StorePosition done) done refl (ran-stored x y (StorePosition done) refl s) s))))
+
+pub returns-then-not-finds_full-clause-few : goal.returns-then-not-finds_full-clause-few
+returns-then-not-finds_full-clause-few c =
+    let t = c.finds_full.ensures.read in let one = few-after (view_of c.args.seat.now) (view_of c.finds_full.new.seat) ReadPhase t.0 t.1.0 in omega (arith, one)
+
+pub returns-clause-few : goal.returns-clause-few
+returns-clause-few c =
+    let v : View = view_of c.args.seat.now in
+    let w : View = view_of c.finds_full.new.seat in
+    let x : View = view_of c.retire_some.new.seat in
+    let y : View = view_of c.store_position.new.seat in
+    let t = c.finds_full.ensures.read in
+    let r = c.retire_some.ensures in
+    let s = c.store_position.ensures.view in
+    let done = c.args.done in
+    let stored = ran-stored x y (StorePosition done) refl s in
+    few-join 1 4 v w y (ran-took v w ReadPhase refl t) (ran-join w x y r.ran stored) (few-after v w ReadPhase t.0 t.1.0) (few-join 3 1 w x y r.ran stored r.few (few-after x y (StorePosition done) done s))

@@ -6,10 +6,10 @@ use Rattle.gc_table.proofs.Running.{ran-events, ran-join, ran-only}
 use Rattle.gc_table.specs.Log.{events}
 use Rattle.card_clean.specs.Leaving.{rescans, rescanned_in}
 use Rattle.sweeper.specs.Freeing.{freed_in}
-use Rattle.gc_cycle.proofs.Ends.Completing.{freed-none, freed-run, part-untried, total-run}
+use Rattle.gc_cycle.proofs.Ends.Completing.{freed-none, freed-run, part-unended, part-untried, total-run}
 use Rattle.gc_cycle.specs.Events.{never, since_last}
 use Rattle.gc_cycle.specs.Finishing.{finishes}
-use Rattle.gc_cycle.specs.Sorts.{moves_to, tries_marking}
+use Rattle.gc_cycle.specs.Sorts.{ends_cycle, moves_to, tries_marking}
 use Rattle.gc_cycle.proofs.Parts.{part-finishes}
 use Rattle.gc_cycle.proofs.Ends.Finishes.{begins-later, never-both}
 use Rattle.gc_cycle.proofs.Ends.Starting.{drain-no-full, either-untold, idle-begins, look-drain-events, look-drain-finishes, look-event, look-finishes, look-ran, looked, idle-or-marking, marking-ran}
@@ -23,7 +23,7 @@ returns-then-idle-clause-begun g c =
     let t = c.finds_idle-idle.ensures.read in
     let a = c.if-idle.ensures.idle in
     let b = c.begin_drain.ensures in
-    begins-later v w x (look-ran v w t) (look-finishes v w t) (either-untold v w t c.requires.alone) (ap (never tries_marking) (look-event v w t)) (idle-begins w x b.ran (b.events Idle a) b.alone (b.exact a))
+    begins-later v w x (look-ran v w t) (look-finishes v w t) (either-untold v w t c.requires.alone) (ap (never tries_marking) (look-event v w t)) (ap (never ends_cycle) (look-event v w t)) (idle-begins w x b.ran (b.events Idle a) b.alone (b.exact a))
 
 pub returns-then-idle-clause-rescanned : goal.returns-then-idle-clause-rescanned
 returns-then-idle-clause-rescanned g c =
@@ -57,6 +57,8 @@ returns-clause-begun g c =
     (drain-no-full v w x y 1 t b.ran (either-untold v w t c.requires.alone) (b.events Marking c.if-idle.ensures.marking) p)
     (ap (never tries_marking) (ran-events v x y (marking-ran v w x t b.ran) p.ran)
     ∙ never-both tries_marking (events v x) (events x y) (ap (never tries_marking) (look-drain-events v w x 1 t b.ran (b.events Marking c.if-idle.ensures.marking))) (ap not (part-untried Drain x y p)))
+    (ap (never ends_cycle) (ran-events v x y (marking-ran v w x t b.ran) p.ran)
+    ∙ never-both ends_cycle (events v x) (events x y) (ap (never ends_cycle) (look-drain-events v w x 1 t b.ran (b.events Marking c.if-idle.ensures.marking))) (ap not (part-unended Drain x y p)))
     c.clear_all_marks.ensures.begun
 
 pub returns-clause-rescanned : goal.returns-clause-rescanned

@@ -9,7 +9,7 @@ use Rattle.gc_cycle.specs.Finishing.{finishes}
 use Rattle.gc_cycle.specs.Sorts.{moves_to}
 use Rattle.card_clean.specs.Leaving.{rescans}
 use Rattle.sweeper.specs.Freeing.{frees}
-use Rattle.gc_cycle.proofs.Ends.Finishes.{cycle-help, cycle-not-full, cycle-total, cycle-unbegun}
+use Rattle.gc_cycle.proofs.Ends.Finishes.{cycle-help, cycle-not-full, cycle-once, cycle-total, cycle-unbegun}
 use Rattle.gc_cycle.proofs.Ends.Spared.{finish-calm, finish-keeps, finish-position, finish-spares, untold-fills, untold-sees}
 use Rattle.gc_cycle.proofs.Sequences.{freed-same}
 use Rattle.gc_cycle.proofs.finishing.finish_cycle.Goals as goal
@@ -69,3 +69,6 @@ pub returns-clause-drains : goal.returns-clause-drains
 returns-clause-drains g c =
     let b = c.begin_drain.ensures in
     record { begun = view_of c.begin_drain.new.seat; begins = (b.ran, ap (since_last (moves_to Drain)) (b.events Marking c.requires.alone)); drains = c.complete.ensures.drains }
+
+pub returns-clause-once : goal.returns-clause-once
+returns-clause-once g c = cycle-once (view_of c.args.seat.now) (view_of c.begin_drain.new.seat) (view_of c.complete.new.seat) c.begin_drain.ensures.ran (c.begin_drain.ensures.events Marking c.requires.alone) c.complete.ensures.completes

@@ -9,7 +9,7 @@ use Rattle.gc_cycle.specs.Moments.{begins}
 use Rattle.gc_table.proofs.Running.{ran-only}
 use Rattle.gc_cycle.specs.Finishing.{finishes}
 use Rattle.gc_cycle.proofs.Ends.Completing.{freed-run, total-run}
-use Rattle.gc_cycle.proofs.Ends.Finishes.{before-more, exact-collects, exact-end, exact-fresh, exact-help, exact-not-full, exact-ran, exact-unbegun}
+use Rattle.gc_cycle.proofs.Ends.Finishes.{before-more, exact-collects, exact-end, exact-fresh, exact-help, exact-not-full, exact-once, exact-ran, exact-unbegun}
 use Rattle.gc_cycle.proofs.Ends.Spared.{finish-calm, finish-keeps, finish-position, finish-spares, untold-fills, untold-sees}
 use Rattle.gc_cycle.proofs.finishing.precise.Goals as goal
 
@@ -77,3 +77,6 @@ returns-clause-drains g c =
 
 pub returns-clause-first : goal.returns-clause-first
 returns-clause-first g c a = before-more (view_of c.args.seat.now) (view_of c.begin_exactly-first.new.seat) (view_of c.complete.new.seat) (c.begin_exactly-first.ensures.first a) c.complete.ensures.completes.ran
+
+pub returns-clause-once : goal.returns-clause-once
+returns-clause-once g c = exact-once (view_of c.args.seat.now) (view_of c.begin_exactly-first.new.seat) (view_of c.complete.new.seat) c.begin_exactly-first.ensures.begun c.complete.ensures.completes

@@ -18,6 +18,8 @@ use Rattle.gc_table.specs.Running.{Ran}
 use Rattle.gc_table.specs.Taking.{after}
 use Rattle.gc_table.proofs.History.Log.{events-after}
 use Rattle.gc_table.proofs.Running.{ran-events, ran-join}
+use Rattle.std.proofs.Common.{arith}
+use Rattle.gc_cycle.proofs.Few.{few-events}
 use Rattle.gc_cycle.proofs.stepping.ask_to_stop.Goals as goal
 
 pub returns-in-Yours-clause-yours : goal.returns-in-Yours-clause-yours
@@ -87,3 +89,19 @@ returns-in-Yours-clause-position c = ap (λ (y : View). y.own.position) c.in-You
 
 pub returns-in-Theirs-clause-position : goal.returns-in-Theirs-clause-position
 returns-in-Theirs-clause-position c = ap (λ (y : View). y.own.position) c.in-Theirs.ensures.step.1 ∙ c.go_out.ensures.position
+
+pub returns-in-Yours-clause-few : goal.returns-in-Yours-clause-few
+returns-in-Yours-clause-few c =
+    let o = c.go_out.ensures in
+    let t = c.in-Yours.ensures.step in
+    let u : View = view_of c.args.seat.now in
+    let w : View = view_of c.raise.new.seat in
+    few-events 3 u w _ (asked u (view_of c.go_out.new.seat) w c.args.done o.left.0 t.0 o.out.ran c.raise.ensures.ran o.left.1 t.1) (omega arith)
+
+pub returns-in-Theirs-clause-few : goal.returns-in-Theirs-clause-few
+returns-in-Theirs-clause-few c =
+    let o = c.go_out.ensures in
+    let t = c.in-Theirs.ensures.step in
+    let u : View = view_of c.args.seat.now in
+    let w : View = view_of c.raise.new.seat in
+    few-events 3 u w _ (asked u (view_of c.go_out.new.seat) w c.args.done o.left.0 t.0 o.out.ran c.raise.ensures.ran o.left.1 t.1) (omega arith)

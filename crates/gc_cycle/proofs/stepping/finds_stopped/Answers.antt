@@ -7,6 +7,8 @@ use Rattle.gc_table.specs.declared.view.View.{View}
 use Rattle.gc_table.proofs.History.Log.{events-after}
 use Rattle.gc_table.proofs.Running.{ran-events, ran-found, ran-join}
 use Rattle.gc_cycle.proofs.Stepped.{asks-still, knows-found, stopped-holds}
+use Rattle.std.proofs.Common.{arith}
+use Rattle.gc_cycle.proofs.Few.{few-after, few-join}
 use Rattle.gc_cycle.proofs.stepping.finds_stopped.Goals as goal
 
 pub returns-then-not-state-clause-ran : goal.returns-then-not-state-clause-ran
@@ -48,3 +50,17 @@ returns-clause-stopped c =
         stopped = sym (knows-found v w n c.requires.asks o) ∙ k;
       },
     )
+
+pub returns-then-not-state-clause-few : goal.returns-then-not-state-clause-few
+returns-then-not-state-clause-few c =
+    let one = few-after (view_of c.args.seat.now) (view_of c.observe.new.seat) Observe c.observe.result c.observe.ensures.view.0 in omega (arith, one)
+
+pub returns-clause-few : goal.returns-clause-few
+returns-clause-few c =
+    let v : View = view_of c.args.seat.now in
+    let w : View = view_of c.observe.new.seat in
+    let x : View = view_of c.read_phase.new.seat in
+    let n = c.observe.result in
+    let o = c.observe.ensures.view in
+    let f = c.read_phase.ensures.view in
+    few-join 1 1 v w x (ran-found v w Observe n refl o) (ran-found w x ReadPhase f.0 refl (f.1, f.2)) (few-after v w Observe n o.0) (few-after w x ReadPhase f.0 f.1)

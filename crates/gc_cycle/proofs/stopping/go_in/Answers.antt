@@ -1,4 +1,4 @@
-use Rattle.std.proofs.Common.{ℕ, ◌≡◌, List, [], ◌∷◌, ◌++◌, append_assoc, refl, ap, ◌∙◌, true}
+use Rattle.std.proofs.Common.{ℕ, ◌≡◌, List, [], ◌∷◌, ◌++◌, append_assoc, refl, sym, ap, ◌∙◌, true, false, not}
 use Rattle.mark_core.specs.declared.kinds.Step.TheVariants.{EnterStep, LeaveStep}
 use Rattle.gc_table.specs.Log.{event, events, all_steps}
 use Rattle.gc_table.specs.Running.{Ran}
@@ -6,10 +6,10 @@ use Rattle.gc_table.specs.declared.view.Entry.{Entry}
 use Rattle.gc_table.proofs.History.Log.{events-none, only-more, only-none}
 use Rattle.gc_table.proofs.Running.{ran-events, ran-join, ran-only}
 use Rattle.gc_cycle.specs.Answering.{waits_helping}
-use Rattle.gc_cycle.specs.Events.{never}
-use Rattle.gc_cycle.specs.Mutating.{stays_calm}
+use Rattle.gc_cycle.specs.Events.{each_after, never}
+use Rattle.gc_cycle.specs.Mutating.{is_in_stop, stays_calm}
 use Rattle.gc_cycle.specs.Polling.{offered_help}
-use Rattle.gc_cycle.specs.Sorts.{joins, leaves}
+use Rattle.gc_cycle.specs.Sorts.{joins, leaves, pops, resumes}
 use Rattle.gc_cycle.specs.Sparing.{spares_part}
 use Rattle.gc_cycle.proofs.Refills.Collected.{calm-spares}
 use Rattle.gc_cycle.proofs.Stops.Waits.{entered-waits, offered-join, turned-waits}
@@ -17,7 +17,14 @@ use Rattle.std.specs.Prelude.{is_some}
 use Rattle.gc_table.specs.Seats.{view_of}
 use Rattle.gc_table.specs.declared.view.View.{View}
 use Rattle.gc_cycle.proofs.SectionKept.{goes-out, out-join, out-none}
+use Rattle.packet_pools.specs.Seeking.{some_event}
+use Rattle.gc_cycle.specs.Standing.{IsOut}
+use Rattle.gc_cycle.proofs.Sequences.{some-none}
 use Rattle.gc_cycle.proofs.Stops.OutAndIn.{enters-in, turns-out}
+use Rattle.packet_pools.proofs.Orders.{after-join, after-none}
+use Rattle.std.proofs.lemmas.List.{append-nil}
+use Rattle.gc_cycle.proofs.Stops.Away.{pops-on, stop-on, turned-stop}
+use Rattle.gc_cycle.proofs.Stops.Outside.{stayed-out, unresumed-out}
 use Rattle.gc_cycle.proofs.Turns.{apart-none, turns-join, turns-none}
 use Rattle.gc_cycle.specs.Statistics.{leaves_numbers}
 use Rattle.gc_cycle.proofs.stopping.go_in.Goals as goal
@@ -31,6 +38,27 @@ goes-waiting u v w x n m r q p e h s o ys a b =
     let all : events u x ++ ys ≡ events u v ++ (events v w ++ (event EnterStep n ∷ event LeaveStep m ∷ ys)) =
     ap (λ es. es ++ ys) (ran-events u v x r later) ∙ (append_assoc (events u v) (events v x) ys ∙ ap (λ es. events u v ++ es) tail) in
     ap waits_helping all ∙ h (events v w ++ (event EnterStep n ∷ event LeaveStep m ∷ ys)) t.0 t.1
+
+-- it waited outside, and then took steps that resume nothing
+unresumed-on : (u v w x : View) → Ran u v → Ran v w → Ran w x → some_event resumes (events u v) ≡ false → never leaves (events v w) ≡ true → IsOut w → some_event resumes (events w x) ≡ false → some_event resumes (events u x) ≡ false
+unresumed-on u v w x r q p a n o b =
+    ap (some_event resumes) (ran-events u v x r (ran-join v w x q p))
+    ∙ some-none resumes (events u v) (events v x) a
+    (ap (some_event resumes) (ran-events v w x q p) ∙ some-none resumes (events v w) (events w x) (unresumed-out (events v w) (stayed-out v w q n o)) b)
+
+-- it waited outside, and then took a step or two, by which it pops nothing
+waited-pops : (before : List Entry) (u v w x : View) → Ran u v → Ran v w → Ran w x → (each_after is_in_stop pops before (events u v) ≡ true) × (is_in_stop (before ++ events u v) ≡ true) → never leaves (events v w) ≡ true → IsOut w → some_event pops (events w x) ≡ false → each_after is_in_stop pops before (events u x) ≡ true
+waited-pops before u v w x r q p i n o b =
+    let first : List Entry = before ++ events u v in
+    ap (each_after is_in_stop pops before) (ran-events u v x r (ran-join v w x q p) ∙ ap (λ es. events u v ++ es) (ran-events v w x q p))
+    ∙ after-join is_in_stop pops before (events u v) (events v w ++ events w x) i.0
+    (after-join is_in_stop pops first (events v w) (events w x) (pops-on first (events v w) (stayed-out v w q n o) i.1) (after-none is_in_stop pops (first ++ events v w) (events w x) b))
+
+turned-back : (before : List Entry) (u v w x : View) (n m : ℕ) → Ran u v → Ran v w → Ran w x → events w x ≡ event EnterStep n ∷ event LeaveStep m ∷ [] → is_in_stop (before ++ events u x) ≡ true
+turned-back before u v w x n m r q p e =
+    ap is_in_stop
+    (ap (λ es. before ++ es) (ran-events u w x (ran-join u v w r q) p ∙ ap (λ es. events u w ++ es) e) ∙ sym (append_assoc before (events u w) (event EnterStep n ∷ event LeaveStep m ∷ [])))
+    ∙ turned-stop (before ++ events u w) n m
 
 pub loop-init : goal.loop-init
 loop-init g c =
@@ -46,6 +74,8 @@ loop-init g c =
       offered = ap offered_help (events-none u);
       numbers = only-none leaves_numbers u;
       helps = turns-none u u (apart-none u);
+      away = λ before h. (ap (each_after is_in_stop pops before) (events-none u), ap is_in_stop (ap (λ es. before ++ es) (events-none u) ∙ append-nil before) ∙ h);
+      unresumed = ap (some_event resumes) (events-none u);
     }
 
 pub loop-preserved : goal.loop-preserved
@@ -72,6 +102,8 @@ loop-preserved g c =
           (ap offered_help (ran-events v w x a.ran c.enter.ensures.ran ∙ ap (λ es. events v w ++ es) b.events) ∙ (turned-waits (events v w) b.word b.left [] a.inside a.offered refl refl).1);
       numbers = ran-only leaves_numbers u v x i.goes.ran (ran-join v w x a.ran c.enter.ensures.ran) i.numbers (ran-only leaves_numbers v w x a.ran c.enter.ensures.ran a.numbers (ap (all_steps leaves_numbers) b.events));
       helps = turns-join u v x i.helps (turns-join v w x a.helps (turns-none w x (record { ran = c.enter.ensures.ran; apart = ap (never joins) b.events })));
+      away = λ before h. (waited-pops before u v w x i.goes.ran a.ran c.enter.ensures.ran (i.away before h) a.inside a.seat.1 (ap (some_event pops) b.events), turned-back before u v w x b.word b.left i.goes.ran a.ran c.enter.ensures.ran b.events);
+      unresumed = unresumed-on u v w x i.goes.ran a.ran c.enter.ensures.ran i.unresumed a.inside a.seat.1 (ap (some_event resumes) b.events);
     }
 
 pub returns-then-enter-clause-seat : goal.returns-then-enter-clause-seat
@@ -153,3 +185,18 @@ returns-then-enter-clause-numbers g c =
     let a = c.await_resumed_helping.ensures in
     ran-only leaves_numbers u v x i.goes.ran (ran-join v w x a.ran c.enter.ensures.ran) i.numbers
     (ran-only leaves_numbers v w x a.ran c.enter.ensures.ran a.numbers (ap (all_steps leaves_numbers) c.if-enter.ensures.enters.events))
+
+pub returns-then-enter-clause-unresumed : goal.returns-then-enter-clause-unresumed
+returns-then-enter-clause-unresumed g c =
+    let i = c.loop.invariant in
+    let a = c.await_resumed_helping.ensures in
+    ap not
+    (unresumed-on (view_of c.args.seat.now) (view_of c.loop.seat) (view_of c.await_resumed_helping.new.seat) (view_of c.enter.new.seat) i.goes.ran a.ran c.enter.ensures.ran i.unresumed a.inside a.seat.1
+    (ap (some_event resumes) c.if-enter.ensures.enters.events))
+
+pub returns-then-enter-clause-away : goal.returns-then-enter-clause-away
+returns-then-enter-clause-away g c = λ before h.
+    let i = c.loop.invariant in
+    let a = c.await_resumed_helping.ensures in
+    waited-pops before (view_of c.args.seat.now) (view_of c.loop.seat) (view_of c.await_resumed_helping.new.seat) (view_of c.enter.new.seat) i.goes.ran a.ran c.enter.ensures.ran (i.away before h) a.inside a.seat.1
+    (ap (some_event pops) c.if-enter.ensures.enters.events)

@@ -1,10 +1,13 @@
 use Rattle.gc_table.specs.Seats.{Sits, view_of}
-use Rattle.std.proofs.Common.{◌≡◌, ◌++◌, List, true}
+use Rattle.std.proofs.Common.{◌≡◌, ◌++◌, List, true, false}
 use Rattle.gc_table.specs.Log.{events, Only}
 use Rattle.gc_table.specs.declared.view.Entry.{Entry}
+use Rattle.packet_pools.specs.Seeking.{some_event}
 use Rattle.gc_cycle.specs.Answering.{waits_helping}
 use Rattle.gc_cycle.specs.Polling.{offered_help}
-use Rattle.gc_cycle.specs.Mutating.{GoesOut}
+use Rattle.gc_cycle.specs.Mutating.{GoesOut, is_in_stop}
+use Rattle.gc_cycle.specs.Events.{each_after}
+use Rattle.gc_cycle.specs.Sorts.{pops, resumes}
 use Rattle.gc_cycle.specs.Standing.{IsOut}
 use Rattle.gc_cycle.specs.Statistics.{leaves_numbers}
 use Rattle.gc_cycle.specs.Turns.{HelpsInTurns}
@@ -22,4 +25,6 @@ invariant-loop g l = record {
   offered : offered_help (events (view_of l.fn.seat) (view_of l.seat)) ≡ true;
   numbers : Only leaves_numbers (view_of l.fn.seat) (view_of l.seat);
   helps : HelpsInTurns (view_of l.fn.seat) (view_of l.seat);
+  away : (before : List Entry) → is_in_stop before ≡ true → (each_after is_in_stop pops before (events (view_of l.fn.seat) (view_of l.seat)) ≡ true) × (is_in_stop (before ++ events (view_of l.fn.seat) (view_of l.seat)) ≡ true);
+  unresumed : some_event resumes (events (view_of l.fn.seat) (view_of l.seat)) ≡ false;
 }
