@@ -1,6 +1,7 @@
 //! All threads of a run.
 
 use crate::clock::Log;
+use crate::latency::Ledger;
 use crate::orders::Seen;
 use crate::words::Asked;
 use crate::workers::{Worker, orders_in};
@@ -8,8 +9,14 @@ use managed_heap::{Sizes, Tracer, World};
 use std::alloc::Global;
 use std::rt::Clock;
 use std::sync::Wait;
-use std::thread::{Threads, for_each_mut, join_mut};
-use std::time::Instant;
+use std::thread::{Threads, for_each_mut, join_mut, sleep};
+use std::time::{Duration, Instant};
+
+/// The milliseconds for which all rest before a round of transactions: a system that keeps a share of each second for others takes it then.
+const REST: u64 = 100;
+
+/// How many rounds there are at most.
+const ROUNDS: u32 = 100_000;
 
 /// What a run came to.
 #[derive(Drop)]
@@ -76,6 +83,34 @@ fn since<R: Clock>(rt: &R, start: Option<Instant>) -> u64 {
     }
 }
 
+/// Whether a worker has transactions to make.
+fn is_more(workers: &Vec<Worker>) -> bool {
+    let mut more = false;
+    for worker in workers.iter() {
+        more = more || (worker.ended.is_ok() && worker.ledger.is_open());
+    }
+    more
+}
+
+/// Rounds of transactions until all are made, each after a rest. The nanoseconds that the rounds took.
+fn play_rounds<R: Threads + Wait + Sync + Clock>(
+    rt: &R,
+    alloc: Global,
+    workers: &mut Vec<Worker>,
+) -> u64 {
+    let mut took = 0u64;
+    for _ in 0..ROUNDS {
+        if !is_more(workers) {
+            break;
+        }
+        sleep(rt, Duration::from_millis(REST));
+        let start = Instant::now(rt).ok();
+        play_part(rt, alloc, workers, Part::Play);
+        took = took.wrapping_add(since(rt, start));
+    }
+    took
+}
+
 /// All parts, and then the tracers are dismissed. The nanoseconds in which orders were replaced.
 fn play_all<R: Threads + Wait + Sync + Clock>(
     rt: &R,
@@ -85,9 +120,7 @@ fn play_all<R: Threads + Wait + Sync + Clock>(
 ) -> u64 {
     play_part(rt, alloc, workers, Part::Fill);
     play_part(rt, alloc, workers, Part::Settle);
-    let start = Instant::now(rt).ok();
-    play_part(rt, alloc, workers, Part::Play);
-    let took = since(rt, start);
+    let took = play_rounds(rt, alloc, workers);
     play_part(rt, alloc, workers, Part::Look);
     world.dismiss_tracers(rt);
     took
@@ -102,14 +135,12 @@ fn hire_one(alloc: Global, world: &mut World, asked: Asked, k: u32) -> Option<Wo
     } else {
         0
     };
+    let transactions = asked.transactions.checked_div(asked.workers)?;
+    let seed = 88_172_645_463_325_252u64.wrapping_add(u64::from(k));
     Some(Worker {
         mutator: world.mutator()?,
         orders: orders_in(u32::try_from(cells).unwrap_or(0)),
-        transactions: asked
-            .transactions
-            .checked_div(asked.workers)?
-            .saturating_add(more),
-        seed: 88_172_645_463_325_252u64.wrapping_add(u64::from(k)),
+        ledger: Ledger::new(alloc, transactions.saturating_add(more), seed).ok()?,
         nodes: 0,
         log: Log::empty(alloc),
         seen: Seen::nothing(),

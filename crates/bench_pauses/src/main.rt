@@ -2,17 +2,19 @@
 //!
 //! Each worker is a mutator that keeps orders: small trees and lists below a directory with a fan-out of four, which together fill a stated share of the
 //! heap. A transaction replaces one order by a new one and looks at another. So the heap is full of garbage again and again, while the live set stays as it
-//! is. With `--stops` a collection marks in stops alone; without, it marks beside the workers and stops them at its end. Stops are timed by the clock.
+//! is. With `--stops` a collection marks in stops alone; without, it marks beside the workers and stops them at its end. Stops and transactions are timed by
+//! the clock, in rounds with a rest before each.
 //!
 //! - `words`: what the words of the command line ask for.
 //! - `orders`: an order, and the directory: made, replaced, looked at.
-//! - `clock`: what a worker's stops took, and what it traced.
+//! - `clock`: what a worker's stops took, and what it traced. `latency`: what its transactions took.
 //! - `workers`: what a worker does. `crowd`: all threads of a run.
 //! - `report`: what is told of a run.
 #![tactic(auto)]
 
 mod clock;
 mod crowd;
+mod latency;
 mod orders;
 mod report;
 mod words;

@@ -60,6 +60,19 @@ fn lengths<R: AllocGlobal>(rt: &R, found: &Found) -> Vec<u64> {
     all
 }
 
+/// The nanoseconds of all transactions, from the shortest.
+fn latencies<R: AllocGlobal>(rt: &R, found: &Found) -> Vec<u64> {
+    let mut all = Vec::new(rt.alloc());
+    for worker in found.workers.iter() {
+        for took in worker.ledger.times.iter() {
+            // A time that finds no memory isn't told.
+            let _kept = all.push(*took);
+        }
+    }
+    all.as_mut_slice().sort_unstable();
+    all
+}
+
 /// A number divided by another. 0 where that is 0.
 fn ratio(number: u64, by: u64) -> u64 {
     number.checked_div(by).unwrap_or(0)
@@ -112,6 +125,27 @@ fn tell_times<R: Runtime>(rt: &R, asked: Asked, found: &Found, lengths: &[u64]) 
     )
 }
 
+/// The nanoseconds that so many of 10,000 transactions don't exceed. 0 where there is none.
+fn at_part(times: &[u64], part: usize) -> u64 {
+    let last = times.len().saturating_sub(1);
+    let at = (times.len().wrapping_mul(part) / 10_000).min(last);
+    match times.get(at) {
+        Some(took) => *took,
+        None => 0,
+    }
+}
+
+/// How long the transactions took.
+fn tell_latencies<R: Runtime>(rt: &R, times: &[u64]) -> io::Result<()> {
+    println!(rt;
+        "latency p50 {} p99 {} p999 {} slowest {}",
+        at_part(times, 5_000),
+        at_part(times, 9_900),
+        at_part(times, 9_990),
+        at_part(times, 10_000)
+    )
+}
+
 /// Who did what.
 fn tell_work<R: Runtime>(rt: &R, found: &Found, all: &Sums) -> io::Result<()> {
     let beside = all.traced.wrapping_add(found.traced);
@@ -141,5 +175,6 @@ pub fn tell<R: Runtime + AllocGlobal>(rt: &R, asked: Asked, found: &Found) -> io
     }
     let lengths = lengths(rt, found);
     tell_times(rt, asked, found, lengths.as_slice())?;
+    tell_latencies(rt, latencies(rt, found).as_slice())?;
     tell_work(rt, found, &all)
 }

@@ -1,11 +1,17 @@
 //! What a worker does: it fills its directory, replaces orders, and looks at all of them at the end.
 
 use crate::clock::{Log, StopClock};
+use crate::latency::{Ledger, nanos_between};
 use crate::orders::{OBJECTS, Seen, levels_for, look_at, open, replace};
 use managed_heap::{Mutator, Refused};
 use std::alloc::Global;
+use std::mem;
 use std::rt::Clock;
 use std::sync::Wait;
+use std::time::Instant;
+
+/// The nanoseconds after which a round of transactions ends.
+const ROUND: u64 = 600_000_000;
 
 /// A mutator, what it is to do, what it found, and how it ended.
 #[derive(Drop)]
@@ -14,10 +20,8 @@ pub struct Worker {
     pub mutator: Mutator,
     /// How many orders it keeps.
     pub orders: u32,
-    /// How many orders it replaces.
-    pub transactions: u32,
-    /// Where its choice of orders begins.
-    pub seed: u64,
+    /// Its transactions.
+    pub ledger: Ledger,
     /// How many nodes its directory has.
     pub nodes: u64,
     /// What was noted of its stops.
@@ -64,23 +68,41 @@ fn fill_all<R: Wait + Clock>(
     Ok(nodes)
 }
 
-/// Replaces orders, and looks at another after each.
+/// Replaces an order, and looks at another.
+fn transact<R: Wait + Clock>(
+    rt: &R,
+    m: &mut Mutator,
+    orders: u32,
+    at: u32,
+    number: u64,
+    clock: &mut StopClock<'_, R>,
+) -> Result<Seen, Refused> {
+    let levels = levels_for(orders);
+    replace(rt, m, choose(number, orders), levels, at, clock)?;
+    look_at(rt, m, choose(next(number), orders), levels, clock)
+}
+
+/// A round: transactions until all are made or its time is over.
 fn churn<R: Wait + Clock>(
     rt: &R,
     m: &mut Mutator,
     orders: u32,
-    transactions: u32,
-    seed: u64,
+    ledger: &mut Ledger,
     clock: &mut StopClock<'_, R>,
 ) -> Result<Seen, Refused> {
-    let levels = levels_for(orders);
-    let mut number = seed;
+    let began = Instant::now(rt).ok();
+    let mut before = began;
     let mut seen = Seen::nothing();
-    for done in 0..transactions {
-        number = next(number);
-        replace(rt, m, choose(number, orders), levels, done, clock)?;
-        number = next(number);
-        seen = seen.and(look_at(rt, m, choose(number, orders), levels, clock)?);
+    for at in ledger.made..ledger.transactions {
+        let number = next(ledger.number);
+        seen = seen.and(transact(rt, m, orders, at, number, clock)?);
+        ledger.number = next(number);
+        let now = Instant::now(rt).ok();
+        ledger.note(nanos_between(before, now));
+        before = now;
+        if nanos_between(began, now) >= ROUND {
+            break;
+        }
     }
     Ok(seen)
 }
@@ -118,18 +140,13 @@ impl Worker {
         Ok(())
     }
 
-    /// Replaces its orders. What it saw meanwhile is no part of what it tells. Refused where a call of `managed_heap` is.
+    /// Plays a round of its transactions. What it saw meanwhile is no part of what it tells. Refused where a call of `managed_heap` is.
     pub fn play<R: Wait + Clock>(&mut self, rt: &R, alloc: Global) -> Result<(), Refused> {
         let mut clock = StopClock::new(rt, alloc);
+        clock.log = mem::replace(&mut self.log, Log::empty(alloc));
         self.mutator.enter(rt)?;
-        self.seen = churn(
-            rt,
-            &mut self.mutator,
-            self.orders,
-            self.transactions,
-            self.seed,
-            &mut clock,
-        )?;
+        let orders = self.orders;
+        self.seen = churn(rt, &mut self.mutator, orders, &mut self.ledger, &mut clock)?;
         self.mutator.leave();
         self.log = clock.log;
         Ok(())

@@ -1,0 +1,56 @@
+//! A worker's transactions: how many are made, and how long each took.
+
+use std::alloc::{AllocError, Global};
+use std::time::Instant;
+
+/// The transactions of a worker.
+#[derive(Drop)]
+pub struct Ledger {
+    /// How many it is to make.
+    pub transactions: u32,
+    /// How many it has made.
+    pub made: u32,
+    /// Where its choice of orders goes on.
+    pub number: u64,
+    /// The nanoseconds that each took, and 0 for those that are to be made.
+    pub times: Vec<u64>,
+}
+
+impl Ledger {
+    /// So many transactions, none of them made. The places for their times are written, so that no page is touched first while they are timed.
+    pub fn new(alloc: Global, transactions: u32, number: u64) -> Result<Ledger, AllocError> {
+        let mut times = Vec::new(alloc);
+        for _ in 0..transactions {
+            times.push(0u64)?;
+        }
+        Ok(Ledger {
+            transactions,
+            made: 0,
+            number,
+            times,
+        })
+    }
+
+    /// Notes a transaction that took so many nanoseconds.
+    pub fn note(&mut self, took: u64) {
+        if let Some(place) = self.times.get_mut(self.made as usize) {
+            *place = took;
+        }
+        self.made = self.made.saturating_add(1);
+    }
+
+    /// Whether transactions are to be made.
+    pub fn is_open(&self) -> bool {
+        self.made < self.transactions
+    }
+}
+
+/// The nanoseconds between two readings of the clock. 0 where one is missing.
+pub fn nanos_between(before: Option<Instant>, after: Option<Instant>) -> u64 {
+    match (before, after) {
+        (Some(before), Some(after)) => {
+            u64::try_from(after.saturating_duration_since(before).as_nanos()).unwrap_or(u64::MAX)
+        }
+        _ => 0,
+    }
+}
