@@ -1,16 +1,16 @@
 #!/bin/sh
-# How long crates/bench_pauses stands still: marking beside the workers, and in stops alone, in turns; beside the same work over Boehm's collector, in Go and
-# in Java. From the top of the repository: sh bench/pauses.sh [RUNS [PROGRAM]] prints three tables of medians of so many runs, 5 if no number is given.
-# Without a program, ours is proved and built. A peer that can't be built is left out with a word.
-# CELLS, WORKERS, TRACERS and CYCLES in the environment have other sizes, and how many times the heap's free cells are used up.
+# How long crates/bench_pauses stands still, and how long its transactions take: marking beside the workers, and in stops alone, in turns; beside the same
+# work over Boehm's collector, in Go and in Java. From the top of the repository: chrt -f 10 sh bench/pauses.sh [RUNS [PROGRAM]] prints two tables, 5 runs if no
+# number is given. Without a program, ours is proved and built. A peer that can't be built is left out with a word, and so is one that finds no memory.
+# SIZES in the environment has CELLS/WORKERS/CYCLES, the last of which is how often a run uses up the free cells, and TRACERS how many tracers ours has.
+# Every heap has 48 bytes for each cell, which an object takes in ours, in Boehm's and in Go. PERCENT has how much of it Boehm's gets, where the live set doesn't fit.
 set -eu
 cd "$(dirname "$0")/.."
 runs=${1:-5}
 program=${2:-}
-cells_of=${CELLS:-65536 1048576 4194304}
-workers_of=${WORKERS:-1 2 4}
-tracers_of=${TRACERS:-0 1 2}
-cycles=${CYCLES:-10}
+sizes=${SIZES:-65536/4/50 1048576/1/10 1048576/4/20 4194304/4/10}
+tracers_of=${TRACERS:-0 1}
+percent=${PERCENT:-100 107 125 200 400 800}
 live=60
 folder=${TMPDIR:-/tmp}/pauses.$$
 mkdir "$folder"
@@ -25,43 +25,61 @@ g++ -std=c++20 -O2 -pthread -o "$folder/boehm" bench/pauses/pauses.cpp -lgc 2>/d
 # How many orders are replaced: an order has 16 objects, and each of them takes a free cell.
 transactions() { echo $(($1 * (100 - live) / 100 / 16 * cycles)); }
 
-# A line of numbers from what a program told: rate, stops, mean, median, 99th, longest, cycles, collections, traced by mutators and by tracers, left to the
-# stops, scanned again in them, and floated. A peer tells the first six.
+# A line of numbers from what a program told: rate, stops, mean, longest, the latencies of transactions, cycles, traced by mutators and by tracers, left to
+# the stops, scanned again in them, and floated. A peer tells the first eight.
 numbers() {
     awk '{ for (k = 1; k < NF; k++) if ($(k + 1) ~ /^[0-9]+$/) found[$k] = $(k + 1) }
-        END { print found["rate"] + 0, found["stops"] + 0, found["mean"] + 0, found["median"] + 0, found["most99"] + 0, found["longest"] + 0,
-            found["cycles"] + 0, found["collections"] + 0, found["mutators"] + 0, found["tracers"] + 0, found["left"] + 0, found["rescanned"] + 0, found["floated"] + 0 }'
+        END { print found["rate"] + 0, found["stops"] + 0, found["mean"] + 0, found["longest"] + 0, found["p50"] + 0, found["p99"] + 0, found["p999"] + 0,
+            found["slowest"] + 0, found["cycles"] + 0, found["mutators"] + 0, found["tracers"] + 0, found["left"] + 0, found["rescanned"] + 0, found["floated"] + 0 }'
 }
 
-# The pauses since the transactions began, as Java's log tells them.
+# The stops of Java's collector while the transactions went on, with the time until all threads stood, as the log of safepoints tells them.
 from_log() {
-    sed -n 's/^\[\([0-9.]*\)s\].* Pause .* \([0-9.]*\)ms$/\1 \2/p' "$2" | awk -v began="$(sed -n 's/began //p' "$1")" '1000 * $1 >= began { print $2 }' | sort -n |
-        awk '{ all[NR] = $1; sum += $1 } END { if (!NR) exit
-            at99 = int(NR * 0.99) + 1; if (at99 > NR) at99 = NR
-            printf "stops %d mean %d median %d most99 %d longest %d\n", NR, 1000 * sum / NR, 1000 * all[int(NR / 2) + 1], 1000 * all[at99], 1000 * all[NR] }'
+    sed -n 's/^\[\([0-9.]*\)s\].* Safepoint "\([A-Za-z0-9]*\)".* Total: \([0-9]*\) ns$/\1 \2 \3/p' "$2" |
+        awk -v began="$(sed -n 's/began //p' "$1")" -v ended="$(sed -n 's/ended //p' "$1")" '$2 ~ /^(G1|Z|Shenandoah)/ && 1000 * $1 >= began && 1000 * $1 <= ended {
+            count++; sum += $3; if ($3 > most) most = $3 }
+            END { if (count) printf "stops %d mean %d longest %d\n", count, sum / count / 1000, most / 1000 }'
     cat "$1"
 }
 
+# The middle one of a column of the runs of a row, and their sum.
 median() { sort -n -k "$2,$2" "$folder/$1" | awk -v column="$2" '{ found[NR] = $column } END { print found[int((NR + 1) / 2)] + 0 }'; }
+sum() { awk -v column="$2" '{ sum += $column } END { print sum + 0 }' "$folder/$1"; }
 
 ours() {
-    key=ours.$1.$2.$3.$4
     # shellcheck disable=SC2086
     "$program" --cells "$1" --live $live --workers "$2" --tracers "$3" --transactions "$(transactions "$1")" $([ "$4" = stops ] && echo --stops) >"$folder/told"
-    numbers <"$folder/told" >>"$folder/$key"
+    numbers <"$folder/told" >>"$folder/$4-$3.$1.$2"
 }
 
-peer() {
+# Boehm's collector, in the smallest heap in which it finds room.
+boehm() {
     key=$1.$2.$3
-    shift 3
-    if "$@" >"$folder/told" 2>/dev/null; then numbers <"$folder/told" >>"$folder/$key"; fi
+    [ -f "$folder/$key.shares" ] || echo "$percent" >"$folder/$key.shares"
+    for share in $(cat "$folder/$key.shares"); do
+        if "$folder/boehm" "$2" $live "$3" "$(transactions "$2")" "$1" "$share" >"$folder/told" 2>/dev/null; then
+            echo "$share" >"$folder/$key.shares"
+            numbers <"$folder/told" >>"$folder/$key"
+            return
+        fi
+    done
+    echo >"$folder/$key.shares"
+    echo "$1 found no memory with $2 cells and $3 workers" >&2
+}
+
+go_peer() {
+    "$folder/go" "$1" $live "$2" "$(transactions "$1")" >"$folder/told"
+    numbers <"$folder/told" >>"$folder/go.$1.$2"
 }
 
 java_peer() {
     rm -f "$folder/log"
-    # an object of ours has five words of four bytes and a head of twelve there
-    if java -Xms"$(($1 / 32 + 2048))"k -Xmx"$(($1 / 32 + 2048))"k -XX:+UseG1GC -Xlog:gc:"$folder/log" -cp "$folder/java" Pauses "$1" $live "$2" "$(transactions "$1")" >"$folder/told" 2>/dev/null; then
-        from_log "$folder/told" "$folder/log" | numbers >>"$folder/java.$1.$2"
+    heap=$(($2 * 48 / 1024))k
+    if timeout 60 java -Xms"$heap" -Xmx"$heap" -XX:MaxDirectMemorySize=1g -XX:+Use"$4" -Xlog:safepoint:"$folder/log" -cp "$folder/java" Pauses \
+        "$2" $live "$3" "$(transactions "$2")" 100000 >"$folder/told" 2>/dev/null; then
+        from_log "$folder/told" "$folder/log" | numbers >>"$folder/$1.$2.$3"
+    else
+        echo "$1 found no memory with $2 cells and $3 workers" >&2
     fi
 }
 
@@ -70,39 +88,46 @@ round() {
         ours "$1" "$2" "$tracers" beside
         ours "$1" "$2" "$tracers" stops
     done
-    [ ! -x "$folder/boehm" ] || peer boehm "$1" "$2" "$folder/boehm" "$1" $live "$2" "$(transactions "$1")" stop
-    [ ! -x "$folder/boehm" ] || peer incremental "$1" "$2" "$folder/boehm" "$1" $live "$2" "$(transactions "$1")" incremental
-    [ ! -x "$folder/go" ] || peer go "$1" "$2" "$folder/go" "$1" $live "$2" "$(transactions "$1")"
-    [ ! -d "$folder/java" ] || java_peer "$1" "$2"
+    [ ! -x "$folder/boehm" ] || boehm stop "$1" "$2"
+    [ ! -x "$folder/boehm" ] || boehm incremental "$1" "$2"
+    [ ! -x "$folder/go" ] || go_peer "$1" "$2"
+    # three megabytes, which is what 65,536 cells take, aren't enough for Java
+    { [ -d "$folder/java" ] && [ "$1" -ge 262144 ]; } || return 0
+    java_peer G1 "$1" "$2" G1GC
+    java_peer Z "$1" "$2" ZGC
+    java_peer Shenandoah "$1" "$2" ShenandoahGC
 }
 
 each() {
-    for cells in $cells_of; do
-        for workers in $workers_of; do "$@" "$cells" "$workers"; done
+    for size in $sizes; do
+        cycles=${size##*/} size=${size%/*}
+        "$@" "${size%/*}" "${size#*/}"
     done
 }
 
-pauses_line() {
+# A line of the first table: a row's name, and the file of its runs. The stops are those of all runs, all else is medians. Microseconds.
+line() {
+    [ -s "$folder/$2" ] || return 0
+    awk -v rate="$(median "$2" 1)" -v stops="$(sum "$2" 2)" -v mean="$(median "$2" 3)" -v longest="$(median "$2" 4)" -v half="$(median "$2" 5)" \
+        -v p99="$(median "$2" 6)" -v p999="$(median "$2" 7)" -v slowest="$(median "$2" 8)" -v name="$1" 'BEGIN {
+        printf "| %s | %d | %d | %d | %d | %.1f | %.0f | %.0f | %.0f |\n", name, rate, stops, mean, longest, half / 1000, p99 / 1000, p999 / 1000, slowest / 1000 }'
+}
+
+pauses_lines() {
+    for way in beside stops; do
+        for tracers in $tracers_of; do line "$1 | $2 | $way, $tracers" "$way-$tracers.$1.$2"; done
+    done
+    for mode in stop incremental; do
+        [ ! -s "$folder/$mode.$1.$2" ] || line "$1 | $2 | Boehm, $mode, $(cat "$folder/$mode.$1.$2.shares") %" "$mode.$1.$2"
+    done
+    line "$1 | $2 | Go" "go.$1.$2"
+    for name in G1 Z Shenandoah; do line "$1 | $2 | $name" "$name.$1.$2"; done
+}
+
+work_lines() {
     for tracers in $tracers_of; do
-        for way in beside stops; do
-            key=ours.$1.$2.$tracers.$way
-            echo "| $1 | $2 | $tracers | $way | $(median "$key" 1) | $(median "$key" 2) | $(median "$key" 3) | $(median "$key" 4) | $(median "$key" 5) | $(median "$key" 6) |"
-        done
-    done
-}
-
-work_line() {
-    for tracers in $tracers_of; do
-        key=ours.$1.$2.$tracers.beside
-        echo "| $1 | $2 | $tracers | $(median "$key" 7) | $(median "$key" 8) | $(median "$key" 9) | $(median "$key" 10) | $(median "$key" 11) | $(median "$key" 12) | $(median "$key" 13) |"
-    done
-}
-
-peer_line() {
-    for name in boehm incremental go java; do
-        key=$name.$1.$2
-        [ -f "$folder/$key" ] || continue
-        echo "| $1 | $2 | $name | $(median "$key" 1) | $(median "$key" 2) | $(median "$key" 3) | $(median "$key" 4) | $(median "$key" 5) | $(median "$key" 6) |"
+        key=beside-$tracers.$1.$2
+        echo "| $1 | $2 | $tracers | $(median "$key" 9) | $(median "$key" 10) | $(median "$key" 11) | $(median "$key" 12) | $(median "$key" 13) | $(median "$key" 14) |"
     done
 }
 
@@ -112,16 +137,12 @@ while [ "$left" -gt 0 ]; do
     left=$((left - 1))
 done
 
-echo "$live % of the cells live, the free cells used up $cycles times, medians of $runs runs, $(nproc) processors, load $(cut -d ' ' -f 1 /proc/loadavg) at the end. Lengths in microseconds."
+echo "$live % of the cells live, $runs runs of cells / workers / how often the free cells are used up: $sizes; $(nproc) processors, load $(cut -d ' ' -f 1 /proc/loadavg) at the end. Microseconds."
 echo
-echo "| Cells | Workers | Tracers | Marking | Orders a second | Stops | Mean | Median | 99th | Longest |"
-echo "|---|---|---|---|---|---|---|---|---|---|"
-each pauses_line
+echo "| Cells | Workers | Program | Orders a second | Stops | Mean stop | Longest | Transaction, p50 | p99 | p99.9 | Slowest |"
+echo "|---|---|---|---|---|---|---|---|---|---|---|"
+each pauses_lines
 echo
-echo "| Cells | Workers | Tracers | Cycles | Collections | Traced by mutators | By tracers | Left to the stops | Scanned again | Floated |"
-echo "|---|---|---|---|---|---|---|---|---|---|"
-each work_line
-echo
-echo "| Cells | Workers | Peer | Orders a second | Stops | Mean | Median | 99th | Longest |"
+echo "| Cells | Workers | Tracers | Cycles | Traced by mutators | By tracers | Left to the stops | Scanned again | Floated |"
 echo "|---|---|---|---|---|---|---|---|---|"
-each peer_line
+each work_lines

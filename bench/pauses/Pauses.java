@@ -1,6 +1,11 @@
-// The work of crates/bench_pauses in Java: workers that keep orders below a directory, and replace one with each transaction.
-// java -Xms.. -Xmx.. -Xlog:gc:LOG Pauses CELLS LIVE WORKERS TRANSACTIONS. It tells when the transactions began, so that the pauses before are left out of the log.
+// The work of crates/bench_pauses in Java: workers that keep orders below a directory, and replace one with each transaction, in rounds with a rest before each.
+// java -Xms.. -Xmx.. -Xlog:..:LOG Pauses CELLS LIVE WORKERS TRANSACTIONS WARM. So many transactions of each worker come before, so that they are compiled. It
+// tells when the others began, so that the pauses before are left out of the log.
 import java.lang.management.ManagementFactory;
+import java.nio.ByteBuffer;
+import java.nio.ByteOrder;
+import java.nio.LongBuffer;
+import java.util.Arrays;
 import java.util.function.Consumer;
 
 public class Pauses {
@@ -59,8 +64,9 @@ public class Pauses {
 
     static final class Worker {
         Node directory = new Node(0);
-        int orders, transactions, levels = 1;
+        int orders, transactions, made, levels = 1;
         long number, sum;
+        LongBuffer times;
 
         void replace(int at, int value) {
             Node made = order(value);
@@ -83,12 +89,38 @@ public class Pauses {
             return (int) ((number >>> 20) % orders);
         }
 
+        // Room for the nanoseconds of so many transactions, outside the heap.
+        void begin(int count) {
+            transactions = count;
+            made = 0;
+            times = ByteBuffer.allocateDirect(8 * count + 8).order(ByteOrder.nativeOrder()).asLongBuffer();
+        }
+
+        // A round: transactions until all are made or its time is over.
         void churn() {
-            for (int done = 0; done < transactions; done++) {
-                replace(choose(), done);
+            long began = System.nanoTime(), before = began;
+            while (made < transactions && before - began < ROUND) {
+                replace(choose(), made);
                 sum += look(directory, choose(), levels);
+                long now = System.nanoTime();
+                times.put(made++, now - before);
+                before = now;
             }
         }
+    }
+
+    static final long ROUND = 600_000_000L, REST = 100;
+
+    // All transactions: the nanoseconds that they took.
+    static long play(Worker[] workers) throws InterruptedException {
+        long took = 0;
+        while (Arrays.stream(workers).anyMatch(it -> it.made < it.transactions)) {
+            Thread.sleep(REST);
+            long start = System.nanoTime();
+            all(workers, Worker::churn);
+            took += System.nanoTime() - start;
+        }
+        return took;
     }
 
     static void all(Worker[] workers, Consumer<Worker> part) throws InterruptedException {
@@ -108,14 +140,34 @@ public class Pauses {
         for (int i = 0; i < k; i++) {
             workers[i] = new Worker();
             workers[i].orders = (int) (cells * live / 100 / k * 3 / 49);
-            workers[i].transactions = transactions / k + (i < transactions % k ? 1 : 0);
             workers[i].number = 88172645463325252L + i;
         }
         all(workers, Worker::fill);
+        int warm = Integer.parseInt(words[4]);
+        for (Worker worker : workers) worker.begin(warm);
+        play(workers);
+        for (int i = 0; i < k; i++) workers[i].begin(transactions / k + (i < transactions % k ? 1 : 0));
         System.out.println("began " + ManagementFactory.getRuntimeMXBean().getUptime());
-        long start = System.nanoTime();
-        all(workers, Worker::churn);
-        long took = Math.max(1, (System.nanoTime() - start) / 1000);
+        long took = Math.max(1, play(workers) / 1000);
+        System.out.println("ended " + ManagementFactory.getRuntimeMXBean().getUptime());
         System.out.println("microseconds " + took + " rate " + transactions * 1000000L / took);
+        tell(workers, transactions);
+    }
+
+    // It sorts in the heap, after all is measured.
+    static void tell(Worker[] workers, int transactions) {
+        long[] times = new long[transactions];
+        int at = 0;
+        for (Worker worker : workers) {
+            worker.directory = null;
+            worker.times.get(0, times, at, worker.transactions);
+            at += worker.transactions;
+        }
+        Arrays.sort(times);
+        System.out.println("latency p50 " + part(times, 5000) + " p99 " + part(times, 9900) + " p999 " + part(times, 9990) + " slowest " + part(times, 10000));
+    }
+
+    static long part(long[] times, long of) {
+        return times[(int) Math.min(times.length - 1, times.length * of / 10000)];
     }
 }

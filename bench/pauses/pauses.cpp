@@ -1,5 +1,6 @@
-// The work of crates/bench_pauses over Boehm's collector: workers that keep orders below a directory, and replace one with each transaction.
-// pauses CELLS LIVE WORKERS TRANSACTIONS stop|incremental. The heap is as large as ours would be with so many cells of this size.
+// The work of crates/bench_pauses over Boehm's collector: workers that keep orders below a directory, and replace one with each transaction, in rounds with
+// a rest before each. pauses CELLS LIVE WORKERS TRANSACTIONS stop|incremental PERCENT. The heap has so many of a hundred of the bytes of ours, which are 48 for each
+// cell; an object takes 48 here, too.
 #define GC_THREADS
 #include <gc.h>
 #include <algorithm>
@@ -9,6 +10,7 @@
 #include <cstdlib>
 #include <cstring>
 #include <pthread.h>
+#include <thread>
 #include <vector>
 
 using Clock = std::chrono::steady_clock;
@@ -75,11 +77,16 @@ static uint64_t look(Node *directory, uint32_t at, int levels) {
     return sum;
 }
 
+static const auto ROUND = std::chrono::milliseconds(600), REST = std::chrono::milliseconds(100);
+
+// The nanoseconds of transactions lie outside the collector's heap, and are written once before.
 struct Worker {
     Node *directory;
     uint32_t orders, transactions;
     uint64_t number, sum = 0;
     int levels = 1;
+    uint32_t made = 0;
+    std::vector<uint64_t> *times = nullptr;
 };
 
 static uint64_t next(uint64_t x) {
@@ -96,13 +103,18 @@ static void *fill(void *given) {
     return nullptr;
 }
 
+// A round: transactions until all are made or its time is over.
 static void *churn(void *given) {
     auto *w = static_cast<Worker *>(given);
-    for (uint32_t done = 0; done < w->transactions; done++) {
+    auto began = Clock::now(), before = began;
+    while (w->made < w->transactions && before - began < ROUND) {
         w->number = next(w->number);
-        replace(w->directory, uint32_t((w->number >> 20) % w->orders), w->levels, done);
+        replace(w->directory, uint32_t((w->number >> 20) % w->orders), w->levels, w->made);
         w->number = next(w->number);
         w->sum += look(w->directory, uint32_t((w->number >> 20) % w->orders), w->levels);
+        auto now = Clock::now();
+        (*w->times)[w->made++] = std::chrono::duration_cast<std::chrono::nanoseconds>(now - before).count();
+        before = now;
     }
     return nullptr;
 }
@@ -122,29 +134,39 @@ static void told(GC_EventType event) {
 }
 
 int main(int count, char **words) {
-    if (count != 6) return 1;
+    if (count != 7) return 1;
     uint32_t cells = std::atoi(words[1]), live = std::atoi(words[2]), k = std::atoi(words[3]), transactions = std::atoi(words[4]);
     GC_INIT();
     lengths.reserve(1 << 20);
-    size_t bytes = size_t(cells) * 48;
+    size_t bytes = size_t(cells) * 48 / 100 * std::atoi(words[6]);
     GC_expand_hp(bytes);
-    GC_set_max_heap_size(bytes + (bytes >> 4) + (8 << 20));
+    GC_set_max_heap_size(bytes);
     if (!std::strcmp(words[5], "incremental")) GC_enable_incremental();
     auto *workers = static_cast<Worker *>(GC_MALLOC_UNCOLLECTABLE(k * sizeof(Worker)));
     for (uint32_t i = 0; i < k; i++) {
         new (&workers[i]) Worker{nullptr, uint32_t(uint64_t(cells) * live / 100 / k * 3 / 49), transactions / k + (i < transactions % k), 88172645463325252u + i};
+        workers[i].times = new std::vector<uint64_t>(workers[i].transactions);
     }
     all(workers, k, fill);
     GC_set_on_collection_event(told);
-    auto start = Clock::now();
-    all(workers, k, churn);
-    auto took = std::max<int64_t>(1, std::chrono::duration_cast<std::chrono::microseconds>(Clock::now() - start).count());
+    Clock::duration took{0};
+    while (std::any_of(workers, workers + k, [](Worker &w) { return w.made < w.transactions; })) {
+        std::this_thread::sleep_for(REST);
+        auto start = Clock::now();
+        all(workers, k, churn);
+        took += Clock::now() - start;
+    }
     GC_set_on_collection_event(nullptr);
-    std::printf("microseconds %lld rate %lld\n", (long long)took, (long long)(uint64_t(transactions) * 1000000 / took));
+    auto micros = std::max<int64_t>(1, std::chrono::duration_cast<std::chrono::microseconds>(took).count());
+    std::printf("microseconds %lld rate %lld\n", (long long)micros, (long long)(uint64_t(transactions) * 1000000 / micros));
+    std::vector<uint64_t> times;
+    for (uint32_t i = 0; i < k; i++) times.insert(times.end(), workers[i].times->begin(), workers[i].times->end());
     std::sort(lengths.begin(), lengths.end());
-    size_t n = lengths.size();
+    std::sort(times.begin(), times.end());
     uint64_t sum = 0;
     for (uint64_t length : lengths) sum += length;
-    auto at = [&](size_t share) { return n ? (unsigned long long)(lengths[std::min(n - 1, n * share / 100)] / 1000) : 0ull; };
-    std::printf("stops %zu least %llu mean %llu median %llu most99 %llu longest %llu\n", n, at(0), n ? (unsigned long long)(sum / n / 1000) : 0ull, at(50), at(99), at(100));
+    auto at = [](std::vector<uint64_t> &all, size_t part) { return all.empty() ? 0ull : (unsigned long long)all[std::min(all.size() - 1, all.size() * part / 10000)]; };
+    std::printf("stops %zu least %llu mean %llu median %llu most99 %llu longest %llu\n", lengths.size(), at(lengths, 0) / 1000,
+                (unsigned long long)(sum / std::max<size_t>(1, lengths.size()) / 1000), at(lengths, 5000) / 1000, at(lengths, 9900) / 1000, at(lengths, 10000) / 1000);
+    std::printf("latency p50 %llu p99 %llu p999 %llu slowest %llu\n", at(times, 5000), at(times, 9900), at(times, 9990), at(times, 10000));
 }

@@ -1,5 +1,6 @@
-// The work of crates/bench_pauses in Go: workers that keep orders below a directory, and replace one with each transaction.
-// pauses CELLS LIVE WORKERS TRANSACTIONS. The heap may grow until the live set is the stated share of it. A pause here is all that one cycle stopped the world.
+// The work of crates/bench_pauses in Go: workers that keep orders below a directory, and replace one with each transaction, in rounds with a rest before each.
+// pauses CELLS LIVE WORKERS TRANSACTIONS. The heap may grow until the live set is the stated share of it, which is 48 bytes for each cell of ours. A pause here
+// is all that one cycle stopped the world.
 package main
 
 import (
@@ -10,8 +11,12 @@ import (
 	"sort"
 	"strconv"
 	"sync"
+	"syscall"
 	"time"
+	"unsafe"
 )
+
+const round, rest = 600 * time.Millisecond, 100 * time.Millisecond
 
 type node struct {
 	next  [4]*node
@@ -59,10 +64,20 @@ func look(directory *node, at uint32, levels uint) uint64 {
 }
 
 type worker struct {
-	directory            *node
-	orders, transactions uint32
-	number, sum          uint64
-	levels               uint
+	directory                  *node
+	orders, transactions, made uint32
+	number, sum                uint64
+	levels                     uint
+	times                      []int64
+}
+
+// Room for so many numbers outside the heap, each page of which is written once.
+func outside(count int) []int64 {
+	bytes, err := syscall.Mmap(-1, 0, 8*count+8, syscall.PROT_READ|syscall.PROT_WRITE, syscall.MAP_ANON|syscall.MAP_PRIVATE|syscall.MAP_POPULATE)
+	if err != nil {
+		panic(err)
+	}
+	return unsafe.Slice((*int64)(unsafe.Pointer(&bytes[0])), count)
 }
 
 func next(x uint64) uint64 {
@@ -87,13 +102,29 @@ func (w *worker) fill() {
 	}
 }
 
+// A round: transactions until all are made or its time is over.
 func (w *worker) churn() {
-	for done := uint32(0); done < w.transactions; done++ {
+	began := time.Now()
+	before := began
+	for w.made < w.transactions && before.Sub(began) < round {
 		w.number = next(w.number)
-		w.replace(uint32((w.number>>20)%uint64(w.orders)), done)
+		w.replace(uint32((w.number>>20)%uint64(w.orders)), w.made)
 		w.number = next(w.number)
 		w.sum += look(w.directory, uint32((w.number>>20)%uint64(w.orders)), w.levels)
+		now := time.Now()
+		w.times[w.made] = now.Sub(before).Nanoseconds()
+		w.made++
+		before = now
 	}
+}
+
+func isMore(workers []*worker) bool {
+	for _, w := range workers {
+		if w.made < w.transactions {
+			return true
+		}
+	}
+	return false
 }
 
 func all(workers []*worker, part func(*worker)) {
@@ -121,16 +152,20 @@ func main() {
 		if i < transactions%k {
 			share++
 		}
-		workers[i] = &worker{orders: uint32(cells * live / 100 / k * 3 / 49), transactions: uint32(share), number: 88172645463325252 + uint64(i)}
+		workers[i] = &worker{orders: uint32(cells * live / 100 / k * 3 / 49), transactions: uint32(share), number: 88172645463325252 + uint64(i), times: outside(share)}
 	}
 	all(workers, (*worker).fill)
 	runtime.GC()
 	var stats debug.GCStats
 	debug.ReadGCStats(&stats)
 	before := stats.NumGC
-	start := time.Now()
-	all(workers, (*worker).churn)
-	took := time.Since(start).Microseconds() + 1
+	took := int64(1)
+	for isMore(workers) {
+		time.Sleep(rest)
+		start := time.Now()
+		all(workers, (*worker).churn)
+		took += time.Since(start).Microseconds()
+	}
 	debug.ReadGCStats(&stats)
 	n := int(stats.NumGC - before)
 	if n > len(stats.Pause) {
@@ -158,4 +193,17 @@ func main() {
 	}
 	fmt.Printf("microseconds %d rate %d\n", took, int64(transactions)*1000000/took)
 	fmt.Printf("stops %d least %d mean %d median %d most99 %d longest %d\n", n, at(0), mean, at(50), at(99), at(100))
+	times := outside(transactions)[:0]
+	for _, w := range workers {
+		times = append(times, w.times...)
+	}
+	sort.Slice(times, func(a, b int) bool { return times[a] < times[b] })
+	part := func(of int) int64 {
+		at := len(times) * of / 10000
+		if at > len(times)-1 {
+			at = len(times) - 1
+		}
+		return times[at]
+	}
+	fmt.Printf("latency p50 %d p99 %d p999 %d slowest %d\n", part(5000), part(9900), part(9990), part(10000))
 }
