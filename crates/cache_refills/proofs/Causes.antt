@@ -13,6 +13,7 @@ use Rattle.gc_table.specs.Log.{all_steps}
 use Rattle.gc_table.specs.declared.view.Entry.{Entry}
 use Rattle.packet_pools.specs.Seeking.{some_event}
 pub use Rattle.packet_pools.proofs.Orders.{after-earlier, after-join, after-none}
+pub use Rattle.gc_cycle.proofs.Since.{since-more}
 use Rattle.packet_pools.proofs.AllMissed.{all-more}
 use Rattle.packet_pools.proofs.Searches.{some-left, some-right}
 use Rattle.alloc_cache.specs.Claiming.{finds_claimed, full_first, gets_block, NoBlock, seeks_block, seen_taken}
@@ -78,7 +79,7 @@ done-more sh (x ∷ xs) ys h =
     (λ (k : marking_done sh xs ≡ true). or_right (r && some_event f (xs ++ ys) && some_event g (xs ++ ys)) (marking_done sh (xs ++ ys)) (done-more sh xs ys k))
     (or_cases (r && some_event f xs && some_event g xs) (marking_done sh xs) h)
 
-stop-more : (sh : Shape) (xs ys : List Entry) → may_stop sh xs ≡ true → may_stop sh (xs ++ ys) ≡ true
+pub stop-more : (sh : Shape) (xs ys : List Entry) → may_stop sh xs ≡ true → may_stop sh (xs ++ ys) ≡ true
 stop-more sh xs ys h =
     ⊎_elim
     (λ (k : claim_failed sh xs ≡ true). or_left (claim_failed sh (xs ++ ys)) (marking_done sh (xs ++ ys)) (failed-more sh xs ys k))
@@ -93,7 +94,7 @@ done-later : (sh : Shape) (xs ys : List Entry) → marking_done sh ys ≡ true �
 done-later sh [] ys h = h
 done-later sh (x ∷ xs) ys h = or_right (reads_phase Marking x.step x.found && some_event (sees_last_card (card_count sh)) (xs ++ ys) && some_event (sees_all_empty (empty_offset + sh.packets)) (xs ++ ys)) (marking_done sh (xs ++ ys)) (done-later sh xs ys h)
 
-stop-later : (sh : Shape) (xs ys : List Entry) → may_stop sh ys ≡ true → may_stop sh (xs ++ ys) ≡ true
+pub stop-later : (sh : Shape) (xs ys : List Entry) → may_stop sh ys ≡ true → may_stop sh (xs ++ ys) ≡ true
 stop-later sh xs ys h =
     ⊎_elim
     (λ (k : claim_failed sh ys ≡ true). or_left (claim_failed sh (xs ++ ys)) (marking_done sh (xs ++ ys)) (failed-later sh xs ys k))
@@ -155,27 +156,6 @@ fill-later sh xs ys h =
     and_from (collects (xs ++ ys) && sees_all_full sh (since_last ends_cycle (xs ++ ys))) _
     (and_from (collects (xs ++ ys)) _ (followed-later begins_exactly ends_cycle xs ys q.0) (ap (sees_all_full sh) (since-later ends_cycle xs ys (followed-some begins_exactly ends_cycle ys q.0)) ∙ q.1))
     (some-right names xs ys p.1)
-
--- since the last event like f, when there was one and none came after
-pub since-more : (f : Sort) (xs ys : List Entry) → some_event f xs ≡ true → some_event f ys ≡ false → since_last f (xs ++ ys) ≡ since_last f xs ++ ys
-since-more f [] ys a b = absurd (false≢true a)
-since-more f (x ∷ xs) ys a b = either (f x.step x.found) (some_event f xs) refl refl (since-more f xs ys)
-  where
-    off : (p q : Bool) → q ≡ true → (p && not q) ≡ false
-    off true true h = refl
-    off false true h = refl
-    off p false h = absurd (false≢true h)
-
-    either : (p q : Bool) → f x.step x.found ≡ p → some_event f xs ≡ q → (some_event f xs ≡ true → some_event f ys ≡ false → since_last f (xs ++ ys) ≡ since_last f xs ++ ys) → since_last f (x ∷ (xs ++ ys)) ≡ since_last f (x ∷ xs) ++ ys
-    either p true e g more =
-        let later : some_event f (xs ++ ys) ≡ true = some-left f xs ys g in
-        ap (λ (b : Bool). if b then xs ++ ys else since_last f (xs ++ ys)) (off (f x.step x.found) (some_event f (xs ++ ys)) later)
-        ∙ (more g b ∙ sym (ap (λ (b : Bool). (if b then xs else since_last f xs) ++ ys) (off (f x.step x.found) (some_event f xs) g)))
-    either p false e g more =
-        let here : f x.step x.found ≡ true = ⊎_elim (λ (h : f x.step x.found ≡ true). h) (λ (h : some_event f xs ≡ true). absurd (false≢true (sym g ∙ h))) (or_cases (f x.step x.found) (some_event f xs) a) in
-        let none : some_event f (xs ++ ys) ≡ false = some-none f xs ys g b in
-        ap (λ (b : Bool). if b then xs ++ ys else since_last f (xs ++ ys)) (and_from (f x.step x.found) (not (some_event f (xs ++ ys))) here (ap not none))
-        ∙ sym (ap (λ (b : Bool). (if b then xs else since_last f xs) ++ ys) (and_from (f x.step x.found) (not (some_event f xs)) here (ap not g)))
 
 -- the cause that a call had in the stop, seen from the flag on
 pub fills-since : (sh : Shape) (xs zs ys : List Entry) → some_event raises_flag xs ≡ true → some_event raises_flag zs ≡ false → some_event raises_flag ys ≡ false → each_after (may_fill sh) (moves_to Full) zs ys ≡ true → each_after (λ earlier. may_fill sh (since_last raises_flag earlier)) (moves_to Full) (xs ++ zs) ys ≡ true

@@ -3,7 +3,9 @@ pub mod RoundNumbers
 pub mod Payment
 pub mod PaidFor
 pub mod Paced
+pub mod Popping
 pub mod Rounds
+pub mod Visiting
 pub mod Claimed
 pub mod RoundsSoFar
 pub mod Refilled

@@ -23,14 +23,14 @@ use Rattle.alloc_cache.specs.declared.cache.Cache.{Cache}
 use Rattle.gc_cycle.specs.Answering.{HasCache, StoredAt, TellsFull}
 use Rattle.gc_cycle.specs.Cycles.{fills_with_cause}
 use Rattle.gc_cycle.specs.Events.{never, since_last}
-use Rattle.gc_cycle.specs.Mutating.{keeps_section}
+use Rattle.gc_cycle.specs.Mutating.{keeps_section, pops_in_stops}
 use Rattle.cache_refills.specs.Pace.Pacing.{was_not_due}
 use Rattle.gc_cycle.specs.Polling.{saw_full}
-use Rattle.gc_cycle.specs.Sorts.{ends_cycle, raises_flag, reads_all_ones, sees_all_empty, sees_last_card}
+use Rattle.gc_cycle.specs.Sorts.{ends_cycle, raises_flag, reads_all_ones, resumes, sees_all_empty, sees_last_card}
 use Rattle.mark_core.specs.Numbers.{done_count, empty_offset}
 use Rattle.gc_cycle.specs.Sparing.{SparesRefill, spares_part}
 use Rattle.gc_cycle.specs.Standing.{Mutates, is_at_rest}
-use Rattle.cache_refills.specs.Stops.{may_stop_again, misses_block, stops_again_with_cause}
+use Rattle.cache_refills.specs.Stops.{cycles_with_cause, may_stop_again, misses_block, resumes_with_end, stops_again_with_cause, stops_collect}
 use Rattle.gc_cycle.specs.declared.counts.Refill.{Refill}
 
 -- a look at the counter of cards, or at the count of empty packets
@@ -98,6 +98,8 @@ pub record TriesOn (done : ℕ) (v w : View) : Type 0 where
   pub spares : Only spares_part v w
   -- where it stopped the world itself, it missed a block with a free cell then
   pub missed : IsTrue (may_stop_again v.shape (events v w))
+  pub ended : IsTrue (resumes_with_end (events v w))
+  pub pops : IsTrue (pops_in_stops (events v w))
 
 -- what a round leaves, whatever its answer
 pub record IsRound (o : Option Refill) (done : ℕ) (v w : View) : Type 0 where
@@ -105,6 +107,8 @@ pub record IsRound (o : Option Refill) (done : ℕ) (v w : View) : Type 0 where
   pub only : Only keeps_section v w
   pub fills : IsTrue (fills_with_cause v.shape (events v w))
   pub again : IsTrue (stops_again_with_cause v.shape (events v w))
+  pub collects : IsTrue (stops_collect (events v w))
+  pub cycles : IsTrue (cycles_with_cause v.shape (events v w))
   pub none : IfNone o (TriesOn done v w)
   pub spares : IfSome o (λ r. SparesRefill r v w)
 
@@ -122,6 +126,7 @@ pub record ClaimsAlone (o : Option Cache) (v w : View) : Type 0 where
   pub ran : Ran v w
   pub only : Only keeps_section v w
   pub calm : IsTrue (never raises_flag (events v w))
+  pub stopped : IsTrue (never resumes (events v w))
   pub going : IsFalse (saw_full (events v w))
   pub resume : MayResume w
   pub cached : HasCache o w

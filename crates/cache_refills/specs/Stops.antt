@@ -9,8 +9,9 @@ use Rattle.gc_table.specs.declared.view.Entry.{Entry}
 use Rattle.packet_pools.specs.Seeking.{some_event}
 use Rattle.alloc_cache.specs.Claiming.{seeks_block, seen_taken}
 use Rattle.gc_cycle.specs.Cycles.{sees_free_cell}
-use Rattle.gc_cycle.specs.Events.{front, each_after, never, since_last}
-use Rattle.gc_cycle.specs.Sorts.{ends_cycle, raises_flag, reads_phase, sees_last_card, sees_all_empty, stores_new}
+use Rattle.gc_cycle.specs.Events.{before_last, front, each_after, never, since_last, since_or_all}
+use Rattle.gc_cycle.specs.Polling.{saw_full}
+use Rattle.gc_cycle.specs.Sorts.{comes_in, ends_cycle, raises_flag, reads_phase, resumes, sees_last_card, sees_all_empty, stores_new}
 
 -- each block was seen claimed, or was got and seen with all allocation bits set
 abbrev pub no_block : Shape → List Entry → Bool
@@ -34,6 +35,34 @@ may_stop sh es = claim_failed sh es || marking_done sh es
 -- the flag was raised only where the events of the call before gave cause
 abbrev pub stops_with_cause : Shape → List Entry → Bool
 stops_with_cause sh es = each_after (may_stop sh) raises_flag [] es
+
+-- the events since the seat last came into the running world, or all
+abbrev pub this_visit : List Entry → List Entry
+this_visit es = since_or_all comes_in es
+
+-- the flag was raised only where the events since the seat last came in gave cause: no cause outlives another seat's stop
+abbrev pub stops_in_visit : Shape → List Entry → Bool
+stops_in_visit sh es = each_after (λ earlier. may_stop sh (this_visit earlier)) raises_flag [] es
+
+-- a cycle ended since the flag was raised
+abbrev pub has_ended : List Entry → Bool
+has_ended es = some_event ends_cycle (since_last raises_flag es)
+
+-- the world was resumed only where a cycle had ended in the stop
+abbrev pub resumes_with_end : List Entry → Bool
+resumes_with_end es = each_after has_ended resumes [] es
+
+-- in each stop a cycle ended, but perhaps not in the last one where the phase was read as Full
+abbrev pub stops_collect : List Entry → Bool
+stops_collect es = resumes_with_end (if saw_full es then before_last resumes es else es)
+
+-- since the last cycle ended the flag was raised, or a search for a block found none
+abbrev pub may_end : Shape → List Entry → Bool
+may_end sh es = some_event raises_flag (since_or_all ends_cycle es) || claim_failed sh (since_or_all ends_cycle es)
+
+-- a cycle ended only so: in one stop a second one only after a search for a block in vain
+abbrev pub cycles_with_cause : Shape → List Entry → Bool
+cycles_with_cause sh es = each_after (may_end sh) ends_cycle [] es
 
 -- a block with a free cell was read, and a search for a block found none
 abbrev pub misses_block : Shape → List Entry → Bool

@@ -1,5 +1,5 @@
 //! A cache for a mutator that has stopped the world: after the cycle that was marking, or after a precise collection.
-ghost use Rattle.std.specs.Prelude.{[], ◌++◌, List, None, Some, IsTrue};
+ghost use Rattle.std.specs.Prelude.{[], ◌++◌, ◌⊎◌, List, None, Some, IsTrue};
 ghost use Rattle.std.specs.Bool.{OnFalse};
 ghost use Rattle.mark_core.specs.declared.kinds.Phase.TheVariants.{Full, Idle, Marking};
 ghost use Rattle.gc_table.specs.Log.{Only};
@@ -8,11 +8,13 @@ ghost use Rattle.gc_table.specs.Seats.{Across, did, Sits, state_of, view_of};
 ghost use Rattle.gc_table.specs.declared.view.Entry.{Entry};
 ghost use Rattle.gc_cycle.specs.Collecting.{HoldsWorld};
 ghost use Rattle.gc_cycle.specs.Cycles.{collects, may_fill, sees_free_cell};
-ghost use Rattle.gc_cycle.specs.Events.{each_after};
+ghost use Rattle.packet_pools.specs.Seeking.{some_event};
+ghost use Rattle.gc_cycle.specs.Events.{each_after, never, since_or_all};
 ghost use Rattle.gc_cycle.specs.Finishing.{IsAloneIn, IsPart};
 ghost use Rattle.cache_refills.specs.InStops.{begins_none};
 ghost use Rattle.cache_refills.specs.Refilling.{ClaimsAlone, HasMissed, RestsAlone, SeesFull};
-ghost use Rattle.gc_cycle.specs.Sorts.{moves_to};
+ghost use Rattle.gc_cycle.specs.Sorts.{ends_cycle, moves_to, raises_flag};
+ghost use Rattle.cache_refills.specs.Stops.{may_end};
 ghost use Rattle.gc_cycle.specs.Statistics.{ChangesNumbers, leaves_numbers, taken};
 
 use crate::watching::Watch;
@@ -36,6 +38,8 @@ pub(crate) fn claim_in_stop<R: Wait, W: Watch>(
     ensures numbers { Across (ChangesNumbers (taken result)) seat.old seat.new }
     ensures full { KnowsFull (view_of seat.old) → KnowsFull (view_of seat.new) }
     ensures unbegun { IsTrue (begins_none (did seat.old seat.new)) }
+    ensures ends { IsTrue (some_event ends_cycle (did seat.old seat.new)) ⊎ KnowsFull (view_of seat.new) }
+    ensures cycles { (before : List Entry) → IsTrue (some_event raises_flag (since_or_all ends_cycle before)) → IsTrue (each_after (may_end heap.now.shape) ends_cycle before (did seat.old seat.new)) }
     ensures missed { HasMissed heap.now.shape result (did seat.old seat.new) (view_of seat.new) }
     ensures fills { IsTrue (each_after (may_fill heap.now.shape) (moves_to Full) [] (did seat.old seat.new)) }
 {
@@ -65,6 +69,7 @@ fn claim_or_collect<R: Wait, W: Watch>(
     ensures claims { Across (ClaimsAlone result) seat.old seat.new }
     ensures numbers { Across (ChangesNumbers (taken result)) seat.old seat.new }
     ensures unbegun { IsTrue (begins_none (did seat.old seat.new)) }
+    ensures cycles { (before : List Entry) → IsTrue (each_after (may_end heap.now.shape) ends_cycle before (did seat.old seat.new)) }
     ensures missed { HasMissed heap.now.shape result (did seat.old seat.new) (view_of seat.new) }
     ensures fills { IsTrue (each_after (may_fill heap.now.shape) (moves_to Full) [] (did seat.old seat.new)) }
 {
@@ -84,6 +89,7 @@ fn claim_or_fill(heap: &Heap, seat: &mut HeapSeat) -> Option<Cache>
     ensures claims { Across (ClaimsAlone result) seat.old seat.new }
     ensures numbers { Across (ChangesNumbers (taken result)) seat.old seat.new }
     ensures unbegun { IsTrue (begins_none (did seat.old seat.new)) }
+    ensures unended { IsTrue (never ends_cycle (did seat.old seat.new)) }
     ensures missed { (before : List Entry) → IsTrue (collects before) → HasMissed heap.now.shape result (before ++ did seat.old seat.new) (view_of seat.new) }
     ensures fills { (before : List Entry) → IsTrue (collects before) → IsTrue (each_after (may_fill heap.now.shape) (moves_to Full) before (did seat.old seat.new)) }
 {

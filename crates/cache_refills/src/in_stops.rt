@@ -9,10 +9,11 @@ ghost use Rattle.gc_cycle.specs.Answering.{StoredAt, TellsFull, answers};
 ghost use Rattle.gc_cycle.specs.Cycles.{fills_with_cause};
 ghost use Rattle.cache_refills.specs.InStops.{FillsTo, HasSearched, begins_none};
 ghost use Rattle.cache_refills.specs.Refilling.{IsRound};
+ghost use Rattle.gc_cycle.specs.Mutating.{pops_in_stops};
 ghost use Rattle.gc_cycle.specs.Sparing.{SparesRefill, fills_part};
 ghost use Rattle.gc_cycle.specs.Standing.{KeepsSeat, KeepsSection, Mutates};
 ghost use Rattle.gc_cycle.specs.Statistics.{PaysNumbers, RefillsNumbers, RoundNumbers};
-ghost use Rattle.cache_refills.specs.Stops.{stops_again_with_cause, stops_with_cause};
+ghost use Rattle.cache_refills.specs.Stops.{cycles_with_cause, stops_again_with_cause, stops_collect, stops_in_visit, stops_with_cause};
 
 use crate::refilling::{nothing_paid, refill_in_stop};
 use crate::watching::Watch;
@@ -38,7 +39,11 @@ pub fn refill_in_stops<R: Wait, W: Watch>(
     ensures ran { Across Ran seat.old seat.new }
     ensures fills { Across (FillsTo result done) seat.old seat.new }
     ensures stops { IsTrue (stops_with_cause heap.now.shape (did seat.old seat.new)) }
+    ensures visit { IsTrue (stops_in_visit heap.now.shape (did seat.old seat.new)) }
     ensures again { IsTrue (stops_again_with_cause heap.now.shape (did seat.old seat.new)) }
+    ensures collects { IsTrue (stops_collect (did seat.old seat.new)) }
+    ensures cycles { IsTrue (cycles_with_cause heap.now.shape (did seat.old seat.new)) }
+    ensures pops { IsTrue (pops_in_stops (did seat.old seat.new)) }
     ensures full { IsTrue (fills_with_cause heap.now.shape (did seat.old seat.new)) }
     ensures unbegun { IsTrue (begins_none (did seat.old seat.new)) }
     ensures keeps { Across KeepsSeat seat.old seat.new × Across KeepsSection seat.old seat.new }
@@ -68,6 +73,8 @@ fn fill_once<R: Wait, W: Watch>(
     ensures round { Across (IsRound result done) seat.old seat.new }
     ensures numbers { Across (RoundNumbers result) seat.old seat.new }
     ensures stops { IsTrue (stops_with_cause heap.now.shape (did seat.old seat.new)) }
+    ensures visit { IsTrue (stops_in_visit heap.now.shape (did seat.old seat.new)) }
+    ensures pops { IsTrue (pops_in_stops (did seat.old seat.new)) }
     ensures unbegun { IsTrue (begins_none (did seat.old seat.new)) }
     ensures some { IfSome result (λ r. (u : View) → Ran u (view_of seat.old) → TellsFull u (view_of seat.old) → StoredAt done u (view_of seat.old) → FillsTo r done u (view_of seat.new)) }
 {

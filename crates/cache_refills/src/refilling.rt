@@ -12,15 +12,17 @@ ghost use Rattle.alloc_cache.specs.Caching.{IsCached};
 ghost use Rattle.cache_refills.specs.Getting.{RefillsTo};
 ghost use Rattle.gc_cycle.specs.Answering.{StoredAt, TellsFull};
 ghost use Rattle.gc_cycle.specs.Cycles.{fills_with_cause};
+ghost use Rattle.gc_cycle.specs.Events.{each_after, never};
+ghost use Rattle.gc_cycle.specs.Sorts.{comes_in, raises_flag};
 ghost use Rattle.cache_refills.specs.InStops.{begins_none};
-ghost use Rattle.gc_cycle.specs.Mutating.{stays_calm};
+ghost use Rattle.gc_cycle.specs.Mutating.{pops_in_stops, stays_calm};
 ghost use Rattle.cache_refills.specs.Pace.Pacing.{begins_where_due};
-ghost use Rattle.cache_refills.specs.Pace.Paying.{IsFree};
+ghost use Rattle.cache_refills.specs.Pace.Paying.{IsFree, pops_where_paid};
 ghost use Rattle.cache_refills.specs.Refilling.{HasClaimed, IsPaced, IsRound, SeesEnd, looks_for_end, prepares};
 ghost use Rattle.gc_cycle.specs.Sparing.{SparesRefill, fills_part};
 ghost use Rattle.gc_cycle.specs.Standing.{KeepsSeat, KeepsSection, Mutates};
 ghost use Rattle.gc_cycle.specs.Statistics.{ChangesBy, PaysNumbers, RefillsNumbers, RoundNumbers};
-ghost use Rattle.cache_refills.specs.Stops.{stops_again_with_cause, stops_with_cause};
+ghost use Rattle.cache_refills.specs.Stops.{cycles_with_cause, stops_again_with_cause, stops_collect, stops_in_visit, stops_with_cause};
 
 use crate::claiming::claim_in_stop;
 use crate::pace::kick_off;
@@ -58,7 +60,11 @@ pub fn refill<R: Wait>(rt: &R, heap: &Heap, seat: &mut HeapSeat, done: u32) -> R
     ensures ran { Across Ran seat.old seat.new }
     ensures refills { Across (RefillsTo result done) seat.old seat.new }
     ensures stops { IsTrue (stops_with_cause heap.now.shape (did seat.old seat.new)) }
+    ensures visit { IsTrue (stops_in_visit heap.now.shape (did seat.old seat.new)) }
     ensures again { IsTrue (stops_again_with_cause heap.now.shape (did seat.old seat.new)) }
+    ensures collects { IsTrue (stops_collect (did seat.old seat.new)) }
+    ensures cycles { IsTrue (cycles_with_cause heap.now.shape (did seat.old seat.new)) }
+    ensures pops { IsTrue (pops_where_paid (did seat.old seat.new)) }
     ensures fills { IsTrue (fills_with_cause heap.now.shape (did seat.old seat.new)) }
     ensures due { IsTrue (begins_where_due (did seat.old seat.new)) }
     ensures keeps { Across KeepsSeat seat.old seat.new × Across KeepsSection seat.old seat.new }
@@ -83,7 +89,11 @@ pub fn refill_watched<R: Wait, W: Watch>(
     ensures ran { Across Ran seat.old seat.new }
     ensures refills { Across (RefillsTo result done) seat.old seat.new }
     ensures stops { IsTrue (stops_with_cause heap.now.shape (did seat.old seat.new)) }
+    ensures visit { IsTrue (stops_in_visit heap.now.shape (did seat.old seat.new)) }
     ensures again { IsTrue (stops_again_with_cause heap.now.shape (did seat.old seat.new)) }
+    ensures collects { IsTrue (stops_collect (did seat.old seat.new)) }
+    ensures cycles { IsTrue (cycles_with_cause heap.now.shape (did seat.old seat.new)) }
+    ensures pops { IsTrue (pops_where_paid (did seat.old seat.new)) }
     ensures fills { IsTrue (fills_with_cause heap.now.shape (did seat.old seat.new)) }
     ensures due { IsTrue (begins_where_due (did seat.old seat.new)) }
     ensures keeps { Across KeepsSeat seat.old seat.new × Across KeepsSection seat.old seat.new }
@@ -113,6 +123,8 @@ fn refill_once<R: Wait, W: Watch>(
     ensures round { Across (IsRound result done) seat.old seat.new }
     ensures numbers { Across (RoundNumbers result) seat.old seat.new }
     ensures stops { IsTrue (stops_with_cause heap.now.shape (did seat.old seat.new)) }
+    ensures visit { IsTrue (stops_in_visit heap.now.shape (did seat.old seat.new)) }
+    ensures pops { IsTrue (pops_where_paid (did seat.old seat.new)) }
     ensures due { IsTrue (begins_where_due (did seat.old seat.new)) }
     ensures some { IfSome result (λ r. (u : View) → Ran u (view_of seat.old) → TellsFull u (view_of seat.old) → StoredAt done u (view_of seat.old) → RefillsTo r done u (view_of seat.new)) }
 {
@@ -171,6 +183,8 @@ fn claim_or_stop<R: Wait, W: Watch>(
     ensures round { Across (IsRound result done) seat.old seat.new }
     ensures numbers { Across (RoundNumbers result) seat.old seat.new }
     ensures stops { IsTrue (stops_with_cause heap.now.shape (did seat.old seat.new)) }
+    ensures visit { IsTrue (stops_in_visit heap.now.shape (did seat.old seat.new)) }
+    ensures pops { IsTrue (pops_where_paid (did seat.old seat.new)) }
     ensures due { IsTrue (begins_where_due (did seat.old seat.new)) }
     ensures some { IfSome result (λ r. (u : View) → Ran u (view_of seat.old) → TellsFull u (view_of seat.old) → StoredAt done u (view_of seat.old) → IsPaced (events u (view_of seat.old)) (view_of seat.old) → RefillsTo r done u (view_of seat.new)) }
 {
@@ -214,6 +228,7 @@ pub(crate) fn pay_for(heap: &Heap, seat: &mut HeapSeat, cache: Cache, done: u32)
     ensures seat { Sits heap.now seat.new }
     ensures ran { Across Ran seat.old seat.new }
     ensures only { Across (Only stays_calm) seat.old seat.new }
+    ensures inside { IsTrue (never comes_in (did seat.old seat.new)) }
     ensures numbers { Across (PaysNumbers cache result) seat.old seat.new }
     ensures known { Across (SparesRefill result) seat.old seat.new }
     ensures refills { (u : View) → HasClaimed cache done u (view_of seat.old) → RefillsTo result done u (view_of seat.new) }
@@ -247,6 +262,8 @@ pub(crate) fn refill_in_stop<R: Wait, W: Watch>(
     ensures numbers { Across (RoundNumbers result) seat.old seat.new }
     ensures some { IfSome result (λ r. (u : View) → Ran u (view_of seat.old) → TellsFull u (view_of seat.old) → StoredAt done u (view_of seat.old) → RefillsTo r done u (view_of seat.new)) }
     ensures unbegun { IsTrue (begins_none (did seat.old seat.new)) }
+    ensures outside { IsTrue (each_after (never comes_in) raises_flag [] (did seat.old seat.new)) }
+    ensures pops { IsTrue (pops_in_stops (did seat.old seat.new)) }
 {
     watch.asks();
     if !stop(rt, heap, seat, done) {

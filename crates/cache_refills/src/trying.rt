@@ -2,7 +2,7 @@
 //! stop is under way it is told so, and comes again. Where a collection is called for it is told so as well, and makes it in steps
 //! ([`ask_to_stop`](crate::ask_to_stop)).
 ghost use Rattle.std.specs.Bool.{OnFalse, OnTrue};
-ghost use Rattle.std.specs.Prelude.{◌≡◌, [], None, Some, IfNone, IfSome, IsTrue, is_some};
+ghost use Rattle.std.specs.Prelude.{◌≡◌, ◌≤◌, [], length, None, Some, IfNone, IfSome, IsTrue, is_some};
 ghost use Rattle.mark_core.specs.Places.{the_phase};
 ghost use Rattle.mark_core.specs.Seats.{phase_number};
 ghost use Rattle.mark_core.specs.declared.kinds.Phase.TheVariants.{Marking};
@@ -58,6 +58,7 @@ pub fn try_safe_point(
     ensures out { Across GoesOut seat.old seat.new }
     ensures spares { Across (Only spares_part) seat.old seat.new }
     ensures numbers { Across (GivesUp cache.old cache.new) seat.old seat.new }
+    ensures few { length (did seat.old seat.new) ≤ 6 }
 {
     if poll(heap, seat) {
         retire_some(heap, seat, cache.take());
@@ -81,6 +82,7 @@ pub fn try_enter(heap: &Heap, seat: &mut HeapSeat) -> Pass
     ensures own { (view_of seat.new).own ≡ (view_of seat.old).own }
     ensures spares { Across (Only spares_part) seat.old seat.new }
     ensures numbers { Across (Only leaves_numbers) seat.old seat.new }
+    ensures few { length (did seat.old seat.new) ≤ 2 }
 {
     if !enter(heap, seat) {
         return Pass::Out;

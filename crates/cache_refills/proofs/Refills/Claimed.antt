@@ -25,6 +25,9 @@ use Rattle.cache_refills.specs.Refilling.{EndsClaimed, HasClaimed, IsPaced, prep
 use Rattle.mark_core.specs.Numbers.{done_count}
 use Rattle.gc_cycle.specs.Standing.{is_at_rest}
 use Rattle.cache_refills.proofs.Refills.Paced.{cycle-kept, paced-searched}
+use Rattle.packet_pools.specs.Seeking.{some_event}
+use Rattle.packet_pools.proofs.Searches.{some-right}
+use Rattle.gc_cycle.specs.Sorts.{claims}
 use Rattle.cache_refills.proofs.Positions.{stored-more}
 use Rattle.cache_refills.proofs.Refills.Rounds.{leads-prepared}
 
@@ -54,6 +57,10 @@ claim-only h v w k = let e = k.events_are in ap (all_steps claims_block) e.3 ∙
 
 pub claims-only : (h : Cache) (v w : View) → Claims h v w → Only prepares v w
 claims-only h v w k = only-more claims_block prepares claims-prepare v w (claim-only h v w k)
+
+-- its events are a claim
+pub claims-block : (h : Cache) (v w : View) → Claims h v w → some_event claims (events v w) ≡ true
+claims-block h v w k = let e = k.events_are in ap (some_event claims) e.3 ∙ some-right claims e.0 (claimed_by h e.1 e.2) refl
 
 pub claims-cached : (h : Cache) (v w : View) → Claims h v w → IsCached h w
 claims-cached h v w k = subst (λ c. c ≡ cached h.block h.cells (used_bits c) (last_made c)) (sym (ap (λ (s : SeatState). s.cache) k.state)) refl

@@ -37,7 +37,7 @@ use Rattle.gc_cycle.specs.Finishing.{finishes, IsAloneIn, IsPart, stays}
 use Rattle.gc_cycle.specs.Mutating.{keeps_section}
 use Rattle.gc_cycle.specs.Polling.{saw_full}
 use Rattle.cache_refills.specs.Refilling.{ClaimsAlone, HasMissed, RestsAlone, SeesFull}
-use Rattle.gc_cycle.specs.Sorts.{begins_exactly, ends_cycle, moves_to, names, raises_flag, reads_all_ones, reads_free_cell}
+use Rattle.gc_cycle.specs.Sorts.{begins_exactly, ends_cycle, moves_to, names, raises_flag, reads_all_ones, reads_free_cell, resumes}
 use Rattle.cache_refills.specs.Stops.{claim_failed, misses_block}
 use Rattle.cache_refills.proofs.Causes.{after-join, each-in, failed-later, followed-some, search-failed, since-more}
 use Rattle.gc_cycle.proofs.Refills.Collected.{followed-earlier}
@@ -113,6 +113,7 @@ full-claims u v w x n p b s is f =
       ran = m.ran;
       only = ap (all_steps keeps_section) m.events_are;
       calm = ap (never raises_flag) m.events_are;
+      stopped = ap (never resumes) m.events_are;
       going = ap saw_full m.events_are;
       resume = resume-in Full x refl m.alone rests;
       cached = no-cache x.shape x.state m.alone.rest.rest;

@@ -1,5 +1,5 @@
 -- A mutator that doesn't wait: at a safe point, at the gate, and on the way to a cache.
-use Rattle.std.proofs.Common.{ℕ, ◌≡◌, ◌<◌, [], ◌∷◌, ◌++◌, refl, sym, ap, ◌∙◌, subst, Bool, true, false, not, Some, None, Option, is_some}
+use Rattle.std.proofs.Common.{ℕ, ◌≡◌, ◌<◌, ◌≤◌, [], ◌∷◌, ◌++◌, arith, length, refl, sym, ap, ◌∙◌, subst, Bool, true, false, not, Some, None, Option, is_some}
 use Rattle.std.specs.Prelude.{if◌then◌else◌, IfNone, IfSome}
 use Rattle.std.proofs.lemmas.Bool.{not-true}
 use Rattle.mark_core.specs.Bits.{has_flag}
@@ -38,6 +38,7 @@ use Rattle.cache_refills.proofs.Causes.{failed-later, failed-stops, search-faile
 use Rattle.gc_cycle.proofs.Refills.Collected.{calm-spares}
 use Rattle.gc_cycle.proofs.Refills.KnownFull.{full-seen, mutates-still, tells-more, tells-none}
 use Rattle.gc_cycle.proofs.SectionKept.{calm-keeps, calm-tries, goes-out, keeps-seat, keeps-section, out-join}
+use Rattle.gc_cycle.proofs.Few.{few-after, few-events, few-join}
 use Rattle.gc_cycle.proofs.Stops.OutAndIn.{enters-in}
 use Rattle.cache_refills.proofs.Refills.Paced.{seeks-prepare}
 use Rattle.cache_refills.proofs.Refills.Rounds.{Leads, unlooked}
@@ -99,6 +100,9 @@ module _ (u v w : View) (o : IsOut u) (s : is_some u.state.section ≡ true) (r 
 
   pub come-numbers : Only leaves_numbers u w
   come-numbers = ran-only leaves_numbers u v w r second (ap (all_steps leaves_numbers) e.events) (only-after leaves_numbers v w ReadPhase t.0 refl t.1.0)
+
+  pub come-few : length (events u w) ≤ 2
+  come-few = few-join 1 1 u v w r second (few-events 1 u v _ e.events (omega arith)) (few-after v w ReadPhase t.0 t.1.0)
 
   pub come-going : ((x : View) → Ran x v → TellsFull x v → GoesOn x w) → GoesOn u w
   come-going g = g u r (tells-more u u v (ran-refl u) r (only-more stays_calm tries_stopping calm-tries u v (enters-in u v o s r e).1.only) (tells-none u))

@@ -1,5 +1,5 @@
 -- A mutator's round on the way to a cache, and what it has done before it claims a block or stops the world.
-use Rattle.std.proofs.Common.{ℕ, ◌≡◌, ◌<◌, ◌≤◌, [], ◌++◌, arith, refl, sym, ap, ◌∙◌, subst, Bool, true, false, ◌&&◌, Some, None, Option, ⊎_elim, inl, inr, zero, suc}
+use Rattle.std.proofs.Common.{ℕ, ◌≡◌, ◌<◌, ◌≤◌, List, [], ◌++◌, arith, refl, sym, ap, ◌∙◌, subst, Bool, true, false, ◌&&◌, Some, None, Option, ⊎_elim, inl, inr, zero, suc}
 use Rattle.std.specs.Prelude.{IfNone, IfSome}
 use Rattle.std.specs.Bool.{OnFalse}
 use Rattle.std.proofs.Math.Logic.{∥∥₁_elim}
@@ -13,12 +13,13 @@ use Rattle.mark_core.specs.Seats.{phase_number, phase_of, saw}
 use Rattle.mark_core.specs.declared.kinds.Phase.TheVariants.{Full, Marking}
 use Rattle.mark_core.specs.declared.kinds.Shape.{Shape}
 use Rattle.mark_core.specs.declared.kinds.Step.{Step}
-use Rattle.mark_core.specs.declared.kinds.Step.TheVariants.{AddStat, ClaimBlock, ReadCount, ReadFree, RaiseStep, ReadPhase, ReadStat, ReleaseBlock, StorePhase}
+use Rattle.mark_core.specs.declared.kinds.Step.TheVariants.{AddStat, ClaimBlock, DropStep, EnterStep, ReadCount, ReadFree, RaiseStep, ReadPhase, ReadStat, ReleaseBlock, StorePhase}
 use Rattle.gc_table.specs.Log.{event, events, Only}
 use Rattle.gc_table.specs.Rule.{IsPossible}
 use Rattle.gc_table.specs.Running.{Known, Ran}
 use Rattle.gc_table.specs.Seats.{Took}
 use Rattle.gc_table.specs.Taking.{after, moves_from}
+use Rattle.gc_table.specs.declared.view.Entry.{Entry}
 use Rattle.gc_table.specs.declared.view.View.{View}
 use Rattle.gc_table.proofs.History.Log.{events-after, only-after, only-more}
 use Rattle.gc_table.proofs.Noticing.{known-here}
@@ -30,22 +31,25 @@ use Rattle.gc_cycle.specs.Answering.{KeepsOn, TellsFull}
 use Rattle.gc_cycle.specs.declared.counts.Refill.{Refill}
 use Rattle.gc_cycle.specs.declared.counts.Refill.TheVariants as refills
 use Rattle.gc_cycle.specs.Cycles.{fills_with_cause}
-use Rattle.gc_cycle.specs.Mutating.{keeps_section, stays_calm}
+use Rattle.gc_cycle.specs.Mutating.{keeps_section, pops_in_stops, stays_calm}
 use Rattle.cache_refills.specs.Pace.Pacing.{was_not_due}
 use Rattle.gc_cycle.specs.Polling.{saw_full}
 use Rattle.cache_refills.specs.Refilling.{IsPaced, IsRound, prepares, SeesEnd, TriesOn}
-use Rattle.gc_cycle.specs.Sorts.{ends_cycle, moves_to, raises_flag, reads_phase}
+use Rattle.gc_cycle.specs.Sorts.{comes_in, ends_cycle, moves_to, pops, raises_flag, reads_phase}
 use Rattle.gc_cycle.specs.Sparing.{SparesRefill, spares_part}
 use Rattle.gc_cycle.specs.Standing.{Mutates}
-use Rattle.cache_refills.specs.Stops.{may_stop, may_stop_again, stops_again_with_cause, stops_with_cause}
+use Rattle.cache_refills.specs.Stops.{cycles_with_cause, may_stop, may_stop_again, resumes_with_end, stops_again_with_cause, stops_collect}
 use Rattle.cache_refills.proofs.Stops.StopsAgain.{again-join, again-stops-join, prepared-unended, quiet-again, unraised-again}
-use Rattle.cache_refills.proofs.Causes.{caused-stops, done-stops, failed-stops, fills-join, search-failed, stops-join, unfilled, unraised-stops}
+use Rattle.cache_refills.proofs.Causes.{done-stops, failed-stops, fills-join, search-failed, unfilled}
+use Rattle.cache_refills.proofs.Stops.Visits.{collects-join, cycles-join, ended-all, ends-join, unended-cycles, unresumed-ends}
 use Rattle.gc_cycle.proofs.Refills.Collected.{calm-spares}
 use Rattle.gc_cycle.proofs.Refills.KnownFull.{found-low, phase-seen}
 use Rattle.gc_cycle.proofs.SectionKept.{calm-keeps}
+use Rattle.cache_refills.proofs.Refills.Popping.{pops-join, prepared-pops, unpopped}
 use Rattle.cache_refills.proofs.Refills.Paced.{full-kept, paced-later, steady-marking}
 use Rattle.cache_refills.proofs.Positions.{prepares-inside, stays_inside}
 use Rattle.gc_cycle.proofs.Sequences.{none-of-steps, some-none}
+use Rattle.gc_cycle.proofs.Stops.Outside.{unresumed-out}
 
 pub on-false : {P : Type 0} (b : Bool) → P → OnFalse b P
 on-false true p = tt
@@ -83,6 +87,11 @@ unraised ReleaseBlock n e = refl
 unraised (AddStat which by down) n e = refl
 unraised step n e = absurd (false≢true e)
 
+prepares-in : (step : Step) (n : ℕ) → prepares step ≡ true → comes_in step n ≡ false
+prepares-in EnterStep n e = absurd (false≢true e)
+prepares-in DropStep n e = absurd (false≢true e)
+prepares-in step n e = refl
+
 -- on the way to a block the phase isn't read
 pub unlooked : (step : Step) (n : ℕ) → prepares step ≡ true → reads_phase Full step n ≡ false
 unlooked (ReadStat which) n e = refl
@@ -106,6 +115,8 @@ pub record Leads (v w : View) : Type 0 where
   pub calm : some_event raises_flag (events v w) ≡ false
   pub unended : some_event ends_cycle (events v w) ≡ false
   pub inside : Only stays_inside v w
+  pub within : some_event comes_in (events v w) ≡ false
+  pub unpopped : some_event pops (events v w) ≡ false
   pub tells : (u : View) → Ran u v → TellsFull u v → TellsFull u w
 
 pub leads-prepared : (v w : View) → Ran v w → Only prepares v w → Leads v w
@@ -117,6 +128,8 @@ leads-prepared v w r o =
       calm = none-of-steps prepares raises_flag unraised (events v w) o;
       unended = prepared-unended (events v w) o;
       inside = only-more prepares stays_inside prepares-inside v w o;
+      within = none-of-steps prepares comes_in prepares-in (events v w) o;
+      unpopped = prepared-pops v w o;
       tells =
           λ u q t h.
           ⊎_elim
@@ -136,6 +149,8 @@ leads-looked v w k =
       calm = ap (some_event raises_flag) (events-after v w ReadPhase t.0 t.1.0);
       unended = ap (some_event ends_cycle) (events-after v w ReadPhase t.0 t.1.0);
       inside = only-after stays_inside v w ReadPhase t.0 refl t.1.0;
+      within = ap (some_event comes_in) (events-after v w ReadPhase t.0 t.1.0);
+      unpopped = ap (some_event pops) (events-after v w ReadPhase t.0 t.1.0);
       tells = λ u q o h. absurd (true≢false (sym h ∙ (k.going u q o).going));
     }
 
@@ -148,20 +163,17 @@ leads-join u v w a b =
       calm = ap (some_event raises_flag) (ran-events u v w a.ran b.ran) ∙ some-none raises_flag (events u v) (events v w) a.calm b.calm;
       unended = ap (some_event ends_cycle) (ran-events u v w a.ran b.ran) ∙ some-none ends_cycle (events u v) (events v w) a.unended b.unended;
       inside = ran-only stays_inside u v w a.ran b.ran a.inside b.inside;
+      within = ap (some_event comes_in) (ran-events u v w a.ran b.ran) ∙ some-none comes_in (events u v) (events v w) a.within b.within;
+      unpopped = ap (some_event pops) (ran-events u v w a.ran b.ran) ∙ some-none pops (events u v) (events v w) a.unpopped b.unpopped;
       tells = λ z q t. b.tells z (ran-join z u v q a.ran) (a.tells z q t);
     }
 
 unfilled-by : (v w : View) → Only spares_part v w → fills_with_cause v.shape (events v w) ≡ true
 unfilled-by v w o = unfilled v.shape (events v w) (none-of-steps spares_part (moves_to Full) unfull (events v w) o)
 
-pub shaped-fills : (v w x : View) → Ran v w → fills_with_cause w.shape (events w x) ≡ true → fills_with_cause v.shape (events w x) ≡ true
-shaped-fills v w x r h = subst (λ (sh : Shape). fills_with_cause sh (events w x) ≡ true) (ran-shape v w r) h
-
-pub shaped-again : (v w x : View) → Ran v w → stops_again_with_cause w.shape (events w x) ≡ true → stops_again_with_cause v.shape (events w x) ≡ true
-shaped-again v w x r h = subst (λ (sh : Shape). stops_again_with_cause sh (events w x) ≡ true) (ran-shape v w r) h
-
-pub shaped-missed : (v w x : View) → Ran v w → may_stop_again w.shape (events w x) ≡ true → may_stop_again v.shape (events w x) ≡ true
-shaped-missed v w x r h = subst (λ (sh : Shape). may_stop_again sh (events w x) ≡ true) (ran-shape v w r) h
+-- what a test by the shape says of a later call
+pub shaped : (test : Shape → List Entry → Bool) (v w x : View) → Ran v w → test w.shape (events w x) ≡ true → test v.shape (events w x) ≡ true
+shaped test v w x r h = subst (λ (sh : Shape). test sh (events w x) ≡ true) (ran-shape v w r) h
 
 pub spares-refill : (r : Refill) (u v w : View) → Ran u v → Ran v w → Only spares_part u v → SparesRefill r v w → SparesRefill r u w
 spares-refill (refills.Cache h paid) u v w a b o s = ran-only spares_part u v w a b o s
@@ -173,14 +185,19 @@ round-later done u v w o l r =
     record {
       ran = ran-join u v w l.ran r.ran;
       only = ran-only keeps_section u v w l.ran r.ran l.keeps r.only;
-      fills = ap (fills_with_cause u.shape) (ran-events u v w l.ran r.ran) ∙ fills-join u.shape (events u v) (events v w) (unfilled-by u v l.spares) (shaped-fills u v w l.ran r.fills);
-      again = ap (stops_again_with_cause u.shape) (ran-events u v w l.ran r.ran) ∙ again-stops-join u.shape (events u v) (events v w) (unraised-again u.shape [] (events u v) l.calm) lead (shaped-again u v w l.ran r.again);
+      fills = ap (fills_with_cause u.shape) (ran-events u v w l.ran r.ran) ∙ fills-join u.shape (events u v) (events v w) (unfilled-by u v l.spares) (shaped fills_with_cause u v w l.ran r.fills);
+      again = ap (stops_again_with_cause u.shape) (ran-events u v w l.ran r.ran) ∙ again-stops-join u.shape (events u v) (events v w) (unraised-again u.shape [] (events u v) l.calm) lead (shaped stops_again_with_cause u v w l.ran r.again);
+      collects = ap stops_collect (ran-events u v w l.ran r.ran) ∙ collects-join (events u v) (events v w) still r.collects;
+      cycles = ap (cycles_with_cause u.shape) (ran-events u v w l.ran r.ran) ∙ cycles-join u.shape (events u v) (events v w) (unended-cycles u.shape (events u v) l.unended) (shaped cycles_with_cause u v w l.ran r.cycles);
       none = none-later o r.none;
       spares = some-later o r.spares;
     }
   where
     lead : may_stop_again u.shape (events u v) ≡ true
     lead = quiet-again u.shape (events u v) l.calm l.unended
+
+    still : resumes_with_end (events u v) ≡ true
+    still = unresumed-ends (events u v) (unresumed-out (events u v) l.within)
 
     none-later : (p : Option Refill) → IfNone p (TriesOn done v w) → IfNone p (TriesOn done u w)
     none-later None t =
@@ -190,7 +207,9 @@ round-later done u v w o l r =
           position = t.position;
           tells = λ z q k. t.tells z (ran-join z u v q l.ran) (l.tells z q k);
           spares = ran-only spares_part u v w l.ran r.ran l.spares t.spares;
-          missed = ap (may_stop_again u.shape) (ran-events u v w l.ran r.ran) ∙ again-join u.shape (events u v) (events v w) lead (shaped-missed u v w l.ran t.missed);
+          missed = ap (may_stop_again u.shape) (ran-events u v w l.ran r.ran) ∙ again-join u.shape (events u v) (events v w) lead (shaped may_stop_again u v w l.ran t.missed);
+          pops = ap pops_in_stops (ran-events u v w l.ran r.ran) ∙ pops-join (events u v) (events v w) (unpopped (events u v) l.unpopped) t.pops;
+          ended = ap resumes_with_end (ran-events u v w l.ran r.ran) ∙ ends-join (events u v) (events v w) still t.ended;
         }
     none-later (Some x) t = tt
 
@@ -205,28 +224,26 @@ calm-unraised step n e = unraised-by step n e
     unraised-by RaiseStep m h = absurd (false≢true h)
     unraised-by s m h = refl
 
+calm-unended : (step : Step) (n : ℕ) → stays_calm step ≡ true → ends_cycle step n ≡ false
+calm-unended (StorePhase to) n e = absurd (false≢true e)
+calm-unended step n e = refl
+
 -- a round that ended with an answer, and calmly
-pub round-calm : (done : ℕ) (v w : View) (r : Refill) → Ran v w → Only stays_calm v w → SparesRefill r v w → IsRound (Some r) done v w
-round-calm done v w r q o s =
+pub round-calm : (done : ℕ) (v w : View) (r : Refill) → Ran v w → Only stays_calm v w → some_event comes_in (events v w) ≡ false → SparesRefill r v w → IsRound (Some r) done v w
+round-calm done v w r q o i s =
     record {
       ran = q;
       only = only-more stays_calm keeps_section calm-keeps v w o;
       fills = unfilled-by v w (only-more stays_calm spares_part calm-spares v w o);
       again = unraised-again v.shape [] (events v w) (none-of-steps stays_calm raises_flag calm-unraised (events v w) o);
+      collects = ended-all (events v w) (unresumed-ends (events v w) (unresumed-out (events v w) i));
+      cycles = unended-cycles v.shape (events v w) (none-of-steps stays_calm ends_cycle calm-unended (events v w) o);
       none = tt;
       spares = s;
     }
 
-pub calm-stops : (sh : Shape) (v w : View) → Only stays_calm v w → stops_with_cause sh (events v w) ≡ true
-calm-stops sh v w o = unraised-stops sh (events v w) (none-of-steps stays_calm raises_flag calm-unraised (events v w) o)
-
--- what comes before raises no flag
-pub leads-stops : (sh : Shape) (u v w : View) → Leads u v → Ran v w → stops_with_cause sh (events v w) ≡ true → stops_with_cause sh (events u w) ≡ true
-leads-stops sh u v w l r h = ap (stops_with_cause sh) (ran-events u v w l.ran r) ∙ stops-join sh (events u v) (events v w) (unraised-stops sh (events u v) l.calm) h
-
--- what comes before the flag gives cause to raise it
-pub leads-caused : (sh : Shape) (u v w : View) → Leads u v → Ran v w → may_stop sh (events u v) ≡ true → stops_with_cause sh (events u w) ≡ true
-leads-caused sh u v w l r h = ap (stops_with_cause sh) (ran-events u v w l.ran r) ∙ caused-stops sh (events u v) (events v w) l.calm h
+pub calm-raises : (v w : View) → Only stays_calm v w → some_event raises_flag (events v w) ≡ false
+calm-raises v w o = none-of-steps stays_calm raises_flag calm-unraised (events v w) o
 
 -- there is a block
 pub some-blocks : (v : View) → ∥ IsPossible v ∥₁ → 0 < block_count v.shape

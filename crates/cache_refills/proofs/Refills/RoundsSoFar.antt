@@ -1,27 +1,28 @@
 -- A mutator's rounds so far, none of which had an answer, and what the call leaves once one has.
-use Rattle.std.proofs.Common.{ℕ, ◌≡◌, ap, ◌∙◌, subst, true, Some, None}
+use Rattle.std.proofs.Common.{ℕ, ◌≡◌, ap, ◌∙◌, true, Some, None}
 use Rattle.std.proofs.lemmas.Bool.{false≢true}
-use Rattle.mark_core.specs.declared.kinds.Shape.{Shape}
 use Rattle.mark_core.specs.declared.kinds.Step.{Step}
 use Rattle.mark_core.specs.declared.kinds.Step.TheVariants.{ReadCat, ReadOwn, ReadSlot}
 use Rattle.gc_table.specs.Log.{events, Only}
 use Rattle.gc_table.specs.Running.{Ran}
 use Rattle.gc_table.specs.declared.view.View.{View}
 use Rattle.gc_table.proofs.History.Log.{events-none, only-more, only-none}
-use Rattle.gc_table.proofs.Running.{ran-events, ran-join, ran-only, ran-refl, ran-shape}
+use Rattle.gc_table.proofs.Running.{ran-events, ran-join, ran-only, ran-refl}
 use Rattle.gc_cycle.specs.Answering.{StoredAt, TellsFull}
 use Rattle.gc_cycle.specs.declared.counts.Refill.{Refill}
 use Rattle.gc_cycle.specs.Cycles.{fills_with_cause}
-use Rattle.gc_cycle.specs.Mutating.{keeps_section}
 use Rattle.cache_refills.specs.Refilling.{IsRound}
 use Rattle.gc_cycle.specs.Sparing.{fills_part, SparesRefill, spares_part}
 use Rattle.gc_cycle.specs.Standing.{KeepsSeat, KeepsSection, Mutates}
-use Rattle.cache_refills.specs.Stops.{may_stop_again, stops_again_with_cause, stops_with_cause}
+use Rattle.cache_refills.specs.Stops.{cycles_with_cause, may_stop_again, resumes_with_end, stops_again_with_cause, stops_collect, stops_in_visit, stops_with_cause}
 use Rattle.cache_refills.proofs.Stops.StopsAgain.{again-join, again-stops-join}
+use Rattle.gc_cycle.specs.Mutating.{keeps_section, pops_in_stops}
+use Rattle.cache_refills.proofs.Refills.Popping.{pops-join}
 use Rattle.cache_refills.proofs.Causes.{fills-join, stops-join}
+use Rattle.cache_refills.proofs.Stops.Visits.{collects-join, cycles-join, ends-join, visits-join}
 use Rattle.gc_cycle.proofs.SectionKept.{keeps-seat, keeps-section}
 use Rattle.cache_refills.proofs.Positions.{stored-none}
-use Rattle.cache_refills.proofs.Refills.Rounds.{shaped-again, shaped-fills, shaped-missed, spares-refill}
+use Rattle.cache_refills.proofs.Refills.Rounds.{shaped, spares-refill}
 
 -- the rounds so far
 pub record HasTried (done : ℕ) (u v : View) : Type 0 where
@@ -36,6 +37,10 @@ pub record HasTried (done : ℕ) (u v : View) : Type 0 where
   pub fills : fills_with_cause u.shape (events u v) ≡ true
   pub again : stops_again_with_cause u.shape (events u v) ≡ true
   pub missed : may_stop_again u.shape (events u v) ≡ true
+  pub visit : stops_in_visit u.shape (events u v) ≡ true
+  pub ended : resumes_with_end (events u v) ≡ true
+  pub cycles : cycles_with_cause u.shape (events u v) ≡ true
+  pub pops : pops_in_stops (events u v) ≡ true
 
 pub tried-none : (done : ℕ) (v : View) → Mutates v → v.state.cache ≡ None → HasTried done v v
 tried-none done v m n =
@@ -51,14 +56,15 @@ tried-none done v m n =
       fills = ap (fills_with_cause v.shape) (events-none v);
       again = ap (stops_again_with_cause v.shape) (events-none v);
       missed = ap (may_stop_again v.shape) (events-none v);
+      visit = ap (stops_in_visit v.shape) (events-none v);
+      ended = ap resumes_with_end (events-none v);
+      cycles = ap (cycles_with_cause v.shape) (events-none v);
+      pops = ap pops_in_stops (events-none v);
     }
 
-shaped-stops : (v w x : View) → Ran v w → stops_with_cause w.shape (events w x) ≡ true → stops_with_cause v.shape (events w x) ≡ true
-shaped-stops v w x r h = subst (λ (sh : Shape). stops_with_cause sh (events w x) ≡ true) (ran-shape v w r) h
-
 -- one round more
-pub tried-more : (done : ℕ) (u v w : View) → HasTried done u v → IsRound None done v w → stops_with_cause v.shape (events v w) ≡ true → HasTried done u w
-tried-more done u v w a r s =
+pub tried-more : (done : ℕ) (u v w : View) → HasTried done u v → IsRound None done v w → stops_with_cause v.shape (events v w) ≡ true → stops_in_visit v.shape (events v w) ≡ true → HasTried done u w
+tried-more done u v w a r s i =
     record {
       mutates = r.none.mutates;
       cache = r.none.cache;
@@ -67,10 +73,14 @@ tried-more done u v w a r s =
       spares = ran-only spares_part u v w a.ran r.ran a.spares r.none.spares;
       ran = ran-join u v w a.ran r.ran;
       only = ran-only keeps_section u v w a.ran r.ran a.only r.only;
-      stops = ap (stops_with_cause u.shape) (ran-events u v w a.ran r.ran) ∙ stops-join u.shape (events u v) (events v w) a.stops (shaped-stops u v w a.ran s);
-      fills = ap (fills_with_cause u.shape) (ran-events u v w a.ran r.ran) ∙ fills-join u.shape (events u v) (events v w) a.fills (shaped-fills u v w a.ran r.fills);
-      again = ap (stops_again_with_cause u.shape) (ran-events u v w a.ran r.ran) ∙ again-stops-join u.shape (events u v) (events v w) a.again a.missed (shaped-again u v w a.ran r.again);
-      missed = ap (may_stop_again u.shape) (ran-events u v w a.ran r.ran) ∙ again-join u.shape (events u v) (events v w) a.missed (shaped-missed u v w a.ran r.none.missed);
+      stops = ap (stops_with_cause u.shape) (ran-events u v w a.ran r.ran) ∙ stops-join u.shape (events u v) (events v w) a.stops (shaped stops_with_cause u v w a.ran s);
+      fills = ap (fills_with_cause u.shape) (ran-events u v w a.ran r.ran) ∙ fills-join u.shape (events u v) (events v w) a.fills (shaped fills_with_cause u v w a.ran r.fills);
+      again = ap (stops_again_with_cause u.shape) (ran-events u v w a.ran r.ran) ∙ again-stops-join u.shape (events u v) (events v w) a.again a.missed (shaped stops_again_with_cause u v w a.ran r.again);
+      missed = ap (may_stop_again u.shape) (ran-events u v w a.ran r.ran) ∙ again-join u.shape (events u v) (events v w) a.missed (shaped may_stop_again u v w a.ran r.none.missed);
+      visit = ap (stops_in_visit u.shape) (ran-events u v w a.ran r.ran) ∙ visits-join u.shape (events u v) (events v w) a.visit (shaped stops_in_visit u v w a.ran i);
+      ended = ap resumes_with_end (ran-events u v w a.ran r.ran) ∙ ends-join (events u v) (events v w) a.ended r.none.ended;
+      pops = ap pops_in_stops (ran-events u v w a.ran r.ran) ∙ pops-join (events u v) (events v w) a.pops r.none.pops;
+      cycles = ap (cycles_with_cause u.shape) (ran-events u v w a.ran r.ran) ∙ cycles-join u.shape (events u v) (events v w) a.cycles (shaped cycles_with_cause u v w a.ran r.cycles);
     }
 
 keeps-fill : (step : Step) → keeps_section step ≡ true → fills_part step ≡ true
@@ -85,19 +95,25 @@ pub record Ends (r : Refill) (u w : View) : Type 0 where
   pub stops : stops_with_cause u.shape (events u w) ≡ true
   pub fills : fills_with_cause u.shape (events u w) ≡ true
   pub again : stops_again_with_cause u.shape (events u w) ≡ true
+  pub visit : stops_in_visit u.shape (events u w) ≡ true
+  pub collects : stops_collect (events u w) ≡ true
+  pub cycles : cycles_with_cause u.shape (events u w) ≡ true
   pub keeps : KeepsSeat u w × KeepsSection u w
   pub only : Only fills_part u w
   pub spares : SparesRefill r u w
 
-pub ends-round : (r : Refill) (done : ℕ) (u v w : View) → HasTried done u v → IsRound (Some r) done v w → stops_with_cause v.shape (events v w) ≡ true → Ends r u w
-ends-round r done u v w a i s =
+pub ends-round : (r : Refill) (done : ℕ) (u v w : View) → HasTried done u v → IsRound (Some r) done v w → stops_with_cause v.shape (events v w) ≡ true → stops_in_visit v.shape (events v w) ≡ true → Ends r u w
+ends-round r done u v w a i s t =
     let ran = ran-join u v w a.ran i.ran in
     let only = ran-only keeps_section u v w a.ran i.ran a.only i.only in
     record {
       ran = ran;
-      stops = ap (stops_with_cause u.shape) (ran-events u v w a.ran i.ran) ∙ stops-join u.shape (events u v) (events v w) a.stops (shaped-stops u v w a.ran s);
-      fills = ap (fills_with_cause u.shape) (ran-events u v w a.ran i.ran) ∙ fills-join u.shape (events u v) (events v w) a.fills (shaped-fills u v w a.ran i.fills);
-      again = ap (stops_again_with_cause u.shape) (ran-events u v w a.ran i.ran) ∙ again-stops-join u.shape (events u v) (events v w) a.again a.missed (shaped-again u v w a.ran i.again);
+      stops = ap (stops_with_cause u.shape) (ran-events u v w a.ran i.ran) ∙ stops-join u.shape (events u v) (events v w) a.stops (shaped stops_with_cause u v w a.ran s);
+      fills = ap (fills_with_cause u.shape) (ran-events u v w a.ran i.ran) ∙ fills-join u.shape (events u v) (events v w) a.fills (shaped fills_with_cause u v w a.ran i.fills);
+      again = ap (stops_again_with_cause u.shape) (ran-events u v w a.ran i.ran) ∙ again-stops-join u.shape (events u v) (events v w) a.again a.missed (shaped stops_again_with_cause u v w a.ran i.again);
+      visit = ap (stops_in_visit u.shape) (ran-events u v w a.ran i.ran) ∙ visits-join u.shape (events u v) (events v w) a.visit (shaped stops_in_visit u v w a.ran t);
+      collects = ap stops_collect (ran-events u v w a.ran i.ran) ∙ collects-join (events u v) (events v w) a.ended i.collects;
+      cycles = ap (cycles_with_cause u.shape) (ran-events u v w a.ran i.ran) ∙ cycles-join u.shape (events u v) (events v w) a.cycles (shaped cycles_with_cause u v w a.ran i.cycles);
       keeps = (keeps-seat u w ran only, keeps-section u w ran only);
       only = only-more keeps_section fills_part keeps-fill u w only;
       spares = spares-refill r u v w a.ran i.ran a.spares i.spares;

@@ -31,18 +31,20 @@ use Rattle.gc_cycle.specs.Answering.{answers, KeepsOn, TellsFull}
 use Rattle.gc_cycle.specs.declared.counts.Paid.{Paid}
 use Rattle.gc_cycle.specs.declared.counts.Refill.TheVariants as refills
 use Rattle.gc_cycle.specs.Cycles.{fills_with_cause, may_fill}
-use Rattle.gc_cycle.specs.Events.{each_after, never, since_last}
-use Rattle.gc_cycle.specs.Mutating.{keeps_section, tries_stopping, TriesToStop}
+use Rattle.gc_cycle.specs.Events.{each_after, never, since_last, since_or_all}
+use Rattle.gc_cycle.specs.Mutating.{keeps_section, pops_in_stops, tries_stopping, TriesToStop}
 use Rattle.cache_refills.specs.Pace.Paying.{in_stop, IsFree, since_claim}
 use Rattle.gc_cycle.specs.Polling.{saw_full}
 use Rattle.cache_refills.specs.Refilling.{ClaimsAlone, EndsClaimed, HasMissed, IsRound, MayResume}
 use Rattle.gc_cycle.specs.Sorts.{claims, ends_cycle, lowers_free, moves_to, pops, raises_flag, raises_traced, reads_phase, resumes}
 use Rattle.gc_cycle.specs.Sparing.{spares_part}
 use Rattle.gc_cycle.specs.Standing.{Mutates}
-use Rattle.cache_refills.specs.Stops.{may_stop_again, misses_block, stops_again_with_cause}
+use Rattle.cache_refills.specs.Stops.{cycles_with_cause, may_end, may_stop_again, misses_block, resumes_with_end, stops_again_with_cause}
 use Rattle.cache_refills.proofs.Stops.StopsAgain.{missed-later, missed-more, none-counted, quiet-again, raised-first, tried-unended, unraised-again}
 use Rattle.gc_cycle.proofs.Refills.Answered.{answers-out}
 use Rattle.cache_refills.proofs.Causes.{after-join, after-none, fills-since, unfilled}
+use Rattle.cache_refills.proofs.Stops.StopEnds.{stop-cycles, stop-ends, stop-full, stop-pops}
+use Rattle.cache_refills.proofs.Stops.Visits.{ended-all, unended-cycles, unresumed-ends}
 use Rattle.gc_cycle.proofs.Refills.Collected.{answers-tried, one-raised, only-drop, section-spares, tries-section}
 use Rattle.gc_cycle.proofs.Refills.KnownFull.{full-known, tells-more, tells-none}
 use Rattle.gc_cycle.proofs.SectionKept.{tries-keep, tries-never-fill}
@@ -58,14 +60,16 @@ tries-unfull : (v w : View) → Only tries_stopping v w → some_event (moves_to
 tries-unfull v w o = not-true _ (tries-never-fill (events v w) o)
 
 -- another seat's stop came first
-pub round-theirs : (done : ℕ) (v w : View) → TriesToStop v w → w.own.position ≡ done → count_of raises_flag (events v w) ≡ 0 → Mutates w → IsRound None done v w
-round-theirs done v w t at count m =
+pub round-theirs : (done : ℕ) (v w : View) → TriesToStop v w → w.own.position ≡ done → count_of raises_flag (events v w) ≡ 0 → never resumes (events v w) ≡ true → pops_in_stops (events v w) ≡ true → Mutates w → IsRound None done v w
+round-theirs done v w t at count still away m =
     let calm : some_event raises_flag (events v w) ≡ false = none-counted raises_flag (events v w) count in
     record {
       ran = t.ran;
       only = only-more tries_stopping keeps_section tries-keep v w t.only;
       fills = unfilled v.shape (events v w) (tries-unfull v w t.only);
       again = unraised-again v.shape [] (events v w) calm;
+      collects = ended-all (events v w) (unresumed-ends (events v w) (not-true _ still));
+      cycles = unended-cycles v.shape (events v w) (tried-unended (events v w) t.only);
       none =
           record {
             mutates = m;
@@ -74,9 +78,15 @@ round-theirs done v w t at count m =
             tells = λ u r k. tells-more u v w r t.ran t.only k;
             spares = tries-spare v w t.only;
             missed = quiet-again v.shape (events v w) calm (tried-unended (events v w) t.only);
+            ended = unresumed-ends (events v w) (not-true _ still);
+            pops = away;
           };
       spares = tt;
     }
+
+-- what is done in a stop ends cycles only with cause, where the flag was raised before
+abbrev pub CyclesIn : Shape → View → View → Type 0
+CyclesIn sh v w = (before : List Entry) → some_event raises_flag (since_or_all ends_cycle before) ≡ true → each_after (may_end sh) ends_cycle before (events v w) ≡ true
 
 -- resuming the world
 
@@ -138,6 +148,19 @@ module _ (o : Option Cache) (u v w x y : View) (t : TriesToStop u v) (once : cou
           ap (some_event raises_flag) (ran-events w x y dropped q)
           ∙ some-none raises_flag (events w x) (events x y) (ap (some_event raises_flag) (events-after w x DropStep d.0 d.1.0)) (not-true _ (answers-out x y q a).calm)
 
+  -- which cycles ended in it
+  round-cycles : (sh : Shape) → u.shape ≡ sh → some_event raises_flag (events u v) ≡ true → CyclesIn sh v w → cycles_with_cause u.shape (events u y) ≡ true
+  round-cycles sh e raised cycles =
+      subst (λ (z : Shape). cycles_with_cause z (events u y) ≡ true) (sym e) (stop-cycles sh u v w y t.ran c.ran tail t.only tail-only raised cycles)
+
+  -- one did where the heap isn't full
+  round-ends : some_event raises_flag (events u v) ≡ true → never resumes (events u v) ≡ true → (some_event ends_cycle (events v w) ≡ true) ⊎ KnowsFull w → (KnowsFull w → ⊥) → resumes_with_end (events u y) ≡ true
+  round-ends raised still ends n =
+      ⊎_elim
+      (λ (s : some_event ends_cycle (events v w) ≡ true). stop-ends u v w x y t.ran c.ran d q a raised still c.calm c.stopped s)
+      (λ (f : KnowsFull w). absurd (n f))
+      ends
+
   -- a block with a free cell was missed in it
   round-missed : (sh : Shape) → misses_block sh (since_last ends_cycle (events v w)) ≡ true → may_stop_again sh (events u y) ≡ true
   round-missed sh s =
@@ -176,25 +199,29 @@ module _ (o : Option Cache) (u v w x y : View) (t : TriesToStop u v) (once : cou
   position-end kept k = ap (λ (z : View). z.own.position) k.looked.1.0 ∙ (ap (λ (z : View). z.own.position) d.1.0 ∙ c.position)
 
   -- the heap is full
-  pub round-full : (done : ℕ) (sh : Shape) → u.shape ≡ sh → some_event raises_flag (events u v) ≡ true → each_after (may_fill sh) (moves_to Full) [] (events v w) ≡ true → KnowsFull y → IsRound (Some refills.Full) done u y
-  round-full done sh e raised fills f =
+  pub round-full : (done : ℕ) (sh : Shape) → u.shape ≡ sh → some_event raises_flag (events u v) ≡ true → each_after (may_fill sh) (moves_to Full) [] (events v w) ≡ true → never resumes (events u v) ≡ true → CyclesIn sh v w → saw_full (events x y) ≡ true → KnowsFull y → IsRound (Some refills.Full) done u y
+  round-full done sh e raised fills still cycles read f =
       record {
         ran = round-ran;
         only = round-keeps;
         fills = subst (λ (z : Shape). fills_with_cause z (events u y) ≡ true) (sym e) (round-fills sh raised fills);
         again = round-again u.shape;
+        collects = stop-full u v w x y t.ran c.ran d q a still c.stopped read;
+        cycles = round-cycles sh e raised cycles;
         none = tt;
         spares = f;
       }
 
   -- there is no block, and the heap isn't full
-  pub round-none : (done : ℕ) (sh : Shape) → v.own.position ≡ done → u.shape ≡ sh → some_event raises_flag (events u v) ≡ true → each_after (may_fill sh) (moves_to Full) [] (events v w) ≡ true → (KnowsFull v → KnowsFull w) → HasMissed sh o (events v w) w → KeepsOn o None x y → Mutates y → IsRound None done u y
-  round-none done sh at e raised fills full none k m =
+  pub round-none : (done : ℕ) (sh : Shape) → v.own.position ≡ done → u.shape ≡ sh → some_event raises_flag (events u v) ≡ true → each_after (may_fill sh) (moves_to Full) [] (events v w) ≡ true → never resumes (events u v) ≡ true → CyclesIn sh v w → (some_event ends_cycle (events v w) ≡ true) ⊎ KnowsFull w → pops_in_stops (events u v) ≡ true → (KnowsFull v → KnowsFull w) → HasMissed sh o (events v w) w → KeepsOn o None x y → Mutates y → IsRound None done u y
+  round-none done sh at e raised fills still cycles ends away full none k m =
       record {
         ran = round-ran;
         only = round-keeps;
         fills = subst (λ (z : Shape). fills_with_cause z (events u y) ≡ true) (sym e) (round-fills sh raised fills);
         again = round-again u.shape;
+        collects = ended-all (events u y) (round-ends raised still ends (unfull None k));
+        cycles = round-cycles sh e raised cycles;
         none =
             record {
               mutates = m;
@@ -203,6 +230,8 @@ module _ (o : Option Cache) (u v w x y : View) (t : TriesToStop u v) (once : cou
               tells = λ z r h. tells-more z w y (to-claim z r) tail tail-only (claim-tells z full r h);
               spares = round-spares spared;
               missed = subst (λ (z : Shape). may_stop_again z (events u y) ≡ true) (sym e) (round-missed sh missed);
+              ended = round-ends raised still ends (unfull None k);
+              pops = stop-pops u v w x y t.ran c.ran d q a away raised still c.stopped;
             };
         spares = tt;
       }
@@ -219,13 +248,15 @@ module _ (o : Option Cache) (u v w x y : View) (t : TriesToStop u v) (once : cou
   claimed : (h : Cache) → KeepsOn o (Some h) x y → Only spares_part v w × ((first : List Entry) × EndsClaimed h first v w)
   claimed h k = subst (λ p. IfSome p (λ z. Only spares_part v w × ((first : List Entry) × EndsClaimed z first v w))) (sym k.same) c.some
 
-  pub round-cache : (done : ℕ) (sh : Shape) → u.shape ≡ sh → some_event raises_flag (events u v) ≡ true → each_after (may_fill sh) (moves_to Full) [] (events v w) ≡ true → (h : Cache) (paid : Paid) → KeepsOn o (Some h) x y → IsRound (Some (refills.Cache h paid)) done u y
-  round-cache done sh e raised fills h paid k =
+  pub round-cache : (done : ℕ) (sh : Shape) → u.shape ≡ sh → some_event raises_flag (events u v) ≡ true → each_after (may_fill sh) (moves_to Full) [] (events v w) ≡ true → never resumes (events u v) ≡ true → CyclesIn sh v w → (some_event ends_cycle (events v w) ≡ true) ⊎ KnowsFull w → (h : Cache) (paid : Paid) → KeepsOn o (Some h) x y → IsRound (Some (refills.Cache h paid)) done u y
+  round-cache done sh e raised fills still cycles ends h paid k =
       record {
         ran = round-ran;
         only = round-keeps;
         fills = subst (λ (z : Shape). fills_with_cause z (events u y) ≡ true) (sym e) (round-fills sh raised fills);
         again = round-again u.shape;
+        collects = ended-all (events u y) (round-ends raised still ends (unfull (Some h) k));
+        cycles = round-cycles sh e raised cycles;
         none = tt;
         spares = round-spares (claimed h k).0;
       }

@@ -11,7 +11,7 @@ use Rattle.mark_core.specs.declared.kinds.Phase.{Phase}
 use Rattle.mark_core.specs.declared.kinds.Phase.TheVariants.{Full, Idle}
 use Rattle.mark_core.specs.declared.kinds.Shape.{Shape}
 use Rattle.mark_core.specs.declared.kinds.Step.{Step}
-use Rattle.mark_core.specs.declared.kinds.Step.TheVariants.{AddStat, ClaimBlock, JoinHelpStep, LeaveHelpStep, ReadFree, ReleaseBlock}
+use Rattle.mark_core.specs.declared.kinds.Step.TheVariants.{AddStat, ClaimBlock, DropStep, JoinHelpStep, LeaveHelpStep, ReadFree, ReleaseBlock}
 use Rattle.mark_core.specs.declared.seat.SeatState.{SeatState}
 use Rattle.gc_table.specs.Log.{events, Only}
 use Rattle.gc_table.specs.Rule.{KnowsFull}
@@ -32,7 +32,7 @@ use Rattle.gc_cycle.specs.Finishing.{finishes, IsAloneIn, IsPart}
 use Rattle.gc_cycle.specs.Mutating.{keeps_section}
 use Rattle.gc_cycle.specs.Polling.{saw_full}
 use Rattle.cache_refills.specs.Refilling.{ClaimsAlone, EndsClaimed, MayResume, prepares, RestsAlone}
-use Rattle.gc_cycle.specs.Sorts.{moves_to, raises_flag, reads_phase, tells_full}
+use Rattle.gc_cycle.specs.Sorts.{moves_to, raises_flag, reads_phase, resumes, tells_full}
 use Rattle.gc_cycle.specs.Sparing.{spares_part}
 use Rattle.gc_cycle.specs.Standing.{is_at_rest}
 use Rattle.cache_refills.proofs.Causes.{after-earlier, after-join, after-none, fill-later}
@@ -85,6 +85,7 @@ pub record Quiet (v w : View) : Type 0 where
   pub keeps : Only keeps_section v w
   pub spares : Only spares_part v w
   pub calm : some_event raises_flag (events v w) ≡ false
+  pub stopped : some_event resumes (events v w) ≡ false
   pub going : saw_full (events v w) ≡ false
   pub position : w.own.position ≡ v.own.position
 
@@ -96,13 +97,22 @@ quiet-join u v w a b =
       keeps = ran-only keeps_section u v w a.ran b.ran a.keeps b.keeps;
       spares = ran-only spares_part u v w a.ran b.ran a.spares b.spares;
       calm = ap (some_event raises_flag) es ∙ some-none raises_flag (events u v) (events v w) a.calm b.calm;
+      stopped = ap (some_event resumes) es ∙ some-none resumes (events u v) (events v w) a.stopped b.stopped;
       going = ap saw_full es ∙ some-none (reads_phase Full) (events u v) (events v w) a.going b.going;
       position = b.position ∙ a.position;
     }
 
+finish-stopped : (step : Step) (n : ℕ) → finishes step ≡ true → resumes step n ≡ false
+finish-stopped DropStep n e = absurd (false≢true e)
+finish-stopped step n e = refl
+
+claim-stopped : (step : Step) (n : ℕ) → claims_block step ≡ true → resumes step n ≡ false
+claim-stopped DropStep n e = absurd (false≢true e)
+claim-stopped step n e = refl
+
 -- a collection
 pub quiet-finish : (v w : View) → Ran v w → Only finishes v w → Only spares_part v w → saw_full (events v w) ≡ false → Quiet v w
-quiet-finish v w r o s g = record { ran = r; keeps = only-more finishes keeps_section finishes-keep v w o; spares = s; calm = not-true _ (finish-calm v w o); going = g; position = finish-position v w r o }
+quiet-finish v w r o s g = record { ran = r; keeps = only-more finishes keeps_section finishes-keep v w o; spares = s; calm = not-true _ (finish-calm v w o); stopped = none-of-steps finishes resumes finish-stopped (events v w) o; going = g; position = finish-position v w r o }
 
 -- a part of it
 pub quiet-part : (p : Phase) (v w : View) → IsPart p v w → Quiet v w
@@ -128,7 +138,7 @@ unlooked step n e = absurd (false≢true e)
 quiet-steps : (v w : View) → Ran v w → Only claims_block v w → Quiet v w
 quiet-steps v w r o =
     let l = leads-prepared v w r (only-more claims_block prepares claims-prepare v w o) in
-    record { ran = r; keeps = l.keeps; spares = l.spares; calm = l.calm; going = none-of-steps claims_block (reads_phase Full) unlooked (events v w) o; position = position-kept v w r l.inside }
+    record { ran = r; keeps = l.keeps; spares = l.spares; calm = l.calm; stopped = none-of-steps claims_block resumes claim-stopped (events v w) o; going = none-of-steps claims_block (reads_phase Full) unlooked (events v w) o; position = position-kept v w r l.inside }
 
 -- what a search for a block that found none leaves
 abbrev pub ClaimsNone : Shape → View → View → Type 0
@@ -175,7 +185,7 @@ rests-same v w e b = record { section = ap (λ (s : SeatState). is_some s.sectio
 
 claims-by : (o : Option Cache) (v w : View) → Quiet v w → MayResume w → HasCache o w → IfSome o (λ h. (first : List Entry) × EndsClaimed h first v w) → ClaimsAlone o v w
 claims-by o v w q m c e =
-    record { ran = q.ran; only = q.keeps; calm = ap not q.calm; going = q.going; resume = m; cached = c; position = q.position; some = some o e; none = none o }
+    record { ran = q.ran; only = q.keeps; calm = ap not q.calm; stopped = ap not q.stopped; going = q.going; resume = m; cached = c; position = q.position; some = some o e; none = none o }
   where
     some : (p : Option Cache) → IfSome p (λ h. (first : List Entry) × EndsClaimed h first v w) → IfSome p (λ h. Only spares_part v w × ((first : List Entry) × EndsClaimed h first v w))
     some None k = tt
@@ -210,6 +220,7 @@ claims-later o u v w q c =
       ran = ran-join u v w q.ran c.ran;
       only = ran-only keeps_section u v w q.ran c.ran q.keeps c.only;
       calm = ap (never raises_flag) es ∙ ap not (some-none raises_flag (events u v) (events v w) q.calm (not-true _ c.calm));
+      stopped = ap (never resumes) es ∙ ap not (some-none resumes (events u v) (events v w) q.stopped (not-true _ c.stopped));
       going = ap saw_full es ∙ some-none (reads_phase Full) (events u v) (events v w) q.going c.going;
       resume = c.resume;
       cached = c.cached;
@@ -242,6 +253,7 @@ claims-none v h f =
       ran = ran-refl v;
       only = only-none keeps_section v;
       calm = ap (never raises_flag) (events-none v);
+      stopped = ap (never resumes) (events-none v);
       going = ap saw_full (events-none v);
       resume = resume-in Full v refl (record { rest = h.rest; alone = a }) (rests-held v h);
       cached = no-cache v.shape v.state h.rest.rest;

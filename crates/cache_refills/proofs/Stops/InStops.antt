@@ -28,12 +28,13 @@ use Rattle.cache_refills.specs.Getting.{RefillsTo}
 use Rattle.cache_refills.specs.InStops.{begins_none, FillsCache, FillsTo, HasSearched}
 use Rattle.gc_cycle.specs.Finishing.{IsPart}
 use Rattle.gc_cycle.specs.Mutating.{tries_stopping}
-use Rattle.gc_cycle.proofs.Ends.Completing.{part-untried}
+use Rattle.gc_cycle.proofs.Ends.Completing.{part-unended, part-untried}
 use Rattle.cache_refills.proofs.Stops.InStop.{ClaimsNone}
 use Rattle.cache_refills.specs.Pace.Pacing.{tries_marking}
 use Rattle.cache_refills.specs.Pace.Paying.{since_claim}
 use Rattle.cache_refills.specs.Refilling.{EndsClaimed}
-use Rattle.gc_cycle.specs.Sorts.{claims, lowers_free}
+use Rattle.gc_cycle.specs.Events.{never}
+use Rattle.gc_cycle.specs.Sorts.{claims, ends_cycle, lowers_free}
 use Rattle.gc_cycle.proofs.Refills.Answered.{answers-try}
 use Rattle.cache_refills.proofs.Refills.Claimed.{claim-only, claims_block, claims-end, claims-only}
 use Rattle.cache_refills.proofs.Positions.{stays_inside, stored-more}
@@ -93,6 +94,36 @@ pub unbegun-stop : (u v w x y : View) → Ran u v → Ran v w → Ran w x → Ra
 unbegun-stop u v w x y r q d l o k t a =
     unbegun-join u v y r (ran-join v w y q (ran-join w x y d l)) (unbegun-tries u v o)
     (unbegun-join v w y q (ran-join w x y d l) k (unbegun-join w x y d l (unbegun-after w x DropStep t.0 refl t.1.0) (unbegun-answers x y a)))
+
+-- steps that end no cycle
+
+seeks-unended : (step : Step) (n : ℕ) → seeks_block step ≡ true → ends_cycle step n ≡ false
+seeks-unended (StorePhase to) n e = absurd (false≢true e)
+seeks-unended step n e = refl
+
+claims-unended : (step : Step) (n : ℕ) → claims_block step ≡ true → ends_cycle step n ≡ false
+claims-unended (StorePhase to) n e = absurd (false≢true e)
+claims-unended step n e = refl
+
+pub unended-seeks : (v w : View) → Only seeks_block v w → never ends_cycle (events v w) ≡ true
+unended-seeks v w o = ap not (none-of-steps seeks_block ends_cycle seeks-unended (events v w) o)
+
+pub unended-claims : (h : Cache) (v w : View) → Claims h v w → never ends_cycle (events v w) ≡ true
+unended-claims h v w k = ap not (none-of-steps claims_block ends_cycle claims-unended (events v w) (claim-only h v w k))
+
+-- a claim, whatever its answer
+pub unended-any : (sh : Shape) (o : Option Cache) (v w : View) → IfSome o (λ h. Claims h v w) → IfNone o (ClaimsNone sh v w) → never ends_cycle (events v w) ≡ true
+unended-any sh None v w s n = unended-seeks v w n.3
+unended-any sh (Some h) v w s n = unended-claims h v w s
+
+pub unended-part : (p : Phase) (v w : View) → IsPart p v w → never ends_cycle (events v w) ≡ true
+unended-part p v w h = ap not (part-unended p v w h)
+
+pub unended-after : (v w : View) (step : Step) (n : ℕ) → ends_cycle step n ≡ false → w ≡ after step n v → never ends_cycle (events v w) ≡ true
+unended-after v w step n h e = ap (never ends_cycle) (events-after v w step n e) ∙ ap (λ (b : Bool). not (b || false)) h
+
+pub unended-join : (u v w : View) → Ran u v → Ran v w → never ends_cycle (events u v) ≡ true → never ends_cycle (events v w) ≡ true → never ends_cycle (events u w) ≡ true
+unended-join u v w r q a b = ap (never ends_cycle) (ran-events u v w r q) ∙ ap not (some-none ends_cycle (events u v) (events v w) (not-true _ a) (not-true _ b))
 
 -- the answer
 

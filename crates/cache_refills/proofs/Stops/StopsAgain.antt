@@ -44,7 +44,7 @@ tried-unended es o = none-of-steps tries_stopping ends_cycle tries-unended es o
 
 -- what was missed since the last cycle ended, among more events
 
-since-none : (f : Sort) (es : List Entry) → some_event f es ≡ false → since_last f es ≡ []
+pub since-none : (f : Sort) (es : List Entry) → some_event f es ≡ false → since_last f es ≡ []
 since-none f [] h = refl
 since-none f (e ∷ es) h =
     let p = or_parts (f e.step e.found) (some_event f es) h in ap (λ (b : Bool). if b && not (some_event f es) then es else since_last f es) p.0 ∙ since-none f es p.1

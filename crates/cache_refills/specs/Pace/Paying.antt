@@ -1,5 +1,5 @@
 -- What a mutator pays for its cache.
-use Rattle.std.specs.Prelude.{ℕ, ◌≡◌, ◌≢◌, ◌≤◌, ◌&&◌, ◌||◌, List, [], ◌∷◌, Bool, Some, IsTrue, IsFalse}
+use Rattle.std.specs.Prelude.{ℕ, ◌≡◌, ◌≢◌, ◌≤◌, ◌&&◌, ◌||◌, if◌then◌else◌, List, [], ◌∷◌, Bool, Some, IsTrue, IsFalse}
 use Rattle.mark_core.specs.declared.kinds.Phase.TheVariants.{Idle, Marking}
 use Rattle.mark_core.specs.declared.kinds.Shape.{Shape}
 use Rattle.gc_table.specs.declared.view.Entry.{Entry}
@@ -12,12 +12,17 @@ use Rattle.gc_cycle.specs.declared.counts.Paid.{Paid}
 use Rattle.gc_cycle.specs.Events.{before_last, never, since_last, until_first}
 use Rattle.gc_cycle.specs.Sorts.{claims, pops, raises_flag, raises_traced, reads_phase, reads_root, resumes}
 use Rattle.gc_cycle.specs.Moments.{Moment, at_some_moment, finds_no_packet, finds_no_room, finds_no_work}
+use Rattle.gc_cycle.specs.Mutating.{pops_in_stops}
 use Rattle.cache_refills.specs.Pace.Pacing.{quota_seen, was_not_due}
 use Rattle.gc_cycle.specs.Roots.{roots_scanned}
 
 -- the events since the call claimed the block of its cache
 abbrev pub since_claim : List Entry → List Entry
 since_claim es = since_last claims es
+
+-- before the call claimed the block of its cache, or where it claimed none, it popped cells in stops alone
+abbrev pub pops_where_paid : List Entry → Bool
+pops_where_paid es = pops_in_stops (if some_event claims es then before_last claims es else es)
 
 -- the seat claimed the block while it had the world stopped, and resumed the world after that
 abbrev pub claimed_in_stop : List Entry → Bool

@@ -1,4 +1,4 @@
-use Rattle.std.proofs.Common.{ℕ, ◌≡◌, ◌⊎◌, refl, sym, ap, ◌∙◌, subst, Option, Some, inr, [], arith}
+use Rattle.std.proofs.Common.{ℕ, ◌≡◌, ◌≤◌, ◌⊎◌, ◌++◌, inl, List, true, refl, sym, ap, ◌∙◌, subst, Option, Some, inr, [], arith}
 use Rattle.std.specs.Prelude.{is_some, unwrap_or}
 use Rattle.std.proofs.lemmas.Bool.{true≢false}
 use Rattle.mark_core.specs.declared.kinds.Phase.TheVariants.{Clear, Drain, Full, Idle, Marking, Sweep}
@@ -23,6 +23,17 @@ use Rattle.cache_refills.proofs.Stops.InStop.{claims-later, claims-none, fills-c
 use Rattle.gc_cycle.proofs.Changes.{by-none, numbers-after, numbers-one}
 use Rattle.gc_cycle.specs.Statistics.{EndsCycle, taken}
 use Rattle.cache_refills.proofs.Stops.InStops.{unbegun-empty, unbegun-join}
+use Rattle.gc_table.specs.declared.view.Entry.{Entry}
+use Rattle.gc_table.specs.Running.{Ran}
+use Rattle.gc_table.proofs.History.Log.{events-none}
+use Rattle.packet_pools.specs.Counts.{count_of}
+use Rattle.packet_pools.specs.Seeking.{some_event}
+use Rattle.packet_pools.proofs.Searches.{some-left}
+use Rattle.gc_cycle.specs.Events.{each_after, since_or_all}
+use Rattle.gc_cycle.specs.Sorts.{ends_cycle, raises_flag}
+use Rattle.cache_refills.specs.Stops.{may_end}
+use Rattle.cache_refills.proofs.Causes.{after-join}
+use Rattle.cache_refills.proofs.Stops.Visits.{after-once, raised-may, some-counted, unended-later}
 use Rattle.cache_refills.proofs.claiming.claim_in_stop.Goals as goal
 
 pub claim_or_collect-requires-clause-alone : goal.claim_or_collect-requires-clause-alone
@@ -153,3 +164,48 @@ returns-in_default-clause-full g c = λ k.
       | in_default-via-in-Some+in_default w ↦ absurd ((rw full at w.in_default.in-Idle-own.refused-1).2 refl)
       | in_default-via-in_default w ↦ absurd (true≢false (ap (λ (o : Option Phase). is_some o) (sym full ∙ w.in_default.is)))
     ]
+
+-- a collection ended one cycle, and more may have come after it
+
+ended-first : (u v w : View) → Ran u v → Ran v w → count_of ends_cycle (events u v) ≡ 1 → some_event ends_cycle (events u w) ≡ true
+ended-first u v w r q one = ap (some_event ends_cycle) (ran-events u v w r q) ∙ some-left ends_cycle (events u v) (events v w) (some-counted ends_cycle (events u v) (omega (arith, one)))
+
+collected-cycles : (sh : Shape) (before : List Entry) (u v w : View) → Ran u v → Ran v w → some_event raises_flag (since_or_all ends_cycle before) ≡ true → count_of ends_cycle (events u v) ≡ 1 → each_after (may_end sh) ends_cycle (before ++ events u v) (events v w) ≡ true → each_after (may_end sh) ends_cycle before (events u w) ≡ true
+collected-cycles sh before u v w r q h one later =
+    let few : count_of ends_cycle (events u v) ≤ 1 = omega (arith, one) in
+    ap (each_after (may_end sh) ends_cycle before) (ran-events u v w r q)
+    ∙ after-join (may_end sh) ends_cycle before (events u v) (events v w) (after-once (may_end sh) ends_cycle before (events u v) (λ xs n. raised-may sh before xs h n) few) later
+
+pub returns-in-Some-Full-clause-ends : goal.returns-in-Some-Full-clause-ends
+returns-in-Some-Full-clause-ends g c =
+    let is = rw c.in-Some-Full.is at c.in-Some-Full.field-0-is in
+    inr (full-alone (view_of c.args.seat.now) c.requires.stopped (ap (λ (s : SeatState). s.phase_seen) (sym c.state.ensures) ∙ (c.in-Some-Full.is ∙ ap Some is))).phase
+
+pub returns-in-Some-Marking-clause-ends : goal.returns-in-Some-Marking-clause-ends
+returns-in-Some-Marking-clause-ends g c =
+    let p = c.finish_cycle.ensures in
+    inl (ended-first (view_of c.args.seat.now) (view_of c.finish_cycle.new.seat) (view_of c.claim_or_collect.new.seat) p.ran c.claim_or_collect.ensures.claims.ran p.once)
+
+pub returns-in_default-clause-ends : goal.returns-in_default-clause-ends
+returns-in_default-clause-ends g c =
+    let p = c.precise.ensures in inl (ended-first (view_of c.args.seat.now) (view_of c.precise.new.seat) (view_of c.claim_or_fill.new.seat) p.ran c.claim_or_fill.ensures.claims.ran p.once)
+
+pub returns-in-Some-Full-clause-cycles : goal.returns-in-Some-Full-clause-cycles
+returns-in-Some-Full-clause-cycles g c = λ before h. ap (each_after (may_end c.args.heap.now.shape) ends_cycle before) (events-none (view_of c.args.seat.now))
+
+pub returns-in-Some-Marking-clause-cycles : goal.returns-in-Some-Marking-clause-cycles
+returns-in-Some-Marking-clause-cycles g c = λ before h.
+    let u : View = view_of c.args.seat.now in
+    let v : View = view_of c.finish_cycle.new.seat in
+    let p = c.finish_cycle.ensures in
+    let e = c.claim_or_collect.ensures in
+    collected-cycles c.args.heap.now.shape before u v (view_of c.claim_or_collect.new.seat) p.ran e.claims.ran h p.once (e.cycles (before ++ events u v))
+
+pub returns-in_default-clause-cycles : goal.returns-in_default-clause-cycles
+returns-in_default-clause-cycles g c = λ before h.
+    let u : View = view_of c.args.seat.now in
+    let v : View = view_of c.precise.new.seat in
+    let w : View = view_of c.claim_or_fill.new.seat in
+    let p = c.precise.ensures in
+    let e = c.claim_or_fill.ensures in
+    collected-cycles c.args.heap.now.shape before u v w p.ran e.claims.ran h p.once (unended-later c.args.heap.now.shape (before ++ events u v) (events v w) e.unended)

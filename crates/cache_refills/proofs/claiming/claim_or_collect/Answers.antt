@@ -1,4 +1,13 @@
-use Rattle.std.proofs.Common.{[], None, Some, inl, ap, ◌≡◌, ◌∙◌, true, sym, subst}
+use Rattle.std.proofs.Common.{[], ◌++◌, ◌<◌, ◌≤◌, List, None, Some, arith, inl, ap, ◌≡◌, ◌∙◌, true, sym, subst}
+use Rattle.std.proofs.lemmas.Bool.{not-true}
+use Rattle.mark_core.specs.Layout.{block_count}
+use Rattle.gc_table.specs.declared.view.Entry.{Entry}
+use Rattle.packet_pools.specs.Counts.{count_of}
+use Rattle.gc_cycle.specs.Events.{each_after, never}
+use Rattle.cache_refills.specs.Stops.{claim_failed, may_end}
+use Rattle.cache_refills.proofs.Causes.{after-join, search-failed}
+use Rattle.cache_refills.proofs.Refills.Rounds.{some-blocks}
+use Rattle.cache_refills.proofs.Stops.Visits.{after-once, failed-may, unended-later}
 use Rattle.mark_core.specs.declared.kinds.Shape.{Shape}
 use Rattle.mark_core.specs.declared.seat.SeatState.{SeatState}
 use Rattle.gc_table.specs.Log.{events}
@@ -16,7 +25,7 @@ use Rattle.gc_cycle.proofs.Sequences.{followed-later}
 use Rattle.gc_cycle.proofs.Changes.{numbers-after, numbers-join, numbers-one}
 use Rattle.gc_cycle.specs.Statistics.{EndsCycle, taken}
 use Rattle.gc_cycle.proofs.Numbers.{claim-by, seeks-by}
-use Rattle.cache_refills.proofs.Stops.InStops.{unbegun-claims, unbegun-join, unbegun-seeks}
+use Rattle.cache_refills.proofs.Stops.InStops.{unbegun-claims, unbegun-join, unbegun-seeks, unended-claims, unended-seeks}
 use Rattle.cache_refills.proofs.claiming.claim_or_collect.Goals as goal
 
 collected-after : (sh : Shape) (u v w : View) → Ran u v → Ran v w → collects_exactly sh (begins v) (events v w) ≡ true → collects (events u w) ≡ true
@@ -102,3 +111,30 @@ returns-clause-unbegun g c =
     let p = c.precise.ensures in
     let f = c.claim_or_fill.ensures in
     unbegun-join u v x c.claim.ensures.ran (ran-join v w x p.ran f.claims.ran) (unbegun-seeks u v c.in_default.ensures.none.3) (unbegun-join v w x p.ran f.claims.ran p.unbegun f.unbegun)
+
+-- a search in vain, a collection that ended one cycle, and then none more
+collected-cycles : (sh : Shape) (before : List Entry) (u v w x : View) → Ran u v → Ran v w → Ran w x → never ends_cycle (events u v) ≡ true → claim_failed sh (events u v) ≡ true → count_of ends_cycle (events v w) ≡ 1 → never ends_cycle (events w x) ≡ true → each_after (may_end sh) ends_cycle before (events u x) ≡ true
+collected-cycles sh before u v w x r q p n h one last =
+    let few : count_of ends_cycle (events v w) ≤ 1 = omega (arith, one) in
+    ap (each_after (may_end sh) ends_cycle before) (ran-events u v x r (ran-join v w x q p) ∙ ap (λ es. events u v ++ es) (ran-events v w x q p))
+    ∙ after-join (may_end sh) ends_cycle before (events u v) (events v w ++ events w x) (unended-later sh before (events u v) n)
+    (after-join (may_end sh) ends_cycle (before ++ events u v) (events v w) (events w x)
+    (after-once (may_end sh) ends_cycle (before ++ events u v) (events v w) (λ xs k. failed-may sh before (events u v) xs (not-true _ n) h k) few)
+    (unended-later sh ((before ++ events u v) ++ events v w) (events w x) last))
+
+pub returns-in-Some-clause-cycles : goal.returns-in-Some-clause-cycles
+returns-in-Some-clause-cycles g c = λ before.
+    let u : View = view_of c.args.seat.now in
+    let v : View = view_of c.claim.new.seat in
+    unended-later c.args.heap.now.shape before (events u v) (unended-claims c.in-Some.cache u v c.in-Some.ensures.some)
+
+pub returns-clause-cycles : goal.returns-clause-cycles
+returns-clause-cycles g c = λ before.
+    let u : View = view_of c.args.seat.now in
+    let v : View = view_of c.claim.new.seat in
+    let sh : Shape = c.args.heap.now.shape in
+    let n = c.in_default.ensures.none in
+    let p = c.precise.ensures in
+    let f = c.claim_or_fill.ensures in
+    let some : 0 < block_count sh = subst (λ (s : Shape). 0 < block_count s) c.requires.seat.1 (some-blocks u c.args.seat.now.possible) in
+    collected-cycles sh before u v (view_of c.precise.new.seat) (view_of c.claim_or_fill.new.seat) c.claim.ensures.ran p.ran f.claims.ran (unended-seeks u v n.3) (search-failed sh (events u v) some n.3 n.2) p.once f.unended

@@ -19,7 +19,7 @@ use Rattle.alloc_cache.specs.declared.cache.Cache.{Cache}
 use Rattle.gc_cycle.proofs.Changes.{by-join, changes-after, numbers-one, only-changes}
 use Rattle.gc_cycle.specs.Statistics.{taken}
 use Rattle.gc_cycle.proofs.Numbers.{claim-any}
-use Rattle.cache_refills.proofs.Stops.InStops.{unbegun-after, unbegun-any, unbegun-join, unbegun-part}
+use Rattle.cache_refills.proofs.Stops.InStops.{unbegun-after, unbegun-any, unbegun-join, unbegun-part, unended-after, unended-any, unended-join, unended-part}
 use Rattle.cache_refills.proofs.claiming.claim_or_fill.Goals as goal
 
 pub store_named-requires-clause-may : goal.store_named-requires-clause-may
@@ -142,3 +142,26 @@ returns-clause-unbegun c =
     let a = c.all_allocated.ensures.part in
     let e = c.claim.ensures in
     unbegun-join u v w a.ran e.ran (unbegun-part Idle u v a) (unbegun-any c.args.heap.now.shape c.claim.result v w e.some e.none)
+
+pub returns-then-all_allocated-clause-unended : goal.returns-then-all_allocated-clause-unended
+returns-then-all_allocated-clause-unended c =
+    let u : View = view_of c.args.seat.now in
+    let v : View = view_of c.all_allocated.new.seat in
+    let w : View = view_of c.store_named.new.seat in
+    let x : View = view_of c.store_phase.new.seat in
+    let a = c.all_allocated.ensures.part in
+    let s = c.store_named.ensures.view in
+    let t = c.store_phase.ensures.view in
+    let named = ran-stored v w StoreNamed refl s in
+    let full = ran-found w x (StorePhase Full) t.0 refl (t.1, t.2) in
+    unended-join u v x a.ran (ran-join v w x named full) (unended-part Idle u v a)
+    (unended-join v w x named full (unended-after v w StoreNamed (written v.shape v.state StoreNamed 0) refl s) (unended-after w x (StorePhase Full) t.0 refl t.1))
+
+pub returns-clause-unended : goal.returns-clause-unended
+returns-clause-unended c =
+    let u : View = view_of c.args.seat.now in
+    let v : View = view_of c.all_allocated.new.seat in
+    let w : View = view_of c.claim.new.seat in
+    let a = c.all_allocated.ensures.part in
+    let e = c.claim.ensures in
+    unended-join u v w a.ran e.ran (unended-part Idle u v a) (unended-any c.args.heap.now.shape c.claim.result v w e.some e.none)

@@ -10,8 +10,14 @@ use Rattle.cache_refills.specs.Refilling.{prepares}
 use Rattle.cache_refills.proofs.Refills.Paced.{seeks-prepare}
 use Rattle.cache_refills.proofs.Positions.{stored-more}
 use Rattle.cache_refills.proofs.Refills.Claimed.{claims-cached, claims-only}
-use Rattle.cache_refills.proofs.Refills.Rounds.{calm-stops, leads-caused, leads-prepared, leads-stops, later-some, round-calm, round-later, searched-stops, some-blocks}
+use Rattle.cache_refills.proofs.Refills.Rounds.{leads-prepared, later-some, round-calm, round-later, searched-stops, some-blocks}
+use Rattle.gc_table.specs.Log.{events}
 use Rattle.gc_cycle.specs.Answering.{answers}
+use Rattle.gc_cycle.specs.Sorts.{comes_in}
+use Rattle.gc_cycle.proofs.Sequences.{none-of-steps}
+use Rattle.cache_refills.proofs.Stops.StopEnds.{answers-in}
+use Rattle.cache_refills.proofs.Refills.Popping.{answered-pops, unpopped}
+use Rattle.cache_refills.proofs.Refills.Visiting.{calm-stops, calm-visits, leads-caused, leads-pops, leads-stops, leads-visited, leads-visits}
 use Rattle.gc_cycle.specs.Mutating.{stays_calm}
 use Rattle.gc_cycle.proofs.Refills.Answered.{answers-calm}
 use Rattle.cache_refills.proofs.Stops.InStops.{fills-from, searched, unbegun-answers, unbegun-claims, unbegun-join, unbegun-seeks}
@@ -47,7 +53,7 @@ returns-in-Some-clause-round g c =
     let x : View = view_of c.claim.new.seat in
     let w : View = view_of c.keep_cache.new.seat in
     let p = c.keep_cache.ensures in
-    round-later c.args.done v x w (Some c.keep_cache.result) (leads-prepared v x c.claim.ensures.ran (claims-only c.in-Some.cache v x c.in-Some.ensures.some)) (round-calm c.args.done x w c.keep_cache.result p.ran (only-more answers stays_calm answers-calm x w p.only) p.known)
+    round-later c.args.done v x w (Some c.keep_cache.result) (leads-prepared v x c.claim.ensures.ran (claims-only c.in-Some.cache v x c.in-Some.ensures.some)) (round-calm c.args.done x w c.keep_cache.result p.ran (only-more answers stays_calm answers-calm x w p.only) (none-of-steps answers comes_in answers-in (events x w) p.only) p.known)
 
 pub returns-in-Some-clause-stops : goal.returns-in-Some-clause-stops
 returns-in-Some-clause-stops g c =
@@ -90,3 +96,37 @@ returns-in-Some-clause-unbegun g c =
     let w : View = view_of c.keep_cache.new.seat in
     let p = c.keep_cache.ensures in
     unbegun-join v x w c.claim.ensures.ran p.ran (unbegun-claims c.in-Some.cache v x c.in-Some.ensures.some) (unbegun-answers x w p.only)
+
+pub returns-in-None-clause-visit : goal.returns-in-None-clause-visit
+returns-in-None-clause-visit g c =
+    let v : View = view_of c.args.seat.now in
+    let x : View = view_of c.claim.new.seat in
+    let sh : Shape = c.args.heap.now.shape in
+    let n = c.in-None.ensures.none in
+    let r = c.refill_in_stop.ensures in
+    let some : 0 < block_count sh = subst (λ (s : Shape). 0 < block_count s) c.requires.seat.0.1 (some-blocks v c.args.seat.now.possible) in
+    leads-visited sh v x (view_of c.refill_in_stop.new.seat) (leads-prepared v x c.claim.ensures.ran (only-more seeks_block prepares seeks-prepare v x n.3)) r.round.ran (searched-stops sh v x some n.3 n.2) r.outside
+
+pub returns-in-Some-clause-visit : goal.returns-in-Some-clause-visit
+returns-in-Some-clause-visit g c =
+    let v : View = view_of c.args.seat.now in
+    let x : View = view_of c.claim.new.seat in
+    let w : View = view_of c.keep_cache.new.seat in
+    let p = c.keep_cache.ensures in
+    let sh : Shape = c.args.heap.now.shape in
+    leads-visits sh v x w (leads-prepared v x c.claim.ensures.ran (claims-only c.in-Some.cache v x c.in-Some.ensures.some)) p.ran (calm-visits sh x w (only-more answers stays_calm answers-calm x w p.only))
+
+pub returns-in-None-clause-pops : goal.returns-in-None-clause-pops
+returns-in-None-clause-pops g c =
+    let v : View = view_of c.args.seat.now in
+    let x : View = view_of c.claim.new.seat in
+    let r = c.refill_in_stop.ensures in
+    leads-pops v x (view_of c.refill_in_stop.new.seat) (leads-prepared v x c.claim.ensures.ran (only-more seeks_block prepares seeks-prepare v x c.in-None.ensures.none.3)) r.round.ran r.pops
+
+pub returns-in-Some-clause-pops : goal.returns-in-Some-clause-pops
+returns-in-Some-clause-pops g c =
+    let v : View = view_of c.args.seat.now in
+    let x : View = view_of c.claim.new.seat in
+    let w : View = view_of c.keep_cache.new.seat in
+    let p = c.keep_cache.ensures in
+    leads-pops v x w (leads-prepared v x c.claim.ensures.ran (claims-only c.in-Some.cache v x c.in-Some.ensures.some)) p.ran (unpopped (events x w) (answered-pops x w p.only))

@@ -1,4 +1,5 @@
 use Rattle.std.proofs.Common.{◌<◌, Some, subst}
+use Rattle.std.proofs.lemmas.Bool.{not-true}
 use Rattle.mark_core.specs.Layout.{block_count}
 use Rattle.mark_core.specs.declared.kinds.Shape.{Shape}
 use Rattle.gc_table.specs.Seats.{view_of}
@@ -9,8 +10,10 @@ use Rattle.alloc_cache.specs.Claiming.{seeks_block}
 use Rattle.cache_refills.specs.Refilling.{prepares}
 use Rattle.cache_refills.proofs.Refills.Paced.{seeks-prepare}
 use Rattle.cache_refills.proofs.Positions.{stored-more}
-use Rattle.cache_refills.proofs.Refills.Claimed.{claims-cached, claims-claimed, claims-only}
-use Rattle.cache_refills.proofs.Refills.Rounds.{calm-stops, leads-caused, leads-prepared, leads-stops, later-some, round-calm, round-later, searched-stops, some-blocks}
+use Rattle.cache_refills.proofs.Refills.Claimed.{claims-block, claims-cached, claims-claimed, claims-only}
+use Rattle.cache_refills.proofs.Refills.Rounds.{leads-prepared, later-some, round-calm, round-later, searched-stops, some-blocks}
+use Rattle.cache_refills.proofs.Refills.Popping.{calm-claims, stops-paid}
+use Rattle.cache_refills.proofs.Refills.Visiting.{calm-stops, calm-visits, leads-caused, leads-claimed, leads-pops, leads-stops, leads-visited, leads-visits}
 use Rattle.cache_refills.proofs.Refills.RoundNumbers.{claims-refill, leaves-first}
 use Rattle.gc_cycle.proofs.Numbers.{seeks-by}
 use Rattle.gc_table.specs.Log.{events}
@@ -46,7 +49,7 @@ returns-in-Some-clause-round g c =
     let x : View = view_of c.claim.new.seat in
     let w : View = view_of c.pay_for-refill.new.seat in
     let p = c.pay_for-refill.ensures in
-    round-later c.args.done v x w (Some c.pay_for-refill.result) (leads-prepared v x c.claim.ensures.ran (claims-only c.in-Some.cache v x c.in-Some.ensures.some)) (round-calm c.args.done x w c.pay_for-refill.result p.ran p.only p.known)
+    round-later c.args.done v x w (Some c.pay_for-refill.result) (leads-prepared v x c.claim.ensures.ran (claims-only c.in-Some.cache v x c.in-Some.ensures.some)) (round-calm c.args.done x w c.pay_for-refill.result p.ran p.only (not-true _ p.inside) p.known)
 
 pub returns-in-Some-clause-stops : goal.returns-in-Some-clause-stops
 returns-in-Some-clause-stops g c =
@@ -91,3 +94,38 @@ returns-in-Some-clause-due g c =
     let w : View = view_of c.pay_for-refill.new.seat in
     let p = c.pay_for-refill.ensures in
     due-join v x w c.claim.ensures.ran p.ran (due-none (events v x) (unbegun-claims c.in-Some.cache v x c.in-Some.ensures.some)) (due-calm x w p.only)
+
+pub returns-in-None-clause-visit : goal.returns-in-None-clause-visit
+returns-in-None-clause-visit g c =
+    let v : View = view_of c.args.seat.now in
+    let x : View = view_of c.claim.new.seat in
+    let sh : Shape = c.args.heap.now.shape in
+    let n = c.in-None.ensures.none in
+    let r = c.refill_in_stop.ensures in
+    let some : 0 < block_count sh = subst (λ (s : Shape). 0 < block_count s) c.requires.seat.0.1 (some-blocks v c.args.seat.now.possible) in
+    leads-visited sh v x (view_of c.refill_in_stop.new.seat) (leads-prepared v x c.claim.ensures.ran (only-more seeks_block prepares seeks-prepare v x n.3)) r.round.ran (searched-stops sh v x some n.3 n.2) r.outside
+
+pub returns-in-Some-clause-visit : goal.returns-in-Some-clause-visit
+returns-in-Some-clause-visit g c =
+    let v : View = view_of c.args.seat.now in
+    let x : View = view_of c.claim.new.seat in
+    let w : View = view_of c.pay_for-refill.new.seat in
+    let p = c.pay_for-refill.ensures in
+    let sh : Shape = c.args.heap.now.shape in
+    leads-visits sh v x w (leads-prepared v x c.claim.ensures.ran (claims-only c.in-Some.cache v x c.in-Some.ensures.some)) p.ran (calm-visits sh x w p.only)
+
+pub returns-in-None-clause-pops : goal.returns-in-None-clause-pops
+returns-in-None-clause-pops g c =
+    let v : View = view_of c.args.seat.now in
+    let x : View = view_of c.claim.new.seat in
+    let w : View = view_of c.refill_in_stop.new.seat in
+    let r = c.refill_in_stop.ensures in
+    stops-paid (events v w) (leads-pops v x w (leads-prepared v x c.claim.ensures.ran (only-more seeks_block prepares seeks-prepare v x c.in-None.ensures.none.3)) r.round.ran r.pops)
+
+pub returns-in-Some-clause-pops : goal.returns-in-Some-clause-pops
+returns-in-Some-clause-pops g c =
+    let v : View = view_of c.args.seat.now in
+    let x : View = view_of c.claim.new.seat in
+    let w : View = view_of c.pay_for-refill.new.seat in
+    let p = c.pay_for-refill.ensures in
+    leads-claimed v x w (leads-prepared v x c.claim.ensures.ran (claims-only c.in-Some.cache v x c.in-Some.ensures.some)) p.ran (claims-block c.in-Some.cache v x c.in-Some.ensures.some) (calm-claims x w p.only)

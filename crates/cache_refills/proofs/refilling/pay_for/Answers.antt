@@ -1,4 +1,5 @@
-use Rattle.std.proofs.Common.{◌∙◌, [], ◌∷◌, inl, inr, refl, subst, sym}
+use Rattle.std.proofs.Common.{ℕ, ◌≡◌, ◌∙◌, [], ◌∷◌, ◌++◌, ap, inl, inr, not, refl, subst, sym, true, false}
+use Rattle.std.proofs.lemmas.Bool.{false≢true}
 use Rattle.gc_table.specs.Seats.{view_of}
 use Rattle.gc_table.specs.declared.view.View.{View}
 use Rattle.gc_table.proofs.History.Log.{events-none, only-more, only-none}
@@ -12,7 +13,17 @@ use Rattle.gc_cycle.proofs.Refills.Collected.{calm-spares}
 use Rattle.gc_cycle.proofs.Refills.KnownFull.{mutates-still}
 use Rattle.cache_refills.proofs.Refills.Refilled.{gets-free, gets-paid, gives-up, looked-calm, looked-ran, read-idle}
 use Rattle.gc_cycle.proofs.Refills.Retired.{owes-none}
-use Rattle.mark_core.specs.declared.kinds.Step.TheVariants.{StorePosition, ReadPhase}
+use Rattle.mark_core.specs.declared.kinds.Step.{Step}
+use Rattle.mark_core.specs.declared.kinds.Step.TheVariants.{DropStep, EnterStep, StorePosition, ReadPhase}
+use Rattle.gc_table.specs.Log.{events, Only}
+use Rattle.gc_table.specs.Running.{Ran}
+use Rattle.gc_table.specs.Seats.{Found}
+use Rattle.gc_table.proofs.History.Log.{events-after}
+use Rattle.gc_table.proofs.Running.{ran-events}
+use Rattle.gc_cycle.specs.Events.{never}
+use Rattle.gc_cycle.specs.Sorts.{comes_in}
+use Rattle.gc_cycle.proofs.Sequences.{none-of-steps}
+use Rattle.cache_refills.proofs.Stops.StopEnds.{answers-in}
 use Rattle.gc_cycle.proofs.Changes.{by-join, changes-after}
 use Rattle.gc_cycle.proofs.Numbers.{retire-by}
 use Rattle.gc_cycle.specs.Statistics.{gives_back}
@@ -24,6 +35,16 @@ retire-requires-clause-owes c =
     let w : View = view_of c.read_phase.new.seat in
     let t = c.read_phase.ensures.view in
     owes-none w (mutates-still (view_of c.args.seat.now) w t.0 (t.1, t.2) c.requires.seat.1)
+
+pays-in : (step : Step) (n : ℕ) → pays_cells step ≡ true → comes_in step n ≡ false
+pays-in EnterStep n e = absurd (false≢true e)
+pays-in DropStep n e = absurd (false≢true e)
+pays-in step n e = refl
+
+-- a look at the phase, and what was paid after it
+looked-in : (v w x : View) (n : ℕ) → Found ReadPhase n v w → Ran w x → Only pays_cells w x → never comes_in (events v x) ≡ true
+looked-in v w x n f r o =
+    ap (never comes_in) (ran-events v w x (ran-found v w ReadPhase n refl f) r ∙ ap (λ es. es ++ events w x) (events-after v w ReadPhase n f.0)) ∙ ap not (none-of-steps pays_cells comes_in pays-in (events w x) o)
 
 pub returns-in-Full : goal.returns-in-Full
 returns-in-Full c =
@@ -38,6 +59,7 @@ returns-in-Full c =
       seat = c.store_position.ensures.seat;
       ran = g.0;
       only = only-more answers stays_calm answers-calm v y g.1;
+      inside = ap not (none-of-steps answers comes_in answers-in (events v y) g.1);
       numbers =
           by-join [] (gives_back c.args.cache ∷ []) v w y (changes-after v w ReadPhase t.0 refl (ran-found v w ReadPhase t.0 refl (t.1, t.2)) t.1)
           (by-join (gives_back c.args.cache ∷ []) [] w x y (retire-by c.args.cache (used_bits w.state.cache) w x e.ran e.steps)
@@ -59,6 +81,7 @@ returns-in-Marking c =
       ran = looked-ran v w x t.0 (t.1, t.2) q.ran;
       only = calm;
       numbers = (refl, inr (by-join [] _ v w x (changes-after v w ReadPhase t.0 refl (ran-found v w ReadPhase t.0 refl (t.1, t.2)) t.1) q.changed));
+      inside = looked-in v w x t.0 (t.1, t.2) q.ran q.only;
       known = only-more stays_calm spares_part calm-spares v x calm;
       refills = λ u k. gets-paid c.args.cache c.args.done u v w x t.0 k (t.1, t.2) q.ran q.only c.pay-paid.result c.requires.seat.1 c.requires.cache q (sym t.3 ∙ c.in-Marking.is);
     }
@@ -76,6 +99,7 @@ returns-in_default c =
       ran = looked-ran v w w t.0 (t.1, t.2) (ran-refl w);
       only = calm;
       numbers = (refl, inl (changes-after v w ReadPhase t.0 refl (ran-found v w ReadPhase t.0 refl (t.1, t.2)) t.1));
+      inside = looked-in v w w t.0 (t.1, t.2) (ran-refl w) (only-none pays_cells w);
       known = only-more stays_calm spares_part calm-spares v w calm;
       refills = λ u k. gets-free c.args.cache c.args.done u v w w t.0 k (t.1, t.2) (ran-refl w) (only-none pays_cells w) c.nothing_paid.result m c.requires.cache c.nothing_paid.ensures idle (events-none w) (mutates-still v w t.0 (t.1, t.2) m) refl refl;
     }

@@ -5,13 +5,14 @@ use Rattle.gc_table.specs.declared.view.View.{View}
 use Rattle.cache_refills.proofs.Stops.AfterStop.{done-resuming, round-cache, round-full, round-gets, round-none, round-theirs, to-drop}
 use Rattle.gc_cycle.proofs.Refills.Answered.{full-later}
 use Rattle.cache_refills.proofs.Stops.InStops.{unbegun-stop, unbegun-tries}
+use Rattle.cache_refills.proofs.Stops.StopEnds.{stop-outside, stop-pops}
 use Rattle.gc_cycle.proofs.Changes.{numbers-one, only-changes}
 use Rattle.gc_cycle.specs.Statistics.{taken}
 use Rattle.cache_refills.proofs.Refills.RoundNumbers.{stop-full, stop-none, stop-some, stop-takes}
 use Rattle.cache_refills.proofs.refilling.refill_in_stop.Goals as goal
 
 pub returns-then-not-stop-clause-round : goal.returns-then-not-stop-clause-round
-returns-then-not-stop-clause-round g c = round-theirs c.args.done (view_of c.args.seat.now) (view_of c.stop.new.seat) c.stop.ensures.tries c.stop.ensures.position (c.stop.ensures.raises ∙ ap (λ (b : Bool). if b then 1 else 0) c.if-not-stop.true) c.if-not-stop.ensures.theirs
+returns-then-not-stop-clause-round g c = round-theirs c.args.done (view_of c.args.seat.now) (view_of c.stop.new.seat) c.stop.ensures.tries c.stop.ensures.position (c.stop.ensures.raises ∙ ap (λ (b : Bool). if b then 1 else 0) c.if-not-stop.true) c.stop.ensures.unresumed c.stop.ensures.pops c.if-not-stop.ensures.theirs
 
 pub resume-requires-clause-done : goal.resume-requires-clause-done
 resume-requires-clause-done g c = done-resuming (view_of c.claim_in_stop-cache.new.seat) c.claim_in_stop-cache.ensures.claims.resume
@@ -29,7 +30,7 @@ returns-in-Full-clause-round g c =
     let i = c.claim_in_stop-cache.ensures in
     let d = c.resume.ensures.step in
     let e = c.go_on.ensures in
-    round-full o u v w x y t once i.claims d e.ran e.only c.args.done c.args.heap.now.shape c.requires.seat.0.1 c.if-not-stop.ensures.yours.raised i.fills c.in-Full.ensures.answer.1
+    round-full o u v w x y t once i.claims d e.ran e.only c.args.done c.args.heap.now.shape c.requires.seat.0.1 c.if-not-stop.ensures.yours.raised i.fills c.stop.ensures.unresumed i.cycles c.in-Full.ensures.answer.0.read c.in-Full.ensures.answer.1
 
 pub returns-in-Full-clause-some : goal.returns-in-Full-clause-some
 returns-in-Full-clause-some g c =
@@ -60,7 +61,7 @@ returns-in-Going-Some-clause-round g c =
     let d = c.resume.ensures.step in
     let e = c.go_on.ensures in
     let k = rw c.in-Going-Some.field-0-is at c.in-Going-Some.ensures.answer in
-    round-cache o u v w x y t once i.claims d e.ran e.only c.args.done c.args.heap.now.shape c.requires.seat.0.1 c.if-not-stop.ensures.yours.raised i.fills c.in-Going-Some.cache c.nothing_paid.result k
+    round-cache o u v w x y t once i.claims d e.ran e.only c.args.done c.args.heap.now.shape c.requires.seat.0.1 c.if-not-stop.ensures.yours.raised i.fills c.stop.ensures.unresumed i.cycles i.ends c.in-Going-Some.cache c.nothing_paid.result k
 
 pub returns-in-Going-Some-clause-some : goal.returns-in-Going-Some-clause-some
 returns-in-Going-Some-clause-some g c =
@@ -92,7 +93,7 @@ returns-in-Going-None-clause-round g c =
     let d = c.resume.ensures.step in
     let e = c.go_on.ensures in
     let k = rw c.in-Going-None.field-0-is at c.in-Going-None.ensures.answer in
-    round-none o u v w x y t once i.claims d e.ran e.only c.args.done c.args.heap.now.shape c.stop.ensures.position c.requires.seat.0.1 c.if-not-stop.ensures.yours.raised i.fills i.full i.missed k e.seat.1
+    round-none o u v w x y t once i.claims d e.ran e.only c.args.done c.args.heap.now.shape c.stop.ensures.position c.requires.seat.0.1 c.if-not-stop.ensures.yours.raised i.fills c.stop.ensures.unresumed i.cycles i.ends c.stop.ensures.pops i.full i.missed k e.seat.1
 
 pub returns-then-not-stop-clause-numbers : goal.returns-then-not-stop-clause-numbers
 returns-then-not-stop-clause-numbers g c =
@@ -155,3 +156,48 @@ returns-in-Going-None-clause-unbegun g c =
     let e = c.go_on.ensures in
     unbegun-stop (view_of c.args.seat.now) (view_of c.stop.new.seat) (view_of c.claim_in_stop-cache.new.seat) (view_of c.resume.new.seat) (view_of c.go_on.new.seat) t.ran i.claims.ran c.resume.ensures.ran e.ran t.only i.unbegun
     c.resume.ensures.step e.only
+
+pub returns-then-not-stop-clause-outside : goal.returns-then-not-stop-clause-outside
+returns-then-not-stop-clause-outside g c = c.stop.ensures.outside
+
+pub returns-in-Full-clause-outside : goal.returns-in-Full-clause-outside
+returns-in-Full-clause-outside g c =
+    let i = c.claim_in_stop-cache.ensures.claims in
+    stop-outside (view_of c.args.seat.now) (view_of c.stop.new.seat) (view_of c.claim_in_stop-cache.new.seat) (view_of c.resume.new.seat) (view_of c.go_on.new.seat) c.stop.ensures.tries.ran i.ran c.resume.ensures.step c.go_on.ensures.ran c.go_on.ensures.only
+    c.stop.ensures.outside i.calm
+
+pub returns-in-Going-Some-clause-outside : goal.returns-in-Going-Some-clause-outside
+returns-in-Going-Some-clause-outside g c =
+    let i = c.claim_in_stop-cache.ensures.claims in
+    stop-outside (view_of c.args.seat.now) (view_of c.stop.new.seat) (view_of c.claim_in_stop-cache.new.seat) (view_of c.resume.new.seat) (view_of c.go_on.new.seat) c.stop.ensures.tries.ran i.ran c.resume.ensures.step c.go_on.ensures.ran c.go_on.ensures.only
+    c.stop.ensures.outside i.calm
+
+pub returns-in-Going-None-clause-outside : goal.returns-in-Going-None-clause-outside
+returns-in-Going-None-clause-outside g c =
+    let i = c.claim_in_stop-cache.ensures.claims in
+    stop-outside (view_of c.args.seat.now) (view_of c.stop.new.seat) (view_of c.claim_in_stop-cache.new.seat) (view_of c.resume.new.seat) (view_of c.go_on.new.seat) c.stop.ensures.tries.ran i.ran c.resume.ensures.step c.go_on.ensures.ran c.go_on.ensures.only
+    c.stop.ensures.outside i.calm
+
+pub returns-then-not-stop-clause-pops : goal.returns-then-not-stop-clause-pops
+returns-then-not-stop-clause-pops g c = c.stop.ensures.pops
+
+pub returns-in-Full-clause-pops : goal.returns-in-Full-clause-pops
+returns-in-Full-clause-pops g c =
+    let i = c.claim_in_stop-cache.ensures.claims in
+    let s = c.stop.ensures in
+    stop-pops (view_of c.args.seat.now) (view_of c.stop.new.seat) (view_of c.claim_in_stop-cache.new.seat) (view_of c.resume.new.seat) (view_of c.go_on.new.seat) s.tries.ran i.ran c.resume.ensures.step c.go_on.ensures.ran c.go_on.ensures.only
+    s.pops c.if-not-stop.ensures.yours.raised s.unresumed i.stopped
+
+pub returns-in-Going-Some-clause-pops : goal.returns-in-Going-Some-clause-pops
+returns-in-Going-Some-clause-pops g c =
+    let i = c.claim_in_stop-cache.ensures.claims in
+    let s = c.stop.ensures in
+    stop-pops (view_of c.args.seat.now) (view_of c.stop.new.seat) (view_of c.claim_in_stop-cache.new.seat) (view_of c.resume.new.seat) (view_of c.go_on.new.seat) s.tries.ran i.ran c.resume.ensures.step c.go_on.ensures.ran c.go_on.ensures.only
+    s.pops c.if-not-stop.ensures.yours.raised s.unresumed i.stopped
+
+pub returns-in-Going-None-clause-pops : goal.returns-in-Going-None-clause-pops
+returns-in-Going-None-clause-pops g c =
+    let i = c.claim_in_stop-cache.ensures.claims in
+    let s = c.stop.ensures in
+    stop-pops (view_of c.args.seat.now) (view_of c.stop.new.seat) (view_of c.claim_in_stop-cache.new.seat) (view_of c.resume.new.seat) (view_of c.go_on.new.seat) s.tries.ran i.ran c.resume.ensures.step c.go_on.ensures.ran c.go_on.ensures.only
+    s.pops c.if-not-stop.ensures.yours.raised s.unresumed i.stopped

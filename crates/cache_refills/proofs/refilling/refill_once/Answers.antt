@@ -6,7 +6,12 @@ use Rattle.gc_cycle.specs.Mutating.{stays_calm}
 use Rattle.gc_table.proofs.History.Log.{only-more}
 use Rattle.gc_cycle.proofs.Refills.Answered.{answers-calm, full-later}
 use Rattle.cache_refills.proofs.Positions.{stored-more}
-use Rattle.cache_refills.proofs.Refills.Rounds.{calm-stops, later-some, leads-caused, leads-join, leads-looked, leads-prepared, leads-stops, looked-seen, marked-stops, marking-known, paced-after, round-calm, round-later}
+use Rattle.cache_refills.proofs.Refills.Rounds.{later-some, leads-join, leads-looked, leads-prepared, looked-seen, marked-stops, marking-known, paced-after, round-calm, round-later}
+use Rattle.cache_refills.proofs.Refills.Popping.{answered-pops, stops-paid, unpopped}
+use Rattle.cache_refills.proofs.Refills.Visiting.{calm-stops, calm-visits, leads-caused, leads-paid, leads-pops, leads-stops, leads-visited, leads-visits}
+use Rattle.gc_cycle.specs.Sorts.{comes_in}
+use Rattle.gc_cycle.proofs.Sequences.{none-of-steps}
+use Rattle.cache_refills.proofs.Stops.StopEnds.{answers-in}
 use Rattle.cache_refills.proofs.Refills.RoundNumbers.{leaves-first, leaves-full}
 use Rattle.gc_cycle.proofs.Changes.{by-join}
 use Rattle.std.proofs.Common.{[]}
@@ -19,7 +24,7 @@ returns-then-ends_full-clause-round g c =
     let v : View = view_of c.args.seat.now in
     let w : View = view_of c.ends_full.new.seat in
     let e = c.ends_full.ensures in
-    round-calm c.args.done v w _ e.ran (only-more answers stays_calm answers-calm v w e.only) c.if-ends_full.ensures.full.1
+    round-calm c.args.done v w _ e.ran (only-more answers stays_calm answers-calm v w e.only) (none-of-steps answers comes_in answers-in (events v w) e.only) c.if-ends_full.ensures.full.1
 
 pub returns-then-ends_full-clause-stops : goal.returns-then-ends_full-clause-stops
 returns-then-ends_full-clause-stops g c =
@@ -136,3 +141,53 @@ returns-clause-due g c =
     let s = c.sees_to_cycle.ensures in
     let r = c.claim_or_stop.ensures in
     due-join v w y e.ran (ran-join w x y s.ran r.round.ran) (due-calm v w (only-more answers stays_calm answers-calm v w e.only)) (due-join w x y s.ran r.round.ran s.due r.due)
+
+pub returns-then-ends_full-clause-visit : goal.returns-then-ends_full-clause-visit
+returns-then-ends_full-clause-visit g c =
+    let v : View = view_of c.args.seat.now in
+    let w : View = view_of c.ends_full.new.seat in
+    calm-visits c.args.heap.now.shape v w (only-more answers stays_calm answers-calm v w c.ends_full.ensures.only)
+
+pub returns-then-sees_to_cycle-clause-visit : goal.returns-then-sees_to_cycle-clause-visit
+returns-then-sees_to_cycle-clause-visit g c =
+    let v : View = view_of c.args.seat.now in
+    let w : View = view_of c.ends_full.new.seat in
+    let x : View = view_of c.sees_to_cycle.new.seat in
+    let s = c.sees_to_cycle.ensures in
+    let t = c.if-ends_full.ensures.going.looked in
+    let d = c.if-sees_to_cycle.ensures.done in
+    let r = c.refill_in_stop.ensures in
+    leads-visited c.args.heap.now.shape v x (view_of c.refill_in_stop.new.seat) (leads-join v w x (leads-looked v w c.if-ends_full.ensures.going) (leads-prepared w x s.ran s.only)) r.round.ran
+    (marked-stops c.args.heap.now.shape v w x t (looked-seen v w t c.requires.seat.1 d.0) s.ran d.1) r.outside
+
+pub returns-clause-visit : goal.returns-clause-visit
+returns-clause-visit g c =
+    let v : View = view_of c.args.seat.now in
+    let w : View = view_of c.ends_full.new.seat in
+    let x : View = view_of c.sees_to_cycle.new.seat in
+    let s = c.sees_to_cycle.ensures in
+    leads-visits c.args.heap.now.shape v x (view_of c.claim_or_stop.new.seat) (leads-join v w x (leads-looked v w c.if-ends_full.ensures.going) (leads-prepared w x s.ran s.only)) c.claim_or_stop.ensures.round.ran c.claim_or_stop.ensures.visit
+
+pub returns-then-ends_full-clause-pops : goal.returns-then-ends_full-clause-pops
+returns-then-ends_full-clause-pops g c =
+    let v : View = view_of c.args.seat.now in
+    let w : View = view_of c.ends_full.new.seat in
+    stops-paid (events v w) (unpopped (events v w) (answered-pops v w c.ends_full.ensures.only))
+
+pub returns-then-sees_to_cycle-clause-pops : goal.returns-then-sees_to_cycle-clause-pops
+returns-then-sees_to_cycle-clause-pops g c =
+    let v : View = view_of c.args.seat.now in
+    let w : View = view_of c.ends_full.new.seat in
+    let x : View = view_of c.sees_to_cycle.new.seat in
+    let y : View = view_of c.refill_in_stop.new.seat in
+    let s = c.sees_to_cycle.ensures in
+    let r = c.refill_in_stop.ensures in
+    stops-paid (events v y) (leads-pops v x y (leads-join v w x (leads-looked v w c.if-ends_full.ensures.going) (leads-prepared w x s.ran s.only)) r.round.ran r.pops)
+
+pub returns-clause-pops : goal.returns-clause-pops
+returns-clause-pops g c =
+    let v : View = view_of c.args.seat.now in
+    let w : View = view_of c.ends_full.new.seat in
+    let x : View = view_of c.sees_to_cycle.new.seat in
+    let s = c.sees_to_cycle.ensures in
+    leads-paid v x (view_of c.claim_or_stop.new.seat) (leads-join v w x (leads-looked v w c.if-ends_full.ensures.going) (leads-prepared w x s.ran s.only)) c.claim_or_stop.ensures.round.ran c.claim_or_stop.ensures.pops

@@ -3,9 +3,11 @@ use Rattle.gc_table.specs.declared.view.View.{View}
 use Rattle.mark_core.specs.declared.kinds.Shape.{Shape}
 use Rattle.gc_table.specs.Log.{events}
 use Rattle.gc_cycle.specs.Cycles.{fills_with_cause}
-use Rattle.cache_refills.specs.Stops.{stops_again_with_cause, stops_with_cause}
-use Rattle.std.proofs.Common.{sym, subst, true, ◌≡◌, []}
-use Rattle.gc_table.proofs.Running.{ran-refl}
+use Rattle.cache_refills.specs.Stops.{cycles_with_cause, stops_again_with_cause, stops_in_visit, stops_with_cause}
+use Rattle.std.proofs.Common.{ap, sym, subst, true, ◌≡◌, ◌∙◌, []}
+use Rattle.gc_table.proofs.Running.{ran-events, ran-refl}
+use Rattle.cache_refills.specs.Pace.Paying.{pops_where_paid}
+use Rattle.cache_refills.proofs.Refills.Popping.{paid-join}
 use Rattle.gc_cycle.proofs.Refills.KnownFull.{tells-none}
 use Rattle.cache_refills.proofs.Refills.RoundsSoFar.{ends-round, tried-more, tried-none}
 use Rattle.cache_refills.proofs.Refills.RoundNumbers.{refills-later}
@@ -20,7 +22,7 @@ pub loop-preserved : goal.loop-preserved
 loop-preserved g c =
     let i = c.loop.invariant in
     let e = c.refill_once.ensures in
-    record { next = tt; finite = tt; sits = e.seat; numbers = numbers-join [] (view_of c.args.seat.now) (view_of c.loop.seat) (view_of c.refill_once.new.seat) i.numbers c.in_default.ensures.numbers; due = due-join (view_of c.args.seat.now) (view_of c.loop.seat) (view_of c.refill_once.new.seat) i.tried.ran e.round.ran i.due e.due; tried = tried-more c.args.done (view_of c.args.seat.now) (view_of c.loop.seat) (view_of c.refill_once.new.seat) i.tried c.in_default.ensures.round (subst (λ (sh : Shape). stops_with_cause sh (events (view_of c.loop.seat) (view_of c.refill_once.new.seat)) ≡ true) (sym i.sits.1) e.stops) }
+    record { next = tt; finite = tt; sits = e.seat; numbers = numbers-join [] (view_of c.args.seat.now) (view_of c.loop.seat) (view_of c.refill_once.new.seat) i.numbers c.in_default.ensures.numbers; due = due-join (view_of c.args.seat.now) (view_of c.loop.seat) (view_of c.refill_once.new.seat) i.tried.ran e.round.ran i.due e.due; tried = tried-more c.args.done (view_of c.args.seat.now) (view_of c.loop.seat) (view_of c.refill_once.new.seat) i.tried c.in_default.ensures.round (subst (λ (sh : Shape). stops_with_cause sh (events (view_of c.loop.seat) (view_of c.refill_once.new.seat)) ≡ true) (sym i.sits.1) e.stops) (subst (λ (sh : Shape). stops_in_visit sh (events (view_of c.loop.seat) (view_of c.refill_once.new.seat)) ≡ true) (sym i.sits.1) e.visit) }
 
 pub returns-in-Some-refill_once : goal.returns-in-Some-refill_once
 returns-in-Some-refill_once g c =
@@ -29,13 +31,17 @@ returns-in-Some-refill_once g c =
     let w : View = view_of c.refill_once.new.seat in
     let t = c.loop.invariant.tried in
     let e = c.in-Some-refill_once.ensures in
-    let d = ends-round _ c.args.done u v w t e.round (subst (λ (sh : Shape). stops_with_cause sh (events v w) ≡ true) (sym c.loop.invariant.sits.1) e.stops) in
+    let d = ends-round _ c.args.done u v w t e.round (subst (λ (sh : Shape). stops_with_cause sh (events v w) ≡ true) (sym c.loop.invariant.sits.1) e.stops) (subst (λ (sh : Shape). stops_in_visit sh (events v w) ≡ true) (sym c.loop.invariant.sits.1) e.visit) in
     record {
       seat = e.seat;
       ran = d.ran;
       refills = e.some u t.ran (t.tells u (ran-refl u) (tells-none u)) t.position;
       stops = subst (λ (sh : Shape). stops_with_cause sh (events u w) ≡ true) c.requires.seat.0.1 d.stops;
+      visit = subst (λ (sh : Shape). stops_in_visit sh (events u w) ≡ true) c.requires.seat.0.1 d.visit;
       again = subst (λ (sh : Shape). stops_again_with_cause sh (events u w) ≡ true) c.requires.seat.0.1 d.again;
+      collects = d.collects;
+      cycles = subst (λ (sh : Shape). cycles_with_cause sh (events u w) ≡ true) c.requires.seat.0.1 d.cycles;
+      pops = ap pops_where_paid (ran-events u v w t.ran e.round.ran) ∙ paid-join (events u v) (events v w) t.pops e.pops;
       fills = subst (λ (sh : Shape). fills_with_cause sh (events u w) ≡ true) c.requires.seat.0.1 d.fills;
       due = due-join u v w t.ran e.round.ran c.loop.invariant.due e.due;
       keeps = d.keeps;

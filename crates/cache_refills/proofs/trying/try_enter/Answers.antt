@@ -8,7 +8,9 @@ use Rattle.gc_cycle.specs.Sparing.{spares_part}
 use Rattle.gc_cycle.specs.Statistics.{leaves_numbers}
 use Rattle.gc_cycle.proofs.Refills.Collected.{calm-spares}
 use Rattle.gc_cycle.proofs.Stops.OutAndIn.{turns-out}
-use Rattle.cache_refills.proofs.Refills.Passed.{come-cache, come-full, come-going, come-mutates, come-numbers, come-once, come-out, come-own}
+use Rattle.cache_refills.proofs.Refills.Passed.{come-cache, come-few, come-full, come-going, come-mutates, come-numbers, come-once, come-out, come-own}
+use Rattle.std.proofs.Common.{arith}
+use Rattle.gc_cycle.proofs.Few.{few-events}
 use Rattle.cache_refills.proofs.trying.try_enter.Goals as goal
 
 pub returns-then-not-enter : goal.returns-then-not-enter
@@ -24,6 +26,7 @@ returns-then-not-enter c =
       own = t.2;
       spares = only-more stays_calm spares_part calm-spares u v t.1.only;
       numbers = ap (all_steps leaves_numbers) b.events;
+      few = few-events 2 u v _ b.events (omega arith);
     }
 
 pub finds_full-requires : goal.finds_full-requires
@@ -50,6 +53,7 @@ returns-then-finds_full c =
       own = come-own u v w o s r e t;
       spares = only-more stays_calm spares_part calm-spares u w out.only;
       numbers = come-numbers u v w o s r e t;
+      few = come-few u v w o s r e t;
     }
 
 pub returns : goal.returns
@@ -70,4 +74,5 @@ returns c =
       own = come-own u v w o s r e t;
       spares = only-more stays_calm spares_part calm-spares u w out.only;
       numbers = come-numbers u v w o s r e t;
+      few = come-few u v w o s r e t;
     }

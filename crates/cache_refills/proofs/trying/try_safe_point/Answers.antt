@@ -1,4 +1,4 @@
-use Rattle.std.proofs.Common.{None, sym, ap, ◌∙◌, refl, subst}
+use Rattle.std.proofs.Common.{None, arith, sym, ap, ◌∙◌, refl, subst}
 use Rattle.mark_core.specs.declared.kinds.Step.TheVariants.{Observe}
 use Rattle.gc_table.specs.Seats.{view_of}
 use Rattle.gc_table.specs.declared.view.View.{View}
@@ -11,6 +11,8 @@ use Rattle.gc_cycle.proofs.Refills.Answered.{cached-still, polled-mutates}
 use Rattle.gc_cycle.proofs.Changes.{changes-after, gives-join, keeps-up, only-changes}
 use Rattle.gc_cycle.proofs.Refills.Collected.{calm-spares}
 use Rattle.cache_refills.proofs.Refills.Passed.{gone-full, gone-out, gone-past, stepped-out}
+use Rattle.gc_table.proofs.Running.{ran-join}
+use Rattle.gc_cycle.proofs.Few.{few-after, few-events, few-join}
 use Rattle.cache_refills.proofs.trying.try_safe_point.Goals as goal
 
 pub retire_some-requires-clause-seat : goal.retire_some-requires-clause-seat
@@ -45,6 +47,7 @@ returns-then-poll c =
           subst (λ k. GivesUp old k u x) (sym c.take.ensures.after)
           (gives-join old old None u v x (keeps-up old u v (changes-after u v Observe t.0 refl c.poll.ensures.ran t.1))
           (gives-join old None None v w x given (keeps-up None w x (only-changes w x o.out.ran o.numbers))));
+      few = few-join 1 5 u v x c.poll.ensures.ran (ran-join v w x r.ran o.out.ran) (few-after u v Observe t.0 t.1) (few-join 3 2 v w x r.ran o.out.ran r.few (few-events 2 w x _ o.left.1 (omega arith)));
     }
 
 pub goes_on-requires-clause-seat : goal.goes_on-requires-clause-seat
@@ -73,6 +76,7 @@ returns-then-goes_on c =
       out = o.0;
       spares = only-more stays_calm spares_part calm-spares u w o.0.only;
       numbers = gives-join old old new u v w (keeps-up old u v (changes-after u v Observe t.0 refl c.poll.ensures.ran t.1)) e.numbers;
+      few = few-join 1 5 u v w c.poll.ensures.ran e.ran (few-after u v Observe t.0 t.1) e.few;
     }
 
 pub returns : goal.returns
@@ -93,4 +97,5 @@ returns c =
       out = o.0;
       spares = only-more stays_calm spares_part calm-spares u w o.0.only;
       numbers = gives-join old old new u v w (keeps-up old u v (changes-after u v Observe t.0 refl c.poll.ensures.ran t.1)) e.numbers;
+      few = few-join 1 5 u v w c.poll.ensures.ran e.ran (few-after u v Observe t.0 t.1) e.few;
     }
