@@ -1,8 +1,10 @@
 mod Clearing
+mod Coming
 mod Done
 mod Few
 mod Fulls
-mod Leaving
+pub mod Leaving
 mod Naming
 pub mod Seats
+mod Taking
 mod Uncatalogued

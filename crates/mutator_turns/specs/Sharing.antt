@@ -1,8 +1,9 @@
 -- What one operation does in a heap whose objects are shared.
-use Rattle.std.specs.Prelude.{ℕ, ◌≡◌, ◌⊎◌, ◌<◌, Bool, true, false}
+use Rattle.std.specs.Prelude.{ℕ, ◌≡◌, ◌==◌, ◌⊎◌, ◌<◌, not, Bool, true, false}
+use Rattle.mark_core.specs.Numbers.{done_count}
 use Rattle.mark_core.specs.Steps.MutatorSteps.{seat_variable as word_in}
 use Rattle.mark_core.specs.declared.kinds.Step.{Step}
-use Rattle.mark_core.specs.declared.kinds.Step.TheVariants.{ExchangeField, ExchangeValue, StoreField, StoreNew, StoreRoot, StoreSlot, StoreValue}
+use Rattle.mark_core.specs.declared.kinds.Step.TheVariants.{AddStat, ExchangeField, ExchangeValue, StoreField, StoreNew, StoreRoot, StoreSlot, StoreValue}
 use Rattle.gc_table.specs.declared.view.View.{View}
 use Rattle.gc_table.specs.Log.{Only}
 use Rattle.gc_table.specs.Running.{Ran}
@@ -29,10 +30,16 @@ spares_heap (ExchangeValue v m n) = false
 spares_heap (StoreNew c part word) = false
 spares_heap step = true
 
--- what the seat did, no plain heap sees, and its variables are as they were
+-- the step counts no part that was played; by that number the tracers of a world are dismissed
+abbrev pub spares_tracers : Step → Bool
+spares_tracers (AddStat which by down) = not (which == done_count)
+spares_tracers step = true
+
+-- what the seat did, no plain heap sees, it dismissed no tracers, and its variables are as they were
 pub record LeavesHeap (v w : View) : Type 0 where
   pub ran : Ran v w
   pub only : Only spares_heap v w
+  pub tracers : Only spares_tracers v w
   pub words : w.state.env ≡ v.state.env
 
 -- the seat came to a free cell, of which the plain heap sees nothing, and then made an object in it

@@ -8,6 +8,7 @@ ghost use Rattle.gc_table.specs.Rule.{KnowsFull};
 ghost use Rattle.gc_table.specs.Running.{Ran};
 ghost use Rattle.gc_table.specs.Seats.{Across, did, view_of};
 ghost use Rattle.mutator_ops.specs.Few.{AtMost};
+ghost use Rattle.mutator_turns.specs.Coming.{CollectsAtTurn, CollectsNone, EntersFull, EntersTurn, GivesCache, GoesIn, LeavesTurn, PollsOutWith, PollsWith, StepsOut, WithOwn};
 ghost use Rattle.mutator_turns.specs.Halting.{LeftFull};
 ghost use Rattle.mutator_turns.specs.declared.refused.Refused.TheVariants as refusals;
 ghost use Rattle.mutator_turns.specs.Sharing.{LeavesHeap};
@@ -26,6 +27,7 @@ fn enter<R: Wait>(rt: &R, heap: &Heap, seat: &mut HeapSeat)
     ensures halts { Halts heap.now seat.new }
     ensures same { plain_of seat.new ≡ plain_of seat.old }
     ensures leaves { Across LeavesHeap seat.old seat.new }
+    ensures goes { Across GoesIn seat.old seat.new }
 {
     go_in(rt, heap, seat);
 }
@@ -39,6 +41,7 @@ pub fn leave(heap: &Heap, seat: &mut HeapSeat)
     ensures full { KnowsFull (view_of seat.old) → KnowsFull (view_of seat.new) }
     ensures ran { Across Ran seat.old seat.new }
     ensures few { Across (AtMost 2) seat.old seat.new }
+    ensures out { Across StepsOut seat.old seat.new }
 {
     let made = seat.state().made;
     go_out(heap, seat, made);
@@ -54,6 +57,7 @@ pub fn leave_full(heap: &Heap, seat: &mut HeapSeat) -> Refused
     ensures answer { result ≡ refusals.Full }
     ensures ran { Across Ran seat.old seat.new }
     ensures few { Across (AtMost 2) seat.old seat.new }
+    ensures out { Across StepsOut seat.old seat.new }
 {
     leave(heap, seat);
     Refused::Full
@@ -67,6 +71,7 @@ pub fn retire_own_cache(heap: &Heap, seat: &mut HeapSeat)
     ensures same { plain_of seat.new ≡ plain_of seat.old }
     ensures leaves { Across LeavesHeap seat.old seat.new }
     ensures ran { Across Ran seat.old seat.new }
+    ensures gives { Across (WithOwn GivesCache) seat.old seat.new }
 {
     let cache = cache_of(seat);
     retire_some(heap, seat, cache);
@@ -78,6 +83,7 @@ pub fn leave_turn(heap: &Heap, seat: &mut HeapSeat)
     ensures waits { IsMutatorOutside heap.now seat.new }
     ensures same { plain_of seat.new ≡ plain_of seat.old }
     ensures leaves { Across LeavesHeap seat.old seat.new }
+    ensures out { Across LeavesTurn seat.old seat.new }
 {
     retire_own_cache(heap, seat);
     leave(heap, seat);
@@ -97,6 +103,8 @@ fn come_to_turn<R: Wait>(
     ensures same { plain_of seat.new ≡ plain_of seat.old }
     ensures leaves { Across LeavesHeap seat.old seat.new }
     ensures ran { Across Ran seat.old seat.new }
+    ensures polls { IfOk result (λ _. Across (PollsWith cache) seat.old seat.new) }
+    ensures full { IfErr result (λ _. Across (PollsOutWith cache) seat.old seat.new) }
 {
     match pass(rt, heap, seat, cache) {
         Ok(kept) => {
@@ -114,6 +122,8 @@ pub fn enter_turn<R: Wait>(rt: &R, heap: &Heap, seat: &mut HeapSeat) -> Result<(
     ensures err { IfErr result (λ e. LeftFull e heap.now seat.new) }
     ensures same { plain_of seat.new ≡ plain_of seat.old }
     ensures leaves { Across LeavesHeap seat.old seat.new }
+    ensures enters { IfOk result (λ _. Across EntersTurn seat.old seat.new) }
+    ensures full { IfErr result (λ _. Across EntersFull seat.old seat.new) }
 {
     enter(rt, heap, seat);
     come_to_turn(rt, heap, seat, None)
@@ -126,6 +136,8 @@ pub fn pass_turn<R: Wait>(rt: &R, heap: &Heap, seat: &mut HeapSeat) -> Result<()
     ensures err { IfErr result (λ e. LeftFull e heap.now seat.new) }
     ensures same { plain_of seat.new ≡ plain_of seat.old }
     ensures leaves { Across LeavesHeap seat.old seat.new }
+    ensures polls { IfOk result (λ _. Across (WithOwn PollsWith) seat.old seat.new) }
+    ensures full { IfErr result (λ _. Across (WithOwn PollsOutWith) seat.old seat.new) }
 {
     let cache = cache_of(seat);
     come_to_turn(rt, heap, seat, cache)
@@ -138,6 +150,8 @@ pub fn collect_turn<R: Wait>(rt: &R, heap: &Heap, seat: &mut HeapSeat) -> Result
     ensures err { IfErr result (λ e. LeftFull e heap.now seat.new) }
     ensures same { plain_of seat.new ≡ plain_of seat.old }
     ensures leaves { Across LeavesHeap seat.old seat.new }
+    ensures collects { IfOk result (λ _. Across CollectsAtTurn seat.old seat.new) }
+    ensures none { IfErr result (λ _. Across CollectsNone seat.old seat.new) }
 {
     retire_own_cache(heap, seat);
     let made = seat.state().made;

@@ -1,17 +1,22 @@
 //! One operation of a mutator at its turn.
-ghost use Rattle.std.specs.Prelude.{◌≡◌, ◌<◌, ◌+◌, IfErr, IfOk, IsFalse, slice_index};
+ghost use Rattle.std.specs.Prelude.{ℕ, ◌≡◌, ◌<◌, ◌+◌, IfErr, IfOk, IsFalse, slice_index};
 ghost use Rattle.std.specs.Bool.{OnFalse, OnTrue};
 ghost use Rattle.std.specs.Int.Count.{ones};
 ghost use Rattle.mark_core.specs.Numbers.{section_variables};
 ghost use Rattle.plain_heap.specs.PlainHeap.{variable};
 ghost use Rattle.plain_heap.specs.declared.object.Ref.TheVariants.{Nil};
 ghost use Rattle.plain_heap.specs.declared.operation.Op.TheVariants as ops;
+ghost use Rattle.gc_table.specs.Log.{Only, steps_of};
 ghost use Rattle.gc_table.specs.Running.{Ran};
-ghost use Rattle.gc_table.specs.Seats.{Across, state_of, view_of};
+ghost use Rattle.gc_table.specs.Seats.{Across, did, state_of, view_of};
 ghost use Rattle.alloc_cache.specs.Caching.{IsCached};
 ghost use Rattle.mutator_ops.specs.Few.{AtMost};
+ghost use Rattle.mutator_ops.specs.Listing.{creating_steps};
+ghost use Rattle.mutator_turns.specs.Coming.{MakesAtTurn, MakesNoneAtTurn};
 ghost use Rattle.mutator_turns.specs.Halting.{MadeNone};
+ghost use Rattle.mutator_turns.specs.Operating.{TakesSteps};
 ghost use Rattle.mutator_turns.specs.Plain.{Steps, value_in};
+ghost use Rattle.mutator_turns.specs.Sharing.{spares_tracers};
 ghost use Rattle.mutator_turns.specs.Standing.{IsAtTurn, Plays, plain_of};
 
 use crate::gates::leave_full;
@@ -36,6 +41,8 @@ pub fn make_in(heap: &Heap, seat: &mut HeapSeat, cache: Cache, v: u8, value: u32
     ensures steps { Steps (ops.New v value) (plain_of seat.old) (plain_of seat.new) }
     ensures ran { Across Ran seat.old seat.new }
     ensures few { Across (AtMost (heap.now.shape.fields + 3)) seat.old seat.new }
+    ensures tracers { Across (Only spares_tracers) seat.old seat.new }
+    ensures takes { (cell : ℕ) × (steps_of (did seat.old seat.new) ≡ creating_steps heap.now.shape.fields (state_of seat.old) v value cell) }
 {
     let mut cache = cache;
     let Some(_cell) = create(heap, seat, &mut cache, v, value) else {
@@ -59,6 +66,10 @@ pub fn make_object<R: Wait, W: Watch>(
     requires range { v < section_variables }
     ensures ok { IfOk result (λ _. IsAtTurn heap.now seat.new × Steps (ops.New v value) (plain_of seat.old) (plain_of seat.new)) }
     ensures err { IfErr result (λ e. MadeNone e heap.now seat.new × (plain_of seat.new ≡ plain_of seat.old)) }
+    ensures ran { Across Ran seat.old seat.new }
+    ensures tracers { Across (Only spares_tracers) seat.old seat.new }
+    ensures made { IfOk result (λ _. Across (MakesAtTurn in_stops heap.now.shape v value) seat.old seat.new) }
+    ensures none { IfErr result (λ e. Across (MakesNoneAtTurn e in_stops heap.now.shape) seat.old seat.new) }
 {
     let cache = cache_of(seat);
     match come_to(rt, heap, seat, cache, in_stops, watch) {
@@ -79,6 +90,9 @@ pub fn set_field(heap: &Heap, seat: &mut HeapSeat, v: u8, i: u8, w: u8)
     ensures turn { IsAtTurn heap.now seat.new }
     ensures steps { Steps (ops.Set v i w) (plain_of seat.old) (plain_of seat.new) }
     ensures few { Across (AtMost 3) seat.old seat.new }
+    ensures ran { Across Ran seat.old seat.new }
+    ensures tracers { Across (Only spares_tracers) seat.old seat.new }
+    ensures takes { Across (TakesSteps (ops.Set v i w)) seat.old seat.new }
 {
     set(heap, seat, v, i, w);
 }
@@ -91,6 +105,9 @@ pub fn put_value(heap: &Heap, seat: &mut HeapSeat, v: u8, value: u32)
     ensures turn { IsAtTurn heap.now seat.new }
     ensures steps { Steps (ops.Put v value) (plain_of seat.old) (plain_of seat.new) }
     ensures few { Across (AtMost 2) seat.old seat.new }
+    ensures ran { Across Ran seat.old seat.new }
+    ensures tracers { Across (Only spares_tracers) seat.old seat.new }
+    ensures takes { Across (TakesSteps (ops.Put v value)) seat.old seat.new }
 {
     put(heap, seat, v, value);
 }
@@ -103,6 +120,9 @@ pub fn get_field(heap: &Heap, seat: &mut HeapSeat, w: u8, v: u8, i: u8)
     ensures turn { IsAtTurn heap.now seat.new }
     ensures steps { Steps (ops.Get w v i) (plain_of seat.old) (plain_of seat.new) }
     ensures few { Across (AtMost 2) seat.old seat.new }
+    ensures ran { Across Ran seat.old seat.new }
+    ensures tracers { Across (Only spares_tracers) seat.old seat.new }
+    ensures takes { Across (TakesSteps (ops.Get w v i)) seat.old seat.new }
 {
     follow(heap, seat, w, v, i);
 }
@@ -115,6 +135,9 @@ pub fn copy_variable(heap: &Heap, seat: &mut HeapSeat, w: u8, v: u8)
     ensures turn { IsAtTurn heap.now seat.new }
     ensures steps { Steps (ops.Let w v) (plain_of seat.old) (plain_of seat.new) }
     ensures few { Across (AtMost 1) seat.old seat.new }
+    ensures ran { Across Ran seat.old seat.new }
+    ensures tracers { Across (Only spares_tracers) seat.old seat.new }
+    ensures takes { Across (TakesSteps (ops.Let w v)) seat.old seat.new }
 {
     assign(heap, seat, w, v);
 }
@@ -127,6 +150,9 @@ pub fn forget_variable(heap: &Heap, seat: &mut HeapSeat, v: u8)
     ensures turn { IsAtTurn heap.now seat.new }
     ensures steps { Steps (ops.Nil v) (plain_of seat.old) (plain_of seat.new) }
     ensures few { Across (AtMost 1) seat.old seat.new }
+    ensures ran { Across Ran seat.old seat.new }
+    ensures tracers { Across (Only spares_tracers) seat.old seat.new }
+    ensures takes { Across (TakesSteps (ops.Nil v)) seat.old seat.new }
 {
     clear(heap, seat, v);
 }
@@ -140,6 +166,9 @@ pub fn read_value(heap: &Heap, seat: &mut HeapSeat, v: u8) -> Option<u32>
     ensures same { plain_of seat.new ≡ plain_of seat.old }
     ensures value { result ≡ value_in (plain_of seat.old) v }
     ensures few { Across (AtMost 1) seat.old seat.new }
+    ensures ran { Across Ran seat.old seat.new }
+    ensures tracers { Across (Only spares_tracers) seat.old seat.new }
+    ensures takes { Across (TakesSteps (ops.Say v)) seat.old seat.new }
 {
     match say(heap, seat, v) {
         Line::Value(value) => Some(value),

@@ -1,5 +1,5 @@
 //! A mutator comes to its turn, and to a cell to make an object in.
-ghost use Rattle.std.specs.Prelude.{◌≡◌, ◌<◌, Some, IfOk, IfErr};
+ghost use Rattle.std.specs.Prelude.{◌≡◌, ◌<◌, None, Some, IfOk, IfErr};
 ghost use Rattle.std.specs.Int.Count.{ones};
 ghost use Rattle.gc_table.specs.Log.{Only};
 ghost use Rattle.gc_cycle.specs.Answering.{retires};
@@ -7,6 +7,8 @@ ghost use Rattle.gc_table.specs.Running.{Ran};
 ghost use Rattle.gc_table.specs.Seats.{Across, state_of, view_of};
 ghost use Rattle.alloc_cache.specs.Caching.{IsCached};
 ghost use Rattle.gc_cycle.specs.Answering.{HasCache};
+ghost use Rattle.gc_cycle.specs.declared.counts.Refill.TheVariants as refills;
+ghost use Rattle.mutator_turns.specs.Coming.{ComesTo, ComesToNone, FillsOnce, FillsWith, GivesCache, LacksCell, Polls, RefillsBeside, RefillsInStops};
 ghost use Rattle.mutator_turns.specs.Halting.{EndsFullOrSpent, HaltsFull};
 ghost use Rattle.mutator_turns.specs.Sharing.{LeavesHeap};
 ghost use Rattle.mutator_turns.specs.Standing.{Halts, IsAtTurn, LacksFree, Plays, Works, plain_of};
@@ -31,6 +33,7 @@ pub fn retire_some(heap: &Heap, seat: &mut HeapSeat, cache: Option<Cache>)
     ensures same { plain_of seat.new ≡ plain_of seat.old }
     ensures leaves { Across LeavesHeap seat.old seat.new }
     ensures ran { Across Ran seat.old seat.new }
+    ensures gives { Across (GivesCache cache) seat.old seat.new }
 {
     gc_cycle::retire_some(heap, seat, cache);
 }
@@ -58,6 +61,8 @@ pub fn pass<R: Wait>(
     ensures same { plain_of seat.new ≡ plain_of seat.old }
     ensures leaves { Across LeavesHeap seat.old seat.new }
     ensures ran { Across Ran seat.old seat.new }
+    ensures polls { IfOk result (λ kept. Across (Polls cache kept) seat.old seat.new) }
+    ensures full { IfErr result (λ _. Across (Polls cache None) seat.old seat.new) }
 {
     let mut cache = cache;
     for _ in rt.forever() {
@@ -87,6 +92,8 @@ fn fill_beside<R: Wait, W: Watch>(
     ensures err { IfErr result (λ e. HaltsFull e heap.now seat.new) }
     ensures same { plain_of seat.new ≡ plain_of seat.old }
     ensures leaves { Across LeavesHeap seat.old seat.new }
+    ensures refilled { IfOk result (λ kept. Across (FillsWith (RefillsBeside heap.now.shape) kept) seat.old seat.new) }
+    ensures full { IfErr result (λ _. Across (RefillsBeside heap.now.shape refills.Full) seat.old seat.new) }
 {
     let made = seat.state().made;
     match refill_watched(rt, heap, seat, made, watch) {
@@ -107,6 +114,8 @@ fn fill_in_stops<R: Wait, W: Watch>(
     ensures err { IfErr result (λ e. HaltsFull e heap.now seat.new) }
     ensures same { plain_of seat.new ≡ plain_of seat.old }
     ensures leaves { Across LeavesHeap seat.old seat.new }
+    ensures refilled { IfOk result (λ kept. Across (FillsWith (RefillsInStops heap.now.shape) kept) seat.old seat.new) }
+    ensures full { IfErr result (λ _. Across (RefillsInStops heap.now.shape refills.Full) seat.old seat.new) }
 {
     let made = seat.state().made;
     match refill_in_stops(rt, heap, seat, made, watch) {
@@ -115,7 +124,7 @@ fn fill_in_stops<R: Wait, W: Watch>(
     }
 }
 
-/// Another cache, with a free cell: this one is given up, and the collector is paid for the next, or collects in stops alone.
+/// Another cache, with a free cell: this one, which has none, is given up, and the collector is paid for the next, or collects in stops alone.
 fn fill<R: Wait, W: Watch>(
     rt: &R,
     heap: &Heap,
@@ -126,10 +135,13 @@ fn fill<R: Wait, W: Watch>(
 ) -> Result<Option<Cache>, Refused>
     requires works { Works heap.now seat.old }
     requires cache { HasCache cache (view_of seat.old) }
+    requires lacks { LacksCell cache }
     ensures ok { IfOk result (λ kept. Works heap.now seat.new × HasCache kept (view_of seat.new)) }
     ensures err { IfErr result (λ e. HaltsFull e heap.now seat.new) }
     ensures same { plain_of seat.new ≡ plain_of seat.old }
     ensures leaves { Across LeavesHeap seat.old seat.new }
+    ensures fills { IfOk result (λ kept. Across (FillsWith (FillsOnce in_stops heap.now.shape cache) kept) seat.old seat.new) }
+    ensures full { IfErr result (λ _. Across (FillsOnce in_stops heap.now.shape cache refills.Full) seat.old seat.new) }
 {
     retire_some(heap, seat, cache);
     if in_stops {
@@ -144,6 +156,7 @@ pub fn with_free(cache: Option<Cache>) -> Result<Cache, Option<Cache>>
     ensures ok { IfOk result (λ free. (cache ≡ Some free) × (0 < ones free.cells)) }
     ensures lacks { IfErr result (λ none. LacksFree none) }
     ensures err { IfErr result (λ none. none ≡ cache) }
+    ensures lacks { IfErr result (λ none. LacksCell none) }
 {
     match cache {
         Some(cache) => {
@@ -175,6 +188,8 @@ pub fn come_to<R: Wait, W: Watch>(
     ensures err { IfErr result (λ e. EndsFullOrSpent e heap.now seat.new) }
     ensures same { plain_of seat.new ≡ plain_of seat.old }
     ensures leaves { Across LeavesHeap seat.old seat.new }
+    ensures comes { IfOk result (λ free. Across (ComesTo in_stops heap.now.shape cache (Some free)) seat.old seat.new) }
+    ensures none { IfErr result (λ e. Across (ComesToNone e in_stops heap.now.shape cache) seat.old seat.new) }
 {
     let mut cache = cache;
     for _ in rt.forever() {

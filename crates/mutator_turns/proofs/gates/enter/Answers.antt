@@ -28,3 +28,6 @@ returns-clause-same g c = kept-heap (view_of c.args.seat.now) (view_of c.go_in.n
 
 pub returns-clause-leaves : goal.returns-clause-leaves
 returns-clause-leaves g c = let e = c.go_in.ensures in leaves-spared (view_of c.args.seat.now) (view_of c.go_in.new.seat) e.entered.out.ran e.spares e.entered.out.seat
+
+pub returns-clause-goes : goal.returns-clause-goes
+returns-clause-goes g c = let e = c.go_in.ensures in record { entered = e.entered; numbers = e.numbers; offered = e.offered; helps = e.helps }

@@ -1,9 +1,13 @@
-use Rattle.std.proofs.Common.{arith}
+use Rattle.std.proofs.Common.{ℕ, ◌≡◌, [], ◌∷◌, ap, arith, subst}
 use Rattle.gc_table.specs.Seats.{view_of}
 use Rattle.mutator_turns.proofs.Fulls.{out-full}
 use Rattle.mutator_turns.proofs.Seats.{kept-heap, mutator-kept}
 use Rattle.mutator_turns.proofs.Leaving.{leaves-spared}
 use Rattle.mutator_ops.proofs.Few.{at-most-events}
+use Rattle.mark_core.specs.declared.seat.SeatState.{SeatState}
+use Rattle.mark_core.specs.declared.kinds.Step.TheVariants.{LeaveStep, StorePosition}
+use Rattle.gc_table.specs.Log.{event, events}
+use Rattle.gc_table.specs.declared.view.View.{View}
 use Rattle.mutator_turns.proofs.gates.leave.Goals as goal
 
 pub returns-clause-waits : goal.returns-clause-waits
@@ -25,3 +29,11 @@ returns-clause-leaves c = let e = c.go_out.ensures in leaves-spared (view_of c.a
 
 pub returns-clause-few : goal.returns-clause-few
 returns-clause-few c = at-most-events 2 (view_of c.args.seat.now) (view_of c.go_out.new.seat) _ c.go_out.ensures.left.1 (omega arith)
+
+pub returns-clause-out : goal.returns-clause-out
+returns-clause-out c =
+    let left = c.go_out.ensures.left in
+    let v : View = view_of c.args.seat.now in
+    let w : View = view_of c.go_out.new.seat in
+    let made : c.state.result.now.made ≡ v.state.made = ap (λ (s : SeatState). s.made) c.state.ensures in
+    (left.0, subst (λ (n : ℕ). events v w ≡ event (StorePosition n) n ∷ event LeaveStep left.0 ∷ []) made left.1)

@@ -3,6 +3,8 @@ use Rattle.plain_heap.specs.declared.operation.Op.TheVariants as ops
 use Rattle.mutator_turns.proofs.Done.{steps-does, turn-does, turn-ready}
 use Rattle.gc_table.specs.Seats.{view_of}
 use Rattle.mutator_ops.proofs.Few.{at-most-steps}
+use Rattle.mutator_turns.specs.Sharing.{spares_tracers}
+use Rattle.mutator_turns.proofs.Taking.{only-steps}
 use Rattle.mutator_turns.proofs.operations.forget_variable.Goals as goal
 
 pub clear-requires-clause-seat : goal.clear-requires-clause-seat
@@ -16,3 +18,12 @@ returns-clause-steps c = steps-does (ops.Nil c.args.v) 0 c.args.heap.now c.args.
 
 pub returns-clause-few : goal.returns-clause-few
 returns-clause-few c = at-most-steps 1 (view_of c.args.seat.now) (view_of c.clear.new.seat) _ c.clear.ensures.steps (omega arith)
+
+pub returns-clause-ran : goal.returns-clause-ran
+returns-clause-ran c = c.clear.ensures.does.ran
+
+pub returns-clause-tracers : goal.returns-clause-tracers
+returns-clause-tracers c = only-steps spares_tracers (view_of c.args.seat.now) (view_of c.clear.new.seat) _ c.clear.ensures.steps refl
+
+pub returns-clause-takes : goal.returns-clause-takes
+returns-clause-takes c = c.clear.ensures.steps

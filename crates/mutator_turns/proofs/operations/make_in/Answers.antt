@@ -3,6 +3,8 @@ use Rattle.std.proofs.Common.{◌+◌, arith, Some}
 use Rattle.mutator_turns.proofs.Done.{plays-creates, steps-creates}
 use Rattle.mutator_turns.proofs.Seats.{plays-turn, whole-cache}
 use Rattle.mutator_ops.proofs.Few.{at-most-steps, creating-long}
+use Rattle.mutator_turns.specs.Sharing.{spares_tracers}
+use Rattle.mutator_turns.proofs.Taking.{creating-spares, only-steps}
 use Rattle.mutator_turns.proofs.operations.make_in.Goals as goal
 
 pub returns-clause-turn : goal.returns-clause-turn
@@ -22,3 +24,11 @@ pub returns-clause-few : goal.returns-clause-few
 returns-clause-few c =
     let long = creating-long c.args.heap.now.shape.fields (view_of c.args.seat.now).state c.args.v c.args.value c.in-Some._cell in
     at-most-steps (c.args.heap.now.shape.fields + 3) (view_of c.args.seat.now) (view_of c.create.new.seat) _ c.in-Some.ensures.steps (omega (arith, long))
+
+pub returns-clause-tracers : goal.returns-clause-tracers
+returns-clause-tracers c =
+    let v = view_of c.args.seat.now in
+    only-steps spares_tracers v (view_of c.create.new.seat) _ c.in-Some.ensures.steps (creating-spares c.args.heap.now.shape.fields v.state c.args.v c.args.value c.in-Some._cell)
+
+pub returns-clause-takes : goal.returns-clause-takes
+returns-clause-takes c = (c.in-Some._cell, c.in-Some.ensures.steps)

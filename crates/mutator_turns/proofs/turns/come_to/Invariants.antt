@@ -1,6 +1,9 @@
-use Rattle.std.proofs.Common.{◌≡◌}
+use Rattle.std.proofs.Common.{◌≡◌, List, Option}
 use Rattle.gc_table.specs.Seats.{view_of}
 use Rattle.gc_cycle.specs.Answering.{HasCache}
+use Rattle.gc_table.specs.declared.view.View.{View}
+use Rattle.alloc_cache.specs.declared.cache.Cache.{Cache}
+use Rattle.mutator_turns.specs.Coming.{GoesRounds}
 use Rattle.mutator_turns.specs.Sharing.{LeavesHeap}
 use Rattle.mutator_turns.specs.Standing.{Works, plain_of}
 use Rattle.mutator_turns.proofs.turns.come_to.Given as goal
@@ -13,4 +16,5 @@ invariant-loop g l = record {
   cached : HasCache l.cache (view_of l.seat);
   same : plain_of l.seat ≡ plain_of l.fn.seat;
   leaves : LeavesHeap (view_of l.fn.seat) (view_of l.seat);
+  rounds : (moments : List (Option Cache × View)) × GoesRounds l.in_stops l.heap.shape moments l.fn.cache l.cache (view_of l.fn.seat) (view_of l.seat);
 }

@@ -1,6 +1,10 @@
 use Rattle.mutator_turns.proofs.Seats.{kept-works}
 use Rattle.gc_table.specs.Seats.{view_of}
 use Rattle.mutator_turns.proofs.Leaving.{leaves-filled}
+use Rattle.std.proofs.Common.{ℕ, ◌≡◌, ap, subst}
+use Rattle.mark_core.specs.declared.seat.SeatState.{SeatState}
+use Rattle.gc_cycle.specs.declared.counts.Refill.TheVariants as refills
+use Rattle.cache_refills.specs.InStops.{FillsTo}
 use Rattle.mutator_turns.proofs.turns.fill_in_stops.Goals as goal
 
 pub returns-in-Cache-clause-ok : goal.returns-in-Cache-clause-ok
@@ -18,3 +22,26 @@ returns-in-Cache-clause-leaves g c = let r = c.in-Cache.ensures in leaves-filled
 
 pub returns-in-Full-clause-leaves : goal.returns-in-Full-clause-leaves
 returns-in-Full-clause-leaves g c = let r = c.in-Full.ensures in leaves-filled (view_of c.args.seat.now) (view_of c.refill_in_stops.new.seat) r.ran r.only r.keeps.0
+
+pub returns-in-Cache-clause-refilled : goal.returns-in-Cache-clause-refilled
+returns-in-Cache-clause-refilled g c =
+    let r = c.in-Cache.ensures in
+    let made : c.state.result.now.made ≡ (view_of c.args.seat.now).state.made = ap (λ (s : SeatState). s.made) c.state.ensures in (
+      c.in-Cache._paid,
+      record {
+        ran = r.ran;
+        fills = subst (λ (n : ℕ). FillsTo (refills.Cache c.in-Cache.cache c.in-Cache._paid) n (view_of c.args.seat.now) (view_of c.refill_in_stops.new.seat)) made r.fills;
+        stops = r.stops;
+        again = r.again;
+        full = r.full;
+        unbegun = r.unbegun;
+        only = r.only;
+        numbers = r.numbers;
+      },
+    )
+
+pub returns-in-Full-clause-full : goal.returns-in-Full-clause-full
+returns-in-Full-clause-full g c =
+    let r = c.in-Full.ensures in
+    let made : c.state.result.now.made ≡ (view_of c.args.seat.now).state.made = ap (λ (s : SeatState). s.made) c.state.ensures in
+    record { ran = r.ran; fills = subst (λ (n : ℕ). FillsTo refills.Full n (view_of c.args.seat.now) (view_of c.refill_in_stops.new.seat)) made r.fills; stops = r.stops; again = r.again; full = r.full; unbegun = r.unbegun; only = r.only; numbers = r.numbers }

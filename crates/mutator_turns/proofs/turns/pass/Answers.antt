@@ -1,10 +1,12 @@
-use Rattle.std.proofs.Common.{◌∙◌, refl}
+use Rattle.std.proofs.Common.{◌∙◌, refl, None}
 use Rattle.gc_table.specs.Seats.{view_of}
 use Rattle.gc_cycle.specs.Answering.{HasCache}
 use Rattle.mutator_turns.specs.Standing.{Plays, Works}
 use Rattle.gc_table.proofs.Running.{ran-join, ran-refl}
 use Rattle.mutator_turns.proofs.Seats.{first-turn, going-seen, kept-heap, kept-works, looks-cached, looks-heap, looks-ran, looks-seen, looks-works, plays-turn, whole-cache, works-ready}
 use Rattle.mutator_turns.proofs.Leaving.{leaves-join, leaves-looked, leaves-none, leaves-spared}
+use Rattle.mutator_turns.specs.Coming.{Polls}
+use Rattle.mutator_turns.proofs.Coming.{calm-join, calm-looked, calm-none, polls-after, polls-before}
 use Rattle.mutator_turns.proofs.turns.pass.Goals as goal
 
 pub returns-in-Full-clause-err : goal.returns-in-Full-clause-err
@@ -72,6 +74,9 @@ loop-preserved g c =
       leaves =
           leaves-join (view_of c.args.seat.now) (view_of x) (view_of z) c.loop.invariant.leaves
           (leaves-join (view_of x) (view_of y) (view_of z) (leaves-spared (view_of x) (view_of y) s.ran s.spares s.keeps.0) (leaves-looked (view_of y) (view_of z) t.looks));
+      quiet =
+          calm-join c.args.cache c.loop.cache c.in-Going.kept (view_of c.args.seat.now) (view_of x) (view_of z) c.loop.invariant.quiet
+          (calm-join c.loop.cache c.in-Going.kept c.in-Going.kept (view_of x) (view_of y) (view_of z) (record { calm = s.calm; not_full = s.not_full; numbers = c.in-Going.ensures.numbers }) (calm-looked c.in-Going.kept (view_of y) (view_of z) t.looks));
     }
 
 pub returns-in-Full-clause-leaves : goal.returns-in-Full-clause-leaves
@@ -88,4 +93,20 @@ returns-then-is_turn-clause-leaves g c =
     leaves-join (view_of c.args.seat.now) x z c.loop.invariant.leaves (leaves-join x y z (leaves-spared x y s.ran s.spares s.keeps.0) (leaves-looked y z c.is_turn.ensures.looks))
 
 pub loop-init : goal.loop-init
-loop-init g c = record { next = tt; finite = tt; works = c.requires.works; cached = c.requires.cache; same = refl; ran = ran-refl (view_of c.args.seat.now); leaves = leaves-none (view_of c.args.seat.now) }
+loop-init g c = record { next = tt; finite = tt; works = c.requires.works; cached = c.requires.cache; same = refl; ran = ran-refl (view_of c.args.seat.now); leaves = leaves-none (view_of c.args.seat.now); quiet = calm-none c.args.cache (view_of c.args.seat.now) }
+
+pub returns-in-Full-clause-full : goal.returns-in-Full-clause-full
+returns-in-Full-clause-full g c =
+    let s = c.safe_point.ensures in
+    polls-after c.args.cache c.loop.cache None (view_of c.args.seat.now) (view_of c.loop.seat) (view_of c.safe_point.new.seat) c.loop.invariant.quiet
+    (record { polled = s.polled; calm = s.calm; not_full = s.not_full; numbers = c.in-Full.ensures.numbers })
+
+pub returns-then-is_turn-clause-polls : goal.returns-then-is_turn-clause-polls
+returns-then-is_turn-clause-polls g c =
+    let x = view_of c.loop.seat in
+    let y = view_of c.safe_point.new.seat in
+    let z = view_of c.is_turn.new.seat in
+    let s = c.safe_point.ensures in
+    let kept = c.in-Going.kept in
+    let here : Polls c.loop.cache kept x y = record { polled = s.polled; calm = s.calm; not_full = s.not_full; numbers = c.in-Going.ensures.numbers } in
+    polls-after c.args.cache c.loop.cache kept (view_of c.args.seat.now) x z c.loop.invariant.quiet (polls-before c.loop.cache kept kept x y z here (calm-looked kept y z c.is_turn.ensures.looks))

@@ -4,6 +4,7 @@ use Rattle.gc_table.specs.Seats.{view_of}
 use Rattle.gc_cycle.specs.Answering.{HasCache}
 use Rattle.mutator_turns.specs.Sharing.{LeavesHeap}
 use Rattle.mutator_turns.specs.Standing.{Works, plain_of}
+use Rattle.mutator_turns.proofs.Coming.{Calm}
 use Rattle.mutator_turns.proofs.turns.pass.Given as goal
 
 abbrev pub invariant-loop : goal.invariant-loop
@@ -15,4 +16,5 @@ invariant-loop g l = record {
   same : plain_of l.seat ≡ plain_of l.fn.seat;
   ran : Ran (view_of l.fn.seat) (view_of l.seat);
   leaves : LeavesHeap (view_of l.fn.seat) (view_of l.seat);
+  quiet : Calm l.fn.cache l.cache (view_of l.fn.seat) (view_of l.seat);
 }

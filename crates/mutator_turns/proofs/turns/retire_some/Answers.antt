@@ -10,3 +10,6 @@ returns-clause-halts c =
 
 pub returns-clause-leaves : goal.returns-clause-leaves
 returns-clause-leaves c = let e = c.retire_some.ensures in leaves-retired (view_of c.args.seat.now) (view_of c.retire_some.new.seat) e.ran e.only e.state
+
+pub returns-clause-gives : goal.returns-clause-gives
+returns-clause-gives c = let e = c.retire_some.ensures in record { ran = e.ran; only = e.only; numbers = e.numbers }
