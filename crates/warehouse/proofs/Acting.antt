@@ -11,6 +11,7 @@ use Rattle.packet_pools.specs.Counts.{count_of}
 use Rattle.warehouse.specs.Playing.{Acts, DoesNothing, counts_part}
 use Rattle.gc_cycle.specs.Sorts.{ends_cycle, stores_new, polls, raises_flag}
 use Rattle.cache_refills.specs.Stops.{may_stop, stops_without_cause}
+use Rattle.warehouse.proofs.Pacing.{paces-join}
 use Rattle.warehouse.proofs.Storing.{stored-join}
 use Rattle.warehouse.proofs.Seen.{never-join}
 
@@ -55,6 +56,7 @@ acts-join season a b c a' b' c' A B C u v w x y p q r =
       stored = stored-join season u v w x.ran y.ran x.stored y.stored;
       uncounted = never-join counts_part u v w x.ran y.ran x.uncounted y.uncounted;
       seasons = y.seasons ∙ x.seasons;
+      paced = paces-join u v w x.paced y.paced;
     }
 
 -- waiting after waiting

@@ -13,6 +13,7 @@ use Rattle.packet_pools.specs.Seeking.{some_event}
 use Rattle.alloc_cache.specs.Claiming.{seeks_block}
 use Rattle.gc_cycle.specs.Cycles.{collects}
 use Rattle.gc_cycle.specs.Events.{Sort, each_after, followed_by, front}
+use Rattle.warehouse.specs.Pacing.{Paces}
 use Rattle.warehouse.specs.Playing.{Acts, DoesNothing}
 use Rattle.gc_cycle.specs.Sorts.{begins_exactly, ends_cycle, stores_new, raises_flag, reads_phase, sees_all_empty, sees_last_card, mutator_stores}
 use Rattle.mark_core.specs.Layout.{card_count}
@@ -78,8 +79,8 @@ fills_stores : (v w : View) → Only fills_part v w → Only stores_none v w
 fills_stores v w o = only-more fills_part stores_none fills-stores v w o
 
 -- a call that stops the world for cause alone
-pub waits-caused : (v w : View) → Ran v w → Only fills_part v w → stops_with_cause v.shape (events v w) ≡ true → DoesNothing v w
-waits-caused v w ran only h season =
+pub waits-caused : (v w : View) → Ran v w → Only fills_part v w → stops_with_cause v.shape (events v w) ≡ true → Paces v w → DoesNothing v w
+waits-caused v w ran only h paced season =
     let none : all_steps stores_none (events v w) ≡ true = fills_stores v w only in
     record {
       ran = ran;
@@ -92,6 +93,7 @@ waits-caused v w ran only h season =
       stored = stored-none season (events v w) v none;
       uncounted = fills-uncounted (events v w) only;
       seasons = fills-seasons v w ran only;
+      paced = paced;
     }
 
 -- there are no more stops without cause than stops
@@ -114,8 +116,8 @@ ended f g (e ∷ es) h =
     (⊎_elim (λ a. (and_parts (f e.step e.found) (some_event g es) a).1) (λ a. ended f g es a) (or_cases (f e.step e.found && some_event g es) (followed_by f g es) h))
 
 -- a collection that stopped the world once at most
-pub acts-collect : (season : ℕ) (v w : View) → Ran v w → Only spares_part v w → collects (events v w) ≡ true → count_of raises_flag (events v w) ≤ 1 → Acts season 0 1 1 v w
-acts-collect season v w ran only c once =
+pub acts-collect : (season : ℕ) (v w : View) → Ran v w → Only spares_part v w → collects (events v w) ≡ true → count_of raises_flag (events v w) ≤ 1 → Paces v w → Acts season 0 1 1 v w
+acts-collect season v w ran only c once paced =
     let fills : Only fills_part v w = only-more spares_part fills_part spares-fills v w only in
     record {
       ran = ran;
@@ -125,11 +127,12 @@ acts-collect season v w ran only c once =
       stored = stored-none season (events v w) v (fills_stores v w fills);
       uncounted = fills-uncounted (events v w) fills;
       seasons = fills-seasons v w ran fills;
+      paced = paced;
     }
 
 -- one that found the heap full
-pub acts-asked : (season : ℕ) (v w : View) → Ran v w → Only spares_part v w → count_of raises_flag (events v w) ≤ 1 → Acts season 0 0 1 v w
-acts-asked season v w ran only once =
+pub acts-asked : (season : ℕ) (v w : View) → Ran v w → Only spares_part v w → count_of raises_flag (events v w) ≤ 1 → Paces v w → Acts season 0 0 1 v w
+acts-asked season v w ran only once paced =
     let fills : Only fills_part v w = only-more spares_part fills_part spares-fills v w only in
     record {
       ran = ran;
@@ -139,4 +142,5 @@ acts-asked season v w ran only once =
       stored = stored-none season (events v w) v (fills_stores v w fills);
       uncounted = fills-uncounted (events v w) fills;
       seasons = fills-seasons v w ran fills;
+      paced = paced;
     }

@@ -23,6 +23,7 @@ use Rattle.play_end.specs.Playing.{drops}
 use Rattle.play_end.proofs.Commands.{still-does}
 use Rattle.gc_cycle.specs.Answering.{Collects, CollectsTo, EndsFull, HasCache}
 use Rattle.warehouse.specs.Commands.{DoesOne, MayDo, StopsBefore}
+use Rattle.warehouse.specs.Pacing.{Paces}
 use Rattle.warehouse.specs.Playing.{Acts, IsPlaying, Stays, DoesNothing, collects_by, player_of}
 use Rattle.gc_cycle.specs.Sorts.{raises_flag}
 use Rattle.gc_cycle.specs.Sparing.{spares_part}
@@ -64,7 +65,7 @@ counted_up m s = record m { seat = s; count = m.count + 1 }
 module _
     (h : Heap) (p : Parts) (e : Execution) (m : Mutator) (cache : Option Cache) (s t : HeapSeat) (is : e.op ≡ ops.Collect) (playing : IsPlaying h p cache m) (may : MayDo p e m) (sits : Sits h t)
     (waits : DoesNothing (view_of m.seat) (view_of s)) (stays : Stays (view_of m.seat) (view_of s)) (ran : Ran (view_of s) (view_of t)) (spares : Only spares_part (view_of s) (view_of t))
-    (keeps : KeepsSeat (view_of s) (view_of t)) (once : count_of raises_flag (events (view_of s) (view_of t)) ≤ 1) where
+    (keeps : KeepsSeat (view_of s) (view_of t)) (once : count_of raises_flag (events (view_of s) (view_of t)) ≤ 1) (paced : Paces (view_of s) (view_of t)) where
   both_stay : Stays (view_of m.seat) (view_of t)
   both_stay = stays-join (view_of m.seat) (view_of s) (view_of t) stays (stays-spared (view_of s) (view_of t) ran spares keeps)
 
@@ -103,7 +104,7 @@ module _
             };
         acts = λ season read.
             subst (λ n. Acts season 0 n n (view_of m.seat) (view_of t)) (sym (one_collect e is))
-            (acts-join season 0 0 0 0 1 1 0 1 1 (view_of m.seat) (view_of s) (view_of t) (waits season) (acts-collect season (view_of s) (view_of t) ran spares k.1.collected once) (omega arith) (omega arith) (omega arith));
+            (acts-join season 0 0 0 0 1 1 0 1 1 (view_of m.seat) (view_of s) (view_of t) (waits season) (acts-collect season (view_of s) (view_of t) ran spares k.1.collected once paced) (omega arith) (omega arith) (omega arith));
       }
 
   pub collects-full : EndsFull m.count (view_of s) (view_of t) → KnowsFull (view_of t) → StopsBefore h p e m (moved m t)
@@ -117,5 +118,5 @@ module _
         found = λ full. inl (sym both_stay.still.full ∙ full);
         acts = λ season.
             subst (λ n. Acts season 0 0 n (view_of m.seat) (view_of t)) (sym (one_collect e is))
-            (acts-join season 0 0 0 0 0 1 0 0 1 (view_of m.seat) (view_of s) (view_of t) (waits season) (acts-asked season (view_of s) (view_of t) ran spares once) (omega arith) (omega arith) (omega arith));
+            (acts-join season 0 0 0 0 0 1 0 0 1 (view_of m.seat) (view_of s) (view_of t) (waits season) (acts-asked season (view_of s) (view_of t) ran spares once paced) (omega arith) (omega arith) (omega arith));
       }

@@ -117,7 +117,7 @@ module _ (h : Heap) (p : Parts) (turn : ℕ) (e : Execution) (m : Mutator) (s : 
       wider : (season : ℕ) → Acts season 0 0 c (view_of m.seat) (view_of s)
       wider season =
           let a = k.acts season in
-          record { ran = a.ran; polled = a.polled; collected = a.collected; stopped = λ since. let q : _ ≤ 0 = a.stopped since in omega (arith, q); stored = a.stored; uncounted = a.uncounted; seasons = a.seasons }
+          record { ran = a.ran; polled = a.polled; collected = a.collected; stopped = λ since. let q : _ ≤ 0 = a.stopped since in omega (arith, q); stored = a.stored; uncounted = a.uncounted; seasons = a.seasons; paced = a.paced }
 
 -- where it makes an object, it is `new`
 pub makes-new : (op : Op) → makes_object op ≡ true → IsNew op

@@ -12,7 +12,7 @@ use Rattle.gc_table.specs.Seats.{Found}
 use Rattle.gc_table.specs.declared.view.Entry.{Entry}
 use Rattle.gc_table.specs.declared.view.View.{View}
 use Rattle.gc_table.proofs.History.Log.{events-after, only-after}
-use Rattle.gc_table.proofs.Running.{ran-events, ran-found, ran-refl}
+use Rattle.gc_table.proofs.Running.{ran-events, ran-found, ran-only, ran-refl}
 use Rattle.packet_pools.specs.Seeking.{some_event}
 use Rattle.packet_pools.proofs.Searches.{some-left, some-right}
 use Rattle.gc_cycle.specs.Answering.{GoesOn, TellsFull}
@@ -20,6 +20,7 @@ use Rattle.gc_cycle.specs.Mutating.{stays_calm, tries_stopping}
 use Rattle.gc_cycle.specs.Polling.{poll_found_stop, saw_full}
 use Rattle.gc_cycle.specs.Sorts.{polls, reads_phase}
 use Rattle.gc_cycle.specs.Standing.{Mutates}
+use Rattle.gc_cycle.specs.Statistics.{leaves_numbers}
 use Rattle.gc_cycle.proofs.Refills.Answered.{polled-mutates}
 use Rattle.gc_cycle.proofs.Refills.KnownFull.{goes-on, mutates-still, tells-more, tells-none}
 use Rattle.gc_cycle.proofs.SectionKept.{goes-out, out-join}
@@ -36,6 +37,7 @@ module _ (n : ℕ) (u v : View) (polled : Found Observe n u v) (mutates : Mutate
   poll-glances =
       record {
         out = goes-out u v poll_ran (only-after stays_calm u v Observe n refl polled.0);
+        numbers = only-after leaves_numbers u v Observe n refl polled.0;
         polled = ap (some_event polls) (events-after u v Observe n polled.0);
         cache = ap (λ (x : View). x.state.cache) polled.0;
       }
@@ -56,6 +58,7 @@ module _ (n : ℕ) (u v : View) (polled : Found Observe n u v) (mutates : Mutate
     glances =
         record {
           out = out-join u v w poll-glances.out (goes-out v w read_ran (only-after stays_calm v w ReadPhase m refl read.0));
+          numbers = ran-only leaves_numbers u v w poll_ran read_ran poll-glances.numbers (only-after leaves_numbers v w ReadPhase m refl read.0);
           polled = ap (some_event polls) (ran-events u v w poll_ran read_ran) ∙ some-left polls (events u v) (events v w) poll-glances.polled;
           cache = ap (λ (x : View). x.state.cache) read.0 ∙ poll-glances.cache;
         }

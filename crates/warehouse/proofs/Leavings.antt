@@ -16,6 +16,7 @@ use Rattle.play_end.specs.Playing.{moves_phase}
 use Rattle.play_end.proofs.FullKnown.{full-kept}
 use Rattle.warehouse.specs.Commands.{Leaves}
 use Rattle.gc_cycle.specs.Events.{never}
+use Rattle.warehouse.specs.Pacing.{Paces}
 use Rattle.warehouse.specs.Playing.{Acts, Stays, DoesNothing, counts_part}
 use Rattle.gc_cycle.specs.Sorts.{ends_cycle, polls, raises_flag}
 use Rattle.mark_core.specs.Numbers.{done_count}
@@ -24,6 +25,7 @@ use Rattle.cache_refills.specs.Stops.{stops_without_cause}
 use Rattle.warehouse.specs.Storing.{stores_in}
 use Rattle.packet_pools.specs.Seeking.{some_event}
 use Rattle.warehouse.proofs.Acting.{stops-both}
+use Rattle.warehouse.proofs.Pacing.{paces-counted, paces-join}
 use Rattle.warehouse.proofs.Seen.{none-count}
 use Rattle.warehouse.proofs.Sparings.{waits-calm}
 use Rattle.warehouse.proofs.Storing.{stored-join}
@@ -37,10 +39,11 @@ leaves-waits v w waits =
       stored = λ season. (waits season).stored;
       counted = none-count counts_part (events v w) (not-true (some_event counts_part (events v w)) (waits 0).uncounted);
       seasons = (waits 0).seasons;
+      paced = (waits 0).paced;
     }
 
-pub leaves-calm : (v w : View) → Ran v w → Only spares_part v w → never raises_flag (events v w) ≡ true → Leaves 0 v w
-leaves-calm v w ran only b = leaves-waits v w (waits-calm v w ran only b)
+pub leaves-calm : (v w : View) → Ran v w → Only spares_part v w → never raises_flag (events v w) ≡ true → Paces v w → Leaves 0 v w
+leaves-calm v w ran only b paced = leaves-waits v w (waits-calm v w ran only b paced)
 
 pub leaves-join : (a b n : ℕ) (u v w : View) → Leaves a u v → Leaves b v w → a + b ≡ n → Leaves n u w
 leaves-join a b n u v w x y sum =
@@ -55,6 +58,7 @@ leaves-join a b n u v w x y sum =
       stored = λ season. stored-join season u v w x.ran y.ran (x.stored season) (y.stored season);
       counted = ap (count_of counts_part) both ∙ count-join counts_part (events u v) (events v w) ∙ total;
       seasons = y.seasons ∙ x.seasons;
+      paced = paces-join u v w x.paced y.paced;
     }
   where
     both : events u w ≡ events u v ++ events v w
@@ -83,6 +87,7 @@ module _ (v w : View) (took : Took (AddStat done_count 1 false) v w) where
         stored = λ season. ap (λ (es : List Entry). stores_in season v es) one;
         counted = ap (λ (es : List Entry). count_of counts_part es) one;
         seasons = ap (λ (x : View). x.own.seasons) took.1.0;
+        paced = paces-counted v w took;
       }
 
 -- what a mutator knows of a full heap it knows when it has left
@@ -99,6 +104,7 @@ pub record Told (season commands collects stops times : ℕ) (v w : View) : Type
   pub stored : stores_in season v (events v w) ≡ true
   pub counted : count_of counts_part (events v w) ≡ times
   pub seasons : w.own.seasons ≡ v.own.seasons
+  pub paced : Paces v w
 
 pub told-left : (season n c s times : ℕ) (u v w : View) → Acts season n c s u v → Leaves times v w → Told season n c s times u w
 told-left season n c s times u v w x y =
@@ -115,6 +121,7 @@ told-left season n c s times u v w x y =
       stored = stored-join season u v w x.ran y.ran x.stored (y.stored season);
       counted = ap (count_of counts_part) both ∙ count-join counts_part (events u v) (events v w) ∙ omega (arith, none, y.counted);
       seasons = y.seasons ∙ x.seasons;
+      paced = paces-join u v w x.paced y.paced;
     }
   where
     both : events u w ≡ events u v ++ events v w

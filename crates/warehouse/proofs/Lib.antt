@@ -24,5 +24,7 @@ pub mod Turned
 pub mod Settling
 pub mod Absent
 pub mod CommandEnds
+pub mod Pacing
+pub mod PacedTurns
 pub mod Sparings
 pub mod Glances

@@ -18,6 +18,7 @@ use Rattle.warehouse.specs.Playing.{Acts, collects_by}
 use Rattle.gc_cycle.specs.Standing.{Mutates}
 use Rattle.warehouse.proofs.Others.{stops-none, printed-more}
 use Rattle.warehouse.proofs.Counting.{command-seasons, command-uncounted}
+use Rattle.warehouse.proofs.Pacing.{paces-command}
 use Rattle.warehouse.proofs.Storing.{stored-turn}
 use Rattle.warehouse.proofs.Turning.{is_of_command, of-command}
 
@@ -49,6 +50,7 @@ acts-new e u n cell v w is k season read =
       stored = stored-turn season (events v w) v all read;
       uncounted = command-uncounted (events v w) all;
       seasons = command-seasons v w k.ran all;
+      paced = paces-command v w k.ran all;
     }
 
 pub made-new : (e : Execution) (u n : ℕ) (later : List Execution) → e.op ≡ ops.New u n → made_by (e ∷ later) ≡ 1 + made_by later

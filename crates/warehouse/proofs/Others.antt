@@ -30,6 +30,7 @@ use Rattle.gc_cycle.specs.Sorts.{stores_new, raises_flag}
 use Rattle.gc_cycle.specs.Standing.{Mutates, is_at_rest}
 use Rattle.cache_refills.specs.Stops.{may_stop, stops_without_cause}
 use Rattle.warehouse.proofs.Counting.{command-seasons, command-uncounted}
+use Rattle.warehouse.proofs.Pacing.{paces-command}
 use Rattle.warehouse.proofs.Storing.{stored-turn}
 use Rattle.warehouse.proofs.Turning.{is_of_command, of-command}
 
@@ -94,6 +95,7 @@ acts-other e d v w other k season read =
       stored = stored-turn season (events v w) v all read;
       uncounted = command-uncounted (events v w) all;
       seasons = command-seasons v w k.ran all;
+      paced = paces-command v w k.ran all;
     }
 
 -- it makes no object

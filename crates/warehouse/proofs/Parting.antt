@@ -139,6 +139,7 @@ module _
                 all = done_count;
                 counted = t.counted;
                 stored = t.stored;
+                paced = t.paced;
                 unfilled = unfilled (view_of x.seat) (view_of w.seat) t.ran (done_plays may.sections may.of may.before).played.found_room;
               };
         }
@@ -205,6 +206,7 @@ module _
                     };
                 counted = t.counted;
                 stored = t.stored;
+                paced = t.paced;
               };
         }
       where

@@ -24,6 +24,7 @@ use Rattle.gc_cycle.specs.Answering.{GoesOn, HasCache, later_or, last_phase, pha
 use Rattle.gc_cycle.specs.Events.{never}
 use Rattle.cache_refills.specs.PartEvents.{polled_last}
 use Rattle.seat_turns.specs.Turning.{LooksAtSeason}
+use Rattle.warehouse.specs.Pacing.{Paces}
 use Rattle.warehouse.specs.Playing.{Acts, GetsReady, ObjectsHaveCells, IsInTurn, Stays, DoesNothing, counts_part}
 use Rattle.gc_cycle.specs.Polling.{saw_full}
 use Rattle.gc_cycle.specs.Sorts.{stores_new, polls, raises_flag, reads_phase, mutator_stores}
@@ -33,6 +34,7 @@ use Rattle.cache_refills.specs.Stops.{stops_without_cause}
 use Rattle.warehouse.proofs.Acting.{acts-join, waits-join}
 use Rattle.warehouse.proofs.Fulls.{counted-kept}
 use Rattle.warehouse.proofs.Others.{has-cache}
+use Rattle.warehouse.proofs.Pacing.{paces-after}
 use Rattle.warehouse.proofs.Seen.{last-right, last-some, some-count}
 use Rattle.warehouse.proofs.Sparings.{spares-stores, stays-join, stays-none, stays-spared, waits-calm, waits-none}
 use Rattle.warehouse.proofs.Storing.{stored-none, stores_none, writes-none}
@@ -110,6 +112,7 @@ module _ (n : ℕ) (w x : View) (found : Found ReadSeason n w x) where
         stored = stored-none season (events w x) w season_spares;
         uncounted = ap (λ (es : List Entry). never counts_part es) one;
         seasons = ap (λ (y : View). y.own.seasons) found.0;
+        paced = paces-after ReadSeason n w x refl refl season_ran found.0;
       }
 
   season_cache : (kept : Option Cache) → HasCache kept w → HasCache kept x
@@ -204,15 +207,15 @@ polled-read v w x r s a b h =
 pub acts-polled : (v w : View) → DoesNothing v w → some_event polls (events v w) ≡ true → (season : ℕ) → Acts season 1 0 0 v w
 acts-polled v w a h season =
     let k = a season in
-    record { ran = k.ran; polled = some-count polls (events v w) h; collected = omega arith; stopped = k.stopped; stored = k.stored; uncounted = k.uncounted; seasons = k.seasons }
+    record { ran = k.ran; polled = some-count polls (events v w) h; collected = omega arith; stopped = k.stopped; stored = k.stored; uncounted = k.uncounted; seasons = k.seasons; paced = k.paced }
 
 -- so a safe point and the season make ready, where it is the turn
 pub reads-ready :
-    (turn : ℕ) (kept : Option Cache) (v w x : View) → IsFalse v.shape.sharing → Ran v w → Only spares_part v w → never raises_flag (events v w) ≡ true → KeepsSeat v w → some_event polls (events v w) ≡ true → GoesOn v w → HasCache kept w → ObjectsHaveCells v
+    (turn : ℕ) (kept : Option Cache) (v w x : View) → IsFalse v.shape.sharing → Ran v w → Only spares_part v w → never raises_flag (events v w) ≡ true → KeepsSeat v w → some_event polls (events v w) ≡ true → Paces v w → GoesOn v w → HasCache kept w → ObjectsHaveCells v
     → has_turn v.state.section (Some turn) ≡ true → LooksAtSeason w x → x.state.season_seen ≡ Some turn → GetsReady turn kept v x
-reads-ready turn kept v w x owned ran spares calm keeps poll goes cached counted t looks is =
+reads-ready turn kept v w x owned ran spares calm keeps poll paced goes cached counted t looks is =
     let stays = stays-join v w x (stays-spared v w ran spares keeps) (looks-stays w x looks) in
-    let waits = waits-join v w x (waits-calm v w ran spares calm) (looks-waits w x looks) in
+    let waits = waits-join v w x (waits-calm v w ran spares calm paced) (looks-waits w x looks) in
     let later : Ran w x = looks-ran w x looks in
     let polled = ap (some_event polls) (ran-events v w x ran later) ∙ some-left polls (events v w) (events w x) poll in
     let mutates = looks-mutates w x looks goes.mutates in
@@ -241,4 +244,4 @@ ready-after turn kept u v w stays waits k =
 
 -- what made it ready was a wait too
 pub ready-waits : (turn : ℕ) (kept : Option Cache) (v w : View) → GetsReady turn kept v w → DoesNothing v w
-ready-waits turn kept v w k = λ season. let a = k.acts season in record { ran = a.ran; polled = omega arith; collected = omega arith; stopped = a.stopped; stored = a.stored; uncounted = a.uncounted; seasons = a.seasons }
+ready-waits turn kept v w k = λ season. let a = k.acts season in record { ran = a.ran; polled = omega arith; collected = omega arith; stopped = a.stopped; stored = a.stored; uncounted = a.uncounted; seasons = a.seasons; paced = a.paced }

@@ -1,5 +1,5 @@
 -- Giving a cache up leaves the part that is played.
-use Rattle.std.proofs.Common.{ℕ, ◌≡◌, refl, ap, None, true, false}
+use Rattle.std.proofs.Common.{ℕ, ◌≡◌, refl, ap, Option, None, true, false}
 use Rattle.std.proofs.lemmas.Bool.{false≢true}
 use Rattle.mark_core.specs.declared.kinds.Step.{Step}
 use Rattle.mark_core.specs.declared.kinds.Step.TheVariants.{AddStat, PublishCells, RaiseStep, ReleaseBlock}
@@ -10,10 +10,13 @@ use Rattle.gc_table.specs.declared.view.SectionState.{SectionState}
 use Rattle.gc_table.specs.declared.view.View.{View}
 use Rattle.gc_table.proofs.History.Log.{only-more}
 use Rattle.gc_table.proofs.Running.{ran-shape}
-use Rattle.gc_cycle.specs.Answering.{retires}
+use Rattle.alloc_cache.specs.declared.cache.Cache.{Cache}
+use Rattle.gc_cycle.specs.Answering.{HasCache, retires}
 use Rattle.gc_cycle.specs.Sorts.{raises_flag}
 use Rattle.gc_cycle.specs.Sparing.{spares_part}
+use Rattle.gc_cycle.specs.Statistics.{GivesUp}
 use Rattle.warehouse.specs.Playing.{Stays, DoesNothing}
+use Rattle.warehouse.proofs.Pacing.{paces-retired}
 use Rattle.warehouse.proofs.Seen.{never-of}
 use Rattle.warehouse.proofs.Sparings.{waits-calm}
 
@@ -27,8 +30,9 @@ retires-calm : (step : Step) (n : ℕ) → retires step ≡ true → raises_flag
 retires-calm RaiseStep n e = absurd (false≢true e)
 retires-calm step n e = refl
 
-pub retired-waits : (v w : View) → Ran v w → Only retires v w → DoesNothing v w
-retired-waits v w ran only = waits-calm v w ran (only-more retires spares_part retires-spares v w only) (never-of retires raises_flag retires-calm (events v w) only)
+pub retired-waits : (o : Option Cache) (v w : View) → HasCache o v → Ran v w → Only retires v w → w.state ≡ record v.state { cache = None } → GivesUp o None v w → DoesNothing v w
+retired-waits o v w had ran only state gives =
+    waits-calm v w ran (only-more retires spares_part retires-spares v w only) (never-of retires raises_flag retires-calm (events v w) only) (paces-retired o v w had only state gives)
 
 pub retired-stays : (v w : View) → Ran v w → w.state ≡ record v.state { cache = None } → w.own ≡ v.own → Stays v w
 retired-stays v w ran state own =

@@ -14,10 +14,12 @@ use Rattle.packet_pools.specs.Seeking.{some_event}
 use Rattle.play_end.specs.Playing.{leaves_play}
 use Rattle.play_end.proofs.Runs.{still-run}
 use Rattle.gc_cycle.specs.Events.{never}
+use Rattle.warehouse.specs.Pacing.{Paces}
 use Rattle.warehouse.specs.Playing.{Acts, Stays, DoesNothing}
 use Rattle.gc_cycle.specs.Sorts.{stores_new, raises_flag}
 use Rattle.gc_cycle.specs.Sparing.{fills_part, spares_part}
 use Rattle.warehouse.proofs.Counting.{fills-stores, fills-uncounted, spares-fills, spares-seasons}
+use Rattle.warehouse.proofs.Pacing.{paces-none}
 use Rattle.warehouse.specs.Storing.{stores_in}
 use Rattle.warehouse.proofs.Storing.{stored-none, stores_none}
 use Rattle.gc_cycle.specs.Standing.{KeepsSeat}
@@ -66,8 +68,8 @@ spares-stores step b = fills-stores step (spares-fills step b)
 pub stored-spared : (season : ℕ) (v w : View) → Only spares_part v w → stores_in season v (events v w) ≡ true
 stored-spared season v w only = stored-none season (events v w) v (only-more spares_part stores_none spares-stores v w only)
 
-pub acts-calm : (season : ℕ) (v w : View) → Ran v w → Only spares_part v w → never raises_flag (events v w) ≡ true → Acts season 0 0 0 v w
-acts-calm season v w ran only b =
+pub acts-calm : (season : ℕ) (v w : View) → Ran v w → Only spares_part v w → never raises_flag (events v w) ≡ true → Paces v w → Acts season 0 0 0 v w
+acts-calm season v w ran only b paced =
     record {
       ran = ran;
       polled = omega arith;
@@ -76,14 +78,15 @@ acts-calm season v w ran only b =
       stored = stored-spared season v w only;
       uncounted = fills-uncounted (events v w) (only-more spares_part fills_part spares-fills v w only);
       seasons = spares-seasons v w ran only;
+      paced = paced;
     }
 
--- a call that leaves the part, and asks for no stop
-pub waits-calm : (v w : View) → Ran v w → Only spares_part v w → never raises_flag (events v w) ≡ true → DoesNothing v w
-waits-calm v w ran only b = λ season. acts-calm season v w ran only b
+-- a call that leaves the part, asks for no stop, and changes the numbers as it should
+pub waits-calm : (v w : View) → Ran v w → Only spares_part v w → never raises_flag (events v w) ≡ true → Paces v w → DoesNothing v w
+waits-calm v w ran only b paced = λ season. acts-calm season v w ran only b paced
 
 pub stays-none : (v : View) → Stays v v
 stays-none v = record { still = record { heap = refl; turns = refl; places = refl; full = refl }; made = refl; shape = refl }
 
 pub waits-none : (v : View) → DoesNothing v v
-waits-none v = waits-calm v v (ran-refl v) (only-none spares_part v) (ap (λ (es : List Entry). never raises_flag es) (events-none v))
+waits-none v = waits-calm v v (ran-refl v) (only-none spares_part v) (ap (λ (es : List Entry). never raises_flag es) (events-none v)) (paces-none v)

@@ -22,6 +22,7 @@ use Rattle.plain_heap.specs.Sections.{makes_object}
 use Rattle.warehouse.specs.Playing.{HasFree, HasRoomForCommands, Acts, IsInTurn, IsPlaying, MayPass, Stays, collects_by, counts_part, commands_of_part, player_of}
 use Rattle.gc_cycle.specs.Standing.{IsOut}
 use Rattle.cache_refills.specs.Stops.{stops_without_cause}
+use Rattle.warehouse.specs.Pacing.{Paces}
 use Rattle.warehouse.specs.Storing.{stores_in}
 use Rattle.gc_table.specs.declared.view.Entry.{Entry}
 use Rattle.gc_table.specs.Log.{events}
@@ -132,13 +133,14 @@ pub record MayPlayPart (p : Parts) (z : ℕ) (m : Mutator) : Type 0 where
   pub of : AreOf sections p (view_of m.seat)
   pub before : IsAfterParts sections p.number (z - 1) (player_of m)
 
--- the mutator left: its part was counted so often, and it asked for no stop and stored nothing
+-- the mutator left: its part was counted so often, and it asked for no stop, stored nothing, and changed the numbers as its calls do
 pub record Leaves (times : ℕ) (v w : View) : Type 0 where
   pub ran : Ran v w
   pub stopped : (since : List Entry) → stops_without_cause v.shape since (events v w) ≡ 0
   pub stored : (season : ℕ) → IsTrue (stores_in season v (events v w))
   pub counted : count_of counts_part (events v w) ≡ times
   pub seasons : w.own.seasons ≡ v.own.seasons
+  pub paced : Paces v w
 
 -- the mutator left with its position stored, after its part was counted so often, and its section is as it was
 pub record CountsPart (times : ℕ) (h : Heap) (p : Parts) (x y : Mutator) : Type 0 where

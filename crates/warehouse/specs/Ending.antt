@@ -6,6 +6,7 @@ use Rattle.gc_table.specs.declared.view.View.{View}
 use Rattle.packet_pools.specs.Counts.{count_of}
 use Rattle.play_end.specs.declared.played.Played.{Played}
 use Rattle.play_end.specs.declared.played.Played.TheVariants as plays
+use Rattle.warehouse.specs.Pacing.{CountsOne}
 use Rattle.warehouse.specs.Playing.{counts_part}
 use Rattle.warehouse.specs.Turns.{KeepsPart}
 
@@ -14,8 +15,9 @@ abbrev pub PlaySettles : Played → View → View → Type 0
 PlaySettles plays.Done v w = (w.own.seasons ≡ v.own.seasons + 1) × (IsTrue (v.own.seasons % 2 == 1) → IsTrue w.own.settled)
 PlaySettles plays.Full v w = KnowsFull w
 
--- one part was counted, and what the section has come to is as it was
+-- one part was counted, no other number was changed, no cycle was begun, and what the section has come to is as it was
 pub record CountsAbsent (v w : View) : Type 0 where
   pub keeps : KeepsPart v w
   pub counted : count_of counts_part (events v w) ≡ 1
+  pub counts : CountsOne v w
   pub seasons : w.own.seasons ≡ v.own.seasons

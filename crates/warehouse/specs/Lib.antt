@@ -1,4 +1,5 @@
 pub mod Storing
+pub mod Pacing
 pub mod Playing
 pub mod Commands
 pub mod Turns

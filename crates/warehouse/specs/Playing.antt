@@ -12,7 +12,7 @@ use Rattle.gc_table.specs.declared.seat.Heap.{Heap}
 use Rattle.gc_table.specs.declared.seat.HeapSeat.{HeapSeat}
 use Rattle.gc_table.specs.declared.view.Entry.{Entry}
 use Rattle.gc_table.specs.declared.view.View.{View}
-use Rattle.gc_table.specs.Log.{events}
+use Rattle.gc_table.specs.Log.{Only, events}
 use Rattle.gc_table.specs.Running.{Ran}
 use Rattle.gc_table.specs.Seats.{Sits, view_of}
 use Rattle.packet_pools.specs.Counts.{count_of}
@@ -34,8 +34,10 @@ use Rattle.cache_refills.specs.PartEvents.{PlaysCommands, StopsAtFull, polled_la
 use Rattle.gc_cycle.specs.Polling.{poll_found_stop, saw_full}
 use Rattle.gc_cycle.specs.Sorts.{ends_cycle, polls}
 use Rattle.gc_cycle.specs.Standing.{IsOut, Mutates}
+use Rattle.gc_cycle.specs.Statistics.{leaves_numbers}
 use Rattle.cache_refills.specs.Stops.{stops_without_cause}
 use Rattle.mark_core.specs.Numbers.{done_count}
+use Rattle.warehouse.specs.Pacing.{Paces}
 use Rattle.warehouse.specs.Storing.{stores_in}
 use Rattle.gc_table.specs.Rule.{KnowsFull}
 
@@ -85,6 +87,8 @@ pub record Acts (season commands collects stops : ℕ) (v w : View) : Type 0 whe
   pub uncounted : IsTrue (never counts_part (events v w))
   -- none of it moved the season on
   pub seasons : w.own.seasons ≡ v.own.seasons
+  -- it changed the numbers that pace a cycle, and began cycles, as its calls do
+  pub paced : Paces v w
 
 -- the section stays as the player left it
 pub record Stays (v w : View) : Type 0 where
@@ -100,9 +104,10 @@ DoesNothing v w = (season : ℕ) → Acts season 0 0 0 v w
 abbrev pub IsHindered : View → View → Type 0
 IsHindered v w = IsTrue (poll_found_stop (events v w)) ⊎ IsTrue (saw_full (events v w))
 
--- the mutator polled, and at most read the phase: it has the cache that it had
+-- the mutator polled, and at most read the phase: it has the cache that it had, and changed no number
 pub record Glances (v w : View) : Type 0 where
   pub out : GoesOut v w
+  pub numbers : Only leaves_numbers v w
   pub polled : IsTrue (some_event polls (events v w))
   pub cache : w.state.cache ≡ v.state.cache
 
@@ -165,6 +170,7 @@ pub record TellsDone (p : Parts) (z n : ℕ) (v w : View) : Type 0 where
   pub all : n ≡ length (commands_of_part p z)
   pub counted : count_of counts_part (events v w) ≡ 1
   pub stored : IsTrue (stores_in (turn_word p.number z) v (events v w))
+  pub paced : Paces v w
   -- none of it said that the heap is full
   pub unfilled : IsTrue (never_fills (events v w))
 
@@ -173,6 +179,7 @@ pub record PartTellsFull (p : Parts) (z n : ℕ) (v w : View) : Type 0 where
   pub stops : StopsAtFull v.shape n (collects_by (take n (commands_of_part p z))) (collects_by (take 1 (drop n (commands_of_part p z)))) (events v w)
   pub counted : count_of counts_part (events v w) ≡ 0
   pub stored : IsTrue (stores_in (turn_word p.number z) v (events v w))
+  pub paced : Paces v w
 
 -- what the events of a part say, where it was played to its end or the heap was found full
 abbrev pub PartTells : Played → Parts → ℕ → ℕ → View → View → Type 0

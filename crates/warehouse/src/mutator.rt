@@ -5,6 +5,7 @@ ghost use Rattle.plain_heap.specs.Sections.{joined};
 ghost use Rattle.warehouse.specs.Playing.{HasRoomForCommands};
 ghost use Rattle.gc_cycle.specs.Standing.{IsOut};
 ghost use Rattle.warehouse.specs.Ending.{PlaySettles};
+ghost use Rattle.warehouse.specs.Pacing.{EndsCyclesAlone};
 ghost use Rattle.warehouse.specs.Turns.{KeepsPart, MayTurnSeason, TurnEnds};
 
 use crate::season::{end_play, turn_season};
@@ -81,6 +82,7 @@ impl<'a> Mutator<'a> {
         ensures seat { Sits heap.now self.new.seat × IsOut (view_of self.new.seat) }
         ensures keeps { KeepsPart (view_of self.old.seat) (view_of self.new.seat) }
         ensures ends { TurnEnds result (view_of self.old.seat) (view_of self.new.seat) }
+        ensures paces { EndsCyclesAlone (view_of self.old.seat) (view_of self.new.seat) }
     {
         turn_season(rt, heap, &mut self.seat)
     }
@@ -94,6 +96,7 @@ impl<'a> Mutator<'a> {
         ensures keeps { KeepsPart (view_of self.old.seat) (view_of self.new.seat) }
         ensures ends { TurnEnds result (view_of self.old.seat) (view_of self.new.seat) }
         ensures settles { PlaySettles result (view_of self.old.seat) (view_of self.new.seat) }
+        ensures paces { EndsCyclesAlone (view_of self.old.seat) (view_of self.new.seat) }
     {
         end_play(rt, heap, &mut self.seat)
     }

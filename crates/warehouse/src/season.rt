@@ -9,6 +9,7 @@ ghost use Rattle.gc_table.specs.Seats.{Across, Sits, state_of, view_of};
 ghost use Rattle.stop_world.specs.Waiting.{HasStopped};
 ghost use Rattle.gc_cycle.specs.Standing.{IsAlone, IsOut};
 ghost use Rattle.warehouse.specs.Ending.{PlaySettles};
+ghost use Rattle.warehouse.specs.Pacing.{EndsCyclesAlone};
 ghost use Rattle.warehouse.specs.Turns.{AloneAt, LeavesNoCycle, EndsTurn, KeepsPart, LeavesStop, MayTurnSeason, StopsAt, TurnEnds};
 
 use gc_cycle::{await_resumed_helping, finish_cycle, precise};
@@ -23,6 +24,7 @@ fn stop_at_last<R: Wait>(rt: &R, heap: &Heap, seat: &mut HeapSeat)
     requires seat { Sits heap.now seat.old × IsOut (view_of seat.old) }
     ensures seat { Sits heap.now seat.new }
     ensures stops { Across StopsAt seat.old seat.new }
+    ensures paces { Across EndsCyclesAlone seat.old seat.new }
 {
     for _ in rt.forever() {
         match raise(heap, seat) {
@@ -44,6 +46,7 @@ fn end_cycle<R: Wait>(rt: &R, heap: &Heap, seat: &mut HeapSeat) -> bool
     ensures seat { Sits heap.now seat.new }
     ensures ends { Across (LeavesNoCycle result) seat.old seat.new }
     ensures alone { AloneAt result (view_of seat.new) }
+    ensures paces { Across EndsCyclesAlone seat.old seat.new }
 {
     match heap.read_phase(seat) {
         CyclePhase::Full => true,
@@ -63,6 +66,7 @@ fn leave_stop(heap: &Heap, seat: &mut HeapSeat)
     requires alone { (p : Phase) × IsTrue (is_resting (phase_number p)) × Alone p (view_of seat.old) }
     ensures seat { Sits heap.now seat.new × IsOut (view_of seat.new) }
     ensures leaves { Across LeavesStop seat.old seat.new }
+    ensures paces { Across EndsCyclesAlone seat.old seat.new }
 {
     resume(heap, seat);
     leave(heap, seat);
@@ -75,6 +79,7 @@ fn end_turn<R: Wait>(rt: &R, heap: &Heap, seat: &mut HeapSeat) -> Played
     requires turn { MayTurnSeason (view_of seat.old) }
     ensures seat { Sits heap.now seat.new }
     ensures ends { Across (EndsTurn result) seat.old seat.new }
+    ensures paces { Across EndsCyclesAlone seat.old seat.new }
 {
     stop_at_last(rt, heap, seat);
     if end_cycle(rt, heap, seat) {
@@ -91,6 +96,7 @@ pub fn turn_season<R: Wait>(rt: &R, heap: &Heap, seat: &mut HeapSeat) -> Played
     ensures seat { Sits heap.now seat.new × IsOut (view_of seat.new) }
     ensures keeps { Across KeepsPart seat.old seat.new }
     ensures ends { Across (TurnEnds result) seat.old seat.new }
+    ensures paces { Across EndsCyclesAlone seat.old seat.new }
 {
     let played = end_turn(rt, heap, seat);
     leave_stop(heap, seat);
@@ -105,6 +111,7 @@ pub fn end_play<R: Wait>(rt: &R, heap: &Heap, seat: &mut HeapSeat) -> Played
     ensures keeps { Across KeepsPart seat.old seat.new }
     ensures ends { Across (TurnEnds result) seat.old seat.new }
     ensures settles { Across (PlaySettles result) seat.old seat.new }
+    ensures paces { Across EndsCyclesAlone seat.old seat.new }
 {
     match end_turn(rt, heap, seat) {
         Played::Full => {

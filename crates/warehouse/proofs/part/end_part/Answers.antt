@@ -3,6 +3,7 @@ use Rattle.gc_table.specs.Seats.{view_of}
 use Rattle.gc_table.specs.declared.view.View.{View}
 use Rattle.warehouse.proofs.Coming.{room-moved, says-moved}
 use Rattle.warehouse.proofs.Leavings.{counted-stays, leaves-calm, leaves-counted, leaves-join, leaves-waits}
+use Rattle.warehouse.proofs.Pacing.{paces-out}
 use Rattle.warehouse.proofs.Retirings.{retired-stays, retired-waits}
 use Rattle.warehouse.proofs.Sparings.{stays-join, stays-spared}
 use Rattle.warehouse.proofs.part.end_part.Goals as goal
@@ -23,6 +24,6 @@ returns c =
       stays = stays;
       says = says-moved m c.go_out.new.seat;
       position = o.position;
-      leaves = leaves-join 0 1 1 u v x (leaves-waits u v (retired-waits u v r.ran r.only)) (leaves-join 1 0 1 v w x (leaves-counted v w c.add_stat.ensures.view) (leaves-calm w x o.out.ran o.spares o.out.calm) refl) refl;
+      leaves = leaves-join 0 1 1 u v x (leaves-waits u v (retired-waits c.args.cache u v c.requires.playing.cached r.ran r.only r.state r.numbers)) (leaves-join 1 0 1 v w x (leaves-counted v w c.add_stat.ensures.view) (leaves-calm w x o.out.ran o.spares o.out.calm (paces-out w x o.out o.numbers)) refl) refl;
       room = room-moved m c.go_out.new.seat stays;
     }

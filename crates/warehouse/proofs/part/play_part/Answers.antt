@@ -6,6 +6,7 @@ use Rattle.warehouse.specs.Commands.{CountsPart}
 use Rattle.warehouse.specs.Playing.{Stays}
 use Rattle.warehouse.proofs.Coming.{moved, room-moved, says-moved}
 use Rattle.warehouse.proofs.Leavings.{full-left, leaves-calm}
+use Rattle.warehouse.proofs.Pacing.{paces-out}
 use Rattle.warehouse.proofs.Parting.{begins-may, begins-playing, part-done, part-full}
 use Rattle.warehouse.proofs.Sparings.{stays-spared, waits-calm}
 use Rattle.warehouse.proofs.part.play_part.Goals as goal
@@ -18,21 +19,21 @@ play_commands-requires-clause-playing g c =
     let u : View = view_of c.args.mutator.now.seat in
     let v : View = view_of c.go_in.new.seat in
     let e = c.go_in.ensures in
-    begins-playing c.args.heap.now c.args.section.now c.args.season c.args.mutator.now c.go_in.new.seat c.requires e.seat.0 e.seat.1 e.entered.cache (stays-spared u v e.entered.out.ran e.spares e.entered.out.seat) (waits-calm u v e.entered.out.ran e.spares e.entered.out.calm) e.entered.position
+    begins-playing c.args.heap.now c.args.section.now c.args.season c.args.mutator.now c.go_in.new.seat c.requires e.seat.0 e.seat.1 e.entered.cache (stays-spared u v e.entered.out.ran e.spares e.entered.out.seat) (waits-calm u v e.entered.out.ran e.spares e.entered.out.calm (paces-out u v e.entered.out e.numbers)) e.entered.position
 
 pub play_commands-requires-clause-before : goal.play_commands-requires-clause-before
 play_commands-requires-clause-before g c =
     let u : View = view_of c.args.mutator.now.seat in
     let v : View = view_of c.go_in.new.seat in
     let e = c.go_in.ensures in
-    begins-may c.args.heap.now c.args.section.now c.args.season c.args.mutator.now c.go_in.new.seat c.requires e.seat.0 e.seat.1 e.entered.cache (stays-spared u v e.entered.out.ran e.spares e.entered.out.seat) (waits-calm u v e.entered.out.ran e.spares e.entered.out.calm) e.entered.position
+    begins-may c.args.heap.now c.args.section.now c.args.season c.args.mutator.now c.go_in.new.seat c.requires e.seat.0 e.seat.1 e.entered.cache (stays-spared u v e.entered.out.ran e.spares e.entered.out.seat) (waits-calm u v e.entered.out.ran e.spares e.entered.out.calm (paces-out u v e.entered.out e.numbers)) e.entered.position
 
 pub returns-in-Going : goal.returns-in-Going
 returns-in-Going g c =
     let u : View = view_of c.args.mutator.now.seat in
     let v : View = view_of c.go_in.new.seat in
     let e = c.go_in.ensures in
-    part-done c.args.heap.now c.args.section.now c.args.season c.args.mutator.now c.go_in.new.seat c.requires e.seat.0 e.seat.1 e.entered.cache (stays-spared u v e.entered.out.ran e.spares e.entered.out.seat) (waits-calm u v e.entered.out.ran e.spares e.entered.out.calm) e.entered.position
+    part-done c.args.heap.now c.args.section.now c.args.season c.args.mutator.now c.go_in.new.seat c.requires e.seat.0 e.seat.1 e.entered.cache (stays-spared u v e.entered.out.ran e.spares e.entered.out.seat) (waits-calm u v e.entered.out.ran e.spares e.entered.out.calm (paces-out u v e.entered.out e.numbers)) e.entered.position
     c.in-Going.cache c.play_commands.new.mutator c.end_part.new.mutator c.in-Going.ensures c.end_part.ensures
 
 pub returns-in-Full : goal.returns-in-Full
@@ -54,8 +55,8 @@ returns-in-Full g c =
       stays = stays;
       says = says-moved m t;
       position = o.position;
-      leaves = leaves-calm w x o.out.ran o.spares o.out.calm;
+      leaves = leaves-calm w x o.out.ran o.spares o.out.calm (paces-out w x o.out o.numbers);
       room = room-moved m t stays;
     } in
-    part-full c.args.heap.now c.args.section.now c.args.season c.args.mutator.now c.go_in.new.seat c.requires e.seat.0 e.seat.1 e.entered.cache (stays-spared u v e.entered.out.ran e.spares e.entered.out.seat) (waits-calm u v e.entered.out.ran e.spares e.entered.out.calm) e.entered.position m (moved m t) k
+    part-full c.args.heap.now c.args.section.now c.args.season c.args.mutator.now c.go_in.new.seat c.requires e.seat.0 e.seat.1 e.entered.cache (stays-spared u v e.entered.out.ran e.spares e.entered.out.seat) (waits-calm u v e.entered.out.ran e.spares e.entered.out.calm (paces-out u v e.entered.out e.numbers)) e.entered.position m (moved m t) k
     out (full-left m.count o.left.0 w x o.out.ran o.left.1 k.stops.known)

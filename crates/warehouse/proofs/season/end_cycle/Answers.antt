@@ -1,6 +1,10 @@
 use Rattle.std.proofs.Common.{◌∙◌, refl, sym}
 use Rattle.gc_table.specs.Seats.{view_of}
 use Rattle.mark_core.specs.declared.kinds.Phase.TheVariants.{Full, Idle, Marking}
+use Rattle.gc_cycle.specs.Standing.{IsAlone}
+use Rattle.gc_cycle.specs.Statistics.{EndsCycle}
+use Rattle.warehouse.proofs.Pacing.{ends-both, ends-cycle}
+use Rattle.warehouse.proofs.PacedTurns.{read-paces}
 use Rattle.warehouse.proofs.Stopping.{ends-after, finishes-unhelped}
 use Rattle.warehouse.proofs.InTheStop.{idle-left, ends-read, read-alone, read-phase, read-rest}
 use Rattle.warehouse.proofs.season.end_cycle.Goals as goal
@@ -15,6 +19,7 @@ returns-in-Full g c =
       seat = c.read_phase.ensures.seat;
       ends = ends-read r.0 v w c.requires.stopped c.requires.rest (r.1, r.2) _ Full is refl;
       alone = read-alone r.0 v w c.requires.stopped c.requires.rest (r.1, r.2) Full is;
+      paces = read-paces r.0 v w (r.1, r.2);
     }
 
 pub finish_cycle-requires-clause-alone : goal.finish_cycle-requires-clause-alone
@@ -35,6 +40,18 @@ returns-in-Marking-clause-ends g c =
     let f = c.finish_cycle.ensures in
     ends-after v w x (ends-read r.0 v w c.requires.stopped c.requires.rest (r.1, r.2) _ Marking (sym r.3 ∙ c.in-Marking.is) refl) f.ran f.spares f.alone.rest f.calm f.going f.position (finishes-unhelped w x f.ran f.only)
 
+pub returns-in-Marking-clause-paces : goal.returns-in-Marking-clause-paces
+returns-in-Marking-clause-paces g c =
+    let r = c.read_phase.ensures.view in
+    let v = view_of c.args.seat.now in
+    let w = view_of c.read_phase.new.seat in
+    let x = view_of c.finish_cycle.new.seat in
+    let f = c.finish_cycle.ensures in
+    let a = read-alone r.0 v w c.requires.stopped c.requires.rest (r.1, r.2) Marking (sym r.3 ∙ c.in-Marking.is) in
+    let alone : IsAlone w = record { knows = a.knows; alone = a.alone; rest = read-rest r.0 v w c.requires.stopped c.requires.rest (r.1, r.2) } in
+    let e : EndsCycle w x = record { ran = f.ran; only = f.only; alone = alone; idle = f.alone; drains = f.drains; help = f.help; counts = c.finish_cycle.result; end = f.end; rescanned = f.rescanned; freed = f.freed } in
+    ends-both v w x (read-paces r.0 v w (r.1, r.2)) (ends-cycle w x e f.unbegun)
+
 pub returns-in_default : goal.returns-in_default
 returns-in_default g c =
     let r = c.read_phase.ensures.view in
@@ -46,4 +63,5 @@ returns-in_default g c =
       seat = c.read_phase.ensures.seat;
       ends = ends-read r.0 v w c.requires.stopped c.requires.rest (r.1, r.2) _ Idle is refl;
       alone = read-alone r.0 v w c.requires.stopped c.requires.rest (r.1, r.2) Idle is;
+      paces = read-paces r.0 v w (r.1, r.2);
     }

@@ -1,6 +1,8 @@
 use Rattle.std.proofs.Common.{◌≡◌, ◌∙◌, ◌%◌, ◌==◌, refl, sym, ap, subst, true}
 use Rattle.gc_table.specs.Log.{events}
 use Rattle.gc_table.specs.Seats.{view_of}
+use Rattle.gc_cycle.specs.Statistics.{EndsCycle}
+use Rattle.warehouse.proofs.Pacing.{ends-both, ends-cycle}
 use Rattle.gc_table.specs.declared.view.View.{View}
 use Rattle.mark_core.specs.declared.kinds.Shape.{Shape}
 use Rattle.gc_cycle.specs.Cycles.{collects_exactly}
@@ -42,3 +44,28 @@ returns-in-Done-clause-settles g c =
           (exact-settles x y p.ran p.spares e.catalogue (ap (λ n. n % 2 == 0) (e.turned refl) ∙ even-next u.own.seasons odd)
           (subst (λ (sh : Shape). collects_exactly sh (begins x) (events x y) ≡ true) (sym c.end_turn.ensures.seat.1) p.collects)),
     )
+
+pub returns-in-Full-clause-paces : goal.returns-in-Full-clause-paces
+returns-in-Full-clause-paces g c = ends-both (view_of c.args.seat.now) (view_of c.end_turn.new.seat) (view_of c.leave_stop.new.seat) c.end_turn.ensures.paces c.leave_stop.ensures.paces
+
+pub returns-in-Done-clause-paces : goal.returns-in-Done-clause-paces
+returns-in-Done-clause-paces g c =
+    let p = c.precise.ensures in
+    let u : View = view_of c.args.seat.now in
+    let x : View = view_of c.end_turn.new.seat in
+    let y : View = view_of c.precise.new.seat in
+    let z : View = view_of c.leave_stop-in-Done.new.seat in
+    let e : EndsCycle x y =
+    record {
+      ran = p.ran;
+      only = p.only;
+      alone = c.in-Done.ensures.ends.rest;
+      idle = p.alone.0;
+      drains = p.drains;
+      help = p.help;
+      counts = c.precise.result;
+      end = p.end;
+      rescanned = p.rescanned;
+      freed = p.freed;
+    } in
+    ends-both u y z (ends-both u x y c.end_turn.ensures.paces (ends-cycle x y e p.unbegun)) c.leave_stop-in-Done.ensures.paces

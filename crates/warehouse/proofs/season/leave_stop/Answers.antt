@@ -1,4 +1,5 @@
 use Rattle.gc_table.specs.Seats.{view_of}
+use Rattle.warehouse.proofs.PacedTurns.{left-paces}
 use Rattle.warehouse.proofs.Stopping.{leaves-stop, left-out}
 use Rattle.gc_cycle.proofs.Stops.OutAndIn.{free-to-leave}
 use Rattle.std.proofs.Common.{sym, subst, ◌≡◌, true}
@@ -17,3 +18,6 @@ returns-clause-seat c =
 pub returns-clause-leaves : goal.returns-clause-leaves
 returns-clause-leaves c =
     leaves-stop (view_of c.args.seat.now) (view_of c.resume.new.seat) (view_of c.leave.new.seat) c.requires.rest c.requires.unhelping c.resume.ensures.step c.leave.ensures.step
+
+pub returns-clause-paces : goal.returns-clause-paces
+returns-clause-paces c = left-paces (view_of c.args.seat.now) (view_of c.resume.new.seat) (view_of c.leave.new.seat) c.resume.ensures.step c.leave.ensures.step

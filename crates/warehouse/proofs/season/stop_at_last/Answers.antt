@@ -6,6 +6,8 @@ use Rattle.gc_table.proofs.History.Log.{only-none}
 use Rattle.gc_table.proofs.Running.{ran-refl}
 use Rattle.stop_world.proofs.Flagged.{yours-free}
 use Rattle.gc_cycle.specs.Sparing.{spares_part}
+use Rattle.warehouse.proofs.Pacing.{ends-calm, ends-same}
+use Rattle.warehouse.proofs.PacedTurns.{asked-paces, watched-paces}
 use Rattle.warehouse.proofs.Seasons.{spared-keeps, spared-turns}
 use Rattle.warehouse.proofs.Stopping.{raise-unaware, calm-spares, stops-at, theirs-keeps, theirs-out, theirs-seasons, theirs-turns}
 use Rattle.warehouse.proofs.season.stop_at_last.Goals as goal
@@ -21,6 +23,7 @@ loop-init g c =
       keeps = spared-keeps u u (ran-refl u) (only-none spares_part u) refl;
       seasons = refl;
       unturned = spared-turns u u (only-none spares_part u);
+      paces = ends-same u;
     }
 
 pub raise-requires-clause-bare : goal.raise-requires-clause-bare
@@ -42,6 +45,14 @@ returns-in-Yours-clause-stops g c =
     let i = c.loop.invariant in
     let a = c.await_stopped.ensures in
     stops-at t.0 (view_of c.loop.seat) (view_of c.raise.new.seat) i.out (t.1, t.2) (view_of c.args.seat.now) (view_of c.await_stopped.new.seat) i.keeps i.seasons i.unturned t.3 a.ran a.only a.stopped a.state
+
+pub returns-in-Yours-clause-paces : goal.returns-in-Yours-clause-paces
+returns-in-Yours-clause-paces g c =
+    let t = c.in-Yours.ensures.step in
+    let i = c.loop.invariant in
+    let a = c.await_stopped.ensures in
+    asked-paces t.0 (view_of c.loop.seat) (view_of c.raise.new.seat) (t.1, t.2) (view_of c.args.seat.now) (view_of c.await_stopped.new.seat) i.paces
+    (watched-paces (view_of c.raise.new.seat) (view_of c.await_stopped.new.seat) a.ran a.only)
 
 pub await_resumed_helping-requires : goal.await_resumed_helping-requires
 await_resumed_helping-requires g c =
@@ -66,4 +77,5 @@ loop-preserved g c =
       keeps = theirs-keeps t.0 v w i.out (t.1, t.2) u x i.keeps a.ran spares (ap (λ o. o.position) a.own);
       seasons = theirs-seasons t.0 v w i.out (t.1, t.2) u x i.seasons a.ran spares;
       unturned = theirs-turns t.0 v w i.out (t.1, t.2) u x i.keeps.ran i.unturned a.ran spares;
+      paces = asked-paces t.0 v w (t.1, t.2) u x i.paces (ends-calm w x a.ran a.only a.numbers);
     }

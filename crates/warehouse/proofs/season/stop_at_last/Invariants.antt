@@ -4,6 +4,7 @@ use Rattle.gc_table.specs.Log.{events}
 use Rattle.gc_table.specs.Seats.{Sits, view_of}
 use Rattle.gc_cycle.specs.Events.{never}
 use Rattle.gc_cycle.specs.Standing.{IsOut}
+use Rattle.warehouse.specs.Pacing.{EndsCyclesAlone}
 use Rattle.warehouse.specs.Turns.{KeepsPart, turns_season}
 use Rattle.warehouse.proofs.season.stop_at_last.Given as goal
 
@@ -17,4 +18,5 @@ invariant-loop g l = record {
   keeps : KeepsPart (view_of l.fn.seat) (view_of l.seat);
   seasons : (view_of l.seat).own.seasons ≡ (view_of l.fn.seat).own.seasons;
   unturned : IsTrue (never turns_season (events (view_of l.fn.seat) (view_of l.seat)));
+  paces : EndsCyclesAlone (view_of l.fn.seat) (view_of l.seat);
 }

@@ -11,6 +11,7 @@ use Rattle.gc_cycle.specs.Answering.{HasCache}
 use Rattle.warehouse.proofs.Acting.{waits-join, waits-ran}
 use Rattle.warehouse.proofs.Causes.{waits-caused}
 use Rattle.warehouse.proofs.Fulls.{counted-kept, finds-after, finds-later}
+use Rattle.warehouse.proofs.Pacing.{paces-refilled}
 use Rattle.warehouse.proofs.Readying.{ready-after, ready-waits}
 use Rattle.warehouse.proofs.Retirings.{retired-stays, retired-waits}
 use Rattle.warehouse.proofs.Sparings.{stays-join, stays-none, stays-spared, waits-none}
@@ -76,6 +77,8 @@ loop-preserved g c =
     let r = c.retire_some.ensures in
     let f = c.refill.ensures in
     let cause = subst (λ (sh : Shape). stops_with_cause sh (events x y) ≡ true) (sym r.seat.0.1) f.stops in
+    let had = subst (λ o. HasCache o w) (sym c.take_empty.ensures.value) k.cached in
+    let paced = paces-refilled c.refill.result c.args.done x y f.refills f.numbers f.due in
     record {
       next = tt;
       finite = tt;
@@ -83,7 +86,7 @@ loop-preserved g c =
       mutates = c.in-Cache.ensures.refills.goes_on.mutates;
       cached = subst (λ o. HasCache o y) (sym c.keep.ensures) c.in-Cache.ensures.refills.cached;
       stays = stays-join u v y i.stays (stays-join v w y k.stays (stays-join w x y (retired-stays w x r.ran r.state r.own) (stays-spared x y f.ran c.in-Cache.ensures.spares f.keeps.0)));
-      waits = waits-join u v y i.waits (waits-join v w y (ready-waits c.args.turn c.await_turn.new.cache v w k) (waits-join w x y (retired-waits w x r.ran r.only) (waits-caused x y f.ran f.only cause)));
+      waits = waits-join u v y i.waits (waits-join v w y (ready-waits c.args.turn c.await_turn.new.cache v w k) (waits-join w x y (retired-waits c.take_empty.result w x had r.ran r.only r.state r.numbers) (waits-caused x y f.ran f.only cause paced)));
     }
 
 pub returns-in-Full-clause-full : goal.returns-in-Full-clause-full
@@ -97,9 +100,11 @@ returns-in-Full-clause-full g c =
     let k = c.if-not-await_turn.ensures.ready in
     let r = c.retire_some.ensures in
     let f = c.refill.ensures in
-    let cause = subst (λ (sh : Shape). stops_with_cause sh (events x y) ≡ true) (sym r.seat.0.1) f.stops in (
+    let cause = subst (λ (sh : Shape). stops_with_cause sh (events x y) ≡ true) (sym r.seat.0.1) f.stops in
+    let had = subst (λ o. HasCache o w) (sym c.take_empty.ensures.value) k.cached in
+    let paced = paces-refilled c.refill.result c.args.done x y f.refills f.numbers f.due in (
       finds-after c.args.done u x y (stays-join u v x i.stays (stays-join v w x k.stays (retired-stays w x r.ran r.state r.own)))
-          (waits-join u v x i.waits (waits-join v w x (ready-waits c.args.turn c.await_turn.new.cache v w k) (retired-waits w x r.ran r.only))) f.keeps.0 f.keeps.1 (waits-caused x y f.ran f.only cause)
+          (waits-join u v x i.waits (waits-join v w x (ready-waits c.args.turn c.await_turn.new.cache v w k) (retired-waits c.take_empty.result w x had r.ran r.only r.state r.numbers))) f.keeps.0 f.keeps.1 (waits-caused x y f.ran f.only cause paced)
           c.in-Full.ensures.refills c.in-Full.ensures.spares,
       c.take_empty.ensures.after,
     )

@@ -8,6 +8,7 @@ use Rattle.mark_core.specs.declared.kinds.Shape.{Shape}
 use Rattle.std.specs.Prelude.{Some}
 use Rattle.warehouse.proofs.Acting.{waits-join, waits-ran}
 use Rattle.warehouse.proofs.Fulls.{counted-kept, finds-after}
+use Rattle.warehouse.proofs.Pacing.{paces-passed}
 use Rattle.warehouse.proofs.Readying.{looks-cache, looks-stays, looks-waits, reads-ready, ready-after}
 use Rattle.warehouse.proofs.Sparings.{stays-join, stays-none, stays-spared, waits-calm, waits-none}
 use Rattle.warehouse.proofs.turn.await_turn.Goals as goal
@@ -32,7 +33,9 @@ returns-then-not-pass_safe_point-clause-full g c =
     let i = c.loop.invariant in
     let s = c.pass_safe_point.ensures in
     let full = c.if-not-pass_safe_point.ensures.full in
-    (finds-after c.args.done u v w i.stays i.waits s.keeps.0 s.keeps.1 (waits-calm v w s.ran s.spares s.calm) full.0 full.1, full.2)
+    let has = subst (λ o. HasCache o w) (sym full.2) full.0.cache in
+    let paced = paces-passed c.loop.cache c.pass_safe_point.new.cache v w i.cached has s.polled s.calm s.numbers in
+    (finds-after c.args.done u v w i.stays i.waits s.keeps.0 s.keeps.1 (waits-calm v w s.ran s.spares s.calm paced) full.0 full.1, full.2)
 
 pub returns-then-not-pass_safe_point-clause-unfilled : goal.returns-then-not-pass_safe_point-clause-unfilled
 returns-then-not-pass_safe_point-clause-unfilled g c =
@@ -50,6 +53,7 @@ loop-preserved g c =
     let s = c.pass_safe_point.ensures in
     let looks = c.is_turn.ensures.looks in
     let gone = c.go_round.ensures in
+    let paced = paces-passed c.loop.cache c.pass_safe_point.new.cache v w i.cached c.if-not-pass_safe_point.ensures.going.cached s.polled s.calm s.numbers in
     record {
       next = tt;
       finite = tt;
@@ -57,7 +61,7 @@ loop-preserved g c =
       mutates = gone.seat.1;
       cached = subst (λ o. HasCache o y) (sym gone.none) gone.cache;
       stays = stays-join u v y i.stays (stays-join v w y (stays-spared v w s.ran s.spares s.keeps.0) (stays-join w x y (looks-stays w x looks) gone.stays));
-      waits = waits-join u v y i.waits (waits-join v w y (waits-calm v w s.ran s.spares s.calm) (waits-join w x y (looks-waits w x looks) gone.acts));
+      waits = waits-join u v y i.waits (waits-join v w y (waits-calm v w s.ran s.spares s.calm paced) (waits-join w x y (looks-waits w x looks) gone.acts));
     }
 
 pub returns-then-is_turn-clause-ready : goal.returns-then-is_turn-clause-ready
@@ -71,7 +75,8 @@ returns-then-is_turn-clause-ready g c =
     let k = c.if-not-pass_safe_point.ensures.going in
     let looks = c.is_turn.ensures.looks in
     ready-after c.args.turn c.pass_safe_point.new.cache u v x i.stays i.waits
-    (reads-ready c.args.turn c.pass_safe_point.new.cache v w x (ap (λ (sh : Shape). sh.sharing) i.stays.shape ∙ c.requires.owned) s.ran s.spares s.calm s.keeps.0 s.polled k.goes_on k.cached
+    (reads-ready c.args.turn c.pass_safe_point.new.cache v w x (ap (λ (sh : Shape). sh.sharing) i.stays.shape ∙ c.requires.owned) s.ran s.spares s.calm s.keeps.0 s.polled
+    (paces-passed c.loop.cache c.pass_safe_point.new.cache v w i.cached k.cached s.polled s.calm s.numbers) k.goes_on k.cached
     (counted-kept u v i.stays.still.heap i.stays.made c.requires.counted) (ap (λ o. has_turn o (Some c.args.turn)) (ran-section u v (waits-ran u v i.waits)) ∙ c.requires.turn) looks
     (c.is_turn.ensures.turn c.if-is_turn.true))
 

@@ -1,9 +1,11 @@
-use Rattle.std.proofs.Common.{◌∙◌, ap, subst, sym}
+use Rattle.std.proofs.Common.{◌∙◌, ap, Option, subst, sym}
 use Rattle.std.specs.Prelude.{is_some}
 use Rattle.gc_table.specs.Seats.{view_of}
+use Rattle.alloc_cache.specs.declared.cache.Cache.{Cache}
 use Rattle.gc_cycle.specs.Answering.{HasCache}
 use Rattle.warehouse.proofs.turn.go_round.Goals as goal
 use Rattle.warehouse.proofs.Acting.{waits-join}
+use Rattle.warehouse.proofs.Pacing.{paces-out}
 use Rattle.warehouse.proofs.Retirings.{retired-stays, retired-waits}
 use Rattle.warehouse.proofs.Sparings.{stays-join, stays-spared, waits-calm}
 
@@ -28,5 +30,9 @@ returns-clause-acts g c =
     let b = view_of c.retire_some.new.seat in
     let d = view_of c.go_out.new.seat in
     let e = view_of c.go_in.new.seat in
-    waits-join a b e (retired-waits a b c.retire_some.ensures.ran c.retire_some.ensures.only)
-    (waits-join b d e (waits-calm b d c.go_out.ensures.out.ran c.go_out.ensures.spares c.go_out.ensures.out.calm) (waits-calm d e c.go_in.ensures.entered.out.ran c.go_in.ensures.spares c.go_in.ensures.entered.out.calm))
+    let r = c.retire_some.ensures in
+    let o = c.go_out.ensures in
+    let i = c.go_in.ensures in
+    let had = subst (λ (k : Option Cache). HasCache k a) (sym c.take.ensures.value) c.requires.cache in
+    waits-join a b e (retired-waits c.take.result a b had r.ran r.only r.state r.numbers)
+    (waits-join b d e (waits-calm b d o.out.ran o.spares o.out.calm (paces-out b d o.out o.numbers)) (waits-calm d e i.entered.out.ran i.spares i.entered.out.calm (paces-out d e i.entered.out i.numbers)))

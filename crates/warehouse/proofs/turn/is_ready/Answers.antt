@@ -8,6 +8,7 @@ use Rattle.gc_cycle.specs.Sparing.{spares_part}
 use Rattle.gc_cycle.proofs.Refills.Collected.{calm-spares}
 use Rattle.warehouse.proofs.Acting.{waits-join}
 use Rattle.warehouse.proofs.Others.{has-cache}
+use Rattle.warehouse.proofs.Pacing.{paces-out}
 use Rattle.warehouse.proofs.Readying.{looks-cache, looks-mutates, looks-stays, looks-waits, reads-ready}
 use Rattle.warehouse.proofs.Sparings.{stays-join, stays-spared, waits-calm}
 use Rattle.warehouse.proofs.turn.is_ready.Goals as goal
@@ -27,7 +28,7 @@ returns-then-not-sees_clear-clause-waits c =
     let v : View = view_of c.args.seat.now in
     let w : View = view_of c.sees_clear.new.seat in
     let o = c.sees_clear.ensures.glances.out in
-    waits-calm v w o.ran (only-more stays_calm spares_part calm-spares v w o.only) o.calm
+    waits-calm v w o.ran (only-more stays_calm spares_part calm-spares v w o.only) o.calm (paces-out v w o c.sees_clear.ensures.glances.numbers)
 
 pub returns-clause-seat : goal.returns-clause-seat
 returns-clause-seat c = (c.is_turn.ensures.seat, looks-mutates (view_of c.sees_clear.new.seat) (view_of c.is_turn.new.seat) c.is_turn.ensures.looks c.sees_clear.ensures.seat.1)
@@ -44,7 +45,7 @@ returns-clause-ready c =
     let w : View = view_of c.sees_clear.new.seat in
     let g = c.sees_clear.ensures.glances in
     λ is.
-    reads-ready c.args.turn c.args._cache.now v w (view_of c.is_turn.new.seat) c.requires.owned g.out.ran (only-more stays_calm spares_part calm-spares v w g.out.only) g.out.calm g.out.seat g.polled
+    reads-ready c.args.turn c.args._cache.now v w (view_of c.is_turn.new.seat) c.requires.owned g.out.ran (only-more stays_calm spares_part calm-spares v w g.out.only) g.out.calm g.out.seat g.polled (paces-out v w g.out g.numbers)
     (c.sees_clear.ensures.clear c.if-not-sees_clear.false) (has-cache c.args._cache.now v w g.cache c.requires.cache) c.requires.counted c.requires.turn c.is_turn.ensures.looks (c.is_turn.ensures.turn is)
 
 pub returns-clause-stays : goal.returns-clause-stays
@@ -61,7 +62,7 @@ returns-clause-waits c =
     let w : View = view_of c.sees_clear.new.seat in
     let x : View = view_of c.is_turn.new.seat in
     let o = c.sees_clear.ensures.glances.out in
-    waits-join v w x (waits-calm v w o.ran (only-more stays_calm spares_part calm-spares v w o.only) o.calm) (looks-waits w x c.is_turn.ensures.looks)
+    waits-join v w x (waits-calm v w o.ran (only-more stays_calm spares_part calm-spares v w o.only) o.calm (paces-out v w o c.sees_clear.ensures.glances.numbers)) (looks-waits w x c.is_turn.ensures.looks)
 
 pub returns-then-not-sees_clear-clause-late : goal.returns-then-not-sees_clear-clause-late
 returns-then-not-sees_clear-clause-late c = inl c.if-not-sees_clear.ensures.hindered
