@@ -3,4 +3,5 @@ pub mod Threads
 pub mod Sharing
 pub mod Lending
 pub mod Rooted
+pub mod Single
 pub mod Counting

@@ -10,6 +10,7 @@ ghost use Rattle.heap_runs.specs.Lending.{OneObjectLent};
 ghost use Rattle.heap_runs.specs.Rooted.{RootFound};
 ghost use Rattle.heap_runs.specs.Runs.{NoneFreed};
 ghost use Rattle.heap_runs.specs.Sharing.{ThreadsShareOneHeap};
+ghost use Rattle.heap_runs.specs.Single.{CounterTold};
 ghost use Rattle.heap_runs.specs.Threads.{ThreadsFreeNone};
 
 /// On each run of the core, whichever seats act and in whatever order, no event frees a cell that is reachable just before it.
@@ -50,4 +51,10 @@ pub fn raises_counted()
 /// Whether an exchange of a value was won, as the log of the thread has it, is whether the plain heap had the expected value just before.
 pub fn wins_told()
     ensures { WinsTold }
+{}
+
+/// Where threads share one object and exchange its value for the next number alone, its value at the end is the number of exchanges that the logs of the threads
+/// say were won, whatever the schedule.
+pub fn counter_told()
+    ensures { CounterTold }
 {}
