@@ -1,5 +1,6 @@
 //! What a worker's stops took by the clock, and what was done in them and beside them.
 
+use crate::timeline::{Doing, Timeline};
 use managed_heap::{Counts, Paid, Watch};
 use std::alloc::Global;
 use std::rt::Clock;
@@ -22,11 +23,13 @@ pub struct Log {
     pub traced: u64,
     /// How many objects it scanned again in its stops, on dirty cards.
     pub rescanned: u64,
+    /// What it did when.
+    pub line: Timeline,
 }
 
 impl Log {
-    /// A log in which nothing is noted. It takes no memory.
-    pub fn empty(alloc: Global) -> Log {
+    /// A log in which nothing is noted. It takes no memory. It has a timeline where the run's begin is given.
+    pub fn empty(alloc: Global, began: Option<Instant>) -> Log {
         Log {
             lengths: Vec::new(alloc),
             cycles: 0,
@@ -35,6 +38,7 @@ impl Log {
             exact: 0,
             traced: 0,
             rescanned: 0,
+            line: Timeline::new(began, alloc),
         }
     }
 }
@@ -49,11 +53,11 @@ pub struct StopClock<'a, R: Clock> {
 
 impl<'a, R: Clock> StopClock<'a, R> {
     /// A watch with this clock and an empty log, asked for no stop yet.
-    pub fn new(rt: &'a R, alloc: Global) -> StopClock<'a, R> {
+    pub fn new(rt: &'a R, alloc: Global, began: Option<Instant>) -> StopClock<'a, R> {
         StopClock {
             rt,
             asked: None,
-            log: Log::empty(alloc),
+            log: Log::empty(alloc, began),
         }
     }
 
@@ -68,10 +72,14 @@ impl<'a, R: Clock> StopClock<'a, R> {
 
 impl<'a, R: Clock> Watch for StopClock<'a, R> {
     fn pays(&mut self, paid: Paid) {
+        if paid.quota > 0 {
+            self.log.line.end(self.rt, Doing::Paying);
+        }
         self.log.traced = self.log.traced.wrapping_add(u64::from(paid.done));
     }
 
     fn asks(&mut self) {
+        self.log.line.end_long(self.rt, Doing::Waiting);
         self.asked = Instant::now(self.rt).ok();
     }
 
@@ -91,5 +99,25 @@ impl<'a, R: Clock> Watch for StopClock<'a, R> {
             // A length that finds no memory isn't told.
             let _kept = self.log.lengths.push(took);
         }
+        self.log.line.end(self.rt, Doing::Collecting);
+    }
+}
+
+/// A watch that is told besides when a call begins and ends that may wait.
+pub trait Times: Watch {
+    /// The call begins.
+    fn comes(&mut self);
+
+    /// The call has ended.
+    fn goes(&mut self);
+}
+
+impl<'a, R: Clock> Times for StopClock<'a, R> {
+    fn comes(&mut self) {
+        self.log.line.begin(self.rt);
+    }
+
+    fn goes(&mut self) {
+        self.log.line.end_long(self.rt, Doing::Waiting);
     }
 }

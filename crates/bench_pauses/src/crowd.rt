@@ -2,10 +2,11 @@
 
 use crate::clock::Log;
 use crate::latency::Ledger;
+use crate::marking::Marker;
 use crate::orders::Seen;
 use crate::words::Asked;
 use crate::workers::{Worker, orders_in};
-use managed_heap::{Sizes, Tracer, World};
+use managed_heap::{Sizes, World};
 use std::alloc::Global;
 use std::rt::Clock;
 use std::sync::Wait;
@@ -23,6 +24,8 @@ const ROUNDS: u32 = 100_000;
 pub struct Found {
     /// The workers, as they ended.
     pub workers: Vec<Worker>,
+    /// The tracers, as they ended.
+    pub markers: Vec<Marker>,
     /// How many objects the tracers traced beside the workers, while these replaced orders and before.
     pub traced: u64,
     /// The nanoseconds in which the orders were replaced.
@@ -127,7 +130,13 @@ fn play_all<R: Threads + Wait + Sync + Clock>(
 }
 
 /// A worker with its share of the work, where there are workers.
-fn hire_one(alloc: Global, world: &mut World, asked: Asked, k: u32) -> Option<Worker> {
+fn hire_one(
+    alloc: Global,
+    world: &mut World,
+    asked: Asked,
+    k: u32,
+    began: Option<Instant>,
+) -> Option<Worker> {
     let live = u64::from(asked.cells).wrapping_mul(u64::from(asked.live)) / 100;
     let cells = live.checked_div(u64::from(asked.workers))?;
     let more = if k < asked.transactions.checked_rem(asked.workers)? {
@@ -142,62 +151,77 @@ fn hire_one(alloc: Global, world: &mut World, asked: Asked, k: u32) -> Option<Wo
         orders: orders_in(u32::try_from(cells).unwrap_or(0)),
         ledger: Ledger::new(alloc, transactions.saturating_add(more), seed).ok()?,
         nodes: 0,
-        log: Log::empty(alloc),
+        log: Log::empty(alloc, began),
         seen: Seen::nothing(),
         ended: Ok(()),
     })
 }
 
-fn hire(alloc: Global, world: &mut World, asked: Asked) -> Option<Vec<Worker>> {
+fn hire(
+    alloc: Global,
+    world: &mut World,
+    asked: Asked,
+    began: Option<Instant>,
+) -> Option<Vec<Worker>> {
     let mut workers = Vec::new(alloc);
     for k in 0..asked.workers {
-        let worker = hire_one(alloc, world, asked, k)?;
+        let worker = hire_one(alloc, world, asked, k, began)?;
         workers.push(worker).ok()?;
     }
     Some(workers)
 }
 
-fn hire_tracers(alloc: Global, world: &mut World, tracers: u32) -> Option<Vec<Tracer>> {
+fn hire_tracers(
+    alloc: Global,
+    world: &mut World,
+    tracers: u32,
+    began: Option<Instant>,
+) -> Option<Vec<Marker>> {
     let mut all = Vec::new(alloc);
     for _ in 0..tracers {
         let tracer = world.tracer()?;
-        all.push(tracer).ok()?;
+        all.push(Marker::new(tracer, began, alloc)).ok()?;
     }
     Some(all)
 }
 
-/// Marks beside the others.
-fn trace_one<R: Wait>(rt: &R, tracer: &mut Tracer) {
-    tracer.run(rt);
-}
-
-fn trace_all<R: Threads + Wait + Sync>(rt: &R, tracers: &mut Vec<Tracer>) {
+fn trace_all<R: Threads + Wait + Sync + Clock>(rt: &R, tracers: &mut Vec<Marker>) {
     let threads = tracers.len();
     if threads > 0 {
         for_each_mut(
             rt,
             tracers.as_mut_slice(),
             threads,
-            &|_, tracer: &mut Tracer| trace_one(rt, tracer),
+            &|_, marker: &mut Marker| marker.run(rt),
         );
     }
 }
 
 /// What all came to.
-fn gather(workers: Vec<Worker>, tracers: &Vec<Tracer>, took: u64) -> Found {
+fn gather(workers: Vec<Worker>, markers: Vec<Marker>, took: u64) -> Found {
     let mut ended = true;
     for worker in workers.iter() {
         ended = ended && worker.ended.is_ok();
     }
     let mut traced = 0u64;
-    for tracer in tracers.iter() {
-        traced = traced.wrapping_add(tracer.traced());
+    for marker in markers.iter() {
+        traced = traced.wrapping_add(marker.tracer.traced());
     }
     Found {
         workers,
+        markers,
         traced,
         took,
         ended,
+    }
+}
+
+/// When the run begins, where the timeline is asked for.
+fn begin<R: Clock>(rt: &R, asked: Asked) -> Option<Instant> {
+    if asked.timeline {
+        Instant::now(rt).ok()
+    } else {
+        None
     }
 }
 
@@ -210,8 +234,9 @@ pub fn run<R: Threads + Wait + Sync + Clock>(rt: &R, alloc: Global, asked: Asked
         .packets(asked.packets, asked.entries)
         .in_stops(asked.stops);
     let mut world = World::open(alloc, sizes).ok()?;
-    let mut workers = hire(alloc, &mut world, asked)?;
-    let mut tracers = hire_tracers(alloc, &mut world, asked.tracers)?;
+    let began = begin(rt, asked);
+    let mut workers = hire(alloc, &mut world, asked, began)?;
+    let mut tracers = hire_tracers(alloc, &mut world, asked.tracers, began)?;
     let mut took = 0u64;
     join_mut(
         rt,
@@ -220,6 +245,6 @@ pub fn run<R: Threads + Wait + Sync + Clock>(rt: &R, alloc: Global, asked: Asked
             took = play_all(rt, alloc, &mut world, &mut workers);
         },
     );
-    let found = gather(workers, &tracers, took);
+    let found = gather(workers, tracers, took);
     if found.ended { Some(found) } else { None }
 }

@@ -8,6 +8,8 @@
 //! - `words`: what the words of the command line ask for.
 //! - `orders`: an order, and the directory: made, replaced, looked at.
 //! - `clock`: what a worker's stops took, and what it traced. `latency`: what its transactions took.
+//! - `marking`: what a tracer does.
+//! - `timeline`: what a thread did when, where that is asked for.
 //! - `workers`: what a worker does. `crowd`: all threads of a run.
 //! - `report`: what is told of a run.
 #![tactic(auto)]
@@ -15,8 +17,10 @@
 mod clock;
 mod crowd;
 mod latency;
+mod marking;
 mod orders;
 mod report;
+mod timeline;
 mod words;
 mod workers;
 
@@ -49,7 +53,7 @@ fn main(rt: HostRuntime) -> ExitCode {
     };
     let Some(asked) = asked else {
         return match println!(rt;
-            "usage: bench_pauses [--cells n] [--live percent] [--workers k] [--tracers t] [--packets n] [--entries e] [--transactions n] [--stops] [--counts-alone]"
+            "usage: bench_pauses [--cells n] [--live percent] [--workers k] [--tracers t] [--packets n] [--entries e] [--transactions n] [--stops] [--counts-alone] [--timeline]"
         ) {
             Ok(()) => ExitCode::from(1),
             Err(_) => ExitCode::from(5),

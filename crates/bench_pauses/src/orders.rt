@@ -3,7 +3,8 @@
 //! An order has 16 objects. Its reference 0 is a list of five lines, each with an item, and its reference 1 a tree with four leaves. The directory is a tree
 //! with a fan-out of four, whose lowest nodes refer to the orders. An object's value is the order's number.
 
-use managed_heap::{Mutator, Refused, Watch};
+use crate::clock::Times;
+use managed_heap::{Mutator, Refused};
 use std::sync::Wait;
 
 /// How many objects an order has.
@@ -46,13 +47,39 @@ fn way(at: u32, level: u32) -> u8 {
     (at.wrapping_shr(level.wrapping_mul(2)) % 4) as u8
 }
 
+/// Makes an object, and tells the watch when the call begins and ends.
+fn make<R: Wait, W: Times>(
+    rt: &R,
+    m: &mut Mutator,
+    v: u8,
+    value: u32,
+    watch: &mut W,
+) -> Result<(), Refused> {
+    watch.comes();
+    let made = m.make_watched(rt, v, value, watch);
+    watch.goes();
+    made
+}
+
+/// A safe point. The watch is told when the call begins and ends.
+fn come_to_safe_point<R: Wait, W: Times>(
+    rt: &R,
+    m: &mut Mutator,
+    watch: &mut W,
+) -> Result<(), Refused> {
+    watch.comes();
+    let passed = m.safe_point(rt);
+    watch.goes();
+    passed
+}
+
 /// Begins an empty directory. Refused as `make_watched` of `managed_heap` is.
-pub fn open<R: Wait, W: Watch>(rt: &R, m: &mut Mutator, watch: &mut W) -> Result<(), Refused> {
-    m.make_watched(rt, DIRECTORY, 0, watch)
+pub fn open<R: Wait, W: Times>(rt: &R, m: &mut Mutator, watch: &mut W) -> Result<(), Refused> {
+    make(rt, m, DIRECTORY, 0, watch)
 }
 
 /// Goes one level down, to a node that is made where there is none: whether it was made.
-fn step_down<R: Wait, W: Watch>(
+fn step_down<R: Wait, W: Times>(
     rt: &R,
     m: &mut Mutator,
     way: u8,
@@ -61,7 +88,7 @@ fn step_down<R: Wait, W: Watch>(
     m.get(NEXT, NODE, way)?;
     let made = m.is_nil(NEXT)?;
     if made {
-        m.make_watched(rt, NEXT, 0, watch)?;
+        make(rt, m, NEXT, 0, watch)?;
         m.set(NODE, way, NEXT)?;
     }
     m.copy(NODE, NEXT)?;
@@ -69,7 +96,7 @@ fn step_down<R: Wait, W: Watch>(
 }
 
 /// Comes to the lowest node above an order. How many nodes were made on the way.
-fn come_to<R: Wait, W: Watch>(
+fn come_to<R: Wait, W: Times>(
     rt: &R,
     m: &mut Mutator,
     at: u32,
@@ -87,7 +114,7 @@ fn come_to<R: Wait, W: Watch>(
 }
 
 /// Makes the lines of the order in hand.
-fn make_lines<R: Wait, W: Watch>(
+fn make_lines<R: Wait, W: Times>(
     rt: &R,
     m: &mut Mutator,
     number: u32,
@@ -95,8 +122,8 @@ fn make_lines<R: Wait, W: Watch>(
 ) -> Result<(), Refused> {
     m.forget(LINE)?;
     for _ in 0..LINES {
-        m.make_watched(rt, ITEM, number, watch)?;
-        m.make_watched(rt, MADE, number, watch)?;
+        make(rt, m, ITEM, number, watch)?;
+        make(rt, m, MADE, number, watch)?;
         m.set(MADE, 0, LINE)?;
         m.set(MADE, 1, ITEM)?;
         m.copy(LINE, MADE)?;
@@ -105,15 +132,15 @@ fn make_lines<R: Wait, W: Watch>(
 }
 
 /// Makes the tree of the order in hand.
-fn make_tree<R: Wait, W: Watch>(
+fn make_tree<R: Wait, W: Times>(
     rt: &R,
     m: &mut Mutator,
     number: u32,
     watch: &mut W,
 ) -> Result<(), Refused> {
-    m.make_watched(rt, TREE, number, watch)?;
+    make(rt, m, TREE, number, watch)?;
     for leaf in 0..LEAVES {
-        m.make_watched(rt, ITEM, number, watch)?;
+        make(rt, m, ITEM, number, watch)?;
         m.set(TREE, leaf, ITEM)?;
     }
     m.set(ORDER, 1, TREE)
@@ -128,7 +155,7 @@ fn let_go(m: &mut Mutator) -> Result<(), Refused> {
 }
 
 /// Puts a new order in the place of another, or where none was. How many nodes of the directory were made for it.
-pub fn replace<R: Wait, W: Watch>(
+pub fn replace<R: Wait, W: Times>(
     rt: &R,
     m: &mut Mutator,
     at: u32,
@@ -136,7 +163,7 @@ pub fn replace<R: Wait, W: Watch>(
     number: u32,
     watch: &mut W,
 ) -> Result<u32, Refused> {
-    m.make_watched(rt, ORDER, number, watch)?;
+    make(rt, m, ORDER, number, watch)?;
     make_lines(rt, m, number, watch)?;
     make_tree(rt, m, number, watch)?;
     let nodes = come_to(rt, m, at, levels, watch)?;
@@ -199,14 +226,14 @@ fn look_at_tree(m: &mut Mutator, seen: Seen) -> Result<Seen, Refused> {
 }
 
 /// Looks at all objects of an order. It passes a safe point before. Refused where a call of `managed_heap` is.
-pub fn look_at<R: Wait, W: Watch>(
+pub fn look_at<R: Wait, W: Times>(
     rt: &R,
     m: &mut Mutator,
     at: u32,
     levels: u32,
     watch: &mut W,
 ) -> Result<Seen, Refused> {
-    m.safe_point(rt)?;
+    come_to_safe_point(rt, m, watch)?;
     come_to(rt, m, at, levels, watch)?;
     m.get(ORDER, NODE, way(at, 0))?;
     let seen = Seen::nothing().object(m.value(ORDER)?);

@@ -2,6 +2,7 @@
 
 use crate::crowd::Found;
 use crate::orders::Seen;
+use crate::timeline::Timeline;
 use crate::words::Asked;
 use std::io;
 use std::rt::Runtime;
@@ -166,6 +167,32 @@ fn tell_work<R: Runtime>(rt: &R, found: &Found, all: &Sums) -> io::Result<()> {
     )
 }
 
+/// Tells what a thread did when: a line an interval, with its begin and its end in nanoseconds.
+fn tell_line<R: Runtime>(rt: &R, name: &str, number: usize, line: &Timeline) -> io::Result<()> {
+    for it in line.noted.iter() {
+        println!(rt;
+            "{} {} {} {} {}",
+            name,
+            number,
+            it.doing.word(),
+            it.from,
+            it.to
+        )?;
+    }
+    Ok(())
+}
+
+/// Tells what each thread did when.
+fn tell_lines<R: Runtime>(rt: &R, found: &Found) -> io::Result<()> {
+    for (k, worker) in found.workers.iter().enumerate() {
+        tell_line(rt, "worker", k, &worker.log.line)?;
+    }
+    for (k, marker) in found.markers.iter().enumerate() {
+        tell_line(rt, "tracer", k, &marker.line)?;
+    }
+    Ok(())
+}
+
 /// Tells what a run came to.
 pub fn tell<R: Runtime + AllocGlobal>(rt: &R, asked: Asked, found: &Found) -> io::Result<()> {
     let all = summed(found);
@@ -176,5 +203,6 @@ pub fn tell<R: Runtime + AllocGlobal>(rt: &R, asked: Asked, found: &Found) -> io
     let lengths = lengths(rt, found);
     tell_times(rt, asked, found, lengths.as_slice())?;
     tell_latencies(rt, latencies(rt, found).as_slice())?;
-    tell_work(rt, found, &all)
+    tell_work(rt, found, &all)?;
+    tell_lines(rt, found)
 }

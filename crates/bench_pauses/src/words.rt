@@ -27,6 +27,8 @@ pub struct Asked {
     pub stops: bool,
     /// Nothing is told that depends on how the threads run.
     pub counts_alone: bool,
+    /// What each thread did when is told, too.
+    pub timeline: bool,
 }
 
 /// The options with a value.
@@ -41,7 +43,7 @@ const OPTIONS: [&str; 7] = [
 ];
 
 /// The options without one.
-const FLAGS: [&str; 2] = ["stops", "counts-alone"];
+const FLAGS: [&str; 3] = ["stops", "counts-alone", "timeline"];
 
 /// The number that is given for an option, where it is in the range, or without one the default.
 fn chosen(
@@ -83,6 +85,7 @@ fn asked_of(matches: &ArgMatches<'_>) -> Option<Asked>
         transactions: chosen(matches, "transactions", 0, 4_000_000_000, 20_000)?,
         stops: matches.get_flag("stops"),
         counts_alone: matches.get_flag("counts-alone"),
+        timeline: matches.get_flag("timeline"),
     };
     if asked.cells % 64 == 0 {
         Some(asked)

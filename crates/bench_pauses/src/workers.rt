@@ -125,7 +125,7 @@ fn look_at_all<R: Wait + Clock>(
 impl Worker {
     /// Fills its directory, and stays outside then. Refused where a call of `managed_heap` is.
     pub fn fill<R: Wait + Clock>(&mut self, rt: &R, alloc: Global) -> Result<(), Refused> {
-        let mut clock = StopClock::new(rt, alloc);
+        let mut clock = StopClock::new(rt, alloc, None);
         self.mutator.enter(rt)?;
         self.nodes = fill_all(rt, &mut self.mutator, self.orders, &mut clock)?;
         self.mutator.leave();
@@ -142,8 +142,9 @@ impl Worker {
 
     /// Plays a round of its transactions. What it saw meanwhile is no part of what it tells. Refused where a call of `managed_heap` is.
     pub fn play<R: Wait + Clock>(&mut self, rt: &R, alloc: Global) -> Result<(), Refused> {
-        let mut clock = StopClock::new(rt, alloc);
-        clock.log = mem::replace(&mut self.log, Log::empty(alloc));
+        let began = self.log.line.began;
+        let mut clock = StopClock::new(rt, alloc, began);
+        clock.log = mem::replace(&mut self.log, Log::empty(alloc, began));
         self.mutator.enter(rt)?;
         let orders = self.orders;
         self.seen = churn(rt, &mut self.mutator, orders, &mut self.ledger, &mut clock)?;
@@ -154,7 +155,7 @@ impl Worker {
 
     /// Looks at all of its orders. Refused where a call of `managed_heap` is.
     pub fn look<R: Wait + Clock>(&mut self, rt: &R, alloc: Global) -> Result<(), Refused> {
-        let mut clock = StopClock::new(rt, alloc);
+        let mut clock = StopClock::new(rt, alloc, None);
         self.mutator.enter(rt)?;
         let all = look_at_all(rt, &mut self.mutator, self.orders, &mut clock)?;
         self.seen = self.seen.and(all);
