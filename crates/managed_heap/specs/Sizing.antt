@@ -1,5 +1,5 @@
 -- The sizes that a world may have.
-use Rattle.std.specs.Prelude.{◌≡◌, ◌%◌, ◌≤◌}
+use Rattle.std.specs.Prelude.{ℕ, ◌≡◌, ◌%◌, ◌/◌, ◌≤◌, min, max}
 use Rattle.mark_core.specs.Cards.{block_cells}
 use Rattle.managed_heap.specs.declared.sizes.Sizes.{Sizes}
 
@@ -11,3 +11,7 @@ pub record Fits (s : Sizes) : Type 0 where
   pub tracers : s.tracers ≤ 8
   pub packets : (2 ≤ s.packets) × (s.packets ≤ 1024)
   pub entries : (2 ≤ s.entries) × (s.entries ≤ 512)
+
+-- how many cells a packet has room for where no number is given
+abbrev pub usual_entries : ℕ → ℕ
+usual_entries cells = min (max (cells / 2048) 32) 512

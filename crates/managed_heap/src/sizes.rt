@@ -1,9 +1,17 @@
 //! The sizes of a world.
 ghost use Rattle.std.specs.Prelude.{◌≡◌, false};
 ghost use Rattle.std.specs.Bool.{OnFalse, OnTrue};
-ghost use Rattle.managed_heap.specs.Sizing.{Fits};
+ghost use Rattle.managed_heap.specs.Sizing.{Fits, usual_entries as usual};
 
 use mark_core::BLOCK_CELLS;
+
+/// How many cells a packet has room for where no number is given: a 2,048th of the heap's cells, but 32 at least and 512 at most. So what waits to be scanned
+/// in a large heap fits the packets, and they take a 32nd of a word for each cell.
+fn usual_entries(cells: u32) -> u32
+    ensures { result ≡ usual cells }
+{
+    (cells / 2_048).max(32).min(512)
+}
 
 /// The sizes of a world, which [`World::open`](crate::World::open) tests. All memory is taken when it opens.
 #[derive(Clone, Copy, Debug, PartialEq, Eq, Drop)]
@@ -22,7 +30,7 @@ impl Sizes {
     /// A heap of so many cells, 64 to 16,777,216, a multiple of 64. Each cell holds one object. Objects have two references, and there is one mutator and no
     /// tracer, unless other numbers are given. Twice as many cells as objects are reachable at once are ample.
     pub fn of_cells(cells: u32) -> Sizes
-        ensures { result ≡ record { cells = cells; fields = 2; mutators = 1; tracers = 0; packets = 64; entries = 32; name = 0; in_stops = false } }
+        ensures { result ≡ record { cells = cells; fields = 2; mutators = 1; tracers = 0; packets = 64; entries = usual cells; name = 0; in_stops = false } }
     {
         Sizes {
             cells,
@@ -30,7 +38,7 @@ impl Sizes {
             mutators: 1,
             tracers: 0,
             packets: 64,
-            entries: 32,
+            entries: usual_entries(cells),
             name: 0,
             in_stops: false,
         }
@@ -58,7 +66,8 @@ impl Sizes {
     }
 
     /// With so many packets, 2 to 1,024, each with room for so many cells, 2 to 512, that wait to be scanned. Where more wait, cards take the place of
-    /// packets: too few cost time and nothing else.
+    /// packets: too few cost time and nothing else. Where none are given there are 64, each with room for a 2,048th of the cells, but 32 at least and 512 at
+    /// most.
     pub fn packets(self, packets: u32, entries: u32) -> Sizes
         ensures { result ≡ record self { packets = packets; entries = entries } }
     {

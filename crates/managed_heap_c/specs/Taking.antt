@@ -3,7 +3,7 @@ use Rattle.std.specs.Prelude.{ℕ, ◌≡◌, ◌⊎◌, ◌++◌, [], ◌∷◌
 use Rattle.std.specs.Arc.{arc_value}
 use Rattle.managed_heap.specs.Calls.{heap_of}
 use Rattle.managed_heap.specs.Lending.{IsOpened, KeepsRest}
-use Rattle.managed_heap.specs.Sizing.{Fits}
+use Rattle.managed_heap.specs.Sizing.{Fits, usual_entries}
 use Rattle.managed_heap.specs.Stepping.{heap_of_stepper}
 use Rattle.managed_heap.specs.declared.mutator.Mutator.{Mutator}
 use Rattle.managed_heap.specs.declared.sizes.Sizes.{Sizes}
@@ -18,7 +18,7 @@ use Rattle.managed_heap_c.specs.declared.worlds.CSizes.{CSizes}
 
 -- the sizes that C asks for; of packets there are as many as where nothing is said of them
 abbrev pub sizes_of : CSizes → Sizes
-sizes_of c = record { cells = c.cells; fields = c.fields; mutators = c.mutators; tracers = c.tracers; packets = 64; entries = 32; name = c.name; in_stops = false }
+sizes_of c = record { cells = c.cells; fields = c.fields; mutators = c.mutators; tracers = c.tracers; packets = 64; entries = usual_entries c.cells; name = c.name; in_stops = false }
 
 -- why no world is opened: a size is out of its range, or there is no memory
 abbrev pub OpensNone : ℕ → CSizes → Type 0

@@ -1,9 +1,17 @@
 //! The sizes of a shared world.
 ghost use Rattle.std.specs.Prelude.{◌≡◌};
 ghost use Rattle.std.specs.Bool.{OnFalse, OnTrue};
-ghost use Rattle.shared_heap.specs.Sizing.{Fits};
+ghost use Rattle.shared_heap.specs.Sizing.{Fits, usual_entries as usual};
 
 use mark_core::BLOCK_CELLS;
+
+/// How many cells a packet has room for where no number is given: a 2,048th of the heap's cells, but 32 at least and 512 at most. So what waits to be scanned
+/// in a large heap fits the packets, and they take a 32nd of a word for each cell.
+fn usual_entries(cells: u32) -> u32
+    ensures { result ≡ usual cells }
+{
+    (cells / 2_048).max(32).min(512)
+}
 
 /// The sizes of a world, which [`SharedWorld::open`](crate::SharedWorld::open) tests. All memory is taken when it opens.
 #[derive(Clone, Copy, Debug, PartialEq, Eq, Drop)]
@@ -21,7 +29,7 @@ impl SharedSizes {
     /// A heap of so many cells, 64 to 16,777,216, a multiple of 64. Objects have two references, and there is one mutator, without slots, unless other numbers
     /// are given.
     pub fn of_cells(cells: u32) -> SharedSizes
-        ensures { result ≡ record { cells = cells; fields = 2; mutators = 1; slots = 0; packets = 64; entries = 32; name = 0 } }
+        ensures { result ≡ record { cells = cells; fields = 2; mutators = 1; slots = 0; packets = 64; entries = usual cells; name = 0 } }
     {
         SharedSizes {
             cells,
@@ -29,7 +37,7 @@ impl SharedSizes {
             mutators: 1,
             slots: 0,
             packets: 64,
-            entries: 32,
+            entries: usual_entries(cells),
             name: 0,
         }
     }
@@ -56,7 +64,8 @@ impl SharedSizes {
     }
 
     /// With so many packets, 2 to 1,024, each with room for so many cells, 2 to 512, that wait to be scanned. Where more wait, cards take the place of
-    /// packets: too few cost time and nothing else.
+    /// packets: too few cost time and nothing else. Where none are given there are 64, each with room for a 2,048th of the cells, but 32 at least and 512 at
+    /// most.
     pub fn packets(self, packets: u32, entries: u32) -> SharedSizes
         ensures { result ≡ record self { packets = packets; entries = entries } }
     {
