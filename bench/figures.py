@@ -1,5 +1,5 @@
 #!/usr/bin/env python3
-"""Draws the tables of bench/README.md and docs/PERFORMANCE.md as pictures under docs/figures.
+"""Draws the tables of bench/README.md and docs/PAUSES.md as pictures under docs/figures.
 
 From the top of the repository: python3 bench/figures.py writes the pictures, and python3 bench/figures.py --check
 says whether those that are there are the ones that it would write. It needs Python's own library alone.
@@ -129,73 +129,43 @@ def to_floor():
 
 
 def speed_up():
-    """How many times as fast as one worker."""
-    labels, lines = series("docs/PERFORMANCE.md", "Workers", ["gcplay, clock", "Floor, clock"])
+    """How many times as fast as one worker, without tracers."""
+    header, rows = table("bench/README.md", "Workers", "Tracers", "`orders`, clock ms", "`live`, clock ms")
+    rows = [row for row in rows if row[1] == "0"]
+    lines = [(name.split(",")[0], [number(row[header.index(name)]) for row in rows]) for name in ("`orders`, clock ms", "`live`, clock ms")]
     lines = [(name, [values[0] / v for v in values]) for name, values in lines]
-    return curves("orders: speed-up by workers, by the clock", "times one worker", labels, lines)
+    return curves("Speed-up by workers, by the clock, without tracers", "times one worker", [row[0] for row in rows], lines)
 
 
-def tracers():
-    labels, lines = series("docs/PERFORMANCE.md", "Tracers", ["processor, `orders`", "clock, `orders`", "processor, `live`", "clock, `live`"])
-    return curves("What tracers cost, four workers", "milliseconds", labels, lines)
-
-
-def pauses_of(cells, column):
-    """What the two ways have in a column of the table of pauses, for each pair of workers and tracers."""
-    header, rows = table("docs/PAUSES.md", "Marking", "Longest")
-    at = {name: header.index(name) for name in ("Cells", "Workers", "Tracers", "Marking", column)}
-    labels, found = [], {"beside": [], "stops": []}
+def pauses_of(column, programs):
+    """What programs have in a column of the table of pauses, for each pair of cells and workers; a program is named by how its name begins."""
+    header, rows = table("docs/PAUSES.md", "Program", "Mean stop")
+    cells, workers, program = (header.index(it) for it in ("Cells", "Workers", "Program"))
+    found = {}
     for row in rows:
-        if number(row[at["Cells"]]) != cells or number(row[at["Tracers"]]) > 1:
-            continue
-        label = f"{row[at['Workers']]} / {row[at['Tracers']]}"
-        if label not in labels:
-            labels.append(label)
-        found[row[at["Marking"]]].append(number(row[at[column]]))
-    return labels, found
-
-
-def in_milliseconds(values):
-    return [round(v / 1000) for v in values]
+        for name in programs:
+            if row[program].startswith(name):
+                found.setdefault((row[cells], row[workers]), {})[name] = number(row[header.index(column)])
+    labels = [f"{int(size[0]) / 2**20:g} M / {size[1]}" for size in found]
+    return labels, {name: [it.get(name, 0) for it in found.values()] for name in programs}
 
 
 def pauses():
-    """The mean and the longest stop, both ways, of the largest heap of the series."""
-    labels, means = pauses_of(PAUSES_CELLS, "Mean")
-    _, longest = pauses_of(PAUSES_CELLS, "Longest")
-    lines = [
-        ("mean, beside", in_milliseconds(means["beside"])),
-        ("longest, beside", in_milliseconds(longest["beside"])),
-        ("mean, stops", in_milliseconds(means["stops"])),
-        ("longest, stops", in_milliseconds(longest["stops"])),
-    ]
-    return bars(f"Stops in a heap of {PAUSES_CELLS:,} cells, by workers / tracers", "milliseconds", labels, lines)
+    """The mean and the longest stop, marking beside four workers and fewer, and in stops alone."""
+    labels, means = pauses_of("Mean stop", ["beside, 1", "stops, 1"])
+    _, longest = pauses_of("Longest", ["beside, 1", "stops, 1"])
+    lines = [(f"{what}, {way}", [round(v / 1000, 1) for v in found[f"{way}, 1"]]) for way in ("beside", "stops") for what, found in (("mean", means), ("longest", longest))]
+    return bars("Stops with one tracer, by cells / workers", "milliseconds", labels, lines)
 
 
 def pauses_rate():
-    """How many orders were replaced in a second, both ways."""
-    labels, rates = pauses_of(PAUSES_CELLS, "Orders a second")
-    lines = [(name, [round(v / 1000) for v in values]) for name, values in (("marking beside", rates["beside"]), ("in stops alone", rates["stops"]))]
-    return bars(f"Orders in a heap of {PAUSES_CELLS:,} cells, by workers / tracers", "thousands a second", labels, lines)
+    """How many orders were replaced in a second."""
+    names = {"beside, 1": "ours, beside", "stops, 1": "ours, in stops", "Boehm, stop": "Boehm", "Go": "Go"}
+    labels, rates = pauses_of("Orders a second", list(names))
+    return bars("Orders, by cells / workers", "thousands a second", labels, [(names[it], [round(v / 1000) for v in rates[it]]) for it in names])
 
 
-def pauses_work():
-    """Of a hundred objects that were traced, who traced them."""
-    header, rows = table("docs/PAUSES.md", "Traced by mutators", "By tracers", "Left to the stops")
-    columns = ["Traced by mutators", "By tracers", "Left to the stops"]
-    labels, lines = [], {column: [] for column in columns}
-    for row in rows:
-        if number(row[header.index("Cells")]) != PAUSES_CELLS:
-            continue
-        labels.append(f"{row[header.index('Workers')]} / {row[header.index('Tracers')]}")
-        counts = [number(row[header.index(column)]) for column in columns]
-        for column, count in zip(columns, counts):
-            lines[column].append(round(100 * count / max(1, sum(counts)), 1))
-    return bars("Who traced, by workers / tracers", "of a hundred objects", labels, list(lines.items()))
-
-
-PAUSES_CELLS = 4194304
-FIGURES = {"to_floor": to_floor, "speed_up": speed_up, "tracers": tracers, "pauses": pauses, "pauses_rate": pauses_rate, "pauses_work": pauses_work}
+FIGURES = {"to_floor": to_floor, "speed_up": speed_up, "pauses": pauses, "pauses_rate": pauses_rate}
 
 
 def main():

@@ -52,13 +52,14 @@ ours() {
     numbers <"$folder/told" >>"$folder/$4-$3.$1.$2"
 }
 
-# Boehm's collector, in the smallest heap in which it finds room.
+# Boehm's collector, in the smallest heap in which it finds room, and in a larger one from where it doesn't any more.
 boehm() {
     key=$1.$2.$3
     [ -f "$folder/$key.shares" ] || echo "$percent" >"$folder/$key.shares"
     for share in $(cat "$folder/$key.shares"); do
         if "$folder/boehm" "$2" $live "$3" "$(transactions "$2")" "$1" "$share" >"$folder/told" 2>/dev/null; then
-            echo "$share" >"$folder/$key.shares"
+            rest=" $percent "
+            echo "$share ${rest#* "$share" }" >"$folder/$key.shares"
             numbers <"$folder/told" >>"$folder/$key"
             return
         fi
@@ -118,7 +119,7 @@ pauses_lines() {
         for tracers in $tracers_of; do line "$1 | $2 | $way, $tracers" "$way-$tracers.$1.$2"; done
     done
     for mode in stop incremental; do
-        [ ! -s "$folder/$mode.$1.$2" ] || line "$1 | $2 | Boehm, $mode, $(cat "$folder/$mode.$1.$2.shares") %" "$mode.$1.$2"
+        [ ! -s "$folder/$mode.$1.$2" ] || line "$1 | $2 | Boehm, $mode, $(cut -d ' ' -f 1 "$folder/$mode.$1.$2.shares") %" "$mode.$1.$2"
     done
     line "$1 | $2 | Go" "go.$1.$2"
     for name in G1 Z Shenandoah; do line "$1 | $2 | $name" "$name.$1.$2"; done
