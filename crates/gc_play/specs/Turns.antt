@@ -12,13 +12,15 @@ use Rattle.mark_core.specs.declared.kinds.Step.TheVariants.{ReadPhase, EnterStep
 use Rattle.mark_core.specs.declared.seat.SeatState.{SeatState}
 use Rattle.gc_table.specs.declared.view.Entry.{Entry}
 use Rattle.gc_table.specs.Entries.{event}
+use Rattle.gc_table.specs.Log.{all_steps}
 use Rattle.packet_pools.specs.Counts.{count_of}
 use Rattle.packet_pools.specs.Seeking.{some_event}
 use Rattle.tracer.specs.Moments.{at_some_moment, finds_no_work}
 use Rattle.tracer.specs.Tally.{pops}
 use Rattle.gc_cycle.specs.Events.{never}
-use Rattle.gc_cycle.specs.Sorts.{enters, enters_freely, looks_at_phase}
+use Rattle.gc_cycle.specs.Sorts.{enters, enters_freely, looks_at_phase, tries_marking}
 use Rattle.gc_cycle.specs.Sorts.{reads_phase as sees_phase}
+use Rattle.gc_cycle.specs.Statistics.{leaves_numbers}
 
 -- a read of the number of parts that were played
 abbrev pub is_read_of_done : Step → Bool
@@ -133,11 +135,27 @@ abbrev pub EachPays : List Entry → Type 0
 EachPays [] = Unit {0}
 EachPays (e ∷ es) = (IsTrue (enters_freely e.step e.found) → PaysForPops (until_leave es)) × EachPays es
 
+-- what is told of all visits: for each time that the seat enters while no stop is under way, what it pops before it leaves
+abbrev pub payments : List Entry → List Change
+payments [] = []
+payments (e ∷ es) = (if enters_freely e.step e.found then payment (count_of pops (until_leave es)) else []) ++ payments es
+
+-- no number was changed but to tell of visits, whatever the seat popped as a helper
+abbrev pub PaysAlone : List Entry → Type 0
+PaysAlone es = changes_of_numbers es ≡ payments es
+
+-- no number was changed or set to 0, and no cycle was begun
+pub record LeavesNumbers (es : List Entry) : Type 0 where
+  pub numbers : IsTrue (all_steps leaves_numbers es)
+  pub unbegun : IsTrue (never tries_marking es)
+
 -- what a turn does, and whether it is the last: while parts are left to play the seat tries to enter
 pub record IsTracerTurn (sh : Shape) (until : ℕ) (last : Bool) (t : Turn) : Type 0 where
   pub tries : t.found < until → IsTrue (some_event enters t.rest)
   pub traces : IsTrue (each_visit sh t.state t.rest)
   pub pays : EachPays t.rest
+  pub alone : PaysAlone t.rest
+  pub helps : IsFalse (some_event enters_freely t.rest) → LeavesNumbers t.rest
   pub ends : last ≡ is_last until t
 
 -- turn t is the last where no turn follows; else it is not, and the rest holds
@@ -201,5 +219,6 @@ pub record TracesInside (sh : Shape) (s : SeatState) (es : List Entry) : Type 0 
 pub record IsVisit (sh : Shape) (full : Bool) (s : SeatState) (es : List Entry) : Type 0 where
   pub sees : IsTrue (visits sh s (until_leave es))
   pub pays : PaysForPops (until_leave es)
+  pub alone : changes_of_numbers es ≡ payment (count_of pops (until_leave es))
   pub waits : WaitsOutside es
   pub ends : full ≡ sees_full es

@@ -11,7 +11,7 @@ ghost use Rattle.gc_table.specs.Log.{events};
 ghost use Rattle.gc_table.specs.Entries.{event};
 ghost use Rattle.gc_play.specs.Stays.{RestsUnchanged, SeatStays};
 ghost use Rattle.gc_play.specs.Traced.{AllTracedUntil, TracedUntil};
-ghost use Rattle.gc_play.specs.Turns.{HasTakenTurns, IsOneTurn, IsVisit, TracesInside, WaitsOutside};
+ghost use Rattle.gc_play.specs.Turns.{HasTakenTurns, IsOneTurn, IsVisit, LeavesNumbers, TracesInside, WaitsOutside};
 
 use crate::entering::{enter, leave};
 use crate::marking::trace_inside;
@@ -31,6 +31,7 @@ fn await_resumed<R: Wait>(rt: &R, heap: &Heap, seat: &mut HeapSeat)
     ensures seat { Rests heap.now seat.new }
     ensures stays { Across SeatStays seat.old seat.new }
     ensures waits { WaitsOutside (did seat.old seat.new) }
+    ensures numbers { LeavesNumbers (did seat.old seat.new) }
 {
     await_resumed_helping(rt, heap, seat);
 }
