@@ -1,5 +1,6 @@
 mod Beginning
 mod Dealt
+mod Few
 mod Gathering
 mod Once
 mod Places

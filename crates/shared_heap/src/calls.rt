@@ -3,7 +3,8 @@ ghost use Rattle.std.specs.Arc.{arc_value};
 ghost use Rattle.std.specs.Prelude.{◌≡◌, ◌<◌, ◌+◌, IfErr, IfOk, IsFalse, IsTrue};
 ghost use Rattle.mark_core.specs.Steps.MutatorSteps.{seat_variable as word_in};
 ghost use Rattle.plain_heap.specs.declared.operation.Op.TheVariants as ops;
-ghost use Rattle.gc_table.specs.Seats.{state_of};
+ghost use Rattle.gc_table.specs.Seats.{Across, state_of};
+ghost use Rattle.mutator_ops.specs.Few.{AtMost};
 ghost use Rattle.mutator_ops.specs.Sharing.{LendsFound, SetsVariable, TakesSteps, putting_steps, setting_steps};
 ghost use Rattle.mutator_turns.specs.Sharing.{FollowsField, MakesSharedAfter};
 ghost use Rattle.shared_heap.specs.Calls.{CantEnter, FindsValue, HasNoRoot, HasPassed, MakesNone, ReadsNone, Refuses, SharerCollected, SharerDoes, SharerEntered, SharerLeft, SharerRefused, StaysOut};
@@ -128,6 +129,7 @@ impl SharedMutator {
         ensures some { IfOk result (λ _. 0 < word_in (state_of self.new.seat) w) }
         ensures refused { IfErr result (λ e. HasNoRoot e w self.old self.new) }
         ensures world { arc_value self.new.heap ≡ arc_value self.old.heap }
+        ensures few { IfOk result (λ _. Across (AtMost 2) self.old.seat self.new.seat) }
     {
         if w >= VARIABLES {
             return Err(Refused::OutOfRange);
@@ -149,6 +151,7 @@ impl SharedMutator {
         ensures done { IfOk result (λ _. SharerDoes (TakesSteps (setting_steps (state_of self.old.seat) v i w)) (ops.Set v i w) self.old self.new) }
         ensures refused { IfErr result (λ e. SharerRefused e (ops.Set v i w) self.old self.new) }
         ensures world { arc_value self.new.heap ≡ arc_value self.old.heap }
+        ensures few { IfOk result (λ _. Across (AtMost 2) self.old.seat self.new.seat) }
     {
         if v >= VARIABLES || w >= VARIABLES || u32::from(i) >= self.heap.shape().fields {
             return Err(Refused::OutOfRange);
@@ -167,6 +170,7 @@ impl SharedMutator {
         ensures done { IfOk result (λ _. SharerDoes (FollowsField w v i) (ops.Get w v i) self.old self.new) }
         ensures refused { IfErr result (λ e. SharerRefused e (ops.Get w v i) self.old self.new) }
         ensures world { arc_value self.new.heap ≡ arc_value self.old.heap }
+        ensures few { IfOk result (λ _. Across (AtMost 2) self.old.seat self.new.seat) }
     {
         if w >= VARIABLES || v >= VARIABLES || u32::from(i) >= self.heap.shape().fields {
             return Err(Refused::OutOfRange);
@@ -185,6 +189,7 @@ impl SharedMutator {
         ensures done { IfOk result (λ _. SharerDoes (SetsVariable w (word_in (state_of self.old.seat) v)) (ops.Let w v) self.old self.new) }
         ensures refused { IfErr result (λ e. SharerRefused e (ops.Let w v) self.old self.new) }
         ensures world { arc_value self.new.heap ≡ arc_value self.old.heap }
+        ensures few { IfOk result (λ _. Across (AtMost 1) self.old.seat self.new.seat) }
     {
         if w >= VARIABLES || v >= VARIABLES {
             return Err(Refused::OutOfRange);
@@ -203,6 +208,7 @@ impl SharedMutator {
         ensures done { IfOk result (λ _. SharerDoes (SetsVariable v 0) (ops.Nil v) self.old self.new) }
         ensures refused { IfErr result (λ e. SharerRefused e (ops.Nil v) self.old self.new) }
         ensures world { arc_value self.new.heap ≡ arc_value self.old.heap }
+        ensures few { IfOk result (λ _. Across (AtMost 1) self.old.seat self.new.seat) }
     {
         if v >= VARIABLES {
             return Err(Refused::OutOfRange);
@@ -221,6 +227,7 @@ impl SharedMutator {
         ensures done { IfOk result (λ _. SharerDoes (TakesSteps (putting_steps (state_of self.old.seat) v value)) (ops.Put v value) self.old self.new) }
         ensures refused { IfErr result (λ e. SharerRefused e (ops.Put v value) self.old self.new) }
         ensures world { arc_value self.new.heap ≡ arc_value self.old.heap }
+        ensures few { IfOk result (λ _. Across (AtMost 1) self.old.seat self.new.seat) }
     {
         if v >= VARIABLES {
             return Err(Refused::OutOfRange);
@@ -239,6 +246,7 @@ impl SharedMutator {
         ensures value { IfOk result (λ n. SharerDoes (FindsValue v n) (ops.Say v) self.old self.new) }
         ensures refused { IfErr result (λ e. ReadsNone e v self.old self.new) }
         ensures world { arc_value self.new.heap ≡ arc_value self.old.heap }
+        ensures few { IfOk result (λ _. Across (AtMost 1) self.old.seat self.new.seat) }
     {
         if v >= VARIABLES {
             return Err(Refused::OutOfRange);

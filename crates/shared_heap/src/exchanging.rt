@@ -1,6 +1,8 @@
 //! Exchanges in a shared world: of several mutators that expect the same one alone succeeds.
 ghost use Rattle.std.specs.Arc.{arc_value};
 ghost use Rattle.std.specs.Prelude.{◌≡◌, IfErr, IfOk};
+ghost use Rattle.gc_table.specs.Seats.{Across};
+ghost use Rattle.mutator_ops.specs.Few.{AtMost};
 ghost use Rattle.mutator_turns.specs.Exchanging.{ExchangesField, ExchangesValue};
 ghost use Rattle.shared_heap.specs.Calls.{SharerActs};
 ghost use Rattle.shared_heap.specs.Wanting.{CanExchange, IsVariable, WantsObject};
@@ -16,6 +18,7 @@ impl SharedMutator {
         ensures done { IfOk result (λ won. SharerActs (CanExchange self.old v i expected new) (ExchangesField v i expected new won) self.old self.new) }
         ensures refused { IfErr result (λ e. WantsObject e (CanExchange self.old v i expected new) v self.old self.new) }
         ensures world { arc_value self.new.heap ≡ arc_value self.old.heap }
+        ensures few { IfOk result (λ _. Across (AtMost 2) self.old.seat self.new.seat) }
     {
         let fields = self.heap.shape().fields;
         if v >= VARIABLES || u32::from(i) >= fields || expected >= VARIABLES || new >= VARIABLES {
@@ -38,6 +41,7 @@ impl SharedMutator {
         ensures done { IfOk result (λ won. SharerActs (IsVariable v) (ExchangesValue v expected new won) self.old self.new) }
         ensures refused { IfErr result (λ e. WantsObject e (IsVariable v) v self.old self.new) }
         ensures world { arc_value self.new.heap ≡ arc_value self.old.heap }
+        ensures few { IfOk result (λ _. Across (AtMost 1) self.old.seat self.new.seat) }
     {
         if v >= VARIABLES {
             return Err(Refused::OutOfRange);

@@ -3,7 +3,8 @@ ghost use Rattle.std.specs.Arc.{arc_value};
 ghost use Rattle.std.specs.Prelude.{◌≡◌, ◌+◌, ◌-◌, ◌<◌, IfErr, IfOk};
 ghost use Rattle.mark_core.specs.Steps.MutatorSteps.{seat_variable as word_in};
 ghost use Rattle.mark_core.specs.declared.kinds.Step.TheVariants.{ReadIdent};
-ghost use Rattle.gc_table.specs.Seats.{Found, state_of};
+ghost use Rattle.gc_table.specs.Seats.{Across, Found, state_of};
+ghost use Rattle.mutator_ops.specs.Few.{AtMost};
 ghost use Rattle.shared_heap.specs.Calls.{SharerActs};
 ghost use Rattle.shared_heap.specs.Wanting.{IsVariable, WantsObject};
 
@@ -40,6 +41,7 @@ impl SharedMutator {
         ensures number { IfOk result (λ n. SharerActs (IsVariable v) (Found (ReadIdent (word_in (state_of self.old.seat) v - 1)) n) self.old self.new) }
         ensures refused { IfErr result (λ e. WantsObject e (IsVariable v) v self.old self.new) }
         ensures world { arc_value self.new.heap ≡ arc_value self.old.heap }
+        ensures few { IfOk result (λ _. Across (AtMost 1) self.old.seat self.new.seat) }
     {
         if v >= VARIABLES {
             return Err(Refused::OutOfRange);

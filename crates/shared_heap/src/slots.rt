@@ -3,7 +3,8 @@ ghost use Rattle.std.specs.Arc.{arc_value};
 ghost use Rattle.std.specs.Prelude.{◌≡◌, ◌-◌, ◌∷◌, [], IfErr, IfOk};
 ghost use Rattle.mark_core.specs.Steps.MutatorSteps.{seat_variable as word_in};
 ghost use Rattle.mark_core.specs.declared.kinds.Step.TheVariants.{StoreSlot};
-ghost use Rattle.gc_table.specs.Seats.{state_of};
+ghost use Rattle.gc_table.specs.Seats.{Across, state_of};
+ghost use Rattle.mutator_ops.specs.Few.{AtMost};
 ghost use Rattle.mutator_ops.specs.Sharing.{FillsFound, TakesSteps};
 ghost use Rattle.mutator_turns.specs.Clearing.{clearing_steps};
 ghost use Rattle.shared_heap.specs.Calls.{ActRefused, SharerActs};
@@ -19,6 +20,7 @@ impl SharedMutator {
         ensures done { IfOk result (λ _. SharerActs (IsSlot self.old v k) (TakesSteps (StoreSlot k (word_in (state_of self.old.seat) v) ∷ [])) self.old self.new) }
         ensures refused { IfErr result (λ e. ActRefused e (IsSlot self.old v k) self.old self.new) }
         ensures world { arc_value self.new.heap ≡ arc_value self.old.heap }
+        ensures few { IfOk result (λ _. Across (AtMost 1) self.old.seat self.new.seat) }
     {
         if v >= VARIABLES || u32::from(k) >= self.heap.shape().slots {
             return Err(Refused::OutOfRange);
@@ -37,6 +39,7 @@ impl SharedMutator {
         ensures done { IfOk result (λ _. SharerActs (IsSlot self.old v k) (FillsFound v k) self.old self.new) }
         ensures refused { IfErr result (λ e. ActRefused e (IsSlot self.old v k) self.old self.new) }
         ensures world { arc_value self.new.heap ≡ arc_value self.old.heap }
+        ensures few { IfOk result (λ _. Across (AtMost 2) self.old.seat self.new.seat) }
     {
         if v >= VARIABLES || u32::from(k) >= self.heap.shape().slots {
             return Err(Refused::OutOfRange);
@@ -55,6 +58,7 @@ impl SharedMutator {
         ensures done { IfOk result (λ _. SharerActs (HasSlots self.old from to) (TakesSteps (clearing_steps from (to - from))) self.old self.new) }
         ensures refused { IfErr result (λ e. ActRefused e (HasSlots self.old from to) self.old self.new) }
         ensures world { arc_value self.new.heap ≡ arc_value self.old.heap }
+        ensures few { IfOk result (λ _. Across (AtMost (to - from)) self.old.seat self.new.seat) }
     {
         if from > to || to > self.heap.shape().slots {
             return Err(Refused::OutOfRange);

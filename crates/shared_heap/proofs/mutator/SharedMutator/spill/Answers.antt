@@ -1,0 +1,5 @@
+use Rattle.shared_heap.proofs.Few.{took-one}
+use Rattle.shared_heap.proofs.mutator.SharedMutator.spill.Goals as goal
+
+pub returns-in-Inside-clause-few : goal.returns-in-Inside-clause-few
+returns-in-Inside-clause-few c = took-one _ _ _ c.spill_shared.ensures.takes
