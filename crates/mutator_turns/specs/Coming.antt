@@ -1,7 +1,6 @@
 -- How a mutator goes into the world, to its turn, to a free cell, and out again: when it polls and when it stops the world, what it pays, and which of the
 -- numbers that pace a cycle it changes.
 use Rattle.std.specs.Prelude.{ℕ, ◌≡◌, ◌≤◌, ◌⊎◌, Bool, true, false, List, [], ◌∷◌, Option, Some, None, IsTrue}
-use Rattle.std.specs.Int.Count.{ones}
 use Rattle.mark_core.specs.declared.kinds.Shape.{Shape}
 use Rattle.mark_core.specs.declared.kinds.Step.TheVariants.{LeaveStep, StorePosition}
 use Rattle.gc_table.specs.Log.{Only, event, events, steps_of}
@@ -29,6 +28,7 @@ use Rattle.cache_refills.specs.InStops.{FillsTo, begins_none}
 use Rattle.cache_refills.specs.Pace.Pacing.{begins_where_due}
 use Rattle.cache_refills.specs.Stops.{stops_again_with_cause, stops_with_cause}
 use Rattle.mutator_ops.specs.Listing.{creating_steps}
+use Rattle.mutator_turns.specs.Standing.{LacksFree}
 use Rattle.mutator_turns.specs.Sharing.{LeavesHeap}
 use Rattle.mutator_turns.specs.declared.refused.Refused.{Refused}
 use Rattle.mutator_turns.specs.declared.refused.Refused.TheVariants as refusals
@@ -56,11 +56,6 @@ pub record Polls (handed kept : Option Cache) (v w : View) : Type 0 where
   pub calm : IsTrue (never raises_flag (events v w))
   pub not_full : IsTrue (never_fills (events v w))
   pub numbers : GivesUp handed kept v w
-
--- no cell can be made in the cache
-abbrev pub LacksCell : Option Cache → Type 0
-LacksCell None = Unit {0}
-LacksCell (Some h) = ones h.cells ≡ 0
 
 -- a refill answered so: what was paid, the cause of each stop, of a second one, of finding the heap full and of beginning a cycle, and the numbers
 pub record RefillsBeside (sh : Shape) (r : Refill) (v w : View) : Type 0 where
@@ -96,7 +91,7 @@ FillsWith R (Some h) v w = (paid : Paid) × R (refills.Cache h paid) v w
 
 -- a cache in which no cell can be made was given up, where there was one, and then a refill answered so
 pub record FillsOnce (in_stops : Bool) (sh : Shape) (kept : Option Cache) (r : Refill) (v w : View) : Type 0 where
-  pub lacks : LacksCell kept
+  pub lacks : LacksFree kept
   pub given : View
   pub gives : GivesCache kept v given
   pub refills : RefillsBy in_stops sh r given w

@@ -8,7 +8,7 @@ ghost use Rattle.gc_table.specs.Seats.{Across, state_of, view_of};
 ghost use Rattle.alloc_cache.specs.Caching.{IsCached};
 ghost use Rattle.gc_cycle.specs.Answering.{HasCache};
 ghost use Rattle.gc_cycle.specs.declared.counts.Refill.TheVariants as refills;
-ghost use Rattle.mutator_turns.specs.Coming.{ComesTo, ComesToNone, FillsOnce, FillsWith, GivesCache, LacksCell, Polls, RefillsBeside, RefillsInStops};
+ghost use Rattle.mutator_turns.specs.Coming.{ComesTo, ComesToNone, FillsOnce, FillsWith, GivesCache, Polls, RefillsBeside, RefillsInStops};
 ghost use Rattle.mutator_turns.specs.Halting.{EndsFullOrSpent, HaltsFull};
 ghost use Rattle.mutator_turns.specs.Sharing.{LeavesHeap};
 ghost use Rattle.mutator_turns.specs.Standing.{Halts, IsAtTurn, LacksFree, Plays, Works, plain_of};
@@ -135,7 +135,7 @@ fn fill<R: Wait, W: Watch>(
 ) -> Result<Option<Cache>, Refused>
     requires works { Works heap.now seat.old }
     requires cache { HasCache cache (view_of seat.old) }
-    requires lacks { LacksCell cache }
+    requires lacks { LacksFree cache }
     ensures ok { IfOk result (λ kept. Works heap.now seat.new × HasCache kept (view_of seat.new)) }
     ensures err { IfErr result (λ e. HaltsFull e heap.now seat.new) }
     ensures same { plain_of seat.new ≡ plain_of seat.old }
@@ -156,7 +156,6 @@ pub fn with_free(cache: Option<Cache>) -> Result<Cache, Option<Cache>>
     ensures ok { IfOk result (λ free. (cache ≡ Some free) × (0 < ones free.cells)) }
     ensures lacks { IfErr result (λ none. LacksFree none) }
     ensures err { IfErr result (λ none. none ≡ cache) }
-    ensures lacks { IfErr result (λ none. LacksCell none) }
 {
     match cache {
         Some(cache) => {
