@@ -7,7 +7,7 @@ use Rattle.gc_table.specs.SeatRecords.{resting}
 use Rattle.gc_table.specs.declared.seat.Heap.{Heap}
 use Rattle.gc_table.specs.declared.seat.HeapSeat.{HeapSeat}
 use Rattle.gc_table.specs.declared.view.SectionState.{SectionState}
-use Rattle.managed_heap.specs.Opening.{AreNew, IsNewSeat, Opens}
+use Rattle.managed_heap.specs.Opening.{AreNew, AreNumbered, IsNewSeat, Opens}
 use Rattle.mutator_turns.specs.Standing.{RestsOutside}
 
 pub new-rests : (h : Heap) (n : ℕ) (x : HeapSeat) → IsNewSeat h n x → RestsOutside h x
@@ -29,3 +29,8 @@ module _ (h : Heap) (k : ℕ) (x : HeapSeat) (xs ys : List HeapSeat) (first : ys
   -- and the others are those from the next one on
   pub rest-new : AreNew h (k + 1) xs
   rest-new = λ i s at. subst (λ n. IsNewSeat h n s) (let e : k + suc i ≡ k + 1 + i = omega arith in e) (new (suc i) s (ap (λ (l : List HeapSeat). slice_get l (suc i)) first ∙ at))
+
+-- one more at the end of a numbered list
+pub numbered-push : {X : Type 0} (P : ℕ → X → Type 0) (k : ℕ) (xs : List X) (x : X) → AreNumbered P k xs → P (k + length xs) x → AreNumbered P k (xs ++ x ∷ [])
+numbered-push P k [] x a p = let e : k + 0 ≡ k = omega arith in (subst (λ n. P n x) e p, tt)
+numbered-push P k (y ∷ ys) x a p = let e : k + suc (length ys) ≡ k + 1 + length ys = omega arith in (a.0, numbered-push P (k + 1) ys x a.1 (subst (λ n. P n x) e p))

@@ -6,11 +6,15 @@ use Rattle.plain_heap.specs.declared.operation.Op.{Op}
 use Rattle.plain_heap.specs.PlainHeap.{Heap as PlainHeap}
 use Rattle.plain_heap.specs.PlainStep.{IsInRange}
 use Rattle.gc_table.specs.Rule.{KnowsFull}
-use Rattle.gc_table.specs.Seats.{did, view_of}
+use Rattle.gc_table.specs.Seats.{Across, did, view_of}
+use Rattle.gc_table.specs.declared.seat.HeapSeat.{HeapSeat}
+use Rattle.gc_table.specs.declared.view.View.{View}
 use Rattle.gc_cycle.specs.Cycles.{collects}
+use Rattle.mutator_turns.specs.Coming.{EntersTurn, LeavesTurn}
 use Rattle.mutator_turns.specs.Plain.{Steps, value_in}
 use Rattle.mutator_turns.specs.Standing.{plain_of}
 use Rattle.managed_heap.specs.declared.mutator.Mutator.{Mutator}
+use Rattle.managed_heap.specs.declared.mutator.Place.{Place}
 use Rattle.managed_heap.specs.declared.mutator.Place.TheVariants.{Inside, Outside}
 use Rattle.mutator_turns.specs.declared.refused.Refused.{Refused}
 use Rattle.mutator_turns.specs.declared.refused.Refused.TheVariants as refusals
@@ -36,6 +40,7 @@ pub record IsSame (x y : Mutator) : Type 0 where
   pub heap : heap_of y ≡ heap_of x
   pub world : arc_value y.heap ≡ arc_value x.heap
   pub name_is : y.name ≡ x.name
+  pub stops : y.in_stops ≡ x.in_stops
 
 -- one operation was done by a mutator inside the world, and nothing else
 pub record MutatorDoes (op : Op) (x y : Mutator) : Type 0 where
@@ -45,6 +50,7 @@ pub record MutatorDoes (op : Op) (x y : Mutator) : Type 0 where
   pub steps : Steps op (heap_of x) (heap_of y)
   pub world : arc_value y.heap ≡ arc_value x.heap
   pub name_is : y.name ≡ x.name
+  pub stops : y.in_stops ≡ x.in_stops
 
 -- why an operation isn't done: a number is out of range, or the mutator is outside
 abbrev pub Refuses : Refused → Op → Mutator → Type 0
@@ -56,6 +62,7 @@ Refuses e op x = ⊥
 pub record MutatorRefused (e : Refused) (op : Op) (x y : Mutator) : Type 0 where
   pub why : Refuses e op x
   pub same : IsSame x y
+  pub seat : y.seat ≡ x.seat
   pub place : y.place ≡ x.place
 
 -- why none was made: besides, the heap is full, and the mutator outside, or it has made all objects that have numbers
@@ -65,6 +72,12 @@ MakesNone refusals.Outside op x y = (x.place ≡ Outside) × (y.place ≡ Outsid
 MakesNone refusals.Full op x y = IsFull y × (x.place ≡ Inside) × (y.place ≡ Outside)
 MakesNone refusals.Spent op x y = (object_limit_of x ≤ length (heap_of x).objects) × (x.place ≡ Inside) × (y.place ≡ Inside)
 MakesNone refusals.Nil op x y = ⊥
+
+-- a call that was refused did nothing where a number is out of range or the mutator was outside, and else what R says
+abbrev pub RefusedBy : (Refused → View → View → Type 0) → Refused → Mutator → Mutator → Type 0
+RefusedBy R refusals.OutOfRange x y = y.seat ≡ x.seat
+RefusedBy R refusals.Outside x y = y.seat ≡ x.seat
+RefusedBy R e x y = Across (R e) x.seat y.seat
 
 -- the mutator was inside the world and is, and nothing changed
 pub record HasPassed (x y : Mutator) : Type 0 where
@@ -82,9 +95,15 @@ StaysOut refusals.Outside x y = (x.place ≡ Outside) × (y.place ≡ Outside) �
 StaysOut refusals.Full x y = IsFull y × (x.place ≡ Inside) × (y.place ≡ Outside) × IsSame x y
 StaysOut e x y = ⊥
 
+-- the seat went in and to its turn; or nothing was done, where it was inside already
+abbrev pub EntersFrom : Place → HeapSeat → HeapSeat → Type 0
+EntersFrom Outside s t = Across EntersTurn s t
+EntersFrom Inside s t = t ≡ s
+
 -- the mutator entered, or was inside already; nothing changed
 pub record MutatorEntered (x y : Mutator) : Type 0 where
   pub inside : y.place ≡ Inside
+  pub enters : EntersFrom x.place x.seat y.seat
   pub same : IsSame x y
 
 -- the mutator didn't enter, since the heap is full; nothing changed
@@ -92,9 +111,15 @@ abbrev pub CantEnter : Refused → Mutator → Mutator → Type 0
 CantEnter refusals.Full x y = IsFull y × (x.place ≡ Outside) × (y.place ≡ Outside) × IsSame x y
 CantEnter e x y = ⊥
 
+-- the seat gave up its cache and left; or nothing was done, where it was outside already
+abbrev pub LeavesFrom : Place → HeapSeat → HeapSeat → Type 0
+LeavesFrom Outside s t = t ≡ s
+LeavesFrom Inside s t = Across LeavesTurn s t
+
 -- the mutator is outside; nothing changed
 pub record MutatorLeft (x y : Mutator) : Type 0 where
   pub outside : y.place ≡ Outside
+  pub leaves : LeavesFrom x.place x.seat y.seat
   pub same : IsSame x y
 
 -- why no value is read: besides, the variable refers to nothing

@@ -1,38 +1,57 @@
 -- What a world has, and what is so when it is opened and closed.
-use Rattle.std.specs.Prelude.{ℕ, ◌≡◌, ◌<◌, ◌++◌, [], ◌∷◌, replicate, All, vec_len}
+use Rattle.std.specs.Prelude.{ℕ, ◌≡◌, ◌+◌, ◌<◌, ◌++◌, [], ◌∷◌, false, List, replicate, Bool, vec_len}
 use Rattle.std.specs.Arc.{arc_value}
-use Rattle.mark_core.specs.Numbers.{free_count, last_count, section_variables}
-use Rattle.mark_core.specs.declared.kinds.Step.TheVariants.{ReadStat}
+use Rattle.mark_core.specs.Numbers.{done_count, free_count, last_count, section_variables}
+use Rattle.mark_core.specs.declared.kinds.Shape.{Shape}
+use Rattle.mark_core.specs.declared.kinds.Step.TheVariants.{AddStat, LeaveStep, ReadStat, StorePosition}
 use Rattle.plain_heap.specs.declared.object.Ref.TheVariants.{Nil}
-use Rattle.gc_table.specs.Seats.{Found}
+use Rattle.gc_table.specs.Log.{event, events}
+use Rattle.gc_table.specs.SeatRecords.{At, resting}
+use Rattle.gc_table.specs.Seats.{Found, Took}
 use Rattle.gc_table.specs.declared.seat.Heap.{Heap}
 use Rattle.gc_table.specs.declared.view.View.{View}
+use Rattle.mutator_turns.specs.Coming.{GoesIn}
 use Rattle.managed_heap.specs.Calls.{MutatorLeft, heap_of}
+use Rattle.managed_heap.specs.Opening.{AreNumbered, IsNewSeat}
+use Rattle.managed_heap.specs.declared.background.Tracer.{Tracer}
 use Rattle.managed_heap.specs.declared.mutator.Mutator.{Mutator}
 use Rattle.managed_heap.specs.declared.mutator.Place.TheVariants.{Outside}
 use Rattle.managed_heap.specs.declared.sizes.Sizes.{Sizes}
 use Rattle.managed_heap.specs.declared.world.Statistics.{Statistics}
 use Rattle.managed_heap.specs.declared.world.World.{World}
 
--- a mutator of this heap, with this name, that has done nothing
-pub record IsFreshMutator (h : Heap) (name : ℕ) (m : Mutator) : Type 0 where
+-- the mutator of section k of this heap, with this name, that has done nothing, and collects in stops alone where that is asked for
+pub record IsFreshMutator (h : Heap) (name : ℕ) (in_stops : Bool) (k : ℕ) (m : Mutator) : Type 0 where
   pub heap : arc_value m.heap ≡ h
   pub name_is : m.name ≡ name
+  pub stops : m.in_stops ≡ in_stops
   pub place : m.place ≡ Outside
+  pub seat : IsNewSeat h k m.seat
   pub objects : (heap_of m).objects ≡ []
   pub variables : (heap_of m).variables ≡ replicate section_variables Nil
+
+-- the tracer with seat k of this heap and with this name, that has done nothing
+pub record IsFreshTracer (h : Heap) (name k : ℕ) (t : Tracer) : Type 0 where
+  pub heap : arc_value t.heap ≡ h
+  pub name_is : t.name ≡ name
+  pub traced : t.traced ≡ 0
+  pub seat : IsNewSeat h k t.seat
 
 -- all mutators and tracers are back
 abbrev pub AreAllBack : World → Type 0
 AreAllBack w = (vec_len w.mutators ≡ w.sizes.mutators) × (vec_len w.tracers ≡ w.sizes.tracers)
 
--- a new world of these sizes: its mutators have done nothing, and nobody has one
+-- the heap of a world of these sizes: a section for each mutator besides section 0; objects aren't shared, and their numbers have 32 bits
+abbrev pub shape_for : Sizes → Shape
+shape_for s = record { cells = s.cells; packets = s.packets; entries = s.entries; sections = 1 + s.mutators; fields = s.fields; objects = 4294967295; sharing = false; slots = 0 }
+
+-- a new world of these sizes: its mutators are those of sections 1, 2 and so on, and its tracers have the seats after them; none has done anything, and nobody has one
 pub record IsOpened (sizes : Sizes) (w : World) : Type 0 where
   pub sizes_are : w.sizes ≡ sizes
-  pub fields : (arc_value w.heap).shape.fields ≡ sizes.fields
-  -- how many objects a mutator makes at most: their numbers have 32 bits
-  pub objects : (arc_value w.heap).shape.objects ≡ 4294967295
-  pub fresh : All (IsFreshMutator (arc_value w.heap) sizes.name) w.mutators.items
+  pub shape : (arc_value w.heap).shape ≡ shape_for sizes
+  pub zero : At (arc_value w.heap) resting 0 w.zero
+  pub mutators_are : AreNumbered (IsFreshMutator (arc_value w.heap) sizes.name sizes.in_stops) 1 w.mutators.items
+  pub tracers_are : AreNumbered (IsFreshTracer (arc_value w.heap) sizes.name) (1 + sizes.mutators) w.tracers.items
   pub all : AreAllBack w
 
 -- the heap, its sizes and what is known of it are as before
@@ -41,6 +60,13 @@ pub record KeepsRest (x y : World) : Type 0 where
   pub zero : y.zero ≡ x.zero
   pub sizes_are : y.sizes ≡ x.sizes
 
+-- the world has all that it had, but for what is known of its heap
+pub record HasAllStill (x y : World) : Type 0 where
+  pub heap : y.heap ≡ x.heap
+  pub sizes_are : y.sizes ≡ x.sizes
+  pub mutators_are : y.mutators ≡ x.mutators
+  pub tracers_are : y.tracers ≡ x.tracers
+
 -- the mutator has the world's name, one was out, and it left and is the world's
 pub record IsBack (m : Mutator) (x y : World) : Type 0 where
   pub name_is : m.name ≡ x.sizes.name
@@ -48,6 +74,15 @@ pub record IsBack (m : Mutator) (x y : World) : Type 0 where
   pub left : Mutator
   pub has_left : MutatorLeft m left
   pub items : y.mutators.items ≡ x.mutators.items ++ left ∷ []
+
+-- the seat went in, raised the number of dismissals by one, and left
+pub record DismissesInside (v w : View) : Type 0 where
+  pub entered : View
+  pub enters : GoesIn v entered
+  pub told : View
+  pub tells : Took (AddStat done_count 1 false) entered told
+  pub left : ℕ
+  pub leaves : events told w ≡ event (StorePosition 0) 0 ∷ event LeaveStep left ∷ []
 
 -- the number of free cells was read, and then the number of those that the last cycle marked
 pub record ReadsStatistics (s : Statistics) (h : Heap) (v w : View) : Type 0 where

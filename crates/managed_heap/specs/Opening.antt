@@ -1,5 +1,5 @@
 -- The seats of a new heap, and what the seat of section 0 has come to while it opens the workers' turn.
-use Rattle.std.specs.Prelude.{ℕ, ◌≡◌, ◌+◌, [], List, Some, slice_get}
+use Rattle.std.specs.Prelude.{ℕ, ◌≡◌, ◌+◌, [], ◌∷◌, List, Some, slice_get}
 use Rattle.mark_core.specs.declared.kinds.Shape.{Shape}
 use Rattle.mark_core.specs.declared.seat.SeatState.{SeatState}
 use Rattle.gc_table.specs.Seats.{IsFresh, Sits, view_of}
@@ -15,6 +15,11 @@ IsNewSeat h k s = Sits h s × IsFresh h.shape [] k (view_of s)
 -- so are these, counted from k
 abbrev pub AreNew : Heap → ℕ → List HeapSeat → Type 0
 AreNew h k xs = (i : ℕ) (s : HeapSeat) → slice_get xs i ≡ Some s → IsNewSeat h (k + i) s
+
+-- the first of these is number k by P, and the others those after it, one after the other
+abbrev pub AreNumbered : {X : Type 0} → (ℕ → X → Type 0) → ℕ → List X → Type 0
+AreNumbered P k [] = Unit {0}
+AreNumbered P k (x ∷ xs) = P k x × AreNumbered P (k + 1) xs
 
 -- seat 0 has this record, and its section has done nothing
 abbrev pub Opens : Heap → (Shape → ℕ → SeatState) → HeapSeat → Type 0

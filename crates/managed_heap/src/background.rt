@@ -61,7 +61,9 @@ impl Tracer {
     }
 
     /// How many objects it has traced beside the mutators. What it traced while it helped a stop isn't counted.
-    pub fn traced(&self) -> u64 {
+    pub fn traced(&self) -> u64
+        ensures traced { result ≡ self.now.traced }
+    {
         self.traced
     }
 

@@ -1,18 +1,20 @@
 //! What a mutator does.
-ghost use Rattle.std.specs.Prelude.{◌≡◌, ◌<◌, IfErr, IfOk, IsFalse, IsTrue, None, Some};
-ghost use Rattle.mark_core.specs.Numbers.{section_variables};
-ghost use Rattle.plain_heap.specs.PlainHeap.{variable};
-ghost use Rattle.plain_heap.specs.declared.object.Ref.TheVariants.{Nil};
+ghost use Rattle.std.specs.Prelude.{IfErr, IfOk};
+ghost use Rattle.std.specs.Arc.{arc_value};
+ghost use Rattle.gc_table.specs.Log.{Only};
+ghost use Rattle.gc_table.specs.Seats.{Across};
 ghost use Rattle.plain_heap.specs.declared.operation.Op.TheVariants as ops;
-ghost use Rattle.managed_heap.specs.Calls.{CantEnter, MutatorCollected, MutatorEntered, MutatorLeft, HasPassed, MutatorDoes, MutatorRefused, IsSame, MakesNone, ReadsNone, Refuses, StaysOut, heap_of};
-ghost use Rattle.mutator_turns.specs.Plain.{value_in};
+ghost use Rattle.managed_heap.specs.Calls.{CantEnter, MutatorCollected, MutatorEntered, MutatorLeft, HasPassed, MutatorDoes, MutatorRefused, IsSame, MakesNone, RefusedBy, StaysOut};
+ghost use Rattle.mutator_turns.specs.Coming.{CollectsAtTurn, CollectsNone, EntersFull, MakesAtTurn, MakesNoneAtTurn, PollsOutWith, PollsWith, WithOwn};
+ghost use Rattle.mutator_turns.specs.Operating.{AtMost, TakesSteps};
+ghost use Rattle.mutator_turns.specs.Sharing.{spares_tracers};
 
 use crate::mutator::{Mutator, Place};
 use cache_refills::{Unwatched, Watch};
 use mark_core::VARIABLES;
 use mutator_turns::{
     Refused, collect_turn, copy_variable, enter_turn, forget_variable, get_field, leave_turn,
-    make_object, pass_turn, put_value, read_value, refer_to_one, refers_to_nothing, set_field,
+    make_object, pass_turn, put_value, set_field,
 };
 use std::sync::Wait;
 
@@ -21,6 +23,8 @@ impl Mutator {
     pub fn enter<R: Wait>(&mut self, rt: &R) -> Result<(), Refused>
         ensures entered { IfOk result (λ _. MutatorEntered self.old self.new) }
         ensures refused { IfErr result (λ e. CantEnter e self.old self.new) }
+        ensures full { IfErr result (λ e. RefusedBy (λ _. EntersFull) e self.old self.new) }
+        ensures tracers { Across (Only spares_tracers) self.old.seat self.new.seat }
     {
         match self.place {
             Place::Inside => Ok(()),
@@ -37,6 +41,7 @@ impl Mutator {
     /// Leaves the world, if it is inside. What its variables refer to is kept. It leaves before it waits for anything, since a collection waits for it.
     pub fn leave(&mut self)
         ensures left { MutatorLeft self.old self.new }
+        ensures tracers { Across (Only spares_tracers) self.old.seat self.new.seat }
     {
         match self.place {
             Place::Outside => {}
@@ -51,6 +56,9 @@ impl Mutator {
     pub fn safe_point<R: Wait>(&mut self, rt: &R) -> Result<(), Refused>
         ensures passed { IfOk result (λ _. HasPassed self.old self.new) }
         ensures refused { IfErr result (λ e. StaysOut e self.old self.new) }
+        ensures polls { IfOk result (λ _. Across (WithOwn PollsWith) self.old.seat self.new.seat) }
+        ensures full { IfErr result (λ e. RefusedBy (λ _. WithOwn PollsOutWith) e self.old self.new) }
+        ensures tracers { Across (Only spares_tracers) self.old.seat self.new.seat }
     {
         match self.place {
             Place::Outside => Err(Refused::Outside),
@@ -70,6 +78,9 @@ impl Mutator {
         ensures passed { IfOk result (λ _. HasPassed self.old self.new) }
         ensures collected { IfOk result (λ _. MutatorCollected self.old self.new) }
         ensures refused { IfErr result (λ e. StaysOut e self.old self.new) }
+        ensures collects { IfOk result (λ _. Across CollectsAtTurn self.old.seat self.new.seat) }
+        ensures full { IfErr result (λ e. RefusedBy (λ _. CollectsNone) e self.old self.new) }
+        ensures tracers { Across (Only spares_tracers) self.old.seat self.new.seat }
     {
         match self.place {
             Place::Outside => Err(Refused::Outside),
@@ -88,6 +99,9 @@ impl Mutator {
     pub fn make<R: Wait>(&mut self, rt: &R, v: u8, value: u32) -> Result<(), Refused>
         ensures made { IfOk result (λ _. MutatorDoes (ops.New v value) self.old self.new) }
         ensures refused { IfErr result (λ e. MakesNone e (ops.New v value) self.old self.new × IsSame self.old self.new) }
+        ensures makes { IfOk result (λ _. Across (MakesAtTurn self.old.in_stops (arc_value self.old.heap).shape v value) self.old.seat self.new.seat) }
+        ensures none { IfErr result (λ e. RefusedBy (λ e. MakesNoneAtTurn e self.old.in_stops (arc_value self.old.heap).shape) e self.old self.new) }
+        ensures tracers { Across (Only spares_tracers) self.old.seat self.new.seat }
     {
         self.make_watched(rt, v, value, &mut Unwatched)
     }
@@ -102,6 +116,9 @@ impl Mutator {
     ) -> Result<(), Refused>
         ensures made { IfOk result (λ _. MutatorDoes (ops.New v value) self.old self.new) }
         ensures refused { IfErr result (λ e. MakesNone e (ops.New v value) self.old self.new × IsSame self.old self.new) }
+        ensures makes { IfOk result (λ _. Across (MakesAtTurn self.old.in_stops (arc_value self.old.heap).shape v value) self.old.seat self.new.seat) }
+        ensures none { IfErr result (λ e. RefusedBy (λ e. MakesNoneAtTurn e self.old.in_stops (arc_value self.old.heap).shape) e self.old self.new) }
+        ensures tracers { Across (Only spares_tracers) self.old.seat self.new.seat }
     {
         if v >= VARIABLES {
             return Err(Refused::OutOfRange);
@@ -131,6 +148,9 @@ impl Mutator {
     pub fn set(&mut self, v: u8, i: u8, w: u8) -> Result<(), Refused>
         ensures done { IfOk result (λ _. MutatorDoes (ops.Set v i w) self.old self.new) }
         ensures refused { IfErr result (λ e. MutatorRefused e (ops.Set v i w) self.old self.new) }
+        ensures takes { IfOk result (λ _. Across (TakesSteps (ops.Set v i w)) self.old.seat self.new.seat) }
+        ensures few { IfOk result (λ _. Across (AtMost 3) self.old.seat self.new.seat) }
+        ensures tracers { Across (Only spares_tracers) self.old.seat self.new.seat }
     {
         if v >= VARIABLES || w >= VARIABLES || u32::from(i) >= self.heap.shape().fields {
             return Err(Refused::OutOfRange);
@@ -148,6 +168,9 @@ impl Mutator {
     pub fn get(&mut self, w: u8, v: u8, i: u8) -> Result<(), Refused>
         ensures done { IfOk result (λ _. MutatorDoes (ops.Get w v i) self.old self.new) }
         ensures refused { IfErr result (λ e. MutatorRefused e (ops.Get w v i) self.old self.new) }
+        ensures takes { IfOk result (λ _. Across (TakesSteps (ops.Get w v i)) self.old.seat self.new.seat) }
+        ensures few { IfOk result (λ _. Across (AtMost 2) self.old.seat self.new.seat) }
+        ensures tracers { Across (Only spares_tracers) self.old.seat self.new.seat }
     {
         if w >= VARIABLES || v >= VARIABLES || u32::from(i) >= self.heap.shape().fields {
             return Err(Refused::OutOfRange);
@@ -165,6 +188,9 @@ impl Mutator {
     pub fn copy(&mut self, w: u8, v: u8) -> Result<(), Refused>
         ensures done { IfOk result (λ _. MutatorDoes (ops.Let w v) self.old self.new) }
         ensures refused { IfErr result (λ e. MutatorRefused e (ops.Let w v) self.old self.new) }
+        ensures takes { IfOk result (λ _. Across (TakesSteps (ops.Let w v)) self.old.seat self.new.seat) }
+        ensures few { IfOk result (λ _. Across (AtMost 1) self.old.seat self.new.seat) }
+        ensures tracers { Across (Only spares_tracers) self.old.seat self.new.seat }
     {
         if w >= VARIABLES || v >= VARIABLES {
             return Err(Refused::OutOfRange);
@@ -182,6 +208,9 @@ impl Mutator {
     pub fn forget(&mut self, v: u8) -> Result<(), Refused>
         ensures done { IfOk result (λ _. MutatorDoes (ops.Nil v) self.old self.new) }
         ensures refused { IfErr result (λ e. MutatorRefused e (ops.Nil v) self.old self.new) }
+        ensures takes { IfOk result (λ _. Across (TakesSteps (ops.Nil v)) self.old.seat self.new.seat) }
+        ensures few { IfOk result (λ _. Across (AtMost 1) self.old.seat self.new.seat) }
+        ensures tracers { Across (Only spares_tracers) self.old.seat self.new.seat }
     {
         if v >= VARIABLES {
             return Err(Refused::OutOfRange);
@@ -199,6 +228,9 @@ impl Mutator {
     pub fn put(&mut self, v: u8, value: u32) -> Result<(), Refused>
         ensures done { IfOk result (λ _. MutatorDoes (ops.Put v value) self.old self.new) }
         ensures refused { IfErr result (λ e. MutatorRefused e (ops.Put v value) self.old self.new) }
+        ensures takes { IfOk result (λ _. Across (TakesSteps (ops.Put v value)) self.old.seat self.new.seat) }
+        ensures few { IfOk result (λ _. Across (AtMost 2) self.old.seat self.new.seat) }
+        ensures tracers { Across (Only spares_tracers) self.old.seat self.new.seat }
     {
         if v >= VARIABLES {
             return Err(Refused::OutOfRange);
@@ -209,54 +241,6 @@ impl Mutator {
                 put_value(&self.heap, &mut self.seat, v, value);
                 Ok(())
             }
-        }
-    }
-
-    /// The value of variable v's object. Nil where it refers to nothing.
-    pub fn value(&mut self, v: u8) -> Result<u32, Refused>
-        ensures value { IfOk result (λ value. (value_in (heap_of self.old) v ≡ Some value) × (v < section_variables) × HasPassed self.old self.new) }
-        ensures refused { IfErr result (λ e. ReadsNone e v self.old × IsSame self.old self.new) }
-        ensures place { self.new.place ≡ self.old.place }
-    {
-        if v >= VARIABLES {
-            return Err(Refused::OutOfRange);
-        }
-        match self.place {
-            Place::Outside => Err(Refused::Outside),
-            Place::Inside => match read_value(&self.heap, &mut self.seat, v) {
-                Some(value) => Ok(value),
-                None => Err(Refused::Nil),
-            },
-        }
-    }
-
-    /// Whether variable v refers to nothing. Refused where v is out of range, or the mutator is outside.
-    pub fn is_nil(&self, v: u8) -> Result<bool, Refused>
-        ensures nil { IfOk result (λ nil. IsTrue nil → variable (heap_of self.now) v ≡ Nil) }
-        ensures some { IfOk result (λ nil. IsFalse nil → variable (heap_of self.now) v ≡ Nil → ⊥) }
-        ensures refused { IfErr result (λ e. Refuses e (ops.Say v) self.now) }
-    {
-        if v >= VARIABLES {
-            return Err(Refused::OutOfRange);
-        }
-        match self.place {
-            Place::Outside => Err(Refused::Outside),
-            Place::Inside => Ok(refers_to_nothing(&self.heap, &self.seat, v)),
-        }
-    }
-
-    /// Whether variables v and w refer to one object, or both to nothing.
-    pub fn same(&self, v: u8, w: u8) -> Result<bool, Refused>
-        ensures one { IfOk result (λ one. IsTrue one → variable (heap_of self.now) v ≡ variable (heap_of self.now) w) }
-        ensures two { IfOk result (λ one. IsFalse one → variable (heap_of self.now) v ≡ variable (heap_of self.now) w → ⊥) }
-        ensures refused { IfErr result (λ e. Refuses e (ops.Let v w) self.now) }
-    {
-        if v >= VARIABLES || w >= VARIABLES {
-            return Err(Refused::OutOfRange);
-        }
-        match self.place {
-            Place::Outside => Err(Refused::Outside),
-            Place::Inside => Ok(refer_to_one(&self.heap, &self.seat, v, w)),
         }
     }
 }

@@ -1,9 +1,10 @@
 //! The seats of a new heap are dealt out to mutators and tracers.
-ghost use Rattle.std.specs.Prelude.{◌≡◌, ◌+◌, ◌<◌, ◌≤◌, All, IfErr, IfOk, IsFalse, IsTrue, is_some, vec_len};
+ghost use Rattle.std.specs.Prelude.{◌≡◌, ◌+◌, ◌<◌, ◌≤◌, IfErr, IfOk, IsFalse, IsTrue, is_some, vec_len};
 ghost use Rattle.std.specs.Arc.{arc_value};
+ghost use Rattle.gc_table.specs.SeatRecords.{At, resting};
 ghost use Rattle.gc_table.specs.Seats.{state_of};
-ghost use Rattle.managed_heap.specs.Lending.{IsFreshMutator, IsOpened};
-ghost use Rattle.managed_heap.specs.Opening.{AreNew, IsNewSeat};
+ghost use Rattle.managed_heap.specs.Lending.{IsFreshMutator, IsFreshTracer, IsOpened, shape_for};
+ghost use Rattle.managed_heap.specs.Opening.{AreNew, AreNumbered, IsNewSeat};
 ghost use Rattle.managed_heap.specs.Sizing.{Fits};
 ghost use Rattle.mutator_turns.specs.Standing.{RestsOutside};
 ghost use Rattle.mutator_turns.specs.declared.refused.NotOpened.TheVariants.{OutOfMemory};
@@ -29,7 +30,7 @@ fn mutator_of(
     requires seat { IsNewSeat (arc_value heap.now) _k seat }
     requires section { (0 < _k) × (_k < (arc_value heap.now).shape.sections) }
     requires owned { IsFalse (arc_value heap.now).shape.sharing }
-    ensures fresh { IfOk result (IsFreshMutator (arc_value heap.now) name) }
+    ensures fresh { IfOk result (IsFreshMutator (arc_value heap.now) name in_stops _k) }
 {
     Ok(Mutator {
         heap: Arc::try_clone(heap)?,
@@ -48,7 +49,7 @@ fn tracer_of(
     _k: u32,
 ) -> Result<Tracer, AllocError>
     requires seat { IsNewSeat (arc_value heap.now) _k seat }
-    ensures named { IfOk result (λ t. t.name ≡ name) }
+    ensures fresh { IfOk result (IsFreshTracer (arc_value heap.now) name _k) }
 {
     Ok(Tracer {
         heap: Arc::try_clone(heap)?,
@@ -71,7 +72,7 @@ fn deal_mutators(
     requires enough { mutators ≤ vec_len seats.old }
     requires sections { ((arc_value heap.now).shape.sections ≡ 1 + mutators) × (mutators ≤ 32) }
     requires owned { IsFalse (arc_value heap.now).shape.sharing }
-    ensures fresh { IfOk result (λ r. All (IsFreshMutator (arc_value heap.now) name) r.items) }
+    ensures fresh { IfOk result (λ r. AreNumbered (IsFreshMutator (arc_value heap.now) name in_stops) 1 r.items) }
     ensures count { IfOk result (λ r. vec_len r ≡ mutators) }
     ensures rest { IfOk result (λ _. AreNew (arc_value heap.now) (1 + mutators) seats.new.items) }
     ensures left { IfOk result (λ _. vec_len seats.new + mutators ≡ vec_len seats.old) }
@@ -97,6 +98,7 @@ fn deal_tracers(
     requires new { AreNew (arc_value heap.now) first seats.old.items }
     requires enough { tracers ≤ vec_len seats.old }
     requires few { (first ≤ 33) × (tracers ≤ 8) }
+    ensures fresh { IfOk result (λ r. AreNumbered (IsFreshTracer (arc_value heap.now) name) first r.items) }
     ensures count { IfOk result (λ r. vec_len r ≡ tracers) }
 {
     let mut all = Vec::new(alloc);
@@ -117,10 +119,10 @@ fn share(
 ) -> Result<World, AllocError>
     requires fits { Fits sizes }
     requires zero { RestsOutside heap zero × IsTrue (is_some (state_of zero).section) }
+    requires rests { At heap resting 0 zero }
     requires new { AreNew heap 1 seats.old.items }
     requires count { vec_len seats.old ≡ sizes.mutators + sizes.tracers }
-    requires owned { IsFalse heap.shape.sharing }
-    requires shape { (heap.shape.fields ≡ sizes.fields) × (heap.shape.sections ≡ 1 + sizes.mutators) × (heap.shape.objects ≡ 4294967295) }
+    requires shape { heap.shape ≡ shape_for sizes }
     ensures opened { IfOk result (λ w. IsOpened sizes w) }
 {
     let heap = Arc::new(alloc, heap)?;

@@ -6,7 +6,7 @@ ghost use Rattle.mark_core.specs.Numbers.{named_number};
 ghost use Rattle.mark_core.specs.declared.kinds.Step.TheVariants.{ReadStat};
 ghost use Rattle.gc_table.specs.Seats.{Across, Found, state_of, view_of};
 ghost use Rattle.managed_heap.specs.Calls.{MutatorLeft};
-ghost use Rattle.managed_heap.specs.Lending.{AreAllBack, ReadsStatistics, IsBack, IsOpened, KeepsRest};
+ghost use Rattle.managed_heap.specs.Lending.{AreAllBack, DismissesInside, HasAllStill, ReadsStatistics, IsBack, IsOpened, KeepsRest};
 ghost use Rattle.managed_heap.specs.Sizing.{Fits};
 ghost use Rattle.mutator_turns.specs.Standing.{RestsOutside};
 ghost use Rattle.mutator_turns.specs.declared.refused.NotOpened.TheVariants.{OutOfRange};
@@ -29,6 +29,7 @@ fn tell_dismissed<R: Wait>(rt: &R, heap: &Heap, seat: &mut HeapSeat)
     requires section { IsTrue (is_some (state_of seat.old).section) }
     ensures rests { RestsOutside heap.now seat.new }
     ensures section { IsTrue (is_some (state_of seat.new).section) }
+    ensures dismisses { Across DismissesInside seat.old seat.new }
 {
     go_in(rt, heap, seat);
     heap.add_stat(seat, DONE, 1, false);
@@ -107,6 +108,7 @@ impl World {
     pub fn take_mutator(&mut self, mutator: Mutator) -> Result<(), Mutator>
         ensures back { OnOk result (IsBack mutator self.old self.new) }
         ensures refused { IfErr result (MutatorLeft mutator) }
+        ensures kept { IfErr result (λ _. self.new.mutators.items ≡ self.old.mutators.items) }
         ensures rest { KeepsRest self.old self.new × (self.new.tracers ≡ self.old.tracers) }
     {
         let mut mutator = mutator;
@@ -125,6 +127,7 @@ impl World {
         ensures back { OnOk result (self.new.tracers.items ≡ self.old.tracers.items ++ tracer ∷ []) }
         ensures out { OnOk result ((tracer.name ≡ self.old.sizes.name) × (vec_len self.old.tracers < self.old.sizes.tracers)) }
         ensures refused { IfErr result (λ t. t ≡ tracer) }
+        ensures kept { IfErr result (λ _. self.new.tracers.items ≡ self.old.tracers.items) }
         ensures rest { KeepsRest self.old self.new × (self.new.mutators ≡ self.old.mutators) }
     {
         if tracer.name != self.sizes.name || self.tracers.len() >= self.sizes.tracers as usize {
@@ -137,13 +140,17 @@ impl World {
     }
 
     /// Tells the tracers that they are dismissed: each that runs ends, also one that sleeps, and each later turn answers so.
-    pub fn dismiss_tracers<R: Wait>(&mut self, rt: &R) {
+    pub fn dismiss_tracers<R: Wait>(&mut self, rt: &R)
+        ensures dismisses { Across DismissesInside self.old.zero self.new.zero }
+        ensures rest { HasAllStill self.old self.new }
+    {
         tell_dismissed(rt, &self.heap, &mut self.zero);
     }
 
     /// Numbers of the heap. Where others act on it meanwhile, each is of another moment.
     pub fn statistics(&mut self) -> Statistics
         ensures read { ReadsStatistics result (arc_value self.old.heap) (view_of self.old.zero) (view_of self.new.zero) }
+        ensures rest { HasAllStill self.old self.new }
     {
         read_statistics(&self.heap, &mut self.zero)
     }
@@ -152,7 +159,7 @@ impl World {
     pub fn found_full(&mut self) -> Option<u64>
         ensures some { IfSome result (λ n. (0 < n) × Across (Found (ReadStat named_number) n) self.old.zero self.new.zero) }
         ensures none { IfNone result (Across (Found (ReadStat named_number) 0) self.old.zero self.new.zero) }
-        ensures rest { (self.new.heap ≡ self.old.heap) × (self.new.mutators ≡ self.old.mutators) × (self.new.tracers ≡ self.old.tracers) }
+        ensures rest { HasAllStill self.old self.new }
     {
         match read_named(&self.heap, &mut self.zero) {
             0 => None,

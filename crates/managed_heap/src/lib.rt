@@ -37,7 +37,7 @@
 //! # Where things are
 //!
 //! `sizes` has the sizes, `world` the heap with those of its mutators and tracers that nobody has, `lending` how they are
-//! taken and given back, `mutator` and `background` the types, `calls` what a mutator does. Below them `opening` makes a heap, and
+//! taken and given back, `mutator` and `background` the types, `calls` what a mutator does, and `reading` what it reads. Below them `opening` makes a heap, and
 //! `marking` is a tracer's turn. What a mutator does with its seat is in `mutator_turns`, and so is why a call did nothing.
 //! `stepper` is a mutator that doesn't wait, `stepping`, `asking` and `steps` are its calls and its collection, over `tries` and `collecting`.
 //! `try_turns` is a tracer's turn that doesn't wait, and `dismissing` ends the tracers that take such turns.
@@ -53,6 +53,7 @@ mod lending;
 mod marking;
 mod mutator;
 mod opening;
+mod reading;
 mod sizes;
 mod stepper;
 mod stepping;

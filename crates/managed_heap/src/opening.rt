@@ -8,6 +8,7 @@ ghost use Rattle.gc_table.specs.Seats.{Across, view_of};
 ghost use Rattle.gc_table.specs.Stopping.{has_moved};
 ghost use Rattle.gc_table.specs.SeatRecords.{At, resting};
 ghost use Rattle.managed_heap.specs.Sizing.{Fits};
+ghost use Rattle.managed_heap.specs.Lending.{shape_for};
 ghost use Rattle.managed_heap.specs.Opening.{AreNew, Opens};
 ghost use Rattle.stop_world.specs.StopRecords.{flagged, stopped, KeepsMeaningAndPlan};
 
@@ -23,10 +24,7 @@ use stop_world::{Raised, leave, raise, resume};
 fn shape_of(sizes: &Sizes) -> Shape
     requires fits { Fits sizes.now }
     ensures shape { IsShape result }
-    ensures fields { result.fields ≡ sizes.now.fields }
-    ensures objects { result.objects ≡ 4294967295 }
-    ensures owned { IsFalse result.sharing }
-    ensures sections { result.sections ≡ 1 + sizes.now.mutators }
+    ensures sizes { result ≡ shape_for sizes.now }
 {
     Shape {
         cells: sizes.cells,
@@ -43,10 +41,7 @@ fn shape_of(sizes: &Sizes) -> Shape
 /// The heap, with a seat for each section and each tracer. Nothing takes memory for objects later: they lie in its cells.
 pub fn open(alloc: Global, sizes: &Sizes) -> Result<(Heap, Vec<HeapSeat>), NotOpened>
     requires fits { Fits sizes.now }
-    ensures fields { IfOk result (λ r. r.0.shape.fields ≡ sizes.now.fields) }
-    ensures objects { IfOk result (λ r. r.0.shape.objects ≡ 4294967295) }
-    ensures owned { IfOk result (λ r. IsFalse r.0.shape.sharing) }
-    ensures sections { IfOk result (λ r. r.0.shape.sections ≡ 1 + sizes.now.mutators) }
+    ensures shape { IfOk result (λ r. r.0.shape ≡ shape_for sizes.now) }
     ensures count { IfOk result (λ r. vec_len r.1 ≡ 1 + sizes.now.mutators + sizes.now.tracers) }
     ensures seats { IfOk result (λ r. AreNew r.0 0 r.1.items) }
 {

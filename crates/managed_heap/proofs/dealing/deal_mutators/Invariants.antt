@@ -1,14 +1,14 @@
-use Rattle.std.proofs.Common.{◌≡◌, ◌+◌, All}
+use Rattle.std.proofs.Common.{◌≡◌, ◌+◌}
 use Rattle.std.specs.Prelude.{vec_len}
 use Rattle.std.specs.Arc.{arc_value}
 use Rattle.managed_heap.specs.Lending.{IsFreshMutator}
-use Rattle.managed_heap.specs.Opening.{AreNew}
+use Rattle.managed_heap.specs.Opening.{AreNew, AreNumbered}
 use Rattle.managed_heap.proofs.dealing.deal_mutators.Given as goal
 
 abbrev pub invariant-loop-at : goal.invariant-loop-at
 invariant-loop-at l = record {
   new : AreNew (arc_value l.heap) (1 + l.at) l.seats.items;
   rest : vec_len l.seats + l.at ≡ vec_len l.fn.seats;
-  fresh : All (IsFreshMutator (arc_value l.heap) l.name) l.all.items;
+  fresh : AreNumbered (IsFreshMutator (arc_value l.heap) l.name l.in_stops) 1 l.all.items;
   count : vec_len l.all ≡ l.at;
 }

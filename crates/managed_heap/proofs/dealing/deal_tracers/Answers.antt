@@ -1,10 +1,12 @@
-use Rattle.std.proofs.Common.{◌≡◌, ◌+◌, List, subst, arith}
+use Rattle.std.proofs.Common.{ℕ, ◌≡◌, ◌+◌, List, length, subst, sym, arith}
 use Rattle.std.proofs.lemmas.Grind.{common_steps}
 use Rattle.std.specs.Arc.{arc_value}
 use Rattle.gc_table.specs.declared.seat.Heap.{Heap}
 use Rattle.gc_table.specs.declared.seat.HeapSeat.{HeapSeat}
-use Rattle.managed_heap.specs.Opening.{AreNew}
-use Rattle.managed_heap.proofs.Beginning.{first-new, rest-new}
+use Rattle.managed_heap.specs.Lending.{IsFreshTracer}
+use Rattle.managed_heap.specs.declared.background.Tracer.{Tracer}
+use Rattle.managed_heap.specs.Opening.{AreNew, AreNumbered}
+use Rattle.managed_heap.proofs.Beginning.{first-new, numbered-push, rest-new}
 use Rattle.managed_heap.proofs.dealing.deal_tracers.Goals as goal
 
 pub loop-at-preserved : goal.loop-at-preserved
@@ -14,9 +16,14 @@ loop-at-preserved c =
     let xs : List HeapSeat = c.next_seat-seat.new.seats.items in
     let next : c.args.first + c.loop-at.at + 1 ≡ c.args.first + (c.loop-at.at + 1) = omega arith in
     let rest = rest-new h (c.args.first + c.loop-at.at) c.next_seat-seat.result xs c.loop-at.seats.items c.next_seat-seat.ensures.first i.new in
+    let fresh : ℕ → Tracer → Type 0 = IsFreshTracer h c.args.name in
+    let ts : List Tracer = c.loop-at.all.items in
+    let t : Tracer = c.in_ok-tracer_of.field-0 in
+    let number : c.args.first + c.loop-at.at ≡ c.args.first + length ts = omega (arith, i.count, c.loop-at.all.ok) in
     record {
       new = subst (λ n. AreNew h n xs) next rest;
       rest = omega (arith, i.rest, c.next_seat-seat.ensures.count);
+      fresh = subst (AreNumbered fresh c.args.first) (sym c.in_ok-push.ensures.items) (numbered-push fresh c.args.first ts t i.fresh (subst (λ n. fresh n t) number c.in_ok-tracer_of.ensures.fresh));
       count = grind (arith, common_steps);
     }
 
