@@ -1,5 +1,5 @@
 -- How many steps the calls of a mutator take.
-use Rattle.std.proofs.Common.{ℕ, suc, zero, ◌≤◌, ◌+◌, List, [], ◌∷◌, ◌++◌, length, arith, refl, Bool, true, false, Some}
+use Rattle.std.proofs.Common.{ℕ, suc, zero, ◌≤◌, ◌+◌, [], ◌∷◌, length, arith, refl, Bool, true, false}
 use Rattle.std.specs.Prelude.{◌≡◌, if◌then◌else◌}
 use Rattle.std.proofs.lemmas.List.{length-append}
 use Rattle.mark_core.specs.Seats.{used_in}

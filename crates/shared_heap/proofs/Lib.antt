@@ -2,6 +2,7 @@ mod Beginning
 mod Dealt
 mod Few
 mod Gathering
+mod Keeping
 mod Once
 mod Places
 mod Rooted

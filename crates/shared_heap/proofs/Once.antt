@@ -5,29 +5,23 @@ use Rattle.std.specs.List.{range_with_len}
 use Rattle.std.proofs.lemmas.Bool.{and_from, and_parts, false≢true}
 use Rattle.mark_core.specs.declared.kinds.Step.{Step}
 use Rattle.mark_core.specs.declared.kinds.Step.TheVariants.{StoreNew, StoreRoot}
-use Rattle.mark_core.specs.declared.seat.SeatState.{SeatState}
 use Rattle.alloc_cache.specs.Making.{making_steps, nil_fields}
 use Rattle.gc_table.specs.Log.{all_steps, events, steps_of}
-use Rattle.gc_table.specs.Seats.{view_of}
-use Rattle.gc_table.specs.declared.seat.Heap.{Heap}
-use Rattle.gc_table.specs.declared.seat.HeapSeat.{HeapSeat}
 use Rattle.gc_table.specs.declared.view.Entry.{Entry}
 use Rattle.gc_table.specs.declared.view.View.{View}
-use Rattle.gc_table.proofs.History.Log.{events-of}
-use Rattle.gc_table.proofs.Running.{ran-events, ran-grows, ran-join, ran-number, ran-opened}
+use Rattle.gc_table.proofs.Running.{ran-events, ran-join}
 use Rattle.heap_runs.specs.Lending.{leaves_variable, stores_once}
 use Rattle.mutator_turns.specs.Sharing.{spares_heap}
-use Rattle.shared_heap.specs.Opening.{IsNewSeat}
-use Rattle.shared_heap.specs.Rooting.{IsRootSeat, MakesRoot, Spares, spares_season}
-use Rattle.shared_heap.proofs.Rooted.{all-more, makes-ran}
+use Rattle.shared_heap.specs.Rooting.{MakesRoot, spares_season}
+use Rattle.shared_heap.proofs.Rooted.{all-more}
 
-spared : (step : Step) → spares_heap step ≡ true → leaves_variable 0 step ≡ true
+pub spared : (step : Step) → spares_heap step ≡ true → leaves_variable 0 step ≡ true
 spared (StoreRoot v r) e = absurd (false≢true e)
 spared step e = refl
 
-season_spared : (step : Step) → spares_season step ≡ true → leaves_variable 0 step ≡ true
-season_spared (StoreRoot v r) e = absurd (false≢true e)
-season_spared step e = refl
+pub season-spared : (step : Step) → spares_season step ≡ true → leaves_variable 0 step ≡ true
+season-spared (StoreRoot v r) e = absurd (false≢true e)
+season-spared step e = refl
 
 -- a list of steps none of which stores in variable 0
 abbrev LeaveAll : List Step → Type 0
@@ -86,27 +80,21 @@ once_made (m ∷ mids) rest (s ∷ a) b e l h =
     tail_is : m.step ∷ steps_of mids ≡ s ∷ (a ++ b ∷ []) → steps_of mids ≡ a ++ b ∷ []
     tail_is h = cc
 
+-- the log of a seat that made the root: what came before, what made it, and what came after
+pub root-log : (start w : View) → start.log ≡ [] → (m : MakesRoot start w) → w.log ≡ events start m.before ++ (events m.before m.made ++ events m.made w)
+root-log start w empty m =
+    let later = ran-events m.before m.made w m.creates.ran m.rest.ran in
+    let all = ran-events start m.before w m.comes.ran (ran-join m.before m.made w m.creates.ran m.rest.ran) in
+    ap (λ (l : List Entry). drop (length l) w.log) (sym empty) ∙ (all ∙ ap (λ (l : List Entry). events start m.before ++ l) later)
+
 -- the seat of section 0 stores in its variable 0 once
 pub root-once : (start w : View) → start.log ≡ [] → MakesRoot start w → stores_once 0 w.log ≡ true
 root-once start w empty m =
-    let front = all-more spares_season (leaves_variable 0) season_spared (events start m.before) m.comes.only in
+    let front = all-more spares_season (leaves_variable 0) season-spared (events start m.before) m.comes.only in
     let back = all-more spares_heap (leaves_variable 0) spared (events m.made w) m.rest.only in
-    let later = ran-events m.before m.made w m.creates.ran m.rest.ran in
-    let all = ran-events start m.before w m.comes.ran (ran-join m.before m.made w m.creates.ran m.rest.ran) in
-    let whole : w.log ≡ events start m.before ++ (events m.before m.made ++ events m.made w) = ap (λ (l : List Entry). drop (length l) w.log) (sym empty) ∙ (all ∙ ap (λ (l : List Entry). events start m.before ++ l) later) in
-    ap (stores_once 0) whole
+    ap (stores_once 0) (root-log start w empty m)
     ∙ once_before (events start m.before) (events m.before m.made ++ events m.made w) front
     (once_made (events m.before m.made) (events m.made w) _ _ m.creates.steps_are (making_leave _ _ _ _) back)
-
--- the seat that opened the heap made the root
-pub root-seat : (h : Heap) (x y : HeapSeat) → IsNewSeat h 0 x → (view_of x).opened ≡ h.shape.sections → MakesRoot (view_of x) (view_of y) → IsRootSeat h y
-root-seat h x y new opened m =
-    let ran = makes-ran (view_of x) (view_of y) m in
-    record {
-      number = ran-number (view_of x) (view_of y) ran ∙ ap (λ (s : SeatState). s.number) new.1.state;
-      opened = ran-opened (view_of x) (view_of y) ran ∙ opened;
-      once = root-once (view_of x) (view_of y) new.1.log m;
-    }
 
 then_by : (b : Bool) (xs ys : List Entry) → all_steps (leaves_variable 0) ys ≡ true → (stores_once 0 xs ≡ true → stores_once 0 (xs ++ ys) ≡ true) → (all_steps (leaves_variable 0) xs ≡ true → all_steps (leaves_variable 0) (xs ++ ys) ≡ true)
     → (if b then stores_once 0 xs else all_steps (leaves_variable 0) xs) ≡ true → (if b then stores_once 0 (xs ++ ys) else all_steps (leaves_variable 0) (xs ++ ys)) ≡ true
@@ -117,19 +105,6 @@ all_then : (xs ys : List Entry) → all_steps (leaves_variable 0) ys ≡ true �
 all_then [] ys a h = a
 all_then (x ∷ xs) ys a h = let p = and_parts (leaves_variable 0 x.step) (all_steps (leaves_variable 0) xs) h in and_from (leaves_variable 0 x.step) (all_steps (leaves_variable 0) (xs ++ ys)) p.0 (all_then xs ys a p.1)
 
-once_then : (xs ys : List Entry) → all_steps (leaves_variable 0) ys ≡ true → stores_once 0 xs ≡ true → stores_once 0 (xs ++ ys) ≡ true
-once_then [] ys a h = once_none ys a
-once_then (x ∷ xs) ys a h = then_by (leaves_variable 0 x.step) xs ys a (once_then xs ys a) (all_then xs ys a) h
-
--- and stays so
-pub root-kept : (h : Heap) (x y : HeapSeat) → IsRootSeat h x → Spares (view_of x) (view_of y) → IsRootSeat h y
-root-kept h x y r s =
-    let v : View = view_of x in
-    let w : View = view_of y in
-    let g = ran-grows v w s.ran in
-    let more = subst (λ (es : List Entry). all_steps (leaves_variable 0) es ≡ true) (events-of v w g.0 g.1) (all-more spares_heap (leaves_variable 0) spared (events v w) s.only) in
-    record {
-      number = ran-number v w s.ran ∙ r.number;
-      opened = ran-opened v w s.ran ∙ r.opened;
-      once = ap (stores_once 0) g.1 ∙ once_then v.log g.0 more r.once;
-    }
+pub once-then : (xs ys : List Entry) → all_steps (leaves_variable 0) ys ≡ true → stores_once 0 xs ≡ true → stores_once 0 (xs ++ ys) ≡ true
+once-then [] ys a h = once_none ys a
+once-then (x ∷ xs) ys a h = then_by (leaves_variable 0 x.step) xs ys a (once-then xs ys a) (all_then xs ys a) h

@@ -1,5 +1,5 @@
 -- The root: the seat of section 0 makes it before anybody else acts, and keeps it in its variable 0.
-use Rattle.std.specs.Prelude.{ℕ, ◌≡◌, ◌<◌, Bool, false, IsTrue}
+use Rattle.std.specs.Prelude.{ℕ, ◌≡◌, ◌<◌, Bool, false}
 use Rattle.mark_core.specs.declared.kinds.Step.{Step}
 use Rattle.mark_core.specs.declared.kinds.Step.TheVariants.{NextSeason}
 use Rattle.gc_table.specs.Log.{Only}
@@ -8,7 +8,8 @@ use Rattle.gc_table.specs.Seats.{state_of, view_of}
 use Rattle.gc_table.specs.declared.seat.Heap.{Heap}
 use Rattle.gc_table.specs.declared.seat.HeapSeat.{HeapSeat}
 use Rattle.gc_table.specs.declared.view.View.{View}
-use Rattle.heap_runs.specs.Lending.{stores_once}
+use Rattle.heap_runs.specs.Rooted.{KeepsRoot}
+use Rattle.heap_runs.specs.Single.{MakesOne}
 use Rattle.mutator_ops.specs.Sharing.{ShareCreates}
 use Rattle.mutator_turns.specs.Sharing.{spares_heap}
 
@@ -37,8 +38,9 @@ pub record MakesRoot (v w : View) : Type 0 where
   pub creates : ShareCreates 0 0 cell before made
   pub rest : Spares made w
 
--- the seat of section 0 in a heap that was opened with a seat for each section; it has stored in its variable 0 once at most: where it made the root
+-- the seat of section 0 in a heap that was opened with a seat for each section: it keeps the root in its variable 0, an object of value 0, and has made no other
 pub record IsRootSeat (h : Heap) (s : HeapSeat) : Type 0 where
   pub number : (state_of s).number ≡ 0
   pub opened : (view_of s).opened ≡ h.shape.sections
-  pub once : IsTrue (stores_once 0 (view_of s).log)
+  pub keeps : KeepsRoot 0 s
+  pub one : MakesOne h.shape.fields (view_of s).log

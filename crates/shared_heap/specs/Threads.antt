@@ -6,11 +6,12 @@ use Rattle.mark_core.specs.declared.kinds.Event.{Event}
 use Rattle.mark_core.specs.declared.kinds.Shape.{Shape}
 use Rattle.gc_table.specs.Laws.{IsRunOf}
 use Rattle.gc_table.specs.Past.{log_of}
+use Rattle.gc_table.specs.Seats.{view_of}
 use Rattle.gc_table.specs.declared.seat.HeapSeat.{HeapSeat}
 use Rattle.gc_table.specs.declared.words.Words.{Words}
 use Rattle.shared_runs.specs.Agreement.{AgreesWith}
 use Rattle.shared_runs.specs.Laws.{TellsOf}
-use Rattle.heap_runs.specs.Lending.{RefersTo}
+use Rattle.heap_runs.specs.Rooted.{FindsSome, IsKept}
 use Rattle.heap_runs.specs.Runs.{core_after}
 use Rattle.heap_runs.specs.Sharing.{heap_after_events}
 use Rattle.shared_heap.specs.Closing.{IsSharedEnd}
@@ -25,9 +26,11 @@ pub record IsWhole (sh : Shape) (seats : List HeapSeat) (w : Words) (es : List E
   pub agrees : (k : ℕ) → AgreesWith (core_after sh 1 es k) (heap_after_events sh es k)
   -- and each found what this heap had just before it
   pub tells : (k : ℕ) (e : Event) → slice_get es k ≡ Some e → TellsOf (core_after sh 1 es k) (heap_after_events sh es k) (slice_get (core_after sh 1 es k).seats e.seat) e.step
-  -- there is one root: whoever is lent it, whenever, finds this object, or nothing
+  -- there is one root: once the season has moved on the variable that is read for it refers to this object
   pub root : Name
-  pub one_root : (k : ℕ) → RefersTo sh es 0 root k
+  pub kept : (k : ℕ) → IsKept sh es 0 root k
+  -- so no thread that asked for it found nil
+  pub found : (i : ℕ) (s : HeapSeat) → slice_get seats i ≡ Some s → FindsSome 0 (view_of s).log
 
 -- whatever the threads of a closed world did, it is such a run
 abbrev pub ThreadsRun : Type 0

@@ -46,7 +46,8 @@ pub use sizes::SharedSizes;
 pub use world::{SharedStatistics, SharedWorld};
 
 /// Whatever the threads of a closed world did, it is one run, in which each thread's steps come in their order and nobody else takes part. After each step the
-/// words agree with one plain heap that forgets nothing, whatever a step found is what this heap had just before, and there is one root.
+/// words agree with one plain heap that forgets nothing, whatever a step found is what this heap had just before, and there is one root: no thread that asked for
+/// it found nil.
 pub fn threads_run()
     ensures { ThreadsRun }
 {}

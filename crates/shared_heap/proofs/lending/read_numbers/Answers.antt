@@ -1,4 +1,4 @@
-use Rattle.shared_heap.proofs.Once.{root-kept}
+use Rattle.shared_heap.proofs.Keeping.{root-kept}
 use Rattle.shared_heap.proofs.Rooted.{spares-read}
 use Rattle.gc_table.specs.Seats.{view_of}
 use Rattle.shared_heap.proofs.lending.read_numbers.Goals as goal
