@@ -1,5 +1,5 @@
 -- In a heap with one object that threads only raise, its value is the number of exchanges that their logs say were won.
-use Rattle.std.proofs.Common.{ℕ, zero, suc, ◌≡◌, ◌≢◌, ◌⊎◌, ◌+◌, ◌<◌, ◌≤◌, ◌==◌, ◌∙◌, List, [], ◌∷◌, ◌++◌, take, length, ap, arith, inl, refl, subst, sym, ⊎_elim, Bool, true, false, Option, None, Some, eqb-true}
+use Rattle.std.proofs.Common.{ℕ, zero, suc, ◌≡◌, ◌≢◌, ◌+◌, ◌<◌, ◌≤◌, ◌==◌, ◌∙◌, List, [], ◌∷◌, ◌++◌, take, length, ap, arith, inl, refl, subst, sym, ⊎_elim, Bool, true, false, Option, None, Some, eqb-true}
 use Rattle.std.specs.Prelude.{if◌then◌else◌, replicate, slice_get}
 use Rattle.std.proofs.lemmas.Bool.{and_parts, cases_eq, cases_lt, eq-eqb, ne_eqb}
 use Rattle.plain_heap.specs.Paths.{Name}
@@ -15,18 +15,19 @@ use Rattle.mark_core.proofs.Acting.{Acted, some_none}
 use Rattle.mark_core.proofs.Blocks.BlocksTaken.{Taken}
 use Rattle.mark_core.proofs.Core.{acts}
 use Rattle.mark_core.proofs.Pool.PoolsKept.{shape-kept}
-use Rattle.gc_table.specs.Entries.{event, won}
+use Rattle.gc_table.specs.Laws.{IsRunOf}
 use Rattle.gc_table.specs.Log.{all_steps}
 use Rattle.gc_table.specs.Past.{adds, entries_of, log_from}
 use Rattle.gc_table.specs.Seats.{view_of}
 use Rattle.gc_table.specs.declared.seat.HeapSeat.{HeapSeat}
 use Rattle.gc_table.specs.declared.view.Entry.{Entry}
+use Rattle.gc_table.specs.declared.words.Words.{Words}
 use Rattle.shared_runs.specs.Agreement.{AgreesWith}
 use Rattle.shared_runs.specs.Laws.{world_after, world_of, world_run}
 use Rattle.shared_runs.specs.World.{World, WorldObject, object_of, section_of, start_section, start_world, world_by}
 use Rattle.shared_runs.proofs.Kept.{agrees-kept, agrees-starts}
 use Rattle.heap_runs.specs.Runs.{AreAllowed}
-use Rattle.heap_runs.specs.Single.{CounterTold, all_won, leaves_values, made_count, makes_object, raises, won_count}
+use Rattle.heap_runs.specs.Single.{CounterTold, HasOne, all_won, leaves_values, made_count, makes_object, raises, won_count}
 use Rattle.heap_runs.proofs.Lending.{all_split}
 use Rattle.heap_runs.proofs.Sharing.{Sound, later-sound, world-first}
 use Rattle.heap_runs.proofs.Threads.{allowed}
@@ -61,11 +62,11 @@ plus_none : (n : ℕ) → n + 0 ≡ n
 plus_none n = omega arith
 
 -- what an event adds to the log of its own seat
-own_adds : (c : Core) (e : Event) (s : SeatState) → slice_get c.seats e.seat ≡ Some s → adds e.seat c e ≡ entries_of c (Some s) e.step
+pub own_adds : (c : Core) (e : Event) (s : SeatState) → slice_get c.seats e.seat ≡ Some s → adds e.seat c e ≡ entries_of c (Some s) e.step
 own_adds c e s got =
     ap (λ (b : Bool). if b then entries_of c (slice_get c.seats e.seat) e.step else []) (eq-eqb e.seat e.seat refl) ∙ ap (λ (o : Option SeatState). entries_of c o e.step) got
 
-logged_all : (P : Step → Bool) → P Split ≡ true → ((o : ℕ) → P (Join o) ≡ true) → (c : Core) (s : SeatState) (step : Step) → all_steps P (entries_of c (Some s) step) ≡ true → P step ≡ true
+pub logged_all : (P : Step → Bool) → P Split ≡ true → ((o : ℕ) → P (Join o) ≡ true) → (c : Core) (s : SeatState) (step : Step) → all_steps P (entries_of c (Some s) step) ≡ true → P step ≡ true
 logged_all P a b c s Split h = a
 logged_all P a b c s (Join o) h = b o
 logged_all P a b c s step h = (and_parts (P step) true h).0
@@ -88,16 +89,16 @@ logged_won c i s Split world n h k a single r = plus_none n
 logged_won c i s (Join o) world n h k a single r = plus_none n
 logged_won c i s step world n h k a single r = omega arith
 
-made_join : (fields : ℕ) (xs ys : List Entry) → made_count fields (xs ++ ys) ≡ made_count fields xs + made_count fields ys
+pub made_join : (fields : ℕ) (xs ys : List Entry) → made_count fields (xs ++ ys) ≡ made_count fields xs + made_count fields ys
 made_join fields [] ys = omega arith
 made_join fields (x ∷ xs) ys = let rest = made_join fields xs ys in omega (arith, rest)
 
-won_join : (xs ys : List Entry) → won_count (xs ++ ys) ≡ won_count xs + won_count ys
+pub won_join : (xs ys : List Entry) → won_count (xs ++ ys) ≡ won_count xs + won_count ys
 won_join [] ys = omega arith
 won_join (x ∷ xs) ys = let rest = won_join xs ys in omega (arith, rest)
 
 -- what is left of the logs makes one object at most, by the first seat, with those that are there
-abbrev Bound : ℕ → List Event → Core → ℕ → ℕ → Type 0
+abbrev pub Bound : ℕ → List Event → Core → ℕ → ℕ → Type 0
 Bound fields es c h i = made_count fields (log_from i c es) + (if i == 0 then h else 0) ≤ (if i == 0 then 1 else 0)
 
 bound_first : (fields : ℕ) (es : List Event) (c : Core) (h : ℕ) → Bound fields es c h 0 → made_count fields (log_from 0 c es) + h ≤ 1
@@ -119,7 +120,7 @@ once_at fields e es c s h got bound makes =
     (λ (d : e.seat ≢ 0). absurd (let none = bound_other fields (e ∷ es) c h e.seat d (bound e.seat) in omega (arith, none, both, one)))
     (cases_eq e.seat 0)
 
-bound_rest : (fields : ℕ) (e : Event) (es : List Event) (c : Core) (s : SeatState) (h : ℕ) → slice_get c.seats e.seat ≡ Some s → ((i : ℕ) → Bound fields (e ∷ es) c h i) → (i : ℕ) → Bound fields es (after_event c e) (h + (if makes_object fields e.step then 1 else 0)) i
+pub bound_rest : (fields : ℕ) (e : Event) (es : List Event) (c : Core) (s : SeatState) (h : ℕ) → slice_get c.seats e.seat ≡ Some s → ((i : ℕ) → Bound fields (e ∷ es) c h i) → (i : ℕ) → Bound fields es (after_event c e) (h + (if makes_object fields e.step then 1 else 0)) i
 bound_rest fields e es c s h got bound i =
     ⊎_elim (λ (z : i ≡ 0). subst (λ (j : ℕ). Bound fields es d (h + (if makes_object fields e.step then 1 else 0)) j) (sym z) (at_first (makes_object fields e.step) refl))
     (λ (f : i ≢ 0).
@@ -141,6 +142,15 @@ bound_rest fields e es c s h got bound i =
         omega (arith, one, most, both)
     at_first false is = let most = bound_first fields (e ∷ es) c h (bound 0) in let both = made_join fields (adds 0 c e) (log_from 0 d es) in omega (arith, most, both)
 
+-- what one event makes of the one object
+pub single_event : (e : Event) (es : List Event) (c : Core) (world : World) (fields n h : ℕ) (s : SeatState) → c.shape.fields ≡ fields → Taken c e.seat s e.step → AgreesWith c world → IsSingle world n h → leaves_values fields e.step ≡ true
+    → ((i : ℕ) → Bound fields (e ∷ es) c h i) → IsSingle (world_after c e world) (value_after e.step n) (h + (if makes_object fields e.step then 1 else 0))
+single_event e es c world fields n h s same t a single leaves bound =
+    let next : IsSingle (world_by c.shape (words_of c.shape c.words) s e.step world) (value_after e.step n) (h + (if makes_object fields e.step then 1 else 0)) =
+    subst (λ (f : ℕ). leaves_values f e.step ≡ true → (makes_object f e.step ≡ true → (e.seat ≡ 0) × (h ≡ 0)) → IsSingle (world_by c.shape (words_of c.shape c.words) s e.step world) (value_after e.step n) (h + (if makes_object f e.step then 1 else 0))) same
+    (λ x y. step_single c e.seat s e.step world n h t a single x y) leaves (once_at fields e es c s h t.got bound) in
+    subst (λ (o : Option SeatState). IsSingle (world_of c o e.step world) (value_after e.step n) (h + (if makes_object fields e.step then 1 else 0))) (sym t.got) next
+
 -- what is asked of all logs
 record Asked (fields : ℕ) (es : List Event) (c : Core) (h : ℕ) : Type 0 where
   leaves : (i : ℕ) → all_steps (leaves_values fields) (log_from i c es) ≡ true
@@ -158,12 +168,8 @@ counted_on (e ∷ es) c world fields n h same sound ok a single asked =
     let of_log : (P : Step → Bool) → P Split ≡ true → ((o : ℕ) → P (Join o) ≡ true) → all_steps P (log_from e.seat c (e ∷ es)) ≡ true → P e.step ≡ true =
     λ P x y z. logged_all P x y c s e.step (subst (λ (l : List Entry). all_steps P l ≡ true) own (all_split P (adds e.seat c e) (log_from e.seat d es) z).0) in
     let leaves : leaves_values fields e.step ≡ true = of_log (leaves_values fields) refl (λ o. refl) (asked.leaves e.seat) in
+    let there = single_event e es c world fields n h s same t a single leaves asked.bound in
     let raised : raises e.step ≡ true = of_log raises refl (λ o. refl) (asked.raised e.seat) in
-    let next : IsSingle (world_by c.shape (words_of c.shape c.words) s e.step world) (value_after e.step n) (h + (if makes_object fields e.step then 1 else 0)) =
-    subst (λ (f : ℕ). leaves_values f e.step ≡ true → (makes_object f e.step ≡ true → (e.seat ≡ 0) × (h ≡ 0)) → IsSingle (world_by c.shape (words_of c.shape c.words) s e.step world) (value_after e.step n) (h + (if makes_object f e.step then 1 else 0))) same
-    (λ x y. step_single c e.seat s e.step world n h t a single x y) leaves (once_at fields e es c s h r.1.seat asked.bound) in
-    let there : IsSingle (world_after c e world) (value_after e.step n) (h + (if makes_object fields e.step then 1 else 0)) =
-    subst (λ (o : Option SeatState). IsSingle (world_of c o e.step world) (value_after e.step n) (h + (if makes_object fields e.step then 1 else 0))) (sym r.1.seat) next in
     let rest = counted_on es d (world_after c e world) fields (value_after e.step n) (h + (if makes_object fields e.step then 1 else 0)) (ap (λ (sh : Shape). sh.fields) (shape-kept c e) ∙ same) (later-sound c e es ok.0 sound) ok.1
     (agrees-kept c e world (sound 0) a ok.0) there
     (record {
@@ -200,7 +206,7 @@ sums_one k (suc n) j f a b h =
     (λ (d : k ≢ j). let one = h k d in let rest = sums_one (k + 1) n j f (omega (arith, a, d)) (omega (arith, b)) h in omega (arith, one, rest)) (cases_eq k j)
 
 -- what other seats add to a log is nothing
-other_adds : (i : ℕ) (c : Core) (e : Event) → i ≢ e.seat → adds i c e ≡ []
+pub other_adds : (i : ℕ) (c : Core) (e : Event) → i ≢ e.seat → adds i c e ≡ []
 other_adds i c e d = ap (λ (b : Bool). if b then entries_of c (slice_get c.seats e.seat) e.step else []) (ne_eqb e.seat i (λ z. d (sym z)))
 
 split_nil : (xs ys : List Entry) → xs ++ ys ≡ [] → (xs ≡ []) × (ys ≡ [])
@@ -235,40 +241,49 @@ starts_none zero sh w = (refl, refl)
 starts_none (suc m) sh zero = (refl, refl)
 starts_none (suc m) sh (suc w) = starts_none m sh w
 
+-- what the logs of all seats keep each part of the run keeps
+pub log_each : (sh : Shape) (seats : List HeapSeat) (w : Words) (es : List Event) → IsRunOf sh seats w es → HasOne sh seats es → (P : List Entry → Type 0) → P [] → ((i : ℕ) (s : HeapSeat) → slice_get seats i ≡ Some s → P (view_of s).log)
+    → (i : ℕ) → P (log_from i (start_core sh 1) es)
+log_each sh seats w es run one P nil some i = each (slice_get seats i) refl
+  where
+    each : (o : Option HeapSeat) → slice_get seats i ≡ o → P (log_from i (start_core sh 1) es)
+    each None is = subst P (sym (one.others i (slice_get_none seats i is))) nil
+    each (Some s) is = subst P (run.parts i s is) (some i s is)
+
+pub bound_starts : (sh : Shape) (seats : List HeapSeat) (w : Words) (es : List Event) → IsRunOf sh seats w es → HasOne sh seats es → (i : ℕ) → Bound sh.fields es (start_core sh 1) 0 i
+bound_starts sh seats w es run one i = bound_at (slice_get seats i) refl
+  where
+    bound_at : (o : Option HeapSeat) → slice_get seats i ≡ o → Bound sh.fields es (start_core sh 1) 0 i
+    bound_at None is = subst (λ (l : List Entry). made_count sh.fields l + (if i == 0 then 0 else 0) ≤ (if i == 0 then 1 else 0)) (sym (one.others i (slice_get_none seats i is))) (by_bool (i == 0))
+      where
+        by_bool : (b : Bool) → 0 + (if b then 0 else 0) ≤ (if b then 1 else 0)
+        by_bool true = omega arith
+        by_bool false = omega arith
+    bound_at (Some s) is =
+        subst (λ (l : List Entry). made_count sh.fields l + (if i == 0 then 0 else 0) ≤ (if i == 0 then 1 else 0)) (run.parts i s is) (by_bool (i == 0) (one.made i s is))
+      where
+        by_bool : (b : Bool) → made_count sh.fields (view_of s).log ≤ (if b then 1 else 0) → made_count sh.fields (view_of s).log + (if b then 0 else 0) ≤ (if b then 1 else 0)
+        by_bool true h = omega (arith, h)
+        by_bool false h = omega (arith, h)
+
+pub single_starts : (sh : Shape) → IsSingle (start_world sh) 0 0
+single_starts sh =
+    let none = starts_none sh.sections sh in
+    record { others = λ k d. (none k).0; first = inl ((none 0).0, refl, refl); coming = (none 0).1 }
+
 pub counter-told : CounterTold
 counter-told sh seats w es run one raised name object at =
     let start : Core = start_core sh 1 in
     let shaped : IsShape sh = (run.sound 0).formed.shaped in
     let all : AreAllowed start es = allowed 0 es start run.allowed in
-    let none = starts_none sh.sections sh in
-    let single : IsSingle (start_world sh) 0 0 = record { others = λ k d. (none k).0; first = inl ((none 0).0, refl, refl); coming = (none 0).1 } in
-    let of_seats : (P : List Entry → Type 0) → P [] → ((i : ℕ) (s : HeapSeat) → slice_get seats i ≡ Some s → P (view_of s).log) → (i : ℕ) → P (log_from i start es) =
-    λ P nil some i. each P nil some i (slice_get seats i) refl in
-    let end = counted_on es start (start_world sh) sh.fields 0 0 refl run.sound all (agrees-starts sh 1 shaped) single
+    let end = counted_on es start (start_world sh) sh.fields 0 0 refl run.sound all (agrees-starts sh 1 shaped) (single_starts sh)
     (record {
-      leaves = of_seats (λ l. all_steps (leaves_values sh.fields) l ≡ true) refl one.values;
-      raised = of_seats (λ l. all_steps raises l ≡ true) refl raised;
-      bound = λ i. bound_at i (slice_get seats i) refl;
+      leaves = log_each sh seats w es run one (λ l. all_steps (leaves_values sh.fields) l ≡ true) refl one.values;
+      raised = log_each sh seats w es run one (λ l. all_steps raises l ≡ true) refl raised;
+      bound = bound_starts sh seats w es run one;
     }) in
     let whole : object_of (world_run es start (start_world sh)) name ≡ Some object = subst (λ (l : List Event). object_of (world_run l start (start_world sh)) name ≡ Some object) (take_whole es) at in
     let value : object.value ≡ 0 + won_in es start = value_at (world_run es start (start_world sh)) (0 + won_in es start) end.0 name object end.1 whole in
     let sum = won_summed es start (length seats) one.others in
     let logs = all_won_is seats 0 (λ i. won_count (log_from i start es)) (λ i s there. ap won_count (run.parts i s there) ∙ ap (λ (j : ℕ). won_count (log_from j start es)) (let e : i ≡ 0 + i = omega arith in e)) in
     omega (arith, value, sum, logs)
-  where
-    each : (P : List Entry → Type 0) → P [] → ((i : ℕ) (s : HeapSeat) → slice_get seats i ≡ Some s → P (view_of s).log) → (i : ℕ) (o : Option HeapSeat) → slice_get seats i ≡ o → P (log_from i (start_core sh 1) es)
-    each P nil some i None is = subst P (sym (one.others i (slice_get_none seats i is))) nil
-    each P nil some i (Some s) is = subst P (run.parts i s is) (some i s is)
-
-    bound_at : (i : ℕ) (o : Option HeapSeat) → slice_get seats i ≡ o → Bound sh.fields es (start_core sh 1) 0 i
-    bound_at i None is = subst (λ (l : List Entry). made_count sh.fields l + (if i == 0 then 0 else 0) ≤ (if i == 0 then 1 else 0)) (sym (one.others i (slice_get_none seats i is))) (by_bool (i == 0))
-      where
-        by_bool : (b : Bool) → 0 + (if b then 0 else 0) ≤ (if b then 1 else 0)
-        by_bool true = omega arith
-        by_bool false = omega arith
-    bound_at i (Some s) is =
-        subst (λ (l : List Entry). made_count sh.fields l + (if i == 0 then 0 else 0) ≤ (if i == 0 then 1 else 0)) (run.parts i s is) (by_bool (i == 0) (one.made i s is))
-      where
-        by_bool : (b : Bool) → made_count sh.fields (view_of s).log ≤ (if b then 1 else 0) → made_count sh.fields (view_of s).log + (if b then 0 else 0) ≤ (if b then 1 else 0)
-        by_bool true h = omega (arith, h)
-        by_bool false h = omega (arith, h)

@@ -6,3 +6,4 @@ pub mod Rooted
 pub mod Single
 pub mod Counting
 pub mod Counted
+pub mod Locked

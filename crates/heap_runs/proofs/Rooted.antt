@@ -6,7 +6,6 @@ use Rattle.std.proofs.lemmas.Bool.{and_parts, false≢true, ne_eqb, not-true}
 use Rattle.std.proofs.lemmas.List.{get_or-set_same}
 use Rattle.std.proofs.lemmas.Option.{get_or_from_slice_get}
 use Rattle.plain_heap.specs.Paths.{Name}
-use Rattle.plain_heap.specs.declared.operation.Op.{Op}
 use Rattle.mark_core.specs.Bits.{reference_in}
 use Rattle.mark_core.specs.Laws.{IsCore}
 use Rattle.mark_core.specs.Layout.{Words as MarkWords, words_of}
@@ -28,7 +27,7 @@ use Rattle.gc_table.specs.Entries.{event, is_logged}
 use Rattle.gc_table.specs.Laws.{IsRunOf}
 use Rattle.gc_table.specs.Log.{all_steps}
 use Rattle.gc_table.specs.Past.{adds, entries_of, log_from, word_told}
-use Rattle.gc_table.specs.Sections.{start_section, start_sections}
+use Rattle.gc_table.specs.Sections.{start_section}
 use Rattle.gc_table.specs.Seats.{view_of}
 use Rattle.gc_table.specs.TableState.{no_section, section_at}
 use Rattle.gc_table.specs.declared.seat.HeapSeat.{HeapSeat}
@@ -39,8 +38,8 @@ use Rattle.gc_table.proofs.History.Past.{run-first, run-sound}
 use Rattle.gc_table.proofs.State.StateStart.{told-starts}
 use Rattle.gc_table.proofs.Told.SeasonsKept.{in-turn, season-next, season-same, season_in}
 use Rattle.shared_runs.specs.Agreement.{AgreesWith}
-use Rattle.shared_runs.specs.Laws.{world_after, world_of, world_run}
-use Rattle.shared_runs.specs.World.{World, WorldSection, in_section, name_at, own_section, referred, section_of, start_world, variable_of, with_variable, world_by}
+use Rattle.shared_runs.specs.Laws.{world_after, world_of}
+use Rattle.shared_runs.specs.World.{World, WorldSection, in_section, name_at, referred, section_of, start_world, variable_of, with_variable, world_by}
 use Rattle.shared_runs.proofs.Heap.{section-same}
 use Rattle.shared_runs.proofs.Kept.{agrees-kept, agrees-starts}
 use Rattle.shared_runs.proofs.Reading.{cat-found}
@@ -48,8 +47,8 @@ use Rattle.shared_runs.proofs.Seats.{Mutates, mutates}
 use Rattle.heap_runs.specs.Lending.{leaves_variable, stores_once}
 use Rattle.heap_runs.specs.Rooted.{FindsSome, RootFound, fills_first, fills_variable, moves_season, season_count}
 use Rattle.heap_runs.specs.Runs.{AreAllowed}
-use Rattle.heap_runs.proofs.Lending.{after_some, all_split, event_keeps, first_more, none_starts, none_stores, some_name}
-use Rattle.heap_runs.proofs.Sharing.{Sound, agree-on, later-sound, tells-on, world-first}
+use Rattle.heap_runs.proofs.Lending.{after_some, event_keeps, first_more, none_starts, none_stores}
+use Rattle.heap_runs.proofs.Sharing.{Sound, agree-on, later-sound, tells-on}
 use Rattle.heap_runs.proofs.Threads.{allowed}
 
 -- what is so of nothing, and of the entry of the event where it is this seat's, is so of what the event adds to the seat's log

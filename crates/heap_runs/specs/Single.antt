@@ -1,5 +1,5 @@
--- A heap with one object: whatever value threads exchange there is this object's, so the logs of the threads tell it.
-use Rattle.std.specs.Prelude.{ℕ, ◌≡◌, ◌+◌, ◌<◌, ◌≤◌, ◌==◌, ◌&&◌, ◌||◌, if◌then◌else◌, nat_lt, not, List, [], ◌∷◌, Bool, true, false, Some, IsTrue, length, slice_get}
+-- A heap with one object: whatever value threads exchange there is this object's, so the logs of the threads tell a counter and a lock.
+use Rattle.std.specs.Prelude.{ℕ, ◌≡◌, ◌+◌, ◌≤◌, ◌==◌, ◌&&◌, ◌||◌, if◌then◌else◌, nat_lt, not, List, [], ◌∷◌, Bool, true, false, Some, IsTrue, length, slice_get, take}
 use Rattle.plain_heap.specs.Paths.{Name}
 use Rattle.mark_core.specs.declared.kinds.Event.{Event}
 use Rattle.mark_core.specs.declared.kinds.Shape.{Shape}
@@ -72,3 +72,29 @@ abbrev pub CounterTold : Type 0
 CounterTold =
     (sh : Shape) (seats : List HeapSeat) (w : Words) (es : List Event) → IsRunOf sh seats w es → HasOne sh seats es → ((i : ℕ) (s : HeapSeat) → slice_get seats i ≡ Some s → IsTrue (all_steps raises (view_of s).log))
     → (name : Name) (object : WorldObject) → object_of (heap_after_events sh es (length es)) name ≡ Some object → object.value ≡ all_won seats
+
+-- what an exchange that was won makes of whether its seat is inside: it is where it leaves the value 1
+abbrev pub turned : Bool → Step → Bool → Bool
+turned b (ExchangeValue v m n) won = if won then n == 1 else b
+turned b step won = b
+
+-- whether the seat of these events is inside after them, where it was so before or not
+abbrev pub is_inside : Bool → List Entry → Bool
+is_inside b [] = b
+is_inside b (e ∷ es) = is_inside (turned b e.step e.won) es
+
+-- who is outside exchanges 0 for 1 alone, and who is inside 1 for 0
+abbrev pub takes_turn : Bool → Step → Bool
+takes_turn b (ExchangeValue v m n) = if b then (m == 1) && (n == 0) else (m == 0) && (n == 1)
+takes_turn b step = true
+
+-- each exchange of a value in these events does so
+abbrev pub takes_turns : Bool → List Entry → Bool
+takes_turns b [] = true
+takes_turns b (e ∷ es) = takes_turn b e.step && takes_turns (turned b e.step e.won) es
+
+-- where each seat that is outside tries to exchange 0 for 1, and each that came in exchanges 1 for 0, no two are inside, after whatever number of events
+abbrev pub LockHeld : Type 0
+LockHeld =
+    (sh : Shape) (seats : List HeapSeat) (w : Words) (es : List Event) → IsRunOf sh seats w es → HasOne sh seats es → ((i : ℕ) (s : HeapSeat) → slice_get seats i ≡ Some s → IsTrue (takes_turns false (view_of s).log))
+    → (k i j : ℕ) → IsTrue (is_inside false (log_of sh (take k es) i)) → IsTrue (is_inside false (log_of sh (take k es) j)) → i ≡ j

@@ -10,7 +10,7 @@ ghost use Rattle.heap_runs.specs.Lending.{OneObjectLent};
 ghost use Rattle.heap_runs.specs.Rooted.{RootFound};
 ghost use Rattle.heap_runs.specs.Runs.{NoneFreed};
 ghost use Rattle.heap_runs.specs.Sharing.{ThreadsShareOneHeap};
-ghost use Rattle.heap_runs.specs.Single.{CounterTold};
+ghost use Rattle.heap_runs.specs.Single.{CounterTold, LockHeld};
 ghost use Rattle.heap_runs.specs.Threads.{ThreadsFreeNone};
 
 /// On each run of the core, whichever seats act and in whatever order, no event frees a cell that is reachable just before it.
@@ -57,4 +57,10 @@ pub fn wins_told()
 /// say were won, whatever the schedule.
 pub fn counter_told()
     ensures { CounterTold }
+{}
+
+/// Where threads share one object as a lock, so that each that is outside exchanges its value 0 for 1 alone, and each that came in 1 for 0, no two are inside at any
+/// moment, whatever the schedule.
+pub fn lock_held()
+    ensures { LockHeld }
 {}
