@@ -51,12 +51,12 @@ left_length (n ∷ ns) (t ∷ ts) k = ap suc (left_length ns ts k.1)
 left_number : (m : SharedMutator) (s : HeapSeat) → HasLeft m s → (state_of s).number ≡ (state_of m.seat).number
 left_number m s k = ap (λ (t : HeapSeat). (state_of t).number) k.seat_is ∙ ran-number (view_of m.seat) (view_of k.left.seat) k.leaves.same.leaves.ran
 
-left_at : (ms : List SharedMutator) (ss : List HeapSeat) → AreLeft ms ss → (i : ℕ) (s : HeapSeat) → slice_get ss i ≡ Some s → (m : SharedMutator) × (slice_get ms i ≡ Some m) × HasLeft m s
-left_at [] [] k i s e = absurd (cc)
-left_at [] (t ∷ ts) k i s e = absurd k
-left_at (n ∷ ns) [] k i s e = absurd k
-left_at (n ∷ ns) (t ∷ ts) k zero s e = (n, refl, subst (HasLeft n) (same_Some t s e) k.0)
-left_at (n ∷ ns) (t ∷ ts) k (suc i) s e = left_at ns ts k.1 i s e
+pub left-at : (ms : List SharedMutator) (ss : List HeapSeat) → AreLeft ms ss → (i : ℕ) (s : HeapSeat) → slice_get ss i ≡ Some s → (m : SharedMutator) × (slice_get ms i ≡ Some m) × HasLeft m s
+left-at [] [] k i s e = absurd (cc)
+left-at [] (t ∷ ts) k i s e = absurd k
+left-at (n ∷ ns) [] k i s e = absurd k
+left-at (n ∷ ns) (t ∷ ts) k zero s e = (n, refl, subst (HasLeft n) (same_Some t s e) k.0)
+left-at (n ∷ ns) (t ∷ ts) k (suc i) s e = left-at ns ts k.1 i s e
 
 -- the seats of all mutators that have left stand in the order of their numbers, behind section 0's
 pub gathers-numbered : (n : ℕ) (all : List SharedMutator) (root : HeapSeat) (seats : List HeapSeat) → AreAll n all → (state_of root).number ≡ 0 → Gathers all [] root seats → AreNumbered seats
@@ -68,7 +68,7 @@ gathers-numbered n all root seats are first g =
 
     numbered : AreNumbered (root ∷ g.rest)
     numbered zero s e = ap (λ (t : HeapSeat). (state_of t).number) (sym (same_Some root s e)) ∙ first
-    numbered (suc i) s e = let at = left_at all g.rest left i s e in let one : i + 1 ≡ suc i = omega arith in left_number at.0 s at.2 ∙ (are.1 i at.0 at.1 ∙ one)
+    numbered (suc i) s e = let at = left-at all g.rest left i s e in let one : i + 1 ≡ suc i = omega arith in left_number at.0 s at.2 ∙ (are.1 i at.0 at.1 ∙ one)
 
 -- all have left, and the heap was closed with their seats
 pub shared-end : (world : SharedWorld) (all : List SharedMutator) (seats : List HeapSeat) (h : Heap) (w : Words) → arc_value world.heap ≡ h → AreAll (arc_value world.heap).shape.sections all → Gathers all [] world.zero seats → IsEnd h.shape seats w

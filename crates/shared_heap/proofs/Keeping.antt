@@ -24,6 +24,7 @@ use Rattle.gc_table.proofs.Running.{ran-grows, ran-keeps, ran-number, ran-opened
 use Rattle.heap_runs.specs.Lending.{leaves_variable, stores_once}
 use Rattle.heap_runs.specs.Rooted.{fills_first, fills_variable, moves_season, season_count}
 use Rattle.heap_runs.specs.Single.{MakesOne, made_count, makes_object, spares_values}
+use Rattle.heap_runs.proofs.Counted.{made_join}
 use Rattle.heap_runs.proofs.Rooted.{count-join}
 use Rattle.mutator_ops.specs.Sharing.{next_word}
 use Rattle.mutator_turns.specs.Sharing.{spares_heap}
@@ -238,6 +239,13 @@ root_one start w empty m =
     (m.creates.steps_are ∙ ap (λ (n : ℕ). making_steps n m.cell 0 (next_word m.before.state) ++ StoreRoot 0 (m.cell + 1) ∷ []) same) in
     let all = makes_join fields 0 1 (events start m.before) (events m.before m.made ++ events m.made w) front (makes_join fields 1 0 (events m.before m.made) (events m.made w) mids back) in
     subst (MakesOne fields) (sym (root-log start w empty m)) (record { made = let n = all.made in omega (arith, n); values = all.values })
+
+-- what no plain heap sees changes no value and makes no object
+pub spared-values : (fields : ℕ) (es : List Entry) → all_steps spares_heap es ≡ true → all_steps (spares_values fields) es ≡ true
+spared-values fields es a = (makes_none spares_heap fields (spared_one fields) es a).values
+
+pub made-more : (fields : ℕ) (xs ys : List Entry) → all_steps spares_heap ys ≡ true → made_count fields (xs ++ ys) ≡ made_count fields xs
+made-more fields xs ys a = let none = (makes_none spares_heap fields (spared_one fields) ys a).made in let both = made_join fields xs ys in omega (arith, none, both)
 
 -- the seat that opened the heap keeps the root
 pub root-seat : (h : Heap) (x y : HeapSeat) → IsNewSeat h 0 x → 0 < h.shape.sections → (view_of x).opened ≡ h.shape.sections → MakesRoot (view_of x) (view_of y) → IsRootSeat h y

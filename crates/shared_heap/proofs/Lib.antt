@@ -1,4 +1,5 @@
 mod Beginning
+mod Counting
 mod Dealt
 mod Few
 mod Gathering

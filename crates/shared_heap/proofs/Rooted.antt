@@ -65,9 +65,9 @@ retired (ExchangeValue v m n) e = absurd (false≢true e)
 retired (StoreNew c part word) e = absurd (false≢true e)
 retired step e = refl
 
-all_join : (P : Step → Bool) (xs ys : List Entry) → all_steps P xs ≡ true → all_steps P ys ≡ true → all_steps P (xs ++ ys) ≡ true
-all_join P [] ys a b = b
-all_join P (x ∷ xs) ys a b = let p = and_parts (P x.step) (all_steps P xs) a in and_from (P x.step) (all_steps P (xs ++ ys)) p.0 (all_join P xs ys p.1 b)
+pub all-join : (P : Step → Bool) (xs ys : List Entry) → all_steps P xs ≡ true → all_steps P ys ≡ true → all_steps P (xs ++ ys) ≡ true
+all-join P [] ys a b = b
+all-join P (x ∷ xs) ys a b = let p = and_parts (P x.step) (all_steps P xs) a in and_from (P x.step) (all_steps P (xs ++ ys)) p.0 (all-join P xs ys p.1 b)
 
 pub all-more : (P Q : Step → Bool) → ((step : Step) → P step ≡ true → Q step ≡ true) → (xs : List Entry) → all_steps P xs ≡ true → all_steps Q xs ≡ true
 all-more P Q h [] a = refl
@@ -98,7 +98,7 @@ season-entered u v w ran only looks =
 pub season-claimed : (h : Cache) (v w : View) → Ran v w → Claims h v w → SparesSeason v w
 season-claimed h v w ran k =
     let f = k.events_are in
-    record { ran = ran; only = ap (all_steps spares_season) f.3 ∙ all_join spares_season f.0 (claimed_by h f.1 f.2) (all-more seeks_block spares_season sought f.0 f.5) refl }
+    record { ran = ran; only = ap (all_steps spares_season) f.3 ∙ all-join spares_season f.0 (claimed_by h f.1 f.2) (all-more seeks_block spares_season sought f.0 f.5) refl }
 
 -- the root was made, and then the cache given up
 pub makes-retired : (h : Cache) (used cell : ℕ) (v w x : View) → cell < v.shape.cells → ShareCreates 0 0 cell v w → Ran w x → steps_of (events w x) ≡ retiring_steps h used → MakesRoot v x

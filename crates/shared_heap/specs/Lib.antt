@@ -1,5 +1,6 @@
 pub mod Calls
 pub mod Closing
+pub mod Counting
 pub mod Lending
 pub mod Opening
 pub mod Planning

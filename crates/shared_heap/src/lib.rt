@@ -23,6 +23,7 @@
 //! lends these and takes them back, and `closing` closes the world. What a mutator does is in `calls`, `exchanging`, `slots` and `identity`.
 #![tactic(auto)]
 
+ghost use Rattle.shared_heap.specs.Counting.{CounterClosed, LockClosed};
 ghost use Rattle.shared_heap.specs.Threads.{ThreadsRun};
 
 mod calls;
@@ -50,4 +51,16 @@ pub use world::{SharedStatistics, SharedWorld};
 /// it found nil.
 pub fn threads_run()
     ensures { ThreadsRun }
+{}
+
+/// Where the mutators of a closed world made no object, and changed values alone by exchanges of a number for the next, the root's value at the end is the number
+/// of exchanges that their logs say were won, whatever the schedule.
+pub fn counter_closed()
+    ensures { CounterClosed }
+{}
+
+/// Where they made no object, and each that was outside exchanged a value 0 for 1 alone, and each that came in 1 for 0, no two were inside at any moment, whatever
+/// the schedule.
+pub fn lock_closed()
+    ensures { LockClosed }
 {}

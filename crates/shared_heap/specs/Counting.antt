@@ -1,0 +1,44 @@
+-- What the logs of the threads of a closed world tell of its root: a counter, or a lock.
+use Rattle.std.specs.Prelude.{ℕ, ◌≡◌, ◌+◌, List, [], ◌∷◌, false, Some, IsTrue, length, slice_get, take}
+use Rattle.std.specs.Arc.{arc_value}
+use Rattle.mark_core.specs.declared.kinds.Event.{Event}
+use Rattle.gc_table.specs.Log.{all_steps}
+use Rattle.gc_table.specs.Past.{log_of}
+use Rattle.gc_table.specs.Seats.{view_of}
+use Rattle.gc_table.specs.declared.view.Entry.{Entry}
+use Rattle.gc_table.specs.declared.words.Words.{Words}
+use Rattle.shared_runs.specs.World.{WorldObject, object_of}
+use Rattle.heap_runs.specs.Sharing.{heap_after_events}
+use Rattle.heap_runs.specs.Single.{is_inside, leaves_values, made_count, raises, takes_turns, won_count}
+use Rattle.shared_heap.specs.Closing.{IsSharedEnd}
+use Rattle.shared_heap.specs.Threads.{IsWhole}
+use Rattle.shared_heap.specs.declared.mutator.SharedMutator.{SharedMutator}
+use Rattle.shared_heap.specs.declared.world.SharedWorld.{SharedWorld}
+
+-- these events make no object, and change no value but by exchanges
+pub record OnlyExchanges (fields : ℕ) (es : List Entry) : Type 0 where
+  pub made : made_count fields es ≡ 0
+  pub values : IsTrue (all_steps (leaves_values fields) es)
+
+-- the log of each of these mutators is so
+abbrev pub EachLog : (List Entry → Type 0) → List SharedMutator → Type 0
+EachLog P ms = (i : ℕ) (m : SharedMutator) → slice_get ms i ≡ Some m → P (view_of m.seat).log
+
+-- how many exchanges of values the logs of these mutators have that were won
+abbrev pub won_by : List SharedMutator → ℕ
+won_by [] = 0
+won_by (m ∷ ms) = won_count (view_of m.seat).log + won_by ms
+
+-- where the mutators of a closed world made no object and changed values by exchanges of a number for the next alone, the root's value at the end is the number of exchanges that their logs say were won
+abbrev pub CounterClosed : Type 0
+CounterClosed =
+    (world : SharedWorld) (mutators : List SharedMutator) (w : Words) (end : IsSharedEnd world mutators w) (es : List Event) (whole : IsWhole (arc_value world.heap).shape (world.zero ∷ end.rest) w es)
+    → EachLog (OnlyExchanges (arc_value world.heap).shape.fields) mutators → EachLog (λ l. IsTrue (all_steps raises l)) mutators
+    → (root : WorldObject) → object_of (heap_after_events (arc_value world.heap).shape es (length es)) whole.root ≡ Some root → root.value ≡ won_by mutators
+
+-- where they made no object, and each that was outside tried to exchange 0 for 1 alone, and each that came in 1 for 0, no two are inside, after whatever number of events
+abbrev pub LockClosed : Type 0
+LockClosed =
+    (world : SharedWorld) (mutators : List SharedMutator) (w : Words) (end : IsSharedEnd world mutators w) (es : List Event) (whole : IsWhole (arc_value world.heap).shape (world.zero ∷ end.rest) w es)
+    → EachLog (OnlyExchanges (arc_value world.heap).shape.fields) mutators → EachLog (λ l. IsTrue (takes_turns false l)) mutators
+    → (k i j : ℕ) → IsTrue (is_inside false (log_of (arc_value world.heap).shape (take k es) i)) → IsTrue (is_inside false (log_of (arc_value world.heap).shape (take k es) j)) → i ≡ j
