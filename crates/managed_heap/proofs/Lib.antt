@@ -1,4 +1,9 @@
+mod Answered
 mod Beginning
+mod Found
+mod Rounds
+mod SinceAsked
+mod Stages
 mod Tried
 mod Turning
 mod Visiting

@@ -3,15 +3,18 @@ use Rattle.std.proofs.Common.{ℕ, ◌≡◌, true, refl, Option, Some, None}
 use Rattle.std.specs.Prelude.{is_some, IfNone, IfSome}
 use Rattle.std.proofs.lemmas.Bool.{false≢true}
 use Rattle.mark_core.specs.Seats.{has_turn}
+use Rattle.gc_table.specs.Log.{events}
 use Rattle.gc_table.specs.Running.{Ran}
 use Rattle.gc_table.specs.Seats.{Sits, view_of}
 use Rattle.gc_table.specs.declared.seat.Heap.{Heap}
 use Rattle.gc_table.specs.declared.seat.HeapSeat.{HeapSeat}
+use Rattle.gc_table.specs.declared.view.View.{View}
 use Rattle.alloc_cache.specs.declared.cache.Cache.{Cache}
 use Rattle.cache_refills.specs.Getting.{RefillsTo}
 use Rattle.gc_cycle.specs.Mutating.{GoesOut}
 use Rattle.gc_cycle.specs.Sparing.{SparesRefill}
 use Rattle.gc_cycle.specs.Standing.{KeepsSeat, KeepsSection}
+use Rattle.cache_refills.specs.Stops.{may_stop}
 use Rattle.cache_refills.specs.Trying.{CallsForCollection, EntersTo, PassesTo}
 use Rattle.gc_cycle.specs.declared.counts.Refill.{Refill}
 use Rattle.gc_cycle.specs.declared.counts.Refill.TheVariants as refills
@@ -44,7 +47,7 @@ tries-enter passes.Out h x y k sits out p = record { sits = sits; out = p.1; mut
 
 -- a cache that was asked for
 fills : (r : Refill) (done : ℕ) (h : Heap) (x y : HeapSeat) → Works h x → Sits h y → Ran (view_of x) (view_of y) → KeepsSeat (view_of x) (view_of y) → KeepsSection (view_of x) (view_of y) → RefillsTo r done (view_of x) (view_of y) → SparesRefill r (view_of x) (view_of y) → Refills r h y
-fills (refills.Cache free paid) done h x y k sits ran seat section p q = (kept-works h x y k sits p.goes_on.mutates ran seat section, p.cached)
+fills (refills.Cache free paid) done h x y k sits ran seat section p q = (kept-works h x y k sits p.goes_on.mutates ran seat section, p.cached, p.free)
 fills refills.Full done h x y k sits ran seat section p q = (record { works = kept-works h x y k sits p.mutates ran seat section; cache = p.cache }, q)
 
 pub fills-some : (o : Option Refill) (done : ℕ) (h : Heap) (x y : HeapSeat) → Works h x → Sits h y → Ran (view_of x) (view_of y) → KeepsSeat (view_of x) (view_of y) → KeepsSection (view_of x) (view_of y) → IfSome o (λ r. RefillsTo r done (view_of x) (view_of y) × SparesRefill r (view_of x) (view_of y)) → IfSome o (λ r. Refills r h y)
@@ -54,3 +57,7 @@ fills-some (Some r) done h x y k sits ran seat section p = fills r done h x y k 
 pub fills-none : (o : Option Refill) (h : Heap) (x y : HeapSeat) → Works h x → Sits h y → Ran (view_of x) (view_of y) → KeepsSeat (view_of x) (view_of y) → KeepsSection (view_of x) (view_of y) → IfNone o (CallsForCollection (view_of x) (view_of y)) → IfNone o (Halts h y)
 fills-none None h x y k sits ran seat section p = record { works = kept-works h x y k sits p.mutates ran seat section; cache = p.cache }
 fills-none (Some r) h x y k sits ran seat section p = tt
+
+pub fills-calls : (o : Option Refill) (v w : View) → IfNone o (CallsForCollection v w) → IfNone o (may_stop v.shape (events v w) ≡ true)
+fills-calls None v w p = p.cause
+fills-calls (Some r) v w p = tt

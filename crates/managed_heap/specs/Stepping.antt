@@ -1,13 +1,15 @@
 -- What a mutator is told that doesn't wait.
 use Rattle.std.specs.Prelude.{ℕ, ◌≡◌, ◌≤◌, ◌<◌, length, Bool, true, false, Option, Some, None, IsTrue}
 use Rattle.std.specs.Arc.{arc_value}
+use Rattle.std.specs.Int.Count.{ones}
 use Rattle.mark_core.specs.Numbers.{section_variables}
 use Rattle.plain_heap.specs.PlainHeap.{Heap as PlainHeap}
 use Rattle.plain_heap.specs.PlainStep.{IsInRange}
 use Rattle.plain_heap.specs.declared.operation.Op.{Op}
+use Rattle.plain_heap.specs.declared.operation.Op.TheVariants as ops
 use Rattle.gc_table.specs.PlainSteps.{HasSeenPhase}
 use Rattle.gc_table.specs.Rule.{KnowsFull}
-use Rattle.gc_table.specs.Seats.{view_of}
+use Rattle.gc_table.specs.Seats.{Across, view_of}
 use Rattle.alloc_cache.specs.Caching.{IsCached}
 use Rattle.alloc_cache.specs.declared.cache.Cache.{Cache}
 use Rattle.gc_cycle.specs.Answering.{HasCache}
@@ -17,8 +19,11 @@ use Rattle.cache_refills.specs.declared.trying.Pass.{Pass}
 use Rattle.cache_refills.specs.declared.trying.Pass.TheVariants as passes
 use Rattle.gc_table.specs.declared.seat.Heap.{Heap}
 use Rattle.gc_table.specs.declared.seat.HeapSeat.{HeapSeat}
+use Rattle.mutator_ops.specs.Few.{AtMost, most_steps}
 use Rattle.mutator_turns.specs.Plain.{Steps, value_in}
+use Rattle.mutator_turns.specs.Sharing.{LeavesHeap}
 use Rattle.mutator_turns.specs.Standing.{Halts, IsAtTurn, IsMutatorOutside, Works, plain_of}
+use Rattle.managed_heap.specs.Causes.{EntersFreely, FoundNoCell, FoundStop, MakesFreely, PassesFreely}
 use Rattle.managed_heap.specs.declared.stepper.Came.{Came}
 use Rattle.managed_heap.specs.declared.stepper.Came.TheVariants as cames
 use Rattle.managed_heap.specs.declared.stepper.Stage.{Stage}
@@ -39,7 +44,7 @@ Passes passes.Out h s kept = IsMutatorOutside h s × (kept ≡ None)
 
 -- where it is that asked for a cache
 abbrev pub Refills : Refill → Heap → HeapSeat → Type 0
-Refills (refills.Cache free paid) h s = Works h s × IsCached free (view_of s)
+Refills (refills.Cache free paid) h s = Works h s × IsCached free (view_of s) × (0 < ones free.cells)
 Refills refills.Full h s = Halts h s × KnowsFull (view_of s)
 
 -- where it is that left instead of what it was to do
@@ -96,9 +101,13 @@ pub record StepperDoes (op : Op) (x y : Stepper) : Type 0 where
   pub world : arc_value y.heap ≡ arc_value x.heap
   pub name_is : y.name ≡ x.name
 
+-- the call took so many steps at most as the operation may
+abbrev pub TakesFew : Op → Stepper → Stepper → Type 0
+TakesFew op x y = Across (AtMost (most_steps (fields_in x) op)) x.seat y.seat
+
 -- what an operation came to: it was done, or the stepper is as it was
 abbrev pub Operates : Came → Op → Stepper → Stepper → Type 0
-Operates cames.Done op x y = StepperDoes op x y
+Operates cames.Done op x y = StepperDoes op x y × TakesFew op x y
 Operates cames.OutOfRange op x y = (IsInRange (fields_in x) op → ⊥) × (y ≡ x)
 Operates cames.Outside op x y = (x.stage ≡ Outside) × (y ≡ x)
 Operates cames.Collecting op x y = IsTrue (is_collecting x.stage) × (y ≡ x)
@@ -106,52 +115,55 @@ Operates c op x y = ⊥
 
 -- what making an object came to: besides, no cell was free, or the stepper is spent, or it left, as a stop is under way or the heap is full
 abbrev pub StepperMakes : Came → Op → Stepper → Stepper → Type 0
-StepperMakes cames.Done op x y = StepperDoes op x y
+StepperMakes cames.Done op x y = StepperDoes op x y × Across MakesFreely x.seat y.seat
 StepperMakes cames.OutOfRange op x y = (IsInRange (fields_in x) op → ⊥) × (y ≡ x)
 StepperMakes cames.Outside op x y = (x.stage ≡ Outside) × (y ≡ x)
 StepperMakes cames.Collecting op x y = IsTrue (is_collecting x.stage) × (y ≡ x)
-StepperMakes cames.NoCell op x y = (x.stage ≡ Inside) × (y.stage ≡ Inside) × KeepsAll x y
-StepperMakes cames.Spent op x y = ((arc_value x.heap).shape.objects ≤ length (heap_of_stepper x).objects) × (x.stage ≡ Inside) × (y.stage ≡ Inside) × KeepsAll x y
-StepperMakes cames.Stopped op x y = (x.stage ≡ Inside) × (y.stage ≡ Outside) × KeepsAll x y
+StepperMakes cames.NoCell op x y = Across FoundNoCell x.seat y.seat × (x.stage ≡ Inside) × (y.stage ≡ Inside) × KeepsAll x y
+StepperMakes cames.Spent op x y = ((arc_value x.heap).shape.objects ≤ length (heap_of_stepper x).objects) × (x.stage ≡ Inside) × (y ≡ x)
+StepperMakes cames.Stopped op x y = Across FoundStop x.seat y.seat × (x.stage ≡ Inside) × (y.stage ≡ Outside) × KeepsAll x y
 StepperMakes cames.Full op x y = KnowsFull (view_of y.seat) × (x.stage ≡ Inside) × (y.stage ≡ Outside) × KeepsAll x y
 StepperMakes c op x y = ⊥
 
+-- what entering did, by where the stepper was
+abbrev pub EntersFrom : Stage → Stepper → Stepper → Type 0
+EntersFrom Inside x y = y ≡ x
+EntersFrom Outside x y = Across EntersFreely x.seat y.seat
+EntersFrom stage x y = ⊥
+
 -- what entering came to
 abbrev pub Entered : Came → Stepper → Stepper → Type 0
-Entered cames.Done x y = (y.stage ≡ Inside) × KeepsAll x y
-Entered cames.Stopped x y = (x.stage ≡ Outside) × (y.stage ≡ Outside) × KeepsAll x y
+Entered cames.Done x y = EntersFrom x.stage x y × (y.stage ≡ Inside) × KeepsAll x y
+Entered cames.Stopped x y = Across FoundStop x.seat y.seat × (x.stage ≡ Outside) × (y.stage ≡ Outside) × KeepsAll x y
 Entered cames.Full x y = KnowsFull (view_of y.seat) × (x.stage ≡ Outside) × (y.stage ≡ Outside) × KeepsAll x y
 Entered cames.Collecting x y = IsTrue (is_collecting x.stage) × (y ≡ x)
 Entered c x y = ⊥
 
+-- what leaving did, by where the stepper was
+abbrev pub LeavesFrom : Stage → Stepper → Stepper → Type 0
+LeavesFrom Inside x y = Across LeavesHeap x.seat y.seat
+LeavesFrom Outside x y = y ≡ x
+LeavesFrom stage x y = ⊥
+
 -- what leaving came to
 abbrev pub Left : Came → Stepper → Stepper → Type 0
-Left cames.Done x y = (y.stage ≡ Outside) × KeepsAll x y
+Left cames.Done x y = LeavesFrom x.stage x y × (y.stage ≡ Outside) × KeepsAll x y
 Left cames.Collecting x y = IsTrue (is_collecting x.stage) × (y ≡ x)
 Left c x y = ⊥
 
 -- what a safe point came to
 abbrev pub Passed : Came → Stepper → Stepper → Type 0
-Passed cames.Done x y = (x.stage ≡ Inside) × (y.stage ≡ Inside) × KeepsAll x y
-Passed cames.Stopped x y = (x.stage ≡ Inside) × (y.stage ≡ Outside) × KeepsAll x y
+Passed cames.Done x y = Across PassesFreely x.seat y.seat × (x.stage ≡ Inside) × (y.stage ≡ Inside) × KeepsAll x y
+Passed cames.Stopped x y = Across FoundStop x.seat y.seat × (x.stage ≡ Inside) × (y.stage ≡ Outside) × KeepsAll x y
 Passed cames.Outside x y = (x.stage ≡ Outside) × (y ≡ x)
 Passed cames.Full x y = KnowsFull (view_of y.seat) × (x.stage ≡ Inside) × (y.stage ≡ Outside) × KeepsAll x y
 Passed cames.Collecting x y = IsTrue (is_collecting x.stage) × (y ≡ x)
 Passed c x y = ⊥
 
--- what a step of a collection came to
-abbrev pub StepsCollection : Came → Stepper → Stepper → Type 0
-StepsCollection cames.NotYet x y = IsTrue (is_collecting y.stage) × KeepsAll x y
-StepsCollection cames.Done x y = IsTrue (is_collecting x.stage) × (y.stage ≡ Inside) × KeepsAll x y
-StepsCollection cames.Stopped x y = (y.stage ≡ Outside) × KeepsAll x y
-StepsCollection cames.Full x y = KnowsFull (view_of y.seat) × (y.stage ≡ Outside) × KeepsAll x y
-StepsCollection cames.Outside x y = (x.stage ≡ Outside) × (y ≡ x)
-StepsCollection c x y = ⊥
-
 -- what reading a value came to: it was read, or what is to hold it is as it was
 abbrev pub ReadsValue : Came → ℕ → Stepper → Stepper → ℕ → ℕ → Type 0
-ReadsValue cames.Done v x y before after = (value_in (heap_of_stepper x) v ≡ Some after) × (v < section_variables) × (x.stage ≡ Inside) × (y.stage ≡ Inside) × KeepsAll x y
-ReadsValue cames.Nil v x y before after = (value_in (heap_of_stepper x) v ≡ None) × (v < section_variables) × (x.stage ≡ Inside) × (y.stage ≡ Inside) × KeepsAll x y × (after ≡ before)
+ReadsValue cames.Done v x y before after = (value_in (heap_of_stepper x) v ≡ Some after) × TakesFew (ops.Say v) x y × (v < section_variables) × (x.stage ≡ Inside) × (y.stage ≡ Inside) × KeepsAll x y
+ReadsValue cames.Nil v x y before after = (value_in (heap_of_stepper x) v ≡ None) × TakesFew (ops.Say v) x y × (v < section_variables) × (x.stage ≡ Inside) × (y.stage ≡ Inside) × KeepsAll x y × (after ≡ before)
 ReadsValue cames.OutOfRange v x y before after = (v < section_variables → ⊥) × (y ≡ x) × (after ≡ before)
 ReadsValue cames.Outside v x y before after = (x.stage ≡ Outside) × (y ≡ x) × (after ≡ before)
 ReadsValue cames.Collecting v x y before after = IsTrue (is_collecting x.stage) × (y ≡ x) × (after ≡ before)

@@ -1,6 +1,8 @@
 //! A mutator in the hand of one thread that doesn't wait.
 ghost use Rattle.std.specs.Arc.{arc_value};
 ghost use Rattle.std.specs.Prelude.{◌≡◌, IsFalse};
+ghost use Rattle.gc_table.specs.Seats.{view_of};
+ghost use Rattle.managed_heap.specs.Asked.{MarksSinceAsked, SweepsSinceAsked, WaitsSinceAsked};
 ghost use Rattle.managed_heap.specs.Collecting.{AsksStop, SitsAtDrain, SitsSweptAll, SitsAtRoots, SitsAtSweep};
 ghost use Rattle.mutator_turns.specs.Standing.{IsAtTurn, IsMutatorOutside};
 ghost use Rattle.managed_heap.specs.declared.stepper.Stage.TheVariants as stages;
@@ -69,7 +71,7 @@ pub struct Stepper {
     pub(crate) in_stops: bool,
     /// The collection is to mark once more, from the roots alone, since a cycle was marking when it began.
     pub(crate) again: bool,
-    /// How many cells its sweep has freed.
+    /// How many cells its sweep has freed, at most 4,294,967,295.
     pub(crate) freed: u32,
     ghost owned: { IsFalse (arc_value heap).shape.sharing },
     ghost outside: { stage ≡ stages.Outside → IsMutatorOutside (arc_value heap) seat },
@@ -79,4 +81,9 @@ pub struct Stepper {
     ghost draining: { stage ≡ stages.Draining → SitsAtDrain (arc_value heap) seat },
     ghost sweeping: { stage ≡ stages.Sweeping → SitsAtSweep (arc_value heap) seat },
     ghost ending: { stage ≡ stages.Ending → SitsSweptAll (arc_value heap) seat },
+    ghost waits: { stage ≡ stages.Stopping → WaitsSinceAsked (view_of seat) },
+    ghost marks_roots: { stage ≡ stages.Rooting → MarksSinceAsked again (view_of seat) },
+    ghost marks: { stage ≡ stages.Draining → MarksSinceAsked again (view_of seat) },
+    ghost sweeps: { stage ≡ stages.Sweeping → SweepsSinceAsked (view_of seat) },
+    ghost ends: { stage ≡ stages.Ending → SweepsSinceAsked (view_of seat) },
 }

@@ -1,15 +1,13 @@
 //! A stepper collects.
-ghost use Rattle.std.specs.Prelude.{◌≡◌, ◌≤◌};
-ghost use Rattle.std.specs.Arc.{arc_value};
-ghost use Rattle.mark_core.specs.Layout.{block_count};
-ghost use Rattle.gc_table.specs.Seats.{Across, did};
-ghost use Rattle.packet_pools.specs.Counts.{count_of};
-ghost use Rattle.gc_cycle.specs.Sorts.{draws_block};
-ghost use Rattle.gc_cycle.specs.Stepping.{MakesRound};
+ghost use Rattle.std.specs.Prelude.{ℕ, ◌≡◌};
+ghost use Rattle.gc_table.specs.Seats.{Across, view_of};
+ghost use Rattle.managed_heap.specs.Asked.{SweepsSinceAsked};
 ghost use Rattle.managed_heap.specs.Bounds.{CollectsAtMost, IsBoundedStep};
 ghost use Rattle.managed_heap.specs.Collecting.{SitsSweptAll};
+ghost use Rattle.managed_heap.specs.Course.{EndsBy};
 ghost use Rattle.mutator_turns.specs.Standing.{plain_of};
-ghost use Rattle.managed_heap.specs.Stepping.{Arrives, StepsCollection};
+ghost use Rattle.managed_heap.specs.Stepping.{Arrives};
+ghost use Rattle.managed_heap.specs.Steps.{StepsCollection};
 ghost use Rattle.managed_heap.specs.declared.stepper.Stage.TheVariants as stages;
 
 use crate::collecting::{
@@ -26,8 +24,10 @@ const STEP: u32 = 4_096;
 /// Ends the cycle, lets the world go on, and comes to its turn.
 fn end_to_turn(heap: &Heap, seat: &mut HeapSeat, freed: u32) -> Came
     requires swept { SitsSweptAll heap.now seat.old }
+    requires sweeps { SweepsSinceAsked (view_of seat.old) }
     ensures arrives { Arrives result heap.now seat.new }
     ensures same { plain_of seat.new ≡ plain_of seat.old }
+    ensures ends { Across (EndsBy freed result) seat.old seat.new }
 {
     ends(heap, seat, freed);
     arrive(heap, seat)
@@ -37,7 +37,7 @@ impl Stepper {
     /// The next step of a precise collection: `NotYet` where there is more to do. While it is under way the world stands still, or is asked to, so the
     /// caller comes again soon.
     pub fn collect_step(&mut self) -> Came
-        ensures collects { StepsCollection result self.old self.new }
+        ensures collects { CollectsAtMost 4096 result self.old self.new }
     {
         self.take_step(STEP)
     }
@@ -55,7 +55,7 @@ impl Stepper {
 
     /// The next step, with this bound.
     fn take_step(&mut self, most: u32) -> Came
-        ensures collects { StepsCollection result self.old self.new }
+        ensures collects { StepsCollection most result self.old self.new }
         ensures bounded { IsBoundedStep most self.old self.new }
     {
         match self.stage {
@@ -72,7 +72,7 @@ impl Stepper {
     /// Asks for a stop of its own, to collect in it.
     fn ask(&mut self) -> Came
         requires inside { self.old.stage ≡ stages.Inside }
-        ensures collects { StepsCollection result self.old self.new }
+        ensures collects { (most : ℕ) → StepsCollection most result self.old self.new }
     {
         retire_own_cache(&self.heap, &mut self.seat);
         if asks(&self.heap, &mut self.seat) {
@@ -86,7 +86,7 @@ impl Stepper {
     /// Begins to mark, where the world has stopped.
     fn begin(&mut self) -> Came
         requires stopping { self.old.stage ≡ stages.Stopping }
-        ensures collects { StepsCollection result self.old self.new }
+        ensures collects { (most : ℕ) → StepsCollection most result self.old self.new }
     {
         if !stops(&self.heap, &mut self.seat) {
             return Came::NotYet;
@@ -104,7 +104,7 @@ impl Stepper {
     /// Sees to the roots.
     fn scan(&mut self) -> Came
         requires rooting { self.old.stage ≡ stages.Rooting }
-        ensures collects { StepsCollection result self.old self.new }
+        ensures collects { (most : ℕ) → StepsCollection most result self.old self.new }
     {
         if roots(&self.heap, &mut self.seat) {
             self.stage = Stage::Draining;
@@ -115,8 +115,8 @@ impl Stepper {
     /// Drains on. Where all is marked it begins to sweep, or marks once more.
     fn drain(&mut self, most: u32) -> Came
         requires draining { self.old.stage ≡ stages.Draining }
-        ensures collects { StepsCollection result self.old self.new }
-        ensures round { self.new.stage ≡ stages.Draining → Across (MakesRound most) self.old.seat self.new.seat }
+        ensures collects { StepsCollection most result self.old self.new }
+        ensures bounded { IsBoundedStep most self.old self.new }
     {
         if !drains(&self.heap, &mut self.seat, most) {
             return Came::NotYet;
@@ -136,8 +136,8 @@ impl Stepper {
     /// Sweeps on.
     fn sweep(&mut self, most: u32) -> Came
         requires sweeping { self.old.stage ≡ stages.Sweeping }
-        ensures collects { StepsCollection result self.old self.new }
-        ensures blocks { count_of (draws_block (block_count (arc_value self.old.heap).shape)) (did self.old.seat self.new.seat) ≤ most }
+        ensures collects { StepsCollection most result self.old self.new }
+        ensures bounded { IsBoundedStep most self.old self.new }
     {
         let step = sweeps(&self.heap, &mut self.seat, most);
         self.freed = self.freed.saturating_add(step.freed);
@@ -150,7 +150,7 @@ impl Stepper {
     /// Ends the collection.
     fn end(&mut self) -> Came
         requires ending { self.old.stage ≡ stages.Ending }
-        ensures collects { StepsCollection result self.old self.new }
+        ensures collects { (most : ℕ) → StepsCollection most result self.old self.new }
     {
         match end_to_turn(&self.heap, &mut self.seat, self.freed) {
             Came::Done => {

@@ -1,14 +1,19 @@
 //! What a mutator does with its seat without waiting.
-ghost use Rattle.std.specs.Prelude.{◌≡◌, ◌<◌, length, IfErr, IfNone, IfOk, IfSome, IsFalse, None};
-ghost use Rattle.std.specs.Bool.{OnTrue};
+ghost use Rattle.std.specs.Prelude.{◌≡◌, ◌<◌, length, IfErr, IfNone, IfOk, IfSome, IsFalse, IsTrue, is_some, None};
+ghost use Rattle.std.specs.Bool.{OnFalse, OnTrue};
 ghost use Rattle.std.specs.Int.Count.{ones};
 ghost use Rattle.mark_core.specs.Numbers.{section_variables};
 ghost use Rattle.plain_heap.specs.declared.operation.Op.TheVariants as ops;
 ghost use Rattle.alloc_cache.specs.Caching.{IsCached};
 ghost use Rattle.gc_cycle.specs.Answering.{HasCache};
 ghost use Rattle.cache_refills.specs.declared.trying.Pass.TheVariants as passes;
-ghost use Rattle.gc_table.specs.Seats.{view_of};
+ghost use Rattle.cache_refills.specs.Stops.{may_stop};
+ghost use Rattle.cache_refills.specs.Trying.{EntersTo};
+ghost use Rattle.gc_table.specs.Running.{Ran};
+ghost use Rattle.gc_table.specs.Seats.{Across, did, state_of, view_of};
+ghost use Rattle.seat_turns.specs.Turning.{LooksAtSeason, SeesOther};
 ghost use Rattle.mutator_turns.specs.Standing.{Halts, IsAtTurn, Plays, IsMutatorOutside, Works, plain_of};
+ghost use Rattle.managed_heap.specs.Causes.{ArrivesBy, ComesFreely, EntersBy, GoesFreely, LacksBy, LooksBy, MakesBy, PassesBy};
 ghost use Rattle.managed_heap.specs.Stepping.{Arrives, LacksCell, LeavesWorld, MakesOne, Passes, Refills, Tries};
 
 use crate::stepper::Came;
@@ -24,6 +29,8 @@ fn try_in(heap: &Heap, seat: &mut HeapSeat) -> Pass
     requires waits { IsMutatorOutside heap.now seat.old }
     ensures tries { Tries result heap.now seat.new }
     ensures same { plain_of seat.new ≡ plain_of seat.old }
+    ensures ran { Across Ran seat.old seat.new }
+    ensures enters { Across (EntersTo result) seat.old seat.new }
 {
     try_enter(heap, seat)
 }
@@ -34,6 +41,8 @@ fn try_pass(heap: &Heap, seat: &mut HeapSeat, cache: &mut Option<Cache>) -> Pass
     requires cache { HasCache cache.old (view_of seat.old) }
     ensures passes { Passes result heap.now seat.new cache.new }
     ensures same { plain_of seat.new ≡ plain_of seat.old }
+    ensures ran { Across Ran seat.old seat.new }
+    ensures looks { Across (LooksBy result cache.old cache.new) seat.old seat.new }
 {
     let made = seat.state().made;
     try_safe_point(heap, seat, cache, made)
@@ -47,6 +56,9 @@ fn comes_to_turn(heap: &Heap, seat: &mut HeapSeat, _cache: &Option<Cache>) -> bo
     ensures works { Works heap.now seat.new }
     ensures cache { HasCache _cache.now (view_of seat.new) }
     ensures same { plain_of seat.new ≡ plain_of seat.old }
+    ensures looks { Across LooksAtSeason seat.old seat.new }
+    ensures known { IsTrue (is_some (state_of seat.old).season_seen) → view_of seat.new ≡ view_of seat.old }
+    ensures other { OnFalse result (SeesOther 1 (view_of seat.new)) }
 {
     is_turn(heap, seat, TURN)
 }
@@ -67,6 +79,7 @@ fn leave_with(heap: &Heap, seat: &mut HeapSeat, cache: Option<Cache>)
     requires cache { HasCache cache (view_of seat.old) }
     ensures waits { IsMutatorOutside heap.now seat.new }
     ensures same { plain_of seat.new ≡ plain_of seat.old }
+    ensures ran { Across Ran seat.old seat.new }
 {
     retire_some(heap, seat, cache);
     leave(heap, seat);
@@ -80,6 +93,9 @@ fn point(heap: &Heap, seat: &mut HeapSeat, cache: Option<Cache>) -> Result<Optio
     ensures turn { IfOk result (λ _. IsAtTurn heap.now seat.new) }
     ensures err { IfErr result (λ came. LeavesWorld came heap.now seat.new) }
     ensures same { plain_of seat.new ≡ plain_of seat.old }
+    ensures ran { Across Ran seat.old seat.new }
+    ensures freely { IfOk result (λ kept. (kept ≡ cache) × Across GoesFreely seat.old seat.new) }
+    ensures found { IfErr result (λ came. Across (ArrivesBy came) seat.old seat.new) }
 {
     let mut cache = cache;
     match try_pass(heap, seat, &mut cache) {
@@ -107,6 +123,8 @@ pub fn arrive(heap: &Heap, seat: &mut HeapSeat) -> Came
     requires halts { Halts heap.now seat.old }
     ensures arrives { Arrives result heap.now seat.new }
     ensures same { plain_of seat.new ≡ plain_of seat.old }
+    ensures ran { Across Ran seat.old seat.new }
+    ensures found { Across (ArrivesBy result) seat.old seat.new }
 {
     match point(heap, seat, None) {
         Ok(none) => {
@@ -122,6 +140,7 @@ pub fn enter_once(heap: &Heap, seat: &mut HeapSeat) -> Came
     requires waits { IsMutatorOutside heap.now seat.old }
     ensures arrives { Arrives result heap.now seat.new }
     ensures same { plain_of seat.new ≡ plain_of seat.old }
+    ensures found { Across (EntersBy result) seat.old seat.new }
 {
     match try_in(heap, seat) {
         Pass::Out => Came::Stopped,
@@ -138,6 +157,7 @@ pub fn pass_once(heap: &Heap, seat: &mut HeapSeat) -> Came
     requires turn { IsAtTurn heap.now seat.old }
     ensures arrives { Arrives result heap.now seat.new }
     ensures same { plain_of seat.new ≡ plain_of seat.old }
+    ensures found { Across (PassesBy result) seat.old seat.new }
 {
     let cache = cache_of(seat);
     match point(heap, seat, cache) {
@@ -155,6 +175,8 @@ fn try_fill(heap: &Heap, seat: &mut HeapSeat) -> Option<Refill>
     ensures refills { IfSome result (λ r. Refills r heap.now seat.new) }
     ensures none { IfNone result (Halts heap.now seat.new) }
     ensures same { plain_of seat.new ≡ plain_of seat.old }
+    ensures ran { Across Ran seat.old seat.new }
+    ensures calls { IfNone result (IsTrue (may_stop (view_of seat.old).shape (did seat.old seat.new))) }
 {
     let made = seat.state().made;
     try_refill(heap, seat, made)
@@ -165,6 +187,8 @@ fn lacks_cell(heap: &Heap, seat: &mut HeapSeat) -> Came
     requires halts { Halts heap.now seat.old }
     ensures lacks { LacksCell result heap.now seat.new }
     ensures same { plain_of seat.new ≡ plain_of seat.old }
+    ensures ran { Across Ran seat.old seat.new }
+    ensures found { Across (LacksBy result) seat.old seat.new }
 {
     match arrive(heap, seat) {
         Came::Done => Came::NoCell,
@@ -176,10 +200,13 @@ fn lacks_cell(heap: &Heap, seat: &mut HeapSeat) -> Came
 fn point_with(heap: &Heap, seat: &mut HeapSeat, cache: Cache) -> Result<Cache, Came>
     requires works { Works heap.now seat.old }
     requires cache { IsCached cache (view_of seat.old) }
+    requires free { 0 < ones cache.cells }
     ensures ok { IfOk result (λ free. Plays heap.now seat.new × IsCached free (view_of seat.new)) }
     ensures free { IfOk result (λ free. 0 < ones free.cells) }
     ensures err { IfErr result (λ came. LacksCell came heap.now seat.new) }
     ensures same { plain_of seat.new ≡ plain_of seat.old }
+    ensures ran { Across Ran seat.old seat.new }
+    ensures found { IfErr result (λ came. Across (MakesBy came) seat.old seat.new) }
 {
     match point(heap, seat, Some(cache)) {
         Err(came) => Err(came),
@@ -201,6 +228,8 @@ fn fill(heap: &Heap, seat: &mut HeapSeat, cache: Option<Cache>) -> Result<Cache,
     ensures free { IfOk result (λ free. 0 < ones free.cells) }
     ensures err { IfErr result (λ came. LacksCell came heap.now seat.new) }
     ensures same { plain_of seat.new ≡ plain_of seat.old }
+    ensures ran { Across Ran seat.old seat.new }
+    ensures found { IfErr result (λ came. Across (MakesBy came) seat.old seat.new) }
 {
     retire_some(heap, seat, cache);
     match try_fill(heap, seat) {
@@ -220,6 +249,9 @@ fn come_once(heap: &Heap, seat: &mut HeapSeat) -> Result<Cache, Came>
     ensures free { IfOk result (λ free. 0 < ones free.cells) }
     ensures err { IfErr result (λ came. LacksCell came heap.now seat.new) }
     ensures same { plain_of seat.new ≡ plain_of seat.old }
+    ensures ran { Across Ran seat.old seat.new }
+    ensures freely { IfOk result (λ _. Across ComesFreely seat.old seat.new) }
+    ensures found { IfErr result (λ came. Across (MakesBy came) seat.old seat.new) }
 {
     let cache = cache_of(seat);
     match point(heap, seat, cache) {
@@ -238,6 +270,7 @@ pub fn make_once(heap: &Heap, seat: &mut HeapSeat, v: u8, value: u32) -> Came
     requires room { length (plain_of seat.old).objects < heap.now.shape.objects }
     requires range { v < section_variables }
     ensures makes { MakesOne result (ops.New v value) heap.now seat.old seat.new }
+    ensures found { Across (MakesBy result) seat.old seat.new }
 {
     match come_once(heap, seat) {
         Ok(free) => {

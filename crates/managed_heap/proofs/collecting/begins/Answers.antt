@@ -2,6 +2,7 @@ use Rattle.std.proofs.lemmas.Bool.{OnFalse_at, OnFalse_from, OnTrue_at, OnTrue_f
 use Rattle.gc_table.specs.Seats.{view_of}
 use Rattle.mutator_turns.proofs.Seats.{mutator-kept}
 use Rattle.managed_heap.proofs.collecting.begins.Goals as goal
+use Rattle.managed_heap.proofs.SinceAsked.{marks-begun}
 
 pub returns-clause-begun : goal.returns-clause-begun
 returns-clause-begun c =
@@ -14,3 +15,9 @@ returns-clause-full c =
     let e = c.begin_collection.ensures in
     let m = mutator-kept (view_of c.args.seat.now) (view_of c.begin_collection.new.seat) c.requires.stopped.mutator e.ran e.keeps.0 e.keeps.1 in
     OnFalse_from c.begin_collection.result _ (λ is. let q = OnFalse_at is e.full in (record { works = record { sits = e.seat; mutates = q.0.mutates; mutator = m }; cache = q.0.cache }, q.1))
+
+pub returns-clause-marks : goal.returns-clause-marks
+returns-clause-marks c =
+    let e = c.begin_collection.ensures in
+    OnTrue_from c.begin_collection.result _
+    (λ is. marks-begun (view_of c.args.seat.now) (view_of c.begin_collection.new.seat) c.requires.stopped.holds (OnTrue_at is e.begun).1 c.requires.waits e.ran (OnTrue_at is e.course).only (OnTrue_at is e.exact))

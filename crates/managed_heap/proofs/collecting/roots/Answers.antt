@@ -2,6 +2,8 @@ use Rattle.std.proofs.lemmas.Bool.{OnFalse_at, OnFalse_from, OnTrue_at, OnTrue_f
 use Rattle.gc_table.specs.Seats.{view_of}
 use Rattle.mutator_turns.proofs.Seats.{mutator-kept}
 use Rattle.managed_heap.proofs.collecting.roots.Goals as goal
+use Rattle.mark_core.specs.declared.kinds.Phase.TheVariants.{Drain}
+use Rattle.managed_heap.proofs.SinceAsked.{marks-on, part-calm}
 
 pub returns-clause-rooted : goal.returns-clause-rooted
 returns-clause-rooted c =
@@ -14,3 +16,11 @@ returns-clause-not_yet c =
     let e = c.root_step.ensures in
     let m = mutator-kept (view_of c.args.seat.now) (view_of c.root_step.new.seat) c.requires.rooting.mutator e.part.ran e.keeps.0 e.keeps.1 in
     OnFalse_from c.root_step.result _ (λ is. record { sits = e.seat; mutator = m; roots = (OnFalse_at is e.not_yet).0 })
+
+pub returns-clause-lacks : goal.returns-clause-lacks
+returns-clause-lacks c = OnFalse_from c.root_step.result _ (λ is. (OnFalse_at is c.root_step.ensures.not_yet).1)
+
+pub returns-clause-marks : goal.returns-clause-marks
+returns-clause-marks c = λ again m.
+    let e = c.root_step.ensures in
+    marks-on again (view_of c.args.seat.now) (view_of c.root_step.new.seat) e.part.ran (part-calm Drain (view_of c.args.seat.now) (view_of c.root_step.new.seat) e.part) e.exact m

@@ -1,7 +1,8 @@
-use Rattle.std.proofs.Common.{arith}
 use Rattle.gc_table.specs.Seats.{view_of}
 use Rattle.mutator_turns.proofs.Seats.{mutator-kept}
 use Rattle.managed_heap.proofs.collecting.sweeps.Goals as goal
+use Rattle.mark_core.specs.declared.kinds.Phase.TheVariants.{Sweep}
+use Rattle.managed_heap.proofs.SinceAsked.{part-calm, sweeps-on}
 
 pub returns-clause-sweeping : goal.returns-clause-sweeping
 returns-clause-sweeping c =
@@ -13,5 +14,7 @@ returns-clause-swept c = λ other.
     let e = c.sweep_step.ensures in
     record { sits = e.seat; mutator = mutator-kept (view_of c.args.seat.now) (view_of c.sweep_step.new.seat) c.requires.sweeping.mutator e.part.ran e.keeps.0 e.keeps.1; swept = e.swept other }
 
-pub returns-clause-blocks : goal.returns-clause-blocks
-returns-clause-blocks c = let e = c.sweep_step.ensures in omega (arith, e.blocks)
+pub returns-clause-sweeps : goal.returns-clause-sweeps
+returns-clause-sweeps c =
+    let e = c.sweep_step.ensures in
+    sweeps-on (view_of c.args.seat.now) (view_of c.sweep_step.new.seat) e.part.ran (part-calm Sweep (view_of c.args.seat.now) (view_of c.sweep_step.new.seat) e.part) e.exact c.requires.sweeps

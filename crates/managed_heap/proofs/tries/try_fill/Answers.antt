@@ -1,5 +1,6 @@
 use Rattle.managed_heap.proofs.tries.try_fill.Goals as goal
-use Rattle.managed_heap.proofs.Tried.{fills-none, fills-some}
+use Rattle.managed_heap.proofs.Tried.{fills-calls, fills-none, fills-some}
+use Rattle.gc_table.specs.Seats.{view_of}
 
 pub returns-clause-refills : goal.returns-clause-refills
 returns-clause-refills c =
@@ -10,3 +11,9 @@ pub returns-clause-none : goal.returns-clause-none
 returns-clause-none c =
     let e = c.try_refill.ensures in
     fills-none c.try_refill.result c.args.heap.now c.args.seat.now c.try_refill.new.seat c.requires.halts.works e.seat e.plays.ran e.keeps.0 e.keeps.1 e.calls
+
+pub returns-clause-ran : goal.returns-clause-ran
+returns-clause-ran c = c.try_refill.ensures.plays.ran
+
+pub returns-clause-calls : goal.returns-clause-calls
+returns-clause-calls c = fills-calls c.try_refill.result (view_of c.args.seat.now) (view_of c.try_refill.new.seat) c.try_refill.ensures.calls

@@ -10,3 +10,6 @@ pub returns-clause-tries : goal.returns-clause-tries
 returns-clause-tries c =
     let e = c.try_enter.ensures in
     tries-enter c.try_enter.result c.args.heap.now c.args.seat.now c.try_enter.new.seat c.requires.waits e.seat e.out e.enters
+
+pub returns-clause-ran : goal.returns-clause-ran
+returns-clause-ran c = c.try_enter.ensures.out.ran
