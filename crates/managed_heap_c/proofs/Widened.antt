@@ -4,7 +4,7 @@ use Rattle.std.specs.Arc.{arc_value}
 use Rattle.plain_heap.specs.PlainStep.{IsInRange}
 use Rattle.plain_heap.specs.declared.operation.Op.{Op}
 use Rattle.plain_heap.specs.declared.operation.Op.TheVariants as ops
-use Rattle.managed_heap.specs.Stepping.{Operates, StepperDoes, StepperMakes, fields_in}
+use Rattle.managed_heap.specs.Stepping.{Operates, StepperDoes, StepperMakes, TakesFew, fields_in}
 use Rattle.managed_heap.specs.declared.stepper.Came.{Came}
 use Rattle.managed_heap.specs.declared.stepper.Came.TheVariants as cames
 use Rattle.managed_heap.specs.declared.stepper.Stepper.{Stepper}
@@ -54,24 +54,25 @@ get-one x w v i a b c p q s = (
 )
 
 pub operates-by : (came : Came) (by op : Op) (x y : Stepper) → AreOne x by op → Operates came by x y → Operates came op x y
-operates-by cames.Done by op x y one d = subst (λ o. StepperDoes o x y) (one.0 d.range) d
+operates-by cames.Done by op x y one d = (subst (λ o. StepperDoes o x y) (one.0 d.0.range) d.0, subst (λ o. TakesFew o x y) (one.0 d.0.range) d.1)
 operates-by cames.OutOfRange by op x y one d = (λ r. d.0 (subst (λ o. IsInRange (fields_in x) o) (sym (one.1 r)) r), d.1)
 operates-by came by op x y one d = d
 
 pub makes-by : (came : Came) (by op : Op) (x y : Stepper) → AreOne x by op → StepperMakes came by x y → StepperMakes came op x y
-makes-by cames.Done by op x y one d = subst (λ o. StepperDoes o x y) (one.0 d.range) d
+makes-by cames.Done by op x y one d = (subst (λ o. StepperDoes o x y) (one.0 d.0.range) d.0, d.1)
 makes-by cames.OutOfRange by op x y one d = (λ r. d.0 (subst (λ o. IsInRange (fields_in x) o) (sym (one.1 r)) r), d.1)
 makes-by came by op x y one d = d
 
 pub stores-by : (came : Came) (v b : ℕ) (by op : Op) (x y : Stepper) → AreOne x by op → (IsInRange (fields_in x) by → b ≡ v) → Stores b by came x y → Stores v op came x y
-stores-by cames.Done v b by op x y one same d = (subst (λ o. StepperDoes o x y) (one.0 d.0.range) d.0, λ n. d.1 (subst (λ k. IsNil k x) (sym (same d.0.range)) n))
+stores-by cames.Done v b by op x y one same d =
+    (subst (λ o. StepperDoes o x y) (one.0 d.0.range) d.0, subst (λ o. TakesFew o x y) (one.0 d.0.range) d.1, λ n. d.2 (subst (λ k. IsNil k x) (sym (same d.0.range)) n))
 stores-by cames.Nil v b by op x y one same d = subst (λ o. StoresNothing v o x y) (one.0 d.range) (subst (λ k. StoresNothing k by x y) (same d.range) d)
 stores-by cames.OutOfRange v b by op x y one same d = (λ r. d.0 (subst (λ o. IsInRange (fields_in x) o) (sym (one.1 r)) r), d.1)
 stores-by came v b by op x y one same d = d
 
 pub reads-by : (came : Came) (v b before after : ℕ) (x y : Stepper) → IsByteOf v b → ReadsTo b before after came x y → ReadsTo v before after came x y
-reads-by cames.Done v b before after x y i d = subst (λ k. ReadsTo k before after cames.Done x y) (i.1 (omega (arith, d.1))) d
-reads-by cames.Nil v b before after x y i d = subst (λ k. ReadsTo k before after cames.Nil x y) (i.1 (omega (arith, d.1))) d
+reads-by cames.Done v b before after x y i d = subst (λ k. ReadsTo k before after cames.Done x y) (i.1 (omega (arith, d.2))) d
+reads-by cames.Nil v b before after x y i d = subst (λ k. ReadsTo k before after cames.Nil x y) (i.1 (omega (arith, d.2))) d
 reads-by cames.OutOfRange v b before after x y i d = (λ l. d.0 (omega (arith, i.0 (omega (arith, l)), l)), d.1, d.2)
 reads-by came v b before after x y i d = d
 

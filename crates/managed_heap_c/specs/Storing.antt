@@ -3,7 +3,7 @@ use Rattle.std.specs.Prelude.{ℕ, ◌≡◌, Bool, true, false, Result, Ok, Err
 use Rattle.std.specs.Arc.{arc_value}
 use Rattle.plain_heap.specs.PlainStep.{IsInRange}
 use Rattle.plain_heap.specs.declared.operation.Op.{Op}
-use Rattle.managed_heap.specs.Stepping.{Operates, StepperDoes, fields_in, heap_of_stepper}
+use Rattle.managed_heap.specs.Stepping.{Operates, StepperDoes, TakesFew, fields_in, heap_of_stepper}
 use Rattle.managed_heap.specs.declared.stepper.Came.{Came}
 use Rattle.managed_heap.specs.declared.stepper.Came.TheVariants as cames
 use Rattle.managed_heap.specs.declared.stepper.Stage.TheVariants.{Inside}
@@ -20,10 +20,11 @@ pub record StoresNothing (v : ℕ) (op : Op) (x y : Stepper) : Type 0 where
   pub variables : (heap_of_stepper y).variables ≡ (heap_of_stepper x).variables
   pub world : arc_value y.heap ≡ arc_value x.heap
   pub name_is : y.name ≡ x.name
+  pub few : TakesFew op x y
 
 -- a store through variable v was done, or v refers to nothing, or the call was refused
 abbrev pub Stores : ℕ → Op → Came → Stepper → Stepper → Type 0
-Stores v op cames.Done x y = StepperDoes op x y × (IsNil v x → ⊥)
+Stores v op cames.Done x y = StepperDoes op x y × TakesFew op x y × (IsNil v x → ⊥)
 Stores v op cames.Nil x y = StoresNothing v op x y
 Stores v op came x y = Operates came op x y
 
