@@ -72,36 +72,20 @@ uint32_t new_place(void) {
 
 int is_bound(uint32_t place_) { return bound[place_]; }
 
-/* The place's value becomes v's. */
+/* The place's value becomes v's, which lies in neither S1 nor S2. */
 void bind_place(uint32_t place_, uint32_t v) {
-    uint32_t width = tree_size, i = place_;
-    if (width == 1) copy(PLACES, v);
-    else {
-        copy(S0, PLACES);
-        for (width /= FIELDS; width > 1; width /= FIELDS) {
-            get(S1, S0, i / width);
-            if (word(S1) == EMPTY) {
-                make(S1, WORD(RIB, 0), FIELDS);
-                set(S0, i / width, S1);
-            }
-            copy(S0, S1);
-            i %= width;
-        }
-        set(S0, i, v);
-    }
+    if (tree_size == 1) copy(PLACES, v);
+    else tree_set(PLACES, tree_size, place_, v);
     bound[place_] = 1;
     if (cached[place_ % CACHED] == place_) copy(CACHE + place_ % CACHED, v);
 }
 
 /* The variable that has the place's value, until another place is asked for. */
 uint32_t place(uint32_t place_) {
-    uint32_t slot = place_ % CACHED, v = CACHE + slot, width, i = place_;
+    uint32_t slot = place_ % CACHED, v = CACHE + slot;
     if (cached[slot] == place_) return v;
     cached[slot] = place_;
-    copy(v, PLACES);
-    for (width = tree_size / FIELDS; width; width /= FIELDS) {
-        get(v, v, i / width);
-        i %= width;
-    }
+    if (tree_size == 1) copy(v, PLACES);
+    else tree_get(v, PLACES, tree_size, place_);
     return v;
 }
