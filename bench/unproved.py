@@ -1,5 +1,5 @@
 """What LLVM is handed of an unproved build, made what it is handed of a proved one: without the tests of sums and indices and without the fills of fresh memory,
-and with the marks `#[inline]` of the sources, which an unproved build leaves out. bench/unproved.sh and c/unproved.sh use it.
+and with the marks `#[inline]` of the sources, which an unproved build leaves out. bench/unproved_kit.sh uses it.
 
     python3 bench/unproved.py FROM.ll TO.ll KIT
 """

@@ -9,7 +9,7 @@ set -eu
 program=$1
 shift
 top=$(cd "$(dirname "$0")/.." && pwd)
-sum=$(cd "$top" && find crates c -name '*.rt' -o -name '*.h' -o -name 'unproved.*' | sort | xargs cat | cksum | tr ' ' '.')
+sum=$(cd "$top" && find crates c bench -name '*.rt' -o -name '*.h' -o -name 'unproved*.*' | sort | xargs cat | cksum | tr ' ' '.')
 kept=${TMPDIR:-/tmp}/managed_heap.$(id -u)
 mkdir -p -m 700 "$kept"
 [ -f "$kept/$sum.a" ] || sh "$top/c/unproved.sh" "$kept/$sum.a"

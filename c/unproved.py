@@ -1,7 +1,7 @@
 """Writes what an unproved build of the library is made of: a program whose main hands C the exports of managed_heap_c as function pointers, and the functions
 in C that call them, by the names that the header has.
 
-    python3 trial.py LIB.rt HEADER.h MAIN.rt CALLS.c
+    python3 c/unproved.py LIB.rt HEADER.h MAIN.rt CALLS.c
 """
 
 import re
