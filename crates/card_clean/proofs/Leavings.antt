@@ -56,7 +56,7 @@ left-dirty (Some x) card c = by_card (eqb x.card card)
     by_card true = refl
     by_card false = refl
 
-no_first : (x : ℕ × ℕ) (xs : List (ℕ × ℕ)) → x ∷ xs ≡ [] → ⊥
+pub no_first : (x : ℕ × ℕ) (xs : List (ℕ × ℕ)) → x ∷ xs ≡ [] → ⊥
 no_first x xs e = cc
 
 -- what is left stays, but for the object whose field is read

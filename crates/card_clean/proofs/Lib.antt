@@ -14,3 +14,4 @@ pub mod Takings
 pub mod Staying
 pub mod Drawn
 pub mod DrainEnds
+mod RootSteps

@@ -1,23 +1,32 @@
 -- What a seat that is alone has noted by the end of a drain.
-use Rattle.std.specs.Prelude.{ℕ, ◌≡◌, ◌≢◌, ◌≤◌, ◌<◌, ◌+◌, ◌-◌, ◌*◌, ◌⊎◌, List, [], ◌∷◌, ◌++◌, Some, IsFalse}
+use Rattle.std.specs.Prelude.{ℕ, ◌≡◌, ◌≢◌, ◌≤◌, ◌<◌, ◌+◌, ◌-◌, ◌*◌, ◌⊎◌, List, [], ◌∷◌, ◌++◌, Bool, true, false, Some, IsFalse}
 use Rattle.mark_core.specs.Layout.{card_count, root_count}
 use Rattle.mark_core.specs.Numbers.{empty_offset, section_variables}
 use Rattle.mark_core.specs.Places.{the_empty_count, the_next_block, card_at}
 use Rattle.mark_core.specs.Seats.{work_in_hand}
 use Rattle.mark_core.specs.declared.kinds.Phase.TheVariants.{Drain}
 use Rattle.mark_core.specs.declared.kinds.Shape.{Shape}
-use Rattle.mark_core.specs.declared.kinds.Step.TheVariants.{ReadCount}
+use Rattle.mark_core.specs.declared.kinds.Step.{Step}
+use Rattle.mark_core.specs.declared.kinds.Step.TheVariants.{LoadSlot, ReadCount, ReadField, ReadRoot}
 use Rattle.gc_table.specs.declared.view.Entry.{Entry}
 use Rattle.gc_table.specs.declared.view.View.{View}
 use Rattle.gc_table.specs.Log.{event}
 use Rattle.gc_table.specs.Notes.{look}
 use Rattle.gc_table.specs.Running.{Alone}
+use Rattle.packet_pools.specs.Counts.{scans_object}
 use Rattle.packet_pools.specs.OnlyTraced.{IsNotedMarked}
 use Rattle.card_clean.specs.Looking.{looks_clean, looks_dirty}
 
 -- the cards from this one on and below that one are noted as clean
 abbrev pub AreNotedClean : ℕ → ℕ → View → Type 0
 AreNotedClean from to v = (card : ℕ) → from ≤ card → card < to → look (card_at card) v.known ≡ Some 0
+
+-- a step of seeing to roots: one is read, or what it refers to is marked and goes into a packet; no cell is taken out of one, and no field read
+abbrev pub sees_roots : Step → Bool
+sees_roots (ReadRoot section v) = true
+sees_roots (LoadSlot section k) = true
+sees_roots (ReadField c i) = false
+sees_roots step = scans_object step
 
 -- root word i is noted as nil, or as naming a cell that is noted as marked
 pub record IsNotedRoot (i : ℕ) (v : View) : Type 0 where

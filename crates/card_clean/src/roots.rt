@@ -3,12 +3,13 @@ ghost use Rattle.std.specs.Prelude.{◌≡◌, ◌<◌, ◌≤◌, ◌+◌, ◌*
 ghost use Rattle.mark_core.specs.Held.{has_free_slot};
 ghost use Rattle.mark_core.specs.Numbers.{section_variables};
 ghost use Rattle.mark_core.specs.Seats.{work_in_hand};
+ghost use Rattle.gc_table.specs.Log.{Only};
 ghost use Rattle.gc_table.specs.Seats.{Across, did, state_of, view_of};
 ghost use Rattle.packet_pools.specs.OnlyTraced.{OnlyTraced};
 ghost use Rattle.packet_pools.specs.Tracing.{IsTracer};
 ghost use Rattle.packet_pools.specs.Hands.{HoldsPacket};
 ghost use Rattle.packet_pools.specs.Scanning.{Fills};
-ghost use Rattle.card_clean.specs.Drained.{AllSlotsNoted, IsNotedRoot, IsBeforeSweep, IsRooted, RootsNoted, RootsTo, SlotsNoted, slot_index};
+ghost use Rattle.card_clean.specs.Drained.{AllSlotsNoted, IsNotedRoot, IsBeforeSweep, IsRooted, RootsNoted, RootsTo, SlotsNoted, sees_roots, slot_index};
 ghost use Rattle.packet_pools.specs.Hands.{free_slots};
 ghost use Rattle.card_clean.specs.Leaving.{rescanned_in};
 ghost use Rattle.card_clean.specs.Taking.{NoPacket};
@@ -29,6 +30,7 @@ fn mark_root(heap: &Heap, seat: &mut HeapSeat, out: &mut Held, section: u32, v: 
     ensures out { Across (Fills out.old out.new) seat.old seat.new }
     ensures work { IsFalse (work_in_hand heap.now.shape.fields (state_of seat.new)) }
     ensures left { rescanned_in (view_of seat.old) (did seat.old seat.new) ≡ 0 }
+    ensures steps { Across (Only sees_roots) seat.old seat.new }
     ensures noted { IsTrue (state_of seat.old).alone → IsNotedRoot (section * section_variables + v) (view_of seat.new) }
 {
     let word = heap.read_root(seat, section, v);
@@ -48,6 +50,7 @@ fn mark_roots(heap: &Heap, seat: &mut HeapSeat, out: &mut Held, section: u32)
     ensures out { Across (Fills out.old out.new) seat.old seat.new }
     ensures work { IsFalse (work_in_hand heap.now.shape.fields (state_of seat.new)) }
     ensures left { rescanned_in (view_of seat.old) (did seat.old seat.new) ≡ 0 }
+    ensures steps { Across (Only sees_roots) seat.old seat.new }
     ensures noted { IsTrue (state_of seat.old).alone → RootsNoted section section_variables (view_of seat.new) }
 {
     for v in 0..VARIABLES {
@@ -70,6 +73,7 @@ pub fn see_to_roots(heap: &Heap, seat: &mut HeapSeat) -> bool
     ensures held { (state_of seat.new).held ≡ (state_of seat.old).held }
     ensures work { IsFalse (work_in_hand heap.now.shape.fields (state_of seat.new)) }
     ensures left { rescanned_in (view_of seat.old) (did seat.old seat.new) ≡ 0 }
+    ensures steps { Across (Only sees_roots) seat.old seat.new }
     ensures none { IsFalse result → (state_of seat.new ≡ state_of seat.old) × NoPacket heap.now.shape (did seat.old seat.new) }
     ensures rooted { IsTrue result → IsRooted (view_of seat.new) }
 {
@@ -92,6 +96,7 @@ fn mark_all(heap: &Heap, seat: &mut HeapSeat, out: &mut Held)
     ensures out { Across (Fills out.old out.new) seat.old seat.new }
     ensures work { IsFalse (work_in_hand heap.now.shape.fields (state_of seat.new)) }
     ensures left { rescanned_in (view_of seat.old) (did seat.old seat.new) ≡ 0 }
+    ensures steps { Across (Only sees_roots) seat.old seat.new }
     ensures noted { IsTrue (state_of seat.old).alone → RootsTo (heap.now.shape.sections * section_variables) (view_of seat.new) }
 {
     for section in 0..heap.shape().sections {
@@ -110,6 +115,7 @@ fn mark_slot(heap: &Heap, seat: &mut HeapSeat, out: &mut Held, section: u32, k: 
     ensures out { Across (Fills out.old out.new) seat.old seat.new }
     ensures work { IsFalse (work_in_hand heap.now.shape.fields (state_of seat.new)) }
     ensures left { rescanned_in (view_of seat.old) (did seat.old seat.new) ≡ 0 }
+    ensures steps { Across (Only sees_roots) seat.old seat.new }
     ensures noted { IsTrue (state_of seat.old).alone → IsNotedRoot (slot_index heap.now.shape section k) (view_of seat.new) }
 {
     let word = heap.load_slot(seat, section, k);
@@ -129,6 +135,7 @@ fn mark_slots(heap: &Heap, seat: &mut HeapSeat, out: &mut Held, section: u32)
     ensures out { Across (Fills out.old out.new) seat.old seat.new }
     ensures work { IsFalse (work_in_hand heap.now.shape.fields (state_of seat.new)) }
     ensures left { rescanned_in (view_of seat.old) (did seat.old seat.new) ≡ 0 }
+    ensures steps { Across (Only sees_roots) seat.old seat.new }
     ensures noted { IsTrue (state_of seat.old).alone → SlotsNoted heap.now.shape section heap.now.shape.slots (view_of seat.new) }
 {
     for k in 0..heap.shape().slots {
@@ -146,6 +153,7 @@ fn mark_all_slots(heap: &Heap, seat: &mut HeapSeat, out: &mut Held)
     ensures out { Across (Fills out.old out.new) seat.old seat.new }
     ensures work { IsFalse (work_in_hand heap.now.shape.fields (state_of seat.new)) }
     ensures left { rescanned_in (view_of seat.old) (did seat.old seat.new) ≡ 0 }
+    ensures steps { Across (Only sees_roots) seat.old seat.new }
     ensures noted { IsTrue (state_of seat.old).alone → AllSlotsNoted heap.now.shape (view_of seat.new) }
 {
     for section in 0..heap.shape().sections {

@@ -6,9 +6,10 @@ use Rattle.gc_table.specs.declared.view.View.{View}
 use Rattle.gc_table.specs.Seats.{view_of}
 use Rattle.packet_pools.proofs.Filled.{fills-join}
 use Rattle.packet_pools.proofs.TracedSteps.{traced-join}
-use Rattle.card_clean.specs.Drained.{SlotsNoted, slot_index}
+use Rattle.card_clean.specs.Drained.{sees_roots, SlotsNoted, slot_index}
 use Rattle.card_clean.proofs.Staying.{root-stays}
 use Rattle.card_clean.proofs.Leavings.{rescanned-join}
+use Rattle.gc_table.proofs.Running.{ran-only}
 use Rattle.card_clean.proofs.roots.mark_all_slots.Goals as goal
 
 pub mark_slots-requires-clause-seat : goal.mark_slots-requires-clause-seat
@@ -34,6 +35,7 @@ loop-section-preserved c =
       packet = fills-join v w x c.args.out.now c.loop-section.out c.mark_slots.new.out i.packet e.out;
       work = e.work;
       left = let j = rescanned-join v w x i.only.ran e.only.ran in omega (arith, j, i.left, e.left);
+      steps = ran-only sees_roots v w x i.only.ran e.only.ran i.steps e.steps;
       noted =
           λ alone k l.
           let now_alone : w.state.alone ≡ true = ap (λ (s : SeatState). s.alone) i.only.rest ∙ alone in

@@ -17,6 +17,9 @@ use Rattle.gc_table.specs.Log.{events}
 use Rattle.packet_pools.proofs.Counting.{given-moves}
 use Rattle.card_clean.specs.Leaving.{rescanned_in}
 use Rattle.card_clean.proofs.Leavings.{rescanned-join, rescanned-moves}
+use Rattle.gc_table.proofs.Running.{ran-only}
+use Rattle.card_clean.specs.Drained.{sees_roots}
+use Rattle.card_clean.proofs.RootSteps.{moves-see}
 use Rattle.card_clean.proofs.roots.see_to_roots.Goals as goal
 
 pub take_some-requires-clause-free : goal.take_some-requires-clause-free
@@ -91,3 +94,24 @@ returns-clause-left c =
     let j = rescanned-join w x y b.only.ran rest.ran in
     let m = rescanned-join x z y d.only.ran g.only.ran in
     omega (arith, i, j, m, first, last, b.left, d.left)
+
+pub returns-in_default-clause-steps : goal.returns-in_default-clause-steps
+returns-in_default-clause-steps c = moves-see (events (view_of c.args.seat.now) (view_of c.take_some.new.seat)) c.take_some.ensures.moves
+
+pub returns-clause-steps : goal.returns-clause-steps
+returns-clause-steps c =
+    let v : View = view_of c.args.seat.now in
+    let w : View = view_of c.take_some.new.seat in
+    let x : View = view_of c.mark_all.new.seat in
+    let z : View = view_of c.mark_all_slots.new.seat in
+    let y : View = view_of c.give.new.seat in
+    let k = c.mark_all_slots.new.out in
+    let a = c.take_some.ensures in
+    let b = c.mark_all.ensures in
+    let d = c.mark_all_slots.ensures in
+    let g = c.give.ensures in
+    let rest = traced-join x z y d.only g.only in
+    let end = traced-join w x y b.only rest in
+    ran-only sees_roots v w y a.only.ran end.ran (moves-see (events v w) a.moves)
+    (ran-only sees_roots w x y b.only.ran rest.ran b.steps
+    (ran-only sees_roots x z y d.only.ran g.only.ran d.steps (moves-see (events z y) (given-moves output_pools k.packet (k.length == 0) (events z y) g.steps))))
