@@ -1,12 +1,11 @@
 -- A seat at rest may trace with nothing in hand, and is at rest again where its record is as before.
 use Rattle.mark_core.specs.Layout.{root_count}
-use Rattle.std.proofs.Common.{ℕ, ◌≡◌, [], ◌∷◌, List, length, refl, sym, ap, ◌∙◌, subst, arith, cond, Bool, true, false, not, ◌*◌, ◌<◌, ◌&&◌, Some, None, Option}
+use Rattle.std.proofs.Common.{ℕ, ◌≡◌, [], ◌∷◌, List, length, refl, sym, ap, ◌∙◌, subst, arith, cond, Bool, true, false, not, ◌<◌, ◌&&◌, Some, None, Option}
 use Rattle.std.specs.Prelude.{is_some, is_none, ◌==◌}
 use Rattle.std.proofs.Math.Logic.{∥∥₁_elim}
 use Rattle.std.proofs.Props.{props}
 use Rattle.std.proofs.lemmas.Bool.{and_from, and_parts, false≢true, not_from_false, true≢false, or_parts}
 use Rattle.mark_core.specs.Held.{Slot, Slots, holds_any}
-use Rattle.mark_core.specs.Numbers.{section_variables}
 use Rattle.mark_core.specs.Seats.{empty_handed, has_making, is_the, work_in_hand}
 use Rattle.mark_core.specs.Places.{the_next_block}
 use Rattle.mark_core.specs.declared.kinds.Phase.TheVariants.{Drain}

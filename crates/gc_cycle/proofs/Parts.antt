@@ -6,7 +6,7 @@ use Rattle.mark_core.specs.Seats.{phase_number}
 use Rattle.mark_core.specs.Steps.WorldSteps.{has_nothing}
 use Rattle.mark_core.specs.declared.kinds.Phase.{Phase}
 use Rattle.mark_core.specs.declared.kinds.Step.{Step}
-use Rattle.mark_core.specs.declared.kinds.Step.TheVariants.{DropStep, ReadField, ReadPhase, Reset, StoreAlloc, StorePhase}
+use Rattle.mark_core.specs.declared.kinds.Step.TheVariants.{Pop, DropStep, ReadField, ReadPhase, Reset, StoreAlloc, StorePhase}
 use Rattle.mark_core.specs.declared.seat.SeatState.{SeatState}
 use Rattle.gc_table.specs.Taking.{after}
 use Rattle.gc_table.specs.declared.view.View.{View}
@@ -64,6 +64,7 @@ move-events from to which u v w m is =
 pub stays-any : (p : Phase) (step : Step) → stays_in p step ≡ true → stays step ≡ true
 stays-any p (StorePhase to) e = absurd (true≢false (sym e))
 stays-any p DropStep e = absurd (true≢false (sym e))
+stays-any p (Pop packet) e = refl
 stays-any p (ReadField c i) e = refl
 stays-any p StoreAlloc e = refl
 stays-any p step e = e

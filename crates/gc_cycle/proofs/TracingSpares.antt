@@ -9,6 +9,7 @@ use Rattle.gc_table.specs.declared.view.View.{View}
 use Rattle.packet_pools.specs.Counts.{only_scans, scans_object}
 use Rattle.packet_pools.specs.OnlyTraced.{OnlyTracedBy, traces_cells}
 use Rattle.packet_pools.specs.Seeking.{moves_packet, only_moves}
+use Rattle.card_clean.specs.Drained.{sees_roots}
 use Rattle.tracer.specs.Roots.{only_roots, scans_roots}
 use Rattle.tracer.specs.Tally.{only_traces, is_trace_step}
 use Rattle.gc_cycle.specs.Events.{never, Sort}
@@ -58,6 +59,10 @@ roots-uncleaned step n e = refl
 pub roots-unpopped : Spares scans_roots pops
 roots-unpopped (Pop p) n e = absurd (false≢true e)
 roots-unpopped step n e = refl
+
+pub sees-unpopped : Spares sees_roots pops
+sees-unpopped (Pop p) n e = absurd (false≢true e)
+sees-unpopped step n e = refl
 
 pub scan-unpopped : Spares scans_object pops
 scan-unpopped (Pop p) n e = absurd (false≢true e)

@@ -8,7 +8,7 @@ use Rattle.mark_core.specs.Steps.WorldSteps.{has_nothing}
 use Rattle.mark_core.specs.declared.kinds.Phase.{Phase}
 use Rattle.mark_core.specs.declared.kinds.Phase.TheVariants.{Drain, Sweep, Idle}
 use Rattle.mark_core.specs.declared.kinds.Step.{Step}
-use Rattle.mark_core.specs.declared.kinds.Step.TheVariants.{DropStep, JoinHelpStep, LeaveHelpStep, RaiseStep, ReadField, ReadPhase, Reset, StoreAlloc, StorePhase, StorePosition}
+use Rattle.mark_core.specs.declared.kinds.Step.TheVariants.{DropStep, JoinHelpStep, LeaveHelpStep, Pop, RaiseStep, ReadField, ReadPhase, Reset, StoreAlloc, StorePhase, StorePosition}
 use Rattle.gc_table.specs.Notes.{look}
 use Rattle.gc_table.specs.declared.view.Entry.{Entry}
 use Rattle.gc_table.specs.declared.view.View.{View}
@@ -40,8 +40,9 @@ finishes (StorePhase to) = true
 finishes ReadPhase = true
 finishes step = stays step
 
--- a step that stays in one phase: fields are scanned in a drain alone, and cells are freed in a sweep alone
+-- a step that stays in one phase: cells are popped, and fields scanned, in a drain alone, and cells are freed in a sweep alone
 abbrev pub stays_in : Phase → Step → Bool
+stays_in p (Pop packet) = saw (Some p) Drain
 stays_in p (ReadField c i) = saw (Some p) Drain
 stays_in p StoreAlloc = saw (Some p) Sweep
 stays_in p step = stays step

@@ -16,7 +16,7 @@ ghost use Rattle.gc_cycle.specs.Answering.{AnswersTo, CollectsTo, EndsFull, Give
 ghost use Rattle.gc_cycle.specs.Collecting.{EndsStop, HoldsWorld, TriesAgain, spares_section};
 ghost use Rattle.gc_cycle.specs.Cycles.{never_fills};
 ghost use Rattle.gc_cycle.specs.Polling.{saw_full};
-ghost use Rattle.gc_cycle.specs.Sorts.{polls, raises_flag};
+ghost use Rattle.gc_cycle.specs.Sorts.{polls, raises_flag, tries_marking};
 ghost use Rattle.gc_cycle.specs.Sparing.{KnowsAnswer, spares_part};
 ghost use Rattle.gc_cycle.specs.Standing.{KeepsSeat, KeepsSection, Mutates};
 ghost use Rattle.gc_cycle.specs.Statistics.{ChangesBy, ChangesNumbers, GivesUp, cache_of};
@@ -45,6 +45,7 @@ pub fn collect<R: Wait>(rt: &R, heap: &Heap, seat: &mut HeapSeat, done: u32) -> 
     ensures keeps { Across KeepsSeat seat.old seat.new × Across KeepsSection seat.old seat.new }
     ensures spares { Across (Only spares_part) seat.old seat.new }
     ensures numbers { Across (ChangesNumbers []) seat.old seat.new }
+    ensures unbegun { IsTrue (never tries_marking (did seat.old seat.new)) }
     ensures known { KnowsAnswer result (view_of seat.new) }
 {
     for _ in rt.forever() {
@@ -66,6 +67,7 @@ fn collect_once<R: Wait>(rt: &R, heap: &Heap, seat: &mut HeapSeat, done: u32) ->
     ensures once { count_of raises_flag (did seat.old seat.new) ≤ 1 }
     ensures only { Across (Only spares_section) seat.old seat.new }
     ensures numbers { Across (ChangesNumbers []) seat.old seat.new }
+    ensures unbegun { IsTrue (never tries_marking (did seat.old seat.new)) }
     ensures known { IfSome result (λ safe. KnowsAnswer safe (view_of seat.new)) }
 {
     if ends_full(heap, seat, done) {
@@ -88,6 +90,7 @@ fn collect_in_stop<R: Wait>(rt: &R, heap: &Heap, seat: &mut HeapSeat)
     ensures seat { Sits heap.now seat.new × Mutates (view_of seat.new) }
     ensures ends { Across EndsStop seat.old seat.new }
     ensures numbers { Across (ChangesNumbers []) seat.old seat.new }
+    ensures unbegun { IsTrue (never tries_marking (did seat.old seat.new)) }
 {
     if has_seen_full(seat) {
         resume(heap, seat);
@@ -129,6 +132,7 @@ pub fn safe_point<R: Wait>(
     ensures keeps { Across KeepsSeat seat.old seat.new × Across KeepsSection seat.old seat.new }
     ensures spares { Across (Only spares_part) seat.old seat.new }
     ensures numbers { Across (GivesUp cache (cache_of result)) seat.old seat.new }
+    ensures unbegun { IsTrue (never tries_marking (did seat.old seat.new)) }
     ensures known { KnowsAnswer result (view_of seat.new) }
 {
     let mut cache = cache;
@@ -162,6 +166,7 @@ pub fn pass_safe_point<R: Wait>(
     ensures keeps { Across KeepsSeat seat.old seat.new × Across KeepsSection seat.old seat.new }
     ensures spares { Across (Only spares_part) seat.old seat.new }
     ensures numbers { Across (GivesUp cache.old cache.new) seat.old seat.new }
+    ensures unbegun { IsTrue (never tries_marking (did seat.old seat.new)) }
 {
     give_way(rt, heap, seat, cache, done);
     goes_on(heap, seat, cache, done)

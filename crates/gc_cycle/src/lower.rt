@@ -170,6 +170,7 @@ pub(crate) fn sees_to_roots(heap: &Heap, seat: &mut HeapSeat) -> bool
     ensures next { look the_next_block (view_of seat.new).known ≡ Some 0 }
     ensures numbers { Across (Only leaves_numbers) seat.old seat.new }
     ensures rescanned { rescanned_in (view_of seat.old) (did seat.old seat.new) ≡ 0 }
+    ensures unpopped { IsTrue (never pops (did seat.old seat.new)) }
     ensures rooted { IsTrue result → RootedAlone (view_of seat.new) }
     ensures lacks { IsFalse result → Across LacksPacket seat.old seat.new }
 {

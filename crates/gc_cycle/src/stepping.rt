@@ -16,7 +16,7 @@
 //!
 //! A collection that began in Idle, or that drained again, is precise: the cells in use at its end are exactly the reachable ones. `IsExactSince` is handed
 //! from step to step, and [`end_collection`](crate::end_collection) says of all of them together what [`precise`](crate::precise) says of itself.
-ghost use Rattle.std.specs.Prelude.{◌≡◌, ◌≢◌, [], ◌∷◌, None, Some, ◌≤◌, length};
+ghost use Rattle.std.specs.Prelude.{◌≡◌, ◌≢◌, [], ◌∷◌, None, Some, ◌≤◌, length, IsTrue};
 ghost use Rattle.std.specs.Bool.{OnFalse, OnTrue};
 ghost use Rattle.mark_core.specs.declared.kinds.Phase.TheVariants.{Clear, Drain, Full, Idle};
 ghost use Rattle.mark_core.specs.declared.kinds.Step.TheVariants.{Reset};
@@ -29,7 +29,9 @@ ghost use Rattle.gc_table.specs.declared.view.View.{View};
 ghost use Rattle.card_clean.specs.Drained.{FindsNoDirtyCard};
 ghost use Rattle.gc_cycle.specs.Collecting.{HoldsWorld};
 ghost use Rattle.gc_cycle.specs.Courses.{TakesCourse};
+ghost use Rattle.gc_cycle.specs.Events.{never};
 ghost use Rattle.gc_cycle.specs.Finishing.{IsAloneIn, IsPart};
+ghost use Rattle.gc_cycle.specs.Sorts.{pops};
 ghost use Rattle.gc_cycle.specs.Standing.{IsOut, Mutates};
 ghost use Rattle.gc_cycle.specs.Statistics.{leaves_numbers};
 ghost use Rattle.gc_cycle.specs.Stepping.{AwaitsStop, AsksOnce, Drains, FindsRunning, FindsStopped, HasMarkedAll, IsExactSince, IsOwner, Keeps, LacksPacket, MakesRound, RunsAgain, IsAtRoots};
@@ -118,12 +120,14 @@ pub fn begin_collection(heap: &Heap, seat: &mut HeapSeat) -> bool
     true
 }
 
-/// Marks what the roots refer to. False comes only where no packet could be had: the deferred ones are back then, and it is to be called again.
+/// Marks what the roots refer to, and pops no object. False comes only where no packet could be had: the deferred ones are back then, and it is to be called
+/// again.
 pub fn root_step(heap: &Heap, seat: &mut HeapSeat) -> bool
     requires seat { Sits heap.now seat.old }
     requires roots { IsAtRoots (view_of seat.old) }
     ensures seat { Sits heap.now seat.new }
     ensures part { Across (IsPart Drain) seat.old seat.new }
+    ensures unpopped { IsTrue (never pops (did seat.old seat.new)) }
     ensures rooted { OnTrue result (Drains (view_of seat.new)) }
     ensures not_yet { OnFalse result (IsAtRoots (view_of seat.new) × Across LacksPacket seat.old seat.new) }
     ensures exact { (u : View) → IsExactSince u (view_of seat.old) → IsExactSince u (view_of seat.new) }

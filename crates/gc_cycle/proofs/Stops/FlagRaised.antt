@@ -1,7 +1,7 @@
 -- A mutator that is out raises the flag of the world, or finds another's.
-use Rattle.std.proofs.Common.{ℕ, ◌≡◌, ◌+◌, zero-add, List, [], ◌∷◌, refl, sym, ap, ◌∙◌, subst, Bool, true, false, not, None, ◌⊎◌, inl, inr}
+use Rattle.std.proofs.Common.{ℕ, ◌≡◌, ◌+◌, List, refl, sym, ap, ◌∙◌, subst, Bool, true, false, not, None, ◌⊎◌, inl, inr}
 use Rattle.std.specs.Prelude.{if◌then◌else◌}
-use Rattle.std.proofs.lemmas.Bool.{false≢true, not-true, or_left, or_parts, true≢false}
+use Rattle.std.proofs.lemmas.Bool.{false≢true, not-true, or_left, true≢false}
 use Rattle.packet_pools.specs.Counts.{count_of}
 use Rattle.packet_pools.proofs.Counting.{count-join}
 use Rattle.mark_core.specs.Bits.{has_flag}
@@ -18,7 +18,7 @@ use Rattle.gc_table.proofs.History.Log.{events-after, only-after, only-more}
 use Rattle.gc_table.proofs.Running.{own-kept, ran-events}
 use Rattle.stop_world.proofs.Standing.{strong, unless}
 use Rattle.stop_world.proofs.Flagged.{yours-free}
-use Rattle.gc_cycle.specs.Events.{never, Sort}
+use Rattle.gc_cycle.specs.Events.{never}
 use Rattle.stop_world.specs.Waiting.{is_mutators, watches}
 use Rattle.stop_world.specs.declared.Raised.{Raised}
 use Rattle.stop_world.specs.declared.Raised.TheVariants.{Theirs, Yours}

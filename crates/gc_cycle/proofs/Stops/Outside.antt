@@ -1,5 +1,5 @@
 -- A seat that is outside and doesn't leave hasn't come in meanwhile.
-use Rattle.std.proofs.Common.{ℕ, ◌≡◌, List, [], ◌∷◌, refl, sym, ap, ◌∙◌, Bool, true, false, not, ◌||◌, ⊎_elim}
+use Rattle.std.proofs.Common.{ℕ, ◌≡◌, List, [], ◌∷◌, refl, sym, ap, ◌∙◌, Bool, true, false, ◌||◌, ⊎_elim}
 use Rattle.std.proofs.lemmas.Bool.{false≢true, not-true, or_cases, or_parts, true≢false}
 use Rattle.mark_core.specs.Effects.{seat_after}
 use Rattle.mark_core.specs.declared.kinds.Shape.{Shape}

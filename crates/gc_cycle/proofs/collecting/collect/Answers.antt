@@ -13,6 +13,7 @@ use Rattle.gc_cycle.proofs.Refills.Collected.{section-kept, tries-spare}
 use Rattle.gc_cycle.proofs.Refills.KnownFull.{tells-more, tells-none}
 use Rattle.gc_cycle.proofs.Stops.FlagRaised.{count-calls}
 use Rattle.gc_cycle.proofs.Changes.{by-none, numbers-join, numbers-one}
+use Rattle.gc_cycle.proofs.Unbegun.{tries-unbegun, unbegun-join}
 use Rattle.gc_cycle.proofs.collecting.collect.Goals as goal
 
 pub loop-init : goal.loop-init
@@ -104,3 +105,11 @@ returns-in-Some-collect_once-clause-spares g c =
 pub returns-in-Some-collect_once-clause-numbers : goal.returns-in-Some-collect_once-clause-numbers
 returns-in-Some-collect_once-clause-numbers g c =
     numbers-join [] (view_of c.args.seat.now) (view_of c.loop.seat) (view_of c.collect_once.new.seat) c.loop.invariant.numbers c.collect_once.ensures.numbers
+
+pub returns-in-Some-collect_once-clause-unbegun : goal.returns-in-Some-collect_once-clause-unbegun
+returns-in-Some-collect_once-clause-unbegun g c =
+    let u : View = view_of c.args.seat.now in
+    let v : View = view_of c.loop.seat in
+    let i = c.loop.invariant in
+    let e = c.collect_once.ensures in
+    unbegun-join u v (view_of c.collect_once.new.seat) i.ran e.ran (tries-unbegun u v i.only) e.unbegun

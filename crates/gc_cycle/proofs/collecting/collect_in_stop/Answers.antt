@@ -1,6 +1,6 @@
 use Rattle.gc_table.specs.Seats.{view_of}
 use Rattle.gc_table.specs.declared.view.View.{View}
-use Rattle.std.proofs.Common.{refl, []}
+use Rattle.std.proofs.Common.{ap, refl, []}
 use Rattle.gc_cycle.proofs.Refills.Collected.{ends-at_full, ends-collected, full-alone, exactly-collects, holds-phase, resumed-mutates}
 use Rattle.gc_cycle.proofs.Stops.OutAndIn.{is-done}
 use Rattle.gc_cycle.specs.Moments.{begins}
@@ -9,6 +9,10 @@ use Rattle.mark_core.specs.declared.kinds.Phase.TheVariants.{Full, Idle}
 use Rattle.mark_core.specs.declared.kinds.Step.TheVariants.{DropStep}
 use Rattle.gc_cycle.proofs.Changes.{changes-after, numbers-after, numbers-one}
 use Rattle.gc_cycle.specs.Statistics.{EndsCycle}
+use Rattle.gc_table.proofs.History.Log.{events-after}
+use Rattle.gc_cycle.specs.Events.{never}
+use Rattle.gc_cycle.specs.Sorts.{tries_marking}
+use Rattle.gc_cycle.proofs.Unbegun.{unbegun-join}
 use Rattle.gc_cycle.proofs.collecting.collect_in_stop.Goals as goal
 
 pub resume-requires-clause-alone : goal.resume-requires-clause-alone
@@ -63,3 +67,15 @@ returns-clause-numbers g c =
     let t = c.resume-2.ensures.step in
     let e : EndsCycle v w = record { ran = p.ran; only = p.only; alone = c.requires.stopped.rest; idle = p.alone.0; drains = p.drains; help = p.help; counts = c.precise.result; end = p.end; rescanned = p.rescanned; freed = p.freed } in
     numbers-after [] v w x e (numbers-one [] w x (changes-after w x DropStep t.0 refl c.resume-2.ensures.ran t.1.0))
+
+pub returns-then-has_seen_full-clause-unbegun : goal.returns-then-has_seen_full-clause-unbegun
+returns-then-has_seen_full-clause-unbegun g c =
+    let t = c.resume.ensures.step in ap (never tries_marking) (events-after (view_of c.args.seat.now) (view_of c.resume.new.seat) DropStep t.0 t.1.0)
+
+pub returns-clause-unbegun : goal.returns-clause-unbegun
+returns-clause-unbegun g c =
+    let w : View = view_of c.precise.new.seat in
+    let x : View = view_of c.resume-2.new.seat in
+    let p = c.precise.ensures in
+    let r = c.resume-2.ensures in
+    unbegun-join (view_of c.args.seat.now) w x p.ran r.ran p.unbegun (ap (never tries_marking) (events-after w x DropStep r.step.0 r.step.1.0))

@@ -9,6 +9,7 @@ use Rattle.gc_cycle.specs.Sorts.{raises_flag}
 use Rattle.gc_cycle.proofs.Refills.Answered.{full-later}
 use Rattle.gc_cycle.proofs.Refills.Collected.{answers-section, answers-uncounted, goes-collected, held, none-raised, stopped, tells-tried, tried}
 use Rattle.gc_cycle.proofs.Changes.{by-join, numbers-collected, numbers-one, only-changes}
+use Rattle.gc_cycle.proofs.Unbegun.{answers-unbegun, stopped-unbegun, tries-unbegun, unbegun-join}
 use Rattle.gc_cycle.proofs.collecting.collect_once.Goals as goal
 
 pub collect_in_stop-requires-clause-stopped : goal.collect_in_stop-requires-clause-stopped
@@ -36,6 +37,9 @@ returns-then-ends_full-clause-only g c =
 pub returns-then-ends_full-clause-numbers : goal.returns-then-ends_full-clause-numbers
 returns-then-ends_full-clause-numbers g c = numbers-one [] (view_of c.args.seat.now) (view_of c.ends_full.new.seat) c.ends_full.ensures.numbers
 
+pub returns-then-ends_full-clause-unbegun : goal.returns-then-ends_full-clause-unbegun
+returns-then-ends_full-clause-unbegun g c = answers-unbegun (view_of c.args.seat.now) (view_of c.ends_full.new.seat) c.ends_full.ensures.only
+
 pub returns-then-not-stop : goal.returns-then-not-stop
 returns-then-not-stop g c =
     let u : View = view_of c.args.seat.now in
@@ -52,6 +56,7 @@ returns-then-not-stop g c =
       once = none-raised (count_of raises_flag (events u w)) d.1.calm;
       only = d.2;
       numbers = numbers-one [] u w (by-join [] [] u v w e.numbers (only-changes v w t.tries.ran t.numbers));
+      unbegun = unbegun-join u v w e.ran t.tries.ran (answers-unbegun u v e.only) (tries-unbegun v w t.tries.only);
       known = tt;
     }
 
@@ -75,6 +80,7 @@ returns-then-ends_full-2 g c =
       once = d.2;
       only = d.1;
       numbers = numbers-collected u v w x y e.numbers (only-changes v w t.tries.ran t.numbers) i.numbers l.numbers;
+      unbegun = stopped-unbegun u v w x y e.ran e.only t.tries i.ends.ran i.unbegun l.ran l.only;
       known = search rules;
     }
 
@@ -98,5 +104,6 @@ returns g c =
       once = d.2;
       only = d.1;
       numbers = numbers-collected u v w x y e.numbers (only-changes v w t.tries.ran t.numbers) i.numbers l.numbers;
+      unbegun = stopped-unbegun u v w x y e.ran e.only t.tries i.ends.ran i.unbegun l.ran l.only;
       known = search rules;
     }

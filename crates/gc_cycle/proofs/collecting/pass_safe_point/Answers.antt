@@ -9,6 +9,7 @@ use Rattle.gc_cycle.specs.Sparing.{spares_part}
 use Rattle.gc_cycle.proofs.Refills.Answered.{passed-out, passes}
 use Rattle.gc_cycle.proofs.Refills.Collected.{calm-spares}
 use Rattle.gc_cycle.proofs.Changes.{gives-join}
+use Rattle.gc_cycle.proofs.Unbegun.{calm-unbegun}
 use Rattle.gc_cycle.proofs.collecting.pass_safe_point.Goals as goal
 
 pub returns-clause-ran : goal.returns-clause-ran
@@ -62,3 +63,9 @@ returns-clause-spares g c =
 pub returns-clause-numbers : goal.returns-clause-numbers
 returns-clause-numbers g c =
     gives-join c.args.cache.now c.give_way.new.cache c.goes_on.new.cache (view_of c.args.seat.now) (view_of c.give_way.new.seat) (view_of c.goes_on.new.seat) c.give_way.ensures.numbers c.goes_on.ensures.numbers
+
+pub returns-clause-unbegun : goal.returns-clause-unbegun
+returns-clause-unbegun g c =
+    let v : View = view_of c.args.seat.now in
+    let w : View = view_of c.goes_on.new.seat in
+    calm-unbegun v w (passed-out v (view_of c.give_way.new.seat) w c.args.cache.now c.give_way.new.cache c.args.done c.give_way.ensures.gives c.goes_on.ensures.ran c.goes_on.ensures.only).0.only

@@ -12,7 +12,7 @@ use Rattle.packet_pools.specs.Tracing.{Traces}
 use Rattle.card_clean.specs.Taking.{NoPacket}
 use Rattle.card_clean.proofs.Staying.{ready-stays}
 use Rattle.gc_table.proofs.History.Log.{only-more}
-use Rattle.gc_table.proofs.Running.{ran-only}
+use Rattle.gc_table.proofs.Running.{ran-events, ran-only}
 use Rattle.gc_cycle.specs.Statistics.{leaves_numbers}
 use Rattle.gc_cycle.proofs.Leaving.{cells-leave}
 use Rattle.gc_cycle.specs.Finishing.{IsAloneIn}
@@ -24,6 +24,11 @@ use Rattle.gc_cycle.proofs.Parts.{part-join}
 use Rattle.gc_cycle.proofs.Ends.Rooted.{ready-of, rest-room}
 use Rattle.gc_cycle.proofs.Traced.{alone-traces, nothing-rest, rescans-none, traced-part}
 use Rattle.tracer.specs.Recycling.{Recycled}
+use Rattle.card_clean.specs.Drained.{sees_roots}
+use Rattle.gc_cycle.specs.Events.{never}
+use Rattle.gc_cycle.specs.Sorts.{pops}
+use Rattle.gc_cycle.proofs.Ends.Finishes.{never-both}
+use Rattle.gc_cycle.proofs.TracingSpares.{moved-untaken, moves-unpopped, sees-unpopped, untaken}
 use Rattle.gc_cycle.proofs.lower.sees_to_roots.Goals as goal
 
 rest-of : (v : View) → IsAloneIn Drain v → is_at_rest v.shape v.state ≡ true
@@ -132,3 +137,16 @@ returns-clause-numbers c =
     let e = c.see_to_roots.ensures.only in
     let r = c.recycle_deferred.ensures.only in
     ran-only leaves_numbers v w x e.ran r.ran (only-more traces_cells leaves_numbers cells-leave v w e.only) (only-more traces_cells leaves_numbers cells-leave w x r.only)
+
+pub returns-then-see_to_roots-clause-unpopped : goal.returns-then-see_to_roots-clause-unpopped
+returns-then-see_to_roots-clause-unpopped c = untaken sees_roots pops sees-unpopped (events (view_of c.args.seat.now) (view_of c.see_to_roots.new.seat)) c.see_to_roots.ensures.steps
+
+pub returns-clause-unpopped : goal.returns-clause-unpopped
+returns-clause-unpopped c =
+    let v : View = view_of c.args.seat.now in
+    let w : View = view_of c.see_to_roots.new.seat in
+    let x : View = view_of c.recycle_deferred.new.seat in
+    let e = c.see_to_roots.ensures in
+    let r = c.recycle_deferred.ensures in
+    ap (never pops) (ran-events v w x e.only.ran r.only.ran)
+    ∙ never-both pops (events v w) (events w x) (untaken sees_roots pops sees-unpopped (events v w) e.steps) (moved-untaken deferred_pools pops (moves-unpopped deferred_pools) (events w x) r.recycled.moves)

@@ -1,4 +1,4 @@
-use Rattle.std.proofs.Common.{[], ◌∷◌, ap, ◌∙◌}
+use Rattle.std.proofs.Common.{[], ◌∷◌, ap, ◌∙◌, refl}
 use Rattle.mark_core.specs.declared.kinds.Phase.TheVariants.{Clear, Drain}
 use Rattle.packet_pools.specs.Seeking.{some_event}
 use Rattle.packet_pools.proofs.Searches.{some-left}
@@ -72,5 +72,5 @@ returns-clause-course c =
     let z : View = view_of c.reset_blocks.new.seat in
     let p = c.clear_rest.ensures in
     course-join (Clear ∷ []) (Drain ∷ []) [] (Reset card_counter ∷ Reset block_counter ∷ []) v w z (course-move Drain Clear v w c.begin_clear.ensures.moved)
-    (course-join [] (Drain ∷ []) [] (Reset card_counter ∷ Reset block_counter ∷ []) w x z (course-part Clear [] w x p.part (only-changes w x p.part.ran p.numbers))
+    (course-join [] (Drain ∷ []) [] (Reset card_counter ∷ Reset block_counter ∷ []) w x z (course-part Clear [] w x refl p.part (only-changes w x p.part.ran p.numbers))
     (course-join (Drain ∷ []) [] (Reset card_counter ∷ []) (Reset block_counter ∷ []) x y z c.begin_again.ensures.course c.reset_blocks.ensures.course))

@@ -1,13 +1,11 @@
-use Rattle.std.proofs.Common.{[], ◌∷◌, refl}
+use Rattle.std.proofs.Common.{refl}
 use Rattle.mark_core.specs.declared.kinds.Phase.TheVariants.{Drain}
 use Rattle.gc_table.specs.Seats.{view_of}
-use Rattle.gc_table.specs.declared.view.View.{View}
 use Rattle.gc_cycle.proofs.Ends.Moving.{may-reset_drain}
 use Rattle.gc_cycle.proofs.Parts.{part-reset}
 use Rattle.gc_cycle.proofs.Stepped.{reset-roots}
 use Rattle.mark_core.specs.Numbers.{block_counter}
-use Rattle.mark_core.specs.declared.kinds.Step.TheVariants.{Reset}
-use Rattle.gc_cycle.proofs.Courses.{course-part, reset-changes}
+use Rattle.gc_cycle.proofs.Courses.{course-reset}
 use Rattle.gc_cycle.proofs.stepping.reset_blocks.Goals as goal
 
 pub reset-requires-clause-may : goal.reset-requires-clause-may
@@ -20,7 +18,4 @@ pub returns-clause-roots : goal.returns-clause-roots
 returns-clause-roots c = reset-roots (view_of c.args.seat.now) (view_of c.reset.new.seat) c.requires.owner c.requires.alone c.reset.ensures.view
 
 pub returns-clause-course : goal.returns-clause-course
-returns-clause-course c =
-    let v : View = view_of c.args.seat.now in
-    let w : View = view_of c.reset.new.seat in
-    course-part Drain (Reset block_counter ∷ []) v w (part-reset Drain 1 v w c.reset.ensures.view c.requires.alone) (reset-changes block_counter v w c.reset.ensures.view)
+returns-clause-course c = course-reset block_counter (view_of c.args.seat.now) (view_of c.reset.new.seat) c.reset.ensures.view

@@ -1,4 +1,4 @@
-use Rattle.std.proofs.Common.{[], ◌∷◌, ◌∙◌}
+use Rattle.std.proofs.Common.{[], ◌∷◌, ◌∙◌, refl}
 use Rattle.mark_core.specs.declared.kinds.Phase.TheVariants.{Drain, Idle, Sweep}
 use Rattle.gc_table.specs.Seats.{view_of}
 use Rattle.gc_table.specs.declared.view.View.{View}
@@ -66,4 +66,4 @@ returns-clause-course c =
     let p = c.sweep_alone-freed.ensures in
     let set = sets_numbers c.args.heap.now.shape c.finish_collection.result in
     course-join (Sweep ∷ []) (Idle ∷ []) [] set v w y (course-move Drain Sweep v w c.start_sweep.ensures.moved)
-    (course-join [] (Idle ∷ []) [] set w x y (course-part Sweep [] w x p.part (only-changes w x p.part.ran p.numbers)) c.finish_collection.ensures.course)
+    (course-join [] (Idle ∷ []) [] set w x y (course-part Sweep [] w x refl p.part (only-changes w x p.part.ran p.numbers)) c.finish_collection.ensures.course)

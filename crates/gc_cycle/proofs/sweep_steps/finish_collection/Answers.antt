@@ -1,4 +1,4 @@
-use Rattle.std.proofs.Common.{◌≡◌, ◌≤◌, [], ◌∷◌, ◌∙◌, subst, sym, true}
+use Rattle.std.proofs.Common.{◌≡◌, ◌≤◌, [], ◌∷◌, ◌∙◌, refl, subst, sym, true}
 use Rattle.mark_core.specs.Layout.{block_count}
 use Rattle.mark_core.specs.declared.kinds.Phase.TheVariants.{Idle, Sweep}
 use Rattle.mark_core.specs.declared.kinds.Shape.{Shape}
@@ -92,4 +92,4 @@ returns-clause-course c =
     let s = c.settle-counts.ensures in
     let set = sets_numbers c.args.heap.now.shape c.settle-counts.result in
     course-join (Idle ∷ []) [] [] set v w y (course-move Sweep Idle v w c.end_sweep.ensures.moved)
-    (course-join [] [] set [] w x y (course-part Idle set w x s.part s.numbers) (course-drop x y c.resume.ensures.ran c.resume.ensures.step))
+    (course-join [] [] set [] w x y (course-part Idle set w x refl s.part s.numbers) (course-drop x y c.resume.ensures.ran c.resume.ensures.step))
