@@ -12,9 +12,10 @@ empty line between two:
 More lines old and new may follow. A line `free: REASON` says that the body is right too, or free on purpose, and a line `test: CRATE NAME` that no
 clause can refuse it and which test does: it isn't tried here, but has to be a change that can be made, and the test has to be there. All others are put into a copy of the crate, at
 most one a function at a time, and `rt check` tells which functions it still proves. Refused is a body of which the check names a goal that it doesn't prove. Where a proof
-fails only because a name in it is gone, that is told as `by names`: it says nothing of a clause. A body that doesn't compile is an error of its file, and ends the run. The
-status is 1 where a body got through that isn't free, or where one couldn't be judged. The crate and those below are best proved before, by `rt check` in the crate's folder: what
-that left is copied.
+fails only because a name in it is gone, that is told as `by names`: it says nothing of a clause. A change of a definition in specs/ is for a law: it is tried alone, and
+refused where a lemma that the law's proof rests on isn't proved any more. A body that doesn't compile is an error of its file, and ends the run. The status is 1
+where a body got through that isn't free, or where one couldn't be judged. The crate and those below are best proved before, by `rt check` in the crate's folder:
+what that left is copied.
 """
 import os
 import re
@@ -27,6 +28,7 @@ import shown
 
 TOP = os.path.dirname(os.path.dirname(os.path.abspath(__file__)))
 BODIES = os.path.join(TOP, "tests", "bodies")
+NAME_GONE = r"has no field|is not in scope|has no `"
 
 
 class Body:
@@ -51,6 +53,10 @@ class Body:
                 self.changes.append((file, old, text))
             else:
                 sys.exit(f"{self.what}: {line}")
+
+    def is_of_specs(self):
+        """Whether it changes a definition, which other functions see too."""
+        return any(file.startswith("specs/") for file, _, _ in self.changes)
 
     def places_in(self, text, old):
         """Where this text stands below the head of a function of that name, or where it does at all if it stands there nowhere."""
@@ -117,7 +123,8 @@ def apply_some(bodies, folder, most):
     """Puts in as many as go together, at most one a function and so many in all. Which those are, and which are left."""
     done, left = [], []
     for body in bodies:
-        is_free = len(done) < most and body.function not in [it.function for it in done]
+        goes_beside = not done or not any(it.is_of_specs() for it in [body, *done])
+        is_free = len(done) < most and goes_beside and body.function not in [it.function for it in done]
         texts = body.texts(folder) if is_free else None
         if texts is None:
             left.append(body)
@@ -142,11 +149,30 @@ def reasons_of(body, said):
     names = False
     for it in said:
         found = re.match(rf"\./proofs/{re.escape(path)}/\S+ error: (?:`([^`]+)`)?(.*)", it)
-        if found and re.search(r"has no field|is not in scope|has no `|was not admitted", it):
+        if found and re.search(NAME_GONE + "|was not admitted", it):
             names = True
         elif found:
             goals.append(found[1] or found[2].strip())
     return list(dict.fromkeys(goals)), names
+
+
+def refused_lemma(name, said):
+    """The lemma whose own proof is refused and on which this one rests, with its file; nothing where there is none, or a name alone is gone in it."""
+    rests = {}
+    for it in said:
+        found = re.match(r"\./proofs/\S+ error: \d+ declarations? that depends? on `([^`]+)`.*not checked: (.*)", it)
+        rests.update(dict.fromkeys(re.sub(r" \(via [^)]*\)", "", found[2]).split(", "), found[1]) if found else {})
+    while name in rests:
+        name = rests.pop(name)
+    own = next((it for it in said if re.match(rf"\./proofs/\S+ error: `{re.escape(name)}`: ", it)), "")
+    return "" if not own or re.search(NAME_GONE, own) else f"{name} in {own.split(':')[0].lstrip('./')}"
+
+
+def law_refused(body, said):
+    """The lemma that no longer holds where a definition was changed, and on which the proof of the law rests."""
+    proof = f"./proofs/{body.function.split('::', 1)[1].replace('::', '/')}/"
+    rests = next((re.search(r"depends? on `([^`]+)`", it) for it in said if it.startswith(proof) and "not checked" in it), None)
+    return refused_lemma(rests[1], said) if rests else ""
 
 
 def unproved_closure(body, said):
@@ -165,6 +191,9 @@ def judge(body, said):
     if not line:
         return "UNKNOWN", "no function of that name, or no check"
     goals, names = reasons_of(body, said)
+    lemma = law_refused(body, said) if body.is_of_specs() else ""
+    if lemma:
+        return "refused", f"the lemma {lemma}"
     if goals:
         return "refused", ", ".join(goals)
     if names:
