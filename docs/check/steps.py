@@ -1,0 +1,116 @@
+"""How many steps a call takes at most: the tables of docs/EMBEDDING.md and docs/EMBEDDING_C.md have the numbers of the clauses, and each call of which a clause has
+one. A clause has one where it says `AtMost N`, or by a definition that says so of the answer Done, or in its field `few`; those of refusals don't count. A call
+that borrows its mutator to read alone, or leaves it as it is, takes no step."""
+import glob
+import re
+import sys
+
+sys.path.insert(0, "docs")
+from pages import rows_of, text_of  # noqa: E402
+
+TYPES = ["Mutator", "Stepper", "SharedMutator"]
+OPERATIONS = "crates/mutator_ops/specs/Few.antt"
+AT_MOST = re.compile(r"\bAtMost (\d+|\((?:[^()]|\([^()]*\))*\))")
+SAME = re.compile(r"(?:^|\()y ≡ x(?:\)|$)")
+
+
+def definition(name, page):
+    """The lines that define a name, as this file sees it, and the file in which they stand."""
+    text = text_of(page)
+    found = re.search(rf"^(?:abbrev pub|pub record) {name}\b.*(?:\n.+)*", text, re.M)
+    if found and page.endswith(".antt"):
+        return found[0].split("\n"), page
+    for crate, module, names in re.findall(r"use Rattle\.(\w+)\.specs\.([\w.]+)\.\{([^}]*)\}", text):
+        file = f"crates/{crate}/specs/{module.replace('.', '/')}.antt"
+        if name in re.findall(r"\w+", names) and glob.glob(file):
+            return definition(name, file)
+    return [], page
+
+
+def of_operation(name):
+    """How many steps an operation takes at most."""
+    return re.search(rf"^most_steps fields \(?ops\.{name}\b[^=]*= (.*)$", text_of(OPERATIONS), re.M)[1]
+
+
+def size(bound):
+    """Bounds by size: numbers first."""
+    found = re.search(r"\d+$", bound)
+    return "fields" in bound, int(found[0]) if found else 0
+
+
+def of_words(words, page, operation):
+    """The least bound that these words say: those of a clause, or of a line of a definition."""
+    if " ⊎ " in words:
+        return of_cases(words.split(" ⊎ "), page, operation)
+    operation = (re.findall(r"\bops\.(\w+)", words) or [operation])[0]
+    bounds = [re.sub(r"[\w.]+\.shape\.fields", "fields", it.strip("()")) for it in AT_MOST.findall(words)]
+    bounds = [of_operation(operation) if it.startswith("most_steps") else it for it in bounds] + ["0"] * bool(SAME.search(words))
+    for name in re.findall(r"\b[A-Z]\w+", AT_MOST.sub("", words)):
+        bounds.append(of_name(name, page, operation))
+    return min((it for it in bounds if it), key=size, default=None)
+
+
+def of_cases(cases, page, operation):
+    """The largest bound of these cases, where each has one."""
+    bounds = [of_words(it, page, operation) for it in cases]
+    return max(bounds, key=size) if bounds and all(bounds) else None
+
+
+def of_name(name, page, operation):
+    """The bound that a definition says of the answer Done, or in the field `few`."""
+    lines, page = definition(name, page)
+    if not lines or lines[0].startswith("pub record"):
+        few = [it for it in lines if it.lstrip().startswith("pub few :")]
+        return of_words(few[0], page, operation) if few else None
+    sides = [it.partition(" = ") for it in re.sub(r"\n +", " ", "\n".join(lines[1:])).split("\n")]
+    done = [it for it in sides if "cames.Done" in it[0]] or [it for it in sides if "cames." not in it[0]]
+    return of_cases([re.sub(rf"\b{name}\b", "", it[2]) for it in done if it[2] != "⊥"], page, operation)
+
+
+def calls(page):
+    """The public calls of a file: the type of each, its name, and its head."""
+    owner = ""
+    for head in re.split(r"\n(?=impl |\s*pub (?:extern \"C\" )?fn )", text_of(page)):
+        owner = (re.findall(r"^impl (\w+) ", head) or [owner])[0]
+        found = re.match(r"\s*pub (?:extern \"C\" )?fn (\w+)", head)
+        if found:
+            yield "C" if found[1].startswith("mhl_") else owner, found[1], re.split(r"\n *\{", head)[0]
+
+
+def bounds_of(types):
+    """The bound of each call of these types of which a clause has one."""
+    found = {}
+    for page in sorted(glob.glob("crates/*/src/*.rt")):
+        for owner, name, head in calls(page):
+            if owner in types:
+                clauses = re.findall(r"^\s*ensures \w+ \{(?! IfErr)(.*)\}$", head, re.M)
+                bounds = [of_words(it, page, "") for it in clauses] + ["0"] * ("(&self" in head)
+                found[owner, name] = min((it for it in bounds if it), key=size, default=None)
+    return {key: bound for key, bound in found.items() if bound}
+
+
+def told_in(page, columns):
+    """What a page's table tells of each call, in the words of the clauses."""
+    found = {}
+    for names, *cells in rows_of(page, "Call", *columns):
+        for owner, cell in zip(columns.values(), cells):
+            cell = re.sub(r"^(\d+), and 1 for each reference of an object$", r"fields + \1", cell)
+            cell = re.sub(r"^1 for each slot$", "to - from", cell)
+            found.update({(owner, name): cell for name in re.findall(r"`([a-z]\w*)`", names) if cell})
+    return found
+
+
+def compare(page, columns):
+    told, bounds = told_in(page, columns), bounds_of(columns.values())
+    for key in sorted({*told, *bounds}):
+        if told.get(key) != bounds.get(key):
+            print(f"{page}: steps of {key[1]} ({key[0]}): {told.get(key)}, where the clauses have {bounds.get(key)}")
+
+
+def main():
+    compare("docs/EMBEDDING.md", {f"`{it}`": it for it in TYPES})
+    compare("docs/EMBEDDING_C.md", {"Steps at most": "C"})
+
+
+if __name__ == "__main__":
+    main()
