@@ -20,7 +20,7 @@ use Rattle.gc_table.specs.declared.seat.Heap.{Heap}
 use Rattle.gc_table.proofs.Records.{found-else, record-live, records-set}
 use Rattle.plain_heap.specs.declared.operation.Op.{Op}
 use Rattle.gc_table.specs.Sections.{section_after}
-use Rattle.gc_table.specs.TableState.{TableState}
+use Rattle.gc_table.specs.TableState.{TableState, start_state}
 use Rattle.gc_table.specs.Rule.{table_state}
 use Rattle.gc_table.specs.Taking.{Asked}
 use Rattle.gc_table.specs.Reads.{Reads}
@@ -33,6 +33,7 @@ use Rattle.gc_table.specs.declared.view.Entry.{Entry}
 use Rattle.gc_table.specs.Entries.{event, is_store}
 use Rattle.gc_table.specs.Past.{word_told, IsLogOf, IsLogged}
 use Rattle.gc_table.specs.Rule.{core_of}
+use Rattle.gc_table.proofs.History.Moments.{leads-on}
 use Rattle.gc_table.proofs.History.Past.{led-on, log-other, log-own, own-logged}
 use Rattle.gc_table.proofs.State.StateSteps.{some-same}
 
@@ -64,6 +65,7 @@ rule-kept sh plan s id v w step o t me live same told is_told log logs state agr
     record {
       past = o.past ++ e ∷ [];
       led = led-on sh o.past x.core (core_of sh s') e o.led (own-fits step t.own) (allowed x id v step t) (ap (λ (y : TableState). y.core) (sym is));
+      came = leads-on o.past e (start_state sh plan 1) x (table_state sh plan d.sections s') o.came o.whole (allowed x id v step t) (sym is);
       logged = λ j u h l.
           ⊎_elim
           (λ (p : (j ≡ id) × (w ≡ u)). subst (λ (q : ℕ × View). IsLogged sh (o.past ++ e ∷ []) (core_of sh s') q.0 q.1) (λ y. (sym p.0 y, p.1 y))

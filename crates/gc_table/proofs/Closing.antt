@@ -29,13 +29,14 @@ use Rattle.std.proofs.Common.{[], ◌∷◌, ◌++◌, zero, suc, arith}
 use Rattle.std.proofs.lemmas.List.Elements.{Contains-append_cases}
 use Rattle.plain_heap.specs.declared.operation.Op.{Op}
 use Rattle.gc_table.specs.declared.view.SectionState.{SectionState}
-use Rattle.gc_table.specs.TableState.{TableState, state_after}
+use Rattle.gc_table.specs.TableState.{TableState, state_after, start_state}
 use Rattle.gc_table.specs.Rule.{records_from, table_state, IsState, HasJoined, Agrees, Holds, IsFinal, nobody, own_entry, takes_in}
 use Rattle.gc_table.proofs.Asking.{own-number}
 use Rattle.gc_table.proofs.Joining.{both-noted}
 use Rattle.gc_table.proofs.Opening.{none-in, record-at, still-sections, zero-plus}
 use Rattle.gc_table.specs.Past.{IsLogOf, IsLogged, log_of}
 use Rattle.gc_table.specs.declared.view.Entry.{Entry}
+use Rattle.gc_table.proofs.History.Moments.{leads-on}
 use Rattle.gc_table.proofs.History.Past.{led-on, log-still}
 use Rattle.gc_table.proofs.Records.{record-live, records-length, records-set, found-here, found-else}
 use Rattle.gc_table.proofs.State.StateSteps.{Goes, event, may-happen, sections-left}
@@ -156,6 +157,7 @@ joins sh plan id v other w live bare live' bare' second s o me apart there' =
           (at_set (set s.views id both) other j nobody u h);
       past = past;
       led = led-on sh o.past c left.core (event id (Join other)) o.led tt (may-happen x id v.state (Join other) g) core;
+      came = leads-on o.past (event id (Join other)) (start_state sh plan 1) x left o.came o.whole (may-happen x id v.state (Join other) g) (λ y. record { core = core y; plan = plan; sections = sections y });
       logged = λ j u h l.
           ⊎_elim
           (λ (p : (j ≡ other) × (nobody ≡ u)). absurd (true≢false (ap (λ (y : View). y.state.spent) p.1 ∙ l)))
@@ -191,6 +193,7 @@ closes sh plan id v ws xs live f =
       agrees = agrees;
       past = o.past;
       led = o.led;
+      came = o.came;
       logged = o.logged id v f.1.1 live;
       opened = λ zero_is.
           let first : id ≡ 0 = sym ((o.whole.core.formed.seats id v.state agrees.seat).number) ∙ zero_is in

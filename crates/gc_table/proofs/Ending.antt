@@ -7,7 +7,8 @@ use Rattle.mark_core.specs.Layout.{region_sizes, total_words}
 use Rattle.mark_core.specs.Start.{spent_seat}
 use Rattle.mark_core.specs.declared.kinds.Shape.{Shape}
 use Rattle.mark_core.specs.declared.seat.SeatState.{SeatState}
-use Rattle.gc_table.specs.Rule.{IsPossible, IsFinal, HasLog, HasSection, KnowsFull}
+use Rattle.gc_table.specs.Rule.{IsPossible, IsFinal, HasLog, HasSection, KnowsFull, Leads}
+use Rattle.gc_table.specs.TableState.{start_state}
 use Rattle.gc_table.specs.Past.{LeadTo, log_of}
 use Rattle.gc_table.specs.declared.view.Entry.{Entry}
 use Rattle.gc_table.proofs.History.Past.{log-none}
@@ -111,6 +112,7 @@ ends sh seats v ws w some given shaped first all logs tells f words =
       sections = λ i s k h e. section_left v ws f k (view_of s).own (all i s k h e);
       past = f.past;
       led = subst (λ (x : Shape). LeadTo x f.past c) same f.led;
+      came = subst (λ (x : Shape). Leads f.past (start_state x f.state.plan 1) f.state) same f.came;
       logs = λ i s h. log_left v ws f i (view_of s).log (logs i s h) ∙ ap (λ (x : Shape). log_of x f.past i) same;
       theirs = λ s h count i far.
           let number : v.state.number ≡ 0 = ap (λ (r : SeatState). r.number) (first s h).0 ∙ (given 0 s h).1 in

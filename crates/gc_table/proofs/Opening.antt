@@ -34,6 +34,7 @@ use Rattle.gc_table.specs.Rule.{record_of, records_from, table_state, IsState, H
 use Rattle.gc_table.proofs.Allowed.{St}
 use Rattle.gc_table.proofs.Records.{record-live, records-get, records-set, records-snoc, records-length, got-longer}
 use Rattle.gc_table.specs.Past.{log_of, IsLogged}
+use Rattle.gc_table.proofs.History.Moments.{leads-on}
 use Rattle.gc_table.proofs.History.Past.{led-on, log-none, log-still}
 use Rattle.gc_table.proofs.State.StateSteps.{Goes, event, may-happen, sections-left}
 use Rattle.gc_table.proofs.State.StateKept.{whole-kept}
@@ -128,6 +129,7 @@ starts sh plan ws z is =
       opened = λ v h. ap (λ (u : View). u.opened) (sym (some-injective (newcomer sh plan 0) v h));
       past = [];
       led = record { allowed = refl; fit = λ k e there. absurd (omega (arith, there)); leads = refl };
+      came = refl;
       logged = λ i v h l.
           ⊎_elim
           (λ (e : get_elem? [] i ≡ some v). absurd (some-ne-none v (sym e)))
@@ -162,10 +164,11 @@ module _ (sh : Shape) (plan : List (List Op)) (s : St) (v : View) (o : Holds sh 
       let long : length (set x.core.seats 0 v.state) ≡ length s.views = length-set x.core.seats 0 v.state ∙ records-length sh 0 s.views in
       ap (λ p. after_of x.core 0 p Split) split_got ∙ (λ y. record { shape = sh; words = words y; seats = set x.core.seats 0 v.state ++ start_seat sh (long y) ∷ [] })
 
+  split_still : (state_after x (event 0 Split)).sections ≡ o.sections
+  split_still = sections-left x 0 v.state Split split_goes ∙ still-sections v.state.section o.sections
+
   split_left : IsState (record { core = split_core sh s v; plan = plan; sections = o.sections })
-  split_left =
-      let sections : (state_after x (event 0 Split)).sections ≡ o.sections = sections-left x 0 v.state Split split_goes ∙ still-sections v.state.section o.sections in
-      subst IsState (λ y. record { core = split_leaves y; plan = plan; sections = sections y }) (whole-kept x 0 v.state Split split_goes)
+  split_left = subst IsState (λ y. record { core = split_leaves y; plan = plan; sections = split_still y }) (whole-kept x 0 v.state Split split_goes)
 
 -- the records after a split are those before it and one more
 longer : (xs : List SeatState) (s t u : SeatState) (w : ℕ) → slice_get xs 0 ≡ Some s → slice_get xs w ≡ Some u → slice_get (set xs 0 s ++ t ∷ []) w ≡ Some u
@@ -209,6 +212,8 @@ splits sh plan id v shaped planned first opened s o me =
       whole = subst IsState (λ y. record { core = record { shape = sh; words = s.words; seats = sym seats y }; plan = plan; sections = o.sections }) (split_left sh plan s v o here first few);
       past = past;
       led = led-on sh o.past x.core left (event 0 Split) o.led tt (may-happen x 0 v.state Split (split_goes sh plan s v o here first few)) (split_leaves sh plan s v o here first few ∙ is);
+      came = leads-on o.past (event 0 Split) (start_state sh plan 1) x (record { core = left; plan = plan; sections = o.sections }) o.came o.whole (may-happen x 0 v.state Split (split_goes sh plan s v o here first few))
+          (λ y. record { core = (split_leaves sh plan s v o here first few ∙ is) y; plan = plan; sections = split_still sh plan s v o here first few y });
       logged = λ j u h l.
           ⊎_elim
           (λ (g : get_elem? vs j ≡ some u).

@@ -7,8 +7,8 @@ use Rattle.mark_core.specs.declared.kinds.Event.{Event}
 use Rattle.mark_core.specs.declared.kinds.Shape.{Shape}
 use Rattle.mark_core.specs.declared.kinds.Phase.TheVariants.{Full}
 use Rattle.mark_core.specs.declared.seat.SeatState.{SeatState}
-use Rattle.gc_table.specs.TableState.{TableState}
-use Rattle.gc_table.specs.Rule.{IsState, KnowsFull}
+use Rattle.gc_table.specs.TableState.{TableState, start_state}
+use Rattle.gc_table.specs.Rule.{IsState, KnowsFull, Leads}
 use Rattle.gc_table.specs.Seats.{view_of, IsOutside}
 use Rattle.gc_table.specs.Operations.{Token}
 use Rattle.gc_table.specs.Past.{LeadTo, log_of}
@@ -53,6 +53,8 @@ pub record IsEnd (sh : Shape) (seats : List HeapSeat) (w : Words) : Type 0 where
   -- these events led from the start to the words in the end, and the log of each seat is its part of them
   pub past : List Event
   pub led : LeadTo sh past state.core
+  -- on the way each state met the rule, with what the sections had come to by then
+  pub came : Leads past (start_state sh state.plan 1) state
   pub logs : (i : ℕ) (s : HeapSeat) → slice_get seats i ≡ Some s → (view_of s).log ≡ log_of sh past i
   -- nobody else took part, where all seats were handed in
   pub theirs : (s : HeapSeat) → slice_get seats 0 ≡ Some s → (view_of s).opened ≡ length seats → (i : ℕ) → length seats ≤ i → log_of sh past i ≡ []

@@ -5,7 +5,7 @@ use mathlib.Core.Option.{some}
 use lib.ListN.{get_elem?}
 use Rattle.atomic_table.specs.Table.{State}
 use Rattle.mark_core.specs.Start.{start_seat, spent_seat}
-use Rattle.mark_core.specs.Steps.{Core}
+use Rattle.mark_core.specs.Steps.{Core, failing_part}
 use Rattle.mark_core.specs.Laws.{IsCore}
 use Rattle.mark_core.specs.Swept.{IsSweptCore}
 use Rattle.mark_core.specs.Notes.{word_at, steady, keeps_bound}
@@ -21,7 +21,7 @@ use Rattle.gc_table.specs.Fetching.{Fetched}
 use Rattle.gc_table.specs.Stopping.{Unmoved}
 use Rattle.gc_table.specs.StandsFor.{StandsFor}
 use Rattle.gc_table.specs.Sections.{start_section}
-use Rattle.gc_table.specs.TableState.{TableState, meanings_of}
+use Rattle.gc_table.specs.TableState.{TableState, meanings_of, state_after, start_state}
 use Rattle.gc_table.specs.Told.{IsTold}
 use Rattle.gc_table.specs.Past.{LeadTo, IsLogged}
 use Rattle.gc_table.specs.declared.view.Entry.{Entry}
@@ -51,6 +51,11 @@ pub record IsState (x : TableState) : Type 0 where
   -- where objects aren't shared, the words of each section stand for a plain heap of its own
   pub stands : IsFalse x.core.shape.sharing → StandsFor x.core (meanings_of x.sections)
   pub told : IsTold x
+
+-- these events, each allowed in its turn, lead from the one state to the other, and each state on the way meets the rule
+abbrev pub Leads : List Event → TableState → TableState → Type 0
+Leads [] x y = x ≡ y
+Leads (e ∷ es) x y = IsState x × (failing_part x.core e ≡ None) × Leads es (state_after x e) y
 
 -- each note may be kept while others step, and is true
 abbrev pub Noted : Core → View → Type 0
@@ -87,6 +92,8 @@ pub record Holds (sh : Shape) (plan : List (List Op)) (s : State (Unit {0}) View
   -- these events led from the start to the words and records that are there, and each log is its seat's part of them
   pub past : List Event
   pub led : LeadTo sh past (core_of sh s)
+  -- they led to what the sections have come to, too
+  pub came : Leads past (start_state sh plan 1) (table_state sh plan sections s)
   pub logged : (i : ℕ) (v : View) → get_elem? s.views i ≡ some v → IsFalse v.state.spent → IsLogged sh past (core_of sh s) i v
 
 -- some state that meets the rule agrees with the view
@@ -159,6 +166,7 @@ pub record IsFinal (v : View) (ws : List ℕ) : Type 0 where
   pub agrees : Agrees state index v
   pub past : List Event
   pub led : LeadTo state.core.shape past state.core
+  pub came : Leads past (start_state state.core.shape state.plan 1) state
   pub logged : IsLogged state.core.shape past state.core index v
   -- the first seat knows how many there are
   pub opened : v.state.number ≡ 0 → v.opened ≡ length state.core.seats
