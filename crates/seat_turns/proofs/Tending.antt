@@ -3,7 +3,7 @@ use Rattle.std.proofs.Common.{ℕ, ◌≡◌, ◌+◌, inl, inr, List, [], ◌�
 use Rattle.std.proofs.lemmas.Bool.{true≢false, and_parts}
 use Rattle.mark_core.specs.declared.kinds.Shape.{Shape}
 use Rattle.mark_core.specs.declared.kinds.Step.{Step}
-use Rattle.mark_core.specs.declared.kinds.Step.TheVariants.{AddStat, ClearCard, DirtyCard, EnterStep, LeaveStep, NextOfCards, Pop, ReadPhase, ReadStat}
+use Rattle.mark_core.specs.declared.kinds.Step.TheVariants.{ClearCard, DirtyCard, NextOfCards, Pop, ReadStat}
 use Rattle.gc_table.specs.Log.{Only, all_steps, event, events}
 use Rattle.gc_table.specs.Running.{Ran, changes_section}
 use Rattle.gc_table.specs.declared.view.Entry.{Entry}
@@ -23,12 +23,9 @@ use Rattle.seat_turns.specs.Tending.{MarksSome, Tends, tends_inside}
 
 -- a step of tracing is one that a tracer may take inside
 traces-tend : (step : Step) → traces_cells step ≡ true → tends_inside step ≡ true
-traces-tend EnterStep e = e
-traces-tend LeaveStep e = e
-traces-tend ReadPhase e = e
+traces-tend NextOfCards e = refl
 traces-tend (ReadStat which) e = absurd (true≢false (sym e))
-traces-tend (AddStat which by down) e = e
-traces-tend step e = refl
+traces-tend step e = e
 
 pub tends-later : {b : Bool} (v w : View) → OnlyTracedBy b v w → Only tends_inside v w
 tends-later v w k = only-more traces_cells tends_inside traces-tend v w k.only
@@ -115,11 +112,7 @@ reads-pop (x ∷ xs) e =
 
 reads-tend : (step : Step) → reads_number step ≡ true → tends_inside step ≡ true
 reads-tend (ReadStat which) e = e
-reads-tend EnterStep e = e
-reads-tend LeaveStep e = e
-reads-tend ReadPhase e = e
-reads-tend (AddStat which by down) e = e
-reads-tend step e = refl
+reads-tend step e = absurd (true≢false (sym e))
 
 reads-own : (step : Step) → reads_number step ≡ true → changes_section step ≡ false
 reads-own (ReadStat which) e = refl

@@ -1,12 +1,13 @@
 -- What a tracer does inside the world while marking is under way.
-use Rattle.std.specs.Prelude.{ℕ, ◌≡◌, ◌<◌, ◌⊎◌, ◌==◌, not, Bool, true, false}
+use Rattle.std.specs.Prelude.{ℕ, ◌≡◌, ◌<◌, ◌⊎◌, ◌==◌, not, Bool, true}
 use Rattle.mark_core.specs.Numbers.{done_count}
 use Rattle.mark_core.specs.declared.kinds.Step.{Step}
-use Rattle.mark_core.specs.declared.kinds.Step.TheVariants.{AddStat, EnterStep, LeaveStep, ReadPhase, ReadStat}
+use Rattle.mark_core.specs.declared.kinds.Step.TheVariants.{NextOfCards, ReadStat}
 use Rattle.gc_table.specs.Log.{Only, events}
 use Rattle.gc_table.specs.Running.{Ran}
 use Rattle.gc_table.specs.declared.view.View.{View}
 use Rattle.packet_pools.specs.Counts.{count_of}
+use Rattle.packet_pools.specs.OnlyTraced.{traces_cells}
 use Rattle.tracer.specs.Causes.{FoundNoWork}
 use Rattle.tracer.specs.Tally.{pops}
 
@@ -14,14 +15,12 @@ use Rattle.tracer.specs.Tally.{pops}
 abbrev pub turn_quota : ℕ
 turn_quota = 64
 
--- the step neither enters nor leaves, reads neither the phase nor the number of parts that were played, and adds to no number
+-- the step traces or cleans cards, or reads a number, but not that of the parts that were played: none changes a number, moves or reads the phase, or enters
+-- or leaves
 abbrev pub tends_inside : Step → Bool
-tends_inside EnterStep = false
-tends_inside LeaveStep = false
-tends_inside ReadPhase = false
+tends_inside NextOfCards = true
 tends_inside (ReadStat which) = not (which == done_count)
-tends_inside (AddStat which by down) = false
-tends_inside step = true
+tends_inside step = traces_cells step
 
 -- by such steps so many objects were traced, and what the seat's section has come to is as it was
 pub record Tends (traced : ℕ) (v w : View) : Type 0 where
