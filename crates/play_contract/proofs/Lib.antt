@@ -2,6 +2,7 @@ pub mod Members
 pub mod InOrder
 pub mod SectionLists
 pub mod LastHeaps
+pub mod FreeCells
 pub mod OneReport
 pub mod Ordered
 pub mod Deciding

@@ -1,8 +1,10 @@
 -- What is claimed of reports and of their texts, as statements for proofs to meet.
-use Rattle.std.specs.Prelude.{ℕ, ◌≡◌, List, map, false}
-use Rattle.plain_heap.specs.Sections.{Sections}
-use Rattle.plain_heap.specs.PlainRun.{Printed, last_heaps}
-use Rattle.plain_heap.specs.Paths.{Survivor, AreSurvivors}
+use Rattle.std.specs.Prelude.{ℕ, ◌≡◌, ◌<◌, List, length, map, false}
+use Rattle.plain_heap.specs.Sections.{Execution, Sections, section_numbers, IsNext}
+use Rattle.plain_heap.specs.PlainRun.{Printed, plain, heaps_at, last_heaps}
+use Rattle.plain_heap.specs.Paths.{Name, IsReachable, Survivor, AreSurvivors}
+use Rattle.plain_heap.specs.Placement.{IsNew, LiesIn}
+use Rattle.play_report.specs.Order.{IsPlaced}
 use Rattle.play_report.specs.Report.{Outcome, outcome_of, survivor_of}
 use Rattle.play_report.specs.Text.{IsReportText, IsLoadText}
 use Rattle.play_report.specs.declared.report.Report.{Report}
@@ -32,3 +34,9 @@ OneText = (s : Sections) (m n : ℕ) (a b : List ℕ) → IsReportText s m false
 -- a script has one text of counts
 abbrev pub OneLoadText : Type 0
 OneLoadText = (s : Sections) (a b : List ℕ) → IsLoadText s a → IsLoadText s b → a ≡ b
+
+-- whatever the order, just before a `new` no object lies in the cell that it takes that the section can reach, or that the sections reach which have no turn then
+abbrev pub CellsAreFree : Type 0
+CellsAreFree =
+    (s : Sections) (cells : ℕ) (places : List (List ℕ)) → IsPlaced s cells places → (w k z : ℕ) (e : Execution) → w < length (section_numbers s) → IsNext s w k z e → IsNew e.op
+    → (name : Name) (cell : ℕ) → IsReachable (heaps_at s w k z) name → LiesIn places name cell → LiesIn places (record { section = w; number = length (plain s w k).objects }) cell → ⊥

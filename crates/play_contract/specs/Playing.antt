@@ -3,7 +3,8 @@ use Rattle.std.specs.Prelude.{ℕ, ◌≡◌, ◌≤◌, ◌%◌, List, map, Res
 use Rattle.plain_heap.specs.Sections.{Sections}
 use Rattle.plain_heap.specs.PlainRun.{last_heaps}
 use Rattle.plain_heap.specs.Paths.{AreSurvivors}
-use Rattle.plain_heap.specs.Placement.{IsPlaced, IsFilled}
+use Rattle.plain_heap.specs.Placement.{IsFilled}
+use Rattle.play_report.specs.Order.{IsPlaced}
 use Rattle.play_report.specs.Report.{outcome_of, survivor_of}
 use Rattle.play_report.specs.Text.{outcomes, placed_count}
 use Rattle.play_report.specs.declared.report.Report.{Report}

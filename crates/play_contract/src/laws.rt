@@ -1,5 +1,5 @@
 // Laws over definitions: each is the contract of a function that does nothing.
-ghost use Rattle.play_contract.specs.Laws.{OneLoadText, OneReport, OneText, SurvivorsExist};
+ghost use Rattle.play_contract.specs.Laws.{CellsAreFree, OneLoadText, OneReport, OneText, SurvivorsExist};
 
 /// Any two reports of one script agree but for the places of objects, however many cells each was played in: what each section printed,
 /// how many stores it dropped, and the survivors are values of the script alone.
@@ -20,4 +20,10 @@ pub fn one_text()
 /// The text that counts what a play did is one, too.
 pub fn one_load_text()
     ensures { OneLoadText }
+{}
+
+/// Where places are legal, no order of the commands lets a new object take the cell of one that its section can reach, or that sections reach which
+/// have no turn then: the order is free among the warehouses of one season alone.
+pub fn cells_are_free()
+    ensures { CellsAreFree }
 {}

@@ -7,8 +7,8 @@
 //! - [`Options`] say how a script is to be played; `AreInRange` in `specs/Playing.antt` says which there may be.
 //! - [`PlayError`] is what comes in place of a report.
 //! - `PlayAnswers` in `specs/Playing.antt` is the statement. A report has each section's transcript and dropped stores, exactly
-//!   the objects that are reachable at the end, and for each object a cell in which no reachable object of its section lay when it
-//!   was made. `Full` has positions at which the reachable objects fill all cells, so that a `new` there can find none.
+//!   the objects that are reachable at the end, and for each object a cell: in one order of all commands no object lay there that any
+//!   section could reach when it was made. `Full` has positions at which the reachable objects fill all cells, so that a `new` there can find none.
 //!
 //! A play is a function with this contract, which may say more, where a gate looks on while sections are played and changes nothing:
 //!
@@ -26,5 +26,5 @@ mod laws;
 mod options;
 
 pub use error::PlayError;
-pub use laws::{one_load_text, one_report, one_text, survivors_exist};
+pub use laws::{cells_are_free, one_load_text, one_report, one_text, survivors_exist};
 pub use options::{Options, USUAL};

@@ -13,7 +13,8 @@ use Rattle.mark_core.specs.declared.kinds.Shape.{Shape}
 use Rattle.plain_heap.specs.PlainHeap.{Heap}
 use Rattle.plain_heap.specs.Sections.{Sections, counted, section_numbers, executed_of, seasons, end_of, makes_object, Execution}
 use Rattle.plain_heap.specs.PlainRun.{Printed, last_heap, transcript}
-use Rattle.plain_heap.specs.Placement.{IsPlaced, IsFilled, cells_of}
+use Rattle.plain_heap.specs.Placement.{IsFilled, cells_of}
+use Rattle.play_report.specs.Order.{IsPlaced}
 use Rattle.plain_heap.proofs.Counted.{section-count}
 use Rattle.plain_heap.proofs.SectionNames.{sum-most}
 use Rattle.plain_heap.proofs.TurnBounds.{objects-most}

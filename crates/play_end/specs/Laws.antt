@@ -1,6 +1,7 @@
 -- What is claimed of a play and of its end, as statements for proofs to meet.
 use Rattle.std.specs.Prelude.{ℕ, ◌≡◌, ◌+◌, ◌-◌, ◌*◌, ◌<◌, ◌≤◌, IsTrue, IsFalse, List, false, [], ◌∷◌, ◌++◌, slice_index_or, not, length, map, Option, Some, true, if◌then◌else◌}
 use Rattle.mark_core.specs.Numbers.{most_seats}
+use Rattle.mark_core.specs.declared.kinds.Event.{Event}
 use Rattle.mark_core.specs.declared.kinds.Shape.{Shape}
 use Rattle.plain_heap.specs.declared.operation.Op.{Op}
 use Rattle.plain_heap.specs.PlainHeap.{Heap}
@@ -23,11 +24,12 @@ use Rattle.plain_heap.specs.declared.operation.Op.TheVariants as ops
 use Rattle.play_end.specs.Playing.{leaves_play, keeps_play, moves_phase, Stores, Places, HasTurn, drops, stores_nothing}
 use Rattle.play_end.specs.Alike.{AreAlike, AreAmong}
 use Rattle.play_end.specs.Done.{turn_word, HasDone, HasSaid, HasPlayed, HasStoppedInPart, IsKept, IsStill, SectionDoes, PlacedSoFar}
-use Rattle.gc_table.specs.Rule.{IsPossible, KnowsFull}
+use Rattle.gc_table.specs.Rule.{IsPossible, KnowsFull, Leads}
 use Rattle.play_end.specs.Parts.{Player, PlaysPart, HasLeft, DoesCommand, SaysSame}
 use Rattle.play_end.specs.declared.played.Played.TheVariants as plays
-use Rattle.play_end.specs.Ended.{AreCommandsInRange, heaps_done, IsStateOf, HasOnlyReachable, AreListed, AreCellsOfPlaces, DidAll, IsHeapOf, ArePositions, HaveStopped}
-use Rattle.plain_heap.specs.Placement.{IsNew, IsPlaced, IsFilled}
+use Rattle.play_end.specs.Ended.{AreCommandsInRange, IsStateOf, HasOnlyReachable, AreListed, AreCellsOfPlaces, DidAll, IsHeapOf, ArePositions, HaveStopped}
+use Rattle.play_report.specs.Order.{heaps_done, IsPlaced}
+use Rattle.plain_heap.specs.Placement.{IsNew, IsFilled}
 use Rattle.mark_core.specs.Bits.{reference_in}
 use Rattle.mark_core.specs.declared.kinds.Phase.TheVariants.{Full}
 use Rattle.gc_table.specs.declared.seat.HeapSeat.{HeapSeat}
@@ -129,9 +131,11 @@ ListedSurvive =
     → AreListed cells (words_of x.core.shape x.core.words).identities (words_of x.core.shape x.core.words).values (words_of x.core.shape x.core.words).allocs listed
     → AreSurvivors (heaps_done s done) listed
 
--- where each section did all its parts, each object of each section has a legal place
+-- where each section did all its parts, by events that led to this state and on whose way each state met the rule, each object of each section has a legal place
 abbrev pub PlacesAreLegal : Type 0
-PlacesAreLegal = (s : Sections) (cells : ℕ) (done : List ℕ) (x : TableState) (places : List (List ℕ)) → IsStateOf s cells done x → DidAll s done → AreCellsOfPlaces s x places → IsPlaced s cells places
+PlacesAreLegal =
+    (s : Sections) (cells : ℕ) (done : List ℕ) (x : TableState) (places : List (List ℕ)) (es : List Event) → IsStateOf s cells done x → DidAll s done → AreCellsOfPlaces s x places
+    → Leads es (start_state x.core.shape x.plan 1) x → IsPlaced s cells places
 
 -- where the heap was found full, and each section stopped or ended its part of one turn, its positions are filled for the section that is named
 abbrev pub StoppedIsFilled : Type 0

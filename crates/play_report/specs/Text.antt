@@ -6,12 +6,13 @@ use Rattle.plain_heap.specs.declared.operation.Line.TheVariants as lines
 use Rattle.plain_heap.specs.Sections.{Sections, executed_of, section_numbers}
 use Rattle.plain_heap.specs.PlainRun.{Printed, transcript, last_heap, last_heaps}
 use Rattle.plain_heap.specs.Paths.{Survivor, AreSurvivors}
-use Rattle.plain_heap.specs.Placement.{cells_of, IsPlaced, IsFilled}
+use Rattle.plain_heap.specs.Placement.{cells_of, IsFilled}
 use Rattle.gc_script.specs.Faults as faults
 use Rattle.gc_script.specs.Faults.{Fault}
 use Rattle.gc_script.specs.Shown.{fault_of}
 use Rattle.gc_script.specs.declared.script.ScriptError.{ScriptError}
 use Rattle.play_report.specs.Report.{Outcome}
+use Rattle.play_report.specs.Order.{IsPlaced}
 
 -- what is printed: nil, a value, or a count and a sum
 abbrev pub line_text : Line → List ℕ

@@ -1,7 +1,7 @@
 -- What a play answers.
 use Rattle.std.proofs.Common.{◌≡◌, ℕ, List, refl, sym, ap, subst, inl, Bool, true, false, map}
 use Rattle.std.specs.Prelude.{MatchBool, Err}
-use Rattle.plain_heap.specs.Placement.{IsPlaced}
+use Rattle.play_report.specs.Order.{IsPlaced}
 use Rattle.gc_script.specs.Script.{Script}
 use Rattle.play_report.specs.Report.{Outcome, outcome_of, survivor_of}
 use Rattle.play_report.specs.Text.{report_text, full_text, IsFullText}

@@ -1,11 +1,13 @@
 -- Scripts that play alike have the same texts.
-use Rattle.std.proofs.Common.{◌≡◌, ℕ, zero, suc, ◌-◌, ◌≤◌, refl, ap, ap₂, sym, ◌∙◌, subst, List, [], ◌∷◌, length, map}
-use Rattle.std.specs.Prelude.{Bool, true, false, MatchBool, slice_index_or}
+use Rattle.std.proofs.Common.{◌≡◌, ℕ, zero, suc, ◌+◌, ◌-◌, ◌<◌, ◌≤◌, refl, ap, ap₂, sym, ◌∙◌, subst, List, [], ◌∷◌, length, take, map, arith}
+use Rattle.std.specs.Prelude.{Bool, true, false, MatchBool, count_by, slice_index_or, ◌==◌}
 use Rattle.plain_heap.specs.PlainHeap.{Heap}
-use Rattle.plain_heap.specs.Sections.{Sections, section_numbers}
+use Rattle.plain_heap.specs.Sections.{Sections, section_numbers, executed_of, seasons, IsNext}
 use Rattle.plain_heap.specs.PlainRun.{Printed, plain, last_heap, last_heaps}
 use Rattle.plain_heap.specs.Paths.{IsReachable, AreReachable, AreSurvivors}
-use Rattle.plain_heap.specs.Placement.{IsPlaced, IsFilled, IsNew, AreOfTurn, position, LiesIn}
+use Rattle.plain_heap.specs.Placement.{IsFilled, IsNew, AreOfTurn, position, LiesIn}
+use Rattle.plain_heap.proofs.TurnEnds.{last-end}
+use Rattle.play_report.specs.Order.{done_in, heaps_done, IsOrder, TakesFreeCell, IsPlaced}
 use Rattle.play_report.specs.Report.{Outcome}
 use Rattle.play_report.specs.Text.{IsReportText, IsFullText, outcome, report_text}
 use Rattle.play_words.proofs.Unlined.{PlaysAlike}
@@ -25,15 +27,51 @@ module _ (s t : Sections) (same : PlaysAlike s t) (back : PlaysAlike t s) where
   outcome-alike places w =
       ap₂ (λ (said : List Printed) (h : Heap). record { said = said; dropped = h.dropped; places = slice_index_or places w [] }) (same.said w) (same.last w)
 
+  done-alike : (order : List ℕ) → done_in s order ≡ done_in t order
+  done-alike order = ap (map (λ w. count_by (λ v. v == w) order)) same.numbers
+
+  heaps-alike : (done : List ℕ) → heaps_done s done ≡ heaps_done t done
+  heaps-alike done = over (λ w. plain s w (position done w)) (λ w. plain t w (position done w)) (λ w. same.heaps w (position done w))
+
+  -- how many commands there are
+  all-alike : (w : ℕ) → length (executed_of s w) ≡ length (executed_of t w)
+  all-alike w = sym (last-end s w (seasons s + seasons t) (omega arith)) ∙ (same.ends w (seasons s + seasons t) ∙ last-end t w (seasons s + seasons t) (omega arith))
+
+  turn-alike : (done : List ℕ) (section z : ℕ) → AreOfTurn s done section z → AreOfTurn t done section z
+  turn-alike done zero z a = (
+    subst (λ (n : ℕ). n ≤ position done 0) (same.ends 0 (z - 1)) a.0,
+    subst (λ (n : ℕ). position done 0 ≤ n) (same.ends 0 z) a.1,
+    λ w some low. a.2 w some low ∙ same.ends w (z - 1),
+  )
+  turn-alike done (suc section) z a = (
+    a.0 ∙ same.ends 0 z,
+    λ w some low. let both = a.1 w some low in
+        (subst (λ (n : ℕ). n ≤ position done w) (same.ends w (z - 1)) both.0, subst (λ (n : ℕ). position done w ≤ n) (same.ends w z) both.1),
+  )
+
+  order-alike : (order : List ℕ) → IsOrder s order → IsOrder t order
+  order-alike order o = record {
+    whole = λ w low. subst (λ (d : List ℕ). position d w ≡ length (executed_of t w)) (done-alike order) (o.whole w (subst (λ (l : List ℕ). w < length l) (sym same.numbers) low) ∙ all-alike w);
+    turns = λ k w z e at next.
+        let d = done-alike (take k order) in
+        let found = back.next w (position (done_in t (take k order)) w) z e next in
+        subst (λ (l : List ℕ). AreOfTurn t l w z) d (turn-alike (done_in s (take k order)) w z (o.turns k w z found.0 at (subst (λ (l : List ℕ). IsNext s w (position l w) z found.0) (sym d) found.1)));
+  }
+
+  free-alike : (places : List (List ℕ)) (done : List ℕ) (w : ℕ) → TakesFreeCell s places done w → TakesFreeCell t places done w
+  free-alike places done w f z e next new name cell reachable lies made =
+      let found = back.next w (position done w) z e next in
+      f z found.0 found.1 (subst IsNew (sym found.2) new) name cell (subst (λ (l : List Heap). IsReachable l name) (sym (heaps-alike done)) reachable) lies
+      (subst (λ (h : Heap). LiesIn places (record { section = w; number = length h.objects }) cell) (sym (same.heaps w (position done w))) made)
+
   placed-alike : (cells : ℕ) (places : List (List ℕ)) → IsPlaced s cells places → IsPlaced t cells places
   placed-alike cells places p = record {
     sections = p.sections ∙ ap length same.numbers;
     each = λ w low. p.each w low ∙ ap (λ (h : Heap). length h.objects) (same.last w);
     below = p.below;
-    free = λ w low k z e next new name cell reachable own lies made.
-        let found = back.next w k z e next in
-        p.free w low k z found.0 found.1 (subst IsNew (sym found.2) new) name cell (subst (λ (l : List Heap). IsReachable l name) (sym (same.beside w k z)) reachable) own lies
-        (subst (λ (h : Heap). LiesIn places (record { section = w; number = length h.objects }) cell) (sym (same.heaps w k)) made);
+    order = p.order;
+    is_order = order-alike p.order p.is_order;
+    free = λ k w at. subst (λ (d : List ℕ). TakesFreeCell t places d w) (done-alike (take k p.order)) (free-alike places (done_in s (take k p.order)) w (p.free k w at));
     apart = λ a b cell x y. p.apart a b cell (subst (λ (l : List Heap). IsReachable l a) (sym lasts) x) (subst (λ (l : List Heap). IsReachable l b) (sym lasts) y);
   }
 
@@ -49,18 +87,6 @@ module _ (s t : Sections) (same : PlaysAlike s t) (back : PlaysAlike t s) where
     placed = placed-where cells place r.places r.placed;
     written = r.written ∙ ap (λ (os : List Outcome). report_text os r.survivors place) (over (outcome s r.places) (outcome t r.places) (outcome-alike r.places));
   }
-
-  turn-alike : (done : List ℕ) (section z : ℕ) → AreOfTurn s done section z → AreOfTurn t done section z
-  turn-alike done zero z a = (
-    subst (λ (n : ℕ). n ≤ position done 0) (same.ends 0 (z - 1)) a.0,
-    subst (λ (n : ℕ). position done 0 ≤ n) (same.ends 0 z) a.1,
-    λ w some low. a.2 w some low ∙ same.ends w (z - 1),
-  )
-  turn-alike done (suc section) z a = (
-    a.0 ∙ same.ends 0 z,
-    λ w some low. let both = a.1 w some low in
-        (subst (λ (n : ℕ). n ≤ position done w) (same.ends w (z - 1)) both.0, subst (λ (n : ℕ). position done w ≤ n) (same.ends w z) both.1),
-  )
 
   filled-alike : (cells section : ℕ) (done : List ℕ) → IsFilled s cells section done → IsFilled t cells section done
   filled-alike cells section done f =

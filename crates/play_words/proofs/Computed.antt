@@ -3,7 +3,7 @@ use Rattle.std.proofs.Common.{◌≡◌, ℕ, List, [], refl, sym, subst, inl, B
 use Rattle.std.specs.Prelude.{Result, Ok, Err, None, MatchBool}
 use Rattle.plain_heap.specs.Sections.{Sections}
 use Rattle.plain_heap.specs.PlainRun.{last_heaps}
-use Rattle.plain_heap.specs.Placement.{IsPlaced}
+use Rattle.play_report.specs.Order.{IsPlaced}
 use Rattle.plain_heap.proofs.Found.{Witness, are_found, survivors_of, found}
 use Rattle.plain_heap.proofs.Search.{searched}
 use Rattle.gc_script.specs.Faults.{Fault, BadHeader}

@@ -6,7 +6,8 @@ use Rattle.std.specs.Prelude.{All, Ok}
 use Rattle.plain_heap.specs.Sections.{Sections, executed_total, section_numbers}
 use Rattle.plain_heap.specs.PlainRun.{last_heap}
 use Rattle.plain_heap.specs.Paths.{Survivor}
-use Rattle.plain_heap.specs.Placement.{cells_of, IsPlaced}
+use Rattle.plain_heap.specs.Placement.{cells_of}
+use Rattle.play_report.specs.Order.{IsPlaced}
 use Rattle.play_report.specs.Report.{Outcome, outcome_of, survivor_of}
 use Rattle.play_report.specs.Text.{named_text, brief_text, load_text, outcomes, placed_count, printed_count, total_value, IsLoadText}
 use Rattle.play_report.specs.declared.report.Report.{Report}

@@ -4,10 +4,11 @@ use Rattle.std.specs.Prelude.{slice_index_or}
 use Rattle.plain_heap.specs.declared.operation.Op.TheVariants as ops
 use Rattle.plain_heap.specs.Sections.{Sections, Execution, part_of}
 use Rattle.plain_heap.specs.PlainRun.{heaps_at}
-use Rattle.plain_heap.specs.Placement.{IsPlaced}
+use Rattle.play_report.specs.Order.{IsPlaced}
 use Rattle.plain_heap.proofs.Found.{found}
 use Rattle.plain_heap.proofs.Search.{searched}
 use Rattle.gc_script.specs.Script.{script}
+use Rattle.play_contract.proofs.FreeCells.{cells-free}
 use Rattle.play_words.proofs.Computed.{sections_in}
 
 abbrev next_of : Sections → ℕ → ℕ → ℕ → Execution
@@ -18,13 +19,21 @@ abbrev twice : Sections
 twice = sections_in (script (codes "gcscript 1\nwarehouse\nnew x 1\nnew x 2\n"))
 
 old_counts : IsPlaced twice 64 ([] ∷ (0 ∷ 0 ∷ []) ∷ []) → ⊥
-old_counts p = p.free 1 (omega arith) 1 1 (next_of twice 1 1 1) (record { season = omega arith; place = 1; before = refl; there = refl }) tt
-    (record { section = 1; number = 0 }) 0 (((found (heaps_at twice 1 1 1) (searched (heaps_at twice 1 1 1) 2) refl).reachable.each (record { section = 1; number = 0 })).0 (0, omega arith, refl)) refl refl refl
+old_counts p = cells-free twice 64 ([] ∷ (0 ∷ 0 ∷ []) ∷ []) p 1 1 1 (next_of twice 1 1 1) (omega arith) (record { season = omega arith; place = 1; before = refl; there = refl }) tt
+    (record { section = 1; number = 0 }) 0 (((found (heaps_at twice 1 1 1) (searched (heaps_at twice 1 1 1) 2) refl).reachable.each (record { section = 1; number = 0 })).0 (0, omega arith, refl)) refl refl
 
 -- an object of the catalogue that a warehouse holds since the season before
 abbrev held : Sections
 held = sections_in (script (codes "gcscript 3\nfields 1\ncatalogue\nnew a 1\nseason\nnil a\nnew a 2\nwarehouse\ncat k a\n"))
 
 held_counts : IsPlaced held 64 ((0 ∷ 0 ∷ []) ∷ [] ∷ []) → ⊥
-held_counts p = p.free 0 (omega arith) 2 2 (next_of held 0 2 1) (record { season = omega arith; place = 1; before = refl; there = refl }) tt
-    (record { section = 0; number = 0 }) 0 (((found (heaps_at held 0 2 2) (searched (heaps_at held 0 2 2) 2) refl).reachable.each (record { section = 0; number = 0 })).0 (0, omega arith, refl)) refl refl refl
+held_counts p = cells-free held 64 ((0 ∷ 0 ∷ []) ∷ [] ∷ []) p 0 2 2 (next_of held 0 2 1) (omega arith) (record { season = omega arith; place = 1; before = refl; there = refl }) tt
+    (record { section = 0; number = 0 }) 0 (((found (heaps_at held 0 2 2) (searched (heaps_at held 0 2 2) 2) refl).reachable.each (record { section = 0; number = 0 })).0 (0, omega arith, refl)) refl refl
+
+-- an object of the catalogue and one of a warehouse, which both live when the warehouse says their values
+abbrev shared : Sections
+shared = sections_in (script (codes "gcscript 1\ncatalogue\nnew item 40\nwarehouse\ncat i item\nnew o 1\nsay a i\nsay b o\nnil o\n"))
+
+shared_counts : IsPlaced shared 64 ((0 ∷ []) ∷ (0 ∷ []) ∷ []) → ⊥
+shared_counts p = cells-free shared 64 ((0 ∷ []) ∷ (0 ∷ []) ∷ []) p 1 1 1 (next_of shared 1 1 1) (omega arith) (record { season = omega arith; place = 1; before = refl; there = refl }) tt
+    (record { section = 0; number = 0 }) 0 (((found (heaps_at shared 1 1 1) (searched (heaps_at shared 1 1 1) 2) refl).reachable.each (record { section = 0; number = 0 })).0 (0, omega arith, refl)) refl refl

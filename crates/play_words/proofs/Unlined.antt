@@ -7,8 +7,8 @@ use Rattle.std.proofs.lemmas.Option.{slice_get-map, same_Some}
 use Rattle.plain_heap.specs.declared.operation.Op.{Op}
 use Rattle.plain_heap.specs.PlainHeap.{Heap, empty_heap}
 use Rattle.plain_heap.specs.PlainStep.{heap_after, line_of}
-use Rattle.plain_heap.specs.Sections.{Execution, Sections, parts_of, part_of, joined, end_of, section_numbers, warehouse_numbers, counted, first_of, IsNext}
-use Rattle.plain_heap.specs.PlainRun.{Printed, heap_from, ops_of, plan_end, catalogue_end, seen_catalogue, heap_after_parts, plain, part_end, last_heap, with_label, printed_from, printed_in_parts, transcript, heaps_at}
+use Rattle.plain_heap.specs.Sections.{Execution, Sections, parts_of, part_of, joined, end_of, section_numbers, counted, first_of, IsNext}
+use Rattle.plain_heap.specs.PlainRun.{Printed, heap_from, ops_of, plan_end, catalogue_end, seen_catalogue, heap_after_parts, plain, last_heap, with_label, printed_from, printed_in_parts, transcript}
 use Rattle.gc_script.specs.Convert.{without_line, without_lines}
 
 -- the parts
@@ -70,20 +70,6 @@ last-bare s w = after-bare s w (λ parts. parts) (λ parts. refl)
 plain-bare : (s : Sections) (w k : ℕ) → plain (without_lines s) w k ≡ plain s w k
 plain-bare s w k = after-bare s w (first_of k) (first-bare k)
 
-part-end-bare : (s : Sections) (w z : ℕ) → part_end (without_lines s) w z ≡ part_end s w z
-part-end-bare s w z = after-bare s w (take z) (take-map (map without_line) z)
-
-map-same : {X Y : Type 0} (f g : X → Y) → ((x : X) → f x ≡ g x) → (xs : List X) → map f xs ≡ map g xs
-map-same f g same [] = refl
-map-same {X} {Y} f g same (x ∷ xs) = ap₂ (λ (y : Y) (l : List Y). y ∷ l) (same x) (map-same f g same xs)
-
-heaps-bare : (s : Sections) (w k z : ℕ) → heaps_at (without_lines s) w k z ≡ heaps_at s w k z
-heaps-bare s zero k z =
-    ap₂ (λ (h : Heap) (l : List Heap). h ∷ l) (plain-bare s 0 k)
-    (map-same (λ w. part_end (without_lines s) w (z - 1)) (λ w. part_end s w (z - 1)) (λ w. part-end-bare s w (z - 1)) (warehouse_numbers (without_lines s))
-    ∙ ap (λ (n : ℕ). map (λ w. part_end s w (z - 1)) (counted 1 n)) (length-map s.warehouses (map (map without_line))))
-heaps-bare s (suc w) k z = ap₂ (λ (a b : Heap). a ∷ b ∷ []) (end-bare s z) (plain-bare s (suc w) k)
-
 -- what is printed
 printed-bare : (c : Option Heap) (heap : Heap) (es : List Execution) → printed_from c heap (map without_line es) ≡ printed_from c heap es
 printed-bare c heap [] = refl
@@ -126,7 +112,6 @@ pub record PlaysAlike (s t : Sections) : Type 0 where
   pub said : (w : ℕ) → transcript s w ≡ transcript t w
   pub last : (w : ℕ) → last_heap s w ≡ last_heap t w
   pub heaps : (w k : ℕ) → plain s w k ≡ plain t w k
-  pub beside : (w k z : ℕ) → heaps_at s w k z ≡ heaps_at t w k z
   pub ends : (w z : ℕ) → end_of s w z ≡ end_of t w z
   pub next : (w k z : ℕ) (e : Execution) → IsNext s w k z e → (f : Execution) × IsNext t w k z f × (f.op ≡ e.op)
 
@@ -161,7 +146,6 @@ lines-off s = record {
   said = λ w. sym (said-bare s w);
   last = λ w. sym (last-bare s w);
   heaps = λ w k. sym (plain-bare s w k);
-  beside = λ w k z. sym (heaps-bare s w k z);
   ends = λ w z. sym (ends-bare s w z);
   next = next-bare s;
 }
@@ -172,7 +156,6 @@ lines-on s = record {
   said = said-bare s;
   last = last-bare s;
   heaps = plain-bare s;
-  beside = heaps-bare s;
   ends = ends-bare s;
   next = next-lined s;
 }

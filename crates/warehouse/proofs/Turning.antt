@@ -1,5 +1,5 @@
 -- The plain steps of a command, all in one turn.
-use Rattle.std.proofs.Common.{ℕ, ◌≡◌, List, [], ◌∷◌, ◌++◌, refl, sym, ap, ◌∙◌, subst, Bool, true, false}
+use Rattle.std.proofs.Common.{ℕ, ◌≡◌, ◌+◌, List, [], ◌∷◌, ◌++◌, refl, sym, ap, ◌∙◌, subst, arith, Bool, true, false, if◌then◌else◌, length, length-append}
 use Rattle.std.specs.Prelude.{unwrap_or}
 use Rattle.std.specs.List.{All}
 use Rattle.std.proofs.lemmas.Bool.{and_parts, false≢true}
@@ -13,17 +13,18 @@ use Rattle.gc_table.specs.declared.view.Entry.{Entry}
 use Rattle.gc_table.specs.declared.view.SectionState.{SectionState}
 use Rattle.gc_table.specs.declared.view.PlainStep.{PlainStep}
 use Rattle.gc_table.specs.declared.view.View.{View}
-use Rattle.gc_table.specs.Log.{Only, all_steps, events}
+use Rattle.gc_table.specs.Log.{Only, all_steps, events, steps_of}
 use Rattle.gc_table.specs.Running.{Ran, after_all}
 use Rattle.gc_table.specs.Sections.{season_of}
 use Rattle.gc_table.specs.Taking.{after}
 use Rattle.gc_table.proofs.History.Log.{only-more}
-use Rattle.mutator_ops.specs.Doing.{belongs}
+use Rattle.mutator_ops.specs.Doing.{belongs, stores_plainly, plain_steps}
 use Rattle.play_end.specs.Done.{last_heap_of}
 
--- by plain steps of one turn the section's heap became another
-pub record Turns (season : ℕ) (x y : SectionState) : Type 0 where
+-- by so many plain steps of one turn the section's heap became another
+pub record Turns (season count : ℕ) (x y : SectionState) : Type 0 where
   pub more : List PlainStep
+  pub many : length more ≡ count
   pub turns : y.history ≡ x.history ++ more
   pub in_turn : All (λ (t : PlainStep). t.season ≡ season) more
   pub last : y.meaning.heap ≡ last_heap_of x.meaning.heap more
@@ -40,13 +41,14 @@ last_both : (h : Heap) (xs ys : List PlainStep) → last_heap_of (last_heap_of h
 last_both h [] ys = refl
 last_both h (t ∷ ts) ys = last_both t.heap ts ys
 
-pub turns-none : (season : ℕ) (x y : SectionState) → y.history ≡ x.history → y.meaning.heap ≡ x.meaning.heap → Turns season x y
-turns-none season x y t h = record { more = []; turns = t ∙ append_none x.history; in_turn = All-nil (λ (t : PlainStep). t.season ≡ season); last = h }
+pub turns-none : (season : ℕ) (x y : SectionState) → y.history ≡ x.history → y.meaning.heap ≡ x.meaning.heap → Turns season 0 x y
+turns-none season x y t h = record { more = []; many = refl; turns = t ∙ append_none x.history; in_turn = All-nil (λ (t : PlainStep). t.season ≡ season); last = h }
 
-pub turns-join : (season : ℕ) (x y z : SectionState) → Turns season x y → Turns season y z → Turns season x z
-turns-join season x y z a b =
+pub turns-join : (season m n : ℕ) (x y z : SectionState) → Turns season m x y → Turns season n y z → Turns season (m + n) x z
+turns-join season m n x y z a b =
     record {
       more = a.more ++ b.more;
+      many = omega (arith, a.many, b.many, length-append a.more b.more);
       turns = b.turns ∙ ap (λ (ts : List PlainStep). ts ++ b.more) a.turns ∙ append_more x.history a.more b.more;
       in_turn = All-append (λ (t : PlainStep). t.season ≡ season) a.more b.more a.in_turn b.in_turn;
       last = b.last ∙ ap (λ (h : Heap). last_heap_of h b.more) a.last ∙ last_both x.meaning.heap a.more b.more;
@@ -66,16 +68,17 @@ is_of_command (DirtyCard card) = true
 is_of_command step = false
 
 -- one plain step
-one_turn : (x y : SectionState) (season : ℕ) → y.history ≡ x.history ++ record { season = season; heap = y.meaning.heap } ∷ [] → Turns season x y
+one_turn : (x y : SectionState) (season : ℕ) → y.history ≡ x.history ++ record { season = season; heap = y.meaning.heap } ∷ [] → Turns season 1 x y
 one_turn x y season e =
     record {
       more = record { season = season; heap = y.meaning.heap } ∷ [];
+      many = refl;
       turns = e;
       in_turn = All-cons (λ (t : PlainStep). t.season ≡ season) (record { season = season; heap = y.meaning.heap }) [] refl (All-nil (λ (t : PlainStep). t.season ≡ season));
       last = refl;
     }
 
-turns_step : (v : View) (step : Step) (n : ℕ) → is_of_command step ≡ true → Turns (season_of v.state) v.own (after step n v).own
+turns_step : (v : View) (step : Step) (n : ℕ) → is_of_command step ≡ true → Turns (season_of v.state) (if stores_plainly step then 1 else 0) v.own (after step n v).own
 turns_step v (ReadOwn c j) n b = turns-none _ _ _ refl refl
 turns_step v (ReadValue c) n b = turns-none _ _ _ refl refl
 turns_step v (ReadIdent c) n b = turns-none _ _ _ refl refl
@@ -99,13 +102,13 @@ season-step v (StoreValue u m) n b = refl
 season-step v (StoreRoot u r) n b = refl
 season-step v step n b = absurd (false≢true b)
 
-turns_all : (season : ℕ) (es : List Entry) (v : View) → season_of v.state ≡ season → all_steps is_of_command es ≡ true → Turns season v.own (after_all es v).own
+turns_all : (season : ℕ) (es : List Entry) (v : View) → season_of v.state ≡ season → all_steps is_of_command es ≡ true → Turns season (plain_steps (steps_of es)) v.own (after_all es v).own
 turns_all season [] v s b = turns-none season v.own v.own refl refl
 turns_all season (e ∷ es) v s b =
     let p = and_parts (is_of_command e.step) (all_steps is_of_command es) b in
     let x = after e.step e.found v in
-    turns-join season v.own x.own (after_all es x).own
-    (subst (λ z. Turns z v.own x.own) s (turns_step v e.step e.found p.0))
+    turns-join season (if stores_plainly e.step then 1 else 0) (plain_steps (steps_of es)) v.own x.own (after_all es x).own
+    (subst (λ z. Turns z (if stores_plainly e.step then 1 else 0) v.own x.own) s (turns_step v e.step e.found p.0))
     (turns_all season es x (ap (λ o. unwrap_or o 0) (season-step v e.step e.found p.0) ∙ s) p.1)
 
 -- the steps of any command are such
@@ -131,7 +134,7 @@ of-command (ops.Sum v i limit) step b = absurd (false≢true b)
 of-command ops.Collect step b = absurd (false≢true b)
 
 -- the plain steps of a call that takes steps of one command alone
-pub turns-of : (op : Op) (v w : View) → Ran v w → Only (belongs op) v w → Turns (season_of v.state) v.own w.own
+pub turns-of : (op : Op) (v w : View) → Ran v w → Only (belongs op) v w → Turns (season_of v.state) (plain_steps (steps_of (events v w))) v.own w.own
 turns-of op v w ran only =
-    subst (λ (x : View). Turns (season_of v.state) v.own x.own) (sym ran.steps)
+    subst (λ (x : View). Turns (season_of v.state) (plain_steps (steps_of (events v w))) v.own x.own) (sym ran.steps)
     (turns_all (season_of v.state) (events v w) v refl (only-more (belongs op) is_of_command (of-command op) v w only))
