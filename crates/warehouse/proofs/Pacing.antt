@@ -23,6 +23,7 @@ use Rattle.gc_cycle.specs.Statistics.{BetweenCycles, ChangesBy, ChangesNumbers, 
 use Rattle.gc_cycle.specs.declared.counts.Refill.{Refill}
 use Rattle.gc_cycle.proofs.Changes.{by-join, by-none, changes-after, numbers-after, numbers-join, numbers-one, only-changes}
 use Rattle.gc_cycle.proofs.Courses.{add-changes}
+use Rattle.gc_cycle.proofs.Unbegun.{calm-unbegun}
 use Rattle.cache_refills.specs.Getting.{RefillsTo}
 use Rattle.cache_refills.specs.Pace.Pacing.{begins_where_due}
 use Rattle.warehouse.specs.Pacing.{Changes, EndsCyclesAlone, LeavesPace, Paces, PacesBetween, by_collection, by_counting, by_refill, by_retiring, by_safe_point}
@@ -59,13 +60,9 @@ paces-none v = paces-calm v v (by-none v) (untried v)
 pub paces-after : (step : Step) (n : ℕ) (v w : View) → leaves_numbers step ≡ true → never tries_marking (event step n ∷ []) ≡ true → Ran v w → w ≡ after step n v → Paces v w
 paces-after step n v w h t ran is = paces-calm v w (changes-after v w step n h ran is) (ap (λ (es : List Entry). never tries_marking es) (events-after v w step n is) ∙ t)
 
-calm_untried : (step : Step) (n : ℕ) → stays_calm step ≡ true → tries_marking step n ≡ false
-calm_untried (StorePhase to) n e = absurd (false≢true e)
-calm_untried step n e = refl
-
 -- the seat goes out, or comes in
 pub paces-out : (v w : View) → GoesOut v w → Only leaves_numbers v w → Paces v w
-paces-out v w o n = paces-calm v w (only-changes v w o.ran n) (never-of stays_calm tries_marking calm_untried (events v w) o.only)
+paces-out v w o n = paces-calm v w (only-changes v w o.ran n) (calm-unbegun v w o.only)
 
 command_numbers : (step : Step) → is_of_command step ≡ true → leaves_numbers step ≡ true
 command_numbers (AddStat which by down) e = absurd (false≢true e)
@@ -96,17 +93,18 @@ paces-retired o v w had only state gives =
 
 -- a safe point is passed
 pub paces-passed :
-    (handed kept : Option Cache) (v w : View) → HasCache handed v → HasCache kept w → some_event polls (events v w) ≡ true → never raises_flag (events v w) ≡ true → GivesUp handed kept v w → Paces v w
-paces-passed handed kept v w had has polled calm gives =
-    one_change v w (by_safe_point (record { handed = handed; kept = kept; had = had; has = has; polled = polled; calm = calm; numbers = gives }))
+    (handed kept : Option Cache) (v w : View) → HasCache handed v → HasCache kept w → some_event polls (events v w) ≡ true → never raises_flag (events v w) ≡ true → GivesUp handed kept v w
+    → never tries_marking (events v w) ≡ true → Paces v w
+paces-passed handed kept v w had has polled calm gives unbegun =
+    one_change v w (by_safe_point (record { handed = handed; kept = kept; had = had; has = has; polled = polled; calm = calm; numbers = gives; unbegun = unbegun }))
 
 -- a cache is asked for
 pub paces-refilled : (r : Refill) (done : ℕ) (v w : View) → RefillsTo r done v w → RefillsNumbers r v w → begins_where_due (events v w) ≡ true → Paces v w
 paces-refilled r done v w refills numbers due = one_change v w (by_refill (record { refill = r; done = done; refills = refills; numbers = numbers; due = due }))
 
 -- a collection is made
-pub paces-collected : (v w : View) → ChangesNumbers [] v w → Paces v w
-paces-collected v w numbers = one_change v w (by_collection numbers)
+pub paces-collected : (v w : View) → ChangesNumbers [] v w → never tries_marking (events v w) ≡ true → Paces v w
+paces-collected v w numbers unbegun = one_change v w (by_collection (record { numbers = numbers; unbegun = unbegun }))
 
 -- a part is counted
 module _ (v w : View) (took : Took (AddStat done_count 1 false) v w) where
@@ -145,7 +143,7 @@ ends-step step n v w h t ran is =
 
 -- the seat waits for the end of another's stop
 pub ends-calm : (v w : View) → Ran v w → Only stays_calm v w → Only leaves_numbers v w → EndsCyclesAlone v w
-ends-calm v w ran calm only = ends-none v w ran only (never-of stays_calm tries_marking calm_untried (events v w) calm)
+ends-calm v w ran calm only = ends-none v w ran only (calm-unbegun v w calm)
 
 -- a cycle ends
 pub ends-cycle : (v w : View) → EndsCycle v w → never tries_marking (events v w) ≡ true → EndsCyclesAlone v w

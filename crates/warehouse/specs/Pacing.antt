@@ -36,6 +36,12 @@ pub record PassesPoint (v w : View) : Type 0 where
   pub polled : IsTrue (some_event polls (events v w))
   pub calm : IsTrue (never raises_flag (events v w))
   pub numbers : GivesUp handed kept v w
+  pub unbegun : IsTrue (never tries_marking (events v w))
+
+-- the numbers were changed by the ends of cycles alone, and no cycle was begun
+pub record EndsCyclesAlone (v w : View) : Type 0 where
+  pub numbers : ChangesNumbers [] v w
+  pub unbegun : IsTrue (never tries_marking (events v w))
 
 -- the seat asked for a cache: its cells were taken off the free ones, what was traced for it was told, and a cycle was begun only where one was due
 pub record Refills (v w : View) : Type 0 where
@@ -50,12 +56,12 @@ pub record CountsOne (v w : View) : Type 0 where
   pub changed : ChangesBy (AddStat done_count 1 false ∷ []) v w
   pub unbegun : IsTrue (never tries_marking (events v w))
 
--- by which call the numbers were changed: by one of these, and in a collection by the ends of cycles alone
+-- by which call the numbers were changed, or a cycle begun: a cycle is begun in a refill where one is due, and in a collection cycles end and none begins
 pub data Changes (v w : View) : Type 0 where
   by_retiring : Retires v w → Changes v w
   by_safe_point : PassesPoint v w → Changes v w
   by_refill : Refills v w → Changes v w
-  by_collection : ChangesNumbers [] v w → Changes v w
+  by_collection : EndsCyclesAlone v w → Changes v w
   by_counting : CountsOne v w → Changes v w
 
 -- the numbers were changed by one such call between the two views of each pair, and at no other time; nor was a cycle begun at another time
@@ -66,8 +72,3 @@ PacesBetween (call ∷ calls) v w = LeavesPace v call.0 × Changes call.0 call.1
 -- the numbers were changed, and cycles begun, by such calls alone
 abbrev pub Paces : View → View → Type 0
 Paces v w = (calls : List (View × View)) × PacesBetween calls v w
-
--- the numbers were changed by the ends of cycles alone, and no cycle was begun
-pub record EndsCyclesAlone (v w : View) : Type 0 where
-  pub numbers : ChangesNumbers [] v w
-  pub unbegun : IsTrue (never tries_marking (events v w))

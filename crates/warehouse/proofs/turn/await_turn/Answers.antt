@@ -34,7 +34,7 @@ returns-then-not-pass_safe_point-clause-full g c =
     let s = c.pass_safe_point.ensures in
     let full = c.if-not-pass_safe_point.ensures.full in
     let has = subst (λ o. HasCache o w) (sym full.2) full.0.cache in
-    let paced = paces-passed c.loop.cache c.pass_safe_point.new.cache v w i.cached has s.polled s.calm s.numbers in
+    let paced = paces-passed c.loop.cache c.pass_safe_point.new.cache v w i.cached has s.polled s.calm s.numbers s.unbegun in
     (finds-after c.args.done u v w i.stays i.waits s.keeps.0 s.keeps.1 (waits-calm v w s.ran s.spares s.calm paced) full.0 full.1, full.2)
 
 pub returns-then-not-pass_safe_point-clause-unfilled : goal.returns-then-not-pass_safe_point-clause-unfilled
@@ -53,7 +53,7 @@ loop-preserved g c =
     let s = c.pass_safe_point.ensures in
     let looks = c.is_turn.ensures.looks in
     let gone = c.go_round.ensures in
-    let paced = paces-passed c.loop.cache c.pass_safe_point.new.cache v w i.cached c.if-not-pass_safe_point.ensures.going.cached s.polled s.calm s.numbers in
+    let paced = paces-passed c.loop.cache c.pass_safe_point.new.cache v w i.cached c.if-not-pass_safe_point.ensures.going.cached s.polled s.calm s.numbers s.unbegun in
     record {
       next = tt;
       finite = tt;
@@ -76,7 +76,7 @@ returns-then-is_turn-clause-ready g c =
     let looks = c.is_turn.ensures.looks in
     ready-after c.args.turn c.pass_safe_point.new.cache u v x i.stays i.waits
     (reads-ready c.args.turn c.pass_safe_point.new.cache v w x (ap (λ (sh : Shape). sh.sharing) i.stays.shape ∙ c.requires.owned) s.ran s.spares s.calm s.keeps.0 s.polled
-    (paces-passed c.loop.cache c.pass_safe_point.new.cache v w i.cached k.cached s.polled s.calm s.numbers) k.goes_on k.cached
+    (paces-passed c.loop.cache c.pass_safe_point.new.cache v w i.cached k.cached s.polled s.calm s.numbers s.unbegun) k.goes_on k.cached
     (counted-kept u v i.stays.still.heap i.stays.made c.requires.counted) (ap (λ o. has_turn o (Some c.args.turn)) (ran-section u v (waits-ran u v i.waits)) ∙ c.requires.turn) looks
     (c.is_turn.ensures.turn c.if-is_turn.true))
 
