@@ -15,7 +15,7 @@ use Rattle.play_end.proofs.Doing.{waiting-stops}
 use Rattle.warehouse.specs.declared.mutator.Mutator.{Mutator}
 use Rattle.gc_play.specs.declared.season.Ended.{Ended}
 use Rattle.gc_play.specs.declared.season.Ended.TheVariants.{Done, First, Later}
-use Rattle.gc_play.specs.Standing.{IsSeated, IsTracerSeat}
+use Rattle.gc_play.specs.Standing.{IsSeated}
 use Rattle.gc_play.specs.Dealing.{StandsAt, WarehouseStopsAt, HaltsAt, seat_number}
 use Rattle.gc_play.specs.declared.crew.Crew.{Crew}
 use Rattle.gc_play.specs.Crews.{AreSaid, CameIn, CatalogueAt, WarehouseEndsAt, HandsOver, IsSeatLeftBy, KnowsEnd, PlayEnds, SaysOfSection, SettlesEnd, SomeKnows, SomeSeatKnows, own_of, seat_in}

@@ -25,11 +25,13 @@ use Rattle.packet_pools.specs.Seeking.{some_event}
 use Rattle.packet_pools.proofs.Searches.{some-left}
 use Rattle.tracer.specs.Moments.{at_some_moment, finds_no_work}
 use Rattle.tracer.specs.Tally.{pops}
-use Rattle.gc_cycle.specs.Sorts.{enters, enters_freely, looks_at_phase}
+use Rattle.gc_cycle.specs.Sorts.{enters, looks_at_phase, tries_marking}
 use Rattle.gc_cycle.specs.Sorts.{reads_phase as sees_phase}
+use Rattle.gc_cycle.specs.Statistics.{numbers_changed}
 use Rattle.gc_cycle.proofs.Searched.{moment-longer, work-longer}
-use Rattle.gc_play.specs.Turns.{Change, LeavesNumbers, changes_of_numbers, payments, Turn, lead, turns_of, record_after, sees_full, enters_full, is_leave, until_leave, seat_traces_on, seat_traces_where_marking, visits, payment, PaysForPops, IsTracerTurn, AreTurns, AllTurns, HasTakenTurns, ReadsNoParts, WaitsOutside, IsOne, IsOneTurn, SeesPhase, TracesInside, IsVisit}
-use Rattle.gc_play.proofs.TurnCuts.{changes-left, changes-none, payments-none, kept-head, quiet-turns, quiet-join, quiet-one, not-true, waits-join, visits-none, pays-none, lead-more, turns-more}
+use Rattle.gc_cycle.proofs.Stops.Admitted.{never-join}
+use Rattle.gc_play.specs.Turns.{LeavesNumbers, payments, Turn, lead, turns_of, record_after, sees_full, enters_full, is_leave, until_leave, seat_traces_on, seat_traces_where_marking, visits, payment, PaysForPops, IsTracerTurn, AreTurns, AllTurns, HasTakenTurns, ReadsNoParts, WaitsOutside, IsOne, IsOneTurn, SeesPhase, TracesInside, IsVisit}
+use Rattle.gc_play.proofs.TurnCuts.{changes-left, payments-none, kept-head, quiet-turns, quiet-join, quiet-one, not-true, waits-join, visits-none, pays-none, lead-more, turns-more}
 
 -- a read of that number, and what it leads to
 turn-of : (sh : Shape) (s : SeatState) (n : ℕ) (rest : List Entry) → ReadsNoParts rest → turns_of sh s (event (ReadStat done_count) n ∷ rest) ≡ record { found = n; state = seat_after sh s (ReadStat done_count) n; rest = rest } ∷ []
@@ -46,7 +48,7 @@ module _ (sh : Shape) (until : ℕ) (s : SeatState) where
         turn = record { found = n; state = seat_after sh s (ReadStat done_count) n; rest = [] };
         first = refl;
         only = refl;
-        is = record { tries = λ low. absurd (omega (arith, high, low)); traces = refl; pays = tt; alone = refl; helps = λ _. record { numbers = refl; unbegun = refl }; ends = sym (or_left (nat_le until n) false (le-leb until n high)) };
+        is = record { tries = λ low. absurd (omega (arith, high, low)); traces = refl; pays = tt; alone = refl; unbegun = refl; ends = sym (or_left (nat_le until n) false (le-leb until n high)) };
       }
 
   -- it found a flag, and waited
@@ -64,8 +66,8 @@ module _ (sh : Shape) (until : ℕ) (s : SeatState) where
               tries = λ _. refl;
               traces = and_from _ _ (or_left _ _ (ap (λ x. not (not x)) flag)) (visits-none sh es _ none);
               pays = (λ free. absurd (true≢false (sym free ∙ ap not flag)), ((λ leave. absurd (false≢true leave)), pays-none es none));
-              alone = changes-none es l.numbers ∙ sym (ap (λ (x : Bool). cond (not x) (payment (count_of pops (until_leave (event LeaveStep b ∷ es)))) [] ++ payments es) flag ∙ payments-none es none);
-              helps = λ _. record { numbers = l.numbers; unbegun = l.unbegun };
+              alone = l.numbers ∙ sym (ap (λ (x : Bool). cond (not x) (payment (count_of pops (until_leave (event LeaveStep b ∷ es)))) [] ++ payments es) flag ∙ payments-none es none);
+              unbegun = l.unbegun;
               ends = sym (or_from (nat_le until n) (enters_full rest) (lt-leb until n left) (and_left (not (has_flag a)) (sees_full es) (not_from_true (has_flag a) flag)));
             };
       }
@@ -75,7 +77,7 @@ module _ (sh : Shape) (until : ℕ) (s : SeatState) where
   one-goes n a full es left free r =
       let rest : List Entry = event EnterStep a ∷ es in
       let none : some_event enters es ≡ false = not-true (some_event enters es) r.waits.outside in
-      let paid : List Change = payment (count_of pops (until_leave es)) in
+      let paid : List Step = payment (count_of pops (until_leave es)) in
       record {
         turn = record { found = n; state = seat_after sh s (ReadStat done_count) n; rest = rest };
         first = refl;
@@ -86,7 +88,7 @@ module _ (sh : Shape) (until : ℕ) (s : SeatState) where
               traces = and_from _ _ (or_right _ _ r.sees) (visits-none sh es _ none);
               pays = (λ _. r.pays, pays-none es none);
               alone = r.alone ∙ sym (ap (λ (x : Bool). cond (not x) paid [] ++ payments es) free ∙ ap (λ l. paid ++ l) (payments-none es none) ∙ append-nil paid);
-              helps = λ h. absurd (true≢false (sym (ap not free) ∙ (or_parts (not (has_flag a)) (some_event enters_freely es) h).0));
+              unbegun = r.unbegun;
               ends = r.ends ∙ sym (ap (λ (b : Bool). b || (not (has_flag a) && sees_full es)) (lt-leb until n left) ∙ ap (λ (b : Bool). not b && sees_full es) free);
             };
       }
@@ -203,8 +205,9 @@ round-of sh p s n m es full e marking other f = ⊎_elim in_marking in_other (is
               (and_from _ _ (or_right (not (sees_phase Marking ReadPhase n)) _ t.traces) (blind-traces sh es (seat_after sh s ReadPhase n) (not-true (some_event looks_at_phase es) t.blind)));
           pays = subst (λ l. PaysForPops (event ReadPhase n ∷ l)) (sym left) (pays-after n es t.pays);
           alone =
-              subst (λ l. changes_of_numbers (es ++ event LeaveStep m ∷ []) ≡ payment (count_of pops (event ReadPhase n ∷ l))) (sym left)
+              subst (λ l. numbers_changed (es ++ event LeaveStep m ∷ []) ≡ payment (count_of pops (event ReadPhase n ∷ l))) (sym left)
               (changes-left es m ∙ pays-after n es t.pays);
+          unbegun = never-join tries_marking es (event LeaveStep m ∷ []) t.unbegun refl;
           waits =
               waits-join (event ReadPhase n ∷ []) (es ++ event LeaveStep m ∷ []) (record { quiet = quiet-one ReadPhase n refl; outside = refl })
               (waits-join es (event LeaveStep m ∷ []) t.waits (record { quiet = quiet-one LeaveStep m refl; outside = refl }));
@@ -218,6 +221,7 @@ round-of sh p s n m es full e marking other f = ⊎_elim in_marking in_other (is
           sees = and_from _ _ (or_left (not (sees_phase Marking ReadPhase n)) _ (ap not (unmarking (phase_of n) (λ k. q (e ∙ k))))) refl;
           pays = refl;
           alone = refl;
+          unbegun = refl;
           waits = record { quiet = refl; outside = refl };
           ends = ends;
         })

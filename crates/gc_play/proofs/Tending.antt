@@ -6,7 +6,7 @@ use Rattle.mark_core.specs.Numbers.{traced_count}
 use Rattle.mark_core.specs.Steps.WorldSteps.{has_nothing}
 use Rattle.mark_core.specs.declared.kinds.Shape.{Shape}
 use Rattle.mark_core.specs.declared.kinds.Step.{Step}
-use Rattle.mark_core.specs.declared.kinds.Step.TheVariants.{AddStat, EnterStep, LeaveStep, ReadPhase, ReadStat}
+use Rattle.mark_core.specs.declared.kinds.Step.TheVariants.{AddStat, EnterStep, LeaveStep, ReadPhase, ReadStat, Reset, StorePhase}
 use Rattle.mark_core.specs.declared.seat.SeatState.{SeatState}
 use Rattle.gc_table.specs.Log.{all_steps, events}
 use Rattle.gc_table.specs.Seats.{view_of}
@@ -21,12 +21,13 @@ use Rattle.packet_pools.specs.Seeking.{some_event}
 use Rattle.packet_pools.proofs.Counting.{count-join}
 use Rattle.tracer.specs.Causes.{FoundNoWork}
 use Rattle.tracer.specs.Tally.{pops}
-use Rattle.gc_cycle.specs.Sorts.{enters, looks_at_phase}
+use Rattle.gc_cycle.specs.Sorts.{enters, looks_at_phase, tries_marking}
+use Rattle.gc_cycle.specs.Statistics.{changing_step, numbers_changed, tells}
 use Rattle.gc_cycle.proofs.Sequences.{none-of-steps, some-none}
 use Rattle.seat_turns.specs.Standing.{GoesMarking}
 use Rattle.seat_turns.specs.Tending.{MarksSome, Tends, tends_inside, turn_quota}
 use Rattle.gc_play.specs.Stays.{SeatStays}
-use Rattle.gc_play.specs.Turns.{TracesInside, WaitsOutside, change_of_number, changes_of_numbers, until_leave, is_leave, leaves_done, payment, seat_traces_on}
+use Rattle.gc_play.specs.Turns.{TracesInside, WaitsOutside, until_leave, is_leave, leaves_done, payment, seat_traces_on}
 use Rattle.gc_play.proofs.Rounds.{traces-more}
 use Rattle.gc_play.proofs.TurnCuts.{quiet-one, quiet-only, waits-join}
 
@@ -74,9 +75,14 @@ tend-done : (step : Step) → tends_inside step ≡ true → leaves_done step �
 tend-done (ReadStat which) e = e
 tend-done step e = refl
 
-tend-changes : (step : Step) → tends_inside step ≡ true → change_of_number step ≡ []
-tend-changes (AddStat which by down) e = absurd (true≢false (sym e))
-tend-changes step e = refl
+tend-changes : (step : Step) (n : ℕ) → tends_inside step ≡ true → changing_step step n ≡ []
+tend-changes (AddStat which by down) n e = absurd (true≢false (sym e))
+tend-changes (Reset which) n e = absurd (true≢false (sym e))
+tend-changes step n e = refl
+
+tend-untried : (step : Step) (n : ℕ) → tends_inside step ≡ true → tries_marking step n ≡ false
+tend-untried (StorePhase to) n e = absurd (true≢false (sym e))
+tend-untried step n e = refl
 
 tend-looks : (step : Step) (n : ℕ) → tends_inside step ≡ true → looks_at_phase step n ≡ false
 tend-looks ReadPhase n e = sym e
@@ -94,11 +100,11 @@ tend-inside (e ∷ es) fs o f =
     ap (λ (b : Bool). cond b [] (e ∷ until_leave (es ++ fs))) (tend-leaves e.step p.0) ∙ ap (λ l. e ∷ l) (tend-inside es fs p.1 f)
 
 -- no number is changed before what comes after such steps
-none-changed : (es fs : List Entry) → all_steps tends_inside es ≡ true → changes_of_numbers (es ++ fs) ≡ changes_of_numbers fs
+none-changed : (es fs : List Entry) → all_steps tends_inside es ≡ true → numbers_changed (es ++ fs) ≡ numbers_changed fs
 none-changed [] fs o = refl
 none-changed (e ∷ es) fs o =
     let p = and_parts (tends_inside e.step) (all_steps tends_inside es) o in
-    ap (λ l. l ++ changes_of_numbers (es ++ fs)) (tend-changes e.step p.0) ∙ none-changed es fs p.1
+    ap (λ l. l ++ numbers_changed (es ++ fs)) (tend-changes e.step e.found p.0) ∙ none-changed es fs p.1
 
 all-done : (es : List Entry) → all_steps tends_inside es ≡ true → all_steps leaves_done es ≡ true
 all-done [] o = refl
@@ -110,9 +116,12 @@ tend-waits es o = record { quiet = quiet-only es (all-done es o); outside = ap n
 tend-blind : (es : List Entry) → all_steps tends_inside es ≡ true → some_event looks_at_phase es ≡ false
 tend-blind es o = none-of-steps tends_inside looks_at_phase tend-looks es o
 
+tend-unbegun : (es : List Entry) → all_steps tends_inside es ≡ true → some_event tries_marking es ≡ false
+tend-unbegun es o = none-of-steps tends_inside tries_marking tend-untried es o
+
 -- what is to be told where something was popped
-payment-some : (n : ℕ) → 0 < n → payment n ≡ (traced_count, n, false) ∷ []
-payment-some n low = ap (λ b. cond b [] ((traced_count, n, false) ∷ [])) (ne_eqb n 0 (λ z. omega (arith, z, low)))
+payment-some : (n : ℕ) → 0 < n → payment n ≡ tells n ∷ []
+payment-some n low = ap (λ b. cond b [] (tells n ∷ [])) (ne_eqb n 0 (λ z. omega (arith, z, low)))
 
 -- nothing was popped
 pub inside-idle : (sh : Shape) (s : SeatState) (n : ℕ) (es : List Entry) → n ≤ 0 → all_steps tends_inside es ≡ true → count_of pops es ≡ n → seat_traces_on sh s es ≡ true → TracesInside sh s es
@@ -121,7 +130,8 @@ inside-idle sh s n es none o count t =
     let zero_is : count_of pops es ≡ 0 = omega (arith, count, none) in
     record {
       traces = t;
-      pays = ap changes_of_numbers (sym nil) ∙ (none-changed es [] o ∙ ap payment (sym zero_is));
+      pays = ap numbers_changed (sym nil) ∙ (none-changed es [] o ∙ ap payment (sym zero_is));
+      unbegun = ap not (tend-unbegun es o);
       stays_in = ap until_leave (sym nil) ∙ (tend-inside es [] o refl ∙ nil);
       blind = ap not (tend-blind es o);
       waits = tend-waits es o;
@@ -135,6 +145,7 @@ inside-counted sh s n m es low o count t =
     record {
       traces = traces-more sh s es last t;
       pays = none-changed es last o ∙ (sym (payment-some n low) ∙ ap payment (sym all));
+      unbegun = ap not (some-none tries_marking es last (tend-unbegun es o) refl);
       stays_in = tend-inside es last o refl;
       blind = ap not (some-none looks_at_phase es last (tend-blind es o) refl);
       waits = waits-join es last (tend-waits es o) (record { quiet = quiet-one (AddStat traced_count n false) m refl; outside = refl });

@@ -5,7 +5,7 @@ use Rattle.std.proofs.lemmas.Bool.{true≢false, and_parts, and_from, or_left, o
 use Rattle.mark_core.specs.Effects.{seat_after}
 use Rattle.mark_core.specs.declared.kinds.Shape.{Shape}
 use Rattle.mark_core.specs.declared.kinds.Step.{Step}
-use Rattle.mark_core.specs.declared.kinds.Step.TheVariants.{AddStat, EnterStep, LeaveStep}
+use Rattle.mark_core.specs.declared.kinds.Step.TheVariants.{EnterStep, LeaveStep}
 use Rattle.mark_core.specs.declared.seat.SeatState.{SeatState}
 use Rattle.gc_table.specs.declared.view.Entry.{Entry}
 use Rattle.gc_table.specs.Log.{all_steps}
@@ -14,9 +14,9 @@ use Rattle.packet_pools.specs.Counts.{count_of}
 use Rattle.packet_pools.specs.Seeking.{some_event}
 use Rattle.tracer.specs.Tally.{pops}
 use Rattle.gc_cycle.specs.Sorts.{enters, enters_freely}
-use Rattle.gc_cycle.specs.Statistics.{leaves_numbers}
+use Rattle.gc_cycle.specs.Statistics.{changing_step, numbers_changed}
 use Rattle.gc_cycle.proofs.Stops.Admitted.{never-join}
-use Rattle.gc_play.specs.Turns.{Turn, leaves_done, is_read_of_done, lead, turns_of, record_after, each_visit, EachPays, ReadsNoParts, WaitsOutside, change_of_number, changes_of_numbers, payment, payments, until_leave}
+use Rattle.gc_play.specs.Turns.{Turn, leaves_done, is_read_of_done, lead, turns_of, record_after, each_visit, EachPays, ReadsNoParts, WaitsOutside, payment, payments, until_leave}
 
 tail : List Entry → List Entry
 tail [] = []
@@ -85,19 +85,9 @@ payments-none (e ∷ es) o =
     let p = or_parts (enters e.step e.found) (some_event enters es) o in
     ap (λ (b : Bool). cond b (payment (count_of pops (until_leave es))) [] ++ payments es) (freely e.step e.found p.0) ∙ payments-none es p.1
 
-unchanging : (step : Step) → leaves_numbers step ≡ true → change_of_number step ≡ []
-unchanging (AddStat which by down) o = absurd (true≢false (sym o))
-unchanging step o = refl
-
--- steps that change no number
-pub changes-none : (es : List Entry) → all_steps leaves_numbers es ≡ true → changes_of_numbers es ≡ []
-changes-none [] o = refl
-changes-none (e ∷ es) o =
-    let p = and_parts (leaves_numbers e.step) (all_steps leaves_numbers es) o in ap (λ l. l ++ changes_of_numbers es) (unchanging e.step p.0) ∙ changes-none es p.1
-
-pub changes-left : (es : List Entry) (n : ℕ) → changes_of_numbers (es ++ event LeaveStep n ∷ []) ≡ changes_of_numbers es
+pub changes-left : (es : List Entry) (n : ℕ) → numbers_changed (es ++ event LeaveStep n ∷ []) ≡ numbers_changed es
 changes-left [] n = refl
-changes-left (e ∷ es) n = ap (λ l. change_of_number e.step ++ l) (changes-left es n)
+changes-left (e ∷ es) n = ap (λ l. changing_step e.step e.found ++ l) (changes-left es n)
 
 pub lead-more : (xs ys : List Entry) → lead ys ≡ [] → lead (xs ++ ys) ≡ lead xs
 lead-more [] ys e = e

@@ -1,6 +1,6 @@
 -- The turns of a tracer, by its events: what comes after each read of the number of parts that were played.
 use Rattle.std.specs.Prelude.{ℕ, ◌≡◌, ◌<◌, ◌==◌, ◌&&◌, ◌||◌, if◌then◌else◌, List, [], ◌∷◌, ◌++◌, not, nat_le, Bool, true, false, Some, IsTrue, IsFalse}
-use Rattle.mark_core.specs.Numbers.{done_count, traced_count}
+use Rattle.mark_core.specs.Numbers.{done_count}
 use Rattle.mark_core.specs.Bits.{has_flag}
 use Rattle.mark_core.specs.Effects.{seat_after}
 use Rattle.mark_core.specs.Seats.{phase_of, saw}
@@ -8,11 +8,10 @@ use Rattle.mark_core.specs.declared.kinds.Phase.{Phase}
 use Rattle.mark_core.specs.declared.kinds.Phase.TheVariants.{Marking, Full}
 use Rattle.mark_core.specs.declared.kinds.Shape.{Shape}
 use Rattle.mark_core.specs.declared.kinds.Step.{Step}
-use Rattle.mark_core.specs.declared.kinds.Step.TheVariants.{ReadPhase, EnterStep, LeaveStep, AddStat, ReadStat}
+use Rattle.mark_core.specs.declared.kinds.Step.TheVariants.{ReadPhase, EnterStep, LeaveStep, ReadStat}
 use Rattle.mark_core.specs.declared.seat.SeatState.{SeatState}
 use Rattle.gc_table.specs.declared.view.Entry.{Entry}
 use Rattle.gc_table.specs.Entries.{event}
-use Rattle.gc_table.specs.Log.{all_steps}
 use Rattle.packet_pools.specs.Counts.{count_of}
 use Rattle.packet_pools.specs.Seeking.{some_event}
 use Rattle.tracer.specs.Moments.{at_some_moment, finds_no_work}
@@ -20,7 +19,7 @@ use Rattle.tracer.specs.Tally.{pops}
 use Rattle.gc_cycle.specs.Events.{never}
 use Rattle.gc_cycle.specs.Sorts.{enters, enters_freely, looks_at_phase, tries_marking}
 use Rattle.gc_cycle.specs.Sorts.{reads_phase as sees_phase}
-use Rattle.gc_cycle.specs.Statistics.{leaves_numbers}
+use Rattle.gc_cycle.specs.Statistics.{numbers_changed, tells}
 
 -- a read of the number of parts that were played
 abbrev pub is_read_of_done : Step → Bool
@@ -108,27 +107,13 @@ each_visit sh s [] = true
 each_visit sh s (e ∷ es) =
     let t = seat_after sh s e.step e.found in (not (enters_freely e.step e.found) || visits sh t (until_leave es)) && each_visit sh t es
 
--- a number of the cycle that was changed, by how much, and whether it was lowered
-abbrev pub Change : Type 0
-Change = ℕ × ℕ × Bool
-
--- the change that a step makes to a number of the cycle, if it makes one
-abbrev pub change_of_number : Step → List Change
-change_of_number (AddStat which by down) = (which, by, down) ∷ []
-change_of_number step = []
-
--- all such changes
-abbrev pub changes_of_numbers : List Entry → List Change
-changes_of_numbers [] = []
-changes_of_numbers (e ∷ es) = change_of_number e.step ++ changes_of_numbers es
-
 -- the number of traced cells is raised by so many
-abbrev pub payment : ℕ → List Change
-payment n = if n == 0 then [] else (traced_count, n, false) ∷ []
+abbrev pub payment : ℕ → List Step
+payment n = if n == 0 then [] else tells n ∷ []
 
--- what was popped was told by one step, and no other number was changed
+-- what was popped was told by one step, and no other number was changed, or set to 0
 abbrev pub PaysForPops : List Entry → Type 0
-PaysForPops es = changes_of_numbers es ≡ payment (count_of pops es)
+PaysForPops es = numbers_changed es ≡ payment (count_of pops es)
 
 -- each time that the seat enters while no stop is under way, what it pops before it leaves is told by one step, and no other number is changed
 abbrev pub EachPays : List Entry → Type 0
@@ -136,26 +121,26 @@ EachPays [] = Unit {0}
 EachPays (e ∷ es) = (IsTrue (enters_freely e.step e.found) → PaysForPops (until_leave es)) × EachPays es
 
 -- what is told of all visits: for each time that the seat enters while no stop is under way, what it pops before it leaves
-abbrev pub payments : List Entry → List Change
+abbrev pub payments : List Entry → List Step
 payments [] = []
 payments (e ∷ es) = (if enters_freely e.step e.found then payment (count_of pops (until_leave es)) else []) ++ payments es
 
--- no number was changed but to tell of visits, whatever the seat popped as a helper
+-- no number was changed or set to 0 but to tell of visits, whatever the seat popped as a helper
 abbrev pub PaysAlone : List Entry → Type 0
-PaysAlone es = changes_of_numbers es ≡ payments es
+PaysAlone es = numbers_changed es ≡ payments es
 
 -- no number was changed or set to 0, and no cycle was begun
 pub record LeavesNumbers (es : List Entry) : Type 0 where
-  pub numbers : IsTrue (all_steps leaves_numbers es)
+  pub numbers : numbers_changed es ≡ []
   pub unbegun : IsTrue (never tries_marking es)
 
--- what a turn does, and whether it is the last: while parts are left to play the seat tries to enter
+-- what a turn does, and whether it is the last: while parts are left to play the seat tries to enter, and it begins no cycle
 pub record IsTracerTurn (sh : Shape) (until : ℕ) (last : Bool) (t : Turn) : Type 0 where
   pub tries : t.found < until → IsTrue (some_event enters t.rest)
   pub traces : IsTrue (each_visit sh t.state t.rest)
   pub pays : EachPays t.rest
   pub alone : PaysAlone t.rest
-  pub helps : IsFalse (some_event enters_freely t.rest) → LeavesNumbers t.rest
+  pub unbegun : IsTrue (never tries_marking t.rest)
   pub ends : last ≡ is_last until t
 
 -- turn t is the last where no turn follows; else it is not, and the rest holds
@@ -211,6 +196,7 @@ pub record IsOneTurn (sh : Shape) (until : ℕ) (last : Bool) (s : SeatState) (e
 pub record TracesInside (sh : Shape) (s : SeatState) (es : List Entry) : Type 0 where
   pub traces : IsTrue (seat_traces_on sh s es)
   pub pays : PaysForPops es
+  pub unbegun : IsTrue (never tries_marking es)
   pub stays_in : until_leave es ≡ es
   pub blind : IsTrue (never looks_at_phase es)
   pub waits : WaitsOutside es
@@ -219,6 +205,7 @@ pub record TracesInside (sh : Shape) (s : SeatState) (es : List Entry) : Type 0 
 pub record IsVisit (sh : Shape) (full : Bool) (s : SeatState) (es : List Entry) : Type 0 where
   pub sees : IsTrue (visits sh s (until_leave es))
   pub pays : PaysForPops (until_leave es)
-  pub alone : changes_of_numbers es ≡ payment (count_of pops (until_leave es))
+  pub alone : numbers_changed es ≡ payment (count_of pops (until_leave es))
+  pub unbegun : IsTrue (never tries_marking es)
   pub waits : WaitsOutside es
   pub ends : full ≡ sees_full es

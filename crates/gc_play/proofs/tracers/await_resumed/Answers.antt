@@ -1,15 +1,14 @@
-use Rattle.std.proofs.Common.{ℕ, ◌≡◌, refl, sym, ap, ◌∙◌, not, true, false}
-use Rattle.std.proofs.lemmas.Bool.{true≢false}
+use Rattle.std.proofs.Common.{◌≡◌, refl, sym, ap, ◌∙◌, not, true}
 use Rattle.mark_core.specs.declared.kinds.Step.{Step}
-use Rattle.mark_core.specs.declared.kinds.Step.TheVariants.{ReadStat, StorePhase}
+use Rattle.mark_core.specs.declared.kinds.Step.TheVariants.{ReadStat}
 use Rattle.gc_table.specs.Seats.{view_of}
 use Rattle.gc_table.specs.Log.{events}
 use Rattle.gc_table.specs.declared.view.View.{View}
 use Rattle.gc_table.proofs.History.Log.{only-more}
 use Rattle.gc_table.proofs.Running.{ran-plan, ran-shape}
 use Rattle.gc_cycle.specs.Mutating.{stays_calm}
-use Rattle.gc_cycle.specs.Sorts.{tries_marking}
-use Rattle.gc_cycle.proofs.Sequences.{none-of-steps}
+use Rattle.gc_cycle.proofs.Changes.{only-changes}
+use Rattle.gc_cycle.proofs.Unbegun.{calm-unbegun}
 use Rattle.gc_play.specs.Turns.{leaves_done}
 use Rattle.gc_play.proofs.TurnCuts.{quiet-only}
 use Rattle.gc_play.proofs.Outside.{never-enters}
@@ -37,15 +36,10 @@ calm-leaves : (step : Step) → stays_calm step ≡ true → leaves_done step �
 calm-leaves (ReadStat which) e = e
 calm-leaves step e = refl
 
--- nor does it begin a cycle
-calm-untried : (step : Step) (n : ℕ) → stays_calm step ≡ true → tries_marking step n ≡ false
-calm-untried (StorePhase to) n e = absurd (true≢false (sym e))
-calm-untried step n e = refl
-
 pub returns-clause-numbers : goal.returns-clause-numbers
 returns-clause-numbers g c =
     let e = c.await_resumed_helping.ensures in
-    record { numbers = e.numbers; unbegun = ap not (none-of-steps stays_calm tries_marking calm-untried (events (view_of c.args.seat.now) (view_of c.await_resumed_helping.new.seat)) e.only) }
+    record { numbers = (only-changes (view_of c.args.seat.now) (view_of c.await_resumed_helping.new.seat) e.ran e.numbers).all; unbegun = calm-unbegun (view_of c.args.seat.now) (view_of c.await_resumed_helping.new.seat) e.only }
 
 pub returns-clause-waits : goal.returns-clause-waits
 returns-clause-waits g c =
