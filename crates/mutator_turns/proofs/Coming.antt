@@ -18,7 +18,7 @@ use Rattle.alloc_cache.specs.Caching.{IsCached}
 use Rattle.gc_cycle.specs.Answering.{HasCache}
 use Rattle.gc_cycle.specs.Cycles.{never_fills}
 use Rattle.gc_cycle.specs.Events.{never}
-use Rattle.gc_cycle.specs.Sorts.{moves_to, polls, raises_flag}
+use Rattle.gc_cycle.specs.Sorts.{moves_to, polls, raises_flag, tries_marking}
 use Rattle.gc_cycle.specs.Statistics.{GivesUp}
 use Rattle.gc_cycle.specs.declared.counts.Refill.{Refill}
 use Rattle.gc_cycle.specs.declared.counts.Refill.TheVariants as refills
@@ -30,14 +30,15 @@ use Rattle.mutator_turns.specs.Halting.{HaltsFull}
 use Rattle.mutator_turns.specs.declared.refused.Refused.{Refused}
 use Rattle.mutator_turns.specs.declared.refused.Refused.TheVariants as refusals
 
--- no flag was raised, the heap wasn't said to be full, and a number changed only where the cache was given up
+-- no flag was raised, no cycle begun, the heap wasn't said to be full, and a number changed only where the cache was given up
 pub record Calm (handed kept : Option Cache) (v w : View) : Type 0 where
   pub calm : never raises_flag (events v w) ≡ true
   pub not_full : never_fills (events v w) ≡ true
+  pub unbegun : never tries_marking (events v w) ≡ true
   pub numbers : GivesUp handed kept v w
 
 pub calm-none : (o : Option Cache) (v : View) → Calm o o v v
-calm-none o v = record { calm = ap (never raises_flag) (events-none v); not_full = ap never_fills (events-none v); numbers = keeps-up o v v (by-none v) }
+calm-none o v = record { calm = ap (never raises_flag) (events-none v); not_full = ap never_fills (events-none v); unbegun = ap (never tries_marking) (events-none v); numbers = keeps-up o v v (by-none v) }
 
 pub calm-join : (a b c : Option Cache) (u v w : View) → Calm a b u v → Calm b c v w → Calm a c u w
 calm-join a b c u v w x y =
@@ -45,6 +46,7 @@ calm-join a b c u v w x y =
     record {
       calm = ap (never raises_flag) all ∙ never-both raises_flag (events u v) (events v w) x.calm y.calm;
       not_full = ap never_fills all ∙ never-both (moves_to Full) (events u v) (events v w) x.not_full y.not_full;
+      unbegun = ap (never tries_marking) all ∙ never-both tries_marking (events u v) (events v w) x.unbegun y.unbegun;
       numbers = gives-join a b c u v w x.numbers y.numbers;
     }
 
@@ -57,14 +59,15 @@ calm-looked o v w looks = ⊎_elim (λ (same : w ≡ v). subst (Calm o o v) (sym
         record {
           calm = ap (never raises_flag) one;
           not_full = ap never_fills one;
+          unbegun = ap (never tries_marking) one;
           numbers = keeps-up o v w (changes-after v w ReadSeason n refl (ran-found v w ReadSeason n refl found) found.0);
         }
 
 pub polls-calm : (a b : Option Cache) (v w : View) → Polls a b v w → Calm a b v w
-polls-calm a b v w p = record { calm = p.calm; not_full = p.not_full; numbers = p.numbers }
+polls-calm a b v w p = record { calm = p.calm; not_full = p.not_full; unbegun = p.unbegun; numbers = p.numbers }
 
 polls-by : (a b : Option Cache) (v w : View) → Calm a b v w → some_event polls (events v w) ≡ true → Polls a b v w
-polls-by a b v w k p = record { polled = p; calm = k.calm; not_full = k.not_full; numbers = k.numbers }
+polls-by a b v w k p = record { polled = p; calm = k.calm; not_full = k.not_full; unbegun = k.unbegun; numbers = k.numbers }
 
 -- with what came before, and with what came after
 pub polls-after : (a b c : Option Cache) (u v w : View) → Calm a b u v → Polls b c v w → Polls a c u w

@@ -12,9 +12,9 @@ use Rattle.alloc_cache.specs.declared.cache.Cache.{Cache}
 use Rattle.gc_cycle.specs.Answering.{CollectsTo, HasCache, retires}
 use Rattle.gc_cycle.specs.Cycles.{fills_with_cause, never_fills}
 use Rattle.gc_cycle.specs.Events.{never}
-use Rattle.gc_cycle.specs.Mutating.{HasEntered}
+use Rattle.gc_cycle.specs.Mutating.{HasEntered, pops_in_stops}
 use Rattle.gc_cycle.specs.Polling.{offered_help}
-use Rattle.gc_cycle.specs.Sorts.{polls, raises_flag}
+use Rattle.gc_cycle.specs.Sorts.{polls, raises_flag, tries_marking}
 use Rattle.gc_cycle.specs.Sparing.{fills_part}
 use Rattle.gc_cycle.specs.Statistics.{ChangesNumbers, GivesUp, RefillsNumbers, leaves_numbers}
 use Rattle.gc_cycle.specs.Turns.{HelpsInTurns}
@@ -26,7 +26,8 @@ use Rattle.gc_cycle.specs.declared.counts.Safe.TheVariants as safes
 use Rattle.cache_refills.specs.Getting.{RefillsTo}
 use Rattle.cache_refills.specs.InStops.{FillsTo, begins_none}
 use Rattle.cache_refills.specs.Pace.Pacing.{begins_where_due}
-use Rattle.cache_refills.specs.Stops.{stops_again_with_cause, stops_with_cause}
+use Rattle.cache_refills.specs.Pace.Paying.{pops_where_paid}
+use Rattle.cache_refills.specs.Stops.{cycles_with_cause, stops_again_with_cause, stops_collect, stops_in_visit, stops_with_cause}
 use Rattle.mutator_ops.specs.Listing.{creating_steps}
 use Rattle.mutator_turns.specs.Standing.{LacksFree}
 use Rattle.mutator_turns.specs.Sharing.{LeavesHeap}
@@ -50,30 +51,40 @@ pub record GivesCache (handed : Option Cache) (v w : View) : Type 0 where
   pub only : Only retires v w
   pub numbers : GivesUp handed None v w
 
--- safe points: the seat polled, raised no flag, didn't say that the heap is full, and changed a number only where it gave up its cache
+-- safe points: the seat polled, raised no flag, began no cycle, didn't say that the heap is full, and changed a number only where it gave up its cache
 pub record Polls (handed kept : Option Cache) (v w : View) : Type 0 where
   pub polled : IsTrue (some_event polls (events v w))
   pub calm : IsTrue (never raises_flag (events v w))
   pub not_full : IsTrue (never_fills (events v w))
+  pub unbegun : IsTrue (never tries_marking (events v w))
   pub numbers : GivesUp handed kept v w
 
--- a refill answered so: what was paid, the cause of each stop, of a second one, of finding the heap full and of beginning a cycle, and the numbers
+-- a refill answered so: what was paid and popped, the cause of each stop, in this visit, of a second one, of a second cycle, of finding the heap full and of
+-- beginning a cycle, that each stop collects, and the numbers
 pub record RefillsBeside (sh : Shape) (r : Refill) (v w : View) : Type 0 where
   pub ran : Ran v w
   pub refills : RefillsTo r v.state.made v w
   pub stops : IsTrue (stops_with_cause sh (events v w))
+  pub visit : IsTrue (stops_in_visit sh (events v w))
   pub again : IsTrue (stops_again_with_cause sh (events v w))
+  pub collects : IsTrue (stops_collect (events v w))
+  pub cycles : IsTrue (cycles_with_cause sh (events v w))
+  pub pops : IsTrue (pops_where_paid (events v w))
   pub fills : IsTrue (fills_with_cause sh (events v w))
   pub due : IsTrue (begins_where_due (events v w))
   pub only : Only fills_part v w
   pub numbers : RefillsNumbers r v w
 
--- a refill of a mutator that collects in stops alone answered so: it began no cycle, and paid nothing
+-- a refill of a mutator that collects in stops alone answered so: it began no cycle, paid nothing, and popped cells in stops alone
 pub record RefillsInStops (sh : Shape) (r : Refill) (v w : View) : Type 0 where
   pub ran : Ran v w
   pub fills : FillsTo r v.state.made v w
   pub stops : IsTrue (stops_with_cause sh (events v w))
+  pub visit : IsTrue (stops_in_visit sh (events v w))
   pub again : IsTrue (stops_again_with_cause sh (events v w))
+  pub collects : IsTrue (stops_collect (events v w))
+  pub cycles : IsTrue (cycles_with_cause sh (events v w))
+  pub pops : IsTrue (pops_in_stops (events v w))
   pub full : IsTrue (fills_with_cause sh (events v w))
   pub unbegun : IsTrue (begins_none (events v w))
   pub only : Only fills_part v w
@@ -159,12 +170,14 @@ pub record LeavesTurn (v w : View) : Type 0 where
   pub gives : WithOwn GivesCache v given
   pub leaves : StepsOut given w
 
--- a precise collection answered so: it stopped the world once at most, and changed no number but those that its cycle set
+-- a precise collection answered so: it stopped the world once at most, began no cycle that marks beside the program, and changed no number but those that its
+-- cycle set
 pub record CollectsOnce (safe : Safe) (v w : View) : Type 0 where
   pub ran : Ran v w
   pub collects : CollectsTo safe v.state.made v w
   pub once : count_of raises_flag (events v w) ≤ 1
   pub not_full : IsTrue (never_fills (events v w))
+  pub unbegun : IsTrue (never tries_marking (events v w))
   pub numbers : ChangesNumbers [] v w
 
 -- the seat gave up its cache, collected, and came to its turn by safe points

@@ -32,7 +32,11 @@ returns-in-Cache-clause-refilled g c =
         ran = r.ran;
         fills = subst (λ (n : ℕ). FillsTo (refills.Cache c.in-Cache.cache c.in-Cache._paid) n (view_of c.args.seat.now) (view_of c.refill_in_stops.new.seat)) made r.fills;
         stops = r.stops;
+        visit = r.visit;
         again = r.again;
+        collects = r.collects;
+        cycles = r.cycles;
+        pops = r.pops;
         full = r.full;
         unbegun = r.unbegun;
         only = r.only;
@@ -44,4 +48,4 @@ pub returns-in-Full-clause-full : goal.returns-in-Full-clause-full
 returns-in-Full-clause-full g c =
     let r = c.in-Full.ensures in
     let made : c.state.result.now.made ≡ (view_of c.args.seat.now).state.made = ap (λ (s : SeatState). s.made) c.state.ensures in
-    record { ran = r.ran; fills = subst (λ (n : ℕ). FillsTo refills.Full n (view_of c.args.seat.now) (view_of c.refill_in_stops.new.seat)) made r.fills; stops = r.stops; again = r.again; full = r.full; unbegun = r.unbegun; only = r.only; numbers = r.numbers }
+    record { ran = r.ran; fills = subst (λ (n : ℕ). FillsTo refills.Full n (view_of c.args.seat.now) (view_of c.refill_in_stops.new.seat)) made r.fills; stops = r.stops; visit = r.visit; again = r.again; collects = r.collects; cycles = r.cycles; pops = r.pops; full = r.full; unbegun = r.unbegun; only = r.only; numbers = r.numbers }

@@ -76,7 +76,7 @@ loop-preserved g c =
           (leaves-join (view_of x) (view_of y) (view_of z) (leaves-spared (view_of x) (view_of y) s.ran s.spares s.keeps.0) (leaves-looked (view_of y) (view_of z) t.looks));
       quiet =
           calm-join c.args.cache c.loop.cache c.in-Going.kept (view_of c.args.seat.now) (view_of x) (view_of z) c.loop.invariant.quiet
-          (calm-join c.loop.cache c.in-Going.kept c.in-Going.kept (view_of x) (view_of y) (view_of z) (record { calm = s.calm; not_full = s.not_full; numbers = c.in-Going.ensures.numbers }) (calm-looked c.in-Going.kept (view_of y) (view_of z) t.looks));
+          (calm-join c.loop.cache c.in-Going.kept c.in-Going.kept (view_of x) (view_of y) (view_of z) (record { calm = s.calm; not_full = s.not_full; unbegun = s.unbegun; numbers = c.in-Going.ensures.numbers }) (calm-looked c.in-Going.kept (view_of y) (view_of z) t.looks));
     }
 
 pub returns-in-Full-clause-leaves : goal.returns-in-Full-clause-leaves
@@ -99,7 +99,7 @@ pub returns-in-Full-clause-full : goal.returns-in-Full-clause-full
 returns-in-Full-clause-full g c =
     let s = c.safe_point.ensures in
     polls-after c.args.cache c.loop.cache None (view_of c.args.seat.now) (view_of c.loop.seat) (view_of c.safe_point.new.seat) c.loop.invariant.quiet
-    (record { polled = s.polled; calm = s.calm; not_full = s.not_full; numbers = c.in-Full.ensures.numbers })
+    (record { polled = s.polled; calm = s.calm; not_full = s.not_full; unbegun = s.unbegun; numbers = c.in-Full.ensures.numbers })
 
 pub returns-then-is_turn-clause-polls : goal.returns-then-is_turn-clause-polls
 returns-then-is_turn-clause-polls g c =
@@ -108,5 +108,5 @@ returns-then-is_turn-clause-polls g c =
     let z = view_of c.is_turn.new.seat in
     let s = c.safe_point.ensures in
     let kept = c.in-Going.kept in
-    let here : Polls c.loop.cache kept x y = record { polled = s.polled; calm = s.calm; not_full = s.not_full; numbers = c.in-Going.ensures.numbers } in
+    let here : Polls c.loop.cache kept x y = record { polled = s.polled; calm = s.calm; not_full = s.not_full; unbegun = s.unbegun; numbers = c.in-Going.ensures.numbers } in
     polls-after c.args.cache c.loop.cache kept (view_of c.args.seat.now) x z c.loop.invariant.quiet (polls-before c.loop.cache kept kept x y z here (calm-looked kept y z c.is_turn.ensures.looks))
