@@ -1,9 +1,2 @@
-mod Answered
 mod Beginning
-mod Found
-mod Rounds
-mod SinceAsked
-mod Stages
-mod Tried
 mod Turning
-mod Visiting

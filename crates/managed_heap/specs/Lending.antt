@@ -1,19 +1,17 @@
 -- What a world has, and what is so when it is opened and closed.
 use Rattle.std.specs.Prelude.{ℕ, ◌≡◌, ◌+◌, ◌<◌, ◌++◌, [], ◌∷◌, false, List, replicate, Bool, vec_len}
 use Rattle.std.specs.Arc.{arc_value}
-use Rattle.mark_core.specs.Numbers.{done_count, free_count, last_count, section_variables}
+use Rattle.mark_core.specs.Numbers.{free_count, last_count, section_variables}
 use Rattle.mark_core.specs.declared.kinds.Shape.{Shape}
-use Rattle.mark_core.specs.declared.kinds.Step.TheVariants.{AddStat, LeaveStep, ReadStat, StorePosition}
+use Rattle.mark_core.specs.declared.kinds.Step.TheVariants.{ReadStat}
 use Rattle.plain_heap.specs.declared.object.Ref.TheVariants.{Nil}
-use Rattle.gc_table.specs.Log.{event, events}
 use Rattle.gc_table.specs.SeatRecords.{At, resting}
-use Rattle.gc_table.specs.Seats.{Found, Took}
+use Rattle.gc_table.specs.Seats.{Found}
 use Rattle.gc_table.specs.declared.seat.Heap.{Heap}
 use Rattle.gc_table.specs.declared.view.View.{View}
-use Rattle.mutator_turns.specs.Coming.{GoesIn}
 use Rattle.managed_heap.specs.Calls.{MutatorLeft, heap_of}
 use Rattle.managed_heap.specs.Opening.{AreNumbered, IsNewSeat}
-use Rattle.managed_heap.specs.declared.background.Tracer.{Tracer}
+use Rattle.seat_steps.specs.declared.background.Tracer.{Tracer}
 use Rattle.managed_heap.specs.declared.mutator.Mutator.{Mutator}
 use Rattle.managed_heap.specs.declared.mutator.Place.TheVariants.{Outside}
 use Rattle.managed_heap.specs.declared.sizes.Sizes.{Sizes}
@@ -74,15 +72,6 @@ pub record IsBack (m : Mutator) (x y : World) : Type 0 where
   pub left : Mutator
   pub has_left : MutatorLeft m left
   pub items : y.mutators.items ≡ x.mutators.items ++ left ∷ []
-
--- the seat went in, raised the number of dismissals by one, and left
-pub record DismissesInside (v w : View) : Type 0 where
-  pub entered : View
-  pub enters : GoesIn v entered
-  pub told : View
-  pub tells : Took (AddStat done_count 1 false) entered told
-  pub left : ℕ
-  pub leaves : events told w ≡ event (StorePosition 0) 0 ∷ event LeaveStep left ∷ []
 
 -- the number of free cells was read, and then the number of those that the last cycle marked
 pub record ReadsStatistics (s : Statistics) (h : Heap) (v w : View) : Type 0 where

@@ -1,15 +1,4 @@
-pub mod Asked
-pub mod Asking
-pub mod Bounds
 pub mod Calls
-pub mod Causes
-pub mod Collecting
-pub mod Course
 pub mod Lending
 pub mod Opening
 pub mod Sizing
-pub mod Stepping
-pub mod Steps
-pub mod Tracing
-pub mod Trying
-pub mod Waiting

@@ -9,13 +9,13 @@ ghost use Rattle.managed_heap.specs.Sizing.{Fits};
 ghost use Rattle.mutator_turns.specs.Standing.{RestsOutside};
 ghost use Rattle.mutator_turns.specs.declared.refused.NotOpened.TheVariants.{OutOfMemory};
 
-use crate::background::Tracer;
 use crate::mutator::{Mutator, Place};
 use crate::opening::{next_seat, open, open_turn};
 use crate::sizes::Sizes;
 use crate::world::World;
 use gc_table::{Heap, HeapSeat};
 use mutator_turns::NotOpened;
+use seat_steps::Tracer;
 use std::alloc::{AllocError, Global};
 use std::sync::Arc;
 
@@ -51,12 +51,7 @@ fn tracer_of(
     requires seat { IsNewSeat (arc_value heap.now) _k seat }
     ensures fresh { IfOk result (IsFreshTracer (arc_value heap.now) name _k) }
 {
-    Ok(Tracer {
-        heap: Arc::try_clone(heap)?,
-        seat,
-        name,
-        traced: 0,
-    })
+    Ok(Tracer::of_seat(Arc::try_clone(heap)?, seat, name))
 }
 
 /// Deals so many seats out to mutators, one after the other.

@@ -1,41 +1,25 @@
 //! A world is opened and closed, and lends its mutators and tracers.
-ghost use Rattle.std.specs.Prelude.{◌≡◌, ◌<◌, ◌++◌, [], ◌∷◌, IfErr, IfNone, IfOk, IfSome, IsTrue, OnOk, is_some, vec_len};
+ghost use Rattle.std.specs.Prelude.{◌≡◌, ◌<◌, ◌++◌, [], ◌∷◌, IfErr, IfNone, IfOk, IfSome, OnOk, vec_len};
 ghost use Rattle.std.specs.Bool.{OnFalse, OnTrue};
 ghost use Rattle.std.specs.Arc.{arc_value};
 ghost use Rattle.mark_core.specs.Numbers.{named_number};
 ghost use Rattle.mark_core.specs.declared.kinds.Step.TheVariants.{ReadStat};
 ghost use Rattle.gc_table.specs.Seats.{Across, Found, state_of, view_of};
 ghost use Rattle.managed_heap.specs.Calls.{MutatorLeft};
-ghost use Rattle.managed_heap.specs.Lending.{AreAllBack, DismissesInside, HasAllStill, ReadsStatistics, IsBack, IsOpened, KeepsRest};
+ghost use Rattle.managed_heap.specs.Lending.{AreAllBack, HasAllStill, ReadsStatistics, IsBack, IsOpened, KeepsRest};
 ghost use Rattle.managed_heap.specs.Sizing.{Fits};
 ghost use Rattle.mutator_turns.specs.Standing.{RestsOutside};
 ghost use Rattle.mutator_turns.specs.declared.refused.NotOpened.TheVariants.{OutOfRange};
 
-use crate::background::Tracer;
 use crate::dealing::open_fitting;
 use crate::mutator::Mutator;
 use crate::sizes::Sizes;
 use crate::world::{Statistics, World};
-use gc_cycle::{go_in, go_out};
 use gc_table::{Heap, HeapSeat};
-use mark_core::{DONE, FREE, LAST, NAMED_SECTION};
+use mark_core::{FREE, LAST, NAMED_SECTION};
 use mutator_turns::NotOpened;
+use seat_steps::Tracer;
 use std::alloc::Global;
-use std::sync::Wait;
-
-/// Tells the tracers that they are dismissed: the count of played parts, of which these worlds have no other use, is raised.
-fn tell_dismissed<R: Wait>(rt: &R, heap: &Heap, seat: &mut HeapSeat)
-    requires rests { RestsOutside heap.now seat.old }
-    requires section { IsTrue (is_some (state_of seat.old).section) }
-    ensures rests { RestsOutside heap.now seat.new }
-    ensures section { IsTrue (is_some (state_of seat.new).section) }
-    ensures dismisses { Across DismissesInside seat.old seat.new }
-{
-    go_in(rt, heap, seat);
-    heap.add_stat(seat, DONE, 1, false);
-    go_out(heap, seat, 0);
-    heap.wake_resting();
-}
 
 /// Reads the numbers of the heap.
 fn read_statistics(heap: &Heap, seat: &mut HeapSeat) -> Statistics
@@ -130,21 +114,13 @@ impl World {
         ensures kept { IfErr result (λ _. self.new.tracers.items ≡ self.old.tracers.items) }
         ensures rest { KeepsRest self.old self.new × (self.new.mutators ≡ self.old.mutators) }
     {
-        if tracer.name != self.sizes.name || self.tracers.len() >= self.sizes.tracers as usize {
+        if tracer.name() != self.sizes.name || self.tracers.len() >= self.sizes.tracers as usize {
             return Err(tracer);
         }
         match self.tracers.push(tracer) {
             Ok(()) => Ok(()),
             Err(failed) => Err(failed.value),
         }
-    }
-
-    /// Tells the tracers that they are dismissed: each that runs ends, also one that sleeps, and each later turn answers so.
-    pub fn dismiss_tracers<R: Wait>(&mut self, rt: &R)
-        ensures dismisses { Across DismissesInside self.old.zero self.new.zero }
-        ensures rest { HasAllStill self.old self.new }
-    {
-        tell_dismissed(rt, &self.heap, &mut self.zero);
     }
 
     /// Numbers of the heap. Where others act on it meanwhile, each is of another moment.

@@ -37,37 +37,26 @@
 //! # Where things are
 //!
 //! `sizes` has the sizes, `world` the heap with those of its mutators and tracers that nobody has, `lending` how they are
-//! taken and given back, `mutator` and `background` the types, `calls` what a mutator does, and `reading` what it reads. Below them `opening` makes a heap, and
-//! `marking` is a tracer's turn. What a mutator does with its seat is in `mutator_turns`, and so is why a call did nothing.
-//! `stepper` is a mutator that doesn't wait, `stepping`, `asking` and `steps` are its calls and its collection, over `tries` and `collecting`.
-//! `try_turns` is a tracer's turn that doesn't wait, and `dismissing` ends the tracers that take such turns.
+//! taken and given back, `mutator` the type, `calls` what a mutator does, and `reading` what it reads. Below them `opening` makes a heap, and `dealing` deals its
+//! seats out. What a mutator does with its seat is in `mutator_turns`, and so is why a call did nothing.
+//! A mutator that doesn't wait, and a tracer, are in `seat_steps`; `handing` turns a mutator into such a one and back, and `dismissing` ends the tracers.
 #![tactic(auto)]
 
-mod asking;
-mod background;
 mod calls;
-mod collecting;
 mod dealing;
 mod dismissing;
+mod handing;
 mod lending;
-mod marking;
 mod mutator;
 mod opening;
 mod reading;
 mod sizes;
-mod stepper;
-mod stepping;
-mod steps;
-mod tries;
-mod try_turns;
 mod world;
 
-pub use background::{Tracer, Turn};
 pub use cache_refills::Watch;
 pub use gc_cycle::{Counts, Paid};
 pub use mutator::Mutator;
 pub use mutator_turns::{NotOpened, Refused};
+pub use seat_steps::{Came, Stage, Stepper, Tracer, TryTurn, Turn};
 pub use sizes::Sizes;
-pub use stepper::{Came, Stage, Stepper};
-pub use try_turns::TryTurn;
 pub use world::{Statistics, World};

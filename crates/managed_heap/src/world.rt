@@ -4,10 +4,10 @@ ghost use Rattle.std.specs.Prelude.{IsTrue, is_some};
 ghost use Rattle.gc_table.specs.Seats.{state_of};
 ghost use Rattle.mutator_turns.specs.Standing.{RestsOutside};
 
-use crate::background::Tracer;
 use crate::mutator::Mutator;
 use crate::sizes::Sizes;
 use gc_table::{Heap, HeapSeat};
+use seat_steps::Tracer;
 use std::alloc::Global;
 use std::sync::Arc;
 

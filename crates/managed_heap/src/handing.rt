@@ -1,0 +1,49 @@
+//! A mutator in steps, for a thread that may not wait, and back.
+ghost use Rattle.std.specs.Arc.{arc_value};
+ghost use Rattle.std.specs.Prelude.{◌≡◌, ◌⊎◌, IfErr, IfOk, IsFalse, IsTrue};
+ghost use Rattle.managed_heap.specs.Calls.{heap_of};
+ghost use Rattle.managed_heap.specs.declared.mutator.Place.TheVariants as places;
+ghost use Rattle.seat_steps.specs.Stepping.{heap_of_stepper, is_collecting, shares};
+ghost use Rattle.seat_steps.specs.declared.stepper.Stage.TheVariants as stages;
+
+use crate::mutator::{Mutator, Place};
+use seat_steps::{RestingSeat, Stepper};
+
+impl Mutator {
+    /// The mutator in steps, for a thread that may not wait. It is outside the world.
+    pub fn into_steps(self) -> Stepper
+        ensures outside { result.stage ≡ stages.Outside }
+        ensures same { heap_of_stepper result ≡ heap_of self }
+        ensures world { (arc_value result.heap ≡ arc_value self.heap) × (result.name ≡ self.name) }
+        ensures owned { IsFalse (shares result) }
+    {
+        let mut mutator = self;
+        mutator.leave();
+        Stepper::of_resting(RestingSeat {
+            heap: mutator.heap,
+            seat: mutator.seat,
+            name: mutator.name,
+            in_stops: mutator.in_stops,
+        })
+    }
+
+    /// The mutator that a stepper was, outside the world. While it collects it is handed back, and where its world shares objects.
+    pub fn of_steps(stepper: Stepper) -> Result<Mutator, Stepper>
+        ensures ok { IfOk result (λ m. (m.place ≡ places.Outside) × (heap_of m ≡ heap_of_stepper stepper) × (arc_value m.heap ≡ arc_value stepper.heap) × (m.name ≡ stepper.name)) }
+        ensures err { IfErr result (λ s. (IsTrue (is_collecting stepper.stage) ⊎ IsTrue (shares stepper)) × (s ≡ stepper)) }
+    {
+        if stepper.shares() {
+            return Err(stepper);
+        }
+        match stepper.into_resting() {
+            Err(stepper) => Err(stepper),
+            Ok(resting) => Ok(Mutator {
+                heap: resting.heap,
+                seat: resting.seat,
+                place: Place::Outside,
+                name: resting.name,
+                in_stops: resting.in_stops,
+            }),
+        }
+    }
+}

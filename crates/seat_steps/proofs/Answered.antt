@@ -1,0 +1,44 @@
+-- What a stepper's call answers, by where the stepper was.
+use Rattle.std.proofs.Common.{◌≡◌, refl, sym, subst, true}
+use Rattle.gc_table.specs.Seats.{Across, view_of}
+use Rattle.gc_table.specs.declared.seat.Heap.{Heap}
+use Rattle.mutator_turns.proofs.Leaving.{leaves-none}
+use Rattle.seat_steps.specs.Causes.{EntersBy, EntersFreely, PassesBy}
+use Rattle.seat_steps.specs.Stepping.{Arrives, Entered, EntersFrom, KeepsAll, Passed, is_collecting}
+use Rattle.seat_steps.specs.declared.stepper.Came.{Came}
+use Rattle.seat_steps.specs.declared.stepper.Came.TheVariants as cames
+use Rattle.seat_steps.specs.declared.stepper.Stage.{Stage}
+use Rattle.seat_steps.specs.declared.stepper.Stage.TheVariants as stages
+use Rattle.seat_steps.specs.declared.stepper.Stepper.{Stepper}
+
+keeps-same : (x : Stepper) → KeepsAll x x
+keeps-same x = record { heap = refl; leaves = leaves-none (view_of x.seat); world = refl; name_is = refl }
+
+-- who is neither outside nor inside collects
+pub collects-now : (stage : Stage) → (stage ≡ stages.Outside → ⊥) → (stage ≡ stages.Inside → ⊥) → is_collecting stage ≡ true
+collects-now stages.Outside out in_world = absurd (out refl)
+collects-now stages.Inside out in_world = absurd (in_world refl)
+collects-now stage out in_world = refl
+
+-- entering
+enters-inside : (x : Stepper) → x.stage ≡ stages.Inside → EntersFrom x.stage x x
+enters-inside x e = subst (λ (a : Stage). EntersFrom a x x) (sym e) refl
+
+pub enters-same : (x y : Stepper) → x.stage ≡ stages.Inside → y ≡ x → Entered cames.Done x y
+enters-same x y e same = subst (λ (z : Stepper). Entered cames.Done x z) (sym same) (enters-inside x e, e, keeps-same x)
+
+pub enters-outside : (x y : Stepper) → x.stage ≡ stages.Outside → Across EntersFreely x.seat y.seat → EntersFrom x.stage x y
+enters-outside x y e p = subst (λ (a : Stage). EntersFrom a x y) (sym e) p
+
+pub enters-out : (came : Came) (h : Heap) (x y : Stepper) → (came ≡ cames.Done → ⊥) → Arrives came h y.seat → Across (EntersBy came) x.seat y.seat → x.stage ≡ stages.Outside → y.stage ≡ stages.Outside → KeepsAll x y → Entered came x y
+enters-out cames.Done h x y other a p e f k = absurd (other refl)
+enters-out cames.Stopped h x y other a p e f k = (p, e, f, k)
+enters-out cames.Full h x y other a p e f k = (a.1, e, f, k)
+enters-out came h x y other a p e f k = absurd a
+
+-- a safe point after which it is outside
+pub passes-out : (came : Came) (h : Heap) (x y : Stepper) → (came ≡ cames.Done → ⊥) → Arrives came h y.seat → Across (PassesBy came) x.seat y.seat → x.stage ≡ stages.Inside → y.stage ≡ stages.Outside → KeepsAll x y → Passed came x y
+passes-out cames.Done h x y other a p e f k = absurd (other refl)
+passes-out cames.Stopped h x y other a p e f k = (p, e, f, k)
+passes-out cames.Full h x y other a p e f k = (a.1, e, f, k)
+passes-out came h x y other a p e f k = absurd a

@@ -1,0 +1,52 @@
+-- How many steps the calls of a mutator take.
+use Rattle.std.proofs.Common.{ℕ, suc, zero, ◌≤◌, ◌+◌, [], ◌∷◌, length, arith, refl, Bool, true, false}
+use Rattle.std.specs.Prelude.{◌≡◌, if◌then◌else◌}
+use Rattle.std.proofs.lemmas.List.{length-append}
+use Rattle.mark_core.specs.Seats.{used_in}
+use Rattle.mark_core.specs.declared.kinds.Step.{Step}
+use Rattle.mark_core.specs.declared.kinds.Step.TheVariants.{StoreSlot}
+use Rattle.mark_core.specs.declared.seat.SeatState.{SeatState}
+use Rattle.card_clean.specs.Barrier.{cell_in, dirtied_after}
+use Rattle.gc_table.specs.Seats.{Found}
+use Rattle.gc_table.specs.declared.view.Entry.{Entry}
+use Rattle.gc_table.specs.declared.view.View.{View}
+use Rattle.mutator_ops.specs.Few.{AtMost}
+use Rattle.mutator_ops.specs.Sharing.{FillsFound, TakesSteps}
+use Rattle.mutator_ops.proofs.Few.{at-most-after, at-most-events, at-most-steps}
+use Rattle.mutator_turns.specs.Clearing.{clearing_steps}
+use Rattle.mutator_turns.specs.Exchanging.{ExchangesField, ExchangesValue}
+
+-- one card at most
+card_long : (b : Bool) (x : Entry) → length (if b then [] else x ∷ []) ≤ 1
+card_long true x = omega arith
+card_long false x = omega arith
+
+won_long : (b : Bool) (s : SeatState) (u : ℕ) → length (if b then dirtied_after s u else []) ≤ 1
+won_long true s u = card_long (used_in s.cache (cell_in s u)) _
+won_long false s u = omega arith
+
+pub exchanged-few : (u i x y : ℕ) (won : Bool) (v w : View) → ExchangesField u i x y won v w → AtMost 2 v w
+exchanged-few u i x y won v w e = at-most-events 2 v w _ e.exchanged.did_are (let card = won_long won v.state u in omega (arith, card))
+
+pub exchanged-one : (u m n : ℕ) (won : Bool) (v w : View) → ExchangesValue u m n won v w → AtMost 1 v w
+exchanged-one u m n won v w e = at-most-after v w _ e.found e.finds.0
+
+pub found-one : (step : Step) (n : ℕ) (v w : View) → Found step n v w → AtMost 1 v w
+found-one step n v w e = at-most-after v w step n e.0
+
+pub filled-few : (u k : ℕ) (v w : View) → FillsFound u k v w → AtMost 2 v w
+filled-few u k v w e = at-most-events 2 v w _ e.events_are (omega arith)
+
+pub took-one : (step : Step) (v w : View) → TakesSteps (step ∷ []) v w → AtMost 1 v w
+took-one step v w e = at-most-steps 1 v w (step ∷ []) e.steps_are (omega arith)
+
+-- a step for each slot
+clearing_long : (from n : ℕ) → length (clearing_steps from n) ≡ n
+clearing_long from zero = refl
+clearing_long from (suc n) =
+    let rest = clearing_long from n in
+    let both = length-append (clearing_steps from n) (StoreSlot (from + n) 0 ∷ []) in
+    omega (arith, rest, both)
+
+pub cleared-few : (from n : ℕ) (v w : View) → TakesSteps (clearing_steps from n) v w → AtMost n v w
+cleared-few from n v w e = at-most-steps n v w (clearing_steps from n) e.steps_are (let long = clearing_long from n in omega (arith, long))

@@ -1,0 +1,13 @@
+use Rattle.gc_table.specs.Seats.{view_of}
+use Rattle.seat_steps.proofs.Visiting.{marks-none, marks-some}
+use Rattle.seat_steps.proofs.Tallying.{tallies-none}
+use Rattle.seat_steps.proofs.marking.mark_in.Goals as goal
+
+pub returns-in-Marking-clause-marks : goal.returns-in-Marking-clause-marks
+returns-in-Marking-clause-marks c = marks-some c.args.phase (view_of c.args.seat.now) (view_of c.mark.new.seat) c.in-Marking.is c.mark.ensures.marks
+
+pub returns-in_default-clause-marks : goal.returns-in_default-clause-marks
+returns-in_default-clause-marks c = marks-none c.args.phase (view_of c.args.seat.now) c.in_default.not-Marking
+
+pub returns-in_default-clause-tally : goal.returns-in_default-clause-tally
+returns-in_default-clause-tally c = tallies-none c.args.tally.now (view_of c.args.seat.now)

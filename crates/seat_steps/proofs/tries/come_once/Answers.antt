@@ -1,0 +1,35 @@
+use Rattle.mutator_turns.proofs.Leaving.{leaves-join}
+use Rattle.std.proofs.Common.{◌∙◌}
+use Rattle.std.proofs.lemmas.Result.{IfOk-weaker}
+use Rattle.gc_table.specs.Seats.{view_of}
+use Rattle.gc_table.specs.declared.view.View.{View}
+use Rattle.gc_table.proofs.Running.{ran-join}
+use Rattle.seat_steps.proofs.Found.{arrives-makes, comes-filled, comes-free, err-both, makes-later, turn-known}
+use Rattle.seat_steps.proofs.tries.come_once.Goals as goal
+
+pub returns-in-Err-clause-found : goal.returns-in-Err-clause-found
+returns-in-Err-clause-found c = arrives-makes c.in-Err.came c.args.heap.now c.point.new.seat (view_of c.args.seat.now) (view_of c.point.new.seat) c.in-Err.ensures.err c.in-Err.ensures.found
+
+pub returns-in-Ok-with_free-clause-freely : goal.returns-in-Ok-with_free-clause-freely
+returns-in-Ok-with_free-clause-freely c = comes-free (view_of c.args.seat.now) (view_of c.point.new.seat) (turn-known (view_of c.args.seat.now).state.section (view_of c.args.seat.now).state.season_seen c.requires.turn.turn) c.in-Ok.ensures.freely.1
+
+pub returns-in-Err-with_free-clause-ran : goal.returns-in-Err-with_free-clause-ran
+returns-in-Err-with_free-clause-ran c = ran-join (view_of c.args.seat.now) (view_of c.point.new.seat) (view_of c.fill.new.seat) c.point.ensures.ran c.fill.ensures.ran
+
+pub returns-in-Err-with_free-clause-freely : goal.returns-in-Err-with_free-clause-freely
+returns-in-Err-with_free-clause-freely c =
+    let u : View = view_of c.args.seat.now in
+    let v : View = view_of c.point.new.seat in
+    let w : View = view_of c.fill.new.seat in
+    let e = c.in-Err-with_free.ensures in
+    let l = c.in-Ok.ensures.freely in
+    IfOk-weaker c.fill.result _ _ (λ free p. comes-filled c.cache_of-cache.result c.in-Err-with_free.none u v w c.point.ensures.ran c.fill.ensures.ran l.1 c.cache_of-cache.ensures.some c.cache_of-cache.ensures.none (e.err ∙ l.0) e.lacks) c.fill.ensures.ok
+
+pub returns-in-Err-with_free-clause-found : goal.returns-in-Err-with_free-clause-found
+returns-in-Err-with_free-clause-found c =
+    let v : View = view_of c.point.new.seat in
+    let w : View = view_of c.fill.new.seat in
+    err-both c.fill.result _ _ _ (λ came l m. makes-later came c.args.heap.now c.fill.new.seat (view_of c.args.seat.now) v w c.point.ensures.ran c.fill.ensures.ran l m) c.fill.ensures.err c.fill.ensures.found
+
+pub returns-in-Err-with_free-clause-leaves : goal.returns-in-Err-with_free-clause-leaves
+returns-in-Err-with_free-clause-leaves c = leaves-join (view_of c.args.seat.now) (view_of c.point.new.seat) (view_of c.fill.new.seat) c.point.ensures.leaves c.fill.ensures.leaves

@@ -1,0 +1,20 @@
+-- When a stepper is told of its variables, and why it isn't.
+use Rattle.std.specs.Prelude.{◌≡◌, IsTrue}
+use Rattle.plain_heap.specs.PlainStep.{IsInRange}
+use Rattle.plain_heap.specs.declared.operation.Op.{Op}
+use Rattle.seat_steps.specs.Stepping.{is_collecting, fields_in}
+use Rattle.seat_steps.specs.declared.stepper.Came.{Came}
+use Rattle.seat_steps.specs.declared.stepper.Came.TheVariants as cames
+use Rattle.seat_steps.specs.declared.stepper.Stage.TheVariants.{Inside, Outside}
+use Rattle.seat_steps.specs.declared.stepper.Stepper.{Stepper}
+
+-- the variables of the operation are in range, and the stepper is inside
+abbrev pub MayAsk : Op → Stepper → Type 0
+MayAsk op x = IsInRange (fields_in x) op × (x.stage ≡ Inside)
+
+-- why it isn't told
+abbrev pub DeclinesToTell : Came → Op → Stepper → Type 0
+DeclinesToTell cames.OutOfRange op x = IsInRange (fields_in x) op → ⊥
+DeclinesToTell cames.Outside op x = x.stage ≡ Outside
+DeclinesToTell cames.Collecting op x = IsTrue (is_collecting x.stage)
+DeclinesToTell c op x = ⊥

@@ -1,0 +1,30 @@
+-- How a stepper is made of a resting seat, and comes apart into one.
+use Rattle.std.specs.Prelude.{◌≡◌, IsTrue}
+use Rattle.std.specs.Arc.{arc_value}
+use Rattle.gc_table.specs.Seats.{Across}
+use Rattle.mutator_turns.specs.Sharing.{LeavesHeap}
+use Rattle.mutator_turns.specs.Standing.{plain_of}
+use Rattle.seat_steps.specs.Stepping.{heap_of_stepper, is_collecting}
+use Rattle.seat_steps.specs.declared.resting.RestingSeat.{RestingSeat}
+use Rattle.seat_steps.specs.declared.stepper.Stage.TheVariants.{Outside}
+use Rattle.seat_steps.specs.declared.stepper.Stepper.{Stepper}
+
+-- the stepper is this seat's, outside the world
+pub record IsSteppedBy (r : RestingSeat) (s : Stepper) : Type 0 where
+  pub outside : s.stage ≡ Outside
+  pub seat : s.seat ≡ r.seat
+  pub heap : s.heap ≡ r.heap
+  pub name_is : s.name ≡ r.name
+  pub stops : s.in_stops ≡ r.in_stops
+
+-- the seat is this stepper's, which has left: neither the objects nor the variables changed
+pub record HasStopped (s : Stepper) (r : RestingSeat) : Type 0 where
+  pub objects : plain_of r.seat ≡ heap_of_stepper s
+  pub leaves : Across LeavesHeap s.seat r.seat
+  pub heap : r.heap ≡ s.heap
+  pub name_is : r.name ≡ s.name
+  pub stops : r.in_stops ≡ s.in_stops
+
+-- the stepper collects, and is as it was
+abbrev pub IsHandedBack : Stepper → Stepper → Type 0
+IsHandedBack s t = IsTrue (is_collecting s.stage) × (t ≡ s)

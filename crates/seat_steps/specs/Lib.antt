@@ -1,0 +1,15 @@
+pub mod Acting
+pub mod Asked
+pub mod Asking
+pub mod Bounds
+pub mod Causes
+pub mod Collecting
+pub mod Course
+pub mod Doing
+pub mod Handing
+pub mod Stepping
+pub mod Steps
+pub mod Tallying
+pub mod Tracing
+pub mod Trying
+pub mod Waiting

@@ -1,0 +1,182 @@
+-- What a mutator is told that doesn't wait.
+use Rattle.std.specs.Prelude.{ℕ, ◌≡◌, ◌≤◌, ◌<◌, length, Bool, true, false, Option, Some, None, IsTrue}
+use Rattle.std.specs.Arc.{arc_value}
+use Rattle.std.specs.Int.Count.{ones}
+use Rattle.mark_core.specs.Numbers.{section_variables}
+use Rattle.plain_heap.specs.PlainHeap.{Heap as PlainHeap}
+use Rattle.plain_heap.specs.PlainStep.{IsInRange}
+use Rattle.plain_heap.specs.declared.operation.Op.{Op}
+use Rattle.plain_heap.specs.declared.operation.Op.TheVariants as ops
+use Rattle.gc_table.specs.PlainSteps.{HasSeenPhase}
+use Rattle.gc_table.specs.Rule.{KnowsFull}
+use Rattle.gc_table.specs.Seats.{Across, view_of}
+use Rattle.alloc_cache.specs.Caching.{IsCached}
+use Rattle.alloc_cache.specs.declared.cache.Cache.{Cache}
+use Rattle.gc_cycle.specs.Answering.{HasCache}
+use Rattle.gc_cycle.specs.declared.counts.Refill.{Refill}
+use Rattle.gc_cycle.specs.declared.counts.Refill.TheVariants as refills
+use Rattle.cache_refills.specs.declared.trying.Pass.{Pass}
+use Rattle.cache_refills.specs.declared.trying.Pass.TheVariants as passes
+use Rattle.gc_table.specs.declared.seat.Heap.{Heap}
+use Rattle.gc_table.specs.declared.seat.HeapSeat.{HeapSeat}
+use Rattle.mutator_ops.specs.Few.{AtMost, most_steps}
+use Rattle.mutator_turns.specs.Sharing.{LeavesHeap}
+use Rattle.mutator_turns.specs.Standing.{Halts, IsAtTurn, IsMutatorOutside, Works, plain_of}
+use Rattle.seat_steps.specs.Doing.{Does, FindsNone, FindsSome}
+use Rattle.seat_steps.specs.Causes.{EntersFreely, FoundNoCell, FoundStop, MakesFreely, PassesFreely}
+use Rattle.seat_steps.specs.declared.stepper.Came.{Came}
+use Rattle.seat_steps.specs.declared.stepper.Came.TheVariants as cames
+use Rattle.seat_steps.specs.declared.stepper.Stage.{Stage}
+use Rattle.seat_steps.specs.declared.stepper.Stage.TheVariants.{Inside, Outside}
+use Rattle.seat_steps.specs.declared.stepper.Stepper.{Stepper}
+
+-- where a seat is that tried to enter
+abbrev pub Tries : Pass → Heap → HeapSeat → Type 0
+Tries passes.Going h s = Halts h s
+Tries passes.Full h s = Halts h s × KnowsFull (view_of s)
+Tries passes.Out h s = IsMutatorOutside h s
+
+-- where it is after a safe point, with the cache that it has then
+abbrev pub Passes : Pass → Heap → HeapSeat → Option Cache → Type 0
+Passes passes.Going h s kept = Works h s × HasCache kept (view_of s) × HasSeenPhase (view_of s).state
+Passes passes.Full h s kept = Halts h s × KnowsFull (view_of s) × (kept ≡ None)
+Passes passes.Out h s kept = IsMutatorOutside h s × (kept ≡ None)
+
+-- where it is that asked for a cache
+abbrev pub Refills : Refill → Heap → HeapSeat → Type 0
+Refills (refills.Cache free paid) h s = Works h s × IsCached free (view_of s) × (0 < ones free.cells)
+Refills refills.Full h s = Halts h s × KnowsFull (view_of s)
+
+-- where it is that left instead of what it was to do
+abbrev pub LeavesWorld : Came → Heap → HeapSeat → Type 0
+LeavesWorld cames.Stopped h s = IsMutatorOutside h s
+LeavesWorld cames.Full h s = IsMutatorOutside h s × KnowsFull (view_of s)
+LeavesWorld c h s = ⊥
+
+-- where it is that tried to come to its turn
+abbrev pub Arrives : Came → Heap → HeapSeat → Type 0
+Arrives cames.Done h s = IsAtTurn h s
+Arrives cames.Stopped h s = IsMutatorOutside h s
+Arrives cames.Full h s = IsMutatorOutside h s × KnowsFull (view_of s)
+Arrives c h s = ⊥
+
+-- where it is that has come to no cell
+abbrev pub LacksCell : Came → Heap → HeapSeat → Type 0
+LacksCell cames.NoCell h s = IsAtTurn h s
+LacksCell cames.Stopped h s = IsMutatorOutside h s
+LacksCell cames.Full h s = IsMutatorOutside h s × KnowsFull (view_of s)
+LacksCell c h s = ⊥
+
+-- what making an object came to, where the section may make one
+abbrev pub MakesOne : Came → Op → Heap → HeapSeat → HeapSeat → Type 0
+MakesOne cames.Done op h x y = IsAtTurn h y × Does op h x y
+MakesOne c op h x y = LacksCell c h y × (plain_of y ≡ plain_of x)
+
+-- the plain heap of a stepper
+abbrev pub heap_of_stepper : Stepper → PlainHeap
+heap_of_stepper m = plain_of m.seat
+
+-- how many references an object has
+abbrev pub fields_in : Stepper → ℕ
+fields_in m = (arc_value m.heap).shape.fields
+
+-- the mutators of its world share their objects
+abbrev pub shares : Stepper → Bool
+shares m = (arc_value m.heap).shape.sharing
+
+-- the stepper is between two steps of a collection of its own
+abbrev pub is_collecting : Stage → Bool
+is_collecting Inside = false
+is_collecting Outside = false
+is_collecting stage = true
+
+-- neither the objects nor the variables changed, no step was taken that a plain heap sees, and the stepper is of the same world
+pub record KeepsAll (x y : Stepper) : Type 0 where
+  pub heap : heap_of_stepper y ≡ heap_of_stepper x
+  pub leaves : Across LeavesHeap x.seat y.seat
+  pub world : arc_value y.heap ≡ arc_value x.heap
+  pub name_is : y.name ≡ x.name
+
+-- one operation was done by a stepper inside the world, and nothing else
+pub record StepperDoes (op : Op) (x y : Stepper) : Type 0 where
+  pub range : IsInRange (fields_in x) op
+  pub was : x.stage ≡ Inside
+  pub inside : y.stage ≡ Inside
+  pub does : Does op (arc_value x.heap) x.seat y.seat
+  pub world : arc_value y.heap ≡ arc_value x.heap
+  pub name_is : y.name ≡ x.name
+
+-- the call took so many steps at most as the operation may
+abbrev pub TakesFew : Op → Stepper → Stepper → Type 0
+TakesFew op x y = Across (AtMost (most_steps (fields_in x) op)) x.seat y.seat
+
+-- what an operation came to: it was done, or the stepper is as it was
+abbrev pub Operates : Came → Op → Stepper → Stepper → Type 0
+Operates cames.Done op x y = StepperDoes op x y × TakesFew op x y
+Operates cames.OutOfRange op x y = (IsInRange (fields_in x) op → ⊥) × (y ≡ x)
+Operates cames.Outside op x y = (x.stage ≡ Outside) × (y ≡ x)
+Operates cames.Collecting op x y = IsTrue (is_collecting x.stage) × (y ≡ x)
+Operates c op x y = ⊥
+
+-- what making an object came to: besides, no cell was free, or the stepper is spent, or it left, as a stop is under way or the heap is full
+abbrev pub StepperMakes : Came → Op → Stepper → Stepper → Type 0
+StepperMakes cames.Done op x y = StepperDoes op x y × Across MakesFreely x.seat y.seat
+StepperMakes cames.OutOfRange op x y = (IsInRange (fields_in x) op → ⊥) × (y ≡ x)
+StepperMakes cames.Outside op x y = (x.stage ≡ Outside) × (y ≡ x)
+StepperMakes cames.Collecting op x y = IsTrue (is_collecting x.stage) × (y ≡ x)
+StepperMakes cames.NoCell op x y = Across FoundNoCell x.seat y.seat × (x.stage ≡ Inside) × (y.stage ≡ Inside) × KeepsAll x y
+StepperMakes cames.Spent op x y = ((arc_value x.heap).shape.objects ≤ length (heap_of_stepper x).objects) × (x.stage ≡ Inside) × (y ≡ x)
+StepperMakes cames.Stopped op x y = Across FoundStop x.seat y.seat × (x.stage ≡ Inside) × (y.stage ≡ Outside) × KeepsAll x y
+StepperMakes cames.Full op x y = KnowsFull (view_of y.seat) × (x.stage ≡ Inside) × (y.stage ≡ Outside) × KeepsAll x y
+StepperMakes c op x y = ⊥
+
+-- what entering did, by where the stepper was
+abbrev pub EntersFrom : Stage → Stepper → Stepper → Type 0
+EntersFrom Inside x y = y ≡ x
+EntersFrom Outside x y = Across EntersFreely x.seat y.seat
+EntersFrom stage x y = ⊥
+
+-- what entering came to
+abbrev pub Entered : Came → Stepper → Stepper → Type 0
+Entered cames.Done x y = EntersFrom x.stage x y × (y.stage ≡ Inside) × KeepsAll x y
+Entered cames.Stopped x y = Across FoundStop x.seat y.seat × (x.stage ≡ Outside) × (y.stage ≡ Outside) × KeepsAll x y
+Entered cames.Full x y = KnowsFull (view_of y.seat) × (x.stage ≡ Outside) × (y.stage ≡ Outside) × KeepsAll x y
+Entered cames.Collecting x y = IsTrue (is_collecting x.stage) × (y ≡ x)
+Entered c x y = ⊥
+
+-- what leaving did, by where the stepper was
+abbrev pub LeavesFrom : Stage → Stepper → Stepper → Type 0
+LeavesFrom Inside x y = Across LeavesHeap x.seat y.seat
+LeavesFrom Outside x y = y ≡ x
+LeavesFrom stage x y = ⊥
+
+-- what leaving came to
+abbrev pub Left : Came → Stepper → Stepper → Type 0
+Left cames.Done x y = LeavesFrom x.stage x y × (y.stage ≡ Outside) × KeepsAll x y
+Left cames.Collecting x y = IsTrue (is_collecting x.stage) × (y ≡ x)
+Left c x y = ⊥
+
+-- what a safe point came to
+abbrev pub Passed : Came → Stepper → Stepper → Type 0
+Passed cames.Done x y = Across PassesFreely x.seat y.seat × (x.stage ≡ Inside) × (y.stage ≡ Inside) × KeepsAll x y
+Passed cames.Stopped x y = Across FoundStop x.seat y.seat × (x.stage ≡ Inside) × (y.stage ≡ Outside) × KeepsAll x y
+Passed cames.Outside x y = (x.stage ≡ Outside) × (y ≡ x)
+Passed cames.Full x y = KnowsFull (view_of y.seat) × (x.stage ≡ Inside) × (y.stage ≡ Outside) × KeepsAll x y
+Passed cames.Collecting x y = IsTrue (is_collecting x.stage) × (y ≡ x)
+Passed c x y = ⊥
+
+-- the stepper was inside the world and is, and it is the same world
+pub record StaysInside (x y : Stepper) : Type 0 where
+  pub was : x.stage ≡ Inside
+  pub inside : y.stage ≡ Inside
+  pub world : arc_value y.heap ≡ arc_value x.heap
+  pub name_is : y.name ≡ x.name
+
+-- what reading a value came to: it was read, or what is to hold it is as it was
+abbrev pub ReadsValue : Came → ℕ → Stepper → Stepper → ℕ → ℕ → Type 0
+ReadsValue cames.Done v x y before after = FindsSome v after (arc_value x.heap) x.seat y.seat × TakesFew (ops.Say v) x y × (v < section_variables) × StaysInside x y
+ReadsValue cames.Nil v x y before after = FindsNone v (arc_value x.heap) x.seat y.seat × TakesFew (ops.Say v) x y × (v < section_variables) × StaysInside x y × (after ≡ before)
+ReadsValue cames.OutOfRange v x y before after = (v < section_variables → ⊥) × (y ≡ x) × (after ≡ before)
+ReadsValue cames.Outside v x y before after = (x.stage ≡ Outside) × (y ≡ x) × (after ≡ before)
+ReadsValue cames.Collecting v x y before after = IsTrue (is_collecting x.stage) × (y ≡ x) × (after ≡ before)
+ReadsValue c v x y before after = ⊥

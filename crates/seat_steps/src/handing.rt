@@ -1,0 +1,65 @@
+//! A stepper is made of a resting seat, and comes apart into one.
+ghost use Rattle.std.specs.Prelude.{◌≡◌, IfErr, IfOk};
+ghost use Rattle.seat_steps.specs.Handing.{HasStopped, IsHandedBack, IsSteppedBy};
+ghost use Rattle.seat_steps.specs.Stepping.{shares as is_shared};
+
+use crate::resting::RestingSeat;
+use crate::stepper::{Stage, Stepper};
+use mutator_turns::leave_turn;
+
+impl Stepper {
+    /// A stepper with this seat. It is outside the world.
+    pub fn of_resting(resting: RestingSeat) -> Stepper
+        ensures stepped { IsSteppedBy resting result }
+    {
+        Stepper {
+            heap: resting.heap,
+            seat: resting.seat,
+            stage: Stage::Outside,
+            name: resting.name,
+            in_stops: resting.in_stops,
+            again: false,
+            freed: 0,
+        }
+    }
+
+    /// Its seat, which leaves the world first. While it collects it is handed back.
+    pub fn into_resting(self) -> Result<RestingSeat, Stepper>
+        ensures ok { IfOk result (λ r. HasStopped self r) }
+        ensures err { IfErr result (λ s. IsHandedBack self s) }
+    {
+        match self.stage {
+            Stage::Outside => Ok(RestingSeat {
+                heap: self.heap,
+                seat: self.seat,
+                name: self.name,
+                in_stops: self.in_stops,
+            }),
+            Stage::Inside => {
+                let mut seat = self.seat;
+                leave_turn(&self.heap, &mut seat);
+                Ok(RestingSeat {
+                    heap: self.heap,
+                    seat,
+                    name: self.name,
+                    in_stops: self.in_stops,
+                })
+            }
+            _ => Err(self),
+        }
+    }
+
+    /// Whether the mutators of its world share their objects.
+    pub fn shares(&self) -> bool
+        ensures shares { result ≡ is_shared self.now }
+    {
+        self.heap.shape().sharing
+    }
+
+    /// The name of the world that lends it.
+    pub fn name(&self) -> u32
+        ensures name { result ≡ self.now.name }
+    {
+        self.name
+    }
+}

@@ -1,0 +1,21 @@
+//! A mutator's seat outside the world, with what goes along with it: a mutator that waits and a stepper are made of it, and come apart into it.
+ghost use Rattle.std.specs.Arc.{arc_value};
+ghost use Rattle.mutator_turns.specs.Standing.{IsMutatorOutside};
+
+use gc_table::{Heap, HeapSeat};
+use std::alloc::Global;
+use std::sync::Arc;
+
+/// A mutator's seat, which is outside the world.
+#[derive(Drop)]
+pub struct RestingSeat {
+    /// The world's heap.
+    pub heap: Arc<Heap, Global>,
+    /// The seat of its section.
+    pub seat: HeapSeat,
+    /// The name of the world that lends it.
+    pub name: u32,
+    /// Whether it collects in stops alone, where it waits.
+    pub in_stops: bool,
+    ghost outside: { IsMutatorOutside (arc_value heap) seat },
+}

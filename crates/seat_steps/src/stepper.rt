@@ -1,0 +1,91 @@
+//! A mutator in the hand of one thread that doesn't wait.
+ghost use Rattle.std.specs.Arc.{arc_value};
+ghost use Rattle.std.specs.Prelude.{◌≡◌};
+ghost use Rattle.gc_table.specs.Seats.{view_of};
+ghost use Rattle.seat_steps.specs.Asked.{MarksSinceAsked, SweepsSinceAsked, WaitsSinceAsked};
+ghost use Rattle.seat_steps.specs.Collecting.{AsksStop, SitsAtDrain, SitsSweptAll, SitsAtRoots, SitsAtSweep};
+ghost use Rattle.mutator_turns.specs.Standing.{IsAtTurn, IsMutatorOutside};
+ghost use Rattle.seat_steps.specs.declared.stepper.Stage.TheVariants as stages;
+
+use gc_table::{Heap, HeapSeat};
+use std::alloc::Global;
+use std::sync::Arc;
+
+/// Where a stepper stands.
+#[derive(Clone, Copy, Debug, PartialEq, Eq, Drop)]
+pub enum Stage {
+    /// Outside the world: a stop doesn't wait for it.
+    Outside,
+    /// In the world, at its turn.
+    Inside,
+    /// It asked for a stop, to collect.
+    Stopping,
+    /// It collects, and sees to the roots.
+    Rooting,
+    /// It collects, and drains.
+    Draining,
+    /// It collects, and sweeps.
+    Sweeping,
+    /// It collects, and has swept all blocks.
+    Ending,
+}
+
+/// What a call of a stepper came to. Where it isn't `Done`, objects and variables are as before.
+#[derive(Clone, Copy, Debug, PartialEq, Eq, Drop)]
+pub enum Came {
+    /// It is done.
+    Done,
+    /// A collection of its own is under way: it is to take the next step.
+    NotYet,
+    /// A stop of another is under way: the stepper is outside now.
+    Stopped,
+    /// No cell is free, or marking is done: a collection is called for.
+    NoCell,
+    /// The stepper is outside the world: it is to enter first.
+    Outside,
+    /// The stepper is between two steps of a collection.
+    Collecting,
+    /// A variable is not below 32, or a field not below the world's number of fields.
+    OutOfRange,
+    /// The variable refers to no object.
+    Nil,
+    /// The reachable objects fill all cells, for good. The stepper is outside the world.
+    Full,
+    /// The stepper has made 4,294,967,295 objects, which are all that have numbers.
+    Spent,
+    /// The world's mutators don't share their objects: there is no root, no exchange and no slot.
+    NotShared,
+}
+
+/// What a mutator is for a thread that may not wait, in a world whose mutators share their objects and in one where each has its own: no call takes the
+/// runtime's handle. What may take long is done in steps, between which the caller does as it likes. Before it is let go it is to leave: a stop waits for each
+/// that is inside, and while it collects the world stands still.
+#[derive(Drop)]
+pub struct Stepper {
+    /// The world's heap.
+    pub(crate) heap: Arc<Heap, Global>,
+    /// The seat of its section, which has its variables and objects.
+    pub(crate) seat: HeapSeat,
+    /// Where it is: outside, at its turn, or between two steps of a collection.
+    pub(crate) stage: Stage,
+    /// The name of the world that lends it.
+    pub(crate) name: u32,
+    /// Whether the mutator that it was collects in stops alone.
+    pub(crate) in_stops: bool,
+    /// The collection is to mark once more, from the roots alone, since a cycle was marking when it began.
+    pub(crate) again: bool,
+    /// How many cells its sweep has freed, at most 4,294,967,295.
+    pub(crate) freed: u32,
+    ghost outside: { stage ≡ stages.Outside → IsMutatorOutside (arc_value heap) seat },
+    ghost inside: { stage ≡ stages.Inside → IsAtTurn (arc_value heap) seat },
+    ghost stopping: { stage ≡ stages.Stopping → AsksStop (arc_value heap) seat },
+    ghost rooting: { stage ≡ stages.Rooting → SitsAtRoots (arc_value heap) seat },
+    ghost draining: { stage ≡ stages.Draining → SitsAtDrain (arc_value heap) seat },
+    ghost sweeping: { stage ≡ stages.Sweeping → SitsAtSweep (arc_value heap) seat },
+    ghost ending: { stage ≡ stages.Ending → SitsSweptAll (arc_value heap) seat },
+    ghost waits: { stage ≡ stages.Stopping → WaitsSinceAsked (view_of seat) },
+    ghost marks_roots: { stage ≡ stages.Rooting → MarksSinceAsked again (view_of seat) },
+    ghost marks: { stage ≡ stages.Draining → MarksSinceAsked again (view_of seat) },
+    ghost sweeps: { stage ≡ stages.Sweeping → SweepsSinceAsked (view_of seat) },
+    ghost ends: { stage ≡ stages.Ending → SweepsSinceAsked (view_of seat) },
+}
