@@ -2,7 +2,7 @@
 ghost use Rattle.std.specs.Prelude.{◌≡◌, IfSome};
 ghost use Rattle.std.specs.Arc.{arc_value};
 
-use shared_heap::{NotClosed, Refused, SharedMutator, SharedSizes, SharedWorld};
+use shared_heap::{NotClosed, Refused, SharedMutator, SharedSizes, SharedWorld, Tracer};
 use std::sync::Wait;
 
 /// The variables: the root, and three to work with.
@@ -80,39 +80,46 @@ fn try_all<R: Wait>(rt: &R, m: &mut SharedMutator) -> Result<bool, Refused>
 fn stays_open<R: AllocGlobal>(rt: &R, world: SharedWorld) -> Option<SharedWorld>
     ensures same { IfSome result (λ w. w ≡ world) }
 {
-    match world.close(rt.alloc(), Vec::new(rt.alloc())) {
+    match world.close(rt.alloc(), Vec::new(rt.alloc()), Vec::new(rt.alloc())) {
         Err(NotClosed::Missing(kept)) => Some(kept.world),
         _ => None,
     }
 }
 
-/// Whether the world is closed with this mutator, and hands out a value for each cell.
-fn closes<R: AllocGlobal>(rt: &R, world: SharedWorld, m: SharedMutator) -> bool
+/// Whether the world is closed with this mutator and this tracer, and hands out a value for each cell.
+fn closes<R: AllocGlobal>(rt: &R, world: SharedWorld, m: SharedMutator, t: Tracer) -> bool
     requires same { arc_value m.heap ≡ arc_value world.heap }
+    requires same_tracer { arc_value t.heap ≡ arc_value world.heap }
 {
     let mut all = Vec::new(rt.alloc());
-    match all.push(m) {
-        Err(_) => false,
-        Ok(()) => match world.close(rt.alloc(), all) {
+    let mut tracers = Vec::new(rt.alloc());
+    match (all.push(m), tracers.push(t)) {
+        (Err(_), _) => false,
+        (_, Err(_)) => false,
+        (Ok(()), Ok(())) => match world.close(rt.alloc(), all, tracers) {
             Ok(words) => words.values.len() == 64,
             Err(_) => false,
         },
     }
 }
 
-/// A world with one mutator, which makes each call, is missed where the world is closed without it, and handed in at the end: whether all went well.
+/// A world with one mutator, which makes each call, and one tracer: they are missed where the world is closed without them, and handed in at the end. Whether
+/// all went well.
 pub fn open_and_close<R: Wait + AllocGlobal>(rt: &R) -> bool {
-    let sizes = SharedSizes::of_cells(64).slots(4).packets(8, 16);
+    let sizes = SharedSizes::of_cells(64).slots(4).packets(8, 16).tracers(1);
     let Ok(mut world) = SharedWorld::open(rt.alloc(), sizes) else {
         return false;
     };
     let Some(mut m) = world.mutator() else {
         return false;
     };
+    let Some(t) = world.tracer() else {
+        return false;
+    };
     let passed = try_all(rt, &mut m) == Ok(true);
     let counted = world.statistics().cells == 64;
     match stays_open(rt, world) {
-        Some(kept) => closes(rt, kept, m) && passed && counted,
+        Some(kept) => closes(rt, kept, m, t) && passed && counted,
         None => false,
     }
 }

@@ -1,7 +1,8 @@
 -- The seats of a world are gathered when it is closed.
-use Rattle.std.proofs.Common.{ℕ, zero, suc, ◌≡◌, ◌<◌, ◌+◌, ◌⊎◌, ⊎_elim, inl, inr, arith, ◌∙◌, List, [], ◌∷◌, ◌++◌, All, ap, length, refl, sym, subst, Some}
+use Rattle.std.proofs.Common.{ℕ, zero, suc, ◌≡◌, ◌<◌, ◌≤◌, ◌+◌, ◌-◌, ◌⊎◌, ⊎_elim, inl, inr, arith, ◌∙◌, List, [], ◌∷◌, ◌++◌, All, ap, length, refl, sym, subst, Some}
 use Rattle.std.specs.Prelude.{slice_get}
 use Rattle.std.specs.Arc.{arc_value}
+use Rattle.std.proofs.lemmas.List.{length-append}
 use Rattle.std.proofs.lemmas.Option.{get_or_from_slice_get, same_Some, slice_get_within}
 use Rattle.gc_table.specs.Ends.{IsEnd}
 use Rattle.gc_table.specs.Seats.{state_of, view_of}
@@ -9,7 +10,8 @@ use Rattle.gc_table.specs.declared.seat.Heap.{Heap}
 use Rattle.gc_table.specs.declared.seat.HeapSeat.{HeapSeat}
 use Rattle.gc_table.specs.declared.words.Words.{Words}
 use Rattle.gc_table.proofs.Running.{ran-number}
-use Rattle.shared_heap.specs.Closing.{AreAll, AreLeft, AreNumbered, Gathers, HasLeft, IsSharedEnd}
+use Rattle.seat_steps.specs.declared.background.Tracer.{Tracer}
+use Rattle.shared_heap.specs.Closing.{AreAll, AreAllThere, AreAllTracers, AreLeft, AreNumbered, Gathers, HasLeft, IsSharedEnd, all_seats, seats_of}
 use Rattle.shared_heap.specs.declared.mutator.SharedMutator.{SharedMutator}
 use Rattle.shared_heap.specs.declared.world.SharedWorld.{SharedWorld}
 
@@ -42,11 +44,11 @@ gathers-more all old more root s m seats after g first left pushed =
       seats_are = pushed ∙ ap (λ (l : List HeapSeat). l ++ s ∷ []) g.seats_are;
     }
 
-left_length : (ms : List SharedMutator) (ss : List HeapSeat) → AreLeft ms ss → length ss ≡ length ms
-left_length [] [] k = refl
-left_length [] (t ∷ ts) k = absurd k
-left_length (n ∷ ns) [] k = absurd k
-left_length (n ∷ ns) (t ∷ ts) k = ap suc (left_length ns ts k.1)
+pub left-long : (ms : List SharedMutator) (ss : List HeapSeat) → AreLeft ms ss → length ss ≡ length ms
+left-long [] [] k = refl
+left-long [] (t ∷ ts) k = absurd k
+left-long (n ∷ ns) [] k = absurd k
+left-long (n ∷ ns) (t ∷ ts) k = ap suc (left-long ns ts k.1)
 
 left_number : (m : SharedMutator) (s : HeapSeat) → HasLeft m s → (state_of s).number ≡ (state_of m.seat).number
 left_number m s k = ap (λ (t : HeapSeat). (state_of t).number) k.seat_is ∙ ran-number (view_of m.seat) (view_of k.left.seat) k.leaves.same.leaves.ran
@@ -70,16 +72,62 @@ gathers-numbered n all root seats are first g =
     numbered zero s e = ap (λ (t : HeapSeat). (state_of t).number) (sym (same_Some root s e)) ∙ first
     numbered (suc i) s e = let at = left-at all g.rest left i s e in let one : i + 1 ≡ suc i = omega arith in left_number at.0 s at.2 ∙ (are.1 i at.0 at.1 ∙ one)
 
--- all have left, and the heap was closed with their seats
-pub shared-end : (world : SharedWorld) (all : List SharedMutator) (seats : List HeapSeat) (h : Heap) (w : Words) → arc_value world.heap ≡ h → AreAll (arc_value world.heap).shape.sections all → Gathers all [] world.zero seats → IsEnd h.shape seats w
-    → IsSharedEnd world all w
-shared-end world all seats h w same are g end =
+-- the tracer of a seat
+tracer_at : (ts : List Tracer) (i : ℕ) (s : HeapSeat) → slice_get (seats_of ts) i ≡ Some s → (t : Tracer) × (slice_get ts i ≡ Some t) × (t.seat ≡ s)
+tracer_at [] i s e = absurd (cc)
+tracer_at (t ∷ ts) zero s e = (t, refl, same_Some t.seat s e)
+tracer_at (t ∷ ts) (suc i) s e = tracer_at ts i s e
+
+-- what is found in two lists, one behind the other, is found in the first, or past it
+pub split-at : (xs ys : List HeapSeat) (i : ℕ) (s : HeapSeat) → slice_get (xs ++ ys) i ≡ Some s → (slice_get xs i ≡ Some s) ⊎ (length xs ≤ i)
+split-at [] ys i s e = inr (omega arith)
+split-at (x ∷ xs) ys zero s e = inl e
+split-at (x ∷ xs) ys (suc i) s e = ⊎_elim (λ (h : slice_get xs i ≡ Some s). inl h) (λ (l : length xs ≤ i). inr (omega (arith, l))) (split-at xs ys i s e)
+
+pub got-past : (xs ys : List HeapSeat) (j k : ℕ) → k ≡ length xs + j → slice_get (xs ++ ys) k ≡ slice_get ys j
+got-past [] ys j k e = ap (λ (n : ℕ). slice_get ys n) (let same : k ≡ j = omega (arith, e) in same)
+got-past (x ∷ xs) ys j zero e = absurd (omega (arith, e))
+got-past (x ∷ xs) ys j (suc k) e = got-past xs ys j k (omega (arith, e))
+
+pub seats-long : (ts : List Tracer) → length (seats_of ts) ≡ length ts
+seats-long [] = refl
+seats-long (t ∷ ts) = ap suc (seats-long ts)
+
+-- so do those of the tracers behind them
+pub tracers-numbered : (n k : ℕ) (xs : List HeapSeat) (ts : List Tracer) → AreNumbered xs → length xs ≡ n → AreAllTracers n k ts → AreNumbered (xs ++ seats_of ts)
+tracers-numbered n k xs ts numbered long are i s at =
+    ⊎_elim (λ (h : slice_get xs i ≡ Some s). numbered i s h)
+    (λ (past : length xs ≤ i).
+    let where_is : i ≡ length xs + (i - length xs) = omega (arith, past) in
+    let t = tracer_at ts (i - length xs) s (sym (got-past xs (seats_of ts) (i - length xs) i where_is) ∙ at) in
+    let number = are.1 (i - length xs) t.0 t.1 in
+    ap (λ (x : HeapSeat). (state_of x).number) (sym t.2) ∙ (number ∙ (let sum : n + (i - length xs) ≡ i = omega (arith, long, past) in sum)))
+    (split-at xs (seats_of ts) i s at)
+
+-- so many seats were gathered of the mutators
+pub gathers-long : (n : ℕ) (all : List SharedMutator) (root : HeapSeat) (seats : List HeapSeat) → AreAll n all → Gathers all [] root seats → length seats ≡ n
+gathers-long n all root seats are g =
     let left = subst (λ (l : List SharedMutator). AreLeft l g.rest) (sym (g.parts ∙ none_more g.front)) g.left in
+    let long = left-long all g.rest left in
+    let seats_long = ap length g.seats_are in
+    omega (arith, long, seats_long, are.0)
+
+-- all have left, and the heap was closed with their seats
+pub shared-end : (world : SharedWorld) (all : List SharedMutator) (ts : List Tracer) (workers seats : List HeapSeat) (h : Heap) (w : Words) → arc_value world.heap ≡ h → AreAllThere world all ts → Gathers all [] world.zero workers → seats ≡ workers ++ seats_of ts → IsEnd h.shape seats w
+    → IsSharedEnd world all ts w
+shared-end world all ts workers seats h w same are g behind end =
+    let left = subst (λ (l : List SharedMutator). AreLeft l g.rest) (sym (g.parts ∙ none_more g.front)) g.left in
+    let these : seats ≡ all_seats world g.rest ts = behind ∙ ap (λ (l : List HeapSeat). l ++ seats_of ts) g.seats_are in
     record {
       rest = g.rest;
       left = left;
-      ends = subst (λ (q : Heap × List HeapSeat). IsEnd q.0.shape q.1 w) (λ i. (sym same i, g.seats_are i)) end;
-      all = let long = left_length all g.rest left in omega (arith, world.first.opened, are.0, long);
+      workers = are.0.0;
+      ends = subst (λ (q : Heap × List HeapSeat). IsEnd q.0.shape q.1 w) (λ i. (sym same i, these i)) end;
+      all =
+          let long = left-long all g.rest left in
+          let tracers = seats-long ts in
+          let both = length-append g.rest (seats_of ts) in
+          omega (arith, world.opened, are.0.0, are.1.0, long, tracers, both);
     }
 
 pub below-or-last : (k n : ℕ) → k < n + 1 → (k < n) ⊎ (k ≡ n)

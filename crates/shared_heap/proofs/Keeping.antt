@@ -248,15 +248,14 @@ pub made-more : (fields : ℕ) (xs ys : List Entry) → all_steps spares_heap ys
 made-more fields xs ys a = let none = (makes_none spares_heap fields (spared_one fields) ys a).made in let both = made_join fields xs ys in omega (arith, none, both)
 
 -- the seat that opened the heap keeps the root
-pub root-seat : (h : Heap) (x y : HeapSeat) → IsNewSeat h 0 x → 0 < h.shape.sections → (view_of x).opened ≡ h.shape.sections → MakesRoot (view_of x) (view_of y) → IsRootSeat h y
-root-seat h x y new some opened m =
+pub root-seat : (h : Heap) (x y : HeapSeat) → IsNewSeat h 0 x → 0 < h.shape.sections → MakesRoot (view_of x) (view_of y) → IsRootSeat h y
+root-seat h x y new some m =
     let v : View = view_of x in
     let w : View = view_of y in
     let ran = makes-ran v w m in
     let none : IsCounted v = ap (λ (o : SectionState). o.seasons) new.1.own ∙ ap season_count (sym new.1.log) in
     record {
       number = ran-number v w ran ∙ ap (λ (s : SeatState). s.number) new.1.state;
-      opened = ran-opened v w ran ∙ opened;
       keeps =
           record {
             section = ran-section v w ran ∙ (first-start h x new some).section;
@@ -278,7 +277,6 @@ root-kept h x y r s =
     let more = makes_join fields (made_count fields v.log) 0 v.log g.0 (record { values = r.one.values; made = refl }) (makes_none spares_heap fields (spared_one fields) g.0 only) in
     record {
       number = ran-number v w s.ran ∙ r.number;
-      opened = ran-opened v w s.ran ∙ r.opened;
       keeps =
           record {
             section = ran-section v w s.ran ∙ r.keeps.section;

@@ -1,11 +1,13 @@
 mod Beginning
 mod Counting
 mod Dealt
-mod Few
 mod Gathering
 mod Keeping
+pub mod Logs
 mod Once
-mod Places
+mod RootRead
 mod Rooted
 mod Rooting
+mod Sectionless
+mod Telling
 mod Threads

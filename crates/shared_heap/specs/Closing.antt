@@ -6,8 +6,10 @@ use Rattle.gc_table.specs.Seats.{state_of, view_of}
 use Rattle.gc_table.specs.declared.seat.HeapSeat.{HeapSeat}
 use Rattle.gc_table.specs.declared.words.Words.{Words}
 use Rattle.shared_heap.specs.Calls.{SharerLeft}
+use Rattle.seat_steps.specs.declared.background.Tracer.{Tracer}
 use Rattle.shared_heap.specs.declared.closing.NotClosed.{NotClosed}
 use Rattle.shared_heap.specs.declared.closing.NotClosed.TheVariants.{Gone, Missing, NoRoom}
+use Rattle.shared_heap.specs.declared.closing.Unclosed.{Unclosed}
 use Rattle.shared_heap.specs.declared.mutator.SharedMutator.{SharedMutator}
 use Rattle.shared_heap.specs.declared.world.SharedWorld.{SharedWorld}
 
@@ -39,16 +41,42 @@ AreNumbered xs = (i : ℕ) (s : HeapSeat) → slice_get xs i ≡ Some s → (sta
 abbrev pub AreAll : ℕ → List SharedMutator → Type 0
 AreAll n ms = (length ms + 1 ≡ n) × ((i : ℕ) (m : SharedMutator) → slice_get ms i ≡ Some m → (state_of m.seat).number ≡ i + 1)
 
--- the words are those in the end of one run, of which the log of section 0's seat is a part, and the log of each mutator's; nobody else took part
-pub record IsSharedEnd (world : SharedWorld) (mutators : List SharedMutator) (w : Words) : Type 0 where
+-- the seats of tracers, one by one
+abbrev pub seats_of : List Tracer → List HeapSeat
+seats_of [] = []
+seats_of (t ∷ ts) = t.seat ∷ seats_of ts
+
+-- these are all tracers of a heap of so many sections, so many as there are, in the order of their numbers, which come after those of the sections
+abbrev pub AreAllTracers : ℕ → ℕ → List Tracer → Type 0
+AreAllTracers n k ts = (length ts ≡ k) × ((i : ℕ) (t : Tracer) → slice_get ts i ≡ Some t → (state_of t.seat).number ≡ n + i)
+
+-- section 0's seat, those of the mutators that have left, and those of the tracers
+abbrev pub all_seats : SharedWorld → List HeapSeat → List Tracer → List HeapSeat
+all_seats world rest ts = world.zero ∷ rest ++ seats_of ts
+
+-- the words are those in the end of one run, of which the log of section 0's seat is a part, the log of each mutator's, and that of each tracer's; nobody else
+-- took part
+pub record IsSharedEnd (world : SharedWorld) (mutators : List SharedMutator) (tracers : List Tracer) (w : Words) : Type 0 where
   pub rest : List HeapSeat
   pub left : AreLeft mutators rest
-  pub ends : IsEnd (arc_value world.heap).shape (world.zero ∷ rest) w
+  -- the seats of the tracers come after those of the sections
+  pub workers : length mutators + 1 ≡ (arc_value world.heap).shape.sections
+  pub ends : IsEnd (arc_value world.heap).shape (all_seats world rest tracers) w
   -- so the run has no event of a seat past these: `IsEnd.theirs`
-  pub all : (view_of world.zero).opened ≡ length (world.zero ∷ rest)
+  pub all : (view_of world.zero).opened ≡ length (all_seats world rest tracers)
+
+-- these are all mutators and tracers of the world, in their order
+abbrev pub AreAllThere : SharedWorld → List SharedMutator → List Tracer → Type 0
+AreAllThere world ms ts = AreAll (arc_value world.heap).shape.sections ms × AreAllTracers (arc_value world.heap).shape.sections world.sizes.tracers ts
+
+-- the world and what was handed in come back as they were
+pub record ComesBack (kept : Unclosed) (world : SharedWorld) (ms : List SharedMutator) (ts : List Tracer) : Type 0 where
+  pub world_is : kept.world ≡ world
+  pub mutators_are : kept.mutators.items ≡ ms
+  pub tracers_are : kept.tracers.items ≡ ts
 
 -- why there are no words, and what is handed back
-abbrev pub IsUnclosed : NotClosed → SharedWorld → List SharedMutator → Type 0
-IsUnclosed (Missing kept) world ms = (kept.world ≡ world) × (kept.mutators.items ≡ ms) × (AreAll (arc_value world.heap).shape.sections ms → ⊥)
-IsUnclosed (NoRoom kept) world ms = (kept.world ≡ world) × (kept.mutators.items ≡ ms)
-IsUnclosed Gone world ms = Unit {0}
+abbrev pub IsUnclosed : NotClosed → SharedWorld → List SharedMutator → List Tracer → Type 0
+IsUnclosed (Missing kept) world ms ts = ComesBack kept world ms ts × (AreAllThere world ms ts → ⊥)
+IsUnclosed (NoRoom kept) world ms ts = ComesBack kept world ms ts
+IsUnclosed Gone world ms ts = Unit {0}

@@ -1,5 +1,5 @@
 -- What the logs of the threads of a closed world tell of its root: a counter, or a lock.
-use Rattle.std.specs.Prelude.{ℕ, ◌≡◌, ◌+◌, List, [], ◌∷◌, false, Some, IsTrue, length, slice_get, take}
+use Rattle.std.specs.Prelude.{ℕ, ◌≡◌, ◌+◌, ◌-◌, ◌==◌, if◌then◌else◌, List, [], ◌∷◌, false, Option, None, Some, IsTrue, length, slice_get, slice_index_or, take}
 use Rattle.std.specs.Arc.{arc_value}
 use Rattle.mark_core.specs.declared.kinds.Event.{Event}
 use Rattle.gc_table.specs.Log.{all_steps}
@@ -10,7 +10,8 @@ use Rattle.gc_table.specs.declared.words.Words.{Words}
 use Rattle.shared_runs.specs.World.{WorldObject, object_of}
 use Rattle.heap_runs.specs.Sharing.{heap_after_events}
 use Rattle.heap_runs.specs.Single.{is_inside, leaves_values, made_count, raises, takes_turns, won_count}
-use Rattle.shared_heap.specs.Closing.{IsSharedEnd}
+use Rattle.seat_steps.specs.declared.background.Tracer.{Tracer}
+use Rattle.shared_heap.specs.Closing.{IsSharedEnd, all_seats}
 use Rattle.shared_heap.specs.Threads.{IsWhole}
 use Rattle.shared_heap.specs.declared.mutator.SharedMutator.{SharedMutator}
 use Rattle.shared_heap.specs.declared.world.SharedWorld.{SharedWorld}
@@ -32,13 +33,29 @@ won_by (m ∷ ms) = won_count (view_of m.seat).log + won_by ms
 -- where the mutators of a closed world made no object and changed values by exchanges of a number for the next alone, the root's value at the end is the number of exchanges that their logs say were won
 abbrev pub CounterClosed : Type 0
 CounterClosed =
-    (world : SharedWorld) (mutators : List SharedMutator) (w : Words) (end : IsSharedEnd world mutators w) (es : List Event) (whole : IsWhole (arc_value world.heap).shape (world.zero ∷ end.rest) w es)
+    (world : SharedWorld) (mutators : List SharedMutator) (tracers : List Tracer) (w : Words) (end : IsSharedEnd world mutators tracers w) (es : List Event)
+    (whole : IsWhole (arc_value world.heap).shape (all_seats world end.rest tracers) w es)
     → EachLog (OnlyExchanges (arc_value world.heap).shape.fields) mutators → EachLog (λ l. IsTrue (all_steps raises l)) mutators
     → (root : WorldObject) → object_of (heap_after_events (arc_value world.heap).shape es (length es)) whole.root ≡ Some root → root.value ≡ won_by mutators
+
+-- the value of the object to which this word refers
+abbrev pub value_at : List ℕ → ℕ → Option ℕ
+value_at values word = if word == 0 then None else slice_get values (word - 1)
+
+-- the value of the root, as the words have it
+abbrev pub root_value_of : Words → Option ℕ
+root_value_of w = value_at w.values.items (slice_index_or w.roots.items 0 0)
+
+-- so is the value that the words of the closed world have there
+abbrev pub CounterRead : Type 0
+CounterRead =
+    (world : SharedWorld) (mutators : List SharedMutator) (tracers : List Tracer) (w : Words) → IsSharedEnd world mutators tracers w
+    → EachLog (OnlyExchanges (arc_value world.heap).shape.fields) mutators → EachLog (λ l. IsTrue (all_steps raises l)) mutators → (n : ℕ) → root_value_of w ≡ Some n → n ≡ won_by mutators
 
 -- where they made no object, and each that was outside tried to exchange 0 for 1 alone, and each that came in 1 for 0, no two are inside, after whatever number of events
 abbrev pub LockClosed : Type 0
 LockClosed =
-    (world : SharedWorld) (mutators : List SharedMutator) (w : Words) (end : IsSharedEnd world mutators w) (es : List Event) (whole : IsWhole (arc_value world.heap).shape (world.zero ∷ end.rest) w es)
+    (world : SharedWorld) (mutators : List SharedMutator) (tracers : List Tracer) (w : Words) (end : IsSharedEnd world mutators tracers w) (es : List Event)
+    (whole : IsWhole (arc_value world.heap).shape (all_seats world end.rest tracers) w es)
     → EachLog (OnlyExchanges (arc_value world.heap).shape.fields) mutators → EachLog (λ l. IsTrue (takes_turns false l)) mutators
     → (k i j : ℕ) → IsTrue (is_inside false (log_of (arc_value world.heap).shape (take k es) i)) → IsTrue (is_inside false (log_of (arc_value world.heap).shape (take k es) j)) → i ≡ j

@@ -6,6 +6,7 @@ use Rattle.mark_core.specs.declared.kinds.Step.TheVariants.{ReadStat}
 use Rattle.gc_table.specs.Seats.{Found, state_of, view_of}
 use Rattle.gc_table.specs.declared.seat.Heap.{Heap}
 use Rattle.gc_table.specs.declared.view.View.{View}
+use Rattle.seat_steps.specs.declared.background.Tracer.{Tracer}
 use Rattle.shared_heap.specs.Calls.{SharerLeft}
 use Rattle.shared_heap.specs.declared.mutator.Place.TheVariants.{Outside}
 use Rattle.shared_heap.specs.declared.mutator.SharedMutator.{SharedMutator}
@@ -28,7 +29,19 @@ pub record IsFreshSharer (h : Heap) (name k : ℕ) (m : SharedMutator) : Type 0 
 abbrev pub AreFresh : Heap → ℕ → ℕ → List SharedMutator → Type 0
 AreFresh h name k ms = (i : ℕ) (m : SharedMutator) → slice_get ms i ≡ Some m → IsFreshSharer h name (k + i) m
 
--- a new world of these sizes: nobody has one of its mutators
+-- the tracer with seat k of this heap and with this name, which has done nothing
+pub record IsNewTracer (h : Heap) (name k : ℕ) (t : Tracer) : Type 0 where
+  pub heap : arc_value t.heap ≡ h
+  pub name_is : t.name ≡ name
+  pub number : (state_of t.seat).number ≡ k
+  pub traced : t.traced ≡ 0
+  pub log : (view_of t.seat).log ≡ []
+
+-- none of these has done anything; they stand in the order of their numbers, the first of which is k
+abbrev pub AreNewTracers : Heap → ℕ → ℕ → List Tracer → Type 0
+AreNewTracers h name k ts = (i : ℕ) (t : Tracer) → slice_get ts i ≡ Some t → IsNewTracer h name (k + i) t
+
+-- a new world of these sizes: nobody has one of its mutators or tracers
 pub record IsSharedOpened (sizes : SharedSizes) (w : SharedWorld) : Type 0 where
   pub sizes_are : w.sizes ≡ sizes
   pub cells : (arc_value w.heap).shape.cells ≡ sizes.cells
@@ -37,6 +50,8 @@ pub record IsSharedOpened (sizes : SharedSizes) (w : SharedWorld) : Type 0 where
   pub shared : IsTrue (arc_value w.heap).shape.sharing
   pub fresh : AreFresh (arc_value w.heap) sizes.name 1 w.mutators.items
   pub count : vec_len w.mutators ≡ sizes.mutators
+  pub tracers : AreNewTracers (arc_value w.heap) sizes.name (1 + sizes.mutators) w.tracers.items
+  pub tracer_count : vec_len w.tracers ≡ sizes.tracers
 
 -- the heap, its sizes and what is known of it are as before
 pub record KeepsRest (x y : SharedWorld) : Type 0 where
@@ -58,3 +73,11 @@ pub record ReadsNumbers (s : SharedStatistics) (h : Heap) (v w : View) : Type 0 
   pub between : View
   pub free : Found (ReadStat free_count) s.free v between
   pub marked : Found (ReadStat last_count) s.marked between w
+
+-- the world has all that it had, but for what is known of its heap
+abbrev pub HasAllStill : SharedWorld → SharedWorld → Type 0
+HasAllStill x y = (y.heap ≡ x.heap) × (y.mutators ≡ x.mutators) × (y.tracers ≡ x.tracers) × (y.sizes ≡ x.sizes)
+
+-- all mutators and tracers are back
+abbrev pub AreAllBack : SharedWorld → Type 0
+AreAllBack w = (vec_len w.mutators ≡ w.sizes.mutators) × (vec_len w.tracers ≡ w.sizes.tracers)

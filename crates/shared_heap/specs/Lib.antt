@@ -1,7 +1,9 @@
 pub mod Calls
 pub mod Closing
 pub mod Counting
+pub mod Handing
 pub mod Lending
+pub mod Logs
 pub mod Opening
 pub mod Planning
 pub mod Rooting

@@ -1,5 +1,5 @@
 -- The root: the seat of section 0 makes it before anybody else acts, and keeps it in its variable 0.
-use Rattle.std.specs.Prelude.{ℕ, ◌≡◌, ◌<◌, Bool, false}
+use Rattle.std.specs.Prelude.{ℕ, ◌≡◌, ◌<◌, ◌+◌, Bool, false}
 use Rattle.mark_core.specs.declared.kinds.Step.{Step}
 use Rattle.mark_core.specs.declared.kinds.Step.TheVariants.{NextSeason}
 use Rattle.gc_table.specs.Log.{Only}
@@ -38,9 +38,12 @@ pub record MakesRoot (v w : View) : Type 0 where
   pub creates : ShareCreates 0 0 cell before made
   pub rest : Spares made w
 
--- the seat of section 0 in a heap that was opened with a seat for each section: it keeps the root in its variable 0, an object of value 0, and has made no other
+-- the seat of section 0: it keeps the root in its variable 0, an object of value 0, and has made no other
 pub record IsRootSeat (h : Heap) (s : HeapSeat) : Type 0 where
   pub number : (state_of s).number ≡ 0
-  pub opened : (view_of s).opened ≡ h.shape.sections
   pub keeps : KeepsRoot 0 s
   pub one : MakesOne h.shape.fields (view_of s).log
+
+-- the heap was opened with a seat for each section and for so many tracers
+abbrev pub HasSeats : Heap → ℕ → HeapSeat → Type 0
+HasSeats h tracers s = (view_of s).opened ≡ h.shape.sections + tracers

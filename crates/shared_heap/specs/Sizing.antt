@@ -8,6 +8,7 @@ pub record Fits (s : SharedSizes) : Type 0 where
   pub cells : (block_cells ≤ s.cells) × (s.cells ≤ 16777216) × (s.cells % block_cells ≡ 0)
   pub fields : (1 ≤ s.fields) × (s.fields ≤ 16)
   pub mutators : (1 ≤ s.mutators) × (s.mutators ≤ 32)
+  pub tracers : s.tracers ≤ 8
   pub slots : s.slots ≤ 65536
   pub packets : (2 ≤ s.packets) × (s.packets ≤ 1024)
   pub entries : (2 ≤ s.entries) × (s.entries ≤ 512)

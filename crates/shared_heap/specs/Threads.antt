@@ -1,10 +1,11 @@
 -- What the threads of a closed world did.
-use Rattle.std.specs.Prelude.{ℕ, ◌≡◌, ◌≤◌, List, [], ◌∷◌, Some, length, slice_get}
+use Rattle.std.specs.Prelude.{ℕ, ◌≡◌, ◌≤◌, List, [], Some, IsTrue, length, slice_get}
 use Rattle.std.specs.Arc.{arc_value}
 use Rattle.plain_heap.specs.Paths.{Name}
 use Rattle.mark_core.specs.declared.kinds.Event.{Event}
 use Rattle.mark_core.specs.declared.kinds.Shape.{Shape}
 use Rattle.gc_table.specs.Laws.{IsRunOf}
+use Rattle.gc_table.specs.Log.{all_steps}
 use Rattle.gc_table.specs.Past.{log_of}
 use Rattle.gc_table.specs.Seats.{view_of}
 use Rattle.gc_table.specs.declared.seat.HeapSeat.{HeapSeat}
@@ -14,7 +15,9 @@ use Rattle.shared_runs.specs.Laws.{TellsOf}
 use Rattle.heap_runs.specs.Rooted.{FindsSome, IsKept}
 use Rattle.heap_runs.specs.Runs.{core_after}
 use Rattle.heap_runs.specs.Sharing.{heap_after_events}
-use Rattle.shared_heap.specs.Closing.{IsSharedEnd}
+use Rattle.mutator_turns.specs.Sharing.{spares_heap}
+use Rattle.seat_steps.specs.declared.background.Tracer.{Tracer}
+use Rattle.shared_heap.specs.Closing.{IsSharedEnd, all_seats}
 use Rattle.shared_heap.specs.declared.mutator.SharedMutator.{SharedMutator}
 use Rattle.shared_heap.specs.declared.world.SharedWorld.{SharedWorld}
 
@@ -29,9 +32,11 @@ pub record IsWhole (sh : Shape) (seats : List HeapSeat) (w : Words) (es : List E
   -- there is one root: once the season has moved on the variable that is read for it refers to this object
   pub root : Name
   pub kept : (k : ℕ) → IsKept sh es 0 root k
+  -- a seat past the sections', which is a tracer's, took no step that the plain heap sees
+  pub tracers : (i : ℕ) (s : HeapSeat) → sh.sections ≤ i → slice_get seats i ≡ Some s → IsTrue (all_steps spares_heap (view_of s).log)
   -- so no thread that asked for it found nil
   pub found : (i : ℕ) (s : HeapSeat) → slice_get seats i ≡ Some s → FindsSome 0 (view_of s).log
 
 -- whatever the threads of a closed world did, it is such a run
 abbrev pub ThreadsRun : Type 0
-ThreadsRun = (world : SharedWorld) (mutators : List SharedMutator) (w : Words) → (end : IsSharedEnd world mutators w) → (es : List Event) × IsWhole (arc_value world.heap).shape (world.zero ∷ end.rest) w es
+ThreadsRun = (world : SharedWorld) (mutators : List SharedMutator) (tracers : List Tracer) (w : Words) → (end : IsSharedEnd world mutators tracers w) → (es : List Event) × IsWhole (arc_value world.heap).shape (all_seats world end.rest tracers) w es

@@ -44,6 +44,7 @@ impl SharedMutator {
     pub fn leave(&mut self)
         ensures left { SharerLeft self.old self.new }
         ensures world { arc_value self.new.heap ≡ arc_value self.old.heap }
+        ensures name { self.new.name ≡ self.old.name }
     {
         match self.place {
             Place::Outside => {}

@@ -1,34 +1,37 @@
 //! A shared world is closed, and the run of its threads is handed out.
-ghost use Rattle.std.specs.Prelude.{◌≡◌, ◌<◌, ◌≤◌, ◌+◌, [], All, IfErr, IfOk, vec_capacity, vec_len};
+ghost use Rattle.std.specs.Prelude.{◌≡◌, ◌<◌, ◌≤◌, ◌+◌, ◌++◌, [], All, IfErr, IfOk, vec_capacity, vec_len};
 ghost use Rattle.std.specs.Bool.{OnFalse, OnTrue};
 ghost use Rattle.std.specs.Arc.{arc_value};
 ghost use Rattle.gc_table.specs.Ends.{IsEnd};
 ghost use Rattle.mutator_turns.specs.Standing.{RestsOutside};
 ghost use Rattle.shared_heap.specs.declared.closing.NotClosed.TheVariants.{Gone};
-ghost use Rattle.shared_heap.specs.Closing.{AreAll, AreNumbered, Gathers, HasLeft, IsSharedEnd, IsUnclosed};
+ghost use Rattle.shared_heap.specs.Closing.{AreAll, AreAllThere, AreAllTracers, AreNumbered, Gathers, HasLeft, IsSharedEnd, IsUnclosed, seats_of};
 
-use crate::lending::first_of;
 use crate::mutator::SharedMutator;
+use crate::taking::first_of;
 use crate::world::SharedWorld;
 use gc_table::{Heap, HeapSeat, Words};
+use seat_steps::Tracer;
 use std::alloc::Global;
 use std::sync::Arc;
 
-/// A world that wasn't closed, and the mutators that were handed in.
+/// A world that wasn't closed, and the mutators and tracers that were handed in.
 #[derive(Drop)]
 pub struct Unclosed {
     /// The world, as it was.
     pub world: SharedWorld,
     /// The mutators, as they were.
     pub mutators: Vec<SharedMutator>,
+    /// The tracers, as they were.
+    pub tracers: Vec<Tracer>,
 }
 
 /// Why a world gave no words when it was closed.
 #[derive(Drop)]
 pub enum NotClosed {
-    /// A mutator wasn't handed in, or they stand in another order than that of their numbers. All is handed back.
+    /// A mutator or a tracer wasn't handed in, or they stand in another order than that of their numbers. All is handed back.
     Missing(Unclosed),
-    /// There is no memory to gather the mutators in. All is handed back.
+    /// There is no memory to gather them in. All is handed back.
     NoRoom(Unclosed),
     /// There is no memory for the words. The world is gone.
     Gone,
@@ -62,6 +65,7 @@ fn gather(
     requires room { (room.items ≡ []) × (vec_len mutators.old + 1 ≤ vec_capacity room) }
     ensures rest { All (RestsOutside (arc_value _heap.now)) result.items }
     ensures gathers { Gathers mutators.old.items [] zero result.items }
+    ensures room { (vec_len result ≡ vec_len mutators.old + 1) × (vec_capacity result ≡ vec_capacity room) }
 {
     let mut seats = room;
     seats.push_reserved(zero);
@@ -71,6 +75,44 @@ fn gather(
         seats.push_reserved(seat_of(mutator));
     }
     seats
+}
+
+/// Puts the seats of the tracers behind these.
+fn gather_tracers(
+    _heap: &Arc<Heap, Global>,
+    tracers: Vec<Tracer>,
+    seats: Vec<HeapSeat>,
+) -> Vec<HeapSeat>
+    requires same { All (λ t. arc_value t.heap ≡ arc_value _heap.now) tracers.items }
+    requires rest { All (RestsOutside (arc_value _heap.now)) seats.items }
+    requires room { vec_len seats + vec_len tracers ≤ vec_capacity seats }
+    ensures rest { All (RestsOutside (arc_value _heap.now)) result.items }
+    ensures gathers { result.items ≡ seats.items ++ seats_of tracers.items }
+{
+    let mut tracers = tracers;
+    let mut seats = seats;
+    let count = tracers.len();
+    for _at in 0..count {
+        let tracer = first_of(&mut tracers);
+        seats.push_reserved(tracer.into_seat());
+    }
+    seats
+}
+
+/// Whether these are all tracers of a heap of so many sections, in the order of their numbers.
+fn are_all_tracers(sections: u32, count: u32, tracers: &[Tracer]) -> bool
+    ensures all { OnTrue result (AreAllTracers sections count tracers.now) }
+    ensures missing { OnFalse result (AreAllTracers sections count tracers.now → ⊥) }
+{
+    if tracers.len() != count as usize {
+        return false;
+    }
+    for at in 0..tracers.len() {
+        if tracers[at].number() as usize != sections as usize + at {
+            return false;
+        }
+    }
+    true
 }
 
 /// Whether these are all mutators of a heap of so many sections, in the order of their numbers.
@@ -87,6 +129,15 @@ fn are_all(sections: u32, mutators: &[SharedMutator]) -> bool
         }
     }
     true
+}
+
+/// Whether these are all mutators and tracers of the world, each in the order of their numbers.
+fn are_there(world: &SharedWorld, mutators: &[SharedMutator], tracers: &[Tracer]) -> bool
+    ensures there { OnTrue result (AreAllThere world.now mutators.now tracers.now) }
+    ensures missing { OnFalse result (AreAllThere world.now mutators.now tracers.now → ⊥) }
+{
+    let sections = world.heap.shape().sections;
+    are_all(sections, mutators) && are_all_tracers(sections, world.sizes.tracers, tracers)
 }
 
 /// The words of a heap whose seats are these.
@@ -108,23 +159,28 @@ fn close_all(
     world: SharedWorld,
     alloc: Global,
     mutators: Vec<SharedMutator>,
+    tracers: Vec<Tracer>,
     room: Vec<HeapSeat>,
 ) -> Result<Words, NotClosed>
     requires same { All (λ m. arc_value m.heap ≡ arc_value world.heap) mutators.items }
-    requires all { AreAll (arc_value world.heap).shape.sections mutators.items }
-    requires room { (room.items ≡ []) × (vec_len mutators + 1 ≤ vec_capacity room) }
-    ensures closed { IfOk result (λ w. IsSharedEnd world mutators.items w) }
+    requires same_tracers { All (λ t. arc_value t.heap ≡ arc_value world.heap) tracers.items }
+    requires all { AreAllThere world mutators.items tracers.items }
+    requires room { (room.items ≡ []) × (vec_len mutators + 1 + vec_len tracers ≤ vec_capacity room) }
+    ensures closed { IfOk result (λ w. IsSharedEnd world mutators.items tracers.items w) }
     ensures gone { IfErr result (λ e. e ≡ Gone) }
 {
     let SharedWorld {
         heap,
         zero,
         mutators: untaken,
+        tracers: idle,
         sizes: _,
     } = world;
     drop(untaken);
+    drop(idle);
     let mut mutators = mutators;
-    let seats = gather(&heap, zero, &mut mutators, room);
+    let workers = gather(&heap, zero, &mut mutators, room);
+    let seats = gather_tracers(&heap, tracers, workers);
     match Arc::into_inner(heap) {
         Some(heap) => close_heap(heap, alloc, seats),
         None => Err(NotClosed::Gone),
@@ -132,24 +188,37 @@ fn close_all(
 }
 
 impl SharedWorld {
-    /// Closes the world with all its mutators, in the order of their numbers, and hands out what its words say. What the threads did is then one run, in which
-    /// nobody else took part: the law [`threads_run`](crate::threads_run) speaks of it. Where a mutator is missing, or where there is no memory to gather them
-    /// in, all is handed back.
-    pub fn close(self, alloc: Global, mutators: Vec<SharedMutator>) -> Result<Words, NotClosed>
+    /// Closes the world with all its mutators and all its tracers, each in the order of their numbers, and hands out what its words say. What the threads did is
+    /// then one run, in which nobody else took part: the law [`threads_run`](crate::threads_run) speaks of it. Where one is missing, or where there is no memory
+    /// to gather them in, all is handed back.
+    pub fn close(
+        self,
+        alloc: Global,
+        mutators: Vec<SharedMutator>,
+        tracers: Vec<Tracer>,
+    ) -> Result<Words, NotClosed>
         requires same { All (λ m. arc_value m.heap ≡ arc_value self.heap) mutators.items }
-        ensures closed { IfOk result (λ w. IsSharedEnd self mutators.items w) }
-        ensures unclosed { IfErr result (λ e. IsUnclosed e self mutators.items) }
+        requires same_tracers { All (λ t. arc_value t.heap ≡ arc_value self.heap) tracers.items }
+        ensures closed { IfOk result (λ w. IsSharedEnd self mutators.items tracers.items w) }
+        ensures unclosed { IfErr result (λ e. IsUnclosed e self mutators.items tracers.items) }
     {
-        let sections = self.heap.shape().sections;
-        if !are_all(sections, mutators.as_slice()) {
+        if !are_there(&self, mutators.as_slice(), tracers.as_slice()) {
             let world = self;
-            return Err(NotClosed::Missing(Unclosed { world, mutators }));
+            return Err(NotClosed::Missing(Unclosed {
+                world,
+                mutators,
+                tracers,
+            }));
         }
-        match Vec::with_capacity(alloc, sections as usize) {
-            Ok(room) => close_all(self, alloc, mutators, room),
+        match Vec::with_capacity(alloc, mutators.len() + 1 + tracers.len()) {
+            Ok(room) => close_all(self, alloc, mutators, tracers, room),
             Err(_) => {
                 let world = self;
-                Err(NotClosed::NoRoom(Unclosed { world, mutators }))
+                Err(NotClosed::NoRoom(Unclosed {
+                    world,
+                    mutators,
+                    tracers,
+                }))
             }
         }
     }

@@ -1,18 +1,21 @@
-//! The seats of a new heap are dealt out to mutators.
+//! The seats of a new heap are dealt out to mutators and tracers.
 ghost use Rattle.std.specs.Arc.{arc_value};
-ghost use Rattle.std.specs.Prelude.{◌≡◌, ◌+◌, ◌<◌, ◌≤◌, IfOk, IsTrue, vec_len};
+ghost use Rattle.std.specs.Prelude.{◌≡◌, ◌+◌, ◌<◌, ◌≤◌, IfErr, IfOk, IsTrue, vec_len};
 ghost use Rattle.mutator_turns.specs.Standing.{RestsOutside};
-ghost use Rattle.shared_heap.specs.Lending.{AreFresh, IsFreshSharer, IsSharedOpened};
+ghost use Rattle.mutator_turns.specs.declared.refused.NotOpened.TheVariants.{OutOfMemory};
+ghost use Rattle.shared_heap.specs.Lending.{AreFresh, AreNewTracers, IsFreshSharer, IsNewTracer, IsSharedOpened};
 ghost use Rattle.shared_heap.specs.Opening.{AreNew, IsNewSeat};
-ghost use Rattle.shared_heap.specs.Rooting.{IsRootSeat};
+ghost use Rattle.shared_heap.specs.Rooting.{HasSeats, IsRootSeat};
 ghost use Rattle.shared_heap.specs.Sizing.{Fits};
 
 use crate::mutator::{Place, SharedMutator};
-use crate::opening::{next_seat, open, open_turn};
+use crate::opening::{open, open_turn};
 use crate::sizes::SharedSizes;
+use crate::taking::first_of;
 use crate::world::SharedWorld;
 use gc_table::{Heap, HeapSeat};
 use mutator_turns::NotOpened;
+use seat_steps::Tracer;
 use std::alloc::{AllocError, Global};
 use std::sync::Arc;
 
@@ -36,6 +39,19 @@ fn mutator_of(
     })
 }
 
+/// A tracer that has done nothing.
+fn tracer_of(
+    heap: &Arc<Heap, Global>,
+    seat: HeapSeat,
+    _k: u32,
+    name: u32,
+) -> Result<Tracer, AllocError>
+    requires seat { IsNewSeat (arc_value heap.now) _k seat }
+    ensures fresh { IfOk result (IsNewTracer (arc_value heap.now) name _k) }
+{
+    Ok(Tracer::of_seat(Arc::try_clone(heap)?, seat, name))
+}
+
 /// Deals so many seats out to mutators, one after the other.
 fn deal_mutators(
     alloc: Global,
@@ -49,12 +65,37 @@ fn deal_mutators(
     requires shared { IsTrue (arc_value heap.now).shape.sharing }
     ensures fresh { IfOk result (λ r. AreFresh (arc_value heap.now) sizes.name 1 r.items) }
     ensures count { IfOk result (λ r. vec_len r ≡ sizes.mutators) }
+    ensures rest { IfOk result (λ _. AreNew (arc_value heap.now) (1 + sizes.mutators) seats.new.items) }
+    ensures left { IfOk result (λ _. vec_len seats.new + sizes.mutators ≡ vec_len seats.old) }
 {
     let mut all = Vec::new(alloc);
     for at in 0..sizes.mutators {
-        let seat = next_seat(seats);
+        let seat = first_of(seats);
         let mutator = mutator_of(heap, seat, 1 + at, sizes.name)?;
         all.push(mutator)?;
+    }
+    Ok(all)
+}
+
+/// Deals so many seats, which are those from `first` on, out to tracers.
+fn deal_tracers(
+    alloc: Global,
+    heap: &Arc<Heap, Global>,
+    first: u32,
+    sizes: SharedSizes,
+    seats: &mut Vec<HeapSeat>,
+) -> Result<Vec<Tracer>, AllocError>
+    requires new { AreNew (arc_value heap.now) first seats.old.items }
+    requires enough { sizes.tracers ≤ vec_len seats.old }
+    requires few { (first ≤ 33) × (sizes.tracers ≤ 8) }
+    ensures fresh { IfOk result (λ r. AreNewTracers (arc_value heap.now) sizes.name first r.items) }
+    ensures count { IfOk result (λ r. vec_len r ≡ sizes.tracers) }
+{
+    let mut all = Vec::new(alloc);
+    for at in 0..sizes.tracers {
+        let seat = first_of(seats);
+        let tracer = tracer_of(heap, seat, first + at, sizes.name)?;
+        all.push(tracer)?;
     }
     Ok(all)
 }
@@ -69,8 +110,9 @@ fn share(
 ) -> Result<SharedWorld, AllocError>
     requires fits { Fits sizes }
     requires zero { RestsOutside heap zero × IsRootSeat heap zero }
+    requires opened { HasSeats heap sizes.tracers zero }
     requires new { AreNew heap 1 seats.old.items }
-    requires count { vec_len seats.old ≡ sizes.mutators }
+    requires count { vec_len seats.old ≡ sizes.mutators + sizes.tracers }
     requires shared { IsTrue heap.shape.sharing }
     requires cells { heap.shape.cells ≡ sizes.cells }
     requires shape { (heap.shape.fields ≡ sizes.fields) × (heap.shape.sections ≡ 1 + sizes.mutators) × (heap.shape.slots ≡ sizes.slots) }
@@ -78,24 +120,27 @@ fn share(
 {
     let heap = Arc::new(alloc, heap)?;
     let mutators = deal_mutators(alloc, &heap, sizes, seats)?;
+    let tracers = deal_tracers(alloc, &heap, 1 + sizes.mutators, sizes, seats)?;
     Ok(SharedWorld {
         heap,
         zero,
         mutators,
+        tracers,
         sizes,
     })
 }
 
-/// A world of these sizes, which fit.
+/// A world of these sizes, which fit. Out of memory is the only refusal.
 pub fn open_fitting(alloc: Global, sizes: SharedSizes) -> Result<SharedWorld, NotOpened>
     requires fits { Fits sizes }
     ensures opened { IfOk result (λ w. IsSharedOpened sizes w) }
+    ensures refused { IfErr result (λ e. e ≡ OutOfMemory) }
 {
     let (heap, mut seats) = match open(alloc, &sizes) {
         Ok(made) => made,
         Err(_) => return Err(NotOpened::OutOfMemory),
     };
-    let mut zero = next_seat(&mut seats);
+    let mut zero = first_of(&mut seats);
     if !open_turn(&heap, &mut zero) {
         return Err(NotOpened::OutOfMemory);
     }

@@ -1,30 +1,24 @@
-//! A shared world is opened, and lends its mutators.
+//! A shared world is opened, and lends its mutators and tracers.
 ghost use Rattle.std.specs.Prelude.{◌≡◌, ◌<◌, ◌+◌, [], ◌∷◌, IfErr, IfNone, IfOk, IfSome, OnOk, vec_len};
 ghost use Rattle.std.specs.Arc.{arc_value};
 ghost use Rattle.std.specs.Bool.{OnTrue};
 ghost use Rattle.gc_table.specs.Seats.{Across, view_of};
 ghost use Rattle.mutator_turns.specs.Standing.{RestsOutside};
 ghost use Rattle.shared_heap.specs.Calls.{SharerLeft};
-ghost use Rattle.shared_heap.specs.Lending.{IsBack, IsSharedOpened, KeepsRest, ReadsNumbers};
+ghost use Rattle.shared_heap.specs.Lending.{HasAllStill, IsBack, IsSharedOpened, KeepsRest, ReadsNumbers};
+ghost use Rattle.mutator_turns.specs.declared.refused.NotOpened.TheVariants.{OutOfRange};
 ghost use Rattle.shared_heap.specs.Rooting.{IsRootSeat};
+ghost use Rattle.shared_heap.specs.Sizing.{Fits};
 
 use crate::dealing::open_fitting;
 use crate::mutator::SharedMutator;
 use crate::sizes::SharedSizes;
+use crate::taking::first_of;
 use crate::world::{SharedStatistics, SharedWorld};
 use gc_table::{Heap, HeapSeat};
 use mark_core::{FREE, LAST};
 use mutator_turns::NotOpened;
 use std::alloc::Global;
-
-/// The first of the mutators that are left.
-pub(crate) fn first_of(mutators: &mut Vec<SharedMutator>) -> SharedMutator
-    requires some { 0 < vec_len mutators.old }
-    ensures first { mutators.old.items ≡ result ∷ mutators.new.items }
-    ensures count { vec_len mutators.new + 1 ≡ vec_len mutators.old }
-{
-    mutators.remove(0)
-}
 
 /// Reads the numbers of the heap.
 fn read_numbers(heap: &Heap, seat: &mut HeapSeat) -> SharedStatistics
@@ -32,6 +26,7 @@ fn read_numbers(heap: &Heap, seat: &mut HeapSeat) -> SharedStatistics
     requires first { IsRootSeat heap.now seat.old }
     ensures rests { RestsOutside heap.now seat.new }
     ensures first { IsRootSeat heap.now seat.new }
+    ensures opened { (view_of seat.new).opened ≡ (view_of seat.old).opened }
     ensures read { Across (ReadsNumbers result heap.now) seat.old seat.new }
 {
     let free = heap.read_stat(seat, FREE);
@@ -48,6 +43,7 @@ impl SharedWorld {
     /// there is no memory.
     pub fn open(alloc: Global, sizes: SharedSizes) -> Result<SharedWorld, NotOpened>
         ensures opened { IfOk result (λ w. IsSharedOpened sizes w) }
+        ensures refused { IfErr result (λ e. e ≡ OutOfRange → Fits sizes → ⊥) }
     {
         if !sizes.fit() {
             return Err(NotOpened::OutOfRange);
@@ -59,7 +55,8 @@ impl SharedWorld {
     pub fn mutator(&mut self) -> Option<SharedMutator>
         ensures some { IfSome result (λ m. self.old.mutators.items ≡ m ∷ self.new.mutators.items) }
         ensures none { IfNone result (self.old.mutators.items ≡ []) }
-        ensures rest { KeepsRest self.old self.new }
+        ensures still { IfNone result (self.new.mutators.items ≡ []) }
+        ensures rest { KeepsRest self.old self.new × (self.new.tracers ≡ self.old.tracers) }
     {
         if self.mutators.is_empty() {
             return None;
@@ -79,7 +76,8 @@ impl SharedWorld {
     pub fn take_mutator(&mut self, mutator: SharedMutator) -> Result<(), SharedMutator>
         ensures back { OnOk result (IsBack mutator self.old self.new) }
         ensures refused { IfErr result (SharerLeft mutator) }
-        ensures rest { KeepsRest self.old self.new }
+        ensures kept { IfErr result (λ _. self.new.mutators.items ≡ self.old.mutators.items) }
+        ensures rest { KeepsRest self.old self.new × (self.new.tracers ≡ self.old.tracers) }
     {
         let name = mutator.name;
         let mut mutator = mutator;
@@ -96,7 +94,7 @@ impl SharedWorld {
     /// Numbers of the heap. Where others act on it meanwhile, each is of another moment.
     pub fn statistics(&mut self) -> SharedStatistics
         ensures read { ReadsNumbers result (arc_value self.old.heap) (view_of self.old.zero) (view_of self.new.zero) }
-        ensures rest { (self.new.heap ≡ self.old.heap) × (self.new.mutators ≡ self.old.mutators) × (self.new.sizes ≡ self.old.sizes) }
+        ensures rest { HasAllStill self.old self.new }
     {
         read_numbers(&self.heap, &mut self.zero)
     }

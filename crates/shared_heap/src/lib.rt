@@ -19,30 +19,37 @@
 //!
 //! # Where things are
 //!
-//! `world` and `mutator` have the two types, and `sizes` the sizes. `opening` makes a heap with its root, `dealing` deals its seats out to mutators, `lending`
-//! lends these and takes them back, and `closing` closes the world. What a mutator does is in `calls`, `exchanging`, `slots` and `identity`.
+//! `world` and `mutator` have the two types, and `sizes` the sizes. `opening` makes a heap with its root, `dealing` deals its seats out to mutators and tracers, `lending`
+//! lends these and takes them back, as `tracing` does with the tracers, and `closing` closes the world. What a mutator does is in `calls`, `exchanging`, `slots`
+//! and `identity`. A mutator that doesn't wait, and a tracer, are in `seat_steps`; `handing` turns a mutator into such a one and back.
 #![tactic(auto)]
 
-ghost use Rattle.shared_heap.specs.Counting.{CounterClosed, LockClosed};
+ghost use Rattle.shared_heap.specs.Counting.{CounterClosed, CounterRead, LockClosed};
 ghost use Rattle.shared_heap.specs.Threads.{ThreadsRun};
 
 mod calls;
 mod closing;
 mod dealing;
 mod exchanging;
+mod handing;
 mod identity;
 mod lending;
 mod mutator;
 mod opening;
 mod planning;
+mod reading;
 mod sizes;
 mod slots;
+mod taking;
+mod tracing;
 mod world;
 
 pub use closing::{NotClosed, Unclosed};
 pub use gc_table::Words;
 pub use mutator::{Place, SharedMutator};
 pub use mutator_turns::{NotOpened, Refused};
+pub use reading::root_value;
+pub use seat_steps::{Came, Stage, Stepper, Tracer, TryTurn, Turn};
 pub use sizes::SharedSizes;
 pub use world::{SharedStatistics, SharedWorld};
 
@@ -57,6 +64,11 @@ pub fn threads_run()
 /// of exchanges that their logs say were won, whatever the schedule.
 pub fn counter_closed()
     ensures { CounterClosed }
+{}
+
+/// So is the value that [`root_value`] reads in the words of the closed world.
+pub fn counter_read()
+    ensures { CounterRead }
 {}
 
 /// Where they made no object, and each that was outside exchanged a value 0 for 1 alone, and each that came in 1 for 0, no two were inside at any moment, whatever

@@ -45,7 +45,7 @@ fn shape_of(sizes: &SharedSizes) -> Shape
     }
 }
 
-/// The heap, with a seat for each section.
+/// The heap, with a seat for each section and each tracer.
 pub fn open(alloc: Global, sizes: &SharedSizes) -> Result<(Heap, Vec<HeapSeat>), NotOpened>
     requires fits { Fits sizes.now }
     ensures cells { IfOk result (λ r. r.0.shape.cells ≡ sizes.now.cells) }
@@ -53,25 +53,16 @@ pub fn open(alloc: Global, sizes: &SharedSizes) -> Result<(Heap, Vec<HeapSeat>),
     ensures shared { IfOk result (λ r. IsTrue r.0.shape.sharing) }
     ensures objects { IfOk result (λ r. r.0.shape.objects ≡ 4294967295) }
     ensures sections { IfOk result (λ r. r.0.shape.sections ≡ 1 + sizes.now.mutators) }
-    ensures count { IfOk result (λ r. vec_len r.1 ≡ 1 + sizes.now.mutators) }
+    ensures count { IfOk result (λ r. vec_len r.1 ≡ 1 + sizes.now.mutators + sizes.now.tracers) }
     ensures slots { IfOk result (λ r. r.0.shape.slots ≡ sizes.now.slots) }
     ensures seats { IfOk result (λ r. AreNew r.0 0 r.1.items) }
-    ensures first { IfOk result (λ r. (s : HeapSeat) → slice_get r.1.items 0 ≡ Some s → (view_of s).opened ≡ r.0.shape.sections) }
+    ensures first { IfOk result (λ r. (s : HeapSeat) → slice_get r.1.items 0 ≡ Some s → (view_of s).opened ≡ r.0.shape.sections + sizes.now.tracers) }
 {
     let shape = shape_of(sizes);
-    match Heap::create(alloc, shape, shape.sections, &RootPlan) {
+    match Heap::create(alloc, shape, shape.sections + sizes.tracers, &RootPlan) {
         Ok(made) => Ok(made),
         Err(_) => Err(NotOpened::OutOfMemory),
     }
-}
-
-/// The first of the seats that are left.
-pub fn next_seat(seats: &mut Vec<HeapSeat>) -> HeapSeat
-    requires some { 0 < vec_len seats.old }
-    ensures first { seats.old.items ≡ result ∷ seats.new.items }
-    ensures count { vec_len seats.new + 1 ≡ vec_len seats.old }
-{
-    seats.remove(0)
 }
 
 /// Goes in at the turn of section 0. False where the heap isn't new.

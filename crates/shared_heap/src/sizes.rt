@@ -19,6 +19,7 @@ pub struct SharedSizes {
     pub(crate) cells: u32,
     pub(crate) fields: u32,
     pub(crate) mutators: u32,
+    pub(crate) tracers: u32,
     pub(crate) slots: u32,
     pub(crate) packets: u32,
     pub(crate) entries: u32,
@@ -26,15 +27,16 @@ pub struct SharedSizes {
 }
 
 impl SharedSizes {
-    /// A heap of so many cells, 64 to 16,777,216, a multiple of 64. Objects have two references, and there is one mutator, without slots, unless other numbers
-    /// are given.
+    /// A heap of so many cells, 64 to 16,777,216, a multiple of 64. Objects have two references, and there is one mutator, without slots, and no tracer, unless
+    /// other numbers are given.
     pub fn of_cells(cells: u32) -> SharedSizes
-        ensures { result ≡ record { cells = cells; fields = 2; mutators = 1; slots = 0; packets = 64; entries = usual cells; name = 0 } }
+        ensures { result ≡ record { cells = cells; fields = 2; mutators = 1; tracers = 0; slots = 0; packets = 64; entries = usual cells; name = 0 } }
     {
         SharedSizes {
             cells,
             fields: 2,
             mutators: 1,
+            tracers: 0,
             slots: 0,
             packets: 64,
             entries: usual_entries(cells),
@@ -54,6 +56,13 @@ impl SharedSizes {
         ensures { result ≡ record self { mutators = mutators } }
     {
         SharedSizes { mutators, ..self }
+    }
+
+    /// With so many tracers, 0 to 8. A tracer helps where a processor is free for it: without any, mutators trace as they make objects.
+    pub fn tracers(self, tracers: u32) -> SharedSizes
+        ensures { result ≡ record self { tracers = tracers } }
+    {
+        SharedSizes { tracers, ..self }
     }
 
     /// With so many slots for each mutator, 0 to 65,536: roots besides its 32 variables, for the frames of a stack.
@@ -76,7 +85,7 @@ impl SharedSizes {
         }
     }
 
-    /// With this name, which the world's mutators have too: where a program has several worlds, each with a name of its own, none takes back what another
+    /// With this name, which the world's mutators and tracers have too: where a program has several worlds, each with a name of its own, none takes back what another
     /// lent. Any number will do; 0 where none is given.
     pub fn named(self, name: u32) -> SharedSizes
         ensures { result ≡ record self { name = name } }
@@ -96,6 +105,7 @@ impl SharedSizes {
             && self.fields <= 16
             && 1 <= self.mutators
             && self.mutators <= 32
+            && self.tracers <= 8
             && self.slots <= 65_536
             && 2 <= self.packets
             && self.packets <= 1024

@@ -1,11 +1,12 @@
-//! A heap whose objects threads share, with those of its mutators that nobody has.
+//! A heap whose objects threads share, with those of its mutators and tracers that nobody has.
 ghost use Rattle.std.specs.Arc.{arc_value};
 ghost use Rattle.mutator_turns.specs.Standing.{RestsOutside};
-ghost use Rattle.shared_heap.specs.Rooting.{IsRootSeat};
+ghost use Rattle.shared_heap.specs.Rooting.{HasSeats, IsRootSeat};
 
 use crate::mutator::SharedMutator;
 use crate::sizes::SharedSizes;
 use gc_table::{Heap, HeapSeat};
+use seat_steps::Tracer;
 use std::alloc::Global;
 use std::sync::Arc;
 
@@ -20,17 +21,20 @@ pub struct SharedStatistics {
     pub marked: u64,
 }
 
-/// A heap whose objects threads share. It has those of its mutators that nobody has taken.
+/// A heap whose objects threads share. It has those of its mutators and tracers that nobody has taken.
 #[derive(Drop)]
 pub struct SharedWorld {
-    /// The heap, which its mutators share.
+    /// The heap, which its mutators and tracers share.
     pub(crate) heap: Arc<Heap, Global>,
     /// The seat of section 0, which has the root in its variable 0. From then on it reads and tells.
     pub(crate) zero: HeapSeat,
     /// The mutators that nobody has taken.
     pub(crate) mutators: Vec<SharedMutator>,
+    /// The tracers that nobody has taken.
+    pub(crate) tracers: Vec<Tracer>,
     /// The sizes that it was opened with.
     pub(crate) sizes: SharedSizes,
     ghost rests: { RestsOutside (arc_value heap) zero },
     ghost first: { IsRootSeat (arc_value heap) zero },
+    ghost opened: { HasSeats (arc_value heap) sizes.tracers zero },
 }

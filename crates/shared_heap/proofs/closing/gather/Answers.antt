@@ -1,4 +1,4 @@
-use Rattle.std.proofs.Common.{◌≡◌, All, arith, subst, sym}
+use Rattle.std.proofs.Common.{◌≡◌, ◌∙◌, All, arith, subst, sym}
 use Rattle.std.proofs.lemmas.List.Elements.{All-head, All-push, All-rest}
 use Rattle.std.specs.Arc.{arc_value}
 use Rattle.gc_table.specs.declared.seat.Heap.{Heap}
@@ -12,7 +12,7 @@ loop-at-preserved c =
     let h : Heap = arc_value c.args._heap.now in
     let i = c.loop-at.invariant in
     let m : SharedMutator = c.first_of-mutator.result in
-    let more = c.first_of-mutator.new.mutators.items in
+    let more = c.first_of-mutator.new.all.items in
     let first = c.first_of-mutator.ensures.first in
     let here : arc_value m.heap ≡ h = All-head (λ (x : SharedMutator). arc_value x.heap ≡ h) m more (subst (All (λ (x : SharedMutator). arc_value x.heap ≡ h)) first i.same) in
     record {
@@ -21,4 +21,12 @@ loop-at-preserved c =
       same = All-rest (λ (x : SharedMutator). arc_value x.heap ≡ h) m more c.loop-at.mutators.items first i.same;
       count = omega (arith, i.count, c.first_of-mutator.ensures.count);
       room = omega (arith, i.room, c.first_of-mutator.ensures.count, c.push_reserved-in-loop-at.ensures.len, c.push_reserved-in-loop-at.ensures.capacity);
+      long = omega (arith, i.long, c.first_of-mutator.ensures.count, c.push_reserved-in-loop-at.ensures.len);
+      capacity = c.push_reserved-in-loop-at.ensures.capacity ∙ i.capacity;
     }
+
+pub returns-clause-room : goal.returns-clause-room
+returns-clause-room c =
+    let i = c.loop-at.invariant in
+    let over = c.loop-at-test.false in
+    (omega (arith, i.long, i.count, over), i.capacity)

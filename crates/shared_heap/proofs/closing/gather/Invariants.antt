@@ -13,4 +13,6 @@ invariant-loop-at l = record {
   same : All (λ (m : SharedMutator). arc_value m.heap ≡ arc_value l._heap) l.mutators.items;
   count : vec_len l.mutators + l._at ≡ l.count;
   room : vec_len l.mutators + vec_len l.seats ≤ vec_capacity l.seats;
+  long : vec_len l.mutators + vec_len l.seats ≡ vec_len l.fn.mutators + 1;
+  capacity : vec_capacity l.seats ≡ vec_capacity l.fn.room;
 }

@@ -1,4 +1,4 @@
-use Rattle.shared_heap.proofs.Few.{exchanged-few}
+use Rattle.seat_steps.proofs.Few.{exchanged-few}
 use Rattle.shared_heap.proofs.mutator.SharedMutator.exchange.Goals as goal
 
 pub returns-else-word_of-eq0-clause-few : goal.returns-else-word_of-eq0-clause-few

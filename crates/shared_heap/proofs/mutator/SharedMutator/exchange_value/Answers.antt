@@ -1,4 +1,4 @@
-use Rattle.shared_heap.proofs.Few.{exchanged-one}
+use Rattle.seat_steps.proofs.Few.{exchanged-one}
 use Rattle.shared_heap.proofs.mutator.SharedMutator.exchange_value.Goals as goal
 
 pub returns-else-word_of-eq0-clause-few : goal.returns-else-word_of-eq0-clause-few

@@ -1,4 +1,4 @@
-use Rattle.shared_heap.proofs.Few.{filled-few}
+use Rattle.seat_steps.proofs.Few.{filled-few}
 use Rattle.shared_heap.proofs.mutator.SharedMutator.fill.Goals as goal
 
 pub returns-in-Inside-clause-few : goal.returns-in-Inside-clause-few

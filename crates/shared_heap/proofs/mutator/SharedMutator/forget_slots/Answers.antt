@@ -1,4 +1,4 @@
-use Rattle.shared_heap.proofs.Few.{cleared-few}
+use Rattle.seat_steps.proofs.Few.{cleared-few}
 use Rattle.shared_heap.proofs.mutator.SharedMutator.forget_slots.Goals as goal
 
 pub returns-in-Inside-clause-few : goal.returns-in-Inside-clause-few

@@ -2,7 +2,7 @@ use Rattle.std.proofs.Common.{◌≡◌, ◌+◌, ◌-◌, arith}
 use Rattle.std.specs.Arc.{arc_value}
 use Rattle.mark_core.specs.Steps.MutatorSteps.{seat_variable as word_in}
 use Rattle.gc_table.specs.Seats.{state_of}
-use Rattle.shared_heap.proofs.Places.{seat-inside}
+use Rattle.seat_steps.proofs.Places.{seat-inside}
 use Rattle.shared_heap.proofs.mutator.SharedMutator.place.Goals as goal
 
 pub returns-else-word-eq0-clause-inside : goal.returns-else-word-eq0-clause-inside

@@ -1,4 +1,4 @@
-use Rattle.shared_heap.proofs.Few.{took-one}
+use Rattle.seat_steps.proofs.Few.{took-one}
 use Rattle.shared_heap.proofs.mutator.SharedMutator.spill.Goals as goal
 
 pub returns-in-Inside-clause-few : goal.returns-in-Inside-clause-few

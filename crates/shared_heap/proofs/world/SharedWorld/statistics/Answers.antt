@@ -1,4 +1,4 @@
-use Rattle.std.proofs.Common.{◌≡◌, rules, subst}
+use Rattle.std.proofs.Common.{◌≡◌, ◌∙◌, rules, subst}
 use Rattle.std.specs.Arc.{arc_value}
 use Rattle.gc_table.specs.declared.seat.Heap.{Heap}
 use Rattle.mutator_turns.specs.Standing.{RestsOutside}
@@ -11,4 +11,5 @@ invariant_of-self c =
     record {
       rests = subst (λ (h : Heap). RestsOutside h c.read_numbers.new.seat) same c.read_numbers.ensures.rests;
       first = subst (λ (h : Heap). IsRootSeat h c.read_numbers.new.seat) same c.read_numbers.ensures.first;
+      opened = c.read_numbers.ensures.opened ∙ c.args.self.now.opened;
     }

@@ -1,0 +1,90 @@
+-- The value that the words of a closed world have of its root is the one that the plain heap has.
+use Rattle.std.proofs.Common.{ℕ, zero, suc, ◌≡◌, ◌⊎◌, ⊎_elim, inl, inr, ◌<◌, ◌+◌, ◌∙◌, List, [], ◌∷◌, ap, arith, length, refl, subst, sym, Bool, true, false, None, Some}
+use Rattle.std.specs.Prelude.{if◌then◌else◌, is_none, slice_get, slice_index, take, ◌-◌}
+use Rattle.std.specs.Arc.{arc_value}
+use Rattle.std.proofs.lemmas.Bool.{ne_eqb}
+use Rattle.std.proofs.lemmas.List.{take_all}
+use Rattle.std.proofs.lemmas.Option.{get_or_from_slice_get, same_Some, slice_get_within}
+use Rattle.plain_heap.specs.Paths.{Name}
+use Rattle.mark_core.specs.Cells.{in_use}
+use Rattle.mark_core.specs.Layout.{words_of}
+use Rattle.mark_core.specs.Laws.{IsCore}
+use Rattle.mark_core.specs.Steps.{Core, after_event, failing_part, run_of, start_core}
+use Rattle.mark_core.specs.Views.{makers}
+use Rattle.mark_core.specs.declared.kinds.Event.{Event}
+use Rattle.mark_core.specs.declared.kinds.Shape.{Shape}
+use Rattle.mark_core.proofs.Consequences.Closing.{goes-to}
+use Rattle.mark_core.proofs.Pool.PoolsKept.{shape-kept}
+use Rattle.gc_table.specs.Ends.{AreWords}
+use Rattle.gc_table.specs.declared.words.Words.{Words}
+use Rattle.shared_runs.specs.Agreement.{AgreesWith}
+use Rattle.shared_runs.specs.World.{World, WorldObject, name_at, object_of, referred, variable_of}
+use Rattle.shared_runs.proofs.Stores.{values-length}
+use Rattle.heap_runs.specs.Runs.{core_after}
+use Rattle.heap_runs.specs.Sharing.{heap_after_events}
+use Rattle.shared_heap.specs.Counting.{CounterRead, root_value_of, value_at}
+use Rattle.shared_heap.proofs.Counting.{counter-closed}
+use Rattle.shared_heap.proofs.Threads.{threads-run}
+
+shape_by : (b : Bool) (x y : Core) (sh : Shape) → x.shape ≡ sh → y.shape ≡ sh → (if b then x else y).shape ≡ sh
+shape_by true x y sh p q = p
+shape_by false x y sh p q = q
+
+run_shape : (es : List Event) (c : Core) → (run_of es c).shape ≡ c.shape
+run_shape [] c = refl
+run_shape (e ∷ es) c = shape_by (is_none (failing_part c e)) (run_of es (after_event c e)) c c.shape (run_shape es (after_event c e) ∙ shape-kept c e) refl
+
+-- a word that refers to an object with a value isn't nil
+value_some : (values : List ℕ) (word n : ℕ) → value_at values word ≡ Some n → (c : ℕ) × (word ≡ suc c) × (slice_get values c ≡ Some n)
+value_some values zero n e = absurd (cc)
+value_some values (suc c) n e =
+    let no = ne_eqb (suc c) 0 (λ z. omega (arith, z)) in
+    let one : suc c - 1 ≡ c = omega arith in (
+      c,
+      refl,
+      ap (slice_get values) (sym one) ∙ (ap (λ (b : Bool). if b then None else slice_get values (suc c - 1)) (sym no) ∙ e),
+    )
+
+some_word : (words : List ℕ) (c : ℕ) → slice_index words 0 ≡ suc c → 0 < length words
+some_word [] c e = absurd (cc)
+some_word (x ∷ xs) c e = omega arith
+
+none_some : (x : Name) → Some x ≡ None → ⊥
+none_some x e = cc
+
+-- where variable 0 of section 0 refers to the object of this name, or to nothing, the value that the words have there is this object's
+held : (d : Core) (world : World) (w : Words) (root : Name) (n : ℕ) → IsCore d → AgreesWith d world → AreWords d.shape d.words w → (variable_of world 0 0 ≡ None) ⊎ (variable_of world 0 0 ≡ Some root) → root_value_of w ≡ Some n
+    → (object : WorldObject) × (object_of world root ≡ Some object) × (object.value ≡ n)
+held d world w root n core agrees words kept e =
+    let ids : List ℕ = (words_of d.shape d.words).identities in
+    let roots : List ℕ = (words_of d.shape d.words).roots in
+    let values : List ℕ = (words_of d.shape d.words).values in
+    let some = value_some w.values.items (slice_index w.roots.items 0) n e in
+    let c : ℕ = some.0 in
+    let word : slice_index roots 0 ≡ suc c = ap (λ (l : List ℕ). slice_index l 0) (sym words.roots) ∙ some.1 in
+    let refers : Some (name_at ids c) ≡ variable_of world 0 0 = ap (referred ids) (sym word) ∙ agrees.roots_agree 0 0 (omega (arith, core.formed.shaped.sections)) (omega arith) in
+    let there : slice_get values c ≡ Some n = ap (λ (l : List ℕ). slice_get l c) (sym words.values) ∙ some.2 in
+    let within : c < d.shape.cells = subst (λ (k : ℕ). c < k) (values-length d core) (slice_get_within values c n there) in
+    let named : slice_index roots 0 ≡ c + 1 = omega (arith, word) in
+    let used : in_use (words_of d.shape d.words).allocs (makers d.seats) c ≡ true = goes-to (in_use (words_of d.shape d.words).allocs (makers d.seats)) (slice_index roots 0) c named (core.sound.references.roots_in_use 0 0 (some_word roots c word)) in
+    let holds = agrees.cells_agree c within used in
+    let name : name_at ids c ≡ root = ⊎_elim (λ (z : variable_of world 0 0 ≡ None). absurd (none_some (name_at ids c) (refers ∙ z))) (λ (z : variable_of world 0 0 ≡ Some root). same_Some (name_at ids c) root (refers ∙ z)) kept in (
+      holds.object,
+      subst (λ (m : Name). object_of world m ≡ Some holds.object) name holds.there,
+      sym holds.value ∙ get_or_from_slice_get values c n 0 there,
+    )
+
+pub counter-read : CounterRead
+counter-read world mutators tracers w end all raised n e =
+    let r = threads-run world mutators tracers w end in
+    let es : List Event = r.0 in
+    let sh : Shape = (arc_value world.heap).shape in
+    let k : ℕ = length es in
+    let d : Core = core_after sh 1 es k in
+    let whole : take k es ≡ es = take_all k es (omega arith) in
+    let shape : d.shape ≡ sh = run_shape (take k es) (start_core sh 1) in
+    let ends : AreWords sh d.words w = subst (λ (l : List Event). AreWords sh (run_of l (start_core sh 1)).words w) (sym whole) r.1.run.ends in
+    let words : AreWords d.shape d.words w = subst (λ (s : Shape). AreWords s d.words w) (sym shape) ends in
+    let kept = ⊎_elim (λ z. inl z.0) (λ z. inr z) (r.1.kept k) in
+    let root = held d (heap_after_events sh es k) w r.1.root n (r.1.run.sound k) (r.1.agrees k) words kept e in
+    sym root.2 ∙ counter-closed world mutators tracers w end es r.1 all raised root.0 root.1

@@ -1,0 +1,31 @@
+use Rattle.std.proofs.Common.{ℕ, ◌≡◌, ◌+◌, [], ◌∷◌, List, ap, length, length-append, subst, sym, arith}
+use Rattle.std.proofs.lemmas.Grind.{common_steps}
+use Rattle.std.specs.Arc.{arc_value}
+use Rattle.gc_table.specs.declared.seat.Heap.{Heap}
+use Rattle.gc_table.specs.declared.seat.HeapSeat.{HeapSeat}
+use Rattle.shared_heap.specs.Lending.{IsNewTracer}
+use Rattle.shared_heap.specs.Opening.{AreNew}
+use Rattle.shared_heap.proofs.Beginning.{first-new, rest-new}
+use Rattle.shared_heap.proofs.Dealt.{tracer-push}
+use Rattle.shared_heap.proofs.dealing.deal_tracers.Goals as goal
+
+pub loop-at-preserved : goal.loop-at-preserved
+loop-at-preserved c =
+    let h : Heap = arc_value c.args.heap.now in
+    let i = c.loop-at.invariant in
+    let name : ℕ = c.args.sizes.name in
+    let xs : List HeapSeat = c.first_of-seat.new.all.items in
+    let next : c.args.first + c.loop-at.at + 1 ≡ c.args.first + (c.loop-at.at + 1) = omega arith in
+    let rest = rest-new h (c.args.first + c.loop-at.at) c.first_of-seat.result xs c.loop-at.seats.items c.first_of-seat.ensures.first i.new in
+    let last : IsNewTracer h name (c.args.first + length c.loop-at.all.items) c.in_ok-tracer.tracer =
+    subst (λ (n : ℕ). IsNewTracer h name (c.args.first + n) c.in_ok-tracer.tracer) (sym i.long) c.in_ok-tracer.ensures.fresh in
+    record {
+      new = subst (λ n. AreNew h n xs) next rest;
+      rest = omega (arith, i.rest, c.first_of-seat.ensures.count);
+      fresh = tracer-push h name c.args.first c.loop-at.all.items c.push.new.self.items c.in_ok-tracer.tracer i.fresh last c.in_ok-push.ensures.items;
+      count = grind (arith, common_steps);
+      long = omega (arith, i.long, ap length c.in_ok-push.ensures.items, length-append c.loop-at.all.items (c.in_ok-tracer.tracer ∷ []));
+    }
+
+pub tracer_of-requires : goal.tracer_of-requires
+tracer_of-requires c = record { seat = first-new (arc_value c.args.heap.now) (c.args.first + c.loop-at.at) c.first_of-seat.result c.first_of-seat.new.all.items c.loop-at.seats.items c.first_of-seat.ensures.first c.loop-at.invariant.new }

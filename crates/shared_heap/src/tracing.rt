@@ -1,0 +1,79 @@
+//! A shared world lends its tracers and dismisses them, and frees its heap.
+ghost use Rattle.std.specs.Prelude.{◌≡◌, ◌<◌, ◌++◌, [], ◌∷◌, IfErr, IfNone, IfSome, OnOk, vec_len};
+ghost use Rattle.std.specs.Bool.{OnFalse, OnTrue};
+ghost use Rattle.gc_table.specs.Seats.{Across};
+ghost use Rattle.stop_world.specs.Gates.{TurnsBack};
+ghost use Rattle.seat_steps.specs.Trying.{Dismisses, DismissesInside};
+ghost use Rattle.shared_heap.specs.Lending.{AreAllBack, HasAllStill, KeepsRest};
+
+use crate::world::SharedWorld;
+use seat_steps::{Tracer, tell_dismissed, try_dismiss};
+use std::sync::Wait;
+
+impl SharedWorld {
+    /// One of the tracers that nobody has. None where all are taken.
+    pub fn tracer(&mut self) -> Option<Tracer>
+        ensures some { IfSome result (λ t. self.old.tracers.items ≡ self.new.tracers.items ++ t ∷ []) }
+        ensures none { IfNone result (self.old.tracers.items ≡ []) }
+        ensures still { IfNone result (self.new.tracers.items ≡ []) }
+        ensures rest { KeepsRest self.old self.new × (self.new.mutators ≡ self.old.mutators) }
+    {
+        self.tracers.pop()
+    }
+
+    /// Takes a tracer back. It is handed back where it has the name of another world, where all of this world's are back, or where there is no memory to note
+    /// it.
+    pub fn take_tracer(&mut self, tracer: Tracer) -> Result<(), Tracer>
+        ensures back { OnOk result (self.new.tracers.items ≡ self.old.tracers.items ++ tracer ∷ []) }
+        ensures out { OnOk result ((tracer.name ≡ self.old.sizes.name) × (vec_len self.old.tracers < self.old.sizes.tracers)) }
+        ensures refused { IfErr result (λ t. t ≡ tracer) }
+        ensures kept { IfErr result (λ _. self.new.tracers.items ≡ self.old.tracers.items) }
+        ensures rest { KeepsRest self.old self.new × (self.new.mutators ≡ self.old.mutators) }
+    {
+        if tracer.name() != self.sizes.name || self.tracers.len() >= self.sizes.tracers as usize {
+            return Err(tracer);
+        }
+        match self.tracers.push(tracer) {
+            Ok(()) => Ok(()),
+            Err(failed) => Err(failed.value),
+        }
+    }
+
+    /// Tells the tracers that they are dismissed: each that runs ends, also one that sleeps, and each later turn answers so.
+    pub fn dismiss_tracers<R: Wait>(&mut self, rt: &R)
+        ensures dismisses { Across DismissesInside self.old.zero self.new.zero }
+        ensures rest { HasAllStill self.old self.new }
+    {
+        tell_dismissed(rt, &self.heap, &mut self.zero);
+    }
+
+    /// Tells the tracers that they are dismissed, as [`dismiss_tracers`](SharedWorld::dismiss_tracers) does, but without waiting. False where a stop is under
+    /// way: then it is to be called again. It wakes none: a tracer that sleeps finds it when it wakes by itself.
+    pub fn try_dismiss_tracers(&mut self) -> bool
+        ensures dismisses { OnTrue result (Across Dismisses self.old.zero self.new.zero) }
+        ensures turns { OnFalse result (Across TurnsBack self.old.zero self.new.zero) }
+        ensures rest { HasAllStill self.old self.new }
+    {
+        try_dismiss(&self.heap, &mut self.zero)
+    }
+
+    /// Whether all mutators and tracers are back.
+    fn has_all(&self) -> bool
+        ensures all { OnTrue result (AreAllBack self.now) }
+        ensures missing { OnFalse result (AreAllBack self.now → ⊥) }
+    {
+        self.mutators.len() == self.sizes.mutators as usize
+            && self.tracers.len() == self.sizes.tracers as usize
+    }
+
+    /// Frees the heap, and hands out no words. It is refused, and the world handed back, exactly where a mutator or a tracer isn't back.
+    pub fn free(self) -> Result<(), SharedWorld>
+        ensures freed { OnOk result (AreAllBack self) }
+        ensures refused { IfErr result (λ world. (world ≡ self) × (AreAllBack self → ⊥)) }
+    {
+        if self.has_all() {
+            return Ok(());
+        }
+        Err(self)
+    }
+}
