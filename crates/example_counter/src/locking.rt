@@ -1,0 +1,151 @@
+//! A lock: the value of the root, which is 1 while one of two threads has it.
+ghost use Rattle.std.specs.Prelude.{◌+◌, IfOk, IfSome, false, if◌then◌else◌, true};
+ghost use Rattle.std.specs.Bool.{OnTrue};
+ghost use Rattle.std.specs.Thread.{IsSync};
+ghost use Rattle.shared_heap.specs.Logs.{AddsLocks, AddsQuiet};
+ghost use Rattle.example_counter.specs.Locking.{IsAlone};
+
+use crate::worlds::{Pair, close, open};
+use shared_heap::{Refused, SharedMutator, Words, lock_closed, threads_run};
+use std::sync::Wait;
+use std::thread::{Threads, join_mut};
+
+/// The variables: the root, one to look with, and one that refers to nothing.
+const ROOT: u8 = 0;
+
+const FOUND: u8 = 1;
+
+const NONE: u8 = 2;
+
+/// Tries to take the lock, and lets a collection go by: true where it is had.
+fn try_take<R: Wait>(rt: &R, m: &mut SharedMutator) -> Option<bool>
+    ensures taken { IfSome result (λ had. AddsLocks false had (if had then 1 else 0) m.old m.new) }
+{
+    let Ok(had) = m.exchange_value(ROOT, 0, 1) else {
+        return None;
+    };
+    match m.safe_point(rt) {
+        Ok(()) => Some(had),
+        Err(_) => None,
+    }
+}
+
+/// Takes the lock, as soon as nobody has it. False where a call was refused.
+fn take<R: Wait>(rt: &R, m: &mut SharedMutator) -> bool
+    ensures taken { OnTrue result (AddsLocks false true 1 m.old m.new) }
+{
+    let mut had = false;
+    for _ in rt.forever() {
+        if had {
+            break;
+        }
+        match try_take(rt, m) {
+            Some(won) => had = won,
+            None => return false,
+        }
+    }
+    true
+}
+
+/// Leaves the lock. False where it wasn't had, or a call was refused.
+fn leave(m: &mut SharedMutator) -> bool
+    ensures left { OnTrue result (AddsLocks true false 1 m.old m.new) }
+{
+    match m.exchange_value(ROOT, 1, 0) {
+        Ok(won) => won,
+        Err(_) => false,
+    }
+}
+
+/// Lets the root's field 0 refer to the root where it referred to nothing, and to nothing where it referred to the root: a look and then a store, which nobody is
+/// to come between.
+fn flip(m: &mut SharedMutator) -> Result<(), Refused>
+    ensures quiet { IfOk result (λ _. AddsQuiet m.old m.new) }
+{
+    m.get(FOUND, ROOT, 0)?;
+    let next = if m.is_nil(FOUND)? { ROOT } else { NONE };
+    m.set(ROOT, 0, next)
+}
+
+/// Takes the lock, flips the field and leaves the lock.
+fn visit_once<R: Wait>(rt: &R, m: &mut SharedMutator) -> bool
+    ensures visited { OnTrue result (AddsLocks false false 2 m.old m.new) }
+{
+    if !take(rt, m) {
+        return false;
+    }
+    match flip(m) {
+        Ok(()) => leave(m),
+        Err(_) => false,
+    }
+}
+
+/// Does so as often as is asked.
+fn visit_often<R: Wait>(rt: &R, m: &mut SharedMutator, times: u32) -> bool
+    ensures visited { OnTrue result (AddsLocks false false (times + times) m.old m.new) }
+{
+    let mut done = 0u32;
+    for _ in rt.forever() {
+        if done >= times {
+            break;
+        }
+        if !visit_once(rt, m) {
+            return false;
+        }
+        done += 1;
+    }
+    true
+}
+
+/// What one thread does: it takes the lock so many times.
+fn act<R: Wait>(rt: &R, m: &mut SharedMutator, times: u32) -> bool
+    ensures visited { OnTrue result (AddsLocks false false (times + times) m.old m.new) }
+{
+    if m.enter(rt).is_err() || m.root(ROOT).is_err() || !visit_often(rt, m, times) {
+        return false;
+    }
+    m.leave();
+    true
+}
+
+/// What the two threads do.
+fn play<R: Wait + Threads + Sync>(
+    rt: &R,
+    first: &mut SharedMutator,
+    second: &mut SharedMutator,
+    times: u32,
+) -> bool
+    ensures first { OnTrue result (AddsLocks false false (times + times) first.old first.new) }
+    ensures second { OnTrue result (AddsLocks false false (times + times) second.old second.new) }
+{
+    let (one, two) = join_mut(
+        rt,
+        &mut || -> bool
+            requires { IsSync R.row }
+            ensures { OnTrue result (AddsLocks false false (times + times) first.entry.now first.exit.now) }
+        { act(rt, first, times) },
+        &mut || -> bool
+            requires { IsSync R.row }
+            ensures { OnTrue result (AddsLocks false false (times + times) second.entry.now second.exit.now) }
+        { act(rt, second, times) },
+    );
+    one && two
+}
+
+/// Two threads take a lock so many times each, and flip a field while they have it. Whatever the schedule, at no moment of the run whose end the words say both had
+/// it, and each had it so many times. None where a call was refused or there is no memory.
+pub fn visit<R: Wait + Threads + AllocGlobal + Sync>(rt: &R, times: u32) -> Option<Words>
+    ensures alone { IfSome result (IsAlone times) }
+{
+    let Pair {
+        world,
+        mut first,
+        mut second,
+    } = open(rt.alloc())?;
+    if !play(rt, &mut first, &mut second, times) {
+        return None;
+    }
+    threads_run();
+    lock_closed();
+    close(rt.alloc(), world, first, second)
+}
