@@ -3,8 +3,11 @@
  *
  * A *world* is a heap that threads share. A thread acts on it through a *mutator* of its own, which has 32 variables, 0 to 31. They are its roots: what
  * can be reached from them is kept, and all else is garbage. An object has a value of 32 bits and as many references as the world's sizes say. No call
- * hands out an address of an object, so the collector misses none. Each mutator has objects of its own. Marking
- * goes on as the mutators make objects. Where a processor is free, a thread marks beside them with a *tracer*.
+ * hands out an address of an object, so the collector misses none. Marking goes on as the mutators make objects. Where a processor is free, a thread marks
+ * beside them with a *tracer*.
+ *
+ * In a world that isn't shared each mutator has objects of its own. In a *shared* world all mutators read and store in all objects, and begin at one object,
+ * the *root*. There a mutator may have *slots* too: roots besides its variables, for the frames of a stack.
  *
  * No call of the library waits. What may take long is done in steps: the functions whose names end in _step or _turn do one and return. The others of the same
  * name go on until it is done, and rest meanwhile: they yield some times, and then sleep.
@@ -24,7 +27,7 @@ extern "C" {
 #endif
 
 /* The version of these calls. The first number rises where a program has to be changed or compiled again. */
-#define MH_VERSION "1.0"
+#define MH_VERSION "2.0"
 
 /* What a call came to. Where it isn't MH_OK, objects and variables are as before, but for what a line here says. */
 typedef enum mh_status {
@@ -35,8 +38,8 @@ typedef enum mh_status {
     MH_NO_CELL = 3,       /* no cell is free for this mutator now: collect. Of mh_make: its collections left none for it; forget something, or try later */
     MH_OUTSIDE = 4,       /* the mutator is outside the world: enter first */
     MH_COLLECTING = 5,    /* the mutator is between two steps of its collection: mh_collect_step first */
-    MH_OUT_OF_RANGE = 6,  /* a variable is not below 32, a field not below the world's, a size not in its range, or the bound of a step is 0 */
-    MH_NIL = 7,           /* the variable refers to no object: there is no value, and nothing is stored */
+    MH_OUT_OF_RANGE = 6,  /* a variable is not below 32, a field or a slot not below the world's, a size not in its range, or the bound of a step is 0 */
+    MH_NIL = 7,           /* the variable refers to no object: there is no value, no place and no number, and nothing is stored */
     MH_FULL = 8,          /* the reachable objects fill all cells, for good, as a mutator in Rattle has found: none enters any more. Where C has all mutators,
                              MH_NO_CELL comes instead, and isn't final */
     MH_SPENT = 9,         /* the mutator has made 4,294,967,295 objects, which are all that have numbers */
@@ -49,7 +52,8 @@ typedef enum mh_status {
     MH_IDLE = 15,         /* of a tracer: no cycle is marking, so there is nothing to do now */
     MH_DISMISSED = 16,    /* of a tracer: the world has dismissed its tracers */
     MH_STILL_LENT = 17,   /* of mh_close: not all mutators and tracers are given back */
-    MH_TAKEN = 18         /* the handle that is to be filled is filled already */
+    MH_TAKEN = 18,        /* the handle that is to be filled is filled already */
+    MH_NOT_SHARED = 19    /* the world isn't shared, and the call is for a shared one */
 } mh_status;
 
 /* A status in words. */
@@ -74,6 +78,7 @@ static inline const char *mh_status_text(mh_status s) {
     case MH_DISMISSED: return "the tracers are dismissed";
     case MH_STILL_LENT: return "not all mutators and tracers are given back";
     case MH_TAKEN: return "the handle is filled already";
+    case MH_NOT_SHARED: return "the world isn't shared";
     }
     return "no status of managed_heap";
 }
@@ -86,14 +91,17 @@ typedef struct mh_tracer { void *at; } mh_tracer;
 /* Names from this one on are those that mh_open gives. */
 #define MH_NAMES 0x80000000u
 
-/* Sizes of a world: cells 64 to 16,777,216, a multiple of 64; references in an object 1 to 16; mutators 1 to 32; a name below MH_NAMES; and tracers 0 to 8.
-   A world takes no mutator and no tracer back from a world with another name. One whose name is 0 here gets a name that no other has. */
+/* Sizes of a world: cells 64 to 16,777,216, a multiple of 64; references in an object 1 to 16; mutators 1 to 32; a name below MH_NAMES; tracers 0 to 8;
+   1 where its objects are shared, else 0; and the slots of a mutator, 0 to 65,536 in a shared world and 0 in any other. A world takes no mutator and no tracer
+   back from a world with another name. One whose name is 0 here gets a name that no other has. */
 typedef struct mh_sizes {
     uint32_t cells;
     uint32_t fields;
     uint32_t mutators;
     uint32_t name;
     uint32_t tracers;
+    uint32_t shared;
+    uint32_t slots;
 } mh_sizes;
 
 /* Numbers of a world, each as it was read. */
@@ -123,6 +131,14 @@ mh_status mhl_is_nil(mh_mutator *m, uint32_t v, uint32_t *out);
 mh_status mhl_same(mh_mutator *m, uint32_t v, uint32_t w, uint32_t *out);
 mh_status mhl_collect_step(mh_mutator *m, uint32_t most);
 mh_status mhl_is_stopping(mh_mutator *m, uint32_t *out);
+mh_status mhl_root(mh_mutator *m, uint32_t v);
+mh_status mhl_exchange(mh_mutator *m, uint32_t v, uint32_t i, uint32_t expected, uint32_t next, uint32_t *won);
+mh_status mhl_exchange_value(mh_mutator *m, uint32_t v, uint32_t expected, uint32_t next, uint32_t *won);
+mh_status mhl_spill(mh_mutator *m, uint32_t v, uint32_t k);
+mh_status mhl_fill(mh_mutator *m, uint32_t v, uint32_t k);
+mh_status mhl_forget_slots(mh_mutator *m, uint32_t from, uint32_t to);
+mh_status mhl_place(mh_mutator *m, uint32_t v, uint32_t *place);
+mh_status mhl_number(mh_mutator *m, uint32_t v, uint32_t *section, uint32_t *number);
 mh_status mhl_take_tracer(mh_world *world, mh_tracer *t);
 mh_status mhl_give_back_tracer(mh_world *world, mh_tracer *t);
 mh_status mhl_trace_turn(mh_tracer *t);
@@ -200,6 +216,32 @@ static inline mh_status mh_same(mh_mutator *m, uint32_t v, uint32_t w, uint32_t 
 static inline mh_status mh_collect_step(mh_mutator *m, uint32_t most) { return MH_BY(m, mhl_collect_step(m, most)); }
 /* 1 where its collection waits for the mutators that are inside, so that a rest is due before its next step, else 0. */
 static inline mh_status mh_is_stopping(mh_mutator *m, uint32_t *out) { return MH_BY(m, mhl_is_stopping(m, out)); }
+
+/* What a mutator does in a shared world alone, but for mh_place. Elsewhere each other is MH_NOT_SHARED. */
+
+/* v becomes the root: the object that the world made as it opened, by which its mutators find each other's objects. */
+static inline mh_status mh_root(mh_mutator *m, uint32_t v) { return MH_BY(m, mhl_root(m, v)); }
+/* Where field i of v's object is what the variable `expected` is, it becomes what the variable `next` is, in one step, and `won` 1, else 0. Either variable may
+   be nil; MH_NIL where v is. */
+static inline mh_status mh_exchange(mh_mutator *m, uint32_t v, uint32_t i, uint32_t expected, uint32_t next, uint32_t *won) {
+    return MH_BY(m, mhl_exchange(m, v, i, expected, next, won));
+}
+/* Where the value of v's object is the number `expected` it becomes the number `next`, in one step, and `won` 1, else 0. MH_NIL where v is nil. */
+static inline mh_status mh_exchange_value(mh_mutator *m, uint32_t v, uint32_t expected, uint32_t next, uint32_t *won) {
+    return MH_BY(m, mhl_exchange_value(m, v, expected, next, won));
+}
+/* Slot k becomes what v is, and keeps it reachable. */
+static inline mh_status mh_spill(mh_mutator *m, uint32_t v, uint32_t k) { return MH_BY(m, mhl_spill(m, v, k)); }
+/* v becomes what slot k is. */
+static inline mh_status mh_fill(mh_mutator *m, uint32_t v, uint32_t k) { return MH_BY(m, mhl_fill(m, v, k)); }
+/* The slots from `from` on and below `to` become nil. */
+static inline mh_status mh_forget_slots(mh_mutator *m, uint32_t from, uint32_t to) { return MH_BY(m, mhl_forget_slots(m, from, to)); }
+/* The place of v's object, a number below the world's number of cells. The object stays there as long as it is reachable, and meanwhile no other is there.
+   MH_NIL where v is nil. */
+static inline mh_status mh_place(mh_mutator *m, uint32_t v, uint32_t *place) { return MH_BY(m, mhl_place(m, v, place)); }
+/* Which object v's is: the number of the mutator that made it, from 1 on, and how many that one had made before. The root's are 0 and 0. No two objects of a
+   world have the same two. MH_NIL where v is nil. */
+static inline mh_status mh_number(mh_mutator *m, uint32_t v, uint32_t *section, uint32_t *number) { return MH_BY(m, mhl_number(m, v, section, number)); }
 
 /* A tracer: for one thread at a time. */
 

@@ -1,6 +1,7 @@
 /*
  * Calls at the edge: the greatest and the least number that each refuses, stores into nothing, handles that are filled or lent, worlds without a name, and
- * what a thread takes of a processor while it waits for a collection. After each refusal the variables and the objects are as before.
+ * what a thread takes of a processor while it waits for a collection. After each refusal the variables and the objects are as before. Calls for a shared world are
+ * refused in the first world, and tried at their edges in another.
  */
 #include "heap.h"
 #include <string.h>
@@ -67,6 +68,117 @@ static void field(uint32_t i) {
     is_as_before();
 }
 
+/* What is for a shared world alone is refused by name, whatever its numbers are, and nothing changed. */
+static void calls_for_shared_worlds(uint32_t k) {
+    uint32_t out = 77, other = 77;
+    MUST_BE(MH_NOT_SHARED, mh_root(&m, k));
+    MUST_BE(MH_NOT_SHARED, mh_exchange(&m, k, k, k, k, &out));
+    MUST_BE(MH_NOT_SHARED, mh_exchange(&m, 0, 0, 0, 1, &out));
+    MUST_BE(MH_NOT_SHARED, mh_exchange_value(&m, k, 10, 11, &out));
+    MUST_BE(MH_NOT_SHARED, mh_spill(&m, 0, k));
+    MUST_BE(MH_NOT_SHARED, mh_fill(&m, 0, k));
+    MUST_BE(MH_NOT_SHARED, mh_forget_slots(&m, 0, k));
+    MUST_BE(MH_NOT_SHARED, mh_number(&m, k, &out, &other));
+    wrong("what was written", out, 77);
+    wrong("what was written besides", other, 77);
+    is_as_before();
+}
+
+static void sizes_of_worlds(void) {
+    static const uint32_t odd[][2] = {{2, 0}, {256, 0}, {65536, 0}, {0x80000000, 0}, {0xffffffff, 0}, {0, 1}, {0, 65536}, {1, 65537}, {1, 0x80000000}, {1, 0xffffffff}, {2, 7}};
+    uint32_t k;
+    for (k = 0; k < sizeof odd / sizeof *odd; k++) {
+        mh_sizes sizes = {64, 1, 1, 0, 0, odd[k][0], odd[k][1]};
+        mh_world other = {0};
+        MUST_BE(MH_OUT_OF_RANGE, mh_open(&sizes, &other));
+        wrong("whether the handle is empty", other.at == 0, 1);
+    }
+}
+
+/* A shared world whose mutators have all slots that there are. */
+static void shared_world(void) {
+    mh_sizes sizes = {64, FIELDS, 1, 0, 0, 1, 65536};
+    mh_world shared = {0};
+    mh_mutator n = {0};
+    uint32_t k, out = 77, other = 77, value = 0;
+    MUST(mh_open(&sizes, &shared));
+    MUST(mh_take_mutator(&shared, &n));
+    MUST_BE(MH_OUTSIDE, mh_root(&n, 0));
+    MUST(mh_enter(&n));
+    MUST(mh_root(&n, 0));
+    MUST(mh_make(&n, 1, 11));
+    for (k = 0; k < sizeof refused / sizeof *refused; k++) {
+        uint32_t v = 32 + refused[k], i = FIELDS + refused[k];
+        MUST_BE(MH_OUT_OF_RANGE, mh_root(&n, v));
+        MUST_BE(MH_OUT_OF_RANGE, mh_exchange(&n, v, 0, 2, 1, &out));
+        MUST_BE(MH_OUT_OF_RANGE, mh_exchange(&n, 0, i, 2, 1, &out));
+        MUST_BE(MH_OUT_OF_RANGE, mh_exchange(&n, 0, 0, v, 1, &out));
+        MUST_BE(MH_OUT_OF_RANGE, mh_exchange(&n, 0, 0, 2, v, &out));
+        MUST_BE(MH_OUT_OF_RANGE, mh_exchange_value(&n, v, 0, 1, &out));
+        MUST_BE(MH_OUT_OF_RANGE, mh_spill(&n, v, 0));
+        MUST_BE(MH_OUT_OF_RANGE, mh_fill(&n, v, 0));
+        MUST_BE(MH_OUT_OF_RANGE, mh_place(&n, v, &out));
+        MUST_BE(MH_OUT_OF_RANGE, mh_number(&n, v, &out, &other));
+        if (refused[k] < 0xffff0000) {
+            MUST_BE(MH_OUT_OF_RANGE, mh_spill(&n, 1, 65536 + refused[k]));
+            MUST_BE(MH_OUT_OF_RANGE, mh_fill(&n, 1, 65536 + refused[k]));
+            MUST_BE(MH_OUT_OF_RANGE, mh_forget_slots(&n, 0, 65537 + refused[k]));
+        }
+    }
+    MUST_BE(MH_OUT_OF_RANGE, mh_forget_slots(&n, 1, 0));
+    MUST_BE(MH_NIL, mh_exchange(&n, 2, 0, 2, 1, &out));
+    MUST_BE(MH_NIL, mh_exchange_value(&n, 2, 0, 1, &out));
+    MUST_BE(MH_NIL, mh_place(&n, 2, &out));
+    MUST_BE(MH_NIL, mh_number(&n, 2, &out, &other));
+    wrong("what was written", out, 77);
+    wrong("what was written besides", other, 77);
+    MUST(mh_value(&n, 1, &value));
+    wrong("the value of variable 1", value, 11);
+    MUST(mh_spill(&n, 1, 65535));
+    MUST(mh_forget(&n, 1));
+    MUST(mh_forget_slots(&n, 0, 65535));
+    MUST(mh_collect(&n));
+    MUST(mh_fill(&n, 1, 65535));
+    MUST(mh_value(&n, 1, &value));
+    wrong("what the last slot kept", value, 11);
+    MUST(mh_exchange(&n, 0, 2, 2, 1, &out));
+    wrong("whether an exchange of nothing was won", out, 1);
+    MUST(mh_exchange(&n, 0, 2, 2, 0, &out));
+    wrong("whether the same was won again", out, 0);
+    MUST(mh_exchange_value(&n, 1, 11, 0xffffffff, &out));
+    wrong("whether an exchange of a value was won", out, 1);
+    MUST(mh_exchange_value(&n, 1, 11, 5, &out));
+    wrong("whether the same was won again", out, 0);
+    MUST(mh_value(&n, 1, &value));
+    wrong("the value that was exchanged", value, 0xffffffff);
+    MUST(mh_number(&n, 1, &out, &other));
+    wrong("the maker of the first object", out, 1);
+    wrong("which of its maker's it is", other, 0);
+    MUST(mh_number(&n, 0, &out, &other));
+    wrong("the maker of the root", out, 0);
+    wrong("which of its maker's it is", other, 0);
+    MUST(mh_give_back(&shared, &n));
+    MUST(mh_close(&shared));
+}
+
+/* Neither kind of world takes a mutator of the other kind, also where both have one name. */
+static void kinds(void) {
+    mh_sizes sizes = {64, 1, 1, 7, 0, 0, 0};
+    mh_world own = {0}, shared = {0};
+    mh_mutator o = {0}, s = {0};
+    MUST(mh_open(&sizes, &own));
+    sizes.shared = 1;
+    MUST(mh_open(&sizes, &shared));
+    MUST(mh_take_mutator(&own, &o));
+    MUST(mh_take_mutator(&shared, &s));
+    MUST_BE(MH_REFUSED, mh_give_back(&own, &s));
+    MUST_BE(MH_REFUSED, mh_give_back(&shared, &o));
+    MUST(mh_give_back(&shared, &s));
+    MUST(mh_give_back(&own, &o));
+    MUST(mh_close(&own));
+    MUST(mh_close(&shared));
+}
+
 static void stores_into_nothing(void) {
     uint32_t out = 77;
     MUST_BE(MH_NIL, mh_set(&m, 2, 0, 1));
@@ -80,7 +192,7 @@ static void stores_into_nothing(void) {
 }
 
 static void handles(void) {
-    mh_sizes sizes = {64, 1, 1, 0, 0};
+    mh_sizes sizes = {64, 1, 1, 0, 0, 0, 0};
     mh_world other = {0};
     mh_mutator n = {0};
     MUST_BE(MH_TAKEN, mh_open(&sizes, &world));
@@ -139,8 +251,12 @@ int main(void) {
     MUST(mh_set(&m, 0, 2, 1));
     for (k = 0; k < sizeof refused / sizeof *refused; k++) variable(32 + refused[k]);
     for (k = 0; k < sizeof refused / sizeof *refused; k++) field(FIELDS + refused[k]);
+    for (k = 0; k < sizeof refused / sizeof *refused; k++) calls_for_shared_worlds(refused[k]);
     stores_into_nothing();
     handles();
+    sizes_of_worlds();
+    shared_world();
+    kinds();
     waiting();
     MUST(mh_give_back(&world, &m));
     MUST(mh_close(&world));

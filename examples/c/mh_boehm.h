@@ -11,21 +11,22 @@
 
 typedef enum mh_status {
     MH_OK, MH_NOT_YET, MH_STOPPED, MH_NO_CELL, MH_OUTSIDE, MH_COLLECTING, MH_OUT_OF_RANGE, MH_NIL, MH_FULL, MH_SPENT, MH_OUT_OF_MEMORY, MH_GIVEN_BACK,
-    MH_IN_USE, MH_NONE_LEFT, MH_REFUSED, MH_IDLE, MH_DISMISSED, MH_STILL_LENT, MH_TAKEN
+    MH_IN_USE, MH_NONE_LEFT, MH_REFUSED, MH_IDLE, MH_DISMISSED, MH_STILL_LENT, MH_TAKEN, MH_NOT_SHARED
 } mh_status;
 
-typedef struct mh_sizes { uint32_t cells, fields, mutators, name, tracers; } mh_sizes;
+typedef struct mh_sizes { uint32_t cells, fields, mutators, name, tracers, shared, slots; } mh_sizes;
 typedef struct mh_numbers { uint32_t cells; uint64_t free, marked; } mh_numbers;
 struct mh_block { uint64_t value; struct mh_block *field[]; };
-typedef struct mh_world { void *at; mh_sizes sizes; uint32_t taken; } mh_world;
-typedef struct mh_mutator { void *at; struct mh_block *v[32]; uint32_t fields, inside; } mh_mutator;
+typedef struct mh_world { void *at; mh_sizes sizes; uint32_t taken; struct mh_block *root; } mh_world;
+typedef struct mh_mutator { void *at; struct mh_block *v[32], *root; uint32_t fields, inside; } mh_mutator;
 
 static inline mh_status mh_open(const mh_sizes *sizes, mh_world *w) {
     if (sizes->cells < 64 || sizes->cells % 64 || sizes->fields < 1 || sizes->fields > 16 || sizes->mutators < 1 || sizes->mutators > 32)
         return MH_OUT_OF_RANGE;
     GC_INIT();
     GC_allow_register_threads();
-    w->at = w; w->sizes = *sizes; w->taken = 0;
+    w->at = w; w->sizes = *sizes; w->taken = 0; w->root = 0;
+    if (sizes->shared && !(w->root = GC_MALLOC(sizeof(struct mh_block) + sizes->fields * sizeof(void *)))) return MH_OUT_OF_MEMORY;
     return MH_OK;
 }
 static inline mh_status mh_take_mutator(mh_world *w, mh_mutator *m) {
@@ -33,7 +34,7 @@ static inline mh_status mh_take_mutator(mh_world *w, mh_mutator *m) {
     if (!w->at) return MH_GIVEN_BACK;
     if (m->at) return MH_TAKEN;
     if (w->taken == w->sizes.mutators) return MH_NONE_LEFT;
-    w->taken++; m->at = w; m->inside = 0; m->fields = w->sizes.fields;
+    w->taken++; m->at = w; m->inside = 0; m->fields = w->sizes.fields; m->root = w->root;
     for (k = 0; k < 32; k++) m->v[k] = 0;
     return MH_OK;
 }
@@ -72,12 +73,13 @@ static inline mh_status mh_make(mh_mutator *m, uint32_t v, uint32_t value) {
 static inline mh_status mh_set(mh_mutator *m, uint32_t v, uint32_t i, uint32_t w) {
     MH_AT(m, v < 32 && w < 32 && i < m->fields);
     if (!m->v[v]) return MH_NIL;
-    m->v[v]->field[i] = m->v[w];
+    if (m->root) __atomic_store_n(&m->v[v]->field[i], m->v[w], __ATOMIC_SEQ_CST);
+    else m->v[v]->field[i] = m->v[w];
     return MH_OK;
 }
 static inline mh_status mh_get(mh_mutator *m, uint32_t w, uint32_t v, uint32_t i) {
     MH_AT(m, v < 32 && w < 32 && i < m->fields);
-    m->v[w] = m->v[v] ? m->v[v]->field[i] : 0;
+    m->v[w] = !m->v[v] ? 0 : m->root ? __atomic_load_n(&m->v[v]->field[i], __ATOMIC_SEQ_CST) : m->v[v]->field[i];
     return MH_OK;
 }
 static inline mh_status mh_copy(mh_mutator *m, uint32_t w, uint32_t v) { MH_AT(m, v < 32 && w < 32); m->v[w] = m->v[v]; return MH_OK; }
@@ -85,13 +87,14 @@ static inline mh_status mh_forget(mh_mutator *m, uint32_t v) { MH_AT(m, v < 32);
 static inline mh_status mh_put(mh_mutator *m, uint32_t v, uint32_t value) {
     MH_AT(m, v < 32);
     if (!m->v[v]) return MH_NIL;
-    m->v[v]->value = value;
+    if (m->root) __atomic_store_n(&m->v[v]->value, value, __ATOMIC_SEQ_CST);
+    else m->v[v]->value = value;
     return MH_OK;
 }
 static inline mh_status mh_value(mh_mutator *m, uint32_t v, uint32_t *out) {
     MH_AT(m, v < 32);
     if (!m->v[v]) return MH_NIL;
-    *out = (uint32_t)m->v[v]->value;
+    *out = (uint32_t)(m->root ? __atomic_load_n(&m->v[v]->value, __ATOMIC_SEQ_CST) : m->v[v]->value);
     return MH_OK;
 }
 static inline mh_status mh_is_nil(mh_mutator *m, uint32_t v, uint32_t *out) { MH_AT(m, v < 32); *out = !m->v[v]; return MH_OK; }
@@ -101,11 +104,37 @@ static inline mh_status mh_same(mh_mutator *m, uint32_t v, uint32_t w, uint32_t 
     return MH_OK;
 }
 
+/* What a shared world has besides. There are no slots and no numbers of objects. */
+static inline mh_status mh_root(mh_mutator *m, uint32_t v) {
+    if (m->at && !m->root) return MH_NOT_SHARED;
+    MH_AT(m, v < 32);
+    m->v[v] = m->root;
+    return MH_OK;
+}
+static inline mh_status mh_exchange(mh_mutator *m, uint32_t v, uint32_t i, uint32_t expected, uint32_t next, uint32_t *won) {
+    struct mh_block *found;
+    if (m->at && !m->root) return MH_NOT_SHARED;
+    MH_AT(m, v < 32 && i < m->fields && expected < 32 && next < 32);
+    if (!m->v[v]) return MH_NIL;
+    found = m->v[expected];
+    *won = __atomic_compare_exchange_n(&m->v[v]->field[i], &found, m->v[next], 0, __ATOMIC_SEQ_CST, __ATOMIC_SEQ_CST);
+    return MH_OK;
+}
+static inline mh_status mh_exchange_value(mh_mutator *m, uint32_t v, uint32_t expected, uint32_t next, uint32_t *won) {
+    uint64_t found = expected;
+    if (m->at && !m->root) return MH_NOT_SHARED;
+    MH_AT(m, v < 32);
+    if (!m->v[v]) return MH_NIL;
+    *won = __atomic_compare_exchange_n(&m->v[v]->value, &found, next, 0, __ATOMIC_SEQ_CST, __ATOMIC_SEQ_CST);
+    return MH_OK;
+}
+
 /* There are no tracers: the collector marks with threads of its own. */
 typedef struct mh_tracer { void *at; } mh_tracer;
 static inline mh_status mh_take_tracer(mh_world *w, mh_tracer *t) { (void)w; (void)t; return MH_NONE_LEFT; }
 static inline mh_status mh_give_back_tracer(mh_world *w, mh_tracer *t) { (void)w; (void)t; return MH_GIVEN_BACK; }
 static inline mh_status mh_trace_turn(mh_tracer *t) { (void)t; return MH_GIVEN_BACK; }
+static inline mh_status mh_trace(mh_tracer *t) { (void)t; return MH_GIVEN_BACK; }
 static inline mh_status mh_dismiss(mh_world *w) { (void)w; return MH_OK; }
 static inline void mh_rest_turn(mh_status s, uint32_t *count) { (void)s; (void)count; }
 

@@ -36,7 +36,7 @@ run() {
     timeout "$seconds" "$work/$program" "$@" || fail "$program $* ended with status $?"
 }
 
-programs="binary_trees gcbench rewriter fuzz fills_up edges billion speed"
+programs="binary_trees gcbench rewriter fuzz fills_up edges billion speed queue map counter torture places"
 for name in $programs; do build "$name" "$name"; done
 
 echo "== trees on 1, 2, 4 threads beside 0, 1, 2 tracers, and terms"
@@ -54,6 +54,23 @@ run 60 edges
 for threads in 1 2 4; do run 120 fills_up $threads; done
 run 300 fuzz 1000000 1 1
 run 300 fuzz 1000000 4 3
+run 300 fuzz 1000000 1 1 1
+run 300 fuzz 1000000 4 3 1
+
+echo "== threads that share objects"
+for tracers in 0 2; do
+    run 300 queue 1 1 100000 64 $tracers
+    run 300 queue 2 2 150000 128 $tracers
+    run 300 map 4 50000 64 1024 $tracers
+    run 300 counter 4 20000 $tracers
+    run 300 torture 4 50000 512 $tracers 1
+done
+run 300 queue 4 4 25000 512 1
+run 300 map 8 20000 512 2048 1
+run 300 torture 2 100000 256 1 2
+run 300 torture 8 20000 1024 0 3
+run 300 places 4 50000 320
+if timeout 300 "$work/places" 1 1 320 1 >"$work/log"; then fail "a place is used after its object was forgotten, and nobody notices"; else tail -n 1 "$work/log"; fi
 
 echo "== many objects in few cells, and what a call takes"
 run 300 billion 20 65536
@@ -66,12 +83,15 @@ END
 then
     echo "== the same over Boehm's collector"
     libraries=-lgc
-    for name in binary_trees gcbench rewriter billion speed; do build "$name" "$name.boehm" -DOVER_BOEHM; done
+    for name in binary_trees gcbench rewriter billion speed queue map counter; do build "$name" "$name.boehm" -DOVER_BOEHM; done
     for threads in 1 2 4; do run 300 binary_trees.boehm 16 $threads; done
     run 300 gcbench.boehm 16
     run 300 rewriter.boehm 7 20
     run 300 billion.boehm 20
     run 300 speed.boehm 10
+    run 300 queue.boehm 2 2 100000 128
+    run 300 map.boehm 4 50000 64 1024
+    run 300 counter.boehm 4 20000
     libraries="$library"
 else
     echo "== no libgc here: the same over Boehm's collector is left out (Debian: libgc-dev)"
@@ -87,7 +107,7 @@ fi
 for kind in address,undefined thread; do
     if echo 'int main(void) { return 0; }' | cc -fsanitize=$kind -o "$work/there" -x c - 2>"$work/log" && "$work/there"; then
         echo "== under -fsanitize=$kind"
-        for name in binary_trees gcbench rewriter fuzz fills_up edges; do build "$name" "$name.checked" -g -fsanitize=$kind -fno-sanitize-recover=all; done
+        for name in binary_trees gcbench rewriter fuzz fills_up edges queue map counter torture places; do build "$name" "$name.checked" -g -fsanitize=$kind -fno-sanitize-recover=all; done
         run 600 binary_trees.checked 10 2 1 16384
         run 600 gcbench.checked 10
         run 600 rewriter.checked 5 5
@@ -95,6 +115,13 @@ for kind in address,undefined thread; do
         run 600 fuzz.checked 1000000 4 5
         run 600 fills_up.checked 4
         run 600 edges.checked
+        run 600 fuzz.checked 300000 1 4 1
+        run 600 fuzz.checked 300000 4 5 1
+        run 600 queue.checked 2 2 20000 128 1
+        run 600 map.checked 4 10000 64 1024 1
+        run 600 counter.checked 4 2000 1
+        run 600 torture.checked 4 10000 512 1 4
+        run 600 places.checked 4 10000 320
     else
         echo "== no -fsanitize=$kind here"
     fi

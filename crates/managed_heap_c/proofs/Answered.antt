@@ -1,20 +1,31 @@
 -- What the mutator behind a handle came to, where there is one.
-use Rattle.std.proofs.Common.{ℕ, ◌≡◌, refl, sym, subst, Option, Some, None, inl}
-use Rattle.managed_heap.specs.Calls.{heap_of}
-use Rattle.managed_heap.specs.Lending.{IsBack}
-use Rattle.managed_heap.specs.Stepping.{heap_of_stepper}
-use Rattle.managed_heap.specs.declared.mutator.Mutator.{Mutator}
-use Rattle.managed_heap.specs.declared.stepper.Came.{Came}
-use Rattle.managed_heap.specs.declared.stepper.Stepper.{Stepper}
-use Rattle.managed_heap.specs.declared.world.World.{World}
-use Rattle.managed_heap_c.specs.Answering.{Answers, AnswersOnce, GivesBack, status_of_came}
+use Rattle.std.proofs.Common.{ℕ, ◌≡◌, refl, sym, subst, Option, Some, None, inl, inr}
+use Rattle.std.specs.Prelude.{IsTrue}
+use Rattle.seat_steps.specs.Stepping.{is_collecting}
+use Rattle.seat_steps.specs.declared.stepper.Came.{Came}
+use Rattle.seat_steps.specs.declared.stepper.Stepper.{Stepper}
+use Rattle.managed_heap_c.specs.Answering.{Answers, AnswersOnce, GivesBack, StaysWith, status_of_came}
+use Rattle.managed_heap_c.specs.Kinds.{Refuses, TakesBack}
+use Rattle.managed_heap_c.specs.declared.hands.AnyWorld.{AnyWorld}
 
 pub answered : (P : Came → Stepper → Stepper → Type 0) (n : ℕ) (x : Option Stepper) (s t : Stepper) (came : Came) → x ≡ Some s → n ≡ status_of_came came → P came s t → Answers P n x (Some t)
 answered P n x s t came e k p = subst (λ q. Answers P n q (Some t)) (sym e) (came, t, k, refl, p)
 
 -- it went back to the world
-pub gone : (s : Stepper) (w x : World) (m : Mutator) (o y : Option Stepper) → o ≡ Some s → y ≡ None → heap_of m ≡ heap_of_stepper s → IsBack m w x → GivesBack 0 w x o y
-gone s w x m o y e n h b = subst (λ q. GivesBack 0 w x q y) (sym e) (subst (λ q. GivesBack 0 w x (Some s) q) (sym n) (refl, (m, h, b)))
+pub gone : (s : Stepper) (w x : AnyWorld) (o y : Option Stepper) → o ≡ Some s → y ≡ None → TakesBack s w x → GivesBack 0 w x o y
+gone s w x o y e n b = subst (λ q. GivesBack 0 w x q y) (sym e) (subst (λ q. GivesBack 0 w x (Some s) q) (sym n) (refl, b))
+
+-- the handle keeps it
+kept_on : (n : ℕ) (w x : AnyWorld) (s t : Stepper) (o y : Option Stepper) → o ≡ Some s → y ≡ Some t → StaysWith n w x s t → GivesBack n w x o y
+kept_on n w x s t o y e k p = subst (λ q. GivesBack n w x q y) (sym e) (subst (λ q. GivesBack n w x (Some s) q) (sym k) p)
+
+-- it collects, and is kept
+pub kept : (w : AnyWorld) (s : Stepper) (o y : Option Stepper) → o ≡ Some s → y ≡ Some s → IsTrue (is_collecting s.stage) → GivesBack 5 w w o y
+kept w s o y e k c = kept_on 5 w w s s o y e k (inl (refl, c, refl, refl))
+
+-- the world refused it
+pub refused : (w x : AnyWorld) (s t : Stepper) (o y : Option Stepper) → o ≡ Some s → y ≡ Some t → Refuses s t w x → GivesBack 14 w x o y
+refused w x s t o y e k r = kept_on 14 w x s t o y e k (inr (refl, r))
 
 -- the handle has what the call had, before and after
 pub once : (P : Came → Stepper → Stepper → Type 0) (n : ℕ) (x u y v : Option Stepper) → u ≡ x → v ≡ y → Answers P n u y → AnswersOnce P n x v

@@ -1,4 +1,7 @@
+pub mod Acted
 pub mod Answered
+pub mod Given
+pub mod Numbered
 pub mod Stored
 pub mod Tested
 pub mod Turned

@@ -1,17 +1,12 @@
 -- What an export answers.
 use Rattle.std.specs.Prelude.{ℕ, ◌≡◌, ◌⊎◌, Option, Some, None, IsTrue}
-use Rattle.std.specs.Arc.{arc_value}
-use Rattle.gc_table.specs.Seats.{view_of}
-use Rattle.managed_heap.specs.Lending.{AreAllBack, ReadsStatistics, IsBack}
-use Rattle.managed_heap.specs.Stepping.{ReadsValue, is_collecting, heap_of_stepper}
-use Rattle.managed_heap.specs.Calls.{heap_of}
-use Rattle.managed_heap.specs.declared.mutator.Mutator.{Mutator}
-use Rattle.managed_heap.specs.declared.world.Statistics.{Statistics}
-use Rattle.managed_heap.specs.declared.world.World.{World}
-use Rattle.managed_heap.specs.declared.stepper.Came.{Came}
-use Rattle.managed_heap.specs.declared.stepper.Came.TheVariants as cames
-use Rattle.managed_heap.specs.declared.stepper.Stepper.{Stepper}
-use Rattle.managed_heap_c.specs.declared.worlds.CNumbers.{CNumbers}
+use Rattle.seat_steps.specs.Stepping.{ReadsValue, is_collecting}
+use Rattle.seat_steps.specs.declared.stepper.Came.{Came}
+use Rattle.seat_steps.specs.declared.stepper.Came.TheVariants as cames
+use Rattle.seat_steps.specs.declared.stepper.Stepper.{Stepper}
+use Rattle.managed_heap_c.specs.Kinds.{Counts, HasAll, Refuses, TakesBack}
+use Rattle.managed_heap_c.specs.declared.hands.AnyWorld.{AnyWorld}
+use Rattle.managed_heap_c.specs.declared.sizes.CNumbers.{CNumbers}
 
 -- the number of what a mutator's call came to
 abbrev pub status_of_came : Came → ℕ
@@ -25,6 +20,7 @@ status_of_came cames.OutOfRange = 6
 status_of_came cames.Nil = 7
 status_of_came cames.Full = 8
 status_of_came cames.Spent = 9
+status_of_came cames.NotShared = 19
 
 -- the handle is in use by another thread, and nothing changed
 abbrev pub IsInUse : ℕ → Option Stepper → Option Stepper → Type 0
@@ -48,47 +44,35 @@ abbrev pub SparesGone : Option Stepper → ℕ → ℕ → Type 0
 SparesGone None before after = after ≡ before
 SparesGone (Some s) before after = Unit {0}
 
--- the world has a mutator back with these objects and variables
-abbrev pub TakesBack : Stepper → World → World → Type 0
-TakesBack s w x = (m : Mutator) × (heap_of m ≡ heap_of_stepper s) × IsBack m w x
-
--- the mutator is between two steps of a collection and stays, or the world refused it, and the objects and variables are as before
-abbrev pub StaysWith : ℕ → Stepper → Stepper → Type 0
-StaysWith n s t = ((n ≡ 5) × IsTrue (is_collecting s.stage) × (t ≡ s)) ⊎ ((n ≡ 14) × (heap_of_stepper t ≡ heap_of_stepper s))
+-- the mutator is between two steps of a collection and stays, and nothing changed; or the world refused it
+abbrev pub StaysWith : ℕ → AnyWorld → AnyWorld → Stepper → Stepper → Type 0
+StaysWith n w x s t = ((n ≡ 5) × IsTrue (is_collecting s.stage) × (t ≡ s) × (x ≡ w)) ⊎ ((n ≡ 14) × Refuses s t w x)
 
 -- the mutator went back, or there was none to go back, or the handle keeps it
-abbrev pub GivesBack : ℕ → World → World → Option Stepper → Option Stepper → Type 0
-GivesBack n w x None None = n ≡ 11
+abbrev pub GivesBack : ℕ → AnyWorld → AnyWorld → Option Stepper → Option Stepper → Type 0
+GivesBack n w x None None = (n ≡ 11) × (x ≡ w)
 GivesBack n w x None (Some t) = ⊥
 GivesBack n w x (Some s) None = (n ≡ 0) × TakesBack s w x
-GivesBack n w x (Some s) (Some t) = StaysWith n s t
+GivesBack n w x (Some s) (Some t) = StaysWith n w x s t
 
 -- the world was closed, or it has the mutator back, or the handle keeps it, or there was none to give back
-abbrev pub Gives : ℕ → Option World → Option World → Option Stepper → Option Stepper → Type 0
+abbrev pub Gives : ℕ → Option AnyWorld → Option AnyWorld → Option Stepper → Option Stepper → Type 0
 Gives n None y s t = (n ≡ 11) × (y ≡ None) × (t ≡ s)
 Gives n (Some w) None s t = ⊥
 Gives n (Some w) (Some x) s t = GivesBack n w x s t
 
 -- the answer of giving a mutator back; or its handle is in use, and nothing changed
-abbrev pub GivesOnce : ℕ → Option World → Option World → Option Stepper → Option Stepper → Type 0
+abbrev pub GivesOnce : ℕ → Option AnyWorld → Option AnyWorld → Option Stepper → Option Stepper → Type 0
 GivesOnce n w x s t = Gives n w x s t ⊎ ((n ≡ 12) × (x ≡ w) × (t ≡ s))
 
 -- the world was closed as all were back, or it was closed before, or not all are back
-abbrev pub ClosesWorld : ℕ → Option World → Option World → Type 0
+abbrev pub ClosesWorld : ℕ → Option AnyWorld → Option AnyWorld → Type 0
 ClosesWorld n None y = (n ≡ 11) × (y ≡ None)
-ClosesWorld n (Some w) None = (n ≡ 0) × AreAllBack w
-ClosesWorld n (Some w) (Some x) = (n ≡ 17) × (x ≡ w) × (AreAllBack w → ⊥)
-
--- the numbers that C has
-abbrev pub statistics_of : CNumbers → Statistics
-statistics_of out = record { cells = out.cells; free = out.free; marked = out.marked }
-
--- the numbers that C got are those that were read
-abbrev pub HasCounted : World → World → CNumbers → Type 0
-HasCounted w x out = ReadsStatistics (statistics_of out) (arc_value w.heap) (view_of w.zero) (view_of x.zero)
+ClosesWorld n (Some w) None = (n ≡ 0) × HasAll w
+ClosesWorld n (Some w) (Some x) = (n ≡ 17) × (x ≡ w) × (HasAll w → ⊥)
 
 -- the numbers were read, or the world was closed and nothing is written
-abbrev pub CountsWorld : ℕ → Option World → Option World → CNumbers → CNumbers → Type 0
+abbrev pub CountsWorld : ℕ → Option AnyWorld → Option AnyWorld → CNumbers → CNumbers → Type 0
 CountsWorld n None y before after = (n ≡ 11) × (y ≡ None) × (after ≡ before)
 CountsWorld n (Some w) None before after = ⊥
-CountsWorld n (Some w) (Some x) before after = (n ≡ 0) × HasCounted w x after
+CountsWorld n (Some w) (Some x) before after = (n ≡ 0) × Counts w x after

@@ -1,22 +1,21 @@
 -- What an export answers that asks of variables.
 use Rattle.std.specs.Prelude.{ℕ, ◌≡◌, ◌⊎◌, Bool, true, false, Result, Ok, Err}
-use Rattle.plain_heap.specs.PlainHeap.{variable}
-use Rattle.plain_heap.specs.declared.object.Ref.TheVariants.{Nil}
 use Rattle.plain_heap.specs.declared.operation.Op.{Op}
-use Rattle.managed_heap.specs.Asking.{DeclinesToTell, MayAsk}
-use Rattle.managed_heap.specs.Stepping.{heap_of_stepper}
-use Rattle.managed_heap.specs.Waiting.{is_stopping_at}
-use Rattle.managed_heap.specs.declared.stepper.Came.{Came}
-use Rattle.managed_heap.specs.declared.stepper.Came.TheVariants as cames
-use Rattle.managed_heap.specs.declared.stepper.Stepper.{Stepper}
+use Rattle.seat_steps.specs.Asking.{DeclinesToTell, MayAsk}
+use Rattle.seat_steps.specs.Doing.{RefersToNothing, RefersToOne}
+use Rattle.seat_steps.specs.Stepping.{shares}
+use Rattle.seat_steps.specs.Waiting.{is_stopping_at}
+use Rattle.seat_steps.specs.declared.stepper.Came.{Came}
+use Rattle.seat_steps.specs.declared.stepper.Came.TheVariants as cames
+use Rattle.seat_steps.specs.declared.stepper.Stepper.{Stepper}
 
 -- the variable refers to nothing
 abbrev pub IsNil : ℕ → Stepper → Type 0
-IsNil v s = variable (heap_of_stepper s) v ≡ Nil
+IsNil v s = RefersToNothing (shares s) v s.seat
 
 -- the variables refer to one object, or both to nothing
-abbrev pub RefersToOne : ℕ → ℕ → Stepper → Type 0
-RefersToOne v w s = variable (heap_of_stepper s) v ≡ variable (heap_of_stepper s) w
+abbrev pub AreOne : ℕ → ℕ → Stepper → Type 0
+AreOne v w s = RefersToOne (shares s) v w s.seat
 
 -- what is written for an answer
 abbrev pub number_of_answer : Bool → ℕ

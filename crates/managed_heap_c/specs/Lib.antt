@@ -1,9 +1,14 @@
+pub mod Acting
 pub mod Answering
 pub mod Asking
 pub mod Bytes
 pub mod Filled
+pub mod Kinds
 pub mod Lent
+pub mod Own
 pub mod Owned
+pub mod Sharing
+pub mod Sizing
 pub mod Storing
 pub mod Taking
 pub mod Tracers

@@ -1,23 +1,24 @@
 -- What a store into an object came to.
-use Rattle.std.specs.Prelude.{ℕ, ◌≡◌, Bool, true, false, Result, Ok, Err}
+use Rattle.std.specs.Prelude.{ℕ, ◌≡◌, [], Bool, true, false, Result, Ok, Err, IsFalse, IsTrue}
 use Rattle.std.specs.Arc.{arc_value}
 use Rattle.plain_heap.specs.PlainStep.{IsInRange}
 use Rattle.plain_heap.specs.declared.operation.Op.{Op}
-use Rattle.managed_heap.specs.Stepping.{Operates, StepperDoes, TakesFew, fields_in, heap_of_stepper}
-use Rattle.managed_heap.specs.declared.stepper.Came.{Came}
-use Rattle.managed_heap.specs.declared.stepper.Came.TheVariants as cames
-use Rattle.managed_heap.specs.declared.stepper.Stage.TheVariants.{Inside}
-use Rattle.managed_heap.specs.declared.stepper.Stepper.{Stepper}
+use Rattle.gc_table.specs.Seats.{did}
+use Rattle.seat_steps.specs.Stepping.{Operates, StepperDoes, TakesFew, fields_in, heap_of_stepper, shares}
+use Rattle.seat_steps.specs.declared.stepper.Came.{Came}
+use Rattle.seat_steps.specs.declared.stepper.Came.TheVariants as cames
+use Rattle.seat_steps.specs.declared.stepper.Stage.TheVariants.{Inside}
+use Rattle.seat_steps.specs.declared.stepper.Stepper.{Stepper}
 use Rattle.managed_heap_c.specs.Asking.{IsNil}
 
--- the variable refers to nothing, so nothing was stored: objects and variables are as they were, inside the world
+-- the variable refers to nothing, so nothing was stored: objects and variables are as they were, inside the world; where objects are shared no step was taken
 pub record StoresNothing (v : ℕ) (op : Op) (x y : Stepper) : Type 0 where
   pub nil : IsNil v x
   pub range : IsInRange (fields_in x) op
   pub was : x.stage ≡ Inside
   pub inside : y.stage ≡ Inside
-  pub objects : (heap_of_stepper y).objects ≡ (heap_of_stepper x).objects
-  pub variables : (heap_of_stepper y).variables ≡ (heap_of_stepper x).variables
+  pub own : IsFalse (shares x) → ((heap_of_stepper y).objects ≡ (heap_of_stepper x).objects) × ((heap_of_stepper y).variables ≡ (heap_of_stepper x).variables)
+  pub shared : IsTrue (shares x) → did x.seat y.seat ≡ []
   pub world : arc_value y.heap ≡ arc_value x.heap
   pub name_is : y.name ≡ x.name
   pub few : TakesFew op x y

@@ -1,13 +1,12 @@
 -- What an export of a tracer answers.
-use Rattle.std.specs.Prelude.{ℕ, ◌≡◌, ◌⊎◌, ◌<◌, ◌++◌, [], ◌∷◌, Option, Some, None, vec_len}
+use Rattle.std.specs.Prelude.{ℕ, ◌≡◌, ◌⊎◌, Option, Some, None}
 use Rattle.gc_table.specs.Seats.{Across}
-use Rattle.stop_world.specs.Gates.{TurnsBack}
-use Rattle.managed_heap.specs.Lending.{KeepsRest}
-use Rattle.managed_heap.specs.Trying.{Dismisses, TriesTurn}
-use Rattle.managed_heap.specs.declared.background.Tracer.{Tracer}
-use Rattle.managed_heap.specs.declared.try_turns.TryTurn.{TryTurn}
-use Rattle.managed_heap.specs.declared.try_turns.TryTurn.TheVariants as tries
-use Rattle.managed_heap.specs.declared.world.World.{World}
+use Rattle.seat_steps.specs.Trying.{TriesTurn}
+use Rattle.seat_steps.specs.declared.background.Tracer.{Tracer}
+use Rattle.seat_steps.specs.declared.try_turns.TryTurn.{TryTurn}
+use Rattle.seat_steps.specs.declared.try_turns.TryTurn.TheVariants as tries
+use Rattle.managed_heap_c.specs.Kinds as kinds
+use Rattle.managed_heap_c.specs.declared.hands.AnyWorld.{AnyWorld}
 use Rattle.managed_heap_c.specs.declared.hands.TracerHand.{TracerHand}
 use Rattle.managed_heap_c.specs.declared.slots.TracerSlot.{TracerSlot}
 
@@ -32,60 +31,48 @@ AnswersTurn n (Some s) y = (tried : TryTurn) × (t : Tracer) × (n ≡ status_of
 abbrev pub AnswersTurnOnce : ℕ → Option Tracer → Option Tracer → Type 0
 AnswersTurnOnce n x y = AnswersTurn n x y ⊎ ((n ≡ 12) × (y ≡ x))
 
--- all of the world is as it was, but that its tracers may be others
-abbrev pub KeepsMutators : World → World → Type 0
-KeepsMutators w x = KeepsRest w x × (x.mutators ≡ w.mutators)
-
 -- the world had this tracer, and has the others still
-abbrev pub IsLent : Tracer → Option World → Option World → Type 0
-IsLent t (Some w) (Some x) = (w.tracers.items ≡ x.tracers.items ++ t ∷ []) × KeepsMutators w x
+abbrev pub IsLent : Tracer → Option AnyWorld → Option AnyWorld → Type 0
+IsLent t (Some w) (Some x) = kinds.LendsTracer t w x
 IsLent t w x = ⊥
 
 -- the world was closed, or has no tracer left, and has all that it had
-abbrev pub LendsNone : ℕ → Option World → Option World → Type 0
+abbrev pub LendsNone : ℕ → Option AnyWorld → Option AnyWorld → Type 0
 LendsNone n None y = (n ≡ 11) × (y ≡ None)
 LendsNone n (Some w) None = ⊥
-LendsNone n (Some w) (Some x) = (n ≡ 13) × (w.tracers.items ≡ []) × (x.tracers.items ≡ []) × KeepsMutators w x
+LendsNone n (Some w) (Some x) = (n ≡ 13) × kinds.LacksTracer w x
 
 -- the handle is filled, and what is behind it has this tracer
 abbrev pub HoldsTracer : Tracer → TracerSlot → Type 0
 HoldsTracer t slot = (hand : TracerHand) × (slot.hand ≡ Some hand) × (hand.tracer ≡ Some t)
 
 -- a tracer of the world was taken, and the handle has it; or nothing is written, and there was no memory, or no tracer
-abbrev pub TakesTracer : ℕ → Option World → Option World → TracerSlot → TracerSlot → Type 0
+abbrev pub TakesTracer : ℕ → Option AnyWorld → Option AnyWorld → TracerSlot → TracerSlot → Type 0
 TakesTracer n w x before after = ((n ≡ 0) × ((t : Tracer) × IsLent t w x × HoldsTracer t after)) ⊎ ((after ≡ before) × (((n ≡ 10) × (x ≡ w)) ⊎ LendsNone n w x))
 
--- the tracer has the world's name, one was out, and it is the world's now
-abbrev pub TakesTracerBack : Tracer → World → World → Type 0
-TakesTracerBack t w x = (x.tracers.items ≡ w.tracers.items ++ t ∷ []) × (t.name ≡ w.sizes.name) × (vec_len w.tracers < w.sizes.tracers)
-
 -- the tracer went back, or there was none to go back, or the world refused it and the handle keeps it
-abbrev pub GivesTracerBack : ℕ → World → World → Option Tracer → Option Tracer → Type 0
+abbrev pub GivesTracerBack : ℕ → AnyWorld → AnyWorld → Option Tracer → Option Tracer → Type 0
 GivesTracerBack n w x None None = (n ≡ 11) × (x ≡ w)
 GivesTracerBack n w x None (Some t) = ⊥
-GivesTracerBack n w x (Some s) None = (n ≡ 0) × TakesTracerBack s w x × KeepsMutators w x
-GivesTracerBack n w x (Some s) (Some t) = (n ≡ 14) × (t ≡ s) × KeepsMutators w x
+GivesTracerBack n w x (Some s) None = (n ≡ 0) × kinds.TakesTracer s w x
+GivesTracerBack n w x (Some s) (Some t) = (n ≡ 14) × (t ≡ s) × kinds.RefusesTracer w x
 
 -- the world was closed, or it has the tracer back, or refused it, or there was none to give back
-abbrev pub GivesTracer : ℕ → Option World → Option World → Option Tracer → Option Tracer → Type 0
+abbrev pub GivesTracer : ℕ → Option AnyWorld → Option AnyWorld → Option Tracer → Option Tracer → Type 0
 GivesTracer n None y s t = (n ≡ 11) × (y ≡ None) × (t ≡ s)
 GivesTracer n (Some w) None s t = ⊥
 GivesTracer n (Some w) (Some x) s t = GivesTracerBack n w x s t
 
 -- the answer of giving a tracer back; or its handle is in use, and nothing changed
-abbrev pub GivesTracerOnce : ℕ → Option World → Option World → Option Tracer → Option Tracer → Type 0
+abbrev pub GivesTracerOnce : ℕ → Option AnyWorld → Option AnyWorld → Option Tracer → Option Tracer → Type 0
 GivesTracerOnce n w x s t = GivesTracer n w x s t ⊎ ((n ≡ 12) × (x ≡ w) × (t ≡ s))
 
 -- the tracers were told that they are dismissed, or a stop was under way
-abbrev pub TellsTracers : ℕ → World → World → Type 0
-TellsTracers n w x = ((n ≡ 0) × Across Dismisses w.zero x.zero) ⊎ ((n ≡ 2) × Across TurnsBack w.zero x.zero)
-
--- the world has all that it had, but for what is known of its heap
-abbrev pub HasAllStill : World → World → Type 0
-HasAllStill w x = (x.heap ≡ w.heap) × (x.sizes ≡ w.sizes) × (x.mutators ≡ w.mutators) × (x.tracers ≡ w.tracers)
+abbrev pub DismissesIn : ℕ → AnyWorld → AnyWorld → Type 0
+DismissesIn n w x = ((n ≡ 0) × kinds.TellsTracers w x) ⊎ ((n ≡ 2) × kinds.FindsStop w x)
 
 -- the world was closed, or its tracers were told that they are dismissed, or a stop was under way
-abbrev pub Dismissing : ℕ → Option World → Option World → Type 0
+abbrev pub Dismissing : ℕ → Option AnyWorld → Option AnyWorld → Type 0
 Dismissing n None y = (n ≡ 11) × (y ≡ None)
 Dismissing n (Some w) None = ⊥
-Dismissing n (Some w) (Some x) = TellsTracers n w x × HasAllStill w x
+Dismissing n (Some w) (Some x) = DismissesIn n w x

@@ -2,12 +2,12 @@
 ghost use Rattle.std.specs.Prelude.{◌≡◌};
 ghost use Rattle.plain_heap.specs.declared.operation.Op.TheVariants as ops;
 ghost use Rattle.managed_heap_c.specs.Answering.{Answers, SparesGone};
-ghost use Rattle.managed_heap_c.specs.Asking.{IsNil, RefersToOne, TellsStopping, TestsTo, WritesAnswer, number_of_answer};
+ghost use Rattle.managed_heap_c.specs.Asking.{IsNil, AreOne, TellsStopping, TestsTo, WritesAnswer, number_of_answer};
 
 use crate::bytes::byte_of;
 use crate::hands::Hand;
 use crate::statuses::{GIVEN_BACK, OK, status};
-use managed_heap::Came;
+use seat_steps::Came;
 
 /// An answer as C has it.
 fn number_of(told: bool) -> u32
@@ -17,7 +17,7 @@ fn number_of(told: bool) -> u32
 }
 
 /// Writes 1 where the answer is yes and 0 where it is no, and nothing where there is none.
-fn write_answer(answer: Result<bool, Came>, out: &mut u32) -> Came
+pub fn write_answer(answer: Result<bool, Came>, out: &mut u32) -> Came
     ensures writes { WritesAnswer result answer out.old out.new }
 {
     match answer {
@@ -45,7 +45,7 @@ pub fn is_nil_by(hand: &mut Hand, v: u32, out: &mut u32) -> u32
 
 /// Writes whether v and w refer to one object, or both to nothing.
 pub fn same_by(hand: &mut Hand, v: u32, w: u32, out: &mut u32) -> u32
-    ensures answers { Answers (TestsTo (RefersToOne v w) (ops.Let v w) out.old out.new) result hand.old.stepper hand.new.stepper }
+    ensures answers { Answers (TestsTo (AreOne v w) (ops.Let v w) out.old out.new) result hand.old.stepper hand.new.stepper }
     ensures quiet { SparesGone hand.old.stepper out.old out.new }
 {
     match &mut hand.stepper {

@@ -1,7 +1,7 @@
 //! Questions about variables, and about a stop, for programs in C.
 ghost use Rattle.plain_heap.specs.declared.operation.Op.TheVariants as ops;
 ghost use Rattle.managed_heap_c.specs.Answering.{AnswersOnce};
-ghost use Rattle.managed_heap_c.specs.Asking.{IsNil, RefersToOne, TellsStopping, TestsTo};
+ghost use Rattle.managed_heap_c.specs.Asking.{IsNil, AreOne, TellsStopping, TestsTo};
 
 use crate::asked::{is_nil_by, same_by, stopping_by};
 use crate::handles::MutatorHandle;
@@ -26,7 +26,7 @@ pub extern "C" fn mhl_is_nil(h: &mut MutatorHandle, v: u32, out: &mut u32) -> u3
 /// Writes 1 where variables v and w refer to one object, or both to nothing, else 0.
 #[unsafe(no_mangle)]
 pub extern "C" fn mhl_same(h: &mut MutatorHandle, v: u32, w: u32, out: &mut u32) -> u32
-    ensures answers { AnswersOnce (TestsTo (RefersToOne v w) (ops.Let v w) out.old out.new) result h.old.hand.stepper h.new.hand.stepper }
+    ensures answers { AnswersOnce (TestsTo (AreOne v w) (ops.Let v w) out.old out.new) result h.old.hand.stepper h.new.hand.stepper }
 {
     let hand = lend_hand(h);
     if !begins(hand) {

@@ -1,4 +1,5 @@
-//! Numbers of variables and fields, as C gives them.
+//! Numbers of variables, fields and slots, as C gives them.
+ghost use Rattle.std.specs.Prelude.{◌≡◌, ◌<◌, ◌≤◌};
 ghost use Rattle.managed_heap_c.specs.Bytes.{IsByteOf};
 
 /// The number as a byte; where it is larger, 255, which is no variable's number and no field's.
@@ -6,4 +7,19 @@ pub fn byte_of(n: u32) -> u8
     ensures byte { IsByteOf n result }
 {
     if n < 255 { n as u8 } else { 255 }
+}
+
+/// The number of a slot in 16 bits, in which each slot's is.
+pub fn half_of(k: u32) -> u16
+    ensures half { k < 65536 → result ≡ k }
+{
+    if k < 65_536 { k as u16 } else { 0 }
+}
+
+/// The number of a variable that is named beside slot k, as a byte: 255, which is no variable's, where no slot has the number k.
+pub fn byte_beside(v: u32, k: u32) -> u8
+    ensures byte { k < 65536 → IsByteOf v result }
+    ensures none { 65536 ≤ k → result ≡ 255 }
+{
+    if k < 65_536 { byte_of(v) } else { 255 }
 }

@@ -1,7 +1,7 @@
 //! What a call does with the mutator behind a handle.
 ghost use Rattle.plain_heap.specs.declared.operation.Op.TheVariants as ops;
-ghost use Rattle.managed_heap.specs.Bounds.{CollectsAtMost};
-ghost use Rattle.managed_heap.specs.Stepping.{Entered, Left, StepperMakes, Operates, Passed};
+ghost use Rattle.seat_steps.specs.Bounds.{CollectsAtMost};
+ghost use Rattle.seat_steps.specs.Stepping.{Entered, Left, StepperMakes, Operates, Passed};
 ghost use Rattle.managed_heap_c.specs.Answering.{Answers, ReadsTo, SparesGone};
 ghost use Rattle.managed_heap_c.specs.Storing.{Stores};
 

@@ -1,6 +1,8 @@
 //! What lies behind a handle.
 
-use managed_heap::{Stepper, Tracer, World};
+use managed_heap::World;
+use seat_steps::{Stepper, Tracer};
+use shared_heap::SharedWorld;
 use std::sync::atomic::AtomicU32;
 
 /// A mutator, or none where it was given back.
@@ -21,8 +23,17 @@ pub struct TracerHand {
     pub word: AtomicU32,
 }
 
+/// A world of either kind.
+#[derive(Drop)]
+pub enum AnyWorld {
+    /// Each mutator has objects of its own.
+    Owned(World),
+    /// The mutators share all objects.
+    Shared(SharedWorld),
+}
+
 /// A world, or none where it was closed.
 #[derive(Drop)]
 pub struct Whole {
-    pub world: Option<World>,
+    pub world: Option<AnyWorld>,
 }

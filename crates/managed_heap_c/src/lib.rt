@@ -5,14 +5,20 @@
 //! after, by the clauses of `managed_heap`.
 #![tactic(auto)]
 
+mod acting;
+mod acts;
 mod asked;
 mod asking;
 mod bytes;
 mod calls;
 mod handles;
 mod hands;
+mod kinds;
 mod lending;
 mod loose;
+mod own;
+mod sharing;
+mod sizes;
 mod slots;
 mod statuses;
 mod storing;
@@ -22,10 +28,9 @@ mod using;
 mod worlds;
 
 ghost use Rattle.plain_heap.specs.declared.operation.Op.TheVariants as ops;
-ghost use Rattle.managed_heap.specs.Bounds.{CollectsAtMost};
-ghost use Rattle.managed_heap.specs.Stepping.{Entered, Left, StepperMakes, Operates, Passed};
+ghost use Rattle.seat_steps.specs.Bounds.{CollectsAtMost};
+ghost use Rattle.seat_steps.specs.Stepping.{Entered, Left, StepperMakes, Operates, Passed};
 ghost use Rattle.managed_heap_c.specs.Answering.{AnswersOnce, ClosesWorld, CountsWorld, GivesOnce, ReadsTo};
-ghost use Rattle.managed_heap_c.specs.Storing.{Stores};
 ghost use Rattle.managed_heap_c.specs.Storing.{Stores};
 ghost use Rattle.managed_heap_c.specs.Taking.{OpensWorld, TakesMutator};
 
@@ -35,11 +40,12 @@ use calls::{
 };
 use handles::{MutatorHandle, WorldHandle};
 use lending::{lend_hand, lend_whole};
+use sizes::{CNumbers, CSizes};
 use slots::{MutatorSlot, WorldSlot};
 use statuses::IN_USE;
 use std::alloc::Global;
 use using::{begins, ends};
-use worlds::{CNumbers, CSizes, close_by, give_by, open_at, read_by, take_at};
+use worlds::{close_by, give_by, open_at, read_by, take_at};
 
 /// Enters the world, where no stop is under way.
 #[unsafe(no_mangle)]

@@ -3,7 +3,7 @@ ghost use Rattle.std.specs.Prelude.{◌≡◌};
 ghost use Rattle.managed_heap_c.specs.Answering.{status_of_came};
 ghost use Rattle.managed_heap_c.specs.Tracers.{status_of_turn};
 
-use managed_heap::{Came, TryTurn};
+use seat_steps::{Came, TryTurn};
 
 /// It is done.
 pub const OK: u32 = 0;
@@ -35,7 +35,7 @@ pub const REFUSED: u32 = 14;
 /// Not all mutators and tracers are back.
 pub const STILL_LENT: u32 = 17;
 
-/// The number of what a mutator's call came to, 0 to 9, as the header has them.
+/// The number of what a mutator's call came to, 0 to 9 and 19, as the header has them.
 pub fn status(came: Came) -> u32
     ensures number { result ≡ status_of_came came }
 {
@@ -50,6 +50,7 @@ pub fn status(came: Came) -> u32
         Came::Nil => 7,
         Came::Full => 8,
         Came::Spent => 9,
+        Came::NotShared => 19,
     }
 }
 

@@ -2,10 +2,10 @@
 ghost use Rattle.std.specs.Prelude.{IfErr, IfOk};
 ghost use Rattle.managed_heap_c.specs.Tracers.{AnswersTurn, Dismissing, GivesTracer, GivesTracerBack, HoldsTracer, IsLent, LendsNone, TakesTracer};
 
-use crate::hands::{TracerHand, Whole};
+use crate::hands::{AnyWorld, TracerHand, Whole};
 use crate::slots::{TracerSlot, tracer_slot};
 use crate::statuses::{GIVEN_BACK, NONE_LEFT, OK, OUT_OF_MEMORY, REFUSED, STOPPED, turn_status};
-use managed_heap::{Tracer, World};
+use seat_steps::Tracer;
 use std::alloc::{AllocError, Global};
 use std::sync::atomic::AtomicU32;
 
@@ -27,7 +27,7 @@ fn tracer_of(whole: &mut Whole) -> Result<Tracer, u32>
 {
     match &mut whole.world {
         None => Err(GIVEN_BACK),
-        Some(world) => match world.tracer() {
+        Some(world) => match world.lend_tracer() {
             None => Err(NONE_LEFT),
             Some(tracer) => Ok(tracer),
         },
@@ -61,12 +61,12 @@ pub fn take_tracer_at(alloc: Global, whole: &mut Whole, out: &mut TracerSlot) ->
 }
 
 /// The tracer of a hand goes back, where the world takes it.
-fn empty_into(world: &mut World, hand: &mut TracerHand) -> u32
+fn empty_into(world: &mut AnyWorld, hand: &mut TracerHand) -> u32
     ensures gives { GivesTracerBack result world.old world.new hand.old.tracer hand.new.tracer }
 {
     match hand.tracer.take() {
         None => GIVEN_BACK,
-        Some(tracer) => match world.take_tracer(tracer) {
+        Some(tracer) => match world.take_tracer_back(tracer) {
             Ok(()) => OK,
             Err(tracer) => {
                 hand.tracer = Some(tracer);
@@ -103,12 +103,6 @@ pub fn dismiss_by(whole: &mut Whole) -> u32
 {
     match &mut whole.world {
         None => GIVEN_BACK,
-        Some(world) => {
-            if world.try_dismiss_tracers() {
-                OK
-            } else {
-                STOPPED
-            }
-        }
+        Some(world) => { if world.dismisses() { OK } else { STOPPED } }
     }
 }

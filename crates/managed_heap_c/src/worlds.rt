@@ -1,40 +1,21 @@
 //! Worlds are opened and closed, and lend their mutators.
-ghost use Rattle.std.specs.Prelude.{◌≡◌, IfErr, IfNone, IfOk, IfSome, Some};
-ghost use Rattle.managed_heap.specs.Calls.{heap_of};
-ghost use Rattle.managed_heap.specs.Lending.{IsBack};
-ghost use Rattle.managed_heap.specs.Stepping.{heap_of_stepper};
-ghost use Rattle.managed_heap_c.specs.Answering.{ClosesWorld, CountsWorld, Gives, GivesBack, HasCounted};
-ghost use Rattle.managed_heap_c.specs.Taking.{HasNone, HoldsMutator, Lends, OpensWorld, TakesMutator, sizes_of};
+ghost use Rattle.std.specs.Prelude.{◌≡◌, IfErr, IfOk, Some};
+ghost use Rattle.managed_heap_c.specs.Answering.{ClosesWorld, CountsWorld, Gives, GivesBack};
+ghost use Rattle.managed_heap_c.specs.Taking.{HasNone, HoldsSteps, Lends, OpensWorld, TakesMutator};
 
-use crate::hands::{Hand, Whole};
+use crate::hands::{AnyWorld, Hand, Whole};
+use crate::sizes::{CNumbers, CSizes};
 use crate::slots::{MutatorSlot, WorldSlot, hand_slot, whole_slot};
 use crate::statuses::{
     COLLECTING, GIVEN_BACK, NONE_LEFT, OK, OUT_OF_MEMORY, OUT_OF_RANGE, REFUSED, STILL_LENT,
 };
-use managed_heap::{Mutator, NotOpened, Sizes, Stepper, World};
+use managed_heap::NotOpened;
+use seat_steps::Stepper;
 use std::alloc::{AllocError, Global};
 use std::sync::atomic::AtomicU32;
 
-/// The sizes of a world, as C gives them.
-#[repr(C)]
-pub struct CSizes {
-    cells: u32,
-    fields: u32,
-    mutators: u32,
-    name: u32,
-    tracers: u32,
-}
-
-/// The numbers of a world, as C reads them.
-#[repr(C)]
-pub struct CNumbers {
-    pub cells: u32,
-    pub free: u64,
-    pub marked: u64,
-}
-
 /// A world in a box.
-fn boxed_world(alloc: Global, world: World) -> Result<Box<Whole, Global>, AllocError>
+fn boxed_world(alloc: Global, world: AnyWorld) -> Result<Box<Whole, Global>, AllocError>
     ensures has { IfOk result (λ whole. whole.value.world ≡ Some world) }
 {
     Ok(Box::new(alloc, Whole { world: Some(world) })?)
@@ -51,22 +32,11 @@ fn boxed_hand(alloc: Global) -> Result<Box<Hand, Global>, AllocError> {
     )?)
 }
 
-/// The sizes that C asks for.
-fn wanted(sizes: &CSizes) -> Sizes
-    ensures wanted { result ≡ sizes_of sizes.now }
-{
-    Sizes::of_cells(sizes.cells)
-        .fields(sizes.fields)
-        .mutators(sizes.mutators)
-        .tracers(sizes.tracers)
-        .named(sizes.name)
-}
-
 /// Opens a world of these sizes: done, and the handle is filled; else `OUT_OF_RANGE` or `OUT_OF_MEMORY`, and nothing is written.
 pub fn open_at(alloc: Global, sizes: &CSizes, out: &mut WorldSlot) -> u32
     ensures opens { OpensWorld result sizes.now out.old out.new }
 {
-    match World::open(alloc, wanted(sizes)) {
+    match AnyWorld::open(alloc, sizes) {
         Err(NotOpened::OutOfRange) => OUT_OF_RANGE,
         Err(NotOpened::OutOfMemory) => OUT_OF_MEMORY,
         Ok(world) => match boxed_world(alloc, world) {
@@ -80,25 +50,25 @@ pub fn open_at(alloc: Global, sizes: &CSizes, out: &mut WorldSlot) -> u32
 }
 
 /// One of the mutators that nobody has.
-fn mutator_of(whole: &mut Whole) -> Result<Mutator, u32>
-    ensures lent { IfOk result (λ m. Lends m whole.old.world whole.new.world) }
+fn mutator_of(whole: &mut Whole) -> Result<Stepper, u32>
+    ensures lent { IfOk result (λ s. Lends s whole.old.world whole.new.world) }
     ensures none { IfErr result (λ n. HasNone n whole.old.world whole.new.world) }
 {
     match &mut whole.world {
         None => Err(GIVEN_BACK),
-        Some(world) => match world.mutator() {
+        Some(world) => match world.lend() {
             None => Err(NONE_LEFT),
-            Some(mutator) => Ok(mutator),
+            Some(stepper) => Ok(stepper),
         },
     }
 }
 
 /// A handle of this mutator.
-fn slot_of(hand: Box<Hand, Global>, mutator: Mutator) -> MutatorSlot
-    ensures holds { HoldsMutator mutator result }
+fn slot_of(hand: Box<Hand, Global>, stepper: Stepper) -> MutatorSlot
+    ensures holds { HoldsSteps stepper result }
 {
     let mut hand = hand;
-    hand.stepper = Some(mutator.into_steps());
+    hand.stepper = Some(stepper);
     hand_slot(hand)
 }
 
@@ -112,43 +82,32 @@ pub fn take_at(alloc: Global, whole: &mut Whole, out: &mut MutatorSlot) -> u32
     };
     match mutator_of(whole) {
         Err(status) => status,
-        Ok(mutator) => {
-            *out = slot_of(hand, mutator);
+        Ok(stepper) => {
+            *out = slot_of(hand, stepper);
             OK
         }
     }
 }
 
-/// Gives a mutator to a world, or hands it back in steps where the world refuses it.
-fn give_to(world: &mut World, mutator: Mutator) -> Option<Stepper>
-    ensures back { IfNone result (IsBack mutator world.old world.new) }
-    ensures refused { IfSome result (λ s. heap_of_stepper s ≡ heap_of mutator) }
-{
-    match world.take_mutator(mutator) {
-        Ok(()) => None,
-        Err(mutator) => Some(mutator.into_steps()),
-    }
-}
-
 /// The mutator of a hand goes back, where it isn't between two steps of a collection.
-fn empty_into(world: &mut World, hand: &mut Hand) -> u32
+fn empty_into(world: &mut AnyWorld, hand: &mut Hand) -> u32
     ensures gives { GivesBack result world.old world.new hand.old.stepper hand.new.stepper }
 {
     match hand.stepper.take() {
         None => GIVEN_BACK,
-        Some(stepper) => match stepper.into_mutator() {
-            Err(stepper) => {
+        Some(stepper) => {
+            if stepper.is_collecting() {
                 hand.stepper = Some(stepper);
-                COLLECTING
+                return COLLECTING;
             }
-            Ok(mutator) => match give_to(world, mutator) {
-                None => OK,
-                Some(kept) => {
+            match world.take_back(stepper) {
+                Ok(()) => OK,
+                Err(kept) => {
                     hand.stepper = Some(kept);
                     REFUSED
                 }
-            },
-        },
+            }
+        }
     }
 }
 
@@ -178,16 +137,6 @@ pub fn close_by(whole: &mut Whole) -> u32
     }
 }
 
-/// Reads the numbers of a world that isn't closed.
-fn read_into(world: &mut World, out: &mut CNumbers)
-    ensures counted { HasCounted world.old world.new out.new }
-{
-    let numbers = world.statistics();
-    out.cells = numbers.cells;
-    out.free = numbers.free;
-    out.marked = numbers.marked;
-}
-
 /// Writes how many cells the world has, how many are free and how many the last cycle marked: done, or `GIVEN_BACK` where it was closed.
 pub fn read_by(whole: &mut Whole, out: &mut CNumbers) -> u32
     ensures reads { CountsWorld result whole.old.world whole.new.world out.old out.new }
@@ -195,7 +144,7 @@ pub fn read_by(whole: &mut Whole, out: &mut CNumbers) -> u32
     match &mut whole.world {
         None => GIVEN_BACK,
         Some(world) => {
-            read_into(world, out);
+            *out = world.count();
             OK
         }
     }

@@ -16,10 +16,12 @@ pub enum Error {
     NoCell,
     /// The mutator is outside the world: it is to enter first.
     Outside,
-    /// A variable is not below 32, a field not below the world's number of fields, or a size is not in its range.
+    /// A variable is not below 32, a field or a slot not below the world's, or a size is not in its range.
     OutOfRange,
     /// The variable refers to no object.
     Nil,
+    /// The world isn't shared, and the call is for a shared one.
+    NotShared,
     /// The reachable objects fill all cells, for good.
     Full,
     /// The mutator has made 4,294,967,295 objects, which are all that have numbers.
@@ -44,6 +46,7 @@ impl Error {
             9 => Err(Error::Spent),
             10 => Err(Error::OutOfMemory),
             13 => Err(Error::NoneLeft),
+            19 => Err(Error::NotShared),
             other => Err(Error::Unexpected(other)),
         }
     }
@@ -56,6 +59,7 @@ impl fmt::Display for Error {
             Error::Outside => f.write_str("the mutator is outside the world"),
             Error::OutOfRange => f.write_str("a number is out of range"),
             Error::Nil => f.write_str("the variable refers to no object"),
+            Error::NotShared => f.write_str("the world isn't shared"),
             Error::Full => f.write_str("the reachable objects fill all cells, for good"),
             Error::Spent => f.write_str("the mutator has made all objects that it can"),
             Error::OutOfMemory => f.write_str("there is no memory"),

@@ -20,7 +20,7 @@
 //! # }
 //! ```
 //!
-//! Each mutator has objects of its own, and may go to a thread:
+//! Where the sizes say nothing else, each mutator has objects of its own. It may go to a thread:
 //!
 //! ```
 //! use managed_heap::{Error, Sizes, World};
@@ -46,6 +46,44 @@
 //! assert_eq!(values, [9_999, 10_000]);
 //! world.dismiss_tracers()?;
 //! tracing.join().unwrap()
+//! # }
+//! ```
+//!
+//! In a shared world all mutators read and store in all objects, and begin at one object, the *root*:
+//!
+//! ```
+//! use managed_heap::{Error, Sizes, World};
+//! use std::thread;
+//!
+//! # fn main() -> Result<(), Error> {
+//! let world = World::open(Sizes::of_cells(1024).mutators(4).shared(true))?;
+//! let raising: Vec<_> = (0..4)
+//!     .map(|_| {
+//!         let mut m = world.mutator()?;
+//!         Ok(thread::spawn(move || {
+//!             m.enter()?;
+//!             m.root(0)?;
+//!             for _ in 0..1_000 {
+//!                 loop {
+//!                     let n = m.value(0)?;
+//!                     m.safe_point()?;
+//!                     if m.exchange_value(0, n, n + 1)? {
+//!                         break;
+//!                     }
+//!                 }
+//!             }
+//!             Ok(())
+//!         }))
+//!     })
+//!     .collect::<Result<_, Error>>()?;
+//! for thread in raising {
+//!     thread.join().unwrap()?;
+//! }
+//! let mut m = world.mutator()?;
+//! m.enter()?;
+//! m.root(0)?;
+//! assert_eq!(m.value(0)?, 4_000);
+//! # Ok(())
 //! # }
 //! ```
 #![warn(missing_docs)]

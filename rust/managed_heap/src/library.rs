@@ -12,6 +12,8 @@ pub(crate) struct RawSizes {
     pub mutators: u32,
     pub name: u32,
     pub tracers: u32,
+    pub shared: u32,
+    pub slots: u32,
 }
 
 /// Numbers, as the library writes them.
@@ -56,6 +58,14 @@ extern "C" {
     fn mhl_same(m: *mut Handle, v: u32, w: u32, out: *mut u32) -> u32;
     fn mhl_collect_step(m: *mut Handle, most: u32) -> u32;
     fn mhl_is_stopping(m: *mut Handle, out: *mut u32) -> u32;
+    fn mhl_root(m: *mut Handle, v: u32) -> u32;
+    fn mhl_exchange(m: *mut Handle, v: u32, i: u32, expected: u32, next: u32, won: *mut u32) -> u32;
+    fn mhl_exchange_value(m: *mut Handle, v: u32, expected: u32, next: u32, won: *mut u32) -> u32;
+    fn mhl_spill(m: *mut Handle, v: u32, k: u32) -> u32;
+    fn mhl_fill(m: *mut Handle, v: u32, k: u32) -> u32;
+    fn mhl_forget_slots(m: *mut Handle, from: u32, to: u32) -> u32;
+    fn mhl_place(m: *mut Handle, v: u32, place: *mut u32) -> u32;
+    fn mhl_number(m: *mut Handle, v: u32, section: *mut u32, number: *mut u32) -> u32;
     fn mhl_trace_turn(t: *mut Handle) -> u32;
     fn free(at: *mut c_void);
 }
@@ -171,6 +181,39 @@ impl Handle {
 
     pub fn is_stopping(&mut self) -> bool {
         Handle::written(|out| unsafe { mhl_is_stopping(self, out) }) == Ok(1)
+    }
+
+    pub fn root(&mut self, v: u32) -> u32 {
+        unsafe { mhl_root(self, v) }
+    }
+
+    pub fn exchange(&mut self, v: u32, i: u32, expected: u32, next: u32) -> Result<bool, Error> {
+        Handle::written(|won| unsafe { mhl_exchange(self, v, i, expected, next, won) }).map(|won| won == 1)
+    }
+
+    pub fn exchange_value(&mut self, v: u32, expected: u32, next: u32) -> Result<bool, Error> {
+        Handle::written(|won| unsafe { mhl_exchange_value(self, v, expected, next, won) }).map(|won| won == 1)
+    }
+
+    pub fn spill(&mut self, v: u32, k: u32) -> u32 {
+        unsafe { mhl_spill(self, v, k) }
+    }
+
+    pub fn fill(&mut self, v: u32, k: u32) -> u32 {
+        unsafe { mhl_fill(self, v, k) }
+    }
+
+    pub fn forget_slots(&mut self, from: u32, to: u32) -> u32 {
+        unsafe { mhl_forget_slots(self, from, to) }
+    }
+
+    pub fn place(&mut self, v: u32) -> Result<u32, Error> {
+        Handle::written(|place| unsafe { mhl_place(self, v, place) })
+    }
+
+    pub fn number(&mut self, v: u32) -> Result<(u32, u32), Error> {
+        let mut maker = 0;
+        Handle::written(|number| unsafe { mhl_number(self, v, &mut maker, number) }).map(|number| (maker, number))
     }
 
     pub fn trace_turn(&mut self) -> u32 {

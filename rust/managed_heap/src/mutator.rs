@@ -4,6 +4,7 @@ use crate::error::{Error, NOT_YET, NO_CELL, STOPPED};
 use crate::library::Handle;
 use crate::resting::Rests;
 use crate::world::Shared;
+use std::ops::Range;
 use std::sync::Arc;
 
 /// How many variables a mutator has.
@@ -111,6 +112,49 @@ impl Mutator {
         self.handle.same(v, w)
     }
 
+    /// Variable v becomes the root of a shared world: the object that the world made as it opened, by which its mutators find each other's objects.
+    pub fn root(&mut self, v: u32) -> Result<(), Error> {
+        Error::of(self.handle.root(v))
+    }
+
+    /// Where field i of variable v's object is what variable `expected` is, it becomes what variable `next` is, in one step: true where it was. Either may refer
+    /// to nothing. [`Error::Nil`] where v does.
+    pub fn exchange(&mut self, v: u32, i: u32, expected: u32, next: u32) -> Result<bool, Error> {
+        self.handle.exchange(v, i, expected, next)
+    }
+
+    /// Where the value of variable v's object is `expected` it becomes `next`, in one step: true where it was. [`Error::Nil`] where v refers to nothing.
+    pub fn exchange_value(&mut self, v: u32, expected: u32, next: u32) -> Result<bool, Error> {
+        self.handle.exchange_value(v, expected, next)
+    }
+
+    /// Slot k becomes what variable v is, and keeps that reachable.
+    pub fn spill(&mut self, v: u32, k: u32) -> Result<(), Error> {
+        Error::of(self.handle.spill(v, k))
+    }
+
+    /// Variable v becomes what slot k is.
+    pub fn fill(&mut self, v: u32, k: u32) -> Result<(), Error> {
+        Error::of(self.handle.fill(v, k))
+    }
+
+    /// These slots refer to nothing any more.
+    pub fn forget_slots(&mut self, slots: Range<u32>) -> Result<(), Error> {
+        Error::of(self.handle.forget_slots(slots.start, slots.end))
+    }
+
+    /// The place of variable v's object, a number below the world's number of cells. The object stays there as long as it is reachable, and meanwhile no other
+    /// is there: keep a variable on it while you use what you have under that number. [`Error::Nil`] where v refers to nothing.
+    pub fn place(&mut self, v: u32) -> Result<u32, Error> {
+        self.handle.place(v)
+    }
+
+    /// Which object variable v's is: the number of the mutator that made it, from 1 on, and how many that one had made before; 0 and 0 for the root. No other
+    /// object of the world ever has both. [`Error::Nil`] where v refers to nothing.
+    pub fn number(&mut self, v: u32) -> Result<(u32, u32), Error> {
+        self.handle.number(v)
+    }
+
     /// A collection, after which exactly the objects that can be reached are kept; or another's, where that comes first.
     pub fn collect(&mut self) -> Result<(), Error> {
         let mut rests = Rests::default();
@@ -126,12 +170,13 @@ impl Mutator {
 }
 
 impl Drop for Mutator {
-    /// Its variables are forgotten, and it is the world's again.
+    /// Its variables and slots are forgotten, and it is the world's again.
     fn drop(&mut self) {
         if self.enter().is_ok() {
             for v in 0..VARIABLES {
                 self.handle.forget(v);
             }
+            self.handle.forget_slots(0, self.shared.slots);
         }
         self.handle.leave();
         let mut world = self.shared.lock();

@@ -15,13 +15,15 @@ pub struct Sizes {
     fields: u32,
     mutators: u32,
     tracers: u32,
+    shared: bool,
+    slots: u32,
 }
 
 impl Sizes {
     /// So many cells, 64 to 16,777,216 in multiples of 64: as many objects fit. Objects have two fields, and there is one mutator and no tracer, where
-    /// nothing else is said.
+    /// nothing else is said; objects aren't shared, and there are no slots.
     pub fn of_cells(cells: u32) -> Sizes {
-        Sizes { cells, fields: 2, mutators: 1, tracers: 0 }
+        Sizes { cells, fields: 2, mutators: 1, tracers: 0, shared: false, slots: 0 }
     }
 
     /// With so many references in an object, 1 to 16.
@@ -37,6 +39,16 @@ impl Sizes {
     /// With so many tracers, 0 to 8.
     pub fn tracers(self, tracers: u32) -> Sizes {
         Sizes { tracers, ..self }
+    }
+
+    /// Whether all mutators share the world's objects, beginning at its root, or each has objects of its own.
+    pub fn shared(self, shared: bool) -> Sizes {
+        Sizes { shared, ..self }
+    }
+
+    /// With so many slots for each mutator, 0 to 65,536, in a shared world; in any other there are none.
+    pub fn slots(self, slots: u32) -> Sizes {
+        Sizes { slots, ..self }
     }
 }
 
@@ -60,6 +72,8 @@ const NAMES: u32 = 0xc000_0000;
 /// A world's handle, which its mutators and tracers share. It closes when the last of them is gone.
 pub(crate) struct Shared {
     handle: Mutex<Handle>,
+    /// How many slots each mutator has.
+    pub slots: u32,
 }
 
 impl Shared {
@@ -82,13 +96,13 @@ pub struct World {
 impl World {
     /// Opens a world. [`Error::OutOfRange`] where a size is, and [`Error::OutOfMemory`].
     pub fn open(sizes: Sizes) -> Result<World, Error> {
-        let Sizes { cells, fields, mutators, tracers } = sizes;
+        let Sizes { cells, fields, mutators, tracers, shared, slots } = sizes;
         let name = NAMES | (OPENED.fetch_add(1, Ordering::Relaxed) & !NAMES);
-        let handle = Handle::open(&RawSizes { cells, fields, mutators, name, tracers })?;
-        Ok(World { shared: Arc::new(Shared { handle: Mutex::new(handle) }) })
+        let handle = Handle::open(&RawSizes { cells, fields, mutators, name, tracers, shared: shared.into(), slots })?;
+        Ok(World { shared: Arc::new(Shared { handle: Mutex::new(handle), slots }) })
     }
 
-    /// One of its mutators, outside the world, whose variables all refer to nothing. [`Error::NoneLeft`] where all are taken. One that is dropped is the
+    /// One of its mutators, outside the world, whose variables and slots all refer to nothing. [`Error::NoneLeft`] where all are taken. One that is dropped is the
     /// world's again.
     pub fn mutator(&self) -> Result<Mutator, Error> {
         let handle = self.shared.lock().take_mutator()?;

@@ -1,6 +1,6 @@
 use Rattle.std.proofs.Common.{ap, ◌∙◌}
 use Rattle.plain_heap.specs.declared.operation.Op.TheVariants as ops
-use Rattle.managed_heap.specs.Stepping.{Operates}
+use Rattle.seat_steps.specs.Stepping.{Operates}
 use Rattle.managed_heap_c.specs.declared.hands.Hand.{Hand}
 use Rattle.managed_heap_c.proofs.Answered.{once}
 use Rattle.managed_heap_c.proofs.mhl_get.Goals as goal

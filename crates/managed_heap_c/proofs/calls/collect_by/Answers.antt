@@ -1,4 +1,4 @@
-use Rattle.managed_heap.specs.Bounds.{CollectsAtMost}
+use Rattle.seat_steps.specs.Bounds.{CollectsAtMost}
 use Rattle.managed_heap_c.proofs.Answered.{answered}
 use Rattle.managed_heap_c.proofs.calls.collect_by.Goals as goal
 

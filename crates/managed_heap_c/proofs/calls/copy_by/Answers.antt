@@ -1,5 +1,5 @@
 use Rattle.plain_heap.specs.declared.operation.Op.TheVariants as ops
-use Rattle.managed_heap.specs.Stepping.{Operates}
+use Rattle.seat_steps.specs.Stepping.{Operates}
 use Rattle.managed_heap_c.proofs.Widened.{let-one, operates-by}
 use Rattle.managed_heap_c.proofs.Answered.{answered}
 use Rattle.managed_heap_c.proofs.calls.copy_by.Goals as goal

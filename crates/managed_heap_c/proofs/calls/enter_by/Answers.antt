@@ -1,4 +1,4 @@
-use Rattle.managed_heap.specs.Stepping.{Entered}
+use Rattle.seat_steps.specs.Stepping.{Entered}
 use Rattle.managed_heap_c.proofs.Answered.{answered}
 use Rattle.managed_heap_c.proofs.calls.enter_by.Goals as goal
 

@@ -1,4 +1,4 @@
-use Rattle.managed_heap.specs.Stepping.{Left}
+use Rattle.seat_steps.specs.Stepping.{Left}
 use Rattle.managed_heap_c.proofs.Answered.{answered}
 use Rattle.managed_heap_c.proofs.calls.leave_by.Goals as goal
 

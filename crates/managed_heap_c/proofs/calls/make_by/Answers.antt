@@ -1,5 +1,5 @@
 use Rattle.plain_heap.specs.declared.operation.Op.TheVariants as ops
-use Rattle.managed_heap.specs.Stepping.{StepperMakes}
+use Rattle.seat_steps.specs.Stepping.{StepperMakes}
 use Rattle.managed_heap_c.proofs.Widened.{makes-by, new-one}
 use Rattle.managed_heap_c.proofs.Answered.{answered}
 use Rattle.managed_heap_c.proofs.calls.make_by.Goals as goal

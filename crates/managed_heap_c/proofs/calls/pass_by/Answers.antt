@@ -1,4 +1,4 @@
-use Rattle.managed_heap.specs.Stepping.{Passed}
+use Rattle.seat_steps.specs.Stepping.{Passed}
 use Rattle.managed_heap_c.proofs.Answered.{answered}
 use Rattle.managed_heap_c.proofs.calls.pass_by.Goals as goal
 

@@ -1,7 +1,9 @@
-use Rattle.std.proofs.Common.{ap}
+use Rattle.std.proofs.Common.{ℕ, ◌==◌, ◌∙◌, [], ◌∷◌, ap}
+use Rattle.std.specs.Prelude.{if◌then◌else◌}
+use Rattle.mark_core.specs.declared.kinds.Step.TheVariants.{StoreValue}
 use Rattle.plain_heap.specs.PlainStep.{stored_at, with_value}
 use Rattle.plain_heap.specs.declared.operation.Op.TheVariants as ops
-use Rattle.managed_heap.specs.Stepping.{heap_of_stepper}
+use Rattle.seat_steps.specs.Stepping.{heap_of_stepper}
 use Rattle.managed_heap_c.proofs.Stored.{stored}
 use Rattle.managed_heap_c.proofs.storing.put_in.Goals as goal
 
@@ -14,7 +16,10 @@ returns c =
       stores =
           stored a.v (ops.Put a.v a.value) c.unless_nil.result c.put.result c.is_nil-nil.result a.stepper.now c.put.new.self
           (λ r. r.0)
-          (λ n. ap (λ ref. stored_at h ref (λ object. with_value object a.value)) n)
+          (record {
+            own = λ n. ap (λ ref. stored_at h ref (λ object. with_value object a.value)) n;
+            shared = λ n k. k.steps_are ∙ ap (λ (word : ℕ). if word == 0 then [] else StoreValue a.v a.value ∷ []) n;
+          })
           e.nil
           e.some
           e.refused

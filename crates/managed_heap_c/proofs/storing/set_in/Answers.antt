@@ -1,8 +1,11 @@
-use Rattle.std.proofs.Common.{ap}
+use Rattle.std.proofs.Common.{ℕ, ◌==◌, ◌∙◌, [], Some, ap}
+use Rattle.std.specs.Prelude.{if◌then◌else◌}
+use Rattle.gc_table.specs.Seats.{state_of}
+use Rattle.card_clean.specs.Barrier.{barrier_steps}
 use Rattle.plain_heap.specs.PlainHeap.{variable}
 use Rattle.plain_heap.specs.PlainStep.{stored_at, with_field}
 use Rattle.plain_heap.specs.declared.operation.Op.TheVariants as ops
-use Rattle.managed_heap.specs.Stepping.{heap_of_stepper}
+use Rattle.seat_steps.specs.Stepping.{heap_of_stepper}
 use Rattle.managed_heap_c.proofs.Stored.{stored}
 use Rattle.managed_heap_c.proofs.storing.set_in.Goals as goal
 
@@ -15,7 +18,10 @@ returns c =
       stores =
           stored a.v (ops.Set a.v a.i a.w) c.unless_nil.result c.set.result c.is_nil-nil.result a.stepper.now c.set.new.self
           (λ r. r.0)
-          (λ n. ap (λ ref. stored_at h ref (λ object. with_field object a.i (variable h a.w))) n)
+          (record {
+            own = λ n. ap (λ ref. stored_at h ref (λ object. with_field object a.i (variable h a.w))) n;
+            shared = λ n k. k.steps_are ∙ ap (λ (word : ℕ). if word == 0 then [] else barrier_steps (state_of a.stepper.now.seat) a.v a.i (Some a.w)) n;
+          })
           e.nil
           e.some
           e.refused

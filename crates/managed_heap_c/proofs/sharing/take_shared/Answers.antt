@@ -1,0 +1,21 @@
+use Rattle.std.proofs.Common.{◌∙◌}
+use Rattle.gc_table.specs.Seats.{view_of}
+use Rattle.mutator_turns.proofs.Leaving.{leaves-join}
+use Rattle.seat_steps.specs.declared.stepper.Stepper.{Stepper}
+use Rattle.managed_heap_c.specs.Sharing.{Refuses, StaysOut}
+use Rattle.managed_heap_c.proofs.Given.{on-err, on-ok}
+use Rattle.managed_heap_c.proofs.sharing.take_shared.Goals as goal
+
+pub returns-in-Ok-clause-back : goal.returns-in-Ok-clause-back
+returns-in-Ok-clause-back c = on-ok c.give_shared.result (λ g. (c.in-Ok.mutator, c.in-Ok.ensures.ok, g)) c.give_shared.ensures.back
+
+pub returns-in-Ok-clause-refused : goal.returns-in-Ok-clause-refused
+returns-in-Ok-clause-refused c =
+    let s = c.args.stepper in
+    let m = c.in-Ok.mutator in
+    let w = c.args.world.now in
+    let x = c.give_shared.new.world in
+    let ok = c.in-Ok.ensures.ok in
+    on-err (λ (t : Stepper). StaysOut m t w x) (λ (t : Stepper). Refuses s t w x) c.give_shared.result
+    (λ t a. record { leaves = leaves-join (view_of s.seat) (view_of m.seat) (view_of t.seat) ok.leaves a.0; of_world = a.1 ∙ ok.world; mutators = a.2; rest = a.3 })
+    c.give_shared.ensures.refused

@@ -1,0 +1,82 @@
+-- What a world comes to whose mutators share all objects.
+use Rattle.std.specs.Prelude.{ℕ, ◌≡◌, ◌<◌, ◌++◌, [], ◌∷◌, vec_len}
+use Rattle.std.specs.Arc.{arc_value}
+use Rattle.gc_table.specs.Seats.{Across, view_of}
+use Rattle.stop_world.specs.Gates.{TurnsBack}
+use Rattle.mutator_turns.specs.Sharing.{LeavesHeap}
+use Rattle.seat_steps.specs.Trying.{Dismisses}
+use Rattle.seat_steps.specs.declared.background.Tracer.{Tracer}
+use Rattle.seat_steps.specs.declared.stepper.Stepper.{Stepper}
+use Rattle.shared_heap.specs.Handing.{IsInSteps, IsOfSteps}
+use Rattle.shared_heap.specs.Lending.{HasAllStill, IsBack, KeepsRest, ReadsNumbers}
+use Rattle.shared_heap.specs.declared.mutator.SharedMutator.{SharedMutator}
+use Rattle.shared_heap.specs.declared.world.SharedStatistics.{SharedStatistics}
+use Rattle.shared_heap.specs.declared.world.SharedWorld.{SharedWorld}
+use Rattle.managed_heap_c.specs.declared.sizes.CNumbers.{CNumbers}
+
+-- all of the world is as it was, but that its mutators may be others
+abbrev pub KeepsTracers : SharedWorld → SharedWorld → Type 0
+KeepsTracers w x = KeepsRest w x × (x.tracers ≡ w.tracers)
+
+-- all of the world is as it was, but that its tracers may be others
+abbrev pub KeepsMutators : SharedWorld → SharedWorld → Type 0
+KeepsMutators w x = KeepsRest w x × (x.mutators ≡ w.mutators)
+
+-- the world had this mutator, which it lends in steps, and has the others still
+abbrev pub LendsSteps : Stepper → SharedWorld → SharedWorld → Type 0
+LendsSteps s w x = (m : SharedMutator) × (w.mutators.items ≡ m ∷ x.mutators.items) × KeepsTracers w x × IsInSteps m s
+
+-- the world has no mutator left, and has all that it had
+abbrev pub LacksMutator : SharedWorld → SharedWorld → Type 0
+LacksMutator w x = (w.mutators.items ≡ []) × (x.mutators.items ≡ []) × KeepsTracers w x
+
+-- the world has the mutator back
+abbrev pub GoesBack : SharedMutator → SharedWorld → SharedWorld → Type 0
+GoesBack m w x = IsBack m w x × KeepsTracers w x
+
+-- the world doesn't take the mutator, which is in steps again, and has all that it had
+abbrev pub StaysOut : SharedMutator → Stepper → SharedWorld → SharedWorld → Type 0
+StaysOut m t w x = Across LeavesHeap m.seat t.seat × (arc_value t.heap ≡ arc_value m.heap) × (x.mutators.items ≡ w.mutators.items) × KeepsTracers w x
+
+-- the world has the mutator back; no step was taken that a plain heap sees
+abbrev pub TakesBack : Stepper → SharedWorld → SharedWorld → Type 0
+TakesBack s w x = (m : SharedMutator) × IsOfSteps s m × GoesBack m w x
+
+-- the world doesn't take the mutator, which took no step that a plain heap sees, and has all that it had
+pub record Refuses (s t : Stepper) (w x : SharedWorld) : Type 0 where
+  pub leaves : Across LeavesHeap s.seat t.seat
+  pub of_world : arc_value t.heap ≡ arc_value s.heap
+  pub mutators : x.mutators.items ≡ w.mutators.items
+  pub rest : KeepsTracers w x
+
+-- the world had this tracer, and has the others still
+abbrev pub LendsTracer : Tracer → SharedWorld → SharedWorld → Type 0
+LendsTracer t w x = (w.tracers.items ≡ x.tracers.items ++ t ∷ []) × KeepsMutators w x
+
+-- the world has no tracer left, and has all that it had
+abbrev pub LacksTracer : SharedWorld → SharedWorld → Type 0
+LacksTracer w x = (w.tracers.items ≡ []) × (x.tracers.items ≡ []) × KeepsMutators w x
+
+-- the tracer has the world's name, one was out, and it is the world's now
+abbrev pub TakesTracer : Tracer → SharedWorld → SharedWorld → Type 0
+TakesTracer t w x = (x.tracers.items ≡ w.tracers.items ++ t ∷ []) × (t.name ≡ w.sizes.name) × (vec_len w.tracers < w.sizes.tracers) × KeepsMutators w x
+
+-- the world doesn't take the tracer, and has all that it had
+abbrev pub RefusesTracer : SharedWorld → SharedWorld → Type 0
+RefusesTracer w x = (x.tracers.items ≡ w.tracers.items) × KeepsMutators w x
+
+-- the tracers were told that they are dismissed
+abbrev pub TellsTracers : SharedWorld → SharedWorld → Type 0
+TellsTracers w x = Across Dismisses w.zero x.zero × HasAllStill w x
+
+-- a stop was under way, and nothing was told
+abbrev pub FindsStop : SharedWorld → SharedWorld → Type 0
+FindsStop w x = Across TurnsBack w.zero x.zero × HasAllStill w x
+
+-- the numbers that C has
+abbrev pub numbers_of : CNumbers → SharedStatistics
+numbers_of out = record { cells = out.cells; free = out.free; marked = out.marked }
+
+-- the numbers that C got are those that were read
+abbrev pub Counts : SharedWorld → SharedWorld → CNumbers → Type 0
+Counts w x out = ReadsNumbers (numbers_of out) (arc_value w.heap) (view_of w.zero) (view_of x.zero) × HasAllStill w x

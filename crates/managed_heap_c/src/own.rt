@@ -1,0 +1,52 @@
+//! A world whose mutators have objects of their own, as handles have to do with it.
+ghost use Rattle.std.specs.Prelude.{IfErr, IfNone, IfSome, OnOk};
+ghost use Rattle.managed_heap_c.specs.Own.{Counts, GoesBack, LacksMutator, LendsSteps, Refuses, StaysOut, TakesBack};
+
+use crate::sizes::CNumbers;
+use managed_heap::{Mutator, World};
+use seat_steps::Stepper;
+
+/// One of the mutators that nobody has, in steps.
+pub fn lend_own(world: &mut World) -> Option<Stepper>
+    ensures some { IfSome result (λ s. LendsSteps s world.old world.new) }
+    ensures none { IfNone result (LacksMutator world.old world.new) }
+{
+    match world.mutator() {
+        None => None,
+        Some(mutator) => Some(mutator.into_steps()),
+    }
+}
+
+/// Takes a mutator back, or hands it back in steps.
+fn give_own(world: &mut World, mutator: Mutator) -> Result<(), Stepper>
+    ensures back { OnOk result (GoesBack mutator world.old world.new) }
+    ensures refused { IfErr result (λ t. StaysOut mutator t world.old world.new) }
+{
+    match world.take_mutator(mutator) {
+        Ok(()) => Ok(()),
+        Err(mutator) => Err(mutator.into_steps()),
+    }
+}
+
+/// Takes a mutator back. It is handed back where the world doesn't take it, or where it is of a world that shares objects.
+pub fn take_own(world: &mut World, stepper: Stepper) -> Result<(), Stepper>
+    ensures back { OnOk result (TakesBack stepper world.old world.new) }
+    ensures refused { IfErr result (λ t. Refuses stepper t world.old world.new) }
+{
+    match Mutator::of_steps(stepper) {
+        Err(stepper) => Err(stepper),
+        Ok(mutator) => give_own(world, mutator),
+    }
+}
+
+/// Reads the numbers of the world.
+pub fn count_own(world: &mut World) -> CNumbers
+    ensures counts { Counts world.old world.new result }
+{
+    let numbers = world.statistics();
+    CNumbers {
+        cells: numbers.cells,
+        free: numbers.free,
+        marked: numbers.marked,
+    }
+}
