@@ -52,7 +52,7 @@ fn draws(heap: &Heap, seat: &mut HeapSeat) -> Option<u32>
 }
 
 /// The pass over the four cards ends: whether each was given out.
-fn passes(heap: &Heap, seat: &mut HeapSeat) -> bool
+pub fn passes(heap: &Heap, seat: &mut HeapSeat) -> bool
     requires { HasEachObject heap.now seat.old }
     ensures { HasEachObject heap.now seat.new }
 {
