@@ -14,6 +14,40 @@ AT_MOST = re.compile(r"\bAtMost (\d+|\((?:[^()]|\([^()]*\))*\))")
 SAME = re.compile(r"(?:^|\()y ≡ x(?:\)|$)")
 
 
+def argument(words, start):
+    """The next argument in these words, a word or what stands in brackets, and where it ends; None where there is none."""
+    while words[start : start + 1] == " ":
+        start += 1
+    if words[start : start + 1] != "(":
+        found = re.match(r"[\w.]+", words[start:])
+        return (found[0], start + found.end()) if found else (None, start)
+    end, depth = start, 0
+    while end < len(words):
+        depth += {"(": 1, ")": -1}.get(words[end], 0)
+        end += 1
+        if depth == 0:
+            return words[start:end], end
+    return None, start
+
+
+def applied(words):
+    """The names that stand in these words, outside of each other's arguments or in them, each with its arguments."""
+    for found in re.finditer(r"\b[A-Z]\w+", words):
+        given, end = [], found.end()
+        while True:
+            it, end = argument(words, end)
+            if it is None:
+                break
+            given.append(it)
+        yield found[0], given
+
+
+def with_given(words, parameters, given):
+    """The words with the numbers that are given for parameters in their places."""
+    told = {name: it for name, it in zip(parameters, given) if re.fullmatch(r"\d+|\(\w+ - \w+\)", it)}
+    return re.sub(r"\b[a-z]\w*\b", lambda it: told.get(it[0], it[0]), words)
+
+
 def definition(name, page):
     """The lines that define a name, as this file sees it, and the file in which they stand."""
     text = text_of(page)
@@ -45,8 +79,8 @@ def of_words(words, page, operation):
     operation = (re.findall(r"\bops\.(\w+)", words) or [operation])[0]
     bounds = [re.sub(r"[\w.]+\.shape\.fields", "fields", it.strip("()")) for it in AT_MOST.findall(words)]
     bounds = [of_operation(operation) if it.startswith("most_steps") else it for it in bounds] + ["0"] * bool(SAME.search(words))
-    for name in re.findall(r"\b[A-Z]\w+", AT_MOST.sub("", words)):
-        bounds.append(of_name(name, page, operation))
+    for name, given in applied(AT_MOST.sub("", words)):
+        bounds.append(of_name(name, given, page, operation))
     return min((it for it in bounds if it), key=size, default=None)
 
 
@@ -56,15 +90,17 @@ def of_cases(cases, page, operation):
     return max(bounds, key=size) if bounds and all(bounds) else None
 
 
-def of_name(name, page, operation):
-    """The bound that a definition says of the answer Done, or in the field `few`."""
+def of_name(name, given, page, operation):
+    """The bound that a definition says of the answer Done, or in the field `few`, for these arguments."""
     lines, page = definition(name, page)
     if not lines or lines[0].startswith("pub record"):
         few = [it for it in lines if it.lstrip().startswith("pub few :")]
-        return of_words(few[0], page, operation) if few else None
+        parameters = " ".join(re.findall(r"\(([^():]*) :", lines[0])).split() if lines else []
+        return of_words(with_given(few[0].strip(), parameters, given), page, operation) if few else None
     sides = [it.partition(" = ") for it in re.sub(r"\n +", " ", "\n".join(lines[1:])).split("\n")]
     done = [it for it in sides if "cames.Done" in it[0]] or [it for it in sides if "cames." not in it[0]]
-    return of_cases([re.sub(rf"\b{name}\b", "", it[2]) for it in done if it[2] != "⊥"], page, operation)
+    cases = [re.sub(rf"\b{name}\b", "", with_given(it[2], it[0].split()[1:], given)) for it in done if it[2] != "⊥"]
+    return of_cases(cases, page, operation)
 
 
 def calls(page):

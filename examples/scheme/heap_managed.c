@@ -13,7 +13,7 @@ void heap_refused(int status) {
 }
 
 void heap_open(uint32_t cells) {
-    mh_sizes sizes = {0, FIELDS, 1, 0, 0};
+    mh_sizes sizes = {0, FIELDS, 1, 0, 0, 0, 0};
     sizes.cells = cells;
     heap_must(mh_open(&sizes, &world));
     heap_must(mh_take_mutator(&world, &heap_mutator));
