@@ -59,17 +59,17 @@ run 300 fuzz 1000000 4 3 1
 
 echo "== threads that share objects"
 for tracers in 0 2; do
-    run 300 queue 1 1 100000 64 $tracers
-    run 300 queue 2 2 150000 128 $tracers
-    run 300 map 4 50000 64 1024 $tracers
-    run 300 counter 4 20000 $tracers
-    run 300 torture 4 50000 512 $tracers 1
+    run 300 queue 1 1 3000 64 $tracers
+    run 300 queue 2 2 3000 128 $tracers
+    run 300 map 4 3000 64 1024 $tracers
+    run 300 counter 4 4000 $tracers
+    run 300 torture 4 4000 512 $tracers 1
 done
-run 300 queue 4 4 25000 512 1
-run 300 map 8 20000 512 2048 1
-run 300 torture 2 100000 256 1 2
-run 300 torture 8 20000 1024 0 3
-run 300 places 4 50000 320
+run 300 queue 4 4 500 512 1
+run 300 map 8 1500 512 2048 1
+run 300 torture 2 8000 256 1 2
+run 300 torture 8 1500 1024 0 3
+run 300 places 4 5000 320
 if timeout 300 "$work/places" 1 1 320 1 >"$work/log"; then fail "a place is used after its object was forgotten, and nobody notices"; else tail -n 1 "$work/log"; fi
 
 echo "== many objects in few cells, and what a call takes"
@@ -117,11 +117,11 @@ for kind in address,undefined thread; do
         run 600 edges.checked
         run 600 fuzz.checked 300000 1 4 1
         run 600 fuzz.checked 300000 4 5 1
-        run 600 queue.checked 2 2 20000 128 1
-        run 600 map.checked 4 10000 64 1024 1
-        run 600 counter.checked 4 2000 1
-        run 600 torture.checked 4 10000 512 1 4
-        run 600 places.checked 4 10000 320
+        run 600 queue.checked 2 2 500 128 1
+        run 600 map.checked 4 1000 64 1024 1
+        run 600 counter.checked 4 500 1
+        run 600 torture.checked 4 1000 512 1 4
+        run 600 places.checked 4 1500 320
     else
         echo "== no -fsanitize=$kind here"
     fi
