@@ -138,7 +138,19 @@ allows sh plan slots id m step at f bare live here does reads own may asked s o 
       (
         ap (λ (l : List (ℕ × Unit {0})). (after step n v, l)) bare,
         r.1,
-        record { state = x; index = id; whole = o.whole; agrees = ag; word = sym (found-there x id v step t) ∙ sym same; reads = subst (λ (k : ℕ). Reads step k v) (sym same) (reads-true x id v step o.whole ag live t.ok) },
+        record {
+          state = x;
+          index = id;
+          whole = o.whole;
+          agrees = ag;
+          word = sym (found-there x id v step t) ∙ sym same;
+          reads = subst (λ (k : ℕ). Reads step k v) (sym same) (reads-true x id v step o.whole ag live t.ok);
+          allowed = allowed x id v step t;
+          past = o.past;
+          led = o.led;
+          came = o.came;
+          logged = o.logged id v me live;
+        },
       ),
     )
 

@@ -1,12 +1,13 @@
 -- When a seat may take a step, and its view afterwards.
-use Rattle.std.specs.Prelude.{ℕ, ◌≡◌, [], ◌∷◌, ◌++◌}
+use Rattle.std.specs.Prelude.{ℕ, ◌≡◌, List, [], ◌∷◌, ◌++◌, None}
 use Rattle.mark_core.specs.Layout.{words_of}
 use Rattle.mark_core.specs.Parts.{parts}
 use Rattle.mark_core.specs.Effects.{place, written, seat_after}
-use Rattle.mark_core.specs.Steps.{AllTrue}
+use Rattle.mark_core.specs.Steps.{AllTrue, failing_part}
 use Rattle.mark_core.specs.Places.{the_named}
 use Rattle.mark_core.specs.Laws.{NumbersFit}
 use Rattle.mark_core.specs.Notes.{word_at, steady, keeps_bound}
+use Rattle.mark_core.specs.declared.kinds.Event.{Event}
 use Rattle.mark_core.specs.declared.kinds.Step.{Step}
 use Rattle.mark_core.specs.declared.kinds.Step.TheVariants.{Split, Join}
 use Rattle.gc_table.specs.declared.view.View.{View}
@@ -14,9 +15,10 @@ pub use Rattle.gc_table.specs.Entries.{moves_from, won}
 use Rattle.gc_table.specs.Entries.{event}
 use Rattle.gc_table.specs.Notes.{look, noting}
 use Rattle.gc_table.specs.Sections.{section_after, AskedOf}
+use Rattle.gc_table.specs.Past.{LeadTo, IsLogged}
 use Rattle.gc_table.specs.Reads.{Reads}
-use Rattle.gc_table.specs.TableState.{TableState}
-use Rattle.gc_table.specs.Rule.{IsState, Agrees}
+use Rattle.gc_table.specs.TableState.{TableState, start_state}
+use Rattle.gc_table.specs.Rule.{IsState, Agrees, Leads}
 
 -- the view after a step that found n
 abbrev pub after : Step → ℕ → View → View
@@ -51,6 +53,12 @@ pub record Finds (step : Step) (n : ℕ) (v : View) : Type 0 where
   pub agrees : Agrees state index v
   pub word : word_at state.core.shape state.core.words (place state.core.shape v.state step) ≡ n
   pub reads : Reads step n v
+  pub allowed : failing_part state.core (record { seat = index; step = step }) ≡ None
+  -- these events had led there, by states that each met the rule, and the seat's log is its part of them
+  pub past : List Event
+  pub led : LeadTo state.core.shape past state.core
+  pub came : Leads past (start_state state.core.shape state.plan 1) state
+  pub logged : IsLogged state.core.shape past state.core index v
 
 -- what a store does doesn't rest on the word that it overwrites
 abbrev pub IsBlind : Step → View → Type 0

@@ -1,6 +1,7 @@
 pub mod Freeing
 pub mod Threads
 pub mod Sharing
+pub mod Finding
 pub mod Lending
 pub mod Rooted
 pub mod Single

@@ -6,6 +6,7 @@
 #![tactic(auto)]
 
 ghost use Rattle.heap_runs.specs.Counting.{RaisesCounted, WinsTold};
+ghost use Rattle.heap_runs.specs.Finding.{StepsFind};
 ghost use Rattle.heap_runs.specs.Lending.{OneObjectLent};
 ghost use Rattle.heap_runs.specs.Rooted.{RootFound};
 ghost use Rattle.heap_runs.specs.Runs.{NoneFreed};
@@ -28,6 +29,12 @@ pub fn threads_free_none()
 /// come in their order. After each step the words agree with one plain heap that forgets nothing, and whatever a step read is what this heap had just before.
 pub fn threads_share_one_heap()
     ensures { ThreadsShareOneHeap }
+{}
+
+/// Whatever a step of a thread finds, while the heap is open and others step: a run of the core had led there, of which the seat's log is its part, the words
+/// agreed with one plain heap that forgets nothing, and what the step found is what this heap had at that moment.
+pub fn steps_find()
+    ensures { StepsFind }
 {}
 
 /// Where the seat of section 0 stores once at most in one of its variables, this variable refers to one object in the whole run, or to nothing until that store:

@@ -1,10 +1,10 @@
 -- Where objects may lie, and when a heap of so many cells is full.
-use Rattle.std.specs.Prelude.{ℕ, ◌≡◌, ◌<◌, ◌≤◌, ◌-◌, zero, suc, List, [], length, All, map, slice_get, slice_index_or, Some}
+use Rattle.std.specs.Prelude.{ℕ, ◌≡◌, ◌<◌, ◌≤◌, ◌-◌, zero, suc, List, [], length, map, slice_get, slice_index_or, Some}
 use Rattle.plain_heap.specs.declared.operation.Op.{Op}
 use Rattle.plain_heap.specs.declared.operation.Op.TheVariants as ops
 use Rattle.plain_heap.specs.Sections.{Execution, Sections, end_of, section_numbers, IsNext}
-use Rattle.plain_heap.specs.PlainRun.{plain, last_heap, last_heaps, heaps_at}
-use Rattle.plain_heap.specs.Paths.{Name, IsReachable, AreReachable}
+use Rattle.plain_heap.specs.PlainRun.{plain}
+use Rattle.plain_heap.specs.Paths.{Name, AreReachable}
 
 -- the operation makes an object
 abbrev pub IsNew : Op → Type 0
@@ -18,20 +18,6 @@ cells_of places w = slice_index_or places w []
 -- an object lies in this cell
 abbrev pub LiesIn : List (List ℕ) → Name → ℕ → Type 0
 LiesIn places name cell = slice_get (cells_of places name.section) name.number ≡ Some cell
-
--- just before a `new`, no reachable object of the section lies in the cell of the object that it makes
-abbrev pub TakesFreeCells : Sections → List (List ℕ) → ℕ → Type 0
-TakesFreeCells s places w = (k z : ℕ) (e : Execution) → IsNext s w k z e → IsNew e.op
-    → (name : Name) (cell : ℕ) → IsReachable (heaps_at s w k z) name → name.section ≡ w → LiesIn places name cell
-    → LiesIn places (record { section = w; number = length (plain s w k).objects }) cell → ⊥
-
--- one cell for each object of each section, all among so many, and no two survivors in one cell
-pub record IsPlaced (s : Sections) (cells : ℕ) (places : List (List ℕ)) : Type 0 where
-  pub sections : length places ≡ length (section_numbers s)
-  pub each : (w : ℕ) → w < length places → length (cells_of places w) ≡ length (last_heap s w).objects
-  pub below : All (All (λ cell. cell < cells)) places
-  pub free : (w : ℕ) → w < length places → TakesFreeCells s places w
-  pub apart : (a b : Name) (cell : ℕ) → IsReachable (last_heaps s) a → IsReachable (last_heaps s) b → LiesIn places a cell → LiesIn places b cell → a ≡ b
 
 -- how many commands of section w were done
 abbrev pub position : List ℕ → ℕ → ℕ

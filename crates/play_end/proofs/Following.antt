@@ -12,10 +12,6 @@ use Rattle.play_end.specs.Alike.{AreAlike}
 use Rattle.play_end.specs.Done.{turn_word, last_heap_of, IsQuiet, Follow}
 use Rattle.play_end.proofs.Alike.{alike-then, alike-same, alike-back}
 
-pub follow-far : (s : Sections) (w k a : ℕ) (ts : List PlainStep) → Follow s w k a ts → a ≤ k
-follow-far s w k a [] f = f.0
-follow-far s w k a (t ∷ ts) f = omega (arith, f.1.from, follow-far s w k (f.0 + 1) ts f.2)
-
 -- nothing changes at a place
 quiet-here : (s : Sections) (w a : ℕ) → IsQuiet s w a a
 quiet-here s w a q from to = alike-same (plain s w q) (plain s w a) (ap (plain s w) (let e : q ≡ a = omega (arith, from, to) in e))
