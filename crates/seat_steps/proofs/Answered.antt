@@ -2,6 +2,8 @@
 use Rattle.std.proofs.Common.{◌≡◌, refl, sym, subst, true}
 use Rattle.gc_table.specs.Seats.{Across, view_of}
 use Rattle.gc_table.specs.declared.seat.Heap.{Heap}
+use Rattle.gc_table.specs.declared.seat.HeapSeat.{HeapSeat}
+use Rattle.mutator_turns.specs.Standing.{IsMutatorOutside}
 use Rattle.mutator_turns.proofs.Leaving.{leaves-none}
 use Rattle.seat_steps.specs.Causes.{EntersBy, EntersFreely, PassesBy}
 use Rattle.seat_steps.specs.Stepping.{Arrives, Entered, EntersFrom, KeepsAll, Passed, is_collecting}
@@ -33,12 +35,19 @@ enters-outside x y e p = subst (λ (a : Stage). EntersFrom a x y) (sym e) p
 pub enters-out : (came : Came) (h : Heap) (x y : Stepper) → (came ≡ cames.Done → ⊥) → Arrives came h y.seat → Across (EntersBy came) x.seat y.seat → x.stage ≡ stages.Outside → y.stage ≡ stages.Outside → KeepsAll x y → Entered came x y
 enters-out cames.Done h x y other a p e f k = absurd (other refl)
 enters-out cames.Stopped h x y other a p e f k = (p, e, f, k)
-enters-out cames.Full h x y other a p e f k = (a.1, e, f, k)
+enters-out cames.Full h x y other a p e f k = (p, e, f, k)
 enters-out came h x y other a p e f k = absurd a
 
 -- a safe point after which it is outside
 pub passes-out : (came : Came) (h : Heap) (x y : Stepper) → (came ≡ cames.Done → ⊥) → Arrives came h y.seat → Across (PassesBy came) x.seat y.seat → x.stage ≡ stages.Inside → y.stage ≡ stages.Outside → KeepsAll x y → Passed came x y
 passes-out cames.Done h x y other a p e f k = absurd (other refl)
 passes-out cames.Stopped h x y other a p e f k = (p, e, f, k)
-passes-out cames.Full h x y other a p e f k = (a.1, e, f, k)
+passes-out cames.Full h x y other a p e f k = (p, e, f, k)
 passes-out came h x y other a p e f k = absurd a
+
+-- who tried to come to its turn and hasn't is outside
+pub arrives-out : (came : Came) (h : Heap) (s : HeapSeat) → (came ≡ cames.Done → ⊥) → Arrives came h s → IsMutatorOutside h s
+arrives-out cames.Done h s other a = absurd (other refl)
+arrives-out cames.Stopped h s other a = a
+arrives-out cames.Full h s other a = a.0
+arrives-out came h s other a = absurd a

@@ -5,8 +5,6 @@ use Rattle.gc_table.specs.Seats.{state_of, view_of}
 use Rattle.gc_table.specs.declared.seat.Heap.{Heap}
 use Rattle.gc_table.specs.declared.seat.HeapSeat.{HeapSeat}
 use Rattle.mark_core.specs.Steps.MutatorSteps.{seat_variable as word_in}
-use Rattle.plain_heap.specs.PlainHeap.{variable}
-use Rattle.plain_heap.specs.declared.object.Ref.TheVariants.{Nil}
 use Rattle.plain_heap.specs.declared.operation.Op.{Op}
 use Rattle.plain_heap.specs.declared.operation.Op.TheVariants as ops
 use Rattle.mutator_turns.specs.Plain.{Steps, value_in}

@@ -1,16 +1,16 @@
 -- What a stepper found, in one call after another.
-use Rattle.std.proofs.Common.{ℕ, ◌≡◌, ◌<◌, ◌+◌, List, [], ◌∷◌, refl, sym, ap, ◌∙◌, subst, Bool, true, false, not, ◌||◌, Option, Some, None, ⊎_elim, inl, inr, arith}
+use Rattle.std.proofs.Common.{ℕ, ◌≡◌, ◌<◌, List, [], ◌∷◌, refl, sym, ap, ◌∙◌, subst, Bool, true, false, not, ◌||◌, Option, Some, None, ⊎_elim, inl, inr, arith}
 use Rattle.std.specs.Prelude.{if◌then◌else◌, is_some, Result, Ok, Err, IfErr, IfNone, IfSome}
 use Rattle.std.specs.Int.Count.{ones}
 use Rattle.std.proofs.lemmas.Bool.{false≢true, or_left, or_right}
 use Rattle.mark_core.specs.Bits.{has_flag}
 use Rattle.mark_core.specs.Seats.{has_turn}
-use Rattle.mark_core.specs.declared.kinds.Shape.{Shape}
+use Rattle.mark_core.specs.declared.kinds.Phase.TheVariants.{Full}
 use Rattle.mark_core.specs.declared.kinds.Step.{Step}
 use Rattle.mark_core.specs.declared.kinds.Step.TheVariants.{Observe, ReadPhase, ReadSeason}
 use Rattle.gc_table.specs.Log.{events}
 use Rattle.gc_table.specs.Running.{after_all, Ran}
-use Rattle.gc_table.specs.Seats.{Found, Sits, view_of}
+use Rattle.gc_table.specs.Seats.{Found}
 use Rattle.gc_table.specs.declared.seat.Heap.{Heap}
 use Rattle.gc_table.specs.declared.seat.HeapSeat.{HeapSeat}
 use Rattle.gc_table.specs.declared.view.Entry.{Entry}
@@ -24,16 +24,16 @@ use Rattle.stop_world.specs.Gates.{TurnsBack}
 use Rattle.mutator_ops.specs.Few.{AtMost}
 use Rattle.mutator_ops.proofs.Few.{at-most-after, at-most-events, at-most-join, at-most-more, at-most-none}
 use Rattle.gc_cycle.specs.Events.{Sort, first_is}
-use Rattle.gc_cycle.specs.Polling.{poll_found_stop}
-use Rattle.gc_cycle.specs.Sorts.{enters_freely, polls, sees_flag, sees_no_flag}
-use Rattle.cache_refills.specs.Stops.{may_stop}
+use Rattle.gc_cycle.specs.Polling.{poll_found_stop, saw_full}
+use Rattle.gc_cycle.specs.Sorts.{enters_freely, polls, reads_phase, sees_flag, sees_no_flag}
 use Rattle.cache_refills.specs.Trying.{EntersOnce, PassesTo}
 use Rattle.cache_refills.specs.declared.trying.Pass.{Pass}
 use Rattle.cache_refills.specs.declared.trying.Pass.TheVariants as passes
 use Rattle.seat_turns.specs.Turning.{LooksAtSeason, SeesOther}
 use Rattle.mutator_turns.specs.Standing.{LacksFree}
 use Rattle.mutator_turns.proofs.Seats.{looks-ran}
-use Rattle.seat_steps.specs.Causes.{ArrivesBy, ComesFreely, EntersBy, FoundStop, GoesFreely, HasFree, LacksBy, LooksBy, LooksFreely, MakesBy, MakesFreely, PassesBy, SawOther, finds_flag}
+use Rattle.seat_steps.specs.Causes.{ArrivesBy, ComesFreely, EntersBy, FoundStop, GoesFreely, HasFree, LacksBy, LooksBy, LooksFreely, PassesBy, SawOther, finds_flag}
+use Rattle.seat_steps.specs.Filling.{TriesSome}
 use Rattle.seat_steps.specs.Stepping.{LacksCell, LeavesWorld}
 use Rattle.seat_steps.specs.declared.stepper.Came.{Came}
 use Rattle.seat_steps.specs.declared.stepper.Came.TheVariants as cames
@@ -54,7 +54,7 @@ sees_finds step n e = absurd (false≢true e)
 -- what a safe point looked at
 pub looks-by : (p : Pass) (handed kept : Option Cache) (done : ℕ) (v w : View) → PassesTo p handed kept done v w → LooksBy p handed kept v w
 looks-by passes.Going handed kept done v w p = (p.same, (p.looks.0, p.looks.1, sym (ap poll_found_stop p.looks.2) ∙ p.clear, p.looks.2))
-looks-by passes.Full handed kept done v w p = tt
+looks-by passes.Full handed kept done v w p = p.ends.read
 looks-by passes.Out handed kept done v w p = first_some polls sees_flag finds_flag sees_finds (events v w) p.found
 
 -- a stop that was found before the end, or after the beginning
@@ -74,6 +74,13 @@ found-right u v w a b f =
 
 pub found-other : (u v w x : View) → Ran u v → LooksAtSeason v w → SeesOther 1 w → Ran w x → FoundStop u x
 found-other u v w x a s o b = inr (record { looked = w; before = ran-join u v w a (looks-ran v w s); other = o; last = b })
+
+-- the phase was read as Full before the end, or after the beginning
+pub full-left : (u v w : View) → Ran u v → Ran v w → saw_full (events u v) ≡ true → saw_full (events u w) ≡ true
+full-left u v w a b e = ap saw_full (ran-events u v w a b) ∙ some-left (reads_phase Full) (events u v) (events v w) e
+
+pub full-right : (u v w : View) → Ran u v → Ran v w → saw_full (events v w) ≡ true → saw_full (events u w) ≡ true
+full-right u v w a b e = ap saw_full (ran-events u v w a b) ∙ some-right (reads_phase Full) (events u v) (events v w) e
 
 -- the two looks of a safe point, and one at the season where it isn't known
 looks_few : (v w : View) → LooksAtSeason v w → AtMost 1 v w
@@ -106,8 +113,7 @@ turn-known (Some x) (Some n) e = refl
 
 pub passes-by : (c : Came) (v w : View) → is_some v.state.season_seen ≡ true → ArrivesBy c v w → PassesBy c v w
 passes-by cames.Done v w k g = record { ran = g.ran; free = g.free; few = g.known k }
-passes-by cames.Stopped v w k g = g
-passes-by c v w k g = tt
+passes-by c v w k g = g
 
 -- on the way in
 pub turns-found : (v w : View) → TurnsBack v w → FoundStop v w
@@ -130,31 +136,22 @@ enters-by cames.Done u v w r e q g =
       free = ap (some_event sees_no_flag) (ran-events u v w r q) ∙ some-right sees_no_flag (events u v) (events v w) g.free;
       few = at-most-join 2 3 u v w r q (entered_few u v e) g.few;
     }
-enters-by cames.Stopped u v w r e q g = found-right u v w r q g
-enters-by c u v w r e q g = tt
+enters-by cames.Stopped u v w r e q g = (found-right u v w r q g.0, at-most-join 2 8 u v w r q (entered_few u v e) g.1)
+enters-by cames.Full u v w r e q g = ((full-right u v w r q g.0.0, g.0.1), at-most-join 2 8 u v w r q (entered_few u v e) g.1)
+enters-by c u v w r e q g = g
 
 -- without a cell
-pub lacks-by : (c : Came) (v w : View) → ArrivesBy c v w → LacksBy c v w
-lacks-by cames.Stopped v w g = g
-lacks-by c v w g = tt
+pub lacks-by : (c : Came) (v w : View) → (c ≡ cames.Done → ⊥) → ArrivesBy c v w → LacksBy c v w
+lacks-by cames.Done v w n g = absurd (n refl)
+lacks-by cames.NoCell v w n g = absurd g
+lacks-by c v w n g = g
 
-pub arrives-makes : (c : Came) (h : Heap) (s : HeapSeat) (v w : View) → LeavesWorld c h s → ArrivesBy c v w → MakesBy c v w
-arrives-makes cames.Done h s v w l g = absurd l
-arrives-makes cames.NoCell h s v w l g = absurd l
-arrives-makes cames.Stopped h s v w l g = g
-arrives-makes c h s v w l g = tt
-
-pub lacks-makes : (c : Came) (h : Heap) (s : HeapSeat) (u v w x : View) → Ran u v → Ran v w → may_stop v.shape (events v w) ≡ true → Ran w x → LacksCell c h s → LacksBy c w x → MakesBy c u x
-lacks-makes cames.Done h s u v w x a b m d l g = absurd l
-lacks-makes cames.NoCell h s u v w x a b m d l g = record { asked = v; before = a; found = w; ran = b; cause = m; last = d }
-lacks-makes cames.Stopped h s u v w x a b m d l g = found-right u w x (ran-join u v w a b) d g
-lacks-makes c h s u v w x a b m d l g = tt
-
-pub makes-later : (c : Came) (h : Heap) (s : HeapSeat) (u v w : View) → Ran u v → Ran v w → LacksCell c h s → MakesBy c v w → MakesBy c u w
-makes-later cames.Done h s u v w a b l g = absurd l
-makes-later cames.NoCell h s u v w a b l g = record { asked = g.asked; before = ran-join u v g.asked a g.before; found = g.found; ran = g.ran; cause = g.cause; last = g.last }
-makes-later cames.Stopped h s u v w a b l g = found-right u v w a b g
-makes-later c h s u v w a b l g = tt
+-- however it came, it took few steps
+pub arrives-few : (c : Came) (v w : View) → ArrivesBy c v w → AtMost 8 v w
+arrives-few cames.Done v w g = at-most-more 3 8 v w (omega arith) g.few
+arrives-few cames.Stopped v w g = g.1
+arrives-few cames.Full v w g = g.1
+arrives-few c v w g = absurd g
 
 -- a cache with a free cell
 pub not-lacking : (o : Option Cache) (h : Cache) → o ≡ Some h → 0 < ones h.cells → LacksFree o → ⊥
@@ -164,9 +161,19 @@ pub err-both : {X E : Type 0} (r : Result X E) (P Q R : E → Type 0) → ((e : 
 err-both (Ok x) P Q R k p q = tt
 err-both (Err e) P Q R k p q = k e p q
 
+pub err-weaker : {X E : Type 0} (r : Result X E) (P Q : E → Type 0) → ((e : E) → P e → Q e) → IfErr r P → IfErr r Q
+err-weaker (Ok x) P Q k p = tt
+err-weaker (Err e) P Q k p = k e p
+
+-- who left has come to no cell
+pub leaves-lacks : (c : Came) (h : Heap) (s : HeapSeat) → LeavesWorld c h s → LacksCell c h s
+leaves-lacks cames.Stopped h s l = l
+leaves-lacks cames.Full h s l = l
+leaves-lacks c h s l = absurd l
+
 -- with a cell
 pub comes-free : (v w : View) → is_some v.state.season_seen ≡ true → GoesFreely v w → ComesFreely v w
-comes-free v w k g = record { free = g.free; few = λ _. g.known k }
+comes-free v w k g = record { free = g.free; few = λ _. g.known k; besides = inl (g.known k) }
 
 -- where the cache of the record has a free cell, so does the one in hand
 lacking_none : (o kept : Option Cache) (v : View) → IfSome o (λ h. IsCached h v) → IfNone o (v.state.cache ≡ None) → kept ≡ o → LacksFree kept → HasFree v.state.cache → ⊥
@@ -174,19 +181,10 @@ lacking_none None kept v some bare e l f = subst HasFree bare f
 lacking_none (Some h) kept v some bare e l f = not-lacking kept h e (subst HasFree some f) l
 
 pub comes-filled :
-    (o none : Option Cache) (u v w : View) → Ran u v → Ran v w → GoesFreely u v → IfSome o (λ h. IsCached h u) → IfNone o (u.state.cache ≡ None) → none ≡ o → LacksFree none → ComesFreely u w
-comes-filled o none u v w a b g some bare e l =
+    (o none : Option Cache) (u v w : View) → Ran u v → Ran v w → GoesFreely u v → IfSome o (λ h. IsCached h u) → IfNone o (u.state.cache ≡ None) → none ≡ o → LacksFree none → TriesSome 5 3 u w → ComesFreely u w
+comes-filled o none u v w a b g some bare e l t =
     record {
       free = ap (some_event sees_no_flag) (ran-events u v w a b) ∙ some-left sees_no_flag (events u v) (events v w) g.free;
       few = λ f. absurd (lacking_none o none u some bare e l f);
-    }
-
--- an object was made
-pub made-free : (h : Heap) (x : HeapSeat) (v w : View) → Sits h x → Ran (view_of x) v → Ran v w → ComesFreely (view_of x) v → AtMost (h.shape.fields + 3) v w → MakesFreely (view_of x) w
-made-free h x v w sits a b c m =
-    let u : View = view_of x in
-    let same : u.shape.fields ≡ h.shape.fields = ap (λ (sh : Shape). sh.fields) sits.1 in
-    record {
-      free = ap (some_event sees_no_flag) (ran-events u v w a b) ∙ some-left sees_no_flag (events u v) (events v w) c.free;
-      few = λ f. at-most-more (2 + (h.shape.fields + 3)) (u.shape.fields + 5) u w (omega (arith, same)) (at-most-join 2 (h.shape.fields + 3) u v w a b (c.few f) m);
+      besides = inr t;
     }

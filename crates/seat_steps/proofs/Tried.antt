@@ -1,26 +1,27 @@
 -- What a mutator is after a call that doesn't wait.
-use Rattle.std.proofs.Common.{ℕ, ◌≡◌, true, refl, Option, Some, None}
+use Rattle.std.proofs.Common.{ℕ, ◌≡◌, true, refl, subst, Option, Some, None}
 use Rattle.std.specs.Prelude.{is_some, IfNone, IfSome}
 use Rattle.std.proofs.lemmas.Bool.{false≢true}
 use Rattle.mark_core.specs.Seats.{has_turn}
-use Rattle.gc_table.specs.Log.{events}
 use Rattle.gc_table.specs.Running.{Ran}
 use Rattle.gc_table.specs.Seats.{Sits, view_of}
 use Rattle.gc_table.specs.declared.seat.Heap.{Heap}
 use Rattle.gc_table.specs.declared.seat.HeapSeat.{HeapSeat}
 use Rattle.gc_table.specs.declared.view.View.{View}
+use Rattle.alloc_cache.specs.Caching.{IsCached}
 use Rattle.alloc_cache.specs.declared.cache.Cache.{Cache}
+use Rattle.gc_cycle.specs.Answering.{HasCache}
 use Rattle.cache_refills.specs.Getting.{RefillsTo}
 use Rattle.gc_cycle.specs.Mutating.{GoesOut}
 use Rattle.gc_cycle.specs.Sparing.{SparesRefill}
 use Rattle.gc_cycle.specs.Standing.{KeepsSeat, KeepsSection}
-use Rattle.cache_refills.specs.Stops.{may_stop}
 use Rattle.cache_refills.specs.Trying.{CallsForCollection, EntersTo, PassesTo}
 use Rattle.gc_cycle.specs.declared.counts.Refill.{Refill}
 use Rattle.gc_cycle.specs.declared.counts.Refill.TheVariants as refills
 use Rattle.cache_refills.specs.declared.trying.Pass.{Pass}
 use Rattle.cache_refills.specs.declared.trying.Pass.TheVariants as passes
 use Rattle.mutator_turns.specs.Standing.{Halts, IsMutatorOutside, Works}
+use Rattle.seat_steps.specs.Filling.{TriesToFill}
 use Rattle.seat_steps.specs.Stepping.{Passes, Refills, Tries}
 use Rattle.mutator_turns.proofs.Seats.{going-seen, kept-works, mutator-kept}
 
@@ -58,6 +59,13 @@ pub fills-none : (o : Option Refill) (h : Heap) (x y : HeapSeat) → Works h x �
 fills-none None h x y k sits ran seat section p = record { works = kept-works h x y k sits p.mutates ran seat section; cache = p.cache }
 fills-none (Some r) h x y k sits ran seat section p = tt
 
-pub fills-calls : (o : Option Refill) (v w : View) → IfNone o (CallsForCollection v w) → IfNone o (may_stop v.shape (events v w) ≡ true)
-fills-calls None v w p = p.cause
-fills-calls (Some r) v w p = tt
+-- what the try came to
+pub fills-tries :
+    (o : Option Refill) (done : ℕ) (v w : View) → done ≡ v.state.made → IfSome o (λ r. RefillsTo r done v w × SparesRefill r v w) → IfNone o (CallsForCollection v w) → TriesToFill o v w
+fills-tries None done v w e some none = none.cause
+fills-tries (Some r) done v w e some none = subst (λ n. RefillsTo r n v w) e some.0
+
+-- the cache that the seat's record has, as it is lent
+pub own-cache : (o : Option Cache) (v : View) → IfSome o (λ h. IsCached h v) → IfNone o (v.state.cache ≡ None) → HasCache o v
+own-cache None v some none = none
+own-cache (Some h) v some none = some

@@ -2,21 +2,20 @@
 use Rattle.std.specs.Prelude.{ℕ, ◌≡◌, [], ◌∷◌, Bool, IsTrue}
 use Rattle.mark_core.specs.Numbers.{block_counter, card_counter}
 use Rattle.mark_core.specs.Seats.{saw}
-use Rattle.mark_core.specs.declared.kinds.Phase.TheVariants.{Clear, Drain, Marking, Sweep}
+use Rattle.mark_core.specs.declared.kinds.Phase.TheVariants.{Clear, Drain, Idle, Marking, Sweep}
 use Rattle.mark_core.specs.declared.kinds.Step.TheVariants.{Reset}
-use Rattle.gc_table.specs.Log.{events, Only}
-use Rattle.gc_table.specs.Running.{Ran}
+use Rattle.gc_table.specs.Log.{events}
 use Rattle.gc_table.specs.declared.view.View.{View}
 use Rattle.card_clean.specs.Drained.{FindsNoDirtyCard}
-use Rattle.gc_cycle.specs.Answering.{retires}
-use Rattle.gc_cycle.specs.Courses.{TakesCourse}
+use Rattle.gc_cycle.specs.Courses.{TakesCourse, sets_numbers}
 use Rattle.gc_cycle.specs.Cycles.{collects_exactly}
 use Rattle.gc_cycle.specs.Finishing.{IsMove}
 use Rattle.gc_cycle.specs.Moments.{begins}
 use Rattle.gc_cycle.specs.Stepping.{AsksOnce, EndsCollection, FindsStopped}
 use Rattle.gc_cycle.specs.declared.counts.Counts.{Counts}
+use Rattle.mutator_turns.specs.Coming.{GivesCache, StepsOut, WithOwn}
 use Rattle.seat_steps.specs.Asked.{HasAsked}
-use Rattle.seat_steps.specs.Causes.{ArrivesBy}
+use Rattle.seat_steps.specs.Causes.{ArrivesBy, FoundFull}
 use Rattle.seat_steps.specs.declared.stepper.Came.{Came}
 
 -- since the seat asked for its stop it made a precise collection: a drain began with no cell marked, and then the cycle ended
@@ -28,10 +27,8 @@ pub record CollectsSinceAsked (w : View) : Type 0 where
 -- the seat gave up its cache, if it had one, stored its position, left, and asked for the flag: it is the seat's own where it was down
 pub record AsksForStop (yours : Bool) (v w : View) : Type 0 where
   pub retired : View
-  pub ran : Ran v retired
-  pub only : Only retires v retired
-  pub done : ℕ
-  pub asks : AsksOnce done yours retired w
+  pub gives : WithOwn GivesCache v retired
+  pub asks : AsksOnce retired.state.made yours retired w
 
 -- the world was found stopped and the phase read; then the drain began. It is to mark once more where a cycle was marking
 pub record BeginsMarking (again : Bool) (v w : View) : Type 0 where
@@ -39,6 +36,15 @@ pub record BeginsMarking (again : Bool) (v w : View) : Type 0 where
   pub finds : FindsStopped v stopped
   pub course : TakesCourse (Drain ∷ []) (Reset card_counter ∷ Reset block_counter ∷ []) stopped w
   pub marking : again ≡ saw stopped.state.phase_seen Marking
+
+-- the world was found stopped, and the phase read as Full; then the world went on, the position was stored, and the seat left
+pub record FindsHeapFull (v w : View) : Type 0 where
+  pub stopped : View
+  pub finds : FindsStopped v stopped
+  pub resumed : View
+  pub course : TakesCourse [] [] stopped resumed
+  pub leaves : StepsOut resumed w
+  pub full : FoundFull v w
 
 -- no card was found dirty and all packets empty; then all marks were taken away, and the drain began once more
 pub record MarksAgain (v w : View) : Type 0 where
@@ -52,12 +58,13 @@ pub record BeginsSweep (v w : View) : Type 0 where
   pub looks : FindsNoDirtyCard v.shape (events v drained)
   pub moved : IsMove Drain Sweep drained w
 
--- the cycle ended, in which so many cells were freed, and the world went on: so a precise collection was made since the seat asked for its stop; then the seat
--- came to its turn, or left
+-- the cycle ended, in which so many cells were freed, the numbers for the next one were set, and the world went on: so a precise collection was made since the
+-- seat asked for its stop; then the seat came to its turn, or left
 pub record EndsBy (freed : ℕ) (came : Came) (v w : View) : Type 0 where
   pub ended : View
   pub counts : Counts
   pub ends : EndsCollection counts v ended
   pub freed_is : counts.freed ≡ freed
+  pub course : TakesCourse (Idle ∷ []) (sets_numbers v.shape counts) v ended
   pub collected : ∥ CollectsSinceAsked ended ∥₁
   pub arrives : ArrivesBy came ended w

@@ -1,12 +1,15 @@
 -- How a stepper is made of a resting seat, and comes apart into one.
 use Rattle.std.specs.Prelude.{◌≡◌, IsTrue}
-use Rattle.std.specs.Arc.{arc_value}
 use Rattle.gc_table.specs.Seats.{Across}
+use Rattle.gc_table.specs.declared.view.View.{View}
+use Rattle.mutator_ops.specs.Few.{AtMost}
+use Rattle.mutator_turns.specs.Coming.{LeavesTurn}
 use Rattle.mutator_turns.specs.Sharing.{LeavesHeap}
 use Rattle.mutator_turns.specs.Standing.{plain_of}
 use Rattle.seat_steps.specs.Stepping.{heap_of_stepper, is_collecting}
 use Rattle.seat_steps.specs.declared.resting.RestingSeat.{RestingSeat}
-use Rattle.seat_steps.specs.declared.stepper.Stage.TheVariants.{Outside}
+use Rattle.seat_steps.specs.declared.stepper.Stage.{Stage}
+use Rattle.seat_steps.specs.declared.stepper.Stage.TheVariants.{Inside, Outside}
 use Rattle.seat_steps.specs.declared.stepper.Stepper.{Stepper}
 
 -- the stepper is this seat's, outside the world
@@ -17,10 +20,17 @@ pub record IsSteppedBy (r : RestingSeat) (s : Stepper) : Type 0 where
   pub name_is : s.name ≡ r.name
   pub stops : s.in_stops ≡ r.in_stops
 
+-- what letting go of it did, by where the stepper was: nothing; or the cache was given up, the position stored, and the world left, by 5 steps at most
+abbrev pub StopsFrom : Stage → View → View → Type 0
+StopsFrom Outside v w = w ≡ v
+StopsFrom Inside v w = LeavesTurn v w × AtMost 5 v w
+StopsFrom stage v w = ⊥
+
 -- the seat is this stepper's, which has left: neither the objects nor the variables changed
 pub record HasStopped (s : Stepper) (r : RestingSeat) : Type 0 where
   pub objects : plain_of r.seat ≡ heap_of_stepper s
   pub leaves : Across LeavesHeap s.seat r.seat
+  pub stopped : Across (StopsFrom s.stage) s.seat r.seat
   pub heap : r.heap ≡ s.heap
   pub name_is : r.name ≡ s.name
   pub stops : r.in_stops ≡ s.in_stops

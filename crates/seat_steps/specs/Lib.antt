@@ -1,4 +1,5 @@
 pub mod Acting
+pub mod Amounts
 pub mod Asked
 pub mod Asking
 pub mod Bounds
@@ -6,6 +7,7 @@ pub mod Causes
 pub mod Collecting
 pub mod Course
 pub mod Doing
+pub mod Filling
 pub mod Handing
 pub mod Stepping
 pub mod Steps

@@ -1,5 +1,5 @@
 -- What a mutator is told that doesn't wait.
-use Rattle.std.specs.Prelude.{ℕ, ◌≡◌, ◌≤◌, ◌<◌, length, Bool, true, false, Option, Some, None, IsTrue}
+use Rattle.std.specs.Prelude.{ℕ, ◌≡◌, ◌≤◌, ◌<◌, length, Bool, true, false, Option, None, IsTrue}
 use Rattle.std.specs.Arc.{arc_value}
 use Rattle.std.specs.Int.Count.{ones}
 use Rattle.mark_core.specs.Numbers.{section_variables}
@@ -20,10 +20,11 @@ use Rattle.cache_refills.specs.declared.trying.Pass.TheVariants as passes
 use Rattle.gc_table.specs.declared.seat.Heap.{Heap}
 use Rattle.gc_table.specs.declared.seat.HeapSeat.{HeapSeat}
 use Rattle.mutator_ops.specs.Few.{AtMost, most_steps}
+use Rattle.mutator_turns.specs.Coming.{LeavesTurn}
 use Rattle.mutator_turns.specs.Sharing.{LeavesHeap}
 use Rattle.mutator_turns.specs.Standing.{Halts, IsAtTurn, IsMutatorOutside, Works, plain_of}
 use Rattle.seat_steps.specs.Doing.{Does, FindsNone, FindsSome}
-use Rattle.seat_steps.specs.Causes.{EntersFreely, FoundNoCell, FoundStop, MakesFreely, PassesFreely}
+use Rattle.seat_steps.specs.Causes.{EntersFreely, FoundFullIn, FoundStopIn, MakesBy, MakesFreely, PassesFreely}
 use Rattle.seat_steps.specs.declared.stepper.Came.{Came}
 use Rattle.seat_steps.specs.declared.stepper.Came.TheVariants as cames
 use Rattle.seat_steps.specs.declared.stepper.Stage.{Stage}
@@ -124,10 +125,10 @@ StepperMakes cames.Done op x y = StepperDoes op x y × Across MakesFreely x.seat
 StepperMakes cames.OutOfRange op x y = (IsInRange (fields_in x) op → ⊥) × (y ≡ x)
 StepperMakes cames.Outside op x y = (x.stage ≡ Outside) × (y ≡ x)
 StepperMakes cames.Collecting op x y = IsTrue (is_collecting x.stage) × (y ≡ x)
-StepperMakes cames.NoCell op x y = Across FoundNoCell x.seat y.seat × (x.stage ≡ Inside) × (y.stage ≡ Inside) × KeepsAll x y
+StepperMakes cames.NoCell op x y = Across (MakesBy cames.NoCell) x.seat y.seat × (x.stage ≡ Inside) × (y.stage ≡ Inside) × KeepsAll x y
 StepperMakes cames.Spent op x y = ((arc_value x.heap).shape.objects ≤ length (heap_of_stepper x).objects) × (x.stage ≡ Inside) × (y ≡ x)
-StepperMakes cames.Stopped op x y = Across FoundStop x.seat y.seat × (x.stage ≡ Inside) × (y.stage ≡ Outside) × KeepsAll x y
-StepperMakes cames.Full op x y = KnowsFull (view_of y.seat) × (x.stage ≡ Inside) × (y.stage ≡ Outside) × KeepsAll x y
+StepperMakes cames.Stopped op x y = Across (MakesBy cames.Stopped) x.seat y.seat × (x.stage ≡ Inside) × (y.stage ≡ Outside) × KeepsAll x y
+StepperMakes cames.Full op x y = Across (MakesBy cames.Full) x.seat y.seat × (x.stage ≡ Inside) × (y.stage ≡ Outside) × KeepsAll x y
 StepperMakes c op x y = ⊥
 
 -- what entering did, by where the stepper was
@@ -139,14 +140,14 @@ EntersFrom stage x y = ⊥
 -- what entering came to
 abbrev pub Entered : Came → Stepper → Stepper → Type 0
 Entered cames.Done x y = EntersFrom x.stage x y × (y.stage ≡ Inside) × KeepsAll x y
-Entered cames.Stopped x y = Across FoundStop x.seat y.seat × (x.stage ≡ Outside) × (y.stage ≡ Outside) × KeepsAll x y
-Entered cames.Full x y = KnowsFull (view_of y.seat) × (x.stage ≡ Outside) × (y.stage ≡ Outside) × KeepsAll x y
+Entered cames.Stopped x y = Across (FoundStopIn 10) x.seat y.seat × (x.stage ≡ Outside) × (y.stage ≡ Outside) × KeepsAll x y
+Entered cames.Full x y = Across (FoundFullIn 10) x.seat y.seat × (x.stage ≡ Outside) × (y.stage ≡ Outside) × KeepsAll x y
 Entered cames.Collecting x y = IsTrue (is_collecting x.stage) × (y ≡ x)
 Entered c x y = ⊥
 
 -- what leaving did, by where the stepper was
 abbrev pub LeavesFrom : Stage → Stepper → Stepper → Type 0
-LeavesFrom Inside x y = Across LeavesHeap x.seat y.seat
+LeavesFrom Inside x y = Across LeavesTurn x.seat y.seat × Across (AtMost 5) x.seat y.seat
 LeavesFrom Outside x y = y ≡ x
 LeavesFrom stage x y = ⊥
 
@@ -159,9 +160,9 @@ Left c x y = ⊥
 -- what a safe point came to
 abbrev pub Passed : Came → Stepper → Stepper → Type 0
 Passed cames.Done x y = Across PassesFreely x.seat y.seat × (x.stage ≡ Inside) × (y.stage ≡ Inside) × KeepsAll x y
-Passed cames.Stopped x y = Across FoundStop x.seat y.seat × (x.stage ≡ Inside) × (y.stage ≡ Outside) × KeepsAll x y
+Passed cames.Stopped x y = Across (FoundStopIn 8) x.seat y.seat × (x.stage ≡ Inside) × (y.stage ≡ Outside) × KeepsAll x y
 Passed cames.Outside x y = (x.stage ≡ Outside) × (y ≡ x)
-Passed cames.Full x y = KnowsFull (view_of y.seat) × (x.stage ≡ Inside) × (y.stage ≡ Outside) × KeepsAll x y
+Passed cames.Full x y = Across (FoundFullIn 8) x.seat y.seat × (x.stage ≡ Inside) × (y.stage ≡ Outside) × KeepsAll x y
 Passed cames.Collecting x y = IsTrue (is_collecting x.stage) × (y ≡ x)
 Passed c x y = ⊥
 

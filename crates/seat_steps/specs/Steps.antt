@@ -10,7 +10,7 @@ use Rattle.sweeper.specs.Freeing.{freed_in}
 use Rattle.gc_cycle.specs.Finishing.{IsPart, most as greatest}
 use Rattle.gc_cycle.specs.Sorts.{draws_block}
 use Rattle.gc_cycle.specs.Stepping.{FindsRunning, LacksPacket, MakesRound}
-use Rattle.seat_steps.specs.Course.{AsksForStop, BeginsMarking, BeginsSweep, EndsBy, MarksAgain}
+use Rattle.seat_steps.specs.Course.{AsksForStop, BeginsMarking, BeginsSweep, EndsBy, FindsHeapFull, MarksAgain}
 use Rattle.seat_steps.specs.Stepping.{KeepsAll}
 use Rattle.seat_steps.specs.declared.stepper.Came.{Came}
 use Rattle.seat_steps.specs.declared.stepper.Came.TheVariants as cames
@@ -49,6 +49,6 @@ abbrev pub StepsCollection : ℕ → Came → Stepper → Stepper → Type 0
 StepsCollection most cames.NotYet x y = StepsOn x.stage y.stage most x y × KeepsAll x y
 StepsCollection most cames.Done x y = Finishes cames.Done x y × (y.stage ≡ stages.Inside) × KeepsAll x y
 StepsCollection most cames.Stopped x y = (((x.stage ≡ stages.Inside) × Across (AsksForStop false) x.seat y.seat) ⊎ Finishes cames.Stopped x y) × (y.stage ≡ stages.Outside) × KeepsAll x y
-StepsCollection most cames.Full x y = ((x.stage ≡ stages.Stopping) ⊎ Finishes cames.Full x y) × KnowsFull (view_of y.seat) × (y.stage ≡ stages.Outside) × KeepsAll x y
+StepsCollection most cames.Full x y = (((x.stage ≡ stages.Stopping) × Across FindsHeapFull x.seat y.seat) ⊎ Finishes cames.Full x y) × KnowsFull (view_of y.seat) × (y.stage ≡ stages.Outside) × KeepsAll x y
 StepsCollection most cames.Outside x y = (x.stage ≡ stages.Outside) × (y ≡ x)
 StepsCollection most c x y = ⊥

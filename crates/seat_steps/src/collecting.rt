@@ -1,10 +1,10 @@
 //! A collection that a mutator makes, step by step. No call waits.
-ghost use Rattle.std.specs.Prelude.{ℕ, ◌≡◌, ◌≢◌, ◌≤◌, [], ◌∷◌, min, Bool, false};
+ghost use Rattle.std.specs.Prelude.{ℕ, ◌≡◌, ◌≢◌, ◌≤◌, ◌+◌, [], ◌∷◌, min, Bool, false};
 ghost use Rattle.std.specs.Bool.{OnFalse, OnTrue};
 ghost use Rattle.mark_core.specs.Layout.{block_count};
 ghost use Rattle.mark_core.specs.Numbers.{block_counter, card_counter};
 ghost use Rattle.mark_core.specs.Seats.{saw};
-ghost use Rattle.mark_core.specs.declared.kinds.Phase.TheVariants.{Clear, Drain, Marking, Sweep};
+ghost use Rattle.mark_core.specs.declared.kinds.Phase.TheVariants.{Clear, Drain, Idle, Marking, Sweep};
 ghost use Rattle.mark_core.specs.declared.kinds.Step.TheVariants.{Reset};
 ghost use Rattle.gc_table.specs.Rule.{KnowsFull};
 ghost use Rattle.gc_table.specs.Running.{Ran};
@@ -12,11 +12,12 @@ ghost use Rattle.gc_table.specs.Seats.{Across, did, state_of, view_of};
 ghost use Rattle.packet_pools.specs.Counts.{count_of};
 ghost use Rattle.card_clean.specs.Drained.{FindsNoDirtyCard};
 ghost use Rattle.sweeper.specs.Freeing.{freed_in};
-ghost use Rattle.gc_cycle.specs.Courses.{TakesCourse};
+ghost use Rattle.gc_cycle.specs.Courses.{TakesCourse, sets_numbers};
 ghost use Rattle.gc_cycle.specs.Finishing.{IsMove, IsPart, most as greatest};
 ghost use Rattle.gc_cycle.specs.Sorts.{draws_block};
 ghost use Rattle.gc_cycle.specs.Stepping.{AsksOnce, EndsCollection, FindsRunning, FindsStopped, LacksPacket, MakesRound};
 ghost use Rattle.gc_cycle.specs.declared.counts.Counts.{Counts};
+ghost use Rattle.seat_steps.specs.Amounts.{DrawsNone, PopsNone};
 ghost use Rattle.seat_steps.specs.Asked.{MarksSinceAsked, SweepsSinceAsked, WaitsSinceAsked};
 ghost use Rattle.seat_steps.specs.Collecting.{AsksStop, SitsAtDrain, HoldsStop, SitsMarkedAll, SitsSweptAll, SitsAtRoots, SitsAtSweep};
 ghost use Rattle.seat_steps.specs.Course.{CollectsSinceAsked};
@@ -37,7 +38,7 @@ pub fn asks(heap: &Heap, seat: &mut HeapSeat) -> bool
     ensures theirs { OnFalse result (IsMutatorOutside heap.now seat.new) }
     ensures same { plain_of seat.new ≡ plain_of seat.old }
     ensures leaves { Across LeavesHeap seat.old seat.new }
-    ensures asks { (done : ℕ) × Across (AsksOnce done result) seat.old seat.new }
+    ensures asks { Across (AsksOnce (state_of seat.old).made result) seat.old seat.new }
     ensures waits { OnTrue result (WaitsSinceAsked (view_of seat.new)) }
 {
     let made = seat.state().made;
@@ -78,6 +79,9 @@ pub fn begins(heap: &Heap, seat: &mut HeapSeat) -> bool
     ensures same { plain_of seat.new ≡ plain_of seat.old }
     ensures leaves { Across LeavesHeap seat.old seat.new }
     ensures course { OnTrue result (Across (TakesCourse (Drain ∷ []) (Reset card_counter ∷ Reset block_counter ∷ [])) seat.old seat.new) }
+    ensures over { OnFalse result (Across (TakesCourse [] []) seat.old seat.new) }
+    ensures unpopped { Across PopsNone seat.old seat.new }
+    ensures undrawn { Across DrawsNone seat.old seat.new }
     ensures marks { OnTrue result (MarksSinceAsked (saw (state_of seat.old).phase_seen Marking) (view_of seat.new)) }
 {
     begin_collection(heap, seat)
@@ -92,6 +96,8 @@ pub fn roots(heap: &Heap, seat: &mut HeapSeat) -> bool
     ensures leaves { Across LeavesHeap seat.old seat.new }
     ensures part { Across (IsPart Drain) seat.old seat.new }
     ensures lacks { OnFalse result (Across LacksPacket seat.old seat.new) }
+    ensures unpopped { Across PopsNone seat.old seat.new }
+    ensures undrawn { Across DrawsNone seat.old seat.new }
     ensures marks { (again : Bool) → MarksSinceAsked again (view_of seat.old) → MarksSinceAsked again (view_of seat.new) }
 {
     root_step(heap, seat)
@@ -106,6 +112,7 @@ pub fn drains(heap: &Heap, seat: &mut HeapSeat, most: u32) -> bool
     ensures same { plain_of seat.new ≡ plain_of seat.old }
     ensures leaves { Across LeavesHeap seat.old seat.new }
     ensures ran { Across Ran seat.old seat.new }
+    ensures undrawn { Across DrawsNone seat.old seat.new }
     ensures clean { OnTrue result (FindsNoDirtyCard (view_of seat.old).shape (did seat.old seat.new)) }
     ensures marks { (again : Bool) → MarksSinceAsked again (view_of seat.old) → MarksSinceAsked again (view_of seat.new) }
 {
@@ -119,6 +126,7 @@ pub fn marks_again(heap: &Heap, seat: &mut HeapSeat)
     ensures same { plain_of seat.new ≡ plain_of seat.old }
     ensures leaves { Across LeavesHeap seat.old seat.new }
     ensures course { Across (TakesCourse (Clear ∷ Drain ∷ []) (Reset card_counter ∷ Reset block_counter ∷ [])) seat.old seat.new }
+    ensures drawn { (blocks : ℕ) → count_of (draws_block blocks) (did seat.old seat.new) ≤ blocks + blocks }
     ensures marks { (again : Bool) → MarksSinceAsked again (view_of seat.old) → MarksSinceAsked false (view_of seat.new) }
 {
     drain_again(heap, seat);
@@ -143,6 +151,7 @@ pub fn sweeps(heap: &Heap, seat: &mut HeapSeat, most: u32) -> SweepStep
     ensures sweeping { SitsAtSweep heap.now seat.new }
     ensures swept { result.blocks ≢ most → SitsSweptAll heap.now seat.new }
     ensures blocks { (result.blocks ≤ most) × (count_of (draws_block (block_count heap.now.shape)) (did seat.old seat.new) ≡ result.blocks) }
+    ensures unpopped { Across PopsNone seat.old seat.new }
     ensures freed { result.freed ≡ min (freed_in (view_of seat.old) (did seat.old seat.new)) greatest }
     ensures same { plain_of seat.new ≡ plain_of seat.old }
     ensures leaves { Across LeavesHeap seat.old seat.new }
@@ -158,7 +167,9 @@ pub fn ends(heap: &Heap, seat: &mut HeapSeat, freed: u32)
     ensures halts { Halts heap.now seat.new }
     ensures same { plain_of seat.new ≡ plain_of seat.old }
     ensures leaves { Across LeavesHeap seat.old seat.new }
-    ensures ends { (counts : Counts) × Across (EndsCollection counts) seat.old seat.new × (counts.freed ≡ freed) }
+    ensures ran { Across Ran seat.old seat.new }
+    ensures ends { (counts : Counts) × Across (EndsCollection counts) seat.old seat.new × (counts.freed ≡ freed) × Across (TakesCourse (Idle ∷ []) (sets_numbers (view_of seat.old).shape counts)) seat.old seat.new }
+    ensures undrawn { count_of (draws_block (block_count (view_of seat.old).shape)) (did seat.old seat.new) ≡ 0 }
     ensures collects { ∥ CollectsSinceAsked (view_of seat.new) ∥₁ }
 {
     finish_collection(heap, seat, freed);

@@ -3,9 +3,9 @@ ghost use Rattle.std.specs.Prelude.{◌≡◌, IfErr, IfOk};
 ghost use Rattle.seat_steps.specs.Handing.{HasStopped, IsHandedBack, IsSteppedBy};
 ghost use Rattle.seat_steps.specs.Stepping.{shares as is_shared};
 
+use crate::leaving::leaves_turn;
 use crate::resting::RestingSeat;
 use crate::stepper::{Stage, Stepper};
-use mutator_turns::leave_turn;
 
 impl Stepper {
     /// A stepper with this seat. It is outside the world.
@@ -37,7 +37,7 @@ impl Stepper {
             }),
             Stage::Inside => {
                 let mut seat = self.seat;
-                leave_turn(&self.heap, &mut seat);
+                leaves_turn(&self.heap, &mut seat);
                 Ok(RestingSeat {
                     heap: self.heap,
                     seat,

@@ -5,11 +5,11 @@ ghost use Rattle.plain_heap.specs.declared.operation.Op.TheVariants as ops;
 ghost use Rattle.seat_steps.specs.Stepping.{Entered, Left, StepperMakes, Operates, Passed, ReadsValue};
 ghost use Rattle.seat_steps.specs.declared.stepper.Stage.TheVariants as stages;
 
+use crate::leaving::leaves_turn;
 use crate::operations::{copies, finds, forgets, gets, puts, sets};
 use crate::stepper::{Came, Stage, Stepper};
 use crate::tries::{enter_once, make_once, pass_once};
 use mark_core::VARIABLES;
-use mutator_turns::leave_turn;
 
 impl Stepper {
     /// Enters the world, where no stop is under way.
@@ -44,7 +44,7 @@ impl Stepper {
         match self.stage {
             Stage::Outside => Came::Done,
             Stage::Inside => {
-                leave_turn(&self.heap, &mut self.seat);
+                leaves_turn(&self.heap, &mut self.seat);
                 self.stage = Stage::Outside;
                 Came::Done
             }

@@ -2,7 +2,7 @@
 ghost use Rattle.std.specs.Prelude.{ℕ, ◌≡◌};
 ghost use Rattle.gc_table.specs.Seats.{Across, view_of};
 ghost use Rattle.seat_steps.specs.Asked.{SweepsSinceAsked};
-ghost use Rattle.seat_steps.specs.Bounds.{CollectsAtMost, IsBoundedStep};
+ghost use Rattle.seat_steps.specs.Bounds.{CollectsAtMost, EndsInFew, IsBoundedStep};
 ghost use Rattle.seat_steps.specs.Collecting.{SitsSweptAll};
 ghost use Rattle.seat_steps.specs.Course.{EndsBy};
 ghost use Rattle.mutator_turns.specs.Sharing.{LeavesHeap};
@@ -14,10 +14,11 @@ ghost use Rattle.seat_steps.specs.declared.stepper.Stage.TheVariants as stages;
 use crate::collecting::{
     asks, begins, begins_sweep, drains, ends, marks_again, roots, saw_marking, stops, sweeps,
 };
+use crate::leaving::gives_own_up;
 use crate::stepper::{Came, Stage, Stepper};
 use crate::tries::arrive;
 use gc_table::{Heap, HeapSeat};
-use mutator_turns::{leave, retire_own_cache};
+use mutator_turns::leave;
 
 /// How many objects a step pops at most, or how many blocks it sweeps, where its caller says nothing of it.
 const STEP: u32 = 4_096;
@@ -30,6 +31,7 @@ fn end_to_turn(heap: &Heap, seat: &mut HeapSeat, freed: u32) -> Came
     ensures same { plain_of seat.new ≡ plain_of seat.old }
     ensures leaves { Across LeavesHeap seat.old seat.new }
     ensures ends { Across (EndsBy freed result) seat.old seat.new }
+    ensures few { Across EndsInFew seat.old seat.new }
 {
     ends(heap, seat, freed);
     arrive(heap, seat)
@@ -75,8 +77,9 @@ impl Stepper {
     fn ask(&mut self) -> Came
         requires inside { self.old.stage ≡ stages.Inside }
         ensures collects { (most : ℕ) → StepsCollection most result self.old self.new }
+        ensures bounded { (most : ℕ) → IsBoundedStep most self.old self.new }
     {
-        retire_own_cache(&self.heap, &mut self.seat);
+        gives_own_up(&self.heap, &mut self.seat);
         if asks(&self.heap, &mut self.seat) {
             self.stage = Stage::Stopping;
             return Came::NotYet;
@@ -89,6 +92,7 @@ impl Stepper {
     fn begin(&mut self) -> Came
         requires stopping { self.old.stage ≡ stages.Stopping }
         ensures collects { (most : ℕ) → StepsCollection most result self.old self.new }
+        ensures bounded { (most : ℕ) → IsBoundedStep most self.old self.new }
     {
         if !stops(&self.heap, &mut self.seat) {
             return Came::NotYet;
@@ -107,6 +111,7 @@ impl Stepper {
     fn scan(&mut self) -> Came
         requires rooting { self.old.stage ≡ stages.Rooting }
         ensures collects { (most : ℕ) → StepsCollection most result self.old self.new }
+        ensures bounded { (most : ℕ) → IsBoundedStep most self.old self.new }
     {
         if roots(&self.heap, &mut self.seat) {
             self.stage = Stage::Draining;
@@ -153,6 +158,7 @@ impl Stepper {
     fn end(&mut self) -> Came
         requires ending { self.old.stage ≡ stages.Ending }
         ensures collects { (most : ℕ) → StepsCollection most result self.old self.new }
+        ensures bounded { (most : ℕ) → IsBoundedStep most self.old self.new }
     {
         match end_to_turn(&self.heap, &mut self.seat, self.freed) {
             Came::Done => {

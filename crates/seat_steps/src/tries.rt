@@ -7,24 +7,26 @@ ghost use Rattle.plain_heap.specs.declared.operation.Op.TheVariants as ops;
 ghost use Rattle.alloc_cache.specs.Caching.{IsCached};
 ghost use Rattle.gc_cycle.specs.Answering.{HasCache};
 ghost use Rattle.cache_refills.specs.declared.trying.Pass.TheVariants as passes;
-ghost use Rattle.cache_refills.specs.Stops.{may_stop};
 ghost use Rattle.cache_refills.specs.Trying.{EntersTo};
 ghost use Rattle.gc_table.specs.Running.{Ran};
-ghost use Rattle.gc_table.specs.Seats.{Across, did, state_of, view_of};
+ghost use Rattle.gc_table.specs.Seats.{Across, state_of, view_of};
+ghost use Rattle.mutator_ops.specs.Few.{AtMost};
 ghost use Rattle.seat_turns.specs.Turning.{LooksAtSeason, SeesOther};
 ghost use Rattle.mutator_turns.specs.Sharing.{LeavesHeap};
 ghost use Rattle.mutator_turns.specs.Standing.{Halts, IsAtTurn, Plays, IsMutatorOutside, Works, plain_of};
-ghost use Rattle.seat_steps.specs.Causes.{ArrivesBy, ComesFreely, EntersBy, GoesFreely, LacksBy, LooksBy, MakesBy, PassesBy};
+ghost use Rattle.seat_steps.specs.Causes.{ArrivesBy, ComesFreely, EntersBy, FillsBy, GoesFreely, LacksBy, LooksBy, MakesBy, PassesBy};
+ghost use Rattle.seat_steps.specs.Filling.{TriesSome, TriesToFill};
 ghost use Rattle.seat_steps.specs.declared.stepper.Came.TheVariants as cames;
 ghost use Rattle.seat_steps.specs.Stepping.{Arrives, LacksCell, LeavesWorld, MakesOne, Passes, Refills, Tries};
 
+use crate::leaving::gives_up;
 use crate::operations::makes;
 use crate::stepper::Came;
 use alloc_cache::{Cache, cache_of};
 use cache_refills::{Pass, try_enter, try_refill, try_safe_point};
 use gc_cycle::Refill;
 use gc_table::{Heap, HeapSeat};
-use mutator_turns::{TURN, keep_some, leave, retire_some, with_free};
+use mutator_turns::{TURN, keep_some, leave, with_free};
 use seat_turns::is_turn;
 
 /// Tries to enter the world.
@@ -35,6 +37,7 @@ fn try_in(heap: &Heap, seat: &mut HeapSeat) -> Pass
     ensures leaves { Across LeavesHeap seat.old seat.new }
     ensures ran { Across Ran seat.old seat.new }
     ensures enters { Across (EntersTo result) seat.old seat.new }
+    ensures few { Across (AtMost 2) seat.old seat.new }
 {
     try_enter(heap, seat)
 }
@@ -48,6 +51,7 @@ fn try_pass(heap: &Heap, seat: &mut HeapSeat, cache: &mut Option<Cache>) -> Pass
     ensures leaves { Across LeavesHeap seat.old seat.new }
     ensures ran { Across Ran seat.old seat.new }
     ensures looks { Across (LooksBy result cache.old cache.new) seat.old seat.new }
+    ensures few { Across (AtMost 6) seat.old seat.new }
 {
     let made = seat.state().made;
     try_safe_point(heap, seat, cache, made)
@@ -87,8 +91,9 @@ fn leave_with(heap: &Heap, seat: &mut HeapSeat, cache: Option<Cache>)
     ensures same { plain_of seat.new ≡ plain_of seat.old }
     ensures leaves { Across LeavesHeap seat.old seat.new }
     ensures ran { Across Ran seat.old seat.new }
+    ensures few { Across (AtMost 5) seat.old seat.new }
 {
-    retire_some(heap, seat, cache);
+    gives_up(heap, seat, cache);
     leave(heap, seat);
 }
 
@@ -188,7 +193,7 @@ fn try_fill(heap: &Heap, seat: &mut HeapSeat) -> Option<Refill>
     ensures same { plain_of seat.new ≡ plain_of seat.old }
     ensures leaves { Across LeavesHeap seat.old seat.new }
     ensures ran { Across Ran seat.old seat.new }
-    ensures calls { IfNone result (IsTrue (may_stop (view_of seat.old).shape (did seat.old seat.new))) }
+    ensures tries { Across (TriesToFill result) seat.old seat.new }
 {
     let made = seat.state().made;
     try_refill(heap, seat, made)
@@ -216,11 +221,12 @@ fn point_with(heap: &Heap, seat: &mut HeapSeat, cache: Cache) -> Result<Cache, C
     requires free { 0 < ones cache.cells }
     ensures ok { IfOk result (λ free. Plays heap.now seat.new × IsCached free (view_of seat.new)) }
     ensures free { IfOk result (λ free. 0 < ones free.cells) }
-    ensures err { IfErr result (λ came. LacksCell came heap.now seat.new) }
+    ensures err { IfErr result (λ came. LeavesWorld came heap.now seat.new) }
     ensures same { plain_of seat.new ≡ plain_of seat.old }
     ensures leaves { Across LeavesHeap seat.old seat.new }
     ensures ran { Across Ran seat.old seat.new }
-    ensures found { IfErr result (λ came. Across (MakesBy came) seat.old seat.new) }
+    ensures few { IfOk result (λ _. Across (AtMost 3) seat.old seat.new) }
+    ensures found { IfErr result (λ came. Across (ArrivesBy came) seat.old seat.new) }
 {
     match point(heap, seat, Some(cache)) {
         Err(came) => Err(came),
@@ -244,9 +250,10 @@ fn fill(heap: &Heap, seat: &mut HeapSeat, cache: Option<Cache>) -> Result<Cache,
     ensures same { plain_of seat.new ≡ plain_of seat.old }
     ensures leaves { Across LeavesHeap seat.old seat.new }
     ensures ran { Across Ran seat.old seat.new }
-    ensures found { IfErr result (λ came. Across (MakesBy came) seat.old seat.new) }
+    ensures besides { IfOk result (λ _. Across (TriesSome 3 3) seat.old seat.new) }
+    ensures found { IfErr result (λ came. Across (FillsBy came) seat.old seat.new) }
 {
-    retire_some(heap, seat, cache);
+    gives_up(heap, seat, cache);
     match try_fill(heap, seat) {
         None => Err(lacks_cell(heap, seat)),
         Some(Refill::Full) => {

@@ -1,11 +1,14 @@
 use Rattle.seat_steps.proofs.Sparing.{asks-leaves}
 use Rattle.std.proofs.lemmas.Bool.{OnTrue_from}
+use Rattle.std.proofs.Common.{ℕ, ap, subst}
 use Rattle.gc_table.specs.Seats.{view_of}
+use Rattle.gc_cycle.specs.Stepping.{AsksOnce}
+use Rattle.mark_core.specs.declared.seat.SeatState.{SeatState}
 use Rattle.seat_steps.proofs.SinceAsked.{asked-now}
 use Rattle.seat_steps.proofs.collecting.asks.Goals as goal
 
 pub returns-clause-asks : goal.returns-clause-asks
-returns-clause-asks c = (_, c.ask_to_stop.ensures.asks)
+returns-clause-asks c = subst (λ (n : ℕ). AsksOnce n c.ask_to_stop.result (view_of c.args.seat.now) (view_of c.ask_to_stop.new.seat)) (ap (λ (s : SeatState). s.made) c.state.ensures) c.ask_to_stop.ensures.asks
 
 pub returns-clause-waits : goal.returns-clause-waits
 returns-clause-waits c =

@@ -1,6 +1,9 @@
 use Rattle.seat_steps.proofs.Sparing.{begins-leaves}
 use Rattle.std.proofs.lemmas.Bool.{OnFalse_at, OnFalse_from, OnTrue_at, OnTrue_from}
+use Rattle.std.proofs.Common.{refl}
 use Rattle.gc_table.specs.Seats.{view_of}
+use Rattle.seat_steps.proofs.Amounts.{either-way, unpopped}
+use Rattle.seat_steps.proofs.Undrawn.{course-draws-none, holds-apart}
 use Rattle.mutator_turns.proofs.Seats.{mutator-kept}
 use Rattle.seat_steps.proofs.collecting.begins.Goals as goal
 use Rattle.seat_steps.proofs.SinceAsked.{marks-begun}
@@ -27,3 +30,18 @@ pub returns-clause-leaves : goal.returns-clause-leaves
 returns-clause-leaves c =
     let e = c.begin_collection.ensures in
     begins-leaves c.begin_collection.result (view_of c.args.seat.now) (view_of c.begin_collection.new.seat) e.ran (OnTrue_from c.begin_collection.result _ (λ is. (OnTrue_at is e.course).only)) (OnFalse_from c.begin_collection.result _ (λ is. (OnFalse_at is e.over).only)) e.keeps.0
+
+pub returns-clause-unpopped : goal.returns-clause-unpopped
+returns-clause-unpopped c =
+    let e = c.begin_collection.ensures in
+    let v = view_of c.args.seat.now in
+    let w = view_of c.begin_collection.new.seat in
+    either-way c.begin_collection.result (λ is. unpopped v w (OnTrue_at is e.course).unpopped) (λ is. unpopped v w (OnFalse_at is e.over).unpopped)
+
+pub returns-clause-undrawn : goal.returns-clause-undrawn
+returns-clause-undrawn c =
+    let e = c.begin_collection.ensures in
+    let v = view_of c.args.seat.now in
+    let w = view_of c.begin_collection.new.seat in
+    let apart = holds-apart v c.requires.stopped.holds in
+    either-way c.begin_collection.result (λ is. course-draws-none _ _ v w refl (OnTrue_at is e.course) apart) (λ is. course-draws-none _ _ v w refl (OnFalse_at is e.over) apart)

@@ -3,7 +3,8 @@ use Rattle.std.proofs.lemmas.Bool.{OnFalse_at, OnFalse_from, OnTrue_at, OnTrue_f
 use Rattle.gc_table.specs.Seats.{view_of}
 use Rattle.mutator_turns.proofs.Seats.{mutator-kept}
 use Rattle.seat_steps.proofs.collecting.drains.Goals as goal
-use Rattle.std.proofs.Common.{sym, subst}
+use Rattle.std.proofs.Common.{refl, sym, subst}
+use Rattle.seat_steps.proofs.Undrawn.{alone-apart, part-draws-none}
 use Rattle.mark_core.specs.declared.kinds.Phase.TheVariants.{Drain}
 use Rattle.mark_core.specs.declared.kinds.Shape.{Shape}
 use Rattle.gc_table.specs.Seats.{did}
@@ -40,3 +41,9 @@ returns-clause-marks c = λ again m.
 
 pub returns-clause-leaves : goal.returns-clause-leaves
 returns-clause-leaves c = let e = c.drain_step.ensures in part-leaves Drain (view_of c.args.seat.now) (view_of c.drain_step.new.seat) e.part e.keeps.0
+
+pub returns-clause-undrawn : goal.returns-clause-undrawn
+returns-clause-undrawn c =
+    let v = view_of c.args.seat.now in
+    let r = c.requires.draining in
+    part-draws-none v (view_of c.drain_step.new.seat) c.drain_step.ensures.part (alone-apart Drain v refl refl r.drains.owner.unhelping r.drains.drain)

@@ -1,5 +1,7 @@
 use Rattle.seat_steps.proofs.Sparing.{course-leaves}
+use Rattle.std.proofs.Common.{arith, inl, refl}
 use Rattle.gc_table.specs.Seats.{view_of}
+use Rattle.seat_steps.proofs.Drawn.{course-draws}
 use Rattle.mutator_turns.proofs.Seats.{mutator-kept}
 use Rattle.seat_steps.proofs.collecting.marks_again.Goals as goal
 use Rattle.seat_steps.proofs.SinceAsked.{marks-again}
@@ -16,3 +18,11 @@ returns-clause-marks c = λ again m.
 
 pub returns-clause-leaves : goal.returns-clause-leaves
 returns-clause-leaves c = let e = c.drain_again.ensures in course-leaves (view_of c.args.seat.now) (view_of c.drain_again.new.seat) e.ran e.course.only e.keeps.0
+
+pub returns-clause-drawn : goal.returns-clause-drawn
+returns-clause-drawn c = λ blocks.
+    let m = c.requires.marked.drained in
+    let e = c.drain_again.ensures in
+    let v = view_of c.args.seat.now in
+    let most = course-draws blocks 0 _ _ v (view_of c.drain_again.new.seat) e.course (record { unhelping = m.owner.unhelping; going = inl (m.drained.rest.knows, inl refl) }) in
+    omega (arith, most)

@@ -1,5 +1,8 @@
 use Rattle.seat_steps.proofs.Sparing.{part-leaves}
+use Rattle.std.proofs.Common.{refl}
 use Rattle.gc_table.specs.Seats.{view_of}
+use Rattle.gc_cycle.proofs.Courses.{part-unpopped}
+use Rattle.seat_steps.proofs.Amounts.{unpopped}
 use Rattle.mutator_turns.proofs.Seats.{mutator-kept}
 use Rattle.seat_steps.proofs.collecting.sweeps.Goals as goal
 use Rattle.mark_core.specs.declared.kinds.Phase.TheVariants.{Sweep}
@@ -22,3 +25,6 @@ returns-clause-sweeps c =
 
 pub returns-clause-leaves : goal.returns-clause-leaves
 returns-clause-leaves c = let e = c.sweep_step.ensures in part-leaves Sweep (view_of c.args.seat.now) (view_of c.sweep_step.new.seat) e.part e.keeps.0
+
+pub returns-clause-unpopped : goal.returns-clause-unpopped
+returns-clause-unpopped c = unpopped (view_of c.args.seat.now) (view_of c.sweep_step.new.seat) (part-unpopped Sweep refl (view_of c.args.seat.now) (view_of c.sweep_step.new.seat) c.sweep_step.ensures.part)

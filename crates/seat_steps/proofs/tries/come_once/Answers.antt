@@ -4,7 +4,8 @@ use Rattle.std.proofs.lemmas.Result.{IfOk-weaker}
 use Rattle.gc_table.specs.Seats.{view_of}
 use Rattle.gc_table.specs.declared.view.View.{View}
 use Rattle.gc_table.proofs.Running.{ran-join}
-use Rattle.seat_steps.proofs.Found.{arrives-makes, comes-filled, comes-free, err-both, makes-later, turn-known}
+use Rattle.seat_steps.proofs.Filled.{arrives-makes, fills-makes, tries-first}
+use Rattle.seat_steps.proofs.Found.{comes-filled, comes-free, err-weaker, turn-known}
 use Rattle.seat_steps.proofs.tries.come_once.Goals as goal
 
 pub returns-in-Err-clause-found : goal.returns-in-Err-clause-found
@@ -23,13 +24,18 @@ returns-in-Err-with_free-clause-freely c =
     let w : View = view_of c.fill.new.seat in
     let e = c.in-Err-with_free.ensures in
     let l = c.in-Ok.ensures.freely in
-    IfOk-weaker c.fill.result _ _ (λ free p. comes-filled c.cache_of-cache.result c.in-Err-with_free.none u v w c.point.ensures.ran c.fill.ensures.ran l.1 c.cache_of-cache.ensures.some c.cache_of-cache.ensures.none (e.err ∙ l.0) e.lacks) c.fill.ensures.ok
+    let k = turn-known u.state.section u.state.season_seen c.requires.turn.turn in
+    IfOk-weaker c.fill.result _ _
+    (λ free t. comes-filled c.cache_of-cache.result c.in-Err-with_free.none u v w c.point.ensures.ran c.fill.ensures.ran l.1 c.cache_of-cache.ensures.some c.cache_of-cache.ensures.none (e.err ∙ l.0) e.lacks (t.0, tries-first 2 3 3 t.0 u v w c.point.ensures.ran (l.1.known k) t.1))
+    c.fill.ensures.besides
 
 pub returns-in-Err-with_free-clause-found : goal.returns-in-Err-with_free-clause-found
 returns-in-Err-with_free-clause-found c =
+    let u : View = view_of c.args.seat.now in
     let v : View = view_of c.point.new.seat in
     let w : View = view_of c.fill.new.seat in
-    err-both c.fill.result _ _ _ (λ came l m. makes-later came c.args.heap.now c.fill.new.seat (view_of c.args.seat.now) v w c.point.ensures.ran c.fill.ensures.ran l m) c.fill.ensures.err c.fill.ensures.found
+    let k = turn-known u.state.section u.state.season_seen c.requires.turn.turn in
+    err-weaker c.fill.result _ _ (λ came m. fills-makes came u v w c.point.ensures.ran (c.in-Ok.ensures.freely.1.known k) c.fill.ensures.ran m) c.fill.ensures.found
 
 pub returns-in-Err-with_free-clause-leaves : goal.returns-in-Err-with_free-clause-leaves
 returns-in-Err-with_free-clause-leaves c = leaves-join (view_of c.args.seat.now) (view_of c.point.new.seat) (view_of c.fill.new.seat) c.point.ensures.leaves c.fill.ensures.leaves

@@ -1,10 +1,25 @@
 use Rattle.mutator_turns.proofs.Leaving.{leaves-join}
+use Rattle.std.proofs.Common.{arith}
 use Rattle.gc_table.specs.Seats.{view_of}
-use Rattle.seat_steps.proofs.Found.{enters-by, turns-found}
+use Rattle.gc_table.specs.declared.view.View.{View}
+use Rattle.mutator_ops.proofs.Few.{at-most-join, at-most-more}
+use Rattle.seat_steps.proofs.Found.{enters-by, full-left, turns-found}
 use Rattle.seat_steps.proofs.tries.enter_once.Goals as goal
 
 pub returns-in-Out-clause-found : goal.returns-in-Out-clause-found
-returns-in-Out-clause-found c = turns-found (view_of c.args.seat.now) (view_of c.try_in.new.seat) c.in-Out.ensures.enters.0
+returns-in-Out-clause-found c =
+    let v : View = view_of c.args.seat.now in
+    let w : View = view_of c.try_in.new.seat in
+    (turns-found v w c.in-Out.ensures.enters.0, at-most-more 2 10 v w (omega arith) c.try_in.ensures.few)
+
+pub returns-in-Full-clause-found : goal.returns-in-Full-clause-found
+returns-in-Full-clause-found c =
+    let u : View = view_of c.args.seat.now in
+    let v : View = view_of c.try_in.new.seat in
+    let w : View = view_of c.leave.new.seat in
+    let t = c.try_in.ensures in
+    let l = c.leave.ensures in
+    ((full-left u v w t.ran l.ran c.in-Full.ensures.enters.1.read, l.full c.in-Full.ensures.tries.1), at-most-more 4 10 u w (omega arith) (at-most-join 2 2 u v w t.ran l.ran t.few l.few))
 
 pub returns-in-Going-clause-found : goal.returns-in-Going-clause-found
 returns-in-Going-clause-found c =

@@ -2,50 +2,69 @@ use Rattle.mutator_turns.proofs.Leaving.{leaves-join}
 use Rattle.gc_table.specs.Seats.{view_of}
 use Rattle.gc_table.specs.declared.view.View.{View}
 use Rattle.gc_table.proofs.Running.{ran-join}
-use Rattle.seat_steps.proofs.Found.{err-both, lacks-makes, makes-later}
+use Rattle.std.proofs.Common.{Some}
+use Rattle.std.proofs.lemmas.Result.{IfOk-weaker}
+use Rattle.seat_steps.proofs.Filled.{arrives-fills, fills-on, full-fills, full-refills, lacks-fills}
+use Rattle.seat_steps.proofs.Found.{err-both, err-weaker, leaves-lacks}
 use Rattle.seat_steps.proofs.tries.fill.Goals as goal
 
 pub returns-in-None-clause-ran : goal.returns-in-None-clause-ran
 returns-in-None-clause-ran c =
-    let v : View = view_of c.retire_some.new.seat in
+    let v : View = view_of c.gives_up.new.seat in
     let w : View = view_of c.try_fill.new.seat in
     let x : View = view_of c.lacks_cell.new.seat in
-    ran-join (view_of c.args.seat.now) v x c.retire_some.ensures.ran (ran-join v w x c.try_fill.ensures.ran c.lacks_cell.ensures.ran)
+    ran-join (view_of c.args.seat.now) v x c.gives_up.ensures.ran (ran-join v w x c.try_fill.ensures.ran c.lacks_cell.ensures.ran)
 
 pub returns-in-None-clause-found : goal.returns-in-None-clause-found
 returns-in-None-clause-found c =
-    lacks-makes c.lacks_cell.result c.args.heap.now c.lacks_cell.new.seat (view_of c.args.seat.now) (view_of c.retire_some.new.seat) (view_of c.try_fill.new.seat) (view_of c.lacks_cell.new.seat) c.retire_some.ensures.ran c.try_fill.ensures.ran c.in-None.ensures.calls c.lacks_cell.ensures.ran c.lacks_cell.ensures.lacks c.lacks_cell.ensures.found
+    lacks-fills c.lacks_cell.result (view_of c.args.seat.now) (view_of c.gives_up.new.seat) (view_of c.try_fill.new.seat) (view_of c.lacks_cell.new.seat) c.gives_up.ensures.ran c.gives_up.ensures.few c.try_fill.ensures.ran c.in-None.ensures.tries c.lacks_cell.ensures.ran c.lacks_cell.ensures.found
+
+pub returns-in-Some-Full-clause-found : goal.returns-in-Some-Full-clause-found
+returns-in-Some-Full-clause-found c =
+    let l = c.leave.ensures in
+    full-fills (view_of c.args.seat.now) (view_of c.gives_up.new.seat) (view_of c.try_fill.new.seat) (view_of c.leave.new.seat) c.gives_up.ensures.ran c.gives_up.ensures.few c.try_fill.ensures.ran c.in-Some-Full.field-0 c.in-Some-Full.field-0-is c.in-Some-Full.ensures.tries l.ran l.few (l.full (full-refills c.in-Some-Full.field-0 c.args.heap.now c.try_fill.new.seat c.in-Some-Full.field-0-is c.in-Some-Full.ensures.refills))
 
 pub returns-in-Some-Full-clause-ran : goal.returns-in-Some-Full-clause-ran
 returns-in-Some-Full-clause-ran c =
-    let v : View = view_of c.retire_some.new.seat in
+    let v : View = view_of c.gives_up.new.seat in
     let w : View = view_of c.try_fill.new.seat in
     let x : View = view_of c.leave.new.seat in
-    ran-join (view_of c.args.seat.now) v x c.retire_some.ensures.ran (ran-join v w x c.try_fill.ensures.ran c.leave.ensures.ran)
+    ran-join (view_of c.args.seat.now) v x c.gives_up.ensures.ran (ran-join v w x c.try_fill.ensures.ran c.leave.ensures.ran)
 
 pub returns-in-Some-Cache-clause-ran : goal.returns-in-Some-Cache-clause-ran
 returns-in-Some-Cache-clause-ran c =
-    let v : View = view_of c.retire_some.new.seat in
+    let v : View = view_of c.gives_up.new.seat in
     let w : View = view_of c.try_fill.new.seat in
     let x : View = view_of c.point_with.new.seat in
-    ran-join (view_of c.args.seat.now) v x c.retire_some.ensures.ran (ran-join v w x c.try_fill.ensures.ran c.point_with.ensures.ran)
+    ran-join (view_of c.args.seat.now) v x c.gives_up.ensures.ran (ran-join v w x c.try_fill.ensures.ran c.point_with.ensures.ran)
 
 pub returns-in-Some-Cache-clause-found : goal.returns-in-Some-Cache-clause-found
 returns-in-Some-Cache-clause-found c =
     let u : View = view_of c.args.seat.now in
-    let v : View = view_of c.retire_some.new.seat in
+    let v : View = view_of c.gives_up.new.seat in
     let w : View = view_of c.try_fill.new.seat in
     let x : View = view_of c.point_with.new.seat in
     err-both c.point_with.result _ _ _
-    (λ came l m. makes-later came c.args.heap.now c.point_with.new.seat u w x (ran-join u v w c.retire_some.ensures.ran c.try_fill.ensures.ran) c.point_with.ensures.ran l m)
+    (λ came l m. arrives-fills u v w x c.gives_up.ensures.ran c.gives_up.ensures.few (Some c.in-Some-Cache.field-0) c.try_fill.ensures.ran c.in-Some-Cache.ensures.tries c.point_with.ensures.ran came c.args.heap.now c.point_with.new.seat l m)
     c.point_with.ensures.err
     c.point_with.ensures.found
 
+pub returns-in-Some-Cache-clause-besides : goal.returns-in-Some-Cache-clause-besides
+returns-in-Some-Cache-clause-besides c =
+    let u : View = view_of c.args.seat.now in
+    let v : View = view_of c.gives_up.new.seat in
+    let w : View = view_of c.try_fill.new.seat in
+    let x : View = view_of c.point_with.new.seat in
+    IfOk-weaker c.point_with.result _ _ (λ free few. (Some c.in-Some-Cache.field-0, fills-on u v w x c.gives_up.ensures.ran c.gives_up.ensures.few (Some c.in-Some-Cache.field-0) c.try_fill.ensures.ran c.in-Some-Cache.ensures.tries c.point_with.ensures.ran few)) c.point_with.ensures.few
+
+pub returns-in-Some-Cache-clause-err : goal.returns-in-Some-Cache-clause-err
+returns-in-Some-Cache-clause-err c = err-weaker c.point_with.result _ _ (λ came l. leaves-lacks came c.args.heap.now c.point_with.new.seat l) c.point_with.ensures.err
+
 pub returns-in-None-clause-leaves : goal.returns-in-None-clause-leaves
-returns-in-None-clause-leaves c = leaves-join (view_of c.args.seat.now) (view_of c.retire_some.new.seat) (view_of c.lacks_cell.new.seat) c.retire_some.ensures.leaves (leaves-join (view_of c.retire_some.new.seat) (view_of c.try_fill.new.seat) (view_of c.lacks_cell.new.seat) c.try_fill.ensures.leaves c.lacks_cell.ensures.leaves)
+returns-in-None-clause-leaves c = leaves-join (view_of c.args.seat.now) (view_of c.gives_up.new.seat) (view_of c.lacks_cell.new.seat) c.gives_up.ensures.leaves (leaves-join (view_of c.gives_up.new.seat) (view_of c.try_fill.new.seat) (view_of c.lacks_cell.new.seat) c.try_fill.ensures.leaves c.lacks_cell.ensures.leaves)
 
 pub returns-in-Some-Full-clause-leaves : goal.returns-in-Some-Full-clause-leaves
-returns-in-Some-Full-clause-leaves c = leaves-join (view_of c.args.seat.now) (view_of c.retire_some.new.seat) (view_of c.leave.new.seat) c.retire_some.ensures.leaves (leaves-join (view_of c.retire_some.new.seat) (view_of c.try_fill.new.seat) (view_of c.leave.new.seat) c.try_fill.ensures.leaves c.leave.ensures.leaves)
+returns-in-Some-Full-clause-leaves c = leaves-join (view_of c.args.seat.now) (view_of c.gives_up.new.seat) (view_of c.leave.new.seat) c.gives_up.ensures.leaves (leaves-join (view_of c.gives_up.new.seat) (view_of c.try_fill.new.seat) (view_of c.leave.new.seat) c.try_fill.ensures.leaves c.leave.ensures.leaves)
 
 pub returns-in-Some-Cache-clause-leaves : goal.returns-in-Some-Cache-clause-leaves
-returns-in-Some-Cache-clause-leaves c = leaves-join (view_of c.args.seat.now) (view_of c.retire_some.new.seat) (view_of c.point_with.new.seat) c.retire_some.ensures.leaves (leaves-join (view_of c.retire_some.new.seat) (view_of c.try_fill.new.seat) (view_of c.point_with.new.seat) c.try_fill.ensures.leaves c.point_with.ensures.leaves)
+returns-in-Some-Cache-clause-leaves c = leaves-join (view_of c.args.seat.now) (view_of c.gives_up.new.seat) (view_of c.point_with.new.seat) c.gives_up.ensures.leaves (leaves-join (view_of c.gives_up.new.seat) (view_of c.try_fill.new.seat) (view_of c.point_with.new.seat) c.try_fill.ensures.leaves c.point_with.ensures.leaves)

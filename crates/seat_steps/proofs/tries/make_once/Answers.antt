@@ -1,7 +1,7 @@
 use Rattle.std.proofs.Common.{refl}
 use Rattle.gc_table.specs.Seats.{view_of}
 use Rattle.seat_steps.proofs.Doing.{makes-after}
-use Rattle.seat_steps.proofs.Found.{made-free}
+use Rattle.seat_steps.proofs.Made.{made-free}
 use Rattle.seat_steps.proofs.tries.make_once.Goals as goal
 
 pub returns-in-Ok-clause-makes : goal.returns-in-Ok-clause-makes

@@ -1,7 +1,9 @@
 use Rattle.mutator_turns.proofs.Leaving.{leaves-spared}
 use Rattle.seat_steps.proofs.tries.try_fill.Goals as goal
-use Rattle.seat_steps.proofs.Tried.{fills-calls, fills-none, fills-some}
+use Rattle.seat_steps.proofs.Tried.{fills-none, fills-some, fills-tries}
+use Rattle.std.proofs.Common.{ap}
 use Rattle.gc_table.specs.Seats.{view_of}
+use Rattle.mark_core.specs.declared.seat.SeatState.{SeatState}
 
 pub returns-clause-refills : goal.returns-clause-refills
 returns-clause-refills c =
@@ -16,8 +18,10 @@ returns-clause-none c =
 pub returns-clause-ran : goal.returns-clause-ran
 returns-clause-ran c = c.try_refill.ensures.plays.ran
 
-pub returns-clause-calls : goal.returns-clause-calls
-returns-clause-calls c = fills-calls c.try_refill.result (view_of c.args.seat.now) (view_of c.try_refill.new.seat) c.try_refill.ensures.calls
+pub returns-clause-tries : goal.returns-clause-tries
+returns-clause-tries c =
+    let e = c.try_refill.ensures in
+    fills-tries c.try_refill.result _ (view_of c.args.seat.now) (view_of c.try_refill.new.seat) (ap (λ (s : SeatState). s.made) c.state.ensures) e.refills e.calls
 
 pub returns-clause-leaves : goal.returns-clause-leaves
 returns-clause-leaves c = let e = c.try_refill.ensures in leaves-spared (view_of c.args.seat.now) (view_of c.try_refill.new.seat) e.plays.ran e.plays.spares e.keeps.0

@@ -29,4 +29,4 @@ returns-then-step-most-clause-bounded c =
     let x = c.args.self.now in
     let e = c.sweeps-step.ensures in
     let count = subst (λ (h : Heap). count_of (draws_block (block_count h.shape)) (did x.seat c.sweeps-step.new.seat) ≡ c.sweeps-step.result.blocks) c.deref.ensures e.blocks.1 in
-    bounded-on c.args.most x _ stages.Sweeping stages.Ending c.requires.sweeping refl (subst (λ (n : ℕ). n ≤ c.args.most) (sym count) e.blocks.0)
+    bounded-on c.args.most x _ stages.Sweeping stages.Ending c.requires.sweeping refl (subst (λ (n : ℕ). n ≤ c.args.most) (sym count) e.blocks.0, e.unpopped)

@@ -1,0 +1,33 @@
+-- A try to get a cell, and how many steps were taken besides. How many steps the try itself takes no clause says: it looks at each block, and may pay.
+use Rattle.std.specs.Prelude.{ℕ, ◌⊎◌, Option, None, Some, IsTrue}
+use Rattle.gc_table.specs.Log.{events}
+use Rattle.gc_table.specs.Running.{Ran}
+use Rattle.gc_table.specs.declared.view.View.{View}
+use Rattle.mutator_ops.specs.Few.{AtMost}
+use Rattle.gc_cycle.specs.declared.counts.Refill.{Refill}
+use Rattle.cache_refills.specs.Getting.{RefillsTo}
+use Rattle.cache_refills.specs.Stops.{may_stop}
+
+-- what a try came to: no block had a free cell, or marking was done; or it got a cache and paid for it, or found the heap full
+abbrev pub TriesToFill : Option Refill → View → View → Type 0
+TriesToFill None v w = IsTrue (may_stop v.shape (events v w))
+TriesToFill (Some refill) v w = RefillsTo refill v.state.made v w
+
+-- so many steps were taken at most, then a try was made that came to this, and then so many steps
+pub record TriesOnce (before later : ℕ) (tried : Option Refill) (v w : View) : Type 0 where
+  pub asked : View
+  pub first : Ran v asked
+  pub first_few : AtMost before v asked
+  pub got : View
+  pub ran : Ran asked got
+  pub tries : TriesToFill tried asked got
+  pub last : Ran got w
+  pub last_few : AtMost later got w
+
+-- and whatever it came to
+abbrev pub TriesSome : ℕ → ℕ → View → View → Type 0
+TriesSome before later v w = (tried : Option Refill) × TriesOnce before later tried v w
+
+-- so many steps were taken at most in all, or so many before a try to get a cell and so many after it
+abbrev pub FewBesides : ℕ → ℕ → ℕ → View → View → Type 0
+FewBesides most before later v w = AtMost most v w ⊎ TriesSome before later v w
