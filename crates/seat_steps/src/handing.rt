@@ -1,7 +1,7 @@
 //! A stepper is made of a resting seat, and comes apart into one.
 ghost use Rattle.std.specs.Prelude.{◌≡◌, IfErr, IfOk};
 ghost use Rattle.seat_steps.specs.Handing.{HasStopped, IsHandedBack, IsSteppedBy};
-ghost use Rattle.seat_steps.specs.Stepping.{shares as is_shared};
+ghost use Rattle.seat_steps.specs.Stepping.{fields_in, shares as is_shared};
 
 use crate::leaving::leaves_turn;
 use crate::resting::RestingSeat;
@@ -54,6 +54,13 @@ impl Stepper {
         ensures shares { result ≡ is_shared self.now }
     {
         self.heap.shape().sharing
+    }
+
+    /// How many references each object of its world has.
+    pub fn fields(&self) -> u32
+        ensures fields { result ≡ fields_in self.now }
+    {
+        self.heap.shape().fields
     }
 
     /// The name of the world that lends it.
