@@ -33,7 +33,7 @@ static void collect(uint32_t from, uint32_t n, uint32_t after) {
 
 /* The ribs of a new environment, from the innermost and its first field on: how many variables are left for them, in which field the last one is, and which
    variable has the outermost one. */
-static uint32_t variables_left, last_field, outermost;
+static PER_THREAD uint32_t variables_left, last_field, outermost;
 
 void begin_ribs(uint32_t variables) {
     variables_left = variables;
@@ -66,10 +66,12 @@ static void check_arity(uint32_t arity, uint32_t n) {
     if (n < least || (n > least && !(arity & LISTED))) fail("a procedure of %u operands got %u", (unsigned)least, (unsigned)n);
 }
 
-/* Enters a lambda: its variables are the operands, and what its body defines. The parent is where it was made. */
+/* Enters a lambda: its variables are the operands, and what its body defines. The parent is where it was made. Where no rib is made there is a safe point, so
+   that each loop has one. */
 static uint32_t enter(const struct node *lambda, uint32_t parent, uint32_t from, uint32_t n, int has_frame) {
     uint32_t least = lambda->b & LEAST, listed = (lambda->b & LISTED) != 0, defined;
     check_arity(lambda->b, n);
+    if (!lambda->c) pass();
     begin_ribs(lambda->c);
     for (defined = lambda->c - least - listed; defined; defined--) bind(plain(EMPTY));
     if (listed) {
@@ -82,10 +84,18 @@ static uint32_t enter(const struct node *lambda, uint32_t parent, uint32_t from,
     return lambda->a;
 }
 
+/* Goes on by the continuation with this word, whose frames are in FN, in the future that it was made in. */
+static uint32_t go_back(uint32_t w, value v) {
+    if (DATA(w) != future_now) fail("a continuation is called outside its future");
+    pass();
+    give(v);
+    copy(k, FN);
+    return RETURN;
+}
+
 static uint32_t apply_primitive(uint32_t primitive, uint32_t n);
 
-/* Calls what is in T0 with the list in OPERANDS. */
-static uint32_t apply(void) {
+uint32_t apply(void) {
     uint32_t w = word(T0), n = list_length(here(OPERANDS));
     if (KIND(w) == PRIMITIVE) return apply_primitive(DATA(w), n);
     if (KIND(w) != CLOSURE && KIND(w) != CONTINUATION) fail_at(here(T0), "a procedure");
@@ -96,14 +106,13 @@ static uint32_t apply(void) {
     }
     check_arity(1, n);
     get(VAL, OPERANDS, 0);
-    copy(k, FN);
-    return give(here(VAL));
+    return go_back(w, here(VAL));
 }
 
 /* Calls what is in T0 with the continuation. */
 static uint32_t with_continuation(void) {
     uint32_t w = word(T0);
-    make(VAL, WORD(CONTINUATION, 0), 1);
+    make(VAL, WORD(CONTINUATION, future_now), 1);
     set(VAL, 0, k);
     give(here(VAL));
     if (KIND(w) == CLOSURE) {
@@ -153,28 +162,36 @@ static uint32_t apply_primitive(uint32_t primitive, uint32_t n) {
         a[i] = here(T0 + i);
     }
     if (it->mode == CALLCC) return with_continuation();
+    if (it->mode == TOUCH) return touch();
     if (it->mode < APPLY) return give(invoke(primitive, a, n, T3));
     copy(OPERANDS, T1);
     return apply();
+}
+
+static uint32_t touch_at(value v) {
+    if (v.reg == NOWHERE) return give(v);
+    if (v.reg != T0) copy(T0, v.reg);
+    return touch();
 }
 
 /* A call of a primitive: with its operands in variables where they are few. */
 static uint32_t by_primitive(uint32_t primitive, uint32_t pc, int has_frame) {
     const struct node *n = &code[pc];
     const struct primitive *it = &primitives[primitive];
-    int few = n->op == PRIM || (it->mode < WHOLE && n->c >= it->least && n->c <= it->most);
+    int few = n->op == PRIM || ((it->mode < WHOLE || it->mode == TOUCH) && n->c >= it->least && n->c <= it->most);
     value a[3];
     uint32_t i;
     if (few)
         for (i = 0; i < n->c; i++)
-            if (!operands[n->b + n->c + i + 1]) a[i] = settled(operand(n, i + 1, T0 + i), T0 + i);
+            if (!operands[n->b + n->c + i + 1]) a[i] = operand(n, i + 1, T0 + i);
     if (few)
         for (i = 0; i < n->c; i++)
             if (operands[n->b + n->c + i + 1]) a[i] = operand(n, i + 1, T0 + i);
     if (!few) collect(pc, n->c, 0);
     if (has_frame) get(k, k, 0);
     at_line(n);
-    return few ? give(invoke(primitive, a, n->c, n->c == 1 ? VAL : T3)) : apply_primitive(primitive, n->c);
+    if (!few) return apply_primitive(primitive, n->c);
+    return it->mode == TOUCH ? touch_at(a[0]) : give(invoke(primitive, a, n->c, n->c == 1 ? VAL : T3));
 }
 
 /* A call all of whose operands are simple, or have been computed. */
@@ -193,7 +210,5 @@ uint32_t complete(uint32_t pc, int has_frame) {
     if (KIND(w) == CONTINUATION || !(code[DATA(w)].b & TOP)) get(FN, f.reg, 0);
     if (KIND(w) == CLOSURE) return enter(&code[DATA(w)], FN, pc, n->c, has_frame);
     check_arity(1, n->c);
-    give(operand(n, 1, VAL));
-    copy(k, FN);
-    return RETURN;
+    return go_back(w, operand(n, 1, VAL));
 }

@@ -1,4 +1,4 @@
-/* cond, case and quasiquote. */
+/* cond, case, quasiquote and future. */
 #include "forms.h"
 
 static uint32_t clauses(struct scope *scope, uint32_t i);
@@ -94,4 +94,13 @@ uint32_t form_quasiquote(struct scope *scope) {
     need(2, "quasiquote");
     element(1);
     return quasi(scope, 1);
+}
+
+/* What is to be computed is a procedure without operands. */
+uint32_t form_future(struct scope *scope) {
+    uint32_t procedure;
+    need(2, "future");
+    forget(VAL);
+    procedure = lambda_of(scope, 1);
+    return call(PRIM, primitive_named("%future"), &procedure, 1);
 }

@@ -71,7 +71,7 @@ static uint32_t lambda(struct scope *inner, uint32_t arity, uint32_t from) {
 }
 
 /* A lambda whose parameters are in VAL and whose body begins at part i. */
-static uint32_t lambda_of(struct scope *scope, uint32_t from) {
+uint32_t lambda_of(struct scope *scope, uint32_t from) {
     struct scope inner = {0, 0, {0}};
     uint32_t arity;
     inner.outer = scope;
@@ -276,7 +276,7 @@ static uint32_t form_do(struct scope *scope) {
 static const struct { const char *name; uint32_t (*compile)(struct scope *); } forms[] = {
     {"quote", form_quote}, {"if", form_if}, {"define", form_define}, {"set!", form_set}, {"lambda", form_lambda}, {"let", form_let}, {"let*", form_let_star},
     {"letrec", form_letrec}, {"letrec*", form_letrec}, {"begin", form_begin}, {"and", form_and}, {"or", form_or}, {"when", form_when}, {"unless", form_unless},
-    {"do", form_do}, {"cond", form_cond}, {"case", form_case}, {"quasiquote", form_quasiquote}
+    {"do", form_do}, {"cond", form_cond}, {"case", form_case}, {"quasiquote", form_quasiquote}, {"future", form_future}
 };
 
 int special_form(struct scope *scope, uint32_t name, uint32_t *made) {

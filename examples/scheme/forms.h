@@ -29,11 +29,13 @@ uint32_t part(struct scope *scope, uint32_t i);
 int is_form(struct scope *scope, const char *name);
 int is_name(const char *name);
 uint32_t sequence(struct scope *scope, uint32_t from);
+uint32_t lambda_of(struct scope *scope, uint32_t from);
 uint32_t let_over(struct scope *inner, uint32_t init, uint32_t body_);
 
 /* cases.c */
 uint32_t form_cond(struct scope *scope);
 uint32_t form_case(struct scope *scope);
 uint32_t form_quasiquote(struct scope *scope);
+uint32_t form_future(struct scope *scope);
 
 #endif

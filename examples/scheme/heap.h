@@ -1,17 +1,25 @@
 /*
  * The heap that the interpreter runs over, by the few calls that it makes: over managed_heap.h, or over Boehm's collector where OVER_BOEHM is defined.
- * There are 32 variables, which are the roots. An object has a word of 32 bits and up to four fields. What opens and fills is in heap_managed.c and
- * heap_boehm.c; what is called most is here, so that the compiler sees through it.
+ * Threads share its objects. Each has 32 variables, which are its roots, and all find the root. An object has a word of 32 bits and up to four fields; or, in
+ * their place, some bytes beside it. What opens and fills is in heap_managed.c and heap_boehm.c; what is called most is here, so that the compiler sees
+ * through it.
  */
 #ifndef HEAP_H
 #define HEAP_H
 
+#include <pthread.h>
 #include <stdint.h>
 
-enum { VARIABLES = 32, FIELDS = 4 };
+/* What each thread has of its own. */
+#define PER_THREAD __thread
 
-void heap_open(uint32_t cells);
+enum { VARIABLES = 32, FIELDS = 4, BESIDE = 16, THREADS = 32 };
+
+/* Opened and closed by one thread. Each thread joins before its first call on the heap, and parts after its last. */
+void heap_open(uint32_t cells, uint32_t threads);
 void heap_close(void);
+void heap_join(void);
+void heap_part(void);
 void heap_collect(void);
 /* How many cells, or bytes, are free. */
 uint64_t heap_free(void);
@@ -20,64 +28,15 @@ void heap_refused(int status);
 /* What the program does where no cell is free. It doesn't return. */
 void heap_is_full(void);
 
+/* The bytes beside an object, at this address while a variable refers to it. Threads may read and write them at once, so each access is an atomic one. */
+static inline uint64_t bits_at(const unsigned char *at) { return __atomic_load_n((const uint64_t *)(const void *)at, __ATOMIC_RELAXED); }
+static inline void lay_bits(unsigned char *at, uint64_t bits) { __atomic_store_n((uint64_t *)(void *)at, bits, __ATOMIC_RELAXED); }
+static inline uint32_t byte_at(const unsigned char *at) { return __atomic_load_n(at, __ATOMIC_RELAXED); }
+static inline void lay_byte(unsigned char *at, uint32_t byte) { __atomic_store_n(at, (unsigned char)byte, __ATOMIC_RELAXED); }
+
 #ifdef OVER_BOEHM
-
-#include <gc.h>
-
-struct object { uint32_t word; struct object *field[]; };
-extern struct object *heap_at[VARIABLES];
-
-/* Variable v refers to a new object with this word, which uses so many fields. They are nil. */
-static inline void make(uint32_t v, uint32_t word, uint32_t fields) {
-    struct object *o = fields ? GC_MALLOC(sizeof *o + fields * sizeof o) : GC_MALLOC_ATOMIC(sizeof *o);
-    if (!o) { heap_is_full(); return; }
-    o->word = word;
-    heap_at[v] = o;
-}
-static inline void set(uint32_t v, uint32_t i, uint32_t w) { heap_at[v]->field[i] = heap_at[w]; }
-static inline void get(uint32_t w, uint32_t v, uint32_t i) { heap_at[w] = heap_at[v] ? heap_at[v]->field[i] : 0; }
-static inline void copy(uint32_t w, uint32_t v) { heap_at[w] = heap_at[v]; }
-static inline void forget(uint32_t v) { heap_at[v] = 0; }
-static inline void put(uint32_t v, uint32_t word) { heap_at[v]->word = word; }
-static inline uint32_t word_or(uint32_t v, uint32_t otherwise) { return heap_at[v] ? heap_at[v]->word : otherwise; }
-static inline int same(uint32_t v, uint32_t w) { return heap_at[v] == heap_at[w]; }
-
+#include "over_boehm.h"
 #else
-
-#include "managed_heap.h"
-
-extern mh_mutator heap_mutator;
-
-static inline void heap_must(mh_status s) { if (s != MH_OK) heap_refused((int)s); }
-
-/* Variable v refers to a new object with this word, whose fields are nil. Each object has four, however many it uses. */
-static inline void make(uint32_t v, uint32_t word, uint32_t fields) {
-    mh_status s = mh_make(&heap_mutator, v, word);
-    (void)fields;
-    if (s == MH_NO_CELL) heap_is_full();
-    else heap_must(s);
-}
-/* Field i of v's object becomes w. */
-static inline void set(uint32_t v, uint32_t i, uint32_t w) { heap_must(mh_set(&heap_mutator, v, i, w)); }
-/* w becomes field i of v's object; nil where v is. */
-static inline void get(uint32_t w, uint32_t v, uint32_t i) { heap_must(mh_get(&heap_mutator, w, v, i)); }
-static inline void copy(uint32_t w, uint32_t v) { heap_must(mh_copy(&heap_mutator, w, v)); }
-static inline void forget(uint32_t v) { heap_must(mh_forget(&heap_mutator, v)); }
-/* The word of v's object becomes this. */
-static inline void put(uint32_t v, uint32_t word) { heap_must(mh_put(&heap_mutator, v, word)); }
-/* The word of v's object, or this where v is nil. */
-static inline uint32_t word_or(uint32_t v, uint32_t otherwise) {
-    uint32_t word = otherwise;
-    mh_status s = mh_value(&heap_mutator, v, &word);
-    if (s == MH_NIL) return otherwise;
-    heap_must(s);
-    return word;
-}
-static inline int same(uint32_t v, uint32_t w) {
-    uint32_t answer = 0;
-    heap_must(mh_same(&heap_mutator, v, w, &answer));
-    return answer != 0;
-}
-
+#include "over_managed.h"
 #endif
 #endif

@@ -1,13 +1,17 @@
-/* The heap over Boehm's collector: the variables are an array, which it finds as a root. It gets as many bytes as a world with so many cells takes, at once. */
+/* The heap over Boehm's collector. It gets as many bytes as a world with so many cells takes, at once. */
 #include "heap.h"
 
-#include <stdio.h>
 #include <stdlib.h>
 
 /* What a cell with four fields takes in the managed heap, with all that lies beside it, in bytes. */
 enum { CELL = 49 };
 
-struct object *heap_at[VARIABLES];
+PER_THREAD struct object **heap_at;
+struct object *heap_root;
+
+/* The variables of all threads, and how many have joined. */
+static struct object *variables[THREADS][VARIABLES];
+static uint32_t joined;
 
 void heap_refused(int status) { exit(status); }
 
@@ -18,16 +22,23 @@ static void *out_of_memory(size_t bytes) {
 
 static void nothing(char *message, GC_word argument) { (void)message, (void)argument; }
 
-void heap_open(uint32_t cells) {
+void heap_open(uint32_t cells, uint32_t threads) {
     size_t bytes = (size_t)cells * CELL;
+    (void)threads;
     GC_INIT();
     GC_set_oom_fn(out_of_memory);
     GC_set_warn_proc(nothing);
     GC_set_max_heap_size(bytes);
     if (bytes > GC_get_heap_size()) GC_expand_hp(bytes - GC_get_heap_size());
+    heap_root = GC_MALLOC(sizeof *heap_root + FIELDS * sizeof heap_root);
+    if (!heap_root) exit(2);
 }
 
 void heap_close(void) {}
+
+void heap_join(void) { heap_at = variables[__atomic_fetch_add(&joined, 1u, __ATOMIC_RELAXED)]; }
+
+void heap_part(void) {}
 
 void heap_collect(void) { GC_gcollect(); }
 

@@ -34,6 +34,16 @@ value p_path(value *a, uint32_t n, uint32_t t) {
 
 value p_set_car(value *a, uint32_t n, uint32_t t) { UNUSED(n, t); set(pair_at(a[0]), 0, in_variable(a[1], S0)); return nothing_(); }
 value p_set_cdr(value *a, uint32_t n, uint32_t t) { UNUSED(n, t); set(pair_at(a[0]), 1, in_variable(a[1], S0)); return nothing_(); }
+/* Where the first of the pair is eqv? to a[1] it becomes a[2], in one step. */
+value p_compare_and_set(value *a, uint32_t n, uint32_t t) {
+    uint32_t of = pair_at(a[0]), next = in_variable(a[2], S1);
+    UNUSED(n, t);
+    for (;; pass()) {
+        get(S0, of, 0);
+        if (!are_eqv(a[1], here(S0))) return truth(0);
+        if (exchange(of, 0, S0, next)) return truth(1);
+    }
+}
 value p_is_null(value *a, uint32_t n, uint32_t t) { UNUSED(n, t); return truth(word_of(a[0]) == EMPTY); }
 value p_is_pair(value *a, uint32_t n, uint32_t t) { UNUSED(n, t); return truth(KIND(word_of(a[0])) == PAIR); }
 

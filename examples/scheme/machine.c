@@ -1,10 +1,10 @@
 /* The machine. It goes from node to node. What is left to do is a chain of frames in the heap, so that a recursion is as deep as the heap, and a continuation
-   is kept by keeping a reference. No frame changes once it is made: field 0 is the next one, field 1 the environment; those of a call have in field 2 the value
+   is kept by keeping a reference. At its end is the future whose value is computed. No frame changes once it is made: field 0 is the next one, field 1 the environment; those of a call have in field 2 the value
    that was computed last, and in field 3 the frame with the values before. What is simple is computed without frames. */
 #include "machine.h"
 
-uint32_t env = ENV0, new_env = ENV1, k = K0, new_k = K1;
-value val;
+PER_THREAD uint32_t env = ENV0, new_env = ENV1, k = K0, new_k = K1;
+PER_THREAD value val;
 
 /* Goes on at the part of a node; at the node itself with its value. */
 static uint32_t later(uint32_t pc, uint32_t part) {
@@ -56,7 +56,7 @@ static uint32_t go(uint32_t pc) {
 static uint32_t resume(void) {
     uint32_t w = word(k);
     const struct node *n = &code[DATA(w)];
-    if (KIND(w) == EMPTY) return HALT;
+    if (KIND(w) == FUTURE) return HALT;
     get(env, k, 1);
     if (n->op == ARGUMENT) return next_argument(DATA(w));
     get(k, k, 0);
@@ -67,17 +67,13 @@ static uint32_t resume(void) {
     return give(nothing_());
 }
 
-/* After a failure, of which a full heap may be the reason. */
 void machine_reset(void) {
     uint32_t v;
-    for (v = STACK; v < CACHE; v++) forget(v);
-    forget_cached();
-    heap_collect();
+    for (v = STACK; v < CACHE; v++)
+        if (v != k) forget(v);
 }
 
-value run(uint32_t pc) {
-    forget(k);
-    forget(env);
-    while (pc != HALT) pc = pc == RETURN ? resume() : go(pc);
-    return val;
+uint32_t evaluate(uint32_t pc) {
+    while (pc != HALT && pc != SWITCH) pc = pc == RETURN ? resume() : go(pc);
+    return pc;
 }

@@ -5,15 +5,19 @@
 #include "scheme.h"
 
 /* The variables that have the environment and the continuation, and those that get the next ones. */
-extern uint32_t env, new_env, k, new_k;
+extern PER_THREAD uint32_t env, new_env, k, new_k;
 /* The value that was computed last. It lies in VAL, or in no variable. */
-extern value val;
+extern PER_THREAD value val;
+/* The number of the future whose value is computed; 0 of the expression at the top. */
+extern PER_THREAD uint32_t future_now;
 
-/* Where the machine goes on instead of a node, and where operands come from instead of a call's: a list in T7, of which the last is first, or the value. */
+/* Where the machine goes on instead of a node, and where operands come from instead of a call's: a list in T7, of which the last is first, or the value. At
+   SWITCH the thread takes another task. */
 #define RETURN NONE
 #define HALT (NONE - 1u)
 #define FROM_LIST (NONE - 2u)
 #define FROM_VALUE (NONE - 3u)
+#define SWITCH (NONE - 4u)
 
 static inline void swap(uint32_t *a, uint32_t *b) {
     uint32_t it = *a;
@@ -30,7 +34,6 @@ static inline uint32_t part_of(const struct node *call, uint32_t i) { return i ?
 
 /* simple.c */
 value simple(uint32_t pc, uint32_t t);
-value settled(value v, uint32_t t);
 value invoke(uint32_t primitive, value *a, uint32_t n, uint32_t t);
 void assign(const struct node *n, value v);
 uint32_t give(value v);
@@ -40,5 +43,10 @@ void begin_ribs(uint32_t variables);
 void bind(value v);
 void end_ribs(uint32_t parent);
 uint32_t complete(uint32_t pc, int has_frame);
+/* Calls what is in T0 with the list in OPERANDS. */
+uint32_t apply(void);
+
+/* futures.c. The value of the future in T0, which the machine may have to wait for. */
+uint32_t touch(void);
 
 #endif

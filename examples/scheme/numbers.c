@@ -1,5 +1,5 @@
-/* Numbers: integers of 32 bits, which fail by name where a result has more, and flonums. An integer of 28 bits is a word; a wider one, and a flonum, is an
-   object with one or two more behind it, whose words have its bits. */
+/* Numbers: integers of 32 bits, which fail by name where a result has more, and flonums. An integer of 28 bits is a word; a wider one, and a flonum, lies
+   beside its object. */
 #include "primitives.h"
 
 #include <math.h>
@@ -9,12 +9,8 @@
 struct number { int is_flonum; int32_t n; double d; };
 
 static double flonum_of(uint32_t v) {
-    uint64_t bits;
+    uint64_t bits = bits_at(beside(v));
     double d;
-    get(S2, v, 0);
-    bits = (uint64_t)word(S2) << 32;
-    get(S2, S2, 0);
-    bits |= word(S2);
     memcpy(&d, &bits, sizeof d);
     return d;
 }
@@ -23,10 +19,8 @@ static struct number number_of(value v) {
     uint32_t w = word_of(v);
     struct number it = {0, 0, 0};
     if (KIND(w) == INTEGER) it.n = (int32_t)w / 16;
-    else if (KIND(w) == WIDE) {
-        get(S2, v.reg, 0);
-        it.n = (int32_t)word(S2);
-    } else if (KIND(w) == FLONUM) {
+    else if (KIND(w) == WIDE) it.n = (int32_t)bits_at(beside(v.reg));
+    else if (KIND(w) == FLONUM) {
         it.is_flonum = 1;
         it.d = flonum_of(v.reg);
         return it;
@@ -38,20 +32,16 @@ static struct number number_of(value v) {
 value integer(int64_t n, uint32_t t) {
     if (n >= -(1 << 27) && n < 1 << 27) return plain(WORD(INTEGER, (uint32_t)n));
     if (n < INT32_MIN || n > INT32_MAX) fail("%s: the integer has more than 32 bits", primitives[running].name);
-    make(S2, (uint32_t)n, 0);
-    make(t, WORD(WIDE, 0), 1);
-    set(t, 0, S2);
+    make_beside(t, WORD(WIDE, 0));
+    lay_bits(beside(t), (uint64_t)n);
     return here(t);
 }
 
 value flonum(double d, uint32_t t) {
     uint64_t bits;
     memcpy(&bits, &d, sizeof d);
-    make(t, (uint32_t)bits, 0);
-    make(S2, (uint32_t)(bits >> 32), 1);
-    set(S2, 0, t);
-    make(t, WORD(FLONUM, 0), 1);
-    set(t, 0, S2);
+    make_beside(t, WORD(FLONUM, 0));
+    lay_bits(beside(t), bits);
     return here(t);
 }
 

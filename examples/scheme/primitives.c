@@ -9,7 +9,7 @@ const struct primitive primitives[] = {
 #include "primitives.def"
 };
 const uint32_t primitive_count = sizeof primitives / sizeof *primitives;
-uint32_t running;
+PER_THREAD uint32_t running;
 
 uint32_t primitive_named(const char *name) { return *symbol_primitive(symbol(name, (uint32_t)strlen(name))); }
 
@@ -84,9 +84,9 @@ value p_integer_to_char(value *a, uint32_t n, uint32_t t) {
     return plain(WORD(CHARACTER, DATA(w)));
 }
 
-value p_display(value *a, uint32_t n, uint32_t t) { UNUSED(n, t); print(a[0], 0); return nothing_(); }
-value p_write(value *a, uint32_t n, uint32_t t) { UNUSED(n, t); print(a[0], 1); return nothing_(); }
-value p_newline(value *a, uint32_t n, uint32_t t) { (void)a; UNUSED(n, t); putchar('\n'); return nothing_(); }
+value p_display(value *a, uint32_t n, uint32_t t) { UNUSED(n, t); print(a[0], 0); out_write(); return nothing_(); }
+value p_write(value *a, uint32_t n, uint32_t t) { UNUSED(n, t); print(a[0], 1); out_write(); return nothing_(); }
+value p_newline(value *a, uint32_t n, uint32_t t) { (void)a; UNUSED(n, t); out_char('\n'); out_write(); return nothing_(); }
 
 /* The operand is the list of a message and of what it is about. */
 value p_error(value *a, uint32_t n, uint32_t t) {

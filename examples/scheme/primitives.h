@@ -18,7 +18,8 @@ DEFINED(p_is_zero); DEFINED(p_is_positive); DEFINED(p_is_negative); DEFINED(p_to
 DEFINED(p_floor); DEFINED(p_round); DEFINED(p_truncate); DEFINED(p_sqrt); DEFINED(p_exp); DEFINED(p_log); DEFINED(p_sin); DEFINED(p_cos); DEFINED(p_atan);
 DEFINED(p_number_to_string); DEFINED(p_string_to_number);
 DEFINED(p_not); DEFINED(p_is_boolean); DEFINED(p_eq); DEFINED(p_eqv); DEFINED(p_equal);
-DEFINED(p_cons); DEFINED(p_car); DEFINED(p_cdr); DEFINED(p_set_car); DEFINED(p_set_cdr); DEFINED(p_is_null); DEFINED(p_is_pair); DEFINED(p_is_list);
+DEFINED(p_cons); DEFINED(p_car); DEFINED(p_cdr); DEFINED(p_set_car); DEFINED(p_set_cdr); DEFINED(p_compare_and_set);
+DEFINED(p_is_null); DEFINED(p_is_pair); DEFINED(p_is_list);
 DEFINED(p_length); DEFINED(p_append); DEFINED(p_reverse); DEFINED(p_list_tail); DEFINED(p_list_ref);
 DEFINED(p_memv); DEFINED(p_member); DEFINED(p_assv); DEFINED(p_assoc);
 DEFINED(p_is_symbol); DEFINED(p_symbol_to_string); DEFINED(p_string_to_symbol);
@@ -27,6 +28,6 @@ DEFINED(p_is_string); DEFINED(p_make_string); DEFINED(p_string_length); DEFINED(
 DEFINED(p_string_equals); DEFINED(p_string_less); DEFINED(p_substring); DEFINED(p_string_append); DEFINED(p_string_to_list); DEFINED(p_list_to_string);
 DEFINED(p_is_vector); DEFINED(p_make_vector); DEFINED(p_vector_length); DEFINED(p_vector_ref); DEFINED(p_vector_set);
 DEFINED(p_vector_to_list); DEFINED(p_list_to_vector);
-DEFINED(p_is_procedure); DEFINED(p_display); DEFINED(p_write); DEFINED(p_newline); DEFINED(p_error); DEFINED(p_gc);
+DEFINED(p_is_procedure); DEFINED(p_display); DEFINED(p_write); DEFINED(p_newline); DEFINED(p_error); DEFINED(p_gc); DEFINED(p_future); DEFINED(p_is_future);
 
 #endif

@@ -3,21 +3,21 @@
 
 static void print_string(uint32_t v, uint32_t length, int is_written) {
     uint32_t i;
-    if (is_written) putchar('"');
+    if (is_written) out_char('"');
     for (i = 0; i < length; i++) {
         int c = string_byte(v, i);
-        if (is_written && (c == '"' || c == '\\')) putchar('\\');
-        if (is_written && c == '\n') fputs("\\n", stdout);
-        else putchar(c);
+        if (is_written && (c == '"' || c == '\\')) out_char('\\');
+        if (is_written && c == '\n') out("\\n");
+        else out_char(c);
     }
-    if (is_written) putchar('"');
+    if (is_written) out_char('"');
 }
 
 static void print_character(uint32_t c, int is_written) {
-    if (!is_written) putchar((int)c);
-    else if (c == ' ') fputs("#\\space", stdout);
-    else if (c == '\n') fputs("#\\newline", stdout);
-    else printf("#\\%c", (int)c);
+    if (!is_written) out_char((int)c);
+    else if (c == ' ') out("#\\space");
+    else if (c == '\n') out("#\\newline");
+    else out("#\\%c", (int)c);
 }
 
 static void print_leaf(value v, int is_written) {
@@ -25,14 +25,15 @@ static void print_leaf(value v, int is_written) {
     uint32_t w = word_of(v);
     char text[64];
     switch (KIND(w)) {
-    case INTEGER: case WIDE: case FLONUM: number_text(v, text); fputs(text, stdout); break;
-    case CONSTANT: fputs(constants[DATA(w)], stdout); break;
+    case INTEGER: case WIDE: case FLONUM: number_text(v, text); out("%s", text); break;
+    case CONSTANT: out("%s", constants[DATA(w)]); break;
     case CHARACTER: print_character(DATA(w), is_written); break;
-    case SYMBOL: fputs(symbol_name(DATA(w)), stdout); break;
-    case EMPTY: fputs("()", stdout); break;
+    case SYMBOL: out("%s", symbol_name(DATA(w))); break;
+    case EMPTY: out("()"); break;
     case STRING: print_string(v.reg, DATA(w), is_written); break;
-    case PRIMITIVE: printf("#<procedure %s>", primitives[DATA(w)].name); break;
-    default: fputs("#<procedure>", stdout); break;
+    case PRIMITIVE: out("#<procedure %s>", primitives[DATA(w)].name); break;
+    case FUTURE: out("#<future>"); break;
+    default: out("#<procedure>"); break;
     }
 }
 
@@ -43,19 +44,19 @@ static int next_datum(uint32_t *depth) {
         get(S1, STACK, 0);
         kind = KIND(word(S1));
         if (kind == PAIR) {
-            putchar(' ');
+            out_char(' ');
             get(S0, S1, 0);
             get(S1, S1, 1);
             set(STACK, 0, S1);
             return 1;
         }
         if (kind != EMPTY) {
-            fputs(" . ", stdout);
+            out(" . ");
             copy(S0, S1);
             set(STACK, 0, NIL);
             return 1;
         }
-        putchar(')');
+        out_char(')');
         drop();
         --*depth;
     }
@@ -73,17 +74,17 @@ void print(value v, int is_written) {
         uint32_t w = word(S0);
         while (KIND(w) == PAIR || (KIND(w) == VECTOR && DATA(w))) {
             if (KIND(w) == VECTOR) {
-                putchar('#');
+                out_char('#');
                 vector_list(S0, S0);
             }
-            putchar('(');
+            out_char('(');
             get(S1, S0, 1);
             push(S1);
             depth++;
             get(S0, S0, 0);
             w = word(S0);
         }
-        if (KIND(w) == VECTOR) fputs("#()", stdout);
+        if (KIND(w) == VECTOR) out("#()");
         else print_leaf(here(S0), is_written);
     } while (next_datum(&depth));
 }

@@ -4,12 +4,15 @@
 
 #include "heap.h"
 
+#include <setjmp.h>
+#include <stdarg.h>
 #include <stdint.h>
 #include <stdio.h>
 
 /* What an object is: the lower four bits of its word. The upper 28 are its data: a number, a symbol's or a primitive's index, a length, a node, the line from
-   which a pair was read. Up to EMPTY the word says all, and nil is the empty list. A WIDE integer and a FLONUM lie in the words of objects behind theirs. */
-enum kind { INTEGER, CONSTANT, CHARACTER, SYMBOL, PRIMITIVE, EMPTY, PAIR, CLOSURE, FRAME, CONTINUATION, STRING, VECTOR, WIDE, FLONUM, RIB };
+   which a pair was read, a future's number and state. Up to EMPTY the word says all, and nil is the empty list. A WIDE integer and a FLONUM lie beside their
+   objects. */
+enum kind { INTEGER, CONSTANT, CHARACTER, SYMBOL, PRIMITIVE, EMPTY, PAIR, CLOSURE, FRAME, CONTINUATION, STRING, VECTOR, WIDE, FLONUM, RIB, FUTURE };
 
 /* Constants: #f, #t, and what an expression for its effect comes to. */
 enum { NO, YES, NOTHING };
@@ -21,12 +24,15 @@ enum { NO, YES, NOTHING };
 /* No number of a place, a primitive, a symbol or a node. */
 #define NONE 0xffffffffu
 
-/* The variables. The places' tree, #f, #t, what is always nil, and a stack for the reader, the compiler and the printer; two for the continuation and two for
-   the environment, of which the machine uses one and fills the other; a closure's environment; the outermost rib of a new one; a list of operands; scratch; the
-   value; eight for operands; and from CACHE on the places that were used last. */
+/* The variables of a thread. The places' tree, #f, #t, what is always nil, and a stack for the reader, the compiler and the printer; two for the continuation
+   and two for the environment, of which the machine uses one and fills the other; a closure's environment; the outermost rib of a new one; a list of operands;
+   scratch; the value; eight for operands; and from CACHE on the places that were used last. */
 enum {
     PLACES, FALSE_, TRUE_, NIL, STACK, K0, K1, ENV0, ENV1, FN, OUTER, OPERANDS, S0, S1, S2, VAL, T0, T1, T2, T3, T4, T5, T6, T7, S3, S4, CACHE
 };
+
+/* The root's fields: the places' tree, the tasks that no thread has begun, the pair of #f and #t, and the future that is the expression at the top. */
+enum { ROOT_PLACES, ROOT_TASKS, ROOT_CONSTANTS, ROOT_TOP };
 
 /* A value as C has it: in a variable, or, where that is NOWHERE, a word that no object holds yet. */
 typedef struct value { uint32_t reg, word; } value;
@@ -86,20 +92,33 @@ extern uint32_t *operands;
 enum { IN_RIB = 3, LISTED = 1u << 16, TOP = 1u << 17, LEAST = LISTED - 1, MOST = 128 };
 
 /* Primitives: those of one to three operands, those that go on with two until none is left, that compare each two neighbours, that take the list of all
-   operands, and the two that the machine does itself. */
-enum mode { FIXED, FOLDED, CHAINED, WHOLE, APPLY, CALLCC };
+   operands, and the three that the machine does itself. */
+enum mode { FIXED, FOLDED, CHAINED, WHOLE, APPLY, CALLCC, TOUCH };
 struct primitive { const char *name; uint32_t least, most; enum mode mode; value (*call)(value *a, uint32_t n, uint32_t t); };
 extern const struct primitive primitives[];
 extern const uint32_t primitive_count;
 /* The primitive that runs, for what it says where it fails. */
-extern uint32_t running;
+extern PER_THREAD uint32_t running;
 
-/* main.c. The line that the machine is at. */
-extern uint32_t line_now;
-/* Says what is wrong, and ends what is under way. */
+/* output.c. What a thread prints is gathered in a text of its own, until it is written as one piece. */
+void out(const char *format, ...);
+void out_all(const char *format, va_list rest);
+void out_char(int c);
+void out_write(void);
+const char *out_text(uint32_t *length);
+void out_forget(void);
+void out_close(void);
+
+/* errors.c. The line that the machine is at; where a failure goes. */
+extern PER_THREAD uint32_t line_now;
+extern PER_THREAD jmp_buf *handler;
+extern const char *file_name;
+/* Says what is wrong, and ends what is under way: what is said is the text that the thread has gathered. */
 void fail(const char *format, ...);
 /* The value isn't what is wanted; where nothing is, it is the list of a message and of what that is about. */
 void fail_at(value v, const char *wanted);
+/* A failure once more, by the text that was said; where that is nil, the heap was full even then. */
+void fail_again(uint32_t text);
 
 /* primitives.c */
 uint32_t primitive_named(const char *name);
@@ -109,15 +128,14 @@ uint32_t symbol(const char *name, uint32_t length);
 const char *symbol_name(uint32_t symbol);
 uint32_t *symbol_place(uint32_t symbol);
 uint32_t *symbol_primitive(uint32_t symbol);
-/* A place: a new one, its value, and whether it has one; the variable that has the value until another place is asked for. */
+/* A place: a new one, its value, and whether it has one. */
 uint32_t new_place(void);
 void bind_place(uint32_t place, uint32_t v);
 int is_bound(uint32_t place);
-uint32_t place(uint32_t place);
-/* Forgets what lies in the variables from CACHE on. */
-void forget_cached(void);
-/* The primitives get their names. */
+void place_value(uint32_t to, uint32_t place);
+/* The primitives get their names, and the root the places' tree; a thread learns of it. */
 void names_open(void);
+void names_join(void);
 
 /* reader.c. VAL becomes what is read next from a file or a text, whose lines count where it isn't the interpreter's own; 0 at the end of the input. */
 struct source { FILE *file; const char *text; uint32_t line; int is_ours; };
@@ -129,9 +147,15 @@ void print(value v, int is_written);
 /* compile.c. The node of the expression in VAL. */
 uint32_t compile_top(void);
 
-/* machine.c. The value of a node; after a failure, all variables but the places are forgotten. */
-value run(uint32_t pc);
+/* machine.c. Goes on from a node until the value is there, or the thread is to begin another task: HALT or SWITCH. */
+uint32_t evaluate(uint32_t pc);
+/* Forgets all variables but the continuation and those that every thread keeps. */
 void machine_reset(void);
+
+/* futures.c. Threads for futures; the value of a node, when all futures that began meanwhile have ended. */
+void futures_open(uint32_t threads);
+void futures_close(void);
+value run(uint32_t pc);
 
 /* numbers.c */
 value integer(int64_t n, uint32_t t);

@@ -20,23 +20,13 @@ value invoke(uint32_t primitive, value *a, uint32_t n, uint32_t t) {
     return here(t);
 }
 
-/* A value that stays where it is while others are computed: those of the places do not. */
-value settled(value v, uint32_t t) {
-    if (v.reg == NOWHERE || v.reg < CACHE) return v;
-    copy(t, v.reg);
-    return here(t);
-}
-
 static value simple_primitive(const struct node *n, uint32_t t) {
     const uint32_t *of = operands + n->b;
     value a[3];
     uint32_t i;
     if (n->c == 1) a[0] = simple(of[0], t);
     else
-        for (i = 0; i < n->c; i++) {
-            a[i] = simple(of[i], t + 1 + i);
-            if (i + 1 < n->c) a[i] = settled(a[i], t + 1 + i);
-        }
+        for (i = 0; i < n->c; i++) a[i] = simple(of[i], t + 1 + i);
     at_line(n);
     return invoke(n->a, a, n->c, t);
 }
@@ -63,7 +53,7 @@ void assign(const struct node *n, value v) {
     }
 }
 
-/* A simple node's value. It lies in t, in a place's variable, or in none. */
+/* A simple node's value. It lies in t, in a variable of a constant, or in none. */
 value simple(uint32_t pc, uint32_t t) {
     for (;;) {
         const struct node *n = &code[pc];
@@ -73,7 +63,8 @@ value simple(uint32_t pc, uint32_t t) {
         case LOCAL: get(t, rib_at(n->a), n->b); return here(t);
         case GLOBAL:
             if (!is_bound(n->a)) unbound(n, n->b);
-            return here(place(n->a));
+            place_value(t, n->a);
+            return here(t);
         case LAMBDA:
             make(t, WORD(CLOSURE, pc), 1);
             set(t, 0, env);

@@ -1,5 +1,5 @@
-/* Vectors and strings. Both are trees: a head with the length and up to four parts, each a tree of a fourth. The leaves of a vector are its elements, those of
-   a string are objects whose words have four bytes each. */
+/* Vectors and strings. A vector is a tree: a head with the length and up to four parts, each a tree of a fourth, with its elements as leaves. The bytes of a
+   string lie beside its object where they are few; a longer one is a tree, whose leaves have them. */
 #include "primitives.h"
 
 #include <string.h>
@@ -99,19 +99,47 @@ value p_list_to_vector(value *a, uint32_t n, uint32_t t) {
     return here(t);
 }
 
-int string_byte(uint32_t string, uint32_t i) {
-    tree_get(S2, string, (DATA(word(string)) + 3) / 4, i / 4);
-    return (int)(word(S2) >> i % 4 * 8 & 255u);
+/* How many leaves a string of so many bytes has. */
+static uint32_t leaves_of(uint32_t length) { return (length + BESIDE - 1) / BESIDE; }
+
+/* Where byte i of a string lies. Uses S2. */
+static unsigned char *byte_place(uint32_t string, uint32_t i) {
+    uint32_t length = DATA(word(string));
+    if (length <= BESIDE) return beside(string) + i;
+    tree_get(S2, string, leaves_of(length), i / BESIDE);
+    return beside(S2) + i % BESIDE;
 }
 
-/* t becomes a string of so many bytes; byte_at says which they are. Uses S1, S2, S3. */
-static void string_by(uint32_t t, uint32_t length, uint32_t (*byte_at)(const void *from, uint32_t i), const void *from) {
-    uint32_t i, k, four;
+int string_byte(uint32_t string, uint32_t i) { return (int)byte_at(byte_place(string, i)); }
+
+/* The bytes of a string that is made: byte_at says which they are. */
+struct bytes { uint32_t length; uint32_t (*byte_at)(const void *from, uint32_t i); const void *from; };
+
+/* t becomes an object with the bytes from i on beside it, as many as there is room for. */
+static void leaf(uint32_t t, uint32_t word_, const struct bytes *of, uint32_t i) {
+    unsigned char some[BESIDE], *at;
+    uint32_t k, count = of->length - i < BESIDE ? of->length - i : BESIDE;
+    for (k = 0; k < count; k++) some[k] = (unsigned char)of->byte_at(of->from, i + k);
+    make_beside(t, word_);
+    at = beside(t);
+    for (k = 0; k < count; k++) lay_byte(at + k, some[k]);
+}
+
+/* t becomes a string. Uses S1, S2, S3. */
+static void string_by(uint32_t t, uint32_t length, uint32_t (*byte_at_)(const void *from, uint32_t i), const void *from) {
+    struct bytes of = {0, 0, 0};
+    uint32_t i;
+    of.length = length;
+    of.byte_at = byte_at_;
+    of.from = from;
+    if (length <= BESIDE) {
+        leaf(t, WORD(STRING, length), &of, 0);
+        return;
+    }
     make(t, WORD(STRING, length), FIELDS);
-    for (i = 0; i < length; i += 4) {
-        for (four = 0, k = 0; k < 4 && i + k < length; k++) four |= byte_at(from, i + k) << k * 8;
-        make(S3, four, 0);
-        tree_set(t, (length + 3) / 4, i / 4, S3);
+    for (i = 0; i < length; i += BESIDE) {
+        leaf(S3, WORD(RIB, 0), &of, i);
+        tree_set(t, leaves_of(length), i / BESIDE, S3);
     }
 }
 
@@ -137,10 +165,9 @@ value p_string_ref(value *a, uint32_t n, uint32_t t) {
     return plain(WORD(CHARACTER, (uint32_t)string_byte(a[0].reg, index_of(a[1], length_of(a[0], STRING)))));
 }
 value p_string_set(value *a, uint32_t n, uint32_t t) {
-    uint32_t length = length_of(a[0], STRING), i = index_of(a[1], length), shift = i % 4 * 8;
+    uint32_t i = index_of(a[1], length_of(a[0], STRING)), byte = character_of(a[2]);
     UNUSED(n, t);
-    tree_get(S2, a[0].reg, (length + 3) / 4, i / 4);
-    put(S2, (word(S2) & ~(255u << shift)) | character_of(a[2]) << shift);
+    lay_byte(byte_place(a[0].reg, i), byte);
     return nothing_();
 }
 
