@@ -44,7 +44,6 @@ void fail_at(value v, const char *wanted) {
 
 void fail_again(uint32_t text) {
     uint32_t length = DATA(word(text)), i;
-    if (KIND(word(text)) != STRING) heap_is_full();
     out_forget();
     for (i = 0; i < length; i++) out_char(string_byte(text, i));
     longjmp(*handler, 1);

@@ -12,7 +12,8 @@
 
 #include <stdlib.h>
 
-enum state { OPEN, DONE, FAILED };
+/* Of a future that is FULL, the heap had no room even for the text of its failure: its number is the line then. */
+enum state { OPEN, DONE, FAILED, FULL };
 enum { VALUE, WAITING, NEXT, USED };
 enum { NUMBERS = 1 << 26 };
 
@@ -27,7 +28,9 @@ static pthread_cond_t change = PTHREAD_COND_INITIALIZER;
 static uint32_t tasks, waiting;
 static int is_closing;
 
-static uint32_t threads, numbers;
+/* Set while the first thread alone is at work. */
+static uint32_t threads, top_line;
+static uint32_t numbers;
 static pthread_t others[THREADS];
 /* Where the machine of this thread goes on; HALT where it has no task. */
 static PER_THREAD uint32_t next_pc = HALT;
@@ -84,20 +87,29 @@ static int waits(void) {
     return is_open;
 }
 
+/* VAL becomes what the future in T0 came to, which isn't OPEN; or what it says fails once more. */
+static value outcome(void) {
+    uint32_t w = word(T0);
+    get(VAL, T0, VALUE);
+    if (STATE(w) == FAILED) fail_again(VAL);
+    if (STATE(w) != FULL) return here(VAL);
+    line_now = DATA(w) >> 2;
+    heap_is_full();
+    return nothing_();
+}
+
 uint32_t touch(void) {
     uint32_t w = word(T0);
     if (KIND(w) != FUTURE) return give(here(T0));
     if (STATE(w) == OPEN && waits()) return SWITCH;
-    get(VAL, T0, VALUE);
-    if (STATE(word(T0)) == FAILED) fail_again(VAL);
-    return give(here(VAL));
+    return give(outcome());
 }
 
 /* The future at the end of the continuation, which is in k, is done: it came to what is in VAL. Who waits for it is a task again. */
 static void finish(enum state state) {
     set(k, VALUE, VAL);
     pthread_mutex_lock(&lock);
-    put(k, OF_NUMBER(future_now, state));
+    put(k, OF_NUMBER(state == FULL ? line_now : future_now, state));
     for (get(S0, k, WAITING); word(S0) != EMPTY; copy(S0, S1)) {
         get(S1, S0, NEXT);
         put_task(S0);
@@ -106,19 +118,19 @@ static void finish(enum state state) {
     pthread_mutex_unlock(&lock);
 }
 
-/* VAL becomes the text that the thread gathered of a failure; nil where the heap has no room for it. */
-static void text_of_failure(void) {
+/* VAL becomes the text that the thread gathered of a failure; 0 where the heap has no room for it. */
+static int keeps_text(void) {
     jmp_buf full, *outer = handler;
     const char *text;
     uint32_t length;
-    forget(VAL);
     handler = &full;
     if (!setjmp(full)) {
         text = out_text(&length);
         new_string(VAL, text, length);
-    }
+    } else forget(VAL);
     handler = outer;
     out_forget();
+    return KIND(word(VAL)) == STRING;
 }
 
 /* The future that is computed has failed. What was left to do is dropped. */
@@ -126,8 +138,13 @@ static void finish_failed(void) {
     next_pc = HALT;
     for (; KIND(word(k)) != FUTURE; pass()) get(k, k, 0);
     machine_reset();
-    text_of_failure();
-    finish(FAILED);
+    finish(keeps_text() ? FAILED : FULL);
+}
+
+/* The line is that of the node in a word of this kind; that of the expression at the top, where it is another kind or the node has none. */
+static void at_line_of(uint32_t w, enum kind kind) {
+    uint32_t line = KIND(w) == kind ? code[DATA(w)].line : 0;
+    line_now = line ? line : top_line;
 }
 
 /* The task in T0: one that goes on, or a future that begins. */
@@ -137,12 +154,14 @@ static uint32_t begin(void) {
         future_now = DATA(w);
         get(k, T0, 0);
         get(T0, T0, 1);
+        at_line_of(word(k), FRAME);
         return touch();
     }
     future_now = DATA(w) >> 2;
     copy(k, T0);
     get(T0, k, VALUE);
     set(k, VALUE, NIL);
+    at_line_of(word(T0), CLOSURE);
     forget(OPERANDS);
     return apply();
 }
@@ -193,10 +212,9 @@ static void work(int is_first) {
     }
 }
 
-/* The expression at the top is computed, by whichever thread. The value of VAL is what it came to. */
-static enum state run_top(uint32_t pc) {
+/* The expression at the top is computed, by whichever thread. T0 becomes its future. */
+static void run_top(uint32_t pc) {
     jmp_buf *outer = handler;
-    uint32_t w;
     root(S0);
     get(k, S0, ROOT_TOP);
     put(k, OF_NUMBER(0, OPEN));
@@ -206,21 +224,15 @@ static enum state run_top(uint32_t pc) {
     work(1);
     handler = outer;
     root(S0);
-    get(S0, S0, ROOT_TOP);
-    w = word(S0);
-    get(VAL, S0, VALUE);
-    set(S0, VALUE, NIL);
-    return STATE(w);
+    get(T0, S0, ROOT_TOP);
 }
 
 value run(uint32_t pc) {
-    uint32_t line = line_now;
-    enum state state = run_top(pc);
-    if (state == DONE) return here(VAL);
-    line_now = line;
-    if (state == OPEN) fail("futures wait for each other");
-    fail_again(VAL);
-    return nothing_();
+    top_line = line_now;
+    run_top(pc);
+    line_now = top_line;
+    if (STATE(word(T0)) == OPEN) fail("futures wait for each other");
+    return outcome();
 }
 
 static void *other(void *unused) {

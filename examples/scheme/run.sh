@@ -1,9 +1,9 @@
 #!/bin/sh
-# Builds the interpreter over the library and over Boehm's collector, runs the test of the language and the programs, and compares what they print with
-# what is known. Ends with status 1 where something differs.
+# Builds the interpreter over the library and over Boehm's collector, runs the tests of the language and the programs with one thread and with four, and
+# compares what they print with what is known. Ends with status 1 where something differs.
 #
-#     sh examples/scheme/run.sh            each program once
-#     sh examples/scheme/run.sh --times    besides, how long each takes: seconds of a processor, medians of five in turns, real-time priority if allowed
+#     sh examples/scheme/run.sh            each program once with one thread and once with four, and those of futures with more
+#     sh examples/scheme/run.sh --times    besides, how long each takes: medians of five in turns, real-time priority if allowed
 #
 # The library is the proved one where it is built, and else one that c/unproved.sh makes. LIBRARY names another archive. CELLS is the size of the heap.
 here=$(cd "$(dirname "$0")" && pwd)
@@ -14,6 +14,7 @@ bad=0
 cells=${CELLS:-524288}
 warnings="-std=c99 -Wall -Wextra -pedantic -Wconversion -Werror"
 programs="browse ctak deriv destruct fib nqueens primes spectral tak"
+with_futures="pfib pmap pqueens pwords"
 sources=$(ls "$here"/*.c | grep -v /heap_)
 export LIBRARY="${LIBRARY:-$top/crates/managed_heap_c/out/libmanaged_heap_c.a}"
 if [ ! -f "$LIBRARY" ]; then
@@ -35,24 +36,39 @@ build() {
     "$compiler" -O2 $warnings "$@" -I "$work/prefix/include" -o "$work/$out" $sources "$here/heap_managed.c" \
         "$work/prefix/lib/libmanaged_heap.a" -lpthread -lm || fail "$out isn't built by $compiler"
 }
-over_boehm() { cc -O2 $warnings -DOVER_BOEHM -o "$work/$1" $sources "$here/heap_boehm.c" -lgc -lm || fail "$1 isn't built"; }
+over_boehm() { cc -O2 $warnings -DOVER_BOEHM -o "$work/$1" $sources "$here/heap_boehm.c" -lgc -lpthread -lm || fail "$1 isn't built"; }
 
-# compare BINARY NAME: what the program prints with what is known.
+# known NAME WHAT: whether the program printed what is known.
+known() {
+    if cmp -s "$work/out" "$here/programs/$1.out"; then echo "$2: $1"; else fail "$2: $1" && diff "$work/out" "$here/programs/$1.out"; fi
+}
+
+# compare BINARY THREADS NAMES..
 compare() {
-    (cd "$here/programs" && timeout 300 "$work/$1" --cells "$cells" "$2.scm" >"$work/out" 2>&1)
-    if cmp -s "$work/out" "$here/programs/$2.out"; then echo "$1: $2"; else fail "$1: $2" && diff "$work/out" "$here/programs/$2.out"; fi
+    binary=$1 threads=$2
+    shift 2
+    for name in "$@"; do
+        (cd "$here/programs" && timeout 300 "$work/$binary" --cells "$cells" --threads "$threads" "$name.scm" >"$work/out" 2>&1)
+        known "$name" "$binary, threads $threads"
+    done
 }
 
-# fills BINARY: a heap that gets full while the program is read from the standard input.
+# fills BINARY THREADS: a heap that gets full while the program is read from the standard input.
 fills() {
-    timeout 300 "$work/$1" --cells 16384 <"$here/programs/full.scm" >"$work/out" 2>&1
-    if cmp -s "$work/out" "$here/programs/full.out"; then echo "$1: full"; else fail "$1: full" && diff "$work/out" "$here/programs/full.out"; fi
+    timeout 300 "$work/$1" --cells 16384 --threads "$2" <"$here/programs/full.scm" >"$work/out" 2>&1
+    known full "$1, threads $2"
 }
+
+# has_sanitizer FLAGS
+has_sanitizer() { echo 'int main(void) { return 0; }' | cc "$1" -o "$work/there" -x c - 2>"$work/log" && "$work/there"; }
 
 echo "== over managed_heap"
 build cc scheme
-fills scheme
-for name in language $programs; do compare scheme "$name"; done
+for threads in 1 4; do
+    fills scheme $threads
+    compare scheme $threads language futures $programs $with_futures
+done
+for threads in 2 3 8 32; do compare scheme $threads futures pwords; done
 
 if cc -o "$work/gc_there" -x c - -lgc 2>"$work/log" <<'END2'
 #include <gc.h>
@@ -62,7 +78,7 @@ then
     echo "== over Boehm's collector"
     both="scheme scheme.boehm"
     over_boehm scheme.boehm
-    for name in language $programs; do compare scheme.boehm "$name"; done
+    for threads in 1 4; do compare scheme.boehm $threads language futures $programs $with_futures; done
 else
     both=scheme
     echo "== no libgc here: the same over Boehm's collector is left out (Debian: libgc-dev)"
@@ -71,33 +87,54 @@ fi
 for compiler in gcc clang; do
     command -v $compiler >"$work/log" || { echo "== no $compiler here"; continue; }
     build $compiler "scheme.$compiler"
-    compare "scheme.$compiler" language
+    compare "scheme.$compiler" 1 language
+    compare "scheme.$compiler" 4 futures
 done
 
-if echo 'int main(void) { return 0; }' | cc -fsanitize=address,undefined -o "$work/there" -x c - 2>"$work/log" && "$work/there"; then
+if has_sanitizer -fsanitize=address,undefined; then
     echo "== under -fsanitize=address,undefined"
     build cc scheme.checked -g -fsanitize=address,undefined -fno-sanitize-recover=all
-    fills scheme.checked
-    for name in language nqueens spectral; do compare scheme.checked "$name"; done
+    for threads in 1 4; do
+        fills scheme.checked $threads
+        compare scheme.checked $threads language nqueens spectral futures pwords
+    done
 else
     echo "== no -fsanitize=address,undefined here"
 fi
 
-# seconds BINARY NAME: of a processor, once.
+if has_sanitizer -fsanitize=thread; then
+    echo "== under -fsanitize=thread"
+    build cc scheme.raced -g -fsanitize=thread
+    fills scheme.raced 4
+    compare scheme.raced 4 futures $with_futures
+else
+    echo "== no -fsanitize=thread here"
+fi
+
+# seconds BINARY THREADS NAME: of a processor, with one thread, and else by the clock, once.
 seconds() {
-    (cd "$here/programs" && LC_ALL=C bash -c 'TIMEFORMAT="%U %S"; time "$@" >/dev/null 2>&1' - $first "$work/$1" --cells "$cells" "$2.scm") 2>&1 |
-        awk '{ printf "%.3f\n", $1 + $2 }'
+    (cd "$here/programs" && LC_ALL=C bash -c 'TIMEFORMAT="%R %U %S"; time "$@" >/dev/null 2>&1' - $first "$work/$1" --cells "$cells" --threads "$2" "$3.scm") 2>&1 |
+        awk -v threads="$2" '{ printf "%.3f\n", threads > 1 ? $1 : $2 + $3 }'
+}
+
+# row NAME THREADS..: the medians for each number of threads, over one collector and the other.
+row() {
+    name=$1
+    shift
+    for turn in 1 2 3 4 5; do
+        for threads in "$@"; do for binary in $both; do seconds $binary $threads "$name" >>"$work/$name.$threads.$binary"; done; done
+    done
+    printf '%-10s' "$name"
+    for threads in "$@"; do for binary in $both; do printf ' %s' "$(sort -n "$work/$name.$threads.$binary" | sed -n 3p)"; done; done
+    echo
 }
 
 if [ "$1" = --times ]; then
     if chrt -f 10 true 2>"$work/log"; then first="chrt -f 10"; else first=""; fi
-    echo "== seconds of a processor, $cells cells, medians of five"
-    for name in $programs; do
-        for turn in 1 2 3 4 5; do for binary in $both; do seconds $binary "$name" >>"$work/$name.$binary"; done; done
-        printf '%-10s' "$name"
-        for binary in $both; do printf ' %s' "$(sort -n "$work/$name.$binary" | sed -n 3p)"; done
-        echo
-    done
+    echo "== medians of five, $cells cells, over $both: seconds of a processor with one thread"
+    for name in $programs; do row "$name" 1; done
+    echo "== seconds of a processor with one thread, and by the clock with four"
+    for name in $with_futures; do row "$name" 1 4; done
 fi
 
 [ $bad = 0 ] && echo "all answers right"

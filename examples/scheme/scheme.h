@@ -117,7 +117,7 @@ extern const char *file_name;
 void fail(const char *format, ...);
 /* The value isn't what is wanted; where nothing is, it is the list of a message and of what that is about. */
 void fail_at(value v, const char *wanted);
-/* A failure once more, by the text that was said; where that is nil, the heap was full even then. */
+/* A failure once more, by the text that was said. */
 void fail_again(uint32_t text);
 
 /* primitives.c */
