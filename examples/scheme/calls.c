@@ -3,14 +3,7 @@
 
 /* The value of the operand at a position: computed now where it is simple, and else from the frames. */
 static value operand(const struct node *call, uint32_t i, uint32_t t) {
-    const uint32_t *arguments = operands + call->b + call->c;
-    uint32_t j, after = 0, frame = k;
-    if (!arguments[i]) return simple(part_of(call, i), t);
-    for (j = i + 1; j <= call->c; j++) after += arguments[j] != 0;
-    if (!after) return val;
-    for (; after > 1; after--, frame = S0) get(S0, frame, 3);
-    get(t, frame, 2);
-    return here(t);
+    return operands[call->b + call->c + i] ? kept_value(call, i, t) : simple(part_of(call, i), t);
 }
 
 /* The operand number i of a call, or of a list, of which the last comes first, or the one that is the value. */
@@ -79,7 +72,7 @@ static uint32_t enter(const struct node *lambda, uint32_t parent, uint32_t from,
         bind(here(OPERANDS));
     }
     for (n = least; n; n--) bind(operand_from(from, n, T0));
-    if (has_frame) get(k, k, 0);
+    if (has_frame) drop_frames(&code[from]);
     end_ribs(lambda->b & TOP ? NIL : parent);
     return lambda->a;
 }
@@ -89,6 +82,7 @@ static uint32_t go_back(uint32_t w, value v) {
     if (DATA(w) != future_now) fail("a continuation is called outside its future");
     pass();
     give(v);
+    forget_frames();
     copy(k, FN);
     return RETURN;
 }
@@ -112,6 +106,7 @@ uint32_t apply(void) {
 /* Calls what is in T0 with the continuation. */
 static uint32_t with_continuation(void) {
     uint32_t w = word(T0);
+    frames_to_heap();
     make(VAL, WORD(CONTINUATION, future_now), 1);
     set(VAL, 0, k);
     give(here(VAL));
@@ -188,7 +183,7 @@ static uint32_t by_primitive(uint32_t primitive, uint32_t pc, int has_frame) {
         for (i = 0; i < n->c; i++)
             if (operands[n->b + n->c + i + 1]) a[i] = operand(n, i + 1, T0 + i);
     if (!few) collect(pc, n->c, 0);
-    if (has_frame) get(k, k, 0);
+    if (has_frame) drop_frames(n);
     at_line(n);
     if (!few) return apply_primitive(primitive, n->c);
     return it->mode == TOUCH ? touch_at(a[0]) : give(invoke(primitive, a, n->c, n->c == 1 ? VAL : T3));

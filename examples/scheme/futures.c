@@ -73,6 +73,8 @@ value p_is_future(value *a, uint32_t n, uint32_t t) { UNUSED(n, t); return truth
 /* What is left to do waits for the future in T0, unless that was done meanwhile. */
 static int waits(void) {
     int is_open;
+    frames_to_heap();
+    forget_frames();
     make(S0, WORD(RIB, future_now), USED);
     set(S0, 0, k);
     set(S0, 1, T0);
@@ -116,6 +118,7 @@ static void finish(enum state state) {
     }
     set(k, WAITING, NIL);
     pthread_mutex_unlock(&lock);
+    forget_frames();
 }
 
 /* VAL becomes the text that the thread gathered of a failure; 0 where the heap has no room for it. */

@@ -1,6 +1,6 @@
 /*
  * The heap that the interpreter runs over, by the few calls that it makes: over managed_heap.h, or over Boehm's collector where OVER_BOEHM is defined.
- * Threads share its objects. Each has 32 variables, which are its roots, and all find the root. An object has a word of 32 bits and up to four fields; or, in
+ * Threads share its objects. Each has 32 variables and some slots, which are its roots, and all find the root. An object has a word of 32 bits and up to four fields; or, in
  * their place, some bytes beside it. What opens and fills is in heap_managed.c and heap_boehm.c; what is called most is here, so that the compiler sees
  * through it.
  */
@@ -13,7 +13,7 @@
 /* What each thread has of its own. */
 #define PER_THREAD __thread
 
-enum { VARIABLES = 32, FIELDS = 4, BESIDE = 16, THREADS = 32 };
+enum { VARIABLES = 32, FIELDS = 4, BESIDE = 16, THREADS = 32, SLOTS = 1024 };
 
 /* Opened and closed by one thread. Each thread joins before its first call on the heap, and parts after its last. */
 void heap_open(uint32_t cells, uint32_t threads);

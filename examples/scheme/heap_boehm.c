@@ -6,12 +6,8 @@
 /* What a cell with four fields takes in the managed heap, with all that lies beside it, in bytes. */
 enum { CELL = 49 };
 
-PER_THREAD struct object **heap_at;
+PER_THREAD struct object **heap_at, **heap_slots;
 struct object *heap_root;
-
-/* The variables of all threads, and how many have joined. */
-static struct object *variables[THREADS][VARIABLES];
-static uint32_t joined;
 
 void heap_refused(int status) { exit(status); }
 
@@ -36,9 +32,13 @@ void heap_open(uint32_t cells, uint32_t threads) {
 
 void heap_close(void) {}
 
-void heap_join(void) { heap_at = variables[__atomic_fetch_add(&joined, 1u, __ATOMIC_RELAXED)]; }
+void heap_join(void) {
+    heap_at = GC_MALLOC_UNCOLLECTABLE((VARIABLES + SLOTS) * sizeof *heap_at);
+    if (!heap_at) exit(2);
+    heap_slots = heap_at + VARIABLES;
+}
 
-void heap_part(void) {}
+void heap_part(void) { GC_FREE(heap_at); }
 
 void heap_collect(void) { GC_gcollect(); }
 

@@ -38,6 +38,20 @@ value invoke(uint32_t primitive, value *a, uint32_t n, uint32_t t);
 void assign(const struct node *n, value v);
 uint32_t give(value v);
 
+/* frames.c. A frame at this node becomes the first one; the node of the first frame, whose environment becomes the machine's, or HALT where there is none;
+   the first one ends. */
+void push_frame(uint32_t pc);
+uint32_t top_frame(void);
+void drop_frame(void);
+/* The first frame, of an ARGUMENT at this node, has its value: the next one of the call becomes the first. */
+void next_frame(uint32_t pc);
+/* The value of the operand at a position of a call whose last one was computed; all frames of the call end. */
+value kept_value(const struct node *call, uint32_t i, uint32_t t);
+void drop_frames(const struct node *call);
+/* All frames are in the heap now, from k on. Uses S0 and S1. Those in slots are forgotten. */
+void frames_to_heap(void);
+void forget_frames(void);
+
 /* calls.c. The ribs of a new environment, and a call all of whose operands are simple or have been computed. */
 void begin_ribs(uint32_t variables);
 void bind(value v);

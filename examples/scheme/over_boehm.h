@@ -1,4 +1,4 @@
-/* The calls of heap.h over Boehm's collector: the variables of each thread are an array, which it finds as a root. */
+/* The calls of heap.h over Boehm's collector: the variables and the slots of each thread are arrays, which it finds as roots. */
 #ifndef OVER_BOEHM_H
 #define OVER_BOEHM_H
 
@@ -6,7 +6,7 @@
 #include <gc.h>
 
 struct object { uint32_t word; struct object *field[]; };
-extern PER_THREAD struct object **heap_at;
+extern PER_THREAD struct object **heap_at, **heap_slots;
 extern struct object *heap_root;
 
 static inline void heap_made(uint32_t v, uint32_t word, struct object *o) {
@@ -28,6 +28,10 @@ static inline void forget(uint32_t v) { heap_at[v] = 0; }
 static inline void put(uint32_t v, uint32_t word) { __atomic_store_n(&heap_at[v]->word, word, __ATOMIC_RELEASE); }
 static inline uint32_t word_or(uint32_t v, uint32_t otherwise) { return heap_at[v] ? __atomic_load_n(&heap_at[v]->word, __ATOMIC_ACQUIRE) : otherwise; }
 static inline int same(uint32_t v, uint32_t w) { return heap_at[v] == heap_at[w]; }
+
+static inline void spill(uint32_t v, uint32_t i) { heap_slots[i] = heap_at[v]; }
+static inline void fill(uint32_t v, uint32_t i) { heap_at[v] = heap_slots[i]; }
+static inline void forget_slots(uint32_t from, uint32_t to) { while (from < to) heap_slots[from++] = 0; }
 
 static inline void root(uint32_t v) { heap_at[v] = heap_root; }
 static inline int exchange(uint32_t v, uint32_t i, uint32_t expected, uint32_t next) {

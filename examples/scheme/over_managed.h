@@ -39,6 +39,11 @@ static inline int same(uint32_t v, uint32_t w) {
     return answer != 0;
 }
 
+/* Slot i becomes what v is, and back; the slots from one on and below another become nil. */
+static inline void spill(uint32_t v, uint32_t i) { heap_must(mh_spill(&heap_mutator, v, i)); }
+static inline void fill(uint32_t v, uint32_t i) { heap_must(mh_fill(&heap_mutator, v, i)); }
+static inline void forget_slots(uint32_t from, uint32_t to) { heap_must(mh_forget_slots(&heap_mutator, from, to)); }
+
 /* v becomes the root. */
 static inline void root(uint32_t v) { heap_must(mh_root(&heap_mutator, v)); }
 /* Where field i of v's object is what `expected` is it becomes what `next` is, in one step; whether it did. */
