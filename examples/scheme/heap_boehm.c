@@ -4,7 +4,7 @@
 #include <stdlib.h>
 
 /* What a cell with four fields takes in the managed heap, with all that lies beside it, in bytes. */
-enum { CELL = 49 };
+enum { CELL = 49 + BESIDE };
 
 PER_THREAD struct object **heap_at, **heap_slots;
 struct object *heap_root;

@@ -96,7 +96,10 @@ if has_sanitizer -fsanitize=address,undefined; then
     build cc scheme.checked -g -fsanitize=address,undefined -fno-sanitize-recover=all
     for threads in 1 4; do
         fills scheme.checked $threads
-        compare scheme.checked $threads language nqueens spectral futures pwords
+        compare scheme.checked $threads language nqueens spectral
+        all=$cells cells=24576
+        compare scheme.checked $threads futures pwords
+        cells=$all
     done
 else
     echo "== no -fsanitize=address,undefined here"
@@ -106,7 +109,9 @@ if has_sanitizer -fsanitize=thread; then
     echo "== under -fsanitize=thread"
     build cc scheme.raced -g -fsanitize=thread
     fills scheme.raced 4
+    all=$cells cells=24576
     compare scheme.raced 4 futures $with_futures
+    cells=$all
 else
     echo "== no -fsanitize=thread here"
 fi
