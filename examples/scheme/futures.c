@@ -172,8 +172,10 @@ static uint32_t begin(void) {
 /* Under the lock. Whether there is nothing more to do: for the first thread where no other has a task. */
 static int is_over(int is_first) { return is_first ? waiting == threads - 1 : is_closing; }
 
-/* Under the lock, which is given up meanwhile: waits outside the world until there is a task, or all is over. */
+/* Under the lock, which is given up meanwhile: waits outside the world until there is a task, or all is over. What the thread had is no root meanwhile. */
 static void rest(int is_first) {
+    machine_reset();
+    forget(k);
     heap_leave();
     if (!is_first && ++waiting == threads - 1) pthread_cond_broadcast(&change);
     while (!tasks && !is_over(is_first)) pthread_cond_wait(&change, &lock);
@@ -221,6 +223,7 @@ static void run_top(uint32_t pc) {
     root(S0);
     get(k, S0, ROOT_TOP);
     put(k, OF_NUMBER(0, OPEN));
+    set(k, VALUE, NIL);
     forget(env);
     future_now = 0;
     next_pc = pc;

@@ -1,8 +1,8 @@
 /*
  * The heap that the interpreter runs over, by the few calls that it makes: over managed_heap.h, or over Boehm's collector where OVER_BOEHM is defined.
- * Threads share its objects. Each has 32 variables and some slots, which are its roots, and all find the root. An object has a word of 32 bits and up to four fields; or, in
- * their place, some bytes beside it. What opens and fills is in heap_managed.c and heap_boehm.c; what is called most is here, so that the compiler sees
- * through it.
+ * Threads share its objects. Each has 32 variables and some slots, which are its roots, and all find the root. An object has a word of 32 bits and up to four
+ * fields; or, in their place, some bytes beside it. What opens and fills is in heap_managed.c and heap_boehm.c; what is called most is in over_managed.h and
+ * over_boehm.h, so that the compiler sees through it.
  */
 #ifndef HEAP_H
 #define HEAP_H

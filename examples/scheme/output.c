@@ -39,8 +39,11 @@ void out_all(const char *format, va_list rest) {
     used += (uint32_t)length;
 }
 
+/* Outside the world, as the output may have to wait. */
 void out_write(void) {
+    heap_leave();
     fwrite(text, 1, used, stdout);
+    heap_enter();
     used = 0;
 }
 

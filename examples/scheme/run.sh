@@ -118,8 +118,9 @@ fi
 
 # seconds BINARY THREADS NAME: of a processor, with one thread, and else by the clock, once.
 seconds() {
-    (cd "$here/programs" && LC_ALL=C bash -c 'TIMEFORMAT="%R %U %S"; time "$@" >/dev/null 2>&1' - $first "$work/$1" --cells "$cells" --threads "$2" "$3.scm") 2>&1 |
-        awk -v threads="$2" '{ printf "%.3f\n", threads > 1 ? $1 : $2 + $3 }'
+    (cd "$here/programs" && LC_ALL=C bash -c 'TIMEFORMAT="%R %U %S"; time "$@" >/dev/null 2>&1' - \
+        $first "$work/$1" --cells "$cells" --threads "$2" "$3.scm") 2>&1 |
+        awk -v threads="$2" '{ printf "%.3f\n", (threads > 1 ? $1 : $2 + $3) }'
 }
 
 # row NAME THREADS..: the medians for each number of threads, over one collector and the other.
@@ -138,6 +139,7 @@ if [ "$1" = --times ]; then
     if chrt -f 10 true 2>"$work/log"; then first="chrt -f 10"; else first=""; fi
     echo "== medians of five, $cells cells, over $both: seconds of a processor with one thread"
     for name in $programs; do row "$name" 1; done
+    row empty 1
     echo "== seconds of a processor with one thread, and by the clock with four"
     for name in $with_futures; do row "$name" 1 4; done
 fi
