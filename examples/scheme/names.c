@@ -1,6 +1,6 @@
 /* Symbols, and the places of global variables and constants. A symbol is its index in a table in C, which threads use one after the other. A place is an
-   object that holds a value and stays the place's; all are leaves of a tree in the heap. Those that a thread used last lie in its variables from CACHE on, so that
-   most values are read with one call. Places are made by the compiler alone, while no other thread is at work. */
+   object that holds a value and stays the place's; all are leaves of a tree in the heap. Those that a thread used last lie in its variables from CACHE on, so
+   that most values are read with one call. Places are made by the compiler alone, while no other thread is at work. */
 #include "scheme.h"
 
 #include <stdlib.h>
