@@ -3,11 +3,14 @@ use Rattle.std.proofs.Common.{ℕ, suc, ◌≡◌, ◌+◌, ◌<◌, List, [], �
 use Rattle.std.specs.Prelude.{slice_get}
 use Rattle.mark_core.specs.Seats.{is_bare}
 use Rattle.mark_core.specs.Steps.WorldSteps.{has_nothing}
+use Rattle.gc_table.specs.Running.{Ran}
 use Rattle.gc_table.specs.SeatRecords.{resting}
+use Rattle.gc_table.specs.Seats.{view_of}
 use Rattle.gc_table.specs.declared.seat.Heap.{Heap}
 use Rattle.gc_table.specs.declared.seat.HeapSeat.{HeapSeat}
 use Rattle.gc_table.specs.declared.view.SectionState.{SectionState}
-use Rattle.managed_heap.specs.Opening.{AreNew, AreNumbered, IsNewSeat, Opens}
+use Rattle.gc_table.proofs.Running.{ran-number, ran-opened}
+use Rattle.managed_heap.specs.Opening.{AreNew, AreNumbered, IsFirstSeat, IsNewSeat, Opens}
 use Rattle.mutator_turns.specs.Standing.{RestsOutside}
 
 pub new-rests : (h : Heap) (n : ℕ) (x : HeapSeat) → IsNewSeat h n x → RestsOutside h x
@@ -34,3 +37,7 @@ module _ (h : Heap) (k : ℕ) (x : HeapSeat) (xs ys : List HeapSeat) (first : ys
 pub numbered-push : {X : Type 0} (P : ℕ → X → Type 0) (k : ℕ) (xs : List X) (x : X) → AreNumbered P k xs → P (k + length xs) x → AreNumbered P k (xs ++ x ∷ [])
 numbered-push P k [] x a p = let e : k + 0 ≡ k = omega arith in (subst (λ n. P n x) e p, tt)
 numbered-push P k (y ∷ ys) x a p = let e : k + suc (length ys) ≡ k + 1 + length ys = omega arith in (a.0, numbered-push P (k + 1) ys x a.1 (subst (λ n. P n x) e p))
+
+-- the seat of section 0 stays so, whatever steps it takes
+pub first-kept : (h : Heap) (tracers : ℕ) (s t : HeapSeat) → IsFirstSeat h tracers s → Ran (view_of s) (view_of t) → IsFirstSeat h tracers t
+first-kept h tracers s t first ran = record { number = ran-number (view_of s) (view_of t) ran ∙ first.number; opened = ran-opened (view_of s) (view_of t) ran ∙ first.opened }

@@ -1,2 +1,4 @@
 mod Beginning
+mod Gathering
+mod Threads
 mod Turning

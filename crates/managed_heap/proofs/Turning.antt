@@ -12,12 +12,12 @@ use Rattle.mark_core.proofs.Notes.NotesKept.{single-word}
 use Rattle.gc_table.specs.Running.{Alone, Ran, changes_section}
 use Rattle.gc_table.specs.Log.{Only}
 use Rattle.gc_table.specs.Taking.{May}
-use Rattle.gc_table.specs.Seats.{Found}
+use Rattle.gc_table.specs.Seats.{Answered, Found}
 use Rattle.gc_table.specs.TableState.{no_section}
 use Rattle.gc_table.specs.declared.view.SectionState.{SectionState}
 use Rattle.gc_table.specs.declared.view.View.{View}
 use Rattle.gc_table.proofs.Noticing.{alone-step}
-use Rattle.gc_table.proofs.Running.{own-kept, ran-plan}
+use Rattle.gc_table.proofs.Running.{own-kept, ran-answered, ran-found, ran-join, ran-plan}
 use Rattle.stop_world.specs.Waiting.{watches}
 use Rattle.stop_world.specs.StopRecords.{KeepsMeaningAndPlan}
 
@@ -43,3 +43,7 @@ may-turn v l first none x i st a =
 -- the seat stays alone
 pub alone-turn : (v w : View) (n : ℕ) → Found NextSeason n v w → Alone Idle v → Alone Idle w
 alone-turn v w n f l = subst (Alone Idle) (sym f.0) (alone-step Idle v NextSeason n refl (record { found = λ e. f.1; stored = λ e. absurd (false≢true e) }) l)
+
+-- a seat that observes the world and reads the phase takes these steps
+pub ran-looking : (v u w : View) (n : ℕ) (P : ℕ → Type 0) → Found Observe n v u → Answered ReadPhase P u w → Ran v w
+ran-looking v u w n P a b = ran-join v u w (ran-found v u Observe n refl a) (ran-answered u w ReadPhase P refl b)

@@ -1,5 +1,5 @@
 -- What a world has, and what is so when it is opened and closed.
-use Rattle.std.specs.Prelude.{ℕ, ◌≡◌, ◌+◌, ◌<◌, ◌++◌, [], ◌∷◌, false, List, replicate, Bool, vec_len}
+use Rattle.std.specs.Prelude.{ℕ, ◌≡◌, ◌+◌, ◌<◌, ◌++◌, [], ◌∷◌, false, replicate, Bool, vec_len}
 use Rattle.std.specs.Arc.{arc_value}
 use Rattle.mark_core.specs.Numbers.{free_count, last_count, section_variables}
 use Rattle.mark_core.specs.declared.kinds.Shape.{Shape}

@@ -1,4 +1,6 @@
 pub mod Calls
+pub mod Closing
 pub mod Lending
 pub mod Opening
 pub mod Sizing
+pub mod Threads

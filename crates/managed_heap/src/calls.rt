@@ -1,7 +1,8 @@
 //! What a mutator does.
-ghost use Rattle.std.specs.Prelude.{IfErr, IfOk};
+ghost use Rattle.std.specs.Prelude.{◌≡◌, IfErr, IfOk};
 ghost use Rattle.std.specs.Arc.{arc_value};
 ghost use Rattle.gc_table.specs.Log.{Only};
+ghost use Rattle.gc_table.specs.Running.{Ran};
 ghost use Rattle.gc_table.specs.Seats.{Across};
 ghost use Rattle.plain_heap.specs.declared.operation.Op.TheVariants as ops;
 ghost use Rattle.managed_heap.specs.Calls.{CantEnter, MutatorCollected, MutatorEntered, MutatorLeft, HasPassed, MutatorDoes, MutatorRefused, IsSame, MakesNone, RefusedBy, StaysOut};
@@ -25,6 +26,7 @@ impl Mutator {
         ensures refused { IfErr result (λ e. CantEnter e self.old self.new) }
         ensures full { IfErr result (λ e. RefusedBy (λ _. EntersFull) e self.old self.new) }
         ensures tracers { Across (Only spares_tracers) self.old.seat self.new.seat }
+        ensures world { arc_value self.new.heap ≡ arc_value self.old.heap }
     {
         match self.place {
             Place::Inside => Ok(()),
@@ -42,6 +44,8 @@ impl Mutator {
     pub fn leave(&mut self)
         ensures left { MutatorLeft self.old self.new }
         ensures tracers { Across (Only spares_tracers) self.old.seat self.new.seat }
+        ensures world { arc_value self.new.heap ≡ arc_value self.old.heap }
+        ensures ran { Across Ran self.old.seat self.new.seat }
     {
         match self.place {
             Place::Outside => {}
@@ -59,6 +63,7 @@ impl Mutator {
         ensures polls { IfOk result (λ _. Across (WithOwn PollsWith) self.old.seat self.new.seat) }
         ensures full { IfErr result (λ e. RefusedBy (λ _. WithOwn PollsOutWith) e self.old self.new) }
         ensures tracers { Across (Only spares_tracers) self.old.seat self.new.seat }
+        ensures world { arc_value self.new.heap ≡ arc_value self.old.heap }
     {
         match self.place {
             Place::Outside => Err(Refused::Outside),
@@ -81,6 +86,7 @@ impl Mutator {
         ensures collects { IfOk result (λ _. Across CollectsAtTurn self.old.seat self.new.seat) }
         ensures full { IfErr result (λ e. RefusedBy (λ _. CollectsNone) e self.old self.new) }
         ensures tracers { Across (Only spares_tracers) self.old.seat self.new.seat }
+        ensures world { arc_value self.new.heap ≡ arc_value self.old.heap }
     {
         match self.place {
             Place::Outside => Err(Refused::Outside),
@@ -102,6 +108,7 @@ impl Mutator {
         ensures makes { IfOk result (λ _. Across (MakesAtTurn self.old.in_stops (arc_value self.old.heap).shape v value) self.old.seat self.new.seat) }
         ensures none { IfErr result (λ e. RefusedBy (λ e. MakesNoneAtTurn e self.old.in_stops (arc_value self.old.heap).shape) e self.old self.new) }
         ensures tracers { Across (Only spares_tracers) self.old.seat self.new.seat }
+        ensures world { arc_value self.new.heap ≡ arc_value self.old.heap }
     {
         self.make_watched(rt, v, value, &mut Unwatched)
     }
@@ -119,6 +126,7 @@ impl Mutator {
         ensures makes { IfOk result (λ _. Across (MakesAtTurn self.old.in_stops (arc_value self.old.heap).shape v value) self.old.seat self.new.seat) }
         ensures none { IfErr result (λ e. RefusedBy (λ e. MakesNoneAtTurn e self.old.in_stops (arc_value self.old.heap).shape) e self.old self.new) }
         ensures tracers { Across (Only spares_tracers) self.old.seat self.new.seat }
+        ensures world { arc_value self.new.heap ≡ arc_value self.old.heap }
     {
         if v >= VARIABLES {
             return Err(Refused::OutOfRange);
@@ -151,6 +159,7 @@ impl Mutator {
         ensures takes { IfOk result (λ _. Across (TakesSteps (ops.Set v i w)) self.old.seat self.new.seat) }
         ensures few { IfOk result (λ _. Across (AtMost 3) self.old.seat self.new.seat) }
         ensures tracers { Across (Only spares_tracers) self.old.seat self.new.seat }
+        ensures world { arc_value self.new.heap ≡ arc_value self.old.heap }
     {
         if v >= VARIABLES || w >= VARIABLES || u32::from(i) >= self.heap.shape().fields {
             return Err(Refused::OutOfRange);
@@ -171,6 +180,7 @@ impl Mutator {
         ensures takes { IfOk result (λ _. Across (TakesSteps (ops.Get w v i)) self.old.seat self.new.seat) }
         ensures few { IfOk result (λ _. Across (AtMost 2) self.old.seat self.new.seat) }
         ensures tracers { Across (Only spares_tracers) self.old.seat self.new.seat }
+        ensures world { arc_value self.new.heap ≡ arc_value self.old.heap }
     {
         if w >= VARIABLES || v >= VARIABLES || u32::from(i) >= self.heap.shape().fields {
             return Err(Refused::OutOfRange);
@@ -191,6 +201,7 @@ impl Mutator {
         ensures takes { IfOk result (λ _. Across (TakesSteps (ops.Let w v)) self.old.seat self.new.seat) }
         ensures few { IfOk result (λ _. Across (AtMost 1) self.old.seat self.new.seat) }
         ensures tracers { Across (Only spares_tracers) self.old.seat self.new.seat }
+        ensures world { arc_value self.new.heap ≡ arc_value self.old.heap }
     {
         if w >= VARIABLES || v >= VARIABLES {
             return Err(Refused::OutOfRange);
@@ -211,6 +222,7 @@ impl Mutator {
         ensures takes { IfOk result (λ _. Across (TakesSteps (ops.Nil v)) self.old.seat self.new.seat) }
         ensures few { IfOk result (λ _. Across (AtMost 1) self.old.seat self.new.seat) }
         ensures tracers { Across (Only spares_tracers) self.old.seat self.new.seat }
+        ensures world { arc_value self.new.heap ≡ arc_value self.old.heap }
     {
         if v >= VARIABLES {
             return Err(Refused::OutOfRange);
@@ -231,6 +243,7 @@ impl Mutator {
         ensures takes { IfOk result (λ _. Across (TakesSteps (ops.Put v value)) self.old.seat self.new.seat) }
         ensures few { IfOk result (λ _. Across (AtMost 2) self.old.seat self.new.seat) }
         ensures tracers { Across (Only spares_tracers) self.old.seat self.new.seat }
+        ensures world { arc_value self.new.heap ≡ arc_value self.old.heap }
     {
         if v >= VARIABLES {
             return Err(Refused::OutOfRange);

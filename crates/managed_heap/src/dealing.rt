@@ -4,14 +4,15 @@ ghost use Rattle.std.specs.Arc.{arc_value};
 ghost use Rattle.gc_table.specs.SeatRecords.{At, resting};
 ghost use Rattle.gc_table.specs.Seats.{state_of};
 ghost use Rattle.managed_heap.specs.Lending.{IsFreshMutator, IsFreshTracer, IsOpened, shape_for};
-ghost use Rattle.managed_heap.specs.Opening.{AreNew, AreNumbered, IsNewSeat};
+ghost use Rattle.managed_heap.specs.Opening.{AreNew, AreNumbered, IsFirstSeat, IsNewSeat};
 ghost use Rattle.managed_heap.specs.Sizing.{Fits};
 ghost use Rattle.mutator_turns.specs.Standing.{RestsOutside};
 ghost use Rattle.mutator_turns.specs.declared.refused.NotOpened.TheVariants.{OutOfMemory};
 
 use crate::mutator::{Mutator, Place};
-use crate::opening::{next_seat, open, open_turn};
+use crate::opening::{open, open_turn};
 use crate::sizes::Sizes;
+use crate::taking::first_of;
 use crate::world::World;
 use gc_table::{Heap, HeapSeat};
 use mutator_turns::NotOpened;
@@ -74,7 +75,7 @@ fn deal_mutators(
 {
     let mut all = Vec::new(alloc);
     for at in 0..mutators {
-        let seat = next_seat(seats);
+        let seat = first_of(seats);
         let mutator = mutator_of(heap, seat, name, 1 + at, in_stops)?;
         all.push(mutator)?;
     }
@@ -98,7 +99,7 @@ fn deal_tracers(
 {
     let mut all = Vec::new(alloc);
     for at in 0..tracers {
-        let seat = next_seat(seats);
+        let seat = first_of(seats);
         all.push(tracer_of(heap, seat, name, first + at)?)?;
     }
     Ok(all)
@@ -115,6 +116,7 @@ fn share(
     requires fits { Fits sizes }
     requires zero { RestsOutside heap zero × IsTrue (is_some (state_of zero).section) }
     requires rests { At heap resting 0 zero }
+    requires first { IsFirstSeat heap sizes.tracers zero }
     requires new { AreNew heap 1 seats.old.items }
     requires count { vec_len seats.old ≡ sizes.mutators + sizes.tracers }
     requires shape { heap.shape ≡ shape_for sizes }
@@ -143,7 +145,7 @@ pub fn open_fitting(alloc: Global, sizes: Sizes) -> Result<World, NotOpened>
         Ok(made) => made,
         Err(_) => return Err(NotOpened::OutOfMemory),
     };
-    let mut zero = next_seat(&mut seats);
+    let mut zero = first_of(&mut seats);
     if !open_turn(&heap, &mut zero) {
         return Err(NotOpened::OutOfMemory);
     }

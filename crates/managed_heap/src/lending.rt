@@ -4,6 +4,7 @@ ghost use Rattle.std.specs.Bool.{OnFalse, OnTrue};
 ghost use Rattle.std.specs.Arc.{arc_value};
 ghost use Rattle.mark_core.specs.Numbers.{named_number};
 ghost use Rattle.mark_core.specs.declared.kinds.Step.TheVariants.{ReadStat};
+ghost use Rattle.gc_table.specs.Running.{Ran};
 ghost use Rattle.gc_table.specs.Seats.{Across, Found, state_of, view_of};
 ghost use Rattle.managed_heap.specs.Calls.{MutatorLeft};
 ghost use Rattle.managed_heap.specs.Lending.{AreAllBack, HasAllStill, ReadsStatistics, IsBack, IsOpened, KeepsRest};
@@ -26,6 +27,7 @@ fn read_statistics(heap: &Heap, seat: &mut HeapSeat) -> Statistics
     requires rests { RestsOutside heap.now seat.old }
     ensures rests { RestsOutside heap.now seat.new }
     ensures read { Across (ReadsStatistics result heap.now) seat.old seat.new }
+    ensures ran { Across Ran seat.old seat.new }
     ensures section { (state_of seat.new).section ≡ (state_of seat.old).section }
 {
     let free = heap.read_stat(seat, FREE);
@@ -42,6 +44,7 @@ fn read_named(heap: &Heap, seat: &mut HeapSeat) -> u64
     requires rests { RestsOutside heap.now seat.old }
     ensures rests { RestsOutside heap.now seat.new }
     ensures read { Across (Found (ReadStat named_number) result) seat.old seat.new }
+    ensures ran { Across Ran seat.old seat.new }
     ensures section { (state_of seat.new).section ≡ (state_of seat.old).section }
 {
     heap.read_stat(seat, NAMED_SECTION)

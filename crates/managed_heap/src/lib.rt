@@ -2,7 +2,8 @@
 //!
 //! A [`World`] is a heap that threads share. A thread acts on it through a [`Mutator`]: it makes objects, stores references in them, follows and forgets
 //! them. A [`Tracer`] marks beside the mutators, where a processor is free for it. Each of them owns what the collector asks of it, and keeps the facts
-//! that the crates below ask for inside its type. So each call here is total: it asks its caller for no proof, and answers what happened.
+//! that the crates below ask for inside its type. So each call here is total: it asks its caller for no proof, and answers what happened. Only
+//! [`World::into_words`], which hands out the run of all threads, asks that what is handed in is the world's.
 //!
 //!     let mut world = World::open(alloc, Sizes::of_cells(4096).fields(2).mutators(2))?;
 //!     let mut m = world.mutator()?;
@@ -37,12 +38,15 @@
 //! # Where things are
 //!
 //! `sizes` has the sizes, `world` the heap with those of its mutators and tracers that nobody has, `lending` how they are
-//! taken and given back, `mutator` the type, `calls` what a mutator does, and `reading` what it reads. Below them `opening` makes a heap, and `dealing` deals its
-//! seats out. What a mutator does with its seat is in `mutator_turns`, and so is why a call did nothing.
-//! A mutator that doesn't wait, and a tracer, are in `seat_steps`; `handing` turns a mutator into such a one and back, and `dismissing` ends the tracers.
+//! taken and given back, and `closing` how a world hands out the run of its threads; `mutator` has the type, `calls` what a mutator does, and `reading` what it
+//! reads. Below them `opening` makes a heap, and `dealing` deals its seats out. What a mutator does with its seat is in `mutator_turns`, and so is why a call did
+//! nothing. A mutator that doesn't wait, and a tracer, are in `seat_steps`; `handing` turns a mutator into such a one and back, and `dismissing` ends the tracers.
 #![tactic(auto)]
 
+ghost use Rattle.managed_heap.specs.Threads.{ThreadsRun};
+
 mod calls;
+mod closing;
 mod dealing;
 mod dismissing;
 mod handing;
@@ -51,12 +55,21 @@ mod mutator;
 mod opening;
 mod reading;
 mod sizes;
+mod taking;
 mod world;
 
 pub use cache_refills::Watch;
+pub use closing::{NotClosed, Unclosed};
 pub use gc_cycle::{Counts, Paid};
+pub use gc_table::Words;
 pub use mutator::Mutator;
 pub use mutator_turns::{NotOpened, Refused};
 pub use seat_steps::{Came, Stage, Stepper, Tracer, TryTurn, Turn};
 pub use sizes::Sizes;
 pub use world::{Statistics, World};
+
+/// Whatever the threads of a closed world did, it is one run of the core, in which each thread's steps come in their order and nobody else takes part. No event of
+/// it frees a cell that is reachable just before it.
+pub fn threads_run()
+    ensures { ThreadsRun }
+{}

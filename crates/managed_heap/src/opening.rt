@@ -1,12 +1,13 @@
 //! A heap with its seats, and the mutators' turn. Nothing waits: in a new heap nobody is inside.
-ghost use Rattle.std.specs.Prelude.{◌≡◌, ◌+◌, ◌<◌, ◌∷◌, IfOk, IsFalse, IsTrue, vec_len};
+ghost use Rattle.std.specs.Prelude.{◌≡◌, ◌+◌, ◌<◌, IfOk, IsFalse, Some, slice_get, vec_len};
 ghost use Rattle.std.specs.Bool.{OnTrue};
 ghost use Rattle.mark_core.specs.Shapes.{IsShape};
 ghost use Rattle.mark_core.specs.declared.kinds.Phase.TheVariants.{Idle};
-ghost use Rattle.gc_table.specs.Running.{Alone};
+ghost use Rattle.gc_table.specs.Running.{Alone, Ran};
 ghost use Rattle.gc_table.specs.Seats.{Across, view_of};
 ghost use Rattle.gc_table.specs.Stopping.{has_moved};
 ghost use Rattle.gc_table.specs.SeatRecords.{At, resting};
+ghost use Rattle.gc_table.specs.declared.seat.HeapSeat.{HeapSeat};
 ghost use Rattle.managed_heap.specs.Sizing.{Fits};
 ghost use Rattle.managed_heap.specs.Lending.{shape_for};
 ghost use Rattle.managed_heap.specs.Opening.{AreNew, Opens};
@@ -44,6 +45,7 @@ pub fn open(alloc: Global, sizes: &Sizes) -> Result<(Heap, Vec<HeapSeat>), NotOp
     ensures shape { IfOk result (λ r. r.0.shape ≡ shape_for sizes.now) }
     ensures count { IfOk result (λ r. vec_len r.1 ≡ 1 + sizes.now.mutators + sizes.now.tracers) }
     ensures seats { IfOk result (λ r. AreNew r.0 0 r.1.items) }
+    ensures first { IfOk result (λ r. (s : HeapSeat) → slice_get r.1.items 0 ≡ Some s → (view_of s).opened ≡ r.0.shape.sections + sizes.now.tracers) }
 {
     let shape = shape_of(sizes);
     match Heap::create(alloc, shape, shape.sections + sizes.tracers, &NoPlan) {
@@ -52,20 +54,12 @@ pub fn open(alloc: Global, sizes: &Sizes) -> Result<(Heap, Vec<HeapSeat>), NotOp
     }
 }
 
-/// The first of the seats that are left.
-pub fn next_seat(seats: &mut Vec<HeapSeat>) -> HeapSeat
-    requires some { 0 < vec_len seats.old }
-    ensures first { seats.old.items ≡ result ∷ seats.new.items }
-    ensures count { vec_len seats.new + 1 ≡ vec_len seats.old }
-{
-    seats.remove(0)
-}
-
 /// Raises the flag that stops the world: true where it is the seat's own.
 fn raises(heap: &Heap, seat: &mut HeapSeat) -> bool
     requires { At heap.now resting 0 seat.old }
     ensures raised { OnTrue result (At heap.now flagged 0 seat.new × IsFalse (has_moved (view_of seat.new).log)) }
     ensures keeps { Across KeepsMeaningAndPlan seat.old seat.new }
+    ensures ran { Across Ran seat.old seat.new }
 {
     match raise(heap, seat) {
         Raised::Yours => true,
@@ -78,6 +72,7 @@ fn stops_now(heap: &Heap, seat: &mut HeapSeat) -> bool
     requires { At heap.now flagged 0 seat.old × IsFalse (has_moved (view_of seat.old).log) }
     ensures stopped { OnTrue result (At heap.now stopped 0 seat.new × Alone Idle (view_of seat.new)) }
     ensures keeps { Across KeepsMeaningAndPlan seat.old seat.new }
+    ensures ran { Across Ran seat.old seat.new }
 {
     heap.observe(seat);
     match heap.read_phase(seat) {
@@ -89,7 +84,8 @@ fn stops_now(heap: &Heap, seat: &mut HeapSeat) -> bool
 /// Section 0 ends its turn.
 fn turn(heap: &Heap, seat: &mut HeapSeat)
     requires { Opens heap.now stopped seat.old × (0 < heap.now.shape.sections) × Alone Idle (view_of seat.old) }
-    ensures { At heap.now stopped 0 seat.new × Alone Idle (view_of seat.new) }
+    ensures alone { At heap.now stopped 0 seat.new × Alone Idle (view_of seat.new) }
+    ensures ran { Across Ran seat.old seat.new }
 {
     heap.next_season(seat);
 }
@@ -97,7 +93,8 @@ fn turn(heap: &Heap, seat: &mut HeapSeat)
 /// The world goes on, and the seat is outside.
 fn goes_on(heap: &Heap, seat: &mut HeapSeat)
     requires { At heap.now stopped 0 seat.old × Alone Idle (view_of seat.old) }
-    ensures { At heap.now resting 0 seat.new }
+    ensures rests { At heap.now resting 0 seat.new }
+    ensures ran { Across Ran seat.old seat.new }
 {
     resume(heap, seat);
     leave(heap, seat);
@@ -107,7 +104,8 @@ fn goes_on(heap: &Heap, seat: &mut HeapSeat)
 /// way, which is not so in a new heap.
 pub fn open_turn(heap: &Heap, seat: &mut HeapSeat) -> bool
     requires { Opens heap.now resting seat.old × (0 < heap.now.shape.sections) }
-    ensures { OnTrue result (At heap.now resting 0 seat.new) }
+    ensures rests { OnTrue result (At heap.now resting 0 seat.new) }
+    ensures ran { OnTrue result (Across Ran seat.old seat.new) }
 {
     if !raises(heap, seat) || !stops_now(heap, seat) {
         return false;

@@ -1,4 +1,5 @@
 //! What a mutator reads of its variables.
+ghost use Rattle.std.specs.Arc.{arc_value};
 ghost use Rattle.std.specs.Prelude.{◌≡◌, ◌<◌, IfErr, IfOk, IsFalse, IsTrue, Some};
 ghost use Rattle.mark_core.specs.Numbers.{section_variables};
 ghost use Rattle.plain_heap.specs.PlainHeap.{variable};
@@ -25,6 +26,7 @@ impl Mutator {
         ensures takes { IfOk result (λ _. Across (TakesSteps (ops.Say v)) self.old.seat self.new.seat) }
         ensures few { Across (AtMost 1) self.old.seat self.new.seat }
         ensures tracers { Across (Only spares_tracers) self.old.seat self.new.seat }
+        ensures world { arc_value self.new.heap ≡ arc_value self.old.heap }
     {
         if v >= VARIABLES {
             return Err(Refused::OutOfRange);

@@ -2,6 +2,7 @@
 ghost use Rattle.std.specs.Arc.{arc_value};
 ghost use Rattle.std.specs.Prelude.{IsTrue, is_some};
 ghost use Rattle.gc_table.specs.Seats.{state_of};
+ghost use Rattle.managed_heap.specs.Opening.{IsFirstSeat};
 ghost use Rattle.mutator_turns.specs.Standing.{RestsOutside};
 
 use crate::mutator::Mutator;
@@ -37,4 +38,5 @@ pub struct World {
     pub(crate) sizes: Sizes,
     ghost rests: { RestsOutside (arc_value heap) zero },
     ghost section: { IsTrue (is_some (state_of zero).section) },
+    ghost first: { IsFirstSeat (arc_value heap) sizes.tracers zero },
 }

@@ -13,19 +13,19 @@ pub loop-at-preserved : goal.loop-at-preserved
 loop-at-preserved c =
     let h : Heap = arc_value c.args.heap.now in
     let i = c.loop-at.invariant in
-    let xs : List HeapSeat = c.next_seat-seat.new.seats.items in
+    let xs : List HeapSeat = c.first_of-seat.new.all.items in
     let next : c.args.first + c.loop-at.at + 1 ≡ c.args.first + (c.loop-at.at + 1) = omega arith in
-    let rest = rest-new h (c.args.first + c.loop-at.at) c.next_seat-seat.result xs c.loop-at.seats.items c.next_seat-seat.ensures.first i.new in
+    let rest = rest-new h (c.args.first + c.loop-at.at) c.first_of-seat.result xs c.loop-at.seats.items c.first_of-seat.ensures.first i.new in
     let fresh : ℕ → Tracer → Type 0 = IsFreshTracer h c.args.name in
     let ts : List Tracer = c.loop-at.all.items in
     let t : Tracer = c.in_ok-tracer_of.field-0 in
     let number : c.args.first + c.loop-at.at ≡ c.args.first + length ts = omega (arith, i.count, c.loop-at.all.ok) in
     record {
       new = subst (λ n. AreNew h n xs) next rest;
-      rest = omega (arith, i.rest, c.next_seat-seat.ensures.count);
+      rest = omega (arith, i.rest, c.first_of-seat.ensures.count);
       fresh = subst (AreNumbered fresh c.args.first) (sym c.in_ok-push.ensures.items) (numbered-push fresh c.args.first ts t i.fresh (subst (λ n. fresh n t) number c.in_ok-tracer_of.ensures.fresh));
       count = grind (arith, common_steps);
     }
 
 pub tracer_of-requires : goal.tracer_of-requires
-tracer_of-requires c = record { seat = first-new (arc_value c.args.heap.now) (c.args.first + c.loop-at.at) c.next_seat-seat.result c.next_seat-seat.new.seats.items c.loop-at.seats.items c.next_seat-seat.ensures.first c.loop-at.invariant.new }
+tracer_of-requires c = record { seat = first-new (arc_value c.args.heap.now) (c.args.first + c.loop-at.at) c.first_of-seat.result c.first_of-seat.new.all.items c.loop-at.seats.items c.first_of-seat.ensures.first c.loop-at.invariant.new }

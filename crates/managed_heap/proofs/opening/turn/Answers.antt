@@ -1,4 +1,4 @@
-use Rattle.std.proofs.Common.{◌+◌, sym, ap, ◌∙◌}
+use Rattle.std.proofs.Common.{◌+◌, sym, ap, ◌∙◌, refl}
 use Rattle.mark_core.specs.declared.kinds.Shape.{Shape}
 use Rattle.mark_core.specs.declared.kinds.Step.TheVariants.{NextSeason}
 use Rattle.mark_core.specs.declared.seat.SeatState.{SeatState}
@@ -7,6 +7,7 @@ use Rattle.gc_table.specs.Sections.{planned}
 use Rattle.gc_table.specs.declared.view.Meaning.{Meaning}
 use Rattle.gc_table.specs.declared.view.View.{View}
 use Rattle.managed_heap.proofs.Turning.{alone-turn, first-section, may-turn}
+use Rattle.gc_table.proofs.Running.{ran-took}
 use Rattle.gc_table.proofs.RecordSteps.{state-after}
 use Rattle.managed_heap.proofs.opening.turn.Goals as goal
 use Rattle.stop_world.specs.StopRecords.{stopped}
@@ -25,11 +26,14 @@ next_season-requires-clause-asked c =
       λ even. ap (λ (m : Meaning). m.heap) q.0.1 ∙ sym (λ y. planned (q.0.0.0.1 y) (q.0.3 y) (q.0.2 y + 1)),
     )
 
-pub returns : goal.returns
-returns c =
+pub returns-clause-alone : goal.returns-clause-alone
+returns-clause-alone c =
     let sh : Shape = c.args.heap.now.shape in
     let v : View = view_of c.args.seat.now in
     let w : View = view_of c.next_season.new.seat in
     let q = c.requires in
     let e = c.next_season.ensures in
     ((e.seat, state-after sh v w (stopped sh 0) NextSeason _ q.0.0.0.1 q.0.0.1 e.view.1.0), alone-turn v w e.view.0 e.view.1 q.2)
+
+pub returns-clause-ran : goal.returns-clause-ran
+returns-clause-ran c = ran-took (view_of c.args.seat.now) (view_of c.next_season.new.seat) NextSeason refl c.next_season.ensures.view

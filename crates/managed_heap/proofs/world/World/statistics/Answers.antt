@@ -1,0 +1,18 @@
+use Rattle.std.proofs.Common.{ℕ, ◌≡◌, ◌∙◌, Option, ap, rules, subst}
+use Rattle.std.specs.Arc.{arc_value}
+use Rattle.std.specs.Prelude.{is_some}
+use Rattle.gc_table.specs.declared.seat.Heap.{Heap}
+use Rattle.mutator_turns.specs.Standing.{RestsOutside}
+use Rattle.managed_heap.proofs.Beginning.{first-kept}
+use Rattle.managed_heap.proofs.world.World.statistics.Goals as goal
+
+pub invariant_of-self : goal.invariant_of-self
+invariant_of-self c =
+    let h : Heap = arc_value c.args.self.now.heap in
+    let same : c.deref.result.now ≡ h = search rules in
+    let e = c.read_statistics.ensures in
+    record {
+      rests = subst (λ (x : Heap). RestsOutside x c.read_statistics.new.seat) same e.rests;
+      section = ap (λ (o : Option ℕ). is_some o) e.section ∙ c.args.self.now.section;
+      first = first-kept h c.args.self.now.sizes.tracers c.args.self.now.zero c.read_statistics.new.seat c.args.self.now.first e.ran;
+    }
