@@ -1,5 +1,5 @@
 -- What a world has, and what is so when it is opened and closed.
-use Rattle.std.specs.Prelude.{ℕ, ◌≡◌, ◌+◌, ◌<◌, ◌++◌, [], ◌∷◌, false, replicate, Bool, vec_len}
+use Rattle.std.specs.Prelude.{ℕ, ◌≡◌, ◌⊎◌, ◌≤◌, ◌+◌, ◌<◌, ◌++◌, [], ◌∷◌, false, replicate, Bool, vec_len}
 use Rattle.std.specs.Arc.{arc_value}
 use Rattle.mark_core.specs.Numbers.{free_count, last_count, section_variables}
 use Rattle.mark_core.specs.declared.kinds.Shape.{Shape}
@@ -72,6 +72,14 @@ pub record IsBack (m : Mutator) (x y : World) : Type 0 where
   pub left : Mutator
   pub has_left : MutatorLeft m left
   pub items : y.mutators.items ≡ x.mutators.items ++ left ∷ []
+
+-- why no mutator of this name is taken back: it is another world's, or all of this world's are back
+abbrev pub TakesNoMutator : ℕ → World → Type 0
+TakesNoMutator name w = (name ≡ w.sizes.name → ⊥) ⊎ (w.sizes.mutators ≤ vec_len w.mutators)
+
+-- why no tracer of this name is taken back
+abbrev pub TakesNoTracer : ℕ → World → Type 0
+TakesNoTracer name w = (name ≡ w.sizes.name → ⊥) ⊎ (w.sizes.tracers ≤ vec_len w.tracers)
 
 -- the number of free cells was read, and then the number of those that the last cycle marked
 pub record ReadsStatistics (s : Statistics) (h : Heap) (v w : View) : Type 0 where

@@ -7,7 +7,7 @@ ghost use Rattle.mark_core.specs.declared.kinds.Step.TheVariants.{ReadStat};
 ghost use Rattle.gc_table.specs.Running.{Ran};
 ghost use Rattle.gc_table.specs.Seats.{Across, Found, state_of, view_of};
 ghost use Rattle.managed_heap.specs.Calls.{MutatorLeft};
-ghost use Rattle.managed_heap.specs.Lending.{AreAllBack, HasAllStill, ReadsStatistics, IsBack, IsOpened, KeepsRest};
+ghost use Rattle.managed_heap.specs.Lending.{AreAllBack, HasAllStill, ReadsStatistics, IsBack, IsOpened, KeepsRest, TakesNoMutator, TakesNoTracer};
 ghost use Rattle.managed_heap.specs.Sizing.{Fits};
 ghost use Rattle.mutator_turns.specs.Standing.{RestsOutside};
 ghost use Rattle.mutator_turns.specs.declared.refused.NotOpened.TheVariants.{OutOfRange};
@@ -86,15 +86,17 @@ impl World {
     /// Whether a mutator of this name may be one that is out.
     fn lacks_mutator(&self, name: u32) -> bool
         ensures lacks { OnTrue result ((name ≡ self.now.sizes.name) × (vec_len self.now.mutators < self.now.sizes.mutators)) }
+        ensures none { OnFalse result (TakesNoMutator name self.now) }
     {
         name == self.sizes.name && self.mutators.len() < self.sizes.mutators as usize
     }
 
-    /// Takes a mutator back, which leaves first. Its variables stay, and what they refer to is kept: who takes it next finds them. It is handed back where it
-    /// has the name of another world, where all of this world's are back, or where there is no memory to note it.
+    /// Takes a mutator back, which leaves first. Its variables stay, and what they refer to is kept: who takes it next finds them. It is handed back only where
+    /// it has the name of another world, or where all of this world's are back.
     pub fn take_mutator(&mut self, mutator: Mutator) -> Result<(), Mutator>
         ensures back { OnOk result (IsBack mutator self.old self.new) }
         ensures refused { IfErr result (MutatorLeft mutator) }
+        ensures cause { IfErr result (λ _. TakesNoMutator mutator.name self.old) }
         ensures kept { IfErr result (λ _. self.new.mutators.items ≡ self.old.mutators.items) }
         ensures rest { KeepsRest self.old self.new × (self.new.tracers ≡ self.old.tracers) }
     {
@@ -103,10 +105,16 @@ impl World {
         if !self.lacks_mutator(mutator.name) {
             return Err(mutator);
         }
-        match self.mutators.push(mutator) {
-            Ok(()) => Ok(()),
-            Err(failed) => Err(failed.value),
-        }
+        self.mutators.push_reserved(mutator);
+        Ok(())
+    }
+
+    /// Whether a tracer of this name may be one that is out.
+    fn lacks_tracer(&self, name: u32) -> bool
+        ensures lacks { OnTrue result ((name ≡ self.now.sizes.name) × (vec_len self.now.tracers < self.now.sizes.tracers)) }
+        ensures none { OnFalse result (TakesNoTracer name self.now) }
+    {
+        name == self.sizes.name && self.tracers.len() < self.sizes.tracers as usize
     }
 
     /// Takes a tracer back, or hands it back as `take_mutator` does.
@@ -114,16 +122,15 @@ impl World {
         ensures back { OnOk result (self.new.tracers.items ≡ self.old.tracers.items ++ tracer ∷ []) }
         ensures out { OnOk result ((tracer.name ≡ self.old.sizes.name) × (vec_len self.old.tracers < self.old.sizes.tracers)) }
         ensures refused { IfErr result (λ t. t ≡ tracer) }
+        ensures cause { IfErr result (λ _. TakesNoTracer tracer.name self.old) }
         ensures kept { IfErr result (λ _. self.new.tracers.items ≡ self.old.tracers.items) }
         ensures rest { KeepsRest self.old self.new × (self.new.mutators ≡ self.old.mutators) }
     {
-        if tracer.name() != self.sizes.name || self.tracers.len() >= self.sizes.tracers as usize {
+        if !self.lacks_tracer(tracer.name()) {
             return Err(tracer);
         }
-        match self.tracers.push(tracer) {
-            Ok(()) => Ok(()),
-            Err(failed) => Err(failed.value),
-        }
+        self.tracers.push_reserved(tracer);
+        Ok(())
     }
 
     /// Numbers of the heap. Where others act on it meanwhile, each is of another moment.

@@ -1,6 +1,6 @@
 //! A heap that threads share, with those of its mutators and tracers that nobody has.
 ghost use Rattle.std.specs.Arc.{arc_value};
-ghost use Rattle.std.specs.Prelude.{IsTrue, is_some};
+ghost use Rattle.std.specs.Prelude.{◌≤◌, IsTrue, is_some, vec_capacity};
 ghost use Rattle.gc_table.specs.Seats.{state_of};
 ghost use Rattle.managed_heap.specs.Opening.{IsFirstSeat};
 ghost use Rattle.mutator_turns.specs.Standing.{RestsOutside};
@@ -30,13 +30,14 @@ pub struct World {
     pub(crate) heap: Arc<Heap, Global>,
     /// The seat of section 0, which has nothing to do with objects: it reads and tells.
     pub(crate) zero: HeapSeat,
-    /// The mutators that nobody has taken.
+    /// The mutators that nobody has taken, with room for all.
     pub(crate) mutators: Vec<Mutator>,
-    /// The tracers that nobody has taken.
+    /// The tracers that nobody has taken, with room for all.
     pub(crate) tracers: Vec<Tracer>,
     /// The sizes that it was opened with.
     pub(crate) sizes: Sizes,
     ghost rests: { RestsOutside (arc_value heap) zero },
     ghost section: { IsTrue (is_some (state_of zero).section) },
     ghost first: { IsFirstSeat (arc_value heap) sizes.tracers zero },
+    ghost room: { (sizes.mutators ≤ vec_capacity mutators) × (sizes.tracers ≤ vec_capacity tracers) },
 }

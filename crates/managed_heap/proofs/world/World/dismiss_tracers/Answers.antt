@@ -14,4 +14,5 @@ invariant_of-self g c =
       rests = subst (λ (x : Heap). RestsOutside x c.tell_dismissed.new.seat) same e.rests;
       section = e.section;
       first = first-kept h c.args.self.now.sizes.tracers c.args.self.now.zero c.tell_dismissed.new.seat c.args.self.now.first e.ran;
+      room = c.args.self.now.room;
     }

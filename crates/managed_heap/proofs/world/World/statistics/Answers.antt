@@ -15,4 +15,5 @@ invariant_of-self c =
       rests = subst (λ (x : Heap). RestsOutside x c.read_statistics.new.seat) same e.rests;
       section = ap (λ (o : Option ℕ). is_some o) e.section ∙ c.args.self.now.section;
       first = first-kept h c.args.self.now.sizes.tracers c.args.self.now.zero c.read_statistics.new.seat c.args.self.now.first e.ran;
+      room = c.args.self.now.room;
     }

@@ -14,4 +14,5 @@ invariant_of-self c =
       rests = subst (λ (x : Heap). RestsOutside x c.try_dismiss.new.seat) same e.rests;
       section = e.section;
       first = first-kept h c.args.self.now.sizes.tracers c.args.self.now.zero c.try_dismiss.new.seat c.args.self.now.first e.ran;
+      room = c.args.self.now.room;
     }
