@@ -1,5 +1,5 @@
 -- What a call of a mutator does whose world shares its objects. A call is told by its events: the steps that it added to the log of its seat, with what each found.
-use Rattle.std.specs.Prelude.{ℕ, ◌≡◌, ◌<◌, ◌-◌, IsTrue}
+use Rattle.std.specs.Prelude.{ℕ, ◌≡◌, ◌≤◌, ◌<◌, ◌-◌, IsTrue}
 use Rattle.std.specs.Arc.{arc_value}
 use Rattle.mark_core.specs.Numbers.{section_variables}
 use Rattle.mark_core.specs.Steps.MutatorSteps.{seat_variable as word_in}
@@ -9,18 +9,25 @@ use Rattle.plain_heap.specs.declared.operation.Op.{Op}
 use Rattle.plain_heap.specs.declared.operation.Op.TheVariants as ops
 use Rattle.gc_table.specs.Rule.{KnowsFull}
 use Rattle.gc_table.specs.Seats.{Across, Found, did, state_of, view_of}
+use Rattle.gc_table.specs.declared.seat.HeapSeat.{HeapSeat}
 use Rattle.gc_table.specs.declared.view.View.{View}
 use Rattle.gc_cycle.specs.Cycles.{collects}
 use Rattle.mutator_ops.specs.Sharing.{LendsFound}
+use Rattle.mutator_turns.specs.Coming.{EntersTurn, LeavesTurn}
 use Rattle.mutator_turns.specs.Sharing.{LeavesHeap}
 use Rattle.mutator_turns.specs.declared.refused.Refused.{Refused}
 use Rattle.mutator_turns.specs.declared.refused.Refused.TheVariants as refusals
+use Rattle.shared_heap.specs.declared.mutator.Place.{Place}
 use Rattle.shared_heap.specs.declared.mutator.Place.TheVariants.{Inside, Outside}
 use Rattle.shared_heap.specs.declared.mutator.SharedMutator.{SharedMutator}
 
 -- how many references an object has
 abbrev pub field_count_of : SharedMutator → ℕ
 field_count_of m = (arc_value m.heap).shape.fields
+
+-- how many objects it makes at most
+abbrev pub object_limit_of : SharedMutator → ℕ
+object_limit_of m = (arc_value m.heap).shape.objects
 
 -- the call went so, from what the seat knew before to what it knows after: its numbers were in range; the mutator was inside and is
 pub record SharerActs (range : Type 0) (P : View → View → Type 0) (x y : SharedMutator) : Type 0 where
@@ -44,6 +51,12 @@ CantAct e range x = ⊥
 abbrev pub Refuses : Refused → Op → SharedMutator → Type 0
 Refuses e op x = CantAct e (IsInRange (field_count_of x) op) x
 
+-- a call that was refused did nothing where a number is out of range or the mutator was outside, and else what R says
+abbrev pub RefusedBy : (View → View → Type 0) → Refused → SharedMutator → SharedMutator → Type 0
+RefusedBy R refusals.OutOfRange x y = y ≡ x
+RefusedBy R refusals.Outside x y = y ≡ x
+RefusedBy R e x y = Across R x.seat y.seat
+
 -- the call wasn't done: no step was taken
 pub record ActRefused (e : Refused) (range : Type 0) (x y : SharedMutator) : Type 0 where
   pub why : CantAct e range x
@@ -62,9 +75,15 @@ pub record IsSame (x y : SharedMutator) : Type 0 where
 abbrev pub IsFull : SharedMutator → Type 0
 IsFull m = KnowsFull (view_of m.seat)
 
+-- the seat went in and to its turn; or nothing was done, where it was inside already
+abbrev pub EntersFrom : Place → HeapSeat → HeapSeat → Type 0
+EntersFrom Outside s t = Across EntersTurn s t
+EntersFrom Inside s t = t ≡ s
+
 -- the mutator entered, or was inside already
 pub record SharerEntered (x y : SharedMutator) : Type 0 where
   pub inside : y.place ≡ Inside
+  pub enters : EntersFrom x.place x.seat y.seat
   pub same : IsSame x y
 
 -- the mutator didn't enter, since the heap is full
@@ -72,9 +91,15 @@ abbrev pub CantEnter : Refused → SharedMutator → SharedMutator → Type 0
 CantEnter refusals.Full x y = IsFull y × (x.place ≡ Outside) × (y.place ≡ Outside) × IsSame x y
 CantEnter e x y = ⊥
 
+-- the seat gave up its cache and left; or nothing was done, where it was outside already
+abbrev pub LeavesFrom : Place → HeapSeat → HeapSeat → Type 0
+LeavesFrom Outside s t = t ≡ s
+LeavesFrom Inside s t = Across LeavesTurn s t
+
 -- the mutator is outside
 pub record SharerLeft (x y : SharedMutator) : Type 0 where
   pub outside : y.place ≡ Outside
+  pub leaves : LeavesFrom x.place x.seat y.seat
   pub same : IsSame x y
 
 -- the mutator was inside the world and is
@@ -98,7 +123,7 @@ abbrev pub MakesNone : Refused → Op → SharedMutator → SharedMutator → Ty
 MakesNone refusals.OutOfRange op x y = (IsInRange (field_count_of x) op → ⊥) × (y ≡ x)
 MakesNone refusals.Outside op x y = (x.place ≡ Outside) × (y ≡ x)
 MakesNone refusals.Full op x y = IsFull y × (x.place ≡ Inside) × (y.place ≡ Outside) × IsSame x y
-MakesNone refusals.Spent op x y = (x.place ≡ Inside) × (y.place ≡ Inside) × IsSame x y
+MakesNone refusals.Spent op x y = (object_limit_of x ≤ (state_of y.seat).made) × (x.place ≡ Inside) × (y.place ≡ Inside) × IsSame x y
 MakesNone refusals.Nil op x y = ⊥
 
 -- one read found this value in variable v's object

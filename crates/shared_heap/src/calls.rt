@@ -6,8 +6,9 @@ ghost use Rattle.plain_heap.specs.declared.operation.Op.TheVariants as ops;
 ghost use Rattle.gc_table.specs.Seats.{Across, state_of};
 ghost use Rattle.mutator_ops.specs.Few.{AtMost};
 ghost use Rattle.mutator_ops.specs.Sharing.{LendsFound, SetsVariable, TakesSteps, putting_steps, setting_steps};
+ghost use Rattle.mutator_turns.specs.Coming.{CollectsAtTurn, CollectsNone, EntersFull, PollsOutWith, PollsWith, WithOwn};
 ghost use Rattle.mutator_turns.specs.Sharing.{FollowsField, MakesSharedAfter};
-ghost use Rattle.shared_heap.specs.Calls.{CantEnter, FindsValue, HasNoRoot, HasPassed, MakesNone, ReadsNone, Refuses, SharerCollected, SharerDoes, SharerEntered, SharerLeft, SharerRefused, StaysOut};
+ghost use Rattle.shared_heap.specs.Calls.{CantEnter, FindsValue, HasNoRoot, HasPassed, MakesNone, ReadsNone, RefusedBy, Refuses, SharerCollected, SharerDoes, SharerEntered, SharerLeft, SharerRefused, StaysOut};
 
 use crate::mutator::{Place, SharedMutator};
 use cache_refills::Unwatched;
@@ -26,6 +27,7 @@ impl SharedMutator {
     pub fn enter<R: Wait>(&mut self, rt: &R) -> Result<(), Refused>
         ensures entered { IfOk result (λ _. SharerEntered self.old self.new) }
         ensures refused { IfErr result (λ e. CantEnter e self.old self.new) }
+        ensures full { IfErr result (λ e. RefusedBy EntersFull e self.old self.new) }
         ensures world { arc_value self.new.heap ≡ arc_value self.old.heap }
     {
         match self.place {
@@ -59,6 +61,8 @@ impl SharedMutator {
     pub fn safe_point<R: Wait>(&mut self, rt: &R) -> Result<(), Refused>
         ensures passed { IfOk result (λ _. HasPassed self.old self.new) }
         ensures refused { IfErr result (λ e. StaysOut e self.old self.new) }
+        ensures polls { IfOk result (λ _. Across (WithOwn PollsWith) self.old.seat self.new.seat) }
+        ensures full { IfErr result (λ e. RefusedBy (WithOwn PollsOutWith) e self.old self.new) }
         ensures world { arc_value self.new.heap ≡ arc_value self.old.heap }
     {
         match self.place {
@@ -78,6 +82,8 @@ impl SharedMutator {
         ensures passed { IfOk result (λ _. HasPassed self.old self.new) }
         ensures collected { IfOk result (λ _. SharerCollected self.old self.new) }
         ensures refused { IfErr result (λ e. StaysOut e self.old self.new) }
+        ensures collects { IfOk result (λ _. Across CollectsAtTurn self.old.seat self.new.seat) }
+        ensures full { IfErr result (λ e. RefusedBy CollectsNone e self.old self.new) }
         ensures world { arc_value self.new.heap ≡ arc_value self.old.heap }
     {
         match self.place {
