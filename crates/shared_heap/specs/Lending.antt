@@ -1,5 +1,5 @@
 -- What is so of a new shared world, and of one that lends its mutators and takes them back.
-use Rattle.std.specs.Prelude.{ℕ, ◌≡◌, ◌<◌, ◌+◌, ◌++◌, List, [], ◌∷◌, IsTrue, Some, replicate, slice_get, vec_len}
+use Rattle.std.specs.Prelude.{ℕ, ◌≡◌, ◌⊎◌, ◌≤◌, ◌<◌, ◌+◌, ◌++◌, List, [], ◌∷◌, IsTrue, Some, replicate, slice_get, vec_len}
 use Rattle.std.specs.Arc.{arc_value}
 use Rattle.mark_core.specs.Numbers.{free_count, last_count, section_variables}
 use Rattle.mark_core.specs.declared.kinds.Step.TheVariants.{ReadStat}
@@ -66,6 +66,14 @@ pub record IsBack (m : SharedMutator) (x y : SharedWorld) : Type 0 where
   pub left : SharedMutator
   pub has_left : SharerLeft m left
   pub items : y.mutators.items ≡ x.mutators.items ++ left ∷ []
+
+-- why no mutator of this name is taken back: it is another world's, or all of this world's are back
+abbrev pub TakesNoMutator : ℕ → SharedWorld → Type 0
+TakesNoMutator name w = (name ≡ w.sizes.name → ⊥) ⊎ (w.sizes.mutators ≤ vec_len w.mutators)
+
+-- why no tracer of this name is taken back
+abbrev pub TakesNoTracer : ℕ → SharedWorld → Type 0
+TakesNoTracer name w = (name ≡ w.sizes.name → ⊥) ⊎ (w.sizes.tracers ≤ vec_len w.tracers)
 
 -- the number of free cells was read, and then the number of those that the last cycle marked
 pub record ReadsNumbers (s : SharedStatistics) (h : Heap) (v w : View) : Type 0 where

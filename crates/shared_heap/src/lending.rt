@@ -1,11 +1,11 @@
 //! A shared world is opened, and lends its mutators and tracers.
 ghost use Rattle.std.specs.Prelude.{◌≡◌, ◌<◌, ◌+◌, [], ◌∷◌, IfErr, IfNone, IfOk, IfSome, OnOk, vec_len};
 ghost use Rattle.std.specs.Arc.{arc_value};
-ghost use Rattle.std.specs.Bool.{OnTrue};
+ghost use Rattle.std.specs.Bool.{OnFalse, OnTrue};
 ghost use Rattle.gc_table.specs.Seats.{Across, view_of};
 ghost use Rattle.mutator_turns.specs.Standing.{RestsOutside};
 ghost use Rattle.shared_heap.specs.Calls.{SharerLeft};
-ghost use Rattle.shared_heap.specs.Lending.{HasAllStill, IsBack, IsSharedOpened, KeepsRest, ReadsNumbers};
+ghost use Rattle.shared_heap.specs.Lending.{HasAllStill, IsBack, IsSharedOpened, KeepsRest, ReadsNumbers, TakesNoMutator};
 ghost use Rattle.mutator_turns.specs.declared.refused.NotOpened.TheVariants.{OutOfRange};
 ghost use Rattle.shared_heap.specs.Rooting.{IsRootSeat};
 ghost use Rattle.shared_heap.specs.Sizing.{Fits};
@@ -67,15 +67,17 @@ impl SharedWorld {
     /// Whether a mutator of this name may be one that is out.
     fn lacks_mutator(&self, name: u32) -> bool
         ensures lacks { OnTrue result ((name ≡ self.now.sizes.name) × (vec_len self.now.mutators < self.now.sizes.mutators)) }
+        ensures none { OnFalse result (TakesNoMutator name self.now) }
     {
         name == self.sizes.name && self.mutators.len() < self.sizes.mutators as usize
     }
 
     /// Takes a mutator back, which leaves first. Its variables and slots stay, and what they refer to is kept: who takes it next finds them. It is handed back
-    /// where it has the name of another world, where all of this world's are back, or where there is no memory to note it.
+    /// only where it has the name of another world, or where all of this world's are back.
     pub fn take_mutator(&mut self, mutator: SharedMutator) -> Result<(), SharedMutator>
         ensures back { OnOk result (IsBack mutator self.old self.new) }
         ensures refused { IfErr result (SharerLeft mutator) }
+        ensures cause { IfErr result (λ _. TakesNoMutator mutator.name self.old) }
         ensures kept { IfErr result (λ _. self.new.mutators.items ≡ self.old.mutators.items) }
         ensures rest { KeepsRest self.old self.new × (self.new.tracers ≡ self.old.tracers) }
     {
@@ -85,10 +87,8 @@ impl SharedWorld {
         if !self.lacks_mutator(name) {
             return Err(mutator);
         }
-        match self.mutators.push(mutator) {
-            Ok(()) => Ok(()),
-            Err(failed) => Err(failed.value),
-        }
+        self.mutators.push_reserved(mutator);
+        Ok(())
     }
 
     /// Numbers of the heap. Where others act on it meanwhile, each is of another moment.

@@ -4,7 +4,7 @@ ghost use Rattle.std.specs.Bool.{OnFalse, OnTrue};
 ghost use Rattle.gc_table.specs.Seats.{Across};
 ghost use Rattle.stop_world.specs.Gates.{TurnsBack};
 ghost use Rattle.seat_steps.specs.Trying.{Dismisses, DismissesInside};
-ghost use Rattle.shared_heap.specs.Lending.{AreAllBack, HasAllStill, KeepsRest};
+ghost use Rattle.shared_heap.specs.Lending.{AreAllBack, HasAllStill, KeepsRest, TakesNoTracer};
 
 use crate::world::SharedWorld;
 use seat_steps::{Tracer, tell_dismissed, try_dismiss};
@@ -21,22 +21,28 @@ impl SharedWorld {
         self.tracers.pop()
     }
 
-    /// Takes a tracer back. It is handed back where it has the name of another world, where all of this world's are back, or where there is no memory to note
-    /// it.
+    /// Whether a tracer of this name may be one that is out.
+    fn lacks_tracer(&self, name: u32) -> bool
+        ensures lacks { OnTrue result ((name ≡ self.now.sizes.name) × (vec_len self.now.tracers < self.now.sizes.tracers)) }
+        ensures none { OnFalse result (TakesNoTracer name self.now) }
+    {
+        name == self.sizes.name && self.tracers.len() < self.sizes.tracers as usize
+    }
+
+    /// Takes a tracer back. It is handed back only where it has the name of another world, or where all of this world's are back.
     pub fn take_tracer(&mut self, tracer: Tracer) -> Result<(), Tracer>
         ensures back { OnOk result (self.new.tracers.items ≡ self.old.tracers.items ++ tracer ∷ []) }
         ensures out { OnOk result ((tracer.name ≡ self.old.sizes.name) × (vec_len self.old.tracers < self.old.sizes.tracers)) }
         ensures refused { IfErr result (λ t. t ≡ tracer) }
+        ensures cause { IfErr result (λ _. TakesNoTracer tracer.name self.old) }
         ensures kept { IfErr result (λ _. self.new.tracers.items ≡ self.old.tracers.items) }
         ensures rest { KeepsRest self.old self.new × (self.new.mutators ≡ self.old.mutators) }
     {
-        if tracer.name() != self.sizes.name || self.tracers.len() >= self.sizes.tracers as usize {
+        if !self.lacks_tracer(tracer.name()) {
             return Err(tracer);
         }
-        match self.tracers.push(tracer) {
-            Ok(()) => Ok(()),
-            Err(failed) => Err(failed.value),
-        }
+        self.tracers.push_reserved(tracer);
+        Ok(())
     }
 
     /// Tells the tracers that they are dismissed: each that runs ends, also one that sleeps, and each later turn answers so.

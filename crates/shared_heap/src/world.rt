@@ -1,5 +1,6 @@
 //! A heap whose objects threads share, with those of its mutators and tracers that nobody has.
 ghost use Rattle.std.specs.Arc.{arc_value};
+ghost use Rattle.std.specs.Prelude.{◌≤◌, vec_capacity};
 ghost use Rattle.mutator_turns.specs.Standing.{RestsOutside};
 ghost use Rattle.shared_heap.specs.Rooting.{HasSeats, IsRootSeat};
 
@@ -28,13 +29,14 @@ pub struct SharedWorld {
     pub(crate) heap: Arc<Heap, Global>,
     /// The seat of section 0, which has the root in its variable 0. From then on it reads and tells.
     pub(crate) zero: HeapSeat,
-    /// The mutators that nobody has taken.
+    /// The mutators that nobody has taken, with room for all.
     pub(crate) mutators: Vec<SharedMutator>,
-    /// The tracers that nobody has taken.
+    /// The tracers that nobody has taken, with room for all.
     pub(crate) tracers: Vec<Tracer>,
     /// The sizes that it was opened with.
     pub(crate) sizes: SharedSizes,
     ghost rests: { RestsOutside (arc_value heap) zero },
     ghost first: { IsRootSeat (arc_value heap) zero },
     ghost opened: { HasSeats (arc_value heap) sizes.tracers zero },
+    ghost room: { (sizes.mutators ≤ vec_capacity mutators) × (sizes.tracers ≤ vec_capacity tracers) },
 }

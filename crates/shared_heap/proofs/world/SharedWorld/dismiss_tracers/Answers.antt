@@ -14,4 +14,4 @@ invariant_of-self g c =
     let same : c.deref.result.now ≡ h = search rules in
     let e = c.tell_dismissed.ensures in
     let z = zero-told h c.args.self.now.sizes.tracers c.args.self.now.zero c.tell_dismissed.new.seat c.args.self.now.first c.args.self.now.opened (subst (λ (x : Heap). RestsOutside x c.tell_dismissed.new.seat) same e.rests) e.ran e.spares in
-    record { rests = z.rests; first = z.first; opened = z.opened }
+    record { rests = z.rests; first = z.first; opened = z.opened; room = c.args.self.now.room }

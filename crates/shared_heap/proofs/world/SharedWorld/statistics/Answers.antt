@@ -12,4 +12,5 @@ invariant_of-self c =
       rests = subst (λ (h : Heap). RestsOutside h c.read_numbers.new.seat) same c.read_numbers.ensures.rests;
       first = subst (λ (h : Heap). IsRootSeat h c.read_numbers.new.seat) same c.read_numbers.ensures.first;
       opened = c.read_numbers.ensures.opened ∙ c.args.self.now.opened;
+      room = c.args.self.now.room;
     }

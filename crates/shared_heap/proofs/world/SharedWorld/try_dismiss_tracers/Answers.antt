@@ -14,4 +14,4 @@ invariant_of-self c =
     let same : c.deref.result.now ≡ h = search rules in
     let e = c.try_dismiss.ensures in
     let z = zero-told h c.args.self.now.sizes.tracers c.args.self.now.zero c.try_dismiss.new.seat c.args.self.now.first c.args.self.now.opened (subst (λ (x : Heap). RestsOutside x c.try_dismiss.new.seat) same e.rests) e.ran e.spares in
-    record { rests = z.rests; first = z.first; opened = z.opened }
+    record { rests = z.rests; first = z.first; opened = z.opened; room = c.args.self.now.room }
