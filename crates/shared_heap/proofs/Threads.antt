@@ -2,7 +2,10 @@
 use Rattle.std.proofs.Common.{◌∙◌, ap, arith, refl}
 use Rattle.std.specs.Arc.{arc_value}
 use Rattle.gc_table.specs.Log.{all_steps}
+use Rattle.heap_runs.proofs.Freeing.{stays}
 use Rattle.heap_runs.proofs.Rooted.{root-found}
+use Rattle.heap_runs.proofs.Threads.{allowed}
+use Rattle.mark_core.specs.Steps.{start_core}
 use Rattle.mutator_turns.specs.Sharing.{spares_heap}
 use Rattle.shared_heap.specs.Closing.{all_seats}
 use Rattle.shared_heap.specs.Threads.{ThreadsRun}
@@ -21,5 +24,6 @@ threads-run world mutators tracers w end =
         kept = r.1.kept;
         tracers = λ i s out at. ap (all_steps spares_heap) (r.1.run.parts i s at) ∙ run-outside (arc_value world.heap).shape (all_seats world end.rest tracers) w r.0 r.1.run i out;
         found = r.1.found;
+        frees_none = λ k x below. stays (start_core (arc_value world.heap).shape 1) r.0 r.1.run.sound (allowed 0 r.0 (start_core (arc_value world.heap).shape 1) r.1.run.allowed) k x below;
       },
     )

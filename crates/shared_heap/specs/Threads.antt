@@ -1,7 +1,8 @@
 -- What the threads of a closed world did.
-use Rattle.std.specs.Prelude.{ℕ, ◌≡◌, ◌≤◌, List, [], Some, IsTrue, length, slice_get}
+use Rattle.std.specs.Prelude.{ℕ, ◌≡◌, ◌≤◌, ◌<◌, ◌+◌, List, [], Some, IsTrue, length, slice_get}
 use Rattle.std.specs.Arc.{arc_value}
 use Rattle.plain_heap.specs.Paths.{Name}
+use Rattle.mark_core.specs.Closed.{IsReachableIn, is_published}
 use Rattle.mark_core.specs.declared.kinds.Event.{Event}
 use Rattle.mark_core.specs.declared.kinds.Shape.{Shape}
 use Rattle.gc_table.specs.Laws.{IsRunOf}
@@ -36,6 +37,8 @@ pub record IsWhole (sh : Shape) (seats : List HeapSeat) (w : Words) (es : List E
   pub tracers : (i : ℕ) (s : HeapSeat) → sh.sections ≤ i → slice_get seats i ≡ Some s → IsTrue (all_steps spares_heap (view_of s).log)
   -- so no thread that asked for it found nil
   pub found : (i : ℕ) (s : HeapSeat) → slice_get seats i ≡ Some s → FindsSome 0 (view_of s).log
+  -- no event freed a cell that was reachable just before it
+  pub frees_none : (k x : ℕ) → k < length es → IsReachableIn (core_after sh 1 es k) x → IsTrue (is_published (core_after sh 1 es k) x) → IsTrue (is_published (core_after sh 1 es (k + 1)) x)
 
 -- whatever the threads of a closed world did, it is such a run
 abbrev pub ThreadsRun : Type 0
