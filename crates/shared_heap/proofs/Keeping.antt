@@ -20,7 +20,7 @@ use Rattle.gc_table.specs.declared.view.Entry.{Entry}
 use Rattle.gc_table.specs.declared.view.SectionState.{SectionState}
 use Rattle.gc_table.specs.declared.view.View.{View}
 use Rattle.gc_table.proofs.History.Log.{events-of}
-use Rattle.gc_table.proofs.Running.{ran-grows, ran-keeps, ran-number, ran-opened, ran-section, ran-shape}
+use Rattle.gc_table.proofs.Running.{ran-grows, ran-keeps, ran-number, ran-section, ran-shape}
 use Rattle.heap_runs.specs.Lending.{leaves_variable, stores_once}
 use Rattle.heap_runs.specs.Rooted.{fills_first, fills_variable, moves_season, season_count}
 use Rattle.heap_runs.specs.Single.{MakesOne, made_count, makes_object, spares_values}

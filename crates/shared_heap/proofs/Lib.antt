@@ -1,6 +1,7 @@
 mod Beginning
 mod Counting
 mod Dealt
+mod Finding
 mod Gathering
 mod Keeping
 pub mod Logs

@@ -1,7 +1,6 @@
 -- The seat of section 0 tells the tracers that they are dismissed, and keeps what is known of it.
-use Rattle.std.proofs.Common.{◌≡◌, ◌∙◌, ℕ, Option, ap, refl, subst, sym}
+use Rattle.std.proofs.Common.{◌∙◌, ℕ, Option, ap}
 use Rattle.std.specs.Prelude.{IsTrue, is_some}
-use Rattle.std.specs.Arc.{arc_value}
 use Rattle.gc_table.specs.Log.{Only}
 use Rattle.gc_table.specs.Running.{Ran}
 use Rattle.gc_table.specs.Seats.{state_of, view_of}
@@ -11,7 +10,6 @@ use Rattle.gc_table.proofs.Running.{ran-opened}
 use Rattle.mutator_turns.specs.Sharing.{spares_heap}
 use Rattle.mutator_turns.specs.Standing.{RestsOutside}
 use Rattle.shared_heap.specs.Rooting.{HasSeats, IsRootSeat}
-use Rattle.shared_heap.specs.declared.world.SharedWorld.{SharedWorld}
 use Rattle.shared_heap.proofs.Keeping.{root-kept}
 
 -- it has a section

@@ -25,6 +25,7 @@
 #![tactic(auto)]
 
 ghost use Rattle.shared_heap.specs.Counting.{CounterClosed, CounterRead, LockClosed};
+ghost use Rattle.shared_heap.specs.Finding.{CallsFind, FieldFound, ValueFound};
 ghost use Rattle.shared_heap.specs.Threads.{ThreadsRun};
 
 mod calls;
@@ -58,6 +59,22 @@ pub use world::{SharedStatistics, SharedWorld};
 /// it found nil.
 pub fn threads_run()
     ensures { ThreadsRun }
+{}
+
+/// Whatever a call of a mutator finds, while the world is open and others act on it, is what one plain heap that forgets nothing had at the moment of that step: the
+/// one that all events before it made, of which the mutator's log is its part.
+pub fn calls_find()
+    ensures { CallsFind }
+{}
+
+/// So the number that [`value`](SharedMutator::value) answers is the value that the object had in this heap.
+pub fn value_found()
+    ensures { ValueFound }
+{}
+
+/// And what [`get`](SharedMutator::get) found is the reference that the object's field had in it.
+pub fn field_found()
+    ensures { FieldFound }
 {}
 
 /// Where the mutators of a closed world made no object, and changed values alone by exchanges of a number for the next, the root's value at the end is the number

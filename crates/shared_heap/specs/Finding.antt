@@ -1,0 +1,41 @@
+-- What the calls of a mutator find while its world is open.
+use Rattle.std.specs.Prelude.{ℕ, ◌-◌, List, [], ◌∷◌, IsFalse}
+use Rattle.mark_core.specs.Steps.MutatorSteps.{seat_variable as word_in}
+use Rattle.mark_core.specs.declared.kinds.Step.{Step}
+use Rattle.mark_core.specs.declared.kinds.Step.TheVariants.{ReadOwn, ReadValue}
+use Rattle.plain_heap.specs.declared.operation.Op.TheVariants as ops
+use Rattle.gc_table.specs.Entries.{is_store}
+use Rattle.gc_table.specs.Running.{Ran}
+use Rattle.gc_table.specs.Seats.{Across, did, state_of, view_of}
+use Rattle.gc_table.specs.Taking.{Finds, after}
+use Rattle.gc_table.specs.declared.view.Entry.{Entry}
+use Rattle.gc_table.specs.declared.view.View.{View}
+use Rattle.shared_runs.specs.Agreement.{AgreesWith}
+use Rattle.shared_runs.specs.Laws.{TellsIn}
+use Rattle.heap_runs.specs.Finding.{heap_found}
+use Rattle.mutator_ops.specs.Sharing.{FollowsFound}
+use Rattle.shared_heap.specs.Calls.{FindsValue, SharerDoes}
+use Rattle.shared_heap.specs.declared.mutator.SharedMutator.{SharedMutator}
+
+-- the step found what one plain heap of all mutators had at its moment: the one that the events before it made of a heap without objects
+pub record FindsHeap (step : Step) (n : ℕ) (v : View) : Type 0 where
+  pub finds : Finds step n v
+  pub agrees : AgreesWith finds.state.core (heap_found step n v finds)
+  pub tells : TellsIn finds.state.core (heap_found step n v finds) v.state step n
+
+-- so did each of these events that isn't a store, each at its own moment
+abbrev pub AllFindHeap : List Entry → View → Type 0
+AllFindHeap [] v = Unit {0}
+AllFindHeap (e ∷ es) v = (IsFalse (is_store e.step) → FindsHeap e.step e.found v) × AllFindHeap es (after e.step e.found v)
+
+-- whatever a call of a mutator did, so did each of its events
+abbrev pub CallsFind : Type 0
+CallsFind = (x y : SharedMutator) → Across Ran x.seat y.seat → AllFindHeap (did x.seat y.seat) (view_of x.seat)
+
+-- the number that `value` answers is the value that the variable's object had in this heap
+abbrev pub ValueFound : Type 0
+ValueFound = (v n : ℕ) (x y : SharedMutator) → SharerDoes (FindsValue v n) (ops.Say v) x y → FindsHeap (ReadValue (word_in (state_of x.seat) v - 1)) n (view_of x.seat)
+
+-- what `get` found is the reference that the field of the variable's object had in this heap
+abbrev pub FieldFound : Type 0
+FieldFound = (w v i : ℕ) (x y : SharedMutator) (f : FollowsFound w v i (view_of x.seat) (view_of y.seat)) → FindsHeap (ReadOwn (word_in (state_of x.seat) v - 1) i) f.found (view_of x.seat)
