@@ -1,0 +1,56 @@
+//! A world for two threads, which is opened before them and closed after them.
+ghost use Rattle.std.specs.Prelude.{◌≡◌, [], ◌∷◌, IfSome};
+ghost use Rattle.std.specs.Arc.{arc_value};
+ghost use Rattle.managed_heap.specs.Closing.{IsWorldEnd};
+ghost use Rattle.example_closed.specs.Ending.{AreOwn};
+
+use managed_heap::{Mutator, Sizes, Words, World};
+use std::alloc::Global;
+
+/// A world and its two mutators.
+#[derive(Drop)]
+pub struct Pair {
+    /// The world.
+    pub world: World,
+    /// Mutator 1.
+    pub first: Mutator,
+    /// Mutator 2.
+    pub second: Mutator,
+}
+
+/// Opens a world for two threads. None where there is no memory.
+pub fn open(alloc: Global) -> Option<Pair>
+    ensures own { IfSome result (λ p. AreOwn p.world p.first p.second) }
+{
+    let Ok(mut world) = World::open(alloc, Sizes::of_cells(128).mutators(2)) else {
+        return None;
+    };
+    let Some(second) = world.mutator() else {
+        return None;
+    };
+    let Some(first) = world.mutator() else {
+        return None;
+    };
+    Some(Pair {
+        world,
+        first,
+        second,
+    })
+}
+
+/// Closes a world with its two mutators. None where there is no memory.
+pub fn close(alloc: Global, world: World, first: Mutator, second: Mutator) -> Option<Words>
+    requires first { arc_value first.heap ≡ arc_value world.heap }
+    requires second { arc_value second.heap ≡ arc_value world.heap }
+    ensures ended { IfSome result (λ w. IsWorldEnd world (first ∷ second ∷ []) [] w) }
+{
+    let Ok(mut all) = Vec::with_capacity(alloc, 2) else {
+        return None;
+    };
+    all.push_reserved(first);
+    all.push_reserved(second);
+    match world.into_words(alloc, all, Vec::new(alloc)) {
+        Ok(words) => Some(words),
+        Err(_) => None,
+    }
+}
